@@ -1,0 +1,1 @@
+// Definitions and laws on lists and numbers, in specs/; no code of its own.

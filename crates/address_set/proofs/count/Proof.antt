@@ -1,0 +1,11 @@
+-- `count` meets its contract: the bits are as many as the offsets.
+use Rattle.address_set.specs.Laws.{ones-offsets}
+use borrow.Author.Needs.{needs}
+use Rattle.address_set.proofs.count.Statement.{statement}
+use Rattle.address_set.proofs.count.Tie as tie
+
+returns : tie.Need-returns
+returns c = search (ones-offsets, needs)
+
+pub count-spec : {M : Type 1} → statement M
+count-spec = tie.close (tie.spec returns)

@@ -1,0 +1,11 @@
+-- `difference` meets its contract: by and-not.
+use Rattle.address_set.specs.ListLaws.{difference-by}
+use borrow.Author.Needs.{needs}
+use Rattle.address_set.proofs.difference.Statement.{statement}
+use Rattle.address_set.proofs.difference.Tie as tie
+
+returns : tie.Need-returns
+returns c = search (difference-by, needs)
+
+pub difference-spec : {M : Type 1} → statement M
+difference-spec = tie.close (tie.spec returns)

@@ -1,0 +1,4 @@
+pub mod AddressSet
+pub mod Laws
+pub mod ListLaws
+pub mod RangeLaws

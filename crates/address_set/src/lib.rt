@@ -1,0 +1,191 @@
+// A set of up to 64 addresses of a scope, as offsets from its lowest address: the bits of a u64.
+ghost use mathlib.Core.Path.{_≡_};
+ghost use mathlib.Core.Bool.{Bool};
+ghost use mathlib.Core.List.{[]};
+ghost use Prim.Native.Nat.{ℕ, _+_, _*_, _^_, _<_, _≤_, min};
+ghost use lib.ListN.{length, take};
+ghost use Rattle.lists.specs.Filter.{isIn};
+ghost use Rattle.address_set.specs.AddressSet.{offsets, setOf, unionOf, intersectionOf, differenceOf, lowestOf, chosen, upTo, readOffsets, withOffset, listed, pushed, runs, firstRun, behind};
+
+// A range of offsets, all of one set: the first and how many.
+pub struct Range {
+    pub first: u32,
+    pub count: u32,
+}
+
+// The offsets of a set, rising, from the first entry on; zeros follow.
+pub struct Offsets {
+    pub list: [u8; 64],
+    pub count: usize,
+}
+
+pub fn empty() -> u64
+    ensures { λ r. ⌜ r ≡ setOf [] ⌝ }
+{
+    0
+}
+
+// The offsets of a scope of a size: those below it.
+pub fn first_n(n: u8) -> u64
+    ensures { λ r. ⌜ r ≡ setOf (upTo (min n 64)) ⌝ }
+{
+    if n < 64 {
+        return (1u64 << (n as u64)) - 1;
+    }
+    18446744073709551615
+}
+
+// Whether an offset is in a set; none from 64 on is.
+pub fn member(set: u64, offset: u64) -> bool
+    ensures { λ r. ⌜ r ≡ isIn offset (offsets set) ⌝ }
+{
+    if offset < 64 {
+        return (set >> offset) % 2 == 1;
+    }
+    false
+}
+
+pub fn union(m: u64, n: u64) -> u64
+    ensures { λ r. ⌜ r ≡ unionOf m n ⌝ }
+{
+    m | n
+}
+
+pub fn intersection(m: u64, n: u64) -> u64
+    ensures { λ r. ⌜ r ≡ intersectionOf m n ⌝ }
+{
+    m & n
+}
+
+// The offsets of m that are not in n.
+pub fn difference(m: u64, n: u64) -> u64
+    ensures { λ r. ⌜ r ≡ differenceOf m n ⌝ }
+{
+    m & !n
+}
+
+pub fn count(set: u64) -> u32
+    ensures { λ r. ⌜ r ≡ length (offsets set) ⌝ }
+{
+    u64::count_ones(set)
+}
+
+// The lowest n offsets of a set; all of them where it has fewer.
+pub fn lowest(set: u64, n: u64) -> u64
+    ensures { λ r. ⌜ r ≡ lowestOf set n ⌝ }
+{
+    let mut out: u64 = 0;
+    let mut left: u64 = n;
+    let mut at: u64 = 0;
+    while at < 64 {
+        let b = (set >> at) % 2;
+        let one = 1u64 << at;
+        at += 1;
+        if 0 < b {
+            if 0 < left {
+                out = out | one;
+                left = left - 1;
+            }
+        }
+    }
+    out
+}
+
+// The k lowest offsets of own, and then of free.
+pub fn choose(own: u64, free: u64, k: u64) -> u64
+    ensures { λ r. ⌜ r ≡ setOf (chosen k own free) ⌝ }
+{
+    let f = count(own) as u64;
+    let a = lowest(own, k);
+    if f < k {
+        return a | lowest(free, k - f);
+    }
+    a
+}
+
+fn with_offset(set: u64, at: u8) -> u64
+    ensures { λ r. ⌜ r ≡ withOffset set at ⌝ }
+{
+    if at < 64 {
+        return set | (1u64 << (at as u64));
+    }
+    set
+}
+
+// The set of a list of offsets; an octet from 64 on adds nothing.
+pub fn from_offsets(s: &[u8]) -> u64
+    ensures { λ r. ⌜ r ≡ readOffsets (now (s .entry)) ⌝ }
+{
+    let mut set: u64 = 0;
+    let mut i: usize = 0;
+    while i < s.len() {
+        set = with_offset(set, s[i]);
+        i += 1;
+    }
+    set
+}
+
+fn no_offsets() -> Offsets
+    ensures { λ r. ⌜ r ≡ listed [] ⌝ }
+{
+    Offsets {
+        list: [0u8; 64],
+        count: 0,
+    }
+}
+
+fn push(out: Offsets, at: u8) -> Offsets
+    ensures { λ r. ⌜ r ≡ pushed out at ⌝ }
+{
+    let n = out.count;
+    if n < 64 {
+        let mut o = out;
+        o.list[n] = at;
+        o.count = n + 1;
+        return o;
+    }
+    out
+}
+
+// The offsets of a set, rising.
+pub fn to_offsets(set: u64) -> Offsets
+    ensures { λ r. ⌜ r ≡ listed (offsets set) ⌝ }
+{
+    let mut out = no_offsets();
+    let mut at: u8 = 0;
+    while at < 64 {
+        let x = at;
+        at += 1;
+        if member(set, x as u64) {
+            out = push(out, x);
+        }
+    }
+    out
+}
+
+// The first of the fewest ranges of a set; one of no offset where the set is empty.
+pub fn first_range(set: u64) -> Range
+    ensures { λ r. ⌜ r ≡ firstRun (runs (offsets set)) ⌝ }
+{
+    if 0 < set {
+        let first = u64::trailing_zeros(set);
+        let ones = set >> (first as u64);
+        let count = u64::trailing_zeros(!ones);
+        return Range {
+            first: first,
+            count: count,
+        };
+    }
+    Range { first: 0, count: 0 }
+}
+
+// The offsets of a set behind a range: with its first range, those of the other ranges.
+pub fn rest(set: u64, r: Range) -> u64
+    ensures { λ x. ⌜ x ≡ behind set r ⌝ }
+{
+    let end = (r.first as u64) + (r.count as u64);
+    if end < 64 {
+        return (set >> end) << end;
+    }
+    0
+}

@@ -1,0 +1,14 @@
+-- `same` meets its contract: the same where the order says so.
+use Rattle.identifier.specs.Laws.{same-order}
+use borrow.Author.Needs.{needs}
+use Rattle.identifier.proofs.same.Statement.{statement}
+use Rattle.identifier.proofs.same.Tie as tie
+
+order-requires : tie.Need-order-requires
+order-requires c κs = search (same-order, needs)
+
+returns : tie.Need-returns
+returns c = search (same-order, needs)
+
+pub same-spec : {M : Type 1} → statement M
+same-spec = tie.close (tie.spec order-requires returns)

@@ -1,0 +1,184 @@
+-- Lease records and the lists of leases that they stand for. Document 01's book is a `State`, its settings and clock, with a `LeaseTable`.
+use Prim.Native.Nat.{ℕ, zero, suc, _+_, _-_, _*_, max}
+use mathlib.Core.Bool.{Bool, true, false, not, _&&_}
+use mathlib.Core.List.{List, [], _∷_, _++_, map}
+use lib.Dec.{eqb, ltb}
+use lib.Bits.{bitOr}
+use lib.ListN.{length, replicate, set, take, drop, getD}
+use Rattle.lists.specs.Pick.{pick}
+use Rattle.lists.specs.Filter.{filterBy}
+use Rattle.lists.specs.Place.{placeBy}
+use Rattle.identifier.specs.Order.{orderOf, sameOf}
+use Rattle.address_set.specs.AddressSet.{offsets}
+use Rattle.state.specs.declared.Lease.{Lease}
+use Rattle.state.specs.declared.TenantLeases.{TenantLeases}
+use Rattle.state.specs.declared.LeaseTable.{LeaseTable}
+use Rattle.state.specs.declared.ClientRange.{ClientRange}
+use Rattle.state.specs.declared.Scope.{Scope}
+use Rattle.state.specs.declared.State.{State}
+use Rattle.state.specs.declared.Book.{Book}
+
+-- ---- records and lists
+-- the unused record
+abbrev pub zeroLease : Lease
+zeroLease = record { scope = 0; «id_len» = 0; id = replicate 32 0; kind = 0; xid = 0; start = 0; end = 0; addresses = 0 }
+
+-- the leases that one tenant's records stand for
+abbrev pub inUse : TenantLeases → List Lease
+inUse t = take (t .count) (t .leases)
+
+-- the records of a list of leases
+unfoldable pub laidOut : List Lease → TenantLeases
+laidOut p = record { leases = p ++ replicate (16 - length p) zeroLease; count = length p }
+
+-- the leases of all tenants, tenant by tenant
+abbrev pub leasesOf : LeaseTable → List (List Lease)
+leasesOf b = map inUse (b .tenants)
+
+-- the records of one tenant, counted from 0; those of no lease past the last
+abbrev pub tenantAt : LeaseTable → ℕ → TenantLeases
+tenantAt b h = getD (b .tenants) h (laidOut [])
+
+abbrev pub putAt : LeaseTable → ℕ → TenantLeases → LeaseTable
+putAt b h t = record { tenants = set (b .tenants) h t }
+
+unfoldable pub tableOf : List (List Lease) → LeaseTable
+tableOf ls = record { tenants = map laidOut ls }
+
+-- ---- identifiers: the order of a tenant's records
+abbrev pub idOf : Lease → List ℕ
+idOf l = take (l .«id_len») (l .id)
+
+-- the lease comes before identifier i
+abbrev pub before : List ℕ → Lease → Bool
+before i l = eqb (orderOf (idOf l) i) 0
+
+abbrev pub notBefore : List ℕ → Lease → Bool
+notBefore i l = not (before i l)
+
+-- records rise: the first comes before the second
+unfoldable pub rises : Lease → Lease → Bool
+rises a b = before (idOf b) a
+
+abbrev pub named : List ℕ → Lease → Bool
+named i l = sameOf (idOf l) i
+
+abbrev pub other : List ℕ → Lease → Bool
+other i l = not (named i l)
+
+-- ---- finding, inserting, removing, replacing one lease
+-- the place of an identifier among the leases; their number where it has none
+abbrev pub placeOf : List ℕ → List Lease → ℕ
+placeOf i ls = placeBy (named i) ls
+
+-- the lease at a place, or an unused record
+abbrev pub leaseAt : List Lease → ℕ → Lease
+leaseAt ls at = getD ls at zeroLease
+
+-- those before it, the lease, and the others
+unfoldable pub insertOf : Lease → List Lease → List Lease
+insertOf l ls = filterBy (before (idOf l)) ls ++ l ∷ filterBy (notBefore (idOf l)) ls
+
+unfoldable pub removeOf : List ℕ → List Lease → List Lease
+removeOf i ls = filterBy (other i) ls
+
+-- the lease of that identifier gives way to l
+unfoldable pub renewTo : List ℕ → Lease → Lease → Lease
+renewTo i l x = pick (named i x) l x
+
+unfoldable pub replaceOf : List ℕ → Lease → List Lease → List Lease
+replaceOf i l ls = map (renewTo i l) ls
+
+-- ---- the clock
+-- document 01's live: a lease is live while its end is after the clock
+abbrev pub live : ℕ → Lease → Bool
+live clock l = ltb clock (l .end)
+
+unfoldable pub liveOf : ℕ → List Lease → List Lease
+liveOf clock ls = filterBy (live clock) ls
+
+abbrev pub withClock : State → ℕ → State
+withClock s c = record { server = s .server; clock = c; «tenant_count» = s .«tenant_count»; tenants = s .tenants; «scope_count» = s .«scope_count»; scopes = s .scopes }
+
+-- the clock becomes the larger of itself and a time
+unfoldable pub raised : State → ℕ → State
+raised s time = withClock s (max (s .clock) time)
+
+-- the leases that are live at a clock
+unfoldable pub dropped : ℕ → LeaseTable → LeaseTable
+dropped clock t = tableOf (map (liveOf clock) (leasesOf t))
+
+-- what every call does first: the clock is raised, and the ended leases are dropped
+unfoldable pub advanced : Book → ℕ → Book
+advanced b time = record { state = raised (b .state) time; table = dropped (max (b .state .clock) time) (b .table) }
+
+-- ---- address sets
+unfoldable pub unionAll : List ℕ → ℕ
+unionAll [] = 0
+unionAll (m ∷ ms) = bitOr m (unionAll ms)
+
+-- the addresses of the leases that pass a test
+unfoldable pub addressesOf : (Lease → Bool) → List Lease → ℕ
+addressesOf t ls = unionAll (map (λ l. l .addresses) (filterBy t ls))
+
+abbrev pub inScope : ℕ → Lease → Bool
+inScope s l = eqb (l .scope) s
+
+-- periods run from start, included, to end, excluded: touching ones don't overlap
+unfoldable pub overlaps : ℕ → ℕ → Lease → Bool
+overlaps from to l = ltb (l .start) to && ltb from (l .end)
+
+-- the addresses that leases have in scope s
+abbrev pub heldOf : ℕ → List Lease → ℕ
+heldOf s ls = addressesOf (inScope s) ls
+
+-- document 01's holding: how many addresses, not leases
+abbrev pub heldCount : ℕ → List Lease → ℕ
+heldCount s ls = length (offsets (heldOf s ls))
+
+unfoldable pub usedIn : ℕ → ℕ → ℕ → Lease → Bool
+usedIn s from to l = inScope s l && overlaps from to l
+
+-- the addresses of scope s with a lease that overlaps the period
+abbrev pub busyOf : ℕ → ℕ → ℕ → List Lease → ℕ
+busyOf s from to ls = addressesOf (usedIn s from to) ls
+
+-- ---- settings
+abbrev pub zeroScope : Scope
+zeroScope = record { lowest = 0; size = 0; ttl = 0; reserve = replicate 8 0; limit = replicate 8 0 }
+
+-- the tenants' client ranges and the scopes that are in use
+abbrev pub rangesOf : State → List ClientRange
+rangesOf s = take (s .«tenant_count») (s .tenants)
+
+abbrev pub scopesOf : State → List Scope
+scopesOf s = take (s .«scope_count») (s .scopes)
+
+-- the scope at a place, or an unused entry
+abbrev pub scopeAt : State → ℕ → Scope
+scopeAt s k = getD (s .scopes) k zeroScope
+
+-- ---- one turn of the loops below
+-- what an element is past the end of an array
+abbrev pub noLease : Lease
+noLease = record { scope = 0; «id_len» = 0; id = []; kind = 0; xid = 0; start = 0; end = 0; addresses = 0 }
+
+abbrev pub noLeases : TenantLeases
+noLeases = record { leases = []; count = 0 }
+
+abbrev pub noScope : Scope
+noScope = record { lowest = 0; size = 0; ttl = 0; reserve = []; limit = [] }
+
+-- one lease more at the end, where there is room
+unfoldable pub pushed : TenantLeases → Lease → TenantLeases
+pushed t l = pick (ltb (t .count) 16) (record { leases = set (t .leases) (t .count) l; count = t .count + 1 }) t
+
+-- one turn of a filter, of a map, of a union
+unfoldable pub keptIf : (Lease → Bool) → TenantLeases → Lease → TenantLeases
+keptIf t h l = pick (t l) (pushed h l) h
+
+unfoldable pub keptAs : (Lease → Lease) → TenantLeases → Lease → TenantLeases
+keptAs g h l = pushed h (g l)
+
+unfoldable pub addedIf : (Lease → Bool) → ℕ → Lease → ℕ
+addedIf t sum l = pick (t l) (bitOr sum (l .addresses)) sum

@@ -1,0 +1,5 @@
+pub mod Book
+pub mod Layout
+pub mod Sets
+pub mod Sorted
+pub mod Clock

@@ -33,7 +33,7 @@ option-put code n most value {b₀ = b₀} {b₂ = b₂} {at = at} {r = r} e m h
       near = let k = w .next in omega arith;
     }
 
-options-append : (xs ys : List Option) → optionsOctets (xs ++ ys) ≡ optionsOctets xs ++ optionsOctets ys
+pub options-append : (xs ys : List Option) → optionsOctets (xs ++ ys) ≡ optionsOctets xs ++ optionsOctets ys
 unfolding optionsOctets
 options-append [] ys = refl
 options-append (o ∷ xs) ys = ap (λ (l : List ℕ). optionOctets o ++ l) (options-append xs ys) ∙ sym (append-assoc (optionOctets o) (optionsOctets xs) (optionsOctets ys))

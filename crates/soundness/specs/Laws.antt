@@ -6,30 +6,36 @@ use mathlib.Core.List.{List, [], _∷_, map}
 use native.Mathlib.Omega.{arith}
 use lib.Dec.{ltb, leb, eqb}
 use lib.Bits.{bitAnd, bitOr, or-add-and, and-le-r, and-le-l}
-use lib.ListN.{length, take, drop, getD, drop-of-length-le}
+use lib.ListN.{length, take, drop, getD, drop-of-length-le, length-take}
 use lib.Seq.{drop-cons}
 use native.Mathlib.Numerals.{add-one}
 use lib.Pow.{pow-pos, pow-mono}
 use borrow.Author.Tests.{eq-eqb, ne-eqb, eqb-true, eqb-false, lt-ltb, ltb-true, ltb-false, le-leb, lt-leb, leb-true, leb-false}
 use Rattle.lists.specs.Pick.{pick}
 use Rattle.lists.specs.Fold.{fold}
-use Rattle.lists.specs.All.{All, allBy, pairsBy, all-map, all-head, all-cons, all-both, pairs-head, pairs-cons}
+use Rattle.lists.specs.All.{All, allBy, pairsBy, allTo, to-same, all-map, pairs-map, pairs-same, all-head, all-cons, all-both, pairs-head, pairs-cons}
 use Rattle.state.specs.declared.Lease.{Lease}
 use Rattle.state.specs.declared.TenantLeases.{TenantLeases}
 use Rattle.state.specs.declared.LeaseTable.{LeaseTable}
 use Rattle.state.specs.declared.Scope.{Scope}
 use Rattle.state.specs.declared.State.{State}
-use Rattle.state.specs.Book.{inUse, leasesOf, idOf, ordered, scopeAt}
+use Rattle.state.specs.Book.{inUse, leasesOf, idOf, ordered, scopesOf, scopeAt, heldOf, noLeases}
 use Rattle.identifier.specs.Order.{orderOf, sameOf}
 use Rattle.identifier.specs.Trans.{order-trans}
 use Rattle.address_set.specs.AddressSet.{bit, offsets, setOf, upTo}
-use Rattle.address_set.specs.Laws.{bit-le}
+use Rattle.address_set.specs.Laws.{bit-le, length-offsets}
 use Rattle.address_set.specs.ListLaws.{upTo-ones, bit-past, setOf-small, setOf-offsets, below-bits}
 use Rattle.lists.specs.Next.{nextBy, NextInv, next-start, next-is-pairs}
 use Rattle.soundness.specs.declared.ScopeRules.{ScopeRules}
 use Rattle.soundness.specs.declared.TenantRules.{TenantRules}
-use Rattle.soundness.specs.Sound.{few, sizeB, poolB, ttlB, sharesB, tailB, zeroFrom, belowB, offsetsB, scopeOf, recordsB, leaseB, differ, calm, layoutB, paddedB, unusedB}
-use Rattle.soundness.specs.Parts.{scopeRulesOf, andScopes, scopesAll, tenantRulesOf, andTenants, tenantsAll}
+use Rattle.soundness.specs.declared.SettingsRules.{SettingsRules}
+use Rattle.soundness.specs.declared.HoldingRules.{HoldingRules}
+use Rattle.soundness.specs.declared.Held.{Held}
+use Rattle.soundness.specs.declared.HeldTable.{HeldTable}
+use Rattle.soundness.specs.declared.Rules.{Rules}
+use Rattle.lists.specs.Sums.{sumTo, sum-same}
+use Rattle.soundness.specs.Sound.{few, sizeB, poolB, ttlB, sharesB, tailB, zeroFrom, belowB, offsetsB, scopeOf, recordsB, leaseB, differ, calm, layoutB, paddedB, unusedB, tenantsIn, scopesIn, reserveAt, limitAt, countsB, rule1, rule2, rule3, poolsApart, rule4, rule5, rule6, housesB, rule7, rule8, rule10, rangeZero, scopeZero, settingsB, rule13, rulesOf, firstBroken, brokenOf, soundB, noneB, apart, rule9, holding, limitB, limitsB, rule11, load, loadB, rule12}
+use Rattle.soundness.specs.Parts.{scopeRulesOf, andScopes, scopesAll, tenantRulesOf, andTenants, tenantsAll, noHeld, heldSets, holdingsOf, setAt, apartSets, countIn, limitIn, limitsIn, loadOn, loadIn, settingsRulesOf, holdingRulesOf}
 
 -- ---- zeros, gathered by or
 or-none : (a b : ℕ) → eqb (bitOr a b) 0 ≡ (eqb a 0 && eqb b 0)
@@ -206,8 +212,14 @@ abbrev calmT : TenantLeases → Bool
 calmT t = pairsBy calm (inUse t)
 
 tenants-from : (s : State) (a : TenantRules) (l : List TenantLeases) → fold (andTenants s) a l
-    ≡ record { records = a .records && allBy recordsB l; offsets = a .offsets && allBy (offsetsT s) l; leases = a .leases && allBy (leasesT s) l;
-    identifiers = a .identifiers && allBy differT l; periods = a .periods && allBy calmT l; layout = a .layout && allBy layoutB l }
+    ≡ record {
+      records = a .records && allBy recordsB l;
+      offsets = a .offsets && allBy (offsetsT s) l;
+      leases = a .leases && allBy (leasesT s) l;
+      identifiers = a .identifiers && allBy differT l;
+      periods = a .periods && allBy calmT l;
+      layout = a .layout && allBy layoutB l;
+    }
 unfolding andTenants allBy
 tenants-from s a [] = sym (six (and-true-r (a .records)) (and-true-r (a .offsets)) (and-true-r (a .leases)) (and-true-r (a .identifiers)) (and-true-r (a .periods)) (and-true-r (a .layout)))
 tenants-from s a (t ∷ l) =
@@ -237,3 +249,183 @@ unfolding tenantRulesOf andTenants
 tenant-and s a x t e f g h i j k =
     six (f ∙ ap (λ (y : TenantRules). a .records && y .records) e) (g ∙ ap (λ (y : TenantRules). a .offsets && y .offsets) e) (h ∙ ap (λ (y : TenantRules). a .leases && y .leases) e)
     (i ∙ ap (λ (y : TenantRules). a .identifiers && y .identifiers) e) (j ∙ ap (λ (y : TenantRules). a .periods && y .periods) e) (k ∙ ap (λ (y : TenantRules). a .layout && y .layout) e)
+
+-- ---- address sets
+pub held-are : (t : TenantLeases) {a b c d : ℕ} → a ≡ heldOf 1 (inUse t) → b ≡ heldOf 2 (inUse t) → c ≡ heldOf 3 (inUse t) → d ≡ heldOf 4 (inUse t)
+    → _≡_ {A = Held} (record { sets = a ∷ b ∷ c ∷ d ∷ [] }) (heldSets t)
+unfolding heldSets
+held-are t p q r u = cc
+
+pub holdings-are : (b : LeaseTable) (h : HeldTable) → h .tenants ≡ map heldSets (b .tenants) → h ≡ holdingsOf b
+unfolding holdingsOf
+holdings-are b h e = ap {B = HeldTable} (λ (x : List Held). record { tenants = x }) e
+
+sets-apart : (a b : TenantLeases) → apartSets (heldSets a) (heldSets b) ≡ apart (inUse a) (inUse b)
+unfolding apartSets heldSets apart
+sets-apart a b = refl
+
+owners-are : (b : LeaseTable) (h : HeldTable) {r : Bool} → h ≡ holdingsOf b → r ≡ pairsBy apartSets (h .tenants) → r ≡ rule9 b
+unfolding holdingsOf rule9
+owners-are b h e p =
+    p ∙ ap (λ (x : HeldTable). pairsBy apartSets (x .tenants)) e ∙ pairs-map apartSets heldSets (b .tenants)
+    ∙ pairs-same (λ x y. apartSets (heldSets x) (heldSets y)) (λ x y. apart (inUse x) (inUse y)) (b .tenants) sets-apart
+    ∙ sym (pairs-map apart inUse (b .tenants))
+
+-- the count of a set is the holding that the leases give
+getD-map-any : {A B : Type 0} (f : A → B) (l : List A) (i : ℕ) (d : A) (e : B) → i < length l → getD (map f l) i e ≡ f (getD l i d)
+getD-map-any f [] i d e h = absurd (omega arith)
+getD-map-any f (x ∷ l) zero d e h = refl
+getD-map-any f (x ∷ l) (suc i) d e h = getD-map-any f l i d e (omega arith)
+
+set-of : (t : TenantLeases) (k : ℕ) → k < 4 → setAt (heldSets t) k ≡ heldOf (k + 1) (inUse t)
+unfolding heldSets
+set-of t zero h = refl
+set-of t (suc zero) h = refl
+set-of t (suc (suc zero)) h = refl
+set-of t (suc (suc (suc zero))) h = refl
+set-of t (suc (suc (suc (suc k)))) h = absurd (omega arith)
+
+count-is : (b : LeaseTable) (k g : ℕ) → length (b .tenants) ≡ 8 → k < 4 → g < 8 → countIn (holdingsOf b) k g ≡ holding b (k + 1) g
+unfolding countIn holdingsOf
+count-is b k g e h p =
+    ap (λ (x : ℕ). length (offsets x))
+    (ap (λ (x : Held). setAt x k) (getD-map-any heldSets (b .tenants) g noLeases noHeld (omega arith)) ∙ set-of (getD (b .tenants) g noLeases) k h
+    ∙ ap (heldOf (k + 1)) (sym (getD-map-any inUse (b .tenants) g noLeases [] (omega arith))))
+
+module _ (s : State) (b : LeaseTable) (h : HeldTable) (e : h ≡ holdingsOf b) (long : length (b .tenants) ≡ 8) where
+  counts : (k g : ℕ) → k < 4 → g < 8 → countIn h k g ≡ holding b (k + 1) g
+  counts k g p q = ap (λ (x : HeldTable). countIn x k g) e ∙ count-is b k g long p q
+
+  limits-are : {n m : ℕ} {r : Bool} → n ≡ tenantsIn s → m ≡ scopesIn s → r ≡ allTo (limitsIn s h n) m → r ≡ rule11 s b
+  unfolding limitsIn limitIn rule11 limitsB limitB
+  limits-are {n} {m} p q u =
+      u ∙ ap₂ (λ (x y : ℕ). allTo (limitsIn s h x) y) p q
+      ∙ to-same (limitsIn s h (tenantsIn s)) (limitsB s b) (scopesIn s) (λ k a.
+      to-same (limitIn h (scopeAt s k) k) (limitB b (scopeAt s k) (k + 1)) (tenantsIn s) (λ g c. ap (λ (x : ℕ). leb x (limitAt (scopeAt s k) g)) (counts k g (omega arith) (omega arith))))
+
+  loads-are : {n m : ℕ} {r : Bool} → n ≡ tenantsIn s → m ≡ scopesIn s → r ≡ allTo (loadIn s h n) m → r ≡ rule12 s b
+  unfolding loadIn loadOn rule12 loadB load
+  loads-are {n} {m} p q u =
+      u ∙ ap₂ (λ (x y : ℕ). allTo (loadIn s h x) y) p q
+      ∙ to-same (loadIn s h (tenantsIn s)) (loadB s b) (scopesIn s) (λ k a.
+      ap (λ (x : ℕ). leb x (scopeAt s k .size))
+      (sum-same (loadOn h (scopeAt s k) k) (load b (scopeAt s k) (k + 1)) (tenantsIn s) (λ g c. ap (λ (x : ℕ). max x (reserveAt (scopeAt s k) g)) (counts k g (omega arith) (omega arith)))))
+
+-- ---- the turns of the code
+pub count-at : (h : HeldTable) (k g : ℕ) (t : Held) {r : ℕ} → t ≡ getD (h .tenants) g noHeld → r ≡ length (offsets (getD (t .sets) k 0)) → r ≡ countIn h k g
+unfolding countIn
+count-at h k g t e p = p ∙ ap (λ (x : Held). length (offsets (setAt x k))) e
+
+pub limit-is : (h : HeldTable) (c : Scope) (k g : ℕ) {d l : ℕ} → d ≡ countIn h k g → l ≡ getD (c .limit) g 0 → leb d l ≡ limitIn h c k g
+unfolding limitIn
+limit-is h c k g p q = ap₂ leb p q
+
+pub count-few : (h : HeldTable) (k g : ℕ) → countIn h k g ≤ 64
+unfolding countIn
+count-few h k g = length-offsets _
+
+pub load-is : (h : HeldTable) (c : Scope) (k g : ℕ) {d l r : ℕ} → d ≡ countIn h k g → l ≡ getD (c .reserve) g 0 → r ≡ max d l → r ≡ loadOn h c k g
+unfolding loadOn
+load-is h c k g p q e = e ∙ ap₂ max p q
+
+pub load-small : (h : HeldTable) (k g : ℕ) {d l r : ℕ} → d ≡ countIn h k g → l < 256 → r ≡ max d l → r < 256
+load-small h k g p q e = let f = count-few h k g in omega arith
+
+pub load-ok-is : (s : State) (h : HeldTable) (n k : ℕ) (c : Scope) {sum : ℕ} → c ≡ scopeAt s k → sum ≡ sumTo (loadOn h c k) n → leb sum (c .size) ≡ loadIn s h n k
+unfolding loadIn
+load-ok-is s h n k c e p = ap (λ (x : ℕ). leb x (c .size)) p ∙ ap (λ (x : Scope). leb (sumTo (loadOn h x k) n) (x .size)) e
+
+pub limits-in : (s : State) (h : HeldTable) (n k : ℕ) (c : Scope) {r : Bool} → c ≡ scopeAt s k → r ≡ allTo (limitIn h c k) n → r ≡ limitsIn s h n k
+unfolding limitsIn
+limits-in s h n k c e p = p ∙ ap (λ (x : Scope). allTo (limitIn h x k) n) e
+
+-- ---- all rules
+settings-same : {p p′ q q′ u u′ r r′ t t′ v v′ : Bool} → p ≡ p′ → q ≡ q′ → u ≡ u′ → r ≡ r′ → t ≡ t′ → v ≡ v′
+    → _≡_ {A = SettingsRules} (record { counts = p; ranges = q; pools = u; ttls = r; reserves = t; unused = v }) (record { counts = p′; ranges = q′; pools = u′; ttls = r′; reserves = t′; unused = v′ })
+settings-same a b c d e f = cc
+
+pub settings-are : (s : State) (n m : ℕ) (c : ScopeRules) {count range apart pool unused : Bool} → n ≡ tenantsIn s → m ≡ scopesIn s → c ≡ scopesAll n (scopesOf s)
+    → count ≡ (few 8 (s .«tenant_count») && (few 4 (s .«scope_count») && c .sizes)) → range ≡ rule3 s → apart ≡ pairsBy poolsApart (scopesOf s) → pool ≡ (c .pools && apart)
+    → unused ≡ (allBy rangeZero (drop n (s .tenants)) && (allBy scopeZero (drop m (s .scopes)) && c .tails))
+    → _≡_ {A = SettingsRules} (record { counts = count; ranges = range; pools = pool; ttls = c .ttls; reserves = c .reserves; unused = unused }) (settingsRulesOf s)
+unfolding settingsRulesOf scopesAll countsB rule4 rule5 rule6 settingsB
+settings-are s n m c en em ec p q u r v =
+    let e : c ≡ scopesAll (tenantsIn s) (scopesOf s) = ec ∙ ap (λ (x : ℕ). scopesAll x (scopesOf s)) en in
+    settings-same (p ∙ ap (λ (x : ScopeRules). few 8 (s .«tenant_count») && (few 4 (s .«scope_count») && x .sizes)) e) q (r ∙ ap₂ (λ (x : ScopeRules) (y : Bool). x .pools && y) e u) (ap (λ (x : ScopeRules). x .ttls) e)
+    (ap (λ (x : ScopeRules). x .reserves) e)
+    (v ∙ ap₂ (λ (x y : ℕ). allBy rangeZero (drop x (s .tenants)) && (allBy scopeZero (drop y (s .scopes)) && c .tails)) en em
+    ∙ ap (λ (x : ScopeRules). allBy rangeZero (drop (tenantsIn s) (s .tenants)) && (allBy scopeZero (drop (scopesIn s) (s .scopes)) && x .tails)) e)
+
+holding-same : {p p′ q q′ u u′ r r′ : Bool} → p ≡ p′ → q ≡ q′ → u ≡ u′ → r ≡ r′
+    → _≡_ {A = HoldingRules} (record { houses = p; owners = q; holdings = u; loads = r }) (record { houses = p′; owners = q′; holdings = u′; loads = r′ })
+holding-same a b c d = cc
+
+pub holding-are : (s : State) (b : LeaseTable) (n m : ℕ) (h : HeldTable) {p q u r : Bool} → length (b .tenants) ≡ 8 → n ≡ tenantsIn s → m ≡ scopesIn s → h ≡ holdingsOf b
+    → p ≡ allBy noneB (drop n (b .tenants)) → q ≡ pairsBy apartSets (h .tenants) → u ≡ allTo (limitsIn s h n) m → r ≡ allTo (loadIn s h n) m
+    → _≡_ {A = HoldingRules} (record { houses = p; owners = q; holdings = u; loads = r }) (holdingRulesOf s b)
+unfolding holdingRulesOf housesB
+holding-are s b n m h long en em e p q u r =
+    holding-same (p ∙ ap (λ (x : ℕ). allBy noneB (drop x (b .tenants))) en) (owners-are b h e q) (limits-are s b h e long en em u) (loads-are s b h e long en em r)
+
+pub rules-are : (s : State) (t : LeaseTable) (a : SettingsRules) (b : TenantRules) (c : HoldingRules) {limit lease layout : Bool}
+    → a ≡ settingsRulesOf s → b ≡ tenantsAll s t → c ≡ holdingRulesOf s t → limit ≡ (a .counts && b .records) → lease ≡ (c .houses && b .leases) → layout ≡ (a .unused && b .layout)
+    → _≡_ {A = Rules} (record {
+      limits = limit;
+      offsets = b .offsets;
+      ranges = a .ranges;
+      pools = a .pools;
+      ttls = a .ttls;
+      reserves = a .reserves;
+      leases = lease;
+      identifiers = b .identifiers;
+      owners = c .owners;
+      periods = b .periods;
+      holdings = c .holdings;
+      loads = c .loads;
+      layout = layout;
+    }) (rulesOf s t)
+unfolding rulesOf settingsRulesOf tenantsAll holdingRulesOf rule1 rule2 rule7 rule8 rule10 rule13
+rules-are s t a b c ea eb ec p q r =
+    all (p ∙ ap₂ (λ (x : SettingsRules) (y : TenantRules). x .counts && y .records) ea eb) (q ∙ ap₂ (λ (x : HoldingRules) (y : TenantRules). x .houses && y .leases) ec eb)
+    (r ∙ ap₂ (λ (x : SettingsRules) (y : TenantRules). x .unused && y .layout) ea eb) ea eb ec
+  where
+    all : {x x′ y y′ z z′ : Bool} {a a′ : SettingsRules} {b b′ : TenantRules} {c c′ : HoldingRules} → x ≡ x′ → y ≡ y′ → z ≡ z′ → a ≡ a′ → b ≡ b′ → c ≡ c′
+        → _≡_ {A = Rules} (record {
+          limits = x;
+          offsets = b .offsets;
+          ranges = a .ranges;
+          pools = a .pools;
+          ttls = a .ttls;
+          reserves = a .reserves;
+          leases = y;
+          identifiers = b .identifiers;
+          owners = c .owners;
+          periods = b .periods;
+          holdings = c .holdings;
+          loads = c .loads;
+          layout = z;
+        })
+        (record {
+          limits = x′;
+          offsets = b′ .offsets;
+          ranges = a′ .ranges;
+          pools = a′ .pools;
+          ttls = a′ .ttls;
+          reserves = a′ .reserves;
+          leases = y′;
+          identifiers = b′ .identifiers;
+          owners = c′ .owners;
+          periods = b′ .periods;
+          holdings = c′ .holdings;
+          loads = c′ .loads;
+          layout = z′;
+        })
+    all p q r u v w = cc
+
+pub broken-is : (s : State) (t : LeaseTable) (r : Rules) {x : ℕ} → r ≡ rulesOf s t → x ≡ firstBroken r → x ≡ brokenOf s t
+unfolding brokenOf
+broken-is s t r e p = p ∙ ap firstBroken e
+
+pub sound-is : (s : State) (t : LeaseTable) {x : ℕ} → x ≡ brokenOf s t → eqb x 0 ≡ soundB s t
+unfolding soundB
+sound-is s t e = ap (λ (x : ℕ). eqb x 0) e

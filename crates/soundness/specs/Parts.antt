@@ -20,7 +20,7 @@ use Rattle.soundness.specs.declared.TenantRules.{TenantRules}
 use Rattle.soundness.specs.declared.SettingsRules.{SettingsRules}
 use Rattle.soundness.specs.declared.HoldingRules.{HoldingRules}
 use Rattle.soundness.specs.declared.Held.{Held}
-use Rattle.soundness.specs.declared.Holdings.{Holdings}
+use Rattle.soundness.specs.declared.HeldTable.{HeldTable}
 use Rattle.soundness.specs.Sound.{tenantsIn, scopesIn, reserveAt, limitAt, sizeB, countsB, recordsB, offsetsB, rule3, poolB, poolsApart, rule4, ttlB, rule5, sharesB, rule6, leaseB, housesB, differ, disjoint, rule9, calm, rule11, rule12, layoutB, tailB, settingsB}
 
 abbrev pub noRange : ClientRange
@@ -74,7 +74,7 @@ noHeld = record { sets = [] }
 unfoldable pub heldSets : TenantLeases → Held
 heldSets t = record { sets = heldOf 1 (inUse t) ∷ heldOf 2 (inUse t) ∷ heldOf 3 (inUse t) ∷ heldOf 4 (inUse t) ∷ [] }
 
-unfoldable pub holdingsOf : LeaseTable → Holdings
+unfoldable pub holdingsOf : LeaseTable → HeldTable
 holdingsOf b = record { tenants = map heldSets (b .tenants) }
 
 abbrev pub setAt : Held → ℕ → ℕ
@@ -84,23 +84,20 @@ unfoldable pub apartSets : Held → Held → Bool
 apartSets a b = disjoint (setAt a 0) (setAt b 0) && (disjoint (setAt a 1) (setAt b 1) && (disjoint (setAt a 2) (setAt b 2) && disjoint (setAt a 3) (setAt b 3)))
 
 -- how many addresses tenant g has in scope k + 1
-unfoldable pub countIn : Holdings → ℕ → ℕ → ℕ
+unfoldable pub countIn : HeldTable → ℕ → ℕ → ℕ
 countIn h k g = length (offsets (setAt (getD (h .tenants) g noHeld) k))
 
-unfoldable pub limitIn : Holdings → Scope → ℕ → ℕ → Bool
+unfoldable pub limitIn : HeldTable → Scope → ℕ → ℕ → Bool
 limitIn h c k g = leb (countIn h k g) (limitAt c g)
 
-unfoldable pub limitsIn : State → Holdings → ℕ → ℕ → Bool
+unfoldable pub limitsIn : State → HeldTable → ℕ → ℕ → Bool
 limitsIn s h n k = allTo (limitIn h (scopeAt s k) k) n
 
-unfoldable pub loadOn : Holdings → Scope → ℕ → ℕ → ℕ
+unfoldable pub loadOn : HeldTable → Scope → ℕ → ℕ → ℕ
 loadOn h c k g = max (countIn h k g) (reserveAt c g)
 
-unfoldable pub loadIn : State → Holdings → ℕ → ℕ → Bool
+unfoldable pub loadIn : State → HeldTable → ℕ → ℕ → Bool
 loadIn s h n k = leb (sumTo (loadOn h (scopeAt s k) k) n) (scopeAt s k .size)
-
-unfoldable pub noneT : TenantLeases → Bool
-noneT t = eqb (t .count) 0
 
 -- ---- the three parts of all rules
 unfoldable pub settingsRulesOf : State → SettingsRules

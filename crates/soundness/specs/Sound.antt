@@ -117,11 +117,11 @@ periodB clock l = ltb (l .start) (l .end) && (live clock l && ltb 0 (l .addresse
 unfoldable pub leaseB : State → Lease → Bool
 leaseB s l = scopeKnown s l && (kindB l && periodB (s .clock) l)
 
-unfoldable pub noneB : List Lease → Bool
-noneB ls = eqb (length ls) 0
+unfoldable pub noneB : TenantLeases → Bool
+noneB t = eqb (t .count) 0
 
 unfoldable pub housesB : State → LeaseTable → Bool
-housesB s t = allBy noneB (drop (tenantsIn s) (leasesOf t))
+housesB s t = allBy noneB (drop (tenantsIn s) (t .tenants))
 
 unfoldable pub rule7 : State → LeaseTable → Bool
 rule7 s t = housesB s t && allBy (allBy (leaseB s)) (leasesOf t)
@@ -228,10 +228,12 @@ rulesOf s t = record {
 }
 
 -- the number of the first that is broken, or 0
+unfoldable pub firstLate : Rules → ℕ
+firstLate r =
+    pick (r .leases) (pick (r .identifiers) (pick (r .owners) (pick (r .periods) (pick (r .holdings) (pick (r .loads) (pick (r .layout) 0 13) 12) 11) 10) 9) 8) 7
+
 unfoldable pub firstBroken : Rules → ℕ
-firstBroken r =
-    pick (r .limits) (pick (r .offsets) (pick (r .ranges) (pick (r .pools) (pick (r .ttls) (pick (r .reserves) (pick (r .leases)
-    (pick (r .identifiers) (pick (r .owners) (pick (r .periods) (pick (r .holdings) (pick (r .loads) (pick (r .layout) 0 13) 12) 11) 10) 9) 8) 7) 6) 5) 4) 3) 2) 1
+firstBroken r = pick (r .limits) (pick (r .offsets) (pick (r .ranges) (pick (r .pools) (pick (r .ttls) (pick (r .reserves) (firstLate r) 6) 5) 4) 3) 2) 1
 
 unfoldable pub brokenOf : State → LeaseTable → ℕ
 brokenOf s t = firstBroken (rulesOf s t)

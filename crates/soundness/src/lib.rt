@@ -8,8 +8,8 @@ ghost use Rattle.lists.specs.Next.{nextBy};
 ghost use Rattle.lists.specs.Sums.{sumTo};
 ghost use Rattle.state.specs.Book.{inUse, ordered, rangesOf, scopesOf, scopeAt};
 ghost use lib.Dec.{eqb};
-ghost use Rattle.soundness.specs.Sound.{few, tenantsIn, scopesIn, reserveAt, sizeB, idB, recordsB, belowB, scopeOf, offsetsB, rangeB, rangesApart, rule3, poolB, poolsApart, ttlB, shareB, sharesB, kindB, periodB, leaseB, differ, disjoint, calm, zeroFrom, paddedB, blankB, unusedB, layoutB, rangeZero, tailB, scopeZero, rulesOf, firstBroken, brokenOf, soundB};
-ghost use Rattle.soundness.specs.Parts.{scopeRulesOf, andScopes, scopesAll, tenantRulesOf, andTenants, tenantsAll, heldSets, holdingsOf, apartSets, countIn, limitIn, limitsIn, loadOn, loadIn, noneT, settingsRulesOf, holdingRulesOf};
+ghost use Rattle.soundness.specs.Sound.{few, tenantsIn, scopesIn, reserveAt, sizeB, idB, recordsB, belowB, scopeOf, offsetsB, rangeB, rangesApart, rule3, poolB, poolsApart, ttlB, shareB, sharesB, kindB, periodB, leaseB, noneB, differ, disjoint, calm, zeroFrom, paddedB, blankB, unusedB, layoutB, rangeZero, tailB, scopeZero, rulesOf, firstLate, firstBroken, brokenOf, soundB};
+ghost use Rattle.soundness.specs.Parts.{scopeRulesOf, andScopes, scopesAll, tenantRulesOf, andTenants, tenantsAll, heldSets, holdingsOf, apartSets, countIn, limitIn, limitsIn, loadOn, loadIn, settingsRulesOf, holdingRulesOf};
 use state::ClientRange;
 use state::Lease;
 use state::LeaseTable;
@@ -76,7 +76,7 @@ struct Held {
     sets: [u64; 4],
 }
 
-struct Holdings {
+struct HeldTable {
     tenants: [Held; 8],
 }
 
@@ -810,4 +810,407 @@ fn tenants_rules(s: State, table: LeaseTable) -> TenantRules
         i += 1;
     }
     all
+}
+
+// ---- what the tenants hold
+
+fn held_sets(t: TenantLeases) -> Held
+    ensures { λ r. ⌜ r ≡ heldSets t ⌝ }
+{
+    let a = state::held(t, 1);
+    let b = state::held(t, 2);
+    let c = state::held(t, 3);
+    let d = state::held(t, 4);
+    Held { sets: [a, b, c, d] }
+}
+
+fn held_table(table: LeaseTable) -> HeldTable
+    ensures { λ r. ⌜ r ≡ holdingsOf table ⌝ }
+{
+    let none = Held { sets: [0u64; 4] };
+    let mut now = HeldTable { tenants: [none; 8] };
+    let mut i: usize = 0;
+    while i < 8 {
+        let t = table.tenants[i];
+        let x = held_sets(t);
+        now.tenants[i] = x;
+        i += 1;
+    }
+    now
+}
+
+fn held_apart(a: Held, b: Held) -> bool
+    ensures { λ r. ⌜ r ≡ apartSets a b ⌝ }
+{
+    if sets_apart(a.sets[0], b.sets[0]) {
+        if sets_apart(a.sets[1], b.sets[1]) {
+            if sets_apart(a.sets[2], b.sets[2]) {
+                return sets_apart(a.sets[3], b.sets[3]);
+            }
+        }
+    }
+    false
+}
+
+fn held_apart_from(h: HeldTable, from: usize, x: Held) -> bool
+    requires { ⌜ from ≤ 8 ⌝ }
+    ensures { λ r. ⌜ r ≡ allBy (apartSets x) (drop from (take 8 (h .tenants))) ⌝ }
+{
+    let mut i: usize = from;
+    while i < 8 {
+        let y = h.tenants[i];
+        if !held_apart(x, y) {
+            return false;
+        }
+        i += 1;
+    }
+    true
+}
+
+fn all_held_apart(h: HeldTable) -> bool
+    ensures { λ r. ⌜ r ≡ pairsBy apartSets (h .tenants) ⌝ }
+{
+    let mut i: usize = 0;
+    while i < 8 {
+        let x = h.tenants[i];
+        i += 1;
+        if !held_apart_from(h, i, x) {
+            return false;
+        }
+    }
+    true
+}
+
+fn count_in(h: HeldTable, k: usize, g: usize) -> u32
+    requires { ⌜ (k < 4) × (g < 8) ⌝ }
+    ensures { λ r. ⌜ r ≡ countIn h k g ⌝ }
+{
+    let t = h.tenants[g];
+    address_set::count(t.sets[k])
+}
+
+fn limit_ok(h: HeldTable, c: Scope, k: usize, g: usize) -> bool
+    requires { ⌜ (k < 4) × (g < 8) ⌝ }
+    ensures { λ r. ⌜ r ≡ limitIn h c k g ⌝ }
+{
+    let d = count_in(h, k, g);
+    let limit = octet(c.limit[g]);
+    d <= (limit as u32)
+}
+
+fn limits_ok(s: State, h: HeldTable, n: usize, k: usize) -> bool
+    requires { ⌜ (n ≤ 8) × (k < 4) ⌝ }
+    ensures { λ r. ⌜ r ≡ limitsIn s h n k ⌝ }
+{
+    let c = state::scope_at(s, k);
+    let mut g: usize = 0;
+    while g < n {
+        if !limit_ok(h, c, k, g) {
+            return false;
+        }
+        g += 1;
+    }
+    true
+}
+
+fn all_limits_ok(s: State, h: HeldTable, n: usize, m: usize) -> bool
+    requires { ⌜ (n ≤ 8) × (m ≤ 4) ⌝ }
+    ensures { λ r. ⌜ r ≡ allTo (limitsIn s h n) m ⌝ }
+{
+    let mut k: usize = 0;
+    while k < m {
+        if !limits_ok(s, h, n, k) {
+            return false;
+        }
+        k += 1;
+    }
+    true
+}
+
+fn larger(a: u32, b: u32) -> u32
+    ensures { λ r. ⌜ r ≡ max a b ⌝ }
+{
+    if a < b {
+        return b;
+    }
+    a
+}
+
+fn load_on(h: HeldTable, c: Scope, k: usize, g: usize) -> u32
+    requires { ⌜ (k < 4) × (g < 8) ⌝ }
+    ensures { λ r. ⌜ (r ≡ loadOn h c k g) × (r < 256) ⌝ }
+{
+    let d = count_in(h, k, g);
+    let reserve = octet(c.reserve[g]);
+    larger(d, reserve as u32)
+}
+
+fn load_sum(h: HeldTable, c: Scope, k: usize, n: usize) -> u32
+    requires { ⌜ (n ≤ 8) × (k < 4) ⌝ }
+    ensures { λ r. ⌜ r ≡ sumTo (loadOn h c k) n ⌝ }
+{
+    let mut sum: u32 = 0;
+    let mut g: usize = 0;
+    while g < n {
+        let x = load_on(h, c, k, g);
+        sum += x;
+        g += 1;
+    }
+    sum
+}
+
+fn load_ok(s: State, h: HeldTable, n: usize, k: usize) -> bool
+    requires { ⌜ (n ≤ 8) × (k < 4) ⌝ }
+    ensures { λ r. ⌜ r ≡ loadIn s h n k ⌝ }
+{
+    let c = state::scope_at(s, k);
+    let sum = load_sum(h, c, k, n);
+    sum <= (c.size as u32)
+}
+
+fn all_loads_ok(s: State, h: HeldTable, n: usize, m: usize) -> bool
+    requires { ⌜ (n ≤ 8) × (m ≤ 4) ⌝ }
+    ensures { λ r. ⌜ r ≡ allTo (loadIn s h n) m ⌝ }
+{
+    let mut k: usize = 0;
+    while k < m {
+        if !load_ok(s, h, n, k) {
+            return false;
+        }
+        k += 1;
+    }
+    true
+}
+
+// ---- what is unused
+
+fn range_unused(r: ClientRange) -> bool
+    ensures { λ x. ⌜ x ≡ rangeZero r ⌝ }
+{
+    if r.low == 0 {
+        return r.high == 0;
+    }
+    false
+}
+
+fn ranges_unused(s: State, n: usize) -> bool
+    requires { ⌜ n ≤ 8 ⌝ }
+    ensures { λ r. ⌜ r ≡ allBy rangeZero (drop n (s .tenants)) ⌝ }
+{
+    let mut i: usize = n;
+    while i < 8 {
+        let x = s.tenants[i];
+        if !range_unused(x) {
+            return false;
+        }
+        i += 1;
+    }
+    true
+}
+
+fn scope_unused(c: Scope) -> bool
+    ensures { λ r. ⌜ r ≡ scopeZero c ⌝ }
+{
+    if c.lowest == 0 {
+        if c.size == 0 {
+            if c.ttl == 0 {
+                return tail_ok(0, c);
+            }
+        }
+    }
+    false
+}
+
+fn scopes_unused(s: State, m: usize) -> bool
+    requires { ⌜ m ≤ 4 ⌝ }
+    ensures { λ r. ⌜ r ≡ allBy scopeZero (drop m (s .scopes)) ⌝ }
+{
+    let mut i: usize = m;
+    while i < 4 {
+        let c = s.scopes[i];
+        if !scope_unused(c) {
+            return false;
+        }
+        i += 1;
+    }
+    true
+}
+
+fn has_none(t: TenantLeases) -> bool
+    ensures { λ r. ⌜ r ≡ noneB t ⌝ }
+{
+    t.count == 0
+}
+
+fn rest_none(table: LeaseTable, n: usize) -> bool
+    requires { ⌜ n ≤ 8 ⌝ }
+    ensures { λ r. ⌜ r ≡ allBy noneB (drop n (table .tenants)) ⌝ }
+{
+    let mut i: usize = n;
+    while i < 8 {
+        let t = table.tenants[i];
+        if !has_none(t) {
+            return false;
+        }
+        i += 1;
+    }
+    true
+}
+
+// ---- all rules
+
+fn counts_ok(s: State, sizes: bool) -> bool
+    ensures { λ r. ⌜ r ≡ (few 8 (s .«tenant_count») && (few 4 (s .«scope_count») && sizes)) ⌝ }
+{
+    if is_few(8, s.tenant_count) {
+        if is_few(4, s.scope_count) {
+            return sizes;
+        }
+    }
+    false
+}
+
+fn unused_ok(s: State, n: usize, m: usize, tails: bool) -> bool
+    requires { ⌜ (n ≤ 8) × (m ≤ 4) ⌝ }
+    ensures { λ r. ⌜ r ≡ (allBy rangeZero (drop n (s .tenants)) && (allBy scopeZero (drop m (s .scopes)) && tails)) ⌝ }
+{
+    if ranges_unused(s, n) {
+        if scopes_unused(s, m) {
+            return tails;
+        }
+    }
+    false
+}
+
+fn settings_rules(s: State) -> SettingsRules
+    ensures { λ r. ⌜ r ≡ settingsRulesOf s ⌝ }
+{
+    let n = cut8(s.tenant_count);
+    let m = cut4(s.scope_count);
+    let c = scopes_rules(s, n);
+    let count = counts_ok(s, c.sizes);
+    let range = rule_3(s);
+    let apart = pools_all_apart(s);
+    let pool = both(c.pools, apart);
+    let unused = unused_ok(s, n, m, c.tails);
+    SettingsRules {
+        counts: count,
+        ranges: range,
+        pools: pool,
+        ttls: c.ttls,
+        reserves: c.reserves,
+        unused: unused,
+    }
+}
+
+fn holding_rules(s: State, table: LeaseTable) -> HoldingRules
+    ensures { λ r. ⌜ r ≡ holdingRulesOf s table ⌝ }
+{
+    let n = cut8(s.tenant_count);
+    let m = cut4(s.scope_count);
+    let h = held_table(table);
+    let house = rest_none(table, n);
+    let owner = all_held_apart(h);
+    let limit = all_limits_ok(s, h, n, m);
+    let load = all_loads_ok(s, h, n, m);
+    HoldingRules {
+        houses: house,
+        owners: owner,
+        holdings: limit,
+        loads: load,
+    }
+}
+
+// Which rules a book keeps.
+pub fn check_rules(s: State, table: LeaseTable) -> Rules
+    ensures { λ r. ⌜ r ≡ rulesOf s table ⌝ }
+{
+    let a = settings_rules(s);
+    let b = tenants_rules(s, table);
+    let c = holding_rules(s, table);
+    let limit = both(a.counts, b.records);
+    let lease = both(c.houses, b.leases);
+    let layout = both(a.unused, b.layout);
+    Rules {
+        limits: limit,
+        offsets: b.offsets,
+        ranges: a.ranges,
+        pools: a.pools,
+        ttls: a.ttls,
+        reserves: a.reserves,
+        leases: lease,
+        identifiers: b.identifiers,
+        owners: c.owners,
+        periods: b.periods,
+        holdings: c.holdings,
+        loads: c.loads,
+        layout: layout,
+    }
+}
+
+fn first_late(r: Rules) -> u8
+    ensures { λ x. ⌜ x ≡ firstLate r ⌝ }
+{
+    if !r.leases {
+        return 7;
+    }
+    if !r.identifiers {
+        return 8;
+    }
+    if !r.owners {
+        return 9;
+    }
+    if !r.periods {
+        return 10;
+    }
+    if !r.holdings {
+        return 11;
+    }
+    if !r.loads {
+        return 12;
+    }
+    if !r.layout {
+        return 13;
+    }
+    0
+}
+
+// The number of the first rule that is broken, or 0.
+pub fn first_broken(r: Rules) -> u8
+    ensures { λ x. ⌜ x ≡ firstBroken r ⌝ }
+{
+    if !r.limits {
+        return 1;
+    }
+    if !r.offsets {
+        return 2;
+    }
+    if !r.ranges {
+        return 3;
+    }
+    if !r.pools {
+        return 4;
+    }
+    if !r.ttls {
+        return 5;
+    }
+    if !r.reserves {
+        return 6;
+    }
+    first_late(r)
+}
+
+// The number of the first rule that a book breaks, or 0.
+pub fn broken(s: State, table: LeaseTable) -> u8
+    ensures { λ r. ⌜ r ≡ brokenOf s table ⌝ }
+{
+    let r = check_rules(s, table);
+    first_broken(r)
+}
+
+// Whether a book is sound.
+pub fn sound(s: State, table: LeaseTable) -> bool
+    ensures { λ r. ⌜ r ≡ soundB s table ⌝ }
+{
+    broken(s, table) == 0
 }

@@ -95,8 +95,19 @@ none-broken r e =
     let m = peel (r .loads) _ 12 (omega arith) (l .1) in
     let n = peel (r .layout) _ 13 (omega arith) (m .1) in
     record {
-      limits = a .0; offsets = b .0; ranges = c .0; pools = d .0; ttls = f .0; reserves = g .0; leases = h .0; identifiers = i .0;
-      owners = j .0; periods = k .0; holdings = l .0; loads = m .0; layout = n .0;
+      limits = a .0;
+      offsets = b .0;
+      ranges = c .0;
+      pools = d .0;
+      ttls = f .0;
+      reserves = g .0;
+      leases = h .0;
+      identifiers = i .0;
+      owners = j .0;
+      periods = k .0;
+      holdings = l .0;
+      loads = m .0;
+      layout = n .0;
     }
 
 wrap : {b : Bool} {x : ℕ} (n : ℕ) → b ≡ true → x ≡ 0 → pick b x n ≡ 0

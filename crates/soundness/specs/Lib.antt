@@ -2,3 +2,4 @@ pub mod Sound
 pub mod Parts
 pub mod Laws
 pub mod Book
+pub mod Kept

@@ -3,3 +3,4 @@ pub mod Parts
 pub mod Laws
 pub mod Book
 pub mod Kept
+pub mod Added

@@ -49,11 +49,12 @@ module _ {A : Type 0} (t : A → A → Bool) (trans : (x y z : A) → t x y ≡ 
 
 -- ---- the loop
 pub record NextInv {A : Type 0} (t : A → A → Bool) (d : A) (l : List A) (n : ℕ) (w : Bool) (i : ℕ) : Type 0 where
+  pub within : i ≤ n
   pub long : n ≤ length l
   pub whole : nextBy t (drop i (take n l)) ≡ w
 
 pub next-start : {A : Type 0} {t : A → A → Bool} {d : A} {l : List A} {n : ℕ} (x k : ℕ) → n ≡ min x k → length l ≡ k → NextInv t d l n (nextBy t (take x l)) 0
-next-start {t = t} {l = l} {n = n} x k e g = record { long = omega arith; whole = ap (λ (z : ℕ). nextBy t (take z l)) e ∙ ap (nextBy t) (cut-take k x l g) }
+next-start {t = t} {l = l} {n = n} x k e g = record { within = omega arith; long = omega arith; whole = ap (λ (z : ℕ). nextBy t (take z l)) e ∙ ap (nextBy t) (cut-take k x l g) }
 
 short : {A : Type 0} (t : A → A → Bool) (l : List A) → length l ≤ 1 → nextBy t l ≡ true
 unfolding nextBy
@@ -75,7 +76,7 @@ module _ {A : Type 0} {t : A → A → Bool} {d : A} {l : List A} {n : ℕ} {w :
 
   pub next-next : {q : Bool} → i + 1 < n → q ≡ t (getD l i d) (getD l (i + 1) d) → q ≡ true → NextInv t d l n w (i + 1)
   unfolding pick
-  next-next h e y = record { long = v .long; whole = ap (λ (b : Bool). pick b (nextBy t (drop (i + 1) (take n l))) false) (sym y ∙ e) ∙ here h }
+  next-next h e y = record { within = omega arith; long = v .long; whole = ap (λ (b : Bool). pick b (nextBy t (drop (i + 1) (take n l))) false) (sym y ∙ e) ∙ here h }
 
   pub next-end : n ≤ i + 1 → true ≡ w
   next-end h = sym (short t (drop i (take n l)) (let a = length-drop i (take n l) in let b = length-take n l in omega arith)) ∙ v .whole

@@ -1,0 +1,6 @@
+pub mod Sound
+pub mod Parts
+pub mod Laws
+pub mod Book
+pub mod Kept
+pub mod Added

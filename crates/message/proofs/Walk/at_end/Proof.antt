@@ -5,8 +5,9 @@ use borrow.Author.Needs.{needs}
 -- By the definition, case by case.
 -- By the definition, case by case.
 -- By the definition, case by case.
-use Rattle.message.proofs.Walk.ended.Statement.{statement}
-use Rattle.message.proofs.Walk.ended.Tie as tie
+-- By the definition, case by case.
+use Rattle.message.proofs.Walk.at_end.Statement.{statement}
+use Rattle.message.proofs.Walk.at_end.Tie as tie
 
 add-if1 : tie.Need-add-if1
 add-if1 c = search (picks, needs)
@@ -20,5 +21,5 @@ broken-requires c κs = search (picks, needs)
 returns-2 : tie.Need-returns-2
 returns-2 c = search (picks, needs)
 
-pub ended-spec : {M : Type 1} → statement M
-ended-spec = tie.close (tie.spec add-if1 returns broken-requires returns-2)
+pub at-end-spec : {M : Type 1} → statement M
+at-end-spec = tie.close (tie.spec add-if1 returns broken-requires returns-2)

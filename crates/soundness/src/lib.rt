@@ -4,12 +4,12 @@ ghost use mathlib.Core.Bool.{Bool, _&&_};
 ghost use Prim.Native.Nat.{ℕ, _+_, _-_, _<_, _≤_, min, max};
 ghost use lib.ListN.{take, drop, length, getD};
 ghost use Rattle.lists.specs.All.{allBy, pairsBy, allTo};
-ghost use Rattle.lists.specs.Next.{nextBy};
 ghost use Rattle.lists.specs.Sums.{sumTo};
 ghost use Rattle.state.specs.Book.{inUse, ordered, rangesOf, scopesOf, scopeAt};
-ghost use lib.Dec.{eqb};
-ghost use Rattle.soundness.specs.Sound.{few, tenantsIn, scopesIn, reserveAt, sizeB, idB, recordsB, belowB, scopeOf, offsetsB, rangeB, rangesApart, rule3, poolB, poolsApart, ttlB, shareB, sharesB, kindB, periodB, leaseB, noneB, differ, disjoint, calm, zeroFrom, paddedB, blankB, unusedB, layoutB, rangeZero, tailB, scopeZero, rulesOf, firstLate, firstBroken, brokenOf, soundB};
-ghost use Rattle.soundness.specs.Parts.{scopeRulesOf, andScopes, scopesAll, tenantRulesOf, andTenants, tenantsAll, heldSets, holdingsOf, apartSets, countIn, limitIn, limitsIn, loadOn, loadIn, settingsRulesOf, holdingRulesOf};
+ghost use lib.Dec.{ltb};
+ghost use Rattle.lists.specs.Pick.{pick};
+ghost use Rattle.soundness.specs.Sound.{few, tenantsIn, scopesIn, reserveAt, sizeB, idB, belowB, scopeOf, offsetsB, rangeB, rangesApart, rule3, poolB, poolsApart, ttlB, shareB, sharesB, kindB, periodB, leaseB, differ, disjoint, calm, zeroFrom, paddedB, blankB, unusedB, rangeZero, tailB, scopeZero, rulesOf, firstLate, firstBroken, brokenOf, soundB};
+ghost use Rattle.soundness.specs.Parts.{scopeRulesOf, andScopes, scopesAll, leaseRulesOf, andLeases, leasesAll, tenantRulesOf, bothTenants, heldSets, addedSets, apartSets, countIn, limitIn, limitsIn, loadOn, loadIn, noneH, settingsRulesOf, holdingRulesIn, tableRulesOf, joinedRules};
 use state::ClientRange;
 use state::Lease;
 use state::LeaseTable;
@@ -43,6 +43,14 @@ struct ScopeRules {
     tails: bool,
 }
 
+// The rules that go lease by lease.
+struct LeaseRules {
+    ids: bool,
+    offsets: bool,
+    leases: bool,
+    padded: bool,
+}
+
 // The rules that go tenant by tenant.
 struct TenantRules {
     records: bool,
@@ -71,13 +79,19 @@ struct HoldingRules {
     loads: bool,
 }
 
-// A tenant's addresses, scope by scope.
+// A tenant's addresses, scope by scope, and its number of records.
 struct Held {
     sets: [u64; 4],
+    count: usize,
 }
 
 struct HeldTable {
     tenants: [Held; 8],
+}
+
+struct TableRules {
+    rules: TenantRules,
+    held: HeldTable,
 }
 
 // ---- numbers
@@ -118,34 +132,36 @@ fn is_few(most: u8, n: u8) -> bool
     false
 }
 
-fn is_zero(x: u8) -> bool
-    ensures { λ r. ⌜ r ≡ (eqb x 0) ⌝ }
+// An octet from place n on, and 0 before it.
+fn from_place(x: u8, i: usize, n: usize) -> u8
+    ensures { λ r. ⌜ r ≡ pick (ltb i n) 0 x ⌝ }
 {
-    x == 0
+    if i < n {
+        return 0;
+    }
+    x
 }
 
-// Whether all octets of an array from the nth on are 0.
+// Whether all octets of an array from the nth on are 0: gathered without a branch, since every record has it.
 fn zeros8(n: usize, a: [u8; 8]) -> bool
-    requires { ⌜ n ≤ 8 ⌝ }
     ensures { λ r. ⌜ r ≡ zeroFrom n a ⌝ }
 {
     let mut any: u8 = 0;
-    let mut i: usize = n;
+    let mut i: usize = 0;
     while i < 8 {
-        any = any | a[i];
+        any = any | from_place(a[i], i, n);
         i += 1;
     }
     any == 0
 }
 
 fn zeros32(n: usize, a: [u8; 32]) -> bool
-    requires { ⌜ n ≤ 32 ⌝ }
     ensures { λ r. ⌜ r ≡ zeroFrom n a ⌝ }
 {
     let mut any: u8 = 0;
-    let mut i: usize = n;
+    let mut i: usize = 0;
     while i < 32 {
-        any = any | a[i];
+        any = any | from_place(a[i], i, n);
         i += 1;
     }
     any == 0
@@ -339,7 +355,6 @@ fn shares_ok(n: usize, c: Scope) -> bool
 }
 
 fn tail_ok(n: usize, c: Scope) -> bool
-    requires { ⌜ n ≤ 8 ⌝ }
     ensures { λ r. ⌜ r ≡ tailB n c ⌝ }
 {
     let a = c.reserve;
@@ -480,11 +495,7 @@ fn padded_ok(l: Lease) -> bool
     ensures { λ r. ⌜ r ≡ paddedB l ⌝ }
 {
     let id = l.id;
-    let n = l.id_len;
-    if n < 32 {
-        return zeros32(n as usize, id);
-    }
-    true
+    zeros32(l.id_len as usize, id)
 }
 
 fn is_blank(l: Lease) -> bool
@@ -558,73 +569,54 @@ fn are_calm(a: Lease, b: Lease) -> bool
 
 // ---- a tenant's leases
 
-fn ids_ok(t: TenantLeases) -> bool
-    ensures { λ r. ⌜ r ≡ allBy idB (inUse t) ⌝ }
+fn lease_rules(s: State, l: Lease) -> LeaseRules
+    ensures { λ r. ⌜ r ≡ leaseRulesOf s l ⌝ }
 {
+    let id = id_ok(l);
+    let offset = offsets_ok(s, l);
+    let lease = lease_ok(s, l);
+    let pad = padded_ok(l);
+    LeaseRules {
+        ids: id,
+        offsets: offset,
+        leases: lease,
+        padded: pad,
+    }
+}
+
+fn and_leases(s: State, a: LeaseRules, l: Lease) -> LeaseRules
+    ensures { λ r. ⌜ r ≡ andLeases s a l ⌝ }
+{
+    let x = lease_rules(s, l);
+    let id = both(a.ids, x.ids);
+    let offset = both(a.offsets, x.offsets);
+    let lease = both(a.leases, x.leases);
+    let pad = both(a.padded, x.padded);
+    LeaseRules {
+        ids: id,
+        offsets: offset,
+        leases: lease,
+        padded: pad,
+    }
+}
+
+fn leases_rules(s: State, t: TenantLeases) -> LeaseRules
+    ensures { λ r. ⌜ r ≡ leasesAll s (inUse t) ⌝ }
+{
+    let mut all = LeaseRules {
+        ids: true,
+        offsets: true,
+        leases: true,
+        padded: true,
+    };
     let n = state::cut16(t.count);
     let mut i: usize = 0;
     while i < n {
         let l = t.leases[i];
-        if !id_ok(l) {
-            return false;
-        }
+        all = and_leases(s, all, l);
         i += 1;
     }
-    true
-}
-
-fn records_ok(t: TenantLeases) -> bool
-    ensures { λ r. ⌜ r ≡ recordsB t ⌝ }
-{
-    if t.count <= 16 {
-        return ids_ok(t);
-    }
-    false
-}
-
-fn all_offsets_ok(s: State, t: TenantLeases) -> bool
-    ensures { λ r. ⌜ r ≡ allBy (offsetsB s) (inUse t) ⌝ }
-{
-    let n = state::cut16(t.count);
-    let mut i: usize = 0;
-    while i < n {
-        let l = t.leases[i];
-        if !offsets_ok(s, l) {
-            return false;
-        }
-        i += 1;
-    }
-    true
-}
-
-fn all_leases_ok(s: State, t: TenantLeases) -> bool
-    ensures { λ r. ⌜ r ≡ allBy (leaseB s) (inUse t) ⌝ }
-{
-    let n = state::cut16(t.count);
-    let mut i: usize = 0;
-    while i < n {
-        let l = t.leases[i];
-        if !lease_ok(s, l) {
-            return false;
-        }
-        i += 1;
-    }
-    true
-}
-
-fn all_padded(t: TenantLeases) -> bool
-    ensures { λ r. ⌜ r ≡ allBy paddedB (inUse t) ⌝ }
-{
-    let n = state::cut16(t.count);
-    let mut i: usize = 0;
-    while i < n {
-        let l = t.leases[i];
-        if !padded_ok(l) {
-            return false;
-        }
-        i += 1;
-    }
-    true
+    all
 }
 
 fn unused_from(t: TenantLeases, n: usize) -> bool
@@ -710,42 +702,33 @@ fn ids_differ(t: TenantLeases, rising: bool) -> bool
     all_differ(t)
 }
 
-fn calm_from(t: TenantLeases, from: usize, n: usize, x: Lease) -> bool
-    requires { ⌜ (from ≤ n) × (n ≤ 16) ⌝ }
-    ensures { λ r. ⌜ r ≡ allBy (calm x) (drop from (take n (t .leases))) ⌝ }
-{
-    let mut i: usize = from;
-    while i < n {
-        let y = t.leases[i];
-        if !are_calm(x, y) {
-            return false;
-        }
-        i += 1;
-    }
-    true
-}
-
 fn all_calm(t: TenantLeases) -> bool
     ensures { λ r. ⌜ r ≡ pairsBy calm (inUse t) ⌝ }
 {
     let n = state::cut16(t.count);
     let mut i: usize = 0;
+    let mut j: usize = 1;
     while i < n {
-        let x = t.leases[i];
-        i += 1;
-        if !calm_from(t, i, n, x) {
-            return false;
+        if j < n {
+            let a = t.leases[i];
+            let b = t.leases[j];
+            j += 1;
+            if !are_calm(a, b) {
+                return false;
+            }
+        } else {
+            i += 1;
+            j = i + 1;
         }
     }
     true
 }
 
-fn layout_ok(t: TenantLeases, rising: bool) -> bool
-    requires { ⌜ rising ≡ pairsBy ordered (inUse t) ⌝ }
-    ensures { λ r. ⌜ r ≡ layoutB t ⌝ }
+fn layout_ok(t: TenantLeases, rising: bool, padded: bool) -> bool
+    ensures { λ r. ⌜ r ≡ (rising && (padded && allBy unusedB (drop (t .count) (t .leases)))) ⌝ }
 {
     if rising {
-        if all_padded(t) {
+        if padded {
             return rest_unused(t);
         }
     }
@@ -755,27 +738,25 @@ fn layout_ok(t: TenantLeases, rising: bool) -> bool
 fn tenant_rules(s: State, t: TenantLeases) -> TenantRules
     ensures { λ r. ⌜ r ≡ tenantRulesOf s t ⌝ }
 {
+    let l = leases_rules(s, t);
     let rising = all_rise(t);
-    let record = records_ok(t);
-    let offset = all_offsets_ok(s, t);
-    let lease = all_leases_ok(s, t);
+    let record = both(t.count <= 16, l.ids);
     let identifier = ids_differ(t, rising);
     let period = all_calm(t);
-    let layout = layout_ok(t, rising);
+    let layout = layout_ok(t, rising, l.padded);
     TenantRules {
         records: record,
-        offsets: offset,
-        leases: lease,
+        offsets: l.offsets,
+        leases: l.leases,
         identifiers: identifier,
         periods: period,
         layout: layout,
     }
 }
 
-fn and_tenants(s: State, a: TenantRules, t: TenantLeases) -> TenantRules
-    ensures { λ r. ⌜ r ≡ andTenants s a t ⌝ }
+fn and_tenants(a: TenantRules, x: TenantRules) -> TenantRules
+    ensures { λ r. ⌜ r ≡ bothTenants a x ⌝ }
 {
-    let x = tenant_rules(s, t);
     let record = both(a.records, x.records);
     let offset = both(a.offsets, x.offsets);
     let lease = both(a.leases, x.leases);
@@ -792,9 +773,47 @@ fn and_tenants(s: State, a: TenantRules, t: TenantLeases) -> TenantRules
     }
 }
 
-fn tenants_rules(s: State, table: LeaseTable) -> TenantRules
-    ensures { λ r. ⌜ r ≡ tenantsAll s table ⌝ }
+// ---- what a tenant holds
+
+fn add_sets(h: Held, l: Lease) -> Held
+    ensures { λ r. ⌜ r ≡ addedSets h l ⌝ }
 {
+    let a = state::add_held(h.sets[0], l, 1);
+    let b = state::add_held(h.sets[1], l, 2);
+    let c = state::add_held(h.sets[2], l, 3);
+    let d = state::add_held(h.sets[3], l, 4);
+    Held {
+        sets: [a, b, c, d],
+        count: h.count,
+    }
+}
+
+fn held_sets(t: TenantLeases) -> Held
+    ensures { λ r. ⌜ r ≡ heldSets t ⌝ }
+{
+    let mut now = Held {
+        sets: [0u64; 4],
+        count: t.count,
+    };
+    let n = state::cut16(t.count);
+    let mut i: usize = 0;
+    while i < n {
+        let l = t.leases[i];
+        now = add_sets(now, l);
+        i += 1;
+    }
+    now
+}
+
+// One pass over the tenants, so that a table is copied once.
+fn table_rules(s: State, table: LeaseTable) -> TableRules
+    ensures { λ r. ⌜ r ≡ tableRulesOf s table ⌝ }
+{
+    let none = Held {
+        sets: [0u64; 4],
+        count: 0,
+    };
+    let mut held = HeldTable { tenants: [none; 8] };
     let mut all = TenantRules {
         records: true,
         offsets: true,
@@ -806,38 +825,19 @@ fn tenants_rules(s: State, table: LeaseTable) -> TenantRules
     let mut i: usize = 0;
     while i < 8 {
         let t = table.tenants[i];
-        all = and_tenants(s, all, t);
+        let x = tenant_rules(s, t);
+        let h = held_sets(t);
+        all = and_tenants(all, x);
+        held.tenants[i] = h;
         i += 1;
     }
-    all
+    TableRules {
+        rules: all,
+        held: held,
+    }
 }
 
 // ---- what the tenants hold
-
-fn held_sets(t: TenantLeases) -> Held
-    ensures { λ r. ⌜ r ≡ heldSets t ⌝ }
-{
-    let a = state::held(t, 1);
-    let b = state::held(t, 2);
-    let c = state::held(t, 3);
-    let d = state::held(t, 4);
-    Held { sets: [a, b, c, d] }
-}
-
-fn held_table(table: LeaseTable) -> HeldTable
-    ensures { λ r. ⌜ r ≡ holdingsOf table ⌝ }
-{
-    let none = Held { sets: [0u64; 4] };
-    let mut now = HeldTable { tenants: [none; 8] };
-    let mut i: usize = 0;
-    while i < 8 {
-        let t = table.tenants[i];
-        let x = held_sets(t);
-        now.tenants[i] = x;
-        i += 1;
-    }
-    now
-}
 
 fn held_apart(a: Held, b: Held) -> bool
     ensures { λ r. ⌜ r ≡ apartSets a b ⌝ }
@@ -1036,20 +1036,20 @@ fn scopes_unused(s: State, m: usize) -> bool
     true
 }
 
-fn has_none(t: TenantLeases) -> bool
-    ensures { λ r. ⌜ r ≡ noneB t ⌝ }
+fn has_none(h: Held) -> bool
+    ensures { λ r. ⌜ r ≡ noneH h ⌝ }
 {
-    t.count == 0
+    h.count == 0
 }
 
-fn rest_none(table: LeaseTable, n: usize) -> bool
+fn rest_none(h: HeldTable, n: usize) -> bool
     requires { ⌜ n ≤ 8 ⌝ }
-    ensures { λ r. ⌜ r ≡ allBy noneB (drop n (table .tenants)) ⌝ }
+    ensures { λ r. ⌜ r ≡ allBy noneH (drop n (h .tenants)) ⌝ }
 {
     let mut i: usize = n;
     while i < 8 {
-        let t = table.tenants[i];
-        if !has_none(t) {
+        let x = h.tenants[i];
+        if !has_none(x) {
             return false;
         }
         i += 1;
@@ -1103,13 +1103,12 @@ fn settings_rules(s: State) -> SettingsRules
     }
 }
 
-fn holding_rules(s: State, table: LeaseTable) -> HoldingRules
-    ensures { λ r. ⌜ r ≡ holdingRulesOf s table ⌝ }
+fn holding_rules(s: State, h: HeldTable) -> HoldingRules
+    ensures { λ r. ⌜ r ≡ holdingRulesIn s h ⌝ }
 {
     let n = cut8(s.tenant_count);
     let m = cut4(s.scope_count);
-    let h = held_table(table);
-    let house = rest_none(table, n);
+    let house = rest_none(h, n);
     let owner = all_held_apart(h);
     let limit = all_limits_ok(s, h, n, m);
     let load = all_loads_ok(s, h, n, m);
@@ -1121,13 +1120,9 @@ fn holding_rules(s: State, table: LeaseTable) -> HoldingRules
     }
 }
 
-// Which rules a book keeps.
-pub fn check_rules(s: State, table: LeaseTable) -> Rules
-    ensures { λ r. ⌜ r ≡ rulesOf s table ⌝ }
+fn join_rules(a: SettingsRules, b: TenantRules, c: HoldingRules) -> Rules
+    ensures { λ r. ⌜ r ≡ joinedRules a b c ⌝ }
 {
-    let a = settings_rules(s);
-    let b = tenants_rules(s, table);
-    let c = holding_rules(s, table);
     let limit = both(a.counts, b.records);
     let lease = both(c.houses, b.leases);
     let layout = both(a.unused, b.layout);
@@ -1146,6 +1141,18 @@ pub fn check_rules(s: State, table: LeaseTable) -> Rules
         loads: c.loads,
         layout: layout,
     }
+}
+
+// Which rules a book keeps.
+pub fn check_rules(s: State, table: LeaseTable) -> Rules
+    ensures { λ r. ⌜ r ≡ rulesOf s table ⌝ }
+{
+    let a = settings_rules(s);
+    let b = table_rules(s, table);
+    let t = b.rules;
+    let h = b.held;
+    let c = holding_rules(s, h);
+    join_rules(a, t, c)
 }
 
 fn first_late(r: Rules) -> u8

@@ -1,11 +1,11 @@
 -- `has_none` meets its contract: by its definition.
-use Rattle.soundness.specs.Sound.{noneB}
+use Rattle.soundness.specs.Parts.{noneH}
 use borrow.Author.Needs.{needs}
 use Rattle.soundness.proofs.has_none.Statement.{statement}
 use Rattle.soundness.proofs.has_none.Tie as tie
 
 returns : tie.Need-returns
-unfolding noneB
+unfolding noneH
 returns c = search needs
 
 pub has-none-spec : {M : Type 1} → statement M

@@ -1,24 +1,58 @@
--- `held_sets` meets its contract: by held-are.
+-- `held_sets` meets its contract: by parts, held-are.
+use Prim.Native.Nat.{_-_}
+use Rattle.lists.specs.Part.{PartInv, parts}
 use Rattle.soundness.specs.Laws.{held-are}
+use Rattle.soundness.specs.Parts.{addedSets, heldSets}
+use Rattle.state.specs.Book.{noLease}
 use borrow.Author.Needs.{needs}
 use Rattle.soundness.proofs.held_sets.Statement.{statement}
 use Rattle.soundness.proofs.held_sets.Tie as tie
 
-held-requires : tie.Need-held-requires
-held-requires c κs = search (held-are, needs)
+abbrev Inv-loop : tie.InvT-loop
+Inv-loop t now₀ n i₀ now i = PartInv addedSets noLease (t .leases) n (heldSets t) now i
 
-held-requires-2 : tie.Need-held-requires-2
-held-requires-2 c κs = search (held-are, needs)
+abbrev μ-loop : tie.MeasureT-loop
+μ-loop t now₀ n i₀ now i = n - i
 
-held-requires-3 : tie.Need-held-requires-3
-held-requires-3 c κs = search (held-are, needs)
+cut16-requires : tie.Need-cut16-requires Inv-loop μ-loop
+cut16-requires c κs = search (parts, held-are, needs)
 
-held-requires-4 : tie.Need-held-requires-4
-held-requires-4 c κs = search (held-are, needs)
+loop-holds : tie.Need-loop-holds Inv-loop μ-loop
+loop-holds c = search (parts, held-are, needs)
 
-returns : tie.Need-returns
-returns c = search (held-are, needs)
+mul-l : tie.Need-mul-l Inv-loop μ-loop
+mul-l c = search (parts, held-are, needs)
+
+element-copy-out-l : tie.Need-element-copy-out-l Inv-loop μ-loop
+element-copy-out-l c = search (parts, held-are, needs)
+
+add-sets-requires : tie.Need-add-sets-requires Inv-loop μ-loop
+add-sets-requires c κs = search (parts, held-are, needs)
+
+add-i : tie.Need-add-i Inv-loop μ-loop
+add-i c = search (parts, held-are, needs)
+
+loop-less : tie.Need-loop-less Inv-loop μ-loop
+loop-less c = search (parts, held-are, needs)
+
+loop-again : tie.Need-loop-again Inv-loop μ-loop
+loop-again c = search (parts, held-are, needs)
+
+returns : tie.Need-returns Inv-loop μ-loop
+returns c = search (parts, held-are, needs)
 
 pub held-sets-spec : {M : Type 1} → statement M
 held-sets-spec =
-    tie.close (tie.spec held-requires held-requires-2 held-requires-3 held-requires-4 returns)
+    tie.close
+    (tie.spec
+    Inv-loop
+    μ-loop
+    cut16-requires
+    loop-holds
+    mul-l
+    element-copy-out-l
+    add-sets-requires
+    add-i
+    loop-less
+    loop-again
+    returns)

@@ -1,27 +1,26 @@
 -- `rest_none` meets its contract: by alls, all-rest.
 use Prim.Native.Nat.{_-_}
 use Rattle.lists.specs.All.{AllInv, all-rest, allBy, alls}
-use Rattle.soundness.specs.Sound.{noneB}
-use Rattle.state.specs.Book.{noLeases}
+use Rattle.soundness.specs.Parts.{noHeld, noneH}
 use borrow.Author.Needs.{needs}
 use lib.ListN.{drop}
 use Rattle.soundness.proofs.rest_none.Statement.{statement}
 use Rattle.soundness.proofs.rest_none.Tie as tie
 
 abbrev Inv-loop : tie.InvT-loop
-Inv-loop n table i₀ i = AllInv noneB noLeases (table .tenants) 8 (allBy noneB (drop n (table .tenants))) i
+Inv-loop n h i₀ i = AllInv noneH noHeld (h .tenants) 8 (allBy noneH (drop n (h .tenants))) i
 
 abbrev μ-loop : tie.MeasureT-loop
-μ-loop n table i₀ i = 8 - i
+μ-loop n h i₀ i = 8 - i
 
 loop-holds : tie.Need-loop-holds Inv-loop μ-loop
 loop-holds c = search (alls, all-rest, needs)
 
-mul-t : tie.Need-mul-t Inv-loop μ-loop
-mul-t c = search (alls, all-rest, needs)
+mul-x : tie.Need-mul-x Inv-loop μ-loop
+mul-x c = search (alls, all-rest, needs)
 
-element-copy-out-t : tie.Need-element-copy-out-t Inv-loop μ-loop
-element-copy-out-t c = search (alls, all-rest, needs)
+element-copy-out-x : tie.Need-element-copy-out-x Inv-loop μ-loop
+element-copy-out-x c = search (alls, all-rest, needs)
 
 has-none-requires : tie.Need-has-none-requires Inv-loop μ-loop
 has-none-requires c κs = search (alls, all-rest, needs)
@@ -48,8 +47,8 @@ rest-none-spec =
     Inv-loop
     μ-loop
     loop-holds
-    mul-t
-    element-copy-out-t
+    mul-x
+    element-copy-out-x
     has-none-requires
     returns
     add-i

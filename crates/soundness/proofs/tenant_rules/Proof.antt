@@ -4,17 +4,14 @@ use borrow.Author.Needs.{needs}
 use Rattle.soundness.proofs.tenant_rules.Statement.{statement}
 use Rattle.soundness.proofs.tenant_rules.Tie as tie
 
+leases-rules-requires : tie.Need-leases-rules-requires
+leases-rules-requires c κs = search (tenant-is, needs)
+
 all-rise-requires : tie.Need-all-rise-requires
 all-rise-requires c κs = search (tenant-is, needs)
 
-records-ok-requires : tie.Need-records-ok-requires
-records-ok-requires c κs = search (tenant-is, needs)
-
-all-offsets-ok-requires : tie.Need-all-offsets-ok-requires
-all-offsets-ok-requires c κs = search (tenant-is, needs)
-
-all-leases-ok-requires : tie.Need-all-leases-ok-requires
-all-leases-ok-requires c κs = search (tenant-is, needs)
+both-requires : tie.Need-both-requires
+both-requires c κs = search (tenant-is, needs)
 
 ids-differ-requires : tie.Need-ids-differ-requires
 ids-differ-requires c κs = search (tenant-is, needs)
@@ -32,10 +29,9 @@ pub tenant-rules-spec : {M : Type 1} → statement M
 tenant-rules-spec =
     tie.close
     (tie.spec
+    leases-rules-requires
     all-rise-requires
-    records-ok-requires
-    all-offsets-ok-requires
-    all-leases-ok-requires
+    both-requires
     ids-differ-requires
     all-calm-requires
     layout-ok-requires

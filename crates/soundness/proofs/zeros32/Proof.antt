@@ -7,7 +7,7 @@ use Rattle.soundness.proofs.zeros32.Statement.{statement}
 use Rattle.soundness.proofs.zeros32.Tie as tie
 
 abbrev Inv-loop : tie.InvT-loop
-Inv-loop n a any₀ i₀ any i = ZeroInv a 32 (zeroFrom n a) any i
+Inv-loop n a any₀ i₀ any i = ZeroInv a 32 n (zeroFrom n a) any i
 
 abbrev μ-loop : tie.MeasureT-loop
 μ-loop n a any₀ i₀ any i = 32 - i
@@ -15,8 +15,11 @@ abbrev μ-loop : tie.MeasureT-loop
 loop-holds : tie.Need-loop-holds Inv-loop μ-loop
 loop-holds c = search (zeros, needs)
 
-array-read-any : tie.Need-array-read-any Inv-loop μ-loop
-array-read-any c = search (zeros, needs)
+array-read-from-place : tie.Need-array-read-from-place Inv-loop μ-loop
+array-read-from-place c = search (zeros, needs)
+
+from-place-requires : tie.Need-from-place-requires Inv-loop μ-loop
+from-place-requires c κs = search (zeros, needs)
 
 add-i : tie.Need-add-i Inv-loop μ-loop
 add-i c = search (zeros, needs)
@@ -33,4 +36,13 @@ returns c = search (zeros, needs)
 pub zeros32-spec : {M : Type 1} → statement M
 zeros32-spec =
     tie.close
-    (tie.spec Inv-loop μ-loop loop-holds array-read-any add-i loop-less loop-again returns)
+    (tie.spec
+    Inv-loop
+    μ-loop
+    loop-holds
+    array-read-from-place
+    from-place-requires
+    add-i
+    loop-less
+    loop-again
+    returns)

@@ -189,7 +189,7 @@ rises-trans a b c p q = eq-eqb _ _ (order-trans (idOf a) (idOf b) (idOf c) (eqb-
 pub rise-start : {d : Lease} {l : List Lease} {n : ℕ} (x k : ℕ) → n ≡ min x k → length l ≡ k → NextInv ordered d l n (pairsBy ordered (take x l)) 0
 rise-start {d = d} {l = l} {n = n} x k e g = subst (λ (w : Bool). NextInv ordered d l n w 0) (next-is-pairs ordered rises-trans (take x l)) (next-start x k e g)
 
--- what ordered differs
+-- what rises differs
 apart-names : (a b : Lease) → ordered a b ≡ true → differ a b ≡ true
 unfolding ordered differ sameOf
 apart-names a b p = let z = eqb-true (orderOf (idOf a) (idOf b)) 0 p in ap not (ne-eqb (orderOf (idOf a) (idOf b)) 1 (λ e. absurd (omega arith)))

@@ -199,31 +199,23 @@ fn ranges_apart(a: ClientRange, b: ClientRange) -> bool
     b.high < a.low
 }
 
-fn range_apart_from(s: State, from: usize, n: usize, x: ClientRange) -> bool
-    requires { ⌜ (from ≤ n) × (n ≤ 8) ⌝ }
-    ensures { λ r. ⌜ r ≡ allBy (rangesApart x) (drop from (take n (s .tenants))) ⌝ }
-{
-    let mut i: usize = from;
-    while i < n {
-        let y = s.tenants[i];
-        if !ranges_apart(x, y) {
-            return false;
-        }
-        i += 1;
-    }
-    true
-}
-
 fn ranges_all_apart(s: State) -> bool
     ensures { λ r. ⌜ r ≡ pairsBy rangesApart (rangesOf s) ⌝ }
 {
     let n = cut8(s.tenant_count);
     let mut i: usize = 0;
+    let mut j: usize = 1;
     while i < n {
-        let x = s.tenants[i];
-        i += 1;
-        if !range_apart_from(s, i, n, x) {
-            return false;
+        if j < n {
+            let a = s.tenants[i];
+            let b = s.tenants[j];
+            j += 1;
+            if !ranges_apart(a, b) {
+                return false;
+            }
+        } else {
+            i += 1;
+            j = i + 1;
         }
     }
     true
@@ -267,31 +259,23 @@ fn pools_apart(a: Scope, b: Scope) -> bool
     y + (b.size as u64) <= x
 }
 
-fn pool_apart_from(s: State, from: usize, n: usize, x: Scope) -> bool
-    requires { ⌜ (from ≤ n) × (n ≤ 4) ⌝ }
-    ensures { λ r. ⌜ r ≡ allBy (poolsApart x) (drop from (take n (s .scopes))) ⌝ }
-{
-    let mut i: usize = from;
-    while i < n {
-        let y = s.scopes[i];
-        if !pools_apart(x, y) {
-            return false;
-        }
-        i += 1;
-    }
-    true
-}
-
 fn pools_all_apart(s: State) -> bool
     ensures { λ r. ⌜ r ≡ pairsBy poolsApart (scopesOf s) ⌝ }
 {
     let n = cut4(s.scope_count);
     let mut i: usize = 0;
+    let mut j: usize = 1;
     while i < n {
-        let x = s.scopes[i];
-        i += 1;
-        if !pool_apart_from(s, i, n, x) {
-            return false;
+        if j < n {
+            let a = s.scopes[i];
+            let b = s.scopes[j];
+            j += 1;
+            if !pools_apart(a, b) {
+                return false;
+            }
+        } else {
+            i += 1;
+            j = i + 1;
         }
     }
     true
@@ -661,37 +645,29 @@ fn all_rise(t: TenantLeases) -> bool
     true
 }
 
-fn differs_from(t: TenantLeases, from: usize, n: usize, x: Lease) -> bool
-    requires { ⌜ (from ≤ n) × (n ≤ 16) ⌝ }
-    ensures { λ r. ⌜ r ≡ allBy (differ x) (drop from (take n (t .leases))) ⌝ }
-{
-    let mut i: usize = from;
-    while i < n {
-        let y = t.leases[i];
-        if !names_differ(x, y) {
-            return false;
-        }
-        i += 1;
-    }
-    true
-}
-
 fn all_differ(t: TenantLeases) -> bool
     ensures { λ r. ⌜ r ≡ pairsBy differ (inUse t) ⌝ }
 {
     let n = state::cut16(t.count);
     let mut i: usize = 0;
+    let mut j: usize = 1;
     while i < n {
-        let x = t.leases[i];
-        i += 1;
-        if !differs_from(t, i, n, x) {
-            return false;
+        if j < n {
+            let a = t.leases[i];
+            let b = t.leases[j];
+            j += 1;
+            if !names_differ(a, b) {
+                return false;
+            }
+        } else {
+            i += 1;
+            j = i + 1;
         }
     }
     true
 }
 
-// What ordered differs, so that only leases out of order are compared pair by pair.
+// What rises differs, so that only leases out of order are compared pair by pair.
 fn ids_differ(t: TenantLeases, rising: bool) -> bool
     requires { ⌜ rising ≡ pairsBy ordered (inUse t) ⌝ }
     ensures { λ r. ⌜ r ≡ pairsBy differ (inUse t) ⌝ }
@@ -852,30 +828,22 @@ fn held_apart(a: Held, b: Held) -> bool
     false
 }
 
-fn held_apart_from(h: HeldTable, from: usize, x: Held) -> bool
-    requires { ⌜ from ≤ 8 ⌝ }
-    ensures { λ r. ⌜ r ≡ allBy (apartSets x) (drop from (take 8 (h .tenants))) ⌝ }
-{
-    let mut i: usize = from;
-    while i < 8 {
-        let y = h.tenants[i];
-        if !held_apart(x, y) {
-            return false;
-        }
-        i += 1;
-    }
-    true
-}
-
 fn all_held_apart(h: HeldTable) -> bool
     ensures { λ r. ⌜ r ≡ pairsBy apartSets (h .tenants) ⌝ }
 {
     let mut i: usize = 0;
+    let mut j: usize = 1;
     while i < 8 {
-        let x = h.tenants[i];
-        i += 1;
-        if !held_apart_from(h, i, x) {
-            return false;
+        if j < 8 {
+            let a = h.tenants[i];
+            let b = h.tenants[j];
+            j += 1;
+            if !held_apart(a, b) {
+                return false;
+            }
+        } else {
+            i += 1;
+            j = i + 1;
         }
     }
     true

@@ -1,4 +1,4 @@
--- `all_calm` meets its contract: by crosses.
+-- `all_calm` meets its contract: every pair, in one loop over two places.
 use Prim.Native.Nat.{_*_, _+_, _-_}
 use Rattle.lists.specs.All.{CrossInv, cross-next, cross-row, crosses, pairsBy}
 use Rattle.soundness.specs.Sound.{calm}

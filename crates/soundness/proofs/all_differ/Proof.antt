@@ -1,47 +1,66 @@
--- `all_differ` meets its contract: by pairs, pairs-start.
-use Prim.Native.Nat.{_-_}
-use Rattle.lists.specs.All.{PairsInv, pairs, pairs-start, pairsBy}
+-- `all_differ` meets its contract: every pair, in one loop over two places.
+use Prim.Native.Nat.{_*_, _+_, _-_}
+use Rattle.lists.specs.All.{CrossInv, cross-next, cross-row, crosses, pairsBy}
 use Rattle.soundness.specs.Sound.{differ}
-use Rattle.state.specs.Book.{inUse, noLease}
+use Rattle.state.specs.Book.{before, inUse, noLease}
 use borrow.Author.Needs.{needs}
+use borrow.Author.Tests.{not-false}
 use Rattle.soundness.proofs.all_differ.Statement.{statement}
 use Rattle.soundness.proofs.all_differ.Tie as tie
 
 abbrev Inv-loop : tie.InvT-loop
-Inv-loop t n i₀ i = PairsInv differ noLease (t .leases) n (pairsBy differ (inUse t)) i
+Inv-loop t n i₀ j₀ i j = CrossInv differ noLease (t .leases) n (pairsBy differ (inUse t)) i j
 
 abbrev μ-loop : tie.MeasureT-loop
-μ-loop t n i₀ i = n - i
+μ-loop t n i₀ j₀ i j = (16 - i) * 20 + (18 - j)
 
 cut16-requires : tie.Need-cut16-requires Inv-loop μ-loop
-cut16-requires c κs = search (pairs, pairs-start, needs)
+cut16-requires c κs = search (crosses, needs)
 
 loop-holds : tie.Need-loop-holds Inv-loop μ-loop
-loop-holds c = search (pairs, pairs-start, needs)
+loop-holds c = search (crosses, needs)
 
-mul-x : tie.Need-mul-x Inv-loop μ-loop
-mul-x c = search (pairs, pairs-start, needs)
+mul-a : tie.Need-mul-a Inv-loop μ-loop
+mul-a c = search (crosses, needs)
 
-element-copy-out-x : tie.Need-element-copy-out-x Inv-loop μ-loop
-element-copy-out-x c = search (pairs, pairs-start, needs)
+element-copy-out-a : tie.Need-element-copy-out-a Inv-loop μ-loop
+element-copy-out-a c = search (crosses, needs)
 
-add-i : tie.Need-add-i Inv-loop μ-loop
-add-i c = search (pairs, pairs-start, needs)
+mul-b : tie.Need-mul-b Inv-loop μ-loop
+mul-b c = search (crosses, needs)
 
-differs-from-requires : tie.Need-differs-from-requires Inv-loop μ-loop
-differs-from-requires c κs = search (pairs, pairs-start, needs)
+element-copy-out-b : tie.Need-element-copy-out-b Inv-loop μ-loop
+element-copy-out-b c = search (crosses, needs)
+
+add-j : tie.Need-add-j Inv-loop μ-loop
+add-j c = search (crosses, needs)
+
+names-differ-requires : tie.Need-names-differ-requires Inv-loop μ-loop
+names-differ-requires c κs = search (crosses, needs)
 
 returns : tie.Need-returns Inv-loop μ-loop
-returns c = search (pairs, pairs-start, needs)
+returns c = search (crosses, needs)
 
 loop-less : tie.Need-loop-less Inv-loop μ-loop
-loop-less c = search (pairs, pairs-start, needs)
+loop-less c = search (crosses, needs)
 
 loop-again : tie.Need-loop-again Inv-loop μ-loop
-loop-again c = search (pairs, pairs-start, needs)
+loop-again c = cross-next (c .before .before .before .before .before .before .loop .inv) (search needs) (c .before .names-differ .ensures) (not-false _ (c .if2 .left))
+
+add-i : tie.Need-add-i Inv-loop μ-loop
+add-i c = search (crosses, needs)
+
+add-j-2 : tie.Need-add-j-2 Inv-loop μ-loop
+add-j-2 c = search (crosses, needs)
+
+loop-less-2 : tie.Need-loop-less-2 Inv-loop μ-loop
+loop-less-2 c = search (crosses, needs)
+
+loop-again-2 : tie.Need-loop-again-2 Inv-loop μ-loop
+loop-again-2 c = search (cross-row, needs)
 
 returns-2 : tie.Need-returns-2 Inv-loop μ-loop
-returns-2 c = search (pairs, pairs-start, needs)
+returns-2 c = search (crosses, needs)
 
 pub all-differ-spec : {M : Type 1} → statement M
 all-differ-spec =
@@ -51,11 +70,17 @@ all-differ-spec =
     μ-loop
     cut16-requires
     loop-holds
-    mul-x
-    element-copy-out-x
-    add-i
-    differs-from-requires
+    mul-a
+    element-copy-out-a
+    mul-b
+    element-copy-out-b
+    add-j
+    names-differ-requires
     returns
     loop-less
     loop-again
+    add-i
+    add-j-2
+    loop-less-2
+    loop-again-2
     returns-2)

@@ -14,7 +14,7 @@ use native.Mathlib.Numerals.{add-one}
 use borrow.Author.Tests.{ltb-true, ltb-false, leb-true, leb-false, lt-ltb, le-ltb, eq-eqb, ne-eqb, eqb-true, eqb-false}
 use Rattle.lists.specs.Pick.{pick}
 use Rattle.lists.specs.Fold.{fold}
-use Rattle.lists.specs.All.{All}
+use Rattle.lists.specs.All.{All, allBy, all-head, all-cons, all-both}
 use Rattle.lists.specs.Filter.{filterBy, isIn, in-filter}
 use Rattle.address_set.specs.declared.Offsets.{Offsets}
 use Rattle.address_set.specs.AddressSet.{bit, keep, offsetsFrom, offsets, setOf, unionOf, intersectionOf, differenceOf, upTo, readOffsets, withOffset, listed, pushed, without, risesFrom, rises}
@@ -182,6 +182,46 @@ bit-past k m a h g = ap (λ (x : ℕ). x % 2) (div-eq-of-lt (lt-of-lt-of-le h (p
 
 pub not-in : (m a : ℕ) → m < 2 ^ 64 → 64 ≤ a → false ≡ isIn a (offsets m)
 not-in m a h g = sym (ap (λ (x : ℕ). eqb x 1) (bit-past 64 m a h g)) ∙ in-bit m a h
+
+-- every offset of a set has its bit
+offsets-set : (m at k : ℕ) → allBy (λ a. eqb (bit m a) 1) (offsetsFrom m at k) ≡ true
+unfolding offsetsFrom allBy
+offsets-set m at zero = refl
+offsets-set m at (suc k) = go (bit m at) refl (offsets-set m (suc at) k)
+  where
+    go : (b : ℕ) → bit m at ≡ b → allBy (λ a. eqb (bit m a) 1) (offsetsFrom m (suc at) k) ≡ true → allBy (λ a. eqb (bit m a) 1) (keep b at (offsetsFrom m (suc at) k)) ≡ true
+    go zero e ih = ih
+    go (suc b) e ih = all-cons (λ a. eqb (bit m a) 1) at (offsetsFrom m (suc at) k) (eq-eqb (bit m at) 1 (let l = bit-le m at in omega arith)) ih
+
+pub offsets-have : (m : ℕ) → allBy (λ a. eqb (bit m a) 1) (offsets m) ≡ true
+offsets-have m = offsets-set m 0 64
+
+small-all : (n : ℕ) (l : List ℕ) → allBy (λ a. ltb a n) l ≡ true → All (λ x. x < n) l
+unfolding All
+small-all n [] h = tt
+small-all n (x ∷ l) h = let p = all-head (λ a. ltb a n) x l h in (ltb-true x n (p .0), small-all n l (p .1))
+
+-- the offsets of a set are below n where it is a number of n bits
+pub below-bits : (n m : ℕ) → m < 2 ^ 64 → allBy (λ a. ltb a n) (offsets m) ≡ ltb m (2 ^ n)
+below-bits n m h = go (ltb m (2 ^ n)) refl (allBy (λ a. ltb a n) (offsets m)) refl
+  where
+    low : m < 2 ^ n → (a : ℕ) → eqb (bit m a) 1 ≡ true → ltb a n ≡ true
+    low g a e = pickLow (ltb a n) refl
+      where
+        pickLow : (b : Bool) → ltb a n ≡ b → ltb a n ≡ true
+        pickLow true q = q
+        pickLow false q = let z = bit-past n m a g (ltb-false a n q) in let o = eqb-true (bit m a) 1 e in absurd (omega arith)
+
+    go : (p : Bool) → ltb m (2 ^ n) ≡ p → (q : Bool) → allBy (λ a. ltb a n) (offsets m) ≡ q → q ≡ p
+    go true e q f =
+        let g = all-both (λ a. eqb (bit m a) 1) (λ a. eqb (bit m a) 1) (λ a. ltb a n) (offsets m) (λ a u v. low (ltb-true m (2 ^ n) e) a u) (offsets-have m) (offsets-have m) in
+        sym f ∙ g
+    go false e true f =
+        let g : setOf (offsets m) < 2 ^ n = setOf-small n (offsets m) (small-all n (offsets m) f) in
+        let w : setOf (offsets m) ≡ m = setOf-offsets m h in
+        let l = ltb-false m (2 ^ n) e in
+        absurd (omega arith)
+    go false e false f = refl
 
 -- ---- bit forms
 pub union-or : (m n : ℕ) → m < 2 ^ 64 → n < 2 ^ 64 → bitOr m n ≡ unionOf m n

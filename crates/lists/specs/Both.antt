@@ -1,9 +1,12 @@
 -- Tests joined by `&&` and `||`, and the laws by which `search` goes through them.
-use mathlib.Core.Path.{_≡_, refl, sym, ap, _∙_}
+use mathlib.Core.Path.{_≡_, refl, sym, ap, ap₂, _∙_}
 use mathlib.Core.Bool.{Bool, true, false, not, _&&_, _||_}
+use mathlib.Core.List.{List, [], _∷_}
 use Prim.Native.Nat.{ℕ, _≤_, _<_}
 use native.Mathlib.Omega.{arith}
 use lib.Dec.{ltb, leb, eqb}
+use Rattle.lists.specs.Pick.{pick}
+use Rattle.lists.specs.All.{allBy, pairsBy}
 use borrow.Author.Tests.{lt-ltb, le-ltb, le-leb, lt-leb, eq-eqb, ne-eqb}
 
 module _ (y r : Bool) where
@@ -83,3 +86,30 @@ and-parts false b h = absurd (let z : _≡_ {A = ℕ} 0 1 = cc in omega arith)
 
 pub and-both : {a b : Bool} → a ≡ true → b ≡ true → (a && b) ≡ true
 and-both {a} {b} p q = ap (λ (t : Bool). t && b) p ∙ q
+
+-- ---- joined tests over a list
+swap4 : (a b c d : Bool) → ((a && b) && (c && d)) ≡ ((a && c) && (b && d))
+swap4 true true c d = refl
+swap4 true false true d = refl
+swap4 true false false d = refl
+swap4 false b c d = refl
+
+step : (a r : Bool) → pick a r false ≡ (a && r)
+unfolding pick
+step true r = refl
+step false r = refl
+
+pub all-and : {A : Type 0} (t u : A → Bool) (l : List A) → allBy (λ x. t x && u x) l ≡ (allBy t l && allBy u l)
+unfolding allBy
+all-and t u [] = refl
+all-and t u (x ∷ l) =
+    step (t x && u x) (allBy (λ x. t x && u x) l) ∙ ap (λ (b : Bool). (t x && u x) && b) (all-and t u l) ∙ swap4 (t x) (u x) (allBy t l) (allBy u l)
+    ∙ sym (ap₂ (λ (a b : Bool). a && b) (step (t x) (allBy t l)) (step (u x) (allBy u l)))
+
+pub pairs-and : {A : Type 0} (t u : A → A → Bool) (l : List A) → pairsBy (λ x y. t x y && u x y) l ≡ (pairsBy t l && pairsBy u l)
+unfolding pairsBy
+pairs-and t u [] = refl
+pairs-and t u (x ∷ l) =
+    step (allBy (λ y. t x y && u x y) l) (pairsBy (λ x y. t x y && u x y) l) ∙ ap₂ (λ (a b : Bool). a && b) (all-and (t x) (u x) l) (pairs-and t u l)
+    ∙ swap4 (allBy (t x) l) (allBy (u x) l) (pairsBy t l) (pairsBy u l)
+    ∙ sym (ap₂ (λ (a b : Bool). a && b) (step (allBy (t x) l) (pairsBy t l)) (step (allBy (u x) l) (pairsBy u l)))

@@ -57,8 +57,8 @@ abbrev pub notBefore : List ℕ → Lease → Bool
 notBefore i l = not (before i l)
 
 -- records rise: the first comes before the second
-unfoldable pub rises : Lease → Lease → Bool
-rises a b = before (idOf b) a
+unfoldable pub ordered : Lease → Lease → Bool
+ordered a b = before (idOf b) a
 
 abbrev pub named : List ℕ → Lease → Bool
 named i l = sameOf (idOf l) i

@@ -1,0 +1,43 @@
+-- `holding_rules` meets its contract: by holding-are, unmapped.
+use Rattle.lists.specs.Part.{unmapped}
+use Rattle.soundness.specs.Laws.{holding-are}
+use borrow.Author.Needs.{needs}
+use Rattle.soundness.proofs.holding_rules.Statement.{statement}
+use Rattle.soundness.proofs.holding_rules.Tie as tie
+
+cut8-requires : tie.Need-cut8-requires
+cut8-requires c κs = search (holding-are, unmapped, needs)
+
+cut4-requires : tie.Need-cut4-requires
+cut4-requires c κs = search (holding-are, unmapped, needs)
+
+held-table-requires : tie.Need-held-table-requires
+held-table-requires c κs = search (holding-are, unmapped, needs)
+
+rest-none-requires : tie.Need-rest-none-requires
+rest-none-requires c κs = search (holding-are, unmapped, needs)
+
+all-held-apart-requires : tie.Need-all-held-apart-requires
+all-held-apart-requires c κs = search (holding-are, unmapped, needs)
+
+all-limits-ok-requires : tie.Need-all-limits-ok-requires
+all-limits-ok-requires c κs = search (holding-are, unmapped, needs)
+
+all-loads-ok-requires : tie.Need-all-loads-ok-requires
+all-loads-ok-requires c κs = search (holding-are, unmapped, needs)
+
+returns : tie.Need-returns
+returns c = search (holding-are, unmapped, needs)
+
+pub holding-rules-spec : {M : Type 1} → statement M
+holding-rules-spec =
+    tie.close
+    (tie.spec
+    cut8-requires
+    cut4-requires
+    held-table-requires
+    rest-none-requires
+    all-held-apart-requires
+    all-limits-ok-requires
+    all-loads-ok-requires
+    returns)

@@ -1,0 +1,23 @@
+-- `padded_ok` meets its contract: by zero-past.
+use Rattle.soundness.specs.Laws.{zero-past}
+use Rattle.soundness.specs.Sound.{paddedB}
+use borrow.Author.Needs.{needs}
+use Rattle.soundness.proofs.padded_ok.Statement.{statement}
+use Rattle.soundness.proofs.padded_ok.Tie as tie
+
+cast-zeros32 : tie.Need-cast-zeros32
+cast-zeros32 c = search (zero-past, needs)
+
+zeros32-requires : tie.Need-zeros32-requires
+zeros32-requires c κs = search (zero-past, needs)
+
+returns : tie.Need-returns
+unfolding paddedB
+returns c = search (zero-past, needs)
+
+returns-2 : tie.Need-returns-2
+unfolding paddedB
+returns-2 c = search (zero-past, needs)
+
+pub padded-ok-spec : {M : Type 1} → statement M
+padded-ok-spec = tie.close (tie.spec cast-zeros32 zeros32-requires returns returns-2)

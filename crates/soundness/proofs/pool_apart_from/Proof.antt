@@ -1,0 +1,58 @@
+-- `pool_apart_from` meets its contract: by alls, all-later.
+use Prim.Native.Nat.{_-_}
+use Rattle.lists.specs.All.{AllInv, all-later, allBy, alls}
+use Rattle.soundness.specs.Sound.{poolsApart}
+use Rattle.state.specs.Book.{noScope}
+use borrow.Author.Needs.{needs}
+use lib.ListN.{drop, take}
+use Rattle.soundness.proofs.pool_apart_from.Statement.{statement}
+use Rattle.soundness.proofs.pool_apart_from.Tie as tie
+
+abbrev Inv-loop : tie.InvT-loop
+Inv-loop from n x s i₀ i = AllInv (poolsApart x) noScope (s .scopes) n (allBy (poolsApart x) (drop from (take n (s .scopes)))) i
+
+abbrev μ-loop : tie.MeasureT-loop
+μ-loop from n x s i₀ i = n - i
+
+loop-holds : tie.Need-loop-holds Inv-loop μ-loop
+loop-holds c = search (alls, all-later, needs)
+
+mul-y : tie.Need-mul-y Inv-loop μ-loop
+mul-y c = search (alls, all-later, needs)
+
+element-copy-out-y : tie.Need-element-copy-out-y Inv-loop μ-loop
+element-copy-out-y c = search (alls, all-later, needs)
+
+pools-apart-requires : tie.Need-pools-apart-requires Inv-loop μ-loop
+pools-apart-requires c κs = search (alls, all-later, needs)
+
+returns : tie.Need-returns Inv-loop μ-loop
+returns c = search (alls, all-later, needs)
+
+add-i : tie.Need-add-i Inv-loop μ-loop
+add-i c = search (alls, all-later, needs)
+
+loop-less : tie.Need-loop-less Inv-loop μ-loop
+loop-less c = search (alls, all-later, needs)
+
+loop-again : tie.Need-loop-again Inv-loop μ-loop
+loop-again c = search (alls, all-later, needs)
+
+returns-2 : tie.Need-returns-2 Inv-loop μ-loop
+returns-2 c = search (alls, all-later, needs)
+
+pub pool-apart-from-spec : {M : Type 1} → statement M
+pool-apart-from-spec =
+    tie.close
+    (tie.spec
+    Inv-loop
+    μ-loop
+    loop-holds
+    mul-y
+    element-copy-out-y
+    pools-apart-requires
+    returns
+    add-i
+    loop-less
+    loop-again
+    returns-2)

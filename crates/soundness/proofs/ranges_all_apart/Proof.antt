@@ -1,0 +1,62 @@
+-- `ranges_all_apart` meets its contract: by pairs, pairs-start.
+use Prim.Native.Nat.{_-_}
+use Rattle.lists.specs.All.{PairsInv, pairs, pairs-start, pairsBy}
+use Rattle.soundness.specs.Parts.{noRange}
+use Rattle.soundness.specs.Sound.{rangesApart}
+use Rattle.state.specs.Book.{rangesOf}
+use borrow.Author.Needs.{needs}
+use Rattle.soundness.proofs.ranges_all_apart.Statement.{statement}
+use Rattle.soundness.proofs.ranges_all_apart.Tie as tie
+
+abbrev Inv-loop : tie.InvT-loop
+Inv-loop s n i₀ i = PairsInv rangesApart noRange (s .tenants) n (pairsBy rangesApart (rangesOf s)) i
+
+abbrev μ-loop : tie.MeasureT-loop
+μ-loop s n i₀ i = n - i
+
+cut8-requires : tie.Need-cut8-requires Inv-loop μ-loop
+cut8-requires c κs = search (pairs, pairs-start, needs)
+
+loop-holds : tie.Need-loop-holds Inv-loop μ-loop
+loop-holds c = search (pairs, pairs-start, needs)
+
+mul-x : tie.Need-mul-x Inv-loop μ-loop
+mul-x c = search (pairs, pairs-start, needs)
+
+element-copy-out-x : tie.Need-element-copy-out-x Inv-loop μ-loop
+element-copy-out-x c = search (pairs, pairs-start, needs)
+
+add-i : tie.Need-add-i Inv-loop μ-loop
+add-i c = search (pairs, pairs-start, needs)
+
+range-apart-from-requires : tie.Need-range-apart-from-requires Inv-loop μ-loop
+range-apart-from-requires c κs = search (pairs, pairs-start, needs)
+
+returns : tie.Need-returns Inv-loop μ-loop
+returns c = search (pairs, pairs-start, needs)
+
+loop-less : tie.Need-loop-less Inv-loop μ-loop
+loop-less c = search (pairs, pairs-start, needs)
+
+loop-again : tie.Need-loop-again Inv-loop μ-loop
+loop-again c = search (pairs, pairs-start, needs)
+
+returns-2 : tie.Need-returns-2 Inv-loop μ-loop
+returns-2 c = search (pairs, pairs-start, needs)
+
+pub ranges-all-apart-spec : {M : Type 1} → statement M
+ranges-all-apart-spec =
+    tie.close
+    (tie.spec
+    Inv-loop
+    μ-loop
+    cut8-requires
+    loop-holds
+    mul-x
+    element-copy-out-x
+    add-i
+    range-apart-from-requires
+    returns
+    loop-less
+    loop-again
+    returns-2)

@@ -1,0 +1,14 @@
+-- `sound` meets its contract: by sound-is.
+use Rattle.soundness.specs.Laws.{sound-is}
+use borrow.Author.Needs.{needs}
+use Rattle.soundness.proofs.sound.Statement.{statement}
+use Rattle.soundness.proofs.sound.Tie as tie
+
+broken-requires : tie.Need-broken-requires
+broken-requires c κs = search (sound-is, needs)
+
+returns : tie.Need-returns
+returns c = search (sound-is, needs)
+
+pub sound-spec : {M : Type 1} → statement M
+sound-spec = tie.close (tie.spec broken-requires returns)

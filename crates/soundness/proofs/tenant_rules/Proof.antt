@@ -1,0 +1,42 @@
+-- `tenant_rules` meets its contract: by tenant-is.
+use Rattle.soundness.specs.Laws.{tenant-is}
+use borrow.Author.Needs.{needs}
+use Rattle.soundness.proofs.tenant_rules.Statement.{statement}
+use Rattle.soundness.proofs.tenant_rules.Tie as tie
+
+all-rise-requires : tie.Need-all-rise-requires
+all-rise-requires c κs = search (tenant-is, needs)
+
+records-ok-requires : tie.Need-records-ok-requires
+records-ok-requires c κs = search (tenant-is, needs)
+
+all-offsets-ok-requires : tie.Need-all-offsets-ok-requires
+all-offsets-ok-requires c κs = search (tenant-is, needs)
+
+all-leases-ok-requires : tie.Need-all-leases-ok-requires
+all-leases-ok-requires c κs = search (tenant-is, needs)
+
+ids-differ-requires : tie.Need-ids-differ-requires
+ids-differ-requires c κs = search (tenant-is, needs)
+
+all-calm-requires : tie.Need-all-calm-requires
+all-calm-requires c κs = search (tenant-is, needs)
+
+layout-ok-requires : tie.Need-layout-ok-requires
+layout-ok-requires c κs = search (tenant-is, needs)
+
+returns : tie.Need-returns
+returns c = search (tenant-is, needs)
+
+pub tenant-rules-spec : {M : Type 1} → statement M
+tenant-rules-spec =
+    tie.close
+    (tie.spec
+    all-rise-requires
+    records-ok-requires
+    all-offsets-ok-requires
+    all-leases-ok-requires
+    ids-differ-requires
+    all-calm-requires
+    layout-ok-requires
+    returns)

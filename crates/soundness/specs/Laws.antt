@@ -1,0 +1,431 @@
+-- Laws between the rules and the code that decides them.
+use Prim.Native.Nat.{ℕ, zero, suc, _+_, _-_, _^_, _≤_, _<_, min, max}
+use mathlib.Core.Path.{_≡_, refl, sym, ap, ap₂, _∙_, subst}
+use mathlib.Core.Bool.{Bool, true, false, not, _&&_}
+use mathlib.Core.List.{List, [], _∷_, map}
+use native.Mathlib.Omega.{arith}
+use lib.Dec.{ltb, leb, eqb}
+use lib.Bits.{bitAnd, bitOr, or-add-and, and-le-r, and-le-l}
+use lib.ListN.{length, take, drop, getD, drop-of-length-le, length-take}
+use lib.Seq.{drop-cons}
+use native.Mathlib.Numerals.{add-one}
+use lib.Pow.{pow-pos, pow-mono}
+use borrow.Author.Tests.{eq-eqb, ne-eqb, eqb-true, eqb-false, lt-ltb, ltb-true, ltb-false, le-leb, lt-leb, leb-true, leb-false}
+use Rattle.lists.specs.Pick.{pick}
+use Rattle.lists.specs.Fold.{fold}
+use Rattle.lists.specs.All.{All, allBy, pairsBy, allTo, to-same, all-map, pairs-map, pairs-same, all-head, all-cons, all-both, pairs-head, pairs-cons}
+use Rattle.state.specs.declared.Lease.{Lease}
+use Rattle.state.specs.declared.TenantLeases.{TenantLeases}
+use Rattle.state.specs.declared.LeaseTable.{LeaseTable}
+use Rattle.state.specs.declared.Scope.{Scope}
+use Rattle.state.specs.declared.State.{State}
+use Rattle.state.specs.Book.{inUse, leasesOf, idOf, ordered, scopesOf, scopeAt, heldOf, noLeases}
+use Rattle.identifier.specs.Order.{orderOf, sameOf}
+use Rattle.identifier.specs.Trans.{order-trans}
+use Rattle.address_set.specs.AddressSet.{bit, offsets, setOf, upTo}
+use Rattle.address_set.specs.Laws.{bit-le, length-offsets}
+use Rattle.address_set.specs.ListLaws.{upTo-ones, bit-past, setOf-small, setOf-offsets, below-bits}
+use Rattle.lists.specs.Next.{nextBy, NextInv, next-start, next-is-pairs}
+use Rattle.soundness.specs.declared.ScopeRules.{ScopeRules}
+use Rattle.soundness.specs.declared.TenantRules.{TenantRules}
+use Rattle.soundness.specs.declared.SettingsRules.{SettingsRules}
+use Rattle.soundness.specs.declared.HoldingRules.{HoldingRules}
+use Rattle.soundness.specs.declared.Held.{Held}
+use Rattle.soundness.specs.declared.HeldTable.{HeldTable}
+use Rattle.soundness.specs.declared.Rules.{Rules}
+use Rattle.lists.specs.Sums.{sumTo, sum-same}
+use Rattle.soundness.specs.Sound.{few, sizeB, poolB, ttlB, sharesB, tailB, zeroFrom, belowB, offsetsB, scopeOf, recordsB, leaseB, differ, calm, layoutB, paddedB, unusedB, tenantsIn, scopesIn, reserveAt, limitAt, countsB, rule1, rule2, rule3, poolsApart, rule4, rule5, rule6, housesB, rule7, rule8, rule10, rangeZero, scopeZero, settingsB, rule13, rulesOf, firstBroken, brokenOf, soundB, noneB, apart, rule9, holding, limitB, limitsB, rule11, load, loadB, rule12}
+use Rattle.soundness.specs.Parts.{scopeRulesOf, andScopes, scopesAll, tenantRulesOf, andTenants, tenantsAll, noHeld, heldSets, holdingsOf, setAt, apartSets, countIn, limitIn, limitsIn, loadOn, loadIn, settingsRulesOf, holdingRulesOf}
+
+-- ---- zeros, gathered by or
+or-none : (a b : ℕ) → eqb (bitOr a b) 0 ≡ (eqb a 0 && eqb b 0)
+or-none a b = go (eqb a 0) refl (eqb b 0) refl
+  where
+    go : (p : Bool) → eqb a 0 ≡ p → (q : Bool) → eqb b 0 ≡ q → eqb (bitOr a b) 0 ≡ (p && q)
+    go true e true f = let x = eqb-true a 0 e in let y = eqb-true b 0 f in let s = or-add-and a b in eq-eqb (bitOr a b) 0 (omega arith)
+    go true e false f = ne-eqb (bitOr a b) 0 (λ (z : bitOr a b ≡ 0). let s = or-add-and a b in let l = and-le-l a b in eqb-false b 0 f (omega arith))
+    go false e q f = ne-eqb (bitOr a b) 0 (λ (z : bitOr a b ≡ 0). let s = or-add-and a b in let l = and-le-r a b in eqb-false a 0 e (omega arith))
+
+pub record ZeroInv (l : List ℕ) (n : ℕ) (w : Bool) (any i : ℕ) : Type 0 where
+  pub within : i ≤ n
+  pub long : length l ≡ n
+  pub whole : (eqb any 0 && zeroFrom i l) ≡ w
+
+pub zero-start : {l : List ℕ} {n : ℕ} (i : ℕ) → i ≤ n → length l ≡ n → ZeroInv l n (zeroFrom i l) 0 i
+zero-start i h e = record { within = h; long = e; whole = refl }
+
+zero-step : (l : List ℕ) (i : ℕ) → i < length l → zeroFrom i l ≡ (eqb (getD l i 0) 0 && zeroFrom (i + 1) l)
+unfolding zeroFrom allBy pick
+zero-step l i h = ap (allBy (λ x. eqb x 0)) (drop-cons l i 0 h) ∙ go (eqb (getD l i 0) 0) ∙ ap (λ (k : ℕ). eqb (getD l i 0) 0 && allBy (λ x. eqb x 0) (drop k l)) (sym (add-one i))
+  where
+    go : (b : Bool) → pick b (allBy (λ x. eqb x 0) (drop (suc i) l)) false ≡ (b && allBy (λ x. eqb x 0) (drop (suc i) l))
+    go true = refl
+    go false = refl
+
+and-assoc : (a b c : Bool) → ((a && b) && c) ≡ (a && (b && c))
+and-assoc true b c = refl
+and-assoc false b c = refl
+
+and-true-r : (a : Bool) → (a && true) ≡ a
+and-true-r true = refl
+and-true-r false = refl
+
+module _ {l : List ℕ} {n : ℕ} {w : Bool} {any i : ℕ} (v : ZeroInv l n w any i) where
+  pub zero-next : i < n → ZeroInv l n w (bitOr any (getD l i 0)) (i + 1)
+  zero-next h = record {
+    within = omega arith;
+    long = v .long;
+    whole =
+        ap (λ (b : Bool). b && zeroFrom (i + 1) l) (or-none any (getD l i 0)) ∙ and-assoc (eqb any 0) (eqb (getD l i 0) 0) (zeroFrom (i + 1) l)
+        ∙ sym (ap (λ (b : Bool). eqb any 0 && b) (zero-step l i (omega (arith, v .long)))) ∙ v .whole;
+  }
+
+  pub zero-end : n ≤ i → eqb any 0 ≡ w
+  unfolding zeroFrom allBy
+  zero-end h = sym (and-true-r (eqb any 0)) ∙ sym (ap (λ (r : List ℕ). eqb any 0 && allBy (λ x. eqb x 0) r) (drop-of-length-le l {i = i} (omega (arith, v .long)))) ∙ v .whole
+
+pub ruleset zeros = (zero-start, zero-next, zero-end)
+
+pub leb-left : (a b c : ℕ) → a ≡ b → leb a c ≡ leb b c
+leb-left a b c e = ap (λ (x : ℕ). leb x c) e
+
+-- ---- all of a list, one test at a time
+and-more : (a b r : Bool) → ((a && b) && r) ≡ (a && pick b r false)
+unfolding pick
+and-more true true r = refl
+and-more true false r = refl
+and-more false b r = refl
+
+-- ---- scopes
+five : {p p′ q q′ u u′ r r′ t t′ : Bool} → p ≡ p′ → q ≡ q′ → u ≡ u′ → r ≡ r′ → t ≡ t′
+    → _≡_ {A = ScopeRules} (record { sizes = p; pools = q; ttls = u; reserves = r; tails = t }) (record { sizes = p′; pools = q′; ttls = u′; reserves = r′; tails = t′ })
+five a b c d e = cc
+
+scopes-from : (n : ℕ) (a : ScopeRules) (l : List Scope) → fold (andScopes n) a l
+    ≡ record { sizes = a .sizes && allBy sizeB l; pools = a .pools && allBy poolB l; ttls = a .ttls && allBy ttlB l; reserves = a .reserves && allBy (sharesB n) l; tails = a .tails && allBy (tailB n) l }
+unfolding andScopes allBy
+scopes-from n a [] = sym (five (and-true-r (a .sizes)) (and-true-r (a .pools)) (and-true-r (a .ttls)) (and-true-r (a .reserves)) (and-true-r (a .tails)))
+scopes-from n a (c ∷ l) =
+    scopes-from n (andScopes n a c) l
+    ∙ five (and-more (a .sizes) (sizeB c) (allBy sizeB l)) (and-more (a .pools) (poolB c) (allBy poolB l)) (and-more (a .ttls) (ttlB c) (allBy ttlB l))
+    (and-more (a .reserves) (sharesB n c) (allBy (sharesB n) l)) (and-more (a .tails) (tailB n c) (allBy (tailB n) l))
+
+pub scopes-are : (n : ℕ) (l : List Scope) → fold (andScopes n) (record { sizes = true; pools = true; ttls = true; reserves = true; tails = true }) l ≡ scopesAll n l
+unfolding scopesAll
+scopes-are n l = scopes-from n _ l
+
+pub scope-is : (n : ℕ) (c : Scope) {p q r t : Bool} → p ≡ sizeB c → q ≡ poolB c → r ≡ sharesB n c → t ≡ tailB n c
+    → _≡_ {A = ScopeRules} (record { sizes = p; pools = q; ttls = ltb 0 (c .ttl); reserves = r; tails = t }) (scopeRulesOf n c)
+unfolding scopeRulesOf ttlB
+scope-is n c e f g h = cc
+
+pub scope-and : (n : ℕ) (a x : ScopeRules) (c : Scope) {p q u r t : Bool} → x ≡ scopeRulesOf n c
+    → p ≡ (a .sizes && x .sizes) → q ≡ (a .pools && x .pools) → u ≡ (a .ttls && x .ttls) → r ≡ (a .reserves && x .reserves) → t ≡ (a .tails && x .tails)
+    → _≡_ {A = ScopeRules} (record { sizes = p; pools = q; ttls = u; reserves = r; tails = t }) (andScopes n a c)
+unfolding scopeRulesOf andScopes
+scope-and n a x c e f g h i j =
+    cc (ap (λ (y : ScopeRules). y .sizes) e, ap (λ (y : ScopeRules). y .pools) e, ap (λ (y : ScopeRules). y .ttls) e, ap (λ (y : ScopeRules). y .reserves) e, ap (λ (y : ScopeRules). y .tails) e)
+
+-- ---- a lease
+lt-le : (m k : ℕ) → 0 < k → leb m (k - 1) ≡ ltb m k
+lt-le m k h = go (ltb m k) refl
+  where
+    go : (b : Bool) → ltb m k ≡ b → leb m (k - 1) ≡ b
+    go true e = let g = ltb-true m k e in le-leb m (k - 1) (omega arith)
+    go false e = let g = ltb-false m k e in lt-leb m (k - 1) (omega arith)
+
+-- in the pool of a scope: a number of as many bits
+pub pool-is : (s : State) (l : Lease) (k pool : ℕ) (c : Scope) → l .addresses < 2 ^ 64 → k ≡ l .scope - 1 → c ≡ scopeAt s k → pool ≡ setOf (upTo (min (c .size) 64))
+    → leb (l .addresses) pool ≡ belowB (scopeOf s l .size) (l .addresses)
+unfolding belowB
+pool-is s l k pool c h ek ec ep =
+    ap (leb (l .addresses)) (ep ∙ upTo-ones (min (c .size) 64)) ∙ lt-le (l .addresses) (2 ^ min (c .size) 64) (pow-pos (min (c .size) 64))
+    ∙ cut (c .size) (leb (c .size) 64) refl ∙ sym (below-bits (c .size) (l .addresses) h)
+    ∙ ap (λ (x : Scope). allBy (λ a. ltb a (x .size)) (offsets (l .addresses))) (ec ∙ ap (scopeAt s) ek)
+  where
+    cut : (n : ℕ) (b : Bool) → leb n 64 ≡ b → ltb (l .addresses) (2 ^ min n 64) ≡ ltb (l .addresses) (2 ^ n)
+    cut n true e = let g = leb-true n 64 e in ap (λ (x : ℕ). ltb (l .addresses) (2 ^ x)) (let q : min n 64 ≡ n = omega arith in q)
+    cut n false e =
+        let g = leb-false n 64 e in
+        let p : 2 ^ 64 ≤ 2 ^ n = pow-mono {i = 64} {j = n} (omega arith) in
+        ap (λ (x : ℕ). ltb (l .addresses) (2 ^ x)) (let q : min n 64 ≡ 64 = omega arith in q) ∙ lt-ltb _ _ h ∙ sym (lt-ltb (l .addresses) (2 ^ n) (omega arith))
+
+pub zero-past : (n k : ℕ) (l : List ℕ) → length l ≡ k → k ≤ n → true ≡ zeroFrom n l
+unfolding zeroFrom allBy
+zero-past n k l e h = sym (ap (allBy (λ x. eqb x 0)) (drop-of-length-le l {i = n} (omega arith)))
+
+pub unused-past : (n k : ℕ) (l : List Lease) → length l ≡ k → k ≤ n → true ≡ allBy unusedB (drop n l)
+unfolding allBy
+unused-past n k l e h = sym (ap (allBy unusedB) (drop-of-length-le l {i = n} (omega arith)))
+
+-- ---- two leases
+pub rises-is : (a b : Lease) (o : ℕ) → o ≡ orderOf (idOf a) (idOf b) → eqb o 0 ≡ ordered a b
+unfolding ordered
+rises-is a b o e = ap (λ (x : ℕ). eqb x 0) e
+
+pub differ-no : (a b : Lease) {q : Bool} → q ≡ sameOf (idOf a) (idOf b) → q ≡ true → false ≡ differ a b
+unfolding differ
+differ-no a b e y = ap not (sym y ∙ e)
+
+pub differ-yes : (a b : Lease) {q : Bool} → q ≡ sameOf (idOf a) (idOf b) → q ≡ false → true ≡ differ a b
+unfolding differ
+differ-yes a b e n = ap not (sym n ∙ e)
+
+rises-trans : (a b c : Lease) → ordered a b ≡ true → ordered b c ≡ true → ordered a c ≡ true
+unfolding ordered
+rises-trans a b c p q = eq-eqb _ _ (order-trans (idOf a) (idOf b) (idOf c) (eqb-true _ _ p) (eqb-true _ _ q))
+
+pub rise-start : {d : Lease} {l : List Lease} {n : ℕ} (x k : ℕ) → n ≡ min x k → length l ≡ k → NextInv ordered d l n (pairsBy ordered (take x l)) 0
+rise-start {d = d} {l = l} {n = n} x k e g = subst (λ (w : Bool). NextInv ordered d l n w 0) (next-is-pairs ordered rises-trans (take x l)) (next-start x k e g)
+
+-- what ordered differs
+apart-names : (a b : Lease) → ordered a b ≡ true → differ a b ≡ true
+unfolding ordered differ sameOf
+apart-names a b p = let z = eqb-true (orderOf (idOf a) (idOf b)) 0 p in ap not (ne-eqb (orderOf (idOf a) (idOf b)) 1 (λ e. absurd (omega arith)))
+
+pairs-imply : {A : Type 0} (t u : A → A → Bool) (l : List A) → ((x y : A) → t x y ≡ true → u x y ≡ true) → pairsBy t l ≡ true → pairsBy u l ≡ true
+unfolding pairsBy
+pairs-imply t u [] f h = refl
+pairs-imply t u (x ∷ l) f h =
+    let p = pairs-head t x l h in
+    pairs-cons u x l (all-both (t x) (t x) (u x) l (λ y a b. f x y a) (p .0) (p .0)) (pairs-imply t u l f (p .1))
+
+pub rise-differ : (l : List Lease) {r : Bool} → r ≡ pairsBy ordered l → r ≡ true → true ≡ pairsBy differ l
+rise-differ l e h = sym (pairs-imply ordered differ l apart-names (sym e ∙ h))
+
+-- ---- tenants
+six : {p p′ q q′ u u′ r r′ t t′ v v′ : Bool} → p ≡ p′ → q ≡ q′ → u ≡ u′ → r ≡ r′ → t ≡ t′ → v ≡ v′
+    → _≡_ {A = TenantRules} (record { records = p; offsets = q; leases = u; identifiers = r; periods = t; layout = v }) (record { records = p′; offsets = q′; leases = u′; identifiers = r′; periods = t′; layout = v′ })
+six a b c d e f = cc
+
+module _ (s : State) where
+  abbrev offsetsT : TenantLeases → Bool
+  offsetsT t = allBy (offsetsB s) (inUse t)
+
+  abbrev leasesT : TenantLeases → Bool
+  leasesT t = allBy (leaseB s) (inUse t)
+
+abbrev differT : TenantLeases → Bool
+differT t = pairsBy differ (inUse t)
+
+abbrev calmT : TenantLeases → Bool
+calmT t = pairsBy calm (inUse t)
+
+tenants-from : (s : State) (a : TenantRules) (l : List TenantLeases) → fold (andTenants s) a l
+    ≡ record {
+      records = a .records && allBy recordsB l;
+      offsets = a .offsets && allBy (offsetsT s) l;
+      leases = a .leases && allBy (leasesT s) l;
+      identifiers = a .identifiers && allBy differT l;
+      periods = a .periods && allBy calmT l;
+      layout = a .layout && allBy layoutB l;
+    }
+unfolding andTenants allBy
+tenants-from s a [] = sym (six (and-true-r (a .records)) (and-true-r (a .offsets)) (and-true-r (a .leases)) (and-true-r (a .identifiers)) (and-true-r (a .periods)) (and-true-r (a .layout)))
+tenants-from s a (t ∷ l) =
+    tenants-from s (andTenants s a t) l
+    ∙ six (and-more (a .records) (recordsB t) (allBy recordsB l)) (and-more (a .offsets) (offsetsT s t) (allBy (offsetsT s) l)) (and-more (a .leases) (leasesT s t) (allBy (leasesT s) l))
+    (and-more (a .identifiers) (differT t) (allBy differT l)) (and-more (a .periods) (calmT t) (allBy calmT l)) (and-more (a .layout) (layoutB t) (allBy layoutB l))
+
+pub tenants-are : (s : State) (b : LeaseTable)
+    → fold (andTenants s) (record { records = true; offsets = true; leases = true; identifiers = true; periods = true; layout = true }) (b .tenants) ≡ tenantsAll s b
+unfolding tenantsAll
+tenants-are s b =
+    tenants-from s _ (b .tenants)
+    ∙ six refl (sym (all-map (allBy (offsetsB s)) inUse (b .tenants))) (sym (all-map (allBy (leaseB s)) inUse (b .tenants))) (sym (all-map (pairsBy differ) inUse (b .tenants)))
+    (sym (all-map (pairsBy calm) inUse (b .tenants))) refl
+
+pub tenant-is : (s : State) (t : TenantLeases) {p q u r v w : Bool} → p ≡ recordsB t → q ≡ allBy (offsetsB s) (inUse t) → u ≡ allBy (leaseB s) (inUse t)
+    → r ≡ pairsBy differ (inUse t) → v ≡ pairsBy calm (inUse t) → w ≡ layoutB t
+    → _≡_ {A = TenantRules} (record { records = p; offsets = q; leases = u; identifiers = r; periods = v; layout = w }) (tenantRulesOf s t)
+unfolding tenantRulesOf
+tenant-is s t a b c d e f = six a b c d e f
+
+pub tenant-and : (s : State) (a x : TenantRules) (t : TenantLeases) {p q u r v w : Bool} → x ≡ tenantRulesOf s t
+    → p ≡ (a .records && x .records) → q ≡ (a .offsets && x .offsets) → u ≡ (a .leases && x .leases) → r ≡ (a .identifiers && x .identifiers) → v ≡ (a .periods && x .periods)
+    → w ≡ (a .layout && x .layout)
+    → _≡_ {A = TenantRules} (record { records = p; offsets = q; leases = u; identifiers = r; periods = v; layout = w }) (andTenants s a t)
+unfolding tenantRulesOf andTenants
+tenant-and s a x t e f g h i j k =
+    six (f ∙ ap (λ (y : TenantRules). a .records && y .records) e) (g ∙ ap (λ (y : TenantRules). a .offsets && y .offsets) e) (h ∙ ap (λ (y : TenantRules). a .leases && y .leases) e)
+    (i ∙ ap (λ (y : TenantRules). a .identifiers && y .identifiers) e) (j ∙ ap (λ (y : TenantRules). a .periods && y .periods) e) (k ∙ ap (λ (y : TenantRules). a .layout && y .layout) e)
+
+-- ---- address sets
+pub held-are : (t : TenantLeases) {a b c d : ℕ} → a ≡ heldOf 1 (inUse t) → b ≡ heldOf 2 (inUse t) → c ≡ heldOf 3 (inUse t) → d ≡ heldOf 4 (inUse t)
+    → _≡_ {A = Held} (record { sets = a ∷ b ∷ c ∷ d ∷ [] }) (heldSets t)
+unfolding heldSets
+held-are t p q r u = cc
+
+pub holdings-are : (b : LeaseTable) (h : HeldTable) → h .tenants ≡ map heldSets (b .tenants) → h ≡ holdingsOf b
+unfolding holdingsOf
+holdings-are b h e = ap {B = HeldTable} (λ (x : List Held). record { tenants = x }) e
+
+sets-apart : (a b : TenantLeases) → apartSets (heldSets a) (heldSets b) ≡ apart (inUse a) (inUse b)
+unfolding apartSets heldSets apart
+sets-apart a b = refl
+
+owners-are : (b : LeaseTable) (h : HeldTable) {r : Bool} → h ≡ holdingsOf b → r ≡ pairsBy apartSets (h .tenants) → r ≡ rule9 b
+unfolding holdingsOf rule9
+owners-are b h e p =
+    p ∙ ap (λ (x : HeldTable). pairsBy apartSets (x .tenants)) e ∙ pairs-map apartSets heldSets (b .tenants)
+    ∙ pairs-same (λ x y. apartSets (heldSets x) (heldSets y)) (λ x y. apart (inUse x) (inUse y)) (b .tenants) sets-apart
+    ∙ sym (pairs-map apart inUse (b .tenants))
+
+-- the count of a set is the holding that the leases give
+getD-map-any : {A B : Type 0} (f : A → B) (l : List A) (i : ℕ) (d : A) (e : B) → i < length l → getD (map f l) i e ≡ f (getD l i d)
+getD-map-any f [] i d e h = absurd (omega arith)
+getD-map-any f (x ∷ l) zero d e h = refl
+getD-map-any f (x ∷ l) (suc i) d e h = getD-map-any f l i d e (omega arith)
+
+set-of : (t : TenantLeases) (k : ℕ) → k < 4 → setAt (heldSets t) k ≡ heldOf (k + 1) (inUse t)
+unfolding heldSets
+set-of t zero h = refl
+set-of t (suc zero) h = refl
+set-of t (suc (suc zero)) h = refl
+set-of t (suc (suc (suc zero))) h = refl
+set-of t (suc (suc (suc (suc k)))) h = absurd (omega arith)
+
+count-is : (b : LeaseTable) (k g : ℕ) → length (b .tenants) ≡ 8 → k < 4 → g < 8 → countIn (holdingsOf b) k g ≡ holding b (k + 1) g
+unfolding countIn holdingsOf
+count-is b k g e h p =
+    ap (λ (x : ℕ). length (offsets x))
+    (ap (λ (x : Held). setAt x k) (getD-map-any heldSets (b .tenants) g noLeases noHeld (omega arith)) ∙ set-of (getD (b .tenants) g noLeases) k h
+    ∙ ap (heldOf (k + 1)) (sym (getD-map-any inUse (b .tenants) g noLeases [] (omega arith))))
+
+module _ (s : State) (b : LeaseTable) (h : HeldTable) (e : h ≡ holdingsOf b) (long : length (b .tenants) ≡ 8) where
+  counts : (k g : ℕ) → k < 4 → g < 8 → countIn h k g ≡ holding b (k + 1) g
+  counts k g p q = ap (λ (x : HeldTable). countIn x k g) e ∙ count-is b k g long p q
+
+  limits-are : {n m : ℕ} {r : Bool} → n ≡ tenantsIn s → m ≡ scopesIn s → r ≡ allTo (limitsIn s h n) m → r ≡ rule11 s b
+  unfolding limitsIn limitIn rule11 limitsB limitB
+  limits-are {n} {m} p q u =
+      u ∙ ap₂ (λ (x y : ℕ). allTo (limitsIn s h x) y) p q
+      ∙ to-same (limitsIn s h (tenantsIn s)) (limitsB s b) (scopesIn s) (λ k a.
+      to-same (limitIn h (scopeAt s k) k) (limitB b (scopeAt s k) (k + 1)) (tenantsIn s) (λ g c. ap (λ (x : ℕ). leb x (limitAt (scopeAt s k) g)) (counts k g (omega arith) (omega arith))))
+
+  loads-are : {n m : ℕ} {r : Bool} → n ≡ tenantsIn s → m ≡ scopesIn s → r ≡ allTo (loadIn s h n) m → r ≡ rule12 s b
+  unfolding loadIn loadOn rule12 loadB load
+  loads-are {n} {m} p q u =
+      u ∙ ap₂ (λ (x y : ℕ). allTo (loadIn s h x) y) p q
+      ∙ to-same (loadIn s h (tenantsIn s)) (loadB s b) (scopesIn s) (λ k a.
+      ap (λ (x : ℕ). leb x (scopeAt s k .size))
+      (sum-same (loadOn h (scopeAt s k) k) (load b (scopeAt s k) (k + 1)) (tenantsIn s) (λ g c. ap (λ (x : ℕ). max x (reserveAt (scopeAt s k) g)) (counts k g (omega arith) (omega arith)))))
+
+-- ---- the turns of the code
+pub count-at : (h : HeldTable) (k g : ℕ) (t : Held) {r : ℕ} → t ≡ getD (h .tenants) g noHeld → r ≡ length (offsets (getD (t .sets) k 0)) → r ≡ countIn h k g
+unfolding countIn
+count-at h k g t e p = p ∙ ap (λ (x : Held). length (offsets (setAt x k))) e
+
+pub limit-is : (h : HeldTable) (c : Scope) (k g : ℕ) {d l : ℕ} → d ≡ countIn h k g → l ≡ getD (c .limit) g 0 → leb d l ≡ limitIn h c k g
+unfolding limitIn
+limit-is h c k g p q = ap₂ leb p q
+
+pub count-few : (h : HeldTable) (k g : ℕ) → countIn h k g ≤ 64
+unfolding countIn
+count-few h k g = length-offsets _
+
+pub load-is : (h : HeldTable) (c : Scope) (k g : ℕ) {d l r : ℕ} → d ≡ countIn h k g → l ≡ getD (c .reserve) g 0 → r ≡ max d l → r ≡ loadOn h c k g
+unfolding loadOn
+load-is h c k g p q e = e ∙ ap₂ max p q
+
+pub load-small : (h : HeldTable) (k g : ℕ) {d l r : ℕ} → d ≡ countIn h k g → l < 256 → r ≡ max d l → r < 256
+load-small h k g p q e = let f = count-few h k g in omega arith
+
+pub load-ok-is : (s : State) (h : HeldTable) (n k : ℕ) (c : Scope) {sum : ℕ} → c ≡ scopeAt s k → sum ≡ sumTo (loadOn h c k) n → leb sum (c .size) ≡ loadIn s h n k
+unfolding loadIn
+load-ok-is s h n k c e p = ap (λ (x : ℕ). leb x (c .size)) p ∙ ap (λ (x : Scope). leb (sumTo (loadOn h x k) n) (x .size)) e
+
+pub limits-in : (s : State) (h : HeldTable) (n k : ℕ) (c : Scope) {r : Bool} → c ≡ scopeAt s k → r ≡ allTo (limitIn h c k) n → r ≡ limitsIn s h n k
+unfolding limitsIn
+limits-in s h n k c e p = p ∙ ap (λ (x : Scope). allTo (limitIn h x k) n) e
+
+-- ---- all rules
+settings-same : {p p′ q q′ u u′ r r′ t t′ v v′ : Bool} → p ≡ p′ → q ≡ q′ → u ≡ u′ → r ≡ r′ → t ≡ t′ → v ≡ v′
+    → _≡_ {A = SettingsRules} (record { counts = p; ranges = q; pools = u; ttls = r; reserves = t; unused = v }) (record { counts = p′; ranges = q′; pools = u′; ttls = r′; reserves = t′; unused = v′ })
+settings-same a b c d e f = cc
+
+pub settings-are : (s : State) (n m : ℕ) (c : ScopeRules) {count range apart pool unused : Bool} → n ≡ tenantsIn s → m ≡ scopesIn s → c ≡ scopesAll n (scopesOf s)
+    → count ≡ (few 8 (s .«tenant_count») && (few 4 (s .«scope_count») && c .sizes)) → range ≡ rule3 s → apart ≡ pairsBy poolsApart (scopesOf s) → pool ≡ (c .pools && apart)
+    → unused ≡ (allBy rangeZero (drop n (s .tenants)) && (allBy scopeZero (drop m (s .scopes)) && c .tails))
+    → _≡_ {A = SettingsRules} (record { counts = count; ranges = range; pools = pool; ttls = c .ttls; reserves = c .reserves; unused = unused }) (settingsRulesOf s)
+unfolding settingsRulesOf scopesAll countsB rule4 rule5 rule6 settingsB
+settings-are s n m c en em ec p q u r v =
+    let e : c ≡ scopesAll (tenantsIn s) (scopesOf s) = ec ∙ ap (λ (x : ℕ). scopesAll x (scopesOf s)) en in
+    settings-same (p ∙ ap (λ (x : ScopeRules). few 8 (s .«tenant_count») && (few 4 (s .«scope_count») && x .sizes)) e) q (r ∙ ap₂ (λ (x : ScopeRules) (y : Bool). x .pools && y) e u) (ap (λ (x : ScopeRules). x .ttls) e)
+    (ap (λ (x : ScopeRules). x .reserves) e)
+    (v ∙ ap₂ (λ (x y : ℕ). allBy rangeZero (drop x (s .tenants)) && (allBy scopeZero (drop y (s .scopes)) && c .tails)) en em
+    ∙ ap (λ (x : ScopeRules). allBy rangeZero (drop (tenantsIn s) (s .tenants)) && (allBy scopeZero (drop (scopesIn s) (s .scopes)) && x .tails)) e)
+
+holding-same : {p p′ q q′ u u′ r r′ : Bool} → p ≡ p′ → q ≡ q′ → u ≡ u′ → r ≡ r′
+    → _≡_ {A = HoldingRules} (record { houses = p; owners = q; holdings = u; loads = r }) (record { houses = p′; owners = q′; holdings = u′; loads = r′ })
+holding-same a b c d = cc
+
+pub holding-are : (s : State) (b : LeaseTable) (n m : ℕ) (h : HeldTable) {p q u r : Bool} → length (b .tenants) ≡ 8 → n ≡ tenantsIn s → m ≡ scopesIn s → h ≡ holdingsOf b
+    → p ≡ allBy noneB (drop n (b .tenants)) → q ≡ pairsBy apartSets (h .tenants) → u ≡ allTo (limitsIn s h n) m → r ≡ allTo (loadIn s h n) m
+    → _≡_ {A = HoldingRules} (record { houses = p; owners = q; holdings = u; loads = r }) (holdingRulesOf s b)
+unfolding holdingRulesOf housesB
+holding-are s b n m h long en em e p q u r =
+    holding-same (p ∙ ap (λ (x : ℕ). allBy noneB (drop x (b .tenants))) en) (owners-are b h e q) (limits-are s b h e long en em u) (loads-are s b h e long en em r)
+
+pub rules-are : (s : State) (t : LeaseTable) (a : SettingsRules) (b : TenantRules) (c : HoldingRules) {limit lease layout : Bool}
+    → a ≡ settingsRulesOf s → b ≡ tenantsAll s t → c ≡ holdingRulesOf s t → limit ≡ (a .counts && b .records) → lease ≡ (c .houses && b .leases) → layout ≡ (a .unused && b .layout)
+    → _≡_ {A = Rules} (record {
+      limits = limit;
+      offsets = b .offsets;
+      ranges = a .ranges;
+      pools = a .pools;
+      ttls = a .ttls;
+      reserves = a .reserves;
+      leases = lease;
+      identifiers = b .identifiers;
+      owners = c .owners;
+      periods = b .periods;
+      holdings = c .holdings;
+      loads = c .loads;
+      layout = layout;
+    }) (rulesOf s t)
+unfolding rulesOf settingsRulesOf tenantsAll holdingRulesOf rule1 rule2 rule7 rule8 rule10 rule13
+rules-are s t a b c ea eb ec p q r =
+    all (p ∙ ap₂ (λ (x : SettingsRules) (y : TenantRules). x .counts && y .records) ea eb) (q ∙ ap₂ (λ (x : HoldingRules) (y : TenantRules). x .houses && y .leases) ec eb)
+    (r ∙ ap₂ (λ (x : SettingsRules) (y : TenantRules). x .unused && y .layout) ea eb) ea eb ec
+  where
+    all : {x x′ y y′ z z′ : Bool} {a a′ : SettingsRules} {b b′ : TenantRules} {c c′ : HoldingRules} → x ≡ x′ → y ≡ y′ → z ≡ z′ → a ≡ a′ → b ≡ b′ → c ≡ c′
+        → _≡_ {A = Rules} (record {
+          limits = x;
+          offsets = b .offsets;
+          ranges = a .ranges;
+          pools = a .pools;
+          ttls = a .ttls;
+          reserves = a .reserves;
+          leases = y;
+          identifiers = b .identifiers;
+          owners = c .owners;
+          periods = b .periods;
+          holdings = c .holdings;
+          loads = c .loads;
+          layout = z;
+        })
+        (record {
+          limits = x′;
+          offsets = b′ .offsets;
+          ranges = a′ .ranges;
+          pools = a′ .pools;
+          ttls = a′ .ttls;
+          reserves = a′ .reserves;
+          leases = y′;
+          identifiers = b′ .identifiers;
+          owners = c′ .owners;
+          periods = b′ .periods;
+          holdings = c′ .holdings;
+          loads = c′ .loads;
+          layout = z′;
+        })
+    all p q r u v w = cc
+
+pub broken-is : (s : State) (t : LeaseTable) (r : Rules) {x : ℕ} → r ≡ rulesOf s t → x ≡ firstBroken r → x ≡ brokenOf s t
+unfolding brokenOf
+broken-is s t r e p = p ∙ ap firstBroken e
+
+pub sound-is : (s : State) (t : LeaseTable) {x : ℕ} → x ≡ brokenOf s t → eqb x 0 ≡ soundB s t
+unfolding soundB
+sound-is s t e = ap (λ (x : ℕ). eqb x 0) e

@@ -1,0 +1,107 @@
+-- The rules as the code gathers them: scope by scope, tenant by tenant, and from the address sets of all tenants.
+use Prim.Native.Nat.{ℕ, _+_, max}
+use mathlib.Core.Bool.{Bool, true, false, _&&_}
+use mathlib.Core.List.{List, [], _∷_, map}
+use lib.Dec.{leb, eqb}
+use lib.ListN.{length, drop, getD}
+use Rattle.lists.specs.All.{allBy, pairsBy, allTo}
+use Rattle.lists.specs.Sums.{sumTo}
+use Rattle.lists.specs.Fold.{fold}
+use Rattle.address_set.specs.AddressSet.{offsets}
+use Rattle.state.specs.declared.Lease.{Lease}
+use Rattle.state.specs.declared.TenantLeases.{TenantLeases}
+use Rattle.state.specs.declared.LeaseTable.{LeaseTable}
+use Rattle.state.specs.declared.Scope.{Scope}
+use Rattle.state.specs.declared.ClientRange.{ClientRange}
+use Rattle.state.specs.declared.State.{State}
+use Rattle.state.specs.Book.{inUse, leasesOf, heldOf, scopesOf, scopeAt}
+use Rattle.soundness.specs.declared.ScopeRules.{ScopeRules}
+use Rattle.soundness.specs.declared.TenantRules.{TenantRules}
+use Rattle.soundness.specs.declared.SettingsRules.{SettingsRules}
+use Rattle.soundness.specs.declared.HoldingRules.{HoldingRules}
+use Rattle.soundness.specs.declared.Held.{Held}
+use Rattle.soundness.specs.declared.HeldTable.{HeldTable}
+use Rattle.soundness.specs.Sound.{tenantsIn, scopesIn, reserveAt, limitAt, sizeB, countsB, recordsB, offsetsB, rule3, poolB, poolsApart, rule4, ttlB, rule5, sharesB, rule6, leaseB, housesB, differ, disjoint, rule9, calm, rule11, rule12, layoutB, tailB, settingsB}
+
+abbrev pub noRange : ClientRange
+noRange = record { low = 0; high = 0 }
+
+-- ---- scopes
+unfoldable pub scopeRulesOf : ℕ → Scope → ScopeRules
+scopeRulesOf n c = record { sizes = sizeB c; pools = poolB c; ttls = ttlB c; reserves = sharesB n c; tails = tailB n c }
+
+unfoldable pub andScopes : ℕ → ScopeRules → Scope → ScopeRules
+andScopes n a c = record { sizes = a .sizes && sizeB c; pools = a .pools && poolB c; ttls = a .ttls && ttlB c; reserves = a .reserves && sharesB n c; tails = a .tails && tailB n c }
+
+unfoldable pub scopesAll : ℕ → List Scope → ScopeRules
+scopesAll n l = record { sizes = allBy sizeB l; pools = allBy poolB l; ttls = allBy ttlB l; reserves = allBy (sharesB n) l; tails = allBy (tailB n) l }
+
+-- ---- tenants
+unfoldable pub tenantRulesOf : State → TenantLeases → TenantRules
+tenantRulesOf s t = record {
+  records = recordsB t;
+  offsets = allBy (offsetsB s) (inUse t);
+  leases = allBy (leaseB s) (inUse t);
+  identifiers = pairsBy differ (inUse t);
+  periods = pairsBy calm (inUse t);
+  layout = layoutB t;
+}
+
+unfoldable pub andTenants : State → TenantRules → TenantLeases → TenantRules
+andTenants s a t = record {
+  records = a .records && recordsB t;
+  offsets = a .offsets && allBy (offsetsB s) (inUse t);
+  leases = a .leases && allBy (leaseB s) (inUse t);
+  identifiers = a .identifiers && pairsBy differ (inUse t);
+  periods = a .periods && pairsBy calm (inUse t);
+  layout = a .layout && layoutB t;
+}
+
+unfoldable pub tenantsAll : State → LeaseTable → TenantRules
+tenantsAll s b = record {
+  records = allBy recordsB (b .tenants);
+  offsets = allBy (allBy (offsetsB s)) (leasesOf b);
+  leases = allBy (allBy (leaseB s)) (leasesOf b);
+  identifiers = allBy (pairsBy differ) (leasesOf b);
+  periods = allBy (pairsBy calm) (leasesOf b);
+  layout = allBy layoutB (b .tenants);
+}
+
+-- ---- address sets
+abbrev pub noHeld : Held
+noHeld = record { sets = [] }
+
+unfoldable pub heldSets : TenantLeases → Held
+heldSets t = record { sets = heldOf 1 (inUse t) ∷ heldOf 2 (inUse t) ∷ heldOf 3 (inUse t) ∷ heldOf 4 (inUse t) ∷ [] }
+
+unfoldable pub holdingsOf : LeaseTable → HeldTable
+holdingsOf b = record { tenants = map heldSets (b .tenants) }
+
+abbrev pub setAt : Held → ℕ → ℕ
+setAt a k = getD (a .sets) k 0
+
+unfoldable pub apartSets : Held → Held → Bool
+apartSets a b = disjoint (setAt a 0) (setAt b 0) && (disjoint (setAt a 1) (setAt b 1) && (disjoint (setAt a 2) (setAt b 2) && disjoint (setAt a 3) (setAt b 3)))
+
+-- how many addresses tenant g has in scope k + 1
+unfoldable pub countIn : HeldTable → ℕ → ℕ → ℕ
+countIn h k g = length (offsets (setAt (getD (h .tenants) g noHeld) k))
+
+unfoldable pub limitIn : HeldTable → Scope → ℕ → ℕ → Bool
+limitIn h c k g = leb (countIn h k g) (limitAt c g)
+
+unfoldable pub limitsIn : State → HeldTable → ℕ → ℕ → Bool
+limitsIn s h n k = allTo (limitIn h (scopeAt s k) k) n
+
+unfoldable pub loadOn : HeldTable → Scope → ℕ → ℕ → ℕ
+loadOn h c k g = max (countIn h k g) (reserveAt c g)
+
+unfoldable pub loadIn : State → HeldTable → ℕ → ℕ → Bool
+loadIn s h n k = leb (sumTo (loadOn h (scopeAt s k) k) n) (scopeAt s k .size)
+
+-- ---- the three parts of all rules
+unfoldable pub settingsRulesOf : State → SettingsRules
+settingsRulesOf s = record { counts = countsB s; ranges = rule3 s; pools = rule4 s; ttls = rule5 s; reserves = rule6 s; unused = settingsB s }
+
+unfoldable pub holdingRulesOf : State → LeaseTable → HoldingRules
+holdingRulesOf s t = record { houses = housesB s t; owners = rule9 t; holdings = rule11 s t; loads = rule12 s t }

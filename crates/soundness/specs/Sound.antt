@@ -1,0 +1,242 @@
+-- Document 01's "Sound", rule by rule in its order, numbered by its semicolons. Rule 13 is the layout of "How it is to be built".
+-- A house is a tenant here, its share a reserve; tenants count from 0, scopes from 1.
+use Prim.Native.Nat.{ℕ, zero, suc, _+_, _-_, min, max}
+use mathlib.Core.Bool.{Bool, true, false, not, _&&_, _||_}
+use mathlib.Core.List.{List, [], _∷_}
+use lib.Dec.{ltb, leb, eqb}
+use lib.Bits.{bitAnd}
+use lib.ListN.{take, drop, length, getD}
+use Rattle.lists.specs.Pick.{pick}
+use Rattle.lists.specs.All.{allBy, pairsBy, allTo}
+use Rattle.lists.specs.Sums.{sumTo}
+use Rattle.identifier.specs.Order.{sameOf}
+use Rattle.address_set.specs.AddressSet.{offsets}
+use Rattle.state.specs.declared.Lease.{Lease}
+use Rattle.state.specs.declared.TenantLeases.{TenantLeases}
+use Rattle.state.specs.declared.LeaseTable.{LeaseTable}
+use Rattle.state.specs.declared.ClientRange.{ClientRange}
+use Rattle.state.specs.declared.Scope.{Scope}
+use Rattle.state.specs.declared.State.{State}
+use Rattle.state.specs.Book.{inUse, leasesOf, idOf, ordered, live, overlaps, inScope, heldOf, heldCount, rangesOf, scopesOf, scopeAt}
+use Rattle.soundness.specs.declared.Rules.{Rules}
+
+-- from 1 to most
+unfoldable pub few : ℕ → ℕ → Bool
+few most n = leb 1 n && leb n most
+
+-- how many tenants and scopes there are; a count above the limit, which rule 1 refuses, stands for the limit
+abbrev pub tenantsIn : State → ℕ
+tenantsIn s = min (s .«tenant_count») 8
+
+abbrev pub scopesIn : State → ℕ
+scopesIn s = min (s .«scope_count») 4
+
+abbrev pub reserveAt : Scope → ℕ → ℕ
+reserveAt c g = getD (c .reserve) g 0
+
+abbrev pub limitAt : Scope → ℕ → ℕ
+limitAt c g = getD (c .limit) g 0
+
+-- ---- 1. counts, sizes and identifier lengths within the limits
+unfoldable pub sizeB : Scope → Bool
+sizeB c = few 64 (c .size)
+
+unfoldable pub idB : Lease → Bool
+idB l = leb 2 (l .«id_len») && leb (l .«id_len») 32
+
+unfoldable pub recordsB : TenantLeases → Bool
+recordsB t = leb (t .count) 16 && allBy idB (inUse t)
+
+unfoldable pub countsB : State → Bool
+countsB s = few 8 (s .«tenant_count») && (few 4 (s .«scope_count») && allBy sizeB (scopesOf s))
+
+unfoldable pub rule1 : State → LeaseTable → Bool
+rule1 s t = countsB s && allBy recordsB (t .tenants)
+
+-- ---- 2. offsets below the scope's size; a lease in an unknown scope, which rule 7 refuses, is passed over
+abbrev pub scopeKnown : State → Lease → Bool
+scopeKnown s l = few (s .«scope_count») (l .scope)
+
+abbrev pub scopeOf : State → Lease → Scope
+scopeOf s l = scopeAt s (l .scope - 1)
+
+-- every offset of a set is below n
+unfoldable pub belowB : ℕ → ℕ → Bool
+belowB n m = allBy (λ a. ltb a n) (offsets m)
+
+unfoldable pub offsetsB : State → Lease → Bool
+offsetsB s l = pick (scopeKnown s l) (belowB (scopeOf s l .size) (l .addresses)) true
+
+unfoldable pub rule2 : State → LeaseTable → Bool
+rule2 s t = allBy (allBy (offsetsB s)) (leasesOf t)
+
+-- ---- 3. client ranges not empty and disjoint
+unfoldable pub rangeB : ClientRange → Bool
+rangeB r = leb (r .low) (r .high)
+
+unfoldable pub rangesApart : ClientRange → ClientRange → Bool
+rangesApart a b = ltb (a .high) (b .low) || ltb (b .high) (a .low)
+
+unfoldable pub rule3 : State → Bool
+rule3 s = allBy rangeB (rangesOf s) && pairsBy rangesApart (rangesOf s)
+
+-- ---- 4. pools inside 224.0.0.0 to 239.255.255.255 and disjoint
+unfoldable pub poolB : Scope → Bool
+poolB c = leb 3758096384 (c .lowest) && leb (c .lowest + c .size) 4026531840
+
+unfoldable pub poolsApart : Scope → Scope → Bool
+poolsApart a b = leb (a .lowest + a .size) (b .lowest) || leb (b .lowest + b .size) (a .lowest)
+
+unfoldable pub rule4 : State → Bool
+rule4 s = allBy poolB (scopesOf s) && pairsBy poolsApart (scopesOf s)
+
+-- ---- 5. TTL not 0
+unfoldable pub ttlB : Scope → Bool
+ttlB c = ltb 0 (c .ttl)
+
+unfoldable pub rule5 : State → Bool
+rule5 s = allBy ttlB (scopesOf s)
+
+-- ---- 6. share at most limit at most size, shares together at most size
+unfoldable pub shareB : Scope → ℕ → Bool
+shareB c g = leb (reserveAt c g) (limitAt c g) && leb (limitAt c g) (c .size)
+
+unfoldable pub sharesB : ℕ → Scope → Bool
+sharesB n c = allTo (shareB c) n && leb (sumTo (reserveAt c) n) (c .size)
+
+unfoldable pub rule6 : State → Bool
+rule6 s = allBy (sharesB (tenantsIn s)) (scopesOf s)
+
+-- ---- 7. each lease names a known house and scope, has type 3 or 4, start before end, end after the clock and an address
+unfoldable pub kindB : Lease → Bool
+kindB l = eqb (l .kind) 3 || eqb (l .kind) 4
+
+unfoldable pub periodB : ℕ → Lease → Bool
+periodB clock l = ltb (l .start) (l .end) && (live clock l && ltb 0 (l .addresses))
+
+unfoldable pub leaseB : State → Lease → Bool
+leaseB s l = scopeKnown s l && (kindB l && periodB (s .clock) l)
+
+unfoldable pub noneB : TenantLeases → Bool
+noneB t = eqb (t .count) 0
+
+unfoldable pub housesB : State → LeaseTable → Bool
+housesB s t = allBy noneB (drop (tenantsIn s) (t .tenants))
+
+unfoldable pub rule7 : State → LeaseTable → Bool
+rule7 s t = housesB s t && allBy (allBy (leaseB s)) (leasesOf t)
+
+-- ---- 8. identifiers differ within a house
+unfoldable pub differ : Lease → Lease → Bool
+differ a b = not (sameOf (idOf a) (idOf b))
+
+unfoldable pub rule8 : LeaseTable → Bool
+rule8 t = allBy (pairsBy differ) (leasesOf t)
+
+-- ---- 9. no address has two houses
+unfoldable pub disjoint : ℕ → ℕ → Bool
+disjoint m n = eqb (bitAnd m n) 0
+
+abbrev pub apartIn : ℕ → List Lease → List Lease → Bool
+apartIn s a b = disjoint (heldOf s a) (heldOf s b)
+
+unfoldable pub apart : List Lease → List Lease → Bool
+apart a b = apartIn 1 a b && (apartIn 2 a b && (apartIn 3 a b && apartIn 4 a b))
+
+unfoldable pub rule9 : LeaseTable → Bool
+rule9 t = pairsBy apart (leasesOf t)
+
+-- ---- 10. leases on one address don't overlap; by rule 9 they are of one house
+unfoldable pub calm : Lease → Lease → Bool
+calm a b = pick (inScope (b .scope) a) (pick (overlaps (b .start) (b .end) a) (disjoint (a .addresses) (b .addresses)) true) true
+
+unfoldable pub rule10 : LeaseTable → Bool
+rule10 t = allBy (pairsBy calm) (leasesOf t)
+
+-- ---- 11. each holding at most its limit
+-- how many addresses tenant g has in scope s, counted from its leases
+abbrev pub holding : LeaseTable → ℕ → ℕ → ℕ
+holding t s g = heldCount s (getD (leasesOf t) g [])
+
+unfoldable pub limitB : LeaseTable → Scope → ℕ → ℕ → Bool
+limitB t c s g = leb (holding t s g) (limitAt c g)
+
+unfoldable pub limitsB : State → LeaseTable → ℕ → Bool
+limitsB s t k = allTo (limitB t (scopeAt s k) (k + 1)) (tenantsIn s)
+
+unfoldable pub rule11 : State → LeaseTable → Bool
+rule11 s t = allTo (limitsB s t) (scopesIn s)
+
+-- ---- 12. per scope the sum of larger-of-holding-and-share at most size
+unfoldable pub load : LeaseTable → Scope → ℕ → ℕ → ℕ
+load t c s g = max (holding t s g) (reserveAt c g)
+
+unfoldable pub loadB : State → LeaseTable → ℕ → Bool
+loadB s t k = leb (sumTo (load t (scopeAt s k) (k + 1)) (tenantsIn s)) (scopeAt s k .size)
+
+unfoldable pub rule12 : State → LeaseTable → Bool
+rule12 s t = allTo (loadB s t) (scopesIn s)
+
+-- ---- 13. a house's leases stand in the file's order; what is unused is zero: octets past an identifier's length, records, settings entries,
+-- shares and limits past the last house
+unfoldable pub zeroFrom : ℕ → List ℕ → Bool
+zeroFrom n l = allBy (λ x. eqb x 0) (drop n l)
+
+unfoldable pub paddedB : Lease → Bool
+paddedB l = zeroFrom (l .«id_len») (l .id)
+
+unfoldable pub blankB : Lease → Bool
+blankB l = (eqb (l .scope) 0 && (eqb (l .«id_len») 0 && (eqb (l .kind) 0 && eqb (l .xid) 0)))
+
+unfoldable pub unusedB : Lease → Bool
+unusedB l = blankB l && (eqb (l .start) 0 && (eqb (l .end) 0 && (eqb (l .addresses) 0 && zeroFrom 0 (l .id))))
+
+unfoldable pub layoutB : TenantLeases → Bool
+layoutB t = pairsBy ordered (inUse t) && (allBy paddedB (inUse t) && allBy unusedB (drop (t .count) (t .leases)))
+
+unfoldable pub rangeZero : ClientRange → Bool
+rangeZero r = eqb (r .low) 0 && eqb (r .high) 0
+
+unfoldable pub tailB : ℕ → Scope → Bool
+tailB n c = zeroFrom n (c .reserve) && zeroFrom n (c .limit)
+
+unfoldable pub scopeZero : Scope → Bool
+scopeZero c = eqb (c .lowest) 0 && (eqb (c .size) 0 && (eqb (c .ttl) 0 && tailB 0 c))
+
+unfoldable pub settingsB : State → Bool
+settingsB s = allBy rangeZero (drop (tenantsIn s) (s .tenants)) && (allBy scopeZero (drop (scopesIn s) (s .scopes)) && allBy (tailB (tenantsIn s)) (scopesOf s))
+
+unfoldable pub rule13 : State → LeaseTable → Bool
+rule13 s t = settingsB s && allBy layoutB (t .tenants)
+
+-- ---- all of them
+unfoldable pub rulesOf : State → LeaseTable → Rules
+rulesOf s t = record {
+  limits = rule1 s t;
+  offsets = rule2 s t;
+  ranges = rule3 s;
+  pools = rule4 s;
+  ttls = rule5 s;
+  reserves = rule6 s;
+  leases = rule7 s t;
+  identifiers = rule8 t;
+  owners = rule9 t;
+  periods = rule10 t;
+  holdings = rule11 s t;
+  loads = rule12 s t;
+  layout = rule13 s t;
+}
+
+-- the number of the first that is broken, or 0
+unfoldable pub firstLate : Rules → ℕ
+firstLate r =
+    pick (r .leases) (pick (r .identifiers) (pick (r .owners) (pick (r .periods) (pick (r .holdings) (pick (r .loads) (pick (r .layout) 0 13) 12) 11) 10) 9) 8) 7
+
+unfoldable pub firstBroken : Rules → ℕ
+firstBroken r = pick (r .limits) (pick (r .offsets) (pick (r .ranges) (pick (r .pools) (pick (r .ttls) (pick (r .reserves) (firstLate r) 6) 5) 4) 3) 2) 1
+
+unfoldable pub brokenOf : State → LeaseTable → ℕ
+brokenOf s t = firstBroken (rulesOf s t)
+
+unfoldable pub soundB : State → LeaseTable → Bool
+soundB s t = eqb (brokenOf s t) 0

@@ -12,3 +12,6 @@ mod Pad
 mod Loads
 mod RowLaws
 mod Writes
+mod ReadAgain
+mod WriteAgain
+pub mod RoundTrip

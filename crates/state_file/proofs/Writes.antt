@@ -187,7 +187,7 @@ table-length b sum e p =
     ∙ row-sum tenantRow noLeases (b .tenants) 8 8 8 _ e refl refl
     ∙ ap (λ (x : List TenantLeases). length (writeFrom tenantRow 0 x)) (take-all 8 (b .tenants) (omega arith))
 
-ranges-length : (k : ℕ) (l : List ClientRange) → length (writeFrom rangeRow k l) ≡ length l * 8
+pub ranges-length : (k : ℕ) (l : List ClientRange) → length (writeFrom rangeRow k l) ≡ length l * 8
 unfolding writeFrom rangeRow
 ranges-length k [] = refl
 ranges-length k (x ∷ l) = let ih = ranges-length (suc k) l in omega arith

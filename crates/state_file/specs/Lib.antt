@@ -8,3 +8,4 @@ pub mod TenantLaws
 pub mod Place
 pub mod Rows
 pub mod StateFile
+pub mod Typed

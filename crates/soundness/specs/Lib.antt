@@ -5,3 +5,4 @@ pub mod Book
 pub mod Kept
 pub mod Added
 pub mod Calm
+pub mod Laid

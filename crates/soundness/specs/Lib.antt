@@ -6,3 +6,4 @@ pub mod Kept
 pub mod Added
 pub mod Calm
 pub mod Laid
+pub mod Facts

@@ -43,7 +43,7 @@ fewLeases l = leb (length l) 16
 abbrev pub noLeasesB : List Lease → Bool
 noLeasesB l = eqb (length l) 0
 
--- what tenant g has in scope k + 1, or its reserve there
+-- the larger of what tenant g has in scope k + 1 and its reserve there
 abbrev pub loadOf : State → List (List Lease) → ℕ → ℕ → ℕ
 loadOf s ls k g = max (heldCount (k + 1) (getD ls g [])) (reserveAt (scopeAt s k) g)
 

@@ -18,7 +18,7 @@ use Rattle.state.specs.declared.Scope.{Scope}
 use Rattle.state.specs.declared.State.{State}
 use Rattle.state.specs.Book.{live, scopesOf, scopeAt, zeroScope}
 use Rattle.soundness.specs.Sound.{few, tenantsIn, scopesIn, reserveAt, limitAt, sizeB, idB, countsB, scopeKnown, offsetsB, rule3, poolB, poolsApart, rule4, ttlB, rule5, shareB, sharesB, rule6, kindB, periodB, leaseB, paddedB, settingsB}
-use Rattle.soundness.specs.Book.{settingsOk, leaseOk, Sound}
+use Rattle.soundness.specs.Book.{leaseOk, Sound, settings-front, settings-back}
 use Rattle.soundness.specs.Added.{each-at}
 
 -- ---- counts and scopes
@@ -38,17 +38,9 @@ at-of t (x ∷ l) zero d h p = all-head t x l h .0
 at-of t (x ∷ l) (suc i) d h p = at-of t l i d (all-head t x l h .1) (omega arith)
 
 module _ (s : State) (ls : List (List Lease)) (v : Sound s ls) where
-  front : (countsB s ≡ true) × ((rule3 s && rule4 s) ≡ true)
-  unfolding settingsOk
-  front = and-parts (countsB s) (rule3 s && rule4 s) (and-parts (countsB s && (rule3 s && rule4 s)) (rule5 s && (rule6 s && settingsB s)) (v .settings) .0)
-
-  back : (rule5 s ≡ true) × ((rule6 s && settingsB s) ≡ true)
-  unfolding settingsOk
-  back = and-parts (rule5 s) (rule6 s && settingsB s) (and-parts (countsB s && (rule3 s && rule4 s)) (rule5 s && (rule6 s && settingsB s)) (v .settings) .1)
-
   counts : (few 8 (s .«tenant_count») ≡ true) × ((few 4 (s .«scope_count») && allBy sizeB (scopesOf s)) ≡ true)
   unfolding countsB
-  counts = and-parts (few 8 (s .«tenant_count»)) (few 4 (s .«scope_count») && allBy sizeB (scopesOf s)) (front .0)
+  counts = and-parts (few 8 (s .«tenant_count»)) (few 4 (s .«scope_count») && allBy sizeB (scopesOf s)) (settings-front s ls v .0)
 
   scopes : (few 4 (s .«scope_count») ≡ true) × (allBy sizeB (scopesOf s) ≡ true)
   scopes = and-parts (few 4 (s .«scope_count»)) (allBy sizeB (scopesOf s)) (counts .1)
@@ -77,7 +69,7 @@ module _ (s : State) (ls : List (List Lease)) (v : Sound s ls) where
   scopes-in = let h = scopes-few in omega arith
 
   pub client-ranges : rule3 s ≡ true
-  client-ranges = and-parts (rule3 s) (rule4 s) (front .1) .0
+  client-ranges = and-parts (rule3 s) (rule4 s) (settings-front s ls v .1) .0
 
   module _ (k : ℕ) (long : length (s .scopes) ≡ 4) (here : k < s .«scope_count») where
     scope-passes : (t : Scope → Bool) → allBy t (scopesOf s) ≡ true → t (scopeAt s k) ≡ true
@@ -91,8 +83,8 @@ module _ (s : State) (ls : List (List Lease)) (v : Sound s ls) where
     scope-facts =
         let c : Scope = scopeAt s k in
         let size = and-parts (leb 1 (c .size)) (leb (c .size) 64) (scope-passes sizeB (scopes .1)) in
-        let pool = and-parts (leb 3758096384 (c .lowest)) (leb (c .lowest + c .size) 4026531840) (scope-passes poolB (and-parts (allBy poolB (scopesOf s)) _ (and-parts (rule3 s) (rule4 s) (front .1) .1) .0)) in
-        let share = and-parts (allTo (shareB c) (tenantsIn s)) (leb (sumTo (reserveAt c) (tenantsIn s)) (c .size)) (scope-passes (sharesB (tenantsIn s)) (and-parts (rule6 s) (settingsB s) (back .1) .0)) in
+        let pool = and-parts (leb 3758096384 (c .lowest)) (leb (c .lowest + c .size) 4026531840) (scope-passes poolB (and-parts (allBy poolB (scopesOf s)) _ (and-parts (rule3 s) (rule4 s) (settings-front s ls v .1) .1) .0)) in
+        let share = and-parts (allTo (shareB c) (tenantsIn s)) (leb (sumTo (reserveAt c) (tenantsIn s)) (c .size)) (scope-passes (sharesB (tenantsIn s)) (and-parts (rule6 s) (settingsB s) (settings-back s ls v .1) .0)) in
         let e = tenants-in in
         let one : (g : ℕ) → g < s .«tenant_count» → shareB c g ≡ true = λ g p. to-each (shareB c) (tenantsIn s) (share .0) g (omega arith) in
         record {
@@ -100,7 +92,7 @@ module _ (s : State) (ls : List (List Lease)) (v : Sound s ls) where
           size-few = leb-true (c .size) 64 (size .1);
           pool-low = leb-true 3758096384 (c .lowest) (pool .0);
           pool-high = leb-true (c .lowest + c .size) 4026531840 (pool .1);
-          ttl = ltb-true 0 (c .ttl) (scope-passes ttlB (back .0));
+          ttl = ltb-true 0 (c .ttl) (scope-passes ttlB (settings-back s ls v .0));
           reserve = λ g p. leb-true (reserveAt c g) (limitAt c g) (and-parts (leb (reserveAt c g) (limitAt c g)) (leb (limitAt c g) (c .size)) (one g p) .0);
           limit = λ g p. leb-true (limitAt c g) (c .size) (and-parts (leb (reserveAt c g) (limitAt c g)) (leb (limitAt c g) (c .size)) (one g p) .1);
           reserves = subst (λ (n : ℕ). sumTo (reserveAt c) n ≤ c .size) e (leb-true (sumTo (reserveAt c) (tenantsIn s)) (c .size) (share .1));

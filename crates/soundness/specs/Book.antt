@@ -43,7 +43,7 @@ fewLeases l = leb (length l) 16
 abbrev pub noLeasesB : List Lease → Bool
 noLeasesB l = eqb (length l) 0
 
--- what tenant g has in scope k + 1, or its reserve there
+-- the larger of what tenant g has in scope k + 1 and its reserve there
 abbrev pub loadOf : State → List (List Lease) → ℕ → ℕ → ℕ
 loadOf s ls k g = max (heldCount (k + 1) (getD ls g [])) (reserveAt (scopeAt s k) g)
 
@@ -95,8 +95,19 @@ none-broken r e =
     let m = peel (r .loads) _ 12 (omega arith) (l .1) in
     let n = peel (r .layout) _ 13 (omega arith) (m .1) in
     record {
-      limits = a .0; offsets = b .0; ranges = c .0; pools = d .0; ttls = f .0; reserves = g .0; leases = h .0; identifiers = i .0;
-      owners = j .0; periods = k .0; holdings = l .0; loads = m .0; layout = n .0;
+      limits = a .0;
+      offsets = b .0;
+      ranges = c .0;
+      pools = d .0;
+      ttls = f .0;
+      reserves = g .0;
+      leases = h .0;
+      identifiers = i .0;
+      owners = j .0;
+      periods = k .0;
+      holdings = l .0;
+      loads = m .0;
+      layout = n .0;
     }
 
 wrap : {b : Bool} {x : ℕ} (n : ℕ) → b ≡ true → x ≡ 0 → pick b x n ≡ 0
@@ -163,7 +174,7 @@ each-is s ls =
     all-all (λ l. idB l && offsetsB s l) (λ l. leaseB s l && paddedB l) ls
     ∙ ap₂ (λ (a b : Bool). a && b) (all-all idB (offsetsB s) ls) (all-all (leaseB s) paddedB ls)
 
-pairs-is : (ls : List (List Lease)) → allBy (pairsBy pairOk) ls ≡ (allBy (pairsBy ordered) ls && allBy (pairsBy calm) ls)
+pub pairs-is : (ls : List (List Lease)) → allBy (pairsBy pairOk) ls ≡ (allBy (pairsBy ordered) ls && allBy (pairsBy calm) ls)
 unfolding pairOk
 pairs-is ls = all-same (pairsBy (λ a b. ordered a b && calm a b)) (λ l. pairsBy ordered l && pairsBy calm l) ls (pairs-and ordered calm) ∙ all-and (pairsBy ordered) (pairsBy calm) ls
 

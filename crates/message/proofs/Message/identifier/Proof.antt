@@ -1,0 +1,34 @@
+-- By what the lookup found; what was found lies within the datagram.
+use Rattle.message.proofs.Steps.{found-fits, id-short}
+use Rattle.message.specs.Values.{identifierOf}
+use borrow.Author.Needs.{needs}
+use denote.Ref.{now}
+use mathlib.Core.Path.{_∙_, ap, sym}
+-- By what the lookup found; what was found lies within the datagram.
+-- By what the lookup found; what was found lies within the datagram.
+-- By what the lookup found; what was found lies within the datagram.
+use Rattle.message.proofs.Message.identifier.Statement.{statement}
+use Rattle.message.proofs.Message.identifier.Tie as tie
+
+find-requires : tie.Need-find-requires
+find-requires c κs = search (found-fits, id-short, needs)
+
+enum-known-found : tie.Need-enum-known-found
+enum-known-found c = search (found-fits, id-short, needs)
+
+enum-told : tie.Need-enum-told
+enum-told c = search (found-fits, id-short, needs)
+
+returns : tie.Need-returns
+returns c = let a = c .before .before .before .before .args in ap (identifierOf (now (a .s))) (sym (c .enum-told .given .1) ∙ c .before .before .find .ensures)
+
+identifier-at-requires : tie.Need-identifier-at-requires
+identifier-at-requires c κs = search (found-fits, id-short, needs)
+
+returns-2 : tie.Need-returns-2
+returns-2 c = let f = c .before .before in let a = f .before .before .before .before .args in c .identifier-at .ensures ∙ ap (identifierOf (now (a .s))) (sym (f .found .given .1) ∙ f .before .before .find .ensures)
+
+pub identifier-spec : {M : Type 1} → statement M
+identifier-spec =
+    tie.close
+    (tie.spec find-requires enum-known-found enum-told returns identifier-at-requires returns-2)

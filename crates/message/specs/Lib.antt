@@ -1,0 +1,5 @@
+pub mod Codes
+pub mod Walk
+pub mod Read
+pub mod Values
+pub mod Placed

@@ -1,0 +1,79 @@
+-- The values of a message's options, and what stands for an absent one (document 01).
+use Prim.Native.Nat.{ℕ, zero, suc, _+_, _-_, _/_}
+use mathlib.Core.List.{List, [], _∷_, _++_}
+use mathlib.Core.Bool.{Bool, true, false}
+use lib.ListN.{length, getD, take, drop, replicate}
+use lib.Dec.{eqb}
+use Rattle.lists.specs.Pick.{pick}
+use Rattle.lists.specs.All.{allTo}
+use Rattle.octets.specs.Octets.{at16, at32}
+use Rattle.message.specs.Codes.{isOneOf, allows}
+use Rattle.message.specs.Walk.{codeAt, lengthAt}
+use Rattle.message.specs.declared.Counts.{Counts}
+use Rattle.message.specs.declared.Identifier.{Identifier}
+use Rattle.message.specs.declared.Message.{Message}
+use Rattle.message.specs.declared.Found.{Found}
+use Rattle.message.specs.declared.Found.the-variants.{At, Absent}
+
+-- where the option with a code stands
+abbrev pub foundAt : Bool → ℕ → Found
+foundAt true at = Absent
+foundAt false at = At at
+
+abbrev pub findOf : List ℕ → ℕ → Found
+findOf places code = foundAt (eqb (getD places code 0) 0) (getD places code 0)
+
+-- is the option there
+abbrev pub isFound : Found → Bool
+isFound (At at) = true
+isFound Absent = false
+
+-- Lease Time, Start Time, Current Time, Scope, Minimum Lease, Maximum Start: four octets; d where it is absent
+abbrev pub numberOr : List ℕ → ℕ → Found → ℕ
+numberOr s d (At at) = at32 s (at + 4)
+numberOr s d Absent = d
+
+-- Number: least(2), desired(2); "absent Number is least 1, desired 1"
+abbrev pub countsAt : List ℕ → ℕ → Counts
+countsAt s at = record { least = at16 s (at + 4); desired = at16 s (at + 6) }
+
+abbrev pub countsOf : List ℕ → Found → Counts
+countsOf s (At at) = countsAt s at
+countsOf s Absent = record { least = 1; desired = 1 }
+
+-- Server Identifier: the six octets of family 1 and our address; absent, it is nobody else's
+unfoldable pub namesServer : List ℕ → ℕ → ℕ → Bool
+namesServer s server at = pick (eqb (lengthAt s at) 6) (pick (eqb (at16 s (at + 4)) 1) (eqb (at32 s (at + 6)) server) false) false
+
+abbrev pub serverOk : List ℕ → ℕ → Found → Bool
+serverOk s server (At at) = namesServer s server at
+serverOk s server Absent = true
+
+-- the k codes of two octets from p on
+unfoldable pub codesFrom : List ℕ → ℕ → ℕ → List ℕ
+codesFrom s p zero = []
+codesFrom s p (suc k) = at16 s p ∷ codesFrom s (p + 2) k
+
+-- Option Request List: does it name a code
+abbrev pub namesOf : List ℕ → ℕ → Found → Bool
+namesOf s code (At at) = isOneOf code (codesFrom s (at + 4) (lengthAt s at / 2))
+namesOf s code Absent = false
+
+-- n octets and zeros up to 32
+abbrev pub padded : ℕ → List ℕ → List ℕ
+padded n v = take n v ++ replicate (32 - n) 0
+
+-- Lease Identifier, opaque
+abbrev pub identifierAt : List ℕ → ℕ → Identifier
+identifierAt s at = record { octets = padded (lengthAt s at) (drop (at + 4) s); len = lengthAt s at }
+
+abbrev pub identifierOf : List ℕ → Found → Identifier
+identifierOf s (At at) = identifierAt s at
+identifierOf s Absent = record { octets = replicate 32 0; len = 0 }
+
+-- error 1's first case: is every option that is there one that the message type allows
+unfoldable pub allowedAt : ℕ → List ℕ → ℕ → Bool
+allowedAt kind places code = pick (isFound (findOf places code)) (allows kind code) true
+
+abbrev pub allAllowed : Message → Bool
+allAllowed m = allTo (allowedAt (m .kind .number) (m .places)) 17

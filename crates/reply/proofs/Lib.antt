@@ -1,0 +1,4 @@
+pub mod Writes
+pub mod ReadBack
+pub mod Short
+mod Specimens

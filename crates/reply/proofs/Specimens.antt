@@ -1,0 +1,84 @@
+-- Document 01's specimens on the wire, computed from the definitions: one table, one theorem.
+use mathlib.Core.Path.{_≡_, refl}
+use mathlib.Core.List.{List, [], _∷_, _++_}
+use mathlib.Core.Bool.{Bool, true, false}
+use Prim.Native.Nat.{ℕ, _*_, _+_}
+use lib.ListN.{replicate, length}
+use lib.Dec.{eqb}
+use Rattle.lists.specs.Pick.{pick}
+use Rattle.lists.specs.All.{allBy}
+use Rattle.address_set.specs.AddressSet.{bit, offsetsFrom, joined, runs, offsets}
+use Rattle.reply.specs.Reply.{optionsOctets, messageOctets, rangesOctets, scopesOctets, offerOf, leaseAckOf, releaseAckOf, infoAckOf, nakOf}
+use Rattle.reply.specs.declared.Head.{Head}
+use Rattle.reply.specs.declared.Terms.{Terms}
+use Rattle.reply.specs.declared.Info.{Info}
+
+record Case : Type 0 where
+  octets : List ℕ
+  expected : List ℕ
+
+same : List ℕ → List ℕ → Bool
+same [] [] = true
+same [] (y ∷ ys) = false
+same (x ∷ xs) [] = false
+same (x ∷ xs) (y ∷ ys) = pick (eqb x y) (same xs ys) false
+
+holds : Case → Bool
+holds c = same (c .octets) (c .expected)
+
+-- server 10.1.1.1, transaction id 01 02 03 04, identifier 00 41
+head : Bool → Head
+head sent = record { xid = 0x01020304; server = 0x0A010101; id = record { octets = 0 ∷ 0x41 ∷ replicate 30 0; len = 2 }; features = sent }
+
+-- scope 239.192.0.0, from 1000 for 3,600 seconds, at clock 1000
+terms : ℕ → Terms
+terms addresses = record { length = 3600; start = 1000; scope = 0xEFC00000; addresses = addresses; clock = 1000 }
+
+-- the scope of the specimens, of size 4 and TTL 15
+info : Bool → Bool → Info
+info list time = record {
+  scopes = record { lowest = 0xEFC00000; size = 4; ttl = 15 } ∷ replicate 3 (record { lowest = 0; size = 0; ttl = 0 });
+  count = 1;
+  «list_asked» = list;
+  clock = 1000;
+  «time_asked» = time;
+}
+
+-- header, options 2 and 3 of a reply of a type
+front : ℕ → List ℕ
+front kind = 0 ∷ kind ∷ 0 ∷ 1 ∷ 1 ∷ 2 ∷ 3 ∷ 4 ∷ 0 ∷ 2 ∷ 0 ∷ 6 ∷ 0 ∷ 1 ∷ 0x0A ∷ 1 ∷ 1 ∷ 1 ∷ 0 ∷ 3 ∷ 0 ∷ 2 ∷ 0 ∷ 0x41 ∷ []
+
+end : List ℕ
+end = 0 ∷ 0 ∷ 0 ∷ 0 ∷ []
+
+features : List ℕ
+features = 0 ∷ 12 ∷ 0 ∷ 6 ∷ 0 ∷ 0 ∷ 0 ∷ 0 ∷ 0 ∷ 0 ∷ []
+
+clock : List ℕ
+clock = 0 ∷ 11 ∷ 0 ∷ 4 ∷ 0 ∷ 0 ∷ 3 ∷ 0xE8 ∷ []
+
+table : List Case
+table =
+    -- P12: NAK with error 3
+    record { octets = nakOf (head false) 3; expected = front 6 ++ 0 ∷ 0x10 ∷ 0 ∷ 2 ∷ 0 ∷ 3 ∷ end }
+    -- P1: .0 and .1
+    ∷ record { octets = rangesOctets 0xEFC00000 (runs (offsets 3)); expected = 0xEF ∷ 0xC0 ∷ 0 ∷ 0 ∷ 0 ∷ 2 ∷ [] }
+    -- .0, .2, .3 and .63: three ranges
+    ∷ record { octets = rangesOctets 0xEFC00000 (runs (offsets 9223372036854775821)); expected = 0xEF ∷ 0xC0 ∷ 0 ∷ 0 ∷ 0 ∷ 1 ∷ 0xEF ∷ 0xC0 ∷ 0 ∷ 2 ∷ 0 ∷ 2 ∷ 0xEF ∷ 0xC0 ∷ 0 ∷ 63 ∷ 0 ∷ 1 ∷ [] }
+    -- a NAK to a client that sent option 12: 12 before 16
+    ∷ record { octets = nakOf (head true) 0; expected = front 6 ++ features ++ 0 ∷ 0x10 ∷ 0 ∷ 2 ∷ 0 ∷ 0 ∷ end }
+    -- P1's ACK whole
+    ∷ record {
+      octets = leaseAckOf (head false) (terms 3);
+      expected = 0 ∷ 5 ∷ 0 ∷ 1 ∷ 1 ∷ 2 ∷ 3 ∷ 4 ∷ 0 ∷ 1 ∷ 0 ∷ 4 ∷ 0 ∷ 0 ∷ 0x0E ∷ 0x10 ∷ 0 ∷ 2 ∷ 0 ∷ 6 ∷ 0 ∷ 1 ∷ 0x0A ∷ 1 ∷ 1 ∷ 1 ∷ 0 ∷ 3 ∷ 0 ∷ 2 ∷ 0 ∷ 0x41 ∷ 0 ∷ 4 ∷ 0 ∷ 4 ∷ 0xEF ∷ 0xC0 ∷ 0 ∷ 0
+          ∷ 0 ∷ 6 ∷ 0 ∷ 4 ∷ 0 ∷ 0 ∷ 3 ∷ 0xE8 ∷ 0 ∷ 10 ∷ 0 ∷ 6 ∷ 0xEF ∷ 0xC0 ∷ 0 ∷ 0 ∷ 0 ∷ 2 ∷ clock ++ end;
+    }
+    -- ACK to RELEASE; to GETINFO asking for nothing, and for the scopes and the time
+    ∷ record { octets = releaseAckOf (head true); expected = front 5 ++ features ++ end }
+    ∷ record { octets = infoAckOf (head false) (info false false); expected = front 5 ++ end }
+    ∷ record { octets = infoAckOf (head true) (info true true); expected = front 5 ++ 0 ∷ 9 ∷ 0 ∷ 11 ∷ 1 ∷ 0xEF ∷ 0xC0 ∷ 0 ∷ 0 ∷ 0xEF ∷ 0xC0 ∷ 0 ∷ 3 ∷ 15 ∷ 0 ∷ clock ++ features ++ end }
+    ∷ []
+
+specimens : allBy holds table ≡ true
+unfolding pick allBy same holds head terms info front end features clock table bit offsetsFrom joined runs optionsOctets messageOctets rangesOctets scopesOctets leaseAckOf releaseAckOf infoAckOf nakOf
+specimens = refl

@@ -1,0 +1,224 @@
+-- Writes one after the other: an option of its parts, options in a row, a message of header, options and End; ranges and scopes in a loop.
+use mathlib.Core.Path.{_≡_, refl, sym, ap, _∙_, subst}
+use mathlib.Core.List.{List, [], _∷_, _++_, append-assoc, append-nil}
+use mathlib.Core.Bool.{Bool, true, false}
+use Prim.Native.Nat.{ℕ, zero, suc, _+_, _-_, _*_, _^_, _≤_, _<_, min}
+use native.Mathlib.Omega.{arith}
+use native.Mathlib.Numerals.{add-one}
+use lib.ListN.{length, getD, take, drop, length-append, length-take}
+use lib.Seq.{take-suc, take-all}
+use Rattle.lists.specs.Part.{cut-take}
+use Rattle.octets.specs.Octets.{octets16, octets32, Wrote}
+use Rattle.octets.specs.Laws.{joined, whole, whole-length, wrote-none, wrote-as}
+use Rattle.address_set.specs.AddressSet.{Run, offsets, runs, firstRun, behind}
+use Rattle.address_set.specs.RangeLaws.{ranges-none, ranges-next, ranges-less, ranges-few, range-count}
+use Rattle.reply.specs.Reply.{Option, option, optionOctets, optionsOctets, header, messageOctets, rangeOctets, rangesOctets, scopeOctets, scopesOctets}
+use Rattle.reply.specs.Put.{Put, Replied}
+use Rattle.reply.specs.declared.ScopeEntry.{ScopeEntry}
+
+-- ---- options
+
+one-option : (code : ℕ) (value : List ℕ) → octets16 code ++ octets16 (length value) ++ value ≡ optionsOctets (option code value ∷ [])
+unfolding optionsOctets
+one-option code value = sym (append-nil (octets16 code ++ octets16 (length value) ++ value))
+
+-- code and length, and then the value
+pub option-put : (code n most : ℕ) (value : List ℕ) {b₀ b₁ b₂ : List ℕ} {at a r : ℕ} → n ≡ length value → length value + 4 ≤ most → at ≤ length b₀
+    → Wrote b₀ at (octets16 code ++ octets16 n) b₁ a → Wrote b₁ a value b₂ r → Put b₀ at (option code value ∷ []) b₂ r most
+option-put code n most value {b₀ = b₀} {b₂ = b₂} {at = at} {r = r} e m h p q =
+    let w : Wrote b₀ at (octets16 code ++ octets16 n ++ value) b₂ r = joined h p q in
+    let l : length (octets16 code ++ octets16 n ++ value) ≡ 4 + length value = omega arith in
+    record {
+      wrote = wrote-as (ap (λ (k : ℕ). octets16 code ++ octets16 k ++ value) e ∙ one-option code value) w;
+      near = let k = w .next in omega arith;
+    }
+
+pub options-append : (xs ys : List Option) → optionsOctets (xs ++ ys) ≡ optionsOctets xs ++ optionsOctets ys
+unfolding optionsOctets
+options-append [] ys = refl
+options-append (o ∷ xs) ys = ap (λ (l : List ℕ). optionOctets o ++ l) (options-append xs ys) ∙ sym (append-assoc (optionOctets o) (optionsOctets xs) (optionsOctets ys))
+
+-- options, and then others
+pub put-joined : {b₀ b₁ b₂ : List ℕ} {at a r m n : ℕ} {xs ys : List Option} → at ≤ length b₀ → Put b₀ at xs b₁ a m → Put b₁ a ys b₂ r n → Put b₀ at (xs ++ ys) b₂ r (m + n)
+put-joined {xs = xs} {ys = ys} h p q = record {
+  wrote = wrote-as (sym (options-append xs ys)) (joined h (p .wrote) (q .wrote));
+  near = let x = p .near in let y = q .near in omega arith;
+}
+
+pub put-none : (b : List ℕ) (at most : ℕ) → Put b at [] b at most
+unfolding optionsOctets
+put-none b at most = record { wrote = wrote-none b at; near = omega arith }
+
+-- ---- a message
+
+pub replied : (kind xid : ℕ) {b₀ b₁ b₂ b₃ : List ℕ} {a n r most : ℕ} {options : List Option} → Wrote b₀ 0 (header kind xid) b₁ a → Put b₁ a options b₂ n most → Wrote b₂ n (optionOctets (option 0 [])) b₃ r
+    → a ≤ length b₁ → Replied b₀ (messageOctets kind xid options) b₃ r
+unfolding messageOctets
+replied kind xid {b₀ = b₀} {b₃ = b₃} {r = r} {options = options} p q e h =
+    let w : Wrote b₀ 0 (header kind xid ++ optionsOctets options ++ optionOctets (option 0 [])) b₃ r = joined (omega arith) (joined (omega arith) p (q .wrote)) e in
+    record { number = whole-length w; buffer = whole w }
+
+-- ---- ranges
+
+pub ranges-length : (lowest : ℕ) (rs : List Run) → length (rangesOctets lowest rs) ≡ 6 * length rs
+unfolding rangesOctets
+ranges-length lowest [] = refl
+ranges-length lowest (r ∷ rs) = let h = ranges-length lowest rs in omega arith
+
+-- what the loop that counts them keeps
+pub record CountInv (set left n : ℕ) : Type 0 where
+  pub small : left < 2 ^ 64
+  pub whole : n + length (runs (offsets left)) ≡ length (runs (offsets set))
+
+pub count-start : {set : ℕ} → set < 2 ^ 64 → CountInv set set 0
+count-start h = record { small = h; whole = omega arith }
+
+module _ {set left n : ℕ} {r : Run} (v : CountInv set left n) (p : 0 < left) (e : r ≡ firstRun (runs (offsets left))) where
+  pub count-less : {left′ : ℕ} → left′ ≡ behind left r → left′ < left
+  count-less q = ranges-less (v .small) p e q
+
+  pub count-next : {left′ : ℕ} → left′ ≡ behind left r → CountInv set left′ (n + 1)
+  count-next {left′} q =
+      let w = v .whole in
+      let l : length (runs (offsets left)) ≡ suc (length (runs (offsets left′))) = ap length (ranges-next (v .small) p e q) in
+      record { small = let s = v .small in let t = count-less q in omega arith; whole = omega arith }
+
+  pub count-more : n + 1 ≤ 64
+  count-more = let w = count-next refl .whole in let f = ranges-few set in omega arith
+
+pub count-end : {set left n : ℕ} → CountInv set left n → left ≤ 0 → n ≡ length (runs (offsets set))
+count-end {left = left} v h =
+    let z : left ≡ 0 = omega arith in
+    let e : length (runs (offsets left)) ≡ 0 = ap (λ (m : ℕ). length (runs (offsets m))) z ∙ ap length ranges-none in
+    let w = v .whole in
+    omega arith
+
+-- what the loop that writes them keeps: those that are written, and that the others fit
+pub record RangesInv (b₀ : List ℕ) (at lowest set : ℕ) (b : List ℕ) (left to : ℕ) : Type 0 where
+  pub small : left < 2 ^ 64
+  pub done : List ℕ
+  pub wrote : Wrote b₀ at done b to
+  pub rest : rangesOctets lowest (runs (offsets set)) ≡ done ++ rangesOctets lowest (runs (offsets left))
+  pub room : to + 6 * length (runs (offsets left)) ≤ at + 384
+  pub kept : length b ≡ length b₀
+
+pub ranges-start : {b : List ℕ} {at lowest set : ℕ} → set < 2 ^ 64 → RangesInv b at lowest set b set at
+ranges-start {b} {at} {lowest} {set} h = record { small = h; done = []; wrote = wrote-none b at; rest = refl; room = let f = ranges-few set in omega arith; kept = refl }
+
+module _ {b₀ : List ℕ} {at lowest set : ℕ} {b : List ℕ} {left to : ℕ} {r : Run} (v : RangesInv b₀ at lowest set b left to) (p : 0 < left) (e : r ≡ firstRun (runs (offsets left))) where
+  next : rangesOctets lowest (runs (offsets left)) ≡ rangeOctets lowest r ++ rangesOctets lowest (runs (offsets (behind left r)))
+  unfolding rangesOctets
+  next = ap (rangesOctets lowest) (ranges-next (v .small) p e refl)
+
+  fewer : length (runs (offsets left)) ≡ suc (length (runs (offsets (behind left r))))
+  fewer = ap length (ranges-next (v .small) p e refl)
+
+  pub ranges-fall : {left′ : ℕ} → left′ ≡ behind left r → left′ < left
+  ranges-fall q = ranges-less (v .small) p e q
+
+  pub range-short : r .count ≤ 64
+  range-short = range-count (v .small) p e
+
+  pub ranges-room : to + 6 ≤ at + 384
+  ranges-room = let m = v .room in let f = fewer in omega arith
+
+  pub ranges-turn : {b₁ : List ℕ} {to₁ left′ : ℕ} → at ≤ length b₀ → Wrote b to (rangeOctets lowest r) b₁ to₁ → length b₁ ≡ length b → left′ ≡ behind left r → RangesInv b₀ at lowest set b₁ left′ to₁
+  ranges-turn {b₁} {to₁} {left′} g w l q = record {
+    small = let s = v .small in let t = ranges-fall q in omega arith;
+    done = v .done ++ rangeOctets lowest r;
+    wrote = joined g (v .wrote) w;
+    rest = v .rest ∙ ap (λ (x : List ℕ). v .done ++ x) next ∙ sym (append-assoc (v .done) (rangeOctets lowest r) (rangesOctets lowest (runs (offsets (behind left r)))))
+        ∙ ap (λ (m : ℕ). (v .done ++ rangeOctets lowest r) ++ rangesOctets lowest (runs (offsets m))) (sym q);
+    room = let m = v .room in let f = fewer in let k = w .next in let x : length (runs (offsets left′)) ≡ length (runs (offsets (behind left r))) = ap (λ (m : ℕ). length (runs (offsets m))) q in omega arith;
+    kept = l ∙ v .kept;
+  }
+
+pub ranges-end : {b₀ : List ℕ} {at lowest set : ℕ} {b : List ℕ} {left to : ℕ} → RangesInv b₀ at lowest set b left to → left ≤ 0 → Wrote b₀ at (rangesOctets lowest (runs (offsets set))) b to
+unfolding rangesOctets
+ranges-end {lowest = lowest} {left = left} v h =
+    let z : left ≡ 0 = omega arith in
+    wrote-as (sym (v .rest ∙ ap (λ (m : ℕ). v .done ++ rangesOctets lowest (runs (offsets m))) z ∙ ap (λ (rs : List Run). v .done ++ rangesOctets lowest rs) ranges-none ∙ append-nil (v .done))) (v .wrote)
+
+-- ---- scopes
+
+scopes-append : (xs ys : List ScopeEntry) → scopesOctets (xs ++ ys) ≡ scopesOctets xs ++ scopesOctets ys
+unfolding scopesOctets
+scopes-append [] ys = refl
+scopes-append (x ∷ xs) ys = ap (λ (l : List ℕ). scopeOctets x ++ l) (scopes-append xs ys) ∙ sym (append-assoc (scopeOctets x) (scopesOctets xs) (scopesOctets ys))
+
+pub scopes-length : (l : List ScopeEntry) → length (scopesOctets l) ≡ 10 * length l
+unfolding scopesOctets
+scopes-length [] = refl
+scopes-length (e ∷ l) = let h = scopes-length l in omega arith
+
+-- what the loop that writes them keeps
+pub record ScopesInv (b₀ : List ℕ) (at : ℕ) (l : List ScopeEntry) (n : ℕ) (b : List ℕ) (i to : ℕ) : Type 0 where
+  pub within : i ≤ n
+  pub long : n ≤ length l
+  pub place : to ≡ at + 10 * i
+  pub wrote : Wrote b₀ at (scopesOctets (take i l)) b to
+  pub kept : length b ≡ length b₀
+
+pub scopes-start : {b : List ℕ} {at : ℕ} {l : List ScopeEntry} {n : ℕ} → n ≤ length l → ScopesInv b at l n b 0 at
+unfolding scopesOctets
+scopes-start {b} {at} h = record { within = omega arith; long = h; place = omega arith; wrote = wrote-none b at; kept = refl }
+
+module _ {b₀ : List ℕ} {at : ℕ} {l : List ScopeEntry} {n : ℕ} {b : List ℕ} {i to : ℕ} (v : ScopesInv b₀ at l n b i to) where
+  pub scopes-next : {b₁ : List ℕ} {to₁ : ℕ} (d : ScopeEntry) → at ≤ length b₀ → i < n → Wrote b to (scopeOctets (getD l i d)) b₁ to₁ → length b₁ ≡ length b → ScopesInv b₀ at l n b₁ (i + 1) to₁
+  unfolding scopesOctets
+  scopes-next {b₁} {to₁} d g h w k =
+      let s : take (i + 1) l ≡ take i l ++ (getD l i d ∷ []) = ap (λ (x : ℕ). take x l) (add-one i) ∙ take-suc l i d (let o = v .long in omega arith) in
+      record {
+        within = omega arith;
+        long = v .long;
+        place = let p = v .place in let q = w .next in omega arith;
+        wrote = wrote-as (ap (λ (x : List ℕ). scopesOctets (take i l) ++ x) (sym (append-nil (scopeOctets (getD l i d)))) ∙ sym (scopes-append (take i l) (getD l i d ∷ [])) ∙ ap scopesOctets (sym s)) (joined g (v .wrote) w);
+        kept = k ∙ v .kept;
+      }
+
+  pub scopes-end : n ≤ i → Wrote b₀ at (scopesOctets (take n l)) b to
+  scopes-end h = let e : i ≡ n = (let o = v .within in omega arith) in wrote-as (ap (λ (x : ℕ). scopesOctets (take x l)) e) (v .wrote)
+
+-- ---- options whose value is cut or counted
+
+-- an identifier's octets: as many as its length says, and no more than the array has
+pub id-short : (l : List ℕ) (len : ℕ) → length l ≡ 32 → len < 32 → len ≡ length (take len l)
+id-short l len e h = sym (length-take len l ∙ (let z : min len (length l) ≡ len = omega arith in z))
+
+pub id-long : (l : List ℕ) (len : ℕ) → length l ≡ 32 → 32 ≤ len → 32 ≡ length (take len l)
+id-long l len e h = sym (length-take len l ∙ (let z : min len (length l) ≡ 32 = omega arith in z))
+
+pub id-fits : (l : List ℕ) (len n : ℕ) → n ≡ length (take len l) → n ≤ length l
+id-fits l len n e = let h = length-take len l in omega arith
+
+take-cut : (len : ℕ) (l : List ℕ) → take (length (take len l)) l ≡ take len l
+take-cut zero l = refl
+take-cut (suc len) [] = refl
+take-cut (suc len) (x ∷ l) = ap {B = List ℕ} (λ (r : List ℕ). x ∷ r) (take-cut len l)
+
+pub scopes-long : (l : List ScopeEntry) (n : ℕ) → length l ≡ 4 → n ≤ 4 → n ≤ length l
+scopes-long l n e h = omega arith
+
+pub id-put : (l : List ℕ) (len n : ℕ) {b₀ b₁ b₂ : List ℕ} {at a r : ℕ} → n ≡ length (take len l) → n ≤ 32 → at ≤ length b₀
+    → Wrote b₀ at (octets16 3 ++ octets16 n) b₁ a → Wrote b₁ a (take n l) b₂ r → Put b₀ at (option 3 (take len l) ∷ []) b₂ r 36
+id-put l len n e q h v w = option-put 3 n 36 (take len l) e (omega arith) h v (wrote-as (ap (λ (k : ℕ). take k l) e ∙ take-cut len l) w)
+
+-- the ranges, counted first
+pub ranges-put : (lowest set n : ℕ) {b₀ b₁ b₂ : List ℕ} {at a r : ℕ} → n ≡ length (runs (offsets set)) → at ≤ length b₀
+    → Wrote b₀ at (octets16 10 ++ octets16 (n * 6)) b₁ a → Wrote b₁ a (rangesOctets lowest (runs (offsets set))) b₂ r → Put b₀ at (option 10 (rangesOctets lowest (runs (offsets set))) ∷ []) b₂ r 388
+ranges-put lowest set n e h v w =
+    let l = ranges-length lowest (runs (offsets set)) in
+    let f = ranges-few set in
+    option-put 10 (n * 6) 388 _ (omega arith) (omega arith) h v w
+
+-- the scopes, and their count before them
+pub scopes-put : (l : List ScopeEntry) (count n : ℕ) {b₀ b₁ b₂ b₃ : List ℕ} {at a b r : ℕ} → length l ≡ 4 → n ≡ min count 4 → at ≤ length b₀ → a ≤ length b₁
+    → Wrote b₀ at (octets16 9 ++ octets16 (1 + 10 * n)) b₁ a → Wrote b₁ a (n ∷ []) b₂ b → Wrote b₂ b (scopesOctets (take n l)) b₃ r
+    → Put b₀ at (option 9 (length (take count l) ∷ scopesOctets (take count l)) ∷ []) b₃ r 45
+scopes-put l count n {b₁ = b₁} {b₃ = b₃} {a = a} {r = r} e q h g u v w =
+    let t : take n l ≡ take count l = ap (λ (k : ℕ). take k l) q ∙ cut-take 4 count l e in
+    let m : length (take count l) ≡ n = ap length (sym t) ∙ length-take n l ∙ (let z : min n (length l) ≡ n = omega arith in z) in
+    let k = scopes-length (take count l) in
+    let j : Wrote b₁ a (n ∷ scopesOctets (take n l)) b₃ r = joined g v w in
+    let value : n ∷ scopesOctets (take n l) ≡ length (take count l) ∷ scopesOctets (take count l) = ap (λ (x : List ScopeEntry). n ∷ scopesOctets x) t ∙ ap (λ (x : ℕ). x ∷ scopesOctets (take count l)) (sym m) in
+    option-put 9 (1 + 10 * n) 45 _ (omega arith) (omega arith) h u (wrote-as value j)

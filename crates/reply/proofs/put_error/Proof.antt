@@ -1,0 +1,26 @@
+-- Code and length, and then the value (`option-put`).
+use Rattle.message.specs.Walk.{start}
+use Rattle.octets.specs.Octets.{octets16}
+use Rattle.reply.proofs.Writes.{option-put}
+use borrow.Author.Needs.{needs}
+use mathlib.Core.Path.{refl}
+use native.Mathlib.Omega.{arith}
+-- Code and length, and then the value (`option-put`).
+-- Code and length, and then the value (`option-put`).
+use Rattle.reply.proofs.put_error.Statement.{statement}
+use Rattle.reply.proofs.put_error.Tie as tie
+
+put-code-requires : tie.Need-put-code-requires
+put-code-requires c κs = search needs
+
+put-u16-requires : tie.Need-put-u16-requires
+put-u16-requires c κs = search needs
+
+same-length : tie.Need-same-length
+same-length c = search needs
+
+returns : tie.Need-returns
+returns c = let at-put-u16 = c .before .before in let at-put-code = at-put-u16 .before .before .before .before in let start = at-put-code .before .before .before in option-put _ 2 6 (octets16 (start .args .error)) refl (omega arith) (search needs) (at-put-code .put-code .ensures) (at-put-u16 .put-u16 .ensures)
+
+pub put-error-spec : {M : Type 1} → statement M
+put-error-spec = tie.close (tie.spec put-code-requires put-u16-requires same-length returns)

@@ -1,0 +1,125 @@
+-- The replies of document 01 ("Replies"), as lists of octets: "the transaction id is echoed; options stand in rising order of code, End last".
+use Prim.Native.Nat.{ℕ, _+_, _-_}
+use mathlib.Core.List.{List, [], _∷_, _++_}
+use mathlib.Core.Bool.{Bool, true, false}
+use lib.ListN.{length, take}
+use Rattle.octets.specs.Octets.{octets16, octets32}
+use Rattle.address_set.specs.AddressSet.{Run, offsets, runs}
+use Rattle.message.specs.declared.Identifier.{Identifier}
+use Rattle.reply.specs.declared.Head.{Head}
+use Rattle.reply.specs.declared.Terms.{Terms}
+use Rattle.reply.specs.declared.Info.{Info}
+use Rattle.reply.specs.declared.ScopeEntry.{ScopeEntry}
+
+-- ---- a message: header, options, End
+
+pub record Option : Type 0 where
+  pub code : ℕ
+  pub value : List ℕ
+
+abbrev pub option : ℕ → List ℕ → Option
+option code value = record { code = code; value = value }
+
+-- code(2), length(2), value
+abbrev pub optionOctets : Option → List ℕ
+optionOctets o = octets16 (o .code) ++ octets16 (length (o .value)) ++ o .value
+
+unfoldable pub optionsOctets : List Option → List ℕ
+optionsOctets [] = []
+optionsOctets (o ∷ os) = optionOctets o ++ optionsOctets os
+
+-- version(1)=0, type(1), family(2)=1, transaction id(4)
+abbrev pub header : ℕ → ℕ → List ℕ
+header kind xid = 0 ∷ kind ∷ octets16 1 ++ octets32 xid
+
+unfoldable pub messageOctets : ℕ → ℕ → List Option → List ℕ
+messageOctets kind xid options = header kind xid ++ optionsOctets options ++ optionOctets (option 0 [])
+
+-- ---- the options
+
+-- an option that is there only if it is wanted
+abbrev pub wanted : Bool → Option → List Option
+wanted true o = o ∷ []
+wanted false o = []
+
+-- 2, Server Identifier: family(2), address
+abbrev pub serverOption : Head → Option
+serverOption h = option 2 (octets16 1 ++ octets32 (h .server))
+
+-- 3, Lease Identifier
+abbrev pub identifierOption : Head → Option
+identifierOption h = option 3 (take (h .id .len) (h .id .octets))
+
+-- 12, Features with three zero counts, if the client sent 12
+abbrev pub featuresOption : Head → List Option
+featuresOption h = wanted (h .features) (option 12 (0 ∷ 0 ∷ 0 ∷ 0 ∷ 0 ∷ 0 ∷ []))
+
+-- a range: first address(4), count(2)
+abbrev pub rangeOctets : ℕ → Run → List ℕ
+rangeOctets lowest r = octets32 (lowest + r .first) ++ octets16 (r .count)
+
+unfoldable pub rangesOctets : ℕ → List Run → List ℕ
+rangesOctets lowest [] = []
+rangesOctets lowest (r ∷ rs) = rangeOctets lowest r ++ rangesOctets lowest rs
+
+-- 10, Ranges: the fewest that name the addresses, rising
+abbrev pub rangesOption : Terms → Option
+rangesOption t = option 10 (rangesOctets (t .scope) (runs (offsets (t .addresses))))
+
+-- a scope: lowest address, highest address, TTL(1), number of names(1), here 0
+abbrev pub scopeOctets : ScopeEntry → List ℕ
+scopeOctets e = octets32 (e .lowest) ++ octets32 (e .lowest + (e .size - 1)) ++ e .ttl ∷ 0 ∷ []
+
+unfoldable pub scopesOctets : List ScopeEntry → List ℕ
+scopesOctets [] = []
+scopesOctets (e ∷ es) = scopeOctets e ++ scopesOctets es
+
+-- the scopes that are there
+abbrev pub scopesOf : Info → List ScopeEntry
+scopesOf i = take (i .count) (i .scopes)
+
+-- 9, Scope List: a count(1) and the scopes
+abbrev pub scopeListOption : Info → Option
+scopeListOption i = option 9 (length (scopesOf i) ∷ scopesOctets (scopesOf i))
+
+-- ---- the replies
+
+-- OFFER, and the ACK to REQUEST and RENEW: 1, 2, 3, 4, 6, 10, 11
+abbrev pub leaseOptions : Head → Terms → List Option
+leaseOptions h t =
+    option 1 (octets32 (t .length))
+    ∷ serverOption h
+    ∷ identifierOption h
+    ∷ option 4 (octets32 (t .scope))
+    ∷ option 6 (octets32 (t .start))
+    ∷ rangesOption t
+    ∷ option 11 (octets32 (t .clock))
+    ∷ featuresOption h
+
+-- ACK to RELEASE: 2, 3
+abbrev pub releaseOptions : Head → List Option
+releaseOptions h = serverOption h ∷ identifierOption h ∷ featuresOption h
+
+-- ACK to GETINFO: 2, 3, and 9 and 11 if option 5 names them
+abbrev pub infoOptions : Head → Info → List Option
+infoOptions h i =
+    serverOption h ∷ identifierOption h ∷ wanted (i .«list_asked») (scopeListOption i) ++ wanted (i .«time_asked») (option 11 (octets32 (i .clock))) ++ featuresOption h
+
+-- NAK: 2, 3, 16
+abbrev pub nakOptions : Head → ℕ → List Option
+nakOptions h error = serverOption h ∷ identifierOption h ∷ featuresOption h ++ option 16 (octets16 error) ∷ []
+
+unfoldable pub offerOf : Head → Terms → List ℕ
+offerOf h t = messageOctets 2 (h .xid) (leaseOptions h t)
+
+unfoldable pub leaseAckOf : Head → Terms → List ℕ
+leaseAckOf h t = messageOctets 5 (h .xid) (leaseOptions h t)
+
+unfoldable pub releaseAckOf : Head → List ℕ
+releaseAckOf h = messageOctets 5 (h .xid) (releaseOptions h)
+
+unfoldable pub infoAckOf : Head → Info → List ℕ
+infoAckOf h i = messageOctets 5 (h .xid) (infoOptions h i)
+
+unfoldable pub nakOf : Head → ℕ → List ℕ
+nakOf h error = messageOctets 6 (h .xid) (nakOptions h error)

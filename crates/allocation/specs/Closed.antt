@@ -26,6 +26,7 @@ pub record Small (l : Load) : Type 0 where
   pub others : l .others ≤ 2040
   pub reserve : l .reserve ≤ 255
   pub limit : l .limit ≤ 255
+  pub size : l .size ≤ 255
 
 and-no-left : {a : Bool} (b : Bool) → a ≡ false → (a && b) ≡ false
 and-no-left b e = ap (λ (t : Bool). t && b) e

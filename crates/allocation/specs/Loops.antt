@@ -144,7 +144,7 @@ numbers-is c n b a d o f v u w z ed eo ef ev eu ew hn ez =
     let q = length-offsets o in
     record {
       whole = cc (ev .0, eu .0, ew .0, ez .0);
-      small = record { held = omega arith; free = omega arith; others = omega arith; reserve = ev .1; limit = eu .1 };
+      small = record { held = omega arith; free = omega arith; others = omega arith; reserve = ev .1; limit = eu .1; size = ez .1 };
     }
 
 pub allowed-is : (c : Scope) (n : ℕ) (t : List (List Lease)) (a : Ask) (k : ℕ) → a .tenant < n → allowed c n t a k ≡ allowedOf (numbersOf c n t a) k

@@ -48,7 +48,7 @@ differenceOf m n = setOf (filterBy (λ a. not (isIn a (offsets n))) (offsets m))
 abbrev pub lowestOf : ℕ → ℕ → ℕ
 lowestOf m n = setOf (take n (offsets m))
 
--- the k lowest of own, and then of free
+-- k offsets: the lowest of own and, where these are fewer, then the lowest of free
 abbrev pub chosen : ℕ → ℕ → ℕ → List ℕ
 chosen k own free = take k (offsets own ++ offsets free)
 

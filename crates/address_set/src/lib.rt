@@ -91,7 +91,7 @@ pub fn lowest(set: u64, n: u64) -> u64
     out
 }
 
-// The k lowest offsets of own, and then of free.
+// k offsets: the lowest of own and, where these are fewer, then the lowest of free.
 pub fn choose(own: u64, free: u64, k: u64) -> u64
     ensures { λ r. ⌜ r ≡ setOf (chosen k own free) ⌝ }
 {

@@ -72,6 +72,16 @@ module _ (y r : Bool) where
     pub or-not-eq : (a ≡ b → ⊥) → r ≡ y → r ≡ (eqb a b || y)
     or-not-eq h p = or-false _ (ne-eqb a b h) p
 
+  -- a number that a call gave
+  module _ {q : ℕ} (a b : ℕ) (e : q ≡ a) where
+    pub and-eq-got : q ≡ b → r ≡ y → r ≡ (eqb a b && y)
+    and-eq-got h p = and-true _ (eq-eqb a b (sym e ∙ h)) p
+
+    pub and-not-eq-got : (q ≡ b → ⊥) → r ≡ false → r ≡ (eqb a b && y)
+    and-not-eq-got h p = and-false _ (ne-eqb a b (λ z. h (e ∙ z))) p
+
+pub ruleset and-gots = (and-eq-got, and-not-eq-got)
+
 pub ruleset ands = (and-lt, and-not-lt, and-le, and-not-le, and-eq, and-not-eq)
 
 pub ruleset ors = (or-lt, or-not-lt, or-le, or-not-le, or-eq, or-not-eq)

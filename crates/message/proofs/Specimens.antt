@@ -1,4 +1,4 @@
--- Datagrams and what the reader makes of each, computed from the definitions: one table, one theorem.
+-- Datagrams, the discard and the offset that each gets, and where options 1 and 3 stand, computed from the definitions: one table, one theorem.
 use mathlib.Core.Path.{_≡_, refl}
 use mathlib.Core.List.{List, [], _∷_, _++_}
 use mathlib.Core.Bool.{Bool, true, false}
@@ -8,9 +8,10 @@ use lib.Dec.{eqb}
 use Rattle.lists.specs.Pick.{pick}
 use Rattle.lists.specs.All.{allBy}
 use Rattle.octets.specs.Octets.{at16, at32}
-use Rattle.message.specs.Codes.{isOneOf, lengthOk}
+use Rattle.lists.specs.Filter.{isIn}
+use Rattle.message.specs.Codes.{lengthOk}
 use Rattle.message.specs.Walk.{layoutOk, exactlyFilled, valueOk, taken, stepOf, walkFrom, walkOf}
-use Rattle.message.specs.Read.{headerOk, requiredEmpty, supported, ended, readOf}
+use Rattle.message.specs.Read.{headerOk, requiredEmpty, noneRequired, ended, readOf}
 
 -- a datagram, the number of its discard (0: it is a message), the offset that discard 5 reports, and where options 1 and 3 stand
 record Case : Type 0 where
@@ -52,9 +53,13 @@ end = 0 ∷ 0 ∷ 0 ∷ 0 ∷ []
 unknown : ℕ → List ℕ
 unknown n = 1 ∷ 1 ∷ 0 ∷ n ∷ replicate n 9
 
--- option 12 with these codes required, beside one supported and none requested
-features : List ℕ → List ℕ
-features required = 0 ∷ 12 ∷ 0 ∷ 8 ∷ 0 ∷ 1 ∷ 0 ∷ 1 ∷ 0 ∷ 0 ∷ 0 ∷ 0 ∷ required
+-- option 12 with one code supported, none requested and none required
+features : List ℕ
+features = 0 ∷ 12 ∷ 0 ∷ 8 ∷ 0 ∷ 1 ∷ 0 ∷ 1 ∷ 0 ∷ 0 ∷ 0 ∷ 0 ∷ []
+
+-- the option with a code and n octets of value
+any : ℕ → ℕ → List ℕ
+any code n = 0 ∷ code ∷ 0 ∷ n ∷ replicate n 7
 
 table : List Case
 table =
@@ -83,14 +88,30 @@ table =
     ∷ bad (header ++ time ++ 0 ∷ 3 ∷ 0 ∷ 1 ∷ 7 ∷ end) 5 16
     ∷ bad (header ++ id ++ 0 ∷ 5 ∷ 0 ∷ 3 ∷ 0 ∷ 9 ∷ 0 ∷ end) 5 14
     ∷ bad (header ++ time ++ end) 5 20
+    -- the longest identifier, and one octet more; 18 octets of option 2, and 7; one range, and one octet more; no codes asked for
+    ∷ good (header ++ any 3 32 ++ end) 0 8
+    ∷ bad (header ++ any 3 33 ++ end) 5 8
+    ∷ good (header ++ id ++ any 2 18 ++ any 10 6 ++ end) 0 8
+    ∷ bad (header ++ id ++ any 2 7 ++ end) 5 14
+    ∷ bad (header ++ id ++ any 10 7 ++ end) 5 14
+    ∷ bad (header ++ id ++ any 5 0 ++ end) 5 14
+    -- code 16 twice, 17 twice; End with a value; one and three octets left over; an early End with octets left over
+    ∷ bad (header ++ id ++ any 16 2 ++ any 16 2 ++ end) 5 20
+    ∷ good (header ++ any 17 3 ++ any 17 3 ++ id ++ end) 0 22
+    ∷ bad (header ++ id ++ 0 ∷ 0 ∷ 0 ∷ 1 ∷ 0 ∷ []) 5 14
+    ∷ bad (header ++ id ++ 0 ∷ []) 5 14
+    ∷ bad (header ++ id ++ end ++ 0 ∷ 0 ∷ 0 ∷ []) 5 14
+    -- a wrong length before a missing identifier: the first counts; 1,472 octets
+    ∷ bad (header ++ any 1 3 ++ end) 5 8
+    ∷ good (header ++ id ++ 1 ∷ 1 ∷ 5 ∷ 166 ∷ replicate 1446 9 ++ end) 0 8
     -- option 12 with a list that runs past its value, and with an octet pair left over
     ∷ bad (header ++ id ++ 0 ∷ 12 ∷ 0 ∷ 6 ∷ 0 ∷ 0 ∷ 0 ∷ 1 ∷ 0 ∷ 0 ∷ end) 5 14
     ∷ bad (header ++ id ++ 0 ∷ 12 ∷ 0 ∷ 8 ∷ 0 ∷ 0 ∷ 0 ∷ 0 ∷ 0 ∷ 0 ∷ 0 ∷ 0 ∷ end) 5 14
     -- test 6: a required feature; and none
     ∷ bad (header ++ id ++ 0 ∷ 12 ∷ 0 ∷ 8 ∷ 0 ∷ 0 ∷ 0 ∷ 0 ∷ 0 ∷ 1 ∷ 0 ∷ 7 ∷ end) 6 0
-    ∷ good (header ++ id ++ features [] ++ end) 0 8
+    ∷ good (header ++ id ++ features ++ end) 0 8
     ∷ []
 
 specimens : allBy holds table ≡ true
-unfolding at16 at32 pick allBy both holds bad good header id time end unknown features table isOneOf lengthOk layoutOk exactlyFilled valueOk taken stepOf walkFrom walkOf headerOk requiredEmpty supported ended readOf
+unfolding at16 at32 pick allBy both holds bad good header id time end unknown features any table isIn lengthOk layoutOk exactlyFilled valueOk taken stepOf walkFrom walkOf headerOk requiredEmpty noneRequired ended readOf
 specimens = refl

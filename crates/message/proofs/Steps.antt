@@ -1,19 +1,20 @@
 -- Between the code and the definitions: lists of numbers, the lists of option 12, and the turns of the walk.
 use mathlib.Core.Path.{_≡_, refl, sym, ap, ap₂, _∙_, subst}
 use mathlib.Core.List.{List, [], _∷_, _++_}
-use mathlib.Core.Bool.{Bool, true, false}
+use mathlib.Core.Bool.{Bool, true, false, _&&_, _||_}
 use Prim.Native.Nat.{ℕ, zero, suc, _+_, _-_, _*_, _/_, _≤_, _<_}
 use native.Mathlib.Omega.{arith}
 use native.Mathlib.Numerals.{add-one}
-use borrow.Author.Tests.{leb-true, eqb-true, eqb-false, eq-eqb, ne-eqb, ltb-true, ltb-false, not-true, not-false}
+use borrow.Author.Tests.{lt-ltb, le-ltb, leb-true, eqb-true, eqb-false, eq-eqb, ne-eqb, ltb-true, ltb-false, not-true, not-false}
 use lib.ListN.{length, getD, take, drop, replicate, drop-of-length-le, List·getD-eq-default}
 use lib.Seq.{drop-cons}
 use lib.Dec.{ltb, leb, eqb}
 use Rattle.lists.specs.Pick.{pick, pick-not-eq, pick-false}
 use borrow.Author.Needs.{needs}
 use Rattle.octets.specs.Octets.{at16, at32}
-use Rattle.message.specs.Codes.{isOneOf, lengthOk, allowedIn, allows}
-use Rattle.message.specs.Values.{countsAt, codesFrom, foundAt, findOf, isFound, padded, identifierAt}
+use Rattle.lists.specs.Filter.{isIn}
+use Rattle.message.specs.Codes.{lengthOk, allowedIn, allows}
+use Rattle.message.specs.Values.{wishAt, wishOf, timesOf, fieldsOf, countsAt, countsOf, serverOk, namesOf, allAllowed, identifierOf, codesFrom, foundAt, findOf, isFound, padded, identifierAt}
 use Rattle.message.specs.Read.{headerOk, discarded, messageOf, requiredEmpty, ended, byStage, walked}
 use Rattle.lists.specs.Copy.{CopyInv, copy-end}
 use Rattle.message.specs.Walk.{codeAt, lengthAt, afterAt, layoutOk, valueOk, pastList, exactlyFilled, taken, stepOf, onward, walkFrom, walkOf, start}
@@ -25,33 +26,37 @@ use Rattle.message.specs.declared.Found.{Found}
 use Rattle.message.specs.declared.Found.the-variants.{At, Absent}
 use Rattle.message.specs.declared.Counts.{Counts}
 use Rattle.message.specs.declared.Identifier.{Identifier}
+use Rattle.message.specs.declared.Fields.{Fields}
+use Rattle.message.specs.declared.Message.{Message}
 use Rattle.message.specs.declared.Reading.{Reading}
+use Rattle.message.specs.declared.Times.{Times}
+use Rattle.message.specs.declared.Wish.{Wish}
 
 -- ---- is a number in a list: what the loop keeps
 
 pub record OneOfInv (n : ℕ) (l : List ℕ) (i : ℕ) : Type 0 where
   pub within : i ≤ length l
-  pub rest : isOneOf n (drop i l) ≡ isOneOf n l
+  pub rest : isIn n (drop i l) ≡ isIn n l
 
 pub one-start : {n : ℕ} {l : List ℕ} → OneOfInv n l 0
 one-start = record { within = omega arith; rest = refl }
 
 module _ {n : ℕ} {l : List ℕ} {i : ℕ} (v : OneOfInv n l i) where
-  here : i < length l → pick (eqb n (getD l i 0)) true (isOneOf n (drop (i + 1) l)) ≡ isOneOf n l
-  unfolding isOneOf
-  here h = ap (λ (k : ℕ). pick (eqb n (getD l i 0)) true (isOneOf n (drop k l))) (add-one i) ∙ sym (ap (isOneOf n) (drop-cons l i 0 h)) ∙ v .rest
+  here : i < length l → pick (eqb n (getD l i 0)) true (isIn n (drop (i + 1) l)) ≡ isIn n l
+  unfolding isIn
+  here h = ap (λ (k : ℕ). pick (eqb n (getD l i 0)) true (isIn n (drop k l))) (add-one i) ∙ sym (ap (isIn n) (drop-cons l i 0 h)) ∙ v .rest
 
-  pub one-found : i < length l → n ≡ getD l i 0 → true ≡ isOneOf n l
+  pub one-found : i < length l → n ≡ getD l i 0 → true ≡ isIn n l
   unfolding pick
-  one-found h e = ap (λ (b : Bool). pick b true (isOneOf n (drop (i + 1) l))) (sym (eq-eqb n (getD l i 0) e)) ∙ here h
+  one-found h e = ap (λ (b : Bool). pick b true (isIn n (drop (i + 1) l))) (sym (eq-eqb n (getD l i 0) e)) ∙ here h
 
   pub one-next : i < length l → (n ≡ getD l i 0 → ⊥) → OneOfInv n l (i + 1)
   unfolding pick
-  one-next h e = record { within = omega arith; rest = ap (λ (b : Bool). pick b true (isOneOf n (drop (i + 1) l))) (sym (ne-eqb n (getD l i 0) e)) ∙ here h }
+  one-next h e = record { within = omega arith; rest = ap (λ (b : Bool). pick b true (isIn n (drop (i + 1) l))) (sym (ne-eqb n (getD l i 0) e)) ∙ here h }
 
-  pub one-end : length l ≤ i → false ≡ isOneOf n l
-  unfolding isOneOf
-  one-end h = sym (ap (isOneOf n) (drop-of-length-le l {i = i} h)) ∙ v .rest
+  pub one-end : length l ≤ i → false ≡ isIn n l
+  unfolding isIn
+  one-end h = sym (ap (isIn n) (drop-of-length-le l {i = i} h)) ∙ v .rest
 
 pub ruleset ones = (one-start, one-found, one-next, one-end)
 
@@ -88,10 +93,10 @@ module _ {s : List ℕ} {at code k p i : ℕ} (v : CodesInv s at code k p i) whe
   short : i < k → i < length (codesFrom s (at + 4) k)
   short h = subst (λ (n : ℕ). i < n) (sym (codes-length s (at + 4) k)) h
 
-  whole-list : isOneOf code (codesFrom s (at + 4) k) ≡ isOneOf code (codesFrom s (at + 4) (lengthAt s at / 2))
-  whole-list = ap (λ (n : ℕ). isOneOf code (codesFrom s (at + 4) n)) (v .count)
+  whole-list : isIn code (codesFrom s (at + 4) k) ≡ isIn code (codesFrom s (at + 4) (lengthAt s at / 2))
+  whole-list = ap (λ (n : ℕ). isIn code (codesFrom s (at + 4) n)) (v .count)
 
-  pub codes-found : {x : ℕ} → i < k → x ≡ at16 s p → code ≡ x → true ≡ isOneOf code (codesFrom s (at + 4) (lengthAt s at / 2))
+  pub codes-found : {x : ℕ} → i < k → x ≡ at16 s p → code ≡ x → true ≡ isIn code (codesFrom s (at + 4) (lengthAt s at / 2))
   codes-found h q e = one-found (v .looked) (short h) (e ∙ q ∙ here-code h) ∙ whole-list
 
   pub codes-next : {x : ℕ} → i < k → x ≡ at16 s p → (code ≡ x → ⊥) → CodesInv s at code k (p + 2) (i + 1)
@@ -102,7 +107,7 @@ module _ {s : List ℕ} {at code k p i : ℕ} (v : CodesInv s at code k p i) whe
     looked = one-next (v .looked) (short h) (λ z. e (z ∙ sym (q ∙ here-code h)));
   }
 
-  pub codes-end : k ≤ i → false ≡ isOneOf code (codesFrom s (at + 4) (lengthAt s at / 2))
+  pub codes-end : k ≤ i → false ≡ isIn code (codesFrom s (at + 4) (lengthAt s at / 2))
   codes-end h = one-end (v .looked) (subst (λ (n : ℕ). n ≤ i) (sym (codes-length s (at + 4) k)) h) ∙ whole-list
 
 pub ruleset listed = (codes-start, codes-inside, codes-found, codes-next, codes-end)
@@ -223,22 +228,22 @@ rank-falls s w e l = subst (λ (t : Stage). rank (stepOf s w .stage) (length s -
 
 -- ---- the message types' options
 
-pub first-of : (n x : ℕ) (l : List ℕ) (r : Bool) → r ≡ true → n ≡ x → r ≡ isOneOf n (x ∷ l)
-unfolding isOneOf pick
-first-of n x l r p e = p ∙ ap (λ (b : Bool). pick b true (isOneOf n l)) (sym (eq-eqb n x e))
+pub first-of : (n x : ℕ) (l : List ℕ) (r : Bool) → r ≡ true → n ≡ x → r ≡ isIn n (x ∷ l)
+unfolding isIn pick
+first-of n x l r p e = p ∙ ap (λ (b : Bool). pick b true (isIn n l)) (sym (eq-eqb n x e))
 
-pub later-of : (n x : ℕ) (l : List ℕ) (r : Bool) → (n ≡ x → ⊥) → r ≡ isOneOf n l → r ≡ isOneOf n (x ∷ l)
-unfolding isOneOf pick
-later-of n x l r e p = p ∙ ap (λ (b : Bool). pick b true (isOneOf n l)) (sym (ne-eqb n x e))
+pub later-of : (n x : ℕ) (l : List ℕ) (r : Bool) → (n ≡ x → ⊥) → r ≡ isIn n l → r ≡ isIn n (x ∷ l)
+unfolding isIn pick
+later-of n x l r e p = p ∙ ap (λ (b : Bool). pick b true (isIn n l)) (sym (ne-eqb n x e))
 
 -- ---- the table of lengths
 
-not-in : (n x : ℕ) (l : List ℕ) → (n ≡ x → ⊥) → isOneOf n l ≡ false → isOneOf n (x ∷ l) ≡ false
-unfolding isOneOf pick
-not-in n x l h p = ap (λ (b : Bool). pick b true (isOneOf n l)) (ne-eqb n x h) ∙ p
+not-in : (n x : ℕ) (l : List ℕ) → (n ≡ x → ⊥) → isIn n l ≡ false → isIn n (x ∷ l) ≡ false
+unfolding isIn pick
+not-in n x l h p = ap (λ (b : Bool). pick b true (isIn n l)) (ne-eqb n x h) ∙ p
 
-none-in : (n : ℕ) → isOneOf n [] ≡ false
-unfolding isOneOf
+none-in : (n : ℕ) → isIn n [] ≡ false
+unfolding isIn
 none-in n = refl
 
 -- above k, if from k on and not k
@@ -253,30 +258,63 @@ length-above code n h = search (pick-not-eq, pick-false, not-in, none-in, other,
     other : (c : ℕ) → c ≤ 16 → code ≡ c → ⊥
     other c g e = omega arith
 
-module _ (number kind : ℕ) (r : Bool) (not3 : number ≡ 3 → ⊥) (not12 : number ≡ 12 → ⊥) where
-  besides : (l : List ℕ) → allowedIn kind ≡ l → r ≡ isOneOf number l → r ≡ allows kind number
-  unfolding isOneOf pick
-  besides l e p = rw (ne-eqb number 3 not3, ne-eqb number 12 not12, e) p
+module _ (number kind : ℕ) (r : Bool) where
+  listed-as : (l : List ℕ) → allowedIn kind ≡ l → r ≡ isIn number l → r ≡ isIn number (allowedIn kind)
+  listed-as l e p = p ∙ ap (isIn number) (sym e)
 
-  pub allows-getinfo : kind ≡ 8 → r ≡ isOneOf number (5 ∷ 8 ∷ []) → r ≡ allows kind number
+  pub allowed-getinfo : kind ≡ 8 → r ≡ isIn number (5 ∷ 8 ∷ []) → r ≡ isIn number (allowedIn kind)
   unfolding allowedIn pick
-  allows-getinfo e = besides _ (rw e)
+  allowed-getinfo e = listed-as _ (rw e)
 
-  pub allows-discover : kind ≡ 1 → r ≡ isOneOf number (1 ∷ 4 ∷ 6 ∷ 7 ∷ 10 ∷ 11 ∷ 14 ∷ 15 ∷ []) → r ≡ allows kind number
+  pub allowed-discover : kind ≡ 1 → r ≡ isIn number (1 ∷ 4 ∷ 6 ∷ 7 ∷ 10 ∷ 11 ∷ 14 ∷ 15 ∷ []) → r ≡ isIn number (allowedIn kind)
   unfolding allowedIn pick
-  allows-discover e = besides _ (rw e)
+  allowed-discover e = listed-as _ (rw e)
 
-  pub allows-request : kind ≡ 3 → r ≡ isOneOf number (2 ∷ 1 ∷ 4 ∷ 6 ∷ 7 ∷ 10 ∷ 11 ∷ 14 ∷ 15 ∷ []) → r ≡ allows kind number
+  pub allowed-request : kind ≡ 3 → r ≡ isIn number (2 ∷ 1 ∷ 4 ∷ 6 ∷ 7 ∷ 10 ∷ 11 ∷ 14 ∷ 15 ∷ []) → r ≡ isIn number (allowedIn kind)
   unfolding allowedIn pick
-  allows-request e = besides _ (rw e)
+  allowed-request e = listed-as _ (rw e)
 
-  pub allows-renew : kind ≡ 4 → r ≡ isOneOf number (1 ∷ 6 ∷ 11 ∷ 14 ∷ 15 ∷ []) → r ≡ allows kind number
+  pub allowed-renew : kind ≡ 4 → r ≡ isIn number (1 ∷ 6 ∷ 11 ∷ 14 ∷ 15 ∷ []) → r ≡ isIn number (allowedIn kind)
   unfolding allowedIn pick
-  allows-renew e = besides _ (rw e)
+  allowed-renew e = listed-as _ (rw e)
 
-  pub allows-none : (kind ≡ 8 → ⊥) → (kind ≡ 1 → ⊥) → (kind ≡ 3 → ⊥) → (kind ≡ 4 → ⊥) → r ≡ false → r ≡ allows kind number
-  unfolding allowedIn isOneOf pick
-  allows-none a b c d = besides [] (rw (ne-eqb kind 8 a, ne-eqb kind 1 b, ne-eqb kind 3 c, ne-eqb kind 4 d))
+  pub allowed-none : (kind ≡ 8 → ⊥) → (kind ≡ 1 → ⊥) → (kind ≡ 3 → ⊥) → (kind ≡ 4 → ⊥) → r ≡ false → r ≡ isIn number (allowedIn kind)
+  unfolding allowedIn isIn pick
+  allowed-none a b c d = listed-as [] (rw (ne-eqb kind 8 a, ne-eqb kind 1 b, ne-eqb kind 3 c, ne-eqb kind 4 d))
+
+pub ruleset allowances = (allowed-getinfo, allowed-discover, allowed-request, allowed-renew, allowed-none)
+
+-- a number in the first of two lists, or else in the second
+in-first : (n : ℕ) (xs ys : List ℕ) → isIn n xs ≡ true → isIn n (xs ++ ys) ≡ true
+unfolding isIn pick
+in-first n [] ys h = let z : _≡_ {A = ℕ} 0 1 = cc in absurd (omega arith)
+in-first n (x ∷ xs) ys h = go (eqb n x) h (in-first n xs ys)
+  where
+    go : (b : Bool) → pick b true (isIn n xs) ≡ true → (isIn n xs ≡ true → isIn n (xs ++ ys) ≡ true) → pick b true (isIn n (xs ++ ys)) ≡ true
+    go true h ih = refl
+    go false h ih = ih h
+
+in-second : (n : ℕ) (xs ys : List ℕ) → isIn n xs ≡ false → isIn n (xs ++ ys) ≡ isIn n ys
+unfolding isIn pick
+in-second n [] ys h = refl
+in-second n (x ∷ xs) ys h = go (eqb n x) h (in-second n xs ys)
+  where
+    go : (b : Bool) → pick b true (isIn n xs) ≡ false → (isIn n xs ≡ false → isIn n (xs ++ ys) ≡ isIn n ys) → pick b true (isIn n (xs ++ ys)) ≡ isIn n ys
+    go true h ih = let z : _≡_ {A = ℕ} 0 1 = cc in absurd (omega arith)
+    go false h ih = ih h
+
+module _ (number kind : ℕ) where
+  pub allows-above : 16 < number → true ≡ allows kind number
+  unfolding allows
+  allows-above h = sym (ap (λ (b : Bool). b || isIn number (0 ∷ 3 ∷ 12 ∷ allowedIn kind)) (lt-ltb 16 number h))
+
+  pub allows-always : {b : Bool} → number ≤ 16 → b ≡ isIn number (0 ∷ 3 ∷ 12 ∷ []) → b ≡ true → true ≡ allows kind number
+  unfolding allows
+  allows-always h e t = sym (ap (λ (b : Bool). b || isIn number (0 ∷ 3 ∷ 12 ∷ allowedIn kind)) (le-ltb 16 number h) ∙ in-first number (0 ∷ 3 ∷ 12 ∷ []) (allowedIn kind) (sym e ∙ t))
+
+  pub allows-besides : {b r : Bool} → number ≤ 16 → b ≡ isIn number (0 ∷ 3 ∷ 12 ∷ []) → b ≡ false → r ≡ isIn number (allowedIn kind) → r ≡ allows kind number
+  unfolding allows
+  allows-besides h e t p = p ∙ sym (ap (λ (b : Bool). b || isIn number (0 ∷ 3 ∷ 12 ∷ allowedIn kind)) (le-ltb 16 number h) ∙ in-second number (0 ∷ 3 ∷ 12 ∷ []) (allowedIn kind) (sym e ∙ t))
 
 -- ---- where options stand
 
@@ -289,26 +327,34 @@ found-no f places code p q = ap isFound (sym q ∙ p)
 
 -- no option above 16 is recorded
 pub find-above : (places : List ℕ) (code : ℕ) → length places ≡ 17 → 17 ≤ code → Absent ≡ findOf places code
-find-above places code e h = ap (λ (x : ℕ). foundAt (eqb x 0) x) (sym (List·getD-eq-default places 0 {n = code} (omega arith)))
+unfolding foundAt pick
+find-above places code e h = sym none ∙ ap foundAt (sym (List·getD-eq-default places 0 {n = code} (omega arith)))
+  where
+    none : foundAt 0 ≡ Absent
+    none = refl
 
-found-b : (b : Bool) (p at : ℕ) → eqb p 0 ≡ b → At at ≡ foundAt b p → (at ≡ p) × (at ≡ 0 → ⊥)
-found-b true p at q e = let z : _≡_ {A = ℕ} 0 1 = cc in absurd (omega arith)
-found-b false p at q e = let r : at ≡ p = cc in (r, λ z. eqb-false p 0 q (sym r ∙ z))
+found-b : (p at : ℕ) → At at ≡ foundAt p → (at ≡ p) × (at ≡ 0 → ⊥)
+unfolding foundAt pick
+found-b p at e = go (eqb p 0) refl e
+  where
+    go : (b : Bool) → eqb p 0 ≡ b → At at ≡ pick b Absent (At p) → (at ≡ p) × (at ≡ 0 → ⊥)
+    go true q e = let z : _≡_ {A = ℕ} 0 1 = cc in absurd (omega arith)
+    go false q e = let r : at ≡ p = cc in (r, λ z. eqb-false p 0 q (sym r ∙ z))
 
 -- the option that was found stands there
 pub found-placed : (s places : List ℕ) (code at : ℕ) (f : Found) → GoodPlaces s places → f ≡ findOf places code → f ≡ At at → Placed s code at
 found-placed s places code at f g p q =
-    let e = found-b (eqb (getD places code 0) 0) (getD places code 0) at refl (sym q ∙ p) in
+    let e = found-b (getD places code 0) at (sym q ∙ p) in
     subst (λ (x : ℕ). Placed s code x) (sym (e .0)) (placed s places code g (λ z. e .1 (e .0 ∙ z)))
 
 pub found-fits : (s places : List ℕ) (code at : ℕ) (f : Found) → GoodPlaces s places → f ≡ findOf places code → f ≡ At at → afterAt s at ≤ length s
 found-fits s places code at f g p q = found-placed s places code at f g p q .fits
 
 value-length : (s : List ℕ) (at : ℕ) → valueOk s at ≡ true → lengthOk (codeAt s at) (lengthAt s at) ≡ true
-unfolding valueOk pick
+unfolding valueOk
 value-length s at e = go (lengthOk (codeAt s at) (lengthAt s at)) refl e
   where
-    go : (b : Bool) → lengthOk (codeAt s at) (lengthAt s at) ≡ b → pick b (pick (eqb (codeAt s at) 12) (exactlyFilled s (at + 4) (afterAt s at)) true) false ≡ true → lengthOk (codeAt s at) (lengthAt s at) ≡ true
+    go : (b : Bool) → lengthOk (codeAt s at) (lengthAt s at) ≡ b → (b && pick (eqb (codeAt s at) 12) (exactlyFilled s (at + 4) (afterAt s at)) true) ≡ true → lengthOk (codeAt s at) (lengthAt s at) ≡ true
     go true q e = q
     go false q e = let z : _≡_ {A = ℕ} 0 1 = cc in absurd (omega arith)
 
@@ -316,7 +362,7 @@ value-filled : (s : List ℕ) (at : ℕ) → codeAt s at ≡ 12 → valueOk s at
 unfolding valueOk pick
 value-filled s at c e = go (lengthOk (codeAt s at) (lengthAt s at)) (rw (eq-eqb _ 12 c) at e)
   where
-    go : (b : Bool) → pick b (exactlyFilled s (at + 4) (afterAt s at)) false ≡ true → exactlyFilled s (at + 4) (afterAt s at) ≡ true
+    go : (b : Bool) → (b && exactlyFilled s (at + 4) (afterAt s at)) ≡ true → exactlyFilled s (at + 4) (afterAt s at) ≡ true
     go true e = e
     go false e = let z : _≡_ {A = ℕ} 0 1 = cc in absurd (omega arith)
 
@@ -324,27 +370,47 @@ value-filled s at c e = go (lengthOk (codeAt s at) (lengthAt s at)) (rw (eq-eqb 
 pub placed-length : {s : List ℕ} {code at : ℕ} → Placed s code at → lengthOk code (lengthAt s at) ≡ true
 placed-length {s} {code} {at} p = sym (ap (λ (c : ℕ). lengthOk c (lengthAt s at)) (p .named)) ∙ value-length s at (p .right)
 
--- a table entry of four octets
-four : (code n : ℕ) → fourOctets code ≡ true → lengthOk code n ≡ true → n ≡ 4
-unfolding isOneOf lengthOk pick
-four code n f e = go (eqb code 1) refl (eqb code 4) refl (eqb code 6) refl (eqb code 7) refl (eqb code 11) refl (eqb code 13) refl (eqb code 14) refl (eqb code 15) refl
-  where
-    at-code : (c : ℕ) → code ≡ c → lengthOk c n ≡ true
-    at-code c q = ap (λ (x : ℕ). lengthOk x n) (sym q) ∙ e
+-- what holds of every listed number holds of one that is in the list
+AllOf : (ℕ → Type 0) → List ℕ → Type 0
+AllOf P [] = Unit {0}
+AllOf P (x ∷ l) = P x × AllOf P l
 
-    go : (a : Bool) → eqb code 1 ≡ a → (b : Bool) → eqb code 4 ≡ b → (c : Bool) → eqb code 6 ≡ c → (d : Bool) → eqb code 7 ≡ d → (g : Bool) → eqb code 11 ≡ g
-        → (h : Bool) → eqb code 13 ≡ h → (i : Bool) → eqb code 14 ≡ i → (j : Bool) → eqb code 15 ≡ j → n ≡ 4
-    go true qa b qb c qc d qd g qg h qh i qi j qj = eqb-true n 4 (at-code 1 (eqb-true _ _ qa))
-    go false qa true qb c qc d qd g qg h qh i qi j qj = eqb-true n 4 (at-code 4 (eqb-true _ _ qb))
-    go false qa false qb true qc d qd g qg h qh i qi j qj = eqb-true n 4 (at-code 6 (eqb-true _ _ qc))
-    go false qa false qb false qc true qd g qg h qh i qi j qj = eqb-true n 4 (at-code 7 (eqb-true _ _ qd))
-    go false qa false qb false qc false qd true qg h qh i qi j qj = eqb-true n 4 (at-code 11 (eqb-true _ _ qg))
-    go false qa false qb false qc false qd false qg true qh i qi j qj = eqb-true n 4 (at-code 13 (eqb-true _ _ qh))
-    go false qa false qb false qc false qd false qg false qh true qi j qj = eqb-true n 4 (at-code 14 (eqb-true _ _ qi))
-    go false qa false qb false qc false qd false qg false qh false qi true qj = eqb-true n 4 (at-code 15 (eqb-true _ _ qj))
-    go false qa false qb false qc false qd false qg false qh false qi false qj =
-        let z : _≡_ {A = Bool} false true = sym (rw (qa, qb, qc, qd, qg, qh, qi, qj) refl) ∙ f in
-        let y : _≡_ {A = ℕ} 0 1 = cc in absurd (omega arith)
+in-all : (P : ℕ → Type 0) (n : ℕ) (l : List ℕ) → isIn n l ≡ true → AllOf P l → P n
+unfolding isIn pick AllOf
+in-all P n [] h a = let z : _≡_ {A = ℕ} 0 1 = cc in absurd (omega arith)
+in-all P n (x ∷ l) h a = go (eqb n x) refl h (λ g. in-all P n l g (a .1))
+  where
+    go : (b : Bool) → eqb n x ≡ b → pick b true (isIn n l) ≡ true → (isIn n l ≡ true → P n) → P n
+    go true q h ih = subst P (sym (eqb-true n x q)) (a .0)
+    go false q h ih = ih h
+
+-- the table's entries of four octets
+four : (code n : ℕ) → fourOctets code ≡ true → lengthOk code n ≡ true → n ≡ 4
+unfolding isIn lengthOk pick AllOf
+four code n f = in-all (λ c. lengthOk c n ≡ true → n ≡ 4) code (1 ∷ 4 ∷ 6 ∷ 11 ∷ 13 ∷ 14 ∷ 15 ∷ []) f (is, (is, (is, (is, (is, (is, (is, tt)))))))
+  where
+    is : eqb n 4 ≡ true → n ≡ 4
+    is e = eqb-true n 4 e
+
+pub four-scope : fourOctets 4 ≡ true
+unfolding isIn pick
+four-scope = refl
+
+-- the five times
+pub four-time : (code : ℕ) → isIn code (1 ∷ 6 ∷ 11 ∷ 14 ∷ 15 ∷ []) ≡ true → fourOctets code ≡ true
+unfolding isIn pick AllOf
+four-time code h = in-all (λ c. fourOctets c ≡ true) code (1 ∷ 6 ∷ 11 ∷ 14 ∷ 15 ∷ []) h (refl, (refl, (refl, (refl, (refl, tt)))))
+
+seven : (n : ℕ) → lengthOk 7 n ≡ true → n ≡ 4
+unfolding isIn lengthOk pick
+seven n e = eqb-true n 4 e
+
+pub counts-fit : (s places : List ℕ) (at : ℕ) (f : Found) → GoodPlaces s places → f ≡ findOf places 7 → f ≡ At at → at + 8 ≤ length s
+counts-fit s places at f g p q =
+    let w = found-placed s places 7 at f g p q in
+    let n = seven (lengthAt s at) (placed-length w) in
+    let h = w .fits in
+    omega arith
 
 pub four-fits : (s places : List ℕ) (code at : ℕ) (f : Found) → fourOctets code ≡ true → GoodPlaces s places → f ≡ findOf places code → f ≡ At at → at + 8 ≤ length s
 four-fits s places code at f t g p q =
@@ -354,10 +420,10 @@ four-fits s places code at f t g p q =
     omega arith
 
 id-length : (n : ℕ) → lengthOk 3 n ≡ true → n ≤ 32
-unfolding lengthOk isOneOf pick
+unfolding lengthOk isIn pick
 id-length n e = go (leb 2 n) e
   where
-    go : (b : Bool) → pick b (leb n 32) false ≡ true → n ≤ 32
+    go : (b : Bool) → (b && leb n 32) ≡ true → n ≤ 32
     go true e = leb-true n 32 e
     go false e = let z : _≡_ {A = ℕ} 0 1 = cc in absurd (omega arith)
 
@@ -437,6 +503,14 @@ length-got x y p e q = p ∙ ap₂ lengthOk e q
 pub counts-is : (s : List ℕ) (at x y : ℕ) → x ≡ at16 s (at + 4) → y ≡ at16 s (at + 6) → _≡_ {A = Counts} (record { least = x; desired = y }) (countsAt s at)
 counts-is s at x y p q = cc
 
+pub wish-is : (s : List ℕ) (at x : ℕ) → x ≡ at32 s (at + 4) → _≡_ {A = Wish} (record { there = true; value = x }) (wishAt s at)
+wish-is s at x p = cc
+
+pub times-is : (s places : List ℕ) (a b c d e : Wish) → a ≡ wishOf s (findOf places 1) → b ≡ wishOf s (findOf places 6) → c ≡ wishOf s (findOf places 11) → d ≡ wishOf s (findOf places 14)
+    → e ≡ wishOf s (findOf places 15) → _≡_ {A = Times} (record { length = a; start = b; current = c; shortest = d; latest = e }) (timesOf s places)
+unfolding timesOf
+times-is s places a b c d e p q r t u = cc
+
 zeros-left : (n m : ℕ) → drop {A = ℕ} n (replicate m 0) ≡ replicate (m - n) 0
 zeros-left zero m = ap (λ (k : ℕ). replicate {A = ℕ} k 0) (let e : m ≡ m - 0 = omega arith in e)
 zeros-left (suc n) zero = ap (λ (k : ℕ). replicate {A = ℕ} k 0) (let e : 0 ≡ 0 - suc n = omega arith in e)
@@ -448,3 +522,11 @@ identifier-is s id at n i v h e =
     let z : 0 + n ≡ n = omega arith in
     let o : id ≡ padded n (drop (at + 4) s) = copy-end v h ∙ ap (λ (l : List ℕ). take n (drop (at + 4) s) ++ l) (ap (λ (k : ℕ). drop {A = ℕ} k (replicate 32 0)) z ∙ zeros-left n 32) in
     cc
+
+pub fields-is : (s : List ℕ) (server : ℕ) (m : Message) {id : Identifier} {allowed : Bool} {scope : Wish} {counts : Counts} {times : Times} {features ours list time : Bool}
+    → id ≡ identifierOf s (findOf (m .places) 3) → allowed ≡ allAllowed m → scope ≡ wishOf s (findOf (m .places) 4) → counts ≡ countsOf s (findOf (m .places) 7) → times ≡ timesOf s (m .places)
+    → features ≡ isFound (findOf (m .places) 12) → ours ≡ serverOk s server (findOf (m .places) 2) → list ≡ namesOf s 9 (findOf (m .places) 5) → time ≡ namesOf s 11 (findOf (m .places) 5)
+    → _≡_ {A = Fields} (record { kind = m .kind .number; xid = m .xid; id = id; allowed = allowed; scope = scope; counts = counts; times = times; features = features; ours = ours; «list_asked» = list; «time_asked» = time })
+    (fieldsOf s server m)
+unfolding fieldsOf
+fields-is s server m a b c d e f g h i = cc

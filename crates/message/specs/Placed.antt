@@ -2,7 +2,7 @@
 -- Who looks values up rests on this; `read-good` gives it for every message that was read.
 use mathlib.Core.Path.{_≡_, refl, sym, ap, _∙_, subst}
 use mathlib.Core.List.{List, [], _∷_}
-use mathlib.Core.Bool.{Bool, true, false}
+use mathlib.Core.Bool.{Bool, true, false, _&&_}
 use mathlib.Core.Logic.{_⊎_, inl, inr, ⊎-elim}
 use Prim.Native.Nat.{ℕ, zero, suc, _+_, _-_, _*_, _≤_, _<_}
 use native.Mathlib.Omega.{arith}
@@ -13,9 +13,10 @@ use lib.Seq.{getD-set-same, getD-set-other, set-out}
 use lib.Dec.{ltb, leb, eqb}
 use Rattle.lists.specs.Pick.{pick}
 use Rattle.octets.specs.Octets.{at16, at32}
-use Rattle.message.specs.Codes.{isOneOf, lengthOk}
+use Rattle.lists.specs.Filter.{isIn}
+use Rattle.message.specs.Codes.{lengthOk}
 use Rattle.message.specs.Walk.{codeAt, lengthAt, afterAt, layoutOk, pastList, exactlyFilled, valueOk, broken, done, moved, taken, stepOf, onward, walkFrom, walkOf, start}
-use Rattle.message.specs.Read.{headerOk, discarded, messageOf, supported, ended, byStage, walked, readOf}
+use Rattle.message.specs.Read.{headerOk, discarded, messageOf, noneRequired, ended, byStage, walked, readOf}
 use Rattle.message.specs.declared.Message.{Message}
 use Rattle.message.specs.declared.Reading.{Reading}
 use Rattle.message.specs.declared.Walk.{Walk}
@@ -26,9 +27,9 @@ use Rattle.message.specs.declared.Stage.the-variants.{Walking, Done, Bro
 unfoldable pub pastWithin : List ℕ → ℕ → ℕ → ℕ
 pastWithin s end p = pick (ltb end (p + 2)) (end + 1) (pastList s p)
 
--- the options up to 16 whose value is one number of four octets, or Number's two of two
+-- the options whose value is one number of four octets
 abbrev pub fourOctets : ℕ → Bool
-fourOctets code = isOneOf code (1 ∷ 4 ∷ 6 ∷ 7 ∷ 11 ∷ 13 ∷ 14 ∷ 15 ∷ [])
+fourOctets code = isIn code (1 ∷ 4 ∷ 6 ∷ 11 ∷ 13 ∷ 14 ∷ 15 ∷ [])
 
 -- the option with a code stands at a place: within the datagram, with a right value
 pub record Placed (s : List ℕ) (code at : ℕ) : Type 0 where
@@ -54,10 +55,10 @@ pub record Onto (s : List ℕ) (at : ℕ) (w : Walk) : Type 0 where
   pub good : GoodPlaces s (w .places)
 
 pub layout-fits : (s : List ℕ) (at : ℕ) → layoutOk s at ≡ true → afterAt s at ≤ length s
-unfolding layoutOk pick
+unfolding layoutOk
 layout-fits s at e = go (leb (at + 4) (length s)) e
   where
-    go : (b : Bool) → pick b (leb (afterAt s at) (length s)) false ≡ true → afterAt s at ≤ length s
+    go : (b : Bool) → (b && leb (afterAt s at) (length s)) ≡ true → afterAt s at ≤ length s
     go true e = leb-true _ _ e
     go false e = let z : _≡_ {A = ℕ} 0 1 = cc in absurd (omega arith)
 
@@ -125,21 +126,21 @@ placed s places code g nz = ⊎-elim (λ z. absurd (nz z)) (λ p. p) (g code)
 -- ---- every message that was read has good places
 
 pub header-long : (s : List ℕ) → headerOk s ≡ true → 12 ≤ length s
-unfolding headerOk pick
-header-long s e = go (ltb (length s) 12) refl _ e
+unfolding headerOk
+header-long s e = go (leb 12 (length s)) refl _ e
   where
-    go : (b : Bool) → ltb (length s) 12 ≡ b → (rest : Bool) → pick b false rest ≡ true → 12 ≤ length s
-    go true q rest e = let z : _≡_ {A = ℕ} 0 1 = cc in absurd (omega arith)
-    go false q rest e = ltb-false _ _ q
+    go : (b : Bool) → leb 12 (length s) ≡ b → (rest : Bool) → (b && rest) ≡ true → 12 ≤ length s
+    go true q rest e = leb-true _ _ q
+    go false q rest e = let z : _≡_ {A = ℕ} 0 1 = cc in absurd (omega arith)
 
 pub header-short : (s : List ℕ) → headerOk s ≡ true → length s ≤ 1472
-unfolding headerOk pick
-header-short s e = go (ltb (length s) 12) (ltb 1472 (length s)) refl _ e
+unfolding headerOk
+header-short s e = go (leb 12 (length s)) (leb (length s) 1472) refl _ e
   where
-    go : (a b : Bool) → ltb 1472 (length s) ≡ b → (rest : Bool) → pick a false (pick b false rest) ≡ true → length s ≤ 1472
-    go true b q rest e = let z : _≡_ {A = ℕ} 0 1 = cc in absurd (omega arith)
-    go false true q rest e = let z : _≡_ {A = ℕ} 0 1 = cc in absurd (omega arith)
-    go false false q rest e = ltb-false _ _ q
+    go : (a b : Bool) → leb (length s) 1472 ≡ b → (rest : Bool) → (a && (b && rest)) ≡ true → length s ≤ 1472
+    go true true q rest e = leb-true _ _ q
+    go true false q rest e = let z : _≡_ {A = ℕ} 0 1 = cc in absurd (omega arith)
+    go false b q rest e = let z : _≡_ {A = ℕ} 0 1 = cc in absurd (omega arith)
 
 pub read-good : (s : List ℕ) → GoodPlaces s (readOf s .message .places)
 unfolding readOf ended
@@ -153,7 +154,7 @@ read-good s =
     at-stage Walking g = none-good s
     at-stage Done g =
         pick-cases P (eqb (getD (walkOf s .places) 3 0) 0) _ _ (λ _. none-good s) (λ _.
-        pick-cases P (supported s (walkOf s .places)) _ _ (λ _. g) (λ _. none-good s))
+        pick-cases P (noneRequired s (walkOf s .places)) _ _ (λ _. g) (λ _. none-good s))
     at-stage Broken g = none-good s
 
 -- a message is no longer than a datagram may be

@@ -1,7 +1,7 @@
 -- Test 5 (document 01, "Outcomes"): the walk over a datagram's options, one after the other, up to End or to the first that breaks a rule.
 use Prim.Native.Nat.{ℕ, zero, suc, _+_, _*_}
 use mathlib.Core.List.{List}
-use mathlib.Core.Bool.{Bool, true, false}
+use mathlib.Core.Bool.{Bool, true, false, _&&_}
 use lib.ListN.{length, getD, set, replicate}
 use lib.Dec.{ltb, leb, eqb}
 use Rattle.lists.specs.Pick.{pick}
@@ -24,22 +24,23 @@ afterAt s at = at + 4 + lengthAt s at
 
 -- the layout: the option lies within the datagram
 unfoldable pub layoutOk : List ℕ → ℕ → Bool
-layoutOk s at = pick (leb (at + 4) (length s)) (leb (afterAt s at) (length s)) false
+layoutOk s at = leb (at + 4) (length s) && leb (afterAt s at) (length s)
 
 -- past a list of option 12 that starts at p: count(2) and codes(2)
 abbrev pub pastList : List ℕ → ℕ → ℕ
 pastList s p = p + 2 + 2 * at16 s p
 
--- supported, requested and required, one after the other, end where the value ends (a list that starts past it ends past it)
+-- supported, requested and required, one after the other, end where the value ends (each ends after it starts, so one that does not lie
+-- within the value ends past it)
 unfoldable pub exactlyFilled : List ℕ → ℕ → ℕ → Bool
 exactlyFilled s p end = eqb (pastList s (pastList s (pastList s p))) end
 
 -- the value has a length that the table allows, and that of option 12 is exactly filled
 unfoldable pub valueOk : List ℕ → ℕ → Bool
-valueOk s at =
-    pick (lengthOk (codeAt s at) (lengthAt s at)) (pick (eqb (codeAt s at) 12) (exactlyFilled s (at + 4) (afterAt s at)) true) false
+valueOk s at = lengthOk (codeAt s at) (lengthAt s at) && pick (eqb (codeAt s at) 12) (exactlyFilled s (at + 4) (afterAt s at)) true
 
--- the walk stops at an option that breaks a rule; its place is the offset of W-206
+-- the walk stops at the first option that breaks a rule, of a repeat at the later, at one to three octets left over, or at the
+-- datagram's end where End is missing: this is the offset that goes with discard 5
 abbrev pub broken : Walk → Walk
 broken w = record { at = w .at; stage = Broken; places = w .places }
 

@@ -6,11 +6,12 @@ ghost use Prim.Native.Nat.{ℕ, _+_, _*_, _/_, _≤_, _<_};
 ghost use lib.ListN.{length, getD, set};
 ghost use lib.Dec.{eqb};
 ghost use Rattle.lists.specs.Pick.{pick};
+ghost use Rattle.lists.specs.Filter.{isIn};
 ghost use Rattle.octets.specs.Octets.{at16, at32};
-ghost use Rattle.message.specs.Codes.{isOneOf, clientTypes, lengthOk, allows};
+ghost use Rattle.message.specs.Codes.{clientTypes, lengthOk, allowedIn, allows};
 ghost use Rattle.message.specs.Walk.{codeAt, lengthAt, afterAt, layoutOk, exactlyFilled, valueOk, broken, done, moved, taken, stepOf, walkOf};
-ghost use Rattle.message.specs.Read.{headerOk, discarded, messageOf, requiredEmpty, supported, ended, walked, readOf};
-ghost use Rattle.message.specs.Values.{foundAt, findOf, isFound, numberOr, countsAt, countsOf, namesServer, serverOk, codesFrom, namesOf, identifierAt, identifierOf, allowedAt, allAllowed};
+ghost use Rattle.message.specs.Read.{headerOk, discarded, messageOf, requiredEmpty, noneRequired, ended, walked, readOf};
+ghost use Rattle.message.specs.Values.{foundAt, findOf, isFound, numberOr, countsAt, countsOf, namesServer, serverOk, codesFrom, namesOf, identifierAt, identifierOf, allowedAt, allAllowed, wishAt, wishOf, timesOf, fieldsOf};
 ghost use Rattle.message.specs.Placed.{pastWithin, GoodPlaces, fourOctets};
 
 // ---- types and codes
@@ -63,7 +64,7 @@ impl MessageType {
 
     // Whether a client sends messages of this type.
     pub fn is_client(self) -> bool
-        ensures { λ r. ⌜ r ≡ isOneOf (self .number) clientTypes ⌝ }
+        ensures { λ r. ⌜ r ≡ isIn (self .number) clientTypes ⌝ }
     {
         let number = wide16(self.number);
         is_one_of(
@@ -83,12 +84,26 @@ impl MessageType {
         ensures { λ r. ⌜ r ≡ allows (self .number) (code .number) ⌝ }
     {
         let number = code.number;
-        if number == OptionCode::LEASE_IDENTIFIER {
+        if OptionCode::ERROR < number {
             return true;
         }
-        if number == OptionCode::FEATURES {
+        if is_one_of(
+            number,
+            &[
+                OptionCode::END,
+                OptionCode::LEASE_IDENTIFIER,
+                OptionCode::FEATURES,
+            ],
+        ) {
             return true;
         }
+        self.allows_besides(number)
+    }
+
+    // Besides End, Lease Identifier and Features.
+    fn allows_besides(self, number: u16) -> bool
+        ensures { λ r. ⌜ r ≡ isIn number (allowedIn (self .number)) ⌝ }
+    {
         let kind = self.number;
         match kind {
             MessageType::GETINFO => is_one_of(
@@ -121,7 +136,7 @@ impl MessageType {
 
 // The options by which DISCOVER and REQUEST say what is wanted.
 fn wish_option(number: u16) -> bool
-    ensures { λ r. ⌜ r ≡ isOneOf number (1 ∷ 4 ∷ 6 ∷ 7 ∷ 10 ∷ 11 ∷ 14 ∷ 15 ∷ []) ⌝ }
+    ensures { λ r. ⌜ r ≡ isIn number (1 ∷ 4 ∷ 6 ∷ 7 ∷ 10 ∷ 11 ∷ 14 ∷ 15 ∷ []) ⌝ }
 {
     is_one_of(
         number,
@@ -183,7 +198,7 @@ impl OptionCode {
         OptionCode { number: number }
     }
 
-    // Whether the value of this option may have n octets.
+    // Whether the value of this option may have n octets; of Features only the least is known here.
     pub fn length_ok(self, n: usize) -> bool
         ensures { λ r. ⌜ r ≡ lengthOk (self .number) n ⌝ }
     {
@@ -219,7 +234,7 @@ fn wide16(x: u8) -> u16
 
 // Whether n is one of the listed numbers.
 fn is_one_of(n: u16, list: &[u16]) -> bool
-    ensures { λ r. ⌜ r ≡ isOneOf n (now (list .entry)) ⌝ }
+    ensures { λ r. ⌜ r ≡ isIn n (now (list .entry)) ⌝ }
 {
     let mut i: usize = 0;
     while i < list.len() {
@@ -308,7 +323,7 @@ impl Walk {
     }
 
     // End is the last four octets.
-    fn ended(self, size: usize) -> Walk
+    fn at_end(self, size: usize) -> Walk
         requires { ⌜ self .at ≤ 1472 ⌝ }
         ensures { λ r. ⌜ r ≡ pick (eqb (self .at + 4) size) (done self) (broken self) ⌝ }
     {
@@ -346,7 +361,7 @@ impl Walk {
         ensures { λ r. ⌜ r ≡ taken size code n self ⌝ }
     {
         if code == OptionCode::END {
-            return self.ended(size);
+            return self.at_end(size);
         }
         if OptionCode::ERROR < code {
             let p = self.places;
@@ -407,14 +422,15 @@ fn walk_options(s: &[u8]) -> Walk
 
 // ---- the reader
 
-// A datagram that can be answered: its type, its transaction id, and for each code up to 16 the place of its option, or 0.
+// A datagram that passed tests 4 to 6: its type, its transaction id, and for each code up to 16 the place of its option, or 0.
 pub struct Message {
     pub kind: MessageType,
     pub xid: u32,
     pub places: [usize; 17],
 }
 
-// What the reader answers: discard 4, 5 or 6, or 0 and the message. With discard 5 goes the offset of the first option that breaks a rule.
+// What the reader answers: discard 4, 5 or 6, or 0 and the message. With discard 5 goes the offset of the first option that breaks a
+// rule, or the datagram's length where End or option 3 is missing.
 pub struct Reading {
     pub discard: u8,
     pub fault: usize,
@@ -470,11 +486,11 @@ fn required_empty(s: &[u8], at: usize) -> bool
 }
 
 // Whether no feature is required of the server.
-fn supported(s: &[u8], places: [usize; 17]) -> bool
+fn none_required(s: &[u8], places: [usize; 17]) -> bool
     requires { ⌜ GoodPlaces (now s) places × (length (now s) ≤ 1472) ⌝ }
-    ensures { λ r. ⌜ r ≡ supported (now (s .entry)) places ⌝ }
+    ensures { λ r. ⌜ r ≡ noneRequired (now (s .entry)) places ⌝ }
 {
-    let at = places[12];
+    let at = places[OptionCode::FEATURES as usize];
     if at == 0 {
         return true;
     }
@@ -486,10 +502,10 @@ fn ended(s: &[u8], places: [usize; 17]) -> Reading
     requires { ⌜ GoodPlaces (now s) places × ((12 ≤ length (now s)) × (length (now s) ≤ 1472)) ⌝ }
     ensures { λ r. ⌜ r ≡ ended (now (s .entry)) places ⌝ }
 {
-    if places[3] == 0 {
+    if places[OptionCode::LEASE_IDENTIFIER as usize] == 0 {
         return Reading::discarded(5, s.len());
     }
-    if supported(s, places) {
+    if none_required(s, places) {
         let kind = MessageType { number: s[1] };
         let xid = octets::read_u32(s, 4);
         let message = Message {
@@ -551,8 +567,39 @@ pub struct Identifier {
     pub len: u8,
 }
 
+// An option of four octets, if it is there.
+pub struct Wish {
+    pub there: bool,
+    pub value: u32,
+}
+
+// Lease Time, Start Time, Current Time, Minimum Lease and Maximum Start.
+pub struct Times {
+    pub length: Wish,
+    pub start: Wish,
+    pub current: Wish,
+    pub shortest: Wish,
+    pub latest: Wish,
+}
+
+// All that a message says. `allowed`: each option is one that the type allows; `features`: the client sent 12; `ours`: no other server is
+// named; `list_asked`, `time_asked`: the Option Request List names 9, 11.
+pub struct Fields {
+    pub kind: u8,
+    pub xid: u32,
+    pub id: Identifier,
+    pub allowed: bool,
+    pub scope: Wish,
+    pub counts: Counts,
+    pub times: Times,
+    pub features: bool,
+    pub ours: bool,
+    pub list_asked: bool,
+    pub time_asked: bool,
+}
+
 impl Message {
-    // Where the option with a code up to 16 stands; none stands above.
+    // Where the option with a code from 1 to 16 stands.
     pub fn find(self, code: u16) -> Found
         ensures { λ r. ⌜ r ≡ findOf (self .places) code ⌝ }
     {
@@ -602,7 +649,7 @@ impl Message {
         counts_at(s, at)
     }
 
-    // Whether the message is for this server, or for any.
+    // Whether the message names no server or this one (test 7 asks it of a REQUEST).
     pub fn is_for(self, s: &[u8], server: u32) -> bool
         requires { ⌜ GoodPlaces (now s) (self .places) × (length (now s) ≤ 1472) ⌝ }
         ensures { λ r. ⌜ r ≡ serverOk (now (s .entry)) server (findOf (self .places) 2) ⌝ }
@@ -624,6 +671,55 @@ impl Message {
             return false;
         };
         lists_code(s, at, code)
+    }
+
+    // The value of an option of four octets, if it is there.
+    pub fn wish(self, s: &[u8], code: u16) -> Wish
+        requires { ⌜ GoodPlaces (now s) (self .places) × ((fourOctets code ≡ true) × (length (now s) ≤ 1472)) ⌝ }
+        ensures { λ r. ⌜ r ≡ wishOf (now (s .entry)) (findOf (self .places) code) ⌝ }
+    {
+        let found = self.find(code);
+        let Found::At(at) = found else {
+            return Wish {
+                there: false,
+                value: 0,
+            };
+        };
+        wish_at(s, at)
+    }
+
+    pub fn times(self, s: &[u8]) -> Times
+        requires { ⌜ GoodPlaces (now s) (self .places) × (length (now s) ≤ 1472) ⌝ }
+        ensures { λ r. ⌜ r ≡ timesOf (now (s .entry)) (self .places) ⌝ }
+    {
+        Times {
+            length: self.wish(s, OptionCode::LEASE_TIME),
+            start: self.wish(s, OptionCode::START_TIME),
+            current: self.wish(s, OptionCode::CURRENT_TIME),
+            shortest: self.wish(s, OptionCode::MINIMUM_LEASE),
+            latest: self.wish(s, OptionCode::MAXIMUM_START),
+        }
+    }
+
+    // All that the message says, to the server at an address.
+    pub fn fields(self, s: &[u8], server: u32) -> Fields
+        requires { ⌜ GoodPlaces (now s) (self .places) × (length (now s) ≤ 1472) ⌝ }
+        ensures { λ r. ⌜ r ≡ fieldsOf (now (s .entry)) server self ⌝ }
+    {
+        let kind = self.kind;
+        Fields {
+            kind: kind.number,
+            xid: self.xid,
+            id: self.identifier(s),
+            allowed: self.all_allowed(),
+            scope: self.wish(s, OptionCode::SCOPE),
+            counts: self.counts(s),
+            times: self.times(s),
+            features: self.has(OptionCode::FEATURES),
+            ours: self.is_for(s, server),
+            list_asked: self.asks_for(s, OptionCode::SCOPE_LIST),
+            time_asked: self.asks_for(s, OptionCode::CURRENT_TIME),
+        }
     }
 
     // The lease identifier.
@@ -668,7 +764,7 @@ impl Message {
 }
 
 fn place_found(at: usize) -> Found
-    ensures { λ r. ⌜ r ≡ foundAt (eqb at 0) at ⌝ }
+    ensures { λ r. ⌜ r ≡ foundAt at ⌝ }
 {
     if at == 0 {
         return Found::Absent;
@@ -681,6 +777,16 @@ fn number_at(s: &[u8], at: usize) -> u32
     ensures { λ r. ⌜ r ≡ at32 (now (s .entry)) (at + 4) ⌝ }
 {
     octets::read_u32(s, at + 4)
+}
+
+fn wish_at(s: &[u8], at: usize) -> Wish
+    requires { ⌜ (at + 8 ≤ length (now s)) × (length (now s) ≤ 1472) ⌝ }
+    ensures { λ r. ⌜ r ≡ wishAt (now (s .entry)) at ⌝ }
+{
+    Wish {
+        there: true,
+        value: octets::read_u32(s, at + 4),
+    }
 }
 
 fn counts_at(s: &[u8], at: usize) -> Counts
@@ -710,7 +816,7 @@ fn names_server(s: &[u8], at: usize, server: u32) -> bool
 // Whether the list of codes at a place has a code.
 fn lists_code(s: &[u8], at: usize, code: u16) -> bool
     requires { ⌜ (afterAt (now s) at ≤ length (now s)) × (length (now s) ≤ 1472) ⌝ }
-    ensures { λ r. ⌜ r ≡ isOneOf code (codesFrom (now (s .entry)) (at + 4) (lengthAt (now (s .entry)) at / 2)) ⌝ }
+    ensures { λ r. ⌜ r ≡ isIn code (codesFrom (now (s .entry)) (at + 4) (lengthAt (now (s .entry)) at / 2)) ⌝ }
 {
     let k = octets::read_u16(s, at + 2) as usize / 2;
     let mut p: usize = at + 4;

@@ -30,7 +30,7 @@ octets32 v = v / 16777216 % 256 ∷ v / 65536 % 256 ∷ v / 256 % 256 ∷ v % 25
 unfoldable pub put : List ℕ → ℕ → List ℕ → List ℕ
 put b at xs = take at b ++ xs ++ drop (at + length xs) b
 
--- after xs was written into the buffer `before` from `at` on, the buffer is `after` and the place after xs is next
+-- after xs was written into the buffer `before` from `at` on, the buffer is `after` and the place after xs is n
 pub record Wrote (before : List ℕ) (at : ℕ) (xs : List ℕ) (after : List ℕ) (n : ℕ) : Type 0 where
   pub next : n ≡ at + length xs
   pub buffer : after ≡ put before at xs

@@ -1,7 +1,7 @@
 -- The reader's walk over a reply ends at its End, with each option where it was written.
 use mathlib.Core.Path.{_≡_, refl, sym, ap, ap₂, _∙_, subst}
 use mathlib.Core.List.{List, [], _∷_, _++_, append-assoc}
-use mathlib.Core.Bool.{Bool, true, false}
+use mathlib.Core.Bool.{Bool, true, false, _&&_}
 use Prim.Native.Nat.{ℕ, zero, suc, _+_, _-_, _*_, _/_, _%_, _^_, _≤_, _<_}
 use native.Mathlib.Omega.{arith}
 use native.Mathlib.Nat.{add-assoc, add-zero}
@@ -15,7 +15,8 @@ use Rattle.octets.specs.Octets.{be16, at16, octets16, octets32}
 use Rattle.octets.specs.Laws.{read-back16}
 use Rattle.address_set.specs.AddressSet.{Run, offsets, runs, firstRun, behind}
 use Rattle.address_set.specs.RangeLaws.{ranges-next, ranges-few}
-use Rattle.message.specs.Codes.{isOneOf, lengthOk}
+use Rattle.lists.specs.Filter.{isIn}
+use Rattle.message.specs.Codes.{lengthOk}
 use Rattle.message.specs.Walk.{codeAt, lengthAt, afterAt, layoutOk, pastList, exactlyFilled, valueOk, done, moved, taken, stepOf, onward, walkFrom, walkOf, start}
 use Rattle.message.specs.declared.Walk.{Walk}
 use Rattle.message.specs.declared.Stage.{Stage}
@@ -94,7 +95,7 @@ module _ (pre : List ℕ) (o : Option) (rest : List ℕ) (short : length (o .val
   layout-right =
       let n = length-read in
       let l = whole-long in
-      ap (λ (b : Bool). pick b (leb (afterAt whole (length pre)) (length whole)) false) (le-leb (length pre + 4) (length whole) (omega arith))
+      ap (λ (b : Bool). b && leb (afterAt whole (length pre)) (length whole)) (le-leb (length pre + 4) (length whole) (omega arith))
       ∙ le-leb (afterAt whole (length pre)) (length whole) (omega arith)
 
   -- its value, from a place of it on
@@ -124,7 +125,7 @@ module _ (pre : List ℕ) (o : Option) (rest : List ℕ) (short : length (o .val
   value-right : Right o → valueOk whole (length pre) ≡ true
   unfolding valueOk pick
   value-right v =
-      ap (λ (b : Bool). pick b (pick (eqb (codeAt whole (length pre)) 12) (exactlyFilled whole (length pre + 4) (afterAt whole (length pre))) true) false)
+      ap (λ (b : Bool). b && pick (eqb (codeAt whole (length pre)) 12) (exactlyFilled whole (length pre + 4) (afterAt whole (length pre))) true)
       (ap₂ lengthOk code-read length-read ∙ v .length-right)
       ∙ by-code (eqb (codeAt whole (length pre)) 12) refl
     where
@@ -179,9 +180,9 @@ module _ (pre : List ℕ) (places : List ℕ) where
       let code : codeAt s (length pre) ≡ 0 = ap (at16 s) (sym (add-zero (length pre))) ∙ at16-past pre end-octets 0 in
       let none : lengthAt s (length pre) ≡ 0 = at16-past pre end-octets 2 in
       ap (λ (b : Bool). pick b (pick (valueOk s (length pre)) (taken (length s) (codeAt s (length pre)) (lengthAt s (length pre)) w) (stopped w)) (stopped w))
-      (ap (λ (b : Bool). pick b (leb (afterAt s (length pre)) (length s)) false) (le-leb (length pre + 4) (length s) (omega arith)) ∙ le-leb (afterAt s (length pre)) (length s) (omega arith))
+      (ap (λ (b : Bool). b && leb (afterAt s (length pre)) (length s)) (le-leb (length pre + 4) (length s) (omega arith)) ∙ le-leb (afterAt s (length pre)) (length s) (omega arith))
       ∙ ap (λ (b : Bool). pick b (taken (length s) (codeAt s (length pre)) (lengthAt s (length pre)) w) (stopped w))
-      (ap₂ (λ (c n : ℕ). pick (lengthOk c n) (pick (eqb c 12) (exactlyFilled s (length pre + 4) (afterAt s (length pre))) true) false) code none)
+      (ap₂ (λ (c n : ℕ). lengthOk c n && pick (eqb c 12) (exactlyFilled s (length pre + 4) (afterAt s (length pre))) true) code none)
       ∙ ap₂ (λ (c n : ℕ). taken (length s) c n w) code none
       ∙ ap (λ (b : Bool). pick b (done w) (stopped w)) (eq-eqb (length pre + 4) (length s) (sym long))
     where
@@ -254,37 +255,37 @@ plain : (code : ℕ) (value : List ℕ) → code ≤ 16 → (code ≡ 12 → ⊥
 plain code value k n s r = record { known = k; short = s; length-right = r; features = λ e. absurd (n e) }
 
 server-right : (h : Head) → Right (option 2 (octets16 1 ++ octets32 (h .server)))
-unfolding lengthOk isOneOf pick
+unfolding lengthOk isIn pick
 server-right h = plain 2 _ (omega arith) (λ e. omega arith) (omega arith) refl
 
 time-right : (v : ℕ) → Right (option 11 (octets32 v))
-unfolding lengthOk isOneOf pick
+unfolding lengthOk isIn pick
 time-right v = plain 11 _ (omega arith) (λ e. omega arith) (omega arith) refl
 
 id-right : (h : Head) → Named h → Right (option 3 (take (h .id .len) (h .id .octets)))
-unfolding lengthOk isOneOf pick
+unfolding lengthOk isIn pick
 id-right h n =
     let a = n .0 in
     let b = n .1 in
     plain 3 _ (omega arith) (λ e. omega arith) (omega arith)
-    (ap (λ (t : Bool). pick t (leb (length (take (h .id .len) (h .id .octets))) 32) false) (le-leb 2 (length (take (h .id .len) (h .id .octets))) a) ∙ le-leb (length (take (h .id .len) (h .id .octets))) 32 b)
+    (ap (λ (t : Bool). t && leb (length (take (h .id .len) (h .id .octets))) 32) (le-leb 2 (length (take (h .id .len) (h .id .octets))) a) ∙ le-leb (length (take (h .id .len) (h .id .octets))) 32 b)
 
 zeros-right : Right (featuresSent)
-unfolding lengthOk isOneOf pick
+unfolding lengthOk isIn pick
 zeros-right = record { known = omega arith; short = omega arith; length-right = refl; features = λ e. refl }
 
 ranges-right : (t : Terms) → 0 < t .addresses → t .addresses < 2 ^ 64 → Right (option 10 (rangesOctets (t .scope) (runs (offsets (t .addresses)))))
-unfolding lengthOk isOneOf pick
+unfolding lengthOk isIn pick
 ranges-right t p h =
     let n : ℕ = length (rangesOctets (t .scope) (runs (offsets (t .addresses)))) in
     let l = ranges-length (t .scope) (runs (offsets (t .addresses))) in
     let f = ranges-few (t .addresses) in
     let some : length (runs (offsets (t .addresses))) ≡ suc (length (runs (offsets (behind (t .addresses) (firstRun (runs (offsets (t .addresses)))))))) = ap length (ranges-next h p refl refl) in
     plain 10 _ (omega arith) (λ e. omega arith) (omega arith)
-    (ap (λ (b : Bool). pick b (eqb (n % 6) 0) false) (le-leb 6 n (omega arith)) ∙ eq-eqb (n % 6) 0 (omega arith))
+    (ap (λ (b : Bool). b && eqb (n % 6) 0) (le-leb 6 n (omega arith)) ∙ eq-eqb (n % 6) 0 (omega arith))
 
 scopes-right : (i : Info) → length (scopesOf i) ≤ 4 → Right (option 9 (length (scopesOf i) ∷ scopesOctets (scopesOf i)))
-unfolding lengthOk isOneOf pick
+unfolding lengthOk isIn pick
 scopes-right i h =
     let l = scopes-length (scopesOf i) in
     plain 9 _ (omega arith) (λ e. omega arith) (omega arith) (le-leb 1 (suc (length (scopesOctets (scopesOf i)))) (omega arith))
@@ -304,7 +305,7 @@ last-rise false o c h r = tt
 module _ (h : Head) (n : Named h) where
   -- OFFER and the ACK to REQUEST and RENEW, of at least one address
   pub lease-back : (kind : ℕ) (t : Terms) → 0 < t .addresses → t .addresses < 2 ^ 64 → ReadBack kind (h .xid) (leaseOptions h t)
-  unfolding Rising lengthOk isOneOf pick
+  unfolding Rising lengthOk isIn pick
   lease-back kind t p q = read-back kind (h .xid) (leaseOptions h t) (
     omega arith,
     (
@@ -379,7 +380,7 @@ module _ (h : Head) (n : Named h) where
 
   -- NAK
   pub nak-back : (error : ℕ) → ReadBack 6 (h .xid) (nakOptions h error)
-  unfolding Rising lengthOk isOneOf pick
+  unfolding Rising lengthOk isIn pick
   nak-back error = read-back 6 (h .xid) (nakOptions h error) (
     omega arith,
     (

@@ -56,7 +56,7 @@ pub replied : (kind xid : ℕ) {b₀ b₁ b₂ b₃ : List ℕ} {a n r most : �
 unfolding messageOctets
 replied kind xid {b₀ = b₀} {b₃ = b₃} {r = r} {options = options} p q e h =
     let w : Wrote b₀ 0 (header kind xid ++ optionsOctets options ++ optionOctets (option 0 [])) b₃ r = joined (omega arith) (joined (omega arith) p (q .wrote)) e in
-    record { number = whole-length w; buffer = whole w }
+    record { size = whole-length w; buffer = whole w }
 
 -- ---- ranges
 

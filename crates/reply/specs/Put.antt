@@ -13,5 +13,5 @@ pub record Put (before : List ℕ) (at : ℕ) (options : List Option) (after : L
 
 -- the reply stands at the buffer's start, its length is n, and past it the buffer is as it was
 pub record Replied (before reply after : List ℕ) (n : ℕ) : Type 0 where
-  pub number : n ≡ length reply
+  pub size : n ≡ length reply
   pub buffer : after ≡ reply ++ drop (length reply) before

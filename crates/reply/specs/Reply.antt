@@ -103,7 +103,11 @@ releaseOptions h = serverOption h ∷ identifierOption h ∷ featuresOption h
 -- ACK to GETINFO: 2, 3, and 9 and 11 if option 5 names them
 abbrev pub infoOptions : Head → Info → List Option
 infoOptions h i =
-    serverOption h ∷ identifierOption h ∷ wanted (i .«list_asked») (scopeListOption i) ++ wanted (i .«time_asked») (option 11 (octets32 (i .clock))) ++ featuresOption h
+    serverOption h
+    ∷ identifierOption h
+    ∷ wanted (i .«list_asked») (scopeListOption i)
+    ++ wanted (i .«time_asked») (option 11 (octets32 (i .clock)))
+    ++ featuresOption h
 
 -- NAK: 2, 3, 16
 abbrev pub nakOptions : Head → ℕ → List Option

@@ -12,7 +12,7 @@ use message::Identifier;
 use message::MessageType;
 use message::OptionCode;
 
-// What every reply echoes of the client's message, and the server's address.
+// What every reply echoes of the client's message, and the server's address. `features`: the client sent option 12.
 pub struct Head {
     pub xid: u32,
     pub server: u32,
@@ -20,7 +20,7 @@ pub struct Head {
     pub features: bool,
 }
 
-// A lease as a reply states it: its length and start, the scope's lowest address, the addresses as offsets from it, and the clock.
+// A lease as a reply states it: its length and start, the scope by its lowest address, the addresses as offsets from it, and the clock.
 pub struct Terms {
     pub length: u32,
     pub start: u32,

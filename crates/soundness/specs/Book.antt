@@ -174,7 +174,7 @@ each-is s ls =
     all-all (λ l. idB l && offsetsB s l) (λ l. leaseB s l && paddedB l) ls
     ∙ ap₂ (λ (a b : Bool). a && b) (all-all idB (offsetsB s) ls) (all-all (leaseB s) paddedB ls)
 
-pairs-is : (ls : List (List Lease)) → allBy (pairsBy pairOk) ls ≡ (allBy (pairsBy ordered) ls && allBy (pairsBy calm) ls)
+pub pairs-is : (ls : List (List Lease)) → allBy (pairsBy pairOk) ls ≡ (allBy (pairsBy ordered) ls && allBy (pairsBy calm) ls)
 unfolding pairOk
 pairs-is ls = all-same (pairsBy (λ a b. ordered a b && calm a b)) (λ l. pairsBy ordered l && pairsBy calm l) ls (pairs-and ordered calm) ∙ all-and (pairsBy ordered) (pairsBy calm) ls
 

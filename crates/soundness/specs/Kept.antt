@@ -42,7 +42,7 @@ count-from m n at (suc k) h = go (bit m at) (bit n at) (h at) (count-from m n (s
 pub count-less : (m n : ℕ) → ((a : ℕ) → bit m a ≤ bit n a) → length (offsets m) ≤ length (offsets n)
 count-less m n h = count-from m n 0 64 h
 
-disjoint-less : (m n m′ n′ : ℕ) → ((a : ℕ) → bit m′ a ≤ bit m a) → ((a : ℕ) → bit n′ a ≤ bit n a) → disjoint m n ≡ true → disjoint m′ n′ ≡ true
+pub disjoint-less : (m n m′ n′ : ℕ) → ((a : ℕ) → bit m′ a ≤ bit m a) → ((a : ℕ) → bit n′ a ≤ bit n a) → disjoint m n ≡ true → disjoint m′ n′ ≡ true
 unfolding disjoint
 disjoint-less m n m′ n′ f g e = eq-eqb (bitAnd m′ n′) 0 (bit-eq (bitAnd m′ n′) 0 (λ a. bit-and m′ n′ a ∙ none a ∙ sym (bit-of-zero a)))
   where

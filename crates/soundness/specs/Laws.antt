@@ -5,7 +5,7 @@ use mathlib.Core.Bool.{Bool, true, false, not, _&&_}
 use mathlib.Core.List.{List, [], _∷_, map}
 use native.Mathlib.Omega.{arith}
 use lib.Dec.{ltb, leb, eqb}
-use lib.Bits.{bitAnd, bitOr, or-add-and, and-le-r, and-le-l}
+use lib.Bits.{bitAnd, bitOr, or-add-and, and-le-r, and-le-l, or-zero-r}
 use lib.ListN.{length, take, drop, getD, drop-of-length-le, length-take}
 use lib.Seq.{drop-cons}
 use native.Mathlib.Numerals.{add-one}
@@ -19,7 +19,9 @@ use Rattle.state.specs.declared.TenantLeases.{TenantLeases}
 use Rattle.state.specs.declared.LeaseTable.{LeaseTable}
 use Rattle.state.specs.declared.Scope.{Scope}
 use Rattle.state.specs.declared.State.{State}
-use Rattle.state.specs.Book.{inUse, leasesOf, idOf, ordered, scopesOf, scopeAt, heldOf, noLeases}
+use Rattle.state.specs.Book.{inUse, leasesOf, idOf, ordered, scopesOf, scopeAt, heldOf, inScope, addedIf, addressesOf, unionAll, noLeases}
+use Rattle.lists.specs.Filter.{filterBy}
+use Rattle.state.specs.Sets.{added-is}
 use Rattle.identifier.specs.Order.{orderOf, sameOf}
 use Rattle.identifier.specs.Trans.{order-trans}
 use Rattle.address_set.specs.AddressSet.{bit, offsets, setOf, upTo}
@@ -27,15 +29,17 @@ use Rattle.address_set.specs.Laws.{bit-le, length-offsets}
 use Rattle.address_set.specs.ListLaws.{upTo-ones, bit-past, setOf-small, setOf-offsets, below-bits}
 use Rattle.lists.specs.Next.{nextBy, NextInv, next-start, next-is-pairs}
 use Rattle.soundness.specs.declared.ScopeRules.{ScopeRules}
+use Rattle.soundness.specs.declared.LeaseRules.{LeaseRules}
 use Rattle.soundness.specs.declared.TenantRules.{TenantRules}
+use Rattle.soundness.specs.declared.TableRules.{TableRules}
 use Rattle.soundness.specs.declared.SettingsRules.{SettingsRules}
 use Rattle.soundness.specs.declared.HoldingRules.{HoldingRules}
 use Rattle.soundness.specs.declared.Held.{Held}
 use Rattle.soundness.specs.declared.HeldTable.{HeldTable}
 use Rattle.soundness.specs.declared.Rules.{Rules}
 use Rattle.lists.specs.Sums.{sumTo, sum-same}
-use Rattle.soundness.specs.Sound.{few, sizeB, poolB, ttlB, sharesB, tailB, zeroFrom, belowB, offsetsB, scopeOf, recordsB, leaseB, differ, calm, layoutB, paddedB, unusedB, tenantsIn, scopesIn, reserveAt, limitAt, countsB, rule1, rule2, rule3, poolsApart, rule4, rule5, rule6, housesB, rule7, rule8, rule10, rangeZero, scopeZero, settingsB, rule13, rulesOf, firstBroken, brokenOf, soundB, noneB, apart, rule9, holding, limitB, limitsB, rule11, load, loadB, rule12}
-use Rattle.soundness.specs.Parts.{scopeRulesOf, andScopes, scopesAll, tenantRulesOf, andTenants, tenantsAll, noHeld, heldSets, holdingsOf, setAt, apartSets, countIn, limitIn, limitsIn, loadOn, loadIn, settingsRulesOf, holdingRulesOf}
+use Rattle.soundness.specs.Sound.{few, idB, sizeB, poolB, ttlB, sharesB, tailB, zeroFrom, belowB, offsetsB, scopeOf, recordsB, leaseB, differ, calm, layoutB, paddedB, unusedB, tenantsIn, scopesIn, reserveAt, limitAt, countsB, rule1, rule2, rule3, poolsApart, rule4, rule5, rule6, housesB, rule7, rule8, rule10, rangeZero, scopeZero, settingsB, rule13, rulesOf, firstBroken, brokenOf, soundB, noneB, apart, rule9, holding, limitB, limitsB, rule11, load, loadB, rule12}
+use Rattle.soundness.specs.Parts.{scopeRulesOf, andScopes, scopesAll, leaseRulesOf, andLeases, leasesAll, tenantRulesOf, bothTenants, addedSets, noneH, holdingRulesIn, tableRulesOf, joinedRules, andTenants, tenantsAll, noHeld, heldSets, holdingsOf, setAt, apartSets, countIn, limitIn, limitsIn, loadOn, loadIn, settingsRulesOf, holdingRulesOf}
 
 -- ---- zeros, gathered by or
 or-none : (a b : ℕ) → eqb (bitOr a b) 0 ≡ (eqb a 0 && eqb b 0)
@@ -46,13 +50,14 @@ or-none a b = go (eqb a 0) refl (eqb b 0) refl
     go true e false f = ne-eqb (bitOr a b) 0 (λ (z : bitOr a b ≡ 0). let s = or-add-and a b in let l = and-le-l a b in eqb-false b 0 f (omega arith))
     go false e q f = ne-eqb (bitOr a b) 0 (λ (z : bitOr a b ≡ 0). let s = or-add-and a b in let l = and-le-r a b in eqb-false a 0 e (omega arith))
 
-pub record ZeroInv (l : List ℕ) (n : ℕ) (w : Bool) (any i : ℕ) : Type 0 where
-  pub within : i ≤ n
-  pub long : length l ≡ n
-  pub whole : (eqb any 0 && zeroFrom i l) ≡ w
+-- the octets from place n on, gathered before place i
+pub record ZeroInv (l : List ℕ) (k n : ℕ) (w : Bool) (any i : ℕ) : Type 0 where
+  pub within : i ≤ k
+  pub long : length l ≡ k
+  pub whole : (eqb any 0 && zeroFrom (max i n) l) ≡ w
 
-pub zero-start : {l : List ℕ} {n : ℕ} (i : ℕ) → i ≤ n → length l ≡ n → ZeroInv l n (zeroFrom i l) 0 i
-zero-start i h e = record { within = h; long = e; whole = refl }
+pub zero-start : {l : List ℕ} {k : ℕ} (n : ℕ) → length l ≡ k → ZeroInv l k n (zeroFrom n l) 0 0
+zero-start {l = l} n e = record { within = omega arith; long = e; whole = ap (λ (x : ℕ). zeroFrom x l) (let q : max 0 n ≡ n = omega arith in q) }
 
 zero-step : (l : List ℕ) (i : ℕ) → i < length l → zeroFrom i l ≡ (eqb (getD l i 0) 0 && zeroFrom (i + 1) l)
 unfolding zeroFrom allBy pick
@@ -70,19 +75,29 @@ and-true-r : (a : Bool) → (a && true) ≡ a
 and-true-r true = refl
 and-true-r false = refl
 
-module _ {l : List ℕ} {n : ℕ} {w : Bool} {any i : ℕ} (v : ZeroInv l n w any i) where
-  pub zero-next : i < n → ZeroInv l n w (bitOr any (getD l i 0)) (i + 1)
-  zero-next h = record {
-    within = omega arith;
-    long = v .long;
-    whole =
-        ap (λ (b : Bool). b && zeroFrom (i + 1) l) (or-none any (getD l i 0)) ∙ and-assoc (eqb any 0) (eqb (getD l i 0) 0) (zeroFrom (i + 1) l)
-        ∙ sym (ap (λ (b : Bool). eqb any 0 && b) (zero-step l i (omega (arith, v .long)))) ∙ v .whole;
-  }
+zero-end-all : (l : List ℕ) (i : ℕ) → length l ≤ i → zeroFrom i l ≡ true
+unfolding zeroFrom allBy
+zero-end-all l i h = ap (allBy (λ x. eqb x 0)) (drop-of-length-le l {i = i} h)
 
-  pub zero-end : n ≤ i → eqb any 0 ≡ w
-  unfolding zeroFrom allBy
-  zero-end h = sym (and-true-r (eqb any 0)) ∙ sym (ap (λ (r : List ℕ). eqb any 0 && allBy (λ x. eqb x 0) r) (drop-of-length-le l {i = i} (omega (arith, v .long)))) ∙ v .whole
+module _ {l : List ℕ} {k n : ℕ} {w : Bool} {any i : ℕ} (v : ZeroInv l k n w any i) where
+  pub zero-next : {x : ℕ} → i < k → x ≡ pick (ltb i n) 0 (getD l i 0) → ZeroInv l k n w (bitOr any x) (i + 1)
+  unfolding pick
+  zero-next {x} h e = record { within = omega arith; long = v .long; whole = go (ltb i n) refl }
+    where
+      go : (b : Bool) → ltb i n ≡ b → (eqb (bitOr any x) 0 && zeroFrom (max (i + 1) n) l) ≡ w
+      go true q =
+          let p = ltb-true i n q in
+          let z : x ≡ 0 = e ∙ ap (λ (b : Bool). pick b 0 (getD l i 0)) q in
+          ap₂ (λ (a m : ℕ). eqb a 0 && zeroFrom m l) (ap (bitOr any) z ∙ or-zero-r any) (let q : max (i + 1) n ≡ max i n = omega arith in q) ∙ v .whole
+      go false q =
+          let p = ltb-false i n q in
+          let z : x ≡ getD l i 0 = e ∙ ap (λ (b : Bool). pick b 0 (getD l i 0)) q in
+          ap₂ (λ (a m : ℕ). eqb (bitOr any a) 0 && zeroFrom m l) z (let q : max (i + 1) n ≡ i + 1 = omega arith in q)
+          ∙ ap (λ (b : Bool). b && zeroFrom (i + 1) l) (or-none any (getD l i 0)) ∙ and-assoc (eqb any 0) (eqb (getD l i 0) 0) (zeroFrom (i + 1) l)
+          ∙ sym (ap (λ (b : Bool). eqb any 0 && b) (zero-step l i (omega (arith, v .long)))) ∙ ap (λ (m : ℕ). eqb any 0 && zeroFrom m l) (let q : i ≡ max i n = omega arith in q) ∙ v .whole
+
+  pub zero-end : k ≤ i → eqb any 0 ≡ w
+  zero-end h = sym (and-true-r (eqb any 0)) ∙ ap (λ (b : Bool). eqb any 0 && b) (sym (zero-end-all l (max i n) (let g = v .long in omega arith))) ∙ v .whole
 
 pub ruleset zeros = (zero-start, zero-next, zero-end)
 
@@ -150,10 +165,6 @@ pool-is s l k pool c h ek ec ep =
         let p : 2 ^ 64 ≤ 2 ^ n = pow-mono {i = 64} {j = n} (omega arith) in
         ap (λ (x : ℕ). ltb (l .addresses) (2 ^ x)) (let q : min n 64 ≡ 64 = omega arith in q) ∙ lt-ltb _ _ h ∙ sym (lt-ltb (l .addresses) (2 ^ n) (omega arith))
 
-pub zero-past : (n k : ℕ) (l : List ℕ) → length l ≡ k → k ≤ n → true ≡ zeroFrom n l
-unfolding zeroFrom allBy
-zero-past n k l e h = sym (ap (allBy (λ x. eqb x 0)) (drop-of-length-le l {i = n} (omega arith)))
-
 pub unused-past : (n k : ℕ) (l : List Lease) → length l ≡ k → k ≤ n → true ≡ allBy unusedB (drop n l)
 unfolding allBy
 unused-past n k l e h = sym (ap (allBy unusedB) (drop-of-length-le l {i = n} (omega arith)))
@@ -178,7 +189,7 @@ rises-trans a b c p q = eq-eqb _ _ (order-trans (idOf a) (idOf b) (idOf c) (eqb-
 pub rise-start : {d : Lease} {l : List Lease} {n : ℕ} (x k : ℕ) → n ≡ min x k → length l ≡ k → NextInv ordered d l n (pairsBy ordered (take x l)) 0
 rise-start {d = d} {l = l} {n = n} x k e g = subst (λ (w : Bool). NextInv ordered d l n w 0) (next-is-pairs ordered rises-trans (take x l)) (next-start x k e g)
 
--- what ordered differs
+-- what rises differs
 apart-names : (a b : Lease) → ordered a b ≡ true → differ a b ≡ true
 unfolding ordered differ sameOf
 apart-names a b p = let z = eqb-true (orderOf (idOf a) (idOf b)) 0 p in ap not (ne-eqb (orderOf (idOf a) (idOf b)) 1 (λ e. absurd (omega arith)))
@@ -192,6 +203,36 @@ pairs-imply t u (x ∷ l) f h =
 
 pub rise-differ : (l : List Lease) {r : Bool} → r ≡ pairsBy ordered l → r ≡ true → true ≡ pairsBy differ l
 rise-differ l e h = sym (pairs-imply ordered differ l apart-names (sym e ∙ h))
+
+-- ---- leases
+four : {p p′ q q′ u u′ r r′ : Bool} → p ≡ p′ → q ≡ q′ → u ≡ u′ → r ≡ r′
+    → _≡_ {A = LeaseRules} (record { ids = p; offsets = q; leases = u; padded = r }) (record { ids = p′; offsets = q′; leases = u′; padded = r′ })
+four a b c d = cc
+
+leases-from : (s : State) (a : LeaseRules) (l : List Lease) → fold (andLeases s) a l
+    ≡ record { ids = a .ids && allBy idB l; offsets = a .offsets && allBy (offsetsB s) l; leases = a .leases && allBy (leaseB s) l; padded = a .padded && allBy paddedB l }
+unfolding andLeases allBy
+leases-from s a [] = sym (four (and-true-r (a .ids)) (and-true-r (a .offsets)) (and-true-r (a .leases)) (and-true-r (a .padded)))
+leases-from s a (x ∷ l) =
+    leases-from s (andLeases s a x) l
+    ∙ four (and-more (a .ids) (idB x) (allBy idB l)) (and-more (a .offsets) (offsetsB s x) (allBy (offsetsB s) l)) (and-more (a .leases) (leaseB s x) (allBy (leaseB s) l)) (and-more (a .padded) (paddedB x) (allBy paddedB l))
+
+pub leases-are : (s : State) (l : List Lease) → fold (andLeases s) (record { ids = true; offsets = true; leases = true; padded = true }) l ≡ leasesAll s l
+unfolding leasesAll
+leases-are s l = leases-from s _ l
+
+pub lease-is : (s : State) (l : Lease) {p q r t : Bool} → p ≡ idB l → q ≡ offsetsB s l → r ≡ leaseB s l → t ≡ paddedB l
+    → _≡_ {A = LeaseRules} (record { ids = p; offsets = q; leases = r; padded = t }) (leaseRulesOf s l)
+unfolding leaseRulesOf
+lease-is s l e f g h = four e f g h
+
+pub lease-and : (s : State) (a x : LeaseRules) (l : Lease) {p q u r : Bool} → x ≡ leaseRulesOf s l
+    → p ≡ (a .ids && x .ids) → q ≡ (a .offsets && x .offsets) → u ≡ (a .leases && x .leases) → r ≡ (a .padded && x .padded)
+    → _≡_ {A = LeaseRules} (record { ids = p; offsets = q; leases = u; padded = r }) (andLeases s a l)
+unfolding leaseRulesOf andLeases
+lease-and s a x l e f g h i =
+    four (f ∙ ap (λ (y : LeaseRules). a .ids && y .ids) e) (g ∙ ap (λ (y : LeaseRules). a .offsets && y .offsets) e) (h ∙ ap (λ (y : LeaseRules). a .leases && y .leases) e)
+    (i ∙ ap (λ (y : LeaseRules). a .padded && y .padded) e)
 
 -- ---- tenants
 six : {p p′ q q′ u u′ r r′ t t′ v v′ : Bool} → p ≡ p′ → q ≡ q′ → u ≡ u′ → r ≡ r′ → t ≡ t′ → v ≡ v′
@@ -235,26 +276,42 @@ tenants-are s b =
     ∙ six refl (sym (all-map (allBy (offsetsB s)) inUse (b .tenants))) (sym (all-map (allBy (leaseB s)) inUse (b .tenants))) (sym (all-map (pairsBy differ) inUse (b .tenants)))
     (sym (all-map (pairsBy calm) inUse (b .tenants))) refl
 
-pub tenant-is : (s : State) (t : TenantLeases) {p q u r v w : Bool} → p ≡ recordsB t → q ≡ allBy (offsetsB s) (inUse t) → u ≡ allBy (leaseB s) (inUse t)
-    → r ≡ pairsBy differ (inUse t) → v ≡ pairsBy calm (inUse t) → w ≡ layoutB t
-    → _≡_ {A = TenantRules} (record { records = p; offsets = q; leases = u; identifiers = r; periods = v; layout = w }) (tenantRulesOf s t)
-unfolding tenantRulesOf
-tenant-is s t a b c d e f = six a b c d e f
+pub tenant-is : (s : State) (t : TenantLeases) (l : LeaseRules) {rising p r v w : Bool} → l ≡ leasesAll s (inUse t) → rising ≡ pairsBy ordered (inUse t)
+    → p ≡ (leb (t .count) 16 && l .ids) → r ≡ pairsBy differ (inUse t) → v ≡ pairsBy calm (inUse t)
+    → w ≡ (rising && (l .padded && allBy unusedB (drop (t .count) (t .leases))))
+    → _≡_ {A = TenantRules} (record { records = p; offsets = l .offsets; leases = l .leases; identifiers = r; periods = v; layout = w }) (tenantRulesOf s t)
+unfolding tenantRulesOf leasesAll recordsB layoutB
+tenant-is s t l el er p r v w =
+    six (p ∙ ap (λ (x : LeaseRules). leb (t .count) 16 && x .ids) el) (ap (λ (x : LeaseRules). x .offsets) el) (ap (λ (x : LeaseRules). x .leases) el) r v
+    (w ∙ ap₂ (λ (b : Bool) (x : LeaseRules). b && (x .padded && allBy unusedB (drop (t .count) (t .leases)))) er el)
 
-pub tenant-and : (s : State) (a x : TenantRules) (t : TenantLeases) {p q u r v w : Bool} → x ≡ tenantRulesOf s t
+pub tenant-both : (a x : TenantRules) {p q u r v w : Bool}
     → p ≡ (a .records && x .records) → q ≡ (a .offsets && x .offsets) → u ≡ (a .leases && x .leases) → r ≡ (a .identifiers && x .identifiers) → v ≡ (a .periods && x .periods)
     → w ≡ (a .layout && x .layout)
-    → _≡_ {A = TenantRules} (record { records = p; offsets = q; leases = u; identifiers = r; periods = v; layout = w }) (andTenants s a t)
-unfolding tenantRulesOf andTenants
-tenant-and s a x t e f g h i j k =
-    six (f ∙ ap (λ (y : TenantRules). a .records && y .records) e) (g ∙ ap (λ (y : TenantRules). a .offsets && y .offsets) e) (h ∙ ap (λ (y : TenantRules). a .leases && y .leases) e)
-    (i ∙ ap (λ (y : TenantRules). a .identifiers && y .identifiers) e) (j ∙ ap (λ (y : TenantRules). a .periods && y .periods) e) (k ∙ ap (λ (y : TenantRules). a .layout && y .layout) e)
+    → _≡_ {A = TenantRules} (record { records = p; offsets = q; leases = u; identifiers = r; periods = v; layout = w }) (bothTenants a x)
+unfolding bothTenants
+tenant-both a x f g h i j k = six f g h i j k
+
+pub tenant-and : (s : State) (a x r : TenantRules) (t : TenantLeases) → x ≡ tenantRulesOf s t → r ≡ bothTenants a x → r ≡ andTenants s a t
+unfolding andTenants bothTenants tenantRulesOf
+tenant-and s a x r t e p = p ∙ ap (bothTenants a) e
 
 -- ---- address sets
-pub held-are : (t : TenantLeases) {a b c d : ℕ} → a ≡ heldOf 1 (inUse t) → b ≡ heldOf 2 (inUse t) → c ≡ heldOf 3 (inUse t) → d ≡ heldOf 4 (inUse t)
-    → _≡_ {A = Held} (record { sets = a ∷ b ∷ c ∷ d ∷ [] }) (heldSets t)
+pub sets-added : (h : Held) (l : Lease) {a b c d : ℕ} → a ≡ addedIf (inScope 1) (getD (h .sets) 0 0) l → b ≡ addedIf (inScope 2) (getD (h .sets) 1 0) l
+    → c ≡ addedIf (inScope 3) (getD (h .sets) 2 0) l → d ≡ addedIf (inScope 4) (getD (h .sets) 3 0) l
+    → _≡_ {A = Held} (record { sets = a ∷ b ∷ c ∷ d ∷ []; count = h .count }) (addedSets h l)
+unfolding addedSets
+sets-added h l p q r u = cc
+
+sets-from : (n a b c d : ℕ) (l : List Lease) → fold addedSets (record { sets = a ∷ b ∷ c ∷ d ∷ []; count = n }) l
+    ≡ record { sets = fold (addedIf (inScope 1)) a l ∷ fold (addedIf (inScope 2)) b l ∷ fold (addedIf (inScope 3)) c l ∷ fold (addedIf (inScope 4)) d l ∷ []; count = n }
+unfolding addedSets
+sets-from n a b c d [] = refl
+sets-from n a b c d (x ∷ l) = sets-from n (addedIf (inScope 1) a x) (addedIf (inScope 2) b x) (addedIf (inScope 3) c x) (addedIf (inScope 4) d x) l
+
+pub held-are : (t : TenantLeases) → fold addedSets (record { sets = 0 ∷ 0 ∷ 0 ∷ 0 ∷ []; count = t .count }) (inUse t) ≡ heldSets t
 unfolding heldSets
-held-are t p q r u = cc
+held-are t = sets-from (t .count) 0 0 0 0 (inUse t) ∙ cc (added-is (inScope 1) (inUse t), added-is (inScope 2) (inUse t), added-is (inScope 3) (inUse t), added-is (inScope 4) (inUse t))
 
 pub holdings-are : (b : LeaseTable) (h : HeldTable) → h .tenants ≡ map heldSets (b .tenants) → h ≡ holdingsOf b
 unfolding holdingsOf
@@ -272,11 +329,6 @@ owners-are b h e p =
     ∙ sym (pairs-map apart inUse (b .tenants))
 
 -- the count of a set is the holding that the leases give
-getD-map-any : {A B : Type 0} (f : A → B) (l : List A) (i : ℕ) (d : A) (e : B) → i < length l → getD (map f l) i e ≡ f (getD l i d)
-getD-map-any f [] i d e h = absurd (omega arith)
-getD-map-any f (x ∷ l) zero d e h = refl
-getD-map-any f (x ∷ l) (suc i) d e h = getD-map-any f l i d e (omega arith)
-
 set-of : (t : TenantLeases) (k : ℕ) → k < 4 → setAt (heldSets t) k ≡ heldOf (k + 1) (inUse t)
 unfolding heldSets
 set-of t zero h = refl
@@ -285,23 +337,26 @@ set-of t (suc (suc zero)) h = refl
 set-of t (suc (suc (suc zero))) h = refl
 set-of t (suc (suc (suc (suc k)))) h = absurd (omega arith)
 
-count-is : (b : LeaseTable) (k g : ℕ) → length (b .tenants) ≡ 8 → k < 4 → g < 8 → countIn (holdingsOf b) k g ≡ holding b (k + 1) g
-unfolding countIn holdingsOf
-count-is b k g e h p =
-    ap (λ (x : ℕ). length (offsets x))
-    (ap (λ (x : Held). setAt x k) (getD-map-any heldSets (b .tenants) g noLeases noHeld (omega arith)) ∙ set-of (getD (b .tenants) g noLeases) k h
-    ∙ ap (heldOf (k + 1)) (sym (getD-map-any inUse (b .tenants) g noLeases [] (omega arith))))
+set-at : (l : List TenantLeases) (k g : ℕ) → k < 4 → setAt (getD (map heldSets l) g noHeld) k ≡ heldOf (k + 1) (getD (map inUse l) g [])
+unfolding addressesOf filterBy unionAll
+set-at [] k g h = refl
+set-at (t ∷ l) k zero h = set-of t k h
+set-at (t ∷ l) k (suc g) h = set-at l k g h
 
-module _ (s : State) (b : LeaseTable) (h : HeldTable) (e : h ≡ holdingsOf b) (long : length (b .tenants) ≡ 8) where
-  counts : (k g : ℕ) → k < 4 → g < 8 → countIn h k g ≡ holding b (k + 1) g
-  counts k g p q = ap (λ (x : HeldTable). countIn x k g) e ∙ count-is b k g long p q
+count-is : (b : LeaseTable) (k g : ℕ) → k < 4 → countIn (holdingsOf b) k g ≡ holding b (k + 1) g
+unfolding countIn holdingsOf
+count-is b k g h = ap (λ (x : ℕ). length (offsets x)) (set-at (b .tenants) k g h)
+
+module _ (s : State) (b : LeaseTable) (h : HeldTable) (e : h ≡ holdingsOf b) where
+  counts : (k g : ℕ) → k < 4 → countIn h k g ≡ holding b (k + 1) g
+  counts k g p = ap (λ (x : HeldTable). countIn x k g) e ∙ count-is b k g p
 
   limits-are : {n m : ℕ} {r : Bool} → n ≡ tenantsIn s → m ≡ scopesIn s → r ≡ allTo (limitsIn s h n) m → r ≡ rule11 s b
   unfolding limitsIn limitIn rule11 limitsB limitB
   limits-are {n} {m} p q u =
       u ∙ ap₂ (λ (x y : ℕ). allTo (limitsIn s h x) y) p q
       ∙ to-same (limitsIn s h (tenantsIn s)) (limitsB s b) (scopesIn s) (λ k a.
-      to-same (limitIn h (scopeAt s k) k) (limitB b (scopeAt s k) (k + 1)) (tenantsIn s) (λ g c. ap (λ (x : ℕ). leb x (limitAt (scopeAt s k) g)) (counts k g (omega arith) (omega arith))))
+      to-same (limitIn h (scopeAt s k) k) (limitB b (scopeAt s k) (k + 1)) (tenantsIn s) (λ g c. ap (λ (x : ℕ). leb x (limitAt (scopeAt s k) g)) (counts k g (omega arith))))
 
   loads-are : {n m : ℕ} {r : Bool} → n ≡ tenantsIn s → m ≡ scopesIn s → r ≡ allTo (loadIn s h n) m → r ≡ rule12 s b
   unfolding loadIn loadOn rule12 loadB load
@@ -309,7 +364,7 @@ module _ (s : State) (b : LeaseTable) (h : HeldTable) (e : h ≡ holdingsOf b) (
       u ∙ ap₂ (λ (x y : ℕ). allTo (loadIn s h x) y) p q
       ∙ to-same (loadIn s h (tenantsIn s)) (loadB s b) (scopesIn s) (λ k a.
       ap (λ (x : ℕ). leb x (scopeAt s k .size))
-      (sum-same (loadOn h (scopeAt s k) k) (load b (scopeAt s k) (k + 1)) (tenantsIn s) (λ g c. ap (λ (x : ℕ). max x (reserveAt (scopeAt s k) g)) (counts k g (omega arith) (omega arith)))))
+      (sum-same (loadOn h (scopeAt s k) k) (load b (scopeAt s k) (k + 1)) (tenantsIn s) (λ g c. ap (λ (x : ℕ). max x (reserveAt (scopeAt s k) g)) (counts k g (omega arith)))))
 
 -- ---- the turns of the code
 pub count-at : (h : HeldTable) (k g : ℕ) (t : Held) {r : ℕ} → t ≡ getD (h .tenants) g noHeld → r ≡ length (offsets (getD (t .sets) k 0)) → r ≡ countIn h k g
@@ -360,15 +415,34 @@ holding-same : {p p′ q q′ u u′ r r′ : Bool} → p ≡ p′ → q ≡ q�
     → _≡_ {A = HoldingRules} (record { houses = p; owners = q; holdings = u; loads = r }) (record { houses = p′; owners = q′; holdings = u′; loads = r′ })
 holding-same a b c d = cc
 
-pub holding-are : (s : State) (b : LeaseTable) (n m : ℕ) (h : HeldTable) {p q u r : Bool} → length (b .tenants) ≡ 8 → n ≡ tenantsIn s → m ≡ scopesIn s → h ≡ holdingsOf b
-    → p ≡ allBy noneB (drop n (b .tenants)) → q ≡ pairsBy apartSets (h .tenants) → u ≡ allTo (limitsIn s h n) m → r ≡ allTo (loadIn s h n) m
-    → _≡_ {A = HoldingRules} (record { houses = p; owners = q; holdings = u; loads = r }) (holdingRulesOf s b)
-unfolding holdingRulesOf housesB
-holding-are s b n m h long en em e p q u r =
-    holding-same (p ∙ ap (λ (x : ℕ). allBy noneB (drop x (b .tenants))) en) (owners-are b h e q) (limits-are s b h e long en em u) (loads-are s b h e long en em r)
+pub holding-are : (s : State) (n m : ℕ) (h : HeldTable) {p q u r : Bool} → n ≡ tenantsIn s → m ≡ scopesIn s
+    → p ≡ allBy noneH (drop n (h .tenants)) → q ≡ pairsBy apartSets (h .tenants) → u ≡ allTo (limitsIn s h n) m → r ≡ allTo (loadIn s h n) m
+    → _≡_ {A = HoldingRules} (record { houses = p; owners = q; holdings = u; loads = r }) (holdingRulesIn s h)
+unfolding holdingRulesIn
+holding-are s n m h en em p q u r =
+    holding-same (p ∙ ap (λ (x : ℕ). allBy noneH (drop x (h .tenants))) en) q (u ∙ ap₂ (λ (x y : ℕ). allTo (limitsIn s h x) y) en em) (r ∙ ap₂ (λ (x y : ℕ). allTo (loadIn s h x) y) en em)
 
-pub rules-are : (s : State) (t : LeaseTable) (a : SettingsRules) (b : TenantRules) (c : HoldingRules) {limit lease layout : Bool}
-    → a ≡ settingsRulesOf s → b ≡ tenantsAll s t → c ≡ holdingRulesOf s t → limit ≡ (a .counts && b .records) → lease ≡ (c .houses && b .leases) → layout ≡ (a .unused && b .layout)
+drop-map : {A B : Type 0} (g : A → B) (n : ℕ) (l : List A) → drop n (map g l) ≡ map g (drop n l)
+drop-map g zero l = refl
+drop-map g (suc n) [] = refl
+drop-map g (suc n) (x ∷ l) = drop-map g n l
+
+houses-are : (s : State) (b : LeaseTable) → allBy noneH (drop (tenantsIn s) (holdingsOf b .tenants)) ≡ housesB s b
+unfolding holdingsOf housesB noneH heldSets noneB
+houses-are s b = ap (allBy noneH) (drop-map heldSets (tenantsIn s) (b .tenants)) ∙ all-map noneH heldSets (drop (tenantsIn s) (b .tenants))
+
+holdings-in : (s : State) (b : LeaseTable) → holdingRulesIn s (holdingsOf b) ≡ holdingRulesOf s b
+unfolding holdingRulesIn holdingRulesOf
+holdings-in s b =
+    holding-same (houses-are s b) (owners-are b (holdingsOf b) refl refl) (limits-are s b (holdingsOf b) refl refl refl refl) (loads-are s b (holdingsOf b) refl refl refl refl)
+
+pub table-is : (s : State) (b : LeaseTable) (all : TenantRules) (h : HeldTable) → all ≡ tenantsAll s b → h .tenants ≡ map heldSets (b .tenants)
+    → _≡_ {A = TableRules} (record { rules = all; held = h }) (tableRulesOf s b)
+unfolding tableRulesOf
+table-is s b all h p q = ap₂ {C = TableRules} (λ (x : TenantRules) (y : HeldTable). record { rules = x; held = y }) p (holdings-are b h q)
+
+pub joined-is : (a : SettingsRules) (b : TenantRules) (c : HoldingRules) {limit lease layout : Bool}
+    → limit ≡ (a .counts && b .records) → lease ≡ (c .houses && b .leases) → layout ≡ (a .unused && b .layout)
     → _≡_ {A = Rules} (record {
       limits = limit;
       offsets = b .offsets;
@@ -383,44 +457,20 @@ pub rules-are : (s : State) (t : LeaseTable) (a : SettingsRules) (b : TenantRule
       holdings = c .holdings;
       loads = c .loads;
       layout = layout;
-    }) (rulesOf s t)
-unfolding rulesOf settingsRulesOf tenantsAll holdingRulesOf rule1 rule2 rule7 rule8 rule10 rule13
-rules-are s t a b c ea eb ec p q r =
-    all (p ∙ ap₂ (λ (x : SettingsRules) (y : TenantRules). x .counts && y .records) ea eb) (q ∙ ap₂ (λ (x : HoldingRules) (y : TenantRules). x .houses && y .leases) ec eb)
-    (r ∙ ap₂ (λ (x : SettingsRules) (y : TenantRules). x .unused && y .layout) ea eb) ea eb ec
-  where
-    all : {x x′ y y′ z z′ : Bool} {a a′ : SettingsRules} {b b′ : TenantRules} {c c′ : HoldingRules} → x ≡ x′ → y ≡ y′ → z ≡ z′ → a ≡ a′ → b ≡ b′ → c ≡ c′
-        → _≡_ {A = Rules} (record {
-          limits = x;
-          offsets = b .offsets;
-          ranges = a .ranges;
-          pools = a .pools;
-          ttls = a .ttls;
-          reserves = a .reserves;
-          leases = y;
-          identifiers = b .identifiers;
-          owners = c .owners;
-          periods = b .periods;
-          holdings = c .holdings;
-          loads = c .loads;
-          layout = z;
-        })
-        (record {
-          limits = x′;
-          offsets = b′ .offsets;
-          ranges = a′ .ranges;
-          pools = a′ .pools;
-          ttls = a′ .ttls;
-          reserves = a′ .reserves;
-          leases = y′;
-          identifiers = b′ .identifiers;
-          owners = c′ .owners;
-          periods = b′ .periods;
-          holdings = c′ .holdings;
-          loads = c′ .loads;
-          layout = z′;
-        })
-    all p q r u v w = cc
+    }) (joinedRules a b c)
+unfolding joinedRules
+joined-is a b c p q r = cc
+
+joined-all : (s : State) (t : LeaseTable) → joinedRules (settingsRulesOf s) (tenantsAll s t) (holdingRulesOf s t) ≡ rulesOf s t
+unfolding joinedRules rulesOf settingsRulesOf tenantsAll holdingRulesOf rule1 rule2 rule7 rule8 rule10 rule13
+joined-all s t = refl
+
+pub rules-are : (s : State) (t : LeaseTable) (a : SettingsRules) (b : TableRules) (c : HoldingRules) {r : Rules}
+    → a ≡ settingsRulesOf s → b ≡ tableRulesOf s t → c ≡ holdingRulesIn s (b .held) → r ≡ joinedRules a (b .rules) c → r ≡ rulesOf s t
+unfolding tableRulesOf
+rules-are s t a b c ea eb ec e =
+    let h : c ≡ holdingRulesOf s t = ec ∙ ap (λ (x : TableRules). holdingRulesIn s (x .held)) eb ∙ holdings-in s t in
+    e ∙ ap (λ (x : SettingsRules). joinedRules x (b .rules) c) ea ∙ ap₂ (λ (x : TableRules) (y : HoldingRules). joinedRules (settingsRulesOf s) (x .rules) y) eb h ∙ joined-all s t
 
 pub broken-is : (s : State) (t : LeaseTable) (r : Rules) {x : ℕ} → r ≡ rulesOf s t → x ≡ firstBroken r → x ≡ brokenOf s t
 unfolding brokenOf

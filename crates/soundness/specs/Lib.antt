@@ -4,3 +4,4 @@ pub mod Laws
 pub mod Book
 pub mod Kept
 pub mod Added
+pub mod Calm

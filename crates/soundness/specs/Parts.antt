@@ -14,14 +14,17 @@ use Rattle.state.specs.declared.LeaseTable.{LeaseTable}
 use Rattle.state.specs.declared.Scope.{Scope}
 use Rattle.state.specs.declared.ClientRange.{ClientRange}
 use Rattle.state.specs.declared.State.{State}
-use Rattle.state.specs.Book.{inUse, leasesOf, heldOf, scopesOf, scopeAt}
+use Rattle.state.specs.Book.{inUse, leasesOf, inScope, heldOf, addedIf, scopesOf, scopeAt}
 use Rattle.soundness.specs.declared.ScopeRules.{ScopeRules}
+use Rattle.soundness.specs.declared.LeaseRules.{LeaseRules}
 use Rattle.soundness.specs.declared.TenantRules.{TenantRules}
+use Rattle.soundness.specs.declared.TableRules.{TableRules}
+use Rattle.soundness.specs.declared.Rules.{Rules}
 use Rattle.soundness.specs.declared.SettingsRules.{SettingsRules}
 use Rattle.soundness.specs.declared.HoldingRules.{HoldingRules}
 use Rattle.soundness.specs.declared.Held.{Held}
 use Rattle.soundness.specs.declared.HeldTable.{HeldTable}
-use Rattle.soundness.specs.Sound.{tenantsIn, scopesIn, reserveAt, limitAt, sizeB, countsB, recordsB, offsetsB, rule3, poolB, poolsApart, rule4, ttlB, rule5, sharesB, rule6, leaseB, housesB, differ, disjoint, rule9, calm, rule11, rule12, layoutB, tailB, settingsB}
+use Rattle.soundness.specs.Sound.{tenantsIn, scopesIn, reserveAt, limitAt, sizeB, countsB, idB, recordsB, offsetsB, rule3, poolB, poolsApart, rule4, ttlB, rule5, sharesB, rule6, leaseB, housesB, differ, disjoint, rule9, calm, rule11, rule12, layoutB, paddedB, tailB, settingsB}
 
 abbrev pub noRange : ClientRange
 noRange = record { low = 0; high = 0 }
@@ -35,6 +38,16 @@ andScopes n a c = record { sizes = a .sizes && sizeB c; pools = a .pools && pool
 
 unfoldable pub scopesAll : ℕ → List Scope → ScopeRules
 scopesAll n l = record { sizes = allBy sizeB l; pools = allBy poolB l; ttls = allBy ttlB l; reserves = allBy (sharesB n) l; tails = allBy (tailB n) l }
+
+-- ---- leases
+unfoldable pub leaseRulesOf : State → Lease → LeaseRules
+leaseRulesOf s l = record { ids = idB l; offsets = offsetsB s l; leases = leaseB s l; padded = paddedB l }
+
+unfoldable pub andLeases : State → LeaseRules → Lease → LeaseRules
+andLeases s a l = record { ids = a .ids && idB l; offsets = a .offsets && offsetsB s l; leases = a .leases && leaseB s l; padded = a .padded && paddedB l }
+
+unfoldable pub leasesAll : State → List Lease → LeaseRules
+leasesAll s l = record { ids = allBy idB l; offsets = allBy (offsetsB s) l; leases = allBy (leaseB s) l; padded = allBy paddedB l }
 
 -- ---- tenants
 unfoldable pub tenantRulesOf : State → TenantLeases → TenantRules
@@ -67,18 +80,35 @@ tenantsAll s b = record {
   layout = allBy layoutB (b .tenants);
 }
 
+unfoldable pub bothTenants : TenantRules → TenantRules → TenantRules
+bothTenants a x = record {
+  records = a .records && x .records;
+  offsets = a .offsets && x .offsets;
+  leases = a .leases && x .leases;
+  identifiers = a .identifiers && x .identifiers;
+  periods = a .periods && x .periods;
+  layout = a .layout && x .layout;
+}
+
 -- ---- address sets
 abbrev pub noHeld : Held
-noHeld = record { sets = [] }
+noHeld = record { sets = []; count = 0 }
 
 unfoldable pub heldSets : TenantLeases → Held
-heldSets t = record { sets = heldOf 1 (inUse t) ∷ heldOf 2 (inUse t) ∷ heldOf 3 (inUse t) ∷ heldOf 4 (inUse t) ∷ [] }
+heldSets t = record { sets = heldOf 1 (inUse t) ∷ heldOf 2 (inUse t) ∷ heldOf 3 (inUse t) ∷ heldOf 4 (inUse t) ∷ []; count = t .count }
 
 unfoldable pub holdingsOf : LeaseTable → HeldTable
 holdingsOf b = record { tenants = map heldSets (b .tenants) }
 
 abbrev pub setAt : Held → ℕ → ℕ
 setAt a k = getD (a .sets) k 0
+
+-- one turn: the sets with one more lease
+unfoldable pub addedSets : Held → Lease → Held
+addedSets h l = record {
+  sets = addedIf (inScope 1) (setAt h 0) l ∷ addedIf (inScope 2) (setAt h 1) l ∷ addedIf (inScope 3) (setAt h 2) l ∷ addedIf (inScope 4) (setAt h 3) l ∷ [];
+  count = h .count;
+}
 
 unfoldable pub apartSets : Held → Held → Bool
 apartSets a b = disjoint (setAt a 0) (setAt b 0) && (disjoint (setAt a 1) (setAt b 1) && (disjoint (setAt a 2) (setAt b 2) && disjoint (setAt a 3) (setAt b 3)))
@@ -103,5 +133,36 @@ loadIn s h n k = leb (sumTo (loadOn h (scopeAt s k) k) n) (scopeAt s k .size)
 unfoldable pub settingsRulesOf : State → SettingsRules
 settingsRulesOf s = record { counts = countsB s; ranges = rule3 s; pools = rule4 s; ttls = rule5 s; reserves = rule6 s; unused = settingsB s }
 
+unfoldable pub noneH : Held → Bool
+noneH h = eqb (h .count) 0
+
+unfoldable pub holdingRulesIn : State → HeldTable → HoldingRules
+holdingRulesIn s h = record {
+  houses = allBy noneH (drop (tenantsIn s) (h .tenants));
+  owners = pairsBy apartSets (h .tenants);
+  holdings = allTo (limitsIn s h (tenantsIn s)) (scopesIn s);
+  loads = allTo (loadIn s h (tenantsIn s)) (scopesIn s);
+}
+
 unfoldable pub holdingRulesOf : State → LeaseTable → HoldingRules
 holdingRulesOf s t = record { houses = housesB s t; owners = rule9 t; holdings = rule11 s t; loads = rule12 s t }
+
+unfoldable pub tableRulesOf : State → LeaseTable → TableRules
+tableRulesOf s t = record { rules = tenantsAll s t; held = holdingsOf t }
+
+unfoldable pub joinedRules : SettingsRules → TenantRules → HoldingRules → Rules
+joinedRules a b c = record {
+  limits = a .counts && b .records;
+  offsets = b .offsets;
+  ranges = a .ranges;
+  pools = a .pools;
+  ttls = a .ttls;
+  reserves = a .reserves;
+  leases = c .houses && b .leases;
+  identifiers = b .identifiers;
+  owners = c .owners;
+  periods = b .periods;
+  holdings = c .holdings;
+  loads = c .loads;
+  layout = a .unused && b .layout;
+}

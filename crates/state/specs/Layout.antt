@@ -4,7 +4,7 @@ use mathlib.Core.List.{List, [], _∷_, _++_, append-assoc, append-nil, map}
 use mathlib.Core.Bool.{Bool, true, false, not}
 use Prim.Native.Nat.{ℕ, zero, suc, _+_, _-_, _≤_, _<_}
 use native.Mathlib.Omega.{arith}
-use lib.ListN.{length, take, set, replicate, length-append, length-take}
+use lib.ListN.{length, take, drop, set, replicate, length-append, length-take}
 use lib.Seq.{set-at, take-at}
 use lib.Dec.{ltb, eqb}
 use borrow.Author.Tests.{lt-ltb, eq-eqb, ne-eqb}
@@ -18,6 +18,7 @@ use Rattle.state.specs.declared.LeaseTable.{LeaseTable}
 use Rattle.state.specs.declared.State.{State}
 use Rattle.state.specs.declared.Book.{Book}
 use Rattle.lists.specs.Each.{map-set}
+use Rattle.lists.specs.Part.{cut-take, part-head, part-ended}
 use lib.ListN.{getD, length-map, List·getD-map}
 use lib.Seq.{getD-take}
 use Prim.Native.Nat.{min, max}
@@ -145,12 +146,6 @@ pub renew-no : (i : List ℕ) (new l : Lease) (q : Bool) → q ≡ named i l →
 unfolding renewTo pick
 renew-no i new l q e h = ap (λ (b : Bool). pick b new l) (sym h ∙ e)
 
-pub live-yes : (clock : ℕ) (h r : TenantLeases) (l : Lease) → clock < l .end → r ≡ pushed h l → r ≡ keptIf (live clock) h l
-live-yes clock h r l p e = kept-yes (live clock) h r l (lt-ltb _ _ p) e
-
-pub live-no : (clock : ℕ) (h : TenantLeases) (l : Lease) → l .end ≤ clock → h ≡ keptIf (live clock) h l
-live-no clock h l p = kept-no (live clock) h l (le-ltb _ _ p)
-
 -- ---- lengths and places
 pub length-in-use : (t : TenantLeases) (r : ℕ) → length (t .leases) ≡ 16 → r ≡ min (t .count) 16 → r ≡ length (inUse t)
 length-in-use t r e p = omega (arith, length-take (t .count) (t .leases))
@@ -227,3 +222,55 @@ pub advanced-is : (b : Book) (time : ℕ) (s : State) (t : LeaseTable) → s ≡
     → _≡_ {A = Book} (record { state = s; table = t }) (advanced b time)
 unfolding advanced raised
 advanced-is b time s t p q = ap₂ {C = Book} (λ (x : State) (y : LeaseTable). record { state = x; table = y }) p (q ∙ ap (λ (x : State). dropped (x .clock) (b .table)) p)
+
+-- ---- a filter that writes in place
+pub record KeepInv (u : Lease → Bool) (d : Lease) (l : List Lease) (n : ℕ) (w now : TenantLeases) (i : ℕ) : Type 0 where
+  pub within : i ≤ n
+  pub long : n ≤ length l
+  pub few : n ≤ 16
+  pub room : now .count ≤ i
+  pub whole : fold (keptIf u) now (drop i (take n l)) ≡ w
+
+pub keep-start : {u : Lease → Bool} {d : Lease} {l : List Lease} {n : ℕ} {now : TenantLeases} (x : ℕ) → now ≡ laidOut [] → n ≡ min x 16 → length l ≡ 16
+    → KeepInv u d l n (laidOut (filterBy u (take x l))) now 0
+unfolding laidOut
+keep-start {u = u} {l = l} {n = n} {now = now} x e p g = record {
+  within = omega arith;
+  long = omega arith;
+  few = omega arith;
+  room = let z : now .count ≡ 0 = ap (λ (t : TenantLeases). t .count) e in omega arith;
+  whole =
+      ap₂ (λ (t : TenantLeases) (k : ℕ). fold (keptIf u) t (take k l)) e p ∙ ap (fold (keptIf u) (laidOut [])) (cut-take 16 x l g) ∙ filter-is u x l g;
+}
+
+module _ {u : Lease → Bool} {d : Lease} {l : List Lease} {n : ℕ} {w now : TenantLeases} {i : ℕ} (v : KeepInv u d l n w now i) where
+  keep-here : i < n → fold (keptIf u) (keptIf u now (getD l i d)) (drop (i + 1) (take n l)) ≡ w
+  keep-here h = sym (ap (fold (keptIf u) now) (part-head d l n i (v .long) h)) ∙ v .whole
+
+  pub keep-yes : i < n → u (getD l i d) ≡ true → KeepInv u d l n w (record { leases = set (now .leases) (now .count) (getD l i d); count = now .count + 1 }) (i + 1)
+  unfolding keptIf pushed pick
+  keep-yes h e = record {
+    within = omega arith;
+    long = v .long;
+    few = v .few;
+    room = let r = v .room in omega arith;
+    whole =
+        ap (λ (t : TenantLeases). fold (keptIf u) t (drop (i + 1) (take n l)))
+        (sym (ap (λ (b : Bool). pick b (pushed now (getD l i d)) now) e ∙ ap (λ (b : Bool). pick b (record { leases = set (now .leases) (now .count) (getD l i d); count = now .count + 1 }) now) (lt-ltb (now .count) 16 (let r = v .room in let f = v .few in omega arith))))
+        ∙ keep-here h;
+  }
+
+  pub keep-no : i < n → u (getD l i d) ≡ false → KeepInv u d l n w now (i + 1)
+  unfolding keptIf pick
+  keep-no h e = record {
+    within = omega arith;
+    long = v .long;
+    few = v .few;
+    room = let r = v .room in omega arith;
+    whole = ap (λ (t : TenantLeases). fold (keptIf u) t (drop (i + 1) (take n l))) (sym (ap (λ (b : Bool). pick b (pushed now (getD l i d)) now) e)) ∙ keep-here h;
+  }
+
+  pub keep-end : n ≤ i → now ≡ w
+  keep-end h = sym (ap (fold (keptIf u) now) (part-ended l n i (v .long) h)) ∙ v .whole
+
+pub ruleset keeps = (keep-start, keep-yes, keep-no, keep-end, lt-ltb, le-ltb)

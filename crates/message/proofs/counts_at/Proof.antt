@@ -5,6 +5,7 @@ use borrow.Author.Needs.{needs}
 -- The two numbers, one after the other.
 -- The two numbers, one after the other.
 -- The two numbers, one after the other.
+-- The two numbers, one after the other.
 use Rattle.message.proofs.counts_at.Statement.{statement}
 use Rattle.message.proofs.counts_at.Tie as tie
 

@@ -5,6 +5,7 @@ use borrow.Author.Needs.{needs}
 -- Three lists, one after the other (`filled-is`).
 -- Three lists, one after the other (`filled-is`).
 -- Three lists, one after the other (`filled-is`).
+-- Three lists, one after the other (`filled-is`).
 use Rattle.message.proofs.exactly_filled.Statement.{statement}
 use Rattle.message.proofs.exactly_filled.Tie as tie
 

@@ -1,7 +1,8 @@
 -- By the definition, case by case.
-use Rattle.lists.specs.Pick.{gots, picks}
+use Rattle.lists.specs.Both.{and-gots, ands}
 use Rattle.message.specs.Read.{headerOk}
 use borrow.Author.Needs.{needs}
+-- By the definition, case by case.
 -- By the definition, case by case.
 -- By the definition, case by case.
 -- By the definition, case by case.
@@ -10,35 +11,35 @@ use Rattle.message.proofs.header_ok.Tie as tie
 
 returns : tie.Need-returns
 unfolding headerOk
-returns c = search (picks, gots, needs)
+returns c = search (ands, and-gots, needs)
 
 returns-2 : tie.Need-returns-2
 unfolding headerOk
-returns-2 c = search (picks, gots, needs)
+returns-2 c = search (ands, and-gots, needs)
 
 shared-slice-read-if3 : tie.Need-shared-slice-read-if3
-shared-slice-read-if3 c = search (picks, gots, needs)
+shared-slice-read-if3 c = search (ands, and-gots, needs)
 
 read-u16-requires : tie.Need-read-u16-requires
-read-u16-requires c κs = search (picks, gots, needs)
+read-u16-requires c κs = search (ands, and-gots, needs)
 
 shared-slice-read-t10 : tie.Need-shared-slice-read-t10
-shared-slice-read-t10 c = search (picks, gots, needs)
+shared-slice-read-t10 c = search (ands, and-gots, needs)
 
 is-client-requires : tie.Need-is-client-requires
-is-client-requires c κs = search (picks, gots, needs)
+is-client-requires c κs = search (ands, and-gots, needs)
 
 returns-3 : tie.Need-returns-3
 unfolding headerOk
-returns-3 c = search (picks, gots, needs)
+returns-3 c = search (ands, and-gots, needs)
 
 returns-4 : tie.Need-returns-4
 unfolding headerOk
-returns-4 c = search (picks, gots, needs)
+returns-4 c = search (ands, and-gots, needs)
 
 returns-5 : tie.Need-returns-5
 unfolding headerOk
-returns-5 c = search (picks, gots, needs)
+returns-5 c = search (ands, and-gots, needs)
 
 pub header-ok-spec : {M : Type 1} → statement M
 header-ok-spec =

@@ -10,6 +10,7 @@ use mathlib.Core.Path.{refl}
 -- The loop copies one octet a turn (`CopyInv`).
 -- The loop copies one octet a turn (`CopyInv`).
 -- The loop copies one octet a turn (`CopyInv`).
+-- The loop copies one octet a turn (`CopyInv`).
 use Rattle.message.proofs.identifier_at.Statement.{statement}
 use Rattle.message.proofs.identifier_at.Tie as tie
 

@@ -7,6 +7,7 @@ use lib.ListN.{length}
 -- The loop looks at one number a turn (`OneOfInv`).
 -- The loop looks at one number a turn (`OneOfInv`).
 -- The loop looks at one number a turn (`OneOfInv`).
+-- The loop looks at one number a turn (`OneOfInv`).
 use Rattle.message.proofs.is_one_of.Statement.{statement}
 use Rattle.message.proofs.is_one_of.Tie as tie
 

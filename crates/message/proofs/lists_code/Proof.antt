@@ -6,6 +6,7 @@ use borrow.Author.Needs.{needs}
 -- The loop looks at one code a turn (`CodesInv`).
 -- The loop looks at one code a turn (`CodesInv`).
 -- The loop looks at one code a turn (`CodesInv`).
+-- The loop looks at one code a turn (`CodesInv`).
 use Rattle.message.proofs.lists_code.Statement.{statement}
 use Rattle.message.proofs.lists_code.Tie as tie
 

@@ -7,6 +7,7 @@ use native.Mathlib.Omega.{arith}
 -- By the definition, case by case.
 -- By the definition, case by case.
 -- By the definition, case by case.
+-- By the definition, case by case.
 use Rattle.message.proofs.past_list.Statement.{statement}
 use Rattle.message.proofs.past_list.Tie as tie
 

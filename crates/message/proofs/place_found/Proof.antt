@@ -1,6 +1,8 @@
 -- Place 0 is that of no option.
-use Rattle.message.specs.Walk.{taken}
-use borrow.Author.Tests.{eq-eqb, ne-eqb}
+use Rattle.lists.specs.Pick.{picks}
+use Rattle.message.specs.Values.{foundAt}
+use borrow.Author.Needs.{needs}
+-- Place 0 is that of no option.
 -- Place 0 is that of no option.
 -- Place 0 is that of no option.
 -- Place 0 is that of no option.
@@ -9,10 +11,12 @@ use Rattle.message.proofs.place_found.Statement.{statement}
 use Rattle.message.proofs.place_found.Tie as tie
 
 returns : tie.Need-returns
-returns c = rw (eq-eqb _ _ (c .if1 .taken))
+unfolding foundAt
+returns c = search (picks, needs)
 
 returns-2 : tie.Need-returns-2
-returns-2 c = rw (ne-eqb _ _ (c .if1 .left))
+unfolding foundAt
+returns-2 c = search (picks, needs)
 
 pub place-found-spec : {M : Type 1} → statement M
 place-found-spec = tie.close (tie.spec returns returns-2)

@@ -6,6 +6,7 @@ use borrow.Author.Needs.{needs}
 -- By the definition, case by case.
 -- By the definition, case by case.
 -- By the definition, case by case.
+-- By the definition, case by case.
 use Rattle.message.proofs.read.Statement.{statement}
 use Rattle.message.proofs.read.Tie as tie
 

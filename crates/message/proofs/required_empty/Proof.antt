@@ -5,6 +5,7 @@ use borrow.Author.Needs.{needs}
 -- The three lists stand within the value (`third-inside`).
 -- The three lists stand within the value (`third-inside`).
 -- The three lists stand within the value (`third-inside`).
+-- The three lists stand within the value (`third-inside`).
 use Rattle.message.proofs.required_empty.Statement.{statement}
 use Rattle.message.proofs.required_empty.Tie as tie
 

@@ -10,6 +10,7 @@ use mathlib.Core.Path.{refl}
 -- The loop takes one option a turn (`Left`).
 -- The loop takes one option a turn (`Left`).
 -- The loop takes one option a turn (`Left`).
+-- The loop takes one option a turn (`Left`).
 use Rattle.message.proofs.walk_options.Statement.{statement}
 use Rattle.message.proofs.walk_options.Tie as tie
 

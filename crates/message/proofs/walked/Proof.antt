@@ -5,6 +5,7 @@ use borrow.Author.Needs.{needs}
 -- By the stage at which the walk stopped.
 -- By the stage at which the walk stopped.
 -- By the stage at which the walk stopped.
+-- By the stage at which the walk stopped.
 use Rattle.message.proofs.walked.Statement.{statement}
 use Rattle.message.proofs.walked.Tie as tie
 

@@ -7,6 +7,7 @@ use borrow.Author.Needs.{needs}
 -- The loop tests one code a turn (`UptoInv`).
 -- The loop tests one code a turn (`UptoInv`).
 -- The loop tests one code a turn (`UptoInv`).
+-- The loop tests one code a turn (`UptoInv`).
 use Rattle.message.proofs.Message.all_allowed.Statement.{statement}
 use Rattle.message.proofs.Message.all_allowed.Tie as tie
 

@@ -1,11 +1,10 @@
 -- By what the lookup found; what was found lies within the datagram.
-use Rattle.lists.specs.Pick.{pick}
-use Rattle.message.proofs.Steps.{four-fits}
-use Rattle.message.specs.Codes.{isOneOf}
+use Rattle.message.proofs.Steps.{counts-fit}
 use Rattle.message.specs.Values.{countsOf}
 use borrow.Author.Needs.{needs}
 use denote.Ref.{now}
-use mathlib.Core.Path.{_∙_, ap, refl, sym}
+use mathlib.Core.Path.{_∙_, ap, sym}
+-- By what the lookup found; what was found lies within the datagram.
 -- By what the lookup found; what was found lies within the datagram.
 -- By what the lookup found; what was found lies within the datagram.
 -- By what the lookup found; what was found lies within the datagram.
@@ -14,20 +13,19 @@ use Rattle.message.proofs.Message.counts.Statement.{statement}
 use Rattle.message.proofs.Message.counts.Tie as tie
 
 find-requires : tie.Need-find-requires
-find-requires c κs = search (four-fits, needs)
+find-requires c κs = search (counts-fit, needs)
 
 enum-known-found : tie.Need-enum-known-found
-enum-known-found c = search (four-fits, needs)
+enum-known-found c = search (counts-fit, needs)
 
 enum-told : tie.Need-enum-told
-enum-told c = search (four-fits, needs)
+enum-told c = search (counts-fit, needs)
 
 returns : tie.Need-returns
 returns c = let a = c .before .before .before .before .args in ap (countsOf (now (a .s))) (sym (c .enum-told .given .1) ∙ c .before .before .find .ensures)
 
 counts-at-requires : tie.Need-counts-at-requires
-unfolding isOneOf pick
-counts-at-requires c κs = (four-fits _ _ 7 _ _ refl (c .before .before .before .before .before .pre .0) (c .before .before .before .find .ensures) (c .before .found .given .1), search needs)
+counts-at-requires c κs = search (counts-fit, needs)
 
 returns-2 : tie.Need-returns-2
 returns-2 c = let f = c .before .before in let a = f .before .before .before .before .args in c .counts-at .ensures ∙ ap (countsOf (now (a .s))) (sym (f .found .given .1) ∙ f .before .before .find .ensures)

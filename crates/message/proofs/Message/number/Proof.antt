@@ -8,6 +8,7 @@ use mathlib.Core.Path.{_∙_, ap, sym}
 -- By what the lookup found; what was found lies within the datagram.
 -- By what the lookup found; what was found lies within the datagram.
 -- By what the lookup found; what was found lies within the datagram.
+-- By what the lookup found; what was found lies within the datagram.
 use Rattle.message.proofs.Message.number.Statement.{statement}
 use Rattle.message.proofs.Message.number.Tie as tie
 

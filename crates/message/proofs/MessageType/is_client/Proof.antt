@@ -3,6 +3,7 @@ use borrow.Author.Needs.{needs}
 -- The list is that of the definition.
 -- The list is that of the definition.
 -- The list is that of the definition.
+-- The list is that of the definition.
 use Rattle.message.proofs.MessageType.is_client.Statement.{statement}
 use Rattle.message.proofs.MessageType.is_client.Tie as tie
 

@@ -5,6 +5,7 @@ use borrow.Author.Needs.{needs}
 -- By the definition, case by case.
 -- By the definition, case by case.
 -- By the definition, case by case.
+-- By the definition, case by case.
 use Rattle.message.proofs.Walk.recorded.Statement.{statement}
 use Rattle.message.proofs.Walk.recorded.Tie as tie
 

@@ -7,6 +7,7 @@ use borrow.Author.Needs.{needs}
 -- By the definition, case by case.
 -- By the definition, case by case.
 -- By the definition, case by case.
+-- By the definition, case by case.
 use Rattle.message.proofs.Walk.step.Statement.{statement}
 use Rattle.message.proofs.Walk.step.Tie as tie
 

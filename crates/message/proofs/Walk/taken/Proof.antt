@@ -6,11 +6,12 @@ use borrow.Author.Needs.{needs}
 -- By the definition, case by case.
 -- By the definition, case by case.
 -- By the definition, case by case.
+-- By the definition, case by case.
 use Rattle.message.proofs.Walk.taken.Statement.{statement}
 use Rattle.message.proofs.Walk.taken.Tie as tie
 
-ended-requires : tie.Need-ended-requires
-ended-requires c κs = search (picks, needs)
+at-end-requires : tie.Need-at-end-requires
+at-end-requires c κs = search (picks, needs)
 
 returns : tie.Need-returns
 unfolding taken
@@ -35,4 +36,5 @@ returns-3 c = search (picks, needs)
 
 pub taken-spec : {M : Type 1} → statement M
 taken-spec =
-    tie.close (tie.spec ended-requires returns add-t7 add-t8 returns-2 recorded-requires returns-3)
+    tie.close
+    (tie.spec at-end-requires returns add-t7 add-t8 returns-2 recorded-requires returns-3)

@@ -1,0 +1,21 @@
+-- `settings::pool_ok` meets its contract: by ands, leb-left.
+use Rattle.lists.specs.Both.{ands}
+use Rattle.soundness.specs.Laws.{leb-left}
+use Rattle.soundness.specs.Sound.{poolB}
+use borrow.Author.Needs.{needs}
+use Rattle.soundness.proofs.settings.pool_ok.Statement.{statement}
+use Rattle.soundness.proofs.settings.pool_ok.Tie as tie
+
+pool-end-requires : tie.Need-pool-end-requires
+pool-end-requires c κs = search (ands, leb-left, needs)
+
+returns : tie.Need-returns
+unfolding poolB
+returns c = search (ands, leb-left, needs)
+
+returns-2 : tie.Need-returns-2
+unfolding poolB
+returns-2 c = search (ands, leb-left, needs)
+
+pub pool-ok-spec : {M : Type 1} → statement M
+pool-ok-spec = tie.close (tie.spec pool-end-requires returns returns-2)

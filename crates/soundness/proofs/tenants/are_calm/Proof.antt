@@ -1,0 +1,38 @@
+-- `tenants::are_calm` meets its contract: by picks, calls.
+use Rattle.lists.specs.Pick.{calls, picks}
+use Rattle.soundness.specs.Sound.{calm}
+use borrow.Author.Needs.{needs}
+use Rattle.soundness.proofs.tenants.are_calm.Statement.{statement}
+use Rattle.soundness.proofs.tenants.are_calm.Tie as tie
+
+cast-overlapping : tie.Need-cast-overlapping
+cast-overlapping c = search (picks, calls, needs)
+
+overlapping-requires : tie.Need-overlapping-requires
+overlapping-requires c κs = search (picks, calls, needs)
+
+sets-apart-requires : tie.Need-sets-apart-requires
+sets-apart-requires c κs = search (picks, calls, needs)
+
+returns : tie.Need-returns
+unfolding calm
+returns c = search (picks, calls, needs)
+
+returns-2 : tie.Need-returns-2
+unfolding calm
+returns-2 c = search (picks, calls, needs)
+
+returns-3 : tie.Need-returns-3
+unfolding calm
+returns-3 c = search (picks, calls, needs)
+
+pub are-calm-spec : {M : Type 1} → statement M
+are-calm-spec =
+    tie.close
+    (tie.spec
+    cast-overlapping
+    overlapping-requires
+    sets-apart-requires
+    returns
+    returns-2
+    returns-3)

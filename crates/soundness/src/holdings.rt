@@ -1,0 +1,213 @@
+// The rules on what the tenants hold: 7, 9, 11 and 12.
+ghost use mathlib.Core.Path.{_≡_};
+ghost use Prim.Native.Nat.{_<_, _≤_};
+ghost use lib.ListN.{drop};
+ghost use Rattle.lists.specs.All.{allBy, pairsBy, allTo};
+ghost use Rattle.lists.specs.Sums.{sumTo};
+ghost use Rattle.soundness.specs.Parts.{heldSets, addedSets, apartSets, countIn, limitIn, limitsIn, loadOn, loadIn, noneH, holdingRulesIn};
+use crate::Held;
+use crate::HeldTable;
+use crate::HoldingRules;
+use crate::numbers::cut4;
+use crate::numbers::cut8;
+use crate::numbers::larger;
+use crate::numbers::octet;
+use crate::numbers::sets_apart;
+use state::Lease;
+use state::Scope;
+use state::State;
+use state::TenantLeases;
+
+fn add_sets(h: Held, l: Lease) -> Held
+    ensures { λ r. ⌜ r ≡ addedSets h l ⌝ }
+{
+    let a = state::add_held(h.sets[0], l, 1);
+    let b = state::add_held(h.sets[1], l, 2);
+    let c = state::add_held(h.sets[2], l, 3);
+    let d = state::add_held(h.sets[3], l, 4);
+    Held {
+        sets: [a, b, c, d],
+        count: h.count,
+    }
+}
+
+pub fn held_sets(t: TenantLeases) -> Held
+    ensures { λ r. ⌜ r ≡ heldSets t ⌝ }
+{
+    let mut now = Held {
+        sets: [0u64; 4],
+        count: t.count,
+    };
+    let n = state::cut16(t.count);
+    let mut i: usize = 0;
+    while i < n {
+        let l = t.leases[i];
+        now = add_sets(now, l);
+        i += 1;
+    }
+    now
+}
+
+fn held_apart(a: Held, b: Held) -> bool
+    ensures { λ r. ⌜ r ≡ apartSets a b ⌝ }
+{
+    if sets_apart(a.sets[0], b.sets[0]) {
+        if sets_apart(a.sets[1], b.sets[1]) {
+            if sets_apart(a.sets[2], b.sets[2]) {
+                return sets_apart(a.sets[3], b.sets[3]);
+            }
+        }
+    }
+    false
+}
+
+fn all_held_apart(h: HeldTable) -> bool
+    ensures { λ r. ⌜ r ≡ pairsBy apartSets (h .tenants) ⌝ }
+{
+    let mut i: usize = 0;
+    let mut j: usize = 1;
+    while i < 8 {
+        if j < 8 {
+            let a = h.tenants[i];
+            let b = h.tenants[j];
+            j += 1;
+            if !held_apart(a, b) {
+                return false;
+            }
+        } else {
+            i += 1;
+            j = i + 1;
+        }
+    }
+    true
+}
+
+fn count_in(h: HeldTable, k: usize, g: usize) -> u32
+    requires { ⌜ (k < 4) × (g < 8) ⌝ }
+    ensures { λ r. ⌜ r ≡ countIn h k g ⌝ }
+{
+    let t = h.tenants[g];
+    address_set::count(t.sets[k])
+}
+
+fn limit_ok(h: HeldTable, c: Scope, k: usize, g: usize) -> bool
+    requires { ⌜ (k < 4) × (g < 8) ⌝ }
+    ensures { λ r. ⌜ r ≡ limitIn h c k g ⌝ }
+{
+    let d = count_in(h, k, g);
+    let limit = octet(c.limit[g]);
+    d <= (limit as u32)
+}
+
+fn limits_ok(s: State, h: HeldTable, n: usize, k: usize) -> bool
+    requires { ⌜ (n ≤ 8) × (k < 4) ⌝ }
+    ensures { λ r. ⌜ r ≡ limitsIn s h n k ⌝ }
+{
+    let c = state::scope_at(s, k);
+    let mut g: usize = 0;
+    while g < n {
+        if !limit_ok(h, c, k, g) {
+            return false;
+        }
+        g += 1;
+    }
+    true
+}
+
+fn all_limits_ok(s: State, h: HeldTable, n: usize, m: usize) -> bool
+    requires { ⌜ (n ≤ 8) × (m ≤ 4) ⌝ }
+    ensures { λ r. ⌜ r ≡ allTo (limitsIn s h n) m ⌝ }
+{
+    let mut k: usize = 0;
+    while k < m {
+        if !limits_ok(s, h, n, k) {
+            return false;
+        }
+        k += 1;
+    }
+    true
+}
+
+fn load_on(h: HeldTable, c: Scope, k: usize, g: usize) -> u32
+    requires { ⌜ (k < 4) × (g < 8) ⌝ }
+    ensures { λ r. ⌜ (r ≡ loadOn h c k g) × (r < 256) ⌝ }
+{
+    let d = count_in(h, k, g);
+    let reserve = octet(c.reserve[g]);
+    larger(d, reserve as u32)
+}
+
+fn load_sum(h: HeldTable, c: Scope, k: usize, n: usize) -> u32
+    requires { ⌜ (n ≤ 8) × (k < 4) ⌝ }
+    ensures { λ r. ⌜ r ≡ sumTo (loadOn h c k) n ⌝ }
+{
+    let mut sum: u32 = 0;
+    let mut g: usize = 0;
+    while g < n {
+        let x = load_on(h, c, k, g);
+        sum += x;
+        g += 1;
+    }
+    sum
+}
+
+fn load_ok(s: State, h: HeldTable, n: usize, k: usize) -> bool
+    requires { ⌜ (n ≤ 8) × (k < 4) ⌝ }
+    ensures { λ r. ⌜ r ≡ loadIn s h n k ⌝ }
+{
+    let c = state::scope_at(s, k);
+    let sum = load_sum(h, c, k, n);
+    sum <= (c.size as u32)
+}
+
+fn all_loads_ok(s: State, h: HeldTable, n: usize, m: usize) -> bool
+    requires { ⌜ (n ≤ 8) × (m ≤ 4) ⌝ }
+    ensures { λ r. ⌜ r ≡ allTo (loadIn s h n) m ⌝ }
+{
+    let mut k: usize = 0;
+    while k < m {
+        if !load_ok(s, h, n, k) {
+            return false;
+        }
+        k += 1;
+    }
+    true
+}
+
+fn has_none(h: Held) -> bool
+    ensures { λ r. ⌜ r ≡ noneH h ⌝ }
+{
+    h.count == 0
+}
+
+fn rest_none(h: HeldTable, n: usize) -> bool
+    requires { ⌜ n ≤ 8 ⌝ }
+    ensures { λ r. ⌜ r ≡ allBy noneH (drop n (h .tenants)) ⌝ }
+{
+    let mut i: usize = n;
+    while i < 8 {
+        let x = h.tenants[i];
+        if !has_none(x) {
+            return false;
+        }
+        i += 1;
+    }
+    true
+}
+
+pub fn holding_rules(s: State, h: HeldTable) -> HoldingRules
+    ensures { λ r. ⌜ r ≡ holdingRulesIn s h ⌝ }
+{
+    let n = cut8(s.tenant_count);
+    let m = cut4(s.scope_count);
+    let house = rest_none(h, n);
+    let owner = all_held_apart(h);
+    let limit = all_limits_ok(s, h, n, m);
+    let load = all_loads_ok(s, h, n, m);
+    HoldingRules {
+        houses: house,
+        owners: owner,
+        holdings: limit,
+        loads: load,
+    }
+}

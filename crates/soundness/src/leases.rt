@@ -1,0 +1,137 @@
+// The rules on one lease: 1, 2, 7 and the octets past its identifier.
+ghost use mathlib.Core.Path.{_≡_};
+ghost use Prim.Native.Nat.{_-_};
+ghost use Rattle.state.specs.Book.{inUse};
+ghost use Rattle.soundness.specs.Sound.{idB, belowB, scopeOf, offsetsB, kindB, periodB, leaseB, paddedB};
+ghost use Rattle.soundness.specs.Parts.{leaseRulesOf, andLeases, leasesAll};
+use crate::LeaseRules;
+use crate::numbers::both;
+use crate::numbers::is_few;
+use crate::numbers::zeros32;
+use state::Lease;
+use state::State;
+use state::TenantLeases;
+
+fn id_ok(l: Lease) -> bool
+    ensures { λ r. ⌜ r ≡ idB l ⌝ }
+{
+    if 2 <= l.id_len {
+        return l.id_len <= 32;
+    }
+    false
+}
+
+fn place_of(scope: u8) -> usize
+    ensures { λ r. ⌜ r ≡ scope - 1 ⌝ }
+{
+    if scope == 0 {
+        return 0;
+    }
+    (scope - 1) as usize
+}
+
+fn within(s: State, l: Lease) -> bool
+    ensures { λ r. ⌜ r ≡ belowB (scopeOf s l .size) (l .addresses) ⌝ }
+{
+    let k = place_of(l.scope);
+    let c = state::scope_at(s, k);
+    let pool = address_set::first_n(c.size);
+    l.addresses <= pool
+}
+
+fn offsets_ok(s: State, l: Lease) -> bool
+    ensures { λ r. ⌜ r ≡ offsetsB s l ⌝ }
+{
+    if is_few(s.scope_count, l.scope) {
+        return within(s, l);
+    }
+    true
+}
+
+fn kind_ok(l: Lease) -> bool
+    ensures { λ r. ⌜ r ≡ kindB l ⌝ }
+{
+    if l.kind == 3 {
+        return true;
+    }
+    l.kind == 4
+}
+
+fn period_ok(clock: u32, l: Lease) -> bool
+    ensures { λ r. ⌜ r ≡ periodB clock l ⌝ }
+{
+    if l.start < l.end {
+        if clock < l.end {
+            return 0 < l.addresses;
+        }
+    }
+    false
+}
+
+fn lease_ok(s: State, l: Lease) -> bool
+    ensures { λ r. ⌜ r ≡ leaseB s l ⌝ }
+{
+    if is_few(s.scope_count, l.scope) {
+        if kind_ok(l) {
+            return period_ok(s.clock, l);
+        }
+    }
+    false
+}
+
+fn padded_ok(l: Lease) -> bool
+    ensures { λ r. ⌜ r ≡ paddedB l ⌝ }
+{
+    let id = l.id;
+    zeros32(l.id_len as usize, id)
+}
+
+fn lease_rules(s: State, l: Lease) -> LeaseRules
+    ensures { λ r. ⌜ r ≡ leaseRulesOf s l ⌝ }
+{
+    let id = id_ok(l);
+    let offset = offsets_ok(s, l);
+    let lease = lease_ok(s, l);
+    let pad = padded_ok(l);
+    LeaseRules {
+        ids: id,
+        offsets: offset,
+        leases: lease,
+        padded: pad,
+    }
+}
+
+fn and_leases(s: State, a: LeaseRules, l: Lease) -> LeaseRules
+    ensures { λ r. ⌜ r ≡ andLeases s a l ⌝ }
+{
+    let x = lease_rules(s, l);
+    let id = both(a.ids, x.ids);
+    let offset = both(a.offsets, x.offsets);
+    let lease = both(a.leases, x.leases);
+    let pad = both(a.padded, x.padded);
+    LeaseRules {
+        ids: id,
+        offsets: offset,
+        leases: lease,
+        padded: pad,
+    }
+}
+
+pub fn leases_rules(s: State, t: TenantLeases) -> LeaseRules
+    ensures { λ r. ⌜ r ≡ leasesAll s (inUse t) ⌝ }
+{
+    let mut all = LeaseRules {
+        ids: true,
+        offsets: true,
+        leases: true,
+        padded: true,
+    };
+    let n = state::cut16(t.count);
+    let mut i: usize = 0;
+    while i < n {
+        let l = t.leases[i];
+        all = and_leases(s, all, l);
+        i += 1;
+    }
+    all
+}

@@ -1,0 +1,100 @@
+// Small tests that the rules share.
+ghost use mathlib.Core.Path.{_≡_};
+ghost use mathlib.Core.Bool.{_&&_};
+ghost use Prim.Native.Nat.{min, max};
+ghost use lib.Dec.{ltb};
+ghost use Rattle.lists.specs.Pick.{pick};
+ghost use Rattle.soundness.specs.Sound.{few, disjoint, zeroFrom};
+
+pub fn cut8(n: u8) -> usize
+    ensures { λ r. ⌜ r ≡ min n 8 ⌝ }
+{
+    if n < 8 {
+        return n as usize;
+    }
+    8
+}
+
+pub fn cut4(n: u8) -> usize
+    ensures { λ r. ⌜ r ≡ min n 4 ⌝ }
+{
+    if n < 4 {
+        return n as usize;
+    }
+    4
+}
+
+pub fn both(a: bool, b: bool) -> bool
+    ensures { λ r. ⌜ r ≡ (a && b) ⌝ }
+{
+    if a {
+        return b;
+    }
+    false
+}
+
+pub fn is_few(most: u8, n: u8) -> bool
+    ensures { λ r. ⌜ r ≡ few most n ⌝ }
+{
+    if 1 <= n {
+        return n <= most;
+    }
+    false
+}
+
+pub fn larger(a: u32, b: u32) -> u32
+    ensures { λ r. ⌜ r ≡ max a b ⌝ }
+{
+    if a < b {
+        return b;
+    }
+    a
+}
+
+pub fn octet(x: u8) -> u8
+    ensures { λ r. ⌜ r ≡ x ⌝ }
+{
+    x
+}
+
+// An octet from place n on, and 0 before it.
+fn from_place(x: u8, i: usize, n: usize) -> u8
+    ensures { λ r. ⌜ r ≡ pick (ltb i n) 0 x ⌝ }
+{
+    if i < n {
+        return 0;
+    }
+    x
+}
+
+// Whether all octets of an array from the nth on are 0: gathered without a branch, since every record has it.
+pub fn zeros8(n: usize, a: [u8; 8]) -> bool
+    ensures { λ r. ⌜ r ≡ zeroFrom n a ⌝ }
+{
+    let mut any: u8 = 0;
+    let mut i: usize = 0;
+    while i < 8 {
+        any = any | from_place(a[i], i, n);
+        i += 1;
+    }
+    any == 0
+}
+
+pub fn zeros32(n: usize, a: [u8; 32]) -> bool
+    ensures { λ r. ⌜ r ≡ zeroFrom n a ⌝ }
+{
+    let mut any: u8 = 0;
+    let mut i: usize = 0;
+    while i < 32 {
+        any = any | from_place(a[i], i, n);
+        i += 1;
+    }
+    any == 0
+}
+
+pub fn sets_apart(m: u64, n: u64) -> bool
+    ensures { λ r. ⌜ r ≡ disjoint m n ⌝ }
+{
+    let x = m & n;
+    x == 0
+}

@@ -1,0 +1,50 @@
+-- Reading a lease into a record: an identifier into an array, and the parts together.
+use mathlib.Core.List.{List}
+use mathlib.Core.Path.{_∙_, _≡_, ap, ap₂, sym}
+use Prim.Native.Nat.{_+_, _-_, _<_, _≤_, ℕ}
+use native.Mathlib.Omega.{arith}
+use lib.ListN.{drop, getD, length, take}
+use lib.Seq.{getD-drop, getD-take}
+use Rattle.address_set.specs.AddressSet.{readOffsets}
+use Rattle.octets.specs.Octets.{at32}
+use Rattle.state_file.proofs.Pad.{pad-end, pad-next, pad-start}
+use Rattle.state_file.proofs.Walk.{part-length}
+use Rattle.state_file.specs.Place.{Held, leaseAt}
+use Rattle.state_file.specs.Records.{filled, stored}
+
+pub id-long : (s : List ℕ) (at n : ℕ) → at + n ≤ length s → length (take n (drop at s)) ≡ n
+id-long s at n h = part-length s at n h
+
+pub id-element : (s : List ℕ) (at n i : ℕ) → i < n → getD s (at + i) 0 ≡ getD (take n (drop at s)) i 0
+id-element s at n i h = sym (getD-take n (drop at s) i 0 h ∙ getD-drop at s i 0)
+
+pub ruleset ids = (pad-start, pad-next, pad-end, id-long, id-element)
+
+module _ {s : List ℕ} {at n k : ℕ} (en : n ≡ getD s (at + 2) 0) (ek : k ≡ getD s (at + (n + 16)) 0) (v : Held s at) where
+  count : k ≡ getD s (at + (getD s (at + 2) 0 + 16)) 0
+  count = ek ∙ ap (λ (z : ℕ). getD s (at + (z + 16)) 0) en
+
+  pub lease-room : (n ≤ 32) × (at + (n + 17 + k) ≤ length s)
+  lease-room = let c = count in (omega (arith, v .ids), omega (arith, v .room))
+
+  pub lease-stored : (id : List ℕ) (x b e m : ℕ) → id ≡ filled 0 32 (take n (drop (at + 3) s)) → x ≡ at32 s (at + (n + 4)) → b ≡ at32 s (at + (n + 8)) → e ≡ at32 s (at + (n + 12))
+      → m ≡ readOffsets (take k (drop (at + (n + 17)) s))
+      → record { scope = getD s (at + 1) 0; «id_len» = getD s (at + 2) 0; id = id; kind = getD s (at + (n + 3)) 0; xid = x; start = b; end = e; addresses = m } ≡ stored (leaseAt s at)
+  unfolding stored leaseAt
+  lease-stored id x b e m pi px pb pe pm =
+      let N : ℕ = getD s (at + 2) 0 in
+      let c = count in
+      let l : getD s (at + 2) 0 ≡ length (take (getD s (at + 2) 0) (drop (at + 3) s)) = sym (part-length s (at + 3) (getD s (at + 2) 0) (omega (arith, v .room))) in
+      let qi : id ≡ filled 0 32 (take (getD s (at + 2) 0) (drop (at + 3) s)) = pi ∙ ap (λ (z : ℕ). filled 0 32 (take z (drop (at + 3) s))) en in
+      let qk : getD s (at + (n + 3)) 0 ≡ getD s (at + (getD s (at + 2) 0 + 3)) 0 = ap (λ (z : ℕ). getD s (at + (z + 3)) 0) en in
+      let qx : x ≡ at32 s (at + (getD s (at + 2) 0 + 4)) = px ∙ ap (λ (z : ℕ). at32 s (at + (z + 4))) en in
+      let qb : b ≡ at32 s (at + (getD s (at + 2) 0 + 8)) = pb ∙ ap (λ (z : ℕ). at32 s (at + (z + 8))) en in
+      let qe : e ≡ at32 s (at + (getD s (at + 2) 0 + 12)) = pe ∙ ap (λ (z : ℕ). at32 s (at + (z + 12))) en in
+      let qm : m ≡ readOffsets (take (getD s (at + (getD s (at + 2) 0 + 16)) 0) (drop (at + (getD s (at + 2) 0 + 17)) s)) = pm ∙ ap₂ (λ (y z : ℕ). readOffsets (take y (drop (at + (z + 17)) s))) c en in
+      cc
+
+pub ruleset leaseReads = (lease-room, lease-stored)
+
+-- the part of the octets that is lent
+pub set-part : (s : List ℕ) (at k r : ℕ) → r ≡ readOffsets (take (at + k - at) (drop at s)) → r ≡ readOffsets (take k (drop at s))
+set-part s at k r e = e ∙ ap (λ (n : ℕ). readOffsets (take n (drop at s))) (let q : at + k - at ≡ k = omega arith in q)

@@ -1,0 +1,112 @@
+-- One law for every loop that fills an array from the front with the values of a row and leaves the rest as it was.
+use mathlib.Core.List.{List, _++_, _∷_, map}
+use mathlib.Core.Path.{_∙_, _≡_, ap, ap₂, refl, subst, sym}
+use Prim.Native.Nat.{_*_, _+_, _-_, _<_, _≤_, suc, zero, ℕ}
+use native.Mathlib.Nat.{mul-le-mul, suc-mul, zero-add, zero-mul}
+use native.Mathlib.Omega.{arith}
+use lib.ListN.{drop, getD, length, length-map, length-replicate, length-set, replicate, set}
+use Rattle.lists.specs.Copy.{CopyInv, copy-front, copy-paste, copy-start}
+use Rattle.octets.specs.Octets.{at32}
+use Rattle.state.specs.declared.ClientRange.{ClientRange}
+use Rattle.state.specs.declared.Scope.{Scope}
+use Rattle.state_file.specs.File.{FilePart}
+use Rattle.state_file.specs.Place.{partAt, rangeAt, row, scopeAt}
+use Rattle.state_file.specs.Records.{filled, storedScope}
+
+pub row-length : {A : Type 0} (v : List ℕ → ℕ → A) (z n : ℕ) (s : List ℕ) (at : ℕ) → length (row v z n s at) ≡ n
+unfolding row
+row-length v z zero s at = refl
+row-length v z (suc n) s at = ap suc (row-length v z n s (at + z))
+
+row-get : {A : Type 0} (v : List ℕ → ℕ → A) (z n : ℕ) (s : List ℕ) (at i : ℕ) (d : A) → i < n → getD (row v z n s at) i d ≡ v s (at + i * z)
+unfolding row
+row-get v z zero s at i d h = absurd (omega arith)
+row-get v z (suc n) s at zero d h = ap (v s) (let q = zero-mul z in let e : at ≡ at + 0 * z = omega arith in e)
+row-get v z (suc n) s at (suc i) d h = row-get v z n s (at + z) i d (omega arith) ∙ ap (v s) (let q = suc-mul i z in let e : at + z + i * z ≡ at + suc i * z = omega arith in e)
+
+-- the element at i of k, of z octets each, lies within n octets
+pub row-in : (n at i k z : ℕ) → i < k → at + k * z ≤ n → at + (i * z + z) ≤ n
+row-in n at i k z h g =
+    let e : suc i * z ≤ k * z = mul-le-mul (let a : suc i ≤ k = omega arith in a) (let b : z ≤ z = omega arith in b) in
+    let q = suc-mul i z in
+    omega arith
+
+drop-replicate : {A : Type 0} (z : A) (n k : ℕ) → drop n (replicate k z) ≡ replicate (k - n) z
+drop-replicate z zero k = ap (λ (j : ℕ). replicate j z) (let e : k ≡ k - 0 = omega arith in e)
+drop-replicate z (suc n) zero = ap (λ (j : ℕ). replicate j z) (let e : 0 ≡ 0 - suc n = omega arith in e)
+drop-replicate z (suc n) (suc k) = drop-replicate z n k ∙ ap (λ (j : ℕ). replicate j z) (let e : k - n ≡ suc k - suc n = omega arith in e)
+
+pub record PadInv {A : Type 0} (z : A) (m : ℕ) (l : List A) (n : ℕ) (out : List A) (i : ℕ) : Type 0 where
+  pub within : i ≤ n
+  pub small : n ≤ m
+  pub long : length l ≡ n
+  pub kept : length out ≡ m
+  pub copy : CopyInv z (replicate m z) 0 l n out i
+
+pub pad-start : {A : Type 0} (z y : A) (m n : ℕ) (l : List A) → y ≡ z → n ≤ m → length l ≡ n → PadInv z m l n (replicate m y) 0
+pad-start z y m n l e h g =
+    subst (λ x. PadInv z m l n (replicate m x) 0) (sym e)
+    (record { within = omega arith; small = h; long = g; kept = length-replicate m z; copy = copy-start m n (length-replicate m z) g (omega arith) (omega arith) })
+
+module _ {A : Type 0} {z : A} {m : ℕ} {l : List A} {n : ℕ} {out : List A} {i : ℕ} (v : PadInv z m l n out i) where
+  pub pad-next : (x : A) → i < n → x ≡ getD l i z → PadInv z m l n (set out i x) (i + 1)
+  pad-next x h e = record { within = omega arith; small = v .small; long = v .long; kept = length-set out i x ∙ v .kept; copy = copy-front (v .copy) x h e }
+
+  pub pad-end : n ≤ i → out ≡ filled z m l
+  unfolding filled
+  pad-end h = copy-paste (v .copy) h (v .long) ∙ ap (λ (r : List A). l ++ r) (ap (λ (j : ℕ). drop j (replicate m z)) (zero-add n ∙ sym (v .long)) ∙ drop-replicate z (length l) m)
+
+pub row-long : {A : Type 0} (w : List ℕ → ℕ → A) (z n : ℕ) (s : List ℕ) (at : ℕ) → length (row w z n s at) ≡ n
+row-long w z n s at = row-length w z n s at
+
+-- the element at a place of the row
+pub row-element : {A : Type 0} (w : List ℕ → ℕ → A) (z n : ℕ) (s : List ℕ) (at i : ℕ) (x d : A) → i < n → x ≡ w s (at + i * z) → x ≡ getD (row w z n s at) i d
+row-element w z n s at i x d h e = e ∙ sym (row-get w z n s at i d h)
+
+pub range-of : (s : List ℕ) (at a b : ℕ) → a ≡ at32 s at → b ≡ at32 s (at + 4) → record { low = a; high = b } ≡ rangeAt s at
+unfolding rangeAt
+range-of s at a b p q = ap₂ {C = ClientRange} (λ (x y : ℕ). record { low = x; high = y }) p q
+
+pub ruleset pads = (pad-start, row-long, pad-next, pad-end, row-element, range-of)
+
+-- ---- scopes
+first : (s : List ℕ) (x : ℕ) → partAt s x .reserve ≡ getD s (x + 0) 0
+unfolding partAt
+first s x = ap (λ (k : ℕ). getD s k 0) (let q : x ≡ x + 0 = omega arith in q)
+
+second : (s : List ℕ) (x : ℕ) → partAt s x .limit ≡ getD s (x + 1) 0
+unfolding partAt
+second s x = refl
+
+-- a part's column is every other octet
+column : (f : FilePart → ℕ) (c h : ℕ) (s : List ℕ) (at at′ : ℕ) → at′ ≡ at + c → ((x : ℕ) → f (partAt s x) ≡ getD s (x + c) 0)
+    → map f (row partAt 2 h s at) ≡ row (λ s at. getD s at 0) 2 h s at′
+unfolding row
+column f c zero s at at′ e p = refl
+column f c (suc h) s at at′ e p =
+    ap₂ {C = List ℕ} (λ (x : ℕ) (l : List ℕ). x ∷ l) (p at ∙ ap (λ (k : ℕ). getD s k 0) (sym e))
+    (column f c h s (at + 2) (at′ + 2) (let q : at′ + 2 ≡ at + 2 + c = omega arith in q) p)
+
+pub scope-of : (h : ℕ) (s : List ℕ) (at a : ℕ) (r l : List ℕ) → a ≡ at32 s at → r ≡ filled 0 8 (row (λ s at. getD s at 0) 2 h s (at + 6)) → l ≡ filled 0 8 (row (λ s at. getD s at 0) 2 h s (at + 7))
+    → record { lowest = a; size = getD s (at + 4) 0; ttl = getD s (at + 5) 0; reserve = r; limit = l } ≡ storedScope (scopeAt h s at)
+unfolding storedScope scopeAt
+scope-of h s at a r l ea er el =
+    let cr = column (λ p. p .reserve) 0 h s (at + 6) (at + 6) (let q : at + 6 ≡ at + 6 + 0 = omega arith in q) (λ x. first s x) in
+    let cl = column (λ p. p .limit) 1 h s (at + 6) (at + 7) (let q : at + 7 ≡ at + 6 + 1 = omega arith in q) (λ x. second s x) in
+    let pr : r ≡ filled 0 8 (map (λ p. p .reserve) (row partAt 2 h s (at + 6))) = er ∙ ap (filled 0 8) (sym cr) in
+    let pl : l ≡ filled 0 8 (map (λ p. p .limit) (row partAt 2 h s (at + 6))) = el ∙ ap (filled 0 8) (sym cl) in
+    cc
+
+pub scopes-long : (h z n : ℕ) (s : List ℕ) (at : ℕ) → length (map storedScope (row (scopeAt h) z n s at)) ≡ n
+scopes-long h z n s at = length-map (row (scopeAt h) z n s at) storedScope ∙ row-length (scopeAt h) z n s at
+
+pub scopes-element : (h z n : ℕ) (s : List ℕ) (at i : ℕ) (x d : Scope) → i < n → x ≡ storedScope (scopeAt h s (at + i * z)) → x ≡ getD (map storedScope (row (scopeAt h) z n s at)) i d
+unfolding row
+scopes-element h z n s at i x d g e = e ∙ sym (mapped n s at i g)
+  where
+    mapped : (n : ℕ) (s : List ℕ) (at i : ℕ) → i < n → getD (map storedScope (row (scopeAt h) z n s at)) i d ≡ storedScope (scopeAt h s (at + i * z))
+    mapped zero s at i g = absurd (omega arith)
+    mapped (suc n) s at zero g = ap (λ (k : ℕ). storedScope (scopeAt h s k)) (let q = zero-mul z in let e : at ≡ at + 0 * z = omega arith in e)
+    mapped (suc n) s at (suc i) g = mapped n s (at + z) i (omega arith) ∙ ap (λ (k : ℕ). storedScope (scopeAt h s k)) (let q = suc-mul i z in let e : at + z + i * z ≡ at + suc i * z = omega arith in e)
+
+pub ruleset scopePads = (pad-start, pad-next, pad-end, scopes-long, scopes-element, scope-of)

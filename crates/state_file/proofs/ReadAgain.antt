@@ -1,0 +1,127 @@
+-- A file that the records can hold is the file of its records.
+use mathlib.Core.Bool.{Bool, false, true}
+use mathlib.Core.List.{List, [], _++_, _∷_, map}
+use mathlib.Core.Path.{_∙_, _≡_, ap, ap₂, refl, sym}
+use Prim.Native.Nat.{_+_, _-_, _<_, _≤_, ℕ}
+use native.Mathlib.Omega.{arith}
+use lib.ListN.{length, length-map, replicate, take}
+use lib.Seq.{take-append-seam}
+use borrow.Author.Tests.{ltb-false}
+use Rattle.address_set.specs.AddressSet.{offsets}
+use Rattle.lists.specs.All.{All, all-head, allBy}
+use Rattle.lists.specs.Pick.{pick}
+use Rattle.state.specs.Book.{leasesOf, rangesOf, scopesOf, zeroScope}
+use Rattle.state.specs.Layout.{table-back}
+use Rattle.state.specs.declared.ClientRange.{ClientRange}
+use Rattle.state_file.proofs.WholeForm.{server, tenants, ts}
+use Rattle.state_file.specs.File.{File, FileLease, FilePart, FileScope, fileFormat, leaseFormat, scopeFormat}
+use Rattle.state_file.specs.RecordLaws.{Storable, filled-take}
+use Rattle.state_file.specs.Records.{filedBook, filedFrom, filedScope, filled, fitsB, isOffset, leasesFitB, pairUp, storableB, storedScope, storedState, storedTable, tenantsFrom, zeroRange}
+use Rattle.state_file.specs.TenantLaws.{leases-again}
+
+-- ---- from tests to facts
+pub all-facts : {A : Type 0} (t : A → Bool) (P : A → Type 0) (l : List A) → ((x : A) → t x ≡ true → P x) → allBy t l ≡ true → All P l
+unfolding All
+all-facts t P [] f e = tt
+all-facts t P (x ∷ l) f e = let p = all-head t x l e in (f x (p .0), all-facts t P l f (p .1))
+
+pub two-facts : {A : Type 0} (P Q R : A → Type 0) (l : List A) → ((x : A) → P x → Q x → R x) → All P l → All Q l → All R l
+unfolding All
+two-facts P Q R [] f p q = tt
+two-facts P Q R (x ∷ l) f p q = (f x (p .0) (q .0), two-facts P Q R l f (p .1) (q .1))
+
+pub neither : (b c : Bool) → pick b false c ≡ true → (b ≡ false) × (c ≡ true)
+unfolding pick
+neither true c e = let z : _≡_ {A = ℕ} 0 1 = cc in absurd (omega arith)
+neither false c e = (refl, e)
+
+pub both : (b c : Bool) → pick b c false ≡ true → (b ≡ true) × (c ≡ true)
+unfolding pick
+both true c e = (refl, e)
+both false c e = let z : _≡_ {A = ℕ} 0 1 = cc in absurd (omega arith)
+
+-- what a lease needs to be stored
+record Fits (x : FileLease) : Type 0 where
+  from : 1 ≤ x .tenant
+  to : x .tenant < 9
+  short : length (x .id) ≤ 32
+  low : allBy isOffset (x .offsets) ≡ true
+
+fits-of : (x : FileLease) → storableB x ≡ true → Fits x
+unfolding storableB
+fits-of x e =
+    let a = neither _ _ e in
+    let b = neither _ _ (a .1) in
+    let c = neither _ _ (b .1) in
+    let p = ltb-false (x .tenant) 1 (a .0) in
+    let q = ltb-false 8 (x .tenant) (b .0) in
+    record { from = p; to = omega arith; short = ltb-false 32 (length (x .id)) (c .0); low = c .1 }
+
+storable-of : (x : FileLease) → Fits x → leaseFormat .ok x → Storable x
+storable-of x v h = record { short = v .short; rising = h .1 .1 .1 .1 .1 .1 .1 .1; low = v .low }
+
+-- ---- scopes
+pair-append : (a b x y : List ℕ) → length a ≡ length b → pairUp (a ++ x) (b ++ y) ≡ pairUp a b ++ pairUp x y
+unfolding pairUp
+pair-append [] [] x y e = refl
+pair-append [] (c ∷ b) x y e = absurd (omega arith)
+pair-append (c ∷ a) [] x y e = absurd (omega arith)
+pair-append (c ∷ a) (d ∷ b) x y e = ap {B = List FilePart} (λ (r : List FilePart). record { reserve = c; limit = d } ∷ r) (pair-append a b x y (let q : length a ≡ length b = omega arith in q))
+
+pair-parts : (ps : List FilePart) → pairUp (map (λ p. p .reserve) ps) (map (λ p. p .limit) ps) ≡ ps
+unfolding pairUp
+pair-parts [] = refl
+pair-parts (p ∷ ps) = ap {B = List FilePart} (λ (r : List FilePart). p ∷ r) (pair-parts ps)
+
+parts-again : (ps : List FilePart) → take (length ps) (pairUp (filled 0 8 (map (λ p. p .reserve) ps)) (filled 0 8 (map (λ p. p .limit) ps))) ≡ ps
+unfolding filled
+parts-again ps =
+    let l : length (map (λ p. p .reserve) ps) ≡ length (map (λ p. p .limit) ps) = length-map ps (λ p. p .reserve) ∙ sym (length-map ps (λ p. p .limit)) in
+    ap (take (length ps)) (pair-append (map (λ p. p .reserve) ps) (map (λ p. p .limit) ps) _ _ l ∙ ap (λ (x : List FilePart). x ++ pairUp (replicate (8 - length (map (λ p. p .reserve) ps)) 0) (replicate (8 - length (map (λ p. p .limit) ps)) 0)) (pair-parts ps))
+    ∙ take-append-seam ps _
+
+scope-again : (n : ℕ) (c : FileScope) → length (c .parts) ≡ n → filedScope n (storedScope c) ≡ c
+unfolding filedScope storedScope
+scope-again n c e =
+    ap {B = FileScope} (λ (ps : List FilePart). record { lowest = c .lowest; size = c .size; ttl = c .ttl; parts = ps })
+    (ap (λ (k : ℕ). take k (pairUp (filled 0 8 (map (λ p. p .reserve) (c .parts))) (filled 0 8 (map (λ p. p .limit) (c .parts))))) (sym e) ∙ parts-again (c .parts))
+
+scopes-again : (n : ℕ) (l : List FileScope) → All (scopeFormat n .ok) l → map (filedScope n) (map storedScope l) ≡ l
+unfolding All
+scopes-again n [] h = refl
+scopes-again n (c ∷ l) h = ap₂ {C = List FileScope} (λ (x : FileScope) (r : List FileScope). x ∷ r) (scope-again n c (h .0 .1 .1 .1 .0)) (scopes-again n l (h .1))
+
+-- ---- the file
+module _ (f : File) (h : fileFormat .ok f) (e : fitsB f ≡ true) where
+  leases-fit : allBy storableB (f .leases) ≡ true
+  unfolding fitsB leasesFitB
+  leases-fit = both _ _ (neither _ _ (neither _ _ e .1) .1) .0
+
+  leases-facts : All Fits (f .leases)
+  leases-facts = all-facts storableB Fits (f .leases) fits-of leases-fit
+
+  leases-filed : filedFrom 1 (leasesOf (storedTable f)) ≡ f .leases
+  unfolding storedTable
+  leases-filed =
+      ap (filedFrom 1) (table-back (tenantsFrom 1 8 (f .leases)))
+      ∙ leases-again 8 (f .leases) (h .1 .1 .1 .1)
+      (two-facts Fits Fits (λ x. 1 ≤ x .tenant) (f .leases) (λ x v w. v .from) leases-facts leases-facts)
+      (two-facts Fits Fits (λ x. x .tenant < 1 + 8) (f .leases) (λ x v w. v .to) leases-facts leases-facts)
+      (two-facts Fits (leaseFormat .ok) Storable (f .leases) storable-of leases-facts (h .1 .1 .1 .0 .1))
+
+  ranges-filed : rangesOf (storedState f) ≡ f .tenants
+  unfolding storedState
+  ranges-filed = filled-take zeroRange 8 (f .tenants)
+
+  scopes-filed : map (filedScope (length (f .tenants))) (scopesOf (storedState f)) ≡ f .scopes
+  unfolding storedState
+  scopes-filed =
+      ap (map (filedScope (length (f .tenants)))) (ap (λ (k : ℕ). take k (filled zeroScope 4 (map storedScope (f .scopes)))) (sym (length-map (f .scopes) storedScope)) ∙ filled-take zeroScope 4 (map storedScope (f .scopes)))
+      ∙ scopes-again (length (f .tenants)) (f .scopes) (h .1 .1 .0 .1)
+
+  pub book-again : filedBook (storedState f) (storedTable f) ≡ f
+  unfolding filedBook storedState
+  book-again = ap₂ (λ (ts : List ClientRange) (cs : List FileScope). make ts cs (filedFrom 1 (leasesOf (storedTable f)))) ranges-filed scopes-filed ∙ ap (make (f .tenants) (f .scopes)) leases-filed
+    where
+      make : List ClientRange → List FileScope → List FileLease → File
+      make ts cs ls = record { server = f .server; clock = f .clock; tenants = ts; scopes = cs; leases = ls }

@@ -1,0 +1,580 @@
+-- A sound book's file is one that the records can hold, and its records are the book's.
+use mathlib.Core.Bool.{Bool, _&&_, false, true}
+use mathlib.Core.List.{List, [], _++_, _∷_, map}
+use mathlib.Core.Path.{_∙_, _≡_, ap, ap₂, refl, sym}
+use Prim.Native.Nat.{_*_, _+_, _-_, _<_, _≤_, min, suc, zero, ℕ}
+use native.Mathlib.Nat.{suc-mul, zero-mul}
+use native.Mathlib.Omega.{arith}
+use lib.Dec.{eqb, leb, ltb}
+use lib.ListN.{drop, getD, length, length-append, length-drop, length-map, replicate, take}
+use lib.Seq.{length-take-le}
+use borrow.Author.Tests.{eqb-true, le-leb, le-ltb, leb-true, lt-ltb, ne-eqb}
+use Rattle.address_set.specs.AddressSet.{offsets}
+use Rattle.address_set.specs.Laws.{length-offsets}
+use Rattle.address_set.specs.ListLaws.{offsets-small, rises-offsets}
+use Rattle.identifier.specs.Order.{orderOf}
+use Rattle.lists.specs.All.{All, all-append, all-cons, all-head, allBy, allTo, each-to, pairs-head, pairsBy}
+use Rattle.lists.specs.Both.{and-parts}
+use Rattle.lists.specs.Pick.{pick}
+use Rattle.soundness.specs.Book.{AllRules, rules-of}
+use Rattle.soundness.specs.Sound.{blankB, countsB, few, idB, layoutB, paddedB, rangeZero, recordsB, rule1, rule13, rulesOf, scopeZero, settingsB, sizeB, soundB, tailB, unusedB, zeroFrom}
+use Rattle.state.specs.Book.{idOf, inUse, laidOut, leasesOf, ordered, rangesOf, scopesOf, tableOf, zeroLease, zeroScope}
+use Rattle.state.specs.declared.ClientRange.{ClientRange}
+use Rattle.state.specs.declared.Lease.{Lease}
+use Rattle.state.specs.declared.LeaseTable.{LeaseTable}
+use Rattle.state.specs.declared.Scope.{Scope}
+use Rattle.state.specs.declared.State.{State}
+use Rattle.state.specs.declared.TenantLeases.{TenantLeases}
+use Rattle.state_file.proofs.Limit.{limits}
+use Rattle.state_file.proofs.ReadAgain.{all-facts, two-facts}
+use Rattle.state_file.proofs.RowLaws.{pair-length}
+use Rattle.state_file.proofs.WholeForm.{server, tenants, ts}
+use Rattle.state_file.proofs.Writes.{file-length, lease-length, ranges-length, scope-length}
+use Rattle.state_file.specs.File.{FileLease, fileFormat, isAfter, leaseFormat, orderedFrom, partFormat, scopeFormat, tenantFormat}
+use Rattle.state_file.specs.RecordLaws.{Neat, filled-back}
+use Rattle.state_file.specs.Records.{fewOf, filed, filedBook, filedFrom, filedScope, filled, fitsB, isOffset, leasesFitB, ofTenant, pairUp, storableB, stored, storedScope, storedState, storedTable, tenantsFrom, zeroRange}
+use Rattle.state_file.specs.Rows.{leaseOctets, scopeRow, tenantRow, writeFrom}
+use Rattle.state_file.specs.StateFile.{octetsOf}
+use Rattle.state_file.specs.TenantLaws.{leases-back}
+use Rattle.state_file.specs.Typed.{Typed, TypedLease, TypedRange, TypedScope, TypedTenant}
+
+-- ---- facts about all of a list
+all-take : {A : Type 0} (P : A → Type 0) (n : ℕ) (l : List A) → All P l → All P (take n l)
+unfolding All
+all-take P zero l h = tt
+all-take P (suc n) [] h = tt
+all-take P (suc n) (x ∷ l) h = (h .0, all-take P n l (h .1))
+
+all-drop : {A : Type 0} (P : A → Type 0) (n : ℕ) (l : List A) → All P l → All P (drop n l)
+unfolding All
+all-drop P zero l h = h
+all-drop P (suc n) [] h = tt
+all-drop P (suc n) (x ∷ l) h = all-drop P n l (h .1)
+
+all-mapped : {A B : Type 0} (P : B → Type 0) (g : A → B) (l : List A) → All (λ x. P (g x)) l → All P (map g l)
+unfolding All
+all-mapped P g [] h = tt
+all-mapped P g (x ∷ l) h = (h .0, all-mapped P g l (h .1))
+
+all-joined : {A : Type 0} (P : A → Type 0) (x y : List A) → All P x → All P y → All P (x ++ y)
+unfolding All
+all-joined P [] y p q = q
+all-joined P (a ∷ x) y p q = (p .0, all-joined P x y (p .1) q)
+
+all-weak : (m n : ℕ) (l : List ℕ) → m ≤ n → All (λ x. x < m) l → All (λ x. x < n) l
+unfolding All
+all-weak m n [] h a = tt
+all-weak m n (x ∷ l) h a = (let g = a .0 in omega arith, all-weak m n l h (a .1))
+
+-- ---- what is unused is zero
+zeros-are : (l : List ℕ) → allBy (λ x. eqb x 0) l ≡ true → l ≡ replicate (length l) 0
+zeros-are [] e = refl
+zeros-are (x ∷ l) e =
+    let p = all-head (λ x. eqb x 0) x l e in
+    ap₂ {C = List ℕ} (λ (y : ℕ) (r : List ℕ). y ∷ r) (eqb-true x 0 (p .0)) (zeros-are l (p .1))
+
+zero-tail : (n k : ℕ) (l : List ℕ) → length l ≡ k → zeroFrom n l ≡ true → drop n l ≡ replicate (k - n) 0
+unfolding zeroFrom
+zero-tail n k l e h = zeros-are (drop n l) h ∙ ap (λ (j : ℕ). replicate j 0) (length-drop n l ∙ ap (λ (j : ℕ). j - n) e)
+
+zero-whole : (k : ℕ) (l : List ℕ) → length l ≡ k → zeroFrom 0 l ≡ true → l ≡ replicate k 0
+unfolding zeroFrom
+zero-whole k l e h = zeros-are l h ∙ ap (λ (j : ℕ). replicate j 0) e
+
+range-zero : (r : ClientRange) → rangeZero r ≡ true → r ≡ zeroRange
+unfolding rangeZero
+range-zero r e =
+    let p = and-parts _ _ e in
+    let a : r .low ≡ 0 = eqb-true _ _ (p .0) in
+    let b : r .high ≡ 0 = eqb-true _ _ (p .1) in
+    ap₂ {C = ClientRange} (λ (x y : ℕ). record { low = x; high = y }) a b
+
+ranges-zero : (l : List ClientRange) → allBy rangeZero l ≡ true → l ≡ replicate (length l) zeroRange
+ranges-zero [] e = refl
+ranges-zero (x ∷ l) e =
+    let p = all-head rangeZero x l e in
+    ap₂ {C = List ClientRange} (λ (y : ClientRange) (r : List ClientRange). y ∷ r) (range-zero x (p .0)) (ranges-zero l (p .1))
+
+scope-zero : (c : Scope) → TypedScope c → scopeZero c ≡ true → c ≡ zeroScope
+unfolding scopeZero tailB
+scope-zero c v e =
+    let p = and-parts _ _ e in
+    let q = and-parts _ _ (p .1) in
+    let r = and-parts _ _ (q .1) in
+    let t = and-parts _ _ (r .1) in
+    let a : c .lowest ≡ 0 = eqb-true _ _ (p .0) in
+    let b : c .size ≡ 0 = eqb-true _ _ (q .0) in
+    let d : c .ttl ≡ 0 = eqb-true _ _ (r .0) in
+    let x : c .reserve ≡ replicate 8 0 = zero-whole 8 (c .reserve) (v .reserves) (t .0) in
+    let y : c .limit ≡ replicate 8 0 = zero-whole 8 (c .limit) (v .limits) (t .1) in
+    ap₂ (λ (m : ℕ) (n : ℕ). make m n (c .ttl) (c .reserve) (c .limit)) a b ∙ ap₂ (λ (n : ℕ) (l : List ℕ). make 0 0 n l (c .limit)) d x ∙ ap (make 0 0 0 (replicate 8 0)) y
+  where
+    make : ℕ → ℕ → ℕ → List ℕ → List ℕ → Scope
+    make m n o l k = record { lowest = m; size = n; ttl = o; reserve = l; limit = k }
+
+scopes-zero : (l : List Scope) → All TypedScope l → allBy scopeZero l ≡ true → l ≡ replicate (length l) zeroScope
+unfolding All
+scopes-zero [] v e = refl
+scopes-zero (x ∷ l) v e =
+    let p = all-head scopeZero x l e in
+    ap₂ {C = List Scope} (λ (y : Scope) (r : List Scope). y ∷ r) (scope-zero x (v .0) (p .0)) (scopes-zero l (v .1) (p .1))
+
+lease-zero : (l : Lease) → TypedLease l → unusedB l ≡ true → l ≡ zeroLease
+unfolding unusedB blankB
+lease-zero l v e =
+    let p = and-parts _ _ e in
+    let b = and-parts _ _ (p .0) in
+    let b1 = and-parts _ _ (b .1) in
+    let b2 = and-parts _ _ (b1 .1) in
+    let q = and-parts _ _ (p .1) in
+    let q1 = and-parts _ _ (q .1) in
+    let q2 = and-parts _ _ (q1 .1) in
+    let e1 : l .scope ≡ 0 = eqb-true _ _ (b .0) in
+    let e2 : l .«id_len» ≡ 0 = eqb-true _ _ (b1 .0) in
+    let e3 : l .kind ≡ 0 = eqb-true _ _ (b2 .0) in
+    let e4 : l .xid ≡ 0 = eqb-true _ _ (b2 .1) in
+    let e5 : l .start ≡ 0 = eqb-true _ _ (q .0) in
+    let e6 : l .end ≡ 0 = eqb-true _ _ (q1 .0) in
+    let e7 : l .addresses ≡ 0 = eqb-true _ _ (q2 .0) in
+    let e8 : l .id ≡ replicate 32 0 = zero-whole 32 (l .id) (v .long) (q2 .1) in
+    ap₂ (λ (x y : ℕ). make x y (l .id) (l .kind) (l .xid) (l .start) (l .end) (l .addresses)) e1 e2
+    ∙ ap₂ (λ (x : List ℕ) (y : ℕ). make 0 0 x y (l .xid) (l .start) (l .end) (l .addresses)) e8 e3
+    ∙ ap₂ (λ (x y : ℕ). make 0 0 (replicate 32 0) 0 x y (l .end) (l .addresses)) e4 e5
+    ∙ ap₂ (make 0 0 (replicate 32 0) 0 0 0) e6 e7
+  where
+    make : ℕ → ℕ → List ℕ → ℕ → ℕ → ℕ → ℕ → ℕ → Lease
+    make a b c d e f g h = record { scope = a; «id_len» = b; id = c; kind = d; xid = e; start = f; end = g; addresses = h }
+
+leases-zero : (l : List Lease) → All TypedLease l → allBy unusedB l ≡ true → l ≡ replicate (length l) zeroLease
+unfolding All
+leases-zero [] v e = refl
+leases-zero (x ∷ l) v e =
+    let p = all-head unusedB x l e in
+    ap₂ {C = List Lease} (λ (y : Lease) (r : List Lease). y ∷ r) (lease-zero x (v .0) (p .0)) (leases-zero l (v .1) (p .1))
+
+-- ---- a tenant's records
+record Good (t : TenantLeases) : Type 0 where
+  typed : TypedTenant t
+  records : recordsB t ≡ true
+  layout : layoutB t ≡ true
+
+module _ (t : TenantLeases) (v : Good t) where
+  good-count : t .count ≤ 16
+  unfolding recordsB
+  good-count = leb-true _ _ (and-parts (leb (t .count) 16) (allBy idB (inUse t)) (v .records) .0)
+
+  good-length : length (inUse t) ≡ t .count
+  good-length = length-take-le (t .count) (t .leases) (let c = good-count in omega (arith, v .typed .long))
+
+  good-ids : allBy idB (inUse t) ≡ true
+  unfolding recordsB
+  good-ids = and-parts (leb (t .count) 16) (allBy idB (inUse t)) (v .records) .1
+
+  good-order : pairsBy ordered (inUse t) ≡ true
+  unfolding layoutB
+  good-order = and-parts (pairsBy ordered (inUse t)) (allBy paddedB (inUse t) && allBy unusedB (drop (t .count) (t .leases))) (v .layout) .0
+
+  good-padded : allBy paddedB (inUse t) ≡ true
+  unfolding layoutB
+  good-padded = and-parts (allBy paddedB (inUse t)) (allBy unusedB (drop (t .count) (t .leases))) (and-parts (pairsBy ordered (inUse t)) (allBy paddedB (inUse t) && allBy unusedB (drop (t .count) (t .leases))) (v .layout) .1) .0
+
+  good-unused : allBy unusedB (drop (t .count) (t .leases)) ≡ true
+  unfolding layoutB
+  good-unused = and-parts (allBy paddedB (inUse t)) (allBy unusedB (drop (t .count) (t .leases))) (and-parts (pairsBy ordered (inUse t)) (allBy paddedB (inUse t) && allBy unusedB (drop (t .count) (t .leases))) (v .layout) .1) .1
+
+  good-typed : All TypedLease (inUse t)
+  good-typed = all-take TypedLease (t .count) (t .leases) (v .typed .each)
+
+  good-laid : laidOut (inUse t) ≡ t
+  unfolding laidOut filled
+  good-laid =
+      ap₂ {C = TenantLeases} (λ (l : List Lease) (n : ℕ). record { leases = l; count = n })
+      (filled-back zeroLease 16 (t .count) (t .leases) good-length
+      (leases-zero (drop (t .count) (t .leases)) (all-drop TypedLease (t .count) (t .leases) (v .typed .each)) good-unused
+      ∙ ap (λ (k : ℕ). replicate k zeroLease) (length-drop (t .count) (t .leases) ∙ ap (λ (k : ℕ). k - t .count) (v .typed .long))))
+      good-length
+
+-- a lease in use
+record Fine (l : Lease) : Type 0 where
+  typed : TypedLease l
+  most : l .«id_len» ≤ 32
+  padded : paddedB l ≡ true
+
+id-most : (l : Lease) → idB l ≡ true → l .«id_len» ≤ 32
+unfolding idB
+id-most l e = leb-true _ _ (and-parts (leb 2 (l .«id_len»)) (leb (l .«id_len») 32) e .1)
+
+good-fine : (t : TenantLeases) → Good t → All Fine (inUse t)
+good-fine t v =
+    two-facts (λ l. (TypedLease l) × (l .«id_len» ≤ 32)) (λ l. paddedB l ≡ true) Fine (inUse t) (λ l p q. record { typed = p .0; most = p .1; padded = q })
+    (two-facts TypedLease (λ l. l .«id_len» ≤ 32) (λ l. (TypedLease l) × (l .«id_len» ≤ 32)) (inUse t) (λ l p q. (p, q)) (good-typed t v)
+    (all-facts idB (λ l. l .«id_len» ≤ 32) (inUse t) id-most (good-ids t v)))
+    (all-facts paddedB (λ l. paddedB l ≡ true) (inUse t) (λ l p. p) (good-padded t v))
+
+id-length : (l : Lease) → Fine l → length (take (l .«id_len») (l .id)) ≡ l .«id_len»
+id-length l v = length-take-le (l .«id_len») (l .id) (let m = v .most in omega (arith, v .typed .long))
+
+fine-neat : (l : Lease) → Fine l → Neat l
+unfolding paddedB
+fine-neat l v = record { long = id-length l v; zeros = zero-tail (l .«id_len») 32 (l .id) (v .typed .long) (v .padded); bits = v .typed .addresses }
+
+fine-ok : (t : ℕ) (l : Lease) → t < 256 → Fine l → leaseFormat .ok (filed t l)
+unfolding filed
+fine-ok t l h v =
+    let w = v .typed in
+    let n = id-length l v in
+    let m = v .most in
+    let k = length-offsets (l .addresses) in (
+      h,
+      (
+        w .scope,
+        (
+          (let g : length (take (l .«id_len») (l .id)) < 256 = omega arith in g, all-take (λ x. x < 256) (l .«id_len») (l .id) (w .id)),
+          (
+            w .kind,
+            (
+              w .xid,
+              (
+                w .start,
+                (
+                  w .end,
+                  ((let g : length (offsets (l .addresses)) < 256 = omega arith in g, all-weak 64 256 (offsets (l .addresses)) (omega arith) (offsets-small (l .addresses))), rises-offsets (l .addresses)),
+                ),
+              ),
+            ),
+          ),
+        ),
+      ),
+    )
+
+offsets-below : (l : List ℕ) → All (λ x. x < 64) l → allBy isOffset l ≡ true
+unfolding All allBy
+offsets-below [] e = refl
+offsets-below (x ∷ l) e = all-cons isOffset x l (lt-ltb x 64 (e .0)) (offsets-below l (e .1))
+
+passes : (b c : Bool) → b ≡ false → c ≡ true → pick b false c ≡ true
+unfolding pick
+passes b c e p = ap (λ (x : Bool). pick x false c) e ∙ p
+
+fine-storable : (t : ℕ) (l : Lease) → 1 ≤ t → t ≤ 8 → Fine l → storableB (filed t l) ≡ true
+unfolding storableB filed
+fine-storable t l h g v =
+    let n = id-length l v in let m = v .most in
+    passes _ _ (le-ltb t 1 h) (passes _ _ (le-ltb 8 t g) (passes _ _ (le-ltb 32 (length (take (l .«id_len») (l .id))) (omega arith)) (offsets-below (offsets (l .addresses)) (offsets-small (l .addresses)))))
+
+-- ---- all tenants
+leases-ok : (t : ℕ) (ts : List TenantLeases) → t + length ts ≤ 256 → All Good ts → All (leaseFormat .ok) (filedFrom t (map inUse ts))
+unfolding All filedFrom
+leases-ok t [] h v = tt
+leases-ok t (x ∷ ts) h v =
+    all-joined (leaseFormat .ok) (map (filed t) (inUse x)) (filedFrom (suc t) (map inUse ts))
+    (all-mapped (leaseFormat .ok) (filed t) (inUse x) (two-facts Fine Fine (λ l. leaseFormat .ok (filed t l)) (inUse x) (λ l p q. fine-ok t l (omega arith) p) (good-fine x (v .0)) (good-fine x (v .0))))
+    (leases-ok (suc t) ts (omega arith) (v .1))
+
+leases-storable : (t : ℕ) (ts : List TenantLeases) → 1 ≤ t → t + length ts ≤ 9 → All Good ts → allBy storableB (filedFrom t (map inUse ts)) ≡ true
+unfolding All filedFrom allBy
+leases-storable t [] l h v = refl
+leases-storable t (x ∷ ts) l h v =
+    all-append storableB (map (filed t) (inUse x)) (filedFrom (suc t) (map inUse ts)) (own (inUse x) (good-fine x (v .0))) (leases-storable (suc t) ts (omega arith) (omega arith) (v .1))
+  where
+    own : (ls : List Lease) → All Fine ls → allBy storableB (map (filed t) ls) ≡ true
+    own [] p = refl
+    own (y ∷ ls) p = all-cons storableB (filed t y) (map (filed t) ls) (fine-storable t y l (omega arith) (p .0)) (own ls (p .1))
+
+leases-neat : (ts : List TenantLeases) → All Good ts → All (All Neat) (map inUse ts)
+unfolding All
+leases-neat [] v = tt
+leases-neat (x ∷ ts) v = (two-facts Fine Fine Neat (inUse x) (λ l p q. fine-neat l p) (good-fine x (v .0)) (good-fine x (v .0)), leases-neat ts (v .1))
+
+leases-laid : (ts : List TenantLeases) → All Good ts → map laidOut (map inUse ts) ≡ ts
+unfolding All
+leases-laid [] v = refl
+leases-laid (x ∷ ts) v = ap₂ {C = List TenantLeases} (λ (y : TenantLeases) (r : List TenantLeases). y ∷ r) (good-laid x (v .0)) (leases-laid ts (v .1))
+
+-- ---- the order of the file from that of each tenant's identifiers
+first-not : (a : List ℕ) → eqb (orderOf [] a) 2 ≡ false
+unfolding orderOf
+first-not [] = refl
+first-not (x ∷ a) = refl
+
+next-not : (x y : Lease) → ordered x y ≡ true → eqb (orderOf (idOf x) (idOf y)) 2 ≡ false
+unfolding ordered
+next-not x y e = let z : orderOf (idOf x) (idOf y) ≡ 0 = eqb-true _ _ e in ne-eqb _ _ (λ (q : orderOf (idOf x) (idOf y) ≡ 2). absurd (omega arith))
+
+after-same : (t : ℕ) (a b : List ℕ) → eqb (orderOf a b) 2 ≡ false → isAfter t a t b ≡ false
+unfolding isAfter pick
+after-same t a b e = ap (λ (c : Bool). pick c false (pick c true (eqb (orderOf a b) 2))) (le-ltb t t (omega arith)) ∙ e
+
+after-less : (u t : ℕ) (a b : List ℕ) → u < t → isAfter u a t b ≡ false
+unfolding isAfter pick
+after-less u t a b h = ap (λ (c : Bool). pick c false (pick (ltb t u) true (eqb (orderOf a b) 2))) (lt-ltb u t h)
+
+-- the leases after x, and what follows the tenant's
+own-order : (t : ℕ) (x : Lease) (l : List Lease) (rest : List FileLease) → pairsBy ordered (x ∷ l) ≡ true → ((b : List ℕ) → orderedFrom t b rest ≡ true)
+    → orderedFrom t (idOf x) (map (filed t) l ++ rest) ≡ true
+unfolding orderedFrom filed
+own-order t x [] rest e r = r (idOf x)
+own-order t x (y ∷ l) rest e r =
+    let p = pairs-head ordered x (y ∷ l) e in
+    passes _ _ (after-same t (idOf x) (idOf y) (next-not x y (all-head (ordered x) y l (p .0) .0))) (own-order t y l rest (p .1) r)
+
+enter-order : (u t : ℕ) (a : List ℕ) (l : List Lease) (rest : List FileLease) → u < t → pairsBy ordered l ≡ true → ((v : ℕ) (b : List ℕ) → v ≤ t → orderedFrom v b rest ≡ true)
+    → orderedFrom u a (map (filed t) l ++ rest) ≡ true
+unfolding orderedFrom filed
+enter-order u t a [] rest h e r = r u a (omega arith)
+enter-order u t a (x ∷ l) rest h e r = passes _ _ (after-less u t a (idOf x) h) (own-order t x l rest e (λ b. r t b (omega arith)))
+
+leases-ordered : (u t : ℕ) (a : List ℕ) (ts : List TenantLeases) → u < t → All Good ts → orderedFrom u a (filedFrom t (map inUse ts)) ≡ true
+unfolding All filedFrom orderedFrom
+leases-ordered u t a [] h v = refl
+leases-ordered u t a (x ∷ ts) h v = enter-order u t a (inUse x) (filedFrom (suc t) (map inUse ts)) h (good-order x (v .0)) (λ w b g. leases-ordered w (suc t) b ts (omega arith) (v .1))
+
+-- ---- how many leases, and how many octets
+leases-many : (t : ℕ) (ts : List TenantLeases) → All Good ts → length (filedFrom t (map inUse ts)) ≤ length ts * 16
+unfolding All filedFrom
+leases-many t [] v = omega arith
+leases-many t (x ∷ ts) v =
+    let ih = leases-many (suc t) ts (v .1) in
+    let a = length-append (map (filed t) (inUse x)) (filedFrom (suc t) (map inUse ts)) in
+    let b = length-map (inUse x) (filed t) in
+    let c = good-length x (v .0) in
+    let d = good-count x (v .0) in
+    omega arith
+
+at-most : {A : Type 0} (w : ℕ → A → List ℕ) (P : A → Type 0) (most : ℕ) → ((i : ℕ) (x : A) → P x → length (w i x) ≤ most) → (k : ℕ) (l : List A) → All P l → length (writeFrom w k l) ≤ length l * most
+unfolding All writeFrom
+at-most w P most f k [] v = let z = zero-mul most in omega arith
+at-most w P most f k (x ∷ l) v =
+    let ih = at-most w P most f (suc k) l (v .1) in
+    let a = length-append (w k x) (writeFrom w (suc k) l) in
+    let b = f k x (v .0) in
+    let c = suc-mul (length l) most in
+    omega arith
+
+lease-most : (t i : ℕ) (l : Lease) → Fine l → length (leaseOctets t i l) ≤ 113
+unfolding leaseOctets
+lease-most t i l v =
+    let e = lease-length t l (min (l .«id_len») 32) (length (offsets (l .addresses))) (min (l .«id_len») 32 + 17 + length (offsets (l .addresses))) (v .typed .long) refl refl refl in
+    omega (arith, e .0, e .1)
+
+tenant-most : (i : ℕ) (t : TenantLeases) → Good t → length (tenantRow i t) ≤ 1808
+unfolding tenantRow
+tenant-most i t v =
+    let a = at-most (leaseOctets (i + 1)) Fine 113 (lease-most (i + 1)) 0 (inUse t) (good-fine t v) in
+    let b = good-length t v in
+    let c = good-count t v in
+    omega arith
+
+scope-most : (h i : ℕ) (c : Scope) → TypedScope c → length (scopeRow h i c) ≤ 22
+unfolding scopeRow
+scope-most h i c v = let e = scope-length c h (min h 8) (v .reserves) (v .limits) refl in omega (arith, e .0, e .1)
+
+-- ---- scopes
+firsts : (n : ℕ) (a b : List ℕ) → length a ≡ length b → map (λ p. p .reserve) (take n (pairUp a b)) ≡ take n a
+unfolding pairUp
+firsts zero a b e = refl
+firsts (suc n) [] b e = refl
+firsts (suc n) (x ∷ a) [] e = absurd (omega arith)
+firsts (suc n) (x ∷ a) (y ∷ b) e = ap {B = List ℕ} (λ (r : List ℕ). x ∷ r) (firsts n a b (let q : length a ≡ length b = omega arith in q))
+
+seconds : (n : ℕ) (a b : List ℕ) → length a ≡ length b → map (λ p. p .limit) (take n (pairUp a b)) ≡ take n b
+unfolding pairUp
+seconds zero a b e = refl
+seconds (suc n) [] [] e = refl
+seconds (suc n) [] (y ∷ b) e = absurd (omega arith)
+seconds (suc n) (x ∷ a) [] e = absurd (omega arith)
+seconds (suc n) (x ∷ a) (y ∷ b) e = ap {B = List ℕ} (λ (r : List ℕ). y ∷ r) (seconds n a b (let q : length a ≡ length b = omega arith in q))
+
+column-back : (n : ℕ) (l : List ℕ) → n ≤ 8 → length l ≡ 8 → zeroFrom n l ≡ true → filled 0 8 (take n l) ≡ l
+column-back n l h e z = filled-back 0 8 n l (length-take-le n l (omega arith)) (zero-tail n 8 l e z)
+
+scope-back : (n : ℕ) (c : Scope) → n ≤ 8 → TypedScope c → tailB n c ≡ true → storedScope (filedScope n c) ≡ c
+unfolding storedScope filedScope tailB
+scope-back n c h v e =
+    let p = and-parts (zeroFrom n (c .reserve)) (zeroFrom n (c .limit)) e in
+    let q : length (c .reserve) ≡ length (c .limit) = v .reserves ∙ sym (v .limits) in
+    ap₂ {C = Scope} (λ (x y : List ℕ). record { lowest = c .lowest; size = c .size; ttl = c .ttl; reserve = x; limit = y })
+    (ap (filled 0 8) (firsts n (c .reserve) (c .limit) q) ∙ column-back n (c .reserve) h (v .reserves) (p .0))
+    (ap (filled 0 8) (seconds n (c .reserve) (c .limit) q) ∙ column-back n (c .limit) h (v .limits) (p .1))
+
+scopes-back : (n : ℕ) (l : List Scope) → n ≤ 8 → All TypedScope l → allBy (tailB n) l ≡ true → map storedScope (map (filedScope n) l) ≡ l
+unfolding All
+scopes-back n [] h v e = refl
+scopes-back n (c ∷ l) h v e =
+    let p = all-head (tailB n) c l e in
+    ap₂ {C = List Scope} (λ (x : Scope) (r : List Scope). x ∷ r) (scope-back n c h (v .0) (p .0)) (scopes-back n l h (v .1) (p .1))
+
+parts-ok : (a b : List ℕ) → All (λ x. x < 256) a → All (λ x. x < 256) b → All (partFormat .ok) (pairUp a b)
+unfolding pairUp All
+parts-ok [] b p q = tt
+parts-ok (x ∷ a) [] p q = tt
+parts-ok (x ∷ a) (y ∷ b) p q = ((p .0, q .0), parts-ok a b (p .1) (q .1))
+
+scope-ok : (n k : ℕ) (c : Scope) → n ≤ 8 → k ≡ n → TypedScope c → scopeFormat k .ok (filedScope n c)
+unfolding filedScope
+scope-ok n k c h e v =
+    let l = pair-length 8 (c .reserve) (c .limit) (v .reserves) (v .limits) in
+    (v .lowest, (v .size, (v .ttl, (length-take-le n (pairUp (c .reserve) (c .limit)) (omega arith) ∙ sym e, all-take (partFormat .ok) n (pairUp (c .reserve) (c .limit)) (parts-ok (c .reserve) (c .limit) (v .reserve) (v .limit))))))
+
+-- ---- tenant by tenant
+tenant-at : (n t i : ℕ) (xs : List FileLease) → i < n → getD (tenantsFrom t n xs) i [] ≡ map stored (ofTenant (i + t) xs)
+unfolding tenantsFrom
+tenant-at zero t i xs h = absurd (omega arith)
+tenant-at (suc n) t zero xs h = ap (λ (k : ℕ). map stored (ofTenant k xs)) (let e : t ≡ 0 + t = omega arith in e)
+tenant-at (suc n) t (suc i) xs h = tenant-at n (suc t) i xs (omega arith) ∙ ap (λ (k : ℕ). map stored (ofTenant k xs)) (let e : i + suc t ≡ suc i + t = omega arith in e)
+
+leases-few : (i : ℕ) (ts : List TenantLeases) → All Good ts → length (getD (map inUse ts) i []) ≤ 16
+unfolding All
+leases-few i [] v = omega arith
+leases-few zero (x ∷ ts) v = let a = good-length x (v .0) in let b = good-count x (v .0) in omega arith
+leases-few (suc i) (x ∷ ts) v = leases-few i ts (v .1)
+
+picked : (b : Bool) (c : Bool) → b ≡ true → pick true b c ≡ true
+unfolding pick
+picked b c e = e
+
+-- ---- the book
+module _ (s : State) (b : LeaseTable) (v : Typed s b) (e : soundB s b ≡ true) where
+  rules : AllRules (rulesOf s b)
+  rules = rules-of s b e
+
+  counted-both : (countsB s ≡ true) × (allBy recordsB (b .tenants) ≡ true)
+  unfolding rulesOf rule1
+  counted-both = and-parts (countsB s) (allBy recordsB (b .tenants)) (rules .limits)
+
+  laid-both : (settingsB s ≡ true) × (allBy layoutB (b .tenants) ≡ true)
+  unfolding rulesOf rule13
+  laid-both = and-parts (settingsB s) (allBy layoutB (b .tenants)) (rules .layout)
+
+  few-most : (most n : ℕ) → few most n ≡ true → n ≤ most
+  unfolding few
+  few-most most n p = leb-true n most (and-parts (leb 1 n) (leb n most) p .1)
+
+  tenants-few : s .«tenant_count» ≤ 8
+  unfolding countsB
+  tenants-few = few-most 8 (s .«tenant_count») (and-parts (few 8 (s .«tenant_count»)) (few 4 (s .«scope_count») && allBy sizeB (scopesOf s)) (counted-both .0) .0)
+
+  scopes-few : s .«scope_count» ≤ 4
+  unfolding countsB
+  scopes-few =
+      few-most 4 (s .«scope_count»)
+      (and-parts (few 4 (s .«scope_count»)) (allBy sizeB (scopesOf s)) (and-parts (few 8 (s .«tenant_count»)) (few 4 (s .«scope_count») && allBy sizeB (scopesOf s)) (counted-both .0) .1) .0)
+
+  good : All Good (b .tenants)
+  good =
+      two-facts (λ t. (TypedTenant t) × (recordsB t ≡ true)) (λ t. layoutB t ≡ true) Good (b .tenants) (λ t p q. record { typed = p .0; records = p .1; layout = q })
+      (two-facts TypedTenant (λ t. recordsB t ≡ true) (λ t. (TypedTenant t) × (recordsB t ≡ true)) (b .tenants) (λ t p q. (p, q)) (v .leases)
+      (all-facts recordsB (λ t. recordsB t ≡ true) (b .tenants) (λ t p. p) (counted-both .1)))
+      (all-facts layoutB (λ t. layoutB t ≡ true) (b .tenants) (λ t p. p) (laid-both .1))
+
+  ranges-many : length (rangesOf s) ≡ s .«tenant_count»
+  ranges-many = length-take-le (s .«tenant_count») (s .tenants) (let h = tenants-few in omega (arith, v .eight))
+
+  scopes-many : length (scopesOf s) ≡ s .«scope_count»
+  scopes-many = length-take-le (s .«scope_count») (s .scopes) (let h = scopes-few in omega (arith, v .four))
+
+  -- its file has octets, few enough
+  leases-total : length (filedFrom 1 (leasesOf b)) ≤ 128
+  leases-total = let m = leases-many 1 (b .tenants) good in omega (arith, v .tenants)
+
+  pub book-ok : fileFormat .ok (filedBook s b)
+  unfolding filedBook
+  book-ok =
+      let t = leases-total in
+      let n = tenants-few in let m = scopes-few in
+      let a = ranges-many in let c = scopes-many in
+      let d = length-map (scopesOf s) (filedScope (s .«tenant_count»)) in (
+        (v .server, v .clock),
+        (
+          (let g : length (rangesOf s) < 256 = omega arith in g, ranges-ok),
+          (
+            (let g : length (map (filedScope (s .«tenant_count»)) (scopesOf s)) < 256 = omega arith in g, scopes-ok),
+            ((let g : length (filedFrom 1 (leasesOf b)) < 256 = omega arith in g, leases-ok 1 (b .tenants) (omega (arith, v .tenants)) good), leases-ordered 0 1 [] (b .tenants) (omega arith) good),
+          ),
+        ),
+      )
+    where
+      ranges-ok : All (tenantFormat .ok) (rangesOf s)
+      ranges-ok = two-facts TypedRange TypedRange (tenantFormat .ok) (rangesOf s) (λ r p q. (p .low, p .high)) (all-take TypedRange (s .«tenant_count») (s .tenants) (v .ranges)) (all-take TypedRange (s .«tenant_count») (s .tenants) (v .ranges))
+
+      scopes-ok : All (scopeFormat (length (rangesOf s)) .ok) (map (filedScope (s .«tenant_count»)) (scopesOf s))
+      scopes-ok = all-mapped (scopeFormat (length (rangesOf s)) .ok) (filedScope (s .«tenant_count»)) (scopesOf s)
+          (two-facts TypedScope TypedScope (λ c. scopeFormat (length (rangesOf s)) .ok (filedScope (s .«tenant_count») c)) (scopesOf s) (λ c p q. scope-ok (s .«tenant_count») (length (rangesOf s)) c tenants-few ranges-many p)
+          (all-take TypedScope (s .«scope_count») (s .scopes) (v .scopes)) (all-take TypedScope (s .«scope_count») (s .scopes) (v .scopes)))
+
+  pub book-short : length (octetsOf s b) ≤ 14628
+  book-short =
+      let f = file-length s b (v .tenants) in
+      let r = ranges-length 0 (rangesOf s) in
+      let c = at-most (scopeRow (s .«tenant_count»)) TypedScope 22 (scope-most (s .«tenant_count»)) 0 (scopesOf s) (all-take TypedScope (s .«scope_count») (s .scopes) (v .scopes)) in
+      let t = at-most tenantRow Good 1808 tenant-most 0 (b .tenants) good in
+      let n = tenants-few in let m = scopes-few in
+      let p = ranges-many in let q = scopes-many in
+      omega (arith, v .tenants)
+
+  -- the records can hold it
+  leases-same : tenantsFrom 1 8 (filedFrom 1 (leasesOf b)) ≡ leasesOf b
+  leases-same =
+      ap (λ (n : ℕ). tenantsFrom 1 n (filedFrom 1 (leasesOf b))) (sym (length-map (b .tenants) inUse ∙ v .tenants))
+      ∙ leases-back (leasesOf b) (leases-neat (b .tenants) good)
+
+  tenant-few : (i : ℕ) → i < 8 → fewOf (filedFrom 1 (leasesOf b)) (i + 1) ≡ true
+  unfolding fewOf
+  tenant-few i h =
+      let xs : List FileLease = filedFrom 1 (leasesOf b) in
+      let p : length (ofTenant (i + 1) (filedFrom 1 (leasesOf b))) ≡ length (getD (leasesOf b) i []) =
+      sym (length-map (ofTenant (i + 1) (filedFrom 1 (leasesOf b))) stored) ∙ ap length (sym (tenant-at 8 1 i (filedFrom 1 (leasesOf b)) h) ∙ ap (λ (l : List (List Lease)). getD l i []) leases-same) in
+      let q = leases-few i (b .tenants) good in
+      le-leb _ _ (let g : length (ofTenant (i + 1) (filedFrom 1 (leasesOf b))) ≤ 16 = omega arith in g)
+
+  pub book-fits : fitsB (filedBook s b) ≡ true
+  unfolding fitsB filedBook leasesFitB
+  book-fits =
+      let n = tenants-few in let m = scopes-few in
+      let a = ranges-many in let c = scopes-many in
+      let d = length-map (scopesOf s) (filedScope (s .«tenant_count»)) in
+      passes _ _ (le-ltb 8 (length (rangesOf s)) (omega arith)) (passes _ _ (le-ltb 4 (length (map (filedScope (s .«tenant_count»)) (scopesOf s))) (omega arith))
+      (ap (λ (x : Bool). pick x (allTo (λ i. fewOf (filedFrom 1 (leasesOf b)) (i + 1)) 8) false) (leases-storable 1 (b .tenants) (omega arith) (omega (arith, v .tenants)) good)
+      ∙ every-few))
+    where
+      every-few : pick true (allTo (λ i. fewOf (filedFrom 1 (leasesOf b)) (i + 1)) 8) false ≡ true
+      every-few = picked _ _ (each-to (λ i. fewOf (filedFrom 1 (leasesOf b)) (i + 1)) 8 tenant-few)
+
+  -- and hold what the book holds
+  pub table-same : storedTable (filedBook s b) ≡ b
+  unfolding storedTable filedBook tableOf
+  table-same = ap {B = LeaseTable} (λ (l : List TenantLeases). record { tenants = l }) (ap (map laidOut) leases-same ∙ leases-laid (b .tenants) good)
+
+  cut-tenants : min (s .«tenant_count») 8 ≡ s .«tenant_count»
+  cut-tenants = let n = tenants-few in omega arith
+
+  cut-scopes : min (s .«scope_count») 4 ≡ s .«scope_count»
+  cut-scopes = let n = scopes-few in omega arith
+
+  tails : (allBy rangeZero (drop (s .«tenant_count») (s .tenants)) ≡ true) × (allBy scopeZero (drop (s .«scope_count») (s .scopes)) ≡ true) × (allBy (tailB (s .«tenant_count»)) (scopesOf s) ≡ true)
+  unfolding settingsB
+  tails =
+      let p = and-parts (allBy rangeZero (drop (min (s .«tenant_count») 8) (s .tenants))) (allBy scopeZero (drop (min (s .«scope_count») 4) (s .scopes)) && allBy (tailB (min (s .«tenant_count») 8)) (scopesOf s)) (laid-both .0) in
+      let q = and-parts (allBy scopeZero (drop (min (s .«scope_count») 4) (s .scopes))) (allBy (tailB (min (s .«tenant_count») 8)) (scopesOf s)) (p .1) in
+      (ap (λ (n : ℕ). allBy rangeZero (drop n (s .tenants))) (sym cut-tenants) ∙ p .0, ap (λ (n : ℕ). allBy scopeZero (drop n (s .scopes))) (sym cut-scopes) ∙ q .0, ap (λ (n : ℕ). allBy (tailB n) (scopesOf s)) (sym cut-tenants) ∙ q .1)
+
+  ranges-same : filled zeroRange 8 (rangesOf s) ≡ s .tenants
+  ranges-same =
+      filled-back zeroRange 8 (s .«tenant_count») (s .tenants) ranges-many
+      (ranges-zero (drop (s .«tenant_count») (s .tenants)) (tails .0) ∙ ap (λ (k : ℕ). replicate k zeroRange) (length-drop (s .«tenant_count») (s .tenants) ∙ ap (λ (k : ℕ). k - s .«tenant_count») (v .eight)))
+
+  scopes-same : filled zeroScope 4 (map storedScope (map (filedScope (s .«tenant_count»)) (scopesOf s))) ≡ s .scopes
+  scopes-same =
+      ap (filled zeroScope 4) (scopes-back (s .«tenant_count») (scopesOf s) tenants-few (all-take TypedScope (s .«scope_count») (s .scopes) (v .scopes)) (tails .2))
+      ∙ filled-back zeroScope 4 (s .«scope_count») (s .scopes) scopes-many
+      (scopes-zero (drop (s .«scope_count») (s .scopes)) (all-drop TypedScope (s .«scope_count») (s .scopes) (v .scopes)) (tails .1)
+      ∙ ap (λ (k : ℕ). replicate k zeroScope) (length-drop (s .«scope_count») (s .scopes) ∙ ap (λ (k : ℕ). k - s .«scope_count») (v .four)))
+
+  pub state-same : storedState (filedBook s b) ≡ s
+  unfolding storedState filedBook
+  state-same =
+      ap₂ (λ (n m : ℕ). make n (filled zeroRange 8 (rangesOf s)) m (filled zeroScope 4 (map storedScope (map (filedScope (s .«tenant_count»)) (scopesOf s))))) ranges-many (length-map (scopesOf s) (filedScope (s .«tenant_count»)) ∙ scopes-many)
+      ∙ ap₂ (λ (ts : List ClientRange) (cs : List Scope). make (s .«tenant_count») ts (s .«scope_count») cs) ranges-same scopes-same
+    where
+      make : ℕ → List ClientRange → ℕ → List Scope → State
+      make n ts m cs = record { server = s .server; clock = s .clock; «tenant_count» = n; tenants = ts; «scope_count» = m; scopes = cs }

@@ -1,0 +1,100 @@
+-- The state file ("campus file" in document 01): its values and its format, section by section. Its lists have any length: what the
+-- records cannot hold is still a file, and unsound.
+use mathlib.Core.Bool.{Bool, false, true}
+use mathlib.Core.List.{List, [], _∷_}
+use Prim.Native.Nat.{ℕ}
+use lib.Dec.{eqb, leb, ltb}
+use lib.ListN.{length}
+use Rattle.address_set.specs.AddressSet.{rises}
+use Rattle.identifier.specs.Order.{orderOf}
+use Rattle.lists.specs.Pick.{pick}
+use Rattle.state.specs.declared.ClientRange.{ClientRange}
+use Rattle.state_file.specs.Format.{Format, Got, _⊗_, _▷_, after, bad, closed, counted, number, octet, only, times, viewed}
+
+-- a tenant's reserve and limit in a scope (document 01's share and limit)
+pub record FilePart : Type 0 where
+  pub reserve : ℕ
+  pub limit : ℕ
+
+pub record FileScope : Type 0 where
+  pub lowest : ℕ
+  pub size : ℕ
+  pub ttl : ℕ
+  pub parts : List FilePart
+
+pub record FileLease : Type 0 where
+  pub tenant : ℕ
+  pub scope : ℕ
+  pub id : List ℕ
+  pub kind : ℕ
+  pub xid : ℕ
+  pub start : ℕ
+  pub end : ℕ
+  pub offsets : List ℕ
+
+pub record File : Type 0 where
+  pub server : ℕ
+  pub clock : ℕ
+  pub tenants : List ClientRange
+  pub scopes : List FileScope
+  pub leases : List FileLease
+
+-- tenant t with identifier a is after tenant u with identifier b: by tenant, then by identifier
+unfoldable pub isAfter : ℕ → List ℕ → ℕ → List ℕ → Bool
+isAfter t a u b = pick (ltb t u) false (pick (ltb u t) true (eqb (orderOf a b) 2))
+
+-- tenant t with identifier a comes first, and none is after the next
+unfoldable pub orderedFrom : ℕ → List ℕ → List FileLease → Bool
+orderedFrom t a [] = true
+orderedFrom t a (b ∷ l) = pick (isAfter t a (b .tenant) (b .id)) false (orderedFrom (b .tenant) (b .id) l)
+
+abbrev pub ordered : List FileLease → Bool
+ordered = orderedFrom 0 []
+
+abbrev pub tenantFormat : Format ClientRange
+tenantFormat = viewed (λ p. record { low = p .0; high = p .1 }) (λ t. (t .low, t .high)) (number ⊗ number)
+
+abbrev pub partFormat : Format FilePart
+partFormat = viewed (λ p. record { reserve = p .0; limit = p .1 }) (λ t. (t .reserve, t .limit)) (octet ⊗ octet)
+
+-- with a part for each of n tenants
+abbrev pub scopeFormat : ℕ → Format FileScope
+scopeFormat n =
+    viewed (λ p. record { lowest = p .0; size = p .1 .0; ttl = p .1 .1 .0; parts = p .1 .1 .1 }) (λ s. (s .lowest, (s .size, (s .ttl, s .parts))))
+    (number ⊗ octet ⊗ octet ⊗ times n partFormat)
+
+-- the parts of a lease in the file's order, and the lease of its parts
+abbrev pub LeaseParts : Type 0
+LeaseParts = ℕ × (ℕ × (List ℕ × (ℕ × (ℕ × (ℕ × (ℕ × List ℕ))))))
+
+abbrev pub ofParts : LeaseParts → FileLease
+ofParts p = record { tenant = p .0; scope = p .1 .0; id = p .1 .1 .0; kind = p .1 .1 .1 .0; xid = p .1 .1 .1 .1 .0; start = p .1 .1 .1 .1 .1 .0; end = p .1 .1 .1 .1 .1 .1 .0; offsets = p .1 .1 .1 .1 .1 .1 .1 }
+
+abbrev pub toParts : FileLease → LeaseParts
+toParts l = (l .tenant, (l .scope, (l .id, (l .kind, (l .xid, (l .start, (l .end, l .offsets)))))))
+
+abbrev pub leaseFormat : Format FileLease
+leaseFormat = viewed ofParts toParts (octet ⊗ octet ⊗ counted octet ⊗ octet ⊗ number ⊗ number ⊗ number ⊗ only rises (counted octet))
+
+abbrev pub leasesFormat : Format (List FileLease)
+leasesFormat = only ordered (counted leaseFormat)
+
+-- the sections in the file's order, and the file of its sections
+abbrev pub Sections : Type 0
+Sections = (ℕ × ℕ) × (List ClientRange × (List FileScope × List FileLease))
+
+abbrev pub ofSections : Sections → File
+ofSections p = record { server = p .0 .0; clock = p .0 .1; tenants = p .1 .0; scopes = p .1 .1 .0; leases = p .1 .1 .1 }
+
+abbrev pub toSections : File → Sections
+toSections f = ((f .server, f .clock), (f .tenants, (f .scopes, f .leases)))
+
+-- server (its count is always 1), tenants, scopes, leases
+abbrev pub fileFormat : Format File
+fileFormat =
+    viewed ofSections toSections
+    (after 1 (number ⊗ number) ⊗ (counted tenantFormat ▷ (λ ts. counted (scopeFormat (length ts)) ⊗ leasesFormat)))
+
+-- the file that octets make; bad is refusal 20
+unfoldable pub fileOf : List ℕ → Got File
+fileOf s = pick (leb (length s) 14628) (closed (fileFormat .read s)) bad

@@ -1,0 +1,139 @@
+-- How the file's values stand in the book's records, and the book's in the file.
+use mathlib.Core.Bool.{Bool, false}
+use mathlib.Core.List.{List, [], _++_, _∷_, map}
+use Prim.Native.Nat.{_+_, _-_, suc, zero, ℕ}
+use lib.Dec.{eqb, leb, ltb}
+use lib.ListN.{length, replicate, take}
+use Rattle.address_set.specs.AddressSet.{offsets, readOffsets}
+use Rattle.lists.specs.All.{allBy, allTo}
+use Rattle.lists.specs.Filter.{filterBy}
+use Rattle.lists.specs.Part.{parts}
+use Rattle.lists.specs.Pick.{pick}
+use Rattle.state.specs.Book.{leasesOf, rangesOf, scopesOf, tableOf, zeroScope}
+use Rattle.state.specs.declared.ClientRange.{ClientRange}
+use Rattle.state.specs.declared.Lease.{Lease}
+use Rattle.state.specs.declared.LeaseTable.{LeaseTable}
+use Rattle.state.specs.declared.Scope.{Scope}
+use Rattle.state.specs.declared.State.{State}
+use Rattle.state_file.specs.File.{File, FileLease, FilePart, FileScope}
+
+-- l and then z, n in all
+unfoldable pub filled : {A : Type 0} → A → ℕ → List A → List A
+filled z n l = l ++ replicate (n - length l) z
+
+-- ---- leases
+-- a lease of the file as a record keeps it
+unfoldable pub stored : FileLease → Lease
+stored x = record {
+  scope = x .scope;
+  «id_len» = length (x .id);
+  id = filled 0 32 (x .id);
+  kind = x .kind;
+  xid = x .xid;
+  start = x .start;
+  end = x .end;
+  addresses = readOffsets (x .offsets);
+}
+
+-- a record of tenant t as it stands in the file
+unfoldable pub filed : ℕ → Lease → FileLease
+filed t l = record {
+  tenant = t;
+  scope = l .scope;
+  id = take (l .«id_len») (l .id);
+  kind = l .kind;
+  xid = l .xid;
+  start = l .start;
+  end = l .end;
+  offsets = offsets (l .addresses);
+}
+
+-- tenant t's leases
+abbrev pub ofTenant : ℕ → List FileLease → List FileLease
+ofTenant t xs = filterBy (λ x. eqb (x .tenant) t) xs
+
+-- the leases of n tenants from t on, tenant by tenant
+unfoldable pub tenantsFrom : ℕ → ℕ → List FileLease → List (List Lease)
+tenantsFrom t zero xs = []
+tenantsFrom t (suc n) xs = map stored (ofTenant t xs) ∷ tenantsFrom (suc t) n xs
+
+-- the leases of the tenants from t on, in the file's order
+unfoldable pub filedFrom : ℕ → List (List Lease) → List FileLease
+filedFrom t [] = []
+filedFrom t (l ∷ ls) = map (filed t) l ++ filedFrom (suc t) ls
+
+-- ---- scopes
+unfoldable pub storedScope : FileScope → Scope
+storedScope c = record {
+  lowest = c .lowest;
+  size = c .size;
+  ttl = c .ttl;
+  reserve = filled 0 8 (map (λ p. p .reserve) (c .parts));
+  limit = filled 0 8 (map (λ p. p .limit) (c .parts));
+}
+
+unfoldable pub pairUp : List ℕ → List ℕ → List FilePart
+pairUp [] ys = []
+pairUp (x ∷ xs) [] = []
+pairUp (x ∷ xs) (y ∷ ys) = record { reserve = x; limit = y } ∷ pairUp xs ys
+
+-- with a part for each of n tenants
+unfoldable pub filedScope : ℕ → Scope → FileScope
+filedScope n c = record { lowest = c .lowest; size = c .size; ttl = c .ttl; parts = take n (pairUp (c .reserve) (c .limit)) }
+
+-- ---- the book
+abbrev pub zeroRange : ClientRange
+zeroRange = record { low = 0; high = 0 }
+
+-- the settings and the clock of a file
+unfoldable pub storedState : File → State
+storedState f = record {
+  server = f .server;
+  clock = f .clock;
+  «tenant_count» = length (f .tenants);
+  tenants = filled zeroRange 8 (f .tenants);
+  «scope_count» = length (f .scopes);
+  scopes = filled zeroScope 4 (map storedScope (f .scopes));
+}
+
+-- the lease records of a file
+unfoldable pub storedTable : File → LeaseTable
+storedTable f = tableOf (tenantsFrom 1 8 (f .leases))
+
+-- the file of a book
+unfoldable pub filedBook : State → LeaseTable → File
+filedBook s b = record {
+  server = s .server;
+  clock = s .clock;
+  tenants = rangesOf s;
+  scopes = map (filedScope (s .«tenant_count»)) (scopesOf s);
+  leases = filedFrom 1 (leasesOf b);
+}
+
+-- ---- limits
+-- an offset that a set of addresses can have
+abbrev pub isOffset : ℕ → Bool
+isOffset a = ltb a 64
+
+-- a lease that a record can hold: of one of eight tenants, with an identifier of at most 32 octets and offsets below 64
+unfoldable pub storableB : FileLease → Bool
+storableB x =
+    pick (ltb (x .tenant) 1) false
+    (pick (ltb 8 (x .tenant)) false
+    (pick (ltb 32 (length (x .id))) false
+    (allBy isOffset (x .offsets))))
+
+-- tenant t has at most 16 leases
+unfoldable pub fewOf : List FileLease → ℕ → Bool
+fewOf xs t = leb (length (ofTenant t xs)) 16
+
+-- the records can hold the leases
+unfoldable pub leasesFitB : List FileLease → Bool
+leasesFitB xs = pick (allBy storableB xs) (allTo (λ i. fewOf xs (i + 1)) 8) false
+
+-- the records can hold the file: at most 8 tenants, 4 scopes, and 16 leases a tenant
+unfoldable pub fitsB : File → Bool
+fitsB f =
+    pick (ltb 8 (length (f .tenants))) false
+    (pick (ltb 4 (length (f .scopes))) false
+    (leasesFitB (f .leases)))

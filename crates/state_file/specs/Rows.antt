@@ -1,0 +1,54 @@
+-- The octets of the book's records, as the writer goes over them: row by row, each element's going by its place.
+use mathlib.Core.List.{List, [], _++_, _∷_}
+use Prim.Native.Nat.{_+_, suc, ℕ}
+use lib.ListN.{getD, length, take}
+use Rattle.lists.specs.Sums.{sumTo}
+use Rattle.state.specs.Book.{inUse, noLeases, rangesOf, scopesOf}
+use Rattle.state.specs.declared.ClientRange.{ClientRange}
+use Rattle.state.specs.declared.Lease.{Lease}
+use Rattle.state.specs.declared.LeaseTable.{LeaseTable}
+use Rattle.state.specs.declared.Scope.{Scope}
+use Rattle.state.specs.declared.State.{State}
+use Rattle.state.specs.declared.TenantLeases.{TenantLeases}
+use Rattle.state_file.specs.File.{FilePart, leaseFormat, partFormat, scopeFormat, tenantFormat}
+use Rattle.state_file.specs.Records.{filed, filedScope, pairUp}
+
+unfoldable pub writeFrom : {A : Type 0} → (ℕ → A → List ℕ) → ℕ → List A → List ℕ
+writeFrom w k [] = []
+writeFrom w k (x ∷ l) = w k x ++ writeFrom w (suc k) l
+
+-- ---- leases
+unfoldable pub leaseOctets : ℕ → ℕ → Lease → List ℕ
+leaseOctets t _ l = leaseFormat .write (filed t l)
+
+abbrev pub tenantOctets : ℕ → TenantLeases → List ℕ
+tenantOctets t h = writeFrom (leaseOctets t) 0 (inUse h)
+
+unfoldable pub tenantRow : ℕ → TenantLeases → List ℕ
+tenantRow i h = tenantOctets (i + 1) h
+
+abbrev pub tableOctets : LeaseTable → List ℕ
+tableOctets b = writeFrom tenantRow 0 (b .tenants)
+
+-- ---- settings
+unfoldable pub rangeRow : ℕ → ClientRange → List ℕ
+rangeRow _ r = tenantFormat .write r
+
+abbrev pub rangeOctets : State → List ℕ
+rangeOctets s = writeFrom rangeRow 0 (rangesOf s)
+
+unfoldable pub partRow : ℕ → FilePart → List ℕ
+partRow _ p = partFormat .write p
+
+abbrev pub partOctets : ℕ → Scope → List ℕ
+partOctets h c = writeFrom partRow 0 (take h (pairUp (c .reserve) (c .limit)))
+
+unfoldable pub scopeRow : ℕ → ℕ → Scope → List ℕ
+scopeRow h _ c = scopeFormat h .write (filedScope h c)
+
+abbrev pub scopeOctets : State → List ℕ
+scopeOctets s = writeFrom (scopeRow (s .«tenant_count»)) 0 (scopesOf s)
+
+-- ---- how many there are
+abbrev pub leaseTotal : LeaseTable → ℕ
+leaseTotal b = sumTo (λ i. length (inUse (getD (b .tenants) i noLeases))) 8

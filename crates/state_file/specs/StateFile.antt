@@ -1,0 +1,63 @@
+-- What the reader and the writer of the state file answer: document 01, "Campus file and sound book".
+use mathlib.Core.List.{List, [], _++_}
+use Prim.Native.Nat.{ℕ}
+use lib.Dec.{ltb}
+use lib.ListN.{drop, length, replicate}
+use Rattle.lists.specs.Pick.{pick}
+use Rattle.soundness.specs.Sound.{soundB}
+use Rattle.state.specs.Book.{tableOf, zeroScope}
+use Rattle.state.specs.declared.LeaseTable.{LeaseTable}
+use Rattle.state.specs.declared.State.{State}
+use Rattle.state_file.specs.File.{File, fileFormat, fileOf}
+use Rattle.state_file.specs.Format.{Got, bad, got}
+use Rattle.state_file.specs.Records.{filedBook, fitsB, storedState, storedTable, zeroRange}
+use Rattle.state_file.specs.declared.Loaded.{Loaded}
+use Rattle.state_file.specs.declared.Written.{Written}
+
+abbrev pub zeroState : State
+zeroState = record { server = 0; clock = 0; «tenant_count» = 0; tenants = replicate 8 zeroRange; «scope_count» = 0; scopes = replicate 4 zeroScope }
+
+unfoldable pub zeroTable : LeaseTable
+zeroTable = tableOf (replicate 8 [])
+
+-- ---- the reader
+-- a refusal has no book: its records are zero
+unfoldable pub refused : ℕ → Loaded
+refused n = record { refusal = n; state = zeroState; table = zeroTable }
+
+unfoldable pub accepted : State → LeaseTable → Loaded
+accepted s b = record { refusal = 0; state = s; table = b }
+
+unfoldable pub judged : State → LeaseTable → Loaded
+judged s b = pick (soundB s b) (accepted s b) (refused 21)
+
+-- 21 is an unsound file: one that the records cannot hold, or whose records are unsound
+unfoldable pub loaded : File → Loaded
+loaded f = pick (fitsB f) (judged (storedState f) (storedTable f)) (refused 21)
+
+-- 20 is a wrong form
+unfoldable pub answered : Got File → Loaded
+answered (got f r) = loaded f
+answered bad = refused 20
+
+unfoldable pub readOf : List ℕ → Loaded
+readOf s = answered (fileOf s)
+
+-- ---- the writer
+-- the octets of a book's file
+unfoldable pub octetsOf : State → LeaseTable → List ℕ
+octetsOf s b = fileFormat .write (filedBook s b)
+
+-- 22 is an unsound book, and 23 too little room, of which there are n octets
+unfoldable pub writtenOf : State → LeaseTable → ℕ → Written
+writtenOf s b n =
+    pick (soundB s b)
+    (pick (ltb n (length (octetsOf s b))) (record { refusal = 23; length = 0 }) (record { refusal = 0; length = length (octetsOf s b) }))
+    (record { refusal = 22; length = 0 })
+
+-- what the room holds afterwards: the octets, and past them what it held; a refusal writes nothing
+unfoldable pub roomAfter : State → LeaseTable → List ℕ → List ℕ
+roomAfter s b room =
+    pick (soundB s b)
+    (pick (ltb (length room) (length (octetsOf s b))) room (octetsOf s b ++ drop (length (octetsOf s b)) room))
+    room

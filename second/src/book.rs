@@ -1,0 +1,210 @@
+//! The book: the server's settings, its clock and its leases.
+
+use crate::period::Period;
+
+/// Houses and scopes, at most ("Houses 1 to 8; scopes 1 to 4").
+pub const MOST_HOUSES: usize = 8;
+pub const MOST_SCOPES: usize = 4;
+/// Addresses in a scope, at most.
+pub const MOST_ADDRESSES: u8 = 64;
+/// Lease records of a house, over all scopes.
+pub const RECORDS_OF_A_HOUSE: usize = 16;
+/// Length of an identifier.
+pub const SHORTEST_IDENTIFIER: usize = 2;
+pub const LONGEST_IDENTIFIER: usize = 32;
+
+/// A house: its client addresses, both ends included.
+#[derive(Clone, Debug, PartialEq, Eq)]
+pub struct House {
+    pub lowest: u32,
+    pub highest: u32,
+}
+
+/// What a scope sets for one house.
+#[derive(Clone, Debug, PartialEq, Eq)]
+pub struct Quota {
+    pub share: u8,
+    pub limit: u8,
+}
+
+/// A scope: its pool of addresses, its TTL and one quota for each house, in the order of the houses.
+#[derive(Clone, Debug, PartialEq, Eq)]
+pub struct Scope {
+    pub lowest: u32,
+    pub size: u8,
+    pub ttl: u8,
+    pub quotas: Vec<Quota>,
+}
+
+/// A lease. House and scope count from 1; the offsets are those of its addresses in the scope, rising.
+/// `message_type` and `transaction` are those of the REQUEST or RENEW that it was last set by.
+#[derive(Clone, Debug, PartialEq, Eq)]
+pub struct Lease {
+    pub house: u8,
+    pub scope: u8,
+    pub identifier: Vec<u8>,
+    pub message_type: u8,
+    pub transaction: u32,
+    pub start: u32,
+    pub end: u32,
+    pub offsets: Vec<u8>,
+}
+
+impl Lease {
+    pub fn period(&self) -> Period {
+        Period {
+            start: u64::from(self.start),
+            end: u64::from(self.end),
+        }
+    }
+
+    /// The length of its period, in seconds.
+    pub fn length(&self) -> u32 {
+        self.end.saturating_sub(self.start)
+    }
+
+    /// Whether the lease has this address of this scope.
+    pub fn has(&self, scope: u8, offset: u8) -> bool {
+        self.scope == scope && self.offsets.contains(&offset)
+    }
+}
+
+/// The book. Leases of all houses stand in one list, in the campus file's order.
+#[derive(Clone, Debug, PartialEq, Eq)]
+pub struct Book {
+    pub server: u32,
+    pub clock: u32,
+    pub houses: Vec<House>,
+    pub scopes: Vec<Scope>,
+    pub leases: Vec<Lease>,
+}
+
+/// How a house stands in a scope.
+#[derive(Clone, Debug, PartialEq, Eq)]
+pub struct Standing {
+    pub house: u8,
+    pub share: u64,
+    pub limit: u64,
+    pub holding: u64,
+}
+
+impl Book {
+    /// The numbers of the houses, from 1.
+    pub fn house_numbers(&self) -> impl Iterator<Item = u8> {
+        (1..=u8::MAX).take(self.houses.len())
+    }
+
+    /// The numbers of the scopes, from 1.
+    pub fn scope_numbers(&self) -> impl Iterator<Item = u8> {
+        (1..=u8::MAX).take(self.scopes.len())
+    }
+
+    pub fn house(&self, number: u8) -> Option<&House> {
+        self.houses.get(usize::from(number).checked_sub(1)?)
+    }
+
+    pub fn scope(&self, number: u8) -> Option<&Scope> {
+        self.scopes.get(usize::from(number).checked_sub(1)?)
+    }
+
+    /// The offsets of a scope's addresses, from 0; none for an unknown scope.
+    pub fn offsets(&self, scope: u8) -> impl Iterator<Item = u8> {
+        0..self.scope(scope).map_or(0, |scope| scope.size)
+    }
+
+    /// The house that a client address belongs to.
+    pub fn house_of_client(&self, client: u32) -> Option<u8> {
+        self.house_numbers().find(|&number| {
+            self.house(number)
+                .is_some_and(|house| house.lowest <= client && client <= house.highest)
+        })
+    }
+
+    /// The scope whose lowest address this is.
+    pub fn scope_at(&self, lowest: u32) -> Option<u8> {
+        self.scope_numbers().find(|&number| {
+            self.scope(number)
+                .is_some_and(|scope| scope.lowest == lowest)
+        })
+    }
+
+    /// "A lease is live while its end is after the clock."
+    pub fn is_live(&self, lease: &Lease) -> bool {
+        lease.end > self.clock
+    }
+
+    pub fn live_leases(&self) -> impl Iterator<Item = &Lease> {
+        self.leases.iter().filter(|lease| self.is_live(lease))
+    }
+
+    /// The live leases on one address.
+    pub fn leases_on(&self, scope: u8, offset: u8) -> Vec<&Lease> {
+        self.live_leases()
+            .filter(|lease| lease.has(scope, offset))
+            .collect()
+    }
+
+    /// Where the house's live lease with this identifier stands in the list, if the house holds it.
+    pub fn position(&self, house: u8, identifier: &[u8]) -> Option<usize> {
+        self.leases.iter().position(|lease| {
+            self.is_live(lease) && lease.house == house && lease.identifier == identifier
+        })
+    }
+
+    /// The house's addresses in a scope, lowest first:
+    /// "An address is a house's if a live lease of the house has it."
+    pub fn addresses_of(&self, house: u8, scope: u8) -> Vec<u8> {
+        self.offsets(scope)
+            .filter(|&offset| {
+                self.live_leases()
+                    .any(|lease| lease.house == house && lease.has(scope, offset))
+            })
+            .collect()
+    }
+
+    /// The addresses of a scope that are nobody's, lowest first.
+    pub fn nobodys_addresses(&self, scope: u8) -> Vec<u8> {
+        self.offsets(scope)
+            .filter(|&offset| self.leases_on(scope, offset).is_empty())
+            .collect()
+    }
+
+    /// Share, limit and holding of every house in a scope, by house.
+    /// The holding is counted from the leases each time.
+    pub fn standings(&self, scope: u8) -> Vec<Standing> {
+        let Some(settings) = self.scope(scope) else {
+            return Vec::new();
+        };
+        self.house_numbers()
+            .zip(&settings.quotas)
+            .map(|(house, quota)| Standing {
+                house,
+                share: u64::from(quota.share),
+                limit: u64::from(quota.limit),
+                holding: self.addresses_of(house, scope).len() as u64,
+            })
+            .collect()
+    }
+
+    /// Sets the clock to the larger of itself and the given time, and drops the leases that end at or before it.
+    pub fn advance(&mut self, time: u32) {
+        self.clock = self.clock.max(time);
+        let clock = self.clock;
+        self.leases.retain(|lease| lease.end > clock);
+    }
+
+    /// Puts a lease in its place in the file's order.
+    pub fn insert(&mut self, lease: Lease) {
+        let place = self
+            .leases
+            .iter()
+            .position(|other| file_key(other) > file_key(&lease))
+            .unwrap_or(self.leases.len());
+        self.leases.insert(place, lease);
+    }
+}
+
+/// What leases are ordered by in the campus file: the house, then the identifier octet by octet, a prefix first.
+pub fn file_key(lease: &Lease) -> (u8, &[u8]) {
+    (lease.house, &lease.identifier)
+}

@@ -1,0 +1,20 @@
+//! An independent second MADCAP server library, written from documents 01 and 002 only
+//! (with the project's readings where document 01 is open), and used for comparison.
+//! It is plain and slow on purpose: where the rules speak of addresses one by one, so does the code.
+
+#![forbid(unsafe_code)]
+
+pub mod book;
+pub mod file;
+pub mod grant;
+pub mod message;
+pub mod octets;
+pub mod period;
+pub mod programs;
+pub mod reply;
+pub mod server;
+pub mod sound;
+
+pub use book::{Book, House, Lease, Quota, Scope};
+pub use server::serve;
+pub use sound::sound;

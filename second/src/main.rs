@@ -1,0 +1,34 @@
+//! `second replay` and `second board`: standard input in, text out.
+
+#![forbid(unsafe_code)]
+
+use second::programs::{board, replay};
+use std::io::{self, Read, Write};
+use std::process::ExitCode;
+
+fn main() -> ExitCode {
+    let arguments: Vec<_> = std::env::args_os().skip(1).collect();
+    let program = match arguments.as_slice() {
+        [name] if name == "replay" => replay,
+        [name] if name == "board" => board,
+        _ => {
+            eprintln!("usage: second replay | second board");
+            return ExitCode::from(2);
+        }
+    };
+    match run(program) {
+        Ok(()) => ExitCode::SUCCESS,
+        Err(error) => {
+            eprintln!("second: {error}");
+            ExitCode::FAILURE
+        }
+    }
+}
+
+fn run(program: fn(&[u8]) -> String) -> io::Result<()> {
+    let mut input = Vec::new();
+    io::stdin().lock().read_to_end(&mut input)?;
+    let mut output = io::stdout().lock();
+    output.write_all(program(&input).as_bytes())?;
+    output.flush()
+}

@@ -1,0 +1,100 @@
+//! What the programs `replay` and `board` print for their standard input.
+
+use crate::book::Book;
+use crate::file;
+use crate::octets::{hex, Octets};
+use crate::server::{serve, REPLY};
+use std::net::Ipv4Addr;
+
+/// The input of `replay` is cut off.
+pub const CUT_OFF: u8 = 24;
+
+/// A campus file: the board's text, or its refusal.
+pub fn board(input: &[u8]) -> String {
+    match file::read(input) {
+        Ok(book) => board_text(&book),
+        Err(refusal) => refused(refusal),
+    }
+}
+
+/// A header and, by scope then house: lowest address, house, share, limit, holding.
+pub fn board_text(book: &Book) -> String {
+    let mut text = String::from("scope house share limit holds\n");
+    for (number, scope) in book.scope_numbers().zip(&book.scopes) {
+        let address = Ipv4Addr::from(scope.lowest);
+        for standing in book.standings(number) {
+            text += &format!(
+                "{} {} {} {} {}\n",
+                address, standing.house, standing.share, standing.limit, standing.holding
+            );
+        }
+    }
+    text
+}
+
+/// A campus file with its length and a list of calls: a line per call, then the book afterwards.
+pub fn replay(input: &[u8]) -> String {
+    let mut octets = Octets::new(input);
+    let Some(campus) = octets_with_length(&mut octets) else {
+        return refused(CUT_OFF);
+    };
+    let mut book = match file::read(campus) {
+        Ok(book) => book,
+        Err(refusal) => return refused(refusal),
+    };
+    let mut text = String::new();
+    while !octets.is_empty() {
+        let Some(record) = read_record(&mut octets) else {
+            return text + &refused(CUT_OFF);
+        };
+        text += &call_line(&mut book, &record);
+    }
+    text + &book_line(&book)
+}
+
+/// A call of the list.
+struct Record<'a> {
+    time: u32,
+    client: u32,
+    room_length: u16,
+    datagram: &'a [u8],
+}
+
+fn read_record<'a>(octets: &mut Octets<'a>) -> Option<Record<'a>> {
+    Some(Record {
+        time: octets.u32()?,
+        client: octets.u32()?,
+        room_length: octets.u16()?,
+        datagram: octets_with_length(octets)?,
+    })
+}
+
+/// A length(2) and then that many octets.
+fn octets_with_length<'a>(octets: &mut Octets<'a>) -> Option<&'a [u8]> {
+    let length = octets.u16()?;
+    octets.take(usize::from(length))
+}
+
+/// The outcome and, for a reply, its octets.
+fn call_line(book: &mut Book, record: &Record) -> String {
+    let mut room = vec![0; usize::from(record.room_length)];
+    let (outcome, length) = serve(book, record.datagram, record.client, record.time, &mut room);
+    if outcome == REPLY {
+        format!("{outcome} {}\n", hex(&room[..length]))
+    } else {
+        format!("{outcome}\n")
+    }
+}
+
+/// The campus file of the book afterwards.
+fn book_line(book: &Book) -> String {
+    let mut room = vec![0; file::LONGEST_FILE];
+    match file::write(book, &mut room) {
+        Ok(length) => format!("book {}\n", hex(&room[..length])),
+        Err(refusal) => refused(refusal),
+    }
+}
+
+fn refused(number: u8) -> String {
+    format!("refused {number}\n")
+}

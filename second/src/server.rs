@@ -1,0 +1,285 @@
+//! The server: one datagram in, a reply or a discard out.
+
+use crate::book::{file_key, Book, Lease, RECORDS_OF_A_HOUSE};
+use crate::grant::grant;
+use crate::message::{code, Header, Kind, Options, ACK, OFFER};
+use crate::period::{Period, DEFAULT_LEASE};
+use crate::reply;
+use crate::sound::sound;
+
+/// The shortest reply room.
+pub const SHORTEST_ROOM: usize = 512;
+/// The largest difference of clocks, in seconds.
+pub const SKEW: u32 = 1_800;
+
+/// Outcomes: a reply, or why the datagram is discarded.
+pub const REPLY: u8 = 0;
+pub const BOOK_UNSOUND: u8 = 1;
+pub const NO_ROOM: u8 = 2;
+pub const NO_HOUSE: u8 = 3;
+pub const BAD_HEADER: u8 = 4;
+pub const BAD_OPTIONS: u8 = 5;
+pub const FEATURE_REQUIRED: u8 = 6;
+pub const OTHER_SERVER: u8 = 7;
+pub const SILENT_ERROR: u8 = 8;
+
+/// Errors, as option 16 of a NAK gives them.
+const CANNOT_GRANT: u16 = 0;
+const BAD_REQUEST: u16 = 1;
+const CLOCKS_APART: u16 = 2;
+const NOT_HELD: u16 = 3;
+
+/// Serves one datagram. Gives the outcome and the length of the reply, which stands in the front of the room;
+/// the rest of the room is left as it was, and a discard leaves all of it.
+pub fn serve(
+    book: &mut Book,
+    datagram: &[u8],
+    client: u32,
+    time: u32,
+    room: &mut [u8],
+) -> (u8, usize) {
+    let (outcome, octets) = answer(book, datagram, client, time, room.len());
+    match room.get_mut(..octets.len()) {
+        Some(front) => front.copy_from_slice(&octets),
+        // No reply comes near 512 octets, so this isn't reached.
+        None => return (NO_ROOM, 0),
+    }
+    (outcome, octets.len())
+}
+
+/// The same with the reply as octets of its own: the outcome, and the reply, which is empty for a discard.
+pub fn answer(
+    book: &mut Book,
+    datagram: &[u8],
+    client: u32,
+    time: u32,
+    room_length: usize,
+) -> (u8, Vec<u8>) {
+    match reply_or_discard(book, datagram, client, time, room_length) {
+        Ok(octets) => (REPLY, octets),
+        Err(discard) => (discard, Vec::new()),
+    }
+}
+
+/// The tests 1 to 8, in the order of the table.
+fn reply_or_discard(
+    book: &mut Book,
+    datagram: &[u8],
+    client: u32,
+    time: u32,
+    room_length: usize,
+) -> Result<Vec<u8>, u8> {
+    if !sound(book) {
+        return Err(BOOK_UNSOUND);
+    }
+    if room_length < SHORTEST_ROOM {
+        return Err(NO_ROOM);
+    }
+    book.advance(time);
+    let house = book.house_of_client(client).ok_or(NO_HOUSE)?;
+    let header = Header::read(datagram).ok_or(BAD_HEADER)?;
+    let options = Options::read(datagram).ok_or(BAD_OPTIONS)?;
+    if options.requires_a_feature() {
+        return Err(FEATURE_REQUIRED);
+    }
+    if names_another_server(book, &header, &options) {
+        return Err(OTHER_SERVER);
+    }
+    let call = Call {
+        house,
+        header,
+        options,
+    };
+    match reply_or_error(book, &call) {
+        Ok(octets) => Ok(octets),
+        Err(error) => match header.kind {
+            Kind::Discover | Kind::GetInfo => Err(SILENT_ERROR),
+            _ => Ok(reply::of_error(error, book, &call.header, &call.options)),
+        },
+    }
+}
+
+/// A REQUEST with a Server Identifier other than the six octets of family 1 and our address.
+fn names_another_server(book: &Book, header: &Header, options: &Options) -> bool {
+    header.kind == Kind::Request
+        && options
+            .value(code::SERVER_IDENTIFIER)
+            .is_some_and(|value| value != reply::server_identifier(book))
+}
+
+/// A message that has passed test 7, and the house it comes from.
+struct Call<'a> {
+    house: u8,
+    header: Header,
+    options: Options<'a>,
+}
+
+impl Call<'_> {
+    fn takes_new_addresses(&self) -> bool {
+        matches!(self.header.kind, Kind::Discover | Kind::Request)
+    }
+
+    /// The scope that option 4 names, if it is ours.
+    fn scope(&self, book: &Book) -> Option<u8> {
+        book.scope_at(self.options.u32(code::SCOPE)?)
+    }
+
+    /// OFFER or ACK with a lease.
+    fn lease_reply(&self, message_type: u8, book: &Book, lease: &Lease) -> Vec<u8> {
+        reply::of_lease(message_type, book, &self.header, &self.options, lease)
+    }
+}
+
+/// Resend, then the errors 1, 2 and 3, then what the message asks, which may draw error 0.
+fn reply_or_error(book: &mut Book, call: &Call) -> Result<Vec<u8>, u16> {
+    if let Some(lease) = resent(book, call) {
+        return Ok(call.lease_reply(ACK, book, lease));
+    }
+    if is_bad_request(book, call) {
+        return Err(BAD_REQUEST);
+    }
+    if clocks_apart(book, call) {
+        return Err(CLOCKS_APART);
+    }
+    match call.header.kind {
+        Kind::Discover => discover(book, call),
+        Kind::Request => request(book, call),
+        Kind::Renew => renew(book, call),
+        Kind::Release => release(book, call),
+        Kind::GetInfo => Ok(reply::of_getinfo(book, &call.header, &call.options)),
+    }
+}
+
+/// The lease that records the house, identifier, type and transaction id of a REQUEST or RENEW.
+fn resent<'a>(book: &'a Book, call: &Call) -> Option<&'a Lease> {
+    if !matches!(call.header.kind, Kind::Request | Kind::Renew) {
+        return None;
+    }
+    book.live_leases().find(|lease| {
+        lease.house == call.house
+            && lease.identifier == call.options.identifier
+            && lease.message_type == call.header.kind.number()
+            && lease.transaction == call.header.transaction
+    })
+}
+
+/// Error 1.
+fn is_bad_request(book: &Book, call: &Call) -> bool {
+    let options = &call.options;
+    let (least, desired) = options.number();
+    let a_code_is_not_allowed = options.codes().any(|code| !call.header.kind.allows(code));
+    let scope_is_not_ours = call.takes_new_addresses() && call.scope(book).is_none();
+    let lease_time_is_0 = options.u32(code::LEASE_TIME) == Some(0);
+    let number_is_wrong = least == 0 || least > desired;
+    let lacks_current_time = (options.has(code::START_TIME) || options.has(code::MAXIMUM_START))
+        && !options.has(code::CURRENT_TIME);
+    let identifier_is_held =
+        call.takes_new_addresses() && book.position(call.house, options.identifier).is_some();
+    a_code_is_not_allowed
+        || scope_is_not_ours
+        || lease_time_is_0
+        || number_is_wrong
+        || lacks_current_time
+        || identifier_is_held
+}
+
+/// Error 2: Current Time and clock more than 1,800 apart.
+fn clocks_apart(book: &Book, call: &Call) -> bool {
+    call.options
+        .u32(code::CURRENT_TIME)
+        .is_some_and(|time| time.abs_diff(book.clock) > SKEW)
+}
+
+/// The lease that a new grant would make now, as DISCOVER and REQUEST both need it.
+fn new_lease(book: &Book, call: &Call) -> Result<Lease, u16> {
+    // A scope that isn't ours has drawn error 1 already.
+    let scope = call.scope(book).ok_or(BAD_REQUEST)?;
+    let options = &call.options;
+    let start = options.u32(code::START_TIME).unwrap_or(book.clock);
+    let length = options.u32(code::LEASE_TIME).unwrap_or(DEFAULT_LEASE);
+    let period = Period::wanted(start, length, book.clock);
+    let (start, end) = times_inside(&period, book.clock)?;
+    let records = book.leases.iter().filter(|lease| lease.house == call.house);
+    if records.count() >= RECORDS_OF_A_HOUSE {
+        return Err(CANNOT_GRANT);
+    }
+    let (least, desired) = options.number();
+    let offsets = grant(book, call.house, scope, &period, least, desired).ok_or(CANNOT_GRANT)?;
+    Ok(Lease {
+        house: call.house,
+        scope,
+        identifier: options.identifier.to_vec(),
+        message_type: Kind::Request.number(),
+        transaction: call.header.transaction,
+        start,
+        end,
+        offsets,
+    })
+}
+
+/// The period's start and end as times of 32 bits, or error 0 for a period that isn't inside.
+fn times_inside(period: &Period, clock: u32) -> Result<(u32, u32), u16> {
+    if !period.is_inside(clock) {
+        return Err(CANNOT_GRANT);
+    }
+    let time = |time: u64| u32::try_from(time).map_err(|_| CANNOT_GRANT);
+    Ok((time(period.start)?, time(period.end)?))
+}
+
+/// DISCOVER changes nothing; the OFFER shows what a REQUEST would get now.
+fn discover(book: &Book, call: &Call) -> Result<Vec<u8>, u16> {
+    let lease = new_lease(book, call)?;
+    Ok(call.lease_reply(OFFER, book, &lease))
+}
+
+/// REQUEST records the lease with its type and transaction id.
+fn request(book: &mut Book, call: &Call) -> Result<Vec<u8>, u16> {
+    let lease = new_lease(book, call)?;
+    let octets = call.lease_reply(ACK, book, &lease);
+    book.insert(lease);
+    Ok(octets)
+}
+
+/// RENEW keeps the addresses and sets period, type and id. Error 3 if the house doesn't hold the identifier.
+fn renew(book: &mut Book, call: &Call) -> Result<Vec<u8>, u16> {
+    let place = book
+        .position(call.house, call.options.identifier)
+        .ok_or(NOT_HELD)?;
+    let old = &book.leases[place];
+    let start = call.options.u32(code::START_TIME).unwrap_or(old.start);
+    let length = call.options.u32(code::LEASE_TIME).unwrap_or(old.length());
+    let period = Period::wanted(start, length, book.clock);
+    let (start, end) = times_inside(&period, book.clock)?;
+    if overlaps_another(book, place, &period) {
+        return Err(CANNOT_GRANT);
+    }
+    let lease = Lease {
+        message_type: Kind::Renew.number(),
+        transaction: call.header.transaction,
+        start,
+        end,
+        ..old.clone()
+    };
+    let octets = call.lease_reply(ACK, book, &lease);
+    book.leases[place] = lease;
+    Ok(octets)
+}
+
+/// Whether a period overlaps that of another lease on one of the addresses of the lease at this place.
+fn overlaps_another(book: &Book, place: usize, period: &Period) -> bool {
+    let lease = &book.leases[place];
+    lease.offsets.iter().any(|&offset| {
+        book.leases_on(lease.scope, offset)
+            .iter()
+            .any(|other| file_key(other) != file_key(lease) && other.period().overlaps(period))
+    })
+}
+
+/// RELEASE removes the lease. Error 3 if the house doesn't hold the identifier.
+fn release(book: &mut Book, call: &Call) -> Result<Vec<u8>, u16> {
+    let place = book
+        .position(call.house, call.options.identifier)
+        .ok_or(NOT_HELD)?;
+    book.leases.remove(place);
+    Ok(reply::of_release(book, &call.header, &call.options))
+}

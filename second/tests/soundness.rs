@@ -1,0 +1,337 @@
+//! One test for each rule of a sound book: just inside it, and just outside.
+
+mod common;
+
+use common::*;
+use second::file::{read, write, LONGEST_FILE};
+use second::{serve, sound, Book, House, Quota, Scope};
+
+/// The specimens' book with a change.
+fn changed(change: impl FnOnce(&mut Book)) -> Book {
+    let mut book = specimen_book();
+    change(&mut book);
+    book
+}
+
+/// Sound, for the reader, the writer and the server too.
+fn accepted(change: impl FnOnce(&mut Book)) {
+    let mut book = changed(change);
+    assert!(sound(&book));
+    let mut room = vec![0; LONGEST_FILE];
+    let length = write(&book, &mut room).expect("a length");
+    assert_eq!(read(&room[..length]), Ok(book.clone()));
+    // An empty datagram gets past the tests 1 and 2, to 3 or 4.
+    let (outcome, _) = serve(&mut book, &[], STRANGER, 0, &mut [0; 512]);
+    assert!([3, 4].contains(&outcome));
+}
+
+/// Unsound: 22 for the writer, 1 for the server, and neither changes anything.
+fn refused(change: impl FnOnce(&mut Book)) {
+    let book = changed(change);
+    assert!(!sound(&book));
+    let mut room = vec![7; LONGEST_FILE];
+    assert_eq!(write(&book, &mut room), Err(22));
+    assert!(room.iter().all(|&octet| octet == 7));
+    let mut served = book.clone();
+    let mut room = [7; 512];
+    assert_eq!(serve(&mut served, &[], STRANGER, 5_000, &mut room), (1, 0));
+    assert_eq!((served, room), (book, [7; 512]));
+}
+
+/// A book of so many houses and scopes, with share 0 and limit 1 throughout.
+fn wide(book: &mut Book, houses: u32, scopes: u32) {
+    book.houses = (0..houses)
+        .map(|number| House {
+            lowest: number,
+            highest: number,
+        })
+        .collect();
+    book.scopes = (0..scopes)
+        .map(|number| Scope {
+            lowest: 0xE000_0000 + number,
+            size: 1,
+            ttl: 1,
+            quotas: vec![Quota { share: 0, limit: 1 }; houses as usize],
+        })
+        .collect();
+}
+
+#[test]
+fn houses_1_to_8() {
+    refused(|book| wide(book, 0, 1));
+    accepted(|book| wide(book, 1, 1));
+    accepted(|book| wide(book, 8, 1));
+    refused(|book| wide(book, 9, 1));
+}
+
+#[test]
+fn scopes_1_to_4() {
+    refused(|book| wide(book, 1, 0));
+    accepted(|book| wide(book, 1, 4));
+    refused(|book| wide(book, 1, 5));
+}
+
+#[test]
+fn addresses_in_a_scope_1_to_64() {
+    let size = |size| {
+        move |book: &mut Book| {
+            wide(book, 1, 1);
+            book.scopes[0].size = size;
+            book.scopes[0].quotas[0].limit = 0;
+        }
+    };
+    refused(size(0));
+    accepted(size(1));
+    accepted(size(64));
+    refused(size(65));
+}
+
+#[test]
+fn a_share_and_limit_for_each_house() {
+    refused(|book| {
+        book.scopes[0].quotas.pop();
+    });
+    refused(|book| book.scopes[0].quotas.push(Quota { share: 0, limit: 0 }));
+}
+
+#[test]
+fn sixteen_leases_to_a_house() {
+    let leases = |count: u8| {
+        move |book: &mut Book| {
+            book.leases = (0..count)
+                .map(|number| {
+                    let start = 1000 + u32::from(number);
+                    lease(1, &[0, number], start, start + 1, &[0])
+                })
+                .collect();
+        }
+    };
+    accepted(leases(16));
+    refused(leases(17));
+}
+
+#[test]
+fn identifiers_of_2_to_32_octets() {
+    let length = |length| {
+        move |book: &mut Book| book.leases = vec![lease(1, &vec![0; length], 1000, 1001, &[0])]
+    };
+    refused(length(0));
+    refused(length(1));
+    accepted(length(2));
+    accepted(length(32));
+    refused(length(33));
+}
+
+#[test]
+fn offsets_below_the_size() {
+    accepted(|book| book.leases = vec![lease(1, &[0, 1], 1000, 1001, &[3])]);
+    refused(|book| book.leases = vec![lease(1, &[0, 1], 1000, 1001, &[4])]);
+}
+
+#[test]
+fn offsets_rise() {
+    accepted(|book| book.leases = vec![lease(1, &[0, 1], 1000, 1001, &[0, 2])]);
+    refused(|book| book.leases = vec![lease(1, &[0, 1], 1000, 1001, &[2, 0])]);
+    refused(|book| book.leases = vec![lease(1, &[0, 1], 1000, 1001, &[2, 2])]);
+}
+
+#[test]
+fn client_ranges_not_empty() {
+    accepted(|book| book.houses[0].highest = book.houses[0].lowest);
+    refused(|book| book.houses[0].highest = book.houses[0].lowest - 1);
+}
+
+#[test]
+fn client_ranges_disjoint() {
+    accepted(|book| book.houses[0].highest = book.houses[1].lowest - 1);
+    refused(|book| book.houses[0].highest = book.houses[1].lowest);
+    accepted(|book| book.houses[0].lowest = 0);
+    accepted(|book| book.houses[1].highest = u32::MAX);
+    refused(|book| book.houses[1] = book.houses[0].clone());
+    refused(|book| {
+        book.houses[0].lowest = 0;
+        book.houses[0].highest = u32::MAX;
+    });
+}
+
+#[test]
+fn pools_inside_224_0_0_0_to_239_255_255_255() {
+    accepted(|book| book.scopes[0].lowest = 0xE000_0000);
+    refused(|book| book.scopes[0].lowest = 0xDFFF_FFFF);
+    accepted(|book| book.scopes[0].lowest = 0xEFFF_FFFC);
+    refused(|book| book.scopes[0].lowest = 0xEFFF_FFFD);
+    refused(|book| book.scopes[0].lowest = 0xFFFF_FFFF);
+}
+
+#[test]
+fn pools_disjoint() {
+    let second_at = |lowest| {
+        move |book: &mut Book| {
+            let mut second = book.scopes[0].clone();
+            second.lowest = lowest;
+            book.scopes.push(second);
+        }
+    };
+    accepted(second_at(0xEFC0_0004));
+    refused(second_at(0xEFC0_0003));
+    refused(second_at(0xEFC0_0000));
+    refused(second_at(0xEFBF_FFFD));
+    accepted(second_at(0xEFBF_FFFC));
+}
+
+#[test]
+fn ttl_not_0() {
+    accepted(|book| book.scopes[0].ttl = 255);
+    refused(|book| book.scopes[0].ttl = 0);
+}
+
+#[test]
+fn share_at_most_limit_at_most_size() {
+    accepted(|book| book.scopes[0].quotas[0] = Quota { share: 0, limit: 0 });
+    accepted(|book| book.scopes[0].quotas[0] = Quota { share: 3, limit: 3 });
+    refused(|book| book.scopes[0].quotas[0] = Quota { share: 3, limit: 2 });
+    refused(|book| book.scopes[0].quotas[0] = Quota { share: 2, limit: 5 });
+}
+
+#[test]
+fn shares_together_at_most_size() {
+    accepted(|book| book.scopes[0].quotas[1].share = 2);
+    refused(|book| book.scopes[0].quotas[1].share = 3);
+}
+
+#[test]
+fn leases_name_a_known_house_and_scope() {
+    for house in [0, 3, 200] {
+        refused(|book| book.leases = vec![lease(house, &[0, 1], 1000, 1001, &[0])]);
+    }
+    for scope in [0, 2, 200] {
+        refused(|book| {
+            book.leases = vec![lease(1, &[0, 1], 1000, 1001, &[0])];
+            book.leases[0].scope = scope;
+        });
+    }
+}
+
+#[test]
+fn leases_have_type_3_or_4() {
+    let with_type = |message_type| {
+        move |book: &mut Book| {
+            book.leases = vec![lease(1, &[0, 1], 1000, 1001, &[0])];
+            book.leases[0].message_type = message_type;
+        }
+    };
+    accepted(with_type(3));
+    accepted(with_type(4));
+    for message_type in [0, 1, 2, 5, 7, 255] {
+        refused(with_type(message_type));
+    }
+}
+
+#[test]
+fn start_before_end() {
+    accepted(|book| book.leases = vec![lease(1, &[0, 1], 1999, 2000, &[0])]);
+    refused(|book| book.leases = vec![lease(1, &[0, 1], 2000, 2000, &[0])]);
+    refused(|book| book.leases = vec![lease(1, &[0, 1], 2001, 2000, &[0])]);
+}
+
+#[test]
+fn periods_need_not_keep_longest_lease_or_horizon() {
+    accepted(|book| book.leases = vec![lease(1, &[0, 1], 0, u32::MAX, &[0])]);
+    accepted(|book| book.leases = vec![lease(1, &[0, 1], u32::MAX - 1, u32::MAX, &[0])]);
+}
+
+#[test]
+fn end_after_the_clock() {
+    accepted(|book| book.leases = vec![lease(1, &[0, 1], 500, 1001, &[0])]);
+    refused(|book| book.leases = vec![lease(1, &[0, 1], 500, 1000, &[0])]);
+    accepted(|book| book.clock = u32::MAX);
+}
+
+#[test]
+fn leases_have_an_address() {
+    refused(|book| book.leases = vec![lease(1, &[0, 1], 1000, 1001, &[])]);
+}
+
+#[test]
+fn identifiers_differ_within_a_house() {
+    refused(|book| {
+        book.leases = vec![
+            lease(1, &[0, 1], 1000, 1001, &[0]),
+            lease(1, &[0, 1], 1001, 1002, &[1]),
+        ];
+    });
+    accepted(|book| {
+        book.leases = vec![
+            lease(1, &[0, 1], 1000, 1001, &[0]),
+            lease(2, &[0, 1], 1000, 1001, &[1]),
+        ];
+    });
+}
+
+#[test]
+fn leases_stand_in_the_files_order() {
+    accepted(|book| {
+        book.leases = vec![
+            lease(1, &[0, 1], 1000, 1001, &[0]),
+            lease(1, &[0, 1, 0], 1000, 1001, &[1]),
+            lease(1, &[0, 2], 1001, 1002, &[0]),
+        ];
+    });
+    refused(|book| {
+        book.leases = vec![
+            lease(1, &[0, 1, 0], 1000, 1001, &[0]),
+            lease(1, &[0, 1], 1000, 1001, &[1]),
+        ];
+    });
+    refused(|book| {
+        book.leases = vec![
+            lease(2, &[0, 1], 1000, 1001, &[0]),
+            lease(1, &[0, 1], 1000, 1001, &[1]),
+        ];
+    });
+}
+
+#[test]
+fn no_address_has_two_houses() {
+    refused(|book| {
+        book.leases = vec![
+            lease(1, &[0, 1], 1000, 1001, &[0]),
+            lease(2, &[0, 1], 2000, 2001, &[0]),
+        ];
+    });
+}
+
+#[test]
+fn leases_on_one_address_dont_overlap() {
+    let second_from = |start| {
+        move |book: &mut Book| {
+            book.leases = vec![
+                lease(1, &[0, 1], 1000, 2000, &[0, 1]),
+                lease(1, &[0, 2], start, 3000, &[1]),
+            ];
+        }
+    };
+    accepted(second_from(2000));
+    refused(second_from(1999));
+}
+
+#[test]
+fn holdings_at_most_their_limit() {
+    let held = |offsets: &'static [u8]| {
+        move |book: &mut Book| {
+            book.scopes[0].quotas[1].share = 0;
+            book.leases = vec![
+                lease(1, &[0, 1], 1000, 2000, &[0]),
+                lease(1, &[0, 2], 2000, 3000, offsets),
+            ];
+        }
+    };
+    accepted(held(&[0, 1, 2]));
+    refused(held(&[1, 2, 3]));
+}
+
+#[test]
+fn per_scope_the_larger_of_holding_and_share_at_most_size() {
+    accepted(|book| book.leases = vec![lease(2, &[0, 1], 1000, 1001, &[0, 1])]);
+    refused(|book| book.leases = vec![lease(2, &[0, 1], 1000, 1001, &[0, 1, 2])]);
+}

@@ -1,0 +1,56 @@
+//! Runs `second replay` over a folder of cases, named by the environment variable SECOND_VECTORS:
+//! every `N.bin` in it or below it is given on standard input, and `N.out` is what must come out.
+
+use std::fs;
+use std::io::Write;
+use std::path::{Path, PathBuf};
+use std::process::{Command, Stdio};
+
+/// Every `.bin` file in a folder and below it.
+fn cases(folder: &Path) -> Vec<PathBuf> {
+    let mut found = Vec::new();
+    for entry in fs::read_dir(folder).expect("the folder of vectors") {
+        let path = entry.expect("an entry of the folder").path();
+        if path.is_dir() {
+            found.extend(cases(&path));
+        } else if path.extension().is_some_and(|extension| extension == "bin") {
+            found.push(path);
+        }
+    }
+    found.sort();
+    found
+}
+
+/// What the program prints for an input.
+fn replay(input: &[u8]) -> Vec<u8> {
+    let mut program = Command::new(env!("CARGO_BIN_EXE_second"))
+        .arg("replay")
+        .stdin(Stdio::piped())
+        .stdout(Stdio::piped())
+        .spawn()
+        .expect("the program starts");
+    let mut stdin = program.stdin.take().expect("its standard input");
+    stdin.write_all(input).expect("the input is taken");
+    drop(stdin);
+    program.wait_with_output().expect("its output").stdout
+}
+
+#[test]
+fn every_case_agrees() {
+    let Some(folder) = std::env::var_os("SECOND_VECTORS") else {
+        eprintln!("skipped: SECOND_VECTORS names no folder of vectors");
+        return;
+    };
+    let cases = cases(Path::new(&folder));
+    assert!(!cases.is_empty(), "no case in {}", folder.to_string_lossy());
+    let disagreeing: Vec<_> = cases
+        .iter()
+        .filter(|case| {
+            let input = fs::read(case).expect("the input");
+            let expected = fs::read(case.with_extension("out")).expect("the expected output");
+            replay(&input) != expected
+        })
+        .collect();
+    assert!(disagreeing.is_empty(), "disagreeing: {disagreeing:?}");
+    eprintln!("{} cases agree", cases.len());
+}

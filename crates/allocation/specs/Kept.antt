@@ -127,6 +127,22 @@ held-below s k here (y ∷ x) e a h g =
     let o = one-below s k here y (q .0) a h g in
     omega arith
 
+-- a lease is calm with those whose addresses in its period, all within B, are not its own
+pub calm-within : (l : Lease) (scope from to B : ℕ) (x : List Lease) → l .scope ≡ scope → l .start ≡ from → l .end ≡ to → ((a : ℕ) → bit (l .addresses) a + bit B a ≤ 1)
+    → ((a : ℕ) → bit (busyOf scope from to x) a ≤ bit B a) → allBy (calm l) x ≡ true
+unfolding calm usedIn overlaps pick
+calm-within l scope from to B x e1 e3 e4 out inside =
+    within (usedIn scope from to) (calm l) (λ a. bit B a) x
+    (λ y f. calm-turn l y ∙ ap₂ (λ (p q : Bool). pick p (pick q (disjoint (y .addresses) (l .addresses)) true) true) (ap (eqb (y .scope)) e1)
+    (ap₂ (λ (p q : ℕ). ltb (y .start) q && ltb p (y .end)) e3 e4) ∙ go y (eqb (y .scope) scope) (overlaps from to y) refl refl f)
+    inside
+  where
+    go : (y : Lease) (b c : Bool) → eqb (y .scope) scope ≡ b → overlaps from to y ≡ c → ((eqb (y .scope) scope && overlaps from to y) ≡ true → (a : ℕ) → bit (y .addresses) a ≤ bit B a)
+        → pick b (pick c (disjoint (y .addresses) (l .addresses)) true) true ≡ true
+    go y true true p q f = disjoint-bits (y .addresses) (l .addresses) (λ a. let g = f (ap₂ (λ (b c : Bool). b && c) p q) a in let o = out a in omega arith)
+    go y true false p q f = refl
+    go y false c p q f = refl
+
 all-small : (l : List ℕ) → All (λ x. x < 64) l → allBy (λ x. ltb x 64) l ≡ true
 unfolding All allBy
 all-small [] h = refl
@@ -158,29 +174,16 @@ module _ (s : State) (t : List (List Lease)) (v : Sound s t) (k : ℕ) (here : k
 
   -- no lease of the tenant that overlaps the period has one
   grant-calm : (l : Lease) → l .scope ≡ a .scope → l .addresses ≡ G → l .start ≡ a .from → l .end ≡ a .to → allBy (calm l) (getD t (a .tenant) []) ≡ true
-  unfolding calm usedIn overlaps pick
   grant-calm l e1 e2 e3 e4 =
-      within (usedIn (a .scope) (a .from) (a .to)) (calm l) (λ x. bit (busyOf (a .scope) (a .from) (a .to) (getD t (a .tenant) [])) x) (getD t (a .tenant) [])
-      (λ y f. calm-turn l y ∙ ap₂ (λ (p q : Bool). pick p (pick q (disjoint (y .addresses) (l .addresses)) true) true) (ap (eqb (y .scope)) e1)
-      (ap₂ (λ (p q : ℕ). ltb (y .start) q && ltb p (y .end)) e3 e4) ∙ go y (eqb (y .scope) (a .scope)) (overlaps (a .from) (a .to) y) refl refl f)
+      calm-within l (a .scope) (a .from) (a .to) (busyOf (a .scope) (a .from) (a .to) (getD t (a .tenant) [])) (getD t (a .tenant) []) e1 e3 e4
+      (λ x. subst (λ (g : ℕ). bit g x + bit (busyOf (a .scope) (a .from) (a .to) (getD t (a .tenant) [])) x ≤ 1) (sym e2)
+      (let p = grant-bit x in
+      let b = busy-here (a .scope) (a .from) (a .to) t (a .tenant) x in
+      let r = difference-out (heldBy t a) (busyIn (a .scope) (a .from) (a .to) t) x in
+      let h = used-held (a .scope) (a .from) (a .to) (getD t (a .tenant) []) x in
+      let u = nobodys-out (scopeAt s k) t a (a .tenant) x in
+      omega arith))
       (λ x. omega arith)
-    where
-      free : (y : Lease) → ((x : ℕ) → bit (y .addresses) x ≤ bit (busyOf (a .scope) (a .from) (a .to) (getD t (a .tenant) [])) x) → disjoint (y .addresses) (l .addresses) ≡ true
-      free y f = ap (disjoint (y .addresses)) e2 ∙ disjoint-bits (y .addresses) G (λ x.
-          let p = grant-bit x in
-          let q = f x in
-          let b = busy-here (a .scope) (a .from) (a .to) t (a .tenant) x in
-          let r = difference-out (heldBy t a) (busyIn (a .scope) (a .from) (a .to) t) x in
-          let h = used-held (a .scope) (a .from) (a .to) (getD t (a .tenant) []) x in
-          let u = nobodys-out (scopeAt s k) t a (a .tenant) x in
-          omega arith)
-
-      go : (y : Lease) (b c : Bool) → eqb (y .scope) (a .scope) ≡ b → overlaps (a .from) (a .to) y ≡ c
-          → ((eqb (y .scope) (a .scope) && overlaps (a .from) (a .to) y) ≡ true → (x : ℕ) → bit (y .addresses) x ≤ bit (busyOf (a .scope) (a .from) (a .to) (getD t (a .tenant) [])) x)
-          → pick b (pick c (disjoint (y .addresses) (l .addresses)) true) true ≡ true
-      go y true true p q f = free y (f (ap₂ (λ (b c : Bool). b && c) p q))
-      go y true false p q f = refl
-      go y false c p q f = refl
 
   -- what the tenant holds afterwards
   pub grant-held : (l : Lease) → l .scope ≡ a .scope → l .addresses ≡ grantOf (scopeAt s k) (tenantsIn s) t a .addresses → heldCount (a .scope) (insertOf l (getD t (a .tenant) [])) ≤ heldAfter t a (grantOf (scopeAt s k) (tenantsIn s) t a .number)

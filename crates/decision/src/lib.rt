@@ -644,10 +644,10 @@ fn record(table: LeaseTable, h: usize, l: Lease) -> Decided
     ensures { λ r. ⌜ r ≡ changed table h (insertOf l (ownOf table h)) (withLease LeaseAck l) ⌝ }
 {
     let t = state::tenant_at(table, h);
-    let now = state::insert(t, l);
+    let more = state::insert(t, l);
     Decided {
         verdict: with_lease(Reply::LeaseAck, l),
-        table: state::put_tenant(table, h, now),
+        table: state::put_tenant(table, h, more),
     }
 }
 

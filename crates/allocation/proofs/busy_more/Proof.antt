@@ -1,0 +1,16 @@
+-- `busy_more` meets its contract: one set more.
+use Rattle.address_set.specs.Laws.{or-same}
+use Rattle.allocation.specs.Loops.{busyMore}
+use borrow.Author.Needs.{needs}
+use Rattle.allocation.proofs.busy_more.Statement.{statement}
+use Rattle.allocation.proofs.busy_more.Tie as tie
+
+busy-requires : tie.Need-busy-requires
+busy-requires c κs = search (or-same, needs)
+
+returns : tie.Need-returns
+unfolding busyMore
+returns c = search (or-same, needs)
+
+pub busy-more-spec : {M : Type 1} → statement M
+busy-more-spec = tie.close (tie.spec busy-requires returns)

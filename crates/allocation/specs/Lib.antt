@@ -1,0 +1,6 @@
+pub mod Rule
+pub mod Closed
+pub mod Loops
+pub mod Sets
+pub mod Granted
+pub mod Kept

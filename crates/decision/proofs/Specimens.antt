@@ -1,0 +1,136 @@
+-- Document 01's specimens P1 to P9 and those of skew, with Resend, RELEASE and DISCOVER, by computation: one table of cases.
+use mathlib.Core.Path.{_≡_, refl}
+use mathlib.Core.List.{List, [], _∷_, _++_, map}
+use mathlib.Core.Bool.{Bool, true, false, not, _&&_}
+use Prim.Native.Nat.{ℕ, _+_, _*_}
+use lib.ListN.{length, replicate}
+use lib.Dec.{eqb}
+use Rattle.lists.specs.Pick.{pick}
+use Rattle.lists.specs.Filter.{filterBy, isIn}
+use Rattle.lists.specs.Place.{placeBy}
+use Rattle.lists.specs.Sums.{sumTo}
+use Rattle.lists.specs.Down.{largest}
+use Rattle.identifier.specs.Order.{orderOf, sameOf}
+use Rattle.address_set.specs.AddressSet.{bit, offsetsFrom, setOf, differenceOf, upTo}
+use Rattle.message.specs.declared.Wish.{Wish}
+use Rattle.message.specs.declared.Fields.{Fields}
+use Rattle.state.specs.declared.State.{State}
+use Rattle.state.specs.declared.LeaseTable.{LeaseTable}
+use Rattle.state.specs.Book.{zeroScope, laidOut, tableOf, insertOf, removeOf, renewTo, replaceOf, liveOf, dropped, unionAll, addressesOf, overlaps, usedIn}
+use Rattle.allocation.specs.Rule.{takenOf, busyIn, pressureWith, allowed, grantOf, suffices}
+use Rattle.decision.specs.declared.Verdict.{Verdict}
+use Rattle.decision.specs.declared.Reply.{Reply}
+use Rattle.decision.specs.declared.Reply.the-variants.{Nothing, Offer, LeaseAck, ReleaseAck, InfoAck, Nak}
+use Rattle.decision.specs.Parts.{isNew, hasPeriod, holdsOf, recordedOf, resends, scopePlace, knowsScope, lacksScope, zeroLength, badCounts, lacksCurrent, error1Of, farOf, error2Of, error3Of, wishedOr, startOf, lengthOf, endOf, askAt, fitsNew, newWith, newAt, newOf, othersBusy, fitsRenewed, renewedTo, renewedOf, proposalOf, error0Of, leaseFrom, withLease, plainReply, nakWith, discardWith, refusalOf}
+use Rattle.decision.specs.Decide.{leasedOf, plainOf, settledOf, judgedOf, decideOf}
+
+-- scope 239.192.0.0, size 4; tenant 1 reserve 2 limit 3; tenant 2 reserve 1 limit 4
+settings : ℕ → State
+settings clock = record {
+  server = 167837953;
+  clock = clock;
+  «tenant_count» = 2;
+  tenants = record { low = 1; high = 9 } ∷ record { low = 10; high = 19 } ∷ replicate 6 (record { low = 0; high = 0 });
+  «scope_count» = 1;
+  scopes = record { lowest = 4022337536; size = 4; ttl = 1; reserve = 2 ∷ 1 ∷ replicate 6 0; limit = 3 ∷ 4 ∷ replicate 6 0 } ∷ replicate 3 zeroScope;
+}
+
+-- an option of four octets; 0 stands for none
+wish : ℕ → Wish
+wish n = record { there = not (eqb n 0); value = n }
+
+-- a call by a tenant counted from 0: time, type, identifier, transaction id, least, desired, Lease Time, Start Time, Current Time
+record Call : Type 0 where
+  tenant : ℕ
+  time : ℕ
+  fields : Fields
+
+call : ℕ → ℕ → ℕ → ℕ → ℕ → ℕ → ℕ → ℕ → ℕ → ℕ → Call
+call h time kind i xid least desired len start current = record {
+  tenant = h;
+  time = time;
+  fields = record {
+    kind = kind;
+    xid = xid;
+    id = record { octets = 0 ∷ i ∷ replicate 30 0; len = 2 };
+    allowed = true;
+    scope = wish 4022337536;
+    counts = record { least = least; desired = desired };
+    times = record { length = wish len; start = wish start; current = wish current; shortest = wish 0; latest = wish 0 };
+    features = false;
+    ours = true;
+    «list_asked» = false;
+    «time_asked» = false;
+  };
+}
+
+run : LeaseTable → List Call → LeaseTable
+run b [] = b
+run b (c ∷ cs) = run (decideOf (settings (c .time)) (dropped (c .time) b) (c .tenant) (c .fields) .table) cs
+
+-- the type of the reply; 0 for none
+code : Reply → ℕ
+code Nothing = 0
+code Offer = 2
+code LeaseAck = 5
+code ReleaseAck = 5
+code InfoAck = 5
+code Nak = 6
+
+record Case : Type 0 where
+  before : List Call
+  last : Call
+  outcome : ℕ
+  reply : ℕ
+  error : ℕ
+  addresses : ℕ
+
+holds : Case → Bool
+holds c =
+    let v : Verdict = decideOf (settings (c .last .time)) (dropped (c .last .time) (run (tableOf (replicate 8 [])) (c .before))) (c .last .tenant) (c .last .fields) .verdict in
+    eqb (v .outcome) (c .outcome) && (eqb (code (v .reply)) (c .reply) && (eqb (v .error) (c .error) && eqb (v .addresses) (c .addresses)))
+
+allHold : List Case → Bool
+allHold [] = true
+allHold (c ∷ cs) = holds c && allHold cs
+
+ack : List Call → Call → ℕ → Case
+ack before last addresses = record { before = before; last = last; outcome = 0; reply = 5; error = 0; addresses = addresses }
+
+nak : List Call → Call → ℕ → Case
+nak before last error = record { before = before; last = last; outcome = 0; reply = 6; error = error; addresses = 0 }
+
+p1 : Call
+p1 = call 1 1000 3 1 1 1 4 0 0 0
+
+p3 : Call
+p3 = call 0 1000 3 2 2 2 3 1000 0 0
+
+p5 : Call
+p5 = call 0 1000 3 3 3 2 2 0 2000 1000
+
+table : List Case
+table =
+    -- P1: .0 and .1; P2: error 0
+    ack [] p1 3 ∷ nak [] (call 1 1000 3 1 1 3 4 0 0 0) 0
+    -- P3: .2, .3; P4: error 0
+    ∷ ack (p1 ∷ []) p3 12 ∷ nak (p1 ∷ []) (call 0 1000 3 2 2 3 3 0 0 0) 0
+    -- P5: .2, .3; P6: error 0
+    ∷ ack (p1 ∷ p3 ∷ []) p5 12 ∷ nak (p1 ∷ p3 ∷ []) (call 0 1000 3 3 3 2 2 0 1999 1000) 0
+    -- P7: error 0; P8: ACK
+    ∷ nak (p1 ∷ p3 ∷ p5 ∷ []) (call 0 1000 4 2 4 1 1 1001 0 0) 0 ∷ ack (p1 ∷ p3 ∷ p5 ∷ []) (call 0 1000 4 2 4 1 1 1000 0 0) 12
+    -- P9: P3's lease is there to be released at 1999, and gone at 2000
+    ∷ ack (p1 ∷ p3 ∷ []) (call 0 1999 7 2 5 1 1 0 0 0) 0 ∷ nak (p1 ∷ p3 ∷ []) (call 0 2000 7 2 5 1 1 0 0 0) 3
+    -- skew 1,800 passes, 1,801 draws error 2
+    ∷ ack [] (call 1 1000 3 1 1 1 4 0 0 2800) 3 ∷ nak [] (call 1 1000 3 1 1 1 4 0 0 2801) 2
+    -- Resend; a held identifier; RELEASE and REQUEST again; DISCOVER, and one that draws an error; GETINFO
+    ∷ ack (p1 ∷ p3 ∷ []) p3 12 ∷ nak (p1 ∷ p3 ∷ []) (call 0 1000 3 2 7 2 3 1000 0 0) 1
+    ∷ ack (p1 ∷ call 1 1000 7 1 9 1 1 0 0 0 ∷ []) (call 1 1000 3 1 1 1 4 0 0 0) 3
+    ∷ record { before = p1 ∷ []; last = call 0 1000 1 2 2 2 3 0 0 0; outcome = 0; reply = 2; error = 0; addresses = 12 }
+    ∷ record { before = p1 ∷ []; last = call 0 1000 1 2 2 3 3 0 0 0; outcome = 8; reply = 0; error = 0; addresses = 0 }
+    ∷ ack [] (call 0 1000 8 2 2 1 1 0 0 0) 0
+    ∷ []
+
+specimens : allHold table ≡ true
+unfolding settings wish call run code holds allHold ack nak p1 p3 p5 table pick filterBy isIn placeBy sumTo largest orderOf sameOf bit offsetsFrom setOf differenceOf upTo laidOut tableOf insertOf removeOf renewTo replaceOf liveOf dropped unionAll addressesOf overlaps usedIn takenOf busyIn pressureWith allowed grantOf suffices isNew hasPeriod holdsOf recordedOf resends scopePlace knowsScope lacksScope zeroLength badCounts lacksCurrent error1Of farOf error2Of error3Of wishedOr startOf lengthOf endOf askAt fitsNew newWith newAt newOf othersBusy fitsRenewed renewedTo renewedOf proposalOf error0Of leaseFrom withLease plainReply nakWith discardWith refusalOf leasedOf plainOf settledOf judgedOf decideOf
+specimens = refl

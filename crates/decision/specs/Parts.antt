@@ -1,0 +1,199 @@
+-- The tests and the parts of document 01's decision, each on plain values. A house is a tenant here; h counts from 0.
+use Prim.Native.Nat.{ℕ, _+_, _-_, min, max}
+use mathlib.Core.Bool.{Bool, true, false, not, _&&_, _||_}
+use mathlib.Core.List.{List, []}
+use lib.Dec.{ltb, leb, eqb}
+use lib.Bits.{bitAnd}
+use lib.ListN.{take, length}
+use Rattle.lists.specs.Pick.{pick}
+use Rattle.lists.specs.Place.{placeBy}
+use Rattle.message.specs.declared.Wish.{Wish}
+use Rattle.message.specs.declared.Fields.{Fields}
+use Rattle.state.specs.declared.Lease.{Lease}
+use Rattle.state.specs.declared.LeaseTable.{LeaseTable}
+use Rattle.state.specs.declared.Scope.{Scope}
+use Rattle.state.specs.declared.State.{State}
+use Rattle.state.specs.Book.{inUse, laidOut, leasesOf, tenantAt, putAt, placeOf, leaseAt, removeOf, scopesOf, scopeAt}
+use Rattle.soundness.specs.Sound.{tenantsIn, scopesIn}
+use Rattle.allocation.specs.declared.Ask.{Ask}
+use Rattle.allocation.specs.declared.Grant.{Grant}
+use Rattle.allocation.specs.Rule.{grantOf, suffices, busyIn}
+use Rattle.decision.specs.declared.Proposal.{Proposal}
+use Rattle.decision.specs.declared.Verdict.{Verdict}
+use Rattle.decision.specs.declared.Reply.{Reply}
+use Rattle.decision.specs.declared.Reply.the-variants.{Nothing, Offer, LeaseAck, ReleaseAck, InfoAck, Nak}
+
+-- ---- message types
+-- DISCOVER or REQUEST
+unfoldable pub isNew : Fields → Bool
+isNew m = eqb (m .kind) 1 || eqb (m .kind) 3
+
+-- the types that ask for a period: these and RENEW
+unfoldable pub hasPeriod : Fields → Bool
+hasPeriod m = isNew m || eqb (m .kind) 4
+
+-- ---- the tenant's leases, and the one that it holds under the message's identifier
+abbrev pub ownOf : LeaseTable → ℕ → List Lease
+ownOf b h = inUse (tenantAt b h)
+
+abbrev pub named : Fields → List ℕ
+named m = take (m .id .len) (m .id .octets)
+
+-- is the identifier held, and its lease (an unused record where it is not)
+unfoldable pub holdsOf : List Lease → Fields → Bool
+holdsOf own m = ltb (placeOf (named m) own) (length own)
+
+unfoldable pub recordedOf : List Lease → Fields → Lease
+recordedOf own m = leaseAt own (placeOf (named m) own)
+
+-- ---- Resend
+unfoldable pub resends : Fields → Lease → Bool
+resends m l = (eqb (m .kind) 3 || eqb (m .kind) 4) && (eqb (l .kind) (m .kind) && eqb (l .xid) (m .xid))
+
+-- ---- error 1
+-- the place of the scope with a lowest address, counted from 0; their number where there is none
+abbrev pub lowestIs : ℕ → Scope → Bool
+lowestIs lowest c = eqb (c .lowest) lowest
+
+unfoldable pub scopePlace : State → ℕ → ℕ
+scopePlace s lowest = placeBy (lowestIs lowest) (scopesOf s)
+
+unfoldable pub knowsScope : State → Fields → Bool
+knowsScope s m = m .scope .there && ltb (scopePlace s (m .scope .value)) (scopesIn s)
+
+-- "DISCOVER or REQUEST whose scope is missing or not ours"
+unfoldable pub lacksScope : State → Fields → Bool
+lacksScope s m = isNew m && not (knowsScope s m)
+
+-- "Lease Time 0"
+unfoldable pub zeroLength : Fields → Bool
+zeroLength m = m .times .length .there && eqb (m .times .length .value) 0
+
+-- "least 0 or above desired"
+unfoldable pub badCounts : Fields → Bool
+badCounts m = eqb (m .counts .least) 0 || ltb (m .counts .desired) (m .counts .least)
+
+-- "6 or 15 without 11"
+unfoldable pub lacksCurrent : Fields → Bool
+lacksCurrent m = (m .times .start .there || m .times .latest .there) && not (m .times .current .there)
+
+-- "an option that isn't allowed; DISCOVER or REQUEST whose scope is missing or not ours; Lease Time 0; least 0 or above desired;
+-- 6 or 15 without 11; DISCOVER or REQUEST with an identifier the house holds"
+unfoldable pub error1Of : State → Fields → Bool → Bool
+error1Of s m held = not (m .allowed) || (lacksScope s m || (zeroLength m || (badCounts m || (lacksCurrent m || (isNew m && held)))))
+
+-- ---- error 2: "Current Time and clock more than 1,800 apart"
+unfoldable pub farOf : ℕ → ℕ → Bool
+farOf a b = ltb 1800 ((a - b) + (b - a))
+
+unfoldable pub error2Of : State → Fields → Bool
+error2Of s m = m .times .current .there && farOf (m .times .current .value) (s .clock)
+
+-- ---- error 3: "RENEW or RELEASE of an identifier the house doesn't hold"
+unfoldable pub error3Of : Fields → Bool → Bool
+error3Of m held = (eqb (m .kind) 4 || eqb (m .kind) 7) && not held
+
+-- ---- the period
+-- an option's value, or else d
+unfoldable pub wishedOr : Wish → ℕ → ℕ
+wishedOr w d = pick (w .there) (w .value) d
+
+-- "Start is Start Time or else the clock (RENEW: or else the old start), raised to the clock if earlier"
+unfoldable pub startOf : Fields → ℕ → ℕ → ℕ
+startOf m clock old = max clock (wishedOr (m .times .start) old)
+
+-- "Length is Lease Time or else 3,600 (RENEW: or else the old length), cut to the longest lease"
+unfoldable pub lengthOf : Fields → ℕ → ℕ
+lengthOf m old = min (wishedOr (m .times .length) old) 604800
+
+unfoldable pub endOf : Fields → ℕ → Lease → ℕ
+endOf m from l = from + lengthOf m (l .end - l .start)
+
+-- ---- what a lease would be, and whether its own test of error 0 passes
+-- DISCOVER and REQUEST: in the scope at place k
+unfoldable pub askAt : State → ℕ → Fields → ℕ → Ask
+askAt s h m k = record {
+  scope = min k 4 + 1;
+  tenant = h;
+  from = startOf m (s .clock) (s .clock);
+  to = startOf m (s .clock) (s .clock) + lengthOf m 3600;
+  desired = m .counts .desired;
+}
+
+-- not "no lease record left for the house, or the grant rule fails"
+unfoldable pub fitsNew : List Lease → Fields → Grant → Bool
+fitsNew own m g = ltb (length own) 16 && suffices (m .counts .least) g
+
+unfoldable pub newWith : LeaseTable → Fields → Ask → Grant → Proposal
+newWith b m a g = record { fits = fitsNew (ownOf b (a .tenant)) m g; scope = a .scope; start = a .from; end = a .to; addresses = g .addresses }
+
+unfoldable pub newAt : State → LeaseTable → ℕ → Fields → ℕ → Proposal
+newAt s b h m k = newWith b m (askAt s h m k) (grantOf (scopeAt s k) (tenantsIn s) (leasesOf b) (askAt s h m k))
+
+unfoldable pub newOf : State → LeaseTable → ℕ → Fields → Proposal
+newOf s b h m = newAt s b h m (scopePlace s (m .scope .value))
+
+-- one tenant's leases give way to others
+abbrev pub updated : LeaseTable → ℕ → List Lease → LeaseTable
+updated b h ls = putAt b h (laidOut ls)
+
+-- RENEW: the addresses that other leases use in the new period
+unfoldable pub othersBusy : LeaseTable → ℕ → Fields → ℕ → ℕ → ℕ → ℕ
+othersBusy b h m scope from to = busyIn scope from to (leasesOf (updated b h (removeOf (named m) (ownOf b h))))
+
+-- not "the new period overlaps that of another lease on one of its addresses"
+unfoldable pub fitsRenewed : ℕ → ℕ → Bool
+fitsRenewed used mine = eqb (bitAnd used mine) 0
+
+unfoldable pub renewedTo : LeaseTable → ℕ → Fields → Lease → ℕ → ℕ → Proposal
+renewedTo b h m l from to = record {
+  fits = fitsRenewed (othersBusy b h m (l .scope) from to) (l .addresses);
+  scope = l .scope;
+  start = from;
+  end = to;
+  addresses = l .addresses;
+}
+
+unfoldable pub renewedOf : State → LeaseTable → ℕ → Fields → Lease → Proposal
+renewedOf s b h m l =
+    let from : ℕ = startOf m (s .clock) (l .start) in
+    renewedTo b h m l from (endOf m from l)
+
+unfoldable pub proposalOf : State → LeaseTable → ℕ → Fields → Lease → Proposal
+proposalOf s b h m l = pick (isNew m) (newOf s b h m) (renewedOf s b h m l)
+
+-- ---- error 0: "start after clock plus horizon; end above 4,294,967,295; .." and the test of its type
+unfoldable pub error0Of : State → Proposal → Bool
+error0Of s p = ltb (s .clock + 2592000) (p .start) || (ltb 4294967295 (p .end) || not (p .fits))
+
+-- ---- the lease, and the verdicts
+-- with the message's type and transaction id; error 0 has kept the end within 32 bits
+unfoldable pub leaseFrom : Fields → Proposal → Lease
+leaseFrom m p = record {
+  scope = p .scope;
+  «id_len» = m .id .len;
+  id = m .id .octets;
+  kind = m .kind;
+  xid = m .xid;
+  start = p .start;
+  end = min (p .end) 4294967295;
+  addresses = p .addresses;
+}
+
+-- a reply with a lease: OFFER, or ACK to REQUEST and RENEW
+unfoldable pub withLease : Reply → Lease → Verdict
+withLease r l = record { outcome = 0; reply = r; error = 0; scope = l .scope; start = l .start; end = l .end; addresses = l .addresses }
+
+-- a reply without one: ACK to RELEASE and GETINFO
+unfoldable pub plainReply : Reply → Verdict
+plainReply r = record { outcome = 0; reply = r; error = 0; scope = 0; start = 0; end = 0; addresses = 0 }
+
+unfoldable pub nakWith : ℕ → Verdict
+nakWith e = record { outcome = 0; reply = Nak; error = e; scope = 0; start = 0; end = 0; addresses = 0 }
+
+unfoldable pub discardWith : ℕ → Verdict
+discardWith n = record { outcome = n; reply = Nothing; error = 0; scope = 0; start = 0; end = 0; addresses = 0 }
+
+-- an error is a "NAK for types 3, 4, 7"; discard 8 is "DISCOVER or GETINFO that draws an error"
+unfoldable pub refusalOf : Fields → ℕ → Verdict
+refusalOf m e = pick (eqb (m .kind) 1) (discardWith 8) (pick (eqb (m .kind) 8) (discardWith 8) (nakWith e))

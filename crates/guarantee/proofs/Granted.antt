@@ -1,0 +1,290 @@
+-- Demand 3: a new REQUEST within the unused reserve is granted on every sound book, and so after any list of calls.
+use Prim.Native.Nat.{ℕ, suc, _+_, _-_, _≤_, _<_, min}
+use mathlib.Core.Path.{_≡_, refl, sym, ap, ap₂, _∙_}
+use mathlib.Core.Bool.{Bool, true, false, not, _&&_, _||_}
+use mathlib.Core.List.{List, [], _∷_, _++_}
+use native.Mathlib.Omega.{arith}
+use lib.Dec.{ltb, eqb}
+use lib.ListN.{length}
+use lib.Seq.{getD-set-same, getD-set-other}
+use borrow.Author.Tests.{eq-eqb, eqb-true, eqb-false, lt-ltb, le-ltb, ltb-true, ltb-false, le-leb}
+use Rattle.lists.specs.Pick.{pick}
+use Rattle.lists.specs.Both.{and-both, and-parts}
+use Rattle.address_set.specs.declared.Range.{Range}
+use Rattle.address_set.specs.AddressSet.{extend, joined, offsets, runs}
+use Rattle.message.specs.declared.Fields.{Fields}
+use Rattle.message.specs.Read.{readOf}
+use Rattle.reply.specs.Reply.{leaseAckOf}
+use Rattle.state.specs.declared.Book.{Book}
+use Rattle.state.specs.declared.Lease.{Lease}
+use Rattle.state.specs.declared.LeaseTable.{LeaseTable}
+use Rattle.state.specs.declared.State.{State}
+use Rattle.state.specs.Book.{idOf, inUse, insertOf, laidOut, leasesOf, removeOf, scopeAt}
+use Rattle.state.specs.Layout.{read-back}
+use Rattle.soundness.specs.Sound.{scopesIn, soundB, tenantsIn}
+use Rattle.soundness.specs.Book.{Sound, sound-lists}
+use Rattle.allocation.specs.declared.Ask.{Ask}
+use Rattle.allocation.specs.declared.Grant.{Grant}
+use Rattle.allocation.specs.Rule.{grantOf, suffices, unusedReserve}
+use Rattle.allocation.specs.Granted.{grant-exists, guaranteed}
+use Rattle.decision.specs.declared.Decided.{Decided}
+use Rattle.decision.specs.declared.Reply.the-variants.{LeaseAck}
+use Rattle.decision.specs.Parts.{askAt, badCounts, error0Of, error1Of, error2Of, error3Of, fitsNew, hasPeriod, holdsOf, isNew, knowsScope, lacksCurrent, lacksScope, leaseFrom, lengthOf, newAt, newOf, newWith, ownOf, proposalOf, recordedOf, resends, scopePlace, startOf, withLease, zeroLength}
+use Rattle.decision.specs.Decide.{changed, decideOf, judgedOf, leasedOf, settledOf}
+use Rattle.server.specs.Serve.{Answer, Call, answered, atClock, forServer, headOf, replyOf, serveOf, withReading}
+use Rattle.guarantee.specs.Statement.{Demand3, Granted, NewRequest, SoundBook, grantFor, leaseFor, namedBy, onwards, run, saysOf, stateAt, tableAt, tenantFor}
+use Rattle.guarantee.proofs.Inserted.{others-stay}
+use Rattle.guarantee.proofs.Kept.{now-sound, run-sound, within-limits}
+
+-- ---- tests that go one way
+taken : {A : Type 0} (t : Bool) (x y : A) → t ≡ true → pick t x y ≡ x
+unfolding pick
+taken t x y e = ap (λ (b : Bool). pick b x y) e
+
+passed : {A : Type 0} (t : Bool) (x y : A) → t ≡ false → pick t x y ≡ y
+unfolding pick
+passed t x y e = ap (λ (b : Bool). pick b x y) e
+
+no : {A : Type 0} → true ≡ false → A
+no e = let z : _≡_ {A = ℕ} 0 1 = cc in absurd (omega arith)
+
+or-none : (a b : Bool) → (a || b) ≡ false → (a ≡ false) × (b ≡ false)
+or-none true b e = no e
+or-none false b e = (refl, e)
+
+and-not-none : (a b : Bool) → a ≡ true → (a && not b) ≡ false → b ≡ true
+and-not-none true true p e = refl
+and-not-none true false p e = no e
+and-not-none false b p e = no (sym p)
+
+none-or : {a b : Bool} → a ≡ false → b ≡ false → (a || b) ≡ false
+none-or {a} {b} p q = ap (λ (x : Bool). x || b) p ∙ q
+
+-- ---- a REQUEST that passes the checks before error 0, for a tenant h of a sound book
+module _ (s : State) (t : LeaseTable) (h : ℕ) (m : Fields) (v : Sound s (leasesOf t)) (known : h < tenantsIn s) (request : m .kind ≡ 3)
+    (new : resends m (recordedOf (ownOf t h) m) ≡ false) (error1 : error1Of s m (holdsOf (ownOf t h) m) ≡ false) (error2 : error2Of s m ≡ false) where
+  is-new : isNew m ≡ true
+  unfolding isNew
+  is-new = ap (λ (x : ℕ). eqb x 1 || eqb x 3) request
+
+  -- what error 1 leaves: the scope is ours, least is not 0 and at most desired, and the identifier is not held
+  parts : (lacksScope s m ≡ false) × ((badCounts m ≡ false) × (holdsOf (ownOf t h) m ≡ false))
+  unfolding error1Of
+  parts =
+      let a = or-none (not (m .allowed)) _ error1 in
+      let b = or-none (lacksScope s m) _ (a .1) in
+      let c = or-none (zeroLength m) _ (b .1) in
+      let d = or-none (badCounts m) _ (c .1) in
+      let e = or-none (lacksCurrent m) (isNew m && holdsOf (ownOf t h) m) (d .1) in
+      (b .0, (d .0, sym (ap (λ (b : Bool). b && holdsOf (ownOf t h) m) is-new) ∙ e .1))
+
+  pub here : scopePlace s (m .scope .value) < scopesIn s
+  unfolding lacksScope knowsScope
+  here =
+      ltb-true (scopePlace s (m .scope .value)) (scopesIn s)
+      (and-parts (m .scope .there) (ltb (scopePlace s (m .scope .value)) (scopesIn s)) (and-not-none (isNew m) (knowsScope s m) is-new (parts .0)) .1)
+
+  counts : (0 < m .counts .least) × (m .counts .least ≤ m .counts .desired)
+  unfolding badCounts
+  counts =
+      let p = or-none (eqb (m .counts .least) 0) (ltb (m .counts .desired) (m .counts .least)) (parts .1 .0) in
+      let q = eqb-false (m .counts .least) 0 (p .0) in
+      (omega arith, ltb-false (m .counts .desired) (m .counts .least) (p .1))
+
+  pub not-held : holdsOf (ownOf t h) m ≡ false
+  not-held = parts .1 .1
+
+  -- what is asked for
+  abbrev A : Ask
+  A = record {
+    scope = scopePlace s (m .scope .value) + 1;
+    tenant = h;
+    from = startOf m (s .clock) (s .clock);
+    to = startOf m (s .clock) (s .clock) + lengthOf m 3600;
+    desired = m .counts .desired;
+  }
+
+  asked : askAt s h m (scopePlace s (m .scope .value)) ≡ A
+  unfolding askAt
+  asked =
+      ap {B = Ask} (λ (k : ℕ). record {
+        scope = k;
+        tenant = h;
+        from = startOf m (s .clock) (s .clock);
+        to = startOf m (s .clock) (s .clock) + lengthOf m 3600;
+        desired = m .counts .desired;
+      }) (let p = here in let e : min (scopePlace s (m .scope .value)) 4 + 1 ≡ scopePlace s (m .scope .value) + 1 = omega arith in e)
+
+  abbrev U : ℕ
+  U = unusedReserve (scopeAt s (scopePlace s (m .scope .value))) (leasesOf t) A
+
+  abbrev G : Grant
+  G = grantOf (scopeAt s (scopePlace s (m .scope .value))) (tenantsIn s) (leasesOf t) A
+
+  pub enough : min (m .counts .desired) U ≤ G .number
+  enough = guaranteed s (leasesOf t) v (scopePlace s (m .scope .value)) here A refl known
+
+  proposed : newOf s t h m ≡ newWith t m A G
+  unfolding newOf newAt
+  proposed = ap (λ (a : Ask). newWith t m a (grantOf (scopeAt s (scopePlace s (m .scope .value))) (tenantsIn s) (leasesOf t) a)) asked
+
+  -- the lease that it records
+  abbrev L : Lease
+  L = record {
+    scope = scopePlace s (m .scope .value) + 1;
+    «id_len» = m .id .len;
+    id = m .id .octets;
+    kind = 3;
+    xid = m .xid;
+    start = startOf m (s .clock) (s .clock);
+    end = startOf m (s .clock) (s .clock) + lengthOf m 3600;
+    addresses = G .addresses;
+  }
+
+  -- ---- inside, with a record left and least at most the unused reserve
+  module _ (soon : startOf m (s .clock) (s .clock) ≤ s .clock + 2592000) (fits : startOf m (s .clock) (s .clock) + lengthOf m 3600 ≤ 4294967295)
+      (left : length (ownOf t h) < 16) (least : m .counts .least ≤ U) where
+    suffice : m .counts .least ≤ G .number
+    suffice = let p = enough in let q = counts in omega arith
+
+    pub exact : length (offsets (G .addresses)) ≡ G .number
+    exact = grant-exists s (leasesOf t) v (scopePlace s (m .scope .value)) here A refl known (let p = suffice in let q = counts in omega arith)
+
+    no-error : error0Of s (newOf s t h m) ≡ false
+    unfolding error0Of newWith fitsNew suffices
+    no-error =
+        ap (error0Of s) proposed
+        ∙ none-or (le-ltb (s .clock + 2592000) (startOf m (s .clock) (s .clock)) soon)
+        (none-or (le-ltb 4294967295 (startOf m (s .clock) (s .clock) + lengthOf m 3600) fits)
+        (ap not (and-both (lt-ltb (length (ownOf t h)) 16 left) (le-leb (m .counts .least) (G .number) suffice))))
+
+    recorded : leaseFrom m (newOf s t h m) ≡ L
+    unfolding leaseFrom newWith
+    recorded =
+        ap (leaseFrom m) proposed
+        ∙ ap₂ {C = Lease} (λ (kind end : ℕ). record {
+          scope = scopePlace s (m .scope .value) + 1;
+          «id_len» = m .id .len;
+          id = m .id .octets;
+          kind = kind;
+          xid = m .xid;
+          start = startOf m (s .clock) (s .clock);
+          end = end;
+          addresses = G .addresses;
+        }) request
+        (let e : min (startOf m (s .clock) (s .clock) + lengthOf m 3600) 4294967295 ≡ startOf m (s .clock) (s .clock) + lengthOf m 3600 = omega arith in e)
+
+    no-error3 : error3Of m (holdsOf (ownOf t h) m) ≡ false
+    unfolding error3Of
+    no-error3 = ap (λ (k : ℕ). (eqb k 4 || eqb k 7) && not (holdsOf (ownOf t h) m)) request
+
+    has-period : hasPeriod m ≡ true
+    unfolding hasPeriod
+    has-period = ap (λ (b : Bool). b || eqb (m .kind) 4) is-new
+
+    proposal-is : proposalOf s t h m (recordedOf (ownOf t h) m) ≡ newOf s t h m
+    unfolding proposalOf
+    proposal-is = taken (isNew m) _ _ is-new
+
+    pub decided : decideOf s t h m ≡ changed t h (insertOf L (ownOf t h)) (withLease LeaseAck L)
+    unfolding decideOf judgedOf settledOf leasedOf
+    decided =
+        passed (resends m (recordedOf (ownOf t h) m)) _ _ new
+        ∙ passed (error1Of s m (holdsOf (ownOf t h) m)) _ _ error1
+        ∙ passed (error2Of s m) _ _ error2
+        ∙ passed (error3Of m (holdsOf (ownOf t h) m)) _ _ no-error3
+        ∙ taken (hasPeriod m) _ _ has-period
+        ∙ ap (settledOf s t h m) proposal-is
+        ∙ passed (error0Of s (newOf s t h m)) _ _ no-error
+        ∙ ap (leasedOf t h m) recorded
+        ∙ passed (eqb (m .kind) 1) _ _ (ap (λ (k : ℕ). eqb k 1) request)
+        ∙ taken (eqb (m .kind) 3) _ _ (ap (λ (k : ℕ). eqb k 3) request)
+
+    pub acknowledged : replyOf s m (withLease LeaseAck L) ≡ leaseAckOf (headOf s m) (record {
+      length = (startOf m (s .clock) (s .clock) + lengthOf m 3600) - startOf m (s .clock) (s .clock);
+      start = startOf m (s .clock) (s .clock);
+      scope = scopeAt s (scopePlace s (m .scope .value)) .lowest;
+      addresses = G .addresses;
+      clock = s .clock;
+    })
+    unfolding replyOf withLease
+    acknowledged =
+        ap (λ (k : ℕ). leaseAckOf (headOf s m) (record {
+          length = (startOf m (s .clock) (s .clock) + lengthOf m 3600) - startOf m (s .clock) (s .clock);
+          start = startOf m (s .clock) (s .clock);
+          scope = scopeAt s k .lowest;
+          addresses = G .addresses;
+          clock = s .clock;
+        })) (let e : (scopePlace s (m .scope .value) + 1) - 1 ≡ scopePlace s (m .scope .value) = omega arith in e)
+
+-- ---- the ranges of a reply name just the offsets that they are made of
+ranges-name : (l : List ℕ) → namedBy (runs l) ≡ l
+unfolding namedBy onwards runs joined
+ranges-name [] = refl
+ranges-name (x ∷ l) = before (runs l) (ranges-name l)
+  where
+    next : (r : Range) (rs : List Range) (q : Bool) → eqb (r .first) (suc x) ≡ q → namedBy (extend q x r rs) ≡ x ∷ namedBy (r ∷ rs)
+    next r rs true e = ap (λ (y : ℕ). x ∷ (onwards y (r .count) ++ namedBy rs)) (sym (eqb-true (r .first) (suc x) e))
+    next r rs false e = refl
+
+    before : (rs : List Range) → namedBy rs ≡ l → namedBy (joined x rs) ≡ x ∷ l
+    before [] e = ap (λ (y : List ℕ). x ∷ y) e
+    before (r ∷ rs) e = next r rs (eqb (r .first) (suc x)) refl ∙ ap (λ (y : List ℕ). x ∷ y) e
+
+-- ---- the call
+module _ (b : Book) (c : Call) (v : SoundBook b) (r : NewRequest b c) where
+  S : Sound (stateAt b c) (leasesOf (tableAt b c))
+  S = sound-lists (stateAt b c) (tableAt b c) (now-sound b c v .sound)
+
+  abbrev D : Decided
+  D = changed (tableAt b c) (tenantFor b c) (insertOf (leaseFor b c) (ownOf (tableAt b c) (tenantFor b c))) (withLease LeaseAck (leaseFor b c))
+
+  served : serveOf b c ≡ answered (stateAt b c) (saysOf b c) D
+  unfolding serveOf atClock withReading forServer
+  served =
+      taken (soundB (b .state) (b .table)) _ _ (v .sound)
+      ∙ passed (ltb (c .room) 512) _ _ (le-ltb (c .room) 512 (r .room))
+      ∙ taken (ltb (tenantFor b c) (tenantsIn (stateAt b c))) _ _ (lt-ltb (tenantFor b c) (tenantsIn (stateAt b c)) (r .house))
+      ∙ taken (eqb (readOf (c .datagram) .discard) 0) _ _ (eq-eqb (readOf (c .datagram) .discard) 0 (r .read))
+      ∙ passed (eqb (saysOf b c .kind) 3 && not (saysOf b c .ours)) _ _ (ap₂ (λ (k : ℕ) (o : Bool). eqb k 3 && not o) (r .request) (r .ours))
+      ∙ ap (answered (stateAt b c) (saysOf b c))
+      (decided (stateAt b c) (tableAt b c) (tenantFor b c) (saysOf b c) S (r .house) (r .request) (r .new) (r .error1) (r .error2) (r .soon) (r .fits) (r .left) (r .least))
+
+  there : tenantFor b c < length (tableAt b c .tenants)
+  there = let e = now-sound b c v .tenants in let h = r .house in omega arith
+
+  ls : List Lease
+  ls = insertOf (leaseFor b c) (ownOf (tableAt b c) (tenantFor b c))
+
+  after : ownOf (serveOf b c .book .table) (tenantFor b c) ≡ ls
+  unfolding ls
+  after =
+      ap (λ (a : Answer). ownOf (a .book .table) (tenantFor b c)) served
+      ∙ ap inUse (getD-set-same (tableAt b c .tenants) (tenantFor b c) (laidOut ls) (laidOut []) there) ∙ read-back ls
+
+  pub granted : Granted b c (serveOf b c)
+  unfolding ls withLease
+  granted = record {
+    outcome = ap (λ (a : Answer). a .outcome) served;
+    enough = enough (stateAt b c) (tableAt b c) (tenantFor b c) (saysOf b c) S (r .house) (r .request) (r .new) (r .error1) (r .error2);
+    exact =
+        exact (stateAt b c) (tableAt b c) (tenantFor b c) (saysOf b c) S (r .house) (r .request) (r .new) (r .error1) (r .error2) (r .soon) (r .fits) (r .left) (r .least);
+    reply =
+        ap (λ (a : Answer). a .reply) served
+        ∙ acknowledged (stateAt b c) (tableAt b c) (tenantFor b c) (saysOf b c) S (r .house) (r .request) (r .new) (r .error1) (r .error2) (r .soon) (r .fits) (r .left) (r .least);
+    ranges = ranges-name (offsets (grantFor b c .addresses));
+    state = ap (λ (a : Answer). a .book .state) served;
+    others = λ g n.
+        ap (λ (a : Answer). ownOf (a .book .table) g) served ∙ ap inUse (getD-set-other (tableAt b c .tenants) (tenantFor b c) g (laidOut ls) (laidOut []) n);
+    own = after;
+    unchanged =
+        ap (removeOf (idOf (leaseFor b c))) after
+        ∙ others-stay (stateAt b c) (tableAt b c) (tenantFor b c) (saysOf b c) (leaseFor b c) S refl
+        (not-held (stateAt b c) (tableAt b c) (tenantFor b c) (saysOf b c) S (r .house) (r .request) (r .new) (r .error1) (r .error2));
+  }
+
+pub demand3 : Demand3
+unfolding Demand3
+demand3 b v cs =
+    let w : SoundBook (run b cs) = run-sound b cs v in
+    (w, (within-limits (run b cs) w, λ c r. granted (run b cs) c w r))

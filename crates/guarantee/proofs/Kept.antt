@@ -1,0 +1,177 @@
+-- Any list of calls keeps a sound book sound: a call raises the clock and drops ended leases, and a decision keeps the leases sound.
+use Prim.Native.Nat.{ℕ, zero, suc, _+_, _-_, _≤_, _<_}
+use mathlib.Core.Path.{_≡_, refl, sym, ap, _∙_}
+use mathlib.Core.Bool.{Bool, true, false, _&&_}
+use mathlib.Core.List.{List, [], _∷_, _++_, map}
+use native.Mathlib.Omega.{arith}
+use lib.Dec.{ltb, leb, eqb}
+use lib.ListN.{length, getD, take, drop, replicate, length-map, length-set}
+use borrow.Author.Tests.{eqb-true, eqb-false, ne-eqb, ltb-true, leb-true}
+use Rattle.lists.specs.Pick.{pick}
+use Rattle.lists.specs.All.{allBy, all-cons}
+use Rattle.lists.specs.Both.{and-parts}
+use Rattle.lists.specs.Filter.{isIn}
+use Rattle.message.specs.declared.Fields.{Fields}
+use Rattle.message.specs.declared.Found.the-variants.{At, Absent}
+use Rattle.message.specs.declared.Identifier.{Identifier}
+use Rattle.message.specs.declared.Reading.{Reading}
+use Rattle.message.specs.declared.Stage.{Stage}
+use Rattle.message.specs.declared.Stage.the-variants.{Walking, Done, Broken}
+use Rattle.message.specs.Codes.{lengthOk}
+use Rattle.message.specs.Placed.{Placed, pick-cases, placed, read-good}
+use Rattle.message.specs.Read.{byStage, ended, headerOk, noneRequired, readOf}
+use Rattle.message.specs.Read as read
+use Rattle.message.specs.Values.{fieldsOf, findOf, foundAt, identifierAt, identifierOf}
+use Rattle.message.specs.Walk.{codeAt, exactlyFilled, lengthAt, afterAt, valueOk, walkOf}
+use Rattle.state.specs.declared.Book.{Book}
+use Rattle.state.specs.declared.Lease.{Lease}
+use Rattle.state.specs.declared.LeaseTable.{LeaseTable}
+use Rattle.state.specs.declared.State.{State}
+use Rattle.state.specs.Book.{advanced, dropped, inUse, laidOut, leasesOf, liveOf, scopesOf, tableOf}
+use Rattle.state.specs.Layout.{table-back}
+use Rattle.soundness.specs.Sound.{few, countsB, rule3, rule4, rule5, rule6, settingsB, sizeB, soundB, tenantsIn, zeroFrom}
+use Rattle.soundness.specs.Book.{Sound, settingsOk, sound-lists}
+use Rattle.soundness.specs.Kept.{advanced-sound}
+use Rattle.decision.specs.declared.Decided.{Decided}
+use Rattle.decision.specs.Parts.{updated}
+use Rattle.decision.specs.Decide.{decideOf, judgedOf, leasedOf, plainOf, settledOf}
+use Rattle.decision.specs.Kept.{GoodId, decision-sound}
+use Rattle.server.specs.Serve.{Answer, Call, answered, atClock, forServer, serveOf, tenantOf, withReading}
+use Rattle.guarantee.specs.Statement.{SoundBook, WithinLimits, bookAt, run}
+
+-- ---- a message that was read has an identifier of 2 to 32 octets, with zeros behind them
+zeros : (k : ℕ) → allBy (λ x. eqb x 0) (replicate k 0) ≡ true
+unfolding allBy
+zeros zero = refl
+zeros (suc k) = all-cons (λ x. eqb x 0) 0 (replicate k 0) refl (zeros k)
+
+drop-zeros : (n k : ℕ) → allBy (λ x. eqb x 0) (drop n (replicate k 0)) ≡ true
+unfolding allBy
+drop-zeros zero k = zeros k
+drop-zeros (suc n) zero = refl
+drop-zeros (suc n) (suc k) = drop-zeros n k
+
+padded-zero : (n k : ℕ) (v : List ℕ) → allBy (λ x. eqb x 0) (drop n (take n v ++ replicate k 0)) ≡ true
+padded-zero zero k v = zeros k
+padded-zero (suc n) k [] = drop-zeros (suc n) k
+padded-zero (suc n) k (x ∷ v) = padded-zero n k v
+
+-- option 3 was found
+has-identifier : (s : List ℕ) → readOf s .discard ≡ 0 → getD (readOf s .message .places) 3 0 ≡ 0 → ⊥
+unfolding readOf ended
+has-identifier s = pick-cases P (headerOk s) _ _ (λ _. at-stage (walkOf s .stage)) (λ _ e. absurd (omega arith))
+  where
+    P : Reading → Type 0
+    P r = r .discard ≡ 0 → getD (r .message .places) 3 0 ≡ 0 → ⊥
+
+    at-stage : (g : Stage) → P (byStage g (ended s (walkOf s .places)) (read.discarded 5 (walkOf s .at)))
+    at-stage Walking = λ e. absurd (omega arith)
+    at-stage Done =
+        pick-cases P (eqb (getD (walkOf s .places) 3 0) 0) _ _ (λ _ e. absurd (omega arith)) (λ q.
+        pick-cases P (noneRequired s (walkOf s .places)) _ _ (λ _ e. eqb-false (getD (walkOf s .places) 3 0) 0 q) (λ _ e. absurd (omega arith)))
+    at-stage Broken = λ e. absurd (omega arith)
+
+right-length : (s : List ℕ) (at : ℕ) → Placed s 3 at → (leb 2 (lengthAt s at) && leb (lengthAt s at) 32) ≡ true
+unfolding valueOk lengthOk isIn pick
+right-length s at p =
+    sym (ap (λ (code : ℕ). lengthOk code (lengthAt s at)) (p .named))
+    ∙ and-parts (lengthOk (codeAt s at) (lengthAt s at)) (pick (eqb (codeAt s at) 12) (exactlyFilled s (at + 4) (afterAt s at)) true) (p .right) .0
+
+read-id : (s : List ℕ) (server : ℕ) → readOf s .discard ≡ 0 → GoodId (fieldsOf s server (readOf s .message))
+unfolding fieldsOf foundAt pick zeroFrom
+read-id s server e = record {
+  long =
+      ap (λ (i : Identifier). leb 2 (i .len) && leb (i .len) 32) same
+      ∙ right-length s place (placed s (readOf s .message .places) 3 (read-good s) (has-identifier s e));
+  padded =
+      ap (λ (i : Identifier). allBy (λ x. eqb x 0) (drop (i .len) (i .octets))) same ∙ padded-zero (lengthAt s place) (32 - lengthAt s place) (drop (place + 4) s);
+}
+  where
+    place : ℕ
+    place = getD (readOf s .message .places) 3 0
+
+    same : identifierOf s (findOf (readOf s .message .places) 3) ≡ identifierAt s place
+    same =
+        ap (λ (b : Bool). identifierOf s (pick b Absent (At place))) (ne-eqb place 0 (has-identifier s e))
+
+-- ---- the records stay eight tenants'
+module _ (t : LeaseTable) where
+  Eight : Decided → Type 0
+  Eight d = length (d .table .tenants) ≡ length (t .tenants)
+
+  both-eight : (p : Bool) (x y : Decided) → Eight x → Eight y → Eight (pick p x y)
+  unfolding pick
+  both-eight true x y a b = a
+  both-eight false x y a b = b
+
+  put-eight : (h : ℕ) (ls : List Lease) → length (updated t h ls .tenants) ≡ length (t .tenants)
+  put-eight h ls = length-set (t .tenants) h (laidOut ls)
+
+  decided-eight : (s : State) (h : ℕ) (m : Fields) → length (decideOf s t h m .table .tenants) ≡ length (t .tenants)
+  unfolding decideOf judgedOf settledOf leasedOf plainOf Eight
+  decided-eight s h m =
+      both-eight _ _ _ refl (both-eight _ _ _ refl (both-eight _ _ _ refl (both-eight _ _ _ refl (both-eight _ _ _
+      (both-eight _ _ _ refl (both-eight _ _ _ refl (both-eight _ _ _ (put-eight h _) (put-eight h _))))
+      (both-eight _ _ _ (put-eight h _) refl)))))
+
+advanced-eight : (b : Book) (time : ℕ) → length (advanced b time .table .tenants) ≡ length (b .table .tenants)
+unfolding advanced dropped tableOf
+advanced-eight b time =
+    length-map (map (liveOf _) (leasesOf (b .table))) laidOut ∙ length-map (leasesOf (b .table)) (liveOf _) ∙ length-map (b .table .tenants) inUse
+
+advanced-laid : (b : Book) (time : ℕ) → advanced b time .table ≡ tableOf (leasesOf (advanced b time .table))
+unfolding advanced dropped
+advanced-laid b time = ap tableOf (sym (table-back (map (liveOf _) (leasesOf (b .table)))))
+
+-- ---- the call
+module _ (b : Book) (c : Call) (v : SoundBook b) where
+  Keeps : Answer → Type 0
+  Keeps a = SoundBook (a .book)
+
+  pub now-sound : SoundBook (bookAt b c)
+  now-sound = record { tenants = advanced-eight b (c .time) ∙ v .tenants; sound = advanced-sound b (c .time) (v .sound) }
+
+  decided-sound : (h : ℕ) (m : Fields) → h < tenantsIn (bookAt b c .state) → GoodId m → Keeps (answered (bookAt b c .state) m (decideOf (bookAt b c .state) (bookAt b c .table) h m))
+  unfolding Keeps
+  decided-sound h m known good = record {
+    tenants = decided-eight (bookAt b c .table) (bookAt b c .state) h m ∙ now-sound .tenants;
+    sound =
+        decision-sound (bookAt b c .state) (bookAt b c .table) h m (now-sound .sound) (advanced-laid b (c .time)) known (let e = now-sound .tenants in omega arith) good;
+  }
+
+  pub call-sound : SoundBook (serveOf b c .book)
+  unfolding serveOf atClock withReading forServer Keeps
+  call-sound =
+      let now : SoundBook (bookAt b c) = now-sound in
+      pick-cases Keeps (soundB (b .state) (b .table)) _ _
+      (λ _. pick-cases Keeps (ltb (c .room) 512) _ _ (λ _. v)
+      (λ _. pick-cases Keeps (ltb (tenantOf (bookAt b c .state) (c .client)) (tenantsIn (bookAt b c .state))) _ _
+      (λ known. pick-cases Keeps (eqb (readOf (c .datagram) .discard) 0) _ _
+      (λ whole. pick-cases Keeps _ _ _ (λ _. now)
+      (λ _. decided-sound _ _ (ltb-true _ _ known) (read-id (c .datagram) (bookAt b c .state .server) (eqb-true (readOf (c .datagram) .discard) 0 whole))))
+      (λ _. now)) (λ _. now))) (λ _. v)
+
+-- ---- any list of calls
+pub run-sound : (b : Book) (cs : List Call) → SoundBook b → SoundBook (run b cs)
+unfolding run
+run-sound b [] v = v
+run-sound b (c ∷ cs) v = run-sound (serveOf b c .book) cs (call-sound b c v)
+
+-- ---- a sound book is within its limits
+counts-few : (s : State) (ls : List (List Lease)) → Sound s ls → (s .«tenant_count» ≤ 8) × (s .«scope_count» ≤ 4)
+unfolding settingsOk countsB few
+counts-few s ls v =
+    let p = and-parts (countsB s && (rule3 s && rule4 s)) (rule5 s && (rule6 s && settingsB s)) (v .settings) in
+    let q = and-parts (countsB s) (rule3 s && rule4 s) (p .0) in
+    let r = and-parts (few 8 (s .«tenant_count»)) (few 4 (s .«scope_count») && allBy sizeB (scopesOf s)) (q .0) in
+    let u = and-parts (few 4 (s .«scope_count»)) (allBy sizeB (scopesOf s)) (r .1) in (
+      leb-true (s .«tenant_count») 8 (and-parts (leb 1 (s .«tenant_count»)) (leb (s .«tenant_count») 8) (r .0) .1),
+      leb-true (s .«scope_count») 4 (and-parts (leb 1 (s .«scope_count»)) (leb (s .«scope_count») 4) (u .0) .1),
+    )
+
+pub within-limits : (b : Book) → SoundBook b → WithinLimits b
+unfolding WithinLimits
+within-limits b v k g here known =
+    let w = sound-lists (b .state) (b .table) (v .sound) in
+    let n = counts-few (b .state) (leasesOf (b .table)) w in
+    w .holdings k g (omega arith) (omega arith)

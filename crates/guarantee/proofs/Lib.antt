@@ -1,0 +1,5 @@
+pub mod Discards
+mod Kept
+mod Inserted
+pub mod Granted
+mod Specimens

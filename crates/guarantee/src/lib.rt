@@ -1,0 +1,1 @@
+// What the server guarantees over any list of calls, in specs/; no code of its own.

@@ -1,0 +1,142 @@
+// Replays calls on a campus file, for the desk and for comparisons. Standard input: campus file length(2), the campus file, then for each
+// call time(4), client address(4), reply room length(2), datagram length(2), the datagram. It reads as it goes.
+use libc::STDIN_FILENO;
+use libc::STDOUT_FILENO;
+use state::Book;
+
+fn print(text: &[u8], n: usize) {
+    if n <= text.len() {
+        io::write_all(STDOUT_FILENO, &text[..n]);
+    }
+}
+
+fn refuse(number: u8) {
+    let mut line = [0u8; 16];
+    let n = replay_text::write_refused_line(&mut line, number);
+    print(&line, n);
+}
+
+// A reply has at most 512 octets and lies within its room.
+fn print_call(outcome: u8, room: &[u8], length: usize) {
+    let mut line = [0u8; 1028];
+    if length <= 512 {
+        if length <= room.len() {
+            let n = replay_text::write_call_line(&mut line, outcome, room, length);
+            print(&line, n);
+        }
+    }
+}
+
+// A file has at most 14,628 octets.
+fn print_book(book: Book) {
+    let mut file = [0u8; 14628];
+    let mut line = [0u8; 29262];
+    let s = book.state;
+    let t = book.table;
+    let w = state_file::write(s, t, &mut file);
+    let length = w.length;
+    if length <= 14628 {
+        let n = replay_text::write_book_line(&mut line, &file, length);
+        print(&line, n);
+    }
+}
+
+// Reads n octets to the front of a buffer; false where the input is cut off before them.
+fn read_part(buffer: &mut [u8], n: usize) -> bool {
+    if n <= buffer.len() {
+        return io::read_full(STDIN_FILENO, &mut buffer[..n]) == n;
+    }
+    false
+}
+
+// One call on a datagram of n octets, in a room of just `size` octets.
+fn call(book: Book, client: u32, time: u32, datagram: &[u8], n: usize, room: &mut [u8], size: usize) -> Book {
+    if n <= datagram.len() {
+        if size <= room.len() {
+            let r = server::serve(book, &datagram[..n], client, time, &mut room[..size]);
+            print_call(r.outcome, room, r.length);
+            return r.book;
+        }
+    }
+    book
+}
+
+// The call whose record starts with a head of twelve octets.
+fn call_of(head: [u8; 12], book: Book, datagram: &[u8], n: usize, room: &mut [u8]) -> Book {
+    let time = octets::read_u32(&head, 0);
+    let client = octets::read_u32(&head, 4);
+    let size = octets::read_u16(&head, 8) as usize;
+    call(book, client, time, datagram, n, room, size)
+}
+
+// The book after a record, and whether there may be another.
+struct Turn {
+    go: bool,
+    book: Book,
+}
+
+fn stop(book: Book) -> Turn {
+    Turn { go: false, book: book }
+}
+
+fn take_turn(book: Book, datagram: &mut [u8], room: &mut [u8]) -> Turn {
+    let mut head = [0u8; 12];
+    let got = io::read_full(STDIN_FILENO, &mut head);
+    if got == 0 {
+        print_book(book);
+        return stop(book);
+    }
+    let n = octets::read_u16(&head, 10) as usize;
+    if got == 12 {
+        if read_part(datagram, n) {
+            return Turn { go: true, book: call_of(head, book, datagram, n, room) };
+        }
+        refuse(24);
+        return stop(book);
+    }
+    refuse(24);
+    stop(book)
+}
+
+// Answers calls until the input ends or is cut off. A proved loop has to end: its turns are counted down from a number that no run uses up.
+fn replay(start: Book) {
+    let mut book = start;
+    let mut datagram = [0u8; 65536];
+    let mut room = [0u8; 65536];
+    let mut turns = u64::MAX;
+    while turns > 0 {
+        turns -= 1;
+        let t = take_turn(book, &mut datagram, &mut room);
+        if !t.go {
+            return;
+        }
+        book = t.book;
+    }
+}
+
+// On the campus file of n octets.
+fn replay_file(file: &[u8], n: usize) {
+    if n <= file.len() {
+        let r = state_file::read(&file[..n]);
+        if r.refusal == 0 {
+            let s = r.state;
+            let t = r.table;
+            replay(Book { state: s, table: t });
+        } else {
+            refuse(r.refusal);
+        }
+    }
+}
+
+fn main() {
+    let mut head = [0u8; 2];
+    let mut file = [0u8; 65536];
+    if read_part(&mut head, 2) {
+        let n = octets::read_u16(&head, 0) as usize;
+        if read_part(&mut file, n) {
+            replay_file(&file, n);
+            return;
+        }
+    }
+    refuse(24);
+}

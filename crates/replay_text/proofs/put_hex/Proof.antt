@@ -1,0 +1,54 @@
+-- The loop writes one octet a turn (`HexInv`).
+use Prim.Native.Nat.{_-_}
+use Rattle.replay_text.proofs.Hex.{HexInv, hex-end, hex-next, hex-start}
+use borrow.Author.Needs.{needs}
+use native.Mathlib.Omega.{arith}
+-- The loop writes one octet a turn (`HexInv`).
+-- The loop writes one octet a turn (`HexInv`).
+use Rattle.replay_text.proofs.put_hex.Statement.{statement}
+use Rattle.replay_text.proofs.put_hex.Tie as tie
+
+abbrev Inv-loop : tie.InvT-loop
+Inv-loop out₀ at s n i₀ to₀ out i to = HexInv out₀ at s n out i to
+
+abbrev μ-loop : tie.MeasureT-loop
+μ-loop out₀ at s n i₀ to₀ out i to = n - i
+
+loop-holds : tie.Need-loop-holds Inv-loop μ-loop
+loop-holds c = search (hex-start, needs)
+
+shared-slice-read-put-octet : tie.Need-shared-slice-read-put-octet Inv-loop μ-loop
+shared-slice-read-put-octet c = search (hex-start, needs)
+
+put-octet-requires : tie.Need-put-octet-requires Inv-loop μ-loop
+put-octet-requires c κs = let l = c .before .before .before .loop .inv in omega (arith, l .place, l .kept)
+
+add-i : tie.Need-add-i Inv-loop μ-loop
+add-i c = search (hex-start, needs)
+
+loop-less : tie.Need-loop-less Inv-loop μ-loop
+loop-less c = search (hex-start, needs)
+
+loop-again : tie.Need-loop-again Inv-loop μ-loop
+loop-again c = let at-put-octet = c .before .before in let at-loop = at-put-octet .before .before .before .before in hex-next (at-loop .loop .inv) (search needs) (search needs) (at-put-octet .put-octet .ensures) (at-put-octet .put-octet .kept .0)
+
+same-length : tie.Need-same-length Inv-loop μ-loop
+same-length c = c .before .loop .inv .kept
+
+returns : tie.Need-returns Inv-loop μ-loop
+returns c = (hex-end (c .before .loop .inv) (search needs), omega arith)
+
+pub put-hex-spec : {M : Type 1} → statement M
+put-hex-spec =
+    tie.close
+    (tie.spec
+    Inv-loop
+    μ-loop
+    loop-holds
+    shared-slice-read-put-octet
+    put-octet-requires
+    add-i
+    loop-less
+    loop-again
+    same-length
+    returns)

@@ -1,0 +1,74 @@
+// The lines that `replay` prints, written into a lent buffer.
+ghost use mathlib.Core.Path.{_≡_};
+ghost use mathlib.Core.List.{List, [], _∷_, _++_};
+ghost use Prim.Native.Nat.{ℕ, _+_, _*_, _≤_, _<_};
+ghost use lib.ListN.{length, take};
+ghost use Rattle.octets.specs.Octets.{Wrote};
+ghost use Rattle.replay_text.specs.Replay.{hexDigit, hexOf, callLine, bookLine, refusedLine};
+
+fn hex_digit(d: u8) -> u8
+    requires { ⌜ d < 16 ⌝ }
+    ensures { λ r. ⌜ r ≡ hexDigit d ⌝ }
+{
+    if d < 10 {
+        return 48 + d;
+    }
+    87 + d
+}
+
+fn put_octet(out: &mut [u8], at: usize, x: u8) -> usize
+    requires { ⌜ at + 2 ≤ length (now out) ⌝ }
+    ensures { λ r. ⌜ Wrote (now (out .entry)) at (hexOf (x ∷ [])) (now (out .exit)) r ⌝ }
+{
+    let a = octets::put_u8(out, at, hex_digit(x / 16));
+    octets::put_u8(out, a, hex_digit(x % 16))
+}
+
+// The hex of the first n octets of a slice.
+fn put_hex(out: &mut [u8], at: usize, s: &[u8], n: usize) -> usize
+    requires { ⌜ (at + 2 * n ≤ length (now out)) × (n ≤ length (now s)) ⌝ }
+    ensures { λ r. ⌜ (Wrote (now (out .entry)) at (hexOf (take n (now (s .entry)))) (now (out .exit)) r) × (r ≡ at + 2 * n) ⌝ }
+{
+    let mut i: usize = 0;
+    let mut to = at;
+    while i < n {
+        to = put_octet(out, to, s[i]);
+        i += 1;
+    }
+    to
+}
+
+// The line of a call whose reply is the first n octets of a slice.
+pub fn write_call_line(out: &mut [u8], outcome: u8, reply: &[u8], n: usize) -> usize
+    requires { ⌜ (2 * n + 3 ≤ length (now out)) × (n ≤ length (now reply)) ⌝ }
+    ensures { λ r. ⌜ Wrote (now (out .entry)) 0 (callLine outcome (take n (now (reply .entry)))) (now (out .exit)) r ⌝ }
+{
+    if outcome == 0 {
+        let a = octets::put_u8(out, 0, 48);
+        let b = octets::put_u8(out, a, 32);
+        let c = put_hex(out, b, reply, n);
+        return octets::put_u8(out, c, 10);
+    }
+    let a = octets::put_u8(out, 0, 48 + outcome % 10);
+    octets::put_u8(out, a, 10)
+}
+
+// The line of the campus file that is the first n octets of a slice.
+pub fn write_book_line(out: &mut [u8], file: &[u8], n: usize) -> usize
+    requires { ⌜ (2 * n + 6 ≤ length (now out)) × (n ≤ length (now file)) ⌝ }
+    ensures { λ r. ⌜ Wrote (now (out .entry)) 0 (bookLine (take n (now (file .entry)))) (now (out .exit)) r ⌝ }
+{
+    let a = octets::put_run(out, 0, &[98, 111, 111, 107, 32], 5);
+    let b = put_hex(out, a, file, n);
+    octets::put_u8(out, b, 10)
+}
+
+pub fn write_refused_line(out: &mut [u8], n: u8) -> usize
+    requires { ⌜ 11 ≤ length (now out) ⌝ }
+    ensures { λ r. ⌜ Wrote (now (out .entry)) 0 (refusedLine n) (now (out .exit)) r ⌝ }
+{
+    let a = octets::put_run(out, 0, &[114, 101, 102, 117, 115, 101, 100, 32], 8);
+    let b = octets::put_u8(out, a, 48 + n / 10 % 10);
+    let c = octets::put_u8(out, b, 48 + n % 10);
+    octets::put_u8(out, c, 10)
+}

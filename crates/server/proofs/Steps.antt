@@ -1,0 +1,138 @@
+-- Between the code of the call and its definition: replies by the verdict, and the tests one after the other.
+use mathlib.Core.Path.{_≡_, refl, sym, ap, ap₂, _∙_, subst}
+use mathlib.Core.List.{List, [], _∷_, _++_}
+use mathlib.Core.Bool.{Bool, true, false, not, _&&_}
+use Prim.Native.Nat.{ℕ, _≤_, _<_, _-_, min}
+use native.Mathlib.Omega.{arith}
+use borrow.Author.Tests.{eq-eqb, ne-eqb, lt-ltb, le-ltb}
+use lib.Dec.{ltb, eqb}
+use lib.ListN.{length, drop}
+use Rattle.lists.specs.Pick.{pick}
+use Rattle.message.specs.declared.Fields.{Fields}
+use Rattle.message.specs.declared.Reading.{Reading}
+use Rattle.message.specs.Read.{readOf}
+use Rattle.message.specs.Placed.{GoodPlaces, read-good, read-short}
+use Rattle.message.specs.Values.{fieldsOf}
+use Rattle.reply.specs.Put.{Replied}
+use Rattle.reply.specs.declared.Head.{Head}
+use Rattle.reply.specs.declared.Terms.{Terms}
+use Rattle.reply.specs.declared.Info.{Info}
+use Rattle.reply.specs.declared.ScopeEntry.{ScopeEntry}
+use Rattle.state.specs.declared.Book.{Book}
+use Rattle.state.specs.declared.LeaseTable.{LeaseTable}
+use Rattle.state.specs.declared.Scope.{Scope}
+use Rattle.state.specs.declared.State.{State}
+use Rattle.state.specs.Book.{advanced, scopeAt}
+use Rattle.soundness.specs.Sound.{soundB, tenantsIn}
+use Rattle.decision.specs.declared.Decided.{Decided}
+use Rattle.decision.specs.declared.Reply.{Reply}
+use Rattle.decision.specs.declared.Verdict.{Verdict}
+use Rattle.decision.specs.Decide.{decideOf}
+use Rattle.server.specs.declared.Served.{Served}
+use Rattle.server.specs.Serve.{Call, Answer, discarded, headOf, termsOf, entryOf, infoOf, byReply, replyOf, answered, forServer, withReading, tenantOf, atClock, serveOf, Serves}
+
+-- ---- the reply
+pub terms-is : (s : State) (v : Verdict) (n : ℕ) (c : Scope) (k : ℕ) → n ≡ v .end - v .start → k ≡ v .scope - 1 → c ≡ scopeAt s k
+    → _≡_ {A = Terms} (record { length = n; start = v .start; scope = c .lowest; addresses = v .addresses; clock = s .clock }) (termsOf s v)
+terms-is s v n c k p q r =
+    ap₂ {C = Terms} (λ (x y : ℕ). record { length = x; start = v .start; scope = y; addresses = v .addresses; clock = s .clock }) p
+    (ap (λ (y : Scope). y .lowest) (r ∙ ap (scopeAt s) q))
+
+pub info-is : (s : State) (m : Fields) {a b c d : ScopeEntry} {x y z w : Scope} → x ≡ scopeAt s 0 → a ≡ entryOf x → y ≡ scopeAt s 1 → b ≡ entryOf y → z ≡ scopeAt s 2 → c ≡ entryOf z → w ≡ scopeAt s 3 → d ≡ entryOf w
+    → _≡_ {A = Info} (record { scopes = a ∷ b ∷ c ∷ d ∷ []; count = s .«scope_count»; «list_asked» = m .«list_asked»; clock = s .clock; «time_asked» = m .«time_asked» }) (infoOf s m)
+info-is s m {a} {b} {c} {d} x a′ y b′ z c′ w d′ =
+    ap₂ (λ (p q : ScopeEntry). made p q c d) (a′ ∙ ap entryOf x) (b′ ∙ ap entryOf y) ∙ ap₂ (λ (p q : ScopeEntry). made (entryOf (scopeAt s 0)) (entryOf (scopeAt s 1)) p q) (c′ ∙ ap entryOf z) (d′ ∙ ap entryOf w)
+  where
+    made : ScopeEntry → ScopeEntry → ScopeEntry → ScopeEntry → Info
+    made p q r t = record { scopes = p ∷ q ∷ r ∷ t ∷ []; count = s .«scope_count»; «list_asked» = m .«list_asked»; clock = s .clock; «time_asked» = m .«time_asked» }
+
+-- the reply of a kind
+pub reply-as : (s : State) (m : Fields) (v : Verdict) (k : Reply) {before after : List ℕ} {n : ℕ} → v .reply ≡ k → Replied before (byReply s m v k) after n → Replied before (replyOf s m v) after n
+unfolding replyOf
+reply-as s m v k {before} {after} {n} e r = subst (λ (x : Reply). Replied before (byReply s m v x) after n) (sym e) r
+
+pub replied-none : (b : List ℕ) → Replied b [] b 0
+replied-none b = record { size = refl; buffer = refl }
+
+-- ---- answers
+pub serves-discard : (n : ℕ) (b : Book) (buffer : List ℕ) (r : Served) → r ≡ record { outcome = n; length = 0; book = b } → Serves (discarded n b) buffer buffer r
+serves-discard n b buffer r e = record {
+    outcome = ap (λ (x : Served). x .outcome) e;
+    size = ap (λ (x : Served). x .length) e;
+    book = ap (λ (x : Served). x .book) e;
+    buffer = refl
+  }
+
+serves-as : {a a′ : Answer} {x y : List ℕ} {r : Served} → a ≡ a′ → Serves a x y r → Serves a′ x y r
+serves-as {x = x} {y = y} {r = r} e s = subst (λ (z : Answer). Serves z x y r) e s
+
+pub serves-decided : (b : Book) (h : ℕ) (m : Fields) (d : Decided) (n : ℕ) {x y : List ℕ} → d ≡ decideOf (b .state) (b .table) h m → Replied x (replyOf (b .state) m (d .verdict)) y n
+    → Serves (answered (b .state) m (decideOf (b .state) (b .table) h m)) x y (record { outcome = d .verdict .outcome; length = n; book = record { state = b .state; table = d .table } })
+serves-decided b h m d n {x} {y} e w =
+    subst (λ (z : Decided). Serves (answered (b .state) m z) x y (record { outcome = d .verdict .outcome; length = n; book = record { state = b .state; table = d .table } })) e
+    (record { outcome = refl; size = w .size; book = refl; buffer = w .buffer })
+
+-- ---- test 7
+module _ (b : Book) (h : ℕ) (m : Fields) {x y : List ℕ} {r : Served} where
+  pub for-any : (m .kind ≡ 3 → ⊥) → Serves (answered (b .state) m (decideOf (b .state) (b .table) h m)) x y r → Serves (forServer b h m) x y r
+  unfolding forServer pick
+  for-any e s = serves-as (sym (ap (λ (t : Bool). pick (t && not (m .ours)) (discarded 7 b) (answered (b .state) m (decideOf (b .state) (b .table) h m))) (ne-eqb (m .kind) 3 e))) s
+
+  pub for-ours : m .kind ≡ 3 → m .ours ≡ true → Serves (answered (b .state) m (decideOf (b .state) (b .table) h m)) x y r → Serves (forServer b h m) x y r
+  unfolding forServer pick
+  for-ours e o s = serves-as (sym (ap₂ (λ (t u : Bool). pick (t && not u) (discarded 7 b) (answered (b .state) m (decideOf (b .state) (b .table) h m))) (eq-eqb (m .kind) 3 e) o)) s
+
+  pub for-others : m .kind ≡ 3 → m .ours ≡ false → Serves (discarded 7 b) x y r → Serves (forServer b h m) x y r
+  unfolding forServer pick
+  for-others e o s = serves-as (sym (ap₂ (λ (t u : Bool). pick (t && not u) (discarded 7 b) (answered (b .state) m (decideOf (b .state) (b .table) h m))) (eq-eqb (m .kind) 3 e) o)) s
+
+-- ---- tests 4 to 6
+module _ (b : Book) (h : ℕ) (s : List ℕ) (r : Reading) (e : r ≡ readOf s) where
+  pub reading-good : GoodPlaces s (r .message .places)
+  reading-good = subst (λ (x : Reading). GoodPlaces s (x .message .places)) (sym e) (read-good s)
+
+  pub reading-short : r .discard ≡ 0 → length s ≤ 1472
+  reading-short z = read-short s (sym (ap (λ (x : Reading). x .discard) e) ∙ z)
+
+  pub reading-taken : {x y : List ℕ} {v : Served} (f : Fields) → r .discard ≡ 0 → f ≡ fieldsOf s (b .state .server) (r .message) → Serves (forServer b h f) x y v → Serves (withReading b h s (readOf s)) x y v
+  unfolding withReading pick
+  reading-taken {x} {y} {v} f z q w =
+      subst (λ (q : Reading). Serves (withReading b h s q) x y v) e
+      (serves-as (sym (ap (λ (t : Bool). pick t (forServer b h (fieldsOf s (b .state .server) (r .message))) (discarded (r .discard) b)) (eq-eqb (r .discard) 0 z)))
+      (serves-as (ap (forServer b h) q) w))
+
+  pub reading-discarded : {x y : List ℕ} {v : Served} → (r .discard ≡ 0 → ⊥) → Serves (discarded (r .discard) b) x y v → Serves (withReading b h s (readOf s)) x y v
+  unfolding withReading pick
+  reading-discarded {x} {y} {v} z w =
+      subst (λ (q : Reading). Serves (withReading b h s q) x y v) e
+      (serves-as (sym (ap (λ (t : Bool). pick t (forServer b h (fieldsOf s (b .state .server) (r .message))) (discarded (r .discard) b)) (ne-eqb (r .discard) 0 z))) w)
+
+-- ---- test 3
+module _ (b : Book) (client : ℕ) (s : List ℕ) (h n : ℕ) (e : h ≡ tenantOf (b .state) client) (f : n ≡ tenantsIn (b .state)) {x y : List ℕ} {v : Served} where
+  pub client-known : h < n → Serves (withReading b h s (readOf s)) x y v → Serves (atClock b client s) x y v
+  unfolding atClock pick
+  client-known g w =
+      serves-as (sym (ap (λ (t : Bool). pick t (withReading b (tenantOf (b .state) client) s (readOf s)) (discarded 3 b)) (lt-ltb (tenantOf (b .state) client) (tenantsIn (b .state)) (omega arith))))
+      (serves-as (ap (λ (k : ℕ). withReading b k s (readOf s)) e) w)
+
+  pub client-unknown : n ≤ h → Serves (discarded 3 b) x y v → Serves (atClock b client s) x y v
+  unfolding atClock pick
+  client-unknown g w =
+      serves-as (sym (ap (λ (t : Bool). pick t (withReading b (tenantOf (b .state) client) s (readOf s)) (discarded 3 b)) (le-ltb (tenantOf (b .state) client) (tenantsIn (b .state)) (omega arith)))) w
+
+-- ---- tests 1 and 2
+at-test : Book → Call → Bool → Bool → Answer
+at-test b c t u = pick t (pick u (discarded 2 b) (atClock (advanced b (c .time)) (c .client) (c .datagram))) (discarded 1 b)
+
+module _ (b : Book) (c : Call) (q : Bool) (e : q ≡ soundB (b .state) (b .table)) {x y : List ℕ} {v : Served} where
+  pub call-unsound : q ≡ false → Serves (discarded 1 b) x y v → Serves (serveOf b c) x y v
+  unfolding serveOf pick at-test
+  call-unsound h w = serves-as (sym (ap (λ (t : Bool). at-test b c t (ltb (c .room) 512)) (sym e ∙ h))) w
+
+  pub call-short : q ≡ true → c .room < 512 → Serves (discarded 2 b) x y v → Serves (serveOf b c) x y v
+  unfolding serveOf pick at-test
+  call-short h g w = serves-as (sym (ap₂ (at-test b c) (sym e ∙ h) (lt-ltb (c .room) 512 g))) w
+
+  pub call-served : q ≡ true → 512 ≤ c .room → Serves (atClock (advanced b (c .time)) (c .client) (c .datagram)) x y v → Serves (serveOf b c) x y v
+  unfolding serveOf pick at-test
+  call-served h g w = serves-as (sym (ap₂ (at-test b c) (sym e ∙ h) (le-ltb (c .room) 512 g))) w

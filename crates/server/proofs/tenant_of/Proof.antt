@@ -1,0 +1,69 @@
+-- The loop looks at one range a turn (`PlaceInv`).
+use Prim.Native.Nat.{_-_}
+use Rattle.lists.specs.Place.{PlaceInv, places}
+use Rattle.server.specs.Serve.{hasClient, tenantOf}
+use Rattle.soundness.specs.Parts.{noRange}
+use borrow.Author.Needs.{needs}
+-- The loop looks at one range a turn (`PlaceInv`).
+-- The loop looks at one range a turn (`PlaceInv`).
+-- The loop looks at one range a turn (`PlaceInv`).
+use Rattle.server.proofs.tenant_of.Statement.{statement}
+use Rattle.server.proofs.tenant_of.Tie as tie
+
+abbrev Inv-loop : tie.InvT-loop
+Inv-loop client s n i₀ i = PlaceInv (hasClient client) noRange (s .tenants) n (tenantOf s client) i
+
+abbrev μ-loop : tie.MeasureT-loop
+μ-loop client s n i₀ i = n - i
+
+cut8-requires : tie.Need-cut8-requires Inv-loop μ-loop
+cut8-requires c κs = search (places, needs)
+
+loop-holds : tie.Need-loop-holds Inv-loop μ-loop
+unfolding tenantOf
+loop-holds c = search (places, needs)
+
+mul-x : tie.Need-mul-x Inv-loop μ-loop
+mul-x c = search (places, needs)
+
+element-copy-out-x : tie.Need-element-copy-out-x Inv-loop μ-loop
+element-copy-out-x c = search (places, needs)
+
+has-client-requires : tie.Need-has-client-requires Inv-loop μ-loop
+has-client-requires c κs = search (places, needs)
+
+returns : tie.Need-returns Inv-loop μ-loop
+unfolding tenantOf
+returns c = search (places, needs)
+
+add-i : tie.Need-add-i Inv-loop μ-loop
+add-i c = search (places, needs)
+
+loop-less : tie.Need-loop-less Inv-loop μ-loop
+unfolding tenantOf
+loop-less c = search (places, needs)
+
+loop-again : tie.Need-loop-again Inv-loop μ-loop
+unfolding tenantOf
+loop-again c = search (places, needs)
+
+returns-2 : tie.Need-returns-2 Inv-loop μ-loop
+unfolding tenantOf
+returns-2 c = search (places, needs)
+
+pub tenant-of-spec : {M : Type 1} → statement M
+tenant-of-spec =
+    tie.close
+    (tie.spec
+    Inv-loop
+    μ-loop
+    cut8-requires
+    loop-holds
+    mul-x
+    element-copy-out-x
+    has-client-requires
+    returns
+    add-i
+    loop-less
+    loop-again
+    returns-2)

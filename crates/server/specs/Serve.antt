@@ -1,0 +1,118 @@
+-- A server call (document 01, "Outcomes, tested in this order" and "Replies"): a datagram, the client's address, the time, a book and the
+-- length of the lent reply room give an outcome, a reply's octets and the book afterwards.
+use Prim.Native.Nat.{ℕ, _-_}
+use mathlib.Core.Bool.{Bool, true, false, not, _&&_}
+use mathlib.Core.List.{List, [], _∷_, _++_}
+use mathlib.Core.Path.{_≡_}
+use lib.Dec.{ltb, leb, eqb}
+use lib.ListN.{length, drop}
+use Rattle.lists.specs.Pick.{pick}
+use Rattle.lists.specs.Place.{placeBy}
+use Rattle.message.specs.declared.Fields.{Fields}
+use Rattle.message.specs.declared.Reading.{Reading}
+use Rattle.message.specs.Read.{readOf}
+use Rattle.message.specs.Values.{fieldsOf}
+use Rattle.reply.specs.declared.Head.{Head}
+use Rattle.reply.specs.declared.Terms.{Terms}
+use Rattle.reply.specs.declared.Info.{Info}
+use Rattle.reply.specs.declared.ScopeEntry.{ScopeEntry}
+use Rattle.reply.specs.Reply.{offerOf, leaseAckOf, releaseAckOf, infoAckOf, nakOf}
+use Rattle.state.specs.declared.Book.{Book}
+use Rattle.state.specs.declared.ClientRange.{ClientRange}
+use Rattle.state.specs.declared.LeaseTable.{LeaseTable}
+use Rattle.state.specs.declared.Scope.{Scope}
+use Rattle.state.specs.declared.State.{State}
+use Rattle.state.specs.Book.{advanced, rangesOf, scopeAt}
+use Rattle.soundness.specs.Sound.{soundB, tenantsIn}
+use Rattle.decision.specs.declared.Decided.{Decided}
+use Rattle.decision.specs.declared.Reply.{Reply}
+use Rattle.decision.specs.declared.Reply.the-variants.{Nothing, Offer, LeaseAck, ReleaseAck, InfoAck, Nak}
+use Rattle.decision.specs.declared.Verdict.{Verdict}
+use Rattle.decision.specs.Decide.{decideOf}
+use Rattle.server.specs.declared.Served.{Served}
+
+pub record Call : Type 0 where
+  pub datagram : List ℕ
+  pub client : ℕ
+  pub time : ℕ
+  pub room : ℕ
+
+-- outcome 0 is a reply; a discard has no octets
+pub record Answer : Type 0 where
+  pub outcome : ℕ
+  pub reply : List ℕ
+  pub book : Book
+
+abbrev pub discarded : ℕ → Book → Answer
+discarded n b = record { outcome = n; reply = []; book = b }
+
+-- ---- the reply that a verdict asks for
+abbrev pub headOf : State → Fields → Head
+headOf s m = record { xid = m .xid; server = s .server; id = m .id; features = m .features }
+
+abbrev pub termsOf : State → Verdict → Terms
+termsOf s v = record { length = v .end - v .start; start = v .start; scope = scopeAt s (v .scope - 1) .lowest; addresses = v .addresses; clock = s .clock }
+
+abbrev pub entryOf : Scope → ScopeEntry
+entryOf c = record { lowest = c .lowest; size = c .size; ttl = c .ttl }
+
+abbrev pub infoOf : State → Fields → Info
+infoOf s m = record {
+  scopes = entryOf (scopeAt s 0) ∷ entryOf (scopeAt s 1) ∷ entryOf (scopeAt s 2) ∷ entryOf (scopeAt s 3) ∷ [];
+  count = s .«scope_count»;
+  «list_asked» = m .«list_asked»;
+  clock = s .clock;
+  «time_asked» = m .«time_asked»;
+}
+
+abbrev pub byReply : State → Fields → Verdict → Reply → List ℕ
+byReply s m v Nothing = []
+byReply s m v Offer = offerOf (headOf s m) (termsOf s v)
+byReply s m v LeaseAck = leaseAckOf (headOf s m) (termsOf s v)
+byReply s m v ReleaseAck = releaseAckOf (headOf s m)
+byReply s m v InfoAck = infoAckOf (headOf s m) (infoOf s m)
+byReply s m v Nak = nakOf (headOf s m) (v .error)
+
+unfoldable pub replyOf : State → Fields → Verdict → List ℕ
+replyOf s m v = byReply s m v (v .reply)
+
+-- ---- the tests
+abbrev pub answered : State → Fields → Decided → Answer
+answered s m d = record { outcome = d .verdict .outcome; reply = replyOf s m (d .verdict); book = record { state = s; table = d .table } }
+
+-- test 7: "REQUEST with a Server Identifier other than the six octets of family 1 and our address"; then the decision
+unfoldable pub forServer : Book → ℕ → Fields → Answer
+forServer b h m =
+    pick (eqb (m .kind) 3 && not (m .ours)) (discarded 7 b)
+    (answered (b .state) m (decideOf (b .state) (b .table) h m))
+
+-- tests 4, 5 and 6, by the reader
+unfoldable pub withReading : Book → ℕ → List ℕ → Reading → Answer
+withReading b h s r = pick (eqb (r .discard) 0) (forServer b h (fieldsOf s (b .state .server) (r .message))) (discarded (r .discard) b)
+
+-- both ends of a client range belong to it
+unfoldable pub hasClient : ℕ → ClientRange → Bool
+hasClient a r = leb (r .low) a && leb a (r .high)
+
+-- the tenant of a client's address; their number where it has none
+unfoldable pub tenantOf : State → ℕ → ℕ
+tenantOf s a = placeBy (hasClient a) (rangesOf s)
+
+-- test 3: "client address in no house"
+unfoldable pub atClock : Book → ℕ → List ℕ → Answer
+atClock b client s =
+    pick (ltb (tenantOf (b .state) client) (tenantsIn (b .state))) (withReading b (tenantOf (b .state) client) s (readOf s)) (discarded 3 b)
+
+-- tests 1 and 2 change nothing; "all other calls first set the book's clock .. and drop leases that end at or before it"
+unfoldable pub serveOf : Book → Call → Answer
+serveOf b c =
+    pick (soundB (b .state) (b .table))
+    (pick (ltb (c .room) 512) (discarded 2 b) (atClock (advanced b (c .time)) (c .client) (c .datagram)))
+    (discarded 1 b)
+
+-- ---- what a function promises: outcome, length, book, and every octet of the reply buffer
+pub record Serves (a : Answer) (before after : List ℕ) (r : Served) : Type 0 where
+  pub outcome : r .outcome ≡ a .outcome
+  pub size : r .length ≡ length (a .reply)
+  pub book : r .book ≡ a .book
+  pub buffer : after ≡ a .reply ++ drop (length (a .reply)) before

@@ -1,0 +1,245 @@
+// The whole call by value: a datagram, the client's address, the time, the book and a lent reply buffer.
+ghost use mathlib.Core.Path.{_≡_};
+ghost use Prim.Native.Nat.{ℕ, _-_, _≤_, _<_, min};
+ghost use lib.ListN.{length};
+ghost use Rattle.message.specs.Read.{readOf};
+ghost use Rattle.soundness.specs.Sound.{tenantsIn};
+ghost use Rattle.reply.specs.Put.{Replied};
+ghost use Rattle.decision.specs.Decide.{decideOf};
+ghost use Rattle.server.specs.Serve.{Call, discarded, headOf, termsOf, entryOf, infoOf, replyOf, answered, forServer, withReading, hasClient, tenantOf, atClock, serveOf, Serves};
+use decision::Reply;
+use decision::Verdict;
+use message::Fields;
+use message::MessageType;
+use reply::Head;
+use reply::Info;
+use reply::ScopeEntry;
+use reply::Terms;
+use state::Book;
+use state::ClientRange;
+use state::Scope;
+use state::State;
+
+// The outcome's number, the reply's length and the book afterwards.
+pub struct Served {
+    pub outcome: u8,
+    pub length: usize,
+    pub book: Book,
+}
+
+// ---- the reply that a verdict asks for
+
+fn head_of(s: State, m: Fields) -> Head
+    ensures { λ r. ⌜ r ≡ headOf s m ⌝ }
+{
+    let id = m.id;
+    Head {
+        xid: m.xid,
+        server: s.server,
+        id: id,
+        features: m.features,
+    }
+}
+
+fn monus32(a: u32, b: u32) -> u32
+    ensures { λ r. ⌜ r ≡ a - b ⌝ }
+{
+    if b < a {
+        return a - b;
+    }
+    0
+}
+
+fn place_of(scope: u8) -> usize
+    ensures { λ r. ⌜ r ≡ scope - 1 ⌝ }
+{
+    if 0 < scope {
+        return (scope - 1) as usize;
+    }
+    0
+}
+
+fn terms_of(s: State, v: Verdict) -> Terms
+    ensures { λ r. ⌜ r ≡ termsOf s v ⌝ }
+{
+    let c = state::scope_at(s, place_of(v.scope));
+    Terms {
+        length: monus32(v.end, v.start),
+        start: v.start,
+        scope: c.lowest,
+        addresses: v.addresses,
+        clock: s.clock,
+    }
+}
+
+fn entry_of(c: Scope) -> ScopeEntry
+    ensures { λ r. ⌜ r ≡ entryOf c ⌝ }
+{
+    ScopeEntry {
+        lowest: c.lowest,
+        size: c.size,
+        ttl: c.ttl,
+    }
+}
+
+fn info_of(s: State, m: Fields) -> Info
+    ensures { λ r. ⌜ r ≡ infoOf s m ⌝ }
+{
+    let a = entry_of(state::scope_at(s, 0));
+    let b = entry_of(state::scope_at(s, 1));
+    let c = entry_of(state::scope_at(s, 2));
+    let d = entry_of(state::scope_at(s, 3));
+    Info {
+        scopes: [a, b, c, d],
+        count: s.scope_count,
+        list_asked: m.list_asked,
+        clock: s.clock,
+        time_asked: m.time_asked,
+    }
+}
+
+fn write_reply(s: State, m: Fields, v: Verdict, reply: &mut [u8]) -> usize
+    requires { ⌜ 512 ≤ length (now reply) ⌝ }
+    ensures { λ r. ⌜ Replied (now (reply .entry)) (replyOf s m v) (now (reply .exit)) r ⌝ }
+{
+    let head = head_of(s, m);
+    let kind = v.reply;
+    match kind {
+        Reply::Nothing => 0,
+        Reply::Offer => reply::write_offer(reply, head, terms_of(s, v)),
+        Reply::LeaseAck => reply::write_lease_ack(reply, head, terms_of(s, v)),
+        Reply::ReleaseAck => reply::write_release_ack(reply, head),
+        Reply::InfoAck => reply::write_info_ack(reply, head, info_of(s, m)),
+        Reply::Nak => reply::write_nak(reply, head, wide16(v.error)),
+    }
+}
+
+fn wide16(x: u8) -> u16
+    ensures { λ r. ⌜ r ≡ x ⌝ }
+{
+    x as u16
+}
+
+// ---- the tests
+
+fn discard(n: u8, book: Book) -> Served
+    ensures { λ r. ⌜ r ≡ record { outcome = n; length = 0; book = book } ⌝ }
+{
+    Served {
+        outcome: n,
+        length: 0,
+        book: book,
+    }
+}
+
+// After test 7: the decision, and the reply written from it.
+fn decided(book: Book, h: usize, m: Fields, reply: &mut [u8]) -> Served
+    requires { ⌜ (512 ≤ length (now reply)) × (h < tenantsIn (book .state)) ⌝ }
+    ensures { λ r. ⌜ Serves (answered (book .state) m (decideOf (book .state) (book .table) h m)) (now (reply .entry)) (now (reply .exit)) r ⌝ }
+{
+    let s = book.state;
+    let t = book.table;
+    let d = decision::decide(s, t, h, m);
+    let v = d.verdict;
+    let after = d.table;
+    let n = write_reply(s, m, v, reply);
+    Served {
+        outcome: v.outcome,
+        length: n,
+        book: Book {
+            state: s,
+            table: after,
+        },
+    }
+}
+
+// Test 7.
+fn for_server(book: Book, h: usize, m: Fields, reply: &mut [u8]) -> Served
+    requires { ⌜ (512 ≤ length (now reply)) × (h < tenantsIn (book .state)) ⌝ }
+    ensures { λ r. ⌜ Serves (forServer book h m) (now (reply .entry)) (now (reply .exit)) r ⌝ }
+{
+    if m.kind == MessageType::REQUEST {
+        if m.ours {
+            return decided(book, h, m, reply);
+        }
+        return discard(7, book);
+    }
+    decided(book, h, m, reply)
+}
+
+// Tests 4, 5 and 6.
+fn with_datagram(book: Book, h: usize, datagram: &[u8], reply: &mut [u8]) -> Served
+    requires { ⌜ (512 ≤ length (now reply)) × (h < tenantsIn (book .state)) ⌝ }
+    ensures { λ r. ⌜ Serves (withReading book h (now (datagram .entry)) (readOf (now (datagram .entry)))) (now (reply .entry)) (now (reply .exit)) r ⌝ }
+{
+    let r = message::read(datagram);
+    if r.discard == 0 {
+        let s = book.state;
+        let m = r.message;
+        let f = m.fields(datagram, s.server);
+        return for_server(book, h, f, reply);
+    }
+    discard(r.discard, book)
+}
+
+fn has_client(client: u32, r: ClientRange) -> bool
+    ensures { λ x. ⌜ x ≡ hasClient client r ⌝ }
+{
+    if r.low <= client {
+        return client <= r.high;
+    }
+    false
+}
+
+fn cut8(n: u8) -> usize
+    ensures { λ r. ⌜ r ≡ min n 8 ⌝ }
+{
+    if n < 8 {
+        return n as usize;
+    }
+    8
+}
+
+// The tenant of a client's address, counted from 0.
+fn tenant_of(s: State, client: u32) -> usize
+    ensures { λ r. ⌜ r ≡ tenantOf s client ⌝ }
+{
+    let n = cut8(s.tenant_count);
+    let mut i: usize = 0;
+    while i < n {
+        let x = s.tenants[i];
+        if has_client(client, x) {
+            return i;
+        }
+        i += 1;
+    }
+    i
+}
+
+// Test 3.
+fn at_clock(book: Book, client: u32, datagram: &[u8], reply: &mut [u8]) -> Served
+    requires { ⌜ 512 ≤ length (now reply) ⌝ }
+    ensures { λ r. ⌜ Serves (atClock book client (now (datagram .entry))) (now (reply .entry)) (now (reply .exit)) r ⌝ }
+{
+    let s = book.state;
+    let h = tenant_of(s, client);
+    if h < cut8(s.tenant_count) {
+        return with_datagram(book, h, datagram, reply);
+    }
+    discard(3, book)
+}
+
+// The call.
+pub fn serve(book: Book, datagram: &[u8], client: u32, time: u32, reply: &mut [u8]) -> Served
+    ensures { λ r. ⌜ Serves (serveOf book (record { datagram = now (datagram .entry); client = client; time = time; room = length (now (reply .entry)) })) (now (reply .entry)) (now (reply .exit)) r ⌝ }
+{
+    let s = book.state;
+    let t = book.table;
+    if soundness::sound(s, t) {
+        if reply.len() < 512 {
+            return discard(2, book);
+        }
+        return at_clock(state::advance(book, time), client, datagram, reply);
+    }
+    discard(1, book)
+}

@@ -22,7 +22,7 @@ use Rattle.state.specs.Book.{zeroLease, inUse, laidOut, leasesOf, tableOf, orde
 use Rattle.state.specs.Layout.{read-back, table-back}
 use Rattle.soundness.specs.declared.Rules.{Rules}
 use Rattle.soundness.specs.Sound.{tenantsIn, scopesIn, reserveAt, limitAt, idB, recordsB, countsB, rule1, offsetsB, rule2, rule3, rule4, rule5, rule6, leaseB, noneB, housesB, rule7, differ, rule8, apart, rule9, calm, rule10, holding, limitB, limitsB, rule11, load, loadB, rule12, zeroFrom, paddedB, blankB, unusedB, layoutB, settingsB, rule13, rulesOf, firstLate, firstBroken, brokenOf, soundB}
-use Rattle.soundness.specs.Laws.{rise-differ}
+use Rattle.soundness.specs.Laws.{rise-differ, drop-map}
 
 -- ---- the facts
 -- every rule on the settings alone
@@ -43,7 +43,7 @@ fewLeases l = leb (length l) 16
 abbrev pub noLeasesB : List Lease → Bool
 noLeasesB l = eqb (length l) 0
 
--- what tenant g has in scope k + 1, or its reserve there
+-- the larger of what tenant g has in scope k + 1 and its reserve there
 abbrev pub loadOf : State → List (List Lease) → ℕ → ℕ → ℕ
 loadOf s ls k g = max (heldCount (k + 1) (getD ls g [])) (reserveAt (scopeAt s k) g)
 
@@ -159,11 +159,6 @@ imply {t = t} {u = u} l f h = all-both t t u l (λ x p q. f x p) h h
 through : {A B : Type 0} (t : A → Bool) (u : B → Bool) (g : A → B) (l : List A) → ((x : A) → t x ≡ true → u (g x) ≡ true) → allBy t l ≡ true → allBy u (map g l) ≡ true
 through t u g l f h = all-map u g l ∙ imply {t = t} {u = λ x. u (g x)} l f h
 
-drop-map : {A B : Type 0} (g : A → B) (n : ℕ) (l : List A) → drop n (map g l) ≡ map g (drop n l)
-drop-map g zero l = refl
-drop-map g (suc n) [] = refl
-drop-map g (suc n) (x ∷ l) = drop-map g n l
-
 all-all : {A : Type 0} (t u : A → Bool) (ls : List (List A)) → allBy (allBy (λ x. t x && u x)) ls ≡ (allBy (allBy t) ls && allBy (allBy u) ls)
 all-all t u ls = all-same (allBy (λ x. t x && u x)) (λ l. allBy t l && allBy u l) ls (all-and t u) ∙ all-and (allBy t) (allBy u) ls
 
@@ -236,13 +231,13 @@ sound-lists s t e = lists-of s t (rules-of s t e)
 
 -- ---- sound lists, laid out, are a sound book
 module _ (s : State) (ls : List (List Lease)) (v : Sound s ls) where
-  front : (countsB s ≡ true) × ((rule3 s && rule4 s) ≡ true)
+  pub settings-front : (countsB s ≡ true) × ((rule3 s && rule4 s) ≡ true)
   unfolding settingsOk
-  front = and-parts (countsB s) (rule3 s && rule4 s) (and-parts (countsB s && (rule3 s && rule4 s)) (rule5 s && (rule6 s && settingsB s)) (v .settings) .0)
+  settings-front = and-parts (countsB s) (rule3 s && rule4 s) (and-parts (countsB s && (rule3 s && rule4 s)) (rule5 s && (rule6 s && settingsB s)) (v .settings) .0)
 
-  behind : (rule5 s ≡ true) × ((rule6 s && settingsB s) ≡ true)
+  pub settings-back : (rule5 s ≡ true) × ((rule6 s && settingsB s) ≡ true)
   unfolding settingsOk
-  behind = and-parts (rule5 s) (rule6 s && settingsB s) (and-parts (countsB s && (rule3 s && rule4 s)) (rule5 s && (rule6 s && settingsB s)) (v .settings) .1)
+  settings-back = and-parts (rule5 s) (rule6 s && settingsB s) (and-parts (countsB s && (rule3 s && rule4 s)) (rule5 s && (rule6 s && settingsB s)) (v .settings) .1)
 
   each-parts : ((allBy (allBy idB) ls && allBy (allBy (offsetsB s)) ls) ≡ true) × ((allBy (allBy (leaseB s)) ls && allBy (allBy paddedB) ls) ≡ true)
   each-parts = and-parts _ _ (sym (each-is s ls) ∙ v .each)
@@ -284,12 +279,12 @@ module _ (s : State) (ls : List (List Lease)) (v : Sound s ls) where
   pub rules-to : AllRules (rulesOf s (tableOf ls))
   unfolding rulesOf rule1 rule2 rule7 rule8 rule9 rule10 rule11 limitsB limitB rule12 loadB load rule13
   rules-to = record {
-    limits = and-both (front .0) records-to;
+    limits = and-both (settings-front .0) records-to;
     offsets = ap (allBy (allBy (offsetsB s))) back ∙ offsets-to;
-    ranges = and-parts (rule3 s) (rule4 s) (front .1) .0;
-    pools = and-parts (rule3 s) (rule4 s) (front .1) .1;
-    ttls = behind .0;
-    reserves = and-parts (rule6 s) (settingsB s) (behind .1) .0;
+    ranges = and-parts (rule3 s) (rule4 s) (settings-front .1) .0;
+    pools = and-parts (rule3 s) (rule4 s) (settings-front .1) .1;
+    ttls = settings-back .0;
+    reserves = and-parts (rule6 s) (settingsB s) (settings-back .1) .0;
     leases = and-both houses-to (ap (allBy (allBy (leaseB s))) back ∙ leases-to);
     identifiers = ap (allBy (pairsBy differ)) back ∙ imply {t = pairsBy ordered} {u = pairsBy differ} ls (λ l p. sym (rise-differ l refl p)) (pair-parts .0);
     owners = ap (pairsBy apart) back ∙ v .owners;
@@ -298,7 +293,7 @@ module _ (s : State) (ls : List (List Lease)) (v : Sound s ls) where
         ap (λ (x : List (List Lease)). leb (heldCount (k + 1) (getD x g [])) (limitAt (scopeAt s k) g)) back ∙ le-leb _ _ (v .holdings k g p q)));
     loads = each-to (loadB s (tableOf ls)) (scopesIn s) (λ k p.
         ap (λ (x : List (List Lease)). leb (sumTo (loadOf s x k) (tenantsIn s)) (scopeAt s k .size)) back ∙ le-leb _ _ (v .loads k p));
-    layout = and-both (and-parts (rule6 s) (settingsB s) (behind .1) .1) layout-to;
+    layout = and-both (and-parts (rule6 s) (settingsB s) (settings-back .1) .1) layout-to;
   }
 
 pub lists-sound : (s : State) (ls : List (List Lease)) → Sound s ls → soundB s (tableOf ls) ≡ true

@@ -16,8 +16,8 @@ use Rattle.state.specs.declared.Lease.{Lease}
 use Rattle.state.specs.declared.State.{State}
 use Rattle.state.specs.Book.{ordered, inScope, overlaps, heldOf, scopesOf}
 use Rattle.state.specs.Sets.{adds, addresses-cons}
-use Rattle.soundness.specs.Sound.{few, countsB, sizeB, rule3, rule4, rule5, rule6, settingsB, scopeKnown, leaseB, idB, offsetsB, paddedB, kindB, periodB, disjoint, apartIn, apart, calm}
-use Rattle.soundness.specs.Book.{settingsOk, leaseOk, pairOk, Sound, pairs-is}
+use Rattle.soundness.specs.Sound.{few, countsB, sizeB, scopeKnown, leaseB, idB, offsetsB, paddedB, kindB, periodB, disjoint, apartIn, apart, calm}
+use Rattle.soundness.specs.Book.{leaseOk, Sound, pairs-is, settings-front}
 use Rattle.soundness.specs.Kept.{disjoint-less}
 
 -- all tenants' leases in one list
@@ -129,9 +129,8 @@ scope-known s l c e =
     and-both (r .0) (le-leb (l .scope) 4 (omega arith))
 
 pub sound-calm : (s : State) (ls : List (List Lease)) → Sound s ls → pairsBy calm (joinAll ls) ≡ true
-unfolding settingsOk
 sound-calm s ls v =
-    let c = and-parts (countsB s) (rule3 s && rule4 s) (and-parts (countsB s && (rule3 s && rule4 s)) (rule5 s && (rule6 s && settingsB s)) (v .settings) .0) .0 in
+    let c = settings-front s ls v .0 in
     calm-all ls
     (all-both (allBy (leaseOk s)) (allBy (leaseOk s)) (allBy scopeB) ls (λ l p q. all-both (leaseOk s) (leaseOk s) scopeB l (λ x a b. scope-known s x c a) p p) (v .each) (v .each))
     (and-parts (allBy (pairsBy ordered) ls) (allBy (pairsBy calm) ls) (sym (pairs-is ls) ∙ v .pairs) .1) (v .owners)

@@ -422,7 +422,7 @@ unfolding holdingRulesIn
 holding-are s n m h en em p q u r =
     holding-same (p ∙ ap (λ (x : ℕ). allBy noneH (drop x (h .tenants))) en) q (u ∙ ap₂ (λ (x y : ℕ). allTo (limitsIn s h x) y) en em) (r ∙ ap₂ (λ (x y : ℕ). allTo (loadIn s h x) y) en em)
 
-drop-map : {A B : Type 0} (g : A → B) (n : ℕ) (l : List A) → drop n (map g l) ≡ map g (drop n l)
+pub drop-map : {A B : Type 0} (g : A → B) (n : ℕ) (l : List A) → drop n (map g l) ≡ map g (drop n l)
 drop-map g zero l = refl
 drop-map g (suc n) [] = refl
 drop-map g (suc n) (x ∷ l) = drop-map g n l

@@ -5,3 +5,5 @@ pub mod Book
 pub mod Kept
 pub mod Added
 pub mod Calm
+pub mod Laid
+pub mod Facts

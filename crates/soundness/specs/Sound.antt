@@ -111,12 +111,14 @@ rule6 s = allBy (sharesB (tenantsIn s)) (scopesOf s)
 unfoldable pub kindB : Lease → Bool
 kindB l = eqb (l .kind) 3 || eqb (l .kind) 4
 
+-- start before end, end after the clock, and an address
 unfoldable pub periodB : ℕ → Lease → Bool
 periodB clock l = ltb (l .start) (l .end) && (live clock l && ltb 0 (l .addresses))
 
 unfoldable pub leaseB : State → Lease → Bool
 leaseB s l = scopeKnown s l && (kindB l && periodB (s .clock) l)
 
+-- no tenant past the last has a lease: each lease names a known house
 unfoldable pub noneB : TenantLeases → Bool
 noneB t = eqb (t .count) 0
 
@@ -140,13 +142,15 @@ disjoint m n = eqb (bitAnd m n) 0
 abbrev pub apartIn : ℕ → List Lease → List Lease → Bool
 apartIn s a b = disjoint (heldOf s a) (heldOf s b)
 
+-- no address in common, in any scope
 unfoldable pub apart : List Lease → List Lease → Bool
 apart a b = apartIn 1 a b && (apartIn 2 a b && (apartIn 3 a b && apartIn 4 a b))
 
 unfoldable pub rule9 : LeaseTable → Bool
 rule9 t = pairsBy apart (leasesOf t)
 
--- ---- 10. leases on one address don't overlap; by rule 9 they are of one house
+-- ---- 10. leases on one address don't overlap; by rule 9 they are of one house, so that it holds of all leases (`sound-calm`)
+-- two leases of one scope whose periods overlap have no address in common
 unfoldable pub calm : Lease → Lease → Bool
 calm a b = pick (inScope (b .scope) a) (pick (overlaps (b .start) (b .end) a) (disjoint (a .addresses) (b .addresses)) true) true
 
@@ -227,11 +231,12 @@ rulesOf s t = record {
   layout = rule13 s t;
 }
 
--- the number of the first that is broken, or 0
+-- of rules 7 to 13, the number of the first that is broken, or 0
 unfoldable pub firstLate : Rules → ℕ
 firstLate r =
     pick (r .leases) (pick (r .identifiers) (pick (r .owners) (pick (r .periods) (pick (r .holdings) (pick (r .loads) (pick (r .layout) 0 13) 12) 11) 10) 9) 8) 7
 
+-- the number of the first rule that is broken, or 0
 unfoldable pub firstBroken : Rules → ℕ
 firstBroken r = pick (r .limits) (pick (r .offsets) (pick (r .ranges) (pick (r .pools) (pick (r .ttls) (pick (r .reserves) (firstLate r) 6) 5) 4) 3) 2) 1
 

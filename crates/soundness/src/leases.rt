@@ -8,6 +8,7 @@ use crate::LeaseRules;
 use crate::numbers::both;
 use crate::numbers::is_few;
 use crate::numbers::zeros32;
+use message::MessageType;
 use state::Lease;
 use state::State;
 use state::TenantLeases;
@@ -51,10 +52,10 @@ fn offsets_ok(s: State, l: Lease) -> bool
 fn kind_ok(l: Lease) -> bool
     ensures { λ r. ⌜ r ≡ kindB l ⌝ }
 {
-    if l.kind == 3 {
+    if l.kind == MessageType::REQUEST {
         return true;
     }
-    l.kind == 4
+    l.kind == MessageType::RENEW
 }
 
 fn period_ok(clock: u32, l: Lease) -> bool

@@ -17,7 +17,8 @@ use crate::tenants::tenant_rules;
 use state::LeaseTable;
 use state::State;
 
-// Document 01's rules 1 to 12 and the layout, each true where it holds.
+// Document 01's rules 1 to 12 and the layout, each true where it holds. Of `offsets` a lease in an unknown scope is left to `leases`; of
+// `periods` two tenants on one address are left to `owners`.
 pub struct Rules {
     pub limits: bool,
     pub offsets: bool,

@@ -67,7 +67,7 @@ fn from_place(x: u8, i: usize, n: usize) -> u8
     x
 }
 
-// Whether all octets of an array from the nth on are 0: gathered without a branch, since every record has it.
+// Whether all octets of an array from the nth on are 0: gathered to the end, with no way out on the way, since every record has it.
 pub fn zeros8(n: usize, a: [u8; 8]) -> bool
     ensures { λ r. ⌜ r ≡ zeroFrom n a ⌝ }
 {

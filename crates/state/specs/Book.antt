@@ -108,7 +108,7 @@ raised s time = withClock s (max (s .clock) time)
 unfoldable pub dropped : ℕ → LeaseTable → LeaseTable
 dropped clock t = tableOf (map (liveOf clock) (leasesOf t))
 
--- what every call does first: the clock is raised, and the ended leases are dropped
+-- what every call but discards 1 and 2 does first: the clock is raised, and the ended leases are dropped
 unfoldable pub advanced : Book → ℕ → Book
 advanced b time = record { state = raised (b .state) time; table = dropped (max (b .state .clock) time) (b .table) }
 
@@ -132,7 +132,7 @@ overlaps from to l = ltb (l .start) to && ltb from (l .end)
 abbrev pub heldOf : ℕ → List Lease → ℕ
 heldOf s ls = addressesOf (inScope s) ls
 
--- document 01's holding: how many addresses, not leases
+-- document 01's holding, of leases that are all live, as those of a sound book are: how many addresses, not leases
 abbrev pub heldCount : ℕ → List Lease → ℕ
 heldCount s ls = length (offsets (heldOf s ls))
 

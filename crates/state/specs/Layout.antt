@@ -18,7 +18,6 @@ use Rattle.state.specs.declared.LeaseTable.{LeaseTable}
 use Rattle.state.specs.declared.State.{State}
 use Rattle.state.specs.declared.Book.{Book}
 use Rattle.lists.specs.Each.{map-set}
-use Rattle.lists.specs.Part.{cut-take, part-head, part-ended}
 use lib.ListN.{getD, length-map, List·getD-map}
 use lib.Seq.{getD-take}
 use Prim.Native.Nat.{min, max}
@@ -40,15 +39,6 @@ push-laid p l h =
     ∙ set-at p zeroLease (replicate (16 - length (p ++ l ∷ [])) zeroLease) l (length p) refl
     ∙ sym (append-assoc p (l ∷ []) (replicate (16 - length (p ++ l ∷ [])) zeroLease)))
     (sym (length-append p (l ∷ [])))
-
--- ---- one turn of a filter
-pub kept-yes : (t : Lease → Bool) (h r : TenantLeases) (l : Lease) → t l ≡ true → r ≡ pushed h l → r ≡ keptIf t h l
-unfolding keptIf pick
-kept-yes t h r l e p = p ∙ ap (λ (b : Bool). pick b (pushed h l) h) (sym e)
-
-pub kept-no : (t : Lease → Bool) (h : TenantLeases) (l : Lease) → t l ≡ false → h ≡ keptIf t h l
-unfolding keptIf pick
-kept-no t h l e = ap (λ (b : Bool). pick b (pushed h l) h) (sym e)
 
 -- ---- a filter
 pub filter-fold : (t : Lease → Bool) (ls p : List Lease) → length p + length (filterBy t ls) ≤ 16 → fold (keptIf t) (laidOut p) ls ≡ laidOut (p ++ filterBy t ls)
@@ -80,26 +70,46 @@ in-use-length t e = omega (arith, length-take (t .count) (t .leases))
 pub filter-is : (t : Lease → Bool) (x : ℕ) (l : List Lease) → length l ≡ 16 → fold (keptIf t) (laidOut []) (take x l) ≡ laidOut (filterBy t (take x l))
 filter-is t x l h = filter-fold t (take x l) [] (let a = filter-length t (take x l) in omega (arith, length-take x l))
 
--- ---- the turns of the code
-pub before-yes : (i : List ℕ) (h r : TenantLeases) (l : Lease) (o : ℕ) → o ≡ orderOf (idOf l) i → o ≡ 0 → r ≡ pushed h l → r ≡ keptIf (before i) h l
-before-yes i h r l o p q e = kept-yes (before i) h r l (eq-eqb _ _ (sym p ∙ q)) e
+-- ---- the turns of the code: a lease that a call passes is written behind the last one
+module _ (u : Lease → Bool) (now : TenantLeases) (l : Lease) where
+  pub kept-in : {q : Bool} → q ≡ u l → q ≡ true → now .count < 16 → _≡_ {A = TenantLeases} (record { leases = set (now .leases) (now .count) l; count = now .count + 1 }) (keptIf u now l)
+  unfolding keptIf pushed pick
+  kept-in e y h =
+      sym (ap (λ (b : Bool). pick b (pushed now l) now) (sym e ∙ y)
+      ∙ ap (λ (b : Bool). pick b (record { leases = set (now .leases) (now .count) l; count = now .count + 1 }) now) (lt-ltb (now .count) 16 h))
 
-pub before-no : (i : List ℕ) (h : TenantLeases) (l : Lease) (o : ℕ) → o ≡ orderOf (idOf l) i → (o ≡ 0 → ⊥) → h ≡ keptIf (before i) h l
-before-no i h l o p q = kept-no (before i) h l (ne-eqb _ _ (λ z. q (p ∙ z)))
+  pub kept-full : {q : Bool} → q ≡ u l → q ≡ true → 16 ≤ now .count → now ≡ keptIf u now l
+  unfolding keptIf pushed pick
+  kept-full e y h =
+      sym (ap (λ (b : Bool). pick b (pushed now l) now) (sym e ∙ y)
+      ∙ ap (λ (b : Bool). pick b (record { leases = set (now .leases) (now .count) l; count = now .count + 1 }) now) (le-ltb (now .count) 16 h))
 
-pub after-no : (i : List ℕ) (h : TenantLeases) (l : Lease) (o : ℕ) → o ≡ orderOf (idOf l) i → o ≡ 0 → h ≡ keptIf (notBefore i) h l
-after-no i h l o p q = kept-no (notBefore i) h l (ap not (eq-eqb _ _ (sym p ∙ q)))
+  pub kept-out : {q : Bool} → q ≡ u l → q ≡ false → now ≡ keptIf u now l
+  unfolding keptIf pick
+  kept-out e n = sym (ap (λ (b : Bool). pick b (pushed now l) now) (sym e ∙ n))
 
-pub after-yes : (i : List ℕ) (h r : TenantLeases) (l : Lease) (o : ℕ) → o ≡ orderOf (idOf l) i → (o ≡ 0 → ⊥) → r ≡ pushed h l → r ≡ keptIf (notBefore i) h l
-after-yes i h r l o p q e = kept-yes (notBefore i) h r l (ap not (ne-eqb _ _ (λ z. q (p ∙ z)))) e
+pub ruleset turns = (kept-in, kept-full, kept-out)
 
-pub other-no : (i : List ℕ) (h : TenantLeases) (l : Lease) (q : Bool) → q ≡ named i l → q ≡ true → h ≡ keptIf (other i) h l
-other-no i h l q p e = kept-no (other i) h l (ap not (sym p ∙ e))
+-- the same of a map
+module _ (g : Lease → Lease) (now : TenantLeases) (l : Lease) where
+  pub mapped-in : {x : Lease} → x ≡ g l → now .count < 16 → _≡_ {A = TenantLeases} (record { leases = set (now .leases) (now .count) x; count = now .count + 1 }) (keptAs g now l)
+  unfolding keptAs pushed pick
+  mapped-in e h =
+      ap {B = TenantLeases} (λ (y : Lease). record { leases = set (now .leases) (now .count) y; count = now .count + 1 }) e
+      ∙ sym (ap (λ (b : Bool). pick b (record { leases = set (now .leases) (now .count) (g l); count = now .count + 1 }) now) (lt-ltb (now .count) 16 h))
 
-pub other-yes : (i : List ℕ) (h r : TenantLeases) (l : Lease) (q : Bool) → q ≡ named i l → q ≡ false → r ≡ pushed h l → r ≡ keptIf (other i) h l
-other-yes i h r l q p n e = kept-yes (other i) h r l (ap not (sym p ∙ n)) e
+  pub mapped-full : 16 ≤ now .count → now ≡ keptAs g now l
+  unfolding keptAs pushed pick
+  mapped-full h = sym (ap (λ (b : Bool). pick b (record { leases = set (now .leases) (now .count) (g l); count = now .count + 1 }) now) (le-ltb (now .count) 16 h))
 
-pub ruleset turns = (before-yes, before-no, after-yes, after-no, other-no, other-yes)
+pub other-is : (i : List ℕ) (l : Lease) {q : Bool} → q ≡ named i l → not q ≡ other i l
+other-is i l e = ap not e
+
+pub before-is : (i : List ℕ) (l : Lease) (o : ℕ) → o ≡ orderOf (idOf l) i → eqb o 0 ≡ before i l
+before-is i l o e = ap (λ (x : ℕ). eqb x 0) e
+
+pub not-before-is : (i : List ℕ) (l : Lease) {q : Bool} → q ≡ before i l → not q ≡ notBefore i l
+not-before-is i l e = ap not e
 
 -- ---- insertion
 pub insert-is : (ls : List Lease) (l : Lease) (a b c r : TenantLeases) → length ls < 16 → a ≡ laidOut [] → b ≡ fold (keptIf (before (idOf l))) a ls → c ≡ pushed b l
@@ -123,10 +133,6 @@ unfolding laidOut
 empty-is l e = ap {B = TenantLeases} (λ (x : Lease). record { leases = replicate 16 x; count = 0 }) e
 
 -- ---- a map
-pub kept-as : (g : Lease → Lease) (h r : TenantLeases) (l x : Lease) → x ≡ g l → r ≡ pushed h x → r ≡ keptAs g h l
-unfolding keptAs
-kept-as g h r l x e p = p ∙ ap (pushed h) e
-
 pub map-fold : (g : Lease → Lease) (ls p : List Lease) → length p + length ls ≤ 16 → fold (keptAs g) (laidOut p) ls ≡ laidOut (p ++ map g ls)
 unfolding keptAs
 map-fold g [] p h = ap laidOut (sym (append-nil p))
@@ -222,55 +228,3 @@ pub advanced-is : (b : Book) (time : ℕ) (s : State) (t : LeaseTable) → s ≡
     → _≡_ {A = Book} (record { state = s; table = t }) (advanced b time)
 unfolding advanced raised
 advanced-is b time s t p q = ap₂ {C = Book} (λ (x : State) (y : LeaseTable). record { state = x; table = y }) p (q ∙ ap (λ (x : State). dropped (x .clock) (b .table)) p)
-
--- ---- a filter that writes in place
-pub record KeepInv (u : Lease → Bool) (d : Lease) (l : List Lease) (n : ℕ) (w now : TenantLeases) (i : ℕ) : Type 0 where
-  pub within : i ≤ n
-  pub long : n ≤ length l
-  pub few : n ≤ 16
-  pub room : now .count ≤ i
-  pub whole : fold (keptIf u) now (drop i (take n l)) ≡ w
-
-pub keep-start : {u : Lease → Bool} {d : Lease} {l : List Lease} {n : ℕ} {now : TenantLeases} (x : ℕ) → now ≡ laidOut [] → n ≡ min x 16 → length l ≡ 16
-    → KeepInv u d l n (laidOut (filterBy u (take x l))) now 0
-unfolding laidOut
-keep-start {u = u} {l = l} {n = n} {now = now} x e p g = record {
-  within = omega arith;
-  long = omega arith;
-  few = omega arith;
-  room = let z : now .count ≡ 0 = ap (λ (t : TenantLeases). t .count) e in omega arith;
-  whole =
-      ap₂ (λ (t : TenantLeases) (k : ℕ). fold (keptIf u) t (take k l)) e p ∙ ap (fold (keptIf u) (laidOut [])) (cut-take 16 x l g) ∙ filter-is u x l g;
-}
-
-module _ {u : Lease → Bool} {d : Lease} {l : List Lease} {n : ℕ} {w now : TenantLeases} {i : ℕ} (v : KeepInv u d l n w now i) where
-  keep-here : i < n → fold (keptIf u) (keptIf u now (getD l i d)) (drop (i + 1) (take n l)) ≡ w
-  keep-here h = sym (ap (fold (keptIf u) now) (part-head d l n i (v .long) h)) ∙ v .whole
-
-  pub keep-yes : i < n → u (getD l i d) ≡ true → KeepInv u d l n w (record { leases = set (now .leases) (now .count) (getD l i d); count = now .count + 1 }) (i + 1)
-  unfolding keptIf pushed pick
-  keep-yes h e = record {
-    within = omega arith;
-    long = v .long;
-    few = v .few;
-    room = let r = v .room in omega arith;
-    whole =
-        ap (λ (t : TenantLeases). fold (keptIf u) t (drop (i + 1) (take n l)))
-        (sym (ap (λ (b : Bool). pick b (pushed now (getD l i d)) now) e ∙ ap (λ (b : Bool). pick b (record { leases = set (now .leases) (now .count) (getD l i d); count = now .count + 1 }) now) (lt-ltb (now .count) 16 (let r = v .room in let f = v .few in omega arith))))
-        ∙ keep-here h;
-  }
-
-  pub keep-no : i < n → u (getD l i d) ≡ false → KeepInv u d l n w now (i + 1)
-  unfolding keptIf pick
-  keep-no h e = record {
-    within = omega arith;
-    long = v .long;
-    few = v .few;
-    room = let r = v .room in omega arith;
-    whole = ap (λ (t : TenantLeases). fold (keptIf u) t (drop (i + 1) (take n l))) (sym (ap (λ (b : Bool). pick b (pushed now (getD l i d)) now) e)) ∙ keep-here h;
-  }
-
-  pub keep-end : n ≤ i → now ≡ w
-  keep-end h = sym (ap (fold (keptIf u) now) (part-ended l n i (v .long) h)) ∙ v .whole
-
-pub ruleset keeps = (keep-start, keep-yes, keep-no, keep-end, lt-ltb, le-ltb)

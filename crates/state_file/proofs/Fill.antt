@@ -7,8 +7,8 @@ use native.Mathlib.Omega.{arith}
 use lib.Dec.{eqb}
 use lib.ListN.{getD, length, length-append, length-replicate, length-set, replicate, set}
 use lib.Seq.{take-all}
-use borrow.Author.Tests.{eqb-false, eqb-true, leb-true}
-use Rattle.lists.specs.All.{allTo}
+use borrow.Author.Tests.{leb-true}
+use Rattle.lists.specs.All.{allTo, to-each}
 use Rattle.lists.specs.Copy.{CopyInv, copy-front, copy-full, copy-start}
 use Rattle.lists.specs.Filter.{filterBy}
 use Rattle.lists.specs.Fold.{fold}
@@ -133,24 +133,6 @@ kept-laid : (t : ℕ) (xs : List FileLease) → fewOf xs t ≡ true → keptOf t
 unfolding keptOf fewOf
 kept-laid t xs h = let g = leb-true (length (ofTenant t xs)) 16 h in keep-fold t xs [] (omega arith)
 
--- the first n of eight tenants have few leases
-few-below : (p : ℕ → Bool) (n : ℕ) → allTo p n ≡ true → (i : ℕ) → i < n → p i ≡ true
-unfolding allTo pick
-few-below p zero e i h = absurd (omega arith)
-few-below p (suc n) e i h = go (allTo p n) refl (p n) refl e (few-below p n)
-  where
-    go : (a : Bool) → allTo p n ≡ a → (b : Bool) → p n ≡ b → pick a b false ≡ true → (allTo p n ≡ true → (i : ℕ) → i < n → p i ≡ true) → p i ≡ true
-    go true ea true eb e ih = last (eqb i n) refl
-      where
-        last : (c : Bool) → eqb i n ≡ c → p i ≡ true
-        last true q = ap p (eqb-true i n q) ∙ eb
-        last false q = let z = eqb-false i n q in ih ea i (other i n h z)
-          where
-            other : (i n : ℕ) → i < suc n → (i ≡ n → ⊥) → i < n
-            other i n h z = omega arith
-    go true ea false eb e ih = absurd (let z : _≡_ {A = ℕ} 0 1 = cc in omega arith)
-    go false ea b eb e ih = absurd (let z : _≡_ {A = ℕ} 0 1 = cc in omega arith)
-
 kept-all : (n t : ℕ) (xs : List FileLease) → ((i : ℕ) → i < n → fewOf xs (i + t) ≡ true) → keptFrom t n xs ≡ map laidOut (tenantsFrom t n xs)
 unfolding keptFrom tenantsFrom
 kept-all zero t xs h = refl
@@ -159,4 +141,4 @@ kept-all (suc n) t xs h =
     (kept-all n (suc t) xs (λ i g. ap (fewOf xs) (let e : i + suc t ≡ suc i + t = omega arith in e) ∙ h (suc i) (omega arith)))
 
 pub eight-laid : (xs : List FileLease) → allTo (λ i. fewOf xs (i + 1)) 8 ≡ true → keptFrom 1 8 xs ≡ map laidOut (tenantsFrom 1 8 xs)
-eight-laid xs h = kept-all 8 1 xs (few-below (λ i. fewOf xs (i + 1)) 8 h)
+eight-laid xs h = kept-all 8 1 xs (to-each (λ i. fewOf xs (i + 1)) 8 h)

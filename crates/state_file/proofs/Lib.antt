@@ -15,3 +15,4 @@ mod Writes
 mod ReadAgain
 mod WriteAgain
 pub mod RoundTrip
+mod Cases

@@ -21,6 +21,7 @@ use Rattle.state.specs.declared.TenantLeases.{TenantLeases}
 use Rattle.state_file.proofs.Fill.{eight-laid}
 use Rattle.state_file.proofs.Gather.{ids}
 use Rattle.state_file.proofs.Pad.{row-length}
+use Rattle.state_file.proofs.ReadAgain.{both, neither}
 use Rattle.state_file.proofs.WholeForm.{server, tenants, ts}
 use Rattle.state_file.specs.File.{File, FileLease, fileOf}
 use Rattle.state_file.specs.Format.{Got, bad, got}
@@ -30,45 +31,35 @@ use Rattle.state_file.specs.StateFile.{accepted, answered, judged, loade
 use Rattle.state_file.specs.declared.Loaded.{Loaded}
 
 -- ---- limits
-both : (b c : Bool) → pick b false c ≡ true → (b ≡ false) × (c ≡ true)
-unfolding pick
-both true c e = let z : _≡_ {A = ℕ} 0 1 = cc in absurd (omega arith)
-both false c e = (refl, e)
-
-first : (b c : Bool) → pick b c false ≡ true → (b ≡ true) × (c ≡ true)
-unfolding pick
-first true c e = (refl, e)
-first false c e = let z : _≡_ {A = ℕ} 0 1 = cc in absurd (omega arith)
-
 module _ (s : List ℕ) (e : fitsB (fileAt s) ≡ true) where
   pub fits-tenants : tenantCount s ≤ 8
   unfolding fitsB fileAt
-  fits-tenants = let p = both _ _ e in let h = ltb-false 8 (length (row rangeAt 8 (tenantCount s) s 10)) (p .0) in let l = row-length rangeAt 8 (tenantCount s) s 10 in omega arith
+  fits-tenants = let p = neither _ _ e in let h = ltb-false 8 (length (row rangeAt 8 (tenantCount s) s 10)) (p .0) in let l = row-length rangeAt 8 (tenantCount s) s 10 in omega arith
 
   pub fits-scopes : scopeCount s ≤ 4
   unfolding fitsB fileAt
   fits-scopes =
-      let p = both _ _ (both _ _ e .1) in let h = ltb-false 4 (length (row (scopeAt (tenantCount s)) (6 + tenantCount s * 2) (scopeCount s) s (scopesPlace s + 1))) (p .0) in
+      let p = neither _ _ (neither _ _ e .1) in let h = ltb-false 4 (length (row (scopeAt (tenantCount s)) (6 + tenantCount s * 2) (scopeCount s) s (scopesPlace s + 1))) (p .0) in
       let l = row-length (scopeAt (tenantCount s)) (6 + tenantCount s * 2) (scopeCount s) s (scopesPlace s + 1) in
       omega arith
 
   fits-leases : leasesFitB (leasesAt s (leasesPlace s + 1) (leaseCount s)) ≡ true
   unfolding fitsB fileAt
-  fits-leases = both _ _ (both _ _ e .1) .1
+  fits-leases = neither _ _ (neither _ _ e .1) .1
 
   fits-storable : allBy storableB (leasesAt s (leasesPlace s + 1) (leaseCount s)) ≡ true
   unfolding leasesFitB
-  fits-storable = first _ _ fits-leases .0
+  fits-storable = both _ _ fits-leases .0
 
   fits-few : allTo (λ i. fewOf (leasesAt s (leasesPlace s + 1) (leaseCount s)) (i + 1)) 8 ≡ true
   unfolding leasesFitB
-  fits-few = first _ _ fits-leases .1
+  fits-few = both _ _ fits-leases .1
 
 -- ---- a record of the file that a record of the book can hold
 pub storable-held : (s : List ℕ) (at : ℕ) → Inside s at → storableB (leaseAt s at) ≡ true → Held s at
 unfolding storableB leaseAt
 storable-held s at v e =
-    let p = both _ _ (both _ _ (both _ _ e .1) .1) in
+    let p = neither _ _ (neither _ _ (neither _ _ e .1) .1) in
     let h = ltb-false 32 (length (take (getD s (at + 2) 0) (drop (at + 3) s))) (p .0) in
     let l = length-take-le (getD s (at + 2) 0) (drop (at + 3) s) (let d = length-drop (at + 3) s in let r = v .room in omega arith) in
     record { ids = omega arith; room = v .room }

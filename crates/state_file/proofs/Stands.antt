@@ -44,7 +44,7 @@ unfolding readOctet
 stands-octet s at e h = record { reads = ap readOctet (drop-next s at h) ∙ ap (λ (n : ℕ). got (getD s at 0) (drop n s)) (sym e) }
 
 pub stands-number : (s : List ℕ) (at : ℕ) {m : ℕ} → m ≡ at + 4 → at + 4 ≤ length s → Stands number s at (at32 s at) m
-unfolding readNumber
+unfolding readNumber at32
 stands-number s at e h = record { reads = ap readNumber (drop-four s at h) ∙ ap (λ (n : ℕ). got (at32 s at) (drop n s)) (sym e) }
 
 times-octets : (k : ℕ) (l : List ℕ) → k ≤ length l → readTimes k readOctet l ≡ got (take k l) (drop k l)

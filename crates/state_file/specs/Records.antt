@@ -115,7 +115,8 @@ filedBook s b = record {
 abbrev pub isOffset : ℕ → Bool
 isOffset a = ltb a 64
 
--- a lease that a record can hold: of one of eight tenants, with an identifier of at most 32 octets and offsets below 64
+-- a lease that a record can hold: of one of eight tenants (rule 7), with an identifier of at most 32 octets (rule 1) and offsets below 64 (rule 2);
+-- rules of document 01's "Sound" by their place
 unfoldable pub storableB : FileLease → Bool
 storableB x =
     pick (ltb (x .tenant) 1) false
@@ -123,7 +124,7 @@ storableB x =
     (pick (ltb 32 (length (x .id))) false
     (allBy isOffset (x .offsets))))
 
--- tenant t has at most 16 leases
+-- tenant t has at most 16 leases (rule 1)
 unfoldable pub fewOf : List FileLease → ℕ → Bool
 fewOf xs t = leb (length (ofTenant t xs)) 16
 
@@ -131,7 +132,7 @@ fewOf xs t = leb (length (ofTenant t xs)) 16
 unfoldable pub leasesFitB : List FileLease → Bool
 leasesFitB xs = pick (allBy storableB xs) (allTo (λ i. fewOf xs (i + 1)) 8) false
 
--- the records can hold the file: at most 8 tenants, 4 scopes, and 16 leases a tenant
+-- the records can hold the file: at most 8 tenants and 4 scopes (rule 1), and its leases
 unfoldable pub fitsB : File → Bool
 fitsB f =
     pick (ltb 8 (length (f .tenants))) false

@@ -23,14 +23,14 @@ use state::Scope;
 use state::State;
 use state::TenantLeases;
 
-// What the reader answers: a book, or the number of a refusal and records that are zero.
+// What the reader answers: refusal 0 and the book, or the number of a refusal and records that are all zero.
 pub struct Loaded {
     pub refusal: u8,
     pub state: State,
     pub table: LeaseTable,
 }
 
-// What the writer answers: the length of the file, or the number of a refusal.
+// What the writer answers: refusal 0 and the length of the file, or the number of a refusal and length 0.
 pub struct Written {
     pub refusal: u8,
     pub length: usize,

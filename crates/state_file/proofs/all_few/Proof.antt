@@ -1,3 +1,4 @@
+-- `all_few` meets its contract: by `uptos`.
 use Prim.Native.Nat.{_+_, _-_}
 use borrow.Author.Needs.{needs}
 use Rattle.lists.specs.All.{UptoInv, uptos}

@@ -1,3 +1,4 @@
+-- `all_leases` meets its contract: its loop keeps `EightInv`; by `eights`.
 use Prim.Native.Nat.{_-_}
 use borrow.Author.Needs.{needs}
 use Rattle.state_file.proofs.Fill.{EightInv, eights}

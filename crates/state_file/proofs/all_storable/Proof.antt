@@ -1,3 +1,4 @@
+-- `all_storable` meets its contract: its loop keeps `StoreInv`; by `limits`, `store-start`.
 use Prim.Native.Nat.{_-_}
 use borrow.Author.Needs.{needs}
 use Rattle.state_file.proofs.Limit.{StoreInv, limits, store-start}

@@ -1,3 +1,4 @@
+-- `column_at` meets its contract: its loop keeps `PadInv`; by `pads`.
 use Prim.Native.Nat.{_-_}
 use lib.ListN.{getD}
 use borrow.Author.Needs.{needs}

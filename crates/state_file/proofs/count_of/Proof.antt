@@ -1,3 +1,4 @@
+-- `count_of` meets its contract: its loop keeps `CountInv`; by `counts`.
 use Prim.Native.Nat.{_-_}
 use borrow.Author.Needs.{needs}
 use Rattle.state_file.proofs.Limit.{CountInv, counts}

@@ -1,3 +1,4 @@
+-- `few_of` meets its contract: by `counts`.
 use borrow.Author.Needs.{needs}
 use Rattle.state_file.proofs.Limit.{counts}
 use Rattle.state_file.proofs.few_of.Statement.{statement}

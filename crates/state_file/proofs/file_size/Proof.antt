@@ -1,3 +1,4 @@
+-- `file_size` meets its contract: by `size-is`, `unmapped`.
 use mathlib.Core.Path.{refl}
 use borrow.Author.Needs.{needs}
 use Rattle.lists.specs.Part.{unmapped}

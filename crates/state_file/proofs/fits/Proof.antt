@@ -1,3 +1,4 @@
+-- `fits` meets its contract: by `limitsFit`, `picks`.
 use borrow.Author.Needs.{needs}
 use Rattle.lists.specs.Pick.{picks}
 use Rattle.state_file.proofs.Loads.{limitsFit}

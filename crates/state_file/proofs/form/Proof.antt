@@ -1,3 +1,4 @@
+-- `form` meets its contract: by `form-leases`, `form-long`, `form-scopes`, `form-short`, `form-tag`.
 use mathlib.Core.Path.{_∙_, sym}
 use denote.Ref.{now}
 use lib.ListN.{length}

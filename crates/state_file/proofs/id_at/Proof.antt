@@ -1,3 +1,4 @@
+-- `id_at` meets its contract: its loop keeps `PadInv`; by `ids`.
 use Prim.Native.Nat.{_-_}
 use lib.ListN.{drop, take}
 use borrow.Author.Needs.{needs}

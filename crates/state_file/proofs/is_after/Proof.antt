@@ -1,3 +1,4 @@
+-- `is_after` meets its contract: by `afters`.
 use borrow.Author.Needs.{needs}
 use Rattle.state_file.proofs.Section.{afters}
 use Rattle.state_file.proofs.is_after.Statement.{statement}

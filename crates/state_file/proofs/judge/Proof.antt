@@ -1,3 +1,4 @@
+-- `judge` meets its contract: by `judged-not`, `judged-yes`.
 use borrow.Author.Needs.{needs}
 use Rattle.state_file.proofs.Loads.{judged-not, judged-yes}
 use Rattle.state_file.proofs.judge.Statement.{statement}

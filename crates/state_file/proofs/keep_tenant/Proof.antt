@@ -1,3 +1,4 @@
+-- `keep_tenant` meets its contract: by `fills`.
 use borrow.Author.Needs.{needs}
 use Rattle.state_file.proofs.Fill.{fills}
 use Rattle.state_file.proofs.keep_tenant.Statement.{statement}

@@ -1,3 +1,4 @@
+-- `lease_at` meets its contract: by `lease-room`, `lease-stored`.
 use native.Mathlib.Omega.{arith}
 use lib.Seq.{set-at}
 use borrow.Author.Needs.{needs}

@@ -1,3 +1,4 @@
+-- `lease_count` meets its contract: by `unmapped`, `length-in-use`.
 use borrow.Author.Needs.{needs}
 use Rattle.lists.specs.Part.{unmapped}
 use Rattle.state.specs.Layout.{length-in-use}

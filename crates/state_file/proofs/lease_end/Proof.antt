@@ -1,3 +1,4 @@
+-- `lease_end` meets its contract: by `lease-falls`, `lease-rises`, `lease-short-1`, `lease-short-2`, `lease-short-3`.
 use mathlib.Core.Path.{_∙_, sym}
 use native.Mathlib.Omega.{arith}
 use denote.Ref.{now}

@@ -1,3 +1,4 @@
+-- `lease_next` meets its contract: by `fills`.
 use borrow.Author.Needs.{needs}
 use Rattle.state_file.proofs.Fill.{fills}
 use Rattle.state_file.proofs.lease_next.Statement.{statement}

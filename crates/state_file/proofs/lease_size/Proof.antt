@@ -1,3 +1,4 @@
+-- `lease_size` meets its contract: by `lease-length`.
 use mathlib.Core.Path.{refl}
 use borrow.Author.Needs.{needs}
 use Rattle.state_file.proofs.Writes.{lease-length}

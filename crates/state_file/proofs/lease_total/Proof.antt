@@ -1,3 +1,4 @@
+-- `lease_total` meets its contract: its loop keeps `SizeInv`; by `sizes`, `tenants`.
 use Prim.Native.Nat.{_-_}
 use lib.ListN.{getD, length}
 use borrow.Author.Needs.{needs}

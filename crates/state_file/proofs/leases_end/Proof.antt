@@ -1,3 +1,4 @@
+-- `leases_end` meets its contract: by `section-from`, `section-none`.
 use denote.Ref.{now}
 use borrow.Author.Needs.{needs}
 use Rattle.state_file.proofs.Section.{section-from, section-none}

@@ -1,3 +1,4 @@
+-- `leases_fit` meets its contract: by `leases-in`, `leases-not`, `leases-yes`.
 use borrow.Author.Needs.{needs}
 use Rattle.state_file.proofs.Loads.{leases-in, leases-not, leases-yes}
 use Rattle.state_file.proofs.leases_fit.Statement.{statement}

@@ -1,3 +1,4 @@
+-- `leases_from` meets its contract: its loop keeps `LeasesInv`; by `ends-at`, `ends-in`, `ends-not`, `leases-after`, `leases-broken`.
 use mathlib.Core.Path.{_∙_, sym}
 use Prim.Native.Nat.{_-_}
 use native.Mathlib.Omega.{arith}

@@ -1,3 +1,4 @@
+-- `leases_place` meets its contract: by `place-leases`.
 use borrow.Author.Needs.{needs}
 use Rattle.state_file.proofs.Loads.{place-leases}
 use Rattle.state_file.proofs.leases_place.Statement.{statement}

@@ -1,3 +1,4 @@
+-- `load` meets its contract: by `loaded-not`, `loaded-yes`, `test-true`.
 use borrow.Author.Needs.{needs}
 use Rattle.state_file.proofs.Loads.{loaded-not, loaded-yes, test-true}
 use Rattle.state_file.proofs.load.Statement.{statement}

@@ -1,3 +1,4 @@
+-- `low` meets its contract: its loop keeps `LowInv`; by `limits`, `low-start`.
 use Prim.Native.Nat.{_-_}
 use borrow.Author.Needs.{needs}
 use Rattle.state_file.proofs.Limit.{LowInv, limits, low-start}

@@ -1,3 +1,4 @@
+-- `one_of` meets its contract: by `counts`.
 use borrow.Author.Needs.{needs}
 use Rattle.state_file.proofs.Limit.{counts}
 use Rattle.state_file.proofs.one_of.Statement.{statement}

@@ -1,3 +1,4 @@
+-- `order_parts` meets its contract: its loop keeps `PartsInv`; by `parts`, `parts-start`.
 use Prim.Native.Nat.{_-_}
 use borrow.Author.Needs.{needs}
 use Rattle.state_file.proofs.Walk.{PartsInv, parts, parts-start}

@@ -1,3 +1,4 @@
+-- `put_addresses` meets its contract: by `addresses-wrote`, `listed-count`, `listed-long`, `listed-run`.
 use mathlib.Core.Path.{refl}
 use native.Mathlib.Omega.{arith}
 use lib.ListN.{set}

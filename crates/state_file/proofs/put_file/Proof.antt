@@ -1,3 +1,4 @@
+-- `put_file` meets its contract: by `file-length`, `file-wrote`, `unmapped`.
 use native.Mathlib.Omega.{arith}
 use borrow.Author.Needs.{needs}
 use Rattle.lists.specs.Part.{unmapped}

@@ -1,3 +1,4 @@
+-- `put_head` meets its contract: by `head-wrote`, `id-length`.
 use mathlib.Core.Path.{_≡_}
 use native.Mathlib.Omega.{arith}
 use lib.ListN.{length}

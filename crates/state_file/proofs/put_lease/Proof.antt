@@ -1,3 +1,4 @@
+-- `put_lease` meets its contract: by `lease-size`, `lease-wrote`.
 use native.Mathlib.Omega.{arith}
 use borrow.Author.Needs.{needs}
 use Rattle.state_file.proofs.Writes.{lease-size, lease-wrote}

@@ -1,3 +1,4 @@
+-- `put_lease_section` meets its contract: by `section-wrote`.
 use borrow.Author.Needs.{needs}
 use Rattle.state_file.proofs.Writes.{section-wrote}
 use Rattle.state_file.specs.Rows.{leaseTotal}

@@ -1,3 +1,4 @@
+-- `put_middle` meets its contract: by `middle-wrote`.
 use borrow.Author.Needs.{needs}
 use Rattle.state_file.proofs.Writes.{middle-wrote}
 use Rattle.state_file.proofs.put_middle.Statement.{statement}

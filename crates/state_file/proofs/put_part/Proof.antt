@@ -1,3 +1,4 @@
+-- `put_part` meets its contract: by `part-wrote`.
 use borrow.Author.Needs.{needs}
 use Rattle.state_file.proofs.Writes.{part-wrote}
 use Rattle.state_file.proofs.put_part.Statement.{statement}

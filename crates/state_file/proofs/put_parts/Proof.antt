@@ -1,3 +1,4 @@
+-- `put_parts` meets its contract: its loop keeps `PairInv`; by `pairRows`.
 use Prim.Native.Nat.{_-_}
 use borrow.Author.Needs.{needs}
 use Rattle.state_file.proofs.RowLaws.{PairInv, pairRows}

@@ -1,3 +1,4 @@
+-- `put_range` meets its contract: by `range-wrote`.
 use borrow.Author.Needs.{needs}
 use Rattle.state_file.proofs.Writes.{range-wrote}
 use Rattle.state_file.proofs.put_range.Statement.{statement}

@@ -1,3 +1,4 @@
+-- `put_range_section` meets its contract: by `tenants`, `count-is`, `section-wrote`, `unmapped`.
 use lib.ListN.{length}
 use borrow.Author.Needs.{needs}
 use Rattle.lists.specs.Part.{unmapped}

@@ -1,3 +1,4 @@
+-- `put_ranges` meets its contract: its loop keeps `RowInv`; by `rangeRows`, `tenants`.
 use Prim.Native.Nat.{_-_}
 use borrow.Author.Needs.{needs}
 use Rattle.state_file.proofs.RowLaws.{RowInv, rangeRows}

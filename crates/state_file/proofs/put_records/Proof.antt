@@ -1,3 +1,4 @@
+-- `put_records` meets its contract: its loop keeps `RowInv`; by `tenantRows`, `tenants`.
 use Prim.Native.Nat.{_-_}
 use borrow.Author.Needs.{needs}
 use Rattle.state.specs.Book.{noLeases}

@@ -1,3 +1,4 @@
+-- `put_scope` meets its contract: by `scope-least`, `scope-wrote`.
 use native.Mathlib.Omega.{arith}
 use borrow.Author.Needs.{needs}
 use Rattle.state_file.proofs.Writes.{scope-least, scope-wrote}

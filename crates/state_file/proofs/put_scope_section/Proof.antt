@@ -1,3 +1,4 @@
+-- `put_scope_section` meets its contract: by `count-is`, `section-wrote`, `unmapped`.
 use lib.ListN.{length}
 use borrow.Author.Needs.{needs}
 use Rattle.lists.specs.Part.{unmapped}

@@ -1,3 +1,4 @@
+-- `put_scopes` meets its contract: its loop keeps `RowInv`; by `scopeRows`.
 use Prim.Native.Nat.{_-_}
 use borrow.Author.Needs.{needs}
 use Rattle.state.specs.Book.{noScope}

@@ -1,3 +1,4 @@
+-- `put_server` meets its contract: by `server`, `server-wrote`.
 use borrow.Author.Needs.{needs}
 use Rattle.state_file.proofs.WholeForm.{server}
 use Rattle.state_file.proofs.Writes.{server-wrote}

@@ -1,3 +1,4 @@
+-- `put_tenant` meets its contract: its loop keeps `RowInv`; by `leaseRows`.
 use Prim.Native.Nat.{_-_}
 use borrow.Author.Needs.{needs}
 use Rattle.state.specs.Book.{noLease}

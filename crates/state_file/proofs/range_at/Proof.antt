@@ -1,3 +1,4 @@
+-- `range_at` meets its contract: by `pads`.
 use borrow.Author.Needs.{needs}
 use Rattle.state_file.proofs.Pad.{pads}
 use Rattle.state_file.proofs.range_at.Statement.{statement}

@@ -1,3 +1,4 @@
+-- `ranges_at` meets its contract: its loop keeps `PadInv`; by `pads`.
 use Prim.Native.Nat.{_-_}
 use borrow.Author.Needs.{needs}
 use Rattle.state_file.proofs.Pad.{PadInv, pads}

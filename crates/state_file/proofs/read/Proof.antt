@@ -1,3 +1,4 @@
+-- `read` meets its contract: by `formed`, `read-not`, `read-yes`.
 use mathlib.Core.Path.{_∙_, sym}
 use native.Mathlib.Omega.{arith}
 use borrow.Author.Needs.{needs}

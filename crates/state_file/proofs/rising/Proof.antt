@@ -1,3 +1,4 @@
+-- `rising` meets its contract: its loop keeps `RiseInv`; by `rise-start`, `risings`.
 use Prim.Native.Nat.{_-_}
 use borrow.Author.Needs.{needs}
 use Rattle.state_file.proofs.Walk.{RiseInv, rise-start, risings}

@@ -1,3 +1,4 @@
+-- `scope_at` meets its contract: by `scope-of`.
 use borrow.Author.Needs.{needs}
 use Rattle.state_file.proofs.Pad.{scope-of}
 use Rattle.state_file.proofs.scope_at.Statement.{statement}

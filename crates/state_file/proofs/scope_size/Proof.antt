@@ -1,3 +1,4 @@
+-- `scope_size` meets its contract: by `scope-length`.
 use borrow.Author.Needs.{needs}
 use Rattle.state_file.proofs.Writes.{scope-length}
 use Rattle.state_file.proofs.scope_size.Statement.{statement}

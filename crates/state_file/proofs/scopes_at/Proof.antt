@@ -1,3 +1,4 @@
+-- `scopes_at` meets its contract: its loop keeps `PadInv`; by `row-in`, `scopePads`.
 use mathlib.Core.List.{map}
 use Prim.Native.Nat.{_*_, _+_, _-_}
 use native.Mathlib.Omega.{arith}

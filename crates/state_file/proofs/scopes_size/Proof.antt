@@ -1,3 +1,4 @@
+-- `scopes_size` meets its contract: by `scopes-bound`.
 use Prim.Native.Nat.{_*_, _+_}
 use borrow.Author.Needs.{needs}
 use Rattle.state_file.proofs.WholeForm.{scopes-bound}

@@ -1,3 +1,4 @@
+-- `set_at` meets its contract: by `set-part`.
 use borrow.Author.Needs.{needs}
 use Rattle.state_file.proofs.Gather.{set-part}
 use Rattle.state_file.proofs.set_at.Statement.{statement}

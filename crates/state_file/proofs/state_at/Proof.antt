@@ -1,3 +1,4 @@
+-- `state_at` meets its contract: by `settings`.
 use borrow.Author.Needs.{needs}
 use Rattle.state_file.proofs.Loads.{settings}
 use Rattle.state_file.proofs.state_at.Statement.{statement}

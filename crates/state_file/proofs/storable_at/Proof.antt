@@ -1,3 +1,4 @@
+-- `storable_at` meets its contract: by `limits`, `picks`.
 use borrow.Author.Needs.{needs}
 use Rattle.lists.specs.Pick.{picks}
 use Rattle.state_file.proofs.Limit.{limits}

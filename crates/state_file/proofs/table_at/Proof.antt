@@ -1,3 +1,4 @@
+-- `table_at` meets its contract: by `leases-held`, `table-is`.
 use borrow.Author.Needs.{needs}
 use Rattle.state_file.proofs.Loads.{leases-held, table-is}
 use Rattle.state_file.proofs.table_at.Statement.{statement}

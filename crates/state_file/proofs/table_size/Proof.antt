@@ -1,3 +1,4 @@
+-- `table_size` meets its contract: its loop keeps `SizeInv`; by `sizes`, `tenants`, `table-length`.
 use Prim.Native.Nat.{_-_}
 use lib.ListN.{getD, length}
 use borrow.Author.Needs.{needs}

@@ -1,3 +1,4 @@
+-- `tenant_leases` meets its contract: its loop keeps `FillInv`; by `fill-start`, `fills`.
 use Prim.Native.Nat.{_-_}
 use borrow.Author.Needs.{needs}
 use Rattle.state_file.proofs.Fill.{FillInv, fill-start, fills}

@@ -1,3 +1,4 @@
+-- `tenant_size` meets its contract: its loop keeps `SizeInv`; by `row-sum`, `size-end`, `sizes`, `unmapped`.
 use Prim.Native.Nat.{_-_}
 use native.Mathlib.Omega.{arith}
 use lib.ListN.{getD, length}

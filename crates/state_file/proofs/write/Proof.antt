@@ -1,3 +1,4 @@
+-- `write` meets its contract: by `write-done`, `write-short`, `write-unsound`.
 use borrow.Author.Needs.{needs}
 use Rattle.state_file.proofs.Writes.{write-done, write-short, write-unsound}
 use Rattle.state_file.proofs.write.Statement.{statement}

@@ -1,0 +1,35 @@
+-- Sets and their fewest ranges, computed: P1's two addresses, two ranges with a gap, the first and last offset, and all 64.
+use mathlib.Core.Path.{_≡_, refl}
+use mathlib.Core.List.{List, [], _∷_}
+use lib.ListN.{take}
+use Rattle.lists.specs.Pick.{pick}
+use Rattle.lists.specs.Filter.{filterBy, isIn}
+use Rattle.address_set.specs.AddressSet.{Run, bit, offsetsFrom, offsets, setOf, intersectionOf, differenceOf, lowestOf, joined, runs}
+
+p1 : runs (offsets 3) ≡ record { first = 0; count = 2 } ∷ []
+unfolding runs joined offsetsFrom bit
+p1 = refl
+
+gap : runs (offsets 59) ≡ record { first = 0; count = 2 } ∷ record { first = 3; count = 3 } ∷ []
+unfolding runs joined offsetsFrom bit
+gap = refl
+
+ends : runs (offsets 9223372036854775809) ≡ record { first = 0; count = 1 } ∷ record { first = 63; count = 1 } ∷ []
+unfolding runs joined offsetsFrom bit
+ends = refl
+
+whole : runs (offsets 18446744073709551615) ≡ record { first = 0; count = 64 } ∷ []
+unfolding runs joined offsetsFrom bit
+whole = refl
+
+lowest-two : lowestOf 59 2 ≡ 3
+unfolding setOf offsetsFrom bit
+lowest-two = refl
+
+common : intersectionOf 59 14 ≡ 10
+unfolding intersectionOf setOf offsetsFrom bit filterBy isIn pick
+common = refl
+
+left : differenceOf 59 14 ≡ 49
+unfolding differenceOf setOf offsetsFrom bit filterBy isIn pick
+left = refl

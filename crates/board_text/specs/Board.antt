@@ -1,0 +1,70 @@
+-- What `board` prints (document 01, "Specimens"): a header and, by scope then house, lowest address, house, share, limit, holding.
+use mathlib.Core.List.{List, [], _++_, _∷_}
+use Prim.Native.Nat.{_%_, _+_, _/_, _≤_, suc, zero, ℕ}
+use lib.Dec.{eqb, ltb}
+use lib.ListN.{drop, length}
+use Rattle.lists.specs.Pick.{pick}
+use Rattle.octets.specs.Octets.{Wrote}
+use Rattle.soundness.specs.Sound.{limitAt, reserveAt, scopesIn, tenantsIn}
+use Rattle.state.specs.Book.{heldCount, inUse, scopeAt, tenantAt}
+use Rattle.state.specs.declared.LeaseTable.{LeaseTable}
+use Rattle.state.specs.declared.State.{State}
+use Rattle.state_file.specs.declared.Loaded.{Loaded}
+
+-- a number below 1,000 in decimal digits
+unfoldable pub decimal : ℕ → List ℕ
+decimal n =
+    pick (ltb n 10) ((48 + n) ∷ [])
+    (pick (ltb n 100) ((48 + n / 10) ∷ (48 + n % 10) ∷ [])
+    ((48 + n / 100) ∷ (48 + n / 10 % 10) ∷ (48 + n % 10) ∷ []))
+
+-- an address: its octets with points between them
+unfoldable pub dotted : ℕ → List ℕ
+dotted a = decimal (a / 16777216 % 256) ++ 46 ∷ decimal (a / 65536 % 256) ++ 46 ∷ decimal (a / 256 % 256) ++ 46 ∷ decimal (a % 256)
+
+-- a blank and a number
+unfoldable pub field : ℕ → List ℕ
+field n = 32 ∷ decimal n
+
+-- the lines f 0 to f (n - 1)
+unfoldable pub linesTo : (ℕ → List ℕ) → ℕ → List ℕ
+linesTo f zero = []
+linesTo f (suc n) = linesTo f n ++ f n
+
+-- "scope house share limit holds"
+abbrev pub header : List ℕ
+header =
+    115 ∷ 99 ∷ 111 ∷ 112 ∷ 101 ∷ 32 ∷ 104 ∷ 111 ∷ 117 ∷ 115 ∷ 101 ∷ 32 ∷ 115 ∷ 104 ∷ 97 ∷ 114 ∷ 101 ∷ 32 ∷ 108 ∷ 105 ∷ 109 ∷ 105 ∷ 116 ∷ 32 ∷ 104 ∷ 111 ∷ 108 ∷ 100 ∷ 115 ∷ 10 ∷ []
+
+-- "refused" and the number
+unfoldable pub refusedLine : ℕ → List ℕ
+refusedLine n = 114 ∷ 101 ∷ 102 ∷ 117 ∷ 115 ∷ 101 ∷ 100 ∷ field n ++ 10 ∷ []
+
+-- the line of tenant g + 1 in scope k + 1
+unfoldable pub line : State → LeaseTable → ℕ → ℕ → List ℕ
+line s b k g =
+    dotted (scopeAt s k .lowest) ++ field (g + 1) ++ field (reserveAt (scopeAt s k) g) ++ field (limitAt (scopeAt s k) g)
+    ++ field (heldCount (k + 1) (inUse (tenantAt b g))) ++ 10 ∷ []
+
+-- the lines of scope k + 1
+unfoldable pub scopeLines : State → LeaseTable → ℕ → List ℕ
+scopeLines s b k = linesTo (line s b k) (tenantsIn s)
+
+unfoldable pub bookLines : State → LeaseTable → List ℕ
+bookLines s b = linesTo (scopeLines s b) (scopesIn s)
+
+-- all that is printed for what the reader answers
+unfoldable pub textOf : Loaded → List ℕ
+textOf r = pick (eqb (r .refusal) 0) (header ++ bookLines (r .state) (r .table)) (refusedLine (r .refusal))
+
+-- a room below 1,100 octets is left as it is
+unfoldable pub lengthIn : Loaded → List ℕ → ℕ
+lengthIn r room = pick (ltb (length room) 1100) 0 (length (textOf r))
+
+unfoldable pub roomWith : Loaded → List ℕ → List ℕ
+roomWith r room = pick (ltb (length room) 1100) room (textOf r ++ drop (length (textOf r)) room)
+
+-- xs was written, and takes at most so many octets
+pub record Line (before : List ℕ) (at : ℕ) (xs : List ℕ) (after : List ℕ) (n most : ℕ) : Type 0 where
+  pub wrote : Wrote before at xs after n
+  pub small : n ≤ at + most

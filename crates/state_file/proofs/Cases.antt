@@ -1,0 +1,259 @@
+-- Whole files by computation: what the reader answers to each.
+use mathlib.Core.Bool.{Bool, _&&_, true}
+use mathlib.Core.List.{List, [], _++_, _∷_}
+use mathlib.Core.Path.{_≡_, refl}
+use Prim.Native.Nat.{_*_, _+_, _-_, suc, zero, ℕ}
+use lib.Dec.{eqb}
+use lib.ListN.{length, replicate}
+use Rattle.address_set.specs.AddressSet.{bit, offsetsFrom, readOffsets, risesFrom, setOf}
+use Rattle.identifier.specs.Order.{orderOf, sameOf}
+use Rattle.lists.specs.All.{allBy, allTo, pairsBy}
+use Rattle.lists.specs.Filter.{filterBy, isIn}
+use Rattle.lists.specs.Pick.{pick}
+use Rattle.lists.specs.Sums.{sumTo}
+use Rattle.octets.specs.Octets.{octets32}
+use Rattle.soundness.specs.Sound.{apart, belowB, blankB, brokenOf, calm, countsB, differ, disjoint, few, firstBroken, firstLate, housesB, idB, kindB, layoutB, leaseB, limitB, limitsB, load, loadB, noneB, offsetsB, paddedB, periodB, poolB, poolsApart, rangeB, rangeZero, rangesApart, recordsB, rule1, rule10, rule11, rule12, rule13, rule2, rule3, rule4, rule5, rule6, rule7, rule8, rule9, rulesOf, scopeZero, settingsB, shareB, sharesB, sizeB, soundB, tailB, ttlB, unusedB, zeroFrom}
+use Rattle.state.specs.Book.{addressesOf, laidOut, ordered, overlaps, tableOf, unionAll, zeroScope}
+use Rattle.state.specs.declared.Lease.{Lease}
+use Rattle.state.specs.declared.LeaseTable.{LeaseTable}
+use Rattle.state.specs.declared.State.{State}
+use Rattle.state_file.specs.File.{File, fileOf, isAfter, orderedFrom}
+use Rattle.state_file.specs.Format.{Got, bad, closed, got, readNumber, readOctet, readTimes, then, writeAll}
+use Rattle.state_file.specs.Records.{fewOf, filed, filedBook, filedFrom, filedScope, filled, fitsB, leasesFitB, pairUp, storableB, stored, storedScope, storedState, storedTable, tenantsFrom, zeroRange}
+use Rattle.state_file.specs.StateFile.{accepted, answered, judged, loaded, octetsOf, readOf, refused, roomAfter, writtenOf, zeroState, zeroTable}
+
+-- ---- files
+-- 10.1.1.1, and the clock
+server : ℕ → List ℕ
+server clock = 1 ∷ 10 ∷ 1 ∷ 1 ∷ 1 ∷ octets32 clock
+
+range : ℕ → ℕ → List ℕ
+range low high = octets32 low ++ octets32 high
+
+scope : ℕ → ℕ → ℕ → List ℕ → List ℕ
+scope lowest size ttl parts = octets32 lowest ++ size ∷ ttl ∷ parts
+
+lease : ℕ → ℕ → List ℕ → ℕ → ℕ → ℕ → List ℕ → List ℕ
+lease tenant scope id kind start end offs = tenant ∷ scope ∷ length id ∷ id ++ kind ∷ octets32 16909060 ++ octets32 start ++ octets32 end ++ length offs ∷ offs
+
+-- two tenants, 10.0.1.0 to 10.0.1.255 and 10.0.2.0 to 10.0.2.255
+tenants : List ℕ
+tenants = 2 ∷ range 167772416 167772671 ++ range 167772672 167772927
+
+-- 239.192.0.0 of the size, with the reserves and limits
+pool : ℕ → List ℕ → List ℕ
+pool size parts = 1 ∷ scope 4022337536 size 1 parts
+
+-- document 01's specimen: size 4; tenant 1 has reserve 2 and limit 3, tenant 2 reserve 1 and limit 4; clock 1000
+settings : List ℕ
+settings = server 1000 ++ tenants ++ pool 4 (2 ∷ 3 ∷ 1 ∷ 4 ∷ [])
+
+-- a lease on the first scope from 1000 to 4600
+plain : ℕ → List ℕ → List ℕ → List ℕ
+plain t id offs = lease t 1 id 3 1000 4600 offs
+
+a : List ℕ
+a = 0 ∷ 65 ∷ []
+
+b : List ℕ
+b = 0 ∷ 66 ∷ []
+
+-- a with an octet more
+ab : List ℕ
+ab = 0 ∷ 65 ∷ 0 ∷ []
+
+-- the same n times
+again : ℕ → List ℕ → List ℕ
+again zero l = []
+again (suc n) l = l ++ again n l
+
+-- n leases of tenant 1 with rising identifiers and periods that touch
+row : ℕ → ℕ → List ℕ
+row zero k = []
+row (suc n) k = lease 1 1 (0 ∷ k ∷ []) 4 (1000 + k) (1001 + k) (0 ∷ []) ++ row n (suc k)
+
+-- 14,525 octets and those of one more identifier
+long : ℕ → List ℕ
+long n = settings ++ 54 ∷ plain 1 (replicate n 7) (0 ∷ []) ++ again 53 (plain 1 (replicate 255 7) (0 ∷ []))
+
+-- ---- the largest sound file: eight tenants, four scopes of 64, each half of one with sixteen leases on it
+eight : ℕ → ℕ → List ℕ
+eight zero k = []
+eight (suc n) k = range (k * 256) (k * 256 + 255) ++ eight n (suc k)
+
+four : ℕ → ℕ → List ℕ
+four zero k = []
+four (suc n) k = scope (4022337536 + k * 64) 64 255 (again 8 (0 ∷ 64 ∷ [])) ++ four n (suc k)
+
+upFrom : ℕ → ℕ → List ℕ
+upFrom zero k = []
+upFrom (suc n) k = k ∷ upFrom n (suc k)
+
+sixteen : ℕ → ℕ → List ℕ → ℕ → List ℕ
+sixteen t s offs zero = []
+sixteen t s offs (suc n) = lease t s (replicate 31 7 ++ (16 - suc n) ∷ []) 3 (16 - suc n) (17 - suc n) offs ++ sixteen t s offs n
+
+largest : List ℕ
+largest =
+    server 0 ++ 8 ∷ eight 8 1 ++ 4 ∷ four 4 0 ++ 128 ∷
+    sixteen 1 1 (upFrom 32 0) 16 ++ sixteen 2 1 (upFrom 32 32) 16 ++ sixteen 3 2 (upFrom 32 0) 16 ++ sixteen 4 2 (upFrom 32 32) 16
+    ++ sixteen 5 3 (upFrom 32 0) 16 ++ sixteen 6 3 (upFrom 32 32) 16 ++ sixteen 7 4 (upFrom 32 0) 16 ++ sixteen 8 4 (upFrom 32 32) 16
+
+-- ---- the table
+record Case : Type 0 where
+  octets : List ℕ
+  answer : ℕ
+  rule : ℕ
+
+-- the first rule of soundness that a file breaks, by number; 0 where there is none, where it has no form, or where the records cannot hold it
+ruleOf : Got File → ℕ
+ruleOf (got f r) = pick (fitsB f) (brokenOf (storedState f) (storedTable f)) 0
+ruleOf bad = 0
+
+allHold : List Case → Bool
+allHold [] = true
+allHold (c ∷ l) = eqb (readOf (c .octets) .refusal) (c .answer) && (eqb (ruleOf (fileOf (c .octets))) (c .rule) && allHold l)
+
+-- accepted
+sound : List Case
+sound =
+    -- no lease; the smallest of all; touching periods; sixteen leases; a prefix before what it begins; then a pool that ends at 239.255.255.255
+    record { octets = settings ++ 0 ∷ []; answer = 0; rule = 0 }
+    ∷ record { octets = server 4294967295 ++ 1 ∷ range 5 5 ++ 1 ∷ scope 3758096384 1 1 (0 ∷ 0 ∷ []) ++ 0 ∷ []; answer = 0; rule = 0 }
+    ∷ record { octets = settings ++ 2 ∷ lease 1 1 a 3 1000 2000 (2 ∷ 3 ∷ []) ++ lease 1 1 b 4 2000 3000 (2 ∷ 3 ∷ []); answer = 0; rule = 0 }
+    ∷ record { octets = settings ++ 16 ∷ row 16 0; answer = 0; rule = 0 }
+    ∷ record { octets = settings ++ 2 ∷ plain 1 a (0 ∷ []) ++ plain 1 ab (1 ∷ []); answer = 0; rule = 0 }
+    -- the specimen after P3
+    ∷ record { octets = settings ++ 2 ∷ lease 1 1 b 3 1000 2000 (2 ∷ 3 ∷ []) ++ plain 2 a (0 ∷ 1 ∷ []); answer = 0; rule = 0 }
+    ∷ record { octets = server 1000 ++ tenants ++ 1 ∷ scope 4026531836 4 1 (2 ∷ 3 ∷ 1 ∷ 4 ∷ []) ++ 0 ∷ []; answer = 0; rule = 0 }
+    ∷ record { octets = largest; answer = 0; rule = 0 }
+    ∷ []
+
+-- wrong form
+form : List Case
+form =
+    -- cut off in each section
+    record { octets = []; answer = 20; rule = 0 }
+    ∷ record { octets = 1 ∷ 10 ∷ 1 ∷ 1 ∷ 1 ∷ 0 ∷ []; answer = 20; rule = 0 }
+    ∷ record { octets = server 1000; answer = 20; rule = 0 }
+    ∷ record { octets = server 1000 ++ 2 ∷ range 1 2; answer = 20; rule = 0 }
+    ∷ record { octets = server 1000 ++ 9 ∷ eight 8 1; answer = 20; rule = 0 }
+    ∷ record { octets = server 1000 ++ tenants; answer = 20; rule = 0 }
+    ∷ record { octets = server 1000 ++ tenants ++ pool 4 (2 ∷ 3 ∷ 1 ∷ []); answer = 20; rule = 0 }
+    ∷ record { octets = settings; answer = 20; rule = 0 }
+    ∷ record { octets = settings ++ 1 ∷ 1 ∷ 1 ∷ 40 ∷ a; answer = 20; rule = 0 }
+    ∷ record { octets = settings ++ 2 ∷ plain 1 a (0 ∷ []); answer = 20; rule = 0 }
+    -- the server's count, octets left over
+    ∷ record { octets = 0 ∷ tenants ++ pool 4 (2 ∷ 3 ∷ 1 ∷ 4 ∷ []) ++ 0 ∷ []; answer = 20; rule = 0 }
+    ∷ record { octets = 2 ∷ 10 ∷ 1 ∷ 1 ∷ 1 ∷ octets32 1000 ++ tenants ++ pool 4 (2 ∷ 3 ∷ 1 ∷ 4 ∷ []) ++ 0 ∷ []; answer = 20; rule = 0 }
+    ∷ record { octets = settings ++ 0 ∷ 0 ∷ []; answer = 20; rule = 0 }
+    -- offsets that don't rise
+    ∷ record { octets = settings ++ 1 ∷ plain 1 a (0 ∷ 0 ∷ []); answer = 20; rule = 0 }
+    ∷ record { octets = settings ++ 1 ∷ plain 1 a (1 ∷ 0 ∷ []); answer = 20; rule = 0 }
+    -- leases that fall: by tenant, by identifier, a prefix after what it begins, by tenants that are not there
+    ∷ record { octets = settings ++ 2 ∷ plain 2 a (0 ∷ []) ++ plain 1 b (1 ∷ []); answer = 20; rule = 0 }
+    ∷ record { octets = settings ++ 2 ∷ plain 1 b (0 ∷ []) ++ plain 1 a (1 ∷ []); answer = 20; rule = 0 }
+    ∷ record { octets = settings ++ 2 ∷ plain 1 ab (0 ∷ []) ++ plain 1 a (1 ∷ []); answer = 20; rule = 0 }
+    ∷ record { octets = settings ++ 2 ∷ plain 200 a (0 ∷ []) ++ plain 0 b (0 ∷ []); answer = 20; rule = 0 }
+    -- equal identifiers with another between them
+    ∷ record { octets = settings ++ 3 ∷ plain 1 a (0 ∷ []) ++ plain 1 b (1 ∷ []) ++ plain 1 a (2 ∷ []); answer = 20; rule = 0 }
+    -- 14,629 octets, and 14,628
+    ∷ record { octets = long 104; answer = 20; rule = 0 }
+    ∷ record { octets = long 103; answer = 21; rule = 0 }
+    ∷ []
+
+-- unsound, by the rules of document 01
+unsound : List Case
+unsound =
+    -- 1. no tenant, nine, no scope, five, sizes 0 and 65, identifiers of no octet, of 1 and of 33, 17 leases, 129 of them
+    record { octets = server 1000 ++ 0 ∷ pool 4 [] ++ 0 ∷ []; answer = 21; rule = 1 }
+    ∷ record { octets = server 1000 ++ 9 ∷ eight 9 1 ++ pool 4 (again 9 (0 ∷ 0 ∷ [])) ++ 0 ∷ []; answer = 21; rule = 0 }
+    ∷ record { octets = server 1000 ++ tenants ++ 0 ∷ 0 ∷ []; answer = 21; rule = 1 }
+    ∷ record { octets = server 1000 ++ 8 ∷ eight 8 1 ++ 5 ∷ four 5 0 ++ 0 ∷ []; answer = 21; rule = 0 }
+    ∷ record { octets = server 1000 ++ tenants ++ pool 0 (0 ∷ 0 ∷ 0 ∷ 0 ∷ []) ++ 0 ∷ []; answer = 21; rule = 1 }
+    ∷ record { octets = server 1000 ++ tenants ++ pool 65 (0 ∷ 0 ∷ 0 ∷ 0 ∷ []) ++ 0 ∷ []; answer = 21; rule = 1 }
+    ∷ record { octets = settings ++ 1 ∷ plain 1 [] (0 ∷ []); answer = 21; rule = 1 }
+    ∷ record { octets = settings ++ 1 ∷ plain 1 (7 ∷ []) (0 ∷ []); answer = 21; rule = 1 }
+    ∷ record { octets = settings ++ 1 ∷ plain 1 (replicate 33 7) (0 ∷ []); answer = 21; rule = 0 }
+    ∷ record { octets = settings ++ 17 ∷ row 17 0; answer = 21; rule = 0 }
+    ∷ record { octets = settings ++ 129 ∷ row 129 0; answer = 21; rule = 0 }
+    -- 2. an offset at the size, past 63, 65 of them
+    ∷ record { octets = settings ++ 1 ∷ plain 1 a (4 ∷ []); answer = 21; rule = 2 }
+    ∷ record { octets = settings ++ 1 ∷ plain 1 a (64 ∷ []); answer = 21; rule = 0 }
+    ∷ record { octets = settings ++ 1 ∷ plain 1 a (upFrom 65 0); answer = 21; rule = 0 }
+    -- 3. an empty client range, two that meet
+    ∷ record { octets = server 1000 ++ 2 ∷ range 9 8 ++ range 10 11 ++ pool 4 (2 ∷ 3 ∷ 1 ∷ 4 ∷ []) ++ 0 ∷ []; answer = 21; rule = 3 }
+    ∷ record { octets = server 1000 ++ 2 ∷ range 8 9 ++ range 9 10 ++ pool 4 (2 ∷ 3 ∷ 1 ∷ 4 ∷ []) ++ 0 ∷ []; answer = 21; rule = 3 }
+    -- 4. a pool before 224.0.0.0, one past 239.255.255.255, two that meet
+    ∷ record { octets = server 1000 ++ tenants ++ 1 ∷ scope 3758096383 4 1 (2 ∷ 3 ∷ 1 ∷ 4 ∷ []) ++ 0 ∷ []; answer = 21; rule = 4 }
+    ∷ record { octets = server 1000 ++ tenants ++ 1 ∷ scope 4026531837 4 1 (2 ∷ 3 ∷ 1 ∷ 4 ∷ []) ++ 0 ∷ []; answer = 21; rule = 4 }
+    ∷ record { octets = server 1000 ++ tenants ++ 2 ∷ scope 4022337536 4 1 (2 ∷ 3 ∷ 1 ∷ 4 ∷ []) ++ scope 4022337539 4 1 (2 ∷ 3 ∷ 1 ∷ 4 ∷ []) ++ 0 ∷ []; answer = 21; rule = 4 }
+    -- 5. TTL 0
+    ∷ record { octets = server 1000 ++ tenants ++ 1 ∷ scope 4022337536 4 0 (2 ∷ 3 ∷ 1 ∷ 4 ∷ []) ++ 0 ∷ []; answer = 21; rule = 5 }
+    -- 6. a reserve above its limit, a limit above the size, the reserves together above it
+    ∷ record { octets = server 1000 ++ tenants ++ pool 4 (3 ∷ 2 ∷ 1 ∷ 4 ∷ []) ++ 0 ∷ []; answer = 21; rule = 6 }
+    ∷ record { octets = server 1000 ++ tenants ++ pool 4 (2 ∷ 5 ∷ 1 ∷ 4 ∷ []) ++ 0 ∷ []; answer = 21; rule = 6 }
+    ∷ record { octets = server 1000 ++ tenants ++ pool 4 (3 ∷ 3 ∷ 2 ∷ 4 ∷ []) ++ 0 ∷ []; answer = 21; rule = 6 }
+    -- 7. an unknown tenant, an unknown scope, another type, an empty period, one that is over, no address
+    ∷ record { octets = settings ++ 1 ∷ plain 0 a (0 ∷ []); answer = 21; rule = 0 }
+    ∷ record { octets = settings ++ 1 ∷ plain 3 a (0 ∷ []); answer = 21; rule = 7 }
+    ∷ record { octets = settings ++ 1 ∷ plain 9 a (0 ∷ []); answer = 21; rule = 0 }
+    ∷ record { octets = settings ++ 1 ∷ lease 1 0 a 3 1000 4600 (0 ∷ []); answer = 21; rule = 7 }
+    ∷ record { octets = settings ++ 1 ∷ lease 1 2 a 3 1000 4600 (0 ∷ []); answer = 21; rule = 7 }
+    ∷ record { octets = settings ++ 1 ∷ lease 1 1 a 2 1000 4600 (0 ∷ []); answer = 21; rule = 7 }
+    ∷ record { octets = settings ++ 1 ∷ lease 1 1 a 5 1000 4600 (0 ∷ []); answer = 21; rule = 7 }
+    ∷ record { octets = settings ++ 1 ∷ lease 1 1 a 3 4600 4600 (0 ∷ []); answer = 21; rule = 7 }
+    ∷ record { octets = settings ++ 1 ∷ lease 1 1 a 3 900 1000 (0 ∷ []); answer = 21; rule = 7 }
+    ∷ record { octets = settings ++ 1 ∷ plain 1 a []; answer = 21; rule = 7 }
+    -- 8. equal identifiers, and those of a tenant that is not there
+    ∷ record { octets = settings ++ 2 ∷ plain 1 a (0 ∷ []) ++ plain 1 a (1 ∷ []); answer = 21; rule = 8 }
+    ∷ record { octets = settings ++ 2 ∷ plain 200 a (0 ∷ []) ++ plain 200 a (1 ∷ []); answer = 21; rule = 0 }
+    -- 9. an address with two tenants, though at other times
+    ∷ record { octets = settings ++ 2 ∷ lease 1 1 a 3 1000 2000 (0 ∷ []) ++ lease 2 1 a 3 2000 3000 (0 ∷ []); answer = 21; rule = 9 }
+    -- 10. leases on one address that overlap by a second
+    ∷ record { octets = settings ++ 2 ∷ lease 1 1 a 3 1000 2000 (0 ∷ []) ++ lease 1 1 b 3 1999 3000 (0 ∷ []); answer = 21; rule = 10 }
+    -- 11. more addresses than the limit
+    ∷ record { octets = server 1000 ++ tenants ++ pool 4 (0 ∷ 1 ∷ 0 ∷ 4 ∷ []) ++ 1 ∷ plain 1 a (0 ∷ 1 ∷ []); answer = 21; rule = 11 }
+    -- 12. more than the size with what is reserved
+    ∷ record { octets = settings ++ 1 ∷ plain 2 a (0 ∷ 1 ∷ 2 ∷ []); answer = 21; rule = 12 }
+    ∷ []
+
+answers : allHold (sound ++ form ++ unsound) ≡ true
+unfolding allHold ruleOf long largest sound form unsound server range scope lease tenants pool settings plain a b ab again row eight four upFrom sixteen pick allBy pairsBy allTo filterBy isIn sumTo bit offsetsFrom setOf readOffsets risesFrom orderOf sameOf laidOut tableOf ordered unionAll addressesOf overlaps few sizeB idB recordsB countsB rule1 belowB offsetsB rule2 rangeB rangesApart rule3 poolB poolsApart rule4 ttlB rule5 shareB sharesB rule6 kindB periodB leaseB noneB housesB rule7 differ rule8 disjoint apart rule9 calm rule10 limitB limitsB rule11 load loadB rule12 zeroFrom paddedB blankB unusedB layoutB rangeZero tailB scopeZero settingsB rule13 rulesOf firstLate firstBroken brokenOf soundB then closed readOctet readNumber readTimes isAfter orderedFrom fileOf filled stored tenantsFrom storedScope storedState storedTable storableB fewOf leasesFitB fitsB refused accepted judged loaded answered readOf
+answers = refl
+
+-- ---- the book that a file gives, and what the writer answers to it
+-- the specimen after P3: tenant 2 has .0 and .1 until 4600, tenant 1 has .2 and .3 until 2000
+specimen : List ℕ
+specimen = settings ++ 2 ∷ lease 1 1 b 3 1000 2000 (2 ∷ 3 ∷ []) ++ plain 2 a (0 ∷ 1 ∷ [])
+
+specimenState : State
+specimenState = record {
+  server = 167837953;
+  clock = 1000;
+  «tenant_count» = 2;
+  tenants = record { low = 167772416; high = 167772671 } ∷ record { low = 167772672; high = 167772927 } ∷ replicate 6 zeroRange;
+  «scope_count» = 1;
+  scopes = record { lowest = 4022337536; size = 4; ttl = 1; reserve = 2 ∷ 1 ∷ replicate 6 0; limit = 3 ∷ 4 ∷ replicate 6 0 } ∷ replicate 3 zeroScope;
+}
+
+specimenLease : List ℕ → ℕ → ℕ → Lease
+specimenLease id end addresses = record { scope = 1; «id_len» = 2; id = id ++ replicate 30 0; kind = 3; xid = 16909060; start = 1000; end = end; addresses = addresses }
+
+specimenTable : LeaseTable
+specimenTable = tableOf ((specimenLease b 2000 12 ∷ []) ∷ (specimenLease a 4600 3 ∷ []) ∷ replicate 6 [])
+
+read-specimen : readOf specimen ≡ accepted specimenState specimenTable
+unfolding specimen specimenState specimenLease specimenTable server range scope lease tenants pool settings plain a b pick allBy pairsBy allTo filterBy isIn sumTo bit offsetsFrom setOf readOffsets risesFrom orderOf sameOf laidOut tableOf ordered unionAll addressesOf overlaps few sizeB idB recordsB countsB rule1 belowB offsetsB rule2 rangeB rangesApart rule3 poolB poolsApart rule4 ttlB rule5 shareB sharesB rule6 kindB periodB leaseB noneB housesB rule7 differ rule8 disjoint apart rule9 calm rule10 limitB limitsB rule11 load loadB rule12 zeroFrom paddedB blankB unusedB layoutB rangeZero tailB scopeZero settingsB rule13 rulesOf firstLate firstBroken brokenOf soundB then closed readOctet readNumber readTimes isAfter orderedFrom fileOf filled stored tenantsFrom storedScope storedState storedTable storableB fewOf leasesFitB fitsB refused accepted judged loaded answered readOf
+read-specimen = refl
+
+-- an exact room suffices, one octet less does not, and an unsound book comes before too little room
+write-specimen : (octetsOf specimenState specimenTable ≡ specimen)
+    × (writtenOf specimenState specimenTable 80 ≡ record { refusal = 0; length = 80 })
+    × (writtenOf specimenState specimenTable 79 ≡ record { refusal = 23; length = 0 })
+    × (writtenOf zeroState zeroTable 0 ≡ record { refusal = 22; length = 0 })
+    × (roomAfter specimenState specimenTable (replicate 82 9) ≡ specimen ++ 9 ∷ 9 ∷ [])
+    × (roomAfter specimenState specimenTable (replicate 79 9) ≡ replicate 79 9)
+    × (roomAfter zeroState zeroTable (9 ∷ []) ≡ 9 ∷ [])
+unfolding specimen specimenState specimenLease specimenTable server range scope lease tenants pool settings plain a b pick allBy pairsBy allTo filterBy isIn sumTo bit offsetsFrom setOf readOffsets risesFrom orderOf sameOf laidOut tableOf ordered unionAll addressesOf overlaps few sizeB idB recordsB countsB rule1 belowB offsetsB rule2 rangeB rangesApart rule3 poolB poolsApart rule4 ttlB rule5 shareB sharesB rule6 kindB periodB leaseB noneB housesB rule7 differ rule8 disjoint apart rule9 calm rule10 limitB limitsB rule11 load loadB rule12 zeroFrom paddedB blankB unusedB layoutB rangeZero tailB scopeZero settingsB rule13 rulesOf firstLate firstBroken brokenOf soundB then closed readOctet readNumber readTimes isAfter orderedFrom fileOf filled stored tenantsFrom storedScope storedState storedTable storableB fewOf leasesFitB fitsB refused accepted judged loaded answered readOf zeroTable octetsOf writtenOf roomAfter filedBook filedFrom filedScope pairUp filed writeAll
+write-specimen = (refl, refl, refl, refl, refl, refl, refl)

@@ -21,7 +21,7 @@ use Rattle.allocation.specs.Rule.{takenOf, busyIn, pressureWith, allowed, grant
 use Rattle.decision.specs.declared.Verdict.{Verdict}
 use Rattle.decision.specs.declared.Reply.{Reply}
 use Rattle.decision.specs.declared.Reply.the-variants.{Nothing, Offer, LeaseAck, ReleaseAck, InfoAck, Nak}
-use Rattle.decision.specs.Parts.{isNew, hasPeriod, holdsOf, recordedOf, resends, scopePlace, knowsScope, lacksScope, zeroLength, badCounts, lacksCurrent, error1Of, farOf, error2Of, error3Of, wishedOr, startOf, lengthOf, endOf, askAt, fitsNew, newWith, newAt, newOf, othersBusy, fitsRenewed, renewedTo, renewedOf, proposalOf, error0Of, leaseFrom, withLease, plainReply, nakWith, discardWith, refusalOf}
+use Rattle.decision.specs.Parts.{isNew, hasPeriod, holdsOf, recordedOf, resends, scopePlace, knowsScope, lacksScope, zeroLength, badCounts, lacksCurrent, error1Of, farOf, error2Of, error3Of, wishedOr, startOf, lengthOf, endOf, askAt, fitsNew, newWith, newAt, newOf, othersBusy, fitsRenewed, renewedTo, renewedOf, proposalOf, error0Of, replyType, leaseFrom, withLease, plainReply, nakWith, discardWith, refusalOf}
 use Rattle.decision.specs.Decide.{leasedOf, plainOf, settledOf, judgedOf, decideOf}
 
 -- scope 239.192.0.0, size 4; tenant 1 reserve 2 limit 3; tenant 2 reserve 1 limit 4
@@ -68,15 +68,6 @@ run : LeaseTable → List Call → LeaseTable
 run b [] = b
 run b (c ∷ cs) = run (decideOf (settings (c .time)) (dropped (c .time) b) (c .tenant) (c .fields) .table) cs
 
--- the type of the reply; 0 for none
-code : Reply → ℕ
-code Nothing = 0
-code Offer = 2
-code LeaseAck = 5
-code ReleaseAck = 5
-code InfoAck = 5
-code Nak = 6
-
 record Case : Type 0 where
   before : List Call
   last : Call
@@ -88,7 +79,7 @@ record Case : Type 0 where
 holds : Case → Bool
 holds c =
     let v : Verdict = decideOf (settings (c .last .time)) (dropped (c .last .time) (run (tableOf (replicate 8 [])) (c .before))) (c .last .tenant) (c .last .fields) .verdict in
-    eqb (v .outcome) (c .outcome) && (eqb (code (v .reply)) (c .reply) && (eqb (v .error) (c .error) && eqb (v .addresses) (c .addresses)))
+    eqb (v .outcome) (c .outcome) && (eqb (replyType (v .reply)) (c .reply) && (eqb (v .error) (c .error) && eqb (v .addresses) (c .addresses)))
 
 allHold : List Case → Bool
 allHold [] = true
@@ -132,5 +123,5 @@ table =
     ∷ []
 
 specimens : allHold table ≡ true
-unfolding settings wish call run code holds allHold ack nak p1 p3 p5 table pick filterBy isIn placeBy sumTo largest orderOf sameOf bit offsetsFrom setOf differenceOf upTo laidOut tableOf insertOf removeOf renewTo replaceOf liveOf dropped unionAll addressesOf overlaps usedIn takenOf busyIn pressureWith allowed grantOf suffices isNew hasPeriod holdsOf recordedOf resends scopePlace knowsScope lacksScope zeroLength badCounts lacksCurrent error1Of farOf error2Of error3Of wishedOr startOf lengthOf endOf askAt fitsNew newWith newAt newOf othersBusy fitsRenewed renewedTo renewedOf proposalOf error0Of leaseFrom withLease plainReply nakWith discardWith refusalOf leasedOf plainOf settledOf judgedOf decideOf
+unfolding settings wish call run replyType holds allHold ack nak p1 p3 p5 table pick filterBy isIn placeBy sumTo largest orderOf sameOf bit offsetsFrom setOf differenceOf upTo laidOut tableOf insertOf removeOf renewTo replaceOf liveOf dropped unionAll addressesOf overlaps usedIn takenOf busyIn pressureWith allowed grantOf suffices isNew hasPeriod holdsOf recordedOf resends scopePlace knowsScope lacksScope zeroLength badCounts lacksCurrent error1Of farOf error2Of error3Of wishedOr startOf lengthOf endOf askAt fitsNew newWith newAt newOf othersBusy fitsRenewed renewedTo renewedOf proposalOf error0Of leaseFrom withLease plainReply nakWith discardWith refusalOf leasedOf plainOf settledOf judgedOf decideOf
 specimens = refl

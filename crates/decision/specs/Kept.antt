@@ -127,7 +127,7 @@ pub record Passed (s : State) (m : Fields) (held : Bool) : Type 0 where
   pub counts : badCounts m ≡ false
   pub new : isNew m ≡ true → held ≡ false
 
-passed : (s : State) (m : Fields) (held : Bool) → error1Of s m held ≡ false → Passed s m held
+pub passed : (s : State) (m : Fields) (held : Bool) → error1Of s m held ≡ false → Passed s m held
 unfolding error1Of lacksScope
 passed s m held e =
     let a = or-none (not (m .allowed)) _ e in

@@ -167,6 +167,15 @@ unfoldable pub error0Of : State → Proposal → Bool
 error0Of s p = ltb (s .clock + 2592000) (p .start) || (ltb 4294967295 (p .end) || not (p .fits))
 
 -- ---- the lease, and the verdicts
+-- the type number of each reply: OFFER, ACK and NAK; 0 where none is sent
+unfoldable pub replyType : Reply → ℕ
+replyType Nothing = 0
+replyType Offer = 2
+replyType LeaseAck = 5
+replyType ReleaseAck = 5
+replyType InfoAck = 5
+replyType Nak = 6
+
 -- with the message's type and transaction id; error 0 has kept the end within 32 bits
 unfoldable pub leaseFrom : Fields → Proposal → Lease
 leaseFrom m p = record {

@@ -1,0 +1,14 @@
+-- `numbers::and_below` meets its contract: its tests in order.
+use Rattle.lists.specs.Both.{and-false, and-true, or-false, or-true}
+use borrow.Author.Needs.{needs}
+use Rattle.decision.proofs.numbers.and_below.Statement.{statement}
+use Rattle.decision.proofs.numbers.and_below.Tie as tie
+
+returns : tie.Need-returns
+returns c = search (and-true, and-false, or-true, or-false, needs)
+
+returns-2 : tie.Need-returns-2
+returns-2 c = search (and-true, and-false, or-true, or-false, needs)
+
+pub and-below-spec : {M : Type 1} → statement M
+and-below-spec = tie.close (tie.spec returns returns-2)

@@ -1,0 +1,20 @@
+-- `tests::has_period` meets its contract: its tests, which are calls.
+use Rattle.decision.specs.Parts.{hasPeriod}
+use Rattle.lists.specs.Both.{joins}
+use borrow.Author.Needs.{needs}
+use Rattle.decision.proofs.tests.has_period.Statement.{statement}
+use Rattle.decision.proofs.tests.has_period.Tie as tie
+
+is-new-requires : tie.Need-is-new-requires
+is-new-requires c κs = search (joins, needs)
+
+returns : tie.Need-returns
+unfolding hasPeriod
+returns c = search (joins, needs)
+
+returns-2 : tie.Need-returns-2
+unfolding hasPeriod
+returns-2 c = search (joins, needs)
+
+pub has-period-spec : {M : Type 1} → statement M
+has-period-spec = tie.close (tie.spec is-new-requires returns returns-2)

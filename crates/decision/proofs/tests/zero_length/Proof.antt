@@ -1,0 +1,17 @@
+-- `tests::zero_length` meets its contract: its tests in order.
+use Rattle.decision.specs.Parts.{zeroLength}
+use Rattle.lists.specs.Both.{and-false, and-true, or-false, or-true}
+use borrow.Author.Needs.{needs}
+use Rattle.decision.proofs.tests.zero_length.Statement.{statement}
+use Rattle.decision.proofs.tests.zero_length.Tie as tie
+
+returns : tie.Need-returns
+unfolding zeroLength
+returns c = search (and-true, and-false, or-true, or-false, needs)
+
+returns-2 : tie.Need-returns-2
+unfolding zeroLength
+returns-2 c = search (and-true, and-false, or-true, or-false, needs)
+
+pub zero-length-spec : {M : Type 1} → statement M
+zero-length-spec = tie.close (tie.spec returns returns-2)

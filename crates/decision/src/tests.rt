@@ -1,0 +1,215 @@
+// Document 01's tests after test 7: Resend and errors 1, 2, 3 and 0.
+ghost use mathlib.Core.Path.{_≡_};
+ghost use mathlib.Core.Bool.{not, _&&_, _||_};
+ghost use lib.Dec.{eqb};
+ghost use Rattle.decision.specs.Parts.{isNew, hasPeriod, resends, lowestIs, scopePlace, knowsScope, lacksScope, zeroLength, badCounts, lacksCurrent, error1Of, farOf, error2Of, error3Of, error0Of};
+use crate::Proposal;
+use crate::numbers::and_below;
+use crate::numbers::and_not;
+use crate::numbers::cut4;
+use crate::numbers::either;
+use message::Fields;
+use state::Lease;
+use state::Scope;
+use state::State;
+
+// DISCOVER or REQUEST.
+pub fn is_new(m: Fields) -> bool
+    ensures { λ r. ⌜ r ≡ isNew m ⌝ }
+{
+    if m.kind == 1 {
+        return true;
+    }
+    m.kind == 3
+}
+
+pub fn has_period(m: Fields) -> bool
+    ensures { λ r. ⌜ r ≡ hasPeriod m ⌝ }
+{
+    if is_new(m) {
+        return true;
+    }
+    m.kind == 4
+}
+
+fn is_recorded_type(m: Fields) -> bool
+    ensures { λ r. ⌜ r ≡ (eqb (m .kind) 3 || eqb (m .kind) 4) ⌝ }
+{
+    if m.kind == 3 {
+        return true;
+    }
+    m.kind == 4
+}
+
+fn needs_lease(m: Fields) -> bool
+    ensures { λ r. ⌜ r ≡ (eqb (m .kind) 4 || eqb (m .kind) 7) ⌝ }
+{
+    if m.kind == 4 {
+        return true;
+    }
+    m.kind == 7
+}
+
+fn same_message(m: Fields, l: Lease) -> bool
+    ensures { λ r. ⌜ r ≡ (eqb (l .kind) (m .kind) && eqb (l .xid) (m .xid)) ⌝ }
+{
+    if l.kind == m.kind {
+        return l.xid == m.xid;
+    }
+    false
+}
+
+pub fn is_resend(m: Fields, l: Lease) -> bool
+    ensures { λ r. ⌜ r ≡ resends m l ⌝ }
+{
+    if is_recorded_type(m) {
+        return same_message(m, l);
+    }
+    false
+}
+
+fn lowest_is(c: Scope, lowest: u32) -> bool
+    ensures { λ r. ⌜ r ≡ lowestIs lowest c ⌝ }
+{
+    c.lowest == lowest
+}
+
+// The place of the scope with a lowest address; the number of scopes where there is none.
+pub fn scope_place(s: State, lowest: u32) -> usize
+    ensures { λ r. ⌜ r ≡ scopePlace s lowest ⌝ }
+{
+    let n = cut4(s.scope_count);
+    let mut i: usize = 0;
+    while i < n {
+        let c = s.scopes[i];
+        if lowest_is(c, lowest) {
+            return i;
+        }
+        i += 1;
+    }
+    i
+}
+
+fn knows_scope(s: State, m: Fields) -> bool
+    ensures { λ r. ⌜ r ≡ knowsScope s m ⌝ }
+{
+    let w = m.scope;
+    let k = scope_place(s, w.value);
+    let n = cut4(s.scope_count);
+    and_below(w.there, k, n)
+}
+
+fn lacks_scope(s: State, m: Fields) -> bool
+    ensures { λ r. ⌜ r ≡ lacksScope s m ⌝ }
+{
+    let new = is_new(m);
+    let known = knows_scope(s, m);
+    and_not(new, known)
+}
+
+fn zero_length(m: Fields) -> bool
+    ensures { λ r. ⌜ r ≡ zeroLength m ⌝ }
+{
+    let t = m.times;
+    let w = t.length;
+    if w.there {
+        return w.value == 0;
+    }
+    false
+}
+
+fn bad_counts(m: Fields) -> bool
+    ensures { λ r. ⌜ r ≡ badCounts m ⌝ }
+{
+    let c = m.counts;
+    if c.least == 0 {
+        return true;
+    }
+    c.desired < c.least
+}
+
+fn lacks_current(m: Fields) -> bool
+    ensures { λ r. ⌜ r ≡ lacksCurrent m ⌝ }
+{
+    let t = m.times;
+    let start = t.start;
+    let latest = t.latest;
+    let current = t.current;
+    let needs = either(start.there, latest.there);
+    and_not(needs, current.there)
+}
+
+fn is_forbidden(m: Fields) -> bool
+    ensures { λ r. ⌜ r ≡ not (m .allowed) ⌝ }
+{
+    !m.allowed
+}
+
+fn is_held_already(m: Fields, held: bool) -> bool
+    ensures { λ r. ⌜ r ≡ (isNew m && held) ⌝ }
+{
+    if is_new(m) {
+        return held;
+    }
+    false
+}
+
+pub fn error_1(s: State, m: Fields, held: bool) -> bool
+    ensures { λ r. ⌜ r ≡ error1Of s m held ⌝ }
+{
+    if is_forbidden(m) {
+        return true;
+    }
+    if lacks_scope(s, m) {
+        return true;
+    }
+    if zero_length(m) {
+        return true;
+    }
+    if bad_counts(m) {
+        return true;
+    }
+    if lacks_current(m) {
+        return true;
+    }
+    is_held_already(m, held)
+}
+
+fn far(a: u32, b: u32) -> bool
+    ensures { λ r. ⌜ r ≡ farOf a b ⌝ }
+{
+    if a < b {
+        return 1800 < b - a;
+    }
+    1800 < a - b
+}
+
+pub fn error_2(s: State, m: Fields) -> bool
+    ensures { λ r. ⌜ r ≡ error2Of s m ⌝ }
+{
+    let t = m.times;
+    let w = t.current;
+    if w.there {
+        return far(w.value, s.clock);
+    }
+    false
+}
+
+pub fn error_3(m: Fields, held: bool) -> bool
+    ensures { λ r. ⌜ r ≡ error3Of m held ⌝ }
+{
+    let needs = needs_lease(m);
+    and_not(needs, held)
+}
+
+pub fn error_0(s: State, p: Proposal) -> bool
+    ensures { λ r. ⌜ r ≡ error0Of s p ⌝ }
+{
+    if (s.clock as u64) + 2592000 < (p.start as u64) {
+        return true;
+    }
+    if 4294967295 < p.end {
+        return true;
+    }
+    !p.fits
+}

@@ -50,7 +50,15 @@ fn read_part(buffer: &mut [u8], n: usize) -> bool {
 }
 
 // One call on a datagram of n octets, in a room of just `size` octets.
-fn call(book: Book, client: u32, time: u32, datagram: &[u8], n: usize, room: &mut [u8], size: usize) -> Book {
+fn call(
+    book: Book,
+    client: u32,
+    time: u32,
+    datagram: &[u8],
+    n: usize,
+    room: &mut [u8],
+    size: usize,
+) -> Book {
     if n <= datagram.len() {
         if size <= room.len() {
             let r = server::serve(book, &datagram[..n], client, time, &mut room[..size]);
@@ -76,7 +84,10 @@ struct Turn {
 }
 
 fn stop(book: Book) -> Turn {
-    Turn { go: false, book: book }
+    Turn {
+        go: false,
+        book: book,
+    }
 }
 
 fn take_turn(book: Book, datagram: &mut [u8], room: &mut [u8]) -> Turn {
@@ -89,7 +100,10 @@ fn take_turn(book: Book, datagram: &mut [u8], room: &mut [u8]) -> Turn {
     let n = octets::read_u16(&head, 10) as usize;
     if got == 12 {
         if read_part(datagram, n) {
-            return Turn { go: true, book: call_of(head, book, datagram, n, room) };
+            return Turn {
+                go: true,
+                book: call_of(head, book, datagram, n, room),
+            };
         }
         refuse(24);
         return stop(book);

@@ -40,7 +40,7 @@ module _ {b₀ : List ℕ} {at : ℕ} {s : List ℕ} {n : ℕ} {b : List ℕ} {i
         long = v .long;
         place = let p = v .place in let q = w .next in let z = hex-two (getD s i 0) in omega arith;
         wrote = wrote-as (sym (hex-append (take i s) (getD s i 0 ∷ [])) ∙ ap hexOf (sym e)) (joined g (v .wrote) w);
-        kept = k ∙ v .kept
+        kept = k ∙ v .kept;
       }
 
   pub hex-end : n ≤ i → Wrote b₀ at (hexOf (take n s)) b to

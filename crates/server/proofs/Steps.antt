@@ -57,11 +57,11 @@ replied-none b = record { size = refl; buffer = refl }
 -- ---- answers
 pub serves-discard : (n : ℕ) (b : Book) (buffer : List ℕ) (r : Served) → r ≡ record { outcome = n; length = 0; book = b } → Serves (discarded n b) buffer buffer r
 serves-discard n b buffer r e = record {
-    outcome = ap (λ (x : Served). x .outcome) e;
-    size = ap (λ (x : Served). x .length) e;
-    book = ap (λ (x : Served). x .book) e;
-    buffer = refl
-  }
+  outcome = ap (λ (x : Served). x .outcome) e;
+  size = ap (λ (x : Served). x .length) e;
+  book = ap (λ (x : Served). x .book) e;
+  buffer = refl;
+}
 
 serves-as : {a a′ : Answer} {x y : List ℕ} {r : Served} → a ≡ a′ → Serves a x y r → Serves a′ x y r
 serves-as {x = x} {y = y} {r = r} e s = subst (λ (z : Answer). Serves z x y r) e s

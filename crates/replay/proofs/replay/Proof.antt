@@ -1,10 +1,14 @@
 -- The turns are counted down.
+use Rattle.state.specs.Layout.{turns}
 use borrow.Author.Needs.{needs}
+use lib.ListN.{length}
+use mathlib.Core.Path.{_≡_}
+-- The turns are counted down.
 use Rattle.replay.proofs.replay.Statement.{statement}
 use Rattle.replay.proofs.replay.Tie as tie
 
 abbrev Inv-loop : tie.InvT-loop
-Inv-loop book₀ datagram₀ room₀ turns₀ book datagram room turns = Unit {0}
+Inv-loop book₀ datagram₀ room₀ turns₀ book datagram room turns = (length datagram ≡ 65536) × (length room ≡ 65536)
 
 abbrev μ-loop : tie.MeasureT-loop
 μ-loop book₀ datagram₀ room₀ turns₀ book datagram room turns = turns

@@ -21,6 +21,7 @@ use crate::tests::error_3;
 use crate::tests::has_period;
 use crate::tests::is_resend;
 use message::Fields;
+use message::MessageType;
 use state::Lease;
 use state::LeaseTable;
 use state::State;
@@ -121,10 +122,10 @@ pub fn discard(number: u8) -> Verdict
 fn refusal(m: Fields, error: u8) -> Verdict
     ensures { λ r. ⌜ r ≡ refusalOf m error ⌝ }
 {
-    if m.kind == 1 {
+    if m.kind == MessageType::DISCOVER {
         return discard(8);
     }
-    if m.kind == 8 {
+    if m.kind == MessageType::GETINFO {
         return discard(8);
     }
     nak(error)
@@ -211,10 +212,10 @@ fn leased(table: LeaseTable, h: usize, m: Fields, l: Lease) -> Decided
     requires { ⌜ (m .kind ≡ 3 → length (ownOf table h) < 16) ⌝ }
     ensures { λ r. ⌜ r ≡ leasedOf table h m l ⌝ }
 {
-    if m.kind == 1 {
+    if m.kind == MessageType::DISCOVER {
         return offer(table, l);
     }
-    if m.kind == 3 {
+    if m.kind == MessageType::REQUEST {
         return record(table, h, l);
     }
     renew(table, h, m, l)
@@ -223,7 +224,7 @@ fn leased(table: LeaseTable, h: usize, m: Fields, l: Lease) -> Decided
 fn plain(table: LeaseTable, h: usize, m: Fields) -> Decided
     ensures { λ r. ⌜ r ≡ plainOf table h m ⌝ }
 {
-    if m.kind == 7 {
+    if m.kind == MessageType::RELEASE {
         return release(table, h, m);
     }
     inform(table)

@@ -9,6 +9,7 @@ use crate::numbers::and_not;
 use crate::numbers::cut4;
 use crate::numbers::either;
 use message::Fields;
+use message::MessageType;
 use state::Lease;
 use state::Scope;
 use state::State;
@@ -17,10 +18,10 @@ use state::State;
 pub fn is_new(m: Fields) -> bool
     ensures { λ r. ⌜ r ≡ isNew m ⌝ }
 {
-    if m.kind == 1 {
+    if m.kind == MessageType::DISCOVER {
         return true;
     }
-    m.kind == 3
+    m.kind == MessageType::REQUEST
 }
 
 pub fn has_period(m: Fields) -> bool
@@ -29,25 +30,25 @@ pub fn has_period(m: Fields) -> bool
     if is_new(m) {
         return true;
     }
-    m.kind == 4
+    m.kind == MessageType::RENEW
 }
 
 fn is_recorded_type(m: Fields) -> bool
     ensures { λ r. ⌜ r ≡ (eqb (m .kind) 3 || eqb (m .kind) 4) ⌝ }
 {
-    if m.kind == 3 {
+    if m.kind == MessageType::REQUEST {
         return true;
     }
-    m.kind == 4
+    m.kind == MessageType::RENEW
 }
 
 fn needs_lease(m: Fields) -> bool
     ensures { λ r. ⌜ r ≡ (eqb (m .kind) 4 || eqb (m .kind) 7) ⌝ }
 {
-    if m.kind == 4 {
+    if m.kind == MessageType::RENEW {
         return true;
     }
-    m.kind == 7
+    m.kind == MessageType::RELEASE
 }
 
 fn same_message(m: Fields, l: Lease) -> bool

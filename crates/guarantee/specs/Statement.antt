@@ -150,12 +150,13 @@ namedBy (r ∷ rs) = onwards (r .first) (r .count) ++ namedBy rs
 pub record Granted (b : Book) (c : Call) (a : Answer) : Type 0 where
   -- "the outcome is 0"
   pub outcome : a .outcome ≡ 0
-  -- "k is the grant": at least what is desired, up to the unused share
+  -- k, the grant, is at least the smaller of what is desired and the unused share
   pub enough : min (saysOf b c .counts .desired) (unusedFor b c) ≤ grantFor b c .number
   -- and there are just k addresses
   pub exact : length (offsets (grantFor b c .addresses)) ≡ grantFor b c .number
   -- "the reply is an ACK whose Ranges name just these k addresses"
   pub reply : a .reply ≡ leaseAckOf (headOf (stateAt b c) (saysOf b c)) (termsFor b c)
+  -- (option 10 of that reply is the octets of these ranges, each from the scope's lowest address on; a sound pool never wraps)
   pub ranges : namedBy (runs (offsets (grantFor b c .addresses))) ≡ offsets (grantFor b c .addresses)
   -- "the book afterwards has every other live lease unchanged": settings and clock, the other tenants' leases, and the tenant's own, among
   -- which the new lease now stands

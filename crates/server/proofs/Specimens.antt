@@ -1,4 +1,4 @@
--- Document 01's specimens P1 to P12 and those of skew, on whole datagrams, whole replies and the book afterwards, by computation: one table of
+-- Document 01's specimens P1 to P12, those of skew and a few more, on whole datagrams, whole replies and the book afterwards, by computation: one table of
 -- cases, one theorem.
 use mathlib.Core.Path.{_≡_, refl}
 use mathlib.Core.List.{List, [], _∷_, _++_}
@@ -190,6 +190,15 @@ requestAt high low = request 1 0x41 1 4 (option 11 (seconds high low))
 renewAt : ℕ → ℕ → List ℕ
 renewAt high low = header 4 12 ++ identifier 0x41 ++ option 11 (seconds high low) ++ end
 
+-- a DISCOVER as P1's REQUEST, with a least and a desired number, and the OFFER that it draws
+discover : ℕ → ℕ → List ℕ
+discover least desired = header 1 1 ++ identifier 0x41 ++ scope ++ option 7 (0 ∷ least ∷ 0 ∷ desired ∷ []) ++ end
+
+offer : List ℕ
+offer =
+    header 2 1 ++ option 1 (seconds 0x0E 0x10) ++ server ++ identifier 0x41 ++ scope ++ option 6 (seconds 0x03 0xE8) ++ option 10 (0xEF ∷ 0xC0 ∷ 0 ∷ 0 ∷ 0 ∷ 2 ∷ [])
+    ++ option 11 (seconds 0x03 0xE8) ++ end
+
 table : List Case
 table =
     -- P1: .0 and .1; P2: error 0
@@ -219,8 +228,17 @@ table =
     ∷ answers [] (house2 1000 (requestAt 0x0A 0xF1)) (nak 1 0x41 2) []
     ∷ answers (p1 ∷ []) (house2 2800 (renewAt 0x03 0xE8)) (ackAt (seconds 0x0A 0xF0) 12 0x41 (seconds 0x0E 0x10) (seconds 0x0A 0xF0) 0 2) (lease 2 0x41 4 12 2800 6400 3)
     ∷ answers (p1 ∷ []) (house2 2800 (renewAt 0x03 0xE7)) (nak 12 0x41 2) lease1
+    -- a Resend: P1 again, at a later time, draws the ACK with the lease as it is; DISCOVER as P1 draws the OFFER, and the book is as it was
+    ∷ answers (p1 ∷ []) (house2 2000 (request 1 0x41 1 4 [])) (ackAt (seconds 0x07 0xD0) 1 0x41 (seconds 0x0E 0x10) (seconds 0x03 0xE8) 0 2) lease1
+    ∷ answers [] (house2 1000 (discover 1 4)) offer []
+    -- discards: a room of 511 octets, at a later time, changes nothing; a stranger; a required feature; another server; a DISCOVER that draws an error
+    ∷ record { before = p1 ∷ []; last = record { datagram = getinfo; client = 0x0A000105; time = 9000; room = 511 }; outcome = 2; reply = []; clock = 1000; leases = lease1 }
+    ∷ discards (call 0x0A000305 1000 getinfo) 3
+    ∷ discards (house1 1000 (header 8 9 ++ identifier 0x50 ++ option 12 (0 ∷ 0 ∷ 0 ∷ 0 ∷ 0 ∷ 1 ∷ 0 ∷ 7 ∷ []) ++ end)) 6
+    ∷ discards (house2 1000 (request 1 0x41 1 4 (option 2 (0 ∷ 1 ∷ 0x0A ∷ 1 ∷ 1 ∷ 2 ∷ [])))) 7
+    ∷ discards (house2 1000 (discover 3 4)) 8
     ∷ []
 
 specimens : allBy holds table ≡ true
-unfolding book option seconds header identifier scope server end request ackAt ack nak call house1 house2 run p1 p3 p5 row rows allRows lease lease1 lease3 lease5 same holds answers discards getinfo infoAck p12 p12Reply requestAt renewAt table pick allBy pairsBy allTo filterBy isIn placeBy sumTo largest at16 at32 orderOf sameOf bit offsetsFrom setOf differenceOf upTo joined runs lengthOk allowedIn allows layoutOk exactlyFilled valueOk taken stepOf walkFrom walkOf headerOk requiredEmpty noneRequired ended readOf foundAt namesServer codesFrom allowedAt timesOf fieldsOf optionsOctets messageOctets rangesOctets scopesOctets offerOf leaseAckOf releaseAckOf infoAckOf nakOf laidOut tableOf ordered insertOf removeOf renewTo replaceOf liveOf raised dropped advanced unionAll addressesOf overlaps usedIn few sizeB idB recordsB countsB rule1 belowB offsetsB rule2 rangeB rangesApart rule3 poolB poolsApart rule4 ttlB rule5 shareB sharesB rule6 kindB periodB leaseB noneB housesB rule7 differ rule8 disjoint apart rule9 calm rule10 limitB limitsB rule11 load loadB rule12 zeroFrom paddedB blankB unusedB layoutB rangeZero tailB scopeZero settingsB rule13 rulesOf firstLate firstBroken brokenOf soundB takenOf busyIn pressureWith allowed grantOf suffices isNew hasPeriod holdsOf recordedOf resends scopePlace knowsScope lacksScope zeroLength badCounts lacksCurrent error1Of farOf error2Of error3Of wishedOr startOf lengthOf endOf askAt fitsNew newWith newAt newOf othersBusy fitsRenewed renewedTo renewedOf proposalOf error0Of leaseFrom withLease plainReply nakWith discardWith refusalOf leasedOf plainOf settledOf judgedOf decideOf replyOf forServer withReading hasClient tenantOf atClock serveOf
+unfolding book option seconds header identifier scope server end request ackAt ack nak call house1 house2 run p1 p3 p5 row rows allRows lease lease1 lease3 lease5 same holds answers discards getinfo infoAck p12 p12Reply requestAt renewAt discover offer table pick allBy pairsBy allTo filterBy isIn placeBy sumTo largest at16 at32 orderOf sameOf bit offsetsFrom setOf differenceOf upTo joined runs lengthOk allowedIn allows layoutOk exactlyFilled valueOk taken stepOf walkFrom walkOf headerOk requiredEmpty noneRequired ended readOf foundAt namesServer codesFrom allowedAt timesOf fieldsOf optionsOctets messageOctets rangesOctets scopesOctets offerOf leaseAckOf releaseAckOf infoAckOf nakOf laidOut tableOf ordered insertOf removeOf renewTo replaceOf liveOf raised dropped advanced unionAll addressesOf overlaps usedIn few sizeB idB recordsB countsB rule1 belowB offsetsB rule2 rangeB rangesApart rule3 poolB poolsApart rule4 ttlB rule5 shareB sharesB rule6 kindB periodB leaseB noneB housesB rule7 differ rule8 disjoint apart rule9 calm rule10 limitB limitsB rule11 load loadB rule12 zeroFrom paddedB blankB unusedB layoutB rangeZero tailB scopeZero settingsB rule13 rulesOf firstLate firstBroken brokenOf soundB takenOf busyIn pressureWith allowed grantOf suffices isNew hasPeriod holdsOf recordedOf resends scopePlace knowsScope lacksScope zeroLength badCounts lacksCurrent error1Of farOf error2Of error3Of wishedOr startOf lengthOf endOf askAt fitsNew newWith newAt newOf othersBusy fitsRenewed renewedTo renewedOf proposalOf error0Of leaseFrom withLease plainReply nakWith discardWith refusalOf leasedOf plainOf settledOf judgedOf decideOf replyOf forServer withReading hasClient tenantOf atClock serveOf
 specimens = refl

@@ -29,7 +29,8 @@ use Rattle.allocation.specs.Rule.{grantOf, suffices, unusedReserve}
 use Rattle.allocation.specs.Granted.{grant-exists, guaranteed}
 use Rattle.decision.specs.declared.Decided.{Decided}
 use Rattle.decision.specs.declared.Reply.the-variants.{LeaseAck}
-use Rattle.decision.specs.Parts.{askAt, badCounts, error0Of, error1Of, error2Of, error3Of, fitsNew, hasPeriod, holdsOf, isNew, knowsScope, lacksCurrent, lacksScope, leaseFrom, lengthOf, newAt, newOf, newWith, ownOf, proposalOf, recordedOf, resends, scopePlace, startOf, withLease, zeroLength}
+use Rattle.decision.specs.Kept.{Passed, passed}
+use Rattle.decision.specs.Parts.{askAt, badCounts, error0Of, error1Of, error2Of, error3Of, fitsNew, hasPeriod, holdsOf, isNew, knowsScope, leaseFrom, lengthOf, newAt, newOf, newWith, ownOf, proposalOf, recordedOf, resends, scopePlace, startOf, withLease}
 use Rattle.decision.specs.Decide.{changed, decideOf, judgedOf, leasedOf, settledOf}
 use Rattle.server.specs.Serve.{Answer, Call, answered, atClock, forServer, headOf, replyOf, serveOf, withReading}
 use Rattle.guarantee.specs.Statement.{Demand3, Granted, NewRequest, SoundBook, grantFor, leaseFor, namedBy, onwards, run, saysOf, stateAt, tableAt, tenantFor}
@@ -41,9 +42,9 @@ taken : {A : Type 0} (t : Bool) (x y : A) → t ≡ true → pick t x y ≡ x
 unfolding pick
 taken t x y e = ap (λ (b : Bool). pick b x y) e
 
-passed : {A : Type 0} (t : Bool) (x y : A) → t ≡ false → pick t x y ≡ y
+not-taken : {A : Type 0} (t : Bool) (x y : A) → t ≡ false → pick t x y ≡ y
 unfolding pick
-passed t x y e = ap (λ (b : Bool). pick b x y) e
+not-taken t x y e = ap (λ (b : Bool). pick b x y) e
 
 no : {A : Type 0} → true ≡ false → A
 no e = let z : _≡_ {A = ℕ} 0 1 = cc in absurd (omega arith)
@@ -51,11 +52,6 @@ no e = let z : _≡_ {A = ℕ} 0 1 = cc in absurd (omega arith)
 or-none : (a b : Bool) → (a || b) ≡ false → (a ≡ false) × (b ≡ false)
 or-none true b e = no e
 or-none false b e = (refl, e)
-
-and-not-none : (a b : Bool) → a ≡ true → (a && not b) ≡ false → b ≡ true
-and-not-none true true p e = refl
-and-not-none true false p e = no e
-and-not-none false b p e = no (sym p)
 
 none-or : {a b : Bool} → a ≡ false → b ≡ false → (a || b) ≡ false
 none-or {a} {b} p q = ap (λ (x : Bool). x || b) p ∙ q
@@ -68,31 +64,24 @@ module _ (s : State) (t : LeaseTable) (h : ℕ) (m : Fields) (v : Sound s (lease
   is-new = ap (λ (x : ℕ). eqb x 1 || eqb x 3) request
 
   -- what error 1 leaves: the scope is ours, least is not 0 and at most desired, and the identifier is not held
-  parts : (lacksScope s m ≡ false) × ((badCounts m ≡ false) × (holdsOf (ownOf t h) m ≡ false))
-  unfolding error1Of
-  parts =
-      let a = or-none (not (m .allowed)) _ error1 in
-      let b = or-none (lacksScope s m) _ (a .1) in
-      let c = or-none (zeroLength m) _ (b .1) in
-      let d = or-none (badCounts m) _ (c .1) in
-      let e = or-none (lacksCurrent m) (isNew m && holdsOf (ownOf t h) m) (d .1) in
-      (b .0, (d .0, sym (ap (λ (b : Bool). b && holdsOf (ownOf t h) m) is-new) ∙ e .1))
+  left : Passed s m (holdsOf (ownOf t h) m)
+  left = passed s m (holdsOf (ownOf t h) m) error1
 
   pub here : scopePlace s (m .scope .value) < scopesIn s
-  unfolding lacksScope knowsScope
+  unfolding knowsScope
   here =
       ltb-true (scopePlace s (m .scope .value)) (scopesIn s)
-      (and-parts (m .scope .there) (ltb (scopePlace s (m .scope .value)) (scopesIn s)) (and-not-none (isNew m) (knowsScope s m) is-new (parts .0)) .1)
+      (and-parts (m .scope .there) (ltb (scopePlace s (m .scope .value)) (scopesIn s)) (left .scope is-new) .1)
 
   counts : (0 < m .counts .least) × (m .counts .least ≤ m .counts .desired)
   unfolding badCounts
   counts =
-      let p = or-none (eqb (m .counts .least) 0) (ltb (m .counts .desired) (m .counts .least)) (parts .1 .0) in
+      let p = or-none (eqb (m .counts .least) 0) (ltb (m .counts .desired) (m .counts .least)) (left .counts) in
       let q = eqb-false (m .counts .least) 0 (p .0) in
       (omega arith, ltb-false (m .counts .desired) (m .counts .least) (p .1))
 
   pub not-held : holdsOf (ownOf t h) m ≡ false
-  not-held = parts .1 .1
+  not-held = left .new is-new
 
   -- what is asked for
   abbrev A : Ask
@@ -189,15 +178,15 @@ module _ (s : State) (t : LeaseTable) (h : ℕ) (m : Fields) (v : Sound s (lease
     pub decided : decideOf s t h m ≡ changed t h (insertOf L (ownOf t h)) (withLease LeaseAck L)
     unfolding decideOf judgedOf settledOf leasedOf
     decided =
-        passed (resends m (recordedOf (ownOf t h) m)) _ _ new
-        ∙ passed (error1Of s m (holdsOf (ownOf t h) m)) _ _ error1
-        ∙ passed (error2Of s m) _ _ error2
-        ∙ passed (error3Of m (holdsOf (ownOf t h) m)) _ _ no-error3
+        not-taken (resends m (recordedOf (ownOf t h) m)) _ _ new
+        ∙ not-taken (error1Of s m (holdsOf (ownOf t h) m)) _ _ error1
+        ∙ not-taken (error2Of s m) _ _ error2
+        ∙ not-taken (error3Of m (holdsOf (ownOf t h) m)) _ _ no-error3
         ∙ taken (hasPeriod m) _ _ has-period
         ∙ ap (settledOf s t h m) proposal-is
-        ∙ passed (error0Of s (newOf s t h m)) _ _ no-error
+        ∙ not-taken (error0Of s (newOf s t h m)) _ _ no-error
         ∙ ap (leasedOf t h m) recorded
-        ∙ passed (eqb (m .kind) 1) _ _ (ap (λ (k : ℕ). eqb k 1) request)
+        ∙ not-taken (eqb (m .kind) 1) _ _ (ap (λ (k : ℕ). eqb k 1) request)
         ∙ taken (eqb (m .kind) 3) _ _ (ap (λ (k : ℕ). eqb k 3) request)
 
     pub acknowledged : replyOf s m (withLease LeaseAck L) ≡ leaseAckOf (headOf s m) (record {
@@ -243,10 +232,10 @@ module _ (b : Book) (c : Call) (v : SoundBook b) (r : NewRequest b c) where
   unfolding serveOf atClock withReading forServer
   served =
       taken (soundB (b .state) (b .table)) _ _ (v .sound)
-      ∙ passed (ltb (c .room) 512) _ _ (le-ltb (c .room) 512 (r .room))
+      ∙ not-taken (ltb (c .room) 512) _ _ (le-ltb (c .room) 512 (r .room))
       ∙ taken (ltb (tenantFor b c) (tenantsIn (stateAt b c))) _ _ (lt-ltb (tenantFor b c) (tenantsIn (stateAt b c)) (r .house))
       ∙ taken (eqb (readOf (c .datagram) .discard) 0) _ _ (eq-eqb (readOf (c .datagram) .discard) 0 (r .read))
-      ∙ passed (eqb (saysOf b c .kind) 3 && not (saysOf b c .ours)) _ _ (ap₂ (λ (k : ℕ) (o : Bool). eqb k 3 && not o) (r .request) (r .ours))
+      ∙ not-taken (eqb (saysOf b c .kind) 3 && not (saysOf b c .ours)) _ _ (ap₂ (λ (k : ℕ) (o : Bool). eqb k 3 && not o) (r .request) (r .ours))
       ∙ ap (answered (stateAt b c) (saysOf b c))
       (decided (stateAt b c) (tableAt b c) (tenantFor b c) (saysOf b c) S (r .house) (r .request) (r .new) (r .error1) (r .error2) (r .soon) (r .fits) (r .left) (r .least))
 

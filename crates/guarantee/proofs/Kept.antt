@@ -1,98 +1,39 @@
 -- Any list of calls keeps a sound book sound: a call raises the clock and drops ended leases, and a decision keeps the leases sound.
-use Prim.Native.Nat.{ℕ, zero, suc, _+_, _-_, _≤_, _<_}
+use Prim.Native.Nat.{ℕ, _≤_, _<_}
 use mathlib.Core.Path.{_≡_, refl, sym, ap, _∙_}
 use mathlib.Core.Bool.{Bool, true, false, _&&_}
-use mathlib.Core.List.{List, [], _∷_, _++_, map}
+use mathlib.Core.List.{List, [], _∷_, map}
 use native.Mathlib.Omega.{arith}
 use lib.Dec.{ltb, leb, eqb}
-use lib.ListN.{length, getD, take, drop, replicate, length-map, length-set}
-use borrow.Author.Tests.{eqb-true, eqb-false, ne-eqb, ltb-true, leb-true}
+use lib.ListN.{length, length-map, length-set}
+use borrow.Author.Tests.{eqb-true, ltb-true, leb-true}
 use Rattle.lists.specs.Pick.{pick}
-use Rattle.lists.specs.All.{allBy, all-cons}
+use Rattle.lists.specs.All.{allBy}
 use Rattle.lists.specs.Both.{and-parts}
-use Rattle.lists.specs.Filter.{isIn}
 use Rattle.message.specs.declared.Fields.{Fields}
 use Rattle.message.specs.declared.Found.the-variants.{At, Absent}
 use Rattle.message.specs.declared.Identifier.{Identifier}
 use Rattle.message.specs.declared.Reading.{Reading}
 use Rattle.message.specs.declared.Stage.{Stage}
 use Rattle.message.specs.declared.Stage.the-variants.{Walking, Done, Broken}
-use Rattle.message.specs.Codes.{lengthOk}
-use Rattle.message.specs.Placed.{Placed, pick-cases, placed, read-good}
-use Rattle.message.specs.Read.{byStage, ended, headerOk, noneRequired, readOf}
-use Rattle.message.specs.Read as read
-use Rattle.message.specs.Values.{fieldsOf, findOf, foundAt, identifierAt, identifierOf}
-use Rattle.message.specs.Walk.{codeAt, exactlyFilled, lengthAt, afterAt, valueOk, walkOf}
+use Rattle.message.specs.Placed.{pick-cases}
+use Rattle.message.specs.Read.{ended, readOf}
 use Rattle.state.specs.declared.Book.{Book}
 use Rattle.state.specs.declared.Lease.{Lease}
 use Rattle.state.specs.declared.LeaseTable.{LeaseTable}
 use Rattle.state.specs.declared.State.{State}
 use Rattle.state.specs.Book.{advanced, dropped, inUse, laidOut, leasesOf, liveOf, scopesOf, tableOf}
 use Rattle.state.specs.Layout.{table-back}
-use Rattle.soundness.specs.Sound.{few, countsB, rule3, rule4, rule5, rule6, settingsB, sizeB, soundB, tenantsIn, zeroFrom}
+use Rattle.soundness.specs.Sound.{few, countsB, rule3, rule4, rule5, rule6, settingsB, sizeB, soundB, tenantsIn}
 use Rattle.soundness.specs.Book.{Sound, settingsOk, sound-lists}
 use Rattle.soundness.specs.Kept.{advanced-sound}
 use Rattle.decision.specs.declared.Decided.{Decided}
 use Rattle.decision.specs.Parts.{updated}
 use Rattle.decision.specs.Decide.{decideOf, judgedOf, leasedOf, plainOf, settledOf}
 use Rattle.decision.specs.Kept.{GoodId, decision-sound}
+use Rattle.decision.specs.Reads.{read-id}
 use Rattle.server.specs.Serve.{Answer, Call, answered, atClock, forServer, serveOf, tenantOf, withReading}
 use Rattle.guarantee.specs.Statement.{SoundBook, WithinLimits, bookAt, run}
-
--- ---- a message that was read has an identifier of 2 to 32 octets, with zeros behind them
-zeros : (k : ℕ) → allBy (λ x. eqb x 0) (replicate k 0) ≡ true
-unfolding allBy
-zeros zero = refl
-zeros (suc k) = all-cons (λ x. eqb x 0) 0 (replicate k 0) refl (zeros k)
-
-drop-zeros : (n k : ℕ) → allBy (λ x. eqb x 0) (drop n (replicate k 0)) ≡ true
-unfolding allBy
-drop-zeros zero k = zeros k
-drop-zeros (suc n) zero = refl
-drop-zeros (suc n) (suc k) = drop-zeros n k
-
-padded-zero : (n k : ℕ) (v : List ℕ) → allBy (λ x. eqb x 0) (drop n (take n v ++ replicate k 0)) ≡ true
-padded-zero zero k v = zeros k
-padded-zero (suc n) k [] = drop-zeros (suc n) k
-padded-zero (suc n) k (x ∷ v) = padded-zero n k v
-
--- option 3 was found
-has-identifier : (s : List ℕ) → readOf s .discard ≡ 0 → getD (readOf s .message .places) 3 0 ≡ 0 → ⊥
-unfolding readOf ended
-has-identifier s = pick-cases P (headerOk s) _ _ (λ _. at-stage (walkOf s .stage)) (λ _ e. absurd (omega arith))
-  where
-    P : Reading → Type 0
-    P r = r .discard ≡ 0 → getD (r .message .places) 3 0 ≡ 0 → ⊥
-
-    at-stage : (g : Stage) → P (byStage g (ended s (walkOf s .places)) (read.discarded 5 (walkOf s .at)))
-    at-stage Walking = λ e. absurd (omega arith)
-    at-stage Done =
-        pick-cases P (eqb (getD (walkOf s .places) 3 0) 0) _ _ (λ _ e. absurd (omega arith)) (λ q.
-        pick-cases P (noneRequired s (walkOf s .places)) _ _ (λ _ e. eqb-false (getD (walkOf s .places) 3 0) 0 q) (λ _ e. absurd (omega arith)))
-    at-stage Broken = λ e. absurd (omega arith)
-
-right-length : (s : List ℕ) (at : ℕ) → Placed s 3 at → (leb 2 (lengthAt s at) && leb (lengthAt s at) 32) ≡ true
-unfolding valueOk lengthOk isIn pick
-right-length s at p =
-    sym (ap (λ (code : ℕ). lengthOk code (lengthAt s at)) (p .named))
-    ∙ and-parts (lengthOk (codeAt s at) (lengthAt s at)) (pick (eqb (codeAt s at) 12) (exactlyFilled s (at + 4) (afterAt s at)) true) (p .right) .0
-
-read-id : (s : List ℕ) (server : ℕ) → readOf s .discard ≡ 0 → GoodId (fieldsOf s server (readOf s .message))
-unfolding fieldsOf foundAt pick zeroFrom
-read-id s server e = record {
-  long =
-      ap (λ (i : Identifier). leb 2 (i .len) && leb (i .len) 32) same
-      ∙ right-length s place (placed s (readOf s .message .places) 3 (read-good s) (has-identifier s e));
-  padded =
-      ap (λ (i : Identifier). allBy (λ x. eqb x 0) (drop (i .len) (i .octets))) same ∙ padded-zero (lengthAt s place) (32 - lengthAt s place) (drop (place + 4) s);
-}
-  where
-    place : ℕ
-    place = getD (readOf s .message .places) 3 0
-
-    same : identifierOf s (findOf (readOf s .message .places) 3) ≡ identifierAt s place
-    same =
-        ap (λ (b : Bool). identifierOf s (pick b Absent (At place))) (ne-eqb place 0 (has-identifier s e))
 
 -- ---- the records stay eight tenants'
 module _ (t : LeaseTable) where

@@ -6,14 +6,16 @@ mod settings;
 mod tenants;
 
 ghost use mathlib.Core.Path.{_≡_};
-ghost use Rattle.soundness.specs.Sound.{rulesOf, firstLate, firstBroken, brokenOf, soundB};
+ghost use Rattle.soundness.specs.Sound.{rulesOf, firstLate, firstBroken, brokenOf, soundB, unusedB};
 ghost use Rattle.soundness.specs.Parts.{tableRulesOf, joinedRules};
 use crate::holdings::held_sets;
 use crate::holdings::holding_rules;
 use crate::numbers::both;
 use crate::settings::settings_rules;
 use crate::tenants::and_tenants;
+use crate::tenants::is_unused;
 use crate::tenants::tenant_rules;
+use state::Lease;
 use state::LeaseTable;
 use state::State;
 
@@ -227,4 +229,11 @@ pub fn sound(s: State, table: LeaseTable) -> bool
     ensures { λ r. ⌜ r ≡ soundB s table ⌝ }
 {
     broken(s, table) == 0
+}
+
+// Whether a record is all zero, as an unused one has to be.
+pub fn unused_record(l: Lease) -> bool
+    ensures { λ r. ⌜ r ≡ unusedB l ⌝ }
+{
+    is_unused(l)
 }

@@ -29,7 +29,7 @@ fn is_blank(l: Lease) -> bool
     false
 }
 
-fn is_unused(l: Lease) -> bool
+pub fn is_unused(l: Lease) -> bool
     ensures { λ r. ⌜ r ≡ unusedB l ⌝ }
 {
     if is_blank(l) {

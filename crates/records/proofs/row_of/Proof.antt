@@ -1,0 +1,10 @@
+use Rattle.lists.specs.Part.{unmapped}
+use borrow.Author.Needs.{needs}
+use Rattle.records.proofs.row_of.Statement.{statement}
+use Rattle.records.proofs.row_of.Tie as tie
+
+returns : tie.Need-returns
+returns c = search (unmapped, needs)
+
+pub row-of-spec : {M : Type 1} → statement M
+row-of-spec = tie.close (tie.spec returns)

@@ -1,0 +1,143 @@
+-- The entry points on a lent state and lent lease records (document 01, "How it is to be built"): what each answers, and the state and the
+-- records afterwards. A slice has "always 128" records; "another number makes the book unsound (1, 21 or 22)".
+use Prim.Native.Nat.{ℕ}
+use mathlib.Core.Path.{_≡_}
+use mathlib.Core.Bool.{Bool}
+use mathlib.Core.List.{List, [], _++_}
+use lib.Dec.{eqb, ltb}
+use lib.ListN.{drop, length}
+use Rattle.lists.specs.Pick.{pick}
+use Rattle.state.specs.declared.Book.{Book}
+use Rattle.state.specs.declared.Lease.{Lease}
+use Rattle.state.specs.declared.LeaseTable.{LeaseTable}
+use Rattle.state.specs.declared.State.{State}
+use Rattle.state.specs.Book.{inUse, insertOf, laidOut, placeOf, putAt, removeOf, tenantAt}
+use Rattle.server.specs.Serve.{Answer, Call, serveOf}
+use Rattle.state_file.specs.declared.Loaded.{Loaded}
+use Rattle.state_file.specs.declared.Written.{Written}
+use Rattle.state_file.specs.StateFile.{readOf, roomAfter, writtenOf}
+use Rattle.records.specs.declared.Outcome.{Outcome}
+use Rattle.records.specs.declared.ReadRecords.{ReadRecords}
+use Rattle.records.specs.declared.ServedRecords.{ServedRecords}
+use Rattle.records.specs.Records.{recordsOf, tableFrom}
+
+-- whether there are 128
+unfoldable pub whole : ℕ → Bool
+whole n = eqb n 128
+
+-- the book that a lent state and lent records are
+abbrev pub bookFrom : State → List Lease → Book
+bookFrom s ls = record { state = s; table = tableFrom ls }
+
+-- ---- the call
+pub record LentAnswer : Type 0 where
+  pub outcome : ℕ
+  pub reply : List ℕ
+  pub state : State
+  pub leases : List Lease
+
+-- an answer with its book as state and records
+abbrev pub lentAnswer : Answer → LentAnswer
+lentAnswer a = record { outcome = a .outcome; reply = a .reply; state = a .book .state; leases = recordsOf (a .book .table) }
+
+-- on records of a slice that has n; discard 1 changes nothing
+unfoldable pub serveWith : ℕ → State → List Lease → Call → LentAnswer
+serveWith n s ls c = pick (whole n) (lentAnswer (serveOf (bookFrom s ls) c)) (record { outcome = 1; reply = []; state = s; leases = ls })
+
+abbrev pub serveLent : State → List Lease → Call → LentAnswer
+serveLent s ls c = serveWith (length ls) s ls c
+
+-- what a function on 128 records by value promises: outcome, length, clock, records, and every octet of the reply buffer
+pub record ServesRecords (a : LentAnswer) (before after : List ℕ) (r : ServedRecords) : Type 0 where
+  pub outcome : r .outcome ≡ a .outcome
+  pub size : r .length ≡ length (a .reply)
+  pub clock : r .clock ≡ a .state .clock
+  pub leases : r .records .leases ≡ a .leases
+  pub buffer : after ≡ a .reply ++ drop (length (a .reply)) before
+  pub long : length (r .records .leases) ≡ 128
+
+-- what the call promises: outcome and length, the state, every lease record and every octet of the reply buffer
+pub record ServesLent (a : LentAnswer) (s : State) (ls : List Lease) (before after : List ℕ) (r : Outcome) : Type 0 where
+  pub outcome : r .outcome ≡ a .outcome
+  pub size : r .length ≡ length (a .reply)
+  pub state : s ≡ a .state
+  pub leases : ls ≡ a .leases
+  pub buffer : after ≡ a .reply ++ drop (length (a .reply)) before
+
+-- ---- the reader
+pub record LentReading : Type 0 where
+  pub refusal : ℕ
+  pub state : State
+  pub leases : List Lease
+
+-- "either .. leaves the lent records untouched"
+abbrev pub untouched : ℕ → State → List Lease → LentReading
+untouched n s ls = record { refusal = n; state = s; leases = ls }
+
+-- the form is tested before the number of records
+unfoldable pub readWith : ℕ → Loaded → State → List Lease → LentReading
+readWith n r s ls =
+    pick (eqb (r .refusal) 0)
+    (pick (whole n) (record { refusal = 0; state = r .state; leases = recordsOf (r .table) }) (untouched 21 s ls))
+    (untouched (r .refusal) s ls)
+
+abbrev pub readLent : List ℕ → State → List Lease → LentReading
+readLent f s ls = readWith (length ls) (readOf f) s ls
+
+-- what a function on 128 records by value promises
+pub record Reads (a : LentReading) (r : ReadRecords) : Type 0 where
+  pub refusal : r .refusal ≡ a .refusal
+  pub state : r .state ≡ a .state
+  pub leases : r .records .leases ≡ a .leases
+  pub long : length (r .records .leases) ≡ 128
+
+-- what the reader promises: the refusal, the state and every lease record
+pub record ReadsLent (a : LentReading) (s : State) (ls : List Lease) (r : ℕ) : Type 0 where
+  pub refusal : r ≡ a .refusal
+  pub state : s ≡ a .state
+  pub leases : ls ≡ a .leases
+
+-- ---- the writer
+-- 22 before 23
+unfoldable pub writtenWith : ℕ → State → List Lease → ℕ → Written
+writtenWith n s ls room = pick (whole n) (writtenOf s (tableFrom ls) room) (record { refusal = 22; length = 0 })
+
+unfoldable pub roomWith : ℕ → State → List Lease → List ℕ → List ℕ
+roomWith n s ls room = pick (whole n) (roomAfter s (tableFrom ls) room) room
+
+abbrev pub writtenLent : State → List Lease → ℕ → Written
+writtenLent s ls room = writtenWith (length ls) s ls room
+
+abbrev pub roomLent : State → List Lease → List ℕ → List ℕ
+roomLent s ls room = roomWith (length ls) s ls room
+
+-- ---- one record
+-- the leases of tenant h, counted from 0
+abbrev pub ownIn : LeaseTable → ℕ → List Lease
+ownIn t h = inUse (tenantAt t h)
+
+-- the tenant's leases become p
+abbrev pub withOwn : LeaseTable → ℕ → List Lease → List Lease
+withOwn t h p = recordsOf (putAt t h (laidOut p))
+
+-- the place of an identifier among the records of a tenant; the number of its leases where it has none
+unfoldable pub findWith : ℕ → ℕ → List ℕ → List Lease → ℕ
+findWith n h i ls = pick (whole n) (placeOf i (ownIn (tableFrom ls) h)) 0
+
+-- one lease more, in its place; a tenant whose sixteen records are used, and no tenant, keep what they have
+unfoldable pub insertWith : ℕ → ℕ → Lease → List Lease → List Lease
+insertWith n h l ls =
+    pick (whole n) (pick (ltb h 8) (pick (ltb (length (ownIn (tableFrom ls) h)) 16) (withOwn (tableFrom ls) h (insertOf l (ownIn (tableFrom ls) h))) ls) ls) ls
+
+-- the lease of an identifier goes, and those after it move up
+unfoldable pub removeWith : ℕ → ℕ → List ℕ → List Lease → List Lease
+removeWith n h i ls = pick (whole n) (pick (ltb h 8) (withOwn (tableFrom ls) h (removeOf i (ownIn (tableFrom ls) h))) ls) ls
+
+abbrev pub findLent : ℕ → List ℕ → List Lease → ℕ
+findLent h i ls = findWith (length ls) h i ls
+
+abbrev pub insertLent : ℕ → Lease → List Lease → List Lease
+insertLent h l ls = insertWith (length ls) h l ls
+
+abbrev pub removeLent : ℕ → List ℕ → List Lease → List Lease
+removeLent h i ls = removeWith (length ls) h i ls

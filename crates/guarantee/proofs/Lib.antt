@@ -1,5 +1,5 @@
 pub mod Discards
-mod Kept
+pub mod Kept
 mod Inserted
 pub mod Granted
 mod Specimens

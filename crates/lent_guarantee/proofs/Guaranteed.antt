@@ -1,0 +1,112 @@
+-- The guarantee carries over to the lent state and records, by `same`.
+use Prim.Native.Nat.{ℕ, _≤_}
+use mathlib.Core.Path.{_≡_, refl, sym, ap, _∙_, subst}
+use mathlib.Core.Bool.{Bool, true, false}
+use mathlib.Core.List.{List, [], _∷_}
+use native.Mathlib.Omega.{arith}
+use lib.Dec.{eqb}
+use lib.ListN.{length}
+use borrow.Author.Tests.{eqb-true, eqb-false}
+use Rattle.state.specs.declared.Book.{Book}
+use Rattle.state.specs.declared.Lease.{Lease}
+use Rattle.state.specs.declared.State.{State}
+use Rattle.soundness.specs.Sound.{soundB}
+use Rattle.server.specs.Serve.{Answer, Call, serveOf}
+use Rattle.guarantee.specs.Statement.{Answered, Demand3, Granted, NewRequest, run, WithinLimits}
+use Rattle.guarantee.proofs.Discards.{call-answered}
+use Rattle.guarantee.proofs.Granted.{demand3}
+use Rattle.guarantee.proofs.Kept.{call-sound}
+use Rattle.records.specs.Records.{recordsOf, tableFrom}
+use Rattle.records.specs.Lent.{bookFrom, lentAnswer, LentAnswer, serveLent, serveWith, whole}
+use Rattle.records.specs.Steps.{off-whole}
+use Rattle.lent_guarantee.specs.Statement.{answerOf, bookOf, Lent, LentAnswered, LentDemand1, LentDemand3, runLent, SoundLent}
+use Rattle.lent_guarantee.proofs.Same.{at-whole, kept-back, same, sound-book, still-whole}
+
+-- ---- the list of calls
+next : Lent → Call → Lent
+next l c = record { state = serveLent (l .state) (l .leases) c .state; leases = serveLent (l .state) (l .leases) c .leases }
+
+next-book : (l : Lent) (c : Call) → SoundLent l → bookOf (next l c) ≡ serveOf (bookOf l) c .book
+unfolding next
+next-book l c v = ap (λ (a : Answer). a .book) (same (l .state) (l .leases) c (v .whole))
+
+next-sound : (l : Lent) (c : Call) → SoundLent l → SoundLent (next l c)
+unfolding next
+next-sound l c v = record {
+  whole = still-whole (l .state) (l .leases) c (v .whole);
+  sound = ap (λ (b : Book). soundB (b .state) (b .table)) (next-book l c v) ∙ call-sound (bookOf l) c (sound-book (l .state) (l .leases) c (v .whole) (v .sound)) .sound;
+}
+
+run-lent : (l : Lent) (cs : List Call) → SoundLent l → SoundLent (runLent l cs) × (bookOf (runLent l cs) ≡ run (bookOf l) cs)
+unfolding runLent run next
+run-lent l [] v = (v, refl)
+run-lent l (c ∷ cs) v =
+    let r = run-lent (next l c) cs (next-sound l c v) in
+    (r .0, r .1 ∙ ap (λ (b : Book). run b cs) (next-book l c v))
+
+-- ---- demand 3
+pub lent-demand3 : LentDemand3
+unfolding LentDemand3 Demand3
+lent-demand3 l v cs =
+    let r = run-lent l cs v in
+    let d = demand3 (bookOf l) (sound-book (l .state) (l .leases) (record { datagram = []; client = 0; time = 0; room = 0 }) (v .whole) (v .sound)) cs in
+    let e : run (bookOf l) cs ≡ bookOf (runLent l cs) = sym (r .1) in (
+      r .0,
+      (
+        subst WithinLimits e (d .1 .0),
+        λ c n. subst (λ (a : Answer). Granted (bookOf (runLent l cs)) c a) (sym (same (runLent l cs .state) (runLent l cs .leases) c (r .0 .whole)))
+            (subst (λ (b : Book). (m : NewRequest b c) → Granted b c (serveOf b c)) e (d .1 .1 c) n),
+      ),
+    )
+
+-- ---- demand 1
+module _ (s : State) (ls : List Lease) (c : Call) where
+  out : (length ls ≡ 128 → ⊥) → serveLent s ls c ≡ record { outcome = 1; reply = []; state = s; leases = ls }
+  unfolding serveWith
+  out e = sym (off-whole (lentAnswer (serveOf (bookFrom s ls) c)) (record { outcome = 1; reply = []; state = s; leases = ls }) e)
+
+  other-answered : (length ls ≡ 128 → ⊥) → LentAnswered s ls c (record { outcome = 1; reply = []; state = s; leases = ls })
+  other-answered e = record {
+    outcome = omega arith;
+    silent = λ _. refl;
+    untouched = λ _. (refl, refl);
+    untouched-too = λ _. (refl, refl);
+    advances = λ h. absurd (omega arith);
+    other = λ _. refl;
+  }
+
+  whole-answered : length ls ≡ 128 → LentAnswered s ls c (serveLent s ls c)
+  whole-answered long = record {
+    outcome = subst (λ (a : Answer). a .outcome ≤ 8) back (v .outcome);
+    silent = λ z. ap (λ (a : Answer). a .reply) (sym back) ∙ v .silent (λ y. z (ap (λ (a : Answer). a .outcome) (sym back) ∙ y));
+    untouched = λ e. still (v .untouched (number ∙ e));
+    untouched-too = λ e. still (v .untouched-too (number ∙ e));
+    advances = λ h. ap (λ (a : Answer). a .book) (sym back) ∙ v .advances (let n = number in omega arith);
+    other = λ no. absurd (no long);
+  }
+    where
+      v : Answered (bookFrom s ls) c (serveOf (bookFrom s ls) c)
+      v = call-answered (bookFrom s ls) c
+
+      back : serveOf (bookFrom s ls) c ≡ answerOf (serveLent s ls c)
+      back = sym (same s ls c long)
+
+      number : serveOf (bookFrom s ls) c .outcome ≡ serveLent s ls c .outcome
+      number = ap (λ (a : Answer). a .outcome) back
+
+      still : serveOf (bookFrom s ls) c .book ≡ bookFrom s ls → (serveLent s ls c .state ≡ s) × (serveLent s ls c .leases ≡ ls)
+      still e = (
+        ap (λ (a : LentAnswer). a .state) (at-whole s ls c long) ∙ ap (λ (b : Book). b .state) e,
+        ap (λ (a : LentAnswer). a .leases) (at-whole s ls c long) ∙ kept-back s ls c long (serveOf (bookFrom s ls) c .book .table) (ap (λ (b : Book). b .table) e),
+      )
+
+  pub call-lent : LentAnswered s ls c (serveLent s ls c)
+  call-lent = by-number (eqb (length ls) 128) refl
+    where
+      by-number : (t : Bool) → eqb (length ls) 128 ≡ t → LentAnswered s ls c (serveLent s ls c)
+      by-number true e = whole-answered (eqb-true _ _ e)
+      by-number false e = subst (LentAnswered s ls c) (sym (out (eqb-false _ _ e))) (other-answered (eqb-false _ _ e))
+
+pub lent-demand1 : LentDemand1
+unfolding LentDemand1
+lent-demand1 s ls c = call-lent s ls c

@@ -1,0 +1,3 @@
+pub mod Same
+pub mod Guaranteed
+pub mod RoundTrip

@@ -1,0 +1,73 @@
+-- The guarantee of `guarantee`, in words that speak of the lent state and the lent lease records. `serveLent` is what `lent::serve` is proved
+-- to meet.
+use Prim.Native.Nat.{ℕ, _≤_}
+use mathlib.Core.Path.{_≡_}
+use mathlib.Core.Bool.{true}
+use mathlib.Core.List.{List, [], _∷_, _++_}
+use lib.ListN.{drop, length}
+use Rattle.state.specs.declared.Book.{Book}
+use Rattle.state.specs.declared.Lease.{Lease}
+use Rattle.state.specs.declared.State.{State}
+use Rattle.soundness.specs.Sound.{soundB}
+use Rattle.server.specs.Serve.{Answer, Call, serveOf}
+use Rattle.guarantee.specs.Statement.{bookAt, Granted, NewRequest, WithinLimits}
+use Rattle.state_file.specs.FormatLaws.{Octets}
+use Rattle.records.specs.Records.{tableFrom}
+use Rattle.records.specs.Lent.{bookFrom, LentAnswer, readLent, roomLent, serveLent, writtenLent}
+
+-- a state and records, as their caller holds them
+pub record Lent : Type 0 where
+  pub state : State
+  pub leases : List Lease
+
+abbrev pub bookOf : Lent → Book
+bookOf l = bookFrom (l .state) (l .leases)
+
+-- an answer with the book that its state and records are
+abbrev pub answerOf : LentAnswer → Answer
+answerOf a = record { outcome = a .outcome; reply = a .reply; book = bookFrom (a .state) (a .leases) }
+
+-- ---- the list of calls: each gets the state and the records as the call before left them
+unfoldable pub runLent : Lent → List Call → Lent
+runLent l [] = l
+runLent l (c ∷ cs) = runLent (record { state = serveLent (l .state) (l .leases) c .state; leases = serveLent (l .state) (l .leases) c .leases }) cs
+
+-- "There are always 128", and the book that they are is sound
+pub record SoundLent (l : Lent) : Type 0 where
+  pub whole : length (l .leases) ≡ 128
+  pub sound : soundB (l .state) (tableFrom (l .leases)) ≡ true
+
+-- ---- the lent call is the call: on any state and any 128 records, sound or not
+unfoldable pub SameCall : Type 0
+SameCall = (s : State) (ls : List Lease) (c : Call) → length ls ≡ 128 → answerOf (serveLent s ls c) ≡ serveOf (bookFrom s ls) c
+
+-- ---- demand 3
+unfoldable pub LentDemand3 : Type 0
+LentDemand3 =
+    (l : Lent) → SoundLent l → (cs : List Call)
+    → SoundLent (runLent l cs)
+    × (WithinLimits (bookOf (runLent l cs))
+    × ((c : Call) → NewRequest (bookOf (runLent l cs)) c
+    → Granted (bookOf (runLent l cs)) c (answerOf (serveLent (runLent l cs .state) (runLent l cs .leases) c))))
+
+-- ---- demand 1: every call on any state and any number of records has one of the outcomes 0 to 8, and a discard changes no more than document 01 says
+pub record LentAnswered (s : State) (ls : List Lease) (c : Call) (a : LentAnswer) : Type 0 where
+  pub outcome : a .outcome ≤ 8
+  pub silent : (a .outcome ≡ 0 → ⊥) → a .reply ≡ []
+  -- "Discards 1 and 2 change nothing"
+  pub untouched : a .outcome ≡ 1 → (a .state ≡ s) × (a .leases ≡ ls)
+  pub untouched-too : a .outcome ≡ 2 → (a .state ≡ s) × (a .leases ≡ ls)
+  -- the others set the clock and drop ended leases; 3 to 8 do no more
+  pub advances : 3 ≤ a .outcome → bookFrom (a .state) (a .leases) ≡ bookAt (bookFrom s ls) c
+  -- another number of records makes the book unsound
+  pub other : (length ls ≡ 128 → ⊥) → a .outcome ≡ 1
+
+unfoldable pub LentDemand1 : Type 0
+LentDemand1 = (s : State) (ls : List Lease) (c : Call) → LentAnswered s ls c (serveLent s ls c)
+
+-- ---- the file: an accepted one, read into any lent state and records and written from them again, has the same octets
+unfoldable pub LentRoundTrip : Type 0
+LentRoundTrip =
+    (f : List ℕ) (s : State) (ls : List Lease) (room : List ℕ) → Octets f → readLent f s ls .refusal ≡ 0 → length f ≤ length room
+    → (writtenLent (readLent f s ls .state) (readLent f s ls .leases) (length room) ≡ record { refusal = 0; length = length f })
+    × (roomLent (readLent f s ls .state) (readLent f s ls .leases) room ≡ f ++ drop (length f) room)

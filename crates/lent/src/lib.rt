@@ -1,0 +1,117 @@
+// The product's entry points: a state lent by `&mut`, updated where it stands, and its lease records lent as a slice. Each is a few whole
+// values and calls; every decision is made by value in `records` and below. Their proofs are walks by hand.
+ghost use mathlib.Core.Path.{_≡_};
+ghost use lib.ListN.{length, take};
+ghost use Rattle.state.specs.Book.{raised};
+ghost use Rattle.server.specs.Serve.{Call};
+ghost use Rattle.records.specs.Records.{taken, covered};
+ghost use Rattle.records.specs.Lent.{serveLent, ServesLent, readLent, ReadsLent, writtenLent, roomLent, findLent, insertLent, removeLent};
+use records::Outcome;
+use records::Records;
+use state::Lease;
+use state::State;
+use state_file::Written;
+
+// Raises the clock where it stands.
+pub fn advance(state: &mut State, time: u32)
+    ensures { λ _. ⌜ now (state .exit) ≡ raised (now (state .entry)) time ⌝ }
+{
+    let c = records::later(state.clock, time);
+    state.clock = c;
+}
+
+// The first 128 records of a slice; unused ones where it has fewer.
+pub fn load(leases: &[Lease]) -> Records
+    ensures { λ r. ⌜ r .leases ≡ taken (now (leases .entry)) ⌝ }
+{
+    let mut now = records::no_records();
+    let n = records::cut128(leases.len());
+    let mut i: usize = 0;
+    while i < n {
+        now.leases[i] = leases[i];
+        i += 1;
+    }
+    now
+}
+
+// Lays 128 records over a slice; what lies past them is left.
+pub fn store(leases: &mut [Lease], records: Records)
+    ensures { λ _. ⌜ now (leases .exit) ≡ covered (now (leases .entry)) (records .leases) ⌝ }
+{
+    let n = records::cut128(leases.len());
+    let mut i: usize = 0;
+    while i < n {
+        leases[i] = records.leases[i];
+        i += 1;
+    }
+}
+
+// The place of an identifier among the records of tenant h, counted from 0; the number of its leases where it has none.
+pub fn find(leases: &[Lease], h: usize, id: [u8; 32], len: u8) -> usize
+    ensures { λ r. ⌜ r ≡ findLent h (take len id) (now (leases .entry)) ⌝ }
+{
+    let all = load(leases);
+    records::find(all, leases.len(), h, id, len)
+}
+
+// One lease more among those of tenant h, in the order of identifiers, where a record is left.
+pub fn insert(leases: &mut [Lease], h: usize, l: Lease)
+    ensures { λ _. ⌜ now (leases .exit) ≡ insertLent h l (now (leases .entry)) ⌝ }
+{
+    let all = load(leases);
+    let x = records::insert(all, leases.len(), h, l);
+    store(leases, x);
+}
+
+// The lease of an identifier goes from among those of tenant h.
+pub fn remove(leases: &mut [Lease], h: usize, id: [u8; 32], len: u8)
+    ensures { λ _. ⌜ now (leases .exit) ≡ removeLent h (take len id) (now (leases .entry)) ⌝ }
+{
+    let all = load(leases);
+    let x = records::remove(all, leases.len(), h, id, len);
+    store(leases, x);
+}
+
+// The call.
+pub fn serve(
+    datagram: &[u8],
+    client: u32,
+    time: u32,
+    state: &mut State,
+    leases: &mut [Lease],
+    reply: &mut [u8],
+) -> Outcome
+    ensures { λ r. ⌜ ServesLent (serveLent (now (state .entry)) (now (leases .entry)) (record { datagram = now (datagram .entry); client = client; time = time; room = length (now (reply .entry)) })) (now (state .exit)) (now (leases .exit)) (now (reply .entry)) (now (reply .exit)) r ⌝ }
+{
+    let s = *state;
+    let all = load(leases);
+    let r = records::serve(s, all, leases.len(), datagram, client, time, reply);
+    advance(state, r.clock);
+    store(leases, r.records);
+    Outcome {
+        outcome: r.outcome,
+        length: r.length,
+    }
+}
+
+// Reads a state file into the lent state and records: 0, or refusal 20 and then 21, which leave both as they were.
+pub fn read(file: &[u8], state: &mut State, leases: &mut [Lease]) -> u8
+    ensures { λ r. ⌜ ReadsLent (readLent (now (file .entry)) (now (state .entry)) (now (leases .entry))) (now (state .exit)) (now (leases .exit)) r ⌝ }
+{
+    let s = *state;
+    let all = load(leases);
+    let r = records::read(file, s, all, leases.len());
+    *state = r.state;
+    store(leases, r.records);
+    r.refusal
+}
+
+// Writes a state file from the lent state and records: its length, or refusal 22 and then 23, which write nothing.
+pub fn write(state: &State, leases: &[Lease], room: &mut [u8]) -> Written
+    ensures answer { λ r. ⌜ r ≡ writtenLent (now (state .entry)) (now (leases .entry)) (length (now (room .entry))) ⌝ }
+    ensures octets { λ r. ⌜ now (room .exit) ≡ roomLent (now (state .entry)) (now (leases .entry)) (now (room .entry)) ⌝ }
+{
+    let s = *state;
+    let all = load(leases);
+    records::write(s, all, leases.len(), room)
+}

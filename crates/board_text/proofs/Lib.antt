@@ -1,1 +1,2 @@
+mod Opened
 mod Lines

@@ -9,6 +9,7 @@ ghost use Rattle.state.specs.Book.{heldCount, inUse, tenantAt};
 ghost use Rattle.state_file.specs.StateFile.{readOf};
 use state::LeaseTable;
 use state::State;
+use state_file::Loaded;
 
 fn put_char(buffer: &mut [u8], at: usize, x: u8) -> usize
     requires { ⌜ at + 1 ≤ length (now buffer) ⌝ }
@@ -183,6 +184,22 @@ fn put_refused(buffer: &mut [u8], n: u8) -> usize
     put_char(buffer, b, 10)
 }
 
+// The book of a state file, by the lent reader.
+fn read_book(file: &[u8]) -> Loaded
+    ensures { λ r. ⌜ r ≡ readOf (now (file .entry)) ⌝ }
+{
+    let f = owned::open(file);
+    let o = f.owned;
+    let state = o.state;
+    let records = o.records;
+    let table = records::table_of(records);
+    Loaded {
+        refusal: f.refusal,
+        state: state,
+        table: table,
+    }
+}
+
 // Writes what `board` prints for a file and returns its length. A room below 1,100 octets is left as it is, with length 0.
 pub fn write_board(file: &[u8], room: &mut [u8]) -> usize
     ensures length { λ r. ⌜ r ≡ lengthIn (readOf (now (file .entry))) (now (room .entry)) ⌝ }
@@ -191,7 +208,7 @@ pub fn write_board(file: &[u8], room: &mut [u8]) -> usize
     if room.len() < 1100 {
         return 0;
     }
-    let r = state_file::read(file);
+    let r = read_book(file);
     let n = r.refusal;
     if n == 0 {
         let state = r.state;

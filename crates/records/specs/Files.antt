@@ -1,34 +1,41 @@
 -- The table of a file that is read: laid out, and sound where the file is accepted, so that its records stand for it.
 use Prim.Native.Nat.{ℕ, zero, suc, _+_}
-use mathlib.Core.Path.{_≡_, refl, sym, ap, _∙_, subst}
+use mathlib.Core.Path.{_≡_, refl, sym, ap, ap₂, _∙_}
 use mathlib.Core.Bool.{Bool, true, false}
 use mathlib.Core.List.{List, [], _∷_, map}
 use native.Mathlib.Omega.{arith}
+use lib.Dec.{eqb}
 use lib.ListN.{length, replicate}
+use borrow.Author.Tests.{eqb-true, eqb-false}
 use Rattle.lists.specs.Pick.{pick}
+use Rattle.lists.specs.All.{allBy}
+use Rattle.lists.specs.Place.{placeBy}
 use Rattle.message.specs.Placed.{pick-cases}
 use Rattle.state.specs.declared.Lease.{Lease}
 use Rattle.state.specs.declared.LeaseTable.{LeaseTable}
 use Rattle.state.specs.declared.State.{State}
-use Rattle.state.specs.Book.{leasesOf, tableOf}
+use Rattle.state.specs.Book.{laidOut, leasesOf, tableOf, zeroLease}
 use Rattle.state.specs.Layout.{table-back as lists-back}
-use Rattle.soundness.specs.Sound.{soundB}
+use Rattle.soundness.specs.Sound.{blankB, soundB, unusedB, zeroFrom}
 use Rattle.state_file.specs.declared.Loaded.{Loaded}
 use Rattle.state_file.specs.File.{File, FileLease, fileOf}
 use Rattle.state_file.specs.Format.{Got, bad, got}
 use Rattle.state_file.specs.Records.{fitsB, storedState, storedTable, tenantsFrom}
-use Rattle.state_file.specs.StateFile.{accepted, answered, judged, loaded, readOf, refused, zeroTable}
+use Rattle.state_file.specs.StateFile.{accepted, answered, judged, loaded, readOf, refused, zeroState, zeroTable}
 use Rattle.records.specs.Back.{table-back, table-long}
-use Rattle.records.specs.Records.{recordsOf, tableFrom}
+use Rattle.records.specs.Lent.{LentReading, readLent, readWith, untouched, whole}
+use Rattle.records.specs.Records.{recordsOf, rows, tableFrom, tenantFrom}
 
--- eight lists, laid out; sound where there is no refusal
+-- eight lists, laid out; sound where there is no refusal, and all zero where there is one
 record Whole (r : Loaded) : Type 0 where
   laid : r .table ≡ tableOf (leasesOf (r .table))
   eight : length (leasesOf (r .table)) ≡ 8
   sound : r .refusal ≡ 0 → soundB (r .state) (r .table) ≡ true
+  empty : (r .refusal ≡ 0 → ⊥) → r ≡ refused (r .refusal)
 
-of-lists : (n : ℕ) (s : State) (ll : List (List Lease)) → length ll ≡ 8 → (n ≡ 0 → soundB s (tableOf ll) ≡ true) → Whole (record { refusal = n; state = s; table = tableOf ll })
-of-lists n s ll e v = record { laid = ap tableOf (sym (lists-back ll)); eight = ap length (lists-back ll) ∙ e; sound = v }
+of-lists : (n : ℕ) (s : State) (ll : List (List Lease)) → length ll ≡ 8 → (n ≡ 0 → soundB s (tableOf ll) ≡ true)
+    → ((n ≡ 0 → ⊥) → record { refusal = n; state = s; table = tableOf ll } ≡ refused n) → Whole (record { refusal = n; state = s; table = tableOf ll })
+of-lists n s ll e v z = record { laid = ap tableOf (sym (lists-back ll)); eight = ap length (lists-back ll) ∙ e; sound = v; empty = z }
 
 from-length : (t n : ℕ) (xs : List FileLease) → length (tenantsFrom t n xs) ≡ n
 unfolding tenantsFrom
@@ -37,17 +44,17 @@ from-length t (suc n) xs = ap suc (from-length (suc t) n xs)
 
 none : (n : ℕ) → (n ≡ 0 → ⊥) → Whole (refused n)
 unfolding refused zeroTable
-none n z = of-lists n _ (replicate 8 []) refl (λ e. absurd (z e))
+none n z = of-lists n _ (replicate 8 []) refl (λ e. absurd (z e)) (λ _. refl)
 
 judged-whole : (f : File) → Whole (judged (storedState f) (storedTable f))
 unfolding judged storedTable accepted
 judged-whole f =
     pick-cases Whole (soundB (storedState f) (tableOf (tenantsFrom 1 8 (f .leases)))) _ _
-    (λ y. of-lists 0 (storedState f) (tenantsFrom 1 8 (f .leases)) (from-length 1 8 (f .leases)) (λ _. y)) (λ _. none 21 (λ e. absurd (omega arith)))
+    (λ y. of-lists 0 (storedState f) (tenantsFrom 1 8 (f .leases)) (from-length 1 8 (f .leases)) (λ _. y) (λ z. absurd (z refl))) (λ _. none 21 (λ e. absurd (omega arith)))
 
-whole : (s : List ℕ) → Whole (readOf s)
+file-whole : (s : List ℕ) → Whole (readOf s)
 unfolding readOf answered loaded
-whole s = go (fileOf s)
+file-whole s = go (fileOf s)
   where
     go : (g : Got File) → Whole (answered g)
     go bad = none 20 (λ e. absurd (omega arith))
@@ -55,7 +62,38 @@ whole s = go (fileOf s)
 
 -- the records of an accepted file stand for its table
 pub file-back : (s : List ℕ) → readOf s .refusal ≡ 0 → tableFrom (recordsOf (readOf s .table)) ≡ readOf s .table
-file-back s e = let w = whole s in table-back (readOf s .state) (readOf s .table) (w .eight) (w .laid) (w .sound e)
+file-back s e = let w = file-whole s in table-back (readOf s .state) (readOf s .table) (w .eight) (w .laid) (w .sound e)
 
 pub file-long : (s : List ℕ) → readOf s .refusal ≡ 0 → length (recordsOf (readOf s .table)) ≡ 128
-file-long s e = let w = whole s in table-long (readOf s .state) (readOf s .table) (w .eight) (w .laid) (w .sound e)
+file-long s e = let w = file-whole s in table-long (readOf s .state) (readOf s .table) (w .eight) (w .laid) (w .sound e)
+
+-- ---- a file read over a book that is all zero
+blank-table : tableFrom (replicate 128 zeroLease) ≡ zeroTable
+unfolding tableFrom rows tenantFrom placeBy pick unusedB blankB zeroFrom allBy zeroTable tableOf laidOut
+blank-table = refl
+
+abbrev pub readBlank : List ℕ → LentReading
+readBlank f = readLent f zeroState (replicate 128 zeroLease)
+
+pub blank-refusal : (f : List ℕ) → readBlank f .refusal ≡ readOf f .refusal
+unfolding readWith whole pick
+blank-refusal f = go (eqb (readOf f .refusal) 0) refl
+  where
+    go : (p : Bool) → eqb (readOf f .refusal) 0 ≡ p
+        → pick {A = LentReading} p (record { refusal = 0; state = readOf f .state; leases = recordsOf (readOf f .table) }) (untouched (readOf f .refusal) zeroState (replicate 128 zeroLease)) .refusal ≡ readOf f .refusal
+    go true e = sym (eqb-true _ _ e)
+    go false e = refl
+
+-- it gives what the reader by value gives
+pub blank-read : (f : List ℕ) → record { refusal = readBlank f .refusal; state = readBlank f .state; table = tableFrom (readBlank f .leases) } ≡ readOf f
+unfolding readWith whole pick refused
+blank-read f = go (eqb (readOf f .refusal) 0) refl
+  where
+    of : LentReading → Loaded
+    of r = record { refusal = r .refusal; state = r .state; table = tableFrom (r .leases) }
+
+    go : (p : Bool) → eqb (readOf f .refusal) 0 ≡ p
+        → of (pick p (record { refusal = 0; state = readOf f .state; leases = recordsOf (readOf f .table) }) (untouched (readOf f .refusal) zeroState (replicate 128 zeroLease))) ≡ readOf f
+    go true e =
+        ap₂ {C = Loaded} (λ (n : ℕ) (t : LeaseTable). record { refusal = n; state = readOf f .state; table = t }) (sym (eqb-true _ _ e)) (file-back f (eqb-true _ _ e))
+    go false e = ap {B = Loaded} (λ (t : LeaseTable). record { refusal = readOf f .refusal; state = zeroState; table = t }) blank-table ∙ sym (file-whole f .empty (eqb-false _ _ e))

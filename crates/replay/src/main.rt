@@ -2,7 +2,7 @@
 // call time(4), client address(4), reply room length(2), datagram length(2), the datagram. It reads as it goes.
 use libc::STDIN_FILENO;
 use libc::STDOUT_FILENO;
-use state::Book;
+use owned::Owned;
 
 fn print(text: &[u8], n: usize) {
     if n <= text.len() {
@@ -28,12 +28,10 @@ fn print_call(outcome: u8, room: &[u8], length: usize) {
 }
 
 // A file has at most 14,628 octets.
-fn print_book(book: Book) {
+fn print_book(book: Owned) {
     let mut file = [0u8; 14628];
     let mut line = [0u8; 29262];
-    let s = book.state;
-    let t = book.table;
-    let w = state_file::write(s, t, &mut file);
+    let w = owned::write(book, &mut file);
     let length = w.length;
     if length <= 14628 {
         let n = replay_text::write_book_line(&mut line, &file, length);
@@ -51,26 +49,26 @@ fn read_part(buffer: &mut [u8], n: usize) -> bool {
 
 // One call on a datagram of n octets, in a room of just `size` octets.
 fn call(
-    book: Book,
+    book: Owned,
     client: u32,
     time: u32,
     datagram: &[u8],
     n: usize,
     room: &mut [u8],
     size: usize,
-) -> Book {
+) -> Owned {
     if n <= datagram.len() {
         if size <= room.len() {
-            let r = server::serve(book, &datagram[..n], client, time, &mut room[..size]);
+            let r = owned::serve(book, &datagram[..n], client, time, &mut room[..size]);
             print_call(r.outcome, room, r.length);
-            return r.book;
+            return r.owned;
         }
     }
     book
 }
 
 // The call whose record starts with a head of twelve octets.
-fn call_of(head: [u8; 12], book: Book, datagram: &[u8], n: usize, room: &mut [u8]) -> Book {
+fn call_of(head: [u8; 12], book: Owned, datagram: &[u8], n: usize, room: &mut [u8]) -> Owned {
     let time = octets::read_u32(&head, 0);
     let client = octets::read_u32(&head, 4);
     let size = octets::read_u16(&head, 8) as usize;
@@ -80,17 +78,17 @@ fn call_of(head: [u8; 12], book: Book, datagram: &[u8], n: usize, room: &mut [u8
 // The book after a record, and whether there may be another.
 struct Turn {
     go: bool,
-    book: Book,
+    book: Owned,
 }
 
-fn stop(book: Book) -> Turn {
+fn stop(book: Owned) -> Turn {
     Turn {
         go: false,
         book: book,
     }
 }
 
-fn take_turn(book: Book, datagram: &mut [u8], room: &mut [u8]) -> Turn {
+fn take_turn(book: Owned, datagram: &mut [u8], room: &mut [u8]) -> Turn {
     let mut head = [0u8; 12];
     let got = io::read_full(STDIN_FILENO, &mut head);
     if got == 0 {
@@ -113,7 +111,7 @@ fn take_turn(book: Book, datagram: &mut [u8], room: &mut [u8]) -> Turn {
 }
 
 // Answers calls until the input ends or is cut off. A proved loop has to end: its turns are counted down from a number that no run uses up.
-fn replay(start: Book) {
+fn replay(start: Owned) {
     let mut book = start;
     let mut datagram = [0u8; 65536];
     let mut room = [0u8; 65536];
@@ -131,11 +129,9 @@ fn replay(start: Book) {
 // On the campus file of n octets.
 fn replay_file(file: &[u8], n: usize) {
     if n <= file.len() {
-        let r = state_file::read(&file[..n]);
+        let r = owned::open(&file[..n]);
         if r.refusal == 0 {
-            let s = r.state;
-            let t = r.table;
-            replay(Book { state: s, table: t });
+            replay(r.owned);
         } else {
             refuse(r.refusal);
         }

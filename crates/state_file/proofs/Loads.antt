@@ -27,7 +27,7 @@ use Rattle.state_file.specs.File.{File, FileLease, fileOf}
 use Rattle.state_file.specs.Format.{Got, bad, got}
 use Rattle.state_file.specs.Place.{AllHeld, Formed, Held, InRow, Inside, fileAt, isGot, keptFrom, leaseAt, leaseCount, leasesAt, leasesPlace, nextAt, rangeAt, row, scopeAt, scopeCount, scopesPlace, tenantCount}
 use Rattle.state_file.specs.Records.{fewOf, filled, fitsB, leasesFitB, storableB, storedScope, storedState, storedTable, zeroRange}
-use Rattle.state_file.specs.StateFile.{accepted, answered, judged, loaded, readOf, refused, zeroTable}
+use Rattle.state_file.specs.StateFile.{accepted, answered, judged, loaded, readOf, refused, zeroTable, zeroState}
 use Rattle.state_file.specs.declared.Loaded.{Loaded}
 
 -- ---- limits
@@ -164,10 +164,13 @@ pub ruleset settings = (tenants-few, tenants-room, scopes-few, scopes-room, stat
 pub test-true : (q t : Bool) → q ≡ t → q ≡ true → t ≡ true
 test-true q t e p = sym e ∙ p
 
-pub refused-is : (n : ℕ) (x : ClientRange) (y : Scope) (z : TenantLeases) → x ≡ zeroRange → y ≡ zeroScope → z ≡ laidOut []
-    → record { refusal = n; state = record { server = 0; clock = 0; «tenant_count» = 0; tenants = replicate 8 x; «scope_count» = 0; scopes = replicate 4 y }; table = record { tenants = replicate 8 z } } ≡ refused n
+pub no-state-is : (x : ClientRange) (y : Scope) → x ≡ zeroRange → y ≡ zeroScope
+    → record { server = 0; clock = 0; «tenant_count» = 0; tenants = replicate 8 x; «scope_count» = 0; scopes = replicate 4 y } ≡ zeroState
+no-state-is x y ex ey = cc
+
+pub refused-is : (n : ℕ) (s : State) (z : TenantLeases) → s ≡ zeroState → z ≡ laidOut [] → record { refusal = n; state = s; table = record { tenants = replicate 8 z } } ≡ refused n
 unfolding refused zeroTable tableOf
-refused-is n x y z ex ey ez = cc
+refused-is n s z es ez = cc
 
 module _ (s : State) (b : LeaseTable) (q : Bool) (e : q ≡ soundB s b) where
   pub judged-yes : q ≡ true → record { refusal = 0; state = s; table = b } ≡ judged s b

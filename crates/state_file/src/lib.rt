@@ -15,7 +15,7 @@ ghost use Rattle.state_file.specs.File.{fileOf, isAfter, leaseFormat, le
 ghost use Rattle.state_file.specs.Place.{AllHeld, Formed, Held, InRow, Inside, LeaseEnds, fileAt, isGot, keepOne, keptFrom, keptOf, leaseAt, leasesAt, leasesFrom, leasesPlace, nextAt, placeOf, rangeAt, row, scopeAt, scopesPlace};
 ghost use Rattle.state_file.specs.Records.{fewOf, filed, filedScope, filled, fitsB, isOffset, leasesFitB, ofTenant, storableB, stored, storedScope, storedState, storedTable, zeroRange};
 ghost use Rattle.state_file.specs.Rows.{leaseTotal, partOctets, rangeOctets, scopeOctets, tableOctets, tenantOctets};
-ghost use Rattle.state_file.specs.StateFile.{judged, loaded, octetsOf, readOf, refused, roomAfter, writtenOf};
+ghost use Rattle.state_file.specs.StateFile.{judged, loaded, octetsOf, readOf, refused, roomAfter, writtenOf, zeroState};
 use state::ClientRange;
 use state::Lease;
 use state::LeaseTable;
@@ -578,20 +578,27 @@ fn state_at(s: &[u8]) -> State
 
 // ---- the reader
 
-fn refusal(n: u8) -> Loaded
-    ensures { λ r. ⌜ r ≡ refused n ⌝ }
+// A state that is all zero.
+pub fn no_state() -> State
+    ensures { λ r. ⌜ r ≡ zeroState ⌝ }
 {
     let range = zero_range();
     let scope = zero_scope();
-    let none = state::no_leases();
-    let state = State {
+    State {
         server: 0,
         clock: 0,
         tenant_count: 0,
         tenants: [range; 8],
         scope_count: 0,
         scopes: [scope; 4],
-    };
+    }
+}
+
+fn refusal(n: u8) -> Loaded
+    ensures { λ r. ⌜ r ≡ refused n ⌝ }
+{
+    let none = state::no_leases();
+    let state = no_state();
     let table = LeaseTable { tenants: [none; 8] };
     Loaded {
         refusal: n,

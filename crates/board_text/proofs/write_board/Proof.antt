@@ -7,8 +7,8 @@ use Rattle.board_text.proofs.write_board.Tie as tie
 returns : tie.Need-returns
 returns c = board-none _ _ (c .if1 .taken)
 
-read-requires : tie.Need-read-requires
-read-requires c κs = search needs
+read-book-requires : tie.Need-read-book-requires
+read-book-requires c κs = search needs
 
 put-board-requires : tie.Need-put-board-requires
 put-board-requires c κs = search needs
@@ -17,7 +17,7 @@ same-length : tie.Need-same-length
 same-length c = search needs
 
 returns-2 : tie.Need-returns-2
-returns-2 c = board-answer _ _ _ _ _ (c .before .before .before .before .before .before .before .read .ensures) (c .before .before .before .before .before .before .before .before .if1 .left) (c .before .before .before .before .before .before .if2 .taken) (c .before .before .put-board .ensures)
+returns-2 c = board-answer _ _ _ _ _ (c .before .before .before .before .before .before .before .read-book .ensures) (c .before .before .before .before .before .before .before .before .if1 .left) (c .before .before .before .before .before .before .if2 .taken) (c .before .before .put-board .ensures)
 
 put-refused-requires : tie.Need-put-refused-requires
 put-refused-requires c κs = search needs
@@ -26,14 +26,14 @@ same-length-2 : tie.Need-same-length-2
 same-length-2 c = search needs
 
 returns-3 : tie.Need-returns-3
-returns-3 c = refused-answer _ _ _ _ _ (c .before .before .before .before .before .read .ensures) (c .before .before .before .before .before .before .if1 .left) (c .before .before .before .before .if2 .left) (c .before .before .put-refused .ensures)
+returns-3 c = refused-answer _ _ _ _ _ (c .before .before .before .before .before .read-book .ensures) (c .before .before .before .before .before .before .if1 .left) (c .before .before .before .before .if2 .left) (c .before .before .put-refused .ensures)
 
 pub write-board-spec : {M : Type 1} → statement M
 write-board-spec =
     tie.close
     (tie.spec
     returns
-    read-requires
+    read-book-requires
     put-board-requires
     same-length
     returns-2

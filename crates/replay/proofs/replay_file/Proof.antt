@@ -5,11 +5,11 @@ use mathlib.Core.Path.{sym}
 use Rattle.replay.proofs.replay_file.Statement.{statement}
 use Rattle.replay.proofs.replay_file.Tie as tie
 
-slice-aggregate-read : tie.Need-slice-aggregate-read
-slice-aggregate-read c = sym (length-take-le _ _ (search needs))
+slice-aggregate-open : tie.Need-slice-aggregate-open
+slice-aggregate-open c = sym (length-take-le _ _ (search needs))
 
-read-requires : tie.Need-read-requires
-read-requires c κs = search needs
+open-requires : tie.Need-open-requires
+open-requires c κs = search needs
 
 replay-requires : tie.Need-replay-requires
 replay-requires c κs = search needs
@@ -30,8 +30,8 @@ pub replay-file-spec : {M : Type 1} → statement M
 replay-file-spec =
     tie.close
     (tie.spec
-    slice-aggregate-read
-    read-requires
+    slice-aggregate-open
+    open-requires
     replay-requires
     refuse-requires
     returns

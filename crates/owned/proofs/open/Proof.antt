@@ -1,0 +1,30 @@
+use mathlib.Core.Path.{_≡_, subst}
+use Prim.Native.Nat.{ℕ}
+use mathlib.Core.List.{List}
+use lib.ListN.{replicate}
+use borrow.Author.Needs.{needs}
+use Rattle.state.specs.Book.{zeroLease}
+use Rattle.state.specs.declared.Lease.{Lease}
+use Rattle.state.specs.declared.State.{State}
+use Rattle.state_file.specs.StateFile.{zeroState}
+use Rattle.records.specs.Lent.{readLent}
+use Rattle.owned.specs.declared.OwnedFile.{OwnedFile}
+use Rattle.owned.specs.Owned.{ReadsOwned}
+use Rattle.owned.proofs.open.Statement.{statement}
+use Rattle.owned.proofs.open.Tie as tie
+
+-- what is read over a state and records that are all zero
+over-blank : (f : List ℕ) {s : State} {ls : List Lease} {r : OwnedFile} → s ≡ zeroState → ls ≡ replicate 128 zeroLease → ReadsOwned (readLent f s ls) r → ReadsOwned (readLent f zeroState (replicate 128 zeroLease)) r
+over-blank f {s} {ls} {r} e₁ e₂ x = subst (λ (ls′ : List Lease). ReadsOwned (readLent f zeroState ls′) r) e₂ (subst (λ (s′ : State). ReadsOwned (readLent f s′ ls) r) e₁ x)
+
+blank-requires : tie.Need-blank-requires
+blank-requires c κs = search needs
+
+read-requires : tie.Need-read-requires
+read-requires c κs = search needs
+
+returns : tie.Need-returns
+returns c = search (over-blank, needs)
+
+pub open-spec : {M : Type 1} → statement M
+open-spec = tie.close (tie.spec blank-requires read-requires returns)

@@ -1,0 +1,97 @@
+// A caller of the entry points that holds its state and records by value: each function lends them for one call and hands them back. Programs
+// and other callers with plain values stand above it.
+ghost use mathlib.Core.Path.{_≡_};
+ghost use lib.ListN.{length, replicate};
+ghost use Rattle.state.specs.Book.{zeroLease};
+ghost use Rattle.state_file.specs.StateFile.{zeroState};
+ghost use Rattle.server.specs.Serve.{Call};
+ghost use Rattle.records.specs.Lent.{serveLent, readLent, writtenLent, roomLent};
+ghost use Rattle.owned.specs.Owned.{ServesOwned, ReadsOwned};
+use records::Records;
+use state::State;
+use state_file::Written;
+
+// Document 01's book, as its caller holds it.
+pub struct Owned {
+    pub state: State,
+    pub records: Records,
+}
+
+// A call's outcome, its reply's length and the book afterwards.
+pub struct OwnedCall {
+    pub outcome: u8,
+    pub length: usize,
+    pub owned: Owned,
+}
+
+// A refusal or 0, and the book afterwards.
+pub struct OwnedFile {
+    pub refusal: u8,
+    pub owned: Owned,
+}
+
+// The call.
+pub fn serve(o: Owned, datagram: &[u8], client: u32, time: u32, reply: &mut [u8]) -> OwnedCall
+    ensures { λ r. ⌜ ServesOwned (serveLent (o .state) (o .records .leases) (record { datagram = now (datagram .entry); client = client; time = time; room = length (now (reply .entry)) })) (now (reply .entry)) (now (reply .exit)) r ⌝ }
+{
+    let mut state = o.state;
+    let records = o.records;
+    let mut leases = records.leases;
+    let r = lent::serve(datagram, client, time, &mut state, &mut leases, reply);
+    OwnedCall {
+        outcome: r.outcome,
+        length: r.length,
+        owned: Owned {
+            state: state,
+            records: Records { leases: leases },
+        },
+    }
+}
+
+// Reads a state file over a book; refusals 20 and 21 leave it as it was.
+pub fn read(file: &[u8], o: Owned) -> OwnedFile
+    ensures { λ r. ⌜ ReadsOwned (readLent (now (file .entry)) (o .state) (o .records .leases)) r ⌝ }
+{
+    let mut state = o.state;
+    let records = o.records;
+    let mut leases = records.leases;
+    let n = lent::read(file, &mut state, &mut leases);
+    OwnedFile {
+        refusal: n,
+        owned: Owned {
+            state: state,
+            records: Records { leases: leases },
+        },
+    }
+}
+
+// A book that is all zero.
+pub fn blank() -> Owned
+    ensures { λ r. ⌜ (r .state ≡ zeroState) × (r .records .leases ≡ replicate 128 zeroLease) ⌝ }
+{
+    let state = state_file::no_state();
+    let records = records::no_records();
+    Owned {
+        state: state,
+        records: records,
+    }
+}
+
+// The book of a state file, for a caller that has none yet.
+pub fn open(file: &[u8]) -> OwnedFile
+    ensures { λ r. ⌜ ReadsOwned (readLent (now (file .entry)) zeroState (replicate 128 zeroLease)) r ⌝ }
+{
+    let o = blank();
+    read(file, o)
+}
+
+// Writes a state file from a book.
+pub fn write(o: Owned, room: &mut [u8]) -> Written
+    ensures answer { λ r. ⌜ r ≡ writtenLent (o .state) (o .records .leases) (length (now (room .entry))) ⌝ }
+    ensures octets { λ r. ⌜ now (room .exit) ≡ roomLent (o .state) (o .records .leases) (now (room .entry)) ⌝ }
+{
+    let state = o.state;
+    let records = o.records;
+    let leases = records.leases;
+    lent::write(&state, &leases, room)
+}

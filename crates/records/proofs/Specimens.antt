@@ -1,0 +1,88 @@
+-- Lent records by computation: one record found, inserted and removed; another number than 128; a gap, which makes a book unsound.
+use mathlib.Core.Path.{_≡_, refl}
+use mathlib.Core.Bool.{Bool, true, false}
+use mathlib.Core.List.{List, [], _∷_, _++_}
+use Prim.Native.Nat.{ℕ}
+use lib.ListN.{replicate}
+use Rattle.lists.specs.Pick.{pick}
+use Rattle.lists.specs.All.{allBy, pairsBy}
+use Rattle.lists.specs.Filter.{filterBy}
+use Rattle.lists.specs.Place.{placeBy}
+use Rattle.identifier.specs.Order.{orderOf, sameOf}
+use Rattle.state.specs.declared.Lease.{Lease}
+use Rattle.state.specs.declared.State.{State}
+use Rattle.state.specs.Book.{insertOf, laidOut, ordered, removeOf, zeroLease}
+use Rattle.soundness.specs.Sound.{blankB, layoutB, paddedB, unusedB, zeroFrom}
+use Rattle.server.specs.Serve.{Call}
+use Rattle.records.specs.Records.{recordsOf, rows, rowsOf, tableFrom, tenantFrom}
+use Rattle.records.specs.Lent.{findLent, findWith, insertLent, insertWith, removeLent, removeWith, serveLent, serveWith, whole, writtenLent, writtenWith}
+
+-- a lease by the last octet of its identifier
+lease : ℕ → Lease
+lease i = record { scope = 1; «id_len» = 2; id = 0 ∷ i ∷ replicate 30 0; kind = 3; xid = 7; start = 1000; end = 2000; addresses = 1 }
+
+unused : ℕ → List Lease
+unused n = replicate n zeroLease
+
+-- the second house has some leases
+ours : List Lease → ℕ → List Lease
+ours p n = unused 16 ++ p ++ unused n
+
+-- in the order of identifiers, the later ones move down
+insert-between : insertLent 1 (lease 2) (ours (lease 1 ∷ lease 3 ∷ []) 110) ≡ ours (lease 1 ∷ lease 2 ∷ lease 3 ∷ []) 109
+unfolding lease unused ours insertWith whole pick tableFrom rows tenantFrom placeBy unusedB blankB zeroFrom allBy insertOf filterBy orderOf laidOut recordsOf rowsOf
+insert-between = refl
+
+-- no gap is left
+remove-first : removeLent 1 (0 ∷ 1 ∷ []) (ours (lease 1 ∷ lease 3 ∷ []) 110) ≡ ours (lease 3 ∷ []) 111
+unfolding lease unused ours removeWith whole pick tableFrom rows tenantFrom placeBy unusedB blankB zeroFrom allBy removeOf filterBy orderOf sameOf laidOut recordsOf rowsOf
+remove-first = refl
+
+find-second : findLent 1 (0 ∷ 3 ∷ []) (ours (lease 1 ∷ lease 3 ∷ []) 110) ≡ 1
+unfolding lease unused ours findWith whole pick tableFrom rows tenantFrom placeBy unusedB blankB zeroFrom allBy orderOf sameOf
+find-second = refl
+
+-- of another house
+find-none : findLent 0 (0 ∷ 3 ∷ []) (ours (lease 1 ∷ lease 3 ∷ []) 110) ≡ 0
+unfolding lease unused ours findWith whole pick tableFrom rows tenantFrom placeBy unusedB blankB zeroFrom allBy orderOf sameOf
+find-none = refl
+
+-- a ninth house, a house whose sixteen records are used, 127 records: nothing changes
+ninth : insertLent 8 (lease 2) (unused 128) ≡ unused 128
+unfolding unused insertWith whole pick
+ninth = refl
+
+full : insertLent 1 (lease 0) (ours (replicate 16 (lease 3)) 96) ≡ ours (replicate 16 (lease 3)) 96
+unfolding lease unused ours insertWith whole pick tableFrom rows tenantFrom placeBy unusedB blankB zeroFrom allBy
+full = refl
+
+short : insertLent 1 (lease 2) (unused 127) ≡ unused 127
+unfolding unused insertWith whole pick
+short = refl
+
+-- 127 and 129 records are discard 1 and refusal 22, whatever the state, the call and the room
+serve-127 : (s : State) (c : Call) → serveLent s (unused 127) c .outcome ≡ 1
+unfolding unused serveWith whole pick
+serve-127 s c = refl
+
+serve-129 : (s : State) (c : Call) → serveLent s (unused 129) c .outcome ≡ 1
+unfolding unused serveWith whole pick
+serve-129 s c = refl
+
+write-127 : (s : State) (room : ℕ) → writtenLent s (unused 127) room .refusal ≡ 22
+unfolding unused writtenWith whole pick
+write-127 s room = refl
+
+-- a lease after an unused record
+gap : layoutB (tenantFrom (lease 1 ∷ zeroLease ∷ lease 3 ∷ unused 13)) ≡ false
+unfolding lease unused layoutB tenantFrom placeBy pick unusedB blankB zeroFrom allBy pairsBy paddedB
+gap = refl
+
+-- leases out of order
+disorder : layoutB (tenantFrom (lease 3 ∷ lease 1 ∷ unused 14)) ≡ false
+unfolding lease unused layoutB tenantFrom placeBy pick unusedB blankB zeroFrom allBy pairsBy ordered orderOf paddedB
+disorder = refl
+
+rise : layoutB (tenantFrom (lease 1 ∷ lease 3 ∷ unused 14)) ≡ true
+unfolding lease unused layoutB tenantFrom placeBy pick unusedB blankB zeroFrom allBy pairsBy ordered orderOf paddedB
+rise = refl

@@ -1,0 +1,42 @@
+-- `banshorra_serve` meets its contract: the file is opened, the call is made and the file is written; or it is refused and left.
+use Rattle.embed.proofs.Files.{file-kept, file-served}
+use borrow.Author.Needs.{needs}
+use Rattle.embed.proofs.banshorra_serve.Statement.{statement}
+use Rattle.embed.proofs.banshorra_serve.Tie as tie
+
+open-in-requires : tie.Need-open-in-requires
+open-in-requires c κs = search needs
+
+serve-requires : tie.Need-serve-requires
+serve-requires c κs = search needs
+
+write-requires : tie.Need-write-requires
+write-requires c κs = search needs
+
+same-length : tie.Need-same-length
+same-length c = search needs
+
+same-length-2 : tie.Need-same-length-2
+same-length-2 c = search needs
+
+returns : tie.Need-returns
+returns c = search (file-served, needs)
+
+same-length-3 : tie.Need-same-length-3
+same-length-3 c = search needs
+
+returns-2 : tie.Need-returns-2
+returns-2 c = search (file-kept, needs)
+
+pub banshorra-serve-spec : {M : Type 1} → statement M
+banshorra-serve-spec =
+    tie.close
+    (tie.spec
+    open-in-requires
+    serve-requires
+    write-requires
+    same-length
+    same-length-2
+    returns
+    same-length-3
+    returns-2)

@@ -1,0 +1,128 @@
+-- What the functions for a host program in C or Rust answer: numbers and octets only. A state file is held in a buffer of the caller's.
+-- Numbers beside document 01's: 23 a buffer for a file below 14,628 octets, 24 a length past a buffer's end or a record that is cut off,
+-- 25 too little room for the next answer.
+use Prim.Native.Nat.{ℕ, zero, suc, _+_, _-_, min}
+use mathlib.Core.Bool.{Bool, true, false}
+use mathlib.Core.List.{List, [], _∷_, _++_}
+use lib.Dec.{eqb, ltb}
+use lib.ListN.{drop, length, take}
+use Rattle.lists.specs.Pick.{pick}
+use Rattle.octets.specs.Octets.{at16, at32, octets16}
+use Rattle.state.specs.declared.Lease.{Lease}
+use Rattle.state.specs.declared.State.{State}
+use Rattle.server.specs.Serve.{Call}
+use Rattle.state_file.specs.declared.Loaded.{Loaded}
+use Rattle.state_file.specs.StateFile.{readOf}
+use Rattle.records.specs.Records.{recordsOf}
+use Rattle.records.specs.Lent.{LentAnswer, roomLent, serveLent, writtenLent}
+
+-- ---- a file in a buffer
+-- a file's buffer has to hold the largest file
+abbrev pub largest : ℕ
+largest = 14628
+
+-- the number that the first n octets of a buffer draw before anything is done with them, or 0
+unfoldable pub refusalIn : List ℕ → ℕ → ℕ
+refusalIn b n = pick (ltb (length b) largest) 23 (pick (ltb (length b) n) 24 (readOf (take n b) .refusal))
+
+-- ---- one call
+pub record FileAnswer : Type 0 where
+  pub number : ℕ
+  pub buffer : List ℕ
+  pub length : ℕ
+  pub reply : List ℕ
+
+-- a refused file changes nothing
+abbrev pub kept : ℕ → List ℕ → ℕ → FileAnswer
+kept k b n = record { number = k; buffer = b; length = n; reply = [] }
+
+-- the file of the state and the records afterwards takes the place of the old one
+abbrev pub filed : List ℕ → LentAnswer → FileAnswer
+filed b a = record {
+  number = a .outcome;
+  buffer = roomLent (a .state) (a .leases) b;
+  length = writtenLent (a .state) (a .leases) (length b) .length;
+  reply = a .reply;
+}
+
+unfoldable pub serveFile : List ℕ → ℕ → Call → FileAnswer
+serveFile b n c =
+    pick (eqb (refusalIn b n) 0) (filed b (serveLent (readOf (take n b) .state) (recordsOf (readOf (take n b) .table)) c)) (kept (refusalIn b n) b n)
+
+-- ---- a list of calls, each a record as `replay` reads it: time(4), client address(4), reply room length(2), datagram length(2), the datagram
+-- how many octets the first record takes
+abbrev pub recordSize : List ℕ → ℕ
+recordSize cs = 12 + at16 cs 10
+
+-- whether the first record is there whole
+unfoldable pub cutOff : List ℕ → Bool
+cutOff cs = pick (ltb (length cs) 12) true (ltb (length cs) (recordSize cs))
+
+-- the first call; 512 octets are room enough for any reply
+abbrev pub callIn : List ℕ → Call
+callIn cs = record { datagram = take (at16 cs 10) (drop 12 cs); client = at32 cs 4; time = at32 cs 0; room = min (at16 cs 8) 512 }
+
+-- an answer: outcome(1), reply length(2), the reply
+abbrev pub answerOctets : LentAnswer → List ℕ
+answerOctets a = a .outcome ∷ octets16 (length (a .reply)) ++ a .reply
+
+-- room for any answer
+abbrev pub answerRoom : ℕ
+answerRoom = 515
+
+pub record Replayed : Type 0 where
+  pub number : ℕ
+  pub state : State
+  pub leases : List Lease
+  -- how many octets of the calls are done
+  pub used : ℕ
+  pub answers : List ℕ
+
+abbrev pub stopped : ℕ → State → List Lease → Replayed
+stopped k s ls = record { number = k; state = s; leases = ls; used = 0; answers = [] }
+
+-- the answer to the first record before those to the others
+abbrev pub onward : List ℕ → LentAnswer → Replayed → Replayed
+onward cs a r = record {
+  number = r .number;
+  state = r .state;
+  leases = r .leases;
+  used = recordSize cs + r .used;
+  answers = answerOctets a ++ r .answers;
+}
+
+-- why the first record is not answered, with so much room for answers left: 24, 25 or 0
+unfoldable pub stopIn : List ℕ → ℕ → ℕ
+stopIn cs room = pick (cutOff cs) 24 (pick (ltb room answerRoom) 25 0)
+
+-- at most k records, each on what the one before left
+unfoldable pub replayed : ℕ → State → List Lease → List ℕ → ℕ → Replayed
+replayed zero s ls cs room = stopped 0 s ls
+replayed (suc k) s ls cs room =
+    pick (eqb (length cs) 0) (stopped 0 s ls)
+    (pick (eqb (stopIn cs room) 0)
+    (onward cs (serveLent s ls (callIn cs))
+    (replayed k (serveLent s ls (callIn cs) .state) (serveLent s ls (callIn cs) .leases) (drop (recordSize cs) cs) (room - length (answerOctets (serveLent s ls (callIn cs))))))
+    (stopped (stopIn cs room) s ls))
+
+-- a list of calls on the file in a buffer, with so much room for answers
+pub record FileReplay : Type 0 where
+  pub number : ℕ
+  pub buffer : List ℕ
+  pub length : ℕ
+  pub used : ℕ
+  pub answers : List ℕ
+
+abbrev pub refiled : List ℕ → Replayed → FileReplay
+refiled b r = record {
+  number = r .number;
+  buffer = roomLent (r .state) (r .leases) b;
+  length = writtenLent (r .state) (r .leases) (length b) .length;
+  used = r .used;
+  answers = r .answers;
+}
+
+unfoldable pub replayFile : List ℕ → ℕ → List ℕ → ℕ → FileReplay
+replayFile b n cs room =
+    pick (eqb (refusalIn b n) 0) (refiled b (replayed (length cs) (readOf (take n b) .state) (recordsOf (readOf (take n b) .table)) cs room))
+    (record { number = refusalIn b n; buffer = b; length = n; used = 0; answers = [] })

@@ -1,0 +1,235 @@
+// The functions that a host program in C or Rust links: numbers and octets only. A state file is held in a buffer of the caller's, of at least
+// 14,628 octets; `file_length` is the number of its octets, before and after.
+ghost use mathlib.Core.Path.{_≡_};
+ghost use Prim.Native.Nat.{_+_, _≤_, min};
+ghost use lib.ListN.{drop, length};
+ghost use Rattle.board_text.specs.Board.{lengthIn, roomWith};
+ghost use Rattle.server.specs.Serve.{Call};
+ghost use Rattle.state_file.specs.StateFile.{readOf};
+ghost use Rattle.records.specs.Lent.{serveLent};
+ghost use Rattle.embed.specs.Embed.{serveFile, replayFile, replayed, stopIn, callIn, recordSize};
+ghost use Rattle.embed.specs.Promises.{Opened, ServesFile, Answers, Replays, ReplaysFile};
+use owned::Owned;
+use owned::OwnedCall;
+use owned::OwnedFile;
+
+// How far a list of calls came: 0 or why it stopped, the octets of calls used, the octets of answers filled, and the book afterwards.
+struct Progress {
+    number: u8,
+    used: usize,
+    filled: usize,
+    owned: Owned,
+}
+
+// ---- a file in a buffer
+
+fn refused(number: u8) -> OwnedFile
+    ensures { λ r. ⌜ r .refusal ≡ number ⌝ }
+{
+    let o = owned::blank();
+    OwnedFile {
+        refusal: number,
+        owned: o,
+    }
+}
+
+// The book of the first n octets of a buffer.
+fn open_in(file: &[u8], n: usize) -> OwnedFile
+    ensures { λ r. ⌜ Opened (now (file .entry)) n r ⌝ }
+{
+    if file.len() < 14628 {
+        return refused(23);
+    }
+    if file.len() < n {
+        return refused(24);
+    }
+    owned::open(&file[..n])
+}
+
+// ---- a list of calls
+
+// Why the record at a place is not answered, with so much room for answers left: 24, 25 or 0.
+fn stop_number(calls: &[u8], at: usize, room: usize) -> u8
+    requires { ⌜ at ≤ length (now calls) ⌝ }
+    ensures { λ r. ⌜ r ≡ stopIn (drop at (now (calls .entry))) room ⌝ }
+{
+    let left = calls.len() - at;
+    if left < 12 {
+        return 24;
+    }
+    let n = octets::read_u16(calls, at + 10) as usize;
+    if left < 12 + n {
+        return 24;
+    }
+    if room < 515 {
+        return 25;
+    }
+    0
+}
+
+fn cut512(n: usize) -> usize
+    ensures { λ r. ⌜ r ≡ min n 512 ⌝ }
+{
+    if n < 512 {
+        return n;
+    }
+    512
+}
+
+// The call, and its answer written from `to` on.
+fn answer_call(
+    o: Owned,
+    datagram: &[u8],
+    client: u32,
+    time: u32,
+    room: usize,
+    answers: &mut [u8],
+    to: usize,
+) -> OwnedCall
+    requires { ⌜ (to + 515 ≤ length (now answers)) × (room ≤ 512) ⌝ }
+    ensures { λ r. ⌜ Answers (serveLent (o .state) (o .records .leases) (record { datagram = now (datagram .entry); client = client; time = time; room = room })) (now (answers .entry)) to (now (answers .exit)) r ⌝ }
+{
+    let r = owned::serve(
+        o,
+        datagram,
+        client,
+        time,
+        &mut answers[to + 3..to + 3 + room],
+    );
+    octets::put_u8(answers, to, r.outcome);
+    octets::put_u16(answers, to + 1, (r.length % 65536) as u16);
+    r
+}
+
+// The record at a place, answered from `to` on.
+fn answer_record(o: Owned, calls: &[u8], at: usize, answers: &mut [u8], to: usize) -> OwnedCall
+    requires { ⌜ (to + 515 ≤ length (now answers)) × (at + recordSize (drop at (now calls)) ≤ length (now calls)) ⌝ }
+    ensures { λ r. ⌜ Answers (serveLent (o .state) (o .records .leases) (callIn (drop at (now (calls .entry))))) (now (answers .entry)) to (now (answers .exit)) r ⌝ }
+{
+    let time = octets::read_u32(calls, at);
+    let client = octets::read_u32(calls, at + 4);
+    let size = octets::read_u16(calls, at + 8) as usize;
+    let n = octets::read_u16(calls, at + 10) as usize;
+    let room = cut512(size);
+    let from = at + 12;
+    answer_call(o, &calls[from..from + n], client, time, room, answers, to)
+}
+
+fn record_size(calls: &[u8], at: usize) -> usize
+    requires { ⌜ at + 12 ≤ length (now calls) ⌝ }
+    ensures { λ r. ⌜ r ≡ recordSize (drop at (now (calls .entry))) ⌝ }
+{
+    12 + (octets::read_u16(calls, at + 10) as usize)
+}
+
+// Answers records until they end, one is cut off, or the next answer may not fit.
+fn replay(start: Owned, calls: &[u8], answers: &mut [u8]) -> Progress
+    ensures { λ r. ⌜ Replays (replayed (length (now (calls .entry))) (start .state) (start .records .leases) (now (calls .entry)) (length (now (answers .entry)))) (now (answers .entry)) (now (answers .exit)) r ⌝ }
+{
+    let mut o = start;
+    let mut at: usize = 0;
+    let mut to: usize = 0;
+    while at < calls.len() {
+        let k = stop_number(calls, at, answers.len() - to);
+        if k != 0 {
+            return Progress {
+                number: k,
+                used: at,
+                filled: to,
+                owned: o,
+            };
+        }
+        let r = answer_record(o, calls, at, answers, to);
+        o = r.owned;
+        at = at + record_size(calls, at);
+        to = to + 3 + r.length;
+    }
+    Progress {
+        number: 0,
+        used: at,
+        filled: to,
+        owned: o,
+    }
+}
+
+// ---- the functions that are linked
+
+// 0 for a state file that is accepted, or its refusal, 20 or 21.
+#[no_mangle]
+pub extern "C" fn banshorra_check(file: &[u8]) -> u8
+    ensures { λ r. ⌜ r ≡ readOf (now (file .entry)) .refusal ⌝ }
+{
+    let r = owned::open(file);
+    r.refusal
+}
+
+// The text that `board` prints for a state file: its length, or 0 where the room is below 1,100 octets.
+#[no_mangle]
+pub extern "C" fn banshorra_board(file: &[u8], text: &mut [u8]) -> usize
+    ensures length { λ r. ⌜ r ≡ lengthIn (readOf (now (file .entry))) (now (text .entry)) ⌝ }
+    ensures octets { λ r. ⌜ now (text .exit) ≡ roomWith (readOf (now (file .entry))) (now (text .entry)) ⌝ }
+{
+    board_text::write_board(file, text)
+}
+
+// One call on the state file in a buffer: the outcome, 0 to 8, with the reply and its length, and the file and its length afterwards. 20, 21, 23
+// and 24 change nothing but the reply's length, which is 0.
+#[no_mangle]
+pub extern "C" fn banshorra_serve(
+    file: &mut [u8],
+    file_length: &mut usize,
+    datagram: &[u8],
+    client: u32,
+    time: u32,
+    reply: &mut [u8],
+    reply_length: &mut usize,
+) -> u8
+    ensures { λ r. ⌜ ServesFile (serveFile (now (file .entry)) (now («file_length» .entry)) (record { datagram = now (datagram .entry); client = client; time = time; room = length (now (reply .entry)) })) (now (file .exit)) (now («file_length» .exit)) (now (reply .entry)) (now (reply .exit)) (now («reply_length» .exit)) r ⌝ }
+{
+    let n = *file_length;
+    let f = open_in(file, n);
+    let refusal = f.refusal;
+    if refusal == 0 {
+        let o = f.owned;
+        let r = owned::serve(o, datagram, client, time, reply);
+        let b = r.owned;
+        let w = owned::write(b, file);
+        *file_length = w.length;
+        *reply_length = r.length;
+        return r.outcome;
+    }
+    *reply_length = 0;
+    refusal
+}
+
+// A list of calls on the state file in a buffer, in the records that `replay` reads; the file is read once and written once. Each answer is
+// outcome(1), reply length(2) and the reply. `used` is how many octets of the calls are answered, `filled` how many of the answers there are.
+// 0 where all are answered, 24 where a record is cut off, 25 where the next answer may not fit into 515 octets: those before it stand.
+#[no_mangle]
+pub extern "C" fn banshorra_replay(
+    file: &mut [u8],
+    file_length: &mut usize,
+    calls: &[u8],
+    used: &mut usize,
+    answers: &mut [u8],
+    filled: &mut usize,
+) -> u8
+    ensures { λ r. ⌜ ReplaysFile (replayFile (now (file .entry)) (now («file_length» .entry)) (now (calls .entry)) (length (now (answers .entry)))) (now (file .exit)) (now («file_length» .exit)) (now (used .exit)) (now (answers .entry)) (now (answers .exit)) (now (filled .exit)) r ⌝ }
+{
+    let n = *file_length;
+    let f = open_in(file, n);
+    let refusal = f.refusal;
+    if refusal == 0 {
+        let o = f.owned;
+        let p = replay(o, calls, answers);
+        let b = p.owned;
+        let w = owned::write(b, file);
+        *file_length = w.length;
+        *used = p.used;
+        *filled = p.filled;
+        return p.number;
+    }
+    *used = 0;
+    *filled = 0;
+    refusal
+}

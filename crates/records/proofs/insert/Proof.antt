@@ -1,3 +1,4 @@
+-- `insert` meets its contract: each branch of `insertWith`, from what the calls gave.
 use Rattle.lists.specs.Part.{unmapped}
 use Rattle.records.specs.Steps.{insert-full, insert-in, insert-none, insert-out}
 use borrow.Author.Needs.{needs}

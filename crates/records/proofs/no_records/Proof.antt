@@ -1,3 +1,4 @@
+-- `no_records` meets its contract: by `empty-records`.
 use Rattle.records.specs.Laws.{empty-records}
 use borrow.Author.Needs.{needs}
 use Rattle.records.proofs.no_records.Statement.{statement}

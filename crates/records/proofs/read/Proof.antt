@@ -1,3 +1,4 @@
+-- `read` meets its contract: each branch of `readWith`, from what the calls gave.
 use Rattle.lists.specs.Part.{unmapped}
 use Rattle.records.specs.Steps.{read-in, read-out, read-refused}
 use borrow.Author.Needs.{needs}

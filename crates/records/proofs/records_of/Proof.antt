@@ -1,3 +1,4 @@
+-- `records_of` meets its contract: tenant by tenant, and within a tenant record by record.
 use Prim.Native.Nat.{_-_}
 use Rattle.lists.specs.Part.{unmapped}
 use Rattle.records.specs.Laws.{LaidInv, LayRowInv, to-records}

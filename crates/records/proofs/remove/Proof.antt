@@ -1,3 +1,4 @@
+-- `remove` meets its contract: each branch of `removeWith`, from what the calls gave.
 use Rattle.lists.specs.Part.{unmapped}
 use Rattle.records.specs.Steps.{remove-in, remove-none, remove-out}
 use borrow.Author.Needs.{needs}

@@ -1,3 +1,4 @@
+-- `serve` meets its contract: the call on the table that the records stand for, or discard 1.
 use Rattle.lists.specs.Part.{unmapped}
 use Rattle.records.specs.Steps.{serve-in, serve-out}
 use borrow.Author.Needs.{needs}

@@ -1,3 +1,4 @@
+-- `table_of` meets its contract: row by row, and within a row record by record.
 use Prim.Native.Nat.{_-_}
 use Rattle.lists.specs.Part.{unmapped}
 use Rattle.records.specs.Laws.{InRowInv, RowsInv, to-table}

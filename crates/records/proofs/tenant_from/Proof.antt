@@ -1,3 +1,4 @@
+-- `tenant_from` meets its contract: by `tenant-is`.
 use Rattle.records.specs.Laws.{tenant-is}
 use borrow.Author.Needs.{needs}
 use Rattle.records.proofs.tenant_from.Statement.{statement}

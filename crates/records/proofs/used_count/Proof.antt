@@ -1,3 +1,4 @@
+-- `used_count` meets its contract: the place of the first unused record.
 use Prim.Native.Nat.{_-_}
 use Rattle.lists.specs.Place.{PlaceInv, placeBy, places}
 use Rattle.records.specs.Laws.{used-start}

@@ -1,3 +1,4 @@
+-- `no_state` meets its contract: by `no-state-is`.
 use Rattle.state_file.proofs.Loads.{no-state-is}
 use borrow.Author.Needs.{needs}
 use Rattle.state_file.proofs.no_state.Statement.{statement}

@@ -1,3 +1,4 @@
+-- `refusal` meets its contract: by `refused-is`.
 use Rattle.state_file.proofs.Loads.{refused-is}
 use borrow.Author.Needs.{needs}
 use Rattle.state_file.proofs.refusal.Statement.{statement}

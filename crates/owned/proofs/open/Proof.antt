@@ -1,3 +1,4 @@
+-- `open` meets its contract: the reader over a book that is all zero.
 use mathlib.Core.Path.{_≡_, subst}
 use Prim.Native.Nat.{ℕ}
 use mathlib.Core.List.{List}

@@ -1,0 +1,21 @@
+//! Links the static library that `rt staticlib embed` makes in the repository's root.
+
+use std::path::PathBuf;
+use std::{env, process};
+
+fn main() {
+    let host = PathBuf::from(env::var_os("CARGO_MANIFEST_DIR").expect("set by cargo"));
+    let root = host
+        .parent()
+        .expect("host/ stands in the repository's root");
+    let folder = root.join("target/staticlib");
+    let library = folder.join("libembed.a");
+    println!("cargo:rerun-if-changed={}", library.display());
+    if !library.is_file() {
+        eprintln!("There is no {}.", library.display());
+        eprintln!("Run `rt staticlib embed` in {} first.", root.display());
+        process::exit(1);
+    }
+    println!("cargo:rustc-link-search=native={}", folder.display());
+    println!("cargo:rustc-link-lib=static=embed");
+}

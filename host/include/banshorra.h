@@ -1,0 +1,74 @@
+/* Banshorra: a MADCAP server on a campus file. Link target/staticlib/libembed.a (`rt staticlib embed`); x86-64, nothing besides libc.
+
+   Every function ends, for any octets, and reads and writes only within the lengths it is given. None keeps a pointer or has state of its
+   own: all that passes from call to call is the campus file. Calls on different files may run at the same time.
+   No pointer is NULL, not even with length 0. What a function writes overlaps nothing else that it is given. A call takes about 150 KiB of
+   stack: give a thread that calls 256 KiB at least.
+   "Document 01" is the campus's paper; numbers of more than one octet stand high octet first in files, datagrams and lists. */
+#ifndef BANSHORRA_H
+#define BANSHORRA_H
+
+#include <stddef.h>
+#include <stdint.h>
+
+#ifdef __cplusplus
+extern "C" {
+#endif
+
+#define BANSHORRA_FILE_ROOM 14628 /* the longest campus file, and the least buffer for one that is served */
+#define BANSHORRA_REPLY_ROOM 512  /* the least reply buffer; no reply is longer */
+#define BANSHORRA_BOARD_ROOM 1100 /* the least buffer for the board's text */
+#define BANSHORRA_ANSWER_ROOM 515 /* what a replay needs free before it answers a call */
+
+/* Outcomes of a call (document 01's table). The first that holds counts. */
+enum {
+    BANSHORRA_REPLY = 0,         /* a reply, to be sent to the client */
+    BANSHORRA_BOOK_UNSOUND = 1,  /* never here: an unsound file is refused, 21 */
+    BANSHORRA_NO_REPLY_ROOM = 2, /* reply buffer below 512 octets */
+    BANSHORRA_NO_HOUSE = 3,      /* client address in no house */
+    BANSHORRA_BAD_HEADER = 4,    /* datagram length, version, family, or type not 1, 3, 4, 7, 8 */
+    BANSHORRA_BAD_OPTIONS = 5,   /* options break the layout, length, repeat, End or Lease Identifier rules */
+    BANSHORRA_FEATURE = 6,       /* a feature is required; none is supported */
+    BANSHORRA_OTHER_SERVER = 7,  /* a REQUEST to another server */
+    BANSHORRA_ERROR = 8          /* a DISCOVER or GETINFO that draws an error */
+};
+
+/* Refusals. */
+enum {
+    BANSHORRA_WRONG_FORM = 20,      /* campus file: layout, order, excess octets, or above 14,628 octets */
+    BANSHORRA_UNSOUND = 21,         /* campus file: well formed, but not sound */
+    BANSHORRA_SHORT_FILE_ROOM = 23, /* the file's buffer is below 14,628 octets */
+    BANSHORRA_CUT_OFF = 24,         /* the file's length is above its buffer's; or a call's record is cut off */
+    BANSHORRA_SHORT_ANSWERS = 25    /* fewer than 515 octets are left for the next answer */
+};
+
+/* Whether a campus file is accepted: 0, or refusal 20 or 21. */
+uint8_t banshorra_check(const uint8_t *file, size_t file_length);
+
+/* The text that the program `board` prints for a campus file, `refused 20` and `refused 21` too: it stands in `text`, without a closing
+   NUL, octets past it untouched. Returns its length; 0, and nothing written, where text_room is below 1,100. */
+size_t banshorra_board(const uint8_t *file, size_t file_length, uint8_t *text, size_t text_room);
+
+/* Serves one datagram on the campus file in the first *file_length octets of a buffer of file_room octets.
+   client: the IPv4 address it came from, as a number (10.0.1.5 is 0x0A000105). time: now, in whole seconds since 1970.
+   Returns the outcome, 0 to 8. The reply stands in `reply` and its length in *reply_length, which is 0 for a discard; the file afterwards
+   stands in the buffer and its length in *file_length. Octets past the reply and past the file are untouched.
+   Or a refusal, tested in the order 23, 24, 20, 21, which changes nothing but *reply_length, which is 0. */
+uint8_t banshorra_serve(uint8_t *file, size_t file_room, size_t *file_length, const uint8_t *datagram, size_t datagram_length,
+                        uint32_t client, uint32_t time, uint8_t *reply, size_t reply_room, size_t *reply_length);
+
+/* Serves a list of calls, one after the other, with the file read once and written once.
+   A call is time(4), client address(4), reply room length(2), datagram length(2), the datagram; a reply room length above 512 counts as 512.
+   An answer is outcome(1), reply length(2), the reply.
+   Returns 0 where all calls are answered; 24 where the next call's record is cut off, or else 25 where fewer than 515 octets are left for the
+   next answer. In all three *calls_used octets of the calls are answered, *answers_filled octets of answers filled, octets past them untouched,
+   and the file afterwards stands in the buffer; after 25 go on from there with another buffer.
+   Or a refusal of the file, 23, 24, 20, 21 as above, which changes nothing but *calls_used and *answers_filled, which are 0. */
+uint8_t banshorra_replay(uint8_t *file, size_t file_room, size_t *file_length, const uint8_t *calls, size_t calls_length, size_t *calls_used,
+                         uint8_t *answers, size_t answers_room, size_t *answers_filled);
+
+#ifdef __cplusplus
+}
+#endif
+
+#endif

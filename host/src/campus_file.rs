@@ -1,0 +1,80 @@
+//! A campus file that is owned.
+
+use crate::lent::{self, Replayed};
+use crate::numbers::{Outcome, Refusal};
+use crate::{BOARD_ROOM, FILE_ROOM};
+use std::fmt;
+use std::net::Ipv4Addr;
+
+/// An accepted campus file, in a buffer of the greatest length. Every call leaves an accepted file, so that none is refused.
+#[derive(Clone)]
+pub struct CampusFile {
+    buffer: Box<[u8; FILE_ROOM]>,
+    length: usize,
+}
+
+impl CampusFile {
+    /// Takes a campus file, or refuses it: 20 for a wrong form, 21 for an unsound one.
+    pub fn from_bytes(file: &[u8]) -> Result<Self, Refusal> {
+        lent::check(file)?;
+        let mut buffer = Box::new([0; FILE_ROOM]);
+        // An accepted file is no longer than the buffer.
+        buffer[..file.len()].copy_from_slice(file);
+        Ok(Self {
+            buffer,
+            length: file.len(),
+        })
+    }
+
+    /// The file's octets as they are now.
+    pub fn as_bytes(&self) -> &[u8] {
+        &self.buffer[..self.length]
+    }
+
+    /// Serves a datagram that came from `client` at `time`, in whole seconds since 1970. The reply stands in the front of `reply`, which
+    /// has at least [`REPLY_ROOM`](crate::REPLY_ROOM) octets (else discard 2); octets past it are left as they were.
+    pub fn serve<'r>(
+        &mut self,
+        datagram: &[u8],
+        client: Ipv4Addr,
+        time: u32,
+        reply: &'r mut [u8],
+    ) -> Outcome<'r> {
+        lent::serve(
+            &mut self.buffer[..],
+            &mut self.length,
+            datagram,
+            client,
+            time,
+            reply,
+        )
+        .expect("an accepted file stays accepted")
+    }
+
+    /// Serves a list of calls one after the other; see [`lent::replay`]. It stops at a record that is cut off (24) or where fewer than
+    /// [`ANSWER_ROOM`](crate::ANSWER_ROOM) octets are left for an answer (25), and can go on from `calls_used` with another buffer.
+    pub fn replay(&mut self, calls: &[u8], answers: &mut [u8]) -> Replayed {
+        lent::replay(&mut self.buffer[..], &mut self.length, calls, answers)
+    }
+
+    /// The board's text: a header and, by scope then house, lowest address, house, share, limit, holding.
+    pub fn board(&self) -> String {
+        let mut text = [0; BOARD_ROOM];
+        let text = lent::board(self.as_bytes(), &mut text);
+        text.expect("the room is enough").to_owned()
+    }
+}
+
+impl PartialEq for CampusFile {
+    fn eq(&self, other: &Self) -> bool {
+        self.as_bytes() == other.as_bytes()
+    }
+}
+
+impl Eq for CampusFile {}
+
+impl fmt::Debug for CampusFile {
+    fn fmt(&self, f: &mut fmt::Formatter<'_>) -> fmt::Result {
+        f.debug_tuple("CampusFile").field(&self.as_bytes()).finish()
+    }
+}

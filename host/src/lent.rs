@@ -1,0 +1,70 @@
+//! The calls on buffers that the caller lends. A campus file stands in the first `file_length` octets of its buffer, which has at
+//! least [`FILE_ROOM`](crate::FILE_ROOM) octets; a call leaves the file afterwards there, and the octets past it as they were.
+
+use crate::library;
+use crate::numbers::{Outcome, Refusal};
+use std::net::Ipv4Addr;
+
+/// Whether a campus file is accepted; refusal 20 or 21.
+pub fn check(file: &[u8]) -> Result<(), Refusal> {
+    match library::check(file) {
+        0 => Ok(()),
+        number => Err(refusal(number)),
+    }
+}
+
+/// The text that `board` prints for a campus file, also for a refused one: it stands in the front of `text`, and octets past it are
+/// left as they were. `None`, and nothing written, where `text` is below [`BOARD_ROOM`](crate::BOARD_ROOM) octets.
+pub fn board<'t>(file: &[u8], text: &'t mut [u8]) -> Option<&'t str> {
+    match library::board(file, text) {
+        0 => None,
+        length => Some(std::str::from_utf8(&text[..length]).expect("the board is ASCII")),
+    }
+}
+
+/// Serves a datagram. The reply stands in the front of `reply`, and octets past it are left as they were. `time` is in whole seconds
+/// since 1970. A refusal (23 before 24 before 20 before 21) changes nothing.
+pub fn serve<'r>(
+    file: &mut [u8],
+    file_length: &mut usize,
+    datagram: &[u8],
+    client: Ipv4Addr,
+    time: u32,
+    reply: &'r mut [u8],
+) -> Result<Outcome<'r>, Refusal> {
+    let (number, length) =
+        library::serve(file, file_length, datagram, u32::from(client), time, reply);
+    Outcome::of_number(number, &reply[..length]).ok_or_else(|| refusal(number))
+}
+
+/// How far a list of calls was answered.
+#[derive(Clone, Copy, Debug, PartialEq, Eq)]
+pub struct Replayed {
+    /// The octets of the calls that are answered.
+    pub calls_used: usize,
+    /// The octets of their answers.
+    pub answers_filled: usize,
+    /// Why it ended before the list's end: 24, the next record is cut off; 25, too little room for the next answer. The answers so far
+    /// and the file stand. Or a refusal of the file as in [`serve`]: nothing has changed.
+    pub stopped: Option<Refusal>,
+}
+
+/// Serves a list of calls ([`Call`](crate::Call) writes one; [`answers`](crate::answers()) reads what comes back). The file is read once
+/// and written once. Octets past the answers are left as they were.
+pub fn replay(
+    file: &mut [u8],
+    file_length: &mut usize,
+    calls: &[u8],
+    answers: &mut [u8],
+) -> Replayed {
+    let (number, calls_used, answers_filled) = library::replay(file, file_length, calls, answers);
+    Replayed {
+        calls_used,
+        answers_filled,
+        stopped: (number != 0).then(|| refusal(number)),
+    }
+}
+
+fn refusal(number: u8) -> Refusal {
+    Refusal::of_number(number).unwrap_or_else(|| panic!("the library returned {number}"))
+}

@@ -1,0 +1,56 @@
+//! Safe Rust over Banshorra's static library: a MADCAP server on a campus file.
+//!
+//! [`CampusFile`] owns a campus file and serves calls on it:
+//!
+//! ```no_run
+//! use banshorra_host::{CampusFile, Outcome, REPLY_ROOM};
+//! use std::net::UdpSocket;
+//! use std::time::{SystemTime, UNIX_EPOCH};
+//!
+//! fn main() -> Result<(), Box<dyn std::error::Error>> {
+//!     let mut campus = CampusFile::from_bytes(&std::fs::read("campus.bin")?)?;
+//!     let socket = UdpSocket::bind("0.0.0.0:2535")?;
+//!     let mut datagram = [0; 1500];
+//!     let mut reply = [0; REPLY_ROOM];
+//!     loop {
+//!         let (length, from) = socket.recv_from(&mut datagram)?;
+//!         let std::net::IpAddr::V4(client) = from.ip() else { continue };
+//!         let time = SystemTime::now().duration_since(UNIX_EPOCH)?.as_secs() as u32;
+//!         match campus.serve(&datagram[..length], client, time, &mut reply) {
+//!             Outcome::Reply(octets) => {
+//!                 // On disk before the client hears of it.
+//!                 std::fs::write("campus.new", campus.as_bytes())?;
+//!                 std::fs::rename("campus.new", "campus.bin")?;
+//!                 socket.send_to(octets, from)?;
+//!             }
+//!             Outcome::Discard(why) => eprintln!("{from}: {why}"),
+//!         }
+//!     }
+//! }
+//! ```
+//!
+//! [`lent`] has the same calls on buffers of the caller's. The numbers are those of document 01 and of `include/banshorra.h`.
+
+#![deny(unsafe_code)]
+#![warn(missing_docs)]
+
+mod campus_file;
+pub mod lent;
+#[allow(unsafe_code)]
+mod library;
+mod numbers;
+mod records;
+
+pub use campus_file::CampusFile;
+pub use lent::Replayed;
+pub use numbers::{Discard, Outcome, Refusal};
+pub use records::{answers, Answers, Call};
+
+/// The longest campus file, and the least buffer for a file that is served.
+pub const FILE_ROOM: usize = 14_628;
+/// The least reply buffer. No reply is longer.
+pub const REPLY_ROOM: usize = 512;
+/// The least buffer for the board's text.
+pub const BOARD_ROOM: usize = 1_100;
+/// What a replay needs free before it answers a call: outcome(1), reply length(2) and the longest reply.
+pub const ANSWER_ROOM: usize = 3 + REPLY_ROOM;

@@ -1,0 +1,110 @@
+//! The static library's four functions as safe ones. All unsafe code of the crate is here.
+//!
+//! Why each call is sound:
+//! - Every pointer comes from a slice or a reference that lives through the call, so it isn't null, is aligned, and is valid for
+//!   the length passed with it; an empty slice's pointer goes with length 0. The library reads and writes within these lengths
+//!   alone, which is proved of it, writes only what is lent as `&mut`, and keeps no pointer after it returns.
+//! - What is lent as `&mut` overlaps nothing else, so no two buffers of a call share an octet that is written.
+//! - Every octet and every `usize` is a valid value, so nothing that the library writes can be an invalid one.
+//! - The library has no state of its own and starts no thread: calls on different files may run at the same time.
+//! - It neither unwinds nor exits.
+//!
+//! The signatures are those of `include/banshorra.h`; `build.rs` links the library.
+
+extern "C" {
+    fn banshorra_check(file: *const u8, file_length: usize) -> u8;
+    fn banshorra_board(
+        file: *const u8,
+        file_length: usize,
+        text: *mut u8,
+        text_room: usize,
+    ) -> usize;
+    fn banshorra_serve(
+        file: *mut u8,
+        file_room: usize,
+        file_length: *mut usize,
+        datagram: *const u8,
+        datagram_length: usize,
+        client: u32,
+        time: u32,
+        reply: *mut u8,
+        reply_room: usize,
+        reply_length: *mut usize,
+    ) -> u8;
+    fn banshorra_replay(
+        file: *mut u8,
+        file_room: usize,
+        file_length: *mut usize,
+        calls: *const u8,
+        calls_length: usize,
+        calls_used: *mut usize,
+        answers: *mut u8,
+        answers_room: usize,
+        answers_filled: *mut usize,
+    ) -> u8;
+}
+
+/// 0 for an accepted campus file, or 20 or 21.
+pub fn check(file: &[u8]) -> u8 {
+    // SAFETY: as above; `file` is only read.
+    unsafe { banshorra_check(file.as_ptr(), file.len()) }
+}
+
+/// The length of the board's text.
+pub fn board(file: &[u8], text: &mut [u8]) -> usize {
+    // SAFETY: as above; `text` alone is written.
+    unsafe { banshorra_board(file.as_ptr(), file.len(), text.as_mut_ptr(), text.len()) }
+}
+
+/// The outcome or the refusal of a call, and the reply's length.
+pub fn serve(
+    file: &mut [u8],
+    file_length: &mut usize,
+    datagram: &[u8],
+    client: u32,
+    time: u32,
+    reply: &mut [u8],
+) -> (u8, usize) {
+    let mut reply_length = 0;
+    // SAFETY: as above; `file`, `file_length`, `reply` and `reply_length` are written, and each is lent as `&mut`.
+    let number = unsafe {
+        banshorra_serve(
+            file.as_mut_ptr(),
+            file.len(),
+            file_length,
+            datagram.as_ptr(),
+            datagram.len(),
+            client,
+            time,
+            reply.as_mut_ptr(),
+            reply.len(),
+            &mut reply_length,
+        )
+    };
+    (number, reply_length)
+}
+
+/// How a list of calls ended, the octets of calls used and those of answers filled.
+pub fn replay(
+    file: &mut [u8],
+    file_length: &mut usize,
+    calls: &[u8],
+    answers: &mut [u8],
+) -> (u8, usize, usize) {
+    let (mut calls_used, mut answers_filled) = (0, 0);
+    // SAFETY: as above; `file`, `file_length`, `answers` and the two locals are written, and each is lent as `&mut`.
+    let number = unsafe {
+        banshorra_replay(
+            file.as_mut_ptr(),
+            file.len(),
+            file_length,
+            calls.as_ptr(),
+            calls.len(),
+            &mut calls_used,
+            answers.as_mut_ptr(),
+            answers.len(),
+            &mut answers_filled,
+        )
+    };
+    (number, calls_used, answers_filled)
+}

@@ -1,0 +1,134 @@
+//! Campus files that are taken and refused.
+
+mod common;
+
+use banshorra_host::{lent, CampusFile, Refusal, FILE_ROOM};
+use common::*;
+
+fn refusal(file: &[u8]) -> Option<Refusal> {
+    let refusal = CampusFile::from_bytes(file).err();
+    assert_eq!(lent::check(file).err(), refusal);
+    let mut text = [0; 1100];
+    let text = lent::board(file, &mut text).expect("the room is enough");
+    match refusal {
+        Some(refusal) => assert_eq!(text, format!("refused {}\n", refusal.number())),
+        None => assert!(text.starts_with("scope house share limit holds\n")),
+    }
+    refusal
+}
+
+fn lease(house: u8, identifier: &[u8]) -> Lease {
+    Lease {
+        house,
+        scope: 1,
+        identifier: identifier.to_vec(),
+        kind: REQUEST,
+        transaction: 7,
+        start: 900,
+        end: 1001,
+        offsets: vec![house - 1],
+    }
+}
+
+#[test]
+fn an_accepted_file_keeps_its_octets() {
+    let file = file_at(CLOCK, &[lease(1, b"ab"), lease(2, b"ab")]);
+    assert_eq!(refusal(&file), None);
+    let mut campus = CampusFile::from_bytes(&file).expect("sound");
+    assert_eq!(campus.as_bytes(), file);
+    // Time 0 is before the clock, which stays: the file that is written is the one that was read.
+    let getinfo = message(GETINFO, 1, &[identifier(b"ab")]);
+    assert_eq!(call(&mut campus, HOUSE_1, 0, &getinfo).0, 0);
+    assert_eq!(campus.as_bytes(), file);
+}
+
+#[test]
+fn a_file_cut_off_anywhere_is_20() {
+    let file = file_at(CLOCK, &[lease(1, b"ab"), lease(2, b"ab")]);
+    for length in 0..file.len() {
+        assert_eq!(refusal(&file[..length]), Some(Refusal::Form), "{length}");
+    }
+}
+
+#[test]
+fn an_octet_more_is_20() {
+    for more in 0..=255 {
+        let mut file = specimen_file();
+        file.push(more);
+        assert_eq!(refusal(&file), Some(Refusal::Form));
+    }
+}
+
+#[test]
+fn server_count_other_than_1_is_20() {
+    for count in [0, 2, 255] {
+        let mut file = specimen_file();
+        file[0] = count;
+        assert_eq!(refusal(&file), Some(Refusal::Form));
+    }
+}
+
+#[test]
+fn leases_out_of_order_are_20_and_equal_ones_21() {
+    let file = file_at(CLOCK, &[lease(1, b"ac"), lease(1, b"ab")]);
+    assert_eq!(refusal(&file), Some(Refusal::Form));
+    let file = file_at(CLOCK, &[lease(1, b"ab"), lease(1, b"ab")]);
+    assert_eq!(refusal(&file), Some(Refusal::Unsound));
+}
+
+#[test]
+fn unsound_files_are_21() {
+    // The scope's TTL; house 1's share above its limit; the scope's size; houses that overlap; a pool outside of 224.0.0.0/4.
+    for (place, octet) in [(32, 0), (33, 4), (31, 0), (12, 2), (27, 223)] {
+        let mut file = specimen_file();
+        file[place] = octet;
+        assert_eq!(refusal(&file), Some(Refusal::Unsound), "{place}");
+    }
+    let ended = file_at(1001, &[lease(1, b"ab")]);
+    assert_eq!(refusal(&ended), Some(Refusal::Unsound));
+    let wrong_house = file_at(CLOCK, &[lease(3, b"ab")]);
+    assert_eq!(refusal(&wrong_house), Some(Refusal::Unsound));
+}
+
+/// 8 houses, 4 scopes, 128 leases with 32 octets of identifier and 64 addresses: the longest file that has the limits' counts. Its form is
+/// right, and as each house has all addresses of a scope it is unsound.
+fn longest() -> Vec<u8> {
+    let mut file = [&[1], &SERVER[..], &CLOCK.to_be_bytes(), &[8]].concat();
+    for house in 1..=8 {
+        file.extend([10, 0, house, 0, 10, 0, house, 255]);
+    }
+    file.push(4);
+    for scope in 0..4 {
+        file.extend([239, 192, scope, 0, 64, 15]);
+        file.extend([8, 64].repeat(8));
+    }
+    file.push(128);
+    for lease in 0..128u8 {
+        file.extend([lease / 16 + 1, lease / 32 + 1, 32]);
+        file.extend([lease; 32]);
+        file.push(REQUEST);
+        for number in [7, 900, 1001u32] {
+            file.extend(number.to_be_bytes());
+        }
+        file.push(64);
+        file.extend(0..64);
+    }
+    file
+}
+
+#[test]
+fn the_longest_file_fits_and_an_overlong_one_is_20() {
+    let mut file = longest();
+    assert_eq!(file.len(), FILE_ROOM);
+    assert_eq!(refusal(&file), Some(Refusal::Unsound));
+    file.push(0);
+    assert_eq!(refusal(&file), Some(Refusal::Form));
+    // A layout that fits its octets, but more of them than a file may have.
+    let mut file = longest();
+    let places = [9 + 65 + 89 + 2, 9 + 65 + 89 + 3];
+    file[places[0] + 1] = 33;
+    file.insert(places[1] + 1, 0);
+    assert_eq!(file.len(), FILE_ROOM + 1);
+    assert_eq!(refusal(&file), Some(Refusal::Form));
+    assert_eq!(refusal(&vec![0; 100_000]), Some(Refusal::Form));
+}

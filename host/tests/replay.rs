@@ -1,0 +1,193 @@
+//! Lists of calls: the sample morning, and the same calls one by one.
+
+mod common;
+
+use banshorra_host::{answers, Call, CampusFile, Refusal, ANSWER_ROOM};
+use common::*;
+use std::net::Ipv4Addr;
+
+const MORNING: &[u8] = include_bytes!("../../samples/morning.bin");
+/// What the program `replay` prints for it.
+const PRINTED: &str = include_str!("../../samples/morning.out");
+const ROOM: usize = 20_000;
+
+/// The sample campus, and the calls after it.
+fn morning() -> (CampusFile, &'static [u8]) {
+    let length = usize::from(u16::from_be_bytes([MORNING[0], MORNING[1]]));
+    let (file, calls) = MORNING[2..].split_at(length);
+    (CampusFile::from_bytes(file).expect("sound"), calls)
+}
+
+/// The records of a list.
+fn records(mut calls: &[u8]) -> Vec<&[u8]> {
+    let mut records = vec![];
+    while !calls.is_empty() {
+        let length = 12 + usize::from(u16::from_be_bytes([calls[10], calls[11]]));
+        let (record, rest) = calls.split_at(length);
+        records.push(record);
+        calls = rest;
+    }
+    records
+}
+
+fn number(octets: &[u8]) -> u32 {
+    octets
+        .iter()
+        .fold(0, |sum, &octet| sum << 8 | u32::from(octet))
+}
+
+/// Serves a record by itself: its answer.
+fn single(campus: &mut CampusFile, record: &[u8]) -> Vec<u8> {
+    let client = Ipv4Addr::from(number(&record[4..8]));
+    let mut room = vec![0; number(&record[8..10]) as usize];
+    let outcome = campus.serve(&record[12..], client, number(&record[..4]), &mut room);
+    let reply = outcome.reply().unwrap_or(&[]);
+    let length = (reply.len() as u16).to_be_bytes();
+    [&[outcome.number()][..], &length, reply].concat()
+}
+
+#[test]
+fn a_replay_is_its_single_serves() {
+    let (mut campus, calls) = morning();
+    let (mut by_one, mut expected) = (campus.clone(), vec![]);
+    for record in records(calls) {
+        expected.extend(single(&mut by_one, record));
+    }
+    let mut filled = pattern(ROOM);
+    let replayed = campus.replay(calls, &mut filled);
+    assert_eq!(replayed.stopped, None);
+    assert_eq!(replayed.calls_used, calls.len());
+    assert_eq!(replayed.answers_filled, expected.len());
+    assert_eq!(filled[..expected.len()], expected);
+    assert_eq!(filled[expected.len()..], pattern(ROOM)[expected.len()..]);
+    assert_eq!(campus, by_one);
+}
+
+#[test]
+fn the_sample_morning_goes_as_the_program_prints_it() {
+    let hex = |octets: &[u8]| -> String { octets.iter().map(|o| format!("{o:02x}")).collect() };
+    let (mut campus, calls) = morning();
+    let mut filled = vec![0; ROOM];
+    let replayed = campus.replay(calls, &mut filled);
+    let mut printed = String::new();
+    for outcome in answers(&filled[..replayed.answers_filled]) {
+        printed += &outcome.number().to_string();
+        if let Some(reply) = outcome.reply() {
+            printed += &format!(" {}", hex(reply));
+        }
+        printed += "\n";
+    }
+    printed += &format!("book {}\n", hex(campus.as_bytes()));
+    assert_eq!(printed.to_lowercase(), PRINTED.to_lowercase());
+}
+
+#[test]
+fn no_calls_change_nothing() {
+    let (mut campus, _) = morning();
+    let before = campus.clone();
+    let replayed = campus.replay(&[], &mut []);
+    assert_eq!(replayed.stopped, None);
+    assert_eq!((replayed.calls_used, replayed.answers_filled), (0, 0));
+    assert_eq!(campus, before);
+}
+
+#[test]
+fn a_record_cut_off_is_24_and_those_before_it_stand() {
+    let (campus, calls) = morning();
+    for length in 0..calls.len() {
+        let (mut whole, mut used, mut expected) = (campus.clone(), 0, vec![]);
+        for record in records(calls) {
+            if used + record.len() > length {
+                break;
+            }
+            used += record.len();
+            expected.extend(single(&mut whole, record));
+        }
+        let mut cut = campus.clone();
+        let mut filled = pattern(ROOM);
+        let replayed = cut.replay(&calls[..length], &mut filled);
+        let stopped = (used < length).then_some(Refusal::CutOff);
+        assert_eq!(replayed.stopped, stopped, "cut at {length}");
+        assert_eq!(replayed.calls_used, used);
+        assert_eq!(replayed.answers_filled, expected.len());
+        assert_eq!(filled[..expected.len()], expected);
+        assert_eq!(filled[expected.len()..], pattern(ROOM)[expected.len()..]);
+        assert_eq!(cut, whole);
+    }
+}
+
+#[test]
+fn too_little_room_for_the_first_answer_is_25_and_changes_nothing() {
+    let (campus, calls) = morning();
+    for room in [0, 1, 3, ANSWER_ROOM - 1] {
+        let mut tried = campus.clone();
+        let mut filled = pattern(room);
+        let replayed = tried.replay(calls, &mut filled);
+        assert_eq!(replayed.stopped, Some(Refusal::AnswersRoom));
+        assert_eq!((replayed.calls_used, replayed.answers_filled), (0, 0));
+        assert_eq!((filled, tried), (pattern(room), campus.clone()));
+    }
+}
+
+#[test]
+fn after_25_the_rest_can_go_on_in_another_buffer() {
+    let (campus, calls) = morning();
+    let mut whole = campus.clone();
+    let mut all = vec![0; ROOM];
+    let end = whole.replay(calls, &mut all).answers_filled;
+    for room in [ANSWER_ROOM, ANSWER_ROOM + 1, 600, 1030, end, end + 512] {
+        let mut parts = campus.clone();
+        let (mut used, mut answered, mut stops) = (0, vec![], 0);
+        loop {
+            let mut filled = pattern(room);
+            let replayed = parts.replay(&calls[used..], &mut filled);
+            let end = replayed.answers_filled;
+            assert_eq!(filled[end..], pattern(room)[end..]);
+            answered.extend(&filled[..end]);
+            used += replayed.calls_used;
+            if replayed.stopped.is_none() {
+                break;
+            }
+            assert_eq!(replayed.stopped, Some(Refusal::AnswersRoom));
+            assert!(end > 0 && room - end < ANSWER_ROOM);
+            stops += 1;
+        }
+        assert!(stops > 0 || room == end + 512);
+        assert_eq!((used, &answered[..]), (calls.len(), &all[..end]));
+        assert_eq!(parts, whole);
+    }
+}
+
+#[test]
+fn a_call_is_appended_as_a_record() {
+    let (mut campus, calls) = morning();
+    let mut list = vec![];
+    for record in records(calls) {
+        let call = Call {
+            time: number(&record[..4]),
+            client: Ipv4Addr::from(number(&record[4..8])),
+            reply_room: number(&record[8..10]) as u16,
+            datagram: &record[12..],
+        };
+        call.append_to(&mut list);
+    }
+    assert_eq!(list, calls);
+    // A reply room above 512 counts as 512.
+    let getinfo = message(GETINFO, 1, &[identifier(b"ab")]);
+    let mut outcomes = vec![];
+    for (reply_room, number) in [(511, 2), (512, 0), (513, 0), (65_535, 0)] {
+        let call = Call {
+            time: 0,
+            client: HOUSE_1,
+            reply_room,
+            datagram: &getinfo,
+        };
+        let (mut calls, mut filled) = (vec![], [0; ANSWER_ROOM]);
+        call.append_to(&mut calls);
+        let replayed = campus.replay(&calls, &mut filled);
+        assert_eq!(replayed.stopped, None);
+        let outcome = answers(&filled[..replayed.answers_filled]).next();
+        outcomes.push(outcome.map(|outcome| outcome.number() == number));
+    }
+    assert_eq!(outcomes, [Some(true); 4]);
+}

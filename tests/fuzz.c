@@ -605,7 +605,7 @@ static void replay(held_file *held, const uint8_t *list, size_t list_length, siz
         if (left < 12 || left - 12 < get16(record + 10)) {
             due = 24;
         } else if (answers_room - due_filled < BANSHORRA_ANSWER_ROOM) {
-            due = 25;
+            due = 27;
         } else {
             call c = {get32(record), get32(record + 4), get16(record + 8), get16(record + 10), record + 12};
             uint8_t reply[BANSHORRA_REPLY_ROOM], *answer = due_answers + due_filled;
@@ -629,7 +629,7 @@ static void replay(held_file *held, const uint8_t *list, size_t list_length, siz
     EXPECT(same(answers, due_answers, answers_room), "replay's answers aren't those of its serves, or it wrote past them");
     EXPECT(held->length == by_one.length && same(held->at, by_one.at, held->length <= held->room ? held->length : held->room),
            "replay's file isn't that of its serves");
-    if (number == 0 || *used > 0 || number == 25)
+    if (number == 0 || *used > 0 || number == 27)
         EXPECT(same(held->at + held->length, before + held->length, held->room - held->length), "replay wrote past the file");
     else
         EXPECT(same(held->at, before, held->room), "%u changed the file", number);
@@ -781,7 +781,7 @@ int main(int count, char **words)
     missing += counts("board", returned[BOARD], (const uint8_t[]){0, 20, 21, 1}, 4,
                       (const char *const[]){"lines", "refused 20", "refused 21", "no room"});
     missing += counts("serve", returned[SERVE], (const uint8_t[]){0, 2, 3, 4, 5, 6, 7, 8, 20, 21, 23, 24}, 12, NULL);
-    missing += counts("replay", returned[REPLAY], (const uint8_t[]){0, 20, 21, 23, 24, 25}, 6, NULL);
+    missing += counts("replay", returned[REPLAY], (const uint8_t[]){0, 20, 21, 23, 24, 27}, 6, NULL);
     missing += counts("replies", replies, (const uint8_t[]){OFFER, ACK, NAK}, 3, (const char *const[]){"OFFER", "ACK", "NAK"});
     missing += counts("errors", errors, (const uint8_t[]){0, 1, 2, 3}, 4, NULL);
     /* A run of this length that never saw one of these would be no fuzz run. */

@@ -39,7 +39,7 @@ enum {
     BANSHORRA_UNSOUND = 21,         /* campus file: well formed, but not sound */
     BANSHORRA_SHORT_FILE_ROOM = 23, /* the file's buffer is below 14,628 octets */
     BANSHORRA_CUT_OFF = 24,         /* the file's length is above its buffer's; or a call's record is cut off */
-    BANSHORRA_SHORT_ANSWERS = 25    /* fewer than 515 octets are left for the next answer */
+    BANSHORRA_SHORT_ANSWERS = 27    /* fewer than 515 octets are left for the next answer */
 };
 
 /* Whether a campus file is accepted: 0, or refusal 20 or 21. */
@@ -60,9 +60,9 @@ uint8_t banshorra_serve(uint8_t *file, size_t file_room, size_t *file_length, co
 /* Serves a list of calls, one after the other, with the file read once and written once.
    A call is time(4), client address(4), reply room length(2), datagram length(2), the datagram; a reply room length above 512 counts as 512.
    An answer is outcome(1), reply length(2), the reply.
-   Returns 0 where all calls are answered; 24 where the next call's record is cut off, or else 25 where fewer than 515 octets are left for the
+   Returns 0 where all calls are answered; 24 where the next call's record is cut off, or else 27 where fewer than 515 octets are left for the
    next answer. In all three *calls_used octets of the calls are answered, *answers_filled octets of answers filled, octets past them untouched,
-   and the file afterwards stands in the buffer; after 25 go on from there with another buffer.
+   and the file afterwards stands in the buffer; after 27 go on from there with another buffer.
    Or a refusal of the file, 23, 24, 20, 21 as above, which changes nothing but *calls_used and *answers_filled, which are 0. */
 uint8_t banshorra_replay(uint8_t *file, size_t file_room, size_t *file_length, const uint8_t *calls, size_t calls_length, size_t *calls_used,
                          uint8_t *answers, size_t answers_room, size_t *answers_filled);

@@ -52,7 +52,7 @@ impl CampusFile {
     }
 
     /// Serves a list of calls one after the other; see [`lent::replay`]. It stops at a record that is cut off (24) or where fewer than
-    /// [`ANSWER_ROOM`](crate::ANSWER_ROOM) octets are left for an answer (25), and can go on from `calls_used` with another buffer.
+    /// [`ANSWER_ROOM`](crate::ANSWER_ROOM) octets are left for an answer (27), and can go on from `calls_used` with another buffer.
     pub fn replay(&mut self, calls: &[u8], answers: &mut [u8]) -> Replayed {
         lent::replay(&mut self.buffer[..], &mut self.length, calls, answers)
     }

@@ -44,7 +44,7 @@ pub struct Replayed {
     pub calls_used: usize,
     /// The octets of their answers.
     pub answers_filled: usize,
-    /// Why it ended before the list's end: 24, the next record is cut off; 25, too little room for the next answer. The answers so far
+    /// Why it ended before the list's end: 24, the next record is cut off; 27, too little room for the next answer. The answers so far
     /// and the file stand. Or a refusal of the file as in [`serve`]: nothing has changed.
     pub stopped: Option<Refusal>,
 }

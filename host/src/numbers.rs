@@ -110,7 +110,7 @@ pub enum Refusal {
     /// The file's length is above its buffer's, or a call's record is cut off.
     CutOff = 24,
     /// Fewer than 515 octets are left for the next answer.
-    AnswersRoom = 25,
+    AnswersRoom = 27,
 }
 
 impl Refusal {

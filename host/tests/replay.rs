@@ -117,7 +117,7 @@ fn a_record_cut_off_is_24_and_those_before_it_stand() {
 }
 
 #[test]
-fn too_little_room_for_the_first_answer_is_25_and_changes_nothing() {
+fn too_little_room_for_the_first_answer_is_27_and_changes_nothing() {
     let (campus, calls) = morning();
     for room in [0, 1, 3, ANSWER_ROOM - 1] {
         let mut tried = campus.clone();
@@ -130,7 +130,7 @@ fn too_little_room_for_the_first_answer_is_25_and_changes_nothing() {
 }
 
 #[test]
-fn after_25_the_rest_can_go_on_in_another_buffer() {
+fn after_27_the_rest_can_go_on_in_another_buffer() {
     let (campus, calls) = morning();
     let mut whole = campus.clone();
     let mut all = vec![0; ROOM];

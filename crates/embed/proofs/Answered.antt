@@ -60,7 +60,7 @@ module _ (s : List ℕ) (at room : ℕ) where
     cut-not : 12 + n ≤ length s - at → cutOff (drop at s) ≡ false
     cut-not k = let p = length-drop at s in let q = size-in s at e in sym (cut-by h) ∙ le-ltb (length (drop at s)) (recordSize (drop at s)) (omega arith)
 
-    pub stop-room : 12 + n ≤ length s - at → room < 515 → 25 ≡ stopIn (drop at s) room
+    pub stop-room : 12 + n ≤ length s - at → room < 515 → 27 ≡ stopIn (drop at s) room
     unfolding stopIn
     stop-room k r = pick-false _ _ _ _ (cut-not k) (pick-lt _ _ _ room 515 r refl)
 
@@ -73,7 +73,7 @@ pub goes-on : (cs : List ℕ) (room : ℕ) → stopIn cs room ≡ 0 → (recordS
 unfolding stopIn cutOff pick
 goes-on cs room e = go (ltb (length cs) 12) (ltb (length cs) (recordSize cs)) (ltb room 515) refl refl e
   where
-    go : (t u v : Bool) → ltb (length cs) (recordSize cs) ≡ u → ltb room 515 ≡ v → _≡_ {A = ℕ} (pick (pick t true u) 24 (pick v 25 0)) 0 → (recordSize cs ≤ length cs) × (515 ≤ room)
+    go : (t u v : Bool) → ltb (length cs) (recordSize cs) ≡ u → ltb room 515 ≡ v → _≡_ {A = ℕ} (pick (pick t true u) 24 (pick v 27 0)) 0 → (recordSize cs ≤ length cs) × (515 ≤ room)
     go true u v p q e = absurd (omega arith)
     go false true v p q e = absurd (omega arith)
     go false false true p q e = absurd (omega arith)

@@ -1,52 +1,29 @@
 -- What the functions on a file in a buffer are proved by: the book of its first n octets, and the answer and the buffer after a call or a list
 -- of calls, from what the calls below gave.
 use mathlib.Core.Path.{_≡_, refl, sym, ap, _∙_}
-use mathlib.Core.Bool.{Bool, true, false}
 use mathlib.Core.List.{List, [], _++_}
 use Prim.Native.Nat.{ℕ, _≤_, _<_}
 use native.Mathlib.Omega.{arith}
-use lib.Dec.{eqb}
-use lib.ListN.{drop, length, length-replicate, replicate, take}
+use lib.ListN.{drop, length, take}
 use lib.Seq.{length-take-le}
-use borrow.Author.Tests.{eq-eqb, eqb-true}
-use Rattle.lists.specs.Pick.{pick, pick-eq, pick-lt, pick-not-eq, pick-not-lt}
-use Rattle.state.specs.Book.{zeroLease}
+use Rattle.lists.specs.Pick.{pick-eq, pick-lt, pick-not-eq, pick-not-lt}
 use Rattle.state.specs.declared.Lease.{Lease}
 use Rattle.state.specs.declared.State.{State}
 use Rattle.server.specs.Serve.{Call}
-use Rattle.state_file.specs.declared.Loaded.{Loaded}
 use Rattle.state_file.specs.declared.Written.{Written}
-use Rattle.state_file.specs.StateFile.{readOf, zeroState}
-use Rattle.records.specs.Records.{recordsOf}
-use Rattle.records.specs.Lent.{LentAnswer, LentReading, readLent, readWith, roomLent, serveLent, untouched, whole, writtenLent}
+use Rattle.state_file.specs.StateFile.{readOf}
+use Rattle.records.specs.Files.{blank-accepted, blank-refusal, readBlank}
+use Rattle.records.specs.Lent.{LentAnswer, LentReading, roomLent, serveLent, writtenLent}
 use Rattle.owned.specs.declared.OwnedCall.{OwnedCall}
 use Rattle.owned.specs.declared.OwnedFile.{OwnedFile}
 use Rattle.owned.specs.Owned.{ReadsOwned, ServesOwned}
 use Rattle.embed.specs.declared.Progress.{Progress}
-use Rattle.embed.specs.Embed.{FileAnswer, FileReplay, Replayed, filed, kept, largest, refiled, refusalIn, replayed, replayFile, serveFile}
+use Rattle.embed.specs.Embed.{FileAnswer, FileReplay, Replayed, filed, kept, largest, lengthAfter, numberAfter, refiled, refusalIn, replayed, replayFile, serveFile}
 use Rattle.embed.specs.Promises.{Opened, Replays, ReplaysFile, ServesFile}
 
--- ---- a file read over zeros
--- 128 records are there, so that a file that is accepted is read
-reading : (b : Bool) (f : Loaded) → LentReading
-reading b f = pick b (record { refusal = 0; state = f .state; leases = recordsOf (f .table) }) (untouched (f .refusal) zeroState (replicate 128 zeroLease))
-
-read-zeros : (f : List ℕ) → readLent f zeroState (replicate 128 zeroLease) ≡ reading (eqb (readOf f .refusal) 0) (readOf f)
-unfolding readWith whole pick reading
-read-zeros f = ap (λ (n : ℕ). readWith n (readOf f) zeroState (replicate 128 zeroLease)) (length-replicate 128 zeroLease)
-
-refusal-zeros : (b : Bool) (f : Loaded) → eqb (f .refusal) 0 ≡ b → reading b f .refusal ≡ f .refusal
-unfolding reading pick
-refusal-zeros true f e = sym (eqb-true _ _ e)
-refusal-zeros false f e = refl
-
-pub opened-refusal : (f : List ℕ) {r : OwnedFile} → ReadsOwned (readLent f zeroState (replicate 128 zeroLease)) r → r .refusal ≡ readOf f .refusal
-opened-refusal f v = v .refusal ∙ ap (λ (a : LentReading). a .refusal) (read-zeros f) ∙ refusal-zeros _ (readOf f) refl
-
--- an accepted file's book
-accepted : (f : List ℕ) → readOf f .refusal ≡ 0 → readLent f zeroState (replicate 128 zeroLease) ≡ record { refusal = 0; state = readOf f .state; leases = recordsOf (readOf f .table) }
-unfolding reading pick
-accepted f e = read-zeros f ∙ ap (λ (b : Bool). reading b (readOf f)) (eq-eqb _ _ e)
+-- ---- a file read over a book that is all zero
+pub opened-refusal : (f : List ℕ) {r : OwnedFile} → ReadsOwned (readBlank f) r → r .refusal ≡ readOf f .refusal
+opened-refusal f v = v .refusal ∙ blank-refusal f
 
 -- ---- the first n octets of a buffer
 pub first-length : (b : List ℕ) (n : ℕ) → n ≤ length b → n ≡ length (take n b)
@@ -75,11 +52,11 @@ module _ (b : List ℕ) (n : ℕ) where
   pub opened-past : {r : OwnedFile} → 14628 ≤ length b → length b < n → r .refusal ≡ 24 → Opened b n r
   opened-past h k a = nothing a (refusal-past h k) (λ p. omega arith)
 
-  pub opened-book : {r : OwnedFile} → 14628 ≤ length b → n ≤ length b → ReadsOwned (readLent (take n b) zeroState (replicate 128 zeroLease)) r → Opened b n r
+  pub opened-book : {r : OwnedFile} → 14628 ≤ length b → n ≤ length b → ReadsOwned (readBlank (take n b)) r → Opened b n r
   opened-book h k v = record {
     refusal = opened-refusal (take n b) v ∙ at;
-    state = λ p. v .state ∙ ap (λ (a : LentReading). a .state) (accepted (take n b) (at ∙ p));
-    leases = λ p. v .leases ∙ ap (λ (a : LentReading). a .leases) (accepted (take n b) (at ∙ p));
+    state = λ p. v .state ∙ ap (λ (a : LentReading). a .state) (blank-accepted (take n b) (at ∙ p));
+    leases = λ p. v .leases ∙ ap (λ (a : LentReading). a .leases) (blank-accepted (take n b) (at ∙ p));
   }
     where
       at : readOf (take n b) .refusal ≡ refusalIn b n
@@ -92,26 +69,24 @@ module _ (b : List ℕ) (n : ℕ) {f : OwnedFile} (o : Opened b n f) where
 
   -- the answer of a call on the book is that on the file's
   module _ (c : Call) where
-    serve-yes : f .refusal ≡ 0 → filed b (serveLent (f .owned .state) (f .owned .records .leases) c) ≡ serveFile b n c
+    serve-yes : f .refusal ≡ 0 → filed b n (serveLent (f .owned .state) (f .owned .records .leases) c) ≡ serveFile b n c
     unfolding serveFile
     serve-yes z =
-        pick-eq _ _ _ (refusalIn b n) 0 (zero-in z) (ap (λ (s : State). filed b (serveLent s (f .owned .records .leases) c)) (o .state (zero-in z))
-        ∙ ap (λ (ls : List Lease). filed b (serveLent (readOf (take n b) .state) ls c)) (o .leases (zero-in z)))
+        pick-eq _ _ _ (refusalIn b n) 0 (zero-in z) (ap (λ (s : State). filed b n (serveLent s (f .owned .records .leases) c)) (o .state (zero-in z))
+        ∙ ap (λ (ls : List Lease). filed b n (serveLent (readOf (take n b) .state) ls c)) (o .leases (zero-in z)))
 
     serve-no : (f .refusal ≡ 0 → ⊥) → kept (refusalIn b n) b n ≡ serveFile b n c
     unfolding serveFile
     serve-no z = pick-not-eq _ _ _ (refusalIn b n) 0 (λ p. z (o .refusal ∙ p)) refl
 
-    pub file-served : {before after b' : List ℕ} {r : OwnedCall} {w : Written} → f .refusal ≡ 0
+    pub file-served : {before after b' : List ℕ} {m k : ℕ} {r : OwnedCall} {w : Written} → f .refusal ≡ 0
         → ServesOwned (serveLent (f .owned .state) (f .owned .records .leases) c) before after r
         → w ≡ writtenLent (r .owned .state) (r .owned .records .leases) (length b) → b' ≡ roomLent (r .owned .state) (r .owned .records .leases) b
-        → ServesFile (serveFile b n c) b' (w .length) before after (r .length) (r .outcome)
-    file-served {before = before} {r = r} z v p q = record {
-      number = v .outcome ∙ ap (λ (x : FileAnswer). x .number) at;
+        → m ≡ lengthAfter w n → k ≡ numberAfter w (r .outcome) → ServesFile (serveFile b n c) b' m before after (r .length) k
+    file-served {before = before} {r = r} {w = w} z v p q i j = record {
+      number = j ∙ ap (λ (x : Written). numberAfter x (r .outcome)) w-is ∙ ap (numberAfter W) (v .outcome) ∙ ap (λ (x : FileAnswer). x .number) at;
       file = q ∙ ap (λ (s : State). roomLent s (r .owned .records .leases) b) (v .state) ∙ ap (λ (ls : List Lease). roomLent (a .state) ls b) (v .leases) ∙ ap (λ (x : FileAnswer). x .buffer) at;
-      long =
-          ap (λ (x : Written). x .length) p ∙ ap (λ (s : State). writtenLent s (r .owned .records .leases) (length b) .length) (v .state)
-          ∙ ap (λ (ls : List Lease). writtenLent (a .state) ls (length b) .length) (v .leases) ∙ ap (λ (x : FileAnswer). x .length) at;
+      long = i ∙ ap (λ (x : Written). lengthAfter x n) w-is ∙ ap (λ (x : FileAnswer). x .length) at;
       size = v .size ∙ ap (λ (x : FileAnswer). length (x .reply)) at;
       reply = v .buffer ∙ ap (λ (x : FileAnswer). x .reply ++ drop (length (x .reply)) before) at;
     }
@@ -119,8 +94,14 @@ module _ (b : List ℕ) (n : ℕ) {f : OwnedFile} (o : Opened b n f) where
         a : LentAnswer
         a = serveLent (f .owned .state) (f .owned .records .leases) c
 
-        at : filed b a ≡ serveFile b n c
+        at : filed b n a ≡ serveFile b n c
         at = serve-yes z
+
+        W : Written
+        W = writtenLent (a .state) (a .leases) (length b)
+
+        w-is : w ≡ W
+        w-is = p ∙ ap (λ (s : State). writtenLent s (r .owned .records .leases) (length b)) (v .state) ∙ ap (λ (ls : List Lease). writtenLent (a .state) ls (length b)) (v .leases)
 
     pub file-kept : {before : List ℕ} → (f .refusal ≡ 0 → ⊥) → ServesFile (serveFile b n c) b n before before 0 (f .refusal)
     file-kept {before} z = record {
@@ -135,26 +116,24 @@ module _ (b : List ℕ) (n : ℕ) {f : OwnedFile} (o : Opened b n f) where
     abbrev none : FileReplay
     none = record { number = refusalIn b n; buffer = b; length = n; used = 0; answers = [] }
 
-    replay-yes : f .refusal ≡ 0 → refiled b (replayed (length cs) (f .owned .state) (f .owned .records .leases) cs room) ≡ replayFile b n cs room
+    replay-yes : f .refusal ≡ 0 → refiled b n (replayed (length cs) (f .owned .state) (f .owned .records .leases) cs room) ≡ replayFile b n cs room
     unfolding replayFile
     replay-yes z =
-        pick-eq _ _ _ (refusalIn b n) 0 (zero-in z) (ap (λ (s : State). refiled b (replayed (length cs) s (f .owned .records .leases) cs room)) (o .state (zero-in z))
-        ∙ ap (λ (ls : List Lease). refiled b (replayed (length cs) (readOf (take n b) .state) ls cs room)) (o .leases (zero-in z)))
+        pick-eq _ _ _ (refusalIn b n) 0 (zero-in z) (ap (λ (s : State). refiled b n (replayed (length cs) s (f .owned .records .leases) cs room)) (o .state (zero-in z))
+        ∙ ap (λ (ls : List Lease). refiled b n (replayed (length cs) (readOf (take n b) .state) ls cs room)) (o .leases (zero-in z)))
 
     replay-no : (f .refusal ≡ 0 → ⊥) → none ≡ replayFile b n cs room
     unfolding replayFile
     replay-no z = pick-not-eq _ _ _ (refusalIn b n) 0 (λ p. z (o .refusal ∙ p)) refl
 
-    pub file-replayed : {before after b' : List ℕ} {r : Progress} {w : Written} → f .refusal ≡ 0
+    pub file-replayed : {before after b' : List ℕ} {m k : ℕ} {r : Progress} {w : Written} → f .refusal ≡ 0
         → Replays (replayed (length cs) (f .owned .state) (f .owned .records .leases) cs room) before after r
         → w ≡ writtenLent (r .owned .state) (r .owned .records .leases) (length b) → b' ≡ roomLent (r .owned .state) (r .owned .records .leases) b
-        → ReplaysFile (replayFile b n cs room) b' (w .length) (r .used) before after (r .filled) (r .number)
-    file-replayed {before = before} {r = r} z v p q = record {
-      number = v .number ∙ ap (λ (x : FileReplay). x .number) at;
+        → m ≡ lengthAfter w n → k ≡ numberAfter w (r .number) → ReplaysFile (replayFile b n cs room) b' m (r .used) before after (r .filled) k
+    file-replayed {before = before} {r = r} {w = w} z v p q i j = record {
+      number = j ∙ ap (λ (x : Written). numberAfter x (r .number)) w-is ∙ ap (numberAfter W) (v .number) ∙ ap (λ (x : FileReplay). x .number) at;
       file = q ∙ ap (λ (s : State). roomLent s (r .owned .records .leases) b) (v .state) ∙ ap (λ (ls : List Lease). roomLent (a .state) ls b) (v .leases) ∙ ap (λ (x : FileReplay). x .buffer) at;
-      long =
-          ap (λ (x : Written). x .length) p ∙ ap (λ (s : State). writtenLent s (r .owned .records .leases) (length b) .length) (v .state)
-          ∙ ap (λ (ls : List Lease). writtenLent (a .state) ls (length b) .length) (v .leases) ∙ ap (λ (x : FileReplay). x .length) at;
+      long = i ∙ ap (λ (x : Written). lengthAfter x n) w-is ∙ ap (λ (x : FileReplay). x .length) at;
       used = v .used ∙ ap (λ (x : FileReplay). x .used) at;
       filled = v .filled ∙ ap (λ (x : FileReplay). length (x .answers)) at;
       answers = v .buffer ∙ ap (λ (x : FileReplay). x .answers ++ drop (length (x .answers)) before) at;
@@ -163,8 +142,14 @@ module _ (b : List ℕ) (n : ℕ) {f : OwnedFile} (o : Opened b n f) where
         a : Replayed
         a = replayed (length cs) (f .owned .state) (f .owned .records .leases) cs room
 
-        at : refiled b a ≡ replayFile b n cs room
+        at : refiled b n a ≡ replayFile b n cs room
         at = replay-yes z
+
+        W : Written
+        W = writtenLent (a .state) (a .leases) (length b)
+
+        w-is : w ≡ W
+        w-is = p ∙ ap (λ (s : State). writtenLent s (r .owned .records .leases) (length b)) (v .state) ∙ ap (λ (ls : List Lease). writtenLent (a .state) ls (length b)) (v .leases)
 
     pub file-left : {before : List ℕ} → (f .refusal ≡ 0 → ⊥) → ReplaysFile (replayFile b n cs room) b n 0 before before 0 (f .refusal)
     file-left {before} z = record {

@@ -1,8 +1,8 @@
--- What the functions for a host program in C or Rust answer: numbers and octets only. A state file is held in a buffer of the caller's.
--- Numbers beside document 01's: 23 a buffer for a file below 14,628 octets, 24 a length past a buffer's end or a record that is cut off,
--- 25 too little room for the next answer.
+-- What the functions for a host program in C or Rust answer: numbers and octets only. A campus file is held in a buffer of the caller's.
+-- The buffer is tested first: 23, document 01's short room, below 14,628 octets; 24 a length past its end; then 20 and 21. Of a list of calls:
+-- 24 a record that is cut off, then 27 fewer than 515 octets left for the next answer.
 use Prim.Native.Nat.{ℕ, zero, suc, _+_, _-_, min}
-use mathlib.Core.Bool.{Bool, true, false}
+use mathlib.Core.Bool.{Bool, true}
 use mathlib.Core.List.{List, [], _∷_, _++_}
 use lib.Dec.{eqb, ltb}
 use lib.ListN.{drop, length, take}
@@ -12,6 +12,7 @@ use Rattle.state.specs.declared.Lease.{Lease}
 use Rattle.state.specs.declared.State.{State}
 use Rattle.server.specs.Serve.{Call}
 use Rattle.state_file.specs.declared.Loaded.{Loaded}
+use Rattle.state_file.specs.declared.Written.{Written}
 use Rattle.state_file.specs.StateFile.{readOf}
 use Rattle.records.specs.Records.{recordsOf}
 use Rattle.records.specs.Lent.{LentAnswer, roomLent, serveLent, writtenLent}
@@ -25,7 +26,16 @@ largest = 14628
 unfoldable pub refusalIn : List ℕ → ℕ → ℕ
 refusalIn b n = pick (ltb (length b) largest) 23 (pick (ltb (length b) n) 24 (readOf (take n b) .refusal))
 
+-- What is told once the file is written again. The writer refuses no book that a call leaves; if it did, the host would be told its refusal, and
+-- the old file would stand.
+unfoldable pub numberAfter : Written → ℕ → ℕ
+numberAfter w k = pick (eqb (w .refusal) 0) k (w .refusal)
+
+unfoldable pub lengthAfter : Written → ℕ → ℕ
+lengthAfter w n = pick (eqb (w .refusal) 0) (w .length) n
+
 -- ---- one call
+-- the number returned, the file's buffer and the file's length afterwards, and the reply
 pub record FileAnswer : Type 0 where
   pub number : ℕ
   pub buffer : List ℕ
@@ -37,28 +47,28 @@ abbrev pub kept : ℕ → List ℕ → ℕ → FileAnswer
 kept k b n = record { number = k; buffer = b; length = n; reply = [] }
 
 -- the file of the state and the records afterwards takes the place of the old one
-abbrev pub filed : List ℕ → LentAnswer → FileAnswer
-filed b a = record {
-  number = a .outcome;
+abbrev pub filed : List ℕ → ℕ → LentAnswer → FileAnswer
+filed b n a = record {
+  number = numberAfter (writtenLent (a .state) (a .leases) (length b)) (a .outcome);
   buffer = roomLent (a .state) (a .leases) b;
-  length = writtenLent (a .state) (a .leases) (length b) .length;
+  length = lengthAfter (writtenLent (a .state) (a .leases) (length b)) n;
   reply = a .reply;
 }
 
 unfoldable pub serveFile : List ℕ → ℕ → Call → FileAnswer
 serveFile b n c =
-    pick (eqb (refusalIn b n) 0) (filed b (serveLent (readOf (take n b) .state) (recordsOf (readOf (take n b) .table)) c)) (kept (refusalIn b n) b n)
+    pick (eqb (refusalIn b n) 0) (filed b n (serveLent (readOf (take n b) .state) (recordsOf (readOf (take n b) .table)) c)) (kept (refusalIn b n) b n)
 
 -- ---- a list of calls, each a record as `replay` reads it: time(4), client address(4), reply room length(2), datagram length(2), the datagram
 -- how many octets the first record takes
 abbrev pub recordSize : List ℕ → ℕ
 recordSize cs = 12 + at16 cs 10
 
--- whether the first record is there whole
+-- whether the first record is cut off
 unfoldable pub cutOff : List ℕ → Bool
 cutOff cs = pick (ltb (length cs) 12) true (ltb (length cs) (recordSize cs))
 
--- the first call; 512 octets are room enough for any reply
+-- the first call; a room above 512 counts as 512: test 2 asks only whether it is below, and no reply is longer
 abbrev pub callIn : List ℕ → Call
 callIn cs = record { datagram = take (at16 cs 10) (drop 12 cs); client = at32 cs 4; time = at32 cs 0; room = min (at16 cs 8) 512 }
 
@@ -74,7 +84,7 @@ pub record Replayed : Type 0 where
   pub number : ℕ
   pub state : State
   pub leases : List Lease
-  -- how many octets of the calls are done
+  -- how many octets of these calls are done
   pub used : ℕ
   pub answers : List ℕ
 
@@ -91,9 +101,9 @@ onward cs a r = record {
   answers = answerOctets a ++ r .answers;
 }
 
--- why the first record is not answered, with so much room for answers left: 24, 25 or 0
+-- why the first record is not answered, with so much room for answers left: 24, 27 or 0
 unfoldable pub stopIn : List ℕ → ℕ → ℕ
-stopIn cs room = pick (cutOff cs) 24 (pick (ltb room answerRoom) 25 0)
+stopIn cs room = pick (cutOff cs) 24 (pick (ltb room answerRoom) 27 0)
 
 -- at most k records, each on what the one before left
 unfoldable pub replayed : ℕ → State → List Lease → List ℕ → ℕ → Replayed
@@ -105,7 +115,7 @@ replayed (suc k) s ls cs room =
     (replayed k (serveLent s ls (callIn cs) .state) (serveLent s ls (callIn cs) .leases) (drop (recordSize cs) cs) (room - length (answerOctets (serveLent s ls (callIn cs))))))
     (stopped (stopIn cs room) s ls))
 
--- a list of calls on the file in a buffer, with so much room for answers
+-- the number returned, the file's buffer and the file's length afterwards, how many octets of the calls are done, and the answers
 pub record FileReplay : Type 0 where
   pub number : ℕ
   pub buffer : List ℕ
@@ -113,16 +123,17 @@ pub record FileReplay : Type 0 where
   pub used : ℕ
   pub answers : List ℕ
 
-abbrev pub refiled : List ℕ → Replayed → FileReplay
-refiled b r = record {
-  number = r .number;
+abbrev pub refiled : List ℕ → ℕ → Replayed → FileReplay
+refiled b n r = record {
+  number = numberAfter (writtenLent (r .state) (r .leases) (length b)) (r .number);
   buffer = roomLent (r .state) (r .leases) b;
-  length = writtenLent (r .state) (r .leases) (length b) .length;
+  length = lengthAfter (writtenLent (r .state) (r .leases) (length b)) n;
   used = r .used;
   answers = r .answers;
 }
 
+-- a list of calls on the file in a buffer, with so much room for answers
 unfoldable pub replayFile : List ℕ → ℕ → List ℕ → ℕ → FileReplay
 replayFile b n cs room =
-    pick (eqb (refusalIn b n) 0) (refiled b (replayed (length cs) (readOf (take n b) .state) (recordsOf (readOf (take n b) .table)) cs room))
+    pick (eqb (refusalIn b n) 0) (refiled b n (replayed (length cs) (readOf (take n b) .state) (recordsOf (readOf (take n b) .table)) cs room))
     (record { number = refusalIn b n; buffer = b; length = n; used = 0; answers = [] })

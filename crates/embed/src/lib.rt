@@ -1,4 +1,4 @@
-// The functions that a host program in C or Rust links: numbers and octets only. A state file is held in a buffer of the caller's, of at least
+// The functions that a host program in C or Rust links: numbers and octets only. A campus file is held in a buffer of the caller's, of at least
 // 14,628 octets; `file_length` is the number of its octets, before and after.
 ghost use mathlib.Core.Path.{_≡_};
 ghost use Prim.Native.Nat.{_+_, _≤_, min};
@@ -7,11 +7,12 @@ ghost use Rattle.board_text.specs.Board.{lengthIn, roomWith};
 ghost use Rattle.server.specs.Serve.{Call};
 ghost use Rattle.state_file.specs.StateFile.{readOf};
 ghost use Rattle.records.specs.Lent.{serveLent};
-ghost use Rattle.embed.specs.Embed.{serveFile, replayFile, replayed, stopIn, callIn, recordSize};
+ghost use Rattle.embed.specs.Embed.{numberAfter, lengthAfter, serveFile, replayFile, replayed, stopIn, callIn, recordSize};
 ghost use Rattle.embed.specs.Promises.{Opened, ServesFile, Answers, Replays, ReplaysFile};
 use owned::Owned;
 use owned::OwnedCall;
 use owned::OwnedFile;
+use state_file::Written;
 
 // How far a list of calls came: 0 or why it stopped, the octets of calls used, the octets of answers filled, and the book afterwards.
 struct Progress {
@@ -46,9 +47,29 @@ fn open_in(file: &[u8], n: usize) -> OwnedFile
     owned::open(&file[..n])
 }
 
+// ---- what is told once the file is written again
+
+fn number_after(w: Written, k: u8) -> u8
+    ensures { λ r. ⌜ r ≡ numberAfter w k ⌝ }
+{
+    if w.refusal == 0 {
+        return k;
+    }
+    w.refusal
+}
+
+fn length_after(w: Written, n: usize) -> usize
+    ensures { λ r. ⌜ r ≡ lengthAfter w n ⌝ }
+{
+    if w.refusal == 0 {
+        return w.length;
+    }
+    n
+}
+
 // ---- a list of calls
 
-// Why the record at a place is not answered, with so much room for answers left: 24, 25 or 0.
+// Why the record at a place is not answered, with so much room for answers left: 24, 27 or 0.
 fn stop_number(calls: &[u8], at: usize, room: usize) -> u8
     requires { ⌜ at ≤ length (now calls) ⌝ }
     ensures { λ r. ⌜ r ≡ stopIn (drop at (now (calls .entry))) room ⌝ }
@@ -62,7 +83,7 @@ fn stop_number(calls: &[u8], at: usize, room: usize) -> u8
         return 24;
     }
     if room < 515 {
-        return 25;
+        return 27;
     }
     0
 }
@@ -154,7 +175,7 @@ fn replay(start: Owned, calls: &[u8], answers: &mut [u8]) -> Progress
 
 // ---- the functions that are linked
 
-// 0 for a state file that is accepted, or its refusal, 20 or 21.
+// 0 for a campus file that is accepted, or its refusal, 20 or 21.
 #[no_mangle]
 pub extern "C" fn banshorra_check(file: &[u8]) -> u8
     ensures { λ r. ⌜ r ≡ readOf (now (file .entry)) .refusal ⌝ }
@@ -163,7 +184,7 @@ pub extern "C" fn banshorra_check(file: &[u8]) -> u8
     r.refusal
 }
 
-// The text that `board` prints for a state file: its length, or 0 where the room is below 1,100 octets.
+// The text that `board` prints for a campus file: its length, or 0 where the room is below 1,100 octets.
 #[no_mangle]
 pub extern "C" fn banshorra_board(file: &[u8], text: &mut [u8]) -> usize
     ensures length { λ r. ⌜ r ≡ lengthIn (readOf (now (file .entry))) (now (text .entry)) ⌝ }
@@ -172,8 +193,9 @@ pub extern "C" fn banshorra_board(file: &[u8], text: &mut [u8]) -> usize
     board_text::write_board(file, text)
 }
 
-// One call on the state file in a buffer: the outcome, 0 to 8, with the reply and its length, and the file and its length afterwards. 20, 21, 23
-// and 24 change nothing but the reply's length, which is 0.
+// One call on the campus file in a buffer: the outcome, 0 to 8, with the reply and its length, and the file and its length afterwards. 23 where the
+// buffer has fewer than 14,628 octets, 24 where `file_length` is past its end, then 20 or 21 where the file is refused: these change nothing but
+// the reply's length, which is 0.
 #[no_mangle]
 pub extern "C" fn banshorra_serve(
     file: &mut [u8],
@@ -194,17 +216,18 @@ pub extern "C" fn banshorra_serve(
         let r = owned::serve(o, datagram, client, time, reply);
         let b = r.owned;
         let w = owned::write(b, file);
-        *file_length = w.length;
+        *file_length = length_after(w, n);
         *reply_length = r.length;
-        return r.outcome;
+        return number_after(w, r.outcome);
     }
     *reply_length = 0;
     refusal
 }
 
-// A list of calls on the state file in a buffer, in the records that `replay` reads; the file is read once and written once. Each answer is
+// A list of calls on the campus file in a buffer, in the records that `replay` reads; the file is read once and written once. Each answer is
 // outcome(1), reply length(2) and the reply. `used` is how many octets of the calls are answered, `filled` how many of the answers there are.
-// 0 where all are answered, 24 where a record is cut off, 25 where the next answer may not fit into 515 octets: those before it stand.
+// 0 where all are answered, 24 where a record is cut off, 27 where fewer than 515 octets are left for the next answer; those before it stand, and
+// the file is written. 20, 21, 23 and 24 of the file as above, with `used` and `filled` 0.
 #[no_mangle]
 pub extern "C" fn banshorra_replay(
     file: &mut [u8],
@@ -224,10 +247,10 @@ pub extern "C" fn banshorra_replay(
         let p = replay(o, calls, answers);
         let b = p.owned;
         let w = owned::write(b, file);
-        *file_length = w.length;
+        *file_length = length_after(w, n);
         *used = p.used;
         *filled = p.filled;
-        return p.number;
+        return number_after(w, p.number);
     }
     *used = 0;
     *filled = 0;

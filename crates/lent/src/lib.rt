@@ -1,5 +1,5 @@
-// The product's entry points: a state lent by `&mut`, updated where it stands, and its lease records lent as a slice. Each is a few whole
-// values and calls; every decision is made by value in `records` and below. Their proofs are walks by hand.
+// The product's entry points: document 01's record of clock and settings lent by `&mut`, updated where it stands, and its lease records lent as
+// a slice. Each is a few whole values and calls; every decision is made by value in `records` and below. Their proofs are walks by hand.
 ghost use mathlib.Core.Path.{_≡_};
 ghost use lib.ListN.{length, take};
 ghost use Rattle.state.specs.Book.{raised};
@@ -54,7 +54,7 @@ pub fn find(leases: &[Lease], h: usize, id: [u8; 32], len: u8) -> usize
     records::find(all, leases.len(), h, id, len)
 }
 
-// One lease more among those of tenant h, in the order of identifiers, where a record is left.
+// One lease more among those of tenant h, in the order of identifiers, where a record is left. Records past the first unused one become unused.
 pub fn insert(leases: &mut [Lease], h: usize, l: Lease)
     ensures { λ _. ⌜ now (leases .exit) ≡ insertLent h l (now (leases .entry)) ⌝ }
 {
@@ -63,7 +63,7 @@ pub fn insert(leases: &mut [Lease], h: usize, l: Lease)
     store(leases, x);
 }
 
-// The lease of an identifier goes from among those of tenant h.
+// The lease of an identifier goes from among those of tenant h. Records past the first unused one become unused.
 pub fn remove(leases: &mut [Lease], h: usize, id: [u8; 32], len: u8)
     ensures { λ _. ⌜ now (leases .exit) ≡ removeLent h (take len id) (now (leases .entry)) ⌝ }
 {
@@ -72,7 +72,7 @@ pub fn remove(leases: &mut [Lease], h: usize, id: [u8; 32], len: u8)
     store(leases, x);
 }
 
-// The call.
+// The call. Another number of records than 128 is discard 1.
 pub fn serve(
     datagram: &[u8],
     client: u32,
@@ -94,7 +94,8 @@ pub fn serve(
     }
 }
 
-// Reads a state file into the lent state and records: 0, or refusal 20 and then 21, which leave both as they were.
+// Reads a state file into the lent state and records: 0, or refusal 20 and then 21, which leave both as they were. Another number of records
+// than 128 is 21 after 20.
 pub fn read(file: &[u8], state: &mut State, leases: &mut [Lease]) -> u8
     ensures { λ r. ⌜ ReadsLent (readLent (now (file .entry)) (now (state .entry)) (now (leases .entry))) (now (state .exit)) (now (leases .exit)) r ⌝ }
 {
@@ -106,7 +107,8 @@ pub fn read(file: &[u8], state: &mut State, leases: &mut [Lease]) -> u8
     r.refusal
 }
 
-// Writes a state file from the lent state and records: its length, or refusal 22 and then 23, which write nothing.
+// Writes a state file from the lent state and records: its length, or refusal 22 and then 23, which write nothing. Another number of records than
+// 128 is 22.
 pub fn write(state: &State, leases: &[Lease], room: &mut [u8]) -> Written
     ensures answer { λ r. ⌜ r ≡ writtenLent (now (state .entry)) (now (leases .entry)) (length (now (room .entry))) ⌝ }
     ensures octets { λ r. ⌜ now (room .exit) ≡ roomLent (now (state .entry)) (now (leases .entry)) (now (room .entry)) ⌝ }

@@ -16,7 +16,7 @@ use Rattle.guarantee.specs.Statement.{Answered, Demand3, Granted, NewRequest, r
 use Rattle.guarantee.proofs.Discards.{call-answered}
 use Rattle.guarantee.proofs.Granted.{demand3}
 use Rattle.guarantee.proofs.Kept.{call-sound}
-use Rattle.records.specs.Records.{recordsOf, tableFrom}
+use Rattle.records.specs.Records.{recordsOf}
 use Rattle.records.specs.Lent.{bookFrom, lentAnswer, LentAnswer, serveLent, serveWith, whole}
 use Rattle.records.specs.Steps.{off-whole}
 use Rattle.lent_guarantee.specs.Statement.{answerOf, bookOf, Lent, LentAnswered, LentDemand1, LentDemand3, runLent, SoundLent}
@@ -81,7 +81,10 @@ module _ (s : State) (ls : List Lease) (c : Call) where
     silent = λ z. ap (λ (a : Answer). a .reply) (sym back) ∙ v .silent (λ y. z (ap (λ (a : Answer). a .outcome) (sym back) ∙ y));
     untouched = λ e. still (v .untouched (number ∙ e));
     untouched-too = λ e. still (v .untouched-too (number ∙ e));
-    advances = λ h. ap (λ (a : Answer). a .book) (sym back) ∙ v .advances (let n = number in omega arith);
+    advances = λ h. let e = v .advances (let n = number in omega arith) in (
+      ap (λ (a : LentAnswer). a .state) (at-whole s ls c long) ∙ ap (λ (b : Book). b .state) e,
+      ap (λ (a : LentAnswer). a .leases) (at-whole s ls c long) ∙ ap (λ (b : Book). recordsOf (b .table)) e,
+    );
     other = λ no. absurd (no long);
   }
     where

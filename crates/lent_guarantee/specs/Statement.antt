@@ -12,7 +12,7 @@ use Rattle.soundness.specs.Sound.{soundB}
 use Rattle.server.specs.Serve.{Answer, Call, serveOf}
 use Rattle.guarantee.specs.Statement.{bookAt, Granted, NewRequest, WithinLimits}
 use Rattle.state_file.specs.FormatLaws.{Octets}
-use Rattle.records.specs.Records.{tableFrom}
+use Rattle.records.specs.Records.{recordsOf, tableFrom}
 use Rattle.records.specs.Lent.{bookFrom, LentAnswer, readLent, roomLent, serveLent, writtenLent}
 
 -- a state and records, as their caller holds them
@@ -41,7 +41,8 @@ pub record SoundLent (l : Lent) : Type 0 where
 unfoldable pub SameCall : Type 0
 SameCall = (s : State) (ls : List Lease) (c : Call) → length ls ≡ 128 → answerOf (serveLent s ls c) ≡ serveOf (bookFrom s ls) c
 
--- ---- demand 3
+-- ---- demand 3: from a sound lent book, after any list of calls, the book is sound on 128 records, no house is above its limit, and the next call,
+-- if it is a new REQUEST within its house's unused share, is granted
 unfoldable pub LentDemand3 : Type 0
 LentDemand3 =
     (l : Lent) → SoundLent l → (cs : List Call)
@@ -58,7 +59,7 @@ pub record LentAnswered (s : State) (ls : List Lease) (c : Call) (a : LentAnswer
   pub untouched : a .outcome ≡ 1 → (a .state ≡ s) × (a .leases ≡ ls)
   pub untouched-too : a .outcome ≡ 2 → (a .state ≡ s) × (a .leases ≡ ls)
   -- the others set the clock and drop ended leases; 3 to 8 do no more
-  pub advances : 3 ≤ a .outcome → bookFrom (a .state) (a .leases) ≡ bookAt (bookFrom s ls) c
+  pub advances : 3 ≤ a .outcome → (a .state ≡ bookAt (bookFrom s ls) c .state) × (a .leases ≡ recordsOf (bookAt (bookFrom s ls) c .table))
   -- another number of records makes the book unsound
   pub other : (length ls ≡ 128 → ⊥) → a .outcome ≡ 1
 

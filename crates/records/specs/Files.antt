@@ -6,7 +6,7 @@ use mathlib.Core.List.{List, [], _∷_, map}
 use native.Mathlib.Omega.{arith}
 use lib.Dec.{eqb}
 use lib.ListN.{length, replicate}
-use borrow.Author.Tests.{eqb-true, eqb-false}
+use borrow.Author.Tests.{eq-eqb, eqb-true, eqb-false}
 use Rattle.lists.specs.Pick.{pick}
 use Rattle.lists.specs.All.{allBy}
 use Rattle.lists.specs.Place.{placeBy}
@@ -83,6 +83,12 @@ blank-refusal f = go (eqb (readOf f .refusal) 0) refl
         → pick {A = LentReading} p (record { refusal = 0; state = readOf f .state; leases = recordsOf (readOf f .table) }) (untouched (readOf f .refusal) zeroState (replicate 128 zeroLease)) .refusal ≡ readOf f .refusal
     go true e = sym (eqb-true _ _ e)
     go false e = refl
+
+pub blank-accepted : (f : List ℕ) → readOf f .refusal ≡ 0 → readBlank f ≡ record { refusal = 0; state = readOf f .state; leases = recordsOf (readOf f .table) }
+unfolding readWith whole pick
+blank-accepted f e =
+    ap (λ (p : Bool). pick p (record { refusal = 0; state = readOf f .state; leases = recordsOf (readOf f .table) }) (untouched (readOf f .refusal) zeroState (replicate 128 zeroLease)))
+    (eq-eqb _ _ e)
 
 -- it gives what the reader by value gives
 pub blank-read : (f : List ℕ) → record { refusal = readBlank f .refusal; state = readBlank f .state; table = tableFrom (readBlank f .leases) } ≡ readOf f

@@ -1,5 +1,5 @@
 -- The entry points on a lent state and lent lease records (document 01, "How it is to be built"): what each answers, and the state and the
--- records afterwards. A slice has "always 128" records; "another number makes the book unsound (1, 21 or 22)".
+-- records afterwards. A house is a tenant here. A slice has "always 128" records; "another number makes the book unsound (1, 21 or 22)".
 use Prim.Native.Nat.{ℕ}
 use mathlib.Core.Path.{_≡_}
 use mathlib.Core.Bool.{Bool}
@@ -11,7 +11,8 @@ use Rattle.state.specs.declared.Book.{Book}
 use Rattle.state.specs.declared.Lease.{Lease}
 use Rattle.state.specs.declared.LeaseTable.{LeaseTable}
 use Rattle.state.specs.declared.State.{State}
-use Rattle.state.specs.Book.{inUse, insertOf, laidOut, placeOf, putAt, removeOf, tenantAt}
+use Rattle.state.specs.Book.{insertOf, laidOut, placeOf, putAt, removeOf}
+use Rattle.decision.specs.Parts.{ownOf}
 use Rattle.server.specs.Serve.{Answer, Call, serveOf}
 use Rattle.state_file.specs.declared.Loaded.{Loaded}
 use Rattle.state_file.specs.declared.Written.{Written}
@@ -112,26 +113,22 @@ abbrev pub roomLent : State → List Lease → List ℕ → List ℕ
 roomLent s ls room = roomWith (length ls) s ls room
 
 -- ---- one record
--- the leases of tenant h, counted from 0
-abbrev pub ownIn : LeaseTable → ℕ → List Lease
-ownIn t h = inUse (tenantAt t h)
-
--- the tenant's leases become p
+-- the leases of tenant h, counted from 0, become p: records past them become unused
 abbrev pub withOwn : LeaseTable → ℕ → List Lease → List Lease
 withOwn t h p = recordsOf (putAt t h (laidOut p))
 
--- the place of an identifier among the records of a tenant; the number of its leases where it has none
+-- the place of an identifier among the records of a tenant; the number of its leases where it has none, so 0 of no tenant and of another number of records
 unfoldable pub findWith : ℕ → ℕ → List ℕ → List Lease → ℕ
-findWith n h i ls = pick (whole n) (placeOf i (ownIn (tableFrom ls) h)) 0
+findWith n h i ls = pick (whole n) (placeOf i (ownOf (tableFrom ls) h)) 0
 
--- one lease more, in its place; a tenant whose sixteen records are used, and no tenant, keep what they have
+-- one lease more, in the order of identifiers, those of the same identifier after it; a tenant whose sixteen records are used, and no tenant, keep what they have
 unfoldable pub insertWith : ℕ → ℕ → Lease → List Lease → List Lease
 insertWith n h l ls =
-    pick (whole n) (pick (ltb h 8) (pick (ltb (length (ownIn (tableFrom ls) h)) 16) (withOwn (tableFrom ls) h (insertOf l (ownIn (tableFrom ls) h))) ls) ls) ls
+    pick (whole n) (pick (ltb h 8) (pick (ltb (length (ownOf (tableFrom ls) h)) 16) (withOwn (tableFrom ls) h (insertOf l (ownOf (tableFrom ls) h))) ls) ls) ls
 
 -- the lease of an identifier goes, and those after it move up
 unfoldable pub removeWith : ℕ → ℕ → List ℕ → List Lease → List Lease
-removeWith n h i ls = pick (whole n) (pick (ltb h 8) (withOwn (tableFrom ls) h (removeOf i (ownIn (tableFrom ls) h))) ls) ls
+removeWith n h i ls = pick (whole n) (pick (ltb h 8) (withOwn (tableFrom ls) h (removeOf i (ownOf (tableFrom ls) h))) ls) ls
 
 abbrev pub findLent : ℕ → List ℕ → List Lease → ℕ
 findLent h i ls = findWith (length ls) h i ls

@@ -14,6 +14,7 @@ use Rattle.state.specs.declared.Book.{Book}
 use Rattle.state.specs.declared.Lease.{Lease}
 use Rattle.state.specs.declared.State.{State}
 use Rattle.state.specs.Book.{advanced, insertOf, placeOf, raised, removeOf, withClock, zeroLease}
+use Rattle.decision.specs.Parts.{ownOf}
 use Rattle.message.specs.Placed.{pick-cases}
 use Rattle.soundness.specs.Sound.{soundB}
 use Rattle.server.specs.Serve.{Answer, Call, atClock, forServer, serveOf, withReading}
@@ -24,7 +25,7 @@ use Rattle.records.specs.declared.ReadRecords.{ReadRecords}
 use Rattle.records.specs.declared.ServedRecords.{ServedRecords}
 use Rattle.state_file.specs.StateFile.{roomAfter, writtenOf}
 use Rattle.records.specs.Records.{recordsOf, tableFrom, taken, covered}
-use Rattle.records.specs.Lent.{bookFrom, lentAnswer, ownIn, withOwn, whole, untouched, LentAnswer, LentReading, serveWith, serveLent, ServesRecords, ServesLent, readWith, Reads, ReadsLent, writtenWith, writtenLent, roomWith, roomLent, findWith, findLent, insertWith, insertLent, removeWith, removeLent}
+use Rattle.records.specs.Lent.{bookFrom, lentAnswer, withOwn, whole, untouched, LentAnswer, LentReading, serveWith, serveLent, ServesRecords, ServesLent, readWith, Reads, ReadsLent, writtenWith, writtenLent, roomWith, roomLent, findWith, findLent, insertWith, insertLent, removeWith, removeLent}
 
 -- ---- slices
 -- 128 records are all taken
@@ -88,15 +89,15 @@ told-pick {A} G k ls = told-lent (λ n m. pick (whole n) (G m) k) (λ n m m' p. 
 -- ---- one record
 pub found-lent : (h : ℕ) (i : List ℕ) (ls : List Lease) {all : List Lease} {r : ℕ} → all ≡ taken ls → r ≡ findWith (length ls) h i all → r ≡ findLent h i ls
 unfolding findWith
-found-lent h i ls = told-pick (λ m. placeOf i (ownIn (tableFrom m) h)) 0 ls
+found-lent h i ls = told-pick (λ m. placeOf i (ownOf (tableFrom m) h)) 0 ls
 
 pub inserted-lent : (h : ℕ) (l : Lease) (ls : List Lease) {all x zs : List Lease} → all ≡ taken ls → x ≡ insertWith (length ls) h l all → length x ≡ 128 → zs ≡ covered ls x → zs ≡ insertLent h l ls
 unfolding insertWith
-inserted-lent h l ls = changed-pick (λ m. pick (ltb h 8) (pick (ltb (length (ownIn (tableFrom m) h)) 16) (withOwn (tableFrom m) h (insertOf l (ownIn (tableFrom m) h))) m) m) ls
+inserted-lent h l ls = changed-pick (λ m. pick (ltb h 8) (pick (ltb (length (ownOf (tableFrom m) h)) 16) (withOwn (tableFrom m) h (insertOf l (ownOf (tableFrom m) h))) m) m) ls
 
 pub removed-lent : (h : ℕ) (i : List ℕ) (ls : List Lease) {all x zs : List Lease} → all ≡ taken ls → x ≡ removeWith (length ls) h i all → length x ≡ 128 → zs ≡ covered ls x → zs ≡ removeLent h i ls
 unfolding removeWith
-removed-lent h i ls = changed-pick (λ m. pick (ltb h 8) (withOwn (tableFrom m) h (removeOf i (ownIn (tableFrom m) h))) m) ls
+removed-lent h i ls = changed-pick (λ m. pick (ltb h 8) (withOwn (tableFrom m) h (removeOf i (ownOf (tableFrom m) h))) m) ls
 
 -- ---- the writer
 pub written-lent : (s : State) (ls : List Lease) (room : ℕ) {all : List Lease} {w : Written} → all ≡ taken ls → w ≡ writtenWith (length ls) s all room → w ≡ writtenLent s ls room

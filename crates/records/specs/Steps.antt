@@ -14,6 +14,7 @@ use Rattle.state.specs.declared.LeaseTable.{LeaseTable}
 use Rattle.state.specs.declared.State.{State}
 use Rattle.state.specs.declared.TenantLeases.{TenantLeases}
 use Rattle.state.specs.Book.{inUse, insertOf, laidOut, placeOf, putAt, removeOf, tenantAt}
+use Rattle.decision.specs.Parts.{ownOf}
 use Rattle.server.specs.declared.Served.{Served}
 use Rattle.server.specs.Serve.{Answer, Call, Serves, serveOf}
 use Rattle.state_file.specs.declared.Loaded.{Loaded}
@@ -23,7 +24,7 @@ use Rattle.records.specs.declared.ReadRecords.{ReadRecords}
 use Rattle.records.specs.declared.Records.{Records}
 use Rattle.records.specs.declared.ServedRecords.{ServedRecords}
 use Rattle.records.specs.Records.{recordsOf, tableFrom}
-use Rattle.records.specs.Lent.{bookFrom, findWith, insertWith, lentAnswer, LentAnswer, LentReading, ownIn, readWith, Reads, removeWith, roomWith, serveWith, ServesRecords, untouched, whole, withOwn, writtenWith}
+use Rattle.records.specs.Lent.{bookFrom, findWith, insertWith, lentAnswer, LentAnswer, LentReading, readWith, Reads, removeWith, roomWith, serveWith, ServesRecords, untouched, whole, withOwn, writtenWith}
 
 -- ---- a test on the number of records
 pub is-whole : {n : ℕ} → n ≡ 128 → whole n ≡ true
@@ -47,21 +48,21 @@ module _ {A : Type 0} {n : ℕ} (x y : A) where
 module _ (n h : ℕ) (ls : List Lease) where
   pub find-in : (i : List ℕ) {t : LeaseTable} {own : TenantLeases} {r : ℕ} → n ≡ 128 → t ≡ tableFrom ls → own ≡ tenantAt t h → r ≡ placeOf i (inUse own) → r ≡ findWith n h i ls
   unfolding findWith
-  find-in i e a b c = c ∙ ap (λ (x : TenantLeases). placeOf i (inUse x)) (b ∙ ap (λ (x : LeaseTable). tenantAt x h) a) ∙ on-whole (placeOf i (ownIn (tableFrom ls) h)) 0 e
+  find-in i e a b c = c ∙ ap (λ (x : TenantLeases). placeOf i (inUse x)) (b ∙ ap (λ (x : LeaseTable). tenantAt x h) a) ∙ on-whole (placeOf i (ownOf (tableFrom ls) h)) 0 e
 
   pub find-out : (i : List ℕ) → (n ≡ 128 → ⊥) → 0 ≡ findWith n h i ls
   unfolding findWith
-  find-out i e = off-whole (placeOf i (ownIn (tableFrom ls) h)) 0 e
+  find-out i e = off-whole (placeOf i (ownOf (tableFrom ls) h)) 0 e
 
   -- the tenant's records, put in place
   put-in : (p : List Lease → List Lease) {t u : LeaseTable} {own x : TenantLeases} {m : List Lease}
-      → t ≡ tableFrom ls → own ≡ tenantAt t h → x ≡ laidOut (p (inUse own)) → u ≡ putAt t h x → m ≡ recordsOf u → m ≡ withOwn (tableFrom ls) h (p (ownIn (tableFrom ls) h))
+      → t ≡ tableFrom ls → own ≡ tenantAt t h → x ≡ laidOut (p (inUse own)) → u ≡ putAt t h x → m ≡ recordsOf u → m ≡ withOwn (tableFrom ls) h (p (ownOf (tableFrom ls) h))
   put-in p {t} a b c d e =
       e ∙ ap recordsOf (d ∙ ap (putAt t h) (c ∙ ap (λ (y : TenantLeases). laidOut (p (inUse y))) b)
-      ∙ ap (λ (y : LeaseTable). putAt y h (laidOut (p (ownIn y h)))) a)
+      ∙ ap (λ (y : LeaseTable). putAt y h (laidOut (p (ownOf y h)))) a)
 
   abbrev inserted : Lease → List Lease
-  inserted l = withOwn (tableFrom ls) h (insertOf l (ownIn (tableFrom ls) h))
+  inserted l = withOwn (tableFrom ls) h (insertOf l (ownOf (tableFrom ls) h))
 
   module _ (l : Lease) where
     pub insert-in : {t u : LeaseTable} {own x : TenantLeases} {k : ℕ} {m : List Lease} → n ≡ 128 → h < 8 → t ≡ tableFrom ls → own ≡ tenantAt t h → k ≡ length (inUse own) → k < 16
@@ -70,8 +71,8 @@ module _ (n h : ℕ) (ls : List Lease) where
     insert-in e f a b c g d i j =
         put-in (insertOf l) a b d i j
         ∙ sym (ap (λ (t : Bool). pick t (inserted l) ls) (lt-ltb _ 16 (subst-lt (c ∙ ap (λ (y : TenantLeases). length (inUse y)) (b ∙ ap (λ (y : LeaseTable). tenantAt y h) a)) g)))
-        ∙ sym (ap (λ (t : Bool). pick t (pick (ltb (length (ownIn (tableFrom ls) h)) 16) (inserted l) ls) ls) (lt-ltb h 8 f))
-        ∙ on-whole (pick (ltb h 8) (pick (ltb (length (ownIn (tableFrom ls) h)) 16) (inserted l) ls) ls) ls e
+        ∙ sym (ap (λ (t : Bool). pick t (pick (ltb (length (ownOf (tableFrom ls) h)) 16) (inserted l) ls) ls) (lt-ltb h 8 f))
+        ∙ on-whole (pick (ltb h 8) (pick (ltb (length (ownOf (tableFrom ls) h)) 16) (inserted l) ls) ls) ls e
       where
         subst-lt : {x y z : ℕ} → x ≡ y → x < z → y < z
         subst-lt p q = omega arith
@@ -80,8 +81,8 @@ module _ (n h : ℕ) (ls : List Lease) where
     unfolding insertWith pick
     insert-full e f a b c g =
         sym (ap (λ (t : Bool). pick t (inserted l) ls) (le-ltb _ 16 (subst-le (c ∙ ap (λ (y : TenantLeases). length (inUse y)) (b ∙ ap (λ (y : LeaseTable). tenantAt y h) a)) g)))
-        ∙ sym (ap (λ (t : Bool). pick t (pick (ltb (length (ownIn (tableFrom ls) h)) 16) (inserted l) ls) ls) (lt-ltb h 8 f))
-        ∙ on-whole (pick (ltb h 8) (pick (ltb (length (ownIn (tableFrom ls) h)) 16) (inserted l) ls) ls) ls e
+        ∙ sym (ap (λ (t : Bool). pick t (pick (ltb (length (ownOf (tableFrom ls) h)) 16) (inserted l) ls) ls) (lt-ltb h 8 f))
+        ∙ on-whole (pick (ltb h 8) (pick (ltb (length (ownOf (tableFrom ls) h)) 16) (inserted l) ls) ls) ls e
       where
         subst-le : {x y z : ℕ} → x ≡ y → z ≤ x → z ≤ y
         subst-le p q = omega arith
@@ -89,15 +90,15 @@ module _ (n h : ℕ) (ls : List Lease) where
     pub insert-none : n ≡ 128 → 8 ≤ h → ls ≡ insertWith n h l ls
     unfolding insertWith pick
     insert-none e f =
-        sym (ap (λ (t : Bool). pick t (pick (ltb (length (ownIn (tableFrom ls) h)) 16) (inserted l) ls) ls) (le-ltb h 8 f))
-        ∙ on-whole (pick (ltb h 8) (pick (ltb (length (ownIn (tableFrom ls) h)) 16) (inserted l) ls) ls) ls e
+        sym (ap (λ (t : Bool). pick t (pick (ltb (length (ownOf (tableFrom ls) h)) 16) (inserted l) ls) ls) (le-ltb h 8 f))
+        ∙ on-whole (pick (ltb h 8) (pick (ltb (length (ownOf (tableFrom ls) h)) 16) (inserted l) ls) ls) ls e
 
     pub insert-out : (n ≡ 128 → ⊥) → ls ≡ insertWith n h l ls
     unfolding insertWith
-    insert-out e = off-whole (pick (ltb h 8) (pick (ltb (length (ownIn (tableFrom ls) h)) 16) (inserted l) ls) ls) ls e
+    insert-out e = off-whole (pick (ltb h 8) (pick (ltb (length (ownOf (tableFrom ls) h)) 16) (inserted l) ls) ls) ls e
 
   abbrev removed : List ℕ → List Lease
-  removed i = withOwn (tableFrom ls) h (removeOf i (ownIn (tableFrom ls) h))
+  removed i = withOwn (tableFrom ls) h (removeOf i (ownOf (tableFrom ls) h))
 
   module _ (i : List ℕ) where
     pub remove-in : {t u : LeaseTable} {own x : TenantLeases} {m : List Lease} → n ≡ 128 → h < 8 → t ≡ tableFrom ls → own ≡ tenantAt t h

@@ -1,3 +1,4 @@
 pub mod Same
 pub mod Guaranteed
 pub mod RoundTrip
+mod Specimens

@@ -1,0 +1,389 @@
+//! Lists of calls: what clients of the houses send, mostly what draws a reply, and all the edges.
+
+use crate::campus::{beside, identifier, Campus};
+use crate::message::{self, Message, DISCOVER, GETINFO, RELEASE, RENEW, REQUEST};
+use crate::random::Random;
+use crate::{DEFAULT_LEASE, HORIZON, LAST_TIME, LONGEST_LEASE, SKEW};
+
+/// One call of a list.
+#[derive(Clone, Debug)]
+pub struct Call {
+    pub time: u32,
+    pub client: u32,
+    pub room: u16,
+    pub datagram: Vec<u8>,
+}
+
+impl Call {
+    /// Time(4), client address(4), reply room length(2), datagram length(2), the datagram.
+    pub fn record(&self) -> Vec<u8> {
+        let mut octets = self.time.to_be_bytes().to_vec();
+        octets.extend(self.client.to_be_bytes());
+        octets.extend(self.room.to_be_bytes());
+        octets.extend((self.datagram.len() as u16).to_be_bytes());
+        octets.extend(&self.datagram);
+        octets
+    }
+}
+
+/// What a client may refer to: a lease of the file, or one that it has asked for.
+#[derive(Clone)]
+struct Known {
+    house: usize,
+    identifier: Vec<u8>,
+    kind: u8,
+    transaction: u32,
+}
+
+/// What the maker of a list keeps in mind.
+struct Talk<'a> {
+    campus: &'a Campus,
+    clock: u32,
+    known: Vec<Known>,
+    /// Starts and ends of periods.
+    times: Vec<u32>,
+    calls: Vec<Call>,
+    /// The damage that comes next.
+    damage: usize,
+}
+
+/// A list of calls on a campus. `turn` says where in the list of damages to begin.
+pub fn list(random: &mut Random, campus: &Campus, count: usize, turn: usize) -> Vec<Call> {
+    let mut talk = Talk {
+        campus,
+        clock: campus.clock,
+        known: Vec::new(),
+        times: Vec::new(),
+        calls: Vec::new(),
+        damage: turn,
+    };
+    for lease in &campus.leases {
+        talk.times.extend([lease.start, lease.end]);
+        talk.known.push(Known {
+            house: usize::from(lease.house) - 1,
+            identifier: lease.identifier.clone(),
+            kind: lease.kind,
+            transaction: lease.transaction,
+        });
+    }
+    for _ in 0..count {
+        let call = talk.call(random);
+        talk.calls.push(call);
+    }
+    talk.calls
+}
+
+impl Talk<'_> {
+    fn call(&mut self, random: &mut Random) -> Call {
+        let time = self.time(random);
+        let room = if random.chance(4) {
+            random.pick(&[0, 1, 100, 511, 511])
+        } else {
+            random.pick(&[512, 512, 512, 513, 600, 1_472, 65_535])
+        };
+        if room >= 512 {
+            self.clock = self.clock.max(time);
+        }
+        if !self.calls.is_empty() && random.chance(12) {
+            // The same datagram again, from the same client or from another.
+            let mut call = random.pick(&self.calls);
+            if random.chance(15) {
+                call.client = self.client(random, None);
+            }
+            return Call { time, room, ..call };
+        }
+        let (house, message) = self.message(random);
+        let client = self.client(random, Some(house));
+        let datagram = if random.chance(16) {
+            self.damage += 1;
+            let (_, damage) = message::DAMAGES[self.damage % message::DAMAGES.len()];
+            damage(random, message)
+        } else {
+            message.octets()
+        };
+        Call {
+            time,
+            client,
+            room,
+            datagram,
+        }
+    }
+
+    /// Mostly the clock or a little later; at times an edge of a period, or an earlier time.
+    fn time(&self, random: &mut Random) -> u32 {
+        match random.below(40) {
+            0 => 0,
+            1 => self.clock / 2,
+            2 => self.clock.saturating_sub(1),
+            3 | 4 => self.next_edge(random).unwrap_or(self.clock),
+            5 if random.chance(40) => self.edge(random).unwrap_or(self.clock),
+            6 if random.chance(10) => random.pick(&[LAST_TIME, LAST_TIME - 1, LAST_TIME - HORIZON]),
+            7 => self
+                .clock
+                .saturating_add(random.pick(&[500, SKEW, DEFAULT_LEASE])),
+            _ => self
+                .clock
+                .saturating_add(random.pick(&[0, 0, 0, 1, 2, 100])),
+        }
+    }
+
+    /// The next start or end of a period, or the second before it.
+    fn next_edge(&self, random: &mut Random) -> Option<u32> {
+        let next = self
+            .times
+            .iter()
+            .copied()
+            .filter(|&time| time > self.clock)
+            .min()?;
+        Some(next - random.pick(&[0, 0, 1]))
+    }
+
+    /// A start or end of a period, or a second beside it; not long after the clock.
+    fn edge(&self, random: &mut Random) -> Option<u32> {
+        if self.times.is_empty() {
+            return None;
+        }
+        let time = random.pick(&self.times);
+        let time = match random.below(4) {
+            0 => time.saturating_sub(1),
+            1 => time.saturating_add(1),
+            _ => time,
+        };
+        (time <= self.clock.saturating_add(LONGEST_LEASE)).then_some(time)
+    }
+
+    fn client(&self, random: &mut Random, house: Option<usize>) -> u32 {
+        let house = house.unwrap_or_else(|| random.below(self.campus.houses.len()));
+        let (low, high) = self.campus.houses[house];
+        match random.below(40) {
+            0 => low.wrapping_sub(1),
+            1 => high.wrapping_add(1),
+            2 => random.u32(),
+            3..=20 => low,
+            21..=30 => high,
+            _ => low + (u64::from(random.u32()) % (u64::from(high - low) + 1)) as u32,
+        }
+    }
+
+    /// A message, and the house that it is meant to come from.
+    fn message(&mut self, random: &mut Random) -> (usize, Message) {
+        let kind = random.pick(&[
+            DISCOVER, DISCOVER, REQUEST, REQUEST, REQUEST, REQUEST, REQUEST, RENEW, RENEW, RENEW,
+            RELEASE, RELEASE, GETINFO,
+        ]);
+        let wants_known = if matches!(kind, RENEW | RELEASE) {
+            85
+        } else {
+            12
+        };
+        let mut house = random.below(self.campus.houses.len());
+        let mut ident = identifier(random);
+        let mut transaction = random.pick(&[0, 1, 2, 3, 0x0102_0304, u32::MAX]);
+        let mut kind = kind;
+        if !self.known.is_empty() && random.chance(wants_known) {
+            // Mostly a lease of the file; what was asked for since may not have been granted.
+            let of_file = self.campus.leases.len();
+            let known = if of_file > 0 && random.chance(60) {
+                self.known[random.below(of_file)].clone()
+            } else {
+                random.pick(&self.known)
+            };
+            house = if random.chance(92) {
+                known.house
+            } else {
+                house
+            };
+            ident = known.identifier;
+            if random.chance(8) && ident.len() > 1 {
+                ident = beside(random, &ident);
+            }
+            if random.chance(12) {
+                // What the lease records: a resend, whatever its options are.
+                (kind, transaction) = (known.kind, known.transaction);
+            }
+        }
+        let mut message = Message::new(kind, transaction, &ident);
+        match kind {
+            DISCOVER | REQUEST => self.ask(random, &mut message),
+            RENEW => self.put_period(random, &mut message),
+            GETINFO => {
+                if random.chance(80) {
+                    let codes = (0..random.between(1, 4))
+                        .flat_map(|_| random.pick(&[9_u16, 11, 1, 300, 0x0900]).to_be_bytes());
+                    message.put(5, codes.collect::<Vec<u8>>());
+                }
+                if random.chance(20) {
+                    message.put(8, *b"en");
+                }
+            }
+            _ => {}
+        }
+        if kind == REQUEST && random.chance(25) {
+            message.put(2, self.server(random));
+        }
+        if random.chance(15) {
+            let value = message::features(random, 0);
+            message.put(12, value);
+        }
+        if random.chance(6) {
+            message.put(random.pick(&[17, 300, 65_535]), vec![0; random.below(9)]);
+        }
+        if random.chance(4) {
+            let code = random.between(1, 16) as u16;
+            if !message.has(code) {
+                let value = message::fitting_value(random, code);
+                message.put(code, value);
+            }
+        }
+        random.shuffle(&mut message.options);
+        if matches!(kind, REQUEST | RENEW) {
+            self.known.push(Known {
+                house,
+                identifier: ident,
+                kind,
+                transaction,
+            });
+        }
+        (house, message)
+    }
+
+    /// Server Identifier: mostly ours.
+    fn server(&self, random: &mut Random) -> Vec<u8> {
+        let (family, address): (u16, u32) = match random.below(12) {
+            0 => (1, self.campus.server.wrapping_add(1)),
+            1 => (2, self.campus.server),
+            2 => return [vec![0, 2], vec![0; 16]].concat(),
+            3 => {
+                return [
+                    vec![0, 1],
+                    self.campus.server.to_be_bytes().to_vec(),
+                    vec![0; 12],
+                ]
+                .concat()
+            }
+            _ => (1, self.campus.server),
+        };
+        [
+            family.to_be_bytes().to_vec(),
+            address.to_be_bytes().to_vec(),
+        ]
+        .concat()
+    }
+
+    /// Scope, Number and period of a DISCOVER or REQUEST.
+    fn ask(&mut self, random: &mut Random, message: &mut Message) {
+        let scope = random.pick(&self.campus.scopes);
+        if !random.chance(1) {
+            let beside = if random.chance(3) {
+                random.pick(&[1, u32::MAX, 1 << 8])
+            } else {
+                0
+            };
+            message.put_u32(4, scope.lowest.wrapping_add(beside));
+        }
+        if random.chance(75) {
+            let size = u16::from(scope.size);
+            let (share, limit) = random.pick(&scope.parts);
+            let desired = match random.below(12) {
+                0 => size,
+                1 => size + 1,
+                2 => u16::from(share),
+                3 => u16::from(limit),
+                4 => u16::from(limit) + 1,
+                5 => random.pick(&[256, 258, 512, 60_000, 65_535]),
+                _ => random.pick(&[1, 1, 2, 2, 3, 4]),
+            };
+            let least = match random.below(20) {
+                0 => 0,
+                1..=3 => desired,
+                4 => desired.saturating_sub(1),
+                5 if random.chance(30) => desired.saturating_add(1),
+                _ => 1.min(desired),
+            };
+            message.put(7, message::number(least, desired));
+        }
+        if random.chance(5) {
+            let value = message::fitting_value(random, 10);
+            message.put(10, value);
+        }
+        self.put_period(random, message);
+    }
+
+    /// Lease Time, Start Time, Current Time, Minimum Lease and Maximum Start.
+    fn put_period(&mut self, random: &mut Random, message: &mut Message) {
+        let clock = self.clock;
+        let mut start = clock;
+        if random.chance(35) {
+            start = match random.below(12) {
+                0 => 0,
+                1 => clock.saturating_sub(1),
+                2 => clock.saturating_add(HORIZON),
+                3 => clock.saturating_add(HORIZON + 1),
+                4 => LAST_TIME - random.pick(&[0, 1, DEFAULT_LEASE, DEFAULT_LEASE + 1]),
+                5 => clock,
+                6 => clock.saturating_add(1),
+                _ => self.edge(random).unwrap_or(clock.saturating_add(500)),
+            };
+            message.put_u32(6, start);
+        }
+        let mut length = DEFAULT_LEASE;
+        if random.chance(60) {
+            let start = start.max(clock);
+            length = match random.below(20) {
+                0 => 0,
+                1 => 1,
+                2 => LONGEST_LEASE,
+                3 => LONGEST_LEASE + 1,
+                4 => LAST_TIME,
+                5 => LAST_TIME - start,
+                6 => (LAST_TIME - start).saturating_add(1),
+                7..=10 => self
+                    .edge(random)
+                    .map_or(1_000, |edge| edge.saturating_sub(start)),
+                _ => random.pick(&[2, 100, 1_000, DEFAULT_LEASE, 86_400]),
+            };
+            message.put_u32(1, length);
+        }
+        if random.chance(if message.has(6) { 93 } else { 40 }) {
+            let apart = random.pick(&[
+                0,
+                0,
+                0,
+                0,
+                0,
+                0,
+                0,
+                0,
+                0,
+                1,
+                900,
+                SKEW,
+                SKEW,
+                SKEW,
+                SKEW + 1,
+            ]);
+            let time = if random.chance(50) {
+                clock.saturating_add(apart)
+            } else {
+                clock.saturating_sub(apart)
+            };
+            message.put_u32(
+                11,
+                if random.chance(1) {
+                    random.pick(&[0, LAST_TIME])
+                } else {
+                    time
+                },
+            );
+        }
+        if random.chance(5) {
+            message.put_u32(14, random.pick(&[0, 1, LAST_TIME]));
+        }
+        if random.chance(5) {
+            message.put_u32(15, random.pick(&[0, clock, LAST_TIME]));
+        }
+        let start = start.max(clock);
+        self.times
+            .extend([start, start.saturating_add(length.min(LONGEST_LEASE))]);
+    }
+}

@@ -1,0 +1,391 @@
+//! Sound campus files of every shape, as the generator's own records; it rests on neither implementation.
+
+use crate::random::Random;
+use crate::{HORIZON, LAST_TIME, LONGEST_LEASE};
+
+/// The multicast addresses that pools lie in.
+pub const LOWEST_POOL: u32 = 0xE000_0000;
+pub const HIGHEST_POOL: u32 = 0xEFFF_FFFF;
+/// Lease records of a house.
+pub const RECORDS: usize = 16;
+
+#[derive(Clone, Debug)]
+pub struct Scope {
+    pub lowest: u32,
+    pub size: u8,
+    pub ttl: u8,
+    /// Share and limit of each house.
+    pub parts: Vec<(u8, u8)>,
+}
+
+#[derive(Clone, Debug, PartialEq, Eq)]
+pub struct Lease {
+    pub house: u8,
+    pub scope: u8,
+    pub identifier: Vec<u8>,
+    pub kind: u8,
+    pub transaction: u32,
+    pub start: u32,
+    pub end: u32,
+    pub offsets: Vec<u8>,
+}
+
+#[derive(Clone, Debug)]
+pub struct Campus {
+    pub server: u32,
+    pub clock: u32,
+    /// Lowest and highest client address of each house.
+    pub houses: Vec<(u32, u32)>,
+    pub scopes: Vec<Scope>,
+    pub leases: Vec<Lease>,
+}
+
+impl Campus {
+    /// A sound campus.
+    pub fn sound(random: &mut Random) -> Campus {
+        let house_count = random.pick(&[1, 2, 2, 3, 4, 5, 6, 7, 8, 8]);
+        let scope_count = random.pick(&[1, 1, 1, 2, 2, 3, 4]);
+        let mut campus = Campus {
+            server: random.pick(&[0x0A01_0101, 0, u32::MAX, 0xC0A8_0001]),
+            clock: clock(random),
+            houses: client_ranges(random, house_count),
+            scopes: pools(random, scope_count, house_count),
+            leases: Vec::new(),
+        };
+        campus.lend(random);
+        campus.sort();
+        campus
+    }
+
+    /// Gives every house addresses within its limit and the scope's sum, and leases on them.
+    fn lend(&mut self, random: &mut Random) {
+        let fullness = random.pick(&[0, 1, 2, 2, 3, 3]);
+        if fullness == 0 {
+            return;
+        }
+        let own: Vec<Vec<Vec<u8>>> = (0..self.scopes.len())
+            .map(|scope| self.own_addresses(random, scope))
+            .collect();
+        let mut until = vec![[0_u32; 64]; self.scopes.len()];
+        for house in 0..self.houses.len() {
+            let scopes: Vec<usize> = (0..self.scopes.len())
+                .filter(|&scope| !own[scope][house].is_empty())
+                .collect();
+            if scopes.is_empty() {
+                continue;
+            }
+            let count = match fullness {
+                1 => random.below(3),
+                2 => random.below(RECORDS + 1),
+                _ => random.between(RECORDS - 1, RECORDS),
+            };
+            for _ in 0..count {
+                let scope = random.pick(&scopes);
+                let offsets = some_of(random, &own[scope][house]);
+                let taken = offsets.iter().map(|&o| until[scope][usize::from(o)]).max();
+                let Some((start, end)) = self.period(random, taken.unwrap_or(0)) else {
+                    continue;
+                };
+                for &offset in &offsets {
+                    until[scope][usize::from(offset)] = end;
+                }
+                let lease = self.lease(random, house, scope, (start, end), offsets);
+                self.leases.push(lease);
+            }
+        }
+    }
+
+    /// For one scope, the addresses that each house may hold leases on.
+    fn own_addresses(&self, random: &mut Random, scope: usize) -> Vec<Vec<u8>> {
+        let Scope {
+            size, ref parts, ..
+        } = self.scopes[scope];
+        let mut sum: usize = parts.iter().map(|part| usize::from(part.0)).sum();
+        let mut offsets: Vec<u8> = (0..size).collect();
+        if random.chance(60) {
+            random.shuffle(&mut offsets);
+        }
+        let greedy = random.chance(40);
+        let mut places: Vec<usize> = (0..parts.len()).collect();
+        random.shuffle(&mut places);
+        let mut own = vec![Vec::new(); parts.len()];
+        for house in places {
+            let (share, limit) = (usize::from(parts[house].0), usize::from(parts[house].1));
+            let most = limit
+                .min(share + usize::from(size) - sum)
+                .min(offsets.len());
+            let count = if greedy { most } else { random.below(most + 1) };
+            sum += count.saturating_sub(share);
+            own[house] = offsets.drain(..count).collect();
+        }
+        own
+    }
+
+    /// A period for addresses that are taken until a time: it touches that time, or comes later.
+    fn period(&self, random: &mut Random, taken: u32) -> Option<(u32, u32)> {
+        let start = if taken == 0 {
+            match random.below(6) {
+                0 => 0,
+                1 | 2 => self
+                    .clock
+                    .saturating_sub(random.pick(&[1, 500, LONGEST_LEASE])),
+                3 => self.clock,
+                _ => self
+                    .clock
+                    .checked_add(random.pick(&[1, 500, 3_600, HORIZON, HORIZON + 1]))?,
+            }
+        } else {
+            taken.checked_add(random.pick(&[0, 0, 0, 1, 1_000]))?
+        };
+        let length = random.pick(&[
+            1,
+            2,
+            100,
+            1_000,
+            3_600,
+            3_600,
+            LONGEST_LEASE,
+            LONGEST_LEASE + 1,
+        ]);
+        let end = start.max(self.clock).checked_add(length)?;
+        let end = if random.chance(2) { LAST_TIME } else { end };
+        (end > self.clock && start < end).then_some((start, end))
+    }
+
+    /// A lease of a house with an identifier that it doesn't have yet.
+    pub fn lease(
+        &self,
+        random: &mut Random,
+        house: usize,
+        scope: usize,
+        (start, end): (u32, u32),
+        mut offsets: Vec<u8>,
+    ) -> Lease {
+        offsets.sort_unstable();
+        let house = house as u8 + 1;
+        Lease {
+            house,
+            scope: scope as u8 + 1,
+            identifier: self.fresh_identifier(random, house),
+            kind: random.pick(&[3, 3, 4]),
+            transaction: random.pick(&[0, 1, 2, 3, u32::MAX]),
+            start,
+            end,
+            offsets,
+        }
+    }
+
+    pub fn fresh_identifier(&self, random: &mut Random, house: u8) -> Vec<u8> {
+        loop {
+            let identifier = match self.leases.last() {
+                Some(lease) if random.chance(30) => beside(random, &lease.identifier),
+                _ => identifier(random),
+            };
+            let taken = |lease: &Lease| lease.house == house && lease.identifier == identifier;
+            if !self.leases.iter().any(taken) {
+                return identifier;
+            }
+        }
+    }
+
+    /// The file's order.
+    pub fn sort(&mut self) {
+        self.leases
+            .sort_by(|a, b| (a.house, &a.identifier).cmp(&(b.house, &b.identifier)));
+    }
+
+    /// How many addresses of a scope a house's leases have; house and scope from 1.
+    pub fn holding(&self, house: u8, scope: u8) -> usize {
+        let mut held = [false; 256];
+        for lease in &self.leases {
+            if lease.house == house && lease.scope == scope {
+                lease
+                    .offsets
+                    .iter()
+                    .for_each(|&o| held[usize::from(o)] = true);
+            }
+        }
+        held.iter().filter(|&&h| h).count()
+    }
+
+    /// The campus file.
+    pub fn octets(&self) -> Vec<u8> {
+        let mut file = vec![1];
+        file.extend(self.server.to_be_bytes());
+        file.extend(self.clock.to_be_bytes());
+        file.push(self.houses.len() as u8);
+        for (lowest, highest) in &self.houses {
+            file.extend(lowest.to_be_bytes());
+            file.extend(highest.to_be_bytes());
+        }
+        file.push(self.scopes.len() as u8);
+        for scope in &self.scopes {
+            file.extend(scope.lowest.to_be_bytes());
+            file.extend([scope.size, scope.ttl]);
+            scope
+                .parts
+                .iter()
+                .for_each(|part| file.extend([part.0, part.1]));
+        }
+        file.push(self.leases.len() as u8);
+        for lease in &self.leases {
+            file.extend([lease.house, lease.scope, lease.identifier.len() as u8]);
+            file.extend(&lease.identifier);
+            file.push(lease.kind);
+            for number in [lease.transaction, lease.start, lease.end] {
+                file.extend(number.to_be_bytes());
+            }
+            file.push(lease.offsets.len() as u8);
+            file.extend(&lease.offsets);
+        }
+        file
+    }
+}
+
+fn clock(random: &mut Random) -> u32 {
+    random.pick(&[
+        0,
+        1,
+        1_000,
+        1_000,
+        1_000,
+        3_000_000,
+        1_700_000_000,
+        1_700_000_000,
+        1_700_000_000,
+        LAST_TIME - HORIZON,
+        LAST_TIME - LONGEST_LEASE,
+        LAST_TIME - 3_600,
+        LAST_TIME - 1,
+        LAST_TIME,
+        random.clone().u32(),
+    ])
+}
+
+/// Disjoint client ranges, in any order: apart, touching, or the whole of the addresses cut up.
+fn client_ranges(random: &mut Random, count: usize) -> Vec<(u32, u32)> {
+    let mut ranges: Vec<(u32, u32)> = Vec::new();
+    match random.below(4) {
+        0 => {
+            let mut cuts: Vec<u32> = (1..count).map(|_| random.u32().max(1)).collect();
+            cuts.sort_unstable();
+            cuts.dedup();
+            let mut low = 0;
+            for cut in cuts {
+                ranges.push((low, cut - 1));
+                low = cut;
+            }
+            ranges.push((low, u32::MAX));
+        }
+        1 => {
+            let mut low = random.pick(&[0, 0x0A00_0000]);
+            for _ in 0..count {
+                let high = low + random.pick(&[0, 0, 1, 255]);
+                ranges.push((low, high));
+                low = high + 1;
+            }
+        }
+        _ => {
+            for house in 1..=count as u32 {
+                let low = 0x0A00_0000 + (house << 16);
+                ranges.push((low, low + random.pick(&[0, 255, 0xFFFF])));
+            }
+        }
+    }
+    // Equal cuts leave fewer ranges than asked for.
+    if ranges.len() < count {
+        return client_ranges(random, count);
+    }
+    if random.chance(50) {
+        random.shuffle(&mut ranges);
+    }
+    ranges
+}
+
+/// Disjoint pools: apart, touching, or at both ends of the multicast addresses. None lies in 230.0.0.0/8.
+fn pools(random: &mut Random, count: usize, houses: usize) -> Vec<Scope> {
+    let style = random.below(3);
+    let mut next = random.pick(&[LOWEST_POOL, 0xEFC0_0000]);
+    let mut scopes = Vec::new();
+    for place in 0..count {
+        let size = random.pick(&[1, 2, 3, 4, 4, 5, 8, 16, 31, 32, 63, 64, 64]);
+        let lowest = match style {
+            0 if place == 1 => HIGHEST_POOL - u32::from(size) + 1,
+            1 => next + random.pick(&[1, 255, 256]),
+            _ => next,
+        };
+        if !(style == 0 && place == 1) {
+            next = lowest + u32::from(size);
+        }
+        scopes.push(Scope {
+            lowest,
+            size,
+            ttl: random.pick(&[1, 15, 255]),
+            parts: parts(random, size, houses),
+        });
+    }
+    if random.chance(50) {
+        random.shuffle(&mut scopes);
+    }
+    scopes
+}
+
+/// Share and limit of each house: the shares together fill the size, leave some, or are none at all.
+fn parts(random: &mut Random, size: u8, houses: usize) -> Vec<(u8, u8)> {
+    let style = random.below(4);
+    let mut left = usize::from(size);
+    let mut parts = Vec::new();
+    for place in 0..houses {
+        let share = match style {
+            0 => 0,
+            1 if place + 1 == houses => left,
+            1 | 2 => random.below(left + 1),
+            _ => random.below((left + 1).min(4)),
+        };
+        left -= share;
+        let limit = match random.below(5) {
+            0 => share,
+            1 | 2 => usize::from(size),
+            _ => random.between(share, usize::from(size)),
+        };
+        parts.push((share as u8, limit as u8));
+    }
+    random.shuffle(&mut parts);
+    parts
+}
+
+/// An identifier of few different octets, so that one is often the beginning of another.
+pub fn identifier(random: &mut Random) -> Vec<u8> {
+    let length = random.pick(&[2, 2, 2, 3, 3, 4, 5, 8, 31, 32, 32]);
+    let octets = random.pick(&[&[0_u8, b'a'] as &[u8], &[0, b'a', 255], b"qrst"]);
+    (0..length).map(|_| random.pick(octets)).collect()
+}
+
+/// An identifier that differs from another in its last octet only, or is longer or shorter by one octet.
+pub fn beside(random: &mut Random, other: &[u8]) -> Vec<u8> {
+    let mut identifier = other.to_vec();
+    match random.below(4) {
+        0 if identifier.len() > 2 => identifier.truncate(identifier.len() - 1),
+        1 if identifier.len() < 32 => identifier.push(random.pick(&[0, b'a', 255])),
+        _ => {
+            let last = identifier.len() - 1;
+            identifier[last] = identifier[last].wrapping_add(random.pick(&[1, 255]));
+        }
+    }
+    identifier
+}
+
+/// At least one of these.
+pub fn some_of(random: &mut Random, offsets: &[u8]) -> Vec<u8> {
+    let mut offsets = offsets.to_vec();
+    if random.chance(40) {
+        random.shuffle(&mut offsets);
+    }
+    let count = if random.chance(30) {
+        offsets.len()
+    } else {
+        random.between(1, offsets.len().min(4))
+    };
+    offsets.truncate(count);
+    offsets
+}

@@ -1,0 +1,104 @@
+//! A case: a campus file and a list of calls, made from a seed and a number, or read from a file that was kept.
+
+use crate::calls;
+use crate::campus::Campus;
+use crate::damage::{self, DAMAGES};
+use crate::random::Random;
+
+/// What the maker of a case means to break: the place of a damage in `DAMAGES`.
+pub type Meant = Option<usize>;
+
+#[derive(Clone, Debug)]
+pub struct Case {
+    pub file: Vec<u8>,
+    /// The calls' records; the last may be cut off.
+    pub calls: Vec<u8>,
+    pub meant: Meant,
+}
+
+impl Case {
+    /// Every fifth case has a damaged file, each damage in its turn; every twenty-fifth has octets changed at random.
+    pub fn new(seed: &str, number: u64) -> Case {
+        let mut random = Random::new(seed, number);
+        let turn = (number / 5) as usize;
+        if number % 5 == 4 {
+            let place = turn % DAMAGES.len();
+            if let Some(file) = DAMAGES[place].file(&mut random) {
+                let campus = Campus::sound(&mut random);
+                let count = random.below(3);
+                let calls = records(&mut random, &campus, count, number as usize);
+                return Case {
+                    file,
+                    calls,
+                    meant: Some(place),
+                };
+            }
+        }
+        let campus = Campus::sound(&mut random);
+        let file = if number.is_multiple_of(25) {
+            damage::scrambled(&mut random, &campus)
+        } else {
+            campus.octets()
+        };
+        let count = random.pick(&[0, 1, 2, 5, 10, 20, 20, 40]);
+        let mut calls = records(&mut random, &campus, count, number as usize * 7);
+        if random.chance(5) {
+            calls.truncate(random.below(calls.len() + 1));
+        }
+        Case {
+            file,
+            calls,
+            meant: None,
+        }
+    }
+
+    /// The form in which a case is kept, which is the input of `replay`: file length(2), the file, the calls.
+    pub fn octets(&self) -> Vec<u8> {
+        let mut octets = (self.file.len() as u16).to_be_bytes().to_vec();
+        octets.extend(&self.file);
+        octets.extend(&self.calls);
+        octets
+    }
+
+    pub fn read(octets: &[u8]) -> Option<Case> {
+        let length = usize::from(u16::from_be_bytes([*octets.first()?, *octets.get(1)?]));
+        let file = octets.get(2..2 + length)?.to_vec();
+        Some(Case {
+            file,
+            calls: octets[2 + length..].to_vec(),
+            meant: None,
+        })
+    }
+}
+
+fn records(random: &mut Random, campus: &Campus, count: usize, turn: usize) -> Vec<u8> {
+    calls::list(random, campus, count, turn)
+        .iter()
+        .flat_map(calls::Call::record)
+        .collect()
+}
+
+/// A record of a list: its call, and where the next one begins.
+pub struct Record<'a> {
+    pub time: u32,
+    pub client: u32,
+    pub room: usize,
+    pub datagram: &'a [u8],
+    pub next: usize,
+}
+
+/// The record at a place in a list; `None` if it is cut off.
+pub fn record(calls: &[u8], place: usize) -> Option<Record<'_>> {
+    let head: &[u8; 12] = calls.get(place..place + 12)?.try_into().ok()?;
+    let u32_at =
+        |at: usize| u32::from_be_bytes([head[at], head[at + 1], head[at + 2], head[at + 3]]);
+    let u16_at = |at: usize| usize::from(u16::from_be_bytes([head[at], head[at + 1]]));
+    let next = place + 12 + u16_at(10);
+    Some(Record {
+        time: u32_at(0),
+        client: u32_at(4),
+        room: u16_at(8),
+        datagram: calls.get(place + 12..next)?,
+        next,
+    })
+}

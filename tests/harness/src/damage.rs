@@ -1,0 +1,675 @@
+//! Campus files with one thing wrong: each part of each rule of a sound book (21), and each rule of form (20).
+
+use crate::campus::{Campus, Lease, Scope, HIGHEST_POOL, LOWEST_POOL, RECORDS};
+use crate::random::Random;
+use crate::{LAST_TIME, LONGEST_FILE};
+
+/// A damage: what it breaks, the refusal that it has to draw, and how it is done. `None` where a campus has nothing to break.
+pub struct Damage {
+    pub name: &'static str,
+    pub refusal: u8,
+    make: fn(&mut Random, Campus) -> Option<Vec<u8>>,
+}
+
+const fn unsound(name: &'static str, make: fn(&mut Random, Campus) -> Option<Vec<u8>>) -> Damage {
+    Damage {
+        name,
+        refusal: 21,
+        make,
+    }
+}
+
+const fn malformed(name: &'static str, make: fn(&mut Random, Campus) -> Option<Vec<u8>>) -> Damage {
+    Damage {
+        name,
+        refusal: 20,
+        make,
+    }
+}
+
+/// Every damage. The names follow document 01's words.
+pub const DAMAGES: &[Damage] = &[
+    unsound("counts: no house", no_house),
+    unsound("counts: more than 8 houses", many_houses),
+    unsound("counts: no scope", no_scope),
+    unsound("counts: more than 4 scopes", many_scopes),
+    unsound("counts: more than 16 leases of a house", many_leases),
+    unsound("counts: more than 128 leases", very_many_leases),
+    unsound("counts: more than 64 addresses of a lease", many_addresses),
+    unsound("sizes: 0", size_0),
+    unsound("sizes: above 64", size_65),
+    unsound("identifier lengths: 0 or 1", short_identifier),
+    unsound("identifier lengths: above 32", long_identifier),
+    unsound("offsets below the scope's size", offset_at_size),
+    unsound("client ranges not empty", empty_range),
+    unsound("client ranges disjoint", ranges_overlap),
+    unsound("pools inside 224.0.0.0 to 239.255.255.255", pool_outside),
+    unsound("pools disjoint", pools_overlap),
+    unsound("TTL not 0", ttl_0),
+    unsound("share at most limit", share_above_limit),
+    unsound("limit at most size", limit_above_size),
+    unsound("shares together at most size", shares_above_size),
+    unsound("a lease names a known house", unknown_house),
+    unsound("a lease names a known scope", unknown_scope),
+    unsound("a lease has type 3 or 4", wrong_type),
+    unsound("a lease has start before end", start_at_end),
+    unsound("a lease has end after the clock", end_at_clock),
+    unsound("a lease has an address", no_address),
+    unsound("identifiers differ within a house", equal_identifiers),
+    unsound("no address has two houses", two_houses),
+    unsound("no address has two houses, 14,628 octets", longest_file),
+    unsound("leases on one address don't overlap", leases_overlap),
+    unsound("each holding at most its limit", holding_above_limit),
+    unsound(
+        "sum of larger-of-holding-and-share at most size",
+        sum_above_size,
+    ),
+    malformed("cut off", cut),
+    malformed("cut off before a count", cut_at_count),
+    malformed("no octets", |_, _| Some(Vec::new())),
+    malformed("excess octets", excess),
+    malformed("excess octets past 14,628", padded),
+    malformed("14,629 octets", one_too_long),
+    malformed("more than 14,628 octets, layout right", too_long),
+    malformed("server count", server_count),
+    malformed("server count, layout right", server_sections),
+    malformed("houses not rising", houses_fall),
+    malformed("unknown houses not rising", unknown_houses_fall),
+    malformed("identifiers not rising", identifiers_fall),
+    malformed("a prefix last", prefix_last),
+    malformed("equal offsets", equal_offsets),
+    malformed("falling offsets", falling_offsets),
+    malformed("wrong form and unsound", form_and_unsound),
+];
+
+impl Damage {
+    /// A damaged campus file, if one can be made of some campus.
+    pub fn file(&self, random: &mut Random) -> Option<Vec<u8>> {
+        (0..200).find_map(|_| {
+            let campus = Campus::sound(random);
+            (self.make)(random, campus)
+        })
+    }
+}
+
+/// A place in a list, if there is one.
+fn place<T>(random: &mut Random, list: &[T]) -> Option<usize> {
+    (!list.is_empty()).then(|| random.below(list.len()))
+}
+
+/// The file of a campus whose leases are put in order first; not one that is too long.
+fn ordered(mut campus: Campus) -> Option<Vec<u8>> {
+    campus.sort();
+    let file = campus.octets();
+    (file.len() <= LONGEST_FILE).then_some(file)
+}
+
+/// Whether identifiers differ within each house, once in order.
+fn all_differ(leases: &[Lease]) -> bool {
+    leases.iter().enumerate().all(|(place, lease)| {
+        leases[..place]
+            .iter()
+            .all(|other| (other.house, &other.identifier) != (lease.house, &lease.identifier))
+    })
+}
+
+// ---- counts, sizes and identifier lengths
+
+fn no_house(_: &mut Random, mut campus: Campus) -> Option<Vec<u8>> {
+    campus.houses.clear();
+    campus.leases.clear();
+    campus
+        .scopes
+        .iter_mut()
+        .for_each(|scope| scope.parts.clear());
+    ordered(campus)
+}
+
+fn many_houses(random: &mut Random, mut campus: Campus) -> Option<Vec<u8>> {
+    let count = random.pick(&[9, 9, 10, 16, 255]);
+    campus.houses = (0..count).map(|n| (n << 8, (n << 8) + 255)).collect();
+    for scope in &mut campus.scopes {
+        scope.parts.resize(count as usize, (0, 0));
+    }
+    ordered(campus)
+}
+
+fn no_scope(_: &mut Random, mut campus: Campus) -> Option<Vec<u8>> {
+    campus.scopes.clear();
+    campus.leases.clear();
+    ordered(campus)
+}
+
+fn many_scopes(random: &mut Random, mut campus: Campus) -> Option<Vec<u8>> {
+    let count = random.pick(&[5, 5, 6, 255]);
+    for number in campus.scopes.len()..count {
+        campus.scopes.push(Scope {
+            lowest: 0xE600_0000 + ((number as u32) << 8),
+            size: 64,
+            ttl: 1,
+            parts: vec![(0, 0); campus.houses.len()],
+        });
+    }
+    ordered(campus)
+}
+
+/// Brings a house to so many leases, on an address that it has, each touching the one before.
+fn lengthen(random: &mut Random, campus: &mut Campus, house: u8, count: usize) -> Option<()> {
+    let first = campus
+        .leases
+        .iter()
+        .find(|lease| lease.house == house)?
+        .clone();
+    let offset = first.offsets[0];
+    let on_it = |lease: &&Lease| lease.scope == first.scope && lease.offsets.contains(&offset);
+    let mut start = campus
+        .leases
+        .iter()
+        .filter(on_it)
+        .map(|lease| lease.end)
+        .max()?;
+    let mut have = campus
+        .leases
+        .iter()
+        .filter(|lease| lease.house == house)
+        .count();
+    while have < count {
+        let end = start.checked_add(random.pick(&[1, 10]))?;
+        let scope = usize::from(first.scope) - 1;
+        let lease = campus.lease(
+            random,
+            usize::from(house) - 1,
+            scope,
+            (start, end),
+            vec![offset],
+        );
+        campus.leases.push(lease);
+        start = end;
+        have += 1;
+    }
+    Some(())
+}
+
+fn many_leases(random: &mut Random, mut campus: Campus) -> Option<Vec<u8>> {
+    let house = campus.leases[place(random, &campus.leases)?].house;
+    let count = random.pick(&[RECORDS + 1, RECORDS + 1, RECORDS + 2, 40]);
+    lengthen(random, &mut campus, house, count)?;
+    ordered(campus)
+}
+
+fn very_many_leases(random: &mut Random, mut campus: Campus) -> Option<Vec<u8>> {
+    let mut left = random.pick(&[129, 130, 255]);
+    for house in 1..=campus.houses.len() as u8 {
+        let houses_left = campus.houses.len() + 1 - usize::from(house);
+        let count = (left / houses_left).max(RECORDS.min(left));
+        if lengthen(random, &mut campus, house, count).is_some() {
+            left -= campus
+                .leases
+                .iter()
+                .filter(|lease| lease.house == house)
+                .count()
+                .min(left);
+        }
+    }
+    (129..=255).contains(&campus.leases.len()).then_some(())?;
+    ordered(campus)
+}
+
+fn many_addresses(random: &mut Random, mut campus: Campus) -> Option<Vec<u8>> {
+    let lease = place(random, &campus.leases)?;
+    campus.leases[lease].offsets = (0..random.pick(&[65, 66, 255])).collect();
+    ordered(campus)
+}
+
+fn size_0(random: &mut Random, mut campus: Campus) -> Option<Vec<u8>> {
+    let scope = random.below(campus.scopes.len());
+    campus
+        .leases
+        .retain(|lease| usize::from(lease.scope) != scope + 1);
+    campus.scopes[scope].size = 0;
+    campus.scopes[scope].parts.fill((0, 0));
+    ordered(campus)
+}
+
+fn size_65(random: &mut Random, mut campus: Campus) -> Option<Vec<u8>> {
+    let scope = random.below(campus.scopes.len());
+    campus.scopes[scope].lowest = 0xE600_0000;
+    campus.scopes[scope].size = random.pick(&[65, 65, 66, 128, 255]);
+    ordered(campus)
+}
+
+fn short_identifier(random: &mut Random, mut campus: Campus) -> Option<Vec<u8>> {
+    let lease = place(random, &campus.leases)?;
+    campus.leases[lease].identifier.truncate(random.below(2));
+    all_differ(&campus.leases).then_some(())?;
+    ordered(campus)
+}
+
+fn long_identifier(random: &mut Random, mut campus: Campus) -> Option<Vec<u8>> {
+    let lease = place(random, &campus.leases)?;
+    campus.leases[lease]
+        .identifier
+        .resize(random.pick(&[33, 33, 34, 64, 255]), b'x');
+    ordered(campus)
+}
+
+fn offset_at_size(random: &mut Random, mut campus: Campus) -> Option<Vec<u8>> {
+    let lease = place(random, &campus.leases)?;
+    let lease = &mut campus.leases[lease];
+    let size = campus.scopes[usize::from(lease.scope) - 1].size;
+    *lease.offsets.last_mut()? = random.pick(&[size, size, size + 1, 255]);
+    ordered(campus)
+}
+
+// ---- settings
+
+fn empty_range(random: &mut Random, mut campus: Campus) -> Option<Vec<u8>> {
+    let house = random.below(campus.houses.len());
+    let (low, high) = campus.houses[house];
+    campus.houses[house] = if low < high {
+        (high, low)
+    } else {
+        (low, low.checked_sub(1)?)
+    };
+    ordered(campus)
+}
+
+fn ranges_overlap(random: &mut Random, mut campus: Campus) -> Option<Vec<u8>> {
+    let a = random.below(campus.houses.len());
+    let b = random.below(campus.houses.len());
+    (a != b).then_some(())?;
+    let ((low, high), (other_low, other_high)) = (campus.houses[a], campus.houses[b]);
+    campus.houses[b] = match random.below(4) {
+        0 => (low, high),
+        1 => (high, high.max(other_high)),
+        2 => (low.min(other_low), low),
+        _ => (low.saturating_sub(1), high.saturating_add(1)),
+    };
+    ordered(campus)
+}
+
+fn pool_outside(random: &mut Random, mut campus: Campus) -> Option<Vec<u8>> {
+    let place = random.below(campus.scopes.len());
+    let scope = &mut campus.scopes[place];
+    let size = u32::from(scope.size);
+    scope.lowest = random.pick(&[
+        LOWEST_POOL - 1,
+        LOWEST_POOL - size,
+        HIGHEST_POOL - size + 2,
+        HIGHEST_POOL + 1,
+        u32::MAX,
+        u32::MAX - size + 1,
+        0,
+        0x0A00_0000,
+    ]);
+    ordered(campus)
+}
+
+fn pools_overlap(random: &mut Random, mut campus: Campus) -> Option<Vec<u8>> {
+    let a = random.below(campus.scopes.len());
+    let b = random.below(campus.scopes.len());
+    (a != b).then_some(())?;
+    let (lowest, size) = (campus.scopes[a].lowest, u32::from(campus.scopes[a].size));
+    let other = u32::from(campus.scopes[b].size);
+    campus.scopes[b].lowest = match random.below(3) {
+        0 => lowest,
+        1 => lowest + size - 1,
+        _ => lowest - other + 1,
+    };
+    let lowest = campus.scopes[b].lowest;
+    (lowest >= LOWEST_POOL && lowest <= HIGHEST_POOL - other + 1).then_some(())?;
+    ordered(campus)
+}
+
+fn ttl_0(random: &mut Random, mut campus: Campus) -> Option<Vec<u8>> {
+    let scope = random.below(campus.scopes.len());
+    campus.scopes[scope].ttl = 0;
+    ordered(campus)
+}
+
+fn share_above_limit(random: &mut Random, mut campus: Campus) -> Option<Vec<u8>> {
+    let scope = random.below(campus.scopes.len());
+    let house = random.below(campus.houses.len());
+    let (share, _) = campus.scopes[scope].parts[house];
+    let limit = share.checked_sub(1)?;
+    campus.scopes[scope].parts[house].1 = random.pick(&[limit, 0]);
+    campus.leases.retain(|lease| {
+        (usize::from(lease.house), usize::from(lease.scope)) != (house + 1, scope + 1)
+    });
+    ordered(campus)
+}
+
+fn limit_above_size(random: &mut Random, mut campus: Campus) -> Option<Vec<u8>> {
+    let scope = random.below(campus.scopes.len());
+    let house = random.below(campus.houses.len());
+    let size = campus.scopes[scope].size;
+    campus.scopes[scope].parts[house].1 = random.pick(&[size + 1, size + 1, 65, 255]);
+    ordered(campus)
+}
+
+/// The shares are one more than the size together, each at most its limit.
+fn shares_above_size(random: &mut Random, mut campus: Campus) -> Option<Vec<u8>> {
+    let scope = random.below(campus.scopes.len());
+    let house = random.below(campus.houses.len());
+    let Scope {
+        size,
+        ref mut parts,
+        ..
+    } = campus.scopes[scope];
+    let others: usize =
+        parts.iter().map(|part| usize::from(part.0)).sum::<usize>() - usize::from(parts[house].0);
+    let share = (usize::from(size) + 1).checked_sub(others)?;
+    (share <= usize::from(size)).then_some(())?;
+    parts[house] = (share as u8, size);
+    ordered(campus)
+}
+
+// ---- leases
+
+fn unknown_house(random: &mut Random, mut campus: Campus) -> Option<Vec<u8>> {
+    let lease = place(random, &campus.leases)?;
+    campus.leases[lease].house = random.pick(&[0, campus.houses.len() as u8 + 1, 200, 255]);
+    ordered(campus)
+}
+
+fn unknown_scope(random: &mut Random, mut campus: Campus) -> Option<Vec<u8>> {
+    let lease = place(random, &campus.leases)?;
+    campus.leases[lease].scope = random.pick(&[0, campus.scopes.len() as u8 + 1, 200, 255]);
+    ordered(campus)
+}
+
+fn wrong_type(random: &mut Random, mut campus: Campus) -> Option<Vec<u8>> {
+    let lease = place(random, &campus.leases)?;
+    campus.leases[lease].kind = random.pick(&[0, 1, 2, 5, 6, 7, 8, 255]);
+    ordered(campus)
+}
+
+fn start_at_end(random: &mut Random, mut campus: Campus) -> Option<Vec<u8>> {
+    let lease = place(random, &campus.leases)?;
+    let lease = &mut campus.leases[lease];
+    lease.start = random.pick(&[lease.end, lease.end, lease.end.saturating_add(1), LAST_TIME]);
+    ordered(campus)
+}
+
+fn end_at_clock(random: &mut Random, mut campus: Campus) -> Option<Vec<u8>> {
+    let lease = place(random, &campus.leases)?;
+    let end = campus.clock.checked_sub(random.pick(&[0, 0, 1]))?;
+    let lease = &mut campus.leases[lease];
+    lease.start = lease.start.min(end.checked_sub(1)?);
+    lease.end = end;
+    ordered(campus)
+}
+
+fn no_address(random: &mut Random, mut campus: Campus) -> Option<Vec<u8>> {
+    let lease = place(random, &campus.leases)?;
+    campus.leases[lease].offsets.clear();
+    ordered(campus)
+}
+
+fn equal_identifiers(random: &mut Random, mut campus: Campus) -> Option<Vec<u8>> {
+    let a = place(random, &campus.leases)?;
+    let b = random.below(campus.leases.len());
+    (a != b && campus.leases[a].house == campus.leases[b].house).then_some(())?;
+    campus.leases[b].identifier = campus.leases[a].identifier.clone();
+    ordered(campus)
+}
+
+/// An address of another house's lease, at another time. Shares and limits are made to allow it.
+fn two_houses(random: &mut Random, mut campus: Campus) -> Option<Vec<u8>> {
+    let a = place(random, &campus.leases)?;
+    let b = random.below(campus.leases.len());
+    let (one, other) = (campus.leases[a].clone(), campus.leases[b].clone());
+    (one.house != other.house && one.scope == other.scope).then_some(())?;
+    (one.end <= other.start || other.end <= one.start).then_some(())?;
+    let stays = |lease: &Lease| lease.scope != one.scope || *lease == one || *lease == other;
+    campus.leases.retain(stays);
+    let place = campus.leases.iter().position(|lease| *lease == one)?;
+    let lease = &mut campus.leases[place];
+    lease.offsets.push(random.pick(&other.offsets));
+    lease.offsets.sort_unstable();
+    let scope = &mut campus.scopes[usize::from(one.scope) - 1];
+    let size = scope.size;
+    scope.parts.fill((0, size));
+    (one.offsets.len() + 1 + other.offsets.len() <= usize::from(size)).then_some(())?;
+    ordered(campus)
+}
+
+/// A file of the longest layout that counts, sizes and identifier lengths allow. Its addresses have two houses.
+fn full_layout(random: &mut Random, campus: &Campus) -> Campus {
+    let mut full = campus.clone();
+    full.clock = 1_000;
+    full.houses = (0..8).map(|n| (n, n)).collect();
+    full.scopes = (0..4)
+        .map(|n| Scope {
+            lowest: 0xE600_0000 + (n << 8),
+            size: 64,
+            ttl: 1,
+            parts: vec![(0, 64); 8],
+        })
+        .collect();
+    full.leases.clear();
+    for house in 0..8 {
+        for number in 0..16_u32 {
+            let period = (1_000 + number, 1_001 + number);
+            let mut lease = full.lease(random, house, house / 2, period, (0..64).collect());
+            lease.identifier.resize(31, 0);
+            lease.identifier.push(number as u8);
+            full.leases.push(lease);
+        }
+    }
+    full.sort();
+    full
+}
+
+fn longest_file(random: &mut Random, campus: Campus) -> Option<Vec<u8>> {
+    let full = full_layout(random, &campus).octets();
+    (full.len() == LONGEST_FILE).then_some(full)
+}
+
+/// A lease of the same house on the same address that begins a second before the other ends.
+fn leases_overlap(random: &mut Random, mut campus: Campus) -> Option<Vec<u8>> {
+    let lease = place(random, &campus.leases)?;
+    let Lease {
+        house,
+        scope,
+        start,
+        end,
+        ref offsets,
+        ..
+    } = campus.leases[lease];
+    let offset = random.pick(offsets);
+    let leases = campus.leases.iter().filter(|lease| lease.house == house);
+    (leases.count() < RECORDS).then_some(())?;
+    let period = match random.below(4) {
+        0 => (start, end),
+        1 => (start.checked_sub(1)?, start + 1),
+        _ => (end - 1, end.checked_add(random.pick(&[0, 100]))?),
+    };
+    (period.1 > campus.clock).then_some(())?;
+    let place = (usize::from(house) - 1, usize::from(scope) - 1);
+    let added = campus.lease(random, place.0, place.1, period, vec![offset]);
+    campus.leases.push(added);
+    ordered(campus)
+}
+
+fn holding_above_limit(random: &mut Random, mut campus: Campus) -> Option<Vec<u8>> {
+    let lease = place(random, &campus.leases)?;
+    let Lease { house, scope, .. } = campus.leases[lease];
+    let limit = campus.holding(house, scope) as u8 - 1;
+    let part = &mut campus.scopes[usize::from(scope) - 1].parts[usize::from(house) - 1];
+    *part = (part.0.min(limit), limit);
+    ordered(campus)
+}
+
+/// One house holds more than its share, so that another's share, raised, is one address too many.
+fn sum_above_size(random: &mut Random, mut campus: Campus) -> Option<Vec<u8>> {
+    let lease = place(random, &campus.leases)?;
+    let Lease { house, scope, .. } = campus.leases[lease];
+    let raised = random.below(campus.houses.len());
+    (raised + 1 != usize::from(house)).then_some(())?;
+    let holdings: Vec<usize> = (1..=campus.houses.len() as u8)
+        .map(|house| campus.holding(house, scope))
+        .collect();
+    let Scope {
+        size,
+        ref mut parts,
+        ..
+    } = campus.scopes[usize::from(scope) - 1];
+    parts[usize::from(house) - 1] = (0, size);
+    let larger =
+        |place: usize, parts: &[(u8, u8)]| holdings[place].max(usize::from(parts[place].0));
+    let others: usize = (0..parts.len())
+        .filter(|&p| p != raised)
+        .map(|p| larger(p, parts))
+        .sum();
+    let share = (usize::from(size) + 1).checked_sub(others)?;
+    (share > holdings[raised] && share <= usize::from(size)).then_some(())?;
+    parts[raised] = (share as u8, size);
+    ordered(campus)
+}
+
+// ---- form
+
+fn cut(random: &mut Random, campus: Campus) -> Option<Vec<u8>> {
+    let mut file = campus.octets();
+    file.truncate(random.below(file.len()));
+    Some(file)
+}
+
+/// Cut after the server, the houses or the scopes.
+fn cut_at_count(random: &mut Random, campus: Campus) -> Option<Vec<u8>> {
+    let mut file = campus.octets();
+    let houses = 10 + 8 * campus.houses.len();
+    let scopes = houses + 1 + campus.scopes.len() * (6 + 2 * campus.houses.len());
+    file.truncate(random.pick(&[1, 9, houses, scopes]));
+    Some(file)
+}
+
+fn excess(random: &mut Random, campus: Campus) -> Option<Vec<u8>> {
+    let mut file = campus.octets();
+    let count = random.pick(&[1, 1, 2, 30]);
+    file.extend(if random.chance(50) {
+        vec![0; count]
+    } else {
+        random.octets(count)
+    });
+    Some(file)
+}
+
+fn padded(random: &mut Random, campus: Campus) -> Option<Vec<u8>> {
+    let mut file = campus.octets();
+    file.resize(LONGEST_FILE + random.pick(&[0, 1, 2, 1_000]), 0);
+    Some(file)
+}
+
+fn one_too_long(random: &mut Random, campus: Campus) -> Option<Vec<u8>> {
+    let mut full = full_layout(random, &campus);
+    full.leases[0].identifier.push(0);
+    full.sort();
+    let file = full.octets();
+    (file.len() == LONGEST_FILE + 1).then_some(file)
+}
+
+fn too_long(random: &mut Random, campus: Campus) -> Option<Vec<u8>> {
+    let mut full = full_layout(random, &campus);
+    let length = random.pick(&[33, 40, 100]);
+    full.leases
+        .iter_mut()
+        .for_each(|lease| lease.identifier.resize(length, 7));
+    full.sort();
+    Some(full.octets())
+}
+
+fn server_count(random: &mut Random, campus: Campus) -> Option<Vec<u8>> {
+    let mut file = campus.octets();
+    file[0] = random.pick(&[0, 2, 255]);
+    Some(file)
+}
+
+/// No server section, or two, where the count says so.
+fn server_sections(random: &mut Random, campus: Campus) -> Option<Vec<u8>> {
+    let file = campus.octets();
+    let count = random.pick(&[0_u8, 2, 3]);
+    let mut sections = vec![count];
+    (0..count).for_each(|_| sections.extend(&file[1..9]));
+    sections.extend(&file[9..]);
+    Some(sections)
+}
+
+fn houses_fall(random: &mut Random, mut campus: Campus) -> Option<Vec<u8>> {
+    let last = campus.leases.len().checked_sub(1)?;
+    let place = random.below(last.max(1));
+    (last > 0 && campus.leases[place].house < campus.leases[last].house).then_some(())?;
+    campus.leases.swap(place, last);
+    Some(campus.octets())
+}
+
+fn unknown_houses_fall(random: &mut Random, mut campus: Campus) -> Option<Vec<u8>> {
+    (campus.leases.len() > 1).then_some(())?;
+    if random.chance(50) {
+        campus.leases[0].house = random.pick(&[200, 255]);
+    } else {
+        campus.leases.last_mut()?.house = 0;
+    }
+    Some(campus.octets())
+}
+
+fn identifiers_fall(random: &mut Random, mut campus: Campus) -> Option<Vec<u8>> {
+    let place = random.below(campus.leases.len().checked_sub(1)?.max(1));
+    let next = campus.leases.get(place + 1)?;
+    (campus.leases[place].house == next.house).then_some(())?;
+    campus.leases.swap(place, place + 1);
+    Some(campus.octets())
+}
+
+fn prefix_last(random: &mut Random, mut campus: Campus) -> Option<Vec<u8>> {
+    let place = random.below(campus.leases.len().checked_sub(1)?.max(1));
+    let next = campus.leases.get(place + 1)?;
+    let longer = campus.leases[place].identifier.len() > 2;
+    (campus.leases[place].house == next.house && longer).then_some(())?;
+    let length = random.between(2, campus.leases[place].identifier.len() - 1);
+    campus.leases[place + 1].identifier = campus.leases[place].identifier[..length].to_vec();
+    Some(campus.octets())
+}
+
+fn equal_offsets(random: &mut Random, mut campus: Campus) -> Option<Vec<u8>> {
+    let lease = place(random, &campus.leases)?;
+    let offsets = &mut campus.leases[lease].offsets;
+    let place = random.below(offsets.len());
+    offsets.insert(place, offsets[place]);
+    Some(campus.octets())
+}
+
+fn falling_offsets(random: &mut Random, mut campus: Campus) -> Option<Vec<u8>> {
+    let lease = place(random, &campus.leases)?;
+    let offsets = &mut campus.leases[lease].offsets;
+    (offsets.len() > 1).then_some(())?;
+    let place = random.below(offsets.len() - 1);
+    offsets.swap(place, place + 1);
+    Some(campus.octets())
+}
+
+fn form_and_unsound(random: &mut Random, mut campus: Campus) -> Option<Vec<u8>> {
+    match random.below(3) {
+        0 => campus.scopes[0].ttl = 0,
+        1 => campus.houses[0] = (1, 0),
+        _ => campus.scopes[0].lowest = 0,
+    }
+    let form = random.pick(&[cut, excess, equal_offsets, identifiers_fall, houses_fall]);
+    form(random, campus)
+}
+
+/// A file with a few octets changed, or a count. What it draws isn't foretold.
+pub fn scrambled(random: &mut Random, campus: &Campus) -> Vec<u8> {
+    let mut file = campus.octets();
+    for _ in 0..random.pick(&[1, 1, 1, 2, 5]) {
+        let place = random.below(file.len());
+        file[place] = match random.below(4) {
+            0 => file[place] ^ (1 << random.below(8)),
+            1 => file[place].wrapping_add(1),
+            2 => file[place].wrapping_sub(1),
+            _ => random.octet(),
+        };
+    }
+    file
+}

@@ -1,0 +1,24 @@
+//! What compares the proved library with the second program, and measures both: cases made from a seed, both
+//! implementations in one process, every octet compared.
+
+pub mod calls;
+pub mod campus;
+pub mod case;
+pub mod compare;
+pub mod damage;
+pub mod jobs;
+pub mod library;
+pub mod message;
+pub mod random;
+pub mod room;
+pub mod tally;
+
+/// Numbers of document 01.
+pub const SKEW: u32 = 1_800;
+pub const DEFAULT_LEASE: u32 = 3_600;
+pub const LONGEST_LEASE: u32 = 604_800;
+pub const HORIZON: u32 = 2_592_000;
+pub const LAST_TIME: u32 = u32::MAX;
+pub const LONGEST_FILE: usize = 14_628;
+pub const LONGEST_DATAGRAM: usize = 1_472;
+pub const SHORTEST_ROOM: usize = 512;

@@ -1,0 +1,127 @@
+//! How often each outcome, error, refusal and rule occurred.
+
+use crate::damage::DAMAGES;
+use std::collections::BTreeMap;
+
+/// Message types by number; the server's own are among them.
+const TYPES: [&str; 9] = [
+    "0", "DISCOVER", "OFFER", "REQUEST", "RENEW", "ACK", "NAK", "RELEASE", "GETINFO",
+];
+/// Replies that clients can draw: the type sent and the type of the reply.
+const REPLIES: [(u8, u8); 8] = [
+    (1, 2),
+    (3, 5),
+    (3, 6),
+    (4, 5),
+    (4, 6),
+    (7, 5),
+    (7, 6),
+    (8, 5),
+];
+const CODES: [(u8, &str); 6] = [
+    (0, "replay answered the whole list"),
+    (20, "refused 20: wrong form"),
+    (21, "refused 21: unsound"),
+    (23, "refused 23: file room below 14,628"),
+    (24, "refused 24: file or record cut off"),
+    (27, "stopped 27: answers' room used up"),
+];
+
+#[derive(Default)]
+pub struct Tally {
+    counts: BTreeMap<String, u64>,
+    pub calls: u64,
+}
+
+fn outcome_name(outcome: u8) -> String {
+    format!("outcome {outcome}")
+}
+
+fn reply_name(sent: u8, reply: u8) -> String {
+    let name = |kind: u8| TYPES.get(usize::from(kind)).copied().unwrap_or("unknown");
+    format!("reply {} to {}", name(reply), name(sent))
+}
+
+fn code_name(code: u8) -> String {
+    let known = CODES.iter().find(|known| known.0 == code);
+    known.map_or_else(|| format!("code {code}"), |known| known.1.to_string())
+}
+
+fn damage_name(place: usize) -> String {
+    format!(
+        "refused {} for: {}",
+        DAMAGES[place].refusal, DAMAGES[place].name
+    )
+}
+
+impl Tally {
+    fn add(&mut self, name: String) {
+        *self.counts.entry(name).or_default() += 1;
+    }
+
+    /// An answered call.
+    pub fn call(&mut self, datagram: &[u8], outcome: u8, reply: &[u8]) {
+        self.calls += 1;
+        self.add(outcome_name(outcome));
+        let (Some(&sent), Some(&kind)) = (datagram.get(1), reply.get(1)) else {
+            return;
+        };
+        self.add(reply_name(sent, kind));
+        if kind == 6 {
+            // Option 16 is the last before End.
+            let error = reply[reply.len() - 5];
+            self.add(format!("error {error}"));
+        }
+    }
+
+    /// What a function answered for a whole file or list.
+    pub fn code(&mut self, code: u8) {
+        self.add(code_name(code));
+    }
+
+    /// A file that was damaged on purpose, and what it drew.
+    pub fn damaged(&mut self, place: usize, refusal: u8) {
+        if refusal == DAMAGES[place].refusal {
+            self.add(damage_name(place));
+        } else {
+            self.add(format!("drew {refusal} for: {}", DAMAGES[place].name));
+        }
+    }
+
+    /// What has to occur in a default run. An unsound file is refused as 21, so discard 1 can't occur.
+    fn expected() -> Vec<String> {
+        let mut names: Vec<String> = [0, 2, 3, 4, 5, 6, 7, 8].map(outcome_name).to_vec();
+        names.extend(REPLIES.map(|(sent, reply)| reply_name(sent, reply)));
+        names.extend((0..4).map(|error| format!("error {error}")));
+        names.extend(CODES.map(|(code, _)| code_name(code)));
+        names.extend((0..DAMAGES.len()).map(damage_name));
+        names
+    }
+
+    pub fn never_occurred(&self) -> Vec<String> {
+        let mut names = Tally::expected();
+        names.retain(|name| !self.counts.contains_key(name));
+        names
+    }
+
+    /// A line for each thing that occurred, or should have.
+    pub fn lines(&self) -> Vec<String> {
+        let expected = Tally::expected();
+        let others = self.counts.keys().filter(|name| !expected.contains(name));
+        let mut lines = Vec::new();
+        for name in expected.iter().chain(others) {
+            lines.push(format!(
+                "{:8}  {name}",
+                self.counts.get(name).copied().unwrap_or(0)
+            ));
+            if *name == outcome_name(0) {
+                let unsound = self.counts.get(&code_name(21)).copied().unwrap_or(0);
+                lines.push(format!(
+                    "{:>8}  outcome 1 (book unsound) can't occur through files: refused as 21, {unsound} times",
+                    "-"
+                ));
+            }
+        }
+        lines
+    }
+}

@@ -26,8 +26,8 @@ largest = 14628
 unfoldable pub refusalIn : List ℕ → ℕ → ℕ
 refusalIn b n = pick (ltb (length b) largest) 23 (pick (ltb (length b) n) 24 (readOf (take n b) .refusal))
 
--- What is told once the file is written again. The writer refuses no book that a call leaves; if it did, the host would be told its refusal, and
--- the old file would stand.
+-- What is told once the file is written again. The writer refuses no book that calls on an accepted file leave (docs/DECISIONS.md says why); if it
+-- did, the host would be told its refusal, the old file would stand, and the reply or the answers would be there all the same.
 unfoldable pub numberAfter : Written → ℕ → ℕ
 numberAfter w k = pick (eqb (w .refusal) 0) k (w .refusal)
 

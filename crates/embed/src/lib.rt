@@ -1,5 +1,5 @@
-// The functions that a host program in C or Rust links: numbers and octets only. A campus file is held in a buffer of the caller's, of at least
-// 14,628 octets; `file_length` is the number of its octets, before and after.
+// The functions that a host program in C or Rust links: numbers and octets only. For `banshorra_serve` and `banshorra_replay` a campus file is
+// held in a buffer of the caller's, of at least 14,628 octets; `file_length` is the number of its octets, before and after.
 ghost use mathlib.Core.Path.{_≡_};
 ghost use Prim.Native.Nat.{_+_, _≤_, min};
 ghost use lib.ListN.{drop, length};

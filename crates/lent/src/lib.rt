@@ -1,5 +1,6 @@
 // The product's entry points: document 01's record of clock and settings lent by `&mut`, updated where it stands, and its lease records lent as
-// a slice. Each is a few whole values and calls; every decision is made by value in `records` and below. Their proofs are walks by hand.
+// a slice. Each is a few whole values and calls; but for the copying loops of `load` and `store`, every decision is made by value in `records`
+// and below. Their proofs are walks by hand.
 ghost use mathlib.Core.Path.{_≡_};
 ghost use lib.ListN.{length, take};
 ghost use Rattle.state.specs.Book.{raised};
@@ -46,7 +47,8 @@ pub fn store(leases: &mut [Lease], records: Records)
     }
 }
 
-// The place of an identifier among the records of tenant h, counted from 0; the number of its leases where it has none.
+// The place of an identifier among the records of tenant h, counted from 0; the number of its leases where it has none. 0 for no tenant, and of
+// another number of records than 128.
 pub fn find(leases: &[Lease], h: usize, id: [u8; 32], len: u8) -> usize
     ensures { λ r. ⌜ r ≡ findLent h (take len id) (now (leases .entry)) ⌝ }
 {
@@ -54,7 +56,8 @@ pub fn find(leases: &[Lease], h: usize, id: [u8; 32], len: u8) -> usize
     records::find(all, leases.len(), h, id, len)
 }
 
-// One lease more among those of tenant h, in the order of identifiers, where a record is left. Records past the first unused one become unused.
+// One lease more among those of tenant h, in the order of identifiers; its records past its first unused one become unused. Where no record is
+// left, for no tenant, and of another number of records than 128 nothing changes.
 pub fn insert(leases: &mut [Lease], h: usize, l: Lease)
     ensures { λ _. ⌜ now (leases .exit) ≡ insertLent h l (now (leases .entry)) ⌝ }
 {
@@ -63,7 +66,8 @@ pub fn insert(leases: &mut [Lease], h: usize, l: Lease)
     store(leases, x);
 }
 
-// The lease of an identifier goes from among those of tenant h. Records past the first unused one become unused.
+// The lease of an identifier goes from among those of tenant h; its records past its first unused one become unused. For no tenant, and of
+// another number of records than 128, nothing changes.
 pub fn remove(leases: &mut [Lease], h: usize, id: [u8; 32], len: u8)
     ensures { λ _. ⌜ now (leases .exit) ≡ removeLent h (take len id) (now (leases .entry)) ⌝ }
 {

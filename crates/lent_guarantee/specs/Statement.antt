@@ -41,8 +41,9 @@ pub record SoundLent (l : Lent) : Type 0 where
 unfoldable pub SameCall : Type 0
 SameCall = (s : State) (ls : List Lease) (c : Call) → length ls ≡ 128 → answerOf (serveLent s ls c) ≡ serveOf (bookFrom s ls) c
 
--- ---- demand 3: from a sound lent book, after any list of calls, the book is sound on 128 records, no house is above its limit, and the next call,
--- if it is a new REQUEST within its house's unused share, is granted
+-- ---- demand 3: from a sound lent book, after any list of calls, the book is sound on 128 records, no house is above its limit, and the next call is
+-- granted if it is a new REQUEST that passes the checks before error 0, whose period is inside, for which a record is left and whose least
+-- number is at most the unused share
 unfoldable pub LentDemand3 : Type 0
 LentDemand3 =
     (l : Lent) → SoundLent l → (cs : List Call)

@@ -117,16 +117,19 @@ roomLent s ls room = roomWith (length ls) s ls room
 abbrev pub withOwn : LeaseTable → ℕ → List Lease → List Lease
 withOwn t h p = recordsOf (putAt t h (laidOut p))
 
--- the place of an identifier among the records of a tenant; the number of its leases where it has none, so 0 of no tenant and of another number of records
+-- the place of an identifier among the records of a tenant; the number of its leases where it has none, so 0 of no tenant; 0 too of another number
+-- of records
 unfoldable pub findWith : ℕ → ℕ → List ℕ → List Lease → ℕ
 findWith n h i ls = pick (whole n) (placeOf i (ownOf (tableFrom ls) h)) 0
 
--- one lease more, in the order of identifiers, those of the same identifier after it; a tenant whose sixteen records are used, and no tenant, keep what they have
+-- one lease more, after those before it in the order of identifiers and ahead of the others, those of the same identifier too; a tenant whose sixteen
+-- records are used, no tenant, and another number of records keep what they have
 unfoldable pub insertWith : ℕ → ℕ → Lease → List Lease → List Lease
 insertWith n h l ls =
     pick (whole n) (pick (ltb h 8) (pick (ltb (length (ownOf (tableFrom ls) h)) 16) (withOwn (tableFrom ls) h (insertOf l (ownOf (tableFrom ls) h))) ls) ls) ls
 
--- the lease of an identifier goes, and those after it move up
+-- every lease of an identifier goes (a sound book has at most one), and those after it move up; no tenant, and another number of records, keep what
+-- they have
 unfoldable pub removeWith : ℕ → ℕ → List ℕ → List Lease → List Lease
 removeWith n h i ls = pick (whole n) (pick (ltb h 8) (withOwn (tableFrom ls) h (removeOf i (ownOf (tableFrom ls) h))) ls) ls
 

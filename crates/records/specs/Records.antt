@@ -1,4 +1,5 @@
--- The lent lease records (document 01, "How it is to be built"): 128 in a row, sixteen to a house, house by house; and the table that they stand for. A house is a tenant here.
+-- The lent lease records (document 01, "How it is to be built"): 128 in a row, sixteen to a house, house by house; and the table that they stand
+-- for. A house is a tenant here.
 use Prim.Native.Nat.{ℕ, zero, suc, min}
 use mathlib.Core.List.{List, [], _∷_, _++_, map}
 use lib.ListN.{length, replicate, take, drop}

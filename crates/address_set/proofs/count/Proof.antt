@@ -4,8 +4,8 @@ use borrow.Author.Needs.{needs}
 use Rattle.address_set.proofs.count.Statement.{statement}
 use Rattle.address_set.proofs.count.Tie as tie
 
-returns : tie.Need-returns
-returns c = search (ones-offsets, needs)
-
 pub count-spec : {M : Type 1} → statement M
-count-spec = tie.close (tie.spec returns)
+count-spec =
+    tie.close
+    (tie.spec
+    (λ c. search (ones-offsets, needs)))

@@ -4,8 +4,8 @@ use borrow.Author.Needs.{needs}
 use Rattle.address_set.proofs.difference.Statement.{statement}
 use Rattle.address_set.proofs.difference.Tie as tie
 
-returns : tie.Need-returns
-returns c = search (difference-by, needs)
-
 pub difference-spec : {M : Type 1} → statement M
-difference-spec = tie.close (tie.spec returns)
+difference-spec =
+    tie.close
+    (tie.spec
+    (λ c. search (difference-by, needs)))

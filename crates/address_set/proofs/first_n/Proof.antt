@@ -4,17 +4,11 @@ use borrow.Author.Needs.{needs}
 use Rattle.address_set.proofs.first_n.Statement.{statement}
 use Rattle.address_set.proofs.first_n.Tie as tie
 
-shl-result : tie.Need-shl-result
-shl-result c = search (below-ones, shift-some, shift-less, all-ones, needs)
-
-sub-result : tie.Need-sub-result
-sub-result c = search (below-ones, shift-some, shift-less, all-ones, needs)
-
-returns : tie.Need-returns
-returns c = search (below-ones, shift-some, shift-less, all-ones, needs)
-
-returns-2 : tie.Need-returns-2
-returns-2 c = search (below-ones, shift-some, shift-less, all-ones, needs)
-
 pub first-n-spec : {M : Type 1} → statement M
-first-n-spec = tie.close (tie.spec shl-result sub-result returns returns-2)
+first-n-spec =
+    tie.close
+    (tie.spec
+    (λ c. search (below-ones, shift-some, shift-less, all-ones, needs))
+    (λ c. search (below-ones, shift-some, shift-less, all-ones, needs))
+    (λ c. search (below-ones, shift-some, shift-less, all-ones, needs))
+    (λ c. search (below-ones, shift-some, shift-less, all-ones, needs)))

@@ -4,12 +4,6 @@ use borrow.Author.Needs.{needs}
 use Rattle.address_set.proofs.first_range.Statement.{statement}
 use Rattle.address_set.proofs.first_range.Tie as tie
 
-cast-ones : tie.Need-cast-ones
-cast-ones c = search (trailing-fits, needs)
-
-shr-ones : tie.Need-shr-ones
-shr-ones c = search (first-none, first-some, trailing-lt, needs)
-
 returns : tie.Need-returns
 unfolding flip
 returns c = search (first-none, first-some, trailing-lt, needs)
@@ -19,4 +13,10 @@ unfolding flip
 returns-2 c = search (first-none, first-some, trailing-lt, needs)
 
 pub first-range-spec : {M : Type 1} → statement M
-first-range-spec = tie.close (tie.spec cast-ones shr-ones returns returns-2)
+first-range-spec =
+    tie.close
+    (tie.spec
+    (λ c. search (trailing-fits, needs))
+    (λ c. search (first-none, first-some, trailing-lt, needs))
+    returns
+    returns-2)

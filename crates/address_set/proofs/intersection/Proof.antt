@@ -4,8 +4,8 @@ use borrow.Author.Needs.{needs}
 use Rattle.address_set.proofs.intersection.Statement.{statement}
 use Rattle.address_set.proofs.intersection.Tie as tie
 
-returns : tie.Need-returns
-returns c = search (intersection-and, needs)
-
 pub intersection-spec : {M : Type 1} → statement M
-intersection-spec = tie.close (tie.spec returns)
+intersection-spec =
+    tie.close
+    (tie.spec
+    (λ c. search (intersection-and, needs)))

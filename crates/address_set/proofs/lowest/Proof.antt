@@ -17,18 +17,6 @@ loop-holds : tie.Need-loop-holds Inv-loop μ-loop
 unfolding bit
 loop-holds c = search (lows, needs)
 
-shr-b : tie.Need-shr-b Inv-loop μ-loop
-shr-b c = search (lows, needs)
-
-shl-one : tie.Need-shl-one Inv-loop μ-loop
-shl-one c = search (lows, needs)
-
-add-at : tie.Need-add-at Inv-loop μ-loop
-add-at c = search (lows, needs)
-
-sub-left : tie.Need-sub-left Inv-loop μ-loop
-sub-left c = search (lows, needs)
-
 loop-less : tie.Need-loop-less Inv-loop μ-loop
 unfolding bit
 loop-less c = search (lows, needs)
@@ -64,10 +52,10 @@ lowest-spec =
     Inv-loop
     μ-loop
     loop-holds
-    shr-b
-    shl-one
-    add-at
-    sub-left
+    (λ c. search (lows, needs))
+    (λ c. search (lows, needs))
+    (λ c. search (lows, needs))
+    (λ c. search (lows, needs))
     loop-less
     loop-again
     loop-less-2

@@ -5,9 +5,6 @@ use borrow.Author.Needs.{needs}
 use Rattle.address_set.proofs.member.Statement.{statement}
 use Rattle.address_set.proofs.member.Tie as tie
 
-shr-result : tie.Need-shr-result
-shr-result c = search (in-bit, not-in, needs)
-
 returns : tie.Need-returns
 unfolding bit
 returns c = search (in-bit, not-in, needs)
@@ -17,4 +14,9 @@ unfolding bit
 returns-2 c = search (in-bit, not-in, needs)
 
 pub member-spec : {M : Type 1} → statement M
-member-spec = tie.close (tie.spec shr-result returns returns-2)
+member-spec =
+    tie.close
+    (tie.spec
+    (λ c. search (in-bit, not-in, needs))
+    returns
+    returns-2)

@@ -4,8 +4,8 @@ use borrow.Author.Needs.{needs}
 use Rattle.address_set.proofs.union.Statement.{statement}
 use Rattle.address_set.proofs.union.Tie as tie
 
-returns : tie.Need-returns
-returns c = search (union-or, needs)
-
 pub union-spec : {M : Type 1} → statement M
-union-spec = tie.close (tie.spec returns)
+union-spec =
+    tie.close
+    (tie.spec
+    (λ c. search (union-or, needs)))

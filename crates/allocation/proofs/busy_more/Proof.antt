@@ -5,12 +5,13 @@ use borrow.Author.Needs.{needs}
 use Rattle.allocation.proofs.busy_more.Statement.{statement}
 use Rattle.allocation.proofs.busy_more.Tie as tie
 
-busy-requires : tie.Need-busy-requires
-busy-requires c κs = search (or-same, needs)
-
 returns : tie.Need-returns
 unfolding busyMore
 returns c = search (or-same, needs)
 
 pub busy-more-spec : {M : Type 1} → statement M
-busy-more-spec = tie.close (tie.spec busy-requires returns)
+busy-more-spec =
+    tie.close
+    (tie.spec
+    (λ c κs. search (or-same, needs))
+    returns)

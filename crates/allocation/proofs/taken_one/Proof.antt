@@ -5,12 +5,13 @@ use borrow.Author.Needs.{needs}
 use Rattle.allocation.proofs.taken_one.Statement.{statement}
 use Rattle.allocation.proofs.taken_one.Tie as tie
 
-held-requires : tie.Need-held-requires
-held-requires c κs = search (or-same, needs)
-
 returns : tie.Need-returns
 unfolding takenOne
 returns c = search (or-same, needs)
 
 pub taken-one-spec : {M : Type 1} → statement M
-taken-one-spec = tie.close (tie.spec held-requires returns)
+taken-one-spec =
+    tie.close
+    (tie.spec
+    (λ c κs. search (or-same, needs))
+    returns)

@@ -9,15 +9,15 @@ returns : tie.Need-returns
 unfolding weightOf
 returns c = search (picks, weight-is, weight-small, needs)
 
-held-count-requires : tie.Need-held-count-requires
-held-count-requires c κs = search (picks, weight-is, weight-small, needs)
-
-larger-requires : tie.Need-larger-requires
-larger-requires c κs = search (picks, weight-is, weight-small, needs)
-
 returns-2 : tie.Need-returns-2
 unfolding weightOf
 returns-2 c = search (picks, weight-is, weight-small, needs)
 
 pub weight-spec : {M : Type 1} → statement M
-weight-spec = tie.close (tie.spec returns held-count-requires larger-requires returns-2)
+weight-spec =
+    tie.close
+    (tie.spec
+    returns
+    (λ c κs. search (picks, weight-is, weight-small, needs))
+    (λ c κs. search (picks, weight-is, weight-small, needs))
+    returns-2)

@@ -5,17 +5,8 @@ use Rattle.board_text.proofs.Lines.{board-wrote}
 use Rattle.board_text.proofs.put_board.Statement.{statement}
 use Rattle.board_text.proofs.put_board.Tie as tie
 
-slice-aggregate-put-run : tie.Need-slice-aggregate-put-run
-slice-aggregate-put-run c = search needs
-
-put-run-requires : tie.Need-put-run-requires
-put-run-requires c κs = search needs
-
 put-book-requires : tie.Need-put-book-requires
 put-book-requires c κs = omega (arith, c .before .before .before .put-run .ensures .next)
-
-same-length : tie.Need-same-length
-same-length c = search needs
 
 returns : tie.Need-returns
 returns c = board-wrote (c .before .before .before .before .before .before .before .before .before .before .args .state) (c .before .before .before .before .before .before .before .before .before .before .args .table) (c .before .before .before .before .before .before .put-run .ensures) (c .before .before .put-book .ensures)
@@ -23,4 +14,9 @@ returns c = board-wrote (c .before .before .before .before .before .before .befo
 pub put-board-spec : {M : Type 1} → statement M
 put-board-spec =
     tie.close
-    (tie.spec slice-aggregate-put-run put-run-requires put-book-requires same-length returns)
+    (tie.spec
+    (λ c. search needs)
+    (λ c κs. search needs)
+    put-book-requires
+    (λ c. search needs)
+    returns)

@@ -13,29 +13,8 @@ Inv-loop buffer₀ at state table n to₀ k₀ buffer to k = LinesInv (scopeLine
 abbrev μ-loop : tie.MeasureT-loop
 μ-loop buffer₀ at state table n to₀ k₀ buffer to k = n - k
 
-cut4-requires : tie.Need-cut4-requires Inv-loop μ-loop
-cut4-requires c κs = search (lineLoops, needs)
-
 loop-holds : tie.Need-loop-holds Inv-loop μ-loop
 loop-holds c = lines-start (omega (arith, c .cut4 .ensures))
-
-put-scope-requires : tie.Need-put-scope-requires Inv-loop μ-loop
-put-scope-requires c κs = search (lineLoops, needs)
-
-add-k : tie.Need-add-k Inv-loop μ-loop
-add-k c = search (lineLoops, needs)
-
-loop-less : tie.Need-loop-less Inv-loop μ-loop
-loop-less c = search (lineLoops, needs)
-
-loop-again : tie.Need-loop-again Inv-loop μ-loop
-loop-again c = search (lineLoops, needs)
-
-same-length : tie.Need-same-length Inv-loop μ-loop
-same-length c = search (lineLoops, needs)
-
-returns : tie.Need-returns Inv-loop μ-loop
-returns c = search (lineLoops, needs)
 
 pub put-book-spec : {M : Type 1} → statement M
 put-book-spec =
@@ -43,11 +22,11 @@ put-book-spec =
     (tie.spec
     Inv-loop
     μ-loop
-    cut4-requires
+    (λ c κs. search (lineLoops, needs))
     loop-holds
-    put-scope-requires
-    add-k
-    loop-less
-    loop-again
-    same-length
-    returns)
+    (λ c κs. search (lineLoops, needs))
+    (λ c. search (lineLoops, needs))
+    (λ c. search (lineLoops, needs))
+    (λ c. search (lineLoops, needs))
+    (λ c. search (lineLoops, needs))
+    (λ c. search (lineLoops, needs)))

@@ -5,9 +5,6 @@ use Rattle.board_text.proofs.Lines.{line-wrote}
 use Rattle.board_text.proofs.put_line.Statement.{statement}
 use Rattle.board_text.proofs.put_line.Tie as tie
 
-put-dotted-requires : tie.Need-put-dotted-requires
-put-dotted-requires c κs = search needs
-
 put-field-requires : tie.Need-put-field-requires
 put-field-requires c κs = omega (arith, c .before .before .before .put-dotted .ensures .small)
 
@@ -23,9 +20,6 @@ put-field-requires-4 c κs = omega (arith, c .before .before .before .before .be
 put-char-requires : tie.Need-put-char-requires
 put-char-requires c κs = omega (arith, c .before .before .before .before .before .before .before .before .before .before .before .before .before .before .before .before .before .before .before .put-dotted .ensures .small, c .before .before .before .before .before .before .before .before .before .before .before .before .before .before .before .put-field .ensures .small, c .before .before .before .before .before .before .before .before .before .before .before .put-field2 .ensures .small, c .before .before .before .before .before .before .before .put-field3 .ensures .small, c .before .before .before .put-field4 .ensures .small)
 
-same-length : tie.Need-same-length
-same-length c = search needs
-
 returns : tie.Need-returns
 returns c = let x = c .before .before .before .before .before .before .before .before .before .before .before .before .before .before .before .before .before .before .before .before .before .before .before .before .before .args in line-wrote (x .a) (x .g) (x .reserve) (x .limit) (x .held) (search needs) (c .before .before .before .before .before .before .before .before .before .before .before .before .before .before .before .before .before .before .before .before .before .before .put-dotted .ensures) (c .before .before .before .before .before .before .before .before .before .before .before .before .before .before .before .before .before .before .put-field .ensures) (c .before .before .before .before .before .before .before .before .before .before .before .before .before .before .put-field2 .ensures) (c .before .before .before .before .before .before .before .before .before .before .put-field3 .ensures) (c .before .before .before .before .before .before .put-field4 .ensures) (c .before .before .put-char .ensures)
 
@@ -33,11 +27,11 @@ pub put-line-spec : {M : Type 1} → statement M
 put-line-spec =
     tie.close
     (tie.spec
-    put-dotted-requires
+    (λ c κs. search needs)
     put-field-requires
     put-field-requires-2
     put-field-requires-3
     put-field-requires-4
     put-char-requires
-    same-length
+    (λ c. search needs)
     returns)

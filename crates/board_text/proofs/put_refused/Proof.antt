@@ -5,20 +5,11 @@ use Rattle.board_text.proofs.Lines.{refused-wrote}
 use Rattle.board_text.proofs.put_refused.Statement.{statement}
 use Rattle.board_text.proofs.put_refused.Tie as tie
 
-slice-aggregate-put-run : tie.Need-slice-aggregate-put-run
-slice-aggregate-put-run c = search needs
-
-put-run-requires : tie.Need-put-run-requires
-put-run-requires c κs = search needs
-
 put-field-requires : tie.Need-put-field-requires
 put-field-requires c κs = omega (arith, c .before .before .before .put-run .ensures .next)
 
 put-char-requires : tie.Need-put-char-requires
 put-char-requires c κs = omega (arith, c .before .before .before .before .before .before .before .put-run .ensures .next, c .before .before .before .put-field .ensures .small)
-
-same-length : tie.Need-same-length
-same-length c = search needs
 
 returns : tie.Need-returns
 returns c = refused-wrote (c .before .before .before .before .before .before .before .before .before .before .before .before .before .before .args .n) (c .before .before .before .before .before .before .before .before .before .before .put-run .ensures) (c .before .before .before .before .before .before .put-field .ensures) (c .before .before .put-char .ensures)
@@ -27,9 +18,9 @@ pub put-refused-spec : {M : Type 1} → statement M
 put-refused-spec =
     tie.close
     (tie.spec
-    slice-aggregate-put-run
-    put-run-requires
+    (λ c. search needs)
+    (λ c κs. search needs)
     put-field-requires
     put-char-requires
-    same-length
+    (λ c. search needs)
     returns)

@@ -13,29 +13,8 @@ Inv-loop buffer₀ at state table k n to₀ g₀ buffer to g = LinesInv (line st
 abbrev μ-loop : tie.MeasureT-loop
 μ-loop buffer₀ at state table k n to₀ g₀ buffer to g = n - g
 
-cut8-requires : tie.Need-cut8-requires Inv-loop μ-loop
-cut8-requires c κs = search (lineLoops, needs)
-
 loop-holds : tie.Need-loop-holds Inv-loop μ-loop
 loop-holds c = lines-start (omega (arith, c .cut8 .ensures))
-
-put-tenant-requires : tie.Need-put-tenant-requires Inv-loop μ-loop
-put-tenant-requires c κs = search (lineLoops, needs)
-
-add-g : tie.Need-add-g Inv-loop μ-loop
-add-g c = search (lineLoops, needs)
-
-loop-less : tie.Need-loop-less Inv-loop μ-loop
-loop-less c = search (lineLoops, needs)
-
-loop-again : tie.Need-loop-again Inv-loop μ-loop
-loop-again c = search (lineLoops, needs)
-
-same-length : tie.Need-same-length Inv-loop μ-loop
-same-length c = search (lineLoops, needs)
-
-returns : tie.Need-returns Inv-loop μ-loop
-returns c = search (lineLoops, needs)
 
 pub put-scope-spec : {M : Type 1} → statement M
 put-scope-spec =
@@ -43,11 +22,11 @@ put-scope-spec =
     (tie.spec
     Inv-loop
     μ-loop
-    cut8-requires
+    (λ c κs. search (lineLoops, needs))
     loop-holds
-    put-tenant-requires
-    add-g
-    loop-less
-    loop-again
-    same-length
-    returns)
+    (λ c κs. search (lineLoops, needs))
+    (λ c. search (lineLoops, needs))
+    (λ c. search (lineLoops, needs))
+    (λ c. search (lineLoops, needs))
+    (λ c. search (lineLoops, needs))
+    (λ c. search (lineLoops, needs)))

@@ -5,20 +5,8 @@ use Rattle.board_text.proofs.Lines.{two-wrote}
 use Rattle.board_text.proofs.put_two.Statement.{statement}
 use Rattle.board_text.proofs.put_two.Tie as tie
 
-add-put-char : tie.Need-add-put-char
-add-put-char c = search needs
-
-put-char-requires : tie.Need-put-char-requires
-put-char-requires c κs = search needs
-
-add-put-char-2 : tie.Need-add-put-char-2
-add-put-char-2 c = search needs
-
 put-char-requires-2 : tie.Need-put-char-requires-2
 put-char-requires-2 c κs = omega (arith, c .before .before .before .put-char .ensures .small)
-
-same-length : tie.Need-same-length
-same-length c = search needs
 
 returns : tie.Need-returns
 returns c = two-wrote (search needs) (c .before .before .before .before .before .before .put-char .ensures) (c .before .before .put-char2 .ensures)
@@ -27,9 +15,9 @@ pub put-two-spec : {M : Type 1} → statement M
 put-two-spec =
     tie.close
     (tie.spec
-    add-put-char
-    put-char-requires
-    add-put-char-2
+    (λ c. search needs)
+    (λ c κs. search needs)
+    (λ c. search needs)
     put-char-requires-2
-    same-length
+    (λ c. search needs)
     returns)

@@ -7,23 +7,8 @@ use Rattle.board_text.proofs.write_board.Tie as tie
 returns : tie.Need-returns
 returns c = board-none _ _ (c .if1 .taken)
 
-read-book-requires : tie.Need-read-book-requires
-read-book-requires c κs = search needs
-
-put-board-requires : tie.Need-put-board-requires
-put-board-requires c κs = search needs
-
-same-length : tie.Need-same-length
-same-length c = search needs
-
 returns-2 : tie.Need-returns-2
 returns-2 c = board-answer _ _ _ _ _ (c .before .before .before .before .before .before .before .read-book .ensures) (c .before .before .before .before .before .before .before .before .if1 .left) (c .before .before .before .before .before .before .if2 .taken) (c .before .before .put-board .ensures)
-
-put-refused-requires : tie.Need-put-refused-requires
-put-refused-requires c κs = search needs
-
-same-length-2 : tie.Need-same-length-2
-same-length-2 c = search needs
 
 returns-3 : tie.Need-returns-3
 returns-3 c = refused-answer _ _ _ _ _ (c .before .before .before .before .before .read-book .ensures) (c .before .before .before .before .before .before .if1 .left) (c .before .before .before .before .if2 .left) (c .before .before .put-refused .ensures)
@@ -33,10 +18,10 @@ write-board-spec =
     tie.close
     (tie.spec
     returns
-    read-book-requires
-    put-board-requires
-    same-length
+    (λ c κs. search needs)
+    (λ c κs. search needs)
+    (λ c. search needs)
     returns-2
-    put-refused-requires
-    same-length-2
+    (λ c κs. search needs)
+    (λ c. search needs)
     returns-3)

@@ -4,14 +4,10 @@ use borrow.Author.Needs.{needs}
 use Rattle.decision.proofs.lease.Statement.{statement}
 use Rattle.decision.proofs.lease.Tie as tie
 
-propose-requires : tie.Need-propose-requires
-propose-requires c κs = search (settled-is, proposed-room, needs)
-
-settle-requires : tie.Need-settle-requires
-settle-requires c κs = search (settled-is, proposed-room, needs)
-
-returns : tie.Need-returns
-returns c = search (settled-is, proposed-room, needs)
-
 pub lease-spec : {M : Type 1} → statement M
-lease-spec = tie.close (tie.spec propose-requires settle-requires returns)
+lease-spec =
+    tie.close
+    (tie.spec
+    (λ c κs. search (settled-is, proposed-room, needs))
+    (λ c κs. search (settled-is, proposed-room, needs))
+    (λ c. search (settled-is, proposed-room, needs)))

@@ -4,11 +4,9 @@ use borrow.Author.Needs.{needs}
 use Rattle.decision.proofs.offer.Statement.{statement}
 use Rattle.decision.proofs.offer.Tie as tie
 
-with-lease-requires : tie.Need-with-lease-requires
-with-lease-requires c κs = search (unchanged-is, needs)
-
-returns : tie.Need-returns
-returns c = search (unchanged-is, needs)
-
 pub offer-spec : {M : Type 1} → statement M
-offer-spec = tie.close (tie.spec with-lease-requires returns)
+offer-spec =
+    tie.close
+    (tie.spec
+    (λ c κs. search (unchanged-is, needs))
+    (λ c. search (unchanged-is, needs)))

@@ -5,19 +5,19 @@ use borrow.Author.Needs.{needs}
 use Rattle.decision.proofs.plain.Statement.{statement}
 use Rattle.decision.proofs.plain.Tie as tie
 
-release-requires : tie.Need-release-requires
-release-requires c κs = search (picks, needs)
-
 returns : tie.Need-returns
 unfolding plainOf
 returns c = search (picks, needs)
-
-inform-requires : tie.Need-inform-requires
-inform-requires c κs = search (picks, needs)
 
 returns-2 : tie.Need-returns-2
 unfolding plainOf
 returns-2 c = search (picks, needs)
 
 pub plain-spec : {M : Type 1} → statement M
-plain-spec = tie.close (tie.spec release-requires returns inform-requires returns-2)
+plain-spec =
+    tie.close
+    (tie.spec
+    (λ c κs. search (picks, needs))
+    returns
+    (λ c κs. search (picks, needs))
+    returns-2)

@@ -5,22 +5,13 @@ use borrow.Author.Needs.{needs}
 use Rattle.decision.proofs.refusal.Statement.{statement}
 use Rattle.decision.proofs.refusal.Tie as tie
 
-discard-requires : tie.Need-discard-requires
-discard-requires c κs = search (picks, needs)
-
 returns : tie.Need-returns
 unfolding refusalOf
 returns c = search (picks, needs)
 
-discard-requires-2 : tie.Need-discard-requires-2
-discard-requires-2 c κs = search (picks, needs)
-
 returns-2 : tie.Need-returns-2
 unfolding refusalOf
 returns-2 c = search (picks, needs)
-
-nak-requires : tie.Need-nak-requires
-nak-requires c κs = search (picks, needs)
 
 returns-3 : tie.Need-returns-3
 unfolding refusalOf
@@ -29,4 +20,10 @@ returns-3 c = search (picks, needs)
 pub refusal-spec : {M : Type 1} → statement M
 refusal-spec =
     tie.close
-    (tie.spec discard-requires returns discard-requires-2 returns-2 nak-requires returns-3)
+    (tie.spec
+    (λ c κs. search (picks, needs))
+    returns
+    (λ c κs. search (picks, needs))
+    returns-2
+    (λ c κs. search (picks, needs))
+    returns-3)

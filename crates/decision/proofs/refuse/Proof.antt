@@ -4,11 +4,9 @@ use borrow.Author.Needs.{needs}
 use Rattle.decision.proofs.refuse.Statement.{statement}
 use Rattle.decision.proofs.refuse.Tie as tie
 
-refusal-requires : tie.Need-refusal-requires
-refusal-requires c κs = search (unchanged-is, needs)
-
-returns : tie.Need-returns
-returns c = search (unchanged-is, needs)
-
 pub refuse-spec : {M : Type 1} → statement M
-refuse-spec = tie.close (tie.spec refusal-requires returns)
+refuse-spec =
+    tie.close
+    (tie.spec
+    (λ c κs. search (unchanged-is, needs))
+    (λ c. search (unchanged-is, needs)))

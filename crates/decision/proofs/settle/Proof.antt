@@ -6,21 +6,9 @@ use borrow.Author.Needs.{needs}
 use Rattle.decision.proofs.settle.Statement.{statement}
 use Rattle.decision.proofs.settle.Tie as tie
 
-error-0-requires : tie.Need-error-0-requires
-error-0-requires c κs = search (calls, leased-is, fits-room, needs)
-
-refuse-requires : tie.Need-refuse-requires
-refuse-requires c κs = search (calls, leased-is, fits-room, needs)
-
 returns : tie.Need-returns
 unfolding settledOf
 returns c = search (calls, leased-is, fits-room, needs)
-
-lease-from-requires : tie.Need-lease-from-requires
-lease-from-requires c κs = search (calls, leased-is, fits-room, needs)
-
-leased-requires : tie.Need-leased-requires
-leased-requires c κs = search (calls, leased-is, fits-room, needs)
 
 returns-2 : tie.Need-returns-2
 unfolding settledOf
@@ -30,9 +18,9 @@ pub settle-spec : {M : Type 1} → statement M
 settle-spec =
     tie.close
     (tie.spec
-    error-0-requires
-    refuse-requires
+    (λ c κs. search (calls, leased-is, fits-room, needs))
+    (λ c κs. search (calls, leased-is, fits-room, needs))
     returns
-    lease-from-requires
-    leased-requires
+    (λ c κs. search (calls, leased-is, fits-room, needs))
+    (λ c κs. search (calls, leased-is, fits-room, needs))
     returns-2)

@@ -4,11 +4,9 @@ use borrow.Author.Needs.{needs}
 use Rattle.embed.proofs.banshorra_check.Statement.{statement}
 use Rattle.embed.proofs.banshorra_check.Tie as tie
 
-open-requires : tie.Need-open-requires
-open-requires c κs = search needs
-
-returns : tie.Need-returns
-returns c = search (opened-refusal, needs)
-
 pub banshorra-check-spec : {M : Type 1} → statement M
-banshorra-check-spec = tie.close (tie.spec open-requires returns)
+banshorra-check-spec =
+    tie.close
+    (tie.spec
+    (λ c κs. search needs)
+    (λ c. search (opened-refusal, needs)))

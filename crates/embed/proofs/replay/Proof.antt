@@ -16,35 +16,11 @@ Inv-loop calls answers₀ o₀ at₀ to₀ answers o at to =
 abbrev μ-loop : tie.MeasureT-loop
 μ-loop calls answers₀ o₀ at₀ to₀ answers o at to = length calls - at
 
-loop-holds : tie.Need-loop-holds Inv-loop μ-loop
-loop-holds c = search (replay-start, needs)
-
-sub-stop-number : tie.Need-sub-stop-number Inv-loop μ-loop
-sub-stop-number c = search needs
-
-stop-number-requires : tie.Need-stop-number-requires Inv-loop μ-loop
-stop-number-requires c κs = search needs
-
-same-length : tie.Need-same-length Inv-loop μ-loop
-same-length c = search needs
-
-returns : tie.Need-returns Inv-loop μ-loop
-returns c = search (replay-stopped, needs)
-
-answer-record-requires : tie.Need-answer-record-requires Inv-loop μ-loop
-answer-record-requires c κs = search (record-inside, answer-room, needs)
-
-record-size-requires : tie.Need-record-size-requires Inv-loop μ-loop
-record-size-requires c κs = search (record-head, needs)
-
 add-at : tie.Need-add-at Inv-loop μ-loop
 add-at c =
     let test = c .before .before .before .before .before .before in
     let turn = test .before .before .before in
     omega (arith, record-inside (turn .loop .inv) (test .before .stop-number .ensures) (test .if1 .left))
-
-add-to : tie.Need-add-to Inv-loop μ-loop
-add-to c = search needs
 
 add-to-2 : tie.Need-add-to-2 Inv-loop μ-loop
 add-to-2 c =
@@ -53,35 +29,23 @@ add-to-2 c =
     let turn = test .before .before .before in
     omega (arith, answer-inside (turn .loop .inv) (test .before .stop-number .ensures) (test .if1 .left) (call .answer-record .ensures) (search needs))
 
-loop-less : tie.Need-loop-less Inv-loop μ-loop
-loop-less c = search needs
-
-loop-again : tie.Need-loop-again Inv-loop μ-loop
-loop-again c = search (replay-next, needs)
-
-same-length-2 : tie.Need-same-length-2 Inv-loop μ-loop
-same-length-2 c = search needs
-
-returns-2 : tie.Need-returns-2 Inv-loop μ-loop
-returns-2 c = search (replay-ended, needs)
-
 pub replay-spec : {M : Type 1} → statement M
 replay-spec =
     tie.close
     (tie.spec
     Inv-loop
     μ-loop
-    loop-holds
-    sub-stop-number
-    stop-number-requires
-    same-length
-    returns
-    answer-record-requires
-    record-size-requires
+    (λ c. search (replay-start, needs))
+    (λ c. search needs)
+    (λ c κs. search needs)
+    (λ c. search needs)
+    (λ c. search (replay-stopped, needs))
+    (λ c κs. search (record-inside, answer-room, needs))
+    (λ c κs. search (record-head, needs))
     add-at
-    add-to
+    (λ c. search needs)
     add-to-2
-    loop-less
-    loop-again
-    same-length-2
-    returns-2)
+    (λ c. search needs)
+    (λ c. search (replay-next, needs))
+    (λ c. search needs)
+    (λ c. search (replay-ended, needs)))

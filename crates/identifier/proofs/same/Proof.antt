@@ -4,11 +4,9 @@ use borrow.Author.Needs.{needs}
 use Rattle.identifier.proofs.same.Statement.{statement}
 use Rattle.identifier.proofs.same.Tie as tie
 
-order-requires : tie.Need-order-requires
-order-requires c κs = search (same-order, needs)
-
-returns : tie.Need-returns
-returns c = search (same-order, needs)
-
 pub same-spec : {M : Type 1} → statement M
-same-spec = tie.close (tie.spec order-requires returns)
+same-spec =
+    tie.close
+    (tie.spec
+    (λ c κs. search (same-order, needs))
+    (λ c. search (same-order, needs)))

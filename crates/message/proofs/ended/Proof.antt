@@ -11,37 +11,13 @@ use borrow.Author.Needs.{needs}
 use Rattle.message.proofs.ended.Statement.{statement}
 use Rattle.message.proofs.ended.Tie as tie
 
-cast-if1 : tie.Need-cast-if1
-cast-if1 c = search (calls, picks, message-is, needs)
-
-mul-if1 : tie.Need-mul-if1
-mul-if1 c = search (calls, picks, message-is, needs)
-
-array-read-if1 : tie.Need-array-read-if1
-array-read-if1 c = search (calls, picks, message-is, needs)
-
-discarded-requires : tie.Need-discarded-requires
-discarded-requires c κs = search (calls, picks, message-is, needs)
-
 returns : tie.Need-returns
 unfolding ended
 returns c = search (calls, picks, message-is, needs)
 
-none-required-requires : tie.Need-none-required-requires
-none-required-requires c κs = search (calls, picks, message-is, needs)
-
-shared-slice-read-t17 : tie.Need-shared-slice-read-t17
-shared-slice-read-t17 c = search (calls, picks, message-is, needs)
-
-read-u32-requires : tie.Need-read-u32-requires
-read-u32-requires c κs = search (calls, picks, message-is, needs)
-
 returns-2 : tie.Need-returns-2
 unfolding ended
 returns-2 c = search (calls, picks, message-is, needs)
-
-discarded-requires-2 : tie.Need-discarded-requires-2
-discarded-requires-2 c κs = search (calls, picks, message-is, needs)
 
 returns-3 : tie.Need-returns-3
 unfolding ended
@@ -51,14 +27,14 @@ pub ended-spec : {M : Type 1} → statement M
 ended-spec =
     tie.close
     (tie.spec
-    cast-if1
-    mul-if1
-    array-read-if1
-    discarded-requires
+    (λ c. search (calls, picks, message-is, needs))
+    (λ c. search (calls, picks, message-is, needs))
+    (λ c. search (calls, picks, message-is, needs))
+    (λ c κs. search (calls, picks, message-is, needs))
     returns
-    none-required-requires
-    shared-slice-read-t17
-    read-u32-requires
+    (λ c κs. search (calls, picks, message-is, needs))
+    (λ c. search (calls, picks, message-is, needs))
+    (λ c κs. search (calls, picks, message-is, needs))
     returns-2
-    discarded-requires-2
+    (λ c κs. search (calls, picks, message-is, needs))
     returns-3)

@@ -17,18 +17,6 @@ returns-2 : tie.Need-returns-2
 unfolding headerOk
 returns-2 c = search (ands, and-gots, needs)
 
-shared-slice-read-if3 : tie.Need-shared-slice-read-if3
-shared-slice-read-if3 c = search (ands, and-gots, needs)
-
-read-u16-requires : tie.Need-read-u16-requires
-read-u16-requires c κs = search (ands, and-gots, needs)
-
-shared-slice-read-t10 : tie.Need-shared-slice-read-t10
-shared-slice-read-t10 c = search (ands, and-gots, needs)
-
-is-client-requires : tie.Need-is-client-requires
-is-client-requires c κs = search (ands, and-gots, needs)
-
 returns-3 : tie.Need-returns-3
 unfolding headerOk
 returns-3 c = search (ands, and-gots, needs)
@@ -47,10 +35,10 @@ header-ok-spec =
     (tie.spec
     returns
     returns-2
-    shared-slice-read-if3
-    read-u16-requires
-    shared-slice-read-t10
-    is-client-requires
+    (λ c. search (ands, and-gots, needs))
+    (λ c κs. search (ands, and-gots, needs))
+    (λ c. search (ands, and-gots, needs))
+    (λ c κs. search (ands, and-gots, needs))
     returns-3
     returns-4
     returns-5)

@@ -10,21 +10,9 @@ use borrow.Author.Needs.{needs}
 use Rattle.message.proofs.read.Statement.{statement}
 use Rattle.message.proofs.read.Tie as tie
 
-header-ok-requires : tie.Need-header-ok-requires
-header-ok-requires c κs = search (calls, eight-header, long-header, short-header, walked-of, needs)
-
-walk-options-requires : tie.Need-walk-options-requires
-walk-options-requires c κs = search (calls, eight-header, long-header, short-header, walked-of, needs)
-
-walked-requires : tie.Need-walked-requires
-walked-requires c κs = search (calls, eight-header, long-header, short-header, walked-of, needs)
-
 returns : tie.Need-returns
 unfolding readOf
 returns c = search (calls, eight-header, long-header, short-header, walked-of, needs)
-
-discarded-requires : tie.Need-discarded-requires
-discarded-requires c κs = search (calls, eight-header, long-header, short-header, walked-of, needs)
 
 returns-2 : tie.Need-returns-2
 unfolding readOf
@@ -34,9 +22,9 @@ pub read-spec : {M : Type 1} → statement M
 read-spec =
     tie.close
     (tie.spec
-    header-ok-requires
-    walk-options-requires
-    walked-requires
+    (λ c κs. search (calls, eight-header, long-header, short-header, walked-of, needs))
+    (λ c κs. search (calls, eight-header, long-header, short-header, walked-of, needs))
+    (λ c κs. search (calls, eight-header, long-header, short-header, walked-of, needs))
     returns
-    discarded-requires
+    (λ c κs. search (calls, eight-header, long-header, short-header, walked-of, needs))
     returns-2)

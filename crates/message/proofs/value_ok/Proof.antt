@@ -12,33 +12,6 @@ use borrow.Author.Needs.{needs}
 use Rattle.message.proofs.value_ok.Statement.{statement}
 use Rattle.message.proofs.value_ok.Tie as tie
 
-read-u16-requires : tie.Need-read-u16-requires
-read-u16-requires c κs = search (joins, gots, length-got, filled-got, needs)
-
-add-read-u16 : tie.Need-add-read-u16
-add-read-u16 c = search (joins, gots, length-got, filled-got, needs)
-
-read-u16-requires-2 : tie.Need-read-u16-requires-2
-read-u16-requires-2 c κs = search (joins, gots, length-got, filled-got, needs)
-
-cast-n : tie.Need-cast-n
-cast-n c = search (joins, gots, length-got, filled-got, needs)
-
-length-ok-requires : tie.Need-length-ok-requires
-length-ok-requires c κs = search (joins, gots, length-got, filled-got, needs)
-
-add-exactly-filled : tie.Need-add-exactly-filled
-add-exactly-filled c = search (joins, gots, length-got, filled-got, needs)
-
-add-exactly-filled-2 : tie.Need-add-exactly-filled-2
-add-exactly-filled-2 c = search (joins, gots, length-got, filled-got, needs)
-
-add-exactly-filled-3 : tie.Need-add-exactly-filled-3
-add-exactly-filled-3 c = search (joins, gots, length-got, filled-got, needs)
-
-exactly-filled-requires : tie.Need-exactly-filled-requires
-exactly-filled-requires c κs = search (joins, gots, length-got, filled-got, needs)
-
 returns : tie.Need-returns
 unfolding valueOk
 returns c = search (joins, gots, length-got, filled-got, needs)
@@ -55,15 +28,15 @@ pub value-ok-spec : {M : Type 1} → statement M
 value-ok-spec =
     tie.close
     (tie.spec
-    read-u16-requires
-    add-read-u16
-    read-u16-requires-2
-    cast-n
-    length-ok-requires
-    add-exactly-filled
-    add-exactly-filled-2
-    add-exactly-filled-3
-    exactly-filled-requires
+    (λ c κs. search (joins, gots, length-got, filled-got, needs))
+    (λ c. search (joins, gots, length-got, filled-got, needs))
+    (λ c κs. search (joins, gots, length-got, filled-got, needs))
+    (λ c. search (joins, gots, length-got, filled-got, needs))
+    (λ c κs. search (joins, gots, length-got, filled-got, needs))
+    (λ c. search (joins, gots, length-got, filled-got, needs))
+    (λ c. search (joins, gots, length-got, filled-got, needs))
+    (λ c. search (joins, gots, length-got, filled-got, needs))
+    (λ c κs. search (joins, gots, length-got, filled-got, needs))
     returns
     returns-2
     returns-3)

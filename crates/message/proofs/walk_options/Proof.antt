@@ -23,9 +23,6 @@ abbrev μ-loop : tie.MeasureT-loop
 loop-holds : tie.Need-loop-holds Inv-loop μ-loop
 loop-holds c = left-start (now (c .before .args .s)) (search needs)
 
-enum-told : tie.Need-enum-told Inv-loop μ-loop
-enum-told c = search needs
-
 step-requires : tie.Need-step-requires Inv-loop μ-loop
 step-requires c κs = (c .before .before .loop .inv .within, search needs)
 
@@ -35,14 +32,8 @@ loop-less c = let l = c .before .before .before in rw (c .step .ensures) (rank-f
 loop-again : tie.Need-loop-again Inv-loop μ-loop
 loop-again c = let l = c .before .before .before in rw (c .step .ensures) (left-step (now (l .before .before .args .s)) (l .loop .w) (c .before .enum-told .given .1) (l .loop .inv))
 
-enum-told-2 : tie.Need-enum-told-2 Inv-loop μ-loop
-enum-told-2 c = search needs
-
 returns : tie.Need-returns Inv-loop μ-loop
 returns c = let l = c .before .before in left-stop (now (l .before .before .args .s)) (l .loop .w) Done (c .enum-told2 .given .1) (λ m. refl) (l .loop .inv)
-
-enum-told-3 : tie.Need-enum-told-3 Inv-loop μ-loop
-enum-told-3 c = search needs
 
 returns-2 : tie.Need-returns-2 Inv-loop μ-loop
 returns-2 c = let l = c .before .before in left-stop (now (l .before .before .args .s)) (l .loop .w) Broken (c .enum-told3 .given .1) (λ m. refl) (l .loop .inv)
@@ -54,11 +45,11 @@ walk-options-spec =
     Inv-loop
     μ-loop
     loop-holds
-    enum-told
+    (λ c. search needs)
     step-requires
     loop-less
     loop-again
-    enum-told-2
+    (λ c. search needs)
     returns
-    enum-told-3
+    (λ c. search needs)
     returns-2)

@@ -7,44 +7,14 @@ use native.Mathlib.Omega.{arith}
 use Rattle.octets.proofs.put_u32.Statement.{statement}
 use Rattle.octets.proofs.put_u32.Tie as tie
 
-cast-buffer : tie.Need-cast-buffer
-cast-buffer c = search needs
-
-slice-write-buffer : tie.Need-slice-write-buffer
-slice-write-buffer c = search needs
-
-cast-buffer-2 : tie.Need-cast-buffer-2
-cast-buffer-2 c = search needs
-
-add-buffer : tie.Need-add-buffer
-add-buffer c = search needs
-
 slice-write-buffer-2 : tie.Need-slice-write-buffer-2
 slice-write-buffer-2 c = simp length-set (omega arith)
-
-cast-buffer-3 : tie.Need-cast-buffer-3
-cast-buffer-3 c = search needs
-
-add-buffer-2 : tie.Need-add-buffer-2
-add-buffer-2 c = search needs
 
 slice-write-buffer-3 : tie.Need-slice-write-buffer-3
 slice-write-buffer-3 c = simp length-set (omega arith)
 
-cast-buffer-4 : tie.Need-cast-buffer-4
-cast-buffer-4 c = search needs
-
-add-buffer-3 : tie.Need-add-buffer-3
-add-buffer-3 c = search needs
-
 slice-write-buffer-4 : tie.Need-slice-write-buffer-4
 slice-write-buffer-4 c = simp length-set (omega arith)
-
-add-result : tie.Need-add-result
-add-result c = search needs
-
-same-length : tie.Need-same-length
-same-length c = search needs
 
 returns : tie.Need-returns
 returns c = record { next = refl; buffer = put-four _ _ _ _ _ _ (search needs) }
@@ -53,17 +23,17 @@ pub put-u32-spec : {M : Type 1} → statement M
 put-u32-spec =
     tie.close
     (tie.spec
-    cast-buffer
-    slice-write-buffer
-    cast-buffer-2
-    add-buffer
+    (λ c. search needs)
+    (λ c. search needs)
+    (λ c. search needs)
+    (λ c. search needs)
     slice-write-buffer-2
-    cast-buffer-3
-    add-buffer-2
+    (λ c. search needs)
+    (λ c. search needs)
     slice-write-buffer-3
-    cast-buffer-4
-    add-buffer-3
+    (λ c. search needs)
+    (λ c. search needs)
     slice-write-buffer-4
-    add-result
-    same-length
+    (λ c. search needs)
+    (λ c. search needs)
     returns)

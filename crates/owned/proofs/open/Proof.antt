@@ -18,14 +18,10 @@ use Rattle.owned.proofs.open.Tie as tie
 over-blank : (f : List ℕ) {s : State} {ls : List Lease} {r : OwnedFile} → s ≡ zeroState → ls ≡ replicate 128 zeroLease → ReadsOwned (readLent f s ls) r → ReadsOwned (readLent f zeroState (replicate 128 zeroLease)) r
 over-blank f {s} {ls} {r} e₁ e₂ x = subst (λ (ls′ : List Lease). ReadsOwned (readLent f zeroState ls′) r) e₂ (subst (λ (s′ : State). ReadsOwned (readLent f s′ ls) r) e₁ x)
 
-blank-requires : tie.Need-blank-requires
-blank-requires c κs = search needs
-
-read-requires : tie.Need-read-requires
-read-requires c κs = search needs
-
-returns : tie.Need-returns
-returns c = search (over-blank, needs)
-
 pub open-spec : {M : Type 1} → statement M
-open-spec = tie.close (tie.spec blank-requires read-requires returns)
+open-spec =
+    tie.close
+    (tie.spec
+    (λ c κs. search needs)
+    (λ c κs. search needs)
+    (λ c. search (over-blank, needs)))

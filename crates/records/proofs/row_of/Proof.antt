@@ -4,8 +4,8 @@ use borrow.Author.Needs.{needs}
 use Rattle.records.proofs.row_of.Statement.{statement}
 use Rattle.records.proofs.row_of.Tie as tie
 
-returns : tie.Need-returns
-returns c = search (unmapped, needs)
-
 pub row-of-spec : {M : Type 1} → statement M
-row-of-spec = tie.close (tie.spec returns)
+row-of-spec =
+    tie.close
+    (tie.spec
+    (λ c. search (unmapped, needs)))

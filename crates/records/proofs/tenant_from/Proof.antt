@@ -4,11 +4,9 @@ use borrow.Author.Needs.{needs}
 use Rattle.records.proofs.tenant_from.Statement.{statement}
 use Rattle.records.proofs.tenant_from.Tie as tie
 
-used-count-requires : tie.Need-used-count-requires
-used-count-requires c κs = search (tenant-is, needs)
-
-returns : tie.Need-returns
-returns c = search (tenant-is, needs)
-
 pub tenant-from-spec : {M : Type 1} → statement M
-tenant-from-spec = tie.close (tie.spec used-count-requires returns)
+tenant-from-spec =
+    tie.close
+    (tie.spec
+    (λ c κs. search (tenant-is, needs))
+    (λ c. search (tenant-is, needs)))

@@ -5,21 +5,6 @@ use borrow.Author.Needs.{needs}
 use Rattle.replay_text.proofs.write_book_line.Statement.{statement}
 use Rattle.replay_text.proofs.write_book_line.Tie as tie
 
-slice-aggregate-put-run : tie.Need-slice-aggregate-put-run
-slice-aggregate-put-run c = search needs
-
-put-run-requires : tie.Need-put-run-requires
-put-run-requires c κs = search needs
-
-put-hex-requires : tie.Need-put-hex-requires
-put-hex-requires c κs = search needs
-
-put-u8-requires : tie.Need-put-u8-requires
-put-u8-requires c κs = search needs
-
-same-length : tie.Need-same-length
-same-length c = search needs
-
 returns : tie.Need-returns
 returns c = let at-put-u8 = c .before .before in let at-put-hex = at-put-u8 .before .before .before .before in let at-put-run = at-put-hex .before .before .before .before in joined (search needs) (joined (search needs) (at-put-run .put-run .ensures) (at-put-hex .put-hex .ensures .0)) (at-put-u8 .put-u8 .ensures)
 
@@ -27,9 +12,9 @@ pub write-book-line-spec : {M : Type 1} → statement M
 write-book-line-spec =
     tie.close
     (tie.spec
-    slice-aggregate-put-run
-    put-run-requires
-    put-hex-requires
-    put-u8-requires
-    same-length
+    (λ c. search needs)
+    (λ c κs. search needs)
+    (λ c κs. search needs)
+    (λ c κs. search needs)
+    (λ c. search needs)
     returns)

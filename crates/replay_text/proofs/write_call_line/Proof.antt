@@ -7,36 +7,9 @@ use borrow.Author.Tests.{eq-eqb, ne-eqb}
 use Rattle.replay_text.proofs.write_call_line.Statement.{statement}
 use Rattle.replay_text.proofs.write_call_line.Tie as tie
 
-put-u8-requires : tie.Need-put-u8-requires
-put-u8-requires c κs = search needs
-
-put-u8-requires-2 : tie.Need-put-u8-requires-2
-put-u8-requires-2 c κs = search needs
-
-put-hex-requires : tie.Need-put-hex-requires
-put-hex-requires c κs = search needs
-
-put-u8-requires-3 : tie.Need-put-u8-requires-3
-put-u8-requires-3 c κs = search needs
-
-same-length : tie.Need-same-length
-same-length c = search needs
-
 returns : tie.Need-returns
 unfolding pick
 returns c = let at-put-u83 = c .before .before in let at-put-hex = at-put-u83 .before .before .before .before in let at-put-u82 = at-put-hex .before .before .before .before in let at-put-u8 = at-put-u82 .before .before .before .before in let at-if1 = at-put-u8 .before .before in rw (eq-eqb _ _ (at-if1 .if1 .taken)) (joined (search needs) (joined (search needs) (joined (search needs) (at-put-u8 .put-u8 .ensures) (at-put-u82 .put-u82 .ensures)) (at-put-hex .put-hex .ensures .0)) (at-put-u83 .put-u83 .ensures))
-
-add-put-u8 : tie.Need-add-put-u8
-add-put-u8 c = search needs
-
-put-u8-requires-4 : tie.Need-put-u8-requires-4
-put-u8-requires-4 c κs = search needs
-
-put-u8-requires-5 : tie.Need-put-u8-requires-5
-put-u8-requires-5 c κs = search needs
-
-same-length-2 : tie.Need-same-length-2
-same-length-2 c = search needs
 
 returns-2 : tie.Need-returns-2
 unfolding pick
@@ -46,14 +19,14 @@ pub write-call-line-spec : {M : Type 1} → statement M
 write-call-line-spec =
     tie.close
     (tie.spec
-    put-u8-requires
-    put-u8-requires-2
-    put-hex-requires
-    put-u8-requires-3
-    same-length
+    (λ c κs. search needs)
+    (λ c κs. search needs)
+    (λ c κs. search needs)
+    (λ c κs. search needs)
+    (λ c. search needs)
     returns
-    add-put-u8
-    put-u8-requires-4
-    put-u8-requires-5
-    same-length-2
+    (λ c. search needs)
+    (λ c κs. search needs)
+    (λ c κs. search needs)
+    (λ c. search needs)
     returns-2)

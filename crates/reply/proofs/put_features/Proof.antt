@@ -10,18 +10,6 @@ use native.Mathlib.Omega.{arith}
 use Rattle.reply.proofs.put_features.Statement.{statement}
 use Rattle.reply.proofs.put_features.Tie as tie
 
-put-code-requires : tie.Need-put-code-requires
-put-code-requires c κs = search needs
-
-slice-aggregate-put-run : tie.Need-slice-aggregate-put-run
-slice-aggregate-put-run c = search needs
-
-put-run-requires : tie.Need-put-run-requires
-put-run-requires c κs = search needs
-
-same-length : tie.Need-same-length
-same-length c = search needs
-
 returns : tie.Need-returns
 returns c = let at-put-run = c .before .before in let at-put-code = at-put-run .before .before .before .before .before in let at-if1 = at-put-code .before .before in rw (at-if1 .if1 .taken) (option-put _ 6 10 (0 ∷ 0 ∷ 0 ∷ 0 ∷ 0 ∷ 0 ∷ []) refl (omega arith) (search needs) (at-put-code .put-code .ensures) (at-put-run .put-run .ensures))
 
@@ -32,9 +20,9 @@ pub put-features-spec : {M : Type 1} → statement M
 put-features-spec =
     tie.close
     (tie.spec
-    put-code-requires
-    slice-aggregate-put-run
-    put-run-requires
-    same-length
+    (λ c κs. search needs)
+    (λ c. search needs)
+    (λ c κs. search needs)
+    (λ c. search needs)
     returns
     returns-2)

@@ -6,24 +6,6 @@ use borrow.Author.Needs.{needs}
 use Rattle.reply.proofs.put_header.Statement.{statement}
 use Rattle.reply.proofs.put_header.Tie as tie
 
-put-u8-requires : tie.Need-put-u8-requires
-put-u8-requires c κs = search needs
-
-put-u8-requires-2 : tie.Need-put-u8-requires-2
-put-u8-requires-2 c κs = search needs
-
-put-u16-requires : tie.Need-put-u16-requires
-put-u16-requires c κs = search needs
-
-wide64-requires : tie.Need-wide64-requires
-wide64-requires c κs = search needs
-
-put-u32-requires : tie.Need-put-u32-requires
-put-u32-requires c κs = search needs
-
-same-length : tie.Need-same-length
-same-length c = search needs
-
 returns : tie.Need-returns
 returns c = let at-put-u32 = c .before .before in let at-wide64 = at-put-u32 .before in let at-put-u16 = at-wide64 .before .before .before .before in let at-put-u82 = at-put-u16 .before .before .before .before in let at-put-u8 = at-put-u82 .before .before .before .before in let w = joined (search needs) (joined (search needs) (joined (search needs) (at-put-u8 .put-u8 .ensures) (at-put-u82 .put-u82 .ensures)) (at-put-u16 .put-u16 .ensures)) (rw (at-wide64 .wide64 .ensures) at (at-put-u32 .put-u32 .ensures)) in (w, w .next)
 
@@ -31,10 +13,10 @@ pub put-header-spec : {M : Type 1} → statement M
 put-header-spec =
     tie.close
     (tie.spec
-    put-u8-requires
-    put-u8-requires-2
-    put-u16-requires
-    wide64-requires
-    put-u32-requires
-    same-length
+    (λ c κs. search needs)
+    (λ c κs. search needs)
+    (λ c κs. search needs)
+    (λ c κs. search needs)
+    (λ c κs. search needs)
+    (λ c. search needs)
     returns)

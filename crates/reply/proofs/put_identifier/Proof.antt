@@ -7,23 +7,8 @@ use borrow.Author.Needs.{needs}
 use Rattle.reply.proofs.put_identifier.Statement.{statement}
 use Rattle.reply.proofs.put_identifier.Tie as tie
 
-id-length-requires : tie.Need-id-length-requires
-id-length-requires c κs = search needs
-
-cast-put-code : tie.Need-cast-put-code
-cast-put-code c = search needs
-
-put-code-requires : tie.Need-put-code-requires
-put-code-requires c κs = search needs
-
-slice-aggregate-put-run : tie.Need-slice-aggregate-put-run
-slice-aggregate-put-run c = search needs
-
 put-run-requires : tie.Need-put-run-requires
 put-run-requires c κs = (search needs, let at-id-length = c .before .before .before .before .before .before .before in let start = at-id-length .before .before .before in id-fits (start .args .head .id .octets) (start .args .head .id .len) _ (at-id-length .id-length .ensures .0))
-
-same-length : tie.Need-same-length
-same-length c = search needs
 
 returns : tie.Need-returns
 returns c = let at-put-run = c .before .before in let at-put-code = at-put-run .before .before .before .before .before .before in let at-id-length = at-put-code .before .before in let start = at-id-length .before .before .before in id-put _ (start .args .head .id .len) _ (at-id-length .id-length .ensures .0) (at-id-length .id-length .ensures .1) (search needs) (at-put-code .put-code .ensures) (at-put-run .put-run .ensures)
@@ -32,10 +17,10 @@ pub put-identifier-spec : {M : Type 1} → statement M
 put-identifier-spec =
     tie.close
     (tie.spec
-    id-length-requires
-    cast-put-code
-    put-code-requires
-    slice-aggregate-put-run
+    (λ c κs. search needs)
+    (λ c. search needs)
+    (λ c κs. search needs)
+    (λ c. search needs)
     put-run-requires
-    same-length
+    (λ c. search needs)
     returns)

@@ -5,42 +5,6 @@ use borrow.Author.Needs.{needs}
 use Rattle.reply.proofs.put_lease_options.Statement.{statement}
 use Rattle.reply.proofs.put_lease_options.Tie as tie
 
-wide64-requires : tie.Need-wide64-requires
-wide64-requires c κs = search needs
-
-put-number-requires : tie.Need-put-number-requires
-put-number-requires c κs = search needs
-
-put-named-requires : tie.Need-put-named-requires
-put-named-requires c κs = search needs
-
-wide64-requires-2 : tie.Need-wide64-requires-2
-wide64-requires-2 c κs = search needs
-
-put-number-requires-2 : tie.Need-put-number-requires-2
-put-number-requires-2 c κs = search needs
-
-wide64-requires-3 : tie.Need-wide64-requires-3
-wide64-requires-3 c κs = search needs
-
-put-number-requires-3 : tie.Need-put-number-requires-3
-put-number-requires-3 c κs = search needs
-
-put-ranges-requires : tie.Need-put-ranges-requires
-put-ranges-requires c κs = search needs
-
-wide64-requires-4 : tie.Need-wide64-requires-4
-wide64-requires-4 c κs = search needs
-
-put-number-requires-4 : tie.Need-put-number-requires-4
-put-number-requires-4 c κs = search needs
-
-put-features-requires : tie.Need-put-features-requires
-put-features-requires c κs = search needs
-
-same-length : tie.Need-same-length
-same-length c = search needs
-
 returns : tie.Need-returns
 returns c = let at-put-features = c .before .before in let at-put-number4 = at-put-features .before .before .before .before in let at-wide644 = at-put-number4 .before in let at-put-ranges = at-wide644 .before .before .before .before in let at-put-number3 = at-put-ranges .before .before .before .before in let at-wide643 = at-put-number3 .before in let at-put-number2 = at-wide643 .before .before .before .before in let at-wide642 = at-put-number2 .before in let at-put-named = at-wide642 .before .before .before .before in let at-put-number = at-put-named .before .before .before .before in let at-wide64 = at-put-number .before in put-joined (search needs) (rw (at-wide64 .wide64 .ensures) at (at-put-number .put-number .ensures)) (put-joined (search needs) (at-put-named .put-named .ensures) (put-joined (search needs) (rw (at-wide642 .wide642 .ensures) at (at-put-number2 .put-number2 .ensures)) (put-joined (search needs) (rw (at-wide643 .wide643 .ensures) at (at-put-number3 .put-number3 .ensures)) (put-joined (search needs) (at-put-ranges .put-ranges .ensures) (put-joined (search needs) (rw (at-wide644 .wide644 .ensures) at (at-put-number4 .put-number4 .ensures)) (at-put-features .put-features .ensures))))))
 
@@ -48,16 +12,16 @@ pub put-lease-options-spec : {M : Type 1} → statement M
 put-lease-options-spec =
     tie.close
     (tie.spec
-    wide64-requires
-    put-number-requires
-    put-named-requires
-    wide64-requires-2
-    put-number-requires-2
-    wide64-requires-3
-    put-number-requires-3
-    put-ranges-requires
-    wide64-requires-4
-    put-number-requires-4
-    put-features-requires
-    same-length
+    (λ c κs. search needs)
+    (λ c κs. search needs)
+    (λ c κs. search needs)
+    (λ c κs. search needs)
+    (λ c κs. search needs)
+    (λ c κs. search needs)
+    (λ c κs. search needs)
+    (λ c κs. search needs)
+    (λ c κs. search needs)
+    (λ c κs. search needs)
+    (λ c κs. search needs)
+    (λ c. search needs)
     returns)

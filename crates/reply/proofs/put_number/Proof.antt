@@ -10,17 +10,14 @@ use native.Mathlib.Omega.{arith}
 use Rattle.reply.proofs.put_number.Statement.{statement}
 use Rattle.reply.proofs.put_number.Tie as tie
 
-put-code-requires : tie.Need-put-code-requires
-put-code-requires c κs = search needs
-
-put-u32-requires : tie.Need-put-u32-requires
-put-u32-requires c κs = search needs
-
-same-length : tie.Need-same-length
-same-length c = search needs
-
 returns : tie.Need-returns
 returns c = let at-put-u32 = c .before .before in let at-put-code = at-put-u32 .before .before .before .before in let start = at-put-code .before .before .before in option-put _ 4 8 (octets32 (start .args .v)) refl (omega arith) (search needs) (at-put-code .put-code .ensures) (at-put-u32 .put-u32 .ensures)
 
 pub put-number-spec : {M : Type 1} → statement M
-put-number-spec = tie.close (tie.spec put-code-requires put-u32-requires same-length returns)
+put-number-spec =
+    tie.close
+    (tie.spec
+    (λ c κs. search needs)
+    (λ c κs. search needs)
+    (λ c. search needs)
+    returns)

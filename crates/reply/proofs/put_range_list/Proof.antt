@@ -17,26 +17,14 @@ abbrev μ-loop : tie.MeasureT-loop
 loop-holds : tie.Need-loop-holds Inv-loop μ-loop
 loop-holds c = ranges-start (c .before .fits .set .fits)
 
-first-range-requires : tie.Need-first-range-requires Inv-loop μ-loop
-first-range-requires c κs = search (ranges-end, needs)
-
 put-range-requires : tie.Need-put-range-requires Inv-loop μ-loop
 put-range-requires c κs = let at-first-range = c .before in let at-loop = at-first-range .before .before in (omega (arith, ranges-room (at-loop .loop .inv) (omega arith) (at-first-range .first-range .ensures), at-loop .loop .inv .kept), range-short (at-loop .loop .inv) (omega arith) (at-first-range .first-range .ensures))
-
-rest-requires : tie.Need-rest-requires Inv-loop μ-loop
-rest-requires c κs = search (ranges-end, needs)
 
 loop-less : tie.Need-loop-less Inv-loop μ-loop
 loop-less c = let at-first-range = c .before .before .before .before .before in let at-loop = at-first-range .before .before in ranges-fall (at-loop .loop .inv) (omega arith) (at-first-range .first-range .ensures) (c .rest .ensures)
 
 loop-again : tie.Need-loop-again Inv-loop μ-loop
 loop-again c = let at-put-range = c .before .before .before in let at-first-range = at-put-range .before .before in let at-loop = at-first-range .before .before in ranges-turn (at-loop .loop .inv) (omega arith) (at-first-range .first-range .ensures) (search needs) (at-put-range .put-range .ensures) (at-put-range .put-range .kept .0) (c .rest .ensures)
-
-same-length : tie.Need-same-length Inv-loop μ-loop
-same-length c = search (ranges-end, needs)
-
-returns : tie.Need-returns Inv-loop μ-loop
-returns c = search (ranges-end, needs)
 
 pub put-range-list-spec : {M : Type 1} → statement M
 put-range-list-spec =
@@ -45,10 +33,10 @@ put-range-list-spec =
     Inv-loop
     μ-loop
     loop-holds
-    first-range-requires
+    (λ c κs. search (ranges-end, needs))
     put-range-requires
-    rest-requires
+    (λ c κs. search (ranges-end, needs))
     loop-less
     loop-again
-    same-length
-    returns)
+    (λ c. search (ranges-end, needs))
+    (λ c. search (ranges-end, needs)))

@@ -6,27 +6,6 @@ use borrow.Author.Needs.{needs}
 use Rattle.reply.proofs.put_scope.Statement.{statement}
 use Rattle.reply.proofs.put_scope.Tie as tie
 
-wide64-requires : tie.Need-wide64-requires
-wide64-requires c κs = search needs
-
-put-u32-requires : tie.Need-put-u32-requires
-put-u32-requires c κs = search needs
-
-highest-requires : tie.Need-highest-requires
-highest-requires c κs = search needs
-
-put-u32-requires-2 : tie.Need-put-u32-requires-2
-put-u32-requires-2 c κs = search needs
-
-put-u8-requires : tie.Need-put-u8-requires
-put-u8-requires c κs = search needs
-
-put-u8-requires-2 : tie.Need-put-u8-requires-2
-put-u8-requires-2 c κs = search needs
-
-same-length : tie.Need-same-length
-same-length c = search needs
-
 returns : tie.Need-returns
 returns c = let at-put-u82 = c .before .before in let at-put-u8 = at-put-u82 .before .before .before .before in let at-put-u322 = at-put-u8 .before .before .before .before in let at-highest = at-put-u322 .before in let at-put-u32 = at-highest .before .before .before .before in let at-wide64 = at-put-u32 .before in joined (search needs) (joined (search needs) (joined (search needs) (rw (at-wide64 .wide64 .ensures) at (at-put-u32 .put-u32 .ensures)) (rw (at-highest .highest .ensures) at (at-put-u322 .put-u322 .ensures))) (at-put-u8 .put-u8 .ensures)) (at-put-u82 .put-u82 .ensures)
 
@@ -34,11 +13,11 @@ pub put-scope-spec : {M : Type 1} → statement M
 put-scope-spec =
     tie.close
     (tie.spec
-    wide64-requires
-    put-u32-requires
-    highest-requires
-    put-u32-requires-2
-    put-u8-requires
-    put-u8-requires-2
-    same-length
+    (λ c κs. search needs)
+    (λ c κs. search needs)
+    (λ c κs. search needs)
+    (λ c κs. search needs)
+    (λ c κs. search needs)
+    (λ c κs. search needs)
+    (λ c. search needs)
     returns)

@@ -6,12 +6,6 @@ use borrow.Author.Needs.{needs}
 use Rattle.reply.proofs.put_scope_list_if.Statement.{statement}
 use Rattle.reply.proofs.put_scope_list_if.Tie as tie
 
-put-scope-list-requires : tie.Need-put-scope-list-requires
-put-scope-list-requires c κs = search needs
-
-same-length : tie.Need-same-length
-same-length c = search needs
-
 returns : tie.Need-returns
 returns c = let at-put-scope-list = c .before .before in let at-if1 = at-put-scope-list .before .before in rw (at-if1 .if1 .taken) (at-put-scope-list .put-scope-list .ensures)
 
@@ -19,4 +13,10 @@ returns-2 : tie.Need-returns-2
 returns-2 c = rw (c .if1 .left) (put-none _ _ _)
 
 pub put-scope-list-if-spec : {M : Type 1} → statement M
-put-scope-list-if-spec = tie.close (tie.spec put-scope-list-requires same-length returns returns-2)
+put-scope-list-if-spec =
+    tie.close
+    (tie.spec
+    (λ c κs. search needs)
+    (λ c. search needs)
+    returns
+    returns-2)

@@ -14,32 +14,8 @@ Inv-loop buffer₀ at n info i₀ to₀ buffer i to = ScopesInv buffer₀ at (in
 abbrev μ-loop : tie.MeasureT-loop
 μ-loop buffer₀ at n info i₀ to₀ buffer i to = n - i
 
-loop-holds : tie.Need-loop-holds Inv-loop μ-loop
-loop-holds c = search (scopes-start, scopes-long, unmapped, needs)
-
-mul-e : tie.Need-mul-e Inv-loop μ-loop
-mul-e c = search (scopes-start, scopes-end, unmapped, needs)
-
-element-copy-out-e : tie.Need-element-copy-out-e Inv-loop μ-loop
-element-copy-out-e c = search (scopes-start, scopes-end, unmapped, needs)
-
-put-scope-requires : tie.Need-put-scope-requires Inv-loop μ-loop
-put-scope-requires c κs = search (scopes-start, scopes-end, unmapped, needs)
-
-add-i : tie.Need-add-i Inv-loop μ-loop
-add-i c = search (scopes-start, scopes-end, unmapped, needs)
-
-loop-less : tie.Need-loop-less Inv-loop μ-loop
-loop-less c = search (scopes-start, scopes-end, unmapped, needs)
-
 loop-again : tie.Need-loop-again Inv-loop μ-loop
 loop-again c = let at-put-scope = c .before .before in let at-loop = at-put-scope .before .before .before .before in scopes-next (at-loop .loop .inv) _ (search needs) (search needs) (at-put-scope .put-scope .ensures) (at-put-scope .put-scope .kept .0)
-
-same-length : tie.Need-same-length Inv-loop μ-loop
-same-length c = search (scopes-start, scopes-end, unmapped, needs)
-
-returns : tie.Need-returns Inv-loop μ-loop
-returns c = search (scopes-start, scopes-end, unmapped, needs)
 
 pub put-scopes-spec : {M : Type 1} → statement M
 put-scopes-spec =
@@ -47,12 +23,12 @@ put-scopes-spec =
     (tie.spec
     Inv-loop
     μ-loop
-    loop-holds
-    mul-e
-    element-copy-out-e
-    put-scope-requires
-    add-i
-    loop-less
+    (λ c. search (scopes-start, scopes-long, unmapped, needs))
+    (λ c. search (scopes-start, scopes-end, unmapped, needs))
+    (λ c. search (scopes-start, scopes-end, unmapped, needs))
+    (λ c κs. search (scopes-start, scopes-end, unmapped, needs))
+    (λ c. search (scopes-start, scopes-end, unmapped, needs))
+    (λ c. search (scopes-start, scopes-end, unmapped, needs))
     loop-again
-    same-length
-    returns)
+    (λ c. search (scopes-start, scopes-end, unmapped, needs))
+    (λ c. search (scopes-start, scopes-end, unmapped, needs)))

@@ -12,21 +12,6 @@ use native.Mathlib.Omega.{arith}
 use Rattle.reply.proofs.put_server.Statement.{statement}
 use Rattle.reply.proofs.put_server.Tie as tie
 
-put-code-requires : tie.Need-put-code-requires
-put-code-requires c κs = search needs
-
-put-u16-requires : tie.Need-put-u16-requires
-put-u16-requires c κs = search needs
-
-wide64-requires : tie.Need-wide64-requires
-wide64-requires c κs = search needs
-
-put-u32-requires : tie.Need-put-u32-requires
-put-u32-requires c κs = search needs
-
-same-length : tie.Need-same-length
-same-length c = search needs
-
 returns : tie.Need-returns
 returns c = let at-put-u32 = c .before .before in let at-wide64 = at-put-u32 .before in let at-put-u16 = at-wide64 .before .before .before .before in let at-put-code = at-put-u16 .before .before .before .before in let start = at-put-code .before .before .before in option-put _ 6 10 (octets16 1 ++ octets32 (start .args .head .server)) refl (omega arith) (search needs) (at-put-code .put-code .ensures) (joined (search needs) (at-put-u16 .put-u16 .ensures) (rw (at-wide64 .wide64 .ensures) at (at-put-u32 .put-u32 .ensures)))
 
@@ -34,9 +19,9 @@ pub put-server-spec : {M : Type 1} → statement M
 put-server-spec =
     tie.close
     (tie.spec
-    put-code-requires
-    put-u16-requires
-    wide64-requires
-    put-u32-requires
-    same-length
+    (λ c κs. search needs)
+    (λ c κs. search needs)
+    (λ c κs. search needs)
+    (λ c κs. search needs)
+    (λ c. search needs)
     returns)

@@ -17,12 +17,6 @@ abbrev μ-loop : tie.MeasureT-loop
 loop-holds : tie.Need-loop-holds Inv-loop μ-loop
 loop-holds c = count-start (c .fits .set .fits)
 
-first-range-requires : tie.Need-first-range-requires Inv-loop μ-loop
-first-range-requires c κs = search (count-end, needs)
-
-rest-requires : tie.Need-rest-requires Inv-loop μ-loop
-rest-requires c κs = search (count-end, needs)
-
 add-n : tie.Need-add-n Inv-loop μ-loop
 add-n c = let at-first-range = c .before in let at-loop = at-first-range .before .before in omega (arith, count-more (at-loop .loop .inv) (omega arith) (at-first-range .first-range .ensures))
 
@@ -32,9 +26,6 @@ loop-less c = let at-first-range = c .before in let at-loop = at-first-range .be
 loop-again : tie.Need-loop-again Inv-loop μ-loop
 loop-again c = let at-first-range = c .before in let at-loop = at-first-range .before .before in count-next (at-loop .loop .inv) (omega arith) (at-first-range .first-range .ensures) (c .rest .ensures)
 
-returns : tie.Need-returns Inv-loop μ-loop
-returns c = search (count-end, needs)
-
 pub range-count-spec : {M : Type 1} → statement M
 range-count-spec =
     tie.close
@@ -42,9 +33,9 @@ range-count-spec =
     Inv-loop
     μ-loop
     loop-holds
-    first-range-requires
-    rest-requires
+    (λ c κs. search (count-end, needs))
+    (λ c κs. search (count-end, needs))
     add-n
     loop-less
     loop-again
-    returns)
+    (λ c. search (count-end, needs)))

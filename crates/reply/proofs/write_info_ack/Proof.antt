@@ -6,18 +6,6 @@ use borrow.Author.Needs.{needs}
 use Rattle.reply.proofs.write_info_ack.Statement.{statement}
 use Rattle.reply.proofs.write_info_ack.Tie as tie
 
-put-header-requires : tie.Need-put-header-requires
-put-header-requires c κs = search needs
-
-put-info-options-requires : tie.Need-put-info-options-requires
-put-info-options-requires c κs = search needs
-
-put-end-requires : tie.Need-put-end-requires
-put-end-requires c κs = search needs
-
-same-length : tie.Need-same-length
-same-length c = search needs
-
 returns : tie.Need-returns
 unfolding infoAckOf
 returns c = let at-put-end = c .before .before in let at-put-info-options = at-put-end .before .before .before .before in let at-put-header = at-put-info-options .before .before .before .before in replied _ _ (at-put-header .put-header .ensures .0) (at-put-info-options .put-info-options .ensures) (at-put-end .put-end .ensures) (search needs)
@@ -25,4 +13,9 @@ returns c = let at-put-end = c .before .before in let at-put-info-options = at-p
 pub write-info-ack-spec : {M : Type 1} → statement M
 write-info-ack-spec =
     tie.close
-    (tie.spec put-header-requires put-info-options-requires put-end-requires same-length returns)
+    (tie.spec
+    (λ c κs. search needs)
+    (λ c κs. search needs)
+    (λ c κs. search needs)
+    (λ c. search needs)
+    returns)

@@ -5,18 +5,15 @@ use borrow.Author.Needs.{needs}
 use Rattle.reply.proofs.write_lease_ack.Statement.{statement}
 use Rattle.reply.proofs.write_lease_ack.Tie as tie
 
-ack-requires : tie.Need-ack-requires
-ack-requires c κs = search needs
-
-write-lease-requires : tie.Need-write-lease-requires
-write-lease-requires c κs = search needs
-
-same-length : tie.Need-same-length
-same-length c = search needs
-
 returns : tie.Need-returns
 unfolding leaseAckOf
 returns c = let at-write-lease = c .before .before in let at-ack = at-write-lease .before in (rw (at-ack .ack .ensures) at (at-write-lease .write-lease .ensures))
 
 pub write-lease-ack-spec : {M : Type 1} → statement M
-write-lease-ack-spec = tie.close (tie.spec ack-requires write-lease-requires same-length returns)
+write-lease-ack-spec =
+    tie.close
+    (tie.spec
+    (λ c κs. search needs)
+    (λ c κs. search needs)
+    (λ c. search needs)
+    returns)

@@ -8,17 +8,14 @@ use borrow.Author.Needs.{needs}
 use Rattle.server.proofs.decided.Statement.{statement}
 use Rattle.server.proofs.decided.Tie as tie
 
-decide-requires : tie.Need-decide-requires
-decide-requires c κs = search needs
-
-write-reply-requires : tie.Need-write-reply-requires
-write-reply-requires c κs = search needs
-
-same-length : tie.Need-same-length
-same-length c = search needs
-
 returns : tie.Need-returns
 returns c = let at-write-reply = c .before .before in let at-decide = at-write-reply .before .before .before .before in serves-decided _ _ _ _ _ (at-decide .decide .ensures) (at-write-reply .write-reply .ensures)
 
 pub decided-spec : {M : Type 1} → statement M
-decided-spec = tie.close (tie.spec decide-requires write-reply-requires same-length returns)
+decided-spec =
+    tie.close
+    (tie.spec
+    (λ c κs. search needs)
+    (λ c κs. search needs)
+    (λ c. search needs)
+    returns)

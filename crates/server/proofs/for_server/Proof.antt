@@ -9,26 +9,11 @@ use borrow.Author.Needs.{needs}
 use Rattle.server.proofs.for_server.Statement.{statement}
 use Rattle.server.proofs.for_server.Tie as tie
 
-decided-requires : tie.Need-decided-requires
-decided-requires c κs = search needs
-
-same-length : tie.Need-same-length
-same-length c = search needs
-
 returns : tie.Need-returns
 returns c = let at-decided = c .before .before in let at-if2 = at-decided .before .before in let at-if1 = at-if2 .before in for-ours _ _ _ (at-if1 .if1 .taken) (at-if2 .if2 .taken) (at-decided .decided .ensures)
 
-discard-requires : tie.Need-discard-requires
-discard-requires c κs = search needs
-
 returns-2 : tie.Need-returns-2
 returns-2 c = let at-discard = c in let at-if2 = at-discard .before in let at-if1 = at-if2 .before in for-others _ _ _ (at-if1 .if1 .taken) (at-if2 .if2 .left) (serves-discard _ _ _ _ (at-discard .discard .ensures))
-
-decided-requires-2 : tie.Need-decided-requires-2
-decided-requires-2 c κs = search needs
-
-same-length-2 : tie.Need-same-length-2
-same-length-2 c = search needs
 
 returns-3 : tie.Need-returns-3
 returns-3 c = let at-decided2 = c .before .before in let at-if1 = at-decided2 .before .before in for-any _ _ _ (at-if1 .if1 .left) (at-decided2 .decided2 .ensures)
@@ -37,11 +22,11 @@ pub for-server-spec : {M : Type 1} → statement M
 for-server-spec =
     tie.close
     (tie.spec
-    decided-requires
-    same-length
+    (λ c κs. search needs)
+    (λ c. search needs)
     returns
-    discard-requires
+    (λ c κs. search needs)
     returns-2
-    decided-requires-2
-    same-length-2
+    (λ c κs. search needs)
+    (λ c. search needs)
     returns-3)

@@ -9,30 +9,6 @@ use borrow.Author.Needs.{needs}
 use Rattle.server.proofs.info_of.Statement.{statement}
 use Rattle.server.proofs.info_of.Tie as tie
 
-scope-at-requires : tie.Need-scope-at-requires
-scope-at-requires c κs = search needs
-
-entry-of-requires : tie.Need-entry-of-requires
-entry-of-requires c κs = search needs
-
-scope-at-requires-2 : tie.Need-scope-at-requires-2
-scope-at-requires-2 c κs = search needs
-
-entry-of-requires-2 : tie.Need-entry-of-requires-2
-entry-of-requires-2 c κs = search needs
-
-scope-at-requires-3 : tie.Need-scope-at-requires-3
-scope-at-requires-3 c κs = search needs
-
-entry-of-requires-3 : tie.Need-entry-of-requires-3
-entry-of-requires-3 c κs = search needs
-
-scope-at-requires-4 : tie.Need-scope-at-requires-4
-scope-at-requires-4 c κs = search needs
-
-entry-of-requires-4 : tie.Need-entry-of-requires-4
-entry-of-requires-4 c κs = search needs
-
 returns : tie.Need-returns
 returns c = let at-entry-of4 = c in let at-scope-at4 = at-entry-of4 .before in let at-entry-of3 = at-scope-at4 .before in let at-scope-at3 = at-entry-of3 .before in let at-entry-of2 = at-scope-at3 .before in let at-scope-at2 = at-entry-of2 .before in let at-entry-of = at-scope-at2 .before in let at-scope-at = at-entry-of .before in let start = at-scope-at .before in info-is (start .args .s) (start .args .m) (at-scope-at .scope-at .ensures) (at-entry-of .entry-of .ensures) (at-scope-at2 .scope-at2 .ensures) (at-entry-of2 .entry-of2 .ensures) (at-scope-at3 .scope-at3 .ensures) (at-entry-of3 .entry-of3 .ensures) (at-scope-at4 .scope-at4 .ensures) (at-entry-of4 .entry-of4 .ensures)
 
@@ -40,12 +16,12 @@ pub info-of-spec : {M : Type 1} → statement M
 info-of-spec =
     tie.close
     (tie.spec
-    scope-at-requires
-    entry-of-requires
-    scope-at-requires-2
-    entry-of-requires-2
-    scope-at-requires-3
-    entry-of-requires-3
-    scope-at-requires-4
-    entry-of-requires-4
+    (λ c κs. search needs)
+    (λ c κs. search needs)
+    (λ c κs. search needs)
+    (λ c κs. search needs)
+    (λ c κs. search needs)
+    (λ c κs. search needs)
+    (λ c κs. search needs)
+    (λ c κs. search needs)
     returns)

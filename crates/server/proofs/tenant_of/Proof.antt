@@ -16,28 +16,13 @@ Inv-loop client s n i₀ i = PlaceInv (hasClient client) noRange (s .tenants) n 
 abbrev μ-loop : tie.MeasureT-loop
 μ-loop client s n i₀ i = n - i
 
-cut8-requires : tie.Need-cut8-requires Inv-loop μ-loop
-cut8-requires c κs = search (places, needs)
-
 loop-holds : tie.Need-loop-holds Inv-loop μ-loop
 unfolding tenantOf
 loop-holds c = search (places, needs)
 
-mul-x : tie.Need-mul-x Inv-loop μ-loop
-mul-x c = search (places, needs)
-
-element-copy-out-x : tie.Need-element-copy-out-x Inv-loop μ-loop
-element-copy-out-x c = search (places, needs)
-
-has-client-requires : tie.Need-has-client-requires Inv-loop μ-loop
-has-client-requires c κs = search (places, needs)
-
 returns : tie.Need-returns Inv-loop μ-loop
 unfolding tenantOf
 returns c = search (places, needs)
-
-add-i : tie.Need-add-i Inv-loop μ-loop
-add-i c = search (places, needs)
 
 loop-less : tie.Need-loop-less Inv-loop μ-loop
 unfolding tenantOf
@@ -57,13 +42,13 @@ tenant-of-spec =
     (tie.spec
     Inv-loop
     μ-loop
-    cut8-requires
+    (λ c κs. search (places, needs))
     loop-holds
-    mul-x
-    element-copy-out-x
-    has-client-requires
+    (λ c. search (places, needs))
+    (λ c. search (places, needs))
+    (λ c κs. search (places, needs))
     returns
-    add-i
+    (λ c. search (places, needs))
     loop-less
     loop-again
     returns-2)

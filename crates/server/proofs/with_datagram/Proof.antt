@@ -10,23 +10,11 @@ use denote.Ref.{now}
 use Rattle.server.proofs.with_datagram.Statement.{statement}
 use Rattle.server.proofs.with_datagram.Tie as tie
 
-read-requires : tie.Need-read-requires
-read-requires c κs = search needs
-
 fields-requires : tie.Need-fields-requires
 fields-requires c κs = let at-if1 = c .before .before in let at-read = at-if1 .before .before in let start = at-read .before .before .before in (reading-good (start .args .book) (start .args .h) (now (start .args .datagram)) (at-read .read .result) (at-read .read .ensures), reading-short (start .args .book) (start .args .h) (now (start .args .datagram)) (at-read .read .result) (at-read .read .ensures) (at-if1 .if1 .taken))
 
-for-server-requires : tie.Need-for-server-requires
-for-server-requires c κs = search needs
-
-same-length : tie.Need-same-length
-same-length c = search needs
-
 returns : tie.Need-returns
 returns c = let at-for-server = c .before .before in let at-fields = at-for-server .before .before in let at-if1 = at-fields .before .before .before in let at-read = at-if1 .before .before in reading-taken _ _ _ _ (at-read .read .ensures) _ (at-if1 .if1 .taken) (at-fields .fields .ensures) (at-for-server .for-server .ensures)
-
-discard-requires : tie.Need-discard-requires
-discard-requires c κs = search needs
 
 returns-2 : tie.Need-returns-2
 returns-2 c = let at-discard = c in let at-if1 = at-discard .before in let at-read = at-if1 .before .before in reading-discarded _ _ _ _ (at-read .read .ensures) (at-if1 .if1 .left) (serves-discard _ _ _ _ (at-discard .discard .ensures))
@@ -35,10 +23,10 @@ pub with-datagram-spec : {M : Type 1} → statement M
 with-datagram-spec =
     tie.close
     (tie.spec
-    read-requires
+    (λ c κs. search needs)
     fields-requires
-    for-server-requires
-    same-length
+    (λ c κs. search needs)
+    (λ c. search needs)
     returns
-    discard-requires
+    (λ c κs. search needs)
     returns-2)

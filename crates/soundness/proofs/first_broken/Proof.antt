@@ -30,9 +30,6 @@ returns-6 : tie.Need-returns-6
 unfolding firstBroken
 returns-6 c = search (tests, not-true, not-false, needs) depth 24
 
-first-late-requires : tie.Need-first-late-requires
-first-late-requires c κs = search (tests, not-true, not-false, needs) depth 24
-
 returns-7 : tie.Need-returns-7
 unfolding firstBroken
 returns-7 c = search (tests, not-true, not-false, needs) depth 24
@@ -47,5 +44,5 @@ first-broken-spec =
     returns-4
     returns-5
     returns-6
-    first-late-requires
+    (λ c κs. search (tests, not-true, not-false, needs) depth 24)
     returns-7)

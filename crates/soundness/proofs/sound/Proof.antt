@@ -4,11 +4,9 @@ use borrow.Author.Needs.{needs}
 use Rattle.soundness.proofs.sound.Statement.{statement}
 use Rattle.soundness.proofs.sound.Tie as tie
 
-broken-requires : tie.Need-broken-requires
-broken-requires c κs = search (sound-is, needs)
-
-returns : tie.Need-returns
-returns c = search (sound-is, needs)
-
 pub sound-spec : {M : Type 1} → statement M
-sound-spec = tie.close (tie.spec broken-requires returns)
+sound-spec =
+    tie.close
+    (tie.spec
+    (λ c κs. search (sound-is, needs))
+    (λ c. search (sound-is, needs)))

@@ -15,56 +15,17 @@ returns-2 : tie.Need-returns-2
 returns-2 c =
     form-short (now (c .before .before .before .args .s)) (search needs)
 
-shared-slice-read-if3 : tie.Need-shared-slice-read-if3
-shared-slice-read-if3 c = search needs
-
 returns-3 : tie.Need-returns-3
 returns-3 c =
     form-tag (now (c .before .before .before .before .before .args .s)) (search needs) (c .if3 .taken)
-
-shared-slice-read-wide : tie.Need-shared-slice-read-wide
-shared-slice-read-wide c = search needs
-
-wide-requires : tie.Need-wide-requires
-wide-requires c κs = search needs
-
-mul-scopes : tie.Need-mul-scopes
-mul-scopes c = search needs
-
-add-scopes : tie.Need-add-scopes
-add-scopes c = search needs
 
 returns-4 : tie.Need-returns-4
 returns-4 c =
     form-tenants (now (c .before .before .before .before .before .before .before .before .args .s)) (c .before .before .before .if3 .left) (search needs) _ (c .before .wide .ensures .0) (search needs)
 
-shared-slice-read-wide-2 : tie.Need-shared-slice-read-wide-2
-shared-slice-read-wide-2 c = search needs
-
-wide-requires-2 : tie.Need-wide-requires-2
-wide-requires-2 c κs = search needs
-
-add-leases : tie.Need-add-leases
-add-leases c = search needs
-
-scopes-size-requires : tie.Need-scopes-size-requires
-scopes-size-requires c κs = search needs
-
-add-leases-2 : tie.Need-add-leases-2
-add-leases-2 c = search needs
-
 returns-5 : tie.Need-returns-5
 returns-5 c =
     form-scopes (now (c .before .before .before .before .before .before .before .before .before .before .before .before .args .s)) (c .before .before .before .before .before .before .before .if3 .left) (search needs) _ (c .before .before .before .before .before .wide .ensures .0) _ (c .before .before .wide2 .ensures .0) (search needs) _ (c .before .scopes-size .ensures .0) (search needs)
-
-leases-end-requires : tie.Need-leases-end-requires
-leases-end-requires c κs = search needs
-
-enum-known-end : tie.Need-enum-known-end
-enum-known-end c = search needs
-
-enum-told : tie.Need-enum-told
-enum-told c = search needs
 
 returns-6 : tie.Need-returns-6
 returns-6 c =
@@ -82,21 +43,21 @@ form-spec =
     (tie.spec
     returns
     returns-2
-    shared-slice-read-if3
+    (λ c. search needs)
     returns-3
-    shared-slice-read-wide
-    wide-requires
-    mul-scopes
-    add-scopes
+    (λ c. search needs)
+    (λ c κs. search needs)
+    (λ c. search needs)
+    (λ c. search needs)
     returns-4
-    shared-slice-read-wide-2
-    wide-requires-2
-    add-leases
-    scopes-size-requires
-    add-leases-2
+    (λ c. search needs)
+    (λ c κs. search needs)
+    (λ c. search needs)
+    (λ c κs. search needs)
+    (λ c. search needs)
     returns-5
-    leases-end-requires
-    enum-known-end
-    enum-told
+    (λ c κs. search needs)
+    (λ c. search needs)
+    (λ c. search needs)
     returns-6
     returns-7)

@@ -8,18 +8,6 @@ use Rattle.state_file.proofs.leases_end.Tie as tie
 returns : tie.Need-returns
 returns c = section-none (now (c .before .before .args .s)) (c .before .before .args .at) (search needs)
 
-shared-slice-read-wide : tie.Need-shared-slice-read-wide
-shared-slice-read-wide c = search needs
-
-wide-requires : tie.Need-wide-requires
-wide-requires c κs = search needs
-
-add-leases-from : tie.Need-add-leases-from
-add-leases-from c = search needs
-
-leases-from-requires : tie.Need-leases-from-requires
-leases-from-requires c κs = search needs
-
 returns-2 : tie.Need-returns-2
 returns-2 c = section-from (now (c .before .before .before .before .before .args .s)) (c .before .before .before .before .before .args .at) _ _ (search needs) (c .before .wide .ensures .0) (c .leases-from .ensures)
 
@@ -28,8 +16,8 @@ leases-end-spec =
     tie.close
     (tie.spec
     returns
-    shared-slice-read-wide
-    wide-requires
-    add-leases-from
-    leases-from-requires
+    (λ c. search needs)
+    (λ c κs. search needs)
+    (λ c. search needs)
+    (λ c κs. search needs)
     returns-2)

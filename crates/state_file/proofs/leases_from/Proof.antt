@@ -13,18 +13,6 @@ Inv-loop s from count here₀ i₀ tenant₀ id-at₀ id-len₀ here i tenant id
 abbrev μ-loop : tie.MeasureT-loop
 μ-loop s from count here₀ i₀ tenant₀ id-at₀ id-len₀ here i tenant id-at id-len = count - i
 
-loop-holds : tie.Need-loop-holds Inv-loop μ-loop
-loop-holds c = search (leases-start, needs)
-
-lease-end-requires : tie.Need-lease-end-requires Inv-loop μ-loop
-lease-end-requires c κs = search (sections, needs)
-
-enum-known-end : tie.Need-enum-known-end Inv-loop μ-loop
-enum-known-end c = search (sections, needs)
-
-enum-told : tie.Need-enum-told Inv-loop μ-loop
-enum-told c = search (sections, needs)
-
 returns : tie.Need-returns Inv-loop μ-loop
 returns c =
     leases-broken (c .before .before .before .before .loop .inv) (search needs) (ends-not (c .before .before .lease-end .ensures) (c .enum-told .given .1))
@@ -50,26 +38,14 @@ shared-slice-read-wide : tie.Need-shared-slice-read-wide Inv-loop μ-loop
 shared-slice-read-wide c =
     let w = ends-at (c .before .before .before .before .before .before .before .lease-end .ensures) (c .before .before .before .before .before .end .given .1) in let p = ends-in w in search needs
 
-wide-requires : tie.Need-wide-requires Inv-loop μ-loop
-wide-requires c κs = search (sections, needs)
-
 add-id-at : tie.Need-add-id-at Inv-loop μ-loop
 add-id-at c =
     let w = ends-at (c .before .before .before .before .before .before .before .before .lease-end .ensures) (c .before .before .before .before .before .before .end .given .1) in let p = ends-in w in search needs
-
-add-i : tie.Need-add-i Inv-loop μ-loop
-add-i c = search (sections, needs)
-
-loop-less : tie.Need-loop-less Inv-loop μ-loop
-loop-less c = search (sections, needs)
 
 loop-again : tie.Need-loop-again Inv-loop μ-loop
 loop-again c =
     let w = ends-at (c .before .before .before .before .before .before .before .before .lease-end .ensures) (c .before .before .before .before .before .before .end .given .1) in
     leases-next (c .before .before .before .before .before .before .before .before .before .before .loop .inv) _ _ (search needs) w (sym (c .before .before .before .if1 .left) ∙ c .before .before .before .before .is-after .ensures) (c .wide .ensures .0)
-
-returns-3 : tie.Need-returns-3 Inv-loop μ-loop
-returns-3 c = search (sections, needs)
 
 pub leases-from-spec : {M : Type 1} → statement M
 leases-from-spec =
@@ -77,19 +53,19 @@ leases-from-spec =
     (tie.spec
     Inv-loop
     μ-loop
-    loop-holds
-    lease-end-requires
-    enum-known-end
-    enum-told
+    (λ c. search (leases-start, needs))
+    (λ c κs. search (sections, needs))
+    (λ c. search (sections, needs))
+    (λ c. search (sections, needs))
     returns
     is-after-requires
     returns-2
     shared-slice-read-tenant
     add-wide
     shared-slice-read-wide
-    wide-requires
+    (λ c κs. search (sections, needs))
     add-id-at
-    add-i
-    loop-less
+    (λ c. search (sections, needs))
+    (λ c. search (sections, needs))
     loop-again
-    returns-3)
+    (λ c. search (sections, needs)))

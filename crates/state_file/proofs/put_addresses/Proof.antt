@@ -8,26 +8,11 @@ use Rattle.state_file.proofs.Writes.{addresses-wrote, listed-count, lis
 use Rattle.state_file.proofs.put_addresses.Statement.{statement}
 use Rattle.state_file.proofs.put_addresses.Tie as tie
 
-to-offsets-requires : tie.Need-to-offsets-requires
-to-offsets-requires c κs = search needs
-
-count-requires : tie.Need-count-requires
-count-requires c κs = search needs
-
 cast-put-u8 : tie.Need-cast-put-u8
 cast-put-u8 c = let l = length-offsets (c .before .before .before .before .before .args .set) in omega (arith, c .count .ensures)
 
-put-u8-requires : tie.Need-put-u8-requires
-put-u8-requires c κs = search needs
-
-slice-aggregate-put-run : tie.Need-slice-aggregate-put-run
-slice-aggregate-put-run c = search needs
-
 put-run-requires : tie.Need-put-run-requires
 put-run-requires c κs = let e = listed-count (c .before .before .before .before .before .before .before .before .before .before .args .set) _ (c .before .before .before .before .before .before .before .before .to-offsets .ensures) in (omega (arith, c .before .before .before .before .put-u8 .ensures .next), listed-long (c .before .before .before .before .before .before .before .before .before .before .args .set) _ (c .before .before .before .before .before .before .before .before .to-offsets .ensures))
-
-same-length : tie.Need-same-length
-same-length c = search needs
 
 returns : tie.Need-returns
 returns c = addresses-wrote (c .before .before .before .before .before .before .before .before .before .before .before .before .before .args .set) (search needs) (c .before .before .before .before .before .before .before .before .count .ensures) (c .before .before .before .before .before .before .before .put-u8 .ensures) (listed-run (c .before .before .before .before .before .before .before .before .before .before .before .before .before .args .set) _ (c .before .before .before .before .before .before .before .before .before .before .before .to-offsets .ensures) refl (c .before .before .put-run .ensures))
@@ -36,11 +21,11 @@ pub put-addresses-spec : {M : Type 1} → statement M
 put-addresses-spec =
     tie.close
     (tie.spec
-    to-offsets-requires
-    count-requires
+    (λ c κs. search needs)
+    (λ c κs. search needs)
     cast-put-u8
-    put-u8-requires
-    slice-aggregate-put-run
+    (λ c κs. search needs)
+    (λ c. search needs)
     put-run-requires
-    same-length
+    (λ c. search needs)
     returns)

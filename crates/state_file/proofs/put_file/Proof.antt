@@ -18,9 +18,6 @@ put-scope-section-requires c κs = let f = file-length (c .before .before .befor
 put-lease-section-requires : tie.Need-put-lease-section-requires
 put-lease-section-requires c κs = let f = file-length (c .before .before .before .before .before .before .before .before .before .before .before .before .before .before .args .state) (c .before .before .before .before .before .before .before .before .before .before .before .before .before .before .args .table) (search (unmapped, needs)) in omega (arith, c .before .before .before .before .before .before .before .before .before .before .before .put-server .ensures .next, c .before .before .before .before .before .before .before .put-range-section .ensures .next, c .before .before .before .put-scope-section .ensures .next)
 
-same-length : tie.Need-same-length
-same-length c = search needs
-
 returns : tie.Need-returns
 returns c = file-wrote (c .before .before .before .before .before .before .before .before .before .before .before .before .before .before .before .before .before .args .state) (c .before .before .before .before .before .before .before .before .before .before .before .before .before .before .before .before .before .args .table) (search (unmapped, needs)) (c .before .before .before .before .before .before .before .before .before .before .before .before .before .before .put-server .ensures) (c .before .before .before .before .before .before .before .before .before .before .put-range-section .ensures) (c .before .before .before .before .before .before .put-scope-section .ensures) (c .before .before .put-lease-section .ensures)
 
@@ -32,5 +29,5 @@ put-file-spec =
     put-range-section-requires
     put-scope-section-requires
     put-lease-section-requires
-    same-length
+    (λ c. search needs)
     returns)

@@ -14,13 +14,15 @@ put-middle-requires c κs = let l = c .before .before .before .before .before .b
 put-addresses-requires : tie.Need-put-addresses-requires
 put-addresses-requires c κs = let l = c .before .before .before .before .before .before .before .before .before .before .args .l in let e = lease-size (c .before .before .before .before .before .before .before .before .before .before .args .tenant) l in omega (arith, c .before .before .before .before .before .before .before .put-head .ensures .next, c .before .before .before .put-middle .ensures .next)
 
-same-length : tie.Need-same-length
-same-length c = search needs
-
 returns : tie.Need-returns
 returns c = lease-wrote (c .before .before .before .before .before .before .before .before .before .before .before .before .before .args .tenant) (c .before .before .before .before .before .before .before .before .before .before .before .before .before .args .l) (search needs) (c .before .before .before .before .before .before .before .before .before .before .put-head .ensures) (c .before .before .before .before .before .before .put-middle .ensures) (c .before .before .put-addresses .ensures)
 
 pub put-lease-spec : {M : Type 1} → statement M
 put-lease-spec =
     tie.close
-    (tie.spec put-head-requires put-middle-requires put-addresses-requires same-length returns)
+    (tie.spec
+    put-head-requires
+    put-middle-requires
+    put-addresses-requires
+    (λ c. search needs)
+    returns)

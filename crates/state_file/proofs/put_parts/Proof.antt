@@ -11,49 +11,19 @@ Inv-loop buffer₀ at h c n to₀ i₀ buffer to i = PairInv (c .reserve) (c .li
 abbrev μ-loop : tie.MeasureT-loop
 μ-loop buffer₀ at h c n to₀ i₀ buffer to i = n - i
 
-cut8-requires : tie.Need-cut8-requires Inv-loop μ-loop
-cut8-requires c κs = search (pairRows, needs)
-
-loop-holds : tie.Need-loop-holds Inv-loop μ-loop
-loop-holds c = search (pairRows, needs)
-
-element-copy-out-put-part : tie.Need-element-copy-out-put-part Inv-loop μ-loop
-element-copy-out-put-part c = search (pairRows, needs)
-
-element-copy-out-put-part-2 : tie.Need-element-copy-out-put-part-2 Inv-loop μ-loop
-element-copy-out-put-part-2 c = search (pairRows, needs)
-
-put-part-requires : tie.Need-put-part-requires Inv-loop μ-loop
-put-part-requires c κs = search (pairRows, needs)
-
-add-i : tie.Need-add-i Inv-loop μ-loop
-add-i c = search (pairRows, needs)
-
-loop-less : tie.Need-loop-less Inv-loop μ-loop
-loop-less c = search (pairRows, needs)
-
-loop-again : tie.Need-loop-again Inv-loop μ-loop
-loop-again c = search (pairRows, needs)
-
-same-length : tie.Need-same-length Inv-loop μ-loop
-same-length c = search (pairRows, needs)
-
-returns : tie.Need-returns Inv-loop μ-loop
-returns c = search (pairRows, needs)
-
 pub put-parts-spec : {M : Type 1} → statement M
 put-parts-spec =
     tie.close
     (tie.spec
     Inv-loop
     μ-loop
-    cut8-requires
-    loop-holds
-    element-copy-out-put-part
-    element-copy-out-put-part-2
-    put-part-requires
-    add-i
-    loop-less
-    loop-again
-    same-length
-    returns)
+    (λ c κs. search (pairRows, needs))
+    (λ c. search (pairRows, needs))
+    (λ c. search (pairRows, needs))
+    (λ c. search (pairRows, needs))
+    (λ c κs. search (pairRows, needs))
+    (λ c. search (pairRows, needs))
+    (λ c. search (pairRows, needs))
+    (λ c. search (pairRows, needs))
+    (λ c. search (pairRows, needs))
+    (λ c. search (pairRows, needs)))

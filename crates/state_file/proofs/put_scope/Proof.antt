@@ -17,9 +17,6 @@ put-u8-requires-2 c κs = let e = scope-least (c .before .before .before .before
 put-parts-requires : tie.Need-put-parts-requires
 put-parts-requires c κs = let e = scope-least (c .before .before .before .before .before .before .before .before .before .before .before .before .before .before .args .h) (c .before .before .before .before .before .before .before .before .before .before .before .before .before .before .args .c) in omega (arith, c .before .before .before .before .before .before .before .before .before .before .before .put-number .ensures .next, c .before .before .before .before .before .before .before .put-u8 .ensures .next, c .before .before .before .put-u82 .ensures .next)
 
-same-length : tie.Need-same-length
-same-length c = search needs
-
 returns : tie.Need-returns
 returns c = scope-wrote (c .before .before .before .before .before .before .before .before .before .before .before .before .before .before .before .before .before .args .h) (c .before .before .before .before .before .before .before .before .before .before .before .before .before .before .before .before .before .args .c) (search needs) (c .before .before .before .before .before .before .before .before .before .before .before .before .before .before .put-number .ensures) (c .before .before .before .before .before .before .before .before .before .before .put-u8 .ensures) (c .before .before .before .before .before .before .put-u82 .ensures) (c .before .before .put-parts .ensures)
 
@@ -31,5 +28,5 @@ put-scope-spec =
     put-u8-requires
     put-u8-requires-2
     put-parts-requires
-    same-length
+    (λ c. search needs)
     returns)

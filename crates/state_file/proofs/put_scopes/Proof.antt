@@ -13,49 +13,19 @@ Inv-loop buffer₀ at state n to₀ i₀ buffer to i = RowInv (scopeRow (state .
 abbrev μ-loop : tie.MeasureT-loop
 μ-loop buffer₀ at state n to₀ i₀ buffer to i = n - i
 
-cut4-requires : tie.Need-cut4-requires Inv-loop μ-loop
-cut4-requires c κs = search (scopeRows, needs)
-
-loop-holds : tie.Need-loop-holds Inv-loop μ-loop
-loop-holds c = search (scopeRows, needs)
-
-mul-c : tie.Need-mul-c Inv-loop μ-loop
-mul-c c = search (scopeRows, needs)
-
-element-copy-out-c : tie.Need-element-copy-out-c Inv-loop μ-loop
-element-copy-out-c c = search (scopeRows, needs)
-
-put-scope-requires : tie.Need-put-scope-requires Inv-loop μ-loop
-put-scope-requires c κs = search (scopeRows, needs)
-
-add-i : tie.Need-add-i Inv-loop μ-loop
-add-i c = search (scopeRows, needs)
-
-loop-less : tie.Need-loop-less Inv-loop μ-loop
-loop-less c = search (scopeRows, needs)
-
-loop-again : tie.Need-loop-again Inv-loop μ-loop
-loop-again c = search (scopeRows, needs)
-
-same-length : tie.Need-same-length Inv-loop μ-loop
-same-length c = search (scopeRows, needs)
-
-returns : tie.Need-returns Inv-loop μ-loop
-returns c = search (scopeRows, needs)
-
 pub put-scopes-spec : {M : Type 1} → statement M
 put-scopes-spec =
     tie.close
     (tie.spec
     Inv-loop
     μ-loop
-    cut4-requires
-    loop-holds
-    mul-c
-    element-copy-out-c
-    put-scope-requires
-    add-i
-    loop-less
-    loop-again
-    same-length
-    returns)
+    (λ c κs. search (scopeRows, needs))
+    (λ c. search (scopeRows, needs))
+    (λ c. search (scopeRows, needs))
+    (λ c. search (scopeRows, needs))
+    (λ c κs. search (scopeRows, needs))
+    (λ c. search (scopeRows, needs))
+    (λ c. search (scopeRows, needs))
+    (λ c. search (scopeRows, needs))
+    (λ c. search (scopeRows, needs))
+    (λ c. search (scopeRows, needs)))

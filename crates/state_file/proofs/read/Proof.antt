@@ -7,20 +7,18 @@ use Rattle.state_file.proofs.Loads.{read-not, read-yes}
 use Rattle.state_file.proofs.read.Statement.{statement}
 use Rattle.state_file.proofs.read.Tie as tie
 
-form-requires : tie.Need-form-requires
-form-requires c κs = search (read-yes, read-not, needs)
-
 load-requires : tie.Need-load-requires
 load-requires c κs = formed _ (sym (c .before .form .ensures) ∙ c .if1 .taken) (λ i. omega (arith, c .before .before .shared-slice-known .given i))
 
 returns : tie.Need-returns
 returns c = read-yes _ _ (formed _ (sym (c .before .before .form .ensures) ∙ c .before .if1 .taken) (λ i. omega (arith, c .before .before .before .shared-slice-known .given i))) (c .load .ensures)
 
-refusal-requires : tie.Need-refusal-requires
-refusal-requires c κs = search (read-yes, read-not, needs)
-
-returns-2 : tie.Need-returns-2
-returns-2 c = search (read-yes, read-not, needs)
-
 pub read-spec : {M : Type 1} → statement M
-read-spec = tie.close (tie.spec form-requires load-requires returns refusal-requires returns-2)
+read-spec =
+    tie.close
+    (tie.spec
+    (λ c κs. search (read-yes, read-not, needs))
+    load-requires
+    returns
+    (λ c κs. search (read-yes, read-not, needs))
+    (λ c. search (read-yes, read-not, needs)))

@@ -18,18 +18,6 @@ Inv-loop s at k h out₀ i₀ out i = PadInv zeroScope 4 (map storedScope (row (
 abbrev μ-loop : tie.MeasureT-loop
 μ-loop s at k h out₀ i₀ out i = k - i
 
-zero-scope-requires : tie.Need-zero-scope-requires Inv-loop μ-loop
-zero-scope-requires c κs = search (scopePads, needs)
-
-loop-holds : tie.Need-loop-holds Inv-loop μ-loop
-loop-holds c = search (scopePads, needs)
-
-mul-scope-at : tie.Need-mul-scope-at Inv-loop μ-loop
-mul-scope-at c = search (scopePads, needs)
-
-add-scope-at : tie.Need-add-scope-at Inv-loop μ-loop
-add-scope-at c = search (scopePads, needs)
-
 mul-scope-at-2 : tie.Need-mul-scope-at-2 Inv-loop μ-loop
 mul-scope-at-2 c = let a = c .before .before .before .before .args in omega (arith, row-in (length (now (a .s))) (a .at) (c .before .loop .i) (a .k) (6 + a .h * 2) (omega arith) (c .before .before .before .before .pre .2))
 
@@ -39,40 +27,22 @@ add-scope-at-2 c = let a = c .before .before .before .before .args in omega (ari
 scope-at-requires : tie.Need-scope-at-requires Inv-loop μ-loop
 scope-at-requires c κs = let a = c .before .before .before .before .args in (search needs, omega (arith, row-in (length (now (a .s))) (a .at) (c .before .loop .i) (a .k) (6 + a .h * 2) (omega arith) (c .before .before .before .before .pre .2)))
 
-mul-out : tie.Need-mul-out Inv-loop μ-loop
-mul-out c = search (scopePads, needs)
-
-array-set-from-out : tie.Need-array-set-from-out Inv-loop μ-loop
-array-set-from-out c = search (scopePads, needs)
-
-add-i : tie.Need-add-i Inv-loop μ-loop
-add-i c = search (scopePads, needs)
-
-loop-less : tie.Need-loop-less Inv-loop μ-loop
-loop-less c = search (scopePads, needs)
-
-loop-again : tie.Need-loop-again Inv-loop μ-loop
-loop-again c = search (scopePads, needs)
-
-returns : tie.Need-returns Inv-loop μ-loop
-returns c = search (scopePads, needs)
-
 pub scopes-at-spec : {M : Type 1} → statement M
 scopes-at-spec =
     tie.close
     (tie.spec
     Inv-loop
     μ-loop
-    zero-scope-requires
-    loop-holds
-    mul-scope-at
-    add-scope-at
+    (λ c κs. search (scopePads, needs))
+    (λ c. search (scopePads, needs))
+    (λ c. search (scopePads, needs))
+    (λ c. search (scopePads, needs))
     mul-scope-at-2
     add-scope-at-2
     scope-at-requires
-    mul-out
-    array-set-from-out
-    add-i
-    loop-less
-    loop-again
-    returns)
+    (λ c. search (scopePads, needs))
+    (λ c. search (scopePads, needs))
+    (λ c. search (scopePads, needs))
+    (λ c. search (scopePads, needs))
+    (λ c. search (scopePads, needs))
+    (λ c. search (scopePads, needs)))

@@ -16,27 +16,9 @@ Inv-loop state n sum₀ i₀ sum i = SizeInv (λ i. length (scopeRow (state .«t
 abbrev μ-loop : tie.MeasureT-loop
 μ-loop state n sum₀ i₀ sum i = n - i
 
-cut4-requires : tie.Need-cut4-requires Inv-loop μ-loop
-cut4-requires c κs = search (sizes, needs)
-
 loop-holds : tie.Need-loop-holds Inv-loop μ-loop
 unfolding scopeRow
 loop-holds c = search (sizes, needs)
-
-mul-c : tie.Need-mul-c Inv-loop μ-loop
-mul-c c = search (sizes, needs)
-
-element-copy-out-c : tie.Need-element-copy-out-c Inv-loop μ-loop
-element-copy-out-c c = search (sizes, needs)
-
-scope-size-requires : tie.Need-scope-size-requires Inv-loop μ-loop
-scope-size-requires c κs = search (sizes, needs)
-
-add-sum : tie.Need-add-sum Inv-loop μ-loop
-add-sum c = search (sizes, needs)
-
-add-i : tie.Need-add-i Inv-loop μ-loop
-add-i c = search (sizes, needs)
 
 loop-less : tie.Need-loop-less Inv-loop μ-loop
 unfolding scopeRow
@@ -56,13 +38,13 @@ scopes-length-spec =
     (tie.spec
     Inv-loop
     μ-loop
-    cut4-requires
+    (λ c κs. search (sizes, needs))
     loop-holds
-    mul-c
-    element-copy-out-c
-    scope-size-requires
-    add-sum
-    add-i
+    (λ c. search (sizes, needs))
+    (λ c. search (sizes, needs))
+    (λ c κs. search (sizes, needs))
+    (λ c. search (sizes, needs))
+    (λ c. search (sizes, needs))
     loop-less
     loop-again
     returns)

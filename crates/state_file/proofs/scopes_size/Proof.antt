@@ -5,12 +5,6 @@ use Rattle.state_file.proofs.WholeForm.{scopes-bound}
 use Rattle.state_file.proofs.scopes_size.Statement.{statement}
 use Rattle.state_file.proofs.scopes_size.Tie as tie
 
-mul-result : tie.Need-mul-result
-mul-result c = search needs
-
-add-result : tie.Need-add-result
-add-result c = search needs
-
 mul-result-2 : tie.Need-mul-result-2
 mul-result-2 c =
     let b = scopes-bound (c .args .k) (6 + c .args .h * 2) (search needs) (search needs) in
@@ -22,4 +16,10 @@ returns c =
     search needs
 
 pub scopes-size-spec : {M : Type 1} → statement M
-scopes-size-spec = tie.close (tie.spec mul-result add-result mul-result-2 returns)
+scopes-size-spec =
+    tie.close
+    (tie.spec
+    (λ c. search needs)
+    (λ c. search needs)
+    mul-result-2
+    returns)

@@ -16,45 +16,18 @@ Inv-loop table sum₀ i₀ sum i = SizeInv (λ i. length (tenantOctets 0 (getD (
 abbrev μ-loop : tie.MeasureT-loop
 μ-loop table sum₀ i₀ sum i = 8 - i
 
-loop-holds : tie.Need-loop-holds Inv-loop μ-loop
-loop-holds c = search (sizes, table-length, needs)
-
-mul-t : tie.Need-mul-t Inv-loop μ-loop
-mul-t c = search (sizes, table-length, needs)
-
-element-copy-out-t : tie.Need-element-copy-out-t Inv-loop μ-loop
-element-copy-out-t c = search (sizes, table-length, needs)
-
-tenant-size-requires : tie.Need-tenant-size-requires Inv-loop μ-loop
-tenant-size-requires c κs = search (sizes, table-length, needs)
-
-add-sum : tie.Need-add-sum Inv-loop μ-loop
-add-sum c = search (sizes, table-length, needs)
-
-add-i : tie.Need-add-i Inv-loop μ-loop
-add-i c = search (sizes, table-length, needs)
-
-loop-less : tie.Need-loop-less Inv-loop μ-loop
-loop-less c = search (sizes, table-length, needs)
-
-loop-again : tie.Need-loop-again Inv-loop μ-loop
-loop-again c = search (sizes, table-length, needs)
-
-returns : tie.Need-returns Inv-loop μ-loop
-returns c = search (sizes, table-length, needs)
-
 pub table-size-spec : {M : Type 1} → statement M
 table-size-spec =
     tie.close
     (tie.spec
     Inv-loop
     μ-loop
-    loop-holds
-    mul-t
-    element-copy-out-t
-    tenant-size-requires
-    add-sum
-    add-i
-    loop-less
-    loop-again
-    returns)
+    (λ c. search (sizes, table-length, needs))
+    (λ c. search (sizes, table-length, needs))
+    (λ c. search (sizes, table-length, needs))
+    (λ c κs. search (sizes, table-length, needs))
+    (λ c. search (sizes, table-length, needs))
+    (λ c. search (sizes, table-length, needs))
+    (λ c. search (sizes, table-length, needs))
+    (λ c. search (sizes, table-length, needs))
+    (λ c. search (sizes, table-length, needs)))

@@ -11,41 +11,17 @@ Inv-loop s from count t out₀ here₀ i₀ out here i = FillInv s from count t 
 abbrev μ-loop : tie.MeasureT-loop
 μ-loop s from count t out₀ here₀ i₀ out here i = count - i
 
-no-leases-requires : tie.Need-no-leases-requires Inv-loop μ-loop
-no-leases-requires c κs = search (fills, needs)
-
-loop-holds : tie.Need-loop-holds Inv-loop μ-loop
-loop-holds c = search (fill-start, needs)
-
-keep-tenant-requires : tie.Need-keep-tenant-requires Inv-loop μ-loop
-keep-tenant-requires c κs = search (fills, needs)
-
-lease-next-requires : tie.Need-lease-next-requires Inv-loop μ-loop
-lease-next-requires c κs = search (fills, needs)
-
-add-i : tie.Need-add-i Inv-loop μ-loop
-add-i c = search (fills, needs)
-
-loop-less : tie.Need-loop-less Inv-loop μ-loop
-loop-less c = search (fills, needs)
-
-loop-again : tie.Need-loop-again Inv-loop μ-loop
-loop-again c = search (fills, needs)
-
-returns : tie.Need-returns Inv-loop μ-loop
-returns c = search (fills, needs)
-
 pub tenant-leases-spec : {M : Type 1} → statement M
 tenant-leases-spec =
     tie.close
     (tie.spec
     Inv-loop
     μ-loop
-    no-leases-requires
-    loop-holds
-    keep-tenant-requires
-    lease-next-requires
-    add-i
-    loop-less
-    loop-again
-    returns)
+    (λ c κs. search (fills, needs))
+    (λ c. search (fill-start, needs))
+    (λ c κs. search (fills, needs))
+    (λ c κs. search (fills, needs))
+    (λ c. search (fills, needs))
+    (λ c. search (fills, needs))
+    (λ c. search (fills, needs))
+    (λ c. search (fills, needs)))

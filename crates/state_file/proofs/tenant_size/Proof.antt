@@ -16,27 +16,9 @@ Inv-loop t n sum₀ i₀ sum i = SizeInv (λ i. length (leaseOctets 0 i (getD (t
 abbrev μ-loop : tie.MeasureT-loop
 μ-loop t n sum₀ i₀ sum i = n - i
 
-cut16-requires : tie.Need-cut16-requires Inv-loop μ-loop
-cut16-requires c κs = search (sizes, needs)
-
 loop-holds : tie.Need-loop-holds Inv-loop μ-loop
 unfolding leaseOctets
 loop-holds c = search (sizes, needs)
-
-mul-l : tie.Need-mul-l Inv-loop μ-loop
-mul-l c = search (sizes, needs)
-
-element-copy-out-l : tie.Need-element-copy-out-l Inv-loop μ-loop
-element-copy-out-l c = search (sizes, needs)
-
-lease-size-requires : tie.Need-lease-size-requires Inv-loop μ-loop
-lease-size-requires c κs = search (sizes, needs)
-
-add-sum : tie.Need-add-sum Inv-loop μ-loop
-add-sum c = search (sizes, needs)
-
-add-i : tie.Need-add-i Inv-loop μ-loop
-add-i c = search (sizes, needs)
 
 loop-less : tie.Need-loop-less Inv-loop μ-loop
 unfolding leaseOctets
@@ -56,13 +38,13 @@ tenant-size-spec =
     (tie.spec
     Inv-loop
     μ-loop
-    cut16-requires
+    (λ c κs. search (sizes, needs))
     loop-holds
-    mul-l
-    element-copy-out-l
-    lease-size-requires
-    add-sum
-    add-i
+    (λ c. search (sizes, needs))
+    (λ c. search (sizes, needs))
+    (λ c κs. search (sizes, needs))
+    (λ c. search (sizes, needs))
+    (λ c. search (sizes, needs))
     loop-less
     loop-again
     returns)

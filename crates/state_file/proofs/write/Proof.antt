@@ -4,20 +4,8 @@ use Rattle.state_file.proofs.Writes.{write-done, write-short, write-uns
 use Rattle.state_file.proofs.write.Statement.{statement}
 use Rattle.state_file.proofs.write.Tie as tie
 
-sound-requires : tie.Need-sound-requires
-sound-requires c κs = search needs
-
-file-size-requires : tie.Need-file-size-requires
-file-size-requires c κs = search needs
-
 returns : tie.Need-returns
 returns c = write-short (c .before .before .before .before .before .args .state) (c .before .before .before .before .before .args .table) _ (c .before .before .before .sound .ensures) _ _ (c .before .before .if1 .taken) (c .before .file-size .ensures) (c .if2 .taken)
-
-put-file-requires : tie.Need-put-file-requires
-put-file-requires c κs = search needs
-
-same-length : tie.Need-same-length
-same-length c = search needs
 
 returns-2 : tie.Need-returns-2
 returns-2 c = write-done (c .before .before .before .before .before .before .before .before .before .args .state) (c .before .before .before .before .before .before .before .before .before .args .table) _ (c .before .before .before .before .before .before .before .sound .ensures) _ _ (c .before .before .before .before .before .before .if1 .taken) (c .before .before .before .before .before .file-size .ensures) _ _ (c .before .before .before .before .if2 .left) (c .before .before .put-file .ensures)
@@ -29,10 +17,10 @@ pub write-spec : {M : Type 1} → statement M
 write-spec =
     tie.close
     (tie.spec
-    sound-requires
-    file-size-requires
+    (λ c κs. search needs)
+    (λ c κs. search needs)
     returns
-    put-file-requires
-    same-length
+    (λ c κs. search needs)
+    (λ c. search needs)
     returns-2
     returns-3)

@@ -4,11 +4,9 @@ use borrow.Author.Needs.{needs}
 use Rattle.decision.proofs.numbers.and_below.Statement.{statement}
 use Rattle.decision.proofs.numbers.and_below.Tie as tie
 
-returns : tie.Need-returns
-returns c = search (and-true, and-false, or-true, or-false, needs)
-
-returns-2 : tie.Need-returns-2
-returns-2 c = search (and-true, and-false, or-true, or-false, needs)
-
 pub and-below-spec : {M : Type 1} → statement M
-and-below-spec = tie.close (tie.spec returns returns-2)
+and-below-spec =
+    tie.close
+    (tie.spec
+    (λ c. search (and-true, and-false, or-true, or-false, needs))
+    (λ c. search (and-true, and-false, or-true, or-false, needs)))

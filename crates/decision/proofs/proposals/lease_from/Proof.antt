@@ -4,11 +4,9 @@ use borrow.Author.Needs.{needs}
 use Rattle.decision.proofs.proposals.lease_from.Statement.{statement}
 use Rattle.decision.proofs.proposals.lease_from.Tie as tie
 
-cut-end-requires : tie.Need-cut-end-requires
-cut-end-requires c κs = search (lease-is, needs)
-
-returns : tie.Need-returns
-returns c = search (lease-is, needs)
-
 pub lease-from-spec : {M : Type 1} → statement M
-lease-from-spec = tie.close (tie.spec cut-end-requires returns)
+lease-from-spec =
+    tie.close
+    (tie.spec
+    (λ c κs. search (lease-is, needs))
+    (λ c. search (lease-is, needs)))

@@ -4,14 +4,10 @@ use borrow.Author.Needs.{needs}
 use Rattle.decision.proofs.proposals.new_with.Statement.{statement}
 use Rattle.decision.proofs.proposals.new_with.Tie as tie
 
-tenant-at-requires : tie.Need-tenant-at-requires
-tenant-at-requires c κs = search (new-with-is, needs)
-
-fits-new-requires : tie.Need-fits-new-requires
-fits-new-requires c κs = search (new-with-is, needs)
-
-returns : tie.Need-returns
-returns c = search (new-with-is, needs)
-
 pub new-with-spec : {M : Type 1} → statement M
-new-with-spec = tie.close (tie.spec tenant-at-requires fits-new-requires returns)
+new-with-spec =
+    tie.close
+    (tie.spec
+    (λ c κs. search (new-with-is, needs))
+    (λ c κs. search (new-with-is, needs))
+    (λ c. search (new-with-is, needs)))

@@ -5,9 +5,6 @@ use borrow.Author.Needs.{needs}
 use Rattle.decision.proofs.tests.error_2.Statement.{statement}
 use Rattle.decision.proofs.tests.error_2.Tie as tie
 
-far-requires : tie.Need-far-requires
-far-requires c κs = search (and-true, and-false, or-true, or-false, needs)
-
 returns : tie.Need-returns
 unfolding error2Of
 returns c = search (and-true, and-false, or-true, or-false, needs)
@@ -17,4 +14,9 @@ unfolding error2Of
 returns-2 c = search (and-true, and-false, or-true, or-false, needs)
 
 pub error-2-spec : {M : Type 1} → statement M
-error-2-spec = tie.close (tie.spec far-requires returns returns-2)
+error-2-spec =
+    tie.close
+    (tie.spec
+    (λ c κs. search (and-true, and-false, or-true, or-false, needs))
+    returns
+    returns-2)

@@ -4,14 +4,10 @@ use borrow.Author.Needs.{needs}
 use Rattle.decision.proofs.tests.far.Statement.{statement}
 use Rattle.decision.proofs.tests.far.Tie as tie
 
-sub-result : tie.Need-sub-result
-sub-result c = search (far-below, far-above, needs)
-
-returns : tie.Need-returns
-returns c = search (far-below, far-above, needs)
-
-returns-2 : tie.Need-returns-2
-returns-2 c = search (far-below, far-above, needs)
-
 pub far-spec : {M : Type 1} → statement M
-far-spec = tie.close (tie.spec sub-result returns returns-2)
+far-spec =
+    tie.close
+    (tie.spec
+    (λ c. search (far-below, far-above, needs))
+    (λ c. search (far-below, far-above, needs))
+    (λ c. search (far-below, far-above, needs)))

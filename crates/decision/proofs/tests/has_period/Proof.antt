@@ -5,9 +5,6 @@ use borrow.Author.Needs.{needs}
 use Rattle.decision.proofs.tests.has_period.Statement.{statement}
 use Rattle.decision.proofs.tests.has_period.Tie as tie
 
-is-new-requires : tie.Need-is-new-requires
-is-new-requires c κs = search (joins, needs)
-
 returns : tie.Need-returns
 unfolding hasPeriod
 returns c = search (joins, needs)
@@ -17,4 +14,9 @@ unfolding hasPeriod
 returns-2 c = search (joins, needs)
 
 pub has-period-spec : {M : Type 1} → statement M
-has-period-spec = tie.close (tie.spec is-new-requires returns returns-2)
+has-period-spec =
+    tie.close
+    (tie.spec
+    (λ c κs. search (joins, needs))
+    returns
+    returns-2)

@@ -5,12 +5,6 @@ use borrow.Author.Needs.{needs}
 use Rattle.decision.proofs.tests.is_resend.Statement.{statement}
 use Rattle.decision.proofs.tests.is_resend.Tie as tie
 
-is-recorded-type-requires : tie.Need-is-recorded-type-requires
-is-recorded-type-requires c κs = search (joins, needs)
-
-same-message-requires : tie.Need-same-message-requires
-same-message-requires c κs = search (joins, needs)
-
 returns : tie.Need-returns
 unfolding resends
 returns c = search (joins, needs)
@@ -21,4 +15,9 @@ returns-2 c = search (joins, needs)
 
 pub is-resend-spec : {M : Type 1} → statement M
 is-resend-spec =
-    tie.close (tie.spec is-recorded-type-requires same-message-requires returns returns-2)
+    tie.close
+    (tie.spec
+    (λ c κs. search (joins, needs))
+    (λ c κs. search (joins, needs))
+    returns
+    returns-2)

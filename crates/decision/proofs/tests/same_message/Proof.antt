@@ -4,11 +4,9 @@ use borrow.Author.Needs.{needs}
 use Rattle.decision.proofs.tests.same_message.Statement.{statement}
 use Rattle.decision.proofs.tests.same_message.Tie as tie
 
-returns : tie.Need-returns
-returns c = search (ands, needs)
-
-returns-2 : tie.Need-returns-2
-returns-2 c = search (ands, needs)
-
 pub same-message-spec : {M : Type 1} → statement M
-same-message-spec = tie.close (tie.spec returns returns-2)
+same-message-spec =
+    tie.close
+    (tie.spec
+    (λ c. search (ands, needs))
+    (λ c. search (ands, needs)))

@@ -13,28 +13,13 @@ Inv-loop lowest s n i₀ i = PlaceInv (lowestIs lowest) noScope (s .scopes) n (s
 abbrev μ-loop : tie.MeasureT-loop
 μ-loop lowest s n i₀ i = n - i
 
-cut4-requires : tie.Need-cut4-requires Inv-loop μ-loop
-cut4-requires c κs = search (places, needs)
-
 loop-holds : tie.Need-loop-holds Inv-loop μ-loop
 unfolding scopePlace
 loop-holds c = search (places, needs)
 
-mul-c : tie.Need-mul-c Inv-loop μ-loop
-mul-c c = search (places, needs)
-
-element-copy-out-c : tie.Need-element-copy-out-c Inv-loop μ-loop
-element-copy-out-c c = search (places, needs)
-
-lowest-is-requires : tie.Need-lowest-is-requires Inv-loop μ-loop
-lowest-is-requires c κs = search (places, needs)
-
 returns : tie.Need-returns Inv-loop μ-loop
 unfolding scopePlace
 returns c = search (places, needs)
-
-add-i : tie.Need-add-i Inv-loop μ-loop
-add-i c = search (places, needs)
 
 loop-less : tie.Need-loop-less Inv-loop μ-loop
 unfolding scopePlace
@@ -54,13 +39,13 @@ scope-place-spec =
     (tie.spec
     Inv-loop
     μ-loop
-    cut4-requires
+    (λ c κs. search (places, needs))
     loop-holds
-    mul-c
-    element-copy-out-c
-    lowest-is-requires
+    (λ c. search (places, needs))
+    (λ c. search (places, needs))
+    (λ c κs. search (places, needs))
     returns
-    add-i
+    (λ c. search (places, needs))
     loop-less
     loop-again
     returns-2)

@@ -17,37 +17,16 @@ Inv-loop self code₀ code = UptoInv (allowedAt (self .kind .number) (self .plac
 abbrev μ-loop : tie.MeasureT-loop
 μ-loop self code₀ code = 17 - code
 
-loop-holds : tie.Need-loop-holds Inv-loop μ-loop
-loop-holds c = search (uptos, needs)
-
-allowed-at-requires : tie.Need-allowed-at-requires Inv-loop μ-loop
-allowed-at-requires c κs = search (uptos, needs)
-
-returns : tie.Need-returns Inv-loop μ-loop
-returns c = search (uptos, needs)
-
-add-code : tie.Need-add-code Inv-loop μ-loop
-add-code c = search (uptos, needs)
-
-loop-less : tie.Need-loop-less Inv-loop μ-loop
-loop-less c = search (uptos, needs)
-
-loop-again : tie.Need-loop-again Inv-loop μ-loop
-loop-again c = search (uptos, needs)
-
-returns-2 : tie.Need-returns-2 Inv-loop μ-loop
-returns-2 c = search (uptos, needs)
-
 pub all-allowed-spec : {M : Type 1} → statement M
 all-allowed-spec =
     tie.close
     (tie.spec
     Inv-loop
     μ-loop
-    loop-holds
-    allowed-at-requires
-    returns
-    add-code
-    loop-less
-    loop-again
-    returns-2)
+    (λ c. search (uptos, needs))
+    (λ c κs. search (uptos, needs))
+    (λ c. search (uptos, needs))
+    (λ c. search (uptos, needs))
+    (λ c. search (uptos, needs))
+    (λ c. search (uptos, needs))
+    (λ c. search (uptos, needs)))

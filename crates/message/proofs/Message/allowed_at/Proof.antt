@@ -9,12 +9,6 @@ use borrow.Author.Needs.{needs}
 use Rattle.message.proofs.Message.allowed_at.Statement.{statement}
 use Rattle.message.proofs.Message.allowed_at.Tie as tie
 
-has-requires : tie.Need-has-requires
-has-requires c κs = search (calls, needs)
-
-allows-requires : tie.Need-allows-requires
-allows-requires c κs = search (calls, needs)
-
 returns : tie.Need-returns
 unfolding allowedAt
 returns c = search (calls, needs)
@@ -24,4 +18,10 @@ unfolding allowedAt
 returns-2 c = search (calls, needs)
 
 pub allowed-at-spec : {M : Type 1} → statement M
-allowed-at-spec = tie.close (tie.spec has-requires allows-requires returns returns-2)
+allowed-at-spec =
+    tie.close
+    (tie.spec
+    (λ c κs. search (calls, needs))
+    (λ c κs. search (calls, needs))
+    returns
+    returns-2)

@@ -11,20 +11,8 @@ use mathlib.Core.Path.{_∙_, ap, sym}
 use Rattle.message.proofs.Message.asks_for.Statement.{statement}
 use Rattle.message.proofs.Message.asks_for.Tie as tie
 
-find-requires : tie.Need-find-requires
-find-requires c κs = search (found-fits, needs)
-
-enum-known-found : tie.Need-enum-known-found
-enum-known-found c = search (found-fits, needs)
-
-enum-told : tie.Need-enum-told
-enum-told c = search (found-fits, needs)
-
 returns : tie.Need-returns
 returns c = let a = c .before .before .before .before .args in ap (namesOf (now (a .s)) (a .code)) (sym (c .enum-told .given .1) ∙ c .before .before .find .ensures)
-
-lists-code-requires : tie.Need-lists-code-requires
-lists-code-requires c κs = search (found-fits, needs)
 
 returns-2 : tie.Need-returns-2
 returns-2 c = let f = c .before .before in let a = f .before .before .before .before .args in c .lists-code .ensures ∙ ap (namesOf (now (a .s)) (a .code)) (sym (f .found .given .1) ∙ f .before .before .find .ensures)
@@ -32,4 +20,10 @@ returns-2 c = let f = c .before .before in let a = f .before .before .before .be
 pub asks-for-spec : {M : Type 1} → statement M
 asks-for-spec =
     tie.close
-    (tie.spec find-requires enum-known-found enum-told returns lists-code-requires returns-2)
+    (tie.spec
+    (λ c κs. search (found-fits, needs))
+    (λ c. search (found-fits, needs))
+    (λ c. search (found-fits, needs))
+    returns
+    (λ c κs. search (found-fits, needs))
+    returns-2)

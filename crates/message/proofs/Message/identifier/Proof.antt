@@ -11,20 +11,8 @@ use mathlib.Core.Path.{_∙_, ap, sym}
 use Rattle.message.proofs.Message.identifier.Statement.{statement}
 use Rattle.message.proofs.Message.identifier.Tie as tie
 
-find-requires : tie.Need-find-requires
-find-requires c κs = search (found-fits, id-short, needs)
-
-enum-known-found : tie.Need-enum-known-found
-enum-known-found c = search (found-fits, id-short, needs)
-
-enum-told : tie.Need-enum-told
-enum-told c = search (found-fits, id-short, needs)
-
 returns : tie.Need-returns
 returns c = let a = c .before .before .before .before .args in ap (identifierOf (now (a .s))) (sym (c .enum-told .given .1) ∙ c .before .before .find .ensures)
-
-identifier-at-requires : tie.Need-identifier-at-requires
-identifier-at-requires c κs = search (found-fits, id-short, needs)
 
 returns-2 : tie.Need-returns-2
 returns-2 c = let f = c .before .before in let a = f .before .before .before .before .args in c .identifier-at .ensures ∙ ap (identifierOf (now (a .s))) (sym (f .found .given .1) ∙ f .before .before .find .ensures)
@@ -32,4 +20,10 @@ returns-2 c = let f = c .before .before in let a = f .before .before .before .be
 pub identifier-spec : {M : Type 1} → statement M
 identifier-spec =
     tie.close
-    (tie.spec find-requires enum-known-found enum-told returns identifier-at-requires returns-2)
+    (tie.spec
+    (λ c κs. search (found-fits, id-short, needs))
+    (λ c. search (found-fits, id-short, needs))
+    (λ c. search (found-fits, id-short, needs))
+    returns
+    (λ c κs. search (found-fits, id-short, needs))
+    returns-2)

@@ -12,20 +12,8 @@ use mathlib.Core.Path.{_∙_, ap, sym}
 use Rattle.message.proofs.Message.is_for.Statement.{statement}
 use Rattle.message.proofs.Message.is_for.Tie as tie
 
-find-requires : tie.Need-find-requires
-find-requires c κs = search (found-fits, needs)
-
-enum-known-found : tie.Need-enum-known-found
-enum-known-found c = search (found-fits, needs)
-
-enum-told : tie.Need-enum-told
-enum-told c = search (found-fits, needs)
-
 returns : tie.Need-returns
 returns c = let a = c .before .before .before .before .args in ap (serverOk (now (a .s)) (a .server)) (sym (c .enum-told .given .1) ∙ c .before .before .find .ensures)
-
-names-server-requires : tie.Need-names-server-requires
-names-server-requires c κs = search (found-fits, needs)
 
 returns-2 : tie.Need-returns-2
 returns-2 c = let f = c .before .before in let a = f .before .before .before .before .args in c .names-server .ensures ∙ ap (serverOk (now (a .s)) (a .server)) (sym (f .found .given .1) ∙ f .before .before .find .ensures)
@@ -33,4 +21,10 @@ returns-2 c = let f = c .before .before in let a = f .before .before .before .be
 pub is-for-spec : {M : Type 1} → statement M
 is-for-spec =
     tie.close
-    (tie.spec find-requires enum-known-found enum-told returns names-server-requires returns-2)
+    (tie.spec
+    (λ c κs. search (found-fits, needs))
+    (λ c. search (found-fits, needs))
+    (λ c. search (found-fits, needs))
+    returns
+    (λ c κs. search (found-fits, needs))
+    returns-2)

@@ -12,20 +12,8 @@ use mathlib.Core.Path.{_∙_, ap, sym}
 use Rattle.message.proofs.Message.number.Statement.{statement}
 use Rattle.message.proofs.Message.number.Tie as tie
 
-find-requires : tie.Need-find-requires
-find-requires c κs = search (four-fits, needs)
-
-enum-known-found : tie.Need-enum-known-found
-enum-known-found c = search (four-fits, needs)
-
-enum-told : tie.Need-enum-told
-enum-told c = search (four-fits, needs)
-
 returns : tie.Need-returns
 returns c = let a = c .before .before .before .before .args in ap (numberOr (now (a .s)) (a .default)) (sym (c .enum-told .given .1) ∙ c .before .before .find .ensures)
-
-number-at-requires : tie.Need-number-at-requires
-number-at-requires c κs = search (four-fits, needs)
 
 returns-2 : tie.Need-returns-2
 returns-2 c = let f = c .before .before in let a = f .before .before .before .before .args in c .number-at .ensures ∙ ap (numberOr (now (a .s)) (a .default)) (sym (f .found .given .1) ∙ f .before .before .find .ensures)
@@ -33,4 +21,10 @@ returns-2 c = let f = c .before .before in let a = f .before .before .before .be
 pub number-spec : {M : Type 1} → statement M
 number-spec =
     tie.close
-    (tie.spec find-requires enum-known-found enum-told returns number-at-requires returns-2)
+    (tie.spec
+    (λ c κs. search (four-fits, needs))
+    (λ c. search (four-fits, needs))
+    (λ c. search (four-fits, needs))
+    returns
+    (λ c κs. search (four-fits, needs))
+    returns-2)

@@ -32,9 +32,6 @@ wish-requires-5 : tie.Need-wish-requires-5
 unfolding isIn pick
 wish-requires-5 c κs = (search needs, (four-time 15 refl, search needs))
 
-returns : tie.Need-returns
-returns c = search (times-is, needs)
-
 pub times-spec : {M : Type 1} → statement M
 times-spec =
     tie.close
@@ -44,4 +41,4 @@ times-spec =
     wish-requires-3
     wish-requires-4
     wish-requires-5
-    returns)
+    (λ c. search (times-is, needs)))

@@ -12,20 +12,8 @@ use mathlib.Core.Path.{_∙_, ap, sym}
 use Rattle.message.proofs.Message.wish.Statement.{statement}
 use Rattle.message.proofs.Message.wish.Tie as tie
 
-find-requires : tie.Need-find-requires
-find-requires c κs = search (four-fits, needs)
-
-enum-known-found : tie.Need-enum-known-found
-enum-known-found c = search (four-fits, needs)
-
-enum-told : tie.Need-enum-told
-enum-told c = search (four-fits, needs)
-
 returns : tie.Need-returns
 returns c = let a = c .before .before .before .before .args in ap (wishOf (now (a .s))) (sym (c .enum-told .given .1) ∙ c .before .before .find .ensures)
-
-wish-at-requires : tie.Need-wish-at-requires
-wish-at-requires c κs = search (four-fits, needs)
 
 returns-2 : tie.Need-returns-2
 returns-2 c = let f = c .before .before in let a = f .before .before .before .before .args in c .wish-at .ensures ∙ ap (wishOf (now (a .s))) (sym (f .found .given .1) ∙ f .before .before .find .ensures)
@@ -33,4 +21,10 @@ returns-2 c = let f = c .before .before in let a = f .before .before .before .be
 pub wish-spec : {M : Type 1} → statement M
 wish-spec =
     tie.close
-    (tie.spec find-requires enum-known-found enum-told returns wish-at-requires returns-2)
+    (tie.spec
+    (λ c κs. search (four-fits, needs))
+    (λ c. search (four-fits, needs))
+    (λ c. search (four-fits, needs))
+    returns
+    (λ c κs. search (four-fits, needs))
+    returns-2)

@@ -11,28 +11,13 @@ use borrow.Author.Needs.{needs}
 use Rattle.message.proofs.Walk.step.Statement.{statement}
 use Rattle.message.proofs.Walk.step.Tie as tie
 
-layout-ok-requires : tie.Need-layout-ok-requires
-layout-ok-requires c κs = search (calls, layout-inside, taken-got, needs)
-
-value-ok-requires : tie.Need-value-ok-requires
-value-ok-requires c κs = search (calls, layout-inside, taken-got, needs)
-
-taken-in-requires : tie.Need-taken-in-requires
-taken-in-requires c κs = search (calls, layout-inside, taken-got, needs)
-
 returns : tie.Need-returns
 unfolding stepOf
 returns c = search (calls, layout-inside, taken-got, needs)
 
-broken-requires : tie.Need-broken-requires
-broken-requires c κs = search (calls, layout-inside, taken-got, needs)
-
 returns-2 : tie.Need-returns-2
 unfolding stepOf
 returns-2 c = search (calls, layout-inside, taken-got, needs)
-
-broken-requires-2 : tie.Need-broken-requires-2
-broken-requires-2 c κs = search (calls, layout-inside, taken-got, needs)
 
 returns-3 : tie.Need-returns-3
 unfolding stepOf
@@ -42,11 +27,11 @@ pub step-spec : {M : Type 1} → statement M
 step-spec =
     tie.close
     (tie.spec
-    layout-ok-requires
-    value-ok-requires
-    taken-in-requires
+    (λ c κs. search (calls, layout-inside, taken-got, needs))
+    (λ c κs. search (calls, layout-inside, taken-got, needs))
+    (λ c κs. search (calls, layout-inside, taken-got, needs))
     returns
-    broken-requires
+    (λ c κs. search (calls, layout-inside, taken-got, needs))
     returns-2
-    broken-requires-2
+    (λ c κs. search (calls, layout-inside, taken-got, needs))
     returns-3)

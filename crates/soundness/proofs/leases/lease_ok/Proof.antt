@@ -5,15 +5,6 @@ use borrow.Author.Needs.{needs}
 use Rattle.soundness.proofs.leases.lease_ok.Statement.{statement}
 use Rattle.soundness.proofs.leases.lease_ok.Tie as tie
 
-is-few-requires : tie.Need-is-few-requires
-is-few-requires c κs = search (joins, needs)
-
-kind-ok-requires : tie.Need-kind-ok-requires
-kind-ok-requires c κs = search (joins, needs)
-
-period-ok-requires : tie.Need-period-ok-requires
-period-ok-requires c κs = search (joins, needs)
-
 returns : tie.Need-returns
 unfolding leaseB
 returns c = search (joins, needs)
@@ -29,4 +20,10 @@ returns-3 c = search (joins, needs)
 pub lease-ok-spec : {M : Type 1} → statement M
 lease-ok-spec =
     tie.close
-    (tie.spec is-few-requires kind-ok-requires period-ok-requires returns returns-2 returns-3)
+    (tie.spec
+    (λ c κs. search (joins, needs))
+    (λ c κs. search (joins, needs))
+    (λ c κs. search (joins, needs))
+    returns
+    returns-2
+    returns-3)

@@ -14,45 +14,18 @@ Inv-loop s t all₀ n i₀ all i = PartInv (andLeases s) noLease (t .leases) n (
 abbrev μ-loop : tie.MeasureT-loop
 μ-loop s t all₀ n i₀ all i = n - i
 
-cut16-requires : tie.Need-cut16-requires Inv-loop μ-loop
-cut16-requires c κs = search (parts, leases-are, needs)
-
-loop-holds : tie.Need-loop-holds Inv-loop μ-loop
-loop-holds c = search (parts, leases-are, needs)
-
-mul-l : tie.Need-mul-l Inv-loop μ-loop
-mul-l c = search (parts, leases-are, needs)
-
-element-copy-out-l : tie.Need-element-copy-out-l Inv-loop μ-loop
-element-copy-out-l c = search (parts, leases-are, needs)
-
-and-leases-requires : tie.Need-and-leases-requires Inv-loop μ-loop
-and-leases-requires c κs = search (parts, leases-are, needs)
-
-add-i : tie.Need-add-i Inv-loop μ-loop
-add-i c = search (parts, leases-are, needs)
-
-loop-less : tie.Need-loop-less Inv-loop μ-loop
-loop-less c = search (parts, leases-are, needs)
-
-loop-again : tie.Need-loop-again Inv-loop μ-loop
-loop-again c = search (parts, leases-are, needs)
-
-returns : tie.Need-returns Inv-loop μ-loop
-returns c = search (parts, leases-are, needs)
-
 pub leases-rules-spec : {M : Type 1} → statement M
 leases-rules-spec =
     tie.close
     (tie.spec
     Inv-loop
     μ-loop
-    cut16-requires
-    loop-holds
-    mul-l
-    element-copy-out-l
-    and-leases-requires
-    add-i
-    loop-less
-    loop-again
-    returns)
+    (λ c κs. search (parts, leases-are, needs))
+    (λ c. search (parts, leases-are, needs))
+    (λ c. search (parts, leases-are, needs))
+    (λ c. search (parts, leases-are, needs))
+    (λ c κs. search (parts, leases-are, needs))
+    (λ c. search (parts, leases-are, needs))
+    (λ c. search (parts, leases-are, needs))
+    (λ c. search (parts, leases-are, needs))
+    (λ c. search (parts, leases-are, needs)))

@@ -5,12 +5,6 @@ use borrow.Author.Needs.{needs}
 use Rattle.soundness.proofs.leases.offsets_ok.Statement.{statement}
 use Rattle.soundness.proofs.leases.offsets_ok.Tie as tie
 
-is-few-requires : tie.Need-is-few-requires
-is-few-requires c κs = search (calls, needs)
-
-within-requires : tie.Need-within-requires
-within-requires c κs = search (calls, needs)
-
 returns : tie.Need-returns
 unfolding offsetsB
 returns c = search (calls, needs)
@@ -20,4 +14,10 @@ unfolding offsetsB
 returns-2 c = search (calls, needs)
 
 pub offsets-ok-spec : {M : Type 1} → statement M
-offsets-ok-spec = tie.close (tie.spec is-few-requires within-requires returns returns-2)
+offsets-ok-spec =
+    tie.close
+    (tie.spec
+    (λ c κs. search (calls, needs))
+    (λ c κs. search (calls, needs))
+    returns
+    returns-2)

@@ -6,9 +6,6 @@ use borrow.Author.Needs.{needs}
 use Rattle.soundness.proofs.settings.pool_ok.Statement.{statement}
 use Rattle.soundness.proofs.settings.pool_ok.Tie as tie
 
-pool-end-requires : tie.Need-pool-end-requires
-pool-end-requires c κs = search (ands, leb-left, needs)
-
 returns : tie.Need-returns
 unfolding poolB
 returns c = search (ands, leb-left, needs)
@@ -18,4 +15,9 @@ unfolding poolB
 returns-2 c = search (ands, leb-left, needs)
 
 pub pool-ok-spec : {M : Type 1} → statement M
-pool-ok-spec = tie.close (tie.spec pool-end-requires returns returns-2)
+pool-ok-spec =
+    tie.close
+    (tie.spec
+    (λ c κs. search (ands, leb-left, needs))
+    returns
+    returns-2)

@@ -5,9 +5,6 @@ use borrow.Author.Needs.{needs}
 use Rattle.soundness.proofs.settings.scope_unused.Statement.{statement}
 use Rattle.soundness.proofs.settings.scope_unused.Tie as tie
 
-tail-ok-requires : tie.Need-tail-ok-requires
-tail-ok-requires c κs = search (ands, needs)
-
 returns : tie.Need-returns
 unfolding scopeZero
 returns c = search (ands, needs)
@@ -25,4 +22,11 @@ unfolding scopeZero
 returns-4 c = search (ands, needs)
 
 pub scope-unused-spec : {M : Type 1} → statement M
-scope-unused-spec = tie.close (tie.spec tail-ok-requires returns returns-2 returns-3 returns-4)
+scope-unused-spec =
+    tie.close
+    (tie.spec
+    (λ c κs. search (ands, needs))
+    returns
+    returns-2
+    returns-3
+    returns-4)

@@ -5,12 +5,6 @@ use borrow.Author.Needs.{needs}
 use Rattle.soundness.proofs.settings.share_ok.Statement.{statement}
 use Rattle.soundness.proofs.settings.share_ok.Tie as tie
 
-element-copy-out-reserve : tie.Need-element-copy-out-reserve
-element-copy-out-reserve c = search (ands, needs)
-
-element-copy-out-limit : tie.Need-element-copy-out-limit
-element-copy-out-limit c = search (ands, needs)
-
 returns : tie.Need-returns
 unfolding shareB
 returns c = search (ands, needs)
@@ -21,4 +15,9 @@ returns-2 c = search (ands, needs)
 
 pub share-ok-spec : {M : Type 1} → statement M
 share-ok-spec =
-    tie.close (tie.spec element-copy-out-reserve element-copy-out-limit returns returns-2)
+    tie.close
+    (tie.spec
+    (λ c. search (ands, needs))
+    (λ c. search (ands, needs))
+    returns
+    returns-2)

@@ -6,15 +6,6 @@ use borrow.Author.Needs.{needs}
 use Rattle.soundness.proofs.settings.shares_ok.Statement.{statement}
 use Rattle.soundness.proofs.settings.shares_ok.Tie as tie
 
-each-share-ok-requires : tie.Need-each-share-ok-requires
-each-share-ok-requires c κs = search (joins, leb-left, needs)
-
-reserves-requires : tie.Need-reserves-requires
-reserves-requires c κs = search (joins, leb-left, needs)
-
-cast-result : tie.Need-cast-result
-cast-result c = search (joins, leb-left, needs)
-
 returns : tie.Need-returns
 unfolding sharesB
 returns c = search (joins, leb-left, needs)
@@ -25,4 +16,10 @@ returns-2 c = search (joins, leb-left, needs)
 
 pub shares-ok-spec : {M : Type 1} → statement M
 shares-ok-spec =
-    tie.close (tie.spec each-share-ok-requires reserves-requires cast-result returns returns-2)
+    tie.close
+    (tie.spec
+    (λ c κs. search (joins, leb-left, needs))
+    (λ c κs. search (joins, leb-left, needs))
+    (λ c. search (joins, leb-left, needs))
+    returns
+    returns-2)

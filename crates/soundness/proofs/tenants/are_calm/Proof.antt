@@ -5,15 +5,6 @@ use borrow.Author.Needs.{needs}
 use Rattle.soundness.proofs.tenants.are_calm.Statement.{statement}
 use Rattle.soundness.proofs.tenants.are_calm.Tie as tie
 
-cast-overlapping : tie.Need-cast-overlapping
-cast-overlapping c = search (picks, calls, needs)
-
-overlapping-requires : tie.Need-overlapping-requires
-overlapping-requires c κs = search (picks, calls, needs)
-
-sets-apart-requires : tie.Need-sets-apart-requires
-sets-apart-requires c κs = search (picks, calls, needs)
-
 returns : tie.Need-returns
 unfolding calm
 returns c = search (picks, calls, needs)
@@ -30,9 +21,9 @@ pub are-calm-spec : {M : Type 1} → statement M
 are-calm-spec =
     tie.close
     (tie.spec
-    cast-overlapping
-    overlapping-requires
-    sets-apart-requires
+    (λ c. search (picks, calls, needs))
+    (λ c κs. search (picks, calls, needs))
+    (λ c κs. search (picks, calls, needs))
     returns
     returns-2
     returns-3)

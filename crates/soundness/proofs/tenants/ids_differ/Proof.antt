@@ -4,14 +4,10 @@ use borrow.Author.Needs.{needs}
 use Rattle.soundness.proofs.tenants.ids_differ.Statement.{statement}
 use Rattle.soundness.proofs.tenants.ids_differ.Tie as tie
 
-returns : tie.Need-returns
-returns c = search (rise-differ, needs)
-
-all-differ-requires : tie.Need-all-differ-requires
-all-differ-requires c κs = search (rise-differ, needs)
-
-returns-2 : tie.Need-returns-2
-returns-2 c = search (rise-differ, needs)
-
 pub ids-differ-spec : {M : Type 1} → statement M
-ids-differ-spec = tie.close (tie.spec returns all-differ-requires returns-2)
+ids-differ-spec =
+    tie.close
+    (tie.spec
+    (λ c. search (rise-differ, needs))
+    (λ c κs. search (rise-differ, needs))
+    (λ c. search (rise-differ, needs)))

@@ -5,12 +5,6 @@ use borrow.Author.Needs.{needs}
 use Rattle.soundness.proofs.tenants.is_unused.Statement.{statement}
 use Rattle.soundness.proofs.tenants.is_unused.Tie as tie
 
-is-blank-requires : tie.Need-is-blank-requires
-is-blank-requires c κs = search (ands, joins, needs)
-
-zeros32-requires : tie.Need-zeros32-requires
-zeros32-requires c κs = search (ands, joins, needs)
-
 returns : tie.Need-returns
 unfolding unusedB
 returns c = search (ands, joins, needs)
@@ -34,4 +28,11 @@ returns-5 c = search (ands, joins, needs)
 pub is-unused-spec : {M : Type 1} → statement M
 is-unused-spec =
     tie.close
-    (tie.spec is-blank-requires zeros32-requires returns returns-2 returns-3 returns-4 returns-5)
+    (tie.spec
+    (λ c κs. search (ands, joins, needs))
+    (λ c κs. search (ands, joins, needs))
+    returns
+    returns-2
+    returns-3
+    returns-4
+    returns-5)

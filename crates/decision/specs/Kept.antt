@@ -16,14 +16,14 @@ use Rattle.lists.specs.Filter.{filterBy}
 use Rattle.lists.specs.Place.{placeBy}
 use Rattle.lists.specs.Each.{map-set}
 use Rattle.identifier.specs.Order.{orderOf, sameOf}
-use Rattle.identifier.specs.Laws.{same-true, order-refl}
+use Rattle.identifier.specs.Laws.{same-true, same-refl}
 use Rattle.address_set.specs.AddressSet.{bit}
 use Rattle.message.specs.declared.Fields.{Fields}
 use Rattle.state.specs.declared.Lease.{Lease}
 use Rattle.state.specs.declared.TenantLeases.{TenantLeases}
 use Rattle.state.specs.declared.LeaseTable.{LeaseTable}
 use Rattle.state.specs.declared.State.{State}
-use Rattle.state.specs.Book.{inUse, laidOut, leasesOf, tableOf, tenantAt, putAt, idOf, ordered, other, placeOf, leaseAt, zeroLease, live, busyOf, insertOf, removeOf, replaceOf, scopeAt}
+use Rattle.state.specs.Book.{inUse, laidOut, leasesOf, tableOf, tenantAt, putAt, idOf, differ, other, placeOf, leaseAt, zeroLease, live, busyOf, insertOf, removeOf, replaceOf, scopeAt}
 use Rattle.state.specs.Layout.{read-back, put-laid}
 use Rattle.soundness.specs.Sound.{few, tenantsIn, scopesIn, idB, scopeKnown, belowB, offsetsB, kindB, periodB, leaseB, paddedB, disjoint, calm, zeroFrom, soundB}
 use Rattle.soundness.specs.Book.{leaseOk, pairOk, Sound, sound-lists, lists-sound}
@@ -292,11 +292,10 @@ module _ (s : State) (b : LeaseTable) (h : ℕ) (m : Fields) (v : Sound s (lease
 
 -- ---- RENEW: one lease of the tenant has the identifier
 later : (i : List ℕ) (w : Lease → Bool) (y z : Lease) → sameOf (idOf y) i ≡ true → pairOk y z ≡ true → (c : Bool) → sameOf (idOf z) i ≡ c → pick (sameOf (idOf z) i) (w z) true ≡ true
-unfolding pairOk ordered pick
+unfolding pairOk differ pick
 later i w y z q u true r =
-    let o = eqb-true (orderOf (idOf y) (idOf z)) 0 (and-parts (ordered y z) (calm y z) u .0) in
-    let n : orderOf (idOf y) (idOf z) ≡ 1 = ap₂ orderOf (same-true (idOf y) i q) (same-true (idOf z) i r) ∙ order-refl i in
-    absurd (omega arith)
+    let n : not (sameOf (idOf y) (idOf z)) ≡ false = ap not (ap₂ sameOf (same-true (idOf y) i q) (same-true (idOf z) i r) ∙ same-refl i) in
+    no (sym (and-parts (differ y z) (calm y z) u .0) ∙ n)
 later i w y z q u false r = ap (λ (c : Bool). pick c (w z) true) r
 
 unique : (i : List ℕ) (w : Lease → Bool) (x : List Lease) → pairsBy pairOk x ≡ true → placeOf i x < length x → w (leaseAt x (placeOf i x)) ≡ true

@@ -6,12 +6,13 @@ use Prim.Native.Nat.{ℕ}
 use lib.ListN.{replicate}
 use Rattle.lists.specs.Pick.{pick}
 use Rattle.lists.specs.All.{allBy, pairsBy}
+use Rattle.lists.specs.Arranged.{insertIn}
 use Rattle.lists.specs.Filter.{filterBy}
 use Rattle.lists.specs.Place.{placeBy}
 use Rattle.identifier.specs.Order.{orderOf, sameOf}
 use Rattle.state.specs.declared.Lease.{Lease}
 use Rattle.state.specs.declared.State.{State}
-use Rattle.state.specs.Book.{insertOf, laidOut, ordered, removeOf, zeroLease}
+use Rattle.state.specs.Book.{byIdentifier, insertOf, laidOut, removeOf, zeroLease}
 use Rattle.soundness.specs.Sound.{blankB, layoutB, paddedB, unusedB, zeroFrom}
 use Rattle.server.specs.Serve.{Call}
 use Rattle.records.specs.Records.{recordsOf, rows, rowsOf, tableFrom, tenantFrom}
@@ -30,7 +31,7 @@ ours p n = unused 16 ++ p ++ unused n
 
 -- in the order of identifiers, the later ones move down
 insert-between : insertLent 1 (lease 2) (ours (lease 1 ∷ lease 3 ∷ []) 110) ≡ ours (lease 1 ∷ lease 2 ∷ lease 3 ∷ []) 109
-unfolding lease unused ours insertWith whole pick tableFrom rows tenantFrom placeBy unusedB blankB zeroFrom allBy insertOf filterBy orderOf laidOut recordsOf rowsOf
+unfolding lease unused ours insertWith whole pick tableFrom rows tenantFrom placeBy unusedB blankB zeroFrom allBy insertOf insertIn byIdentifier filterBy orderOf laidOut recordsOf rowsOf
 insert-between = refl
 
 -- no gap is left
@@ -80,9 +81,9 @@ gap = refl
 
 -- leases out of order
 disorder : layoutB (tenantFrom (lease 3 ∷ lease 1 ∷ unused 14)) ≡ false
-unfolding lease unused layoutB tenantFrom placeBy pick unusedB blankB zeroFrom allBy pairsBy ordered orderOf paddedB
+unfolding lease unused layoutB tenantFrom placeBy pick unusedB blankB zeroFrom allBy pairsBy byIdentifier orderOf paddedB
 disorder = refl
 
 rise : layoutB (tenantFrom (lease 1 ∷ lease 3 ∷ unused 14)) ≡ true
-unfolding lease unused layoutB tenantFrom placeBy pick unusedB blankB zeroFrom allBy pairsBy ordered orderOf paddedB
+unfolding lease unused layoutB tenantFrom placeBy pick unusedB blankB zeroFrom allBy pairsBy byIdentifier orderOf paddedB
 rise = refl

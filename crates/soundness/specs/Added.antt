@@ -10,19 +10,19 @@ use lib.ListN.{length, drop, getD, set, length-append, length-map}
 use lib.Seq.{getD-set-same, getD-set-other}
 use borrow.Author.Tests.{eq-eqb, ne-eqb, eqb-true, eqb-false, le-leb, leb-true}
 use Rattle.lists.specs.Pick.{pick}
-use Rattle.lists.specs.All.{allBy, pairsBy, all-head, all-cons, all-append, all-both, pairs-head, pairs-cons, pairs-append, all-map, pairs-map}
-use Rattle.lists.specs.Both.{and-parts, and-both, pairs-and}
-use Rattle.lists.specs.Filter.{filterBy, filter-all, filter-pairs}
+use Rattle.lists.specs.All.{allBy, pairsBy, all-head, all-cons, all-append, all-both, pairs-head, pairs-cons, pairs-append, all-map, pairs-map, pairs-same}
+use Rattle.lists.specs.Both.{and-parts, and-both, all-and}
+use Rattle.lists.specs.Filter.{filterBy}
 use Rattle.lists.specs.Sums.{sumTo, sum-same}
 use Rattle.state.specs.declared.Lease.{Lease}
 use Rattle.state.specs.declared.State.{State}
-use Rattle.state.specs.Book.{idOf, before, notBefore, ordered, named, other, insertOf, renewTo, replaceOf, addressesOf, unionAll, overlaps, inScope, heldOf, heldCount, scopeAt}
-use Rattle.state.specs.Layout.{filter-both}
+use Rattle.state.specs.Book.{idOf, differ, byIdentifier, ordered, named, other, insertOf, renewTo, replaceOf, addressesOf, unionAll, overlaps, inScope, heldOf, heldCount, scopeAt}
 use Rattle.state.specs.Sets.{adds, addresses-cons, insert-addresses}
 use Rattle.identifier.specs.Order.{orderOf, sameOf}
-use Rattle.identifier.specs.Laws.{same-true, order-refl}
+use Rattle.identifier.specs.Laws.{same-true, same-refl}
 use Rattle.address_set.specs.AddressSet.{offsets}
-use Rattle.state.specs.Sorted.{insert-all, insert-rises}
+use Rattle.state.specs.Sorted.{differ-turn, insert-same, insert-rises, others-differ}
+use Rattle.lists.specs.Reordered.{Reordered, reordered-length, reordered-all, reordered-pairs}
 use Rattle.address_set.specs.Laws.{and-or}
 use Rattle.soundness.specs.Sound.{tenantsIn, scopesIn, reserveAt, limitAt, disjoint, apartIn, apart, calm}
 use Rattle.soundness.specs.Book.{leaseOk, pairOk, fewLeases, noLeasesB, loadOf, Sound}
@@ -83,6 +83,10 @@ calm-turn a b =
     ap₂ (λ (p q : Bool). pick p q true) (eqb-turn (a .scope) (b .scope))
     (ap₂ (λ (p q : Bool). pick p q true) (and-turn (ltb (a .start) (b .end)) (ltb (b .start) (a .end))) (disjoint-turn (a .addresses) (b .addresses)))
 
+pub pair-turn : (a b : Lease) → pairOk a b ≡ pairOk b a
+unfolding pairOk
+pair-turn a b = ap₂ (λ (p q : Bool). p && q) (differ-turn a b) (calm-turn a b)
+
 -- ---- a tenant's part of a sound book
 pub sound-at : (t : List Lease → Bool) (ls : List (List Lease)) (h : ℕ) → t [] ≡ true → allBy t ls ≡ true → t (getD ls h []) ≡ true
 sound-at t [] h e p = e
@@ -97,6 +101,10 @@ module _ (s : State) (ls : List (List Lease)) (v : Sound s ls) (h : ℕ) where
   pub pairs-at : pairsBy pairOk (getD ls h []) ≡ true
   unfolding pairsBy
   pairs-at = sound-at (pairsBy pairOk) ls h refl (v .pairs)
+
+  pub rises-at : pairsBy ordered (getD ls h []) ≡ true
+  unfolding pairsBy
+  rises-at = sound-at (pairsBy ordered) ls h refl (v .rises)
 
   pub few-at : length (getD ls h []) ≤ 16
   few-at = leb-true _ _ (sound-at fewLeases ls h refl (v .few))
@@ -121,16 +129,17 @@ owners-at s ls v h g n = pairs-two ls h g n (v .owners)
 
 -- ---- one tenant's leases give way to others
 pub sound-put : (s : State) (ls : List (List Lease)) (h : ℕ) (x : List Lease) → Sound s ls → h < tenantsIn s → h < length ls
-    → fewLeases x ≡ true → allBy (leaseOk s) x ≡ true → pairsBy pairOk x ≡ true
+    → fewLeases x ≡ true → allBy (leaseOk s) x ≡ true → pairsBy pairOk x ≡ true → pairsBy ordered x ≡ true
     → ((g : ℕ) → (g ≡ h → ⊥) → apart x (getD ls g []) ≡ true)
     → ((k : ℕ) → k < scopesIn s → heldCount (k + 1) x ≤ limitAt (scopeAt s k) h)
     → ((k : ℕ) → k < scopesIn s → sumTo (loadOf s (set ls h x) k) (tenantsIn s) ≤ scopeAt s k .size)
     → Sound s (set ls h x)
-sound-put s ls h x v known there few each pairs owners holdings loads = record {
+sound-put s ls h x v known there few each pairs rises owners holdings loads = record {
   settings = v .settings;
   few = all-set fewLeases ls h x few (v .few);
   each = all-set (allBy (leaseOk s)) ls h x each (v .each);
   pairs = all-set (pairsBy pairOk) ls h x pairs (v .pairs);
+  rises = all-set (pairsBy ordered) ls h x rises (v .rises);
   houses = ap (allBy noLeasesB) (drop-set ls (tenantsIn s) h x known) ∙ v .houses;
   owners = pairs-set apart apart-turn [] ls h x owners (v .owners);
   holdings = λ k g p q. at k g p q (eqb g h) refl;
@@ -146,40 +155,6 @@ sound-put s ls h x v known there few each pairs owners holdings loads = record {
         subst (λ (y : List Lease). heldCount (k + 1) y ≤ limitAt (scopeAt s k) g) (sym (getD-set-other ls h g x [] (eqb-false g h e))) (v .holdings k g p q)
 
 -- ---- a new lease
--- those that pass a test, with those that do not
-cross : (t : Lease → Lease → Bool) → ((a b : Lease) → t a b ≡ t b a) → (u : Lease → Bool) (ls : List Lease) → pairsBy t ls ≡ true
-    → allBy (λ a. allBy (t a) (filterBy (λ l. not (u l)) ls)) (filterBy u ls) ≡ true
-unfolding filterBy allBy pick
-cross t turn u [] q = refl
-cross t turn u (x ∷ ls) q = let r = pairs-head t x ls q in go (u x) (r .0) (cross t turn u ls (r .1))
-  where
-    F : List Lease
-    F = filterBy u ls
-
-    G : List Lease
-    G = filterBy (λ l. not (u l)) ls
-
-    go : (b : Bool) → allBy (t x) ls ≡ true → allBy (λ a. allBy (t a) G) F ≡ true → allBy (λ a. allBy (t a) (pick (not b) (x ∷ G) G)) (pick b (x ∷ F) F) ≡ true
-    go true p ih = all-cons (λ a. allBy (t a) G) x F (filter-all (t x) (λ l. not (u l)) ls p) ih
-    go false p ih =
-        all-both (t x) (λ a. allBy (t a) G) (λ a. allBy (t a) (x ∷ G)) F (λ a v w. all-cons (t a) x G (turn a x ∙ v) w) (filter-all (t x) u ls p) ih
-
--- a test that does not go by the order holds of each two afterwards
-insert-pairs : (t : Lease → Lease → Bool) → ((a b : Lease) → t a b ≡ t b a) → (l : Lease) (ls : List Lease) → allBy (t l) ls ≡ true → pairsBy t ls ≡ true → pairsBy t (insertOf l ls) ≡ true
-unfolding insertOf
-insert-pairs t turn l ls p q =
-    let F : List Lease = filterBy (before (idOf l)) ls in
-    let G : List Lease = filterBy (notBefore (idOf l)) ls in
-    pairs-append t F (l ∷ G) (filter-pairs t (before (idOf l)) ls q) (pairs-cons t l G (filter-all (t l) (notBefore (idOf l)) ls p) (filter-pairs t (notBefore (idOf l)) ls q))
-    (all-both (t l) (λ a. allBy (t a) G) (λ a. allBy (t a) (l ∷ G)) F (λ a v w. all-cons (t a) l G (turn a l ∙ v) w) (filter-all (t l) (before (idOf l)) ls p) (cross t turn (before (idOf l)) ls q))
-
-insert-length : (l : Lease) (ls : List Lease) → length (insertOf l ls) ≡ length ls + 1
-unfolding insertOf
-insert-length l ls =
-    let a = length-append (filterBy (before (idOf l)) ls) (l ∷ filterBy (notBefore (idOf l)) ls) in
-    let b = filter-both (before (idOf l)) ls in
-    omega arith
-
 disjoint-or : (m n k : ℕ) → disjoint m k ≡ true → disjoint n k ≡ true → disjoint (bitOr m n) k ≡ true
 unfolding disjoint
 disjoint-or m n k p q =
@@ -198,19 +173,31 @@ apart-inserted l x y e f =
     more : (s : ℕ) → apartIn s x y ≡ true → apartIn s (insertOf l x) y ≡ true
     more s h = ap (λ (m : ℕ). disjoint m (heldOf s y)) (insert-addresses (inScope s) l x) ∙ disjoint-or (adds (inScope s) l) (heldOf s x) (heldOf s y) (f s) h
 
--- a grant, or any lease that a tenant gains
+-- a lease that a tenant gains, wherever it stands among the others
+pub sound-gained : (s : State) (ls : List (List Lease)) (h : ℕ) (l : Lease) (y : List Lease) → Sound s ls → h < tenantsIn s → h < length ls
+    → Reordered y (l ∷ getD ls h []) → pairsBy ordered y ≡ true
+    → length (getD ls h []) < 16 → leaseOk s l ≡ true → allBy (other (idOf l)) (getD ls h []) ≡ true → allBy (calm l) (getD ls h []) ≡ true
+    → ((g : ℕ) → (g ≡ h → ⊥) → apart y (getD ls g []) ≡ true)
+    → ((k : ℕ) → k < scopesIn s → heldCount (k + 1) y ≤ limitAt (scopeAt s k) h)
+    → ((k : ℕ) → k < scopesIn s → sumTo (loadOf s (set ls h y) k) (tenantsIn s) ≤ scopeAt s k .size)
+    → Sound s (set ls h y)
+unfolding pairOk
+sound-gained s ls h l y v known there d rises room lease-ok new calm-ok owners holdings loads =
+    let x : List Lease = getD ls h [] in
+    sound-put s ls h y v known there (le-leb (length y) 16 (let e = reordered-length d in omega arith))
+    (reordered-all (leaseOk s) d ∙ all-cons (leaseOk s) l x lease-ok (each-at s ls v h))
+    (reordered-pairs pairOk pair-turn d ∙ pairs-cons pairOk l x (all-and (differ l) (calm l) x ∙ and-both (sym (others-differ l x) ∙ new) calm-ok) (pairs-at s ls v h))
+    rises owners holdings loads
+
+-- a grant, in its place
 pub sound-inserted : (s : State) (ls : List (List Lease)) (h : ℕ) (l : Lease) → Sound s ls → h < tenantsIn s → h < length ls
     → length (getD ls h []) < 16 → leaseOk s l ≡ true → allBy (other (idOf l)) (getD ls h []) ≡ true → allBy (calm l) (getD ls h []) ≡ true
     → ((g : ℕ) → (g ≡ h → ⊥) → apart (insertOf l (getD ls h [])) (getD ls g []) ≡ true)
     → ((k : ℕ) → k < scopesIn s → heldCount (k + 1) (insertOf l (getD ls h [])) ≤ limitAt (scopeAt s k) h)
     → ((k : ℕ) → k < scopesIn s → sumTo (loadOf s (set ls h (insertOf l (getD ls h []))) k) (tenantsIn s) ≤ scopeAt s k .size)
     → Sound s (set ls h (insertOf l (getD ls h [])))
-unfolding pairOk
-sound-inserted s ls h l v known there room lease-ok new calm-ok owners holdings loads =
-    let x : List Lease = getD ls h [] in
-    let old = and-parts (pairsBy ordered x) (pairsBy calm x) (sym (pairs-and ordered calm x) ∙ pairs-at s ls v h) in
-    sound-put s ls h (insertOf l x) v known there (le-leb (length (insertOf l x)) 16 (let e = insert-length l x in omega arith)) (insert-all (leaseOk s) l x lease-ok (each-at s ls v h))
-    (pairs-and ordered calm (insertOf l x) ∙ and-both (insert-rises l x new (old .0)) (insert-pairs calm calm-turn l x calm-ok (old .1))) owners holdings loads
+sound-inserted s ls h l v known there room lease-ok new calm-ok =
+    sound-gained s ls h l (insertOf l (getD ls h [])) v known there (insert-same l (getD ls h [])) (insert-rises l (getD ls h []) new (rises-at s ls v h)) room lease-ok new calm-ok
 
 -- ---- a renewed lease
 -- the lease of identifier i has l's scope and addresses, and the others are calm with l
@@ -243,20 +230,18 @@ module _ (i : List ℕ) (l : Lease) (mine : idOf l ≡ i) where
       go true e = mine ∙ sym (same-true (idOf y) i e)
       go false e = refl
 
-  -- two leases that were in order and calm still are
+  -- two leases that differed and were calm still do and are
   renewed-pair : (a b : Lease) → renewsB i l a ≡ true → renewsB i l b ≡ true → pairOk a b ≡ true → pairOk (renewTo i l a) (renewTo i l b) ≡ true
-  unfolding pairOk ordered renewTo renewsB pick
+  unfolding pairOk differ renewTo renewsB pick
   renewed-pair a b p q e =
-      let f = and-parts (ordered a b) (calm a b) e in
-      let o : orderOf (idOf (renewTo i l a)) (idOf (renewTo i l b)) ≡ orderOf (idOf a) (idOf b) = ap₂ orderOf (renewed-id a) (renewed-id b) in
-      and-both (ap (λ (z : ℕ). eqb z 0) o ∙ f .0) (go (named i a) refl (named i b) refl p q (f .0) (f .1))
+      let f = and-parts (differ a b) (calm a b) e in
+      and-both (ap₂ (λ (x y : List ℕ). not (sameOf x y)) (renewed-id a) (renewed-id b) ∙ f .0) (go (named i a) refl (named i b) refl p q (f .0) (f .1))
     where
       go : (c : Bool) → named i a ≡ c → (d : Bool) → named i b ≡ d → pick c (eqb (a .scope) (l .scope) && eqb (a .addresses) (l .addresses)) (calm l a) ≡ true
-          → pick d (eqb (b .scope) (l .scope) && eqb (b .addresses) (l .addresses)) (calm l b) ≡ true → eqb (orderOf (idOf a) (idOf b)) 0 ≡ true → calm a b ≡ true → calm (pick c l a) (pick d l b) ≡ true
+          → pick d (eqb (b .scope) (l .scope) && eqb (b .addresses) (l .addresses)) (calm l b) ≡ true → not (sameOf (idOf a) (idOf b)) ≡ true → calm a b ≡ true → calm (pick c l a) (pick d l b) ≡ true
       go true m true n p q u w =
-          let z : orderOf (idOf a) (idOf b) ≡ 1 = ap₂ orderOf (same-true (idOf a) i m) (same-true (idOf b) i n) ∙ order-refl i in
-          let y = eqb-true (orderOf (idOf a) (idOf b)) 0 u in
-          absurd (omega arith)
+          let z : not (sameOf (idOf a) (idOf b)) ≡ false = ap not (ap₂ sameOf (same-true (idOf a) i m) (same-true (idOf b) i n) ∙ same-refl i) in
+          absurd (let y : _≡_ {A = ℕ} 0 1 = cc in omega arith)
       go true m false n p q u w = q
       go false m true n p q u w = calm-turn a l ∙ p
       go false m false n p q u w = w
@@ -273,6 +258,11 @@ module _ (i : List ℕ) (l : Lease) (mine : idOf l ≡ i) where
   unfolding replaceOf
   renewed-pairs x p q =
       pairs-map pairOk (renewTo i l) x ∙ all-pairs (λ a b. pairOk (renewTo i l a) (renewTo i l b)) pairOk (renewsB i l) x renewed-pair p q
+
+  renewed-rises : (x : List Lease) → pairsBy ordered x ≡ true → pairsBy ordered (replaceOf i l x) ≡ true
+  unfolding replaceOf byIdentifier
+  renewed-rises x q =
+      pairs-map ordered (renewTo i l) x ∙ pairs-same (λ a b. ordered (renewTo i l a) (renewTo i l b)) ordered x (λ a b. ap₂ (λ (p q : List ℕ). eqb (orderOf p q) 0) (renewed-id a) (renewed-id b)) ∙ q
 
   renewed-each : (s : State) (x : List Lease) → leaseOk s l ≡ true → allBy (leaseOk s) x ≡ true → allBy (leaseOk s) (replaceOf i l x) ≡ true
   unfolding replaceOf renewTo pick
@@ -312,7 +302,7 @@ module _ (i : List ℕ) (l : Lease) (mine : idOf l ≡ i) where
       let x : List Lease = getD ls h [] in
       sound-put s ls h (replaceOf i l x) v known there
       (ap (λ (n : ℕ). leb n 16) (renewed-length x) ∙ sound-at fewLeases ls h refl (v .few))
-      (renewed-each s x e (each-at s ls v h)) (renewed-pairs x p (pairs-at s ls v h))
+      (renewed-each s x e (each-at s ls v h)) (renewed-pairs x p (pairs-at s ls v h)) (renewed-rises x (rises-at s ls v h))
       (λ g n. renewed-apart x (getD ls g []) p ∙ owners-at s ls v h g n)
       (λ k q. subst (λ (m : ℕ). length (offsets m) ≤ limitAt (scopeAt s k) h) (sym (renewed-held (k + 1) x p)) (v .holdings k h q known))
       (λ k q. subst (λ (m : ℕ). m ≤ scopeAt s k .size)

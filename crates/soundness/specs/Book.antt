@@ -18,11 +18,11 @@ use Rattle.state.specs.declared.TenantLeases.{TenantLeases}
 use Rattle.state.specs.declared.LeaseTable.{LeaseTable}
 use Rattle.state.specs.declared.Scope.{Scope}
 use Rattle.state.specs.declared.State.{State}
-use Rattle.state.specs.Book.{zeroLease, inUse, laidOut, leasesOf, tableOf, ordered, heldCount, scopeAt}
+use Rattle.state.specs.Book.{differ, zeroLease, inUse, laidOut, leasesOf, tableOf, ordered, heldCount, scopeAt}
 use Rattle.state.specs.Layout.{read-back, table-back}
 use Rattle.soundness.specs.declared.Rules.{Rules}
-use Rattle.soundness.specs.Sound.{tenantsIn, scopesIn, reserveAt, limitAt, idB, recordsB, countsB, rule1, offsetsB, rule2, rule3, rule4, rule5, rule6, leaseB, noneB, housesB, rule7, differ, rule8, apart, rule9, calm, rule10, holding, limitB, limitsB, rule11, load, loadB, rule12, zeroFrom, paddedB, blankB, unusedB, layoutB, settingsB, rule13, rulesOf, firstLate, firstBroken, brokenOf, soundB}
-use Rattle.soundness.specs.Laws.{rise-differ, drop-map}
+use Rattle.soundness.specs.Sound.{tenantsIn, scopesIn, reserveAt, limitAt, idB, recordsB, countsB, rule1, offsetsB, rule2, rule3, rule4, rule5, rule6, leaseB, noneB, housesB, rule7, rule8, apart, rule9, calm, rule10, holding, limitB, limitsB, rule11, load, loadB, rule12, zeroFrom, paddedB, blankB, unusedB, layoutB, settingsB, rule13, rulesOf, firstLate, firstBroken, brokenOf, soundB}
+use Rattle.soundness.specs.Laws.{drop-map}
 
 -- ---- the facts
 -- every rule on the settings alone
@@ -33,9 +33,9 @@ settingsOk s = (countsB s && (rule3 s && rule4 s)) && (rule5 s && (rule6 s && se
 unfoldable pub leaseOk : State → Lease → Bool
 leaseOk s l = (idB l && offsetsB s l) && (leaseB s l && paddedB l)
 
--- every rule on two leases of a tenant: 8, 10 and 13
+-- every rule on two leases of a tenant that does not go by their order: 8 and 10
 unfoldable pub pairOk : Lease → Lease → Bool
-pairOk a b = ordered a b && calm a b
+pairOk a b = differ a b && calm a b
 
 abbrev pub fewLeases : List Lease → Bool
 fewLeases l = leb (length l) 16
@@ -52,6 +52,7 @@ pub record Sound (s : State) (ls : List (List Lease)) : Type 0 where
   pub few : allBy fewLeases ls ≡ true
   pub each : allBy (allBy (leaseOk s)) ls ≡ true
   pub pairs : allBy (pairsBy pairOk) ls ≡ true
+  pub rises : allBy (pairsBy ordered) ls ≡ true
   pub houses : allBy noLeasesB (drop (tenantsIn s) ls) ≡ true
   pub owners : pairsBy apart ls ≡ true
   pub holdings : (k g : ℕ) → k < scopesIn s → g < tenantsIn s → heldCount (k + 1) (getD ls g []) ≤ limitAt (scopeAt s k) g
@@ -169,9 +170,9 @@ each-is s ls =
     all-all (λ l. idB l && offsetsB s l) (λ l. leaseB s l && paddedB l) ls
     ∙ ap₂ (λ (a b : Bool). a && b) (all-all idB (offsetsB s) ls) (all-all (leaseB s) paddedB ls)
 
-pub pairs-is : (ls : List (List Lease)) → allBy (pairsBy pairOk) ls ≡ (allBy (pairsBy ordered) ls && allBy (pairsBy calm) ls)
+pub pairs-is : (ls : List (List Lease)) → allBy (pairsBy pairOk) ls ≡ (allBy (pairsBy differ) ls && allBy (pairsBy calm) ls)
 unfolding pairOk
-pairs-is ls = all-same (pairsBy (λ a b. ordered a b && calm a b)) (λ l. pairsBy ordered l && pairsBy calm l) ls (pairs-and ordered calm) ∙ all-and (pairsBy ordered) (pairsBy calm) ls
+pairs-is ls = all-same (pairsBy (λ a b. differ a b && calm a b)) (λ l. pairsBy differ l && pairsBy calm l) ls (pairs-and differ calm) ∙ all-and (pairsBy differ) (pairsBy calm) ls
 
 -- ---- a sound book has sound lists
 module _ (s : State) (t : LeaseTable) (a : AllRules (rulesOf s t)) where
@@ -214,12 +215,13 @@ module _ (s : State) (t : LeaseTable) (a : AllRules (rulesOf s t)) where
   settings-from = and-both (and-both (counted .0) (and-both (a .ranges) (a .pools))) (and-both (a .ttls) (and-both (a .reserves) (laid .0)))
 
   pub lists-of : Sound s (leasesOf t)
-  unfolding rulesOf rule2 rule9 rule10 rule11 limitsB limitB rule12 loadB load
+  unfolding rulesOf rule2 rule8 rule9 rule10 rule11 limitsB limitB rule12 loadB load
   lists-of = record {
     settings = settings-from;
     few = few-from;
     each = each-is s (leasesOf t) ∙ and-both (and-both ids-from (a .offsets)) (and-both (known .1) padded-from);
-    pairs = pairs-is (leasesOf t) ∙ and-both ordered-from (a .periods);
+    pairs = pairs-is (leasesOf t) ∙ and-both (a .identifiers) (a .periods);
+    rises = ordered-from;
     houses = houses-from;
     owners = a .owners;
     holdings = λ k g p q. leb-true _ _ (to-each (limitB t (scopeAt s k) (k + 1)) (tenantsIn s) (to-each (limitsB s t) (scopesIn s) (a .holdings) k p) g q);
@@ -242,7 +244,7 @@ module _ (s : State) (ls : List (List Lease)) (v : Sound s ls) where
   each-parts : ((allBy (allBy idB) ls && allBy (allBy (offsetsB s)) ls) ≡ true) × ((allBy (allBy (leaseB s)) ls && allBy (allBy paddedB) ls) ≡ true)
   each-parts = and-parts _ _ (sym (each-is s ls) ∙ v .each)
 
-  pair-parts : (allBy (pairsBy ordered) ls ≡ true) × (allBy (pairsBy calm) ls ≡ true)
+  pair-parts : (allBy (pairsBy differ) ls ≡ true) × (allBy (pairsBy calm) ls ≡ true)
   pair-parts = and-parts _ _ (sym (pairs-is ls) ∙ v .pairs)
 
   ids-to : allBy (allBy idB) ls ≡ true
@@ -270,7 +272,7 @@ module _ (s : State) (ls : List (List Lease)) (v : Sound s ls) where
   unfolding tableOf
   layout-to =
       all-map layoutB laidOut ls ∙ all-same (λ l. layoutB (laidOut l)) (λ l. pairsBy ordered l && allBy paddedB l) ls layout-laid ∙ all-and (pairsBy ordered) (allBy paddedB) ls
-      ∙ and-both (pair-parts .0) padded-to
+      ∙ and-both (v .rises) padded-to
 
   houses-to : housesB s (tableOf ls) ≡ true
   unfolding housesB tableOf noneB laidOut
@@ -286,7 +288,7 @@ module _ (s : State) (ls : List (List Lease)) (v : Sound s ls) where
     ttls = settings-back .0;
     reserves = and-parts (rule6 s) (settingsB s) (settings-back .1) .0;
     leases = and-both houses-to (ap (allBy (allBy (leaseB s))) back ∙ leases-to);
-    identifiers = ap (allBy (pairsBy differ)) back ∙ imply {t = pairsBy ordered} {u = pairsBy differ} ls (λ l p. sym (rise-differ l refl p)) (pair-parts .0);
+    identifiers = ap (allBy (pairsBy differ)) back ∙ pair-parts .0;
     owners = ap (pairsBy apart) back ∙ v .owners;
     periods = ap (allBy (pairsBy calm)) back ∙ pair-parts .1;
     holdings = each-to (limitsB s (tableOf ls)) (scopesIn s) (λ k p. each-to (limitB (tableOf ls) (scopeAt s k) (k + 1)) (tenantsIn s) (λ g q.

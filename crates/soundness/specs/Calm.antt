@@ -14,7 +14,7 @@ use Rattle.address_set.specs.AddressSet.{bit}
 use Rattle.address_set.specs.Laws.{bit-or}
 use Rattle.state.specs.declared.Lease.{Lease}
 use Rattle.state.specs.declared.State.{State}
-use Rattle.state.specs.Book.{ordered, inScope, overlaps, heldOf, scopesOf}
+use Rattle.state.specs.Book.{differ, inScope, overlaps, heldOf, scopesOf}
 use Rattle.state.specs.Sets.{adds, addresses-cons}
 use Rattle.soundness.specs.Sound.{few, countsB, sizeB, scopeKnown, leaseB, idB, offsetsB, paddedB, kindB, periodB, disjoint, apartIn, apart, calm}
 use Rattle.soundness.specs.Book.{leaseOk, Sound, pairs-is, settings-front}
@@ -133,4 +133,4 @@ sound-calm s ls v =
     let c = settings-front s ls v .0 in
     calm-all ls
     (all-both (allBy (leaseOk s)) (allBy (leaseOk s)) (allBy scopeB) ls (λ l p q. all-both (leaseOk s) (leaseOk s) scopeB l (λ x a b. scope-known s x c a) p p) (v .each) (v .each))
-    (and-parts (allBy (pairsBy ordered) ls) (allBy (pairsBy calm) ls) (sym (pairs-is ls) ∙ v .pairs) .1) (v .owners)
+    (and-parts (allBy (pairsBy differ) ls) (allBy (pairsBy calm) ls) (sym (pairs-is ls) ∙ v .pairs) .1) (v .owners)

@@ -2,7 +2,7 @@
 use Prim.Native.Nat.{ℕ, zero, suc, _+_, _-_, _^_, _≤_, _<_, min, max}
 use mathlib.Core.Path.{_≡_, refl, sym, ap, ap₂, _∙_, subst}
 use mathlib.Core.Bool.{Bool, true, false, not, _&&_}
-use mathlib.Core.List.{List, [], _∷_, map}
+use mathlib.Core.List.{List, [], _∷_, _++_, map, append-nil, Permᴰ·refl}
 use native.Mathlib.Omega.{arith}
 use native.Mathlib.Nat.{le-trans}
 use lib.Dec.{ltb, leb, eqb}
@@ -12,7 +12,9 @@ use borrow.Author.Tests.{eq-eqb, eqb-true, le-leb, leb-true}
 use Rattle.lists.specs.Pick.{pick}
 use Rattle.lists.specs.All.{allBy, pairsBy, all-head, all-cons, all-both, pairs-head, pairs-cons}
 use Rattle.lists.specs.Both.{and-parts, and-both}
-use Rattle.lists.specs.Filter.{filterBy, filter-all, filter-pairs, filter-passes, filter-length, filter-none-out}
+use Rattle.lists.specs.Filter.{filterBy, filter-all, filter-pairs, filter-passes}
+use Rattle.lists.specs.Reordered.{Reordered}
+use Rattle.lists.specs.Some.{Part, part-all, part-pairs, part-length, filter-part}
 use Rattle.lists.specs.Sums.{sumTo}
 use Rattle.address_set.specs.AddressSet.{bit, keep, offsetsFrom, offsets}
 use Rattle.address_set.specs.Laws.{bit-le, bit-or, bit-and, bit-eq, bit-of-zero}
@@ -20,10 +22,11 @@ use Rattle.state.specs.declared.Lease.{Lease}
 use Rattle.state.specs.declared.LeaseTable.{LeaseTable}
 use Rattle.state.specs.declared.State.{State}
 use Rattle.state.specs.declared.Book.{Book}
-use Rattle.state.specs.Book.{leasesOf, tableOf, other, removeOf, live, liveOf, withClock, raised, dropped, advanced, heldOf, heldCount, inScope, addressesOf, scopeAt}
-use Rattle.state.specs.Sets.{addresses-split}
+use Rattle.state.specs.Book.{leasesOf, tableOf, ordered, other, removeOf, live, liveOf, withClock, raised, dropped, advanced, heldOf, heldCount, inScope, addressesOf, scopeAt}
+use Rattle.state.specs.Sets.{addresses-append, addresses-reordered}
 use Rattle.soundness.specs.Sound.{tenantsIn, scopesIn, reserveAt, limitAt, idB, offsetsB, scopeKnown, kindB, periodB, leaseB, paddedB, disjoint, apartIn, apart, countsB, rule3, rule4, rule5, rule6, settingsB, soundB}
 use Rattle.soundness.specs.Book.{settingsOk, leaseOk, pairOk, fewLeases, noLeasesB, loadOf, Sound, sound-lists, lists-sound}
+use Rattle.soundness.specs.Added.{pair-turn}
 
 -- ---- fewer addresses
 -- a set with no other bits has no more offsets
@@ -51,28 +54,23 @@ disjoint-less m n m′ n′ f g e = eq-eqb (bitAnd m′ n′) 0 (bit-eq (bitAnd 
         let z : min (bit m a) (bit n a) ≡ 0 = sym (bit-and m n a) ∙ ap (λ (x : ℕ). bit x a) (eqb-true (bitAnd m n) 0 e) ∙ bit-of-zero a in
         let p = f a in let q = g a in omega arith
 
--- ---- fewer leases
--- the second list has some leases of the first
-abbrev pub Some : List Lease → List Lease → Type 0
-Some x y = (u : Lease → Bool) × (y ≡ filterBy u x)
-
+-- ---- fewer leases: some of each tenant's, in whichever order
 unfoldable pub Shrunk : List (List Lease) → List (List Lease) → Type 0
 Shrunk [] [] = Unit {0}
 Shrunk [] (y ∷ ys) = ⊥
 Shrunk (x ∷ xs) [] = ⊥
-Shrunk (x ∷ xs) (y ∷ ys) = Some x y × Shrunk xs ys
+Shrunk (x ∷ xs) (y ∷ ys) = Part x y × Shrunk xs ys
 
-held-less : (s : ℕ) (x y : List Lease) → Some x y → (a : ℕ) → bit (heldOf s y) a ≤ bit (heldOf s x) a
-held-less s x y (u, e) a =
-    let p : bit (heldOf s y) a ≡ bit (heldOf s (filterBy u x)) a = ap (λ (l : List Lease). bit (heldOf s l) a) e in
-    let q = bit-or (heldOf s (filterBy u x)) (heldOf s (filterBy (λ l. not (u l)) x)) a in
-    let r : bit (bitOr (heldOf s (filterBy u x)) (heldOf s (filterBy (λ l. not (u l)) x))) a ≡ bit (heldOf s x) a = ap (λ (m : ℕ). bit m a) (addresses-split (inScope s) u x) in
+held-less : (s : ℕ) (x y : List Lease) → Part x y → (a : ℕ) → bit (heldOf s y) a ≤ bit (heldOf s x) a
+held-less s x y (z, d) a =
+    let q = bit-or (heldOf s y) (heldOf s z) a in
+    let r : bit (heldOf s x) a ≡ bit (bitOr (heldOf s y) (heldOf s z)) a = ap (λ (m : ℕ). bit m a) (addresses-reordered (inScope s) d ∙ addresses-append (inScope s) y z) in
     omega arith
 
-pub count-some : (s : ℕ) (x y : List Lease) → Some x y → heldCount s y ≤ heldCount s x
+pub count-some : (s : ℕ) (x y : List Lease) → Part x y → heldCount s y ≤ heldCount s x
 count-some s x y e = count-less (heldOf s y) (heldOf s x) (held-less s x y e)
 
-apart-less : (a b a′ b′ : List Lease) → Some a a′ → Some b b′ → apart a b ≡ true → apart a′ b′ ≡ true
+apart-less : (a b a′ b′ : List Lease) → Part a a′ → Part b b′ → apart a b ≡ true → apart a′ b′ ≡ true
 unfolding apart
 apart-less a b a′ b′ p q e =
     let f = and-parts (apartIn 1 a b) (apartIn 2 a b && (apartIn 3 a b && apartIn 4 a b)) e in
@@ -83,7 +81,7 @@ apart-less a b a′ b′ p q e =
     less : (s : ℕ) → apartIn s a b ≡ true → apartIn s a′ b′ ≡ true
     less s = disjoint-less (heldOf s a) (heldOf s b) (heldOf s a′) (heldOf s b′) (held-less s a a′ p) (held-less s b b′ q)
 
-module _ (t : List Lease → Bool) (keeps : (x y : List Lease) → Some x y → t x ≡ true → t y ≡ true) where
+module _ (t : List Lease → Bool) (keeps : (x y : List Lease) → Part x y → t x ≡ true → t y ≡ true) where
   all-shrunk : (xs ys : List (List Lease)) → Shrunk xs ys → allBy t xs ≡ true → allBy t ys ≡ true
   unfolding Shrunk
   all-shrunk [] [] v h = h
@@ -91,7 +89,7 @@ module _ (t : List Lease → Bool) (keeps : (x y : List Lease) → Some x y → 
   all-shrunk (x ∷ xs) [] v h = absurd v
   all-shrunk (x ∷ xs) (y ∷ ys) v h = let p = all-head t x xs h in all-cons t y ys (keeps x y (v .0) (p .0)) (all-shrunk xs ys (v .1) (p .1))
 
-apart-all : (x y : List Lease) (xs ys : List (List Lease)) → Some x y → Shrunk xs ys → allBy (apart x) xs ≡ true → allBy (apart y) ys ≡ true
+apart-all : (x y : List Lease) (xs ys : List (List Lease)) → Part x y → Shrunk xs ys → allBy (apart x) xs ≡ true → allBy (apart y) ys ≡ true
 unfolding Shrunk allBy
 apart-all x y [] [] p v h = refl
 apart-all x y [] (b ∷ ys) p v h = absurd v
@@ -132,12 +130,13 @@ unfolding settingsOk countsB rule3 rule4 rule5 rule6 settingsB
 clockless s c = refl
 
 -- ---- the book stays sound, with any clock at which its leases are sound
-pub sound-shrunk : (s : State) (c : ℕ) (ls ls′ : List (List Lease)) → Sound s ls → Shrunk ls ls′ → allBy (allBy (leaseOk (withClock s c))) ls′ ≡ true → Sound (withClock s c) ls′
-sound-shrunk s c ls ls′ v w each = record {
+pub sound-shrunk : (s : State) (c : ℕ) (ls ls′ : List (List Lease)) → Sound s ls → Shrunk ls ls′ → allBy (pairsBy ordered) ls′ ≡ true → allBy (allBy (leaseOk (withClock s c))) ls′ ≡ true → Sound (withClock s c) ls′
+sound-shrunk s c ls ls′ v w rises each = record {
   settings = same ∙ v .settings;
   few = all-shrunk fewLeases few-some ls ls′ w (v .few);
   each = each;
-  pairs = all-shrunk (pairsBy pairOk) pairs-some ls ls′ w (v .pairs);
+  pairs = all-shrunk (pairsBy pairOk) (part-pairs pairOk pair-turn) ls ls′ w (v .pairs);
+  rises = rises;
   houses = all-shrunk noLeasesB none-some (drop (tenantsIn s) ls) (drop (tenantsIn s) ls′) (drop-shrunk (tenantsIn s) ls ls′ w) (v .houses);
   owners = owners-shrunk ls ls′ w (v .owners);
   holdings = λ k g p q. le-trans (counts-shrunk (k + 1) ls ls′ w g) (v .holdings k g p q);
@@ -147,18 +146,11 @@ sound-shrunk s c ls ls′ v w each = record {
     same : settingsOk (withClock s c) ≡ settingsOk s
     same = clockless s c
 
-    few-some : (x y : List Lease) → Some x y → fewLeases x ≡ true → fewLeases y ≡ true
-    few-some x y (u, e) h =
-        let a = leb-true (length x) 16 h in let b = filter-length u x in let q : length y ≡ length (filterBy u x) = ap length e in
-        le-leb (length y) 16 (omega arith)
+    few-some : (x y : List Lease) → Part x y → fewLeases x ≡ true → fewLeases y ≡ true
+    few-some x y d h = let a = leb-true (length x) 16 h in let b = part-length x y d in le-leb (length y) 16 (omega arith)
 
-    none-some : (x y : List Lease) → Some x y → noLeasesB x ≡ true → noLeasesB y ≡ true
-    none-some x y (u, e) h =
-        let a = eqb-true (length x) 0 h in let b = filter-length u x in let q : length y ≡ length (filterBy u x) = ap length e in
-        eq-eqb (length y) 0 (omega arith)
-
-    pairs-some : (x y : List Lease) → Some x y → pairsBy pairOk x ≡ true → pairsBy pairOk y ≡ true
-    pairs-some x y (u, e) h = ap (pairsBy pairOk) e ∙ filter-pairs pairOk u x h
+    none-some : (x y : List Lease) → Part x y → noLeasesB x ≡ true → noLeasesB y ≡ true
+    none-some x y d h = let a = eqb-true (length x) 0 h in let b = part-length x y d in eq-eqb (length y) 0 (omega arith)
 
 -- ---- the clock is raised and the ended leases are dropped
 lease-later : (s : State) (c : ℕ) (l : Lease) → live c l ≡ true → leaseOk s l ≡ true → leaseOk (withClock s c) l ≡ true
@@ -184,10 +176,17 @@ live-each s c (l ∷ ls) h =
 live-shrunk : (c : ℕ) (ls : List (List Lease)) → Shrunk ls (map (liveOf c) ls)
 unfolding Shrunk liveOf
 live-shrunk c [] = tt
-live-shrunk c (l ∷ ls) = ((live c, refl), live-shrunk c ls)
+live-shrunk c (l ∷ ls) = (filter-part (live c) l, live-shrunk c ls)
+
+live-rises : (c : ℕ) (ls : List (List Lease)) → allBy (pairsBy ordered) ls ≡ true → allBy (pairsBy ordered) (map (liveOf c) ls) ≡ true
+unfolding liveOf
+live-rises c [] h = h
+live-rises c (l ∷ ls) h =
+    let p = all-head (pairsBy ordered) l ls h in
+    all-cons (pairsBy ordered) (liveOf c l) (map (liveOf c) ls) (filter-pairs ordered (live c) l (p .0)) (live-rises c ls (p .1))
 
 pub sound-advanced : (s : State) (c : ℕ) (ls : List (List Lease)) → Sound s ls → Sound (withClock s c) (map (liveOf c) ls)
-sound-advanced s c ls v = sound-shrunk s c ls (map (liveOf c) ls) v (live-shrunk c ls) (live-each s c ls (v .each))
+sound-advanced s c ls v = sound-shrunk s c ls (map (liveOf c) ls) v (live-shrunk c ls) (live-rises c ls (v .rises)) (live-each s c ls (v .each))
 
 -- so `advance` keeps a book sound
 pub advanced-sound : (b : Book) (time : ℕ) → soundB (b .state) (b .table) ≡ true → soundB (advanced b time .state) (advanced b time .table) ≡ true
@@ -197,28 +196,32 @@ advanced-sound b time e =
     lists-sound (withClock (b .state) c) (map (liveOf c) (leasesOf (b .table))) (sound-advanced (b .state) c (leasesOf (b .table)) (sound-lists (b .state) (b .table) e))
 
 -- ---- one tenant's leases are fewer
-passes : (l : List Lease) → allBy (λ x. true) l ≡ true
-unfolding allBy
-passes [] = refl
-passes (x ∷ l) = all-cons (λ x. true) x l refl (passes l)
+all-part : (l : List Lease) → Part l l
+all-part l = ([], subst (λ (x : List Lease). Reordered l x) (sym (append-nil l)) (Permᴰ·refl l))
 
 same-shrunk : (ls : List (List Lease)) → Shrunk ls ls
 unfolding Shrunk
 same-shrunk [] = tt
-same-shrunk (l ∷ ls) = ((λ x. true, sym (filter-none-out (λ x. true) l (passes l))), same-shrunk ls)
+same-shrunk (l ∷ ls) = (all-part l, same-shrunk ls)
 
 set-shrunk : (ls : List (List Lease)) (h : ℕ) (u : Lease → Bool) → Shrunk ls (set ls h (filterBy u (getD ls h [])))
 unfolding Shrunk
 set-shrunk [] h u = tt
-set-shrunk (l ∷ ls) zero u = ((u, refl), same-shrunk ls)
-set-shrunk (l ∷ ls) (suc h) u = ((λ x. true, sym (filter-none-out (λ x. true) l (passes l))), set-shrunk ls h u)
+set-shrunk (l ∷ ls) zero u = (filter-part u l, same-shrunk ls)
+set-shrunk (l ∷ ls) (suc h) u = (all-part l, set-shrunk ls h u)
+
+set-rises : (ls : List (List Lease)) (h : ℕ) (u : Lease → Bool) → allBy (pairsBy ordered) ls ≡ true → allBy (pairsBy ordered) (set ls h (filterBy u (getD ls h []))) ≡ true
+set-rises [] h u p = p
+set-rises (l ∷ ls) zero u p = let q = all-head (pairsBy ordered) l ls p in all-cons (pairsBy ordered) (filterBy u l) ls (filter-pairs ordered u l (q .0)) (q .1)
+set-rises (l ∷ ls) (suc h) u p =
+    let q = all-head (pairsBy ordered) l ls p in all-cons (pairsBy ordered) l (set ls h (filterBy u (getD ls h []))) (q .0) (set-rises ls h u (q .1))
 
 each-shrunk : (s : State) (xs ys : List (List Lease)) → Shrunk xs ys → allBy (allBy (leaseOk s)) xs ≡ true → allBy (allBy (leaseOk s)) ys ≡ true
-each-shrunk s xs ys w = all-shrunk (allBy (leaseOk s)) (λ x y p h. ap (allBy (leaseOk s)) (p .1) ∙ filter-all (leaseOk s) (p .0) x h) xs ys w
+each-shrunk s xs ys w = all-shrunk (allBy (leaseOk s)) (part-all (leaseOk s)) xs ys w
 
 -- a lease is released
 pub sound-removed : (s : State) (ls : List (List Lease)) (h : ℕ) (i : List ℕ) → Sound s ls → Sound s (set ls h (removeOf i (getD ls h [])))
 unfolding removeOf
 sound-removed s ls h i v =
     let w = set-shrunk ls h (other i) in
-    sound-shrunk s (s .clock) ls (set ls h (filterBy (other i) (getD ls h []))) v w (each-shrunk s ls (set ls h (filterBy (other i) (getD ls h []))) w (v .each))
+    sound-shrunk s (s .clock) ls (set ls h (filterBy (other i) (getD ls h []))) v w (set-rises ls h (other i) (v .rises)) (each-shrunk s ls (set ls h (filterBy (other i) (getD ls h []))) w (v .each))

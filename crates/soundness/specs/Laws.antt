@@ -19,9 +19,10 @@ use Rattle.state.specs.declared.TenantLeases.{TenantLeases}
 use Rattle.state.specs.declared.LeaseTable.{LeaseTable}
 use Rattle.state.specs.declared.Scope.{Scope}
 use Rattle.state.specs.declared.State.{State}
-use Rattle.state.specs.Book.{inUse, leasesOf, idOf, ordered, scopesOf, scopeAt, heldOf, inScope, addedIf, addressesOf, unionAll, noLeases}
+use Rattle.state.specs.Book.{byIdentifier, differ, inUse, leasesOf, idOf, ordered, scopesOf, scopeAt, heldOf, inScope, addedIf, addressesOf, unionAll, noLeases}
 use Rattle.lists.specs.Filter.{filterBy}
 use Rattle.state.specs.Sets.{added-is}
+use Rattle.state.specs.Sorted.{rising}
 use Rattle.identifier.specs.Order.{orderOf, sameOf}
 use Rattle.identifier.specs.Trans.{order-trans}
 use Rattle.address_set.specs.AddressSet.{bit, offsets, setOf, upTo}
@@ -38,7 +39,7 @@ use Rattle.soundness.specs.declared.Held.{Held}
 use Rattle.soundness.specs.declared.HeldTable.{HeldTable}
 use Rattle.soundness.specs.declared.Rules.{Rules}
 use Rattle.lists.specs.Sums.{sumTo, sum-same}
-use Rattle.soundness.specs.Sound.{few, idB, sizeB, poolB, ttlB, sharesB, tailB, zeroFrom, belowB, offsetsB, scopeOf, recordsB, leaseB, differ, calm, layoutB, paddedB, unusedB, tenantsIn, scopesIn, reserveAt, limitAt, countsB, rule1, rule2, rule3, poolsApart, rule4, rule5, rule6, housesB, rule7, rule8, rule10, rangeZero, scopeZero, settingsB, rule13, rulesOf, firstBroken, brokenOf, soundB, noneB, apart, rule9, holding, limitB, limitsB, rule11, load, loadB, rule12}
+use Rattle.soundness.specs.Sound.{few, idB, sizeB, poolB, ttlB, sharesB, tailB, zeroFrom, belowB, offsetsB, scopeOf, recordsB, leaseB, calm, layoutB, paddedB, unusedB, tenantsIn, scopesIn, reserveAt, limitAt, countsB, rule1, rule2, rule3, poolsApart, rule4, rule5, rule6, housesB, rule7, rule8, rule10, rangeZero, scopeZero, settingsB, rule13, rulesOf, firstBroken, brokenOf, soundB, noneB, apart, rule9, holding, limitB, limitsB, rule11, load, loadB, rule12}
 use Rattle.soundness.specs.Parts.{scopeRulesOf, andScopes, scopesAll, leaseRulesOf, andLeases, leasesAll, tenantRulesOf, bothTenants, addedSets, noneH, holdingRulesIn, tableRulesOf, joinedRules, andTenants, tenantsAll, noHeld, heldSets, holdingsOf, setAt, apartSets, countIn, limitIn, limitsIn, loadOn, loadIn, settingsRulesOf, holdingRulesOf}
 
 -- ---- zeros, gathered by or
@@ -170,10 +171,6 @@ unfolding allBy
 unused-past n k l e h = sym (ap (allBy unusedB) (drop-of-length-le l {i = n} (omega arith)))
 
 -- ---- two leases
-pub rises-is : (a b : Lease) (o : ℕ) → o ≡ orderOf (idOf a) (idOf b) → eqb o 0 ≡ ordered a b
-unfolding ordered
-rises-is a b o e = ap (λ (x : ℕ). eqb x 0) e
-
 pub differ-no : (a b : Lease) {q : Bool} → q ≡ sameOf (idOf a) (idOf b) → q ≡ true → false ≡ differ a b
 unfolding differ
 differ-no a b e y = ap not (sym y ∙ e)
@@ -182,16 +179,12 @@ pub differ-yes : (a b : Lease) {q : Bool} → q ≡ sameOf (idOf a) (idOf b) →
 unfolding differ
 differ-yes a b e n = ap not (sym n ∙ e)
 
-rises-trans : (a b c : Lease) → ordered a b ≡ true → ordered b c ≡ true → ordered a c ≡ true
-unfolding ordered
-rises-trans a b c p q = eq-eqb _ _ (order-trans (idOf a) (idOf b) (idOf c) (eqb-true _ _ p) (eqb-true _ _ q))
-
 pub rise-start : {d : Lease} {l : List Lease} {n : ℕ} (x k : ℕ) → n ≡ min x k → length l ≡ k → NextInv ordered d l n (pairsBy ordered (take x l)) 0
-rise-start {d = d} {l = l} {n = n} x k e g = subst (λ (w : Bool). NextInv ordered d l n w 0) (next-is-pairs ordered rises-trans (take x l)) (next-start x k e g)
+rise-start {d = d} {l = l} {n = n} x k e g = subst (λ (w : Bool). NextInv ordered d l n w 0) (next-is-pairs ordered (rising .trans) (take x l)) (next-start x k e g)
 
 -- what rises differs
 apart-names : (a b : Lease) → ordered a b ≡ true → differ a b ≡ true
-unfolding ordered differ sameOf
+unfolding byIdentifier differ sameOf
 apart-names a b p = let z = eqb-true (orderOf (idOf a) (idOf b)) 0 p in ap not (ne-eqb (orderOf (idOf a) (idOf b)) 1 (λ e. absurd (omega arith)))
 
 pairs-imply : {A : Type 0} (t u : A → A → Bool) (l : List A) → ((x y : A) → t x y ≡ true → u x y ≡ true) → pairsBy t l ≡ true → pairsBy u l ≡ true

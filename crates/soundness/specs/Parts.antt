@@ -14,7 +14,7 @@ use Rattle.state.specs.declared.LeaseTable.{LeaseTable}
 use Rattle.state.specs.declared.Scope.{Scope}
 use Rattle.state.specs.declared.ClientRange.{ClientRange}
 use Rattle.state.specs.declared.State.{State}
-use Rattle.state.specs.Book.{inUse, leasesOf, inScope, heldOf, addedIf, scopesOf, scopeAt}
+use Rattle.state.specs.Book.{differ, inUse, leasesOf, inScope, heldOf, addedIf, scopesOf, scopeAt}
 use Rattle.soundness.specs.declared.ScopeRules.{ScopeRules}
 use Rattle.soundness.specs.declared.LeaseRules.{LeaseRules}
 use Rattle.soundness.specs.declared.TenantRules.{TenantRules}
@@ -24,7 +24,7 @@ use Rattle.soundness.specs.declared.SettingsRules.{SettingsRules}
 use Rattle.soundness.specs.declared.HoldingRules.{HoldingRules}
 use Rattle.soundness.specs.declared.Held.{Held}
 use Rattle.soundness.specs.declared.HeldTable.{HeldTable}
-use Rattle.soundness.specs.Sound.{tenantsIn, scopesIn, reserveAt, limitAt, sizeB, countsB, idB, recordsB, offsetsB, rule3, poolB, poolsApart, rule4, ttlB, rule5, sharesB, rule6, leaseB, housesB, differ, disjoint, rule9, calm, rule11, rule12, layoutB, paddedB, tailB, settingsB}
+use Rattle.soundness.specs.Sound.{tenantsIn, scopesIn, reserveAt, limitAt, sizeB, countsB, idB, recordsB, offsetsB, rule3, poolB, poolsApart, rule4, ttlB, rule5, sharesB, rule6, leaseB, housesB, disjoint, rule9, calm, rule11, rule12, layoutB, paddedB, tailB, settingsB}
 
 abbrev pub noRange : ClientRange
 noRange = record { low = 0; high = 0 }

@@ -9,7 +9,6 @@ use lib.ListN.{take, drop, length, getD}
 use Rattle.lists.specs.Pick.{pick}
 use Rattle.lists.specs.All.{allBy, pairsBy, allTo}
 use Rattle.lists.specs.Sums.{sumTo}
-use Rattle.identifier.specs.Order.{sameOf}
 use Rattle.address_set.specs.AddressSet.{offsets}
 use Rattle.state.specs.declared.Lease.{Lease}
 use Rattle.state.specs.declared.TenantLeases.{TenantLeases}
@@ -17,7 +16,7 @@ use Rattle.state.specs.declared.LeaseTable.{LeaseTable}
 use Rattle.state.specs.declared.ClientRange.{ClientRange}
 use Rattle.state.specs.declared.Scope.{Scope}
 use Rattle.state.specs.declared.State.{State}
-use Rattle.state.specs.Book.{inUse, leasesOf, idOf, ordered, live, overlaps, inScope, heldOf, heldCount, rangesOf, scopesOf, scopeAt}
+use Rattle.state.specs.Book.{inUse, leasesOf, differ, ordered, live, overlaps, inScope, heldOf, heldCount, rangesOf, scopesOf, scopeAt}
 use Rattle.soundness.specs.declared.Rules.{Rules}
 
 -- from 1 to most
@@ -129,9 +128,6 @@ unfoldable pub rule7 : State → LeaseTable → Bool
 rule7 s t = housesB s t && allBy (allBy (leaseB s)) (leasesOf t)
 
 -- ---- 8. identifiers differ within a house
-unfoldable pub differ : Lease → Lease → Bool
-differ a b = not (sameOf (idOf a) (idOf b))
-
 unfoldable pub rule8 : LeaseTable → Bool
 rule8 t = allBy (pairsBy differ) (leasesOf t)
 

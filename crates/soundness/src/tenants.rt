@@ -4,8 +4,8 @@ ghost use mathlib.Core.Bool.{_&&_};
 ghost use Prim.Native.Nat.{_≤_};
 ghost use lib.ListN.{drop};
 ghost use Rattle.lists.specs.All.{allBy, pairsBy};
-ghost use Rattle.state.specs.Book.{inUse, ordered};
-ghost use Rattle.soundness.specs.Sound.{differ, calm, blankB, unusedB};
+ghost use Rattle.state.specs.Book.{differ, inUse, ordered};
+ghost use Rattle.soundness.specs.Sound.{calm, blankB, unusedB};
 ghost use Rattle.soundness.specs.Parts.{tenantRulesOf, bothTenants};
 use crate::TenantRules;
 use crate::leases::leases_rules;
@@ -43,15 +43,6 @@ pub fn is_unused(l: Lease) -> bool
         }
     }
     false
-}
-
-fn comes_before(a: Lease, b: Lease) -> bool
-    ensures { λ r. ⌜ r ≡ ordered a b ⌝ }
-{
-    let i = a.id;
-    let j = b.id;
-    let o = identifier::order(i, a.id_len, j, b.id_len);
-    o == 0
 }
 
 fn names_differ(a: Lease, b: Lease) -> bool
@@ -101,7 +92,7 @@ fn rest_unused(t: TenantLeases) -> bool
     true
 }
 
-// Identifiers rise where each comes before the next.
+// Records rise where each comes before the next.
 fn all_rise(t: TenantLeases) -> bool
     ensures { λ r. ⌜ r ≡ pairsBy ordered (inUse t) ⌝ }
 {
@@ -111,7 +102,7 @@ fn all_rise(t: TenantLeases) -> bool
         let a = t.leases[i];
         i += 1;
         let b = t.leases[i];
-        if !comes_before(a, b) {
+        if !state::is_before(a, b) {
             return false;
         }
     }

@@ -8,6 +8,7 @@ use lib.ListN.{length, replicate, set, take, drop, getD}
 use Rattle.lists.specs.Pick.{pick}
 use Rattle.lists.specs.Filter.{filterBy}
 use Rattle.lists.specs.Place.{placeBy}
+use Rattle.lists.specs.Arranged.{insertIn}
 use Rattle.identifier.specs.Order.{orderOf, sameOf}
 use Rattle.address_set.specs.AddressSet.{offsets}
 use Rattle.state.specs.declared.Lease.{Lease}
@@ -45,20 +46,26 @@ putAt b h t = record { tenants = set (b .tenants) h t }
 unfoldable pub tableOf : List (List Lease) → LeaseTable
 tableOf ls = record { tenants = map laidOut ls }
 
--- ---- identifiers: the order of a tenant's records
+-- ---- identifiers, and the order of a tenant's records
 abbrev pub idOf : Lease → List ℕ
 idOf l = take (l .«id_len») (l .id)
 
--- the lease comes before identifier i
-abbrev pub before : List ℕ → Lease → Bool
-before i l = eqb (orderOf (idOf l) i) 0
+unfoldable pub differ : Lease → Lease → Bool
+differ a b = not (sameOf (idOf a) (idOf b))
 
-abbrev pub notBefore : List ℕ → Lease → Bool
-notBefore i l = not (before i l)
+unfoldable pub byIdentifier : Lease → Lease → Bool
+byIdentifier a b = eqb (orderOf (idOf a) (idOf b)) 0
 
--- records rise: the first comes before the second
-unfoldable pub ordered : Lease → Lease → Bool
-ordered a b = before (idOf b) a
+-- records rise: the first comes before the second. Nothing else says how records are ordered; that it decides is `rising` in Sorted.antt
+abbrev pub ordered : Lease → Lease → Bool
+ordered = byIdentifier
+
+-- x comes before l, or does not
+abbrev pub before : Lease → Lease → Bool
+before l x = ordered x l
+
+abbrev pub notBefore : Lease → Lease → Bool
+notBefore l x = not (ordered x l)
 
 abbrev pub named : List ℕ → Lease → Bool
 named i l = sameOf (idOf l) i
@@ -77,7 +84,7 @@ leaseAt ls at = getD ls at zeroLease
 
 -- those before it, the lease, and the others
 unfoldable pub insertOf : Lease → List Lease → List Lease
-insertOf l ls = filterBy (before (idOf l)) ls ++ l ∷ filterBy (notBefore (idOf l)) ls
+insertOf l ls = insertIn ordered l ls
 
 unfoldable pub removeOf : List ℕ → List Lease → List Lease
 removeOf i ls = filterBy (other i) ls

@@ -11,6 +11,7 @@ use borrow.Author.Tests.{lt-ltb, eq-eqb, ne-eqb}
 use Rattle.lists.specs.Pick.{pick}
 use Rattle.lists.specs.Fold.{fold}
 use Rattle.lists.specs.Filter.{filterBy, filter-length}
+use Rattle.lists.specs.Arranged.{insertIn}
 use Rattle.identifier.specs.Order.{orderOf}
 use Rattle.state.specs.declared.Lease.{Lease}
 use Rattle.state.specs.declared.TenantLeases.{TenantLeases}
@@ -22,7 +23,7 @@ use lib.ListN.{getD, length-map, List·getD-map}
 use lib.Seq.{getD-take}
 use Prim.Native.Nat.{min, max}
 use borrow.Author.Tests.{le-ltb}
-use Rattle.state.specs.Book.{zeroLease, inUse, laidOut, pushed, keptIf, idOf, before, notBefore, named, other, insertOf, removeOf, keptAs, renewTo, replaceOf, live, liveOf, leaseAt, tableOf, leasesOf, tenantAt, putAt, raised, dropped, advanced, withClock, noLease, noLeases}
+use Rattle.state.specs.Book.{zeroLease, inUse, laidOut, pushed, keptIf, idOf, byIdentifier, ordered, before, notBefore, named, other, insertOf, removeOf, keptAs, renewTo, replaceOf, live, liveOf, leaseAt, tableOf, leasesOf, tenantAt, putAt, raised, dropped, advanced, withClock, noLease, noLeases}
 
 -- what is laid out is read back
 pub read-back : (p : List Lease) → inUse (laidOut p) ≡ p
@@ -105,25 +106,26 @@ module _ (g : Lease → Lease) (now : TenantLeases) (l : Lease) where
 pub other-is : (i : List ℕ) (l : Lease) {q : Bool} → q ≡ named i l → not q ≡ other i l
 other-is i l e = ap not e
 
-pub before-is : (i : List ℕ) (l : Lease) (o : ℕ) → o ≡ orderOf (idOf l) i → eqb o 0 ≡ before i l
-before-is i l o e = ap (λ (x : ℕ). eqb x 0) e
+pub before-is : (a b : Lease) (o : ℕ) → o ≡ orderOf (idOf a) (idOf b) → eqb o 0 ≡ ordered a b
+unfolding byIdentifier
+before-is a b o e = ap (λ (x : ℕ). eqb x 0) e
 
-pub not-before-is : (i : List ℕ) (l : Lease) {q : Bool} → q ≡ before i l → not q ≡ notBefore i l
-not-before-is i l e = ap not e
+pub not-before-is : (l x : Lease) {q : Bool} → q ≡ ordered x l → not q ≡ notBefore l x
+not-before-is l x e = ap not e
 
 -- ---- insertion
-pub insert-is : (ls : List Lease) (l : Lease) (a b c r : TenantLeases) → length ls < 16 → a ≡ laidOut [] → b ≡ fold (keptIf (before (idOf l))) a ls → c ≡ pushed b l
-    → r ≡ fold (keptIf (notBefore (idOf l))) c ls → r ≡ laidOut (insertOf l ls)
-unfolding insertOf
+pub insert-is : (ls : List Lease) (l : Lease) (a b c r : TenantLeases) → length ls < 16 → a ≡ laidOut [] → b ≡ fold (keptIf (before l)) a ls → c ≡ pushed b l
+    → r ≡ fold (keptIf (notBefore l)) c ls → r ≡ laidOut (insertOf l ls)
+unfolding insertOf insertIn
 insert-is ls l a b c r h ea eb ec er =
-    let t : Lease → Bool = before (idOf l) in
+    let t : Lease → Bool = before l in
     let n = filter-both t ls in
     let m = length-append (filterBy t ls) (l ∷ []) in
     let fb : b ≡ laidOut (filterBy t ls) = eb ∙ ap (λ (x : TenantLeases). fold (keptIf t) x ls) ea ∙ filter-fold t ls [] (omega arith) in
     let fc : c ≡ laidOut (filterBy t ls ++ l ∷ []) = ec ∙ ap (λ (x : TenantLeases). pushed x l) fb ∙ push-laid (filterBy t ls) l (omega arith) in
-    er ∙ ap (λ (x : TenantLeases). fold (keptIf (notBefore (idOf l))) x ls) fc
-    ∙ filter-fold (notBefore (idOf l)) ls (filterBy t ls ++ l ∷ []) (omega arith)
-    ∙ ap laidOut (append-assoc (filterBy t ls) (l ∷ []) (filterBy (notBefore (idOf l)) ls))
+    er ∙ ap (λ (x : TenantLeases). fold (keptIf (notBefore l)) x ls) fc
+    ∙ filter-fold (notBefore l) ls (filterBy t ls ++ l ∷ []) (omega arith)
+    ∙ ap laidOut (append-assoc (filterBy t ls) (l ∷ []) (filterBy (notBefore l) ls))
 
 pub in-use-short : (t : TenantLeases) → t .count < 16 → length (inUse t) < 16
 in-use-short t h = omega (arith, length-take (t .count) (t .leases))

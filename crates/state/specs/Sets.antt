@@ -11,9 +11,11 @@ use borrow.Author.Tests.{eq-eqb, ne-eqb}
 use Rattle.lists.specs.Pick.{pick}
 use Rattle.lists.specs.Fold.{fold}
 use Rattle.lists.specs.Filter.{filterBy}
+use Rattle.lists.specs.Reordered.{Reordered, gather, gather-same}
 use Rattle.address_set.specs.Laws.{or-assoc}
 use Rattle.state.specs.declared.Lease.{Lease}
-use Rattle.state.specs.Book.{unionAll, addressesOf, inScope, overlaps, usedIn, heldOf, heldCount, addedIf, idOf, before, notBefore, insertOf}
+use Rattle.state.specs.Book.{unionAll, addressesOf, inScope, overlaps, usedIn, heldOf, heldCount, addedIf, insertOf}
+use Rattle.state.specs.Sorted.{insert-same}
 
 -- what one lease adds
 abbrev pub adds : (Lease → Bool) → Lease → ℕ
@@ -78,14 +80,18 @@ module _ (t : Lease → Bool) where
           ap (bitOr (addressesOf t F)) (addresses-cons l G)
           ∙ swap (addressesOf t F) (adds t l) (addressesOf t G) ∙ ap (bitOr (adds t l)) ih ∙ sym (addresses-cons l ls)
 
+  -- the order of leases is nothing to their addresses
+  gathered : (ls : List Lease) → addressesOf t ls ≡ gather (λ l n. bitOr (adds t l) n) 0 ls
+  unfolding addressesOf filterBy unionAll
+  gathered [] = refl
+  gathered (l ∷ ls) = addresses-cons l ls ∙ ap (bitOr (adds t l)) (gathered ls)
+
+  pub addresses-reordered : {x y : List Lease} → Reordered x y → addressesOf t x ≡ addressesOf t y
+  addresses-reordered {x} {y} d = gathered x ∙ gather-same (λ l n. bitOr (adds t l) n) 0 (λ a b c. swap (adds t a) (adds t b) c) d ∙ sym (gathered y)
+
   -- a new lease adds its addresses
   pub insert-addresses : (l : Lease) (ls : List Lease) → addressesOf t (insertOf l ls) ≡ bitOr (adds t l) (addressesOf t ls)
-  unfolding insertOf
-  insert-addresses l ls =
-      addresses-append (filterBy (before (idOf l)) ls) (l ∷ filterBy (notBefore (idOf l)) ls)
-      ∙ ap (bitOr (addressesOf t (filterBy (before (idOf l)) ls))) (addresses-cons l (filterBy (notBefore (idOf l)) ls))
-      ∙ swap (addressesOf t (filterBy (before (idOf l)) ls)) (adds t l) (addressesOf t (filterBy (notBefore (idOf l)) ls))
-      ∙ ap (bitOr (adds t l)) (addresses-split (before (idOf l)) ls)
+  insert-addresses l ls = addresses-reordered (insert-same l ls) ∙ addresses-cons l ls
 
 -- ---- the turns of the code
 pub add-yes : (t : Lease → Bool) (sum : ℕ) (l : Lease) → t l ≡ true → bitOr sum (l .addresses) ≡ addedIf t sum l

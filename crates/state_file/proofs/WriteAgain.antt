@@ -18,7 +18,7 @@ use Rattle.lists.specs.Both.{and-parts}
 use Rattle.lists.specs.Pick.{pick}
 use Rattle.soundness.specs.Book.{AllRules, rules-of}
 use Rattle.soundness.specs.Sound.{blankB, countsB, few, idB, layoutB, paddedB, rangeZero, recordsB, rule1, rule13, rulesOf, scopeZero, settingsB, sizeB, soundB, tailB, unusedB, zeroFrom}
-use Rattle.state.specs.Book.{idOf, inUse, laidOut, leasesOf, ordered, rangesOf, scopesOf, tableOf, zeroLease, zeroScope}
+use Rattle.state.specs.Book.{byIdentifier, idOf, inUse, laidOut, leasesOf, ordered, rangesOf, scopesOf, tableOf, zeroLease, zeroScope}
 use Rattle.state.specs.declared.ClientRange.{ClientRange}
 use Rattle.state.specs.declared.Lease.{Lease}
 use Rattle.state.specs.declared.LeaseTable.{LeaseTable}
@@ -298,7 +298,7 @@ first-not [] = refl
 first-not (x ∷ a) = refl
 
 next-not : (x y : Lease) → ordered x y ≡ true → eqb (orderOf (idOf x) (idOf y)) 2 ≡ false
-unfolding ordered
+unfolding byIdentifier
 next-not x y e = let z : orderOf (idOf x) (idOf y) ≡ 0 = eqb-true _ _ e in ne-eqb _ _ (λ (q : orderOf (idOf x) (idOf y) ≡ 2). absurd (omega arith))
 
 after-same : (t : ℕ) (a b : List ℕ) → eqb (orderOf a b) 2 ≡ false → isAfter t a t b ≡ false

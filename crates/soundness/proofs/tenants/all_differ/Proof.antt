@@ -1,8 +1,7 @@
 -- `tenants::all_differ` meets its contract: every pair, in one loop over two places.
 use Prim.Native.Nat.{_*_, _+_, _-_}
 use Rattle.lists.specs.All.{CrossInv, cross-next, cross-row, crosses, pairsBy}
-use Rattle.soundness.specs.Sound.{differ}
-use Rattle.state.specs.Book.{before, inUse, noLease}
+use Rattle.state.specs.Book.{differ, inUse, noLease}
 use borrow.Author.Needs.{needs}
 use borrow.Author.Tests.{not-false}
 use Rattle.soundness.proofs.tenants.all_differ.Statement.{statement}

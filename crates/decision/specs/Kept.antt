@@ -16,7 +16,6 @@ use Rattle.lists.specs.Filter.{filterBy}
 use Rattle.lists.specs.Place.{placeBy}
 use Rattle.lists.specs.Each.{map-set}
 use Rattle.identifier.specs.Order.{orderOf, sameOf}
-use Rattle.identifier.specs.Laws.{same-true, same-refl}
 use Rattle.address_set.specs.AddressSet.{bit}
 use Rattle.message.specs.declared.Fields.{Fields}
 use Rattle.state.specs.declared.Lease.{Lease}
@@ -26,9 +25,9 @@ use Rattle.state.specs.declared.State.{State}
 use Rattle.state.specs.Book.{inUse, laidOut, leasesOf, tableOf, tenantAt, putAt, idOf, differ, other, placeOf, leaseAt, zeroLease, live, busyOf, insertOf, removeOf, replaceOf, scopeAt}
 use Rattle.state.specs.Layout.{read-back, put-laid}
 use Rattle.soundness.specs.Sound.{few, tenantsIn, scopesIn, idB, scopeKnown, belowB, offsetsB, kindB, periodB, leaseB, paddedB, disjoint, calm, zeroFrom, soundB}
-use Rattle.soundness.specs.Book.{leaseOk, pairOk, Sound, sound-lists, lists-sound}
+use Rattle.soundness.specs.Book.{leaseOk, Sound, sound-lists, lists-sound}
 use Rattle.soundness.specs.Kept.{sound-removed}
-use Rattle.soundness.specs.Added.{calm-turn, each-at, pairs-at, renewsB, sound-renewed}
+use Rattle.soundness.specs.Added.{each-at, sound-renewed}
 use Rattle.allocation.specs.declared.Ask.{Ask}
 use Rattle.allocation.specs.declared.Grant.{Grant}
 use Rattle.allocation.specs.Rule.{grantOf, suffices, busyIn}
@@ -290,30 +289,7 @@ module _ (s : State) (b : LeaseTable) (h : ℕ) (m : Fields) (v : Sound s (lease
       back s b h there (insertOf L)
       (sound-granted s (leasesOf b) v (scopePlace s (m .scope .value)) here A scoped known-too some L L-scope L-addresses L-start ends (there-too s b h there) room lease-good others-ok)
 
--- ---- RENEW: one lease of the tenant has the identifier
-later : (i : List ℕ) (w : Lease → Bool) (y z : Lease) → sameOf (idOf y) i ≡ true → pairOk y z ≡ true → (c : Bool) → sameOf (idOf z) i ≡ c → pick (sameOf (idOf z) i) (w z) true ≡ true
-unfolding pairOk differ pick
-later i w y z q u true r =
-    let n : not (sameOf (idOf y) (idOf z)) ≡ false = ap not (ap₂ sameOf (same-true (idOf y) i q) (same-true (idOf z) i r) ∙ same-refl i) in
-    no (sym (and-parts (differ y z) (calm y z) u .0) ∙ n)
-later i w y z q u false r = ap (λ (c : Bool). pick c (w z) true) r
-
-unique : (i : List ℕ) (w : Lease → Bool) (x : List Lease) → pairsBy pairOk x ≡ true → placeOf i x < length x → w (leaseAt x (placeOf i x)) ≡ true
-    → allBy (λ y. pick (sameOf (idOf y) i) (w y) true) x ≡ true
-unfolding placeBy pick allBy
-unique i w [] p h e = refl
-unique i w (y ∷ x) p h e = go (sameOf (idOf y) i) refl h e (unique i w x (pairs-head pairOk y x p .1))
-  where
-    W : Lease → Bool
-    W y = pick (sameOf (idOf y) i) (w y) true
-
-    go : (c : Bool) → sameOf (idOf y) i ≡ c → pick c 0 (suc (placeOf i x)) < suc (length x) → w (leaseAt (y ∷ x) (pick c 0 (suc (placeOf i x)))) ≡ true
-        → (placeOf i x < length x → w (leaseAt x (placeOf i x)) ≡ true → allBy W x ≡ true) → allBy W (y ∷ x) ≡ true
-    go true q h e ih =
-        all-cons W y x (ap (λ (c : Bool). pick c (w y) true) q ∙ e)
-        (all-both (pairOk y) (pairOk y) W x (λ z u u′. later i w y z q u (sameOf (idOf z) i) refl) (pairs-head pairOk y x p .0) (pairs-head pairOk y x p .0))
-    go false q h e ih = all-cons W y x (ap (λ (c : Bool). pick c (w y) true) q) (ih (omega arith) e)
-
+-- ---- RENEW: the lease gives way to one of its scope and addresses
 module _ (s : State) (b : LeaseTable) (h : ℕ) (m : Fields) (v : Sound s (leasesOf b)) (known : h < tenantsIn s) (there : h < length (b .tenants)) (good : GoodId m)
     (kind : m .kind ≡ 4) (ok : Passed s m (holdsOf (ownOf b h) m)) (held : holdsOf (ownOf b h) m ≡ true) (e : error0Of s (renewedOf s b h m (recordedOf (ownOf b h) m)) ≡ false) where
   abbrev O : Lease
@@ -408,27 +384,16 @@ module _ (s : State) (b : LeaseTable) (h : ℕ) (m : Fields) (v : Sound s (lease
       (λ a. subst (λ (x : List Lease). bit (busyOf (O .scope) F E x) a ≤ bit (othersBusy b h m (O .scope) F E) a) rest-is
       (busy-here (O .scope) F E (leasesOf (updated b h (removeOf (named m) (ownOf b h)))) h a))
 
-  same-one : allBy (λ y. pick (sameOf (idOf y) (named m)) (eqb (y .scope) (N .scope) && eqb (y .addresses) (N .addresses)) true) (ownOf b h) ≡ true
-  unfolding recordedOf
-  same-one =
-      unique (named m) (λ y. eqb (y .scope) (N .scope) && eqb (y .addresses) (N .addresses)) (ownOf b h)
-      (ap (pairsBy pairOk) (own-is b h) ∙ pairs-at s (leasesOf b) v h) found
-      (and-both (eq-eqb (O .scope) (N .scope) (sym N-scope)) (eq-eqb (O .addresses) (N .addresses) (sym N-addresses)))
-
-  renews : allBy (renewsB (named m) N) (ownOf b h) ≡ true
-  unfolding renewsB removeOf pick
-  renews =
-      all-both (λ y. pick (sameOf (idOf y) (named m)) (eqb (y .scope) (N .scope) && eqb (y .addresses) (N .addresses)) true) (λ y. pick (other (named m) y) (calm N y) true) (renewsB (named m) N) (ownOf b h)
-      (λ y p q. go (sameOf (idOf y) (named m)) (eqb (y .scope) (N .scope) && eqb (y .addresses) (N .addresses)) (calm N y) p q) same-one (of-filter (other (named m)) (calm N) (ownOf b h) rest-calm)
-    where
-      go : (c p q : Bool) → pick c p true ≡ true → pick (not c) q true ≡ true → pick c p q ≡ true
-      go true p q x y = x
-      go false p q x y = y
-
   pub renew-sound : Sound s (leasesOf (updated b h (replaceOf (named m) N (ownOf b h))))
+  unfolding recordedOf
   renew-sound =
+      let o = own-is b h in
       back s b h there (replaceOf (named m) N)
-      (sound-renewed (named m) N N-named s (leasesOf b) h v known (there-too s b h there) N-good (ap (allBy (renewsB (named m) N)) (sym (own-is b h)) ∙ renews))
+      (sound-renewed s (leasesOf b) h (named m) N v known (there-too s b h there) N-named
+      (subst (λ (x : List Lease). placeOf (named m) x < length x) o found)
+      (subst (λ (x : List Lease). leaseAt x (placeOf (named m) x) .scope ≡ N .scope) o (sym N-scope))
+      (subst (λ (x : List Lease). leaseAt x (placeOf (named m) x) .addresses ≡ N .addresses) o (sym N-addresses))
+      N-good (subst (λ (x : List Lease). allBy (calm N) (removeOf (named m) x) ≡ true) o rest-calm))
 
 -- ---- the decision, test by test
 by-test : (P : Decided → Type 0) (t : Bool) (x y : Decided) → (t ≡ true → P x) → (t ≡ false → P y) → P (pick t x y)

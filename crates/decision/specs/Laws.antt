@@ -6,7 +6,7 @@ use mathlib.Core.List.{List, []}
 use native.Mathlib.Omega.{arith}
 use lib.Dec.{ltb, leb, eqb}
 use lib.ListN.{take, length, getD}
-use borrow.Author.Tests.{eq-eqb, ltb-true}
+use borrow.Author.Tests.{eq-eqb, ne-eqb, ltb-true}
 use Rattle.lists.specs.Pick.{pick}
 use Rattle.lists.specs.Both.{and-parts}
 use Rattle.message.specs.declared.Wish.{Wish}
@@ -25,7 +25,7 @@ use Rattle.decision.specs.declared.Proposal.{Proposal}
 use Rattle.decision.specs.declared.Verdict.{Verdict}
 use Rattle.decision.specs.declared.Decided.{Decided}
 use Rattle.decision.specs.declared.Reply.{Reply}
-use Rattle.decision.specs.Parts.{isNew, ownOf, named, holdsOf, recordedOf, resends, scopePlace, knowsScope, lacksScope, lacksCurrent, farOf, error3Of, wishedOr, startOf, lengthOf, endOf, askAt, fitsNew, newWith, newAt, newOf, othersBusy, fitsRenewed, renewedTo, renewedOf, proposalOf, error0Of, leaseFrom, updated, withLease, plainReply, refusalOf}
+use Rattle.decision.specs.Parts.{isNew, hasPeriod, ownOf, named, holdsOf, OldThere, recordedOf, resends, scopePlace, knowsScope, lacksScope, lacksCurrent, farOf, error3Of, wishedOr, startOf, lengthOf, endOf, askAt, fitsNew, newWith, newAt, newOf, othersBusy, fitsRenewed, renewedTo, renewedOf, proposalOf, error0Of, leaseFrom, updated, withLease, plainReply, refusalOf}
 use Rattle.decision.specs.Decide.{unchanged, changed, leasedOf, settledOf, judgedOf, decideOf}
 
 -- ---- tests
@@ -141,6 +141,29 @@ removed-is b b′ h i = changed-is b b′ h (removeOf i)
 pub room-at : (b : LeaseTable) (h : ℕ) (t : TenantLeases) → t ≡ tenantAt b h → length (ownOf b h) < 16 → length (inUse t) < 16
 room-at b h t e p = subst (λ (x : TenantLeases). length (inUse x) < 16) (sym e) p
 
+-- RENEW: the lease that gives way is there
+pub old-at : (b : LeaseTable) (h : ℕ) (t : TenantLeases) (i : List ℕ) → t ≡ tenantAt b h → placeOf i (ownOf b h) < length (ownOf b h) → placeOf i (inUse t) < length (inUse t)
+old-at b h t i e p = subst (λ (x : TenantLeases). placeOf i (inUse x) < length (inUse x)) (sym e) p
+
+pub old-use : (b : LeaseTable) (h : ℕ) (m : Fields) → OldThere b h m → (m .kind ≡ 1 → ⊥) → (m .kind ≡ 3 → ⊥) → placeOf (named m) (ownOf b h) < length (ownOf b h)
+unfolding OldThere
+old-use b h m f p q = f p q
+
+pub old-there : (b : LeaseTable) (h : ℕ) (m : Fields) (held : Bool) {q r : Bool} → held ≡ holdsOf (ownOf b h) m → q ≡ error3Of m held → q ≡ false → r ≡ hasPeriod m → r ≡ true → OldThere b h m
+unfolding OldThere error3Of hasPeriod isNew holdsOf
+old-there b h m held e f g k l n1 n3 =
+    ltb-true (placeOf (named m) (ownOf b h)) (length (ownOf b h)) (sym e ∙ go (eqb (m .kind) 1) (eqb (m .kind) 3) (eqb (m .kind) 4) (eqb (m .kind) 7) held (ne-eqb (m .kind) 1 n1) (ne-eqb (m .kind) 3 n3) (sym f ∙ g) (sym k ∙ l))
+  where
+    no : {A : Type 0} → true ≡ false → A
+    no e = let z : _≡_ {A = ℕ} 0 1 = cc in absurd (omega arith)
+
+    go : (a c d x y : Bool) → a ≡ false → c ≡ false → ((d || x) && not y) ≡ false → ((a || c) || d) ≡ true → y ≡ true
+    go true c d x y u w p q = no u
+    go false true d x y u w p q = no w
+    go false false true x true u w p q = refl
+    go false false true x false u w p q = no p
+    go false false false x y u w p q = no (sym q)
+
 pub room-use : (k n : ℕ) → (k ≡ 3 → n < 16) → k ≡ 3 → n < 16
 room-use k n f e = f e
 
@@ -170,6 +193,11 @@ leased-is b h m l l′ r e p = p ∙ ap (leasedOf b h m) e
 
 pub settled-is : (s : State) (b : LeaseTable) (h : ℕ) (m : Fields) (p p′ : Proposal) (r : Decided) → p ≡ p′ → r ≡ settledOf s b h m p → r ≡ settledOf s b h m p′
 settled-is s b h m p p′ r e q = q ∙ ap (settledOf s b h m) e
+
+pub held-is : (b : LeaseTable) (h : ℕ) (m : Fields) (t : TenantLeases) (at n : ℕ) → t ≡ tenantAt b h → at ≡ placeOf (named m) (inUse t) → n ≡ length (inUse t) → ltb at n ≡ holdsOf (ownOf b h) m
+unfolding holdsOf
+held-is b h m t at n et ea en =
+    ap₂ ltb (ea ∙ ap (λ (y : TenantLeases). placeOf (named m) (inUse y)) et) (en ∙ ap (λ (y : TenantLeases). length (inUse y)) et)
 
 pub decide-is : (s : State) (b : LeaseTable) (h : ℕ) (m : Fields) (t : TenantLeases) (at n : ℕ) (l : Lease) (r : Decided) → t ≡ tenantAt b h → at ≡ placeOf (named m) (inUse t) → n ≡ length (inUse t)
     → l ≡ leaseAt (inUse t) at → r ≡ judgedOf s b h m l (ltb at n) → r ≡ decideOf s b h m

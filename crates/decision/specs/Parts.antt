@@ -1,5 +1,6 @@
 -- The tests and the parts of document 01's decision, each on plain values. A house is a tenant here; h counts from 0.
-use Prim.Native.Nat.{ℕ, _+_, _-_, min, max}
+use Prim.Native.Nat.{ℕ, _+_, _-_, _<_, min, max}
+use mathlib.Core.Path.{_≡_}
 use mathlib.Core.Bool.{Bool, true, false, not, _&&_, _||_}
 use mathlib.Core.List.{List, []}
 use lib.Dec.{ltb, leb, eqb}
@@ -45,6 +46,10 @@ holdsOf own m = ltb (placeOf (named m) own) (length own)
 
 unfoldable pub recordedOf : List Lease → Fields → Lease
 recordedOf own m = leaseAt own (placeOf (named m) own)
+
+-- what a RENEW is left to: the lease that gives way is there
+unfoldable pub OldThere : LeaseTable → ℕ → Fields → Type 0
+OldThere b h m = (m .kind ≡ 1 → ⊥) → (m .kind ≡ 3 → ⊥) → placeOf (named m) (ownOf b h) < length (ownOf b h)
 
 -- ---- Resend
 unfoldable pub resends : Fields → Lease → Bool

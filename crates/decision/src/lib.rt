@@ -7,9 +7,9 @@ ghost use mathlib.Core.Path.{_≡_};
 ghost use mathlib.Core.Bool.{true};
 ghost use Prim.Native.Nat.{_<_};
 ghost use lib.ListN.{length};
-ghost use Rattle.state.specs.Book.{insertOf, replaceOf, removeOf};
+ghost use Rattle.state.specs.Book.{insertOf, placeOf, replaceOf, removeOf};
 ghost use Rattle.soundness.specs.Sound.{tenantsIn};
-ghost use Rattle.decision.specs.Parts.{ownOf, named, proposalOf, withLease, plainReply, nakWith, discardWith, refusalOf};
+ghost use Rattle.decision.specs.Parts.{ownOf, named, holdsOf, OldThere, proposalOf, withLease, plainReply, nakWith, discardWith, refusalOf};
 ghost use Rattle.decision.specs.Decide.{unchanged, changed, leasedOf, plainOf, settledOf, judgedOf, decideOf};
 ghost use Rattle.decision.specs.declared.Reply.the-variants.{Offer, LeaseAck, ReleaseAck, InfoAck};
 use crate::proposals::lease_from;
@@ -174,6 +174,7 @@ fn record(table: LeaseTable, h: usize, l: Lease) -> Decided
 
 // The ACK to a RENEW.
 fn renew(table: LeaseTable, h: usize, m: Fields, l: Lease) -> Decided
+    requires { ⌜ placeOf (named m) (ownOf table h) < length (ownOf table h) ⌝ }
     ensures { λ r. ⌜ r ≡ changed table h (replaceOf (named m) l (ownOf table h)) (withLease LeaseAck l) ⌝ }
 {
     let t = state::tenant_at(table, h);
@@ -209,7 +210,7 @@ fn inform(table: LeaseTable) -> Decided
 }
 
 fn leased(table: LeaseTable, h: usize, m: Fields, l: Lease) -> Decided
-    requires { ⌜ (m .kind ≡ 3 → length (ownOf table h) < 16) ⌝ }
+    requires { ⌜ (m .kind ≡ 3 → length (ownOf table h) < 16) × OldThere table h m ⌝ }
     ensures { λ r. ⌜ r ≡ leasedOf table h m l ⌝ }
 {
     if m.kind == MessageType::DISCOVER {
@@ -231,7 +232,7 @@ fn plain(table: LeaseTable, h: usize, m: Fields) -> Decided
 }
 
 fn settle(s: State, table: LeaseTable, h: usize, m: Fields, p: Proposal) -> Decided
-    requires { ⌜ (p .fits ≡ true → m .kind ≡ 3 → length (ownOf table h) < 16) ⌝ }
+    requires { ⌜ (p .fits ≡ true → m .kind ≡ 3 → length (ownOf table h) < 16) × OldThere table h m ⌝ }
     ensures { λ r. ⌜ r ≡ settledOf s table h m p ⌝ }
 {
     if error_0(s, p) {
@@ -243,7 +244,7 @@ fn settle(s: State, table: LeaseTable, h: usize, m: Fields, p: Proposal) -> Deci
 
 // Error 0, or a lease.
 fn lease(s: State, table: LeaseTable, h: usize, m: Fields, l: Lease) -> Decided
-    requires { ⌜ h < tenantsIn s ⌝ }
+    requires { ⌜ (h < tenantsIn s) × OldThere table h m ⌝ }
     ensures { λ r. ⌜ r ≡ settledOf s table h m (proposalOf s table h m l) ⌝ }
 {
     let p = propose(s, table, h, m, l);
@@ -251,7 +252,7 @@ fn lease(s: State, table: LeaseTable, h: usize, m: Fields, l: Lease) -> Decided
 }
 
 fn judge(s: State, table: LeaseTable, h: usize, m: Fields, l: Lease, held: bool) -> Decided
-    requires { ⌜ h < tenantsIn s ⌝ }
+    requires { ⌜ (h < tenantsIn s) × (held ≡ holdsOf (ownOf table h) m) ⌝ }
     ensures { λ r. ⌜ r ≡ judgedOf s table h m l held ⌝ }
 {
     if is_resend(m, l) {

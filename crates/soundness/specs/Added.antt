@@ -10,18 +10,16 @@ use lib.ListN.{length, drop, getD, set, length-append, length-map}
 use lib.Seq.{getD-set-same, getD-set-other}
 use borrow.Author.Tests.{eq-eqb, ne-eqb, eqb-true, eqb-false, le-leb, leb-true}
 use Rattle.lists.specs.Pick.{pick}
-use Rattle.lists.specs.All.{allBy, pairsBy, all-head, all-cons, all-append, all-both, pairs-head, pairs-cons, pairs-append, all-map, pairs-map, pairs-same}
-use Rattle.lists.specs.Both.{and-parts, and-both, all-and}
-use Rattle.lists.specs.Filter.{filterBy}
+use Rattle.lists.specs.All.{allBy, pairsBy, all-head, all-cons, all-append, all-both, pairs-head, pairs-cons, pairs-append}
+use Rattle.lists.specs.Both.{and-parts, and-both, all-and, pairs-and}
+use Rattle.lists.specs.Filter.{filterBy, filter-all, filter-pairs, filter-passes}
 use Rattle.lists.specs.Sums.{sumTo, sum-same}
 use Rattle.state.specs.declared.Lease.{Lease}
 use Rattle.state.specs.declared.State.{State}
-use Rattle.state.specs.Book.{idOf, differ, byIdentifier, ordered, named, other, insertOf, renewTo, replaceOf, addressesOf, unionAll, overlaps, inScope, heldOf, heldCount, scopeAt}
-use Rattle.state.specs.Sets.{adds, addresses-cons, insert-addresses}
-use Rattle.identifier.specs.Order.{orderOf, sameOf}
-use Rattle.identifier.specs.Laws.{same-true, same-refl}
+use Rattle.state.specs.Book.{idOf, differ, ordered, other, placeOf, leaseAt, insertOf, removeOf, replaceOf, addressesOf, unionAll, overlaps, inScope, heldOf, heldCount, scopeAt}
+use Rattle.state.specs.Sets.{adds, addresses-cons, addresses-reordered, insert-addresses}
 use Rattle.address_set.specs.AddressSet.{offsets}
-use Rattle.state.specs.Sorted.{differ-turn, insert-same, insert-rises, others-differ}
+use Rattle.state.specs.Sorted.{differ-turn, insert-same, insert-rises, others-differ, taken-out}
 use Rattle.lists.specs.Reordered.{Reordered, reordered-length, reordered-all, reordered-pairs}
 use Rattle.address_set.specs.Laws.{and-or}
 use Rattle.soundness.specs.Sound.{tenantsIn, scopesIn, reserveAt, limitAt, disjoint, apartIn, apart, calm}
@@ -199,111 +197,80 @@ pub sound-inserted : (s : State) (ls : List (List Lease)) (h : ℕ) (l : Lease) 
 sound-inserted s ls h l v known there room lease-ok new calm-ok =
     sound-gained s ls h l (insertOf l (getD ls h [])) v known there (insert-same l (getD ls h [])) (insert-rises l (getD ls h []) new (rises-at s ls v h)) room lease-ok new calm-ok
 
--- ---- a renewed lease
--- the lease of identifier i has l's scope and addresses, and the others are calm with l
-unfoldable pub renewsB : List ℕ → Lease → Lease → Bool
-renewsB i l y = pick (named i y) (eqb (y .scope) (l .scope) && eqb (y .addresses) (l .addresses)) (calm l y)
+-- ---- a renewed lease: one of the same scope and addresses takes its place
+module _ (s : State) (ls : List (List Lease)) (h : ℕ) (i : List ℕ) (l : Lease) (v : Sound s ls) (known : h < tenantsIn s) (there : h < length ls)
+    (mine : idOf l ≡ i) (found : placeOf i (getD ls h []) < length (getD ls h []))
+    (scope : leaseAt (getD ls h []) (placeOf i (getD ls h [])) .scope ≡ l .scope) (addresses : leaseAt (getD ls h []) (placeOf i (getD ls h [])) .addresses ≡ l .addresses) where
+  abbrev own : List Lease
+  own = getD ls h []
 
-module _ (i : List ℕ) (l : Lease) (mine : idOf l ≡ i) where
-  renewed-adds : (k : ℕ) (y : Lease) → renewsB i l y ≡ true → adds (inScope k) (renewTo i l y) ≡ adds (inScope k) y
-  unfolding renewsB renewTo pick
-  renewed-adds k y = go (named i y)
-    where
-      go : (b : Bool) → pick b (eqb (y .scope) (l .scope) && eqb (y .addresses) (l .addresses)) (calm l y) ≡ true → adds (inScope k) (pick b l y) ≡ adds (inScope k) y
-      go true e =
-          let p = and-parts (eqb (y .scope) (l .scope)) (eqb (y .addresses) (l .addresses)) e in
-          ap₂ (λ (c a : ℕ). pick (eqb c k) a 0) (sym (eqb-true (y .scope) (l .scope) (p .0))) (sym (eqb-true (y .addresses) (l .addresses) (p .1)))
-      go false e = refl
+  abbrev old : Lease
+  old = leaseAt (getD ls h []) (placeOf i (getD ls h []))
 
-  pub renewed-held : (k : ℕ) (x : List Lease) → allBy (renewsB i l) x ≡ true → heldOf k (replaceOf i l x) ≡ heldOf k x
-  unfolding replaceOf
-  renewed-held k [] p = refl
-  renewed-held k (y ∷ x) p =
-      let q = all-head (renewsB i l) y x p in
-      addresses-cons (inScope k) (renewTo i l y) (map (renewTo i l) x) ∙ ap₂ bitOr (renewed-adds k y (q .0)) (renewed-held k x (q .1)) ∙ sym (addresses-cons (inScope k) y x)
+  abbrev rest : List Lease
+  rest = removeOf i (getD ls h [])
 
-  renewed-id : (y : Lease) → idOf (renewTo i l y) ≡ idOf y
-  unfolding renewTo pick
-  renewed-id y = go (named i y) refl
-    where
-      go : (b : Bool) → named i y ≡ b → idOf (pick b l y) ≡ idOf y
-      go true e = mine ∙ sym (same-true (idOf y) i e)
-      go false e = refl
+  abbrev new : List Lease
+  new = insertOf l (removeOf i (getD ls h []))
 
-  -- two leases that differed and were calm still do and are
-  renewed-pair : (a b : Lease) → renewsB i l a ≡ true → renewsB i l b ≡ true → pairOk a b ≡ true → pairOk (renewTo i l a) (renewTo i l b) ≡ true
-  unfolding pairOk differ renewTo renewsB pick
-  renewed-pair a b p q e =
-      let f = and-parts (differ a b) (calm a b) e in
-      and-both (ap₂ (λ (x y : List ℕ). not (sameOf x y)) (renewed-id a) (renewed-id b) ∙ f .0) (go (named i a) refl (named i b) refl p q (f .0) (f .1))
-    where
-      go : (c : Bool) → named i a ≡ c → (d : Bool) → named i b ≡ d → pick c (eqb (a .scope) (l .scope) && eqb (a .addresses) (l .addresses)) (calm l a) ≡ true
-          → pick d (eqb (b .scope) (l .scope) && eqb (b .addresses) (l .addresses)) (calm l b) ≡ true → not (sameOf (idOf a) (idOf b)) ≡ true → calm a b ≡ true → calm (pick c l a) (pick d l b) ≡ true
-      go true m true n p q u w =
-          let z : not (sameOf (idOf a) (idOf b)) ≡ false = ap not (ap₂ sameOf (same-true (idOf a) i m) (same-true (idOf b) i n) ∙ same-refl i) in
-          absurd (let y : _≡_ {A = ℕ} 0 1 = cc in omega arith)
-      go true m false n p q u w = q
-      go false m true n p q u w = calm-turn a l ∙ p
-      go false m false n p q u w = w
+  apart-ids : pairsBy differ own ≡ true
+  unfolding pairOk
+  apart-ids = and-parts (pairsBy differ own) (pairsBy calm own) (sym (pairs-and differ calm own) ∙ pairs-at s ls v h) .0
 
-  all-pairs : (u t : Lease → Lease → Bool) (p : Lease → Bool) (x : List Lease) → ((a b : Lease) → p a ≡ true → p b ≡ true → t a b ≡ true → u a b ≡ true)
-      → allBy p x ≡ true → pairsBy t x ≡ true → pairsBy u x ≡ true
-  unfolding pairsBy
-  all-pairs u t p [] f h g = refl
-  all-pairs u t p (a ∷ x) f h g =
-      let q = all-head p a x h in let r = pairs-head t a x g in
-      pairs-cons u a x (all-both p (t a) (u a) x (λ b y z. f a b (q .0) y z) (q .1) (r .0)) (all-pairs u t p x f (q .1) (r .1))
+  out : Reordered own (old ∷ rest)
+  out = taken-out i own apart-ids found
 
-  renewed-pairs : (x : List Lease) → allBy (renewsB i l) x ≡ true → pairsBy pairOk x ≡ true → pairsBy pairOk (replaceOf i l x) ≡ true
-  unfolding replaceOf
-  renewed-pairs x p q =
-      pairs-map pairOk (renewTo i l) x ∙ all-pairs (λ a b. pairOk (renewTo i l a) (renewTo i l b)) pairOk (renewsB i l) x renewed-pair p q
+  others : allBy (other (idOf l)) rest ≡ true
+  unfolding removeOf
+  others = ap (λ (j : List ℕ). allBy (other j) rest) mine ∙ filter-passes (other i) own
 
-  renewed-rises : (x : List Lease) → pairsBy ordered x ≡ true → pairsBy ordered (replaceOf i l x) ≡ true
-  unfolding replaceOf byIdentifier
-  renewed-rises x q =
-      pairs-map ordered (renewTo i l) x ∙ pairs-same (λ a b. ordered (renewTo i l a) (renewTo i l b)) ordered x (λ a b. ap₂ (λ (p q : List ℕ). eqb (orderOf p q) 0) (renewed-id a) (renewed-id b)) ∙ q
+  renewed-held : (k : ℕ) → heldOf k new ≡ heldOf k own
+  renewed-held k =
+      insert-addresses (inScope k) l rest
+      ∙ ap (λ (m : ℕ). bitOr m (heldOf k rest)) (ap₂ (λ (c a : ℕ). pick (eqb c k) a 0) (sym scope) (sym addresses))
+      ∙ sym (addresses-cons (inScope k) old rest) ∙ sym (addresses-reordered (inScope k) out)
 
-  renewed-each : (s : State) (x : List Lease) → leaseOk s l ≡ true → allBy (leaseOk s) x ≡ true → allBy (leaseOk s) (replaceOf i l x) ≡ true
-  unfolding replaceOf renewTo pick
-  renewed-each s x e p = all-map (leaseOk s) (renewTo i l) x ∙ all-both (leaseOk s) (leaseOk s) (λ y. leaseOk s (renewTo i l y)) x (λ y a b. go y (named i y) a) p p
-    where
-      go : (y : Lease) (b : Bool) → leaseOk s y ≡ true → leaseOk s (pick b l y) ≡ true
-      go y true a = e
-      go y false a = a
-
-  renewed-apart : (x y : List Lease) → allBy (renewsB i l) x ≡ true → apart (replaceOf i l x) y ≡ apart x y
+  renewed-apart : (y : List Lease) → apart new y ≡ apart own y
   unfolding apart
-  renewed-apart x y p =
-      let f : (k : ℕ) → apartIn k (replaceOf i l x) y ≡ apartIn k x y = λ k. ap (λ (m : ℕ). disjoint m (heldOf k y)) (renewed-held k x p) in
+  renewed-apart y =
+      let f : (k : ℕ) → apartIn k new y ≡ apartIn k own y = λ k. ap (λ (m : ℕ). disjoint m (heldOf k y)) (renewed-held k) in
       ap₂ (λ (a b : Bool). a && b) (f 1) (ap₂ (λ (a b : Bool). a && b) (f 2) (ap₂ (λ (a b : Bool). a && b) (f 3) (f 4)))
 
-  renewed-length : (x : List Lease) → length (replaceOf i l x) ≡ length x
-  unfolding replaceOf
-  renewed-length x = length-map x (renewTo i l)
-
-  renewed-count : (ls : List (List Lease)) (h k g : ℕ) → h < length ls → allBy (renewsB i l) (getD ls h []) ≡ true
-      → heldCount k (getD (set ls h (replaceOf i l (getD ls h []))) g []) ≡ heldCount k (getD ls g [])
-  renewed-count ls h k g there p = go (eqb g h) refl
+  renewed-count : (k g : ℕ) → heldCount k (getD (set ls h new) g []) ≡ heldCount k (getD ls g [])
+  renewed-count k g = go (eqb g h) refl
     where
-      x : List Lease
-      x = replaceOf i l (getD ls h [])
-
-      go : (b : Bool) → eqb g h ≡ b → heldCount k (getD (set ls h x) g []) ≡ heldCount k (getD ls g [])
+      go : (b : Bool) → eqb g h ≡ b → heldCount k (getD (set ls h new) g []) ≡ heldCount k (getD ls g [])
       go true e =
           let z = eqb-true g h e in
-          ap (λ (j : ℕ). heldCount k (getD (set ls h x) j [])) z ∙ ap (heldCount k) (getD-set-same ls h x [] there) ∙ ap (λ (m : ℕ). length (offsets m)) (renewed-held k (getD ls h []) p)
+          ap (λ (j : ℕ). heldCount k (getD (set ls h new) j [])) z ∙ ap (heldCount k) (getD-set-same ls h new [] there) ∙ ap (λ (m : ℕ). length (offsets m)) (renewed-held k)
           ∙ ap (λ (j : ℕ). heldCount k (getD ls j [])) (sym z)
-      go false e = ap (heldCount k) (getD-set-other ls h g x [] (eqb-false g h e))
+      go false e = ap (heldCount k) (getD-set-other ls h g new [] (eqb-false g h e))
 
-  pub sound-renewed : (s : State) (ls : List (List Lease)) (h : ℕ) → Sound s ls → h < tenantsIn s → h < length ls → leaseOk s l ≡ true → allBy (renewsB i l) (getD ls h []) ≡ true
-      → Sound s (set ls h (replaceOf i l (getD ls h [])))
-  sound-renewed s ls h v known there e p =
-      let x : List Lease = getD ls h [] in
-      sound-put s ls h (replaceOf i l x) v known there
-      (ap (λ (n : ℕ). leb n 16) (renewed-length x) ∙ sound-at fewLeases ls h refl (v .few))
-      (renewed-each s x e (each-at s ls v h)) (renewed-pairs x p (pairs-at s ls v h)) (renewed-rises x (rises-at s ls v h))
-      (λ g n. renewed-apart x (getD ls g []) p ∙ owners-at s ls v h g n)
-      (λ k q. subst (λ (m : ℕ). length (offsets m) ≤ limitAt (scopeAt s k) h) (sym (renewed-held (k + 1) x p)) (v .holdings k h q known))
+  rest-each : allBy (leaseOk s) rest ≡ true
+  unfolding removeOf
+  rest-each = filter-all (leaseOk s) (other i) own (each-at s ls v h)
+
+  rest-pairs : pairsBy pairOk rest ≡ true
+  unfolding removeOf
+  rest-pairs = filter-pairs pairOk (other i) own (pairs-at s ls v h)
+
+  rest-rises : pairsBy ordered rest ≡ true
+  unfolding removeOf
+  rest-rises = filter-pairs ordered (other i) own (rises-at s ls v h)
+
+  new-pairs : allBy (calm l) rest ≡ true → allBy (pairOk l) rest ≡ true
+  unfolding pairOk
+  new-pairs c = all-and (differ l) (calm l) rest ∙ and-both (sym (others-differ l rest) ∙ others) c
+
+  pub sound-renewed : leaseOk s l ≡ true → allBy (calm l) (removeOf i (getD ls h [])) ≡ true → Sound s (set ls h (replaceOf i l (getD ls h [])))
+  unfolding replaceOf
+  sound-renewed ok c =
+      sound-put s ls h new v known there
+      (le-leb (length new) 16 (let a = reordered-length out in let b = reordered-length (insert-same l rest) in let d = few-at s ls v h in omega arith))
+      (reordered-all (leaseOk s) (insert-same l rest) ∙ all-cons (leaseOk s) l rest ok rest-each)
+      (reordered-pairs pairOk pair-turn (insert-same l rest) ∙ pairs-cons pairOk l rest (new-pairs c) rest-pairs)
+      (insert-rises l rest others rest-rises)
+      (λ g n. renewed-apart (getD ls g []) ∙ owners-at s ls v h g n)
+      (λ k q. subst (λ (m : ℕ). length (offsets m) ≤ limitAt (scopeAt s k) h) (sym (renewed-held (k + 1))) (v .holdings k h q known))
       (λ k q. subst (λ (m : ℕ). m ≤ scopeAt s k .size)
-      (sym (sum-same (loadOf s (set ls h (replaceOf i l x)) k) (loadOf s ls k) (tenantsIn s) (λ g r. ap (λ (n : ℕ). max n (reserveAt (scopeAt s k) g)) (renewed-count ls h (k + 1) g there p)))) (v .loads k q))
+      (sym (sum-same (loadOf s (set ls h new) k) (loadOf s ls k) (tenantsIn s) (λ g r. ap (λ (n : ℕ). max n (reserveAt (scopeAt s k) g)) (renewed-count (k + 1) g)))) (v .loads k q))

@@ -89,12 +89,9 @@ insertOf l ls = insertIn ordered l ls
 unfoldable pub removeOf : List ℕ → List Lease → List Lease
 removeOf i ls = filterBy (other i) ls
 
--- the lease of that identifier gives way to l
-unfoldable pub renewTo : List ℕ → Lease → Lease → Lease
-renewTo i l x = pick (named i x) l x
-
+-- the lease of that identifier gives way to l, which takes its own place
 unfoldable pub replaceOf : List ℕ → Lease → List Lease → List Lease
-replaceOf i l ls = map (renewTo i l) ls
+replaceOf i l ls = insertOf l (removeOf i ls)
 
 -- ---- the clock
 -- document 01's live: a lease is live while its end is after the clock
@@ -180,12 +177,9 @@ noScope = record { lowest = 0; size = 0; ttl = 0; reserve = []; limit = [] }
 unfoldable pub pushed : TenantLeases → Lease → TenantLeases
 pushed t l = pick (ltb (t .count) 16) (record { leases = set (t .leases) (t .count) l; count = t .count + 1 }) t
 
--- one turn of a filter, of a map, of a union
+-- one turn of a filter, of a union
 unfoldable pub keptIf : (Lease → Bool) → TenantLeases → Lease → TenantLeases
 keptIf t h l = pick (t l) (pushed h l) h
-
-unfoldable pub keptAs : (Lease → Lease) → TenantLeases → Lease → TenantLeases
-keptAs g h l = pushed h (g l)
 
 unfoldable pub addedIf : (Lease → Bool) → ℕ → Lease → ℕ
 addedIf t sum l = pick (t l) (bitOr sum (l .addresses)) sum

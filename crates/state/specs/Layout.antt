@@ -12,6 +12,7 @@ use Rattle.lists.specs.Pick.{pick}
 use Rattle.lists.specs.Fold.{fold}
 use Rattle.lists.specs.Filter.{filterBy, filter-length}
 use Rattle.lists.specs.Arranged.{insertIn}
+use Rattle.lists.specs.Place.{placeBy}
 use Rattle.identifier.specs.Order.{orderOf}
 use Rattle.state.specs.declared.Lease.{Lease}
 use Rattle.state.specs.declared.TenantLeases.{TenantLeases}
@@ -23,7 +24,7 @@ use lib.ListN.{getD, length-map, List·getD-map}
 use lib.Seq.{getD-take}
 use Prim.Native.Nat.{min, max}
 use borrow.Author.Tests.{le-ltb}
-use Rattle.state.specs.Book.{zeroLease, inUse, laidOut, pushed, keptIf, idOf, byIdentifier, ordered, before, notBefore, named, other, insertOf, removeOf, keptAs, renewTo, replaceOf, live, liveOf, leaseAt, tableOf, leasesOf, tenantAt, putAt, raised, dropped, advanced, withClock, noLease, noLeases}
+use Rattle.state.specs.Book.{zeroLease, inUse, laidOut, pushed, keptIf, idOf, byIdentifier, ordered, before, notBefore, named, other, insertOf, removeOf, replaceOf, placeOf, live, liveOf, leaseAt, tableOf, leasesOf, tenantAt, putAt, raised, dropped, advanced, withClock, noLease, noLeases}
 
 -- what is laid out is read back
 pub read-back : (p : List Lease) → inUse (laidOut p) ≡ p
@@ -91,18 +92,6 @@ module _ (u : Lease → Bool) (now : TenantLeases) (l : Lease) where
 
 pub ruleset turns = (kept-in, kept-full, kept-out)
 
--- the same of a map
-module _ (g : Lease → Lease) (now : TenantLeases) (l : Lease) where
-  pub mapped-in : {x : Lease} → x ≡ g l → now .count < 16 → _≡_ {A = TenantLeases} (record { leases = set (now .leases) (now .count) x; count = now .count + 1 }) (keptAs g now l)
-  unfolding keptAs pushed pick
-  mapped-in e h =
-      ap {B = TenantLeases} (λ (y : Lease). record { leases = set (now .leases) (now .count) y; count = now .count + 1 }) e
-      ∙ sym (ap (λ (b : Bool). pick b (record { leases = set (now .leases) (now .count) (g l); count = now .count + 1 }) now) (lt-ltb (now .count) 16 h))
-
-  pub mapped-full : 16 ≤ now .count → now ≡ keptAs g now l
-  unfolding keptAs pushed pick
-  mapped-full h = sym (ap (λ (b : Bool). pick b (record { leases = set (now .leases) (now .count) (g l); count = now .count + 1 }) now) (le-ltb (now .count) 16 h))
-
 pub other-is : (i : List ℕ) (l : Lease) {q : Bool} → q ≡ named i l → not q ≡ other i l
 other-is i l e = ap not e
 
@@ -134,25 +123,28 @@ pub empty-is : (l : Lease) → l ≡ zeroLease → _≡_ {A = TenantLeases} (rec
 unfolding laidOut
 empty-is l e = ap {B = TenantLeases} (λ (x : Lease). record { leases = replicate 16 x; count = 0 }) e
 
--- ---- a map
-pub map-fold : (g : Lease → Lease) (ls p : List Lease) → length p + length ls ≤ 16 → fold (keptAs g) (laidOut p) ls ≡ laidOut (p ++ map g ls)
-unfolding keptAs
-map-fold g [] p h = ap laidOut (sym (append-nil p))
-map-fold g (l ∷ ls) p h =
-    ap (λ (x : TenantLeases). fold (keptAs g) x ls) (push-laid p (g l) (omega arith)) ∙ map-fold g ls (p ++ g l ∷ []) (omega (arith, length-append p (g l ∷ [])))
-    ∙ ap laidOut (append-assoc p (g l ∷ []) (map g ls))
+-- ---- replacement: the old lease out, the new one in
+pub removed-fewer : (i : List ℕ) (ls : List Lease) → placeOf i ls < length ls → length (removeOf i ls) < length ls
+unfolding placeBy removeOf filterBy pick
+removed-fewer i [] h = absurd (omega arith)
+removed-fewer i (x ∷ ls) h = go (named i x) h (removed-fewer i ls)
+  where
+    go : (c : Bool) → pick c 0 (suc (placeOf i ls)) < suc (length ls) → (placeOf i ls < length ls → length (filterBy (other i) ls) < length ls)
+        → length (pick (not c) (x ∷ filterBy (other i) ls) (filterBy (other i) ls)) < suc (length ls)
+    go true h ih = let k = filter-length (other i) ls in omega arith
+    go false h ih = let k = ih (omega arith) in omega arith
 
-pub replace-is : (i : List ℕ) (new : Lease) (x : ℕ) (l : List Lease) → length l ≡ 16 → fold (keptAs (renewTo i new)) (laidOut []) (take x l) ≡ laidOut (replaceOf i new (take x l))
+pub replace-room : (t left : TenantLeases) (i : List ℕ) → length (t .leases) ≡ 16 → left ≡ laidOut (removeOf i (inUse t)) → placeOf i (inUse t) < length (inUse t) → length (inUse left) < 16
+replace-room t left i g e h =
+    let k = removed-fewer i (inUse t) h in
+    let n = length-take (t .count) (t .leases) in
+    let m : length (inUse left) ≡ length (removeOf i (inUse t)) = ap (λ (x : TenantLeases). length (inUse x)) e ∙ ap length (read-back (removeOf i (inUse t))) in
+    omega arith
+
+pub replace-is : (t left : TenantLeases) (i : List ℕ) (new : Lease) (r : TenantLeases) → left ≡ laidOut (removeOf i (inUse t)) → r ≡ laidOut (insertOf new (inUse left)) → r ≡ laidOut (replaceOf i new (inUse t))
 unfolding replaceOf
-replace-is i new x l h = map-fold (renewTo i new) (take x l) [] (omega (arith, length-take x l))
-
-pub renew-yes : (i : List ℕ) (new l : Lease) (q : Bool) → q ≡ named i l → q ≡ true → new ≡ renewTo i new l
-unfolding renewTo pick
-renew-yes i new l q e h = ap (λ (b : Bool). pick b new l) (sym h ∙ e)
-
-pub renew-no : (i : List ℕ) (new l : Lease) (q : Bool) → q ≡ named i l → q ≡ false → l ≡ renewTo i new l
-unfolding renewTo pick
-renew-no i new l q e h = ap (λ (b : Bool). pick b new l) (sym h ∙ e)
+replace-is t left i new r e p =
+    p ∙ ap (λ (x : List Lease). laidOut (insertOf new x)) (ap inUse e ∙ read-back (removeOf i (inUse t)))
 
 -- ---- lengths and places
 pub length-in-use : (t : TenantLeases) (r : ℕ) → length (t .leases) ≡ 16 → r ≡ min (t .count) 16 → r ≡ length (inUse t)

@@ -1,5 +1,5 @@
 -- `decide` meets its contract: by decide-is.
-use Rattle.decision.specs.Laws.{decide-is}
+use Rattle.decision.specs.Laws.{decide-is, held-is}
 use borrow.Author.Needs.{needs}
 use Rattle.decision.proofs.decide.Statement.{statement}
 use Rattle.decision.proofs.decide.Tie as tie
@@ -8,9 +8,9 @@ pub decide-spec : {M : Type 1} → statement M
 decide-spec =
     tie.close
     (tie.spec
-    (λ c κs. search (decide-is, needs))
-    (λ c κs. search (decide-is, needs))
-    (λ c κs. search (decide-is, needs))
-    (λ c κs. search (decide-is, needs))
-    (λ c κs. search (decide-is, needs))
-    (λ c. search (decide-is, needs)))
+    (λ c κs. search (decide-is, held-is, needs))
+    (λ c κs. search (decide-is, held-is, needs))
+    (λ c κs. search (decide-is, held-is, needs))
+    (λ c κs. search (decide-is, held-is, needs))
+    (λ c κs. search (decide-is, held-is, needs))
+    (λ c. search (decide-is, held-is, needs)))

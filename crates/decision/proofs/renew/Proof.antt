@@ -1,5 +1,5 @@
 -- `renew` meets its contract: by replaced-is.
-use Rattle.decision.specs.Laws.{replaced-is}
+use Rattle.decision.specs.Laws.{old-at, replaced-is}
 use borrow.Author.Needs.{needs}
 use Rattle.decision.proofs.renew.Statement.{statement}
 use Rattle.decision.proofs.renew.Tie as tie
@@ -8,8 +8,8 @@ pub renew-spec : {M : Type 1} → statement M
 renew-spec =
     tie.close
     (tie.spec
-    (λ c κs. search (replaced-is, needs))
-    (λ c κs. search (replaced-is, needs))
-    (λ c κs. search (replaced-is, needs))
-    (λ c κs. search (replaced-is, needs))
-    (λ c. search (replaced-is, needs)))
+    (λ c κs. search (replaced-is, old-at, needs))
+    (λ c κs. search (replaced-is, old-at, needs))
+    (λ c κs. search (replaced-is, old-at, needs))
+    (λ c κs. search (replaced-is, old-at, needs))
+    (λ c. search (replaced-is, old-at, needs)))

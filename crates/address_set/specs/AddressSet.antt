@@ -90,6 +90,15 @@ unfoldable pub runs : List ℕ → List Run
 runs [] = []
 runs (x ∷ xs) = joined x (runs xs)
 
+-- the offsets that ranges name, one range after the other
+unfoldable pub onwards : ℕ → ℕ → List ℕ
+onwards x zero = []
+onwards x (suc n) = x ∷ onwards (suc x) n
+
+unfoldable pub namedBy : List Run → List ℕ
+namedBy [] = []
+namedBy (r ∷ rs) = onwards (r .first) (r .count) ++ namedBy rs
+
 -- the first range; one of no address where there is none
 unfoldable pub firstRun : List Run → Run
 firstRun [] = record { first = 0; count = 0 }

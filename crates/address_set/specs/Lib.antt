@@ -2,3 +2,4 @@ pub mod AddressSet
 pub mod Laws
 pub mod ListLaws
 pub mod RangeLaws
+pub mod Fewest

@@ -22,7 +22,7 @@ use Rattle.address_set.specs.Laws.{bit-le, bit-or, bit-and, bit-without,
 
 -- ---- rising offsets and their set
 
-rises-step : (m y : ℕ) (l : List ℕ) → risesFrom m (y ∷ l) ≡ true → (m ≤ y) × (risesFrom (suc y) l ≡ true)
+pub rises-step : (m y : ℕ) (l : List ℕ) → risesFrom m (y ∷ l) ≡ true → (m ≤ y) × (risesFrom (suc y) l ≡ true)
 unfolding risesFrom pick
 rises-step m y l e = go (ltb y m) refl e
   where

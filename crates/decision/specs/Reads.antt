@@ -5,9 +5,9 @@ use mathlib.Core.Bool.{Bool, true, false, _&&_}
 use mathlib.Core.List.{List, [], _∷_, _++_}
 use native.Mathlib.Omega.{arith}
 use lib.Dec.{leb, eqb}
-use lib.ListN.{length, getD, take, drop, replicate, length-take, length-drop}
+use lib.ListN.{length, getD, take, drop, replicate, length-append, length-take, length-drop, length-replicate}
 use lib.Seq.{drop-at}
-use borrow.Author.Tests.{eqb-false, ne-eqb}
+use borrow.Author.Tests.{eqb-false, leb-true, ne-eqb}
 use Rattle.lists.specs.Pick.{pick}
 use Rattle.lists.specs.All.{allBy, all-cons}
 use Rattle.lists.specs.Both.{and-parts}
@@ -74,3 +74,19 @@ read-id s server e =
       long = subst (λ (i : Identifier). (leb 2 (i .len) && leb (i .len) 32) ≡ true) q (id-long s at p);
       padded = subst (λ (i : Identifier). zeroFrom (i .len) (i .octets) ≡ true) q (id-padded s at p);
     }
+
+-- in an array of 32 octets
+pub read-array : (s : List ℕ) (server : ℕ) → readOf s .discard ≡ 0 → length (fieldsOf s server (readOf s .message) .id .octets) ≡ 32
+unfolding fieldsOf foundAt pick
+read-array s server e =
+    let at : ℕ = getD (readOf s .message .places) 3 0 in
+    let p = placed s (readOf s .message .places) 3 (read-good s) (read-named s e) in
+    let q : identifierAt s at ≡ identifierOf s (findOf (readOf s .message .places) 3) = ap (λ (b : Bool). identifierOf s (pick b Absent (At at))) (sym (ne-eqb at 0 (read-named s e))) in
+    let n : ℕ = lengthAt s at in
+    let few = leb-true n 32 (and-parts (leb 2 n) (leb n 32) (id-long s at p) .1) in
+    let f = p .fits in
+    let a = length-take n (drop (at + 4) s) in
+    let b = length-drop (at + 4) s in
+    let c = length-append (take n (drop (at + 4) s)) (replicate (32 - n) 0) in
+    let d = length-replicate {A = ℕ} (32 - n) 0 in
+    ap (λ (i : Identifier). length (i .octets)) (sym q) ∙ (let g : length (padded n (drop (at + 4) s)) ≡ 32 = omega arith in g)

@@ -1,8 +1,8 @@
 -- Demand 3: a new REQUEST within the unused reserve is granted on every sound book, and so after any list of calls.
-use Prim.Native.Nat.{ℕ, suc, _+_, _-_, _≤_, _<_, min}
+use Prim.Native.Nat.{ℕ, _+_, _-_, _≤_, _<_, min}
 use mathlib.Core.Path.{_≡_, refl, sym, ap, ap₂, _∙_}
 use mathlib.Core.Bool.{Bool, true, false, not, _&&_, _||_}
-use mathlib.Core.List.{List, [], _∷_, _++_}
+use mathlib.Core.List.{List, [], _∷_}
 use native.Mathlib.Omega.{arith}
 use lib.Dec.{ltb, eqb}
 use lib.ListN.{length}
@@ -10,11 +10,11 @@ use lib.Seq.{getD-set-same, getD-set-other}
 use borrow.Author.Tests.{eq-eqb, eqb-true, eqb-false, lt-ltb, le-ltb, ltb-true, ltb-false, le-leb}
 use Rattle.lists.specs.Pick.{pick}
 use Rattle.lists.specs.Both.{and-both, and-parts}
-use Rattle.address_set.specs.declared.Range.{Range}
-use Rattle.address_set.specs.AddressSet.{extend, joined, offsets, runs}
+use Rattle.address_set.specs.AddressSet.{offsets}
 use Rattle.message.specs.declared.Fields.{Fields}
 use Rattle.message.specs.Read.{readOf}
 use Rattle.reply.specs.Reply.{leaseAckOf}
+use Rattle.reply.specs.Ranges.{addressesIn}
 use Rattle.state.specs.declared.Book.{Book}
 use Rattle.state.specs.declared.Lease.{Lease}
 use Rattle.state.specs.declared.LeaseTable.{LeaseTable}
@@ -33,8 +33,9 @@ use Rattle.decision.specs.Kept.{Passed, passed}
 use Rattle.decision.specs.Parts.{askAt, badCounts, error0Of, error1Of, error2Of, error3Of, fitsNew, hasPeriod, holdsOf, isNew, knowsScope, leaseFrom, lengthOf, newAt, newOf, newWith, ownOf, proposalOf, recordedOf, resends, scopePlace, startOf, withLease}
 use Rattle.decision.specs.Decide.{changed, decideOf, judgedOf, leasedOf, settledOf}
 use Rattle.server.specs.Serve.{Answer, Call, answered, atClock, forServer, headOf, replyOf, serveOf, withReading}
-use Rattle.guarantee.specs.Statement.{Demand3, Granted, NewRequest, SoundBook, grantFor, leaseFor, namedBy, onwards, run, saysOf, stateAt, tableAt, tenantFor}
+use Rattle.guarantee.specs.Statement.{Demand3, Granted, NewRequest, SoundBook, askFor, grantFor, leaseFor, placeFor, run, saysOf, scopeFor, stateAt, tableAt, tenantFor, termsFor}
 use Rattle.guarantee.proofs.Inserted.{others-stay}
+use Rattle.guarantee.proofs.Ranges.{ack-names, grant-small, named-head, offsets-some, pool-fits}
 use Rattle.guarantee.proofs.Kept.{now-sound, run-sound, within-limits}
 
 -- ---- tests that go one way
@@ -136,6 +137,9 @@ module _ (s : State) (t : LeaseTable) (h : ℕ) (m : Fields) (v : Sound s (lease
     suffice : m .counts .least ≤ G .number
     suffice = let p = enough in let q = counts in omega arith
 
+    pub some : 1 ≤ G .number
+    some = let p = suffice in let q = counts in omega arith
+
     pub exact : length (offsets (G .addresses)) ≡ G .number
     exact = grant-exists s (leasesOf t) v (scopePlace s (m .scope .value)) here A refl known (let p = suffice in let q = counts in omega arith)
 
@@ -206,20 +210,6 @@ module _ (s : State) (t : LeaseTable) (h : ℕ) (m : Fields) (v : Sound s (lease
           clock = s .clock;
         })) (let e : (scopePlace s (m .scope .value) + 1) - 1 ≡ scopePlace s (m .scope .value) = omega arith in e)
 
--- ---- the ranges of a reply name just the offsets that they are made of
-ranges-name : (l : List ℕ) → namedBy (runs l) ≡ l
-unfolding namedBy onwards runs joined
-ranges-name [] = refl
-ranges-name (x ∷ l) = before (runs l) (ranges-name l)
-  where
-    next : (r : Range) (rs : List Range) (q : Bool) → eqb (r .first) (suc x) ≡ q → namedBy (extend q x r rs) ≡ x ∷ namedBy (r ∷ rs)
-    next r rs true e = ap (λ (y : ℕ). x ∷ (onwards y (r .count) ++ namedBy rs)) (sym (eqb-true (r .first) (suc x) e))
-    next r rs false e = refl
-
-    before : (rs : List Range) → namedBy rs ≡ l → namedBy (joined x rs) ≡ x ∷ l
-    before [] e = ap (λ (y : List ℕ). x ∷ y) e
-    before (r ∷ rs) e = next r rs (eqb (r .first) (suc x)) refl ∙ ap (λ (y : List ℕ). x ∷ y) e
-
 -- ---- the call
 module _ (b : Book) (c : Call) (v : SoundBook b) (r : NewRequest b c) where
   S : Sound (stateAt b c) (leasesOf (tableAt b c))
@@ -261,7 +251,20 @@ module _ (b : Book) (c : Call) (v : SoundBook b) (r : NewRequest b c) where
     reply =
         ap (λ (a : Answer). a .reply) served
         ∙ acknowledged (stateAt b c) (tableAt b c) (tenantFor b c) (saysOf b c) S (r .house) (r .request) (r .new) (r .error1) (r .error2) (r .soon) (r .fits) (r .left) (r .least);
-    ranges = ranges-name (offsets (grantFor b c .addresses));
+    names =
+        ap (λ (a : Answer). addressesIn (a .reply)) served
+        ∙ ap addressesIn (acknowledged (stateAt b c) (tableAt b c) (tenantFor b c) (saysOf b c) S (r .house) (r .request) (r .new) (r .error1) (r .error2) (r .soon) (r .fits) (r .left) (r .least))
+        ∙ ack-names (headOf (stateAt b c) (saysOf b c)) (termsFor b c)
+        (named-head (c .datagram) (stateAt b c) (r .read))
+        (offsets-some (grantFor b c .addresses)
+        (omega (
+          arith,
+          exact (stateAt b c) (tableAt b c) (tenantFor b c) (saysOf b c) S (r .house) (r .request) (r .new) (r .error1) (r .error2) (r .soon) (r .fits) (r .left) (r .least),
+          some (stateAt b c) (tableAt b c) (tenantFor b c) (saysOf b c) S (r .house) (r .request) (r .new) (r .error1) (r .error2) (r .soon) (r .fits) (r .left) (r .least),
+        )))
+        (grant-small (scopeFor b c) (tenantsIn (stateAt b c)) (leasesOf (tableAt b c)) (askFor b c))
+        (pool-fits (stateAt b c) (leasesOf (tableAt b c)) S (placeFor b c)
+        (here (stateAt b c) (tableAt b c) (tenantFor b c) (saysOf b c) S (r .house) (r .request) (r .new) (r .error1) (r .error2)));
     state = ap (λ (a : Answer). a .book .state) served;
     others = λ g n.
         ap (λ (a : Answer). ownOf (a .book .table) g) served ∙ ap inUse (getD-set-other (tableAt b c .tenants) (tenantFor b c) g (laidOut ls) (laidOut []) n);

@@ -1,5 +1,6 @@
 pub mod Discards
 pub mod Kept
 mod Inserted
+mod Ranges
 pub mod Granted
 mod Specimens

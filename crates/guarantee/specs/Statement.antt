@@ -1,17 +1,18 @@
 -- What the server guarantees: document 01's demand 3 ("Demand 3 in detail") as a single claim about any list of server calls, and demand 1
 -- about each call. A house is a tenant here, its share a reserve; tenants count from 0, a lease's scope from 1.
-use Prim.Native.Nat.{ℕ, zero, suc, _+_, _-_, _≤_, _<_, min}
+use Prim.Native.Nat.{ℕ, _+_, _-_, _≤_, _<_, min}
 use mathlib.Core.Path.{_≡_}
 use mathlib.Core.Bool.{true, false}
-use mathlib.Core.List.{List, [], _∷_, _++_}
-use lib.ListN.{length}
-use Rattle.address_set.specs.declared.Range.{Range}
-use Rattle.address_set.specs.AddressSet.{offsets, runs}
+use mathlib.Core.List.{List, [], _∷_, map}
+use lib.ListN.{getD, length}
+use Rattle.lists.specs.Filter.{filterBy, isIn}
+use Rattle.address_set.specs.AddressSet.{offsets}
 use Rattle.message.specs.declared.Fields.{Fields}
 use Rattle.message.specs.Read.{readOf}
 use Rattle.message.specs.Values.{fieldsOf}
 use Rattle.reply.specs.declared.Terms.{Terms}
 use Rattle.reply.specs.Reply.{leaseAckOf}
+use Rattle.reply.specs.Ranges.{addressesIn}
 use Rattle.state.specs.declared.Book.{Book}
 use Rattle.state.specs.declared.Lease.{Lease}
 use Rattle.state.specs.declared.LeaseTable.{LeaseTable}
@@ -138,15 +139,6 @@ termsFor b c = record {
   clock = stateAt b c .clock;
 }
 
--- the offsets that ranges name, one range after the other
-unfoldable pub onwards : ℕ → ℕ → List ℕ
-onwards x zero = []
-onwards x (suc n) = x ∷ onwards (suc x) n
-
-unfoldable pub namedBy : List Range → List ℕ
-namedBy [] = []
-namedBy (r ∷ rs) = onwards (r .first) (r .count) ++ namedBy rs
-
 pub record Granted (b : Book) (c : Call) (a : Answer) : Type 0 where
   -- "the outcome is 0"
   pub outcome : a .outcome ≡ 0
@@ -156,8 +148,9 @@ pub record Granted (b : Book) (c : Call) (a : Answer) : Type 0 where
   pub exact : length (offsets (grantFor b c .addresses)) ≡ grantFor b c .number
   -- "the reply is an ACK whose Ranges name just these k addresses"
   pub reply : a .reply ≡ leaseAckOf (headOf (stateAt b c) (saysOf b c)) (termsFor b c)
-  -- (option 10 of that reply is the octets of these ranges, each from the scope's lowest address on; a sound pool never wraps)
-  pub ranges : namedBy (runs (offsets (grantFor b c .addresses))) ≡ offsets (grantFor b c .addresses)
+  -- option 10, decoded from the reply's octets, names the scope's lowest address + offset for each address granted, and no other (a sound pool
+  -- never wraps)
+  pub names : addressesIn (a .reply) ≡ map (λ o. scopeFor b c .lowest + o) (offsets (grantFor b c .addresses))
   -- "the book afterwards has every other live lease unchanged": settings and clock, the other tenants' leases, and the tenant's own, among
   -- which the new lease now stands
   pub state : a .book .state ≡ stateAt b c

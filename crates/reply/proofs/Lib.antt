@@ -2,3 +2,4 @@ pub mod Writes
 pub mod ReadBack
 pub mod Short
 mod Specimens
+pub mod RangesBack

@@ -30,12 +30,12 @@ use Rattle.reply.proofs.Writes.{ranges-length, scopes-length}
 -- ---- what is stated
 
 -- the places of options that are written one after the other from `at` on
-pub placesFrom : ℕ → List Option → List ℕ → List ℕ
+unfoldable pub placesFrom : ℕ → List Option → List ℕ → List ℕ
 placesFrom at [] places = places
 placesFrom at (o ∷ os) places = placesFrom (at + 4 + length (o .value)) os (set places (o .code) at)
 
 -- the walk over the message came to its End, and found each option at its place
-pub ReadBack : ℕ → ℕ → List Option → Type 0
+unfoldable pub ReadBack : ℕ → ℕ → List Option → Type 0
 ReadBack kind xid options =
     walkOf (messageOctets kind xid options) ≡ record { at = 8 + length (optionsOctets options); stage = Done; places = placesFrom 8 options (replicate 17 0) }
 
@@ -65,7 +65,7 @@ back16 : (v : ℕ) (rest : List ℕ) → v < 65536 → at16 (octets16 v ++ rest)
 unfolding at16
 back16 v rest h = read-back16 v h
 
-at16-past : (xs ys : List ℕ) (n : ℕ) → at16 (xs ++ ys) (length xs + n) ≡ at16 ys n
+pub at16-past : (xs ys : List ℕ) (n : ℕ) → at16 (xs ++ ys) (length xs + n) ≡ at16 ys n
 unfolding at16
 at16-past xs ys n =
     ap₂ be16 (getD-append-add xs ys n 0) (ap (λ (k : ℕ). getD (xs ++ ys) k 0) (add-assoc (length xs) n 1) ∙ getD-append-add xs ys (n + 1) 0)

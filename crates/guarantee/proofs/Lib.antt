@@ -3,4 +3,6 @@ pub mod Kept
 mod Inserted
 mod Ranges
 pub mod Granted
+pub mod Replies
+pub mod Walked
 mod Specimens

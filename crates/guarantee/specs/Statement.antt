@@ -1,15 +1,18 @@
 -- What the server guarantees: document 01's demand 3 ("Demand 3 in detail") as a single claim about any list of server calls, and demand 1
 -- about each call. A house is a tenant here, its share a reserve; tenants count from 0, a lease's scope from 1.
-use Prim.Native.Nat.{ℕ, _+_, _-_, _≤_, _<_, min}
+use Prim.Native.Nat.{ℕ, _+_, _-_, _≤_, _<_, min, _^_}
 use mathlib.Core.Path.{_≡_}
 use mathlib.Core.Bool.{true, false}
 use mathlib.Core.List.{List, [], _∷_, map}
 use lib.ListN.{getD, length}
+use Rattle.lists.specs.All.{All}
 use Rattle.lists.specs.Filter.{filterBy, isIn}
 use Rattle.address_set.specs.AddressSet.{offsets}
 use Rattle.message.specs.declared.Fields.{Fields}
 use Rattle.message.specs.Read.{readOf}
 use Rattle.message.specs.Values.{fieldsOf}
+use Rattle.message.specs.Walk.{walkOf}
+use Rattle.message.specs.declared.Stage.the-variants.{Done}
 use Rattle.reply.specs.declared.Terms.{Terms}
 use Rattle.reply.specs.Reply.{leaseAckOf}
 use Rattle.reply.specs.Ranges.{addressesIn}
@@ -18,7 +21,7 @@ use Rattle.state.specs.declared.Lease.{Lease}
 use Rattle.state.specs.declared.LeaseTable.{LeaseTable}
 use Rattle.state.specs.declared.Scope.{Scope}
 use Rattle.state.specs.declared.State.{State}
-use Rattle.state.specs.Book.{advanced, idOf, insertOf, leasesOf, removeOf, scopeAt}
+use Rattle.state.specs.Book.{advanced, idOf, insertOf, leasesOf, liveOf, named, removeOf, scopeAt}
 use Rattle.soundness.specs.Sound.{holding, limitAt, soundB, tenantsIn}
 use Rattle.allocation.specs.declared.Ask.{Ask}
 use Rattle.allocation.specs.declared.Grant.{Grant}
@@ -178,3 +181,31 @@ pub record Answered (b : Book) (c : Call) (a : Answer) : Type 0 where
 
 unfoldable pub Demand1 : Type 0
 Demand1 = (b : Book) (c : Call) → Answered b c (serveOf b c)
+
+-- ---- demand 1, of the reply: "the server ends with a reply or a numbered discard"
+-- octets that are an OFFER, an ACK or a NAK, header and End at least, and fit any room that is not too short
+pub record IsReply (r : List ℕ) : Type 0 where
+  pub some : 12 ≤ length r
+  pub short : length r ≤ 512
+  pub type : isIn (getD r 1 0) (2 ∷ 5 ∷ 6 ∷ []) ≡ true
+
+unfoldable pub Demand1Replies : Type 0
+Demand1Replies = (b : Book) (c : Call) → serveOf b c .outcome ≡ 0 → IsReply (serveOf b c .reply)
+
+-- and the message layout rules accept it: the reader's walk over its options, each of a right length and none twice, comes to End in its last four
+-- octets. A lease's addresses are a set of 64 bits, as its type says of every book that code has
+unfoldable pub Narrow : Book → Type 0
+Narrow b = (g : ℕ) → All (λ l. l .addresses < 2 ^ 64) (ownOf (b .table) g)
+
+unfoldable pub Demand1Layout : Type 0
+Demand1Layout = (b : Book) (c : Call) → Narrow b → serveOf b c .outcome ≡ 0 → walkOf (serveOf b c .reply) .stage ≡ Done
+
+-- ---- demand 1, of the leases: "A discard .. changes no lease live at the clock it leaves in the book"
+-- tenant g's leases under identifier i that are live at a clock
+abbrev pub liveUnder : ℕ → LeaseTable → ℕ → List ℕ → List Lease
+liveUnder clock t g i = filterBy (named i) (liveOf clock (ownOf t g))
+
+unfoldable pub Demand1Leases : Type 0
+Demand1Leases =
+    (b : Book) (c : Call) → (serveOf b c .outcome ≡ 0 → ⊥) → (g : ℕ) (i : List ℕ)
+    → liveUnder (serveOf b c .book .state .clock) (serveOf b c .book .table) g i ≡ liveUnder (serveOf b c .book .state .clock) (b .table) g i

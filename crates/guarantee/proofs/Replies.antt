@@ -1,0 +1,163 @@
+-- Demand 1, of the reply and of the leases: outcome 0 has a reply, and a discard leaves the live leases.
+use Prim.Native.Nat.{ℕ, zero, suc, _+_, _-_, _≤_, _<_, _^_, max}
+use mathlib.Core.Path.{_≡_, refl, sym, ap, _∙_, subst}
+use mathlib.Core.Bool.{Bool, true, false, not, _&&_, _||_}
+use mathlib.Core.List.{List, [], _∷_, _++_, map}
+use native.Mathlib.Omega.{arith}
+use lib.Dec.{ltb, leb, eqb}
+use lib.ListN.{length, getD, take, length-append}
+use borrow.Author.Tests.{eqb-true, eqb-false, ltb-true}
+use Rattle.lists.specs.Pick.{pick}
+use Rattle.lists.specs.Filter.{filterBy, filter-none-out, filter-passes, isIn}
+use Rattle.message.specs.declared.Fields.{Fields}
+use Rattle.message.specs.Placed.{pick-cases}
+use Rattle.message.specs.Read.{readOf}
+use Rattle.message.specs.Values.{fieldsOf}
+use Rattle.reply.specs.Reply.{Option, infoAckOf, infoOptions, leaseAckOf, leaseOptions, messageOctets, nakOf, nakOptions, offerOf, option, optionOctets, optionsOctets, releaseAckOf, releaseOptions}
+use Rattle.reply.proofs.Short.{info-ack-short, lease-ack-short, nak-short, offer-short, release-ack-short}
+use Rattle.state.specs.declared.Book.{Book}
+use Rattle.state.specs.declared.Lease.{Lease}
+use Rattle.state.specs.declared.LeaseTable.{LeaseTable}
+use Rattle.state.specs.declared.State.{State}
+use Rattle.state.specs.Book.{advanced, dropped, inUse, laidOut, leasesOf, live, liveOf, raised, tableOf}
+use Rattle.state.specs.Layout.{table-back}
+use Rattle.soundness.specs.Sound.{soundB, tenantsIn}
+use Rattle.decision.specs.declared.Decided.{Decided}
+use Rattle.decision.specs.declared.Proposal.{Proposal}
+use Rattle.decision.specs.declared.Reply.{Reply}
+use Rattle.decision.specs.declared.Reply.the-variants.{Nothing, Offer, LeaseAck, ReleaseAck, InfoAck, Nak}
+use Rattle.decision.specs.declared.Verdict.{Verdict}
+use Rattle.decision.specs.Kept.{own-is}
+use Rattle.decision.specs.Reads.{read-array}
+use Rattle.decision.specs.Parts.{discardWith, error0Of, nakWith, ownOf, plainReply, proposalOf, refusalOf, withLease}
+use Rattle.decision.specs.Decide.{decideOf, judgedOf, leasedOf, plainOf, settledOf}
+use Rattle.server.specs.Serve.{Answer, Call, answered, atClock, byReply, discarded, forServer, headOf, infoOf, replyOf, serveOf, tenantOf, termsOf, withReading}
+use Rattle.guarantee.specs.Statement.{Answered, Demand1Replies, Demand1Leases, IsReply, bookAt, liveUnder}
+use Rattle.guarantee.proofs.Discards.{call-answered}
+
+-- ---- a verdict with outcome 0 sends something
+Sends : Reply → Type 0
+Sends Nothing = ⊥
+Sends Offer = Unit {0}
+Sends LeaseAck = Unit {0}
+Sends ReleaseAck = Unit {0}
+Sends InfoAck = Unit {0}
+Sends Nak = Unit {0}
+
+Q : Verdict → Type 0
+Q v = v .outcome ≡ 0 → Sends (v .reply)
+
+P : Decided → Type 0
+P d = Q (d .verdict)
+
+refused : (m : Fields) (e : ℕ) → Q (refusalOf m e)
+unfolding refusalOf discardWith nakWith Q Sends
+refused m e = pick-cases Q (eqb (m .kind) 1) _ _ (λ _ z. absurd (omega arith)) (λ _. pick-cases Q (eqb (m .kind) 8) _ _ (λ _ z. absurd (omega arith)) (λ _ z. tt))
+
+settled : (s : State) (t : LeaseTable) (h : ℕ) (m : Fields) (p : Proposal) → P (settledOf s t h m p)
+unfolding settledOf leasedOf withLease P Q Sends
+settled s t h m p =
+    pick-cases P (error0Of s p) _ _ (λ _. refused m 0)
+    (λ _. pick-cases P (eqb (m .kind) 1) _ _ (λ _ z. tt) (λ _. pick-cases P (eqb (m .kind) 3) _ _ (λ _ z. tt) (λ _ z. tt)))
+
+plainly : (t : LeaseTable) (h : ℕ) (m : Fields) → P (plainOf t h m)
+unfolding plainOf plainReply P Q Sends
+plainly t h m = pick-cases P (eqb (m .kind) 7) _ _ (λ _ z. tt) (λ _ z. tt)
+
+decided : (s : State) (t : LeaseTable) (h : ℕ) (m : Fields) → P (decideOf s t h m)
+unfolding decideOf judgedOf withLease P Q Sends
+decided s t h m =
+    pick-cases P _ _ _ (λ _ z. tt)
+    (λ _. pick-cases P _ _ _ (λ _. refused m 1)
+    (λ _. pick-cases P _ _ _ (λ _. refused m 2)
+    (λ _. pick-cases P _ _ _ (λ _. refused m 3)
+    (λ _. pick-cases P _ _ _ (λ _. settled s t h m _) (λ _. plainly t h m)))))
+
+-- ---- the octets of each reply
+message-long : (kind xid : ℕ) (os : List Option) → 12 ≤ length (messageOctets kind xid os)
+unfolding messageOctets
+message-long kind xid os = let e = length-append (optionsOctets os) (optionOctets (option 0 [])) in omega arith
+
+octets-of : (s : State) (m : Fields) (v : Verdict) (k : Reply) → length (m .id .octets) ≡ 32 → Sends k → IsReply (byReply s m v k)
+unfolding Sends offerOf leaseAckOf releaseAckOf infoAckOf nakOf messageOctets isIn pick
+octets-of s m v Nothing a h = absurd h
+octets-of s m v Offer a h = record { some = message-long 2 (m .xid) (leaseOptions (headOf s m) (termsOf s v)); short = offer-short (headOf s m) a (termsOf s v); type = refl }
+octets-of s m v LeaseAck a h = record { some = message-long 5 (m .xid) (leaseOptions (headOf s m) (termsOf s v)); short = lease-ack-short (headOf s m) a (termsOf s v); type = refl }
+octets-of s m v ReleaseAck a h = record { some = message-long 5 (m .xid) (releaseOptions (headOf s m)); short = release-ack-short (headOf s m) a; type = refl }
+octets-of s m v InfoAck a h = record { some = message-long 5 (m .xid) (infoOptions (headOf s m) (infoOf s m)); short = info-ack-short (headOf s m) a (infoOf s m) refl; type = refl }
+octets-of s m v Nak a h = record { some = message-long 6 (m .xid) (nakOptions (headOf s m) (v .error)); short = nak-short (headOf s m) a (v .error); type = refl }
+
+-- ---- the call
+module _ (b : Book) (c : Call) where
+  R : Answer → Type 0
+  R a = a .outcome ≡ 0 → IsReply (a .reply)
+
+  none : (n : ℕ) (x : Book) → 1 ≤ n → R (discarded n x)
+  unfolding R
+  none n x h z = absurd (omega arith)
+
+  sent : (h : ℕ) (m : Fields) → length (m .id .octets) ≡ 32 → R (answered (bookAt b c .state) m (decideOf (bookAt b c .state) (bookAt b c .table) h m))
+  unfolding R replyOf P Q
+  sent h m a z =
+      octets-of (bookAt b c .state) m (decideOf (bookAt b c .state) (bookAt b c .table) h m .verdict) (decideOf (bookAt b c .state) (bookAt b c .table) h m .verdict .reply) a
+      (decided (bookAt b c .state) (bookAt b c .table) h m z)
+
+  call-replies : R (serveOf b c)
+  unfolding serveOf atClock withReading forServer
+  call-replies =
+      pick-cases R (soundB (b .state) (b .table)) _ _
+      (λ _. pick-cases R (ltb (c .room) 512) _ _ (λ _. none 2 b (omega arith))
+      (λ _. pick-cases R (ltb (tenantOf (bookAt b c .state) (c .client)) (tenantsIn (bookAt b c .state))) _ _
+      (λ _. pick-cases R (eqb (readOf (c .datagram) .discard) 0) _ _
+      (λ e. pick-cases R _ _ _ (λ _. none 7 (bookAt b c) (omega arith))
+      (λ _. sent _ _ (read-array (c .datagram) (bookAt b c .state .server) (eqb-true (readOf (c .datagram) .discard) 0 e))))
+      (λ e. none (readOf (c .datagram) .discard) (bookAt b c) (let n = eqb-false (readOf (c .datagram) .discard) 0 e in some-number (readOf (c .datagram) .discard) n)))
+      (λ _. none 3 (bookAt b c) (omega arith))))
+      (λ _. none 1 b (omega arith))
+    where
+      some-number : (n : ℕ) → (n ≡ 0 → ⊥) → 1 ≤ n
+      some-number zero h = absurd (h refl)
+      some-number (suc n) h = omega arith
+
+pub demand1-replies : Demand1Replies
+unfolding Demand1Replies R
+demand1-replies b c = call-replies b c
+
+-- ---- the leases that are live at the clock
+live-twice : (k : ℕ) (ls : List Lease) → liveOf k (liveOf k ls) ≡ liveOf k ls
+unfolding liveOf
+live-twice k ls = filter-none-out (live k) (filterBy (live k) ls) (filter-passes (live k) ls)
+
+getD-live : (k : ℕ) (l : List (List Lease)) (g : ℕ) → getD (map (liveOf k) l) g [] ≡ liveOf k (getD l g [])
+unfolding liveOf filterBy
+getD-live k [] g = refl
+getD-live k (x ∷ l) zero = refl
+getD-live k (x ∷ l) (suc g) = getD-live k l g
+
+pub own-dropped : (k : ℕ) (t : LeaseTable) (g : ℕ) → ownOf (dropped k t) g ≡ liveOf k (ownOf t g)
+unfolding dropped
+own-dropped k t g =
+    own-is (tableOf (map (liveOf k) (leasesOf t))) g
+    ∙ ap (λ (l : List (List Lease)). getD l g []) (table-back (map (liveOf k) (leasesOf t)))
+    ∙ getD-live k (leasesOf t) g ∙ ap (liveOf k) (sym (own-is t g))
+
+advanced-live : (b : Book) (time g : ℕ) → liveOf (advanced b time .state .clock) (ownOf (advanced b time .table) g) ≡ liveOf (advanced b time .state .clock) (ownOf (b .table) g)
+unfolding advanced raised
+advanced-live b time g = ap (liveOf (max (b .state .clock) time)) (own-dropped (max (b .state .clock) time) (b .table) g) ∙ live-twice (max (b .state .clock) time) (ownOf (b .table) g)
+
+pub demand1-leases : Demand1Leases
+unfolding Demand1Leases
+demand1-leases b c n g i = go (serveOf b c .outcome) refl
+  where
+    v : Answered b c (serveOf b c)
+    v = call-answered b c
+
+    same : (x : Book) → serveOf b c .book ≡ x → liveOf (x .state .clock) (ownOf (x .table) g) ≡ liveOf (x .state .clock) (ownOf (b .table) g)
+        → liveUnder (serveOf b c .book .state .clock) (serveOf b c .book .table) g i ≡ liveUnder (serveOf b c .book .state .clock) (b .table) g i
+    same x e h = subst (λ (y : Book). liveUnder (y .state .clock) (y .table) g i ≡ liveUnder (y .state .clock) (b .table) g i) (sym e) (ap (filterBy _) h)
+
+    go : (k : ℕ) → serveOf b c .outcome ≡ k → liveUnder (serveOf b c .book .state .clock) (serveOf b c .book .table) g i ≡ liveUnder (serveOf b c .book .state .clock) (b .table) g i
+    go zero e = absurd (n e)
+    go (suc zero) e = same b (v .untouched e) refl
+    go (suc (suc zero)) e = same b (v .untouched-too e) refl
+    go (suc (suc (suc k))) e = same (bookAt b c) (v .advances (omega arith)) (advanced-live b (c .time) g)

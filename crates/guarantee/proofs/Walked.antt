@@ -1,0 +1,241 @@
+-- Demand 1, of the reply's layout: the reader's walk over a reply comes to its End.
+use Prim.Native.Nat.{ℕ, zero, suc, _+_, _-_, _≤_, _<_, _^_, min}
+use mathlib.Core.Path.{_≡_, refl, sym, ap, _∙_, subst}
+use mathlib.Core.Bool.{Bool, true, false, not, _&&_, _||_}
+use mathlib.Core.List.{List, [], _∷_}
+use native.Mathlib.Omega.{arith}
+use lib.Dec.{ltb, leb, eqb}
+use lib.ListN.{length, getD, take, length-take, List·getD-eq-default}
+use borrow.Author.Tests.{eqb-true, eqb-false, leb-true, ltb-true, ltb-false}
+use Rattle.lists.specs.Pick.{pick}
+use Rattle.lists.specs.All.{All}
+use Rattle.lists.specs.Both.{and-parts}
+use Rattle.lists.specs.Filter.{filterBy}
+use Rattle.address_set.specs.AddressSet.{offsets}
+use Rattle.message.specs.declared.Fields.{Fields}
+use Rattle.message.specs.declared.Stage.the-variants.{Done}
+use Rattle.message.specs.declared.Walk.{Walk}
+use Rattle.message.specs.Placed.{pick-cases}
+use Rattle.message.specs.Read.{readOf}
+use Rattle.message.specs.Walk.{walkOf}
+use Rattle.reply.specs.Reply.{infoAckOf, leaseAckOf, nakOf, offerOf, releaseAckOf, scopesOf}
+use Rattle.reply.proofs.ReadBack.{Named, ReadBack, info-back, lease-back, nak-back, release-back}
+use Rattle.state.specs.declared.Book.{Book}
+use Rattle.state.specs.declared.Lease.{Lease}
+use Rattle.state.specs.declared.LeaseTable.{LeaseTable}
+use Rattle.state.specs.declared.State.{State}
+use Rattle.state.specs.Book.{advanced, leaseAt, leasesOf, live, liveOf, placeOf, scopeAt, zeroLease}
+use Rattle.soundness.specs.Sound.{scopesIn, soundB, tenantsIn}
+use Rattle.soundness.specs.Book.{Sound, sound-lists}
+use Rattle.soundness.specs.Facts.{lease-at-facts}
+use Rattle.soundness.specs.Kept.{advanced-sound}
+use Rattle.allocation.specs.declared.Ask.{Ask}
+use Rattle.allocation.specs.Rule.{grantOf, suffices}
+use Rattle.allocation.specs.Granted.{grant-exists}
+use Rattle.decision.specs.declared.Decided.{Decided}
+use Rattle.decision.specs.declared.Proposal.{Proposal}
+use Rattle.decision.specs.declared.Reply.{Reply}
+use Rattle.decision.specs.declared.Reply.the-variants.{Nothing, Offer, LeaseAck, ReleaseAck, InfoAck, Nak}
+use Rattle.decision.specs.declared.Verdict.{Verdict}
+use Rattle.decision.specs.Kept.{Passed, own-is, passed}
+use Rattle.decision.specs.Parts.{askAt, badCounts, discardWith, error0Of, error1Of, error2Of, error3Of, fitsNew, hasPeriod, holdsOf, isNew, knowsScope, leaseFrom, nakWith, named, newAt, newOf, newWith, ownOf, plainReply, proposalOf, recordedOf, refusalOf, renewedOf, renewedTo, resends, scopePlace, withLease}
+use Rattle.decision.specs.Decide.{decideOf, judgedOf, leasedOf, plainOf, settledOf}
+use Rattle.server.specs.Serve.{Answer, Call, answered, atClock, byReply, discarded, forServer, headOf, infoOf, replyOf, serveOf, tenantOf, termsOf, withReading}
+use Rattle.guarantee.specs.Statement.{Demand1Layout, Narrow, bookAt}
+use Rattle.guarantee.proofs.Ranges.{grant-small, named-head, offsets-some}
+use Rattle.guarantee.proofs.Replies.{own-dropped}
+
+-- ---- a verdict with a lease has some addresses, in 64 bits
+Sized : ℕ → Type 0
+Sized n = (0 < n) × (n < 2 ^ 64)
+
+Leases : Reply → ℕ → Type 0
+Leases Nothing n = ⊥
+Leases Offer n = Sized n
+Leases LeaseAck n = Sized n
+Leases ReleaseAck n = Unit {0}
+Leases InfoAck n = Unit {0}
+Leases Nak n = Unit {0}
+
+Q : Verdict → Type 0
+Q v = v .outcome ≡ 0 → Leases (v .reply) (v .addresses)
+
+P : Decided → Type 0
+P d = Q (d .verdict)
+
+at-all : {A : Type 0} (F : A → Type 0) (l : List A) (i : ℕ) (d : A) → All F l → i < length l → F (getD l i d)
+unfolding All
+at-all F [] i d h p = absurd (omega arith)
+at-all F (x ∷ l) zero d h p = h .0
+at-all F (x ∷ l) (suc i) d h p = at-all F l i d (h .1) (omega arith)
+
+no : {A : Type 0} → true ≡ false → A
+no e = let z : _≡_ {A = ℕ} 0 1 = cc in absurd (omega arith)
+
+none-left : (a b : Bool) → (a || b) ≡ false → (a ≡ false) × (b ≡ false)
+none-left true b e = no e
+none-left false b e = (refl, e)
+
+not-not : (b : Bool) → not b ≡ false → b ≡ true
+not-not true e = refl
+not-not false e = no e
+
+refused : (m : Fields) (e : ℕ) → Q (refusalOf m e)
+unfolding refusalOf discardWith nakWith Q Leases
+refused m e = pick-cases Q (eqb (m .kind) 1) _ _ (λ _ z. absurd (omega arith)) (λ _. pick-cases Q (eqb (m .kind) 8) _ _ (λ _ z. absurd (omega arith)) (λ _ z. tt))
+
+-- an unused record is nobody's Resend
+no-resend : (m : Fields) → resends m zeroLease ≡ false
+unfolding resends
+no-resend m = go (eqb 0 (m .kind)) refl
+  where
+    none : (a : Bool) → (a && (false && eqb 0 (m .xid))) ≡ false
+    none true = refl
+    none false = refl
+
+    go : (b : Bool) → eqb 0 (m .kind) ≡ b → ((eqb (m .kind) 3 || eqb (m .kind) 4) && (eqb 0 (m .kind) && eqb 0 (m .xid))) ≡ false
+    go true e = ap (λ (k : ℕ). (eqb k 3 || eqb k 4) && (eqb 0 k && eqb 0 (m .xid))) (sym (eqb-true 0 (m .kind) e))
+    go false e = ap (λ (b : Bool). (eqb (m .kind) 3 || eqb (m .kind) 4) && (b && eqb 0 (m .xid))) e ∙ none (eqb (m .kind) 3 || eqb (m .kind) 4)
+
+module _ (s : State) (t : LeaseTable) (h : ℕ) (m : Fields) (v : Sound s (leasesOf t)) (known : h < tenantsIn s) (narrow : All (λ l. l .addresses < 2 ^ 64) (ownOf t h)) where
+  -- the lease that is held
+  held-sized : placeOf (named m) (ownOf t h) < length (ownOf t h) → Sized (recordedOf (ownOf t h) m .addresses)
+  unfolding recordedOf Sized
+  held-sized p =
+      let f = lease-at-facts s (leasesOf t) v h (placeOf (named m) (ownOf t h)) zeroLease (let e = ap length (own-is t h) in omega arith) in
+      let e : getD (ownOf t h) (placeOf (named m) (ownOf t h)) zeroLease .addresses ≡ getD (getD (leasesOf t) h []) (placeOf (named m) (ownOf t h)) zeroLease .addresses =
+      ap (λ (l : List Lease). getD l (placeOf (named m) (ownOf t h)) zeroLease .addresses) (own-is t h) in
+      let g = f .addresses in
+      (omega arith, at-all (λ l. l .addresses < 2 ^ 64) (ownOf t h) (placeOf (named m) (ownOf t h)) zeroLease narrow p)
+
+  is-held : holdsOf (ownOf t h) m ≡ true → Sized (recordedOf (ownOf t h) m .addresses)
+  unfolding holdsOf
+  is-held e = held-sized (ltb-true (placeOf (named m) (ownOf t h)) (length (ownOf t h)) e)
+
+  resent : resends m (recordedOf (ownOf t h) m) ≡ true → Sized (recordedOf (ownOf t h) m .addresses)
+  unfolding recordedOf
+  resent e = go (ltb (placeOf (named m) (ownOf t h)) (length (ownOf t h))) refl
+    where
+      go : (b : Bool) → ltb (placeOf (named m) (ownOf t h)) (length (ownOf t h)) ≡ b → Sized (recordedOf (ownOf t h) m .addresses)
+      go true p = held-sized (ltb-true (placeOf (named m) (ownOf t h)) (length (ownOf t h)) p)
+      go false p =
+          let z : recordedOf (ownOf t h) m ≡ zeroLease = List·getD-eq-default (ownOf t h) zeroLease {n = placeOf (named m) (ownOf t h)} (ltb-false (placeOf (named m) (ownOf t h)) (length (ownOf t h)) p) in
+          no (sym e ∙ ap (resends m) z ∙ no-resend m)
+
+  -- the lease that is proposed
+  module _ (error1 : error1Of s m (holdsOf (ownOf t h) m) ≡ false) (error3 : error3Of m (holdsOf (ownOf t h) m) ≡ false) where
+    left : Passed s m (holdsOf (ownOf t h) m)
+    left = passed s m (holdsOf (ownOf t h) m) error1
+
+    some : 0 < m .counts .least
+    unfolding badCounts
+    some = let q = eqb-false (m .counts .least) 0 (none-left (eqb (m .counts .least) 0) (ltb (m .counts .desired) (m .counts .least)) (left .counts) .0) in omega arith
+
+    new-sized : isNew m ≡ true → error0Of s (newOf s t h m) ≡ false → Sized (newOf s t h m .addresses)
+    unfolding error0Of newOf newAt newWith fitsNew suffices Sized knowsScope askAt
+    new-sized n e =
+        let here = ltb-true (scopePlace s (m .scope .value)) (scopesIn s) (and-parts (m .scope .there) (ltb (scopePlace s (m .scope .value)) (scopesIn s)) (left .scope n) .1) in
+        let f = none-left (ltb 4294967295 (newOf s t h m .end)) (not (newOf s t h m .fits)) (none-left (ltb (s .clock + 2592000) (newOf s t h m .start)) _ e .1) .1 in
+        let g = and-parts (ltb (length (ownOf t h)) 16) (leb (m .counts .least) (grantOf (scopeAt s (scopePlace s (m .scope .value))) (tenantsIn s) (leasesOf t) (askAt s h m (scopePlace s (m .scope .value))) .number)) (not-not _ f) in
+        let k = leb-true (m .counts .least) (grantOf (scopeAt s (scopePlace s (m .scope .value))) (tenantsIn s) (leasesOf t) (askAt s h m (scopePlace s (m .scope .value))) .number) (g .1) in
+        let o = some in
+        let x = grant-exists s (leasesOf t) v (scopePlace s (m .scope .value)) here (askAt s h m (scopePlace s (m .scope .value))) (omega arith) known (omega arith) in (
+          offsets-some (grantOf (scopeAt s (scopePlace s (m .scope .value))) (tenantsIn s) (leasesOf t) (askAt s h m (scopePlace s (m .scope .value))) .addresses) (omega arith),
+          grant-small (scopeAt s (scopePlace s (m .scope .value))) (tenantsIn s) (leasesOf t) (askAt s h m (scopePlace s (m .scope .value))),
+        )
+
+    error3-held : m .kind ≡ 4 → not (holdsOf (ownOf t h) m) ≡ false
+    unfolding error3Of
+    error3-held k = sym (ap (λ (n : ℕ). (eqb n 4 || eqb n 7) && not (holdsOf (ownOf t h) m)) k) ∙ error3
+
+    renewed-sized : Sized (recordedOf (ownOf t h) m .addresses) → Sized (renewedOf s t h m (recordedOf (ownOf t h) m) .addresses)
+    unfolding renewedOf renewedTo
+    renewed-sized z = z
+
+    proposed : hasPeriod m ≡ true → error0Of s (proposalOf s t h m (recordedOf (ownOf t h) m)) ≡ false → Sized (proposalOf s t h m (recordedOf (ownOf t h) m) .addresses)
+    unfolding proposalOf hasPeriod
+    proposed period = pick-cases (λ (p : Proposal). error0Of s p ≡ false → Sized (p .addresses)) (isNew m) _ _ new-sized (λ n e. old (renewing (isNew m) n period))
+      where
+        renewing : (b : Bool) → b ≡ false → (b || eqb (m .kind) 4) ≡ true → eqb (m .kind) 4 ≡ true
+        renewing true e p = no e
+        renewing false e p = p
+
+        old : eqb (m .kind) 4 ≡ true → Sized (renewedOf s t h m (recordedOf (ownOf t h) m) .addresses)
+        old e = renewed-sized (is-held (not-not (holdsOf (ownOf t h) m) (error3-held (eqb-true (m .kind) 4 e))))
+
+    settled : hasPeriod m ≡ true → P (settledOf s t h m (proposalOf s t h m (recordedOf (ownOf t h) m)))
+    unfolding settledOf leasedOf withLease leaseFrom P Q Leases
+    settled period =
+        pick-cases P (error0Of s (proposalOf s t h m (recordedOf (ownOf t h) m))) _ _ (λ _. refused m 0)
+        (λ e. pick-cases P (eqb (m .kind) 1) _ _ (λ _ z. proposed period e) (λ _. pick-cases P (eqb (m .kind) 3) _ _ (λ _ z. proposed period e) (λ _ z. proposed period e)))
+
+  plainly : P (plainOf t h m)
+  unfolding plainOf plainReply P Q Leases
+  plainly = pick-cases P (eqb (m .kind) 7) _ _ (λ _ z. tt) (λ _ z. tt)
+
+  decided : P (decideOf s t h m)
+  unfolding decideOf judgedOf withLease P Q Leases
+  decided =
+      pick-cases P (resends m (recordedOf (ownOf t h) m)) _ _ (λ e z. resent e)
+      (λ _. pick-cases P (error1Of s m (holdsOf (ownOf t h) m)) _ _ (λ _. refused m 1)
+      (λ one. pick-cases P (error2Of s m) _ _ (λ _. refused m 2)
+      (λ _. pick-cases P (error3Of m (holdsOf (ownOf t h) m)) _ _ (λ _. refused m 3)
+      (λ three. pick-cases P (hasPeriod m) _ _ (λ period. settled one three period) (λ _. plainly)))))
+
+-- ---- the octets
+octets-walk : (s : State) (m : Fields) (v : Verdict) (k : Reply) → Named (headOf s m) → Leases k (v .addresses) → walkOf (byReply s m v k) .stage ≡ Done
+unfolding Leases Sized ReadBack offerOf leaseAckOf releaseAckOf infoAckOf nakOf
+octets-walk s m v Nothing n h = absurd h
+octets-walk s m v Offer n h = ap (λ (w : Walk). w .stage) (lease-back (headOf s m) n 2 (termsOf s v) (h .0) (h .1))
+octets-walk s m v LeaseAck n h = ap (λ (w : Walk). w .stage) (lease-back (headOf s m) n 5 (termsOf s v) (h .0) (h .1))
+octets-walk s m v ReleaseAck n h = ap (λ (w : Walk). w .stage) (release-back (headOf s m) n)
+octets-walk s m v InfoAck n h = ap (λ (w : Walk). w .stage) (info-back (headOf s m) n (infoOf s m) (let e = length-take (infoOf s m .count) (infoOf s m .scopes) in omega arith))
+octets-walk s m v Nak n h = ap (λ (w : Walk). w .stage) (nak-back (headOf s m) n (v .error))
+
+all-filter : {A : Type 0} (F : A → Type 0) (u : A → Bool) (l : List A) → All F l → All F (filterBy u l)
+unfolding All filterBy pick
+all-filter F u [] h = tt
+all-filter {A} F u (x ∷ l) h = go (u x) (all-filter F u l (h .1))
+  where
+    go : (b : Bool) → All F (filterBy u l) → All F (pick b (x ∷ filterBy u l) (filterBy u l))
+    go true r = (h .0, r)
+    go false r = r
+
+module _ (b : Book) (c : Call) (narrow : Narrow b) where
+  R : Answer → Type 0
+  R a = a .outcome ≡ 0 → walkOf (a .reply) .stage ≡ Done
+
+  now-narrow : (g : ℕ) → All (λ l. l .addresses < 2 ^ 64) (ownOf (bookAt b c .table) g)
+  unfolding advanced liveOf Narrow
+  now-narrow g = subst (λ (x : List Lease). All (λ l. l .addresses < 2 ^ 64) x) (sym (own-dropped _ (b .table) g)) (all-filter (λ l. l .addresses < 2 ^ 64) _ (ownOf (b .table) g) (narrow g))
+
+  none : (n : ℕ) (x : Book) → 1 ≤ n → R (discarded n x)
+  unfolding R
+  none n x h z = absurd (omega arith)
+
+  some-number : (n : ℕ) → (n ≡ 0 → ⊥) → 1 ≤ n
+  some-number zero h = absurd (h refl)
+  some-number (suc n) h = omega arith
+
+  sent : soundB (b .state) (b .table) ≡ true → (h : ℕ) (m : Fields) → h < tenantsIn (bookAt b c .state) → Named (headOf (bookAt b c .state) m) → R (answered (bookAt b c .state) m (decideOf (bookAt b c .state) (bookAt b c .table) h m))
+  unfolding R replyOf P Q
+  sent v h m known n z =
+      octets-walk (bookAt b c .state) m (decideOf (bookAt b c .state) (bookAt b c .table) h m .verdict) (decideOf (bookAt b c .state) (bookAt b c .table) h m .verdict .reply) n
+      (decided (bookAt b c .state) (bookAt b c .table) h m (sound-lists (bookAt b c .state) (bookAt b c .table) (advanced-sound b (c .time) v)) known (now-narrow h) z)
+
+  call-walk : R (serveOf b c)
+  unfolding serveOf atClock withReading forServer
+  call-walk =
+      pick-cases R (soundB (b .state) (b .table)) _ _
+      (λ v. pick-cases R (ltb (c .room) 512) _ _ (λ _. none 2 b (omega arith))
+      (λ _. pick-cases R (ltb (tenantOf (bookAt b c .state) (c .client)) (tenantsIn (bookAt b c .state))) _ _
+      (λ known. pick-cases R (eqb (readOf (c .datagram) .discard) 0) _ _
+      (λ e. pick-cases R _ _ _ (λ _. none 7 (bookAt b c) (omega arith))
+      (λ _. sent v _ _ (ltb-true _ _ known) (named-head (c .datagram) (bookAt b c .state) (eqb-true (readOf (c .datagram) .discard) 0 e))))
+      (λ e. none (readOf (c .datagram) .discard) (bookAt b c) (some-number (readOf (c .datagram) .discard) (eqb-false (readOf (c .datagram) .discard) 0 e))))
+      (λ _. none 3 (bookAt b c) (omega arith))))
+      (λ _. none 1 b (omega arith))
+
+pub demand1-layout : Demand1Layout
+unfolding Demand1Layout R
+demand1-layout b c n = call-walk b c n

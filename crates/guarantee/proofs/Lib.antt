@@ -5,4 +5,5 @@ mod Ranges
 pub mod Granted
 pub mod Replies
 pub mod Walked
+pub mod Offers
 mod Specimens

@@ -4,7 +4,7 @@ use Prim.Native.Nat.{ℕ, _+_, _-_, _≤_, _<_, min, _^_}
 use mathlib.Core.Path.{_≡_}
 use mathlib.Core.Bool.{true, false}
 use mathlib.Core.List.{List, [], _∷_, map}
-use lib.ListN.{getD, length}
+use lib.ListN.{getD, length, set}
 use Rattle.lists.specs.All.{All}
 use Rattle.lists.specs.Filter.{filterBy, isIn}
 use Rattle.address_set.specs.AddressSet.{offsets}
@@ -26,7 +26,9 @@ use Rattle.soundness.specs.Sound.{holding, limitAt, soundB, tenantsIn}
 use Rattle.allocation.specs.declared.Ask.{Ask}
 use Rattle.allocation.specs.declared.Grant.{Grant}
 use Rattle.allocation.specs.Rule.{grantOf, unusedReserve}
-use Rattle.decision.specs.Parts.{error1Of, error2Of, holdsOf, lengthOf, ownOf, recordedOf, resends, scopePlace, startOf}
+use Rattle.decision.specs.Decide.{decideOf}
+use Rattle.decision.specs.Ensured.{asOffer}
+use Rattle.decision.specs.Parts.{discardWith, error1Of, error2Of, holdsOf, lengthOf, ownOf, recordedOf, resends, scopePlace, startOf}
 use Rattle.server.specs.Serve.{Answer, Call, headOf, serveOf, tenantOf}
 
 -- ---- the list of calls
@@ -209,3 +211,26 @@ unfoldable pub Demand1Leases : Type 0
 Demand1Leases =
     (b : Book) (c : Call) → (serveOf b c .outcome ≡ 0 → ⊥) → (g : ℕ) (i : List ℕ)
     → liveUnder (serveOf b c .book .state .clock) (serveOf b c .book .table) g i ≡ liveUnder (serveOf b c .book .state .clock) (b .table) g i
+
+-- ---- the OFFER rule: a DISCOVER "without option 2 draws an OFFER exactly if the same message sent as a REQUEST would get a new grant now, with
+-- that period and those ranges"
+-- the same message sent as a REQUEST: the datagram with its type octet set to 3
+abbrev pub asRequest : List ℕ → List ℕ
+asRequest d = set d 1 3
+
+abbrev pub wordsOf : State → List ℕ → Fields
+wordsOf s d = fieldsOf d (s .server) (readOf d .message)
+
+-- a datagram that is read and has no option 2: as a REQUEST it is read too; and where that REQUEST is no Resend, the DISCOVER's verdict is the
+-- REQUEST's with an OFFER for its ACK, so of the same scope, period and addresses, and discard 8 where that draws a NAK;
+-- where it is a Resend, which is no new grant, the DISCOVER is discard 8 too
+unfoldable pub OfferAt : State → LeaseTable → ℕ → List ℕ → Type 0
+OfferAt s t h d =
+    readOf d .discard ≡ 0 → getD (readOf d .message .places) 2 0 ≡ 0
+    → (readOf (asRequest d) .discard ≡ 0)
+    × ((resends (wordsOf s (asRequest d)) (recordedOf (ownOf t h) (wordsOf s (asRequest d))) ≡ false
+    → decideOf s t h (wordsOf s d) .verdict ≡ asOffer (decideOf s t h (wordsOf s (asRequest d)) .verdict .reply) (decideOf s t h (wordsOf s (asRequest d)) .verdict))
+    × (resends (wordsOf s (asRequest d)) (recordedOf (ownOf t h) (wordsOf s (asRequest d))) ≡ true → decideOf s t h (wordsOf s d) .verdict ≡ discardWith 8))
+
+unfoldable pub OfferRule : Type 0
+OfferRule = (s : State) (t : LeaseTable) (h : ℕ) (d : List ℕ) → getD d 1 0 ≡ 1 → OfferAt s t h d

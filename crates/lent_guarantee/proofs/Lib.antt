@@ -1,4 +1,5 @@
 pub mod Same
 pub mod Guaranteed
 pub mod RoundTrip
+pub mod Written
 mod Specimens

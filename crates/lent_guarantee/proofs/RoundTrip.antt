@@ -22,11 +22,11 @@ use Rattle.records.specs.Steps.{on-whole}
 use Rattle.lent_guarantee.specs.Statement.{LentRoundTrip}
 
 -- ---- a reading without a refusal
-abbrev Filed : List ℕ → LentReading
+abbrev pub Filed : List ℕ → LentReading
 Filed f = record { refusal = 0; state = readOf f .state; leases = recordsOf (readOf f .table) }
 
 module _ (f : List ℕ) (s : State) (ls : List Lease) where
-  read-whole : readLent f s ls .refusal ≡ 0 → (readOf f .refusal ≡ 0) × (readLent f s ls ≡ Filed f)
+  pub read-whole : readLent f s ls .refusal ≡ 0 → (readOf f .refusal ≡ 0) × (readLent f s ls ≡ Filed f)
   unfolding readWith pick
   read-whole e = go (eqb (readOf f .refusal) 0) refl (whole (length ls)) e
     where

@@ -4,7 +4,7 @@ use Prim.Native.Nat.{ℕ, _≤_}
 use mathlib.Core.Path.{_≡_}
 use mathlib.Core.Bool.{true}
 use mathlib.Core.List.{List, [], _∷_, _++_}
-use lib.ListN.{drop, length}
+use lib.ListN.{drop, length, take}
 use Rattle.state.specs.declared.Book.{Book}
 use Rattle.state.specs.declared.Lease.{Lease}
 use Rattle.state.specs.declared.State.{State}
@@ -12,6 +12,7 @@ use Rattle.soundness.specs.Sound.{soundB}
 use Rattle.server.specs.Serve.{Answer, Call, serveOf}
 use Rattle.guarantee.specs.Statement.{bookAt, Granted, NewRequest, WithinLimits}
 use Rattle.state_file.specs.FormatLaws.{Octets}
+use Rattle.state_file.specs.Typed.{Typed}
 use Rattle.records.specs.Records.{recordsOf, tableFrom}
 use Rattle.records.specs.Lent.{bookFrom, LentAnswer, readLent, roomLent, serveLent, writtenLent}
 
@@ -73,3 +74,27 @@ LentRoundTrip =
     (f : List ℕ) (s : State) (ls : List Lease) (room : List ℕ) → Octets f → readLent f s ls .refusal ≡ 0 → length f ≤ length room
     → (writtenLent (readLent f s ls .state) (readLent f s ls .leases) (length room) ≡ record { refusal = 0; length = length f })
     × (roomLent (readLent f s ls .state) (readLent f s ls .leases) room ≡ f ++ drop (length f) room)
+
+-- and the other way: what the writer writes of any state and records is read back as that state and those records. `Typed` is what the types of
+-- the records say of their numbers and arrays, as of every state and records that code has
+unfoldable pub LentWriteRead : Type 0
+LentWriteRead =
+    (s : State) (ls : List Lease) (room : List ℕ) (s′ : State) (ls′ : List Lease) → Typed s (tableFrom ls) → length ls′ ≡ 128 → writtenLent s ls (length room) .refusal ≡ 0
+    → readLent (take (writtenLent s ls (length room) .length) (roomLent s ls room)) s′ ls′ ≡ record { refusal = 0; state = s; leases = ls }
+
+-- ---- after any list of calls on a sound book the writer refuses nothing in a room for the largest file: neither 22 nor 23 can occur
+unfoldable pub LentWritten : Type 0
+LentWritten =
+    (l : Lent) → SoundLent l → (cs : List Call) (n : ℕ) → Typed (runLent l cs .state) (tableFrom (runLent l cs .leases)) → 14628 ≤ n
+    → writtenLent (runLent l cs .state) (runLent l cs .leases) n .refusal ≡ 0
+
+-- the state and the records that a file was read into
+abbrev pub afterFile : List ℕ → State → List Lease → Lent
+afterFile f s ls = record { state = readLent f s ls .state; leases = readLent f s ls .leases }
+
+-- so after any list of calls on an accepted file, read into any lent state and 128 records
+unfoldable pub FileWritten : Type 0
+FileWritten =
+    (f : List ℕ) (s : State) (ls : List Lease) (cs : List Call) (n : ℕ) → Octets f → readLent f s ls .refusal ≡ 0
+    → Typed (runLent (afterFile f s ls) cs .state) (tableFrom (runLent (afterFile f s ls) cs .leases)) → 14628 ≤ n
+    → writtenLent (runLent (afterFile f s ls) cs .state) (runLent (afterFile f s ls) cs .leases) n .refusal ≡ 0

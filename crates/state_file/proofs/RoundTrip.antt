@@ -112,3 +112,10 @@ written-read st tb room v e = go (soundB st tb) refl (ltb (length room) (length 
     go true a true e = absurd (omega arith)
     go true a false e = ap readOf (take-append-seam (octetsOf st tb) (drop (length (octetsOf st tb)) room)) ∙ write-read st tb v a
     go false a q e = absurd (omega arith)
+
+-- and in a room for the largest file the writer refuses no sound book
+pub never-refused : (st : State) (tb : LeaseTable) (n : ℕ) → Typed st tb → soundB st tb ≡ true → 14628 ≤ n → writtenOf st tb n ≡ record { refusal = 0; length = length (octetsOf st tb) }
+unfolding writtenOf pick
+never-refused st tb n v e h =
+    ap₂ (λ (x y : Bool). pick x (pick y (record { refusal = 23; length = 0 }) (record { refusal = 0; length = length (octetsOf st tb) })) (record { refusal = 22; length = 0 }))
+    e (le-ltb n (length (octetsOf st tb)) (let k = book-short st tb v e in omega arith))

@@ -1,0 +1,85 @@
+-- What the writer writes of lent state and records is read back as they are, and after any list of calls it refuses nothing.
+use Prim.Native.Nat.{ℕ, _≤_}
+use mathlib.Core.Path.{_≡_, refl, sym, ap, ap₂, _∙_, subst}
+use mathlib.Core.Bool.{Bool, true, false}
+use mathlib.Core.List.{List, [], _∷_, _++_}
+use native.Mathlib.Omega.{arith}
+use lib.Dec.{eqb}
+use lib.ListN.{length, take}
+use borrow.Author.Tests.{eqb-true, eqb-false}
+use Rattle.lists.specs.Pick.{pick}
+use Rattle.state.specs.declared.Lease.{Lease}
+use Rattle.state.specs.declared.LeaseTable.{LeaseTable}
+use Rattle.state.specs.declared.State.{State}
+use Rattle.soundness.specs.Sound.{soundB}
+use Rattle.server.specs.Serve.{Call}
+use Rattle.state_file.specs.declared.Loaded.{Loaded}
+use Rattle.state_file.specs.declared.Written.{Written}
+use Rattle.state_file.specs.StateFile.{accepted, readOf, roomAfter, writtenOf}
+use Rattle.state_file.specs.FormatLaws.{Octets}
+use Rattle.state_file.specs.Typed.{Typed}
+use Rattle.state_file.proofs.RoundTrip.{never-refused, read-write, written-read}
+use Rattle.records.specs.Back.{records-back}
+use Rattle.records.specs.Files.{file-back, file-long}
+use Rattle.records.specs.Records.{recordsOf, tableFrom}
+use Rattle.records.specs.Lent.{LentReading, readLent, readWith, roomLent, roomWith, whole, writtenLent, writtenWith}
+use Rattle.records.specs.Steps.{off-whole, on-whole}
+use Rattle.lent_guarantee.specs.Statement.{FileWritten, Lent, LentDemand3, LentWriteRead, LentWritten, SoundLent, afterFile, runLent}
+use Rattle.lent_guarantee.proofs.Guaranteed.{lent-demand3}
+use Rattle.lent_guarantee.proofs.RoundTrip.{Filed, read-whole}
+
+-- ---- written and read again
+-- a reading that is accepted, on 128 records
+read-as : (f : List ℕ) (s t : State) (b : LeaseTable) (ls : List Lease) → length ls ≡ 128 → readOf f ≡ accepted t b → readLent f s ls ≡ record { refusal = 0; state = t; leases = recordsOf b }
+unfolding readWith accepted pick
+read-as f s t b ls long e =
+    ap (λ (r : Loaded). readWith (length ls) r s ls) e ∙ sym (on-whole (record { refusal = 0; state = t; leases = recordsOf b }) (record { refusal = 21; state = s; leases = ls }) long)
+
+-- the writer refuses another number of records
+written-whole : (s : State) (ls : List Lease) (n : ℕ) → writtenLent s ls n .refusal ≡ 0 → length ls ≡ 128
+unfolding writtenWith
+written-whole s ls n e = go (eqb (length ls) 128) refl
+  where
+    go : (b : Bool) → eqb (length ls) 128 ≡ b → length ls ≡ 128
+    go true p = eqb-true (length ls) 128 p
+    go false p =
+        let q : writtenLent s ls n ≡ record { refusal = 22; length = 0 } = sym (off-whole (writtenOf s (tableFrom ls) n) (record { refusal = 22; length = 0 }) (eqb-false (length ls) 128 p)) in
+        let z : writtenLent s ls n .refusal ≡ 22 = ap (λ (w : Written). w .refusal) q in
+        absurd (omega arith)
+
+pub lent-write-read : LentWriteRead
+unfolding LentWriteRead writtenWith roomWith
+lent-write-read s ls room s′ ls′ v long e =
+    let here : length ls ≡ 128 = written-whole s ls (length room) e in
+    let w : writtenOf s (tableFrom ls) (length room) ≡ writtenLent s ls (length room) = on-whole (writtenOf s (tableFrom ls) (length room)) (record { refusal = 22; length = 0 }) here in
+    let r : roomAfter s (tableFrom ls) room ≡ roomLent s ls room = on-whole (roomAfter s (tableFrom ls) room) room here in
+    ap₂ (λ (x : Written) (y : List ℕ). readLent (take (x .length) y) s′ ls′) (sym w) (sym r)
+    ∙ read-as (take (writtenOf s (tableFrom ls) (length room) .length) (roomAfter s (tableFrom ls) room)) s′ s (tableFrom ls) ls′ long
+    (written-read s (tableFrom ls) room v (ap (λ (x : Written). x .refusal) w ∙ e))
+    ∙ ap {B = LentReading} (λ (x : List Lease). record { refusal = 0; state = s; leases = x }) (records-back ls here)
+
+-- ---- after any list of calls
+sound-written : (l : Lent) → SoundLent l → (n : ℕ) → Typed (l .state) (tableFrom (l .leases)) → 14628 ≤ n → writtenLent (l .state) (l .leases) n .refusal ≡ 0
+unfolding writtenWith
+sound-written l v n t h =
+    ap (λ (w : Written). w .refusal)
+    (sym (on-whole (writtenOf (l .state) (tableFrom (l .leases)) n) (record { refusal = 22; length = 0 }) (v .whole)) ∙ never-refused (l .state) (tableFrom (l .leases)) n t (v .sound) h)
+
+pub lent-written : LentWritten
+unfolding LentWritten LentDemand3
+lent-written l v cs n t h = sound-written (runLent l cs) (lent-demand3 l v cs .0) n t h
+
+-- an accepted file's state and records are sound
+file-sound : (f : List ℕ) (s : State) (ls : List Lease) → Octets f → readLent f s ls .refusal ≡ 0 → SoundLent (afterFile f s ls)
+unfolding accepted
+file-sound f s ls o e =
+    let r = read-whole f s ls e in
+    let b = read-write f (readOf f .state) (readOf f .table) o (ap {B = Loaded} (λ (n : ℕ). record { refusal = n; state = readOf f .state; table = readOf f .table }) (r .0)) in
+    record {
+      whole = ap (λ (x : LentReading). length (x .leases)) (r .1) ∙ file-long f (r .0);
+      sound = ap (λ (x : LentReading). soundB (x .state) (tableFrom (x .leases))) (r .1) ∙ ap (soundB (readOf f .state)) (file-back f (r .0)) ∙ b .0;
+    }
+
+pub file-written : FileWritten
+unfolding FileWritten LentWritten
+file-written f s ls cs n o e t h = lent-written (afterFile f s ls) (file-sound f s ls o e) cs n t h

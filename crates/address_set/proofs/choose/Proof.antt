@@ -8,10 +8,10 @@ pub choose-spec : {M : Type 1} → statement M
 choose-spec =
     tie.close
     (tie.spec
-    (λ c κs. search (choose-both, choose-own, needs))
+    (λ c κs. search needs)
     (λ c. search (choose-both, choose-own, needs))
-    (λ c κs. search (choose-both, choose-own, needs))
+    (λ c κs. search needs)
     (λ c. search (choose-both, choose-own, needs))
-    (λ c κs. search (choose-both, choose-own, needs))
+    (λ c κs. search needs)
     (λ c. search (choose-both, choose-own, needs))
-    (λ c. search (choose-both, choose-own, needs)))
+    (λ c. search (choose-own, needs)))

@@ -9,6 +9,6 @@ first-n-spec =
     tie.close
     (tie.spec
     (λ c. search (below-ones, shift-some, shift-less, all-ones, needs))
-    (λ c. search (below-ones, shift-some, shift-less, all-ones, needs))
-    (λ c. search (below-ones, shift-some, shift-less, all-ones, needs))
-    (λ c. search (below-ones, shift-some, shift-less, all-ones, needs)))
+    (λ c. search (shift-some, needs))
+    (λ c. search (below-ones, shift-less, needs))
+    (λ c. search (below-ones, all-ones, needs)))

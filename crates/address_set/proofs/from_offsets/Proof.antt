@@ -22,8 +22,8 @@ from-offsets-spec =
     μ-loop
     (λ c. search (folds, read-is, needs))
     (λ c. search (folds, read-is, needs))
-    (λ c κs. search (folds, read-is, needs))
+    (λ c κs. search (folds, needs))
     (λ c. search (folds, read-is, needs))
     (λ c. search (folds, read-is, needs))
-    (λ c. search (folds, read-is, needs))
-    (λ c. search (folds, read-is, needs)))
+    (λ c. search (folds, needs))
+    (λ c. search (folds, needs)))

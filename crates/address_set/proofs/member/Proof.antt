@@ -7,11 +7,11 @@ use Rattle.address_set.proofs.member.Tie as tie
 
 returns : tie.Need-returns
 unfolding bit
-returns c = search (in-bit, not-in, needs)
+returns c = search (in-bit, needs)
 
 returns-2 : tie.Need-returns-2
 unfolding bit
-returns-2 c = search (in-bit, not-in, needs)
+returns-2 c = search (not-in, needs)
 
 pub member-spec : {M : Type 1} → statement M
 member-spec =

@@ -13,5 +13,5 @@ rest-spec =
     (λ c. search (behind-shifted, behind-none, needs))
     (λ c. search (behind-shifted, behind-none, needs))
     (λ c. search (behind-shifted, behind-none, needs))
-    (λ c. search (behind-shifted, behind-none, needs))
-    (λ c. search (behind-shifted, behind-none, needs)))
+    (λ c. search (behind-shifted, needs))
+    (λ c. search (behind-none, needs)))

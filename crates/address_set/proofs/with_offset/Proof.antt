@@ -9,5 +9,5 @@ with-offset-spec =
     tie.close
     (tie.spec
     (λ c. search (with-in, with-out, needs))
-    (λ c. search (with-in, with-out, needs))
-    (λ c. search (with-in, with-out, needs)))
+    (λ c. search (with-in, needs))
+    (λ c. search (with-out, needs)))

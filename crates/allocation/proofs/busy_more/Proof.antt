@@ -13,5 +13,5 @@ pub busy-more-spec : {M : Type 1} → statement M
 busy-more-spec =
     tie.close
     (tie.spec
-    (λ c κs. search (or-same, needs))
+    (λ c κs. search needs)
     returns)

@@ -8,5 +8,5 @@ pub enough-spec : {M : Type 1} → statement M
 enough-spec =
     tie.close
     (tie.spec
-    (λ c κs. search (suffices-is, needs))
+    (λ c κs. search needs)
     (λ c. search (suffices-is, needs)))

@@ -10,7 +10,7 @@ free-spec =
     (tie.spec
     (λ c. search (free-is, needs))
     (λ c. search (free-is, needs))
-    (λ c κs. search (free-is, needs))
-    (λ c κs. search (free-is, needs))
-    (λ c κs. search (free-is, needs))
+    (λ c κs. search needs)
+    (λ c κs. search needs)
+    (λ c κs. search needs)
     (λ c. search (free-is, needs)))

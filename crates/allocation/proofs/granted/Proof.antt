@@ -10,9 +10,9 @@ granted-spec =
     (tie.spec
     (λ c κs. search (grant-is, needs))
     (λ c κs. search (grant-is, needs))
+    (λ c κs. search needs)
     (λ c κs. search (grant-is, needs))
-    (λ c κs. search (grant-is, needs))
-    (λ c κs. search (grant-is, needs))
+    (λ c κs. search needs)
     (λ c. search (grant-is, needs))
-    (λ c κs. search (grant-is, needs))
+    (λ c κs. search needs)
     (λ c. search (grant-is, needs)))

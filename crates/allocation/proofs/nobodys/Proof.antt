@@ -8,7 +8,7 @@ pub nobodys-spec : {M : Type 1} → statement M
 nobodys-spec =
     tie.close
     (tie.spec
-    (λ c κs. search (difference-is, needs))
-    (λ c κs. search (difference-is, needs))
-    (λ c κs. search (difference-is, needs))
+    (λ c κs. search needs)
+    (λ c κs. search needs)
+    (λ c κs. search needs)
     (λ c. search (difference-is, needs)))

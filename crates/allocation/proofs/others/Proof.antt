@@ -19,13 +19,13 @@ others-spec =
     (tie.spec
     Inv-loop
     μ-loop
+    (λ c. search (sums, needs))
+    (λ c. search (sums, weight-read, needs))
+    (λ c. search (sums, weight-read, needs))
+    (λ c. search (sums, weight-read, needs))
+    (λ c κs. search (sums, needs))
     (λ c. search (sums, weight-read, needs))
     (λ c. search (sums, weight-read, needs))
     (λ c. search (sums, weight-read, needs))
     (λ c. search (sums, weight-read, needs))
-    (λ c κs. search (sums, weight-read, needs))
-    (λ c. search (sums, weight-read, needs))
-    (λ c. search (sums, weight-read, needs))
-    (λ c. search (sums, weight-read, needs))
-    (λ c. search (sums, weight-read, needs))
-    (λ c. search (sums, weight-read, needs)))
+    (λ c. search (sums, needs)))

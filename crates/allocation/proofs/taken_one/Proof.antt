@@ -13,5 +13,5 @@ pub taken-one-spec : {M : Type 1} → statement M
 taken-one-spec =
     tie.close
     (tie.spec
-    (λ c κs. search (or-same, needs))
+    (λ c κs. search needs)
     returns)

@@ -7,7 +7,7 @@ use Rattle.allocation.proofs.weight.Tie as tie
 
 returns : tie.Need-returns
 unfolding weightOf
-returns c = search (picks, weight-is, weight-small, needs)
+returns c = search (picks, needs)
 
 returns-2 : tie.Need-returns-2
 unfolding weightOf
@@ -18,6 +18,6 @@ weight-spec =
     tie.close
     (tie.spec
     returns
-    (λ c κs. search (picks, weight-is, weight-small, needs))
-    (λ c κs. search (picks, weight-is, weight-small, needs))
+    (λ c κs. search (picks, needs))
+    (λ c κs. search (picks, needs))
     returns-2)

@@ -12,9 +12,9 @@ pub held-spec : {M : Type 1} → statement M
 held-spec =
     tie.close
     (tie.spec
-    (λ c κs. search (held-small, held-is, needs))
+    (λ c κs. search needs)
     (λ c. search (held-small, held-is, needs))
     (λ c. search (held-small, held-is, needs))
-    (λ c κs. search (held-small, held-is, needs))
+    (λ c κs. search needs)
     cast-result
-    (λ c. search (held-small, held-is, needs)))
+    (λ c. search (held-is, needs)))

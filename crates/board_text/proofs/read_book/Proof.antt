@@ -8,6 +8,6 @@ pub read-book-spec : {M : Type 1} → statement M
 read-book-spec =
     tie.close
     (tie.spec
-    (λ c κs. search (opened-is, needs))
-    (λ c κs. search (opened-is, needs))
+    (λ c κs. search needs)
+    (λ c κs. search needs)
     (λ c. search (opened-is, needs)))

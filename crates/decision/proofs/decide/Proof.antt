@@ -8,9 +8,9 @@ pub decide-spec : {M : Type 1} → statement M
 decide-spec =
     tie.close
     (tie.spec
-    (λ c κs. search (decide-is, held-is, needs))
-    (λ c κs. search (decide-is, held-is, needs))
-    (λ c κs. search (decide-is, held-is, needs))
-    (λ c κs. search (decide-is, held-is, needs))
-    (λ c κs. search (decide-is, held-is, needs))
-    (λ c. search (decide-is, held-is, needs)))
+    (λ c κs. search needs)
+    (λ c κs. search needs)
+    (λ c κs. search needs)
+    (λ c κs. search needs)
+    (λ c κs. search (held-is, needs))
+    (λ c. search (decide-is, needs)))

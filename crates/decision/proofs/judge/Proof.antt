@@ -8,46 +8,46 @@ use Rattle.decision.proofs.judge.Tie as tie
 
 returns : tie.Need-returns
 unfolding judgedOf
-returns c = search (calls, old-there, needs)
+returns c = search (calls, needs)
 
 returns-2 : tie.Need-returns-2
 unfolding judgedOf
-returns-2 c = search (calls, old-there, needs)
+returns-2 c = search (calls, needs)
 
 returns-3 : tie.Need-returns-3
 unfolding judgedOf
-returns-3 c = search (calls, old-there, needs)
+returns-3 c = search (calls, needs)
 
 returns-4 : tie.Need-returns-4
 unfolding judgedOf
-returns-4 c = search (calls, old-there, needs)
+returns-4 c = search (calls, needs)
 
 returns-5 : tie.Need-returns-5
 unfolding judgedOf
-returns-5 c = search (calls, old-there, needs)
+returns-5 c = search (calls, needs)
 
 returns-6 : tie.Need-returns-6
 unfolding judgedOf
-returns-6 c = search (calls, old-there, needs)
+returns-6 c = search (calls, needs)
 
 pub judge-spec : {M : Type 1} → statement M
 judge-spec =
     tie.close
     (tie.spec
-    (λ c κs. search (calls, old-there, needs))
-    (λ c κs. search (calls, old-there, needs))
+    (λ c κs. search (calls, needs))
+    (λ c κs. search (calls, needs))
     returns
-    (λ c κs. search (calls, old-there, needs))
-    (λ c κs. search (calls, old-there, needs))
+    (λ c κs. search (calls, needs))
+    (λ c κs. search (calls, needs))
     returns-2
-    (λ c κs. search (calls, old-there, needs))
-    (λ c κs. search (calls, old-there, needs))
+    (λ c κs. search (calls, needs))
+    (λ c κs. search (calls, needs))
     returns-3
-    (λ c κs. search (calls, old-there, needs))
-    (λ c κs. search (calls, old-there, needs))
+    (λ c κs. search (calls, needs))
+    (λ c κs. search (calls, needs))
     returns-4
-    (λ c κs. search (calls, old-there, needs))
+    (λ c κs. search (calls, needs))
     (λ c κs. (search needs, old-there _ _ _ _ (search needs) (c .before .before .before .error-3 .ensures) (search needs) (c .before .has-period .ensures) (search needs)))
     returns-5
-    (λ c κs. search (calls, old-there, needs))
+    (λ c κs. search (calls, needs))
     returns-6)

@@ -9,5 +9,5 @@ lease-spec =
     tie.close
     (tie.spec
     (λ c κs. search (settled-is, proposed-room, needs))
-    (λ c κs. search (settled-is, proposed-room, needs))
-    (λ c. search (settled-is, proposed-room, needs)))
+    (λ c κs. search (proposed-room, needs))
+    (λ c. search (settled-is, needs)))

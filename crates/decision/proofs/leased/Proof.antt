@@ -8,23 +8,23 @@ use Rattle.decision.proofs.leased.Tie as tie
 
 returns : tie.Need-returns
 unfolding leasedOf
-returns c = search (picks, room-use, old-use, needs)
+returns c = search (picks, needs)
 
 returns-2 : tie.Need-returns-2
 unfolding leasedOf
-returns-2 c = search (picks, room-use, old-use, needs)
+returns-2 c = search (picks, needs)
 
 returns-3 : tie.Need-returns-3
 unfolding leasedOf
-returns-3 c = search (picks, room-use, old-use, needs)
+returns-3 c = search (picks, needs)
 
 pub leased-spec : {M : Type 1} → statement M
 leased-spec =
     tie.close
     (tie.spec
-    (λ c κs. search (picks, room-use, old-use, needs))
+    (λ c κs. search (picks, needs))
     returns
-    (λ c κs. search (picks, room-use, old-use, needs))
+    (λ c κs. search (picks, room-use, needs))
     returns-2
-    (λ c κs. search (picks, room-use, old-use, needs))
+    (λ c κs. search (picks, old-use, needs))
     returns-3)

@@ -8,8 +8,8 @@ pub record-spec : {M : Type 1} → statement M
 record-spec =
     tie.close
     (tie.spec
-    (λ c κs. search (inserted-is, room-at, needs))
-    (λ c κs. search (inserted-is, room-at, needs))
-    (λ c κs. search (inserted-is, room-at, needs))
-    (λ c κs. search (inserted-is, room-at, needs))
-    (λ c. search (inserted-is, room-at, needs)))
+    (λ c κs. search needs)
+    (λ c κs. search (room-at, needs))
+    (λ c κs. search needs)
+    (λ c κs. search needs)
+    (λ c. search (inserted-is, needs)))

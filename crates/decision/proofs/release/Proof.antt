@@ -8,8 +8,8 @@ pub release-spec : {M : Type 1} → statement M
 release-spec =
     tie.close
     (tie.spec
-    (λ c κs. search (removed-is, needs))
-    (λ c κs. search (removed-is, needs))
-    (λ c κs. search (removed-is, needs))
-    (λ c κs. search (removed-is, needs))
+    (λ c κs. search needs)
+    (λ c κs. search needs)
+    (λ c κs. search needs)
+    (λ c κs. search needs)
     (λ c. search (removed-is, needs)))

@@ -8,8 +8,8 @@ pub renew-spec : {M : Type 1} → statement M
 renew-spec =
     tie.close
     (tie.spec
-    (λ c κs. search (replaced-is, old-at, needs))
-    (λ c κs. search (replaced-is, old-at, needs))
-    (λ c κs. search (replaced-is, old-at, needs))
-    (λ c κs. search (replaced-is, old-at, needs))
-    (λ c. search (replaced-is, old-at, needs)))
+    (λ c κs. search needs)
+    (λ c κs. search (old-at, needs))
+    (λ c κs. search needs)
+    (λ c κs. search needs)
+    (λ c. search (replaced-is, needs)))

@@ -8,19 +8,19 @@ use Rattle.decision.proofs.settle.Tie as tie
 
 returns : tie.Need-returns
 unfolding settledOf
-returns c = search (calls, leased-is, fits-room, needs)
+returns c = search (calls, needs)
 
 returns-2 : tie.Need-returns-2
 unfolding settledOf
-returns-2 c = search (calls, leased-is, fits-room, needs)
+returns-2 c = search (calls, leased-is, needs)
 
 pub settle-spec : {M : Type 1} → statement M
 settle-spec =
     tie.close
     (tie.spec
-    (λ c κs. search (calls, leased-is, fits-room, needs))
-    (λ c κs. search (calls, leased-is, fits-room, needs))
+    (λ c κs. search (calls, needs))
+    (λ c κs. search (calls, needs))
     returns
-    (λ c κs. search (calls, leased-is, fits-room, needs))
-    (λ c κs. search (calls, leased-is, fits-room, needs))
+    (λ c κs. search (calls, needs))
+    (λ c κs. search (calls, fits-room, needs))
     returns-2)

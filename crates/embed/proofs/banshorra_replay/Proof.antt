@@ -8,13 +8,13 @@ pub banshorra-replay-spec : {M : Type 1} → statement M
 banshorra-replay-spec =
     tie.close
     (tie.spec
-    (λ c κs. search (file-replayed, file-left, needs))
-    (λ c κs. search (file-replayed, file-left, needs))
-    (λ c κs. search (file-replayed, file-left, needs))
-    (λ c κs. search (file-replayed, file-left, needs))
-    (λ c κs. search (file-replayed, file-left, needs))
+    (λ c κs. search needs)
+    (λ c κs. search needs)
+    (λ c κs. search needs)
+    (λ c κs. search needs)
+    (λ c κs. search needs)
     (λ c. search (file-replayed, file-left, needs))
     (λ c. search (file-replayed, file-left, needs))
-    (λ c. search (file-replayed, file-left, needs))
-    (λ c. search (file-replayed, file-left, needs))
-    (λ c. search (file-replayed, file-left, needs)))
+    (λ c. search (file-replayed, needs))
+    (λ c. search needs)
+    (λ c. search (file-left, needs)))

@@ -8,13 +8,13 @@ pub banshorra-serve-spec : {M : Type 1} → statement M
 banshorra-serve-spec =
     tie.close
     (tie.spec
-    (λ c κs. search (file-served, file-kept, needs))
-    (λ c κs. search (file-served, file-kept, needs))
-    (λ c κs. search (file-served, file-kept, needs))
-    (λ c κs. search (file-served, file-kept, needs))
-    (λ c κs. search (file-served, file-kept, needs))
+    (λ c κs. search needs)
+    (λ c κs. search needs)
+    (λ c κs. search needs)
+    (λ c κs. search needs)
+    (λ c κs. search needs)
     (λ c. search (file-served, file-kept, needs))
     (λ c. search (file-served, file-kept, needs))
-    (λ c. search (file-served, file-kept, needs))
-    (λ c. search (file-served, file-kept, needs))
-    (λ c. search (file-served, file-kept, needs)))
+    (λ c. search (file-served, needs))
+    (λ c. search needs)
+    (λ c. search (file-kept, needs)))

@@ -8,5 +8,5 @@ pub same-spec : {M : Type 1} → statement M
 same-spec =
     tie.close
     (tie.spec
-    (λ c κs. search (same-order, needs))
+    (λ c κs. search needs)
     (λ c. search (same-order, needs)))

@@ -13,7 +13,7 @@ use Rattle.message.proofs.ended.Tie as tie
 
 returns : tie.Need-returns
 unfolding ended
-returns c = search (calls, picks, message-is, needs)
+returns c = search (calls, picks, needs)
 
 returns-2 : tie.Need-returns-2
 unfolding ended
@@ -21,20 +21,20 @@ returns-2 c = search (calls, picks, message-is, needs)
 
 returns-3 : tie.Need-returns-3
 unfolding ended
-returns-3 c = search (calls, picks, message-is, needs)
+returns-3 c = search (calls, picks, needs)
 
 pub ended-spec : {M : Type 1} → statement M
 ended-spec =
     tie.close
     (tie.spec
-    (λ c. search (calls, picks, message-is, needs))
-    (λ c. search (calls, picks, message-is, needs))
-    (λ c. search (calls, picks, message-is, needs))
-    (λ c κs. search (calls, picks, message-is, needs))
+    (λ c. search (calls, picks, needs))
+    (λ c. search (calls, picks, needs))
+    (λ c. search (calls, picks, needs))
+    (λ c κs. search (calls, picks, needs))
     returns
-    (λ c κs. search (calls, picks, message-is, needs))
+    (λ c κs. search (calls, picks, needs))
     (λ c. search (calls, picks, message-is, needs))
     (λ c κs. search (calls, picks, message-is, needs))
     returns-2
-    (λ c κs. search (calls, picks, message-is, needs))
+    (λ c κs. search (calls, picks, needs))
     returns-3)

@@ -39,6 +39,6 @@ identifier-at-spec =
     (λ c. search (copies, copy-start-part, identifier-is, needs))
     (λ c. search (copies, copy-start-part, identifier-is, needs))
     (λ c. search (copies, copy-start-part, identifier-is, needs))
+    (λ c. search (copies, needs))
     (λ c. search (copies, copy-start-part, identifier-is, needs))
-    (λ c. search (copies, copy-start-part, identifier-is, needs))
-    (λ c. search (copies, copy-start-part, identifier-is, needs)))
+    (λ c. search (copies, identifier-is, needs)))

@@ -17,7 +17,7 @@ returns c = search (ands, after-got, needs)
 
 returns-2 : tie.Need-returns-2
 unfolding layoutOk
-returns-2 c = search (ands, after-got, needs)
+returns-2 c = search (ands, needs)
 
 pub layout-ok-spec : {M : Type 1} → statement M
 layout-ok-spec =

@@ -17,11 +17,11 @@ returns c = search (and-gots, eqb-got, needs)
 
 returns-2 : tie.Need-returns-2
 unfolding namesServer
-returns-2 c = search (and-gots, eqb-got, needs)
+returns-2 c = search (and-gots, needs)
 
 returns-3 : tie.Need-returns-3
 unfolding namesServer
-returns-3 c = search (and-gots, eqb-got, needs)
+returns-3 c = search (and-gots, needs)
 
 pub names-server-spec : {M : Type 1} → statement M
 names-server-spec =

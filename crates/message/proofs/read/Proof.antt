@@ -12,19 +12,19 @@ use Rattle.message.proofs.read.Tie as tie
 
 returns : tie.Need-returns
 unfolding readOf
-returns c = search (calls, eight-header, long-header, short-header, walked-of, needs)
+returns c = search (calls, walked-of, needs)
 
 returns-2 : tie.Need-returns-2
 unfolding readOf
-returns-2 c = search (calls, eight-header, long-header, short-header, walked-of, needs)
+returns-2 c = search (calls, needs)
 
 pub read-spec : {M : Type 1} → statement M
 read-spec =
     tie.close
     (tie.spec
-    (λ c κs. search (calls, eight-header, long-header, short-header, walked-of, needs))
-    (λ c κs. search (calls, eight-header, long-header, short-header, walked-of, needs))
-    (λ c κs. search (calls, eight-header, long-header, short-header, walked-of, needs))
+    (λ c κs. search (calls, needs))
+    (λ c κs. search (calls, eight-header, short-header, needs))
+    (λ c κs. search (calls, long-header, short-header, needs))
     returns
-    (λ c κs. search (calls, eight-header, long-header, short-header, walked-of, needs))
+    (λ c κs. search (calls, needs))
     returns-2)

@@ -18,11 +18,11 @@ returns c = search (joins, gots, length-got, filled-got, needs)
 
 returns-2 : tie.Need-returns-2
 unfolding valueOk
-returns-2 c = search (joins, gots, length-got, filled-got, needs)
+returns-2 c = search (joins, gots, length-got, needs)
 
 returns-3 : tie.Need-returns-3
 unfolding valueOk
-returns-3 c = search (joins, gots, length-got, filled-got, needs)
+returns-3 c = search (joins, gots, length-got, needs)
 
 pub value-ok-spec : {M : Type 1} → statement M
 value-ok-spec =
@@ -32,7 +32,7 @@ value-ok-spec =
     (λ c. search (joins, gots, length-got, filled-got, needs))
     (λ c κs. search (joins, gots, length-got, filled-got, needs))
     (λ c. search (joins, gots, length-got, filled-got, needs))
-    (λ c κs. search (joins, gots, length-got, filled-got, needs))
+    (λ c κs. search (joins, gots, needs))
     (λ c. search (joins, gots, length-got, filled-got, needs))
     (λ c. search (joins, gots, length-got, filled-got, needs))
     (λ c. search (joins, gots, length-got, filled-got, needs))

@@ -14,11 +14,11 @@ walked-spec =
     tie.close
     (tie.spec
     (λ c. search (walked-good, walked-as, needs))
-    (λ c κs. search (walked-good, walked-as, needs))
+    (λ c κs. search needs)
     (λ c. search (walked-good, walked-as, needs))
-    (λ c κs. search (walked-good, walked-as, needs))
+    (λ c κs. search (walked-good, needs))
     (λ c. search (walked-good, walked-as, needs))
-    (λ c κs. search (walked-good, walked-as, needs))
-    (λ c. search (walked-good, walked-as, needs))
-    (λ c. search (walked-good, walked-as, needs))
-    (λ c. search (walked-good, walked-as, needs)))
+    (λ c κs. search needs)
+    (λ c. search (walked-as, needs))
+    (λ c. search (walked-as, needs))
+    (λ c. search (walked-as, needs)))

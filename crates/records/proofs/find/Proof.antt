@@ -8,8 +8,8 @@ pub find-spec : {M : Type 1} → statement M
 find-spec =
     tie.close
     (tie.spec
-    (λ c κs. search (find-in, find-out, needs))
-    (λ c κs. search (find-in, find-out, needs))
-    (λ c κs. search (find-in, find-out, needs))
-    (λ c. search (find-in, find-out, needs))
+    (λ c κs. search needs)
+    (λ c κs. search needs)
+    (λ c κs. search needs)
+    (λ c. search (find-in, needs))
     (λ c. search (find-in, find-out, needs)))

@@ -9,13 +9,13 @@ pub insert-spec : {M : Type 1} → statement M
 insert-spec =
     tie.close
     (tie.spec
+    (λ c κs. search needs)
+    (λ c κs. search needs)
+    (λ c κs. search needs)
     (λ c κs. search (insert-in, insert-full, insert-none, insert-out, unmapped, needs))
-    (λ c κs. search (insert-in, insert-full, insert-none, insert-out, unmapped, needs))
-    (λ c κs. search (insert-in, insert-full, insert-none, insert-out, unmapped, needs))
-    (λ c κs. search (insert-in, insert-full, insert-none, insert-out, unmapped, needs))
-    (λ c κs. search (insert-in, insert-full, insert-none, insert-out, unmapped, needs))
-    (λ c κs. search (insert-in, insert-full, insert-none, insert-out, unmapped, needs))
-    (λ c. search (insert-in, insert-full, insert-none, insert-out, unmapped, needs))
-    (λ c. search (insert-in, insert-full, insert-none, insert-out, unmapped, needs))
-    (λ c. search (insert-in, insert-full, insert-none, insert-out, unmapped, needs))
-    (λ c. search (insert-in, insert-full, insert-none, insert-out, unmapped, needs)))
+    (λ c κs. search needs)
+    (λ c κs. search needs)
+    (λ c. search (insert-in, needs))
+    (λ c. search (insert-full, insert-none, insert-out, unmapped, needs))
+    (λ c. search (insert-none, insert-out, unmapped, needs))
+    (λ c. search (insert-out, unmapped, needs)))

@@ -8,5 +8,5 @@ pub no-records-spec : {M : Type 1} → statement M
 no-records-spec =
     tie.close
     (tie.spec
-    (λ c κs. search (empty-records, needs))
+    (λ c κs. search needs)
     (λ c. search (empty-records, needs)))

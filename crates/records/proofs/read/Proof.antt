@@ -9,11 +9,11 @@ pub read-spec : {M : Type 1} → statement M
 read-spec =
     tie.close
     (tie.spec
-    (λ c κs. search (read-in, read-out, read-refused, unmapped, needs))
-    (λ c κs. search (read-in, read-out, read-refused, unmapped, needs))
-    (λ c κs. search (read-in, read-out, read-refused, unmapped, needs))
+    (λ c κs. search needs)
+    (λ c κs. search needs)
+    (λ c κs. search needs)
+    (λ c. search (read-in, read-out, read-refused, needs))
+    (λ c κs. search needs)
     (λ c. search (read-in, read-out, read-refused, unmapped, needs))
-    (λ c κs. search (read-in, read-out, read-refused, unmapped, needs))
-    (λ c. search (read-in, read-out, read-refused, unmapped, needs))
-    (λ c κs. search (read-in, read-out, read-refused, unmapped, needs))
+    (λ c κs. search needs)
     (λ c. search (read-in, read-out, read-refused, unmapped, needs)))

@@ -9,11 +9,11 @@ pub remove-spec : {M : Type 1} → statement M
 remove-spec =
     tie.close
     (tie.spec
-    (λ c κs. search (remove-in, remove-none, remove-out, unmapped, needs))
-    (λ c κs. search (remove-in, remove-none, remove-out, unmapped, needs))
-    (λ c κs. search (remove-in, remove-none, remove-out, unmapped, needs))
-    (λ c κs. search (remove-in, remove-none, remove-out, unmapped, needs))
-    (λ c κs. search (remove-in, remove-none, remove-out, unmapped, needs))
-    (λ c. search (remove-in, remove-none, remove-out, unmapped, needs))
-    (λ c. search (remove-in, remove-none, remove-out, unmapped, needs))
-    (λ c. search (remove-in, remove-none, remove-out, unmapped, needs)))
+    (λ c κs. search needs)
+    (λ c κs. search needs)
+    (λ c κs. search needs)
+    (λ c κs. search needs)
+    (λ c κs. search needs)
+    (λ c. search (remove-in, needs))
+    (λ c. search (remove-none, remove-out, unmapped, needs))
+    (λ c. search (remove-out, unmapped, needs)))

@@ -9,9 +9,9 @@ pub serve-spec : {M : Type 1} → statement M
 serve-spec =
     tie.close
     (tie.spec
-    (λ c κs. search (serve-in, serve-out, unmapped, needs))
-    (λ c κs. search (serve-in, serve-out, unmapped, needs))
-    (λ c κs. search (serve-in, serve-out, unmapped, needs))
+    (λ c κs. search needs)
+    (λ c κs. search needs)
+    (λ c κs. search needs)
     (λ c. search (serve-in, serve-out, unmapped, needs))
-    (λ c. search (serve-in, serve-out, unmapped, needs))
-    (λ c. search (serve-in, serve-out, unmapped, needs)))
+    (λ c. search (serve-in, needs))
+    (λ c. search (serve-out, unmapped, needs)))

@@ -8,5 +8,5 @@ pub tenant-from-spec : {M : Type 1} → statement M
 tenant-from-spec =
     tie.close
     (tie.spec
-    (λ c κs. search (tenant-is, needs))
+    (λ c κs. search needs)
     (λ c. search (tenant-is, needs)))

@@ -8,8 +8,8 @@ pub write-spec : {M : Type 1} → statement M
 write-spec =
     tie.close
     (tie.spec
-    (λ c κs. search (write-in, write-out, room-in, room-out, needs))
-    (λ c κs. search (write-in, write-out, room-in, room-out, needs))
+    (λ c κs. search needs)
+    (λ c κs. search needs)
     (λ c. search (write-in, write-out, room-in, room-out, needs))
-    (λ c. search (write-in, write-out, room-in, room-out, needs))
-    (λ c. search (write-in, write-out, room-in, room-out, needs)))
+    (λ c. search (write-in, room-in, needs))
+    (λ c. search (write-out, room-out, needs)))

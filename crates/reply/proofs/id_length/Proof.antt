@@ -12,4 +12,4 @@ id-length-spec =
     (tie.spec
     (λ c. search (id-short, id-long, needs))
     (λ c. search (id-short, id-long, needs))
-    (λ c. search (id-short, id-long, needs)))
+    (λ c. search (id-long, needs)))

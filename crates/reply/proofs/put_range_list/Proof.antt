@@ -33,9 +33,9 @@ put-range-list-spec =
     Inv-loop
     μ-loop
     loop-holds
-    (λ c κs. search (ranges-end, needs))
+    (λ c κs. search needs)
     put-range-requires
-    (λ c κs. search (ranges-end, needs))
+    (λ c κs. search needs)
     loop-less
     loop-again
     (λ c. search (ranges-end, needs))

@@ -31,4 +31,4 @@ put-scopes-spec =
     (λ c. search (scopes-start, scopes-end, unmapped, needs))
     loop-again
     (λ c. search (scopes-start, scopes-end, unmapped, needs))
-    (λ c. search (scopes-start, scopes-end, unmapped, needs)))
+    (λ c. search (scopes-end, needs)))

@@ -33,8 +33,8 @@ range-count-spec =
     Inv-loop
     μ-loop
     loop-holds
-    (λ c κs. search (count-end, needs))
-    (λ c κs. search (count-end, needs))
+    (λ c κs. search needs)
+    (λ c κs. search needs)
     add-n
     loop-less
     loop-again

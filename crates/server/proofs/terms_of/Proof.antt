@@ -11,7 +11,7 @@ pub terms-of-spec : {M : Type 1} → statement M
 terms-of-spec =
     tie.close
     (tie.spec
-    (λ c κs. search (terms-is, needs))
-    (λ c κs. search (terms-is, needs))
-    (λ c κs. search (terms-is, needs))
+    (λ c κs. search needs)
+    (λ c κs. search needs)
+    (λ c κs. search needs)
     (λ c. search (terms-is, needs)))

@@ -8,6 +8,6 @@ pub broken-spec : {M : Type 1} → statement M
 broken-spec =
     tie.close
     (tie.spec
-    (λ c κs. search (broken-is, needs))
-    (λ c κs. search (broken-is, needs))
+    (λ c κs. search needs)
+    (λ c κs. search needs)
     (λ c. search (broken-is, needs)))

@@ -8,8 +8,8 @@ pub check-rules-spec : {M : Type 1} → statement M
 check-rules-spec =
     tie.close
     (tie.spec
-    (λ c κs. search (rules-are, needs))
-    (λ c κs. search (rules-are, needs))
-    (λ c κs. search (rules-are, needs))
-    (λ c κs. search (rules-are, needs))
+    (λ c κs. search needs)
+    (λ c κs. search needs)
+    (λ c κs. search needs)
+    (λ c κs. search needs)
     (λ c. search (rules-are, needs)))

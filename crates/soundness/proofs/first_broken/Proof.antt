@@ -44,5 +44,5 @@ first-broken-spec =
     returns-4
     returns-5
     returns-6
-    (λ c κs. search (tests, not-true, not-false, needs) depth 24)
+    (λ c κs. search (tests, needs) depth 24)
     returns-7)

@@ -8,7 +8,7 @@ pub join-rules-spec : {M : Type 1} → statement M
 join-rules-spec =
     tie.close
     (tie.spec
-    (λ c κs. search (joined-is, needs))
-    (λ c κs. search (joined-is, needs))
-    (λ c κs. search (joined-is, needs))
+    (λ c κs. search needs)
+    (λ c κs. search needs)
+    (λ c κs. search needs)
     (λ c. search (joined-is, needs)))

@@ -8,5 +8,5 @@ pub sound-spec : {M : Type 1} → statement M
 sound-spec =
     tie.close
     (tie.spec
-    (λ c κs. search (sound-is, needs))
+    (λ c κs. search needs)
     (λ c. search (sound-is, needs)))

@@ -21,15 +21,15 @@ table-rules-spec =
     (tie.spec
     Inv-loop
     μ-loop
+    (λ c. search (folds, tenants-are, eachs, needs))
+    (λ c. search (folds, tenants-are, tenant-and, eachs, table-is, needs))
+    (λ c. search (folds, tenants-are, tenant-and, eachs, table-is, needs))
+    (λ c κs. search (folds, eachs, needs))
+    (λ c κs. search (folds, eachs, needs))
+    (λ c κs. search (folds, eachs, needs))
     (λ c. search (folds, tenants-are, tenant-and, eachs, table-is, needs))
     (λ c. search (folds, tenants-are, tenant-and, eachs, table-is, needs))
     (λ c. search (folds, tenants-are, tenant-and, eachs, table-is, needs))
-    (λ c κs. search (folds, tenants-are, tenant-and, eachs, table-is, needs))
-    (λ c κs. search (folds, tenants-are, tenant-and, eachs, table-is, needs))
-    (λ c κs. search (folds, tenants-are, tenant-and, eachs, table-is, needs))
     (λ c. search (folds, tenants-are, tenant-and, eachs, table-is, needs))
-    (λ c. search (folds, tenants-are, tenant-and, eachs, table-is, needs))
-    (λ c. search (folds, tenants-are, tenant-and, eachs, table-is, needs))
-    (λ c. search (folds, tenants-are, tenant-and, eachs, table-is, needs))
-    (λ c. search (folds, tenants-are, tenant-and, eachs, table-is, needs))
-    (λ c. search (folds, tenants-are, tenant-and, eachs, table-is, needs)))
+    (λ c. search (folds, tenant-and, eachs, needs))
+    (λ c. search (folds, eachs, table-is, needs)))

@@ -8,7 +8,7 @@ pub judge-spec : {M : Type 1} → statement M
 judge-spec =
     tie.close
     (tie.spec
-    (λ c κs. search (judged-yes, judged-not, needs))
+    (λ c κs. search needs)
     (λ c. search (judged-yes, judged-not, needs))
-    (λ c κs. search (judged-yes, judged-not, needs))
-    (λ c. search (judged-yes, judged-not, needs)))
+    (λ c κs. search needs)
+    (λ c. search (judged-not, needs)))

@@ -8,12 +8,12 @@ pub leases-fit-spec : {M : Type 1} → statement M
 leases-fit-spec =
     tie.close
     (tie.spec
-    (λ c κs. search (leases-in, leases-yes, leases-not, needs))
+    (λ c κs. search needs)
     (λ c. search (leases-in, leases-yes, leases-not, needs))
-    (λ c κs. search (leases-in, leases-yes, leases-not, needs))
+    (λ c κs. search needs)
     (λ c. search (leases-in, leases-yes, leases-not, needs))
-    (λ c κs. search (leases-in, leases-yes, leases-not, needs))
+    (λ c κs. search (leases-in, needs))
     (λ c. search (leases-in, leases-yes, leases-not, needs))
-    (λ c κs. search (leases-in, leases-yes, leases-not, needs))
-    (λ c. search (leases-in, leases-yes, leases-not, needs))
-    (λ c. search (leases-in, leases-yes, leases-not, needs)))
+    (λ c κs. search (leases-in, needs))
+    (λ c. search (leases-yes, needs))
+    (λ c. search (leases-yes, leases-not, needs)))

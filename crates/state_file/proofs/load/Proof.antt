@@ -8,10 +8,10 @@ pub load-spec : {M : Type 1} → statement M
 load-spec =
     tie.close
     (tie.spec
-    (λ c κs. search (test-true, loaded-yes, loaded-not, needs))
-    (λ c κs. search (test-true, loaded-yes, loaded-not, needs))
-    (λ c κs. search (test-true, loaded-yes, loaded-not, needs))
-    (λ c κs. search (test-true, loaded-yes, loaded-not, needs))
-    (λ c. search (test-true, loaded-yes, loaded-not, needs))
-    (λ c κs. search (test-true, loaded-yes, loaded-not, needs))
-    (λ c. search (test-true, loaded-yes, loaded-not, needs)))
+    (λ c κs. search needs)
+    (λ c κs. search (test-true, needs))
+    (λ c κs. search (test-true, needs))
+    (λ c κs. search needs)
+    (λ c. search (loaded-yes, loaded-not, needs))
+    (λ c κs. search needs)
+    (λ c. search (loaded-yes, loaded-not, needs)))

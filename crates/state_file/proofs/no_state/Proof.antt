@@ -8,6 +8,6 @@ pub no-state-spec : {M : Type 1} → statement M
 no-state-spec =
     tie.close
     (tie.spec
-    (λ c κs. search (no-state-is, needs))
-    (λ c κs. search (no-state-is, needs))
+    (λ c κs. search needs)
+    (λ c κs. search needs)
     (λ c. search (no-state-is, needs)))

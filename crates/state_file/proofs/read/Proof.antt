@@ -17,8 +17,8 @@ pub read-spec : {M : Type 1} → statement M
 read-spec =
     tie.close
     (tie.spec
-    (λ c κs. search (read-yes, read-not, needs))
+    (λ c κs. search needs)
     load-requires
     returns
-    (λ c κs. search (read-yes, read-not, needs))
+    (λ c κs. search needs)
     (λ c. search (read-yes, read-not, needs)))

@@ -8,6 +8,6 @@ pub refusal-spec : {M : Type 1} → statement M
 refusal-spec =
     tie.close
     (tie.spec
-    (λ c κs. search (refused-is, needs))
-    (λ c κs. search (refused-is, needs))
+    (λ c κs. search needs)
+    (λ c κs. search needs)
     (λ c. search (refused-is, needs)))

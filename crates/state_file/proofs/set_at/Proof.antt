@@ -12,5 +12,5 @@ set-at-spec =
     (λ c. search (set-part, needs))
     (λ c. search (set-part, needs))
     (λ c. search (set-part, needs))
-    (λ c κs. search (set-part, needs))
+    (λ c κs. search needs)
     (λ c. search (set-part, needs)))

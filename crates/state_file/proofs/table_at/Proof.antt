@@ -8,9 +8,9 @@ pub table-at-spec : {M : Type 1} → statement M
 table-at-spec =
     tie.close
     (tie.spec
-    (λ c κs. search (leases-held, table-is, needs))
+    (λ c κs. search needs)
     (λ c. search (leases-held, table-is, needs))
-    (λ c κs. search (leases-held, table-is, needs))
+    (λ c κs. search needs)
     (λ c. search (leases-held, table-is, needs))
-    (λ c κs. search (leases-held, table-is, needs))
-    (λ c. search (leases-held, table-is, needs)))
+    (λ c κs. search (leases-held, needs))
+    (λ c. search (table-is, needs)))

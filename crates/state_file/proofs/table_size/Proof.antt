@@ -22,12 +22,12 @@ table-size-spec =
     (tie.spec
     Inv-loop
     μ-loop
+    (λ c. search (sizes, needs))
+    (λ c. search (sizes, table-length, needs))
+    (λ c. search (sizes, table-length, needs))
+    (λ c κs. search (sizes, needs))
     (λ c. search (sizes, table-length, needs))
     (λ c. search (sizes, table-length, needs))
     (λ c. search (sizes, table-length, needs))
-    (λ c κs. search (sizes, table-length, needs))
-    (λ c. search (sizes, table-length, needs))
-    (λ c. search (sizes, table-length, needs))
-    (λ c. search (sizes, table-length, needs))
-    (λ c. search (sizes, table-length, needs))
+    (λ c. search (sizes, needs))
     (λ c. search (sizes, table-length, needs)))

@@ -8,5 +8,5 @@ pub and-below-spec : {M : Type 1} → statement M
 and-below-spec =
     tie.close
     (tie.spec
-    (λ c. search (and-true, and-false, or-true, or-false, needs))
-    (λ c. search (and-true, and-false, or-true, or-false, needs)))
+    (λ c. search (and-true, and-false, needs))
+    (λ c. search (and-true, and-false, needs)))

@@ -8,9 +8,9 @@ pub ask-at-spec : {M : Type 1} → statement M
 ask-at-spec =
     tie.close
     (tie.spec
-    (λ c κs. search (ask-is, needs))
-    (λ c κs. search (ask-is, needs))
-    (λ c κs. search (ask-is, needs))
+    (λ c κs. search needs)
+    (λ c κs. search needs)
+    (λ c κs. search needs)
     (λ c. search (ask-is, needs))
     (λ c. search (ask-is, needs))
     (λ c. search (ask-is, needs))

@@ -8,8 +8,8 @@ pub end-of-spec : {M : Type 1} → statement M
 end-of-spec =
     tie.close
     (tie.spec
-    (λ c κs. search (end-is, needs))
-    (λ c κs. search (end-is, needs))
+    (λ c κs. search needs)
+    (λ c κs. search needs)
     (λ c. search (end-is, needs))
     (λ c. search (end-is, needs))
     (λ c. search (end-is, needs)))

@@ -8,7 +8,7 @@ pub fits-new-spec : {M : Type 1} → statement M
 fits-new-spec =
     tie.close
     (tie.spec
-    (λ c κs. search (fits-is, needs))
-    (λ c κs. search (fits-is, needs))
-    (λ c κs. search (fits-is, needs))
+    (λ c κs. search needs)
+    (λ c κs. search needs)
+    (λ c κs. search needs)
     (λ c. search (fits-is, needs)))

@@ -8,5 +8,5 @@ pub lease-from-spec : {M : Type 1} → statement M
 lease-from-spec =
     tie.close
     (tie.spec
-    (λ c κs. search (lease-is, needs))
+    (λ c κs. search needs)
     (λ c. search (lease-is, needs)))

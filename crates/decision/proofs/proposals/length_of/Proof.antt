@@ -8,6 +8,6 @@ pub length-of-spec : {M : Type 1} → statement M
 length-of-spec =
     tie.close
     (tie.spec
-    (λ c κs. search (length-is, needs))
-    (λ c κs. search (length-is, needs))
+    (λ c κs. search needs)
+    (λ c κs. search needs)
     (λ c. search (length-is, needs)))

@@ -8,9 +8,9 @@ pub new-at-spec : {M : Type 1} → statement M
 new-at-spec =
     tie.close
     (tie.spec
+    (λ c κs. search needs)
+    (λ c κs. search needs)
+    (λ c κs. search needs)
     (λ c κs. search (new-at-is, ask-tenant, needs))
-    (λ c κs. search (new-at-is, ask-tenant, needs))
-    (λ c κs. search (new-at-is, ask-tenant, needs))
-    (λ c κs. search (new-at-is, ask-tenant, needs))
-    (λ c κs. search (new-at-is, ask-tenant, needs))
-    (λ c. search (new-at-is, ask-tenant, needs)))
+    (λ c κs. search needs)
+    (λ c. search (new-at-is, needs)))

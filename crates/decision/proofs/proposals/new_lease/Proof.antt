@@ -8,6 +8,6 @@ pub new-lease-spec : {M : Type 1} → statement M
 new-lease-spec =
     tie.close
     (tie.spec
-    (λ c κs. search (new-is, needs))
+    (λ c κs. search needs)
     (λ c κs. search (new-is, needs))
     (λ c. search (new-is, needs)))

@@ -8,6 +8,6 @@ pub new-with-spec : {M : Type 1} → statement M
 new-with-spec =
     tie.close
     (tie.spec
-    (λ c κs. search (new-with-is, needs))
-    (λ c κs. search (new-with-is, needs))
+    (λ c κs. search needs)
+    (λ c κs. search needs)
     (λ c. search (new-with-is, needs)))

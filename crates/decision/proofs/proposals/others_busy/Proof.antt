@@ -8,8 +8,8 @@ pub others-busy-spec : {M : Type 1} → statement M
 others-busy-spec =
     tie.close
     (tie.spec
-    (λ c κs. search (others-is, needs))
-    (λ c κs. search (others-is, needs))
-    (λ c κs. search (others-is, needs))
-    (λ c κs. search (others-is, needs))
+    (λ c κs. search needs)
+    (λ c κs. search needs)
+    (λ c κs. search needs)
+    (λ c κs. search needs)
     (λ c. search (others-is, needs)))

@@ -8,7 +8,7 @@ pub renewed-spec : {M : Type 1} → statement M
 renewed-spec =
     tie.close
     (tie.spec
-    (λ c κs. search (renewed-is, needs))
-    (λ c κs. search (renewed-is, needs))
-    (λ c κs. search (renewed-is, needs))
+    (λ c κs. search needs)
+    (λ c κs. search needs)
+    (λ c κs. search needs)
     (λ c. search (renewed-is, needs)))

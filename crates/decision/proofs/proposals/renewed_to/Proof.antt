@@ -8,6 +8,6 @@ pub renewed-to-spec : {M : Type 1} → statement M
 renewed-to-spec =
     tie.close
     (tie.spec
-    (λ c κs. search (renewed-to-is, needs))
-    (λ c κs. search (renewed-to-is, needs))
+    (λ c κs. search needs)
+    (λ c κs. search needs)
     (λ c. search (renewed-to-is, needs)))

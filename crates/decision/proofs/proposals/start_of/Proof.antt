@@ -8,6 +8,6 @@ pub start-of-spec : {M : Type 1} → statement M
 start-of-spec =
     tie.close
     (tie.spec
-    (λ c κs. search (start-is, needs))
-    (λ c κs. search (start-is, needs))
+    (λ c κs. search needs)
+    (λ c κs. search needs)
     (λ c. search (start-is, needs)))

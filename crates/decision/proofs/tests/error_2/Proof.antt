@@ -7,16 +7,16 @@ use Rattle.decision.proofs.tests.error_2.Tie as tie
 
 returns : tie.Need-returns
 unfolding error2Of
-returns c = search (and-true, and-false, or-true, or-false, needs)
+returns c = search (and-true, and-false, needs)
 
 returns-2 : tie.Need-returns-2
 unfolding error2Of
-returns-2 c = search (and-true, and-false, or-true, or-false, needs)
+returns-2 c = search (and-true, and-false, needs)
 
 pub error-2-spec : {M : Type 1} → statement M
 error-2-spec =
     tie.close
     (tie.spec
-    (λ c κs. search (and-true, and-false, or-true, or-false, needs))
+    (λ c κs. search needs)
     returns
     returns-2)

@@ -8,6 +8,6 @@ pub error-3-spec : {M : Type 1} → statement M
 error-3-spec =
     tie.close
     (tie.spec
-    (λ c κs. search (error3-is, needs))
-    (λ c κs. search (error3-is, needs))
+    (λ c κs. search needs)
+    (λ c κs. search needs)
     (λ c. search (error3-is, needs)))

@@ -9,5 +9,5 @@ far-spec =
     tie.close
     (tie.spec
     (λ c. search (far-below, far-above, needs))
-    (λ c. search (far-below, far-above, needs))
-    (λ c. search (far-below, far-above, needs)))
+    (λ c. search (far-below, needs))
+    (λ c. search (far-above, needs)))

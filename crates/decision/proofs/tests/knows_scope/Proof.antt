@@ -8,7 +8,7 @@ pub knows-scope-spec : {M : Type 1} → statement M
 knows-scope-spec =
     tie.close
     (tie.spec
-    (λ c κs. search (knows-is, needs))
-    (λ c κs. search (knows-is, needs))
-    (λ c κs. search (knows-is, needs))
+    (λ c κs. search needs)
+    (λ c κs. search needs)
+    (λ c κs. search needs)
     (λ c. search (knows-is, needs)))

@@ -8,6 +8,6 @@ pub lacks-current-spec : {M : Type 1} → statement M
 lacks-current-spec =
     tie.close
     (tie.spec
-    (λ c κs. search (current-is, needs))
-    (λ c κs. search (current-is, needs))
+    (λ c κs. search needs)
+    (λ c κs. search needs)
     (λ c. search (current-is, needs)))

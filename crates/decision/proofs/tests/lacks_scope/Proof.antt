@@ -8,7 +8,7 @@ pub lacks-scope-spec : {M : Type 1} → statement M
 lacks-scope-spec =
     tie.close
     (tie.spec
-    (λ c κs. search (lacks-is, needs))
-    (λ c κs. search (lacks-is, needs))
-    (λ c κs. search (lacks-is, needs))
+    (λ c κs. search needs)
+    (λ c κs. search needs)
+    (λ c κs. search needs)
     (λ c. search (lacks-is, needs)))

@@ -21,7 +21,7 @@ pub asks-for-spec : {M : Type 1} → statement M
 asks-for-spec =
     tie.close
     (tie.spec
-    (λ c κs. search (found-fits, needs))
+    (λ c κs. search needs)
     (λ c. search (found-fits, needs))
     (λ c. search (found-fits, needs))
     returns

@@ -22,7 +22,7 @@ pub counts-spec : {M : Type 1} → statement M
 counts-spec =
     tie.close
     (tie.spec
-    (λ c κs. search (counts-fit, needs))
+    (λ c κs. search needs)
     (λ c. search (counts-fit, needs))
     (λ c. search (counts-fit, needs))
     returns

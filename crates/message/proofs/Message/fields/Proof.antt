@@ -14,13 +14,13 @@ pub fields-spec : {M : Type 1} → statement M
 fields-spec =
     tie.close
     (tie.spec
+    (λ c κs. search needs)
+    (λ c κs. search needs)
     (λ c κs. search (four-scope, needs))
-    (λ c κs. search (four-scope, needs))
-    (λ c κs. search (four-scope, needs))
-    (λ c κs. search (four-scope, needs))
-    (λ c κs. search (four-scope, needs))
-    (λ c κs. search (four-scope, needs))
-    (λ c κs. search (four-scope, needs))
-    (λ c κs. search (four-scope, needs))
-    (λ c κs. search (four-scope, needs))
+    (λ c κs. search needs)
+    (λ c κs. search needs)
+    (λ c κs. search needs)
+    (λ c κs. search needs)
+    (λ c κs. search needs)
+    (λ c κs. search needs)
     returns)

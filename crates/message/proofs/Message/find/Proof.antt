@@ -15,6 +15,6 @@ find-spec =
     (tie.spec
     (λ c. search (find-above, needs))
     (λ c. search (find-above, needs))
-    (λ c κs. search (find-above, needs))
-    (λ c. search (find-above, needs))
+    (λ c κs. search needs)
+    (λ c. search needs)
     (λ c. search (find-above, needs)))

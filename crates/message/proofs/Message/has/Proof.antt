@@ -13,8 +13,8 @@ pub has-spec : {M : Type 1} → statement M
 has-spec =
     tie.close
     (tie.spec
-    (λ c κs. search (found-yes, found-no, needs))
+    (λ c κs. search needs)
     (λ c. search (found-yes, found-no, needs))
     (λ c. search (found-yes, found-no, needs))
-    (λ c. search (found-yes, found-no, needs))
-    (λ c. search (found-yes, found-no, needs)))
+    (λ c. search (found-yes, needs))
+    (λ c. search (found-no, needs)))

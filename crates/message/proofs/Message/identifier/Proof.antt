@@ -21,7 +21,7 @@ pub identifier-spec : {M : Type 1} → statement M
 identifier-spec =
     tie.close
     (tie.spec
-    (λ c κs. search (found-fits, id-short, needs))
+    (λ c κs. search needs)
     (λ c. search (found-fits, id-short, needs))
     (λ c. search (found-fits, id-short, needs))
     returns

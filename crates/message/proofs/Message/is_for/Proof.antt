@@ -22,7 +22,7 @@ pub is-for-spec : {M : Type 1} → statement M
 is-for-spec =
     tie.close
     (tie.spec
-    (λ c κs. search (found-fits, needs))
+    (λ c κs. search needs)
     (λ c. search (found-fits, needs))
     (λ c. search (found-fits, needs))
     returns

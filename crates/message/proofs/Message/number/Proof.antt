@@ -22,7 +22,7 @@ pub number-spec : {M : Type 1} → statement M
 number-spec =
     tie.close
     (tie.spec
-    (λ c κs. search (four-fits, needs))
+    (λ c κs. search needs)
     (λ c. search (four-fits, needs))
     (λ c. search (four-fits, needs))
     returns

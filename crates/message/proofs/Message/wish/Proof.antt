@@ -22,7 +22,7 @@ pub wish-spec : {M : Type 1} → statement M
 wish-spec =
     tie.close
     (tie.spec
-    (λ c κs. search (four-fits, needs))
+    (λ c κs. search needs)
     (λ c. search (four-fits, needs))
     (λ c. search (four-fits, needs))
     returns

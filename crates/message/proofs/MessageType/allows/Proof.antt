@@ -13,8 +13,8 @@ allows-spec =
     tie.close
     (tie.spec
     (λ c. search (allows-above, allows-always, allows-besides, needs))
+    (λ c. search needs)
+    (λ c κs. search needs)
     (λ c. search (allows-above, allows-always, allows-besides, needs))
-    (λ c κs. search (allows-above, allows-always, allows-besides, needs))
-    (λ c. search (allows-above, allows-always, allows-besides, needs))
-    (λ c κs. search (allows-above, allows-always, allows-besides, needs))
-    (λ c. search (allows-above, allows-always, allows-besides, needs)))
+    (λ c κs. search needs)
+    (λ c. search (allows-besides, needs)))

@@ -8,12 +8,12 @@ pub add-sets-spec : {M : Type 1} → statement M
 add-sets-spec =
     tie.close
     (tie.spec
-    (λ c. search (sets-added, needs))
-    (λ c κs. search (sets-added, needs))
-    (λ c. search (sets-added, needs))
-    (λ c κs. search (sets-added, needs))
-    (λ c. search (sets-added, needs))
-    (λ c κs. search (sets-added, needs))
-    (λ c. search (sets-added, needs))
-    (λ c κs. search (sets-added, needs))
+    (λ c. search needs)
+    (λ c κs. search needs)
+    (λ c. search needs)
+    (λ c κs. search needs)
+    (λ c. search needs)
+    (λ c κs. search needs)
+    (λ c. search needs)
+    (λ c κs. search needs)
     (λ c. search (sets-added, needs)))

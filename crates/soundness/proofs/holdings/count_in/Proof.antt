@@ -12,5 +12,5 @@ count-in-spec =
     (λ c. search (count-at, needs))
     (λ c. search (count-at, needs))
     (λ c. search (count-at, needs))
-    (λ c κs. search (count-at, needs))
+    (λ c κs. search needs)
     (λ c. search (count-at, needs)))

@@ -20,12 +20,12 @@ held-sets-spec =
     (tie.spec
     Inv-loop
     μ-loop
-    (λ c κs. search (parts, held-are, needs))
+    (λ c κs. search (parts, needs))
     (λ c. search (parts, held-are, needs))
     (λ c. search (parts, held-are, needs))
     (λ c. search (parts, held-are, needs))
-    (λ c κs. search (parts, held-are, needs))
+    (λ c κs. search (parts, needs))
     (λ c. search (parts, held-are, needs))
     (λ c. search (parts, held-are, needs))
-    (λ c. search (parts, held-are, needs))
-    (λ c. search (parts, held-are, needs)))
+    (λ c. search (parts, needs))
+    (λ c. search (parts, needs)))

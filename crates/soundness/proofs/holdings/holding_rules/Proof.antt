@@ -8,10 +8,10 @@ pub holding-rules-spec : {M : Type 1} → statement M
 holding-rules-spec =
     tie.close
     (tie.spec
+    (λ c κs. search needs)
+    (λ c κs. search needs)
     (λ c κs. search (holding-are, needs))
-    (λ c κs. search (holding-are, needs))
-    (λ c κs. search (holding-are, needs))
-    (λ c κs. search (holding-are, needs))
+    (λ c κs. search needs)
     (λ c κs. search (holding-are, needs))
     (λ c κs. search (holding-are, needs))
     (λ c. search (holding-are, needs)))

@@ -10,6 +10,6 @@ limit-ok-spec =
     (tie.spec
     (λ c κs. search (limit-is, needs))
     (λ c. search (limit-is, needs))
-    (λ c κs. search (limit-is, needs))
+    (λ c κs. search needs)
     (λ c. search (limit-is, needs))
     (λ c. search (limit-is, needs)))

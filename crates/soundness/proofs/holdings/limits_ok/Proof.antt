@@ -19,11 +19,11 @@ limits-ok-spec =
     (tie.spec
     Inv-loop
     μ-loop
+    (λ c κs. search (uptos, needs))
+    (λ c. search (uptos, needs))
     (λ c κs. search (uptos, limits-in, needs))
     (λ c. search (uptos, limits-in, needs))
-    (λ c κs. search (uptos, limits-in, needs))
     (λ c. search (uptos, limits-in, needs))
     (λ c. search (uptos, limits-in, needs))
-    (λ c. search (uptos, limits-in, needs))
-    (λ c. search (uptos, limits-in, needs))
+    (λ c. search (uptos, needs))
     (λ c. search (uptos, limits-in, needs)))

@@ -8,7 +8,7 @@ pub load-ok-spec : {M : Type 1} → statement M
 load-ok-spec =
     tie.close
     (tie.spec
-    (λ c κs. search (load-ok-is, needs))
+    (λ c κs. search needs)
     (λ c κs. search (load-ok-is, needs))
     (λ c. search (load-ok-is, needs))
     (λ c. search (load-ok-is, needs)))

@@ -10,7 +10,7 @@ load-on-spec =
     (tie.spec
     (λ c κs. search (load-is, load-small, needs))
     (λ c. search (load-is, load-small, needs))
-    (λ c κs. search (load-is, load-small, needs))
+    (λ c κs. search needs)
     (λ c. search (load-is, load-small, needs))
-    (λ c κs. search (load-is, load-small, needs))
+    (λ c κs. search needs)
     (λ c. search (load-is, load-small, needs)))

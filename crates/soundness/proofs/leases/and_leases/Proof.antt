@@ -8,9 +8,9 @@ pub and-leases-spec : {M : Type 1} → statement M
 and-leases-spec =
     tie.close
     (tie.spec
-    (λ c κs. search (lease-and, needs))
-    (λ c κs. search (lease-and, needs))
-    (λ c κs. search (lease-and, needs))
-    (λ c κs. search (lease-and, needs))
-    (λ c κs. search (lease-and, needs))
+    (λ c κs. search needs)
+    (λ c κs. search needs)
+    (λ c κs. search needs)
+    (λ c κs. search needs)
+    (λ c κs. search needs)
     (λ c. search (lease-and, needs)))

@@ -8,8 +8,8 @@ pub lease-rules-spec : {M : Type 1} → statement M
 lease-rules-spec =
     tie.close
     (tie.spec
-    (λ c κs. search (lease-is, needs))
-    (λ c κs. search (lease-is, needs))
-    (λ c κs. search (lease-is, needs))
-    (λ c κs. search (lease-is, needs))
+    (λ c κs. search needs)
+    (λ c κs. search needs)
+    (λ c κs. search needs)
+    (λ c κs. search needs)
     (λ c. search (lease-is, needs)))

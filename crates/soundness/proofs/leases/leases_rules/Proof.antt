@@ -20,12 +20,12 @@ leases-rules-spec =
     (tie.spec
     Inv-loop
     μ-loop
-    (λ c κs. search (parts, leases-are, needs))
+    (λ c κs. search (parts, needs))
     (λ c. search (parts, leases-are, needs))
     (λ c. search (parts, leases-are, needs))
     (λ c. search (parts, leases-are, needs))
-    (λ c κs. search (parts, leases-are, needs))
+    (λ c κs. search (parts, needs))
     (λ c. search (parts, leases-are, needs))
     (λ c. search (parts, leases-are, needs))
-    (λ c. search (parts, leases-are, needs))
-    (λ c. search (parts, leases-are, needs)))
+    (λ c. search (parts, needs))
+    (λ c. search (parts, needs)))

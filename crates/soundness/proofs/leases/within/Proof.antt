@@ -8,7 +8,7 @@ pub within-spec : {M : Type 1} → statement M
 within-spec =
     tie.close
     (tie.spec
-    (λ c κs. search (pool-is, needs))
-    (λ c κs. search (pool-is, needs))
-    (λ c κs. search (pool-is, needs))
+    (λ c κs. search needs)
+    (λ c κs. search needs)
+    (λ c κs. search needs)
     (λ c. search (pool-is, needs)))

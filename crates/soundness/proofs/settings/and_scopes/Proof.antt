@@ -9,9 +9,9 @@ and-scopes-spec =
     tie.close
     (tie.spec
     (λ c κs. search (scope-and, needs))
-    (λ c κs. search (scope-and, needs))
-    (λ c κs. search (scope-and, needs))
-    (λ c κs. search (scope-and, needs))
-    (λ c κs. search (scope-and, needs))
-    (λ c κs. search (scope-and, needs))
+    (λ c κs. search needs)
+    (λ c κs. search needs)
+    (λ c κs. search needs)
+    (λ c κs. search needs)
+    (λ c κs. search needs)
     (λ c. search (scope-and, needs)))

@@ -12,12 +12,12 @@ returns c = search (ands, leb-left, needs)
 
 returns-2 : tie.Need-returns-2
 unfolding poolB
-returns-2 c = search (ands, leb-left, needs)
+returns-2 c = search (ands, needs)
 
 pub pool-ok-spec : {M : Type 1} → statement M
 pool-ok-spec =
     tie.close
     (tie.spec
-    (λ c κs. search (ands, leb-left, needs))
+    (λ c κs. search (ands, needs))
     returns
     returns-2)

@@ -20,13 +20,13 @@ ranges-ok-spec =
     (tie.spec
     Inv-loop
     μ-loop
-    (λ c κs. search (alls, all-start, needs))
+    (λ c κs. search (alls, needs))
     (λ c. search (alls, all-start, needs))
     (λ c. search (alls, all-start, needs))
     (λ c. search (alls, all-start, needs))
-    (λ c κs. search (alls, all-start, needs))
+    (λ c κs. search (alls, needs))
+    (λ c. search (alls, needs))
     (λ c. search (alls, all-start, needs))
     (λ c. search (alls, all-start, needs))
-    (λ c. search (alls, all-start, needs))
-    (λ c. search (alls, all-start, needs))
-    (λ c. search (alls, all-start, needs)))
+    (λ c. search (alls, needs))
+    (λ c. search (alls, needs)))

@@ -13,8 +13,8 @@ pub scope-rules-spec : {M : Type 1} → statement M
 scope-rules-spec =
     tie.close
     (tie.spec
+    (λ c κs. search needs)
+    (λ c κs. search needs)
     (λ c κs. search (scope-is, needs))
-    (λ c κs. search (scope-is, needs))
-    (λ c κs. search (scope-is, needs))
-    (λ c κs. search (scope-is, needs))
+    (λ c κs. search needs)
     returns)

@@ -20,12 +20,12 @@ scopes-rules-spec =
     (tie.spec
     Inv-loop
     μ-loop
-    (λ c κs. search (parts, scopes-are, needs))
+    (λ c κs. search (parts, needs))
     (λ c. search (parts, scopes-are, needs))
     (λ c. search (parts, scopes-are, needs))
     (λ c. search (parts, scopes-are, needs))
     (λ c κs. search (parts, scopes-are, needs))
     (λ c. search (parts, scopes-are, needs))
     (λ c. search (parts, scopes-are, needs))
-    (λ c. search (parts, scopes-are, needs))
-    (λ c. search (parts, scopes-are, needs)))
+    (λ c. search (parts, needs))
+    (λ c. search (parts, needs)))

@@ -8,12 +8,12 @@ pub settings-rules-spec : {M : Type 1} → statement M
 settings-rules-spec =
     tie.close
     (tie.spec
+    (λ c κs. search needs)
+    (λ c κs. search needs)
     (λ c κs. search (settings-are, needs))
-    (λ c κs. search (settings-are, needs))
-    (λ c κs. search (settings-are, needs))
-    (λ c κs. search (settings-are, needs))
-    (λ c κs. search (settings-are, needs))
-    (λ c κs. search (settings-are, needs))
-    (λ c κs. search (settings-are, needs))
+    (λ c κs. search needs)
+    (λ c κs. search needs)
+    (λ c κs. search needs)
+    (λ c κs. search needs)
     (λ c κs. search (settings-are, needs))
     (λ c. search (settings-are, needs)))

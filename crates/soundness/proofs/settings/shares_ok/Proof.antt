@@ -12,7 +12,7 @@ returns c = search (joins, leb-left, needs)
 
 returns-2 : tie.Need-returns-2
 unfolding sharesB
-returns-2 c = search (joins, leb-left, needs)
+returns-2 c = search (joins, needs)
 
 pub shares-ok-spec : {M : Type 1} → statement M
 shares-ok-spec =

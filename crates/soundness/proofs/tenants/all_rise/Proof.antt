@@ -21,7 +21,7 @@ all-rise-spec =
     (tie.spec
     Inv-loop
     μ-loop
-    (λ c κs. search (nexts, rise-start, needs))
+    (λ c κs. search (nexts, needs))
     (λ c. search (nexts, rise-start, needs))
     (λ c. search (nexts, rise-start, needs))
     (λ c. search (nexts, rise-start, needs))
@@ -29,8 +29,8 @@ all-rise-spec =
     (λ c. search (nexts, rise-start, needs))
     (λ c. search (nexts, rise-start, needs))
     (λ c. search (nexts, rise-start, needs))
-    (λ c κs. search (nexts, rise-start, needs))
-    (λ c. search (nexts, rise-start, needs))
+    (λ c κs. search (nexts, needs))
+    (λ c. search (nexts, needs))
     (λ c. search (nexts, rise-start, needs))
     (λ c. search (next-next, not-false, needs))
-    (λ c. search (nexts, rise-start, needs)))
+    (λ c. search (nexts, needs)))

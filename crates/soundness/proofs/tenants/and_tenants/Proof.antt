@@ -8,10 +8,10 @@ pub and-tenants-spec : {M : Type 1} → statement M
 and-tenants-spec =
     tie.close
     (tie.spec
-    (λ c κs. search (tenant-both, needs))
-    (λ c κs. search (tenant-both, needs))
-    (λ c κs. search (tenant-both, needs))
-    (λ c κs. search (tenant-both, needs))
-    (λ c κs. search (tenant-both, needs))
-    (λ c κs. search (tenant-both, needs))
+    (λ c κs. search needs)
+    (λ c κs. search needs)
+    (λ c κs. search needs)
+    (λ c κs. search needs)
+    (λ c κs. search needs)
+    (λ c κs. search needs)
     (λ c. search (tenant-both, needs)))

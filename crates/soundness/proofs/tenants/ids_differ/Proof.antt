@@ -9,5 +9,5 @@ ids-differ-spec =
     tie.close
     (tie.spec
     (λ c. search (rise-differ, needs))
-    (λ c κs. search (rise-differ, needs))
-    (λ c. search (rise-differ, needs)))
+    (λ c κs. search needs)
+    (λ c. search needs))

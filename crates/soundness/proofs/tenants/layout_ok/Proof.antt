@@ -8,7 +8,7 @@ pub layout-ok-spec : {M : Type 1} → statement M
 layout-ok-spec =
     tie.close
     (tie.spec
-    (λ c κs. search (and-true, and-false, needs))
+    (λ c κs. search needs)
     (λ c. search (and-true, and-false, needs))
     (λ c. search (and-true, and-false, needs))
     (λ c. search (and-true, and-false, needs)))

@@ -8,6 +8,6 @@ pub names-differ-spec : {M : Type 1} → statement M
 names-differ-spec =
     tie.close
     (tie.spec
-    (λ c κs. search (differ-no, differ-yes, needs))
-    (λ c. search (differ-no, differ-yes, needs))
-    (λ c. search (differ-no, differ-yes, needs)))
+    (λ c κs. search needs)
+    (λ c. search (differ-no, needs))
+    (λ c. search (differ-yes, needs)))

@@ -10,5 +10,5 @@ rest-unused-spec =
     tie.close
     (tie.spec
     (λ c κs. search (unused-past, unmapped, needs))
-    (λ c. search (unused-past, unmapped, needs))
+    (λ c. search needs)
     (λ c. search (unused-past, unmapped, needs)))

@@ -8,10 +8,10 @@ pub tenant-rules-spec : {M : Type 1} → statement M
 tenant-rules-spec =
     tie.close
     (tie.spec
-    (λ c κs. search (tenant-is, needs))
-    (λ c κs. search (tenant-is, needs))
-    (λ c κs. search (tenant-is, needs))
-    (λ c κs. search (tenant-is, needs))
-    (λ c κs. search (tenant-is, needs))
-    (λ c κs. search (tenant-is, needs))
+    (λ c κs. search needs)
+    (λ c κs. search needs)
+    (λ c κs. search needs)
+    (λ c κs. search needs)
+    (λ c κs. search needs)
+    (λ c κs. search needs)
     (λ c. search (tenant-is, needs)))

@@ -1,0 +1,34 @@
+-- By the definition, case by case.
+use Rattle.lists.specs.Pick.{picks}
+use Rattle.message.specs.Placed.{pastWithin}
+use borrow.Author.Needs.{needs}
+use native.Mathlib.Omega.{arith}
+-- By the definition, case by case.
+-- By the definition, case by case.
+-- By the definition, case by case.
+-- By the definition, case by case.
+-- By the definition, case by case.
+use Rattle.message.proofs.options.past_list.Statement.{statement}
+use Rattle.message.proofs.options.past_list.Tie as tie
+
+returns : tie.Need-returns
+unfolding pastWithin
+returns c = search (picks, needs)
+
+returns-2 : tie.Need-returns-2
+unfolding pastWithin
+returns-2 c = (rw (c .read-u16 .ensures) (search (picks, needs)), omega arith)
+
+pub past-list-spec : {M : Type 1} → statement M
+past-list-spec =
+    tie.close
+    (tie.spec
+    (λ c. search (picks, needs))
+    (λ c. search (picks, needs))
+    returns
+    (λ c. search (picks, needs))
+    (λ c κs. search (picks, needs))
+    (λ c. search (picks, needs))
+    (λ c. search (picks, needs))
+    (λ c. search (picks, needs))
+    returns-2)

@@ -1,0 +1,40 @@
+-- By the definition, case by case.
+use Rattle.lists.specs.Pick.{calls, picks}
+use Rattle.message.proofs.Steps.{message-is}
+use Rattle.message.specs.Read.{ended}
+use borrow.Author.Needs.{needs}
+-- By the definition, case by case.
+-- By the definition, case by case.
+-- By the definition, case by case.
+-- By the definition, case by case.
+-- By the definition, case by case.
+use Rattle.message.proofs.reader.ended.Statement.{statement}
+use Rattle.message.proofs.reader.ended.Tie as tie
+
+returns : tie.Need-returns
+unfolding ended
+returns c = search (calls, picks, needs)
+
+returns-2 : tie.Need-returns-2
+unfolding ended
+returns-2 c = search (calls, picks, message-is, needs)
+
+returns-3 : tie.Need-returns-3
+unfolding ended
+returns-3 c = search (calls, picks, needs)
+
+pub ended-spec : {M : Type 1} → statement M
+ended-spec =
+    tie.close
+    (tie.spec
+    (λ c. search (calls, picks, needs))
+    (λ c. search (calls, picks, needs))
+    (λ c. search (calls, picks, needs))
+    (λ c κs. search (calls, picks, needs))
+    returns
+    (λ c κs. search (calls, picks, needs))
+    (λ c. search (calls, picks, message-is, needs))
+    (λ c κs. search (calls, picks, message-is, needs))
+    returns-2
+    (λ c κs. search (calls, picks, needs))
+    returns-3)

@@ -1,0 +1,31 @@
+-- By the definition, case by case.
+use Rattle.lists.specs.Pick.{picks}
+use Rattle.message.proofs.Steps.{features-filled, features-fit}
+use Rattle.message.specs.Read.{noneRequired}
+use borrow.Author.Needs.{needs}
+-- By the definition, case by case.
+-- By the definition, case by case.
+-- By the definition, case by case.
+-- By the definition, case by case.
+-- By the definition, case by case.
+use Rattle.message.proofs.reader.none_required.Statement.{statement}
+use Rattle.message.proofs.reader.none_required.Tie as tie
+
+returns : tie.Need-returns
+unfolding noneRequired
+returns c = search (picks, needs)
+
+returns-2 : tie.Need-returns-2
+unfolding noneRequired
+returns-2 c = search (picks, needs)
+
+pub none-required-spec : {M : Type 1} → statement M
+none-required-spec =
+    tie.close
+    (tie.spec
+    (λ c. search (picks, needs))
+    (λ c. search (picks, needs))
+    (λ c. search (picks, needs))
+    returns
+    (λ c κs. search (picks, features-fit, features-filled, needs))
+    returns-2)

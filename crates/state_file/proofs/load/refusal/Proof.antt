@@ -1,0 +1,13 @@
+-- `load::refusal` meets its contract: by `refused-is`.
+use Rattle.state_file.proofs.Loads.{refused-is}
+use borrow.Author.Needs.{needs}
+use Rattle.state_file.proofs.load.refusal.Statement.{statement}
+use Rattle.state_file.proofs.load.refusal.Tie as tie
+
+pub refusal-spec : {M : Type 1} → statement M
+refusal-spec =
+    tie.close
+    (tie.spec
+    (λ c κs. search needs)
+    (λ c κs. search needs)
+    (λ c. search (refused-is, needs)))

@@ -1,0 +1,50 @@
+-- `size::tenant_size` meets its contract: its loop keeps `SizeInv`; by `row-sum`, `size-end`, `sizes`, `unmapped`.
+use Prim.Native.Nat.{_-_}
+use native.Mathlib.Omega.{arith}
+use lib.ListN.{getD, length}
+use borrow.Author.Needs.{needs}
+use Rattle.lists.specs.Part.{unmapped}
+use Rattle.state.specs.Book.{noLease}
+use Rattle.state_file.proofs.RowLaws.{SizeInv, row-sum, size-end, sizes}
+use Rattle.state_file.specs.Rows.{leaseOctets}
+use Rattle.state_file.proofs.size.tenant_size.Statement.{statement}
+use Rattle.state_file.proofs.size.tenant_size.Tie as tie
+
+abbrev Inv-loop : tie.InvT-loop
+Inv-loop t n sum₀ i₀ sum i = SizeInv (λ i. length (leaseOctets 0 i (getD (t .leases) i noLease))) 113 n sum i
+
+abbrev μ-loop : tie.MeasureT-loop
+μ-loop t n sum₀ i₀ sum i = n - i
+
+loop-holds : tie.Need-loop-holds Inv-loop μ-loop
+unfolding leaseOctets
+loop-holds c = search (sizes, needs)
+
+loop-less : tie.Need-loop-less Inv-loop μ-loop
+unfolding leaseOctets
+loop-less c = search (sizes, needs)
+
+loop-again : tie.Need-loop-again Inv-loop μ-loop
+unfolding leaseOctets
+loop-again c = search (sizes, needs)
+
+returns : tie.Need-returns Inv-loop μ-loop
+unfolding leaseOctets
+returns c = (row-sum (leaseOctets 0) noLease (c .before .before .before .args .t1 .leases) 16 (c .before .before .before .args .t1 .count) _ _ (search (unmapped, needs)) (c .before .before .cut16 .ensures) (size-end (c .before .loop .inv) (search needs)), omega (arith, c .before .loop .inv .small, c .before .loop .inv .within, c .before .before .cut16 .ensures))
+
+pub tenant-size-spec : {M : Type 1} → statement M
+tenant-size-spec =
+    tie.close
+    (tie.spec
+    Inv-loop
+    μ-loop
+    (λ c κs. search (sizes, needs))
+    loop-holds
+    (λ c. search (sizes, needs))
+    (λ c. search (sizes, needs))
+    (λ c κs. search (sizes, needs))
+    (λ c. search (sizes, needs))
+    (λ c. search (sizes, needs))
+    loop-less
+    loop-again
+    returns)

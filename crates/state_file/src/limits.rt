@@ -1,0 +1,167 @@
+// Whether the records of a book can hold what a well-formed file has: so many tenants, scopes and leases, identifiers and offsets.
+ghost use mathlib.Core.Path.{_≡_};
+ghost use Prim.Native.Nat.{_+_, _<_, _≤_};
+ghost use lib.Dec.{eqb};
+ghost use lib.ListN.{drop, getD, length, take};
+ghost use Rattle.lists.specs.All.{allBy, allTo};
+ghost use Rattle.lists.specs.Pick.{pick};
+ghost use Rattle.state_file.specs.Place.{Formed, InRow, Inside, fileAt, leaseAt, leasesAt, leasesPlace, nextAt, scopesPlace};
+ghost use Rattle.state_file.specs.Records.{fewOf, fitsB, isOffset, leasesFitB, ofTenant, storableB};
+use crate::form::scopes_size;
+use crate::form::wide;
+
+// Whether the records can hold the file.
+pub fn fits(s: &[u8]) -> bool
+    requires { ⌜ Formed (now s) ⌝ }
+    ensures { λ r. ⌜ r ≡ fitsB (fileAt (now (s .entry))) ⌝ }
+{
+    if 8 < s[9] {
+        return false;
+    }
+    let at = scopes_place(s);
+    if 4 < s[at] {
+        return false;
+    }
+    leases_fit(s)
+}
+
+// Whether the records can hold the leases.
+fn leases_fit(s: &[u8]) -> bool
+    requires { ⌜ Formed (now s) ⌝ }
+    ensures { λ r. ⌜ r ≡ leasesFitB (fileAt (now (s .entry)) .leases) ⌝ }
+{
+    let at = leases_place(s);
+    let count = wide(s[at]);
+    if all_storable(s, at + 1, count) {
+        return all_few(s, at + 1, count);
+    }
+    false
+}
+
+// Whether records of the book can hold all of `count` leases whose records start at `from`.
+fn all_storable(s: &[u8], from: usize, count: usize) -> bool
+    requires { ⌜ InRow (now s) from count ⌝ }
+    ensures { λ r. ⌜ r ≡ allBy storableB (leasesAt (now (s .entry)) from count) ⌝ }
+{
+    let mut here = from;
+    let mut i: usize = 0;
+    while i < count {
+        if storable_at(s, here) {
+            here = lease_next(s, here);
+            i += 1;
+        } else {
+            return false;
+        }
+    }
+    true
+}
+
+// Whether a record of the book can hold the lease whose record starts at `at`.
+fn storable_at(s: &[u8], at: usize) -> bool
+    requires { ⌜ Inside (now s) at ⌝ }
+    ensures { λ r. ⌜ r ≡ storableB (leaseAt (now (s .entry)) at) ⌝ }
+{
+    let t = s[at];
+    if t < 1 {
+        return false;
+    }
+    if 8 < t {
+        return false;
+    }
+    let n = wide(s[at + 2]);
+    if 32 < n {
+        return false;
+    }
+    let k = wide(s[at + (n + 16)]);
+    low(s, at + (n + 17), k)
+}
+
+// Whether the k octets from `at` on are all below 64.
+fn low(s: &[u8], at: usize, k: usize) -> bool
+    requires { ⌜ at + k ≤ length (now s) ⌝ }
+    ensures { λ r. ⌜ r ≡ allBy isOffset (take k (drop at (now (s .entry)))) ⌝ }
+{
+    let mut i: usize = 0;
+    while i < k {
+        if 64 <= s[at + i] {
+            return false;
+        }
+        i += 1;
+    }
+    true
+}
+
+// Whether no tenant has more leases than records.
+fn all_few(s: &[u8], from: usize, count: usize) -> bool
+    requires { ⌜ InRow (now s) from count ⌝ }
+    ensures { λ r. ⌜ r ≡ allTo (λ i. fewOf (leasesAt (now (s .entry)) from count) (i + 1)) 8 ⌝ }
+{
+    let mut i: usize = 0;
+    while i < 8 {
+        if !few_of(s, from, count, (i + 1) as u8) {
+            return false;
+        }
+        i += 1;
+    }
+    true
+}
+
+fn few_of(s: &[u8], from: usize, count: usize, t: u8) -> bool
+    requires { ⌜ InRow (now s) from count ⌝ }
+    ensures { λ r. ⌜ r ≡ fewOf (leasesAt (now (s .entry)) from count) t ⌝ }
+{
+    count_of(s, from, count, t) <= 16
+}
+
+// How many of `count` leases whose records start at `from` are tenant t's.
+fn count_of(s: &[u8], from: usize, count: usize, t: u8) -> usize
+    requires { ⌜ InRow (now s) from count ⌝ }
+    ensures { λ r. ⌜ r ≡ length (ofTenant t (leasesAt (now (s .entry)) from count)) ⌝ }
+{
+    let mut n: usize = 0;
+    let mut here = from;
+    let mut i: usize = 0;
+    while i < count {
+        n += one_of(s, here, t);
+        here = lease_next(s, here);
+        i += 1;
+    }
+    n
+}
+
+// 1 if the lease whose record starts at `at` is tenant t's, else 0.
+fn one_of(s: &[u8], at: usize, t: u8) -> usize
+    requires { ⌜ at < length (now s) ⌝ }
+    ensures { λ r. ⌜ (r ≡ pick (eqb (getD (now (s .entry)) at 0) t) 1 0) × (r ≤ 1) ⌝ }
+{
+    if s[at] == t {
+        return 1;
+    }
+    0
+}
+
+// Where the record that starts at `at` ends.
+pub fn lease_next(s: &[u8], at: usize) -> usize
+    requires { ⌜ Inside (now s) at ⌝ }
+    ensures { λ r. ⌜ r ≡ nextAt (now (s .entry)) at ⌝ }
+{
+    let n = wide(s[at + 2]);
+    let k = wide(s[at + (n + 16)]);
+    at + (n + 17 + k)
+}
+
+// Where the sections of scopes and of leases start.
+pub fn scopes_place(s: &[u8]) -> usize
+    requires { ⌜ Formed (now s) ⌝ }
+    ensures { λ r. ⌜ (r ≡ scopesPlace (now (s .entry))) × (r < length (now (s .entry))) ⌝ }
+{
+    10 + wide(s[9]) * 8
+}
+
+pub fn leases_place(s: &[u8]) -> usize
+    requires { ⌜ Formed (now s) ⌝ }
+    ensures { λ r. ⌜ (r ≡ leasesPlace (now (s .entry))) × (r < length (now (s .entry))) ⌝ }
+{
+    let at = scopes_place(s);
+    at + 1 + scopes_size(wide(s[at]), wide(s[9]))
+}

@@ -1,0 +1,269 @@
+// The book of a file whose form is right: the settings, then the leases, tenant by tenant, then soundness.
+ghost use mathlib.Core.Bool.{true};
+ghost use mathlib.Core.List.{map};
+ghost use mathlib.Core.Path.{_≡_};
+ghost use Prim.Native.Nat.{_*_, _+_, _≤_};
+ghost use lib.ListN.{drop, getD, length, take};
+ghost use Rattle.address_set.specs.AddressSet.{readOffsets};
+ghost use Rattle.state.specs.Book.{zeroScope};
+ghost use Rattle.state_file.specs.Place.{AllHeld, Formed, Held, fileAt, keepOne, keptFrom, keptOf, leaseAt, leasesAt, rangeAt, row, scopeAt};
+ghost use Rattle.state_file.specs.Records.{filled, fitsB, stored, storedScope, storedState, storedTable, zeroRange};
+ghost use Rattle.state_file.specs.StateFile.{judged, loaded, refused};
+use crate::Loaded;
+use crate::form::wide;
+use crate::limits::fits;
+use crate::limits::lease_next;
+use crate::limits::leases_place;
+use crate::limits::scopes_place;
+use crate::no_state;
+use state::ClientRange;
+use state::Lease;
+use state::LeaseTable;
+use state::Scope;
+use state::State;
+use state::TenantLeases;
+
+pub fn load(s: &[u8]) -> Loaded
+    requires { ⌜ Formed (now s) ⌝ }
+    ensures { λ r. ⌜ r ≡ loaded (fileAt (now (s .entry))) ⌝ }
+{
+    if fits(s) {
+        let state = state_at(s);
+        let table = table_at(s);
+        return judge(state, table);
+    }
+    refusal(21)
+}
+
+fn judge(state: State, table: LeaseTable) -> Loaded
+    ensures { λ r. ⌜ r ≡ judged state table ⌝ }
+{
+    if soundness::sound(state, table) {
+        return Loaded {
+            refusal: 0,
+            state,
+            table,
+        };
+    }
+    refusal(21)
+}
+
+pub fn refusal(n: u8) -> Loaded
+    ensures { λ r. ⌜ r ≡ refused n ⌝ }
+{
+    let none = state::no_leases();
+    let state = no_state();
+    let table = LeaseTable { tenants: [none; 8] };
+    Loaded {
+        refusal: n,
+        state,
+        table,
+    }
+}
+
+fn state_at(s: &[u8]) -> State
+    requires { ⌜ Formed (now s) × (fitsB (fileAt (now s)) ≡ true) ⌝ }
+    ensures { λ r. ⌜ r ≡ storedState (fileAt (now (s .entry))) ⌝ }
+{
+    let at = scopes_place(s);
+    let h = s[9];
+    let k = s[at];
+    let n = wide(h);
+    let m = wide(k);
+    let tenants = ranges_at(s, 10, n);
+    let scopes = scopes_at(s, at + 1, m, n);
+    State {
+        server: octets::read_u32(s, 1),
+        clock: octets::read_u32(s, 5),
+        tenant_count: h,
+        tenants,
+        scope_count: k,
+        scopes,
+    }
+}
+
+// The n client ranges whose records start at `at`, and zeros after them.
+fn ranges_at(s: &[u8], at: usize, n: usize) -> [ClientRange; 8]
+    requires { ⌜ (n ≤ 8) × (at + n * 8 ≤ length (now s)) ⌝ }
+    ensures { λ r. ⌜ r ≡ filled zeroRange 8 (row rangeAt 8 n (now (s .entry)) at) ⌝ }
+{
+    let z = zero_range();
+    let mut out = [z; 8];
+    let mut i: usize = 0;
+    while i < n {
+        let t = range_at(s, at + i * 8);
+        out[i] = t;
+        i += 1;
+    }
+    out
+}
+
+fn range_at(s: &[u8], at: usize) -> ClientRange
+    requires { ⌜ at + 8 ≤ length (now s) ⌝ }
+    ensures { λ r. ⌜ r ≡ rangeAt (now (s .entry)) at ⌝ }
+{
+    ClientRange {
+        low: octets::read_u32(s, at),
+        high: octets::read_u32(s, at + 4),
+    }
+}
+
+pub fn zero_range() -> ClientRange
+    ensures { λ r. ⌜ r ≡ zeroRange ⌝ }
+{
+    ClientRange { low: 0, high: 0 }
+}
+
+// The k scopes whose records start at `at`, and zeros after them.
+fn scopes_at(s: &[u8], at: usize, k: usize, h: usize) -> [Scope; 4]
+    requires { ⌜ (h ≤ 8) × (k ≤ 4) × (at + k * (6 + h * 2) ≤ length (now s)) ⌝ }
+    ensures { λ r. ⌜ r ≡ filled zeroScope 4 (map storedScope (row (scopeAt h) (6 + h * 2) k (now (s .entry)) at)) ⌝ }
+{
+    let z = zero_scope();
+    let mut out = [z; 4];
+    let mut i: usize = 0;
+    while i < k {
+        let c = scope_at(s, at + i * (6 + h * 2), h);
+        out[i] = c;
+        i += 1;
+    }
+    out
+}
+
+// The scope whose record starts at `at`, with a part for each of h tenants.
+fn scope_at(s: &[u8], at: usize, h: usize) -> Scope
+    requires { ⌜ (h ≤ 8) × (at + (6 + h * 2) ≤ length (now s)) ⌝ }
+    ensures { λ r. ⌜ r ≡ storedScope (scopeAt h (now (s .entry)) at) ⌝ }
+{
+    let reserve = column_at(s, at + 6, h);
+    let limit = column_at(s, at + 7, h);
+    Scope {
+        lowest: octets::read_u32(s, at),
+        size: s[at + 4],
+        ttl: s[at + 5],
+        reserve,
+        limit,
+    }
+}
+
+// Every other of the octets from `at` on, n of them, and zeros after them.
+fn column_at(s: &[u8], at: usize, n: usize) -> [u8; 8]
+    requires { ⌜ (n ≤ 8) × (at + n * 2 ≤ length (now s) + 1) ⌝ }
+    ensures { λ r. ⌜ r ≡ filled 0 8 (row (λ s at. getD s at 0) 2 n (now (s .entry)) at) ⌝ }
+{
+    let mut out = [0u8; 8];
+    let mut i: usize = 0;
+    while i < n {
+        out[i] = s[at + i * 2];
+        i += 1;
+    }
+    out
+}
+
+pub fn zero_scope() -> Scope
+    ensures { λ r. ⌜ r ≡ zeroScope ⌝ }
+{
+    Scope {
+        lowest: 0,
+        size: 0,
+        ttl: 0,
+        reserve: [0u8; 8],
+        limit: [0u8; 8],
+    }
+}
+
+fn table_at(s: &[u8]) -> LeaseTable
+    requires { ⌜ Formed (now s) × (fitsB (fileAt (now s)) ≡ true) ⌝ }
+    ensures { λ r. ⌜ r ≡ storedTable (fileAt (now (s .entry))) ⌝ }
+{
+    let at = leases_place(s);
+    let count = wide(s[at]);
+    let tenants = all_leases(s, at + 1, count);
+    LeaseTable { tenants }
+}
+
+// The leases of the eight tenants among `count` records that start at `from`.
+fn all_leases(s: &[u8], from: usize, count: usize) -> [TenantLeases; 8]
+    requires { ⌜ AllHeld (now s) from count ⌝ }
+    ensures { λ r. ⌜ r ≡ keptFrom 1 8 (leasesAt (now (s .entry)) from count) ⌝ }
+{
+    let z = state::no_leases();
+    let mut out = [z; 8];
+    let mut i: usize = 0;
+    while i < 8 {
+        let h = tenant_leases(s, from, count, (i + 1) as u8);
+        out[i] = h;
+        i += 1;
+    }
+    out
+}
+
+// The leases of tenant t among `count` records that start at `from`.
+fn tenant_leases(s: &[u8], from: usize, count: usize, t: u8) -> TenantLeases
+    requires { ⌜ AllHeld (now s) from count ⌝ }
+    ensures { λ r. ⌜ r ≡ keptOf t (leasesAt (now (s .entry)) from count) ⌝ }
+{
+    let mut out = state::no_leases();
+    let mut here = from;
+    let mut i: usize = 0;
+    while i < count {
+        out = keep_tenant(out, s, here, t);
+        here = lease_next(s, here);
+        i += 1;
+    }
+    out
+}
+
+fn keep_tenant(h: TenantLeases, s: &[u8], at: usize, t: u8) -> TenantLeases
+    requires { ⌜ Held (now s) at ⌝ }
+    ensures { λ r. ⌜ r ≡ keepOne t h (leaseAt (now (s .entry)) at) ⌝ }
+{
+    if s[at] == t {
+        return state::push(h, lease_at(s, at));
+    }
+    h
+}
+
+// The lease whose record starts at `at`.
+fn lease_at(s: &[u8], at: usize) -> Lease
+    requires { ⌜ Held (now s) at ⌝ }
+    ensures { λ r. ⌜ r ≡ stored (leaseAt (now (s .entry)) at) ⌝ }
+{
+    let n = wide(s[at + 2]);
+    let k = wide(s[at + (n + 16)]);
+    let id = id_at(s, at + 3, n);
+    let addresses = set_at(s, at + (n + 17), k);
+    Lease {
+        scope: s[at + 1],
+        id_len: s[at + 2],
+        id,
+        kind: s[at + (n + 3)],
+        xid: octets::read_u32(s, at + (n + 4)),
+        start: octets::read_u32(s, at + (n + 8)),
+        end: octets::read_u32(s, at + (n + 12)),
+        addresses,
+    }
+}
+
+// The n octets from `at` on, and zeros after them.
+fn id_at(s: &[u8], at: usize, n: usize) -> [u8; 32]
+    requires { ⌜ (n ≤ 32) × (at + n ≤ length (now s)) ⌝ }
+    ensures { λ r. ⌜ r ≡ filled 0 32 (take n (drop at (now (s .entry)))) ⌝ }
+{
+    let mut id = [0u8; 32];
+    let mut i: usize = 0;
+    while i < n {
+        id[i] = s[at + i];
+        i += 1;
+    }
+    id
+}
+
+// The set of the k offsets from `at` on.
+fn set_at(s: &[u8], at: usize, k: usize) -> u64
+    requires { ⌜ at + k ≤ length (now s) ⌝ }
+    ensures { λ r. ⌜ r ≡ readOffsets (take k (drop at (now (s .entry)))) ⌝ }
+{
+    let end = at + k;
+    address_set::from_offsets(&s[at..end])
+}

@@ -1,10 +1,9 @@
 // Document 01's grant rule: how many addresses a tenant gets for a period, and which.
 ghost use mathlib.Core.Path.{_≡_};
-ghost use Prim.Native.Nat.{ℕ, _+_, _-_, _*_, _<_, _≤_, min, max};
-ghost use lib.ListN.{length, getD};
+ghost use Prim.Native.Nat.{_*_, _<_, _≤_};
 ghost use Rattle.lists.specs.Down.{largest};
 ghost use Rattle.lists.specs.Sums.{sumTo};
-ghost use Rattle.state.specs.Book.{inUse, leasesOf};
+ghost use Rattle.state.specs.Book.{leasesOf};
 ghost use Rattle.allocation.specs.Rule.{takenOf, busyIn, freeOf, nobodysOf, grantOf, suffices};
 ghost use Rattle.allocation.specs.Closed.{allowedOf, Small};
 ghost use Rattle.allocation.specs.Loops.{takenOne, busyMore, otherLoad, weightOf, Numbered};
@@ -38,30 +37,12 @@ pub struct Load {
     pub size: u32,
 }
 
-fn larger(a: u32, b: u32) -> u32
-    ensures { λ r. ⌜ r ≡ max a b ⌝ }
-{
-    if a < b {
-        return b;
-    }
-    a
-}
-
-fn smaller(a: u32, b: u32) -> u32
-    ensures { λ r. ⌜ r ≡ min a b ⌝ }
-{
-    if a < b {
-        return a;
-    }
-    b
-}
-
 // The largest number that the rule allows, up to the desired one.
 fn most(l: Load, desired: u32) -> u32
     requires { ⌜ Small l ⌝ }
     ensures { λ r. ⌜ r ≡ largest (allowedOf l) desired ⌝ }
 {
-    let load = larger(l.held, l.reserve);
+    let load = arithmetic::larger(l.held, l.reserve);
     if l.limit < l.held {
         return 0;
     }
@@ -70,8 +51,8 @@ fn most(l: Load, desired: u32) -> u32
     }
     let a = l.limit - l.held;
     let b = l.size - (l.others + l.held);
-    let room = smaller(a, b);
-    smaller(desired, l.free + room)
+    let room = arithmetic::smaller(a, b);
+    arithmetic::smaller(desired, l.free + room)
 }
 
 fn wide(x: u8) -> u32
@@ -94,7 +75,7 @@ fn weight(t: TenantLeases, scope: u8, reserve: u8, g: usize, h: usize) -> u32
         return 0;
     }
     let n = state::held_count(t, scope);
-    larger(n, reserve as u32)
+    arithmetic::larger(n, reserve as u32)
 }
 
 // What the other tenants hold or have in reserve.

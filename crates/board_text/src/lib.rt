@@ -1,7 +1,7 @@
 // The text that `board` prints for a state file.
 ghost use mathlib.Core.List.{[], _++_, _∷_};
 ghost use mathlib.Core.Path.{_≡_};
-ghost use Prim.Native.Nat.{_%_, _+_, _/_, _<_, _≤_, min};
+ghost use Prim.Native.Nat.{_%_, _+_, _/_, _<_, _≤_};
 ghost use lib.ListN.{length};
 ghost use Rattle.board_text.specs.Board.{Line, bookLines, decimal, dotted, field, header, lengthIn, line, refusedLine, roomWith, scopeLines};
 ghost use Rattle.octets.specs.Octets.{Wrote};
@@ -121,29 +121,11 @@ fn put_tenant(
     )
 }
 
-fn cut8(n: u8) -> usize
-    ensures { λ r. ⌜ r ≡ min n 8 ⌝ }
-{
-    if n < 8 {
-        return n as usize;
-    }
-    8
-}
-
-fn cut4(n: u8) -> usize
-    ensures { λ r. ⌜ r ≡ min n 4 ⌝ }
-{
-    if n < 4 {
-        return n as usize;
-    }
-    4
-}
-
 fn put_scope(buffer: &mut [u8], at: usize, state: State, table: LeaseTable, k: usize) -> usize
     requires { ⌜ (at + 256 ≤ length (now buffer)) × (k < 4) ⌝ }
     ensures { λ r. ⌜ Line (now (buffer .entry)) at (scopeLines state table k) (now (buffer .exit)) r 256 ⌝ }
 {
-    let n = cut8(state.tenant_count);
+    let n = arithmetic::cut8(state.tenant_count);
     let mut to = at;
     let mut g: usize = 0;
     while g < n {
@@ -157,7 +139,7 @@ fn put_book(buffer: &mut [u8], at: usize, state: State, table: LeaseTable) -> us
     requires { ⌜ at + 1024 ≤ length (now buffer) ⌝ }
     ensures { λ r. ⌜ Line (now (buffer .entry)) at (bookLines state table) (now (buffer .exit)) r 1024 ⌝ }
 {
-    let n = cut4(state.scope_count);
+    let n = arithmetic::cut4(state.scope_count);
     let mut to = at;
     let mut k: usize = 0;
     while k < n {

@@ -7,11 +7,7 @@ ghost use Rattle.decision.specs.Parts.{wishedOr, startOf, lengthOf, endO
 use crate::Proposal;
 use crate::numbers::below_and;
 use crate::numbers::cut_end;
-use crate::numbers::cut8;
-use crate::numbers::later;
-use crate::numbers::monus;
 use crate::numbers::number_of;
-use crate::numbers::shorter;
 use crate::tests::is_new;
 use crate::tests::scope_place;
 use allocation::Ask;
@@ -38,7 +34,7 @@ fn start_of(m: Fields, clock: u32, old: u32) -> u32
     let t = m.times;
     let w = t.start;
     let x = wished_or(w, old);
-    later(clock, x)
+    arithmetic::larger(clock, x)
 }
 
 fn length_of(m: Fields, old: u32) -> u32
@@ -47,13 +43,13 @@ fn length_of(m: Fields, old: u32) -> u32
     let t = m.times;
     let w = t.length;
     let x = wished_or(w, old);
-    shorter(x, 604800)
+    arithmetic::smaller(x, 604800)
 }
 
 fn end_of(m: Fields, from: u32, l: Lease) -> u64
     ensures { λ r. ⌜ r ≡ endOf m from l ⌝ }
 {
-    let old = monus(l.end, l.start);
+    let old = arithmetic::monus(l.end, l.start);
     let n = length_of(m, old);
     (from as u64) + (n as u64)
 }
@@ -105,7 +101,7 @@ fn new_at(s: State, table: LeaseTable, h: usize, m: Fields, k: usize) -> Proposa
 {
     let c = state::scope_at(s, k);
     let a = ask_at(s, h, m, k);
-    let n = cut8(s.tenant_count);
+    let n = arithmetic::cut8(s.tenant_count);
     let g = allocation::granted(table, c, n, a);
     new_with(table, m, a, g)
 }

@@ -6,7 +6,6 @@ ghost use Rattle.decision.specs.Parts.{isNew, hasPeriod, resends, lowest
 use crate::Proposal;
 use crate::numbers::and_below;
 use crate::numbers::and_not;
-use crate::numbers::cut4;
 use crate::numbers::either;
 use message::Fields;
 use message::MessageType;
@@ -79,7 +78,7 @@ fn lowest_is(c: Scope, lowest: u32) -> bool
 pub fn scope_place(s: State, lowest: u32) -> usize
     ensures { λ r. ⌜ r ≡ scopePlace s lowest ⌝ }
 {
-    let n = cut4(s.scope_count);
+    let n = arithmetic::cut4(s.scope_count);
     let mut i: usize = 0;
     while i < n {
         let c = s.scopes[i];
@@ -96,7 +95,7 @@ fn knows_scope(s: State, m: Fields) -> bool
 {
     let w = m.scope;
     let k = scope_place(s, w.value);
-    let n = cut4(s.scope_count);
+    let n = arithmetic::cut4(s.scope_count);
     and_below(w.there, k, n)
 }
 

@@ -1,24 +1,14 @@
 // Document 01's Lease Identifiers: 2 to 32 opaque octets, here in an array with their number.
 ghost use mathlib.Core.Path.{_≡_};
-ghost use Prim.Native.Nat.{ℕ, _≤_, _<_, min};
 ghost use lib.ListN.{take};
 ghost use Rattle.identifier.specs.Order.{orderOf, sameOf};
-
-fn cut32(n: u8) -> usize
-    ensures { λ r. ⌜ r ≡ min n 32 ⌝ }
-{
-    if n < 32 {
-        return n as usize;
-    }
-    32
-}
 
 // Two identifiers in the order of the campus file: 0 before, 1 the same, 2 after. A length above 32 stands for 32.
 pub fn order(a: [u8; 32], a_len: u8, b: [u8; 32], b_len: u8) -> u8
     ensures { λ r. ⌜ r ≡ orderOf (take «a_len» a) (take «b_len» b) ⌝ }
 {
-    let m = cut32(a_len);
-    let n = cut32(b_len);
+    let m = arithmetic::cut32(a_len);
+    let n = arithmetic::cut32(b_len);
     let mut i: usize = 0;
     while i < m {
         if n <= i {

@@ -17,7 +17,7 @@ use state_file::Written;
 pub fn advance(state: &mut State, time: u32)
     ensures { λ _. ⌜ now (state .exit) ≡ raised (now (state .entry)) time ⌝ }
 {
-    let c = records::later(state.clock, time);
+    let c = arithmetic::larger(state.clock, time);
     state.clock = c;
 }
 

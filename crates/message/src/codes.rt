@@ -54,7 +54,7 @@ impl MessageType {
     pub fn is_client(self) -> bool
         ensures { λ r. ⌜ r ≡ isIn (self .number) clientTypes ⌝ }
     {
-        let number = wide16(self.number);
+        let number = arithmetic::wide16(self.number);
         is_one_of(
             number,
             &[
@@ -212,12 +212,6 @@ impl OptionCode {
             _ => true,
         }
     }
-}
-
-fn wide16(x: u8) -> u16
-    ensures { λ r. ⌜ r ≡ x ⌝ }
-{
-    x as u16
 }
 
 // Whether n is one of the listed numbers.

@@ -1,15 +1,9 @@
 // Numbers in octets, high octet first, and runs of octets written into a lent buffer.
 ghost use mathlib.Core.Path.{_≡_};
 ghost use mathlib.Core.List.{[], _∷_};
-ghost use Prim.Native.Nat.{_+_, _≤_, _<_};
+ghost use Prim.Native.Nat.{_+_, _≤_};
 ghost use lib.ListN.{length, take};
 ghost use Rattle.octets.specs.Octets.{be16, be32, at16, at32, octets16, octets32, Wrote};
-
-fn wide16(x: u8) -> u16
-    ensures { λ r. ⌜ r ≡ x ⌝ }
-{
-    x as u16
-}
 
 fn wide32(x: u8) -> u32
     ensures { λ r. ⌜ r ≡ x ⌝ }
@@ -20,7 +14,7 @@ fn wide32(x: u8) -> u32
 fn join16(a: u8, b: u8) -> u16
     ensures { λ r. ⌜ r ≡ be16 a b ⌝ }
 {
-    wide16(a) * 256 + wide16(b)
+    arithmetic::wide16(a) * 256 + arithmetic::wide16(b)
 }
 
 fn join32(a: u8, b: u8, c: u8, d: u8) -> u32

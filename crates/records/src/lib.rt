@@ -1,7 +1,7 @@
 // The lent lease records by value, and what each entry point does with them: 128 in a row, sixteen to a tenant, tenant by tenant. The number
 // of records that the lent slice has comes with them.
 ghost use mathlib.Core.Path.{_≡_};
-ghost use Prim.Native.Nat.{ℕ, _+_, _*_, _<_, _≤_, min, max};
+ghost use Prim.Native.Nat.{ℕ, _+_, _*_, _<_, _≤_, min};
 ghost use lib.ListN.{length, replicate, take};
 ghost use Rattle.lists.specs.Place.{placeBy};
 ghost use Rattle.soundness.specs.Sound.{unusedB};
@@ -49,15 +49,6 @@ pub fn cut128(n: usize) -> usize
         return n;
     }
     128
-}
-
-pub fn later(a: u32, b: u32) -> u32
-    ensures { λ r. ⌜ r ≡ max a b ⌝ }
-{
-    if a < b {
-        return b;
-    }
-    a
 }
 
 // 128 unused records.

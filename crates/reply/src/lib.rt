@@ -1,11 +1,11 @@
 // The replies, written into a lent buffer of at least 512 octets. Each function returns the reply's length and leaves what is past it.
 ghost use mathlib.Core.Path.{_≡_};
-ghost use mathlib.Core.List.{List, [], _∷_, _++_};
-ghost use Prim.Native.Nat.{ℕ, _+_, _-_, _*_, _≤_, _<_, min};
+ghost use mathlib.Core.List.{[], _∷_, _++_};
+ghost use Prim.Native.Nat.{_+_, _-_, _≤_};
 ghost use lib.ListN.{length, take};
 ghost use Rattle.octets.specs.Octets.{octets16, octets32, Wrote};
 ghost use Rattle.address_set.specs.AddressSet.{offsets, runs};
-ghost use Rattle.reply.specs.Reply.{option, header, wanted, serverOption, identifierOption, featuresOption, rangeOctets, rangesOctets, rangesOption, scopeOctets, scopesOctets, scopesOf, scopeListOption, offerOf, leaseAckOf, releaseAckOf, infoAckOf, nakOf, optionOctets, messageOctets, leaseOptions, infoOptions, nakOptions};
+ghost use Rattle.reply.specs.Reply.{option, header, wanted, serverOption, identifierOption, featuresOption, rangeOctets, rangesOctets, rangesOption, scopeOctets, scopesOctets, scopeListOption, offerOf, leaseAckOf, releaseAckOf, infoAckOf, nakOf, optionOctets, messageOctets, leaseOptions, infoOptions, nakOptions};
 ghost use Rattle.reply.specs.Put.{Put, Replied};
 use address_set::Range;
 use message::Identifier;
@@ -188,15 +188,6 @@ fn put_scope(buffer: &mut [u8], at: usize, e: ScopeEntry) -> usize
     octets::put_u8(buffer, c, 0)
 }
 
-fn cut4(n: u8) -> usize
-    ensures { λ r. ⌜ (r ≡ min n 4) × (r ≤ 4) ⌝ }
-{
-    if n < 4 {
-        return n as usize;
-    }
-    4
-}
-
 fn put_scopes(buffer: &mut [u8], at: usize, info: Info, n: usize) -> usize
     requires { ⌜ (at + 40 ≤ length (now buffer)) × (n ≤ 4) ⌝ }
     ensures { λ r. ⌜ Wrote (now (buffer .entry)) at (scopesOctets (take n (info .scopes))) (now (buffer .exit)) r ⌝ }
@@ -215,7 +206,7 @@ fn put_scope_list(buffer: &mut [u8], at: usize, info: Info) -> usize
     requires { ⌜ at + 45 ≤ length (now buffer) ⌝ }
     ensures { λ r. ⌜ Put (now (buffer .entry)) at (scopeListOption info ∷ []) (now (buffer .exit)) r 45 ⌝ }
 {
-    let n = cut4(info.count);
+    let n = arithmetic::cut4(info.count);
     let a = put_code(buffer, at, OptionCode::SCOPE_LIST, (1 + 10 * n) as u16);
     let b = octets::put_u8(buffer, a, n as u8);
     put_scopes(buffer, b, info, n)

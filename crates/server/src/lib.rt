@@ -1,12 +1,12 @@
 // The whole call by value: a datagram, the client's address, the time, the book and a lent reply buffer.
 ghost use mathlib.Core.Path.{_≡_};
-ghost use Prim.Native.Nat.{ℕ, _-_, _≤_, _<_, min};
+ghost use Prim.Native.Nat.{_≤_, _<_};
 ghost use lib.ListN.{length};
 ghost use Rattle.message.specs.Read.{readOf};
 ghost use Rattle.soundness.specs.Sound.{tenantsIn};
 ghost use Rattle.reply.specs.Put.{Replied};
 ghost use Rattle.decision.specs.Decide.{decideOf};
-ghost use Rattle.server.specs.Serve.{Call, discarded, headOf, termsOf, entryOf, infoOf, replyOf, answered, forServer, withReading, hasClient, tenantOf, atClock, serveOf, Serves};
+ghost use Rattle.server.specs.Serve.{Call, headOf, termsOf, entryOf, infoOf, replyOf, answered, forServer, withReading, hasClient, tenantOf, atClock, serveOf, Serves};
 use decision::Reply;
 use decision::Verdict;
 use message::Fields;
@@ -41,30 +41,12 @@ fn head_of(s: State, m: Fields) -> Head
     }
 }
 
-fn monus32(a: u32, b: u32) -> u32
-    ensures { λ r. ⌜ r ≡ a - b ⌝ }
-{
-    if b < a {
-        return a - b;
-    }
-    0
-}
-
-fn place_of(scope: u8) -> usize
-    ensures { λ r. ⌜ r ≡ scope - 1 ⌝ }
-{
-    if 0 < scope {
-        return (scope - 1) as usize;
-    }
-    0
-}
-
 fn terms_of(s: State, v: Verdict) -> Terms
     ensures { λ r. ⌜ r ≡ termsOf s v ⌝ }
 {
-    let c = state::scope_at(s, place_of(v.scope));
+    let c = state::scope_at(s, arithmetic::place_of(v.scope));
     Terms {
-        length: monus32(v.end, v.start),
+        length: arithmetic::monus(v.end, v.start),
         start: v.start,
         scope: c.lowest,
         addresses: v.addresses,
@@ -110,14 +92,8 @@ fn write_reply(s: State, m: Fields, v: Verdict, reply: &mut [u8]) -> usize
         Reply::LeaseAck => reply::write_lease_ack(reply, head, terms_of(s, v)),
         Reply::ReleaseAck => reply::write_release_ack(reply, head),
         Reply::InfoAck => reply::write_info_ack(reply, head, info_of(s, m)),
-        Reply::Nak => reply::write_nak(reply, head, wide16(v.error)),
+        Reply::Nak => reply::write_nak(reply, head, arithmetic::wide16(v.error)),
     }
-}
-
-fn wide16(x: u8) -> u16
-    ensures { λ r. ⌜ r ≡ x ⌝ }
-{
-    x as u16
 }
 
 // ---- the tests
@@ -191,20 +167,11 @@ fn has_client(client: u32, r: ClientRange) -> bool
     false
 }
 
-fn cut8(n: u8) -> usize
-    ensures { λ r. ⌜ r ≡ min n 8 ⌝ }
-{
-    if n < 8 {
-        return n as usize;
-    }
-    8
-}
-
 // The tenant of a client's address, counted from 0.
 fn tenant_of(s: State, client: u32) -> usize
     ensures { λ r. ⌜ r ≡ tenantOf s client ⌝ }
 {
-    let n = cut8(s.tenant_count);
+    let n = arithmetic::cut8(s.tenant_count);
     let mut i: usize = 0;
     while i < n {
         let x = s.tenants[i];
@@ -223,7 +190,7 @@ fn at_clock(book: Book, client: u32, datagram: &[u8], reply: &mut [u8]) -> Serve
 {
     let s = book.state;
     let h = tenant_of(s, client);
-    if h < cut8(s.tenant_count) {
+    if h < arithmetic::cut8(s.tenant_count) {
         return with_datagram(book, h, datagram, reply);
     }
     discard(3, book)

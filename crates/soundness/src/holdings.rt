@@ -8,9 +8,6 @@ ghost use Rattle.soundness.specs.Parts.{heldSets, addedSets, apartSets, 
 use crate::Held;
 use crate::HeldTable;
 use crate::HoldingRules;
-use crate::numbers::cut4;
-use crate::numbers::cut8;
-use crate::numbers::larger;
 use crate::numbers::octet;
 use crate::numbers::sets_apart;
 use state::Lease;
@@ -134,7 +131,7 @@ fn load_on(h: HeldTable, c: Scope, k: usize, g: usize) -> u32
 {
     let d = count_in(h, k, g);
     let reserve = octet(c.reserve[g]);
-    larger(d, reserve as u32)
+    arithmetic::larger(d, reserve as u32)
 }
 
 fn load_sum(h: HeldTable, c: Scope, k: usize, n: usize) -> u32
@@ -198,8 +195,8 @@ fn rest_none(h: HeldTable, n: usize) -> bool
 pub fn holding_rules(s: State, h: HeldTable) -> HoldingRules
     ensures { λ r. ⌜ r ≡ holdingRulesIn s h ⌝ }
 {
-    let n = cut8(s.tenant_count);
-    let m = cut4(s.scope_count);
+    let n = arithmetic::cut8(s.tenant_count);
+    let m = arithmetic::cut4(s.scope_count);
     let house = rest_none(h, n);
     let owner = all_held_apart(h);
     let limit = all_limits_ok(s, h, n, m);

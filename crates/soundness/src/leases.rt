@@ -1,6 +1,5 @@
 // The rules on one lease: 1, 2, 7 and the octets past its identifier.
 ghost use mathlib.Core.Path.{_≡_};
-ghost use Prim.Native.Nat.{_-_};
 ghost use Rattle.state.specs.Book.{inUse};
 ghost use Rattle.soundness.specs.Sound.{idB, belowB, scopeOf, offsetsB, kindB, periodB, leaseB, paddedB};
 ghost use Rattle.soundness.specs.Parts.{leaseRulesOf, andLeases, leasesAll};
@@ -22,19 +21,10 @@ fn id_ok(l: Lease) -> bool
     false
 }
 
-fn place_of(scope: u8) -> usize
-    ensures { λ r. ⌜ r ≡ scope - 1 ⌝ }
-{
-    if scope == 0 {
-        return 0;
-    }
-    (scope - 1) as usize
-}
-
 fn within(s: State, l: Lease) -> bool
     ensures { λ r. ⌜ r ≡ belowB (scopeOf s l .size) (l .addresses) ⌝ }
 {
-    let k = place_of(l.scope);
+    let k = arithmetic::place_of(l.scope);
     let c = state::scope_at(s, k);
     let pool = address_set::first_n(c.size);
     l.addresses <= pool

@@ -1,28 +1,9 @@
 // Small tests that the rules share.
 ghost use mathlib.Core.Path.{_≡_};
 ghost use mathlib.Core.Bool.{_&&_};
-ghost use Prim.Native.Nat.{min, max};
 ghost use lib.Dec.{ltb};
 ghost use Rattle.lists.specs.Pick.{pick};
 ghost use Rattle.soundness.specs.Sound.{few, disjoint, zeroFrom};
-
-pub fn cut8(n: u8) -> usize
-    ensures { λ r. ⌜ r ≡ min n 8 ⌝ }
-{
-    if n < 8 {
-        return n as usize;
-    }
-    8
-}
-
-pub fn cut4(n: u8) -> usize
-    ensures { λ r. ⌜ r ≡ min n 4 ⌝ }
-{
-    if n < 4 {
-        return n as usize;
-    }
-    4
-}
 
 pub fn both(a: bool, b: bool) -> bool
     ensures { λ r. ⌜ r ≡ (a && b) ⌝ }
@@ -40,15 +21,6 @@ pub fn is_few(most: u8, n: u8) -> bool
         return n <= most;
     }
     false
-}
-
-pub fn larger(a: u32, b: u32) -> u32
-    ensures { λ r. ⌜ r ≡ max a b ⌝ }
-{
-    if a < b {
-        return b;
-    }
-    a
 }
 
 pub fn octet(x: u8) -> u8

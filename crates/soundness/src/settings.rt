@@ -11,8 +11,6 @@ ghost use Rattle.soundness.specs.Parts.{scopeRulesOf, andScopes, scopesA
 use crate::ScopeRules;
 use crate::SettingsRules;
 use crate::numbers::both;
-use crate::numbers::cut4;
-use crate::numbers::cut8;
 use crate::numbers::is_few;
 use crate::numbers::octet;
 use crate::numbers::zeros8;
@@ -29,7 +27,7 @@ fn range_ok(r: ClientRange) -> bool
 fn ranges_ok(s: State) -> bool
     ensures { λ r. ⌜ r ≡ allBy rangeB (rangesOf s) ⌝ }
 {
-    let n = cut8(s.tenant_count);
+    let n = arithmetic::cut8(s.tenant_count);
     let mut i: usize = 0;
     while i < n {
         let x = s.tenants[i];
@@ -53,7 +51,7 @@ fn ranges_apart(a: ClientRange, b: ClientRange) -> bool
 fn ranges_all_apart(s: State) -> bool
     ensures { λ r. ⌜ r ≡ pairsBy rangesApart (rangesOf s) ⌝ }
 {
-    let n = cut8(s.tenant_count);
+    let n = arithmetic::cut8(s.tenant_count);
     let mut i: usize = 0;
     let mut j: usize = 1;
     while i < n {
@@ -111,7 +109,7 @@ fn pools_apart(a: Scope, b: Scope) -> bool
 fn pools_all_apart(s: State) -> bool
     ensures { λ r. ⌜ r ≡ pairsBy poolsApart (scopesOf s) ⌝ }
 {
-    let n = cut4(s.scope_count);
+    let n = arithmetic::cut4(s.scope_count);
     let mut i: usize = 0;
     let mut j: usize = 1;
     while i < n {
@@ -239,7 +237,7 @@ fn scopes_rules(s: State, n: usize) -> ScopeRules
         reserves: true,
         tails: true,
     };
-    let m = cut4(s.scope_count);
+    let m = arithmetic::cut4(s.scope_count);
     let mut i: usize = 0;
     while i < m {
         let c = s.scopes[i];
@@ -327,8 +325,8 @@ fn unused_ok(s: State, n: usize, m: usize, tails: bool) -> bool
 pub fn settings_rules(s: State) -> SettingsRules
     ensures { λ r. ⌜ r ≡ settingsRulesOf s ⌝ }
 {
-    let n = cut8(s.tenant_count);
-    let m = cut4(s.scope_count);
+    let n = arithmetic::cut8(s.tenant_count);
+    let m = arithmetic::cut4(s.scope_count);
     let c = scopes_rules(s, n);
     let count = counts_ok(s, c.sizes);
     let range = rule_3(s);

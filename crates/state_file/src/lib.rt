@@ -13,7 +13,6 @@ use crate::form::form;
 use crate::load::load;
 use crate::load::refusal;
 use crate::load::zero_range;
-use crate::load::zero_scope;
 use crate::put::put_file;
 use crate::size::file_size;
 use state::LeaseTable;
@@ -78,7 +77,7 @@ pub fn no_state() -> State
     ensures { λ r. ⌜ r ≡ zeroState ⌝ }
 {
     let range = zero_range();
-    let scope = zero_scope();
+    let scope = state::no_scope();
     State {
         server: 0,
         clock: 0,

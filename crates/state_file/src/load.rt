@@ -119,7 +119,7 @@ fn scopes_at(s: &[u8], at: usize, k: usize, h: usize) -> [Scope; 4]
     requires { ⌜ (h ≤ 8) × (k ≤ 4) × (at + k * (6 + h * 2) ≤ length (now s)) ⌝ }
     ensures { λ r. ⌜ r ≡ filled zeroScope 4 (map storedScope (row (scopeAt h) (6 + h * 2) k (now (s .entry)) at)) ⌝ }
 {
-    let z = zero_scope();
+    let z = state::no_scope();
     let mut out = [z; 4];
     let mut i: usize = 0;
     while i < k {
@@ -158,18 +158,6 @@ fn column_at(s: &[u8], at: usize, n: usize) -> [u8; 8]
         i += 1;
     }
     out
-}
-
-pub fn zero_scope() -> Scope
-    ensures { λ r. ⌜ r ≡ zeroScope ⌝ }
-{
-    Scope {
-        lowest: 0,
-        size: 0,
-        ttl: 0,
-        reserve: [0u8; 8],
-        limit: [0u8; 8],
-    }
 }
 
 fn table_at(s: &[u8]) -> LeaseTable

@@ -10,9 +10,6 @@ ghost use Rattle.state_file.specs.File.{leaseFormat, scopeFormat, tenant
 ghost use Rattle.state_file.specs.Records.{filed, filedScope};
 ghost use Rattle.state_file.specs.Rows.{leaseTotal, partOctets, rangeOctets, scopeOctets, tableOctets, tenantOctets};
 ghost use Rattle.state_file.specs.StateFile.{octetsOf};
-use crate::size::cut4;
-use crate::size::cut8;
-use crate::size::cut32;
 use state::ClientRange;
 use state::Lease;
 use state::LeaseTable;
@@ -43,7 +40,7 @@ fn put_range_section(buffer: &mut [u8], at: usize, state: State) -> usize
     requires { ⌜ at + (1 + length (rangeOctets state)) ≤ length (now buffer) ⌝ }
     ensures { λ r. ⌜ Wrote (now (buffer .entry)) at (length (rangesOf state) ∷ rangeOctets state) (now (buffer .exit)) r ⌝ }
 {
-    let a = octets::put_u8(buffer, at, cut8(state.tenant_count) as u8);
+    let a = octets::put_u8(buffer, at, arithmetic::cut8(state.tenant_count) as u8);
     put_ranges(buffer, a, state)
 }
 
@@ -52,7 +49,7 @@ fn put_ranges(buffer: &mut [u8], at: usize, state: State) -> usize
     requires { ⌜ at + length (rangeOctets state) ≤ length (now buffer) ⌝ }
     ensures { λ r. ⌜ Wrote (now (buffer .entry)) at (rangeOctets state) (now (buffer .exit)) r ⌝ }
 {
-    let n = cut8(state.tenant_count);
+    let n = arithmetic::cut8(state.tenant_count);
     let mut to = at;
     let mut i: usize = 0;
     while i < n {
@@ -75,7 +72,7 @@ fn put_scope_section(buffer: &mut [u8], at: usize, state: State) -> usize
     requires { ⌜ at + (1 + length (scopeOctets state)) ≤ length (now buffer) ⌝ }
     ensures { λ r. ⌜ Wrote (now (buffer .entry)) at (length (scopesOf state) ∷ scopeOctets state) (now (buffer .exit)) r ⌝ }
 {
-    let a = octets::put_u8(buffer, at, cut4(state.scope_count) as u8);
+    let a = octets::put_u8(buffer, at, arithmetic::cut4(state.scope_count) as u8);
     put_scopes(buffer, a, state)
 }
 
@@ -84,7 +81,7 @@ fn put_scopes(buffer: &mut [u8], at: usize, state: State) -> usize
     requires { ⌜ at + length (scopeOctets state) ≤ length (now buffer) ⌝ }
     ensures { λ r. ⌜ Wrote (now (buffer .entry)) at (scopeOctets state) (now (buffer .exit)) r ⌝ }
 {
-    let n = cut4(state.scope_count);
+    let n = arithmetic::cut4(state.scope_count);
     let mut to = at;
     let mut i: usize = 0;
     while i < n {
@@ -111,7 +108,7 @@ fn put_parts(buffer: &mut [u8], at: usize, c: Scope, h: u8) -> usize
     requires { ⌜ at + length (partOctets h c) ≤ length (now buffer) ⌝ }
     ensures { λ r. ⌜ Wrote (now (buffer .entry)) at (partOctets h c) (now (buffer .exit)) r ⌝ }
 {
-    let n = cut8(h);
+    let n = arithmetic::cut8(h);
     let mut to = at;
     let mut i: usize = 0;
     while i < n {
@@ -204,7 +201,7 @@ fn put_head(buffer: &mut [u8], at: usize, tenant: u8, l: Lease) -> usize
     ensures { λ r. ⌜ Wrote (now (buffer .entry)) at (tenant ∷ l .scope ∷ length (idOf l) ∷ idOf l) (now (buffer .exit)) r ⌝ }
 {
     let id = l.id;
-    let n = cut32(l.id_len);
+    let n = arithmetic::cut32(l.id_len);
     let a = octets::put_u8(buffer, at, tenant);
     let b = octets::put_u8(buffer, a, l.scope);
     let c = octets::put_u8(buffer, b, n as u8);

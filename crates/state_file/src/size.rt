@@ -1,6 +1,6 @@
 // How many octets the file of a book has.
 ghost use mathlib.Core.Path.{_≡_};
-ghost use Prim.Native.Nat.{_≤_, min};
+ghost use Prim.Native.Nat.{_≤_};
 ghost use lib.ListN.{length};
 ghost use Rattle.state_file.specs.File.{leaseFormat, scopeFormat};
 ghost use Rattle.state_file.specs.Records.{filed, filedScope};
@@ -15,13 +15,13 @@ use state::TenantLeases;
 pub fn file_size(state: State, table: LeaseTable) -> usize
     ensures { λ r. ⌜ r ≡ length (octetsOf state table) ⌝ }
 {
-    12 + cut8(state.tenant_count) * 8 + scopes_length(state) + table_size(table)
+    12 + arithmetic::cut8(state.tenant_count) * 8 + scopes_length(state) + table_size(table)
 }
 
 fn scopes_length(state: State) -> usize
     ensures { λ r. ⌜ (r ≡ length (scopeOctets state)) × (r ≤ 88) ⌝ }
 {
-    let n = cut4(state.scope_count);
+    let n = arithmetic::cut4(state.scope_count);
     let mut sum: usize = 0;
     let mut i: usize = 0;
     while i < n {
@@ -35,7 +35,7 @@ fn scopes_length(state: State) -> usize
 fn scope_size(c: Scope, h: u8) -> usize
     ensures { λ r. ⌜ (r ≡ length (scopeFormat h .write (filedScope h c))) × (r ≤ 22) ⌝ }
 {
-    6 + cut8(h) * 2
+    6 + arithmetic::cut8(h) * 2
 }
 
 fn table_size(table: LeaseTable) -> usize
@@ -68,32 +68,5 @@ fn tenant_size(t: TenantLeases) -> usize
 fn lease_size(l: Lease) -> usize
     ensures { λ r. ⌜ (r ≡ length (leaseFormat .write (filed 0 l))) × (r ≤ 113) ⌝ }
 {
-    cut32(l.id_len) + 17 + (address_set::count(l.addresses) as usize)
-}
-
-pub fn cut32(n: u8) -> usize
-    ensures { λ r. ⌜ r ≡ min n 32 ⌝ }
-{
-    if n < 32 {
-        return n as usize;
-    }
-    32
-}
-
-pub fn cut8(n: u8) -> usize
-    ensures { λ r. ⌜ r ≡ min n 8 ⌝ }
-{
-    if n < 8 {
-        return n as usize;
-    }
-    8
-}
-
-pub fn cut4(n: u8) -> usize
-    ensures { λ r. ⌜ r ≡ min n 4 ⌝ }
-{
-    if n < 4 {
-        return n as usize;
-    }
-    4
+    arithmetic::cut32(l.id_len) + 17 + (address_set::count(l.addresses) as usize)
 }

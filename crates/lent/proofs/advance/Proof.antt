@@ -1,4 +1,4 @@
--- `lent::advance` meets its contract: a walk of its MIR, by hand. The borrow is opened, the clock is read, `records::later` is called, of which the proof knows only its contract, the clock is stored, and the borrow is closed at the state with the
+-- `lent::advance` meets its contract: a walk of its MIR, by hand. The borrow is opened, the clock is read, `arithmetic::larger` is called, of which the proof knows only its contract, the clock is stored, and the borrow is closed at the state with the
 -- new clock and the other fields as they were.
 -- Assumes nothing.
 use mathlib.Core.Path.{_≡_, refl, ap}
@@ -43,10 +43,10 @@ use Rattle.state.specs.declared.State.{State}
 use Rattle.state.specs.Book.{raised, withClock}
 use Rattle.state.proofs.State as T
 use Rattle.state.proofs.State.Laws as T′
-use Rattle.records.proofs.later as later′
-use Rattle.records.proofs.later.Symbol as later-def
-use Rattle.records.proofs.later.Symbol.{name as #records·later}
-use Rattle.records.proofs.later.Met as later-thm
+use Rattle.arithmetic.proofs.larger as larger′
+use Rattle.arithmetic.proofs.larger.Symbol as larger-def
+use Rattle.arithmetic.proofs.larger.Symbol.{name as #arithmetic·larger}
+use Rattle.arithmetic.proofs.larger.Met as larger-thm
 use Rattle.lent.proofs.advance.Key.{name as #lent·advance}
 use Rattle.lent.proofs.advance as f
 use Rattle.lent.proofs.advance.Statement as stated
@@ -60,11 +60,11 @@ stayed = (stay-ref (0 ∷ []) tt (plain (λ _. T.the-row)), (stay-none (λ _. u3
 
 module _ {M : Type 1} (𝓤 : URA M) (H : Heap 𝓤) (A : Atoms 𝓤) (mem′ : Memory → SProp 𝓤) (run : Routine → Fun 𝓤) where
   -- the contract that the proof cites, and its clause
-  abbrev Later : Contract 𝓤
-  Later = tripleOf 𝓤 H A later′.signature (later′.spec 𝓤 H A mem′ run)
+  abbrev Larger : Contract 𝓤
+  Larger = tripleOf 𝓤 H A larger′.signature (larger′.spec 𝓤 H A mem′ run)
 
-  later-of : (m n r : ℕ) → ent 𝓤 (ensured 𝓤 H A later′.ended (later′.clauses 𝓤 H A mem′ run) tt (m, (n, tt)) tt r) (fact 𝓤 (r ≡ max m n))
-  later-of m n r = exE 𝓤 _ (λ ws. snd∗ 𝓤 (sem 𝓤 H A (lasts later′.ended tt (m, (n, tt)) ws)) (fact 𝓤 (r ≡ max m n)))
+  larger-of : (m n r : ℕ) → ent 𝓤 (ensured 𝓤 H A larger′.ended (larger′.clauses 𝓤 H A mem′ run) tt (m, (n, tt)) tt r) (fact 𝓤 (r ≡ max m n))
+  larger-of m n r = exE 𝓤 _ (λ ws. snd∗ 𝓤 (sem 𝓤 H A (lasts larger′.ended tt (m, (n, tt)) ws)) (fact 𝓤 (r ≡ max m n)))
 
 module _ {M : Type 1} (𝓤 : URA M) (H : Heap 𝓤) (A : Atoms 𝓤) (W : Given 𝓤 H A) (mem′ : Memory → SProp 𝓤) (run : Routine → Fun 𝓤) (κ : Lft) (q : Share) (b o : ℕ) (γ : GName) (h : State) (n : ℕ) where
   abbrev x : Arg
@@ -98,15 +98,15 @@ module _ {M : Type 1} (𝓤 : URA M) (H : Heap 𝓤) (A : Atoms 𝓤) (W : Given
       frame ! $ feqI ! (List Val) (vptr b o ∷ []) (vptr b o ∷ []) refl $ fjoin3 ! $ nothing ! $ owned ! u32 (Is u32) (uint-makes 𝓤 H A W w32) n _ (refl, fits) $ fjoin ! $ move ! (1 ∷ 0 ∷ []) $ fjoin ! $
       feqI ! (List Val) (vunit ∷ []) (vunit ∷ []) refl $ move ! (1 ∷ 0 ∷ []) $ done !
 
-  abbrev to-later : Later 𝓤 H A mem′ run .Ghost
-  to-later = ((tt, tt, tt, (h .clock, (n, tt)), (vint w32 (h .clock) ∷ [], (vint w32 n ∷ [], tt))), tt)
+  abbrev to-larger : Larger 𝓤 H A mem′ run .Ghost
+  to-larger = ((tt, tt, tt, (h .clock, (n, tt)), (vint w32 (h .clock) ∷ [], (vint w32 n ∷ [], tt))), tt)
 
-  goes-later : h .clock < 2 ^ 32 → n < 2 ^ 32 → ent 𝓤 (emp 𝓤) (Later 𝓤 H A mem′ run .pre to-later)
-  goes-later fc fn =
+  goes-larger : h .clock < 2 ^ 32 → n < 2 ^ 32 → ent 𝓤 (emp 𝓤) (Larger 𝓤 H A mem′ run .pre to-larger)
+  goes-larger fc fn =
       qed W [] ∵ nothing ! $ owned ! u32 (Is u32) (uint-makes 𝓤 H A W w32) n _ (refl, fn) $ fjoin ! $ owned ! u32 (Is u32) (uint-makes 𝓤 H A W w32) (h .clock) _ (refl, fc) $ fjoin ! $
       nothing ! $ join ! $ nothing ! $ move ! (1 ∷ 0 ∷ []) $ done !
 
-  module _ (C : Calls 𝓤 H) (Λ : Loops 𝓤 H) (fm : FmC 𝓤 H (W .laws) C) (known : Triple 𝓤 (C #records·later) (Later 𝓤 H A mem′ run)) where
+  module _ (C : Calls 𝓤 H) (Λ : Loops 𝓤 H) (fm : FmC 𝓤 H (W .laws) C) (known : Triple 𝓤 (C #arithmetic·larger) (Larger 𝓤 H A mem′ run)) where
     walk : ent 𝓤 (onEntry 𝓤 H A f.signature (κ, tt) (q, tt) x at) (WpFn 𝓤 H C Λ code.function (vptr b o ∷ vint w32 n ∷ []) Post)
     walk =
         qed W ((‵ (flft κ q) ⊛ ‵ ftrue) ∷ ‵ (owns (MutRef (named 0) κ T.the-row ∷ u32 ∷ []) x at) ∷ []) ∵ split ! $ move ! (2 ∷ []) $ fsplit ! $ move ! (1 ∷ []) $ fsplit ! $
@@ -118,10 +118,10 @@ module _ {M : Type 1} (𝓤 : URA M) (H : Heap 𝓤) (A : Atoms 𝓤) (W : Given
         move ! (1 ∷ []) $ peeks ! T.the-row (Is T.the-row) (shows 𝓤 H A T.the-row) h (vals h) (λ was. move ! (1 ∷ 0 ∷ []) $
         -- [the state's cell; what a State owns; the open borrow; obs; auth; _4; …; _3; …; _2; …; _1; …; room for _0; …]
         assigns ! (of-opd ! (load ! (from ! (hop ! (look ! 11 refl) (fld ! refl (stop !)))) (look-in ! 0 (sub ! 1 refl (whole !))))) (from ! (stop !)) (init ! 5 refl (tt, record { fits = clock-fits was })) $
-        use0 W (raw (Later 𝓤 H A mem′ run .pre to-later)) (goes-later (clock-fits was) (gn .1)) $
-        calls-at ! fm (Later 𝓤 H A mem′ run) known to-later (and-then ! (load ! (from ! (stop !)) (look ! 6 refl)) (and-then ! (load ! (from ! (stop !)) (look ! 10 refl)) (no-more !))) (λ v.
-        use1 W (later (some (λ (r : ℕ). (‵ ftrue ⊛ ‵ (u32 .own r (v ∷ []))) ⊛ raw (ensured 𝓤 H A later′.ended (later′.clauses 𝓤 H A mem′ run) tt (h .clock, (n, tt)) tt r)))) (id⊢ 𝓤 _) $ await ! tt $ pick ! (λ r.
-        split ! $ move ! (1 ∷ []) $ use1 W (raw (fact 𝓤 (r ≡ max (h .clock) n))) (later-of 𝓤 H A mem′ run (h .clock) n r) $ heard ! (r ≡ max (h .clock) n) (λ e. split ! $ drop ! $
+        use0 W (raw (Larger 𝓤 H A mem′ run .pre to-larger)) (goes-larger (clock-fits was) (gn .1)) $
+        calls-at ! fm (Larger 𝓤 H A mem′ run) known to-larger (and-then ! (load ! (from ! (stop !)) (look ! 6 refl)) (and-then ! (load ! (from ! (stop !)) (look ! 10 refl)) (no-more !))) (λ v.
+        use1 W (later (some (λ (r : ℕ). (‵ ftrue ⊛ ‵ (u32 .own r (v ∷ []))) ⊛ raw (ensured 𝓤 H A larger′.ended (larger′.clauses 𝓤 H A mem′ run) tt (h .clock, (n, tt)) tt r)))) (id⊢ 𝓤 _) $ await ! tt $ pick ! (λ r.
+        split ! $ move ! (1 ∷ []) $ use1 W (raw (fact 𝓤 (r ≡ max (h .clock) n))) (larger-of 𝓤 H A mem′ run (h .clock) n r) $ heard ! (r ≡ max (h .clock) n) (λ e. split ! $ drop ! $
         peeks ! u32 (Is u32) (shows 𝓤 H A u32) r (v ∷ []) (λ is. drop ! $
         land ! (from ! (stop !)) (init ! 7 refl (uint-lawful 𝓤 H A W w32 .typed r _ is .0)) $
         rewrite ! 7 (λ (us : List Val). ‵ (cellAt fullShare (u32 .mir) us l₃ 0)) (is .0) refl $
@@ -135,14 +135,14 @@ module _ {M : Type 1} (𝓤 : URA M) (H : Heap 𝓤) (A : Atoms 𝓤) (W : Given
         keep ! (0 ∷ 1 ∷ 2 ∷ []) $ by ! (exits r e (gn .1))))))))))))))
 
 module _ {M : Type 1} (𝓤 : URA M) (H : Heap 𝓤) (A : Atoms 𝓤) (W : Given 𝓤 H A) (mem′ : Memory → SProp 𝓤) (run : Routine → Fun 𝓤) where
-  walks : (C : Calls 𝓤 H) (Λ : Loops 𝓤 H) → FmC 𝓤 H (W .laws) C → Triple 𝓤 (C #records·later) (Later 𝓤 H A mem′ run) → Walks 𝓤 H A f.ended stayed (WpFn 𝓤 H C Λ code.function) (f.clauses 𝓤 H A mem′ run)
+  walks : (C : Calls 𝓤 H) (Λ : Loops 𝓤 H) → FmC 𝓤 H (W .laws) C → Triple 𝓤 (C #arithmetic·larger) (Larger 𝓤 H A mem′ run) → Walks 𝓤 H A f.ended stayed (WpFn 𝓤 H C Λ code.function) (f.clauses 𝓤 H A mem′ run)
   walks C Λ fm known = walked 𝓤 H A f.ended stayed (f.clauses 𝓤 H A mem′ run) (WpFn 𝓤 H C Λ code.function) (λ κs. (ptr-vals, (uint-vals w32, tt))) (λ κs. (mut-tells (named 0) (κs .0) T.the-row, (uint-tells w32, tt)))
       (λ κs qs bounds a _ _. via 𝓤 _ (fst∗ 𝓤 _ (emp 𝓤)) (walk 𝓤 H A W mem′ run (κs .0) (qs .0) (a .0 .ptr .0) (a .0 .ptr .1) (a .0 .name) (a .0 .now) (a .1 .0) C Λ fm known))
 
   goes : AllGo 𝓤 H A W 1 (f.signature .params) (f.ended .kept) stayed
   goes = (goes-ref 𝓤 H A W 1 0 tt (plain (λ _. T.the-row)), (goes-none 𝓤 H A W 1 (λ _. u32) yes (λ κs x f. refl), tt))
 
-meets : {M : Type 1} (𝓤 : URA M) (H : Heap 𝓤) (A : Atoms 𝓤) → Given 𝓤 H A → (mem′ : Memory → SProp 𝓤) (run : Routine → Fun 𝓤) (𝓣 : Tables 𝓤 H) → Triple 𝓤 (𝓣 .C #records·later) (Later 𝓤 H A mem′ run)
+meets : {M : Type 1} (𝓤 : URA M) (H : Heap 𝓤) (A : Atoms 𝓤) → Given 𝓤 H A → (mem′ : Memory → SProp 𝓤) (run : Routine → Fun 𝓤) (𝓣 : Tables 𝓤 H) → Triple 𝓤 (𝓣 .C #arithmetic·larger) (Larger 𝓤 H A mem′ run)
     → Meets 𝓤 H A f.signature (WpFn 𝓤 H (𝓣 .C) (𝓣 .Λ) code.function) (f.spec 𝓤 H A mem′ run)
 meets 𝓤 H A W mem′ run 𝓣 known = walk-meets 𝓤 H A f.ended stayed W (goes 𝓤 H A W mem′ run) (f.clauses 𝓤 H A mem′ run) (WpFn 𝓤 H (𝓣 .C) (𝓣 .Λ) code.function) (WpFn-mono 𝓤 H (W .laws) 𝓣 code.function)
     (walks 𝓤 H A W mem′ run (𝓣 .C) (𝓣 .Λ) (fmOf 𝓤 H (W .laws) 𝓣) known)
@@ -153,4 +153,4 @@ advance-spec 𝓤 H 𝓜 𝓖 𝓡 =
     entered 𝓤 H (tripleOf 𝓤 H (𝓖 .A) f.signature (f.spec 𝓤 H (𝓖 .A) (𝓜 .mem) (𝓡 .run)))
     (tables 𝓤 H 𝓜 𝓡 code.env .C) (tables 𝓤 H 𝓜 𝓡 code.env .Λ) #lent·advance code.function (code.unfolded 𝓤 H 𝓜 𝓡)
     (meets 𝓤 H (𝓖 .A) (givenOf 𝓤 H 𝓜 𝓖) (𝓜 .mem) (𝓡 .run) (tablesOf 𝓤 H 𝓜 (tables 𝓤 H 𝓜 𝓡 code.env))
-    (cited 𝓤 H (Later 𝓤 H (𝓖 .A) (𝓜 .mem) (𝓡 .run)) 𝓜 𝓡 code.env #records·later later-def.routine code.calls-records·later (later-thm.met 𝓤 H 𝓜 𝓖 𝓡)))
+    (cited 𝓤 H (Larger 𝓤 H (𝓖 .A) (𝓜 .mem) (𝓡 .run)) 𝓜 𝓡 code.env #arithmetic·larger larger-def.routine code.calls-arithmetic·larger (larger-thm.met 𝓤 H 𝓜 𝓖 𝓡)))

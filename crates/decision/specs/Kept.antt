@@ -35,7 +35,7 @@ use Rattle.allocation.specs.Granted.{busy-here}
 use Rattle.allocation.specs.Kept.{calm-within, bits-disjoint, grant-offsets, grant-some, sound-granted}
 use Rattle.decision.specs.declared.Proposal.{Proposal}
 use Rattle.decision.specs.declared.Decided.{Decided}
-use Rattle.decision.specs.Parts.{isNew, hasPeriod, ownOf, named, holdsOf, recordedOf, resends, scopePlace, knowsScope, lacksScope, zeroLength, badCounts, lacksCurrent, error1Of, error2Of, error3Of, wishedOr, startOf, lengthOf, endOf, askAt, fitsNew, newWith, newAt, newOf, othersBusy, fitsRenewed, renewedTo, renewedOf, proposalOf, error0Of, leaseFrom, updated}
+use Rattle.decision.specs.Parts.{horizon, defaultLease, longestLease, isNew, hasPeriod, ownOf, named, holdsOf, recordedOf, resends, scopePlace, knowsScope, lacksScope, zeroLength, badCounts, lacksCurrent, error1Of, error2Of, error3Of, wishedOr, startOf, lengthOf, endOf, askAt, fitsNew, newWith, newAt, newOf, othersBusy, fitsRenewed, renewedTo, renewedOf, proposalOf, error0Of, leaseFrom, updated}
 use Rattle.decision.specs.Decide.{leasedOf, plainOf, settledOf, judgedOf, decideOf}
 
 -- ---- a tenant's leases, read and written
@@ -146,7 +146,7 @@ length-some : (m : Fields) (old : ℕ) → 0 < old → zeroLength m ≡ false �
 unfolding lengthOf wishedOr zeroLength pick
 length-some m old h e = go (m .times .length .there) (m .times .length .value) e
   where
-    go : (t : Bool) (v : ℕ) → (t && eqb v 0) ≡ false → 0 < min (pick t v old) 604800
+    go : (t : Bool) (v : ℕ) → (t && eqb v 0) ≡ false → 0 < min (pick t v old) longestLease
     go true zero e = no e
     go true (suc v) e = omega arith
     go false v e = omega arith
@@ -155,7 +155,7 @@ length-some m old h e = go (m .times .length .there) (m .times .length .value) e
 inside : (s : State) (p : Proposal) → error0Of s p ≡ false → (p .end ≤ 4294967295) × (p .fits ≡ true)
 unfolding error0Of
 inside s p e =
-    let a = or-none (ltb (s .clock + 2592000) (p .start)) _ e in
+    let a = or-none (ltb (s .clock + horizon) (p .start)) _ e in
     let b = or-none (ltb 4294967295 (p .end)) (not (p .fits)) (a .1) in
     (ltb-false 4294967295 (p .end) (b .0), not-none (p .fits) (b .1))
 
@@ -233,7 +233,7 @@ module _ (s : State) (b : LeaseTable) (h : ℕ) (m : Fields) (v : Sound s (lease
   unfolding askAt startOf
   period =
       let p = ends in let q = L-start in
-      let r = length-some m 3600 (omega arith) (ok .length) in
+      let r = length-some m defaultLease (omega arith) (ok .length) in
       (omega arith, omega arith)
 
   tenant-is : askAt s h m (scopePlace s (m .scope .value)) .tenant ≡ h

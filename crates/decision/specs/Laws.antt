@@ -25,7 +25,7 @@ use Rattle.decision.specs.declared.Proposal.{Proposal}
 use Rattle.decision.specs.declared.Verdict.{Verdict}
 use Rattle.decision.specs.declared.Decided.{Decided}
 use Rattle.decision.specs.declared.Reply.{Reply}
-use Rattle.decision.specs.Parts.{isNew, hasPeriod, ownOf, named, holdsOf, OldThere, recordedOf, resends, scopePlace, knowsScope, lacksScope, lacksCurrent, farOf, error3Of, wishedOr, startOf, lengthOf, endOf, askAt, fitsNew, newWith, newAt, newOf, othersBusy, fitsRenewed, renewedTo, renewedOf, proposalOf, error0Of, leaseFrom, updated, withLease, plainReply, refusalOf}
+use Rattle.decision.specs.Parts.{horizon, defaultLease, longestLease, skew, isNew, hasPeriod, ownOf, named, holdsOf, OldThere, recordedOf, resends, scopePlace, knowsScope, lacksScope, lacksCurrent, farOf, error3Of, wishedOr, startOf, lengthOf, endOf, askAt, fitsNew, newWith, newAt, newOf, othersBusy, fitsRenewed, renewedTo, renewedOf, proposalOf, error0Of, leaseFrom, updated, withLease, plainReply, refusalOf}
 use Rattle.decision.specs.Decide.{unchanged, changed, leasedOf, settledOf, judgedOf, decideOf}
 
 -- ---- tests
@@ -41,13 +41,13 @@ pub current-is : (m : Fields) (a r : Bool) → a ≡ (m .times .start .there || 
 unfolding lacksCurrent
 current-is m a r p e = e ∙ ap (λ (x : Bool). x && not (m .times .current .there)) p
 
-pub far-below : (a b : ℕ) → a < b → ltb 1800 (b - a) ≡ farOf a b
+pub far-below : (a b : ℕ) → a < b → ltb skew (b - a) ≡ farOf a b
 unfolding farOf
-far-below a b h = let e : b - a ≡ (a - b) + (b - a) = omega arith in ap (ltb 1800) e
+far-below a b h = let e : b - a ≡ (a - b) + (b - a) = omega arith in ap (ltb skew) e
 
-pub far-above : (a b : ℕ) → b ≤ a → ltb 1800 (a - b) ≡ farOf a b
+pub far-above : (a b : ℕ) → b ≤ a → ltb skew (a - b) ≡ farOf a b
 unfolding farOf
-far-above a b h = let e : a - b ≡ (a - b) + (b - a) = omega arith in ap (ltb 1800) e
+far-above a b h = let e : a - b ≡ (a - b) + (b - a) = omega arith in ap (ltb skew) e
 
 pub error3-is : (m : Fields) (held a r : Bool) → a ≡ (eqb (m .kind) 4 || eqb (m .kind) 7) → r ≡ (a && not held) → r ≡ error3Of m held
 unfolding error3Of
@@ -58,16 +58,16 @@ pub start-is : (m : Fields) (clock old w r : ℕ) → w ≡ wishedOr (m .times .
 unfolding startOf
 start-is m clock old w r e p = p ∙ ap (max clock) e
 
-pub length-is : (m : Fields) (old w r : ℕ) → w ≡ wishedOr (m .times .length) old → r ≡ min w 604800 → r ≡ lengthOf m old
+pub length-is : (m : Fields) (old w r : ℕ) → w ≡ wishedOr (m .times .length) old → r ≡ min w longestLease → r ≡ lengthOf m old
 unfolding lengthOf
-length-is m old w r e p = p ∙ ap (λ (x : ℕ). min x 604800) e
+length-is m old w r e p = p ∙ ap (λ (x : ℕ). min x longestLease) e
 
 pub end-is : (m : Fields) (from w n : ℕ) (l : Lease) → w ≡ l .end - l .start → n ≡ lengthOf m w → from + n ≡ endOf m from l
 unfolding endOf
 end-is m from w n l p q = ap (λ (x : ℕ). from + x) (q ∙ ap (lengthOf m) p)
 
 -- ---- proposals
-pub ask-is : (s : State) (h : ℕ) (m : Fields) (k start n number : ℕ) → start ≡ startOf m (s .clock) (s .clock) → n ≡ lengthOf m 3600 → number ≡ min k 4 + 1
+pub ask-is : (s : State) (h : ℕ) (m : Fields) (k start n number : ℕ) → start ≡ startOf m (s .clock) (s .clock) → n ≡ lengthOf m defaultLease → number ≡ min k 4 + 1
     → _≡_ {A = Ask} (record { scope = number; tenant = h; from = start; to = start + n; desired = m .counts .desired }) (askAt s h m k)
 unfolding askAt
 ask-is s h m k start n number a b c = cc
@@ -169,7 +169,7 @@ room-use k n f e = f e
 
 pub fits-room : (s : State) (p : Proposal) (k n : ℕ) {q : Bool} → (p .fits ≡ true → k ≡ 3 → n < 16) → q ≡ error0Of s p → q ≡ false → k ≡ 3 → n < 16
 unfolding error0Of
-fits-room s p k n {q} f e h = f (go (ltb (s .clock + 2592000) (p .start)) (ltb 4294967295 (p .end)) (p .fits) (sym e ∙ h))
+fits-room s p k n {q} f e h = f (go (ltb (s .clock + horizon) (p .start)) (ltb 4294967295 (p .end)) (p .fits) (sym e ∙ h))
   where
     no : {A : Type 0} → true ≡ false → A
     no e = let z : _≡_ {A = ℕ} 0 1 = cc in absurd (omega arith)

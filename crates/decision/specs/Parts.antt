@@ -24,6 +24,23 @@ use Rattle.decision.specs.declared.Verdict.{Verdict}
 use Rattle.decision.specs.declared.Reply.{Reply}
 use Rattle.decision.specs.declared.Reply.the-variants.{Nothing, Offer, LeaseAck, ReleaseAck, InfoAck, Nak}
 
+-- ---- document 01, "Numbers we buy by", in seconds
+-- how far Current Time may be from the clock
+abbrev pub skew : ℕ
+skew = 1800
+
+-- the length of a lease that names none
+abbrev pub defaultLease : ℕ
+defaultLease = 3600
+
+-- a longer wish is cut to it
+abbrev pub longestLease : ℕ
+longestLease = 604800
+
+-- how long after the clock a lease may start
+abbrev pub horizon : ℕ
+horizon = 2592000
+
 -- ---- message types
 -- DISCOVER or REQUEST
 unfoldable pub isNew : Fields → Bool
@@ -89,7 +106,7 @@ error1Of s m held = not (m .allowed) || (lacksScope s m || (zeroLength m || (bad
 
 -- ---- error 2: "Current Time and clock more than 1,800 apart"
 unfoldable pub farOf : ℕ → ℕ → Bool
-farOf a b = ltb 1800 ((a - b) + (b - a))
+farOf a b = ltb skew ((a - b) + (b - a))
 
 unfoldable pub error2Of : State → Fields → Bool
 error2Of s m = m .times .current .there && farOf (m .times .current .value) (s .clock)
@@ -109,7 +126,7 @@ startOf m clock old = max clock (wishedOr (m .times .start) old)
 
 -- "Length is Lease Time or else 3,600 (RENEW: or else the old length), cut to the longest lease"
 unfoldable pub lengthOf : Fields → ℕ → ℕ
-lengthOf m old = min (wishedOr (m .times .length) old) 604800
+lengthOf m old = min (wishedOr (m .times .length) old) longestLease
 
 unfoldable pub endOf : Fields → ℕ → Lease → ℕ
 endOf m from l = from + lengthOf m (l .end - l .start)
@@ -121,7 +138,7 @@ askAt s h m k = record {
   scope = min k 4 + 1;
   tenant = h;
   from = startOf m (s .clock) (s .clock);
-  to = startOf m (s .clock) (s .clock) + lengthOf m 3600;
+  to = startOf m (s .clock) (s .clock) + lengthOf m defaultLease;
   desired = m .counts .desired;
 }
 
@@ -169,7 +186,7 @@ proposalOf s b h m l = pick (isNew m) (newOf s b h m) (renewedOf s b h m l)
 
 -- ---- error 0: "start after clock plus horizon; end above 4,294,967,295; .." and the test of its type
 unfoldable pub error0Of : State → Proposal → Bool
-error0Of s p = ltb (s .clock + 2592000) (p .start) || (ltb 4294967295 (p .end) || not (p .fits))
+error0Of s p = ltb (s .clock + horizon) (p .start) || (ltb 4294967295 (p .end) || not (p .fits))
 
 -- ---- the lease, and the verdicts
 -- the type number of each reply: OFFER, ACK and NAK; 0 where none is sent

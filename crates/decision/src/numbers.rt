@@ -4,6 +4,16 @@ ghost use mathlib.Core.Bool.{not, _&&_, _||_};
 ghost use Prim.Native.Nat.{_+_, min};
 ghost use lib.Dec.{ltb};
 
+// Document 01's "Numbers we buy by", in seconds: how far Current Time may be from the clock, the length of a lease that names none, the longest
+// lease, and how long after the clock a lease may start.
+pub const SKEW: u32 = 1800;
+
+pub const DEFAULT_LEASE: u32 = 3600;
+
+pub const LONGEST_LEASE: u32 = 604800;
+
+pub const HORIZON: u64 = 2592000;
+
 pub fn cut_end(end: u64) -> u32
     ensures { λ r. ⌜ r ≡ min end 4294967295 ⌝ }
 {

@@ -5,6 +5,8 @@ ghost use Rattle.state.specs.Book.{inUse};
 ghost use Rattle.soundness.specs.Sound.{tenantsIn};
 ghost use Rattle.decision.specs.Parts.{wishedOr, startOf, lengthOf, endOf, askAt, fitsNew, newWith, newAt, newOf, othersBusy, fitsRenewed, renewedTo, renewedOf, proposalOf, leaseFrom};
 use crate::Proposal;
+use crate::numbers::DEFAULT_LEASE;
+use crate::numbers::LONGEST_LEASE;
 use crate::numbers::below_and;
 use crate::numbers::cut_end;
 use crate::numbers::number_of;
@@ -43,7 +45,7 @@ fn length_of(m: Fields, old: u32) -> u32
     let t = m.times;
     let w = t.length;
     let x = wished_or(w, old);
-    arithmetic::smaller(x, 604800)
+    arithmetic::smaller(x, LONGEST_LEASE)
 }
 
 fn end_of(m: Fields, from: u32, l: Lease) -> u64
@@ -58,7 +60,7 @@ fn ask_at(s: State, h: usize, m: Fields, k: usize) -> Ask
     ensures { λ r. ⌜ r ≡ askAt s h m k ⌝ }
 {
     let start = start_of(m, s.clock, s.clock);
-    let n = length_of(m, 3600);
+    let n = length_of(m, DEFAULT_LEASE);
     let number = number_of(k);
     let end = (start as u64) + (n as u64);
     let c = m.counts;

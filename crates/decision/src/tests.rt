@@ -4,6 +4,8 @@ ghost use mathlib.Core.Bool.{not, _&&_, _||_};
 ghost use lib.Dec.{eqb};
 ghost use Rattle.decision.specs.Parts.{isNew, hasPeriod, resends, lowestIs, scopePlace, knowsScope, lacksScope, zeroLength, badCounts, lacksCurrent, error1Of, farOf, error2Of, error3Of, error0Of};
 use crate::Proposal;
+use crate::numbers::HORIZON;
+use crate::numbers::SKEW;
 use crate::numbers::and_below;
 use crate::numbers::and_not;
 use crate::numbers::either;
@@ -179,9 +181,9 @@ fn far(a: u32, b: u32) -> bool
     ensures { λ r. ⌜ r ≡ farOf a b ⌝ }
 {
     if a < b {
-        return 1800 < b - a;
+        return SKEW < b - a;
     }
-    1800 < a - b
+    SKEW < a - b
 }
 
 pub fn error_2(s: State, m: Fields) -> bool
@@ -205,7 +207,7 @@ pub fn error_3(m: Fields, held: bool) -> bool
 pub fn error_0(s: State, p: Proposal) -> bool
     ensures { λ r. ⌜ r ≡ error0Of s p ⌝ }
 {
-    if (s.clock as u64) + 2592000 < (p.start as u64) {
+    if (s.clock as u64) + HORIZON < (p.start as u64) {
         return true;
     }
     if 4294967295 < p.end {

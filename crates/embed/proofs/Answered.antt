@@ -9,6 +9,7 @@ use lib.Dec.{ltb}
 use lib.ListN.{drop, length, length-append, length-drop, length-take, take, take-append-drop}
 use lib.Seq.{drop-append-le, drop-at, drop-drop, getD-drop, length-take-le, take-append-le, take-take}
 use borrow.Author.Tests.{le-ltb, lt-ltb, ltb-false}
+use Rattle.reply.specs.Reply.{leastRoom}
 use Rattle.lists.specs.Pick.{pick, pick-false, pick-lt, pick-not-lt, pick-true}
 use Rattle.octets.specs.Octets.{at16, at32, octets16, put, Wrote}
 use Rattle.octets.specs.Laws.{put-put}
@@ -18,7 +19,7 @@ use Rattle.server.specs.Serve.{Call}
 use Rattle.records.specs.Lent.{LentAnswer, serveLent}
 use Rattle.owned.specs.declared.OwnedCall.{OwnedCall}
 use Rattle.owned.specs.Owned.{ServesOwned}
-use Rattle.embed.specs.Embed.{callIn, cutOff, recordSize, stopIn}
+use Rattle.embed.specs.Embed.{answerRoom, callIn, cutOff, recordSize, stopIn}
 use Rattle.embed.specs.Promises.{Answers}
 
 -- ---- numbers in what is left of a list
@@ -60,24 +61,24 @@ module _ (s : List ℕ) (at room : ℕ) where
     cut-not : 12 + n ≤ length s - at → cutOff (drop at s) ≡ false
     cut-not k = let p = length-drop at s in let q = size-in s at e in sym (cut-by h) ∙ le-ltb (length (drop at s)) (recordSize (drop at s)) (omega arith)
 
-    pub stop-room : 12 + n ≤ length s - at → room < 515 → 27 ≡ stopIn (drop at s) room
+    pub stop-room : 12 + n ≤ length s - at → room < answerRoom → 27 ≡ stopIn (drop at s) room
     unfolding stopIn
-    stop-room k r = pick-false _ _ _ _ (cut-not k) (pick-lt _ _ _ room 515 r refl)
+    stop-room k r = pick-false _ _ _ _ (cut-not k) (pick-lt _ _ _ room answerRoom r refl)
 
-    pub stop-none : 12 + n ≤ length s - at → 515 ≤ room → 0 ≡ stopIn (drop at s) room
+    pub stop-none : 12 + n ≤ length s - at → answerRoom ≤ room → 0 ≡ stopIn (drop at s) room
     unfolding stopIn
-    stop-none k r = pick-false _ _ _ _ (cut-not k) (pick-not-lt _ _ _ room 515 r refl)
+    stop-none k r = pick-false _ _ _ _ (cut-not k) (pick-not-lt _ _ _ room answerRoom r refl)
 
 -- where it is answered, it is there whole, and there is room
-pub goes-on : (cs : List ℕ) (room : ℕ) → stopIn cs room ≡ 0 → (recordSize cs ≤ length cs) × (515 ≤ room)
+pub goes-on : (cs : List ℕ) (room : ℕ) → stopIn cs room ≡ 0 → (recordSize cs ≤ length cs) × (answerRoom ≤ room)
 unfolding stopIn cutOff pick
-goes-on cs room e = go (ltb (length cs) 12) (ltb (length cs) (recordSize cs)) (ltb room 515) refl refl e
+goes-on cs room e = go (ltb (length cs) 12) (ltb (length cs) (recordSize cs)) (ltb room answerRoom) refl refl e
   where
-    go : (t u v : Bool) → ltb (length cs) (recordSize cs) ≡ u → ltb room 515 ≡ v → _≡_ {A = ℕ} (pick (pick t true u) 24 (pick v 27 0)) 0 → (recordSize cs ≤ length cs) × (515 ≤ room)
+    go : (t u v : Bool) → ltb (length cs) (recordSize cs) ≡ u → ltb room answerRoom ≡ v → _≡_ {A = ℕ} (pick (pick t true u) 24 (pick v 27 0)) 0 → (recordSize cs ≤ length cs) × (answerRoom ≤ room)
     go true u v p q e = absurd (omega arith)
     go false true v p q e = absurd (omega arith)
     go false false true p q e = absurd (omega arith)
-    go false false false p q e = (ltb-false (length cs) (recordSize cs) p, ltb-false room 515 q)
+    go false false false p q e = (ltb-false (length cs) (recordSize cs) p, ltb-false room answerRoom q)
 
 -- ---- octets put into a buffer
 pub put-length : (b : List ℕ) (at : ℕ) (xs : List ℕ) → length (put b at xs) ≡ min at (length b) + length xs + (length b - (at + length xs))
@@ -144,7 +145,7 @@ module _ (s : State) (ls : List Lease) (d : List ℕ) (client time room : ℕ) (
   abbrev callWith : ℕ → Call
   callWith k = record { datagram = d; client = client; time = time; room = k }
 
-  pub answered : {ys x y : List ℕ} {m n : ℕ} {r : OwnedCall} → (to + 515 ≤ length b) × (room ≤ 512) → ServesOwned (serveLent s ls (callWith (length lent))) lent ys r → length ys ≡ length lent
+  pub answered : {ys x y : List ℕ} {m n : ℕ} {r : OwnedCall} → (to + answerRoom ≤ length b) × (room ≤ leastRoom) → ServesOwned (serveLent s ls (callWith (length lent))) lent ys r → length ys ≡ length lent
       → Wrote (withPart b (to + 3) width ys) to (r .outcome ∷ []) x m → Wrote x (to + 1) (octets16 (r .length % 65536)) y n → Answers (serveLent s ls (callWith room)) b to y r
   answered {ys} {x} {y} {r = r} h v l p q = subst (λ (k : ℕ). Answers (serveLent s ls (callWith k)) b to y r) full (record {
     size = v .size;
@@ -170,14 +171,14 @@ module _ (s : State) (ls : List Lease) (d : List ℕ) (client time room : ℕ) (
 
 -- ---- the call of a record
 module _ (cs : List ℕ) (at : ℕ) where
-  call-is : {time client size n room : ℕ} → time ≡ at32 cs at → client ≡ at32 cs (at + 4) → size ≡ at16 cs (at + 8) → n ≡ at16 cs (at + 10) → room ≡ min size 512
+  call-is : {time client size n room : ℕ} → time ≡ at32 cs at → client ≡ at32 cs (at + 4) → size ≡ at16 cs (at + 8) → n ≡ at16 cs (at + 10) → room ≡ min size leastRoom
       → record { datagram = take (at + 12 + n - (at + 12)) (drop (at + 12) cs); client = client; time = time; room = room } ≡ callIn (drop at cs)
   call-is {time} {client} {size} {n} {room} t c z e r =
       ap (λ (k : ℕ). call (take k (drop (at + 12) cs)) client time room) (let q : at + 12 + n - (at + 12) ≡ n = omega arith in q ∙ e ∙ at16-in cs at 10)
       ∙ ap (λ (l : List ℕ). call (take (at16 (drop at cs) 10) l) client time room) (sym (drop-drop 12 at cs))
       ∙ ap (λ (k : ℕ). call datagram k time room) (c ∙ at32-in cs at 4)
       ∙ ap (λ (k : ℕ). call datagram (at32 (drop at cs) 4) k room) (t ∙ ap (at32 cs) (sym (add-zero at)) ∙ at32-in cs at 0)
-      ∙ ap (λ (k : ℕ). call datagram (at32 (drop at cs) 4) (at32 (drop at cs) 0) k) (r ∙ ap (λ (k : ℕ). min k 512) (z ∙ at16-in cs at 8))
+      ∙ ap (λ (k : ℕ). call datagram (at32 (drop at cs) 4) (at32 (drop at cs) 0) k) (r ∙ ap (λ (k : ℕ). min k leastRoom) (z ∙ at16-in cs at 8))
     where
       datagram : List ℕ
       datagram = take (at16 (drop at cs) 10) (drop 12 (drop at cs))
@@ -186,7 +187,7 @@ module _ (cs : List ℕ) (at : ℕ) where
       call d c t r = record { datagram = d; client = c; time = t; room = r }
 
   pub answered-record : (s : State) (ls : List Lease) {b after : List ℕ} {to : ℕ} {r : OwnedCall} {time client size n room : ℕ}
-      → time ≡ at32 cs at → client ≡ at32 cs (at + 4) → size ≡ at16 cs (at + 8) → n ≡ at16 cs (at + 10) → room ≡ min size 512
+      → time ≡ at32 cs at → client ≡ at32 cs (at + 4) → size ≡ at16 cs (at + 8) → n ≡ at16 cs (at + 10) → room ≡ min size leastRoom
       → Answers (serveLent s ls (record { datagram = take (at + 12 + n - (at + 12)) (drop (at + 12) cs); client = client; time = time; room = room })) b to after r
       → Answers (serveLent s ls (callIn (drop at cs))) b to after r
   answered-record s ls {b} {after} {to} {r} t c z e k v = subst (λ (x : Call). Answers (serveLent s ls x) b to after r) (call-is t c z e k) v

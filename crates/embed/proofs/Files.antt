@@ -30,15 +30,15 @@ pub first-length : (b : List ℕ) (n : ℕ) → n ≤ length b → n ≡ length 
 first-length b n h = sym (length-take-le n b h)
 
 module _ (b : List ℕ) (n : ℕ) where
-  refusal-short : length b < 14628 → 23 ≡ refusalIn b n
+  refusal-short : length b < largest → 23 ≡ refusalIn b n
   unfolding refusalIn
   refusal-short h = pick-lt _ _ _ (length b) largest h refl
 
-  refusal-past : 14628 ≤ length b → length b < n → 24 ≡ refusalIn b n
+  refusal-past : largest ≤ length b → length b < n → 24 ≡ refusalIn b n
   unfolding refusalIn
   refusal-past h k = pick-not-lt _ _ _ (length b) largest h (pick-lt _ _ _ (length b) n k refl)
 
-  refusal-within : 14628 ≤ length b → n ≤ length b → readOf (take n b) .refusal ≡ refusalIn b n
+  refusal-within : largest ≤ length b → n ≤ length b → readOf (take n b) .refusal ≡ refusalIn b n
   unfolding refusalIn
   refusal-within h k = pick-not-lt _ _ _ (length b) largest h (pick-not-lt _ _ _ (length b) n k refl)
 
@@ -46,13 +46,13 @@ module _ (b : List ℕ) (n : ℕ) where
   nothing : {r : OwnedFile} {k : ℕ} → r .refusal ≡ k → k ≡ refusalIn b n → (k ≡ 0 → ⊥) → Opened b n r
   nothing a e z = record { refusal = a ∙ e; state = λ p. absurd (z (e ∙ p)); leases = λ p. absurd (z (e ∙ p)) }
 
-  pub opened-short : {r : OwnedFile} → length b < 14628 → r .refusal ≡ 23 → Opened b n r
+  pub opened-short : {r : OwnedFile} → length b < largest → r .refusal ≡ 23 → Opened b n r
   opened-short h a = nothing a (refusal-short h) (λ p. omega arith)
 
-  pub opened-past : {r : OwnedFile} → 14628 ≤ length b → length b < n → r .refusal ≡ 24 → Opened b n r
+  pub opened-past : {r : OwnedFile} → largest ≤ length b → length b < n → r .refusal ≡ 24 → Opened b n r
   opened-past h k a = nothing a (refusal-past h k) (λ p. omega arith)
 
-  pub opened-book : {r : OwnedFile} → 14628 ≤ length b → n ≤ length b → ReadsOwned (readBlank (take n b)) r → Opened b n r
+  pub opened-book : {r : OwnedFile} → largest ≤ length b → n ≤ length b → ReadsOwned (readBlank (take n b)) r → Opened b n r
   opened-book h k v = record {
     refusal = opened-refusal (take n b) v ∙ at;
     state = λ p. v .state ∙ ap (λ (a : LentReading). a .state) (blank-accepted (take n b) (at ∙ p));

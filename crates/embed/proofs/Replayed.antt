@@ -14,7 +14,7 @@ use Rattle.state.specs.declared.State.{State}
 use Rattle.records.specs.Lent.{LentAnswer, serveLent}
 use Rattle.owned.specs.declared.Owned.{Owned}
 use Rattle.owned.specs.declared.OwnedCall.{OwnedCall}
-use Rattle.embed.specs.Embed.{answerOctets, callIn, onward, recordSize, Replayed, replayed, stopIn, stopped}
+use Rattle.embed.specs.Embed.{answerRoom, answerOctets, callIn, onward, recordSize, Replayed, replayed, stopIn, stopped}
 use Rattle.embed.specs.Promises.{Answers, Replays}
 use Rattle.embed.proofs.Answered.{goes-on, put-inside}
 
@@ -107,7 +107,7 @@ module _ {cs before : List ℕ} {w : Replayed} {s : State} {ls : List Lease} {b 
   pub record-head : at + 12 ≤ length cs
   record-head = let i = record-inside in omega arith
 
-  pub answer-room : to + 515 ≤ length b
+  pub answer-room : to + answerRoom ≤ length b
   answer-room = let p = goes-on (drop at cs) (length before - to) goes .1 in let h = v .inside in let l = v .long in omega arith
 
   module _ {r : OwnedCall} {b' : List ℕ} (a : Answers (serveLent s ls (callIn (drop at cs))) b to b' r) (l : length b' ≡ length b) where

@@ -6,6 +6,8 @@ use mathlib.Core.Bool.{Bool, true}
 use mathlib.Core.List.{List, [], _∷_, _++_}
 use lib.Dec.{eqb, ltb}
 use lib.ListN.{drop, length, take}
+use Rattle.reply.specs.Reply.{leastRoom}
+use Rattle.state_file.specs.File.{longestFile}
 use Rattle.lists.specs.Pick.{pick}
 use Rattle.octets.specs.Octets.{at16, at32, octets16}
 use Rattle.state.specs.declared.Lease.{Lease}
@@ -20,7 +22,7 @@ use Rattle.records.specs.Lent.{LentAnswer, roomLent, serveLent, writtenLent}
 -- ---- a file in a buffer
 -- a file's buffer has to hold the largest file
 abbrev pub largest : ℕ
-largest = 14628
+largest = longestFile
 
 -- the number that the first n octets of a buffer draw before anything is done with them, or 0
 unfoldable pub refusalIn : List ℕ → ℕ → ℕ
@@ -68,9 +70,9 @@ recordSize cs = 12 + at16 cs 10
 unfoldable pub cutOff : List ℕ → Bool
 cutOff cs = pick (ltb (length cs) 12) true (ltb (length cs) (recordSize cs))
 
--- the first call; a room above 512 counts as 512: test 2 asks only whether it is below, and no reply is longer
+-- the first call; a room above the least counts as the least: test 2 asks only whether it is below, and no reply is longer
 abbrev pub callIn : List ℕ → Call
-callIn cs = record { datagram = take (at16 cs 10) (drop 12 cs); client = at32 cs 4; time = at32 cs 0; room = min (at16 cs 8) 512 }
+callIn cs = record { datagram = take (at16 cs 10) (drop 12 cs); client = at32 cs 4; time = at32 cs 0; room = min (at16 cs 8) leastRoom }
 
 -- an answer: outcome(1), reply length(2), the reply
 abbrev pub answerOctets : LentAnswer → List ℕ
@@ -78,7 +80,7 @@ answerOctets a = a .outcome ∷ octets16 (length (a .reply)) ++ a .reply
 
 -- room for any answer
 abbrev pub answerRoom : ℕ
-answerRoom = 515
+answerRoom = 3 + leastRoom
 
 pub record Replayed : Type 0 where
   pub number : ℕ

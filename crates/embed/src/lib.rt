@@ -7,12 +7,16 @@ ghost use Rattle.board_text.specs.Board.{lengthIn, roomWith};
 ghost use Rattle.server.specs.Serve.{Call};
 ghost use Rattle.state_file.specs.StateFile.{readOf};
 ghost use Rattle.records.specs.Lent.{serveLent};
-ghost use Rattle.embed.specs.Embed.{numberAfter, lengthAfter, serveFile, replayFile, replayed, stopIn, callIn, recordSize};
+ghost use Rattle.reply.specs.Reply.{leastRoom};
+ghost use Rattle.embed.specs.Embed.{answerRoom, numberAfter, lengthAfter, serveFile, replayFile, replayed, stopIn, callIn, recordSize};
 ghost use Rattle.embed.specs.Promises.{Opened, ServesFile, Answers, Replays, ReplaysFile};
 use owned::Owned;
 use owned::OwnedCall;
 use owned::OwnedFile;
 use state_file::Written;
+
+// What an answer in a list may take: outcome(1), reply length(2) and the longest reply.
+const ANSWER_ROOM: usize = 3 + reply::LEAST_ROOM;
 
 // How far a list of calls came: 0 or why it stopped, the octets of calls used, the octets of answers filled, and the book afterwards.
 struct Progress {
@@ -38,7 +42,7 @@ fn refused(number: u8) -> OwnedFile
 fn open_in(file: &[u8], n: usize) -> OwnedFile
     ensures { λ r. ⌜ Opened (now (file .entry)) n r ⌝ }
 {
-    if file.len() < 14628 {
+    if file.len() < state_file::LONGEST_FILE {
         return refused(23);
     }
     if file.len() < n {
@@ -82,19 +86,19 @@ fn stop_number(calls: &[u8], at: usize, room: usize) -> u8
     if left < 12 + n {
         return 24;
     }
-    if room < 515 {
+    if room < ANSWER_ROOM {
         return 27;
     }
     0
 }
 
-fn cut512(n: usize) -> usize
-    ensures { λ r. ⌜ r ≡ min n 512 ⌝ }
+fn cut_room(n: usize) -> usize
+    ensures { λ r. ⌜ r ≡ min n leastRoom ⌝ }
 {
-    if n < 512 {
+    if n < reply::LEAST_ROOM {
         return n;
     }
-    512
+    reply::LEAST_ROOM
 }
 
 // The call, and its answer written from `to` on.
@@ -107,7 +111,7 @@ fn answer_call(
     answers: &mut [u8],
     to: usize,
 ) -> OwnedCall
-    requires { ⌜ (to + 515 ≤ length (now answers)) × (room ≤ 512) ⌝ }
+    requires { ⌜ (to + answerRoom ≤ length (now answers)) × (room ≤ leastRoom) ⌝ }
     ensures { λ r. ⌜ Answers (serveLent (o .state) (o .records .leases) (record { datagram = now (datagram .entry); client = client; time = time; room = room })) (now (answers .entry)) to (now (answers .exit)) r ⌝ }
 {
     let r = owned::serve(
@@ -124,14 +128,14 @@ fn answer_call(
 
 // The record at a place, answered from `to` on.
 fn answer_record(o: Owned, calls: &[u8], at: usize, answers: &mut [u8], to: usize) -> OwnedCall
-    requires { ⌜ (to + 515 ≤ length (now answers)) × (at + recordSize (drop at (now calls)) ≤ length (now calls)) ⌝ }
+    requires { ⌜ (to + answerRoom ≤ length (now answers)) × (at + recordSize (drop at (now calls)) ≤ length (now calls)) ⌝ }
     ensures { λ r. ⌜ Answers (serveLent (o .state) (o .records .leases) (callIn (drop at (now (calls .entry))))) (now (answers .entry)) to (now (answers .exit)) r ⌝ }
 {
     let time = octets::read_u32(calls, at);
     let client = octets::read_u32(calls, at + 4);
     let size = octets::read_u16(calls, at + 8) as usize;
     let n = octets::read_u16(calls, at + 10) as usize;
-    let room = cut512(size);
+    let room = cut_room(size);
     let from = at + 12;
     answer_call(o, &calls[from..from + n], client, time, room, answers, to)
 }

@@ -15,7 +15,7 @@ use Rattle.octets.specs.Octets.{at16, at32}
 use Rattle.lists.specs.Filter.{isIn}
 use Rattle.message.specs.Codes.{lengthOk, allowedIn, allows}
 use Rattle.message.specs.Values.{wishAt, wishOf, timesOf, fieldsOf, countsAt, countsOf, serverOk, namesOf, allAllowed, identifierOf, codesFrom, foundAt, findOf, isFound, padded, identifierAt}
-use Rattle.message.specs.Read.{headerOk, discarded, messageOf, requiredEmpty, ended, byStage, walked}
+use Rattle.message.specs.Read.{longestDatagram, headerOk, discarded, messageOf, requiredEmpty, ended, byStage, walked}
 use Rattle.lists.specs.Copy.{CopyInv, copy-end}
 use Rattle.message.specs.Walk.{codeAt, lengthAt, afterAt, layoutOk, valueOk, pastList, exactlyFilled, taken, stepOf, onward, walkFrom, walkOf, start}
 use Rattle.message.specs.Placed.{layout-fits, pastWithin, fourOctets, Placed, GoodPlaces, Onto, step-onto, none-good, walk-good, placed, header-long, header-short}
@@ -479,7 +479,7 @@ walked-as s w t r e p = p ∙ ap (λ (t : Stage). byStage t (ended s (w .places)
 pub long-header : (s : List ℕ) (b : Bool) → b ≡ headerOk s → b ≡ true → 12 ≤ length s
 long-header s b e t = header-long s (sym e ∙ t)
 
-pub short-header : (s : List ℕ) (b : Bool) → b ≡ headerOk s → b ≡ true → length s ≤ 1472
+pub short-header : (s : List ℕ) (b : Bool) → b ≡ headerOk s → b ≡ true → length s ≤ longestDatagram
 short-header s b e t = header-short s (sym e ∙ t)
 
 pub eight-header : (s : List ℕ) (b : Bool) → b ≡ headerOk s → b ≡ true → 8 ≤ length s

@@ -16,7 +16,7 @@ use Rattle.octets.specs.Octets.{at16, at32}
 use Rattle.lists.specs.Filter.{isIn}
 use Rattle.message.specs.Codes.{lengthOk}
 use Rattle.message.specs.Walk.{codeAt, lengthAt, afterAt, layoutOk, pastList, exactlyFilled, valueOk, broken, done, moved, taken, stepOf, onward, walkFrom, walkOf, start}
-use Rattle.message.specs.Read.{headerOk, discarded, messageOf, noneRequired, ended, byStage, walked, readOf}
+use Rattle.message.specs.Read.{longestDatagram, headerOk, discarded, messageOf, noneRequired, ended, byStage, walked, readOf}
 use Rattle.message.specs.declared.Message.{Message}
 use Rattle.message.specs.declared.Reading.{Reading}
 use Rattle.message.specs.declared.Walk.{Walk}
@@ -133,11 +133,11 @@ header-long s e = go (leb 12 (length s)) refl _ e
     go true q rest e = leb-true _ _ q
     go false q rest e = let z : _≡_ {A = ℕ} 0 1 = cc in absurd (omega arith)
 
-pub header-short : (s : List ℕ) → headerOk s ≡ true → length s ≤ 1472
+pub header-short : (s : List ℕ) → headerOk s ≡ true → length s ≤ longestDatagram
 unfolding headerOk
-header-short s e = go (leb 12 (length s)) (leb (length s) 1472) refl _ e
+header-short s e = go (leb 12 (length s)) (leb (length s) longestDatagram) refl _ e
   where
-    go : (a b : Bool) → leb (length s) 1472 ≡ b → (rest : Bool) → (a && (b && rest)) ≡ true → length s ≤ 1472
+    go : (a b : Bool) → leb (length s) longestDatagram ≡ b → (rest : Bool) → (a && (b && rest)) ≡ true → length s ≤ longestDatagram
     go true true q rest e = leb-true _ _ q
     go true false q rest e = let z : _≡_ {A = ℕ} 0 1 = cc in absurd (omega arith)
     go false b q rest e = let z : _≡_ {A = ℕ} 0 1 = cc in absurd (omega arith)
@@ -158,10 +158,10 @@ read-good s =
     at-stage Broken g = none-good s
 
 -- a message is no longer than a datagram may be
-pub read-short : (s : List ℕ) → readOf s .discard ≡ 0 → length s ≤ 1472
+pub read-short : (s : List ℕ) → readOf s .discard ≡ 0 → length s ≤ longestDatagram
 unfolding readOf pick
 read-short s e = go (headerOk s) refl e
   where
-    go : (b : Bool) → headerOk s ≡ b → pick b (walked s (walkOf s)) (discarded 4 0) .discard ≡ 0 → length s ≤ 1472
+    go : (b : Bool) → headerOk s ≡ b → pick b (walked s (walkOf s)) (discarded 4 0) .discard ≡ 0 → length s ≤ longestDatagram
     go true q e = header-short s q
     go false q e = absurd (omega arith)

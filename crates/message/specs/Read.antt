@@ -15,9 +15,13 @@ use Rattle.message.specs.declared.Walk.{Walk}
 use Rattle.message.specs.declared.Stage.{Stage}
 use Rattle.message.specs.declared.Stage.the-variants.{Walking, Done, Broken}
 
--- test 4: length from 12 to 1,472, version 0, family 1, a type that a client sends
+-- how many octets a datagram may have
+abbrev pub longestDatagram : ℕ
+longestDatagram = 1472
+
+-- test 4: length from 12 to the longest, version 0, family 1, a type that a client sends
 unfoldable pub headerOk : List ℕ → Bool
-headerOk s = leb 12 (length s) && (leb (length s) 1472 && (eqb (getD s 0 0) 0 && (eqb (at16 s 2) 1 && isIn (getD s 1 0) clientTypes)))
+headerOk s = leb 12 (length s) && (leb (length s) longestDatagram && (eqb (getD s 0 0) 0 && (eqb (at16 s 2) 1 && isIn (getD s 1 0) clientTypes)))
 
 -- no message: the discard's number, and for discard 5 the offset of the first option that breaks a rule, or the datagram's length where
 -- End or option 3 is missing; 0 with every other answer

@@ -10,12 +10,15 @@ pub use codes::OptionCode;
 ghost use mathlib.Core.Path.{_≡_};
 ghost use Prim.Native.Nat.{_≤_};
 ghost use lib.ListN.{length};
-ghost use Rattle.message.specs.Read.{readOf};
+ghost use Rattle.message.specs.Read.{longestDatagram, readOf};
 ghost use Rattle.message.specs.Values.{fieldsOf};
 ghost use Rattle.message.specs.Placed.{GoodPlaces};
 use crate::options::walk_options;
 use crate::reader::header_ok;
 use crate::reader::walked;
+
+// How many octets a datagram may have.
+pub const LONGEST_DATAGRAM: usize = 1472;
 
 // A datagram that passed tests 4 to 6: its type, its transaction id, and for each code up to 16 the place of its option, or 0.
 pub struct Message {
@@ -108,7 +111,7 @@ pub fn read(s: &[u8]) -> Reading
 impl Message {
     // All that the message says, to the server at an address.
     pub fn fields(self, s: &[u8], server: u32) -> Fields
-        requires { ⌜ GoodPlaces (now s) (self .places) × (length (now s) ≤ 1472) ⌝ }
+        requires { ⌜ GoodPlaces (now s) (self .places) × (length (now s) ≤ longestDatagram) ⌝ }
         ensures { λ r. ⌜ r ≡ fieldsOf (now (s .entry)) server self ⌝ }
     {
         let kind = self.kind;

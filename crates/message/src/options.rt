@@ -5,6 +5,7 @@ ghost use lib.ListN.{length, getD, set};
 ghost use lib.Dec.{eqb};
 ghost use Rattle.lists.specs.Pick.{pick};
 ghost use Rattle.message.specs.Walk.{codeAt, lengthAt, afterAt, layoutOk, exactlyFilled, valueOk, broken, done, moved, taken, stepOf, walkOf};
+ghost use Rattle.message.specs.Read.{longestDatagram};
 ghost use Rattle.message.specs.Placed.{pastWithin};
 use crate::OptionCode;
 use crate::Stage;
@@ -12,7 +13,7 @@ use crate::Walk;
 
 // The walk over all options of a datagram.
 pub fn walk_options(s: &[u8]) -> Walk
-    requires { ⌜ (8 ≤ length (now s)) × (length (now s) ≤ 1472) ⌝ }
+    requires { ⌜ (8 ≤ length (now s)) × (length (now s) ≤ longestDatagram) ⌝ }
     ensures { λ r. ⌜ r ≡ walkOf (now (s .entry)) ⌝ }
 {
     let mut w = Walk {
@@ -44,7 +45,7 @@ impl Walk {
 
     // End is the last four octets.
     fn at_end(self, size: usize) -> Walk
-        requires { ⌜ self .at ≤ 1472 ⌝ }
+        requires { ⌜ self .at ≤ longestDatagram ⌝ }
         ensures { λ r. ⌜ r ≡ pick (eqb (self .at + 4) size) (done self) (broken self) ⌝ }
     {
         if self.at + 4 == size {
@@ -60,7 +61,7 @@ impl Walk {
 
     // A code from 1 to 16 comes at most once.
     fn recorded(self, code: usize, n: usize) -> Walk
-        requires { ⌜ (self .at + 4 + n ≤ 1472) × (code < 17) ⌝ }
+        requires { ⌜ (self .at + 4 + n ≤ longestDatagram) × (code < 17) ⌝ }
         ensures { λ r. ⌜ r ≡ pick (eqb (getD (self .places) code 0) 0) (moved n (set (self .places) code (self .at)) self) (broken self) ⌝ }
     {
         let mut p = self.places;
@@ -77,7 +78,7 @@ impl Walk {
 
     // The option at the walk's place, whose layout and value are right.
     fn taken(self, size: usize, code: u16, n: usize) -> Walk
-        requires { ⌜ self .at + 4 + n ≤ 1472 ⌝ }
+        requires { ⌜ self .at + 4 + n ≤ longestDatagram ⌝ }
         ensures { λ r. ⌜ r ≡ taken size code n self ⌝ }
     {
         if code == OptionCode::END {
@@ -96,7 +97,7 @@ impl Walk {
 
     // The same, with its code and length read.
     fn taken_in(self, s: &[u8]) -> Walk
-        requires { ⌜ (afterAt (now s) (self .at) ≤ length (now s)) × (length (now s) ≤ 1472) ⌝ }
+        requires { ⌜ (afterAt (now s) (self .at) ≤ length (now s)) × (length (now s) ≤ longestDatagram) ⌝ }
         ensures { λ r. ⌜ r ≡ taken (length (now (s .entry))) (codeAt (now (s .entry)) (self .at)) (lengthAt (now (s .entry)) (self .at)) self ⌝ }
     {
         let at = self.at;
@@ -106,7 +107,7 @@ impl Walk {
     }
 
     fn step(self, s: &[u8]) -> Walk
-        requires { ⌜ (self .at ≤ length (now s)) × (length (now s) ≤ 1472) ⌝ }
+        requires { ⌜ (self .at ≤ length (now s)) × (length (now s) ≤ longestDatagram) ⌝ }
         ensures { λ r. ⌜ r ≡ stepOf (now (s .entry)) self ⌝ }
     {
         let at = self.at;
@@ -121,7 +122,7 @@ impl Walk {
 }
 
 fn layout_ok(s: &[u8], at: usize) -> bool
-    requires { ⌜ (at ≤ length (now s)) × (length (now s) ≤ 1472) ⌝ }
+    requires { ⌜ (at ≤ length (now s)) × (length (now s) ≤ longestDatagram) ⌝ }
     ensures { λ r. ⌜ r ≡ layoutOk (now (s .entry)) at ⌝ }
 {
     if at + 4 <= s.len() {
@@ -132,7 +133,7 @@ fn layout_ok(s: &[u8], at: usize) -> bool
 }
 
 fn value_ok(s: &[u8], at: usize) -> bool
-    requires { ⌜ (afterAt (now s) at ≤ length (now s)) × (length (now s) ≤ 1472) ⌝ }
+    requires { ⌜ (afterAt (now s) at ≤ length (now s)) × (length (now s) ≤ longestDatagram) ⌝ }
     ensures { λ r. ⌜ r ≡ valueOk (now (s .entry)) at ⌝ }
 {
     let code = octets::read_u16(s, at);
@@ -148,7 +149,7 @@ fn value_ok(s: &[u8], at: usize) -> bool
 }
 
 fn exactly_filled(s: &[u8], p: usize, end: usize) -> bool
-    requires { ⌜ (end ≤ length (now s)) × ((length (now s) ≤ 1472) × (p ≤ end)) ⌝ }
+    requires { ⌜ (end ≤ length (now s)) × ((length (now s) ≤ longestDatagram) × (p ≤ end)) ⌝ }
     ensures { λ r. ⌜ r ≡ exactlyFilled (now (s .entry)) p end ⌝ }
 {
     let a = past_list(s, p, end);
@@ -158,7 +159,7 @@ fn exactly_filled(s: &[u8], p: usize, end: usize) -> bool
 
 // Past the list of codes of option 12 that starts at p; past `end` where none fits.
 fn past_list(s: &[u8], p: usize, end: usize) -> usize
-    requires { ⌜ (end ≤ length (now s)) × ((length (now s) ≤ 1472) × (p ≤ 140000)) ⌝ }
+    requires { ⌜ (end ≤ length (now s)) × ((length (now s) ≤ longestDatagram) × (p ≤ 140000)) ⌝ }
     ensures { λ r. ⌜ (r ≡ pastWithin (now (s .entry)) end p) × (r ≤ 140000) ⌝ }
 {
     if end < p + 2 {

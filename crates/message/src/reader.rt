@@ -4,8 +4,9 @@ ghost use mathlib.Core.Bool.{true};
 ghost use Prim.Native.Nat.{_+_, _≤_};
 ghost use lib.ListN.{length};
 ghost use Rattle.message.specs.Walk.{afterAt, exactlyFilled, walkOf};
-ghost use Rattle.message.specs.Read.{headerOk, discarded, requiredEmpty, noneRequired, ended, walked};
+ghost use Rattle.message.specs.Read.{longestDatagram, headerOk, discarded, requiredEmpty, noneRequired, ended, walked};
 ghost use Rattle.message.specs.Placed.{GoodPlaces};
+use crate::LONGEST_DATAGRAM;
 use crate::Message;
 use crate::MessageType;
 use crate::OptionCode;
@@ -19,7 +20,7 @@ pub fn header_ok(s: &[u8]) -> bool
     if s.len() < 12 {
         return false;
     }
-    if 1472 < s.len() {
+    if LONGEST_DATAGRAM < s.len() {
         return false;
     }
     if s[0] == 0 {
@@ -33,7 +34,7 @@ pub fn header_ok(s: &[u8]) -> bool
 }
 
 pub fn walked(s: &[u8], w: Walk) -> Reading
-    requires { ⌜ (w ≡ walkOf (now s)) × ((12 ≤ length (now s)) × (length (now s) ≤ 1472)) ⌝ }
+    requires { ⌜ (w ≡ walkOf (now s)) × ((12 ≤ length (now s)) × (length (now s) ≤ longestDatagram)) ⌝ }
     ensures { λ r. ⌜ r ≡ walked (now (s .entry)) w ⌝ }
 {
     let stage = w.stage;
@@ -49,7 +50,7 @@ pub fn walked(s: &[u8], w: Walk) -> Reading
 
 // The datagram's options end at End.
 fn ended(s: &[u8], places: [usize; 17]) -> Reading
-    requires { ⌜ GoodPlaces (now s) places × ((12 ≤ length (now s)) × (length (now s) ≤ 1472)) ⌝ }
+    requires { ⌜ GoodPlaces (now s) places × ((12 ≤ length (now s)) × (length (now s) ≤ longestDatagram)) ⌝ }
     ensures { λ r. ⌜ r ≡ ended (now (s .entry)) places ⌝ }
 {
     if places[OptionCode::LEASE_IDENTIFIER as usize] == 0 {
@@ -74,7 +75,7 @@ fn ended(s: &[u8], places: [usize; 17]) -> Reading
 
 // Whether no feature is required of the server.
 fn none_required(s: &[u8], places: [usize; 17]) -> bool
-    requires { ⌜ GoodPlaces (now s) places × (length (now s) ≤ 1472) ⌝ }
+    requires { ⌜ GoodPlaces (now s) places × (length (now s) ≤ longestDatagram) ⌝ }
     ensures { λ r. ⌜ r ≡ noneRequired (now (s .entry)) places ⌝ }
 {
     let at = places[OptionCode::FEATURES as usize];
@@ -86,7 +87,7 @@ fn none_required(s: &[u8], places: [usize; 17]) -> bool
 
 // Whether the required list of the features at a place is empty.
 fn required_empty(s: &[u8], at: usize) -> bool
-    requires { ⌜ (exactlyFilled (now s) (at + 4) (afterAt (now s) at) ≡ true) × ((afterAt (now s) at ≤ length (now s)) × (length (now s) ≤ 1472)) ⌝ }
+    requires { ⌜ (exactlyFilled (now s) (at + 4) (afterAt (now s) at) ≡ true) × ((afterAt (now s) at ≤ length (now s)) × (length (now s) ≤ longestDatagram)) ⌝ }
     ensures { λ r. ⌜ r ≡ requiredEmpty (now (s .entry)) (at + 4) ⌝ }
 {
     let p = at + 4;

@@ -5,6 +5,7 @@ ghost use Prim.Native.Nat.{_+_, _/_, _≤_};
 ghost use lib.ListN.{length};
 ghost use Rattle.lists.specs.Filter.{isIn};
 ghost use Rattle.message.specs.Walk.{lengthAt, afterAt};
+ghost use Rattle.message.specs.Read.{longestDatagram};
 ghost use Rattle.message.specs.Values.{foundAt, findOf, isFound, countsAt, countsOf, namesServer, serverOk, codesFrom, namesOf, identifierAt, identifierOf, allowedAt, allAllowed, wishAt, wishOf, timesOf};
 ghost use Rattle.message.specs.Placed.{GoodPlaces, fourOctets};
 use crate::Counts;
@@ -41,7 +42,7 @@ impl Message {
 
     // Number, or least 1 and desired 1.
     pub fn counts(self, s: &[u8]) -> Counts
-        requires { ⌜ GoodPlaces (now s) (self .places) × (length (now s) ≤ 1472) ⌝ }
+        requires { ⌜ GoodPlaces (now s) (self .places) × (length (now s) ≤ longestDatagram) ⌝ }
         ensures { λ r. ⌜ r ≡ countsOf (now (s .entry)) (findOf (self .places) 7) ⌝ }
     {
         let found = self.find(OptionCode::NUMBER);
@@ -56,7 +57,7 @@ impl Message {
 
     // Whether the message names no server or this one (test 7 asks it of a REQUEST).
     pub fn is_for(self, s: &[u8], server: u32) -> bool
-        requires { ⌜ GoodPlaces (now s) (self .places) × (length (now s) ≤ 1472) ⌝ }
+        requires { ⌜ GoodPlaces (now s) (self .places) × (length (now s) ≤ longestDatagram) ⌝ }
         ensures { λ r. ⌜ r ≡ serverOk (now (s .entry)) server (findOf (self .places) 2) ⌝ }
     {
         let found = self.find(OptionCode::SERVER_IDENTIFIER);
@@ -68,7 +69,7 @@ impl Message {
 
     // Whether the Option Request List names a code.
     pub fn asks_for(self, s: &[u8], code: u16) -> bool
-        requires { ⌜ GoodPlaces (now s) (self .places) × (length (now s) ≤ 1472) ⌝ }
+        requires { ⌜ GoodPlaces (now s) (self .places) × (length (now s) ≤ longestDatagram) ⌝ }
         ensures { λ r. ⌜ r ≡ namesOf (now (s .entry)) code (findOf (self .places) 5) ⌝ }
     {
         let found = self.find(OptionCode::OPTION_REQUEST_LIST);
@@ -80,7 +81,7 @@ impl Message {
 
     // The value of an option of four octets, if it is there.
     pub fn wish(self, s: &[u8], code: u16) -> Wish
-        requires { ⌜ GoodPlaces (now s) (self .places) × ((fourOctets code ≡ true) × (length (now s) ≤ 1472)) ⌝ }
+        requires { ⌜ GoodPlaces (now s) (self .places) × ((fourOctets code ≡ true) × (length (now s) ≤ longestDatagram)) ⌝ }
         ensures { λ r. ⌜ r ≡ wishOf (now (s .entry)) (findOf (self .places) code) ⌝ }
     {
         let found = self.find(code);
@@ -94,7 +95,7 @@ impl Message {
     }
 
     pub fn times(self, s: &[u8]) -> Times
-        requires { ⌜ GoodPlaces (now s) (self .places) × (length (now s) ≤ 1472) ⌝ }
+        requires { ⌜ GoodPlaces (now s) (self .places) × (length (now s) ≤ longestDatagram) ⌝ }
         ensures { λ r. ⌜ r ≡ timesOf (now (s .entry)) (self .places) ⌝ }
     {
         Times {
@@ -108,7 +109,7 @@ impl Message {
 
     // The lease identifier.
     pub fn identifier(self, s: &[u8]) -> Identifier
-        requires { ⌜ GoodPlaces (now s) (self .places) × (length (now s) ≤ 1472) ⌝ }
+        requires { ⌜ GoodPlaces (now s) (self .places) × (length (now s) ≤ longestDatagram) ⌝ }
         ensures { λ r. ⌜ r ≡ identifierOf (now (s .entry)) (findOf (self .places) 3) ⌝ }
     {
         let found = self.find(OptionCode::LEASE_IDENTIFIER);
@@ -157,7 +158,7 @@ fn place_found(at: usize) -> Found
 }
 
 fn wish_at(s: &[u8], at: usize) -> Wish
-    requires { ⌜ (at + 8 ≤ length (now s)) × (length (now s) ≤ 1472) ⌝ }
+    requires { ⌜ (at + 8 ≤ length (now s)) × (length (now s) ≤ longestDatagram) ⌝ }
     ensures { λ r. ⌜ r ≡ wishAt (now (s .entry)) at ⌝ }
 {
     Wish {
@@ -167,7 +168,7 @@ fn wish_at(s: &[u8], at: usize) -> Wish
 }
 
 fn counts_at(s: &[u8], at: usize) -> Counts
-    requires { ⌜ (at + 8 ≤ length (now s)) × (length (now s) ≤ 1472) ⌝ }
+    requires { ⌜ (at + 8 ≤ length (now s)) × (length (now s) ≤ longestDatagram) ⌝ }
     ensures { λ r. ⌜ r ≡ countsAt (now (s .entry)) at ⌝ }
 {
     Counts {
@@ -178,7 +179,7 @@ fn counts_at(s: &[u8], at: usize) -> Counts
 
 // Whether the Server Identifier at a place is the six octets of family 1 and the server's address.
 fn names_server(s: &[u8], at: usize, server: u32) -> bool
-    requires { ⌜ (afterAt (now s) at ≤ length (now s)) × (length (now s) ≤ 1472) ⌝ }
+    requires { ⌜ (afterAt (now s) at ≤ length (now s)) × (length (now s) ≤ longestDatagram) ⌝ }
     ensures { λ r. ⌜ r ≡ namesServer (now (s .entry)) server at ⌝ }
 {
     if octets::read_u16(s, at + 2) == 6 {
@@ -192,7 +193,7 @@ fn names_server(s: &[u8], at: usize, server: u32) -> bool
 
 // Whether the list of codes at a place has a code.
 fn lists_code(s: &[u8], at: usize, code: u16) -> bool
-    requires { ⌜ (afterAt (now s) at ≤ length (now s)) × (length (now s) ≤ 1472) ⌝ }
+    requires { ⌜ (afterAt (now s) at ≤ length (now s)) × (length (now s) ≤ longestDatagram) ⌝ }
     ensures { λ r. ⌜ r ≡ isIn code (codesFrom (now (s .entry)) (at + 4) (lengthAt (now (s .entry)) at / 2)) ⌝ }
 {
     let k = octets::read_u16(s, at + 2) as usize / 2;
@@ -211,7 +212,7 @@ fn lists_code(s: &[u8], at: usize, code: u16) -> bool
 
 // The identifier of 2 to 32 octets at a place.
 fn identifier_at(s: &[u8], at: usize) -> Identifier
-    requires { ⌜ (afterAt (now s) at ≤ length (now s)) × ((lengthAt (now s) at ≤ 32) × (length (now s) ≤ 1472)) ⌝ }
+    requires { ⌜ (afterAt (now s) at ≤ length (now s)) × ((lengthAt (now s) at ≤ 32) × (length (now s) ≤ longestDatagram)) ⌝ }
     ensures { λ r. ⌜ r ≡ identifierAt (now (s .entry)) at ⌝ }
 {
     let n = octets::read_u16(s, at + 2) as usize;

@@ -9,6 +9,7 @@ use lib.ListN.{length, replicate, take, drop, drop-of-length-le, take-append-dro
 use lib.Seq.{length-take-le, take-all, take-at, paste}
 use native.Mathlib.Nat.{zero-add}
 use borrow.Author.Tests.{eq-eqb, ne-eqb, eqb-true, eqb-false}
+use Rattle.reply.specs.Reply.{leastRoom}
 use Rattle.lists.specs.Pick.{pick}
 use Rattle.state.specs.declared.Book.{Book}
 use Rattle.state.specs.declared.Lease.{Lease}
@@ -125,7 +126,7 @@ pub clock-only : (b : Book) (c : Call) → serveOf b c .book .state ≡ raised (
 unfolding serveOf atClock withReading forServer Raises advanced
 clock-only b c =
     pick-cases Keeps (soundB (b .state) (b .table)) _ _
-    (λ _. pick-cases Keeps (ltb (c .room) 512) _ _ (λ _. raised-self (b .state))
+    (λ _. pick-cases Keeps (ltb (c .room) leastRoom) _ _ (λ _. raised-self (b .state))
     (λ _. pick-cases Keeps _ _ _
     (λ _. pick-cases Keeps _ _ _ (λ _. pick-cases Keeps _ _ _ (λ _. now) (λ _. now)) (λ _. now)) (λ _. now))) (λ _. raised-self (b .state))
   where

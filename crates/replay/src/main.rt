@@ -16,10 +16,10 @@ fn refuse(number: u8) {
     print(&line, n);
 }
 
-// A reply has at most 512 octets and lies within its room.
+// A reply is no longer than the least room, and lies within its room.
 fn print_call(outcome: u8, room: &[u8], length: usize) {
-    let mut line = [0u8; 1028];
-    if length <= 512 {
+    let mut line = [0u8; 2 * reply::LEAST_ROOM + 4];
+    if length <= reply::LEAST_ROOM {
         if length <= room.len() {
             let n = replay_text::write_call_line(&mut line, outcome, room, length);
             print(&line, n);
@@ -27,13 +27,12 @@ fn print_call(outcome: u8, room: &[u8], length: usize) {
     }
 }
 
-// A file has at most 14,628 octets.
 fn print_book(book: Owned) {
-    let mut file = [0u8; 14628];
-    let mut line = [0u8; 29262];
+    let mut file = [0u8; state_file::LONGEST_FILE];
+    let mut line = [0u8; 2 * state_file::LONGEST_FILE + 6];
     let w = owned::write(book, &mut file);
     let length = w.length;
-    if length <= 14628 {
+    if length <= state_file::LONGEST_FILE {
         let n = replay_text::write_book_line(&mut line, &file, length);
         print(&line, n);
     }

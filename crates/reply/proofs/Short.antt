@@ -1,4 +1,4 @@
--- The longest reply has at most 512 octets, so that a buffer of 512 always suffices.
+-- No reply is longer than the least room, so that a room that passes test 2 always suffices.
 use mathlib.Core.Path.{_≡_, ap, _∙_}
 use mathlib.Core.List.{List, [], _∷_, _++_}
 use mathlib.Core.Bool.{Bool, true, false}
@@ -8,7 +8,7 @@ use lib.ListN.{length, take, length-append, length-take}
 use Rattle.address_set.specs.AddressSet.{offsets, runs}
 use Rattle.address_set.specs.RangeLaws.{ranges-few}
 use Rattle.octets.specs.Octets.{octets16, octets32}
-use Rattle.reply.specs.Reply.{Option, option, optionOctets, optionsOctets, messageOctets, header, wanted, rangesOctets, scopesOf, scopesOctets, scopeListOption, leaseOptions, releaseOptions, infoOptions, nakOptions, offerOf, leaseAckOf, releaseAckOf, infoAckOf, nakOf}
+use Rattle.reply.specs.Reply.{leastRoom, Option, option, optionOctets, optionsOctets, messageOctets, header, wanted, rangesOctets, scopesOf, scopesOctets, scopeListOption, leaseOptions, releaseOptions, infoOptions, nakOptions, offerOf, leaseAckOf, releaseAckOf, infoAckOf, nakOf}
 use Rattle.reply.specs.declared.Head.{Head}
 use Rattle.reply.specs.declared.Terms.{Terms}
 use Rattle.reply.specs.declared.Info.{Info}
@@ -57,19 +57,19 @@ module _ (h : Head) (array : length (h .id .octets) ≡ 32) where
       (more _ _ 4 468 (omega arith) (named _ 422 (more _ _ 4 414 (omega arith) (more _ _ 4 406 (omega arith) (more _ _ 384 18 (omega arith) (more _ _ 4 10 (omega arith) (last (h .features) _ 6 (omega arith)))))))) in
       omega arith
 
-  pub offer-short : (t : Terms) → length (offerOf h t) ≤ 512
+  pub offer-short : (t : Terms) → length (offerOf h t) ≤ leastRoom
   unfolding offerOf
   offer-short t = let m = lease 2 t in omega arith
 
-  pub lease-ack-short : (t : Terms) → length (leaseAckOf h t) ≤ 512
+  pub lease-ack-short : (t : Terms) → length (leaseAckOf h t) ≤ leastRoom
   unfolding leaseAckOf
   lease-ack-short t = let m = lease 5 t in omega arith
 
-  pub release-ack-short : length (releaseAckOf h) ≤ 512
+  pub release-ack-short : length (releaseAckOf h) ≤ leastRoom
   unfolding releaseAckOf
   release-ack-short = let m = message 5 (h .xid) (releaseOptions h) 56 (named _ 10 (last (h .features) _ 6 (omega arith))) in omega arith
 
-  pub info-ack-short : (i : Info) → length (i .scopes) ≡ 4 → length (infoAckOf h i) ≤ 512
+  pub info-ack-short : (i : Info) → length (i .scopes) ≡ 4 → length (infoAckOf h i) ≤ leastRoom
   unfolding infoAckOf
   info-ack-short i four =
       let k = length-take (i .count) (i .scopes) in
@@ -83,7 +83,7 @@ module _ (h : Head) (array : length (h .id .octets) ≡ 32) where
       both : (xs ys : List Option) (m n : ℕ) → Within xs m → Within ys n → Within (xs ++ ys) (m + n)
       both xs ys m n v w = let e = ap-length xs ys in let a = v .within in let b = w .within in record { within = omega arith }
 
-  pub nak-short : (error : ℕ) → length (nakOf h error) ≤ 512
+  pub nak-short : (error : ℕ) → length (nakOf h error) ≤ leastRoom
   unfolding nakOf
   nak-short error =
       let m = message 6 (h .xid) (nakOptions h error) 62 (named _ 16 (maybe (h .features) _ _ 6 6 (omega arith) (more _ [] 2 0 (omega arith) none))) in omega arith

@@ -11,6 +11,10 @@ use Rattle.reply.specs.declared.Terms.{Terms}
 use Rattle.reply.specs.declared.Info.{Info}
 use Rattle.reply.specs.declared.ScopeEntry.{ScopeEntry}
 
+-- how many octets a reply room has at least: no reply is longer
+abbrev pub leastRoom : ℕ
+leastRoom = 512
+
 -- ---- a message: header, options, End
 
 pub record Option : Type 0 where

@@ -1,16 +1,22 @@
-// The replies, written into a lent buffer of at least 512 octets. Each function returns the reply's length and leaves what is past it.
+// The replies, written into a lent buffer of at least LEAST_ROOM octets. Each function returns the reply's length and leaves what is past it.
+// Each writer asks for the room that its options can take at most, and promises to stay within it, so that the writers after it have theirs:
+// an option takes 4 octets and its value's, of which a Lease Identifier has at most 32, Ranges 64 of 6 octets (a pool has 64 addresses), a
+// Scope List 1 and 4 scopes of 10. A sum of such bounds is the bound of options in a row; header(8), the longest row(476) and End(4) are 488.
 ghost use mathlib.Core.Path.{_≡_};
 ghost use mathlib.Core.List.{[], _∷_, _++_};
 ghost use Prim.Native.Nat.{_+_, _-_, _≤_};
 ghost use lib.ListN.{length, take};
 ghost use Rattle.octets.specs.Octets.{octets16, octets32, Wrote};
 ghost use Rattle.address_set.specs.AddressSet.{offsets, runs};
-ghost use Rattle.reply.specs.Reply.{option, header, wanted, serverOption, identifierOption, featuresOption, rangeOctets, rangesOctets, rangesOption, scopeOctets, scopesOctets, scopeListOption, offerOf, leaseAckOf, releaseAckOf, infoAckOf, nakOf, optionOctets, messageOctets, leaseOptions, infoOptions, nakOptions};
+ghost use Rattle.reply.specs.Reply.{leastRoom, option, header, wanted, serverOption, identifierOption, featuresOption, rangeOctets, rangesOctets, rangesOption, scopeOctets, scopesOctets, scopeListOption, offerOf, leaseAckOf, releaseAckOf, infoAckOf, nakOf, optionOctets, messageOctets, leaseOptions, infoOptions, nakOptions};
 ghost use Rattle.reply.specs.Put.{Put, Replied};
 use address_set::Range;
 use message::Identifier;
 use message::MessageType;
 use message::OptionCode;
+
+// How many octets a reply room has at least (test 2).
+pub const LEAST_ROOM: usize = 512;
 
 // What every reply echoes of the client's message, and the server's address. `features`: the client sent option 12.
 pub struct Head {
@@ -89,6 +95,7 @@ fn id_length(id: Identifier) -> usize
     32
 }
 
+// A code and a length(4), and 32 octets: 36.
 fn put_identifier(buffer: &mut [u8], at: usize, head: Head) -> usize
     requires { ⌜ at + 36 ≤ length (now buffer) ⌝ }
     ensures { λ r. ⌜ Put (now (buffer .entry)) at (identifierOption head ∷ []) (now (buffer .exit)) r 36 ⌝ }
@@ -158,6 +165,7 @@ fn put_range_list(buffer: &mut [u8], at: usize, lowest: u32, set: u64) -> usize
     to
 }
 
+// A code and a length(4), and 64 ranges of 6: 388.
 fn put_ranges(buffer: &mut [u8], at: usize, terms: Terms) -> usize
     requires { ⌜ at + 388 ≤ length (now buffer) ⌝ }
     ensures { λ r. ⌜ Put (now (buffer .entry)) at (rangesOption terms ∷ []) (now (buffer .exit)) r 388 ⌝ }
@@ -202,6 +210,7 @@ fn put_scopes(buffer: &mut [u8], at: usize, info: Info, n: usize) -> usize
     to
 }
 
+// A code and a length(4), a count(1), and 4 scopes of 10: 45.
 fn put_scope_list(buffer: &mut [u8], at: usize, info: Info) -> usize
     requires { ⌜ at + 45 ≤ length (now buffer) ⌝ }
     ensures { λ r. ⌜ Put (now (buffer .entry)) at (scopeListOption info ∷ []) (now (buffer .exit)) r 45 ⌝ }
@@ -231,7 +240,7 @@ fn put_end(buffer: &mut [u8], at: usize) -> usize
     put_code(buffer, at, OptionCode::END, 0)
 }
 
-// Server Identifier and Lease Identifier, which every reply has.
+// Server Identifier(10) and Lease Identifier(36), which every reply has: 46.
 fn put_named(buffer: &mut [u8], at: usize, head: Head) -> usize
     requires { ⌜ at + 46 ≤ length (now buffer) ⌝ }
     ensures { λ r. ⌜ Put (now (buffer .entry)) at (serverOption head ∷ identifierOption head ∷ []) (now (buffer .exit)) r 46 ⌝ }
@@ -240,6 +249,7 @@ fn put_named(buffer: &mut [u8], at: usize, head: Head) -> usize
     put_identifier(buffer, a, head)
 }
 
+// Lease Time, Scope, Start Time and Current Time 8 each, the two identifiers 46, Ranges 388, Features 10: 476.
 fn put_lease_options(buffer: &mut [u8], at: usize, head: Head, terms: Terms) -> usize
     requires { ⌜ at + 476 ≤ length (now buffer) ⌝ }
     ensures { λ r. ⌜ Put (now (buffer .entry)) at (leaseOptions head terms) (now (buffer .exit)) r 476 ⌝ }
@@ -273,6 +283,7 @@ fn put_time_if(buffer: &mut [u8], at: usize, info: Info) -> usize
     at
 }
 
+// The two identifiers 46, Scope List 45, Current Time 8, Features 10: 109.
 fn put_info_options(buffer: &mut [u8], at: usize, head: Head, info: Info) -> usize
     requires { ⌜ at + 109 ≤ length (now buffer) ⌝ }
     ensures { λ r. ⌜ Put (now (buffer .entry)) at (infoOptions head info) (now (buffer .exit)) r 109 ⌝ }
@@ -283,6 +294,7 @@ fn put_info_options(buffer: &mut [u8], at: usize, head: Head, info: Info) -> usi
     put_features(buffer, c, head)
 }
 
+// The two identifiers 46, Features 10, Error 6: 62.
 fn put_nak_options(buffer: &mut [u8], at: usize, head: Head, error: u16) -> usize
     requires { ⌜ at + 62 ≤ length (now buffer) ⌝ }
     ensures { λ r. ⌜ Put (now (buffer .entry)) at (nakOptions head error) (now (buffer .exit)) r 62 ⌝ }
@@ -293,7 +305,7 @@ fn put_nak_options(buffer: &mut [u8], at: usize, head: Head, error: u16) -> usiz
 }
 
 fn write_lease(buffer: &mut [u8], kind: MessageType, head: Head, terms: Terms) -> usize
-    requires { ⌜ 512 ≤ length (now buffer) ⌝ }
+    requires { ⌜ leastRoom ≤ length (now buffer) ⌝ }
     ensures { λ r. ⌜ Replied (now (buffer .entry)) (messageOctets (kind .number) (head .xid) (leaseOptions head terms)) (now (buffer .exit)) r ⌝ }
 {
     let a = put_header(buffer, kind.number, head.xid);
@@ -303,7 +315,7 @@ fn write_lease(buffer: &mut [u8], kind: MessageType, head: Head, terms: Terms) -
 
 // OFFER.
 pub fn write_offer(buffer: &mut [u8], head: Head, terms: Terms) -> usize
-    requires { ⌜ 512 ≤ length (now buffer) ⌝ }
+    requires { ⌜ leastRoom ≤ length (now buffer) ⌝ }
     ensures { λ r. ⌜ Replied (now (buffer .entry)) (offerOf head terms) (now (buffer .exit)) r ⌝ }
 {
     write_lease(buffer, MessageType::offer(), head, terms)
@@ -311,7 +323,7 @@ pub fn write_offer(buffer: &mut [u8], head: Head, terms: Terms) -> usize
 
 // ACK to REQUEST and RENEW.
 pub fn write_lease_ack(buffer: &mut [u8], head: Head, terms: Terms) -> usize
-    requires { ⌜ 512 ≤ length (now buffer) ⌝ }
+    requires { ⌜ leastRoom ≤ length (now buffer) ⌝ }
     ensures { λ r. ⌜ Replied (now (buffer .entry)) (leaseAckOf head terms) (now (buffer .exit)) r ⌝ }
 {
     write_lease(buffer, MessageType::ack(), head, terms)
@@ -319,7 +331,7 @@ pub fn write_lease_ack(buffer: &mut [u8], head: Head, terms: Terms) -> usize
 
 // ACK to RELEASE.
 pub fn write_release_ack(buffer: &mut [u8], head: Head) -> usize
-    requires { ⌜ 512 ≤ length (now buffer) ⌝ }
+    requires { ⌜ leastRoom ≤ length (now buffer) ⌝ }
     ensures { λ r. ⌜ Replied (now (buffer .entry)) (releaseAckOf head) (now (buffer .exit)) r ⌝ }
 {
     let a = put_header(buffer, MessageType::ACK, head.xid);
@@ -330,7 +342,7 @@ pub fn write_release_ack(buffer: &mut [u8], head: Head) -> usize
 
 // ACK to GETINFO.
 pub fn write_info_ack(buffer: &mut [u8], head: Head, info: Info) -> usize
-    requires { ⌜ 512 ≤ length (now buffer) ⌝ }
+    requires { ⌜ leastRoom ≤ length (now buffer) ⌝ }
     ensures { λ r. ⌜ Replied (now (buffer .entry)) (infoAckOf head info) (now (buffer .exit)) r ⌝ }
 {
     let a = put_header(buffer, MessageType::ACK, head.xid);
@@ -340,7 +352,7 @@ pub fn write_info_ack(buffer: &mut [u8], head: Head, info: Info) -> usize
 
 // NAK with an error's code.
 pub fn write_nak(buffer: &mut [u8], head: Head, error: u16) -> usize
-    requires { ⌜ 512 ≤ length (now buffer) ⌝ }
+    requires { ⌜ leastRoom ≤ length (now buffer) ⌝ }
     ensures { λ r. ⌜ Replied (now (buffer .entry)) (nakOf head error) (now (buffer .exit)) r ⌝ }
 {
     let a = put_header(buffer, MessageType::NAK, head.xid);

@@ -7,10 +7,11 @@ use native.Mathlib.Omega.{arith}
 use borrow.Author.Tests.{eq-eqb, ne-eqb, lt-ltb, le-ltb}
 use lib.Dec.{ltb, eqb}
 use lib.ListN.{length, drop}
+use Rattle.reply.specs.Reply.{leastRoom}
 use Rattle.lists.specs.Pick.{pick}
 use Rattle.message.specs.declared.Fields.{Fields}
 use Rattle.message.specs.declared.Reading.{Reading}
-use Rattle.message.specs.Read.{readOf}
+use Rattle.message.specs.Read.{longestDatagram, readOf}
 use Rattle.message.specs.Placed.{GoodPlaces, read-good, read-short}
 use Rattle.message.specs.Values.{fieldsOf}
 use Rattle.reply.specs.Put.{Replied}
@@ -91,7 +92,7 @@ module _ (b : Book) (h : ℕ) (s : List ℕ) (r : Reading) (e : r ≡ readOf s) 
   pub reading-good : GoodPlaces s (r .message .places)
   reading-good = subst (λ (x : Reading). GoodPlaces s (x .message .places)) (sym e) (read-good s)
 
-  pub reading-short : r .discard ≡ 0 → length s ≤ 1472
+  pub reading-short : r .discard ≡ 0 → length s ≤ longestDatagram
   reading-short z = read-short s (sym (ap (λ (x : Reading). x .discard) e) ∙ z)
 
   pub reading-taken : {x y : List ℕ} {v : Served} (f : Fields) → r .discard ≡ 0 → f ≡ fieldsOf s (b .state .server) (r .message) → Serves (forServer b h f) x y v → Serves (withReading b h s (readOf s)) x y v
@@ -127,12 +128,12 @@ at-test b c t u = pick t (pick u (discarded 2 b) (atClock (advanced b (c .time))
 module _ (b : Book) (c : Call) (q : Bool) (e : q ≡ soundB (b .state) (b .table)) {x y : List ℕ} {v : Served} where
   pub call-unsound : q ≡ false → Serves (discarded 1 b) x y v → Serves (serveOf b c) x y v
   unfolding serveOf pick at-test
-  call-unsound h w = serves-as (sym (ap (λ (t : Bool). at-test b c t (ltb (c .room) 512)) (sym e ∙ h))) w
+  call-unsound h w = serves-as (sym (ap (λ (t : Bool). at-test b c t (ltb (c .room) leastRoom)) (sym e ∙ h))) w
 
-  pub call-short : q ≡ true → c .room < 512 → Serves (discarded 2 b) x y v → Serves (serveOf b c) x y v
+  pub call-short : q ≡ true → c .room < leastRoom → Serves (discarded 2 b) x y v → Serves (serveOf b c) x y v
   unfolding serveOf pick at-test
-  call-short h g w = serves-as (sym (ap₂ (at-test b c) (sym e ∙ h) (lt-ltb (c .room) 512 g))) w
+  call-short h g w = serves-as (sym (ap₂ (at-test b c) (sym e ∙ h) (lt-ltb (c .room) leastRoom g))) w
 
-  pub call-served : q ≡ true → 512 ≤ c .room → Serves (atClock (advanced b (c .time)) (c .client) (c .datagram)) x y v → Serves (serveOf b c) x y v
+  pub call-served : q ≡ true → leastRoom ≤ c .room → Serves (atClock (advanced b (c .time)) (c .client) (c .datagram)) x y v → Serves (serveOf b c) x y v
   unfolding serveOf pick at-test
-  call-served h g w = serves-as (sym (ap₂ (at-test b c) (sym e ∙ h) (le-ltb (c .room) 512 g))) w
+  call-served h g w = serves-as (sym (ap₂ (at-test b c) (sym e ∙ h) (le-ltb (c .room) leastRoom g))) w

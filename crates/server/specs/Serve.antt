@@ -16,7 +16,7 @@ use Rattle.reply.specs.declared.Head.{Head}
 use Rattle.reply.specs.declared.Terms.{Terms}
 use Rattle.reply.specs.declared.Info.{Info}
 use Rattle.reply.specs.declared.ScopeEntry.{ScopeEntry}
-use Rattle.reply.specs.Reply.{offerOf, leaseAckOf, releaseAckOf, infoAckOf, nakOf}
+use Rattle.reply.specs.Reply.{leastRoom, offerOf, leaseAckOf, releaseAckOf, infoAckOf, nakOf}
 use Rattle.state.specs.declared.Book.{Book}
 use Rattle.state.specs.declared.ClientRange.{ClientRange}
 use Rattle.state.specs.declared.LeaseTable.{LeaseTable}
@@ -107,7 +107,7 @@ atClock b client s =
 unfoldable pub serveOf : Book → Call → Answer
 serveOf b c =
     pick (soundB (b .state) (b .table))
-    (pick (ltb (c .room) 512) (discarded 2 b) (atClock (advanced b (c .time)) (c .client) (c .datagram)))
+    (pick (ltb (c .room) leastRoom) (discarded 2 b) (atClock (advanced b (c .time)) (c .client) (c .datagram)))
     (discarded 1 b)
 
 -- ---- what a function promises: outcome, length, book, and every octet of the reply buffer

@@ -5,6 +5,7 @@ ghost use lib.ListN.{length};
 ghost use Rattle.message.specs.Read.{readOf};
 ghost use Rattle.soundness.specs.Sound.{tenantsIn};
 ghost use Rattle.reply.specs.Put.{Replied};
+ghost use Rattle.reply.specs.Reply.{leastRoom};
 ghost use Rattle.decision.specs.Decide.{decideOf};
 ghost use Rattle.server.specs.Serve.{Call, headOf, termsOf, entryOf, infoOf, replyOf, answered, forServer, withReading, hasClient, tenantOf, atClock, serveOf, Serves};
 use decision::Reply;
@@ -81,7 +82,7 @@ fn info_of(s: State, m: Fields) -> Info
 }
 
 fn write_reply(s: State, m: Fields, v: Verdict, reply: &mut [u8]) -> usize
-    requires { ⌜ 512 ≤ length (now reply) ⌝ }
+    requires { ⌜ leastRoom ≤ length (now reply) ⌝ }
     ensures { λ r. ⌜ Replied (now (reply .entry)) (replyOf s m v) (now (reply .exit)) r ⌝ }
 {
     let head = head_of(s, m);
@@ -110,7 +111,7 @@ fn discard(n: u8, book: Book) -> Served
 
 // After test 7: the decision, and the reply written from it.
 fn decided(book: Book, h: usize, m: Fields, reply: &mut [u8]) -> Served
-    requires { ⌜ (512 ≤ length (now reply)) × (h < tenantsIn (book .state)) ⌝ }
+    requires { ⌜ (leastRoom ≤ length (now reply)) × (h < tenantsIn (book .state)) ⌝ }
     ensures { λ r. ⌜ Serves (answered (book .state) m (decideOf (book .state) (book .table) h m)) (now (reply .entry)) (now (reply .exit)) r ⌝ }
 {
     let s = book.state;
@@ -131,7 +132,7 @@ fn decided(book: Book, h: usize, m: Fields, reply: &mut [u8]) -> Served
 
 // Test 7.
 fn for_server(book: Book, h: usize, m: Fields, reply: &mut [u8]) -> Served
-    requires { ⌜ (512 ≤ length (now reply)) × (h < tenantsIn (book .state)) ⌝ }
+    requires { ⌜ (leastRoom ≤ length (now reply)) × (h < tenantsIn (book .state)) ⌝ }
     ensures { λ r. ⌜ Serves (forServer book h m) (now (reply .entry)) (now (reply .exit)) r ⌝ }
 {
     if m.kind == MessageType::REQUEST {
@@ -145,7 +146,7 @@ fn for_server(book: Book, h: usize, m: Fields, reply: &mut [u8]) -> Served
 
 // Tests 4, 5 and 6.
 fn with_datagram(book: Book, h: usize, datagram: &[u8], reply: &mut [u8]) -> Served
-    requires { ⌜ (512 ≤ length (now reply)) × (h < tenantsIn (book .state)) ⌝ }
+    requires { ⌜ (leastRoom ≤ length (now reply)) × (h < tenantsIn (book .state)) ⌝ }
     ensures { λ r. ⌜ Serves (withReading book h (now (datagram .entry)) (readOf (now (datagram .entry)))) (now (reply .entry)) (now (reply .exit)) r ⌝ }
 {
     let r = message::read(datagram);
@@ -185,7 +186,7 @@ fn tenant_of(s: State, client: u32) -> usize
 
 // Test 3.
 fn at_clock(book: Book, client: u32, datagram: &[u8], reply: &mut [u8]) -> Served
-    requires { ⌜ 512 ≤ length (now reply) ⌝ }
+    requires { ⌜ leastRoom ≤ length (now reply) ⌝ }
     ensures { λ r. ⌜ Serves (atClock book client (now (datagram .entry))) (now (reply .entry)) (now (reply .exit)) r ⌝ }
 {
     let s = book.state;
@@ -203,7 +204,7 @@ pub fn serve(book: Book, datagram: &[u8], client: u32, time: u32, reply: &mut [u
     let s = book.state;
     let t = book.table;
     if soundness::sound(s, t) {
-        if reply.len() < 512 {
+        if reply.len() < reply::LEAST_ROOM {
             return discard(2, book);
         }
         return at_clock(state::advance(book, time), client, datagram, reply);

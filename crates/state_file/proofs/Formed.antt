@@ -15,7 +15,7 @@ use Rattle.state_file.proofs.Pad.{row-length}
 use Rattle.state_file.proofs.Run.{section-run}
 use Rattle.state_file.proofs.Stands.{Stands, stands-viewed}
 use Rattle.state_file.proofs.WholeForm.{Server, afterServer, afterTenants, fixed-pair, fixed-part, fixed-scope, fixed-tenant, form-long, form-rest, form-scopes, form-short, form-tag, form-tenants, server, tenants, ts}
-use Rattle.state_file.specs.File.{FileLease, FilePart, FileScope, fileFormat, fileOf, leasesFormat, ofSections, scopeFormat, tenantFormat, toSections}
+use Rattle.state_file.specs.File.{longestFile, FileLease, FilePart, FileScope, fileFormat, fileOf, leasesFormat, ofSections, scopeFormat, tenantFormat, toSections}
 use Rattle.state_file.specs.Format.{Format, Got, _▷_, bad, closed, counted, got}
 use Rattle.state_file.specs.FormatLaws.{Octets}
 use Rattle.state_file.specs.Place.{Formed, fileAt, isGot, leaseCount, leasesAt, leasesPlace, partAt, rangeAt, row, scopeAt, scopeCount, scopesPlace, tenantCount}
@@ -54,16 +54,16 @@ stands-value {A} {f} {s} {at} {m} e p = subst (λ (z : A). Stands f s at z m) e 
 never : {A : Type 0} {b : Bool} → b ≡ true → false ≡ b → A
 never e p = let z : _≡_ {A = ℕ} 0 1 = cc in absurd (omega arith)
 
-whole-got : (s : List ℕ) → length s ≤ 14628 → isGot (fileOf s) ≡ true → isGot (closed (fileFormat .read s)) ≡ true
+whole-got : (s : List ℕ) → length s ≤ longestFile → isGot (fileOf s) ≡ true → isGot (closed (fileFormat .read s)) ≡ true
 unfolding fileOf pick
 whole-got s h e = ap (λ (b : Bool). isGot (pick b (closed (fileFormat .read s)) bad)) (sym (le-leb _ _ h)) ∙ e
 
 -- a test that fails would have made it no file
 module _ (s : List ℕ) (e : isGot (fileOf s) ≡ true) where
-  formed-short : length s ≤ 14628
-  formed-short = go (ltb 14628 (length s)) refl
+  formed-short : length s ≤ longestFile
+  formed-short = go (ltb longestFile (length s)) refl
     where
-      go : (b : Bool) → ltb 14628 (length s) ≡ b → length s ≤ 14628
+      go : (b : Bool) → ltb longestFile (length s) ≡ b → length s ≤ longestFile
       go true p = never e (form-long s (ltb-true _ _ p))
       go false p = ltb-false _ _ p
 

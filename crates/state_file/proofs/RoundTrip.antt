@@ -15,7 +15,7 @@ use Rattle.state.specs.declared.LeaseTable.{LeaseTable}
 use Rattle.state.specs.declared.State.{State}
 use Rattle.state_file.proofs.ReadAgain.{book-again}
 use Rattle.state_file.proofs.WriteAgain.{book-fits, book-ok, book-short, state-same, table-same}
-use Rattle.state_file.specs.File.{File, fileFormat, fileOf}
+use Rattle.state_file.specs.File.{longestFile, File, fileFormat, fileOf}
 use Rattle.state_file.specs.FileLaws.{file-reads, file-written}
 use Rattle.state_file.specs.Format.{Got, bad, closed, got}
 use Rattle.state_file.specs.FormatLaws.{Octets}
@@ -49,7 +49,7 @@ loaded-is f t c e = go (fitsB f) refl e
 -- nothing is left over
 file-whole : (s : List ℕ) (f : File) (r : List ℕ) → fileOf s ≡ got f r → fileOf s ≡ got f []
 unfolding fileOf pick closed
-file-whole s f r e = go (leb (length s) 14628) (fileFormat .read s) e
+file-whole s f r e = go (leb (length s) longestFile) (fileFormat .read s) e
   where
     go : (b : Bool) (g : Got File) → pick b (closed g) bad ≡ got f r → pick b (closed g) bad ≡ got f []
     go true (got x []) e = cc
@@ -87,7 +87,7 @@ read-written s room st tb o e h =
           ∙ ap (λ (x : List ℕ). x ++ drop (length x) room) w,
     )
 
-short : (st : State) (tb : LeaseTable) → Typed st tb → soundB st tb ≡ true → length (fileFormat .write (filedBook st tb)) ≤ 14628
+short : (st : State) (tb : LeaseTable) → Typed st tb → soundB st tb ≡ true → length (fileFormat .write (filedBook st tb)) ≤ longestFile
 unfolding octetsOf
 short st tb v e = book-short st tb v e
 
@@ -114,7 +114,7 @@ written-read st tb room v e = go (soundB st tb) refl (ltb (length room) (length 
     go false a q e = absurd (omega arith)
 
 -- and in a room for the largest file the writer refuses no sound book
-pub never-refused : (st : State) (tb : LeaseTable) (n : ℕ) → Typed st tb → soundB st tb ≡ true → 14628 ≤ n → writtenOf st tb n ≡ record { refusal = 0; length = length (octetsOf st tb) }
+pub never-refused : (st : State) (tb : LeaseTable) (n : ℕ) → Typed st tb → soundB st tb ≡ true → longestFile ≤ n → writtenOf st tb n ≡ record { refusal = 0; length = length (octetsOf st tb) }
 unfolding writtenOf pick
 never-refused st tb n v e h =
     ap₂ (λ (x y : Bool). pick x (pick y (record { refusal = 23; length = 0 }) (record { refusal = 0; length = length (octetsOf st tb) })) (record { refusal = 22; length = 0 }))

@@ -13,7 +13,7 @@ use Rattle.state.specs.declared.ClientRange.{ClientRange}
 use Rattle.state_file.proofs.Fixed.{Fixed, counted-none, counted-short, counted-stands, fails-first, fails-then, fixed-as, fixed-both, fixed-number, fixed-octet, fixed-times, fixed-viewed}
 use Rattle.state_file.proofs.Pad.{row-length}
 use Rattle.state_file.proofs.Stands.{Fails, Stands, fails-viewed, stands-octet}
-use Rattle.state_file.specs.File.{FileLease, FileScope, fileFormat, fileOf, leasesFormat, partFormat, scopeFormat, tenantFormat}
+use Rattle.state_file.specs.File.{longestFile, FileLease, FileScope, fileFormat, fileOf, leasesFormat, partFormat, scopeFormat, tenantFormat}
 use Rattle.state_file.specs.Format.{Format, Got, _⊗_, _▷_, after, bad, closed, counted, got, number, readOctet, then}
 use Rattle.state_file.specs.FormatLaws.{then-with}
 use Rattle.state_file.specs.Place.{isGot, placeOf, row}
@@ -70,13 +70,13 @@ after-short {f = f} n p s at a h = go (leb (at + 1) (length s)) refl
 -- what fails from the first octet on is no file
 not-file : (s : List ℕ) → Fails fileFormat s 0 → false ≡ isGot (fileOf s)
 unfolding fileOf isGot closed pick
-not-file s p = go (leb (length s) 14628)
+not-file s p = go (leb (length s) longestFile)
   where
     go : (b : Bool) → false ≡ isGot (pick b (closed (fileFormat .read s)) bad)
     go true = sym (ap (λ w. isGot (closed w)) (p .reads))
     go false = refl
 
-pub form-long : (s : List ℕ) → 14628 < length s → false ≡ isGot (fileOf s)
+pub form-long : (s : List ℕ) → longestFile < length s → false ≡ isGot (fileOf s)
 unfolding fileOf isGot pick
 form-long s h = sym (ap (λ (b : Bool). isGot (pick b (closed (fileFormat .read s)) bad)) (lt-leb _ _ h))
 
@@ -142,7 +142,7 @@ module _ (s : List ℕ) (one : getD s 0 0 ≡ 1) (long : 10 ≤ length s) where
           ∙ ap (λ w. isGot (closed w)) (then-with _ _ _ (sc .reads)) ∙ ends (leasesFormat .read (drop (10 + h * 8 + 1 + k * (6 + length ts * 2)) s)) _
           ∙ ap (λ (n : ℕ). isGot (closed (leasesFormat .read (drop n s)))) q
 
-      pub form-leases : (b : Bool) (z : ℕ) → z ≡ k * (6 + h * 2) → 10 + h * 8 + 1 + z ≤ length s → length s ≤ 14628 → b ≡ isGot (closed (leasesFormat .read (drop (10 + h * 8 + 1 + z) s))) → b ≡ isGot (fileOf s)
+      pub form-leases : (b : Bool) (z : ℕ) → z ≡ k * (6 + h * 2) → 10 + h * 8 + 1 + z ≤ length s → length s ≤ longestFile → b ≡ isGot (closed (leasesFormat .read (drop (10 + h * 8 + 1 + z) s))) → b ≡ isGot (fileOf s)
       unfolding fileOf pick
       form-leases b z ez l m e = e ∙ sym (form-rest z ez l) ∙ sym (ap (λ (t : Bool). isGot (pick t (closed (fileFormat .read s)) bad)) (le-leb _ _ m))
 

@@ -30,7 +30,7 @@ use Rattle.state_file.proofs.ReadAgain.{all-facts, two-facts}
 use Rattle.state_file.proofs.RowLaws.{pair-length}
 use Rattle.state_file.proofs.WholeForm.{server, tenants, ts}
 use Rattle.state_file.proofs.Writes.{file-length, lease-length, ranges-length, scope-length}
-use Rattle.state_file.specs.File.{FileLease, fileFormat, isAfter, leaseFormat, orderedFrom, partFormat, scopeFormat, tenantFormat}
+use Rattle.state_file.specs.File.{longestFile, FileLease, fileFormat, isAfter, leaseFormat, orderedFrom, partFormat, scopeFormat, tenantFormat}
 use Rattle.state_file.specs.RecordLaws.{Neat, filled-back}
 use Rattle.state_file.specs.Records.{fewOf, filed, filedBook, filedFrom, filedScope, filled, fitsB, isOffset, leasesFitB, ofTenant, pairUp, storableB, stored, storedScope, storedState, storedTable, tenantsFrom, zeroRange}
 use Rattle.state_file.specs.Rows.{leaseOctets, scopeRow, tenantRow, writeFrom}
@@ -502,7 +502,7 @@ module _ (s : State) (b : LeaseTable) (v : Typed s b) (e : soundB s b ≡ true) 
           (two-facts TypedScope TypedScope (λ c. scopeFormat (length (rangesOf s)) .ok (filedScope (s .«tenant_count») c)) (scopesOf s) (λ c p q. scope-ok (s .«tenant_count») (length (rangesOf s)) c tenants-few ranges-many p)
           (all-take TypedScope (s .«scope_count») (s .scopes) (v .scopes)) (all-take TypedScope (s .«scope_count») (s .scopes) (v .scopes)))
 
-  pub book-short : length (octetsOf s b) ≤ 14628
+  pub book-short : length (octetsOf s b) ≤ longestFile
   book-short =
       let f = file-length s b (v .tenants) in
       let r = ranges-length 0 (rangesOf s) in

@@ -95,6 +95,10 @@ fileFormat =
     viewed ofSections toSections
     (after 1 (number ⊗ number) ⊗ (counted tenantFormat ▷ (λ ts. counted (scopeFormat (length ts)) ⊗ leasesFormat)))
 
+-- how many octets a file may have: 12 for the counts and the server, 8 tenants of 8, 4 scopes of 22 and 128 leases of 113
+abbrev pub longestFile : ℕ
+longestFile = 14628
+
 -- the file that octets make; bad is refusal 20
 unfoldable pub fileOf : List ℕ → Got File
-fileOf s = pick (leb (length s) 14628) (closed (fileFormat .read s)) bad
+fileOf s = pick (leb (length s) longestFile) (closed (fileFormat .read s)) bad

@@ -9,7 +9,7 @@ use lib.ListN.{length}
 use borrow.Author.Tests.{le-leb, leb-true}
 use Rattle.address_set.specs.AddressSet.{rises}
 use Rattle.lists.specs.Pick.{pick}
-use Rattle.state_file.specs.File.{File, fileFormat, fileOf, leaseFormat, ordered, partFormat, scopeFormat, tenantFormat}
+use Rattle.state_file.specs.File.{longestFile, File, fileFormat, fileOf, leaseFormat, ordered, partFormat, scopeFormat, tenantFormat}
 use Rattle.state_file.specs.Format.{bad, closed, counted, got, octet}
 use Rattle.state_file.specs.FormatLaws.{Lawful, Octets, after-lawful, both-lawful, counted-lawful, number-lawful, octet-lawful, only-lawful, then-lawful, times-lawful, viewed-lawful, whole-reads, whole-written}
 
@@ -39,16 +39,16 @@ file-lawful =
     _ _ (λ x. refl) (λ y. refl)
 
 -- Octets that make a file are what the file's writing gives.
-pub file-reads : (s : List ℕ) (f : File) → Octets s → fileOf s ≡ got f [] → (fileFormat .ok f) × (s ≡ fileFormat .write f) × (length s ≤ 14628)
+pub file-reads : (s : List ℕ) (f : File) → Octets s → fileOf s ≡ got f [] → (fileFormat .ok f) × (s ≡ fileFormat .write f) × (length s ≤ longestFile)
 unfolding fileOf pick
-file-reads s f o e = go (leb (length s) 14628) refl e
+file-reads s f o e = go (leb (length s) longestFile) refl e
   where
-    go : (b : Bool) → leb (length s) 14628 ≡ b → pick b (closed (fileFormat .read s)) bad ≡ got f [] → (fileFormat .ok f) × (s ≡ fileFormat .write f) × (length s ≤ 14628)
+    go : (b : Bool) → leb (length s) longestFile ≡ b → pick b (closed (fileFormat .read s)) bad ≡ got f [] → (fileFormat .ok f) × (s ≡ fileFormat .write f) × (length s ≤ longestFile)
     go true q e = let (h, p) = whole-reads file-lawful s f [] o e in (h, p, leb-true _ _ q)
     go false q e = let z : _≡_ {A = ℕ} 0 1 = cc in absurd (omega arith)
 
 -- A file that has octets, few enough, is read from them.
-pub file-written : (f : File) → fileFormat .ok f → length (fileFormat .write f) ≤ 14628 → fileOf (fileFormat .write f) ≡ got f []
+pub file-written : (f : File) → fileFormat .ok f → length (fileFormat .write f) ≤ longestFile → fileOf (fileFormat .write f) ≡ got f []
 unfolding fileOf pick
 file-written f h l = ap (λ (b : Bool). pick b (closed (fileFormat .read (fileFormat .write f))) bad) (le-leb _ _ l) ∙ whole-written file-lawful f h
 

@@ -13,7 +13,7 @@ use Rattle.octets.specs.Octets.{at32}
 use Rattle.state.specs.Book.{laidOut, pushed}
 use Rattle.state.specs.declared.ClientRange.{ClientRange}
 use Rattle.state.specs.declared.TenantLeases.{TenantLeases}
-use Rattle.state_file.specs.File.{File, FileLease, FilePart, FileScope, fileOf, isAfter, leaseFormat}
+use Rattle.state_file.specs.File.{longestFile, File, FileLease, FilePart, FileScope, fileOf, isAfter, leaseFormat}
 use Rattle.state_file.specs.Format.{Got, bad, got}
 use Rattle.state_file.specs.Records.{stored}
 use Rattle.state_file.specs.declared.Place.{Place}
@@ -149,7 +149,7 @@ fileAt s = record {
 -- the octets have the form of a file: it is the one of their places, which lie within them
 pub record Formed (s : List ℕ) : Type 0 where
   pub file : fileOf s ≡ got (fileAt s) []
-  pub short : length s ≤ 14628
+  pub short : length s ≤ longestFile
   pub tenants : scopesPlace s < length s
   pub scopes : leasesPlace s < length s
   pub leases : InRow s (leasesPlace s + 1) (leaseCount s)

@@ -7,6 +7,7 @@ ghost use Rattle.address_set.specs.AddressSet.{rises};
 ghost use Rattle.identifier.specs.Order.{orderOf};
 ghost use Rattle.state_file.specs.File.{fileOf, isAfter, leasesFormat};
 ghost use Rattle.state_file.specs.Place.{LeaseEnds, isGot, leasesFrom, placeOf};
+use crate::LONGEST_FILE;
 use crate::Place;
 
 // Whether the octets have the form of a state file.
@@ -14,7 +15,7 @@ pub fn form(s: &[u8]) -> bool
     ensures { λ r. ⌜ r ≡ isGot (fileOf (now (s .entry))) ⌝ }
 {
     let len = s.len();
-    if 14628 < len {
+    if LONGEST_FILE < len {
         return false;
     }
     if len < 10 {

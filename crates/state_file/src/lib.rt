@@ -18,6 +18,9 @@ use crate::size::file_size;
 use state::LeaseTable;
 use state::State;
 
+// How many octets a file may have: those of a book whose every record is as long as it can be.
+pub const LONGEST_FILE: usize = 14628;
+
 // What the reader answers: refusal 0 and the book, or the number of a refusal and records that are all zero.
 pub struct Loaded {
     pub refusal: u8,

@@ -13,7 +13,7 @@ use Rattle.lists.specs.Pick.{pick, pick-not-eq, pick-false}
 use borrow.Author.Needs.{needs}
 use Rattle.octets.specs.Octets.{at16, at32}
 use Rattle.lists.specs.Filter.{isIn}
-use Rattle.message.specs.Codes.{lengthOk, allowedIn, allows}
+use Rattle.message.specs.Codes.{clientTypes, lengthOk, allowedIn, allows}
 use Rattle.message.specs.Values.{wishAt, wishOf, timesOf, fieldsOf, countsAt, countsOf, serverOk, namesOf, allAllowed, identifierOf, codesFrom, foundAt, findOf, isFound, padded, identifierAt}
 use Rattle.message.specs.Read.{longestDatagram, headerOk, discarded, messageOf, requiredEmpty, ended, byStage, walked}
 use Rattle.lists.specs.Copy.{CopyInv, copy-end}
@@ -488,17 +488,31 @@ eight-header s b e t = let h = long-header s b e t in omega arith
 pub walked-of : (s : List ℕ) (w : Walk) (r : Reading) → r ≡ walked s w → w ≡ walkOf s → r ≡ walked s (walkOf s)
 walked-of s w r p e = p ∙ ap (walked s) e
 
-pub message-is : (s places : List ℕ) (x : ℕ) → x ≡ at32 s 4
-    → _≡_ {A = Reading} (record { discard = 0; fault = 0; message = record { kind = record { number = getD s 1 0 }; xid = x; places = places } }) (record { discard = 0; fault = 0; message = messageOf s places })
-message-is s places x e = ap (λ (y : ℕ). made y) e
+pub message-is : (s places : List ℕ) (k x : ℕ) → k ≡ getD s 1 0 → x ≡ at32 s 4
+    → _≡_ {A = Reading} (record { discard = 0; fault = 0; message = record { kind = record { number = k }; xid = x; places = places } }) (record { discard = 0; fault = 0; message = messageOf s places })
+message-is s places k x p e = ap₂ (λ (j y : ℕ). made j y) p e
+  where
+    made : ℕ → ℕ → Reading
+    made j y = record { discard = 0; fault = 0; message = record { kind = record { number = j }; xid = y; places = places } }
+
+-- a value by its constructor: its number is the one that was given
+pub discarded-is : (number fault k : ℕ) → k ≡ 0
+    → _≡_ {A = Reading} (record { discard = number; fault = fault; message = record { kind = record { number = k }; xid = 0; places = replicate 17 0 } }) (discarded number fault)
+discarded-is number fault k e = ap (λ (j : ℕ). made j) e
   where
     made : ℕ → Reading
-    made y = record { discard = 0; fault = 0; message = record { kind = record { number = getD s 1 0 }; xid = y; places = places } }
+    made j = record { discard = number; fault = fault; message = record { kind = record { number = j }; xid = 0; places = replicate 17 0 } }
+
+pub client-got : {b : Bool} {k : ℕ} (x : ℕ) → b ≡ isIn k clientTypes → k ≡ x → b ≡ isIn x clientTypes
+client-got x p e = p ∙ ap (λ (k : ℕ). isIn k clientTypes) e
+
+pub allows-got : {b : Bool} {k c : ℕ} (x : ℕ) → b ≡ allows k c → c ≡ x → b ≡ allows k x
+allows-got {k = k} x p e = p ∙ ap (allows k) e
 
 -- ---- the values
 
-pub length-got : {b : Bool} {c n : ℕ} (x y : ℕ) → b ≡ lengthOk c n → c ≡ x → n ≡ y → b ≡ lengthOk x y
-length-got x y p e q = p ∙ ap₂ lengthOk e q
+pub length-got : {b : Bool} {k c n : ℕ} (x y : ℕ) → b ≡ lengthOk k n → k ≡ c → c ≡ x → n ≡ y → b ≡ lengthOk x y
+length-got x y p e f q = p ∙ ap₂ lengthOk (e ∙ f) q
 
 pub counts-is : (s : List ℕ) (at x y : ℕ) → x ≡ at16 s (at + 4) → y ≡ at16 s (at + 6) → _≡_ {A = Counts} (record { least = x; desired = y }) (countsAt s at)
 counts-is s at x y p q = cc

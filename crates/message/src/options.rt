@@ -138,7 +138,7 @@ fn value_ok(s: &[u8], at: usize) -> bool
 {
     let code = octets::read_u16(s, at);
     let n = octets::read_u16(s, at + 2) as usize;
-    let known = OptionCode { number: code };
+    let known = OptionCode::new(code);
     if known.length_ok(n) {
         if code == OptionCode::FEATURES {
             return exactly_filled(s, at + 4, at + 4 + n);

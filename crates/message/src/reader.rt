@@ -25,7 +25,7 @@ pub fn header_ok(s: &[u8]) -> bool
     }
     if s[0] == 0 {
         if octets::read_u16(s, 2) == 1 {
-            let kind = MessageType { number: s[1] };
+            let kind = MessageType::new(s[1]);
             return kind.is_client();
         }
         return false;
@@ -57,7 +57,7 @@ fn ended(s: &[u8], places: [usize; 17]) -> Reading
         return Reading::discarded(5, s.len());
     }
     if none_required(s, places) {
-        let kind = MessageType { number: s[1] };
+        let kind = MessageType::new(s[1]);
         let xid = octets::read_u32(s, 4);
         let message = Message {
             kind: kind,
@@ -100,7 +100,7 @@ impl Reading {
     pub fn discarded(number: u8, fault: usize) -> Reading
         ensures { λ r. ⌜ r ≡ discarded number fault ⌝ }
     {
-        let kind = MessageType { number: 0 };
+        let kind = MessageType::new(0);
         let message = Message {
             kind: kind,
             xid: 0,

@@ -141,7 +141,7 @@ impl Message {
     {
         if self.has(code) {
             let kind = self.kind;
-            let option = OptionCode { number: code };
+            let option = OptionCode::new(code);
             return kind.allows(option);
         }
         true

@@ -223,12 +223,12 @@ fn put_scope_list(buffer: &mut [u8], at: usize, info: Info) -> usize
 
 // ---- messages
 
-fn put_header(buffer: &mut [u8], kind: u8, xid: u32) -> usize
+fn put_header(buffer: &mut [u8], kind: MessageType, xid: u32) -> usize
     requires { ⌜ 8 ≤ length (now buffer) ⌝ }
-    ensures { λ r. ⌜ (Wrote (now (buffer .entry)) 0 (header kind xid) (now (buffer .exit)) r) × (r ≡ 8) ⌝ }
+    ensures { λ r. ⌜ (Wrote (now (buffer .entry)) 0 (header (kind .number) xid) (now (buffer .exit)) r) × (r ≡ 8) ⌝ }
 {
     let a = octets::put_u8(buffer, 0, 0);
-    let b = octets::put_u8(buffer, a, kind);
+    let b = octets::put_u8(buffer, a, kind.number);
     let c = octets::put_u16(buffer, b, 1);
     octets::put_u32(buffer, c, wide64(xid))
 }
@@ -308,7 +308,7 @@ fn write_lease(buffer: &mut [u8], kind: MessageType, head: Head, terms: Terms) -
     requires { ⌜ leastRoom ≤ length (now buffer) ⌝ }
     ensures { λ r. ⌜ Replied (now (buffer .entry)) (messageOctets (kind .number) (head .xid) (leaseOptions head terms)) (now (buffer .exit)) r ⌝ }
 {
-    let a = put_header(buffer, kind.number, head.xid);
+    let a = put_header(buffer, kind, head.xid);
     let b = put_lease_options(buffer, a, head, terms);
     put_end(buffer, b)
 }
@@ -334,7 +334,7 @@ pub fn write_release_ack(buffer: &mut [u8], head: Head) -> usize
     requires { ⌜ leastRoom ≤ length (now buffer) ⌝ }
     ensures { λ r. ⌜ Replied (now (buffer .entry)) (releaseAckOf head) (now (buffer .exit)) r ⌝ }
 {
-    let a = put_header(buffer, MessageType::ACK, head.xid);
+    let a = put_header(buffer, MessageType::ack(), head.xid);
     let b = put_named(buffer, a, head);
     let c = put_features(buffer, b, head);
     put_end(buffer, c)
@@ -345,7 +345,7 @@ pub fn write_info_ack(buffer: &mut [u8], head: Head, info: Info) -> usize
     requires { ⌜ leastRoom ≤ length (now buffer) ⌝ }
     ensures { λ r. ⌜ Replied (now (buffer .entry)) (infoAckOf head info) (now (buffer .exit)) r ⌝ }
 {
-    let a = put_header(buffer, MessageType::ACK, head.xid);
+    let a = put_header(buffer, MessageType::ack(), head.xid);
     let b = put_info_options(buffer, a, head, info);
     put_end(buffer, b)
 }
@@ -355,7 +355,7 @@ pub fn write_nak(buffer: &mut [u8], head: Head, error: u16) -> usize
     requires { ⌜ leastRoom ≤ length (now buffer) ⌝ }
     ensures { λ r. ⌜ Replied (now (buffer .entry)) (nakOf head error) (now (buffer .exit)) r ⌝ }
 {
-    let a = put_header(buffer, MessageType::NAK, head.xid);
+    let a = put_header(buffer, MessageType::nak(), head.xid);
     let b = put_nak_options(buffer, a, head, error);
     put_end(buffer, b)
 }

@@ -1,5 +1,6 @@
 -- By the definition, case by case.
 use Rattle.lists.specs.Pick.{calls}
+use Rattle.message.proofs.Steps.{allows-got}
 use Rattle.message.specs.Values.{allowedAt}
 use borrow.Author.Needs.{needs}
 -- By the definition, case by case.
@@ -11,7 +12,7 @@ use Rattle.message.proofs.Message.allowed_at.Tie as tie
 
 returns : tie.Need-returns
 unfolding allowedAt
-returns c = search (calls, needs)
+returns c = search (calls, allows-got, needs)
 
 returns-2 : tie.Need-returns-2
 unfolding allowedAt
@@ -22,6 +23,7 @@ allowed-at-spec =
     tie.close
     (tie.spec
     (λ c κs. search (calls, needs))
-    (λ c κs. search (calls, needs))
+    (λ c κs. search needs)
+    (λ c κs. search needs)
     returns
     returns-2)

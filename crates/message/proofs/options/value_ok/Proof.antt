@@ -32,6 +32,7 @@ value-ok-spec =
     (λ c. search (joins, gots, length-got, filled-got, needs))
     (λ c κs. search (joins, gots, length-got, filled-got, needs))
     (λ c. search (joins, gots, length-got, filled-got, needs))
+    (λ c κs. search needs)
     (λ c κs. search (joins, gots, needs))
     (λ c. search (joins, gots, length-got, filled-got, needs))
     (λ c. search (joins, gots, length-got, filled-got, needs))

@@ -34,6 +34,7 @@ ended-spec =
     returns
     (λ c κs. search (calls, picks, needs))
     (λ c. search (calls, picks, message-is, needs))
+    (λ c κs. search needs)
     (λ c κs. search (calls, picks, message-is, needs))
     returns-2
     (λ c κs. search (calls, picks, needs))

@@ -1,5 +1,6 @@
 -- By the definition, case by case.
 use Rattle.lists.specs.Both.{and-gots, ands}
+use Rattle.message.proofs.Steps.{client-got}
 use Rattle.message.specs.Read.{headerOk}
 use borrow.Author.Needs.{needs}
 -- By the definition, case by case.
@@ -19,7 +20,7 @@ returns-2 c = search (ands, and-gots, needs)
 
 returns-3 : tie.Need-returns-3
 unfolding headerOk
-returns-3 c = search (ands, and-gots, needs)
+returns-3 c = search (ands, and-gots, client-got, needs)
 
 returns-4 : tie.Need-returns-4
 unfolding headerOk
@@ -38,7 +39,8 @@ header-ok-spec =
     (λ c. search (ands, and-gots, needs))
     (λ c κs. search (ands, and-gots, needs))
     (λ c. search (ands, and-gots, needs))
-    (λ c κs. search (ands, and-gots, needs))
+    (λ c κs. search needs)
+    (λ c κs. search needs)
     returns-3
     returns-4
     returns-5)

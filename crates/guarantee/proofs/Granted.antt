@@ -13,7 +13,7 @@ use Rattle.lists.specs.Both.{and-both, and-parts}
 use Rattle.address_set.specs.AddressSet.{offsets}
 use Rattle.message.specs.declared.Fields.{Fields}
 use Rattle.message.specs.Read.{readOf}
-use Rattle.reply.specs.Reply.{leaseAckOf}
+use Rattle.reply.specs.Reply.{leastRoom, leaseAckOf}
 use Rattle.reply.specs.Ranges.{addressesIn}
 use Rattle.state.specs.declared.Book.{Book}
 use Rattle.state.specs.declared.Lease.{Lease}
@@ -30,7 +30,7 @@ use Rattle.allocation.specs.Granted.{grant-exists, guaranteed}
 use Rattle.decision.specs.declared.Decided.{Decided}
 use Rattle.decision.specs.declared.Reply.the-variants.{LeaseAck}
 use Rattle.decision.specs.Kept.{Passed, passed}
-use Rattle.decision.specs.Parts.{askAt, badCounts, error0Of, error1Of, error2Of, error3Of, fitsNew, hasPeriod, holdsOf, isNew, knowsScope, leaseFrom, lengthOf, newAt, newOf, newWith, ownOf, proposalOf, recordedOf, resends, scopePlace, startOf, withLease}
+use Rattle.decision.specs.Parts.{horizon, defaultLease, askAt, badCounts, error0Of, error1Of, error2Of, error3Of, fitsNew, hasPeriod, holdsOf, isNew, knowsScope, leaseFrom, lengthOf, newAt, newOf, newWith, ownOf, proposalOf, recordedOf, resends, scopePlace, startOf, withLease}
 use Rattle.decision.specs.Decide.{changed, decideOf, judgedOf, leasedOf, settledOf}
 use Rattle.server.specs.Serve.{Answer, Call, answered, atClock, forServer, headOf, replyOf, serveOf, withReading}
 use Rattle.guarantee.specs.Statement.{Demand3, Granted, NewRequest, SoundBook, askFor, grantFor, leaseFor, placeFor, run, saysOf, scopeFor, stateAt, tableAt, tenantFor, termsFor}
@@ -90,7 +90,7 @@ module _ (s : State) (t : LeaseTable) (h : ℕ) (m : Fields) (v : Sound s (lease
     scope = scopePlace s (m .scope .value) + 1;
     tenant = h;
     from = startOf m (s .clock) (s .clock);
-    to = startOf m (s .clock) (s .clock) + lengthOf m 3600;
+    to = startOf m (s .clock) (s .clock) + lengthOf m defaultLease;
     desired = m .counts .desired;
   }
 
@@ -101,7 +101,7 @@ module _ (s : State) (t : LeaseTable) (h : ℕ) (m : Fields) (v : Sound s (lease
         scope = k;
         tenant = h;
         from = startOf m (s .clock) (s .clock);
-        to = startOf m (s .clock) (s .clock) + lengthOf m 3600;
+        to = startOf m (s .clock) (s .clock) + lengthOf m defaultLease;
         desired = m .counts .desired;
       }) (let p = here in let e : min (scopePlace s (m .scope .value)) 4 + 1 ≡ scopePlace s (m .scope .value) + 1 = omega arith in e)
 
@@ -127,12 +127,12 @@ module _ (s : State) (t : LeaseTable) (h : ℕ) (m : Fields) (v : Sound s (lease
     kind = 3;
     xid = m .xid;
     start = startOf m (s .clock) (s .clock);
-    end = startOf m (s .clock) (s .clock) + lengthOf m 3600;
+    end = startOf m (s .clock) (s .clock) + lengthOf m defaultLease;
     addresses = G .addresses;
   }
 
   -- ---- inside, with a record left and least at most the unused reserve
-  module _ (soon : startOf m (s .clock) (s .clock) ≤ s .clock + 2592000) (fits : startOf m (s .clock) (s .clock) + lengthOf m 3600 ≤ 4294967295)
+  module _ (soon : startOf m (s .clock) (s .clock) ≤ s .clock + horizon) (fits : startOf m (s .clock) (s .clock) + lengthOf m defaultLease ≤ 4294967295)
       (left : length (ownOf t h) < 16) (least : m .counts .least ≤ U) where
     suffice : m .counts .least ≤ G .number
     suffice = let p = enough in let q = counts in omega arith
@@ -147,8 +147,8 @@ module _ (s : State) (t : LeaseTable) (h : ℕ) (m : Fields) (v : Sound s (lease
     unfolding error0Of newWith fitsNew suffices
     no-error =
         ap (error0Of s) proposed
-        ∙ none-or (le-ltb (s .clock + 2592000) (startOf m (s .clock) (s .clock)) soon)
-        (none-or (le-ltb 4294967295 (startOf m (s .clock) (s .clock) + lengthOf m 3600) fits)
+        ∙ none-or (le-ltb (s .clock + horizon) (startOf m (s .clock) (s .clock)) soon)
+        (none-or (le-ltb 4294967295 (startOf m (s .clock) (s .clock) + lengthOf m defaultLease) fits)
         (ap not (and-both (lt-ltb (length (ownOf t h)) 16 left) (le-leb (m .counts .least) (G .number) suffice))))
 
     recorded : leaseFrom m (newOf s t h m) ≡ L
@@ -165,7 +165,7 @@ module _ (s : State) (t : LeaseTable) (h : ℕ) (m : Fields) (v : Sound s (lease
           end = end;
           addresses = G .addresses;
         }) request
-        (let e : min (startOf m (s .clock) (s .clock) + lengthOf m 3600) 4294967295 ≡ startOf m (s .clock) (s .clock) + lengthOf m 3600 = omega arith in e)
+        (let e : min (startOf m (s .clock) (s .clock) + lengthOf m defaultLease) 4294967295 ≡ startOf m (s .clock) (s .clock) + lengthOf m defaultLease = omega arith in e)
 
     no-error3 : error3Of m (holdsOf (ownOf t h) m) ≡ false
     unfolding error3Of
@@ -194,7 +194,7 @@ module _ (s : State) (t : LeaseTable) (h : ℕ) (m : Fields) (v : Sound s (lease
         ∙ taken (eqb (m .kind) 3) _ _ (ap (λ (k : ℕ). eqb k 3) request)
 
     pub acknowledged : replyOf s m (withLease LeaseAck L) ≡ leaseAckOf (headOf s m) (record {
-      length = (startOf m (s .clock) (s .clock) + lengthOf m 3600) - startOf m (s .clock) (s .clock);
+      length = (startOf m (s .clock) (s .clock) + lengthOf m defaultLease) - startOf m (s .clock) (s .clock);
       start = startOf m (s .clock) (s .clock);
       scope = scopeAt s (scopePlace s (m .scope .value)) .lowest;
       addresses = G .addresses;
@@ -203,7 +203,7 @@ module _ (s : State) (t : LeaseTable) (h : ℕ) (m : Fields) (v : Sound s (lease
     unfolding replyOf withLease
     acknowledged =
         ap (λ (k : ℕ). leaseAckOf (headOf s m) (record {
-          length = (startOf m (s .clock) (s .clock) + lengthOf m 3600) - startOf m (s .clock) (s .clock);
+          length = (startOf m (s .clock) (s .clock) + lengthOf m defaultLease) - startOf m (s .clock) (s .clock);
           start = startOf m (s .clock) (s .clock);
           scope = scopeAt s k .lowest;
           addresses = G .addresses;
@@ -222,7 +222,7 @@ module _ (b : Book) (c : Call) (v : SoundBook b) (r : NewRequest b c) where
   unfolding serveOf atClock withReading forServer
   served =
       taken (soundB (b .state) (b .table)) _ _ (v .sound)
-      ∙ not-taken (ltb (c .room) 512) _ _ (le-ltb (c .room) 512 (r .room))
+      ∙ not-taken (ltb (c .room) leastRoom) _ _ (le-ltb (c .room) leastRoom (r .room))
       ∙ taken (ltb (tenantFor b c) (tenantsIn (stateAt b c))) _ _ (lt-ltb (tenantFor b c) (tenantsIn (stateAt b c)) (r .house))
       ∙ taken (eqb (readOf (c .datagram) .discard) 0) _ _ (eq-eqb (readOf (c .datagram) .discard) 0 (r .read))
       ∙ not-taken (eqb (saysOf b c .kind) 3 && not (saysOf b c .ours)) _ _ (ap₂ (λ (k : ℕ) (o : Bool). eqb k 3 && not o) (r .request) (r .ours))

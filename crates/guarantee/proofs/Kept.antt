@@ -7,6 +7,7 @@ use native.Mathlib.Omega.{arith}
 use lib.Dec.{ltb, leb, eqb}
 use lib.ListN.{length, length-map, length-set}
 use borrow.Author.Tests.{eqb-true, ltb-true, leb-true}
+use Rattle.reply.specs.Reply.{leastRoom}
 use Rattle.lists.specs.Pick.{pick}
 use Rattle.lists.specs.All.{allBy}
 use Rattle.lists.specs.Both.{and-parts}
@@ -85,7 +86,7 @@ module _ (b : Book) (c : Call) (v : SoundBook b) where
   call-sound =
       let now : SoundBook (bookAt b c) = now-sound in
       pick-cases Keeps (soundB (b .state) (b .table)) _ _
-      (λ _. pick-cases Keeps (ltb (c .room) 512) _ _ (λ _. v)
+      (λ _. pick-cases Keeps (ltb (c .room) leastRoom) _ _ (λ _. v)
       (λ _. pick-cases Keeps (ltb (tenantOf (bookAt b c .state) (c .client)) (tenantsIn (bookAt b c .state))) _ _
       (λ known. pick-cases Keeps (eqb (readOf (c .datagram) .discard) 0) _ _
       (λ whole. pick-cases Keeps _ _ _ (λ _. now)

@@ -13,7 +13,7 @@ use Rattle.message.specs.declared.Fields.{Fields}
 use Rattle.message.specs.Placed.{pick-cases}
 use Rattle.message.specs.Read.{readOf}
 use Rattle.message.specs.Values.{fieldsOf}
-use Rattle.reply.specs.Reply.{Option, infoAckOf, infoOptions, leaseAckOf, leaseOptions, messageOctets, nakOf, nakOptions, offerOf, option, optionOctets, optionsOctets, releaseAckOf, releaseOptions}
+use Rattle.reply.specs.Reply.{leastRoom, Option, infoAckOf, infoOptions, leaseAckOf, leaseOptions, messageOctets, nakOf, nakOptions, offerOf, option, optionOctets, optionsOctets, releaseAckOf, releaseOptions}
 use Rattle.reply.proofs.Short.{info-ack-short, lease-ack-short, nak-short, offer-short, release-ack-short}
 use Rattle.state.specs.declared.Book.{Book}
 use Rattle.state.specs.declared.Lease.{Lease}
@@ -106,7 +106,7 @@ module _ (b : Book) (c : Call) where
   unfolding serveOf atClock withReading forServer
   call-replies =
       pick-cases R (soundB (b .state) (b .table)) _ _
-      (λ _. pick-cases R (ltb (c .room) 512) _ _ (λ _. none 2 b (omega arith))
+      (λ _. pick-cases R (ltb (c .room) leastRoom) _ _ (λ _. none 2 b (omega arith))
       (λ _. pick-cases R (ltb (tenantOf (bookAt b c .state) (c .client)) (tenantsIn (bookAt b c .state))) _ _
       (λ _. pick-cases R (eqb (readOf (c .datagram) .discard) 0) _ _
       (λ e. pick-cases R _ _ _ (λ _. none 7 (bookAt b c) (omega arith))

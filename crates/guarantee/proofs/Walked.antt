@@ -18,7 +18,7 @@ use Rattle.message.specs.declared.Walk.{Walk}
 use Rattle.message.specs.Placed.{pick-cases}
 use Rattle.message.specs.Read.{readOf}
 use Rattle.message.specs.Walk.{walkOf}
-use Rattle.reply.specs.Reply.{infoAckOf, leaseAckOf, nakOf, offerOf, releaseAckOf, scopesOf}
+use Rattle.reply.specs.Reply.{leastRoom, infoAckOf, leaseAckOf, nakOf, offerOf, releaseAckOf, scopesOf}
 use Rattle.reply.proofs.ReadBack.{Named, ReadBack, info-back, lease-back, nak-back, release-back}
 use Rattle.state.specs.declared.Book.{Book}
 use Rattle.state.specs.declared.Lease.{Lease}
@@ -38,7 +38,7 @@ use Rattle.decision.specs.declared.Reply.{Reply}
 use Rattle.decision.specs.declared.Reply.the-variants.{Nothing, Offer, LeaseAck, ReleaseAck, InfoAck, Nak}
 use Rattle.decision.specs.declared.Verdict.{Verdict}
 use Rattle.decision.specs.Kept.{Passed, own-is, passed}
-use Rattle.decision.specs.Parts.{askAt, badCounts, discardWith, error0Of, error1Of, error2Of, error3Of, fitsNew, hasPeriod, holdsOf, isNew, knowsScope, leaseFrom, nakWith, named, newAt, newOf, newWith, ownOf, plainReply, proposalOf, recordedOf, refusalOf, renewedOf, renewedTo, resends, scopePlace, withLease}
+use Rattle.decision.specs.Parts.{horizon, askAt, badCounts, discardWith, error0Of, error1Of, error2Of, error3Of, fitsNew, hasPeriod, holdsOf, isNew, knowsScope, leaseFrom, nakWith, named, newAt, newOf, newWith, ownOf, plainReply, proposalOf, recordedOf, refusalOf, renewedOf, renewedTo, resends, scopePlace, withLease}
 use Rattle.decision.specs.Decide.{decideOf, judgedOf, leasedOf, plainOf, settledOf}
 use Rattle.server.specs.Serve.{Answer, Call, answered, atClock, byReply, discarded, forServer, headOf, infoOf, replyOf, serveOf, tenantOf, termsOf, withReading}
 use Rattle.guarantee.specs.Statement.{Demand1Layout, Narrow, bookAt}
@@ -135,7 +135,7 @@ module _ (s : State) (t : LeaseTable) (h : ℕ) (m : Fields) (v : Sound s (lease
     unfolding error0Of newOf newAt newWith fitsNew suffices Sized knowsScope askAt
     new-sized n e =
         let here = ltb-true (scopePlace s (m .scope .value)) (scopesIn s) (and-parts (m .scope .there) (ltb (scopePlace s (m .scope .value)) (scopesIn s)) (left .scope n) .1) in
-        let f = none-left (ltb 4294967295 (newOf s t h m .end)) (not (newOf s t h m .fits)) (none-left (ltb (s .clock + 2592000) (newOf s t h m .start)) _ e .1) .1 in
+        let f = none-left (ltb 4294967295 (newOf s t h m .end)) (not (newOf s t h m .fits)) (none-left (ltb (s .clock + horizon) (newOf s t h m .start)) _ e .1) .1 in
         let g = and-parts (ltb (length (ownOf t h)) 16) (leb (m .counts .least) (grantOf (scopeAt s (scopePlace s (m .scope .value))) (tenantsIn s) (leasesOf t) (askAt s h m (scopePlace s (m .scope .value))) .number)) (not-not _ f) in
         let k = leb-true (m .counts .least) (grantOf (scopeAt s (scopePlace s (m .scope .value))) (tenantsIn s) (leasesOf t) (askAt s h m (scopePlace s (m .scope .value))) .number) (g .1) in
         let o = some in
@@ -227,7 +227,7 @@ module _ (b : Book) (c : Call) (narrow : Narrow b) where
   unfolding serveOf atClock withReading forServer
   call-walk =
       pick-cases R (soundB (b .state) (b .table)) _ _
-      (λ v. pick-cases R (ltb (c .room) 512) _ _ (λ _. none 2 b (omega arith))
+      (λ v. pick-cases R (ltb (c .room) leastRoom) _ _ (λ _. none 2 b (omega arith))
       (λ _. pick-cases R (ltb (tenantOf (bookAt b c .state) (c .client)) (tenantsIn (bookAt b c .state))) _ _
       (λ known. pick-cases R (eqb (readOf (c .datagram) .discard) 0) _ _
       (λ e. pick-cases R _ _ _ (λ _. none 7 (bookAt b c) (omega arith))

@@ -14,7 +14,7 @@ use Rattle.message.specs.Values.{fieldsOf}
 use Rattle.message.specs.Walk.{walkOf}
 use Rattle.message.specs.declared.Stage.the-variants.{Done}
 use Rattle.reply.specs.declared.Terms.{Terms}
-use Rattle.reply.specs.Reply.{leaseAckOf}
+use Rattle.reply.specs.Reply.{leastRoom, leaseAckOf}
 use Rattle.reply.specs.Ranges.{addressesIn}
 use Rattle.state.specs.declared.Book.{Book}
 use Rattle.state.specs.declared.Lease.{Lease}
@@ -28,7 +28,7 @@ use Rattle.allocation.specs.declared.Grant.{Grant}
 use Rattle.allocation.specs.Rule.{grantOf, unusedReserve}
 use Rattle.decision.specs.Decide.{decideOf}
 use Rattle.decision.specs.Ensured.{asOffer}
-use Rattle.decision.specs.Parts.{discardWith, error1Of, error2Of, holdsOf, lengthOf, ownOf, recordedOf, resends, scopePlace, startOf}
+use Rattle.decision.specs.Parts.{horizon, defaultLease, discardWith, error1Of, error2Of, holdsOf, lengthOf, ownOf, recordedOf, resends, scopePlace, startOf}
 use Rattle.server.specs.Serve.{Answer, Call, headOf, serveOf, tenantOf}
 
 -- ---- the list of calls
@@ -82,7 +82,7 @@ abbrev pub startFor : Book → Call → ℕ
 startFor b c = startOf (saysOf b c) (stateAt b c .clock) (stateAt b c .clock)
 
 abbrev pub endFor : Book → Call → ℕ
-endFor b c = startFor b c + lengthOf (saysOf b c) 3600
+endFor b c = startFor b c + lengthOf (saysOf b c) defaultLease
 
 abbrev pub askFor : Book → Call → Ask
 askFor b c = record { scope = placeFor b c + 1; tenant = tenantFor b c; from = startFor b c; to = endFor b c; desired = saysOf b c .counts .desired }
@@ -100,7 +100,7 @@ grantFor b c = grantOf (scopeFor b c) (tenantsIn (stateAt b c)) (leasesOf (table
 -- lease record is left and whose least number is at most the unused share.
 pub record NewRequest (b : Book) (c : Call) : Type 0 where
   -- not discard 2, "reply room below 512"
-  pub room : 512 ≤ c .room
+  pub room : leastRoom ≤ c .room
   -- not discard 3, "client address in no house"
   pub house : tenantFor b c < tenantsIn (stateAt b c)
   -- not discards 4, 5 and 6
@@ -114,7 +114,7 @@ pub record NewRequest (b : Book) (c : Call) : Type 0 where
   pub error1 : error1Of (stateAt b c) (saysOf b c) (holdsOf (ownFor b c) (saysOf b c)) ≡ false
   pub error2 : error2Of (stateAt b c) (saysOf b c) ≡ false
   -- "Inside means start at most clock plus horizon, end at most 4,294,967,295"
-  pub soon : startFor b c ≤ stateAt b c .clock + 2592000
+  pub soon : startFor b c ≤ stateAt b c .clock + horizon
   pub fits : endFor b c ≤ 4294967295
   -- of the house's 16 lease records one is left
   pub left : length (ownFor b c) < 16
@@ -188,7 +188,7 @@ Demand1 = (b : Book) (c : Call) → Answered b c (serveOf b c)
 -- octets that are an OFFER, an ACK or a NAK, header and End at least, and fit any room that is not too short
 pub record IsReply (r : List ℕ) : Type 0 where
   pub some : 12 ≤ length r
-  pub short : length r ≤ 512
+  pub short : length r ≤ leastRoom
   pub type : isIn (getD r 1 0) (2 ∷ 5 ∷ 6 ∷ []) ≡ true
 
 unfoldable pub Demand1Replies : Type 0

@@ -6,6 +6,7 @@ use mathlib.Core.List.{List, [], _∷_, map}
 use mathlib.Core.Logic.{_⊎_, inl, inr, ⊎-elim}
 use lib.Dec.{ltb, eqb}
 use lib.ListN.{length, length-map, set}
+use Rattle.reply.specs.Reply.{leastRoom}
 use Rattle.lists.specs.Pick.{pick}
 use Rattle.message.specs.declared.Fields.{Fields}
 use Rattle.message.specs.Placed.{pick-cases}
@@ -65,7 +66,7 @@ module _ (b : Book) (c : Call) where
   unfolding serveOf atClock withReading forServer Kind
   kind =
       pick-cases Kind (soundB (b .state) (b .table)) _ _
-      (λ y. pick-cases Kind (ltb (c .room) 512) _ _ (λ _. inl refl)
+      (λ y. pick-cases Kind (ltb (c .room) leastRoom) _ _ (λ _. inl refl)
       (λ _. pick-cases Kind _ _ _
       (λ _. pick-cases Kind _ _ _
       (λ _. pick-cases Kind _ _ _ (λ _. inr (y, advanced-laid b (c .time))) (λ _. inr (y, decided-laid _ _ _ _ (advanced-laid b (c .time)))))

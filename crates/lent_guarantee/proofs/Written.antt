@@ -7,6 +7,7 @@ use native.Mathlib.Omega.{arith}
 use lib.Dec.{eqb}
 use lib.ListN.{length, take}
 use borrow.Author.Tests.{eqb-true, eqb-false}
+use Rattle.state_file.specs.File.{longestFile}
 use Rattle.lists.specs.Pick.{pick}
 use Rattle.state.specs.declared.Lease.{Lease}
 use Rattle.state.specs.declared.LeaseTable.{LeaseTable}
@@ -59,7 +60,7 @@ lent-write-read s ls room s′ ls′ v long e =
     ∙ ap {B = LentReading} (λ (x : List Lease). record { refusal = 0; state = s; leases = x }) (records-back ls here)
 
 -- ---- after any list of calls
-sound-written : (l : Lent) → SoundLent l → (n : ℕ) → Typed (l .state) (tableFrom (l .leases)) → 14628 ≤ n → writtenLent (l .state) (l .leases) n .refusal ≡ 0
+sound-written : (l : Lent) → SoundLent l → (n : ℕ) → Typed (l .state) (tableFrom (l .leases)) → longestFile ≤ n → writtenLent (l .state) (l .leases) n .refusal ≡ 0
 unfolding writtenWith
 sound-written l v n t h =
     ap (λ (w : Written). w .refusal)

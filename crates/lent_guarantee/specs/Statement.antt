@@ -5,6 +5,7 @@ use mathlib.Core.Path.{_≡_}
 use mathlib.Core.Bool.{true}
 use mathlib.Core.List.{List, [], _∷_, _++_}
 use lib.ListN.{drop, length, take}
+use Rattle.state_file.specs.File.{longestFile}
 use Rattle.state.specs.declared.Book.{Book}
 use Rattle.state.specs.declared.Lease.{Lease}
 use Rattle.state.specs.declared.State.{State}
@@ -85,7 +86,7 @@ LentWriteRead =
 -- ---- after any list of calls on a sound book the writer refuses nothing in a room for the largest file: neither 22 nor 23 can occur
 unfoldable pub LentWritten : Type 0
 LentWritten =
-    (l : Lent) → SoundLent l → (cs : List Call) (n : ℕ) → Typed (runLent l cs .state) (tableFrom (runLent l cs .leases)) → 14628 ≤ n
+    (l : Lent) → SoundLent l → (cs : List Call) (n : ℕ) → Typed (runLent l cs .state) (tableFrom (runLent l cs .leases)) → longestFile ≤ n
     → writtenLent (runLent l cs .state) (runLent l cs .leases) n .refusal ≡ 0
 
 -- the state and the records that a file was read into
@@ -96,5 +97,5 @@ afterFile f s ls = record { state = readLent f s ls .state; leases = readLent f 
 unfoldable pub FileWritten : Type 0
 FileWritten =
     (f : List ℕ) (s : State) (ls : List Lease) (cs : List Call) (n : ℕ) → Octets f → readLent f s ls .refusal ≡ 0
-    → Typed (runLent (afterFile f s ls) cs .state) (tableFrom (runLent (afterFile f s ls) cs .leases)) → 14628 ≤ n
+    → Typed (runLent (afterFile f s ls) cs .state) (tableFrom (runLent (afterFile f s ls) cs .leases)) → longestFile ≤ n
     → writtenLent (runLent (afterFile f s ls) cs .state) (runLent (afterFile f s ls) cs .leases) n .refusal ≡ 0

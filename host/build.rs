@@ -1,4 +1,4 @@
-//! Links the static library that `rt staticlib embed` makes in the repository's root.
+//! Links the static library that `rt staticlib embed` makes in the repository's root, or the one in the folder that BANSHORRA_LIB names.
 
 use std::path::PathBuf;
 use std::{env, process};
@@ -8,8 +8,9 @@ fn main() {
     let root = host
         .parent()
         .expect("host/ stands in the repository's root");
-    let folder = root.join("target/staticlib");
+    let folder = env::var_os("BANSHORRA_LIB").map_or(root.join("target/staticlib"), PathBuf::from);
     let library = folder.join("libembed.a");
+    println!("cargo:rerun-if-env-changed=BANSHORRA_LIB");
     println!("cargo:rerun-if-changed={}", library.display());
     if !library.is_file() {
         eprintln!("There is no {}.", library.display());

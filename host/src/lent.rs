@@ -32,8 +32,16 @@ pub fn serve<'r>(
     time: u32,
     reply: &'r mut [u8],
 ) -> Result<Outcome<'r>, Refusal> {
-    let (number, length) =
-        library::serve(file, file_length, datagram, u32::from(client), time, reply);
+    let (client, mut length) = (u32::from(client), 0);
+    let number = library::serve(
+        file,
+        file_length,
+        datagram,
+        client,
+        time,
+        reply,
+        &mut length,
+    );
     Outcome::of_number(number, &reply[..length]).ok_or_else(|| refusal(number))
 }
 
@@ -57,7 +65,15 @@ pub fn replay(
     calls: &[u8],
     answers: &mut [u8],
 ) -> Replayed {
-    let (number, calls_used, answers_filled) = library::replay(file, file_length, calls, answers);
+    let (mut calls_used, mut answers_filled) = (0, 0);
+    let number = library::replay(
+        file,
+        file_length,
+        calls,
+        &mut calls_used,
+        answers,
+        &mut answers_filled,
+    );
     Replayed {
         calls_used,
         answers_filled,

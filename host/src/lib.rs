@@ -37,7 +37,7 @@
 mod campus_file;
 pub mod lent;
 #[allow(unsafe_code)]
-mod library;
+pub mod library;
 mod numbers;
 mod records;
 

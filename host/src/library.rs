@@ -1,4 +1,5 @@
-//! The static library's four functions as safe ones. All unsafe code of the crate is here.
+//! The static library's four functions as safe ones on slices, with its own numbers, as `include/banshorra.h` has them. All unsafe code of
+//! the crate is here; [`lent`](crate::lent) has the same calls with the numbers read.
 //!
 //! Why each call is sound:
 //! - Every pointer comes from a slice or a reference that lives through the call, so it isn't null, is aligned, and is valid for
@@ -9,17 +10,21 @@
 //! - The library has no state of its own and starts no thread: calls on different files may run at the same time.
 //! - It neither unwinds nor exits.
 //!
-//! The signatures are those of `include/banshorra.h`; `build.rs` links the library.
+//! `build.rs` links the library.
 
+// The library's own functions, for what has to lend it pointers; `include/banshorra.h` says what each asks for and gives.
 extern "C" {
-    fn banshorra_check(file: *const u8, file_length: usize) -> u8;
-    fn banshorra_board(
+    /// Whether a campus file is accepted.
+    pub fn banshorra_check(file: *const u8, file_length: usize) -> u8;
+    /// The board's text.
+    pub fn banshorra_board(
         file: *const u8,
         file_length: usize,
         text: *mut u8,
         text_room: usize,
     ) -> usize;
-    fn banshorra_serve(
+    /// One call.
+    pub fn banshorra_serve(
         file: *mut u8,
         file_room: usize,
         file_length: *mut usize,
@@ -31,7 +36,8 @@ extern "C" {
         reply_room: usize,
         reply_length: *mut usize,
     ) -> u8;
-    fn banshorra_replay(
+    /// A list of calls.
+    pub fn banshorra_replay(
         file: *mut u8,
         file_room: usize,
         file_length: *mut usize,
@@ -50,13 +56,13 @@ pub fn check(file: &[u8]) -> u8 {
     unsafe { banshorra_check(file.as_ptr(), file.len()) }
 }
 
-/// The length of the board's text.
+/// The length of the board's text; 0 where the room is below 1,100 octets.
 pub fn board(file: &[u8], text: &mut [u8]) -> usize {
     // SAFETY: as above; `text` alone is written.
     unsafe { banshorra_board(file.as_ptr(), file.len(), text.as_mut_ptr(), text.len()) }
 }
 
-/// The outcome or the refusal of a call, and the reply's length.
+/// One call on the campus file in the first `file_length` octets of `file`: its outcome or refusal.
 pub fn serve(
     file: &mut [u8],
     file_length: &mut usize,
@@ -64,10 +70,10 @@ pub fn serve(
     client: u32,
     time: u32,
     reply: &mut [u8],
-) -> (u8, usize) {
-    let mut reply_length = 0;
+    reply_length: &mut usize,
+) -> u8 {
     // SAFETY: as above; `file`, `file_length`, `reply` and `reply_length` are written, and each is lent as `&mut`.
-    let number = unsafe {
+    unsafe {
         banshorra_serve(
             file.as_mut_ptr(),
             file.len(),
@@ -78,33 +84,32 @@ pub fn serve(
             time,
             reply.as_mut_ptr(),
             reply.len(),
-            &mut reply_length,
+            reply_length,
         )
-    };
-    (number, reply_length)
+    }
 }
 
-/// How a list of calls ended, the octets of calls used and those of answers filled.
+/// A list of calls on the campus file in the first `file_length` octets of `file`: how it ended.
 pub fn replay(
     file: &mut [u8],
     file_length: &mut usize,
     calls: &[u8],
+    calls_used: &mut usize,
     answers: &mut [u8],
-) -> (u8, usize, usize) {
-    let (mut calls_used, mut answers_filled) = (0, 0);
-    // SAFETY: as above; `file`, `file_length`, `answers` and the two locals are written, and each is lent as `&mut`.
-    let number = unsafe {
+    answers_filled: &mut usize,
+) -> u8 {
+    // SAFETY: as above; `file`, `answers` and the three lengths are written, and each is lent as `&mut`.
+    unsafe {
         banshorra_replay(
             file.as_mut_ptr(),
             file.len(),
             file_length,
             calls.as_ptr(),
             calls.len(),
-            &mut calls_used,
+            calls_used,
             answers.as_mut_ptr(),
             answers.len(),
-            &mut answers_filled,
+            answers_filled,
         )
-    };
-    (number, calls_used, answers_filled)
+    }
 }

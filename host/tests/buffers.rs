@@ -95,7 +95,11 @@ fn octets_past_the_file_and_the_reply_stay() {
         let before = file_at(1000, std::slice::from_ref(&lease));
         let mut file = buffer(room, &before);
         let mut length = before.len();
-        let request = message(REQUEST, 1, &[identifier(b"cd"), scope(), lease_time(50)]);
+        let request = message(
+            REQUEST,
+            1,
+            &[identifier(b"cd"), scope(POOL), lease_time(50)],
+        );
         for (time, datagram) in [(1001, &request), (1500, &getinfo())] {
             let stood = file.clone();
             let mut reply = pattern(1000);
@@ -144,7 +148,7 @@ fn a_discard_leaves_the_reply_room() {
 fn a_datagram_of_any_length_is_served() {
     // Codes above 16 are stepped over: one fills the datagram up. 1,472 octets are the most.
     for (length, number) in [(1471, 0), (1472, 0), (1473, 4), (60_000, 4)] {
-        let filled = option(17, &vec![0xFF; length - 18 - 4]);
+        let filled = (17, vec![0xFF; length - 18 - 4]);
         let datagram = message(GETINFO, 1, &[identifier(b"ab"), filled]);
         assert_eq!(datagram.len(), length);
         assert_eq!(call(&mut specimen(), HOUSE_1, 1000, &datagram).0, number);

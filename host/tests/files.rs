@@ -93,27 +93,27 @@ fn unsound_files_are_21() {
 /// 8 houses, 4 scopes, 128 leases with 32 octets of identifier and 64 addresses: the longest file that has the limits' counts. Its form is
 /// right, and as each house has all addresses of a scope it is unsound.
 fn longest() -> Vec<u8> {
-    let mut file = [&[1], &SERVER[..], &CLOCK.to_be_bytes(), &[8]].concat();
-    for house in 1..=8 {
-        file.extend([10, 0, house, 0, 10, 0, house, 255]);
+    let pool = |number: u32| Scope {
+        lowest: POOL + (number << 8),
+        size: 64,
+        ttl: 15,
+        parts: vec![(8, 64); 8],
+    };
+    let lease = |number: u8| Lease {
+        scope: number / 32 + 1,
+        offsets: (0..64).collect(),
+        ..lease(number / 16 + 1, &[number; 32])
+    };
+    Campus {
+        server: SERVER,
+        clock: CLOCK,
+        houses: (1..=8)
+            .map(|house| (house << 8, (house << 8) + 255))
+            .collect(),
+        scopes: (0..4).map(pool).collect(),
+        leases: (0..128).map(lease).collect(),
     }
-    file.push(4);
-    for scope in 0..4 {
-        file.extend([239, 192, scope, 0, 64, 15]);
-        file.extend([8, 64].repeat(8));
-    }
-    file.push(128);
-    for lease in 0..128u8 {
-        file.extend([lease / 16 + 1, lease / 32 + 1, 32]);
-        file.extend([lease; 32]);
-        file.push(REQUEST);
-        for number in [7, 900, 1001u32] {
-            file.extend(number.to_be_bytes());
-        }
-        file.push(64);
-        file.extend(0..64);
-    }
-    file
+    .octets()
 }
 
 #[test]

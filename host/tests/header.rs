@@ -50,3 +50,70 @@ fn the_header_and_the_crate_agree() {
     }
     assert_eq!(named(), expected);
 }
+
+/// The header's functions in Rust's words, each on one line: `banshorra_check(file: *const u8, file_length: usize) -> u8`.
+fn declared() -> Vec<String> {
+    let text: String = HEADER.lines().map(str::trim).collect();
+    let mut found = vec![];
+    for result in ["uint8_t", "size_t"] {
+        for (at, _) in text.match_indices(&format!("{result} banshorra_")) {
+            let (name, rest) = text[at + result.len() + 1..].split_once('(').expect("(");
+            let parameters = rest.split(')').next().expect(")").split(',').map(parameter);
+            let parameters: Vec<String> = parameters.collect();
+            found.push(format!(
+                "{name}({}) -> {}",
+                parameters.join(", "),
+                in_rust(result)
+            ));
+        }
+    }
+    found.sort();
+    found
+}
+
+/// Of `const uint8_t *file`: `file: *const u8`.
+fn parameter(words: &str) -> String {
+    let words = words.trim();
+    let (constant, words) = words
+        .strip_prefix("const ")
+        .map_or((false, words), |rest| (true, rest));
+    let (kind, name) = words.split_once(' ').expect("a type and a name");
+    let pointer = match (name.starts_with('*'), constant) {
+        (false, _) => "",
+        (true, false) => "*mut ",
+        (true, true) => "*const ",
+    };
+    format!(
+        "{}: {pointer}{}",
+        name.trim_start_matches('*'),
+        in_rust(kind)
+    )
+}
+
+fn in_rust(kind: &str) -> &str {
+    match kind {
+        "uint8_t" => "u8",
+        "uint32_t" => "u32",
+        "size_t" => "usize",
+        other => panic!("{other}"),
+    }
+}
+
+#[test]
+fn the_header_and_the_crate_declare_the_same_functions() {
+    let words: Vec<&str> = include_str!("../src/library.rs")
+        .split_whitespace()
+        .collect();
+    let text = words.join(" ").replace("( ", "(").replace(", )", ")");
+    let declarations = text.match_indices("fn banshorra_").map(|(at, _)| {
+        text[at + 3..]
+            .split(';')
+            .next()
+            .expect("a declaration")
+            .to_string()
+    });
+    let mut declarations: Vec<String> = declarations.collect();
+    declarations.sort();
+    assert_eq!(declared(), declarations);
+    assert_eq!(declarations.len(), 4);
+}

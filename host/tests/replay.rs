@@ -2,9 +2,8 @@
 
 mod common;
 
-use banshorra_host::{answers, Call, CampusFile, Refusal, ANSWER_ROOM};
+use banshorra_host::{answers, CampusFile, Refusal, ANSWER_ROOM};
 use common::*;
-use std::net::Ipv4Addr;
 
 const MORNING: &[u8] = include_bytes!("../../samples/morning.bin");
 /// What the program `replay` prints for it.
@@ -18,29 +17,20 @@ fn morning() -> (CampusFile, &'static [u8]) {
     (CampusFile::from_bytes(file).expect("sound"), calls)
 }
 
-/// The records of a list.
-fn records(mut calls: &[u8]) -> Vec<&[u8]> {
-    let mut records = vec![];
-    while !calls.is_empty() {
-        let length = 12 + usize::from(u16::from_be_bytes([calls[10], calls[11]]));
-        let (record, rest) = calls.split_at(length);
-        records.push(record);
-        calls = rest;
+/// The calls of a list.
+fn calls_of(mut list: &[u8]) -> Vec<Call<'_>> {
+    let mut calls = vec![];
+    while let Some(call) = Call::read(list) {
+        list = &list[call.length()..];
+        calls.push(call);
     }
-    records
+    calls
 }
 
-fn number(octets: &[u8]) -> u32 {
-    octets
-        .iter()
-        .fold(0, |sum, &octet| sum << 8 | u32::from(octet))
-}
-
-/// Serves a record by itself: its answer.
-fn single(campus: &mut CampusFile, record: &[u8]) -> Vec<u8> {
-    let client = Ipv4Addr::from(number(&record[4..8]));
-    let mut room = vec![0; number(&record[8..10]) as usize];
-    let outcome = campus.serve(&record[12..], client, number(&record[..4]), &mut room);
+/// Serves a call by itself: its answer.
+fn single(campus: &mut CampusFile, call: &Call) -> Vec<u8> {
+    let mut room = vec![0; call.room.into()];
+    let outcome = campus.serve(&call.datagram, call.client.into(), call.time, &mut room);
     let reply = outcome.reply().unwrap_or(&[]);
     let length = (reply.len() as u16).to_be_bytes();
     [&[outcome.number()][..], &length, reply].concat()
@@ -50,8 +40,8 @@ fn single(campus: &mut CampusFile, record: &[u8]) -> Vec<u8> {
 fn a_replay_is_its_single_serves() {
     let (mut campus, calls) = morning();
     let (mut by_one, mut expected) = (campus.clone(), vec![]);
-    for record in records(calls) {
-        expected.extend(single(&mut by_one, record));
+    for call in calls_of(calls) {
+        expected.extend(single(&mut by_one, &call));
     }
     let mut filled = pattern(ROOM);
     let replayed = campus.replay(calls, &mut filled);
@@ -96,12 +86,9 @@ fn a_record_cut_off_is_24_and_those_before_it_stand() {
     let (campus, calls) = morning();
     for length in 0..calls.len() {
         let (mut whole, mut used, mut expected) = (campus.clone(), 0, vec![]);
-        for record in records(calls) {
-            if used + record.len() > length {
-                break;
-            }
-            used += record.len();
-            expected.extend(single(&mut whole, record));
+        for call in calls_of(&calls[..length]) {
+            used += call.length();
+            expected.extend(single(&mut whole, &call));
         }
         let mut cut = campus.clone();
         let mut filled = pattern(ROOM);
@@ -162,12 +149,12 @@ fn after_27_the_rest_can_go_on_in_another_buffer() {
 fn a_call_is_appended_as_a_record() {
     let (mut campus, calls) = morning();
     let mut list = vec![];
-    for record in records(calls) {
-        let call = Call {
-            time: number(&record[..4]),
-            client: Ipv4Addr::from(number(&record[4..8])),
-            reply_room: number(&record[8..10]) as u16,
-            datagram: &record[12..],
+    for call in calls_of(calls) {
+        let call = banshorra_host::Call {
+            time: call.time,
+            client: call.client.into(),
+            reply_room: call.room,
+            datagram: &call.datagram,
         };
         call.append_to(&mut list);
     }
@@ -176,7 +163,7 @@ fn a_call_is_appended_as_a_record() {
     let getinfo = message(GETINFO, 1, &[identifier(b"ab")]);
     let mut outcomes = vec![];
     for (reply_room, number) in [(511, 2), (512, 0), (513, 0), (65_535, 0)] {
-        let call = Call {
+        let call = banshorra_host::Call {
             time: 0,
             client: HOUSE_1,
             reply_room,

@@ -37,7 +37,7 @@ fn lease_of_p5() -> Lease {
 /// House 2, least 1, desired 4.
 fn p1() -> CampusFile {
     let mut campus = specimen();
-    let request = message(REQUEST, 1, &[identifier(OF_P1), scope(), number(1, 4)]);
+    let request = message(REQUEST, 1, &[identifier(OF_P1), scope(POOL), number(1, 4)]);
     let reply = ack(1, OF_P1, (1000, 3600), (0, 2), 1000);
     assert_eq!(call(&mut campus, HOUSE_2, 1000, &request), (0, reply));
     assert_eq!(campus.as_bytes(), file_at(1000, &[lease_of_p1()]));
@@ -47,7 +47,12 @@ fn p1() -> CampusFile {
 /// After P1, house 1, least 2, desired 3, Lease Time 1000.
 fn p3() -> CampusFile {
     let mut campus = p1();
-    let options = [lease_time(1000), identifier(OF_P3), scope(), number(2, 3)];
+    let options = [
+        lease_time(1000),
+        identifier(OF_P3),
+        scope(POOL),
+        number(2, 3),
+    ];
     let request = message(REQUEST, 3, &options);
     let reply = ack(3, OF_P3, (1000, 1000), (2, 2), 1000);
     assert_eq!(call(&mut campus, HOUSE_1, 1000, &request), (0, reply));
@@ -60,7 +65,7 @@ fn p3() -> CampusFile {
 fn two_from(start: u32, transaction: u32) -> Vec<u8> {
     let options = [
         identifier(OF_P5),
-        scope(),
+        scope(POOL),
         start_time(start),
         number(2, 2),
         current_time(1000),
@@ -92,12 +97,12 @@ fn refused(mut campus: CampusFile, client: std::net::Ipv4Addr, datagram: &[u8], 
 fn p1_gets_0_and_1() {
     p1();
     // The paper's octets of the Ranges.
-    assert_eq!(ranges(0, 2)[4..], [0xEF, 0xC0, 0x00, 0x00, 0x00, 0x02]);
+    assert_eq!(range(POOL, 2).1, [0xEF, 0xC0, 0x00, 0x00, 0x00, 0x02]);
 }
 
 #[test]
 fn p2_with_least_3_is_error_0() {
-    let request = message(REQUEST, 2, &[identifier(OF_P1), scope(), number(3, 4)]);
+    let request = message(REQUEST, 2, &[identifier(OF_P1), scope(POOL), number(3, 4)]);
     refused(specimen(), HOUSE_2, &request, nak(2, OF_P1, 0));
 }
 
@@ -108,7 +113,7 @@ fn p3_gets_2_and_3() {
 
 #[test]
 fn p4_with_least_3_is_error_0() {
-    let request = message(REQUEST, 4, &[identifier(OF_P3), scope(), number(3, 3)]);
+    let request = message(REQUEST, 4, &[identifier(OF_P3), scope(POOL), number(3, 3)]);
     refused(p1(), HOUSE_1, &request, nak(4, OF_P3, 0));
 }
 
@@ -147,7 +152,7 @@ fn p8_renew_of_p3_with_1000_is_acknowledged() {
 fn p9_p3s_lease_lives_at_1999_and_is_gone_at_2000() {
     let mut campus = p3();
     let getinfo = message(GETINFO, 9, &[identifier(OF_P3)]);
-    let reply = message(ACK, 9, &[server_identifier(), identifier(OF_P3)]);
+    let reply = message(ACK, 9, &[server_identifier(SERVER), identifier(OF_P3)]);
     assert_eq!(
         call(&mut campus, HOUSE_1, 1999, &getinfo),
         (0, reply.clone())
@@ -191,7 +196,7 @@ fn p12_release_of_an_identifier_not_held() {
 #[test]
 fn skew_1800_passes_and_1801_is_error_2() {
     let with = |time| {
-        let options = [identifier(OF_P3), scope(), current_time(time)];
+        let options = [identifier(OF_P3), scope(POOL), current_time(time)];
         let mut campus = specimen();
         call(
             &mut campus,

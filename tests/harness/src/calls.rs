@@ -1,30 +1,10 @@
 //! Lists of calls: what clients of the houses send, mostly what draws a reply, and all the edges.
 
-use crate::campus::{beside, identifier, Campus};
-use crate::message::{self, Message, DISCOVER, GETINFO, RELEASE, RENEW, REQUEST};
+use crate::campus::{beside, identifier};
+use crate::message;
 use crate::random::Random;
 use crate::{DEFAULT_LEASE, HORIZON, LAST_TIME, LONGEST_LEASE, SKEW};
-
-/// One call of a list.
-#[derive(Clone, Debug)]
-pub struct Call {
-    pub time: u32,
-    pub client: u32,
-    pub room: u16,
-    pub datagram: Vec<u8>,
-}
-
-impl Call {
-    /// Time(4), client address(4), reply room length(2), datagram length(2), the datagram.
-    pub fn record(&self) -> Vec<u8> {
-        let mut octets = self.time.to_be_bytes().to_vec();
-        octets.extend(self.client.to_be_bytes());
-        octets.extend(self.room.to_be_bytes());
-        octets.extend((self.datagram.len() as u16).to_be_bytes());
-        octets.extend(&self.datagram);
-        octets
-    }
-}
+use builder::{number, Call, Campus, Message, DISCOVER, GETINFO, RELEASE, RENEW, REQUEST};
 
 /// What a client may refer to: a lease of the file, or one that it has asked for.
 #[derive(Clone)]
@@ -42,13 +22,13 @@ struct Talk<'a> {
     known: Vec<Known>,
     /// Starts and ends of periods.
     times: Vec<u32>,
-    calls: Vec<Call>,
+    calls: Vec<Call<'static>>,
     /// The damage that comes next.
     damage: usize,
 }
 
 /// A list of calls on a campus. `turn` says where in the list of damages to begin.
-pub fn list(random: &mut Random, campus: &Campus, count: usize, turn: usize) -> Vec<Call> {
+pub fn list(random: &mut Random, campus: &Campus, count: usize, turn: usize) -> Vec<Call<'static>> {
     let mut talk = Talk {
         campus,
         clock: campus.clock,
@@ -74,7 +54,7 @@ pub fn list(random: &mut Random, campus: &Campus, count: usize, turn: usize) -> 
 }
 
 impl Talk<'_> {
-    fn call(&mut self, random: &mut Random) -> Call {
+    fn call(&mut self, random: &mut Random) -> Call<'static> {
         let time = self.time(random);
         let room = if random.chance(4) {
             random.pick(&[0, 1, 100, 511, 511])
@@ -105,7 +85,7 @@ impl Talk<'_> {
             time,
             client,
             room,
-            datagram,
+            datagram: datagram.into(),
         }
     }
 
@@ -202,7 +182,7 @@ impl Talk<'_> {
                 (kind, transaction) = (known.kind, known.transaction);
             }
         }
-        let mut message = Message::new(kind, transaction, &ident);
+        let mut message = Message::new(kind, transaction, vec![builder::identifier(&ident)]);
         match kind {
             DISCOVER | REQUEST => self.ask(random, &mut message),
             RENEW => self.put_period(random, &mut message),
@@ -300,7 +280,7 @@ impl Talk<'_> {
                 5 if random.chance(30) => desired.saturating_add(1),
                 _ => 1.min(desired),
             };
-            message.put(7, message::number(least, desired));
+            message.options.push(number(least, desired));
         }
         if random.chance(5) {
             let value = message::fitting_value(random, 10);

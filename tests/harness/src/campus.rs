@@ -1,7 +1,8 @@
-//! Sound campus files of every shape, as the generator's own records; it rests on neither implementation.
+//! Sound campuses of every shape; they rest on neither implementation.
 
 use crate::random::Random;
 use crate::{HORIZON, LAST_TIME, LONGEST_LEASE};
+use builder::{Campus, Lease, Scope};
 
 /// The multicast addresses that pools lie in.
 pub const LOWEST_POOL: u32 = 0xE000_0000;
@@ -9,237 +10,160 @@ pub const HIGHEST_POOL: u32 = 0xEFFF_FFFF;
 /// Lease records of a house.
 pub const RECORDS: usize = 16;
 
-#[derive(Clone, Debug)]
-pub struct Scope {
-    pub lowest: u32,
-    pub size: u8,
-    pub ttl: u8,
-    /// Share and limit of each house.
-    pub parts: Vec<(u8, u8)>,
+/// A sound campus.
+pub fn sound(random: &mut Random) -> Campus {
+    let house_count = random.pick(&[1, 2, 2, 3, 4, 5, 6, 7, 8, 8]);
+    let scope_count = random.pick(&[1, 1, 1, 2, 2, 3, 4]);
+    let mut campus = Campus {
+        server: random.pick(&[0x0A01_0101, 0, u32::MAX, 0xC0A8_0001]),
+        clock: clock(random),
+        houses: client_ranges(random, house_count),
+        scopes: pools(random, scope_count, house_count),
+        leases: Vec::new(),
+    };
+    lend(&mut campus, random);
+    campus.sort();
+    campus
 }
 
-#[derive(Clone, Debug, PartialEq, Eq)]
-pub struct Lease {
-    pub house: u8,
-    pub scope: u8,
-    pub identifier: Vec<u8>,
-    pub kind: u8,
-    pub transaction: u32,
-    pub start: u32,
-    pub end: u32,
-    pub offsets: Vec<u8>,
-}
-
-#[derive(Clone, Debug)]
-pub struct Campus {
-    pub server: u32,
-    pub clock: u32,
-    /// Lowest and highest client address of each house.
-    pub houses: Vec<(u32, u32)>,
-    pub scopes: Vec<Scope>,
-    pub leases: Vec<Lease>,
-}
-
-impl Campus {
-    /// A sound campus.
-    pub fn sound(random: &mut Random) -> Campus {
-        let house_count = random.pick(&[1, 2, 2, 3, 4, 5, 6, 7, 8, 8]);
-        let scope_count = random.pick(&[1, 1, 1, 2, 2, 3, 4]);
-        let mut campus = Campus {
-            server: random.pick(&[0x0A01_0101, 0, u32::MAX, 0xC0A8_0001]),
-            clock: clock(random),
-            houses: client_ranges(random, house_count),
-            scopes: pools(random, scope_count, house_count),
-            leases: Vec::new(),
-        };
-        campus.lend(random);
-        campus.sort();
-        campus
+/// Gives every house addresses within its limit and the scope's sum, and leases on them.
+fn lend(campus: &mut Campus, random: &mut Random) {
+    let fullness = random.pick(&[0, 1, 2, 2, 3, 3]);
+    if fullness == 0 {
+        return;
     }
-
-    /// Gives every house addresses within its limit and the scope's sum, and leases on them.
-    fn lend(&mut self, random: &mut Random) {
-        let fullness = random.pick(&[0, 1, 2, 2, 3, 3]);
-        if fullness == 0 {
-            return;
-        }
-        let own: Vec<Vec<Vec<u8>>> = (0..self.scopes.len())
-            .map(|scope| self.own_addresses(random, scope))
+    let own: Vec<Vec<Vec<u8>>> = (0..campus.scopes.len())
+        .map(|scope| own_addresses(&campus.scopes[scope], random))
+        .collect();
+    let mut until = vec![[0_u32; 64]; campus.scopes.len()];
+    for house in 0..campus.houses.len() {
+        let scopes: Vec<usize> = (0..campus.scopes.len())
+            .filter(|&scope| !own[scope][house].is_empty())
             .collect();
-        let mut until = vec![[0_u32; 64]; self.scopes.len()];
-        for house in 0..self.houses.len() {
-            let scopes: Vec<usize> = (0..self.scopes.len())
-                .filter(|&scope| !own[scope][house].is_empty())
-                .collect();
-            if scopes.is_empty() {
-                continue;
-            }
-            let count = match fullness {
-                1 => random.below(3),
-                2 => random.below(RECORDS + 1),
-                _ => random.between(RECORDS - 1, RECORDS),
-            };
-            for _ in 0..count {
-                let scope = random.pick(&scopes);
-                let offsets = some_of(random, &own[scope][house]);
-                let taken = offsets.iter().map(|&o| until[scope][usize::from(o)]).max();
-                let Some((start, end)) = self.period(random, taken.unwrap_or(0)) else {
-                    continue;
-                };
-                for &offset in &offsets {
-                    until[scope][usize::from(offset)] = end;
-                }
-                let lease = self.lease(random, house, scope, (start, end), offsets);
-                self.leases.push(lease);
-            }
+        if scopes.is_empty() {
+            continue;
         }
-    }
-
-    /// For one scope, the addresses that each house may hold leases on.
-    fn own_addresses(&self, random: &mut Random, scope: usize) -> Vec<Vec<u8>> {
-        let Scope {
-            size, ref parts, ..
-        } = self.scopes[scope];
-        let mut sum: usize = parts.iter().map(|part| usize::from(part.0)).sum();
-        let mut offsets: Vec<u8> = (0..size).collect();
-        if random.chance(60) {
-            random.shuffle(&mut offsets);
-        }
-        let greedy = random.chance(40);
-        let mut places: Vec<usize> = (0..parts.len()).collect();
-        random.shuffle(&mut places);
-        let mut own = vec![Vec::new(); parts.len()];
-        for house in places {
-            let (share, limit) = (usize::from(parts[house].0), usize::from(parts[house].1));
-            let most = limit
-                .min(share + usize::from(size) - sum)
-                .min(offsets.len());
-            let count = if greedy { most } else { random.below(most + 1) };
-            sum += count.saturating_sub(share);
-            own[house] = offsets.drain(..count).collect();
-        }
-        own
-    }
-
-    /// A period for addresses that are taken until a time: it touches that time, or comes later.
-    fn period(&self, random: &mut Random, taken: u32) -> Option<(u32, u32)> {
-        let start = if taken == 0 {
-            match random.below(6) {
-                0 => 0,
-                1 | 2 => self
-                    .clock
-                    .saturating_sub(random.pick(&[1, 500, LONGEST_LEASE])),
-                3 => self.clock,
-                _ => self
-                    .clock
-                    .checked_add(random.pick(&[1, 500, 3_600, HORIZON, HORIZON + 1]))?,
-            }
-        } else {
-            taken.checked_add(random.pick(&[0, 0, 0, 1, 1_000]))?
+        let count = match fullness {
+            1 => random.below(3),
+            2 => random.below(RECORDS + 1),
+            _ => random.between(RECORDS - 1, RECORDS),
         };
-        let length = random.pick(&[
-            1,
-            2,
-            100,
-            1_000,
-            3_600,
-            3_600,
-            LONGEST_LEASE,
-            LONGEST_LEASE + 1,
-        ]);
-        let end = start.max(self.clock).checked_add(length)?;
-        let end = if random.chance(2) { LAST_TIME } else { end };
-        (end > self.clock && start < end).then_some((start, end))
-    }
-
-    /// A lease of a house with an identifier that it doesn't have yet.
-    pub fn lease(
-        &self,
-        random: &mut Random,
-        house: usize,
-        scope: usize,
-        (start, end): (u32, u32),
-        mut offsets: Vec<u8>,
-    ) -> Lease {
-        offsets.sort_unstable();
-        let house = house as u8 + 1;
-        Lease {
-            house,
-            scope: scope as u8 + 1,
-            identifier: self.fresh_identifier(random, house),
-            kind: random.pick(&[3, 3, 4]),
-            transaction: random.pick(&[0, 1, 2, 3, u32::MAX]),
-            start,
-            end,
-            offsets,
-        }
-    }
-
-    pub fn fresh_identifier(&self, random: &mut Random, house: u8) -> Vec<u8> {
-        loop {
-            let identifier = match self.leases.last() {
-                Some(lease) if random.chance(30) => beside(random, &lease.identifier),
-                _ => identifier(random),
+        for _ in 0..count {
+            let scope = random.pick(&scopes);
+            let offsets = some_of(random, &own[scope][house]);
+            let taken = offsets.iter().map(|&o| until[scope][usize::from(o)]).max();
+            let Some((start, end)) = period(campus.clock, random, taken.unwrap_or(0)) else {
+                continue;
             };
-            let taken = |lease: &Lease| lease.house == house && lease.identifier == identifier;
-            if !self.leases.iter().any(taken) {
-                return identifier;
+            for &offset in &offsets {
+                until[scope][usize::from(offset)] = end;
             }
+            let lease = new_lease(campus, random, house, scope, (start, end), offsets);
+            campus.leases.push(lease);
         }
     }
+}
 
-    /// The file's order.
-    pub fn sort(&mut self) {
-        self.leases
-            .sort_by(|a, b| (a.house, &a.identifier).cmp(&(b.house, &b.identifier)));
+/// For one scope, the addresses that each house may hold leases on.
+fn own_addresses(scope: &Scope, random: &mut Random) -> Vec<Vec<u8>> {
+    let Scope { size, parts, .. } = scope;
+    let size = *size;
+    let mut sum: usize = parts.iter().map(|part| usize::from(part.0)).sum();
+    let mut offsets: Vec<u8> = (0..size).collect();
+    if random.chance(60) {
+        random.shuffle(&mut offsets);
     }
-
-    /// How many addresses of a scope a house's leases have; house and scope from 1.
-    pub fn holding(&self, house: u8, scope: u8) -> usize {
-        let mut held = [false; 256];
-        for lease in &self.leases {
-            if lease.house == house && lease.scope == scope {
-                lease
-                    .offsets
-                    .iter()
-                    .for_each(|&o| held[usize::from(o)] = true);
-            }
-        }
-        held.iter().filter(|&&h| h).count()
+    let greedy = random.chance(40);
+    let mut places: Vec<usize> = (0..parts.len()).collect();
+    random.shuffle(&mut places);
+    let mut own = vec![Vec::new(); parts.len()];
+    for house in places {
+        let (share, limit) = (usize::from(parts[house].0), usize::from(parts[house].1));
+        let most = limit
+            .min(share + usize::from(size) - sum)
+            .min(offsets.len());
+        let count = if greedy { most } else { random.below(most + 1) };
+        sum += count.saturating_sub(share);
+        own[house] = offsets.drain(..count).collect();
     }
+    own
+}
 
-    /// The campus file.
-    pub fn octets(&self) -> Vec<u8> {
-        let mut file = vec![1];
-        file.extend(self.server.to_be_bytes());
-        file.extend(self.clock.to_be_bytes());
-        file.push(self.houses.len() as u8);
-        for (lowest, highest) in &self.houses {
-            file.extend(lowest.to_be_bytes());
-            file.extend(highest.to_be_bytes());
+/// A period for addresses that are taken until a time: it touches that time, or comes later.
+fn period(clock: u32, random: &mut Random, taken: u32) -> Option<(u32, u32)> {
+    let start = if taken == 0 {
+        match random.below(6) {
+            0 => 0,
+            1 | 2 => clock.saturating_sub(random.pick(&[1, 500, LONGEST_LEASE])),
+            3 => clock,
+            _ => clock.checked_add(random.pick(&[1, 500, 3_600, HORIZON, HORIZON + 1]))?,
         }
-        file.push(self.scopes.len() as u8);
-        for scope in &self.scopes {
-            file.extend(scope.lowest.to_be_bytes());
-            file.extend([scope.size, scope.ttl]);
-            scope
-                .parts
+    } else {
+        taken.checked_add(random.pick(&[0, 0, 0, 1, 1_000]))?
+    };
+    let length = random.pick(&[
+        1,
+        2,
+        100,
+        1_000,
+        3_600,
+        3_600,
+        LONGEST_LEASE,
+        LONGEST_LEASE + 1,
+    ]);
+    let end = start.max(clock).checked_add(length)?;
+    let end = if random.chance(2) { LAST_TIME } else { end };
+    (end > clock && start < end).then_some((start, end))
+}
+
+/// A lease of a house with an identifier that it doesn't have yet.
+pub fn new_lease(
+    campus: &Campus,
+    random: &mut Random,
+    house: usize,
+    scope: usize,
+    (start, end): (u32, u32),
+    mut offsets: Vec<u8>,
+) -> Lease {
+    offsets.sort_unstable();
+    let house = house as u8 + 1;
+    Lease {
+        house,
+        scope: scope as u8 + 1,
+        identifier: fresh_identifier(campus, random, house),
+        kind: random.pick(&[3, 3, 4]),
+        transaction: random.pick(&[0, 1, 2, 3, u32::MAX]),
+        start,
+        end,
+        offsets,
+    }
+}
+
+fn fresh_identifier(campus: &Campus, random: &mut Random, house: u8) -> Vec<u8> {
+    loop {
+        let identifier = match campus.leases.last() {
+            Some(lease) if random.chance(30) => beside(random, &lease.identifier),
+            _ => identifier(random),
+        };
+        let taken = |lease: &Lease| lease.house == house && lease.identifier == identifier;
+        if !campus.leases.iter().any(taken) {
+            return identifier;
+        }
+    }
+}
+
+/// How many addresses of a scope a house's leases have; house and scope from 1.
+pub fn holding(campus: &Campus, house: u8, scope: u8) -> usize {
+    let mut held = [false; 256];
+    for lease in &campus.leases {
+        if lease.house == house && lease.scope == scope {
+            lease
+                .offsets
                 .iter()
-                .for_each(|part| file.extend([part.0, part.1]));
+                .for_each(|&o| held[usize::from(o)] = true);
         }
-        file.push(self.leases.len() as u8);
-        for lease in &self.leases {
-            file.extend([lease.house, lease.scope, lease.identifier.len() as u8]);
-            file.extend(&lease.identifier);
-            file.push(lease.kind);
-            for number in [lease.transaction, lease.start, lease.end] {
-                file.extend(number.to_be_bytes());
-            }
-            file.push(lease.offsets.len() as u8);
-            file.extend(&lease.offsets);
-        }
-        file
     }
+    held.iter().filter(|&&h| h).count()
 }
 
 fn clock(random: &mut Random) -> u32 {

@@ -1,9 +1,10 @@
 //! A case: a campus file and a list of calls, made from a seed and a number, or read from a file that was kept.
 
 use crate::calls;
-use crate::campus::Campus;
+use crate::campus::sound;
 use crate::damage::{self, DAMAGES};
 use crate::random::Random;
+use builder::Campus;
 
 /// What the maker of a case means to break: the place of a damage in `DAMAGES`.
 pub type Meant = Option<usize>;
@@ -24,7 +25,7 @@ impl Case {
         if number % 5 == 4 {
             let place = turn % DAMAGES.len();
             if let Some(file) = DAMAGES[place].file(&mut random) {
-                let campus = Campus::sound(&mut random);
+                let campus = sound(&mut random);
                 let count = random.below(3);
                 let calls = records(&mut random, &campus, count, number as usize);
                 return Case {
@@ -34,7 +35,7 @@ impl Case {
                 };
             }
         }
-        let campus = Campus::sound(&mut random);
+        let campus = sound(&mut random);
         let file = if number.is_multiple_of(25) {
             damage::scrambled(&mut random, &campus)
         } else {
@@ -74,31 +75,6 @@ impl Case {
 fn records(random: &mut Random, campus: &Campus, count: usize, turn: usize) -> Vec<u8> {
     calls::list(random, campus, count, turn)
         .iter()
-        .flat_map(calls::Call::record)
+        .flat_map(builder::Call::record)
         .collect()
-}
-
-/// A record of a list: its call, and where the next one begins.
-pub struct Record<'a> {
-    pub time: u32,
-    pub client: u32,
-    pub room: usize,
-    pub datagram: &'a [u8],
-    pub next: usize,
-}
-
-/// The record at a place in a list; `None` if it is cut off.
-pub fn record(calls: &[u8], place: usize) -> Option<Record<'_>> {
-    let head: &[u8; 12] = calls.get(place..place + 12)?.try_into().ok()?;
-    let u32_at =
-        |at: usize| u32::from_be_bytes([head[at], head[at + 1], head[at + 2], head[at + 3]]);
-    let u16_at = |at: usize| usize::from(u16::from_be_bytes([head[at], head[at + 1]]));
-    let next = place + 12 + u16_at(10);
-    Some(Record {
-        time: u32_at(0),
-        client: u32_at(4),
-        room: u16_at(8),
-        datagram: calls.get(place + 12..next)?,
-        next,
-    })
 }

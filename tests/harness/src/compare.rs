@@ -1,16 +1,13 @@
 //! One case, run by both implementations in this process and compared octet for octet.
 
-use crate::case::{record, Case, Record};
-use crate::library;
+use crate::case::Case;
 use crate::room::Room;
 use crate::tally::Tally;
 use crate::LONGEST_FILE;
+use banshorra_host::{library, ANSWER_ROOM, BOARD_ROOM};
+use builder::Call;
 use std::panic::catch_unwind;
 
-/// The smallest room for the board's text.
-const BOARD_ROOM: usize = 1_100;
-/// The room that an answer of `replay` needs: outcome(1), length(2), a reply of at most 512.
-const ANSWER_ROOM: usize = 515;
 /// Refusals of the C interface.
 const FILE_ROOM_SHORT: u8 = 23;
 const CUT_OFF: u8 = 24;
@@ -50,9 +47,10 @@ fn second(case: &Case) -> Expected {
     let mut answers = Vec::new();
     let mut end = 0;
     let mut room = vec![0; LONGEST_FILE];
-    while let (Some(book), Some(call)) = (&mut book, record(&case.calls, end)) {
+    while let (Some(book), Some(call)) = (&mut book, Call::read(&case.calls[end..])) {
+        let room_length = call.room.into();
         let (outcome, reply) =
-            second::server::answer(book, call.datagram, call.client, call.time, call.room);
+            second::server::answer(book, &call.datagram, call.client, call.time, room_length);
         // A book that can't be written is a difference from any file; what the call answered is compared before it.
         let written = second::file::write(book, &mut room);
         let file = room[..written.unwrap_or(0)].to_vec();
@@ -62,7 +60,7 @@ fn second(case: &Case) -> Expected {
             file,
             place: end,
         });
-        end = call.next;
+        end += call.length();
         if written.is_err() {
             break;
         }
@@ -153,8 +151,8 @@ fn count(case: &Case, expected: &Expected, tally: &mut Tally) {
         tally.damaged(place, expected.refusal);
     }
     for answer in &expected.answers {
-        if let Some(call) = record(&case.calls, answer.place) {
-            tally.call(call.datagram, answer.outcome, &answer.reply);
+        if let Some(call) = Call::read(&case.calls[answer.place..]) {
+            tally.call(&call.datagram, answer.outcome, &answer.reply);
         }
     }
 }
@@ -216,16 +214,15 @@ fn serve(case: &Case, expected: &Expected, choice: usize) -> Result<(), Differen
     let mut file = file_room(case, choice);
     let mut file_length = case.file.len();
     if expected.refusal != 0 {
-        let none = Record {
+        let none = Call {
             time: 0,
             client: 0,
             room: 600,
-            datagram: &[],
-            next: 0,
+            datagram: vec![].into(),
         };
-        let call = record(&case.calls, 0).unwrap_or(none);
+        let call = Call::read(&case.calls).unwrap_or(none);
         let before = file.part().to_vec();
-        let mut reply = Room::new(call.room);
+        let mut reply = Room::new(call.room.into());
         let mut reply_length = UNSET;
         let outcome = serve_call(
             &call,
@@ -241,11 +238,11 @@ fn serve(case: &Case, expected: &Expected, choice: usize) -> Result<(), Differen
     }
     for (number, answer) in expected.answers.iter().enumerate() {
         let what = format!("serve, call {}", number + 1);
-        let Some(call) = record(&case.calls, answer.place) else {
+        let Some(call) = Call::read(&case.calls[answer.place..]) else {
             break;
         };
         let before = file.part().to_vec();
-        let mut reply = Room::new(call.room);
+        let mut reply = Room::new(call.room.into());
         let mut reply_length = UNSET;
         let outcome = serve_call(
             &call,
@@ -275,7 +272,7 @@ fn serve(case: &Case, expected: &Expected, choice: usize) -> Result<(), Differen
 }
 
 fn serve_call(
-    call: &Record,
+    call: &Call,
     file: &mut Room,
     file_length: &mut usize,
     reply: &mut Room,
@@ -284,7 +281,7 @@ fn serve_call(
     library::serve(
         file.part(),
         file_length,
-        call.datagram,
+        &call.datagram,
         call.client,
         call.time,
         reply.part(),

@@ -1,8 +1,9 @@
 //! Campus files with one thing wrong: each part of each rule of a sound book (21), and each rule of form (20).
 
-use crate::campus::{Campus, Lease, Scope, HIGHEST_POOL, LOWEST_POOL, RECORDS};
+use crate::campus::{holding, new_lease, sound, HIGHEST_POOL, LOWEST_POOL, RECORDS};
 use crate::random::Random;
 use crate::{LAST_TIME, LONGEST_FILE};
+use builder::{Campus, Lease, Scope};
 
 /// A damage: what it breaks, the refusal that it has to draw, and how it is done. `None` where a campus has nothing to break.
 pub struct Damage {
@@ -86,7 +87,7 @@ impl Damage {
     /// A damaged campus file, if one can be made of some campus.
     pub fn file(&self, random: &mut Random) -> Option<Vec<u8>> {
         (0..200).find_map(|_| {
-            let campus = Campus::sound(random);
+            let campus = sound(random);
             (self.make)(random, campus)
         })
     }
@@ -176,7 +177,8 @@ fn lengthen(random: &mut Random, campus: &mut Campus, house: u8, count: usize) -
     while have < count {
         let end = start.checked_add(random.pick(&[1, 10]))?;
         let scope = usize::from(first.scope) - 1;
-        let lease = campus.lease(
+        let lease = new_lease(
+            campus,
             random,
             usize::from(house) - 1,
             scope,
@@ -451,7 +453,7 @@ fn full_layout(random: &mut Random, campus: &Campus) -> Campus {
     for house in 0..8 {
         for number in 0..16_u32 {
             let period = (1_000 + number, 1_001 + number);
-            let mut lease = full.lease(random, house, house / 2, period, (0..64).collect());
+            let mut lease = new_lease(&full, random, house, house / 2, period, (0..64).collect());
             lease.identifier.resize(31, 0);
             lease.identifier.push(number as u8);
             full.leases.push(lease);
@@ -487,7 +489,7 @@ fn leases_overlap(random: &mut Random, mut campus: Campus) -> Option<Vec<u8>> {
     };
     (period.1 > campus.clock).then_some(())?;
     let place = (usize::from(house) - 1, usize::from(scope) - 1);
-    let added = campus.lease(random, place.0, place.1, period, vec![offset]);
+    let added = new_lease(&campus, random, place.0, place.1, period, vec![offset]);
     campus.leases.push(added);
     ordered(campus)
 }
@@ -495,7 +497,7 @@ fn leases_overlap(random: &mut Random, mut campus: Campus) -> Option<Vec<u8>> {
 fn holding_above_limit(random: &mut Random, mut campus: Campus) -> Option<Vec<u8>> {
     let lease = place(random, &campus.leases)?;
     let Lease { house, scope, .. } = campus.leases[lease];
-    let limit = campus.holding(house, scope) as u8 - 1;
+    let limit = holding(&campus, house, scope) as u8 - 1;
     let part = &mut campus.scopes[usize::from(scope) - 1].parts[usize::from(house) - 1];
     *part = (part.0.min(limit), limit);
     ordered(campus)
@@ -508,7 +510,7 @@ fn sum_above_size(random: &mut Random, mut campus: Campus) -> Option<Vec<u8>> {
     let raised = random.below(campus.houses.len());
     (raised + 1 != usize::from(house)).then_some(())?;
     let holdings: Vec<usize> = (1..=campus.houses.len() as u8)
-        .map(|house| campus.holding(house, scope))
+        .map(|house| holding(&campus, house, scope))
         .collect();
     let Scope {
         size,
@@ -672,4 +674,29 @@ pub fn scrambled(random: &mut Random, campus: &Campus) -> Vec<u8> {
         };
     }
     file
+}
+
+/// Damages octets in one to four places: octets changed, put in, taken out; the end cut off or grown.
+pub fn battered(random: &mut Random, octets: &mut Vec<u8>) {
+    for _ in 0..random.between(1, 4) {
+        let place = random.below(octets.len() + 1);
+        let inside = place < octets.len();
+        match random.below(8) {
+            0 => octets.truncate(place),
+            1 => {
+                for _ in 0..random.pick(&[1, 2, 4, 12, 300]) {
+                    let octet = random.octet();
+                    octets.push(random.pick(&[0, octet]));
+                }
+            }
+            2 => octets.insert(place, random.octet()),
+            3 if inside => drop(octets.remove(place)),
+            4 if inside => {
+                octets[place] =
+                    random.pick(&[0, 1, 2, 16, 17, 32, 33, 64, 65, 127, 128, 129, 254, 255])
+            }
+            5..=7 if inside => octets[place] ^= 1 << random.below(8),
+            _ => {}
+        }
+    }
 }

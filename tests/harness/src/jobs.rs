@@ -1,10 +1,9 @@
 //! Work to measure: campus files with a number of leases, and lists of calls that leave the book as it was.
 
-use crate::calls::Call;
-use crate::campus::{Campus, Lease, Scope};
-use crate::message::{self, Message, DISCOVER, GETINFO, RELEASE, RENEW, REQUEST};
 use crate::random::Random;
-use crate::{library, DEFAULT_LEASE, LONGEST_FILE};
+use crate::{DEFAULT_LEASE, LONGEST_FILE};
+use banshorra_host::{library, ANSWER_ROOM};
+use builder::*;
 
 const CLOCK: u32 = 1_700_000_000;
 const SERVER: u32 = 0x0A01_0101;
@@ -62,15 +61,15 @@ fn plain_replay(file: &mut [u8], length: usize, calls: &[u8], answers: &mut [u8]
         return 0;
     };
     let (mut used, mut filled) = (0, 0);
-    while let Some(call) = crate::case::record(calls, used) {
-        let room = call.room.min(answers.len() - filled - 3);
+    while let Some(call) = Call::read(&calls[used..]) {
+        let room = usize::from(call.room).min(answers.len() - filled - 3);
         let reply = &mut answers[filled + 3..filled + 3 + room];
         let (outcome, length) =
-            second::serve(&mut book, call.datagram, call.client, call.time, reply);
+            second::serve(&mut book, &call.datagram, call.client, call.time, reply);
         answers[filled] = outcome;
         answers[filled + 1..filled + 3].copy_from_slice(&(length as u16).to_be_bytes());
         filled += 3 + length;
-        used = call.next;
+        used += call.length();
     }
     let length = second::file::write(&book, file).unwrap_or(0);
     length + used + filled
@@ -108,7 +107,7 @@ impl Job {
     pub fn rooms(&self) -> (Vec<u8>, Vec<u8>) {
         let mut file = vec![0; LONGEST_FILE];
         file[..self.file.len()].copy_from_slice(&self.file);
-        (file, vec![0; 515 * (self.count() + 1)])
+        (file, vec![0; ANSWER_ROOM * (self.count() + 1)])
     }
 }
 
@@ -191,12 +190,12 @@ fn full_campus() -> Campus {
     campus
 }
 
-fn call(house: u8, time: u32, message: &Message) -> Call {
+fn call(house: u8, time: u32, message: &Message) -> Call<'static> {
     Call {
         time,
         client: 0x0A00_0005 + (u32::from(house - 1) << 8),
         room: 512,
-        datagram: message.octets(),
+        datagram: message.octets().into(),
     }
 }
 
@@ -204,44 +203,48 @@ fn call(house: u8, time: u32, message: &Message) -> Call {
 fn asking(
     kind: u8,
     transaction: u32,
-    identifier: &[u8],
-    scope: u32,
+    of: &[u8],
+    pool: u32,
     least: u16,
     desired: u16,
     time: u32,
 ) -> Message {
-    let mut message = Message::new(kind, transaction, identifier);
-    message.put_u32(1, DEFAULT_LEASE);
-    message.put_u32(4, 0xEFC0_0000 + ((scope - 1) << 8));
-    message.put(7, message::number(least, desired));
-    message.put_u32(11, time);
-    message
+    let options = vec![
+        identifier(of),
+        lease_time(DEFAULT_LEASE),
+        scope(0xEFC0_0000 + ((pool - 1) << 8)),
+        number(least, desired),
+        current_time(time),
+    ];
+    Message::new(kind, transaction, options)
 }
 
-fn renewal(transaction: u32, identifier: &[u8], length: u32, time: u32) -> Message {
-    let mut message = Message::new(RENEW, transaction, identifier);
-    message.put_u32(1, length);
-    message.put_u32(11, time);
-    message
+fn renewal(transaction: u32, of: &[u8], length: u32, time: u32) -> Message {
+    let options = vec![identifier(of), lease_time(length), current_time(time)];
+    Message::new(RENEW, transaction, options)
 }
 
-fn information(wanted: u16) -> Message {
-    let mut message = Message::new(GETINFO, 9, b"info");
-    message.put(wanted, [0, 9, 0, 11]);
-    message
+fn release(transaction: u32, of: &[u8]) -> Message {
+    Message::new(RELEASE, transaction, vec![identifier(of)])
+}
+
+/// A GETINFO with two codes in an option; 5 is the one that is for them.
+fn information(code: u16) -> Message {
+    let options = vec![identifier(b"info"), (code, vec![0, 9, 0, 11])];
+    Message::new(GETINFO, 9, options)
 }
 
 /// The calls to measure at a number of leases: a name, what they draw, and calls that are sent in turn and leave the book as it was.
-fn turns(leases: usize) -> Vec<(&'static str, Draws, Vec<Call>)> {
+fn turns(leases: usize) -> Vec<(&'static str, Draws, Vec<Call<'static>>)> {
     let at = |house: u8, message: Message| call(house, CLOCK, &message);
     let first = name(1, 0);
     let request = at(1, asking(REQUEST, 2, &first, 1, 2, 2, CLOCK));
-    let release = at(1, Message::new(RELEASE, 2, &first));
+    let released = at(1, release(2, &first));
     // House 1's first lease has the lowest addresses, so a REQUEST after its RELEASE brings back the same lease.
     let in_turn = if leases == 0 {
-        vec![request, release]
+        vec![request, released]
     } else {
-        vec![release, request]
+        vec![released, request]
     };
     let mut turns = vec![
         (
@@ -272,7 +275,7 @@ fn turns(leases: usize) -> Vec<(&'static str, Draws, Vec<Call>)> {
         (
             "RELEASE, refused (not held)",
             REFUSED,
-            vec![at(3, Message::new(RELEASE, 5, b"none"))],
+            vec![at(3, release(5, b"none"))],
         ),
         (
             "GETINFO, answered",
@@ -291,7 +294,7 @@ fn turns(leases: usize) -> Vec<(&'static str, Draws, Vec<Call>)> {
                 time: CLOCK,
                 client: 0x0A00_0005,
                 room: 512,
-                datagram: vec![0; 40],
+                datagram: vec![0; 40].into(),
             }],
         ),
     ];
@@ -347,7 +350,7 @@ fn mixed(count: usize) -> Work {
             0..=4 => asking(DISCOVER, transaction, &identifier, scope, least, 4, time),
             5..=10 => asking(REQUEST, transaction, &identifier, scope, least, 4, time),
             11..=14 => renewal(transaction, &identifier, DEFAULT_LEASE, time),
-            15 | 16 => Message::new(RELEASE, transaction, &identifier),
+            15 | 16 => release(transaction, &identifier),
             17 | 18 => information(5),
             _ => Message {
                 version: 1,

@@ -7,7 +7,6 @@ pub mod case;
 pub mod compare;
 pub mod damage;
 pub mod jobs;
-pub mod library;
 pub mod message;
 pub mod random;
 pub mod room;

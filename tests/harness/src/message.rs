@@ -1,80 +1,8 @@
-//! Datagrams: options by code and value, and every way of damaging them.
+//! Values of options, and every way of damaging a datagram.
 
 use crate::random::Random;
 use crate::LONGEST_DATAGRAM;
-
-pub const DISCOVER: u8 = 1;
-pub const REQUEST: u8 = 3;
-pub const RENEW: u8 = 4;
-pub const RELEASE: u8 = 7;
-pub const GETINFO: u8 = 8;
-
-/// A datagram before it is octets.
-#[derive(Clone, Debug)]
-pub struct Message {
-    pub version: u8,
-    pub kind: u8,
-    pub family: u16,
-    pub transaction: u32,
-    pub options: Vec<(u16, Vec<u8>)>,
-}
-
-impl Message {
-    pub fn new(kind: u8, transaction: u32, identifier: &[u8]) -> Message {
-        Message {
-            version: 0,
-            kind,
-            family: 1,
-            transaction,
-            options: vec![(3, identifier.to_vec())],
-        }
-    }
-
-    pub fn put(&mut self, code: u16, value: impl Into<Vec<u8>>) {
-        self.options.push((code, value.into()));
-    }
-
-    pub fn put_u32(&mut self, code: u16, value: u32) {
-        self.put(code, value.to_be_bytes());
-    }
-
-    pub fn has(&self, code: u16) -> bool {
-        self.options.iter().any(|option| option.0 == code)
-    }
-
-    pub fn remove(&mut self, code: u16) {
-        self.options.retain(|option| option.0 != code);
-    }
-
-    /// Header and options, without End.
-    fn front(&self) -> Vec<u8> {
-        let mut octets = vec![self.version, self.kind];
-        octets.extend(self.family.to_be_bytes());
-        octets.extend(self.transaction.to_be_bytes());
-        for (code, value) in &self.options {
-            octets.extend(option(*code, value));
-        }
-        octets
-    }
-
-    pub fn octets(&self) -> Vec<u8> {
-        let mut octets = self.front();
-        octets.extend([0; 4]);
-        octets
-    }
-}
-
-fn option(code: u16, value: &[u8]) -> Vec<u8> {
-    let mut octets = code.to_be_bytes().to_vec();
-    octets.extend((value.len() as u16).to_be_bytes());
-    octets.extend(value);
-    octets
-}
-
-/// Number: least, desired.
-pub fn number(least: u16, desired: u16) -> Vec<u8> {
-    [least.to_be_bytes(), desired.to_be_bytes()].concat()
-}
+use builder::{option, Message};
 
 /// A value of this option that keeps its length rule.
 pub fn fitting_value(random: &mut Random, code: u16) -> Vec<u8> {

@@ -57,6 +57,15 @@ impl Random {
         }
     }
 
+    /// Octets of which so many of a hundred are below `low`.
+    pub fn low_octets(&mut self, count: usize, percent: usize, low: usize) -> Vec<u8> {
+        let one = |random: &mut Random| match random.chance(percent) {
+            true => random.below(low) as u8,
+            false => random.octet(),
+        };
+        (0..count).map(|_| one(self)).collect()
+    }
+
     pub fn octets(&mut self, count: usize) -> Vec<u8> {
         (0..count).map(|_| self.octet()).collect()
     }

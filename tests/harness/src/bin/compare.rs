@@ -1,7 +1,8 @@
 //! `compare [CASES] [SEED]`: cases made from a seed, run by the proved library and the second program.
 //! `compare --first [CASES] [SEED]` stops at the first case that differs; `compare --case FILE` runs a kept case.
 
-use harness::case::{record, Case};
+use builder::Call;
+use harness::case::Case;
 use harness::compare::{compare, expected, hex};
 use harness::tally::Tally;
 use std::fs;
@@ -108,7 +109,7 @@ fn run_kept(name: &str) -> ExitCode {
             println!("second: file {}", expected.refusal);
             let mut place = 0;
             for (number, answer) in expected.answers.iter().enumerate() {
-                let Some(call) = record(&case.calls, place) else {
+                let Some(call) = Call::read(&case.calls[place..]) else {
                     break;
                 };
                 println!(
@@ -117,10 +118,10 @@ fn run_kept(name: &str) -> ExitCode {
                     call.time,
                     call.client,
                     call.room,
-                    hex(call.datagram)
+                    hex(&call.datagram)
                 );
                 println!("  second: {} {}", answer.outcome, hex(&answer.reply));
-                place = call.next;
+                place += call.length();
             }
         }
     }

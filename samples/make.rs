@@ -1,0 +1,132 @@
+//! Writes campus.bin, a campus file, and morning.bin, the input of the program `replay`: the length of the campus file (2 octets), the
+//! file, and then each call as time (4), client address (4), length of the reply room (2), length of the datagram (2) and the datagram.
+//!
+//!     cargo run --offline --manifest-path tests/builder/Cargo.toml --example samples
+
+use builder::*;
+use std::fs;
+use std::net::Ipv4Addr;
+
+const FOLDER: &str = concat!(env!("CARGO_MANIFEST_DIR"), "/../../samples");
+const CLOCK: u32 = 1_700_000_000;
+const SERVER: u32 = address(10, 1, 1, 1);
+const SMALL: u32 = address(239, 192, 0, 0);
+const LARGE: u32 = address(239, 192, 1, 0);
+
+const fn address(a: u8, b: u8, c: u8, d: u8) -> u32 {
+    Ipv4Addr::new(a, b, c, d).to_bits()
+}
+
+/// Two houses, two scopes, one lease.
+fn campus() -> Vec<u8> {
+    let scope = |lowest, size, ttl, parts: [(u8, u8); 2]| Scope {
+        lowest,
+        size,
+        ttl,
+        parts: parts.to_vec(),
+    };
+    let lease = Lease {
+        house: 2,
+        scope: 2,
+        identifier: b"\0L1".to_vec(),
+        kind: REQUEST,
+        transaction: 0x00C0_FFEE,
+        start: CLOCK - 600,
+        end: CLOCK + 3000,
+        offsets: vec![0, 1, 3],
+    };
+    Campus {
+        server: SERVER,
+        clock: CLOCK,
+        houses: vec![
+            (address(10, 0, 1, 0), address(10, 0, 1, 255)),
+            (address(10, 0, 2, 0), address(10, 0, 2, 255)),
+        ],
+        scopes: vec![
+            scope(SMALL, 4, 15, [(2, 3), (1, 4)]),
+            scope(LARGE, 16, 31, [(4, 8), (4, 12)]),
+        ],
+        leases: vec![lease],
+    }
+    .octets()
+}
+
+/// The morning's calls: when each comes (seconds after the file's clock), from where, the datagram, the reply room.
+#[rustfmt::skip]
+fn calls() -> Vec<(u32, u32, Vec<u8>, u16)> {
+    let (one, two, stranger) = (address(10, 0, 1, 5), address(10, 0, 2, 200), address(192, 168, 7, 7));
+    let (a, b, c): (&[u8], &[u8], &[u8]) = (b"\0A", b"\0B", b"\0C");
+    let message = |kind: u8, transaction: u32, of: &[u8], options: &[Coded]| {
+        Message::new(kind, transaction, [&[identifier(of)], options].concat()).octets()
+    };
+    let requested = message(REQUEST, 3, a, &[server_identifier(SERVER), scope(SMALL), number(1, 2), lease_time(3600)]);
+    let info = |transaction, options: &[Coded]| message(GETINFO, transaction, c, options);
+    vec![
+        // GETINFO asking for the scope list and the time
+        (10, one, message(GETINFO, 1, a, &[option_request_list(&[9, 11])]), 512),
+        // DISCOVER, then a REQUEST of what was offered, and the same REQUEST again: a Resend
+        (20, one, message(DISCOVER, 2, a, &[scope(SMALL), number(1, 2), lease_time(3600)]), 512),
+        (21, one, requested.clone(), 512),
+        (25, one, requested, 512),
+        // RENEW for two hours, with Features
+        (600, one, message(RENEW, 4, a, &[lease_time(7200), features([&[1], &[], &[]])]), 512),
+        // house 2 from an hour on: its own three addresses, which are free then, and one more
+        (700, two, message(REQUEST, 5, b, &[scope(LARGE), number(2, 4), start_time(CLOCK + 3600), current_time(CLOCK + 700)]), 512),
+        // a call whose time is before the clock: the clock stays
+        (650, two, message(GETINFO, 6, b, &[option_request_list(&[11])]), 512),
+        // RELEASE, and once more: error 3
+        (900, one, message(RELEASE, 7, a, &[]), 512),
+        (910, one, message(RELEASE, 8, a, &[]), 512),
+        // error 0: four addresses are above house 1's limit
+        (920, one, message(REQUEST, 9, c, &[scope(SMALL), number(4, 4)]), 512),
+        // error 1: no scope
+        (930, one, message(REQUEST, 10, c, &[number(1, 1)]), 512),
+        // error 2: skew 1,801, with Features
+        (940, one, message(REQUEST, 11, c, &[scope(SMALL), current_time(CLOCK + 940 + 1801), features([&[]; 3])]), 512),
+        // error 3: house 1 has no such lease, house 2 has
+        (950, one, message(RENEW, 12, b, &[]), 512),
+        // 2: the reply room is too short
+        (960, one, info(13, &[]), 511),
+        // 3: a stranger
+        (970, stranger, info(14, &[]), 512),
+        // 4: 11 octets
+        (980, one, info(15, &[])[..11].to_vec(), 512),
+        // 5: damaged, the last two octets are gone
+        (990, one, info(16, &[])[..16].to_vec(), 512),
+        // 6: a required feature
+        (1000, one, info(17, &[features([&[], &[], &[1]])]), 512),
+        // 7: a REQUEST to another server
+        (1010, one, message(REQUEST, 18, c, &[server_identifier(SERVER + 1), scope(SMALL)]), 512),
+        // 8: a DISCOVER of an identifier that the house holds
+        (1020, two, message(DISCOVER, 19, b, &[scope(LARGE)]), 512),
+        // the lease of the file has ended: house 2 doesn't hold it any more
+        (3000, two, message(RELEASE, 20, b"\0L1", &[]), 512),
+    ]
+}
+
+fn morning() -> Vec<u8> {
+    let file = campus();
+    let mut octets = [&(file.len() as u16).to_be_bytes()[..], &file].concat();
+    for (after, client, datagram, room) in calls() {
+        let call = Call {
+            time: CLOCK + after,
+            client,
+            room,
+            datagram: datagram.into(),
+        };
+        octets.extend(call.record());
+    }
+    octets
+}
+
+fn main() -> std::io::Result<()> {
+    fs::write(format!("{FOLDER}/campus.bin"), campus())?;
+    fs::write(format!("{FOLDER}/morning.bin"), morning())
+}
+
+#[test]
+fn the_samples_are_as_this_writes_them() -> std::io::Result<()> {
+    assert!(fs::read(format!("{FOLDER}/campus.bin"))? == campus());
+    assert!(fs::read(format!("{FOLDER}/morning.bin"))? == morning());
+    Ok(())
+}

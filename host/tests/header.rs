@@ -51,69 +51,49 @@ fn the_header_and_the_crate_agree() {
     assert_eq!(named(), expected);
 }
 
-/// The header's functions in Rust's words, each on one line: `banshorra_check(file: *const u8, file_length: usize) -> u8`.
-fn declared() -> Vec<String> {
-    let text: String = HEADER.lines().map(str::trim).collect();
-    let mut found = vec![];
-    for result in ["uint8_t", "size_t"] {
-        for (at, _) in text.match_indices(&format!("{result} banshorra_")) {
-            let (name, rest) = text[at + result.len() + 1..].split_once('(').expect("(");
-            let parameters = rest.split(')').next().expect(")").split(',').map(parameter);
-            let parameters: Vec<String> = parameters.collect();
-            found.push(format!(
-                "{name}({}) -> {}",
-                parameters.join(", "),
-                in_rust(result)
-            ));
-        }
-    }
-    found.sort();
-    found
+/// C's types in Rust's words.
+const KINDS: [(&str, &str); 6] = [
+    ("const uint8_t *", "*const u8"),
+    ("uint8_t *", "*mut u8"),
+    ("size_t *", "*mut usize"),
+    ("uint8_t ", "u8"),
+    ("uint32_t ", "u32"),
+    ("size_t ", "usize"),
+];
+
+/// Of `const uint8_t *file`: `file` and `*const u8`.
+fn in_rust(declared: &str) -> (&str, &str) {
+    let kind = |(c, rust)| Some((declared.trim().strip_prefix(c)?, rust));
+    KINDS.into_iter().find_map(kind).expect("a type and a name")
 }
 
-/// Of `const uint8_t *file`: `file: *const u8`.
-fn parameter(words: &str) -> String {
-    let words = words.trim();
-    let (constant, words) = words
-        .strip_prefix("const ")
-        .map_or((false, words), |rest| (true, rest));
-    let (kind, name) = words.split_once(' ').expect("a type and a name");
-    let pointer = match (name.starts_with('*'), constant) {
-        (false, _) => "",
-        (true, false) => "*mut ",
-        (true, true) => "*const ",
-    };
-    format!(
-        "{}: {pointer}{}",
-        name.trim_start_matches('*'),
-        in_rust(kind)
-    )
-}
-
-fn in_rust(kind: &str) -> &str {
-    match kind {
-        "uint8_t" => "u8",
-        "uint32_t" => "u32",
-        "size_t" => "usize",
-        other => panic!("{other}"),
-    }
+/// A function of the header as Rust declares it.
+fn function(declared: &str) -> String {
+    let (head, parameters) = declared.split_once('(').expect("parameters");
+    let (name, result) = in_rust(head);
+    let parameters = parameters.split(',').map(in_rust);
+    let parameters: Vec<_> = parameters
+        .map(|(name, kind)| format!("{name}: {kind}"))
+        .collect();
+    format!("fn {name}({}) -> {result};", parameters.join(", "))
 }
 
 #[test]
 fn the_header_and_the_crate_declare_the_same_functions() {
-    let words: Vec<&str> = include_str!("../src/library.rs")
-        .split_whitespace()
-        .collect();
-    let text = words.join(" ").replace("( ", "(").replace(", )", ")");
-    let declarations = text.match_indices("fn banshorra_").map(|(at, _)| {
-        text[at + 3..]
-            .split(';')
-            .next()
-            .expect("a declaration")
-            .to_string()
+    let plain = |text: &str| text.split_whitespace().collect::<Vec<_>>().join(" ");
+    let crates = plain(include_str!("../src/library.rs"))
+        .replace("( ", "(")
+        .replace(", )", ")");
+    let header = plain(HEADER);
+    let declarations = header.split_inclusive("*/").filter_map(|part| {
+        let (declaration, _) = part.trim().split_once(");")?;
+        declaration
+            .contains(" banshorra_")
+            .then(|| function(declaration))
     });
-    let mut declarations: Vec<String> = declarations.collect();
-    declarations.sort();
-    assert_eq!(declared(), declarations);
-    assert_eq!(declarations.len(), 4);
+    let declarations: Vec<String> = declarations.collect();
+    assert_eq!(declarations.len(), crates.matches("fn banshorra_").count());
+    for declaration in declarations {
+        assert!(crates.contains(&declaration), "{declaration}");
+    }
 }

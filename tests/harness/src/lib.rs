@@ -1,5 +1,5 @@
 //! What compares the proved library with the second program, and measures both: cases made from a seed, both
-//! implementations in one process, every octet compared.
+//! implementations in one process, every octet compared. And what tries the library by itself, each call watched.
 
 pub mod calls;
 pub mod campus;
@@ -11,6 +11,7 @@ pub mod message;
 pub mod random;
 pub mod room;
 pub mod tally;
+pub mod watch;
 
 /// Numbers of document 01.
 pub const SKEW: u32 = 1_800;

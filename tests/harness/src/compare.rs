@@ -1,19 +1,19 @@
 //! One case, run by both implementations in this process and compared octet for octet.
 
 use crate::case::Case;
-use crate::room::Room;
+use crate::lent::{Held, Lender};
 use crate::tally::Tally;
 use crate::LONGEST_FILE;
-use banshorra_host::{library, ANSWER_ROOM, BOARD_ROOM};
+use banshorra_host::{ANSWER_ROOM, BOARD_ROOM};
 use builder::Call;
-use std::panic::catch_unwind;
+use std::panic::{catch_unwind, AssertUnwindSafe};
 
 /// Refusals of the C interface.
 const FILE_ROOM_SHORT: u8 = 23;
 const CUT_OFF: u8 = 24;
 const ANSWERS_FULL: u8 = 27;
-/// What numbers that the library has to set hold before.
-const UNSET: usize = 0x5A5A;
+/// Octets around each lent buffer are watched.
+const LENDER: Lender = Lender { around: 32 };
 
 /// What differed first.
 pub type Difference = String;
@@ -73,65 +73,58 @@ fn second(case: &Case) -> Expected {
     }
 }
 
-/// The second program's part; a panic of it is a difference like any other.
+/// What panics is a difference like any other.
+fn caught<T>(work: impl FnOnce() -> T) -> Result<T, Difference> {
+    catch_unwind(AssertUnwindSafe(work)).map_err(|panic| match panic.downcast::<String>() {
+        Ok(text) => *text,
+        Err(panic) => panic
+            .downcast::<&str>()
+            .map_or("a panic".into(), |text| text.to_string()),
+    })
+}
+
+/// The second program's part.
 pub fn expected(case: &Case) -> Result<Expected, Difference> {
-    catch_unwind(|| second(case)).map_err(|_| "the second program panicked".to_string())
+    caught(|| second(case)).map_err(|why| format!("the second program panicked: {why}"))
 }
 
-fn same<T: PartialEq + std::fmt::Debug>(
-    what: &str,
-    library: T,
-    second: T,
-) -> Result<(), Difference> {
-    if library == second {
-        return Ok(());
+fn same<T: PartialEq + std::fmt::Debug>(what: &str, library: T, second: T) {
+    if library != second {
+        panic!("{what}: the library says {library:?}, the second program {second:?}");
     }
-    Err(format!(
-        "{what}: the library says {library:?}, the second program {second:?}"
-    ))
 }
 
-fn same_octets(what: &str, library: &[u8], second: &[u8]) -> Result<(), Difference> {
-    if library == second {
-        return Ok(());
+fn same_octets(what: &str, library: &[u8], second: &[u8]) {
+    if library != second {
+        let equal = library.iter().zip(second).take_while(|(a, b)| a == b);
+        panic!(
+            "{what}: octet {} of {} and {} differs\n  library {}\n  second  {}",
+            equal.count(),
+            library.len(),
+            second.len(),
+            hex(library),
+            hex(second)
+        );
     }
-    let place = library
-        .iter()
-        .zip(second)
-        .take_while(|(a, b)| a == b)
-        .count();
-    Err(format!(
-        "{what}: octet {place} of {} and {} differs\n  library {}\n  second  {}",
-        library.len(),
-        second.len(),
-        hex(library),
-        hex(second)
-    ))
 }
 
 pub fn hex(octets: &[u8]) -> String {
     octets.iter().map(|octet| format!("{octet:02x}")).collect()
 }
 
-fn holds(what: &str, kept: bool) -> Result<(), Difference> {
-    if kept {
-        Ok(())
-    } else {
-        Err(what.to_string())
-    }
-}
-
 /// Compares a case. A number made of its octets chooses rooms, so that a kept case runs in the same way.
 pub fn compare(case: &Case, tally: &mut Tally) -> Result<(), Difference> {
     let expected = expected(case)?;
     let choice = choice(case);
-    check(case, &expected)?;
-    board(case, &expected, choice)?;
-    serve(case, &expected, choice)?;
-    replay(case, &expected, choice, tally)?;
-    if choice.is_multiple_of(4) {
-        lent_rooms(case, tally)?;
-    }
+    caught(|| {
+        same("check", LENDER.check(&case.file), expected.refusal);
+        board(case, &expected, choice);
+        serve(case, &expected, choice);
+        replay(case, &expected, choice, tally);
+        if choice.is_multiple_of(4) {
+            lent_rooms(case, tally);
+        }
+    })?;
     count(case, &expected, tally);
     Ok(())
 }
@@ -157,136 +150,52 @@ fn count(case: &Case, expected: &Expected, tally: &mut Tally) {
     }
 }
 
-fn check(case: &Case, expected: &Expected) -> Result<(), Difference> {
-    same("check", library::check(&case.file), expected.refusal)
-}
-
 /// The text in a room that is exactly large enough by its rule, or larger; nothing where it is smaller.
-fn board(case: &Case, expected: &Expected, choice: usize) -> Result<(), Difference> {
-    let mut room = Room::new(BOARD_ROOM + [0, 0, 1, 900][choice % 4]);
-    let length = library::board(&case.file, room.part());
-    same("board: length", length, expected.board.len())?;
-    same_octets("board", &room.part()[..length], expected.board.as_bytes())?;
-    holds(
-        "board: octets past the text changed",
-        room.holds_only(expected.board.as_bytes()),
-    )?;
+fn board(case: &Case, expected: &Expected, choice: usize) {
+    let text = LENDER.board(&case.file, BOARD_ROOM + [0, 0, 1, 900][choice % 4]);
+    same_octets("board", &text, expected.board.as_bytes());
     if choice % 8 == 1 {
-        let mut room = Room::new([0, 11, BOARD_ROOM - 1][choice / 8 % 3]);
-        same(
-            "board: length in a short room",
-            library::board(&case.file, room.part()),
-            0,
-        )?;
-        holds("board: a short room changed", room.holds_only(&[]))?;
+        let text = LENDER.board(&case.file, [0, 11, BOARD_ROOM - 1][choice / 8 % 3]);
+        same_octets("board in a short room", &text, &[]);
     }
-    Ok(())
 }
 
-/// A room for the campus file: just large enough, or larger.
-fn file_room(case: &Case, choice: usize) -> Room {
-    let length = LONGEST_FILE.max(case.file.len()) + [0, 0, 1, 5_000][choice / 4 % 4];
-    Room::holding(&case.file, length)
+/// The campus file in a room that is just large enough, or larger.
+fn held(case: &Case, choice: usize) -> Held {
+    let length = case.file.len();
+    let room = LONGEST_FILE.max(length) + [0, 0, 1, 5_000][choice / 4 % 4];
+    LENDER.hold(&case.file, room, length)
 }
 
-/// The file after a call: these octets, and those past them as they were before it.
-fn same_file(
-    what: &str,
-    room: &mut Room,
-    length: usize,
-    before: &[u8],
-    file: &[u8],
-) -> Result<(), Difference> {
-    same(&format!("{what}: file length"), length, file.len())?;
-    same_octets(&format!("{what}: file"), &room.part()[..length], file)?;
-    holds(
-        &format!("{what}: octets past the file changed"),
-        room.part()[length..] == before[length..],
-    )?;
-    holds(
-        &format!("{what}: octets around the file's room changed"),
-        room.guards_stand(),
-    )
+/// A call at time 0 from address 0.
+fn call(datagram: &[u8]) -> Call<'_> {
+    Call {
+        time: 0,
+        client: 0,
+        room: 600,
+        datagram: datagram.into(),
+    }
 }
 
 /// The list call by call, each on the file that the call before left.
-fn serve(case: &Case, expected: &Expected, choice: usize) -> Result<(), Difference> {
-    let mut file = file_room(case, choice);
-    let mut file_length = case.file.len();
+fn serve(case: &Case, expected: &Expected, choice: usize) {
+    let mut held = held(case, choice);
     if expected.refusal != 0 {
-        let none = Call {
-            time: 0,
-            client: 0,
-            room: 600,
-            datagram: vec![].into(),
-        };
-        let call = Call::read(&case.calls).unwrap_or(none);
-        let before = file.part().to_vec();
-        let mut reply = Room::new(call.room.into());
-        let mut reply_length = UNSET;
-        let outcome = serve_call(
-            &call,
-            &mut file,
-            &mut file_length,
-            &mut reply,
-            &mut reply_length,
+        let call = Call::read(&case.calls).unwrap_or(call(&[]));
+        same(
+            "serve",
+            LENDER.serve(&mut held, &call, 0).0,
+            expected.refusal,
         );
-        same("serve", outcome, expected.refusal)?;
-        same("serve: reply length", reply_length, 0)?;
-        holds("serve: the reply room changed", reply.holds_only(&[]))?;
-        return same_file("serve", &mut file, file_length, &before, &case.file);
     }
     for (number, answer) in expected.answers.iter().enumerate() {
         let what = format!("serve, call {}", number + 1);
-        let Some(call) = Call::read(&case.calls[answer.place..]) else {
-            break;
-        };
-        let before = file.part().to_vec();
-        let mut reply = Room::new(call.room.into());
-        let mut reply_length = UNSET;
-        let outcome = serve_call(
-            &call,
-            &mut file,
-            &mut file_length,
-            &mut reply,
-            &mut reply_length,
-        );
-        same(&what, outcome, answer.outcome)?;
-        same(
-            &format!("{what}: reply length"),
-            reply_length,
-            answer.reply.len(),
-        )?;
-        same_octets(
-            &format!("{what}: reply"),
-            &reply.part()[..reply_length],
-            &answer.reply,
-        )?;
-        holds(
-            &format!("{what}: octets past the reply changed"),
-            reply.holds_only(&answer.reply),
-        )?;
-        same_file(&what, &mut file, file_length, &before, &answer.file)?;
+        let call = Call::read(&case.calls[answer.place..]).expect("an answered call's record");
+        let (outcome, reply) = LENDER.serve(&mut held, &call, 0);
+        same(&what, outcome, answer.outcome);
+        same_octets(&format!("{what}: reply"), &reply, &answer.reply);
+        same_octets(&format!("{what}: file"), held.file(), &answer.file);
     }
-    Ok(())
-}
-
-fn serve_call(
-    call: &Call,
-    file: &mut Room,
-    file_length: &mut usize,
-    reply: &mut Room,
-    reply_length: &mut usize,
-) -> u8 {
-    library::serve(
-        file.part(),
-        file_length,
-        &call.datagram,
-        call.client,
-        call.time,
-        reply.part(),
-        reply_length,
-    )
 }
 
 /// What `replay` has to give in a room of answers.
@@ -331,65 +240,34 @@ fn replayed<'a>(case: &'a Case, expected: &'a Expected, answers_room: usize) -> 
 }
 
 /// The list as a whole: with ample room for the answers, with just enough, and with one octet too few for some call.
-fn replay(
-    case: &Case,
-    expected: &Expected,
-    choice: usize,
-    tally: &mut Tally,
-) -> Result<(), Difference> {
+fn replay(case: &Case, expected: &Expected, choice: usize, tally: &mut Tally) {
     let count = expected.answers.len();
     let mut rooms = vec![ANSWER_ROOM * (count + 1) + choice % 700];
     if count > 0 {
         let up_to = |calls: usize| -> usize {
-            expected.answers[..calls]
-                .iter()
-                .map(|a| 3 + a.reply.len())
-                .sum()
+            let answers = expected.answers[..calls].iter();
+            answers.map(|answer| 3 + answer.reply.len()).sum()
         };
         rooms.push(up_to(count - 1) + ANSWER_ROOM);
         rooms.push(up_to(choice / 16 % count) + ANSWER_ROOM - 1);
     }
-    for answers_room in rooms {
-        let wanted = replayed(case, expected, answers_room);
-        let what = format!("replay in {answers_room}");
-        let mut file = file_room(case, choice / 2);
-        let before = file.part().to_vec();
-        let mut answers = Room::new(answers_room);
-        let (mut length, mut used, mut filled) = (case.file.len(), UNSET, UNSET);
-        let code = library::replay(
-            file.part(),
-            &mut length,
-            &case.calls,
-            &mut used,
-            answers.part(),
-            &mut filled,
-        );
-        same(&what, code, wanted.code)?;
-        same(&format!("{what}: calls used"), used, wanted.used)?;
-        same(
-            &format!("{what}: answers filled"),
-            filled,
-            wanted.answers.len(),
-        )?;
-        same_octets(
-            &format!("{what}: answers"),
-            &answers.part()[..filled],
-            &wanted.answers,
-        )?;
-        holds(
-            &format!("{what}: octets past the answers changed"),
-            answers.holds_only(&wanted.answers),
-        )?;
-        same_file(&what, &mut file, length, &before, wanted.file)?;
+    for room in rooms {
+        let what = format!("replay in {room}");
+        let wanted = replayed(case, expected, room);
+        let mut held = held(case, choice / 2);
+        let (code, used, answers) = LENDER.replay(&mut held, &case.calls, room);
+        same(&what, code, wanted.code);
+        same(&format!("{what}: calls used"), used, wanted.used);
+        same_octets(&format!("{what}: answers"), &answers, &wanted.answers);
+        same_octets(&format!("{what}: file"), held.file(), wanted.file);
         if expected.refusal == 0 {
             tally.code(code);
         }
     }
-    Ok(())
 }
 
 /// A room for the file that is too short (23), then a file length above the room (24): nothing changes.
-fn lent_rooms(case: &Case, tally: &mut Tally) -> Result<(), Difference> {
+fn lent_rooms(case: &Case, tally: &mut Tally) {
     let front = &case.file[..case.file.len().min(600)];
     for (room, length, refusal) in [
         (LONGEST_FILE - 1, front.len(), FILE_ROOM_SHORT),
@@ -397,48 +275,11 @@ fn lent_rooms(case: &Case, tally: &mut Tally) -> Result<(), Difference> {
         (LONGEST_FILE, LONGEST_FILE + 1, CUT_OFF),
     ] {
         let what = format!("{refusal} in a file room of {room}");
-        let mut file = Room::holding(front, room);
-        let mut reply = Room::new(600);
-        let (mut file_length, mut reply_length) = (length, UNSET);
-        let outcome = library::serve(
-            file.part(),
-            &mut file_length,
-            &case.calls,
-            0,
-            0,
-            reply.part(),
-            &mut reply_length,
-        );
-        same(&format!("serve, {what}"), outcome, refusal)?;
-        same(
-            &format!("serve, {what}: lengths"),
-            (file_length, reply_length),
-            (length, 0),
-        )?;
-        holds(
-            &format!("serve, {what}: a room changed"),
-            file.holds_only(front) && reply.holds_only(&[]),
-        )?;
-        let (mut used, mut filled) = (UNSET, UNSET);
-        let code = library::replay(
-            file.part(),
-            &mut file_length,
-            &case.calls,
-            &mut used,
-            reply.part(),
-            &mut filled,
-        );
-        same(&format!("replay, {what}"), code, refusal)?;
-        same(
-            &format!("replay, {what}: lengths"),
-            (file_length, used, filled),
-            (length, 0, 0),
-        )?;
-        holds(
-            &format!("replay, {what}: a room changed"),
-            file.holds_only(front) && reply.holds_only(&[]),
-        )?;
+        let mut held = LENDER.hold(front, room, length);
+        let (outcome, _) = LENDER.serve(&mut held, &call(&case.calls), 0);
+        same(&format!("serve, {what}"), outcome, refusal);
+        let replayed = LENDER.replay(&mut held, &case.calls, 600);
+        same(&format!("replay, {what}"), replayed, (refusal, 0, vec![]));
         tally.code(refusal);
     }
-    Ok(())
 }

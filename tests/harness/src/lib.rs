@@ -7,9 +7,9 @@ pub mod case;
 pub mod compare;
 pub mod damage;
 pub mod jobs;
+pub mod lent;
 pub mod message;
 pub mod random;
-pub mod room;
 pub mod tally;
 pub mod watch;
 

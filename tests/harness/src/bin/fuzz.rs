@@ -8,7 +8,7 @@ use harness::calls;
 use harness::campus::sound;
 use harness::damage::{battered, DAMAGES};
 use harness::random::Random;
-use harness::watch::{Held, Watch};
+use harness::watch::{Watch, EXACT};
 use std::process::ExitCode;
 
 /// A run of so many cases that never saw one of the numbers would be no fuzz run.
@@ -47,7 +47,7 @@ fn run(random: &mut Random, watch: &mut Watch) {
         25..60 => serves(random, watch, &campus),
         60..75 => {
             let file = campus.octets();
-            let mut held = Held::new(&file, file_room(random), file.len());
+            let mut held = EXACT.hold(&file, file_room(random), file.len());
             let edges = [0, 1, ANSWER_ROOM - 1, ANSWER_ROOM, ANSWER_ROOM + 1];
             let answers_room = room(random, 8 * ANSWER_ROOM, &edges, 3_000);
             watch.replay(&mut held, &any_list(random, &campus), answers_room);
@@ -78,13 +78,13 @@ fn text_room(random: &mut Random) -> usize {
 fn serves(random: &mut Random, watch: &mut Watch, campus: &Campus) {
     let file = campus.octets();
     assert_eq!(watch.check(&file), 0, "a file made to be sound is refused");
-    let mut held = Held::new(&file, file_room(random), file.len());
+    let mut held = EXACT.hold(&file, file_room(random), file.len());
     let count = random.between(1, 8);
     for call in any_calls(random, campus, count) {
         watch.serve(&mut held, &call);
     }
     if random.chance(20) {
-        watch.board(held.parts().0, text_room(random));
+        watch.board(held.file(), text_room(random));
     }
 }
 
@@ -110,7 +110,7 @@ fn refusals(random: &mut Random, watch: &mut Watch, campus: &Campus) {
         let any = random.below(30_000);
         length = random.pick(&[&[0, 1, space, any], &past[..]].concat());
     }
-    let mut held = Held::new(&file, space, length);
+    let mut held = EXACT.hold(&file, space, length);
     if random.chance(60) {
         watch.serve(&mut held, &any_calls(random, campus, 1)[0]);
     } else {

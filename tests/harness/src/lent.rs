@@ -1,0 +1,199 @@
+//! The library's functions on lent buffers, and what has to hold of memory in every call: only what is written by the function's terms has
+//! changed, and what was written lies within its room. What isn't so is a panic.
+
+use banshorra_host::library::*;
+use builder::Call;
+
+/// A buffer that is lent: on the heap, and just as long as the library is told, so that valgrind sees any octet outside; or with so many
+/// octets around it, to see those that are written.
+#[derive(Clone, PartialEq)]
+struct Room {
+    octets: Box<[u8]>,
+    around: usize,
+}
+
+impl Room {
+    fn part(&self) -> &[u8] {
+        &self.octets[self.around..self.octets.len() - self.around]
+    }
+
+    fn at(&mut self) -> *mut u8 {
+        self.octets[self.around..].as_mut_ptr()
+    }
+
+    /// Whether all octets besides the first of its part, and those around it, are as they were.
+    fn differs_in_first(&self, length: usize, before: &Room) -> bool {
+        let (from, to) = (self.around, self.around + length);
+        self.octets[..from] == before.octets[..from] && self.octets[to..] == before.octets[to..]
+    }
+}
+
+/// A campus file in the front of a buffer, and the length that the library is told of it.
+#[derive(Clone, PartialEq)]
+pub struct Held {
+    room: Room,
+    length: Box<usize>,
+}
+
+impl Held {
+    pub fn room(&self) -> usize {
+        self.room.part().len()
+    }
+
+    pub fn length(&self) -> usize {
+        *self.length
+    }
+
+    /// As much of the file as there is.
+    pub fn file(&self) -> &[u8] {
+        &self.room.part()[..self.room().min(*self.length)]
+    }
+
+    /// After a call: only the file itself differs, or nothing.
+    fn see(&self, before: &Held, unchanged: bool) {
+        if unchanged {
+            assert!(self == before, "what changes nothing changed the file");
+        } else {
+            let (length, room) = (*self.length, self.room());
+            assert!(length <= room, "a file of {length} octets in {room}");
+            let past = self.room.differs_in_first(length, &before.room);
+            assert!(past, "octets past the file have changed");
+        }
+    }
+
+    /// The same file with other octets past it.
+    pub fn with_other_octets(&self) -> Held {
+        let mut other = self.clone();
+        let past = other.room.around + self.file().len()..other.room.around + self.room();
+        other.room.octets[past]
+            .iter_mut()
+            .for_each(|octet| *octet ^= 0x42);
+        other
+    }
+}
+
+/// Lends buffers with so many octets around them.
+#[derive(Clone, Copy)]
+pub struct Lender {
+    pub around: usize,
+}
+
+impl Lender {
+    /// Octets to see a write by.
+    fn painted(self, length: usize, salt: u8) -> Room {
+        let octet = |n: usize| (n * 7 + (n >> 8)) as u8 ^ salt;
+        Room {
+            octets: (0..length + 2 * self.around).map(octet).collect(),
+            around: self.around,
+        }
+    }
+
+    fn copy(self, octets: &[u8]) -> Room {
+        let mut room = self.painted(octets.len(), 0x24);
+        room.octets[self.around..][..octets.len()].copy_from_slice(octets);
+        room
+    }
+
+    /// A buffer with as much of a file as fits, and the length that is told of it.
+    pub fn hold(self, file: &[u8], room: usize, length: usize) -> Held {
+        let mut held = self.painted(room, 0xC3);
+        let fits = file.len().min(room);
+        held.octets[self.around..][..fits].copy_from_slice(&file[..fits]);
+        Held {
+            room: held,
+            length: Box::new(length),
+        }
+    }
+
+    /// 0 for an accepted campus file, or its refusal.
+    pub fn check(self, file: &[u8]) -> u8 {
+        let mut lent = self.copy(file);
+        // SAFETY: here and below, pointers and lengths are those of buffers that don't overlap.
+        let number = unsafe { banshorra_check(lent.at(), file.len()) };
+        assert!(lent == self.copy(file), "check changed the file");
+        number
+    }
+
+    /// The board's text.
+    pub fn board(self, file: &[u8], room: usize) -> Vec<u8> {
+        let (mut lent, before) = (self.copy(file), self.painted(room, 0x5A));
+        let mut text = before.clone();
+        // SAFETY: as above.
+        let filled = unsafe { banshorra_board(lent.at(), file.len(), text.at(), room) };
+        assert!(lent == self.copy(file), "board changed the file");
+        assert!(filled <= room, "board filled {filled} of {room}");
+        assert!(
+            text.differs_in_first(filled, &before),
+            "board wrote past its text"
+        );
+        text.part()[..filled].to_vec()
+    }
+
+    /// One call, in a reply room that is painted with `salt`: its number and reply. A refusal and discard 2 change nothing.
+    pub fn serve(self, held: &mut Held, call: &Call, salt: u8) -> (u8, Vec<u8>) {
+        let (stood, before) = (held.clone(), self.painted(call.room.into(), salt));
+        let (mut datagram, mut reply) = (self.copy(&call.datagram), before.clone());
+        let mut length = Box::new(usize::MAX);
+        // SAFETY: as above.
+        let number = unsafe {
+            banshorra_serve(
+                held.room.at(),
+                held.room(),
+                &mut *held.length,
+                datagram.at(),
+                call.datagram.len(),
+                call.client,
+                call.time,
+                reply.at(),
+                call.room.into(),
+                &mut *length,
+            )
+        };
+        let same = datagram == self.copy(&call.datagram);
+        assert!(same, "serve changed the datagram");
+        assert!(
+            *length <= call.room.into(),
+            "a reply of {length} octets in {}",
+            call.room
+        );
+        assert!(
+            reply.differs_in_first(*length, &before),
+            "serve wrote past its reply"
+        );
+        assert!(
+            number == 0 || *length == 0,
+            "a reply of {length} octets with {number}"
+        );
+        held.see(&stood, number == 2 || number > 8);
+        (number, reply.part()[..*length].to_vec())
+    }
+
+    /// A list of calls: its number, the octets of calls used, the answers. Where none is used nothing changes.
+    pub fn replay(self, held: &mut Held, list: &[u8], room: usize) -> (u8, usize, Vec<u8>) {
+        let (stood, before) = (held.clone(), self.painted(room, 0x99));
+        let (mut calls, mut answers) = (self.copy(list), before.clone());
+        let (mut used, mut filled) = (Box::new(usize::MAX), Box::new(usize::MAX));
+        // SAFETY: as above.
+        let number = unsafe {
+            banshorra_replay(
+                held.room.at(),
+                held.room(),
+                &mut *held.length,
+                calls.at(),
+                list.len(),
+                &mut *used,
+                answers.at(),
+                room,
+                &mut *filled,
+            )
+        };
+        assert!(calls == self.copy(list), "replay changed the calls");
+        assert!(*filled <= room, "replay filled {filled} of {room}");
+        assert!(
+            answers.differs_in_first(*filled, &before),
+            "replay wrote past its answers"
+        );
+        held.see(&stood, *used == 0);
+        (number, *used, answers.part()[..*filled].to_vec())
+    }
+}

@@ -2,7 +2,10 @@
 import collections
 import os
 import re
+import signal
 import subprocess
+
+signal.signal(signal.SIGPIPE, signal.SIG_DFL)  # a reader such as head may stop early
 
 Block = collections.namedtuple("Block", "kind public name statement body")
 # kind: "definition" (unfoldable, abbrev, record, data, or of a type of data), "law" (the rest, cited by its statement alone), "ruleset".
@@ -139,7 +142,7 @@ def declarations(text):
             end()
             kind = "ruleset" if found[3] == "ruleset" else "definition" if found[1] or found[3] else "law"
             above = "".join(m[1] for m in modules)
-            current = [kind, bool(found[2]), found[4], above, [words], []]
+            current = [kind, bool(found[2]), found[4], above, [words.replace("pub ", "", 1) if found[2] else words], []]
         elif current:
             current[5].append(line)
     end()

@@ -142,7 +142,7 @@ def declarations(text):
             end()
             kind = "ruleset" if found[3] == "ruleset" else "definition" if found[1] or found[3] else "law"
             above = "".join(m[1] for m in modules)
-            current = [kind, bool(found[2]), found[4], above, [words.replace("pub ", "", 1) if found[2] else words], []]
+            current = [kind, bool(found[2]), found[4], above, [re.sub(r"^(unfoldable |abbrev )?(pub )?", "", words)], []]
         elif current:
             current[5].append(line)
     end()

@@ -1,2 +1,3 @@
 pub mod Steps
 mod Specimens
+mod ValueSpecimens

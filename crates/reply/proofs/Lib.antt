@@ -3,3 +3,4 @@ pub mod ReadBack
 pub mod Short
 mod Specimens
 pub mod RangesBack
+mod BoundSpecimens

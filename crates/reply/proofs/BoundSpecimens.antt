@@ -1,0 +1,63 @@
+-- The longest replies, and replies read back, computed: how many octets each kind has at most, where the reader's walk finds each option, and that
+-- octets past a reply are left.
+use mathlib.Core.Path.{_≡_, refl}
+use mathlib.Core.List.{List, [], _∷_, _++_}
+use mathlib.Core.Bool.{Bool, true, false}
+use Prim.Native.Nat.{ℕ, suc}
+use lib.ListN.{length, replicate}
+use Rattle.lists.specs.Pick.{pick}
+use Rattle.lists.specs.Filter.{isIn}
+use Rattle.octets.specs.Octets.{at16, at32}
+use Rattle.address_set.specs.AddressSet.{bit, joined, namedBy, offsetsFrom, onwards, runs}
+use Rattle.message.specs.Codes.{lengthOk}
+use Rattle.message.specs.Values.{foundAt}
+use Rattle.message.specs.Walk.{exactlyFilled, layoutOk, stepOf, taken, valueOk, walkFrom, walkOf}
+use Rattle.message.specs.declared.Stage.the-variants.{Done}
+use Rattle.reply.specs.Ranges.{addressesIn, rangesFrom}
+use Rattle.reply.specs.Reply.{infoAckOf, leaseAckOf, messageOctets, nakOf, offerOf, optionsOctets, rangesOctets, releaseAckOf, scopesOctets}
+use Rattle.reply.specs.declared.Head.{Head}
+use Rattle.reply.specs.declared.Info.{Info}
+use Rattle.reply.specs.declared.Terms.{Terms}
+
+-- server 10.1.1.1, an identifier of 32 octets, option 12 sent
+head : Head
+head = record { xid = 0x01020304; server = 0x0A010101; id = record { octets = replicate 32 7; len = 32 }; features = true }
+
+-- every second address of 64: 32 ranges, which is the most there can be; and .0, .1, .3
+terms : ℕ → Terms
+terms addresses = record { length = 3600; start = 1000; scope = 0xEFC00000; addresses = addresses; clock = 1000 }
+
+-- four scopes, 9 and 11 asked for
+info : Info
+info = record { scopes = replicate 4 (record { lowest = 0xEFC00000; size = 64; ttl = 15 }); count = 4; «list_asked» = true; clock = 1000; «time_asked» = true }
+
+-- 488 is the most that any reply has (Short.antt): "reply room at least 512"
+longest-offer : length (offerOf head (terms 0x5555555555555555)) ≡ 488
+unfolding head terms bit offsetsFrom joined runs rangesOctets optionsOctets messageOctets offerOf
+longest-offer = refl
+
+longest-ack : length (leaseAckOf head (terms 0x5555555555555555)) ≡ 488
+unfolding head terms bit offsetsFrom joined runs rangesOctets optionsOctets messageOctets leaseAckOf
+longest-ack = refl
+
+longest-info : length (infoAckOf head info) ≡ 121
+unfolding head info scopesOctets optionsOctets messageOctets infoAckOf
+longest-info = refl
+
+longest-release : length (releaseAckOf head) ≡ 68
+unfolding head optionsOctets messageOctets releaseAckOf
+longest-release = refl
+
+longest-nak : length (nakOf head 3) ≡ 74
+unfolding head optionsOctets messageOctets nakOf
+longest-nak = refl
+
+-- ---- read back: the walk ends at End, and each option stands where it was written; the addresses are those that were granted
+ack-walked : walkOf (leaseAckOf head (terms 11))
+    ≡ record { at = 122; stage = Done; places = 0 ∷ 8 ∷ 16 ∷ 26 ∷ 62 ∷ 0 ∷ 70 ∷ 0 ∷ 0 ∷ 0 ∷ 78 ∷ 94 ∷ 102 ∷ 0 ∷ 0 ∷ 0 ∷ 0 ∷ [] }
+unfolding head terms bit offsetsFrom joined runs rangesOctets optionsOctets messageOctets leaseAckOf walkOf walkFrom stepOf layoutOk valueOk exactlyFilled taken lengthOk isIn pick at16
+ack-walked = refl
+
+ack-names : addressesIn (leaseAckOf head (terms 11)) ≡ 0xEFC00000 ∷ 0xEFC00001 ∷ 0xEFC00003 ∷ []
+unfolding head terms bit offsetsFrom joined runs rangesOctets optionsOctets messageOctets leaseAckOf walkOf walkFrom stepOf layoutOk valueOk exactlyFilled taken lengthOk isIn pick at16 at32 addressesIn rangesFrom foundAt namedBy onwards
+ack-names = refl

@@ -4,22 +4,23 @@ use mathlib.Core.List.{List, [], _∷_}
 use lib.ListN.{take}
 use Rattle.lists.specs.Pick.{pick}
 use Rattle.lists.specs.Filter.{filterBy, isIn}
-use Rattle.address_set.specs.AddressSet.{Run, bit, offsetsFrom, offsets, setOf, intersectionOf, differenceOf, lowestOf, joined, runs}
+use Rattle.address_set.specs.declared.Range.{Range}
+use Rattle.address_set.specs.AddressSet.{bit, offsetsFrom, offsets, setOf, intersectionOf, differenceOf, lowestOf, joined, fewestRanges}
 
-p1 : runs (offsets 3) ≡ record { first = 0; count = 2 } ∷ []
-unfolding runs joined offsetsFrom bit
+p1 : fewestRanges (offsets 3) ≡ record { first = 0; count = 2 } ∷ []
+unfolding fewestRanges joined offsetsFrom bit
 p1 = refl
 
-gap : runs (offsets 59) ≡ record { first = 0; count = 2 } ∷ record { first = 3; count = 3 } ∷ []
-unfolding runs joined offsetsFrom bit
+gap : fewestRanges (offsets 59) ≡ record { first = 0; count = 2 } ∷ record { first = 3; count = 3 } ∷ []
+unfolding fewestRanges joined offsetsFrom bit
 gap = refl
 
-ends : runs (offsets 9223372036854775809) ≡ record { first = 0; count = 1 } ∷ record { first = 63; count = 1 } ∷ []
-unfolding runs joined offsetsFrom bit
+ends : fewestRanges (offsets 9223372036854775809) ≡ record { first = 0; count = 1 } ∷ record { first = 63; count = 1 } ∷ []
+unfolding fewestRanges joined offsetsFrom bit
 ends = refl
 
-whole : runs (offsets 18446744073709551615) ≡ record { first = 0; count = 64 } ∷ []
-unfolding runs joined offsetsFrom bit
+whole : fewestRanges (offsets 18446744073709551615) ≡ record { first = 0; count = 64 } ∷ []
+unfolding fewestRanges joined offsetsFrom bit
 whole = refl
 
 lowest-two : lowestOf 59 2 ≡ 3

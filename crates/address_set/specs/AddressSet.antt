@@ -70,42 +70,39 @@ unfoldable pub listed : List ℕ → Offsets
 listed l = record { list = l ++ replicate (64 - length l) 0; count = length l }
 
 -- one offset more at the end, where there is room
-unfoldable pub pushed : Offsets → ℕ → Offsets
-pushed o a = pick (ltb (o .count) 64) (record { list = set (o .list) (o .count) a; count = o .count + 1 }) o
+unfoldable pub pushedOffset : Offsets → ℕ → Offsets
+pushedOffset o a = pick (ltb (o .count) 64) (record { list = set (o .list) (o .count) a; count = o .count + 1 }) o
 
 -- ---- document 01's "fewest ranges, rising": a range is its first offset and its count
-abbrev pub Run : Type 0
-Run = Range
-
-abbrev pub extend : Bool → ℕ → Run → List Run → List Run
+abbrev pub extend : Bool → ℕ → Range → List Range → List Range
 extend true x r rs = record { first = x; count = suc (r .count) } ∷ rs
 extend false x r rs = record { first = x; count = 1 } ∷ r ∷ rs
 
 -- an offset before others: it begins the first range if that follows it, or is a range by itself
-unfoldable pub joined : ℕ → List Run → List Run
+unfoldable pub joined : ℕ → List Range → List Range
 joined x [] = record { first = x; count = 1 } ∷ []
 joined x (r ∷ rs) = extend (eqb (r .first) (suc x)) x r rs
 
-unfoldable pub runs : List ℕ → List Run
-runs [] = []
-runs (x ∷ xs) = joined x (runs xs)
+unfoldable pub fewestRanges : List ℕ → List Range
+fewestRanges [] = []
+fewestRanges (x ∷ xs) = joined x (fewestRanges xs)
 
 -- the offsets that ranges name, one range after the other
 unfoldable pub onwards : ℕ → ℕ → List ℕ
 onwards x zero = []
 onwards x (suc n) = x ∷ onwards (suc x) n
 
-unfoldable pub namedBy : List Run → List ℕ
+unfoldable pub namedBy : List Range → List ℕ
 namedBy [] = []
 namedBy (r ∷ rs) = onwards (r .first) (r .count) ++ namedBy rs
 
 -- the first range; one of no address where there is none
-unfoldable pub firstRun : List Run → Run
-firstRun [] = record { first = 0; count = 0 }
-firstRun (r ∷ rs) = r
+unfoldable pub firstRange : List Range → Range
+firstRange [] = record { first = 0; count = 0 }
+firstRange (r ∷ rs) = r
 
 -- the offsets of m behind a range
-unfoldable pub behind : ℕ → Run → ℕ
+unfoldable pub behind : ℕ → Range → ℕ
 behind m r = setOf (filterBy (λ a. leb (r .first + r .count) a) (offsets m))
 
 -- ---- bit forms, which proofs calculate with

@@ -12,21 +12,22 @@ use Rattle.lists.specs.Pick.{pick}
 use Rattle.lists.specs.All.{All}
 use Rattle.lists.specs.Filter.{filterBy, filter-length, isIn, in-append, in-filter}
 use Rattle.lists.specs.Next.{nextBy}
-use Rattle.address_set.specs.AddressSet.{Run, extend, joined, namedBy, offsets, onwards, rises, risesFrom, runs}
+use Rattle.address_set.specs.declared.Range.{Range}
+use Rattle.address_set.specs.AddressSet.{extend, joined, namedBy, offsets, onwards, rises, risesFrom, fewestRanges}
 use Rattle.address_set.specs.ListLaws.{rises-offsets, rises-step}
 
 -- ---- what is stated
 -- a range, and behind it at least one offset that neither has before the next begins
-unfoldable pub gap : Run → Run → Bool
+unfoldable pub gap : Range → Range → Bool
 gap r q = ltb (r .first + r .count) (q .first)
 
 pub record Fewest (l : List ℕ) : Type 0 where
   -- the ranges name just the offsets of l, each once and rising as in l
-  pub names : namedBy (runs l) ≡ l
+  pub names : namedBy (fewestRanges l) ≡ l
   -- neighbouring ranges do not touch
-  pub apart : nextBy gap (runs l) ≡ true
+  pub apart : nextBy gap (fewestRanges l) ≡ true
   -- ranges that name the same offsets, in any order and as often as they like, are at least as many
-  pub fewest : (rs : List Run) → ((a : ℕ) → isIn a (namedBy rs) ≡ isIn a l) → length (runs l) ≤ length rs
+  pub fewest : (rs : List Range) → ((a : ℕ) → isIn a (namedBy rs) ≡ isIn a l) → length (fewestRanges l) ≤ length rs
 
 -- ---- the offsets of a range
 never : {A : Type 0} {b : Bool} → b ≡ true → b ≡ false → A
@@ -47,10 +48,10 @@ by-equal {A} a x f g = go (eqb a x) refl
     go true e = f (eqb-true a x e)
     go false e = g (eqb-false a x e)
 
-run-in : (a x n : ℕ) → isIn a (onwards x n) ≡ true → (x ≤ a) × (a < x + n)
+range-in : (a x n : ℕ) → isIn a (onwards x n) ≡ true → (x ≤ a) × (a < x + n)
 unfolding onwards isIn
-run-in a x zero h = never h refl
-run-in a x (suc n) h = by-equal a x (λ e. (omega arith, omega arith)) (λ e. let p = run-in a (suc x) n (sym (in-tail a x (onwards (suc x) n) e) ∙ h) in (omega (arith, p .0), omega (arith, p .1)))
+range-in a x zero h = never h refl
+range-in a x (suc n) h = by-equal a x (λ e. (omega arith, omega arith)) (λ e. let p = range-in a (suc x) n (sym (in-tail a x (onwards (suc x) n) e) ∙ h) in (omega (arith, p .0), omega (arith, p .1)))
 
 in-run : (a x n : ℕ) → x ≤ a → a < x + n → isIn a (onwards x n) ≡ true
 unfolding onwards
@@ -74,16 +75,16 @@ unfolding pick
 in-right a x y h = in-append a x y ∙ ap (λ (b : Bool). pick b true (isIn a y)) h
 
 -- ---- ranges with gaps between them, from m on
-unfoldable Gapped : ℕ → List Run → Type 0
+unfoldable Gapped : ℕ → List Range → Type 0
 Gapped m [] = Unit {0}
 Gapped m (r ∷ rs) = (m ≤ r .first) × ((1 ≤ r .count) × Gapped (suc (r .first + r .count)) rs)
 
-runs-gapped : (m : ℕ) (l : List ℕ) → risesFrom m l ≡ true → Gapped m (runs l)
-unfolding runs Gapped joined
-runs-gapped m [] e = tt
-runs-gapped m (x ∷ l) e = let (h, up) = rises-step m x l e in before h (runs l) (runs-gapped (suc x) l up)
+fewest-gapped : (m : ℕ) (l : List ℕ) → risesFrom m l ≡ true → Gapped m (fewestRanges l)
+unfolding fewestRanges Gapped joined
+fewest-gapped m [] e = tt
+fewest-gapped m (x ∷ l) e = let (h, up) = rises-step m x l e in before h (fewestRanges l) (fewest-gapped (suc x) l up)
   where
-    before : m ≤ x → (rs : List Run) → Gapped (suc x) rs → Gapped m (joined x rs)
+    before : m ≤ x → (rs : List Range) → Gapped (suc x) rs → Gapped m (joined x rs)
     before h [] g = (h, (omega arith, tt))
     before h (r ∷ rs) g = go (eqb (r .first) (suc x)) refl
       where
@@ -99,7 +100,7 @@ runs-gapped m (x ∷ l) e = let (h, up) = rises-step m x l e in before h (runs l
             (h, (omega arith, subst (λ (k : ℕ). Gapped k rs) c (g .1 .1)))
         go false p = let q = eqb-false (r .first) (suc x) p in let f = g .0 in (h, (omega arith, (above (r .first) f q, g .1)))
 
-gapped-next : (m : ℕ) (rs : List Run) → Gapped m rs → nextBy gap rs ≡ true
+gapped-next : (m : ℕ) (rs : List Range) → Gapped m rs → nextBy gap rs ≡ true
 unfolding nextBy Gapped gap pick
 gapped-next m [] g = refl
 gapped-next m (r ∷ []) g = refl
@@ -108,21 +109,21 @@ gapped-next m (r ∷ q ∷ rs) g =
     ∙ gapped-next (suc (r .first + r .count)) (q ∷ rs) (g .1 .1)
 
 -- nothing is named below m
-gapped-low : (m : ℕ) (rs : List Run) → Gapped m rs → (a : ℕ) → a < m → isIn a (namedBy rs) ≡ false
+gapped-low : (m : ℕ) (rs : List Range) → Gapped m rs → (a : ℕ) → a < m → isIn a (namedBy rs) ≡ false
 unfolding Gapped namedBy isIn
 gapped-low m [] g a h = refl
 gapped-low m (r ∷ rs) g a h = go (gapped-low (suc (r .first + r .count)) rs (g .1 .1) a (let q = g .0 in omega arith)) (isIn a (onwards (r .first) (r .count))) refl
   where
     go : isIn a (namedBy rs) ≡ false → (b : Bool) → isIn a (onwards (r .first) (r .count)) ≡ b → isIn a (onwards (r .first) (r .count) ++ namedBy rs) ≡ false
-    go low true e = let p = run-in a (r .first) (r .count) e .0 in let q = g .0 in absurd (omega arith)
+    go low true e = let p = range-in a (r .first) (r .count) e .0 in let q = g .0 in absurd (omega arith)
     go low false e = in-right a (onwards (r .first) (r .count)) (namedBy rs) e ∙ low
 
 -- ---- where ranges begin
-firsts : List Run → List ℕ
+firsts : List Range → List ℕ
 firsts [] = []
 firsts (r ∷ rs) = r .first ∷ firsts rs
 
-length-firsts : (rs : List Run) → length (firsts rs) ≡ length rs
+length-firsts : (rs : List Range) → length (firsts rs) ≡ length rs
 unfolding firsts
 length-firsts [] = refl
 length-firsts (r ∷ rs) = ap suc (length-firsts rs)
@@ -132,14 +133,14 @@ record Begins (f : ℕ) (l : List ℕ) : Type 0 where
   here : isIn f l ≡ true
   fresh : (g : ℕ) → suc g ≡ f → isIn g l ≡ false
 
-gapped-above : (m : ℕ) (rs : List Run) → Gapped m rs → (f : ℕ) → isIn f (firsts rs) ≡ true → m ≤ f
+gapped-above : (m : ℕ) (rs : List Range) → Gapped m rs → (f : ℕ) → isIn f (firsts rs) ≡ true → m ≤ f
 unfolding Gapped firsts isIn
 gapped-above m [] g f h = never h refl
 gapped-above m (r ∷ rs) g f h = by-equal f (r .first) (λ e. let p = g .0 in omega arith)
     (λ n. let p = gapped-above (suc (r .first + r .count)) rs (g .1 .1) f (sym (in-tail f (r .first) (firsts rs) n) ∙ h) in let q = g .0 in omega arith)
 
 -- with gaps, each range begins so
-gapped-begins : (m : ℕ) (rs : List Run) → Gapped m rs → (f : ℕ) → isIn f (firsts rs) ≡ true → Begins f (namedBy rs)
+gapped-begins : (m : ℕ) (rs : List Range) → Gapped m rs → (f : ℕ) → isIn f (firsts rs) ≡ true → Begins f (namedBy rs)
 unfolding Gapped firsts namedBy isIn
 gapped-begins m [] g f h = never h refl
 gapped-begins m (r ∷ rs) g f h = by-equal f (r .first) first (later (gapped-begins (suc (r .first + r .count)) rs (g .1 .1) f))
@@ -148,7 +149,7 @@ gapped-begins m (r ∷ rs) g f h = by-equal f (r .first) first (later (gapped-be
     none a n = go (isIn a (onwards (r .first) (r .count))) refl
       where
         go : (b : Bool) → isIn a (onwards (r .first) (r .count)) ≡ b → b ≡ false
-        go true e = absurd (n (run-in a (r .first) (r .count) e))
+        go true e = absurd (n (range-in a (r .first) (r .count) e))
         go false e = refl
 
     first : f ≡ r .first → Begins f (onwards (r .first) (r .count) ++ namedBy rs)
@@ -169,7 +170,7 @@ gapped-begins m (r ∷ rs) g f h = by-equal f (r .first) first (later (gapped-be
         }
 
 -- whatever names such an offset has a range that begins there
-begins-first : (f : ℕ) (rs : List Run) → Begins f (namedBy rs) → isIn f (firsts rs) ≡ true
+begins-first : (f : ℕ) (rs : List Range) → Begins f (namedBy rs) → isIn f (firsts rs) ≡ true
 unfolding firsts namedBy isIn
 begins-first f [] v = never (v .here) refl
 begins-first f (r ∷ rs) v = by-equal f (r .first) (in-head f (r .first) (firsts rs)) (λ n. in-tail f (r .first) (firsts rs) n ∙ go (begins-first f rs) n (isIn f (onwards (r .first) (r .count))) refl)
@@ -193,7 +194,7 @@ begins-first f (r ∷ rs) v = by-equal f (r .first) (in-head f (r .first) (first
             by false p = ltb-false g x p
 
     go : (Begins f (namedBy rs) → isIn f (firsts rs) ≡ true) → (f ≡ r .first → ⊥) → (b : Bool) → isIn f (onwards (r .first) (r .count)) ≡ b → isIn f (firsts rs) ≡ true
-    go ih n true e = let p = run-in f (r .first) (r .count) e in inside (r .first) (r .count) n (p .0) (p .1) under
+    go ih n true e = let p = range-in f (r .first) (r .count) e in inside (r .first) (r .count) n (p .0) (p .1) under
     go ih n false e = ih (record {
       here = sym (in-right f (onwards (r .first) (r .count)) (namedBy rs) e) ∙ v .here;
       fresh = λ g s. sym (in-right g (onwards (r .first) (r .count)) (namedBy rs) (under g s)) ∙ v .fresh g s;
@@ -216,7 +217,7 @@ one-less a (x ∷ l) h = by-equal a x
     stays : eqb x a ≡ false → length (filterBy (other a) (x ∷ l)) ≡ suc (length (filterBy (other a) l))
     stays e = ap (λ (b : Bool). length (pick (not b) (x ∷ filterBy (other a) l) (filterBy (other a) l))) e
 
-as-many : (m : ℕ) (rs : List Run) → Gapped m rs → (ys : List ℕ) → ((f : ℕ) → isIn f (firsts rs) ≡ true → isIn f ys ≡ true) → length rs ≤ length ys
+as-many : (m : ℕ) (rs : List Range) → Gapped m rs → (ys : List ℕ) → ((f : ℕ) → isIn f (firsts rs) ≡ true → isIn f ys ≡ true) → length rs ≤ length ys
 unfolding Gapped firsts other pick
 as-many m [] g ys h = omega arith
 as-many m (r ∷ rs) g ys h =
@@ -229,25 +230,25 @@ as-many m (r ∷ rs) g ys h =
 
 -- ---- the ranges of a rising list
 -- they name just the offsets that they are made of
-pub ranges-name : (l : List ℕ) → namedBy (runs l) ≡ l
-unfolding namedBy onwards runs joined
+pub ranges-name : (l : List ℕ) → namedBy (fewestRanges l) ≡ l
+unfolding namedBy onwards fewestRanges joined
 ranges-name [] = refl
-ranges-name (x ∷ l) = before (runs l) (ranges-name l)
+ranges-name (x ∷ l) = before (fewestRanges l) (ranges-name l)
   where
-    next : (r : Run) (rs : List Run) (q : Bool) → eqb (r .first) (suc x) ≡ q → namedBy (extend q x r rs) ≡ x ∷ namedBy (r ∷ rs)
+    next : (r : Range) (rs : List Range) (q : Bool) → eqb (r .first) (suc x) ≡ q → namedBy (extend q x r rs) ≡ x ∷ namedBy (r ∷ rs)
     next r rs true e = ap (λ (y : ℕ). x ∷ (onwards y (r .count) ++ namedBy rs)) (sym (eqb-true (r .first) (suc x) e))
     next r rs false e = refl
 
-    before : (rs : List Run) → namedBy rs ≡ l → namedBy (joined x rs) ≡ x ∷ l
+    before : (rs : List Range) → namedBy rs ≡ l → namedBy (joined x rs) ≡ x ∷ l
     before [] e = ap (λ (y : List ℕ). x ∷ y) e
     before (r ∷ rs) e = next r rs (eqb (r .first) (suc x)) refl ∙ ap (λ (y : List ℕ). x ∷ y) e
 
 pub fewest-ranges : (l : List ℕ) → rises l ≡ true → Fewest l
 fewest-ranges l up = record {
   names = ranges-name l;
-  apart = gapped-next 0 (runs l) gapped;
+  apart = gapped-next 0 (fewestRanges l) gapped;
   fewest = λ rs same.
-      let h = as-many 0 (runs l) gapped (firsts rs) (λ f k. begins-first f rs (let v = gapped-begins 0 (runs l) gapped f k in record {
+      let h = as-many 0 (fewestRanges l) gapped (firsts rs) (λ f k. begins-first f rs (let v = gapped-begins 0 (fewestRanges l) gapped f k in record {
         here = same f ∙ sym (named f) ∙ v .here;
         fresh = λ g s. same g ∙ sym (named g) ∙ v .fresh g s;
       })) in
@@ -255,10 +256,10 @@ fewest-ranges l up = record {
       omega arith;
 }
   where
-    gapped : Gapped 0 (runs l)
-    gapped = runs-gapped 0 l up
+    gapped : Gapped 0 (fewestRanges l)
+    gapped = fewest-gapped 0 l up
 
-    named : (a : ℕ) → isIn a (namedBy (runs l)) ≡ isIn a l
+    named : (a : ℕ) → isIn a (namedBy (fewestRanges l)) ≡ isIn a l
     named a = ap (isIn a) (ranges-name l)
 
 -- so are those of every set, which option 10 is written from
@@ -267,12 +268,12 @@ fewest-of-set m = fewest-ranges (offsets m) (rises-offsets m)
 
 -- ---- where they lie
 -- ranges of offsets below n end at n or before
-pub runs-below : (n : ℕ) (l : List ℕ) → All (λ a. a < n) l → All (λ r. r .first + r .count ≤ n) (runs l)
-unfolding runs joined All
-runs-below n [] h = tt
-runs-below n (x ∷ l) h = before (runs l) (runs-below n l (h .1))
+pub fewest-below : (n : ℕ) (l : List ℕ) → All (λ a. a < n) l → All (λ r. r .first + r .count ≤ n) (fewestRanges l)
+unfolding fewestRanges joined All
+fewest-below n [] h = tt
+fewest-below n (x ∷ l) h = before (fewestRanges l) (fewest-below n l (h .1))
   where
-    before : (rs : List Run) → All (λ r. r .first + r .count ≤ n) rs → All (λ r. r .first + r .count ≤ n) (joined x rs)
+    before : (rs : List Range) → All (λ r. r .first + r .count ≤ n) rs → All (λ r. r .first + r .count ≤ n) (joined x rs)
     before [] g = (let k = h .0 in omega arith, tt)
     before (r ∷ rs) g = go (eqb (r .first) (suc x)) refl
       where
@@ -281,7 +282,7 @@ runs-below n (x ∷ l) h = before (runs l) (runs-below n l (h .1))
         go false e = (let k = h .0 in omega arith, g)
 
 -- counted from an address k on, they name the addresses k + offset
-unfoldable pub movedBy : ℕ → Run → Run
+unfoldable pub movedBy : ℕ → Range → Range
 movedBy k r = record { first = k + r .first; count = r .count }
 
 on-moved : (k x n : ℕ) → onwards (k + x) n ≡ map (λ a. k + a) (onwards x n)
@@ -289,7 +290,7 @@ unfolding onwards
 on-moved k x zero = refl
 on-moved k x (suc n) = let e : suc (k + x) ≡ k + suc x = omega arith in ap (λ (l : List ℕ). (k + x) ∷ l) (ap (λ (y : ℕ). onwards y n) e ∙ on-moved k (suc x) n)
 
-pub moved-names : (k : ℕ) (rs : List Run) → namedBy (map (movedBy k) rs) ≡ map (λ a. k + a) (namedBy rs)
+pub moved-names : (k : ℕ) (rs : List Range) → namedBy (map (movedBy k) rs) ≡ map (λ a. k + a) (namedBy rs)
 unfolding namedBy movedBy
 moved-names k [] = refl
 moved-names k (r ∷ rs) = ap₂ (λ (x y : List ℕ). x ++ y) (on-moved k (r .first) (r .count)) (moved-names k rs) ∙ sym (map-append (onwards (r .first) (r .count)) (namedBy rs))

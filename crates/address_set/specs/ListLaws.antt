@@ -17,7 +17,7 @@ use Rattle.lists.specs.Fold.{fold}
 use Rattle.lists.specs.All.{All, allBy, all-head, all-cons, all-both}
 use Rattle.lists.specs.Filter.{filterBy, isIn, in-filter}
 use Rattle.address_set.specs.declared.Offsets.{Offsets}
-use Rattle.address_set.specs.AddressSet.{bit, keep, offsetsFrom, offsets, setOf, unionOf, intersectionOf, differenceOf, upTo, readOffsets, withOffset, listed, pushed, without, risesFrom, rises}
+use Rattle.address_set.specs.AddressSet.{bit, keep, offsetsFrom, offsets, setOf, unionOf, intersectionOf, differenceOf, upTo, readOffsets, withOffset, listed, pushedOffset, without, risesFrom, rises}
 use Rattle.address_set.specs.Laws.{bit-le, bit-or, bit-and, bit-without, bit-zero, bit-suc, bit-of-zero, bit-ext, bit-eq, bit-pow-same, bit-pow-other, offsets-cong, offsets-of-zero, setOf-append, or-assoc, length-offsets, offsets-step, and-not}
 
 -- ---- rising offsets and their set
@@ -293,8 +293,8 @@ pub read-is : (l : List ℕ) → fold withOffset 0 l ≡ readOffsets l
 read-is l = read-from 0 l ∙ or-zero-l (readOffsets l)
 
 -- ---- a set's offsets put into an array, one at a time
-pub push-listed : (p : List ℕ) (a : ℕ) → length p < 64 → pushed (listed p) a ≡ listed (p ++ a ∷ [])
-unfolding pushed listed pick
+pub push-listed : (p : List ℕ) (a : ℕ) → length p < 64 → pushedOffset (listed p) a ≡ listed (p ++ a ∷ [])
+unfolding pushedOffset listed pick
 push-listed p a h =
     let e : 64 - length p ≡ suc (64 - length (p ++ a ∷ [])) = omega (arith, length-append p (a ∷ [])) in
     ap (λ (t : Bool). pick t (record { list = set (p ++ replicate (64 - length p) 0) (length p) a; count = length p + 1 }) (listed p)) (lt-ltb _ _ h)
@@ -304,21 +304,21 @@ push-listed p a h =
     ∙ sym (append-assoc p (a ∷ []) (replicate (64 - length (p ++ a ∷ [])) 0)))
     (sym (length-append p (a ∷ [])))
 
-push-all : (l p : List ℕ) → length p + length l ≤ 64 → fold pushed (listed p) l ≡ listed (p ++ l)
+push-all : (l p : List ℕ) → length p + length l ≤ 64 → fold pushedOffset (listed p) l ≡ listed (p ++ l)
 push-all [] p h = ap listed (sym (append-nil p))
 push-all (a ∷ l) p h =
-    ap (λ (x : Offsets). fold pushed x l) (push-listed p a (omega arith)) ∙ push-all l (p ++ a ∷ []) (omega (arith, length-append p (a ∷ [])))
+    ap (λ (x : Offsets). fold pushedOffset x l) (push-listed p a (omega arith)) ∙ push-all l (p ++ a ∷ []) (omega (arith, length-append p (a ∷ [])))
     ∙ ap listed (append-assoc p (a ∷ []) l)
 
 -- what that loop keeps: to go on from `at` gives the answer
 pub record ListInv (m : ℕ) (out : Offsets) (at : ℕ) : Type 0 where
   pub within : at ≤ 64
-  pub whole : fold pushed out (offsetsFrom m at (64 - at)) ≡ listed (offsets m)
+  pub whole : fold pushedOffset out (offsetsFrom m at (64 - at)) ≡ listed (offsets m)
 
 pub list-start : (m : ℕ) (out : Offsets) → out ≡ listed [] → ListInv m out 0
 list-start m out e = record {
   within = omega arith;
-  whole = ap (λ (x : Offsets). fold pushed x (offsets m)) e ∙ push-all (offsets m) [] (let h = length-offsets m in omega arith);
+  whole = ap (λ (x : Offsets). fold pushedOffset x (offsets m)) e ∙ push-all (offsets m) [] (let h = length-offsets m in omega arith);
 }
 
 module _ {m : ℕ} {out : Offsets} {at : ℕ} (v : ListInv m out at) where
@@ -327,19 +327,19 @@ module _ {m : ℕ} {out : Offsets} {at : ℕ} (v : ListInv m out at) where
   list-skip hm h e n = record {
     within = omega arith;
     whole =
-        ap (fold pushed out) (sym (offsets-step m at h ∙ ap (λ (b : ℕ). keep b at (offsetsFrom m (at + 1) (64 - (at + 1)))) none)) ∙ v .whole;
+        ap (fold pushedOffset out) (sym (offsets-step m at h ∙ ap (λ (b : ℕ). keep b at (offsetsFrom m (at + 1) (64 - (at + 1)))) none)) ∙ v .whole;
   }
     where
       none : bit m at ≡ 0
       none = bit-in m at hm ∙ ap (λ (b : Bool). pick b 1 0) (sym e ∙ n)
 
-  pub list-take : {q : Bool} {r : Offsets} → m < 2 ^ 64 → at < 64 → q ≡ isIn at (offsets m) → q ≡ true → r ≡ pushed out at → ListInv m r (at + 1)
+  pub list-take : {q : Bool} {r : Offsets} → m < 2 ^ 64 → at < 64 → q ≡ isIn at (offsets m) → q ≡ true → r ≡ pushedOffset out at → ListInv m r (at + 1)
   unfolding pick
   list-take {r = r} hm h e y p = record {
     within = omega arith;
     whole =
-        ap (λ (x : Offsets). fold pushed x (offsetsFrom m (at + 1) (64 - (at + 1)))) p
-        ∙ ap (fold pushed out) (sym (offsets-step m at h ∙ ap (λ (b : ℕ). keep b at (offsetsFrom m (at + 1) (64 - (at + 1)))) some)) ∙ v .whole;
+        ap (λ (x : Offsets). fold pushedOffset x (offsetsFrom m (at + 1) (64 - (at + 1)))) p
+        ∙ ap (fold pushedOffset out) (sym (offsets-step m at h ∙ ap (λ (b : ℕ). keep b at (offsetsFrom m (at + 1) (64 - (at + 1)))) some)) ∙ v .whole;
   }
     where
       some : bit m at ≡ 1
@@ -347,7 +347,7 @@ module _ {m : ℕ} {out : Offsets} {at : ℕ} (v : ListInv m out at) where
 
   pub list-end : 64 ≤ at → out ≡ listed (offsets m)
   unfolding offsetsFrom
-  list-end h = sym (ap (λ (k : ℕ). fold pushed out (offsetsFrom m at k)) (let e : 64 - at ≡ 0 = omega arith in e)) ∙ v .whole
+  list-end h = sym (ap (λ (k : ℕ). fold pushedOffset out (offsetsFrom m at k)) (let e : 64 - at ≡ 0 = omega arith in e)) ∙ v .whole
 
 pub ruleset lists = (list-start, list-skip, list-take, list-end)
 

@@ -15,7 +15,7 @@ use borrow.Author.Tests.{ltb-true, ltb-false, leb-true, leb-false, lt-ltb, le-lt
 use Rattle.lists.specs.Pick.{pick}
 use Rattle.lists.specs.Filter.{filterBy, isIn, in-filter}
 use Rattle.address_set.specs.declared.Range.{Range}
-use Rattle.address_set.specs.AddressSet.{bit, keep, offsetsFrom, offsets, setOf, Run, extend, joined, runs, firstRun, behind}
+use Rattle.address_set.specs.AddressSet.{bit, keep, offsetsFrom, offsets, setOf, extend, joined, fewestRanges, firstRange, behind}
 use Rattle.address_set.specs.Laws.{bit-le, bit-zero, bit-suc, bit-not, bit-of-zero, bit-ext, bit-eq, offsets-cong, offsets-of-zero, length-offsets}
 use Rattle.address_set.specs.ListLaws.{bit-in, bit-setOf, bit-past}
 
@@ -69,7 +69,7 @@ pub high-le : (m e : ℕ) → high m e ≤ m
 high-le m e = let s = split m e in omega arith
 
 -- behind a range stand the bits from its end on
-pub behind-high : (m : ℕ) (r : Run) (e : ℕ) → m < 2 ^ 64 → e ≡ r .first + r .count → high m e ≡ behind m r
+pub behind-high : (m : ℕ) (r : Range) (e : ℕ) → m < 2 ^ 64 → e ≡ r .first + r .count → high m e ≡ behind m r
 unfolding behind pick
 behind-high m r e h q = bit-eq _ _ (λ a. go a (leb e a) refl
     ∙ sym (bit-setOf a (filterBy (λ a. leb (r .first + r .count) a) (offsets m)) ∙ ap (λ (b : Bool). pick b 1 0) (in-filter a (λ a. leb (r .first + r .count) a) (offsets m) ∙ ap (λ (x : ℕ). pick (leb x a) (isIn a (offsets m)) false) (sym q))))
@@ -79,7 +79,7 @@ behind-high m r e h q = bit-eq _ _ (λ a. go a (leb e a) refl
     go a false p = high-low m e a (leb-false e a p) ∙ sym (ap (λ (b : Bool). pick (pick b (isIn a (offsets m)) false) 1 0) p)
 
 -- and nothing past the last offset
-pub behind-none : (m : ℕ) (r : Run) (e : ℕ) → m < 2 ^ 64 → e ≡ r .first + r .count → 64 ≤ e → 0 ≡ behind m r
+pub behind-none : (m : ℕ) (r : Range) (e : ℕ) → m < 2 ^ 64 → e ≡ r .first + r .count → 64 ≤ e → 0 ≡ behind m r
 behind-none m r e h q g = sym none ∙ behind-high m r e h q
   where
     none : high m e ≡ 0
@@ -90,7 +90,7 @@ behind-none m r e h q g = sym none ∙ behind-high m r e h q
         go a false p = high-low m e a (leb-false e a p)
 
 -- ---- the first range, by its bits
-pub record RunAt (m f c : ℕ) : Type 0 where
+pub record RangeAt (m f c : ℕ) : Type 0 where
   pub below : (a : ℕ) → a < f → bit m a ≡ 0
   pub ones : (a : ℕ) → a < c → bit m (f + a) ≡ 1
   pub stop : bit m (f + c) ≡ 0
@@ -132,8 +132,8 @@ module _ (m : ℕ) (h : m < 2 ^ 64) (p : 0 < m) where
           let v = flip-bit a (omega arith) in
           absurd (omega arith)
 
-  pub first-run-at : RunAt m (trailingZeros 64 m) (trailingZeros 64 (flip m))
-  first-run-at = record {
+  pub first-range-at : RangeAt m (trailingZeros 64 m) (trailingZeros 64 (flip m))
+  first-range-at = record {
     below = λ a g. trailing-zero 64 m a g;
     ones = λ a g. (let f = count-fits in let z = trailing-zero 64 (flip m) a g in let v = flip-bit a (omega arith) in let l = bit-le m (trailingZeros 64 m + a) in omega arith);
     stop = go (ltb (trailingZeros 64 m + trailingZeros 64 (flip m)) 64) refl;
@@ -171,7 +171,7 @@ skip m at (suc f) k h =
     ap (offsetsFrom m at) e ∙ ap (λ (b : ℕ). keep b at (offsetsFrom m (suc at) (f + k))) (h at (omega arith) (omega arith))
     ∙ skip m (suc at) f k (λ a p q. h a (omega arith) (omega arith)) ∙ ap (λ (x : ℕ). offsetsFrom m x k) (let q : suc at + f ≡ at + suc f = omega arith in q)
 
-apart : (x at : ℕ) (l : List Run) → suc x < at → joined x (joined at l) ≡ record { first = x; count = 1 } ∷ joined at l
+apart : (x at : ℕ) (l : List Range) → suc x < at → joined x (joined at l) ≡ record { first = x; count = 1 } ∷ joined at l
 unfolding joined
 apart x at [] h = ap (λ (b : Bool). extend b x (record { first = at; count = 1 }) []) (ne-eqb at (suc x) (λ e. absurd (omega arith)))
 apart x at (r ∷ rs) h = go (eqb (r .first) (suc at))
@@ -181,42 +181,42 @@ apart x at (r ∷ rs) h = go (eqb (r .first) (suc at))
     go false = ap (λ (b : Bool). extend b x (record { first = at; count = 1 }) (r ∷ rs)) (ne-eqb at (suc x) (λ e. absurd (omega arith)))
 
 -- an offset that no other follows
-alone : (x m at k : ℕ) → suc x < at → joined x (runs (offsetsFrom m at k)) ≡ record { first = x; count = 1 } ∷ runs (offsetsFrom m at k)
-unfolding runs offsetsFrom joined
+alone : (x m at k : ℕ) → suc x < at → joined x (fewestRanges (offsetsFrom m at k)) ≡ record { first = x; count = 1 } ∷ fewestRanges (offsetsFrom m at k)
+unfolding fewestRanges offsetsFrom joined
 alone x m at zero h = refl
 alone x m at (suc k) h = go (bit m at) (alone x m (suc at) k (omega arith))
   where
-    go : (b : ℕ) → joined x (runs (offsetsFrom m (suc at) k)) ≡ record { first = x; count = 1 } ∷ runs (offsetsFrom m (suc at) k)
-        → joined x (runs (keep b at (offsetsFrom m (suc at) k))) ≡ record { first = x; count = 1 } ∷ runs (keep b at (offsetsFrom m (suc at) k))
+    go : (b : ℕ) → joined x (fewestRanges (offsetsFrom m (suc at) k)) ≡ record { first = x; count = 1 } ∷ fewestRanges (offsetsFrom m (suc at) k)
+        → joined x (fewestRanges (keep b at (offsetsFrom m (suc at) k))) ≡ record { first = x; count = 1 } ∷ fewestRanges (keep b at (offsetsFrom m (suc at) k))
     go zero ih = ih
-    go (suc b) ih = apart x at (runs (offsetsFrom m (suc at) k)) h
+    go (suc b) ih = apart x at (fewestRanges (offsetsFrom m (suc at) k)) h
 
-single : (m at k : ℕ) → bit m (suc at) ≡ 0 → joined at (runs (offsetsFrom m (suc at) k)) ≡ record { first = at; count = 1 } ∷ runs (offsetsFrom m (suc at) k)
-unfolding runs offsetsFrom joined
+single : (m at k : ℕ) → bit m (suc at) ≡ 0 → joined at (fewestRanges (offsetsFrom m (suc at) k)) ≡ record { first = at; count = 1 } ∷ fewestRanges (offsetsFrom m (suc at) k)
+unfolding fewestRanges offsetsFrom joined
 single m at zero e = refl
 single m at (suc k) e =
-    ap (λ (b : ℕ). joined at (runs (keep b (suc at) (offsetsFrom m (suc (suc at)) k)))) e
+    ap (λ (b : ℕ). joined at (fewestRanges (keep b (suc at) (offsetsFrom m (suc (suc at)) k)))) e
     ∙ alone at m (suc (suc at)) k (omega arith)
-    ∙ sym (ap (λ (b : ℕ). record { first = at; count = 1 } ∷ runs (keep b (suc at) (offsetsFrom m (suc (suc at)) k))) e)
+    ∙ sym (ap (λ (b : ℕ). record { first = at; count = 1 } ∷ fewestRanges (keep b (suc at) (offsetsFrom m (suc (suc at)) k))) e)
 
-run-ones : (m at c k : ℕ) → ((a : ℕ) → at ≤ a → a < at + suc c → bit m a ≡ 1) → bit m (at + suc c) ≡ 0
-    → runs (offsetsFrom m at (suc c + k)) ≡ record { first = at; count = suc c } ∷ runs (offsetsFrom m (at + suc c) k)
-unfolding runs offsetsFrom joined
-run-ones m at zero k h z =
+range-ones : (m at c k : ℕ) → ((a : ℕ) → at ≤ a → a < at + suc c → bit m a ≡ 1) → bit m (at + suc c) ≡ 0
+    → fewestRanges (offsetsFrom m at (suc c + k)) ≡ record { first = at; count = suc c } ∷ fewestRanges (offsetsFrom m (at + suc c) k)
+unfolding fewestRanges offsetsFrom joined
+range-ones m at zero k h z =
     let e : suc 0 + k ≡ suc k = omega arith in
     let q : at + suc 0 ≡ suc at = omega arith in
-    ap (λ (x : ℕ). runs (offsetsFrom m at x)) e
-    ∙ ap (λ (b : ℕ). runs (keep b at (offsetsFrom m (suc at) k))) (h at (omega arith) (omega arith))
+    ap (λ (x : ℕ). fewestRanges (offsetsFrom m at x)) e
+    ∙ ap (λ (b : ℕ). fewestRanges (keep b at (offsetsFrom m (suc at) k))) (h at (omega arith) (omega arith))
     ∙ single m at k (ap (bit m) (sym q) ∙ z)
-    ∙ ap (λ (x : ℕ). record { first = at; count = 1 } ∷ runs (offsetsFrom m x k)) (sym q)
-run-ones m at (suc c) k h z =
+    ∙ ap (λ (x : ℕ). record { first = at; count = 1 } ∷ fewestRanges (offsetsFrom m x k)) (sym q)
+range-ones m at (suc c) k h z =
     let e : suc (suc c) + k ≡ suc (suc c + k) = omega arith in
     let q : at + suc (suc c) ≡ suc at + suc c = omega arith in
-    ap (λ (x : ℕ). runs (offsetsFrom m at x)) e
-    ∙ ap (λ (b : ℕ). runs (keep b at (offsetsFrom m (suc at) (suc c + k)))) (h at (omega arith) (omega arith))
-    ∙ ap (joined at) (run-ones m (suc at) c k (λ a g l. h a (omega arith) (omega arith)) (ap (bit m) (sym q) ∙ z))
-    ∙ ap (λ (b : Bool). extend b at (record { first = suc at; count = suc c }) (runs (offsetsFrom m (suc at + suc c) k))) (eq-eqb (suc at) (suc at) refl)
-    ∙ ap (λ (x : ℕ). record { first = at; count = suc (suc c) } ∷ runs (offsetsFrom m x k)) (sym q)
+    ap (λ (x : ℕ). fewestRanges (offsetsFrom m at x)) e
+    ∙ ap (λ (b : ℕ). fewestRanges (keep b at (offsetsFrom m (suc at) (suc c + k)))) (h at (omega arith) (omega arith))
+    ∙ ap (joined at) (range-ones m (suc at) c k (λ a g l. h a (omega arith) (omega arith)) (ap (bit m) (sym q) ∙ z))
+    ∙ ap (λ (b : Bool). extend b at (record { first = suc at; count = suc c }) (fewestRanges (offsetsFrom m (suc at + suc c) k))) (eq-eqb (suc at) (suc at) refl)
+    ∙ ap (λ (x : ℕ). record { first = at; count = suc (suc c) } ∷ fewestRanges (offsetsFrom m x k)) (sym q)
 
 -- the offsets from e on are those of the bits from e on
 offsets-high : (m e : ℕ) → e ≤ 64 → offsetsFrom m e (64 - e) ≡ offsets (high m e)
@@ -225,34 +225,34 @@ offsets-high m e h =
     ∙ sym (ap (offsetsFrom (high m e) 0) (let q : 64 ≡ e + (64 - e) = omega arith in q)
     ∙ skip (high m e) 0 e (64 - e) (λ a g l. high-low m e a (omega arith)) ∙ ap (λ (x : ℕ). offsetsFrom (high m e) x (64 - e)) (let q : 0 + e ≡ e = omega arith in q))
 
-pub runs-first : (m f c : ℕ) → RunAt m f c → runs (offsets m) ≡ record { first = f; count = c } ∷ runs (offsets (high m (f + c)))
-runs-first m f zero v = absurd (let s = v .some in omega arith)
-runs-first m f (suc c) v =
+pub fewest-first : (m f c : ℕ) → RangeAt m f c → fewestRanges (offsets m) ≡ record { first = f; count = c } ∷ fewestRanges (offsets (high m (f + c)))
+fewest-first m f zero v = absurd (let s = v .some in omega arith)
+fewest-first m f (suc c) v =
     let fit = v .fits in
     let q : 64 ≡ f + (suc c + (64 - (f + suc c))) = omega arith in
-    ap (λ (x : ℕ). runs (offsetsFrom m 0 x)) q
-    ∙ ap runs (skip m 0 f (suc c + (64 - (f + suc c))) (λ a g l. v .below a (omega arith)) ∙ ap (λ (x : ℕ). offsetsFrom m x (suc c + (64 - (f + suc c)))) (let e : 0 + f ≡ f = omega arith in e))
-    ∙ run-ones m f c (64 - (f + suc c)) (λ a g l. ap (bit m) (let e : a ≡ f + (a - f) = omega arith in e) ∙ v .ones (a - f) (omega arith)) (v .stop)
-    ∙ ap (λ (l : List ℕ). record { first = f; count = suc c } ∷ runs l) (offsets-high m (f + suc c) (v .fits))
+    ap (λ (x : ℕ). fewestRanges (offsetsFrom m 0 x)) q
+    ∙ ap fewestRanges (skip m 0 f (suc c + (64 - (f + suc c))) (λ a g l. v .below a (omega arith)) ∙ ap (λ (x : ℕ). offsetsFrom m x (suc c + (64 - (f + suc c)))) (let e : 0 + f ≡ f = omega arith in e))
+    ∙ range-ones m f c (64 - (f + suc c)) (λ a g l. ap (bit m) (let e : a ≡ f + (a - f) = omega arith in e) ∙ v .ones (a - f) (omega arith)) (v .stop)
+    ∙ ap (λ (l : List ℕ). record { first = f; count = suc c } ∷ fewestRanges l) (offsets-high m (f + suc c) (v .fits))
 
 -- ---- what `first_range` and `rest` give
-pub first-none : (m : ℕ) → m ≤ 0 → record { first = 0; count = 0 } ≡ firstRun (runs (offsets m))
-unfolding firstRun runs
-first-none m h = sym (ap (λ (l : List ℕ). firstRun (runs l)) (ap offsets (let e : m ≡ 0 = omega arith in e) ∙ offsets-of-zero 0 64))
+pub first-none : (m : ℕ) → m ≤ 0 → record { first = 0; count = 0 } ≡ firstRange (fewestRanges (offsets m))
+unfolding firstRange fewestRanges
+first-none m h = sym (ap (λ (l : List ℕ). firstRange (fewestRanges l)) (ap offsets (let e : m ≡ 0 = omega arith in e) ∙ offsets-of-zero 0 64))
 
 module _ (m : ℕ) (h : m < 2 ^ 64) (p : 0 < m) where
-  pub first-some : record { first = trailingZeros 64 m; count = trailingZeros 64 (flip m) } ≡ firstRun (runs (offsets m))
-  unfolding firstRun
-  first-some = sym (ap firstRun (runs-first m _ _ (first-run-at m h p)))
+  pub first-some : record { first = trailingZeros 64 m; count = trailingZeros 64 (flip m) } ≡ firstRange (fewestRanges (offsets m))
+  unfolding firstRange
+  first-some = sym (ap firstRange (fewest-first m _ _ (first-range-at m h p)))
 
 -- ---- for a caller's loop `while set != 0 { let r = first_range(set); ..; set = rest(set, r); }`
-pub ranges-none : runs (offsets 0) ≡ []
-unfolding runs
-ranges-none = ap runs (offsets-of-zero 0 64)
+pub ranges-none : fewestRanges (offsets 0) ≡ []
+unfolding fewestRanges
+ranges-none = ap fewestRanges (offsets-of-zero 0 64)
 
-module _ {m : ℕ} {r : Run} (h : m < 2 ^ 64) (p : 0 < m) (e : r ≡ firstRun (runs (offsets m))) where
-  at : RunAt m (r .first) (r .count)
-  at = subst (λ (x : Run). RunAt m (x .first) (x .count)) (sym (e ∙ sym (first-some m h p))) (first-run-at m h p)
+module _ {m : ℕ} {r : Range} (h : m < 2 ^ 64) (p : 0 < m) (e : r ≡ firstRange (fewestRanges (offsets m))) where
+  at : RangeAt m (r .first) (r .count)
+  at = subst (λ (x : Range). RangeAt m (x .first) (x .count)) (sym (e ∙ sym (first-some m h p))) (first-range-at m h p)
 
   pub range-first : r .first < 64
   range-first = let f = at .fits in let s = at .some in omega arith
@@ -267,10 +267,10 @@ module _ {m : ℕ} {r : Run} (h : m < 2 ^ 64) (p : 0 < m) (e : r ≡ firstRun (r
   range-fits = at .fits
 
   -- the first range, and those of the rest
-  pub ranges-next : {m′ : ℕ} → m′ ≡ behind m r → runs (offsets m) ≡ r ∷ runs (offsets m′)
+  pub ranges-next : {m′ : ℕ} → m′ ≡ behind m r → fewestRanges (offsets m) ≡ r ∷ fewestRanges (offsets m′)
   ranges-next {m′} q =
-      runs-first m (r .first) (r .count) at
-      ∙ ap (λ (x : ℕ). r ∷ runs (offsets x)) (behind-high m r (r .first + r .count) h refl ∙ sym q)
+      fewest-first m (r .first) (r .count) at
+      ∙ ap (λ (x : ℕ). r ∷ fewestRanges (offsets x)) (behind-high m r (r .first + r .count) h refl ∙ sym q)
 
   -- the rest is smaller
   pub ranges-less : {m′ : ℕ} → m′ ≡ behind m r → m′ < m
@@ -291,7 +291,7 @@ module _ {m : ℕ} {r : Run} (h : m < 2 ^ 64) (p : 0 < m) (e : r ≡ firstRun (r
           absurd (omega (arith, here))
 
 -- a set has at most 64 ranges
-joined-few : (x : ℕ) (l : List Run) → length (joined x l) ≤ suc (length l)
+joined-few : (x : ℕ) (l : List Range) → length (joined x l) ≤ suc (length l)
 unfolding joined
 joined-few x [] = omega arith
 joined-few x (r ∷ rs) = go (eqb (r .first) (suc x))
@@ -300,17 +300,17 @@ joined-few x (r ∷ rs) = go (eqb (r .first) (suc x))
     go true = omega arith
     go false = omega arith
 
-pub runs-few : (l : List ℕ) → length (runs l) ≤ length l
-unfolding runs
-runs-few [] = omega arith
-runs-few (x ∷ l) = let h = joined-few x (runs l) in let g = runs-few l in omega arith
+pub fewest-few : (l : List ℕ) → length (fewestRanges l) ≤ length l
+unfolding fewestRanges
+fewest-few [] = omega arith
+fewest-few (x ∷ l) = let h = joined-few x (fewestRanges l) in let g = fewest-few l in omega arith
 
-pub ranges-few : (m : ℕ) → length (runs (offsets m)) ≤ 64
-ranges-few m = let h = runs-few (offsets m) in let g = length-offsets m in omega arith
+pub ranges-few : (m : ℕ) → length (fewestRanges (offsets m)) ≤ 64
+ranges-few m = let h = fewest-few (offsets m) in let g = length-offsets m in omega arith
 
 -- ---- as the code has them
 pub trailing-fits : (m : ℕ) → trailingZeros 64 m < 2 ^ 64
 trailing-fits m = let h = trailing-le 64 m in omega arith
 
-pub behind-shifted : (m : ℕ) (r : Run) (e : ℕ) → m < 2 ^ 64 → e ≡ r .first + r .count → (m / 2 ^ e * 2 ^ e) % 2 ^ 64 ≡ behind m r
+pub behind-shifted : (m : ℕ) (r : Range) (e : ℕ) → m < 2 ^ 64 → e ≡ r .first + r .count → (m / 2 ^ e * 2 ^ e) % 2 ^ 64 ≡ behind m r
 behind-shifted m r e h q = mod-eq-of-lt (lt-of-le-of-lt (high-le m e) h) ∙ behind-high m r e h q

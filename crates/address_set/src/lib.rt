@@ -5,7 +5,7 @@ ghost use mathlib.Core.List.{[]};
 ghost use Prim.Native.Nat.{ℕ, _+_, _*_, _^_, _<_, _≤_, min};
 ghost use lib.ListN.{length, take};
 ghost use Rattle.lists.specs.Filter.{isIn};
-ghost use Rattle.address_set.specs.AddressSet.{offsets, setOf, unionOf, intersectionOf, differenceOf, lowestOf, chosen, upTo, readOffsets, withOffset, listed, pushed, runs, firstRun, behind};
+ghost use Rattle.address_set.specs.AddressSet.{offsets, setOf, unionOf, intersectionOf, differenceOf, lowestOf, chosen, upTo, readOffsets, withOffset, listed, pushedOffset, fewestRanges, firstRange, behind};
 
 // A range of offsets, all of one set: the first and how many.
 pub struct Range {
@@ -135,7 +135,7 @@ fn no_offsets() -> Offsets
 }
 
 fn push(out: Offsets, at: u8) -> Offsets
-    ensures { λ r. ⌜ r ≡ pushed out at ⌝ }
+    ensures { λ r. ⌜ r ≡ pushedOffset out at ⌝ }
 {
     let n = out.count;
     if n < 64 {
@@ -165,7 +165,7 @@ pub fn to_offsets(set: u64) -> Offsets
 
 // The first of the fewest ranges of a set; one of no offset where the set is empty.
 pub fn first_range(set: u64) -> Range
-    ensures { λ r. ⌜ r ≡ firstRun (runs (offsets set)) ⌝ }
+    ensures { λ r. ⌜ r ≡ firstRange (fewestRanges (offsets set)) ⌝ }
 {
     if 0 < set {
         let first = u64::trailing_zeros(set);

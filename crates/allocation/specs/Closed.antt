@@ -6,21 +6,21 @@ use native.Mathlib.Omega.{arith}
 use borrow.Author.Tests.{lt-leb, le-leb, leb-true}
 use lib.Dec.{leb}
 use Rattle.lists.specs.Down.{largest, largest-closed, largest-none}
-use Rattle.allocation.specs.declared.Load.{Load}
+use Rattle.allocation.specs.declared.GrantNumbers.{GrantNumbers}
 
 -- what the tenant holds after k are given, and the sum then
-abbrev pub after : Load → ℕ → ℕ
-after l k = l .held + (k - l .free)
+abbrev pub heldGiving : GrantNumbers → ℕ → ℕ
+heldGiving l k = l .held + (k - l .free)
 
-abbrev pub total : Load → ℕ → ℕ
-total l k = l .others + max (after l k) (l .reserve)
+abbrev pub committedGiving : GrantNumbers → ℕ → ℕ
+committedGiving l k = l .others + max (heldGiving l k) (l .reserve)
 
 -- the rule on numbers
-unfoldable pub allowedOf : Load → ℕ → Bool
-allowedOf l k = leb (after l k) (l .limit) && leb (total l k) (l .size)
+unfoldable pub allowedOf : GrantNumbers → ℕ → Bool
+allowedOf l k = leb (heldGiving l k) (l .limit) && leb (committedGiving l k) (l .size)
 
 -- the numbers are small enough to be added
-pub record Small (l : Load) : Type 0 where
+pub record Small (l : GrantNumbers) : Type 0 where
   pub held : l .held ≤ 255
   pub free : l .free ≤ 255
   pub others : l .others ≤ 2040
@@ -34,33 +34,33 @@ and-no-left b e = ap (λ (t : Bool). t && b) e
 and-right : {a : Bool} (b : Bool) → a ≡ true → (a && b) ≡ b
 and-right b e = ap (λ (t : Bool). t && b) e
 
-pub over-limit : (l : Load) (n : ℕ) → l .limit < l .held → 0 ≡ largest (allowedOf l) n
+pub over-limit : (l : GrantNumbers) (n : ℕ) → l .limit < l .held → 0 ≡ largest (allowedOf l) n
 unfolding allowedOf
-over-limit l n h = sym (largest-none (allowedOf l) n (λ k. and-no-left (leb (total l k) (l .size)) (lt-leb (after l k) (l .limit) (omega arith))))
+over-limit l n h = sym (largest-none (allowedOf l) n (λ k. and-no-left (leb (committedGiving l k) (l .size)) (lt-leb (heldGiving l k) (l .limit) (omega arith))))
 
-no-size : (l : Load) (k : ℕ) → l .size < l .others + max (l .held) (l .reserve) → allowedOf l k ≡ false
+no-size : (l : GrantNumbers) (k : ℕ) → l .size < l .others + max (l .held) (l .reserve) → allowedOf l k ≡ false
 unfolding allowedOf
-no-size l k h = go (leb (after l k) (l .limit))
+no-size l k h = go (leb (heldGiving l k) (l .limit))
   where
-    go : (t : Bool) → (t && leb (total l k) (l .size)) ≡ false
-    go true = lt-leb (total l k) (l .size) (omega arith)
+    go : (t : Bool) → (t && leb (committedGiving l k) (l .size)) ≡ false
+    go true = lt-leb (committedGiving l k) (l .size) (omega arith)
     go false = refl
 
-pub over-size : (l : Load) (n load : ℕ) → load ≡ max (l .held) (l .reserve) → l .size < l .others + load → 0 ≡ largest (allowedOf l) n
+pub over-size : (l : GrantNumbers) (n load : ℕ) → load ≡ max (l .held) (l .reserve) → l .size < l .others + load → 0 ≡ largest (allowedOf l) n
 over-size l n load e h = sym (largest-none (allowedOf l) n (λ k. no-size l k (omega arith)))
 
-module _ (l : Load) (n load room : ℕ) (e : load ≡ max (l .held) (l .reserve)) (inLimit : l .held ≤ l .limit) (inSize : l .others + load ≤ l .size)
+module _ (l : GrantNumbers) (n load room : ℕ) (e : load ≡ max (l .held) (l .reserve)) (inLimit : l .held ≤ l .limit) (inSize : l .others + load ≤ l .size)
     (er : room ≡ min (l .limit - l .held) (l .size - (l .others + l .held))) where
   fits : (k : ℕ) → k ≤ l .free + room → allowedOf l k ≡ true
   unfolding allowedOf
-  fits k h = and-right (leb (total l k) (l .size)) (le-leb (after l k) (l .limit) (omega arith)) ∙ le-leb (total l k) (l .size) (omega arith)
+  fits k h = and-right (leb (committedGiving l k) (l .size)) (le-leb (heldGiving l k) (l .limit) (omega arith)) ∙ le-leb (committedGiving l k) (l .size) (omega arith)
 
   over : (k : ℕ) → l .free + room < k → allowedOf l k ≡ false
   unfolding allowedOf
-  over k h = go (leb (after l k) (l .limit)) refl
+  over k h = go (leb (heldGiving l k) (l .limit)) refl
     where
-      go : (t : Bool) → leb (after l k) (l .limit) ≡ t → (t && leb (total l k) (l .size)) ≡ false
-      go true p = let q = leb-true (after l k) (l .limit) p in lt-leb (total l k) (l .size) (omega arith)
+      go : (t : Bool) → leb (heldGiving l k) (l .limit) ≡ t → (t && leb (committedGiving l k) (l .size)) ≡ false
+      go true p = let q = leb-true (heldGiving l k) (l .limit) p in lt-leb (committedGiving l k) (l .size) (omega arith)
       go false p = refl
 
   pub closed : (r : ℕ) → r ≡ min n (l .free + room) → r ≡ largest (allowedOf l) n

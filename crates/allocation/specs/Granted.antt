@@ -20,20 +20,20 @@ use Rattle.state.specs.declared.Lease.{Lease}
 use Rattle.state.specs.declared.Scope.{Scope}
 use Rattle.state.specs.declared.State.{State}
 use Rattle.state.specs.Book.{unionAll, addressesOf, heldOf, heldCount, busyOf, zeroScope, noScope, scopeAt}
-use Rattle.soundness.specs.Sound.{few, tenantsIn, scopesIn, reserveAt, limitAt, sizeB, shareB, sharesB, countsB, rule3, rule4, rule5, rule6, settingsB}
+use Rattle.soundness.specs.Sound.{oneTo, tenantsIn, scopesIn, reserveAt, limitAt, sizeB, reserveB, reservesB, countsB, rule3, rule4, rule5, rule6, settingsB}
 use Rattle.soundness.specs.Book.{settingsOk, noLeasesB, loadOf, Sound}
 use Rattle.soundness.specs.Kept.{sum-less}
 use Rattle.allocation.specs.declared.Ask.{Ask}
 use Rattle.allocation.specs.declared.Grant.{Grant}
 use Rattle.allocation.specs.Rule.{takenOf, busyIn, poolOf, nobodysOf, heldBy, freeOf, heldAt, heldAfter, pressureWith, allowed, grantOf, unusedReserve}
-use Rattle.allocation.specs.Loops.{pressure-split, otherLoad}
+use Rattle.allocation.specs.Loops.{committed-split, otherLoad}
 use Rattle.allocation.specs.Sets.{size, size-or, size-zero, difference-small, difference-in, difference-out, difference-rest, chosen-bit, chosen-count, pool-small, pool-size, in-union}
 
 -- ---- the sum of what is held and reserved
 -- it grows with the tenant's own number
-pub pressure-more : (c : Scope) (n : ℕ) (t : List (List Lease)) (s h d e : ℕ) → d ≤ e → pressureWith c n t s h d ≤ pressureWith c n t s h e
+pub committed-more : (c : Scope) (n : ℕ) (t : List (List Lease)) (s h d e : ℕ) → d ≤ e → pressureWith c n t s h d ≤ pressureWith c n t s h e
 unfolding pressureWith pick
-pressure-more c n t s h d e p = sum-less _ _ n (λ g q. go g (eqb g h))
+committed-more c n t s h d e p = sum-less _ _ n (λ g q. go g (eqb g h))
   where
     go : (g : ℕ) (b : Bool) → max (pick b d (heldAt t s g)) (getD (c .reserve) g 0) ≤ max (pick b e (heldAt t s g)) (getD (c .reserve) g 0)
     go g true = omega arith
@@ -46,7 +46,7 @@ allowed-down c n t a j k h e =
     let p = and-parts (leb (heldAfter t a k) (getD (c .limit) (a .tenant) 0)) (leb (pressureWith c n t (a .scope) (a .tenant) (heldAfter t a k)) (c .size)) e in
     let u = leb-true (heldAfter t a k) (getD (c .limit) (a .tenant) 0) (p .0) in
     let w = leb-true (pressureWith c n t (a .scope) (a .tenant) (heldAfter t a k)) (c .size) (p .1) in
-    let m = pressure-more c n t (a .scope) (a .tenant) (heldAfter t a j) (heldAfter t a k) (omega arith) in
+    let m = committed-more c n t (a .scope) (a .tenant) (heldAfter t a j) (heldAfter t a k) (omega arith) in
     and-both (le-leb (heldAfter t a j) (getD (c .limit) (a .tenant) 0) (omega arith)) (le-leb (pressureWith c n t (a .scope) (a .tenant) (heldAfter t a j)) (c .size) (le-trans m w))
 
 -- an allowed number up to the desired one is no more than the grant
@@ -87,10 +87,10 @@ module _ (s : State) (t : List (List Lease)) (v : Sound s t) (k : ℕ) (here : k
 
   -- its size is at most 64
   pub size-most : scopeAt s k .size ≤ 64
-  unfolding countsB sizeB few
+  unfolding countsB sizeB oneTo
   size-most =
-      let p = and-parts (few 8 (s .«tenant_count»)) (few 4 (s .«scope_count») && allBy sizeB (take (s .«scope_count») (s .scopes))) (parts .0) in
-      let q = and-parts (few 4 (s .«scope_count»)) (allBy sizeB (take (s .«scope_count») (s .scopes))) (p .1) in
+      let p = and-parts (oneTo 8 (s .«tenant_count»)) (oneTo 4 (s .«scope_count») && allBy sizeB (take (s .«scope_count») (s .scopes))) (parts .0) in
+      let q = and-parts (oneTo 4 (s .«scope_count»)) (allBy sizeB (take (s .«scope_count») (s .scopes))) (p .1) in
       at (s .scopes) (s .«scope_count») k (omega arith) (q .1)
     where
       at : (l : List Scope) (n k : ℕ) → k < n → allBy sizeB (take n l) ≡ true → getD l k zeroScope .size ≤ 64
@@ -101,24 +101,24 @@ module _ (s : State) (t : List (List Lease)) (v : Sound s t) (k : ℕ) (here : k
 
   -- a reserve is within its limit
   pub reserve-limit : (g : ℕ) → g < tenantsIn s → reserveAt (scopeAt s k) g ≤ limitAt (scopeAt s k) g
-  unfolding rule6 sharesB shareB
+  unfolding rule6 reservesB reserveB
   reserve-limit g h = at (s .scopes) (s .«scope_count») k (omega arith) (parts .1)
     where
       zeros : (g : ℕ) → getD (zeroScope .reserve) g 0 ≤ getD (zeroScope .limit) g 0
       zeros g = omega arith
 
-      at : (l : List Scope) (n k : ℕ) → k < n → allBy (sharesB (tenantsIn s)) (take n l) ≡ true → reserveAt (getD l k zeroScope) g ≤ limitAt (getD l k zeroScope) g
+      at : (l : List Scope) (n k : ℕ) → k < n → allBy (reservesB (tenantsIn s)) (take n l) ≡ true → reserveAt (getD l k zeroScope) g ≤ limitAt (getD l k zeroScope) g
       at [] n k q p = zeros g
       at (x ∷ l) zero k q p = absurd (omega arith)
       at (x ∷ l) (suc n) zero q p =
-          let e = and-parts (allTo (shareB x) (tenantsIn s)) (leb (sumTo (reserveAt x) (tenantsIn s)) (x .size)) (all-head (sharesB (tenantsIn s)) x (take n l) p .0) in
-          leb-true (reserveAt x g) (limitAt x g) (and-parts (leb (reserveAt x g) (limitAt x g)) (leb (limitAt x g) (x .size)) (to-each (shareB x) (tenantsIn s) (e .0) g h) .0)
-      at (x ∷ l) (suc n) (suc k) q p = at l n k (omega arith) (all-head (sharesB (tenantsIn s)) x (take n l) p .1)
+          let e = and-parts (allTo (reserveB x) (tenantsIn s)) (leb (sumTo (reserveAt x) (tenantsIn s)) (x .size)) (all-head (reservesB (tenantsIn s)) x (take n l) p .0) in
+          leb-true (reserveAt x g) (limitAt x g) (and-parts (leb (reserveAt x g) (limitAt x g)) (leb (limitAt x g) (x .size)) (to-each (reserveB x) (tenantsIn s) (e .0) g h) .0)
+      at (x ∷ l) (suc n) (suc k) q p = at l n k (omega arith) (all-head (reservesB (tenantsIn s)) x (take n l) p .1)
 
   -- the sum with what a tenant holds or has in reserve is the book's own
-  pub pressure-now : (h d : ℕ) → d ≤ max (heldAt t (k + 1) h) (reserveAt (scopeAt s k) h) → pressureWith (scopeAt s k) (tenantsIn s) t (k + 1) h d ≤ scopeAt s k .size
+  pub committed-now : (h d : ℕ) → d ≤ max (heldAt t (k + 1) h) (reserveAt (scopeAt s k) h) → pressureWith (scopeAt s k) (tenantsIn s) t (k + 1) h d ≤ scopeAt s k .size
   unfolding pressureWith pick
-  pressure-now h d p = le-trans (sum-less _ (loadOf s t k) (tenantsIn s) (λ g q. go g (eqb g h) refl)) (v .loads k here)
+  committed-now h d p = le-trans (sum-less _ (loadOf s t k) (tenantsIn s) (λ g q. go g (eqb g h) refl)) (v .commitments k here)
     where
       go : (g : ℕ) (b : Bool) → eqb g h ≡ b → max (pick b d (heldAt t (k + 1) g)) (getD (scopeAt s k .reserve) g 0) ≤ loadOf s t k g
       go g true e =
@@ -135,7 +135,7 @@ module _ (s : State) (t : List (List Lease)) (v : Sound s t) (k : ℕ) (here : k
       let x : heldAt t (a .scope) (a .tenant) ≡ heldAt t (k + 1) (a .tenant) = ap (λ (z : ℕ). heldAt t z (a .tenant)) e in
       let y = v .holdings k (a .tenant) here h in
       let z = reserve-limit (a .tenant) h in
-      let w = pressure-now (a .tenant) (heldAfter t a j) (omega arith) in
+      let w = committed-now (a .tenant) (heldAfter t a j) (omega arith) in
       and-both (le-leb (heldAfter t a j) (limitAt (scopeAt s k) (a .tenant)) (omega arith))
       (ap (λ (z : ℕ). leb (pressureWith (scopeAt s k) (tenantsIn s) t z (a .tenant) (heldAfter t a j)) (scopeAt s k .size)) e
       ∙ le-leb (pressureWith (scopeAt s k) (tenantsIn s) t (k + 1) (a .tenant) (heldAfter t a j)) (scopeAt s k .size) w)
@@ -215,8 +215,8 @@ bare-less c n t s h d = sum-less _ _ n (λ g q. go (pick (eqb g h) d (heldAt t s
 
 sum-new : (c : Scope) (n : ℕ) (t : List (List Lease)) (s h m : ℕ) → h < n → sumTo (heldAt t s) n + m ≤ pressureWith c n t s h (heldAt t s h + m)
 sum-new c n t s h m p =
-    let x = pressure-split noScope n t s h (heldAt t s h + m) p in
-    let y = pressure-split noScope n t s h (heldAt t s h) p in
+    let x = committed-split noScope n t s h (heldAt t s h + m) p in
+    let y = committed-split noScope n t s h (heldAt t s h) p in
     let z = bare-sum n t s h in
     let w = bare-less c n t s h (heldAt t s h + m) in
     omega arith
@@ -231,7 +231,7 @@ module _ (s : State) (t : List (List Lease)) (v : Sound s t) (k : ℕ) (here : k
       let p = and-parts (leb (heldAfter t a j) (getD (c .limit) (a .tenant) 0)) (leb (pressureWith c (tenantsIn s) t (a .scope) (a .tenant) (heldAfter t a j)) (c .size)) e in
       let w = leb-true (pressureWith c (tenantsIn s) t (a .scope) (a .tenant) (heldAfter t a j)) (c .size) (p .1) in
       let x = sum-new c (tenantsIn s) t (a .scope) (a .tenant) m known in
-      let y = taken-few (a .scope) t (tenantsIn s) (v .houses) in
+      let y = taken-few (a .scope) t (tenantsIn s) (v .tenants) in
       let f = size-most s t v k here in
       let q : size (poolOf c) ≡ c .size = ap (λ (z : ℕ). size (setOf (upTo z))) least ∙ pool-size (c .size) f in
       let b : poolOf c < 2 ^ 64 = pool-small (min (c .size) 64) (omega arith) in

@@ -24,10 +24,10 @@ use Rattle.state.specs.declared.Scope.{Scope}
 use Rattle.state.specs.declared.State.{State}
 use Rattle.state.specs.Book.{unionAll, addressesOf, inScope, usedIn, overlaps, heldOf, heldCount, busyOf, live, idOf, other, insertOf, scopeAt}
 use Rattle.state.specs.Sets.{adds, addresses-cons, insert-addresses}
-use Rattle.soundness.specs.Sound.{few, tenantsIn, scopesIn, reserveAt, limitAt, idB, scopeKnown, belowB, offsetsB, kindB, periodB, leaseB, paddedB, disjoint, apartIn, apart, calm}
+use Rattle.soundness.specs.Sound.{oneTo, tenantsIn, scopesIn, reserveAt, limitAt, idB, scopeKnown, belowB, offsetsB, kindB, periodB, leaseB, paddedB, disjoint, apartIn, apart, compatible}
 use Rattle.soundness.specs.Book.{leaseOk, loadOf, Sound}
 use Rattle.soundness.specs.Kept.{sum-less}
-use Rattle.soundness.specs.Added.{calm-turn, each-at, owners-at, apart-inserted, sound-inserted}
+use Rattle.soundness.specs.Added.{compatible-turn, each-at, owners-at, apart-inserted, sound-inserted}
 use Rattle.allocation.specs.declared.Ask.{Ask}
 use Rattle.allocation.specs.declared.Grant.{Grant}
 use Rattle.allocation.specs.Rule.{takenOf, busyIn, poolOf, nobodysOf, heldBy, freeOf, heldAt, heldAfter, pressureWith, allowed, grantOf}
@@ -127,13 +127,13 @@ held-below s k here (y ∷ x) e a h g =
     let o = one-below s k here y (q .0) a h g in
     omega arith
 
--- a lease is calm with those whose addresses in its period, all within B, are not its own
-pub calm-within : (l : Lease) (scope from to B : ℕ) (x : List Lease) → l .scope ≡ scope → l .start ≡ from → l .end ≡ to → ((a : ℕ) → bit (l .addresses) a + bit B a ≤ 1)
-    → ((a : ℕ) → bit (busyOf scope from to x) a ≤ bit B a) → allBy (calm l) x ≡ true
-unfolding calm usedIn overlaps pick
-calm-within l scope from to B x e1 e3 e4 out inside =
-    within (usedIn scope from to) (calm l) (λ a. bit B a) x
-    (λ y f. calm-turn l y ∙ ap₂ (λ (p q : Bool). pick p (pick q (disjoint (y .addresses) (l .addresses)) true) true) (ap (eqb (y .scope)) e1)
+-- a lease is compatible with those whose addresses in its period, all within B, are not its own
+pub compatible-within : (l : Lease) (scope from to B : ℕ) (x : List Lease) → l .scope ≡ scope → l .start ≡ from → l .end ≡ to → ((a : ℕ) → bit (l .addresses) a + bit B a ≤ 1)
+    → ((a : ℕ) → bit (busyOf scope from to x) a ≤ bit B a) → allBy (compatible l) x ≡ true
+unfolding compatible usedIn overlaps pick
+compatible-within l scope from to B x e1 e3 e4 out inside =
+    within (usedIn scope from to) (compatible l) (λ a. bit B a) x
+    (λ y f. compatible-turn l y ∙ ap₂ (λ (p q : Bool). pick p (pick q (disjoint (y .addresses) (l .addresses)) true) true) (ap (eqb (y .scope)) e1)
     (ap₂ (λ (p q : ℕ). ltb (y .start) q && ltb p (y .end)) e3 e4) ∙ go y (eqb (y .scope) scope) (overlaps from to y) refl refl f)
     inside
   where
@@ -173,9 +173,9 @@ module _ (s : State) (t : List (List Lease)) (v : Sound s t) (k : ℕ) (here : k
           ∙ apart-in (getD t (a .tenant) []) (getD t g []) k (omega arith) (owners-at s t v (a .tenant) g n)
 
   -- no lease of the tenant that overlaps the period has one
-  grant-calm : (l : Lease) → l .scope ≡ a .scope → l .addresses ≡ G → l .start ≡ a .from → l .end ≡ a .to → allBy (calm l) (getD t (a .tenant) []) ≡ true
-  grant-calm l e1 e2 e3 e4 =
-      calm-within l (a .scope) (a .from) (a .to) (busyOf (a .scope) (a .from) (a .to) (getD t (a .tenant) [])) (getD t (a .tenant) []) e1 e3 e4
+  grant-compatible : (l : Lease) → l .scope ≡ a .scope → l .addresses ≡ G → l .start ≡ a .from → l .end ≡ a .to → allBy (compatible l) (getD t (a .tenant) []) ≡ true
+  grant-compatible l e1 e2 e3 e4 =
+      compatible-within l (a .scope) (a .from) (a .to) (busyOf (a .scope) (a .from) (a .to) (getD t (a .tenant) [])) (getD t (a .tenant) []) e1 e3 e4
       (λ x. subst (λ (g : ℕ). bit g x + bit (busyOf (a .scope) (a .from) (a .to) (getD t (a .tenant) [])) x ≤ 1) (sym e2)
       (let p = grant-bit x in
       let b = busy-here (a .scope) (a .from) (a .to) t (a .tenant) x in
@@ -234,9 +234,9 @@ module _ (s : State) (t : List (List Lease)) (v : Sound s t) (k : ℕ) (here : k
             omega arith
 
     -- rule 12: the sums
-    pub grant-loads : a .tenant < length t → (j : ℕ) → j < scopesIn s → sumTo (loadOf s (set t (a .tenant) (insertOf l (getD t (a .tenant) []))) j) (tenantsIn s) ≤ scopeAt s j .size
+    pub grant-commitments : a .tenant < length t → (j : ℕ) → j < scopesIn s → sumTo (loadOf s (set t (a .tenant) (insertOf l (getD t (a .tenant) []))) j) (tenantsIn s) ≤ scopeAt s j .size
     unfolding G pressureWith pick
-    grant-loads there j h = go (eqb j k) refl
+    grant-commitments there j h = go (eqb j k) refl
       where
         x′ : List Lease
         x′ = insertOf l (getD t (a .tenant) [])
@@ -274,7 +274,7 @@ module _ (s : State) (t : List (List Lease)) (v : Sound s t) (k : ℕ) (here : k
             let z : k ≡ j = sym (eqb-true j k e) in
             subst (λ (i : ℕ). sumTo (loadOf s (set t (a .tenant) x′) i) (tenantsIn s) ≤ scopeAt s i .size) z
             (le-trans (sum-less _ _ (tenantsIn s) (λ g q. one g (eqb g (a .tenant)) refl)) (within-limits .1))
-        go false e = le-trans (sum-less _ (loadOf s t j) (tenantsIn s) (λ g q. same j (eqb-false j k e) g (eqb g (a .tenant)) refl)) (v .loads j h)
+        go false e = le-trans (sum-less _ (loadOf s t j) (tenantsIn s) (λ g q. same j (eqb-false j k e) g (eqb g (a .tenant)) refl)) (v .commitments j h)
 
     -- rule 9: no address has two tenants
     pub grant-owners : (g : ℕ) → (g ≡ a .tenant → ⊥) → apart (insertOf l (getD t (a .tenant) [])) (getD t g []) ≡ true
@@ -323,4 +323,4 @@ module _ (s : State) (t : List (List Lease)) (v : Sound s t) (k : ℕ) (here : k
         → Sound s (set t (a .tenant) (insertOf l (getD t (a .tenant) [])))
     unfolding G
     sound-granted e3 e4 there room ok new =
-        sound-inserted s t (a .tenant) l v known there room ok new (grant-calm l e1 e2 e3 e4) grant-owners grant-limits (grant-loads there)
+        sound-inserted s t (a .tenant) l v known there room ok new (grant-compatible l e1 e2 e3 e4) grant-owners grant-limits (grant-commitments there)

@@ -20,7 +20,7 @@ use Rattle.state.specs.declared.Scope.{Scope}
 use Rattle.state.specs.declared.LeaseTable.{LeaseTable}
 use Rattle.state.specs.Book.{inUse, noLeases, leasesOf, unionAll, heldOf, heldCount, busyOf}
 use Rattle.allocation.specs.declared.Ask.{Ask}
-use Rattle.allocation.specs.declared.Load.{Load}
+use Rattle.allocation.specs.declared.GrantNumbers.{GrantNumbers}
 use Rattle.allocation.specs.declared.Grant.{Grant}
 use Rattle.allocation.specs.Closed.{allowedOf, Small}
 use Rattle.allocation.specs.Rule.{heldAt, takenOf, busyIn, pressureWith, freeOf, nobodysOf, allowed, grantOf, suffices}
@@ -57,24 +57,24 @@ otherLoad reserve t s h g = pick (eqb g h) 0 (max (heldAt t s g) (getD reserve g
 unfoldable pub weightOf : TenantLeases → ℕ → ℕ → ℕ → ℕ → ℕ
 weightOf t s reserve g h = pick (eqb g h) 0 (max (heldCount s (inUse t)) reserve)
 
-pub weight-read : (b : LeaseTable) (c : Scope) (s h g r : ℕ) → r ≡ weightOf (getD (b .tenants) g noLeases) s (getD (c .reserve) g 0) g h → r ≡ otherLoad (c .reserve) (leasesOf b) s h g
+pub other-read : (b : LeaseTable) (c : Scope) (s h g r : ℕ) → r ≡ weightOf (getD (b .tenants) g noLeases) s (getD (c .reserve) g 0) g h → r ≡ otherLoad (c .reserve) (leasesOf b) s h g
 unfolding weightOf otherLoad
-weight-read b c s h g r e = e ∙ ap (λ (ls : List Lease). pick (eqb g h) 0 (max (heldCount s ls) (getD (c .reserve) g 0))) (reads b g)
+other-read b c s h g r e = e ∙ ap (λ (ls : List Lease). pick (eqb g h) 0 (max (heldCount s ls) (getD (c .reserve) g 0))) (reads b g)
 
-pub weight-is : (t : TenantLeases) (s reserve n r : ℕ) → n ≡ heldCount s (inUse t) → r ≡ max n reserve → r ≡ max (heldCount s (inUse t)) reserve
-weight-is t s reserve n r p e = e ∙ ap (λ (x : ℕ). max x reserve) p
+pub other-is : (t : TenantLeases) (s reserve n r : ℕ) → n ≡ heldCount s (inUse t) → r ≡ max n reserve → r ≡ max (heldCount s (inUse t)) reserve
+other-is t s reserve n r p e = e ∙ ap (λ (x : ℕ). max x reserve) p
 
-pub weight-small : (t : TenantLeases) (s reserve n r : ℕ) → n ≡ heldCount s (inUse t) → reserve < 256 → r ≡ max n reserve → r < 256
-weight-small t s reserve n r p h e = omega (arith, length-offsets (heldOf s (inUse t)))
+pub other-small : (t : TenantLeases) (s reserve n r : ℕ) → n ≡ heldCount s (inUse t) → reserve < 256 → r ≡ max n reserve → r < 256
+other-small t s reserve n r p h e = omega (arith, length-offsets (heldOf s (inUse t)))
 
 unfoldable pub loadWith : Scope → List (List Lease) → ℕ → ℕ → ℕ → ℕ → ℕ
 loadWith c t s h d g = max (pick (eqb g h) d (heldAt t s g)) (getD (c .reserve) g 0)
 
 -- the others' load and the tenant's own make the sum
-pub pressure-split : (c : Scope) (n : ℕ) (t : List (List Lease)) (s h d : ℕ) → h < n
+pub committed-split : (c : Scope) (n : ℕ) (t : List (List Lease)) (s h d : ℕ) → h < n
     → pressureWith c n t s h d ≡ sumTo (otherLoad (c .reserve) t s h) n + max d (getD (c .reserve) h 0)
 unfolding pressureWith sumTo otherLoad pick loadWith
-pressure-split c n t s h d p = below n p
+committed-split c n t s h d p = below n p
   where
     own : loadWith c t s h d h ≡ max d (getD (c .reserve) h 0)
     own = ap (λ (b : Bool). max (pick b d (heldAt t s h)) (getD (c .reserve) h 0)) (eq-eqb h h refl)
@@ -117,7 +117,7 @@ pub difference-is : (a b m n r : ℕ) → a ≡ m → b ≡ n → r ≡ differen
 difference-is a b m n r p q e = e ∙ ap₂ differenceOf p q
 
 -- ---- the whole
-unfoldable pub numbersOf : Scope → ℕ → List (List Lease) → Ask → Load
+unfoldable pub numbersOf : Scope → ℕ → List (List Lease) → Ask → GrantNumbers
 numbersOf c n t a = record {
   held = heldAt t (a .scope) (a .tenant);
   free = length (offsets (freeOf t a));
@@ -127,7 +127,7 @@ numbersOf c n t a = record {
   size = c .size;
 }
 
-pub record Numbered (c : Scope) (n : ℕ) (t : List (List Lease)) (a : Ask) (r : Load) : Type 0 where
+pub record Numbered (c : Scope) (n : ℕ) (t : List (List Lease)) (a : Ask) (r : GrantNumbers) : Type 0 where
   pub whole : r ≡ numbersOf c n t a
   pub small : Small r
 
@@ -151,14 +151,14 @@ pub allowed-is : (c : Scope) (n : ℕ) (t : List (List Lease)) (a : Ask) (k : �
 unfolding allowed allowedOf numbersOf
 allowed-is c n t a k h =
     let d : ℕ = heldAt t (a .scope) (a .tenant) + (k - length (offsets (freeOf t a))) in
-    ap (λ (x : ℕ). leb d (getD (c .limit) (a .tenant) 0) && leb x (c .size)) (pressure-split c n t (a .scope) (a .tenant) d h)
+    ap (λ (x : ℕ). leb d (getD (c .limit) (a .tenant) 0) && leb x (c .size)) (committed-split c n t (a .scope) (a .tenant) d h)
 
-pub grant-is : (c : Scope) (n : ℕ) (t : List (List Lease)) (a : Ask) (l : Load) (k o f m d : ℕ) → a .tenant < n → Numbered c n t a l → d ≡ a .desired → k ≡ largest (allowedOf l) d
+pub grant-is : (c : Scope) (n : ℕ) (t : List (List Lease)) (a : Ask) (l : GrantNumbers) (k o f m d : ℕ) → a .tenant < n → Numbered c n t a l → d ≡ a .desired → k ≡ largest (allowedOf l) d
     → o ≡ freeOf t a → f ≡ nobodysOf c t a → m ≡ setOf (chosen k o f) → _≡_ {A = Grant} (record { number = k; addresses = m }) (grantOf c n t a)
 unfolding grantOf
 grant-is c n t a l k o f m d h v ed ek eo ef em =
     let e : k ≡ largest (allowed c n t a) (a .desired) =
-    ek ∙ ap (largest (allowedOf l)) ed ∙ ap (λ (x : Load). largest (allowedOf x) (a .desired)) (v .whole) ∙ sym (largest-same _ _ (a .desired) (λ k. allowed-is c n t a k h)) in
+    ek ∙ ap (largest (allowedOf l)) ed ∙ ap (λ (x : GrantNumbers). largest (allowedOf x) (a .desired)) (v .whole) ∙ sym (largest-same _ _ (a .desired) (λ k. allowed-is c n t a k h)) in
     cc
 
 pub suffices-is : (least r : ℕ) (g : Grant) → r ≡ least → leb r (g .number) ≡ suffices least g

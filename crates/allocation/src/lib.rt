@@ -28,7 +28,7 @@ pub struct Grant {
 
 // The numbers that the rule goes by: document 01's D and f, the tenant's reserve and limit, what the others hold or have in reserve,
 // and the scope's size.
-pub struct Load {
+pub struct GrantNumbers {
     pub held: u32,
     pub free: u32,
     pub reserve: u32,
@@ -38,7 +38,7 @@ pub struct Load {
 }
 
 // The largest number that the rule allows, up to the desired one.
-fn most(l: Load, desired: u32) -> u32
+fn most(l: GrantNumbers, desired: u32) -> u32
     requires { ⌜ Small l ⌝ }
     ensures { λ r. ⌜ r ≡ largest (allowedOf l) desired ⌝ }
 {
@@ -68,7 +68,7 @@ fn wide16(x: u16) -> u32
 }
 
 // What a tenant g other than h holds or has in reserve.
-fn weight(t: TenantLeases, scope: u8, reserve: u8, g: usize, h: usize) -> u32
+fn committed_other(t: TenantLeases, scope: u8, reserve: u8, g: usize, h: usize) -> u32
     ensures { λ r. ⌜ (r ≡ weightOf t scope reserve g h) × (r < 256) ⌝ }
 {
     if g == h {
@@ -87,7 +87,7 @@ fn others(table: LeaseTable, c: Scope, n: usize, scope: u8, h: usize) -> u32
     let mut g: usize = 0;
     while g < n {
         let t = table.tenants[g];
-        let x = weight(t, scope, c.reserve[g], g, h);
+        let x = committed_other(t, scope, c.reserve[g], g, h);
         sum += x;
         g += 1;
     }
@@ -157,13 +157,13 @@ fn nobodys(table: LeaseTable, c: Scope, a: Ask) -> u64
     address_set::difference(all, some)
 }
 
-fn numbers(table: LeaseTable, c: Scope, n: usize, a: Ask, own: u64) -> Load
+fn numbers(table: LeaseTable, c: Scope, n: usize, a: Ask, own: u64) -> GrantNumbers
     requires { ⌜ (a .tenant < n) × (n ≤ 8) × (own ≡ freeOf (leasesOf table) a) ⌝ }
     ensures { λ r. ⌜ Numbered c n (leasesOf table) a r ⌝ }
 {
     let h = a.tenant;
     let t = table.tenants[h];
-    Load {
+    GrantNumbers {
         held: state::held_count(t, a.scope),
         free: address_set::count(own),
         reserve: wide(c.reserve[h]),

@@ -11,9 +11,9 @@ use lib.Dec.{ltb}
 use lib.ListN.{drop, getD, length}
 use borrow.Author.Tests.{eq-eqb, le-ltb, lt-ltb, ne-eqb}
 use Rattle.address_set.specs.Laws.{length-offsets}
-use Rattle.board_text.specs.Board.{Line, bookLines, decimal, dotted, field, header, lengthIn, line, linesTo, refusedLine, roomWith, scopeLines, textOf}
+use Rattle.board_text.specs.Board.{Line, bookLines, decimal, dotted, field, headerLine, lengthIn, line, linesTo, refusedLine, roomWithText, scopeLines, textOf}
 use Rattle.lists.specs.Pick.{pick}
-use Rattle.octets.specs.Laws.{joined, whole, whole-length, wrote-as, wrote-none}
+use Rattle.octets.specs.Laws.{wrote-joined, wrote-whole, whole-length, wrote-as, wrote-none}
 use Rattle.octets.specs.Octets.{Wrote}
 use Rattle.state.specs.Book.{heldCount, heldOf, inUse, scopeAt, tenantAt}
 use Rattle.state.specs.declared.Lease.{Lease}
@@ -27,7 +27,7 @@ pub line-one : {r₀ r₁ : List ℕ} {at n x : ℕ} → Wrote r₀ at (x ∷ []
 line-one w = record { wrote = w; small = omega (arith, w .next) }
 
 line-join : {r₀ r₁ r₂ xs ys : List ℕ} {a b c m n : ℕ} → a ≤ length r₀ → Line r₀ a xs r₁ b m → Line r₁ b ys r₂ c n → Line r₀ a (xs ++ ys) r₂ c (m + n)
-line-join h p q = record { wrote = joined h (p .wrote) (q .wrote); small = omega (arith, p .small, q .small) }
+line-join h p q = record { wrote = wrote-joined h (p .wrote) (q .wrote); small = omega (arith, p .small, q .small) }
 
 line-as : {r₀ r₁ xs ys : List ℕ} {a n m k : ℕ} → xs ≡ ys → m ≤ k → Line r₀ a xs r₁ n m → Line r₀ a ys r₁ n k
 line-as e h p = record { wrote = wrote-as e (p .wrote); small = omega (arith, p .small) }
@@ -104,7 +104,7 @@ module _ {f : ℕ → List ℕ} {most n : ℕ} {r₀ : List ℕ} {at : ℕ} {buf
         within = omega arith;
         fits = v .fits;
         kept = q ∙ v .kept;
-        wrote = wrote-as (ap (linesTo f) (sym (add-one i))) (joined (omega (arith, v .fits)) (v .wrote) (p .wrote));
+        wrote = wrote-as (ap (linesTo f) (sym (add-one i))) (wrote-joined (omega (arith, v .fits)) (v .wrote) (p .wrote));
         small = omega (arith, v .small, p .small);
       }
 
@@ -122,39 +122,39 @@ book-done s b v e h = record { wrote = wrote-as (ap (linesTo (scopeLines s b)) e
 pub ruleset lineLoops = (lines-start, lines-room, lines-next, scope-done, book-done)
 
 -- ---- the whole
-pub board-wrote : {r₀ r₁ r₂ : List ℕ} {a b : ℕ} (s : State) (t : LeaseTable) → Wrote r₀ 0 header r₁ a → Line r₁ a (bookLines s t) r₂ b 1024 → Wrote r₀ 0 (header ++ bookLines s t) r₂ b
-board-wrote s t p q = joined (omega arith) p (q .wrote)
+pub board-wrote : {r₀ r₁ r₂ : List ℕ} {a b : ℕ} (s : State) (t : LeaseTable) → Wrote r₀ 0 headerLine r₁ a → Line r₁ a (bookLines s t) r₂ b 1024 → Wrote r₀ 0 (headerLine ++ bookLines s t) r₂ b
+board-wrote s t p q = wrote-joined (omega arith) p (q .wrote)
 
 pub refused-wrote : {r₀ r₁ r₂ r₃ : List ℕ} {a b c : ℕ} (n : ℕ) → Wrote r₀ 0 (114 ∷ 101 ∷ 102 ∷ 117 ∷ 115 ∷ 101 ∷ 100 ∷ []) r₁ a → Line r₁ a (field n) r₂ b 4 → Line r₂ b (10 ∷ []) r₃ c 1 → Wrote r₀ 0 (refusedLine n) r₃ c
 unfolding refusedLine
-refused-wrote n p q w = wrote-as (append-assoc (114 ∷ 101 ∷ 102 ∷ 117 ∷ 115 ∷ 101 ∷ 100 ∷ []) (field n) (10 ∷ [])) (joined (omega arith) (joined (omega arith) p (q .wrote)) (w .wrote))
+refused-wrote n p q w = wrote-as (append-assoc (114 ∷ 101 ∷ 102 ∷ 117 ∷ 115 ∷ 101 ∷ 100 ∷ []) (field n) (10 ∷ [])) (wrote-joined (omega arith) (wrote-joined (omega arith) p (q .wrote)) (w .wrote))
 
 module _ (r : Loaded) (room : List ℕ) where
-  pub board-none : length room < 1100 → (_≡_ {A = ℕ} 0 (lengthIn r room)) × (room ≡ roomWith r room)
-  unfolding lengthIn roomWith pick
+  pub board-none : length room < 1100 → (_≡_ {A = ℕ} 0 (lengthIn r room)) × (room ≡ roomWithText r room)
+  unfolding lengthIn roomWithText pick
   board-none h = let e = lt-ltb (length room) 1100 h in
       (sym (ap (λ (t : Bool). pick t 0 (length (textOf r))) e), sym (ap (λ (t : Bool). pick t room (textOf r ++ drop (length (textOf r)) room)) e))
 
-  done : (now : List ℕ) (k : ℕ) → 1100 ≤ length room → Wrote room 0 (textOf r) now k → (k ≡ lengthIn r room) × (now ≡ roomWith r room)
-  unfolding lengthIn roomWith pick
+  done : (now : List ℕ) (k : ℕ) → 1100 ≤ length room → Wrote room 0 (textOf r) now k → (k ≡ lengthIn r room) × (now ≡ roomWithText r room)
+  unfolding lengthIn roomWithText pick
   done now k h w = let e = le-ltb (length room) 1100 h in
-      (whole-length w ∙ sym (ap (λ (t : Bool). pick t 0 (length (textOf r))) e), whole w ∙ sym (ap (λ (t : Bool). pick t room (textOf r ++ drop (length (textOf r)) room)) e))
+      (whole-length w ∙ sym (ap (λ (t : Bool). pick t 0 (length (textOf r))) e), wrote-whole w ∙ sym (ap (λ (t : Bool). pick t room (textOf r ++ drop (length (textOf r)) room)) e))
 
-  pub board-done : (now : List ℕ) (k : ℕ) → 1100 ≤ length room → r .refusal ≡ 0 → Wrote room 0 (header ++ bookLines (r .state) (r .table)) now k → (k ≡ lengthIn r room) × (now ≡ roomWith r room)
+  pub board-done : (now : List ℕ) (k : ℕ) → 1100 ≤ length room → r .refusal ≡ 0 → Wrote room 0 (headerLine ++ bookLines (r .state) (r .table)) now k → (k ≡ lengthIn r room) × (now ≡ roomWithText r room)
   unfolding textOf pick
-  board-done now k h e w = done now k h (wrote-as (sym (ap (λ (t : Bool). pick t (header ++ bookLines (r .state) (r .table)) (refusedLine (r .refusal))) (eq-eqb (r .refusal) 0 e))) w)
+  board-done now k h e w = done now k h (wrote-as (sym (ap (λ (t : Bool). pick t (headerLine ++ bookLines (r .state) (r .table)) (refusedLine (r .refusal))) (eq-eqb (r .refusal) 0 e))) w)
 
-  pub board-refused : (now : List ℕ) (k : ℕ) → 1100 ≤ length room → (r .refusal ≡ 0 → ⊥) → Wrote room 0 (refusedLine (r .refusal)) now k → (k ≡ lengthIn r room) × (now ≡ roomWith r room)
+  pub board-refused : (now : List ℕ) (k : ℕ) → 1100 ≤ length room → (r .refusal ≡ 0 → ⊥) → Wrote room 0 (refusedLine (r .refusal)) now k → (k ≡ lengthIn r room) × (now ≡ roomWithText r room)
   unfolding textOf pick
-  board-refused now k h e w = done now k h (wrote-as (sym (ap (λ (t : Bool). pick t (header ++ bookLines (r .state) (r .table)) (refusedLine (r .refusal))) (ne-eqb (r .refusal) 0 e))) w)
+  board-refused now k h e w = done now k h (wrote-as (sym (ap (λ (t : Bool). pick t (headerLine ++ bookLines (r .state) (r .table)) (refusedLine (r .refusal))) (ne-eqb (r .refusal) 0 e))) w)
 
 -- what was read
 module _ (r q : Loaded) (room now : List ℕ) (k : ℕ) (e : r ≡ q) (h : 1100 ≤ length room) where
-  pub board-answer : r .refusal ≡ 0 → Wrote room 0 (header ++ bookLines (r .state) (r .table)) now k → (k ≡ lengthIn q room) × (now ≡ roomWith q room)
-  board-answer z w = subst (λ (x : Loaded). (k ≡ lengthIn x room) × (now ≡ roomWith x room)) e (board-done r room now k h z w)
+  pub board-answer : r .refusal ≡ 0 → Wrote room 0 (headerLine ++ bookLines (r .state) (r .table)) now k → (k ≡ lengthIn q room) × (now ≡ roomWithText q room)
+  board-answer z w = subst (λ (x : Loaded). (k ≡ lengthIn x room) × (now ≡ roomWithText x room)) e (board-done r room now k h z w)
 
-  pub refused-answer : (r .refusal ≡ 0 → ⊥) → Wrote room 0 (refusedLine (r .refusal)) now k → (k ≡ lengthIn q room) × (now ≡ roomWith q room)
-  refused-answer z w = subst (λ (x : Loaded). (k ≡ lengthIn x room) × (now ≡ roomWith x room)) e (board-refused r room now k h z w)
+  pub refused-answer : (r .refusal ≡ 0 → ⊥) → Wrote room 0 (refusedLine (r .refusal)) now k → (k ≡ lengthIn q room) × (now ≡ roomWithText q room)
+  refused-answer z w = subst (λ (x : Loaded). (k ≡ lengthIn x room) × (now ≡ roomWithText x room)) e (board-refused r room now k h z w)
 
 -- a tenant's holding fits an octet
 pub held-small : (s n : ℕ) (l : List Lease) → n ≡ heldCount s l → n ≤ 64

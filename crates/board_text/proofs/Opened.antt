@@ -6,14 +6,14 @@ use Rattle.state.specs.declared.Lease.{Lease}
 use Rattle.state.specs.declared.LeaseTable.{LeaseTable}
 use Rattle.state.specs.declared.State.{State}
 use Rattle.state_file.specs.declared.Loaded.{Loaded}
-use Rattle.state_file.specs.StateFile.{readOf}
+use Rattle.state_file.specs.StateFile.{readFile}
 use Rattle.records.specs.Files.{blank-read, readBlank}
 use Rattle.records.specs.Records.{tableFrom}
 use Rattle.owned.specs.declared.OwnedFile.{OwnedFile}
 use Rattle.owned.specs.Owned.{ReadsOwned}
 
 pub opened-is : (f : List ℕ) (r : OwnedFile) (t : LeaseTable) → ReadsOwned (readBlank f) r → t ≡ tableFrom (r .owned .records .leases)
-    → record { refusal = r .refusal; state = r .owned .state; table = t } ≡ readOf f
+    → record { refusal = r .refusal; state = r .owned .state; table = t } ≡ readFile f
 opened-is f r t v e =
     ap {B = Loaded} (λ (n : ℕ). record { refusal = n; state = r .owned .state; table = t }) (v .refusal)
     ∙ ap {B = Loaded} (λ (s : State). record { refusal = readBlank f .refusal; state = s; table = t }) (v .state)

@@ -32,8 +32,8 @@ linesTo f zero = []
 linesTo f (suc n) = linesTo f n ++ f n
 
 -- "scope house share limit holds"
-abbrev pub header : List ℕ
-header =
+abbrev pub headerLine : List ℕ
+headerLine =
     115 ∷ 99 ∷ 111 ∷ 112 ∷ 101 ∷ 32 ∷ 104 ∷ 111 ∷ 117 ∷ 115 ∷ 101 ∷ 32 ∷ 115 ∷ 104 ∷ 97 ∷ 114 ∷ 101 ∷ 32 ∷ 108 ∷ 105 ∷ 109 ∷ 105 ∷ 116 ∷ 32 ∷ 104 ∷ 111 ∷ 108 ∷ 100 ∷ 115 ∷ 10 ∷ []
 
 -- "refused" and the number
@@ -55,14 +55,14 @@ bookLines s b = linesTo (scopeLines s b) (scopesIn s)
 
 -- all that is printed for what the reader answers
 unfoldable pub textOf : Loaded → List ℕ
-textOf r = pick (eqb (r .refusal) 0) (header ++ bookLines (r .state) (r .table)) (refusedLine (r .refusal))
+textOf r = pick (eqb (r .refusal) 0) (headerLine ++ bookLines (r .state) (r .table)) (refusedLine (r .refusal))
 
 -- a room below 1,100 octets is left as it is
 unfoldable pub lengthIn : Loaded → List ℕ → ℕ
 lengthIn r room = pick (ltb (length room) 1100) 0 (length (textOf r))
 
-unfoldable pub roomWith : Loaded → List ℕ → List ℕ
-roomWith r room = pick (ltb (length room) 1100) room (textOf r ++ drop (length (textOf r)) room)
+unfoldable pub roomWithText : Loaded → List ℕ → List ℕ
+roomWithText r room = pick (ltb (length room) 1100) room (textOf r ++ drop (length (textOf r)) room)
 
 -- xs was written, and takes at most so many octets
 pub record Line (before : List ℕ) (at : ℕ) (xs : List ℕ) (after : List ℕ) (n most : ℕ) : Type 0 where

@@ -3,10 +3,10 @@ ghost use mathlib.Core.List.{[], _++_, _∷_};
 ghost use mathlib.Core.Path.{_≡_};
 ghost use Prim.Native.Nat.{_%_, _+_, _/_, _<_, _≤_};
 ghost use lib.ListN.{length};
-ghost use Rattle.board_text.specs.Board.{Line, bookLines, decimal, dotted, field, header, lengthIn, line, refusedLine, roomWith, scopeLines};
+ghost use Rattle.board_text.specs.Board.{Line, bookLines, decimal, dotted, field, headerLine, lengthIn, line, refusedLine, roomWithText, scopeLines};
 ghost use Rattle.octets.specs.Octets.{Wrote};
 ghost use Rattle.state.specs.Book.{heldCount, inUse, tenantAt};
-ghost use Rattle.state_file.specs.StateFile.{readOf};
+ghost use Rattle.state_file.specs.StateFile.{readFile};
 use state::LeaseTable;
 use state::State;
 use state_file::Loaded;
@@ -151,7 +151,7 @@ fn put_book(buffer: &mut [u8], at: usize, state: State, table: LeaseTable) -> us
 
 fn put_board(buffer: &mut [u8], state: State, table: LeaseTable) -> usize
     requires { ⌜ 1100 ≤ length (now buffer) ⌝ }
-    ensures { λ r. ⌜ Wrote (now (buffer .entry)) 0 (header ++ bookLines state table) (now (buffer .exit)) r ⌝ }
+    ensures { λ r. ⌜ Wrote (now (buffer .entry)) 0 (headerLine ++ bookLines state table) (now (buffer .exit)) r ⌝ }
 {
     let a = octets::put_run(buffer, 0, b"scope house share limit holds\n", 30);
     put_book(buffer, a, state, table)
@@ -168,7 +168,7 @@ fn put_refused(buffer: &mut [u8], n: u8) -> usize
 
 // The book of a state file, by the lent reader.
 fn read_book(file: &[u8]) -> Loaded
-    ensures { λ r. ⌜ r ≡ readOf (now (file .entry)) ⌝ }
+    ensures { λ r. ⌜ r ≡ readFile (now (file .entry)) ⌝ }
 {
     let f = owned::open(file);
     let o = f.owned;
@@ -184,8 +184,8 @@ fn read_book(file: &[u8]) -> Loaded
 
 // Writes what `board` prints for a file and returns its length. A room below 1,100 octets is left as it is, with length 0.
 pub fn write_board(file: &[u8], room: &mut [u8]) -> usize
-    ensures length { λ r. ⌜ r ≡ lengthIn (readOf (now (file .entry))) (now (room .entry)) ⌝ }
-    ensures octets { λ r. ⌜ now (room .exit) ≡ roomWith (readOf (now (file .entry))) (now (room .entry)) ⌝ }
+    ensures length { λ r. ⌜ r ≡ lengthIn (readFile (now (file .entry))) (now (room .entry)) ⌝ }
+    ensures octets { λ r. ⌜ now (room .exit) ≡ roomWithText (readFile (now (file .entry))) (now (room .entry)) ⌝ }
 {
     if room.len() < 1100 {
         return 0;

@@ -22,7 +22,7 @@ use Rattle.allocation.specs.Rule.{takenOf, busyIn, pressureWith, allowed, grant
 use Rattle.decision.specs.declared.Verdict.{Verdict}
 use Rattle.decision.specs.declared.Reply.{Reply}
 use Rattle.decision.specs.declared.Reply.the-variants.{Nothing, Offer, LeaseAck, ReleaseAck, InfoAck, Nak}
-use Rattle.decision.specs.Parts.{isNew, hasPeriod, holdsOf, recordedOf, resends, scopePlace, knowsScope, lacksScope, zeroLength, badCounts, lacksCurrent, error1Of, farOf, error2Of, error3Of, wishedOr, startOf, lengthOf, endOf, askAt, fitsNew, newWith, newAt, newOf, othersBusy, fitsRenewed, renewedTo, renewedOf, proposalOf, error0Of, replyType, leaseFrom, withLease, plainReply, nakWith, discardWith, refusalOf}
+use Rattle.decision.specs.Parts.{isNew, hasPeriod, holdsOf, recordedOf, resends, scopePlace, knowsScope, lacksScope, zeroLength, badCounts, lacksCurrent, error1Of, skewed, error2Of, error3Of, wishedOr, startOf, lengthOf, endOf, askAt, fitsNew, newWith, newAt, newOf, othersBusy, fitsRenewed, renewedTo, renewedOf, proposalOf, error0Of, replyType, leaseFrom, withLease, plainReply, nakWith, discardWith, refusalOf}
 use Rattle.decision.specs.Decide.{leasedOf, plainOf, settledOf, judgedOf, decideOf}
 
 -- scope 239.192.0.0, size 4; tenant 1 reserve 2 limit 3; tenant 2 reserve 1 limit 4
@@ -124,5 +124,5 @@ table =
     ∷ []
 
 specimens : allHold table ≡ true
-unfolding settings wish call run replyType holds allHold ack nak p1 p3 p5 table pick filterBy isIn placeBy sumTo largest orderOf sameOf bit offsetsFrom setOf differenceOf upTo laidOut tableOf insertOf insertIn byIdentifier removeOf replaceOf liveOf dropped unionAll addressesOf overlaps usedIn takenOf busyIn pressureWith allowed grantOf suffices isNew hasPeriod holdsOf recordedOf resends scopePlace knowsScope lacksScope zeroLength badCounts lacksCurrent error1Of farOf error2Of error3Of wishedOr startOf lengthOf endOf askAt fitsNew newWith newAt newOf othersBusy fitsRenewed renewedTo renewedOf proposalOf error0Of leaseFrom withLease plainReply nakWith discardWith refusalOf leasedOf plainOf settledOf judgedOf decideOf
+unfolding settings wish call run replyType holds allHold ack nak p1 p3 p5 table pick filterBy isIn placeBy sumTo largest orderOf sameOf bit offsetsFrom setOf differenceOf upTo laidOut tableOf insertOf insertIn byIdentifier removeOf replaceOf liveOf dropped unionAll addressesOf overlaps usedIn takenOf busyIn pressureWith allowed grantOf suffices isNew hasPeriod holdsOf recordedOf resends scopePlace knowsScope lacksScope zeroLength badCounts lacksCurrent error1Of skewed error2Of error3Of wishedOr startOf lengthOf endOf askAt fitsNew newWith newAt newOf othersBusy fitsRenewed renewedTo renewedOf proposalOf error0Of leaseFrom withLease plainReply nakWith discardWith refusalOf leasedOf plainOf settledOf judgedOf decideOf
 specimens = refl

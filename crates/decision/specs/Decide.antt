@@ -15,7 +15,7 @@ use Rattle.decision.specs.declared.Verdict.{Verdict}
 use Rattle.decision.specs.declared.Decided.{Decided}
 use Rattle.decision.specs.declared.Reply.{Reply}
 use Rattle.decision.specs.declared.Reply.the-variants.{Nothing, Offer, LeaseAck, ReleaseAck, InfoAck, Nak}
-use Rattle.decision.specs.Parts.{hasPeriod, ownOf, named, holdsOf, recordedOf, resends, error1Of, error2Of, error3Of, proposalOf, error0Of, leaseFrom, updated, withLease, plainReply, refusalOf}
+use Rattle.decision.specs.Parts.{hasPeriod, ownOf, leaseIdIn, holdsOf, recordedOf, resends, error1Of, error2Of, error3Of, proposalOf, error0Of, leaseFrom, updated, withLease, plainReply, refusalOf}
 
 -- a verdict that leaves the leases as they are
 abbrev pub unchanged : LeaseTable → Verdict → Decided
@@ -33,12 +33,12 @@ leasedOf b h m l =
     -- "REQUEST records the lease with its type and transaction id"
     (pick (eqb (m .kind) 3) (changed b h (insertOf l (ownOf b h)) (withLease LeaseAck l))
     -- "RENEW keeps the addresses and sets period, type and id"
-    (changed b h (replaceOf (named m) l (ownOf b h)) (withLease LeaseAck l)))
+    (changed b h (replaceOf (leaseIdIn m) l (ownOf b h)) (withLease LeaseAck l)))
 
 -- "RELEASE removes the lease"; GETINFO changes nothing
 unfoldable pub plainOf : LeaseTable → ℕ → Fields → Decided
 plainOf b h m =
-    pick (eqb (m .kind) 7) (changed b h (removeOf (named m) (ownOf b h)) (plainReply ReleaseAck))
+    pick (eqb (m .kind) 7) (changed b h (removeOf (leaseIdIn m) (ownOf b h)) (plainReply ReleaseAck))
     (unchanged b (plainReply InfoAck))
 
 -- "Error 0", for the types that have a period

@@ -27,7 +27,7 @@ use Rattle.decision.specs.declared.Verdict.{Verdict}
 use Rattle.decision.specs.declared.Decided.{Decided}
 use Rattle.decision.specs.declared.Reply.{Reply}
 use Rattle.decision.specs.declared.Reply.the-variants.{Nothing, Offer, LeaseAck, ReleaseAck, InfoAck, Nak}
-use Rattle.decision.specs.Parts.{isNew, hasPeriod, ownOf, named, holdsOf, recordedOf, resends, scopePlace, knowsScope, lacksScope, zeroLength, badCounts, lacksCurrent, error1Of, error2Of, error3Of, startOf, lengthOf, askAt, fitsNew, newWith, newAt, newOf, renewedOf, proposalOf, error0Of, leaseFrom, withLease, nakWith, discardWith, refusalOf}
+use Rattle.decision.specs.Parts.{isNew, hasPeriod, ownOf, leaseIdIn, holdsOf, recordedOf, resends, scopePlace, knowsScope, lacksScope, zeroLength, badCounts, lacksCurrent, error1Of, error2Of, error3Of, startOf, lengthOf, askAt, fitsNew, newWith, newAt, newOf, renewedOf, proposalOf, error0Of, leaseFrom, withLease, nakWith, discardWith, refusalOf}
 use Rattle.decision.specs.Kept.{Passed, passed}
 use Rattle.decision.specs.Decide.{unchanged, changed, leasedOf, plainOf, settledOf, judgedOf, decideOf}
 

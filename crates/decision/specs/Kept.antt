@@ -24,7 +24,7 @@ use Rattle.state.specs.declared.LeaseTable.{LeaseTable}
 use Rattle.state.specs.declared.State.{State}
 use Rattle.state.specs.Book.{inUse, laidOut, leasesOf, tableOf, tenantAt, putAt, idOf, differ, other, placeOf, leaseAt, zeroLease, live, busyOf, insertOf, removeOf, replaceOf, scopeAt}
 use Rattle.state.specs.Layout.{read-back, put-laid}
-use Rattle.soundness.specs.Sound.{few, tenantsIn, scopesIn, idB, scopeKnown, belowB, offsetsB, kindB, periodB, leaseB, paddedB, disjoint, calm, zeroFrom, soundB}
+use Rattle.soundness.specs.Sound.{oneTo, tenantsIn, scopesIn, idB, scopeKnown, belowB, offsetsB, kindB, periodB, leaseB, paddedB, disjoint, compatible, zeroFrom, soundB}
 use Rattle.soundness.specs.Book.{leaseOk, Sound, sound-lists, lists-sound}
 use Rattle.soundness.specs.Kept.{sound-removed}
 use Rattle.soundness.specs.Added.{each-at, sound-renewed}
@@ -32,10 +32,10 @@ use Rattle.allocation.specs.declared.Ask.{Ask}
 use Rattle.allocation.specs.declared.Grant.{Grant}
 use Rattle.allocation.specs.Rule.{grantOf, suffices, busyIn}
 use Rattle.allocation.specs.Granted.{busy-here}
-use Rattle.allocation.specs.Kept.{calm-within, bits-disjoint, grant-offsets, grant-some, sound-granted}
+use Rattle.allocation.specs.Kept.{compatible-within, bits-disjoint, grant-offsets, grant-some, sound-granted}
 use Rattle.decision.specs.declared.Proposal.{Proposal}
 use Rattle.decision.specs.declared.Decided.{Decided}
-use Rattle.decision.specs.Parts.{horizon, defaultLease, longestLease, isNew, hasPeriod, ownOf, named, holdsOf, recordedOf, resends, scopePlace, knowsScope, lacksScope, zeroLength, badCounts, lacksCurrent, error1Of, error2Of, error3Of, wishedOr, startOf, lengthOf, endOf, askAt, fitsNew, newWith, newAt, newOf, othersBusy, fitsRenewed, renewedTo, renewedOf, proposalOf, error0Of, leaseFrom, updated}
+use Rattle.decision.specs.Parts.{horizon, defaultLease, longestLease, isNew, hasPeriod, ownOf, leaseIdIn, holdsOf, recordedOf, resends, scopePlace, knowsScope, lacksScope, zeroLength, badCounts, lacksCurrent, error1Of, error2Of, error3Of, wishedOr, startOf, lengthOf, endOf, askAt, fitsNew, newWith, newAt, newOf, othersBusy, fitsRenewed, renewedTo, renewedOf, proposalOf, error0Of, leaseFrom, updated}
 use Rattle.decision.specs.Decide.{leasedOf, plainOf, settledOf, judgedOf, decideOf}
 
 -- ---- a tenant's leases, read and written
@@ -244,7 +244,7 @@ module _ (s : State) (b : LeaseTable) (h : ℕ) (m : Fields) (v : Sound s (lease
   known-too = let p = tenant-is in omega arith
 
   scope-ok : scopeKnown s L ≡ true
-  unfolding few
+  unfolding oneTo
   scope-ok =
       let p = L-scope in let q = scoped in let r = here in
       and-both (le-leb 1 (L .scope) (omega arith)) (le-leb (L .scope) (s .«scope_count») (omega arith))
@@ -277,8 +277,8 @@ module _ (s : State) (b : LeaseTable) (h : ℕ) (m : Fields) (v : Sound s (lease
   others-ok : allBy (other (idOf L)) (getD (leasesOf b) h []) ≡ true
   unfolding holdsOf leaseFrom
   others-ok =
-      ap (allBy (other (named m))) (sym (own-is b h))
-      ∙ place-all (λ l. sameOf (idOf l) (named m)) (ownOf b h) (ltb-false (placeOf (named m) (ownOf b h)) (length (ownOf b h)) (ok .new new))
+      ap (allBy (other (leaseIdIn m))) (sym (own-is b h))
+      ∙ place-all (λ l. sameOf (idOf l) (leaseIdIn m)) (ownOf b h) (ltb-false (placeOf (leaseIdIn m) (ownOf b h)) (length (ownOf b h)) (ok .new new))
 
   room : length (getD (leasesOf b) h []) < 16
   room = let p = ltb-true (length (ownOf b h)) 16 (fit .0) in let q : length (ownOf b h) ≡ length (getD (leasesOf b) h []) = ap length (own-is b h) in omega arith
@@ -304,13 +304,13 @@ module _ (s : State) (b : LeaseTable) (h : ℕ) (m : Fields) (v : Sound s (lease
   abbrev N : Lease
   N = leaseFrom m (renewedOf s b h m (recordedOf (ownOf b h) m))
 
-  found : placeOf (named m) (ownOf b h) < length (ownOf b h)
+  found : placeOf (leaseIdIn m) (ownOf b h) < length (ownOf b h)
   unfolding holdsOf
-  found = ltb-true (placeOf (named m) (ownOf b h)) (length (ownOf b h)) held
+  found = ltb-true (placeOf (leaseIdIn m) (ownOf b h)) (length (ownOf b h)) held
 
   old-good : leaseOk s O ≡ true
   unfolding recordedOf
-  old-good = at-all (leaseOk s) zeroLease (ownOf b h) (placeOf (named m) (ownOf b h)) found (ap (allBy (leaseOk s)) (own-is b h) ∙ each-at s (leasesOf b) v h)
+  old-good = at-all (leaseOk s) zeroLease (ownOf b h) (placeOf (leaseIdIn m) (ownOf b h)) found (ap (allBy (leaseOk s)) (own-is b h) ∙ each-at s (leasesOf b) v h)
 
   N-scope : N .scope ≡ O .scope
   unfolding leaseFrom renewedOf renewedTo
@@ -341,7 +341,7 @@ module _ (s : State) (b : LeaseTable) (h : ℕ) (m : Fields) (v : Sound s (lease
       (omega arith, omega arith)
 
   N-known : scopeKnown s N ≡ true
-  N-known = ap (few (s .«scope_count»)) N-scope ∙ known-scope s O old-good
+  N-known = ap (oneTo (s .«scope_count»)) N-scope ∙ known-scope s O old-good
 
   N-offsets : offsetsB s N ≡ true
   unfolding offsetsB leaseFrom renewedOf renewedTo
@@ -365,35 +365,35 @@ module _ (s : State) (b : LeaseTable) (h : ℕ) (m : Fields) (v : Sound s (lease
   N-good : leaseOk s N ≡ true
   N-good = lease-rules s N N-id N-offsets N-known N-kind (N-period .0) (N-period .1) N-some N-padded
 
-  N-named : idOf N ≡ named m
+  N-named : idOf N ≡ leaseIdIn m
   unfolding leaseFrom
   N-named = refl
 
-  -- the other leases are calm with it
-  rest-is : getD (leasesOf (updated b h (removeOf (named m) (ownOf b h)))) h [] ≡ removeOf (named m) (ownOf b h)
+  -- the other leases are compatible with it
+  rest-is : getD (leasesOf (updated b h (removeOf (leaseIdIn m) (ownOf b h)))) h [] ≡ removeOf (leaseIdIn m) (ownOf b h)
   rest-is =
-      ap (λ (x : List (List Lease)). getD x h []) (updated-leases b h (removeOf (named m) (ownOf b h)))
-      ∙ getD-set-same (leasesOf b) h (removeOf (named m) (ownOf b h)) [] (there-too s b h there)
+      ap (λ (x : List (List Lease)). getD x h []) (updated-leases b h (removeOf (leaseIdIn m) (ownOf b h)))
+      ∙ getD-set-same (leasesOf b) h (removeOf (leaseIdIn m) (ownOf b h)) [] (there-too s b h there)
 
-  rest-calm : allBy (calm N) (removeOf (named m) (ownOf b h)) ≡ true
+  rest-compatible : allBy (compatible N) (removeOf (leaseIdIn m) (ownOf b h)) ≡ true
   unfolding othersBusy disjoint
-  rest-calm =
-      calm-within N (O .scope) F E (othersBusy b h m (O .scope) F E) (removeOf (named m) (ownOf b h)) N-scope N-start N-end
+  rest-compatible =
+      compatible-within N (O .scope) F E (othersBusy b h m (O .scope) F E) (removeOf (leaseIdIn m) (ownOf b h)) N-scope N-start N-end
       (λ a. let p = bits-disjoint (othersBusy b h m (O .scope) F E) (O .addresses) (eq-eqb (bitAnd (othersBusy b h m (O .scope) F E) (O .addresses)) 0 apart-from-others) a in
       let q : bit (N .addresses) a ≡ bit (O .addresses) a = ap (λ (x : ℕ). bit x a) N-addresses in omega arith)
       (λ a. subst (λ (x : List Lease). bit (busyOf (O .scope) F E x) a ≤ bit (othersBusy b h m (O .scope) F E) a) rest-is
-      (busy-here (O .scope) F E (leasesOf (updated b h (removeOf (named m) (ownOf b h)))) h a))
+      (busy-here (O .scope) F E (leasesOf (updated b h (removeOf (leaseIdIn m) (ownOf b h)))) h a))
 
-  pub renew-sound : Sound s (leasesOf (updated b h (replaceOf (named m) N (ownOf b h))))
+  pub renew-sound : Sound s (leasesOf (updated b h (replaceOf (leaseIdIn m) N (ownOf b h))))
   unfolding recordedOf
   renew-sound =
       let o = own-is b h in
-      back s b h there (replaceOf (named m) N)
-      (sound-renewed s (leasesOf b) h (named m) N v known (there-too s b h there) N-named
-      (subst (λ (x : List Lease). placeOf (named m) x < length x) o found)
-      (subst (λ (x : List Lease). leaseAt x (placeOf (named m) x) .scope ≡ N .scope) o (sym N-scope))
-      (subst (λ (x : List Lease). leaseAt x (placeOf (named m) x) .addresses ≡ N .addresses) o (sym N-addresses))
-      N-good (subst (λ (x : List Lease). allBy (calm N) (removeOf (named m) x) ≡ true) o rest-calm))
+      back s b h there (replaceOf (leaseIdIn m) N)
+      (sound-renewed s (leasesOf b) h (leaseIdIn m) N v known (there-too s b h there) N-named
+      (subst (λ (x : List Lease). placeOf (leaseIdIn m) x < length x) o found)
+      (subst (λ (x : List Lease). leaseAt x (placeOf (leaseIdIn m) x) .scope ≡ N .scope) o (sym N-scope))
+      (subst (λ (x : List Lease). leaseAt x (placeOf (leaseIdIn m) x) .addresses ≡ N .addresses) o (sym N-addresses))
+      N-good (subst (λ (x : List Lease). allBy (compatible N) (removeOf (leaseIdIn m) x) ≡ true) o rest-compatible))
 
 -- ---- the decision, test by test
 by-test : (P : Decided → Type 0) (t : Bool) (x y : Decided) → (t ≡ true → P x) → (t ≡ false → P y) → P (pick t x y)
@@ -437,12 +437,12 @@ module _ (s : State) (b : LeaseTable) (h : ℕ) (m : Fields) (v : Sound s (lease
       (request-sound s b h m v known there good k ok (sym (ap (error0Of s) q) ∙ e0)))
       (λ k3. let k : m .kind ≡ 4 = last-type hp k1 k3 in
       let q = proposal-renewed (recordedOf (ownOf b h) m) k in
-      subst (λ (p : Proposal). Sound s (leasesOf (updated b h (replaceOf (named m) (leaseFrom m p) (ownOf b h))))) (sym q)
+      subst (λ (p : Proposal). Sound s (leasesOf (updated b h (replaceOf (leaseIdIn m) (leaseFrom m p) (ownOf b h))))) (sym q)
       (renew-sound s b h m v known there good k ok (held-four k (holdsOf (ownOf b h) m) e3) (sym (ap (error0Of s) q) ∙ e0)))))
 
   plain-sound : Keeps (plainOf b h m)
   unfolding plainOf
-  plain-sound = by-test Keeps _ _ _ (λ k. release-sound s b h there (named m) v) (λ k. v)
+  plain-sound = by-test Keeps _ _ _ (λ k. release-sound s b h there (leaseIdIn m) v) (λ k. v)
 
   -- the leases after a decision on a sound book are sound again
   pub decided-sound : Sound s (leasesOf (decideOf s b h m .table))

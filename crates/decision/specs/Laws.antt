@@ -25,7 +25,7 @@ use Rattle.decision.specs.declared.Proposal.{Proposal}
 use Rattle.decision.specs.declared.Verdict.{Verdict}
 use Rattle.decision.specs.declared.Decided.{Decided}
 use Rattle.decision.specs.declared.Reply.{Reply}
-use Rattle.decision.specs.Parts.{horizon, defaultLease, longestLease, skew, isNew, hasPeriod, ownOf, named, holdsOf, OldThere, recordedOf, resends, scopePlace, knowsScope, lacksScope, lacksCurrent, farOf, error3Of, wishedOr, startOf, lengthOf, endOf, askAt, fitsNew, newWith, newAt, newOf, othersBusy, fitsRenewed, renewedTo, renewedOf, proposalOf, error0Of, leaseFrom, updated, withLease, plainReply, refusalOf}
+use Rattle.decision.specs.Parts.{horizon, defaultLease, longestLease, skew, isNew, hasPeriod, ownOf, leaseIdIn, holdsOf, OldThere, recordedOf, resends, scopePlace, knowsScope, lacksScope, lacksCurrent, skewed, error3Of, wishedOr, startOf, lengthOf, endOf, askAt, fitsNew, newWith, newAt, newOf, othersBusy, fitsRenewed, renewedTo, renewedOf, proposalOf, error0Of, leaseFrom, updated, withLease, plainReply, refusalOf}
 use Rattle.decision.specs.Decide.{unchanged, changed, leasedOf, settledOf, judgedOf, decideOf}
 
 -- ---- tests
@@ -41,13 +41,13 @@ pub current-is : (m : Fields) (a r : Bool) → a ≡ (m .times .start .there || 
 unfolding lacksCurrent
 current-is m a r p e = e ∙ ap (λ (x : Bool). x && not (m .times .current .there)) p
 
-pub far-below : (a b : ℕ) → a < b → ltb skew (b - a) ≡ farOf a b
-unfolding farOf
-far-below a b h = let e : b - a ≡ (a - b) + (b - a) = omega arith in ap (ltb skew) e
+pub skew-below : (a b : ℕ) → a < b → ltb skew (b - a) ≡ skewed a b
+unfolding skewed
+skew-below a b h = let e : b - a ≡ (a - b) + (b - a) = omega arith in ap (ltb skew) e
 
-pub far-above : (a b : ℕ) → b ≤ a → ltb skew (a - b) ≡ farOf a b
-unfolding farOf
-far-above a b h = let e : a - b ≡ (a - b) + (b - a) = omega arith in ap (ltb skew) e
+pub skew-above : (a b : ℕ) → b ≤ a → ltb skew (a - b) ≡ skewed a b
+unfolding skewed
+skew-above a b h = let e : a - b ≡ (a - b) + (b - a) = omega arith in ap (ltb skew) e
 
 pub error3-is : (m : Fields) (held a r : Bool) → a ≡ (eqb (m .kind) 4 || eqb (m .kind) 7) → r ≡ (a && not held) → r ≡ error3Of m held
 unfolding error3Of
@@ -95,11 +95,11 @@ pub new-is : (s : State) (b : LeaseTable) (h : ℕ) (m : Fields) (k : ℕ) (r : 
 unfolding newOf
 new-is s b h m k r p e = e ∙ ap (newAt s b h m) p
 
-pub others-is : (b b′ : LeaseTable) (h : ℕ) (m : Fields) (scope from to : ℕ) (t t′ : TenantLeases) (r : ℕ) → t ≡ tenantAt b h → t′ ≡ laidOut (removeOf (named m) (inUse t)) → b′ ≡ putAt b h t′
+pub others-is : (b b′ : LeaseTable) (h : ℕ) (m : Fields) (scope from to : ℕ) (t t′ : TenantLeases) (r : ℕ) → t ≡ tenantAt b h → t′ ≡ laidOut (removeOf (leaseIdIn m) (inUse t)) → b′ ≡ putAt b h t′
     → r ≡ busyIn scope from to (leasesOf b′) → r ≡ othersBusy b h m scope from to
 unfolding othersBusy
 others-is b b′ h m scope from to t t′ r et et′ eb er =
-    er ∙ ap (λ (x : LeaseTable). busyIn scope from to (leasesOf x)) (eb ∙ ap (putAt b h) (et′ ∙ ap (λ (x : TenantLeases). laidOut (removeOf (named m) (inUse x))) et))
+    er ∙ ap (λ (x : LeaseTable). busyIn scope from to (leasesOf x)) (eb ∙ ap (putAt b h) (et′ ∙ ap (λ (x : TenantLeases). laidOut (removeOf (leaseIdIn m) (inUse x))) et))
 
 pub renewed-to-is : (b : LeaseTable) (h : ℕ) (m : Fields) (l : Lease) (from to used : ℕ) (f : Bool) → used ≡ othersBusy b h m (l .scope) from to → f ≡ fitsRenewed used (l .addresses)
     → _≡_ {A = Proposal} (record { fits = f; scope = l .scope; start = from; end = to; addresses = l .addresses }) (renewedTo b h m l from to)
@@ -111,10 +111,10 @@ pub renewed-is : (s : State) (b : LeaseTable) (h : ℕ) (m : Fields) (l : Lease)
 unfolding renewedOf
 renewed-is s b h m l from to r p q e = cc
 
-pub lease-is : (m : Fields) (p : Proposal) (e : ℕ) → e ≡ min (p .end) 4294967295
+pub lease-from-is : (m : Fields) (p : Proposal) (e : ℕ) → e ≡ min (p .end) 4294967295
     → _≡_ {A = Lease} (record { scope = p .scope; «id_len» = m .id .len; id = m .id .octets; kind = m .kind; xid = m .xid; start = p .start; end = e; addresses = p .addresses }) (leaseFrom m p)
 unfolding leaseFrom
-lease-is m p e q = cc
+lease-from-is m p e q = cc
 
 -- ---- decisions
 pub unchanged-is : (b : LeaseTable) {v w : Verdict} → v ≡ w → _≡_ {A = Decided} (record { verdict = v; table = b }) (unchanged b w)
@@ -145,14 +145,14 @@ room-at b h t e p = subst (λ (x : TenantLeases). length (inUse x) < 16) (sym e)
 pub old-at : (b : LeaseTable) (h : ℕ) (t : TenantLeases) (i : List ℕ) → t ≡ tenantAt b h → placeOf i (ownOf b h) < length (ownOf b h) → placeOf i (inUse t) < length (inUse t)
 old-at b h t i e p = subst (λ (x : TenantLeases). placeOf i (inUse x) < length (inUse x)) (sym e) p
 
-pub old-use : (b : LeaseTable) (h : ℕ) (m : Fields) → OldThere b h m → (m .kind ≡ 1 → ⊥) → (m .kind ≡ 3 → ⊥) → placeOf (named m) (ownOf b h) < length (ownOf b h)
+pub old-use : (b : LeaseTable) (h : ℕ) (m : Fields) → OldThere b h m → (m .kind ≡ 1 → ⊥) → (m .kind ≡ 3 → ⊥) → placeOf (leaseIdIn m) (ownOf b h) < length (ownOf b h)
 unfolding OldThere
 old-use b h m f p q = f p q
 
 pub old-there : (b : LeaseTable) (h : ℕ) (m : Fields) (held : Bool) {q r : Bool} → held ≡ holdsOf (ownOf b h) m → q ≡ error3Of m held → q ≡ false → r ≡ hasPeriod m → r ≡ true → OldThere b h m
 unfolding OldThere error3Of hasPeriod isNew holdsOf
 old-there b h m held e f g k l n1 n3 =
-    ltb-true (placeOf (named m) (ownOf b h)) (length (ownOf b h)) (sym e ∙ go (eqb (m .kind) 1) (eqb (m .kind) 3) (eqb (m .kind) 4) (eqb (m .kind) 7) held (ne-eqb (m .kind) 1 n1) (ne-eqb (m .kind) 3 n3) (sym f ∙ g) (sym k ∙ l))
+    ltb-true (placeOf (leaseIdIn m) (ownOf b h)) (length (ownOf b h)) (sym e ∙ go (eqb (m .kind) 1) (eqb (m .kind) 3) (eqb (m .kind) 4) (eqb (m .kind) 7) held (ne-eqb (m .kind) 1 n1) (ne-eqb (m .kind) 3 n3) (sym f ∙ g) (sym k ∙ l))
   where
     no : {A : Type 0} → true ≡ false → A
     no e = let z : _≡_ {A = ℕ} 0 1 = cc in absurd (omega arith)
@@ -194,16 +194,16 @@ leased-is b h m l l′ r e p = p ∙ ap (leasedOf b h m) e
 pub settled-is : (s : State) (b : LeaseTable) (h : ℕ) (m : Fields) (p p′ : Proposal) (r : Decided) → p ≡ p′ → r ≡ settledOf s b h m p → r ≡ settledOf s b h m p′
 settled-is s b h m p p′ r e q = q ∙ ap (settledOf s b h m) e
 
-pub held-is : (b : LeaseTable) (h : ℕ) (m : Fields) (t : TenantLeases) (at n : ℕ) → t ≡ tenantAt b h → at ≡ placeOf (named m) (inUse t) → n ≡ length (inUse t) → ltb at n ≡ holdsOf (ownOf b h) m
+pub held-is : (b : LeaseTable) (h : ℕ) (m : Fields) (t : TenantLeases) (at n : ℕ) → t ≡ tenantAt b h → at ≡ placeOf (leaseIdIn m) (inUse t) → n ≡ length (inUse t) → ltb at n ≡ holdsOf (ownOf b h) m
 unfolding holdsOf
 held-is b h m t at n et ea en =
-    ap₂ ltb (ea ∙ ap (λ (y : TenantLeases). placeOf (named m) (inUse y)) et) (en ∙ ap (λ (y : TenantLeases). length (inUse y)) et)
+    ap₂ ltb (ea ∙ ap (λ (y : TenantLeases). placeOf (leaseIdIn m) (inUse y)) et) (en ∙ ap (λ (y : TenantLeases). length (inUse y)) et)
 
-pub decide-is : (s : State) (b : LeaseTable) (h : ℕ) (m : Fields) (t : TenantLeases) (at n : ℕ) (l : Lease) (r : Decided) → t ≡ tenantAt b h → at ≡ placeOf (named m) (inUse t) → n ≡ length (inUse t)
+pub decide-is : (s : State) (b : LeaseTable) (h : ℕ) (m : Fields) (t : TenantLeases) (at n : ℕ) (l : Lease) (r : Decided) → t ≡ tenantAt b h → at ≡ placeOf (leaseIdIn m) (inUse t) → n ≡ length (inUse t)
     → l ≡ leaseAt (inUse t) at → r ≡ judgedOf s b h m l (ltb at n) → r ≡ decideOf s b h m
 unfolding decideOf recordedOf holdsOf
 decide-is s b h m t at n l r et ea en el er =
-    let x : at ≡ placeOf (named m) (ownOf b h) = ea ∙ ap (λ (y : TenantLeases). placeOf (named m) (inUse y)) et in
+    let x : at ≡ placeOf (leaseIdIn m) (ownOf b h) = ea ∙ ap (λ (y : TenantLeases). placeOf (leaseIdIn m) (inUse y)) et in
     let z : n ≡ length (ownOf b h) = en ∙ ap (λ (y : TenantLeases). length (inUse y)) et in
-    let w : l ≡ leaseAt (ownOf b h) (placeOf (named m) (ownOf b h)) = el ∙ ap₂ (λ (y : TenantLeases) (i : ℕ). leaseAt (inUse y) i) et x in
+    let w : l ≡ leaseAt (ownOf b h) (placeOf (leaseIdIn m) (ownOf b h)) = el ∙ ap₂ (λ (y : TenantLeases) (i : ℕ). leaseAt (inUse y) i) et x in
     er ∙ ap₂ (judgedOf s b h m) w (ap₂ ltb x z)

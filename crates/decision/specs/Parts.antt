@@ -54,19 +54,19 @@ hasPeriod m = isNew m || eqb (m .kind) 4
 abbrev pub ownOf : LeaseTable → ℕ → List Lease
 ownOf b h = inUse (tenantAt b h)
 
-abbrev pub named : Fields → List ℕ
-named m = take (m .id .len) (m .id .octets)
+abbrev pub leaseIdIn : Fields → List ℕ
+leaseIdIn m = take (m .id .len) (m .id .octets)
 
 -- is the identifier held, and its lease (an unused record where it is not)
 unfoldable pub holdsOf : List Lease → Fields → Bool
-holdsOf own m = ltb (placeOf (named m) own) (length own)
+holdsOf own m = ltb (placeOf (leaseIdIn m) own) (length own)
 
 unfoldable pub recordedOf : List Lease → Fields → Lease
-recordedOf own m = leaseAt own (placeOf (named m) own)
+recordedOf own m = leaseAt own (placeOf (leaseIdIn m) own)
 
 -- what a RENEW is left to: the lease that gives way is there
 unfoldable pub OldThere : LeaseTable → ℕ → Fields → Type 0
-OldThere b h m = (m .kind ≡ 1 → ⊥) → (m .kind ≡ 3 → ⊥) → placeOf (named m) (ownOf b h) < length (ownOf b h)
+OldThere b h m = (m .kind ≡ 1 → ⊥) → (m .kind ≡ 3 → ⊥) → placeOf (leaseIdIn m) (ownOf b h) < length (ownOf b h)
 
 -- ---- Resend
 unfoldable pub resends : Fields → Lease → Bool
@@ -105,11 +105,11 @@ unfoldable pub error1Of : State → Fields → Bool → Bool
 error1Of s m held = not (m .allowed) || (lacksScope s m || (zeroLength m || (badCounts m || (lacksCurrent m || (isNew m && held)))))
 
 -- ---- error 2: "Current Time and clock more than 1,800 apart"
-unfoldable pub farOf : ℕ → ℕ → Bool
-farOf a b = ltb skew ((a - b) + (b - a))
+unfoldable pub skewed : ℕ → ℕ → Bool
+skewed a b = ltb skew ((a - b) + (b - a))
 
 unfoldable pub error2Of : State → Fields → Bool
-error2Of s m = m .times .current .there && farOf (m .times .current .value) (s .clock)
+error2Of s m = m .times .current .there && skewed (m .times .current .value) (s .clock)
 
 -- ---- error 3: "RENEW or RELEASE of an identifier the house doesn't hold"
 unfoldable pub error3Of : Fields → Bool → Bool
@@ -161,7 +161,7 @@ updated b h ls = putAt b h (laidOut ls)
 
 -- RENEW: the addresses that other leases use in the new period
 unfoldable pub othersBusy : LeaseTable → ℕ → Fields → ℕ → ℕ → ℕ → ℕ
-othersBusy b h m scope from to = busyIn scope from to (leasesOf (updated b h (removeOf (named m) (ownOf b h))))
+othersBusy b h m scope from to = busyIn scope from to (leasesOf (updated b h (removeOf (leaseIdIn m) (ownOf b h))))
 
 -- not "the new period overlaps that of another lease on one of its addresses"
 unfoldable pub fitsRenewed : ℕ → ℕ → Bool

@@ -14,7 +14,7 @@ use Rattle.lists.specs.Both.{and-parts}
 use Rattle.lists.specs.Filter.{isIn}
 use Rattle.message.specs.Codes.{lengthOk}
 use Rattle.message.specs.Walk.{codeAt, lengthAt, afterAt, valueOk, exactlyFilled, walkOf}
-use Rattle.message.specs.Read.{headerOk, discarded, noneRequired, ended, byStage, readOf}
+use Rattle.message.specs.Read.{headerOk, noMessage, noneRequired, ended, byStage, readOf}
 use Rattle.message.specs.Values.{foundAt, findOf, padded, identifierAt, identifierOf, fieldsOf}
 use Rattle.message.specs.Placed.{Placed, placed, read-good, pick-cases}
 use Rattle.message.specs.declared.Found.{Found}
@@ -35,7 +35,7 @@ read-named s =
     P : Reading → Type 0
     P r = r .discard ≡ 0 → getD (r .message .places) 3 0 ≡ 0 → ⊥
 
-    at-stage : (t : Stage) → P (byStage t (ended s (walkOf s .places)) (discarded 5 (walkOf s .at)))
+    at-stage : (t : Stage) → P (byStage t (ended s (walkOf s .places)) (noMessage 5 (walkOf s .at)))
     at-stage Walking = λ d z. absurd (omega arith)
     at-stage Done =
         pick-cases P (eqb (getD (walkOf s .places) 3 0) 0) _ _ (λ e d z. absurd (omega arith)) (λ e.

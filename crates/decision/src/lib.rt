@@ -9,7 +9,7 @@ ghost use Prim.Native.Nat.{_<_};
 ghost use lib.ListN.{length};
 ghost use Rattle.state.specs.Book.{insertOf, placeOf, replaceOf, removeOf};
 ghost use Rattle.soundness.specs.Sound.{tenantsIn};
-ghost use Rattle.decision.specs.Parts.{ownOf, named, holdsOf, OldThere, proposalOf, withLease, plainReply, nakWith, discardWith, refusalOf};
+ghost use Rattle.decision.specs.Parts.{ownOf, leaseIdIn, holdsOf, OldThere, proposalOf, withLease, plainReply, nakWith, discardWith, refusalOf};
 ghost use Rattle.decision.specs.Decide.{unchanged, changed, leasedOf, plainOf, settledOf, judgedOf, decideOf};
 ghost use Rattle.decision.specs.declared.Reply.the-variants.{Offer, LeaseAck, ReleaseAck, InfoAck};
 use crate::proposals::lease_from;
@@ -174,8 +174,8 @@ fn record(table: LeaseTable, h: usize, l: Lease) -> Decided
 
 // The ACK to a RENEW.
 fn renew(table: LeaseTable, h: usize, m: Fields, l: Lease) -> Decided
-    requires { ⌜ placeOf (named m) (ownOf table h) < length (ownOf table h) ⌝ }
-    ensures { λ r. ⌜ r ≡ changed table h (replaceOf (named m) l (ownOf table h)) (withLease LeaseAck l) ⌝ }
+    requires { ⌜ placeOf (leaseIdIn m) (ownOf table h) < length (ownOf table h) ⌝ }
+    ensures { λ r. ⌜ r ≡ changed table h (replaceOf (leaseIdIn m) l (ownOf table h)) (withLease LeaseAck l) ⌝ }
 {
     let t = state::tenant_at(table, h);
     let i = m.id;
@@ -188,7 +188,7 @@ fn renew(table: LeaseTable, h: usize, m: Fields, l: Lease) -> Decided
 }
 
 fn release(table: LeaseTable, h: usize, m: Fields) -> Decided
-    ensures { λ r. ⌜ r ≡ changed table h (removeOf (named m) (ownOf table h)) (plainReply ReleaseAck) ⌝ }
+    ensures { λ r. ⌜ r ≡ changed table h (removeOf (leaseIdIn m) (ownOf table h)) (plainReply ReleaseAck) ⌝ }
 {
     let t = state::tenant_at(table, h);
     let i = m.id;

@@ -2,7 +2,7 @@
 ghost use mathlib.Core.Path.{_≡_};
 ghost use mathlib.Core.Bool.{not, _&&_, _||_};
 ghost use lib.Dec.{eqb};
-ghost use Rattle.decision.specs.Parts.{isNew, hasPeriod, resends, lowestIs, scopePlace, knowsScope, lacksScope, zeroLength, badCounts, lacksCurrent, error1Of, farOf, error2Of, error3Of, error0Of};
+ghost use Rattle.decision.specs.Parts.{isNew, hasPeriod, resends, lowestIs, scopePlace, knowsScope, lacksScope, zeroLength, badCounts, lacksCurrent, error1Of, skewed, error2Of, error3Of, error0Of};
 use crate::Proposal;
 use crate::numbers::HORIZON;
 use crate::numbers::SKEW;
@@ -177,8 +177,8 @@ pub fn error_1(s: State, m: Fields, held: bool) -> bool
     is_held_already(m, held)
 }
 
-fn far(a: u32, b: u32) -> bool
-    ensures { λ r. ⌜ r ≡ farOf a b ⌝ }
+fn is_skewed(a: u32, b: u32) -> bool
+    ensures { λ r. ⌜ r ≡ skewed a b ⌝ }
 {
     if a < b {
         return SKEW < b - a;
@@ -192,7 +192,7 @@ pub fn error_2(s: State, m: Fields) -> bool
     let t = m.times;
     let w = t.current;
     if w.there {
-        return far(w.value, s.clock);
+        return is_skewed(w.value, s.clock);
     }
     false
 }

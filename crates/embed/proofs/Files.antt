@@ -11,18 +11,18 @@ use Rattle.state.specs.declared.Lease.{Lease}
 use Rattle.state.specs.declared.State.{State}
 use Rattle.server.specs.Serve.{Call}
 use Rattle.state_file.specs.declared.Written.{Written}
-use Rattle.state_file.specs.StateFile.{readOf}
+use Rattle.state_file.specs.StateFile.{readFile}
 use Rattle.records.specs.Files.{blank-accepted, blank-refusal, readBlank}
 use Rattle.records.specs.Lent.{LentAnswer, LentReading, roomLent, serveLent, writtenLent}
 use Rattle.owned.specs.declared.OwnedCall.{OwnedCall}
 use Rattle.owned.specs.declared.OwnedFile.{OwnedFile}
 use Rattle.owned.specs.Owned.{ReadsOwned, ServesOwned}
 use Rattle.embed.specs.declared.Progress.{Progress}
-use Rattle.embed.specs.Embed.{FileAnswer, FileReplay, Replayed, filed, kept, largest, lengthAfter, numberAfter, refiled, refusalIn, replayed, replayFile, serveFile}
+use Rattle.embed.specs.Embed.{FileAnswer, FileReplay, Replayed, filed, kept, largestFile, lengthAfter, numberAfter, refiled, refusalIn, replayed, replayFile, serveFile}
 use Rattle.embed.specs.Promises.{Opened, Replays, ReplaysFile, ServesFile}
 
 -- ---- a file read over a book that is all zero
-pub opened-refusal : (f : List ℕ) {r : OwnedFile} → ReadsOwned (readBlank f) r → r .refusal ≡ readOf f .refusal
+pub opened-refusal : (f : List ℕ) {r : OwnedFile} → ReadsOwned (readBlank f) r → r .refusal ≡ readFile f .refusal
 opened-refusal f v = v .refusal ∙ blank-refusal f
 
 -- ---- the first n octets of a buffer
@@ -30,36 +30,36 @@ pub first-length : (b : List ℕ) (n : ℕ) → n ≤ length b → n ≡ length 
 first-length b n h = sym (length-take-le n b h)
 
 module _ (b : List ℕ) (n : ℕ) where
-  refusal-short : length b < largest → 23 ≡ refusalIn b n
+  refusal-short : length b < largestFile → 23 ≡ refusalIn b n
   unfolding refusalIn
-  refusal-short h = pick-lt _ _ _ (length b) largest h refl
+  refusal-short h = pick-lt _ _ _ (length b) largestFile h refl
 
-  refusal-past : largest ≤ length b → length b < n → 24 ≡ refusalIn b n
+  refusal-past : largestFile ≤ length b → length b < n → 24 ≡ refusalIn b n
   unfolding refusalIn
-  refusal-past h k = pick-not-lt _ _ _ (length b) largest h (pick-lt _ _ _ (length b) n k refl)
+  refusal-past h k = pick-not-lt _ _ _ (length b) largestFile h (pick-lt _ _ _ (length b) n k refl)
 
-  refusal-within : largest ≤ length b → n ≤ length b → readOf (take n b) .refusal ≡ refusalIn b n
+  refusal-within : largestFile ≤ length b → n ≤ length b → readFile (take n b) .refusal ≡ refusalIn b n
   unfolding refusalIn
-  refusal-within h k = pick-not-lt _ _ _ (length b) largest h (pick-not-lt _ _ _ (length b) n k refl)
+  refusal-within h k = pick-not-lt _ _ _ (length b) largestFile h (pick-not-lt _ _ _ (length b) n k refl)
 
   -- a refusal says nothing of the book
   nothing : {r : OwnedFile} {k : ℕ} → r .refusal ≡ k → k ≡ refusalIn b n → (k ≡ 0 → ⊥) → Opened b n r
   nothing a e z = record { refusal = a ∙ e; state = λ p. absurd (z (e ∙ p)); leases = λ p. absurd (z (e ∙ p)) }
 
-  pub opened-short : {r : OwnedFile} → length b < largest → r .refusal ≡ 23 → Opened b n r
+  pub opened-short : {r : OwnedFile} → length b < largestFile → r .refusal ≡ 23 → Opened b n r
   opened-short h a = nothing a (refusal-short h) (λ p. omega arith)
 
-  pub opened-past : {r : OwnedFile} → largest ≤ length b → length b < n → r .refusal ≡ 24 → Opened b n r
+  pub opened-past : {r : OwnedFile} → largestFile ≤ length b → length b < n → r .refusal ≡ 24 → Opened b n r
   opened-past h k a = nothing a (refusal-past h k) (λ p. omega arith)
 
-  pub opened-book : {r : OwnedFile} → largest ≤ length b → n ≤ length b → ReadsOwned (readBlank (take n b)) r → Opened b n r
+  pub opened-book : {r : OwnedFile} → largestFile ≤ length b → n ≤ length b → ReadsOwned (readBlank (take n b)) r → Opened b n r
   opened-book h k v = record {
     refusal = opened-refusal (take n b) v ∙ at;
     state = λ p. v .state ∙ ap (λ (a : LentReading). a .state) (blank-accepted (take n b) (at ∙ p));
     leases = λ p. v .leases ∙ ap (λ (a : LentReading). a .leases) (blank-accepted (take n b) (at ∙ p));
   }
     where
-      at : readOf (take n b) .refusal ≡ refusalIn b n
+      at : readFile (take n b) .refusal ≡ refusalIn b n
       at = refusal-within h k
 
 -- ---- the call and the list of calls
@@ -73,7 +73,7 @@ module _ (b : List ℕ) (n : ℕ) {f : OwnedFile} (o : Opened b n f) where
     unfolding serveFile
     serve-yes z =
         pick-eq _ _ _ (refusalIn b n) 0 (zero-in z) (ap (λ (s : State). filed b n (serveLent s (f .owned .records .leases) c)) (o .state (zero-in z))
-        ∙ ap (λ (ls : List Lease). filed b n (serveLent (readOf (take n b) .state) ls c)) (o .leases (zero-in z)))
+        ∙ ap (λ (ls : List Lease). filed b n (serveLent (readFile (take n b) .state) ls c)) (o .leases (zero-in z)))
 
     serve-no : (f .refusal ≡ 0 → ⊥) → kept (refusalIn b n) b n ≡ serveFile b n c
     unfolding serveFile
@@ -120,7 +120,7 @@ module _ (b : List ℕ) (n : ℕ) {f : OwnedFile} (o : Opened b n f) where
     unfolding replayFile
     replay-yes z =
         pick-eq _ _ _ (refusalIn b n) 0 (zero-in z) (ap (λ (s : State). refiled b n (replayed (length cs) s (f .owned .records .leases) cs room)) (o .state (zero-in z))
-        ∙ ap (λ (ls : List Lease). refiled b n (replayed (length cs) (readOf (take n b) .state) ls cs room)) (o .leases (zero-in z)))
+        ∙ ap (λ (ls : List Lease). refiled b n (replayed (length cs) (readFile (take n b) .state) ls cs room)) (o .leases (zero-in z)))
 
     replay-no : (f .refusal ≡ 0 → ⊥) → none ≡ replayFile b n cs room
     unfolding replayFile

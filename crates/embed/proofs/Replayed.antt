@@ -14,7 +14,7 @@ use Rattle.state.specs.declared.State.{State}
 use Rattle.records.specs.Lent.{LentAnswer, serveLent}
 use Rattle.owned.specs.declared.Owned.{Owned}
 use Rattle.owned.specs.declared.OwnedCall.{OwnedCall}
-use Rattle.embed.specs.Embed.{answerRoom, answerOctets, callIn, onward, recordSize, Replayed, replayed, stopIn, stopped}
+use Rattle.embed.specs.Embed.{answerRoom, answerOctets, callIn, answerBefore, recordSize, Replayed, replayed, stopIn, stopped}
 use Rattle.embed.specs.Promises.{Answers, Replays}
 use Rattle.embed.proofs.Answered.{goes-on, put-inside}
 
@@ -24,7 +24,7 @@ firstAnswer s ls cs = serveLent s ls (callIn cs)
 
 -- the first record answered, with what the others give, or why it is not
 abbrev first : State → List Lease → List ℕ → ℕ → Replayed → Replayed
-first s ls cs room r = pick (eqb (stopIn cs room) 0) (onward cs (firstAnswer s ls cs) r) (stopped (stopIn cs room) s ls)
+first s ls cs room r = pick (eqb (stopIn cs room) 0) (answerBefore cs (firstAnswer s ls cs) r) (stopped (stopIn cs room) s ls)
 
 -- the others, at most k
 abbrev others : ℕ → State → List Lease → List ℕ → ℕ → Replayed
@@ -63,7 +63,7 @@ module _ (s : State) (ls : List Lease) (cs : List ℕ) (room : ℕ) (h : 0 < len
           ∙ ap (first s ls cs room)
           (same-fuel n (length (drop (recordSize cs) cs)) (firstAnswer s ls cs .state) (firstAnswer s ls cs .leases) (drop (recordSize cs) cs) (room - length (answerOctets (firstAnswer s ls cs))) (fewer n cs (omega arith)) (omega arith))
 
-  one-more : stopIn cs room ≡ 0 → going s ls cs room ≡ onward cs (firstAnswer s ls cs) (others (length (drop (recordSize cs) cs)) s ls cs room)
+  one-more : stopIn cs room ≡ 0 → going s ls cs room ≡ answerBefore cs (firstAnswer s ls cs) (others (length (drop (recordSize cs) cs)) s ls cs room)
   one-more e = one ∙ sym (pick-eq _ _ _ (stopIn cs room) 0 e refl)
 
   no-more : (stopIn cs room ≡ 0 → ⊥) → going s ls cs room ≡ stopped (stopIn cs room) s ls

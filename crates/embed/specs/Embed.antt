@@ -15,18 +15,18 @@ use Rattle.state.specs.declared.State.{State}
 use Rattle.server.specs.Serve.{Call}
 use Rattle.state_file.specs.declared.Loaded.{Loaded}
 use Rattle.state_file.specs.declared.Written.{Written}
-use Rattle.state_file.specs.StateFile.{readOf}
+use Rattle.state_file.specs.StateFile.{readFile}
 use Rattle.records.specs.Records.{recordsOf}
 use Rattle.records.specs.Lent.{LentAnswer, roomLent, serveLent, writtenLent}
 
 -- ---- a file in a buffer
 -- a file's buffer has to hold the largest file
-abbrev pub largest : ℕ
-largest = longestFile
+abbrev pub largestFile : ℕ
+largestFile = longestFile
 
 -- the number that the first n octets of a buffer draw before anything is done with them, or 0
 unfoldable pub refusalIn : List ℕ → ℕ → ℕ
-refusalIn b n = pick (ltb (length b) largest) 23 (pick (ltb (length b) n) 24 (readOf (take n b) .refusal))
+refusalIn b n = pick (ltb (length b) largestFile) 23 (pick (ltb (length b) n) 24 (readFile (take n b) .refusal))
 
 -- What is told once the file is written again. The writer refuses no book that calls on an accepted file leave (docs/DECISIONS.md says why); if it
 -- did, the host would be told its refusal, the old file would stand, and the reply or the answers would be there all the same.
@@ -59,7 +59,7 @@ filed b n a = record {
 
 unfoldable pub serveFile : List ℕ → ℕ → Call → FileAnswer
 serveFile b n c =
-    pick (eqb (refusalIn b n) 0) (filed b n (serveLent (readOf (take n b) .state) (recordsOf (readOf (take n b) .table)) c)) (kept (refusalIn b n) b n)
+    pick (eqb (refusalIn b n) 0) (filed b n (serveLent (readFile (take n b) .state) (recordsOf (readFile (take n b) .table)) c)) (kept (refusalIn b n) b n)
 
 -- ---- a list of calls, each a record as `replay` reads it: time(4), client address(4), reply room length(2), datagram length(2), the datagram
 -- how many octets the first record takes
@@ -94,8 +94,8 @@ abbrev pub stopped : ℕ → State → List Lease → Replayed
 stopped k s ls = record { number = k; state = s; leases = ls; used = 0; answers = [] }
 
 -- the answer to the first record before those to the others
-abbrev pub onward : List ℕ → LentAnswer → Replayed → Replayed
-onward cs a r = record {
+abbrev pub answerBefore : List ℕ → LentAnswer → Replayed → Replayed
+answerBefore cs a r = record {
   number = r .number;
   state = r .state;
   leases = r .leases;
@@ -113,7 +113,7 @@ replayed zero s ls cs room = stopped 0 s ls
 replayed (suc k) s ls cs room =
     pick (eqb (length cs) 0) (stopped 0 s ls)
     (pick (eqb (stopIn cs room) 0)
-    (onward cs (serveLent s ls (callIn cs))
+    (answerBefore cs (serveLent s ls (callIn cs))
     (replayed k (serveLent s ls (callIn cs) .state) (serveLent s ls (callIn cs) .leases) (drop (recordSize cs) cs) (room - length (answerOctets (serveLent s ls (callIn cs))))))
     (stopped (stopIn cs room) s ls))
 
@@ -137,5 +137,5 @@ refiled b n r = record {
 -- a list of calls on the file in a buffer, with so much room for answers
 unfoldable pub replayFile : List ℕ → ℕ → List ℕ → ℕ → FileReplay
 replayFile b n cs room =
-    pick (eqb (refusalIn b n) 0) (refiled b n (replayed (length cs) (readOf (take n b) .state) (recordsOf (readOf (take n b) .table)) cs room))
+    pick (eqb (refusalIn b n) 0) (refiled b n (replayed (length cs) (readFile (take n b) .state) (recordsOf (readFile (take n b) .table)) cs room))
     (record { number = refusalIn b n; buffer = b; length = n; used = 0; answers = [] })

@@ -8,15 +8,15 @@ use Rattle.owned.specs.declared.OwnedCall.{OwnedCall}
 use Rattle.owned.specs.declared.OwnedFile.{OwnedFile}
 use Rattle.records.specs.Lent.{LentAnswer}
 use Rattle.records.specs.Records.{recordsOf}
-use Rattle.state_file.specs.StateFile.{readOf}
+use Rattle.state_file.specs.StateFile.{readFile}
 use Rattle.embed.specs.declared.Progress.{Progress}
 use Rattle.embed.specs.Embed.{answerOctets, FileAnswer, FileReplay, refusalIn, Replayed}
 
 -- the book of the first n octets of a buffer
 pub record Opened (b : List ℕ) (n : ℕ) (r : OwnedFile) : Type 0 where
   pub refusal : r .refusal ≡ refusalIn b n
-  pub state : refusalIn b n ≡ 0 → r .owned .state ≡ readOf (take n b) .state
-  pub leases : refusalIn b n ≡ 0 → r .owned .records .leases ≡ recordsOf (readOf (take n b) .table)
+  pub state : refusalIn b n ≡ 0 → r .owned .state ≡ readFile (take n b) .state
+  pub leases : refusalIn b n ≡ 0 → r .owned .records .leases ≡ recordsOf (readFile (take n b) .table)
 
 -- a call's answer, written into a buffer from `to` on
 pub record Answers (a : LentAnswer) (before : List ℕ) (to : ℕ) (after : List ℕ) (r : OwnedCall) : Type 0 where

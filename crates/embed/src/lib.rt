@@ -3,9 +3,9 @@
 ghost use mathlib.Core.Path.{_≡_};
 ghost use Prim.Native.Nat.{_+_, _≤_, min};
 ghost use lib.ListN.{drop, length};
-ghost use Rattle.board_text.specs.Board.{lengthIn, roomWith};
+ghost use Rattle.board_text.specs.Board.{lengthIn, roomWithText};
 ghost use Rattle.server.specs.Serve.{Call};
-ghost use Rattle.state_file.specs.StateFile.{readOf};
+ghost use Rattle.state_file.specs.StateFile.{readFile};
 ghost use Rattle.records.specs.Lent.{serveLent};
 ghost use Rattle.reply.specs.Reply.{leastRoom};
 ghost use Rattle.embed.specs.Embed.{answerRoom, numberAfter, lengthAfter, serveFile, replayFile, replayed, stopIn, callIn, recordSize};
@@ -182,7 +182,7 @@ fn replay(start: Owned, calls: &[u8], answers: &mut [u8]) -> Progress
 // 0 for a campus file that is accepted, or its refusal, 20 or 21.
 #[no_mangle]
 pub extern "C" fn banshorra_check(file: &[u8]) -> u8
-    ensures { λ r. ⌜ r ≡ readOf (now (file .entry)) .refusal ⌝ }
+    ensures { λ r. ⌜ r ≡ readFile (now (file .entry)) .refusal ⌝ }
 {
     let r = owned::open(file);
     r.refusal
@@ -191,8 +191,8 @@ pub extern "C" fn banshorra_check(file: &[u8]) -> u8
 // The text that `board` prints for a campus file: its length, or 0 where the room is below 1,100 octets.
 #[no_mangle]
 pub extern "C" fn banshorra_board(file: &[u8], text: &mut [u8]) -> usize
-    ensures length { λ r. ⌜ r ≡ lengthIn (readOf (now (file .entry))) (now (text .entry)) ⌝ }
-    ensures octets { λ r. ⌜ now (text .exit) ≡ roomWith (readOf (now (file .entry))) (now (text .entry)) ⌝ }
+    ensures length { λ r. ⌜ r ≡ lengthIn (readFile (now (file .entry))) (now (text .entry)) ⌝ }
+    ensures octets { λ r. ⌜ now (text .exit) ≡ roomWithText (readFile (now (file .entry))) (now (text .entry)) ⌝ }
 {
     board_text::write_board(file, text)
 }

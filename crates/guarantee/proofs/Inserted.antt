@@ -15,7 +15,7 @@ use Rattle.state.specs.declared.Lease.{Lease}
 use Rattle.state.specs.declared.LeaseTable.{LeaseTable}
 use Rattle.state.specs.declared.State.{State}
 use Rattle.state.specs.Book.{differ, idOf, insertOf, leasesOf, named, ordered, other, placeOf, removeOf}
-use Rattle.soundness.specs.Sound.{calm}
+use Rattle.soundness.specs.Sound.{compatible}
 use Rattle.soundness.specs.Book.{Sound, pairOk}
 use Rattle.soundness.specs.Added.{pairs-at, rises-at}
 use Rattle.decision.specs.Parts.{holdsOf, ownOf}
@@ -41,6 +41,6 @@ others-stay s t h m l v e held =
     insert-leaves l (ownOf t h)
     (ap (λ (i : List ℕ). allBy (other i) (ownOf t h)) e
     ∙ place-none (named (parts.named m)) (ownOf t h) (ltb-false (placeOf (parts.named m) (ownOf t h)) (length (ownOf t h)) held))
-    (and-parts (pairsBy differ (ownOf t h)) (pairsBy calm (ownOf t h))
-    (sym (pairs-and differ calm (ownOf t h)) ∙ ap (pairsBy pairOk) (own-is t h) ∙ pairs-at s (leasesOf t) v h) .0)
+    (and-parts (pairsBy differ (ownOf t h)) (pairsBy compatible (ownOf t h))
+    (sym (pairs-and differ compatible (ownOf t h)) ∙ ap (pairsBy pairOk) (own-is t h) ∙ pairs-at s (leasesOf t) v h) .0)
     (ap (pairsBy ordered) (own-is t h) ∙ rises-at s (leasesOf t) v h)

@@ -25,7 +25,7 @@ use Rattle.state.specs.declared.LeaseTable.{LeaseTable}
 use Rattle.state.specs.declared.State.{State}
 use Rattle.state.specs.Book.{advanced, dropped, inUse, laidOut, leasesOf, liveOf, scopesOf, tableOf}
 use Rattle.state.specs.Layout.{table-back}
-use Rattle.soundness.specs.Sound.{few, countsB, rule3, rule4, rule5, rule6, settingsB, sizeB, soundB, tenantsIn}
+use Rattle.soundness.specs.Sound.{oneTo, countsB, rule3, rule4, rule5, rule6, settingsB, sizeB, soundB, tenantsIn}
 use Rattle.soundness.specs.Book.{Sound, settingsOk, sound-lists}
 use Rattle.soundness.specs.Kept.{advanced-sound}
 use Rattle.decision.specs.declared.Decided.{Decided}
@@ -101,12 +101,12 @@ run-sound b (c ∷ cs) v = run-sound (serveOf b c .book) cs (call-sound b c v)
 
 -- ---- a sound book is within its limits
 counts-few : (s : State) (ls : List (List Lease)) → Sound s ls → (s .«tenant_count» ≤ 8) × (s .«scope_count» ≤ 4)
-unfolding settingsOk countsB few
+unfolding settingsOk countsB oneTo
 counts-few s ls v =
     let p = and-parts (countsB s && (rule3 s && rule4 s)) (rule5 s && (rule6 s && settingsB s)) (v .settings) in
     let q = and-parts (countsB s) (rule3 s && rule4 s) (p .0) in
-    let r = and-parts (few 8 (s .«tenant_count»)) (few 4 (s .«scope_count») && allBy sizeB (scopesOf s)) (q .0) in
-    let u = and-parts (few 4 (s .«scope_count»)) (allBy sizeB (scopesOf s)) (r .1) in (
+    let r = and-parts (oneTo 8 (s .«tenant_count»)) (oneTo 4 (s .«scope_count») && allBy sizeB (scopesOf s)) (q .0) in
+    let u = and-parts (oneTo 4 (s .«scope_count»)) (allBy sizeB (scopesOf s)) (r .1) in (
       leb-true (s .«tenant_count») 8 (and-parts (leb 1 (s .«tenant_count»)) (leb (s .«tenant_count») 8) (r .0) .1),
       leb-true (s .«scope_count») 4 (and-parts (leb 1 (s .«scope_count»)) (leb (s .«scope_count») 4) (u .0) .1),
     )

@@ -18,7 +18,7 @@ use Rattle.message.specs.Placed.{pick-cases}
 use Rattle.message.specs.Read.{byStage, ended, headerOk, messageOf, noneRequired, readOf, requiredEmpty}
 use Rattle.message.specs.Read as read
 use Rattle.message.specs.Values.{allAllowed, allowedAt, codesFrom, countsOf, fieldsOf, findOf, foundAt, identifierOf, isFound, namesOf, namesServer, serverOk, timesOf, wishOf}
-use Rattle.message.specs.Walk.{afterAt, broken, codeAt, done, exactlyFilled, layoutOk, lengthAt, moved, onward, pastList, start, stepOf, taken, valueOk, walkFrom, walkOf}
+use Rattle.message.specs.Walk.{afterAt, broken, codeAt, done, exactlyFilled, layoutOk, lengthAt, moved, onward, pastList, start, stepOf, optionTaken, valueOk, walkFrom, walkOf}
 use Rattle.message.specs.declared.Counts.{Counts}
 use Rattle.message.specs.declared.Fields.{Fields}
 use Rattle.message.specs.declared.Found.{Found}
@@ -38,7 +38,7 @@ use Rattle.state.specs.Book.{placeOf, zeroLease}
 use Rattle.decision.specs.declared.Decided.{Decided}
 use Rattle.decision.specs.Decide.{decideOf, judgedOf}
 use Rattle.decision.specs.Ensured.{asOffer, offered-as-requested, sentAs}
-use Rattle.decision.specs.Parts.{badCounts, discardWith, error1Of, holdsOf, isNew, lacksCurrent, lacksScope, named, ownOf, recordedOf, refusalOf, resends, zeroLength}
+use Rattle.decision.specs.Parts.{badCounts, discardWith, error1Of, holdsOf, isNew, lacksCurrent, lacksScope, leaseIdIn, ownOf, recordedOf, refusalOf, resends, zeroLength}
 use Rattle.guarantee.specs.Statement.{OfferAt, OfferRule, asRequest, wordsOf}
 
 -- ---- a place of an option: 0, or past the header
@@ -122,11 +122,11 @@ module _ (x a b : ℕ) (l : List ℕ) where
   same-step : (w : Walk) → 2 ≤ w .at → stepOf A w ≡ stepOf B w
   unfolding stepOf
   same-step w h =
-      ap₂ (λ (p q : Bool). pick p (pick q (taken (length A) (codeAt A (w .at)) (lengthAt A (w .at)) w) (broken w)) (broken w)) (same-layout (w .at) h) (same-value (w .at) h)
-      ∙ ap₂ (λ (c n : ℕ). pick (layoutOk B (w .at)) (pick (valueOk B (w .at)) (taken (length A) c n w) (broken w)) (broken w)) (same16 (w .at) h) (same16 (w .at + 2) (omega arith))
+      ap₂ (λ (p q : Bool). pick p (pick q (optionTaken (length A) (codeAt A (w .at)) (lengthAt A (w .at)) w) (broken w)) (broken w)) (same-layout (w .at) h) (same-value (w .at) h)
+      ∙ ap₂ (λ (c n : ℕ). pick (layoutOk B (w .at)) (pick (valueOk B (w .at)) (optionTaken (length A) c n w) (broken w)) (broken w)) (same16 (w .at) h) (same16 (w .at + 2) (omega arith))
 
   step-on : (w : Walk) → On w → On (stepOf A w)
-  unfolding stepOf taken Fine
+  unfolding stepOf optionTaken Fine
   step-on w v =
       pick-cases On (layoutOk A (w .at)) _ _
       (λ _. pick-cases On (valueOk A (w .at)) _ _
@@ -259,12 +259,12 @@ or-right false e = e
 
 resent-held : (own : List Lease) (m : Fields) → resends (sentAs 3 m) (recordedOf own m) ≡ true → holdsOf own m ≡ true
 unfolding recordedOf holdsOf resends sentAs
-resent-held own m e = go (ltb (placeOf (named m) own) (length own)) refl
+resent-held own m e = go (ltb (placeOf (leaseIdIn m) own) (length own)) refl
   where
-    go : (b : Bool) → ltb (placeOf (named m) own) (length own) ≡ b → ltb (placeOf (named m) own) (length own) ≡ true
+    go : (b : Bool) → ltb (placeOf (leaseIdIn m) own) (length own) ≡ b → ltb (placeOf (leaseIdIn m) own) (length own) ≡ true
     go true p = p
     go false p =
-        let z : recordedOf own m ≡ zeroLease = List·getD-eq-default own zeroLease {n = placeOf (named m) own} (ltb-false (placeOf (named m) own) (length own) p) in
+        let z : recordedOf own m ≡ zeroLease = List·getD-eq-default own zeroLease {n = placeOf (leaseIdIn m) own} (ltb-false (placeOf (leaseIdIn m) own) (length own) p) in
         let f : resends (sentAs 3 m) (recordedOf own m) ≡ false = ap (resends (sentAs 3 m)) z in
         let n : _≡_ {A = ℕ} 0 1 = cc in
         absurd (omega arith)

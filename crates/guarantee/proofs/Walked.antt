@@ -18,7 +18,7 @@ use Rattle.message.specs.declared.Walk.{Walk}
 use Rattle.message.specs.Placed.{pick-cases}
 use Rattle.message.specs.Read.{readOf}
 use Rattle.message.specs.Walk.{walkOf}
-use Rattle.reply.specs.Reply.{leastRoom, infoAckOf, leaseAckOf, nakOf, offerOf, releaseAckOf, scopesOf}
+use Rattle.reply.specs.Reply.{leastRoom, infoAckOf, leaseAckOf, nakOf, offerOf, releaseAckOf, scopeEntriesOf}
 use Rattle.reply.proofs.ReadBack.{Named, ReadBack, info-back, lease-back, nak-back, release-back}
 use Rattle.state.specs.declared.Book.{Book}
 use Rattle.state.specs.declared.Lease.{Lease}
@@ -38,7 +38,7 @@ use Rattle.decision.specs.declared.Reply.{Reply}
 use Rattle.decision.specs.declared.Reply.the-variants.{Nothing, Offer, LeaseAck, ReleaseAck, InfoAck, Nak}
 use Rattle.decision.specs.declared.Verdict.{Verdict}
 use Rattle.decision.specs.Kept.{Passed, own-is, passed}
-use Rattle.decision.specs.Parts.{horizon, askAt, badCounts, discardWith, error0Of, error1Of, error2Of, error3Of, fitsNew, hasPeriod, holdsOf, isNew, knowsScope, leaseFrom, nakWith, named, newAt, newOf, newWith, ownOf, plainReply, proposalOf, recordedOf, refusalOf, renewedOf, renewedTo, resends, scopePlace, withLease}
+use Rattle.decision.specs.Parts.{horizon, askAt, badCounts, discardWith, error0Of, error1Of, error2Of, error3Of, fitsNew, hasPeriod, holdsOf, isNew, knowsScope, leaseFrom, nakWith, leaseIdIn, newAt, newOf, newWith, ownOf, plainReply, proposalOf, recordedOf, refusalOf, renewedOf, renewedTo, resends, scopePlace, withLease}
 use Rattle.decision.specs.Decide.{decideOf, judgedOf, leasedOf, plainOf, settledOf}
 use Rattle.server.specs.Serve.{Answer, Call, answered, atClock, byReply, discarded, forServer, headOf, infoOf, replyOf, serveOf, tenantOf, termsOf, withReading}
 use Rattle.guarantee.specs.Statement.{Demand1Layout, Narrow, bookAt}
@@ -99,27 +99,27 @@ no-resend m = go (eqb 0 (m .kind)) refl
 
 module _ (s : State) (t : LeaseTable) (h : ℕ) (m : Fields) (v : Sound s (leasesOf t)) (known : h < tenantsIn s) (narrow : All (λ l. l .addresses < 2 ^ 64) (ownOf t h)) where
   -- the lease that is held
-  held-sized : placeOf (named m) (ownOf t h) < length (ownOf t h) → Sized (recordedOf (ownOf t h) m .addresses)
+  held-sized : placeOf (leaseIdIn m) (ownOf t h) < length (ownOf t h) → Sized (recordedOf (ownOf t h) m .addresses)
   unfolding recordedOf Sized
   held-sized p =
-      let f = lease-at-facts s (leasesOf t) v h (placeOf (named m) (ownOf t h)) zeroLease (let e = ap length (own-is t h) in omega arith) in
-      let e : getD (ownOf t h) (placeOf (named m) (ownOf t h)) zeroLease .addresses ≡ getD (getD (leasesOf t) h []) (placeOf (named m) (ownOf t h)) zeroLease .addresses =
-      ap (λ (l : List Lease). getD l (placeOf (named m) (ownOf t h)) zeroLease .addresses) (own-is t h) in
+      let f = lease-at-facts s (leasesOf t) v h (placeOf (leaseIdIn m) (ownOf t h)) zeroLease (let e = ap length (own-is t h) in omega arith) in
+      let e : getD (ownOf t h) (placeOf (leaseIdIn m) (ownOf t h)) zeroLease .addresses ≡ getD (getD (leasesOf t) h []) (placeOf (leaseIdIn m) (ownOf t h)) zeroLease .addresses =
+      ap (λ (l : List Lease). getD l (placeOf (leaseIdIn m) (ownOf t h)) zeroLease .addresses) (own-is t h) in
       let g = f .addresses in
-      (omega arith, at-all (λ l. l .addresses < 2 ^ 64) (ownOf t h) (placeOf (named m) (ownOf t h)) zeroLease narrow p)
+      (omega arith, at-all (λ l. l .addresses < 2 ^ 64) (ownOf t h) (placeOf (leaseIdIn m) (ownOf t h)) zeroLease narrow p)
 
   is-held : holdsOf (ownOf t h) m ≡ true → Sized (recordedOf (ownOf t h) m .addresses)
   unfolding holdsOf
-  is-held e = held-sized (ltb-true (placeOf (named m) (ownOf t h)) (length (ownOf t h)) e)
+  is-held e = held-sized (ltb-true (placeOf (leaseIdIn m) (ownOf t h)) (length (ownOf t h)) e)
 
   resent : resends m (recordedOf (ownOf t h) m) ≡ true → Sized (recordedOf (ownOf t h) m .addresses)
   unfolding recordedOf
-  resent e = go (ltb (placeOf (named m) (ownOf t h)) (length (ownOf t h))) refl
+  resent e = go (ltb (placeOf (leaseIdIn m) (ownOf t h)) (length (ownOf t h))) refl
     where
-      go : (b : Bool) → ltb (placeOf (named m) (ownOf t h)) (length (ownOf t h)) ≡ b → Sized (recordedOf (ownOf t h) m .addresses)
-      go true p = held-sized (ltb-true (placeOf (named m) (ownOf t h)) (length (ownOf t h)) p)
+      go : (b : Bool) → ltb (placeOf (leaseIdIn m) (ownOf t h)) (length (ownOf t h)) ≡ b → Sized (recordedOf (ownOf t h) m .addresses)
+      go true p = held-sized (ltb-true (placeOf (leaseIdIn m) (ownOf t h)) (length (ownOf t h)) p)
       go false p =
-          let z : recordedOf (ownOf t h) m ≡ zeroLease = List·getD-eq-default (ownOf t h) zeroLease {n = placeOf (named m) (ownOf t h)} (ltb-false (placeOf (named m) (ownOf t h)) (length (ownOf t h)) p) in
+          let z : recordedOf (ownOf t h) m ≡ zeroLease = List·getD-eq-default (ownOf t h) zeroLease {n = placeOf (leaseIdIn m) (ownOf t h)} (ltb-false (placeOf (leaseIdIn m) (ownOf t h)) (length (ownOf t h)) p) in
           no (sym e ∙ ap (resends m) z ∙ no-resend m)
 
   -- the lease that is proposed

@@ -1,6 +1,6 @@
 -- The calls of `lent::load` and `lent::store` on a slice of lease records that a walk holds, each as one step of `Types/Kit.antt`'s calculus. The held slice and a share of its lifetime's token stand at the head of
 -- the context before the step and after it, and the rest of the context is as it was; so the operands' positions are those of the context before the step.
---     loads        of a held `&κ mut [Lease]`: it is lent as a `&` for a lifetime of the call, and comes back as it was. The walk goes on with the records r at the machine value w, and `r .leases ≡ taken ys`
+--     loads        of a held `&κ mut [Lease]`: it is lent as a `&` for a lifetime of the call, and comes back as it was. The walk goes on with the records r at the machine value w, and `r .leases ≡ first128 ys`
 --     loads-on     the same of a held `&κ [Lease]`, of which a copy is passed on
 --     stores       of a held `&κ mut [Lease]`: it is lent again as a `&mut` for a lifetime of the call, and comes back at a list zs that is as long as ys, with `zs ≡ covered ys (r .leases)`
 -- Each takes, after `!`, the slice (its lifetime κ, the share q of the token, where it stands, its name γ and its list ys), then that the table of calls is monotone under a frame and that the callee meets its contract, `Load`
@@ -38,7 +38,7 @@ use denote.Triple.Clauses.{ensured, lasts}
 use borrow.Rule.Slice.Reshare.{keptS}
 use Rattle.state.specs.declared.Lease.{Lease}
 use Rattle.records.specs.declared.Records.{Records}
-use Rattle.records.specs.Records.{taken, covered}
+use Rattle.records.specs.Records.{first128, covered}
 use Rattle.state.proofs.Lease as R
 use Rattle.records.proofs.Records as N
 use Rattle.records.proofs.Records.Laws as N′
@@ -79,8 +79,8 @@ module _ {M : Type 1} (𝓤 : URA M) (H : Heap 𝓤) (A : Atoms 𝓤) (mem : Mem
   to-store κ q b o γ ys r v = (((κ, tt), (q, tt), tt, (ref b o γ ys, (r, tt)), (word b o (length ys) ∷ [], (v ∷ [], tt))), tt)
 
   -- `load`'s clause
-  of-load : (κ : Lft) (x : RefT (List Lease)) (r : Records) → ent 𝓤 (ensured 𝓤 H A load′.ended (load′.clauses 𝓤 H A mem run) (κ, tt) (x, tt) tt r) (fact 𝓤 (r .leases ≡ taken (x .now)))
-  of-load κ x r = exE 𝓤 _ (λ ws. snd∗ 𝓤 (sem 𝓤 H A (lasts load′.ended (κ, tt) (x, tt) ws)) (fact 𝓤 (r .leases ≡ taken (x .now))))
+  of-load : (κ : Lft) (x : RefT (List Lease)) (r : Records) → ent 𝓤 (ensured 𝓤 H A load′.ended (load′.clauses 𝓤 H A mem run) (κ, tt) (x, tt) tt r) (fact 𝓤 (r .leases ≡ first128 (x .now)))
+  of-load κ x r = exE 𝓤 _ (λ ws. snd∗ 𝓤 (sem 𝓤 H A (lasts load′.ended (κ, tt) (x, tt) ws)) (fact 𝓤 (r .leases ≡ first128 (x .now))))
 
   module _ (W : Given 𝓤 H A) (κ : Lft) (q : Share) (b o : ℕ) (γ : GName) (ys : List Lease) where
     goes-load : ent 𝓤 (sep 𝓤 (A .lft κ q) (sem 𝓤 H A (Shr κ b o γ (length ys) ys))) (Load .pre (to-load κ q b o γ ys))
@@ -97,18 +97,18 @@ module _ {M : Type 1} (𝓤 : URA M) (H : Heap 𝓤) (A : Atoms 𝓤) (mem : Mem
 module _ {M : Type 1} {𝓤 : URA M} {H : Heap 𝓤} {A : Atoms 𝓤} {K : Type 0} {W : Given 𝓤 H A} {Γ : List (Item 𝓤)} {E : Env 𝓤 H} {C : Calls 𝓤 H} {Λ : Loops 𝓤 H} {p : Post 𝓤 H} {d : Place} {rest : Body} where
   -- after a call of `load` at the lifetime κ: the records, and the token is back
   module _ (t : K) (mem : Memory → SProp 𝓤) (run : Routine → Fun 𝓤) (κ : Lft) (q : Share) (b o : ℕ) (γ : GName) (ys : List Lease) where
-    loaded : (w : Val) → ((r : Records) → Is N.the-row r (w ∷ []) → r .leases ≡ taken ys → Seq K W (‵ (flft κ q) ∷ Γ) (lands C Λ E d w rest p))
+    loaded : (w : Val) → ((r : Records) → Is N.the-row r (w ∷ []) → r .leases ≡ first128 ys → Seq K W (‵ (flft κ q) ∷ Γ) (lands C Λ E d w rest p))
         → Seq K W (raw (Load 𝓤 H A mem run .post (to-load 𝓤 H A mem run κ q b o γ ys) w) ∷ Γ) (lands C Λ E d w rest p)
     loaded w k =
         use1 W (later (some (λ (r : Records). ((‵ (flft κ q) ⊛ ‵ ftrue) ⊛ ‵ (N.the-row .own r (w ∷ []))) ⊛ raw (ensured 𝓤 H A load′.ended (load′.clauses 𝓤 H A mem run) (κ, tt) (ref b o γ ys, tt) tt r)))) (id⊢ 𝓤 _) $ await t tt $ pick t (λ r.
-        split t $ move t (1 ∷ []) $ use1 W (raw (fact 𝓤 (r .leases ≡ taken ys))) (of-load 𝓤 H A mem run κ (ref b o γ ys) r) $ heard t (r .leases ≡ taken ys) (λ e. split t $ move t (1 ∷ []) $
+        split t $ move t (1 ∷ []) $ use1 W (raw (fact 𝓤 (r .leases ≡ first128 ys))) (of-load 𝓤 H A mem run κ (ref b o γ ys) r) $ heard t (r .leases ≡ first128 ys) (λ e. split t $ move t (1 ∷ []) $
         peeks t N.the-row (Is N.the-row) (shows 𝓤 H A N.the-row) r (w ∷ []) (λ is. drop t $ split t $ move t (1 ∷ []) $ drop t $ k r is e)))
 
 module _ {M : Type 1} {𝓤 : URA M} {H : Heap 𝓤} {A : Atoms 𝓤} {K : Type 0} {W : Given 𝓤 H A} {Γ : List (Item 𝓤)} {E : Env 𝓤 H} {C : Calls 𝓤 H} {Λ : Loops 𝓤 H} {p : Post 𝓤 H} {xs : List Operand} {d : Place} {rest : Body} where
   pub loads : K → (mem : Memory → SProp 𝓤) (run : Routine → Fun 𝓤) (κ : Lft) (q : Share) (b o : ℕ) (γ : GName) (ys : List Lease)
       → FmC 𝓤 H (W .laws) C → Triple 𝓤 (C #lent·load) (Load 𝓤 H A mem run)
       → ((ν : ℕ) (δ : GName) → Opds K W (raw (Load 𝓤 H A mem run .pre (to-load 𝓤 H A mem run (ν ∷ []) fullShare b o δ ys)) ∷ ‵ (keptS R.the-row κ q (ν ∷ []) γ ys b o) ∷ Γ) E xs (word b o (length ys) ∷ []))
-      → ((w : Val) (r : Records) → Is N.the-row r (w ∷ []) → r .leases ≡ taken ys → Seq K W (‵ (Mut κ b o γ (length ys) ys) ∷ ‵ (flft κ q) ∷ Γ) (lands C Λ E d w rest p))
+      → ((w : Val) (r : Records) → Is N.the-row r (w ∷ []) → r .leases ≡ first128 ys → Seq K W (‵ (Mut κ b o γ (length ys) ys) ∷ ‵ (flft κ q) ∷ Γ) (lands C Λ E d w rest p))
       → Seq K W (‵ (Mut κ b o γ (length ys) ys) ∷ ‵ (flft κ q) ∷ Γ) (runs C Λ E (seq (call #lent·load xs d) rest) p)
   loads t mem run κ q b o γ ys fm known ops k =
       lft-new t tt (λ ν. move t (1 ∷ 2 ∷ []) $
@@ -121,7 +121,7 @@ module _ {M : Type 1} {𝓤 : URA M} {H : Heap 𝓤} {A : Atoms 𝓤} {K : Type 
   pub loads-on : K → (mem : Memory → SProp 𝓤) (run : Routine → Fun 𝓤) (κ : Lft) (q : Share) (b o : ℕ) (γ : GName) (ys : List Lease)
       → FmC 𝓤 H (W .laws) C → Triple 𝓤 (C #lent·load) (Load 𝓤 H A mem run)
       → Opds K W (raw (Load 𝓤 H A mem run .pre (to-load 𝓤 H A mem run κ q b o γ ys)) ∷ ‵ (Shr κ b o γ (length ys) ys) ∷ Γ) E xs (word b o (length ys) ∷ [])
-      → ((w : Val) (r : Records) → Is N.the-row r (w ∷ []) → r .leases ≡ taken ys → Seq K W (‵ (Shr κ b o γ (length ys) ys) ∷ ‵ (flft κ q) ∷ Γ) (lands C Λ E d w rest p))
+      → ((w : Val) (r : Records) → Is N.the-row r (w ∷ []) → r .leases ≡ first128 ys → Seq K W (‵ (Shr κ b o γ (length ys) ys) ∷ ‵ (flft κ q) ∷ Γ) (lands C Λ E d w rest p))
       → Seq K W (‵ (Shr κ b o γ (length ys) ys) ∷ ‵ (flft κ q) ∷ Γ) (runs C Λ E (seq (call #lent·load xs d) rest) p)
   loads-on t mem run κ q b o γ ys fm known ops k =
       use1 W (‵ (Shr κ b o γ (length ys) ys) ⊛ ‵ (Shr κ b o γ (length ys) ys)) (shr-slice-copy 𝓤 H A W erased κ R.the-row .twice (ref b o γ ys) (word b o (length ys) ∷ [])) $ split t $

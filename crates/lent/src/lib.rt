@@ -5,7 +5,7 @@ ghost use mathlib.Core.Path.{_≡_};
 ghost use lib.ListN.{length, take};
 ghost use Rattle.state.specs.Book.{raised};
 ghost use Rattle.server.specs.Serve.{Call};
-ghost use Rattle.records.specs.Records.{taken, covered};
+ghost use Rattle.records.specs.Records.{first128, covered};
 ghost use Rattle.records.specs.Lent.{serveLent, ServesLent, readLent, ReadsLent, writtenLent, roomLent, findLent, insertLent, removeLent};
 use records::Outcome;
 use records::Records;
@@ -23,7 +23,7 @@ pub fn advance(state: &mut State, time: u32)
 
 // The first 128 records of a slice; unused ones where it has fewer.
 pub fn load(leases: &[Lease]) -> Records
-    ensures { λ r. ⌜ r .leases ≡ taken (now (leases .entry)) ⌝ }
+    ensures { λ r. ⌜ r .leases ≡ first128 (now (leases .entry)) ⌝ }
 {
     let mut now = records::no_records();
     let n = records::cut128(leases.len());

@@ -17,7 +17,7 @@ use Rattle.guarantee.proofs.Discards.{call-answered}
 use Rattle.guarantee.proofs.Granted.{demand3}
 use Rattle.guarantee.proofs.Kept.{call-sound}
 use Rattle.records.specs.Records.{recordsOf}
-use Rattle.records.specs.Lent.{bookFrom, lentAnswer, LentAnswer, serveLent, serveWith, whole}
+use Rattle.records.specs.Lent.{bookFrom, lentAnswer, LentAnswer, serveLent, serveWith, is128}
 use Rattle.records.specs.Steps.{off-whole}
 use Rattle.lent_guarantee.specs.Statement.{answerOf, bookOf, Lent, LentAnswered, LentDemand1, LentDemand3, runLent, SoundLent}
 use Rattle.lent_guarantee.proofs.Same.{at-whole, kept-back, same, sound-book, still-whole}

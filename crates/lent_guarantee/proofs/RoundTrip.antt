@@ -13,29 +13,29 @@ use Rattle.state.specs.declared.LeaseTable.{LeaseTable}
 use Rattle.state.specs.declared.State.{State}
 use Rattle.state_file.specs.declared.Loaded.{Loaded}
 use Rattle.state_file.specs.declared.Written.{Written}
-use Rattle.state_file.specs.StateFile.{accepted, readOf, roomAfter, writtenOf}
+use Rattle.state_file.specs.StateFile.{accepted, readFile, roomAfter, writtenOf}
 use Rattle.state_file.proofs.RoundTrip.{read-written}
 use Rattle.records.specs.Files.{file-back, file-long}
 use Rattle.records.specs.Records.{recordsOf, tableFrom}
-use Rattle.records.specs.Lent.{LentReading, readLent, readWith, roomLent, roomWith, untouched, whole, writtenLent, writtenWith}
+use Rattle.records.specs.Lent.{LentReading, readLent, readWith, roomLent, roomWith, untouched, is128, writtenLent, writtenWith}
 use Rattle.records.specs.Steps.{on-whole}
 use Rattle.lent_guarantee.specs.Statement.{LentRoundTrip}
 
 -- ---- a reading without a refusal
 abbrev pub Filed : List ℕ → LentReading
-Filed f = record { refusal = 0; state = readOf f .state; leases = recordsOf (readOf f .table) }
+Filed f = record { refusal = 0; state = readFile f .state; leases = recordsOf (readFile f .table) }
 
 module _ (f : List ℕ) (s : State) (ls : List Lease) where
-  pub read-whole : readLent f s ls .refusal ≡ 0 → (readOf f .refusal ≡ 0) × (readLent f s ls ≡ Filed f)
+  pub read-whole : readLent f s ls .refusal ≡ 0 → (readFile f .refusal ≡ 0) × (readLent f s ls ≡ Filed f)
   unfolding readWith pick
-  read-whole e = go (eqb (readOf f .refusal) 0) refl (whole (length ls)) e
+  read-whole e = go (eqb (readFile f .refusal) 0) refl (is128 (length ls)) e
     where
-      go : (p : Bool) → eqb (readOf f .refusal) 0 ≡ p → (q : Bool)
-          → pick {A = LentReading} p (pick q (Filed f) (untouched 21 s ls)) (untouched (readOf f .refusal) s ls) .refusal ≡ 0
-          → (readOf f .refusal ≡ 0) × (pick p (pick q (Filed f) (untouched 21 s ls)) (untouched (readOf f .refusal) s ls) ≡ Filed f)
+      go : (p : Bool) → eqb (readFile f .refusal) 0 ≡ p → (q : Bool)
+          → pick {A = LentReading} p (pick q (Filed f) (untouched 21 s ls)) (untouched (readFile f .refusal) s ls) .refusal ≡ 0
+          → (readFile f .refusal ≡ 0) × (pick p (pick q (Filed f) (untouched 21 s ls)) (untouched (readFile f .refusal) s ls) ≡ Filed f)
       go true p true e = (eqb-true _ _ p, refl)
       go true p false e = absurd (omega arith)
-      go false p q e = absurd (eqb-false (readOf f .refusal) 0 p e)
+      go false p q e = absurd (eqb-false (readFile f .refusal) 0 p e)
 
 pub lent-round-trip : LentRoundTrip
 unfolding LentRoundTrip writtenWith roomWith accepted
@@ -43,11 +43,11 @@ lent-round-trip f s ls room o e h =
     let r = read-whole f s ls e in
     let long = file-long f (r .0) in
     let t = file-back f (r .0) in
-    let w = read-written f room (readOf f .state) (readOf f .table) o (ap {B = Loaded} (λ (n : ℕ). record { refusal = n; state = readOf f .state; table = readOf f .table }) (r .0)) h in (
+    let w = read-written f room (readFile f .state) (readFile f .table) o (ap {B = Loaded} (λ (n : ℕ). record { refusal = n; state = readFile f .state; table = readFile f .table }) (r .0)) h in (
       ap (λ (x : LentReading). writtenLent (x .state) (x .leases) (length room)) (r .1)
-          ∙ sym (on-whole (writtenOf (readOf f .state) (tableFrom (recordsOf (readOf f .table))) (length room)) (record { refusal = 22; length = 0 }) long)
-          ∙ ap (λ (x : LeaseTable). writtenOf (readOf f .state) x (length room)) t ∙ w .0,
+          ∙ sym (on-whole (writtenOf (readFile f .state) (tableFrom (recordsOf (readFile f .table))) (length room)) (record { refusal = 22; length = 0 }) long)
+          ∙ ap (λ (x : LeaseTable). writtenOf (readFile f .state) x (length room)) t ∙ w .0,
       ap (λ (x : LentReading). roomLent (x .state) (x .leases) room) (r .1)
-          ∙ sym (on-whole (roomAfter (readOf f .state) (tableFrom (recordsOf (readOf f .table))) room) room long)
-          ∙ ap (λ (x : LeaseTable). roomAfter (readOf f .state) x room) t ∙ w .1,
+          ∙ sym (on-whole (roomAfter (readFile f .state) (tableFrom (recordsOf (readFile f .table))) room) room long)
+          ∙ ap (λ (x : LeaseTable). roomAfter (readFile f .state) x room) t ∙ w .1,
     )

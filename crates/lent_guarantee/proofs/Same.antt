@@ -16,7 +16,7 @@ use Rattle.state.specs.declared.LeaseTable.{LeaseTable}
 use Rattle.state.specs.declared.State.{State}
 use Rattle.state.specs.declared.TenantLeases.{TenantLeases}
 use Rattle.state.specs.Book.{advanced, dropped, inUse, laidOut, leasesOf, liveOf, putAt, tableOf}
-use Rattle.state.specs.Layout.{put-laid, table-back as lists-back}
+use Rattle.state.specs.Layout.{put-laid, lent-table-back as lists-back}
 use Rattle.soundness.specs.Sound.{soundB, tenantsIn}
 use Rattle.decision.specs.declared.Decided.{Decided}
 use Rattle.decision.specs.Parts.{updated}
@@ -24,10 +24,10 @@ use Rattle.decision.specs.Decide.{decideOf, judgedOf, leasedOf, plainOf, settle
 use Rattle.server.specs.Serve.{Answer, Call, answered, atClock, forServer, serveOf, withReading}
 use Rattle.guarantee.specs.Statement.{bookAt, SoundBook}
 use Rattle.guarantee.proofs.Kept.{call-sound}
-use Rattle.records.specs.Back.{records-back, table-back, table-long}
+use Rattle.records.specs.Back.{records-back, lent-table-back, table-long}
 use Rattle.records.specs.Laws.{rows-length}
 use Rattle.records.specs.Records.{recordsOf, rows, tableFrom, tenantFrom}
-use Rattle.records.specs.Lent.{bookFrom, lentAnswer, LentAnswer, serveLent, serveWith, whole}
+use Rattle.records.specs.Lent.{bookFrom, lentAnswer, LentAnswer, serveLent, serveWith, is128}
 use Rattle.records.specs.Steps.{on-whole}
 use Rattle.lent_guarantee.specs.Statement.{answerOf, SameCall}
 
@@ -99,7 +99,7 @@ module _ (s : State) (ls : List Lease) (c : Call) (long : length ls ≡ 128) whe
       (kind before c)
 
   back : tableFrom (recordsOf after) ≡ after
-  back = left (tableFrom (recordsOf after) ≡ after) (λ t. ap tableFrom (kept-back after t) ∙ sym t) (table-back (serveOf before c .book .state) after)
+  back = left (tableFrom (recordsOf after) ≡ after) (λ t. ap tableFrom (kept-back after t) ∙ sym t) (lent-table-back (serveOf before c .book .state) after)
 
   long-after : length (recordsOf after) ≡ 128
   long-after = left (length (recordsOf after) ≡ 128) (λ t. ap length (kept-back after t) ∙ long) (table-long (serveOf before c .book .state) after)

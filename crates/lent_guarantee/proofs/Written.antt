@@ -16,14 +16,14 @@ use Rattle.soundness.specs.Sound.{soundB}
 use Rattle.server.specs.Serve.{Call}
 use Rattle.state_file.specs.declared.Loaded.{Loaded}
 use Rattle.state_file.specs.declared.Written.{Written}
-use Rattle.state_file.specs.StateFile.{accepted, readOf, roomAfter, writtenOf}
+use Rattle.state_file.specs.StateFile.{accepted, readFile, roomAfter, writtenOf}
 use Rattle.state_file.specs.FormatLaws.{Octets}
 use Rattle.state_file.specs.Typed.{Typed}
 use Rattle.state_file.proofs.RoundTrip.{never-refused, read-write, written-read}
 use Rattle.records.specs.Back.{records-back}
 use Rattle.records.specs.Files.{file-back, file-long}
 use Rattle.records.specs.Records.{recordsOf, tableFrom}
-use Rattle.records.specs.Lent.{LentReading, readLent, readWith, roomLent, roomWith, whole, writtenLent, writtenWith}
+use Rattle.records.specs.Lent.{LentReading, readLent, readWith, roomLent, roomWith, is128, writtenLent, writtenWith}
 use Rattle.records.specs.Steps.{off-whole, on-whole}
 use Rattle.lent_guarantee.specs.Statement.{FileWritten, Lent, LentDemand3, LentWriteRead, LentWritten, SoundLent, afterFile, runLent}
 use Rattle.lent_guarantee.proofs.Guaranteed.{lent-demand3}
@@ -31,7 +31,7 @@ use Rattle.lent_guarantee.proofs.RoundTrip.{Filed, read-whole}
 
 -- ---- written and read again
 -- a reading that is accepted, on 128 records
-read-as : (f : List ℕ) (s t : State) (b : LeaseTable) (ls : List Lease) → length ls ≡ 128 → readOf f ≡ accepted t b → readLent f s ls ≡ record { refusal = 0; state = t; leases = recordsOf b }
+read-as : (f : List ℕ) (s t : State) (b : LeaseTable) (ls : List Lease) → length ls ≡ 128 → readFile f ≡ accepted t b → readLent f s ls ≡ record { refusal = 0; state = t; leases = recordsOf b }
 unfolding readWith accepted pick
 read-as f s t b ls long e =
     ap (λ (r : Loaded). readWith (length ls) r s ls) e ∙ sym (on-whole (record { refusal = 0; state = t; leases = recordsOf b }) (record { refusal = 21; state = s; leases = ls }) long)
@@ -75,10 +75,10 @@ file-sound : (f : List ℕ) (s : State) (ls : List Lease) → Octets f → readL
 unfolding accepted
 file-sound f s ls o e =
     let r = read-whole f s ls e in
-    let b = read-write f (readOf f .state) (readOf f .table) o (ap {B = Loaded} (λ (n : ℕ). record { refusal = n; state = readOf f .state; table = readOf f .table }) (r .0)) in
+    let b = read-write f (readFile f .state) (readFile f .table) o (ap {B = Loaded} (λ (n : ℕ). record { refusal = n; state = readFile f .state; table = readFile f .table }) (r .0)) in
     record {
       whole = ap (λ (x : LentReading). length (x .leases)) (r .1) ∙ file-long f (r .0);
-      sound = ap (λ (x : LentReading). soundB (x .state) (tableFrom (x .leases))) (r .1) ∙ ap (soundB (readOf f .state)) (file-back f (r .0)) ∙ b .0;
+      sound = ap (λ (x : LentReading). soundB (x .state) (tableFrom (x .leases))) (r .1) ∙ ap (soundB (readFile f .state)) (file-back f (r .0)) ∙ b .0;
     }
 
 pub file-written : FileWritten

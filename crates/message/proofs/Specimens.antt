@@ -10,7 +10,7 @@ use Rattle.lists.specs.All.{allBy}
 use Rattle.octets.specs.Octets.{at16, at32}
 use Rattle.lists.specs.Filter.{isIn}
 use Rattle.message.specs.Codes.{lengthOk}
-use Rattle.message.specs.Walk.{layoutOk, exactlyFilled, valueOk, taken, stepOf, walkFrom, walkOf}
+use Rattle.message.specs.Walk.{layoutOk, exactlyFilled, valueOk, optionTaken, stepOf, walkFrom, walkOf}
 use Rattle.message.specs.Read.{headerOk, requiredEmpty, noneRequired, ended, readOf}
 
 -- a datagram, the number of its discard (0: it is a message), the offset that discard 5 reports, and where options 1 and 3 stand
@@ -113,5 +113,5 @@ table =
     ∷ []
 
 specimens : allBy holds table ≡ true
-unfolding at16 at32 pick allBy both holds bad good header id time end unknown features any table isIn lengthOk layoutOk exactlyFilled valueOk taken stepOf walkFrom walkOf headerOk requiredEmpty noneRequired ended readOf
+unfolding at16 at32 pick allBy both holds bad good header id time end unknown features any table isIn lengthOk layoutOk exactlyFilled valueOk optionTaken stepOf walkFrom walkOf headerOk requiredEmpty noneRequired ended readOf
 specimens = refl

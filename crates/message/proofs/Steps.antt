@@ -15,9 +15,9 @@ use Rattle.octets.specs.Octets.{at16, at32}
 use Rattle.lists.specs.Filter.{isIn}
 use Rattle.message.specs.Codes.{clientTypes, lengthOk, allowedIn, allows}
 use Rattle.message.specs.Values.{wishAt, wishOf, timesOf, fieldsOf, countsAt, countsOf, serverOk, namesOf, allAllowed, identifierOf, codesFrom, foundAt, findOf, isFound, padded, identifierAt}
-use Rattle.message.specs.Read.{longestDatagram, headerOk, discarded, messageOf, requiredEmpty, ended, byStage, walked}
+use Rattle.message.specs.Read.{longestDatagram, headerOk, noMessage, messageOf, requiredEmpty, ended, byStage, walked}
 use Rattle.lists.specs.Copy.{CopyInv, copy-end}
-use Rattle.message.specs.Walk.{codeAt, lengthAt, afterAt, layoutOk, valueOk, pastList, exactlyFilled, taken, stepOf, onward, walkFrom, walkOf, start}
+use Rattle.message.specs.Walk.{codeAt, lengthAt, afterAt, layoutOk, valueOk, pastList, exactlyFilled, optionTaken, stepOf, onward, walkFrom, walkOf, start}
 use Rattle.message.specs.Placed.{layout-fits, pastWithin, fourOctets, Placed, GoodPlaces, Onto, step-onto, none-good, walk-good, placed, header-long, header-short}
 use Rattle.message.specs.declared.Walk.{Walk}
 use Rattle.message.specs.declared.Stage.{Stage}
@@ -167,8 +167,8 @@ layout-inside s at b e t = layout-fits s at (sym e ∙ t)
 pub after-got : {q : ℕ} (s : List ℕ) (at : ℕ) → q ≡ lengthAt s at → leb (at + 4 + q) (length s) ≡ leb (afterAt s at) (length s)
 after-got s at e = ap (λ (n : ℕ). leb (at + 4 + n) (length s)) e
 
-pub taken-got : (size c n : ℕ) (r : Walk) (x y : ℕ) (w : Walk) → r ≡ taken size c n w → c ≡ x → n ≡ y → r ≡ taken size x y w
-taken-got size c n r x y w p e q = p ∙ ap₂ (λ (a b : ℕ). taken size a b w) e q
+pub taken-got : (size c n : ℕ) (r : Walk) (x y : ℕ) (w : Walk) → r ≡ optionTaken size c n w → c ≡ x → n ≡ y → r ≡ optionTaken size x y w
+taken-got size c n r x y w p e q = p ∙ ap₂ (λ (a b : ℕ). optionTaken size a b w) e q
 
 pub filled-got : {n : ℕ} {r : Bool} (s : List ℕ) (p at y : ℕ) → r ≡ exactlyFilled s p (at + 4 + n) → n ≡ y → r ≡ exactlyFilled s p (at + 4 + y)
 filled-got s p at y e q = e ∙ ap (λ (k : ℕ). exactlyFilled s p (at + 4 + k)) q
@@ -473,8 +473,8 @@ begins-inside s p end n f h = first-inside s p end n (at16 s p) f h refl
 pub walked-good : (s : List ℕ) (w : Walk) → w ≡ walkOf s → 12 ≤ length s → GoodPlaces s (w .places)
 walked-good s w e h = subst (λ (v : Walk). GoodPlaces s (v .places)) (sym e) (walk-good s (omega arith))
 
-pub walked-as : (s : List ℕ) (w : Walk) (t : Stage) (r : Reading) → w .stage ≡ t → r ≡ byStage t (ended s (w .places)) (discarded 5 (w .at)) → r ≡ walked s w
-walked-as s w t r e p = p ∙ ap (λ (t : Stage). byStage t (ended s (w .places)) (discarded 5 (w .at))) (sym e)
+pub walked-as : (s : List ℕ) (w : Walk) (t : Stage) (r : Reading) → w .stage ≡ t → r ≡ byStage t (ended s (w .places)) (noMessage 5 (w .at)) → r ≡ walked s w
+walked-as s w t r e p = p ∙ ap (λ (t : Stage). byStage t (ended s (w .places)) (noMessage 5 (w .at))) (sym e)
 
 pub long-header : (s : List ℕ) (b : Bool) → b ≡ headerOk s → b ≡ true → 12 ≤ length s
 long-header s b e t = header-long s (sym e ∙ t)
@@ -497,7 +497,7 @@ message-is s places k x p e = ap₂ (λ (j y : ℕ). made j y) p e
 
 -- a value by its constructor: its number is the one that was given
 pub discarded-is : (number fault k : ℕ) → k ≡ 0
-    → _≡_ {A = Reading} (record { discard = number; fault = fault; message = record { kind = record { number = k }; xid = 0; places = replicate 17 0 } }) (discarded number fault)
+    → _≡_ {A = Reading} (record { discard = number; fault = fault; message = record { kind = record { number = k }; xid = 0; places = replicate 17 0 } }) (noMessage number fault)
 discarded-is number fault k e = ap (λ (j : ℕ). made j) e
   where
     made : ℕ → Reading

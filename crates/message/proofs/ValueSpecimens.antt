@@ -10,7 +10,7 @@ use Rattle.lists.specs.All.{allBy, allTo}
 use Rattle.lists.specs.Filter.{filterBy, isIn}
 use Rattle.octets.specs.Octets.{at16, at32}
 use Rattle.message.specs.Codes.{allowedIn, allows, lengthOk}
-use Rattle.message.specs.Walk.{layoutOk, exactlyFilled, valueOk, taken, stepOf, walkFrom, walkOf}
+use Rattle.message.specs.Walk.{layoutOk, exactlyFilled, valueOk, optionTaken, stepOf, walkFrom, walkOf}
 use Rattle.message.specs.Read.{headerOk, requiredEmpty, noneRequired, ended, readOf}
 use Rattle.message.specs.Values.{foundAt, namesServer, codesFrom, allowedAt, timesOf, fieldsOf}
 use Rattle.message.specs.declared.Fields.{Fields}
@@ -129,5 +129,5 @@ table =
     ∷ []
 
 values : allBy holds table ≡ true
-unfolding flag shown flat same holds option sent short bare of table pick allBy allTo filterBy isIn at16 at32 lengthOk allowedIn allows layoutOk exactlyFilled valueOk taken stepOf walkFrom walkOf headerOk requiredEmpty noneRequired ended readOf foundAt namesServer codesFrom allowedAt timesOf fieldsOf
+unfolding flag shown flat same holds option sent short bare of table pick allBy allTo filterBy isIn at16 at32 lengthOk allowedIn allows layoutOk exactlyFilled valueOk optionTaken stepOf walkFrom walkOf headerOk requiredEmpty noneRequired ended readOf foundAt namesServer codesFrom allowedAt timesOf fieldsOf
 values = refl

@@ -15,8 +15,8 @@ use Rattle.lists.specs.Pick.{pick}
 use Rattle.octets.specs.Octets.{at16, at32}
 use Rattle.lists.specs.Filter.{isIn}
 use Rattle.message.specs.Codes.{lengthOk}
-use Rattle.message.specs.Walk.{codeAt, lengthAt, afterAt, layoutOk, pastList, exactlyFilled, valueOk, broken, done, moved, taken, stepOf, onward, walkFrom, walkOf, start}
-use Rattle.message.specs.Read.{longestDatagram, headerOk, discarded, messageOf, noneRequired, ended, byStage, walked, readOf}
+use Rattle.message.specs.Walk.{codeAt, lengthAt, afterAt, layoutOk, pastList, exactlyFilled, valueOk, broken, done, moved, optionTaken, stepOf, onward, walkFrom, walkOf, start}
+use Rattle.message.specs.Read.{longestDatagram, headerOk, noMessage, messageOf, noneRequired, ended, byStage, walked, readOf}
 use Rattle.message.specs.declared.Message.{Message}
 use Rattle.message.specs.declared.Reading.{Reading}
 use Rattle.message.specs.declared.Walk.{Walk}
@@ -81,7 +81,7 @@ gone-on : (s : List ℕ) (n : ℕ) (w : Walk) (p : List ℕ) → w .at + 4 + n �
 gone-on s n w p h g = record { within = h; further = λ e. omega arith; good = g }
 
 pub step-onto : (s : List ℕ) (w : Walk) → w .at ≤ length s → GoodPlaces s (w .places) → Onto s (w .at) (stepOf s w)
-unfolding stepOf taken
+unfolding stepOf optionTaken
 step-onto s w h g =
     let P : Walk → Type 0 = λ v. Onto s (w .at) v in
     let stop : Onto s (w .at) (broken w) = stopped s w h g in
@@ -150,7 +150,7 @@ read-good s =
     P : Reading → Type 0
     P r = GoodPlaces s (r .message .places)
 
-    at-stage : (t : Stage) → GoodPlaces s (walkOf s .places) → P (byStage t (ended s (walkOf s .places)) (discarded 5 (walkOf s .at)))
+    at-stage : (t : Stage) → GoodPlaces s (walkOf s .places) → P (byStage t (ended s (walkOf s .places)) (noMessage 5 (walkOf s .at)))
     at-stage Walking g = none-good s
     at-stage Done g =
         pick-cases P (eqb (getD (walkOf s .places) 3 0) 0) _ _ (λ _. none-good s) (λ _.
@@ -162,6 +162,6 @@ pub read-short : (s : List ℕ) → readOf s .discard ≡ 0 → length s ≤ lon
 unfolding readOf pick
 read-short s e = go (headerOk s) refl e
   where
-    go : (b : Bool) → headerOk s ≡ b → pick b (walked s (walkOf s)) (discarded 4 0) .discard ≡ 0 → length s ≤ longestDatagram
+    go : (b : Bool) → headerOk s ≡ b → pick b (walked s (walkOf s)) (noMessage 4 0) .discard ≡ 0 → length s ≤ longestDatagram
     go true q e = header-short s q
     go false q e = absurd (omega arith)

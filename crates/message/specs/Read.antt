@@ -25,8 +25,8 @@ headerOk s = leb 12 (length s) && (leb (length s) longestDatagram && (eqb (getD 
 
 -- no message: the discard's number, and for discard 5 the offset of the first option that breaks a rule, or the datagram's length where
 -- End or option 3 is missing; 0 with every other answer
-abbrev pub discarded : ℕ → ℕ → Reading
-discarded number fault = record { discard = number; fault = fault; message = record { kind = record { number = 0 }; xid = 0; places = replicate 17 0 } }
+abbrev pub noMessage : ℕ → ℕ → Reading
+noMessage number fault = record { discard = number; fault = fault; message = record { kind = record { number = 0 }; xid = 0; places = replicate 17 0 } }
 
 -- type(1) and transaction id(4) of the header, and where each option stands
 abbrev pub messageOf : List ℕ → List ℕ → Message
@@ -43,8 +43,8 @@ noneRequired s places = pick (eqb (getD places 12 0) 0) true (requiredEmpty s (g
 -- the walk came to End: option 3 is required (where it is missing, the offset is the datagram's length)
 unfoldable pub ended : List ℕ → List ℕ → Reading
 ended s places =
-    pick (eqb (getD places 3 0) 0) (discarded 5 (length s))
-    (pick (noneRequired s places) (record { discard = 0; fault = 0; message = messageOf s places }) (discarded 6 0))
+    pick (eqb (getD places 3 0) 0) (noMessage 5 (length s))
+    (pick (noneRequired s places) (record { discard = 0; fault = 0; message = messageOf s places }) (noMessage 6 0))
 
 -- a walk of as many steps as octets has stopped: it is never `Walking`
 abbrev pub byStage : Stage → Reading → Reading → Reading
@@ -53,7 +53,7 @@ byStage Done whole bad = whole
 byStage Broken whole bad = bad
 
 abbrev pub walked : List ℕ → Walk → Reading
-walked s w = byStage (w .stage) (ended s (w .places)) (discarded 5 (w .at))
+walked s w = byStage (w .stage) (ended s (w .places)) (noMessage 5 (w .at))
 
 unfoldable pub readOf : List ℕ → Reading
-readOf s = pick (headerOk s) (walked s (walkOf s)) (discarded 4 0)
+readOf s = pick (headerOk s) (walked s (walkOf s)) (noMessage 4 0)

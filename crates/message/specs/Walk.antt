@@ -52,8 +52,8 @@ abbrev pub moved : ℕ → List ℕ → Walk → Walk
 moved n places w = record { at = w .at + 4 + n; stage = Walking; places = places }
 
 -- the option at the walk's place in a datagram of `size` octets, once its layout and value are right
-unfoldable pub taken : ℕ → ℕ → ℕ → Walk → Walk
-taken size code n w =
+unfoldable pub optionTaken : ℕ → ℕ → ℕ → Walk → Walk
+optionTaken size code n w =
     -- End is the last four octets
     pick (eqb code 0) (pick (eqb (w .at + 4) size) (done w) (broken w))
     -- codes above 16 are stepped over and may repeat
@@ -64,7 +64,7 @@ taken size code n w =
 unfoldable pub stepOf : List ℕ → Walk → Walk
 stepOf s w =
     pick (layoutOk s (w .at))
-    (pick (valueOk s (w .at)) (taken (length s) (codeAt s (w .at)) (lengthAt s (w .at)) w) (broken w))
+    (pick (valueOk s (w .at)) (optionTaken (length s) (codeAt s (w .at)) (lengthAt s (w .at)) w) (broken w))
     (broken w)
 
 abbrev pub onward : Stage → Walk → Walk → Walk

@@ -4,7 +4,7 @@ ghost use Prim.Native.Nat.{_+_, _≤_, _<_};
 ghost use lib.ListN.{length, getD, set};
 ghost use lib.Dec.{eqb};
 ghost use Rattle.lists.specs.Pick.{pick};
-ghost use Rattle.message.specs.Walk.{codeAt, lengthAt, afterAt, layoutOk, exactlyFilled, valueOk, broken, done, moved, taken, stepOf, walkOf};
+ghost use Rattle.message.specs.Walk.{codeAt, lengthAt, afterAt, layoutOk, exactlyFilled, valueOk, broken, done, moved, optionTaken, stepOf, walkOf};
 ghost use Rattle.message.specs.Read.{longestDatagram};
 ghost use Rattle.message.specs.Placed.{pastWithin};
 use crate::OptionCode;
@@ -79,7 +79,7 @@ impl Walk {
     // The option at the walk's place, whose layout and value are right.
     fn taken(self, size: usize, code: u16, n: usize) -> Walk
         requires { ⌜ self .at + 4 + n ≤ longestDatagram ⌝ }
-        ensures { λ r. ⌜ r ≡ taken size code n self ⌝ }
+        ensures { λ r. ⌜ r ≡ optionTaken size code n self ⌝ }
     {
         if code == OptionCode::END {
             return self.at_end(size);
@@ -98,7 +98,7 @@ impl Walk {
     // The same, with its code and length read.
     fn taken_in(self, s: &[u8]) -> Walk
         requires { ⌜ (afterAt (now s) (self .at) ≤ length (now s)) × (length (now s) ≤ longestDatagram) ⌝ }
-        ensures { λ r. ⌜ r ≡ taken (length (now (s .entry))) (codeAt (now (s .entry)) (self .at)) (lengthAt (now (s .entry)) (self .at)) self ⌝ }
+        ensures { λ r. ⌜ r ≡ optionTaken (length (now (s .entry))) (codeAt (now (s .entry)) (self .at)) (lengthAt (now (s .entry)) (self .at)) self ⌝ }
     {
         let at = self.at;
         let code = octets::read_u16(s, at);

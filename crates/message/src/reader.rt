@@ -4,7 +4,7 @@ ghost use mathlib.Core.Bool.{true};
 ghost use Prim.Native.Nat.{_+_, _≤_};
 ghost use lib.ListN.{length};
 ghost use Rattle.message.specs.Walk.{afterAt, exactlyFilled, walkOf};
-ghost use Rattle.message.specs.Read.{longestDatagram, headerOk, discarded, requiredEmpty, noneRequired, ended, walked};
+ghost use Rattle.message.specs.Read.{longestDatagram, headerOk, noMessage, requiredEmpty, noneRequired, ended, walked};
 ghost use Rattle.message.specs.Placed.{GoodPlaces};
 use crate::LONGEST_DATAGRAM;
 use crate::Message;
@@ -98,7 +98,7 @@ fn required_empty(s: &[u8], at: usize) -> bool
 
 impl Reading {
     pub fn discarded(number: u8, fault: usize) -> Reading
-        ensures { λ r. ⌜ r ≡ discarded number fault ⌝ }
+        ensures { λ r. ⌜ r ≡ noMessage number fault ⌝ }
     {
         let kind = MessageType::new(0);
         let message = Message {

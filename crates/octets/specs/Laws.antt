@@ -60,15 +60,15 @@ unfolding put
 put-start r xs = ap (λ (k : ℕ). xs ++ drop k r) (zero-add (length xs))
 
 -- two runs, the second where the first ended
-pub joined : {r₀ r₁ r₂ xs ys : List ℕ} {a b c : ℕ} → a ≤ length r₀ → Wrote r₀ a xs r₁ b → Wrote r₁ b ys r₂ c → Wrote r₀ a (xs ++ ys) r₂ c
-joined {r₀ = r₀} {xs = xs} {ys = ys} {a = a} {b = b} h p q = record {
+pub wrote-joined : {r₀ r₁ r₂ xs ys : List ℕ} {a b c : ℕ} → a ≤ length r₀ → Wrote r₀ a xs r₁ b → Wrote r₁ b ys r₂ c → Wrote r₀ a (xs ++ ys) r₂ c
+wrote-joined {r₀ = r₀} {xs = xs} {ys = ys} {a = a} {b = b} h p q = record {
   next = q .next ∙ ap (λ (k : ℕ). k + length ys) (p .next) ∙ add-assoc a (length xs) (length ys) ∙ ap (λ (k : ℕ). a + k) (sym (length-append xs ys));
   buffer = q .buffer ∙ ap (λ (l : List ℕ). put l b ys) (p .buffer) ∙ ap (λ (k : ℕ). put (put r₀ a xs) k ys) (p .next) ∙ put-put r₀ a xs ys h;
 }
 
 -- from the start: the octets written, and past them what stood there
-pub whole : {r₀ r₁ xs : List ℕ} {n : ℕ} → Wrote r₀ 0 xs r₁ n → r₁ ≡ xs ++ drop (length xs) r₀
-whole {r₀ = r₀} {xs = xs} w = w .buffer ∙ put-start r₀ xs
+pub wrote-whole : {r₀ r₁ xs : List ℕ} {n : ℕ} → Wrote r₀ 0 xs r₁ n → r₁ ≡ xs ++ drop (length xs) r₀
+wrote-whole {r₀ = r₀} {xs = xs} w = w .buffer ∙ put-start r₀ xs
 
 pub whole-length : {r₀ r₁ xs : List ℕ} {n : ℕ} → Wrote r₀ 0 xs r₁ n → n ≡ length xs
 whole-length {xs = xs} w = w .next ∙ zero-add (length xs)

@@ -16,7 +16,7 @@ use Rattle.state.specs.Book.{byIdentifier, insertOf, laidOut, removeOf, zeroLea
 use Rattle.soundness.specs.Sound.{blankB, layoutB, paddedB, unusedB, zeroFrom}
 use Rattle.server.specs.Serve.{Call}
 use Rattle.records.specs.Records.{recordsOf, rows, rowsOf, tableFrom, tenantFrom}
-use Rattle.records.specs.Lent.{findLent, findWith, insertLent, insertWith, removeLent, removeWith, serveLent, serveWith, whole, writtenLent, writtenWith}
+use Rattle.records.specs.Lent.{findLent, findWith, insertLent, insertWith, removeLent, removeWith, serveLent, serveWith, is128, writtenLent, writtenWith}
 
 -- a lease by the last octet of its identifier
 lease : ℕ → Lease
@@ -31,47 +31,47 @@ ours p n = unused 16 ++ p ++ unused n
 
 -- in the order of identifiers, the later ones move down
 insert-between : insertLent 1 (lease 2) (ours (lease 1 ∷ lease 3 ∷ []) 110) ≡ ours (lease 1 ∷ lease 2 ∷ lease 3 ∷ []) 109
-unfolding lease unused ours insertWith whole pick tableFrom rows tenantFrom placeBy unusedB blankB zeroFrom allBy insertOf insertIn byIdentifier filterBy orderOf laidOut recordsOf rowsOf
+unfolding lease unused ours insertWith is128 pick tableFrom rows tenantFrom placeBy unusedB blankB zeroFrom allBy insertOf insertIn byIdentifier filterBy orderOf laidOut recordsOf rowsOf
 insert-between = refl
 
 -- no gap is left
 remove-first : removeLent 1 (0 ∷ 1 ∷ []) (ours (lease 1 ∷ lease 3 ∷ []) 110) ≡ ours (lease 3 ∷ []) 111
-unfolding lease unused ours removeWith whole pick tableFrom rows tenantFrom placeBy unusedB blankB zeroFrom allBy removeOf filterBy orderOf sameOf laidOut recordsOf rowsOf
+unfolding lease unused ours removeWith is128 pick tableFrom rows tenantFrom placeBy unusedB blankB zeroFrom allBy removeOf filterBy orderOf sameOf laidOut recordsOf rowsOf
 remove-first = refl
 
 find-second : findLent 1 (0 ∷ 3 ∷ []) (ours (lease 1 ∷ lease 3 ∷ []) 110) ≡ 1
-unfolding lease unused ours findWith whole pick tableFrom rows tenantFrom placeBy unusedB blankB zeroFrom allBy orderOf sameOf
+unfolding lease unused ours findWith is128 pick tableFrom rows tenantFrom placeBy unusedB blankB zeroFrom allBy orderOf sameOf
 find-second = refl
 
 -- of another house
 find-none : findLent 0 (0 ∷ 3 ∷ []) (ours (lease 1 ∷ lease 3 ∷ []) 110) ≡ 0
-unfolding lease unused ours findWith whole pick tableFrom rows tenantFrom placeBy unusedB blankB zeroFrom allBy orderOf sameOf
+unfolding lease unused ours findWith is128 pick tableFrom rows tenantFrom placeBy unusedB blankB zeroFrom allBy orderOf sameOf
 find-none = refl
 
 -- a ninth house, a house whose sixteen records are used, 127 records: nothing changes
 ninth : insertLent 8 (lease 2) (unused 128) ≡ unused 128
-unfolding unused insertWith whole pick
+unfolding unused insertWith is128 pick
 ninth = refl
 
 full : insertLent 1 (lease 0) (ours (replicate 16 (lease 3)) 96) ≡ ours (replicate 16 (lease 3)) 96
-unfolding lease unused ours insertWith whole pick tableFrom rows tenantFrom placeBy unusedB blankB zeroFrom allBy
+unfolding lease unused ours insertWith is128 pick tableFrom rows tenantFrom placeBy unusedB blankB zeroFrom allBy
 full = refl
 
 short : insertLent 1 (lease 2) (unused 127) ≡ unused 127
-unfolding unused insertWith whole pick
+unfolding unused insertWith is128 pick
 short = refl
 
 -- 127 and 129 records are discard 1 and refusal 22, whatever the state, the call and the room
 serve-127 : (s : State) (c : Call) → serveLent s (unused 127) c .outcome ≡ 1
-unfolding unused serveWith whole pick
+unfolding unused serveWith is128 pick
 serve-127 s c = refl
 
 serve-129 : (s : State) (c : Call) → serveLent s (unused 129) c .outcome ≡ 1
-unfolding unused serveWith whole pick
+unfolding unused serveWith is128 pick
 serve-129 s c = refl
 
 write-127 : (s : State) (room : ℕ) → writtenLent s (unused 127) room .refusal ≡ 22
-unfolding unused writtenWith whole pick
+unfolding unused writtenWith is128 pick
 write-127 s room = refl
 
 -- a lease after an unused record

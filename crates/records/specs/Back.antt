@@ -98,9 +98,9 @@ unfolding allBy
 all-ids s [] e = refl
 all-ids s (p ∷ ll) e = let h = all-head (allBy (leaseOk s)) p ll e in all-cons (allBy idB) p ll (ids-of s p (h .0)) (all-ids s ll (h .1))
 
-pub table-back : (s : State) (t : LeaseTable) → length (leasesOf t) ≡ 8 → t ≡ tableOf (leasesOf t) → soundB s t ≡ true → tableFrom (recordsOf t) ≡ t
+pub lent-table-back : (s : State) (t : LeaseTable) → length (leasesOf t) ≡ 8 → t ≡ tableOf (leasesOf t) → soundB s t ≡ true → tableFrom (recordsOf t) ≡ t
 unfolding recordsOf tableFrom tableOf
-table-back s t long laid e =
+lent-table-back s t long laid e =
     let v = sound-lists s t e in
     ap (λ (x : LeaseTable). tableFrom (recordsOf x)) laid
     ∙ ap {B = LeaseTable} (λ (k : ℕ). record { tenants = map tenantFrom (rows k (rowsOf (map laidOut (leasesOf t)))) }) (sym long)

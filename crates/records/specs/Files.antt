@@ -15,15 +15,15 @@ use Rattle.state.specs.declared.Lease.{Lease}
 use Rattle.state.specs.declared.LeaseTable.{LeaseTable}
 use Rattle.state.specs.declared.State.{State}
 use Rattle.state.specs.Book.{laidOut, leasesOf, tableOf, zeroLease}
-use Rattle.state.specs.Layout.{table-back as lists-back}
+use Rattle.state.specs.Layout.{lent-table-back as lists-back}
 use Rattle.soundness.specs.Sound.{blankB, soundB, unusedB, zeroFrom}
 use Rattle.state_file.specs.declared.Loaded.{Loaded}
 use Rattle.state_file.specs.File.{File, FileLease, fileOf}
 use Rattle.state_file.specs.Format.{Got, bad, got}
 use Rattle.state_file.specs.Records.{fitsB, storedState, storedTable, tenantsFrom}
-use Rattle.state_file.specs.StateFile.{accepted, answered, judged, loaded, readOf, refused, zeroState, zeroTable}
-use Rattle.records.specs.Back.{table-back, table-long}
-use Rattle.records.specs.Lent.{LentReading, readLent, readWith, untouched, whole}
+use Rattle.state_file.specs.StateFile.{accepted, loadedGot, judged, loaded, readFile, refused, zeroState, zeroTable}
+use Rattle.records.specs.Back.{lent-table-back, table-long}
+use Rattle.records.specs.Lent.{LentReading, readLent, readWith, untouched, is128}
 use Rattle.records.specs.Records.{recordsOf, rows, tableFrom, tenantFrom}
 
 -- eight lists, laid out; sound where there is no refusal, and all zero where there is one
@@ -52,20 +52,20 @@ judged-whole f =
     pick-cases Whole (soundB (storedState f) (tableOf (tenantsFrom 1 8 (f .leases)))) _ _
     (λ y. of-lists 0 (storedState f) (tenantsFrom 1 8 (f .leases)) (from-length 1 8 (f .leases)) (λ _. y) (λ z. absurd (z refl))) (λ _. none 21 (λ e. absurd (omega arith)))
 
-file-whole : (s : List ℕ) → Whole (readOf s)
-unfolding readOf answered loaded
+file-whole : (s : List ℕ) → Whole (readFile s)
+unfolding readFile loadedGot loaded
 file-whole s = go (fileOf s)
   where
-    go : (g : Got File) → Whole (answered g)
+    go : (g : Got File) → Whole (loadedGot g)
     go bad = none 20 (λ e. absurd (omega arith))
     go (got f r) = pick-cases Whole (fitsB f) _ _ (λ _. judged-whole f) (λ _. none 21 (λ e. absurd (omega arith)))
 
 -- the records of an accepted file stand for its table
-pub file-back : (s : List ℕ) → readOf s .refusal ≡ 0 → tableFrom (recordsOf (readOf s .table)) ≡ readOf s .table
-file-back s e = let w = file-whole s in table-back (readOf s .state) (readOf s .table) (w .eight) (w .laid) (w .sound e)
+pub file-back : (s : List ℕ) → readFile s .refusal ≡ 0 → tableFrom (recordsOf (readFile s .table)) ≡ readFile s .table
+file-back s e = let w = file-whole s in lent-table-back (readFile s .state) (readFile s .table) (w .eight) (w .laid) (w .sound e)
 
-pub file-long : (s : List ℕ) → readOf s .refusal ≡ 0 → length (recordsOf (readOf s .table)) ≡ 128
-file-long s e = let w = file-whole s in table-long (readOf s .state) (readOf s .table) (w .eight) (w .laid) (w .sound e)
+pub file-long : (s : List ℕ) → readFile s .refusal ≡ 0 → length (recordsOf (readFile s .table)) ≡ 128
+file-long s e = let w = file-whole s in table-long (readFile s .state) (readFile s .table) (w .eight) (w .laid) (w .sound e)
 
 -- ---- a file read over a book that is all zero
 blank-table : tableFrom (replicate 128 zeroLease) ≡ zeroTable
@@ -75,31 +75,31 @@ blank-table = refl
 abbrev pub readBlank : List ℕ → LentReading
 readBlank f = readLent f zeroState (replicate 128 zeroLease)
 
-pub blank-refusal : (f : List ℕ) → readBlank f .refusal ≡ readOf f .refusal
-unfolding readWith whole pick
-blank-refusal f = go (eqb (readOf f .refusal) 0) refl
+pub blank-refusal : (f : List ℕ) → readBlank f .refusal ≡ readFile f .refusal
+unfolding readWith is128 pick
+blank-refusal f = go (eqb (readFile f .refusal) 0) refl
   where
-    go : (p : Bool) → eqb (readOf f .refusal) 0 ≡ p
-        → pick {A = LentReading} p (record { refusal = 0; state = readOf f .state; leases = recordsOf (readOf f .table) }) (untouched (readOf f .refusal) zeroState (replicate 128 zeroLease)) .refusal ≡ readOf f .refusal
+    go : (p : Bool) → eqb (readFile f .refusal) 0 ≡ p
+        → pick {A = LentReading} p (record { refusal = 0; state = readFile f .state; leases = recordsOf (readFile f .table) }) (untouched (readFile f .refusal) zeroState (replicate 128 zeroLease)) .refusal ≡ readFile f .refusal
     go true e = sym (eqb-true _ _ e)
     go false e = refl
 
-pub blank-accepted : (f : List ℕ) → readOf f .refusal ≡ 0 → readBlank f ≡ record { refusal = 0; state = readOf f .state; leases = recordsOf (readOf f .table) }
-unfolding readWith whole pick
+pub blank-accepted : (f : List ℕ) → readFile f .refusal ≡ 0 → readBlank f ≡ record { refusal = 0; state = readFile f .state; leases = recordsOf (readFile f .table) }
+unfolding readWith is128 pick
 blank-accepted f e =
-    ap (λ (p : Bool). pick p (record { refusal = 0; state = readOf f .state; leases = recordsOf (readOf f .table) }) (untouched (readOf f .refusal) zeroState (replicate 128 zeroLease)))
+    ap (λ (p : Bool). pick p (record { refusal = 0; state = readFile f .state; leases = recordsOf (readFile f .table) }) (untouched (readFile f .refusal) zeroState (replicate 128 zeroLease)))
     (eq-eqb _ _ e)
 
 -- it gives what the reader by value gives
-pub blank-read : (f : List ℕ) → record { refusal = readBlank f .refusal; state = readBlank f .state; table = tableFrom (readBlank f .leases) } ≡ readOf f
-unfolding readWith whole pick refused
-blank-read f = go (eqb (readOf f .refusal) 0) refl
+pub blank-read : (f : List ℕ) → record { refusal = readBlank f .refusal; state = readBlank f .state; table = tableFrom (readBlank f .leases) } ≡ readFile f
+unfolding readWith is128 pick refused
+blank-read f = go (eqb (readFile f .refusal) 0) refl
   where
     of : LentReading → Loaded
     of r = record { refusal = r .refusal; state = r .state; table = tableFrom (r .leases) }
 
-    go : (p : Bool) → eqb (readOf f .refusal) 0 ≡ p
-        → of (pick p (record { refusal = 0; state = readOf f .state; leases = recordsOf (readOf f .table) }) (untouched (readOf f .refusal) zeroState (replicate 128 zeroLease))) ≡ readOf f
+    go : (p : Bool) → eqb (readFile f .refusal) 0 ≡ p
+        → of (pick p (record { refusal = 0; state = readFile f .state; leases = recordsOf (readFile f .table) }) (untouched (readFile f .refusal) zeroState (replicate 128 zeroLease))) ≡ readFile f
     go true e =
-        ap₂ {C = Loaded} (λ (n : ℕ) (t : LeaseTable). record { refusal = n; state = readOf f .state; table = t }) (sym (eqb-true _ _ e)) (file-back f (eqb-true _ _ e))
-    go false e = ap {B = Loaded} (λ (t : LeaseTable). record { refusal = readOf f .refusal; state = zeroState; table = t }) blank-table ∙ sym (file-whole f .empty (eqb-false _ _ e))
+        ap₂ {C = Loaded} (λ (n : ℕ) (t : LeaseTable). record { refusal = n; state = readFile f .state; table = t }) (sym (eqb-true _ _ e)) (file-back f (eqb-true _ _ e))
+    go false e = ap {B = Loaded} (λ (t : LeaseTable). record { refusal = readFile f .refusal; state = zeroState; table = t }) blank-table ∙ sym (file-whole f .empty (eqb-false _ _ e))

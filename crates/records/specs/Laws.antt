@@ -172,9 +172,9 @@ pub ruleset to-table = (rows-start, in-row-start, in-row-next, in-row-long, in-r
 
 pub ruleset to-records = (laid-start, lay-start, lay-next, lay-long, lay-end, laid-within, laid-records, laid-size)
 
-pub tenant-is : {r : List Lease} {n : ℕ} → n ≡ placeBy unusedB r → record { leases = r; count = n } ≡ tenantFrom r
+pub tenant-from-is : {r : List Lease} {n : ℕ} → n ≡ placeBy unusedB r → record { leases = r; count = n } ≡ tenantFrom r
 unfolding tenantFrom
-tenant-is {r} e = ap {B = TenantLeases} (λ (k : ℕ). record { leases = r; count = k }) e
+tenant-from-is {r} e = ap {B = TenantLeases} (λ (k : ℕ). record { leases = r; count = k }) e
 
 pub used-start : {ls : List Lease} → length ls ≡ 16 → PlaceInv unusedB noLease ls 16 (placeBy unusedB ls) 0
 used-start {ls} e = subst (λ (x : List Lease). PlaceInv unusedB noLease ls 16 (placeBy unusedB x) 0) (take-all 16 ls (omega arith)) (place-start 16 16 refl e)

@@ -16,15 +16,15 @@ use Rattle.decision.specs.Parts.{ownOf}
 use Rattle.server.specs.Serve.{Answer, Call, serveOf}
 use Rattle.state_file.specs.declared.Loaded.{Loaded}
 use Rattle.state_file.specs.declared.Written.{Written}
-use Rattle.state_file.specs.StateFile.{readOf, roomAfter, writtenOf}
+use Rattle.state_file.specs.StateFile.{readFile, roomAfter, writtenOf}
 use Rattle.records.specs.declared.Outcome.{Outcome}
 use Rattle.records.specs.declared.ReadRecords.{ReadRecords}
 use Rattle.records.specs.declared.ServedRecords.{ServedRecords}
 use Rattle.records.specs.Records.{recordsOf, tableFrom}
 
 -- whether there are 128
-unfoldable pub whole : ℕ → Bool
-whole n = eqb n 128
+unfoldable pub is128 : ℕ → Bool
+is128 n = eqb n 128
 
 -- the book that a lent state and lent records are
 abbrev pub bookFrom : State → List Lease → Book
@@ -43,7 +43,7 @@ lentAnswer a = record { outcome = a .outcome; reply = a .reply; state = a .book 
 
 -- on records of a slice that has n; discard 1 changes nothing
 unfoldable pub serveWith : ℕ → State → List Lease → Call → LentAnswer
-serveWith n s ls c = pick (whole n) (lentAnswer (serveOf (bookFrom s ls) c)) (record { outcome = 1; reply = []; state = s; leases = ls })
+serveWith n s ls c = pick (is128 n) (lentAnswer (serveOf (bookFrom s ls) c)) (record { outcome = 1; reply = []; state = s; leases = ls })
 
 abbrev pub serveLent : State → List Lease → Call → LentAnswer
 serveLent s ls c = serveWith (length ls) s ls c
@@ -79,11 +79,11 @@ untouched n s ls = record { refusal = n; state = s; leases = ls }
 unfoldable pub readWith : ℕ → Loaded → State → List Lease → LentReading
 readWith n r s ls =
     pick (eqb (r .refusal) 0)
-    (pick (whole n) (record { refusal = 0; state = r .state; leases = recordsOf (r .table) }) (untouched 21 s ls))
+    (pick (is128 n) (record { refusal = 0; state = r .state; leases = recordsOf (r .table) }) (untouched 21 s ls))
     (untouched (r .refusal) s ls)
 
 abbrev pub readLent : List ℕ → State → List Lease → LentReading
-readLent f s ls = readWith (length ls) (readOf f) s ls
+readLent f s ls = readWith (length ls) (readFile f) s ls
 
 -- what a function on 128 records by value promises
 pub record Reads (a : LentReading) (r : ReadRecords) : Type 0 where
@@ -101,10 +101,10 @@ pub record ReadsLent (a : LentReading) (s : State) (ls : List Lease) (r : ℕ) :
 -- ---- the writer
 -- 22 before 23
 unfoldable pub writtenWith : ℕ → State → List Lease → ℕ → Written
-writtenWith n s ls room = pick (whole n) (writtenOf s (tableFrom ls) room) (record { refusal = 22; length = 0 })
+writtenWith n s ls room = pick (is128 n) (writtenOf s (tableFrom ls) room) (record { refusal = 22; length = 0 })
 
 unfoldable pub roomWith : ℕ → State → List Lease → List ℕ → List ℕ
-roomWith n s ls room = pick (whole n) (roomAfter s (tableFrom ls) room) room
+roomWith n s ls room = pick (is128 n) (roomAfter s (tableFrom ls) room) room
 
 abbrev pub writtenLent : State → List Lease → ℕ → Written
 writtenLent s ls room = writtenWith (length ls) s ls room
@@ -120,18 +120,18 @@ withOwn t h p = recordsOf (putAt t h (laidOut p))
 -- the place of an identifier among the records of a tenant; the number of its leases where it has none, so 0 of no tenant; 0 too of another number
 -- of records
 unfoldable pub findWith : ℕ → ℕ → List ℕ → List Lease → ℕ
-findWith n h i ls = pick (whole n) (placeOf i (ownOf (tableFrom ls) h)) 0
+findWith n h i ls = pick (is128 n) (placeOf i (ownOf (tableFrom ls) h)) 0
 
 -- one lease more, after those before it in the order of identifiers and ahead of the others, those of the same identifier too; a tenant whose sixteen
 -- records are used, no tenant, and another number of records keep what they have
 unfoldable pub insertWith : ℕ → ℕ → Lease → List Lease → List Lease
 insertWith n h l ls =
-    pick (whole n) (pick (ltb h 8) (pick (ltb (length (ownOf (tableFrom ls) h)) 16) (withOwn (tableFrom ls) h (insertOf l (ownOf (tableFrom ls) h))) ls) ls) ls
+    pick (is128 n) (pick (ltb h 8) (pick (ltb (length (ownOf (tableFrom ls) h)) 16) (withOwn (tableFrom ls) h (insertOf l (ownOf (tableFrom ls) h))) ls) ls) ls
 
 -- every lease of an identifier goes (a sound book has at most one), and those after it move up; no tenant, and another number of records, keep what
 -- they have
 unfoldable pub removeWith : ℕ → ℕ → List ℕ → List Lease → List Lease
-removeWith n h i ls = pick (whole n) (pick (ltb h 8) (withOwn (tableFrom ls) h (removeOf i (ownOf (tableFrom ls) h))) ls) ls
+removeWith n h i ls = pick (is128 n) (pick (ltb h 8) (withOwn (tableFrom ls) h (removeOf i (ownOf (tableFrom ls) h))) ls) ls
 
 abbrev pub findLent : ℕ → List ℕ → List Lease → ℕ
 findLent h i ls = findWith (length ls) h i ls

@@ -25,13 +25,13 @@ use Rattle.records.specs.declared.Outcome.{Outcome}
 use Rattle.records.specs.declared.ReadRecords.{ReadRecords}
 use Rattle.records.specs.declared.ServedRecords.{ServedRecords}
 use Rattle.state_file.specs.StateFile.{roomAfter, writtenOf}
-use Rattle.records.specs.Records.{recordsOf, tableFrom, taken, covered}
-use Rattle.records.specs.Lent.{bookFrom, lentAnswer, withOwn, whole, untouched, LentAnswer, LentReading, serveWith, serveLent, ServesRecords, ServesLent, readWith, Reads, ReadsLent, writtenWith, writtenLent, roomWith, roomLent, findWith, findLent, insertWith, insertLent, removeWith, removeLent}
+use Rattle.records.specs.Records.{recordsOf, tableFrom, first128, covered}
+use Rattle.records.specs.Lent.{bookFrom, lentAnswer, withOwn, is128, untouched, LentAnswer, LentReading, serveWith, serveLent, ServesRecords, ServesLent, readWith, Reads, ReadsLent, writtenWith, writtenLent, roomWith, roomLent, findWith, findLent, insertWith, insertLent, removeWith, removeLent}
 
 -- ---- slices
 -- 128 records are all taken
-pub taken-all : (ls : List Lease) → length ls ≡ 128 → taken ls ≡ ls
-unfolding taken
+pub taken-all : (ls : List Lease) → length ls ≡ 128 → first128 ls ≡ ls
+unfolding first128
 taken-all ls e =
     ap (λ (k : ℕ). paste (replicate 128 zeroLease) 0 ls k) (let q : min (length ls) 128 ≡ 128 = omega arith in q)
     ∙ ap (λ (x : List Lease). x ++ drop 128 (replicate 128 zeroLease)) (take-all 128 ls (omega arith)) ∙ append-nil ls
@@ -44,8 +44,8 @@ covered-all ls x e f =
     ∙ ap (λ (y : List Lease). y ++ drop 128 ls) (take-all 128 x (omega arith)) ∙ ap (λ (y : List Lease). x ++ y) (drop-of-length-le ls {i = 128} (omega arith)) ∙ append-nil x
 
 -- what was taken is laid back
-pub covered-taken : (ls : List Lease) → covered ls (taken ls) ≡ ls
-unfolding covered taken
+pub covered-taken : (ls : List Lease) → covered ls (first128 ls) ≡ ls
+unfolding covered first128
 covered-taken ls =
     ap (λ (j : ℕ). take k (take k ls ++ drop j (replicate 128 zeroLease)) ++ drop j ls) (zero-add k)
     ∙ ap (λ (y : List Lease). y ++ drop k ls) (take-at (take k ls) (drop k (replicate 128 zeroLease)) k (length-take-le k ls (omega arith))) ∙ take-append-drop k ls
@@ -54,22 +54,22 @@ covered-taken ls =
     k = min (length ls) 128
 
 -- ---- one law for all: a change that another number than 128 leaves out
-pub changed-lent : (F : ℕ → List Lease → List Lease) → ((n : ℕ) (m : List Lease) → whole n ≡ false → F n m ≡ m)
-    → (ls : List Lease) {all x zs : List Lease} → all ≡ taken ls → x ≡ F (length ls) all → length x ≡ 128 → zs ≡ covered ls x → zs ≡ F (length ls) ls
-unfolding whole
+pub changed-lent : (F : ℕ → List Lease → List Lease) → ((n : ℕ) (m : List Lease) → is128 n ≡ false → F n m ≡ m)
+    → (ls : List Lease) {all x zs : List Lease} → all ≡ first128 ls → x ≡ F (length ls) all → length x ≡ 128 → zs ≡ covered ls x → zs ≡ F (length ls) ls
+unfolding is128
 changed-lent F none ls {all} {x} {zs} a b c d = go (eqb (length ls) 128) refl
   where
-    e : x ≡ F (length ls) (taken ls)
+    e : x ≡ F (length ls) (first128 ls)
     e = b ∙ ap (F (length ls)) a
 
     go : (t : Bool) → eqb (length ls) 128 ≡ t → zs ≡ F (length ls) ls
     go true p = d ∙ covered-all ls x (eqb-true _ _ p) c ∙ e ∙ ap (F (length ls)) (taken-all ls (eqb-true _ _ p))
-    go false p = d ∙ ap (covered ls) (e ∙ none (length ls) (taken ls) p) ∙ covered-taken ls ∙ sym (none (length ls) ls p)
+    go false p = d ∙ ap (covered ls) (e ∙ none (length ls) (first128 ls) p) ∙ covered-taken ls ∙ sym (none (length ls) ls p)
 
 -- and an answer that depends on the records only where there are 128
-pub told-lent : {A : Type 0} (F : ℕ → List Lease → A) → ((n : ℕ) (m m' : List Lease) → whole n ≡ false → F n m ≡ F n m')
-    → (ls : List Lease) {all : List Lease} {r : A} → all ≡ taken ls → r ≡ F (length ls) all → r ≡ F (length ls) ls
-unfolding whole
+pub told-lent : {A : Type 0} (F : ℕ → List Lease → A) → ((n : ℕ) (m m' : List Lease) → is128 n ≡ false → F n m ≡ F n m')
+    → (ls : List Lease) {all : List Lease} {r : A} → all ≡ first128 ls → r ≡ F (length ls) all → r ≡ F (length ls) ls
+unfolding is128
 told-lent {A} F none ls {all} {r} a b = go (eqb (length ls) 128) refl
   where
     go : (t : Bool) → eqb (length ls) 128 ≡ t → r ≡ F (length ls) ls
@@ -78,34 +78,34 @@ told-lent {A} F none ls {all} {r} a b = go (eqb (length ls) 128) refl
 
 -- the same of a definition that is a choice on the number of records
 pub changed-pick : (G : List Lease → List Lease) (ls : List Lease) {all x zs : List Lease}
-    → all ≡ taken ls → x ≡ pick (whole (length ls)) (G all) all → length x ≡ 128 → zs ≡ covered ls x → zs ≡ pick (whole (length ls)) (G ls) ls
+    → all ≡ first128 ls → x ≡ pick (is128 (length ls)) (G all) all → length x ≡ 128 → zs ≡ covered ls x → zs ≡ pick (is128 (length ls)) (G ls) ls
 unfolding pick
-changed-pick G ls = changed-lent (λ n m. pick (whole n) (G m) m) (λ n m p. ap (λ (t : Bool). pick t (G m) m) p) ls
+changed-pick G ls = changed-lent (λ n m. pick (is128 n) (G m) m) (λ n m p. ap (λ (t : Bool). pick t (G m) m) p) ls
 
 pub told-pick : {A : Type 0} (G : List Lease → A) (k : A) (ls : List Lease) {all : List Lease} {r : A}
-    → all ≡ taken ls → r ≡ pick (whole (length ls)) (G all) k → r ≡ pick (whole (length ls)) (G ls) k
+    → all ≡ first128 ls → r ≡ pick (is128 (length ls)) (G all) k → r ≡ pick (is128 (length ls)) (G ls) k
 unfolding pick
-told-pick {A} G k ls = told-lent (λ n m. pick (whole n) (G m) k) (λ n m m' p. ap (λ (t : Bool). pick t (G m) k) p ∙ sym (ap (λ (t : Bool). pick t (G m') k) p)) ls
+told-pick {A} G k ls = told-lent (λ n m. pick (is128 n) (G m) k) (λ n m m' p. ap (λ (t : Bool). pick t (G m) k) p ∙ sym (ap (λ (t : Bool). pick t (G m') k) p)) ls
 
 -- ---- one record
-pub found-lent : (h : ℕ) (i : List ℕ) (ls : List Lease) {all : List Lease} {r : ℕ} → all ≡ taken ls → r ≡ findWith (length ls) h i all → r ≡ findLent h i ls
+pub found-lent : (h : ℕ) (i : List ℕ) (ls : List Lease) {all : List Lease} {r : ℕ} → all ≡ first128 ls → r ≡ findWith (length ls) h i all → r ≡ findLent h i ls
 unfolding findWith
 found-lent h i ls = told-pick (λ m. placeOf i (ownOf (tableFrom m) h)) 0 ls
 
-pub inserted-lent : (h : ℕ) (l : Lease) (ls : List Lease) {all x zs : List Lease} → all ≡ taken ls → x ≡ insertWith (length ls) h l all → length x ≡ 128 → zs ≡ covered ls x → zs ≡ insertLent h l ls
+pub inserted-lent : (h : ℕ) (l : Lease) (ls : List Lease) {all x zs : List Lease} → all ≡ first128 ls → x ≡ insertWith (length ls) h l all → length x ≡ 128 → zs ≡ covered ls x → zs ≡ insertLent h l ls
 unfolding insertWith
 inserted-lent h l ls = changed-pick (λ m. pick (ltb h 8) (pick (ltb (length (ownOf (tableFrom m) h)) 16) (withOwn (tableFrom m) h (insertOf l (ownOf (tableFrom m) h))) m) m) ls
 
-pub removed-lent : (h : ℕ) (i : List ℕ) (ls : List Lease) {all x zs : List Lease} → all ≡ taken ls → x ≡ removeWith (length ls) h i all → length x ≡ 128 → zs ≡ covered ls x → zs ≡ removeLent h i ls
+pub removed-lent : (h : ℕ) (i : List ℕ) (ls : List Lease) {all x zs : List Lease} → all ≡ first128 ls → x ≡ removeWith (length ls) h i all → length x ≡ 128 → zs ≡ covered ls x → zs ≡ removeLent h i ls
 unfolding removeWith
 removed-lent h i ls = changed-pick (λ m. pick (ltb h 8) (withOwn (tableFrom m) h (removeOf i (ownOf (tableFrom m) h))) m) ls
 
 -- ---- the writer
-pub written-lent : (s : State) (ls : List Lease) (room : ℕ) {all : List Lease} {w : Written} → all ≡ taken ls → w ≡ writtenWith (length ls) s all room → w ≡ writtenLent s ls room
+pub written-lent : (s : State) (ls : List Lease) (room : ℕ) {all : List Lease} {w : Written} → all ≡ first128 ls → w ≡ writtenWith (length ls) s all room → w ≡ writtenLent s ls room
 unfolding writtenWith
 written-lent s ls room = told-pick (λ m. writtenOf s (tableFrom m) room) (record { refusal = 22; length = 0 }) ls
 
-pub room-lent : (s : State) (ls : List Lease) (room : List ℕ) {all : List Lease} {after : List ℕ} → all ≡ taken ls → after ≡ roomWith (length ls) s all room → after ≡ roomLent s ls room
+pub room-lent : (s : State) (ls : List Lease) (room : List ℕ) {all : List Lease} {after : List ℕ} → all ≡ first128 ls → after ≡ roomWith (length ls) s all room → after ≡ roomLent s ls room
 unfolding roomWith
 room-lent s ls room = told-pick (λ m. roomAfter s (tableFrom m) room) room ls
 
@@ -138,7 +138,7 @@ clock-only b c =
 
 pub lent-clock : (n : ℕ) (s : State) (ls : List Lease) (c : Call) → serveWith n s ls c .state ≡ raised s (serveWith n s ls c .state .clock)
 unfolding serveWith Raises pick
-lent-clock n s ls c = go (whole n)
+lent-clock n s ls c = go (is128 n)
   where
     go : (t : Bool) → Raises s (pick t (lentAnswer (serveOf (bookFrom s ls) c)) (record { outcome = 1; reply = []; state = s; leases = ls }) .state)
     go true = clock-only (bookFrom s ls) c
@@ -146,16 +146,16 @@ lent-clock n s ls c = go (whole n)
 
 -- each part of its answer
 module _ (s : State) (ls : List Lease) (c : Call) where
-  off : (k : ℕ) (m : List Lease) → whole k ≡ false → serveWith k s m c ≡ record { outcome = 1; reply = []; state = s; leases = m }
+  off : (k : ℕ) (m : List Lease) → is128 k ≡ false → serveWith k s m c ≡ record { outcome = 1; reply = []; state = s; leases = m }
   unfolding serveWith pick
   off k m o = ap (λ (t : Bool). pick t (lentAnswer (serveOf (bookFrom s m) c)) (record { outcome = 1; reply = []; state = s; leases = m })) o
 
   part : {A : Type 0} (f : LentAnswer → A) → ((m m' : List Lease) → f (record { outcome = 1; reply = []; state = s; leases = m }) ≡ f (record { outcome = 1; reply = []; state = s; leases = m' }))
-      → {all : List Lease} {r : A} → all ≡ taken ls → r ≡ f (serveWith (length ls) s all c) → r ≡ f (serveLent s ls c)
+      → {all : List Lease} {r : A} → all ≡ first128 ls → r ≡ f (serveWith (length ls) s all c) → r ≡ f (serveLent s ls c)
   part f same = told-lent (λ k m. f (serveWith k s m c)) (λ k m m' o. ap f (off k m o) ∙ same m m' ∙ sym (ap f (off k m' o))) ls
 
   pub served-lent : {all zs : List Lease} {s' : State} {before after : List ℕ} {r : ServedRecords} {o : Outcome}
-      → all ≡ taken ls → ServesRecords (serveWith (length ls) s all c) before after r → s' ≡ raised s (r .clock) → zs ≡ covered ls (r .records .leases)
+      → all ≡ first128 ls → ServesRecords (serveWith (length ls) s all c) before after r → s' ≡ raised s (r .clock) → zs ≡ covered ls (r .records .leases)
       → o .outcome ≡ r .outcome → o .length ≡ r .length → ServesLent (serveLent s ls c) s' zs before after o
   served-lent {all} {before = before} a v p q e f = record {
     outcome = part (λ x. x .outcome) (λ m m'. refl) a (e ∙ v .outcome);
@@ -171,7 +171,7 @@ abbrev refusing : Loaded → State → Bool → List Lease → LentReading
 refusing f s b m = pick b (untouched 21 s m) (untouched (f .refusal) s m)
 
 pub read-lent : (f : Loaded) (s : State) (ls : List Lease) {all zs : List Lease} {s' : State} {r : ReadRecords} {n : ℕ}
-    → all ≡ taken ls → Reads (readWith (length ls) f s all) r → s' ≡ r .state → zs ≡ covered ls (r .records .leases) → n ≡ r .refusal → ReadsLent (readWith (length ls) f s ls) s' zs n
+    → all ≡ first128 ls → Reads (readWith (length ls) f s all) r → s' ≡ r .state → zs ≡ covered ls (r .records .leases) → n ≡ r .refusal → ReadsLent (readWith (length ls) f s ls) s' zs n
 unfolding readWith pick
 read-lent f s ls {r = r} a v p q e = record {
   refusal = told-lent (λ k m. readWith k f s m .refusal) (λ k m m' o. off-refusal k m o ∙ sym (off-refusal k m' o)) ls a (e ∙ v .refusal);
@@ -179,7 +179,7 @@ read-lent f s ls {r = r} a v p q e = record {
   leases = changed-lent (λ k m. readWith k f s m .leases) off-leases ls a (v .leases) (v .long) q;
 }
   where
-    off : (k : ℕ) (m : List Lease) → whole k ≡ false → readWith k f s m ≡ refusing f s (eqb (f .refusal) 0) m
+    off : (k : ℕ) (m : List Lease) → is128 k ≡ false → readWith k f s m ≡ refusing f s (eqb (f .refusal) 0) m
     off k m o = ap (λ (t : Bool). pick (eqb (f .refusal) 0) (pick t (record { refusal = 0; state = f .state; leases = recordsOf (f .table) }) (untouched 21 s m)) (untouched (f .refusal) s m)) o
 
     of-refusal : (b : Bool) (m : List Lease) → refusing f s b m .refusal ≡ pick b 21 (f .refusal)
@@ -194,11 +194,11 @@ read-lent f s ls {r = r} a v p q e = record {
     of-leases true m = refl
     of-leases false m = refl
 
-    off-refusal : (k : ℕ) (m : List Lease) → whole k ≡ false → readWith k f s m .refusal ≡ pick (eqb (f .refusal) 0) 21 (f .refusal)
+    off-refusal : (k : ℕ) (m : List Lease) → is128 k ≡ false → readWith k f s m .refusal ≡ pick (eqb (f .refusal) 0) 21 (f .refusal)
     off-refusal k m o = ap (λ (x : LentReading). x .refusal) (off k m o) ∙ of-refusal (eqb (f .refusal) 0) m
 
-    off-state : (k : ℕ) (m : List Lease) → whole k ≡ false → readWith k f s m .state ≡ s
+    off-state : (k : ℕ) (m : List Lease) → is128 k ≡ false → readWith k f s m .state ≡ s
     off-state k m o = ap (λ (x : LentReading). x .state) (off k m o) ∙ of-state (eqb (f .refusal) 0) m
 
-    off-leases : (k : ℕ) (m : List Lease) → whole k ≡ false → readWith k f s m .leases ≡ m
+    off-leases : (k : ℕ) (m : List Lease) → is128 k ≡ false → readWith k f s m .leases ≡ m
     off-leases k m o = ap (λ (x : LentReading). x .leases) (off k m o) ∙ of-leases (eqb (f .refusal) 0) m

@@ -35,8 +35,8 @@ recordsOf t = rowsOf (t .tenants)
 
 -- ---- between a lent slice of any length and 128 records by value
 -- what is taken from a slice: its first records, then unused ones
-unfoldable pub taken : List Lease → List Lease
-taken ls = paste (replicate 128 zeroLease) 0 ls (min (length ls) 128)
+unfoldable pub first128 : List Lease → List Lease
+first128 ls = paste (replicate 128 zeroLease) 0 ls (min (length ls) 128)
 
 -- a slice with 128 records laid over it; what lies past them or past its end is left
 unfoldable pub covered : List Lease → List Lease → List Lease

@@ -24,23 +24,23 @@ use Rattle.records.specs.declared.ReadRecords.{ReadRecords}
 use Rattle.records.specs.declared.Records.{Records}
 use Rattle.records.specs.declared.ServedRecords.{ServedRecords}
 use Rattle.records.specs.Records.{recordsOf, tableFrom}
-use Rattle.records.specs.Lent.{bookFrom, findWith, insertWith, lentAnswer, LentAnswer, LentReading, readWith, Reads, removeWith, roomWith, serveWith, ServesRecords, untouched, whole, withOwn, writtenWith}
+use Rattle.records.specs.Lent.{bookFrom, findWith, insertWith, lentAnswer, LentAnswer, LentReading, readWith, Reads, removeWith, roomWith, serveWith, ServesRecords, untouched, is128, withOwn, writtenWith}
 
 -- ---- a test on the number of records
-pub is-whole : {n : ℕ} → n ≡ 128 → whole n ≡ true
-unfolding whole
+pub is-whole : {n : ℕ} → n ≡ 128 → is128 n ≡ true
+unfolding is128
 is-whole e = eq-eqb _ _ e
 
-pub not-whole : {n : ℕ} → (n ≡ 128 → ⊥) → whole n ≡ false
-unfolding whole
+pub not-whole : {n : ℕ} → (n ≡ 128 → ⊥) → is128 n ≡ false
+unfolding is128
 not-whole e = ne-eqb _ _ e
 
 module _ {A : Type 0} {n : ℕ} (x y : A) where
-  pub on-whole : n ≡ 128 → x ≡ pick (whole n) x y
+  pub on-whole : n ≡ 128 → x ≡ pick (is128 n) x y
   unfolding pick
   on-whole e = sym (ap (λ (t : Bool). pick t x y) (is-whole e))
 
-  pub off-whole : (n ≡ 128 → ⊥) → y ≡ pick (whole n) x y
+  pub off-whole : (n ≡ 128 → ⊥) → y ≡ pick (is128 n) x y
   unfolding pick
   off-whole e = sym (ap (λ (t : Bool). pick t x y) (not-whole e))
 
@@ -175,7 +175,7 @@ module _ (n : ℕ) (s : State) (ls : List Lease) (f : Loaded) where
   Accepted = record { refusal = 0; state = f .state; leases = recordsOf (f .table) }
 
   abbrev by-number : LentReading
-  by-number = pick (whole n) Accepted (untouched 21 s ls)
+  by-number = pick (is128 n) Accepted (untouched 21 s ls)
 
   pub read-in : {g : Loaded} {x : Records} {r : ReadRecords} → g ≡ f → g .refusal ≡ 0 → n ≡ 128 → (x .leases ≡ recordsOf (g .table)) × (length (x .leases) ≡ 128)
       → r ≡ record { refusal = 0; state = g .state; records = x } → Reads (readWith n f s ls) r

@@ -7,7 +7,7 @@ ghost use Rattle.lists.specs.Place.{placeBy};
 ghost use Rattle.soundness.specs.Sound.{unusedB};
 ghost use Rattle.server.specs.Serve.{Call};
 ghost use Rattle.state.specs.Book.{zeroLease};
-ghost use Rattle.state_file.specs.StateFile.{readOf};
+ghost use Rattle.state_file.specs.StateFile.{readFile};
 ghost use Rattle.records.specs.Records.{tenantFrom, tableFrom, recordsOf};
 ghost use Rattle.records.specs.Lent.{LentReading, serveWith, ServesRecords, readWith, Reads, writtenWith, roomWith, findWith, insertWith, removeWith};
 use state::Book;
@@ -191,7 +191,7 @@ fn untouched(refusal: u8, state: State, records: Records) -> ReadRecords
 
 // The reader of a state file: 20 or 21 gives back the state and the records as they were.
 pub fn read(file: &[u8], state: State, records: Records, n: usize) -> ReadRecords
-    ensures { λ r. ⌜ Reads (readWith n (readOf (now (file .entry))) state (records .leases)) r ⌝ }
+    ensures { λ r. ⌜ Reads (readWith n (readFile (now (file .entry))) state (records .leases)) r ⌝ }
 {
     let f = state_file::read(file);
     let refusal = f.refusal;

@@ -7,7 +7,7 @@ use native.Mathlib.Numerals.{add-one}
 use lib.ListN.{length, getD, take}
 use lib.Seq.{take-suc}
 use Rattle.octets.specs.Octets.{Wrote}
-use Rattle.octets.specs.Laws.{joined, wrote-none, wrote-as}
+use Rattle.octets.specs.Laws.{wrote-joined, wrote-none, wrote-as}
 use Rattle.replay_text.specs.Replay.{hexDigit, hexOf}
 
 hex-append : (xs ys : List ℕ) → hexOf (xs ++ ys) ≡ hexOf xs ++ hexOf ys
@@ -39,7 +39,7 @@ module _ {b₀ : List ℕ} {at : ℕ} {s : List ℕ} {n : ℕ} {b : List ℕ} {i
         within = omega arith;
         long = v .long;
         place = let p = v .place in let q = w .next in let z = hex-two (getD s i 0) in omega arith;
-        wrote = wrote-as (sym (hex-append (take i s) (getD s i 0 ∷ [])) ∙ ap hexOf (sym e)) (joined g (v .wrote) w);
+        wrote = wrote-as (sym (hex-append (take i s) (getD s i 0 ∷ [])) ∙ ap hexOf (sym e)) (wrote-joined g (v .wrote) w);
         kept = k ∙ v .kept;
       }
 

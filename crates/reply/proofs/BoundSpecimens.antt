@@ -8,10 +8,10 @@ use lib.ListN.{length, replicate}
 use Rattle.lists.specs.Pick.{pick}
 use Rattle.lists.specs.Filter.{isIn}
 use Rattle.octets.specs.Octets.{at16, at32}
-use Rattle.address_set.specs.AddressSet.{bit, joined, namedBy, offsetsFrom, onwards, runs}
+use Rattle.address_set.specs.AddressSet.{bit, joined, namedBy, offsetsFrom, onwards, fewestRanges}
 use Rattle.message.specs.Codes.{lengthOk}
 use Rattle.message.specs.Values.{foundAt}
-use Rattle.message.specs.Walk.{exactlyFilled, layoutOk, stepOf, taken, valueOk, walkFrom, walkOf}
+use Rattle.message.specs.Walk.{exactlyFilled, layoutOk, stepOf, optionTaken, valueOk, walkFrom, walkOf}
 use Rattle.message.specs.declared.Stage.the-variants.{Done}
 use Rattle.reply.specs.Ranges.{addressesIn, rangesFrom}
 use Rattle.reply.specs.Reply.{infoAckOf, leaseAckOf, messageOctets, nakOf, offerOf, optionsOctets, rangesOctets, releaseAckOf, scopesOctets}
@@ -33,11 +33,11 @@ info = record { scopes = replicate 4 (record { lowest = 0xEFC00000; size = 64; t
 
 -- 488 is the most that any reply has (Short.antt): "reply room at least 512"
 longest-offer : length (offerOf head (terms 0x5555555555555555)) ≡ 488
-unfolding head terms bit offsetsFrom joined runs rangesOctets optionsOctets messageOctets offerOf
+unfolding head terms bit offsetsFrom joined fewestRanges rangesOctets optionsOctets messageOctets offerOf
 longest-offer = refl
 
 longest-ack : length (leaseAckOf head (terms 0x5555555555555555)) ≡ 488
-unfolding head terms bit offsetsFrom joined runs rangesOctets optionsOctets messageOctets leaseAckOf
+unfolding head terms bit offsetsFrom joined fewestRanges rangesOctets optionsOctets messageOctets leaseAckOf
 longest-ack = refl
 
 longest-info : length (infoAckOf head info) ≡ 121
@@ -55,9 +55,9 @@ longest-nak = refl
 -- ---- read back: the walk ends at End, and each option stands where it was written; the addresses are those that were granted
 ack-walked : walkOf (leaseAckOf head (terms 11))
     ≡ record { at = 122; stage = Done; places = 0 ∷ 8 ∷ 16 ∷ 26 ∷ 62 ∷ 0 ∷ 70 ∷ 0 ∷ 0 ∷ 0 ∷ 78 ∷ 94 ∷ 102 ∷ 0 ∷ 0 ∷ 0 ∷ 0 ∷ [] }
-unfolding head terms bit offsetsFrom joined runs rangesOctets optionsOctets messageOctets leaseAckOf walkOf walkFrom stepOf layoutOk valueOk exactlyFilled taken lengthOk isIn pick at16
+unfolding head terms bit offsetsFrom joined fewestRanges rangesOctets optionsOctets messageOctets leaseAckOf walkOf walkFrom stepOf layoutOk valueOk exactlyFilled optionTaken lengthOk isIn pick at16
 ack-walked = refl
 
 ack-names : addressesIn (leaseAckOf head (terms 11)) ≡ 0xEFC00000 ∷ 0xEFC00001 ∷ 0xEFC00003 ∷ []
-unfolding head terms bit offsetsFrom joined runs rangesOctets optionsOctets messageOctets leaseAckOf walkOf walkFrom stepOf layoutOk valueOk exactlyFilled taken lengthOk isIn pick at16 at32 addressesIn rangesFrom foundAt namedBy onwards
+unfolding head terms bit offsetsFrom joined fewestRanges rangesOctets optionsOctets messageOctets leaseAckOf walkOf walkFrom stepOf layoutOk valueOk exactlyFilled optionTaken lengthOk isIn pick at16 at32 addressesIn rangesFrom foundAt namedBy onwards
 ack-names = refl

@@ -12,10 +12,11 @@ use Rattle.lists.specs.All.{All}
 use Rattle.lists.specs.Pick.{pick}
 use Rattle.octets.specs.Octets.{at16, at32, octets16, octets32}
 use Rattle.octets.specs.Laws.{read-back16, read-back32}
-use Rattle.address_set.specs.AddressSet.{Run, namedBy, offsets, runs}
+use Rattle.address_set.specs.declared.Range.{Range}
+use Rattle.address_set.specs.AddressSet.{namedBy, offsets, fewestRanges}
 use Rattle.address_set.specs.ListLaws.{offsets-small}
 use Rattle.address_set.specs.RangeLaws.{ranges-few}
-use Rattle.address_set.specs.Fewest.{moved-names, movedBy, ranges-name, runs-below}
+use Rattle.address_set.specs.Fewest.{moved-names, movedBy, ranges-name, fewest-below}
 use Rattle.message.specs.Values.{findOf, foundAt}
 use Rattle.message.specs.Walk.{lengthAt, walkOf}
 use Rattle.message.specs.declared.Found.the-variants.{At, Absent}
@@ -40,7 +41,7 @@ at32-past xs ys n =
     on k = ap (λ (j : ℕ). getD (xs ++ ys) j 0) (add-assoc (length xs) n k) ∙ getD-append-add xs ys (n + k) 0
 
 -- ranges that were written one after the other are read back; no sum of an address and an offset wraps
-ranges-read : (pre : List ℕ) (lowest : ℕ) (rs : List Run) (rest : List ℕ) → lowest + 64 < 4294967296 → All (λ r. r .first + r .count ≤ 64) rs
+ranges-read : (pre : List ℕ) (lowest : ℕ) (rs : List Range) (rest : List ℕ) → lowest + 64 < 4294967296 → All (λ r. r .first + r .count ≤ 64) rs
     → rangesFrom (pre ++ (rangesOctets lowest rs ++ rest)) (length pre) (length rs) ≡ map (movedBy lowest) rs
 unfolding rangesFrom rangesOctets All movedBy at16 at32
 ranges-read pre lowest [] rest f h = refl
@@ -53,7 +54,7 @@ ranges-read pre lowest (r ∷ rs) rest f h =
     let c : rangesFrom s (length pre + 6) (length rs) ≡ map (movedBy lowest) rs =
     ap₂ (λ (l : List ℕ) (k : ℕ). rangesFrom l k (length rs)) (sym (append-assoc pre (rangeOctets lowest r) (rangesOctets lowest rs ++ rest))) (sym (length-append pre (rangeOctets lowest r)))
     ∙ ranges-read (pre ++ rangeOctets lowest r) lowest rs rest f (h .1) in
-    ap₂ (λ (x : Run) (l : List Run). x ∷ l) (ap₂ {C = Run} (λ (x y : ℕ). record { first = x; count = y }) a b) c
+    ap₂ (λ (x : Range) (l : List Range). x ∷ l) (ap₂ {C = Range} (λ (x y : ℕ). record { first = x; count = y }) a b) c
 
 -- options behind others are recorded behind them
 places-behind : (at : ℕ) (xs ys : List Option) (places : List ℕ) → placesFrom at (xs ++ ys) places ≡ placesFrom (at + length (optionsOctets xs)) ys (placesFrom at xs places)
@@ -79,8 +80,8 @@ module _ (h : Head) (n : Named h) (kind : ℕ) (t : Terms) (some : 0 < t .addres
   abbrev higher : List Option
   higher = option 11 (octets32 (t .clock)) ∷ featuresOption h
 
-  abbrev found : List Run
-  found = runs (offsets (t .addresses))
+  abbrev found : List Range
+  found = fewestRanges (offsets (t .addresses))
 
   abbrev pre : List ℕ
   pre = header kind (h .xid) ++ optionsOctets lower
@@ -128,7 +129,7 @@ module _ (h : Head) (n : Named h) (kind : ℕ) (t : Terms) (some : 0 < t .addres
       let k : lengthAt reply (length pre) / 6 ≡ length found = omega arith in
       ap₂ (λ (s : List ℕ) (j : ℕ). rangesFrom s (length pre + 4) j) reply-is k
       ∙ ap₂ (λ (s : List ℕ) (p : ℕ). rangesFrom s p (length found)) (sym (append-assoc pre four (rangesOctets (t .scope) found ++ rest))) (sym (length-append pre four))
-      ∙ ranges-read (pre ++ four) (t .scope) found rest fits (runs-below 64 (offsets (t .addresses)) (offsets-small (t .addresses)))
+      ∙ ranges-read (pre ++ four) (t .scope) found rest fits (fewest-below 64 (offsets (t .addresses)) (offsets-small (t .addresses)))
 
   -- an OFFER, or an ACK to REQUEST or RENEW, names just the addresses of its terms: lowest + offset
   pub addresses-back : addressesIn reply ≡ map (λ a. t .scope + a) (offsets (t .addresses))

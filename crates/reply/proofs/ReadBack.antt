@@ -13,15 +13,16 @@ use native.Mathlib.Decide.{decLt}
 use Rattle.lists.specs.Pick.{pick}
 use Rattle.octets.specs.Octets.{be16, at16, octets16, octets32}
 use Rattle.octets.specs.Laws.{read-back16}
-use Rattle.address_set.specs.AddressSet.{Run, offsets, runs, firstRun, behind}
+use Rattle.address_set.specs.declared.Range.{Range}
+use Rattle.address_set.specs.AddressSet.{offsets, fewestRanges, firstRange, behind}
 use Rattle.address_set.specs.RangeLaws.{ranges-next, ranges-few}
 use Rattle.lists.specs.Filter.{isIn}
 use Rattle.message.specs.Codes.{lengthOk}
-use Rattle.message.specs.Walk.{codeAt, lengthAt, afterAt, layoutOk, pastList, exactlyFilled, valueOk, done, moved, taken, stepOf, onward, walkFrom, walkOf, start}
+use Rattle.message.specs.Walk.{codeAt, lengthAt, afterAt, layoutOk, pastList, exactlyFilled, valueOk, done, moved, optionTaken, stepOf, onward, walkFrom, walkOf, start}
 use Rattle.message.specs.declared.Walk.{Walk}
 use Rattle.message.specs.declared.Stage.{Stage}
 use Rattle.message.specs.declared.Stage.the-variants.{Walking, Done, Broken}
-use Rattle.reply.specs.Reply.{Option, option, optionOctets, optionsOctets, header, messageOctets, wanted, rangesOctets, leaseOptions, releaseOptions, infoOptions, nakOptions, scopesOf, scopesOctets}
+use Rattle.reply.specs.Reply.{Option, option, optionOctets, optionsOctets, header, messageOctets, wanted, rangesOctets, leaseOptions, releaseOptions, infoOptions, nakOptions, scopeEntriesOf, scopesOctets}
 use Rattle.reply.specs.declared.Head.{Head}
 use Rattle.reply.specs.declared.Terms.{Terms}
 use Rattle.reply.specs.declared.Info.{Info}
@@ -137,12 +138,12 @@ module _ (pre : List ℕ) (o : Option) (rest : List ℕ) (short : length (o .val
   step-right : (places : List ℕ) → 0 < o .code → getD places (o .code) 0 ≡ 0 → Right o
       → stepOf whole (record { at = length pre; stage = Walking; places = places })
       ≡ record { at = length pre + 4 + length (o .value); stage = Walking; places = set places (o .code) (length pre) }
-  unfolding stepOf taken pick
+  unfolding stepOf optionTaken pick
   step-right places pos fresh v =
       let w : Walk = record { at = length pre; stage = Walking; places = places } in
-      ap (λ (b : Bool). pick b (pick (valueOk whole (length pre)) (taken (length whole) (codeAt whole (length pre)) (lengthAt whole (length pre)) w) (stopped w)) (stopped w)) layout-right
-      ∙ ap (λ (b : Bool). pick b (taken (length whole) (codeAt whole (length pre)) (lengthAt whole (length pre)) w) (stopped w)) (value-right v)
-      ∙ ap₂ (λ (c n : ℕ). taken (length whole) c n w) code-read length-read
+      ap (λ (b : Bool). pick b (pick (valueOk whole (length pre)) (optionTaken (length whole) (codeAt whole (length pre)) (lengthAt whole (length pre)) w) (stopped w)) (stopped w)) layout-right
+      ∙ ap (λ (b : Bool). pick b (optionTaken (length whole) (codeAt whole (length pre)) (lengthAt whole (length pre)) w) (stopped w)) (value-right v)
+      ∙ ap₂ (λ (c n : ℕ). optionTaken (length whole) c n w) code-read length-read
       ∙ ap (λ (b : Bool). pick b (pick (eqb (length pre + 4) (length whole)) (done w) (stopped w)) (later w)) (ne-eqb (o .code) 0 (λ e. absurd (omega arith)))
       ∙ ap (λ (b : Bool). pick b (moved (length (o .value)) places w) (last w)) (le-ltb 16 (o .code) (v .known))
       ∙ ap (λ (b : Bool). pick b (moved (length (o .value)) (set places (o .code) (length pre)) w) (stopped w)) (eq-eqb (getD places (o .code) 0) 0 fresh)
@@ -172,18 +173,18 @@ end-octets = optionOctets (option 0 [])
 module _ (pre : List ℕ) (places : List ℕ) where
   -- at End
   ends : stepOf (pre ++ end-octets) (record { at = length pre; stage = Walking; places = places }) ≡ record { at = length pre; stage = Done; places = places }
-  unfolding stepOf taken layoutOk valueOk lengthOk pick at16 end-octets
+  unfolding stepOf optionTaken layoutOk valueOk lengthOk pick at16 end-octets
   ends =
       let s : List ℕ = pre ++ end-octets in
       let w : Walk = record { at = length pre; stage = Walking; places = places } in
       let long : length s ≡ length pre + 4 = length-append pre end-octets in
       let code : codeAt s (length pre) ≡ 0 = ap (at16 s) (sym (add-zero (length pre))) ∙ at16-past pre end-octets 0 in
       let none : lengthAt s (length pre) ≡ 0 = at16-past pre end-octets 2 in
-      ap (λ (b : Bool). pick b (pick (valueOk s (length pre)) (taken (length s) (codeAt s (length pre)) (lengthAt s (length pre)) w) (stopped w)) (stopped w))
+      ap (λ (b : Bool). pick b (pick (valueOk s (length pre)) (optionTaken (length s) (codeAt s (length pre)) (lengthAt s (length pre)) w) (stopped w)) (stopped w))
       (ap (λ (b : Bool). b && leb (afterAt s (length pre)) (length s)) (le-leb (length pre + 4) (length s) (omega arith)) ∙ le-leb (afterAt s (length pre)) (length s) (omega arith))
-      ∙ ap (λ (b : Bool). pick b (taken (length s) (codeAt s (length pre)) (lengthAt s (length pre)) w) (stopped w))
+      ∙ ap (λ (b : Bool). pick b (optionTaken (length s) (codeAt s (length pre)) (lengthAt s (length pre)) w) (stopped w))
       (ap₂ (λ (c n : ℕ). lengthOk c n && pick (eqb c 12) (exactlyFilled s (length pre + 4) (afterAt s (length pre))) true) code none)
-      ∙ ap₂ (λ (c n : ℕ). taken (length s) c n w) code none
+      ∙ ap₂ (λ (c n : ℕ). optionTaken (length s) c n w) code none
       ∙ ap (λ (b : Bool). pick b (done w) (stopped w)) (eq-eqb (length pre + 4) (length s) (sym long))
     where
       stopped : Walk → Walk
@@ -274,21 +275,21 @@ zeros-right : Right (featuresSent)
 unfolding lengthOk isIn pick
 zeros-right = record { known = omega arith; short = omega arith; length-right = refl; features = λ e. refl }
 
-ranges-right : (t : Terms) → 0 < t .addresses → t .addresses < 2 ^ 64 → Right (option 10 (rangesOctets (t .scope) (runs (offsets (t .addresses)))))
+ranges-right : (t : Terms) → 0 < t .addresses → t .addresses < 2 ^ 64 → Right (option 10 (rangesOctets (t .scope) (fewestRanges (offsets (t .addresses)))))
 unfolding lengthOk isIn pick
 ranges-right t p h =
-    let n : ℕ = length (rangesOctets (t .scope) (runs (offsets (t .addresses)))) in
-    let l = ranges-length (t .scope) (runs (offsets (t .addresses))) in
+    let n : ℕ = length (rangesOctets (t .scope) (fewestRanges (offsets (t .addresses)))) in
+    let l = ranges-length (t .scope) (fewestRanges (offsets (t .addresses))) in
     let f = ranges-few (t .addresses) in
-    let some : length (runs (offsets (t .addresses))) ≡ suc (length (runs (offsets (behind (t .addresses) (firstRun (runs (offsets (t .addresses)))))))) = ap length (ranges-next h p refl refl) in
+    let some : length (fewestRanges (offsets (t .addresses))) ≡ suc (length (fewestRanges (offsets (behind (t .addresses) (firstRange (fewestRanges (offsets (t .addresses)))))))) = ap length (ranges-next h p refl refl) in
     plain 10 _ (omega arith) (λ e. omega arith) (omega arith)
     (ap (λ (b : Bool). b && eqb (n % 6) 0) (le-leb 6 n (omega arith)) ∙ eq-eqb (n % 6) 0 (omega arith))
 
-scopes-right : (i : Info) → length (scopesOf i) ≤ 4 → Right (option 9 (length (scopesOf i) ∷ scopesOctets (scopesOf i)))
+scopes-right : (i : Info) → length (scopeEntriesOf i) ≤ 4 → Right (option 9 (length (scopeEntriesOf i) ∷ scopesOctets (scopeEntriesOf i)))
 unfolding lengthOk isIn pick
 scopes-right i h =
-    let l = scopes-length (scopesOf i) in
-    plain 9 _ (omega arith) (λ e. omega arith) (omega arith) (le-leb 1 (suc (length (scopesOctets (scopesOf i)))) (omega arith))
+    let l = scopes-length (scopeEntriesOf i) in
+    plain 9 _ (omega arith) (λ e. omega arith) (omega arith) (le-leb 1 (suc (length (scopesOctets (scopeEntriesOf i)))) (omega arith))
 
 -- an option that may be there, before others
 wanted-rise : (b : Bool) (o : Option) (c : ℕ) (os : List Option) → c < o .code → Right o → ((d : ℕ) → d ≤ o .code → Rising d os) → Rising c (wanted b o ++ os)
@@ -359,7 +360,7 @@ module _ (h : Head) (n : Named h) where
   )
 
   -- ACK to GETINFO
-  pub info-back : (i : Info) → length (scopesOf i) ≤ 4 → ReadBack 5 (h .xid) (infoOptions h i)
+  pub info-back : (i : Info) → length (scopeEntriesOf i) ≤ 4 → ReadBack 5 (h .xid) (infoOptions h i)
   unfolding Rising
   info-back i few = read-back 5 (h .xid) (infoOptions h i) (
     omega arith,
@@ -369,7 +370,7 @@ module _ (h : Head) (n : Named h) where
         omega arith,
         (
           id-right h n,
-          subst (λ (l : List Option). Rising 3 l) (sym (append-assoc (wanted (i .«list_asked») (option 9 (length (scopesOf i) ∷ scopesOctets (scopesOf i)))) (wanted (i .«time_asked») (option 11 (octets32 (i .clock)))) (wanted (h .features) (featuresSent))))
+          subst (λ (l : List Option). Rising 3 l) (sym (append-assoc (wanted (i .«list_asked») (option 9 (length (scopeEntriesOf i) ∷ scopesOctets (scopeEntriesOf i)))) (wanted (i .«time_asked») (option 11 (octets32 (i .clock)))) (wanted (h .features) (featuresSent))))
               (wanted-rise (i .«list_asked») _ 3 _ (omega arith) (scopes-right i few) (λ c a.
               wanted-rise (i .«time_asked») _ c _ (omega arith) (time-right (i .clock)) (λ d b.
               last-rise (h .features) (featuresSent) d (omega arith) zeros-right))),

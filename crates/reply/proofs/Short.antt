@@ -5,10 +5,10 @@ use mathlib.Core.Bool.{Bool, true, false}
 use Prim.Native.Nat.{ℕ, _+_, _≤_, _<_, min}
 use native.Mathlib.Omega.{arith}
 use lib.ListN.{length, take, length-append, length-take}
-use Rattle.address_set.specs.AddressSet.{offsets, runs}
+use Rattle.address_set.specs.AddressSet.{offsets, fewestRanges}
 use Rattle.address_set.specs.RangeLaws.{ranges-few}
 use Rattle.octets.specs.Octets.{octets16, octets32}
-use Rattle.reply.specs.Reply.{leastRoom, Option, option, optionOctets, optionsOctets, messageOctets, header, wanted, rangesOctets, scopesOf, scopesOctets, scopeListOption, leaseOptions, releaseOptions, infoOptions, nakOptions, offerOf, leaseAckOf, releaseAckOf, infoAckOf, nakOf}
+use Rattle.reply.specs.Reply.{leastRoom, Option, option, optionOctets, optionsOctets, messageOctets, header, wanted, rangesOctets, scopeEntriesOf, scopesOctets, scopeListOption, leaseOptions, releaseOptions, infoOptions, nakOptions, offerOf, leaseAckOf, releaseAckOf, infoAckOf, nakOf}
 use Rattle.reply.specs.declared.Head.{Head}
 use Rattle.reply.specs.declared.Terms.{Terms}
 use Rattle.reply.specs.declared.Info.{Info}
@@ -52,7 +52,7 @@ module _ (h : Head) (array : length (h .id .octets) ≡ 32) where
   lease : (kind : ℕ) (t : Terms) → length (messageOctets kind (h .xid) (leaseOptions h t)) ≤ 488
   lease kind t =
       let f = ranges-few (t .addresses) in
-      let l = ranges-length (t .scope) (runs (offsets (t .addresses))) in
+      let l = ranges-length (t .scope) (fewestRanges (offsets (t .addresses))) in
       let m = message kind (h .xid) (leaseOptions h t) 476
       (more _ _ 4 468 (omega arith) (named _ 422 (more _ _ 4 414 (omega arith) (more _ _ 4 406 (omega arith) (more _ _ 384 18 (omega arith) (more _ _ 4 10 (omega arith) (last (h .features) _ 6 (omega arith)))))))) in
       omega arith
@@ -73,7 +73,7 @@ module _ (h : Head) (array : length (h .id .octets) ≡ 32) where
   unfolding infoAckOf
   info-ack-short i four =
       let k = length-take (i .count) (i .scopes) in
-      let l = scopes-length (scopesOf i) in
+      let l = scopes-length (scopeEntriesOf i) in
       let a : Within (wanted (i .«list_asked») (scopeListOption i)) 45 = last (i .«list_asked») (scopeListOption i) 41 (omega arith) in
       let b : Within (wanted (i .«time_asked») (option 11 (octets32 (i .clock)))) 8 = last (i .«time_asked») _ 4 (omega arith) in
       let c : Within (wanted (h .features) (option 12 (0 ∷ 0 ∷ 0 ∷ 0 ∷ 0 ∷ 0 ∷ []))) 10 = last (h .features) _ 6 (omega arith) in

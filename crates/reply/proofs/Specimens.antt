@@ -7,7 +7,7 @@ use lib.ListN.{replicate, length}
 use lib.Dec.{eqb}
 use Rattle.lists.specs.Pick.{pick}
 use Rattle.lists.specs.All.{allBy}
-use Rattle.address_set.specs.AddressSet.{bit, offsetsFrom, joined, runs, offsets}
+use Rattle.address_set.specs.AddressSet.{bit, offsetsFrom, joined, fewestRanges, offsets}
 use Rattle.reply.specs.Reply.{optionsOctets, messageOctets, rangesOctets, scopesOctets, offerOf, leaseAckOf, releaseAckOf, infoAckOf, nakOf}
 use Rattle.reply.specs.declared.Head.{Head}
 use Rattle.reply.specs.declared.Terms.{Terms}
@@ -62,9 +62,9 @@ table =
     -- P12: NAK with error 3
     record { octets = nakOf (head false) 3; expected = front 6 ++ 0 ∷ 0x10 ∷ 0 ∷ 2 ∷ 0 ∷ 3 ∷ end }
     -- P1: .0 and .1
-    ∷ record { octets = rangesOctets 0xEFC00000 (runs (offsets 3)); expected = 0xEF ∷ 0xC0 ∷ 0 ∷ 0 ∷ 0 ∷ 2 ∷ [] }
+    ∷ record { octets = rangesOctets 0xEFC00000 (fewestRanges (offsets 3)); expected = 0xEF ∷ 0xC0 ∷ 0 ∷ 0 ∷ 0 ∷ 2 ∷ [] }
     -- .0, .2, .3 and .63: three ranges
-    ∷ record { octets = rangesOctets 0xEFC00000 (runs (offsets 9223372036854775821)); expected = 0xEF ∷ 0xC0 ∷ 0 ∷ 0 ∷ 0 ∷ 1 ∷ 0xEF ∷ 0xC0 ∷ 0 ∷ 2 ∷ 0 ∷ 2 ∷ 0xEF ∷ 0xC0 ∷ 0 ∷ 63 ∷ 0 ∷ 1 ∷ [] }
+    ∷ record { octets = rangesOctets 0xEFC00000 (fewestRanges (offsets 9223372036854775821)); expected = 0xEF ∷ 0xC0 ∷ 0 ∷ 0 ∷ 0 ∷ 1 ∷ 0xEF ∷ 0xC0 ∷ 0 ∷ 2 ∷ 0 ∷ 2 ∷ 0xEF ∷ 0xC0 ∷ 0 ∷ 63 ∷ 0 ∷ 1 ∷ [] }
     -- a NAK to a client that sent option 12: 12 before 16
     ∷ record { octets = nakOf (head true) 0; expected = front 6 ++ features ++ 0 ∷ 0x10 ∷ 0 ∷ 2 ∷ 0 ∷ 0 ∷ end }
     -- P1's ACK whole
@@ -80,5 +80,5 @@ table =
     ∷ []
 
 specimens : allBy holds table ≡ true
-unfolding pick allBy same holds head terms info front end features clock table bit offsetsFrom joined runs optionsOctets messageOctets rangesOctets scopesOctets leaseAckOf releaseAckOf infoAckOf nakOf
+unfolding pick allBy same holds head terms info front end features clock table bit offsetsFrom joined fewestRanges optionsOctets messageOctets rangesOctets scopesOctets leaseAckOf releaseAckOf infoAckOf nakOf
 specimens = refl

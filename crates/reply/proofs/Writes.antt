@@ -9,8 +9,9 @@ use lib.ListN.{length, getD, take, drop, length-append, length-take}
 use lib.Seq.{take-suc, take-all}
 use Rattle.lists.specs.Part.{cut-take}
 use Rattle.octets.specs.Octets.{octets16, octets32, Wrote}
-use Rattle.octets.specs.Laws.{joined, whole, whole-length, wrote-none, wrote-as}
-use Rattle.address_set.specs.AddressSet.{Run, offsets, runs, firstRun, behind}
+use Rattle.octets.specs.Laws.{wrote-joined, wrote-whole, whole-length, wrote-none, wrote-as}
+use Rattle.address_set.specs.declared.Range.{Range}
+use Rattle.address_set.specs.AddressSet.{offsets, fewestRanges, firstRange, behind}
 use Rattle.address_set.specs.RangeLaws.{ranges-none, ranges-next, ranges-less, ranges-few, range-count}
 use Rattle.reply.specs.Reply.{Option, option, optionOctets, optionsOctets, header, messageOctets, rangeOctets, rangesOctets, scopeOctets, scopesOctets}
 use Rattle.reply.specs.Put.{Put, Replied}
@@ -26,7 +27,7 @@ one-option code value = sym (append-nil (octets16 code ++ octets16 (length value
 pub option-put : (code n most : ℕ) (value : List ℕ) {b₀ b₁ b₂ : List ℕ} {at a r : ℕ} → n ≡ length value → length value + 4 ≤ most → at ≤ length b₀
     → Wrote b₀ at (octets16 code ++ octets16 n) b₁ a → Wrote b₁ a value b₂ r → Put b₀ at (option code value ∷ []) b₂ r most
 option-put code n most value {b₀ = b₀} {b₂ = b₂} {at = at} {r = r} e m h p q =
-    let w : Wrote b₀ at (octets16 code ++ octets16 n ++ value) b₂ r = joined h p q in
+    let w : Wrote b₀ at (octets16 code ++ octets16 n ++ value) b₂ r = wrote-joined h p q in
     let l : length (octets16 code ++ octets16 n ++ value) ≡ 4 + length value = omega arith in
     record {
       wrote = wrote-as (ap (λ (k : ℕ). octets16 code ++ octets16 k ++ value) e ∙ one-option code value) w;
@@ -41,7 +42,7 @@ options-append (o ∷ xs) ys = ap (λ (l : List ℕ). optionOctets o ++ l) (opti
 -- options, and then others
 pub put-joined : {b₀ b₁ b₂ : List ℕ} {at a r m n : ℕ} {xs ys : List Option} → at ≤ length b₀ → Put b₀ at xs b₁ a m → Put b₁ a ys b₂ r n → Put b₀ at (xs ++ ys) b₂ r (m + n)
 put-joined {xs = xs} {ys = ys} h p q = record {
-  wrote = wrote-as (sym (options-append xs ys)) (joined h (p .wrote) (q .wrote));
+  wrote = wrote-as (sym (options-append xs ys)) (wrote-joined h (p .wrote) (q .wrote));
   near = let x = p .near in let y = q .near in omega arith;
 }
 
@@ -55,12 +56,12 @@ pub replied : (kind xid : ℕ) {b₀ b₁ b₂ b₃ : List ℕ} {a n r most : �
     → a ≤ length b₁ → Replied b₀ (messageOctets kind xid options) b₃ r
 unfolding messageOctets
 replied kind xid {b₀ = b₀} {b₃ = b₃} {r = r} {options = options} p q e h =
-    let w : Wrote b₀ 0 (header kind xid ++ optionsOctets options ++ optionOctets (option 0 [])) b₃ r = joined (omega arith) (joined (omega arith) p (q .wrote)) e in
-    record { size = whole-length w; buffer = whole w }
+    let w : Wrote b₀ 0 (header kind xid ++ optionsOctets options ++ optionOctets (option 0 [])) b₃ r = wrote-joined (omega arith) (wrote-joined (omega arith) p (q .wrote)) e in
+    record { size = whole-length w; buffer = wrote-whole w }
 
 -- ---- ranges
 
-pub ranges-length : (lowest : ℕ) (rs : List Run) → length (rangesOctets lowest rs) ≡ 6 * length rs
+pub ranges-length : (lowest : ℕ) (rs : List Range) → length (rangesOctets lowest rs) ≡ 6 * length rs
 unfolding rangesOctets
 ranges-length lowest [] = refl
 ranges-length lowest (r ∷ rs) = let h = ranges-length lowest rs in omega arith
@@ -68,28 +69,28 @@ ranges-length lowest (r ∷ rs) = let h = ranges-length lowest rs in omega arith
 -- what the loop that counts them keeps
 pub record CountInv (set left n : ℕ) : Type 0 where
   pub small : left < 2 ^ 64
-  pub whole : n + length (runs (offsets left)) ≡ length (runs (offsets set))
+  pub whole : n + length (fewestRanges (offsets left)) ≡ length (fewestRanges (offsets set))
 
 pub count-start : {set : ℕ} → set < 2 ^ 64 → CountInv set set 0
 count-start h = record { small = h; whole = omega arith }
 
-module _ {set left n : ℕ} {r : Run} (v : CountInv set left n) (p : 0 < left) (e : r ≡ firstRun (runs (offsets left))) where
+module _ {set left n : ℕ} {r : Range} (v : CountInv set left n) (p : 0 < left) (e : r ≡ firstRange (fewestRanges (offsets left))) where
   pub count-less : {left′ : ℕ} → left′ ≡ behind left r → left′ < left
   count-less q = ranges-less (v .small) p e q
 
   pub count-next : {left′ : ℕ} → left′ ≡ behind left r → CountInv set left′ (n + 1)
   count-next {left′} q =
       let w = v .whole in
-      let l : length (runs (offsets left)) ≡ suc (length (runs (offsets left′))) = ap length (ranges-next (v .small) p e q) in
+      let l : length (fewestRanges (offsets left)) ≡ suc (length (fewestRanges (offsets left′))) = ap length (ranges-next (v .small) p e q) in
       record { small = let s = v .small in let t = count-less q in omega arith; whole = omega arith }
 
   pub count-more : n + 1 ≤ 64
   count-more = let w = count-next refl .whole in let f = ranges-few set in omega arith
 
-pub count-end : {set left n : ℕ} → CountInv set left n → left ≤ 0 → n ≡ length (runs (offsets set))
+pub count-end : {set left n : ℕ} → CountInv set left n → left ≤ 0 → n ≡ length (fewestRanges (offsets set))
 count-end {left = left} v h =
     let z : left ≡ 0 = omega arith in
-    let e : length (runs (offsets left)) ≡ 0 = ap (λ (m : ℕ). length (runs (offsets m))) z ∙ ap length ranges-none in
+    let e : length (fewestRanges (offsets left)) ≡ 0 = ap (λ (m : ℕ). length (fewestRanges (offsets m))) z ∙ ap length ranges-none in
     let w = v .whole in
     omega arith
 
@@ -98,19 +99,19 @@ pub record RangesInv (b₀ : List ℕ) (at lowest set : ℕ) (b : List ℕ) (lef
   pub small : left < 2 ^ 64
   pub done : List ℕ
   pub wrote : Wrote b₀ at done b to
-  pub rest : rangesOctets lowest (runs (offsets set)) ≡ done ++ rangesOctets lowest (runs (offsets left))
-  pub room : to + 6 * length (runs (offsets left)) ≤ at + 384
+  pub rest : rangesOctets lowest (fewestRanges (offsets set)) ≡ done ++ rangesOctets lowest (fewestRanges (offsets left))
+  pub room : to + 6 * length (fewestRanges (offsets left)) ≤ at + 384
   pub kept : length b ≡ length b₀
 
 pub ranges-start : {b : List ℕ} {at lowest set : ℕ} → set < 2 ^ 64 → RangesInv b at lowest set b set at
 ranges-start {b} {at} {lowest} {set} h = record { small = h; done = []; wrote = wrote-none b at; rest = refl; room = let f = ranges-few set in omega arith; kept = refl }
 
-module _ {b₀ : List ℕ} {at lowest set : ℕ} {b : List ℕ} {left to : ℕ} {r : Run} (v : RangesInv b₀ at lowest set b left to) (p : 0 < left) (e : r ≡ firstRun (runs (offsets left))) where
-  next : rangesOctets lowest (runs (offsets left)) ≡ rangeOctets lowest r ++ rangesOctets lowest (runs (offsets (behind left r)))
+module _ {b₀ : List ℕ} {at lowest set : ℕ} {b : List ℕ} {left to : ℕ} {r : Range} (v : RangesInv b₀ at lowest set b left to) (p : 0 < left) (e : r ≡ firstRange (fewestRanges (offsets left))) where
+  next : rangesOctets lowest (fewestRanges (offsets left)) ≡ rangeOctets lowest r ++ rangesOctets lowest (fewestRanges (offsets (behind left r)))
   unfolding rangesOctets
   next = ap (rangesOctets lowest) (ranges-next (v .small) p e refl)
 
-  fewer : length (runs (offsets left)) ≡ suc (length (runs (offsets (behind left r))))
+  fewer : length (fewestRanges (offsets left)) ≡ suc (length (fewestRanges (offsets (behind left r))))
   fewer = ap length (ranges-next (v .small) p e refl)
 
   pub ranges-fall : {left′ : ℕ} → left′ ≡ behind left r → left′ < left
@@ -126,18 +127,18 @@ module _ {b₀ : List ℕ} {at lowest set : ℕ} {b : List ℕ} {left to : ℕ} 
   ranges-turn {b₁} {to₁} {left′} g w l q = record {
     small = let s = v .small in let t = ranges-fall q in omega arith;
     done = v .done ++ rangeOctets lowest r;
-    wrote = joined g (v .wrote) w;
-    rest = v .rest ∙ ap (λ (x : List ℕ). v .done ++ x) next ∙ sym (append-assoc (v .done) (rangeOctets lowest r) (rangesOctets lowest (runs (offsets (behind left r)))))
-        ∙ ap (λ (m : ℕ). (v .done ++ rangeOctets lowest r) ++ rangesOctets lowest (runs (offsets m))) (sym q);
-    room = let m = v .room in let f = fewer in let k = w .next in let x : length (runs (offsets left′)) ≡ length (runs (offsets (behind left r))) = ap (λ (m : ℕ). length (runs (offsets m))) q in omega arith;
+    wrote = wrote-joined g (v .wrote) w;
+    rest = v .rest ∙ ap (λ (x : List ℕ). v .done ++ x) next ∙ sym (append-assoc (v .done) (rangeOctets lowest r) (rangesOctets lowest (fewestRanges (offsets (behind left r)))))
+        ∙ ap (λ (m : ℕ). (v .done ++ rangeOctets lowest r) ++ rangesOctets lowest (fewestRanges (offsets m))) (sym q);
+    room = let m = v .room in let f = fewer in let k = w .next in let x : length (fewestRanges (offsets left′)) ≡ length (fewestRanges (offsets (behind left r))) = ap (λ (m : ℕ). length (fewestRanges (offsets m))) q in omega arith;
     kept = l ∙ v .kept;
   }
 
-pub ranges-end : {b₀ : List ℕ} {at lowest set : ℕ} {b : List ℕ} {left to : ℕ} → RangesInv b₀ at lowest set b left to → left ≤ 0 → Wrote b₀ at (rangesOctets lowest (runs (offsets set))) b to
+pub ranges-end : {b₀ : List ℕ} {at lowest set : ℕ} {b : List ℕ} {left to : ℕ} → RangesInv b₀ at lowest set b left to → left ≤ 0 → Wrote b₀ at (rangesOctets lowest (fewestRanges (offsets set))) b to
 unfolding rangesOctets
 ranges-end {lowest = lowest} {left = left} v h =
     let z : left ≡ 0 = omega arith in
-    wrote-as (sym (v .rest ∙ ap (λ (m : ℕ). v .done ++ rangesOctets lowest (runs (offsets m))) z ∙ ap (λ (rs : List Run). v .done ++ rangesOctets lowest rs) ranges-none ∙ append-nil (v .done))) (v .wrote)
+    wrote-as (sym (v .rest ∙ ap (λ (m : ℕ). v .done ++ rangesOctets lowest (fewestRanges (offsets m))) z ∙ ap (λ (rs : List Range). v .done ++ rangesOctets lowest rs) ranges-none ∙ append-nil (v .done))) (v .wrote)
 
 -- ---- scopes
 
@@ -172,7 +173,7 @@ module _ {b₀ : List ℕ} {at : ℕ} {l : List ScopeEntry} {n : ℕ} {b : List 
         within = omega arith;
         long = v .long;
         place = let p = v .place in let q = w .next in omega arith;
-        wrote = wrote-as (ap (λ (x : List ℕ). scopesOctets (take i l) ++ x) (sym (append-nil (scopeOctets (getD l i d)))) ∙ sym (scopes-append (take i l) (getD l i d ∷ [])) ∙ ap scopesOctets (sym s)) (joined g (v .wrote) w);
+        wrote = wrote-as (ap (λ (x : List ℕ). scopesOctets (take i l) ++ x) (sym (append-nil (scopeOctets (getD l i d)))) ∙ sym (scopes-append (take i l) (getD l i d ∷ [])) ∙ ap scopesOctets (sym s)) (wrote-joined g (v .wrote) w);
         kept = k ∙ v .kept;
       }
 
@@ -204,10 +205,10 @@ pub id-put : (l : List ℕ) (len n : ℕ) {b₀ b₁ b₂ : List ℕ} {at a r : 
 id-put l len n e q h v w = option-put 3 n 36 (take len l) e (omega arith) h v (wrote-as (ap (λ (k : ℕ). take k l) e ∙ take-cut len l) w)
 
 -- the ranges, counted first
-pub ranges-put : (lowest set n : ℕ) {b₀ b₁ b₂ : List ℕ} {at a r : ℕ} → n ≡ length (runs (offsets set)) → at ≤ length b₀
-    → Wrote b₀ at (octets16 10 ++ octets16 (n * 6)) b₁ a → Wrote b₁ a (rangesOctets lowest (runs (offsets set))) b₂ r → Put b₀ at (option 10 (rangesOctets lowest (runs (offsets set))) ∷ []) b₂ r 388
+pub ranges-put : (lowest set n : ℕ) {b₀ b₁ b₂ : List ℕ} {at a r : ℕ} → n ≡ length (fewestRanges (offsets set)) → at ≤ length b₀
+    → Wrote b₀ at (octets16 10 ++ octets16 (n * 6)) b₁ a → Wrote b₁ a (rangesOctets lowest (fewestRanges (offsets set))) b₂ r → Put b₀ at (option 10 (rangesOctets lowest (fewestRanges (offsets set))) ∷ []) b₂ r 388
 ranges-put lowest set n e h v w =
-    let l = ranges-length lowest (runs (offsets set)) in
+    let l = ranges-length lowest (fewestRanges (offsets set)) in
     let f = ranges-few set in
     option-put 10 (n * 6) 388 _ (omega arith) (omega arith) h v w
 
@@ -219,6 +220,6 @@ scopes-put l count n {b₁ = b₁} {b₃ = b₃} {a = a} {r = r} e q h g u v w =
     let t : take n l ≡ take count l = ap (λ (k : ℕ). take k l) q ∙ cut-take 4 count l e in
     let m : length (take count l) ≡ n = ap length (sym t) ∙ length-take n l ∙ (let z : min n (length l) ≡ n = omega arith in z) in
     let k = scopes-length (take count l) in
-    let j : Wrote b₁ a (n ∷ scopesOctets (take n l)) b₃ r = joined g v w in
+    let j : Wrote b₁ a (n ∷ scopesOctets (take n l)) b₃ r = wrote-joined g v w in
     let value : n ∷ scopesOctets (take n l) ≡ length (take count l) ∷ scopesOctets (take count l) = ap (λ (x : List ScopeEntry). n ∷ scopesOctets x) t ∙ ap (λ (x : ℕ). x ∷ scopesOctets (take count l)) (sym m) in
     option-put 9 (1 + 10 * n) 45 _ (omega arith) (omega arith) h u (wrote-as value j)

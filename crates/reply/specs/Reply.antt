@@ -4,7 +4,8 @@ use mathlib.Core.List.{List, [], _∷_, _++_}
 use mathlib.Core.Bool.{Bool, true, false}
 use lib.ListN.{length, take}
 use Rattle.octets.specs.Octets.{octets16, octets32}
-use Rattle.address_set.specs.AddressSet.{Run, offsets, runs}
+use Rattle.address_set.specs.declared.Range.{Range}
+use Rattle.address_set.specs.AddressSet.{offsets, fewestRanges}
 use Rattle.message.specs.declared.Identifier.{Identifier}
 use Rattle.reply.specs.declared.Head.{Head}
 use Rattle.reply.specs.declared.Terms.{Terms}
@@ -59,16 +60,16 @@ abbrev pub featuresOption : Head → List Option
 featuresOption h = wanted (h .features) (option 12 (0 ∷ 0 ∷ 0 ∷ 0 ∷ 0 ∷ 0 ∷ []))
 
 -- a range: first address(4), count(2)
-abbrev pub rangeOctets : ℕ → Run → List ℕ
+abbrev pub rangeOctets : ℕ → Range → List ℕ
 rangeOctets lowest r = octets32 (lowest + r .first) ++ octets16 (r .count)
 
-unfoldable pub rangesOctets : ℕ → List Run → List ℕ
+unfoldable pub rangesOctets : ℕ → List Range → List ℕ
 rangesOctets lowest [] = []
 rangesOctets lowest (r ∷ rs) = rangeOctets lowest r ++ rangesOctets lowest rs
 
 -- 10, Ranges: the fewest that name the addresses, rising
 abbrev pub rangesOption : Terms → Option
-rangesOption t = option 10 (rangesOctets (t .scope) (runs (offsets (t .addresses))))
+rangesOption t = option 10 (rangesOctets (t .scope) (fewestRanges (offsets (t .addresses))))
 
 -- a scope: lowest address, highest address, TTL(1), number of names(1), here 0
 abbrev pub scopeOctets : ScopeEntry → List ℕ
@@ -79,12 +80,12 @@ scopesOctets [] = []
 scopesOctets (e ∷ es) = scopeOctets e ++ scopesOctets es
 
 -- the scopes that are there
-abbrev pub scopesOf : Info → List ScopeEntry
-scopesOf i = take (i .count) (i .scopes)
+abbrev pub scopeEntriesOf : Info → List ScopeEntry
+scopeEntriesOf i = take (i .count) (i .scopes)
 
 -- 9, Scope List: a count(1) and the scopes
 abbrev pub scopeListOption : Info → Option
-scopeListOption i = option 9 (length (scopesOf i) ∷ scopesOctets (scopesOf i))
+scopeListOption i = option 9 (length (scopeEntriesOf i) ∷ scopesOctets (scopeEntriesOf i))
 
 -- ---- the replies
 

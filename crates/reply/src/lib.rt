@@ -7,7 +7,7 @@ ghost use mathlib.Core.List.{[], _∷_, _++_};
 ghost use Prim.Native.Nat.{_+_, _-_, _≤_};
 ghost use lib.ListN.{length, take};
 ghost use Rattle.octets.specs.Octets.{octets16, octets32, Wrote};
-ghost use Rattle.address_set.specs.AddressSet.{offsets, runs};
+ghost use Rattle.address_set.specs.AddressSet.{offsets, fewestRanges};
 ghost use Rattle.reply.specs.Reply.{leastRoom, option, header, wanted, serverOption, identifierOption, featuresOption, rangeOctets, rangesOctets, rangesOption, scopeOctets, scopesOctets, scopeListOption, offerOf, leaseAckOf, releaseAckOf, infoAckOf, nakOf, optionOctets, messageOctets, leaseOptions, infoOptions, nakOptions};
 ghost use Rattle.reply.specs.Put.{Put, Replied};
 use address_set::Range;
@@ -131,7 +131,7 @@ fn put_error(buffer: &mut [u8], at: usize, error: u16) -> usize
 
 // How many ranges name a set of addresses.
 fn range_count(set: u64) -> u16
-    ensures { λ r. ⌜ r ≡ length (runs (offsets set)) ⌝ }
+    ensures { λ r. ⌜ r ≡ length (fewestRanges (offsets set)) ⌝ }
 {
     let mut left = set;
     let mut n: u16 = 0;
@@ -153,7 +153,7 @@ fn put_range(buffer: &mut [u8], at: usize, lowest: u32, r: Range) -> usize
 
 fn put_range_list(buffer: &mut [u8], at: usize, lowest: u32, set: u64) -> usize
     requires { ⌜ at + 384 ≤ length (now buffer) ⌝ }
-    ensures { λ r. ⌜ Wrote (now (buffer .entry)) at (rangesOctets lowest (runs (offsets set))) (now (buffer .exit)) r ⌝ }
+    ensures { λ r. ⌜ Wrote (now (buffer .entry)) at (rangesOctets lowest (fewestRanges (offsets set))) (now (buffer .exit)) r ⌝ }
 {
     let mut left = set;
     let mut to = at;

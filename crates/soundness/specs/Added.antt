@@ -22,7 +22,7 @@ use Rattle.address_set.specs.AddressSet.{offsets}
 use Rattle.state.specs.Sorted.{differ-turn, insert-same, insert-rises, others-differ, taken-out}
 use Rattle.lists.specs.Reordered.{Reordered, reordered-length, reordered-all, reordered-pairs}
 use Rattle.address_set.specs.Laws.{and-or}
-use Rattle.soundness.specs.Sound.{tenantsIn, scopesIn, reserveAt, limitAt, disjoint, apartIn, apart, calm}
+use Rattle.soundness.specs.Sound.{tenantsIn, scopesIn, reserveAt, limitAt, disjoint, apartIn, apart, compatible}
 use Rattle.soundness.specs.Book.{leaseOk, pairOk, fewLeases, noLeasesB, loadOf, Sound}
 
 -- ---- lists with one element changed
@@ -75,15 +75,15 @@ and-turn true false = refl
 and-turn false true = refl
 and-turn false false = refl
 
-pub calm-turn : (a b : Lease) → calm a b ≡ calm b a
-unfolding calm overlaps
-calm-turn a b =
+pub compatible-turn : (a b : Lease) → compatible a b ≡ compatible b a
+unfolding compatible overlaps
+compatible-turn a b =
     ap₂ (λ (p q : Bool). pick p q true) (eqb-turn (a .scope) (b .scope))
     (ap₂ (λ (p q : Bool). pick p q true) (and-turn (ltb (a .start) (b .end)) (ltb (b .start) (a .end))) (disjoint-turn (a .addresses) (b .addresses)))
 
 pub pair-turn : (a b : Lease) → pairOk a b ≡ pairOk b a
 unfolding pairOk
-pair-turn a b = ap₂ (λ (p q : Bool). p && q) (differ-turn a b) (calm-turn a b)
+pair-turn a b = ap₂ (λ (p q : Bool). p && q) (differ-turn a b) (compatible-turn a b)
 
 -- ---- a tenant's part of a sound book
 pub sound-at : (t : List Lease → Bool) (ls : List (List Lease)) (h : ℕ) → t [] ≡ true → allBy t ls ≡ true → t (getD ls h []) ≡ true
@@ -132,16 +132,16 @@ pub sound-put : (s : State) (ls : List (List Lease)) (h : ℕ) (x : List Lease) 
     → ((k : ℕ) → k < scopesIn s → heldCount (k + 1) x ≤ limitAt (scopeAt s k) h)
     → ((k : ℕ) → k < scopesIn s → sumTo (loadOf s (set ls h x) k) (tenantsIn s) ≤ scopeAt s k .size)
     → Sound s (set ls h x)
-sound-put s ls h x v known there few each pairs rises owners holdings loads = record {
+sound-put s ls h x v known there few each pairs rises owners holdings commitments = record {
   settings = v .settings;
   few = all-set fewLeases ls h x few (v .few);
   each = all-set (allBy (leaseOk s)) ls h x each (v .each);
   pairs = all-set (pairsBy pairOk) ls h x pairs (v .pairs);
   rises = all-set (pairsBy ordered) ls h x rises (v .rises);
-  houses = ap (allBy noLeasesB) (drop-set ls (tenantsIn s) h x known) ∙ v .houses;
+  tenants = ap (allBy noLeasesB) (drop-set ls (tenantsIn s) h x known) ∙ v .tenants;
   owners = pairs-set apart apart-turn [] ls h x owners (v .owners);
   holdings = λ k g p q. at k g p q (eqb g h) refl;
-  loads = loads;
+  commitments = commitments;
 }
   where
     at : (k g : ℕ) → k < scopesIn s → g < tenantsIn s → (b : Bool) → eqb g h ≡ b → heldCount (k + 1) (getD (set ls h x) g []) ≤ limitAt (scopeAt s k) g
@@ -174,28 +174,28 @@ apart-inserted l x y e f =
 -- a lease that a tenant gains, wherever it stands among the others
 pub sound-gained : (s : State) (ls : List (List Lease)) (h : ℕ) (l : Lease) (y : List Lease) → Sound s ls → h < tenantsIn s → h < length ls
     → Reordered y (l ∷ getD ls h []) → pairsBy ordered y ≡ true
-    → length (getD ls h []) < 16 → leaseOk s l ≡ true → allBy (other (idOf l)) (getD ls h []) ≡ true → allBy (calm l) (getD ls h []) ≡ true
+    → length (getD ls h []) < 16 → leaseOk s l ≡ true → allBy (other (idOf l)) (getD ls h []) ≡ true → allBy (compatible l) (getD ls h []) ≡ true
     → ((g : ℕ) → (g ≡ h → ⊥) → apart y (getD ls g []) ≡ true)
     → ((k : ℕ) → k < scopesIn s → heldCount (k + 1) y ≤ limitAt (scopeAt s k) h)
     → ((k : ℕ) → k < scopesIn s → sumTo (loadOf s (set ls h y) k) (tenantsIn s) ≤ scopeAt s k .size)
     → Sound s (set ls h y)
 unfolding pairOk
-sound-gained s ls h l y v known there d rises room lease-ok new calm-ok owners holdings loads =
+sound-gained s ls h l y v known there d rises room lease-ok new compatible-ok owners holdings commitments =
     let x : List Lease = getD ls h [] in
     sound-put s ls h y v known there (le-leb (length y) 16 (let e = reordered-length d in omega arith))
     (reordered-all (leaseOk s) d ∙ all-cons (leaseOk s) l x lease-ok (each-at s ls v h))
-    (reordered-pairs pairOk pair-turn d ∙ pairs-cons pairOk l x (all-and (differ l) (calm l) x ∙ and-both (sym (others-differ l x) ∙ new) calm-ok) (pairs-at s ls v h))
-    rises owners holdings loads
+    (reordered-pairs pairOk pair-turn d ∙ pairs-cons pairOk l x (all-and (differ l) (compatible l) x ∙ and-both (sym (others-differ l x) ∙ new) compatible-ok) (pairs-at s ls v h))
+    rises owners holdings commitments
 
 -- a grant, in its place
 pub sound-inserted : (s : State) (ls : List (List Lease)) (h : ℕ) (l : Lease) → Sound s ls → h < tenantsIn s → h < length ls
-    → length (getD ls h []) < 16 → leaseOk s l ≡ true → allBy (other (idOf l)) (getD ls h []) ≡ true → allBy (calm l) (getD ls h []) ≡ true
+    → length (getD ls h []) < 16 → leaseOk s l ≡ true → allBy (other (idOf l)) (getD ls h []) ≡ true → allBy (compatible l) (getD ls h []) ≡ true
     → ((g : ℕ) → (g ≡ h → ⊥) → apart (insertOf l (getD ls h [])) (getD ls g []) ≡ true)
     → ((k : ℕ) → k < scopesIn s → heldCount (k + 1) (insertOf l (getD ls h [])) ≤ limitAt (scopeAt s k) h)
     → ((k : ℕ) → k < scopesIn s → sumTo (loadOf s (set ls h (insertOf l (getD ls h []))) k) (tenantsIn s) ≤ scopeAt s k .size)
     → Sound s (set ls h (insertOf l (getD ls h [])))
-sound-inserted s ls h l v known there room lease-ok new calm-ok =
-    sound-gained s ls h l (insertOf l (getD ls h [])) v known there (insert-same l (getD ls h [])) (insert-rises l (getD ls h []) new (rises-at s ls v h)) room lease-ok new calm-ok
+sound-inserted s ls h l v known there room lease-ok new compatible-ok =
+    sound-gained s ls h l (insertOf l (getD ls h [])) v known there (insert-same l (getD ls h [])) (insert-rises l (getD ls h []) new (rises-at s ls v h)) room lease-ok new compatible-ok
 
 -- ---- a renewed lease: one of the same scope and addresses takes its place
 module _ (s : State) (ls : List (List Lease)) (h : ℕ) (i : List ℕ) (l : Lease) (v : Sound s ls) (known : h < tenantsIn s) (there : h < length ls)
@@ -215,7 +215,7 @@ module _ (s : State) (ls : List (List Lease)) (h : ℕ) (i : List ℕ) (l : Leas
 
   apart-ids : pairsBy differ own ≡ true
   unfolding pairOk
-  apart-ids = and-parts (pairsBy differ own) (pairsBy calm own) (sym (pairs-and differ calm own) ∙ pairs-at s ls v h) .0
+  apart-ids = and-parts (pairsBy differ own) (pairsBy compatible own) (sym (pairs-and differ compatible own) ∙ pairs-at s ls v h) .0
 
   out : Reordered own (old ∷ rest)
   out = taken-out i own apart-ids found
@@ -258,11 +258,11 @@ module _ (s : State) (ls : List (List Lease)) (h : ℕ) (i : List ℕ) (l : Leas
   unfolding removeOf
   rest-rises = filter-pairs ordered (other i) own (rises-at s ls v h)
 
-  new-pairs : allBy (calm l) rest ≡ true → allBy (pairOk l) rest ≡ true
+  new-pairs : allBy (compatible l) rest ≡ true → allBy (pairOk l) rest ≡ true
   unfolding pairOk
-  new-pairs c = all-and (differ l) (calm l) rest ∙ and-both (sym (others-differ l rest) ∙ others) c
+  new-pairs c = all-and (differ l) (compatible l) rest ∙ and-both (sym (others-differ l rest) ∙ others) c
 
-  pub sound-renewed : leaseOk s l ≡ true → allBy (calm l) (removeOf i (getD ls h [])) ≡ true → Sound s (set ls h (replaceOf i l (getD ls h [])))
+  pub sound-renewed : leaseOk s l ≡ true → allBy (compatible l) (removeOf i (getD ls h [])) ≡ true → Sound s (set ls h (replaceOf i l (getD ls h [])))
   unfolding replaceOf
   sound-renewed ok c =
       sound-put s ls h new v known there
@@ -273,4 +273,4 @@ module _ (s : State) (ls : List (List Lease)) (h : ℕ) (i : List ℕ) (l : Leas
       (λ g n. renewed-apart (getD ls g []) ∙ owners-at s ls v h g n)
       (λ k q. subst (λ (m : ℕ). length (offsets m) ≤ limitAt (scopeAt s k) h) (sym (renewed-held (k + 1))) (v .holdings k h q known))
       (λ k q. subst (λ (m : ℕ). m ≤ scopeAt s k .size)
-      (sym (sum-same (loadOf s (set ls h new) k) (loadOf s ls k) (tenantsIn s) (λ g r. ap (λ (n : ℕ). max n (reserveAt (scopeAt s k) g)) (renewed-count (k + 1) g)))) (v .loads k q))
+      (sym (sum-same (loadOf s (set ls h new) k) (loadOf s ls k) (tenantsIn s) (λ g r. ap (λ (n : ℕ). max n (reserveAt (scopeAt s k) g)) (renewed-count (k + 1) g)))) (v .commitments k q))

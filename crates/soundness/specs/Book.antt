@@ -21,7 +21,7 @@ use Rattle.state.specs.declared.State.{State}
 use Rattle.state.specs.Book.{differ, zeroLease, inUse, laidOut, leasesOf, tableOf, ordered, heldCount, scopeAt}
 use Rattle.state.specs.Layout.{read-back, table-back}
 use Rattle.soundness.specs.declared.Rules.{Rules}
-use Rattle.soundness.specs.Sound.{tenantsIn, scopesIn, reserveAt, limitAt, idB, recordsB, countsB, rule1, offsetsB, rule2, rule3, rule4, rule5, rule6, leaseB, noneB, housesB, rule7, rule8, apart, rule9, calm, rule10, holding, limitB, limitsB, rule11, load, loadB, rule12, zeroFrom, paddedB, blankB, unusedB, layoutB, settingsB, rule13, rulesOf, firstLate, firstBroken, brokenOf, soundB}
+use Rattle.soundness.specs.Sound.{tenantsIn, scopesIn, reserveAt, limitAt, idB, recordsB, countsB, rule1, offsetsB, rule2, rule3, rule4, rule5, rule6, leaseB, noneB, tenantsB, rule7, rule8, apart, rule9, compatible, rule10, holding, limitB, limitsB, rule11, load, committedB, rule12, zeroFrom, paddedB, blankB, unusedB, layoutB, settingsB, rule13, rulesOf, firstLate, firstBroken, brokenOf, soundB}
 use Rattle.soundness.specs.Laws.{drop-map}
 
 -- ---- the facts
@@ -35,7 +35,7 @@ leaseOk s l = (idB l && offsetsB s l) && (leaseB s l && paddedB l)
 
 -- every rule on two leases of a tenant that does not go by their order: 8 and 10
 unfoldable pub pairOk : Lease → Lease → Bool
-pairOk a b = differ a b && calm a b
+pairOk a b = differ a b && compatible a b
 
 abbrev pub fewLeases : List Lease → Bool
 fewLeases l = leb (length l) 16
@@ -53,10 +53,10 @@ pub record Sound (s : State) (ls : List (List Lease)) : Type 0 where
   pub each : allBy (allBy (leaseOk s)) ls ≡ true
   pub pairs : allBy (pairsBy pairOk) ls ≡ true
   pub rises : allBy (pairsBy ordered) ls ≡ true
-  pub houses : allBy noLeasesB (drop (tenantsIn s) ls) ≡ true
+  pub tenants : allBy noLeasesB (drop (tenantsIn s) ls) ≡ true
   pub owners : pairsBy apart ls ≡ true
   pub holdings : (k g : ℕ) → k < scopesIn s → g < tenantsIn s → heldCount (k + 1) (getD ls g []) ≤ limitAt (scopeAt s k) g
-  pub loads : (k : ℕ) → k < scopesIn s → sumTo (loadOf s ls k) (tenantsIn s) ≤ scopeAt s k .size
+  pub commitments : (k : ℕ) → k < scopesIn s → sumTo (loadOf s ls k) (tenantsIn s) ≤ scopeAt s k .size
 
 -- ---- all rules hold where none is broken
 pub record AllRules (r : Rules) : Type 0 where
@@ -71,7 +71,7 @@ pub record AllRules (r : Rules) : Type 0 where
   pub owners : r .owners ≡ true
   pub periods : r .periods ≡ true
   pub holdings : r .holdings ≡ true
-  pub loads : r .loads ≡ true
+  pub commitments : r .commitments ≡ true
   pub layout : r .layout ≡ true
 
 peel : (b : Bool) (x n : ℕ) → 0 < n → pick b x n ≡ 0 → (b ≡ true) × (x ≡ 0)
@@ -93,7 +93,7 @@ none-broken r e =
     let j = peel (r .owners) _ 9 (omega arith) (i .1) in
     let k = peel (r .periods) _ 10 (omega arith) (j .1) in
     let l = peel (r .holdings) _ 11 (omega arith) (k .1) in
-    let m = peel (r .loads) _ 12 (omega arith) (l .1) in
+    let m = peel (r .commitments) _ 12 (omega arith) (l .1) in
     let n = peel (r .layout) _ 13 (omega arith) (m .1) in
     record {
       limits = a .0;
@@ -107,7 +107,7 @@ none-broken r e =
       owners = j .0;
       periods = k .0;
       holdings = l .0;
-      loads = m .0;
+      commitments = m .0;
       layout = n .0;
     }
 
@@ -119,7 +119,7 @@ all-hold : (r : Rules) → AllRules r → firstBroken r ≡ 0
 unfolding firstBroken firstLate
 all-hold r a =
     wrap 1 (a .limits) (wrap 2 (a .offsets) (wrap 3 (a .ranges) (wrap 4 (a .pools) (wrap 5 (a .ttls) (wrap 6 (a .reserves)
-    (wrap 7 (a .leases) (wrap 8 (a .identifiers) (wrap 9 (a .owners) (wrap 10 (a .periods) (wrap 11 (a .holdings) (wrap 12 (a .loads) (wrap 13 (a .layout) refl))))))))))))
+    (wrap 7 (a .leases) (wrap 8 (a .identifiers) (wrap 9 (a .owners) (wrap 10 (a .periods) (wrap 11 (a .holdings) (wrap 12 (a .commitments) (wrap 13 (a .layout) refl))))))))))))
 
 pub rules-of : (s : State) (t : LeaseTable) → soundB s t ≡ true → AllRules (rulesOf s t)
 unfolding soundB brokenOf
@@ -170,9 +170,9 @@ each-is s ls =
     all-all (λ l. idB l && offsetsB s l) (λ l. leaseB s l && paddedB l) ls
     ∙ ap₂ (λ (a b : Bool). a && b) (all-all idB (offsetsB s) ls) (all-all (leaseB s) paddedB ls)
 
-pub pairs-is : (ls : List (List Lease)) → allBy (pairsBy pairOk) ls ≡ (allBy (pairsBy differ) ls && allBy (pairsBy calm) ls)
+pub pairs-is : (ls : List (List Lease)) → allBy (pairsBy pairOk) ls ≡ (allBy (pairsBy differ) ls && allBy (pairsBy compatible) ls)
 unfolding pairOk
-pairs-is ls = all-same (pairsBy (λ a b. differ a b && calm a b)) (λ l. pairsBy differ l && pairsBy calm l) ls (pairs-and differ calm) ∙ all-and (pairsBy differ) (pairsBy calm) ls
+pairs-is ls = all-same (pairsBy (λ a b. differ a b && compatible a b)) (λ l. pairsBy differ l && pairsBy compatible l) ls (pairs-and differ compatible) ∙ all-and (pairsBy differ) (pairsBy compatible) ls
 
 -- ---- a sound book has sound lists
 module _ (s : State) (t : LeaseTable) (a : AllRules (rulesOf s t)) where
@@ -180,7 +180,7 @@ module _ (s : State) (t : LeaseTable) (a : AllRules (rulesOf s t)) where
   unfolding rulesOf rule1
   counted = and-parts _ _ (a .limits)
 
-  known : (housesB s t ≡ true) × (allBy (allBy (leaseB s)) (leasesOf t) ≡ true)
+  known : (tenantsB s t ≡ true) × (allBy (allBy (leaseB s)) (leasesOf t) ≡ true)
   unfolding rulesOf rule7
   known = and-parts _ _ (a .leases)
 
@@ -204,9 +204,9 @@ module _ (s : State) (t : LeaseTable) (a : AllRules (rulesOf s t)) where
   unfolding layoutB
   padded-from = through layoutB (allBy paddedB) inUse (t .tenants) (λ x p. and-parts (allBy paddedB (inUse x)) _ (and-parts (pairsBy ordered (inUse x)) _ p .1) .0) (laid .1)
 
-  houses-from : allBy noLeasesB (drop (tenantsIn s) (leasesOf t)) ≡ true
-  unfolding housesB noneB
-  houses-from =
+  tenants-from : allBy noLeasesB (drop (tenantsIn s) (leasesOf t)) ≡ true
+  unfolding tenantsB noneB
+  tenants-from =
       ap (allBy noLeasesB) (drop-map inUse (tenantsIn s) (t .tenants))
       ∙ through noneB noLeasesB inUse (drop (tenantsIn s) (t .tenants)) (λ x p. let h = eqb-true (x .count) 0 p in eq-eqb (length (inUse x)) 0 (let k = length-take (x .count) (x .leases) in omega arith)) (known .0)
 
@@ -215,17 +215,17 @@ module _ (s : State) (t : LeaseTable) (a : AllRules (rulesOf s t)) where
   settings-from = and-both (and-both (counted .0) (and-both (a .ranges) (a .pools))) (and-both (a .ttls) (and-both (a .reserves) (laid .0)))
 
   pub lists-of : Sound s (leasesOf t)
-  unfolding rulesOf rule2 rule8 rule9 rule10 rule11 limitsB limitB rule12 loadB load
+  unfolding rulesOf rule2 rule8 rule9 rule10 rule11 limitsB limitB rule12 committedB load
   lists-of = record {
     settings = settings-from;
     few = few-from;
     each = each-is s (leasesOf t) ∙ and-both (and-both ids-from (a .offsets)) (and-both (known .1) padded-from);
     pairs = pairs-is (leasesOf t) ∙ and-both (a .identifiers) (a .periods);
     rises = ordered-from;
-    houses = houses-from;
+    tenants = tenants-from;
     owners = a .owners;
     holdings = λ k g p q. leb-true _ _ (to-each (limitB t (scopeAt s k) (k + 1)) (tenantsIn s) (to-each (limitsB s t) (scopesIn s) (a .holdings) k p) g q);
-    loads = λ k p. leb-true _ _ (to-each (loadB s t) (scopesIn s) (a .loads) k p);
+    commitments = λ k p. leb-true _ _ (to-each (committedB s t) (scopesIn s) (a .commitments) k p);
   }
 
 pub sound-lists : (s : State) (t : LeaseTable) → soundB s t ≡ true → Sound s (leasesOf t)
@@ -244,7 +244,7 @@ module _ (s : State) (ls : List (List Lease)) (v : Sound s ls) where
   each-parts : ((allBy (allBy idB) ls && allBy (allBy (offsetsB s)) ls) ≡ true) × ((allBy (allBy (leaseB s)) ls && allBy (allBy paddedB) ls) ≡ true)
   each-parts = and-parts _ _ (sym (each-is s ls) ∙ v .each)
 
-  pair-parts : (allBy (pairsBy differ) ls ≡ true) × (allBy (pairsBy calm) ls ≡ true)
+  pair-parts : (allBy (pairsBy differ) ls ≡ true) × (allBy (pairsBy compatible) ls ≡ true)
   pair-parts = and-parts _ _ (sym (pairs-is ls) ∙ v .pairs)
 
   ids-to : allBy (allBy idB) ls ≡ true
@@ -274,12 +274,12 @@ module _ (s : State) (ls : List (List Lease)) (v : Sound s ls) where
       all-map layoutB laidOut ls ∙ all-same (λ l. layoutB (laidOut l)) (λ l. pairsBy ordered l && allBy paddedB l) ls layout-laid ∙ all-and (pairsBy ordered) (allBy paddedB) ls
       ∙ and-both (v .rises) padded-to
 
-  houses-to : housesB s (tableOf ls) ≡ true
-  unfolding housesB tableOf noneB laidOut
-  houses-to = ap (allBy noneB) (drop-map laidOut (tenantsIn s) ls) ∙ all-map noneB laidOut (drop (tenantsIn s) ls) ∙ v .houses
+  tenants-to : tenantsB s (tableOf ls) ≡ true
+  unfolding tenantsB tableOf noneB laidOut
+  tenants-to = ap (allBy noneB) (drop-map laidOut (tenantsIn s) ls) ∙ all-map noneB laidOut (drop (tenantsIn s) ls) ∙ v .tenants
 
   pub rules-to : AllRules (rulesOf s (tableOf ls))
-  unfolding rulesOf rule1 rule2 rule7 rule8 rule9 rule10 rule11 limitsB limitB rule12 loadB load rule13
+  unfolding rulesOf rule1 rule2 rule7 rule8 rule9 rule10 rule11 limitsB limitB rule12 committedB load rule13
   rules-to = record {
     limits = and-both (settings-front .0) records-to;
     offsets = ap (allBy (allBy (offsetsB s))) back ∙ offsets-to;
@@ -287,14 +287,14 @@ module _ (s : State) (ls : List (List Lease)) (v : Sound s ls) where
     pools = and-parts (rule3 s) (rule4 s) (settings-front .1) .1;
     ttls = settings-back .0;
     reserves = and-parts (rule6 s) (settingsB s) (settings-back .1) .0;
-    leases = and-both houses-to (ap (allBy (allBy (leaseB s))) back ∙ leases-to);
+    leases = and-both tenants-to (ap (allBy (allBy (leaseB s))) back ∙ leases-to);
     identifiers = ap (allBy (pairsBy differ)) back ∙ pair-parts .0;
     owners = ap (pairsBy apart) back ∙ v .owners;
-    periods = ap (allBy (pairsBy calm)) back ∙ pair-parts .1;
+    periods = ap (allBy (pairsBy compatible)) back ∙ pair-parts .1;
     holdings = each-to (limitsB s (tableOf ls)) (scopesIn s) (λ k p. each-to (limitB (tableOf ls) (scopeAt s k) (k + 1)) (tenantsIn s) (λ g q.
         ap (λ (x : List (List Lease)). leb (heldCount (k + 1) (getD x g [])) (limitAt (scopeAt s k) g)) back ∙ le-leb _ _ (v .holdings k g p q)));
-    loads = each-to (loadB s (tableOf ls)) (scopesIn s) (λ k p.
-        ap (λ (x : List (List Lease)). leb (sumTo (loadOf s x k) (tenantsIn s)) (scopeAt s k .size)) back ∙ le-leb _ _ (v .loads k p));
+    commitments = each-to (committedB s (tableOf ls)) (scopesIn s) (λ k p.
+        ap (λ (x : List (List Lease)). leb (sumTo (loadOf s x k) (tenantsIn s)) (scopeAt s k .size)) back ∙ le-leb _ _ (v .commitments k p));
     layout = and-both (and-parts (rule6 s) (settingsB s) (settings-back .1) .1) layout-to;
   }
 

@@ -17,7 +17,7 @@ use Rattle.state.specs.declared.Lease.{Lease}
 use Rattle.state.specs.declared.Scope.{Scope}
 use Rattle.state.specs.declared.State.{State}
 use Rattle.state.specs.Book.{live, scopesOf, scopeAt, zeroScope}
-use Rattle.soundness.specs.Sound.{few, tenantsIn, scopesIn, reserveAt, limitAt, sizeB, idB, countsB, scopeKnown, offsetsB, rule3, poolB, poolsApart, rule4, ttlB, rule5, shareB, sharesB, rule6, kindB, periodB, leaseB, paddedB, settingsB}
+use Rattle.soundness.specs.Sound.{oneTo, tenantsIn, scopesIn, reserveAt, limitAt, sizeB, idB, countsB, scopeKnown, offsetsB, rule3, poolB, poolsApart, rule4, ttlB, rule5, reserveB, reservesB, rule6, kindB, periodB, leaseB, paddedB, settingsB}
 use Rattle.soundness.specs.Book.{leaseOk, Sound, settings-front, settings-back}
 use Rattle.soundness.specs.Added.{each-at}
 
@@ -38,27 +38,27 @@ at-of t (x ∷ l) zero d h p = all-head t x l h .0
 at-of t (x ∷ l) (suc i) d h p = at-of t l i d (all-head t x l h .1) (omega arith)
 
 module _ (s : State) (ls : List (List Lease)) (v : Sound s ls) where
-  counts : (few 8 (s .«tenant_count») ≡ true) × ((few 4 (s .«scope_count») && allBy sizeB (scopesOf s)) ≡ true)
+  counts : (oneTo 8 (s .«tenant_count») ≡ true) × ((oneTo 4 (s .«scope_count») && allBy sizeB (scopesOf s)) ≡ true)
   unfolding countsB
-  counts = and-parts (few 8 (s .«tenant_count»)) (few 4 (s .«scope_count») && allBy sizeB (scopesOf s)) (settings-front s ls v .0)
+  counts = and-parts (oneTo 8 (s .«tenant_count»)) (oneTo 4 (s .«scope_count») && allBy sizeB (scopesOf s)) (settings-front s ls v .0)
 
-  scopes : (few 4 (s .«scope_count») ≡ true) × (allBy sizeB (scopesOf s) ≡ true)
-  scopes = and-parts (few 4 (s .«scope_count»)) (allBy sizeB (scopesOf s)) (counts .1)
+  scopes : (oneTo 4 (s .«scope_count») ≡ true) × (allBy sizeB (scopesOf s) ≡ true)
+  scopes = and-parts (oneTo 4 (s .«scope_count»)) (allBy sizeB (scopesOf s)) (counts .1)
 
   pub tenants-some : 1 ≤ s .«tenant_count»
-  unfolding few
+  unfolding oneTo
   tenants-some = leb-true 1 (s .«tenant_count») (and-parts (leb 1 (s .«tenant_count»)) (leb (s .«tenant_count») 8) (counts .0) .0)
 
   pub tenants-few : s .«tenant_count» ≤ 8
-  unfolding few
+  unfolding oneTo
   tenants-few = leb-true (s .«tenant_count») 8 (and-parts (leb 1 (s .«tenant_count»)) (leb (s .«tenant_count») 8) (counts .0) .1)
 
   pub scopes-some : 1 ≤ s .«scope_count»
-  unfolding few
+  unfolding oneTo
   scopes-some = leb-true 1 (s .«scope_count») (and-parts (leb 1 (s .«scope_count»)) (leb (s .«scope_count») 4) (scopes .0) .0)
 
   pub scopes-few : s .«scope_count» ≤ 4
-  unfolding few
+  unfolding oneTo
   scopes-few = leb-true (s .«scope_count») 4 (and-parts (leb 1 (s .«scope_count»)) (leb (s .«scope_count») 4) (scopes .0) .1)
 
   -- the counts are as they stand
@@ -79,14 +79,14 @@ module _ (s : State) (ls : List (List Lease)) (v : Sound s ls) where
         ap t (sym (getD-take (s .«scope_count») (s .scopes) k zeroScope here)) ∙ at-of t (scopesOf s) k zeroScope h (omega arith)
 
     pub scope-facts : ScopeFacts (s .«tenant_count») (scopeAt s k)
-    unfolding sizeB few poolB ttlB sharesB shareB rule4 rule5 rule6
+    unfolding sizeB oneTo poolB ttlB reservesB reserveB rule4 rule5 rule6
     scope-facts =
         let c : Scope = scopeAt s k in
         let size = and-parts (leb 1 (c .size)) (leb (c .size) 64) (scope-passes sizeB (scopes .1)) in
         let pool = and-parts (leb 3758096384 (c .lowest)) (leb (c .lowest + c .size) 4026531840) (scope-passes poolB (and-parts (allBy poolB (scopesOf s)) _ (and-parts (rule3 s) (rule4 s) (settings-front s ls v .1) .1) .0)) in
-        let share = and-parts (allTo (shareB c) (tenantsIn s)) (leb (sumTo (reserveAt c) (tenantsIn s)) (c .size)) (scope-passes (sharesB (tenantsIn s)) (and-parts (rule6 s) (settingsB s) (settings-back s ls v .1) .0)) in
+        let share = and-parts (allTo (reserveB c) (tenantsIn s)) (leb (sumTo (reserveAt c) (tenantsIn s)) (c .size)) (scope-passes (reservesB (tenantsIn s)) (and-parts (rule6 s) (settingsB s) (settings-back s ls v .1) .0)) in
         let e = tenants-in in
-        let one : (g : ℕ) → g < s .«tenant_count» → shareB c g ≡ true = λ g p. to-each (shareB c) (tenantsIn s) (share .0) g (omega arith) in
+        let one : (g : ℕ) → g < s .«tenant_count» → reserveB c g ≡ true = λ g p. to-each (reserveB c) (tenantsIn s) (share .0) g (omega arith) in
         record {
           size-some = leb-true 1 (c .size) (size .0);
           size-few = leb-true (c .size) 64 (size .1);
@@ -119,7 +119,7 @@ kinds a b h = go (eqb a 3) refl h
     go false e h = inr (eqb-true b 4 h)
 
 pub lease-facts : (s : State) (l : Lease) → leaseOk s l ≡ true → LeaseFacts s l
-unfolding leaseOk idB leaseB few kindB periodB
+unfolding leaseOk idB leaseB oneTo kindB periodB
 lease-facts s l e =
     let p = and-parts (idB l && offsetsB s l) (leaseB s l && paddedB l) e in
     let i = and-parts (idB l) (offsetsB s l) (p .0) in

@@ -137,10 +137,10 @@ sound-shrunk s c ls ls′ v w rises each = record {
   each = each;
   pairs = all-shrunk (pairsBy pairOk) (part-pairs pairOk pair-turn) ls ls′ w (v .pairs);
   rises = rises;
-  houses = all-shrunk noLeasesB none-some (drop (tenantsIn s) ls) (drop (tenantsIn s) ls′) (drop-shrunk (tenantsIn s) ls ls′ w) (v .houses);
+  tenants = all-shrunk noLeasesB none-some (drop (tenantsIn s) ls) (drop (tenantsIn s) ls′) (drop-shrunk (tenantsIn s) ls ls′ w) (v .tenants);
   owners = owners-shrunk ls ls′ w (v .owners);
   holdings = λ k g p q. le-trans (counts-shrunk (k + 1) ls ls′ w g) (v .holdings k g p q);
-  loads = λ k p. le-trans (sum-less (loadOf s ls′ k) (loadOf s ls k) (tenantsIn s) (λ g q. let h = counts-shrunk (k + 1) ls ls′ w g in omega arith)) (v .loads k p);
+  commitments = λ k p. le-trans (sum-less (loadOf s ls′ k) (loadOf s ls k) (tenantsIn s) (λ g q. let h = counts-shrunk (k + 1) ls ls′ w g in omega arith)) (v .commitments k p);
 }
   where
     same : settingsOk (withClock s c) ≡ settingsOk s

@@ -39,8 +39,8 @@ use Rattle.soundness.specs.declared.Held.{Held}
 use Rattle.soundness.specs.declared.HeldTable.{HeldTable}
 use Rattle.soundness.specs.declared.Rules.{Rules}
 use Rattle.lists.specs.Sums.{sumTo, sum-same}
-use Rattle.soundness.specs.Sound.{few, idB, sizeB, poolB, ttlB, sharesB, tailB, zeroFrom, belowB, offsetsB, scopeOf, recordsB, leaseB, calm, layoutB, paddedB, unusedB, tenantsIn, scopesIn, reserveAt, limitAt, countsB, rule1, rule2, rule3, poolsApart, rule4, rule5, rule6, housesB, rule7, rule8, rule10, rangeZero, scopeZero, settingsB, rule13, rulesOf, firstBroken, brokenOf, soundB, noneB, apart, rule9, holding, limitB, limitsB, rule11, load, loadB, rule12}
-use Rattle.soundness.specs.Parts.{scopeRulesOf, andScopes, scopesAll, leaseRulesOf, andLeases, leasesAll, tenantRulesOf, bothTenants, addedSets, noneH, holdingRulesIn, tableRulesOf, joinedRules, andTenants, tenantsAll, noHeld, heldSets, holdingsOf, setAt, apartSets, countIn, limitIn, limitsIn, loadOn, loadIn, settingsRulesOf, holdingRulesOf}
+use Rattle.soundness.specs.Sound.{oneTo, idB, sizeB, poolB, ttlB, reservesB, tailB, zeroFrom, belowB, offsetsB, scopeOf, recordsB, leaseB, compatible, layoutB, paddedB, unusedB, tenantsIn, scopesIn, reserveAt, limitAt, countsB, rule1, rule2, rule3, poolsApart, rule4, rule5, rule6, tenantsB, rule7, rule8, rule10, rangeZero, scopeZero, settingsB, rule13, rulesOf, firstBroken, brokenOf, soundB, noneB, apart, rule9, holding, limitB, limitsB, rule11, load, committedB, rule12}
+use Rattle.soundness.specs.Parts.{scopeRulesOf, andScopes, scopesAll, leaseRulesOf, andLeases, leasesAll, tenantRulesOf, bothTenants, addedSets, noneH, holdingRulesIn, tableRulesOf, joinedRules, andTenants, tenantsAll, noHeld, heldSets, holdingsOf, setAt, apartSets, countIn, limitIn, limitsIn, loadOn, committedIn, settingsRulesOf, holdingRulesOf}
 
 -- ---- zeros, gathered by or
 or-none : (a b : ℕ) → eqb (bitOr a b) 0 ≡ (eqb a 0 && eqb b 0)
@@ -118,19 +118,19 @@ five : {p p′ q q′ u u′ r r′ t t′ : Bool} → p ≡ p′ → q ≡ q′
 five a b c d e = cc
 
 scopes-from : (n : ℕ) (a : ScopeRules) (l : List Scope) → fold (andScopes n) a l
-    ≡ record { sizes = a .sizes && allBy sizeB l; pools = a .pools && allBy poolB l; ttls = a .ttls && allBy ttlB l; reserves = a .reserves && allBy (sharesB n) l; tails = a .tails && allBy (tailB n) l }
+    ≡ record { sizes = a .sizes && allBy sizeB l; pools = a .pools && allBy poolB l; ttls = a .ttls && allBy ttlB l; reserves = a .reserves && allBy (reservesB n) l; tails = a .tails && allBy (tailB n) l }
 unfolding andScopes allBy
 scopes-from n a [] = sym (five (and-true-r (a .sizes)) (and-true-r (a .pools)) (and-true-r (a .ttls)) (and-true-r (a .reserves)) (and-true-r (a .tails)))
 scopes-from n a (c ∷ l) =
     scopes-from n (andScopes n a c) l
     ∙ five (and-more (a .sizes) (sizeB c) (allBy sizeB l)) (and-more (a .pools) (poolB c) (allBy poolB l)) (and-more (a .ttls) (ttlB c) (allBy ttlB l))
-    (and-more (a .reserves) (sharesB n c) (allBy (sharesB n) l)) (and-more (a .tails) (tailB n c) (allBy (tailB n) l))
+    (and-more (a .reserves) (reservesB n c) (allBy (reservesB n) l)) (and-more (a .tails) (tailB n c) (allBy (tailB n) l))
 
 pub scopes-are : (n : ℕ) (l : List Scope) → fold (andScopes n) (record { sizes = true; pools = true; ttls = true; reserves = true; tails = true }) l ≡ scopesAll n l
 unfolding scopesAll
 scopes-are n l = scopes-from n _ l
 
-pub scope-is : (n : ℕ) (c : Scope) {p q r t : Bool} → p ≡ sizeB c → q ≡ poolB c → r ≡ sharesB n c → t ≡ tailB n c
+pub scope-is : (n : ℕ) (c : Scope) {p q r t : Bool} → p ≡ sizeB c → q ≡ poolB c → r ≡ reservesB n c → t ≡ tailB n c
     → _≡_ {A = ScopeRules} (record { sizes = p; pools = q; ttls = ltb 0 (c .ttl); reserves = r; tails = t }) (scopeRulesOf n c)
 unfolding scopeRulesOf ttlB
 scope-is n c e f g h = cc
@@ -242,8 +242,8 @@ module _ (s : State) where
 abbrev differT : TenantLeases → Bool
 differT t = pairsBy differ (inUse t)
 
-abbrev calmT : TenantLeases → Bool
-calmT t = pairsBy calm (inUse t)
+abbrev compatibleT : TenantLeases → Bool
+compatibleT t = pairsBy compatible (inUse t)
 
 tenants-from : (s : State) (a : TenantRules) (l : List TenantLeases) → fold (andTenants s) a l
     ≡ record {
@@ -251,7 +251,7 @@ tenants-from : (s : State) (a : TenantRules) (l : List TenantLeases) → fold (a
       offsets = a .offsets && allBy (offsetsT s) l;
       leases = a .leases && allBy (leasesT s) l;
       identifiers = a .identifiers && allBy differT l;
-      periods = a .periods && allBy calmT l;
+      periods = a .periods && allBy compatibleT l;
       layout = a .layout && allBy layoutB l;
     }
 unfolding andTenants allBy
@@ -259,7 +259,7 @@ tenants-from s a [] = sym (six (and-true-r (a .records)) (and-true-r (a .offsets
 tenants-from s a (t ∷ l) =
     tenants-from s (andTenants s a t) l
     ∙ six (and-more (a .records) (recordsB t) (allBy recordsB l)) (and-more (a .offsets) (offsetsT s t) (allBy (offsetsT s) l)) (and-more (a .leases) (leasesT s t) (allBy (leasesT s) l))
-    (and-more (a .identifiers) (differT t) (allBy differT l)) (and-more (a .periods) (calmT t) (allBy calmT l)) (and-more (a .layout) (layoutB t) (allBy layoutB l))
+    (and-more (a .identifiers) (differT t) (allBy differT l)) (and-more (a .periods) (compatibleT t) (allBy compatibleT l)) (and-more (a .layout) (layoutB t) (allBy layoutB l))
 
 pub tenants-are : (s : State) (b : LeaseTable)
     → fold (andTenants s) (record { records = true; offsets = true; leases = true; identifiers = true; periods = true; layout = true }) (b .tenants) ≡ tenantsAll s b
@@ -267,10 +267,10 @@ unfolding tenantsAll
 tenants-are s b =
     tenants-from s _ (b .tenants)
     ∙ six refl (sym (all-map (allBy (offsetsB s)) inUse (b .tenants))) (sym (all-map (allBy (leaseB s)) inUse (b .tenants))) (sym (all-map (pairsBy differ) inUse (b .tenants)))
-    (sym (all-map (pairsBy calm) inUse (b .tenants))) refl
+    (sym (all-map (pairsBy compatible) inUse (b .tenants))) refl
 
 pub tenant-is : (s : State) (t : TenantLeases) (l : LeaseRules) {rising p r v w : Bool} → l ≡ leasesAll s (inUse t) → rising ≡ pairsBy ordered (inUse t)
-    → p ≡ (leb (t .count) 16 && l .ids) → r ≡ pairsBy differ (inUse t) → v ≡ pairsBy calm (inUse t)
+    → p ≡ (leb (t .count) 16 && l .ids) → r ≡ pairsBy differ (inUse t) → v ≡ pairsBy compatible (inUse t)
     → w ≡ (rising && (l .padded && allBy unusedB (drop (t .count) (t .leases))))
     → _≡_ {A = TenantRules} (record { records = p; offsets = l .offsets; leases = l .leases; identifiers = r; periods = v; layout = w }) (tenantRulesOf s t)
 unfolding tenantRulesOf leasesAll recordsB layoutB
@@ -351,11 +351,11 @@ module _ (s : State) (b : LeaseTable) (h : HeldTable) (e : h ≡ holdingsOf b) w
       ∙ to-same (limitsIn s h (tenantsIn s)) (limitsB s b) (scopesIn s) (λ k a.
       to-same (limitIn h (scopeAt s k) k) (limitB b (scopeAt s k) (k + 1)) (tenantsIn s) (λ g c. ap (λ (x : ℕ). leb x (limitAt (scopeAt s k) g)) (counts k g (omega arith))))
 
-  loads-are : {n m : ℕ} {r : Bool} → n ≡ tenantsIn s → m ≡ scopesIn s → r ≡ allTo (loadIn s h n) m → r ≡ rule12 s b
-  unfolding loadIn loadOn rule12 loadB load
-  loads-are {n} {m} p q u =
-      u ∙ ap₂ (λ (x y : ℕ). allTo (loadIn s h x) y) p q
-      ∙ to-same (loadIn s h (tenantsIn s)) (loadB s b) (scopesIn s) (λ k a.
+  commitments-are : {n m : ℕ} {r : Bool} → n ≡ tenantsIn s → m ≡ scopesIn s → r ≡ allTo (committedIn s h n) m → r ≡ rule12 s b
+  unfolding committedIn loadOn rule12 committedB load
+  commitments-are {n} {m} p q u =
+      u ∙ ap₂ (λ (x y : ℕ). allTo (committedIn s h x) y) p q
+      ∙ to-same (committedIn s h (tenantsIn s)) (committedB s b) (scopesIn s) (λ k a.
       ap (λ (x : ℕ). leb x (scopeAt s k .size))
       (sum-same (loadOn h (scopeAt s k) k) (load b (scopeAt s k) (k + 1)) (tenantsIn s) (λ g c. ap (λ (x : ℕ). max x (reserveAt (scopeAt s k) g)) (counts k g (omega arith)))))
 
@@ -372,16 +372,16 @@ pub count-few : (h : HeldTable) (k g : ℕ) → countIn h k g ≤ 64
 unfolding countIn
 count-few h k g = length-offsets _
 
-pub load-is : (h : HeldTable) (c : Scope) (k g : ℕ) {d l r : ℕ} → d ≡ countIn h k g → l ≡ getD (c .reserve) g 0 → r ≡ max d l → r ≡ loadOn h c k g
+pub committed-is : (h : HeldTable) (c : Scope) (k g : ℕ) {d l r : ℕ} → d ≡ countIn h k g → l ≡ getD (c .reserve) g 0 → r ≡ max d l → r ≡ loadOn h c k g
 unfolding loadOn
-load-is h c k g p q e = e ∙ ap₂ max p q
+committed-is h c k g p q e = e ∙ ap₂ max p q
 
-pub load-small : (h : HeldTable) (k g : ℕ) {d l r : ℕ} → d ≡ countIn h k g → l < 256 → r ≡ max d l → r < 256
-load-small h k g p q e = let f = count-few h k g in omega arith
+pub committed-small : (h : HeldTable) (k g : ℕ) {d l r : ℕ} → d ≡ countIn h k g → l < 256 → r ≡ max d l → r < 256
+committed-small h k g p q e = let f = count-few h k g in omega arith
 
-pub load-ok-is : (s : State) (h : HeldTable) (n k : ℕ) (c : Scope) {sum : ℕ} → c ≡ scopeAt s k → sum ≡ sumTo (loadOn h c k) n → leb sum (c .size) ≡ loadIn s h n k
-unfolding loadIn
-load-ok-is s h n k c e p = ap (λ (x : ℕ). leb x (c .size)) p ∙ ap (λ (x : Scope). leb (sumTo (loadOn h x k) n) (x .size)) e
+pub committed-ok-is : (s : State) (h : HeldTable) (n k : ℕ) (c : Scope) {sum : ℕ} → c ≡ scopeAt s k → sum ≡ sumTo (loadOn h c k) n → leb sum (c .size) ≡ committedIn s h n k
+unfolding committedIn
+committed-ok-is s h n k c e p = ap (λ (x : ℕ). leb x (c .size)) p ∙ ap (λ (x : Scope). leb (sumTo (loadOn h x k) n) (x .size)) e
 
 pub limits-in : (s : State) (h : HeldTable) (n k : ℕ) (c : Scope) {r : Bool} → c ≡ scopeAt s k → r ≡ allTo (limitIn h c k) n → r ≡ limitsIn s h n k
 unfolding limitsIn
@@ -393,41 +393,41 @@ settings-same : {p p′ q q′ u u′ r r′ t t′ v v′ : Bool} → p ≡ p�
 settings-same a b c d e f = cc
 
 pub settings-are : (s : State) (n m : ℕ) (c : ScopeRules) {count range apart pool unused : Bool} → n ≡ tenantsIn s → m ≡ scopesIn s → c ≡ scopesAll n (scopesOf s)
-    → count ≡ (few 8 (s .«tenant_count») && (few 4 (s .«scope_count») && c .sizes)) → range ≡ rule3 s → apart ≡ pairsBy poolsApart (scopesOf s) → pool ≡ (c .pools && apart)
+    → count ≡ (oneTo 8 (s .«tenant_count») && (oneTo 4 (s .«scope_count») && c .sizes)) → range ≡ rule3 s → apart ≡ pairsBy poolsApart (scopesOf s) → pool ≡ (c .pools && apart)
     → unused ≡ (allBy rangeZero (drop n (s .tenants)) && (allBy scopeZero (drop m (s .scopes)) && c .tails))
     → _≡_ {A = SettingsRules} (record { counts = count; ranges = range; pools = pool; ttls = c .ttls; reserves = c .reserves; unused = unused }) (settingsRulesOf s)
 unfolding settingsRulesOf scopesAll countsB rule4 rule5 rule6 settingsB
 settings-are s n m c en em ec p q u r v =
     let e : c ≡ scopesAll (tenantsIn s) (scopesOf s) = ec ∙ ap (λ (x : ℕ). scopesAll x (scopesOf s)) en in
-    settings-same (p ∙ ap (λ (x : ScopeRules). few 8 (s .«tenant_count») && (few 4 (s .«scope_count») && x .sizes)) e) q (r ∙ ap₂ (λ (x : ScopeRules) (y : Bool). x .pools && y) e u) (ap (λ (x : ScopeRules). x .ttls) e)
+    settings-same (p ∙ ap (λ (x : ScopeRules). oneTo 8 (s .«tenant_count») && (oneTo 4 (s .«scope_count») && x .sizes)) e) q (r ∙ ap₂ (λ (x : ScopeRules) (y : Bool). x .pools && y) e u) (ap (λ (x : ScopeRules). x .ttls) e)
     (ap (λ (x : ScopeRules). x .reserves) e)
     (v ∙ ap₂ (λ (x y : ℕ). allBy rangeZero (drop x (s .tenants)) && (allBy scopeZero (drop y (s .scopes)) && c .tails)) en em
     ∙ ap (λ (x : ScopeRules). allBy rangeZero (drop (tenantsIn s) (s .tenants)) && (allBy scopeZero (drop (scopesIn s) (s .scopes)) && x .tails)) e)
 
 holding-same : {p p′ q q′ u u′ r r′ : Bool} → p ≡ p′ → q ≡ q′ → u ≡ u′ → r ≡ r′
-    → _≡_ {A = HoldingRules} (record { houses = p; owners = q; holdings = u; loads = r }) (record { houses = p′; owners = q′; holdings = u′; loads = r′ })
+    → _≡_ {A = HoldingRules} (record { tenants = p; owners = q; holdings = u; commitments = r }) (record { tenants = p′; owners = q′; holdings = u′; commitments = r′ })
 holding-same a b c d = cc
 
 pub holding-are : (s : State) (n m : ℕ) (h : HeldTable) {p q u r : Bool} → n ≡ tenantsIn s → m ≡ scopesIn s
-    → p ≡ allBy noneH (drop n (h .tenants)) → q ≡ pairsBy apartSets (h .tenants) → u ≡ allTo (limitsIn s h n) m → r ≡ allTo (loadIn s h n) m
-    → _≡_ {A = HoldingRules} (record { houses = p; owners = q; holdings = u; loads = r }) (holdingRulesIn s h)
+    → p ≡ allBy noneH (drop n (h .tenants)) → q ≡ pairsBy apartSets (h .tenants) → u ≡ allTo (limitsIn s h n) m → r ≡ allTo (committedIn s h n) m
+    → _≡_ {A = HoldingRules} (record { tenants = p; owners = q; holdings = u; commitments = r }) (holdingRulesIn s h)
 unfolding holdingRulesIn
 holding-are s n m h en em p q u r =
-    holding-same (p ∙ ap (λ (x : ℕ). allBy noneH (drop x (h .tenants))) en) q (u ∙ ap₂ (λ (x y : ℕ). allTo (limitsIn s h x) y) en em) (r ∙ ap₂ (λ (x y : ℕ). allTo (loadIn s h x) y) en em)
+    holding-same (p ∙ ap (λ (x : ℕ). allBy noneH (drop x (h .tenants))) en) q (u ∙ ap₂ (λ (x y : ℕ). allTo (limitsIn s h x) y) en em) (r ∙ ap₂ (λ (x y : ℕ). allTo (committedIn s h x) y) en em)
 
 pub drop-map : {A B : Type 0} (g : A → B) (n : ℕ) (l : List A) → drop n (map g l) ≡ map g (drop n l)
 drop-map g zero l = refl
 drop-map g (suc n) [] = refl
 drop-map g (suc n) (x ∷ l) = drop-map g n l
 
-houses-are : (s : State) (b : LeaseTable) → allBy noneH (drop (tenantsIn s) (holdingsOf b .tenants)) ≡ housesB s b
-unfolding holdingsOf housesB noneH heldSets noneB
-houses-are s b = ap (allBy noneH) (drop-map heldSets (tenantsIn s) (b .tenants)) ∙ all-map noneH heldSets (drop (tenantsIn s) (b .tenants))
+known-are : (s : State) (b : LeaseTable) → allBy noneH (drop (tenantsIn s) (holdingsOf b .tenants)) ≡ tenantsB s b
+unfolding holdingsOf tenantsB noneH heldSets noneB
+known-are s b = ap (allBy noneH) (drop-map heldSets (tenantsIn s) (b .tenants)) ∙ all-map noneH heldSets (drop (tenantsIn s) (b .tenants))
 
 holdings-in : (s : State) (b : LeaseTable) → holdingRulesIn s (holdingsOf b) ≡ holdingRulesOf s b
 unfolding holdingRulesIn holdingRulesOf
 holdings-in s b =
-    holding-same (houses-are s b) (owners-are b (holdingsOf b) refl refl) (limits-are s b (holdingsOf b) refl refl refl refl) (loads-are s b (holdingsOf b) refl refl refl refl)
+    holding-same (known-are s b) (owners-are b (holdingsOf b) refl refl) (limits-are s b (holdingsOf b) refl refl refl refl) (commitments-are s b (holdingsOf b) refl refl refl refl)
 
 pub table-is : (s : State) (b : LeaseTable) (all : TenantRules) (h : HeldTable) → all ≡ tenantsAll s b → h .tenants ≡ map heldSets (b .tenants)
     → _≡_ {A = TableRules} (record { rules = all; held = h }) (tableRulesOf s b)
@@ -435,7 +435,7 @@ unfolding tableRulesOf
 table-is s b all h p q = ap₂ {C = TableRules} (λ (x : TenantRules) (y : HeldTable). record { rules = x; held = y }) p (holdings-are b h q)
 
 pub joined-is : (a : SettingsRules) (b : TenantRules) (c : HoldingRules) {limit lease layout : Bool}
-    → limit ≡ (a .counts && b .records) → lease ≡ (c .houses && b .leases) → layout ≡ (a .unused && b .layout)
+    → limit ≡ (a .counts && b .records) → lease ≡ (c .tenants && b .leases) → layout ≡ (a .unused && b .layout)
     → _≡_ {A = Rules} (record {
       limits = limit;
       offsets = b .offsets;
@@ -448,7 +448,7 @@ pub joined-is : (a : SettingsRules) (b : TenantRules) (c : HoldingRules) {limit 
       owners = c .owners;
       periods = b .periods;
       holdings = c .holdings;
-      loads = c .loads;
+      commitments = c .commitments;
       layout = layout;
     }) (joinedRules a b c)
 unfolding joinedRules

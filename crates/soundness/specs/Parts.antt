@@ -24,20 +24,20 @@ use Rattle.soundness.specs.declared.SettingsRules.{SettingsRules}
 use Rattle.soundness.specs.declared.HoldingRules.{HoldingRules}
 use Rattle.soundness.specs.declared.Held.{Held}
 use Rattle.soundness.specs.declared.HeldTable.{HeldTable}
-use Rattle.soundness.specs.Sound.{tenantsIn, scopesIn, reserveAt, limitAt, sizeB, countsB, idB, recordsB, offsetsB, rule3, poolB, poolsApart, rule4, ttlB, rule5, sharesB, rule6, leaseB, housesB, disjoint, rule9, calm, rule11, rule12, layoutB, paddedB, tailB, settingsB}
+use Rattle.soundness.specs.Sound.{tenantsIn, scopesIn, reserveAt, limitAt, sizeB, countsB, idB, recordsB, offsetsB, rule3, poolB, poolsApart, rule4, ttlB, rule5, reservesB, rule6, leaseB, tenantsB, disjoint, rule9, compatible, rule11, rule12, layoutB, paddedB, tailB, settingsB}
 
 abbrev pub noRange : ClientRange
 noRange = record { low = 0; high = 0 }
 
 -- ---- scopes
 unfoldable pub scopeRulesOf : ℕ → Scope → ScopeRules
-scopeRulesOf n c = record { sizes = sizeB c; pools = poolB c; ttls = ttlB c; reserves = sharesB n c; tails = tailB n c }
+scopeRulesOf n c = record { sizes = sizeB c; pools = poolB c; ttls = ttlB c; reserves = reservesB n c; tails = tailB n c }
 
 unfoldable pub andScopes : ℕ → ScopeRules → Scope → ScopeRules
-andScopes n a c = record { sizes = a .sizes && sizeB c; pools = a .pools && poolB c; ttls = a .ttls && ttlB c; reserves = a .reserves && sharesB n c; tails = a .tails && tailB n c }
+andScopes n a c = record { sizes = a .sizes && sizeB c; pools = a .pools && poolB c; ttls = a .ttls && ttlB c; reserves = a .reserves && reservesB n c; tails = a .tails && tailB n c }
 
 unfoldable pub scopesAll : ℕ → List Scope → ScopeRules
-scopesAll n l = record { sizes = allBy sizeB l; pools = allBy poolB l; ttls = allBy ttlB l; reserves = allBy (sharesB n) l; tails = allBy (tailB n) l }
+scopesAll n l = record { sizes = allBy sizeB l; pools = allBy poolB l; ttls = allBy ttlB l; reserves = allBy (reservesB n) l; tails = allBy (tailB n) l }
 
 -- ---- leases
 unfoldable pub leaseRulesOf : State → Lease → LeaseRules
@@ -56,7 +56,7 @@ tenantRulesOf s t = record {
   offsets = allBy (offsetsB s) (inUse t);
   leases = allBy (leaseB s) (inUse t);
   identifiers = pairsBy differ (inUse t);
-  periods = pairsBy calm (inUse t);
+  periods = pairsBy compatible (inUse t);
   layout = layoutB t;
 }
 
@@ -66,7 +66,7 @@ andTenants s a t = record {
   offsets = a .offsets && allBy (offsetsB s) (inUse t);
   leases = a .leases && allBy (leaseB s) (inUse t);
   identifiers = a .identifiers && pairsBy differ (inUse t);
-  periods = a .periods && pairsBy calm (inUse t);
+  periods = a .periods && pairsBy compatible (inUse t);
   layout = a .layout && layoutB t;
 }
 
@@ -76,7 +76,7 @@ tenantsAll s b = record {
   offsets = allBy (allBy (offsetsB s)) (leasesOf b);
   leases = allBy (allBy (leaseB s)) (leasesOf b);
   identifiers = allBy (pairsBy differ) (leasesOf b);
-  periods = allBy (pairsBy calm) (leasesOf b);
+  periods = allBy (pairsBy compatible) (leasesOf b);
   layout = allBy layoutB (b .tenants);
 }
 
@@ -126,8 +126,8 @@ limitsIn s h n k = allTo (limitIn h (scopeAt s k) k) n
 unfoldable pub loadOn : HeldTable → Scope → ℕ → ℕ → ℕ
 loadOn h c k g = max (countIn h k g) (reserveAt c g)
 
-unfoldable pub loadIn : State → HeldTable → ℕ → ℕ → Bool
-loadIn s h n k = leb (sumTo (loadOn h (scopeAt s k) k) n) (scopeAt s k .size)
+unfoldable pub committedIn : State → HeldTable → ℕ → ℕ → Bool
+committedIn s h n k = leb (sumTo (loadOn h (scopeAt s k) k) n) (scopeAt s k .size)
 
 -- ---- the three parts of all rules
 unfoldable pub settingsRulesOf : State → SettingsRules
@@ -138,14 +138,14 @@ noneH h = eqb (h .count) 0
 
 unfoldable pub holdingRulesIn : State → HeldTable → HoldingRules
 holdingRulesIn s h = record {
-  houses = allBy noneH (drop (tenantsIn s) (h .tenants));
+  tenants = allBy noneH (drop (tenantsIn s) (h .tenants));
   owners = pairsBy apartSets (h .tenants);
   holdings = allTo (limitsIn s h (tenantsIn s)) (scopesIn s);
-  loads = allTo (loadIn s h (tenantsIn s)) (scopesIn s);
+  commitments = allTo (committedIn s h (tenantsIn s)) (scopesIn s);
 }
 
 unfoldable pub holdingRulesOf : State → LeaseTable → HoldingRules
-holdingRulesOf s t = record { houses = housesB s t; owners = rule9 t; holdings = rule11 s t; loads = rule12 s t }
+holdingRulesOf s t = record { tenants = tenantsB s t; owners = rule9 t; holdings = rule11 s t; commitments = rule12 s t }
 
 unfoldable pub tableRulesOf : State → LeaseTable → TableRules
 tableRulesOf s t = record { rules = tenantsAll s t; held = holdingsOf t }
@@ -158,11 +158,11 @@ joinedRules a b c = record {
   pools = a .pools;
   ttls = a .ttls;
   reserves = a .reserves;
-  leases = c .houses && b .leases;
+  leases = c .tenants && b .leases;
   identifiers = b .identifiers;
   owners = c .owners;
   periods = b .periods;
   holdings = c .holdings;
-  loads = c .loads;
+  commitments = c .commitments;
   layout = a .unused && b .layout;
 }

@@ -20,8 +20,8 @@ use Rattle.state.specs.Book.{inUse, leasesOf, differ, ordered, live, overlaps, 
 use Rattle.soundness.specs.declared.Rules.{Rules}
 
 -- from 1 to most
-unfoldable pub few : ℕ → ℕ → Bool
-few most n = leb 1 n && leb n most
+unfoldable pub oneTo : ℕ → ℕ → Bool
+oneTo most n = leb 1 n && leb n most
 
 -- how many tenants and scopes there are; a count above the limit, which rule 1 refuses, stands for the limit
 abbrev pub tenantsIn : State → ℕ
@@ -38,7 +38,7 @@ limitAt c g = getD (c .limit) g 0
 
 -- ---- 1. counts, sizes and identifier lengths within the limits
 unfoldable pub sizeB : Scope → Bool
-sizeB c = few 64 (c .size)
+sizeB c = oneTo 64 (c .size)
 
 unfoldable pub idB : Lease → Bool
 idB l = leb 2 (l .«id_len») && leb (l .«id_len») 32
@@ -47,14 +47,14 @@ unfoldable pub recordsB : TenantLeases → Bool
 recordsB t = leb (t .count) 16 && allBy idB (inUse t)
 
 unfoldable pub countsB : State → Bool
-countsB s = few 8 (s .«tenant_count») && (few 4 (s .«scope_count») && allBy sizeB (scopesOf s))
+countsB s = oneTo 8 (s .«tenant_count») && (oneTo 4 (s .«scope_count») && allBy sizeB (scopesOf s))
 
 unfoldable pub rule1 : State → LeaseTable → Bool
 rule1 s t = countsB s && allBy recordsB (t .tenants)
 
 -- ---- 2. offsets below the scope's size; a lease in an unknown scope, which rule 7 refuses, is passed over
 abbrev pub scopeKnown : State → Lease → Bool
-scopeKnown s l = few (s .«scope_count») (l .scope)
+scopeKnown s l = oneTo (s .«scope_count») (l .scope)
 
 abbrev pub scopeOf : State → Lease → Scope
 scopeOf s l = scopeAt s (l .scope - 1)
@@ -97,14 +97,14 @@ unfoldable pub rule5 : State → Bool
 rule5 s = allBy ttlB (scopesOf s)
 
 -- ---- 6. share at most limit at most size, shares together at most size
-unfoldable pub shareB : Scope → ℕ → Bool
-shareB c g = leb (reserveAt c g) (limitAt c g) && leb (limitAt c g) (c .size)
+unfoldable pub reserveB : Scope → ℕ → Bool
+reserveB c g = leb (reserveAt c g) (limitAt c g) && leb (limitAt c g) (c .size)
 
-unfoldable pub sharesB : ℕ → Scope → Bool
-sharesB n c = allTo (shareB c) n && leb (sumTo (reserveAt c) n) (c .size)
+unfoldable pub reservesB : ℕ → Scope → Bool
+reservesB n c = allTo (reserveB c) n && leb (sumTo (reserveAt c) n) (c .size)
 
 unfoldable pub rule6 : State → Bool
-rule6 s = allBy (sharesB (tenantsIn s)) (scopesOf s)
+rule6 s = allBy (reservesB (tenantsIn s)) (scopesOf s)
 
 -- ---- 7. each lease names a known house and scope, has type 3 or 4, start before end, end after the clock and an address
 unfoldable pub kindB : Lease → Bool
@@ -121,11 +121,11 @@ leaseB s l = scopeKnown s l && (kindB l && periodB (s .clock) l)
 unfoldable pub noneB : TenantLeases → Bool
 noneB t = eqb (t .count) 0
 
-unfoldable pub housesB : State → LeaseTable → Bool
-housesB s t = allBy noneB (drop (tenantsIn s) (t .tenants))
+unfoldable pub tenantsB : State → LeaseTable → Bool
+tenantsB s t = allBy noneB (drop (tenantsIn s) (t .tenants))
 
 unfoldable pub rule7 : State → LeaseTable → Bool
-rule7 s t = housesB s t && allBy (allBy (leaseB s)) (leasesOf t)
+rule7 s t = tenantsB s t && allBy (allBy (leaseB s)) (leasesOf t)
 
 -- ---- 8. identifiers differ within a house
 unfoldable pub rule8 : LeaseTable → Bool
@@ -145,13 +145,13 @@ apart a b = apartIn 1 a b && (apartIn 2 a b && (apartIn 3 a b && apartIn 4 a b))
 unfoldable pub rule9 : LeaseTable → Bool
 rule9 t = pairsBy apart (leasesOf t)
 
--- ---- 10. leases on one address don't overlap; by rule 9 they are of one house, so that it holds of all leases (`sound-calm`)
+-- ---- 10. leases on one address don't overlap; by rule 9 they are of one house, so that it holds of all leases (`sound-compatible`)
 -- two leases of one scope whose periods overlap have no address in common
-unfoldable pub calm : Lease → Lease → Bool
-calm a b = pick (inScope (b .scope) a) (pick (overlaps (b .start) (b .end) a) (disjoint (a .addresses) (b .addresses)) true) true
+unfoldable pub compatible : Lease → Lease → Bool
+compatible a b = pick (inScope (b .scope) a) (pick (overlaps (b .start) (b .end) a) (disjoint (a .addresses) (b .addresses)) true) true
 
 unfoldable pub rule10 : LeaseTable → Bool
-rule10 t = allBy (pairsBy calm) (leasesOf t)
+rule10 t = allBy (pairsBy compatible) (leasesOf t)
 
 -- ---- 11. each holding at most its limit
 -- how many addresses tenant g has in scope s, counted from its leases
@@ -171,11 +171,11 @@ rule11 s t = allTo (limitsB s t) (scopesIn s)
 unfoldable pub load : LeaseTable → Scope → ℕ → ℕ → ℕ
 load t c s g = max (holding t s g) (reserveAt c g)
 
-unfoldable pub loadB : State → LeaseTable → ℕ → Bool
-loadB s t k = leb (sumTo (load t (scopeAt s k) (k + 1)) (tenantsIn s)) (scopeAt s k .size)
+unfoldable pub committedB : State → LeaseTable → ℕ → Bool
+committedB s t k = leb (sumTo (load t (scopeAt s k) (k + 1)) (tenantsIn s)) (scopeAt s k .size)
 
 unfoldable pub rule12 : State → LeaseTable → Bool
-rule12 s t = allTo (loadB s t) (scopesIn s)
+rule12 s t = allTo (committedB s t) (scopesIn s)
 
 -- ---- 13. a house's leases stand in the file's order; what is unused is zero: octets past an identifier's length, records, settings entries,
 -- shares and limits past the last house
@@ -223,14 +223,14 @@ rulesOf s t = record {
   owners = rule9 t;
   periods = rule10 t;
   holdings = rule11 s t;
-  loads = rule12 s t;
+  commitments = rule12 s t;
   layout = rule13 s t;
 }
 
 -- of rules 7 to 13, the number of the first that is broken, or 0
 unfoldable pub firstLate : Rules → ℕ
 firstLate r =
-    pick (r .leases) (pick (r .identifiers) (pick (r .owners) (pick (r .periods) (pick (r .holdings) (pick (r .loads) (pick (r .layout) 0 13) 12) 11) 10) 9) 8) 7
+    pick (r .leases) (pick (r .identifiers) (pick (r .owners) (pick (r .periods) (pick (r .holdings) (pick (r .commitments) (pick (r .layout) 0 13) 12) 11) 10) 9) 8) 7
 
 -- the number of the first rule that is broken, or 0
 unfoldable pub firstBroken : Rules → ℕ

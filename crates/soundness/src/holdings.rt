@@ -4,7 +4,7 @@ ghost use Prim.Native.Nat.{_<_, _≤_};
 ghost use lib.ListN.{drop};
 ghost use Rattle.lists.specs.All.{allBy, pairsBy, allTo};
 ghost use Rattle.lists.specs.Sums.{sumTo};
-ghost use Rattle.soundness.specs.Parts.{heldSets, addedSets, apartSets, countIn, limitIn, limitsIn, loadOn, loadIn, noneH, holdingRulesIn};
+ghost use Rattle.soundness.specs.Parts.{heldSets, addedSets, apartSets, countIn, limitIn, limitsIn, loadOn, committedIn, noneH, holdingRulesIn};
 use crate::Held;
 use crate::HeldTable;
 use crate::HoldingRules;
@@ -125,7 +125,7 @@ fn all_limits_ok(s: State, h: HeldTable, n: usize, m: usize) -> bool
     true
 }
 
-fn load_on(h: HeldTable, c: Scope, k: usize, g: usize) -> u32
+fn committed(h: HeldTable, c: Scope, k: usize, g: usize) -> u32
     requires { ⌜ (k < 4) × (g < 8) ⌝ }
     ensures { λ r. ⌜ (r ≡ loadOn h c k g) × (r < 256) ⌝ }
 {
@@ -134,36 +134,36 @@ fn load_on(h: HeldTable, c: Scope, k: usize, g: usize) -> u32
     arithmetic::larger(d, reserve as u32)
 }
 
-fn load_sum(h: HeldTable, c: Scope, k: usize, n: usize) -> u32
+fn committed_sum(h: HeldTable, c: Scope, k: usize, n: usize) -> u32
     requires { ⌜ (n ≤ 8) × (k < 4) ⌝ }
     ensures { λ r. ⌜ r ≡ sumTo (loadOn h c k) n ⌝ }
 {
     let mut sum: u32 = 0;
     let mut g: usize = 0;
     while g < n {
-        let x = load_on(h, c, k, g);
+        let x = committed(h, c, k, g);
         sum += x;
         g += 1;
     }
     sum
 }
 
-fn load_ok(s: State, h: HeldTable, n: usize, k: usize) -> bool
+fn committed_ok(s: State, h: HeldTable, n: usize, k: usize) -> bool
     requires { ⌜ (n ≤ 8) × (k < 4) ⌝ }
-    ensures { λ r. ⌜ r ≡ loadIn s h n k ⌝ }
+    ensures { λ r. ⌜ r ≡ committedIn s h n k ⌝ }
 {
     let c = state::scope_at(s, k);
-    let sum = load_sum(h, c, k, n);
+    let sum = committed_sum(h, c, k, n);
     sum <= (c.size as u32)
 }
 
-fn all_loads_ok(s: State, h: HeldTable, n: usize, m: usize) -> bool
+fn all_committed_ok(s: State, h: HeldTable, n: usize, m: usize) -> bool
     requires { ⌜ (n ≤ 8) × (m ≤ 4) ⌝ }
-    ensures { λ r. ⌜ r ≡ allTo (loadIn s h n) m ⌝ }
+    ensures { λ r. ⌜ r ≡ allTo (committedIn s h n) m ⌝ }
 {
     let mut k: usize = 0;
     while k < m {
-        if !load_ok(s, h, n, k) {
+        if !committed_ok(s, h, n, k) {
             return false;
         }
         k += 1;
@@ -200,11 +200,11 @@ pub fn holding_rules(s: State, h: HeldTable) -> HoldingRules
     let house = rest_none(h, n);
     let owner = all_held_apart(h);
     let limit = all_limits_ok(s, h, n, m);
-    let load = all_loads_ok(s, h, n, m);
+    let load = all_committed_ok(s, h, n, m);
     HoldingRules {
-        houses: house,
+        tenants: house,
         owners: owner,
         holdings: limit,
-        loads: load,
+        commitments: load,
     }
 }

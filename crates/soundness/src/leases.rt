@@ -5,7 +5,7 @@ ghost use Rattle.soundness.specs.Sound.{idB, belowB, scopeOf, offsetsB, 
 ghost use Rattle.soundness.specs.Parts.{leaseRulesOf, andLeases, leasesAll};
 use crate::LeaseRules;
 use crate::numbers::both;
-use crate::numbers::is_few;
+use crate::numbers::is_one_to;
 use crate::numbers::zeros32;
 use message::MessageType;
 use state::Lease;
@@ -33,7 +33,7 @@ fn within(s: State, l: Lease) -> bool
 fn offsets_ok(s: State, l: Lease) -> bool
     ensures { λ r. ⌜ r ≡ offsetsB s l ⌝ }
 {
-    if is_few(s.scope_count, l.scope) {
+    if is_one_to(s.scope_count, l.scope) {
         return within(s, l);
     }
     true
@@ -62,7 +62,7 @@ fn period_ok(clock: u32, l: Lease) -> bool
 fn lease_ok(s: State, l: Lease) -> bool
     ensures { λ r. ⌜ r ≡ leaseB s l ⌝ }
 {
-    if is_few(s.scope_count, l.scope) {
+    if is_one_to(s.scope_count, l.scope) {
         if kind_ok(l) {
             return period_ok(s.clock, l);
         }

@@ -33,7 +33,7 @@ pub struct Rules {
     pub owners: bool,
     pub periods: bool,
     pub holdings: bool,
-    pub loads: bool,
+    pub commitments: bool,
     pub layout: bool,
 }
 
@@ -76,10 +76,10 @@ struct SettingsRules {
 
 // The rules on what all tenants hold.
 struct HoldingRules {
-    houses: bool,
+    tenants: bool,
     owners: bool,
     holdings: bool,
-    loads: bool,
+    commitments: bool,
 }
 
 // A tenant's addresses, scope by scope, and its number of records.
@@ -133,7 +133,7 @@ fn join_rules(a: SettingsRules, b: TenantRules, c: HoldingRules) -> Rules
     ensures { λ r. ⌜ r ≡ joinedRules a b c ⌝ }
 {
     let limit = both(a.counts, b.records);
-    let lease = both(c.houses, b.leases);
+    let lease = both(c.tenants, b.leases);
     let layout = both(a.unused, b.layout);
     Rules {
         limits: limit,
@@ -147,7 +147,7 @@ fn join_rules(a: SettingsRules, b: TenantRules, c: HoldingRules) -> Rules
         owners: c.owners,
         periods: b.periods,
         holdings: c.holdings,
-        loads: c.loads,
+        commitments: c.commitments,
         layout: layout,
     }
 }
@@ -182,7 +182,7 @@ fn first_late(r: Rules) -> u8
     if !r.holdings {
         return 11;
     }
-    if !r.loads {
+    if !r.commitments {
         return 12;
     }
     if !r.layout {

@@ -3,7 +3,7 @@ ghost use mathlib.Core.Path.{_≡_};
 ghost use mathlib.Core.Bool.{_&&_};
 ghost use lib.Dec.{ltb};
 ghost use Rattle.lists.specs.Pick.{pick};
-ghost use Rattle.soundness.specs.Sound.{few, disjoint, zeroFrom};
+ghost use Rattle.soundness.specs.Sound.{oneTo, disjoint, zeroFrom};
 
 pub fn both(a: bool, b: bool) -> bool
     ensures { λ r. ⌜ r ≡ (a && b) ⌝ }
@@ -14,8 +14,8 @@ pub fn both(a: bool, b: bool) -> bool
     false
 }
 
-pub fn is_few(most: u8, n: u8) -> bool
-    ensures { λ r. ⌜ r ≡ few most n ⌝ }
+pub fn is_one_to(most: u8, n: u8) -> bool
+    ensures { λ r. ⌜ r ≡ oneTo most n ⌝ }
 {
     if 1 <= n {
         return n <= most;

@@ -6,12 +6,12 @@ ghost use lib.ListN.{drop};
 ghost use Rattle.lists.specs.All.{allBy, pairsBy, allTo};
 ghost use Rattle.lists.specs.Sums.{sumTo};
 ghost use Rattle.state.specs.Book.{rangesOf, scopesOf};
-ghost use Rattle.soundness.specs.Sound.{few, reserveAt, rangeB, rangesApart, rule3, poolB, poolsApart, shareB, sharesB, rangeZero, tailB, scopeZero};
+ghost use Rattle.soundness.specs.Sound.{oneTo, reserveAt, rangeB, rangesApart, rule3, poolB, poolsApart, reserveB, reservesB, rangeZero, tailB, scopeZero};
 ghost use Rattle.soundness.specs.Parts.{scopeRulesOf, andScopes, scopesAll, settingsRulesOf};
 use crate::ScopeRules;
 use crate::SettingsRules;
 use crate::numbers::both;
-use crate::numbers::is_few;
+use crate::numbers::is_one_to;
 use crate::numbers::octet;
 use crate::numbers::zeros8;
 use state::ClientRange;
@@ -128,9 +128,9 @@ fn pools_all_apart(s: State) -> bool
     true
 }
 
-fn share_ok(c: Scope, g: usize) -> bool
+fn reserve_ok(c: Scope, g: usize) -> bool
     requires { ⌜ g < 8 ⌝ }
-    ensures { λ r. ⌜ r ≡ shareB c g ⌝ }
+    ensures { λ r. ⌜ r ≡ reserveB c g ⌝ }
 {
     let reserve = c.reserve[g];
     let limit = c.limit[g];
@@ -140,13 +140,13 @@ fn share_ok(c: Scope, g: usize) -> bool
     false
 }
 
-fn each_share_ok(n: usize, c: Scope) -> bool
+fn each_reserve_ok(n: usize, c: Scope) -> bool
     requires { ⌜ n ≤ 8 ⌝ }
-    ensures { λ r. ⌜ r ≡ allTo (shareB c) n ⌝ }
+    ensures { λ r. ⌜ r ≡ allTo (reserveB c) n ⌝ }
 {
     let mut g: usize = 0;
     while g < n {
-        if !share_ok(c, g) {
+        if !reserve_ok(c, g) {
             return false;
         }
         g += 1;
@@ -168,11 +168,11 @@ fn reserves(n: usize, c: Scope) -> u32
     sum
 }
 
-fn shares_ok(n: usize, c: Scope) -> bool
+fn reserves_ok(n: usize, c: Scope) -> bool
     requires { ⌜ n ≤ 8 ⌝ }
-    ensures { λ r. ⌜ r ≡ sharesB n c ⌝ }
+    ensures { λ r. ⌜ r ≡ reservesB n c ⌝ }
 {
-    if each_share_ok(n, c) {
+    if each_reserve_ok(n, c) {
         let sum = reserves(n, c);
         return sum <= (c.size as u32);
     }
@@ -194,9 +194,9 @@ fn scope_rules(n: usize, c: Scope) -> ScopeRules
     requires { ⌜ n ≤ 8 ⌝ }
     ensures { λ r. ⌜ r ≡ scopeRulesOf n c ⌝ }
 {
-    let size = is_few(64, c.size);
+    let size = is_one_to(64, c.size);
     let pool = pool_ok(c);
-    let reserve = shares_ok(n, c);
+    let reserve = reserves_ok(n, c);
     let tail = tail_ok(n, c);
     ScopeRules {
         sizes: size,
@@ -300,10 +300,10 @@ fn scopes_unused(s: State, m: usize) -> bool
 }
 
 fn counts_ok(s: State, sizes: bool) -> bool
-    ensures { λ r. ⌜ r ≡ (few 8 (s .«tenant_count») && (few 4 (s .«scope_count») && sizes)) ⌝ }
+    ensures { λ r. ⌜ r ≡ (oneTo 8 (s .«tenant_count») && (oneTo 4 (s .«scope_count») && sizes)) ⌝ }
 {
-    if is_few(8, s.tenant_count) {
-        if is_few(4, s.scope_count) {
+    if is_one_to(8, s.tenant_count) {
+        if is_one_to(4, s.scope_count) {
             return sizes;
         }
     }

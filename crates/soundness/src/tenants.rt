@@ -5,7 +5,7 @@ ghost use Prim.Native.Nat.{_≤_};
 ghost use lib.ListN.{drop};
 ghost use Rattle.lists.specs.All.{allBy, pairsBy};
 ghost use Rattle.state.specs.Book.{differ, inUse, ordered};
-ghost use Rattle.soundness.specs.Sound.{calm, blankB, unusedB};
+ghost use Rattle.soundness.specs.Sound.{compatible, blankB, unusedB};
 ghost use Rattle.soundness.specs.Parts.{tenantRulesOf, bothTenants};
 use crate::TenantRules;
 use crate::leases::leases_rules;
@@ -56,8 +56,8 @@ fn names_differ(a: Lease, b: Lease) -> bool
     true
 }
 
-fn are_calm(a: Lease, b: Lease) -> bool
-    ensures { λ r. ⌜ r ≡ calm a b ⌝ }
+fn are_compatible(a: Lease, b: Lease) -> bool
+    ensures { λ r. ⌜ r ≡ compatible a b ⌝ }
 {
     if a.scope == b.scope {
         if state::overlapping(a, b.start, b.end as u64) {
@@ -142,8 +142,8 @@ fn ids_differ(t: TenantLeases, rising: bool) -> bool
     all_differ(t)
 }
 
-fn all_calm(t: TenantLeases) -> bool
-    ensures { λ r. ⌜ r ≡ pairsBy calm (inUse t) ⌝ }
+fn all_compatible(t: TenantLeases) -> bool
+    ensures { λ r. ⌜ r ≡ pairsBy compatible (inUse t) ⌝ }
 {
     let n = state::cut16(t.count);
     let mut i: usize = 0;
@@ -153,7 +153,7 @@ fn all_calm(t: TenantLeases) -> bool
             let a = t.leases[i];
             let b = t.leases[j];
             j += 1;
-            if !are_calm(a, b) {
+            if !are_compatible(a, b) {
                 return false;
             }
         } else {
@@ -182,7 +182,7 @@ pub fn tenant_rules(s: State, t: TenantLeases) -> TenantRules
     let rising = all_rise(t);
     let record = both(t.count <= 16, l.ids);
     let identifier = ids_differ(t, rising);
-    let period = all_calm(t);
+    let period = all_compatible(t);
     let layout = layout_ok(t, rising, l.padded);
     TenantRules {
         records: record,

@@ -18,54 +18,54 @@ use Rattle.state.specs.Layout.{push-laid}
 use Rattle.state.specs.declared.Lease.{Lease}
 use Rattle.state.specs.declared.TenantLeases.{TenantLeases}
 use Rattle.state_file.specs.File.{FileLease}
-use Rattle.state_file.specs.Place.{AllHeld, Held, Inside, keepOne, keptFrom, keptOf, leaseAt, leasesAt, nextAt}
+use Rattle.state_file.specs.Place.{AllStorable, Storable, Inside, keepOne, keptFrom, keptOf, fileLeaseAt, leasesAt, nextAt}
 use Rattle.state_file.specs.Records.{fewOf, ofTenant, stored, tenantsFrom}
 
 pub next-at : (s : List ℕ) (at n k : ℕ) → n ≡ getD s (at + 2) 0 → k ≡ getD s (at + (n + 16)) 0 → at + (n + 17 + k) ≡ nextAt s at
 unfolding nextAt
 next-at s at n k en ek = ap₂ (λ (x y : ℕ). at + (x + 17 + y)) en (ek ∙ ap (λ (z : ℕ). getD s (at + (z + 16)) 0) en)
 
-pub keep-yes : (s : List ℕ) (at t : ℕ) (h r : TenantLeases) (l : Lease) → getD s at 0 ≡ t → l ≡ stored (leaseAt s at) → r ≡ pushed h l → r ≡ keepOne t h (leaseAt s at)
-unfolding keepOne leaseAt
+pub keep-yes : (s : List ℕ) (at t : ℕ) (h r : TenantLeases) (l : Lease) → getD s at 0 ≡ t → l ≡ stored (fileLeaseAt s at) → r ≡ pushed h l → r ≡ keepOne t h (fileLeaseAt s at)
+unfolding keepOne fileLeaseAt
 keep-yes s at t h r l e p q = pick-eq _ _ _ (getD s at 0) t e (q ∙ ap (pushed h) p)
 
-pub keep-not : (s : List ℕ) (at t : ℕ) (h : TenantLeases) → (getD s at 0 ≡ t → ⊥) → h ≡ keepOne t h (leaseAt s at)
-unfolding keepOne leaseAt
+pub keep-not : (s : List ℕ) (at t : ℕ) (h : TenantLeases) → (getD s at 0 ≡ t → ⊥) → h ≡ keepOne t h (fileLeaseAt s at)
+unfolding keepOne fileLeaseAt
 keep-not s at t h e = pick-not-eq _ _ _ (getD s at 0) t e refl
 
 pub record FillInv (s : List ℕ) (from count t : ℕ) (out : TenantLeases) (here i : ℕ) : Type 0 where
   pub within : i ≤ count
-  pub held : AllHeld s here (count - i)
+  pub held : AllStorable s here (count - i)
   pub whole : fold (keepOne t) out (leasesAt s here (count - i)) ≡ keptOf t (leasesAt s from count)
 
-pub fill-start : {s : List ℕ} {from count : ℕ} (t : ℕ) (out : TenantLeases) → AllHeld s from count → out ≡ (laidOut []) → FillInv s from count t out from 0
+pub fill-start : {s : List ℕ} {from count : ℕ} (t : ℕ) (out : TenantLeases) → AllStorable s from count → out ≡ (laidOut []) → FillInv s from count t out from 0
 unfolding keptOf
 fill-start {s} {from} {count} t out h e =
     let z : count - 0 ≡ count = omega arith in
     record {
       within = omega arith;
-      held = subst (λ (k : ℕ). AllHeld s from k) (sym z) h;
+      held = subst (λ (k : ℕ). AllStorable s from k) (sym z) h;
       whole = ap₂ (λ (o : TenantLeases) (k : ℕ). fold (keepOne t) o (leasesAt s from k)) e z;
     }
 
 module _ {s : List ℕ} {from count t : ℕ} {out : TenantLeases} {here i : ℕ} (v : FillInv s from count t out here i) where
-  head : i < count → Held s here × AllHeld s (nextAt s here) (count - (i + 1))
-  unfolding AllHeld
-  head h = let e : count - i ≡ suc (count - (i + 1)) = omega arith in subst (λ (k : ℕ). AllHeld s here k) e (v .held)
+  head : i < count → Storable s here × AllStorable s (nextAt s here) (count - (i + 1))
+  unfolding AllStorable
+  head h = let e : count - i ≡ suc (count - (i + 1)) = omega arith in subst (λ (k : ℕ). AllStorable s here k) e (v .held)
 
-  pub fill-held : i < count → Held s here
+  pub fill-held : i < count → Storable s here
   fill-held h = head h .0
 
   pub fill-inside : i < count → Inside s here
   fill-inside h = record { room = head h .0 .room }
 
-  pub fill-next : (r : TenantLeases) (n : ℕ) → i < count → r ≡ keepOne t out (leaseAt s here) → n ≡ nextAt s here → FillInv s from count t r n (i + 1)
+  pub fill-next : (r : TenantLeases) (n : ℕ) → i < count → r ≡ keepOne t out (fileLeaseAt s here) → n ≡ nextAt s here → FillInv s from count t r n (i + 1)
   unfolding leasesAt
   fill-next r n h e q =
       let z : count - i ≡ suc (count - (i + 1)) = omega arith in
       record {
         within = omega arith;
-        held = subst (λ (k : ℕ). AllHeld s k (count - (i + 1))) (sym q) (head h .1);
+        held = subst (λ (k : ℕ). AllStorable s k (count - (i + 1))) (sym q) (head h .1);
         whole = ap₂ (λ (o : TenantLeases) (k : ℕ). fold (keepOne t) o (leasesAt s k (count - (i + 1)))) e q ∙ sym (ap (λ (k : ℕ). fold (keepOne t) out (leasesAt s here k)) z) ∙ v .whole;
       }
 

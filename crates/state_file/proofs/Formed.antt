@@ -18,7 +18,7 @@ use Rattle.state_file.proofs.WholeForm.{Server, afterServer, afterTenan
 use Rattle.state_file.specs.File.{longestFile, FileLease, FilePart, FileScope, fileFormat, fileOf, leasesFormat, ofSections, scopeFormat, tenantFormat, toSections}
 use Rattle.state_file.specs.Format.{Format, Got, _▷_, bad, closed, counted, got}
 use Rattle.state_file.specs.FormatLaws.{Octets}
-use Rattle.state_file.specs.Place.{Formed, fileAt, isGot, leaseCount, leasesAt, leasesPlace, partAt, rangeAt, row, scopeAt, scopeCount, scopesPlace, tenantCount}
+use Rattle.state_file.specs.Place.{Formed, fileAt, isGot, leaseCount, leasesAt, leasesPlace, partAt, rangeAt, row, fileScopeAt, scopeCount, scopesPlace, tenantCount}
 
 same-row : {A : Type 0} (v w : List ℕ → ℕ → A) (z n : ℕ) (s : List ℕ) (at : ℕ) → ((x : ℕ) → v s x ≡ w s x) → row v z n s at ≡ row w z n s at
 unfolding row
@@ -33,8 +33,8 @@ same-range : (s : List ℕ) (at : ℕ) → fixed-tenant .value s at ≡ rangeAt 
 unfolding rangeAt fixed-tenant fixed-octet fixed-number fixed-both fixed-viewed fixed-as fixed-times fixed-pair
 same-range s at = refl
 
-same-scope : (h : ℕ) (s : List ℕ) (at : ℕ) → fixed-scope h .value s at ≡ scopeAt h s at
-unfolding scopeAt fixed-scope fixed-octet fixed-number fixed-both fixed-viewed fixed-as fixed-times fixed-pair
+same-scope : (h : ℕ) (s : List ℕ) (at : ℕ) → fixed-scope h .value s at ≡ fileScopeAt h s at
+unfolding fileScopeAt fixed-scope fixed-octet fixed-number fixed-both fixed-viewed fixed-as fixed-times fixed-pair
 same-scope h s at =
     let e5 : at + 4 + 1 ≡ at + 5 = omega arith in
     let e6 : at + 4 + 1 + 1 ≡ at + 6 = omega arith in
@@ -97,7 +97,7 @@ module _ (s : List ℕ) (e : isGot (fileOf s) ≡ true) where
 
   -- the sections one by one
   formed-read : (xs : List FileLease) → leasesFormat .read (drop (leasesPlace s) s) ≡ got xs []
-      → fileFormat .read s ≡ got (record { server = at32 s 1; clock = at32 s 5; tenants = row rangeAt 8 (tenantCount s) s 10; scopes = row (scopeAt (tenantCount s)) (6 + tenantCount s * 2) (scopeCount s) s (scopesPlace s + 1); leases = xs }) []
+      → fileFormat .read s ≡ got (record { server = at32 s 1; clock = at32 s 5; tenants = row rangeAt 8 (tenantCount s) s 10; scopes = row (fileScopeAt (tenantCount s)) (6 + tenantCount s * 2) (scopeCount s) s (scopesPlace s + 1); leases = xs }) []
   unfolding fixed-pair fixed-both fixed-number
   formed-read xs g =
       let h : ℕ = tenantCount s in
@@ -108,10 +108,10 @@ module _ (s : List ℕ) (e : isGot (fileOf s) ≡ true) where
       let tn : Stands (counted tenantFormat) s 9 ts (10 + h * 8) =
       stands-value (same-row (fixed-tenant .value) rangeAt 8 h s 10 (same-range s)) (counted-stands fixed-tenant s 9 h refl (omega (arith, formed-long)) (omega arith)) in
       let m : length ts ≡ h = row-length rangeAt 8 h s 10 in
-      let scs : List FileScope = row (scopeAt h) (6 + h * 2) k s (10 + h * 8 + 1) in
+      let scs : List FileScope = row (fileScopeAt h) (6 + h * 2) k s (10 + h * 8 + 1) in
       let sc : Stands (counted (scopeFormat (length ts))) s (10 + h * 8) scs (leasesPlace s) =
       subst (λ (n : ℕ). Stands (counted (scopeFormat n)) s (10 + h * 8) scs (leasesPlace s)) (sym m)
-      (stands-value (same-row (fixed-scope h .value) (scopeAt h) (6 + h * 2) k s (10 + h * 8 + 1) (same-scope h s)) (counted-stands (fixed-scope h) s (10 + h * 8) k refl ft fs)) in
+      (stands-value (same-row (fixed-scope h .value) (fileScopeAt h) (6 + h * 2) k s (10 + h * 8 + 1) (same-scope h s)) (counted-stands (fixed-scope h) s (10 + h * 8) k refl ft fs)) in
       let none : drop (length s) s ≡ [] = drop-of-length-le s {i = length s} (omega arith) in
       let le : Stands leasesFormat s (leasesPlace s) xs (length s) = record { reads = g ∙ ap (got xs) (sym none) } in
       let rest : Stands (afterTenants ts) s (10 + h * 8) (scs, xs) (length s) = stands-then (λ _. leasesFormat) sc le in
@@ -122,7 +122,7 @@ module _ (s : List ℕ) (e : isGot (fileOf s) ≡ true) where
   unfolding fileOf fileAt pick closed
   formed-file xs g w =
       ap (λ (b : Bool). pick b (closed (fileFormat .read s)) bad) (le-leb _ _ formed-short) ∙ ap closed (formed-read xs g)
-      ∙ ap (λ (l : List FileLease). got (record { server = at32 s 1; clock = at32 s 5; tenants = row rangeAt 8 (tenantCount s) s 10; scopes = row (scopeAt (tenantCount s)) (6 + tenantCount s * 2) (scopeCount s) s (scopesPlace s + 1); leases = l }) []) (sym w)
+      ∙ ap (λ (l : List FileLease). got (record { server = at32 s 1; clock = at32 s 5; tenants = row rangeAt 8 (tenantCount s) s 10; scopes = row (fileScopeAt (tenantCount s)) (6 + tenantCount s * 2) (scopeCount s) s (scopesPlace s + 1); leases = l }) []) (sym w)
 
   pub formed : Octets s → Formed s
   formed o =

@@ -9,7 +9,7 @@ use Rattle.address_set.specs.AddressSet.{readOffsets}
 use Rattle.octets.specs.Octets.{at32}
 use Rattle.state_file.proofs.Pad.{pad-end, pad-next, pad-start}
 use Rattle.state_file.proofs.Walk.{part-length}
-use Rattle.state_file.specs.Place.{Held, leaseAt}
+use Rattle.state_file.specs.Place.{Storable, fileLeaseAt}
 use Rattle.state_file.specs.Records.{filled, stored}
 
 pub id-long : (s : List ℕ) (at n : ℕ) → at + n ≤ length s → length (take n (drop at s)) ≡ n
@@ -20,7 +20,7 @@ id-element s at n i h = sym (getD-take n (drop at s) i 0 h ∙ getD-drop at s i 
 
 pub ruleset ids = (pad-start, pad-next, pad-end, id-long, id-element)
 
-module _ {s : List ℕ} {at n k : ℕ} (en : n ≡ getD s (at + 2) 0) (ek : k ≡ getD s (at + (n + 16)) 0) (v : Held s at) where
+module _ {s : List ℕ} {at n k : ℕ} (en : n ≡ getD s (at + 2) 0) (ek : k ≡ getD s (at + (n + 16)) 0) (v : Storable s at) where
   count : k ≡ getD s (at + (getD s (at + 2) 0 + 16)) 0
   count = ek ∙ ap (λ (z : ℕ). getD s (at + (z + 16)) 0) en
 
@@ -29,8 +29,8 @@ module _ {s : List ℕ} {at n k : ℕ} (en : n ≡ getD s (at + 2) 0) (ek : k �
 
   pub lease-stored : (id : List ℕ) (x b e m : ℕ) → id ≡ filled 0 32 (take n (drop (at + 3) s)) → x ≡ at32 s (at + (n + 4)) → b ≡ at32 s (at + (n + 8)) → e ≡ at32 s (at + (n + 12))
       → m ≡ readOffsets (take k (drop (at + (n + 17)) s))
-      → record { scope = getD s (at + 1) 0; «id_len» = getD s (at + 2) 0; id = id; kind = getD s (at + (n + 3)) 0; xid = x; start = b; end = e; addresses = m } ≡ stored (leaseAt s at)
-  unfolding stored leaseAt
+      → record { scope = getD s (at + 1) 0; «id_len» = getD s (at + 2) 0; id = id; kind = getD s (at + (n + 3)) 0; xid = x; start = b; end = e; addresses = m } ≡ stored (fileLeaseAt s at)
+  unfolding stored fileLeaseAt
   lease-stored id x b e m pi px pb pe pm =
       let N : ℕ = getD s (at + 2) 0 in
       let c = count in

@@ -14,7 +14,7 @@ use Rattle.lists.specs.Filter.{filterBy}
 use Rattle.lists.specs.Pick.{pick}
 use Rattle.state_file.proofs.Walk.{part-length, part-next}
 use Rattle.state_file.specs.File.{FileLease}
-use Rattle.state_file.specs.Place.{InRow, Inside, leaseAt, leasesAt, nextAt}
+use Rattle.state_file.specs.Place.{InRow, Inside, fileLeaseAt, leasesAt, nextAt}
 use Rattle.state_file.specs.Records.{fewOf, isOffset, ofTenant, storableB}
 
 pub record LowInv (s : List ℕ) (at k i : ℕ) : Type 0 where
@@ -50,19 +50,19 @@ module _ {s : List ℕ} {at n : ℕ} (v : Inside s at) (en : n ≡ getD s (at + 
   id-long : n ≡ length (take (getD s (at + 2) 0) (drop (at + 3) s))
   id-long = en ∙ sym (length-take-le (getD s (at + 2) 0) (drop (at + 3) s) (let e = length-drop (at + 3) s in let r = v .room in omega arith))
 
-  pub limit-long : 32 < n → 32 < length (leaseAt s at .id)
-  unfolding leaseAt
+  pub limit-long : 32 < n → 32 < length (fileLeaseAt s at .id)
+  unfolding fileLeaseAt
   limit-long h = let e = id-long in omega arith
 
-  pub limit-short : n ≤ 32 → length (leaseAt s at .id) ≤ 32
-  unfolding leaseAt
+  pub limit-short : n ≤ 32 → length (fileLeaseAt s at .id) ≤ 32
+  unfolding fileLeaseAt
   limit-short h = let e = id-long in omega arith
 
   pub limit-room : (k : ℕ) → k ≡ getD s (at + (n + 16)) 0 → at + (n + 17) + k ≤ length s
   limit-room k ek = let e : k ≡ getD s (at + (getD s (at + 2) 0 + 16)) 0 = ek ∙ ap (λ (z : ℕ). getD s (at + (z + 16)) 0) en in omega (arith, v .room)
 
-  pub limit-low : (k : ℕ) (r : Bool) → k ≡ getD s (at + (n + 16)) 0 → r ≡ allBy isOffset (take k (drop (at + (n + 17)) s)) → r ≡ allBy isOffset (leaseAt s at .offsets)
-  unfolding leaseAt
+  pub limit-low : (k : ℕ) (r : Bool) → k ≡ getD s (at + (n + 16)) 0 → r ≡ allBy isOffset (take k (drop (at + (n + 17)) s)) → r ≡ allBy isOffset (fileLeaseAt s at .offsets)
+  unfolding fileLeaseAt
   limit-low k r ek e = e ∙ ap₂ (λ (x y : ℕ). allBy isOffset (take x (drop (at + (y + 17)) s))) (ek ∙ ap (λ (z : ℕ). getD s (at + (z + 16)) 0) en) en
 
 pub record StoreInv (s : List ℕ) (from count here i : ℕ) : Type 0 where
@@ -83,15 +83,15 @@ module _ {s : List ℕ} {from count here i : ℕ} (v : StoreInv s from count her
   pub store-in : i < count → Inside s here
   store-in h = store-head h .0
 
-  store-open : i < count → allBy storableB (leasesAt s from count) ≡ pick (storableB (leaseAt s here)) (allBy storableB (leasesAt s (nextAt s here) (count - (i + 1)))) false
+  store-open : i < count → allBy storableB (leasesAt s from count) ≡ pick (storableB (fileLeaseAt s here)) (allBy storableB (leasesAt s (nextAt s here) (count - (i + 1)))) false
   unfolding leasesAt allBy
   store-open h = let e : count - i ≡ suc (count - (i + 1)) = omega arith in sym (v .whole) ∙ ap (λ (k : ℕ). allBy storableB (leasesAt s here k)) e
 
-  pub store-not : (r : Bool) → i < count → r ≡ storableB (leaseAt s here) → r ≡ false → false ≡ allBy storableB (leasesAt s from count)
+  pub store-not : (r : Bool) → i < count → r ≡ storableB (fileLeaseAt s here) → r ≡ false → false ≡ allBy storableB (leasesAt s from count)
   unfolding pick
   store-not r h e f = sym (store-open h ∙ ap (λ (b : Bool). pick b (allBy storableB (leasesAt s (nextAt s here) (count - (i + 1)))) false) (sym e ∙ f))
 
-  pub store-next : (r : Bool) (n : ℕ) → i < count → r ≡ storableB (leaseAt s here) → r ≡ true → n ≡ nextAt s here → StoreInv s from count n (i + 1)
+  pub store-next : (r : Bool) (n : ℕ) → i < count → r ≡ storableB (fileLeaseAt s here) → r ≡ true → n ≡ nextAt s here → StoreInv s from count n (i + 1)
   unfolding pick
   store-next r n h e f q = record {
     within = omega arith;
@@ -139,7 +139,7 @@ module _ {s : List ℕ} {from count t n here i : ℕ} (v : CountInv s from count
   count-at h = omega (arith, count-head h .0 .room)
 
   count-open : i < count → length (ofTenant t (leasesAt s here (count - i))) ≡ pick (eqb (getD s here 0) t) 1 0 + length (ofTenant t (leasesAt s (nextAt s here) (count - (i + 1))))
-  unfolding leasesAt leaseAt filterBy pick
+  unfolding leasesAt fileLeaseAt filterBy pick
   count-open h =
       let e : count - i ≡ suc (count - (i + 1)) = omega arith in
       ap (λ (k : ℕ). length (ofTenant t (leasesAt s here k))) e ∙ go (eqb (getD s here 0) t)
@@ -147,7 +147,7 @@ module _ {s : List ℕ} {from count t n here i : ℕ} (v : CountInv s from count
       R : List FileLease
       R = leasesAt s (nextAt s here) (count - (i + 1))
 
-      go : (b : Bool) → length (pick b (leaseAt s here ∷ ofTenant t R) (ofTenant t R)) ≡ pick b 1 0 + length (ofTenant t R)
+      go : (b : Bool) → length (pick b (fileLeaseAt s here ∷ ofTenant t R) (ofTenant t R)) ≡ pick b 1 0 + length (ofTenant t R)
       go true = let e : suc (length (ofTenant t R)) ≡ 1 + length (ofTenant t R) = omega arith in e
       go false = let e : length (ofTenant t R) ≡ 0 + length (ofTenant t R) = omega arith in e
 

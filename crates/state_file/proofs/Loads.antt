@@ -25,9 +25,9 @@ use Rattle.state_file.proofs.ReadAgain.{both, neither}
 use Rattle.state_file.proofs.WholeForm.{server, tenants, ts}
 use Rattle.state_file.specs.File.{File, FileLease, fileOf}
 use Rattle.state_file.specs.Format.{Got, bad, got}
-use Rattle.state_file.specs.Place.{AllHeld, Formed, Held, InRow, Inside, fileAt, isGot, keptFrom, leaseAt, leaseCount, leasesAt, leasesPlace, nextAt, rangeAt, row, scopeAt, scopeCount, scopesPlace, tenantCount}
+use Rattle.state_file.specs.Place.{AllStorable, Formed, Storable, InRow, Inside, fileAt, isGot, keptFrom, fileLeaseAt, leaseCount, leasesAt, leasesPlace, nextAt, rangeAt, row, fileScopeAt, scopeCount, scopesPlace, tenantCount}
 use Rattle.state_file.specs.Records.{fewOf, filled, fitsB, leasesFitB, storableB, storedScope, storedState, storedTable, zeroRange}
-use Rattle.state_file.specs.StateFile.{accepted, answered, judged, loaded, readOf, refused, zeroTable, zeroState}
+use Rattle.state_file.specs.StateFile.{accepted, loadedGot, judged, loaded, readFile, refused, zeroTable, zeroState}
 use Rattle.state_file.specs.declared.Loaded.{Loaded}
 
 -- ---- limits
@@ -39,8 +39,8 @@ module _ (s : List ℕ) (e : fitsB (fileAt s) ≡ true) where
   pub fits-scopes : scopeCount s ≤ 4
   unfolding fitsB fileAt
   fits-scopes =
-      let p = neither _ _ (neither _ _ e .1) in let h = ltb-false 4 (length (row (scopeAt (tenantCount s)) (6 + tenantCount s * 2) (scopeCount s) s (scopesPlace s + 1))) (p .0) in
-      let l = row-length (scopeAt (tenantCount s)) (6 + tenantCount s * 2) (scopeCount s) s (scopesPlace s + 1) in
+      let p = neither _ _ (neither _ _ e .1) in let h = ltb-false 4 (length (row (fileScopeAt (tenantCount s)) (6 + tenantCount s * 2) (scopeCount s) s (scopesPlace s + 1))) (p .0) in
+      let l = row-length (fileScopeAt (tenantCount s)) (6 + tenantCount s * 2) (scopeCount s) s (scopesPlace s + 1) in
       omega arith
 
   fits-leases : leasesFitB (leasesAt s (leasesPlace s + 1) (leaseCount s)) ≡ true
@@ -56,19 +56,19 @@ module _ (s : List ℕ) (e : fitsB (fileAt s) ≡ true) where
   fits-few = both _ _ fits-leases .1
 
 -- ---- a record of the file that a record of the book can hold
-pub storable-held : (s : List ℕ) (at : ℕ) → Inside s at → storableB (leaseAt s at) ≡ true → Held s at
-unfolding storableB leaseAt
+pub storable-held : (s : List ℕ) (at : ℕ) → Inside s at → storableB (fileLeaseAt s at) ≡ true → Storable s at
+unfolding storableB fileLeaseAt
 storable-held s at v e =
     let p = neither _ _ (neither _ _ (neither _ _ e .1) .1) in
     let h = ltb-false 32 (length (take (getD s (at + 2) 0) (drop (at + 3) s))) (p .0) in
     let l = length-take-le (getD s (at + 2) 0) (drop (at + 3) s) (let d = length-drop (at + 3) s in let r = v .room in omega arith) in
     record { ids = omega arith; room = v .room }
 
-held-row : (k : ℕ) (s : List ℕ) (at : ℕ) → InRow s at k → allBy storableB (leasesAt s at k) ≡ true → AllHeld s at k
-unfolding InRow AllHeld leasesAt
+held-row : (k : ℕ) (s : List ℕ) (at : ℕ) → InRow s at k → allBy storableB (leasesAt s at k) ≡ true → AllStorable s at k
+unfolding InRow AllStorable leasesAt
 held-row zero s at v e = tt
 held-row (suc k) s at v e =
-    let p = all-head storableB (leaseAt s at) (leasesAt s (nextAt s at) k) e in
+    let p = all-head storableB (fileLeaseAt s at) (leasesAt s (nextAt s at) k) e in
     (storable-held s at (v .0) (p .0), held-row k s (nextAt s at) (v .1) (p .1))
 
 module _ {s : List ℕ} {at count : ℕ} (v : Formed s) (ea : at ≡ leasesPlace s) (ec : count ≡ getD s at 0) where
@@ -81,7 +81,7 @@ module _ {s : List ℕ} {at count : ℕ} (v : Formed s) (ea : at ≡ leasesPlace
   leases-same : leasesAt s (at + 1) count ≡ leasesAt s (leasesPlace s + 1) (leaseCount s)
   leases-same = ap₂ (λ (k n : ℕ). leasesAt s (k + 1) n) ea count-is
 
-  pub leases-held : fitsB (fileAt s) ≡ true → AllHeld s (at + 1) count
+  pub leases-held : fitsB (fileAt s) ≡ true → AllStorable s (at + 1) count
   leases-held e = held-row count s (at + 1) leases-in (ap (allBy storableB) leases-same ∙ fits-storable s e)
 
   pub leases-yes : (a r : Bool) → a ≡ allBy storableB (leasesAt s (at + 1) count) → a ≡ true → r ≡ allTo (λ i. fewOf (leasesAt s (at + 1) count) (i + 1)) 8 → r ≡ leasesFitB (fileAt s .leases)
@@ -115,16 +115,16 @@ module _ {s : List ℕ} (v : Formed s) where
   unfolding fitsB fileAt pick
   fits-not-tenants h =
       let l = row-length rangeAt 8 (tenantCount s) s 10 in
-      sym (ap (λ (b : Bool). pick b false (pick (ltb 4 (length (row (scopeAt (tenantCount s)) (6 + tenantCount s * 2) (scopeCount s) s (scopesPlace s + 1)))) false (leasesFitB (leasesAt s (leasesPlace s + 1) (leaseCount s))))) (lt-ltb 8 (length (row rangeAt 8 (tenantCount s) s 10)) (omega arith)))
+      sym (ap (λ (b : Bool). pick b false (pick (ltb 4 (length (row (fileScopeAt (tenantCount s)) (6 + tenantCount s * 2) (scopeCount s) s (scopesPlace s + 1)))) false (leasesFitB (leasesAt s (leasesPlace s + 1) (leaseCount s))))) (lt-ltb 8 (length (row rangeAt 8 (tenantCount s) s 10)) (omega arith)))
 
   pub fits-rest : (at : ℕ) (r : Bool) → getD s 9 0 ≤ 8 → at ≡ scopesPlace s → r ≡ pick (ltb 4 (getD s at 0)) false (leasesFitB (fileAt s .leases)) → r ≡ fitsB (fileAt s)
   unfolding fitsB fileAt pick
   fits-rest at r h ea e =
       let l = row-length rangeAt 8 (tenantCount s) s 10 in
-      let m = row-length (scopeAt (tenantCount s)) (6 + tenantCount s * 2) (scopeCount s) s (scopesPlace s + 1) in
-      let c : getD s at 0 ≡ length (row (scopeAt (tenantCount s)) (6 + tenantCount s * 2) (scopeCount s) s (scopesPlace s + 1)) = ap (λ (k : ℕ). getD s k 0) ea ∙ sym m in
+      let m = row-length (fileScopeAt (tenantCount s)) (6 + tenantCount s * 2) (scopeCount s) s (scopesPlace s + 1) in
+      let c : getD s at 0 ≡ length (row (fileScopeAt (tenantCount s)) (6 + tenantCount s * 2) (scopeCount s) s (scopesPlace s + 1)) = ap (λ (k : ℕ). getD s k 0) ea ∙ sym m in
       e ∙ ap (λ (n : ℕ). pick (ltb 4 n) false (leasesFitB (leasesAt s (leasesPlace s + 1) (leaseCount s)))) c
-      ∙ sym (ap (λ (b : Bool). pick b false (pick (ltb 4 (length (row (scopeAt (tenantCount s)) (6 + tenantCount s * 2) (scopeCount s) s (scopesPlace s + 1)))) false (leasesFitB (leasesAt s (leasesPlace s + 1) (leaseCount s))))) (le-ltb 8 (length (row rangeAt 8 (tenantCount s) s 10)) (omega arith)))
+      ∙ sym (ap (λ (b : Bool). pick b false (pick (ltb 4 (length (row (fileScopeAt (tenantCount s)) (6 + tenantCount s * 2) (scopeCount s) s (scopesPlace s + 1)))) false (leasesFitB (leasesAt s (leasesPlace s + 1) (leaseCount s))))) (le-ltb 8 (length (row rangeAt 8 (tenantCount s) s 10)) (omega arith)))
 
 pub ruleset limitsFit = (fits-not-tenants, fits-rest)
 
@@ -143,19 +143,19 @@ scopes-room {s} {at} {h} {k} v ea eh ek =
     omega (arith, v .scopes)
 
 pub state-is : (s : List ℕ) (at h k a b : ℕ) (ts : List ClientRange) (cs : List Scope) → at ≡ scopesPlace s → h ≡ getD s 9 0 → k ≡ getD s at 0
-    → ts ≡ filled zeroRange 8 (row rangeAt 8 h s 10) → cs ≡ filled zeroScope 4 (map storedScope (row (scopeAt h) (6 + h * 2) k s (at + 1)))
+    → ts ≡ filled zeroRange 8 (row rangeAt 8 h s 10) → cs ≡ filled zeroScope 4 (map storedScope (row (fileScopeAt h) (6 + h * 2) k s (at + 1)))
     → a ≡ at32 s 1 → b ≡ at32 s 5
     → record { server = a; clock = b; «tenant_count» = getD s 9 0; tenants = ts; «scope_count» = getD s at 0; scopes = cs } ≡ storedState (fileAt s)
 unfolding storedState fileAt
 state-is s at h k a b ts cs ea eh ek et ec pa pb =
     let q : k ≡ scopeCount s = ek ∙ ap (λ (p : ℕ). getD s p 0) ea in
     let n : getD s 9 0 ≡ length (row rangeAt 8 (tenantCount s) s 10) = sym (row-length rangeAt 8 (tenantCount s) s 10) in
-    let m : getD s at 0 ≡ length (row (scopeAt (tenantCount s)) (6 + tenantCount s * 2) (scopeCount s) s (scopesPlace s + 1)) =
-    ap (λ (p : ℕ). getD s p 0) ea ∙ sym (row-length (scopeAt (tenantCount s)) (6 + tenantCount s * 2) (scopeCount s) s (scopesPlace s + 1)) in
+    let m : getD s at 0 ≡ length (row (fileScopeAt (tenantCount s)) (6 + tenantCount s * 2) (scopeCount s) s (scopesPlace s + 1)) =
+    ap (λ (p : ℕ). getD s p 0) ea ∙ sym (row-length (fileScopeAt (tenantCount s)) (6 + tenantCount s * 2) (scopeCount s) s (scopesPlace s + 1)) in
     let t : ts ≡ filled zeroRange 8 (row rangeAt 8 (tenantCount s) s 10) = et ∙ ap (λ (x : ℕ). filled zeroRange 8 (row rangeAt 8 x s 10)) eh in
-    let c : cs ≡ filled zeroScope 4 (map storedScope (row (scopeAt (tenantCount s)) (6 + tenantCount s * 2) (scopeCount s) s (scopesPlace s + 1))) =
-    ec ∙ ap₂ (λ (x y : ℕ). filled zeroScope 4 (map storedScope (row (scopeAt x) (6 + x * 2) y s (at + 1)))) eh q
-    ∙ ap (λ (x : ℕ). filled zeroScope 4 (map storedScope (row (scopeAt (tenantCount s)) (6 + tenantCount s * 2) (scopeCount s) s (x + 1)))) ea in
+    let c : cs ≡ filled zeroScope 4 (map storedScope (row (fileScopeAt (tenantCount s)) (6 + tenantCount s * 2) (scopeCount s) s (scopesPlace s + 1))) =
+    ec ∙ ap₂ (λ (x y : ℕ). filled zeroScope 4 (map storedScope (row (fileScopeAt x) (6 + x * 2) y s (at + 1)))) eh q
+    ∙ ap (λ (x : ℕ). filled zeroScope 4 (map storedScope (row (fileScopeAt (tenantCount s)) (6 + tenantCount s * 2) (scopeCount s) s (x + 1)))) ea in
     cc
 
 pub ruleset settings = (tenants-few, tenants-room, scopes-few, scopes-room, state-is)
@@ -190,15 +190,15 @@ module _ (f : File) (q : Bool) (e : q ≡ fitsB f) where
   unfolding loaded pick
   loaded-not r t p = p ∙ ap (λ (x : Bool). pick x (judged (storedState f) (storedTable f)) (refused 21)) (sym t ∙ e)
 
-pub read-yes : (s : List ℕ) (r : Loaded) → Formed s → r ≡ loaded (fileAt s) → r ≡ readOf s
-unfolding readOf answered
-read-yes s r v p = p ∙ sym (ap answered (v .file))
+pub read-yes : (s : List ℕ) (r : Loaded) → Formed s → r ≡ loaded (fileAt s) → r ≡ readFile s
+unfolding readFile loadedGot
+read-yes s r v p = p ∙ sym (ap loadedGot (v .file))
 
 not-file : (g : Got File) → false ≡ isGot g → g ≡ bad
 unfolding isGot
 not-file (got f r) e = let z : _≡_ {A = ℕ} 0 1 = cc in absurd (omega arith)
 not-file bad e = refl
 
-pub read-not : (s : List ℕ) (q : Bool) (r : Loaded) → q ≡ isGot (fileOf s) → q ≡ false → r ≡ refused 20 → r ≡ readOf s
-unfolding readOf answered
-read-not s q r e t p = p ∙ sym (ap answered (not-file (fileOf s) (sym t ∙ e)))
+pub read-not : (s : List ℕ) (q : Bool) (r : Loaded) → q ≡ isGot (fileOf s) → q ≡ false → r ≡ refused 20 → r ≡ readFile s
+unfolding readFile loadedGot
+read-not s q r e t p = p ∙ sym (ap loadedGot (not-file (fileOf s) (sym t ∙ e)))

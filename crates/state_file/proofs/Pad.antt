@@ -10,7 +10,7 @@ use Rattle.octets.specs.Octets.{at32}
 use Rattle.state.specs.declared.ClientRange.{ClientRange}
 use Rattle.state.specs.declared.Scope.{Scope}
 use Rattle.state_file.specs.File.{FilePart}
-use Rattle.state_file.specs.Place.{partAt, rangeAt, row, scopeAt}
+use Rattle.state_file.specs.Place.{partAt, rangeAt, row, fileScopeAt}
 use Rattle.state_file.specs.Records.{filled, storedScope}
 
 pub row-length : {A : Type 0} (v : List ℕ → ℕ → A) (z n : ℕ) (s : List ℕ) (at : ℕ) → length (row v z n s at) ≡ n
@@ -88,8 +88,8 @@ column f c (suc h) s at at′ e p =
     (column f c h s (at + 2) (at′ + 2) (let q : at′ + 2 ≡ at + 2 + c = omega arith in q) p)
 
 pub scope-of : (h : ℕ) (s : List ℕ) (at a : ℕ) (r l : List ℕ) → a ≡ at32 s at → r ≡ filled 0 8 (row (λ s at. getD s at 0) 2 h s (at + 6)) → l ≡ filled 0 8 (row (λ s at. getD s at 0) 2 h s (at + 7))
-    → record { lowest = a; size = getD s (at + 4) 0; ttl = getD s (at + 5) 0; reserve = r; limit = l } ≡ storedScope (scopeAt h s at)
-unfolding storedScope scopeAt
+    → record { lowest = a; size = getD s (at + 4) 0; ttl = getD s (at + 5) 0; reserve = r; limit = l } ≡ storedScope (fileScopeAt h s at)
+unfolding storedScope fileScopeAt
 scope-of h s at a r l ea er el =
     let cr = column (λ p. p .reserve) 0 h s (at + 6) (at + 6) (let q : at + 6 ≡ at + 6 + 0 = omega arith in q) (λ x. first s x) in
     let cl = column (λ p. p .limit) 1 h s (at + 6) (at + 7) (let q : at + 7 ≡ at + 6 + 1 = omega arith in q) (λ x. second s x) in
@@ -97,16 +97,16 @@ scope-of h s at a r l ea er el =
     let pl : l ≡ filled 0 8 (map (λ p. p .limit) (row partAt 2 h s (at + 6))) = el ∙ ap (filled 0 8) (sym cl) in
     cc
 
-pub scopes-long : (h z n : ℕ) (s : List ℕ) (at : ℕ) → length (map storedScope (row (scopeAt h) z n s at)) ≡ n
-scopes-long h z n s at = length-map (row (scopeAt h) z n s at) storedScope ∙ row-length (scopeAt h) z n s at
+pub scopes-long : (h z n : ℕ) (s : List ℕ) (at : ℕ) → length (map storedScope (row (fileScopeAt h) z n s at)) ≡ n
+scopes-long h z n s at = length-map (row (fileScopeAt h) z n s at) storedScope ∙ row-length (fileScopeAt h) z n s at
 
-pub scopes-element : (h z n : ℕ) (s : List ℕ) (at i : ℕ) (x d : Scope) → i < n → x ≡ storedScope (scopeAt h s (at + i * z)) → x ≡ getD (map storedScope (row (scopeAt h) z n s at)) i d
+pub scopes-element : (h z n : ℕ) (s : List ℕ) (at i : ℕ) (x d : Scope) → i < n → x ≡ storedScope (fileScopeAt h s (at + i * z)) → x ≡ getD (map storedScope (row (fileScopeAt h) z n s at)) i d
 unfolding row
 scopes-element h z n s at i x d g e = e ∙ sym (mapped n s at i g)
   where
-    mapped : (n : ℕ) (s : List ℕ) (at i : ℕ) → i < n → getD (map storedScope (row (scopeAt h) z n s at)) i d ≡ storedScope (scopeAt h s (at + i * z))
+    mapped : (n : ℕ) (s : List ℕ) (at i : ℕ) → i < n → getD (map storedScope (row (fileScopeAt h) z n s at)) i d ≡ storedScope (fileScopeAt h s (at + i * z))
     mapped zero s at i g = absurd (omega arith)
-    mapped (suc n) s at zero g = ap (λ (k : ℕ). storedScope (scopeAt h s k)) (let q = zero-mul z in let e : at ≡ at + 0 * z = omega arith in e)
-    mapped (suc n) s at (suc i) g = mapped n s (at + z) i (omega arith) ∙ ap (λ (k : ℕ). storedScope (scopeAt h s k)) (let q = suc-mul i z in let e : at + z + i * z ≡ at + suc i * z = omega arith in e)
+    mapped (suc n) s at zero g = ap (λ (k : ℕ). storedScope (fileScopeAt h s k)) (let q = zero-mul z in let e : at ≡ at + 0 * z = omega arith in e)
+    mapped (suc n) s at (suc i) g = mapped n s (at + z) i (omega arith) ∙ ap (λ (k : ℕ). storedScope (fileScopeAt h s k)) (let q = suc-mul i z in let e : at + z + i * z ≡ at + suc i * z = omega arith in e)
 
 pub ruleset scopePads = (pad-start, pad-next, pad-end, scopes-long, scopes-element, scope-of)

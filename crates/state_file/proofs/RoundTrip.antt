@@ -20,7 +20,7 @@ use Rattle.state_file.specs.FileLaws.{file-reads, file-written}
 use Rattle.state_file.specs.Format.{Got, bad, closed, got}
 use Rattle.state_file.specs.FormatLaws.{Octets}
 use Rattle.state_file.specs.Records.{filedBook, fitsB, storedState, storedTable}
-use Rattle.state_file.specs.StateFile.{accepted, answered, judged, loaded, octetsOf, readOf, refused, roomAfter, writtenOf}
+use Rattle.state_file.specs.StateFile.{accepted, loadedGot, judged, loaded, octetsOf, readFile, refused, roomAfter, writtenOf}
 use Rattle.state_file.specs.Typed.{Typed}
 use Rattle.state_file.specs.declared.Loaded.{Loaded}
 use Rattle.state_file.specs.declared.Written.{Written}
@@ -62,11 +62,11 @@ unfolding octetsOf
 again f st tb es eb ok fit = ap₂ (λ (x : State) (y : LeaseTable). fileFormat .write (filedBook x y)) (sym es) (sym eb) ∙ ap (fileFormat .write) (book-again f ok fit)
 
 -- the book of octets that are accepted is sound, and its octets are those
-pub read-write : (s : List ℕ) (st : State) (tb : LeaseTable) → Octets s → readOf s ≡ accepted st tb → (soundB st tb ≡ true) × (octetsOf st tb ≡ s)
-unfolding readOf answered
+pub read-write : (s : List ℕ) (st : State) (tb : LeaseTable) → Octets s → readFile s ≡ accepted st tb → (soundB st tb ≡ true) × (octetsOf st tb ≡ s)
+unfolding readFile loadedGot
 read-write s st tb o e = go (fileOf s) refl e
   where
-    go : (g : Got File) → fileOf s ≡ g → answered g ≡ accepted st tb → (soundB st tb ≡ true) × (octetsOf st tb ≡ s)
+    go : (g : Got File) → fileOf s ≡ g → loadedGot g ≡ accepted st tb → (soundB st tb ≡ true) × (octetsOf st tb ≡ s)
     go bad p e = refused-not 20 st tb (omega arith) e
     go (got f r) p e =
         let (fit, j) = loaded-is f st tb e in
@@ -75,7 +75,7 @@ read-write s st tb o e = go (fileOf s) refl e
         (sym (ap₂ soundB es eb) ∙ sound, again f st tb es eb ok fit ∙ sym w)
 
 -- so the writer gives them back, in any room that they fit
-pub read-written : (s room : List ℕ) (st : State) (tb : LeaseTable) → Octets s → readOf s ≡ accepted st tb → length s ≤ length room
+pub read-written : (s room : List ℕ) (st : State) (tb : LeaseTable) → Octets s → readFile s ≡ accepted st tb → length s ≤ length room
     → (writtenOf st tb (length room) ≡ record { refusal = 0; length = length s }) × (roomAfter st tb room ≡ s ++ drop (length s) room)
 unfolding writtenOf roomAfter pick
 read-written s room st tb o e h =
@@ -92,25 +92,25 @@ unfolding octetsOf
 short st tb v e = book-short st tb v e
 
 -- a sound book's octets are accepted, and give the book
-pub write-read : (st : State) (tb : LeaseTable) → Typed st tb → soundB st tb ≡ true → readOf (octetsOf st tb) ≡ accepted st tb
-unfolding readOf answered loaded judged octetsOf pick
+pub write-read : (st : State) (tb : LeaseTable) → Typed st tb → soundB st tb ≡ true → readFile (octetsOf st tb) ≡ accepted st tb
+unfolding readFile loadedGot loaded judged octetsOf pick
 write-read st tb v e =
-    ap answered (file-written (filedBook st tb) (book-ok st tb v e) (short st tb v e))
+    ap loadedGot (file-written (filedBook st tb) (book-ok st tb v e) (short st tb v e))
     ∙ ap (λ (x : Bool). pick x (judged (storedState (filedBook st tb)) (storedTable (filedBook st tb))) (refused 21)) (book-fits st tb v e)
     ∙ ap₂ judged (state-same st tb v e) (table-same st tb v e)
     ∙ ap (λ (x : Bool). pick x (accepted st tb) (refused 21)) e
 
 -- so is what the writer leaves in a room
 pub written-read : (st : State) (tb : LeaseTable) (room : List ℕ) → Typed st tb → writtenOf st tb (length room) .refusal ≡ 0
-    → readOf (take (writtenOf st tb (length room) .length) (roomAfter st tb room)) ≡ accepted st tb
+    → readFile (take (writtenOf st tb (length room) .length) (roomAfter st tb room)) ≡ accepted st tb
 unfolding writtenOf roomAfter pick
 written-read st tb room v e = go (soundB st tb) refl (ltb (length room) (length (octetsOf st tb))) e
   where
     go : (p : Bool) → soundB st tb ≡ p → (q : Bool)
         → pick {A = Written} p (pick q (record { refusal = 23; length = 0 }) (record { refusal = 0; length = length (octetsOf st tb) })) (record { refusal = 22; length = 0 }) .refusal ≡ 0
-        → readOf (take (pick {A = Written} p (pick q (record { refusal = 23; length = 0 }) (record { refusal = 0; length = length (octetsOf st tb) })) (record { refusal = 22; length = 0 }) .length) (pick p (pick q room (octetsOf st tb ++ drop (length (octetsOf st tb)) room)) room)) ≡ accepted st tb
+        → readFile (take (pick {A = Written} p (pick q (record { refusal = 23; length = 0 }) (record { refusal = 0; length = length (octetsOf st tb) })) (record { refusal = 22; length = 0 }) .length) (pick p (pick q room (octetsOf st tb ++ drop (length (octetsOf st tb)) room)) room)) ≡ accepted st tb
     go true a true e = absurd (omega arith)
-    go true a false e = ap readOf (take-append-seam (octetsOf st tb) (drop (length (octetsOf st tb)) room)) ∙ write-read st tb v a
+    go true a false e = ap readFile (take-append-seam (octetsOf st tb) (drop (length (octetsOf st tb)) room)) ∙ write-read st tb v a
     go false a q e = absurd (omega arith)
 
 -- and in a room for the largest file the writer refuses no sound book

@@ -9,7 +9,7 @@ use lib.ListN.{getD, length, length-append, take}
 use lib.Seq.{take-all}
 use Rattle.lists.specs.Part.{cut-take, unmapped}
 use Rattle.lists.specs.Sums.{sum-one-more, sumTo}
-use Rattle.octets.specs.Laws.{joined, wrote-as, wrote-none}
+use Rattle.octets.specs.Laws.{wrote-joined, wrote-as, wrote-none}
 use Rattle.octets.specs.Octets.{Wrote}
 use Rattle.state.specs.Book.{noLease, noLeases, noScope}
 use Rattle.state.specs.declared.ClientRange.{ClientRange}
@@ -17,7 +17,7 @@ use Rattle.state.specs.declared.Lease.{Lease}
 use Rattle.state.specs.declared.Scope.{Scope}
 use Rattle.state.specs.declared.TenantLeases.{TenantLeases}
 use Rattle.state_file.specs.File.{FilePart, leaseFormat, scopeFormat, tenantFormat}
-use Rattle.state_file.specs.Records.{filed, filedScope, pairUp, zeroRange}
+use Rattle.state_file.specs.Records.{filedLease, filedScope, pairUp, zeroRange}
 use Rattle.state_file.specs.Rows.{leaseOctets, partRow, rangeRow, scopeRow, tenantOctets, tenantRow, writeFrom}
 
 module _ {A : Type 0} (w : ℕ → A → List ℕ) (d : A) where
@@ -108,7 +108,7 @@ module _ {A : Type 0} {w : ℕ → A → List ℕ} {d : A} {l : List A} {m c n :
     within = omega arith;
     fits = v .fits;
     kept = q ∙ v .kept;
-    wrote = wrote-as (sym (row-more w d i l (omega (arith, v .cut, v .many)))) (joined (omega (arith, v .fits)) (v .wrote) p);
+    wrote = wrote-as (sym (row-more w d i l (omega (arith, v .cut, v .many)))) (wrote-joined (omega (arith, v .fits)) (v .wrote) p);
   }
 
   pub row-end : n ≤ i → Wrote r₀ at (writeFrom w 0 (take c l)) buffer to
@@ -121,11 +121,11 @@ pub ruleset rows = (row-start, row-whole, row-end, row-done, unmapped)
 
 -- the same for each kind of row, where the search meets the octets and not their name
 module _ (t : ℕ) {ls : List Lease} {m c n : ℕ} {r₀ : List ℕ} {at : ℕ} {buffer : List ℕ} {to i : ℕ} (v : RowInv (leaseOctets t) noLease ls m c n r₀ at buffer to i) where
-  pub lease-room : i < n → to + length (leaseFormat .write (filed t (getD ls i noLease))) ≤ length buffer
+  pub lease-room : i < n → to + length (leaseFormat .write (filedLease t (getD ls i noLease))) ≤ length buffer
   unfolding leaseOctets
   lease-room h = row-room v h
 
-  pub lease-next : {r₁ : List ℕ} {k : ℕ} → i < n → Wrote buffer to (leaseFormat .write (filed t (getD ls i noLease))) r₁ k → length r₁ ≡ length buffer → RowInv (leaseOctets t) noLease ls m c n r₀ at r₁ k (i + 1)
+  pub lease-next : {r₁ : List ℕ} {k : ℕ} → i < n → Wrote buffer to (leaseFormat .write (filedLease t (getD ls i noLease))) r₁ k → length r₁ ≡ length buffer → RowInv (leaseOctets t) noLease ls m c n r₀ at r₁ k (i + 1)
   unfolding leaseOctets
   lease-next h p q = row-next v h p q
 

@@ -9,7 +9,7 @@ use lib.ListN.{drop, drop-of-length-le, getD, length}
 use borrow.Author.Tests.{ltb-false, ltb-true}
 use Rattle.lists.specs.Pick.{pick}
 use Rattle.state_file.proofs.Stands.{lease-is, stands-octet}
-use Rattle.state_file.specs.File.{FileLease, leaseFormat, leasesFormat, ordered}
+use Rattle.state_file.specs.File.{FileLease, leaseFormat, leasesFormat, leasesOrdered}
 use Rattle.state_file.specs.Format.{Got, bad, counted, got, readOctet, readTimes, then}
 use Rattle.state_file.specs.FormatLaws.{Octets, then-got}
 use Rattle.state_file.specs.Place.{InRow, Inside, leasesAt, nextAt}
@@ -49,7 +49,7 @@ section-run s at xs r o e = go (ltb at (length s)) refl
     within : at < length s → (leasesAt s (at + 1) (getD s at 0) ≡ xs) × InRow s (at + 1) (getD s at 0)
     within h =
         let (ys, u, ey, e′) = then-got (counted leaseFormat .read (drop at s)) _ xs r e in
-        let (p, q) = passed (ordered ys) (got ys u) xs r e′ in
+        let (p, q) = passed (leasesOrdered ys) (got ys u) xs r e′ in
         let (n, t, en, e″) = then-got (readOctet (drop at s)) _ ys u ey in
         let st = stands-octet s at {m = at + 1} refl h .reads in
         let w : got (getD s at 0) (drop (at + 1) s) ≡ got n t = sym st ∙ en in

@@ -12,18 +12,18 @@ use Rattle.identifier.specs.Order.{orderOf}
 use Rattle.lists.specs.Pick.{pick, pick-lt, pick-not-lt}
 use Rattle.state_file.specs.File.{FileLease, isAfter, leaseFormat, leasesFormat, orderedFrom}
 use Rattle.state_file.specs.Format.{Got, bad, got, readOctet, readTimes, then}
-use Rattle.state_file.specs.Place.{LeaseEnds, PlaceIn, gotAt, leaseAt, leasesFrom, onGot, placeOf}
+use Rattle.state_file.specs.Place.{LeaseEnds, PlaceIn, gotAt, fileLeaseAt, leasesFrom, onGot, endPlace}
 use Rattle.state_file.specs.declared.Place.{Place}
 use Rattle.state_file.specs.declared.Place.the-variants.{At, Nowhere}
 
 -- reading all and then testing the order ends where the walk that tests on the way ends
 from-ordered : (n k t : ℕ) (a s : List ℕ)
-    → placeOf n (then (readTimes k (leaseFormat .read) s) (λ xs r. pick (orderedFrom t a xs) (got xs r) bad)) ≡ leasesFrom n k t a s
-unfolding placeOf then readTimes pick orderedFrom leasesFrom onGot
+    → endPlace n (then (readTimes k (leaseFormat .read) s) (λ xs r. pick (orderedFrom t a xs) (got xs r) bad)) ≡ leasesFrom n k t a s
+unfolding endPlace then readTimes pick orderedFrom leasesFrom onGot
 from-ordered n zero t a s = refl
 from-ordered n (suc k) t a s = one (leaseFormat .read s) (from-ordered n k)
   where
-    flip : (b c : Bool) (x : FileLease) (xs : List FileLease) (u : List ℕ) → placeOf n (pick (pick b false c) (got (x ∷ xs) u) bad) ≡ pick b Nowhere (placeOf n (pick c (got xs u) bad))
+    flip : (b c : Bool) (x : FileLease) (xs : List FileLease) (u : List ℕ) → endPlace n (pick (pick b false c) (got (x ∷ xs) u) bad) ≡ pick b Nowhere (endPlace n (pick c (got xs u) bad))
     flip true true x xs u = refl
     flip true false x xs u = refl
     flip false true x xs u = refl
@@ -34,32 +34,32 @@ from-ordered n (suc k) t a s = one (leaseFormat .read s) (from-ordered n k)
     none false = refl
 
     more : (x : FileLease) (g : Got (List FileLease))
-        → placeOf n (then (then g (λ xs u. got (x ∷ xs) u)) (λ xs r. pick (orderedFrom t a xs) (got xs r) bad))
-        ≡ pick (isAfter t a (x .tenant) (x .id)) Nowhere (placeOf n (then g (λ xs r. pick (orderedFrom (x .tenant) (x .id) xs) (got xs r) bad)))
+        → endPlace n (then (then g (λ xs u. got (x ∷ xs) u)) (λ xs r. pick (orderedFrom t a xs) (got xs r) bad))
+        ≡ pick (isAfter t a (x .tenant) (x .id)) Nowhere (endPlace n (then g (λ xs r. pick (orderedFrom (x .tenant) (x .id) xs) (got xs r) bad)))
     more x (got xs u) = flip (isAfter t a (x .tenant) (x .id)) (orderedFrom (x .tenant) (x .id) xs) x xs u
     more x bad = none (isAfter t a (x .tenant) (x .id))
 
     one : (g : Got FileLease)
-        → ((t : ℕ) (a s : List ℕ) → placeOf n (then (readTimes k (leaseFormat .read) s) (λ xs r. pick (orderedFrom t a xs) (got xs r) bad)) ≡ leasesFrom n k t a s)
-        → placeOf n (then (then g (λ x r. then (readTimes k (leaseFormat .read) r) (λ xs u. got (x ∷ xs) u))) (λ xs r. pick (orderedFrom t a xs) (got xs r) bad))
+        → ((t : ℕ) (a s : List ℕ) → endPlace n (then (readTimes k (leaseFormat .read) s) (λ xs r. pick (orderedFrom t a xs) (got xs r) bad)) ≡ leasesFrom n k t a s)
+        → endPlace n (then (then g (λ x r. then (readTimes k (leaseFormat .read) r) (λ xs u. got (x ∷ xs) u))) (λ xs r. pick (orderedFrom t a xs) (got xs r) bad))
         ≡ onGot g (λ x r. pick (isAfter t a (x .tenant) (x .id)) Nowhere (leasesFrom n k (x .tenant) (x .id) r))
     one (got x r) ih = more x (readTimes k (leaseFormat .read) r) ∙ ap (λ (p : Place). pick (isAfter t a (x .tenant) (x .id)) Nowhere p) (ih (x .tenant) (x .id) r)
     one bad ih = refl
 
 -- the section is its count and the records
-pub section-none : (s : List ℕ) (at : ℕ) → length s ≤ at → Nowhere ≡ placeOf (length s) (leasesFormat .read (drop at s))
-unfolding placeOf then readOctet
-section-none s at h = sym (ap (λ (l : List ℕ). placeOf (length s) (leasesFormat .read l)) (drop-of-length-le s {i = at} h))
+pub section-none : (s : List ℕ) (at : ℕ) → length s ≤ at → Nowhere ≡ endPlace (length s) (leasesFormat .read (drop at s))
+unfolding endPlace then readOctet
+section-none s at h = sym (ap (λ (l : List ℕ). endPlace (length s) (leasesFormat .read l)) (drop-of-length-le s {i = at} h))
 
 pub section-from : (s : List ℕ) (at count : ℕ) (r : Place) → at < length s → count ≡ getD s at 0 → r ≡ leasesFrom (length s) count 0 [] (drop (at + 1) s)
-    → r ≡ placeOf (length s) (leasesFormat .read (drop at s))
-unfolding placeOf then readOctet
+    → r ≡ endPlace (length s) (leasesFormat .read (drop at s))
+unfolding endPlace then readOctet
 section-from s at count r h e p =
     p ∙ sym (from-ordered (length s) count 0 [] (drop (at + 1) s)) ∙ ap (λ (k : ℕ). leasesFrom′ k (drop (at + 1) s)) e
-    ∙ sym (ap (λ (l : List ℕ). placeOf (length s) (leasesFormat .read l)) (drop-cons s at 0 h ∙ ap {B = List ℕ} (λ (n : ℕ). getD s at 0 ∷ drop n s) (sym (add-one at))))
+    ∙ sym (ap (λ (l : List ℕ). endPlace (length s) (leasesFormat .read l)) (drop-cons s at 0 h ∙ ap {B = List ℕ} (λ (n : ℕ). getD s at 0 ∷ drop n s) (sym (add-one at))))
   where
     leasesFrom′ : ℕ → List ℕ → Place
-    leasesFrom′ k l = placeOf (length s) (then (readTimes k (leaseFormat .read) l) (λ xs r. pick (orderedFrom 0 [] xs) (got xs r) bad))
+    leasesFrom′ k l = endPlace (length s) (then (readTimes k (leaseFormat .read) l) (λ xs r. pick (orderedFrom 0 [] xs) (got xs r) bad))
 
 pub record LeasesInv (s : List ℕ) (from count here i tenant id-at id-len : ℕ) : Type 0 where
   pub within : i ≤ count
@@ -88,7 +88,7 @@ ends-not {s} {at} v e = subst (λ (r : Place). LeaseEnds s at r) e v
 
 module _ {s : List ℕ} {from count here i tenant id-at id-len : ℕ} (v : LeasesInv s from count here i tenant id-at id-len) where
   step : {r : Place} → i < count → LeaseEnds s here r → leasesFrom (length s) count 0 [] (drop from s)
-      ≡ onGot (gotAt s (leaseAt s here) r) (λ x u. pick (isAfter tenant (take id-len (drop id-at s)) (x .tenant) (x .id)) Nowhere (leasesFrom (length s) (count - (i + 1)) (x .tenant) (x .id) u))
+      ≡ onGot (gotAt s (fileLeaseAt s here) r) (λ x u. pick (isAfter tenant (take id-len (drop id-at s)) (x .tenant) (x .id)) Nowhere (leasesFrom (length s) (count - (i + 1)) (x .tenant) (x .id) u))
   unfolding leasesFrom
   step {r} h w =
       let e : count - i ≡ suc (count - (i + 1)) = omega arith in
@@ -102,14 +102,14 @@ module _ {s : List ℕ} {from count here i tenant id-at id-len : ℕ} (v : Lease
   pub leases-after : (next : ℕ) → i < count → LeaseEnds s here (At next)
       → true ≡ isAfter tenant (take id-len (drop id-at s)) (getD s here 0) (take (getD s (here + 2) 0) (drop (here + 3) s))
       → Nowhere ≡ leasesFrom (length s) count 0 [] (drop from s)
-  unfolding onGot gotAt leaseAt pick
+  unfolding onGot gotAt fileLeaseAt pick
   leases-after next h w e = sym (step h w ∙ ap (λ (b : Bool). pick b Nowhere (leasesFrom (length s) (count - (i + 1)) (getD s here 0) (take (getD s (here + 2) 0) (drop (here + 3) s)) (drop next s))) (sym e))
 
   pub leases-next : (next n : ℕ) → i < count → LeaseEnds s here (At next)
       → false ≡ isAfter tenant (take id-len (drop id-at s)) (getD s here 0) (take (getD s (here + 2) 0) (drop (here + 3) s))
       → n ≡ getD s (here + 2) 0
       → LeasesInv s from count next (i + 1) (getD s here 0) (here + 3) n
-  unfolding onGot gotAt leaseAt pick
+  unfolding onGot gotAt fileLeaseAt pick
   leases-next next n h w e q =
       let p = ends-in w in
       record {

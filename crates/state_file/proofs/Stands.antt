@@ -14,7 +14,7 @@ use Rattle.state_file.specs.File.{FileLease, leaseFormat, ofParts, toPar
 use Rattle.state_file.specs.FileLaws.{lease-lawful}
 use Rattle.state_file.specs.Format.{Format, Got, _⊗_, bad, counted, got, number, octet, only, readNumber, readOctet, readTimes, then, viewed, writeAll}
 use Rattle.state_file.specs.FormatLaws.{Octets, then-with}
-use Rattle.state_file.specs.Place.{LeaseEnds, PlaceIn, gotAt, leaseAt, nextAt}
+use Rattle.state_file.specs.Place.{LeaseEnds, PlaceIn, gotAt, fileLeaseAt, nextAt}
 use Rattle.state_file.specs.declared.Place.the-variants.{At, Nowhere}
 
 -- the octets from at on are x, and go on at next
@@ -142,7 +142,7 @@ module _ (s : List ℕ) (at n k : ℕ) (en : n ≡ getD s (at + 2) 0) (ek : k �
   offsets-stand = stands-octets s (at + (n + 16)) {p = at + (n + 17)} {m = at + (n + 17 + k)} {n = k} ek (omega arith) (omega arith) (omega arith)
 
   pub lease-rises : true ≡ rises (take k (drop (at + (n + 17)) s)) → LeaseEnds s at (At (at + (n + 17 + k)))
-  unfolding gotAt PlaceIn leaseAt
+  unfolding gotAt PlaceIn fileLeaseAt
   lease-rises e =
       let st =
       stands-viewed
@@ -172,7 +172,7 @@ module _ (s : List ℕ) (at n k : ℕ) (en : n ≡ getD s (at + 2) 0) (ek : k �
       (fails-only offsets-stand rises (sym e))))))))) in
       record { reads = fa .reads; within = tt }
 
-got-of : {s : List ℕ} {at n : ℕ} → LeaseEnds s at (At n) → leaseFormat .read (drop at s) ≡ got (leaseAt s at) (drop n s)
+got-of : {s : List ℕ} {at n : ℕ} → LeaseEnds s at (At n) → leaseFormat .read (drop at s) ≡ got (fileLeaseAt s at) (drop n s)
 unfolding gotAt
 got-of v = v .reads
 
@@ -182,7 +182,7 @@ bad-of v = v .reads
 
 -- a lease that is read is the one of the place's parts, and reading goes on where the code goes on
 pub lease-is : (s : List ℕ) (at : ℕ) (x : FileLease) (r : List ℕ) → Octets s → at ≤ length s → leaseFormat .read (drop at s) ≡ got x r
-    → (leaseAt s at ≡ x) × (drop (nextAt s at) s ≡ r) × (nextAt s at ≤ length s)
+    → (fileLeaseAt s at ≡ x) × (drop (nextAt s at) s ≡ r) × (nextAt s at ≤ length s)
 unfolding nextAt
 lease-is s at x r o a e =
     let v = shape s at x r (λ i. subst (λ (n : ℕ). n < 256) (sym (getD-drop at s i 0)) (o (at + i))) e in
@@ -197,9 +197,9 @@ lease-is s at x r o a e =
     K : ℕ
     K = getD s (at + (N + 16)) 0
 
-    go : (b : Bool) → rises (take K (drop (at + (N + 17)) s)) ≡ b → N + 17 + K ≤ length s - at → (leaseAt s at ≡ x) × (drop (at + (N + 17 + K)) s ≡ r) × (at + (N + 17 + K) ≤ length s)
+    go : (b : Bool) → rises (take K (drop (at + (N + 17)) s)) ≡ b → N + 17 + K ≤ length s - at → (fileLeaseAt s at ≡ x) × (drop (at + (N + 17 + K)) s ≡ r) × (at + (N + 17 + K) ≤ length s)
     go true q h =
-        let w : got (leaseAt s at) (drop (at + (N + 17 + K)) s) ≡ got x r = sym (got-of (lease-rises s at N K refl refl h a (sym q))) ∙ e in
+        let w : got (fileLeaseAt s at) (drop (at + (N + 17 + K)) s) ≡ got x r = sym (got-of (lease-rises s at N K refl refl h a (sym q))) ∙ e in
         (cc, cc, omega arith)
     go false q h =
         let w : bad ≡ got x r = sym (bad-of (lease-falls s at N K refl refl h a (sym q))) ∙ e in

@@ -16,7 +16,7 @@ use Rattle.state_file.proofs.Stands.{Fails, Stands, fails-viewed, stand
 use Rattle.state_file.specs.File.{longestFile, FileLease, FileScope, fileFormat, fileOf, leasesFormat, partFormat, scopeFormat, tenantFormat}
 use Rattle.state_file.specs.Format.{Format, Got, _⊗_, _▷_, after, bad, closed, counted, got, number, readOctet, then}
 use Rattle.state_file.specs.FormatLaws.{then-with}
-use Rattle.state_file.specs.Place.{isGot, placeOf, row}
+use Rattle.state_file.specs.Place.{isGot, endPlace, row}
 use Rattle.state_file.specs.declared.Place.the-variants.{At, Nowhere}
 
 unfoldable pub fixed-pair : Fixed (number ⊗ number) 8
@@ -146,13 +146,13 @@ module _ (s : List ℕ) (one : getD s 0 0 ≡ 1) (long : 10 ≤ length s) where
       unfolding fileOf pick
       form-leases b z ez l m e = e ∙ sym (form-rest z ez l) ∙ sym (ap (λ (t : Bool). isGot (pick t (closed (fileFormat .read s)) bad)) (le-leb _ _ m))
 
-pub place-none : {A : Type 0} (n : ℕ) (g : Got A) → Nowhere ≡ placeOf n g → false ≡ isGot (closed g)
-unfolding placeOf isGot closed
+pub place-none : {A : Type 0} (n : ℕ) (g : Got A) → Nowhere ≡ endPlace n g → false ≡ isGot (closed g)
+unfolding endPlace isGot closed
 place-none n (got x r) e = let z : _≡_ {A = ℕ} 0 1 = cc in absurd (omega arith)
 place-none n bad e = refl
 
-pub place-at : {A : Type 0} (n k : ℕ) (g : Got A) → 0 < n → At k ≡ placeOf n g → eqb k n ≡ isGot (closed g)
-unfolding placeOf isGot closed
+pub place-at : {A : Type 0} (n k : ℕ) (g : Got A) → 0 < n → At k ≡ endPlace n g → eqb k n ≡ isGot (closed g)
+unfolding endPlace isGot closed
 place-at n k (got x []) h e = let q : k ≡ n - 0 = cc in eq-eqb k n (omega arith)
 place-at n k (got x (y ∷ r)) h e = let q : k ≡ n - suc (length r) = cc in ne-eqb k n (λ z. absurd (omega arith))
 place-at n k bad h e = let z : _≡_ {A = ℕ} 0 1 = cc in absurd (omega arith)

@@ -17,7 +17,7 @@ use Rattle.lists.specs.All.{All, all-append, all-cons, all-head, allBy, allTo, 
 use Rattle.lists.specs.Both.{and-parts}
 use Rattle.lists.specs.Pick.{pick}
 use Rattle.soundness.specs.Book.{AllRules, rules-of}
-use Rattle.soundness.specs.Sound.{blankB, countsB, few, idB, layoutB, paddedB, rangeZero, recordsB, rule1, rule13, rulesOf, scopeZero, settingsB, sizeB, soundB, tailB, unusedB, zeroFrom}
+use Rattle.soundness.specs.Sound.{blankB, countsB, oneTo, idB, layoutB, paddedB, rangeZero, recordsB, rule1, rule13, rulesOf, scopeZero, settingsB, sizeB, soundB, tailB, unusedB, zeroFrom}
 use Rattle.state.specs.Book.{byIdentifier, idOf, inUse, laidOut, leasesOf, ordered, rangesOf, scopesOf, tableOf, zeroLease, zeroScope}
 use Rattle.state.specs.declared.ClientRange.{ClientRange}
 use Rattle.state.specs.declared.Lease.{Lease}
@@ -32,7 +32,7 @@ use Rattle.state_file.proofs.WholeForm.{server, tenants, ts}
 use Rattle.state_file.proofs.Writes.{file-length, lease-length, ranges-length, scope-length}
 use Rattle.state_file.specs.File.{longestFile, FileLease, fileFormat, isAfter, leaseFormat, orderedFrom, partFormat, scopeFormat, tenantFormat}
 use Rattle.state_file.specs.RecordLaws.{Neat, filled-back}
-use Rattle.state_file.specs.Records.{fewOf, filed, filedBook, filedFrom, filedScope, filled, fitsB, isOffset, leasesFitB, ofTenant, pairUp, storableB, stored, storedScope, storedState, storedTable, tenantsFrom, zeroRange}
+use Rattle.state_file.specs.Records.{fewOf, filedLease, filedBook, filedFrom, filedScope, filled, fitsB, isOffset, leasesFitB, ofTenant, pairUp, storableB, stored, storedScope, storedState, storedTable, tenantsFrom, zeroRange}
 use Rattle.state_file.specs.Rows.{leaseOctets, scopeRow, tenantRow, writeFrom}
 use Rattle.state_file.specs.StateFile.{octetsOf}
 use Rattle.state_file.specs.TenantLaws.{leases-back}
@@ -218,8 +218,8 @@ fine-neat : (l : Lease) → Fine l → Neat l
 unfolding paddedB
 fine-neat l v = record { long = id-length l v; zeros = zero-tail (l .«id_len») 32 (l .id) (v .typed .long) (v .padded); bits = v .typed .addresses }
 
-fine-ok : (t : ℕ) (l : Lease) → t < 256 → Fine l → leaseFormat .ok (filed t l)
-unfolding filed
+fine-ok : (t : ℕ) (l : Lease) → t < 256 → Fine l → leaseFormat .ok (filedLease t l)
+unfolding filedLease
 fine-ok t l h v =
     let w = v .typed in
     let n = id-length l v in
@@ -256,8 +256,8 @@ passes : (b c : Bool) → b ≡ false → c ≡ true → pick b false c ≡ true
 unfolding pick
 passes b c e p = ap (λ (x : Bool). pick x false c) e ∙ p
 
-fine-storable : (t : ℕ) (l : Lease) → 1 ≤ t → t ≤ 8 → Fine l → storableB (filed t l) ≡ true
-unfolding storableB filed
+fine-storable : (t : ℕ) (l : Lease) → 1 ≤ t → t ≤ 8 → Fine l → storableB (filedLease t l) ≡ true
+unfolding storableB filedLease
 fine-storable t l h g v =
     let n = id-length l v in let m = v .most in
     passes _ _ (le-ltb t 1 h) (passes _ _ (le-ltb 8 t g) (passes _ _ (le-ltb 32 (length (take (l .«id_len») (l .id))) (omega arith)) (offsets-below (offsets (l .addresses)) (offsets-small (l .addresses)))))
@@ -267,19 +267,19 @@ leases-ok : (t : ℕ) (ts : List TenantLeases) → t + length ts ≤ 256 → All
 unfolding All filedFrom
 leases-ok t [] h v = tt
 leases-ok t (x ∷ ts) h v =
-    all-joined (leaseFormat .ok) (map (filed t) (inUse x)) (filedFrom (suc t) (map inUse ts))
-    (all-mapped (leaseFormat .ok) (filed t) (inUse x) (two-facts Fine Fine (λ l. leaseFormat .ok (filed t l)) (inUse x) (λ l p q. fine-ok t l (omega arith) p) (good-fine x (v .0)) (good-fine x (v .0))))
+    all-joined (leaseFormat .ok) (map (filedLease t) (inUse x)) (filedFrom (suc t) (map inUse ts))
+    (all-mapped (leaseFormat .ok) (filedLease t) (inUse x) (two-facts Fine Fine (λ l. leaseFormat .ok (filedLease t l)) (inUse x) (λ l p q. fine-ok t l (omega arith) p) (good-fine x (v .0)) (good-fine x (v .0))))
     (leases-ok (suc t) ts (omega arith) (v .1))
 
 leases-storable : (t : ℕ) (ts : List TenantLeases) → 1 ≤ t → t + length ts ≤ 9 → All Good ts → allBy storableB (filedFrom t (map inUse ts)) ≡ true
 unfolding All filedFrom allBy
 leases-storable t [] l h v = refl
 leases-storable t (x ∷ ts) l h v =
-    all-append storableB (map (filed t) (inUse x)) (filedFrom (suc t) (map inUse ts)) (own (inUse x) (good-fine x (v .0))) (leases-storable (suc t) ts (omega arith) (omega arith) (v .1))
+    all-append storableB (map (filedLease t) (inUse x)) (filedFrom (suc t) (map inUse ts)) (own (inUse x) (good-fine x (v .0))) (leases-storable (suc t) ts (omega arith) (omega arith) (v .1))
   where
-    own : (ls : List Lease) → All Fine ls → allBy storableB (map (filed t) ls) ≡ true
+    own : (ls : List Lease) → All Fine ls → allBy storableB (map (filedLease t) ls) ≡ true
     own [] p = refl
-    own (y ∷ ls) p = all-cons storableB (filed t y) (map (filed t) ls) (fine-storable t y l (omega arith) (p .0)) (own ls (p .1))
+    own (y ∷ ls) p = all-cons storableB (filedLease t y) (map (filedLease t) ls) (fine-storable t y l (omega arith) (p .0)) (own ls (p .1))
 
 leases-neat : (ts : List TenantLeases) → All Good ts → All (All Neat) (map inUse ts)
 unfolding All
@@ -311,16 +311,16 @@ after-less u t a b h = ap (λ (c : Bool). pick c false (pick (ltb t u) true (eqb
 
 -- the leases after x, and what follows the tenant's
 own-order : (t : ℕ) (x : Lease) (l : List Lease) (rest : List FileLease) → pairsBy ordered (x ∷ l) ≡ true → ((b : List ℕ) → orderedFrom t b rest ≡ true)
-    → orderedFrom t (idOf x) (map (filed t) l ++ rest) ≡ true
-unfolding orderedFrom filed
+    → orderedFrom t (idOf x) (map (filedLease t) l ++ rest) ≡ true
+unfolding orderedFrom filedLease
 own-order t x [] rest e r = r (idOf x)
 own-order t x (y ∷ l) rest e r =
     let p = pairs-head ordered x (y ∷ l) e in
     passes _ _ (after-same t (idOf x) (idOf y) (next-not x y (all-head (ordered x) y l (p .0) .0))) (own-order t y l rest (p .1) r)
 
 enter-order : (u t : ℕ) (a : List ℕ) (l : List Lease) (rest : List FileLease) → u < t → pairsBy ordered l ≡ true → ((v : ℕ) (b : List ℕ) → v ≤ t → orderedFrom v b rest ≡ true)
-    → orderedFrom u a (map (filed t) l ++ rest) ≡ true
-unfolding orderedFrom filed
+    → orderedFrom u a (map (filedLease t) l ++ rest) ≡ true
+unfolding orderedFrom filedLease
 enter-order u t a [] rest h e r = r u a (omega arith)
 enter-order u t a (x ∷ l) rest h e r = passes _ _ (after-less u t a (idOf x) h) (own-order t x l rest e (λ b. r t b (omega arith)))
 
@@ -335,8 +335,8 @@ unfolding All filedFrom
 leases-many t [] v = omega arith
 leases-many t (x ∷ ts) v =
     let ih = leases-many (suc t) ts (v .1) in
-    let a = length-append (map (filed t) (inUse x)) (filedFrom (suc t) (map inUse ts)) in
-    let b = length-map (inUse x) (filed t) in
+    let a = length-append (map (filedLease t) (inUse x)) (filedFrom (suc t) (map inUse ts)) in
+    let b = length-map (inUse x) (filedLease t) in
     let c = good-length x (v .0) in
     let d = good-count x (v .0) in
     omega arith
@@ -446,19 +446,19 @@ module _ (s : State) (b : LeaseTable) (v : Typed s b) (e : soundB s b ≡ true) 
   unfolding rulesOf rule13
   laid-both = and-parts (settingsB s) (allBy layoutB (b .tenants)) (rules .layout)
 
-  few-most : (most n : ℕ) → few most n ≡ true → n ≤ most
-  unfolding few
+  few-most : (most n : ℕ) → oneTo most n ≡ true → n ≤ most
+  unfolding oneTo
   few-most most n p = leb-true n most (and-parts (leb 1 n) (leb n most) p .1)
 
   tenants-few : s .«tenant_count» ≤ 8
   unfolding countsB
-  tenants-few = few-most 8 (s .«tenant_count») (and-parts (few 8 (s .«tenant_count»)) (few 4 (s .«scope_count») && allBy sizeB (scopesOf s)) (counted-both .0) .0)
+  tenants-few = few-most 8 (s .«tenant_count») (and-parts (oneTo 8 (s .«tenant_count»)) (oneTo 4 (s .«scope_count») && allBy sizeB (scopesOf s)) (counted-both .0) .0)
 
   scopes-few : s .«scope_count» ≤ 4
   unfolding countsB
   scopes-few =
       few-most 4 (s .«scope_count»)
-      (and-parts (few 4 (s .«scope_count»)) (allBy sizeB (scopesOf s)) (and-parts (few 8 (s .«tenant_count»)) (few 4 (s .«scope_count») && allBy sizeB (scopesOf s)) (counted-both .0) .1) .0)
+      (and-parts (oneTo 4 (s .«scope_count»)) (allBy sizeB (scopesOf s)) (and-parts (oneTo 8 (s .«tenant_count»)) (oneTo 4 (s .«scope_count») && allBy sizeB (scopesOf s)) (counted-both .0) .1) .0)
 
   good : All Good (b .tenants)
   good =

@@ -15,7 +15,7 @@ use Rattle.address_set.specs.declared.Offsets.{Offsets}
 use Rattle.lists.specs.Part.{cut-take}
 use Rattle.lists.specs.Pick.{pick}
 use Rattle.lists.specs.Sums.{sum-same, sumTo}
-use Rattle.octets.specs.Laws.{joined, whole, wrote-as}
+use Rattle.octets.specs.Laws.{wrote-joined, wrote-whole, wrote-as}
 use Rattle.octets.specs.Octets.{Wrote, octets32}
 use Rattle.soundness.specs.Sound.{soundB}
 use Rattle.state.specs.Book.{inUse, leasesOf, noLeases, rangesOf, scopesOf}
@@ -29,8 +29,8 @@ use Rattle.state_file.proofs.RowLaws.{pair-length, row-sum}
 use Rattle.state_file.proofs.WholeForm.{tenants}
 use Rattle.state_file.specs.File.{FilePart, leaseFormat, partFormat, scopeFormat, tenantFormat}
 use Rattle.state_file.specs.Format.{writeAll}
-use Rattle.state_file.specs.Records.{filed, filedBook, filedFrom, filedScope, pairUp}
-use Rattle.state_file.specs.Rows.{leaseOctets, leaseTotal, partOctets, partRow, rangeOctets, rangeRow, scopeOctets, scopeRow, tableOctets, tenantOctets, tenantRow, writeFrom}
+use Rattle.state_file.specs.Records.{filedLease, filedBook, filedFrom, filedScope, pairUp}
+use Rattle.state_file.specs.Rows.{leaseOctets, leaseTotal, partOctets, partRow, fileRangeOctets, rangeRow, fileScopeOctets, scopeRow, tableOctets, tenantOctets, tenantRow, writeFrom}
 use Rattle.state_file.specs.StateFile.{octetsOf, roomAfter, writtenOf}
 use Rattle.state_file.specs.declared.Written.{Written}
 
@@ -48,16 +48,16 @@ id-length n x id e h = h ∙ ap (min x) (sym e) ∙ sym (length-take x id)
 pub head-wrote : {r₀ r₁ r₂ r₃ r₄ : List ℕ} {at a b c d t s n : ℕ} (x : ℕ) (id : List ℕ) → length id ≡ 32 → n ≡ min x 32 → at ≤ length r₀ → Wrote r₀ at (t ∷ []) r₁ a → Wrote r₁ a (s ∷ []) r₂ b → Wrote r₂ b (n ∷ []) r₃ c
     → Wrote r₃ c (take n id) r₄ d → Wrote r₀ at (t ∷ s ∷ length (take x id) ∷ take x id) r₄ d
 head-wrote {r₀} {r₁} {r₂} {r₃} {r₄} {at} {a} {b} {c} {d} {t} {s} {n} x id l m h p q w z =
-    joined h (joined h (joined h p q) (subst (λ (j : ℕ). Wrote r₂ b (j ∷ []) r₃ c) (id-length n x id l m) w))
+    wrote-joined h (wrote-joined h (wrote-joined h p q) (subst (λ (j : ℕ). Wrote r₂ b (j ∷ []) r₃ c) (id-length n x id l m) w))
     (subst (λ (j : List ℕ). Wrote r₃ c j r₄ d) (ap (λ (j : ℕ). take j id) m ∙ cut-take 32 x id l) z)
 
 pub middle-wrote : {r₀ r₁ r₂ r₃ r₄ : List ℕ} {at a b c d k : ℕ} (x s e : ℕ) → at ≤ length r₀ → Wrote r₀ at (k ∷ []) r₁ a → Wrote r₁ a (octets32 x) r₂ b → Wrote r₂ b (octets32 s) r₃ c → Wrote r₃ c (octets32 e) r₄ d
     → Wrote r₀ at (k ∷ octets32 x ++ octets32 s ++ octets32 e) r₄ d
-middle-wrote x s e h p q w z = joined h (joined h (joined h p q) w) z
+middle-wrote x s e h p q w z = wrote-joined h (wrote-joined h (wrote-joined h p q) w) z
 
 pub addresses-wrote : {r₀ r₁ r₂ : List ℕ} {at a b n : ℕ} (m : ℕ) → at ≤ length r₀ → n ≡ length (offsets m) → Wrote r₀ at (n ∷ []) r₁ a → Wrote r₁ a (offsets m) r₂ b
     → Wrote r₀ at (length (offsets m) ∷ offsets m) r₂ b
-addresses-wrote {r₀} {r₁} {r₂} {at} {a} m h e p q = joined h (subst (λ (n : ℕ). Wrote r₀ at (n ∷ []) r₁ a) e p) q
+addresses-wrote {r₀} {r₁} {r₂} {at} {a} m h e p q = wrote-joined h (subst (λ (n : ℕ). Wrote r₀ at (n ∷ []) r₁ a) e p) q
 
 pub addresses-few : (m n : ℕ) → n ≡ length (offsets m) → n ≤ 64
 addresses-few m n e = let h = length-offsets m in omega arith
@@ -67,9 +67,9 @@ unfolding writeAll
 plain [] = refl
 plain (x ∷ l) = ap {B = List ℕ} (λ (m : List ℕ). x ∷ m) (plain l)
 
-lease-octets : (t : ℕ) (l : Lease) → leaseFormat .write (filed t l)
+lease-octets : (t : ℕ) (l : Lease) → leaseFormat .write (filedLease t l)
     ≡ (t ∷ l .scope ∷ length (take (l .«id_len») (l .id)) ∷ take (l .«id_len») (l .id)) ++ (l .kind ∷ octets32 (l .xid) ++ octets32 (l .start) ++ octets32 (l .end)) ++ (length (offsets (l .addresses)) ∷ offsets (l .addresses))
-unfolding filed
+unfolding filedLease
 lease-octets t l =
     ap₂ build (plain id) (plain offs)
     ∙ sym (append-assoc (t ∷ l .scope ∷ length id ∷ id) (l .kind ∷ octets32 (l .xid) ++ octets32 (l .start) ++ octets32 (l .end)) (length offs ∷ offs))
@@ -84,15 +84,15 @@ lease-octets t l =
     build i o = t ∷ l .scope ∷ length id ∷ (i ++ (l .kind ∷ octets32 (l .xid) ++ octets32 (l .start) ++ octets32 (l .end) ++ (length offs ∷ o)))
 
 -- how many there are
-pub lease-size : (t : ℕ) (l : Lease) → length (leaseFormat .write (filed t l)) ≡ length (take (l .«id_len») (l .id)) + 17 + length (offsets (l .addresses))
+pub lease-size : (t : ℕ) (l : Lease) → length (leaseFormat .write (filedLease t l)) ≡ length (take (l .«id_len») (l .id)) + 17 + length (offsets (l .addresses))
 lease-size t l = ap length (lease-octets t l) ∙ simp length-append (omega arith)
 
 pub lease-wrote : {r₀ r₁ r₂ r₃ : List ℕ} {at a b c : ℕ} (t : ℕ) (l : Lease) → at ≤ length r₀
     → Wrote r₀ at (t ∷ l .scope ∷ length (take (l .«id_len») (l .id)) ∷ take (l .«id_len») (l .id)) r₁ a
     → Wrote r₁ a (l .kind ∷ octets32 (l .xid) ++ octets32 (l .start) ++ octets32 (l .end)) r₂ b
     → Wrote r₂ b (length (offsets (l .addresses)) ∷ offsets (l .addresses)) r₃ c
-    → Wrote r₀ at (leaseFormat .write (filed t l)) r₃ c
-lease-wrote {r₀} {r₁} {r₂} {r₃} {at} {a} {b} {c} t l h p q w = subst (λ (o : List ℕ). Wrote r₀ at o r₃ c) (sym (lease-octets t l)) (joined h (joined h p q) w)
+    → Wrote r₀ at (leaseFormat .write (filedLease t l)) r₃ c
+lease-wrote {r₀} {r₁} {r₂} {r₃} {at} {a} {b} {c} t l h p q w = subst (λ (o : List ℕ). Wrote r₀ at o r₃ c) (sym (lease-octets t l)) (wrote-joined h (wrote-joined h p q) w)
 
 pub ruleset leasePuts = (part-long, part-room)
 
@@ -110,10 +110,10 @@ listed-count m o e = ap (λ (x : Offsets). x .count) e
 
 -- ---- settings
 pub part-wrote : {r₀ r₁ r₂ : List ℕ} {at a b x y : ℕ} → at ≤ length r₀ → Wrote r₀ at (x ∷ []) r₁ a → Wrote r₁ a (y ∷ []) r₂ b → Wrote r₀ at (x ∷ y ∷ []) r₂ b
-part-wrote h p q = joined h p q
+part-wrote h p q = wrote-joined h p q
 
 pub range-wrote : {r₀ r₁ r₂ : List ℕ} {at a b : ℕ} (x : ClientRange) → at ≤ length r₀ → Wrote r₀ at (octets32 (x .low)) r₁ a → Wrote r₁ a (octets32 (x .high)) r₂ b → Wrote r₀ at (tenantFormat .write x) r₂ b
-range-wrote x h p q = joined h p q
+range-wrote x h p q = wrote-joined h p q
 
 row-all : {A : Type 0} (w : A → List ℕ) (k : ℕ) (l : List A) → writeFrom (λ _ x. w x) k l ≡ writeAll w l
 unfolding writeFrom writeAll
@@ -144,16 +144,16 @@ scope-least h x = ap length (sym (scope-octets h x)) ∙ simp length-append (ome
 
 pub scope-wrote : {r₀ r₁ r₂ r₃ r₄ : List ℕ} {at a b c d : ℕ} (h : ℕ) (x : Scope) → at ≤ length r₀ → Wrote r₀ at (octets32 (x .lowest)) r₁ a → Wrote r₁ a (x .size ∷ []) r₂ b → Wrote r₂ b (x .ttl ∷ []) r₃ c
     → Wrote r₃ c (partOctets h x) r₄ d → Wrote r₀ at (scopeFormat h .write (filedScope h x)) r₄ d
-scope-wrote h x l p q w z = wrote-as (scope-octets h x) (joined l (joined l (joined l p q) w) z)
+scope-wrote h x l p q w z = wrote-as (scope-octets h x) (wrote-joined l (wrote-joined l (wrote-joined l p q) w) z)
 
 pub count-is : {A : Type 0} (m c n : ℕ) (l : List A) → length l ≡ m → n ≡ min c m → n ≡ length (take c l)
 count-is m c n l e p = p ∙ ap (min c) (sym e) ∙ sym (length-take c l)
 
 pub section-wrote : {r₀ r₁ r₂ xs : List ℕ} {at a b n : ℕ} (k : ℕ) → at ≤ length r₀ → n ≡ k → Wrote r₀ at (n ∷ []) r₁ a → Wrote r₁ a xs r₂ b → Wrote r₀ at (k ∷ xs) r₂ b
-section-wrote {r₀} {r₁} {at = at} {a = a} k h e p q = joined h (wrote-as (ap {B = List ℕ} (λ (n : ℕ). n ∷ []) e) p) q
+section-wrote {r₀} {r₁} {at = at} {a = a} k h e p q = wrote-joined h (wrote-as (ap {B = List ℕ} (λ (n : ℕ). n ∷ []) e) p) q
 
 pub server-wrote : {r₀ r₁ r₂ r₃ : List ℕ} {a b c : ℕ} (x y : ℕ) → Wrote r₀ 0 (1 ∷ []) r₁ a → Wrote r₁ a (octets32 x) r₂ b → Wrote r₂ b (octets32 y) r₃ c → Wrote r₀ 0 (1 ∷ octets32 x ++ octets32 y) r₃ c
-server-wrote x y p q w = joined (omega arith) (joined (omega arith) p q) w
+server-wrote x y p q w = wrote-joined (omega arith) (wrote-joined (omega arith) p q) w
 
 pub listed-long : (m : ℕ) (o : Offsets) → o ≡ listed (offsets m) → o .count ≤ length (o .list)
 unfolding listed
@@ -165,7 +165,7 @@ listed-long m o e =
 
 -- ---- lengths
 -- a lease has as many octets whoever's it is
-pub lease-length : (t : ℕ) (l : Lease) (n k r : ℕ) → length (l .id) ≡ 32 → n ≡ min (l .«id_len») 32 → k ≡ length (offsets (l .addresses)) → r ≡ n + 17 + k → (r ≡ length (leaseFormat .write (filed t l))) × (r ≤ 113)
+pub lease-length : (t : ℕ) (l : Lease) (n k r : ℕ) → length (l .id) ≡ 32 → n ≡ min (l .«id_len») 32 → k ≡ length (offsets (l .addresses)) → r ≡ n + 17 + k → (r ≡ length (leaseFormat .write (filedLease t l))) × (r ≤ 113)
 lease-length t l n k r e p q z =
     let a = id-length n (l .«id_len») (l .id) e p in
     let b = lease-size t l in
@@ -176,9 +176,9 @@ tenant-any : (t k : ℕ) (l : List Lease) → length (writeFrom (leaseOctets t) 
 unfolding writeFrom leaseOctets
 tenant-any t k [] = refl
 tenant-any t k (x ∷ l) =
-    length-append (leaseFormat .write (filed t x)) (writeFrom (leaseOctets t) (suc k) l)
+    length-append (leaseFormat .write (filedLease t x)) (writeFrom (leaseOctets t) (suc k) l)
     ∙ ap₂ (λ (a b : ℕ). a + b) (lease-size t x ∙ sym (lease-size 0 x)) (tenant-any t (suc k) l)
-    ∙ sym (length-append (leaseFormat .write (filed 0 x)) (writeFrom (leaseOctets 0) (suc k) l))
+    ∙ sym (length-append (leaseFormat .write (filedLease 0 x)) (writeFrom (leaseOctets 0) (suc k) l))
 
 pub table-length : (b : LeaseTable) (sum : ℕ) → length (b .tenants) ≡ 8 → sum ≡ sumTo (λ i. length (tenantOctets 0 (getD (b .tenants) i noLeases))) 8 → sum ≡ length (tableOctets b)
 unfolding tenantRow
@@ -197,13 +197,13 @@ scope-length c h n p q e = (sym (scope-size h n c p q e), omega arith)
 
 -- ---- the whole file
 -- the sections as they are written
-filed-octets : (t : ℕ) (l : List Lease) → writeAll (leaseFormat .write) (map (filed t) l) ≡ writeFrom (leaseOctets t) 0 l
+filed-octets : (t : ℕ) (l : List Lease) → writeAll (leaseFormat .write) (map (filedLease t) l) ≡ writeFrom (leaseOctets t) 0 l
 unfolding writeAll writeFrom leaseOctets
 filed-octets t l = go 0 l
   where
-    go : (k : ℕ) (l : List Lease) → writeAll (leaseFormat .write) (map (filed t) l) ≡ writeFrom (leaseOctets t) k l
+    go : (k : ℕ) (l : List Lease) → writeAll (leaseFormat .write) (map (filedLease t) l) ≡ writeFrom (leaseOctets t) k l
     go k [] = refl
-    go k (x ∷ l) = ap (λ (r : List ℕ). leaseFormat .write (filed t x) ++ r) (go (suc k) l)
+    go k (x ∷ l) = ap (λ (r : List ℕ). leaseFormat .write (filedLease t x) ++ r) (go (suc k) l)
 
 write-append : {A : Type 0} (w : A → List ℕ) (x y : List A) → writeAll w (x ++ y) ≡ writeAll w x ++ writeAll w y
 unfolding writeAll
@@ -214,7 +214,7 @@ table-octets : (k : ℕ) (hs : List TenantLeases) → writeAll (leaseFormat .wri
 unfolding writeFrom writeAll filedFrom tenantRow
 table-octets k [] = refl
 table-octets k (h ∷ hs) =
-    write-append (leaseFormat .write) (map (filed (k + 1)) (inUse h)) (filedFrom (suc (k + 1)) (map inUse hs))
+    write-append (leaseFormat .write) (map (filedLease (k + 1)) (inUse h)) (filedFrom (suc (k + 1)) (map inUse hs))
     ∙ ap₂ {C = List ℕ} (λ (x y : List ℕ). x ++ y) (filed-octets (k + 1) (inUse h))
     (ap (λ (j : ℕ). writeAll (leaseFormat .write) (filedFrom j (map inUse hs))) (let e : suc (k + 1) ≡ suc k + 1 = omega arith in e) ∙ table-octets (suc k) hs)
 
@@ -226,7 +226,7 @@ total (l ∷ ls) = length l + total ls
 filed-count : (t : ℕ) (ls : List (List Lease)) → length (filedFrom t ls) ≡ total ls
 unfolding filedFrom total
 filed-count t [] = refl
-filed-count t (l ∷ ls) = length-append (map (filed t) l) (filedFrom (suc t) ls) ∙ ap₂ (λ (a b : ℕ). a + b) (length-map l (filed t)) (filed-count (suc t) ls)
+filed-count t (l ∷ ls) = length-append (map (filedLease t) l) (filedFrom (suc t) ls) ∙ ap₂ (λ (a b : ℕ). a + b) (length-map l (filedLease t)) (filed-count (suc t) ls)
 
 total-next : (i : ℕ) (hs : List TenantLeases) → i < length hs → total (map inUse (take (suc i) hs)) ≡ total (map inUse (take i hs)) + length (inUse (getD hs i noLeases))
 unfolding total
@@ -257,26 +257,26 @@ four a b c d = sym (append-assoc (a ++ b) c d ∙ append-assoc a b (c ++ d))
 
 -- the sections as they are written
 module _ (s : State) (b : LeaseTable) (e : length (b .tenants) ≡ 8) where
-  file-octets : octetsOf s b ≡ (((1 ∷ octets32 (s .server) ++ octets32 (s .clock)) ++ (length (rangesOf s) ∷ rangeOctets s)) ++ (length (scopesOf s) ∷ scopeOctets s)) ++ (leaseTotal b ∷ tableOctets b)
+  file-octets : octetsOf s b ≡ (((1 ∷ octets32 (s .server) ++ octets32 (s .clock)) ++ (length (rangesOf s) ∷ fileRangeOctets s)) ++ (length (scopesOf s) ∷ fileScopeOctets s)) ++ (leaseTotal b ∷ tableOctets b)
   unfolding octetsOf filedBook
   file-octets =
       ap₂ {C = List ℕ} (λ (x y : List ℕ). server ++ ((length (rangesOf s) ∷ x) ++ y)) (ranges-octets 0 (rangesOf s))
       (ap₂ {C = List ℕ} (λ (x y : List ℕ). x ++ y)
       (ap₂ {C = List ℕ} (λ (n : ℕ) (x : List ℕ). n ∷ x) (length-map (scopesOf s) (filedScope (s .«tenant_count»))) (scopes-octets (length (rangesOf s)) (s .«tenant_count») 0 (scopesOf s)))
       (ap₂ {C = List ℕ} (λ (n : ℕ) (x : List ℕ). n ∷ x) (lease-total b e) (table-octets 0 (b .tenants))))
-      ∙ four server (length (rangesOf s) ∷ rangeOctets s) (length (scopesOf s) ∷ scopeOctets s) (leaseTotal b ∷ tableOctets b)
+      ∙ four server (length (rangesOf s) ∷ fileRangeOctets s) (length (scopesOf s) ∷ fileScopeOctets s) (leaseTotal b ∷ tableOctets b)
     where
       server : List ℕ
       server = 1 ∷ octets32 (s .server) ++ octets32 (s .clock)
 
-  pub file-length : length (octetsOf s b) ≡ 12 + length (rangeOctets s) + length (scopeOctets s) + length (tableOctets b)
+  pub file-length : length (octetsOf s b) ≡ 12 + length (fileRangeOctets s) + length (fileScopeOctets s) + length (tableOctets b)
   file-length = ap length file-octets ∙ simp length-append (omega arith)
 
-  pub file-wrote : {r₀ r₁ r₂ r₃ r₄ : List ℕ} {a c d f : ℕ} → Wrote r₀ 0 (1 ∷ octets32 (s .server) ++ octets32 (s .clock)) r₁ a → Wrote r₁ a (length (rangesOf s) ∷ rangeOctets s) r₂ c
-      → Wrote r₂ c (length (scopesOf s) ∷ scopeOctets s) r₃ d → Wrote r₃ d (leaseTotal b ∷ tableOctets b) r₄ f → Wrote r₀ 0 (octetsOf s b) r₄ f
-  file-wrote p q w z = wrote-as (sym file-octets) (joined (omega arith) (joined (omega arith) (joined (omega arith) p q) w) z)
+  pub file-wrote : {r₀ r₁ r₂ r₃ r₄ : List ℕ} {a c d f : ℕ} → Wrote r₀ 0 (1 ∷ octets32 (s .server) ++ octets32 (s .clock)) r₁ a → Wrote r₁ a (length (rangesOf s) ∷ fileRangeOctets s) r₂ c
+      → Wrote r₂ c (length (scopesOf s) ∷ fileScopeOctets s) r₃ d → Wrote r₃ d (leaseTotal b ∷ tableOctets b) r₄ f → Wrote r₀ 0 (octetsOf s b) r₄ f
+  file-wrote p q w z = wrote-as (sym file-octets) (wrote-joined (omega arith) (wrote-joined (omega arith) (wrote-joined (omega arith) p q) w) z)
 
-  pub size-is : (h x y r : ℕ) → length (s .tenants) ≡ 8 → h ≡ min (s .«tenant_count») 8 → x ≡ length (scopeOctets s) → y ≡ length (tableOctets b) → r ≡ 12 + h * 8 + x + y → r ≡ length (octetsOf s b)
+  pub size-is : (h x y r : ℕ) → length (s .tenants) ≡ 8 → h ≡ min (s .«tenant_count») 8 → x ≡ length (fileScopeOctets s) → y ≡ length (tableOctets b) → r ≡ 12 + h * 8 + x + y → r ≡ length (octetsOf s b)
   size-is h x y r l p q w z =
       let f = file-length in
       let k = ranges-length 0 (rangesOf s) in
@@ -309,5 +309,5 @@ module _ (s : State) (b : LeaseTable) (q : Bool) (e : q ≡ soundB s b) where
         let p : soundB s b ≡ true = sym e ∙ t in
         let k : ltb (length room) (length (octetsOf s b)) ≡ false = le-ltb _ _ (let g : length (octetsOf s b) ≤ length room = omega arith in g) in (
           ap {B = Written} (λ (x : ℕ). record { refusal = 0; length = x }) l ∙ sym (ap₂ (λ (x y : Bool). pick x (pick y (record { refusal = 23; length = 0 }) (record { refusal = 0; length = length (octetsOf s b) })) (record { refusal = 22; length = 0 })) p k),
-          whole w ∙ sym (ap₂ (λ (x y : Bool). pick x (pick y room (octetsOf s b ++ drop (length (octetsOf s b)) room)) room) p k),
+          wrote-whole w ∙ sym (ap₂ (λ (x y : Bool). pick x (pick y room (octetsOf s b ++ drop (length (octetsOf s b)) room)) room) p k),
         )

@@ -48,8 +48,8 @@ unfoldable pub orderedFrom : ℕ → List ℕ → List FileLease → Bool
 orderedFrom t a [] = true
 orderedFrom t a (b ∷ l) = pick (isAfter t a (b .tenant) (b .id)) false (orderedFrom (b .tenant) (b .id) l)
 
-abbrev pub ordered : List FileLease → Bool
-ordered = orderedFrom 0 []
+abbrev pub leasesOrdered : List FileLease → Bool
+leasesOrdered = orderedFrom 0 []
 
 abbrev pub tenantFormat : Format ClientRange
 tenantFormat = viewed (λ p. record { low = p .0; high = p .1 }) (λ t. (t .low, t .high)) (number ⊗ number)
@@ -77,7 +77,7 @@ abbrev pub leaseFormat : Format FileLease
 leaseFormat = viewed ofParts toParts (octet ⊗ octet ⊗ counted octet ⊗ octet ⊗ number ⊗ number ⊗ number ⊗ only rises (counted octet))
 
 abbrev pub leasesFormat : Format (List FileLease)
-leasesFormat = only ordered (counted leaseFormat)
+leasesFormat = only leasesOrdered (counted leaseFormat)
 
 -- the sections in the file's order, and the file of its sections
 abbrev pub Sections : Type 0

@@ -9,7 +9,7 @@ use lib.ListN.{length}
 use borrow.Author.Tests.{le-leb, leb-true}
 use Rattle.address_set.specs.AddressSet.{rises}
 use Rattle.lists.specs.Pick.{pick}
-use Rattle.state_file.specs.File.{longestFile, File, fileFormat, fileOf, leaseFormat, ordered, partFormat, scopeFormat, tenantFormat}
+use Rattle.state_file.specs.File.{longestFile, File, fileFormat, fileOf, leaseFormat, leasesOrdered, partFormat, scopeFormat, tenantFormat}
 use Rattle.state_file.specs.Format.{bad, closed, counted, got, octet}
 use Rattle.state_file.specs.FormatLaws.{Lawful, Octets, after-lawful, both-lawful, counted-lawful, number-lawful, octet-lawful, only-lawful, then-lawful, times-lawful, viewed-lawful, whole-reads, whole-written}
 
@@ -35,7 +35,7 @@ pub file-lawful : Lawful fileFormat
 file-lawful =
     viewed-lawful
     (both-lawful (after-lawful (both-lawful number-lawful number-lawful) 1)
-    (then-lawful (counted-lawful tenant-lawful) (λ ts. both-lawful (counted-lawful (scope-lawful (length ts))) (only-lawful (counted-lawful lease-lawful) ordered))))
+    (then-lawful (counted-lawful tenant-lawful) (λ ts. both-lawful (counted-lawful (scope-lawful (length ts))) (only-lawful (counted-lawful lease-lawful) leasesOrdered))))
     _ _ (λ x. refl) (λ y. refl)
 
 -- Octets that make a file are what the file's writing gives.

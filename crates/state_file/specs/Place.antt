@@ -21,9 +21,9 @@ use Rattle.state_file.specs.declared.Place.the-variants.{At, Nowhere}
 
 -- ---- where reading ends
 -- among n octets
-unfoldable pub placeOf : {A : Type 0} → ℕ → Got A → Place
-placeOf n (got x r) = At (n - length r)
-placeOf n bad = Nowhere
+unfoldable pub endPlace : {A : Type 0} → ℕ → Got A → Place
+endPlace n (got x r) = At (n - length r)
+endPlace n bad = Nowhere
 
 -- what reading gave, by where it ended
 unfoldable pub gotAt : {A : Type 0} → List ℕ → A → Place → Got A
@@ -41,8 +41,8 @@ onGot bad k = Nowhere
 
 -- ---- leases
 -- the lease that starts at a place, whose parts are taken from where they would stand
-unfoldable pub leaseAt : List ℕ → ℕ → FileLease
-leaseAt s at = record {
+unfoldable pub fileLeaseAt : List ℕ → ℕ → FileLease
+fileLeaseAt s at = record {
   tenant = getD s at 0;
   scope = getD s (at + 1) 0;
   id = take (getD s (at + 2) 0) (drop (at + 3) s);
@@ -60,14 +60,14 @@ nextAt s at = at + (getD s (at + 2) 0 + 17 + getD s (at + (getD s (at + 2) 0 + 1
 -- the k leases from a place on
 unfoldable pub leasesAt : List ℕ → ℕ → ℕ → List FileLease
 leasesAt s at zero = []
-leasesAt s at (suc k) = leaseAt s at ∷ leasesAt s (nextAt s at) k
+leasesAt s at (suc k) = fileLeaseAt s at ∷ leasesAt s (nextAt s at) k
 
 unfoldable pub PlaceIn : List ℕ → ℕ → Place → Type 0
 PlaceIn s at (At n) = (at + (getD s (at + 2) 0 + 17) ≤ n) × (n ≤ length s)
 PlaceIn s at Nowhere = Unit {0}
 
 pub record LeaseEnds (s : List ℕ) (at : ℕ) (r : Place) : Type 0 where
-  pub reads : leaseFormat .read (drop at s) ≡ gotAt s (leaseAt s at) r
+  pub reads : leaseFormat .read (drop at s) ≡ gotAt s (fileLeaseAt s at) r
   pub within : PlaceIn s at r
 
 -- where k leases end, none of them out of order after tenant t with identifier a; n octets in all
@@ -84,13 +84,13 @@ InRow s at zero = Unit {0}
 InRow s at (suc k) = Inside s at × InRow s (nextAt s at) k
 
 -- and a record of the book can hold it
-pub record Held (s : List ℕ) (at : ℕ) : Type 0 where
+pub record Storable (s : List ℕ) (at : ℕ) : Type 0 where
   pub ids : getD s (at + 2) 0 ≤ 32
   pub room : at + (getD s (at + 2) 0 + 17 + getD s (at + (getD s (at + 2) 0 + 16)) 0) ≤ length s
 
-unfoldable pub AllHeld : List ℕ → ℕ → ℕ → Type 0
-AllHeld s at zero = Unit {0}
-AllHeld s at (suc k) = Held s at × AllHeld s (nextAt s at) k
+unfoldable pub AllStorable : List ℕ → ℕ → ℕ → Type 0
+AllStorable s at zero = Unit {0}
+AllStorable s at (suc k) = Storable s at × AllStorable s (nextAt s at) k
 
 -- tenant t's records with the lease x as well, if it is tenant t's
 unfoldable pub keepOne : ℕ → TenantLeases → FileLease → TenantLeases
@@ -117,8 +117,8 @@ unfoldable pub partAt : List ℕ → ℕ → FilePart
 partAt s at = record { reserve = getD s at 0; limit = getD s (at + 1) 0 }
 
 -- of h tenants
-unfoldable pub scopeAt : ℕ → List ℕ → ℕ → FileScope
-scopeAt h s at = record { lowest = at32 s at; size = getD s (at + 4) 0; ttl = getD s (at + 5) 0; parts = row partAt 2 h s (at + 6) }
+unfoldable pub fileScopeAt : ℕ → List ℕ → ℕ → FileScope
+fileScopeAt h s at = record { lowest = at32 s at; size = getD s (at + 4) 0; ttl = getD s (at + 5) 0; parts = row partAt 2 h s (at + 6) }
 
 -- ---- the whole file
 -- the counts of tenants, scopes and leases, and where the sections of the last two start
@@ -142,7 +142,7 @@ fileAt s = record {
   server = at32 s 1;
   clock = at32 s 5;
   tenants = row rangeAt 8 (tenantCount s) s 10;
-  scopes = row (scopeAt (tenantCount s)) (6 + tenantCount s * 2) (scopeCount s) s (scopesPlace s + 1);
+  scopes = row (fileScopeAt (tenantCount s)) (6 + tenantCount s * 2) (scopeCount s) s (scopesPlace s + 1);
   leases = leasesAt s (leasesPlace s + 1) (leaseCount s);
 }
 

@@ -13,7 +13,7 @@ use Rattle.lists.specs.All.{All, all-cons, all-head, allBy}
 use Rattle.lists.specs.Filter.{filter-none-out}
 use Rattle.state.specs.declared.Lease.{Lease}
 use Rattle.state_file.specs.File.{FileLease}
-use Rattle.state_file.specs.Records.{filed, filled, isOffset, stored}
+use Rattle.state_file.specs.Records.{filedLease, filled, isOffset, stored}
 
 -- ---- lists that zeros fill up
 pub filled-take : {A : Type 0} (z : A) (n : ℕ) (l : List A) → take (length l) (filled z n l) ≡ l
@@ -60,13 +60,13 @@ read-offsets : (m : ℕ) → m < 2 ^ 64 → readOffsets (offsets m) ≡ m
 unfolding readOffsets
 read-offsets m h = ap setOf (filter-none-out isOffset (offsets m) (all-offsets (offsets m) (offsets-small m))) ∙ setOf-offsets m h
 
-pub filed-stored : (x : FileLease) → Storable x → filed (x .tenant) (stored x) ≡ x
-unfolding filed stored
+pub filed-stored : (x : FileLease) → Storable x → filedLease (x .tenant) (stored x) ≡ x
+unfolding filedLease stored
 filed-stored x h = ap₂ {C = FileLease} (λ (i o : List ℕ). record { tenant = x .tenant; scope = x .scope; id = i; kind = x .kind; xid = x .xid; start = x .start; end = x .end; offsets = o })
     (filled-take 0 32 (x .id)) (offsets-read (x .offsets) (h .rising) (h .low))
 
-pub stored-filed : (t : ℕ) (l : Lease) → Neat l → stored (filed t l) ≡ l
-unfolding filed stored
+pub stored-filed : (t : ℕ) (l : Lease) → Neat l → stored (filedLease t l) ≡ l
+unfolding filedLease stored
 stored-filed t l h =
     ap (λ (n : ℕ). make n (filled 0 32 (take (l .«id_len») (l .id))) (readOffsets (offsets (l .addresses)))) (h .long)
     ∙ ap₂ (make (l .«id_len»)) (filled-back 0 32 (l .«id_len») (l .id) (h .long) (h .zeros)) (read-offsets (l .addresses) (h .bits))

@@ -36,8 +36,8 @@ stored x = record {
 }
 
 -- a record of tenant t as it stands in the file
-unfoldable pub filed : ℕ → Lease → FileLease
-filed t l = record {
+unfoldable pub filedLease : ℕ → Lease → FileLease
+filedLease t l = record {
   tenant = t;
   scope = l .scope;
   id = take (l .«id_len») (l .id);
@@ -60,7 +60,7 @@ tenantsFrom t (suc n) xs = map stored (ofTenant t xs) ∷ tenantsFrom (suc t) n 
 -- the leases of the tenants from t on, in the file's order
 unfoldable pub filedFrom : ℕ → List (List Lease) → List FileLease
 filedFrom t [] = []
-filedFrom t (l ∷ ls) = map (filed t) l ++ filedFrom (suc t) ls
+filedFrom t (l ∷ ls) = map (filedLease t) l ++ filedFrom (suc t) ls
 
 -- ---- scopes
 unfoldable pub storedScope : FileScope → Scope

@@ -11,7 +11,7 @@ use Rattle.state.specs.declared.Scope.{Scope}
 use Rattle.state.specs.declared.State.{State}
 use Rattle.state.specs.declared.TenantLeases.{TenantLeases}
 use Rattle.state_file.specs.File.{FilePart, leaseFormat, partFormat, scopeFormat, tenantFormat}
-use Rattle.state_file.specs.Records.{filed, filedScope, pairUp}
+use Rattle.state_file.specs.Records.{filedLease, filedScope, pairUp}
 
 unfoldable pub writeFrom : {A : Type 0} → (ℕ → A → List ℕ) → ℕ → List A → List ℕ
 writeFrom w k [] = []
@@ -19,7 +19,7 @@ writeFrom w k (x ∷ l) = w k x ++ writeFrom w (suc k) l
 
 -- ---- leases
 unfoldable pub leaseOctets : ℕ → ℕ → Lease → List ℕ
-leaseOctets t _ l = leaseFormat .write (filed t l)
+leaseOctets t _ l = leaseFormat .write (filedLease t l)
 
 abbrev pub tenantOctets : ℕ → TenantLeases → List ℕ
 tenantOctets t h = writeFrom (leaseOctets t) 0 (inUse h)
@@ -34,8 +34,8 @@ tableOctets b = writeFrom tenantRow 0 (b .tenants)
 unfoldable pub rangeRow : ℕ → ClientRange → List ℕ
 rangeRow _ r = tenantFormat .write r
 
-abbrev pub rangeOctets : State → List ℕ
-rangeOctets s = writeFrom rangeRow 0 (rangesOf s)
+abbrev pub fileRangeOctets : State → List ℕ
+fileRangeOctets s = writeFrom rangeRow 0 (rangesOf s)
 
 unfoldable pub partRow : ℕ → FilePart → List ℕ
 partRow _ p = partFormat .write p
@@ -46,8 +46,8 @@ partOctets h c = writeFrom partRow 0 (take h (pairUp (c .reserve) (c .limit)))
 unfoldable pub scopeRow : ℕ → ℕ → Scope → List ℕ
 scopeRow h _ c = scopeFormat h .write (filedScope h c)
 
-abbrev pub scopeOctets : State → List ℕ
-scopeOctets s = writeFrom (scopeRow (s .«tenant_count»)) 0 (scopesOf s)
+abbrev pub fileScopeOctets : State → List ℕ
+fileScopeOctets s = writeFrom (scopeRow (s .«tenant_count»)) 0 (scopesOf s)
 
 -- ---- how many there are
 abbrev pub leaseTotal : LeaseTable → ℕ

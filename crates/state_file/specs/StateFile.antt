@@ -36,12 +36,12 @@ unfoldable pub loaded : File → Loaded
 loaded f = pick (fitsB f) (judged (storedState f) (storedTable f)) (refused 21)
 
 -- 20 is a wrong form
-unfoldable pub answered : Got File → Loaded
-answered (got f r) = loaded f
-answered bad = refused 20
+unfoldable pub loadedGot : Got File → Loaded
+loadedGot (got f r) = loaded f
+loadedGot bad = refused 20
 
-unfoldable pub readOf : List ℕ → Loaded
-readOf s = answered (fileOf s)
+unfoldable pub readFile : List ℕ → Loaded
+readFile s = loadedGot (fileOf s)
 
 -- ---- the writer
 -- the octets of a book's file

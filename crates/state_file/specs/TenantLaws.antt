@@ -12,9 +12,9 @@ use Rattle.lists.specs.All.{All}
 use Rattle.lists.specs.Filter.{filterBy}
 use Rattle.lists.specs.Pick.{pick}
 use Rattle.state.specs.declared.Lease.{Lease}
-use Rattle.state_file.specs.File.{FileLease, isAfter, ordered, orderedFrom}
+use Rattle.state_file.specs.File.{FileLease, isAfter, leasesOrdered, orderedFrom}
 use Rattle.state_file.specs.RecordLaws.{Neat, Storable, filed-stored, stored-filed}
-use Rattle.state_file.specs.Records.{filed, filedFrom, ofTenant, stored, tenantsFrom}
+use Rattle.state_file.specs.Records.{filedLease, filedFrom, ofTenant, stored, tenantsFrom}
 
 -- those with key t
 abbrev own : {A : Type 0} → (A → ℕ) → ℕ → List A → List A
@@ -116,15 +116,15 @@ tenants-book t (suc n) xs = ap {B = List (List Lease)} (λ (l : List (List Lease
 
 -- ---- read and written again
 
-filed-only : (t : ℕ) (xs : List FileLease) → All Storable xs → map (filed t) (map stored (ofTenant t xs)) ≡ ofTenant t xs
+filed-only : (t : ℕ) (xs : List FileLease) → All Storable xs → map (filedLease t) (map stored (ofTenant t xs)) ≡ ofTenant t xs
 unfolding All filterBy pick
 filed-only t [] h = refl
 filed-only t (x ∷ xs) h = go (eqb (x .tenant) t) refl (filed-only t xs (h .1))
   where
-    go : (b : Bool) → eqb (x .tenant) t ≡ b → map (filed t) (map stored (ofTenant t xs)) ≡ ofTenant t xs
-        → map (filed t) (map stored (pick b (x ∷ ofTenant t xs) (ofTenant t xs))) ≡ pick b (x ∷ ofTenant t xs) (ofTenant t xs)
+    go : (b : Bool) → eqb (x .tenant) t ≡ b → map (filedLease t) (map stored (ofTenant t xs)) ≡ ofTenant t xs
+        → map (filedLease t) (map stored (pick b (x ∷ ofTenant t xs) (ofTenant t xs))) ≡ pick b (x ∷ ofTenant t xs) (ofTenant t xs)
     go true e ih =
-        ap₂ {C = List FileLease} (λ (y : FileLease) (ys : List FileLease). y ∷ ys) (ap (λ (u : ℕ). filed u (stored x)) (sym (eqb-true (x .tenant) t e)) ∙ filed-stored x (h .0)) ih
+        ap₂ {C = List FileLease} (λ (y : FileLease) (ys : List FileLease). y ∷ ys) (ap (λ (u : ℕ). filedLease u (stored x)) (sym (eqb-true (x .tenant) t e)) ∙ filed-stored x (h .0)) ih
     go false e ih = ih
 
 filed-apart : (n t : ℕ) (xs : List FileLease) → All Storable xs → filedFrom t (map (map stored) (apart (λ x. x .tenant) t n xs)) ≡ chained (apart (λ x. x .tenant) t n xs)
@@ -138,25 +138,25 @@ sorted-up t u [] h s = tt
 sorted-up t u (x ∷ xs) h s = (h .0, s .1)
 
 -- leases in the file's order, of tenants 1 to n, each of which a record can hold: the book made of them gives them back
-pub leases-again : (n : ℕ) (xs : List FileLease) → ordered xs ≡ true → All (λ x. 1 ≤ x .tenant) xs → All (λ x. x .tenant < 1 + n) xs → All Storable xs
+pub leases-again : (n : ℕ) (xs : List FileLease) → leasesOrdered xs ≡ true → All (λ x. 1 ≤ x .tenant) xs → All (λ x. x .tenant < 1 + n) xs → All Storable xs
     → filedFrom 1 (tenantsFrom 1 n xs) ≡ xs
 unfolding bookFrom
 leases-again n xs o low high h = ap (filedFrom 1) (tenants-book 1 n xs) ∙ filed-apart n 1 xs h ∙ chained-apart (λ x. x .tenant) n 1 xs (sorted-up 0 1 xs low (ordered-sorted 0 [] xs o)) high
 
 -- ---- written and read again
 
-only-own : (t : ℕ) (l : List Lease) (xs : List FileLease) → ofTenant t (map (filed t) l ++ xs) ≡ map (filed t) l ++ ofTenant t xs
-unfolding filterBy pick filed
+only-own : (t : ℕ) (l : List Lease) (xs : List FileLease) → ofTenant t (map (filedLease t) l ++ xs) ≡ map (filedLease t) l ++ ofTenant t xs
+unfolding filterBy pick filedLease
 only-own t [] xs = refl
 only-own t (x ∷ l) xs =
-    ap (λ (b : Bool). pick b (filed t x ∷ ofTenant t (map (filed t) l ++ xs)) (ofTenant t (map (filed t) l ++ xs))) (eq-eqb t t refl)
-    ∙ ap {B = List FileLease} (λ (ys : List FileLease). filed t x ∷ ys) (only-own t l xs)
+    ap (λ (b : Bool). pick b (filedLease t x ∷ ofTenant t (map (filedLease t) l ++ xs)) (ofTenant t (map (filedLease t) l ++ xs))) (eq-eqb t t refl)
+    ∙ ap {B = List FileLease} (λ (ys : List FileLease). filedLease t x ∷ ys) (only-own t l xs)
 
-only-other : (t u : ℕ) (l : List Lease) (xs : List FileLease) → (t ≡ u → ⊥) → ofTenant u (map (filed t) l ++ xs) ≡ ofTenant u xs
-unfolding filterBy pick filed
+only-other : (t u : ℕ) (l : List Lease) (xs : List FileLease) → (t ≡ u → ⊥) → ofTenant u (map (filedLease t) l ++ xs) ≡ ofTenant u xs
+unfolding filterBy pick filedLease
 only-other t u [] xs h = refl
 only-other t u (x ∷ l) xs h =
-    ap (λ (b : Bool). pick b (filed t x ∷ ofTenant u (map (filed t) l ++ xs)) (ofTenant u (map (filed t) l ++ xs))) (ne-eqb t u h)
+    ap (λ (b : Bool). pick b (filedLease t x ∷ ofTenant u (map (filedLease t) l ++ xs)) (ofTenant u (map (filedLease t) l ++ xs))) (ne-eqb t u h)
     ∙ only-other t u l xs h
 
 only-later : (t u : ℕ) (ls : List (List Lease)) → u < t → ofTenant u (filedFrom t ls) ≡ []
@@ -164,13 +164,13 @@ unfolding filedFrom filterBy
 only-later t u [] h = refl
 only-later t u (l ∷ ls) h = only-other t u l (filedFrom (suc t) ls) (λ e. absurd (omega arith)) ∙ only-later (suc t) u ls (omega arith)
 
-apart-later : (n t u : ℕ) (l : List Lease) (xs : List FileLease) → t < u → apart (λ x. x .tenant) u n (map (filed t) l ++ xs) ≡ apart (λ x. x .tenant) u n xs
+apart-later : (n t u : ℕ) (l : List Lease) (xs : List FileLease) → t < u → apart (λ x. x .tenant) u n (map (filedLease t) l ++ xs) ≡ apart (λ x. x .tenant) u n xs
 unfolding apart
 apart-later zero t u l xs h = refl
 apart-later (suc n) t u l xs h =
     ap₂ {C = List (List FileLease)} (λ (p : List FileLease) (q : List (List FileLease)). p ∷ q) (only-other t u l xs (λ e. absurd (omega arith))) (apart-later n t (suc u) l xs (omega arith))
 
-stored-all : (t : ℕ) (l : List Lease) → All Neat l → map stored (map (filed t) l) ≡ l
+stored-all : (t : ℕ) (l : List Lease) → All Neat l → map stored (map (filedLease t) l) ≡ l
 unfolding All
 stored-all t [] h = refl
 stored-all t (x ∷ l) h = ap₂ {C = List Lease} (λ (y : Lease) (ys : List Lease). y ∷ ys) (stored-filed t x (h .0)) (stored-all t l (h .1))
@@ -184,7 +184,7 @@ unfolding bookFrom filedFrom apart All
 book-again t [] h = refl
 book-again t (l ∷ ls) h =
     ap₂ {C = List (List Lease)} (λ (p : List Lease) (q : List (List Lease)). p ∷ q)
-    (ap (map stored) (only-own t l (filedFrom (suc t) ls) ∙ ap (λ (ys : List FileLease). map (filed t) l ++ ys) (only-later (suc t) t ls (omega arith)) ∙ append-none (map (filed t) l)) ∙ stored-all t l (h .0))
+    (ap (map stored) (only-own t l (filedFrom (suc t) ls) ∙ ap (λ (ys : List FileLease). map (filedLease t) l ++ ys) (only-later (suc t) t ls (omega arith)) ∙ append-none (map (filedLease t) l)) ∙ stored-all t l (h .0))
     (ap (map (map stored)) (apart-later (length ls) t (suc t) l (filedFrom (suc t) ls) (omega arith)) ∙ book-again (suc t) ls (h .1))
 
 -- the tenants' leases, neat in their records: the file's leases made of them give them back

@@ -6,7 +6,7 @@ ghost use lib.ListN.{drop, getD, length, take};
 ghost use Rattle.address_set.specs.AddressSet.{rises};
 ghost use Rattle.identifier.specs.Order.{orderOf};
 ghost use Rattle.state_file.specs.File.{fileOf, isAfter, leasesFormat};
-ghost use Rattle.state_file.specs.Place.{LeaseEnds, isGot, leasesFrom, placeOf};
+ghost use Rattle.state_file.specs.Place.{LeaseEnds, isGot, leasesFrom, endPlace};
 use crate::LONGEST_FILE;
 use crate::Place;
 
@@ -43,7 +43,7 @@ pub fn form(s: &[u8]) -> bool
 
 // Where the section of leases that starts at `at` ends.
 fn leases_end(s: &[u8], at: usize) -> Place
-    ensures { λ r. ⌜ r ≡ placeOf (length (now (s .entry))) (leasesFormat .read (drop at (now (s .entry)))) ⌝ }
+    ensures { λ r. ⌜ r ≡ endPlace (length (now (s .entry))) (leasesFormat .read (drop at (now (s .entry)))) ⌝ }
 {
     if s.len() <= at {
         return Place::Nowhere;

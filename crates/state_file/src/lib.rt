@@ -8,7 +8,7 @@ mod size;
 
 ghost use mathlib.Core.Path.{_≡_};
 ghost use lib.ListN.{length};
-ghost use Rattle.state_file.specs.StateFile.{readOf, roomAfter, writtenOf, zeroState};
+ghost use Rattle.state_file.specs.StateFile.{readFile, roomAfter, writtenOf, zeroState};
 use crate::form::form;
 use crate::load::load;
 use crate::load::refusal;
@@ -42,7 +42,7 @@ pub enum Place {
 
 // Reads a state file: the book, or refusal 20 for a wrong form and then 21 for an unsound file.
 pub fn read(s: &[u8]) -> Loaded
-    ensures { λ r. ⌜ r ≡ readOf (now (s .entry)) ⌝ }
+    ensures { λ r. ⌜ r ≡ readFile (now (s .entry)) ⌝ }
 {
     if form(s) {
         return load(s);

@@ -5,7 +5,7 @@ ghost use lib.Dec.{eqb};
 ghost use lib.ListN.{drop, getD, length, take};
 ghost use Rattle.lists.specs.All.{allBy, allTo};
 ghost use Rattle.lists.specs.Pick.{pick};
-ghost use Rattle.state_file.specs.Place.{Formed, InRow, Inside, fileAt, leaseAt, leasesAt, leasesPlace, nextAt, scopesPlace};
+ghost use Rattle.state_file.specs.Place.{Formed, InRow, Inside, fileAt, fileLeaseAt, leasesAt, leasesPlace, nextAt, scopesPlace};
 ghost use Rattle.state_file.specs.Records.{fewOf, fitsB, isOffset, leasesFitB, ofTenant, storableB};
 use crate::form::scopes_size;
 use crate::form::wide;
@@ -59,7 +59,7 @@ fn all_storable(s: &[u8], from: usize, count: usize) -> bool
 // Whether a record of the book can hold the lease whose record starts at `at`.
 fn storable_at(s: &[u8], at: usize) -> bool
     requires { ⌜ Inside (now s) at ⌝ }
-    ensures { λ r. ⌜ r ≡ storableB (leaseAt (now (s .entry)) at) ⌝ }
+    ensures { λ r. ⌜ r ≡ storableB (fileLeaseAt (now (s .entry)) at) ⌝ }
 {
     let t = s[at];
     if t < 1 {

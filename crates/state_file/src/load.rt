@@ -6,7 +6,7 @@ ghost use Prim.Native.Nat.{_*_, _+_, _≤_};
 ghost use lib.ListN.{drop, getD, length, take};
 ghost use Rattle.address_set.specs.AddressSet.{readOffsets};
 ghost use Rattle.state.specs.Book.{zeroScope};
-ghost use Rattle.state_file.specs.Place.{AllHeld, Formed, Held, fileAt, keepOne, keptFrom, keptOf, leaseAt, leasesAt, rangeAt, row, scopeAt};
+ghost use Rattle.state_file.specs.Place.{AllStorable, Formed, Storable, fileAt, keepOne, keptFrom, keptOf, fileLeaseAt, leasesAt, rangeAt, row, fileScopeAt};
 ghost use Rattle.state_file.specs.Records.{filled, fitsB, stored, storedScope, storedState, storedTable, zeroRange};
 ghost use Rattle.state_file.specs.StateFile.{judged, loaded, refused};
 use crate::Loaded;
@@ -117,7 +117,7 @@ pub fn zero_range() -> ClientRange
 // The k scopes whose records start at `at`, and zeros after them.
 fn scopes_at(s: &[u8], at: usize, k: usize, h: usize) -> [Scope; 4]
     requires { ⌜ (h ≤ 8) × (k ≤ 4) × (at + k * (6 + h * 2) ≤ length (now s)) ⌝ }
-    ensures { λ r. ⌜ r ≡ filled zeroScope 4 (map storedScope (row (scopeAt h) (6 + h * 2) k (now (s .entry)) at)) ⌝ }
+    ensures { λ r. ⌜ r ≡ filled zeroScope 4 (map storedScope (row (fileScopeAt h) (6 + h * 2) k (now (s .entry)) at)) ⌝ }
 {
     let z = state::no_scope();
     let mut out = [z; 4];
@@ -133,7 +133,7 @@ fn scopes_at(s: &[u8], at: usize, k: usize, h: usize) -> [Scope; 4]
 // The scope whose record starts at `at`, with a part for each of h tenants.
 fn scope_at(s: &[u8], at: usize, h: usize) -> Scope
     requires { ⌜ (h ≤ 8) × (at + (6 + h * 2) ≤ length (now s)) ⌝ }
-    ensures { λ r. ⌜ r ≡ storedScope (scopeAt h (now (s .entry)) at) ⌝ }
+    ensures { λ r. ⌜ r ≡ storedScope (fileScopeAt h (now (s .entry)) at) ⌝ }
 {
     let reserve = column_at(s, at + 6, h);
     let limit = column_at(s, at + 7, h);
@@ -172,7 +172,7 @@ fn table_at(s: &[u8]) -> LeaseTable
 
 // The leases of the eight tenants among `count` records that start at `from`.
 fn all_leases(s: &[u8], from: usize, count: usize) -> [TenantLeases; 8]
-    requires { ⌜ AllHeld (now s) from count ⌝ }
+    requires { ⌜ AllStorable (now s) from count ⌝ }
     ensures { λ r. ⌜ r ≡ keptFrom 1 8 (leasesAt (now (s .entry)) from count) ⌝ }
 {
     let z = state::no_leases();
@@ -188,7 +188,7 @@ fn all_leases(s: &[u8], from: usize, count: usize) -> [TenantLeases; 8]
 
 // The leases of tenant t among `count` records that start at `from`.
 fn tenant_leases(s: &[u8], from: usize, count: usize, t: u8) -> TenantLeases
-    requires { ⌜ AllHeld (now s) from count ⌝ }
+    requires { ⌜ AllStorable (now s) from count ⌝ }
     ensures { λ r. ⌜ r ≡ keptOf t (leasesAt (now (s .entry)) from count) ⌝ }
 {
     let mut out = state::no_leases();
@@ -203,8 +203,8 @@ fn tenant_leases(s: &[u8], from: usize, count: usize, t: u8) -> TenantLeases
 }
 
 fn keep_tenant(h: TenantLeases, s: &[u8], at: usize, t: u8) -> TenantLeases
-    requires { ⌜ Held (now s) at ⌝ }
-    ensures { λ r. ⌜ r ≡ keepOne t h (leaseAt (now (s .entry)) at) ⌝ }
+    requires { ⌜ Storable (now s) at ⌝ }
+    ensures { λ r. ⌜ r ≡ keepOne t h (fileLeaseAt (now (s .entry)) at) ⌝ }
 {
     if s[at] == t {
         return state::push(h, lease_at(s, at));
@@ -214,8 +214,8 @@ fn keep_tenant(h: TenantLeases, s: &[u8], at: usize, t: u8) -> TenantLeases
 
 // The lease whose record starts at `at`.
 fn lease_at(s: &[u8], at: usize) -> Lease
-    requires { ⌜ Held (now s) at ⌝ }
-    ensures { λ r. ⌜ r ≡ stored (leaseAt (now (s .entry)) at) ⌝ }
+    requires { ⌜ Storable (now s) at ⌝ }
+    ensures { λ r. ⌜ r ≡ stored (fileLeaseAt (now (s .entry)) at) ⌝ }
 {
     let n = wide(s[at + 2]);
     let k = wide(s[at + (n + 16)]);

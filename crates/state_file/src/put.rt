@@ -7,8 +7,8 @@ ghost use Rattle.address_set.specs.AddressSet.{offsets};
 ghost use Rattle.octets.specs.Octets.{Wrote, octets32};
 ghost use Rattle.state.specs.Book.{idOf, inUse, rangesOf, scopesOf};
 ghost use Rattle.state_file.specs.File.{leaseFormat, scopeFormat, tenantFormat};
-ghost use Rattle.state_file.specs.Records.{filed, filedScope};
-ghost use Rattle.state_file.specs.Rows.{leaseTotal, partOctets, rangeOctets, scopeOctets, tableOctets, tenantOctets};
+ghost use Rattle.state_file.specs.Records.{filedLease, filedScope};
+ghost use Rattle.state_file.specs.Rows.{leaseTotal, partOctets, fileRangeOctets, fileScopeOctets, tableOctets, tenantOctets};
 ghost use Rattle.state_file.specs.StateFile.{octetsOf};
 use state::ClientRange;
 use state::Lease;
@@ -37,8 +37,8 @@ fn put_server(buffer: &mut [u8], state: State) -> usize
 }
 
 fn put_range_section(buffer: &mut [u8], at: usize, state: State) -> usize
-    requires { ⌜ at + (1 + length (rangeOctets state)) ≤ length (now buffer) ⌝ }
-    ensures { λ r. ⌜ Wrote (now (buffer .entry)) at (length (rangesOf state) ∷ rangeOctets state) (now (buffer .exit)) r ⌝ }
+    requires { ⌜ at + (1 + length (fileRangeOctets state)) ≤ length (now buffer) ⌝ }
+    ensures { λ r. ⌜ Wrote (now (buffer .entry)) at (length (rangesOf state) ∷ fileRangeOctets state) (now (buffer .exit)) r ⌝ }
 {
     let a = octets::put_u8(buffer, at, arithmetic::cut8(state.tenant_count) as u8);
     put_ranges(buffer, a, state)
@@ -46,8 +46,8 @@ fn put_range_section(buffer: &mut [u8], at: usize, state: State) -> usize
 
 // The client ranges of the tenants.
 fn put_ranges(buffer: &mut [u8], at: usize, state: State) -> usize
-    requires { ⌜ at + length (rangeOctets state) ≤ length (now buffer) ⌝ }
-    ensures { λ r. ⌜ Wrote (now (buffer .entry)) at (rangeOctets state) (now (buffer .exit)) r ⌝ }
+    requires { ⌜ at + length (fileRangeOctets state) ≤ length (now buffer) ⌝ }
+    ensures { λ r. ⌜ Wrote (now (buffer .entry)) at (fileRangeOctets state) (now (buffer .exit)) r ⌝ }
 {
     let n = arithmetic::cut8(state.tenant_count);
     let mut to = at;
@@ -69,8 +69,8 @@ fn put_range(buffer: &mut [u8], at: usize, r: ClientRange) -> usize
 }
 
 fn put_scope_section(buffer: &mut [u8], at: usize, state: State) -> usize
-    requires { ⌜ at + (1 + length (scopeOctets state)) ≤ length (now buffer) ⌝ }
-    ensures { λ r. ⌜ Wrote (now (buffer .entry)) at (length (scopesOf state) ∷ scopeOctets state) (now (buffer .exit)) r ⌝ }
+    requires { ⌜ at + (1 + length (fileScopeOctets state)) ≤ length (now buffer) ⌝ }
+    ensures { λ r. ⌜ Wrote (now (buffer .entry)) at (length (scopesOf state) ∷ fileScopeOctets state) (now (buffer .exit)) r ⌝ }
 {
     let a = octets::put_u8(buffer, at, arithmetic::cut4(state.scope_count) as u8);
     put_scopes(buffer, a, state)
@@ -78,8 +78,8 @@ fn put_scope_section(buffer: &mut [u8], at: usize, state: State) -> usize
 
 // The records of the scopes.
 fn put_scopes(buffer: &mut [u8], at: usize, state: State) -> usize
-    requires { ⌜ at + length (scopeOctets state) ≤ length (now buffer) ⌝ }
-    ensures { λ r. ⌜ Wrote (now (buffer .entry)) at (scopeOctets state) (now (buffer .exit)) r ⌝ }
+    requires { ⌜ at + length (fileScopeOctets state) ≤ length (now buffer) ⌝ }
+    ensures { λ r. ⌜ Wrote (now (buffer .entry)) at (fileScopeOctets state) (now (buffer .exit)) r ⌝ }
 {
     let n = arithmetic::cut4(state.scope_count);
     let mut to = at;
@@ -187,8 +187,8 @@ fn put_tenant(buffer: &mut [u8], at: usize, tenant: u8, t: TenantLeases) -> usiz
 
 // The record of a tenant's lease.
 fn put_lease(buffer: &mut [u8], at: usize, tenant: u8, l: Lease) -> usize
-    requires { ⌜ at + length (leaseFormat .write (filed tenant l)) ≤ length (now buffer) ⌝ }
-    ensures { λ r. ⌜ Wrote (now (buffer .entry)) at (leaseFormat .write (filed tenant l)) (now (buffer .exit)) r ⌝ }
+    requires { ⌜ at + length (leaseFormat .write (filedLease tenant l)) ≤ length (now buffer) ⌝ }
+    ensures { λ r. ⌜ Wrote (now (buffer .entry)) at (leaseFormat .write (filedLease tenant l)) (now (buffer .exit)) r ⌝ }
 {
     let a = put_head(buffer, at, tenant, l);
     let b = put_middle(buffer, a, l);

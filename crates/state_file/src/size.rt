@@ -3,8 +3,8 @@ ghost use mathlib.Core.Path.{_≡_};
 ghost use Prim.Native.Nat.{_≤_};
 ghost use lib.ListN.{length};
 ghost use Rattle.state_file.specs.File.{leaseFormat, scopeFormat};
-ghost use Rattle.state_file.specs.Records.{filed, filedScope};
-ghost use Rattle.state_file.specs.Rows.{scopeOctets, tableOctets, tenantOctets};
+ghost use Rattle.state_file.specs.Records.{filedLease, filedScope};
+ghost use Rattle.state_file.specs.Rows.{fileScopeOctets, tableOctets, tenantOctets};
 ghost use Rattle.state_file.specs.StateFile.{octetsOf};
 use state::Lease;
 use state::LeaseTable;
@@ -19,7 +19,7 @@ pub fn file_size(state: State, table: LeaseTable) -> usize
 }
 
 fn scopes_length(state: State) -> usize
-    ensures { λ r. ⌜ (r ≡ length (scopeOctets state)) × (r ≤ 88) ⌝ }
+    ensures { λ r. ⌜ (r ≡ length (fileScopeOctets state)) × (r ≤ 88) ⌝ }
 {
     let n = arithmetic::cut4(state.scope_count);
     let mut sum: usize = 0;
@@ -66,7 +66,7 @@ fn tenant_size(t: TenantLeases) -> usize
 }
 
 fn lease_size(l: Lease) -> usize
-    ensures { λ r. ⌜ (r ≡ length (leaseFormat .write (filed 0 l))) × (r ≤ 113) ⌝ }
+    ensures { λ r. ⌜ (r ≡ length (leaseFormat .write (filedLease 0 l))) × (r ≤ 113) ⌝ }
 {
     arithmetic::cut32(l.id_len) + 17 + (address_set::count(l.addresses) as usize)
 }

@@ -1,16 +1,16 @@
 -- `push` meets its contract: one test.
-use Rattle.address_set.specs.AddressSet.{pushed}
+use Rattle.address_set.specs.AddressSet.{pushedOffset}
 use Rattle.lists.specs.Pick.{picks}
 use borrow.Author.Needs.{needs}
 use Rattle.address_set.proofs.push.Statement.{statement}
 use Rattle.address_set.proofs.push.Tie as tie
 
 returns : tie.Need-returns
-unfolding pushed
+unfolding pushedOffset
 returns c = search (picks, needs)
 
 returns-2 : tie.Need-returns-2
-unfolding pushed
+unfolding pushedOffset
 returns-2 c = search (picks, needs)
 
 pub push-spec : {M : Type 1} → statement M

@@ -1,6 +1,6 @@
 -- `others` meets its contract: a sum of small numbers.
 use Prim.Native.Nat.{_-_}
-use Rattle.allocation.specs.Loops.{otherLoad, weight-read}
+use Rattle.allocation.specs.Loops.{otherLoad, other-read}
 use Rattle.lists.specs.Sums.{SumInv, sums}
 use Rattle.state.specs.Book.{leasesOf}
 use borrow.Author.Needs.{needs}
@@ -20,12 +20,12 @@ others-spec =
     Inv-loop
     μ-loop
     (λ c. search (sums, needs))
-    (λ c. search (sums, weight-read, needs))
-    (λ c. search (sums, weight-read, needs))
-    (λ c. search (sums, weight-read, needs))
+    (λ c. search (sums, other-read, needs))
+    (λ c. search (sums, other-read, needs))
+    (λ c. search (sums, other-read, needs))
     (λ c κs. search (sums, needs))
-    (λ c. search (sums, weight-read, needs))
-    (λ c. search (sums, weight-read, needs))
-    (λ c. search (sums, weight-read, needs))
-    (λ c. search (sums, weight-read, needs))
+    (λ c. search (sums, other-read, needs))
+    (λ c. search (sums, other-read, needs))
+    (λ c. search (sums, other-read, needs))
+    (λ c. search (sums, other-read, needs))
     (λ c. search (sums, needs)))

@@ -55,7 +55,7 @@ use Rattle.state.specs.Book.{zeroLease}
 use Rattle.state.proofs.Lease as R
 use Rattle.state.proofs.Lease.Laws as R′
 use Rattle.records.specs.declared.Records.{Records}
-use Rattle.records.specs.Records.{taken}
+use Rattle.records.specs.Records.{first128}
 use Rattle.records.proofs.Records as T
 use Rattle.records.proofs.Records.Laws as T′
 use Rattle.records.proofs.no_records as none′
@@ -77,8 +77,8 @@ abbrev stayed : Stays (f.ended .signature .params) (f.ended .kept)
 stayed = (stay-none-slice (0 ∷ []) tt (plain (λ _. R.the-row)) yes, tt)
 
 -- what the turns leave
-is-taken : (ys d : List Lease) → d ≡ replicate 128 zeroLease → paste d 0 ys (min (length ys) 128) ≡ taken ys
-unfolding taken
+is-taken : (ys d : List Lease) → d ≡ replicate 128 zeroLease → paste d 0 ys (min (length ys) 128) ≡ first128 ys
+unfolding first128
 is-taken ys d e = ap (λ (z : List Lease). paste z 0 ys (min (length ys) 128)) e
 
 module _ {M : Type 1} (𝓤 : URA M) (H : Heap 𝓤) (A : Atoms 𝓤) (mem : Memory → SProp 𝓤) (run : Routine → Fun 𝓤) where
@@ -121,7 +121,7 @@ module _ {M : Type 1} (𝓤 : URA M) (H : Heap 𝓤) (A : Atoms 𝓤) (W : Given
   abbrev Res : Fml
   Res = fres γ (codedHoleys R.the-row .code (heres R.the-row ys))
 
-  exits : (r : Records) → r .leases ≡ taken ys → Room R.the-row (length ys) → Is T.the-row r (of-records r ∷ []) → ent 𝓤 (⋆ 𝓤 H A (‵ Res ∷ ‵ Shared ∷ ‵ (flft κ q) ∷ [])) (Post (of-records r))
+  exits : (r : Records) → r .leases ≡ first128 ys → Room R.the-row (length ys) → Is T.the-row r (of-records r ∷ []) → ent 𝓤 (⋆ 𝓤 H A (‵ Res ∷ ‵ Shared ∷ ‵ (flft κ q) ∷ [])) (Post (of-records r))
   exits r e room is =
       qed W (‵ Res ∷ ‵ Shared ∷ ‵ (flft κ q) ∷ []) ∵
       suffices ! _ (ends-at 𝓤 H A f.ended stayed (f.clauses 𝓤 H A mem run) W (((κ, tt), (q, tt), tt, a, vals), tt) (of-records r) r (tt, tt) (tt, tt)) $ says ! e $
@@ -151,7 +151,7 @@ module _ {M : Type 1} (𝓤 : URA M) (H : Heap 𝓤) (A : Atoms 𝓤) (W : Given
     En = (T′.mir, l₀) ∷ (slice, l₁) ∷ (T′.mir, l₂) ∷ (word, l₃) ∷ (word, l₄) ∷ (T′.mir, l₅) ∷ (word, l₆) ∷ (tyBool, l₇) ∷ (word, l₈) ∷ (tyPtr, l₉) ∷ (R′.mir, l₁₀) ∷ (word, l₁₁) ∷ (tyPtr, l₁₂) ∷ (tyPtr, l₁₃) ∷ []
 
     -- ---- the loop, and what follows it
-    module _ (q′ : Share) (d : List Lease) (n : ℕ) (long : length d ≡ 128) (within : n ≤ 128) (enough : n ≤ length ys) (all : copied d n ≡ taken ys) where
+    module _ (q′ : Share) (d : List Lease) (n : ℕ) (long : length d ≡ 128) (within : n ≤ 128) (enough : n ≤ length ys) (all : copied d n ≡ first128 ys) where
       keeps : (i : ℕ) → i ≤ n → CopyInv zeroLease d 0 ys n (copied d i) i
       keeps i h = record { within = h; fits = omega arith; enough = enough; whole = refl }
 

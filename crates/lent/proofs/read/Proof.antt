@@ -41,7 +41,7 @@ use denote.Triple.Clauses.{ensured, lasts}
 use denote.Exit.{yes}
 use Rattle.state.specs.declared.Lease.{Lease}
 use Rattle.state.specs.declared.State.{State}
-use Rattle.state_file.specs.StateFile.{readOf}
+use Rattle.state_file.specs.StateFile.{readFile}
 use Rattle.records.specs.declared.Records.{Records}
 use Rattle.records.specs.declared.ReadRecords.{ReadRecords}
 use Rattle.records.specs.Lent.{readWith, readLent, Reads, ReadsLent}
@@ -79,8 +79,8 @@ module _ {M : Type 1} (𝓤 : URA M) (H : Heap 𝓤) (A : Atoms 𝓤) (mem : Mem
   Read = tripleOf 𝓤 H A read′.signature (read′.spec 𝓤 H A mem run)
 
   of-read : (κ : Lft) (x : RefT (List ℕ)) (h : State) (l : Records) (n : ℕ) (r : ReadRecords)
-      → ent 𝓤 (ensured 𝓤 H A read′.ended (read′.clauses 𝓤 H A mem run) (κ, tt) (x, (h, (l, (n, tt)))) tt r) (fact 𝓤 (Reads (readWith n (readOf (x .now)) h (l .leases)) r))
-  of-read κ x h l n r = exE 𝓤 _ (λ ws. snd∗ 𝓤 (sem 𝓤 H A (lasts read′.ended (κ, tt) (x, (h, (l, (n, tt)))) ws)) (fact 𝓤 (Reads (readWith n (readOf (x .now)) h (l .leases)) r)))
+      → ent 𝓤 (ensured 𝓤 H A read′.ended (read′.clauses 𝓤 H A mem run) (κ, tt) (x, (h, (l, (n, tt)))) tt r) (fact 𝓤 (Reads (readWith n (readFile (x .now)) h (l .leases)) r))
+  of-read κ x h l n r = exE 𝓤 _ (λ ws. snd∗ 𝓤 (sem 𝓤 H A (lasts read′.ended (κ, tt) (x, (h, (l, (n, tt)))) ws)) (fact 𝓤 (Reads (readWith n (readFile (x .now)) h (l .leases)) r)))
 
 -- 0 is the file, 1 the state and 2 the slice of lease records: each has a lifetime κ, a share q of its token, a place (b, o) and a ghost name γ
 module _ {M : Type 1} (𝓤 : URA M) (H : Heap 𝓤) (A : Atoms 𝓤) (W : Given 𝓤 H A) (mem : Memory → SProp 𝓤) (run : Routine → Fun 𝓤) (κ₀ κ₁ κ₂ : Lft) (q₀ q₁ q₂ : Share)
@@ -161,7 +161,7 @@ module _ {M : Type 1} (𝓤 : URA M) (H : Heap 𝓤) (A : Atoms 𝓤) (W : Given
         move ! (33 ∷ 32 ∷ []) $ use2 W (raw (Read 𝓤 H A mem run .pre (to-read r₁ w₁))) (goes-read r₁ w₁ is-h is₁ room₂) $
         calls-at ! fm (Read 𝓤 H A mem run) known-read (to-read r₁ w₁) (and-then ! (load ! (from ! (stop !)) (look ! 29 refl)) (and-then ! (load ! (from ! (stop !)) (look ! 23 refl)) (and-then ! (load ! (from ! (stop !)) (look ! 21 refl)) (and-then ! (load ! (from ! (stop !)) (look ! 13 refl)) (no-more !))))) (λ w₂.
         use1 W (later (some (λ (r : ReadRecords). ((‵ (flft κ₀ q₀) ⊛ ‵ ftrue) ⊛ ‵ (Z.the-row .own r (w₂ ∷ []))) ⊛ raw (ensured 𝓤 H A read′.ended (read′.clauses 𝓤 H A mem run) (κ₀, tt) (x₀, (h, (r₁, (length ys, tt)))) tt r)))) (id⊢ 𝓤 _) $ await ! tt $ pick ! (λ r₂.
-        split ! $ move ! (1 ∷ []) $ use1 W (raw (fact 𝓤 (Reads (readWith (length ys) (readOf os) h (r₁ .leases)) r₂))) (of-read 𝓤 H A mem run κ₀ x₀ h r₁ (length ys) r₂) $ heard ! (Reads (readWith (length ys) (readOf os) h (r₁ .leases)) r₂) (λ e₂. split ! $ move ! (1 ∷ []) $
+        split ! $ move ! (1 ∷ []) $ use1 W (raw (fact 𝓤 (Reads (readWith (length ys) (readFile os) h (r₁ .leases)) r₂))) (of-read 𝓤 H A mem run κ₀ x₀ h r₁ (length ys) r₂) $ heard ! (Reads (readWith (length ys) (readFile os) h (r₁ .leases)) r₂) (λ e₂. split ! $ move ! (1 ∷ []) $
         peeks ! Z.the-row (Is Z.the-row) (shows 𝓤 H A Z.the-row) r₂ (w₂ ∷ []) (λ is₂. drop ! $ split ! $ move ! (1 ∷ []) $ drop ! $
         -- [[κ₀]; the slice; [κ₂]; the state's cell; the open borrow; obs; auth; _12; …; _0; …]
         land ! (from ! (stop !)) (init ! 19 refl (LL.lawful Z.the-type Z′.the-laws 𝓤 H A W .typed r₂ _ is₂ .0)) $
@@ -180,7 +180,7 @@ module _ {M : Type 1} (𝓤 : URA M) (H : Heap 𝓤) (A : Atoms 𝓤) (W : Given
         forget ! 5 refl $ forget ! 7 refl $ forget ! 9 refl $ forget ! 11 refl $ forget ! 13 refl $ forget ! 15 refl $ forget ! 17 refl $ forget ! 19 refl $ forget ! 21 refl $ forget ! 23 refl $ forget ! 25 refl $ forget ! 27 refl $ forget ! 29 refl $
         move ! (29 ∷ 30 ∷ []) $ free1 ! $ move ! (27 ∷ 28 ∷ []) $ free1 ! $ move ! (25 ∷ 26 ∷ []) $ free1 ! $ move ! (23 ∷ 24 ∷ []) $ free1 ! $ move ! (21 ∷ 22 ∷ []) $ free1 ! $ move ! (19 ∷ 20 ∷ []) $ free1 ! $ move ! (17 ∷ 18 ∷ []) $ free1 ! $
         move ! (15 ∷ 16 ∷ []) $ free1 ! $ move ! (13 ∷ 14 ∷ []) $ free1 ! $ move ! (11 ∷ 12 ∷ []) $ free1 ! $ move ! (9 ∷ 10 ∷ []) $ free1 ! $ move ! (7 ∷ 8 ∷ []) $ free1 ! $ move ! (5 ∷ 6 ∷ []) $ free1 ! $ free0 ! $
-        keep ! (4 ∷ 3 ∷ 1 ∷ 2 ∷ 0 ∷ []) $ by ! (exits (r₂ .refusal) (r₂ .state) zs (parts r₂ w₂ is₂ .0 .1) (read-lent (readOf os) h ys e₁ e₂ refl e₃ refl) len)))))))))))))))))))))
+        keep ! (4 ∷ 3 ∷ 1 ∷ 2 ∷ 0 ∷ []) $ by ! (exits (r₂ .refusal) (r₂ .state) zs (parts r₂ w₂ is₂ .0 .1) (read-lent (readFile os) h ys e₁ e₂ refl e₃ refl) len)))))))))))))))))))))
 
 module _ {M : Type 1} (𝓤 : URA M) (H : Heap 𝓤) (A : Atoms 𝓤) (W : Given 𝓤 H A) (mem : Memory → SProp 𝓤) (run : Routine → Fun 𝓤) where
   walks : (C : Calls 𝓤 H) (Λ : Loops 𝓤 H) → FmC 𝓤 H (W .laws) C → Triple 𝓤 (C #lent·load) (Load 𝓤 H A mem run) → Triple 𝓤 (C #records·read) (Read 𝓤 H A mem run) → Triple 𝓤 (C #lent·store) (Store 𝓤 H A mem run)

@@ -1,5 +1,5 @@
--- `tenant_from` meets its contract: by `tenant-is`.
-use Rattle.records.specs.Laws.{tenant-is}
+-- `tenant_from` meets its contract: by `tenant-from-is`.
+use Rattle.records.specs.Laws.{tenant-from-is}
 use borrow.Author.Needs.{needs}
 use Rattle.records.proofs.tenant_from.Statement.{statement}
 use Rattle.records.proofs.tenant_from.Tie as tie
@@ -9,4 +9,4 @@ tenant-from-spec =
     tie.close
     (tie.spec
     (λ c κs. search needs)
-    (λ c. search (tenant-is, needs)))
+    (λ c. search (tenant-from-is, needs)))

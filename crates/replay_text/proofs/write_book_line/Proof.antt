@@ -1,12 +1,12 @@
 -- Part by part.
-use Rattle.octets.specs.Laws.{joined}
+use Rattle.octets.specs.Laws.{wrote-joined}
 use borrow.Author.Needs.{needs}
 -- Part by part.
 use Rattle.replay_text.proofs.write_book_line.Statement.{statement}
 use Rattle.replay_text.proofs.write_book_line.Tie as tie
 
 returns : tie.Need-returns
-returns c = let at-put-u8 = c .before .before in let at-put-hex = at-put-u8 .before .before .before .before in let at-put-run = at-put-hex .before .before .before .before in joined (search needs) (joined (search needs) (at-put-run .put-run .ensures) (at-put-hex .put-hex .ensures .0)) (at-put-u8 .put-u8 .ensures)
+returns c = let at-put-u8 = c .before .before in let at-put-hex = at-put-u8 .before .before .before .before in let at-put-run = at-put-hex .before .before .before .before in wrote-joined (search needs) (wrote-joined (search needs) (at-put-run .put-run .ensures) (at-put-hex .put-hex .ensures .0)) (at-put-u8 .put-u8 .ensures)
 
 pub write-book-line-spec : {M : Type 1} → statement M
 write-book-line-spec =

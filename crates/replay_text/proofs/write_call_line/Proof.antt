@@ -1,6 +1,6 @@
 -- Part by part.
 use Rattle.lists.specs.Pick.{pick}
-use Rattle.octets.specs.Laws.{joined}
+use Rattle.octets.specs.Laws.{wrote-joined}
 use borrow.Author.Needs.{needs}
 use borrow.Author.Tests.{eq-eqb, ne-eqb}
 -- Part by part.
@@ -9,11 +9,11 @@ use Rattle.replay_text.proofs.write_call_line.Tie as tie
 
 returns : tie.Need-returns
 unfolding pick
-returns c = let at-put-u83 = c .before .before in let at-put-hex = at-put-u83 .before .before .before .before in let at-put-u82 = at-put-hex .before .before .before .before in let at-put-u8 = at-put-u82 .before .before .before .before in let at-if1 = at-put-u8 .before .before in rw (eq-eqb _ _ (at-if1 .if1 .taken)) (joined (search needs) (joined (search needs) (joined (search needs) (at-put-u8 .put-u8 .ensures) (at-put-u82 .put-u82 .ensures)) (at-put-hex .put-hex .ensures .0)) (at-put-u83 .put-u83 .ensures))
+returns c = let at-put-u83 = c .before .before in let at-put-hex = at-put-u83 .before .before .before .before in let at-put-u82 = at-put-hex .before .before .before .before in let at-put-u8 = at-put-u82 .before .before .before .before in let at-if1 = at-put-u8 .before .before in rw (eq-eqb _ _ (at-if1 .if1 .taken)) (wrote-joined (search needs) (wrote-joined (search needs) (wrote-joined (search needs) (at-put-u8 .put-u8 .ensures) (at-put-u82 .put-u82 .ensures)) (at-put-hex .put-hex .ensures .0)) (at-put-u83 .put-u83 .ensures))
 
 returns-2 : tie.Need-returns-2
 unfolding pick
-returns-2 c = let at-put-u85 = c .before .before in let at-put-u84 = at-put-u85 .before .before .before .before in let at-if1 = at-put-u84 .before .before in rw (ne-eqb _ _ (at-if1 .if1 .left)) (joined (search needs) (at-put-u84 .put-u84 .ensures) (at-put-u85 .put-u85 .ensures))
+returns-2 c = let at-put-u85 = c .before .before in let at-put-u84 = at-put-u85 .before .before .before .before in let at-if1 = at-put-u84 .before .before in rw (ne-eqb _ _ (at-if1 .if1 .left)) (wrote-joined (search needs) (at-put-u84 .put-u84 .ensures) (at-put-u85 .put-u85 .ensures))
 
 pub write-call-line-spec : {M : Type 1} → statement M
 write-call-line-spec =

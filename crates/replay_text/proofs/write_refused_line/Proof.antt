@@ -1,5 +1,5 @@
 -- Part by part.
-use Rattle.octets.specs.Laws.{joined}
+use Rattle.octets.specs.Laws.{wrote-joined}
 use borrow.Author.Needs.{needs}
 -- Part by part.
 -- Part by part.
@@ -7,7 +7,7 @@ use Rattle.replay_text.proofs.write_refused_line.Statement.{statement}
 use Rattle.replay_text.proofs.write_refused_line.Tie as tie
 
 returns : tie.Need-returns
-returns c = let at-put-u83 = c .before .before in let at-put-u82 = at-put-u83 .before .before .before .before in let at-put-u8 = at-put-u82 .before .before .before .before in let at-put-run = at-put-u8 .before .before .before .before in joined (search needs) (joined (search needs) (joined (search needs) (at-put-run .put-run .ensures) (at-put-u8 .put-u8 .ensures)) (at-put-u82 .put-u82 .ensures)) (at-put-u83 .put-u83 .ensures)
+returns c = let at-put-u83 = c .before .before in let at-put-u82 = at-put-u83 .before .before .before .before in let at-put-u8 = at-put-u82 .before .before .before .before in let at-put-run = at-put-u8 .before .before .before .before in wrote-joined (search needs) (wrote-joined (search needs) (wrote-joined (search needs) (at-put-run .put-run .ensures) (at-put-u8 .put-u8 .ensures)) (at-put-u82 .put-u82 .ensures)) (at-put-u83 .put-u83 .ensures)
 
 pub write-refused-line-spec : {M : Type 1} → statement M
 write-refused-line-spec =

@@ -1,7 +1,7 @@
 -- Two numbers, one after the other.
 use Prim.Native.Nat.{_%_}
 use Rattle.message.specs.Walk.{start}
-use Rattle.octets.specs.Laws.{joined}
+use Rattle.octets.specs.Laws.{wrote-joined}
 use borrow.Author.Needs.{needs}
 use mathlib.Core.Path.{_≡_}
 use native.Mathlib.Omega.{arith}
@@ -11,7 +11,7 @@ use Rattle.reply.proofs.put_range.Statement.{statement}
 use Rattle.reply.proofs.put_range.Tie as tie
 
 returns : tie.Need-returns
-returns c = let at-put-u16 = c .before .before in let at-put-u32 = at-put-u16 .before .before .before .before .before in let at-wide642 = at-put-u32 .before in let at-wide64 = at-wide642 .before in let start = at-wide64 .before .before .before in let e : start .args .r .count % 65536 ≡ start .args .r .count = omega arith in joined (search needs) (rw (at-wide64 .wide64 .ensures, at-wide642 .wide642 .ensures) at (at-put-u32 .put-u32 .ensures)) (rw e at (at-put-u16 .put-u16 .ensures))
+returns c = let at-put-u16 = c .before .before in let at-put-u32 = at-put-u16 .before .before .before .before .before in let at-wide642 = at-put-u32 .before in let at-wide64 = at-wide642 .before in let start = at-wide64 .before .before .before in let e : start .args .r .count % 65536 ≡ start .args .r .count = omega arith in wrote-joined (search needs) (rw (at-wide64 .wide64 .ensures, at-wide642 .wide642 .ensures) at (at-put-u32 .put-u32 .ensures)) (rw e at (at-put-u16 .put-u16 .ensures))
 
 pub put-range-spec : {M : Type 1} → statement M
 put-range-spec =

@@ -1,5 +1,5 @@
 -- The option, or nothing.
-use Rattle.message.specs.Walk.{taken}
+use Rattle.message.specs.Walk.{optionTaken}
 use Rattle.reply.proofs.Writes.{put-none}
 use borrow.Author.Needs.{needs}
 -- The option, or nothing.

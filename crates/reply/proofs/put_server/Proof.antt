@@ -1,6 +1,6 @@
 -- Code and length, and then the value (`option-put`).
 use Rattle.message.specs.Walk.{start}
-use Rattle.octets.specs.Laws.{joined}
+use Rattle.octets.specs.Laws.{wrote-joined}
 use Rattle.octets.specs.Octets.{octets16, octets32}
 use Rattle.reply.proofs.Writes.{option-put}
 use borrow.Author.Needs.{needs}
@@ -13,7 +13,7 @@ use Rattle.reply.proofs.put_server.Statement.{statement}
 use Rattle.reply.proofs.put_server.Tie as tie
 
 returns : tie.Need-returns
-returns c = let at-put-u32 = c .before .before in let at-wide64 = at-put-u32 .before in let at-put-u16 = at-wide64 .before .before .before .before in let at-put-code = at-put-u16 .before .before .before .before in let start = at-put-code .before .before .before in option-put _ 6 10 (octets16 1 ++ octets32 (start .args .head .server)) refl (omega arith) (search needs) (at-put-code .put-code .ensures) (joined (search needs) (at-put-u16 .put-u16 .ensures) (rw (at-wide64 .wide64 .ensures) at (at-put-u32 .put-u32 .ensures)))
+returns c = let at-put-u32 = c .before .before in let at-wide64 = at-put-u32 .before in let at-put-u16 = at-wide64 .before .before .before .before in let at-put-code = at-put-u16 .before .before .before .before in let start = at-put-code .before .before .before in option-put _ 6 10 (octets16 1 ++ octets32 (start .args .head .server)) refl (omega arith) (search needs) (at-put-code .put-code .ensures) (wrote-joined (search needs) (at-put-u16 .put-u16 .ensures) (rw (at-wide64 .wide64 .ensures) at (at-put-u32 .put-u32 .ensures)))
 
 pub put-server-spec : {M : Type 1} → statement M
 put-server-spec =

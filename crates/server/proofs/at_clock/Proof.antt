@@ -1,5 +1,5 @@
 -- By test 3.
-use Rattle.message.specs.Walk.{taken}
+use Rattle.message.specs.Walk.{optionTaken}
 use Rattle.server.proofs.Steps.{client-known, client-unknown, serves-discard}
 use Rattle.state.specs.Book.{before}
 use borrow.Author.Needs.{needs}

@@ -1,5 +1,5 @@
 -- By test 7.
-use Rattle.message.specs.Walk.{taken}
+use Rattle.message.specs.Walk.{optionTaken}
 use Rattle.server.proofs.Steps.{for-any, for-others, for-ours, serves-discard}
 use Rattle.state.specs.Book.{before}
 use borrow.Author.Needs.{needs}

@@ -1,5 +1,5 @@
 -- By tests 1 and 2.
-use Rattle.message.specs.Walk.{taken}
+use Rattle.message.specs.Walk.{optionTaken}
 use Rattle.server.proofs.Steps.{call-served, call-short, call-unsound, serves-discard}
 use Rattle.state.specs.Book.{before}
 use borrow.Author.Needs.{needs}

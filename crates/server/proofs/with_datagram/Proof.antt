@@ -1,5 +1,5 @@
 -- By tests 4 to 6.
-use Rattle.message.specs.Walk.{start, taken}
+use Rattle.message.specs.Walk.{start, optionTaken}
 use Rattle.server.proofs.Steps.{reading-discarded, reading-good, reading-short, reading-taken, serves-discard}
 use Rattle.state.specs.Book.{before}
 use borrow.Author.Needs.{needs}

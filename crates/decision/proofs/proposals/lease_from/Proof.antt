@@ -1,5 +1,5 @@
--- `proposals::lease_from` meets its contract: by lease-is.
-use Rattle.decision.specs.Laws.{lease-is}
+-- `proposals::lease_from` meets its contract: by lease-from-is.
+use Rattle.decision.specs.Laws.{lease-from-is}
 use borrow.Author.Needs.{needs}
 use Rattle.decision.proofs.proposals.lease_from.Statement.{statement}
 use Rattle.decision.proofs.proposals.lease_from.Tie as tie
@@ -9,4 +9,4 @@ lease-from-spec =
     tie.close
     (tie.spec
     (λ c κs. search needs)
-    (λ c. search (lease-is, needs)))
+    (λ c. search (lease-from-is, needs)))

@@ -1,6 +1,6 @@
 -- By the definition, case by case.
 use Rattle.lists.specs.Pick.{picks}
-use Rattle.message.specs.Walk.{taken}
+use Rattle.message.specs.Walk.{optionTaken}
 use borrow.Author.Needs.{needs}
 -- By the definition, case by case.
 -- By the definition, case by case.
@@ -11,15 +11,15 @@ use Rattle.message.proofs.Walk.taken.Statement.{statement}
 use Rattle.message.proofs.Walk.taken.Tie as tie
 
 returns : tie.Need-returns
-unfolding taken
+unfolding optionTaken
 returns c = search (picks, needs)
 
 returns-2 : tie.Need-returns-2
-unfolding taken
+unfolding optionTaken
 returns-2 c = search (picks, needs)
 
 returns-3 : tie.Need-returns-3
-unfolding taken
+unfolding optionTaken
 returns-3 c = search (picks, needs)
 
 pub taken-spec : {M : Type 1} → statement M

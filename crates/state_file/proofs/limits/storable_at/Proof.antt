@@ -2,25 +2,25 @@
 use borrow.Author.Needs.{needs}
 use Rattle.lists.specs.Pick.{picks}
 use Rattle.state_file.proofs.Limit.{limits}
-use Rattle.state_file.specs.Place.{leaseAt}
+use Rattle.state_file.specs.Place.{fileLeaseAt}
 use Rattle.state_file.specs.Records.{storableB}
 use Rattle.state_file.proofs.limits.storable_at.Statement.{statement}
 use Rattle.state_file.proofs.limits.storable_at.Tie as tie
 
 returns : tie.Need-returns
-unfolding storableB leaseAt
+unfolding storableB fileLeaseAt
 returns c = search (picks, limits, needs)
 
 returns-2 : tie.Need-returns-2
-unfolding storableB leaseAt
+unfolding storableB fileLeaseAt
 returns-2 c = search (picks, limits, needs)
 
 returns-3 : tie.Need-returns-3
-unfolding storableB leaseAt
+unfolding storableB fileLeaseAt
 returns-3 c = search (picks, limits, needs)
 
 returns-4 : tie.Need-returns-4
-unfolding storableB leaseAt
+unfolding storableB fileLeaseAt
 returns-4 c = search (picks, limits, needs)
 
 pub storable-at-spec : {M : Type 1} → statement M

@@ -7,13 +7,13 @@ use lib.ListN.{length}
 use borrow.Author.Needs.{needs}
 use Rattle.state.specs.Book.{zeroScope}
 use Rattle.state_file.proofs.Pad.{PadInv, row-in, scopePads}
-use Rattle.state_file.specs.Place.{row, scopeAt}
+use Rattle.state_file.specs.Place.{row, fileScopeAt}
 use Rattle.state_file.specs.Records.{storedScope}
 use Rattle.state_file.proofs.load.scopes_at.Statement.{statement}
 use Rattle.state_file.proofs.load.scopes_at.Tie as tie
 
 abbrev Inv-loop : tie.InvT-loop
-Inv-loop s at k h out₀ i₀ out i = PadInv zeroScope 4 (map storedScope (row (scopeAt h) (6 + h * 2) k s at)) k out i
+Inv-loop s at k h out₀ i₀ out i = PadInv zeroScope 4 (map storedScope (row (fileScopeAt h) (6 + h * 2) k s at)) k out i
 
 abbrev μ-loop : tie.MeasureT-loop
 μ-loop s at k h out₀ i₀ out i = k - i

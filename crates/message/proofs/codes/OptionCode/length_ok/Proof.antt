@@ -3,7 +3,7 @@ use Rattle.lists.specs.Filter.{isIn}
 use Rattle.lists.specs.Pick.{pick}
 use Rattle.message.proofs.Steps.{length-above, up}
 use Rattle.message.specs.Codes.{lengthOk}
-use Rattle.message.specs.Walk.{taken}
+use Rattle.message.specs.Walk.{optionTaken}
 use borrow.Author.Tests.{eq-eqb, le-leb, lt-leb, ne-eqb}
 use native.Mathlib.Omega.{arith}
 -- One row of the table for each code.

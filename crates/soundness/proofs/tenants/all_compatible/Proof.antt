@@ -1,24 +1,24 @@
--- `tenants::all_calm` meets its contract: every pair, in one loop over two places.
+-- `tenants::all_compatible` meets its contract: every pair, in one loop over two places.
 use Prim.Native.Nat.{_*_, _+_, _-_}
 use Rattle.lists.specs.All.{CrossInv, cross-next, cross-row, crosses, pairsBy}
-use Rattle.soundness.specs.Sound.{calm}
+use Rattle.soundness.specs.Sound.{compatible}
 use Rattle.state.specs.Book.{before, inUse, noLease}
 use borrow.Author.Needs.{needs}
 use borrow.Author.Tests.{not-false}
-use Rattle.soundness.proofs.tenants.all_calm.Statement.{statement}
-use Rattle.soundness.proofs.tenants.all_calm.Tie as tie
+use Rattle.soundness.proofs.tenants.all_compatible.Statement.{statement}
+use Rattle.soundness.proofs.tenants.all_compatible.Tie as tie
 
 abbrev Inv-loop : tie.InvT-loop
-Inv-loop t n i₀ j₀ i j = CrossInv calm noLease (t .leases) n (pairsBy calm (inUse t)) i j
+Inv-loop t n i₀ j₀ i j = CrossInv compatible noLease (t .leases) n (pairsBy compatible (inUse t)) i j
 
 abbrev μ-loop : tie.MeasureT-loop
 μ-loop t n i₀ j₀ i j = (16 - i) * 20 + (18 - j)
 
 loop-again : tie.Need-loop-again Inv-loop μ-loop
-loop-again c = cross-next (c .before .before .before .before .before .before .loop .inv) (search needs) (c .before .are-calm .ensures) (not-false _ (c .if2 .left))
+loop-again c = cross-next (c .before .before .before .before .before .before .loop .inv) (search needs) (c .before .are-compatible .ensures) (not-false _ (c .if2 .left))
 
-pub all-calm-spec : {M : Type 1} → statement M
-all-calm-spec =
+pub all-compatible-spec : {M : Type 1} → statement M
+all-compatible-spec =
     tie.close
     (tie.spec
     Inv-loop

@@ -1,19 +1,19 @@
--- `settings::each_share_ok` meets its contract: by uptos.
+-- `holdings::all_committed_ok` meets its contract: by uptos.
 use Prim.Native.Nat.{_-_}
 use Rattle.lists.specs.All.{UptoInv, uptos}
-use Rattle.soundness.specs.Sound.{shareB}
+use Rattle.soundness.specs.Parts.{committedIn}
 use borrow.Author.Needs.{needs}
-use Rattle.soundness.proofs.settings.each_share_ok.Statement.{statement}
-use Rattle.soundness.proofs.settings.each_share_ok.Tie as tie
+use Rattle.soundness.proofs.holdings.all_committed_ok.Statement.{statement}
+use Rattle.soundness.proofs.holdings.all_committed_ok.Tie as tie
 
 abbrev Inv-loop : tie.InvT-loop
-Inv-loop n c g₀ g = UptoInv (shareB c) n g
+Inv-loop s h n m k₀ k = UptoInv (committedIn s h n) m k
 
 abbrev μ-loop : tie.MeasureT-loop
-μ-loop n c g₀ g = n - g
+μ-loop s h n m k₀ k = m - k
 
-pub each-share-ok-spec : {M : Type 1} → statement M
-each-share-ok-spec =
+pub all-committed-ok-spec : {M : Type 1} → statement M
+all-committed-ok-spec =
     tie.close
     (tie.spec
     Inv-loop

@@ -1,10 +1,10 @@
--- `holdings::load_sum` meets its contract: by sums.
+-- `holdings::committed_sum` meets its contract: by sums.
 use Prim.Native.Nat.{_-_}
 use Rattle.lists.specs.Sums.{SumInv, sums}
 use Rattle.soundness.specs.Parts.{loadOn}
 use borrow.Author.Needs.{needs}
-use Rattle.soundness.proofs.holdings.load_sum.Statement.{statement}
-use Rattle.soundness.proofs.holdings.load_sum.Tie as tie
+use Rattle.soundness.proofs.holdings.committed_sum.Statement.{statement}
+use Rattle.soundness.proofs.holdings.committed_sum.Tie as tie
 
 abbrev Inv-loop : tie.InvT-loop
 Inv-loop h c k n sum₀ g₀ sum g = SumInv (loadOn h c k) n sum g
@@ -12,8 +12,8 @@ Inv-loop h c k n sum₀ g₀ sum g = SumInv (loadOn h c k) n sum g
 abbrev μ-loop : tie.MeasureT-loop
 μ-loop h c k n sum₀ g₀ sum g = n - g
 
-pub load-sum-spec : {M : Type 1} → statement M
-load-sum-spec =
+pub committed-sum-spec : {M : Type 1} → statement M
+committed-sum-spec =
     tie.close
     (tie.spec
     Inv-loop

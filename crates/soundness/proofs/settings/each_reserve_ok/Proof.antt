@@ -1,19 +1,19 @@
--- `holdings::all_loads_ok` meets its contract: by uptos.
+-- `settings::each_reserve_ok` meets its contract: by uptos.
 use Prim.Native.Nat.{_-_}
 use Rattle.lists.specs.All.{UptoInv, uptos}
-use Rattle.soundness.specs.Parts.{loadIn}
+use Rattle.soundness.specs.Sound.{reserveB}
 use borrow.Author.Needs.{needs}
-use Rattle.soundness.proofs.holdings.all_loads_ok.Statement.{statement}
-use Rattle.soundness.proofs.holdings.all_loads_ok.Tie as tie
+use Rattle.soundness.proofs.settings.each_reserve_ok.Statement.{statement}
+use Rattle.soundness.proofs.settings.each_reserve_ok.Tie as tie
 
 abbrev Inv-loop : tie.InvT-loop
-Inv-loop s h n m k₀ k = UptoInv (loadIn s h n) m k
+Inv-loop n c g₀ g = UptoInv (reserveB c) n g
 
 abbrev μ-loop : tie.MeasureT-loop
-μ-loop s h n m k₀ k = m - k
+μ-loop n c g₀ g = n - g
 
-pub all-loads-ok-spec : {M : Type 1} → statement M
-all-loads-ok-spec =
+pub each-reserve-ok-spec : {M : Type 1} → statement M
+each-reserve-ok-spec =
     tie.close
     (tie.spec
     Inv-loop

@@ -1,24 +1,24 @@
--- `tenants::are_calm` meets its contract: by picks, calls.
+-- `tenants::are_compatible` meets its contract: by picks, calls.
 use Rattle.lists.specs.Pick.{calls, picks}
-use Rattle.soundness.specs.Sound.{calm}
+use Rattle.soundness.specs.Sound.{compatible}
 use borrow.Author.Needs.{needs}
-use Rattle.soundness.proofs.tenants.are_calm.Statement.{statement}
-use Rattle.soundness.proofs.tenants.are_calm.Tie as tie
+use Rattle.soundness.proofs.tenants.are_compatible.Statement.{statement}
+use Rattle.soundness.proofs.tenants.are_compatible.Tie as tie
 
 returns : tie.Need-returns
-unfolding calm
+unfolding compatible
 returns c = search (picks, calls, needs)
 
 returns-2 : tie.Need-returns-2
-unfolding calm
+unfolding compatible
 returns-2 c = search (picks, calls, needs)
 
 returns-3 : tie.Need-returns-3
-unfolding calm
+unfolding compatible
 returns-3 c = search (picks, calls, needs)
 
-pub are-calm-spec : {M : Type 1} → statement M
-are-calm-spec =
+pub are-compatible-spec : {M : Type 1} → statement M
+are-compatible-spec =
     tie.close
     (tie.spec
     (λ c. search (picks, calls, needs))

@@ -46,10 +46,10 @@ no-size l k h = go (leb (heldGiving l k) (l .limit))
     go true = lt-leb (committedGiving l k) (l .size) (omega arith)
     go false = refl
 
-pub over-size : (l : GrantNumbers) (n load : ℕ) → load ≡ max (l .held) (l .reserve) → l .size < l .others + load → 0 ≡ largest (allowedOf l) n
-over-size l n load e h = sym (largest-none (allowedOf l) n (λ k. no-size l k (omega arith)))
+pub over-size : (l : GrantNumbers) (n own : ℕ) → own ≡ max (l .held) (l .reserve) → l .size < l .others + own → 0 ≡ largest (allowedOf l) n
+over-size l n own e h = sym (largest-none (allowedOf l) n (λ k. no-size l k (omega arith)))
 
-module _ (l : GrantNumbers) (n load room : ℕ) (e : load ≡ max (l .held) (l .reserve)) (inLimit : l .held ≤ l .limit) (inSize : l .others + load ≤ l .size)
+module _ (l : GrantNumbers) (n own room : ℕ) (e : own ≡ max (l .held) (l .reserve)) (inLimit : l .held ≤ l .limit) (inSize : l .others + own ≤ l .size)
     (er : room ≡ min (l .limit - l .held) (l .size - (l .others + l .held))) where
   fits : (k : ℕ) → k ≤ l .free + room → allowedOf l k ≡ true
   unfolding allowedOf

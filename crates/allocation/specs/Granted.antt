@@ -19,23 +19,23 @@ use Rattle.address_set.specs.AddressSet.{bit, offsets, setOf, differenceOf, cho
 use Rattle.state.specs.declared.Lease.{Lease}
 use Rattle.state.specs.declared.Scope.{Scope}
 use Rattle.state.specs.declared.State.{State}
-use Rattle.state.specs.Book.{unionAll, addressesOf, heldOf, heldCount, busyOf, zeroScope, noScope, scopeAt}
-use Rattle.soundness.specs.Sound.{oneTo, tenantsIn, scopesIn, reserveAt, limitAt, sizeB, reserveB, reservesB, countsB, rule3, rule4, rule5, rule6, settingsB}
-use Rattle.soundness.specs.Book.{settingsOk, noLeasesB, loadOf, Sound}
+use Rattle.state.specs.Book.{unionAll, addressesOf, heldOf, heldCount, busyOf, zeroScope, noScope, scopeAt, reserveAt, limitAt, heldAt, withHeld, committed, committedSum}
+use Rattle.soundness.specs.Sound.{oneTo, tenantsIn, scopesIn, sizeB, reserveB, reservesB, countsB, rule3, rule4, rule5, rule6, settingsB}
+use Rattle.soundness.specs.Book.{settingsOk, noLeasesB, Sound}
 use Rattle.soundness.specs.Kept.{sum-less}
 use Rattle.allocation.specs.declared.Ask.{Ask}
 use Rattle.allocation.specs.declared.Grant.{Grant}
-use Rattle.allocation.specs.Rule.{takenOf, busyIn, poolOf, nobodysOf, heldBy, freeOf, heldAt, heldAfter, pressureWith, allowed, grantOf, unusedReserve}
-use Rattle.allocation.specs.Loops.{committed-split, otherLoad}
+use Rattle.allocation.specs.Rule.{takenOf, busyIn, poolOf, nobodysOf, heldBy, freeOf, heldAfter, allowed, grantOf, unusedReserve}
+use Rattle.allocation.specs.Loops.{committed-split}
 use Rattle.allocation.specs.Sets.{size, size-or, size-zero, difference-small, difference-in, difference-out, difference-rest, chosen-bit, chosen-count, pool-small, pool-size, in-union}
 
 -- ---- the sum of what is held and reserved
 -- it grows with the tenant's own number
-pub committed-more : (c : Scope) (n : ℕ) (t : List (List Lease)) (s h d e : ℕ) → d ≤ e → pressureWith c n t s h d ≤ pressureWith c n t s h e
-unfolding pressureWith pick
-committed-more c n t s h d e p = sum-less _ _ n (λ g q. go g (eqb g h))
+pub committed-more : (c : Scope) (n : ℕ) (held : ℕ → ℕ) (h d e : ℕ) → d ≤ e → committedSum c n (withHeld h d held) ≤ committedSum c n (withHeld h e held)
+unfolding committed withHeld pick
+committed-more c n held h d e p = sum-less _ _ n (λ g q. go g (eqb g h))
   where
-    go : (g : ℕ) (b : Bool) → max (pick b d (heldAt t s g)) (getD (c .reserve) g 0) ≤ max (pick b e (heldAt t s g)) (getD (c .reserve) g 0)
+    go : (g : ℕ) (b : Bool) → max (pick b d (held g)) (reserveAt c g) ≤ max (pick b e (held g)) (reserveAt c g)
     go g true = omega arith
     go g false = omega arith
 
@@ -43,11 +43,11 @@ committed-more c n t s h d e p = sum-less _ _ n (λ g q. go g (eqb g h))
 pub allowed-down : (c : Scope) (n : ℕ) (t : List (List Lease)) (a : Ask) (j k : ℕ) → j ≤ k → allowed c n t a k ≡ true → allowed c n t a j ≡ true
 unfolding allowed
 allowed-down c n t a j k h e =
-    let p = and-parts (leb (heldAfter t a k) (getD (c .limit) (a .tenant) 0)) (leb (pressureWith c n t (a .scope) (a .tenant) (heldAfter t a k)) (c .size)) e in
-    let u = leb-true (heldAfter t a k) (getD (c .limit) (a .tenant) 0) (p .0) in
-    let w = leb-true (pressureWith c n t (a .scope) (a .tenant) (heldAfter t a k)) (c .size) (p .1) in
-    let m = committed-more c n t (a .scope) (a .tenant) (heldAfter t a j) (heldAfter t a k) (omega arith) in
-    and-both (le-leb (heldAfter t a j) (getD (c .limit) (a .tenant) 0) (omega arith)) (le-leb (pressureWith c n t (a .scope) (a .tenant) (heldAfter t a j)) (c .size) (le-trans m w))
+    let p = and-parts (leb (heldAfter t a k) (limitAt c (a .tenant))) (leb (committedSum c n (withHeld (a .tenant) (heldAfter t a k) (heldAt t (a .scope)))) (c .size)) e in
+    let u = leb-true (heldAfter t a k) (limitAt c (a .tenant)) (p .0) in
+    let w = leb-true (committedSum c n (withHeld (a .tenant) (heldAfter t a k) (heldAt t (a .scope)))) (c .size) (p .1) in
+    let m = committed-more c n (heldAt t (a .scope)) (a .tenant) (heldAfter t a j) (heldAfter t a k) (omega arith) in
+    and-both (le-leb (heldAfter t a j) (limitAt c (a .tenant)) (omega arith)) (le-leb (committedSum c n (withHeld (a .tenant) (heldAfter t a j) (heldAt t (a .scope)))) (c .size) (le-trans m w))
 
 -- an allowed number up to the desired one is no more than the grant
 pub largest-least : (p : ℕ → Bool) (n k : ℕ) → k ≤ n → p k ≡ true → k ≤ largest p n
@@ -116,11 +116,11 @@ module _ (s : State) (t : List (List Lease)) (v : Sound s t) (k : ℕ) (here : k
       at (x ∷ l) (suc n) (suc k) q p = at l n k (omega arith) (all-head (reservesB (tenantsIn s)) x (take n l) p .1)
 
   -- the sum with what a tenant holds or has in reserve is the book's own
-  pub committed-now : (h d : ℕ) → d ≤ max (heldAt t (k + 1) h) (reserveAt (scopeAt s k) h) → pressureWith (scopeAt s k) (tenantsIn s) t (k + 1) h d ≤ scopeAt s k .size
-  unfolding pressureWith pick
-  committed-now h d p = le-trans (sum-less _ (loadOf s t k) (tenantsIn s) (λ g q. go g (eqb g h) refl)) (v .commitments k here)
+  pub committed-now : (h d : ℕ) → d ≤ max (heldAt t (k + 1) h) (reserveAt (scopeAt s k) h) → committedSum (scopeAt s k) (tenantsIn s) (withHeld h d (heldAt t (k + 1))) ≤ scopeAt s k .size
+  unfolding committed withHeld pick
+  committed-now h d p = le-trans (sum-less _ (committed (scopeAt s k) (heldAt t (k + 1))) (tenantsIn s) (λ g q. go g (eqb g h) refl)) (v .commitments k here)
     where
-      go : (g : ℕ) (b : Bool) → eqb g h ≡ b → max (pick b d (heldAt t (k + 1) g)) (getD (scopeAt s k .reserve) g 0) ≤ loadOf s t k g
+      go : (g : ℕ) (b : Bool) → eqb g h ≡ b → max (pick b d (heldAt t (k + 1) g)) (reserveAt (scopeAt s k) g) ≤ max (heldAt t (k + 1) g) (reserveAt (scopeAt s k) g)
       go g true e =
           let z : g ≡ h = eqb-true g h e in
           let x : heldAt t (k + 1) g ≡ heldAt t (k + 1) h = ap (heldAt t (k + 1)) z in
@@ -137,8 +137,8 @@ module _ (s : State) (t : List (List Lease)) (v : Sound s t) (k : ℕ) (here : k
       let z = reserve-limit (a .tenant) h in
       let w = committed-now (a .tenant) (heldAfter t a j) (omega arith) in
       and-both (le-leb (heldAfter t a j) (limitAt (scopeAt s k) (a .tenant)) (omega arith))
-      (ap (λ (z : ℕ). leb (pressureWith (scopeAt s k) (tenantsIn s) t z (a .tenant) (heldAfter t a j)) (scopeAt s k .size)) e
-      ∙ le-leb (pressureWith (scopeAt s k) (tenantsIn s) t (k + 1) (a .tenant) (heldAfter t a j)) (scopeAt s k .size) w)
+      (ap (λ (z : ℕ). leb (committedSum (scopeAt s k) (tenantsIn s) (withHeld (a .tenant) (heldAfter t a j) (heldAt t z))) (scopeAt s k .size)) e
+      ∙ le-leb (committedSum (scopeAt s k) (tenantsIn s) (withHeld (a .tenant) (heldAfter t a j) (heldAt t (k + 1)))) (scopeAt s k .size) w)
 
   -- so a tenant gets what it desires, up to its unused reserve
   pub guaranteed : (a : Ask) → a .scope ≡ k + 1 → a .tenant < tenantsIn s → min (a .desired) (unusedReserve (scopeAt s k) t a) ≤ grantOf (scopeAt s k) (tenantsIn s) t a .number
@@ -198,27 +198,27 @@ taken-few s (x ∷ t) (suc n) h =
     omega arith
 
 -- the sum counts what all hold, and the new addresses
-bare-sum : (n : ℕ) (t : List (List Lease)) (s h : ℕ) → pressureWith noScope n t s h (heldAt t s h) ≡ sumTo (heldAt t s) n
-unfolding pressureWith pick
-bare-sum n t s h = sum-same _ _ n (λ g q. go g (eqb g h) refl)
+bare-sum : (n : ℕ) (held : ℕ → ℕ) (h : ℕ) → committedSum noScope n (withHeld h (held h) held) ≡ sumTo held n
+unfolding committed withHeld pick
+bare-sum n held h = sum-same _ _ n (λ g q. go g (eqb g h) refl)
   where
-    go : (g : ℕ) (b : Bool) → eqb g h ≡ b → max (pick b (heldAt t s h) (heldAt t s g)) (getD (noScope .reserve) g 0) ≡ heldAt t s g
-    go g true e = let z : heldAt t s g ≡ heldAt t s h = ap (heldAt t s) (eqb-true g h e) in omega arith
+    go : (g : ℕ) (b : Bool) → eqb g h ≡ b → max (pick b (held h) (held g)) (reserveAt noScope g) ≡ held g
+    go g true e = let z : held g ≡ held h = ap held (eqb-true g h e) in omega arith
     go g false e = omega arith
 
-bare-less : (c : Scope) (n : ℕ) (t : List (List Lease)) (s h d : ℕ) → pressureWith noScope n t s h d ≤ pressureWith c n t s h d
-unfolding pressureWith
-bare-less c n t s h d = sum-less _ _ n (λ g q. go (pick (eqb g h) d (heldAt t s g)) (getD (c .reserve) g 0))
+bare-less : (c : Scope) (n : ℕ) (held : ℕ → ℕ) → committedSum noScope n held ≤ committedSum c n held
+unfolding committed
+bare-less c n held = sum-less _ _ n (λ g q. go (held g) (reserveAt c g))
   where
     go : (x r : ℕ) → max x 0 ≤ max x r
     go x r = omega arith
 
-sum-new : (c : Scope) (n : ℕ) (t : List (List Lease)) (s h m : ℕ) → h < n → sumTo (heldAt t s) n + m ≤ pressureWith c n t s h (heldAt t s h + m)
-sum-new c n t s h m p =
-    let x = committed-split noScope n t s h (heldAt t s h + m) p in
-    let y = committed-split noScope n t s h (heldAt t s h) p in
-    let z = bare-sum n t s h in
-    let w = bare-less c n t s h (heldAt t s h + m) in
+sum-new : (c : Scope) (n : ℕ) (held : ℕ → ℕ) (h m : ℕ) → h < n → sumTo held n + m ≤ committedSum c n (withHeld h (held h + m) held)
+sum-new c n held h m p =
+    let x = committed-split noScope n held h (held h + m) p in
+    let y = committed-split noScope n held h (held h) p in
+    let z = bare-sum n held h in
+    let w = bare-less c n (withHeld h (held h + m) held) in
     omega arith
 
 module _ (s : State) (t : List (List Lease)) (v : Sound s t) (k : ℕ) (here : k < scopesIn s) (a : Ask) (es : a .scope ≡ k + 1) (known : a .tenant < tenantsIn s) where
@@ -228,9 +228,9 @@ module _ (s : State) (t : List (List Lease)) (v : Sound s t) (k : ℕ) (here : k
   new-exist j e =
       let c : Scope = scopeAt s k in
       let m : ℕ = j - size (freeOf t a) in
-      let p = and-parts (leb (heldAfter t a j) (getD (c .limit) (a .tenant) 0)) (leb (pressureWith c (tenantsIn s) t (a .scope) (a .tenant) (heldAfter t a j)) (c .size)) e in
-      let w = leb-true (pressureWith c (tenantsIn s) t (a .scope) (a .tenant) (heldAfter t a j)) (c .size) (p .1) in
-      let x = sum-new c (tenantsIn s) t (a .scope) (a .tenant) m known in
+      let p = and-parts (leb (heldAfter t a j) (limitAt c (a .tenant))) (leb (committedSum c (tenantsIn s) (withHeld (a .tenant) (heldAfter t a j) (heldAt t (a .scope)))) (c .size)) e in
+      let w = leb-true (committedSum c (tenantsIn s) (withHeld (a .tenant) (heldAfter t a j) (heldAt t (a .scope)))) (c .size) (p .1) in
+      let x = sum-new c (tenantsIn s) (heldAt t (a .scope)) (a .tenant) m known in
       let y = taken-few (a .scope) t (tenantsIn s) (v .tenants) in
       let f = size-most s t v k here in
       let q : size (poolOf c) ≡ c .size = ap (λ (z : ℕ). size (setOf (upTo z))) least ∙ pool-size (c .size) f in

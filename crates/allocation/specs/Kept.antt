@@ -14,7 +14,6 @@ use Rattle.lists.specs.Pick.{pick}
 use Rattle.lists.specs.All.{All, allBy, all-head, all-cons, all-both}
 use Rattle.lists.specs.Both.{and-parts, and-both}
 use Rattle.lists.specs.Filter.{filterBy}
-use Rattle.lists.specs.Sums.{sumTo}
 use Rattle.lists.specs.Down.{largest, largest-passes}
 use Rattle.address_set.specs.AddressSet.{bit, offsets, setOf, differenceOf, chosen, upTo}
 use Rattle.address_set.specs.Laws.{bit-le, bit-or, bit-and, bit-eq, bit-of-zero}
@@ -22,15 +21,15 @@ use Rattle.address_set.specs.ListLaws.{offsets-have, offsets-small, bit-past, b
 use Rattle.state.specs.declared.Lease.{Lease}
 use Rattle.state.specs.declared.Scope.{Scope}
 use Rattle.state.specs.declared.State.{State}
-use Rattle.state.specs.Book.{unionAll, addressesOf, inScope, usedIn, overlaps, heldOf, heldCount, busyOf, live, idOf, other, insertOf, scopeAt}
+use Rattle.state.specs.Book.{unionAll, addressesOf, inScope, usedIn, overlaps, heldOf, heldCount, busyOf, live, idOf, other, insertOf, scopeAt, reserveAt, limitAt, heldAt, withHeld, committed, committedSum}
 use Rattle.state.specs.Sets.{adds, addresses-cons, insert-addresses}
-use Rattle.soundness.specs.Sound.{oneTo, tenantsIn, scopesIn, reserveAt, limitAt, idB, scopeKnown, belowB, offsetsB, kindB, periodB, leaseB, paddedB, disjoint, apartIn, apart, compatible}
-use Rattle.soundness.specs.Book.{leaseOk, loadOf, Sound}
+use Rattle.soundness.specs.Sound.{oneTo, tenantsIn, scopesIn, idB, scopeKnown, belowB, offsetsB, kindB, periodB, leaseB, paddedB, disjoint, apartIn, apart, compatible}
+use Rattle.soundness.specs.Book.{leaseOk, Sound}
 use Rattle.soundness.specs.Kept.{sum-less}
 use Rattle.soundness.specs.Added.{compatible-turn, each-at, owners-at, apart-inserted, sound-inserted}
 use Rattle.allocation.specs.declared.Ask.{Ask}
 use Rattle.allocation.specs.declared.Grant.{Grant}
-use Rattle.allocation.specs.Rule.{takenOf, busyIn, poolOf, nobodysOf, heldBy, freeOf, heldAt, heldAfter, pressureWith, allowed, grantOf}
+use Rattle.allocation.specs.Rule.{takenOf, busyIn, poolOf, nobodysOf, heldBy, freeOf, heldAfter, allowed, grantOf}
 use Rattle.allocation.specs.Sets.{size, low, low-bit, low-small, low-same, some-positive, difference-small, difference-in, difference-out, after-count, pool-past}
 use Rattle.allocation.specs.Granted.{own-or-nobodys, held-taken, busy-here, free-held, nobodys-out, grant-allowed, grant-exists, size-most}
 
@@ -197,13 +196,13 @@ module _ (s : State) (t : List (List Lease)) (v : Sound s t) (k : ℕ) (here : k
       omega arith
 
   within-limits : (heldAfter t a (grantOf (scopeAt s k) (tenantsIn s) t a .number) ≤ limitAt (scopeAt s k) (a .tenant))
-      × (pressureWith (scopeAt s k) (tenantsIn s) t (a .scope) (a .tenant) (heldAfter t a (grantOf (scopeAt s k) (tenantsIn s) t a .number)) ≤ scopeAt s k .size)
+      × (committedSum (scopeAt s k) (tenantsIn s) (withHeld (a .tenant) (heldAfter t a (grantOf (scopeAt s k) (tenantsIn s) t a .number)) (heldAt t (a .scope))) ≤ scopeAt s k .size)
   unfolding allowed
   within-limits =
       let d : ℕ = heldAfter t a (grantOf (scopeAt s k) (tenantsIn s) t a .number) in
-      let p = and-parts (leb d (limitAt (scopeAt s k) (a .tenant))) (leb (pressureWith (scopeAt s k) (tenantsIn s) t (a .scope) (a .tenant) d) (scopeAt s k .size))
+      let p = and-parts (leb d (limitAt (scopeAt s k) (a .tenant))) (leb (committedSum (scopeAt s k) (tenantsIn s) (withHeld (a .tenant) d (heldAt t (a .scope)))) (scopeAt s k .size))
       (grant-allowed s t v k here a es known some) in
-      (leb-true d (limitAt (scopeAt s k) (a .tenant)) (p .0), leb-true (pressureWith (scopeAt s k) (tenantsIn s) t (a .scope) (a .tenant) d) (scopeAt s k .size) (p .1))
+      (leb-true d (limitAt (scopeAt s k) (a .tenant)) (p .0), leb-true (committedSum (scopeAt s k) (tenantsIn s) (withHeld (a .tenant) d (heldAt t (a .scope)))) (scopeAt s k .size) (p .1))
 
   -- another scope's holding does not change
   held-other : (l : Lease) → l .scope ≡ a .scope → (j : ℕ) → (j ≡ k → ⊥) → heldCount (j + 1) (insertOf l (getD t (a .tenant) [])) ≡ heldCount (j + 1) (getD t (a .tenant) [])
@@ -234,8 +233,8 @@ module _ (s : State) (t : List (List Lease)) (v : Sound s t) (k : ℕ) (here : k
             omega arith
 
     -- rule 12: the sums
-    pub grant-commitments : a .tenant < length t → (j : ℕ) → j < scopesIn s → sumTo (loadOf s (set t (a .tenant) (insertOf l (getD t (a .tenant) []))) j) (tenantsIn s) ≤ scopeAt s j .size
-    unfolding G pressureWith pick
+    pub grant-commitments : a .tenant < length t → (j : ℕ) → j < scopesIn s → committedSum (scopeAt s j) (tenantsIn s) (heldAt (set t (a .tenant) (insertOf l (getD t (a .tenant) []))) (j + 1)) ≤ scopeAt s j .size
+    unfolding G committed withHeld pick
     grant-commitments there j h = go (eqb j k) refl
       where
         x′ : List Lease
@@ -250,7 +249,7 @@ module _ (s : State) (t : List (List Lease)) (v : Sound s t) (k : ℕ) (here : k
         old : (i g : ℕ) → (g ≡ a .tenant → ⊥) → heldCount i (getD (set t (a .tenant) x′) g []) ≡ heldCount i (getD t g [])
         old i g n = ap (heldCount i) (getD-set-other t (a .tenant) g x′ [] n)
 
-        one : (g : ℕ) (b : Bool) → eqb g (a .tenant) ≡ b → loadOf s (set t (a .tenant) x′) k g ≤ max (pick b d (heldAt t (a .scope) g)) (getD (scopeAt s k .reserve) g 0)
+        one : (g : ℕ) (b : Bool) → eqb g (a .tenant) ≡ b → committed (scopeAt s k) (heldAt (set t (a .tenant) x′) (k + 1)) g ≤ max (pick b d (heldAt t (a .scope) g)) (reserveAt (scopeAt s k) g)
         one g true e =
             let z : g ≡ a .tenant = eqb-true g (a .tenant) e in
             let p : heldCount (k + 1) (getD (set t (a .tenant) x′) g []) ≡ heldCount (a .scope) x′ = ap (λ (i : ℕ). heldCount (k + 1) (getD (set t (a .tenant) x′) i [])) z ∙ new (k + 1) ∙ ap (λ (i : ℕ). heldCount i x′) (sym es) in
@@ -261,7 +260,7 @@ module _ (s : State) (t : List (List Lease)) (v : Sound s t) (k : ℕ) (here : k
             let q : heldAt t (a .scope) g ≡ heldAt t (k + 1) g = ap (λ (i : ℕ). heldAt t i g) es in
             omega arith
 
-        same : (j : ℕ) → (j ≡ k → ⊥) → (g : ℕ) (b : Bool) → eqb g (a .tenant) ≡ b → loadOf s (set t (a .tenant) x′) j g ≤ loadOf s t j g
+        same : (j : ℕ) → (j ≡ k → ⊥) → (g : ℕ) (b : Bool) → eqb g (a .tenant) ≡ b → committed (scopeAt s j) (heldAt (set t (a .tenant) x′) (j + 1)) g ≤ committed (scopeAt s j) (heldAt t (j + 1)) g
         same j n g true e =
             let z : g ≡ a .tenant = eqb-true g (a .tenant) e in
             let p : heldCount (j + 1) (getD (set t (a .tenant) x′) g []) ≡ heldCount (j + 1) (getD t (a .tenant) []) = ap (λ (i : ℕ). heldCount (j + 1) (getD (set t (a .tenant) x′) i [])) z ∙ new (j + 1) ∙ held-other l e1 j n in
@@ -269,12 +268,12 @@ module _ (s : State) (t : List (List Lease)) (v : Sound s t) (k : ℕ) (here : k
             omega arith
         same j n g false e = let p = old (j + 1) g (eqb-false g (a .tenant) e) in omega arith
 
-        go : (b : Bool) → eqb j k ≡ b → sumTo (loadOf s (set t (a .tenant) x′) j) (tenantsIn s) ≤ scopeAt s j .size
+        go : (b : Bool) → eqb j k ≡ b → committedSum (scopeAt s j) (tenantsIn s) (heldAt (set t (a .tenant) x′) (j + 1)) ≤ scopeAt s j .size
         go true e =
             let z : k ≡ j = sym (eqb-true j k e) in
-            subst (λ (i : ℕ). sumTo (loadOf s (set t (a .tenant) x′) i) (tenantsIn s) ≤ scopeAt s i .size) z
+            subst (λ (i : ℕ). committedSum (scopeAt s i) (tenantsIn s) (heldAt (set t (a .tenant) x′) (i + 1)) ≤ scopeAt s i .size) z
             (le-trans (sum-less _ _ (tenantsIn s) (λ g q. one g (eqb g (a .tenant)) refl)) (within-limits .1))
-        go false e = le-trans (sum-less _ (loadOf s t j) (tenantsIn s) (λ g q. same j (eqb-false j k e) g (eqb g (a .tenant)) refl)) (v .commitments j h)
+        go false e = le-trans (sum-less _ (committed (scopeAt s j) (heldAt t (j + 1))) (tenantsIn s) (λ g q. same j (eqb-false j k e) g (eqb g (a .tenant)) refl)) (v .commitments j h)
 
     -- rule 9: no address has two tenants
     pub grant-owners : (g : ℕ) → (g ≡ a .tenant → ⊥) → apart (insertOf l (getD t (a .tenant) [])) (getD t g []) ≡ true

@@ -1,5 +1,5 @@
 -- Laws between the rule and the code.
-use Prim.Native.Nat.{ℕ, zero, suc, _+_, _-_, _*_, _^_, _≤_, _<_, min, max}
+use Prim.Native.Nat.{ℕ, _+_, _-_, _*_, _^_, _≤_, _<_, min, max}
 use mathlib.Core.Path.{_≡_, refl, sym, ap, ap₂, _∙_}
 use mathlib.Core.Bool.{Bool, true, false, _&&_}
 use mathlib.Core.List.{List, [], _∷_, map}
@@ -7,10 +7,10 @@ use native.Mathlib.Omega.{arith}
 use lib.Dec.{leb, eqb}
 use lib.Bits.{bitOr, or-zero-l, or-zero-r}
 use lib.ListN.{length, getD, List·getD-map}
-use borrow.Author.Tests.{eq-eqb, ne-eqb, eqb-true, eqb-false}
+use borrow.Author.Tests.{eq-eqb}
 use Rattle.lists.specs.Pick.{pick}
 use Rattle.lists.specs.Fold.{fold}
-use Rattle.lists.specs.Sums.{sumTo}
+use Rattle.lists.specs.Sums.{sumTo, sum-same, except, sum-split}
 use Rattle.lists.specs.Down.{largest, largest-same}
 use Rattle.address_set.specs.Laws.{length-offsets, or-assoc}
 use Rattle.address_set.specs.AddressSet.{offsets, setOf, differenceOf, chosen}
@@ -18,12 +18,12 @@ use Rattle.state.specs.declared.Lease.{Lease}
 use Rattle.state.specs.declared.TenantLeases.{TenantLeases}
 use Rattle.state.specs.declared.Scope.{Scope}
 use Rattle.state.specs.declared.LeaseTable.{LeaseTable}
-use Rattle.state.specs.Book.{inUse, noLeases, leasesOf, unionAll, heldOf, heldCount, busyOf}
+use Rattle.state.specs.Book.{inUse, noLeases, leasesOf, unionAll, heldOf, heldCount, busyOf, reserveAt, heldAt, withHeld, committed, committedSum}
 use Rattle.allocation.specs.declared.Ask.{Ask}
 use Rattle.allocation.specs.declared.GrantNumbers.{GrantNumbers}
 use Rattle.allocation.specs.declared.Grant.{Grant}
 use Rattle.allocation.specs.Closed.{allowedOf, Small}
-use Rattle.allocation.specs.Rule.{heldAt, takenOf, busyIn, pressureWith, freeOf, nobodysOf, allowed, grantOf, suffices}
+use Rattle.allocation.specs.Rule.{takenOf, busyIn, freeOf, nobodysOf, allowed, grantOf, suffices}
 
 -- ---- one more tenant
 unfoldable pub takenOne : ℕ → ℕ → TenantLeases → ℕ
@@ -50,15 +50,10 @@ busy-is s from to b = joined (busyOf s from to) 0 (b .tenants) ∙ or-zero-l (bu
 pub reads : (b : LeaseTable) (g : ℕ) → inUse (getD (b .tenants) g noLeases) ≡ getD (leasesOf b) g []
 reads b g = sym (List·getD-map inUse (b .tenants) g noLeases)
 
--- ---- what the other tenants weigh
-unfoldable pub otherLoad : List ℕ → List (List Lease) → ℕ → ℕ → ℕ → ℕ
-otherLoad reserve t s h g = pick (eqb g h) 0 (max (heldAt t s g) (getD reserve g 0))
-
-unfoldable pub weightOf : TenantLeases → ℕ → ℕ → ℕ → ℕ → ℕ
-weightOf t s reserve g h = pick (eqb g h) 0 (max (heldCount s (inUse t)) reserve)
-
-pub other-read : (b : LeaseTable) (c : Scope) (s h g r : ℕ) → r ≡ weightOf (getD (b .tenants) g noLeases) s (getD (c .reserve) g 0) g h → r ≡ otherLoad (c .reserve) (leasesOf b) s h g
-unfolding weightOf otherLoad
+-- ---- what the other tenants hold or have in reserve
+pub other-read : (b : LeaseTable) (c : Scope) (s h g r : ℕ) → r ≡ pick (eqb g h) 0 (max (heldCount s (inUse (getD (b .tenants) g noLeases))) (getD (c .reserve) g 0))
+    → r ≡ except h (committed c (heldAt (leasesOf b) s)) g
+unfolding except committed
 other-read b c s h g r e = e ∙ ap (λ (ls : List Lease). pick (eqb g h) 0 (max (heldCount s ls) (getD (c .reserve) g 0))) (reads b g)
 
 pub other-is : (t : TenantLeases) (s reserve n r : ℕ) → n ≡ heldCount s (inUse t) → r ≡ max n reserve → r ≡ max (heldCount s (inUse t)) reserve
@@ -67,46 +62,18 @@ other-is t s reserve n r p e = e ∙ ap (λ (x : ℕ). max x reserve) p
 pub other-small : (t : TenantLeases) (s reserve n r : ℕ) → n ≡ heldCount s (inUse t) → reserve < 256 → r ≡ max n reserve → r < 256
 other-small t s reserve n r p h e = omega (arith, length-offsets (heldOf s (inUse t)))
 
-unfoldable pub loadWith : Scope → List (List Lease) → ℕ → ℕ → ℕ → ℕ → ℕ
-loadWith c t s h d g = max (pick (eqb g h) d (heldAt t s g)) (getD (c .reserve) g 0)
-
--- the others' load and the tenant's own make the sum
-pub committed-split : (c : Scope) (n : ℕ) (t : List (List Lease)) (s h d : ℕ) → h < n
-    → pressureWith c n t s h d ≡ sumTo (otherLoad (c .reserve) t s h) n + max d (getD (c .reserve) h 0)
-unfolding pressureWith sumTo otherLoad pick loadWith
-committed-split c n t s h d p = below n p
+-- the others' and the tenant's own, with d for what it holds, make the sum
+pub committed-split : (c : Scope) (n : ℕ) (held : ℕ → ℕ) (h d : ℕ) → h < n
+    → committedSum c n (withHeld h d held) ≡ sumTo (except h (committed c held)) n + max d (reserveAt c h)
+unfolding committed withHeld except pick
+committed-split c n held h d p =
+    sum-split (committed c (withHeld h d held)) n h p
+    ∙ ap₂ (λ (x y : ℕ). x + y) (sum-same (except h (committed c (withHeld h d held))) (except h (committed c held)) n (λ g q. others g (eqb g h)))
+    (ap (λ (b : Bool). max (pick b d (held h)) (reserveAt c h)) (eq-eqb h h refl))
   where
-    own : loadWith c t s h d h ≡ max d (getD (c .reserve) h 0)
-    own = ap (λ (b : Bool). max (pick b d (heldAt t s h)) (getD (c .reserve) h 0)) (eq-eqb h h refl)
-
-    none : otherLoad (c .reserve) t s h h ≡ 0
-    none = ap (λ (b : Bool). pick b 0 (max (heldAt t s h) (getD (c .reserve) h 0))) (eq-eqb h h refl)
-
-    same : (g : ℕ) → (g ≡ h → ⊥) → loadWith c t s h d g ≡ otherLoad (c .reserve) t s h g
-    same g q =
-        ap (λ (b : Bool). max (pick b d (heldAt t s g)) (getD (c .reserve) g 0)) (ne-eqb g h q)
-        ∙ sym (ap (λ (b : Bool). pick b 0 (max (heldAt t s g) (getD (c .reserve) g 0))) (ne-eqb g h q))
-
-    before : (n : ℕ) → n ≤ h → sumTo (loadWith c t s h d) n ≡ sumTo (otherLoad (c .reserve) t s h) n
-    before zero q = refl
-    before (suc n) q = ap₂ (λ (x y : ℕ). x + y) (before n (omega arith)) (same n (λ z. absurd (omega arith)))
-
-    below : (n : ℕ) → h < n → sumTo (loadWith c t s h d) n ≡ sumTo (otherLoad (c .reserve) t s h) n + max d (getD (c .reserve) h 0)
-    below zero q = absurd (omega arith)
-    below (suc n) q = go (eqb n h) refl (below n)
-      where
-        go : (b : Bool) → eqb n h ≡ b → (h < n → sumTo (loadWith c t s h d) n ≡ sumTo (otherLoad (c .reserve) t s h) n + max d (getD (c .reserve) h 0)) → sumTo (loadWith c t s h d) n + loadWith c t s h d n ≡ sumTo (otherLoad (c .reserve) t s h) n + otherLoad (c .reserve) t s h n + max d (getD (c .reserve) h 0)
-        go true e ih =
-            let z : n ≡ h = eqb-true n h e in
-            let x : loadWith c t s h d n ≡ max d (getD (c .reserve) h 0) = ap (loadWith c t s h d) z ∙ own in
-            let y : otherLoad (c .reserve) t s h n ≡ 0 = ap (otherLoad (c .reserve) t s h) z ∙ none in
-            let w : sumTo (loadWith c t s h d) n ≡ sumTo (otherLoad (c .reserve) t s h) n = before n (omega arith) in
-            omega arith
-        go false e ih =
-            let q′ = eqb-false n h e in
-            let x : loadWith c t s h d n ≡ otherLoad (c .reserve) t s h n = same n q′ in
-            let w : sumTo (loadWith c t s h d) n ≡ sumTo (otherLoad (c .reserve) t s h) n + max d (getD (c .reserve) h 0) = ih (omega arith) in
-            omega arith
+    others : (g : ℕ) (b : Bool) → pick b 0 (max (pick b d (held g)) (reserveAt c g)) ≡ pick b 0 (max (held g) (reserveAt c g))
+    others g true = refl
+    others g false = refl
 
 -- ---- the sets
 pub free-is : (b : LeaseTable) (h s r m u from to : ℕ) → m ≡ heldOf s (inUse (getD (b .tenants) h noLeases)) → u ≡ busyIn s from to (leasesOf b) → r ≡ differenceOf m u
@@ -123,7 +90,7 @@ numbersOf c n t a = record {
   free = length (offsets (freeOf t a));
   reserve = getD (c .reserve) (a .tenant) 0;
   limit = getD (c .limit) (a .tenant) 0;
-  others = sumTo (otherLoad (c .reserve) t (a .scope) (a .tenant)) n;
+  others = sumTo (except (a .tenant) (committed c (heldAt t (a .scope)))) n;
   size = c .size;
 }
 
@@ -134,7 +101,7 @@ pub record Numbered (c : Scope) (n : ℕ) (t : List (List Lease)) (a : Ask) (r :
 pub numbers-is : (c : Scope) (n : ℕ) (b : LeaseTable) (a : Ask) (d o f v u w z : ℕ) → d ≡ heldCount (a .scope) (inUse (getD (b .tenants) (a .tenant) noLeases))
     → o ≡ freeOf (leasesOf b) a → f ≡ length (offsets o)
     → (v ≡ getD (c .reserve) (a .tenant) 0) × (v ≤ 255) → (u ≡ getD (c .limit) (a .tenant) 0) × (u ≤ 255)
-    → (w ≡ sumTo (otherLoad (c .reserve) (leasesOf b) (a .scope) (a .tenant)) n) × (w ≤ 255 * n) → n ≤ 8 → (z ≡ c .size) × (z ≤ 255)
+    → (w ≡ sumTo (except (a .tenant) (committed c (heldAt (leasesOf b) (a .scope)))) n) × (w ≤ 255 * n) → n ≤ 8 → (z ≡ c .size) × (z ≤ 255)
     → Numbered c n (leasesOf b) a (record { held = d; free = f; reserve = v; limit = u; others = w; size = z })
 unfolding numbersOf
 numbers-is c n b a d o f v u w z ed eo ef ev eu ew hn ez =
@@ -151,7 +118,7 @@ pub allowed-is : (c : Scope) (n : ℕ) (t : List (List Lease)) (a : Ask) (k : �
 unfolding allowed allowedOf numbersOf
 allowed-is c n t a k h =
     let d : ℕ = heldAt t (a .scope) (a .tenant) + (k - length (offsets (freeOf t a))) in
-    ap (λ (x : ℕ). leb d (getD (c .limit) (a .tenant) 0) && leb x (c .size)) (committed-split c n t (a .scope) (a .tenant) d h)
+    ap (λ (x : ℕ). leb d (getD (c .limit) (a .tenant) 0) && leb x (c .size)) (committed-split c n (heldAt t (a .scope)) (a .tenant) d h)
 
 pub grant-is : (c : Scope) (n : ℕ) (t : List (List Lease)) (a : Ask) (l : GrantNumbers) (k o f m d : ℕ) → a .tenant < n → Numbered c n t a l → d ≡ a .desired → k ≡ largest (allowedOf l) d
     → o ≡ freeOf t a → f ≡ nobodysOf c t a → m ≡ setOf (chosen k o f) → _≡_ {A = Grant} (record { number = k; addresses = m }) (grantOf c n t a)

@@ -1,17 +1,15 @@
 -- Document 01's grant rule ("Periods and the grant rule"), over lists of live leases, one list for each tenant. A house is a tenant here,
 -- its share a reserve. Tenants count from 0, scopes from 1; c is the scope, n the number of tenants, t their leases, a what is asked for.
-use Prim.Native.Nat.{ℕ, _+_, _-_, _≤_, _<_, min, max}
-use mathlib.Core.Bool.{Bool, true, false, _&&_}
-use mathlib.Core.List.{List, [], _∷_, map}
-use lib.Dec.{ltb, leb, eqb}
+use Prim.Native.Nat.{ℕ, _+_, _-_, min}
+use mathlib.Core.Bool.{Bool, _&&_}
+use mathlib.Core.List.{List, [], map}
+use lib.Dec.{leb}
 use lib.ListN.{length, getD}
-use Rattle.lists.specs.Pick.{pick}
-use Rattle.lists.specs.Sums.{sumTo}
 use Rattle.lists.specs.Down.{largest}
 use Rattle.address_set.specs.AddressSet.{offsets, setOf, differenceOf, chosen, upTo}
 use Rattle.state.specs.declared.Lease.{Lease}
 use Rattle.state.specs.declared.Scope.{Scope}
-use Rattle.state.specs.Book.{unionAll, heldOf, heldCount, busyOf}
+use Rattle.state.specs.Book.{unionAll, heldOf, busyOf, reserveAt, limitAt, heldAt, withHeld, committedSum}
 use Rattle.allocation.specs.declared.Ask.{Ask}
 use Rattle.allocation.specs.declared.Grant.{Grant}
 
@@ -40,23 +38,16 @@ abbrev pub freeOf : List (List Lease) → Ask → ℕ
 freeOf t a = differenceOf (heldBy t a) (busyIn (a .scope) (a .from) (a .to) t)
 
 -- ---- numbers
--- "the house holds D such addresses in the scope"
-abbrev pub heldAt : List (List Lease) → ℕ → ℕ → ℕ
-heldAt t s g = heldCount s (getD t g [])
-
--- "giving k takes m new addresses, m = k - f, or 0 if f is larger": D + m
+-- "the house holds D such addresses in the scope"; "giving k takes m new addresses, m = k - f, or 0 if f is larger": D + m
 abbrev pub heldAfter : List (List Lease) → Ask → ℕ → ℕ
 heldAfter t a k = heldAt t (a .scope) (a .tenant) + (k - length (offsets (freeOf t a)))
 
--- "the sum over all houses of the larger of holding and share, with" d for house h
-unfoldable pub pressureWith : Scope → ℕ → List (List Lease) → ℕ → ℕ → ℕ → ℕ
-pressureWith c n t s h d = sumTo (λ g. max (pick (eqb g h) d (heldAt t s g)) (getD (c .reserve) g 0)) n
-
--- "k is allowed if D + m is at most the house's limit and the sum .. is at most the scope's size"
+-- "k is allowed if D + m is at most the house's limit and the sum over all houses of the larger of holding and share, with D + m for this
+-- house, is at most the scope's size"
 unfoldable pub allowed : Scope → ℕ → List (List Lease) → Ask → ℕ → Bool
 allowed c n t a k =
     let d : ℕ = heldAfter t a k in
-    leb d (getD (c .limit) (a .tenant) 0) && leb (pressureWith c n t (a .scope) (a .tenant) d) (c .size)
+    leb d (limitAt c (a .tenant)) && leb (committedSum c n (withHeld (a .tenant) d (heldAt t (a .scope)))) (c .size)
 
 -- "the grant is the largest allowed k up to desired"; "the addresses are the lowest of the f, then the lowest that are nobody's"
 unfoldable pub grantOf : Scope → ℕ → List (List Lease) → Ask → Grant
@@ -70,4 +61,4 @@ suffices least g = leb least (g .number)
 
 -- "unused share is share minus D, or 0"
 abbrev pub unusedReserve : Scope → List (List Lease) → Ask → ℕ
-unusedReserve c t a = getD (c .reserve) (a .tenant) 0 - heldAt t (a .scope) (a .tenant)
+unusedReserve c t a = reserveAt c (a .tenant) - heldAt t (a .scope) (a .tenant)

@@ -1,12 +1,14 @@
 // Document 01's grant rule: how many addresses a tenant gets for a period, and which.
 ghost use mathlib.Core.Path.{_≡_};
-ghost use Prim.Native.Nat.{_*_, _<_, _≤_};
+ghost use Prim.Native.Nat.{ℕ, _+_, _-_, _*_, _<_, _≤_, min, max};
+ghost use lib.Dec.{eqb};
 ghost use Rattle.lists.specs.Down.{largest};
-ghost use Rattle.lists.specs.Sums.{sumTo};
-ghost use Rattle.state.specs.Book.{leasesOf};
+ghost use Rattle.lists.specs.Pick.{pick};
+ghost use Rattle.lists.specs.Sums.{sumTo, except};
+ghost use Rattle.state.specs.Book.{inUse, leasesOf, heldCount, heldAt, committed};
 ghost use Rattle.allocation.specs.Rule.{takenOf, busyIn, freeOf, nobodysOf, grantOf, suffices};
 ghost use Rattle.allocation.specs.Closed.{allowedOf, Small};
-ghost use Rattle.allocation.specs.Loops.{takenOne, busyMore, otherLoad, weightOf, Numbered};
+ghost use Rattle.allocation.specs.Loops.{takenOne, busyMore, Numbered};
 use state::LeaseTable;
 use state::Scope;
 use state::TenantLeases;
@@ -42,11 +44,11 @@ fn most(l: GrantNumbers, desired: u32) -> u32
     requires { ⌜ Small l ⌝ }
     ensures { λ r. ⌜ r ≡ largest (allowedOf l) desired ⌝ }
 {
-    let load = arithmetic::larger(l.held, l.reserve);
+    let own = arithmetic::larger(l.held, l.reserve);
     if l.limit < l.held {
         return 0;
     }
-    if l.size < l.others + load {
+    if l.size < l.others + own {
         return 0;
     }
     let a = l.limit - l.held;
@@ -69,7 +71,7 @@ fn wide16(x: u16) -> u32
 
 // What a tenant g other than h holds or has in reserve.
 fn committed_other(t: TenantLeases, scope: u8, reserve: u8, g: usize, h: usize) -> u32
-    ensures { λ r. ⌜ (r ≡ weightOf t scope reserve g h) × (r < 256) ⌝ }
+    ensures { λ r. ⌜ (r ≡ pick (eqb g h) 0 (max (heldCount scope (inUse t)) reserve)) × (r < 256) ⌝ }
 {
     if g == h {
         return 0;
@@ -81,7 +83,7 @@ fn committed_other(t: TenantLeases, scope: u8, reserve: u8, g: usize, h: usize) 
 // What the other tenants hold or have in reserve.
 fn others(table: LeaseTable, c: Scope, n: usize, scope: u8, h: usize) -> u32
     requires { ⌜ n ≤ 8 ⌝ }
-    ensures { λ r. ⌜ (r ≡ sumTo (otherLoad (c .reserve) (leasesOf table) scope h) n) × (r ≤ 255 * n) ⌝ }
+    ensures { λ r. ⌜ (r ≡ sumTo (except h (committed c (heldAt (leasesOf table) scope))) n) × (r ≤ 255 * n) ⌝ }
 {
     let mut sum: u32 = 0;
     let mut g: usize = 0;

@@ -5,8 +5,8 @@ use lib.Dec.{eqb, ltb}
 use lib.ListN.{drop, length}
 use Rattle.lists.specs.Pick.{pick}
 use Rattle.octets.specs.Octets.{Wrote}
-use Rattle.soundness.specs.Sound.{limitAt, reserveAt, scopesIn, tenantsIn}
-use Rattle.state.specs.Book.{heldCount, inUse, scopeAt, tenantAt}
+use Rattle.soundness.specs.Sound.{scopesIn, tenantsIn}
+use Rattle.state.specs.Book.{heldCount, inUse, scopeAt, tenantAt, reserveAt, limitAt}
 use Rattle.state.specs.declared.LeaseTable.{LeaseTable}
 use Rattle.state.specs.declared.State.{State}
 use Rattle.state_file.specs.declared.Loaded.{Loaded}

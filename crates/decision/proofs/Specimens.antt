@@ -17,8 +17,8 @@ use Rattle.message.specs.declared.Wish.{Wish}
 use Rattle.message.specs.declared.Fields.{Fields}
 use Rattle.state.specs.declared.State.{State}
 use Rattle.state.specs.declared.LeaseTable.{LeaseTable}
-use Rattle.state.specs.Book.{byIdentifier, zeroScope, laidOut, tableOf, insertOf, removeOf, replaceOf, liveOf, dropped, unionAll, addressesOf, overlaps, usedIn}
-use Rattle.allocation.specs.Rule.{takenOf, busyIn, pressureWith, allowed, grantOf, suffices}
+use Rattle.state.specs.Book.{byIdentifier, zeroScope, laidOut, tableOf, insertOf, removeOf, replaceOf, liveOf, dropped, unionAll, addressesOf, overlaps, usedIn, withHeld, committed}
+use Rattle.allocation.specs.Rule.{takenOf, busyIn, allowed, grantOf, suffices}
 use Rattle.decision.specs.declared.Verdict.{Verdict}
 use Rattle.decision.specs.declared.Reply.{Reply}
 use Rattle.decision.specs.declared.Reply.the-variants.{Nothing, Offer, LeaseAck, ReleaseAck, InfoAck, Nak}
@@ -124,5 +124,5 @@ table =
     ∷ []
 
 specimens : allHold table ≡ true
-unfolding settings wish call run replyType holds allHold ack nak p1 p3 p5 table pick filterBy isIn placeBy sumTo largest orderOf sameOf bit offsetsFrom setOf differenceOf upTo laidOut tableOf insertOf insertIn byIdentifier removeOf replaceOf liveOf dropped unionAll addressesOf overlaps usedIn takenOf busyIn pressureWith allowed grantOf suffices isNew hasPeriod holdsOf recordedOf resends scopePlace knowsScope lacksScope zeroLength badCounts lacksCurrent error1Of skewed error2Of error3Of wishedOr startOf lengthOf endOf askAt fitsNew newWith newAt newOf othersBusy fitsRenewed renewedTo renewedOf proposalOf error0Of leaseFrom withLease plainReply nakWith discardWith refusalOf leasedOf plainOf settledOf judgedOf decideOf
+unfolding settings wish call run replyType holds allHold ack nak p1 p3 p5 table pick filterBy isIn placeBy sumTo largest orderOf sameOf bit offsetsFrom setOf differenceOf upTo laidOut tableOf insertOf insertIn byIdentifier removeOf replaceOf liveOf dropped unionAll addressesOf overlaps usedIn takenOf busyIn withHeld committed allowed grantOf suffices isNew hasPeriod holdsOf recordedOf resends scopePlace knowsScope lacksScope zeroLength badCounts lacksCurrent error1Of skewed error2Of error3Of wishedOr startOf lengthOf endOf askAt fitsNew newWith newAt newOf othersBusy fitsRenewed renewedTo renewedOf proposalOf error0Of leaseFrom withLease plainReply nakWith discardWith refusalOf leasedOf plainOf settledOf judgedOf decideOf
 specimens = refl

@@ -21,8 +21,8 @@ use Rattle.state.specs.declared.Lease.{Lease}
 use Rattle.state.specs.declared.LeaseTable.{LeaseTable}
 use Rattle.state.specs.declared.Scope.{Scope}
 use Rattle.state.specs.declared.State.{State}
-use Rattle.state.specs.Book.{advanced, idOf, insertOf, leasesOf, liveOf, named, removeOf, scopeAt}
-use Rattle.soundness.specs.Sound.{holding, limitAt, soundB, tenantsIn}
+use Rattle.state.specs.Book.{advanced, idOf, insertOf, leasesOf, liveOf, named, removeOf, scopeAt, limitAt}
+use Rattle.soundness.specs.Sound.{holding, soundB, tenantsIn}
 use Rattle.allocation.specs.declared.Ask.{Ask}
 use Rattle.allocation.specs.declared.Grant.{Grant}
 use Rattle.allocation.specs.Rule.{grantOf, unusedReserve}

@@ -13,8 +13,8 @@ use Rattle.identifier.specs.Order.{orderOf, sameOf}
 use Rattle.address_set.specs.AddressSet.{bit, offsetsFrom}
 use Rattle.state.specs.declared.Lease.{Lease}
 use Rattle.state.specs.declared.State.{State}
-use Rattle.state.specs.Book.{byIdentifier, differ, laidOut, tableOf, ordered, unionAll, addressesOf, overlaps, zeroScope}
-use Rattle.soundness.specs.Sound.{oneTo, sizeB, idB, recordsB, countsB, rule1, belowB, offsetsB, rule2, rangeB, rangesApart, rule3, poolB, poolsApart, rule4, ttlB, rule5, reserveB, reservesB, rule6, kindB, periodB, leaseB, noneB, tenantsB, rule7, rule8, disjoint, apart, rule9, compatible, rule10, limitB, limitsB, rule11, load, committedB, rule12, zeroFrom, paddedB, blankB, unusedB, layoutB, rangeZero, tailB, scopeZero, settingsB, rule13, rulesOf, firstLate, firstBroken, brokenOf}
+use Rattle.state.specs.Book.{byIdentifier, differ, laidOut, tableOf, ordered, unionAll, addressesOf, overlaps, zeroScope, committed}
+use Rattle.soundness.specs.Sound.{oneTo, sizeB, idB, recordsB, countsB, rule1, belowB, offsetsB, rule2, rangeB, rangesApart, rule3, poolB, poolsApart, rule4, ttlB, rule5, reserveB, reservesB, rule6, kindB, periodB, leaseB, noneB, tenantsB, rule7, rule8, disjoint, apart, rule9, compatible, rule10, limitB, limitsB, rule11, committedB, rule12, zeroFrom, paddedB, blankB, unusedB, layoutB, rangeZero, tailB, scopeZero, settingsB, rule13, rulesOf, firstLate, firstBroken, brokenOf}
 
 -- the specimens' scope 239.192.0.0 and two houses, with what a case changes: the number of houses, the second house's lowest client,
 -- the scope's lowest address and TTL, and the first house's share
@@ -78,5 +78,5 @@ cases =
     ∷ []
 
 all-hold : allBy holds cases ≡ true
-unfolding settings plain lease elsewhere short case holds cases pick allBy pairsBy allTo filterBy sumTo orderOf sameOf bit offsetsFrom laidOut tableOf byIdentifier unionAll addressesOf overlaps oneTo sizeB idB recordsB countsB rule1 belowB offsetsB rule2 rangeB rangesApart rule3 poolB poolsApart rule4 ttlB rule5 reserveB reservesB rule6 kindB periodB leaseB noneB tenantsB rule7 differ rule8 disjoint apart rule9 compatible rule10 limitB limitsB rule11 load committedB rule12 zeroFrom paddedB blankB unusedB layoutB rangeZero tailB scopeZero settingsB rule13 rulesOf firstLate firstBroken brokenOf
+unfolding settings plain lease elsewhere short case holds cases pick allBy pairsBy allTo filterBy sumTo orderOf sameOf bit offsetsFrom laidOut tableOf byIdentifier unionAll addressesOf overlaps oneTo sizeB idB recordsB countsB rule1 belowB offsetsB rule2 rangeB rangesApart rule3 poolB poolsApart rule4 ttlB rule5 reserveB reservesB rule6 kindB periodB leaseB noneB tenantsB rule7 differ rule8 disjoint apart rule9 compatible rule10 limitB limitsB rule11 committed committedB rule12 zeroFrom paddedB blankB unusedB layoutB rangeZero tailB scopeZero settingsB rule13 rulesOf firstLate firstBroken brokenOf
 all-hold = refl

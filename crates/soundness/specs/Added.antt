@@ -13,17 +13,17 @@ use Rattle.lists.specs.Pick.{pick}
 use Rattle.lists.specs.All.{allBy, pairsBy, all-head, all-cons, all-append, all-both, pairs-head, pairs-cons, pairs-append}
 use Rattle.lists.specs.Both.{and-parts, and-both, all-and, pairs-and}
 use Rattle.lists.specs.Filter.{filterBy, filter-all, filter-pairs, filter-passes}
-use Rattle.lists.specs.Sums.{sumTo, sum-same}
+use Rattle.lists.specs.Sums.{sum-same}
 use Rattle.state.specs.declared.Lease.{Lease}
 use Rattle.state.specs.declared.State.{State}
-use Rattle.state.specs.Book.{idOf, differ, ordered, other, placeOf, leaseAt, insertOf, removeOf, replaceOf, addressesOf, unionAll, overlaps, inScope, heldOf, heldCount, scopeAt}
+use Rattle.state.specs.Book.{idOf, differ, ordered, other, placeOf, leaseAt, insertOf, removeOf, replaceOf, addressesOf, unionAll, overlaps, inScope, heldOf, heldCount, scopeAt, reserveAt, limitAt, heldAt, committed, committedSum}
 use Rattle.state.specs.Sets.{adds, addresses-cons, addresses-reordered, insert-addresses}
 use Rattle.address_set.specs.AddressSet.{offsets}
 use Rattle.state.specs.Sorted.{differ-turn, insert-same, insert-rises, others-differ, taken-out}
 use Rattle.lists.specs.Reordered.{Reordered, reordered-length, reordered-all, reordered-pairs}
 use Rattle.address_set.specs.Laws.{and-or}
-use Rattle.soundness.specs.Sound.{tenantsIn, scopesIn, reserveAt, limitAt, disjoint, apartIn, apart, compatible}
-use Rattle.soundness.specs.Book.{leaseOk, pairOk, fewLeases, noLeasesB, loadOf, Sound}
+use Rattle.soundness.specs.Sound.{tenantsIn, scopesIn, disjoint, apartIn, apart, compatible}
+use Rattle.soundness.specs.Book.{leaseOk, pairOk, fewLeases, noLeasesB, Sound}
 
 -- ---- lists with one element changed
 all-set : {A : Type 0} (t : A → Bool) (l : List A) (h : ℕ) (x : A) → t x ≡ true → allBy t l ≡ true → allBy t (set l h x) ≡ true
@@ -130,7 +130,7 @@ pub sound-put : (s : State) (ls : List (List Lease)) (h : ℕ) (x : List Lease) 
     → fewLeases x ≡ true → allBy (leaseOk s) x ≡ true → pairsBy pairOk x ≡ true → pairsBy ordered x ≡ true
     → ((g : ℕ) → (g ≡ h → ⊥) → apart x (getD ls g []) ≡ true)
     → ((k : ℕ) → k < scopesIn s → heldCount (k + 1) x ≤ limitAt (scopeAt s k) h)
-    → ((k : ℕ) → k < scopesIn s → sumTo (loadOf s (set ls h x) k) (tenantsIn s) ≤ scopeAt s k .size)
+    → ((k : ℕ) → k < scopesIn s → committedSum (scopeAt s k) (tenantsIn s) (heldAt (set ls h x) (k + 1)) ≤ scopeAt s k .size)
     → Sound s (set ls h x)
 sound-put s ls h x v known there few each pairs rises owners holdings commitments = record {
   settings = v .settings;
@@ -177,7 +177,7 @@ pub sound-gained : (s : State) (ls : List (List Lease)) (h : ℕ) (l : Lease) (y
     → length (getD ls h []) < 16 → leaseOk s l ≡ true → allBy (other (idOf l)) (getD ls h []) ≡ true → allBy (compatible l) (getD ls h []) ≡ true
     → ((g : ℕ) → (g ≡ h → ⊥) → apart y (getD ls g []) ≡ true)
     → ((k : ℕ) → k < scopesIn s → heldCount (k + 1) y ≤ limitAt (scopeAt s k) h)
-    → ((k : ℕ) → k < scopesIn s → sumTo (loadOf s (set ls h y) k) (tenantsIn s) ≤ scopeAt s k .size)
+    → ((k : ℕ) → k < scopesIn s → committedSum (scopeAt s k) (tenantsIn s) (heldAt (set ls h y) (k + 1)) ≤ scopeAt s k .size)
     → Sound s (set ls h y)
 unfolding pairOk
 sound-gained s ls h l y v known there d rises room lease-ok new compatible-ok owners holdings commitments =
@@ -192,7 +192,7 @@ pub sound-inserted : (s : State) (ls : List (List Lease)) (h : ℕ) (l : Lease) 
     → length (getD ls h []) < 16 → leaseOk s l ≡ true → allBy (other (idOf l)) (getD ls h []) ≡ true → allBy (compatible l) (getD ls h []) ≡ true
     → ((g : ℕ) → (g ≡ h → ⊥) → apart (insertOf l (getD ls h [])) (getD ls g []) ≡ true)
     → ((k : ℕ) → k < scopesIn s → heldCount (k + 1) (insertOf l (getD ls h [])) ≤ limitAt (scopeAt s k) h)
-    → ((k : ℕ) → k < scopesIn s → sumTo (loadOf s (set ls h (insertOf l (getD ls h []))) k) (tenantsIn s) ≤ scopeAt s k .size)
+    → ((k : ℕ) → k < scopesIn s → committedSum (scopeAt s k) (tenantsIn s) (heldAt (set ls h (insertOf l (getD ls h []))) (k + 1)) ≤ scopeAt s k .size)
     → Sound s (set ls h (insertOf l (getD ls h [])))
 sound-inserted s ls h l v known there room lease-ok new compatible-ok =
     sound-gained s ls h l (insertOf l (getD ls h [])) v known there (insert-same l (getD ls h [])) (insert-rises l (getD ls h []) new (rises-at s ls v h)) room lease-ok new compatible-ok
@@ -263,7 +263,7 @@ module _ (s : State) (ls : List (List Lease)) (h : ℕ) (i : List ℕ) (l : Leas
   new-pairs c = all-and (differ l) (compatible l) rest ∙ and-both (sym (others-differ l rest) ∙ others) c
 
   pub sound-renewed : leaseOk s l ≡ true → allBy (compatible l) (removeOf i (getD ls h [])) ≡ true → Sound s (set ls h (replaceOf i l (getD ls h [])))
-  unfolding replaceOf
+  unfolding replaceOf committed
   sound-renewed ok c =
       sound-put s ls h new v known there
       (le-leb (length new) 16 (let a = reordered-length out in let b = reordered-length (insert-same l rest) in let d = few-at s ls v h in omega arith))
@@ -273,4 +273,4 @@ module _ (s : State) (ls : List (List Lease)) (h : ℕ) (i : List ℕ) (l : Leas
       (λ g n. renewed-apart (getD ls g []) ∙ owners-at s ls v h g n)
       (λ k q. subst (λ (m : ℕ). length (offsets m) ≤ limitAt (scopeAt s k) h) (sym (renewed-held (k + 1))) (v .holdings k h q known))
       (λ k q. subst (λ (m : ℕ). m ≤ scopeAt s k .size)
-      (sym (sum-same (loadOf s (set ls h new) k) (loadOf s ls k) (tenantsIn s) (λ g r. ap (λ (n : ℕ). max n (reserveAt (scopeAt s k) g)) (renewed-count (k + 1) g)))) (v .commitments k q))
+      (sym (sum-same (committed (scopeAt s k) (heldAt (set ls h new) (k + 1))) (committed (scopeAt s k) (heldAt ls (k + 1))) (tenantsIn s) (λ g r. ap (λ (n : ℕ). max n (reserveAt (scopeAt s k) g)) (renewed-count (k + 1) g)))) (v .commitments k q))

@@ -1,27 +1,26 @@
 -- Soundness as facts over the lists of leases, tenant by tenant, which proofs go by. It is the same as that of the records that lay the
 -- lists out, and a sound book's records are laid out so.
-use Prim.Native.Nat.{ℕ, zero, suc, _+_, _-_, _≤_, _<_, min, max}
+use Prim.Native.Nat.{ℕ, zero, suc, _+_, _-_, _≤_, _<_, min}
 use mathlib.Core.Path.{_≡_, refl, sym, ap, ap₂, _∙_, subst}
 use mathlib.Core.Bool.{Bool, true, false, not, _&&_}
-use mathlib.Core.List.{List, [], _∷_, _++_, map, append-nil}
+use mathlib.Core.List.{List, _∷_, _++_, map, append-nil}
 use native.Mathlib.Omega.{arith}
 use lib.Dec.{ltb, leb, eqb}
-use lib.ListN.{length, take, drop, getD, replicate, length-take}
+use lib.ListN.{length, take, drop, replicate, length-take}
 use lib.Seq.{drop-at}
 use borrow.Author.Tests.{eq-eqb, eqb-true, le-leb, leb-true}
 use Rattle.lists.specs.Pick.{pick}
 use Rattle.lists.specs.All.{allBy, pairsBy, allTo, all-map, all-same, all-both, all-head, all-cons, pairs-head, pairs-cons, to-each, each-to}
 use Rattle.lists.specs.Both.{and-parts, and-both, all-and, pairs-and}
-use Rattle.lists.specs.Sums.{sumTo}
 use Rattle.state.specs.declared.Lease.{Lease}
 use Rattle.state.specs.declared.TenantLeases.{TenantLeases}
 use Rattle.state.specs.declared.LeaseTable.{LeaseTable}
 use Rattle.state.specs.declared.Scope.{Scope}
 use Rattle.state.specs.declared.State.{State}
-use Rattle.state.specs.Book.{differ, zeroLease, inUse, laidOut, leasesOf, tableOf, ordered, heldCount, scopeAt}
+use Rattle.state.specs.Book.{differ, zeroLease, inUse, laidOut, leasesOf, tableOf, ordered, scopeAt, limitAt, heldAt, committedSum}
 use Rattle.state.specs.Layout.{read-back, table-back}
 use Rattle.soundness.specs.declared.Rules.{Rules}
-use Rattle.soundness.specs.Sound.{tenantsIn, scopesIn, reserveAt, limitAt, idB, recordsB, countsB, rule1, offsetsB, rule2, rule3, rule4, rule5, rule6, leaseB, noneB, tenantsB, rule7, rule8, apart, rule9, compatible, rule10, holding, limitB, limitsB, rule11, load, committedB, rule12, zeroFrom, paddedB, blankB, unusedB, layoutB, settingsB, rule13, rulesOf, firstLate, firstBroken, brokenOf, soundB}
+use Rattle.soundness.specs.Sound.{tenantsIn, scopesIn, idB, recordsB, countsB, rule1, offsetsB, rule2, rule3, rule4, rule5, rule6, leaseB, noneB, tenantsB, rule7, rule8, apart, rule9, compatible, rule10, holding, limitB, limitsB, rule11, committedB, rule12, zeroFrom, paddedB, blankB, unusedB, layoutB, settingsB, rule13, rulesOf, firstLate, firstBroken, brokenOf, soundB}
 use Rattle.soundness.specs.Laws.{drop-map}
 
 -- ---- the facts
@@ -43,10 +42,6 @@ fewLeases l = leb (length l) 16
 abbrev pub noLeasesB : List Lease → Bool
 noLeasesB l = eqb (length l) 0
 
--- the larger of what tenant g has in scope k + 1 and its reserve there
-abbrev pub loadOf : State → List (List Lease) → ℕ → ℕ → ℕ
-loadOf s ls k g = max (heldCount (k + 1) (getD ls g [])) (reserveAt (scopeAt s k) g)
-
 pub record Sound (s : State) (ls : List (List Lease)) : Type 0 where
   pub settings : settingsOk s ≡ true
   pub few : allBy fewLeases ls ≡ true
@@ -55,8 +50,8 @@ pub record Sound (s : State) (ls : List (List Lease)) : Type 0 where
   pub rises : allBy (pairsBy ordered) ls ≡ true
   pub tenants : allBy noLeasesB (drop (tenantsIn s) ls) ≡ true
   pub owners : pairsBy apart ls ≡ true
-  pub holdings : (k g : ℕ) → k < scopesIn s → g < tenantsIn s → heldCount (k + 1) (getD ls g []) ≤ limitAt (scopeAt s k) g
-  pub commitments : (k : ℕ) → k < scopesIn s → sumTo (loadOf s ls k) (tenantsIn s) ≤ scopeAt s k .size
+  pub holdings : (k g : ℕ) → k < scopesIn s → g < tenantsIn s → heldAt ls (k + 1) g ≤ limitAt (scopeAt s k) g
+  pub commitments : (k : ℕ) → k < scopesIn s → committedSum (scopeAt s k) (tenantsIn s) (heldAt ls (k + 1)) ≤ scopeAt s k .size
 
 -- ---- all rules hold where none is broken
 pub record AllRules (r : Rules) : Type 0 where
@@ -215,7 +210,7 @@ module _ (s : State) (t : LeaseTable) (a : AllRules (rulesOf s t)) where
   settings-from = and-both (and-both (counted .0) (and-both (a .ranges) (a .pools))) (and-both (a .ttls) (and-both (a .reserves) (laid .0)))
 
   pub lists-of : Sound s (leasesOf t)
-  unfolding rulesOf rule2 rule8 rule9 rule10 rule11 limitsB limitB rule12 committedB load
+  unfolding rulesOf rule2 rule8 rule9 rule10 rule11 limitsB limitB rule12 committedB
   lists-of = record {
     settings = settings-from;
     few = few-from;
@@ -279,7 +274,7 @@ module _ (s : State) (ls : List (List Lease)) (v : Sound s ls) where
   tenants-to = ap (allBy noneB) (drop-map laidOut (tenantsIn s) ls) ∙ all-map noneB laidOut (drop (tenantsIn s) ls) ∙ v .tenants
 
   pub rules-to : AllRules (rulesOf s (tableOf ls))
-  unfolding rulesOf rule1 rule2 rule7 rule8 rule9 rule10 rule11 limitsB limitB rule12 committedB load rule13
+  unfolding rulesOf rule1 rule2 rule7 rule8 rule9 rule10 rule11 limitsB limitB rule12 committedB rule13
   rules-to = record {
     limits = and-both (settings-front .0) records-to;
     offsets = ap (allBy (allBy (offsetsB s))) back ∙ offsets-to;
@@ -292,9 +287,9 @@ module _ (s : State) (ls : List (List Lease)) (v : Sound s ls) where
     owners = ap (pairsBy apart) back ∙ v .owners;
     periods = ap (allBy (pairsBy compatible)) back ∙ pair-parts .1;
     holdings = each-to (limitsB s (tableOf ls)) (scopesIn s) (λ k p. each-to (limitB (tableOf ls) (scopeAt s k) (k + 1)) (tenantsIn s) (λ g q.
-        ap (λ (x : List (List Lease)). leb (heldCount (k + 1) (getD x g [])) (limitAt (scopeAt s k) g)) back ∙ le-leb _ _ (v .holdings k g p q)));
+        ap (λ (x : List (List Lease)). leb (heldAt x (k + 1) g) (limitAt (scopeAt s k) g)) back ∙ le-leb _ _ (v .holdings k g p q)));
     commitments = each-to (committedB s (tableOf ls)) (scopesIn s) (λ k p.
-        ap (λ (x : List (List Lease)). leb (sumTo (loadOf s x k) (tenantsIn s)) (scopeAt s k .size)) back ∙ le-leb _ _ (v .commitments k p));
+        ap (λ (x : List (List Lease)). leb (committedSum (scopeAt s k) (tenantsIn s) (heldAt x (k + 1))) (scopeAt s k .size)) back ∙ le-leb _ _ (v .commitments k p));
     layout = and-both (and-parts (rule6 s) (settingsB s) (settings-back .1) .1) layout-to;
   }
 

@@ -16,8 +16,8 @@ use Rattle.lists.specs.Sums.{sumTo}
 use Rattle.state.specs.declared.Lease.{Lease}
 use Rattle.state.specs.declared.Scope.{Scope}
 use Rattle.state.specs.declared.State.{State}
-use Rattle.state.specs.Book.{live, scopesOf, scopeAt, zeroScope}
-use Rattle.soundness.specs.Sound.{oneTo, tenantsIn, scopesIn, reserveAt, limitAt, sizeB, idB, countsB, scopeKnown, offsetsB, rule3, poolB, poolsApart, rule4, ttlB, rule5, reserveB, reservesB, rule6, kindB, periodB, leaseB, paddedB, settingsB}
+use Rattle.state.specs.Book.{live, scopesOf, scopeAt, zeroScope, reserveAt, limitAt}
+use Rattle.soundness.specs.Sound.{oneTo, tenantsIn, scopesIn, sizeB, idB, countsB, scopeKnown, offsetsB, rule3, poolB, poolsApart, rule4, ttlB, rule5, reserveB, reservesB, rule6, kindB, periodB, leaseB, paddedB, settingsB}
 use Rattle.soundness.specs.Book.{leaseOk, Sound, settings-front, settings-back}
 use Rattle.soundness.specs.Added.{each-at}
 

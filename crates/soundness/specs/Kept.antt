@@ -22,10 +22,10 @@ use Rattle.state.specs.declared.Lease.{Lease}
 use Rattle.state.specs.declared.LeaseTable.{LeaseTable}
 use Rattle.state.specs.declared.State.{State}
 use Rattle.state.specs.declared.Book.{Book}
-use Rattle.state.specs.Book.{leasesOf, tableOf, ordered, other, removeOf, live, liveOf, withClock, raised, dropped, advanced, heldOf, heldCount, inScope, addressesOf, scopeAt}
+use Rattle.state.specs.Book.{leasesOf, tableOf, ordered, other, removeOf, live, liveOf, withClock, raised, dropped, advanced, heldOf, heldCount, inScope, addressesOf, scopeAt, heldAt, committed}
 use Rattle.state.specs.Sets.{addresses-append, addresses-reordered}
-use Rattle.soundness.specs.Sound.{tenantsIn, scopesIn, reserveAt, limitAt, idB, offsetsB, scopeKnown, kindB, periodB, leaseB, paddedB, disjoint, apartIn, apart, countsB, rule3, rule4, rule5, rule6, settingsB, soundB}
-use Rattle.soundness.specs.Book.{settingsOk, leaseOk, pairOk, fewLeases, noLeasesB, loadOf, Sound, sound-lists, lists-sound}
+use Rattle.soundness.specs.Sound.{tenantsIn, scopesIn, idB, offsetsB, scopeKnown, kindB, periodB, leaseB, paddedB, disjoint, apartIn, apart, countsB, rule3, rule4, rule5, rule6, settingsB, soundB}
+use Rattle.soundness.specs.Book.{settingsOk, leaseOk, pairOk, fewLeases, noLeasesB, Sound, sound-lists, lists-sound}
 use Rattle.soundness.specs.Added.{pair-turn}
 
 -- ---- fewer addresses
@@ -131,6 +131,7 @@ clockless s c = refl
 
 -- ---- the book stays sound, with any clock at which its leases are sound
 pub sound-shrunk : (s : State) (c : ℕ) (ls ls′ : List (List Lease)) → Sound s ls → Shrunk ls ls′ → allBy (pairsBy ordered) ls′ ≡ true → allBy (allBy (leaseOk (withClock s c))) ls′ ≡ true → Sound (withClock s c) ls′
+unfolding committed
 sound-shrunk s c ls ls′ v w rises each = record {
   settings = same ∙ v .settings;
   few = all-shrunk fewLeases few-some ls ls′ w (v .few);
@@ -140,7 +141,7 @@ sound-shrunk s c ls ls′ v w rises each = record {
   tenants = all-shrunk noLeasesB none-some (drop (tenantsIn s) ls) (drop (tenantsIn s) ls′) (drop-shrunk (tenantsIn s) ls ls′ w) (v .tenants);
   owners = owners-shrunk ls ls′ w (v .owners);
   holdings = λ k g p q. le-trans (counts-shrunk (k + 1) ls ls′ w g) (v .holdings k g p q);
-  commitments = λ k p. le-trans (sum-less (loadOf s ls′ k) (loadOf s ls k) (tenantsIn s) (λ g q. let h = counts-shrunk (k + 1) ls ls′ w g in omega arith)) (v .commitments k p);
+  commitments = λ k p. le-trans (sum-less (committed (scopeAt s k) (heldAt ls′ (k + 1))) (committed (scopeAt s k) (heldAt ls (k + 1))) (tenantsIn s) (λ g q. let h = counts-shrunk (k + 1) ls ls′ w g in omega arith)) (v .commitments k p);
 }
   where
     same : settingsOk (withClock s c) ≡ settingsOk s

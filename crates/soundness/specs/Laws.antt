@@ -19,7 +19,7 @@ use Rattle.state.specs.declared.TenantLeases.{TenantLeases}
 use Rattle.state.specs.declared.LeaseTable.{LeaseTable}
 use Rattle.state.specs.declared.Scope.{Scope}
 use Rattle.state.specs.declared.State.{State}
-use Rattle.state.specs.Book.{byIdentifier, differ, inUse, leasesOf, idOf, ordered, scopesOf, scopeAt, heldOf, inScope, addedIf, addressesOf, unionAll, noLeases}
+use Rattle.state.specs.Book.{byIdentifier, differ, inUse, leasesOf, idOf, ordered, scopesOf, scopeAt, heldOf, inScope, addedIf, addressesOf, unionAll, noLeases, reserveAt, limitAt, committed, committedSum}
 use Rattle.lists.specs.Filter.{filterBy}
 use Rattle.state.specs.Sets.{added-is}
 use Rattle.state.specs.Sorted.{rising}
@@ -38,9 +38,9 @@ use Rattle.soundness.specs.declared.HoldingRules.{HoldingRules}
 use Rattle.soundness.specs.declared.Held.{Held}
 use Rattle.soundness.specs.declared.HeldTable.{HeldTable}
 use Rattle.soundness.specs.declared.Rules.{Rules}
-use Rattle.lists.specs.Sums.{sumTo, sum-same}
-use Rattle.soundness.specs.Sound.{oneTo, idB, sizeB, poolB, ttlB, reservesB, tailB, zeroFrom, belowB, offsetsB, scopeOf, recordsB, leaseB, compatible, layoutB, paddedB, unusedB, tenantsIn, scopesIn, reserveAt, limitAt, countsB, rule1, rule2, rule3, poolsApart, rule4, rule5, rule6, tenantsB, rule7, rule8, rule10, rangeZero, scopeZero, settingsB, rule13, rulesOf, firstBroken, brokenOf, soundB, noneB, apart, rule9, holding, limitB, limitsB, rule11, load, committedB, rule12}
-use Rattle.soundness.specs.Parts.{scopeRulesOf, andScopes, scopesAll, leaseRulesOf, andLeases, leasesAll, tenantRulesOf, bothTenants, addedSets, noneH, holdingRulesIn, tableRulesOf, joinedRules, andTenants, tenantsAll, noHeld, heldSets, holdingsOf, setAt, apartSets, countIn, limitIn, limitsIn, loadOn, committedIn, settingsRulesOf, holdingRulesOf}
+use Rattle.lists.specs.Sums.{sum-same}
+use Rattle.soundness.specs.Sound.{oneTo, idB, sizeB, poolB, ttlB, reservesB, tailB, zeroFrom, belowB, offsetsB, scopeOf, recordsB, leaseB, compatible, layoutB, paddedB, unusedB, tenantsIn, scopesIn, countsB, rule1, rule2, rule3, poolsApart, rule4, rule5, rule6, tenantsB, rule7, rule8, rule10, rangeZero, scopeZero, settingsB, rule13, rulesOf, firstBroken, brokenOf, soundB, noneB, apart, rule9, holding, limitB, limitsB, rule11, committedB, rule12}
+use Rattle.soundness.specs.Parts.{scopeRulesOf, andScopes, scopesAll, leaseRulesOf, andLeases, leasesAll, tenantRulesOf, bothTenants, addedSets, noneH, holdingRulesIn, tableRulesOf, joinedRules, andTenants, tenantsAll, noHeld, heldSets, holdingsOf, setAt, apartSets, countIn, limitIn, limitsIn, committedIn, settingsRulesOf, holdingRulesOf}
 
 -- ---- zeros, gathered by or
 or-none : (a b : ℕ) → eqb (bitOr a b) 0 ≡ (eqb a 0 && eqb b 0)
@@ -352,12 +352,12 @@ module _ (s : State) (b : LeaseTable) (h : HeldTable) (e : h ≡ holdingsOf b) w
       to-same (limitIn h (scopeAt s k) k) (limitB b (scopeAt s k) (k + 1)) (tenantsIn s) (λ g c. ap (λ (x : ℕ). leb x (limitAt (scopeAt s k) g)) (counts k g (omega arith))))
 
   commitments-are : {n m : ℕ} {r : Bool} → n ≡ tenantsIn s → m ≡ scopesIn s → r ≡ allTo (committedIn s h n) m → r ≡ rule12 s b
-  unfolding committedIn loadOn rule12 committedB load
+  unfolding committedIn rule12 committedB committed
   commitments-are {n} {m} p q u =
       u ∙ ap₂ (λ (x y : ℕ). allTo (committedIn s h x) y) p q
       ∙ to-same (committedIn s h (tenantsIn s)) (committedB s b) (scopesIn s) (λ k a.
       ap (λ (x : ℕ). leb x (scopeAt s k .size))
-      (sum-same (loadOn h (scopeAt s k) k) (load b (scopeAt s k) (k + 1)) (tenantsIn s) (λ g c. ap (λ (x : ℕ). max x (reserveAt (scopeAt s k) g)) (counts k g (omega arith)))))
+      (sum-same (committed (scopeAt s k) (countIn h k)) (committed (scopeAt s k) (holding b (k + 1))) (tenantsIn s) (λ g c. ap (λ (x : ℕ). max x (reserveAt (scopeAt s k) g)) (counts k g (omega arith)))))
 
 -- ---- the turns of the code
 pub count-at : (h : HeldTable) (k g : ℕ) (t : Held) {r : ℕ} → t ≡ getD (h .tenants) g noHeld → r ≡ length (offsets (getD (t .sets) k 0)) → r ≡ countIn h k g
@@ -372,16 +372,16 @@ pub count-few : (h : HeldTable) (k g : ℕ) → countIn h k g ≤ 64
 unfolding countIn
 count-few h k g = length-offsets _
 
-pub committed-is : (h : HeldTable) (c : Scope) (k g : ℕ) {d l r : ℕ} → d ≡ countIn h k g → l ≡ getD (c .reserve) g 0 → r ≡ max d l → r ≡ loadOn h c k g
-unfolding loadOn
+pub committed-is : (h : HeldTable) (c : Scope) (k g : ℕ) {d l r : ℕ} → d ≡ countIn h k g → l ≡ getD (c .reserve) g 0 → r ≡ max d l → r ≡ committed c (countIn h k) g
+unfolding committed
 committed-is h c k g p q e = e ∙ ap₂ max p q
 
 pub committed-small : (h : HeldTable) (k g : ℕ) {d l r : ℕ} → d ≡ countIn h k g → l < 256 → r ≡ max d l → r < 256
 committed-small h k g p q e = let f = count-few h k g in omega arith
 
-pub committed-ok-is : (s : State) (h : HeldTable) (n k : ℕ) (c : Scope) {sum : ℕ} → c ≡ scopeAt s k → sum ≡ sumTo (loadOn h c k) n → leb sum (c .size) ≡ committedIn s h n k
+pub committed-ok-is : (s : State) (h : HeldTable) (n k : ℕ) (c : Scope) {sum : ℕ} → c ≡ scopeAt s k → sum ≡ committedSum c n (countIn h k) → leb sum (c .size) ≡ committedIn s h n k
 unfolding committedIn
-committed-ok-is s h n k c e p = ap (λ (x : ℕ). leb x (c .size)) p ∙ ap (λ (x : Scope). leb (sumTo (loadOn h x k) n) (x .size)) e
+committed-ok-is s h n k c e p = ap (λ (x : ℕ). leb x (c .size)) p ∙ ap (λ (x : Scope). leb (committedSum x n (countIn h k)) (x .size)) e
 
 pub limits-in : (s : State) (h : HeldTable) (n k : ℕ) (c : Scope) {r : Bool} → c ≡ scopeAt s k → r ≡ allTo (limitIn h c k) n → r ≡ limitsIn s h n k
 unfolding limitsIn

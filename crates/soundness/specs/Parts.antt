@@ -1,11 +1,10 @@
 -- The rules as the code gathers them: scope by scope, tenant by tenant, and from the address sets of all tenants.
-use Prim.Native.Nat.{ℕ, _+_, max}
+use Prim.Native.Nat.{ℕ}
 use mathlib.Core.Bool.{Bool, true, false, _&&_}
 use mathlib.Core.List.{List, [], _∷_, map}
 use lib.Dec.{leb, eqb}
 use lib.ListN.{length, drop, getD}
 use Rattle.lists.specs.All.{allBy, pairsBy, allTo}
-use Rattle.lists.specs.Sums.{sumTo}
 use Rattle.lists.specs.Fold.{fold}
 use Rattle.address_set.specs.AddressSet.{offsets}
 use Rattle.state.specs.declared.Lease.{Lease}
@@ -14,7 +13,7 @@ use Rattle.state.specs.declared.LeaseTable.{LeaseTable}
 use Rattle.state.specs.declared.Scope.{Scope}
 use Rattle.state.specs.declared.ClientRange.{ClientRange}
 use Rattle.state.specs.declared.State.{State}
-use Rattle.state.specs.Book.{differ, inUse, leasesOf, inScope, heldOf, addedIf, scopesOf, scopeAt}
+use Rattle.state.specs.Book.{differ, inUse, leasesOf, inScope, heldOf, addedIf, scopeAt, limitAt, committedSum}
 use Rattle.soundness.specs.declared.ScopeRules.{ScopeRules}
 use Rattle.soundness.specs.declared.LeaseRules.{LeaseRules}
 use Rattle.soundness.specs.declared.TenantRules.{TenantRules}
@@ -24,7 +23,7 @@ use Rattle.soundness.specs.declared.SettingsRules.{SettingsRules}
 use Rattle.soundness.specs.declared.HoldingRules.{HoldingRules}
 use Rattle.soundness.specs.declared.Held.{Held}
 use Rattle.soundness.specs.declared.HeldTable.{HeldTable}
-use Rattle.soundness.specs.Sound.{tenantsIn, scopesIn, reserveAt, limitAt, sizeB, countsB, idB, recordsB, offsetsB, rule3, poolB, poolsApart, rule4, ttlB, rule5, reservesB, rule6, leaseB, tenantsB, disjoint, rule9, compatible, rule11, rule12, layoutB, paddedB, tailB, settingsB}
+use Rattle.soundness.specs.Sound.{tenantsIn, scopesIn, sizeB, countsB, idB, recordsB, offsetsB, rule3, poolB, poolsApart, rule4, ttlB, rule5, reservesB, rule6, leaseB, tenantsB, disjoint, rule9, compatible, rule11, rule12, layoutB, paddedB, tailB, settingsB}
 
 abbrev pub noRange : ClientRange
 noRange = record { low = 0; high = 0 }
@@ -123,11 +122,8 @@ limitIn h c k g = leb (countIn h k g) (limitAt c g)
 unfoldable pub limitsIn : State → HeldTable → ℕ → ℕ → Bool
 limitsIn s h n k = allTo (limitIn h (scopeAt s k) k) n
 
-unfoldable pub loadOn : HeldTable → Scope → ℕ → ℕ → ℕ
-loadOn h c k g = max (countIn h k g) (reserveAt c g)
-
 unfoldable pub committedIn : State → HeldTable → ℕ → ℕ → Bool
-committedIn s h n k = leb (sumTo (loadOn h (scopeAt s k) k) n) (scopeAt s k .size)
+committedIn s h n k = leb (committedSum (scopeAt s k) n (countIn h k)) (scopeAt s k .size)
 
 -- ---- the three parts of all rules
 unfoldable pub settingsRulesOf : State → SettingsRules

@@ -1,6 +1,6 @@
 -- Document 01's "Sound", rule by rule in its order, numbered by its semicolons. Rule 13 is the layout of "How it is to be built".
 -- A house is a tenant here, its share a reserve; tenants count from 0, scopes from 1.
-use Prim.Native.Nat.{ℕ, zero, suc, _+_, _-_, min, max}
+use Prim.Native.Nat.{ℕ, zero, suc, _+_, _-_, min}
 use mathlib.Core.Bool.{Bool, true, false, not, _&&_, _||_}
 use mathlib.Core.List.{List, [], _∷_}
 use lib.Dec.{ltb, leb, eqb}
@@ -16,7 +16,7 @@ use Rattle.state.specs.declared.LeaseTable.{LeaseTable}
 use Rattle.state.specs.declared.ClientRange.{ClientRange}
 use Rattle.state.specs.declared.Scope.{Scope}
 use Rattle.state.specs.declared.State.{State}
-use Rattle.state.specs.Book.{inUse, leasesOf, differ, ordered, live, overlaps, inScope, heldOf, heldCount, rangesOf, scopesOf, scopeAt}
+use Rattle.state.specs.Book.{inUse, leasesOf, differ, ordered, live, overlaps, inScope, heldOf, rangesOf, scopesOf, scopeAt, reserveAt, limitAt, heldAt, committedSum}
 use Rattle.soundness.specs.declared.Rules.{Rules}
 
 -- from 1 to most
@@ -29,12 +29,6 @@ tenantsIn s = min (s .«tenant_count») 8
 
 abbrev pub scopesIn : State → ℕ
 scopesIn s = min (s .«scope_count») 4
-
-abbrev pub reserveAt : Scope → ℕ → ℕ
-reserveAt c g = getD (c .reserve) g 0
-
-abbrev pub limitAt : Scope → ℕ → ℕ
-limitAt c g = getD (c .limit) g 0
 
 -- ---- 1. counts, sizes and identifier lengths within the limits
 unfoldable pub sizeB : Scope → Bool
@@ -156,7 +150,7 @@ rule10 t = allBy (pairsBy compatible) (leasesOf t)
 -- ---- 11. each holding at most its limit
 -- how many addresses tenant g has in scope s, counted from its leases
 abbrev pub holding : LeaseTable → ℕ → ℕ → ℕ
-holding t s g = heldCount s (getD (leasesOf t) g [])
+holding t s g = heldAt (leasesOf t) s g
 
 unfoldable pub limitB : LeaseTable → Scope → ℕ → ℕ → Bool
 limitB t c s g = leb (holding t s g) (limitAt c g)
@@ -168,11 +162,8 @@ unfoldable pub rule11 : State → LeaseTable → Bool
 rule11 s t = allTo (limitsB s t) (scopesIn s)
 
 -- ---- 12. per scope the sum of larger-of-holding-and-share at most size
-unfoldable pub load : LeaseTable → Scope → ℕ → ℕ → ℕ
-load t c s g = max (holding t s g) (reserveAt c g)
-
 unfoldable pub committedB : State → LeaseTable → ℕ → Bool
-committedB s t k = leb (sumTo (load t (scopeAt s k) (k + 1)) (tenantsIn s)) (scopeAt s k .size)
+committedB s t k = leb (committedSum (scopeAt s k) (tenantsIn s) (holding t (k + 1))) (scopeAt s k .size)
 
 unfoldable pub rule12 : State → LeaseTable → Bool
 rule12 s t = allTo (committedB s t) (scopesIn s)

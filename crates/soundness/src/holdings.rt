@@ -3,8 +3,8 @@ ghost use mathlib.Core.Path.{_≡_};
 ghost use Prim.Native.Nat.{_<_, _≤_};
 ghost use lib.ListN.{drop};
 ghost use Rattle.lists.specs.All.{allBy, pairsBy, allTo};
-ghost use Rattle.lists.specs.Sums.{sumTo};
-ghost use Rattle.soundness.specs.Parts.{heldSets, addedSets, apartSets, countIn, limitIn, limitsIn, loadOn, committedIn, noneH, holdingRulesIn};
+ghost use Rattle.state.specs.Book.{committed, committedSum};
+ghost use Rattle.soundness.specs.Parts.{heldSets, addedSets, apartSets, countIn, limitIn, limitsIn, committedIn, noneH, holdingRulesIn};
 use crate::Held;
 use crate::HeldTable;
 use crate::HoldingRules;
@@ -127,7 +127,7 @@ fn all_limits_ok(s: State, h: HeldTable, n: usize, m: usize) -> bool
 
 fn committed(h: HeldTable, c: Scope, k: usize, g: usize) -> u32
     requires { ⌜ (k < 4) × (g < 8) ⌝ }
-    ensures { λ r. ⌜ (r ≡ loadOn h c k g) × (r < 256) ⌝ }
+    ensures { λ r. ⌜ (r ≡ committed c (countIn h k) g) × (r < 256) ⌝ }
 {
     let d = count_in(h, k, g);
     let reserve = octet(c.reserve[g]);
@@ -136,7 +136,7 @@ fn committed(h: HeldTable, c: Scope, k: usize, g: usize) -> u32
 
 fn committed_sum(h: HeldTable, c: Scope, k: usize, n: usize) -> u32
     requires { ⌜ (n ≤ 8) × (k < 4) ⌝ }
-    ensures { λ r. ⌜ r ≡ sumTo (loadOn h c k) n ⌝ }
+    ensures { λ r. ⌜ r ≡ committedSum c n (countIn h k) ⌝ }
 {
     let mut sum: u32 = 0;
     let mut g: usize = 0;
@@ -197,14 +197,14 @@ pub fn holding_rules(s: State, h: HeldTable) -> HoldingRules
 {
     let n = arithmetic::cut8(s.tenant_count);
     let m = arithmetic::cut4(s.scope_count);
-    let house = rest_none(h, n);
+    let tenant = rest_none(h, n);
     let owner = all_held_apart(h);
     let limit = all_limits_ok(s, h, n, m);
-    let load = all_committed_ok(s, h, n, m);
+    let sum = all_committed_ok(s, h, n, m);
     HoldingRules {
-        tenants: house,
+        tenants: tenant,
         owners: owner,
         holdings: limit,
-        commitments: load,
+        commitments: sum,
     }
 }

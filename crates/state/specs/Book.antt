@@ -8,6 +8,7 @@ use lib.ListN.{length, replicate, set, take, drop, getD}
 use Rattle.lists.specs.Pick.{pick}
 use Rattle.lists.specs.Filter.{filterBy}
 use Rattle.lists.specs.Place.{placeBy}
+use Rattle.lists.specs.Sums.{sumTo}
 use Rattle.lists.specs.Arranged.{insertIn}
 use Rattle.identifier.specs.Order.{orderOf, sameOf}
 use Rattle.address_set.specs.AddressSet.{offsets}
@@ -161,6 +162,29 @@ scopesOf s = take (s .«scope_count») (s .scopes)
 -- the scope at a place, or an unused entry
 abbrev pub scopeAt : State → ℕ → Scope
 scopeAt s k = getD (s .scopes) k zeroScope
+
+-- ---- what tenants hold and have in reserve (document 01's houses and shares). Tenants count from 0; ls are the leases of all of them
+abbrev pub reserveAt : Scope → ℕ → ℕ
+reserveAt c g = getD (c .reserve) g 0
+
+abbrev pub limitAt : Scope → ℕ → ℕ
+limitAt c g = getD (c .limit) g 0
+
+-- how many addresses tenant g holds in scope s, counted from its leases
+abbrev pub heldAt : List (List Lease) → ℕ → ℕ → ℕ
+heldAt ls s g = heldCount s (getD ls g [])
+
+-- what each tenant holds, but d for tenant h
+unfoldable pub withHeld : ℕ → ℕ → (ℕ → ℕ) → ℕ → ℕ
+withHeld h d held g = pick (eqb g h) d (held g)
+
+-- document 01's "larger of holding and share", in a scope where each tenant holds what `held` says
+unfoldable pub committed : Scope → (ℕ → ℕ) → ℕ → ℕ
+committed c held g = max (held g) (reserveAt c g)
+
+-- "the sum over all houses of the larger of holding and share": of n tenants
+abbrev pub committedSum : Scope → ℕ → (ℕ → ℕ) → ℕ
+committedSum c n held = sumTo (committed c held) n
 
 -- ---- one turn of the loops below
 -- what an element is past the end of an array

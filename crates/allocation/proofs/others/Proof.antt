@@ -1,14 +1,14 @@
 -- `others` meets its contract: a sum of small numbers.
 use Prim.Native.Nat.{_-_}
-use Rattle.allocation.specs.Loops.{otherLoad, other-read}
-use Rattle.lists.specs.Sums.{SumInv, sums}
-use Rattle.state.specs.Book.{leasesOf}
+use Rattle.allocation.specs.Loops.{other-read}
+use Rattle.lists.specs.Sums.{SumInv, sums, except}
+use Rattle.state.specs.Book.{leasesOf, heldAt, committed}
 use borrow.Author.Needs.{needs}
 use Rattle.allocation.proofs.others.Statement.{statement}
 use Rattle.allocation.proofs.others.Tie as tie
 
 abbrev Inv-loop : tie.InvT-loop
-Inv-loop n scope h table c sum₀ g₀ sum g = SumInv (otherLoad (c .reserve) (leasesOf table) scope h) n sum g
+Inv-loop n scope h table c sum₀ g₀ sum g = SumInv (except h (committed c (heldAt (leasesOf table) scope))) n sum g
 
 abbrev μ-loop : tie.MeasureT-loop
 μ-loop n scope h table c sum₀ g₀ sum g = n - g

@@ -1,7 +1,7 @@
 -- `settings::reserves` meets its contract: by sums.
 use Prim.Native.Nat.{_-_}
 use Rattle.lists.specs.Sums.{SumInv, sums}
-use Rattle.soundness.specs.Sound.{reserveAt}
+use Rattle.state.specs.Book.{reserveAt}
 use borrow.Author.Needs.{needs}
 use Rattle.soundness.proofs.settings.reserves.Statement.{statement}
 use Rattle.soundness.proofs.settings.reserves.Tie as tie

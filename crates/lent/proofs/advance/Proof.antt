@@ -1,6 +1,5 @@
 -- `lent::advance` meets its contract: a walk of its MIR, by hand. The borrow is opened, the clock is read, `arithmetic::larger` is called, of which the proof knows only its contract, the clock is stored, and the borrow is closed at the state with the
 -- new clock and the other fields as they were.
--- Assumes nothing.
 use mathlib.Core.Path.{_≡_, refl, ap}
 use Prim.Native.Nat.{ℕ, _<_, _^_, max}
 use mathlib.Core.List.{[], _∷_, List}

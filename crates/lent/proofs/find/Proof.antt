@@ -1,6 +1,5 @@
 -- `lent::find` meets its contract: a walk of its MIR, by hand, with two calls. A copy of the `&` slice is passed on to `load`, which is `Slices.antt`'s step `loads-on`, and `records::find` works on the records by value. Of
 -- each callee the proof knows only that it meets its contract, and `found-lent` makes the function's clause of the two.
--- Assumes nothing.
 use mathlib.Core.Path.{_≡_, refl}
 use Prim.Native.Nat.{ℕ, _<_, _^_}
 use mathlib.Core.List.{[], _∷_, List}

@@ -1,7 +1,6 @@
 -- `lent::read` meets its contract: a walk of its MIR, by hand. The state's borrow is opened and the state copied out; `load` gives the records of the slice by value; `records::read` gets the file and both.
 -- The state that came back is stored as a whole, and the borrow is closed at it; the records that came back go to `store`. Of each callee the proof knows only that it meets its contract.
 -- Nothing is kept of the `&` of the file, which `records::read` gets at its own lifetime and share.
--- Assumes nothing.
 use mathlib.Core.Path.{_≡_, refl, ap}
 use Prim.Native.Nat.{ℕ, _<_, _^_}
 use mathlib.Core.List.{[], _∷_, List}

@@ -1,7 +1,6 @@
 -- `lent::serve` meets its contract: a walk of its MIR, by hand. The state's borrow is opened, the state copied out, and the borrow closed as it was; `load` gives the records of the slice by value; `records::serve` gets both with the datagram and the reply buffer.
 -- The state's borrow goes to `advance` with the clock that came back, and the slice to `store` with the records that came back. Of each callee the proof knows only that it meets its contract.
 -- The reply buffer and the state are passed on at their own lifetimes, shares and ghost names, so what the callees say of their last values is said of these (`gave-slice`, `gave-ref`). Nothing is kept of the `&` of the datagram.
--- Assumes nothing.
 use mathlib.Core.Path.{_≡_, refl, ap}
 use Prim.Native.Nat.{ℕ, _<_, _^_}
 use mathlib.Core.List.{[], _∷_, List}

@@ -1,7 +1,6 @@
 -- `lent::store` meets its contract: a walk of its MIR, by hand, with a call and a loop. The records are copied to a local, and `records::cut128` is called, of which the proof knows only its contract.
 -- Then, once, before the loop, the borrow is opened and the local is taken apart into the row of its records. A turn takes one record out of each row, copies it from the local's to the slice's, and puts both back.
 -- After the loop the local is put together again, and the borrow is closed at the list with the records laid over it.
--- Assumes nothing.
 use mathlib.Core.Path.{_≡_, refl, sym, _∙_, ap, subst}
 use mathlib.Core.Bool.{Bool}
 use Prim.Native.Nat.{ℕ, zero, suc, _+_, _<_, _≤_, _*_, min}

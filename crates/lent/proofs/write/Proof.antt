@@ -1,6 +1,5 @@
 -- `lent::write` meets its contract: a walk of its MIR, by hand. The state is copied out of its `&`, `load` gives the records of the slice by value, and `records::write` gets both with the room.
 -- The room is passed on at its own lifetime, share and ghost name, so what `records::write` says of the last octets is said of the room's (`gave-slice`); nothing is kept of the two `&`. Of each callee the proof knows only that it meets its contract.
--- Assumes nothing.
 use mathlib.Core.Path.{_≡_, refl}
 use Prim.Native.Nat.{ℕ}
 use mathlib.Core.List.{[], _∷_, List}

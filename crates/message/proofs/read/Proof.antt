@@ -3,10 +3,6 @@ use Rattle.lists.specs.Pick.{calls}
 use Rattle.message.proofs.Steps.{eight-header, long-header, short-header, walked-of}
 use Rattle.message.specs.Read.{readOf}
 use borrow.Author.Needs.{needs}
--- By the definition, case by case.
--- By the definition, case by case.
--- By the definition, case by case.
--- By the definition, case by case.
 use Rattle.message.proofs.read.Statement.{statement}
 use Rattle.message.proofs.read.Tie as tie
 

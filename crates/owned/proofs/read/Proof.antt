@@ -1,6 +1,5 @@
 -- `owned::read` meets its contract: a walk of its MIR, by hand. The state and the lease records are copied into locals, which are lent as `&mut` to `lent::read`; they come back at the values that it left there,
 -- and the result is put together of these. Of `lent::read` the proof knows only that it meets its contract. Nothing is kept of the `&` of the file, which `lent::read` gets at its own lifetime and share.
--- Assumes nothing.
 use mathlib.Core.Path.{refl, _∙_}
 use Prim.Native.Nat.{ℕ}
 use mathlib.Core.List.{[], _∷_, List}

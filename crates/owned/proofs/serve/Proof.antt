@@ -1,7 +1,6 @@
 -- `owned::serve` meets its contract: a walk of its MIR, by hand. The state and the lease records are copied into locals, which are lent as `&mut` to `lent::serve`; they come back at the values that it left there,
 -- and the result is put together of these and of the outcome. Of `lent::serve` the proof knows only that it meets its contract.
 -- The reply buffer is passed on at its own lifetime, share and ghost name, so what `lent::serve` says of the last octets is said of the buffer's (`gave-slice`). Nothing is kept of the `&` of the datagram.
--- Assumes nothing.
 use mathlib.Core.Path.{_≡_, refl, _∙_, ap}
 use Prim.Native.Nat.{ℕ, _<_, _^_}
 use mathlib.Core.List.{[], _∷_, List}

@@ -1,6 +1,5 @@
 -- `owned::write` meets its contract: a walk of its MIR, by hand. The state and the lease records are copied into locals, which are lent as `&` to `lent::write`, and come back as they were.
 -- The room is passed on at its own lifetime, share and ghost name, so what `lent::write` says of the last octets is said of the room's (`gave-slice`). Of `lent::write` the proof knows only that it meets its contract.
--- Assumes nothing.
 use mathlib.Core.Path.{_≡_, refl}
 use Prim.Native.Nat.{ℕ}
 use mathlib.Core.List.{[], _∷_, List}

@@ -1,8 +1,6 @@
 -- By the definition, case by case.
 use Rattle.lists.specs.Pick.{picks}
 use borrow.Author.Needs.{needs}
--- By the definition, case by case.
--- By the definition, case by case.
 use Rattle.replay_text.proofs.hex_digit.Statement.{statement}
 use Rattle.replay_text.proofs.hex_digit.Tie as tie
 

@@ -3,8 +3,6 @@ use Prim.Native.Nat.{_-_}
 use Rattle.replay_text.proofs.Hex.{HexInv, hex-end, hex-next, hex-start}
 use borrow.Author.Needs.{needs}
 use native.Mathlib.Omega.{arith}
--- The loop writes one octet a turn (`HexInv`).
--- The loop writes one octet a turn (`HexInv`).
 use Rattle.replay_text.proofs.put_hex.Statement.{statement}
 use Rattle.replay_text.proofs.put_hex.Tie as tie
 

@@ -2,8 +2,6 @@
 use Rattle.octets.specs.Laws.{wrote-joined}
 use Rattle.replay_text.specs.Replay.{hexOf}
 use borrow.Author.Needs.{needs}
--- Two digits, one after the other.
--- Two digits, one after the other.
 use Rattle.replay_text.proofs.put_octet.Statement.{statement}
 use Rattle.replay_text.proofs.put_octet.Tie as tie
 

@@ -1,7 +1,6 @@
 -- Part by part.
 use Rattle.octets.specs.Laws.{wrote-joined}
 use borrow.Author.Needs.{needs}
--- Part by part.
 use Rattle.replay_text.proofs.write_book_line.Statement.{statement}
 use Rattle.replay_text.proofs.write_book_line.Tie as tie
 

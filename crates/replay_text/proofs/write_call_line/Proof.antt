@@ -3,7 +3,6 @@ use Rattle.lists.specs.Pick.{pick}
 use Rattle.octets.specs.Laws.{wrote-joined}
 use borrow.Author.Needs.{needs}
 use borrow.Author.Tests.{eq-eqb, ne-eqb}
--- Part by part.
 use Rattle.replay_text.proofs.write_call_line.Statement.{statement}
 use Rattle.replay_text.proofs.write_call_line.Tie as tie
 

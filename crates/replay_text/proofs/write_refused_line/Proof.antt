@@ -1,8 +1,6 @@
 -- Part by part.
 use Rattle.octets.specs.Laws.{wrote-joined}
 use borrow.Author.Needs.{needs}
--- Part by part.
--- Part by part.
 use Rattle.replay_text.proofs.write_refused_line.Statement.{statement}
 use Rattle.replay_text.proofs.write_refused_line.Tie as tie
 

@@ -1,8 +1,6 @@
 -- The array has 32 octets.
 use Rattle.reply.proofs.Writes.{id-long, id-short}
 use borrow.Author.Needs.{needs}
--- The array has 32 octets.
--- The array has 32 octets.
 use Rattle.reply.proofs.id_length.Statement.{statement}
 use Rattle.reply.proofs.id_length.Tie as tie
 

@@ -1,8 +1,6 @@
 -- Two numbers, one after the other.
 use Rattle.octets.specs.Laws.{wrote-joined}
 use borrow.Author.Needs.{needs}
--- Two numbers, one after the other.
--- Two numbers, one after the other.
 use Rattle.reply.proofs.put_code.Statement.{statement}
 use Rattle.reply.proofs.put_code.Tie as tie
 

@@ -5,8 +5,6 @@ use borrow.Author.Needs.{needs}
 use mathlib.Core.List.{[], _∷_}
 use mathlib.Core.Path.{refl}
 use native.Mathlib.Omega.{arith}
--- The option, or nothing.
--- The option, or nothing.
 use Rattle.reply.proofs.put_features.Statement.{statement}
 use Rattle.reply.proofs.put_features.Tie as tie
 

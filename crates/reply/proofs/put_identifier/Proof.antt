@@ -2,8 +2,6 @@
 use Rattle.message.specs.Walk.{start}
 use Rattle.reply.proofs.Writes.{id-fits, id-put}
 use borrow.Author.Needs.{needs}
--- Code and length, and then the value (`option-put`).
--- Code and length, and then the value (`option-put`).
 use Rattle.reply.proofs.put_identifier.Statement.{statement}
 use Rattle.reply.proofs.put_identifier.Tie as tie
 

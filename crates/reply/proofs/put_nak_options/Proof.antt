@@ -1,8 +1,6 @@
 -- One after the other.
 use Rattle.reply.proofs.Writes.{put-joined}
 use borrow.Author.Needs.{needs}
--- One after the other.
--- One after the other.
 use Rattle.reply.proofs.put_nak_options.Statement.{statement}
 use Rattle.reply.proofs.put_nak_options.Tie as tie
 

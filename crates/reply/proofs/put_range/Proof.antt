@@ -5,8 +5,6 @@ use Rattle.octets.specs.Laws.{wrote-joined}
 use borrow.Author.Needs.{needs}
 use mathlib.Core.Path.{_≡_}
 use native.Mathlib.Omega.{arith}
--- Two numbers, one after the other.
--- Two numbers, one after the other.
 use Rattle.reply.proofs.put_range.Statement.{statement}
 use Rattle.reply.proofs.put_range.Tie as tie
 

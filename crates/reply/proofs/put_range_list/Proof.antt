@@ -3,8 +3,6 @@ use Rattle.reply.proofs.Writes.{RangesInv, range-short, ranges-end, ran
 use borrow.Author.Needs.{needs}
 use lib.ListN.{set}
 use native.Mathlib.Omega.{arith}
--- The loop writes one range a turn (`RangesInv`).
--- The loop writes one range a turn (`RangesInv`).
 use Rattle.reply.proofs.put_range_list.Statement.{statement}
 use Rattle.reply.proofs.put_range_list.Tie as tie
 

@@ -4,7 +4,6 @@ use Rattle.message.specs.Walk.{start}
 use Rattle.reply.proofs.Writes.{ranges-put}
 use borrow.Author.Needs.{needs}
 use native.Mathlib.Omega.{arith}
--- Code and length, and then the value (`option-put`).
 use Rattle.reply.proofs.put_ranges.Statement.{statement}
 use Rattle.reply.proofs.put_ranges.Tie as tie
 

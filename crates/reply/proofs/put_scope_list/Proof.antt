@@ -3,7 +3,6 @@ use Rattle.lists.specs.Part.{unmapped}
 use Rattle.message.specs.Walk.{start}
 use Rattle.reply.proofs.Writes.{scopes-put}
 use borrow.Author.Needs.{needs}
--- Code and length, and then the value (`option-put`).
 use Rattle.reply.proofs.put_scope_list.Statement.{statement}
 use Rattle.reply.proofs.put_scope_list.Tie as tie
 

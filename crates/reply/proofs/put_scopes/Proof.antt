@@ -3,8 +3,6 @@ use Prim.Native.Nat.{_-_}
 use Rattle.lists.specs.Part.{unmapped}
 use Rattle.reply.proofs.Writes.{ScopesInv, scopes-end, scopes-long, scopes-next, scopes-start}
 use borrow.Author.Needs.{needs}
--- The loop writes one scope a turn (`ScopesInv`).
--- The loop writes one scope a turn (`ScopesInv`).
 use Rattle.reply.proofs.put_scopes.Statement.{statement}
 use Rattle.reply.proofs.put_scopes.Tie as tie
 

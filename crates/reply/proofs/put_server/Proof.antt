@@ -7,8 +7,6 @@ use borrow.Author.Needs.{needs}
 use mathlib.Core.List.{_++_}
 use mathlib.Core.Path.{refl}
 use native.Mathlib.Omega.{arith}
--- Code and length, and then the value (`option-put`).
--- Code and length, and then the value (`option-put`).
 use Rattle.reply.proofs.put_server.Statement.{statement}
 use Rattle.reply.proofs.put_server.Tie as tie
 

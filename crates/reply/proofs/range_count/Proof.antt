@@ -3,8 +3,6 @@ use Rattle.reply.proofs.Writes.{CountInv, count-end, count-less, count-
 use borrow.Author.Needs.{needs}
 use lib.ListN.{set}
 use native.Mathlib.Omega.{arith}
--- The loop takes one range a turn (`CountInv`).
--- The loop takes one range a turn (`CountInv`).
 use Rattle.reply.proofs.range_count.Statement.{statement}
 use Rattle.reply.proofs.range_count.Tie as tie
 

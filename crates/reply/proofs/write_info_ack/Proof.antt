@@ -2,7 +2,6 @@
 use Rattle.reply.proofs.Writes.{replied}
 use Rattle.reply.specs.Reply.{infoAckOf}
 use borrow.Author.Needs.{needs}
--- Header, options and End (`replied`).
 use Rattle.reply.proofs.write_info_ack.Statement.{statement}
 use Rattle.reply.proofs.write_info_ack.Tie as tie
 

@@ -1,7 +1,6 @@
 -- Header, options and End (`replied`).
 use Rattle.reply.proofs.Writes.{replied}
 use borrow.Author.Needs.{needs}
--- Header, options and End (`replied`).
 use Rattle.reply.proofs.write_lease.Statement.{statement}
 use Rattle.reply.proofs.write_lease.Tie as tie
 

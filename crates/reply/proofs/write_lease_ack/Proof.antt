@@ -1,7 +1,6 @@
 -- Header, options and End (`replied`).
 use Rattle.reply.specs.Reply.{leaseAckOf}
 use borrow.Author.Needs.{needs}
--- Header, options and End (`replied`).
 use Rattle.reply.proofs.write_lease_ack.Statement.{statement}
 use Rattle.reply.proofs.write_lease_ack.Tie as tie
 

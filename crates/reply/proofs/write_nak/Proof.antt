@@ -2,8 +2,6 @@
 use Rattle.reply.proofs.Writes.{replied}
 use Rattle.reply.specs.Reply.{nakOf}
 use borrow.Author.Needs.{needs}
--- Header, options and End (`replied`).
--- Header, options and End (`replied`).
 use Rattle.reply.proofs.write_nak.Statement.{statement}
 use Rattle.reply.proofs.write_nak.Tie as tie
 

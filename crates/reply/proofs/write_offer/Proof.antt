@@ -1,7 +1,6 @@
 -- Header, options and End (`replied`).
 use Rattle.reply.specs.Reply.{offerOf}
 use borrow.Author.Needs.{needs}
--- Header, options and End (`replied`).
 use Rattle.reply.proofs.write_offer.Statement.{statement}
 use Rattle.reply.proofs.write_offer.Tie as tie
 

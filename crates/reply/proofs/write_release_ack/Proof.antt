@@ -2,8 +2,6 @@
 use Rattle.reply.proofs.Writes.{put-joined, replied}
 use Rattle.reply.specs.Reply.{releaseAckOf}
 use borrow.Author.Needs.{needs}
--- Header, options and End (`replied`).
--- Header, options and End (`replied`).
 use Rattle.reply.proofs.write_release_ack.Statement.{statement}
 use Rattle.reply.proofs.write_release_ack.Tie as tie
 

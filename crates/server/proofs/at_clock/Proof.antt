@@ -3,8 +3,6 @@ use Rattle.message.specs.Walk.{optionTaken}
 use Rattle.server.proofs.Steps.{client-known, client-unknown, serves-discard}
 use Rattle.state.specs.Book.{before}
 use borrow.Author.Needs.{needs}
--- By test 3.
--- By test 3.
 use Rattle.server.proofs.at_clock.Statement.{statement}
 use Rattle.server.proofs.at_clock.Tie as tie
 

@@ -2,9 +2,6 @@
 use Rattle.server.proofs.Steps.{serves-decided}
 use Rattle.state.specs.Book.{before}
 use borrow.Author.Needs.{needs}
--- The decision, and the reply written from it.
--- The decision, and the reply written from it.
--- The decision, and the reply written from it.
 use Rattle.server.proofs.decided.Statement.{statement}
 use Rattle.server.proofs.decided.Tie as tie
 

@@ -3,9 +3,6 @@ use Rattle.message.specs.Walk.{optionTaken}
 use Rattle.server.proofs.Steps.{for-any, for-others, for-ours, serves-discard}
 use Rattle.state.specs.Book.{before}
 use borrow.Author.Needs.{needs}
--- By test 7.
--- By test 7.
--- By test 7.
 use Rattle.server.proofs.for_server.Statement.{statement}
 use Rattle.server.proofs.for_server.Tie as tie
 

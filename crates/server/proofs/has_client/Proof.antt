@@ -2,9 +2,6 @@
 use Rattle.lists.specs.Both.{ands}
 use Rattle.server.specs.Serve.{hasClient}
 use borrow.Author.Needs.{needs}
--- By the definition, case by case.
--- By the definition, case by case.
--- By the definition, case by case.
 use Rattle.server.proofs.has_client.Statement.{statement}
 use Rattle.server.proofs.has_client.Tie as tie
 

@@ -3,9 +3,6 @@ use Rattle.message.specs.Walk.{start}
 use Rattle.server.proofs.Steps.{info-is}
 use Rattle.state.specs.Book.{before}
 use borrow.Author.Needs.{needs}
--- The four scopes, one after the other.
--- The four scopes, one after the other.
--- The four scopes, one after the other.
 use Rattle.server.proofs.info_of.Statement.{statement}
 use Rattle.server.proofs.info_of.Tie as tie
 

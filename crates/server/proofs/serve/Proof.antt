@@ -3,8 +3,6 @@ use Rattle.message.specs.Walk.{optionTaken}
 use Rattle.server.proofs.Steps.{call-served, call-short, call-unsound, serves-discard}
 use Rattle.state.specs.Book.{before}
 use borrow.Author.Needs.{needs}
--- By tests 1 and 2.
--- By tests 1 and 2.
 use Rattle.server.proofs.serve.Statement.{statement}
 use Rattle.server.proofs.serve.Tie as tie
 

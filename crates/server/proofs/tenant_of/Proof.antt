@@ -4,9 +4,6 @@ use Rattle.lists.specs.Place.{PlaceInv, places}
 use Rattle.server.specs.Serve.{hasClient, tenantOf}
 use Rattle.soundness.specs.Parts.{noRange}
 use borrow.Author.Needs.{needs}
--- The loop looks at one range a turn (`PlaceInv`).
--- The loop looks at one range a turn (`PlaceInv`).
--- The loop looks at one range a turn (`PlaceInv`).
 use Rattle.server.proofs.tenant_of.Statement.{statement}
 use Rattle.server.proofs.tenant_of.Tie as tie
 

@@ -1,9 +1,6 @@
 -- Field by field.
 use Rattle.server.proofs.Steps.{terms-is}
 use borrow.Author.Needs.{needs}
--- Field by field.
--- Field by field.
--- Field by field.
 use Rattle.server.proofs.terms_of.Statement.{statement}
 use Rattle.server.proofs.terms_of.Tie as tie
 

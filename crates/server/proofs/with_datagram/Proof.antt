@@ -4,9 +4,6 @@ use Rattle.server.proofs.Steps.{reading-discarded, reading-good, readin
 use Rattle.state.specs.Book.{before}
 use borrow.Author.Needs.{needs}
 use denote.Ref.{now}
--- By tests 4 to 6.
--- By tests 4 to 6.
--- By tests 4 to 6.
 use Rattle.server.proofs.with_datagram.Statement.{statement}
 use Rattle.server.proofs.with_datagram.Tie as tie
 

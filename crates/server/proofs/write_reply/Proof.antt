@@ -3,9 +3,6 @@ use Rattle.decision.specs.declared.Reply.the-variants.{InfoAck, LeaseAck, Nak, 
 use Rattle.server.proofs.Steps.{replied-none, reply-as}
 use Rattle.state.specs.Book.{before}
 use borrow.Author.Needs.{needs}
--- By the kind of reply.
--- By the kind of reply.
--- By the kind of reply.
 use Rattle.server.proofs.write_reply.Statement.{statement}
 use Rattle.server.proofs.write_reply.Tie as tie
 

@@ -4,10 +4,6 @@ use Rattle.lists.specs.All.{UptoInv, uptos}
 use Rattle.lists.specs.Place.{places}
 use Rattle.message.specs.Values.{allowedAt}
 use borrow.Author.Needs.{needs}
--- The loop tests one code a turn (`UptoInv`).
--- The loop tests one code a turn (`UptoInv`).
--- The loop tests one code a turn (`UptoInv`).
--- The loop tests one code a turn (`UptoInv`).
 use Rattle.message.proofs.Message.all_allowed.Statement.{statement}
 use Rattle.message.proofs.Message.all_allowed.Tie as tie
 

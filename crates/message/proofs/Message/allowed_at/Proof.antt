@@ -3,10 +3,6 @@ use Rattle.lists.specs.Pick.{calls}
 use Rattle.message.proofs.Steps.{allows-got}
 use Rattle.message.specs.Values.{allowedAt}
 use borrow.Author.Needs.{needs}
--- By the definition, case by case.
--- By the definition, case by case.
--- By the definition, case by case.
--- By the definition, case by case.
 use Rattle.message.proofs.Message.allowed_at.Statement.{statement}
 use Rattle.message.proofs.Message.allowed_at.Tie as tie
 

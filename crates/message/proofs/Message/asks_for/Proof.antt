@@ -4,10 +4,6 @@ use Rattle.message.specs.Values.{namesOf}
 use borrow.Author.Needs.{needs}
 use denote.Ref.{now}
 use mathlib.Core.Path.{_∙_, ap, sym}
--- By what the lookup found; what was found lies within the datagram.
--- By what the lookup found; what was found lies within the datagram.
--- By what the lookup found; what was found lies within the datagram.
--- By what the lookup found; what was found lies within the datagram.
 use Rattle.message.proofs.Message.asks_for.Statement.{statement}
 use Rattle.message.proofs.Message.asks_for.Tie as tie
 

@@ -1,9 +1,6 @@
 -- One value after the other.
 use Rattle.message.proofs.Steps.{fields-is, four-scope}
 use borrow.Author.Needs.{needs}
--- One value after the other.
--- One value after the other.
--- One value after the other.
 use Rattle.message.proofs.Message.fields.Statement.{statement}
 use Rattle.message.proofs.Message.fields.Tie as tie
 

@@ -1,11 +1,6 @@
 -- Past the array there is no option (`find-above`).
 use Rattle.message.proofs.Steps.{find-above}
 use borrow.Author.Needs.{needs}
--- Past the array there is no option (`find-above`).
--- Past the array there is no option (`find-above`).
--- Past the array there is no option (`find-above`).
--- Past the array there is no option (`find-above`).
--- Past the array there is no option (`find-above`).
 use Rattle.message.proofs.Message.find.Statement.{statement}
 use Rattle.message.proofs.Message.find.Tie as tie
 

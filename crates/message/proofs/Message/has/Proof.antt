@@ -1,11 +1,6 @@
 -- By what the lookup found.
 use Rattle.message.proofs.Steps.{found-no, found-yes}
 use borrow.Author.Needs.{needs}
--- By what the lookup found.
--- By what the lookup found.
--- By what the lookup found.
--- By what the lookup found.
--- By what the lookup found.
 use Rattle.message.proofs.Message.has.Statement.{statement}
 use Rattle.message.proofs.Message.has.Tie as tie
 

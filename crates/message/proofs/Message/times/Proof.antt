@@ -4,11 +4,6 @@ use Rattle.lists.specs.Pick.{pick}
 use Rattle.message.proofs.Steps.{four-time, times-is}
 use borrow.Author.Needs.{needs}
 use mathlib.Core.Path.{refl}
--- One option after the other.
--- One option after the other.
--- One option after the other.
--- One option after the other.
--- One option after the other.
 use Rattle.message.proofs.Message.times.Statement.{statement}
 use Rattle.message.proofs.Message.times.Tie as tie
 

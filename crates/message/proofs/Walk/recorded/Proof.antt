@@ -1,11 +1,6 @@
 -- By the definition, case by case.
 use Rattle.lists.specs.Pick.{picks}
 use borrow.Author.Needs.{needs}
--- By the definition, case by case.
--- By the definition, case by case.
--- By the definition, case by case.
--- By the definition, case by case.
--- By the definition, case by case.
 use Rattle.message.proofs.Walk.recorded.Statement.{statement}
 use Rattle.message.proofs.Walk.recorded.Tie as tie
 

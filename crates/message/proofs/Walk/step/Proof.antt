@@ -3,11 +3,6 @@ use Rattle.lists.specs.Pick.{calls}
 use Rattle.message.proofs.Steps.{layout-inside, taken-got}
 use Rattle.message.specs.Walk.{stepOf}
 use borrow.Author.Needs.{needs}
--- By the definition, case by case.
--- By the definition, case by case.
--- By the definition, case by case.
--- By the definition, case by case.
--- By the definition, case by case.
 use Rattle.message.proofs.Walk.step.Statement.{statement}
 use Rattle.message.proofs.Walk.step.Tie as tie
 

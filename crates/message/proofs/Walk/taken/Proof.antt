@@ -2,11 +2,6 @@
 use Rattle.lists.specs.Pick.{picks}
 use Rattle.message.specs.Walk.{optionTaken}
 use borrow.Author.Needs.{needs}
--- By the definition, case by case.
--- By the definition, case by case.
--- By the definition, case by case.
--- By the definition, case by case.
--- By the definition, case by case.
 use Rattle.message.proofs.Walk.taken.Statement.{statement}
 use Rattle.message.proofs.Walk.taken.Tie as tie
 

@@ -1,11 +1,6 @@
 -- The two numbers are those of the option at the walk's place.
 use Rattle.message.proofs.Steps.{taken-got}
 use borrow.Author.Needs.{needs}
--- The two numbers are those of the option at the walk's place.
--- The two numbers are those of the option at the walk's place.
--- The two numbers are those of the option at the walk's place.
--- The two numbers are those of the option at the walk's place.
--- The two numbers are those of the option at the walk's place.
 use Rattle.message.proofs.Walk.taken_in.Statement.{statement}
 use Rattle.message.proofs.Walk.taken_in.Tie as tie
 

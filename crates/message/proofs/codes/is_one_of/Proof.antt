@@ -3,11 +3,6 @@ use Prim.Native.Nat.{_-_}
 use Rattle.message.proofs.Steps.{OneOfInv, ones}
 use borrow.Author.Needs.{needs}
 use lib.ListN.{length}
--- The loop looks at one number a turn (`OneOfInv`).
--- The loop looks at one number a turn (`OneOfInv`).
--- The loop looks at one number a turn (`OneOfInv`).
--- The loop looks at one number a turn (`OneOfInv`).
--- The loop looks at one number a turn (`OneOfInv`).
 use Rattle.message.proofs.codes.is_one_of.Statement.{statement}
 use Rattle.message.proofs.codes.is_one_of.Tie as tie
 

@@ -1,11 +1,6 @@
 -- Three lists, one after the other (`filled-is`).
 use Rattle.message.proofs.Steps.{filled-is}
 use borrow.Author.Needs.{needs}
--- Three lists, one after the other (`filled-is`).
--- Three lists, one after the other (`filled-is`).
--- Three lists, one after the other (`filled-is`).
--- Three lists, one after the other (`filled-is`).
--- Three lists, one after the other (`filled-is`).
 use Rattle.message.proofs.options.exactly_filled.Statement.{statement}
 use Rattle.message.proofs.options.exactly_filled.Tie as tie
 

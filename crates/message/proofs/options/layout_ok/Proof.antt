@@ -3,11 +3,6 @@ use Rattle.lists.specs.Both.{ands}
 use Rattle.message.proofs.Steps.{after-got}
 use Rattle.message.specs.Walk.{layoutOk}
 use borrow.Author.Needs.{needs}
--- By the definition, case by case.
--- By the definition, case by case.
--- By the definition, case by case.
--- By the definition, case by case.
--- By the definition, case by case.
 use Rattle.message.proofs.options.layout_ok.Statement.{statement}
 use Rattle.message.proofs.options.layout_ok.Tie as tie
 

@@ -3,11 +3,6 @@ use Rattle.lists.specs.Pick.{picks}
 use Rattle.message.specs.Placed.{pastWithin}
 use borrow.Author.Needs.{needs}
 use native.Mathlib.Omega.{arith}
--- By the definition, case by case.
--- By the definition, case by case.
--- By the definition, case by case.
--- By the definition, case by case.
--- By the definition, case by case.
 use Rattle.message.proofs.options.past_list.Statement.{statement}
 use Rattle.message.proofs.options.past_list.Tie as tie
 

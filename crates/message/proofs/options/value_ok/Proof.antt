@@ -4,11 +4,6 @@ use Rattle.lists.specs.Pick.{gots}
 use Rattle.message.proofs.Steps.{filled-got, length-got}
 use Rattle.message.specs.Walk.{valueOk}
 use borrow.Author.Needs.{needs}
--- By the definition, case by case.
--- By the definition, case by case.
--- By the definition, case by case.
--- By the definition, case by case.
--- By the definition, case by case.
 use Rattle.message.proofs.options.value_ok.Statement.{statement}
 use Rattle.message.proofs.options.value_ok.Tie as tie
 

@@ -6,11 +6,6 @@ use borrow.Author.Needs.{needs}
 use denote.Ref.{now}
 use lib.ListN.{length}
 use mathlib.Core.Path.{refl}
--- The loop takes one option a turn (`Left`).
--- The loop takes one option a turn (`Left`).
--- The loop takes one option a turn (`Left`).
--- The loop takes one option a turn (`Left`).
--- The loop takes one option a turn (`Left`).
 use Rattle.message.proofs.options.walk_options.Statement.{statement}
 use Rattle.message.proofs.options.walk_options.Tie as tie
 

@@ -3,11 +3,6 @@ use Rattle.lists.specs.Pick.{calls, picks}
 use Rattle.message.proofs.Steps.{message-is}
 use Rattle.message.specs.Read.{ended}
 use borrow.Author.Needs.{needs}
--- By the definition, case by case.
--- By the definition, case by case.
--- By the definition, case by case.
--- By the definition, case by case.
--- By the definition, case by case.
 use Rattle.message.proofs.reader.ended.Statement.{statement}
 use Rattle.message.proofs.reader.ended.Tie as tie
 

@@ -3,10 +3,6 @@ use Rattle.lists.specs.Both.{and-gots, ands}
 use Rattle.message.proofs.Steps.{client-got}
 use Rattle.message.specs.Read.{headerOk}
 use borrow.Author.Needs.{needs}
--- By the definition, case by case.
--- By the definition, case by case.
--- By the definition, case by case.
--- By the definition, case by case.
 use Rattle.message.proofs.reader.header_ok.Statement.{statement}
 use Rattle.message.proofs.reader.header_ok.Tie as tie
 

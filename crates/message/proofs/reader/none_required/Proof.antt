@@ -3,11 +3,6 @@ use Rattle.lists.specs.Pick.{picks}
 use Rattle.message.proofs.Steps.{features-filled, features-fit}
 use Rattle.message.specs.Read.{noneRequired}
 use borrow.Author.Needs.{needs}
--- By the definition, case by case.
--- By the definition, case by case.
--- By the definition, case by case.
--- By the definition, case by case.
--- By the definition, case by case.
 use Rattle.message.proofs.reader.none_required.Statement.{statement}
 use Rattle.message.proofs.reader.none_required.Tie as tie
 

@@ -1,11 +1,6 @@
 -- The three lists stand within the value (`third-inside`).
 use Rattle.message.proofs.Steps.{begins-inside, required-is, second-inside, third-inside}
 use borrow.Author.Needs.{needs}
--- The three lists stand within the value (`third-inside`).
--- The three lists stand within the value (`third-inside`).
--- The three lists stand within the value (`third-inside`).
--- The three lists stand within the value (`third-inside`).
--- The three lists stand within the value (`third-inside`).
 use Rattle.message.proofs.reader.required_empty.Statement.{statement}
 use Rattle.message.proofs.reader.required_empty.Tie as tie
 

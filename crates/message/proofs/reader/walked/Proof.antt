@@ -1,11 +1,6 @@
 -- By the stage at which the walk stopped.
 use Rattle.message.proofs.Steps.{walked-as, walked-good}
 use borrow.Author.Needs.{needs}
--- By the stage at which the walk stopped.
--- By the stage at which the walk stopped.
--- By the stage at which the walk stopped.
--- By the stage at which the walk stopped.
--- By the stage at which the walk stopped.
 use Rattle.message.proofs.reader.walked.Statement.{statement}
 use Rattle.message.proofs.reader.walked.Tie as tie
 

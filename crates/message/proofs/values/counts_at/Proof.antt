@@ -1,11 +1,6 @@
 -- The two numbers, one after the other.
 use Rattle.message.proofs.Steps.{counts-is}
 use borrow.Author.Needs.{needs}
--- The two numbers, one after the other.
--- The two numbers, one after the other.
--- The two numbers, one after the other.
--- The two numbers, one after the other.
--- The two numbers, one after the other.
 use Rattle.message.proofs.values.counts_at.Statement.{statement}
 use Rattle.message.proofs.values.counts_at.Tie as tie
 

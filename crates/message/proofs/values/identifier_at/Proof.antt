@@ -6,11 +6,6 @@ use borrow.Author.Needs.{needs}
 use denote.Ref.{now}
 use lib.ListN.{drop, length, replicate}
 use mathlib.Core.Path.{refl}
--- The loop copies one octet a turn (`CopyInv`).
--- The loop copies one octet a turn (`CopyInv`).
--- The loop copies one octet a turn (`CopyInv`).
--- The loop copies one octet a turn (`CopyInv`).
--- The loop copies one octet a turn (`CopyInv`).
 use Rattle.message.proofs.values.identifier_at.Statement.{statement}
 use Rattle.message.proofs.values.identifier_at.Tie as tie
 

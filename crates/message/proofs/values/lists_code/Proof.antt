@@ -2,11 +2,6 @@
 use Prim.Native.Nat.{_-_}
 use Rattle.message.proofs.Steps.{CodesInv, listed}
 use borrow.Author.Needs.{needs}
--- The loop looks at one code a turn (`CodesInv`).
--- The loop looks at one code a turn (`CodesInv`).
--- The loop looks at one code a turn (`CodesInv`).
--- The loop looks at one code a turn (`CodesInv`).
--- The loop looks at one code a turn (`CodesInv`).
 use Rattle.message.proofs.values.lists_code.Statement.{statement}
 use Rattle.message.proofs.values.lists_code.Tie as tie
 

@@ -3,11 +3,6 @@ use Rattle.lists.specs.Both.{and-gots}
 use Rattle.lists.specs.Pick.{eqb-got}
 use Rattle.message.specs.Values.{namesServer}
 use borrow.Author.Needs.{needs}
--- By the definition, case by case.
--- By the definition, case by case.
--- By the definition, case by case.
--- By the definition, case by case.
--- By the definition, case by case.
 use Rattle.message.proofs.values.names_server.Statement.{statement}
 use Rattle.message.proofs.values.names_server.Tie as tie
 

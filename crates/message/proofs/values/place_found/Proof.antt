@@ -2,11 +2,6 @@
 use Rattle.lists.specs.Pick.{picks}
 use Rattle.message.specs.Values.{foundAt}
 use borrow.Author.Needs.{needs}
--- Place 0 is that of no option.
--- Place 0 is that of no option.
--- Place 0 is that of no option.
--- Place 0 is that of no option.
--- Place 0 is that of no option.
 use Rattle.message.proofs.values.place_found.Statement.{statement}
 use Rattle.message.proofs.values.place_found.Tie as tie
 

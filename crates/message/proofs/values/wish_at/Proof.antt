@@ -1,11 +1,6 @@
 -- The four octets of the value.
 use Rattle.message.proofs.Steps.{wish-is}
 use borrow.Author.Needs.{needs}
--- The four octets of the value.
--- The four octets of the value.
--- The four octets of the value.
--- The four octets of the value.
--- The four octets of the value.
 use Rattle.message.proofs.values.wish_at.Statement.{statement}
 use Rattle.message.proofs.values.wish_at.Tie as tie
 

@@ -1,10 +1,6 @@
 -- By the definition, case by case.
 use Rattle.message.proofs.Steps.{allows-above, allows-always, allows-besides}
 use borrow.Author.Needs.{needs}
--- By the definition, case by case.
--- By the definition, case by case.
--- By the definition, case by case.
--- By the definition, case by case.
 use Rattle.message.proofs.codes.MessageType.allows.Statement.{statement}
 use Rattle.message.proofs.codes.MessageType.allows.Tie as tie
 

@@ -1,10 +1,6 @@
 -- One row of the table for each type.
 use Rattle.message.proofs.Steps.{allowances, first-of, later-of}
 use borrow.Author.Needs.{needs}
--- One row of the table for each type.
--- One row of the table for each type.
--- One row of the table for each type.
--- One row of the table for each type.
 use Rattle.message.proofs.codes.MessageType.allows_besides.Statement.{statement}
 use Rattle.message.proofs.codes.MessageType.allows_besides.Tie as tie
 

@@ -1,9 +1,5 @@
 -- The list is that of the definition.
 use borrow.Author.Needs.{needs}
--- The list is that of the definition.
--- The list is that of the definition.
--- The list is that of the definition.
--- The list is that of the definition.
 use Rattle.message.proofs.codes.MessageType.is_client.Statement.{statement}
 use Rattle.message.proofs.codes.MessageType.is_client.Tie as tie
 

@@ -6,11 +6,6 @@ use Rattle.message.specs.Codes.{lengthOk}
 use Rattle.message.specs.Walk.{optionTaken}
 use borrow.Author.Tests.{eq-eqb, le-leb, lt-leb, ne-eqb}
 use native.Mathlib.Omega.{arith}
--- One row of the table for each code.
--- One row of the table for each code.
--- One row of the table for each code.
--- One row of the table for each code.
--- One row of the table for each code.
 use Rattle.message.proofs.codes.OptionCode.length_ok.Statement.{statement}
 use Rattle.message.proofs.codes.OptionCode.length_ok.Tie as tie
 

@@ -1,10 +1,8 @@
--- Sets and their fewest ranges, computed: P1's two addresses, two ranges with a gap, the first and last offset, and all 64.
+-- Specimens: sets and their fewest ranges, computed: P1's two addresses, two ranges with a gap, the first and last offset, and all 64.
 use mathlib.Core.Path.{_≡_, refl}
-use mathlib.Core.List.{List, [], _∷_}
-use lib.ListN.{take}
+use mathlib.Core.List.{[], _∷_}
 use Rattle.lists.specs.Pick.{pick}
 use Rattle.lists.specs.Filter.{filterBy, isIn}
-use Rattle.address_set.specs.declared.Range.{Range}
 use Rattle.address_set.specs.AddressSet.{bit, offsetsFrom, offsets, setOf, intersectionOf, differenceOf, lowestOf, joined, fewestRanges}
 
 p1 : fewestRanges (offsets 3) ≡ record { first = 0; count = 2 } ∷ []

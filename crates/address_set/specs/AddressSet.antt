@@ -1,9 +1,9 @@
--- A set of offsets below 64 is a number below 2 ^ 64: offset a is in it where its bit a is 1. Document 01's addresses of a scope are
+-- Definitions: a set of offsets below 64 is a number below 2 ^ 64: offset a is in it where its bit a is 1. Document 01's addresses of a scope are
 -- offsets from the scope's lowest address.
-use Prim.Native.Nat.{ℕ, zero, suc, _+_, _-_, _*_, _/_, _%_, _^_}
+use Prim.Native.Nat.{ℕ, zero, suc, _+_, _-_, _/_, _%_, _^_}
 use mathlib.Core.Bool.{Bool, true, false, not}
 use mathlib.Core.List.{List, [], _∷_, _++_}
-use lib.Bits.{bitAnd, bitOr}
+use lib.Bits.{bitOr}
 use lib.Dec.{eqb, ltb, leb}
 use lib.ListN.{length, take, replicate, set}
 use Rattle.lists.specs.Pick.{pick}
@@ -106,9 +106,6 @@ unfoldable pub behind : ℕ → Range → ℕ
 behind m r = setOf (filterBy (λ a. leb (r .first + r .count) a) (offsets m))
 
 -- ---- bit forms, which proofs calculate with
--- the offsets of m that are not in n
-unfoldable pub without : ℕ → ℕ → ℕ
-without m n = m - bitAnd m n
 
 -- each is at least m, and each above the one before it
 unfoldable pub risesFrom : ℕ → List ℕ → Bool

@@ -1,5 +1,3 @@
 pub mod AddressSet
-pub mod Laws
-pub mod ListLaws
-pub mod RangeLaws
 pub mod Fewest
+pub mod laws

@@ -1,9 +1,8 @@
 // A set of up to 64 addresses of a scope, as offsets from its lowest address: the bits of a u64.
 ghost use mathlib.Core.Path.{_≡_};
-ghost use mathlib.Core.Bool.{Bool};
 ghost use mathlib.Core.List.{[]};
-ghost use Prim.Native.Nat.{ℕ, _+_, _*_, _^_, _<_, _≤_, min};
-ghost use lib.ListN.{length, take};
+ghost use Prim.Native.Nat.{min};
+ghost use lib.ListN.{length};
 ghost use Rattle.lists.specs.Filter.{isIn};
 ghost use Rattle.address_set.specs.AddressSet.{offsets, setOf, unionOf, intersectionOf, differenceOf, lowestOf, chosen, upTo, readOffsets, withOffset, listed, pushedOffset, fewestRanges, firstRange, behind};
 

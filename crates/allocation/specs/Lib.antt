@@ -1,6 +1,4 @@
 pub mod Rule
 pub mod Closed
 pub mod Loops
-pub mod Sets
-pub mod Granted
-pub mod Kept
+pub mod laws

@@ -1,4 +1,4 @@
--- Document 01's grant rule ("Periods and the grant rule"), over lists of live leases, one list for each tenant. A house is a tenant here,
+-- Definitions: document 01's grant rule ("Periods and the grant rule"), over lists of live leases, one list for each tenant. A house is a tenant here,
 -- its share a reserve. Tenants count from 0, scopes from 1; c is the scope, n the number of tenants, t their leases, a what is asked for.
 use Prim.Native.Nat.{ℕ, _+_, _-_, min}
 use mathlib.Core.Bool.{Bool, _&&_}

@@ -1,4 +1,4 @@
--- Lines one after the other, and the loops that write them.
+-- Laws: lines one after the other, and the loops that write them.
 use mathlib.Core.Bool.{Bool}
 use mathlib.Core.List.{List, [], _++_, _∷_, append-assoc}
 use mathlib.Core.Path.{_∙_, _≡_, ap, ap₂, refl, subst, sym}
@@ -10,10 +10,10 @@ use denote.Ref.{now}
 use lib.Dec.{ltb}
 use lib.ListN.{drop, getD, length}
 use borrow.Author.Tests.{eq-eqb, le-ltb, lt-ltb, ne-eqb}
-use Rattle.address_set.specs.Laws.{length-offsets}
+use Rattle.address_set.specs.laws.Bits.{length-offsets}
 use Rattle.board_text.specs.Board.{Line, bookLines, decimal, dotted, field, headerLine, lengthIn, line, linesTo, refusedLine, roomWithText, scopeLines, textOf}
 use Rattle.lists.specs.Pick.{pick}
-use Rattle.octets.specs.Laws.{wrote-joined, wrote-whole, whole-length, wrote-as, wrote-none}
+use Rattle.octets.specs.laws.Octets.{wrote-joined, wrote-whole, whole-length, wrote-as, wrote-none}
 use Rattle.octets.specs.Octets.{Wrote}
 use Rattle.state.specs.Book.{heldCount, heldOf, inUse, scopeAt, tenantAt}
 use Rattle.state.specs.declared.Lease.{Lease}

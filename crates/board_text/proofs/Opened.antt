@@ -1,13 +1,12 @@
--- What the lent reader gives is what the reader of a file yields.
+-- Laws: what the lent reader gives is what the reader of a file yields.
 use Prim.Native.Nat.{ℕ}
-use mathlib.Core.Path.{_≡_, ap, ap₂, sym, _∙_}
+use mathlib.Core.Path.{_≡_, ap, _∙_}
 use mathlib.Core.List.{List}
-use Rattle.state.specs.declared.Lease.{Lease}
 use Rattle.state.specs.declared.LeaseTable.{LeaseTable}
 use Rattle.state.specs.declared.State.{State}
 use Rattle.state_file.specs.declared.Loaded.{Loaded}
 use Rattle.state_file.specs.StateFile.{readFile}
-use Rattle.records.specs.Files.{blank-read, readBlank}
+use Rattle.records.specs.laws.Files.{blank-read, readBlank}
 use Rattle.records.specs.Records.{tableFrom}
 use Rattle.owned.specs.declared.OwnedFile.{OwnedFile}
 use Rattle.owned.specs.Owned.{ReadsOwned}

@@ -1,4 +1,4 @@
--- What `board` prints (document 01, "Specimens"): a header and, by scope then house, lowest address, house, share, limit, holding.
+-- Definitions: what `board` prints (document 01, "Specimens"): a header and, by scope then house, lowest address, house, share, limit, holding.
 use mathlib.Core.List.{List, [], _++_, _∷_}
 use Prim.Native.Nat.{_%_, _+_, _/_, _≤_, suc, zero, ℕ}
 use lib.Dec.{eqb, ltb}

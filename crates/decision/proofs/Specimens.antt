@@ -1,9 +1,9 @@
--- Document 01's specimens P1 to P9 and those of skew, with Resend, RELEASE and DISCOVER, by computation: one table of cases.
+-- Specimens: document 01's specimens P1 to P9 and those of skew, with Resend, RELEASE and DISCOVER, by computation: one table of cases.
 use mathlib.Core.Path.{_≡_, refl}
-use mathlib.Core.List.{List, [], _∷_, _++_, map}
+use mathlib.Core.List.{List, [], _∷_}
 use mathlib.Core.Bool.{Bool, true, false, not, _&&_}
-use Prim.Native.Nat.{ℕ, _+_, _*_}
-use lib.ListN.{length, replicate}
+use Prim.Native.Nat.{ℕ}
+use lib.ListN.{replicate}
 use lib.Dec.{eqb}
 use Rattle.lists.specs.Pick.{pick}
 use Rattle.lists.specs.Arranged.{insertIn}
@@ -20,9 +20,8 @@ use Rattle.state.specs.declared.LeaseTable.{LeaseTable}
 use Rattle.state.specs.Book.{byIdentifier, zeroScope, laidOut, tableOf, insertOf, removeOf, replaceOf, liveOf, dropped, unionAll, addressesOf, overlaps, usedIn, withHeld, committed}
 use Rattle.allocation.specs.Rule.{takenOf, busyIn, allowed, grantOf, suffices}
 use Rattle.decision.specs.declared.Verdict.{Verdict}
-use Rattle.decision.specs.declared.Reply.{Reply}
-use Rattle.decision.specs.declared.Reply.the-variants.{Nothing, Offer, LeaseAck, ReleaseAck, InfoAck, Nak}
-use Rattle.decision.specs.Parts.{isNew, hasPeriod, holdsOf, recordedOf, resends, scopePlace, knowsScope, lacksScope, zeroLength, badCounts, lacksCurrent, error1Of, skewed, error2Of, error3Of, wishedOr, startOf, lengthOf, endOf, askAt, fitsNew, newWith, newAt, newOf, othersBusy, fitsRenewed, renewedTo, renewedOf, proposalOf, error0Of, replyType, leaseFrom, withLease, plainReply, nakWith, discardWith, refusalOf}
+use Rattle.decision.specs.Parts.{isNew, hasPeriod, holdsOf, recordedOf, resends, scopePlace, knowsScope, lacksScope, zeroLength, badCounts, lacksCurrent, error1Of, skewed, error2Of, error3Of, wishedOr, startOf, lengthOf, endOf, askAt, fitsNew, newWith, newAt, newOf, othersBusy, fitsRenewed, renewedTo, renewedOf, proposalOf, error0Of, leaseFrom, withLease, plainReply, nakWith, discardWith, refusalOf}
+use Rattle.decision.specs.laws.Code.{replyType}
 use Rattle.decision.specs.Decide.{leasedOf, plainOf, settledOf, judgedOf, decideOf}
 
 -- scope 239.192.0.0, size 4; tenant 1 reserve 2 limit 3; tenant 2 reserve 1 limit 4

@@ -1,8 +1,8 @@
--- Document 01's decision "after test 7, in the order written, within an error too", for a book whose clock is raised and whose ended
+-- Definitions: document 01's decision "after test 7, in the order written, within an error too", for a book whose clock is raised and whose ended
 -- leases are dropped: s is its state, b its leases, h the tenant of the client's address, m what the message says.
 use Prim.Native.Nat.{ℕ}
-use mathlib.Core.Bool.{Bool, true, false}
-use mathlib.Core.List.{List, []}
+use mathlib.Core.Bool.{Bool}
+use mathlib.Core.List.{List}
 use lib.Dec.{eqb}
 use Rattle.lists.specs.Pick.{pick}
 use Rattle.message.specs.declared.Fields.{Fields}
@@ -13,8 +13,7 @@ use Rattle.state.specs.Book.{insertOf, removeOf, replaceOf}
 use Rattle.decision.specs.declared.Proposal.{Proposal}
 use Rattle.decision.specs.declared.Verdict.{Verdict}
 use Rattle.decision.specs.declared.Decided.{Decided}
-use Rattle.decision.specs.declared.Reply.{Reply}
-use Rattle.decision.specs.declared.Reply.the-variants.{Nothing, Offer, LeaseAck, ReleaseAck, InfoAck, Nak}
+use Rattle.decision.specs.declared.Reply.the-variants.{Offer, LeaseAck, ReleaseAck, InfoAck}
 use Rattle.decision.specs.Parts.{hasPeriod, ownOf, leaseIdIn, holdsOf, recordedOf, resends, error1Of, error2Of, error3Of, proposalOf, error0Of, leaseFrom, updated, withLease, plainReply, refusalOf}
 
 -- a verdict that leaves the leases as they are

@@ -1,9 +1,9 @@
--- The tests and the parts of document 01's decision, each on plain values. A house is a tenant here; h counts from 0.
+-- Definitions: the tests and the parts of document 01's decision, each on plain values. A house is a tenant here; h counts from 0.
 use Prim.Native.Nat.{ℕ, _+_, _-_, _<_, min, max}
 use mathlib.Core.Path.{_≡_}
-use mathlib.Core.Bool.{Bool, true, false, not, _&&_, _||_}
-use mathlib.Core.List.{List, []}
-use lib.Dec.{ltb, leb, eqb}
+use mathlib.Core.Bool.{Bool, not, _&&_, _||_}
+use mathlib.Core.List.{List}
+use lib.Dec.{ltb, eqb}
 use lib.Bits.{bitAnd}
 use lib.ListN.{take, length}
 use Rattle.lists.specs.Pick.{pick}
@@ -189,14 +189,6 @@ unfoldable pub error0Of : State → Proposal → Bool
 error0Of s p = ltb (s .clock + horizon) (p .start) || (ltb 4294967295 (p .end) || not (p .fits))
 
 -- ---- the lease, and the verdicts
--- the type number of each reply: OFFER, ACK and NAK; 0 where none is sent
-unfoldable pub replyType : Reply → ℕ
-replyType Nothing = 0
-replyType Offer = 2
-replyType LeaseAck = 5
-replyType ReleaseAck = 5
-replyType InfoAck = 5
-replyType Nak = 6
 
 -- with the message's type and transaction id; error 0 has kept the end within 32 bits
 unfoldable pub leaseFrom : Fields → Proposal → Lease
@@ -228,3 +220,14 @@ discardWith n = record { outcome = n; reply = Nothing; error = 0; scope = 0; sta
 -- an error is a "NAK for types 3, 4, 7"; discard 8 is "DISCOVER or GETINFO that draws an error"
 unfoldable pub refusalOf : Fields → ℕ → Verdict
 refusalOf m e = pick (eqb (m .kind) 1) (discardWith 8) (pick (eqb (m .kind) 8) (discardWith 8) (nakWith e))
+
+-- ---- "DISCOVER .. draws an OFFER exactly if the same message sent as a REQUEST would get a new grant now, with that period and those ranges"
+
+-- an ACK's lease as an OFFER's; anything else as discard 8
+abbrev pub asOffer : Reply → Verdict → Verdict
+asOffer LeaseAck v = record { outcome = 0; reply = Offer; error = 0; scope = v .scope; start = v .start; end = v .end; addresses = v .addresses }
+asOffer Nothing v = discardWith 8
+asOffer Offer v = discardWith 8
+asOffer ReleaseAck v = discardWith 8
+asOffer InfoAck v = discardWith 8
+asOffer Nak v = discardWith 8

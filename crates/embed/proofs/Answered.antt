@@ -1,4 +1,4 @@
--- What the functions on one record of a list of calls are proved by: the numbers in it, why it is not answered, and its answer in a buffer.
+-- Laws: what the functions on one record of a list of calls are proved by: the numbers in it, why it is not answered, and its answer in a buffer.
 use mathlib.Core.Path.{_≡_, refl, sym, ap, _∙_, subst}
 use mathlib.Core.Bool.{Bool, true, false}
 use mathlib.Core.List.{List, [], _∷_, _++_, append-assoc}
@@ -10,9 +10,10 @@ use lib.ListN.{drop, length, length-append, length-drop, length-take, take, take
 use lib.Seq.{drop-append-le, drop-at, drop-drop, getD-drop, length-take-le, take-append-le, take-take}
 use borrow.Author.Tests.{le-ltb, lt-ltb, ltb-false}
 use Rattle.reply.specs.Reply.{leastRoom}
-use Rattle.lists.specs.Pick.{pick, pick-false, pick-lt, pick-not-lt, pick-true}
+use Rattle.lists.specs.Pick.{pick}
+use Rattle.lists.specs.laws.Pick.{pick-false, pick-lt, pick-not-lt, pick-true}
 use Rattle.octets.specs.Octets.{at16, at32, octets16, put, Wrote}
-use Rattle.octets.specs.Laws.{put-put}
+use Rattle.octets.specs.laws.Octets.{put-put}
 use Rattle.state.specs.declared.Lease.{Lease}
 use Rattle.state.specs.declared.State.{State}
 use Rattle.server.specs.Serve.{Call}

@@ -1,4 +1,4 @@
--- What the functions on a file in a buffer are proved by: the book of its first n octets, and the answer and the buffer after a call or a list
+-- Laws: what the functions on a file in a buffer are proved by: the book of its first n octets, and the answer and the buffer after a call or a list
 -- of calls, from what the calls below gave.
 use mathlib.Core.Path.{_≡_, refl, sym, ap, _∙_}
 use mathlib.Core.List.{List, [], _++_}
@@ -6,13 +6,13 @@ use Prim.Native.Nat.{ℕ, _≤_, _<_}
 use native.Mathlib.Omega.{arith}
 use lib.ListN.{drop, length, take}
 use lib.Seq.{length-take-le}
-use Rattle.lists.specs.Pick.{pick-eq, pick-lt, pick-not-eq, pick-not-lt}
+use Rattle.lists.specs.laws.Pick.{pick-eq, pick-lt, pick-not-eq, pick-not-lt}
 use Rattle.state.specs.declared.Lease.{Lease}
 use Rattle.state.specs.declared.State.{State}
 use Rattle.server.specs.Serve.{Call}
 use Rattle.state_file.specs.declared.Written.{Written}
 use Rattle.state_file.specs.StateFile.{readFile}
-use Rattle.records.specs.Files.{blank-accepted, blank-refusal, readBlank}
+use Rattle.records.specs.laws.Files.{blank-accepted, blank-refusal, readBlank}
 use Rattle.records.specs.Lent.{LentAnswer, LentReading, roomLent, serveLent, writtenLent}
 use Rattle.owned.specs.declared.OwnedCall.{OwnedCall}
 use Rattle.owned.specs.declared.OwnedFile.{OwnedFile}

@@ -1,4 +1,4 @@
--- What the loop over a list of calls is proved by: one record is answered and the rest goes on, and what the loop keeps.
+-- Laws: what the loop over a list of calls is proved by: one record is answered and the rest goes on, and what the loop keeps.
 use mathlib.Core.Path.{_≡_, refl, sym, ap, _∙_}
 use mathlib.Core.List.{List, [], _++_, append-assoc, append-nil}
 use Prim.Native.Nat.{ℕ, zero, suc, _+_, _-_, _≤_, _<_}
@@ -7,7 +7,8 @@ use native.Mathlib.Nat.{add-assoc, add-zero, zero-add}
 use lib.Dec.{eqb}
 use lib.ListN.{drop, length, length-append, length-drop, take, take-append-drop}
 use lib.Seq.{drop-at, drop-drop, length-take-le, take-at}
-use Rattle.lists.specs.Pick.{pick, pick-eq, pick-not-eq}
+use Rattle.lists.specs.Pick.{pick}
+use Rattle.lists.specs.laws.Pick.{pick-eq, pick-not-eq}
 use Rattle.octets.specs.Octets.{put}
 use Rattle.state.specs.declared.Lease.{Lease}
 use Rattle.state.specs.declared.State.{State}

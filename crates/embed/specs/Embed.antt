@@ -1,4 +1,4 @@
--- What the functions for a host program in C or Rust answer: numbers and octets only. A campus file is held in a buffer of the caller's.
+-- Definitions: what the functions for a host program in C or Rust answer: numbers and octets only. A campus file is held in a buffer of the caller's.
 -- The buffer is tested first: 23, document 01's short room, below 14,628 octets; 24 a length past its end; then 20 and 21. Of a list of calls:
 -- 24 a record that is cut off, then 27 fewer than 515 octets left for the next answer.
 use Prim.Native.Nat.{ℕ, zero, suc, _+_, _-_, min}
@@ -13,7 +13,6 @@ use Rattle.octets.specs.Octets.{at16, at32, octets16}
 use Rattle.state.specs.declared.Lease.{Lease}
 use Rattle.state.specs.declared.State.{State}
 use Rattle.server.specs.Serve.{Call}
-use Rattle.state_file.specs.declared.Loaded.{Loaded}
 use Rattle.state_file.specs.declared.Written.{Written}
 use Rattle.state_file.specs.StateFile.{readFile}
 use Rattle.records.specs.Records.{recordsOf}

@@ -1,4 +1,4 @@
--- What each function promises of its answer and of what was lent to it.
+-- Definitions: what each function promises of its answer and of what was lent to it.
 use Prim.Native.Nat.{ℕ}
 use mathlib.Core.Path.{_≡_}
 use mathlib.Core.List.{List, _++_}

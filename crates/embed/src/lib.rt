@@ -4,7 +4,6 @@ ghost use mathlib.Core.Path.{_≡_};
 ghost use Prim.Native.Nat.{_+_, _≤_, min};
 ghost use lib.ListN.{drop, length};
 ghost use Rattle.board_text.specs.Board.{lengthIn, roomWithText};
-ghost use Rattle.server.specs.Serve.{Call};
 ghost use Rattle.state_file.specs.StateFile.{readFile};
 ghost use Rattle.records.specs.Lent.{serveLent};
 ghost use Rattle.reply.specs.Reply.{leastRoom};

@@ -1,15 +1,15 @@
--- Demand 3: a new REQUEST within the unused reserve is granted on every sound book, and so after any list of calls.
+-- Proof of demand 3: a new REQUEST within the unused reserve is granted on every sound book, and so after any list of calls.
 use Prim.Native.Nat.{ℕ, _+_, _-_, _≤_, _<_, min}
-use mathlib.Core.Path.{_≡_, refl, sym, ap, ap₂, _∙_}
+use mathlib.Core.Path.{_≡_, refl, ap, ap₂, _∙_}
 use mathlib.Core.Bool.{Bool, true, false, not, _&&_, _||_}
-use mathlib.Core.List.{List, [], _∷_}
+use mathlib.Core.List.{List, []}
 use native.Mathlib.Omega.{arith}
 use lib.Dec.{ltb, eqb}
 use lib.ListN.{length}
 use lib.Seq.{getD-set-same, getD-set-other}
-use borrow.Author.Tests.{eq-eqb, eqb-true, eqb-false, lt-ltb, le-ltb, ltb-true, ltb-false, le-leb}
+use borrow.Author.Tests.{eq-eqb, eqb-false, lt-ltb, le-ltb, ltb-true, ltb-false, le-leb}
 use Rattle.lists.specs.Pick.{pick}
-use Rattle.lists.specs.Both.{and-both, and-parts}
+use Rattle.lists.specs.laws.Both.{and-both, and-parts}
 use Rattle.address_set.specs.AddressSet.{offsets}
 use Rattle.message.specs.declared.Fields.{Fields}
 use Rattle.message.specs.Read.{readOf}
@@ -20,16 +20,16 @@ use Rattle.state.specs.declared.Lease.{Lease}
 use Rattle.state.specs.declared.LeaseTable.{LeaseTable}
 use Rattle.state.specs.declared.State.{State}
 use Rattle.state.specs.Book.{idOf, inUse, insertOf, laidOut, leasesOf, removeOf, scopeAt}
-use Rattle.state.specs.Layout.{read-back}
+use Rattle.state.specs.laws.Layout.{read-back}
 use Rattle.soundness.specs.Sound.{scopesIn, soundB, tenantsIn}
-use Rattle.soundness.specs.Book.{Sound, sound-lists}
+use Rattle.soundness.specs.laws.Book.{Sound, sound-lists}
 use Rattle.allocation.specs.declared.Ask.{Ask}
 use Rattle.allocation.specs.declared.Grant.{Grant}
 use Rattle.allocation.specs.Rule.{grantOf, suffices, unusedReserve}
-use Rattle.allocation.specs.Granted.{grant-exists, guaranteed}
+use Rattle.allocation.specs.laws.Granted.{grant-exists, guaranteed}
 use Rattle.decision.specs.declared.Decided.{Decided}
 use Rattle.decision.specs.declared.Reply.the-variants.{LeaseAck}
-use Rattle.decision.specs.Kept.{Passed, passed}
+use Rattle.decision.specs.laws.Kept.{Passed, passed}
 use Rattle.decision.specs.Parts.{horizon, defaultLease, askAt, badCounts, error0Of, error1Of, error2Of, error3Of, fitsNew, hasPeriod, holdsOf, isNew, knowsScope, leaseFrom, lengthOf, newAt, newOf, newWith, ownOf, proposalOf, recordedOf, resends, scopePlace, startOf, withLease}
 use Rattle.decision.specs.Decide.{changed, decideOf, judgedOf, leasedOf, settledOf}
 use Rattle.server.specs.Serve.{Answer, Call, answered, atClock, forServer, headOf, replyOf, serveOf, withReading}

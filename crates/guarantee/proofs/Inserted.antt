@@ -1,4 +1,4 @@
--- A lease that is inserted leaves the tenant's other leases as they were.
+-- Laws: a lease that is inserted leaves the tenant's other leases as they were.
 use mathlib.Core.Path.{_≡_, refl, sym, ap, _∙_}
 use mathlib.Core.Bool.{Bool, true, false, not}
 use mathlib.Core.List.{List, [], _∷_}
@@ -7,8 +7,9 @@ use native.Mathlib.Omega.{arith}
 use lib.ListN.{length}
 use borrow.Author.Tests.{ltb-false}
 use Rattle.lists.specs.Pick.{pick}
-use Rattle.lists.specs.All.{allBy, pairsBy, all-cons}
-use Rattle.lists.specs.Both.{and-parts, pairs-and}
+use Rattle.lists.specs.All.{allBy, pairsBy}
+use Rattle.lists.specs.laws.All.{all-cons}
+use Rattle.lists.specs.laws.Both.{and-parts, pairs-and}
 use Rattle.lists.specs.Place.{placeBy}
 use Rattle.message.specs.declared.Fields.{Fields}
 use Rattle.state.specs.declared.Lease.{Lease}
@@ -16,12 +17,12 @@ use Rattle.state.specs.declared.LeaseTable.{LeaseTable}
 use Rattle.state.specs.declared.State.{State}
 use Rattle.state.specs.Book.{differ, idOf, insertOf, leasesOf, named, ordered, other, placeOf, removeOf}
 use Rattle.soundness.specs.Sound.{compatible}
-use Rattle.soundness.specs.Book.{Sound, pairOk}
-use Rattle.soundness.specs.Added.{pairs-at, rises-at}
+use Rattle.soundness.specs.laws.Book.{Sound, pairOk}
+use Rattle.soundness.specs.laws.Added.{pairs-at, rises-at}
 use Rattle.decision.specs.Parts.{holdsOf, ownOf}
 use Rattle.decision.specs.Parts as parts
-use Rattle.decision.specs.Kept.{own-is}
-use Rattle.decision.specs.Others.{insert-leaves}
+use Rattle.decision.specs.laws.Kept.{own-is}
+use Rattle.decision.specs.laws.Others.{insert-leaves}
 
 -- an identifier without a place is no lease's
 place-none : {A : Type 0} (t : A → Bool) (l : List A) → length l ≤ placeBy t l → allBy (λ x. not (t x)) l ≡ true

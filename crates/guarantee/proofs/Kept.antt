@@ -1,4 +1,4 @@
--- Any list of calls keeps a sound book sound: a call raises the clock and drops ended leases, and a decision keeps the leases sound.
+-- Laws: any list of calls keeps a sound book sound: a call raises the clock and drops ended leases, and a decision keeps the leases sound.
 use Prim.Native.Nat.{ℕ, _≤_, _<_}
 use mathlib.Core.Path.{_≡_, refl, sym, ap, _∙_}
 use mathlib.Core.Bool.{Bool, true, false, _&&_}
@@ -10,29 +10,24 @@ use borrow.Author.Tests.{eqb-true, ltb-true, leb-true}
 use Rattle.reply.specs.Reply.{leastRoom}
 use Rattle.lists.specs.Pick.{pick}
 use Rattle.lists.specs.All.{allBy}
-use Rattle.lists.specs.Both.{and-parts}
+use Rattle.lists.specs.laws.Both.{and-parts}
 use Rattle.message.specs.declared.Fields.{Fields}
-use Rattle.message.specs.declared.Found.the-variants.{At, Absent}
-use Rattle.message.specs.declared.Identifier.{Identifier}
-use Rattle.message.specs.declared.Reading.{Reading}
-use Rattle.message.specs.declared.Stage.{Stage}
-use Rattle.message.specs.declared.Stage.the-variants.{Walking, Done, Broken}
-use Rattle.message.specs.Placed.{pick-cases}
-use Rattle.message.specs.Read.{ended, readOf}
+use Rattle.message.specs.laws.Placed.{pick-cases}
+use Rattle.message.specs.Read.{readOf}
 use Rattle.state.specs.declared.Book.{Book}
 use Rattle.state.specs.declared.Lease.{Lease}
 use Rattle.state.specs.declared.LeaseTable.{LeaseTable}
 use Rattle.state.specs.declared.State.{State}
 use Rattle.state.specs.Book.{advanced, dropped, inUse, laidOut, leasesOf, liveOf, scopesOf, tableOf}
-use Rattle.state.specs.Layout.{table-back}
+use Rattle.state.specs.laws.Layout.{table-back}
 use Rattle.soundness.specs.Sound.{oneTo, countsB, rule3, rule4, rule5, rule6, settingsB, sizeB, soundB, tenantsIn}
-use Rattle.soundness.specs.Book.{Sound, settingsOk, sound-lists}
-use Rattle.soundness.specs.Kept.{advanced-sound}
+use Rattle.soundness.specs.laws.Book.{Sound, settingsOk, sound-lists}
+use Rattle.soundness.specs.laws.Kept.{advanced-sound}
 use Rattle.decision.specs.declared.Decided.{Decided}
 use Rattle.decision.specs.Parts.{updated}
 use Rattle.decision.specs.Decide.{decideOf, judgedOf, leasedOf, plainOf, settledOf}
-use Rattle.decision.specs.Kept.{GoodId, decision-sound}
-use Rattle.decision.specs.Reads.{read-id}
+use Rattle.decision.specs.laws.Kept.{GoodId, decision-sound}
+use Rattle.decision.specs.laws.Reads.{read-id}
 use Rattle.server.specs.Serve.{Answer, Call, answered, atClock, forServer, serveOf, tenantOf, withReading}
 use Rattle.guarantee.specs.Statement.{SoundBook, WithinLimits, bookAt, run}
 

@@ -1,4 +1,4 @@
--- The OFFER rule about datagrams: the same datagram with its type octet set to REQUEST is read alike but for its type.
+-- Proof of the OFFER rule about datagrams: the same datagram with its type octet set to REQUEST is read alike but for its type.
 use Prim.Native.Nat.{ℕ, zero, suc, _+_, _-_, _*_, _/_, _≤_, _<_}
 use mathlib.Core.Path.{_≡_, refl, sym, ap, ap₂, _∙_, subst}
 use mathlib.Core.Bool.{Bool, true, false, not, _&&_, _||_}
@@ -10,21 +10,21 @@ use lib.Dec.{ltb, leb, eqb}
 use lib.ListN.{length, getD, set, take, drop, replicate, getD-replicate, List·getD-eq-default}
 use borrow.Author.Tests.{eqb-true, ltb-false, ne-eqb}
 use Rattle.lists.specs.Pick.{pick}
-use Rattle.lists.specs.All.{allTo, to-same}
+use Rattle.lists.specs.All.{allTo}
+use Rattle.lists.specs.laws.All.{to-same}
 use Rattle.lists.specs.Filter.{isIn}
 use Rattle.octets.specs.Octets.{at16, at32, be16}
-use Rattle.message.specs.Codes.{allowedIn, allows, clientTypes, lengthOk}
-use Rattle.message.specs.Placed.{pick-cases}
+use Rattle.message.specs.Codes.{allowedIn, allows, lengthOk}
+use Rattle.message.specs.laws.Placed.{pick-cases}
 use Rattle.message.specs.Read.{byStage, ended, headerOk, messageOf, noneRequired, readOf, requiredEmpty}
 use Rattle.message.specs.Read as read
-use Rattle.message.specs.Values.{allAllowed, allowedAt, codesFrom, countsOf, fieldsOf, findOf, foundAt, identifierOf, isFound, namesOf, namesServer, serverOk, timesOf, wishOf}
-use Rattle.message.specs.Walk.{afterAt, broken, codeAt, done, exactlyFilled, layoutOk, lengthAt, moved, onward, pastList, start, stepOf, optionTaken, valueOk, walkFrom, walkOf}
+use Rattle.message.specs.Values.{allowedAt, codesFrom, countsOf, fieldsOf, findOf, foundAt, identifierOf, isFound, namesOf, namesServer, serverOk, timesOf, wishOf}
+use Rattle.message.specs.Walk.{broken, codeAt, exactlyFilled, layoutOk, lengthAt, onward, pastList, start, stepOf, optionTaken, valueOk, walkFrom, walkOf}
 use Rattle.message.specs.declared.Counts.{Counts}
 use Rattle.message.specs.declared.Fields.{Fields}
 use Rattle.message.specs.declared.Found.{Found}
 use Rattle.message.specs.declared.Found.the-variants.{At, Absent}
 use Rattle.message.specs.declared.Identifier.{Identifier}
-use Rattle.message.specs.declared.Message.{Message}
 use Rattle.message.specs.declared.Reading.{Reading}
 use Rattle.message.specs.declared.Stage.{Stage}
 use Rattle.message.specs.declared.Stage.the-variants.{Walking, Done, Broken}
@@ -37,9 +37,9 @@ use Rattle.state.specs.declared.State.{State}
 use Rattle.state.specs.Book.{placeOf, zeroLease}
 use Rattle.decision.specs.declared.Decided.{Decided}
 use Rattle.decision.specs.Decide.{decideOf, judgedOf}
-use Rattle.decision.specs.Ensured.{asOffer, offered-as-requested, sentAs}
-use Rattle.decision.specs.Parts.{badCounts, discardWith, error1Of, holdsOf, isNew, lacksCurrent, lacksScope, leaseIdIn, ownOf, recordedOf, refusalOf, resends, zeroLength}
-use Rattle.guarantee.specs.Statement.{OfferAt, OfferRule, asRequest, wordsOf}
+use Rattle.decision.specs.Parts.{asOffer, badCounts, discardWith, error1Of, holdsOf, isNew, lacksCurrent, lacksScope, leaseIdIn, ownOf, recordedOf, refusalOf, resends, zeroLength}
+use Rattle.decision.specs.laws.Ensured.{offered-as-requested, sentAs}
+use Rattle.guarantee.specs.Statement.{OfferAt, OfferRule, wordsOf}
 
 -- ---- a place of an option: 0, or past the header
 Fine : ℕ → Type 0

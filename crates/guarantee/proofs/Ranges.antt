@@ -1,18 +1,19 @@
--- The Ranges of an ACK name the addresses granted: what the octets of option 10 need of a sound book and of a datagram that was read.
+-- Laws: the Ranges of an ACK name the addresses granted: what the octets of option 10 need of a sound book and of a datagram that was read.
 use Prim.Native.Nat.{ℕ, zero, suc, _+_, _≤_, _<_, _^_}
-use mathlib.Core.Path.{_≡_, refl, sym, ap, _∙_, subst}
-use mathlib.Core.Bool.{Bool, true, false, _&&_}
+use mathlib.Core.Path.{_≡_, refl, sym, ap, _∙_}
+use mathlib.Core.Bool.{Bool, true, false}
 use mathlib.Core.List.{List, [], _∷_, _++_, map}
 use native.Mathlib.Omega.{arith}
 use lib.Dec.{ltb, leb}
 use lib.ListN.{length, take, getD, length-take, List·getD-eq-default}
 use lib.Seq.{getD-take}
 use borrow.Author.Tests.{leb-true, ltb-true, ltb-false}
-use Rattle.lists.specs.All.{All, allBy, all-head}
-use Rattle.lists.specs.Both.{and-parts}
-use Rattle.address_set.specs.AddressSet.{chosen, offsets, setOf}
-use Rattle.address_set.specs.Laws.{offsets-of-zero}
-use Rattle.address_set.specs.ListLaws.{offsets-small, setOf-small}
+use Rattle.lists.specs.All.{All, allBy}
+use Rattle.lists.specs.laws.All.{all-head}
+use Rattle.lists.specs.laws.Both.{and-parts}
+use Rattle.address_set.specs.AddressSet.{chosen, offsets}
+use Rattle.address_set.specs.laws.Bits.{offsets-of-zero}
+use Rattle.address_set.specs.laws.Offsets.{offsets-small, setOf-small}
 use Rattle.message.specs.Read.{readOf}
 use Rattle.message.specs.Values.{fieldsOf}
 use Rattle.reply.specs.declared.Head.{Head}
@@ -26,12 +27,11 @@ use Rattle.state.specs.declared.Scope.{Scope}
 use Rattle.state.specs.declared.State.{State}
 use Rattle.state.specs.Book.{scopeAt, scopesOf, zeroScope}
 use Rattle.soundness.specs.Sound.{poolB, rule3, rule4, scopesIn}
-use Rattle.soundness.specs.Book.{Sound, settings-front}
-use Rattle.soundness.specs.Facts.{scopes-in}
+use Rattle.soundness.specs.laws.Book.{Sound, settings-front}
+use Rattle.soundness.specs.laws.Facts.{scopes-in}
 use Rattle.allocation.specs.declared.Ask.{Ask}
 use Rattle.allocation.specs.Rule.{freeOf, grantOf, nobodysOf}
-use Rattle.decision.specs.Kept.{GoodId}
-use Rattle.decision.specs.Reads.{read-array, read-id}
+use Rattle.decision.specs.laws.Reads.{read-array, read-id}
 use Rattle.server.specs.Serve.{headOf}
 
 -- ---- a set of 64 bits with at least one

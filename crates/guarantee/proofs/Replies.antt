@@ -1,35 +1,34 @@
--- Demand 1, of the reply and of the leases: outcome 0 has a reply, and a discard leaves the live leases.
-use Prim.Native.Nat.{ℕ, zero, suc, _+_, _-_, _≤_, _<_, _^_, max}
+-- Proof of demand 1, of the reply and of the leases: outcome 0 has a reply, and a discard leaves the live leases.
+use Prim.Native.Nat.{ℕ, zero, suc, _≤_, max}
 use mathlib.Core.Path.{_≡_, refl, sym, ap, _∙_, subst}
-use mathlib.Core.Bool.{Bool, true, false, not, _&&_, _||_}
-use mathlib.Core.List.{List, [], _∷_, _++_, map}
+use mathlib.Core.List.{List, [], _∷_, map}
 use native.Mathlib.Omega.{arith}
-use lib.Dec.{ltb, leb, eqb}
-use lib.ListN.{length, getD, take, length-append}
-use borrow.Author.Tests.{eqb-true, eqb-false, ltb-true}
+use lib.Dec.{ltb, eqb}
+use lib.ListN.{length, getD, length-append}
+use borrow.Author.Tests.{eqb-true, eqb-false}
 use Rattle.lists.specs.Pick.{pick}
-use Rattle.lists.specs.Filter.{filterBy, filter-none-out, filter-passes, isIn}
+use Rattle.lists.specs.Filter.{filterBy, isIn}
+use Rattle.lists.specs.laws.Filter.{filter-none-out, filter-passes}
 use Rattle.message.specs.declared.Fields.{Fields}
-use Rattle.message.specs.Placed.{pick-cases}
+use Rattle.message.specs.laws.Placed.{pick-cases}
 use Rattle.message.specs.Read.{readOf}
-use Rattle.message.specs.Values.{fieldsOf}
 use Rattle.reply.specs.Reply.{leastRoom, Option, infoAckOf, infoOptions, leaseAckOf, leaseOptions, messageOctets, nakOf, nakOptions, offerOf, option, optionOctets, optionsOctets, releaseAckOf, releaseOptions}
 use Rattle.reply.proofs.Short.{info-ack-short, lease-ack-short, nak-short, offer-short, release-ack-short}
 use Rattle.state.specs.declared.Book.{Book}
 use Rattle.state.specs.declared.Lease.{Lease}
 use Rattle.state.specs.declared.LeaseTable.{LeaseTable}
 use Rattle.state.specs.declared.State.{State}
-use Rattle.state.specs.Book.{advanced, dropped, inUse, laidOut, leasesOf, live, liveOf, raised, tableOf}
-use Rattle.state.specs.Layout.{table-back}
+use Rattle.state.specs.Book.{advanced, dropped, leasesOf, live, liveOf, raised, tableOf}
+use Rattle.state.specs.laws.Layout.{table-back}
 use Rattle.soundness.specs.Sound.{soundB, tenantsIn}
 use Rattle.decision.specs.declared.Decided.{Decided}
 use Rattle.decision.specs.declared.Proposal.{Proposal}
 use Rattle.decision.specs.declared.Reply.{Reply}
 use Rattle.decision.specs.declared.Reply.the-variants.{Nothing, Offer, LeaseAck, ReleaseAck, InfoAck, Nak}
 use Rattle.decision.specs.declared.Verdict.{Verdict}
-use Rattle.decision.specs.Kept.{own-is}
-use Rattle.decision.specs.Reads.{read-array}
-use Rattle.decision.specs.Parts.{discardWith, error0Of, nakWith, ownOf, plainReply, proposalOf, refusalOf, withLease}
+use Rattle.decision.specs.laws.Kept.{own-is}
+use Rattle.decision.specs.laws.Reads.{read-array}
+use Rattle.decision.specs.Parts.{discardWith, error0Of, nakWith, ownOf, plainReply, refusalOf, withLease}
 use Rattle.decision.specs.Decide.{decideOf, judgedOf, leasedOf, plainOf, settledOf}
 use Rattle.server.specs.Serve.{Answer, Call, answered, atClock, byReply, discarded, forServer, headOf, infoOf, replyOf, serveOf, tenantOf, termsOf, withReading}
 use Rattle.guarantee.specs.Statement.{Answered, Demand1Replies, Demand1Leases, IsReply, bookAt, liveUnder}

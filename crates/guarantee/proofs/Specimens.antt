@@ -1,4 +1,4 @@
--- Demand 3's premises can be met: document 01's specimen P3, after P1, is a new REQUEST within the unused share, by computation.
+-- Specimens: demand 3's premises can be met: document 01's specimen P3, after P1, is a new REQUEST within the unused share, by computation.
 use mathlib.Core.Path.{refl}
 use mathlib.Core.List.{List, [], _∷_, _++_}
 use Prim.Native.Nat.{ℕ}

@@ -1,43 +1,41 @@
--- Demand 1, of the reply's layout: the reader's walk over a reply comes to its End.
-use Prim.Native.Nat.{ℕ, zero, suc, _+_, _-_, _≤_, _<_, _^_, min}
+-- Proof of demand 1, of the reply's layout: the reader's walk over a reply comes to its End.
+use Prim.Native.Nat.{ℕ, zero, suc, _+_, _≤_, _<_, _^_}
 use mathlib.Core.Path.{_≡_, refl, sym, ap, _∙_, subst}
 use mathlib.Core.Bool.{Bool, true, false, not, _&&_, _||_}
 use mathlib.Core.List.{List, [], _∷_}
 use native.Mathlib.Omega.{arith}
 use lib.Dec.{ltb, leb, eqb}
-use lib.ListN.{length, getD, take, length-take, List·getD-eq-default}
+use lib.ListN.{length, getD, length-take, List·getD-eq-default}
 use borrow.Author.Tests.{eqb-true, eqb-false, leb-true, ltb-true, ltb-false}
 use Rattle.lists.specs.Pick.{pick}
 use Rattle.lists.specs.All.{All}
-use Rattle.lists.specs.Both.{and-parts}
+use Rattle.lists.specs.laws.Both.{and-parts}
 use Rattle.lists.specs.Filter.{filterBy}
-use Rattle.address_set.specs.AddressSet.{offsets}
 use Rattle.message.specs.declared.Fields.{Fields}
 use Rattle.message.specs.declared.Stage.the-variants.{Done}
 use Rattle.message.specs.declared.Walk.{Walk}
-use Rattle.message.specs.Placed.{pick-cases}
+use Rattle.message.specs.laws.Placed.{pick-cases}
 use Rattle.message.specs.Read.{readOf}
 use Rattle.message.specs.Walk.{walkOf}
-use Rattle.reply.specs.Reply.{leastRoom, infoAckOf, leaseAckOf, nakOf, offerOf, releaseAckOf, scopeEntriesOf}
+use Rattle.reply.specs.Reply.{leastRoom, infoAckOf, leaseAckOf, nakOf, offerOf, releaseAckOf}
 use Rattle.reply.proofs.ReadBack.{Named, ReadBack, info-back, lease-back, nak-back, release-back}
 use Rattle.state.specs.declared.Book.{Book}
 use Rattle.state.specs.declared.Lease.{Lease}
 use Rattle.state.specs.declared.LeaseTable.{LeaseTable}
 use Rattle.state.specs.declared.State.{State}
-use Rattle.state.specs.Book.{advanced, leaseAt, leasesOf, live, liveOf, placeOf, scopeAt, zeroLease}
+use Rattle.state.specs.Book.{advanced, leasesOf, liveOf, placeOf, scopeAt, zeroLease}
 use Rattle.soundness.specs.Sound.{scopesIn, soundB, tenantsIn}
-use Rattle.soundness.specs.Book.{Sound, sound-lists}
-use Rattle.soundness.specs.Facts.{lease-at-facts}
-use Rattle.soundness.specs.Kept.{advanced-sound}
-use Rattle.allocation.specs.declared.Ask.{Ask}
+use Rattle.soundness.specs.laws.Book.{Sound, sound-lists}
+use Rattle.soundness.specs.laws.Facts.{lease-at-facts}
+use Rattle.soundness.specs.laws.Kept.{advanced-sound}
 use Rattle.allocation.specs.Rule.{grantOf, suffices}
-use Rattle.allocation.specs.Granted.{grant-exists}
+use Rattle.allocation.specs.laws.Granted.{grant-exists}
 use Rattle.decision.specs.declared.Decided.{Decided}
 use Rattle.decision.specs.declared.Proposal.{Proposal}
 use Rattle.decision.specs.declared.Reply.{Reply}
 use Rattle.decision.specs.declared.Reply.the-variants.{Nothing, Offer, LeaseAck, ReleaseAck, InfoAck, Nak}
 use Rattle.decision.specs.declared.Verdict.{Verdict}
-use Rattle.decision.specs.Kept.{Passed, own-is, passed}
+use Rattle.decision.specs.laws.Kept.{Passed, own-is, passed}
 use Rattle.decision.specs.Parts.{horizon, askAt, badCounts, discardWith, error0Of, error1Of, error2Of, error3Of, fitsNew, hasPeriod, holdsOf, isNew, knowsScope, leaseFrom, nakWith, leaseIdIn, newAt, newOf, newWith, ownOf, plainReply, proposalOf, recordedOf, refusalOf, renewedOf, renewedTo, resends, scopePlace, withLease}
 use Rattle.decision.specs.Decide.{decideOf, judgedOf, leasedOf, plainOf, settledOf}
 use Rattle.server.specs.Serve.{Answer, Call, answered, atClock, byReply, discarded, forServer, headOf, infoOf, replyOf, serveOf, tenantOf, termsOf, withReading}

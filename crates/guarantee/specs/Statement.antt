@@ -1,4 +1,4 @@
--- What the server guarantees: document 01's demand 3 ("Demand 3 in detail") as a single claim about any list of server calls, and demand 1
+-- Statement: what the server guarantees: document 01's demand 3 ("Demand 3 in detail") as a single claim about any list of server calls, and demand 1
 -- about each call. A house is a tenant here, its share a reserve; tenants count from 0, a lease's scope from 1.
 use Prim.Native.Nat.{ℕ, _+_, _-_, _≤_, _<_, min, _^_}
 use mathlib.Core.Path.{_≡_}
@@ -27,8 +27,7 @@ use Rattle.allocation.specs.declared.Ask.{Ask}
 use Rattle.allocation.specs.declared.Grant.{Grant}
 use Rattle.allocation.specs.Rule.{grantOf, unusedReserve}
 use Rattle.decision.specs.Decide.{decideOf}
-use Rattle.decision.specs.Ensured.{asOffer}
-use Rattle.decision.specs.Parts.{horizon, defaultLease, discardWith, error1Of, error2Of, holdsOf, lengthOf, ownOf, recordedOf, resends, scopePlace, startOf}
+use Rattle.decision.specs.Parts.{asOffer, horizon, defaultLease, discardWith, error1Of, error2Of, holdsOf, lengthOf, ownOf, recordedOf, resends, scopePlace, startOf}
 use Rattle.server.specs.Serve.{Answer, Call, headOf, serveOf, tenantOf}
 
 -- ---- the list of calls

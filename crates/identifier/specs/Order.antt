@@ -1,6 +1,6 @@
--- The order of identifiers, as document 01 has it for the campus file: octet by octet, a prefix first.
+-- Definitions: the order of identifiers, as document 01 has it for the campus file: octet by octet, a prefix first.
 use Prim.Native.Nat.{ℕ}
-use mathlib.Core.Bool.{Bool, true, false}
+use mathlib.Core.Bool.{Bool}
 use mathlib.Core.List.{List, [], _∷_}
 use lib.Dec.{ltb, eqb}
 use Rattle.lists.specs.Pick.{pick}

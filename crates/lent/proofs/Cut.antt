@@ -1,4 +1,4 @@
--- A call of `records::cut128` in a walk, of which the proof knows only its contract.
+-- Laws: a call of `records::cut128` in a walk, of which the proof knows only its contract.
 --     Cut, to-cut      the contract, and what its triple binds outside where the argument is n
 --     calls-cut        the call, where its operand reads n: `min n 128` lands. The operand is read with the contract's `pre` at the head of the context, so what stood at position i stands at i + 1
 -- Assumes `Given`.

@@ -1,4 +1,4 @@
--- `Local.antt`'s two steps at `records::Records { leases: [Lease; 128] }`.
+-- Laws: `Local.antt`'s two steps at `records::Records { leases: [Lease; 128] }`.
 --     Back             what is set aside while the lease records of a local `Records` are out
 --     leases-out       the local's cell with what a `Records` owns gives the row of its lease records and `Back`, and says that there are 128
 --     leases-in        a row of 128 lease records and `Back` give the local's cell, at the machine value of the `Records` of them, with what it owns

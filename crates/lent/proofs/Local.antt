@@ -1,4 +1,4 @@
--- A local struct whose one field is an array of structs, `struct N { a: [E; n] }`, as the row of its elements, and back: how a walk reads or stores an element of such a local by its index. It says nothing of the crate.
+-- Laws: a local struct whose one field is an array of structs, `struct N { a: [E; n] }`, as the row of its elements, and back: how a walk reads or stores an element of such a local by its index. It says nothing of the crate.
 --     Holder           the row of such a struct: N's own row, by computation, where D is N's record and `held` its field
 --     start o          where the elements begin in such a struct at the offset o
 --     Back             what is set aside while the elements are out: the way back to the struct, at any n elements

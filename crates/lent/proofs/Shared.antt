@@ -1,4 +1,4 @@
--- A `&κ mut [T]` that is lent as a `&κ′ [T]` for a call, and comes back as it was: `Borrow/Rule/Slice/Reshare.antt`'s two entailments at `Denote/Slice.antt`'s types. It says nothing of the crate.
+-- Laws: a `&κ mut [T]` that is lent as a `&κ′ [T]` for a call, and comes back as it was: `Borrow/Rule/Slice/Reshare.antt`'s two entailments at `Denote/Slice.antt`'s types. It says nothing of the crate.
 --     lends-shared     own (the `&κ mut [T]` ((b, o), γ, ys)) ∗ [κ]_q  ⊢ ⇛ ∃ γ₁. own (the `&κ′ [T]` ((b, o), γ₁, ys)) ∗ keptS
 --     shared-back      [†κ′] ∗ keptS  ⊢ ⇛ (own (the `&κ mut [T]` ((b, o), γ, ys)) ∗ [κ]_q)
 -- Assumes `Given`.

@@ -1,4 +1,4 @@
--- A held `&κ State` or `&κ mut State`, in steps of `Types/Kit.antt`'s calculus: it is opened and closed again, so that the state can be copied or stored as a whole; and a `&mut` is given up to `lent::advance`.
+-- Laws: a held `&κ State` or `&κ mut State`, in steps of `Types/Kit.antt`'s calculus: it is opened and closed again, so that the state can be copied or stored as a whole; and a `&mut` is given up to `lent::advance`.
 --     Seen, Held       what owning a `&κ State` and a `&κ mut State` is
 --     looks-state      a `&` and a share of its lifetime's token give a share of the state's cell, which holds the state's machine value, and one item to shut it with
 --     shuts-state      those two give back the token; the `&` is let go

@@ -1,5 +1,5 @@
--- The guarantee carries over to the lent state and records, by `same`.
-use Prim.Native.Nat.{ℕ, _≤_}
+-- Proof of the guarantee for the lent state and records, by `same`.
+use Prim.Native.Nat.{_≤_}
 use mathlib.Core.Path.{_≡_, refl, sym, ap, _∙_, subst}
 use mathlib.Core.Bool.{Bool, true, false}
 use mathlib.Core.List.{List, [], _∷_}
@@ -17,8 +17,8 @@ use Rattle.guarantee.proofs.Discards.{call-answered}
 use Rattle.guarantee.proofs.Granted.{demand3}
 use Rattle.guarantee.proofs.Kept.{call-sound}
 use Rattle.records.specs.Records.{recordsOf}
-use Rattle.records.specs.Lent.{bookFrom, lentAnswer, LentAnswer, serveLent, serveWith, is128}
-use Rattle.records.specs.Steps.{off-whole}
+use Rattle.records.specs.Lent.{bookFrom, lentAnswer, LentAnswer, serveLent, serveWith}
+use Rattle.records.specs.laws.Steps.{off-whole}
 use Rattle.lent_guarantee.specs.Statement.{answerOf, bookOf, Lent, LentAnswered, LentDemand1, LentDemand3, runLent, SoundLent}
 use Rattle.lent_guarantee.proofs.Same.{at-whole, kept-back, same, sound-book, still-whole}
 

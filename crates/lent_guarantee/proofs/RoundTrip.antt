@@ -1,24 +1,23 @@
--- The file's round trip carries over to the lent state and records: those of an accepted file stand for its table.
-use Prim.Native.Nat.{ℕ, _≤_}
-use mathlib.Core.Path.{_≡_, refl, sym, ap, ap₂, _∙_}
+-- Proof of the round trip for the lent state and records: those of an accepted file stand for its table.
+use Prim.Native.Nat.{ℕ}
+use mathlib.Core.Path.{_≡_, refl, sym, ap, _∙_}
 use mathlib.Core.Bool.{Bool, true, false}
-use mathlib.Core.List.{List, [], _∷_, _++_}
+use mathlib.Core.List.{List}
 use native.Mathlib.Omega.{arith}
 use lib.Dec.{eqb}
-use lib.ListN.{drop, length}
+use lib.ListN.{length}
 use borrow.Author.Tests.{eqb-true, eqb-false}
 use Rattle.lists.specs.Pick.{pick}
 use Rattle.state.specs.declared.Lease.{Lease}
 use Rattle.state.specs.declared.LeaseTable.{LeaseTable}
 use Rattle.state.specs.declared.State.{State}
 use Rattle.state_file.specs.declared.Loaded.{Loaded}
-use Rattle.state_file.specs.declared.Written.{Written}
 use Rattle.state_file.specs.StateFile.{accepted, readFile, roomAfter, writtenOf}
 use Rattle.state_file.proofs.RoundTrip.{read-written}
-use Rattle.records.specs.Files.{file-back, file-long}
+use Rattle.records.specs.laws.Files.{file-back, file-long}
 use Rattle.records.specs.Records.{recordsOf, tableFrom}
 use Rattle.records.specs.Lent.{LentReading, readLent, readWith, roomLent, roomWith, untouched, is128, writtenLent, writtenWith}
-use Rattle.records.specs.Steps.{on-whole}
+use Rattle.records.specs.laws.Steps.{on-whole}
 use Rattle.lent_guarantee.specs.Statement.{LentRoundTrip}
 
 -- ---- a reading without a refusal

@@ -1,34 +1,33 @@
--- The lent call is the call: records and table stand for each other, in a sound book and in any that a call leaves as it was.
-use Prim.Native.Nat.{ℕ, _<_}
-use mathlib.Core.Path.{_≡_, refl, sym, ap, ap₂, _∙_}
+-- Proof of `SameCall`: records and table stand for each other, in a sound book and in any that a call leaves as it was.
+use Prim.Native.Nat.{ℕ}
+use mathlib.Core.Path.{_≡_, refl, sym, ap, _∙_}
 use mathlib.Core.Bool.{Bool, true, false}
-use mathlib.Core.List.{List, [], _∷_, map}
+use mathlib.Core.List.{List, [], map}
 use mathlib.Core.Logic.{_⊎_, inl, inr, ⊎-elim}
-use lib.Dec.{ltb, eqb}
+use lib.Dec.{ltb}
 use lib.ListN.{length, length-map, set}
 use Rattle.reply.specs.Reply.{leastRoom}
 use Rattle.lists.specs.Pick.{pick}
 use Rattle.message.specs.declared.Fields.{Fields}
-use Rattle.message.specs.Placed.{pick-cases}
+use Rattle.message.specs.laws.Placed.{pick-cases}
 use Rattle.state.specs.declared.Book.{Book}
 use Rattle.state.specs.declared.Lease.{Lease}
 use Rattle.state.specs.declared.LeaseTable.{LeaseTable}
 use Rattle.state.specs.declared.State.{State}
-use Rattle.state.specs.declared.TenantLeases.{TenantLeases}
-use Rattle.state.specs.Book.{advanced, dropped, inUse, laidOut, leasesOf, liveOf, putAt, tableOf}
-use Rattle.state.specs.Layout.{put-laid, lent-table-back as lists-back}
-use Rattle.soundness.specs.Sound.{soundB, tenantsIn}
+use Rattle.state.specs.Book.{advanced, dropped, inUse, laidOut, leasesOf, liveOf, tableOf}
+use Rattle.state.specs.laws.Layout.{put-laid}
+use Rattle.records.specs.laws.Back.{lent-table-back as lists-back, records-back, lent-table-back, table-long}
+use Rattle.soundness.specs.Sound.{soundB}
 use Rattle.decision.specs.declared.Decided.{Decided}
 use Rattle.decision.specs.Parts.{updated}
 use Rattle.decision.specs.Decide.{decideOf, judgedOf, leasedOf, plainOf, settledOf}
-use Rattle.server.specs.Serve.{Answer, Call, answered, atClock, forServer, serveOf, withReading}
-use Rattle.guarantee.specs.Statement.{bookAt, SoundBook}
+use Rattle.server.specs.Serve.{Answer, Call, atClock, forServer, serveOf, withReading}
+use Rattle.guarantee.specs.Statement.{SoundBook}
 use Rattle.guarantee.proofs.Kept.{call-sound}
-use Rattle.records.specs.Back.{records-back, lent-table-back, table-long}
-use Rattle.records.specs.Laws.{rows-length}
+use Rattle.records.specs.laws.Table.{rows-length}
 use Rattle.records.specs.Records.{recordsOf, rows, tableFrom, tenantFrom}
-use Rattle.records.specs.Lent.{bookFrom, lentAnswer, LentAnswer, serveLent, serveWith, is128}
-use Rattle.records.specs.Steps.{on-whole}
+use Rattle.records.specs.Lent.{bookFrom, lentAnswer, LentAnswer, serveLent, serveWith}
+use Rattle.records.specs.laws.Steps.{on-whole}
 use Rattle.lent_guarantee.specs.Statement.{answerOf, SameCall}
 
 -- ---- a decision's table is laid out where the table before it was

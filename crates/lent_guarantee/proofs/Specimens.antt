@@ -1,6 +1,6 @@
--- The premises of the lent guarantee are met: document 01's scope of the specimens, with a lease of the second house, lent as 128 records; computed.
-use mathlib.Core.Path.{_≡_, refl}
-use mathlib.Core.List.{List, [], _∷_, _++_}
+-- Specimens: the premises of the lent guarantee are met: document 01's scope of the specimens, with a lease of the second house, lent as 128 records; computed.
+use mathlib.Core.Path.{refl}
+use mathlib.Core.List.{_∷_, _++_}
 use lib.ListN.{replicate}
 use Rattle.lists.specs.Pick.{pick}
 use Rattle.lists.specs.All.{allBy, pairsBy, allTo}
@@ -11,7 +11,7 @@ use Rattle.identifier.specs.Order.{orderOf, sameOf}
 use Rattle.address_set.specs.AddressSet.{bit, offsetsFrom}
 use Rattle.state.specs.declared.Lease.{Lease}
 use Rattle.state.specs.declared.State.{State}
-use Rattle.state.specs.Book.{byIdentifier, differ, laidOut, tableOf, ordered, unionAll, addressesOf, overlaps, zeroLease, zeroScope, committed}
+use Rattle.state.specs.Book.{byIdentifier, differ, laidOut, tableOf, unionAll, addressesOf, overlaps, zeroLease, zeroScope, committed}
 use Rattle.soundness.specs.Sound.{oneTo, sizeB, idB, recordsB, countsB, rule1, belowB, offsetsB, rule2, rangeB, rangesApart, rule3, poolB, poolsApart, rule4, ttlB, rule5, reserveB, reservesB, rule6, kindB, periodB, leaseB, noneB, tenantsB, rule7, rule8, disjoint, apart, rule9, compatible, rule10, limitB, limitsB, rule11, committedB, rule12, zeroFrom, paddedB, blankB, unusedB, layoutB, rangeZero, tailB, scopeZero, settingsB, rule13, rulesOf, firstLate, firstBroken, brokenOf, soundB}
 use Rattle.records.specs.Records.{rows, tableFrom, tenantFrom}
 use Rattle.lent_guarantee.specs.Statement.{Lent, SoundLent}

@@ -1,8 +1,8 @@
--- What the writer writes of lent state and records is read back as they are, and after any list of calls it refuses nothing.
+-- Proof of `LentWriteRead` and `LentWritten`: what the writer writes of lent state and records is read back as they are, and after any list of calls it refuses nothing.
 use Prim.Native.Nat.{ℕ, _≤_}
-use mathlib.Core.Path.{_≡_, refl, sym, ap, ap₂, _∙_, subst}
+use mathlib.Core.Path.{_≡_, refl, sym, ap, ap₂, _∙_}
 use mathlib.Core.Bool.{Bool, true, false}
-use mathlib.Core.List.{List, [], _∷_, _++_}
+use mathlib.Core.List.{List}
 use native.Mathlib.Omega.{arith}
 use lib.Dec.{eqb}
 use lib.ListN.{length, take}
@@ -13,21 +13,20 @@ use Rattle.state.specs.declared.Lease.{Lease}
 use Rattle.state.specs.declared.LeaseTable.{LeaseTable}
 use Rattle.state.specs.declared.State.{State}
 use Rattle.soundness.specs.Sound.{soundB}
-use Rattle.server.specs.Serve.{Call}
 use Rattle.state_file.specs.declared.Loaded.{Loaded}
 use Rattle.state_file.specs.declared.Written.{Written}
 use Rattle.state_file.specs.StateFile.{accepted, readFile, roomAfter, writtenOf}
-use Rattle.state_file.specs.FormatLaws.{Octets}
+use Rattle.state_file.specs.Format.{Octets}
 use Rattle.state_file.specs.Typed.{Typed}
 use Rattle.state_file.proofs.RoundTrip.{never-refused, read-write, written-read}
-use Rattle.records.specs.Back.{records-back}
-use Rattle.records.specs.Files.{file-back, file-long}
+use Rattle.records.specs.laws.Back.{records-back}
+use Rattle.records.specs.laws.Files.{file-back, file-long}
 use Rattle.records.specs.Records.{recordsOf, tableFrom}
-use Rattle.records.specs.Lent.{LentReading, readLent, readWith, roomLent, roomWith, is128, writtenLent, writtenWith}
-use Rattle.records.specs.Steps.{off-whole, on-whole}
+use Rattle.records.specs.Lent.{LentReading, readLent, readWith, roomLent, roomWith, writtenLent, writtenWith}
+use Rattle.records.specs.laws.Steps.{off-whole, on-whole}
 use Rattle.lent_guarantee.specs.Statement.{FileWritten, Lent, LentDemand3, LentWriteRead, LentWritten, SoundLent, afterFile, runLent}
 use Rattle.lent_guarantee.proofs.Guaranteed.{lent-demand3}
-use Rattle.lent_guarantee.proofs.RoundTrip.{Filed, read-whole}
+use Rattle.lent_guarantee.proofs.RoundTrip.{read-whole}
 
 -- ---- written and read again
 -- a reading that is accepted, on 128 records

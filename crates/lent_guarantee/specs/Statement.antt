@@ -1,4 +1,4 @@
--- The guarantee of `guarantee`, in words that speak of the lent state and the lent lease records. `serveLent` is what `lent::serve` is proved
+-- Statement: the guarantee of `guarantee`, in words that speak of the lent state and the lent lease records. `serveLent` is what `lent::serve` is proved
 -- to meet.
 use Prim.Native.Nat.{ℕ, _≤_}
 use mathlib.Core.Path.{_≡_}
@@ -12,7 +12,7 @@ use Rattle.state.specs.declared.State.{State}
 use Rattle.soundness.specs.Sound.{soundB}
 use Rattle.server.specs.Serve.{Answer, Call, serveOf}
 use Rattle.guarantee.specs.Statement.{bookAt, Granted, NewRequest, WithinLimits}
-use Rattle.state_file.specs.FormatLaws.{Octets}
+use Rattle.state_file.specs.Format.{Octets}
 use Rattle.state_file.specs.Typed.{Typed}
 use Rattle.records.specs.Records.{recordsOf, tableFrom}
 use Rattle.records.specs.Lent.{bookFrom, LentAnswer, readLent, roomLent, serveLent, writtenLent}

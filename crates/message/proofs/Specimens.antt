@@ -1,9 +1,9 @@
--- Datagrams, the discard and the offset that each gets, and where options 1 and 3 stand, computed from the definitions: one table, one theorem.
+-- Specimens: datagrams, the discard and the offset that each gets, and where options 1 and 3 stand, computed from the definitions: one table, one theorem.
 use mathlib.Core.Path.{_≡_, refl}
 use mathlib.Core.List.{List, [], _∷_, _++_}
 use mathlib.Core.Bool.{Bool, true, false}
 use Prim.Native.Nat.{ℕ}
-use lib.ListN.{length, getD, replicate}
+use lib.ListN.{getD, replicate}
 use lib.Dec.{eqb}
 use Rattle.lists.specs.Pick.{pick}
 use Rattle.lists.specs.All.{allBy}

@@ -1,24 +1,26 @@
--- Between the code and the definitions: lists of numbers, the lists of option 12, and the turns of the walk.
+-- Laws: between the code and the definitions: lists of numbers, the lists of option 12, and the turns of the walk.
 use mathlib.Core.Path.{_≡_, refl, sym, ap, ap₂, _∙_, subst}
 use mathlib.Core.List.{List, [], _∷_, _++_}
 use mathlib.Core.Bool.{Bool, true, false, _&&_, _||_}
 use Prim.Native.Nat.{ℕ, zero, suc, _+_, _-_, _*_, _/_, _≤_, _<_}
 use native.Mathlib.Omega.{arith}
 use native.Mathlib.Numerals.{add-one}
-use borrow.Author.Tests.{lt-ltb, le-ltb, leb-true, eqb-true, eqb-false, eq-eqb, ne-eqb, ltb-true, ltb-false, not-true, not-false}
+use borrow.Author.Tests.{lt-ltb, le-ltb, leb-true, eqb-true, eqb-false, eq-eqb, ne-eqb, ltb-true, ltb-false}
 use lib.ListN.{length, getD, take, drop, replicate, drop-of-length-le, List·getD-eq-default}
 use lib.Seq.{drop-cons}
 use lib.Dec.{ltb, leb, eqb}
-use Rattle.lists.specs.Pick.{pick, pick-not-eq, pick-false}
+use Rattle.lists.specs.Pick.{pick}
+use Rattle.lists.specs.laws.Pick.{pick-not-eq, pick-false}
 use borrow.Author.Needs.{needs}
 use Rattle.octets.specs.Octets.{at16, at32}
 use Rattle.lists.specs.Filter.{isIn}
 use Rattle.message.specs.Codes.{clientTypes, lengthOk, allowedIn, allows}
 use Rattle.message.specs.Values.{wishAt, wishOf, timesOf, fieldsOf, countsAt, countsOf, serverOk, namesOf, allAllowed, identifierOf, codesFrom, foundAt, findOf, isFound, padded, identifierAt}
 use Rattle.message.specs.Read.{longestDatagram, headerOk, noMessage, messageOf, requiredEmpty, ended, byStage, walked}
-use Rattle.lists.specs.Copy.{CopyInv, copy-end}
+use Rattle.lists.specs.laws.Copy.{CopyInv, copy-end}
 use Rattle.message.specs.Walk.{codeAt, lengthAt, afterAt, layoutOk, valueOk, pastList, exactlyFilled, optionTaken, stepOf, onward, walkFrom, walkOf, start}
-use Rattle.message.specs.Placed.{layout-fits, pastWithin, fourOctets, Placed, GoodPlaces, Onto, step-onto, none-good, walk-good, placed, header-long, header-short}
+use Rattle.message.specs.laws.Placed.{layout-fits, Onto, step-onto, none-good, walk-good, placed, header-long, header-short}
+use Rattle.message.specs.Placed.{pastWithin, fourOctets, Placed, GoodPlaces}
 use Rattle.message.specs.declared.Walk.{Walk}
 use Rattle.message.specs.declared.Stage.{Stage}
 use Rattle.message.specs.declared.Stage.the-variants.{Walking, Done, Broken}

@@ -1,6 +1,6 @@
--- Message types and option codes (document 01, "The datagram"): the numbers, the length of each option's value, and which options a
+-- Definitions: message types and option codes (document 01, "The datagram"): the numbers, the length of each option's value, and which options a
 -- message type allows.
-use mathlib.Core.Bool.{Bool, true, false, _&&_, _||_}
+use mathlib.Core.Bool.{Bool, true, _&&_, _||_}
 use mathlib.Core.List.{List, [], _∷_}
 use Prim.Native.Nat.{ℕ, _%_}
 use lib.Dec.{eqb, leb, ltb}

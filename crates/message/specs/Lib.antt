@@ -3,3 +3,4 @@ pub mod Walk
 pub mod Read
 pub mod Values
 pub mod Placed
+pub mod laws

@@ -1,7 +1,7 @@
--- The reader of messages: tests 4, 5 and 6 (document 01, "Outcomes"), in this order.
+-- Definitions: the reader of messages: tests 4, 5 and 6 (document 01, "Outcomes"), in this order.
 use Prim.Native.Nat.{ℕ, _+_}
 use mathlib.Core.List.{List}
-use mathlib.Core.Bool.{Bool, true, false, _&&_}
+use mathlib.Core.Bool.{Bool, true, _&&_}
 use lib.ListN.{length, getD, replicate}
 use lib.Dec.{leb, eqb}
 use Rattle.lists.specs.Pick.{pick}

@@ -1,15 +1,15 @@
--- The values of a message's options, and what stands for an absent one (document 01).
+-- Definitions: the values of a message's options, and what stands for an absent one (document 01).
 use Prim.Native.Nat.{ℕ, zero, suc, _+_, _-_, _/_}
 use mathlib.Core.List.{List, [], _∷_, _++_}
 use mathlib.Core.Bool.{Bool, true, false, _&&_}
-use lib.ListN.{length, getD, take, drop, replicate}
+use lib.ListN.{getD, take, drop, replicate}
 use lib.Dec.{eqb}
 use Rattle.lists.specs.Pick.{pick}
 use Rattle.lists.specs.All.{allTo}
 use Rattle.octets.specs.Octets.{at16, at32}
 use Rattle.lists.specs.Filter.{isIn}
 use Rattle.message.specs.Codes.{allows}
-use Rattle.message.specs.Walk.{codeAt, lengthAt}
+use Rattle.message.specs.Walk.{lengthAt}
 use Rattle.message.specs.declared.Counts.{Counts}
 use Rattle.message.specs.declared.Fields.{Fields}
 use Rattle.message.specs.declared.Identifier.{Identifier}
@@ -30,11 +30,6 @@ findOf places code = foundAt (getD places code 0)
 abbrev pub isFound : Found → Bool
 isFound (At at) = true
 isFound Absent = false
-
--- Lease Time, Scope, Start Time, Current Time, Retry, Minimum Lease, Maximum Start: four octets; d where it is absent
-abbrev pub numberOr : List ℕ → ℕ → Found → ℕ
-numberOr s d (At at) = at32 s (at + 4)
-numberOr s d Absent = d
 
 -- Number: least(2), desired(2); "absent Number is least 1, desired 1"
 abbrev pub countsAt : List ℕ → ℕ → Counts

@@ -1,7 +1,7 @@
--- Test 5 (document 01, "Outcomes"): the walk over a datagram's options, one after the other, up to End or to the first that breaks a rule.
+-- Definitions: test 5 (document 01, "Outcomes"): the walk over a datagram's options, one after the other, up to End or to the first that breaks a rule.
 use Prim.Native.Nat.{ℕ, zero, suc, _+_, _*_}
 use mathlib.Core.List.{List}
-use mathlib.Core.Bool.{Bool, true, false, _&&_}
+use mathlib.Core.Bool.{Bool, true, _&&_}
 use lib.ListN.{length, getD, set, replicate}
 use lib.Dec.{ltb, leb, eqb}
 use Rattle.lists.specs.Pick.{pick}

@@ -1,2 +1,2 @@
 pub mod Octets
-pub mod Laws
+pub mod laws

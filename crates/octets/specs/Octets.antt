@@ -1,4 +1,4 @@
--- Numbers in octets, "high octet first throughout" (document 01, "The datagram"), and what a buffer holds after octets were written.
+-- Definitions: numbers in octets, "high octet first throughout" (document 01, "The datagram"), and what a buffer holds after octets were written.
 use mathlib.Core.Path.{_≡_}
 use mathlib.Core.List.{List, [], _∷_, _++_}
 use Prim.Native.Nat.{ℕ, _+_, _*_, _/_, _%_}

@@ -1,4 +1,4 @@
--- A local `State` and a local `[Lease; 128]` are lent to a callee, and come back once the lifetimes of the loans are over: what the walks of this crate's functions share.
+-- Laws: a local `State` and a local `[Lease; 128]` are lent to a callee, and come back once the lifetimes of the loans are over: what the walks of this crate's functions share.
 --     word-state, word-leases, word-records, word-owned    the machine values of a state, of 128 lease records, of a `Records` and of an `Owned`
 --     IsState, IsLeases, IsRecords, IsOwned                that these stand for them.        typed-state, typed-leases, typed-records, typed-owned       then they have their MIR types.        long     then there are 128 lease records
 --     its-state, its-records, its-leases                   of the parts of an `Owned`, from the whole.        is-records, is-owned     of a whole that is put together of a state and lease records (`to-records`, `to-owned`)

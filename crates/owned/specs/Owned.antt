@@ -1,4 +1,4 @@
--- What the entry points promise to a caller that holds its state and records by value and lends them for each call.
+-- Definitions: what the entry points promise to a caller that holds its state and records by value and lends them for each call.
 use Prim.Native.Nat.{ℕ}
 use mathlib.Core.Path.{_≡_}
 use mathlib.Core.List.{List, _++_}

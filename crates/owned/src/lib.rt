@@ -4,7 +4,6 @@ ghost use mathlib.Core.Path.{_≡_};
 ghost use lib.ListN.{length, replicate};
 ghost use Rattle.state.specs.Book.{zeroLease};
 ghost use Rattle.state_file.specs.StateFile.{zeroState};
-ghost use Rattle.server.specs.Serve.{Call};
 ghost use Rattle.records.specs.Lent.{serveLent, readLent, writtenLent, roomLent};
 ghost use Rattle.owned.specs.Owned.{ServesOwned, ReadsOwned};
 use records::Records;

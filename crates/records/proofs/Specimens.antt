@@ -1,6 +1,6 @@
--- Lent records by computation: one record found, inserted and removed; another number than 128; a gap, which makes a book unsound.
+-- Specimens: lent records by computation: one record found, inserted and removed; another number than 128; a gap, which makes a book unsound.
 use mathlib.Core.Path.{_≡_, refl}
-use mathlib.Core.Bool.{Bool, true, false}
+use mathlib.Core.Bool.{true, false}
 use mathlib.Core.List.{List, [], _∷_, _++_}
 use Prim.Native.Nat.{ℕ}
 use lib.ListN.{replicate}

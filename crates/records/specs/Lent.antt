@@ -1,4 +1,4 @@
--- The entry points on a lent state and lent lease records (document 01, "How it is to be built"): what each answers, and the state and the
+-- Definitions: the entry points on a lent state and lent lease records (document 01, "How it is to be built"): what each answers, and the state and the
 -- records afterwards. A house is a tenant here. A slice has "always 128" records; "another number makes the book unsound (1, 21 or 22)".
 use Prim.Native.Nat.{ℕ}
 use mathlib.Core.Path.{_≡_}

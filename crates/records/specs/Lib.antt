@@ -1,7 +1,3 @@
 pub mod Records
 pub mod Lent
-pub mod Laws
-pub mod LentLaws
-pub mod Steps
-pub mod Back
-pub mod Files
+pub mod laws

@@ -1,4 +1,4 @@
--- The lent lease records (document 01, "How it is to be built"): 128 in a row, sixteen to a house, house by house; and the table that they stand
+-- Definitions: the lent lease records (document 01, "How it is to be built"): 128 in a row, sixteen to a house, house by house; and the table that they stand
 -- for. A house is a tenant here.
 use Prim.Native.Nat.{ℕ, zero, suc, min}
 use mathlib.Core.List.{List, [], _∷_, _++_, map}

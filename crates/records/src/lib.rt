@@ -1,15 +1,14 @@
 // The lent lease records by value, and what each entry point does with them: 128 in a row, sixteen to a tenant, tenant by tenant. The number
 // of records that the lent slice has comes with them.
 ghost use mathlib.Core.Path.{_≡_};
-ghost use Prim.Native.Nat.{ℕ, _+_, _*_, _<_, _≤_, min};
+ghost use Prim.Native.Nat.{min};
 ghost use lib.ListN.{length, replicate, take};
 ghost use Rattle.lists.specs.Place.{placeBy};
 ghost use Rattle.soundness.specs.Sound.{unusedB};
-ghost use Rattle.server.specs.Serve.{Call};
 ghost use Rattle.state.specs.Book.{zeroLease};
 ghost use Rattle.state_file.specs.StateFile.{readFile};
 ghost use Rattle.records.specs.Records.{tenantFrom, tableFrom, recordsOf};
-ghost use Rattle.records.specs.Lent.{LentReading, serveWith, ServesRecords, readWith, Reads, writtenWith, roomWith, findWith, insertWith, removeWith};
+ghost use Rattle.records.specs.Lent.{serveWith, ServesRecords, readWith, Reads, writtenWith, roomWith, findWith, insertWith, removeWith};
 use state::Book;
 use state::Lease;
 use state::LeaseTable;

@@ -1,4 +1,4 @@
--- The loop that writes octets in hex.
+-- Laws: the loop that writes octets in hex.
 use mathlib.Core.Path.{_≡_, refl, sym, ap, _∙_}
 use mathlib.Core.List.{List, [], _∷_, _++_}
 use Prim.Native.Nat.{ℕ, _+_, _*_, _/_, _%_, _≤_, _<_}
@@ -7,7 +7,7 @@ use native.Mathlib.Numerals.{add-one}
 use lib.ListN.{length, getD, take}
 use lib.Seq.{take-suc}
 use Rattle.octets.specs.Octets.{Wrote}
-use Rattle.octets.specs.Laws.{wrote-joined, wrote-none, wrote-as}
+use Rattle.octets.specs.laws.Octets.{wrote-joined, wrote-none, wrote-as}
 use Rattle.replay_text.specs.Replay.{hexDigit, hexOf}
 
 hex-append : (xs ys : List ℕ) → hexOf (xs ++ ys) ≡ hexOf xs ++ hexOf ys

@@ -1,9 +1,8 @@
--- What `replay` prints: a line for each call, the outcome's number and, for a reply, a blank and its octets in lower-case hex; at the end
+-- Definitions: what `replay` prints: a line for each call, the outcome's number and, for a reply, a blank and its octets in lower-case hex; at the end
 -- `book`, a blank and the hex of the campus file; or `refused`, a blank and a number.
-use Prim.Native.Nat.{ℕ, _+_, _*_, _/_, _%_}
+use Prim.Native.Nat.{ℕ, _+_, _/_, _%_}
 use mathlib.Core.List.{List, [], _∷_, _++_}
 use lib.Dec.{ltb, eqb}
-use lib.ListN.{length}
 use Rattle.lists.specs.Pick.{pick}
 
 -- 0 to 9, a to f

@@ -1,9 +1,9 @@
--- The longest replies, and replies read back, computed: how many octets each kind has at most, where the reader's walk finds each option, and that
+-- Specimens: the longest replies, and replies read back, computed: how many octets each kind has at most, where the reader's walk finds each option, and that
 -- octets past a reply are left.
 use mathlib.Core.Path.{_≡_, refl}
-use mathlib.Core.List.{List, [], _∷_, _++_}
-use mathlib.Core.Bool.{Bool, true, false}
-use Prim.Native.Nat.{ℕ, suc}
+use mathlib.Core.List.{[], _∷_}
+use mathlib.Core.Bool.{true}
+use Prim.Native.Nat.{ℕ}
 use lib.ListN.{length, replicate}
 use Rattle.lists.specs.Pick.{pick}
 use Rattle.lists.specs.Filter.{isIn}

@@ -1,23 +1,23 @@
--- A reply's option 10, decoded from the reply's octets, names just the addresses that it was written from.
+-- Laws: a reply's option 10, decoded from the reply's octets, names just the addresses that it was written from.
 use mathlib.Core.Path.{_≡_, refl, sym, ap, ap₂, _∙_}
 use mathlib.Core.List.{List, [], _∷_, _++_, append-assoc, map}
 use mathlib.Core.Bool.{Bool, true, false}
-use Prim.Native.Nat.{ℕ, zero, suc, _+_, _*_, _/_, _^_, _≤_, _<_}
+use Prim.Native.Nat.{ℕ, _+_, _/_, _^_, _≤_, _<_}
 use native.Mathlib.Omega.{arith}
 use native.Mathlib.Nat.{add-assoc, add-zero}
 use borrow.Author.Tests.{ne-eqb}
-use lib.ListN.{length, getD, set, replicate, take, length-append}
+use lib.ListN.{length, getD, set, replicate, length-append}
 use lib.Seq.{getD-append-add}
 use Rattle.lists.specs.All.{All}
 use Rattle.lists.specs.Pick.{pick}
 use Rattle.octets.specs.Octets.{at16, at32, octets16, octets32}
-use Rattle.octets.specs.Laws.{read-back16, read-back32}
+use Rattle.octets.specs.laws.Octets.{read-back16, read-back32}
 use Rattle.address_set.specs.declared.Range.{Range}
 use Rattle.address_set.specs.AddressSet.{namedBy, offsets, fewestRanges}
-use Rattle.address_set.specs.ListLaws.{offsets-small}
-use Rattle.address_set.specs.RangeLaws.{ranges-few}
-use Rattle.address_set.specs.Fewest.{moved-names, movedBy, ranges-name, fewest-below}
-use Rattle.message.specs.Values.{findOf, foundAt}
+use Rattle.address_set.specs.laws.Offsets.{offsets-small}
+use Rattle.address_set.specs.laws.Ranges.{ranges-few}
+use Rattle.address_set.specs.laws.Fewest.{moved-names, movedBy, ranges-name, fewest-below}
+use Rattle.message.specs.Values.{foundAt}
 use Rattle.message.specs.Walk.{lengthAt, walkOf}
 use Rattle.message.specs.declared.Found.the-variants.{At, Absent}
 use Rattle.message.specs.declared.Walk.{Walk}

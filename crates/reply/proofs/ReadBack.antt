@@ -1,21 +1,20 @@
--- The reader's walk over a reply ends at its End, with each option where it was written.
+-- Laws: the reader's walk over a reply ends at its End, with each option where it was written.
 use mathlib.Core.Path.{_≡_, refl, sym, ap, ap₂, _∙_, subst}
 use mathlib.Core.List.{List, [], _∷_, _++_, append-assoc}
 use mathlib.Core.Bool.{Bool, true, false, _&&_}
-use Prim.Native.Nat.{ℕ, zero, suc, _+_, _-_, _*_, _/_, _%_, _^_, _≤_, _<_}
+use Prim.Native.Nat.{ℕ, zero, suc, _+_, _-_, _%_, _^_, _≤_, _<_}
 use native.Mathlib.Omega.{arith}
 use native.Mathlib.Nat.{add-assoc, add-zero}
-use borrow.Author.Tests.{eqb-true, eq-eqb, ne-eqb, lt-ltb, le-ltb, le-leb, lt-leb}
+use borrow.Author.Tests.{eqb-true, eq-eqb, ne-eqb, le-ltb, le-leb}
 use lib.Dec.{ltb, leb, eqb}
-use lib.ListN.{length, getD, take, drop, set, replicate, length-append, length-take, getD-replicate, List·getD-eq-default}
+use lib.ListN.{length, getD, take, set, replicate, length-append, getD-replicate, List·getD-eq-default}
 use lib.Seq.{getD-append-add, getD-set-other}
 use native.Mathlib.Decide.{decLt}
 use Rattle.lists.specs.Pick.{pick}
 use Rattle.octets.specs.Octets.{be16, at16, octets16, octets32}
-use Rattle.octets.specs.Laws.{read-back16}
-use Rattle.address_set.specs.declared.Range.{Range}
+use Rattle.octets.specs.laws.Octets.{read-back16}
 use Rattle.address_set.specs.AddressSet.{offsets, fewestRanges, firstRange, behind}
-use Rattle.address_set.specs.RangeLaws.{ranges-next, ranges-few}
+use Rattle.address_set.specs.laws.Ranges.{ranges-next, ranges-few}
 use Rattle.lists.specs.Filter.{isIn}
 use Rattle.message.specs.Codes.{lengthOk}
 use Rattle.message.specs.Walk.{codeAt, lengthAt, afterAt, layoutOk, pastList, exactlyFilled, valueOk, done, moved, optionTaken, stepOf, onward, walkFrom, walkOf, start}

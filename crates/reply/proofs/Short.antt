@@ -1,14 +1,14 @@
--- No reply is longer than the least room, so that a room that passes test 2 always suffices.
+-- Laws: no reply is longer than the least room, so that a room that passes test 2 always suffices.
 use mathlib.Core.Path.{_≡_, ap, _∙_}
 use mathlib.Core.List.{List, [], _∷_, _++_}
 use mathlib.Core.Bool.{Bool, true, false}
-use Prim.Native.Nat.{ℕ, _+_, _≤_, _<_, min}
+use Prim.Native.Nat.{ℕ, _+_, _≤_}
 use native.Mathlib.Omega.{arith}
 use lib.ListN.{length, take, length-append, length-take}
 use Rattle.address_set.specs.AddressSet.{offsets, fewestRanges}
-use Rattle.address_set.specs.RangeLaws.{ranges-few}
+use Rattle.address_set.specs.laws.Ranges.{ranges-few}
 use Rattle.octets.specs.Octets.{octets16, octets32}
-use Rattle.reply.specs.Reply.{leastRoom, Option, option, optionOctets, optionsOctets, messageOctets, header, wanted, rangesOctets, scopeEntriesOf, scopesOctets, scopeListOption, leaseOptions, releaseOptions, infoOptions, nakOptions, offerOf, leaseAckOf, releaseAckOf, infoAckOf, nakOf}
+use Rattle.reply.specs.Reply.{leastRoom, Option, option, optionOctets, optionsOctets, messageOctets, wanted, scopeEntriesOf, scopeListOption, leaseOptions, releaseOptions, infoOptions, nakOptions, offerOf, leaseAckOf, releaseAckOf, infoAckOf, nakOf}
 use Rattle.reply.specs.declared.Head.{Head}
 use Rattle.reply.specs.declared.Terms.{Terms}
 use Rattle.reply.specs.declared.Info.{Info}

@@ -1,14 +1,14 @@
--- Document 01's specimens on the wire, computed from the definitions: one table, one theorem.
+-- Specimens: document 01's specimens on the wire, computed from the definitions: one table, one theorem.
 use mathlib.Core.Path.{_≡_, refl}
 use mathlib.Core.List.{List, [], _∷_, _++_}
 use mathlib.Core.Bool.{Bool, true, false}
-use Prim.Native.Nat.{ℕ, _*_, _+_}
-use lib.ListN.{replicate, length}
+use Prim.Native.Nat.{ℕ}
+use lib.ListN.{replicate}
 use lib.Dec.{eqb}
 use Rattle.lists.specs.Pick.{pick}
 use Rattle.lists.specs.All.{allBy}
 use Rattle.address_set.specs.AddressSet.{bit, offsetsFrom, joined, fewestRanges, offsets}
-use Rattle.reply.specs.Reply.{optionsOctets, messageOctets, rangesOctets, scopesOctets, offerOf, leaseAckOf, releaseAckOf, infoAckOf, nakOf}
+use Rattle.reply.specs.Reply.{optionsOctets, messageOctets, rangesOctets, scopesOctets, leaseAckOf, releaseAckOf, infoAckOf, nakOf}
 use Rattle.reply.specs.declared.Head.{Head}
 use Rattle.reply.specs.declared.Terms.{Terms}
 use Rattle.reply.specs.declared.Info.{Info}

@@ -1,18 +1,17 @@
--- Writes one after the other: an option of its parts, options in a row, a message of header, options and End; ranges and scopes in a loop.
-use mathlib.Core.Path.{_≡_, refl, sym, ap, _∙_, subst}
+-- Laws: writes one after the other: an option of its parts, options in a row, a message of header, options and End; ranges and scopes in a loop.
+use mathlib.Core.Path.{_≡_, refl, sym, ap, _∙_}
 use mathlib.Core.List.{List, [], _∷_, _++_, append-assoc, append-nil}
-use mathlib.Core.Bool.{Bool, true, false}
-use Prim.Native.Nat.{ℕ, zero, suc, _+_, _-_, _*_, _^_, _≤_, _<_, min}
+use Prim.Native.Nat.{ℕ, zero, suc, _+_, _*_, _^_, _≤_, _<_, min}
 use native.Mathlib.Omega.{arith}
 use native.Mathlib.Numerals.{add-one}
-use lib.ListN.{length, getD, take, drop, length-append, length-take}
-use lib.Seq.{take-suc, take-all}
-use Rattle.lists.specs.Part.{cut-take}
-use Rattle.octets.specs.Octets.{octets16, octets32, Wrote}
-use Rattle.octets.specs.Laws.{wrote-joined, wrote-whole, whole-length, wrote-none, wrote-as}
+use lib.ListN.{length, getD, take, length-take}
+use lib.Seq.{take-suc}
+use Rattle.lists.specs.laws.Part.{cut-take}
+use Rattle.octets.specs.Octets.{octets16, Wrote}
+use Rattle.octets.specs.laws.Octets.{wrote-joined, wrote-whole, whole-length, wrote-none, wrote-as}
 use Rattle.address_set.specs.declared.Range.{Range}
 use Rattle.address_set.specs.AddressSet.{offsets, fewestRanges, firstRange, behind}
-use Rattle.address_set.specs.RangeLaws.{ranges-none, ranges-next, ranges-less, ranges-few, range-count}
+use Rattle.address_set.specs.laws.Ranges.{ranges-none, ranges-next, ranges-less, ranges-few, range-count}
 use Rattle.reply.specs.Reply.{Option, option, optionOctets, optionsOctets, header, messageOctets, rangeOctets, rangesOctets, scopeOctets, scopesOctets}
 use Rattle.reply.specs.Put.{Put, Replied}
 use Rattle.reply.specs.declared.ScopeEntry.{ScopeEntry}

@@ -1,4 +1,4 @@
--- What a writer promises: which options stand in the buffer, how far it came, and in the end the whole buffer.
+-- Definitions: what a writer promises: which options stand in the buffer, how far it came, and in the end the whole buffer.
 use mathlib.Core.Path.{_≡_}
 use mathlib.Core.List.{List, _++_}
 use Prim.Native.Nat.{ℕ, _+_, _≤_}

@@ -1,4 +1,4 @@
--- Option 10 of a message, decoded from its octets: the addresses that it names.
+-- Definitions: option 10 of a message, decoded from its octets: the addresses that it names.
 use Prim.Native.Nat.{ℕ, zero, suc, _+_, _/_}
 use mathlib.Core.List.{List, [], _∷_}
 use Rattle.octets.specs.Octets.{at16, at32}

@@ -1,4 +1,4 @@
--- The replies of document 01 ("Replies"), as lists of octets: "the transaction id is echoed; options stand in rising order of code, End last".
+-- Definitions: the replies of document 01 ("Replies"), as lists of octets: "the transaction id is echoed; options stand in rising order of code, End last".
 use Prim.Native.Nat.{ℕ, _+_, _-_}
 use mathlib.Core.List.{List, [], _∷_, _++_}
 use mathlib.Core.Bool.{Bool, true, false}
@@ -6,7 +6,6 @@ use lib.ListN.{length, take}
 use Rattle.octets.specs.Octets.{octets16, octets32}
 use Rattle.address_set.specs.declared.Range.{Range}
 use Rattle.address_set.specs.AddressSet.{offsets, fewestRanges}
-use Rattle.message.specs.declared.Identifier.{Identifier}
 use Rattle.reply.specs.declared.Head.{Head}
 use Rattle.reply.specs.declared.Terms.{Terms}
 use Rattle.reply.specs.declared.Info.{Info}

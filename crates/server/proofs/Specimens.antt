@@ -1,4 +1,4 @@
--- Document 01's specimens P1 to P12, those of skew and a few more, on whole datagrams, whole replies and the book afterwards, by computation: one table of
+-- Specimens: document 01's specimens P1 to P12, those of skew and a few more, on whole datagrams, whole replies and the book afterwards, by computation: one table of
 -- cases, one theorem.
 use mathlib.Core.Path.{_≡_, refl}
 use mathlib.Core.List.{List, [], _∷_, _++_}

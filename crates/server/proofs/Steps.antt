@@ -1,26 +1,25 @@
--- Between the code of the call and its definition: replies by the verdict, and the tests one after the other.
+-- Laws: between the code of the call and its definition: replies by the verdict, and the tests one after the other.
 use mathlib.Core.Path.{_≡_, refl, sym, ap, ap₂, _∙_, subst}
-use mathlib.Core.List.{List, [], _∷_, _++_}
+use mathlib.Core.List.{List, [], _∷_}
 use mathlib.Core.Bool.{Bool, true, false, not, _&&_}
-use Prim.Native.Nat.{ℕ, _≤_, _<_, _-_, min}
+use Prim.Native.Nat.{ℕ, _≤_, _<_, _-_}
 use native.Mathlib.Omega.{arith}
 use borrow.Author.Tests.{eq-eqb, ne-eqb, lt-ltb, le-ltb}
-use lib.Dec.{ltb, eqb}
-use lib.ListN.{length, drop}
+use lib.Dec.{ltb}
+use lib.ListN.{length}
 use Rattle.reply.specs.Reply.{leastRoom}
 use Rattle.lists.specs.Pick.{pick}
 use Rattle.message.specs.declared.Fields.{Fields}
 use Rattle.message.specs.declared.Reading.{Reading}
 use Rattle.message.specs.Read.{longestDatagram, readOf}
-use Rattle.message.specs.Placed.{GoodPlaces, read-good, read-short}
+use Rattle.message.specs.Placed.{GoodPlaces}
+use Rattle.message.specs.laws.Placed.{read-good, read-short}
 use Rattle.message.specs.Values.{fieldsOf}
 use Rattle.reply.specs.Put.{Replied}
-use Rattle.reply.specs.declared.Head.{Head}
 use Rattle.reply.specs.declared.Terms.{Terms}
 use Rattle.reply.specs.declared.Info.{Info}
 use Rattle.reply.specs.declared.ScopeEntry.{ScopeEntry}
 use Rattle.state.specs.declared.Book.{Book}
-use Rattle.state.specs.declared.LeaseTable.{LeaseTable}
 use Rattle.state.specs.declared.Scope.{Scope}
 use Rattle.state.specs.declared.State.{State}
 use Rattle.state.specs.Book.{advanced, scopeAt}
@@ -30,7 +29,7 @@ use Rattle.decision.specs.declared.Reply.{Reply}
 use Rattle.decision.specs.declared.Verdict.{Verdict}
 use Rattle.decision.specs.Decide.{decideOf}
 use Rattle.server.specs.declared.Served.{Served}
-use Rattle.server.specs.Serve.{Call, Answer, discarded, headOf, termsOf, entryOf, infoOf, byReply, replyOf, answered, forServer, withReading, tenantOf, atClock, serveOf, Serves}
+use Rattle.server.specs.Serve.{Call, Answer, discarded, termsOf, entryOf, infoOf, byReply, replyOf, answered, forServer, withReading, tenantOf, atClock, serveOf, Serves}
 
 -- ---- the reply
 pub terms-is : (s : State) (v : Verdict) (n : ℕ) (c : Scope) (k : ℕ) → n ≡ v .end - v .start → k ≡ v .scope - 1 → c ≡ scopeAt s k

@@ -1,7 +1,7 @@
--- A server call (document 01, "Outcomes, tested in this order" and "Replies"): a datagram, the client's address, the time, a book and the
+-- Definitions: a server call (document 01, "Outcomes, tested in this order" and "Replies"): a datagram, the client's address, the time, a book and the
 -- length of the lent reply room give an outcome, a reply's octets and the book afterwards.
 use Prim.Native.Nat.{ℕ, _-_}
-use mathlib.Core.Bool.{Bool, true, false, not, _&&_}
+use mathlib.Core.Bool.{Bool, not, _&&_}
 use mathlib.Core.List.{List, [], _∷_, _++_}
 use mathlib.Core.Path.{_≡_}
 use lib.Dec.{ltb, leb, eqb}
@@ -19,7 +19,6 @@ use Rattle.reply.specs.declared.ScopeEntry.{ScopeEntry}
 use Rattle.reply.specs.Reply.{leastRoom, offerOf, leaseAckOf, releaseAckOf, infoAckOf, nakOf}
 use Rattle.state.specs.declared.Book.{Book}
 use Rattle.state.specs.declared.ClientRange.{ClientRange}
-use Rattle.state.specs.declared.LeaseTable.{LeaseTable}
 use Rattle.state.specs.declared.Scope.{Scope}
 use Rattle.state.specs.declared.State.{State}
 use Rattle.state.specs.Book.{advanced, rangesOf, scopeAt}

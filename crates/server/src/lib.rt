@@ -7,7 +7,7 @@ ghost use Rattle.soundness.specs.Sound.{tenantsIn};
 ghost use Rattle.reply.specs.Put.{Replied};
 ghost use Rattle.reply.specs.Reply.{leastRoom};
 ghost use Rattle.decision.specs.Decide.{decideOf};
-ghost use Rattle.server.specs.Serve.{Call, headOf, termsOf, entryOf, infoOf, replyOf, answered, forServer, withReading, hasClient, tenantOf, atClock, serveOf, Serves};
+ghost use Rattle.server.specs.Serve.{headOf, termsOf, entryOf, infoOf, replyOf, answered, forServer, withReading, hasClient, tenantOf, atClock, serveOf, Serves};
 use decision::Reply;
 use decision::Verdict;
 use message::Fields;

@@ -1,7 +1,7 @@
--- Sound books by document 01's specimens, and a book for each rule that breaks it first; computed.
+-- Specimens: sound books by document 01's specimens, and a book for each rule that breaks it first; computed.
 use mathlib.Core.Path.{_≡_, refl}
-use mathlib.Core.Bool.{Bool, true, false, _&&_}
-use mathlib.Core.List.{List, [], _∷_, _++_}
+use mathlib.Core.Bool.{Bool, true}
+use mathlib.Core.List.{List, [], _∷_}
 use Prim.Native.Nat.{ℕ}
 use lib.Dec.{eqb}
 use lib.ListN.{replicate}
@@ -13,7 +13,7 @@ use Rattle.identifier.specs.Order.{orderOf, sameOf}
 use Rattle.address_set.specs.AddressSet.{bit, offsetsFrom}
 use Rattle.state.specs.declared.Lease.{Lease}
 use Rattle.state.specs.declared.State.{State}
-use Rattle.state.specs.Book.{byIdentifier, differ, laidOut, tableOf, ordered, unionAll, addressesOf, overlaps, zeroScope, committed}
+use Rattle.state.specs.Book.{byIdentifier, differ, laidOut, tableOf, unionAll, addressesOf, overlaps, zeroScope, committed}
 use Rattle.soundness.specs.Sound.{oneTo, sizeB, idB, recordsB, countsB, rule1, belowB, offsetsB, rule2, rangeB, rangesApart, rule3, poolB, poolsApart, rule4, ttlB, rule5, reserveB, reservesB, rule6, kindB, periodB, leaseB, noneB, tenantsB, rule7, rule8, disjoint, apart, rule9, compatible, rule10, limitB, limitsB, rule11, committedB, rule12, zeroFrom, paddedB, blankB, unusedB, layoutB, rangeZero, tailB, scopeZero, settingsB, rule13, rulesOf, firstLate, firstBroken, brokenOf}
 
 -- the specimens' scope 239.192.0.0 and two houses, with what a case changes: the number of houses, the second house's lowest client,

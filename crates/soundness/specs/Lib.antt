@@ -1,9 +1,3 @@
 pub mod Sound
 pub mod Parts
-pub mod Laws
-pub mod Book
-pub mod Kept
-pub mod Added
-pub mod Calm
-pub mod Laid
-pub mod Facts
+pub mod laws

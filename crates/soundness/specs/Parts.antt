@@ -1,17 +1,15 @@
--- The rules as the code gathers them: scope by scope, tenant by tenant, and from the address sets of all tenants.
+-- Definitions: the rules as the code gathers them: scope by scope, tenant by tenant, and from the address sets of all tenants.
 use Prim.Native.Nat.{ℕ}
-use mathlib.Core.Bool.{Bool, true, false, _&&_}
+use mathlib.Core.Bool.{Bool, _&&_}
 use mathlib.Core.List.{List, [], _∷_, map}
 use lib.Dec.{leb, eqb}
 use lib.ListN.{length, drop, getD}
 use Rattle.lists.specs.All.{allBy, pairsBy, allTo}
-use Rattle.lists.specs.Fold.{fold}
 use Rattle.address_set.specs.AddressSet.{offsets}
 use Rattle.state.specs.declared.Lease.{Lease}
 use Rattle.state.specs.declared.TenantLeases.{TenantLeases}
 use Rattle.state.specs.declared.LeaseTable.{LeaseTable}
 use Rattle.state.specs.declared.Scope.{Scope}
-use Rattle.state.specs.declared.ClientRange.{ClientRange}
 use Rattle.state.specs.declared.State.{State}
 use Rattle.state.specs.Book.{differ, inUse, leasesOf, inScope, heldOf, addedIf, scopeAt, limitAt, committedSum}
 use Rattle.soundness.specs.declared.ScopeRules.{ScopeRules}
@@ -23,10 +21,7 @@ use Rattle.soundness.specs.declared.SettingsRules.{SettingsRules}
 use Rattle.soundness.specs.declared.HoldingRules.{HoldingRules}
 use Rattle.soundness.specs.declared.Held.{Held}
 use Rattle.soundness.specs.declared.HeldTable.{HeldTable}
-use Rattle.soundness.specs.Sound.{tenantsIn, scopesIn, sizeB, countsB, idB, recordsB, offsetsB, rule3, poolB, poolsApart, rule4, ttlB, rule5, reservesB, rule6, leaseB, tenantsB, disjoint, rule9, compatible, rule11, rule12, layoutB, paddedB, tailB, settingsB}
-
-abbrev pub noRange : ClientRange
-noRange = record { low = 0; high = 0 }
+use Rattle.soundness.specs.Sound.{tenantsIn, scopesIn, sizeB, countsB, idB, recordsB, offsetsB, rule3, poolB, rule4, ttlB, rule5, reservesB, rule6, leaseB, disjoint, compatible, layoutB, paddedB, tailB, settingsB}
 
 -- ---- scopes
 unfoldable pub scopeRulesOf : ℕ → Scope → ScopeRules
@@ -57,16 +52,6 @@ tenantRulesOf s t = record {
   identifiers = pairsBy differ (inUse t);
   periods = pairsBy compatible (inUse t);
   layout = layoutB t;
-}
-
-unfoldable pub andTenants : State → TenantRules → TenantLeases → TenantRules
-andTenants s a t = record {
-  records = a .records && recordsB t;
-  offsets = a .offsets && allBy (offsetsB s) (inUse t);
-  leases = a .leases && allBy (leaseB s) (inUse t);
-  identifiers = a .identifiers && pairsBy differ (inUse t);
-  periods = a .periods && pairsBy compatible (inUse t);
-  layout = a .layout && layoutB t;
 }
 
 unfoldable pub tenantsAll : State → LeaseTable → TenantRules
@@ -139,9 +124,6 @@ holdingRulesIn s h = record {
   holdings = allTo (limitsIn s h (tenantsIn s)) (scopesIn s);
   commitments = allTo (committedIn s h (tenantsIn s)) (scopesIn s);
 }
-
-unfoldable pub holdingRulesOf : State → LeaseTable → HoldingRules
-holdingRulesOf s t = record { tenants = tenantsB s t; owners = rule9 t; holdings = rule11 s t; commitments = rule12 s t }
 
 unfoldable pub tableRulesOf : State → LeaseTable → TableRules
 tableRulesOf s t = record { rules = tenantsAll s t; held = holdingsOf t }

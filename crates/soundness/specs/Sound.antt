@@ -1,11 +1,11 @@
--- Document 01's "Sound", rule by rule in its order, numbered by its semicolons. Rule 13 is the layout of "How it is to be built".
+-- Definitions: document 01's "Sound", rule by rule in its order, numbered by its semicolons. Rule 13 is the layout of "How it is to be built".
 -- A house is a tenant here, its share a reserve; tenants count from 0, scopes from 1.
-use Prim.Native.Nat.{ℕ, zero, suc, _+_, _-_, min}
-use mathlib.Core.Bool.{Bool, true, false, not, _&&_, _||_}
-use mathlib.Core.List.{List, [], _∷_}
+use Prim.Native.Nat.{ℕ, _+_, _-_, min}
+use mathlib.Core.Bool.{Bool, true, _&&_, _||_}
+use mathlib.Core.List.{List, []}
 use lib.Dec.{ltb, leb, eqb}
 use lib.Bits.{bitAnd}
-use lib.ListN.{take, drop, length, getD}
+use lib.ListN.{drop, length, getD}
 use Rattle.lists.specs.Pick.{pick}
 use Rattle.lists.specs.All.{allBy, pairsBy, allTo}
 use Rattle.lists.specs.Sums.{sumTo}

@@ -1,10 +1,10 @@
--- Lease records and the lists of leases that they stand for. Document 01's book is a `State`, its settings and clock, with a `LeaseTable`.
-use Prim.Native.Nat.{ℕ, zero, suc, _+_, _-_, _*_, max}
-use mathlib.Core.Bool.{Bool, true, false, not, _&&_}
+-- Definitions: lease records and the lists of leases that they stand for. Document 01's book is a `State`, its settings and clock, with a `LeaseTable`.
+use Prim.Native.Nat.{ℕ, _+_, _-_, max}
+use mathlib.Core.Bool.{Bool, not, _&&_}
 use mathlib.Core.List.{List, [], _∷_, _++_, map}
 use lib.Dec.{eqb, ltb}
 use lib.Bits.{bitOr}
-use lib.ListN.{length, replicate, set, take, drop, getD}
+use lib.ListN.{length, replicate, set, take, getD}
 use Rattle.lists.specs.Pick.{pick}
 use Rattle.lists.specs.Filter.{filterBy}
 use Rattle.lists.specs.Place.{placeBy}
@@ -187,15 +187,9 @@ abbrev pub committedSum : Scope → ℕ → (ℕ → ℕ) → ℕ
 committedSum c n held = sumTo (committed c held) n
 
 -- ---- one turn of the loops below
--- what an element is past the end of an array
-abbrev pub noLease : Lease
-noLease = record { scope = 0; «id_len» = 0; id = []; kind = 0; xid = 0; start = 0; end = 0; addresses = 0 }
 
 abbrev pub noLeases : TenantLeases
 noLeases = record { leases = []; count = 0 }
-
-abbrev pub noScope : Scope
-noScope = record { lowest = 0; size = 0; ttl = 0; reserve = []; limit = [] }
 
 -- one lease more at the end, where there is room
 unfoldable pub pushed : TenantLeases → Lease → TenantLeases

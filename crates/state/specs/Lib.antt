@@ -1,5 +1,2 @@
 pub mod Book
-pub mod Layout
-pub mod Sets
-pub mod Sorted
-pub mod Clock
+pub mod laws

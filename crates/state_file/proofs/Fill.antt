@@ -1,4 +1,4 @@
--- Filling a tenant's records: what the loop over the file's leases keeps.
+-- Laws: filling a tenant's records: what the loop over the file's leases keeps.
 use mathlib.Core.Bool.{Bool, false, true}
 use mathlib.Core.List.{List, [], _++_, _∷_, append-assoc, append-nil, map}
 use mathlib.Core.Path.{_∙_, _≡_, ap, ap₂, refl, subst, sym}
@@ -8,13 +8,15 @@ use lib.Dec.{eqb}
 use lib.ListN.{getD, length, length-append, length-replicate, length-set, replicate, set}
 use lib.Seq.{take-all}
 use borrow.Author.Tests.{leb-true}
-use Rattle.lists.specs.All.{allTo, to-each}
-use Rattle.lists.specs.Copy.{CopyInv, copy-front, copy-full, copy-start}
+use Rattle.lists.specs.All.{allTo}
+use Rattle.lists.specs.laws.All.{to-each}
+use Rattle.lists.specs.laws.Copy.{CopyInv, copy-front, copy-full, copy-start}
 use Rattle.lists.specs.Filter.{filterBy}
 use Rattle.lists.specs.Fold.{fold}
-use Rattle.lists.specs.Pick.{pick, pick-eq, pick-not-eq}
+use Rattle.lists.specs.Pick.{pick}
+use Rattle.lists.specs.laws.Pick.{pick-eq, pick-not-eq}
 use Rattle.state.specs.Book.{laidOut, noLeases, pushed}
-use Rattle.state.specs.Layout.{push-laid}
+use Rattle.state.specs.laws.Layout.{push-laid}
 use Rattle.state.specs.declared.Lease.{Lease}
 use Rattle.state.specs.declared.TenantLeases.{TenantLeases}
 use Rattle.state_file.specs.File.{FileLease}

@@ -1,4 +1,4 @@
--- Values of a fixed number of octets: they stand wherever there are as many, and nowhere else.
+-- Laws: values of a fixed number of octets: they stand wherever there are as many, and nowhere else.
 use mathlib.Core.Bool.{Bool, false, true}
 use mathlib.Core.List.{List, [], _∷_}
 use mathlib.Core.Path.{_∙_, _≡_, ap, refl, subst, sym}
@@ -11,7 +11,7 @@ use borrow.Author.Tests.{leb-false, leb-true}
 use Rattle.octets.specs.Octets.{at32}
 use Rattle.state_file.proofs.Stands.{Fails, Stands, fails-viewed, stands-number, stands-octet, stands-viewed}
 use Rattle.state_file.specs.Format.{Format, _⊗_, _▷_, bad, counted, got, number, octet, readNumber, readOctet, readTimes, then, times, viewed}
-use Rattle.state_file.specs.FormatLaws.{then-with}
+use Rattle.state_file.specs.laws.Format.{then-with}
 use Rattle.state_file.specs.Place.{row}
 
 pub record Fixed {A : Type 0} (f : Format A) (z : ℕ) : Type 0 where

@@ -1,4 +1,4 @@
--- Octets that have the form make the file of their places.
+-- Laws: octets that have the form make the file of their places.
 use mathlib.Core.Bool.{Bool, false, true}
 use mathlib.Core.List.{List, [], _∷_}
 use mathlib.Core.Path.{_∙_, _≡_, ap, ap₂, refl, subst, sym}
@@ -14,10 +14,9 @@ use Rattle.state_file.proofs.Fixed.{counted-stands, fixed-as, fixed-bot
 use Rattle.state_file.proofs.Pad.{row-length}
 use Rattle.state_file.proofs.Run.{section-run}
 use Rattle.state_file.proofs.Stands.{Stands, stands-viewed}
-use Rattle.state_file.proofs.WholeForm.{Server, afterServer, afterTenants, fixed-pair, fixed-part, fixed-scope, fixed-tenant, form-long, form-rest, form-scopes, form-short, form-tag, form-tenants, server, tenants, ts}
+use Rattle.state_file.proofs.WholeForm.{Server, afterServer, afterTenants, fixed-pair, fixed-part, fixed-scope, fixed-tenant, form-long, form-rest, form-scopes, form-short, form-tag, form-tenants, server}
 use Rattle.state_file.specs.File.{longestFile, FileLease, FilePart, FileScope, fileFormat, fileOf, leasesFormat, ofSections, scopeFormat, tenantFormat, toSections}
-use Rattle.state_file.specs.Format.{Format, Got, _▷_, bad, closed, counted, got}
-use Rattle.state_file.specs.FormatLaws.{Octets}
+use Rattle.state_file.specs.Format.{Format, Got, _▷_, bad, closed, counted, got, Octets}
 use Rattle.state_file.specs.Place.{Formed, fileAt, isGot, leaseCount, leasesAt, leasesPlace, partAt, rangeAt, row, fileScopeAt, scopeCount, scopesPlace, tenantCount}
 
 same-row : {A : Type 0} (v w : List ℕ → ℕ → A) (z n : ℕ) (s : List ℕ) (at : ℕ) → ((x : ℕ) → v s x ≡ w s x) → row v z n s at ≡ row w z n s at

@@ -1,4 +1,4 @@
--- Reading a lease into a record: an identifier into an array, and the parts together.
+-- Laws: reading a lease into a record: an identifier into an array, and the parts together.
 use mathlib.Core.List.{List}
 use mathlib.Core.Path.{_∙_, _≡_, ap, ap₂, sym}
 use Prim.Native.Nat.{_+_, _-_, _<_, _≤_, ℕ}

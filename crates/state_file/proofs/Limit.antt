@@ -1,4 +1,4 @@
--- The loops that decide whether leases can be held.
+-- Laws: the loops that decide whether leases can be held.
 use mathlib.Core.Bool.{Bool, false, true}
 use mathlib.Core.List.{List, _∷_}
 use mathlib.Core.Path.{_∙_, _≡_, ap, ap₂, refl, subst, sym}
@@ -8,7 +8,6 @@ use lib.Dec.{eqb, leb, ltb}
 use lib.ListN.{drop, drop-of-length-le, getD, length, length-drop, take}
 use lib.Seq.{length-take-le}
 use borrow.Author.Tests.{eq-eqb, le-ltb, lt-ltb, ne-eqb}
-use Rattle.address_set.specs.AddressSet.{offsets}
 use Rattle.lists.specs.All.{allBy}
 use Rattle.lists.specs.Filter.{filterBy}
 use Rattle.lists.specs.Pick.{pick}

@@ -1,4 +1,4 @@
--- The records of a file that has the form and that they can hold.
+-- Laws: the records of a file that has the form and that they can hold.
 use mathlib.Core.Bool.{Bool, false, true}
 use mathlib.Core.List.{List, [], map}
 use mathlib.Core.Path.{_∙_, _≡_, ap, ap₂, refl, subst, sym}
@@ -8,7 +8,8 @@ use lib.Dec.{ltb}
 use lib.ListN.{drop, getD, length, length-drop, replicate, take}
 use lib.Seq.{length-take-le}
 use borrow.Author.Tests.{le-ltb, lt-ltb, ltb-false}
-use Rattle.lists.specs.All.{all-head, allBy, allTo}
+use Rattle.lists.specs.laws.All.{all-head}
+use Rattle.lists.specs.All.{allBy, allTo}
 use Rattle.lists.specs.Pick.{pick}
 use Rattle.octets.specs.Octets.{at32}
 use Rattle.soundness.specs.Sound.{soundB}
@@ -19,10 +20,9 @@ use Rattle.state.specs.declared.Scope.{Scope}
 use Rattle.state.specs.declared.State.{State}
 use Rattle.state.specs.declared.TenantLeases.{TenantLeases}
 use Rattle.state_file.proofs.Fill.{eight-laid}
-use Rattle.state_file.proofs.Gather.{ids}
 use Rattle.state_file.proofs.Pad.{row-length}
 use Rattle.state_file.proofs.ReadAgain.{both, neither}
-use Rattle.state_file.proofs.WholeForm.{server, tenants, ts}
+use Rattle.state_file.proofs.WholeForm.{ts}
 use Rattle.state_file.specs.File.{File, FileLease, fileOf}
 use Rattle.state_file.specs.Format.{Got, bad, got}
 use Rattle.state_file.specs.Place.{AllStorable, Formed, Storable, InRow, Inside, fileAt, isGot, keptFrom, fileLeaseAt, leaseCount, leasesAt, leasesPlace, nextAt, rangeAt, row, fileScopeAt, scopeCount, scopesPlace, tenantCount}

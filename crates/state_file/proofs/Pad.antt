@@ -1,11 +1,11 @@
--- One law for every loop that fills an array from the front with the values of a row and leaves the rest as it was.
+-- Laws: one for every loop that fills an array from the front with the values of a row and leaves the rest as it was.
 use mathlib.Core.List.{List, _++_, _∷_, map}
 use mathlib.Core.Path.{_∙_, _≡_, ap, ap₂, refl, subst, sym}
 use Prim.Native.Nat.{_*_, _+_, _-_, _<_, _≤_, suc, zero, ℕ}
 use native.Mathlib.Nat.{mul-le-mul, suc-mul, zero-add, zero-mul}
 use native.Mathlib.Omega.{arith}
 use lib.ListN.{drop, getD, length, length-map, length-replicate, length-set, replicate, set}
-use Rattle.lists.specs.Copy.{CopyInv, copy-front, copy-paste, copy-start}
+use Rattle.lists.specs.laws.Copy.{CopyInv, copy-front, copy-paste, copy-start}
 use Rattle.octets.specs.Octets.{at32}
 use Rattle.state.specs.declared.ClientRange.{ClientRange}
 use Rattle.state.specs.declared.Scope.{Scope}

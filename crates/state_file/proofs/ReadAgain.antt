@@ -1,4 +1,4 @@
--- A file that the records can hold is the file of its records.
+-- Laws: a file that the records can hold is the file of its records.
 use mathlib.Core.Bool.{Bool, false, true}
 use mathlib.Core.List.{List, [], _++_, _∷_, map}
 use mathlib.Core.Path.{_∙_, _≡_, ap, ap₂, refl, sym}
@@ -7,17 +7,17 @@ use native.Mathlib.Omega.{arith}
 use lib.ListN.{length, length-map, replicate, take}
 use lib.Seq.{take-append-seam}
 use borrow.Author.Tests.{ltb-false}
-use Rattle.address_set.specs.AddressSet.{offsets}
-use Rattle.lists.specs.All.{All, all-head, allBy}
+use Rattle.lists.specs.All.{All, allBy}
+use Rattle.lists.specs.laws.All.{all-head}
 use Rattle.lists.specs.Pick.{pick}
 use Rattle.state.specs.Book.{leasesOf, rangesOf, scopesOf, zeroScope}
-use Rattle.state.specs.Layout.{table-back}
+use Rattle.state.specs.laws.Layout.{table-back}
 use Rattle.state.specs.declared.ClientRange.{ClientRange}
-use Rattle.state_file.proofs.WholeForm.{server, tenants, ts}
+use Rattle.state_file.proofs.WholeForm.{ts}
 use Rattle.state_file.specs.File.{File, FileLease, FilePart, FileScope, fileFormat, leaseFormat, scopeFormat}
-use Rattle.state_file.specs.RecordLaws.{Storable, filled-take}
+use Rattle.state_file.specs.laws.Records.{Storable, filled-take}
 use Rattle.state_file.specs.Records.{filedBook, filedFrom, filedScope, filled, fitsB, isOffset, leasesFitB, pairUp, storableB, storedScope, storedState, storedTable, tenantsFrom, zeroRange}
-use Rattle.state_file.specs.TenantLaws.{leases-again}
+use Rattle.state_file.specs.laws.Tenants.{leases-again}
 
 -- ---- from tests to facts
 pub all-facts : {A : Type 0} (t : A → Bool) (P : A → Type 0) (l : List A) → ((x : A) → t x ≡ true → P x) → allBy t l ≡ true → All P l

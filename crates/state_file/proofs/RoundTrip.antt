@@ -1,4 +1,4 @@
--- The round trips: a file that is accepted, read and written again has the same octets; a sound book, written and read again, is the
+-- Proof of the round trips: a file that is accepted, read and written again has the same octets; a sound book, written and read again, is the
 -- same book, so that what the writer writes is always accepted.
 use mathlib.Core.Bool.{Bool, false, true}
 use mathlib.Core.List.{List, [], _++_, _∷_}
@@ -16,9 +16,8 @@ use Rattle.state.specs.declared.State.{State}
 use Rattle.state_file.proofs.ReadAgain.{book-again}
 use Rattle.state_file.proofs.WriteAgain.{book-fits, book-ok, book-short, state-same, table-same}
 use Rattle.state_file.specs.File.{longestFile, File, fileFormat, fileOf}
-use Rattle.state_file.specs.FileLaws.{file-reads, file-written}
-use Rattle.state_file.specs.Format.{Got, bad, closed, got}
-use Rattle.state_file.specs.FormatLaws.{Octets}
+use Rattle.state_file.specs.laws.File.{file-reads, file-written}
+use Rattle.state_file.specs.Format.{Got, bad, closed, got, Octets}
 use Rattle.state_file.specs.Records.{filedBook, fitsB, storedState, storedTable}
 use Rattle.state_file.specs.StateFile.{accepted, loadedGot, judged, loaded, octetsOf, readFile, refused, roomAfter, writtenOf}
 use Rattle.state_file.specs.Typed.{Typed}

@@ -1,4 +1,4 @@
--- One law for every loop that writes the octets of the first elements of an array, an element a turn, and one for their number.
+-- Laws: one for every loop that writes the octets of the first elements of an array, an element a turn, and one for their number.
 use mathlib.Core.List.{List, [], _++_, _∷_, append-assoc, append-nil}
 use mathlib.Core.Path.{_∙_, _≡_, ap, ap₂, refl, subst, sym}
 use Prim.Native.Nat.{_*_, _+_, _<_, _≤_, min, suc, zero, ℕ}
@@ -7,11 +7,13 @@ use native.Mathlib.Numerals.{add-one}
 use native.Mathlib.Omega.{arith}
 use lib.ListN.{getD, length, length-append, take}
 use lib.Seq.{take-all}
-use Rattle.lists.specs.Part.{cut-take, unmapped}
-use Rattle.lists.specs.Sums.{sum-one-more, sumTo}
-use Rattle.octets.specs.Laws.{wrote-joined, wrote-as, wrote-none}
+use Rattle.lists.specs.laws.Part.{cut-take, unmapped}
+use Rattle.lists.specs.laws.Sums.{sum-one-more}
+use Rattle.lists.specs.Sums.{sumTo}
+use Rattle.octets.specs.laws.Octets.{wrote-joined, wrote-as, wrote-none}
 use Rattle.octets.specs.Octets.{Wrote}
-use Rattle.state.specs.Book.{noLease, noLeases, noScope}
+use Rattle.state.specs.laws.Layout.{noLease, noScope}
+use Rattle.state.specs.Book.{noLeases}
 use Rattle.state.specs.declared.ClientRange.{ClientRange}
 use Rattle.state.specs.declared.Lease.{Lease}
 use Rattle.state.specs.declared.Scope.{Scope}

@@ -1,4 +1,4 @@
--- The section of leases: what the loop over its records keeps, and that it gives what the format says.
+-- Laws: the section of leases: what the loop over its records keeps, and that it gives what the format says.
 use mathlib.Core.Bool.{Bool, false, true}
 use mathlib.Core.List.{List, [], _∷_}
 use mathlib.Core.Path.{_∙_, _≡_, ap, refl, subst, sym}
@@ -9,7 +9,8 @@ use lib.Dec.{eqb}
 use lib.ListN.{drop, drop-of-length-le, getD, length, length-drop, take}
 use lib.Seq.{drop-cons}
 use Rattle.identifier.specs.Order.{orderOf}
-use Rattle.lists.specs.Pick.{pick, pick-lt, pick-not-lt}
+use Rattle.lists.specs.Pick.{pick}
+use Rattle.lists.specs.laws.Pick.{pick-lt, pick-not-lt}
 use Rattle.state_file.specs.File.{FileLease, isAfter, leaseFormat, leasesFormat, orderedFrom}
 use Rattle.state_file.specs.Format.{Got, bad, got, readOctet, readTimes, then}
 use Rattle.state_file.specs.Place.{LeaseEnds, PlaceIn, gotAt, fileLeaseAt, leasesFrom, onGot, endPlace}

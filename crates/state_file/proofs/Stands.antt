@@ -1,4 +1,4 @@
--- A value that stands at a place of the octets, part by part.
+-- Laws: a value that stands at a place of the octets, part by part.
 use mathlib.Core.Bool.{Bool, false, true}
 use mathlib.Core.List.{List, [], _++_, _∷_, append-assoc}
 use mathlib.Core.Path.{_∙_, _≡_, ap, ap₂, refl, subst, sym}
@@ -7,13 +7,13 @@ use native.Mathlib.Numerals.{add-one}
 use native.Mathlib.Omega.{arith}
 use lib.ListN.{drop, getD, length, length-append, length-drop, take}
 use lib.Seq.{drop-cons, drop-drop, getD-append-add, getD-drop}
-use Rattle.address_set.specs.AddressSet.{offsets, rises}
+use Rattle.address_set.specs.AddressSet.{rises}
 use Rattle.lists.specs.Pick.{pick}
 use Rattle.octets.specs.Octets.{at32, octets32}
 use Rattle.state_file.specs.File.{FileLease, leaseFormat, ofParts, toParts}
-use Rattle.state_file.specs.FileLaws.{lease-lawful}
-use Rattle.state_file.specs.Format.{Format, Got, _⊗_, bad, counted, got, number, octet, only, readNumber, readOctet, readTimes, then, viewed, writeAll}
-use Rattle.state_file.specs.FormatLaws.{Octets, then-with}
+use Rattle.state_file.specs.laws.File.{lease-lawful}
+use Rattle.state_file.specs.Format.{Format, Got, _⊗_, bad, counted, got, number, octet, only, readNumber, readOctet, readTimes, then, viewed, writeAll, Octets}
+use Rattle.state_file.specs.laws.Format.{then-with}
 use Rattle.state_file.specs.Place.{LeaseEnds, PlaceIn, gotAt, fileLeaseAt, nextAt}
 use Rattle.state_file.specs.declared.Place.the-variants.{At, Nowhere}
 

@@ -1,4 +1,4 @@
--- What the loops over a part of the octets keep.
+-- Laws: what the loops over a part of the octets keep.
 use mathlib.Core.Bool.{Bool, false, true}
 use mathlib.Core.List.{List, _∷_}
 use mathlib.Core.Path.{_∙_, _≡_, ap, ap₂, refl, sym}
@@ -10,7 +10,7 @@ use lib.ListN.{drop, drop-of-length-le, getD, length, length-drop, take}
 use lib.Seq.{drop-cons, getD-drop, getD-take, length-take-le}
 use borrow.Author.Tests.{le-ltb, lt-ltb}
 use Rattle.address_set.specs.AddressSet.{rises, risesFrom}
-use Rattle.identifier.specs.Laws.{OrderInv, order-both, order-less, order-longer, order-more, order-next, order-shorter}
+use Rattle.identifier.specs.laws.Order.{OrderInv, order-both, order-less, order-longer, order-more, order-next, order-shorter}
 use Rattle.identifier.specs.Order.{orderOf}
 use Rattle.lists.specs.Pick.{pick}
 

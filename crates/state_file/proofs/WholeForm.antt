@@ -1,4 +1,4 @@
--- The form of the whole file, section by section.
+-- Laws: the form of the whole file, section by section.
 use mathlib.Core.Bool.{Bool, false, true}
 use mathlib.Core.List.{List, [], _∷_}
 use mathlib.Core.Path.{_∙_, _≡_, ap, refl, sym}
@@ -15,7 +15,7 @@ use Rattle.state_file.proofs.Pad.{row-length}
 use Rattle.state_file.proofs.Stands.{Fails, Stands, fails-viewed, stands-octet}
 use Rattle.state_file.specs.File.{longestFile, FileLease, FileScope, fileFormat, fileOf, leasesFormat, partFormat, scopeFormat, tenantFormat}
 use Rattle.state_file.specs.Format.{Format, Got, _⊗_, _▷_, after, bad, closed, counted, got, number, readOctet, then}
-use Rattle.state_file.specs.FormatLaws.{then-with}
+use Rattle.state_file.specs.laws.Format.{then-with}
 use Rattle.state_file.specs.Place.{isGot, endPlace, row}
 use Rattle.state_file.specs.declared.Place.the-variants.{At, Nowhere}
 

@@ -1,4 +1,4 @@
--- A sound book's file is one that the records can hold, and its records are the book's.
+-- Laws: a sound book's file is one that the records can hold, and its records are the book's.
 use mathlib.Core.Bool.{Bool, _&&_, false, true}
 use mathlib.Core.List.{List, [], _++_, _∷_, map}
 use mathlib.Core.Path.{_∙_, _≡_, ap, ap₂, refl, sym}
@@ -10,13 +10,14 @@ use lib.ListN.{drop, getD, length, length-append, length-drop, length-map, repli
 use lib.Seq.{length-take-le}
 use borrow.Author.Tests.{eqb-true, le-leb, le-ltb, leb-true, lt-ltb, ne-eqb}
 use Rattle.address_set.specs.AddressSet.{offsets}
-use Rattle.address_set.specs.Laws.{length-offsets}
-use Rattle.address_set.specs.ListLaws.{offsets-small, rises-offsets}
+use Rattle.address_set.specs.laws.Bits.{length-offsets}
+use Rattle.address_set.specs.laws.Offsets.{offsets-small, rises-offsets}
 use Rattle.identifier.specs.Order.{orderOf}
-use Rattle.lists.specs.All.{All, all-append, all-cons, all-head, allBy, allTo, each-to, pairs-head, pairsBy}
-use Rattle.lists.specs.Both.{and-parts}
+use Rattle.lists.specs.All.{All, allBy, allTo, pairsBy}
+use Rattle.lists.specs.laws.All.{all-append, all-cons, all-head, each-to, pairs-head}
+use Rattle.lists.specs.laws.Both.{and-parts}
 use Rattle.lists.specs.Pick.{pick}
-use Rattle.soundness.specs.Book.{AllRules, rules-of}
+use Rattle.soundness.specs.laws.Book.{AllRules, rules-of}
 use Rattle.soundness.specs.Sound.{blankB, countsB, oneTo, idB, layoutB, paddedB, rangeZero, recordsB, rule1, rule13, rulesOf, scopeZero, settingsB, sizeB, soundB, tailB, unusedB, zeroFrom}
 use Rattle.state.specs.Book.{byIdentifier, idOf, inUse, laidOut, leasesOf, ordered, rangesOf, scopesOf, tableOf, zeroLease, zeroScope}
 use Rattle.state.specs.declared.ClientRange.{ClientRange}
@@ -25,17 +26,16 @@ use Rattle.state.specs.declared.LeaseTable.{LeaseTable}
 use Rattle.state.specs.declared.Scope.{Scope}
 use Rattle.state.specs.declared.State.{State}
 use Rattle.state.specs.declared.TenantLeases.{TenantLeases}
-use Rattle.state_file.proofs.Limit.{limits}
 use Rattle.state_file.proofs.ReadAgain.{all-facts, two-facts}
 use Rattle.state_file.proofs.RowLaws.{pair-length}
-use Rattle.state_file.proofs.WholeForm.{server, tenants, ts}
+use Rattle.state_file.proofs.WholeForm.{ts}
 use Rattle.state_file.proofs.Writes.{file-length, lease-length, ranges-length, scope-length}
 use Rattle.state_file.specs.File.{longestFile, FileLease, fileFormat, isAfter, leaseFormat, orderedFrom, partFormat, scopeFormat, tenantFormat}
-use Rattle.state_file.specs.RecordLaws.{Neat, filled-back}
+use Rattle.state_file.specs.laws.Records.{Neat, filled-back}
 use Rattle.state_file.specs.Records.{fewOf, filedLease, filedBook, filedFrom, filedScope, filled, fitsB, isOffset, leasesFitB, ofTenant, pairUp, storableB, stored, storedScope, storedState, storedTable, tenantsFrom, zeroRange}
 use Rattle.state_file.specs.Rows.{leaseOctets, scopeRow, tenantRow, writeFrom}
 use Rattle.state_file.specs.StateFile.{octetsOf}
-use Rattle.state_file.specs.TenantLaws.{leases-back}
+use Rattle.state_file.specs.laws.Tenants.{leases-back}
 use Rattle.state_file.specs.Typed.{Typed, TypedLease, TypedRange, TypedScope, TypedTenant}
 
 -- ---- facts about all of a list

@@ -1,4 +1,4 @@
--- Writing: the octets of a lease and of the settings piece by piece.
+-- Laws: writing: the octets of a lease and of the settings piece by piece.
 use mathlib.Core.Bool.{Bool, false, true}
 use mathlib.Core.List.{List, [], _++_, _∷_, append-assoc, map}
 use mathlib.Core.Path.{_∙_, _≡_, ap, ap₂, refl, subst, sym}
@@ -10,12 +10,13 @@ use lib.ListN.{drop, getD, length, length-append, length-map, length-take, repli
 use lib.Seq.{length-take-le, take-all, take-append-seam}
 use borrow.Author.Tests.{le-ltb, lt-ltb}
 use Rattle.address_set.specs.AddressSet.{listed, offsets}
-use Rattle.address_set.specs.Laws.{length-offsets}
+use Rattle.address_set.specs.laws.Bits.{length-offsets}
 use Rattle.address_set.specs.declared.Offsets.{Offsets}
-use Rattle.lists.specs.Part.{cut-take}
+use Rattle.lists.specs.laws.Part.{cut-take}
 use Rattle.lists.specs.Pick.{pick}
-use Rattle.lists.specs.Sums.{sum-same, sumTo}
-use Rattle.octets.specs.Laws.{wrote-joined, wrote-whole, wrote-as}
+use Rattle.lists.specs.laws.Sums.{sum-same}
+use Rattle.lists.specs.Sums.{sumTo}
+use Rattle.octets.specs.laws.Octets.{wrote-joined, wrote-whole, wrote-as}
 use Rattle.octets.specs.Octets.{Wrote, octets32}
 use Rattle.soundness.specs.Sound.{soundB}
 use Rattle.state.specs.Book.{inUse, leasesOf, noLeases, rangesOf, scopesOf}
@@ -26,7 +27,6 @@ use Rattle.state.specs.declared.Scope.{Scope}
 use Rattle.state.specs.declared.State.{State}
 use Rattle.state.specs.declared.TenantLeases.{TenantLeases}
 use Rattle.state_file.proofs.RowLaws.{pair-length, row-sum}
-use Rattle.state_file.proofs.WholeForm.{tenants}
 use Rattle.state_file.specs.File.{FilePart, leaseFormat, partFormat, scopeFormat, tenantFormat}
 use Rattle.state_file.specs.Format.{writeAll}
 use Rattle.state_file.specs.Records.{filedLease, filedBook, filedFrom, filedScope, pairUp}

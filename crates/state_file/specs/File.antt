@@ -1,4 +1,4 @@
--- The state file ("campus file" in document 01): its values and its format, section by section. Its lists have any length: what the
+-- Definitions: the state file ("campus file" in document 01): its values and its format, section by section. Its lists have any length: what the
 -- records cannot hold is still a file, and unsound. A tenant is document 01's house.
 use mathlib.Core.Bool.{Bool, false, true}
 use mathlib.Core.List.{List, [], _∷_}

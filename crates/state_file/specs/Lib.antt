@@ -1,11 +1,8 @@
 pub mod Format
-pub mod FormatLaws
 pub mod File
-pub mod FileLaws
 pub mod Records
-pub mod RecordLaws
-pub mod TenantLaws
 pub mod Place
 pub mod Rows
 pub mod StateFile
 pub mod Typed
+pub mod laws

@@ -1,13 +1,11 @@
--- Where the file's values stand in its octets, for the code that goes over them.
+-- Definitions: where the file's values stand in its octets, for the code that goes over them.
 use mathlib.Core.Bool.{Bool, false, true}
 use mathlib.Core.List.{List, [], _∷_}
 use mathlib.Core.Path.{_≡_}
 use Prim.Native.Nat.{_*_, _+_, _-_, _<_, _≤_, suc, zero, ℕ}
 use lib.Dec.{eqb}
 use lib.ListN.{drop, getD, length, take}
-use Rattle.address_set.specs.AddressSet.{offsets}
 use Rattle.lists.specs.Fold.{fold}
-use Rattle.lists.specs.Part.{parts}
 use Rattle.lists.specs.Pick.{pick}
 use Rattle.octets.specs.Octets.{at32}
 use Rattle.state.specs.Book.{laidOut, pushed}

@@ -1,4 +1,4 @@
--- How the file's values stand in the book's records, and the book's in the file.
+-- Definitions: how the file's values stand in the book's records, and the book's in the file.
 use mathlib.Core.Bool.{Bool, false}
 use mathlib.Core.List.{List, [], _++_, _∷_, map}
 use Prim.Native.Nat.{_+_, _-_, suc, zero, ℕ}
@@ -7,7 +7,6 @@ use lib.ListN.{length, replicate, take}
 use Rattle.address_set.specs.AddressSet.{offsets, readOffsets}
 use Rattle.lists.specs.All.{allBy, allTo}
 use Rattle.lists.specs.Filter.{filterBy}
-use Rattle.lists.specs.Part.{parts}
 use Rattle.lists.specs.Pick.{pick}
 use Rattle.state.specs.Book.{leasesOf, rangesOf, scopesOf, tableOf, zeroScope}
 use Rattle.state.specs.declared.ClientRange.{ClientRange}

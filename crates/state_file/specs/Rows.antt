@@ -1,4 +1,4 @@
--- The octets of the book's records, as the writer goes over them: row by row, each element's going by its place.
+-- Definitions: the octets of the book's records, as the writer goes over them: row by row, each element's going by its place.
 use mathlib.Core.List.{List, [], _++_, _∷_}
 use Prim.Native.Nat.{_+_, suc, ℕ}
 use lib.ListN.{getD, length, take}

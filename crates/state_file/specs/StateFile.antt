@@ -1,4 +1,4 @@
--- What the reader and the writer of the state file answer: document 01, "Campus file and sound book".
+-- Definitions: what the reader and the writer of the state file answer: document 01, "Campus file and sound book".
 use mathlib.Core.List.{List, [], _++_}
 use Prim.Native.Nat.{ℕ}
 use lib.Dec.{ltb}

@@ -1,4 +1,4 @@
--- What the types of a book's records say of its numbers and arrays: every book that code has is so.
+-- Definitions: what the types of a book's records say of its numbers and arrays: every book that code has is so.
 use mathlib.Core.Path.{_≡_}
 use Prim.Native.Nat.{_<_, _^_}
 use lib.ListN.{length}

@@ -1,5 +1,5 @@
 -- `choose` meets its contract: the lowest of the one, then of the other.
-use Rattle.address_set.specs.Laws.{choose-both, choose-own}
+use Rattle.address_set.specs.laws.Bits.{choose-both, choose-own}
 use borrow.Author.Needs.{needs}
 use Rattle.address_set.proofs.choose.Statement.{statement}
 use Rattle.address_set.proofs.choose.Tie as tie

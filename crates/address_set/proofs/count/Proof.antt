@@ -1,5 +1,5 @@
 -- `count` meets its contract: the bits are as many as the offsets.
-use Rattle.address_set.specs.Laws.{ones-offsets}
+use Rattle.address_set.specs.laws.Bits.{ones-offsets}
 use borrow.Author.Needs.{needs}
 use Rattle.address_set.proofs.count.Statement.{statement}
 use Rattle.address_set.proofs.count.Tie as tie

@@ -1,5 +1,5 @@
 -- `difference` meets its contract: by and-not.
-use Rattle.address_set.specs.ListLaws.{difference-by}
+use Rattle.address_set.specs.laws.Offsets.{difference-by}
 use borrow.Author.Needs.{needs}
 use Rattle.address_set.proofs.difference.Statement.{statement}
 use Rattle.address_set.proofs.difference.Tie as tie

@@ -1,5 +1,5 @@
 -- `first_n` meets its contract: the offsets below n are n ones.
-use Rattle.address_set.specs.ListLaws.{all-ones, below-ones, shift-less, shift-some}
+use Rattle.address_set.specs.laws.Offsets.{all-ones, below-ones, shift-less, shift-some}
 use borrow.Author.Needs.{needs}
 use Rattle.address_set.proofs.first_n.Statement.{statement}
 use Rattle.address_set.proofs.first_n.Tie as tie

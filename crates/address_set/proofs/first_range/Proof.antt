@@ -1,5 +1,5 @@
 -- `first_range` meets its contract: zeros below the lowest bit, then the ones above it.
-use Rattle.address_set.specs.RangeLaws.{first-none, first-some, flip, trailing-fits, trailing-lt}
+use Rattle.address_set.specs.laws.Ranges.{first-none, first-some, flip, trailing-fits, trailing-lt}
 use borrow.Author.Needs.{needs}
 use Rattle.address_set.proofs.first_range.Statement.{statement}
 use Rattle.address_set.proofs.first_range.Tie as tie

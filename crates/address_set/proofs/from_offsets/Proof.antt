@@ -1,8 +1,8 @@
 -- `from_offsets` meets its contract: a fold over the octets.
 use Prim.Native.Nat.{_-_}
 use Rattle.address_set.specs.AddressSet.{readOffsets, withOffset}
-use Rattle.address_set.specs.ListLaws.{read-is}
-use Rattle.lists.specs.Fold.{FoldInv, folds}
+use Rattle.address_set.specs.laws.Offsets.{read-is}
+use Rattle.lists.specs.laws.Fold.{FoldInv, folds}
 use borrow.Author.Needs.{needs}
 use lib.ListN.{length, set}
 use Rattle.address_set.proofs.from_offsets.Statement.{statement}

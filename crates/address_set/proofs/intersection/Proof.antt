@@ -1,5 +1,5 @@
 -- `intersection` meets its contract: a common offset is a common bit.
-use Rattle.address_set.specs.ListLaws.{intersection-and}
+use Rattle.address_set.specs.laws.Offsets.{intersection-and}
 use borrow.Author.Needs.{needs}
 use Rattle.address_set.proofs.intersection.Statement.{statement}
 use Rattle.address_set.proofs.intersection.Tie as tie

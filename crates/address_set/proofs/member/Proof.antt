@@ -1,6 +1,6 @@
 -- `member` meets its contract: an offset is in the list where its bit is 1.
 use Rattle.address_set.specs.AddressSet.{bit}
-use Rattle.address_set.specs.ListLaws.{in-bit, not-in}
+use Rattle.address_set.specs.laws.Offsets.{in-bit, not-in}
 use borrow.Author.Needs.{needs}
 use Rattle.address_set.proofs.member.Statement.{statement}
 use Rattle.address_set.proofs.member.Tie as tie

@@ -1,6 +1,6 @@
 -- `push` meets its contract: one test.
 use Rattle.address_set.specs.AddressSet.{pushedOffset}
-use Rattle.lists.specs.Pick.{picks}
+use Rattle.lists.specs.laws.Pick.{picks}
 use borrow.Author.Needs.{needs}
 use Rattle.address_set.proofs.push.Statement.{statement}
 use Rattle.address_set.proofs.push.Tie as tie

@@ -1,5 +1,5 @@
 -- `rest` meets its contract: the bits from the end of the range on.
-use Rattle.address_set.specs.RangeLaws.{behind-none, behind-shifted}
+use Rattle.address_set.specs.laws.Ranges.{behind-none, behind-shifted}
 use borrow.Author.Needs.{needs}
 use Rattle.address_set.proofs.rest.Statement.{statement}
 use Rattle.address_set.proofs.rest.Tie as tie

@@ -1,6 +1,6 @@
 -- `to_offsets` meets its contract: a fold over the offsets that are left.
 use Prim.Native.Nat.{_-_}
-use Rattle.address_set.specs.ListLaws.{ListInv, lists}
+use Rattle.address_set.specs.laws.Offsets.{ListInv, lists}
 use borrow.Author.Needs.{needs}
 use lib.ListN.{set}
 use Rattle.address_set.proofs.to_offsets.Statement.{statement}

@@ -1,5 +1,5 @@
 -- `with_offset` meets its contract: one test.
-use Rattle.address_set.specs.ListLaws.{with-in, with-out}
+use Rattle.address_set.specs.laws.Offsets.{with-in, with-out}
 use borrow.Author.Needs.{needs}
 use Rattle.address_set.proofs.with_offset.Statement.{statement}
 use Rattle.address_set.proofs.with_offset.Tie as tie

@@ -1,9 +1,10 @@
 -- `busy` meets its contract: a fold that joins sets.
 use Prim.Native.Nat.{_-_}
-use Rattle.allocation.specs.Loops.{busy-is, busyMore}
+use Rattle.allocation.specs.laws.Loops.{busy-is}
+use Rattle.allocation.specs.Loops.{busyMore}
 use Rattle.allocation.specs.Rule.{busyIn}
-use Rattle.lists.specs.Fold.{FoldInv, folds}
-use Rattle.lists.specs.Part.{unmapped}
+use Rattle.lists.specs.laws.Fold.{FoldInv, folds}
+use Rattle.lists.specs.laws.Part.{unmapped}
 use Rattle.state.specs.Book.{leasesOf, noLeases}
 use borrow.Author.Needs.{needs}
 use Rattle.allocation.proofs.busy.Statement.{statement}

@@ -1,5 +1,5 @@
 -- `busy_more` meets its contract: one set more.
-use Rattle.address_set.specs.Laws.{or-same}
+use Rattle.address_set.specs.laws.Bits.{or-same}
 use Rattle.allocation.specs.Loops.{busyMore}
 use borrow.Author.Needs.{needs}
 use Rattle.allocation.proofs.busy_more.Statement.{statement}

@@ -1,6 +1,6 @@
 -- `committed_other` meets its contract: a tenant of the sum, a small number.
-use Rattle.allocation.specs.Loops.{other-is, other-small}
-use Rattle.lists.specs.Pick.{picks}
+use Rattle.allocation.specs.laws.Loops.{other-is, other-small}
+use Rattle.lists.specs.laws.Pick.{picks}
 use borrow.Author.Needs.{needs}
 use Rattle.allocation.proofs.committed_other.Statement.{statement}
 use Rattle.allocation.proofs.committed_other.Tie as tie

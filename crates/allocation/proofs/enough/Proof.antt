@@ -1,5 +1,5 @@
 -- `enough` meets its contract: the number, widened.
-use Rattle.allocation.specs.Loops.{suffices-is}
+use Rattle.allocation.specs.laws.Loops.{suffices-is}
 use borrow.Author.Needs.{needs}
 use Rattle.allocation.proofs.enough.Statement.{statement}
 use Rattle.allocation.proofs.enough.Tie as tie

@@ -1,5 +1,5 @@
 -- `free` meets its contract: the sets that its calls give.
-use Rattle.allocation.specs.Loops.{free-is}
+use Rattle.allocation.specs.laws.Loops.{free-is}
 use borrow.Author.Needs.{needs}
 use Rattle.allocation.proofs.free.Statement.{statement}
 use Rattle.allocation.proofs.free.Tie as tie

@@ -1,5 +1,5 @@
 -- `granted` meets its contract: the parts of the grant by their calls.
-use Rattle.allocation.specs.Loops.{grant-is}
+use Rattle.allocation.specs.laws.Loops.{grant-is}
 use borrow.Author.Needs.{needs}
 use Rattle.allocation.proofs.granted.Statement.{statement}
 use Rattle.allocation.proofs.granted.Tie as tie

@@ -1,5 +1,5 @@
 -- `most` meets its contract: the closed form of the largest allowed number.
-use Rattle.allocation.specs.Closed.{closes}
+use Rattle.allocation.specs.laws.Closed.{closes}
 use borrow.Author.Needs.{needs}
 use Rattle.allocation.proofs.most.Statement.{statement}
 use Rattle.allocation.proofs.most.Tie as tie

@@ -1,5 +1,5 @@
 -- `nobodys` meets its contract: the sets that its calls give.
-use Rattle.allocation.specs.Loops.{difference-is}
+use Rattle.allocation.specs.laws.Loops.{difference-is}
 use borrow.Author.Needs.{needs}
 use Rattle.allocation.proofs.nobodys.Statement.{statement}
 use Rattle.allocation.proofs.nobodys.Tie as tie

@@ -1,5 +1,5 @@
 -- `numbers` meets its contract: each number by its call.
-use Rattle.allocation.specs.Loops.{numbers-is}
+use Rattle.allocation.specs.laws.Loops.{numbers-is}
 use borrow.Author.Needs.{needs}
 use Rattle.allocation.proofs.numbers.Statement.{statement}
 use Rattle.allocation.proofs.numbers.Tie as tie

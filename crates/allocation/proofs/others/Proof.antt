@@ -1,7 +1,8 @@
 -- `others` meets its contract: a sum of small numbers.
 use Prim.Native.Nat.{_-_}
-use Rattle.allocation.specs.Loops.{other-read}
-use Rattle.lists.specs.Sums.{SumInv, sums, except}
+use Rattle.allocation.specs.laws.Loops.{other-read}
+use Rattle.lists.specs.laws.Sums.{SumInv, sums}
+use Rattle.lists.specs.Sums.{except}
 use Rattle.state.specs.Book.{leasesOf, heldAt, committed}
 use borrow.Author.Needs.{needs}
 use Rattle.allocation.proofs.others.Statement.{statement}

@@ -1,9 +1,10 @@
 -- `taken` meets its contract: a fold that joins sets.
 use Prim.Native.Nat.{_-_}
-use Rattle.allocation.specs.Loops.{taken-is, takenOne}
+use Rattle.allocation.specs.laws.Loops.{taken-is}
+use Rattle.allocation.specs.Loops.{takenOne}
 use Rattle.allocation.specs.Rule.{takenOf}
-use Rattle.lists.specs.Fold.{FoldInv, folds}
-use Rattle.lists.specs.Part.{unmapped}
+use Rattle.lists.specs.laws.Fold.{FoldInv, folds}
+use Rattle.lists.specs.laws.Part.{unmapped}
 use Rattle.state.specs.Book.{leasesOf, noLeases}
 use borrow.Author.Needs.{needs}
 use Rattle.allocation.proofs.taken.Statement.{statement}

@@ -1,5 +1,5 @@
 -- `taken_one` meets its contract: one set more.
-use Rattle.address_set.specs.Laws.{or-same}
+use Rattle.address_set.specs.laws.Bits.{or-same}
 use Rattle.allocation.specs.Loops.{takenOne}
 use borrow.Author.Needs.{needs}
 use Rattle.allocation.proofs.taken_one.Statement.{statement}

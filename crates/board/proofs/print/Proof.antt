@@ -1,4 +1,4 @@
--- `print` is safe: the part that is written lies within the text.
+-- `print` meets its contract: `print` is safe: the part that is written lies within the text.
 use mathlib.Core.Path.{sym}
 use lib.Seq.{length-take-le}
 use borrow.Author.Needs.{needs}

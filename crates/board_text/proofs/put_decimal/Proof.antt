@@ -1,7 +1,6 @@
 -- `put_decimal` meets its contract: by `decimal-one`, `decimal-three`, `decimal-two`.
 use borrow.Author.Needs.{needs}
 use Rattle.board_text.proofs.Lines.{decimal-one, decimal-three, decimal-two}
-use Rattle.octets.specs.Laws.{put-two}
 use Rattle.board_text.proofs.put_decimal.Statement.{statement}
 use Rattle.board_text.proofs.put_decimal.Tie as tie
 

@@ -1,5 +1,5 @@
 -- `decide` meets its contract: by decide-is.
-use Rattle.decision.specs.Laws.{decide-is, held-is}
+use Rattle.decision.specs.laws.Code.{decide-is, held-is}
 use borrow.Author.Needs.{needs}
 use Rattle.decision.proofs.decide.Statement.{statement}
 use Rattle.decision.proofs.decide.Tie as tie

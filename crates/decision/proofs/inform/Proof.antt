@@ -1,5 +1,5 @@
 -- `inform` meets its contract: by unchanged-is.
-use Rattle.decision.specs.Laws.{unchanged-is}
+use Rattle.decision.specs.laws.Code.{unchanged-is}
 use borrow.Author.Needs.{needs}
 use Rattle.decision.proofs.inform.Statement.{statement}
 use Rattle.decision.proofs.inform.Tie as tie

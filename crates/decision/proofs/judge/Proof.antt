@@ -1,7 +1,7 @@
 -- `judge` meets its contract: its tests, which are calls.
 use Rattle.decision.specs.Decide.{judgedOf}
-use Rattle.decision.specs.Laws.{old-there}
-use Rattle.lists.specs.Pick.{calls}
+use Rattle.decision.specs.laws.Code.{old-there}
+use Rattle.lists.specs.laws.Pick.{calls}
 use borrow.Author.Needs.{needs}
 use Rattle.decision.proofs.judge.Statement.{statement}
 use Rattle.decision.proofs.judge.Tie as tie

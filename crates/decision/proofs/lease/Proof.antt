@@ -1,5 +1,5 @@
 -- `lease` meets its contract: by settled-is, proposed-room.
-use Rattle.decision.specs.Laws.{proposed-room, settled-is}
+use Rattle.decision.specs.laws.Code.{proposed-room, settled-is}
 use borrow.Author.Needs.{needs}
 use Rattle.decision.proofs.lease.Statement.{statement}
 use Rattle.decision.proofs.lease.Tie as tie

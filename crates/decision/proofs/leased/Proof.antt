@@ -1,7 +1,7 @@
 -- `leased` meets its contract: its tests, and by room-use.
 use Rattle.decision.specs.Decide.{leasedOf}
-use Rattle.decision.specs.Laws.{old-use, room-use}
-use Rattle.lists.specs.Pick.{picks}
+use Rattle.decision.specs.laws.Code.{old-use, room-use}
+use Rattle.lists.specs.laws.Pick.{picks}
 use borrow.Author.Needs.{needs}
 use Rattle.decision.proofs.leased.Statement.{statement}
 use Rattle.decision.proofs.leased.Tie as tie

@@ -1,5 +1,5 @@
 -- `offer` meets its contract: by unchanged-is.
-use Rattle.decision.specs.Laws.{unchanged-is}
+use Rattle.decision.specs.laws.Code.{unchanged-is}
 use borrow.Author.Needs.{needs}
 use Rattle.decision.proofs.offer.Statement.{statement}
 use Rattle.decision.proofs.offer.Tie as tie

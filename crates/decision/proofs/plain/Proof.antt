@@ -1,6 +1,6 @@
 -- `plain` meets its contract: its tests in order.
 use Rattle.decision.specs.Decide.{plainOf}
-use Rattle.lists.specs.Pick.{picks}
+use Rattle.lists.specs.laws.Pick.{picks}
 use borrow.Author.Needs.{needs}
 use Rattle.decision.proofs.plain.Statement.{statement}
 use Rattle.decision.proofs.plain.Tie as tie

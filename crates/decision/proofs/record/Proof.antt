@@ -1,5 +1,5 @@
 -- `record` meets its contract: by inserted-is, room-at.
-use Rattle.decision.specs.Laws.{inserted-is, room-at}
+use Rattle.decision.specs.laws.Code.{inserted-is, room-at}
 use borrow.Author.Needs.{needs}
 use Rattle.decision.proofs.record.Statement.{statement}
 use Rattle.decision.proofs.record.Tie as tie

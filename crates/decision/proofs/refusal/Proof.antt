@@ -1,6 +1,6 @@
 -- `refusal` meets its contract: its tests in order.
 use Rattle.decision.specs.Parts.{refusalOf}
-use Rattle.lists.specs.Pick.{picks}
+use Rattle.lists.specs.laws.Pick.{picks}
 use borrow.Author.Needs.{needs}
 use Rattle.decision.proofs.refusal.Statement.{statement}
 use Rattle.decision.proofs.refusal.Tie as tie

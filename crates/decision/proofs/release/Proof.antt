@@ -1,5 +1,5 @@
 -- `release` meets its contract: by removed-is.
-use Rattle.decision.specs.Laws.{removed-is}
+use Rattle.decision.specs.laws.Code.{removed-is}
 use borrow.Author.Needs.{needs}
 use Rattle.decision.proofs.release.Statement.{statement}
 use Rattle.decision.proofs.release.Tie as tie

@@ -1,5 +1,5 @@
 -- `renew` meets its contract: by replaced-is.
-use Rattle.decision.specs.Laws.{old-at, replaced-is}
+use Rattle.decision.specs.laws.Code.{old-at, replaced-is}
 use borrow.Author.Needs.{needs}
 use Rattle.decision.proofs.renew.Statement.{statement}
 use Rattle.decision.proofs.renew.Tie as tie

@@ -1,7 +1,7 @@
 -- `settle` meets its contract: its tests, and by leased-is, fits-room.
 use Rattle.decision.specs.Decide.{settledOf}
-use Rattle.decision.specs.Laws.{fits-room, leased-is}
-use Rattle.lists.specs.Pick.{calls}
+use Rattle.decision.specs.laws.Code.{fits-room, leased-is}
+use Rattle.lists.specs.laws.Pick.{calls}
 use borrow.Author.Needs.{needs}
 use Rattle.decision.proofs.settle.Statement.{statement}
 use Rattle.decision.proofs.settle.Tie as tie

@@ -1,6 +1,6 @@
 -- `order` meets its contract: the order of what is left is the answer.
 use Prim.Native.Nat.{_-_}
-use Rattle.identifier.specs.Laws.{OrderInv, order-start, orders}
+use Rattle.identifier.specs.laws.Order.{OrderInv, order-start, orders}
 use Rattle.identifier.specs.Order.{orderOf}
 use borrow.Author.Needs.{needs}
 use lib.ListN.{take}

@@ -1,5 +1,5 @@
 -- `same` meets its contract: the same where the order says so.
-use Rattle.identifier.specs.Laws.{same-order}
+use Rattle.identifier.specs.laws.Order.{same-order}
 use borrow.Author.Needs.{needs}
 use Rattle.identifier.proofs.same.Statement.{statement}
 use Rattle.identifier.proofs.same.Tie as tie

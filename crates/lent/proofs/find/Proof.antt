@@ -40,7 +40,7 @@ use denote.Exit.{yes}
 use Rattle.state.specs.declared.Lease.{Lease}
 use Rattle.records.specs.declared.Records.{Records}
 use Rattle.records.specs.Lent.{findWith, findLent}
-use Rattle.records.specs.LentLaws.{found-lent}
+use Rattle.records.specs.laws.Lent.{found-lent}
 use Rattle.state.proofs.Lease as R
 use Rattle.records.proofs.Records as N
 use Rattle.records.proofs.Records.Laws as N′

@@ -40,7 +40,7 @@ use denote.Exit.{yes}
 use Rattle.state.specs.declared.Lease.{Lease}
 use Rattle.records.specs.declared.Records.{Records}
 use Rattle.records.specs.Lent.{insertWith, insertLent}
-use Rattle.records.specs.LentLaws.{inserted-lent}
+use Rattle.records.specs.laws.Lent.{inserted-lent}
 use Rattle.state.proofs.Lease as R
 use Rattle.state.proofs.Lease.Laws as R′
 use Rattle.records.proofs.Records as N

@@ -48,7 +48,7 @@ use denote.Triple.Spec.{Meets, tripleOf}
 use denote.Triple.Table.{entered, cited}
 use denote.Triple.Walked.{says, Stays, stay-none-slice, walkOf, AllGo, goes-none-slice, Walks, ends-at, walked, walk-meets}
 use denote.Exit.{yes}
-use Rattle.lists.specs.Copy.{CopyInv, copy-front, copy-long}
+use Rattle.lists.specs.laws.Copy.{CopyInv, copy-front, copy-long}
 use Rattle.state.specs.declared.Lease.{Lease}
 use Rattle.state.specs.Book.{zeroLease}
 use Rattle.state.proofs.Lease as R

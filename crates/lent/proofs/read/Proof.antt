@@ -44,7 +44,7 @@ use Rattle.state_file.specs.StateFile.{readFile}
 use Rattle.records.specs.declared.Records.{Records}
 use Rattle.records.specs.declared.ReadRecords.{ReadRecords}
 use Rattle.records.specs.Lent.{readWith, readLent, Reads, ReadsLent}
-use Rattle.records.specs.LentLaws.{read-lent}
+use Rattle.records.specs.laws.Lent.{read-lent}
 use Rattle.state.proofs.Lease as R
 use Rattle.state.proofs.State as T
 use Rattle.state.proofs.State.Laws as T′

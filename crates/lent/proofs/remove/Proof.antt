@@ -41,7 +41,7 @@ use denote.Exit.{yes}
 use Rattle.state.specs.declared.Lease.{Lease}
 use Rattle.records.specs.declared.Records.{Records}
 use Rattle.records.specs.Lent.{removeWith, removeLent}
-use Rattle.records.specs.LentLaws.{removed-lent}
+use Rattle.records.specs.laws.Lent.{removed-lent}
 use Rattle.state.proofs.Lease as R
 use Rattle.records.proofs.Records as N
 use Rattle.records.proofs.Records.Laws as N′

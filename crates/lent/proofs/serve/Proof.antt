@@ -45,7 +45,7 @@ use Rattle.records.specs.declared.Outcome.{Outcome}
 use Rattle.records.specs.declared.Records.{Records}
 use Rattle.records.specs.declared.ServedRecords.{ServedRecords}
 use Rattle.records.specs.Lent.{serveWith, serveLent, ServesRecords, ServesLent}
-use Rattle.records.specs.LentLaws.{served-lent}
+use Rattle.records.specs.laws.Lent.{served-lent}
 use Rattle.state.proofs.Lease as R
 use Rattle.state.proofs.State as T
 use Rattle.state.proofs.State.Laws as T′

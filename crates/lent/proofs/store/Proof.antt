@@ -50,7 +50,7 @@ use Rattle.state.specs.declared.Lease.{Lease}
 use Rattle.state.specs.Book.{zeroLease}
 use Rattle.records.specs.declared.Records.{Records}
 use Rattle.records.specs.Records.{covered}
-use Rattle.lists.specs.Copy.{CopyInv, copy-front, copy-long}
+use Rattle.lists.specs.laws.Copy.{CopyInv, copy-front, copy-long}
 use Rattle.state.proofs.Lease as T
 use Rattle.state.proofs.Lease.Laws as T′
 use Rattle.records.proofs.Records as Q

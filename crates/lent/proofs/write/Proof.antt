@@ -41,7 +41,7 @@ use Rattle.state.specs.declared.State.{State}
 use Rattle.state_file.specs.declared.Written.{Written}
 use Rattle.records.specs.declared.Records.{Records}
 use Rattle.records.specs.Lent.{writtenWith, roomWith, writtenLent, roomLent}
-use Rattle.records.specs.LentLaws.{written-lent, room-lent}
+use Rattle.records.specs.laws.Lent.{written-lent, room-lent}
 use Rattle.state.proofs.Lease as R
 use Rattle.state.proofs.State as T
 use Rattle.state.proofs.State.Laws as T′

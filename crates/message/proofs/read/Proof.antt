@@ -1,5 +1,5 @@
--- By the definition, case by case.
-use Rattle.lists.specs.Pick.{calls}
+-- `read` meets its contract: by the definition, case by case.
+use Rattle.lists.specs.laws.Pick.{calls}
 use Rattle.message.proofs.Steps.{eight-header, long-header, short-header, walked-of}
 use Rattle.message.specs.Read.{readOf}
 use borrow.Author.Needs.{needs}

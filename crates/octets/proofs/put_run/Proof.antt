@@ -1,7 +1,7 @@
--- The loop copies one octet a turn (`CopyInv`).
+-- `put_run` meets its contract: the loop copies one octet a turn (`CopyInv`).
 use Prim.Native.Nat.{_-_}
-use Rattle.lists.specs.Copy.{CopyInv, copies, copy-long, copy-start}
-use Rattle.octets.specs.Laws.{copied}
+use Rattle.lists.specs.laws.Copy.{CopyInv, copies, copy-long, copy-start}
+use Rattle.octets.specs.laws.Octets.{copied}
 use borrow.Author.Needs.{needs}
 use native.Mathlib.Omega.{arith}
 use Rattle.octets.proofs.put_run.Statement.{statement}

@@ -1,5 +1,5 @@
--- Two stores, one after the other, are a `put` of two octets.
-use Rattle.octets.specs.Laws.{put-two}
+-- `put_u16` meets its contract: two stores, one after the other, are a `put` of two octets.
+use Rattle.octets.specs.laws.Octets.{put-two}
 use borrow.Author.Needs.{needs}
 use lib.ListN.{length-set}
 use mathlib.Core.Path.{refl}

@@ -1,5 +1,5 @@
--- Four stores, one after the other, are a `put` of four octets.
-use Rattle.octets.specs.Laws.{put-four}
+-- `put_u32` meets its contract: four stores, one after the other, are a `put` of four octets.
+use Rattle.octets.specs.laws.Octets.{put-four}
 use borrow.Author.Needs.{needs}
 use lib.ListN.{length-set}
 use mathlib.Core.Path.{refl}

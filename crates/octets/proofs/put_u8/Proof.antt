@@ -1,5 +1,5 @@
--- One store is a `put` of one octet.
-use Rattle.octets.specs.Laws.{put-one}
+-- `put_u8` meets its contract: one store is a `put` of one octet.
+use Rattle.octets.specs.laws.Octets.{put-one}
 use borrow.Author.Needs.{needs}
 use mathlib.Core.Path.{refl}
 use Rattle.octets.proofs.put_u8.Statement.{statement}

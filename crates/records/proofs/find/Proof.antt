@@ -1,5 +1,5 @@
 -- `find` meets its contract: each branch of `findWith`, from what the calls gave.
-use Rattle.records.specs.Steps.{find-in, find-out}
+use Rattle.records.specs.laws.Steps.{find-in, find-out}
 use borrow.Author.Needs.{needs}
 use Rattle.records.proofs.find.Statement.{statement}
 use Rattle.records.proofs.find.Tie as tie

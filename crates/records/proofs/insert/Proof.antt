@@ -1,6 +1,6 @@
 -- `insert` meets its contract: each branch of `insertWith`, from what the calls gave.
-use Rattle.lists.specs.Part.{unmapped}
-use Rattle.records.specs.Steps.{insert-full, insert-in, insert-none, insert-out}
+use Rattle.lists.specs.laws.Part.{unmapped}
+use Rattle.records.specs.laws.Steps.{insert-full, insert-in, insert-none, insert-out}
 use borrow.Author.Needs.{needs}
 use Rattle.records.proofs.insert.Statement.{statement}
 use Rattle.records.proofs.insert.Tie as tie

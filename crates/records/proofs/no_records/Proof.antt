@@ -1,5 +1,5 @@
 -- `no_records` meets its contract: by `empty-records`.
-use Rattle.records.specs.Laws.{empty-records}
+use Rattle.records.specs.laws.Table.{empty-records}
 use borrow.Author.Needs.{needs}
 use Rattle.records.proofs.no_records.Statement.{statement}
 use Rattle.records.proofs.no_records.Tie as tie

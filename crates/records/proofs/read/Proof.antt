@@ -1,6 +1,6 @@
 -- `read` meets its contract: each branch of `readWith`, from what the calls gave.
-use Rattle.lists.specs.Part.{unmapped}
-use Rattle.records.specs.Steps.{read-in, read-out, read-refused}
+use Rattle.lists.specs.laws.Part.{unmapped}
+use Rattle.records.specs.laws.Steps.{read-in, read-out, read-refused}
 use borrow.Author.Needs.{needs}
 use Rattle.records.proofs.read.Statement.{statement}
 use Rattle.records.proofs.read.Tie as tie

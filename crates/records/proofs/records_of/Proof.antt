@@ -1,7 +1,7 @@
 -- `records_of` meets its contract: tenant by tenant, and within a tenant record by record.
 use Prim.Native.Nat.{_-_}
-use Rattle.lists.specs.Part.{unmapped}
-use Rattle.records.specs.Laws.{LaidInv, LayRowInv, to-records}
+use Rattle.lists.specs.laws.Part.{unmapped}
+use Rattle.records.specs.laws.Table.{LaidInv, LayRowInv, to-records}
 use Rattle.state_file.specs.Place.{row}
 use borrow.Author.Needs.{needs}
 use Rattle.records.proofs.records_of.Statement.{statement}

@@ -1,6 +1,6 @@
 -- `remove` meets its contract: each branch of `removeWith`, from what the calls gave.
-use Rattle.lists.specs.Part.{unmapped}
-use Rattle.records.specs.Steps.{remove-in, remove-none, remove-out}
+use Rattle.lists.specs.laws.Part.{unmapped}
+use Rattle.records.specs.laws.Steps.{remove-in, remove-none, remove-out}
 use borrow.Author.Needs.{needs}
 use Rattle.records.proofs.remove.Statement.{statement}
 use Rattle.records.proofs.remove.Tie as tie

@@ -1,5 +1,5 @@
 -- `row_of` meets its contract: the array of a struct has its length.
-use Rattle.lists.specs.Part.{unmapped}
+use Rattle.lists.specs.laws.Part.{unmapped}
 use borrow.Author.Needs.{needs}
 use Rattle.records.proofs.row_of.Statement.{statement}
 use Rattle.records.proofs.row_of.Tie as tie

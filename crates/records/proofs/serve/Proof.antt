@@ -1,6 +1,6 @@
 -- `serve` meets its contract: the call on the table that the records stand for, or discard 1.
-use Rattle.lists.specs.Part.{unmapped}
-use Rattle.records.specs.Steps.{serve-in, serve-out}
+use Rattle.lists.specs.laws.Part.{unmapped}
+use Rattle.records.specs.laws.Steps.{serve-in, serve-out}
 use borrow.Author.Needs.{needs}
 use Rattle.records.proofs.serve.Statement.{statement}
 use Rattle.records.proofs.serve.Tie as tie

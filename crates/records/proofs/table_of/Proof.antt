@@ -1,7 +1,7 @@
 -- `table_of` meets its contract: row by row, and within a row record by record.
 use Prim.Native.Nat.{_-_}
-use Rattle.lists.specs.Part.{unmapped}
-use Rattle.records.specs.Laws.{InRowInv, RowsInv, to-table}
+use Rattle.lists.specs.laws.Part.{unmapped}
+use Rattle.records.specs.laws.Table.{InRowInv, RowsInv, to-table}
 use Rattle.state_file.specs.Place.{row}
 use borrow.Author.Needs.{needs}
 use Rattle.records.proofs.table_of.Statement.{statement}

@@ -1,5 +1,5 @@
 -- `tenant_from` meets its contract: by `tenant-from-is`.
-use Rattle.records.specs.Laws.{tenant-from-is}
+use Rattle.records.specs.laws.Table.{tenant-from-is}
 use borrow.Author.Needs.{needs}
 use Rattle.records.proofs.tenant_from.Statement.{statement}
 use Rattle.records.proofs.tenant_from.Tie as tie

@@ -1,9 +1,10 @@
 -- `used_count` meets its contract: the place of the first unused record.
 use Prim.Native.Nat.{_-_}
-use Rattle.lists.specs.Place.{PlaceInv, placeBy, places}
-use Rattle.records.specs.Laws.{used-start}
+use Rattle.lists.specs.laws.Place.{PlaceInv, places}
+use Rattle.lists.specs.Place.{placeBy}
+use Rattle.records.specs.laws.Table.{used-start}
 use Rattle.soundness.specs.Sound.{unusedB}
-use Rattle.state.specs.Book.{noLease}
+use Rattle.state.specs.laws.Layout.{noLease}
 use borrow.Author.Needs.{needs}
 use Rattle.records.proofs.used_count.Statement.{statement}
 use Rattle.records.proofs.used_count.Tie as tie

@@ -1,5 +1,5 @@
 -- `write` meets its contract: each branch of `writtenWith` and `roomWith`.
-use Rattle.records.specs.Steps.{room-in, room-out, write-in, write-out}
+use Rattle.records.specs.laws.Steps.{room-in, room-out, write-in, write-out}
 use borrow.Author.Needs.{needs}
 use Rattle.records.proofs.write.Statement.{statement}
 use Rattle.records.proofs.write.Tie as tie

@@ -1,4 +1,4 @@
--- The datagram and the room lie within their buffers.
+-- `call` meets its contract: the datagram and the room lie within their buffers.
 use borrow.Author.Needs.{needs}
 use lib.Seq.{length-take-le}
 use mathlib.Core.Path.{sym}

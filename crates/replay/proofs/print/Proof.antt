@@ -1,4 +1,4 @@
--- The part that is written lies within the text.
+-- `print` meets its contract: the part that is written lies within the text.
 use borrow.Author.Needs.{needs}
 use lib.Seq.{length-take-le}
 use mathlib.Core.Path.{sym}

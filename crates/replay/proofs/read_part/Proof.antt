@@ -1,4 +1,4 @@
--- The part that is read lies within the buffer.
+-- `read_part` meets its contract: the part that is read lies within the buffer.
 use borrow.Author.Needs.{needs}
 use lib.Seq.{length-take-le}
 use mathlib.Core.Path.{sym}

@@ -1,5 +1,5 @@
--- The turns are counted down.
-use Rattle.state.specs.Layout.{turns}
+-- `replay` meets its contract: the turns are counted down.
+use Rattle.state.specs.laws.Layout.{turns}
 use borrow.Author.Needs.{needs}
 use lib.ListN.{length}
 use mathlib.Core.Path.{_≡_}

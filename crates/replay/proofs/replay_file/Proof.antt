@@ -1,4 +1,4 @@
--- The file lies within its buffer.
+-- `replay_file` meets its contract: the file lies within its buffer.
 use borrow.Author.Needs.{needs}
 use lib.Seq.{length-take-le}
 use mathlib.Core.Path.{sym}

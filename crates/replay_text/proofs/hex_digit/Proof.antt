@@ -1,5 +1,5 @@
--- By the definition, case by case.
-use Rattle.lists.specs.Pick.{picks}
+-- `hex_digit` meets its contract: by the definition, case by case.
+use Rattle.lists.specs.laws.Pick.{picks}
 use borrow.Author.Needs.{needs}
 use Rattle.replay_text.proofs.hex_digit.Statement.{statement}
 use Rattle.replay_text.proofs.hex_digit.Tie as tie

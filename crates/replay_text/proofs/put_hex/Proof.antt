@@ -1,4 +1,4 @@
--- The loop writes one octet a turn (`HexInv`).
+-- `put_hex` meets its contract: the loop writes one octet a turn (`HexInv`).
 use Prim.Native.Nat.{_-_}
 use Rattle.replay_text.proofs.Hex.{HexInv, hex-end, hex-next, hex-start}
 use borrow.Author.Needs.{needs}

@@ -1,5 +1,5 @@
--- Two digits, one after the other.
-use Rattle.octets.specs.Laws.{wrote-joined}
+-- `put_octet` meets its contract: two digits, one after the other.
+use Rattle.octets.specs.laws.Octets.{wrote-joined}
 use Rattle.replay_text.specs.Replay.{hexOf}
 use borrow.Author.Needs.{needs}
 use Rattle.replay_text.proofs.put_octet.Statement.{statement}

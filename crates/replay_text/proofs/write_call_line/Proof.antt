@@ -1,6 +1,6 @@
--- Part by part.
+-- `write_call_line` meets its contract: part by part.
 use Rattle.lists.specs.Pick.{pick}
-use Rattle.octets.specs.Laws.{wrote-joined}
+use Rattle.octets.specs.laws.Octets.{wrote-joined}
 use borrow.Author.Needs.{needs}
 use borrow.Author.Tests.{eq-eqb, ne-eqb}
 use Rattle.replay_text.proofs.write_call_line.Statement.{statement}

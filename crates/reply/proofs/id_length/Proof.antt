@@ -1,4 +1,4 @@
--- The array has 32 octets.
+-- `id_length` meets its contract: the array has 32 octets.
 use Rattle.reply.proofs.Writes.{id-long, id-short}
 use borrow.Author.Needs.{needs}
 use Rattle.reply.proofs.id_length.Statement.{statement}

@@ -1,5 +1,5 @@
--- Two numbers, one after the other.
-use Rattle.octets.specs.Laws.{wrote-joined}
+-- `put_code` meets its contract: two numbers, one after the other.
+use Rattle.octets.specs.laws.Octets.{wrote-joined}
 use borrow.Author.Needs.{needs}
 use Rattle.reply.proofs.put_code.Statement.{statement}
 use Rattle.reply.proofs.put_code.Tie as tie

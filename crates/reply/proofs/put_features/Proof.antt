@@ -1,5 +1,4 @@
--- The option, or nothing.
-use Rattle.message.specs.Walk.{optionTaken}
+-- `put_features` meets its contract: the option, or nothing.
 use Rattle.reply.proofs.Writes.{option-put, put-none}
 use borrow.Author.Needs.{needs}
 use mathlib.Core.List.{[], _∷_}

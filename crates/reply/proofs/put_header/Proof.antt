@@ -1,5 +1,5 @@
--- Four numbers, one after the other.
-use Rattle.octets.specs.Laws.{wrote-joined}
+-- `put_header` meets its contract: four numbers, one after the other.
+use Rattle.octets.specs.laws.Octets.{wrote-joined}
 use borrow.Author.Needs.{needs}
 use Rattle.reply.proofs.put_header.Statement.{statement}
 use Rattle.reply.proofs.put_header.Tie as tie

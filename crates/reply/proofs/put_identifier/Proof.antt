@@ -1,5 +1,4 @@
--- Code and length, and then the value (`option-put`).
-use Rattle.message.specs.Walk.{start}
+-- `put_identifier` meets its contract: code and length, and then the value (`option-put`).
 use Rattle.reply.proofs.Writes.{id-fits, id-put}
 use borrow.Author.Needs.{needs}
 use Rattle.reply.proofs.put_identifier.Statement.{statement}

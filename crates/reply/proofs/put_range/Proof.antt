@@ -1,7 +1,6 @@
--- Two numbers, one after the other.
+-- `put_range` meets its contract: two numbers, one after the other.
 use Prim.Native.Nat.{_%_}
-use Rattle.message.specs.Walk.{start}
-use Rattle.octets.specs.Laws.{wrote-joined}
+use Rattle.octets.specs.laws.Octets.{wrote-joined}
 use borrow.Author.Needs.{needs}
 use mathlib.Core.Path.{_≡_}
 use native.Mathlib.Omega.{arith}

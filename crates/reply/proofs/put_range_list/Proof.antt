@@ -1,4 +1,4 @@
--- The loop writes one range a turn (`RangesInv`).
+-- `put_range_list` meets its contract: the loop writes one range a turn (`RangesInv`).
 use Rattle.reply.proofs.Writes.{RangesInv, range-short, ranges-end, ranges-fall, ranges-room, ranges-start, ranges-turn}
 use borrow.Author.Needs.{needs}
 use lib.ListN.{set}

@@ -1,6 +1,5 @@
--- Code and length, and then the value (`option-put`).
-use Rattle.address_set.specs.RangeLaws.{range-count, ranges-few}
-use Rattle.message.specs.Walk.{start}
+-- `put_ranges` meets its contract: code and length, and then the value (`option-put`).
+use Rattle.address_set.specs.laws.Ranges.{ranges-few}
 use Rattle.reply.proofs.Writes.{ranges-put}
 use borrow.Author.Needs.{needs}
 use native.Mathlib.Omega.{arith}

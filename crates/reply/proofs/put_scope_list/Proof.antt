@@ -1,6 +1,5 @@
--- Code and length, and then the value (`option-put`).
-use Rattle.lists.specs.Part.{unmapped}
-use Rattle.message.specs.Walk.{start}
+-- `put_scope_list` meets its contract: code and length, and then the value (`option-put`).
+use Rattle.lists.specs.laws.Part.{unmapped}
 use Rattle.reply.proofs.Writes.{scopes-put}
 use borrow.Author.Needs.{needs}
 use Rattle.reply.proofs.put_scope_list.Statement.{statement}

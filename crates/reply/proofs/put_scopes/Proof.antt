@@ -1,6 +1,6 @@
--- The loop writes one scope a turn (`ScopesInv`).
+-- `put_scopes` meets its contract: the loop writes one scope a turn (`ScopesInv`).
 use Prim.Native.Nat.{_-_}
-use Rattle.lists.specs.Part.{unmapped}
+use Rattle.lists.specs.laws.Part.{unmapped}
 use Rattle.reply.proofs.Writes.{ScopesInv, scopes-end, scopes-long, scopes-next, scopes-start}
 use borrow.Author.Needs.{needs}
 use Rattle.reply.proofs.put_scopes.Statement.{statement}

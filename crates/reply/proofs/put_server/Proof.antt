@@ -1,6 +1,5 @@
--- Code and length, and then the value (`option-put`).
-use Rattle.message.specs.Walk.{start}
-use Rattle.octets.specs.Laws.{wrote-joined}
+-- `put_server` meets its contract: code and length, and then the value (`option-put`).
+use Rattle.octets.specs.laws.Octets.{wrote-joined}
 use Rattle.octets.specs.Octets.{octets16, octets32}
 use Rattle.reply.proofs.Writes.{option-put}
 use borrow.Author.Needs.{needs}

@@ -1,4 +1,4 @@
--- The loop takes one range a turn (`CountInv`).
+-- `range_count` meets its contract: the loop takes one range a turn (`CountInv`).
 use Rattle.reply.proofs.Writes.{CountInv, count-end, count-less, count-more, count-next, count-start}
 use borrow.Author.Needs.{needs}
 use lib.ListN.{set}

@@ -1,4 +1,4 @@
--- Header, options and End (`replied`).
+-- `write_lease` meets its contract: header, options and End (`replied`).
 use Rattle.reply.proofs.Writes.{replied}
 use borrow.Author.Needs.{needs}
 use Rattle.reply.proofs.write_lease.Statement.{statement}

@@ -1,4 +1,4 @@
--- Header, options and End (`replied`).
+-- `write_lease_ack` meets its contract: header, options and End (`replied`).
 use Rattle.reply.specs.Reply.{leaseAckOf}
 use borrow.Author.Needs.{needs}
 use Rattle.reply.proofs.write_lease_ack.Statement.{statement}

@@ -1,4 +1,4 @@
--- Header, options and End (`replied`).
+-- `write_offer` meets its contract: header, options and End (`replied`).
 use Rattle.reply.specs.Reply.{offerOf}
 use borrow.Author.Needs.{needs}
 use Rattle.reply.proofs.write_offer.Statement.{statement}

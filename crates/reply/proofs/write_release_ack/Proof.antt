@@ -1,4 +1,4 @@
--- Header, options and End (`replied`).
+-- `write_release_ack` meets its contract: header, options and End (`replied`).
 use Rattle.reply.proofs.Writes.{put-joined, replied}
 use Rattle.reply.specs.Reply.{releaseAckOf}
 use borrow.Author.Needs.{needs}

@@ -1,7 +1,5 @@
--- By test 3.
-use Rattle.message.specs.Walk.{optionTaken}
+-- `at_clock` meets its contract: by test 3.
 use Rattle.server.proofs.Steps.{client-known, client-unknown, serves-discard}
-use Rattle.state.specs.Book.{before}
 use borrow.Author.Needs.{needs}
 use Rattle.server.proofs.at_clock.Statement.{statement}
 use Rattle.server.proofs.at_clock.Tie as tie

@@ -1,6 +1,5 @@
--- The decision, and the reply written from it.
+-- `decided` meets its contract: the decision, and the reply written from it.
 use Rattle.server.proofs.Steps.{serves-decided}
-use Rattle.state.specs.Book.{before}
 use borrow.Author.Needs.{needs}
 use Rattle.server.proofs.decided.Statement.{statement}
 use Rattle.server.proofs.decided.Tie as tie

@@ -1,7 +1,5 @@
--- By test 7.
-use Rattle.message.specs.Walk.{optionTaken}
+-- `for_server` meets its contract: by test 7.
 use Rattle.server.proofs.Steps.{for-any, for-others, for-ours, serves-discard}
-use Rattle.state.specs.Book.{before}
 use borrow.Author.Needs.{needs}
 use Rattle.server.proofs.for_server.Statement.{statement}
 use Rattle.server.proofs.for_server.Tie as tie

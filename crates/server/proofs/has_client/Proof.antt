@@ -1,5 +1,5 @@
--- By the definition, case by case.
-use Rattle.lists.specs.Both.{ands}
+-- `has_client` meets its contract: by the definition, case by case.
+use Rattle.lists.specs.laws.Both.{ands}
 use Rattle.server.specs.Serve.{hasClient}
 use borrow.Author.Needs.{needs}
 use Rattle.server.proofs.has_client.Statement.{statement}

@@ -1,7 +1,5 @@
--- The four scopes, one after the other.
-use Rattle.message.specs.Walk.{start}
+-- `info_of` meets its contract: the four scopes, one after the other.
 use Rattle.server.proofs.Steps.{info-is}
-use Rattle.state.specs.Book.{before}
 use borrow.Author.Needs.{needs}
 use Rattle.server.proofs.info_of.Statement.{statement}
 use Rattle.server.proofs.info_of.Tie as tie

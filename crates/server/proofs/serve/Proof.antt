@@ -1,7 +1,5 @@
--- By tests 1 and 2.
-use Rattle.message.specs.Walk.{optionTaken}
+-- `serve` meets its contract: by tests 1 and 2.
 use Rattle.server.proofs.Steps.{call-served, call-short, call-unsound, serves-discard}
-use Rattle.state.specs.Book.{before}
 use borrow.Author.Needs.{needs}
 use Rattle.server.proofs.serve.Statement.{statement}
 use Rattle.server.proofs.serve.Tie as tie

@@ -1,8 +1,8 @@
--- The loop looks at one range a turn (`PlaceInv`).
+-- `tenant_of` meets its contract: the loop looks at one range a turn (`PlaceInv`).
 use Prim.Native.Nat.{_-_}
-use Rattle.lists.specs.Place.{PlaceInv, places}
+use Rattle.lists.specs.laws.Place.{PlaceInv, places}
 use Rattle.server.specs.Serve.{hasClient, tenantOf}
-use Rattle.soundness.specs.Parts.{noRange}
+use Rattle.soundness.specs.laws.Code.{noRange}
 use borrow.Author.Needs.{needs}
 use Rattle.server.proofs.tenant_of.Statement.{statement}
 use Rattle.server.proofs.tenant_of.Tie as tie

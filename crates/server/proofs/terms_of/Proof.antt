@@ -1,4 +1,4 @@
--- Field by field.
+-- `terms_of` meets its contract: field by field.
 use Rattle.server.proofs.Steps.{terms-is}
 use borrow.Author.Needs.{needs}
 use Rattle.server.proofs.terms_of.Statement.{statement}

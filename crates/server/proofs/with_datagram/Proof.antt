@@ -1,7 +1,5 @@
--- By tests 4 to 6.
-use Rattle.message.specs.Walk.{start, optionTaken}
+-- `with_datagram` meets its contract: by tests 4 to 6.
 use Rattle.server.proofs.Steps.{reading-discarded, reading-good, reading-short, reading-taken, serves-discard}
-use Rattle.state.specs.Book.{before}
 use borrow.Author.Needs.{needs}
 use denote.Ref.{now}
 use Rattle.server.proofs.with_datagram.Statement.{statement}

@@ -1,7 +1,6 @@
--- By the kind of reply.
+-- `write_reply` meets its contract: by the kind of reply.
 use Rattle.decision.specs.declared.Reply.the-variants.{InfoAck, LeaseAck, Nak, Nothing, Offer, ReleaseAck}
 use Rattle.server.proofs.Steps.{replied-none, reply-as}
-use Rattle.state.specs.Book.{before}
 use borrow.Author.Needs.{needs}
 use Rattle.server.proofs.write_reply.Statement.{statement}
 use Rattle.server.proofs.write_reply.Tie as tie

@@ -1,5 +1,5 @@
 -- `broken` meets its contract: by broken-is.
-use Rattle.soundness.specs.Laws.{broken-is}
+use Rattle.soundness.specs.laws.Code.{broken-is}
 use borrow.Author.Needs.{needs}
 use Rattle.soundness.proofs.broken.Statement.{statement}
 use Rattle.soundness.proofs.broken.Tie as tie

@@ -1,5 +1,5 @@
 -- `check_rules` meets its contract: by rules-are.
-use Rattle.soundness.specs.Laws.{rules-are}
+use Rattle.soundness.specs.laws.Code.{rules-are}
 use borrow.Author.Needs.{needs}
 use Rattle.soundness.proofs.check_rules.Statement.{statement}
 use Rattle.soundness.proofs.check_rules.Tie as tie

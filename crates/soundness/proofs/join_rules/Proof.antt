@@ -1,5 +1,5 @@
 -- `join_rules` meets its contract: by joined-is.
-use Rattle.soundness.specs.Laws.{joined-is}
+use Rattle.soundness.specs.laws.Code.{joined-is}
 use borrow.Author.Needs.{needs}
 use Rattle.soundness.proofs.join_rules.Statement.{statement}
 use Rattle.soundness.proofs.join_rules.Tie as tie

@@ -1,5 +1,5 @@
 -- `sound` meets its contract: by sound-is.
-use Rattle.soundness.specs.Laws.{sound-is}
+use Rattle.soundness.specs.laws.Code.{sound-is}
 use borrow.Author.Needs.{needs}
 use Rattle.soundness.proofs.sound.Statement.{statement}
 use Rattle.soundness.proofs.sound.Tie as tie

@@ -1,9 +1,9 @@
 -- `table_rules` meets its contract: by folds, tenants-are, tenant-and, eachs, table-is.
 use Prim.Native.Nat.{_-_}
-use Rattle.lists.specs.Each.{BuildInv, eachs}
-use Rattle.lists.specs.Fold.{FoldInv, folds}
-use Rattle.soundness.specs.Laws.{table-is, tenant-and, tenants-are}
-use Rattle.soundness.specs.Parts.{andTenants, heldSets, tenantsAll}
+use Rattle.lists.specs.laws.Each.{BuildInv, eachs}
+use Rattle.lists.specs.laws.Fold.{FoldInv, folds}
+use Rattle.soundness.specs.laws.Code.{table-is, tenant-and, tenants-are, andTenants}
+use Rattle.soundness.specs.Parts.{heldSets, tenantsAll}
 use Rattle.state.specs.Book.{noLeases}
 use borrow.Author.Needs.{needs}
 use Rattle.soundness.proofs.table_rules.Statement.{statement}

@@ -1,5 +1,5 @@
 -- `numbers::and_below` meets its contract: its tests in order.
-use Rattle.lists.specs.Both.{and-false, and-true, or-false, or-true}
+use Rattle.lists.specs.laws.Both.{and-false, and-true}
 use borrow.Author.Needs.{needs}
 use Rattle.decision.proofs.numbers.and_below.Statement.{statement}
 use Rattle.decision.proofs.numbers.and_below.Tie as tie

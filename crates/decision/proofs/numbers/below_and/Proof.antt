@@ -1,5 +1,5 @@
 -- `numbers::below_and` meets its contract: its tests in order.
-use Rattle.lists.specs.Both.{ands}
+use Rattle.lists.specs.laws.Both.{ands}
 use borrow.Author.Needs.{needs}
 use Rattle.decision.proofs.numbers.below_and.Statement.{statement}
 use Rattle.decision.proofs.numbers.below_and.Tie as tie

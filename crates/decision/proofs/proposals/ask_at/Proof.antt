@@ -1,5 +1,5 @@
 -- `proposals::ask_at` meets its contract: by ask-is.
-use Rattle.decision.specs.Laws.{ask-is}
+use Rattle.decision.specs.laws.Code.{ask-is}
 use borrow.Author.Needs.{needs}
 use Rattle.decision.proofs.proposals.ask_at.Statement.{statement}
 use Rattle.decision.proofs.proposals.ask_at.Tie as tie

@@ -1,5 +1,5 @@
 -- `proposals::end_of` meets its contract: by end-is.
-use Rattle.decision.specs.Laws.{end-is}
+use Rattle.decision.specs.laws.Code.{end-is}
 use borrow.Author.Needs.{needs}
 use Rattle.decision.proofs.proposals.end_of.Statement.{statement}
 use Rattle.decision.proofs.proposals.end_of.Tie as tie

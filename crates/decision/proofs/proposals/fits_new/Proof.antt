@@ -1,5 +1,5 @@
 -- `proposals::fits_new` meets its contract: by fits-is.
-use Rattle.decision.specs.Laws.{fits-is}
+use Rattle.decision.specs.laws.Code.{fits-is}
 use borrow.Author.Needs.{needs}
 use Rattle.decision.proofs.proposals.fits_new.Statement.{statement}
 use Rattle.decision.proofs.proposals.fits_new.Tie as tie

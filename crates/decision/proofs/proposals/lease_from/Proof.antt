@@ -1,5 +1,5 @@
 -- `proposals::lease_from` meets its contract: by lease-from-is.
-use Rattle.decision.specs.Laws.{lease-from-is}
+use Rattle.decision.specs.laws.Code.{lease-from-is}
 use borrow.Author.Needs.{needs}
 use Rattle.decision.proofs.proposals.lease_from.Statement.{statement}
 use Rattle.decision.proofs.proposals.lease_from.Tie as tie

@@ -1,5 +1,5 @@
 -- `proposals::length_of` meets its contract: by length-is.
-use Rattle.decision.specs.Laws.{length-is}
+use Rattle.decision.specs.laws.Code.{length-is}
 use borrow.Author.Needs.{needs}
 use Rattle.decision.proofs.proposals.length_of.Statement.{statement}
 use Rattle.decision.proofs.proposals.length_of.Tie as tie

@@ -1,5 +1,5 @@
 -- `proposals::new_at` meets its contract: by new-at-is, ask-tenant.
-use Rattle.decision.specs.Laws.{ask-tenant, new-at-is}
+use Rattle.decision.specs.laws.Code.{ask-tenant, new-at-is}
 use borrow.Author.Needs.{needs}
 use Rattle.decision.proofs.proposals.new_at.Statement.{statement}
 use Rattle.decision.proofs.proposals.new_at.Tie as tie

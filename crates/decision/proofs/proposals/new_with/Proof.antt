@@ -1,5 +1,5 @@
 -- `proposals::new_with` meets its contract: by new-with-is.
-use Rattle.decision.specs.Laws.{new-with-is}
+use Rattle.decision.specs.laws.Code.{new-with-is}
 use borrow.Author.Needs.{needs}
 use Rattle.decision.proofs.proposals.new_with.Statement.{statement}
 use Rattle.decision.proofs.proposals.new_with.Tie as tie

@@ -1,5 +1,5 @@
 -- `proposals::others_busy` meets its contract: by others-is.
-use Rattle.decision.specs.Laws.{others-is}
+use Rattle.decision.specs.laws.Code.{others-is}
 use borrow.Author.Needs.{needs}
 use Rattle.decision.proofs.proposals.others_busy.Statement.{statement}
 use Rattle.decision.proofs.proposals.others_busy.Tie as tie

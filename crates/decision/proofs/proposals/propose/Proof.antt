@@ -1,6 +1,6 @@
 -- `proposals::propose` meets its contract: its tests, which are calls.
 use Rattle.decision.specs.Parts.{proposalOf}
-use Rattle.lists.specs.Pick.{calls}
+use Rattle.lists.specs.laws.Pick.{calls}
 use borrow.Author.Needs.{needs}
 use Rattle.decision.proofs.proposals.propose.Statement.{statement}
 use Rattle.decision.proofs.proposals.propose.Tie as tie

@@ -1,5 +1,5 @@
 -- `proposals::start_of` meets its contract: by start-is.
-use Rattle.decision.specs.Laws.{start-is}
+use Rattle.decision.specs.laws.Code.{start-is}
 use borrow.Author.Needs.{needs}
 use Rattle.decision.proofs.proposals.start_of.Statement.{statement}
 use Rattle.decision.proofs.proposals.start_of.Tie as tie

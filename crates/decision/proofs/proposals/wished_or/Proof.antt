@@ -1,6 +1,6 @@
 -- `proposals::wished_or` meets its contract: its test.
 use Rattle.decision.specs.Parts.{wishedOr}
-use Rattle.lists.specs.Pick.{tests}
+use Rattle.lists.specs.laws.Pick.{tests}
 use borrow.Author.Needs.{needs}
 use Rattle.decision.proofs.proposals.wished_or.Statement.{statement}
 use Rattle.decision.proofs.proposals.wished_or.Tie as tie

@@ -1,6 +1,6 @@
 -- `tests::bad_counts` meets its contract: its tests in order.
 use Rattle.decision.specs.Parts.{badCounts}
-use Rattle.lists.specs.Both.{ors}
+use Rattle.lists.specs.laws.Both.{ors}
 use borrow.Author.Needs.{needs}
 use Rattle.decision.proofs.tests.bad_counts.Statement.{statement}
 use Rattle.decision.proofs.tests.bad_counts.Tie as tie

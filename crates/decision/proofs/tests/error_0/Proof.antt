@@ -1,6 +1,6 @@
 -- `tests::error_0` meets its contract: its tests in order.
 use Rattle.decision.specs.Parts.{error0Of}
-use Rattle.lists.specs.Both.{ors}
+use Rattle.lists.specs.laws.Both.{ors}
 use borrow.Author.Needs.{needs}
 use Rattle.decision.proofs.tests.error_0.Statement.{statement}
 use Rattle.decision.proofs.tests.error_0.Tie as tie

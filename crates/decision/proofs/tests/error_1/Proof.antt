@@ -1,6 +1,6 @@
 -- `tests::error_1` meets its contract: its tests, which are calls.
 use Rattle.decision.specs.Parts.{error1Of}
-use Rattle.lists.specs.Both.{joins}
+use Rattle.lists.specs.laws.Both.{joins}
 use borrow.Author.Needs.{needs}
 use Rattle.decision.proofs.tests.error_1.Statement.{statement}
 use Rattle.decision.proofs.tests.error_1.Tie as tie

@@ -1,6 +1,6 @@
 -- `tests::error_2` meets its contract: its tests in order.
 use Rattle.decision.specs.Parts.{error2Of}
-use Rattle.lists.specs.Both.{and-false, and-true, or-false, or-true}
+use Rattle.lists.specs.laws.Both.{and-false, and-true}
 use borrow.Author.Needs.{needs}
 use Rattle.decision.proofs.tests.error_2.Statement.{statement}
 use Rattle.decision.proofs.tests.error_2.Tie as tie

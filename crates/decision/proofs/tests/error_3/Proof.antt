@@ -1,5 +1,5 @@
 -- `tests::error_3` meets its contract: by error3-is.
-use Rattle.decision.specs.Laws.{error3-is}
+use Rattle.decision.specs.laws.Code.{error3-is}
 use borrow.Author.Needs.{needs}
 use Rattle.decision.proofs.tests.error_3.Statement.{statement}
 use Rattle.decision.proofs.tests.error_3.Tie as tie

@@ -1,6 +1,6 @@
 -- `tests::has_period` meets its contract: its tests, which are calls.
 use Rattle.decision.specs.Parts.{hasPeriod}
-use Rattle.lists.specs.Both.{joins}
+use Rattle.lists.specs.laws.Both.{joins}
 use borrow.Author.Needs.{needs}
 use Rattle.decision.proofs.tests.has_period.Statement.{statement}
 use Rattle.decision.proofs.tests.has_period.Tie as tie

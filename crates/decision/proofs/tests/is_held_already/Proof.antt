@@ -1,5 +1,5 @@
 -- `tests::is_held_already` meets its contract: its tests, which are calls.
-use Rattle.lists.specs.Both.{joins}
+use Rattle.lists.specs.laws.Both.{joins}
 use borrow.Author.Needs.{needs}
 use Rattle.decision.proofs.tests.is_held_already.Statement.{statement}
 use Rattle.decision.proofs.tests.is_held_already.Tie as tie

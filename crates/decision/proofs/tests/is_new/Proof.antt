@@ -1,6 +1,6 @@
 -- `tests::is_new` meets its contract: its tests in order.
 use Rattle.decision.specs.Parts.{isNew}
-use Rattle.lists.specs.Both.{ors}
+use Rattle.lists.specs.laws.Both.{ors}
 use borrow.Author.Needs.{needs}
 use Rattle.decision.proofs.tests.is_new.Statement.{statement}
 use Rattle.decision.proofs.tests.is_new.Tie as tie

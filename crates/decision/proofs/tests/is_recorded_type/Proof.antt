@@ -1,5 +1,5 @@
 -- `tests::is_recorded_type` meets its contract: its tests in order.
-use Rattle.lists.specs.Both.{ors}
+use Rattle.lists.specs.laws.Both.{ors}
 use borrow.Author.Needs.{needs}
 use Rattle.decision.proofs.tests.is_recorded_type.Statement.{statement}
 use Rattle.decision.proofs.tests.is_recorded_type.Tie as tie

@@ -1,6 +1,6 @@
 -- `tests::is_resend` meets its contract: its tests, which are calls.
 use Rattle.decision.specs.Parts.{resends}
-use Rattle.lists.specs.Both.{joins}
+use Rattle.lists.specs.laws.Both.{joins}
 use borrow.Author.Needs.{needs}
 use Rattle.decision.proofs.tests.is_resend.Statement.{statement}
 use Rattle.decision.proofs.tests.is_resend.Tie as tie

@@ -1,5 +1,5 @@
 -- `tests::is_skewed` meets its contract: by skew-below, skew-above.
-use Rattle.decision.specs.Laws.{skew-above, skew-below}
+use Rattle.decision.specs.laws.Code.{skew-above, skew-below}
 use borrow.Author.Needs.{needs}
 use Rattle.decision.proofs.tests.is_skewed.Statement.{statement}
 use Rattle.decision.proofs.tests.is_skewed.Tie as tie

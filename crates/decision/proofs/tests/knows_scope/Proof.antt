@@ -1,5 +1,5 @@
 -- `tests::knows_scope` meets its contract: by knows-is.
-use Rattle.decision.specs.Laws.{knows-is}
+use Rattle.decision.specs.laws.Code.{knows-is}
 use borrow.Author.Needs.{needs}
 use Rattle.decision.proofs.tests.knows_scope.Statement.{statement}
 use Rattle.decision.proofs.tests.knows_scope.Tie as tie

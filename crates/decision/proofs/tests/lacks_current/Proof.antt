@@ -1,5 +1,5 @@
 -- `tests::lacks_current` meets its contract: by current-is.
-use Rattle.decision.specs.Laws.{current-is}
+use Rattle.decision.specs.laws.Code.{current-is}
 use borrow.Author.Needs.{needs}
 use Rattle.decision.proofs.tests.lacks_current.Statement.{statement}
 use Rattle.decision.proofs.tests.lacks_current.Tie as tie

@@ -1,5 +1,5 @@
 -- `tests::lacks_scope` meets its contract: by lacks-is.
-use Rattle.decision.specs.Laws.{lacks-is}
+use Rattle.decision.specs.laws.Code.{lacks-is}
 use borrow.Author.Needs.{needs}
 use Rattle.decision.proofs.tests.lacks_scope.Statement.{statement}
 use Rattle.decision.proofs.tests.lacks_scope.Tie as tie

@@ -1,5 +1,5 @@
 -- `tests::needs_lease` meets its contract: its tests in order.
-use Rattle.lists.specs.Both.{ors}
+use Rattle.lists.specs.laws.Both.{ors}
 use borrow.Author.Needs.{needs}
 use Rattle.decision.proofs.tests.needs_lease.Statement.{statement}
 use Rattle.decision.proofs.tests.needs_lease.Tie as tie

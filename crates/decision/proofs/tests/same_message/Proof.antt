@@ -1,5 +1,5 @@
 -- `tests::same_message` meets its contract: its tests in order.
-use Rattle.lists.specs.Both.{ands}
+use Rattle.lists.specs.laws.Both.{ands}
 use borrow.Author.Needs.{needs}
 use Rattle.decision.proofs.tests.same_message.Statement.{statement}
 use Rattle.decision.proofs.tests.same_message.Tie as tie

@@ -1,8 +1,8 @@
 -- `tests::scope_place` meets its contract: the first place.
 use Prim.Native.Nat.{_-_}
 use Rattle.decision.specs.Parts.{lowestIs, scopePlace}
-use Rattle.lists.specs.Place.{PlaceInv, places}
-use Rattle.state.specs.Book.{noScope}
+use Rattle.lists.specs.laws.Place.{PlaceInv, places}
+use Rattle.state.specs.laws.Layout.{noScope}
 use borrow.Author.Needs.{needs}
 use Rattle.decision.proofs.tests.scope_place.Statement.{statement}
 use Rattle.decision.proofs.tests.scope_place.Tie as tie

@@ -1,6 +1,6 @@
 -- `tests::zero_length` meets its contract: its tests in order.
 use Rattle.decision.specs.Parts.{zeroLength}
-use Rattle.lists.specs.Both.{and-false, and-true, or-false, or-true}
+use Rattle.lists.specs.laws.Both.{and-false, and-true}
 use borrow.Author.Needs.{needs}
 use Rattle.decision.proofs.tests.zero_length.Statement.{statement}
 use Rattle.decision.proofs.tests.zero_length.Tie as tie

@@ -1,7 +1,6 @@
--- The loop tests one code a turn (`UptoInv`).
+-- `Message::all_allowed` meets its contract: the loop tests one code a turn (`UptoInv`).
 use Prim.Native.Nat.{_-_}
-use Rattle.lists.specs.All.{UptoInv, uptos}
-use Rattle.lists.specs.Place.{places}
+use Rattle.lists.specs.laws.All.{UptoInv, uptos}
 use Rattle.message.specs.Values.{allowedAt}
 use borrow.Author.Needs.{needs}
 use Rattle.message.proofs.Message.all_allowed.Statement.{statement}

@@ -1,5 +1,5 @@
--- By the definition, case by case.
-use Rattle.lists.specs.Pick.{calls}
+-- `Message::allowed_at` meets its contract: by the definition, case by case.
+use Rattle.lists.specs.laws.Pick.{calls}
 use Rattle.message.proofs.Steps.{allows-got}
 use Rattle.message.specs.Values.{allowedAt}
 use borrow.Author.Needs.{needs}

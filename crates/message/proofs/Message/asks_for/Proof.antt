@@ -1,4 +1,4 @@
--- By what the lookup found; what was found lies within the datagram.
+-- `Message::asks_for` meets its contract: by what the lookup found; what was found lies within the datagram.
 use Rattle.message.proofs.Steps.{found-fits}
 use Rattle.message.specs.Values.{namesOf}
 use borrow.Author.Needs.{needs}

@@ -1,4 +1,4 @@
--- By what the lookup found; what was found lies within the datagram.
+-- `Message::counts` meets its contract: by what the lookup found; what was found lies within the datagram.
 use Rattle.message.proofs.Steps.{counts-fit}
 use Rattle.message.specs.Values.{countsOf}
 use borrow.Author.Needs.{needs}

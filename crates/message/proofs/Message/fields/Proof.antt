@@ -1,4 +1,4 @@
--- One value after the other.
+-- `Message::fields` meets its contract: one value after the other.
 use Rattle.message.proofs.Steps.{fields-is, four-scope}
 use borrow.Author.Needs.{needs}
 use Rattle.message.proofs.Message.fields.Statement.{statement}

@@ -1,4 +1,4 @@
--- Past the array there is no option (`find-above`).
+-- `Message::find` meets its contract: past the array there is no option (`find-above`).
 use Rattle.message.proofs.Steps.{find-above}
 use borrow.Author.Needs.{needs}
 use Rattle.message.proofs.Message.find.Statement.{statement}

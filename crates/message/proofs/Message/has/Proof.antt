@@ -1,4 +1,4 @@
--- By what the lookup found.
+-- `Message::has` meets its contract: by what the lookup found.
 use Rattle.message.proofs.Steps.{found-no, found-yes}
 use borrow.Author.Needs.{needs}
 use Rattle.message.proofs.Message.has.Statement.{statement}

@@ -1,4 +1,4 @@
--- By what the lookup found; what was found lies within the datagram.
+-- `Message::identifier` meets its contract: by what the lookup found; what was found lies within the datagram.
 use Rattle.message.proofs.Steps.{found-fits, id-short}
 use Rattle.message.specs.Values.{identifierOf}
 use borrow.Author.Needs.{needs}

@@ -1,4 +1,4 @@
--- One option after the other.
+-- `Message::times` meets its contract: one option after the other.
 use Rattle.lists.specs.Filter.{isIn}
 use Rattle.lists.specs.Pick.{pick}
 use Rattle.message.proofs.Steps.{four-time, times-is}

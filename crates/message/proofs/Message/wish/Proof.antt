@@ -1,4 +1,4 @@
--- By what the lookup found; what was found lies within the datagram.
+-- `Message::wish` meets its contract: by what the lookup found; what was found lies within the datagram.
 use Rattle.message.proofs.Steps.{four-fits}
 use Rattle.message.specs.Values.{wishOf}
 use borrow.Author.Needs.{needs}

@@ -1,5 +1,5 @@
--- By the definition, case by case.
-use Rattle.lists.specs.Pick.{picks}
+-- `Walk::recorded` meets its contract: by the definition, case by case.
+use Rattle.lists.specs.laws.Pick.{picks}
 use borrow.Author.Needs.{needs}
 use Rattle.message.proofs.Walk.recorded.Statement.{statement}
 use Rattle.message.proofs.Walk.recorded.Tie as tie

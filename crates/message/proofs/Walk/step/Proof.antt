@@ -1,5 +1,5 @@
--- By the definition, case by case.
-use Rattle.lists.specs.Pick.{calls}
+-- `Walk::step` meets its contract: by the definition, case by case.
+use Rattle.lists.specs.laws.Pick.{calls}
 use Rattle.message.proofs.Steps.{layout-inside, taken-got}
 use Rattle.message.specs.Walk.{stepOf}
 use borrow.Author.Needs.{needs}

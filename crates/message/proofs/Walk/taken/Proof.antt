@@ -1,5 +1,5 @@
--- By the definition, case by case.
-use Rattle.lists.specs.Pick.{picks}
+-- `Walk::taken` meets its contract: by the definition, case by case.
+use Rattle.lists.specs.laws.Pick.{picks}
 use Rattle.message.specs.Walk.{optionTaken}
 use borrow.Author.Needs.{needs}
 use Rattle.message.proofs.Walk.taken.Statement.{statement}

@@ -1,4 +1,4 @@
--- The two numbers are those of the option at the walk's place.
+-- `Walk::taken_in` meets its contract: the two numbers are those of the option at the walk's place.
 use Rattle.message.proofs.Steps.{taken-got}
 use borrow.Author.Needs.{needs}
 use Rattle.message.proofs.Walk.taken_in.Statement.{statement}

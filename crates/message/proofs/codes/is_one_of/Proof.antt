@@ -1,4 +1,4 @@
--- The loop looks at one number a turn (`OneOfInv`).
+-- `codes::is_one_of` meets its contract: the loop looks at one number a turn (`OneOfInv`).
 use Prim.Native.Nat.{_-_}
 use Rattle.message.proofs.Steps.{OneOfInv, ones}
 use borrow.Author.Needs.{needs}

@@ -1,4 +1,4 @@
--- Three lists, one after the other (`filled-is`).
+-- `options::exactly_filled` meets its contract: three lists, one after the other (`filled-is`).
 use Rattle.message.proofs.Steps.{filled-is}
 use borrow.Author.Needs.{needs}
 use Rattle.message.proofs.options.exactly_filled.Statement.{statement}

@@ -1,5 +1,5 @@
--- By the definition, case by case.
-use Rattle.lists.specs.Both.{ands}
+-- `options::layout_ok` meets its contract: by the definition, case by case.
+use Rattle.lists.specs.laws.Both.{ands}
 use Rattle.message.proofs.Steps.{after-got}
 use Rattle.message.specs.Walk.{layoutOk}
 use borrow.Author.Needs.{needs}

@@ -1,5 +1,5 @@
--- By the definition, case by case.
-use Rattle.lists.specs.Pick.{picks}
+-- `options::past_list` meets its contract: by the definition, case by case.
+use Rattle.lists.specs.laws.Pick.{picks}
 use Rattle.message.specs.Placed.{pastWithin}
 use borrow.Author.Needs.{needs}
 use native.Mathlib.Omega.{arith}

@@ -1,6 +1,6 @@
--- By the definition, case by case.
-use Rattle.lists.specs.Both.{joins}
-use Rattle.lists.specs.Pick.{gots}
+-- `options::value_ok` meets its contract: by the definition, case by case.
+use Rattle.lists.specs.laws.Both.{joins}
+use Rattle.lists.specs.laws.Pick.{gots}
 use Rattle.message.proofs.Steps.{filled-got, length-got}
 use Rattle.message.specs.Walk.{valueOk}
 use borrow.Author.Needs.{needs}

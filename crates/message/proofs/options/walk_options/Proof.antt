@@ -1,4 +1,4 @@
--- The loop takes one option a turn (`Left`).
+-- `options::walk_options` meets its contract: the loop takes one option a turn (`Left`).
 use Prim.Native.Nat.{_-_}
 use Rattle.message.proofs.Steps.{Left, left-start, left-step, left-stop, rank, rank-falls}
 use Rattle.message.specs.declared.Stage.the-variants.{Broken, Done}

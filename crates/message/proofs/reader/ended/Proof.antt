@@ -1,5 +1,5 @@
--- By the definition, case by case.
-use Rattle.lists.specs.Pick.{calls, picks}
+-- `reader::ended` meets its contract: by the definition, case by case.
+use Rattle.lists.specs.laws.Pick.{calls, picks}
 use Rattle.message.proofs.Steps.{message-is}
 use Rattle.message.specs.Read.{ended}
 use borrow.Author.Needs.{needs}

@@ -1,5 +1,5 @@
--- By the definition, case by case.
-use Rattle.lists.specs.Both.{and-gots, ands}
+-- `reader::header_ok` meets its contract: by the definition, case by case.
+use Rattle.lists.specs.laws.Both.{and-gots, ands}
 use Rattle.message.proofs.Steps.{client-got}
 use Rattle.message.specs.Read.{headerOk}
 use borrow.Author.Needs.{needs}

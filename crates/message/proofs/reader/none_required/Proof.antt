@@ -1,5 +1,5 @@
--- By the definition, case by case.
-use Rattle.lists.specs.Pick.{picks}
+-- `reader::none_required` meets its contract: by the definition, case by case.
+use Rattle.lists.specs.laws.Pick.{picks}
 use Rattle.message.proofs.Steps.{features-filled, features-fit}
 use Rattle.message.specs.Read.{noneRequired}
 use borrow.Author.Needs.{needs}

@@ -1,4 +1,4 @@
--- The three lists stand within the value (`third-inside`).
+-- `reader::required_empty` meets its contract: the three lists stand within the value (`third-inside`).
 use Rattle.message.proofs.Steps.{begins-inside, required-is, second-inside, third-inside}
 use borrow.Author.Needs.{needs}
 use Rattle.message.proofs.reader.required_empty.Statement.{statement}

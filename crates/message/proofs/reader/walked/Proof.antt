@@ -1,4 +1,4 @@
--- By the stage at which the walk stopped.
+-- `reader::walked` meets its contract: by the stage at which the walk stopped.
 use Rattle.message.proofs.Steps.{walked-as, walked-good}
 use borrow.Author.Needs.{needs}
 use Rattle.message.proofs.reader.walked.Statement.{statement}

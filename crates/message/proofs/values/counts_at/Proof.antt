@@ -1,4 +1,4 @@
--- The two numbers, one after the other.
+-- `values::counts_at` meets its contract: the two numbers, one after the other.
 use Rattle.message.proofs.Steps.{counts-is}
 use borrow.Author.Needs.{needs}
 use Rattle.message.proofs.values.counts_at.Statement.{statement}

@@ -1,6 +1,6 @@
--- The loop copies one octet a turn (`CopyInv`).
+-- `values::identifier_at` meets its contract: the loop copies one octet a turn (`CopyInv`).
 use Prim.Native.Nat.{_+_, _-_}
-use Rattle.lists.specs.Copy.{CopyInv, copies, copy-start-part}
+use Rattle.lists.specs.laws.Copy.{CopyInv, copies, copy-start-part}
 use Rattle.message.proofs.Steps.{identifier-is}
 use borrow.Author.Needs.{needs}
 use denote.Ref.{now}

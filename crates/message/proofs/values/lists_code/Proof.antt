@@ -1,4 +1,4 @@
--- The loop looks at one code a turn (`CodesInv`).
+-- `values::lists_code` meets its contract: the loop looks at one code a turn (`CodesInv`).
 use Prim.Native.Nat.{_-_}
 use Rattle.message.proofs.Steps.{CodesInv, listed}
 use borrow.Author.Needs.{needs}

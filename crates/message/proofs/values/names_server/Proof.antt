@@ -1,6 +1,6 @@
--- By the definition, case by case.
-use Rattle.lists.specs.Both.{and-gots}
-use Rattle.lists.specs.Pick.{eqb-got}
+-- `values::names_server` meets its contract: by the definition, case by case.
+use Rattle.lists.specs.laws.Both.{and-gots}
+use Rattle.lists.specs.laws.Pick.{eqb-got}
 use Rattle.message.specs.Values.{namesServer}
 use borrow.Author.Needs.{needs}
 use Rattle.message.proofs.values.names_server.Statement.{statement}

@@ -1,5 +1,5 @@
--- Place 0 is that of no option.
-use Rattle.lists.specs.Pick.{picks}
+-- `values::place_found` meets its contract: place 0 is that of no option.
+use Rattle.lists.specs.laws.Pick.{picks}
 use Rattle.message.specs.Values.{foundAt}
 use borrow.Author.Needs.{needs}
 use Rattle.message.proofs.values.place_found.Statement.{statement}

@@ -1,4 +1,4 @@
--- The four octets of the value.
+-- `values::wish_at` meets its contract: the four octets of the value.
 use Rattle.message.proofs.Steps.{wish-is}
 use borrow.Author.Needs.{needs}
 use Rattle.message.proofs.values.wish_at.Statement.{statement}

@@ -1,5 +1,5 @@
 -- `holdings::add_sets` meets its contract: by sets-added.
-use Rattle.soundness.specs.Laws.{sets-added}
+use Rattle.soundness.specs.laws.Code.{sets-added}
 use borrow.Author.Needs.{needs}
 use Rattle.soundness.proofs.holdings.add_sets.Statement.{statement}
 use Rattle.soundness.proofs.holdings.add_sets.Tie as tie

@@ -1,8 +1,8 @@
 -- `holdings::all_held_apart` meets its contract: every pair, in one loop over two places.
 use Prim.Native.Nat.{_*_, _+_, _-_}
-use Rattle.lists.specs.All.{CrossInv, cross-next, cross-row, cross-whole, crosses, pairsBy}
+use Rattle.lists.specs.laws.All.{CrossInv, cross-next, cross-row, cross-whole, crosses}
+use Rattle.lists.specs.All.{pairsBy}
 use Rattle.soundness.specs.Parts.{apartSets, noHeld}
-use Rattle.state.specs.Book.{before}
 use borrow.Author.Needs.{needs}
 use borrow.Author.Tests.{not-false}
 use Rattle.soundness.proofs.holdings.all_held_apart.Statement.{statement}

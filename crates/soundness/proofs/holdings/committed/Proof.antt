@@ -1,5 +1,5 @@
 -- `holdings::committed` meets its contract: by committed-is, committed-small.
-use Rattle.soundness.specs.Laws.{committed-is, committed-small}
+use Rattle.soundness.specs.laws.Code.{committed-is, committed-small}
 use borrow.Author.Needs.{needs}
 use Rattle.soundness.proofs.holdings.committed.Statement.{statement}
 use Rattle.soundness.proofs.holdings.committed.Tie as tie

@@ -1,5 +1,5 @@
 -- `holdings::committed_ok` meets its contract: by committed-ok-is.
-use Rattle.soundness.specs.Laws.{committed-ok-is}
+use Rattle.soundness.specs.laws.Code.{committed-ok-is}
 use borrow.Author.Needs.{needs}
 use Rattle.soundness.proofs.holdings.committed_ok.Statement.{statement}
 use Rattle.soundness.proofs.holdings.committed_ok.Tie as tie

@@ -1,6 +1,6 @@
 -- `holdings::committed_sum` meets its contract: by sums.
 use Prim.Native.Nat.{_-_}
-use Rattle.lists.specs.Sums.{SumInv, sums}
+use Rattle.lists.specs.laws.Sums.{SumInv, sums}
 use Rattle.soundness.specs.Parts.{countIn}
 use Rattle.state.specs.Book.{committed}
 use borrow.Author.Needs.{needs}

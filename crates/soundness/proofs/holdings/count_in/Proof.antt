@@ -1,5 +1,5 @@
 -- `holdings::count_in` meets its contract: by count-at.
-use Rattle.soundness.specs.Laws.{count-at}
+use Rattle.soundness.specs.laws.Code.{count-at}
 use borrow.Author.Needs.{needs}
 use Rattle.soundness.proofs.holdings.count_in.Statement.{statement}
 use Rattle.soundness.proofs.holdings.count_in.Tie as tie

@@ -1,5 +1,5 @@
 -- `holdings::held_apart` meets its contract: by joins.
-use Rattle.lists.specs.Both.{joins}
+use Rattle.lists.specs.laws.Both.{joins}
 use Rattle.soundness.specs.Parts.{apartSets}
 use borrow.Author.Needs.{needs}
 use Rattle.soundness.proofs.holdings.held_apart.Statement.{statement}

@@ -1,9 +1,9 @@
 -- `holdings::held_sets` meets its contract: by parts, held-are.
 use Prim.Native.Nat.{_-_}
-use Rattle.lists.specs.Part.{PartInv, parts}
-use Rattle.soundness.specs.Laws.{held-are}
+use Rattle.lists.specs.laws.Part.{PartInv, parts}
+use Rattle.soundness.specs.laws.Code.{held-are}
 use Rattle.soundness.specs.Parts.{addedSets, heldSets}
-use Rattle.state.specs.Book.{noLease}
+use Rattle.state.specs.laws.Layout.{noLease}
 use borrow.Author.Needs.{needs}
 use Rattle.soundness.proofs.holdings.held_sets.Statement.{statement}
 use Rattle.soundness.proofs.holdings.held_sets.Tie as tie

@@ -1,5 +1,5 @@
 -- `holdings::holding_rules` meets its contract: by holding-are.
-use Rattle.soundness.specs.Laws.{holding-are}
+use Rattle.soundness.specs.laws.Code.{holding-are}
 use borrow.Author.Needs.{needs}
 use Rattle.soundness.proofs.holdings.holding_rules.Statement.{statement}
 use Rattle.soundness.proofs.holdings.holding_rules.Tie as tie

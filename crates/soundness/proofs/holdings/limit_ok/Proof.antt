@@ -1,5 +1,5 @@
 -- `holdings::limit_ok` meets its contract: by limit-is.
-use Rattle.soundness.specs.Laws.{limit-is}
+use Rattle.soundness.specs.laws.Code.{limit-is}
 use borrow.Author.Needs.{needs}
 use Rattle.soundness.proofs.holdings.limit_ok.Statement.{statement}
 use Rattle.soundness.proofs.holdings.limit_ok.Tie as tie

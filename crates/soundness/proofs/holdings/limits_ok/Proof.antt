@@ -1,7 +1,7 @@
 -- `holdings::limits_ok` meets its contract: by uptos, limits-in.
 use Prim.Native.Nat.{_-_}
-use Rattle.lists.specs.All.{UptoInv, uptos}
-use Rattle.soundness.specs.Laws.{limits-in}
+use Rattle.lists.specs.laws.All.{UptoInv, uptos}
+use Rattle.soundness.specs.laws.Code.{limits-in}
 use Rattle.soundness.specs.Parts.{limitIn}
 use borrow.Author.Needs.{needs}
 use Rattle.soundness.proofs.holdings.limits_ok.Statement.{statement}

@@ -1,6 +1,7 @@
 -- `holdings::rest_none` meets its contract: by alls, all-rest.
 use Prim.Native.Nat.{_-_}
-use Rattle.lists.specs.All.{AllInv, all-rest, allBy, alls}
+use Rattle.lists.specs.laws.All.{AllInv, all-rest, alls}
+use Rattle.lists.specs.All.{allBy}
 use Rattle.soundness.specs.Parts.{noHeld, noneH}
 use borrow.Author.Needs.{needs}
 use lib.ListN.{drop}

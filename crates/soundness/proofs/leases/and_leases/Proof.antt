@@ -1,5 +1,5 @@
 -- `leases::and_leases` meets its contract: by lease-and.
-use Rattle.soundness.specs.Laws.{lease-and}
+use Rattle.soundness.specs.laws.Code.{lease-and}
 use borrow.Author.Needs.{needs}
 use Rattle.soundness.proofs.leases.and_leases.Statement.{statement}
 use Rattle.soundness.proofs.leases.and_leases.Tie as tie

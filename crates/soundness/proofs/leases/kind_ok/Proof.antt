@@ -1,5 +1,5 @@
 -- `leases::kind_ok` meets its contract: by ors.
-use Rattle.lists.specs.Both.{ors}
+use Rattle.lists.specs.laws.Both.{ors}
 use Rattle.soundness.specs.Sound.{kindB}
 use borrow.Author.Needs.{needs}
 use Rattle.soundness.proofs.leases.kind_ok.Statement.{statement}

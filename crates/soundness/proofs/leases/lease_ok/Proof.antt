@@ -1,5 +1,5 @@
 -- `leases::lease_ok` meets its contract: by joins.
-use Rattle.lists.specs.Both.{joins}
+use Rattle.lists.specs.laws.Both.{joins}
 use Rattle.soundness.specs.Sound.{leaseB}
 use borrow.Author.Needs.{needs}
 use Rattle.soundness.proofs.leases.lease_ok.Statement.{statement}

@@ -1,5 +1,5 @@
 -- `leases::lease_rules` meets its contract: by lease-is.
-use Rattle.soundness.specs.Laws.{lease-is}
+use Rattle.soundness.specs.laws.Code.{lease-is}
 use borrow.Author.Needs.{needs}
 use Rattle.soundness.proofs.leases.lease_rules.Statement.{statement}
 use Rattle.soundness.proofs.leases.lease_rules.Tie as tie

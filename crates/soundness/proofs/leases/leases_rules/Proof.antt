@@ -1,9 +1,10 @@
 -- `leases::leases_rules` meets its contract: by parts, leases-are.
 use Prim.Native.Nat.{_-_}
-use Rattle.lists.specs.Part.{PartInv, parts}
-use Rattle.soundness.specs.Laws.{leases-are}
+use Rattle.lists.specs.laws.Part.{PartInv, parts}
+use Rattle.soundness.specs.laws.Code.{leases-are}
 use Rattle.soundness.specs.Parts.{andLeases, leasesAll}
-use Rattle.state.specs.Book.{inUse, noLease}
+use Rattle.state.specs.Book.{inUse}
+use Rattle.state.specs.laws.Layout.{noLease}
 use borrow.Author.Needs.{needs}
 use Rattle.soundness.proofs.leases.leases_rules.Statement.{statement}
 use Rattle.soundness.proofs.leases.leases_rules.Tie as tie

@@ -1,5 +1,5 @@
 -- `leases::offsets_ok` meets its contract: by calls.
-use Rattle.lists.specs.Pick.{calls}
+use Rattle.lists.specs.laws.Pick.{calls}
 use Rattle.soundness.specs.Sound.{offsetsB}
 use borrow.Author.Needs.{needs}
 use Rattle.soundness.proofs.leases.offsets_ok.Statement.{statement}

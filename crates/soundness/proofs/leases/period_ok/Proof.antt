@@ -1,5 +1,5 @@
 -- `leases::period_ok` meets its contract: by ands.
-use Rattle.lists.specs.Both.{ands}
+use Rattle.lists.specs.laws.Both.{ands}
 use Rattle.soundness.specs.Sound.{periodB}
 use borrow.Author.Needs.{needs}
 use Rattle.soundness.proofs.leases.period_ok.Statement.{statement}

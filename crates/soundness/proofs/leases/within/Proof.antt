@@ -1,5 +1,5 @@
 -- `leases::within` meets its contract: by pool-is.
-use Rattle.soundness.specs.Laws.{pool-is}
+use Rattle.soundness.specs.laws.Code.{pool-is}
 use borrow.Author.Needs.{needs}
 use Rattle.soundness.proofs.leases.within.Statement.{statement}
 use Rattle.soundness.proofs.leases.within.Tie as tie

@@ -1,5 +1,5 @@
 -- `numbers::from_place` meets its contract: one test.
-use Rattle.lists.specs.Pick.{picks}
+use Rattle.lists.specs.laws.Pick.{picks}
 use borrow.Author.Needs.{needs}
 use Rattle.soundness.proofs.numbers.from_place.Statement.{statement}
 use Rattle.soundness.proofs.numbers.from_place.Tie as tie

@@ -1,5 +1,5 @@
 -- `numbers::is_one_to` meets its contract: one test a bound.
-use Rattle.lists.specs.Both.{ands}
+use Rattle.lists.specs.laws.Both.{ands}
 use Rattle.soundness.specs.Sound.{oneTo}
 use borrow.Author.Needs.{needs}
 use Rattle.soundness.proofs.numbers.is_one_to.Statement.{statement}

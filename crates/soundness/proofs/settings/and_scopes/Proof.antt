@@ -1,5 +1,5 @@
 -- `settings::and_scopes` meets its contract: by scope-and.
-use Rattle.soundness.specs.Laws.{scope-and}
+use Rattle.soundness.specs.laws.Code.{scope-and}
 use borrow.Author.Needs.{needs}
 use Rattle.soundness.proofs.settings.and_scopes.Statement.{statement}
 use Rattle.soundness.proofs.settings.and_scopes.Tie as tie

@@ -1,6 +1,6 @@
 -- `settings::each_reserve_ok` meets its contract: by uptos.
 use Prim.Native.Nat.{_-_}
-use Rattle.lists.specs.All.{UptoInv, uptos}
+use Rattle.lists.specs.laws.All.{UptoInv, uptos}
 use Rattle.soundness.specs.Sound.{reserveB}
 use borrow.Author.Needs.{needs}
 use Rattle.soundness.proofs.settings.each_reserve_ok.Statement.{statement}

@@ -1,6 +1,6 @@
 -- `settings::pool_ok` meets its contract: by ands, leb-left.
-use Rattle.lists.specs.Both.{ands}
-use Rattle.soundness.specs.Laws.{leb-left}
+use Rattle.lists.specs.laws.Both.{ands}
+use Rattle.soundness.specs.laws.Code.{leb-left}
 use Rattle.soundness.specs.Sound.{poolB}
 use borrow.Author.Needs.{needs}
 use Rattle.soundness.proofs.settings.pool_ok.Statement.{statement}

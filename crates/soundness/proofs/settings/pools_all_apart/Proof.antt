@@ -1,8 +1,10 @@
 -- `settings::pools_all_apart` meets its contract: every pair, in one loop over two places.
 use Prim.Native.Nat.{_*_, _+_, _-_}
-use Rattle.lists.specs.All.{CrossInv, cross-next, cross-row, crosses, pairsBy}
+use Rattle.lists.specs.laws.All.{CrossInv, cross-next, cross-row, crosses}
+use Rattle.lists.specs.All.{pairsBy}
 use Rattle.soundness.specs.Sound.{poolsApart}
-use Rattle.state.specs.Book.{before, noScope, scopesOf}
+use Rattle.state.specs.laws.Layout.{noScope}
+use Rattle.state.specs.Book.{scopesOf}
 use borrow.Author.Needs.{needs}
 use borrow.Author.Tests.{not-false}
 use Rattle.soundness.proofs.settings.pools_all_apart.Statement.{statement}

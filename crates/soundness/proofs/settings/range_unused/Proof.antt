@@ -1,5 +1,5 @@
 -- `settings::range_unused` meets its contract: by ands.
-use Rattle.lists.specs.Both.{ands}
+use Rattle.lists.specs.laws.Both.{ands}
 use Rattle.soundness.specs.Sound.{rangeZero}
 use borrow.Author.Needs.{needs}
 use Rattle.soundness.proofs.settings.range_unused.Statement.{statement}

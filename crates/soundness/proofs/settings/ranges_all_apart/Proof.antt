@@ -1,9 +1,10 @@
 -- `settings::ranges_all_apart` meets its contract: every pair, in one loop over two places.
 use Prim.Native.Nat.{_*_, _+_, _-_}
-use Rattle.lists.specs.All.{CrossInv, cross-next, cross-row, crosses, pairsBy}
-use Rattle.soundness.specs.Parts.{noRange}
+use Rattle.lists.specs.laws.All.{CrossInv, cross-next, cross-row, crosses}
+use Rattle.lists.specs.All.{pairsBy}
+use Rattle.soundness.specs.laws.Code.{noRange}
 use Rattle.soundness.specs.Sound.{rangesApart}
-use Rattle.state.specs.Book.{before, rangesOf}
+use Rattle.state.specs.Book.{rangesOf}
 use borrow.Author.Needs.{needs}
 use borrow.Author.Tests.{not-false}
 use Rattle.soundness.proofs.settings.ranges_all_apart.Statement.{statement}

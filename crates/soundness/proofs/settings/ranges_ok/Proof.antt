@@ -1,7 +1,8 @@
 -- `settings::ranges_ok` meets its contract: by alls, all-start.
 use Prim.Native.Nat.{_-_}
-use Rattle.lists.specs.All.{AllInv, all-start, allBy, alls}
-use Rattle.soundness.specs.Parts.{noRange}
+use Rattle.lists.specs.laws.All.{AllInv, all-start, alls}
+use Rattle.lists.specs.All.{allBy}
+use Rattle.soundness.specs.laws.Code.{noRange}
 use Rattle.soundness.specs.Sound.{rangeB}
 use Rattle.state.specs.Book.{rangesOf}
 use borrow.Author.Needs.{needs}

@@ -1,7 +1,8 @@
 -- `settings::ranges_unused` meets its contract: by alls, all-rest.
 use Prim.Native.Nat.{_-_}
-use Rattle.lists.specs.All.{AllInv, all-rest, allBy, alls}
-use Rattle.soundness.specs.Parts.{noRange}
+use Rattle.lists.specs.laws.All.{AllInv, all-rest, alls}
+use Rattle.lists.specs.All.{allBy}
+use Rattle.soundness.specs.laws.Code.{noRange}
 use Rattle.soundness.specs.Sound.{rangeZero}
 use borrow.Author.Needs.{needs}
 use lib.ListN.{drop}

@@ -1,5 +1,5 @@
 -- `settings::reserve_ok` meets its contract: by ands.
-use Rattle.lists.specs.Both.{ands}
+use Rattle.lists.specs.laws.Both.{ands}
 use Rattle.soundness.specs.Sound.{reserveB}
 use borrow.Author.Needs.{needs}
 use Rattle.soundness.proofs.settings.reserve_ok.Statement.{statement}

@@ -1,6 +1,6 @@
 -- `settings::reserves` meets its contract: by sums.
 use Prim.Native.Nat.{_-_}
-use Rattle.lists.specs.Sums.{SumInv, sums}
+use Rattle.lists.specs.laws.Sums.{SumInv, sums}
 use Rattle.state.specs.Book.{reserveAt}
 use borrow.Author.Needs.{needs}
 use Rattle.soundness.proofs.settings.reserves.Statement.{statement}

@@ -1,6 +1,6 @@
 -- `settings::reserves_ok` meets its contract: by joins, leb-left.
-use Rattle.lists.specs.Both.{joins}
-use Rattle.soundness.specs.Laws.{leb-left}
+use Rattle.lists.specs.laws.Both.{joins}
+use Rattle.soundness.specs.laws.Code.{leb-left}
 use Rattle.soundness.specs.Sound.{reservesB}
 use borrow.Author.Needs.{needs}
 use Rattle.soundness.proofs.settings.reserves_ok.Statement.{statement}

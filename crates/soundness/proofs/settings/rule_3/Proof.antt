@@ -1,5 +1,5 @@
 -- `settings::rule_3` meets its contract: by joins.
-use Rattle.lists.specs.Both.{joins}
+use Rattle.lists.specs.laws.Both.{joins}
 use Rattle.soundness.specs.Sound.{rule3}
 use borrow.Author.Needs.{needs}
 use Rattle.soundness.proofs.settings.rule_3.Statement.{statement}

@@ -1,5 +1,5 @@
 -- `settings::scope_rules` meets its contract: by scope-is.
-use Rattle.soundness.specs.Laws.{scope-is}
+use Rattle.soundness.specs.laws.Code.{scope-is}
 use Rattle.soundness.specs.Sound.{sizeB}
 use borrow.Author.Needs.{needs}
 use Rattle.soundness.proofs.settings.scope_rules.Statement.{statement}

@@ -1,5 +1,5 @@
 -- `settings::scope_unused` meets its contract: by ands.
-use Rattle.lists.specs.Both.{ands}
+use Rattle.lists.specs.laws.Both.{ands}
 use Rattle.soundness.specs.Sound.{scopeZero}
 use borrow.Author.Needs.{needs}
 use Rattle.soundness.proofs.settings.scope_unused.Statement.{statement}

@@ -1,9 +1,10 @@
 -- `settings::scopes_rules` meets its contract: by parts, scopes-are.
 use Prim.Native.Nat.{_-_}
-use Rattle.lists.specs.Part.{PartInv, parts}
-use Rattle.soundness.specs.Laws.{scopes-are}
+use Rattle.lists.specs.laws.Part.{PartInv, parts}
+use Rattle.soundness.specs.laws.Code.{scopes-are}
 use Rattle.soundness.specs.Parts.{andScopes, scopesAll}
-use Rattle.state.specs.Book.{noScope, scopesOf}
+use Rattle.state.specs.laws.Layout.{noScope}
+use Rattle.state.specs.Book.{scopesOf}
 use borrow.Author.Needs.{needs}
 use Rattle.soundness.proofs.settings.scopes_rules.Statement.{statement}
 use Rattle.soundness.proofs.settings.scopes_rules.Tie as tie

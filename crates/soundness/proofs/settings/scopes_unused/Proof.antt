@@ -1,8 +1,9 @@
 -- `settings::scopes_unused` meets its contract: by alls, all-rest.
 use Prim.Native.Nat.{_-_}
-use Rattle.lists.specs.All.{AllInv, all-rest, allBy, alls}
+use Rattle.lists.specs.laws.All.{AllInv, all-rest, alls}
+use Rattle.lists.specs.All.{allBy}
 use Rattle.soundness.specs.Sound.{scopeZero}
-use Rattle.state.specs.Book.{noScope}
+use Rattle.state.specs.laws.Layout.{noScope}
 use borrow.Author.Needs.{needs}
 use lib.ListN.{drop}
 use Rattle.soundness.proofs.settings.scopes_unused.Statement.{statement}

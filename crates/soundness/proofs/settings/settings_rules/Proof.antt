@@ -1,5 +1,5 @@
 -- `settings::settings_rules` meets its contract: by settings-are.
-use Rattle.soundness.specs.Laws.{settings-are}
+use Rattle.soundness.specs.laws.Code.{settings-are}
 use borrow.Author.Needs.{needs}
 use Rattle.soundness.proofs.settings.settings_rules.Statement.{statement}
 use Rattle.soundness.proofs.settings.settings_rules.Tie as tie

@@ -1,5 +1,5 @@
 -- `settings::tail_ok` meets its contract: by joins.
-use Rattle.lists.specs.Both.{joins}
+use Rattle.lists.specs.laws.Both.{joins}
 use Rattle.soundness.specs.Sound.{tailB}
 use borrow.Author.Needs.{needs}
 use Rattle.soundness.proofs.settings.tail_ok.Statement.{statement}

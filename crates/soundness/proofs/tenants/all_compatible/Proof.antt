@@ -1,8 +1,10 @@
 -- `tenants::all_compatible` meets its contract: every pair, in one loop over two places.
 use Prim.Native.Nat.{_*_, _+_, _-_}
-use Rattle.lists.specs.All.{CrossInv, cross-next, cross-row, crosses, pairsBy}
+use Rattle.lists.specs.laws.All.{CrossInv, cross-next, cross-row, crosses}
+use Rattle.lists.specs.All.{pairsBy}
 use Rattle.soundness.specs.Sound.{compatible}
-use Rattle.state.specs.Book.{before, inUse, noLease}
+use Rattle.state.specs.Book.{inUse}
+use Rattle.state.specs.laws.Layout.{noLease}
 use borrow.Author.Needs.{needs}
 use borrow.Author.Tests.{not-false}
 use Rattle.soundness.proofs.tenants.all_compatible.Statement.{statement}

@@ -1,7 +1,9 @@
 -- `tenants::all_differ` meets its contract: every pair, in one loop over two places.
 use Prim.Native.Nat.{_*_, _+_, _-_}
-use Rattle.lists.specs.All.{CrossInv, cross-next, cross-row, crosses, pairsBy}
-use Rattle.state.specs.Book.{differ, inUse, noLease}
+use Rattle.lists.specs.laws.All.{CrossInv, cross-next, cross-row, crosses}
+use Rattle.lists.specs.All.{pairsBy}
+use Rattle.state.specs.Book.{differ, inUse}
+use Rattle.state.specs.laws.Layout.{noLease}
 use borrow.Author.Needs.{needs}
 use borrow.Author.Tests.{not-false}
 use Rattle.soundness.proofs.tenants.all_differ.Statement.{statement}

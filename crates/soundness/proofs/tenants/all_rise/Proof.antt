@@ -1,9 +1,10 @@
 -- `tenants::all_rise` meets its contract: by nexts, rise-start.
 use Prim.Native.Nat.{_-_}
 use Rattle.lists.specs.All.{pairsBy}
-use Rattle.lists.specs.Next.{NextInv, next-next, nexts}
-use Rattle.soundness.specs.Laws.{rise-start}
-use Rattle.state.specs.Book.{inUse, noLease, ordered}
+use Rattle.lists.specs.laws.Next.{NextInv, next-next, nexts}
+use Rattle.soundness.specs.laws.Code.{rise-start}
+use Rattle.state.specs.Book.{inUse, ordered}
+use Rattle.state.specs.laws.Layout.{noLease}
 use borrow.Author.Needs.{needs}
 use borrow.Author.Tests.{not-false}
 use Rattle.soundness.proofs.tenants.all_rise.Statement.{statement}

@@ -1,5 +1,5 @@
 -- `tenants::and_tenants` meets its contract: by tenant-both.
-use Rattle.soundness.specs.Laws.{tenant-both}
+use Rattle.soundness.specs.laws.Code.{tenant-both}
 use borrow.Author.Needs.{needs}
 use Rattle.soundness.proofs.tenants.and_tenants.Statement.{statement}
 use Rattle.soundness.proofs.tenants.and_tenants.Tie as tie

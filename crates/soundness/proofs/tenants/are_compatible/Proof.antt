@@ -1,5 +1,5 @@
 -- `tenants::are_compatible` meets its contract: by picks, calls.
-use Rattle.lists.specs.Pick.{calls, picks}
+use Rattle.lists.specs.laws.Pick.{calls, picks}
 use Rattle.soundness.specs.Sound.{compatible}
 use borrow.Author.Needs.{needs}
 use Rattle.soundness.proofs.tenants.are_compatible.Statement.{statement}

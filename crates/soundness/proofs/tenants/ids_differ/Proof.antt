@@ -1,5 +1,5 @@
 -- `tenants::ids_differ` meets its contract: by rise-differ.
-use Rattle.soundness.specs.Laws.{rise-differ}
+use Rattle.soundness.specs.laws.Code.{rise-differ}
 use borrow.Author.Needs.{needs}
 use Rattle.soundness.proofs.tenants.ids_differ.Statement.{statement}
 use Rattle.soundness.proofs.tenants.ids_differ.Tie as tie

@@ -1,5 +1,5 @@
 -- `tenants::is_blank` meets its contract: by ands.
-use Rattle.lists.specs.Both.{ands}
+use Rattle.lists.specs.laws.Both.{ands}
 use Rattle.soundness.specs.Sound.{blankB}
 use borrow.Author.Needs.{needs}
 use Rattle.soundness.proofs.tenants.is_blank.Statement.{statement}

@@ -1,5 +1,5 @@
 -- `tenants::is_unused` meets its contract: by ands, joins.
-use Rattle.lists.specs.Both.{ands, joins}
+use Rattle.lists.specs.laws.Both.{ands, joins}
 use Rattle.soundness.specs.Sound.{unusedB}
 use borrow.Author.Needs.{needs}
 use Rattle.soundness.proofs.tenants.is_unused.Statement.{statement}

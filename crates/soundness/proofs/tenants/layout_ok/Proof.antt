@@ -1,5 +1,5 @@
 -- `tenants::layout_ok` meets its contract: by and-true, and-false.
-use Rattle.lists.specs.Both.{and-false, and-true}
+use Rattle.lists.specs.laws.Both.{and-false, and-true}
 use borrow.Author.Needs.{needs}
 use Rattle.soundness.proofs.tenants.layout_ok.Statement.{statement}
 use Rattle.soundness.proofs.tenants.layout_ok.Tie as tie

@@ -1,5 +1,5 @@
 -- `tenants::names_differ` meets its contract: by differ-no, differ-yes.
-use Rattle.soundness.specs.Laws.{differ-no, differ-yes}
+use Rattle.soundness.specs.laws.Code.{differ-no, differ-yes}
 use borrow.Author.Needs.{needs}
 use Rattle.soundness.proofs.tenants.names_differ.Statement.{statement}
 use Rattle.soundness.proofs.tenants.names_differ.Tie as tie

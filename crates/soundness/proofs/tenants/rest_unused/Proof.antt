@@ -1,6 +1,6 @@
 -- `tenants::rest_unused` meets its contract: by unused-past, unmapped.
-use Rattle.lists.specs.Part.{unmapped}
-use Rattle.soundness.specs.Laws.{unused-past}
+use Rattle.lists.specs.laws.Part.{unmapped}
+use Rattle.soundness.specs.laws.Code.{unused-past}
 use borrow.Author.Needs.{needs}
 use Rattle.soundness.proofs.tenants.rest_unused.Statement.{statement}
 use Rattle.soundness.proofs.tenants.rest_unused.Tie as tie

@@ -1,5 +1,5 @@
 -- `tenants::tenant_rules` meets its contract: by tenant-is.
-use Rattle.soundness.specs.Laws.{tenant-is}
+use Rattle.soundness.specs.laws.Code.{tenant-is}
 use borrow.Author.Needs.{needs}
 use Rattle.soundness.proofs.tenants.tenant_rules.Statement.{statement}
 use Rattle.soundness.proofs.tenants.tenant_rules.Tie as tie

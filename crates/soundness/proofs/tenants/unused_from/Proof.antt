@@ -1,8 +1,9 @@
 -- `tenants::unused_from` meets its contract: by alls, all-rest.
 use Prim.Native.Nat.{_-_}
-use Rattle.lists.specs.All.{AllInv, all-rest, allBy, alls}
+use Rattle.lists.specs.laws.All.{AllInv, all-rest, alls}
+use Rattle.lists.specs.All.{allBy}
 use Rattle.soundness.specs.Sound.{unusedB}
-use Rattle.state.specs.Book.{noLease}
+use Rattle.state.specs.laws.Layout.{noLease}
 use borrow.Author.Needs.{needs}
 use lib.ListN.{drop}
 use Rattle.soundness.proofs.tenants.unused_from.Statement.{statement}

@@ -1,7 +1,7 @@
 -- `limits::all_few` meets its contract: by `uptos`.
 use Prim.Native.Nat.{_+_, _-_}
 use borrow.Author.Needs.{needs}
-use Rattle.lists.specs.All.{UptoInv, uptos}
+use Rattle.lists.specs.laws.All.{UptoInv, uptos}
 use Rattle.state_file.specs.Place.{leasesAt}
 use Rattle.state_file.specs.Records.{fewOf}
 use Rattle.state_file.proofs.limits.all_few.Statement.{statement}

@@ -1,6 +1,6 @@
 -- `limits::fits` meets its contract: by `limitsFit`, `picks`.
 use borrow.Author.Needs.{needs}
-use Rattle.lists.specs.Pick.{picks}
+use Rattle.lists.specs.laws.Pick.{picks}
 use Rattle.state_file.proofs.Loads.{limitsFit}
 use Rattle.state_file.proofs.limits.fits.Statement.{statement}
 use Rattle.state_file.proofs.limits.fits.Tie as tie

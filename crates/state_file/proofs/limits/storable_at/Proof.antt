@@ -1,6 +1,6 @@
 -- `limits::storable_at` meets its contract: by `limits`, `picks`.
 use borrow.Author.Needs.{needs}
-use Rattle.lists.specs.Pick.{picks}
+use Rattle.lists.specs.laws.Pick.{picks}
 use Rattle.state_file.proofs.Limit.{limits}
 use Rattle.state_file.specs.Place.{fileLeaseAt}
 use Rattle.state_file.specs.Records.{storableB}

@@ -1,6 +1,5 @@
 -- `load::lease_at` meets its contract: by `lease-room`, `lease-stored`.
 use native.Mathlib.Omega.{arith}
-use lib.Seq.{set-at}
 use borrow.Author.Needs.{needs}
 use Rattle.state_file.proofs.Gather.{lease-room, lease-stored}
 use Rattle.state_file.proofs.load.lease_at.Statement.{statement}

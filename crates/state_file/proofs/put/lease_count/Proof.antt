@@ -1,7 +1,7 @@
 -- `put::lease_count` meets its contract: by `unmapped`, `length-in-use`.
 use borrow.Author.Needs.{needs}
-use Rattle.lists.specs.Part.{unmapped}
-use Rattle.state.specs.Layout.{length-in-use}
+use Rattle.lists.specs.laws.Part.{unmapped}
+use Rattle.state.specs.laws.Layout.{length-in-use}
 use Rattle.state_file.proofs.put.lease_count.Statement.{statement}
 use Rattle.state_file.proofs.put.lease_count.Tie as tie
 

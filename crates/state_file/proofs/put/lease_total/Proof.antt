@@ -4,7 +4,6 @@ use lib.ListN.{getD, length}
 use borrow.Author.Needs.{needs}
 use Rattle.state.specs.Book.{inUse, noLeases}
 use Rattle.state_file.proofs.RowLaws.{SizeInv, sizes}
-use Rattle.state_file.proofs.WholeForm.{tenants}
 use Rattle.state_file.proofs.put.lease_total.Statement.{statement}
 use Rattle.state_file.proofs.put.lease_total.Tie as tie
 

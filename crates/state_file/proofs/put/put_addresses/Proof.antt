@@ -1,9 +1,8 @@
 -- `put::put_addresses` meets its contract: by `addresses-wrote`, `listed-count`, `listed-long`, `listed-run`.
 use mathlib.Core.Path.{refl}
 use native.Mathlib.Omega.{arith}
-use lib.ListN.{set}
 use borrow.Author.Needs.{needs}
-use Rattle.address_set.specs.Laws.{length-offsets}
+use Rattle.address_set.specs.laws.Bits.{length-offsets}
 use Rattle.state_file.proofs.Writes.{addresses-wrote, listed-count, listed-long, listed-run}
 use Rattle.state_file.proofs.put.put_addresses.Statement.{statement}
 use Rattle.state_file.proofs.put.put_addresses.Tie as tie

@@ -1,7 +1,7 @@
 -- `put::put_file` meets its contract: by `file-length`, `file-wrote`, `unmapped`.
 use native.Mathlib.Omega.{arith}
 use borrow.Author.Needs.{needs}
-use Rattle.lists.specs.Part.{unmapped}
+use Rattle.lists.specs.laws.Part.{unmapped}
 use Rattle.state_file.proofs.Writes.{file-length, file-wrote}
 use Rattle.state_file.proofs.put.put_file.Statement.{statement}
 use Rattle.state_file.proofs.put.put_file.Tie as tie

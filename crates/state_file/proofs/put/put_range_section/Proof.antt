@@ -1,9 +1,8 @@
 -- `put::put_range_section` meets its contract: by `tenants`, `count-is`, `section-wrote`, `unmapped`.
 use lib.ListN.{length}
 use borrow.Author.Needs.{needs}
-use Rattle.lists.specs.Part.{unmapped}
+use Rattle.lists.specs.laws.Part.{unmapped}
 use Rattle.state.specs.Book.{rangesOf}
-use Rattle.state_file.proofs.WholeForm.{tenants}
 use Rattle.state_file.proofs.Writes.{count-is, section-wrote}
 use Rattle.state_file.proofs.put.put_range_section.Statement.{statement}
 use Rattle.state_file.proofs.put.put_range_section.Tie as tie

@@ -2,7 +2,6 @@
 use Prim.Native.Nat.{_-_}
 use borrow.Author.Needs.{needs}
 use Rattle.state_file.proofs.RowLaws.{RowInv, rangeRows}
-use Rattle.state_file.proofs.WholeForm.{tenants}
 use Rattle.state_file.specs.Records.{zeroRange}
 use Rattle.state_file.specs.Rows.{rangeRow}
 use Rattle.state_file.proofs.put.put_ranges.Statement.{statement}

@@ -1,7 +1,7 @@
 -- `put::put_scope_section` meets its contract: by `count-is`, `section-wrote`, `unmapped`.
 use lib.ListN.{length}
 use borrow.Author.Needs.{needs}
-use Rattle.lists.specs.Part.{unmapped}
+use Rattle.lists.specs.laws.Part.{unmapped}
 use Rattle.state.specs.Book.{scopesOf}
 use Rattle.state_file.proofs.Writes.{count-is, section-wrote}
 use Rattle.state_file.proofs.put.put_scope_section.Statement.{statement}

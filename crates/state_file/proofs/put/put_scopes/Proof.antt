@@ -1,7 +1,7 @@
 -- `put::put_scopes` meets its contract: its loop keeps `RowInv`; by `scopeRows`.
 use Prim.Native.Nat.{_-_}
 use borrow.Author.Needs.{needs}
-use Rattle.state.specs.Book.{noScope}
+use Rattle.state.specs.laws.Layout.{noScope}
 use Rattle.state_file.proofs.RowLaws.{RowInv, scopeRows}
 use Rattle.state_file.specs.Rows.{scopeRow}
 use Rattle.state_file.proofs.put.put_scopes.Statement.{statement}

@@ -1,6 +1,5 @@
 -- `put::put_server` meets its contract: by `server`, `server-wrote`.
 use borrow.Author.Needs.{needs}
-use Rattle.state_file.proofs.WholeForm.{server}
 use Rattle.state_file.proofs.Writes.{server-wrote}
 use Rattle.state_file.proofs.put.put_server.Statement.{statement}
 use Rattle.state_file.proofs.put.put_server.Tie as tie

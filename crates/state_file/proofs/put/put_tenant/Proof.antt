@@ -1,7 +1,7 @@
 -- `put::put_tenant` meets its contract: its loop keeps `RowInv`; by `leaseRows`.
 use Prim.Native.Nat.{_-_}
 use borrow.Author.Needs.{needs}
-use Rattle.state.specs.Book.{noLease}
+use Rattle.state.specs.laws.Layout.{noLease}
 use Rattle.state_file.proofs.RowLaws.{RowInv, leaseRows}
 use Rattle.state_file.specs.Rows.{leaseOctets}
 use Rattle.state_file.proofs.put.put_tenant.Statement.{statement}

@@ -1,7 +1,7 @@
 -- `size::file_size` meets its contract: by `size-is`, `unmapped`.
 use mathlib.Core.Path.{refl}
 use borrow.Author.Needs.{needs}
-use Rattle.lists.specs.Part.{unmapped}
+use Rattle.lists.specs.laws.Part.{unmapped}
 use Rattle.state_file.proofs.Writes.{size-is}
 use Rattle.state_file.proofs.size.file_size.Statement.{statement}
 use Rattle.state_file.proofs.size.file_size.Tie as tie

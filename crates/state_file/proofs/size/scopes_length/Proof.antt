@@ -3,8 +3,8 @@ use Prim.Native.Nat.{_-_}
 use native.Mathlib.Omega.{arith}
 use lib.ListN.{getD, length}
 use borrow.Author.Needs.{needs}
-use Rattle.lists.specs.Part.{unmapped}
-use Rattle.state.specs.Book.{noScope}
+use Rattle.lists.specs.laws.Part.{unmapped}
+use Rattle.state.specs.laws.Layout.{noScope}
 use Rattle.state_file.proofs.RowLaws.{SizeInv, row-sum, size-end, sizes}
 use Rattle.state_file.specs.Rows.{scopeRow}
 use Rattle.state_file.proofs.size.scopes_length.Statement.{statement}

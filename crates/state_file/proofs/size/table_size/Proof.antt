@@ -4,7 +4,6 @@ use lib.ListN.{getD, length}
 use borrow.Author.Needs.{needs}
 use Rattle.state.specs.Book.{noLeases}
 use Rattle.state_file.proofs.RowLaws.{SizeInv, sizes}
-use Rattle.state_file.proofs.WholeForm.{tenants}
 use Rattle.state_file.proofs.Writes.{table-length}
 use Rattle.state_file.specs.Rows.{tenantOctets}
 use Rattle.state_file.proofs.size.table_size.Statement.{statement}

@@ -3,8 +3,8 @@ use Prim.Native.Nat.{_-_}
 use native.Mathlib.Omega.{arith}
 use lib.ListN.{getD, length}
 use borrow.Author.Needs.{needs}
-use Rattle.lists.specs.Part.{unmapped}
-use Rattle.state.specs.Book.{noLease}
+use Rattle.lists.specs.laws.Part.{unmapped}
+use Rattle.state.specs.laws.Layout.{noLease}
 use Rattle.state_file.proofs.RowLaws.{SizeInv, row-sum, size-end, sizes}
 use Rattle.state_file.specs.Rows.{leaseOctets}
 use Rattle.state_file.proofs.size.tenant_size.Statement.{statement}

@@ -1,4 +1,4 @@
--- By the definition, case by case.
+-- `codes::MessageType::allows` meets its contract: by the definition, case by case.
 use Rattle.message.proofs.Steps.{allows-above, allows-always, allows-besides}
 use borrow.Author.Needs.{needs}
 use Rattle.message.proofs.codes.MessageType.allows.Statement.{statement}

@@ -1,4 +1,4 @@
--- One row of the table for each type.
+-- `codes::MessageType::allows_besides` meets its contract: one row of the table for each type.
 use Rattle.message.proofs.Steps.{allowances, first-of, later-of}
 use borrow.Author.Needs.{needs}
 use Rattle.message.proofs.codes.MessageType.allows_besides.Statement.{statement}

@@ -1,4 +1,4 @@
--- The list is that of the definition.
+-- `codes::MessageType::is_client` meets its contract: the list is that of the definition.
 use borrow.Author.Needs.{needs}
 use Rattle.message.proofs.codes.MessageType.is_client.Statement.{statement}
 use Rattle.message.proofs.codes.MessageType.is_client.Tie as tie

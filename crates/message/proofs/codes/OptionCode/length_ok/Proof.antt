@@ -1,9 +1,8 @@
--- One row of the table for each code.
+-- `codes::OptionCode::length_ok` meets its contract: one row of the table for each code.
 use Rattle.lists.specs.Filter.{isIn}
 use Rattle.lists.specs.Pick.{pick}
 use Rattle.message.proofs.Steps.{length-above, up}
 use Rattle.message.specs.Codes.{lengthOk}
-use Rattle.message.specs.Walk.{optionTaken}
 use borrow.Author.Tests.{eq-eqb, le-leb, lt-leb, ne-eqb}
 use native.Mathlib.Omega.{arith}
 use Rattle.message.proofs.codes.OptionCode.length_ok.Statement.{statement}

@@ -1,0 +1,4 @@
+pub mod Bits
+pub mod Offsets
+pub mod Ranges
+pub mod Fewest

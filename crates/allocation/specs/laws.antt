@@ -1,0 +1,5 @@
+pub mod Closed
+pub mod Loops
+pub mod Sets
+pub mod Granted
+pub mod Kept

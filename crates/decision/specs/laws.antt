@@ -1,0 +1,5 @@
+pub mod Code
+pub mod Kept
+pub mod Ensured
+pub mod Reads
+pub mod Others

@@ -1,0 +1,15 @@
+pub mod Pick
+pub mod Both
+pub mod Fold
+pub mod Part
+pub mod All
+pub mod Next
+pub mod Filter
+pub mod Each
+pub mod Place
+pub mod Sums
+pub mod Copy
+pub mod Down
+pub mod Reordered
+pub mod Arranged
+pub mod Some

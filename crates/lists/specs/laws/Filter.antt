@@ -1,0 +1,107 @@
+-- Laws: of the elements that pass a test, and of the numbers of a list.
+use mathlib.Core.Path.{_≡_, refl, sym, ap, _∙_}
+use mathlib.Core.Bool.{Bool, true, false}
+use mathlib.Core.List.{List, [], _∷_, _++_}
+use Prim.Native.Nat.{ℕ, suc, _≤_}
+use native.Mathlib.Omega.{arith}
+use lib.ListN.{length}
+use lib.Dec.{eqb}
+use borrow.Author.Tests.{eqb-true}
+use Rattle.lists.specs.Pick.{pick}
+use Rattle.lists.specs.All.{allBy, pairsBy}
+use Rattle.lists.specs.laws.All.{all-head, all-cons, pairs-head, pairs-cons}
+use Rattle.lists.specs.Filter.{filterBy, isIn}
+
+-- ---- laws of filters
+-- what holds of all holds of those that pass
+pub filter-all : {A : Type 0} (t u : A → Bool) (l : List A) → allBy t l ≡ true → allBy t (filterBy u l) ≡ true
+unfolding filterBy pick
+filter-all t u [] h = h
+filter-all {A} t u (x ∷ l) h = let a = all-head t x l h in go (u x) (a .0) (filter-all t u l (a .1))
+  where
+    go : (b : Bool) → t x ≡ true → allBy t (filterBy u l) ≡ true → allBy t (pick b (x ∷ filterBy u l) (filterBy u l)) ≡ true
+    go true p q = all-cons t x (filterBy u l) p q
+    go false p q = q
+
+pub filter-pairs : {A : Type 0} (t : A → A → Bool) (u : A → Bool) (l : List A) → pairsBy t l ≡ true → pairsBy t (filterBy u l) ≡ true
+unfolding filterBy pick
+filter-pairs t u [] h = h
+filter-pairs {A} t u (x ∷ l) h = let a = pairs-head t x l h in go (u x) (filter-all (t x) u l (a .0)) (filter-pairs t u l (a .1))
+  where
+    go : (b : Bool) → allBy (t x) (filterBy u l) ≡ true → pairsBy t (filterBy u l) ≡ true → pairsBy t (pick b (x ∷ filterBy u l) (filterBy u l)) ≡ true
+    go true p q = pairs-cons t x (filterBy u l) p q
+    go false p q = q
+
+-- those that pass the test pass it
+pub filter-passes : {A : Type 0} (t : A → Bool) (l : List A) → allBy t (filterBy t l) ≡ true
+unfolding filterBy pick allBy
+filter-passes t [] = refl
+filter-passes {A} t (x ∷ l) = go (t x) refl (filter-passes t l)
+  where
+    go : (b : Bool) → t x ≡ b → allBy t (filterBy t l) ≡ true → allBy t (pick b (x ∷ filterBy t l) (filterBy t l)) ≡ true
+    go true e q = all-cons t x (filterBy t l) e q
+    go false e q = q
+
+-- where all pass, all stay
+pub filter-none-out : {A : Type 0} (t : A → Bool) (l : List A) → allBy t l ≡ true → filterBy t l ≡ l
+unfolding filterBy pick
+filter-none-out t [] h = refl
+filter-none-out {A} t (x ∷ l) h =
+    let a = all-head t x l h in
+    ap (λ (b : Bool). pick b (x ∷ filterBy t l) (filterBy t l)) (a .0) ∙ ap {B = List A} (λ (r : List A). x ∷ r) (filter-none-out t l (a .1))
+
+pub filter-append : {A : Type 0} (t : A → Bool) (x y : List A) → filterBy t (x ++ y) ≡ filterBy t x ++ filterBy t y
+unfolding filterBy pick
+filter-append t [] y = refl
+filter-append {A} t (a ∷ x) y = go (t a) (filter-append t x y)
+  where
+    go : (b : Bool) → filterBy t (x ++ y) ≡ filterBy t x ++ filterBy t y → pick b (a ∷ filterBy t (x ++ y)) (filterBy t (x ++ y)) ≡ pick b (a ∷ filterBy t x) (filterBy t x) ++ filterBy t y
+    go true ih = ap {B = List A} (λ (r : List A). a ∷ r) ih
+    go false ih = ih
+
+-- a filter makes nothing longer
+pub filter-length : {A : Type 0} (t : A → Bool) (l : List A) → length (filterBy t l) ≤ length l
+unfolding filterBy pick
+filter-length t [] = omega arith
+filter-length {A} t (x ∷ l) = go (t x) (filter-length t l)
+  where
+    go : (b : Bool) → length (filterBy t l) ≤ length l → length (pick b (x ∷ filterBy t l) (filterBy t l)) ≤ suc (length l)
+    go true ih = omega arith
+    go false ih = omega arith
+
+-- the same test, the same elements
+pub filter-same : {A : Type 0} (t u : A → Bool) (l : List A) → ((x : A) → t x ≡ u x) → filterBy t l ≡ filterBy u l
+unfolding filterBy
+filter-same t u [] h = refl
+filter-same {A} t u (x ∷ l) h =
+    ap (λ (b : Bool). pick b (x ∷ filterBy t l) (filterBy t l)) (h x) ∙ ap (λ (r : List A). pick (u x) (x ∷ r) r) (filter-same t u l h)
+
+-- ---- laws of membership
+-- a number is among those that pass where it is in the list and passes
+pub in-filter : (a : ℕ) (t : ℕ → Bool) (l : List ℕ) → isIn a (filterBy t l) ≡ pick (t a) (isIn a l) false
+unfolding isIn filterBy pick
+in-filter a t [] = go (t a)
+  where
+    go : (b : Bool) → false ≡ pick b false false
+    go true = refl
+    go false = refl
+in-filter a t (x ∷ l) = go (t x) refl (eqb a x) refl (in-filter a t l)
+  where
+    go : (b : Bool) → t x ≡ b → (c : Bool) → eqb a x ≡ c → isIn a (filterBy t l) ≡ pick (t a) (isIn a l) false
+        → isIn a (pick b (x ∷ filterBy t l) (filterBy t l)) ≡ pick (t a) (pick c true (isIn a l)) false
+    go true e true q ih =
+        ap (λ (z : Bool). pick z true (isIn a (filterBy t l))) q ∙ sym (ap (λ (z : Bool). pick z true false) (ap t (eqb-true a x q) ∙ e))
+    go true e false q ih = ap (λ (z : Bool). pick z true (isIn a (filterBy t l))) q ∙ ih
+    go false e true q ih =
+        let n : t a ≡ false = ap t (eqb-true a x q) ∙ e in
+        ih ∙ ap (λ (z : Bool). pick z (isIn a l) false) n ∙ sym (ap (λ (z : Bool). pick z true false) n)
+    go false e false q ih = ih
+
+pub in-append : (a : ℕ) (x y : List ℕ) → isIn a (x ++ y) ≡ pick (isIn a x) true (isIn a y)
+unfolding isIn pick
+in-append a [] y = refl
+in-append a (z ∷ x) y = go (eqb a z) (in-append a x y)
+  where
+    go : (c : Bool) → isIn a (x ++ y) ≡ pick (isIn a x) true (isIn a y) → pick c true (isIn a (x ++ y)) ≡ pick (pick c true (isIn a x)) true (isIn a y)
+    go true ih = refl
+    go false ih = ih

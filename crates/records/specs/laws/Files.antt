@@ -1,0 +1,104 @@
+-- Laws: the table of a file that is read: laid out, and sound where the file is accepted, so that its records stand for it.
+use Prim.Native.Nat.{ℕ, zero, suc}
+use mathlib.Core.Path.{_≡_, refl, sym, ap, ap₂, _∙_}
+use mathlib.Core.Bool.{Bool, true, false}
+use mathlib.Core.List.{List, []}
+use native.Mathlib.Omega.{arith}
+use lib.Dec.{eqb}
+use lib.ListN.{length, replicate}
+use borrow.Author.Tests.{eq-eqb, eqb-true, eqb-false}
+use Rattle.lists.specs.Pick.{pick}
+use Rattle.lists.specs.All.{allBy}
+use Rattle.lists.specs.Place.{placeBy}
+use Rattle.message.specs.laws.Placed.{pick-cases}
+use Rattle.state.specs.declared.Lease.{Lease}
+use Rattle.state.specs.declared.LeaseTable.{LeaseTable}
+use Rattle.state.specs.declared.State.{State}
+use Rattle.state.specs.Book.{laidOut, leasesOf, tableOf, zeroLease}
+use Rattle.records.specs.laws.Back.{lent-table-back as lists-back, lent-table-back, table-long}
+use Rattle.soundness.specs.Sound.{blankB, soundB, unusedB, zeroFrom}
+use Rattle.state_file.specs.declared.Loaded.{Loaded}
+use Rattle.state_file.specs.File.{File, FileLease, fileOf}
+use Rattle.state_file.specs.Format.{Got, bad, got}
+use Rattle.state_file.specs.Records.{fitsB, storedState, storedTable, tenantsFrom}
+use Rattle.state_file.specs.StateFile.{accepted, loadedGot, judged, loaded, readFile, refused, zeroState, zeroTable}
+use Rattle.records.specs.Lent.{LentReading, readLent, readWith, untouched, is128}
+use Rattle.records.specs.Records.{recordsOf, rows, tableFrom, tenantFrom}
+
+-- eight lists, laid out; sound where there is no refusal, and all zero where there is one
+record Whole (r : Loaded) : Type 0 where
+  laid : r .table ≡ tableOf (leasesOf (r .table))
+  eight : length (leasesOf (r .table)) ≡ 8
+  sound : r .refusal ≡ 0 → soundB (r .state) (r .table) ≡ true
+  empty : (r .refusal ≡ 0 → ⊥) → r ≡ refused (r .refusal)
+
+of-lists : (n : ℕ) (s : State) (ll : List (List Lease)) → length ll ≡ 8 → (n ≡ 0 → soundB s (tableOf ll) ≡ true)
+    → ((n ≡ 0 → ⊥) → record { refusal = n; state = s; table = tableOf ll } ≡ refused n) → Whole (record { refusal = n; state = s; table = tableOf ll })
+of-lists n s ll e v z = record { laid = ap tableOf (sym (lists-back ll)); eight = ap length (lists-back ll) ∙ e; sound = v; empty = z }
+
+from-length : (t n : ℕ) (xs : List FileLease) → length (tenantsFrom t n xs) ≡ n
+unfolding tenantsFrom
+from-length t zero xs = refl
+from-length t (suc n) xs = ap suc (from-length (suc t) n xs)
+
+none : (n : ℕ) → (n ≡ 0 → ⊥) → Whole (refused n)
+unfolding refused zeroTable
+none n z = of-lists n _ (replicate 8 []) refl (λ e. absurd (z e)) (λ _. refl)
+
+judged-whole : (f : File) → Whole (judged (storedState f) (storedTable f))
+unfolding judged storedTable accepted
+judged-whole f =
+    pick-cases Whole (soundB (storedState f) (tableOf (tenantsFrom 1 8 (f .leases)))) _ _
+    (λ y. of-lists 0 (storedState f) (tenantsFrom 1 8 (f .leases)) (from-length 1 8 (f .leases)) (λ _. y) (λ z. absurd (z refl))) (λ _. none 21 (λ e. absurd (omega arith)))
+
+file-whole : (s : List ℕ) → Whole (readFile s)
+unfolding readFile loadedGot loaded
+file-whole s = go (fileOf s)
+  where
+    go : (g : Got File) → Whole (loadedGot g)
+    go bad = none 20 (λ e. absurd (omega arith))
+    go (got f r) = pick-cases Whole (fitsB f) _ _ (λ _. judged-whole f) (λ _. none 21 (λ e. absurd (omega arith)))
+
+-- the records of an accepted file stand for its table
+pub file-back : (s : List ℕ) → readFile s .refusal ≡ 0 → tableFrom (recordsOf (readFile s .table)) ≡ readFile s .table
+file-back s e = let w = file-whole s in lent-table-back (readFile s .state) (readFile s .table) (w .eight) (w .laid) (w .sound e)
+
+pub file-long : (s : List ℕ) → readFile s .refusal ≡ 0 → length (recordsOf (readFile s .table)) ≡ 128
+file-long s e = let w = file-whole s in table-long (readFile s .state) (readFile s .table) (w .eight) (w .laid) (w .sound e)
+
+-- ---- a file read over a book that is all zero
+blank-table : tableFrom (replicate 128 zeroLease) ≡ zeroTable
+unfolding tableFrom rows tenantFrom placeBy pick unusedB blankB zeroFrom allBy zeroTable tableOf laidOut
+blank-table = refl
+
+abbrev pub readBlank : List ℕ → LentReading
+readBlank f = readLent f zeroState (replicate 128 zeroLease)
+
+pub blank-refusal : (f : List ℕ) → readBlank f .refusal ≡ readFile f .refusal
+unfolding readWith is128 pick
+blank-refusal f = go (eqb (readFile f .refusal) 0) refl
+  where
+    go : (p : Bool) → eqb (readFile f .refusal) 0 ≡ p
+        → pick {A = LentReading} p (record { refusal = 0; state = readFile f .state; leases = recordsOf (readFile f .table) }) (untouched (readFile f .refusal) zeroState (replicate 128 zeroLease)) .refusal ≡ readFile f .refusal
+    go true e = sym (eqb-true _ _ e)
+    go false e = refl
+
+pub blank-accepted : (f : List ℕ) → readFile f .refusal ≡ 0 → readBlank f ≡ record { refusal = 0; state = readFile f .state; leases = recordsOf (readFile f .table) }
+unfolding readWith is128 pick
+blank-accepted f e =
+    ap (λ (p : Bool). pick p (record { refusal = 0; state = readFile f .state; leases = recordsOf (readFile f .table) }) (untouched (readFile f .refusal) zeroState (replicate 128 zeroLease)))
+    (eq-eqb _ _ e)
+
+-- it gives what the reader by value gives
+pub blank-read : (f : List ℕ) → record { refusal = readBlank f .refusal; state = readBlank f .state; table = tableFrom (readBlank f .leases) } ≡ readFile f
+unfolding readWith is128 pick refused
+blank-read f = go (eqb (readFile f .refusal) 0) refl
+  where
+    of : LentReading → Loaded
+    of r = record { refusal = r .refusal; state = r .state; table = tableFrom (r .leases) }
+
+    go : (p : Bool) → eqb (readFile f .refusal) 0 ≡ p
+        → of (pick p (record { refusal = 0; state = readFile f .state; leases = recordsOf (readFile f .table) }) (untouched (readFile f .refusal) zeroState (replicate 128 zeroLease))) ≡ readFile f
+    go true e =
+        ap₂ {C = Loaded} (λ (n : ℕ) (t : LeaseTable). record { refusal = n; state = readFile f .state; table = t }) (sym (eqb-true _ _ e)) (file-back f (eqb-true _ _ e))
+    go false e = ap {B = Loaded} (λ (t : LeaseTable). record { refusal = readFile f .refusal; state = zeroState; table = t }) blank-table ∙ sym (file-whole f .empty (eqb-false _ _ e))

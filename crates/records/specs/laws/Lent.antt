@@ -1,0 +1,204 @@
+-- Laws: of the entry points: what the functions on 128 records by value give is what the definitions on a lent slice of any length yield.
+use mathlib.Core.Path.{_≡_, refl, sym, ap, _∙_}
+use mathlib.Core.Bool.{Bool, true, false}
+use mathlib.Core.List.{List, [], _++_, append-nil}
+use Prim.Native.Nat.{ℕ, min, max}
+use native.Mathlib.Omega.{arith}
+use lib.Dec.{eqb, ltb}
+use lib.ListN.{length, replicate, take, drop, drop-of-length-le, take-append-drop}
+use lib.Seq.{length-take-le, take-all, take-at, paste}
+use native.Mathlib.Nat.{zero-add}
+use borrow.Author.Tests.{eqb-true}
+use Rattle.reply.specs.Reply.{leastRoom}
+use Rattle.lists.specs.Pick.{pick}
+use Rattle.state.specs.declared.Book.{Book}
+use Rattle.state.specs.declared.Lease.{Lease}
+use Rattle.state.specs.declared.State.{State}
+use Rattle.state.specs.Book.{advanced, insertOf, placeOf, raised, removeOf, withClock, zeroLease}
+use Rattle.decision.specs.Parts.{ownOf}
+use Rattle.message.specs.laws.Placed.{pick-cases}
+use Rattle.soundness.specs.Sound.{soundB}
+use Rattle.server.specs.Serve.{Answer, Call, atClock, forServer, serveOf, withReading}
+use Rattle.state_file.specs.declared.Loaded.{Loaded}
+use Rattle.state_file.specs.declared.Written.{Written}
+use Rattle.records.specs.declared.Outcome.{Outcome}
+use Rattle.records.specs.declared.ReadRecords.{ReadRecords}
+use Rattle.records.specs.declared.ServedRecords.{ServedRecords}
+use Rattle.state_file.specs.StateFile.{roomAfter, writtenOf}
+use Rattle.records.specs.Records.{recordsOf, tableFrom, first128, covered}
+use Rattle.records.specs.Lent.{bookFrom, lentAnswer, withOwn, is128, untouched, LentAnswer, LentReading, serveWith, serveLent, ServesRecords, ServesLent, readWith, Reads, ReadsLent, writtenWith, writtenLent, roomWith, roomLent, findWith, findLent, insertWith, insertLent, removeWith, removeLent}
+
+-- ---- slices
+-- 128 records are all taken
+pub taken-all : (ls : List Lease) → length ls ≡ 128 → first128 ls ≡ ls
+unfolding first128
+taken-all ls e =
+    ap (λ (k : ℕ). paste (replicate 128 zeroLease) 0 ls k) (let q : min (length ls) 128 ≡ 128 = omega arith in q)
+    ∙ ap (λ (x : List Lease). x ++ drop 128 (replicate 128 zeroLease)) (take-all 128 ls (omega arith)) ∙ append-nil ls
+
+-- and laid over
+pub covered-all : (ls x : List Lease) → length ls ≡ 128 → length x ≡ 128 → covered ls x ≡ x
+unfolding covered
+covered-all ls x e f =
+    ap (λ (k : ℕ). paste ls 0 x k) (let q : min (length ls) 128 ≡ 128 = omega arith in q)
+    ∙ ap (λ (y : List Lease). y ++ drop 128 ls) (take-all 128 x (omega arith)) ∙ ap (λ (y : List Lease). x ++ y) (drop-of-length-le ls {i = 128} (omega arith)) ∙ append-nil x
+
+-- what was taken is laid back
+pub covered-taken : (ls : List Lease) → covered ls (first128 ls) ≡ ls
+unfolding covered first128
+covered-taken ls =
+    ap (λ (j : ℕ). take k (take k ls ++ drop j (replicate 128 zeroLease)) ++ drop j ls) (zero-add k)
+    ∙ ap (λ (y : List Lease). y ++ drop k ls) (take-at (take k ls) (drop k (replicate 128 zeroLease)) k (length-take-le k ls (omega arith))) ∙ take-append-drop k ls
+  where
+    k : ℕ
+    k = min (length ls) 128
+
+-- ---- one law for all: a change that another number than 128 leaves out
+pub changed-lent : (F : ℕ → List Lease → List Lease) → ((n : ℕ) (m : List Lease) → is128 n ≡ false → F n m ≡ m)
+    → (ls : List Lease) {all x zs : List Lease} → all ≡ first128 ls → x ≡ F (length ls) all → length x ≡ 128 → zs ≡ covered ls x → zs ≡ F (length ls) ls
+unfolding is128
+changed-lent F none ls {all} {x} {zs} a b c d = go (eqb (length ls) 128) refl
+  where
+    e : x ≡ F (length ls) (first128 ls)
+    e = b ∙ ap (F (length ls)) a
+
+    go : (t : Bool) → eqb (length ls) 128 ≡ t → zs ≡ F (length ls) ls
+    go true p = d ∙ covered-all ls x (eqb-true _ _ p) c ∙ e ∙ ap (F (length ls)) (taken-all ls (eqb-true _ _ p))
+    go false p = d ∙ ap (covered ls) (e ∙ none (length ls) (first128 ls) p) ∙ covered-taken ls ∙ sym (none (length ls) ls p)
+
+-- and an answer that depends on the records only where there are 128
+pub told-lent : {A : Type 0} (F : ℕ → List Lease → A) → ((n : ℕ) (m m' : List Lease) → is128 n ≡ false → F n m ≡ F n m')
+    → (ls : List Lease) {all : List Lease} {r : A} → all ≡ first128 ls → r ≡ F (length ls) all → r ≡ F (length ls) ls
+unfolding is128
+told-lent {A} F none ls {all} {r} a b = go (eqb (length ls) 128) refl
+  where
+    go : (t : Bool) → eqb (length ls) 128 ≡ t → r ≡ F (length ls) ls
+    go true p = b ∙ ap (F (length ls)) (a ∙ taken-all ls (eqb-true _ _ p))
+    go false p = b ∙ none (length ls) all ls p
+
+-- the same of a definition that is a choice on the number of records
+pub changed-pick : (G : List Lease → List Lease) (ls : List Lease) {all x zs : List Lease}
+    → all ≡ first128 ls → x ≡ pick (is128 (length ls)) (G all) all → length x ≡ 128 → zs ≡ covered ls x → zs ≡ pick (is128 (length ls)) (G ls) ls
+unfolding pick
+changed-pick G ls = changed-lent (λ n m. pick (is128 n) (G m) m) (λ n m p. ap (λ (t : Bool). pick t (G m) m) p) ls
+
+pub told-pick : {A : Type 0} (G : List Lease → A) (k : A) (ls : List Lease) {all : List Lease} {r : A}
+    → all ≡ first128 ls → r ≡ pick (is128 (length ls)) (G all) k → r ≡ pick (is128 (length ls)) (G ls) k
+unfolding pick
+told-pick {A} G k ls = told-lent (λ n m. pick (is128 n) (G m) k) (λ n m m' p. ap (λ (t : Bool). pick t (G m) k) p ∙ sym (ap (λ (t : Bool). pick t (G m') k) p)) ls
+
+-- ---- one record
+pub found-lent : (h : ℕ) (i : List ℕ) (ls : List Lease) {all : List Lease} {r : ℕ} → all ≡ first128 ls → r ≡ findWith (length ls) h i all → r ≡ findLent h i ls
+unfolding findWith
+found-lent h i ls = told-pick (λ m. placeOf i (ownOf (tableFrom m) h)) 0 ls
+
+pub inserted-lent : (h : ℕ) (l : Lease) (ls : List Lease) {all x zs : List Lease} → all ≡ first128 ls → x ≡ insertWith (length ls) h l all → length x ≡ 128 → zs ≡ covered ls x → zs ≡ insertLent h l ls
+unfolding insertWith
+inserted-lent h l ls = changed-pick (λ m. pick (ltb h 8) (pick (ltb (length (ownOf (tableFrom m) h)) 16) (withOwn (tableFrom m) h (insertOf l (ownOf (tableFrom m) h))) m) m) ls
+
+pub removed-lent : (h : ℕ) (i : List ℕ) (ls : List Lease) {all x zs : List Lease} → all ≡ first128 ls → x ≡ removeWith (length ls) h i all → length x ≡ 128 → zs ≡ covered ls x → zs ≡ removeLent h i ls
+unfolding removeWith
+removed-lent h i ls = changed-pick (λ m. pick (ltb h 8) (withOwn (tableFrom m) h (removeOf i (ownOf (tableFrom m) h))) m) ls
+
+-- ---- the writer
+pub written-lent : (s : State) (ls : List Lease) (room : ℕ) {all : List Lease} {w : Written} → all ≡ first128 ls → w ≡ writtenWith (length ls) s all room → w ≡ writtenLent s ls room
+unfolding writtenWith
+written-lent s ls room = told-pick (λ m. writtenOf s (tableFrom m) room) (record { refusal = 22; length = 0 }) ls
+
+pub room-lent : (s : State) (ls : List Lease) (room : List ℕ) {all : List Lease} {after : List ℕ} → all ≡ first128 ls → after ≡ roomWith (length ls) s all room → after ≡ roomLent s ls room
+unfolding roomWith
+room-lent s ls room = told-pick (λ m. roomAfter s (tableFrom m) room) room ls
+
+-- ---- the call
+-- of a state, only the clock changes, and it is raised
+Raises : State → State → Type 0
+Raises s s' = s' ≡ raised s (s' .clock)
+
+raised-self : (s : State) → Raises s s
+unfolding Raises raised
+raised-self s = ap (withClock s) (let e : s .clock ≡ max (s .clock) (s .clock) = omega arith in e)
+
+raised-once : (s : State) (time : ℕ) → Raises s (raised s time)
+unfolding Raises raised
+raised-once s time = ap (withClock s) (let e : max (s .clock) time ≡ max (s .clock) (max (s .clock) time) = omega arith in e)
+
+pub clock-only : (b : Book) (c : Call) → serveOf b c .book .state ≡ raised (b .state) (serveOf b c .book .state .clock)
+unfolding serveOf atClock withReading forServer Raises advanced
+clock-only b c =
+    pick-cases Keeps (soundB (b .state) (b .table)) _ _
+    (λ _. pick-cases Keeps (ltb (c .room) leastRoom) _ _ (λ _. raised-self (b .state))
+    (λ _. pick-cases Keeps _ _ _
+    (λ _. pick-cases Keeps _ _ _ (λ _. pick-cases Keeps _ _ _ (λ _. now) (λ _. now)) (λ _. now)) (λ _. now))) (λ _. raised-self (b .state))
+  where
+    Keeps : Answer → Type 0
+    Keeps a = Raises (b .state) (a .book .state)
+
+    now : Raises (b .state) (raised (b .state) (c .time))
+    now = raised-once (b .state) (c .time)
+
+pub lent-clock : (n : ℕ) (s : State) (ls : List Lease) (c : Call) → serveWith n s ls c .state ≡ raised s (serveWith n s ls c .state .clock)
+unfolding serveWith Raises pick
+lent-clock n s ls c = go (is128 n)
+  where
+    go : (t : Bool) → Raises s (pick t (lentAnswer (serveOf (bookFrom s ls) c)) (record { outcome = 1; reply = []; state = s; leases = ls }) .state)
+    go true = clock-only (bookFrom s ls) c
+    go false = raised-self s
+
+-- each part of its answer
+module _ (s : State) (ls : List Lease) (c : Call) where
+  off : (k : ℕ) (m : List Lease) → is128 k ≡ false → serveWith k s m c ≡ record { outcome = 1; reply = []; state = s; leases = m }
+  unfolding serveWith pick
+  off k m o = ap (λ (t : Bool). pick t (lentAnswer (serveOf (bookFrom s m) c)) (record { outcome = 1; reply = []; state = s; leases = m })) o
+
+  part : {A : Type 0} (f : LentAnswer → A) → ((m m' : List Lease) → f (record { outcome = 1; reply = []; state = s; leases = m }) ≡ f (record { outcome = 1; reply = []; state = s; leases = m' }))
+      → {all : List Lease} {r : A} → all ≡ first128 ls → r ≡ f (serveWith (length ls) s all c) → r ≡ f (serveLent s ls c)
+  part f same = told-lent (λ k m. f (serveWith k s m c)) (λ k m m' o. ap f (off k m o) ∙ same m m' ∙ sym (ap f (off k m' o))) ls
+
+  pub served-lent : {all zs : List Lease} {s' : State} {before after : List ℕ} {r : ServedRecords} {o : Outcome}
+      → all ≡ first128 ls → ServesRecords (serveWith (length ls) s all c) before after r → s' ≡ raised s (r .clock) → zs ≡ covered ls (r .records .leases)
+      → o .outcome ≡ r .outcome → o .length ≡ r .length → ServesLent (serveLent s ls c) s' zs before after o
+  served-lent {all} {before = before} a v p q e f = record {
+    outcome = part (λ x. x .outcome) (λ m m'. refl) a (e ∙ v .outcome);
+    size = part (λ x. length (x .reply)) (λ m m'. refl) a (f ∙ v .size);
+    state = part (λ x. x .state) (λ m m'. refl) a (p ∙ ap (raised s) (v .clock) ∙ sym (lent-clock (length ls) s all c));
+    leases = changed-lent (λ k m. serveWith k s m c .leases) (λ k m o. ap (λ (x : LentAnswer). x .leases) (off k m o)) ls a (v .leases) (v .long) q;
+    buffer = part (λ x. x .reply ++ drop (length (x .reply)) before) (λ m m'. refl) a (v .buffer);
+  }
+
+-- ---- the reader
+-- what it answers of a slice of another length
+abbrev refusing : Loaded → State → Bool → List Lease → LentReading
+refusing f s b m = pick b (untouched 21 s m) (untouched (f .refusal) s m)
+
+pub read-lent : (f : Loaded) (s : State) (ls : List Lease) {all zs : List Lease} {s' : State} {r : ReadRecords} {n : ℕ}
+    → all ≡ first128 ls → Reads (readWith (length ls) f s all) r → s' ≡ r .state → zs ≡ covered ls (r .records .leases) → n ≡ r .refusal → ReadsLent (readWith (length ls) f s ls) s' zs n
+unfolding readWith pick
+read-lent f s ls {r = r} a v p q e = record {
+  refusal = told-lent (λ k m. readWith k f s m .refusal) (λ k m m' o. off-refusal k m o ∙ sym (off-refusal k m' o)) ls a (e ∙ v .refusal);
+  state = told-lent (λ k m. readWith k f s m .state) (λ k m m' o. off-state k m o ∙ sym (off-state k m' o)) ls a (p ∙ v .state);
+  leases = changed-lent (λ k m. readWith k f s m .leases) off-leases ls a (v .leases) (v .long) q;
+}
+  where
+    off : (k : ℕ) (m : List Lease) → is128 k ≡ false → readWith k f s m ≡ refusing f s (eqb (f .refusal) 0) m
+    off k m o = ap (λ (t : Bool). pick (eqb (f .refusal) 0) (pick t (record { refusal = 0; state = f .state; leases = recordsOf (f .table) }) (untouched 21 s m)) (untouched (f .refusal) s m)) o
+
+    of-refusal : (b : Bool) (m : List Lease) → refusing f s b m .refusal ≡ pick b 21 (f .refusal)
+    of-refusal true m = refl
+    of-refusal false m = refl
+
+    of-state : (b : Bool) (m : List Lease) → refusing f s b m .state ≡ s
+    of-state true m = refl
+    of-state false m = refl
+
+    of-leases : (b : Bool) (m : List Lease) → refusing f s b m .leases ≡ m
+    of-leases true m = refl
+    of-leases false m = refl
+
+    off-refusal : (k : ℕ) (m : List Lease) → is128 k ≡ false → readWith k f s m .refusal ≡ pick (eqb (f .refusal) 0) 21 (f .refusal)
+    off-refusal k m o = ap (λ (x : LentReading). x .refusal) (off k m o) ∙ of-refusal (eqb (f .refusal) 0) m
+
+    off-state : (k : ℕ) (m : List Lease) → is128 k ≡ false → readWith k f s m .state ≡ s
+    off-state k m o = ap (λ (x : LentReading). x .state) (off k m o) ∙ of-state (eqb (f .refusal) 0) m
+
+    off-leases : (k : ℕ) (m : List Lease) → is128 k ≡ false → readWith k f s m .leases ≡ m
+    off-leases k m o = ap (λ (x : LentReading). x .leases) (off k m o) ∙ of-leases (eqb (f .refusal) 0) m

@@ -1,0 +1,209 @@
+-- Laws: what the functions on 128 records by value are proved by: each branch of a definition, from what the calls gave.
+use mathlib.Core.Path.{_≡_, sym, ap, _∙_}
+use mathlib.Core.Bool.{Bool, true, false}
+use mathlib.Core.List.{List, [], _++_}
+use Prim.Native.Nat.{ℕ, _≤_, _<_}
+use native.Mathlib.Omega.{arith}
+use lib.Dec.{ltb}
+use lib.ListN.{length, drop}
+use borrow.Author.Tests.{eq-eqb, ne-eqb, lt-ltb, le-ltb}
+use Rattle.lists.specs.Pick.{pick}
+use Rattle.state.specs.declared.Book.{Book}
+use Rattle.state.specs.declared.Lease.{Lease}
+use Rattle.state.specs.declared.LeaseTable.{LeaseTable}
+use Rattle.state.specs.declared.State.{State}
+use Rattle.state.specs.declared.TenantLeases.{TenantLeases}
+use Rattle.state.specs.Book.{inUse, insertOf, laidOut, placeOf, putAt, removeOf, tenantAt}
+use Rattle.decision.specs.Parts.{ownOf}
+use Rattle.server.specs.declared.Served.{Served}
+use Rattle.server.specs.Serve.{Answer, Call, Serves, serveOf}
+use Rattle.state_file.specs.declared.Loaded.{Loaded}
+use Rattle.state_file.specs.declared.Written.{Written}
+use Rattle.state_file.specs.StateFile.{roomAfter, writtenOf}
+use Rattle.records.specs.declared.ReadRecords.{ReadRecords}
+use Rattle.records.specs.declared.Records.{Records}
+use Rattle.records.specs.Records.{recordsOf, tableFrom}
+use Rattle.records.specs.Lent.{bookFrom, findWith, insertWith, lentAnswer, LentAnswer, LentReading, readWith, Reads, removeWith, roomWith, serveWith, ServesRecords, untouched, is128, withOwn, writtenWith}
+
+-- ---- a test on the number of records
+pub is-whole : {n : ℕ} → n ≡ 128 → is128 n ≡ true
+unfolding is128
+is-whole e = eq-eqb _ _ e
+
+pub not-whole : {n : ℕ} → (n ≡ 128 → ⊥) → is128 n ≡ false
+unfolding is128
+not-whole e = ne-eqb _ _ e
+
+module _ {A : Type 0} {n : ℕ} (x y : A) where
+  pub on-whole : n ≡ 128 → x ≡ pick (is128 n) x y
+  unfolding pick
+  on-whole e = sym (ap (λ (t : Bool). pick t x y) (is-whole e))
+
+  pub off-whole : (n ≡ 128 → ⊥) → y ≡ pick (is128 n) x y
+  unfolding pick
+  off-whole e = sym (ap (λ (t : Bool). pick t x y) (not-whole e))
+
+-- ---- one record
+module _ (n h : ℕ) (ls : List Lease) where
+  pub find-in : (i : List ℕ) {t : LeaseTable} {own : TenantLeases} {r : ℕ} → n ≡ 128 → t ≡ tableFrom ls → own ≡ tenantAt t h → r ≡ placeOf i (inUse own) → r ≡ findWith n h i ls
+  unfolding findWith
+  find-in i e a b c = c ∙ ap (λ (x : TenantLeases). placeOf i (inUse x)) (b ∙ ap (λ (x : LeaseTable). tenantAt x h) a) ∙ on-whole (placeOf i (ownOf (tableFrom ls) h)) 0 e
+
+  pub find-out : (i : List ℕ) → (n ≡ 128 → ⊥) → 0 ≡ findWith n h i ls
+  unfolding findWith
+  find-out i e = off-whole (placeOf i (ownOf (tableFrom ls) h)) 0 e
+
+  -- the tenant's records, put in place
+  put-in : (p : List Lease → List Lease) {t u : LeaseTable} {own x : TenantLeases} {m : List Lease}
+      → t ≡ tableFrom ls → own ≡ tenantAt t h → x ≡ laidOut (p (inUse own)) → u ≡ putAt t h x → m ≡ recordsOf u → m ≡ withOwn (tableFrom ls) h (p (ownOf (tableFrom ls) h))
+  put-in p {t} a b c d e =
+      e ∙ ap recordsOf (d ∙ ap (putAt t h) (c ∙ ap (λ (y : TenantLeases). laidOut (p (inUse y))) b)
+      ∙ ap (λ (y : LeaseTable). putAt y h (laidOut (p (ownOf y h)))) a)
+
+  abbrev inserted : Lease → List Lease
+  inserted l = withOwn (tableFrom ls) h (insertOf l (ownOf (tableFrom ls) h))
+
+  module _ (l : Lease) where
+    pub insert-in : {t u : LeaseTable} {own x : TenantLeases} {k : ℕ} {m : List Lease} → n ≡ 128 → h < 8 → t ≡ tableFrom ls → own ≡ tenantAt t h → k ≡ length (inUse own) → k < 16
+        → x ≡ laidOut (insertOf l (inUse own)) → u ≡ putAt t h x → m ≡ recordsOf u → m ≡ insertWith n h l ls
+    unfolding insertWith pick
+    insert-in e f a b c g d i j =
+        put-in (insertOf l) a b d i j
+        ∙ sym (ap (λ (t : Bool). pick t (inserted l) ls) (lt-ltb _ 16 (subst-lt (c ∙ ap (λ (y : TenantLeases). length (inUse y)) (b ∙ ap (λ (y : LeaseTable). tenantAt y h) a)) g)))
+        ∙ sym (ap (λ (t : Bool). pick t (pick (ltb (length (ownOf (tableFrom ls) h)) 16) (inserted l) ls) ls) (lt-ltb h 8 f))
+        ∙ on-whole (pick (ltb h 8) (pick (ltb (length (ownOf (tableFrom ls) h)) 16) (inserted l) ls) ls) ls e
+      where
+        subst-lt : {x y z : ℕ} → x ≡ y → x < z → y < z
+        subst-lt p q = omega arith
+
+    pub insert-full : {t : LeaseTable} {own : TenantLeases} {k : ℕ} → n ≡ 128 → h < 8 → t ≡ tableFrom ls → own ≡ tenantAt t h → k ≡ length (inUse own) → 16 ≤ k → ls ≡ insertWith n h l ls
+    unfolding insertWith pick
+    insert-full e f a b c g =
+        sym (ap (λ (t : Bool). pick t (inserted l) ls) (le-ltb _ 16 (subst-le (c ∙ ap (λ (y : TenantLeases). length (inUse y)) (b ∙ ap (λ (y : LeaseTable). tenantAt y h) a)) g)))
+        ∙ sym (ap (λ (t : Bool). pick t (pick (ltb (length (ownOf (tableFrom ls) h)) 16) (inserted l) ls) ls) (lt-ltb h 8 f))
+        ∙ on-whole (pick (ltb h 8) (pick (ltb (length (ownOf (tableFrom ls) h)) 16) (inserted l) ls) ls) ls e
+      where
+        subst-le : {x y z : ℕ} → x ≡ y → z ≤ x → z ≤ y
+        subst-le p q = omega arith
+
+    pub insert-none : n ≡ 128 → 8 ≤ h → ls ≡ insertWith n h l ls
+    unfolding insertWith pick
+    insert-none e f =
+        sym (ap (λ (t : Bool). pick t (pick (ltb (length (ownOf (tableFrom ls) h)) 16) (inserted l) ls) ls) (le-ltb h 8 f))
+        ∙ on-whole (pick (ltb h 8) (pick (ltb (length (ownOf (tableFrom ls) h)) 16) (inserted l) ls) ls) ls e
+
+    pub insert-out : (n ≡ 128 → ⊥) → ls ≡ insertWith n h l ls
+    unfolding insertWith
+    insert-out e = off-whole (pick (ltb h 8) (pick (ltb (length (ownOf (tableFrom ls) h)) 16) (inserted l) ls) ls) ls e
+
+  abbrev removed : List ℕ → List Lease
+  removed i = withOwn (tableFrom ls) h (removeOf i (ownOf (tableFrom ls) h))
+
+  module _ (i : List ℕ) where
+    pub remove-in : {t u : LeaseTable} {own x : TenantLeases} {m : List Lease} → n ≡ 128 → h < 8 → t ≡ tableFrom ls → own ≡ tenantAt t h
+        → x ≡ laidOut (removeOf i (inUse own)) → u ≡ putAt t h x → m ≡ recordsOf u → m ≡ removeWith n h i ls
+    unfolding removeWith pick
+    remove-in e f a b d p j =
+        put-in (removeOf i) a b d p j ∙ sym (ap (λ (t : Bool). pick t (removed i) ls) (lt-ltb h 8 f)) ∙ on-whole (pick (ltb h 8) (removed i) ls) ls e
+
+    pub remove-none : n ≡ 128 → 8 ≤ h → ls ≡ removeWith n h i ls
+    unfolding removeWith pick
+    remove-none e f = sym (ap (λ (t : Bool). pick t (removed i) ls) (le-ltb h 8 f)) ∙ on-whole (pick (ltb h 8) (removed i) ls) ls e
+
+    pub remove-out : (n ≡ 128 → ⊥) → ls ≡ removeWith n h i ls
+    unfolding removeWith
+    remove-out e = off-whole (pick (ltb h 8) (removed i) ls) ls e
+
+-- ---- the call
+module _ (n : ℕ) (s : State) (ls : List Lease) (c : Call) where
+  pub serve-in : {t : LeaseTable} {before after : List ℕ} {r : Served} {m : Records} → n ≡ 128 → t ≡ tableFrom ls → Serves (serveOf (record { state = s; table = t }) c) before after r
+      → (m .leases ≡ recordsOf (r .book .table)) × (length (m .leases) ≡ 128)
+      → ServesRecords (serveWith n s ls c) before after (record { outcome = r .outcome; length = r .length; clock = r .book .state .clock; records = m })
+  unfolding serveWith
+  serve-in {t} {before} {after} {r} {m} e a v w = record {
+    outcome = v .outcome ∙ ap (λ (x : Answer). x .outcome) same ∙ ap (λ (x : LentAnswer). x .outcome) at;
+    size = v .size ∙ ap (λ (x : Answer). length (x .reply)) same ∙ ap (λ (x : LentAnswer). length (x .reply)) at;
+    clock = ap (λ (x : Book). x .state .clock) (v .book) ∙ ap (λ (x : Answer). x .book .state .clock) same ∙ ap (λ (x : LentAnswer). x .state .clock) at;
+    leases = w .0 ∙ ap (λ (x : Book). recordsOf (x .table)) (v .book) ∙ ap (λ (x : Answer). recordsOf (x .book .table)) same ∙ ap (λ (x : LentAnswer). x .leases) at;
+    buffer = v .buffer ∙ ap (λ (x : Answer). x .reply ++ drop (length (x .reply)) before) same ∙ ap (λ (x : LentAnswer). x .reply ++ drop (length (x .reply)) before) at;
+    long = w .1;
+  }
+    where
+      same : serveOf (record { state = s; table = t }) c ≡ serveOf (bookFrom s ls) c
+      same = ap (λ (x : LeaseTable). serveOf (record { state = s; table = x }) c) a
+
+      at : lentAnswer (serveOf (bookFrom s ls) c) ≡ serveWith n s ls c
+      at = on-whole (lentAnswer (serveOf (bookFrom s ls) c)) (record { outcome = 1; reply = []; state = s; leases = ls }) e
+
+  pub serve-out : {before : List ℕ} {m : Records} → (n ≡ 128 → ⊥) → m .leases ≡ ls → length ls ≡ 128
+      → ServesRecords (serveWith n s ls c) before before (record { outcome = 1; length = 0; clock = s .clock; records = m })
+  unfolding serveWith
+  serve-out {before} {m} e a q = record {
+    outcome = ap (λ (x : LentAnswer). x .outcome) at;
+    size = ap (λ (x : LentAnswer). length (x .reply)) at;
+    clock = ap (λ (x : LentAnswer). x .state .clock) at;
+    leases = a ∙ ap (λ (x : LentAnswer). x .leases) at;
+    buffer = ap (λ (x : LentAnswer). x .reply ++ drop (length (x .reply)) before) at;
+    long = ap length a ∙ q;
+  }
+    where
+      at : record { outcome = 1; reply = []; state = s; leases = ls } ≡ serveWith n s ls c
+      at = off-whole (lentAnswer (serveOf (bookFrom s ls) c)) (record { outcome = 1; reply = []; state = s; leases = ls }) e
+
+-- ---- the writer
+module _ (n : ℕ) (s : State) (ls : List Lease) where
+  pub write-in : (k : ℕ) {t : LeaseTable} {w : Written} → n ≡ 128 → t ≡ tableFrom ls → w ≡ writtenOf s t k → w ≡ writtenWith n s ls k
+  unfolding writtenWith
+  write-in k e a b = b ∙ ap (λ (x : LeaseTable). writtenOf s x k) a ∙ on-whole (writtenOf s (tableFrom ls) k) (record { refusal = 22; length = 0 }) e
+
+  pub write-out : (k : ℕ) → (n ≡ 128 → ⊥) → record { refusal = 22; length = 0 } ≡ writtenWith n s ls k
+  unfolding writtenWith
+  write-out k e = off-whole (writtenOf s (tableFrom ls) k) (record { refusal = 22; length = 0 }) e
+
+  pub room-in : (room : List ℕ) {t : LeaseTable} {after : List ℕ} → n ≡ 128 → t ≡ tableFrom ls → after ≡ roomAfter s t room → after ≡ roomWith n s ls room
+  unfolding roomWith
+  room-in room e a b = b ∙ ap (λ (x : LeaseTable). roomAfter s x room) a ∙ on-whole (roomAfter s (tableFrom ls) room) room e
+
+  pub room-out : (room : List ℕ) → (n ≡ 128 → ⊥) → room ≡ roomWith n s ls room
+  unfolding roomWith
+  room-out room e = off-whole (roomAfter s (tableFrom ls) room) room e
+
+-- ---- the reader
+module _ (n : ℕ) (s : State) (ls : List Lease) (f : Loaded) where
+  abbrev Accepted : LentReading
+  Accepted = record { refusal = 0; state = f .state; leases = recordsOf (f .table) }
+
+  abbrev by-number : LentReading
+  by-number = pick (is128 n) Accepted (untouched 21 s ls)
+
+  pub read-in : {g : Loaded} {x : Records} {r : ReadRecords} → g ≡ f → g .refusal ≡ 0 → n ≡ 128 → (x .leases ≡ recordsOf (g .table)) × (length (x .leases) ≡ 128)
+      → r ≡ record { refusal = 0; state = g .state; records = x } → Reads (readWith n f s ls) r
+  unfolding readWith pick
+  read-in {x = x} a z e w v = record {
+    refusal = ap (λ (y : ReadRecords). y .refusal) v ∙ ap (λ (y : LentReading). y .refusal) at;
+    state = ap (λ (y : ReadRecords). y .state) v ∙ ap (λ (y : Loaded). y .state) a ∙ ap (λ (y : LentReading). y .state) at;
+    leases = ap (λ (y : ReadRecords). y .records .leases) v ∙ w .0 ∙ ap (λ (y : Loaded). recordsOf (y .table)) a ∙ ap (λ (y : LentReading). y .leases) at;
+    long = ap (λ (y : ReadRecords). length (y .records .leases)) v ∙ w .1;
+  }
+    where
+      at : Accepted ≡ readWith n f s ls
+      at = on-whole Accepted (untouched 21 s ls) e ∙ sym (ap (λ (t : Bool). pick t by-number (untouched (f .refusal) s ls)) (eq-eqb _ _ (sym (ap (λ (y : Loaded). y .refusal) a) ∙ z)))
+
+  kept : {k : ℕ} {m : Records} {r : ReadRecords} → m .leases ≡ ls → length ls ≡ 128 → r ≡ record { refusal = k; state = s; records = m } → untouched k s ls ≡ readWith n f s ls → Reads (readWith n f s ls) r
+  kept b q v at = record {
+    refusal = ap (λ (y : ReadRecords). y .refusal) v ∙ ap (λ (y : LentReading). y .refusal) at;
+    state = ap (λ (y : ReadRecords). y .state) v ∙ ap (λ (y : LentReading). y .state) at;
+    leases = ap (λ (y : ReadRecords). y .records .leases) v ∙ b ∙ ap (λ (y : LentReading). y .leases) at;
+    long = ap (λ (y : ReadRecords). length (y .records .leases)) v ∙ ap length b ∙ q;
+  }
+
+  pub read-out : {g : Loaded} {m : Records} {r : ReadRecords} → g ≡ f → g .refusal ≡ 0 → (n ≡ 128 → ⊥) → m .leases ≡ ls → length ls ≡ 128 → r ≡ record { refusal = 21; state = s; records = m } → Reads (readWith n f s ls) r
+  unfolding readWith pick
+  read-out a z e b q v =
+      kept b q v (off-whole Accepted (untouched 21 s ls) e ∙ sym (ap (λ (t : Bool). pick t by-number (untouched (f .refusal) s ls)) (eq-eqb _ _ (sym (ap (λ (y : Loaded). y .refusal) a) ∙ z))))
+
+  pub read-refused : {g : Loaded} {m : Records} {r : ReadRecords} → g ≡ f → (g .refusal ≡ 0 → ⊥) → m .leases ≡ ls → length ls ≡ 128 → r ≡ record { refusal = g .refusal; state = s; records = m } → Reads (readWith n f s ls) r
+  unfolding readWith pick
+  read-refused a z b q v =
+      kept b q v (ap (λ (y : Loaded). untouched (y .refusal) s ls) a
+      ∙ sym (ap (λ (t : Bool). pick t by-number (untouched (f .refusal) s ls)) (ne-eqb _ _ (λ p. z (ap (λ (y : Loaded). y .refusal) a ∙ p)))))

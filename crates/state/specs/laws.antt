@@ -1,0 +1,4 @@
+pub mod Layout
+pub mod Sets
+pub mod Sorted
+pub mod Clock

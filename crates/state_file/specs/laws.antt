@@ -1,0 +1,4 @@
+pub mod Format
+pub mod File
+pub mod Records
+pub mod Tenants

@@ -1,0 +1,57 @@
+-- Laws: the state file's format is lawful: a file that is read is the one that would be written, and what is written is read again.
+use mathlib.Core.Bool.{Bool, false, true}
+use mathlib.Core.List.{List, []}
+use mathlib.Core.Path.{_∙_, _≡_, ap, refl, sym}
+use Prim.Native.Nat.{_≤_, ℕ}
+use native.Mathlib.Omega.{arith}
+use lib.Dec.{leb}
+use lib.ListN.{length}
+use borrow.Author.Tests.{le-leb, leb-true}
+use Rattle.address_set.specs.AddressSet.{rises}
+use Rattle.lists.specs.Pick.{pick}
+use Rattle.state_file.specs.File.{longestFile, File, fileFormat, fileOf, leaseFormat, leasesOrdered, partFormat, scopeFormat, tenantFormat}
+use Rattle.state_file.specs.Format.{bad, closed, counted, got, octet, Octets}
+use Rattle.state_file.specs.laws.Format.{Lawful, after-lawful, both-lawful, counted-lawful, number-lawful, octet-lawful, only-lawful, then-lawful, times-lawful, viewed-lawful, whole-reads, whole-written}
+
+pub tenant-lawful : Lawful tenantFormat
+tenant-lawful = viewed-lawful (both-lawful number-lawful number-lawful) _ _ (λ x. refl) (λ y. refl)
+
+pub part-lawful : Lawful partFormat
+part-lawful = viewed-lawful (both-lawful octet-lawful octet-lawful) _ _ (λ x. refl) (λ y. refl)
+
+pub scope-lawful : (n : ℕ) → Lawful (scopeFormat n)
+scope-lawful n = viewed-lawful (both-lawful number-lawful (both-lawful octet-lawful (both-lawful octet-lawful (times-lawful part-lawful n)))) _ _ (λ x. refl) (λ y. refl)
+
+octets-lawful : Lawful (counted octet)
+octets-lawful = counted-lawful octet-lawful
+
+pub lease-lawful : Lawful leaseFormat
+lease-lawful =
+    viewed-lawful
+    (both-lawful octet-lawful (both-lawful octet-lawful (both-lawful octets-lawful (both-lawful octet-lawful
+    (both-lawful number-lawful (both-lawful number-lawful (both-lawful number-lawful (only-lawful octets-lawful rises)))))))) _ _ (λ x. refl) (λ y. refl)
+
+pub file-lawful : Lawful fileFormat
+file-lawful =
+    viewed-lawful
+    (both-lawful (after-lawful (both-lawful number-lawful number-lawful) 1)
+    (then-lawful (counted-lawful tenant-lawful) (λ ts. both-lawful (counted-lawful (scope-lawful (length ts))) (only-lawful (counted-lawful lease-lawful) leasesOrdered))))
+    _ _ (λ x. refl) (λ y. refl)
+
+-- Octets that make a file are what the file's writing gives.
+pub file-reads : (s : List ℕ) (f : File) → Octets s → fileOf s ≡ got f [] → (fileFormat .ok f) × (s ≡ fileFormat .write f) × (length s ≤ longestFile)
+unfolding fileOf pick
+file-reads s f o e = go (leb (length s) longestFile) refl e
+  where
+    go : (b : Bool) → leb (length s) longestFile ≡ b → pick b (closed (fileFormat .read s)) bad ≡ got f [] → (fileFormat .ok f) × (s ≡ fileFormat .write f) × (length s ≤ longestFile)
+    go true q e = let (h, p) = whole-reads file-lawful s f [] o e in (h, p, leb-true _ _ q)
+    go false q e = let z : _≡_ {A = ℕ} 0 1 = cc in absurd (omega arith)
+
+-- A file that has octets, few enough, is read from them.
+pub file-written : (f : File) → fileFormat .ok f → length (fileFormat .write f) ≤ longestFile → fileOf (fileFormat .write f) ≡ got f []
+unfolding fileOf pick
+file-written f h l = ap (λ (b : Bool). pick b (closed (fileFormat .read (fileFormat .write f))) bad) (le-leb _ _ l) ∙ whole-written file-lawful f h
+
+-- so a file has one form only
+pub file-once : (s t : List ℕ) (f : File) → Octets s → Octets t → fileOf s ≡ got f [] → fileOf t ≡ got f [] → s ≡ t
+file-once s t f o o′ e e′ = file-reads s f o e .1 ∙ sym (file-reads t f o′ e′ .1)

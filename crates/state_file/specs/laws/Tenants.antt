@@ -1,0 +1,192 @@
+-- Laws: leases in the file's order and tenant by tenant: each gives the other back.
+use mathlib.Core.Bool.{Bool, false, true}
+use mathlib.Core.List.{List, [], _++_, _∷_, map}
+use mathlib.Core.Path.{_∙_, _≡_, ap, ap₂, refl, subst, sym}
+use Prim.Native.Nat.{_+_, _<_, _≤_, suc, zero, ℕ}
+use native.Mathlib.Omega.{arith}
+use lib.Dec.{eqb, ltb}
+use lib.ListN.{length}
+use borrow.Author.Tests.{eq-eqb, eqb-false, eqb-true, ltb-false, ltb-true, ne-eqb}
+use Rattle.identifier.specs.Order.{orderOf}
+use Rattle.lists.specs.All.{All}
+use Rattle.lists.specs.Filter.{filterBy}
+use Rattle.lists.specs.Pick.{pick}
+use Rattle.state.specs.declared.Lease.{Lease}
+use Rattle.state_file.specs.File.{FileLease, isAfter, leasesOrdered, orderedFrom}
+use Rattle.state_file.specs.laws.Records.{Neat, Storable, filed-stored, stored-filed}
+use Rattle.state_file.specs.Records.{filedLease, filedFrom, ofTenant, stored, tenantsFrom}
+
+-- those with key t
+abbrev own : {A : Type 0} → (A → ℕ) → ℕ → List A → List A
+own key t l = filterBy (λ x. eqb (key x) t) l
+
+-- the lists of n tenants from t on
+unfoldable apart : {A : Type 0} → (A → ℕ) → ℕ → ℕ → List A → List (List A)
+apart key t zero l = []
+apart key t (suc n) l = own key t l ∷ apart key (suc t) n l
+
+unfoldable chained : {A : Type 0} → List (List A) → List A
+chained [] = []
+chained (l ∷ ls) = l ++ chained ls
+
+-- none is before the one before it, and all are from t on
+unfoldable Sorted : {A : Type 0} → (A → ℕ) → ℕ → List A → Type 0
+Sorted key t [] = Unit {0}
+Sorted key t (x ∷ l) = (t ≤ key x) × Sorted key (key x) l
+
+module _ {A : Type 0} (key : A → ℕ) where
+  sorted-from : (t u : ℕ) (l : List A) → t ≤ u → Sorted key u l → Sorted key t l
+  unfolding Sorted
+  sorted-from t u [] h s = tt
+  sorted-from t u (x ∷ l) h s = (let g = s .0 in omega arith, s .1)
+
+  only-none : (t u : ℕ) (l : List A) → t < u → Sorted key u l → own key t l ≡ []
+  unfolding Sorted filterBy pick
+  only-none t u [] h s = refl
+  only-none t u (x ∷ l) h s =
+      ap (λ (b : Bool). pick b (x ∷ own key t l) (own key t l)) (ne-eqb (key x) t (λ e. let g = s .0 in absurd (omega arith)))
+      ∙ only-none t (key x) l (let g = s .0 in omega arith) (s .1)
+
+  -- a lease of a later tenant adds nothing to the lists before it
+  apart-none : (n t : ℕ) (l : List A) → Sorted key (t + n) l → chained (apart key t n l) ≡ []
+  unfolding apart chained
+  apart-none zero t l s = refl
+  apart-none (suc n) t l s =
+      ap (λ (k : List A). k ++ chained (apart key (suc t) n l)) (only-none t (t + suc n) l (omega arith) s)
+      ∙ apart-none n (suc t) l (subst (λ (k : ℕ). Sorted key k l) (let e : t + suc n ≡ suc t + n = omega arith in e) s)
+
+  apart-cons : (n t : ℕ) (x : A) (l : List A) → t ≤ key x → key x < t + n → Sorted key (key x) l → chained (apart key t n (x ∷ l)) ≡ x ∷ chained (apart key t n l)
+  unfolding apart chained filterBy pick
+  apart-cons zero t x l h g s = absurd (omega arith)
+  apart-cons (suc n) t x l h g s = go (eqb (key x) t) refl (apart-cons n (suc t) x l)
+    where
+      others : (n t : ℕ) → key x < t → apart key t n (x ∷ l) ≡ apart key t n l
+      others zero t h = refl
+      others (suc n) t h =
+          ap₂ {C = List (List A)} (λ (p : List A) (q : List (List A)). p ∷ q)
+          (ap (λ (b : Bool). pick b (x ∷ own key t l) (own key t l)) (ne-eqb (key x) t (λ e. absurd (omega arith))))
+          (others n (suc t) (omega arith))
+
+      go : (b : Bool) → eqb (key x) t ≡ b
+          → (suc t ≤ key x → key x < suc t + n → Sorted key (key x) l → chained (apart key (suc t) n (x ∷ l)) ≡ x ∷ chained (apart key (suc t) n l))
+          → pick b (x ∷ own key t l) (own key t l) ++ chained (apart key (suc t) n (x ∷ l)) ≡ x ∷ (own key t l ++ chained (apart key (suc t) n l))
+      go true e ih =
+          let q : key x ≡ t = eqb-true (key x) t e in
+          ap (λ (r : List (List A)). (x ∷ own key t l) ++ chained r) (others n (suc t) (omega arith))
+      go false e ih =
+          let q : t < key x = (let z = eqb-false (key x) t e in below t (key x) h z) in
+          let none : own key t l ≡ [] = only-none t (key x) l q s in
+          ap (λ (k : List A). k ++ chained (apart key (suc t) n (x ∷ l))) none ∙ ih q (omega arith) s ∙ sym (ap (λ (k : List A). x ∷ (k ++ chained (apart key (suc t) n l))) none)
+        where
+          below : (a b : ℕ) → a ≤ b → (b ≡ a → ⊥) → a < b
+          below a b h z = omega arith
+
+  -- sorted by tenant, the lists of the tenants one after the other are the whole
+  chained-apart : (n t : ℕ) (l : List A) → Sorted key t l → All (λ x. key x < t + n) l → chained (apart key t n l) ≡ l
+  unfolding Sorted All
+  chained-apart n t [] s h = nothing n t
+    where
+      nothing : (n t : ℕ) → chained (apart key t n []) ≡ []
+      nothing n t = apart-none n t [] tt
+  chained-apart n t (x ∷ l) s h =
+      apart-cons n t x l (s .0) (h .0) (s .1) ∙ ap {B = List A} (λ (r : List A). x ∷ r) (chained-apart n t l (sorted-from t (key x) l (s .0) (s .1)) (h .1))
+
+-- the file's order is sorted by tenant
+ordered-sorted : (t : ℕ) (a : List ℕ) (l : List FileLease) → orderedFrom t a l ≡ true → Sorted (λ x. x .tenant) t l
+unfolding orderedFrom Sorted isAfter pick
+ordered-sorted t a [] e = tt
+ordered-sorted t a (x ∷ l) e = go (ltb t (x .tenant)) refl (ltb (x .tenant) t) refl (eqb (orderOf a (x .id)) 2) (ordered-sorted (x .tenant) (x .id) l) e
+  where
+    go : (b : Bool) → ltb t (x .tenant) ≡ b → (c : Bool) → ltb (x .tenant) t ≡ c → (d : Bool)
+        → (orderedFrom (x .tenant) (x .id) l ≡ true → Sorted (λ x. x .tenant) (x .tenant) l)
+        → pick (pick b false (pick c true d)) false (orderedFrom (x .tenant) (x .id) l) ≡ true → (t ≤ x .tenant) × Sorted (λ x. x .tenant) (x .tenant) l
+    go true p c q d ih e = (let h = ltb-true t (x .tenant) p in omega arith, ih e)
+    go false p true q d ih e = let w : _≡_ {A = ℕ} 0 1 = cc in absurd (omega arith)
+    go false p false q true ih e = let w : _≡_ {A = ℕ} 0 1 = cc in absurd (omega arith)
+    go false p false q false ih e = (ltb-false (x .tenant) t q, ih e)
+
+-- the file's leases apart, by tenant, for n tenants from t on
+unfoldable bookFrom : ℕ → ℕ → List FileLease → List (List Lease)
+bookFrom t n xs = map (map stored) (apart (λ x. x .tenant) t n xs)
+
+tenants-book : (t n : ℕ) (xs : List FileLease) → tenantsFrom t n xs ≡ bookFrom t n xs
+unfolding tenantsFrom bookFrom apart
+tenants-book t zero xs = refl
+tenants-book t (suc n) xs = ap {B = List (List Lease)} (λ (l : List (List Lease)). map stored (ofTenant t xs) ∷ l) (tenants-book (suc t) n xs)
+
+-- ---- read and written again
+
+filed-only : (t : ℕ) (xs : List FileLease) → All Storable xs → map (filedLease t) (map stored (ofTenant t xs)) ≡ ofTenant t xs
+unfolding All filterBy pick
+filed-only t [] h = refl
+filed-only t (x ∷ xs) h = go (eqb (x .tenant) t) refl (filed-only t xs (h .1))
+  where
+    go : (b : Bool) → eqb (x .tenant) t ≡ b → map (filedLease t) (map stored (ofTenant t xs)) ≡ ofTenant t xs
+        → map (filedLease t) (map stored (pick b (x ∷ ofTenant t xs) (ofTenant t xs))) ≡ pick b (x ∷ ofTenant t xs) (ofTenant t xs)
+    go true e ih =
+        ap₂ {C = List FileLease} (λ (y : FileLease) (ys : List FileLease). y ∷ ys) (ap (λ (u : ℕ). filedLease u (stored x)) (sym (eqb-true (x .tenant) t e)) ∙ filed-stored x (h .0)) ih
+    go false e ih = ih
+
+filed-apart : (n t : ℕ) (xs : List FileLease) → All Storable xs → filedFrom t (map (map stored) (apart (λ x. x .tenant) t n xs)) ≡ chained (apart (λ x. x .tenant) t n xs)
+unfolding filedFrom apart chained
+filed-apart zero t xs h = refl
+filed-apart (suc n) t xs h = ap₂ {C = List FileLease} (λ (p q : List FileLease). p ++ q) (filed-only t xs h) (filed-apart n (suc t) xs h)
+
+sorted-up : (t u : ℕ) (xs : List FileLease) → All (λ x. u ≤ x .tenant) xs → Sorted (λ x. x .tenant) t xs → Sorted (λ x. x .tenant) u xs
+unfolding Sorted All
+sorted-up t u [] h s = tt
+sorted-up t u (x ∷ xs) h s = (h .0, s .1)
+
+-- leases in the file's order, of tenants 1 to n, each of which a record can hold: the book made of them gives them back
+pub leases-again : (n : ℕ) (xs : List FileLease) → leasesOrdered xs ≡ true → All (λ x. 1 ≤ x .tenant) xs → All (λ x. x .tenant < 1 + n) xs → All Storable xs
+    → filedFrom 1 (tenantsFrom 1 n xs) ≡ xs
+unfolding bookFrom
+leases-again n xs o low high h = ap (filedFrom 1) (tenants-book 1 n xs) ∙ filed-apart n 1 xs h ∙ chained-apart (λ x. x .tenant) n 1 xs (sorted-up 0 1 xs low (ordered-sorted 0 [] xs o)) high
+
+-- ---- written and read again
+
+only-own : (t : ℕ) (l : List Lease) (xs : List FileLease) → ofTenant t (map (filedLease t) l ++ xs) ≡ map (filedLease t) l ++ ofTenant t xs
+unfolding filterBy pick filedLease
+only-own t [] xs = refl
+only-own t (x ∷ l) xs =
+    ap (λ (b : Bool). pick b (filedLease t x ∷ ofTenant t (map (filedLease t) l ++ xs)) (ofTenant t (map (filedLease t) l ++ xs))) (eq-eqb t t refl)
+    ∙ ap {B = List FileLease} (λ (ys : List FileLease). filedLease t x ∷ ys) (only-own t l xs)
+
+only-other : (t u : ℕ) (l : List Lease) (xs : List FileLease) → (t ≡ u → ⊥) → ofTenant u (map (filedLease t) l ++ xs) ≡ ofTenant u xs
+unfolding filterBy pick filedLease
+only-other t u [] xs h = refl
+only-other t u (x ∷ l) xs h =
+    ap (λ (b : Bool). pick b (filedLease t x ∷ ofTenant u (map (filedLease t) l ++ xs)) (ofTenant u (map (filedLease t) l ++ xs))) (ne-eqb t u h)
+    ∙ only-other t u l xs h
+
+only-later : (t u : ℕ) (ls : List (List Lease)) → u < t → ofTenant u (filedFrom t ls) ≡ []
+unfolding filedFrom filterBy
+only-later t u [] h = refl
+only-later t u (l ∷ ls) h = only-other t u l (filedFrom (suc t) ls) (λ e. absurd (omega arith)) ∙ only-later (suc t) u ls (omega arith)
+
+apart-later : (n t u : ℕ) (l : List Lease) (xs : List FileLease) → t < u → apart (λ x. x .tenant) u n (map (filedLease t) l ++ xs) ≡ apart (λ x. x .tenant) u n xs
+unfolding apart
+apart-later zero t u l xs h = refl
+apart-later (suc n) t u l xs h =
+    ap₂ {C = List (List FileLease)} (λ (p : List FileLease) (q : List (List FileLease)). p ∷ q) (only-other t u l xs (λ e. absurd (omega arith))) (apart-later n t (suc u) l xs (omega arith))
+
+stored-all : (t : ℕ) (l : List Lease) → All Neat l → map stored (map (filedLease t) l) ≡ l
+unfolding All
+stored-all t [] h = refl
+stored-all t (x ∷ l) h = ap₂ {C = List Lease} (λ (y : Lease) (ys : List Lease). y ∷ ys) (stored-filed t x (h .0)) (stored-all t l (h .1))
+
+append-none : (l : List FileLease) → l ++ [] ≡ l
+append-none [] = refl
+append-none (x ∷ l) = ap {B = List FileLease} (λ (ys : List FileLease). x ∷ ys) (append-none l)
+
+book-again : (t : ℕ) (ls : List (List Lease)) → All (All Neat) ls → bookFrom t (length ls) (filedFrom t ls) ≡ ls
+unfolding bookFrom filedFrom apart All
+book-again t [] h = refl
+book-again t (l ∷ ls) h =
+    ap₂ {C = List (List Lease)} (λ (p : List Lease) (q : List (List Lease)). p ∷ q)
+    (ap (map stored) (only-own t l (filedFrom (suc t) ls) ∙ ap (λ (ys : List FileLease). map (filedLease t) l ++ ys) (only-later (suc t) t ls (omega arith)) ∙ append-none (map (filedLease t) l)) ∙ stored-all t l (h .0))
+    (ap (map (map stored)) (apart-later (length ls) t (suc t) l (filedFrom (suc t) ls) (omega arith)) ∙ book-again (suc t) ls (h .1))
+
+-- the tenants' leases, neat in their records: the file's leases made of them give them back
+pub leases-back : (ls : List (List Lease)) → All (All Neat) ls → tenantsFrom 1 (length ls) (filedFrom 1 ls) ≡ ls
+leases-back ls h = tenants-book 1 (length ls) (filedFrom 1 ls) ∙ book-again 1 ls h

@@ -3,7 +3,8 @@ use mathlib.Core.Path.{_≡_, refl}
 use mathlib.Core.List.{[], _∷_}
 use Rattle.lists.specs.Pick.{pick}
 use Rattle.lists.specs.Filter.{filterBy, isIn}
-use Rattle.address_set.specs.AddressSet.{bit, offsetsFrom, offsets, setOf, intersectionOf, differenceOf, lowestOf, joined, fewestRanges}
+use Rattle.address_set.specs.AddressSet.{bit, offsetsFrom, offsets, setOf, differenceOf, lowestOf, joined, fewestRanges}
+use Rattle.address_set.specs.laws.Bits.{intersectionOf}
 
 p1 : fewestRanges (offsets 3) ≡ record { first = 0; count = 2 } ∷ []
 unfolding fewestRanges joined offsetsFrom bit

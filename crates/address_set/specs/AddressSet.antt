@@ -35,11 +35,6 @@ setOf [] = 0
 setOf (a ∷ l) = bitOr (2 ^ a) (setOf l)
 
 -- ---- what the functions give, by the offsets of their sets
-unfoldable pub unionOf : ℕ → ℕ → ℕ
-unionOf m n = setOf (offsets m ++ offsets n)
-
-unfoldable pub intersectionOf : ℕ → ℕ → ℕ
-intersectionOf m n = setOf (filterBy (λ a. isIn a (offsets n)) (offsets m))
 
 unfoldable pub differenceOf : ℕ → ℕ → ℕ
 differenceOf m n = setOf (filterBy (λ a. not (isIn a (offsets n))) (offsets m))

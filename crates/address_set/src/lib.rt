@@ -4,7 +4,7 @@ ghost use mathlib.Core.List.{[]};
 ghost use Prim.Native.Nat.{min};
 ghost use lib.ListN.{length};
 ghost use Rattle.lists.specs.Filter.{isIn};
-ghost use Rattle.address_set.specs.AddressSet.{offsets, setOf, unionOf, intersectionOf, differenceOf, lowestOf, chosen, upTo, readOffsets, withOffset, listed, pushedOffset, fewestRanges, firstRange, behind};
+ghost use Rattle.address_set.specs.AddressSet.{offsets, setOf, differenceOf, lowestOf, chosen, upTo, readOffsets, withOffset, listed, pushedOffset, fewestRanges, firstRange, behind};
 
 // A range of offsets, all of one set: the first and how many.
 pub struct Range {
@@ -16,12 +16,6 @@ pub struct Range {
 pub struct Offsets {
     pub list: [u8; 64],
     pub count: usize,
-}
-
-pub fn empty() -> u64
-    ensures { λ r. ⌜ r ≡ setOf [] ⌝ }
-{
-    0
 }
 
 // The offsets of a scope of a size: those below it.
@@ -42,18 +36,6 @@ pub fn member(set: u64, offset: u64) -> bool
         return (set >> offset) % 2 == 1;
     }
     false
-}
-
-pub fn union(m: u64, n: u64) -> u64
-    ensures { λ r. ⌜ r ≡ unionOf m n ⌝ }
-{
-    m | n
-}
-
-pub fn intersection(m: u64, n: u64) -> u64
-    ensures { λ r. ⌜ r ≡ intersectionOf m n ⌝ }
-{
-    m & n
 }
 
 // The offsets of m that are not in n.

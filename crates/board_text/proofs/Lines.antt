@@ -23,9 +23,6 @@ use Rattle.state.specs.declared.State.{State}
 use Rattle.state.specs.declared.TenantLeases.{TenantLeases}
 use Rattle.state_file.specs.declared.Loaded.{Loaded}
 
-pub line-one : {r₀ r₁ : List ℕ} {at n x : ℕ} → Wrote r₀ at (x ∷ []) r₁ n → Line r₀ at (x ∷ []) r₁ n 1
-line-one w = record { wrote = w; small = omega (arith, w .next) }
-
 line-join : {r₀ r₁ r₂ xs ys : List ℕ} {a b c m n : ℕ} → a ≤ length r₀ → Line r₀ a xs r₁ b m → Line r₁ b ys r₂ c n → Line r₀ a (xs ++ ys) r₂ c (m + n)
 line-join h p q = record { wrote = wrote-joined h (p .wrote) (q .wrote); small = omega (arith, p .small, q .small) }
 

@@ -61,10 +61,6 @@ Rising c (o ∷ os) = (c < o .code) × (Right o × Rising (o .code) os)
 
 -- ---- one option
 
-back16 : (v : ℕ) (rest : List ℕ) → v < 65536 → at16 (octets16 v ++ rest) 0 ≡ v
-unfolding at16
-back16 v rest h = read-back16 v h
-
 pub at16-past : (xs ys : List ℕ) (n : ℕ) → at16 (xs ++ ys) (length xs + n) ≡ at16 ys n
 unfolding at16
 at16-past xs ys n =

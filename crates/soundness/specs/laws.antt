@@ -2,6 +2,4 @@ pub mod Code
 pub mod Book
 pub mod Kept
 pub mod Added
-pub mod Calm
-pub mod Laid
 pub mod Facts

@@ -1,4 +1,3 @@
 pub mod Layout
 pub mod Sets
 pub mod Sorted
-pub mod Clock

@@ -18,9 +18,9 @@ use Rattle.state.specs.declared.Lease.{Lease}
 use Rattle.state.specs.declared.LeaseTable.{LeaseTable}
 use Rattle.state.specs.declared.State.{State}
 use Rattle.state_file.specs.File.{File, fileOf, isAfter, orderedFrom}
-use Rattle.state_file.specs.Format.{Got, bad, closed, got, readNumber, readOctet, readTimes, then, writeAll}
-use Rattle.state_file.specs.Records.{fewOf, filedLease, filedBook, filedFrom, filedScope, filled, fitsB, leasesFitB, pairUp, storableB, stored, storedScope, storedState, storedTable, tenantsFrom, zeroRange}
-use Rattle.state_file.specs.StateFile.{accepted, loadedGot, judged, loaded, octetsOf, readFile, refused, roomAfter, writtenOf, zeroState, zeroTable}
+use Rattle.state_file.specs.Format.{Got, bad, closed, got, readNumber, readOctet, readTimes, then}
+use Rattle.state_file.specs.Records.{fewOf, filled, fitsB, leasesFitB, storableB, stored, storedScope, storedState, storedTable, tenantsFrom, zeroRange}
+use Rattle.state_file.specs.StateFile.{accepted, loadedGot, judged, loaded, readFile, refused}
 
 -- ---- files
 -- 10.1.1.1, and the clock
@@ -246,14 +246,3 @@ specimenTable = tableOf ((specimenLease b 2000 12 ∷ []) ∷ (specimenLease a 4
 read-specimen : readFile specimen ≡ accepted specimenState specimenTable
 unfolding specimen specimenState specimenLease specimenTable server range scope lease tenants pool settings plain a b pick allBy pairsBy allTo filterBy isIn sumTo bit offsetsFrom setOf readOffsets risesFrom orderOf sameOf laidOut tableOf byIdentifier unionAll addressesOf overlaps oneTo sizeB idB recordsB countsB rule1 belowB offsetsB rule2 rangeB rangesApart rule3 poolB poolsApart rule4 ttlB rule5 reserveB reservesB rule6 kindB periodB leaseB noneB tenantsB rule7 differ rule8 disjoint apart rule9 compatible rule10 limitB limitsB rule11 committed committedB rule12 zeroFrom paddedB blankB unusedB layoutB rangeZero tailB scopeZero settingsB rule13 rulesOf firstLate firstBroken brokenOf soundB then closed readOctet readNumber readTimes isAfter orderedFrom fileOf filled stored tenantsFrom storedScope storedState storedTable storableB fewOf leasesFitB fitsB refused accepted judged loaded loadedGot readFile
 read-specimen = refl
-
--- an exact room suffices, one octet less does not, and an unsound book comes before too little room
-write-specimen : (octetsOf specimenState specimenTable ≡ specimen)
-    × (writtenOf specimenState specimenTable 80 ≡ record { refusal = 0; length = 80 })
-    × (writtenOf specimenState specimenTable 79 ≡ record { refusal = 23; length = 0 })
-    × (writtenOf zeroState zeroTable 0 ≡ record { refusal = 22; length = 0 })
-    × (roomAfter specimenState specimenTable (replicate 82 9) ≡ specimen ++ 9 ∷ 9 ∷ [])
-    × (roomAfter specimenState specimenTable (replicate 79 9) ≡ replicate 79 9)
-    × (roomAfter zeroState zeroTable (9 ∷ []) ≡ 9 ∷ [])
-unfolding specimen specimenState specimenLease specimenTable server range scope lease tenants pool settings plain a b pick allBy pairsBy allTo filterBy isIn sumTo bit offsetsFrom setOf readOffsets risesFrom orderOf sameOf laidOut tableOf byIdentifier unionAll addressesOf overlaps oneTo sizeB idB recordsB countsB rule1 belowB offsetsB rule2 rangeB rangesApart rule3 poolB poolsApart rule4 ttlB rule5 reserveB reservesB rule6 kindB periodB leaseB noneB tenantsB rule7 differ rule8 disjoint apart rule9 compatible rule10 limitB limitsB rule11 committed committedB rule12 zeroFrom paddedB blankB unusedB layoutB rangeZero tailB scopeZero settingsB rule13 rulesOf firstLate firstBroken brokenOf soundB then closed readOctet readNumber readTimes isAfter orderedFrom fileOf filled stored tenantsFrom storedScope storedState storedTable storableB fewOf leasesFitB fitsB refused accepted judged loaded loadedGot readFile zeroTable octetsOf writtenOf roomAfter filedBook filedFrom filedScope pairUp filedLease writeAll
-write-specimen = (refl, refl, refl, refl, refl, refl, refl)

@@ -43,8 +43,6 @@ module _ {s : List ℕ} {at n k : ℕ} (en : n ≡ getD s (at + 2) 0) (ek : k �
       let qm : m ≡ readOffsets (take (getD s (at + (getD s (at + 2) 0 + 16)) 0) (drop (at + (getD s (at + 2) 0 + 17)) s)) = pm ∙ ap₂ (λ (y z : ℕ). readOffsets (take y (drop (at + (z + 17)) s))) c en in
       cc
 
-pub ruleset leaseReads = (lease-room, lease-stored)
-
 -- the part of the octets that is lent
 pub set-part : (s : List ℕ) (at k r : ℕ) → r ≡ readOffsets (take (at + k - at) (drop at s)) → r ≡ readOffsets (take k (drop at s))
 set-part s at k r e = e ∙ ap (λ (n : ℕ). readOffsets (take n (drop at s))) (let q : at + k - at ≡ k = omega arith in q)

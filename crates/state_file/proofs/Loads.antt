@@ -100,8 +100,6 @@ module _ {s : List ℕ} {at count : ℕ} (v : Formed s) (ea : at ≡ leasesPlace
   table-is ts e p = ap {B = LeaseTable} (λ (l : List TenantLeases). record { tenants = l }) (p ∙ ap (keptFrom 1 8) leases-same ∙ eight-laid _ (fits-few s e))
 
 -- ---- places
-pub place-scopes : {s : List ℕ} (n : ℕ) → Formed s → n ≡ getD s 9 0 → (10 + n * 8 ≡ scopesPlace s) × (10 + n * 8 < length s)
-place-scopes n v e = (ap (λ (k : ℕ). 10 + k * 8) e, omega (arith, v .tenants))
 
 pub place-leases : {s : List ℕ} {at : ℕ} (h k z : ℕ) → Formed s → at ≡ scopesPlace s → h ≡ getD s 9 0 → k ≡ getD s at 0 → z ≡ k * (6 + h * 2) → (at + 1 + z ≡ leasesPlace s) × (at + 1 + z < length s)
 place-leases {s} {at} h k z v ea eh ek ez =

@@ -77,9 +77,6 @@ parts-start {s} {a} {m} {b} {n} h g = record {
 }
 
 module _ {s : List ℕ} {a m b n i : ℕ} (v : PartsInv s a m b n i) where
-  pub parts-in : (i ≤ m) × (i ≤ n)
-  parts-in = (v .inv .within, v .inv .within′)
-
   pub parts-less : i < m → i < n → getD s (a + i) 0 < getD s (b + i) 0 → 0 ≡ orderOf (take m (drop a s)) (take n (drop b s))
   parts-less h k p = order-less (v .inv) h k (simp getD-drop p)
 

@@ -172,5 +172,3 @@ form-tag s h e = server-fails s (after-other 1 (number ⊗ number) s 0 e (omega 
 
 pub scopes-bound : (k w : ℕ) → k < 256 → w < 517 → k * w < 200000
 scopes-bound k w h g = let l : k * w ≤ 255 * 516 = mul-le-mul (let a : k ≤ 255 = omega arith in a) (let b : w ≤ 516 = omega arith in b) in omega arith
-
-pub ruleset forms = (form-long, form-short, form-tag, scopes-bound)

@@ -292,10 +292,6 @@ leases-laid [] v = refl
 leases-laid (x ∷ ts) v = ap₂ {C = List TenantLeases} (λ (y : TenantLeases) (r : List TenantLeases). y ∷ r) (good-laid x (v .0)) (leases-laid ts (v .1))
 
 -- ---- the order of the file from that of each tenant's identifiers
-first-not : (a : List ℕ) → eqb (orderOf [] a) 2 ≡ false
-unfolding orderOf
-first-not [] = refl
-first-not (x ∷ a) = refl
 
 next-not : (x y : Lease) → ordered x y ≡ true → eqb (orderOf (idOf x) (idOf y)) 2 ≡ false
 unfolding byIdentifier

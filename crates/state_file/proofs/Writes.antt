@@ -7,7 +7,7 @@ use native.Mathlib.Omega.{arith}
 use denote.Ref.{now}
 use lib.Dec.{ltb}
 use lib.ListN.{drop, getD, length, length-append, length-map, length-take, replicate, take}
-use lib.Seq.{length-take-le, take-all, take-append-seam}
+use lib.Seq.{take-all, take-append-seam}
 use borrow.Author.Tests.{le-ltb, lt-ltb}
 use Rattle.address_set.specs.AddressSet.{listed, offsets}
 use Rattle.address_set.specs.laws.Bits.{length-offsets}
@@ -36,12 +36,6 @@ use Rattle.state_file.specs.declared.Written.{Written}
 
 -- ---- a lease
 
-pub part-long : (n k : ℕ) (a : List ℕ) → length a ≡ k → n ≤ k → n ≡ length (take n a)
-part-long n k a e h = sym (length-take-le n a (omega arith))
-
-pub part-room : (at n k m : ℕ) (a : List ℕ) → length a ≡ k → n ≤ k → at + n ≤ m → at + length (take n a) ≤ m
-part-room at n k m a e h g = let l = part-long n k a e h in omega arith
-
 pub id-length : (n x : ℕ) (id : List ℕ) → length id ≡ 32 → n ≡ min x 32 → n ≡ length (take x id)
 id-length n x id e h = h ∙ ap (min x) (sym e) ∙ sym (length-take x id)
 
@@ -58,9 +52,6 @@ middle-wrote x s e h p q w z = wrote-joined h (wrote-joined h (wrote-joined h p 
 pub addresses-wrote : {r₀ r₁ r₂ : List ℕ} {at a b n : ℕ} (m : ℕ) → at ≤ length r₀ → n ≡ length (offsets m) → Wrote r₀ at (n ∷ []) r₁ a → Wrote r₁ a (offsets m) r₂ b
     → Wrote r₀ at (length (offsets m) ∷ offsets m) r₂ b
 addresses-wrote {r₀} {r₁} {r₂} {at} {a} m h e p q = wrote-joined h (subst (λ (n : ℕ). Wrote r₀ at (n ∷ []) r₁ a) e p) q
-
-pub addresses-few : (m n : ℕ) → n ≡ length (offsets m) → n ≤ 64
-addresses-few m n e = let h = length-offsets m in omega arith
 
 plain : (l : List ℕ) → writeAll (λ (x : ℕ). x ∷ []) l ≡ l
 unfolding writeAll
@@ -93,8 +84,6 @@ pub lease-wrote : {r₀ r₁ r₂ r₃ : List ℕ} {at a b c : ℕ} (t : ℕ) (l
     → Wrote r₂ b (length (offsets (l .addresses)) ∷ offsets (l .addresses)) r₃ c
     → Wrote r₀ at (leaseFormat .write (filedLease t l)) r₃ c
 lease-wrote {r₀} {r₁} {r₂} {r₃} {at} {a} {b} {c} t l h p q w = subst (λ (o : List ℕ). Wrote r₀ at o r₃ c) (sym (lease-octets t l)) (wrote-joined h (wrote-joined h p q) w)
-
-pub ruleset leasePuts = (part-long, part-room)
 
 -- the list that is lent and its length
 pub listed-run : {r₀ r₁ : List ℕ} {at n k : ℕ} (m : ℕ) (o : Offsets) → o ≡ listed (offsets m) → n ≡ o .count → Wrote r₀ at (take n (o .list)) r₁ k → Wrote r₀ at (offsets m) r₁ k

@@ -2,9 +2,10 @@
 use Prim.Native.Nat.{ℕ, zero, suc, _+_, _-_, _/_, _%_, _^_, _*_, _≤_, _<_, min, max}
 use mathlib.Core.Bool.{Bool, true, false}
 use mathlib.Core.List.{List, [], _∷_, _++_}
-use lib.Bits.{bitAnd, bitOr, or-step, and-step, or-shr, and-shr, and-le-l, or-zero-r, or-lt, and-le-r}
+use lib.Bits.{bitOr, bitAnd, or-step, and-step, or-shr, and-shr, and-le-l, or-zero-r, or-lt, and-le-r}
 use lib.Dec.{eqb}
 use lib.ListN.{length, take, length-take}
+use Rattle.lists.specs.Filter.{filterBy, isIn}
 use mathlib.Core.Path.{_≡_, refl, sym, ap, ap₂, _∙_, subst}
 use borrow.Author.Tests.{eqb-true, eqb-false}
 use native.Mathlib.Nat.{one-mul, pow-suc, div-div-eq-div-mul, div-one, mul-comm, le-of-suc-le-suc, lt-of-le-of-lt, lt-of-lt-of-le, add-zero, div-eq-of-lt}
@@ -62,24 +63,6 @@ bit-ext (suc k) m n hm hn h =
 pub bit-of-zero : (a : ℕ) → bit 0 a ≡ 0
 bit-of-zero zero = bit-zero 0
 bit-of-zero (suc a) = bit-suc 0 a ∙ bit-of-zero a
-
--- and is 0 exactly where no offset is in both
-pub disjoint-no : (m n a : ℕ) → bitAnd m n ≡ 0 → bit m a ≡ 1 → bit n a ≡ 1 → ⊥
-disjoint-no m n a e p q =
-    let h : min (bit m a) (bit n a) ≡ 0 = sym (bit-and m n a) ∙ ap (λ (x : ℕ). bit x a) e ∙ bit-of-zero a in
-    omega arith
-
-pub disjoint-yes : (k m n : ℕ) → m < 2 ^ k → ((a : ℕ) → a < k → bit m a ≡ 1 → bit n a ≡ 1 → ⊥) → bitAnd m n ≡ 0
-disjoint-yes k m n hm h =
-    bit-ext k (bitAnd m n) 0 (lt-of-le-of-lt (and-le-l m n) hm) (omega arith) (λ a p. bit-and m n a ∙ at a p ∙ sym (bit-of-zero a))
-  where
-    at : (a : ℕ) → a < k → min (bit m a) (bit n a) ≡ 0
-    at a p = go (bit m a) (bit n a) refl refl
-      where
-        go : (x y : ℕ) → bit m a ≡ x → bit n a ≡ y → min (bit m a) (bit n a) ≡ 0
-        go zero y e f = omega arith
-        go (suc x) zero e f = omega arith
-        go (suc x) (suc y) e f = let u = bit-le m a in let v = bit-le n a in absurd (h a p (omega arith) (omega arith))
 
 -- m & !n, as the code may write it: m - (m & n)
 step-without : (m n : ℕ) → without m n ≡ without (m / 2) (n / 2) * 2 + (m % 2 - min (m % 2) (n % 2))
@@ -392,22 +375,7 @@ low-lt m n h = le-bits (setOf (take n (offsets m))) m (λ a. low-in m 0 64 n a) 
         let l = and-le-r x y in
         lt-of-le-of-lt (subst (λ (z : ℕ). z ≤ y) e l) g
 
--- what a tenant holds once k addresses are given: its own, and the new ones
-pub granted-size : (held taken busy pool k : ℕ) → held < 2 ^ 64 → pool < 2 ^ 64 → ((a : ℕ) → bit held a ≤ bit taken a)
-    → length (offsets (bitOr held (setOf (chosen k (without held busy) (without pool taken)))))
-    ≡ length (offsets held) + min (k - length (offsets (without held busy))) (length (offsets (without pool taken)))
-granted-size held taken busy pool k hh hp sub =
-    ap (λ (x : ℕ). length (offsets x)) (ap (bitOr held) (chosen-is k (without held busy) (without pool taken)) ∙ same)
-    ∙ size-union held (setOf (take (k - length (offsets (without held busy))) (offsets (without pool taken)))) hh (low-lt (without pool taken) (k - length (offsets (without held busy))) (lt-of-le-of-lt (without-le pool taken) hp)) apart
-    ∙ ap (λ (x : ℕ). length (offsets held) + x) (low-size (without pool taken) (k - length (offsets (without held busy))))
-  where
-    same : bitOr held (bitOr (setOf (take k (offsets (without held busy)))) (setOf (take (k - length (offsets (without held busy))) (offsets (without pool taken)))))
-        ≡ bitOr held (setOf (take (k - length (offsets (without held busy))) (offsets (without pool taken))))
-    same = bit-eq _ _ (λ a. simp bit-or (let u = low-in (without held busy) 0 64 k a in let v = bit-without held busy a in omega arith))
+-- ---- what the functions give, by the offsets of their sets
 
-    apart : bitAnd held (setOf (take (k - length (offsets (without held busy))) (offsets (without pool taken)))) ≡ 0
-    apart = bit-eq _ _ (λ a.
-        bit-and held _ a
-        ∙ (let u = low-in (without pool taken) 0 64 (k - length (offsets (without held busy))) a in let v = bit-without pool taken a in let w = sub a in
-        let x = bit-le held a in let y = bit-le taken a in let z = bit-le pool a in omega arith)
-        ∙ sym (bit-of-zero a))
+unfoldable pub intersectionOf : ℕ → ℕ → ℕ
+intersectionOf m n = setOf (filterBy (λ a. isIn a (offsets n)) (offsets m))

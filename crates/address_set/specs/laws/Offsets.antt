@@ -18,8 +18,8 @@ use Rattle.lists.specs.laws.All.{all-head, all-cons, all-both}
 use Rattle.lists.specs.Filter.{filterBy, isIn}
 use Rattle.lists.specs.laws.Filter.{in-filter}
 use Rattle.address_set.specs.declared.Offsets.{Offsets}
-use Rattle.address_set.specs.AddressSet.{bit, keep, offsetsFrom, offsets, setOf, unionOf, intersectionOf, differenceOf, upTo, readOffsets, withOffset, listed, pushedOffset, risesFrom, rises}
-use Rattle.address_set.specs.laws.Bits.{without, bit-le, bit-or, bit-and, bit-without, bit-of-zero, bit-ext, bit-eq, bit-pow-same, bit-pow-other, offsets-cong, offsets-of-zero, setOf-append, or-assoc, length-offsets, offsets-step, and-not}
+use Rattle.address_set.specs.AddressSet.{bit, keep, offsetsFrom, offsets, setOf, differenceOf, upTo, readOffsets, withOffset, listed, pushedOffset, risesFrom, rises}
+use Rattle.address_set.specs.laws.Bits.{without, bit-le, bit-or, bit-without, bit-of-zero, bit-ext, bit-eq, bit-pow-same, bit-pow-other, offsets-cong, offsets-of-zero, setOf-append, or-assoc, length-offsets, offsets-step, and-not}
 
 -- ---- rising offsets and their set
 
@@ -225,21 +225,6 @@ below-bits n m h = go (ltb m (2 ^ n)) refl (allBy (λ a. ltb a n) (offsets m)) r
     go false e false f = refl
 
 -- ---- bit forms
-pub union-or : (m n : ℕ) → m < 2 ^ 64 → n < 2 ^ 64 → bitOr m n ≡ unionOf m n
-unfolding unionOf
-union-or m n hm hn = sym (setOf-append (offsets m) (offsets n) ∙ ap₂ bitOr (setOf-offsets m hm) (setOf-offsets n hn))
-
-pub intersection-and : (m n : ℕ) → m < 2 ^ 64 → n < 2 ^ 64 → bitAnd m n ≡ intersectionOf m n
-unfolding intersectionOf pick
-intersection-and m n hm hn = bit-eq _ _ (λ a.
-    bit-and m n a ∙ ap₂ min (bit-in m a hm) (bit-in n a hn) ∙ go (isIn a (offsets m)) (isIn a (offsets n))
-    ∙ sym (bit-setOf a (filterBy (λ a. isIn a (offsets n)) (offsets m)) ∙ ap (λ (b : Bool). pick b 1 0) (in-filter a (λ a. isIn a (offsets n)) (offsets m))))
-  where
-    go : (p q : Bool) → min (pick p 1 0) (pick q 1 0) ≡ pick (pick q p false) 1 0
-    go true true = refl
-    go true false = refl
-    go false true = refl
-    go false false = refl
 
 pub difference-without : (m n : ℕ) → m < 2 ^ 64 → n < 2 ^ 64 → without m n ≡ differenceOf m n
 unfolding differenceOf pick

@@ -254,17 +254,8 @@ module _ {m : ℕ} {r : Range} (h : m < 2 ^ 64) (p : 0 < m) (e : r ≡ firstRang
   at : RangeAt m (r .first) (r .count)
   at = subst (λ (x : Range). RangeAt m (x .first) (x .count)) (sym (e ∙ sym (first-some m h p))) (first-range-at m h p)
 
-  pub range-first : r .first < 64
-  range-first = let f = at .fits in let s = at .some in omega arith
-
-  pub range-some : 1 ≤ r .count
-  range-some = at .some
-
   pub range-count : r .count ≤ 64
   range-count = let f = at .fits in omega arith
-
-  pub range-fits : r .first + r .count ≤ 64
-  range-fits = at .fits
 
   -- the first range, and those of the rest
   pub ranges-next : {m′ : ℕ} → m′ ≡ behind m r → fewestRanges (offsets m) ≡ r ∷ fewestRanges (offsets m′)

@@ -32,25 +32,7 @@ use Rattle.allocation.specs.Rule.{takenOf, busyIn, poolOf, nobodysOf, he
 use Rattle.allocation.specs.laws.Loops.{committed-split}
 use Rattle.allocation.specs.laws.Sets.{size, size-or, size-zero, difference-small, difference-in, difference-out, difference-rest, chosen-bit, chosen-count, pool-small, pool-size, in-union}
 
--- ---- the sum of what is held and reserved
--- it grows with the tenant's own number
-pub committed-more : (c : Scope) (n : ℕ) (held : ℕ → ℕ) (h d e : ℕ) → d ≤ e → committedSum c n (withHeld h d held) ≤ committedSum c n (withHeld h e held)
-unfolding committed withHeld pick
-committed-more c n held h d e p = sum-less _ _ n (λ g q. go g (eqb g h))
-  where
-    go : (g : ℕ) (b : Bool) → max (pick b d (held g)) (reserveAt c g) ≤ max (pick b e (held g)) (reserveAt c g)
-    go g true = omega arith
-    go g false = omega arith
-
 -- ---- allowed numbers are closed downwards
-pub allowed-down : (c : Scope) (n : ℕ) (t : List (List Lease)) (a : Ask) (j k : ℕ) → j ≤ k → allowed c n t a k ≡ true → allowed c n t a j ≡ true
-unfolding allowed
-allowed-down c n t a j k h e =
-    let p = and-parts (leb (heldAfter t a k) (limitAt c (a .tenant))) (leb (committedSum c n (withHeld (a .tenant) (heldAfter t a k) (heldAt t (a .scope)))) (c .size)) e in
-    let u = leb-true (heldAfter t a k) (limitAt c (a .tenant)) (p .0) in
-    let w = leb-true (committedSum c n (withHeld (a .tenant) (heldAfter t a k) (heldAt t (a .scope)))) (c .size) (p .1) in
-    let m = committed-more c n (heldAt t (a .scope)) (a .tenant) (heldAfter t a j) (heldAfter t a k) (omega arith) in
-    and-both (le-leb (heldAfter t a j) (limitAt c (a .tenant)) (omega arith)) (le-leb (committedSum c n (withHeld (a .tenant) (heldAfter t a j) (heldAt t (a .scope)))) (c .size) (le-trans m w))
 
 -- an allowed number up to the desired one is no more than the grant
 pub largest-least : (p : ℕ → Bool) (n k : ℕ) → k ≤ n → p k ≡ true → k ≤ largest p n
@@ -63,22 +45,9 @@ largest-least p (suc n) k h e = go (p (suc n)) refl (eqb k (suc n)) refl (λ g. 
     go false u true w ih = let z : true ≡ false = sym e ∙ ap p (eqb-true k (suc n) w) ∙ u in let y : _≡_ {A = ℕ} 0 1 = cc in absurd (omega arith)
     go false u false w ih = let z = eqb-false k (suc n) w in ih (omega arith)
 
-pub largest-most : (p : ℕ → Bool) (n : ℕ) → largest p n ≤ n
-unfolding largest pick
-largest-most p zero = omega arith
-largest-most p (suc n) = go (p (suc n)) (largest-most p n)
-  where
-    go : (b : Bool) → largest p n ≤ n → pick b (suc n) (largest p n) ≤ suc n
-    go true ih = omega arith
-    go false ih = omega arith
-
 pub granted-least : (c : Scope) (n : ℕ) (t : List (List Lease)) (a : Ask) (k : ℕ) → k ≤ a .desired → allowed c n t a k ≡ true → k ≤ grantOf c n t a .number
 unfolding grantOf
 granted-least c n t a k h e = largest-least (allowed c n t a) (a .desired) k h e
-
-pub granted-most : (c : Scope) (n : ℕ) (t : List (List Lease)) (a : Ask) → grantOf c n t a .number ≤ a .desired
-unfolding grantOf
-granted-most c n t a = largest-most (allowed c n t a) (a .desired)
 
 -- ---- what a sound book says of a scope
 module _ (s : State) (t : List (List Lease)) (v : Sound s t) (k : ℕ) (here : k < scopesIn s) where

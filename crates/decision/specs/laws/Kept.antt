@@ -13,7 +13,6 @@ use Rattle.lists.specs.Pick.{pick}
 use Rattle.lists.specs.All.{allBy}
 use Rattle.lists.specs.laws.All.{all-head, all-cons}
 use Rattle.lists.specs.laws.Both.{and-parts, and-both}
-use Rattle.lists.specs.Filter.{filterBy}
 use Rattle.lists.specs.Place.{placeBy}
 use Rattle.lists.specs.laws.Each.{map-set}
 use Rattle.identifier.specs.Order.{sameOf}
@@ -60,19 +59,6 @@ at-all : {A : Type 0} (t : A → Bool) (d : A) (l : List A) (i : ℕ) → i < le
 at-all t d [] i h p = absurd (omega arith)
 at-all t d (x ∷ l) zero h p = all-head t x l p .0
 at-all t d (x ∷ l) (suc i) h p = at-all t d l i (omega arith) (all-head t x l p .1)
-
--- what holds of those that pass a test
-of-filter : (u w : Lease → Bool) (x : List Lease) → allBy w (filterBy u x) ≡ true → allBy (λ y. pick (u y) (w y) true) x ≡ true
-unfolding filterBy pick allBy
-of-filter u w [] h = refl
-of-filter u w (y ∷ x) h = go (u y) refl h (of-filter u w x)
-  where
-    go : (b : Bool) → u y ≡ b → allBy w (pick b (y ∷ filterBy u x) (filterBy u x)) ≡ true → (allBy w (filterBy u x) ≡ true → allBy (λ y. pick (u y) (w y) true) x ≡ true)
-        → allBy (λ y. pick (u y) (w y) true) (y ∷ x) ≡ true
-    go true e h ih =
-        let p = all-head w y (filterBy u x) h in
-        all-cons (λ y. pick (u y) (w y) true) y x (ap (λ (b : Bool). pick b (w y) true) e ∙ p .0) (ih (p .1))
-    go false e h ih = all-cons (λ y. pick (u y) (w y) true) y x (ap (λ (b : Bool). pick b (w y) true) e) (ih h)
 
 -- ---- a lease's rules
 module _ (s : State) (l : Lease) (e : leaseOk s l ≡ true) where
@@ -178,9 +164,6 @@ module _ (s : State) (b : LeaseTable) (h : ℕ) (there : h < length (b .tenants)
 -- ---- REQUEST: a grant is recorded
 module _ (s : State) (b : LeaseTable) (h : ℕ) (m : Fields) (v : Sound s (leasesOf b)) (known : h < tenantsIn s) (there : h < length (b .tenants)) (good : GoodId m)
     (kind : m .kind ≡ 3) (ok : Passed s m (holdsOf (ownOf b h) m)) (e : error0Of s (newOf s b h m) ≡ false) where
-  abbrev K : ℕ
-  K = scopePlace s (m .scope .value)
-
   abbrev A : Ask
   A = askAt s h m (scopePlace s (m .scope .value))
 

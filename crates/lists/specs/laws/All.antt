@@ -27,17 +27,9 @@ all-start {t = t} {l = l} {n = n} x k e g = record {
   whole = ap (λ (z : ℕ). allBy t (take z l)) e ∙ ap (allBy t) (cut-take k x l g);
 }
 
--- the whole array
-pub all-whole : {A : Type 0} {t : A → Bool} {d : A} {l : List A} {n : ℕ} → length l ≡ n → AllInv t d l n (allBy t l) 0
-all-whole {t = t} {l = l} {n = n} e = record { within = omega arith; long = omega arith; whole = ap (allBy t) (take-all n l (omega arith)) }
-
 -- from an index on, to the end of the array
 pub all-rest : {A : Type 0} {t : A → Bool} {d : A} {l : List A} {n i : ℕ} → i ≤ n → length l ≡ n → AllInv t d l n (allBy t (drop i l)) i
 all-rest {t = t} {l = l} {n = n} {i = i} h e = record { within = h; long = omega arith; whole = ap (λ (y : List _). allBy t (drop i y)) (take-all n l (omega arith)) }
-
--- from an index on, to n
-pub all-later : {A : Type 0} {t : A → Bool} {d : A} {l : List A} {n i : ℕ} (k : ℕ) → i ≤ n → n ≤ k → length l ≡ k → AllInv t d l n (allBy t (drop i (take n l))) i
-all-later k h g e = record { within = h; long = omega arith; whole = refl }
 
 module _ {A : Type 0} {t : A → Bool} {d : A} {l : List A} {n : ℕ} {w : Bool} {i : ℕ} (v : AllInv t d l n w i) where
   all-here : i < n → pick (t (getD l i d)) (allBy t (drop (i + 1) (take n l))) false ≡ w
@@ -61,45 +53,6 @@ module _ {A : Type 0} {t : A → Bool} {d : A} {l : List A} {n : ℕ} {w : Bool}
   all-end h = sym (ap (allBy t) (part-ended l n i (v .long) h)) ∙ v .whole
 
 pub ruleset alls = (all-broken, all-next, all-end, unmapped, not-true, not-false)
-
--- ---- pairs
-pub record PairsInv {A : Type 0} (t : A → A → Bool) (d : A) (l : List A) (n : ℕ) (w : Bool) (i : ℕ) : Type 0 where
-  pub within : i ≤ n
-  pub long : n ≤ length l
-  pub whole : pairsBy t (drop i (take n l)) ≡ w
-
-pub pairs-start : {A : Type 0} {t : A → A → Bool} {d : A} {l : List A} {n : ℕ} (x k : ℕ) → n ≡ min x k → length l ≡ k → PairsInv t d l n (pairsBy t (take x l)) 0
-pairs-start {t = t} {l = l} {n = n} x k e g = record {
-  within = omega arith;
-  long = omega arith;
-  whole = ap (λ (z : ℕ). pairsBy t (take z l)) e ∙ ap (pairsBy t) (cut-take k x l g);
-}
-
-pub pairs-whole : {A : Type 0} {t : A → A → Bool} {d : A} {l : List A} {n : ℕ} → length l ≡ n → PairsInv t d l n (pairsBy t l) 0
-pairs-whole {t = t} {l = l} {n = n} e = record { within = omega arith; long = omega arith; whole = ap (pairsBy t) (take-all n l (omega arith)) }
-
-module _ {A : Type 0} {t : A → A → Bool} {d : A} {l : List A} {n : ℕ} {w : Bool} {i : ℕ} (v : PairsInv t d l n w i) where
-  pairs-here : i < n → pick (allBy (t (getD l i d)) (drop (i + 1) (take n l))) (pairsBy t (drop (i + 1) (take n l))) false ≡ w
-  unfolding pairsBy
-  pairs-here h = sym (ap (pairsBy t) (part-head d l n i (v .long) h)) ∙ v .whole
-
-  pub pairs-broken : {q : Bool} → i < n → q ≡ allBy (t (getD l i d)) (drop (i + 1) (take n l)) → q ≡ false → false ≡ w
-  unfolding pick
-  pairs-broken h e y = ap (λ (b : Bool). pick b (pairsBy t (drop (i + 1) (take n l))) false) (sym y ∙ e) ∙ pairs-here h
-
-  pub pairs-next : {q : Bool} → i < n → q ≡ allBy (t (getD l i d)) (drop (i + 1) (take n l)) → q ≡ true → PairsInv t d l n w (i + 1)
-  unfolding pick
-  pairs-next h e y = record {
-    within = omega arith;
-    long = v .long;
-    whole = ap (λ (b : Bool). pick b (pairsBy t (drop (i + 1) (take n l))) false) (sym y ∙ e) ∙ pairs-here h;
-  }
-
-  pub pairs-end : n ≤ i → true ≡ w
-  unfolding pairsBy
-  pairs-end h = sym (ap (pairsBy t) (part-ended l n i (v .long) h)) ∙ v .whole
-
-pub ruleset pairs = (pairs-broken, pairs-next, pairs-end, unmapped, not-true, not-false)
 
 -- ---- every number below n
 

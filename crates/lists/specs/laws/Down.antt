@@ -1,40 +1,12 @@
 -- Laws: of the largest number that passes a test.
-use mathlib.Core.Path.{_≡_, refl, sym, ap, ap₂, _∙_}
+use mathlib.Core.Path.{_≡_, refl, ap, ap₂, _∙_}
 use mathlib.Core.Bool.{Bool, true, false}
-use Prim.Native.Nat.{ℕ, zero, suc, _-_, _≤_, _<_, min}
+use Prim.Native.Nat.{ℕ, zero, suc, _≤_, _<_, min}
 use native.Mathlib.Omega.{arith}
 use lib.Dec.{leb}
 use borrow.Author.Tests.{leb-true, leb-false}
 use Rattle.lists.specs.Pick.{pick}
 use Rattle.lists.specs.Down.{largest}
-
-pub record DownInv (p : ℕ → Bool) (n k : ℕ) : Type 0 where
-  pub within : k ≤ n
-  pub whole : largest p k ≡ largest p n
-
-pub down-start : {p : ℕ → Bool} {n : ℕ} → DownInv p n n
-down-start = record { within = omega arith; whole = refl }
-
-step : (p : ℕ → Bool) (k : ℕ) → 0 < k → largest p k ≡ pick (p k) k (largest p (k - 1))
-unfolding largest
-step p zero h = absurd (omega arith)
-step p (suc k) h = ap (λ (x : ℕ). pick (p (suc k)) (suc k) (largest p x)) (let e : k ≡ suc k - 1 = omega arith in e)
-
-module _ {p : ℕ → Bool} {n k : ℕ} (v : DownInv p n k) where
-  pub down-found : {r : Bool} → 0 < k → r ≡ p k → r ≡ true → k ≡ largest p n
-  unfolding pick
-  down-found h e t = sym (sym (v .whole) ∙ step p k h ∙ ap (λ (b : Bool). pick b k (largest p (k - 1))) (sym e ∙ t))
-
-  pub down-next : {r : Bool} → 0 < k → r ≡ p k → r ≡ false → DownInv p n (k - 1)
-  unfolding pick
-  down-next h e t = record {
-    within = omega arith;
-    whole = sym (sym (v .whole) ∙ step p k h ∙ ap (λ (b : Bool). pick b k (largest p (k - 1))) (sym e ∙ t));
-  }
-
-  pub down-end : k ≤ 0 → 0 ≡ largest p n
-  unfolding largest
-  down-end h = sym (ap (largest p) (let e : k ≡ 0 = omega arith in e)) ∙ v .whole
 
 -- it passes the test, and none above it does
 pub largest-passes : (p : ℕ → Bool) (n : ℕ) → 0 < largest p n → p (largest p n) ≡ true
@@ -45,8 +17,6 @@ largest-passes p (suc n) h = go (p (suc n)) refl (largest-passes p n) h
     go : (b : Bool) → p (suc n) ≡ b → (0 < largest p n → p (largest p n) ≡ true) → 0 < pick b (suc n) (largest p n) → p (pick b (suc n) (largest p n)) ≡ true
     go true e ih h = e
     go false e ih h = ih h
-
-pub ruleset downs = (down-start, down-found, down-next, down-end)
 
 -- where the numbers up to m pass and no other does
 pub largest-closed : (p : ℕ → Bool) (m n : ℕ) → ((k : ℕ) → k ≤ m → p k ≡ true) → ((k : ℕ) → m < k → p k ≡ false) → largest p n ≡ min n m

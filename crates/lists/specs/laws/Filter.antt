@@ -69,13 +69,6 @@ filter-length {A} t (x ∷ l) = go (t x) (filter-length t l)
     go true ih = omega arith
     go false ih = omega arith
 
--- the same test, the same elements
-pub filter-same : {A : Type 0} (t u : A → Bool) (l : List A) → ((x : A) → t x ≡ u x) → filterBy t l ≡ filterBy u l
-unfolding filterBy
-filter-same t u [] h = refl
-filter-same {A} t u (x ∷ l) h =
-    ap (λ (b : Bool). pick b (x ∷ filterBy t l) (filterBy t l)) (h x) ∙ ap (λ (r : List A). pick (u x) (x ∷ r) r) (filter-same t u l h)
-
 -- ---- laws of membership
 -- a number is among those that pass where it is in the list and passes
 pub in-filter : (a : ℕ) (t : ℕ → Bool) (l : List ℕ) → isIn a (filterBy t l) ≡ pick (t a) (isIn a l) false

@@ -1,6 +1,6 @@
 -- Laws: one for every loop that goes through an array from the front and gathers a value.
-use mathlib.Core.Path.{_≡_, refl, sym, ap, _∙_}
-use mathlib.Core.List.{List, [], _∷_, map}
+use mathlib.Core.Path.{_≡_, sym, ap, _∙_}
+use mathlib.Core.List.{List}
 use Prim.Native.Nat.{ℕ, _+_, _≤_, _<_}
 use native.Mathlib.Omega.{arith}
 use native.Mathlib.Numerals.{add-one}
@@ -41,8 +41,3 @@ module _ {A B : Type 0} {f : B → A → B} {d : A} {l : List A} {n : ℕ} {w ac
   fold-end h = sym (ap (fold f acc) (drop-of-length-le l {i = i} (omega (arith, v .long)))) ∙ v .whole
 
 pub ruleset folds = (fold-start, fold-start-from, fold-start-at, fold-next, fold-end)
-
--- over a list that is read through g
-pub fold-map : {A B C : Type 0} (f : B → A → B) (g : C → A) (b : B) (l : List C) → fold (λ (x : B) (y : C). f x (g y)) b l ≡ fold f b (map g l)
-fold-map f g b [] = refl
-fold-map f g b (x ∷ l) = fold-map f g (f b (g x)) l

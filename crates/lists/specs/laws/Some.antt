@@ -1,10 +1,10 @@
 -- Laws: some of the elements, in whichever order: what a drop, a removal or a file's first entries leave. Rules that hold of all hold of these.
-use mathlib.Core.Path.{_≡_, refl, sym, _∙_, subst}
+use mathlib.Core.Path.{_≡_, refl, sym, _∙_}
 use mathlib.Core.Bool.{Bool, true, not}
-use mathlib.Core.List.{List, [], _∷_, _++_, Permᴰ·refl, Permᴰ·symm}
-use Prim.Native.Nat.{ℕ, _≤_}
+use mathlib.Core.List.{List, [], _∷_, _++_, Permᴰ·symm}
+use Prim.Native.Nat.{_≤_}
 use native.Mathlib.Omega.{arith}
-use lib.ListN.{length, take, drop, length-append, take-append-drop}
+use lib.ListN.{length, length-append}
 use Rattle.lists.specs.All.{allBy, pairsBy}
 use Rattle.lists.specs.laws.All.{all-head, all-cons, pairs-head, pairs-cons}
 use Rattle.lists.specs.Filter.{filterBy}
@@ -37,6 +37,3 @@ part-length x y (z, d) = let e = reordered-length d in let f = length-append y z
 -- a filter's, the first n, and what was there before an insertion
 pub filter-part : {A : Type 0} (t : A → Bool) (l : List A) → Part l (filterBy t l)
 filter-part t l = (filterBy (λ y. not (t y)) l, Permᴰ·symm (split-reordered t l))
-
-pub take-part : {A : Type 0} (n : ℕ) (l : List A) → Part l (take n l)
-take-part {A} n l = (drop n l, subst (λ (x : List A). Reordered l x) (sym (take-append-drop n l)) (Permᴰ·refl l))

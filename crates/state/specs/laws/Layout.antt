@@ -72,9 +72,6 @@ filter-both t (l ∷ ls) = go (t l) (filter-both t ls)
     go true h = omega arith
     go false h = omega arith
 
-pub in-use-length : (t : TenantLeases) → length (t .leases) ≡ 16 → length (inUse t) ≤ 16
-in-use-length t e = omega (arith, length-take (t .count) (t .leases))
-
 pub filter-is : (t : Lease → Bool) (x : ℕ) (l : List Lease) → length l ≡ 16 → fold (keptIf t) (laidOut []) (take x l) ≡ laidOut (filterBy t (take x l))
 filter-is t x l h = filter-fold t (take x l) [] (let a = filter-length t (take x l) in omega (arith, length-take x l))
 
@@ -121,9 +118,6 @@ insert-is ls l a b c r h ea eb ec er =
     er ∙ ap (λ (x : TenantLeases). fold (keptIf (notBefore l)) x ls) fc
     ∙ filter-fold (notBefore l) ls (filterBy t ls ++ l ∷ []) (omega arith)
     ∙ ap laidOut (append-assoc (filterBy t ls) (l ∷ []) (filterBy (notBefore l) ls))
-
-pub in-use-short : (t : TenantLeases) → t .count < 16 → length (inUse t) < 16
-in-use-short t h = omega (arith, length-take (t .count) (t .leases))
 
 pub empty-is : (l : Lease) → l ≡ zeroLease → _≡_ {A = TenantLeases} (record { leases = replicate 16 l; count = 0 }) (laidOut [])
 unfolding laidOut

@@ -1,7 +1,7 @@
 -- Laws: of the address sets of lists of leases.
 use mathlib.Core.Path.{_≡_, refl, sym, ap, _∙_}
 use mathlib.Core.List.{List, [], _∷_, _++_, map}
-use mathlib.Core.Bool.{Bool, true, false, not, _&&_}
+use mathlib.Core.Bool.{Bool, true, false, _&&_}
 use Prim.Native.Nat.{ℕ}
 use lib.ListN.{length}
 use Rattle.address_set.specs.AddressSet.{offsets}
@@ -57,27 +57,6 @@ module _ (t : Lease → Bool) where
 
   swap : (a b c : ℕ) → bitOr a (bitOr b c) ≡ bitOr b (bitOr a c)
   swap a b c = sym (or-assoc a b c) ∙ ap (λ (z : ℕ). bitOr z c) (or-comm a b) ∙ or-assoc b a c
-
-  -- a filter and its complement have the whole set
-  pub addresses-split : (u : Lease → Bool) (ls : List Lease) → bitOr (addressesOf t (filterBy u ls)) (addressesOf t (filterBy (λ l. not (u l)) ls)) ≡ addressesOf t ls
-  unfolding filterBy pick addressesOf unionAll
-  addresses-split u [] = or-zero-l 0
-  addresses-split u (l ∷ ls) = go (u l) (addresses-split u ls)
-    where
-      F : List Lease
-      F = filterBy u ls
-
-      G : List Lease
-      G = filterBy (λ l. not (u l)) ls
-
-      go : (b : Bool) → bitOr (addressesOf t F) (addressesOf t G) ≡ addressesOf t ls
-          → bitOr (addressesOf t (pick b (l ∷ F) F)) (addressesOf t (pick (not b) (l ∷ G) G)) ≡ addressesOf t (l ∷ ls)
-      go true ih =
-          ap (λ (z : ℕ). bitOr z (addressesOf t G)) (addresses-cons l F)
-          ∙ or-assoc (adds t l) (addressesOf t F) (addressesOf t G) ∙ ap (bitOr (adds t l)) ih ∙ sym (addresses-cons l ls)
-      go false ih =
-          ap (bitOr (addressesOf t F)) (addresses-cons l G)
-          ∙ swap (addressesOf t F) (adds t l) (addressesOf t G) ∙ ap (bitOr (adds t l)) ih ∙ sym (addresses-cons l ls)
 
   -- the order of leases is nothing to their addresses
   gathered : (ls : List Lease) → addressesOf t ls ≡ gather (λ l n. bitOr (adds t l) n) 0 ls

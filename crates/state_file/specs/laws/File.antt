@@ -1,7 +1,7 @@
 -- Laws: the state file's format is lawful: a file that is read is the one that would be written, and what is written is read again.
 use mathlib.Core.Bool.{Bool, false, true}
 use mathlib.Core.List.{List, []}
-use mathlib.Core.Path.{_∙_, _≡_, ap, refl, sym}
+use mathlib.Core.Path.{_∙_, _≡_, ap, refl}
 use Prim.Native.Nat.{_≤_, ℕ}
 use native.Mathlib.Omega.{arith}
 use lib.Dec.{leb}
@@ -51,7 +51,3 @@ file-reads s f o e = go (leb (length s) longestFile) refl e
 pub file-written : (f : File) → fileFormat .ok f → length (fileFormat .write f) ≤ longestFile → fileOf (fileFormat .write f) ≡ got f []
 unfolding fileOf pick
 file-written f h l = ap (λ (b : Bool). pick b (closed (fileFormat .read (fileFormat .write f))) bad) (le-leb _ _ l) ∙ whole-written file-lawful f h
-
--- so a file has one form only
-pub file-once : (s t : List ℕ) (f : File) → Octets s → Octets t → fileOf s ≡ got f [] → fileOf t ≡ got f [] → s ≡ t
-file-once s t f o o′ e e′ = file-reads s f o e .1 ∙ sym (file-reads t f o′ e′ .1)

@@ -2,9 +2,8 @@
 use mathlib.Core.Bool.{true}
 use mathlib.Core.List.{List, [], _++_, _∷_}
 use mathlib.Core.Path.{_∙_, _≡_, ap, ap₂, refl, sym}
-use Prim.Native.Nat.{_+_, _-_, _<_, _^_, _≤_, ℕ}
-use native.Mathlib.Omega.{arith}
-use lib.ListN.{drop, length, length-append, length-replicate, replicate, take, take-append-drop}
+use Prim.Native.Nat.{_-_, _<_, _^_, _≤_, ℕ}
+use lib.ListN.{drop, length, replicate, take, take-append-drop}
 use lib.Seq.{take-append-seam}
 use borrow.Author.Tests.{lt-ltb, ltb-true}
 use Rattle.address_set.specs.AddressSet.{offsets, readOffsets, rises, setOf}
@@ -20,10 +19,6 @@ use Rattle.state_file.specs.Records.{filedLease, filled, isOffset, store
 pub filled-take : {A : Type 0} (z : A) (n : ℕ) (l : List A) → take (length l) (filled z n l) ≡ l
 unfolding filled
 filled-take z n l = take-append-seam l _
-
-pub filled-length : {A : Type 0} (z : A) (n : ℕ) (l : List A) → length l ≤ n → length (filled z n l) ≡ n
-unfolding filled
-filled-length z n l h = length-append l _ ∙ ap (λ (k : ℕ). length l + k) (length-replicate (n - length l) z) ∙ (let e : length l + (n - length l) ≡ n = omega arith in e)
 
 -- an array with only z past k is the filled list of its first k
 pub filled-back : {A : Type 0} (z : A) (n k : ℕ) (a : List A) → length (take k a) ≡ k → drop k a ≡ replicate (n - k) z → filled z n (take k a) ≡ a

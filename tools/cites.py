@@ -17,8 +17,7 @@ class Cites:
         for f in tree.files.values():
             for b in f.all():
                 self.owner[id(b)] = f
-        self.tables = {}
-        self.cited_by_code = None
+        self.tables, self.operators = {}, {}
 
     def table(self, f):
         """name -> (file, block), and alias -> module, for what the names of a file mean."""
@@ -53,15 +52,18 @@ class Cites:
             for n, b in f.declared().items():
                 names[n] = (f, b)
         self.tables[f.path] = names, aliases
+        self.operators[f.path] = [n for n in names if '_' in n and not n.startswith('«')]
         return names, aliases
 
     def of(self, f, cited):
         """The blocks that a text of file f cites."""
         names, aliases = self.table(f)
         out = {}
-        for n, (m, b) in names.items():
-            if cited.has(n) or n in cited.heads:
-                out[id(b)] = (m, b, n)
+        hits = names.keys() & cited.plain
+        hits |= {n for n in self.operators[f.path] if cited.has(n)}
+        for n in hits:
+            m, b = names[n]
+            out[id(b)] = (m, b, n)
         for p in cited.paths:
             t = aliases.get(p[0])
             if t:

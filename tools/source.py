@@ -9,7 +9,6 @@ import re
 
 RESERVED = set('data record deriving module where use mod pub package using open as unfoldable abbrev axiom unfold unfolding ruleset mutual '
                'infix infixl infixr elim let in do λ ∀ Type'.split())
-STOP = set(' \t\n(){}.;,@"«»')
 
 
 def tool(name):
@@ -33,60 +32,38 @@ class Token:
         return self.text
 
 
-def tokens(text, line=1, comment='--'):
+LEXEME = re.compile(r'''(?P<skip>--[^\n]*|\{-.*?-\}|"(?:\\.|[^"\\])*")|(?P<name>«[^»]*»?|[^ \t\n(){}.;,@"«»]+)|(?P<mark>[.{;\n])|(?P<other>[^\S\n]+|.)''', re.S)
+LABEL = re.compile(r'\s*=(\s|$)')
+
+
+def tokens(text, line=1):
     """The names of an antt text, without comments and quoted texts."""
-    out, i, n = [], 0, len(text)
-    dotted = joined = False
-    opened = None                     # the last opening brace or semicolon, if nothing stood between
-    while i < n:
-        c = text[i]
-        if c == '\n':
-            line += 1
-            i += 1
-            dotted = False
-        elif text.startswith(comment, i) and (i == 0 or text[i - 1] in STOP):
-            while i < n and text[i] != '\n':
-                i += 1
-        elif text.startswith('{-', i):
-            end = text.find('-}', i)
-            end = n if end < 0 else end + 2
-            line += text.count('\n', i, end)
-            i = end
-        elif c == '"':
-            j = i + 1
-            while j < n and text[j] != '"':
-                j += 2 if text[j] == '\\' else 1
-            i = j + 1
-        elif c == '.':
-            before = text[i - 1] if i else ' '
-            dotted = i + 1 < n and text[i + 1] not in ' \t\n'
-            joined = dotted and before not in ' \t\n(){},;@'
-            if joined and out:
-                out[-1].leads = True
-            i += 1
-        elif c == '«' or c not in STOP:
-            if c == '«':
-                j = text.find('»', i)
-                j = n if j < 0 else j + 1
-            else:
-                j = i
-                while j < n and text[j] not in STOP:
-                    j += 1
-            t = Token(text[i:j], line, dotted, joined)
-            if opened and re.match(r'\s*=(\s|$)', text[j:j + 400]):
+    out = []
+    dotted = joined = opened = False                  # opened: a brace or semicolon stands before, and nothing between
+    for m in LEXEME.finditer(text):
+        kind, s = m.lastgroup, m.group()
+        if kind == 'name':
+            t = Token(s, line, dotted, joined)
+            if opened and LABEL.match(text, m.end()):
                 t.label = True
             out.append(t)
-            dotted = joined = False
-            opened = None
-            i = j
-        else:
-            if c in '{;':
-                opened = c
-            elif c not in ' \t':
-                opened = None
-            if c not in ' \t':
-                dotted = False
-            i += 1
+            dotted = joined = opened = False
+        elif kind == 'skip':
+            line += s.count('\n')
+        elif s == '\n':
+            line += 1
+            dotted = False
+        elif s == '.':
+            before, after = text[m.start() - 1:m.start()], text[m.end():m.end() + 1]
+            dotted = after not in ('', ' ', '\t', '\n')
+            joined = dotted and before not in ('', ' ', '\t', '\n', '(', ')', '{', '}', ',', ';', '@')
+            if joined and out:
+                out[-1].leads = True
+            opened = False
+        elif kind == 'mark':
+            opened, dotted = True, False
+        elif not s.isspace():
+            opened = dotted = False
     return out
 
 

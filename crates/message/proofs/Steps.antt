@@ -21,6 +21,7 @@ use Rattle.lists.specs.laws.Copy.{CopyInv, copy-end}
 use Rattle.message.specs.Walk.{codeAt, lengthAt, afterAt, layoutOk, valueOk, pastList, exactlyFilled, optionTaken, stepOf, onward, walkFrom, walkOf, start}
 use Rattle.message.specs.laws.Placed.{layout-fits, Onto, step-onto, none-good, walk-good, placed, header-long, header-short}
 use Rattle.message.specs.Placed.{pastWithin, fourOctets, Placed, GoodPlaces}
+use Rattle.message.specs.declared.codes.MessageType.{MessageType}
 use Rattle.message.specs.declared.Walk.{Walk}
 use Rattle.message.specs.declared.Stage.{Stage}
 use Rattle.message.specs.declared.Stage.the-variants.{Walking, Done, Broken}
@@ -490,16 +491,16 @@ eight-header s b e t = let h = long-header s b e t in omega arith
 pub walked-of : (s : List ℕ) (w : Walk) (r : Reading) → r ≡ walked s w → w ≡ walkOf s → r ≡ walked s (walkOf s)
 walked-of s w r p e = p ∙ ap (walked s) e
 
-pub message-is : (s places : List ℕ) (k x : ℕ) → k ≡ getD s 1 0 → x ≡ at32 s 4
-    → _≡_ {A = Reading} (record { discard = 0; fault = 0; message = record { kind = record { number = k }; xid = x; places = places } }) (record { discard = 0; fault = 0; message = messageOf s places })
+pub message-is : (s places : List ℕ) (k : MessageType) (x : ℕ) → k .number ≡ getD s 1 0 → x ≡ at32 s 4
+    → _≡_ {A = Reading} (record { discard = 0; fault = 0; message = record { kind = k; xid = x; places = places } }) (record { discard = 0; fault = 0; message = messageOf s places })
 message-is s places k x p e = ap₂ (λ (j y : ℕ). made j y) p e
   where
     made : ℕ → ℕ → Reading
     made j y = record { discard = 0; fault = 0; message = record { kind = record { number = j }; xid = y; places = places } }
 
 -- a value by its constructor: its number is the one that was given
-pub discarded-is : (number fault k : ℕ) → k ≡ 0
-    → _≡_ {A = Reading} (record { discard = number; fault = fault; message = record { kind = record { number = k }; xid = 0; places = replicate 17 0 } }) (noMessage number fault)
+pub discarded-is : (number fault : ℕ) (k : MessageType) → k .number ≡ 0
+    → _≡_ {A = Reading} (record { discard = number; fault = fault; message = record { kind = k; xid = 0; places = replicate 17 0 } }) (noMessage number fault)
 discarded-is number fault k e = ap (λ (j : ℕ). made j) e
   where
     made : ℕ → Reading
@@ -508,8 +509,8 @@ discarded-is number fault k e = ap (λ (j : ℕ). made j) e
 pub client-got : {b : Bool} {k : ℕ} (x : ℕ) → b ≡ isIn k clientTypes → k ≡ x → b ≡ isIn x clientTypes
 client-got x p e = p ∙ ap (λ (k : ℕ). isIn k clientTypes) e
 
-pub allows-got : {b : Bool} {k c : ℕ} (x : ℕ) → b ≡ allows k c → c ≡ x → b ≡ allows k x
-allows-got {k = k} x p e = p ∙ ap (allows k) e
+pub allows-got : {b : Bool} {c : ℕ} (k x : ℕ) → b ≡ allows k c → c ≡ x → b ≡ allows k x
+allows-got k x p e = p ∙ ap (allows k) e
 
 -- ---- the values
 

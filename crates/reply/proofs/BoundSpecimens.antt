@@ -1,9 +1,8 @@
--- Specimens: the longest replies, and replies read back, computed: how many octets each kind has at most, where the reader's walk finds each option, and that
--- octets past a reply are left.
+-- Specimens: how many octets the longest reply of each kind has, where the reader's walk finds each option of an ACK, and which addresses it names.
 use mathlib.Core.Path.{_≡_, refl}
-use mathlib.Core.List.{[], _∷_}
-use mathlib.Core.Bool.{true}
-use Prim.Native.Nat.{ℕ}
+use mathlib.Core.List.{List, [], _∷_, _++_}
+use mathlib.Core.Bool.{Bool, true, false}
+use Prim.Native.Nat.{ℕ, suc}
 use lib.ListN.{length, replicate}
 use Rattle.lists.specs.Pick.{pick}
 use Rattle.lists.specs.Filter.{isIn}
@@ -31,12 +30,12 @@ terms addresses = record { length = 3600; start = 1000; scope = 0xEFC00000; addr
 info : Info
 info = record { scopes = replicate 4 (record { lowest = 0xEFC00000; size = 64; ttl = 15 }); count = 4; «list_asked» = true; clock = 1000; «time_asked» = true }
 
--- 488 is the most that any reply has (Short.antt): "reply room at least 512"
-longest-offer : length (offerOf head (terms 0x5555555555555555)) ≡ 488
+-- the most octets that each kind of reply has: Short.antt bounds them by 488, within "reply room at least 512"
+longest-offer : length (offerOf head (terms 0x5555555555555555)) ≡ 296
 unfolding head terms bit offsetsFrom joined fewestRanges rangesOctets optionsOctets messageOctets offerOf
 longest-offer = refl
 
-longest-ack : length (leaseAckOf head (terms 0x5555555555555555)) ≡ 488
+longest-ack : length (leaseAckOf head (terms 0x5555555555555555)) ≡ 296
 unfolding head terms bit offsetsFrom joined fewestRanges rangesOctets optionsOctets messageOctets leaseAckOf
 longest-ack = refl
 
@@ -54,7 +53,7 @@ longest-nak = refl
 
 -- ---- read back: the walk ends at End, and each option stands where it was written; the addresses are those that were granted
 ack-walked : walkOf (leaseAckOf head (terms 11))
-    ≡ record { at = 122; stage = Done; places = 0 ∷ 8 ∷ 16 ∷ 26 ∷ 62 ∷ 0 ∷ 70 ∷ 0 ∷ 0 ∷ 0 ∷ 78 ∷ 94 ∷ 102 ∷ 0 ∷ 0 ∷ 0 ∷ 0 ∷ [] }
+    ≡ record { at = 112; stage = Done; places = 0 ∷ 8 ∷ 16 ∷ 26 ∷ 62 ∷ 0 ∷ 70 ∷ 0 ∷ 0 ∷ 0 ∷ 78 ∷ 94 ∷ 102 ∷ 0 ∷ 0 ∷ 0 ∷ 0 ∷ [] }
 unfolding head terms bit offsetsFrom joined fewestRanges rangesOctets optionsOctets messageOctets leaseAckOf walkOf walkFrom stepOf layoutOk valueOk exactlyFilled optionTaken lengthOk isIn pick at16
 ack-walked = refl
 

@@ -96,7 +96,7 @@ read-number s = pick-cases P (headerOk s) _ _ (λ _. at-stage (walkOf s .stage))
     P : Reading → Type 0
     P r = Numbered (r .discard)
 
-    at-stage : (g : Stage) → P (byStage g (ended s (walkOf s .places)) (read.discarded 5 (walkOf s .at)))
+    at-stage : (g : Stage) → P (byStage g (ended s (walkOf s .places)) (read.noMessage 5 (walkOf s .at)))
     at-stage Walking = λ n. (omega arith, omega arith)
     at-stage Done =
         pick-cases P (eqb (getD (walkOf s .places) 3 0) 0) _ _ (λ _. λ n. (omega arith, omega arith)) (λ _.

@@ -35,13 +35,13 @@ place-none {A} t (x ∷ l) h = go (t x) refl h (place-none t l)
     go false e h ih = all-cons (λ x. not (t x)) x l (ap not e) (ih (omega arith))
 
 -- so where the tenant of a sound book does not hold the identifier, its leases but for the new one stay
-pub others-stay : (s : State) (t : LeaseTable) (h : ℕ) (m : Fields) (l : Lease) → Sound s (leasesOf t) → idOf l ≡ parts.named m → holdsOf (ownOf t h) m ≡ false
+pub others-stay : (s : State) (t : LeaseTable) (h : ℕ) (m : Fields) (l : Lease) → Sound s (leasesOf t) → idOf l ≡ parts.leaseIdIn m → holdsOf (ownOf t h) m ≡ false
     → removeOf (idOf l) (insertOf l (ownOf t h)) ≡ ownOf t h
 unfolding holdsOf pairOk
 others-stay s t h m l v e held =
     insert-leaves l (ownOf t h)
     (ap (λ (i : List ℕ). allBy (other i) (ownOf t h)) e
-    ∙ place-none (named (parts.named m)) (ownOf t h) (ltb-false (placeOf (parts.named m) (ownOf t h)) (length (ownOf t h)) held))
+    ∙ place-none (named (parts.leaseIdIn m)) (ownOf t h) (ltb-false (placeOf (parts.leaseIdIn m) (ownOf t h)) (length (ownOf t h)) held))
     (and-parts (pairsBy differ (ownOf t h)) (pairsBy compatible (ownOf t h))
     (sym (pairs-and differ compatible (ownOf t h)) ∙ ap (pairsBy pairOk) (own-is t h) ∙ pairs-at s (leasesOf t) v h) .0)
     (ap (pairsBy ordered) (own-is t h) ∙ rises-at s (leasesOf t) v h)

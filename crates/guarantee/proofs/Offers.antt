@@ -299,17 +299,17 @@ module _ (x : ℕ) (l : List ℕ) where
   both-read e =
       let r = go (headerOk D) (walkOf D .stage) (eqb (getD (walkOf D .places) 3 0) 0) (noneRequired D (walkOf D .places)) e in (
         r .0,
-        ap (λ (h : Bool). pick h (byStage (walkOf R .stage) (ended R (walkOf R .places)) (read.discarded 5 (walkOf R .at))) (read.discarded 4 0)) (sym same-header)
-            ∙ ap (λ (w : Walk). pick (headerOk D) (byStage (w .stage) (ended R (w .places)) (read.discarded 5 (w .at))) (read.discarded 4 0)) (sym (walked-same x 1 3 l))
-            ∙ ap (λ (t : Bool). pick (headerOk D) (byStage (walkOf D .stage) (pick (eqb (getD (walkOf D .places) 3 0) 0) (read.discarded 5 (length R)) (pick t (good R (walkOf D .places)) (read.discarded 6 0))) (read.discarded 5 (walkOf D .at))) (read.discarded 4 0))
+        ap (λ (h : Bool). pick h (byStage (walkOf R .stage) (ended R (walkOf R .places)) (read.noMessage 5 (walkOf R .at))) (read.noMessage 4 0)) (sym same-header)
+            ∙ ap (λ (w : Walk). pick (headerOk D) (byStage (w .stage) (ended R (w .places)) (read.noMessage 5 (w .at))) (read.noMessage 4 0)) (sym (walked-same x 1 3 l))
+            ∙ ap (λ (t : Bool). pick (headerOk D) (byStage (walkOf D .stage) (pick (eqb (getD (walkOf D .places) 3 0) 0) (read.noMessage 5 (length R)) (pick t (good R (walkOf D .places)) (read.noMessage 6 0))) (read.noMessage 5 (walkOf D .at))) (read.noMessage 4 0))
             (sym (same-required x 1 3 l (walkOf D .places) (walked-on x 1 3 l .places)))
             ∙ r .1,
       )
     where
       go : (h : Bool) (g : Stage) (p q : Bool)
-          → pick h (byStage g (pick p (read.discarded 5 (length D)) (pick q (good D (walkOf D .places)) (read.discarded 6 0))) (read.discarded 5 (walkOf D .at))) (read.discarded 4 0) .discard ≡ 0
-          → (pick h (byStage g (pick p (read.discarded 5 (length D)) (pick q (good D (walkOf D .places)) (read.discarded 6 0))) (read.discarded 5 (walkOf D .at))) (read.discarded 4 0) ≡ good D (walkOf D .places))
-          × (pick h (byStage g (pick p (read.discarded 5 (length R)) (pick q (good R (walkOf D .places)) (read.discarded 6 0))) (read.discarded 5 (walkOf D .at))) (read.discarded 4 0) ≡ good R (walkOf D .places))
+          → pick h (byStage g (pick p (read.noMessage 5 (length D)) (pick q (good D (walkOf D .places)) (read.noMessage 6 0))) (read.noMessage 5 (walkOf D .at))) (read.noMessage 4 0) .discard ≡ 0
+          → (pick h (byStage g (pick p (read.noMessage 5 (length D)) (pick q (good D (walkOf D .places)) (read.noMessage 6 0))) (read.noMessage 5 (walkOf D .at))) (read.noMessage 4 0) ≡ good D (walkOf D .places))
+          × (pick h (byStage g (pick p (read.noMessage 5 (length R)) (pick q (good R (walkOf D .places)) (read.noMessage 6 0))) (read.noMessage 5 (walkOf D .at))) (read.noMessage 4 0) ≡ good R (walkOf D .places))
       go false g p q e = absurd (omega arith)
       go true Walking p q e = absurd (omega arith)
       go true Broken p q e = absurd (omega arith)

@@ -15,8 +15,7 @@ use Rattle.state.specs.declared.Lease.{Lease}
 use Rattle.state.specs.declared.LeaseTable.{LeaseTable}
 use Rattle.state.specs.declared.State.{State}
 use Rattle.state.specs.Book.{advanced, dropped, inUse, laidOut, leasesOf, liveOf, tableOf}
-use Rattle.state.specs.laws.Layout.{put-laid}
-use Rattle.records.specs.laws.Back.{lent-table-back as lists-back, records-back, lent-table-back, table-long}
+use Rattle.state.specs.laws.Layout.{put-laid, table-back as lists-back}
 use Rattle.soundness.specs.Sound.{soundB}
 use Rattle.decision.specs.declared.Decided.{Decided}
 use Rattle.decision.specs.Parts.{updated}
@@ -24,6 +23,7 @@ use Rattle.decision.specs.Decide.{decideOf, judgedOf, leasedOf, plainOf, settle
 use Rattle.server.specs.Serve.{Answer, Call, atClock, forServer, serveOf, withReading}
 use Rattle.guarantee.specs.Statement.{SoundBook}
 use Rattle.guarantee.proofs.Kept.{call-sound}
+use Rattle.records.specs.laws.Back.{records-back, lent-table-back, table-long}
 use Rattle.records.specs.laws.Table.{rows-length}
 use Rattle.records.specs.Records.{recordsOf, rows, tableFrom, tenantFrom}
 use Rattle.records.specs.Lent.{bookFrom, lentAnswer, LentAnswer, serveLent, serveWith}

@@ -20,7 +20,7 @@ use Rattle.state.specs.laws.Layout.{push-laid}
 use Rattle.state.specs.declared.Lease.{Lease}
 use Rattle.state.specs.declared.TenantLeases.{TenantLeases}
 use Rattle.state_file.specs.File.{FileLease}
-use Rattle.state_file.specs.Place.{AllStorable, Storable, Inside, keepOne, keptFrom, keptOf, fileLeaseAt, leasesAt, nextAt}
+use Rattle.state_file.specs.Place.{AllStorable, StorableAt, Inside, keepOne, keptFrom, keptOf, fileLeaseAt, leasesAt, nextAt}
 use Rattle.state_file.specs.Records.{fewOf, ofTenant, stored, tenantsFrom}
 
 pub next-at : (s : List ℕ) (at n k : ℕ) → n ≡ getD s (at + 2) 0 → k ≡ getD s (at + (n + 16)) 0 → at + (n + 17 + k) ≡ nextAt s at
@@ -51,11 +51,11 @@ fill-start {s} {from} {count} t out h e =
     }
 
 module _ {s : List ℕ} {from count t : ℕ} {out : TenantLeases} {here i : ℕ} (v : FillInv s from count t out here i) where
-  head : i < count → Storable s here × AllStorable s (nextAt s here) (count - (i + 1))
+  head : i < count → StorableAt s here × AllStorable s (nextAt s here) (count - (i + 1))
   unfolding AllStorable
   head h = let e : count - i ≡ suc (count - (i + 1)) = omega arith in subst (λ (k : ℕ). AllStorable s here k) e (v .held)
 
-  pub fill-held : i < count → Storable s here
+  pub fill-held : i < count → StorableAt s here
   fill-held h = head h .0
 
   pub fill-inside : i < count → Inside s here

@@ -9,7 +9,7 @@ use Rattle.address_set.specs.AddressSet.{readOffsets}
 use Rattle.octets.specs.Octets.{at32}
 use Rattle.state_file.proofs.Pad.{pad-end, pad-next, pad-start}
 use Rattle.state_file.proofs.Walk.{part-length}
-use Rattle.state_file.specs.Place.{Storable, fileLeaseAt}
+use Rattle.state_file.specs.Place.{StorableAt, fileLeaseAt}
 use Rattle.state_file.specs.Records.{filled, stored}
 
 pub id-long : (s : List ℕ) (at n : ℕ) → at + n ≤ length s → length (take n (drop at s)) ≡ n
@@ -20,7 +20,7 @@ id-element s at n i h = sym (getD-take n (drop at s) i 0 h ∙ getD-drop at s i 
 
 pub ruleset ids = (pad-start, pad-next, pad-end, id-long, id-element)
 
-module _ {s : List ℕ} {at n k : ℕ} (en : n ≡ getD s (at + 2) 0) (ek : k ≡ getD s (at + (n + 16)) 0) (v : Storable s at) where
+module _ {s : List ℕ} {at n k : ℕ} (en : n ≡ getD s (at + 2) 0) (ek : k ≡ getD s (at + (n + 16)) 0) (v : StorableAt s at) where
   count : k ≡ getD s (at + (getD s (at + 2) 0 + 16)) 0
   count = ek ∙ ap (λ (z : ℕ). getD s (at + (z + 16)) 0) en
 

@@ -25,7 +25,7 @@ use Rattle.state_file.proofs.ReadAgain.{both, neither}
 use Rattle.state_file.proofs.WholeForm.{ts}
 use Rattle.state_file.specs.File.{File, FileLease, fileOf}
 use Rattle.state_file.specs.Format.{Got, bad, got}
-use Rattle.state_file.specs.Place.{AllStorable, Formed, Storable, InRow, Inside, fileAt, isGot, keptFrom, fileLeaseAt, leaseCount, leasesAt, leasesPlace, nextAt, rangeAt, row, fileScopeAt, scopeCount, scopesPlace, tenantCount}
+use Rattle.state_file.specs.Place.{AllStorable, Formed, StorableAt, InRow, Inside, fileAt, isGot, keptFrom, fileLeaseAt, leaseCount, leasesAt, leasesPlace, nextAt, rangeAt, row, fileScopeAt, scopeCount, scopesPlace, tenantCount}
 use Rattle.state_file.specs.Records.{fewOf, filled, fitsB, leasesFitB, storableB, storedScope, storedState, storedTable, zeroRange}
 use Rattle.state_file.specs.StateFile.{accepted, loadedGot, judged, loaded, readFile, refused, zeroTable, zeroState}
 use Rattle.state_file.specs.declared.Loaded.{Loaded}
@@ -56,7 +56,7 @@ module _ (s : List ℕ) (e : fitsB (fileAt s) ≡ true) where
   fits-few = both _ _ fits-leases .1
 
 -- ---- a record of the file that a record of the book can hold
-pub storable-held : (s : List ℕ) (at : ℕ) → Inside s at → storableB (fileLeaseAt s at) ≡ true → Storable s at
+pub storable-held : (s : List ℕ) (at : ℕ) → Inside s at → storableB (fileLeaseAt s at) ≡ true → StorableAt s at
 unfolding storableB fileLeaseAt
 storable-held s at v e =
     let p = neither _ _ (neither _ _ (neither _ _ e .1) .1) in

@@ -15,7 +15,7 @@ use Rattle.state.specs.laws.Layout.{table-back}
 use Rattle.state.specs.declared.ClientRange.{ClientRange}
 use Rattle.state_file.proofs.WholeForm.{ts}
 use Rattle.state_file.specs.File.{File, FileLease, FilePart, FileScope, fileFormat, leaseFormat, scopeFormat}
-use Rattle.state_file.specs.laws.Records.{Storable, filled-take}
+use Rattle.state_file.specs.laws.Records.{StorableAt, filled-take}
 use Rattle.state_file.specs.Records.{filedBook, filedFrom, filedScope, filled, fitsB, isOffset, leasesFitB, pairUp, storableB, storedScope, storedState, storedTable, tenantsFrom, zeroRange}
 use Rattle.state_file.specs.laws.Tenants.{leases-again}
 
@@ -57,7 +57,7 @@ fits-of x e =
     let q = ltb-false 8 (x .tenant) (b .0) in
     record { from = p; to = omega arith; short = ltb-false 32 (length (x .id)) (c .0); low = c .1 }
 
-storable-of : (x : FileLease) → Fits x → leaseFormat .ok x → Storable x
+storable-of : (x : FileLease) → Fits x → leaseFormat .ok x → StorableAt x
 storable-of x v h = record { short = v .short; rising = h .1 .1 .1 .1 .1 .1 .1 .1; low = v .low }
 
 -- ---- scopes
@@ -107,7 +107,7 @@ module _ (f : File) (h : fileFormat .ok f) (e : fitsB f ≡ true) where
       ∙ leases-again 8 (f .leases) (h .1 .1 .1 .1)
       (two-facts Fits Fits (λ x. 1 ≤ x .tenant) (f .leases) (λ x v w. v .from) leases-facts leases-facts)
       (two-facts Fits Fits (λ x. x .tenant < 1 + 8) (f .leases) (λ x v w. v .to) leases-facts leases-facts)
-      (two-facts Fits (leaseFormat .ok) Storable (f .leases) storable-of leases-facts (h .1 .1 .1 .0 .1))
+      (two-facts Fits (leaseFormat .ok) StorableAt (f .leases) storable-of leases-facts (h .1 .1 .1 .0 .1))
 
   ranges-filed : rangesOf (storedState f) ≡ f .tenants
   unfolding storedState

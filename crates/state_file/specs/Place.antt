@@ -82,13 +82,13 @@ InRow s at zero = Unit {0}
 InRow s at (suc k) = Inside s at × InRow s (nextAt s at) k
 
 -- and a record of the book can hold it
-pub record Storable (s : List ℕ) (at : ℕ) : Type 0 where
+pub record StorableAt (s : List ℕ) (at : ℕ) : Type 0 where
   pub ids : getD s (at + 2) 0 ≤ 32
   pub room : at + (getD s (at + 2) 0 + 17 + getD s (at + (getD s (at + 2) 0 + 16)) 0) ≤ length s
 
 unfoldable pub AllStorable : List ℕ → ℕ → ℕ → Type 0
 AllStorable s at zero = Unit {0}
-AllStorable s at (suc k) = Storable s at × AllStorable s (nextAt s at) k
+AllStorable s at (suc k) = StorableAt s at × AllStorable s (nextAt s at) k
 
 -- tenant t's records with the lease x as well, if it is tenant t's
 unfoldable pub keepOne : ℕ → TenantLeases → FileLease → TenantLeases

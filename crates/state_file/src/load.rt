@@ -6,7 +6,7 @@ ghost use Prim.Native.Nat.{_*_, _+_, _≤_};
 ghost use lib.ListN.{drop, getD, length, take};
 ghost use Rattle.address_set.specs.AddressSet.{readOffsets};
 ghost use Rattle.state.specs.Book.{zeroScope};
-ghost use Rattle.state_file.specs.Place.{AllStorable, Formed, Storable, fileAt, keepOne, keptFrom, keptOf, fileLeaseAt, leasesAt, rangeAt, row, fileScopeAt};
+ghost use Rattle.state_file.specs.Place.{AllStorable, Formed, StorableAt, fileAt, keepOne, keptFrom, keptOf, fileLeaseAt, leasesAt, rangeAt, row, fileScopeAt};
 ghost use Rattle.state_file.specs.Records.{filled, fitsB, stored, storedScope, storedState, storedTable, zeroRange};
 ghost use Rattle.state_file.specs.StateFile.{judged, loaded, refused};
 use crate::Loaded;
@@ -203,7 +203,7 @@ fn tenant_leases(s: &[u8], from: usize, count: usize, t: u8) -> TenantLeases
 }
 
 fn keep_tenant(h: TenantLeases, s: &[u8], at: usize, t: u8) -> TenantLeases
-    requires { ⌜ Storable (now s) at ⌝ }
+    requires { ⌜ StorableAt (now s) at ⌝ }
     ensures { λ r. ⌜ r ≡ keepOne t h (fileLeaseAt (now (s .entry)) at) ⌝ }
 {
     if s[at] == t {
@@ -214,7 +214,7 @@ fn keep_tenant(h: TenantLeases, s: &[u8], at: usize, t: u8) -> TenantLeases
 
 // The lease whose record starts at `at`.
 fn lease_at(s: &[u8], at: usize) -> Lease
-    requires { ⌜ Storable (now s) at ⌝ }
+    requires { ⌜ StorableAt (now s) at ⌝ }
     ensures { λ r. ⌜ r ≡ stored (fileLeaseAt (now (s .entry)) at) ⌝ }
 {
     let n = wide(s[at + 2]);

@@ -1,5 +1,5 @@
 -- `committed_other` meets its contract: a tenant of the sum, a small number.
-use Rattle.allocation.specs.laws.Loops.{other-is, other-small}
+use Rattle.allocation.specs.laws.Loops.{other-committed-is, other-committed-small}
 use Rattle.lists.specs.laws.Pick.{picks}
 use borrow.Author.Needs.{needs}
 use Rattle.allocation.proofs.committed_other.Statement.{statement}
@@ -12,4 +12,4 @@ committed-other-spec =
     (λ c. search (picks, needs))
     (λ c κs. search (picks, needs))
     (λ c κs. search (picks, needs))
-    (λ c. search (picks, other-is, other-small, needs)))
+    (λ c. search (picks, other-committed-is, other-committed-small, needs)))

@@ -1,6 +1,6 @@
 -- `others` meets its contract: a sum of small numbers.
 use Prim.Native.Nat.{_-_}
-use Rattle.allocation.specs.laws.Loops.{other-read}
+use Rattle.allocation.specs.laws.Loops.{other-committed-read}
 use Rattle.lists.specs.laws.Sums.{SumInv, sums}
 use Rattle.lists.specs.Sums.{except}
 use Rattle.state.specs.Book.{leasesOf, heldAt, committed}
@@ -21,12 +21,12 @@ others-spec =
     Inv-loop
     μ-loop
     (λ c. search (sums, needs))
-    (λ c. search (sums, other-read, needs))
-    (λ c. search (sums, other-read, needs))
-    (λ c. search (sums, other-read, needs))
+    (λ c. search (sums, other-committed-read, needs))
+    (λ c. search (sums, other-committed-read, needs))
+    (λ c. search (sums, other-committed-read, needs))
     (λ c κs. search (sums, needs))
-    (λ c. search (sums, other-read, needs))
-    (λ c. search (sums, other-read, needs))
-    (λ c. search (sums, other-read, needs))
-    (λ c. search (sums, other-read, needs))
+    (λ c. search (sums, other-committed-read, needs))
+    (λ c. search (sums, other-committed-read, needs))
+    (λ c. search (sums, other-committed-read, needs))
+    (λ c. search (sums, other-committed-read, needs))
     (λ c. search (sums, needs)))

@@ -49,16 +49,16 @@ pub reads : (b : LeaseTable) (g : ℕ) → inUse (getD (b .tenants) g noLeases) 
 reads b g = sym (List·getD-map inUse (b .tenants) g noLeases)
 
 -- ---- what the other tenants hold or have in reserve
-pub other-read : (b : LeaseTable) (c : Scope) (s h g r : ℕ) → r ≡ pick (eqb g h) 0 (max (heldCount s (inUse (getD (b .tenants) g noLeases))) (getD (c .reserve) g 0))
+pub other-committed-read : (b : LeaseTable) (c : Scope) (s h g r : ℕ) → r ≡ pick (eqb g h) 0 (max (heldCount s (inUse (getD (b .tenants) g noLeases))) (getD (c .reserve) g 0))
     → r ≡ except h (committed c (heldAt (leasesOf b) s)) g
 unfolding except committed
-other-read b c s h g r e = e ∙ ap (λ (ls : List Lease). pick (eqb g h) 0 (max (heldCount s ls) (getD (c .reserve) g 0))) (reads b g)
+other-committed-read b c s h g r e = e ∙ ap (λ (ls : List Lease). pick (eqb g h) 0 (max (heldCount s ls) (getD (c .reserve) g 0))) (reads b g)
 
-pub other-is : (t : TenantLeases) (s reserve n r : ℕ) → n ≡ heldCount s (inUse t) → r ≡ max n reserve → r ≡ max (heldCount s (inUse t)) reserve
-other-is t s reserve n r p e = e ∙ ap (λ (x : ℕ). max x reserve) p
+pub other-committed-is : (t : TenantLeases) (s reserve n r : ℕ) → n ≡ heldCount s (inUse t) → r ≡ max n reserve → r ≡ max (heldCount s (inUse t)) reserve
+other-committed-is t s reserve n r p e = e ∙ ap (λ (x : ℕ). max x reserve) p
 
-pub other-small : (t : TenantLeases) (s reserve n r : ℕ) → n ≡ heldCount s (inUse t) → reserve < 256 → r ≡ max n reserve → r < 256
-other-small t s reserve n r p h e = omega (arith, length-offsets (heldOf s (inUse t)))
+pub other-committed-small : (t : TenantLeases) (s reserve n r : ℕ) → n ≡ heldCount s (inUse t) → reserve < 256 → r ≡ max n reserve → r < 256
+other-committed-small t s reserve n r p h e = omega (arith, length-offsets (heldOf s (inUse t)))
 
 -- the others' and the tenant's own, with d for what it holds, make the sum
 pub committed-split : (c : Scope) (n : ℕ) (held : ℕ → ℕ) (h d : ℕ) → h < n

@@ -15,13 +15,14 @@ use Rattle.state.specs.declared.Lease.{Lease}
 use Rattle.state.specs.declared.LeaseTable.{LeaseTable}
 use Rattle.state.specs.declared.State.{State}
 use Rattle.state.specs.Book.{laidOut, leasesOf, tableOf, zeroLease}
-use Rattle.records.specs.laws.Back.{lent-table-back as lists-back, lent-table-back, table-long}
+use Rattle.state.specs.laws.Layout.{table-back as lists-back}
 use Rattle.soundness.specs.Sound.{blankB, soundB, unusedB, zeroFrom}
 use Rattle.state_file.specs.declared.Loaded.{Loaded}
 use Rattle.state_file.specs.File.{File, FileLease, fileOf}
 use Rattle.state_file.specs.Format.{Got, bad, got}
 use Rattle.state_file.specs.Records.{fitsB, storedState, storedTable, tenantsFrom}
 use Rattle.state_file.specs.StateFile.{accepted, loadedGot, judged, loaded, readFile, refused, zeroState, zeroTable}
+use Rattle.records.specs.laws.Back.{lent-table-back, table-long}
 use Rattle.records.specs.Lent.{LentReading, readLent, readWith, untouched, is128}
 use Rattle.records.specs.Records.{recordsOf, rows, tableFrom, tenantFrom}
 

@@ -27,7 +27,7 @@ filled-back {A} z n k a e q = ap (λ (j : ℕ). take k a ++ replicate (n - j) z)
 
 -- ---- leases
 -- a lease of the file that a record can hold
-pub record Storable (x : FileLease) : Type 0 where
+pub record StorableAt (x : FileLease) : Type 0 where
   pub short : length (x .id) ≤ 32
   pub rising : rises (x .offsets) ≡ true
   pub low : allBy isOffset (x .offsets) ≡ true
@@ -56,7 +56,7 @@ read-offsets : (m : ℕ) → m < 2 ^ 64 → readOffsets (offsets m) ≡ m
 unfolding readOffsets
 read-offsets m h = ap setOf (filter-none-out isOffset (offsets m) (all-offsets (offsets m) (offsets-small m))) ∙ setOf-offsets m h
 
-pub filed-stored : (x : FileLease) → Storable x → filedLease (x .tenant) (stored x) ≡ x
+pub filed-stored : (x : FileLease) → StorableAt x → filedLease (x .tenant) (stored x) ≡ x
 unfolding filedLease stored
 filed-stored x h = ap₂ {C = FileLease} (λ (i o : List ℕ). record { tenant = x .tenant; scope = x .scope; id = i; kind = x .kind; xid = x .xid; start = x .start; end = x .end; offsets = o })
     (filled-take 0 32 (x .id)) (offsets-read (x .offsets) (h .rising) (h .low))

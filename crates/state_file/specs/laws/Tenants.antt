@@ -13,7 +13,7 @@ use Rattle.lists.specs.Filter.{filterBy}
 use Rattle.lists.specs.Pick.{pick}
 use Rattle.state.specs.declared.Lease.{Lease}
 use Rattle.state_file.specs.File.{FileLease, isAfter, leasesOrdered, orderedFrom}
-use Rattle.state_file.specs.laws.Records.{Neat, Storable, filed-stored, stored-filed}
+use Rattle.state_file.specs.laws.Records.{Neat, StorableAt, filed-stored, stored-filed}
 use Rattle.state_file.specs.Records.{filedLease, filedFrom, ofTenant, stored, tenantsFrom}
 
 -- those with key t
@@ -116,7 +116,7 @@ tenants-book t (suc n) xs = ap {B = List (List Lease)} (λ (l : List (List Lease
 
 -- ---- read and written again
 
-filed-only : (t : ℕ) (xs : List FileLease) → All Storable xs → map (filedLease t) (map stored (ofTenant t xs)) ≡ ofTenant t xs
+filed-only : (t : ℕ) (xs : List FileLease) → All StorableAt xs → map (filedLease t) (map stored (ofTenant t xs)) ≡ ofTenant t xs
 unfolding All filterBy pick
 filed-only t [] h = refl
 filed-only t (x ∷ xs) h = go (eqb (x .tenant) t) refl (filed-only t xs (h .1))
@@ -127,7 +127,7 @@ filed-only t (x ∷ xs) h = go (eqb (x .tenant) t) refl (filed-only t xs (h .1))
         ap₂ {C = List FileLease} (λ (y : FileLease) (ys : List FileLease). y ∷ ys) (ap (λ (u : ℕ). filedLease u (stored x)) (sym (eqb-true (x .tenant) t e)) ∙ filed-stored x (h .0)) ih
     go false e ih = ih
 
-filed-apart : (n t : ℕ) (xs : List FileLease) → All Storable xs → filedFrom t (map (map stored) (apart (λ x. x .tenant) t n xs)) ≡ chained (apart (λ x. x .tenant) t n xs)
+filed-apart : (n t : ℕ) (xs : List FileLease) → All StorableAt xs → filedFrom t (map (map stored) (apart (λ x. x .tenant) t n xs)) ≡ chained (apart (λ x. x .tenant) t n xs)
 unfolding filedFrom apart chained
 filed-apart zero t xs h = refl
 filed-apart (suc n) t xs h = ap₂ {C = List FileLease} (λ (p q : List FileLease). p ++ q) (filed-only t xs h) (filed-apart n (suc t) xs h)
@@ -138,7 +138,7 @@ sorted-up t u [] h s = tt
 sorted-up t u (x ∷ xs) h s = (h .0, s .1)
 
 -- leases in the file's order, of tenants 1 to n, each of which a record can hold: the book made of them gives them back
-pub leases-again : (n : ℕ) (xs : List FileLease) → leasesOrdered xs ≡ true → All (λ x. 1 ≤ x .tenant) xs → All (λ x. x .tenant < 1 + n) xs → All Storable xs
+pub leases-again : (n : ℕ) (xs : List FileLease) → leasesOrdered xs ≡ true → All (λ x. 1 ≤ x .tenant) xs → All (λ x. x .tenant < 1 + n) xs → All StorableAt xs
     → filedFrom 1 (tenantsFrom 1 n xs) ≡ xs
 unfolding bookFrom
 leases-again n xs o low high h = ap (filedFrom 1) (tenants-book 1 n xs) ∙ filed-apart n 1 xs h ∙ chained-apart (λ x. x .tenant) n 1 xs (sorted-up 0 1 xs low (ordered-sorted 0 [] xs o)) high

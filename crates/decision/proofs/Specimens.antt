@@ -64,6 +64,36 @@ call h time kind i xid least desired len start current = record {
   };
 }
 
+-- an option of four octets with any value, 0 too; the specimens' scope
+abbrev absent : Wish
+absent = record { there = false; value = 0 }
+
+abbrev given : ℕ → Wish
+given n = record { there = true; value = n }
+
+abbrev ours : Wish
+ours = given 4022337536
+
+-- a REQUEST of house 2 for one address by what it says: are all options allowed, Scope, least, desired, Lease Time, and whether 15 is there
+abbrev asks : Bool → Wish → ℕ → ℕ → Wish → Bool → Call
+asks allowed scope least desired len latest = record {
+  tenant = 1;
+  time = 1000;
+  fields = record {
+    kind = 3;
+    xid = 1;
+    id = record { octets = 0 ∷ 1 ∷ replicate 30 0; len = 2 };
+    allowed = allowed;
+    scope = scope;
+    counts = record { least = least; desired = desired };
+    times = record { length = len; start = absent; current = absent; shortest = absent; latest = record { there = latest; value = 0 } };
+    features = false;
+    ours = true;
+    «list_asked» = false;
+    «time_asked» = false;
+  };
+}
+
 run : LeaseTable → List Call → LeaseTable
 run b [] = b
 run b (c ∷ cs) = run (decideOf (settings (c .time)) (dropped (c .time) b) (c .tenant) (c .fields) .table) cs
@@ -120,8 +150,63 @@ table =
     ∷ record { before = p1 ∷ []; last = call 0 1000 1 2 2 2 3 0 0 0; outcome = 0; reply = 2; error = 0; addresses = 12 }
     ∷ record { before = p1 ∷ []; last = call 0 1000 1 2 2 3 3 0 0 0; outcome = 8; reply = 0; error = 0; addresses = 0 }
     ∷ ack [] (call 0 1000 8 2 2 1 1 0 0 0) 0
+    -- error 1, a test each: an option that isn't allowed, no scope, another's scope, Lease Time 0, least 0, least above desired, 15 and 6 without 11; and none of them
+    ∷ nak [] (asks false ours 1 1 absent false) 1
+    ∷ nak [] (asks true absent 1 1 absent false) 1
+    ∷ nak [] (asks true (given 4022337537) 1 1 absent false) 1
+    ∷ nak [] (asks true ours 1 1 (given 0) false) 1
+    ∷ nak [] (asks true ours 0 1 absent false) 1
+    ∷ nak [] (asks true ours 2 1 absent false) 1
+    ∷ nak [] (asks true ours 1 1 absent true) 1
+    ∷ nak [] (call 1 1000 3 1 1 1 1 0 2000 0) 1
+    ∷ ack [] (asks true ours 1 1 (given 1) false) 1
+    -- no Resend: a RENEW with the REQUEST's transaction id, and the REQUEST again after it
+    ∷ ack (p1 ∷ []) (call 1 1000 4 1 1 1 1 0 0 0) 3
+    ∷ nak (p1 ∷ call 1 1000 4 1 1 1 1 0 0 0 ∷ []) p1 1
+    -- error 0: a start at the horizon and a second past it; an end at the last second of 32 bits and one past it
+    ∷ ack [] (call 1 1000 3 1 1 1 1 0 2593000 1000) 1
+    ∷ nak [] (call 1 1000 3 1 1 1 1 0 2593001 1000) 0
+    ∷ ack [] (call 1 4294967000 3 1 1 1 1 295 0 0) 1
+    ∷ nak [] (call 1 4294967000 3 1 1 1 1 296 0 0) 0
+    -- the grant rule: house 1 gets no more than its limit, 3; house 2 gets 2 where house 1 holds 1 of its share of 2
+    ∷ ack [] (call 0 1000 3 1 1 1 4 0 0 0) 7
+    ∷ ack (call 0 1000 3 1 1 1 1 0 0 0 ∷ []) (call 1 1000 3 2 2 1 4 0 0 0) 6
+    -- house 1's own .1, free from 2000, comes before .0, which is nobody's since 1010; then .0
+    ∷ ack (call 1 1000 3 1 1 1 1 10 0 0 ∷ call 0 1000 3 2 2 1 1 1000 0 0 ∷ []) (call 0 1010 3 3 3 1 1 0 2000 1010) 2
+    ∷ ack (call 1 1000 3 1 1 1 1 10 0 0 ∷ call 0 1000 3 2 2 1 1 1000 0 0 ∷ []) (call 0 1010 3 3 3 1 2 0 2000 1010) 3
     ∷ []
 
 specimens : allHold table ≡ true
 unfolding settings wish call run replyType holds allHold ack nak p1 p3 p5 table pick filterBy isIn placeBy sumTo largest orderOf sameOf bit offsetsFrom setOf differenceOf upTo laidOut tableOf insertOf insertIn byIdentifier removeOf replaceOf liveOf dropped unionAll addressesOf overlaps usedIn takenOf busyIn withHeld committed allowed grantOf suffices isNew hasPeriod holdsOf recordedOf resends scopePlace knowsScope lacksScope zeroLength badCounts lacksCurrent error1Of skewed error2Of error3Of wishedOr startOf lengthOf endOf askAt fitsNew newWith newAt newOf othersBusy fitsRenewed renewedTo renewedOf proposalOf error0Of leaseFrom withLease plainReply nakWith discardWith refusalOf leasedOf plainOf settledOf judgedOf decideOf
 specimens = refl
+
+-- ---- periods
+-- start and length, from Lease Time and Start Time, the clock, and what stands for an absent one: the old start and length of a RENEW, the clock and 3,600 otherwise
+abbrev period : Wish → Wish → ℕ → ℕ → ℕ → List ℕ
+period len start clock oldStart oldLength =
+    let m : Fields = record {
+      kind = 4;
+      xid = 1;
+      id = record { octets = replicate 32 0; len = 2 };
+      allowed = true;
+      scope = absent;
+      counts = record { least = 1; desired = 1 };
+      times = record { length = len; start = start; current = given clock; shortest = absent; latest = absent };
+      features = false;
+      ours = true;
+      «list_asked» = false;
+      «time_asked» = false;
+    } in
+    startOf m clock oldStart ∷ lengthOf m oldLength ∷ []
+
+-- the longest lease and a second more, an old one that is longer; absent; a Start Time before the clock and after it; an old start before the clock and after it
+periods : (period (given 604800) absent 1000 1000 3600 ≡ 1000 ∷ 604800 ∷ [])
+    × (period (given 604801) absent 1000 1000 3600 ≡ 1000 ∷ 604800 ∷ [])
+    × (period absent absent 1000 1000 700000 ≡ 1000 ∷ 604800 ∷ [])
+    × (period absent absent 1000 1000 3600 ≡ 1000 ∷ 3600 ∷ [])
+    × (period (given 1) (given 999) 1000 1000 3600 ≡ 1000 ∷ 1 ∷ [])
+    × (period (given 1) (given 1001) 1000 1000 3600 ≡ 1001 ∷ 1 ∷ [])
+    × (period absent absent 1500 1000 1000 ≡ 1500 ∷ 1000 ∷ [])
+    × (period absent absent 1500 2000 1000 ≡ 2000 ∷ 1000 ∷ [])
+unfolding startOf lengthOf wishedOr pick
+periods = (refl, refl, refl, refl, refl, refl, refl, refl)

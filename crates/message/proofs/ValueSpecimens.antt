@@ -1,4 +1,4 @@
--- Specimens: what datagrams say, computed from the definitions: which options each message type allows, the value of each option and what stands for an absent one.
+-- Specimens: which options each message type allows, the value of each option and what stands for an absent one, computed from the definitions.
 use mathlib.Core.Path.{_≡_, refl}
 use mathlib.Core.List.{List, [], _∷_, _++_}
 use mathlib.Core.Bool.{Bool, true, false}

@@ -13,6 +13,8 @@ use Rattle.identifier.specs.Order.{orderOf, sameOf}
 use Rattle.address_set.specs.AddressSet.{bit, offsetsFrom}
 use Rattle.state.specs.declared.Lease.{Lease}
 use Rattle.state.specs.declared.State.{State}
+use Rattle.state.specs.declared.ClientRange.{ClientRange}
+use Rattle.state.specs.declared.Scope.{Scope}
 use Rattle.state.specs.Book.{byIdentifier, differ, laidOut, tableOf, unionAll, addressesOf, overlaps, zeroScope, committed}
 use Rattle.soundness.specs.Sound.{oneTo, sizeB, idB, recordsB, countsB, rule1, belowB, offsetsB, rule2, rangeB, rangesApart, rule3, poolB, poolsApart, rule4, ttlB, rule5, reserveB, reservesB, rule6, kindB, periodB, leaseB, noneB, tenantsB, rule7, rule8, disjoint, apart, rule9, compatible, rule10, limitB, limitsB, rule11, committedB, rule12, zeroFrom, paddedB, blankB, unusedB, layoutB, rangeZero, tailB, scopeZero, settingsB, rule13, rulesOf, firstLate, firstBroken, brokenOf}
 
@@ -40,6 +42,45 @@ elsewhere = record { scope = 2; «id_len» = 2; id = replicate 32 0; kind = 3; x
 
 short : Lease
 short = record { scope = 1; «id_len» = 1; id = replicate 32 0; kind = 3; xid = 7; start = 1000; end = 2000; addresses = 1 }
+
+abbrev range : ℕ → ℕ → ClientRange
+range low high = record { low = low; high = high }
+
+abbrev noRange : ClientRange
+noRange = range 0 0
+
+-- any two houses' client ranges, scopes and their numbers, and what stands past the last house and the last scope
+abbrev settingsOf : ℕ → ClientRange → ClientRange → ClientRange → ℕ → Scope → Scope → State
+settingsOf tenants one two past scopes first second = record {
+  server = 167837953;
+  clock = 1000;
+  «tenant_count» = tenants;
+  tenants = one ∷ two ∷ past ∷ replicate 5 noRange;
+  «scope_count» = scopes;
+  scopes = first ∷ second ∷ replicate 2 zeroScope;
+}
+
+-- shares and limits of two houses, and of a third
+abbrev scopeOf : ℕ → ℕ → ℕ → ℕ → ℕ → ℕ → ℕ → Scope
+scopeOf lowest size share1 limit1 share2 limit2 share3 = record { lowest = lowest; size = size; ttl = 1; reserve = share1 ∷ share2 ∷ share3 ∷ replicate 5 0; limit = limit1 ∷ limit2 ∷ replicate 6 0 }
+
+abbrev pool : Scope
+pool = scopeOf 4022337536 4 2 3 1 4 0
+
+-- the specimens' settings with another scope, with other client ranges
+abbrev scoped : Scope → State
+scoped c = settingsOf 2 (range 1 9) (range 10 19) noRange 1 c zeroScope
+
+abbrev ranged : ClientRange → ClientRange → ClientRange → State
+ranged one two past = settingsOf 2 one two past 1 pool zeroScope
+
+-- two scopes in use, or one and another scope behind it
+abbrev paired : ℕ → Scope → State
+paired scopes second = settingsOf 2 (range 1 9) (range 10 19) noRange scopes pool second
+
+-- a lease by its scope, the length of its identifier 00 01 00 .., the octet past that, its type, its period and its addresses
+abbrev leaseOf : ℕ → ℕ → ℕ → ℕ → ℕ → ℕ → ℕ → Lease
+leaseOf scope len past kind start end addresses = record { scope = scope; «id_len» = len; id = 0 ∷ 1 ∷ past ∷ replicate 29 0; kind = kind; xid = 7; start = start; end = end; addresses = addresses }
 
 record Case : Type 0 where
   state : State
@@ -75,6 +116,35 @@ cases =
     ∷ case plain (lease 1 1000 2000 15 ∷ []) [] [] 11
     ∷ case plain [] (lease 1 1000 2000 7 ∷ []) [] 12
     ∷ case plain (lease 2 1000 2000 1 ∷ lease 1 1000 2000 2 ∷ []) [] [] 13
+    -- sound: one address in each of two scopes, whose pools touch; client ranges that touch, and of one address; an identifier of 32 octets, and type 4
+    ∷ case (paired 2 (scopeOf 4022337540 4 0 1 0 1 0)) (leaseOf 2 2 0 3 1000 2000 1 ∷ []) (leaseOf 1 2 0 3 1000 2000 1 ∷ []) [] 0
+    ∷ case (ranged (range 9 9) (range 10 19) noRange) [] [] [] 0
+    ∷ case plain (leaseOf 1 32 5 4 1000 1001 1 ∷ []) [] [] 0
+    -- 1: nine houses, no scope, five scopes, sizes 0 and 65, an identifier of 33 octets, seventeen leases
+    ∷ case (settingsOf 9 (range 1 9) (range 10 19) noRange 1 pool zeroScope) [] [] [] 1
+    ∷ case (paired 0 zeroScope) [] [] [] 1
+    ∷ case (paired 5 zeroScope) [] [] [] 1
+    ∷ case (scoped (scopeOf 4022337536 0 0 0 0 0 0)) [] [] [] 1
+    ∷ case (scoped (scopeOf 4022337536 65 0 0 0 0 0)) [] [] [] 1
+    ∷ case plain (leaseOf 1 33 0 3 1000 2000 1 ∷ []) [] [] 1
+    ∷ case plain (replicate 17 (lease 1 1000 2000 1)) [] [] 1
+    -- 3: an empty client range; 4: a pool before 224.0.0.0, two that meet; 6: a limit above the size, shares together above it
+    ∷ case (ranged (range 9 8) (range 10 19) noRange) [] [] [] 3
+    ∷ case (scoped (scopeOf 3758096383 4 2 3 1 4 0)) [] [] [] 4
+    ∷ case (paired 2 (scopeOf 4022337539 4 0 1 0 1 0)) [] [] [] 4
+    ∷ case (scoped (scopeOf 4022337536 4 2 5 1 4 0)) [] [] [] 6
+    ∷ case (scoped (scopeOf 4022337536 4 3 3 2 4 0)) [] [] [] 6
+    -- 7: scope 0, types 2 and 5, an empty period, no address
+    ∷ case plain (leaseOf 0 2 0 3 1000 2000 1 ∷ []) [] [] 7
+    ∷ case plain (leaseOf 1 2 0 2 1000 2000 1 ∷ []) [] [] 7
+    ∷ case plain (leaseOf 1 2 0 5 1000 2000 1 ∷ []) [] [] 7
+    ∷ case plain (leaseOf 1 2 0 3 2000 2000 1 ∷ []) [] [] 7
+    ∷ case plain (leaseOf 1 2 0 3 1000 2000 0 ∷ []) [] [] 7
+    -- 13: an octet past the identifier's length, a client range past the last house, a scope past the last, a share past the last house
+    ∷ case plain (leaseOf 1 2 9 3 1000 2000 1 ∷ []) [] [] 13
+    ∷ case (ranged (range 1 9) (range 10 19) (range 20 29)) [] [] [] 13
+    ∷ case (paired 1 (scopeOf 4022337540 4 0 1 0 1 0)) [] [] [] 13
+    ∷ case (scoped (scopeOf 4022337536 4 2 3 1 4 1)) [] [] [] 13
     ∷ []
 
 all-hold : allBy holds cases ≡ true

@@ -193,6 +193,6 @@ def uncalled(tree):
 
 
 def is_specimen(f, b):
-    """An equation that is computed, in a file of specimens: `x ≡ y` by refl."""
+    """An equation that is computed, or several, in a file of specimens: `x ≡ y` by refl."""
     return (f.part == 'proofs' and f.head and f.head[0].startswith('-- Specimens:') and b.kind == 'def' and '≡' in '\n'.join(b.lines)
-            and re.search(r'= refl$', b.lines[-1].strip()) is not None)
+            and re.search(r'= (refl|\(refl(, refl)*\))$', b.lines[-1].strip()) is not None)

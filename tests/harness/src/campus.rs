@@ -32,9 +32,8 @@ fn lend(campus: &mut Campus, random: &mut Random) {
     if fullness == 0 {
         return;
     }
-    let own: Vec<Vec<Vec<u8>>> = (0..campus.scopes.len())
-        .map(|scope| own_addresses(&campus.scopes[scope], random))
-        .collect();
+    let scopes = campus.scopes.iter();
+    let own: Vec<Vec<Vec<u8>>> = scopes.map(|scope| own_addresses(scope, random)).collect();
     let mut until = vec![[0_u32; 64]; campus.scopes.len()];
     for house in 0..campus.houses.len() {
         let scopes: Vec<usize> = (0..campus.scopes.len())
@@ -66,8 +65,7 @@ fn lend(campus: &mut Campus, random: &mut Random) {
 
 /// For one scope, the addresses that each house may hold leases on.
 fn own_addresses(scope: &Scope, random: &mut Random) -> Vec<Vec<u8>> {
-    let Scope { size, parts, .. } = scope;
-    let size = *size;
+    let (size, parts) = (scope.size, &scope.parts);
     let mut sum: usize = parts.iter().map(|part| usize::from(part.0)).sum();
     let mut offsets: Vec<u8> = (0..size).collect();
     if random.chance(60) {

@@ -89,8 +89,9 @@ impl Lender {
     }
 
     fn copy(self, octets: &[u8]) -> Room {
-        let mut room = self.painted(octets.len(), 0x24);
-        room.octets[self.around..][..octets.len()].copy_from_slice(octets);
+        let mut room = self.painted(0, 0x24);
+        let (before, behind) = room.octets.split_at(self.around);
+        room.octets = [before, octets, behind].concat().into();
         room
     }
 

@@ -3,7 +3,7 @@
 use Prim.Native.Nat.{ℕ, _+_, _-_, min}
 use mathlib.Core.Bool.{Bool, _&&_}
 use mathlib.Core.List.{List, [], map}
-use lib.Dec.{leb}
+use lib.Dec.{leb, ltb}
 use lib.ListN.{length, getD}
 use Rattle.lists.specs.Down.{largest}
 use Rattle.address_set.specs.AddressSet.{offsets, setOf, differenceOf, chosen, upTo}
@@ -54,6 +54,10 @@ unfoldable pub grantOf : Scope → ℕ → List (List Lease) → Ask → Grant
 grantOf c n t a =
     let k : ℕ = largest (allowed c n t a) (a .desired) in
     record { number = k; addresses = setOf (chosen k (freeOf t a) (nobodysOf c t a)) }
+
+-- for every input: an unknown house is granted nothing, and a number of houses above 8 stands for 8
+unfoldable pub grantTo : Scope → ℕ → List (List Lease) → Ask → Grant
+grantTo c n t a = pick (ltb (a .tenant) (min n 8)) (grantOf c (min n 8) t a) (record { number = 0; addresses = 0 })
 
 -- "it fails if below least"
 unfoldable pub suffices : ℕ → Grant → Bool

@@ -6,7 +6,7 @@ ghost use Rattle.lists.specs.Down.{largest};
 ghost use Rattle.lists.specs.Pick.{pick};
 ghost use Rattle.lists.specs.Sums.{sumTo, except};
 ghost use Rattle.state.specs.Book.{inUse, leasesOf, heldCount, heldAt, committed};
-ghost use Rattle.allocation.specs.Rule.{takenOf, busyIn, freeOf, nobodysOf, grantOf, suffices};
+ghost use Rattle.allocation.specs.Rule.{takenOf, busyIn, freeOf, nobodysOf, grantOf, suffices, grantTo};
 ghost use Rattle.allocation.specs.Closed.{allowedOf, Small};
 ghost use Rattle.allocation.specs.Loops.{takenOne, busyMore, Numbered};
 use state::LeaseTable;
@@ -175,8 +175,8 @@ fn numbers(table: LeaseTable, c: Scope, n: usize, a: Ask, own: u64) -> GrantNumb
     }
 }
 
-// The grant of n tenants' rule: the largest allowed number up to the desired one, and its addresses.
-pub fn granted(table: LeaseTable, c: Scope, n: usize, a: Ask) -> Grant
+// The grant of n tenants' rule to one of them: the largest allowed number up to the desired one, and its addresses.
+fn grant_known(table: LeaseTable, c: Scope, n: usize, a: Ask) -> Grant
     requires { ⌜ (a .tenant < n) × (n ≤ 8) ⌝ }
     ensures { λ r. ⌜ r ≡ grantOf c n (leasesOf table) a ⌝ }
 {
@@ -189,6 +189,29 @@ pub fn granted(table: LeaseTable, c: Scope, n: usize, a: Ask) -> Grant
     Grant {
         number: k,
         addresses: m,
+    }
+}
+
+fn cut8(n: usize) -> usize
+    ensures { λ r. ⌜ r ≡ min n 8 ⌝ }
+{
+    if n < 8 {
+        return n;
+    }
+    8
+}
+
+// The same for any tenant: an unknown one is granted nothing.
+pub fn granted(table: LeaseTable, c: Scope, n: usize, a: Ask) -> Grant
+    ensures { λ r. ⌜ r ≡ grantTo c n (leasesOf table) a ⌝ }
+{
+    let known = cut8(n);
+    if a.tenant < known {
+        return grant_known(table, c, known, a);
+    }
+    Grant {
+        number: 0,
+        addresses: 0,
     }
 }
 

@@ -1,6 +1,5 @@
 -- Definitions: the tests and the parts of document 01's decision, each on plain values. A house is a tenant here; h counts from 0.
-use Prim.Native.Nat.{ℕ, _+_, _-_, _<_, min, max}
-use mathlib.Core.Path.{_≡_}
+use Prim.Native.Nat.{ℕ, _+_, _-_, min, max}
 use mathlib.Core.Bool.{Bool, not, _&&_, _||_}
 use mathlib.Core.List.{List}
 use lib.Dec.{ltb, eqb}
@@ -18,7 +17,7 @@ use Rattle.state.specs.Book.{inUse, laidOut, leasesOf, tenantAt, putAt, placeOf
 use Rattle.soundness.specs.Sound.{tenantsIn, scopesIn}
 use Rattle.allocation.specs.declared.Ask.{Ask}
 use Rattle.allocation.specs.declared.Grant.{Grant}
-use Rattle.allocation.specs.Rule.{grantOf, suffices, busyIn}
+use Rattle.allocation.specs.Rule.{grantTo, suffices, busyIn}
 use Rattle.decision.specs.declared.Proposal.{Proposal}
 use Rattle.decision.specs.declared.Verdict.{Verdict}
 use Rattle.decision.specs.declared.Reply.{Reply}
@@ -64,10 +63,6 @@ holdsOf own m = ltb (placeOf (leaseIdIn m) own) (length own)
 unfoldable pub recordedOf : List Lease → Fields → Lease
 recordedOf own m = leaseAt own (placeOf (leaseIdIn m) own)
 
--- what a RENEW is left to: the lease that gives way is there
-unfoldable pub OldThere : LeaseTable → ℕ → Fields → Type 0
-OldThere b h m = (m .kind ≡ 1 → ⊥) → (m .kind ≡ 3 → ⊥) → placeOf (leaseIdIn m) (ownOf b h) < length (ownOf b h)
-
 -- ---- Resend
 unfoldable pub resends : Fields → Lease → Bool
 resends m l = (eqb (m .kind) 3 || eqb (m .kind) 4) && (eqb (l .kind) (m .kind) && eqb (l .xid) (m .xid))
@@ -99,10 +94,18 @@ badCounts m = eqb (m .counts .least) 0 || ltb (m .counts .desired) (m .counts .l
 unfoldable pub lacksCurrent : Fields → Bool
 lacksCurrent m = (m .times .start .there || m .times .latest .there) && not (m .times .current .there)
 
+-- what of error 1 the message and the settings say, before the identifier is looked for
+unfoldable pub early1Of : State → Fields → Bool
+early1Of s m = not (m .allowed) || (lacksScope s m || (zeroLength m || (badCounts m || lacksCurrent m)))
+
+-- "DISCOVER or REQUEST with an identifier the house holds"
+unfoldable pub heldAlready : Fields → Bool → Bool
+heldAlready m held = isNew m && held
+
 -- "an option that isn't allowed; DISCOVER or REQUEST whose scope is missing or not ours; Lease Time 0; least 0 or above desired;
 -- 6 or 15 without 11; DISCOVER or REQUEST with an identifier the house holds"
 unfoldable pub error1Of : State → Fields → Bool → Bool
-error1Of s m held = not (m .allowed) || (lacksScope s m || (zeroLength m || (badCounts m || (lacksCurrent m || (isNew m && held)))))
+error1Of s m held = early1Of s m || heldAlready m held
 
 -- ---- error 2: "Current Time and clock more than 1,800 apart"
 unfoldable pub skewed : ℕ → ℕ → Bool
@@ -150,7 +153,7 @@ unfoldable pub newWith : LeaseTable → Fields → Ask → Grant → Proposal
 newWith b m a g = record { fits = fitsNew (ownOf b (a .tenant)) m g; scope = a .scope; start = a .from; end = a .to; addresses = g .addresses }
 
 unfoldable pub newAt : State → LeaseTable → ℕ → Fields → ℕ → Proposal
-newAt s b h m k = newWith b m (askAt s h m k) (grantOf (scopeAt s k) (tenantsIn s) (leasesOf b) (askAt s h m k))
+newAt s b h m k = newWith b m (askAt s h m k) (grantTo (scopeAt s k) (tenantsIn s) (leasesOf b) (askAt s h m k))
 
 unfoldable pub newOf : State → LeaseTable → ℕ → Fields → Proposal
 newOf s b h m = newAt s b h m (scopePlace s (m .scope .value))

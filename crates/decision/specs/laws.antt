@@ -1,4 +1,5 @@
 pub mod Code
+pub mod Cases
 pub mod Kept
 pub mod Ensured
 pub mod Reads

@@ -1,15 +1,11 @@
-// The decision after tests 1 to 7: Resend, errors 1, 2, 3, 0 and what the message asks for, with the leases afterwards.
+// The decision after tests 1 to 7: Resend, errors 1, 2, 3, 0 and what the message asks for, with what it does to the tenant's leases.
 mod numbers;
 mod proposals;
 mod tests;
 
 ghost use mathlib.Core.Path.{_≡_};
-ghost use mathlib.Core.Bool.{true};
-ghost use Prim.Native.Nat.{_<_};
-ghost use lib.ListN.{length};
-ghost use Rattle.state.specs.Book.{insertOf, placeOf, replaceOf, removeOf};
-ghost use Rattle.soundness.specs.Sound.{tenantsIn};
-ghost use Rattle.decision.specs.Parts.{ownOf, leaseIdIn, holdsOf, OldThere, proposalOf, withLease, plainReply, nakWith, discardWith, refusalOf};
+ghost use Rattle.state.specs.Edit.{leaving};
+ghost use Rattle.decision.specs.Parts.{proposalOf, withLease, plainReply, nakWith, discardWith, refusalOf};
 ghost use Rattle.decision.specs.Decide.{unchanged, changed, leasedOf, plainOf, settledOf, judgedOf, decideOf};
 ghost use Rattle.decision.specs.declared.Reply.the-variants.{Offer, LeaseAck, ReleaseAck, InfoAck};
 use crate::proposals::lease_from;
@@ -22,6 +18,7 @@ use crate::tests::has_period;
 use crate::tests::is_resend;
 use message::Fields;
 use message::MessageType;
+use state::Edit;
 use state::Lease;
 use state::LeaseTable;
 use state::State;
@@ -47,10 +44,10 @@ pub struct Verdict {
     pub addresses: u64,
 }
 
-// A verdict, and the leases afterwards.
+// A verdict, and what it does to the tenant's leases.
 pub struct Decided {
     pub verdict: Verdict,
-    pub table: LeaseTable,
+    pub edit: Edit,
 }
 
 // What a lease would be, and whether it passes the test of error 0 that goes by its type.
@@ -131,158 +128,125 @@ fn refusal(m: Fields, error: u8) -> Verdict
     nak(error)
 }
 
-fn refuse(table: LeaseTable, m: Fields, error: u8) -> Decided
-    ensures { λ r. ⌜ r ≡ unchanged table (refusalOf m error) ⌝ }
+// A verdict that leaves the leases as they are.
+fn unchanged_by(v: Verdict) -> Decided
+    ensures { λ r. ⌜ r ≡ unchanged v ⌝ }
 {
     Decided {
-        verdict: refusal(m, error),
-        table: table,
+        verdict: v,
+        edit: state::no_edit(),
     }
 }
 
-fn offer(table: LeaseTable, l: Lease) -> Decided
-    ensures { λ r. ⌜ r ≡ unchanged table (withLease Offer l) ⌝ }
+fn refuse(m: Fields, error: u8) -> Decided
+    ensures { λ r. ⌜ r ≡ unchanged (refusalOf m error) ⌝ }
 {
-    Decided {
-        verdict: with_lease(Reply::Offer, l),
-        table: table,
-    }
+    let v = refusal(m, error);
+    unchanged_by(v)
 }
 
-// The ACK to a Resend.
-fn acknowledge(table: LeaseTable, l: Lease) -> Decided
-    ensures { λ r. ⌜ r ≡ unchanged table (withLease LeaseAck l) ⌝ }
+fn offer(l: Lease) -> Decided
+    ensures { λ r. ⌜ r ≡ unchanged (withLease Offer l) ⌝ }
 {
-    Decided {
-        verdict: with_lease(Reply::LeaseAck, l),
-        table: table,
-    }
+    let v = with_lease(Reply::Offer, l);
+    unchanged_by(v)
 }
 
-// The ACK to a new REQUEST.
-fn record(table: LeaseTable, h: usize, l: Lease) -> Decided
-    requires { ⌜ length (ownOf table h) < 16 ⌝ }
-    ensures { λ r. ⌜ r ≡ changed table h (insertOf l (ownOf table h)) (withLease LeaseAck l) ⌝ }
+// The ACK to a REQUEST or a RENEW.
+fn acknowledge(e: Edit, l: Lease) -> Decided
+    ensures { λ r. ⌜ r ≡ changed e (withLease LeaseAck l) ⌝ }
 {
-    let t = state::tenant_at(table, h);
-    let more = state::insert(t, l);
     Decided {
         verdict: with_lease(Reply::LeaseAck, l),
-        table: state::put_tenant(table, h, more),
+        edit: e,
     }
 }
 
-// The ACK to a RENEW.
-fn renew(table: LeaseTable, h: usize, m: Fields, l: Lease) -> Decided
-    requires { ⌜ placeOf (leaseIdIn m) (ownOf table h) < length (ownOf table h) ⌝ }
-    ensures { λ r. ⌜ r ≡ changed table h (replaceOf (leaseIdIn m) l (ownOf table h)) (withLease LeaseAck l) ⌝ }
+fn release(old: Lease) -> Decided
+    ensures { λ r. ⌜ r ≡ changed (leaving old) (plainReply ReleaseAck) ⌝ }
 {
-    let t = state::tenant_at(table, h);
-    let i = m.id;
-    let octets = i.octets;
-    let now = state::replace(t, octets, i.len, l);
-    Decided {
-        verdict: with_lease(Reply::LeaseAck, l),
-        table: state::put_tenant(table, h, now),
-    }
-}
-
-fn release(table: LeaseTable, h: usize, m: Fields) -> Decided
-    ensures { λ r. ⌜ r ≡ changed table h (removeOf (leaseIdIn m) (ownOf table h)) (plainReply ReleaseAck) ⌝ }
-{
-    let t = state::tenant_at(table, h);
-    let i = m.id;
-    let octets = i.octets;
-    let now = state::remove(t, octets, i.len);
     Decided {
         verdict: plain_reply(Reply::ReleaseAck),
-        table: state::put_tenant(table, h, now),
+        edit: state::leave(old),
     }
 }
 
-fn inform(table: LeaseTable) -> Decided
-    ensures { λ r. ⌜ r ≡ unchanged table (plainReply InfoAck) ⌝ }
+fn inform() -> Decided
+    ensures { λ r. ⌜ r ≡ unchanged (plainReply InfoAck) ⌝ }
 {
-    Decided {
-        verdict: plain_reply(Reply::InfoAck),
-        table: table,
-    }
+    let v = plain_reply(Reply::InfoAck);
+    unchanged_by(v)
 }
 
-fn leased(table: LeaseTable, h: usize, m: Fields, l: Lease) -> Decided
-    requires { ⌜ (m .kind ≡ 3 → length (ownOf table h) < 16) × OldThere table h m ⌝ }
-    ensures { λ r. ⌜ r ≡ leasedOf table h m l ⌝ }
+fn leased(m: Fields, old: Lease, l: Lease) -> Decided
+    ensures { λ r. ⌜ r ≡ leasedOf m old l ⌝ }
 {
     if m.kind == MessageType::DISCOVER {
-        return offer(table, l);
+        return offer(l);
     }
     if m.kind == MessageType::REQUEST {
-        return record(table, h, l);
+        return acknowledge(state::enter(l), l);
     }
-    renew(table, h, m, l)
+    acknowledge(state::give_way(old, l), l)
 }
 
-fn plain(table: LeaseTable, h: usize, m: Fields) -> Decided
-    ensures { λ r. ⌜ r ≡ plainOf table h m ⌝ }
+fn plain(m: Fields, old: Lease) -> Decided
+    ensures { λ r. ⌜ r ≡ plainOf m old ⌝ }
 {
     if m.kind == MessageType::RELEASE {
-        return release(table, h, m);
+        return release(old);
     }
-    inform(table)
+    inform()
 }
 
-fn settle(s: State, table: LeaseTable, h: usize, m: Fields, p: Proposal) -> Decided
-    requires { ⌜ (p .fits ≡ true → m .kind ≡ 3 → length (ownOf table h) < 16) × OldThere table h m ⌝ }
-    ensures { λ r. ⌜ r ≡ settledOf s table h m p ⌝ }
+fn settle(s: State, m: Fields, old: Lease, p: Proposal) -> Decided
+    ensures { λ r. ⌜ r ≡ settledOf s m old p ⌝ }
 {
     if error_0(s, p) {
-        return refuse(table, m, 0);
+        return refuse(m, 0);
     }
     let l = lease_from(m, p);
-    leased(table, h, m, l)
+    leased(m, old, l)
 }
 
 // Error 0, or a lease.
-fn lease(s: State, table: LeaseTable, h: usize, m: Fields, l: Lease) -> Decided
-    requires { ⌜ (h < tenantsIn s) × OldThere table h m ⌝ }
-    ensures { λ r. ⌜ r ≡ settledOf s table h m (proposalOf s table h m l) ⌝ }
+fn lease(s: State, table: LeaseTable, h: usize, m: Fields, old: Lease) -> Decided
+    ensures { λ r. ⌜ r ≡ settledOf s m old (proposalOf s table h m old) ⌝ }
 {
-    let p = propose(s, table, h, m, l);
-    settle(s, table, h, m, p)
+    let p = propose(s, table, h, m, old);
+    settle(s, m, old, p)
 }
 
-fn judge(s: State, table: LeaseTable, h: usize, m: Fields, l: Lease, held: bool) -> Decided
-    requires { ⌜ (h < tenantsIn s) × (held ≡ holdsOf (ownOf table h) m) ⌝ }
-    ensures { λ r. ⌜ r ≡ judgedOf s table h m l held ⌝ }
+fn judge(s: State, table: LeaseTable, h: usize, m: Fields, old: Lease, held: bool) -> Decided
+    ensures { λ r. ⌜ r ≡ judgedOf s table h m old held ⌝ }
 {
-    if is_resend(m, l) {
-        return acknowledge(table, l);
+    if is_resend(m, old) {
+        return acknowledge(state::no_edit(), old);
     }
     if error_1(s, m, held) {
-        return refuse(table, m, 1);
+        return refuse(m, 1);
     }
     if error_2(s, m) {
-        return refuse(table, m, 2);
+        return refuse(m, 2);
     }
     if error_3(m, held) {
-        return refuse(table, m, 3);
+        return refuse(m, 3);
     }
     if has_period(m) {
-        return lease(s, table, h, m, l);
+        return lease(s, table, h, m, old);
     }
-    plain(table, h, m)
+    plain(m, old)
 }
 
-// The verdict on a message of tenant h, counted from 0, and the leases afterwards.
+// The verdict on a message of tenant h, counted from 0, and what it does to the tenant's leases; an unknown tenant is granted nothing.
 pub fn decide(s: State, table: LeaseTable, h: usize, m: Fields) -> Decided
-    requires { ⌜ h < tenantsIn s ⌝ }
     ensures { λ r. ⌜ r ≡ decideOf s table h m ⌝ }
 {
-    let t = state::tenant_at(table, h);
+    let own = state::tenant_at(table, h);
     let i = m.id;
     let octets = i.octets;
-    let at = state::find(t, octets, i.len);
-    let n = state::lease_count(t);
-    let l = state::lease_at(t, at);
-    judge(s, table, h, m, l, at < n)
+    let at = state::find(own, octets, i.len);
+    let n = state::lease_count(own);
+    let old = state::lease_at(own, at);
+    judge(s, table, h, m, old, at < n)
 }

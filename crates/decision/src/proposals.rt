@@ -1,8 +1,6 @@
 // The period, and what a lease would be: newly granted, or renewed.
 ghost use mathlib.Core.Path.{_≡_};
-ghost use Prim.Native.Nat.{_<_};
 ghost use Rattle.state.specs.Book.{inUse};
-ghost use Rattle.soundness.specs.Sound.{tenantsIn};
 ghost use Rattle.decision.specs.Parts.{wishedOr, startOf, lengthOf, endOf, askAt, fitsNew, newWith, newAt, newOf, othersBusy, fitsRenewed, renewedTo, renewedOf, proposalOf, leaseFrom};
 use crate::Proposal;
 use crate::numbers::DEFAULT_LEASE;
@@ -98,7 +96,6 @@ fn new_with(table: LeaseTable, m: Fields, a: Ask, g: Grant) -> Proposal
 }
 
 fn new_at(s: State, table: LeaseTable, h: usize, m: Fields, k: usize) -> Proposal
-    requires { ⌜ h < tenantsIn s ⌝ }
     ensures { λ r. ⌜ r ≡ newAt s table h m k ⌝ }
 {
     let c = state::scope_at(s, k);
@@ -110,7 +107,6 @@ fn new_at(s: State, table: LeaseTable, h: usize, m: Fields, k: usize) -> Proposa
 
 // What a DISCOVER or REQUEST would newly get.
 fn new_lease(s: State, table: LeaseTable, h: usize, m: Fields) -> Proposal
-    requires { ⌜ h < tenantsIn s ⌝ }
     ensures { λ r. ⌜ r ≡ newOf s table h m ⌝ }
 {
     let w = m.scope;
@@ -161,7 +157,6 @@ fn renewed(s: State, table: LeaseTable, h: usize, m: Fields, l: Lease) -> Propos
 }
 
 pub fn propose(s: State, table: LeaseTable, h: usize, m: Fields, l: Lease) -> Proposal
-    requires { ⌜ h < tenantsIn s ⌝ }
     ensures { λ r. ⌜ r ≡ proposalOf s table h m l ⌝ }
 {
     if is_new(m) {

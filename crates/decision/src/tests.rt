@@ -2,7 +2,7 @@
 ghost use mathlib.Core.Path.{_≡_};
 ghost use mathlib.Core.Bool.{not, _&&_, _||_};
 ghost use lib.Dec.{eqb};
-ghost use Rattle.decision.specs.Parts.{isNew, hasPeriod, resends, lowestIs, scopePlace, knowsScope, lacksScope, zeroLength, badCounts, lacksCurrent, error1Of, skewed, error2Of, error3Of, error0Of};
+ghost use Rattle.decision.specs.Parts.{isNew, hasPeriod, resends, lowestIs, scopePlace, knowsScope, lacksScope, zeroLength, badCounts, lacksCurrent, early1Of, heldAlready, error1Of, skewed, error2Of, error3Of, error0Of};
 use crate::Proposal;
 use crate::numbers::HORIZON;
 use crate::numbers::SKEW;
@@ -147,8 +147,8 @@ fn is_forbidden(m: Fields) -> bool
     !m.allowed
 }
 
-fn is_held_already(m: Fields, held: bool) -> bool
-    ensures { λ r. ⌜ r ≡ (isNew m && held) ⌝ }
+pub fn is_held_already(m: Fields, held: bool) -> bool
+    ensures { λ r. ⌜ r ≡ heldAlready m held ⌝ }
 {
     if is_new(m) {
         return held;
@@ -156,8 +156,9 @@ fn is_held_already(m: Fields, held: bool) -> bool
     false
 }
 
-pub fn error_1(s: State, m: Fields, held: bool) -> bool
-    ensures { λ r. ⌜ r ≡ error1Of s m held ⌝ }
+// What of error 1 does not ask for the identifier's lease.
+pub fn early_1(s: State, m: Fields) -> bool
+    ensures { λ r. ⌜ r ≡ early1Of s m ⌝ }
 {
     if is_forbidden(m) {
         return true;
@@ -171,7 +172,13 @@ pub fn error_1(s: State, m: Fields, held: bool) -> bool
     if bad_counts(m) {
         return true;
     }
-    if lacks_current(m) {
+    lacks_current(m)
+}
+
+pub fn error_1(s: State, m: Fields, held: bool) -> bool
+    ensures { λ r. ⌜ r ≡ error1Of s m held ⌝ }
+{
+    if early_1(s, m) {
         return true;
     }
     is_held_already(m, held)

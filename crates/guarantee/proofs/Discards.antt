@@ -1,6 +1,6 @@
 -- Proof of demand 1: whichever way the tests go, a call has one of the outcomes 0 to 8, and a discard changes no more than the clock and the ended leases.
 use Prim.Native.Nat.{ℕ, _≤_}
-use mathlib.Core.Path.{_≡_, refl, ap}
+use mathlib.Core.Path.{_≡_, refl, ap, _∙_}
 use mathlib.Core.Bool.{Bool, true, false, not, _&&_}
 use mathlib.Core.List.{List}
 use native.Mathlib.Omega.{arith}
@@ -18,72 +18,60 @@ use Rattle.message.specs.Read.{byStage, ended, headerOk, noneRequired, readOf}
 use Rattle.message.specs.Read as read
 use Rattle.message.specs.Walk.{walkOf}
 use Rattle.state.specs.declared.Book.{Book}
+use Rattle.state.specs.declared.Edit.{Edit}
 use Rattle.state.specs.declared.Lease.{Lease}
 use Rattle.state.specs.declared.LeaseTable.{LeaseTable}
 use Rattle.state.specs.declared.State.{State}
+use Rattle.state.specs.Edit.{applied, noEdit}
+use Rattle.state.specs.laws.Edited.{applied-none}
 use Rattle.soundness.specs.Sound.{soundB, tenantsIn}
 use Rattle.decision.specs.declared.Decided.{Decided}
-use Rattle.decision.specs.declared.Proposal.{Proposal}
 use Rattle.decision.specs.declared.Reply.{Reply}
 use Rattle.decision.specs.declared.Reply.the-variants.{Nothing, Offer, LeaseAck, ReleaseAck, InfoAck}
-use Rattle.decision.specs.Parts.{discardWith, error0Of, error1Of, error2Of, error3Of, hasPeriod, holdsOf, nakWith, ownOf, plainReply, proposalOf, recordedOf, refusalOf, resends, withLease}
-use Rattle.decision.specs.Decide.{decideOf, judgedOf, leasedOf, plainOf, settledOf, unchanged}
+use Rattle.decision.specs.Parts.{discardWith, nakWith, plainReply, refusalOf, withLease}
+use Rattle.decision.specs.laws.Cases.{decided-by}
+use Rattle.decision.specs.Decide.{changed, decideOf, unchanged}
 use Rattle.server.specs.Serve.{Answer, Call, answered, atClock, byReply, discarded, forServer, replyOf, serveOf, tenantOf, withReading}
 use Rattle.guarantee.specs.Statement.{Answered, Demand1, bookAt}
 
 -- ---- the decision: outcome 0, or discard 8 with nothing changed
-record Judged (t : LeaseTable) (d : Decided) : Type 0 where
+record Judged (d : Decided) : Type 0 where
   few : d .verdict .outcome ≤ 8
-  rest : (d .verdict .outcome ≡ 0 → ⊥) → (d .verdict .outcome ≡ 8) × ((d .verdict .reply ≡ Nothing) × (d .table ≡ t))
+  rest : (d .verdict .outcome ≡ 0 → ⊥) → (d .verdict .outcome ≡ 8) × ((d .verdict .reply ≡ Nothing) × (d .edit ≡ noEdit))
 
-either-way : (t : LeaseTable) (p : Bool) (x y : Decided) → Judged t x → Judged t y → Judged t (pick p x y)
-unfolding pick
-either-way t true x y a b = a
-either-way t false x y a b = b
+replied : (d : Decided) → d .verdict .outcome ≡ 0 → Judged d
+replied d e = record { few = omega arith; rest = λ n. absurd (n e) }
 
-replied : (t : LeaseTable) (d : Decided) → d .verdict .outcome ≡ 0 → Judged t d
-replied t d e = record { few = omega arith; rest = λ n. absurd (n e) }
-
-leased : (t : LeaseTable) (r : Reply) (l : Lease) (t′ : LeaseTable) → Judged t (record { verdict = withLease r l; table = t′ })
+leased : (r : Reply) (l : Lease) (e : Edit) → Judged (changed e (withLease r l))
 unfolding withLease
-leased t r l t′ = replied t _ refl
+leased r l e = replied _ refl
 
-plain : (t : LeaseTable) (r : Reply) (t′ : LeaseTable) → Judged t (record { verdict = plainReply r; table = t′ })
+plain : (r : Reply) (e : Edit) → Judged (changed e (plainReply r))
 unfolding plainReply
-plain t r t′ = replied t _ refl
+plain r e = replied _ refl
 
-refused : (t : LeaseTable) (m : Fields) (e : ℕ) → Judged t (unchanged t (refusalOf m e))
+refused : (m : Fields) (e : ℕ) → Judged (unchanged (refusalOf m e))
 unfolding refusalOf discardWith nakWith pick
-refused t m e = go (eqb (m .kind) 1) (eqb (m .kind) 8)
+refused m e = go (eqb (m .kind) 1) (eqb (m .kind) 8)
   where
-    eight : Judged t (unchanged t (discardWith 8))
+    eight : Judged (unchanged (discardWith 8))
     eight = record { few = omega arith; rest = λ n. (refl, (refl, refl)) }
 
-    go : (p q : Bool) → Judged t (unchanged t (pick p (discardWith 8) (pick q (discardWith 8) (nakWith e))))
+    go : (p q : Bool) → Judged (unchanged (pick p (discardWith 8) (pick q (discardWith 8) (nakWith e))))
     go true q = eight
     go false true = eight
-    go false false = replied t _ refl
+    go false false = replied _ refl
 
-settled : (s : State) (t : LeaseTable) (h : ℕ) (m : Fields) (p : Proposal) → Judged t (settledOf s t h m p)
-unfolding settledOf leasedOf
-settled s t h m p =
-    either-way t (error0Of s p) _ _ (refused t m 0)
-    (either-way t (eqb (m .kind) 1) _ _ (leased t Offer _ t) (either-way t (eqb (m .kind) 3) _ _ (leased t LeaseAck _ _) (leased t LeaseAck _ _)))
-
-plainly : (t : LeaseTable) (h : ℕ) (m : Fields) → Judged t (plainOf t h m)
-unfolding plainOf
-plainly t h m = either-way t (eqb (m .kind) 7) _ _ (plain t ReleaseAck _) (plain t InfoAck t)
-
-decided : (s : State) (t : LeaseTable) (h : ℕ) (m : Fields) → Judged t (decideOf s t h m)
-unfolding decideOf judgedOf
-decided s t h m =
-    let l : Lease = recordedOf (ownOf t h) m in
-    let held : Bool = holdsOf (ownOf t h) m in
-    either-way t (resends m l) _ _ (leased t LeaseAck l t)
-    (either-way t (error1Of s m held) _ _ (refused t m 1)
-    (either-way t (error2Of s m) _ _ (refused t m 2)
-    (either-way t (error3Of m held) _ _ (refused t m 3)
-    (either-way t (hasPeriod m) _ _ (settled s t h m (proposalOf s t h m l)) (plainly t h m)))))
+decided : (s : State) (t : LeaseTable) (h : ℕ) (m : Fields) → Judged (decideOf s t h m)
+decided s t h m = decided-by s t h m Judged (record {
+  resent = λ e. leased LeaseAck _ _;
+  refused = refused m;
+  offered = λ k ok e. leased Offer _ _;
+  requested = λ k ok e. leased LeaseAck _ _;
+  renewed = λ k ok held e. leased LeaseAck _ _;
+  released = λ k held. plain ReleaseAck _;
+  informed = plain InfoAck _;
+})
 
 -- ---- the reader's discards are 4, 5 and 6
 Numbered : ℕ → Type 0
@@ -123,14 +111,16 @@ module _ (b : Book) (c : Call) where
     advances = λ h. refl;
   }
 
-  served : (m : Fields) (d : Decided) → Judged (bookAt b c .table) d → Answered b c (answered (bookAt b c .state) m d)
+  served : (h : ℕ) (m : Fields) (d : Decided) → Judged d → Answered b c (answered (bookAt b c) h m d)
   unfolding replyOf
-  served m d j = record {
+  served h m d j = record {
     outcome = j .few;
     silent = λ z. ap (byReply (bookAt b c .state) m (d .verdict)) (j .rest z .1 .0);
     untouched = λ e. absurd (let r = j .rest (λ z. omega arith) .0 in omega arith);
     untouched-too = λ e. absurd (let r = j .rest (λ z. omega arith) .0 in omega arith);
-    advances = λ h. ap {B = Book} (λ (t : LeaseTable). record { state = bookAt b c .state; table = t }) (j .rest (λ z. omega arith) .1 .1);
+    advances = λ n.
+        ap {B = Book} (λ (t : LeaseTable). record { state = bookAt b c .state; table = t })
+        (ap (λ (e : Edit). applied e h (bookAt b c .table)) (j .rest (λ z. omega arith) .1 .1) ∙ applied-none (bookAt b c .table) h);
   }
 
   P : Answer → Type 0
@@ -140,7 +130,7 @@ module _ (b : Book) (c : Call) where
   unfolding forServer P
   for-server h m =
       pick-cases P (eqb (m .kind) 3 && not (m .ours)) _ _ (λ _. late 7 (omega arith) (omega arith))
-      (λ _. served m _ (decided (bookAt b c .state) (bookAt b c .table) h m))
+      (λ _. served h m _ (decided (bookAt b c .state) (bookAt b c .table) h m))
 
   with-reading : (h : ℕ) → Answered b c (withReading (bookAt b c) h (c .datagram) (readOf (c .datagram)))
   unfolding withReading P Numbered

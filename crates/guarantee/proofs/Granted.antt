@@ -6,7 +6,7 @@ use mathlib.Core.List.{List, []}
 use native.Mathlib.Omega.{arith}
 use lib.Dec.{ltb, eqb}
 use lib.ListN.{length}
-use lib.Seq.{getD-set-same, getD-set-other}
+use lib.Seq.{getD-set-same}
 use borrow.Author.Tests.{eq-eqb, eqb-false, lt-ltb, le-ltb, ltb-true, ltb-false, le-leb}
 use Rattle.lists.specs.Pick.{pick}
 use Rattle.lists.specs.laws.Both.{and-both, and-parts}
@@ -20,6 +20,8 @@ use Rattle.state.specs.declared.Lease.{Lease}
 use Rattle.state.specs.declared.LeaseTable.{LeaseTable}
 use Rattle.state.specs.declared.State.{State}
 use Rattle.state.specs.Book.{idOf, inUse, insertOf, laidOut, leasesOf, removeOf, scopeAt}
+use Rattle.state.specs.Edit.{entering}
+use Rattle.state.specs.laws.Edited.{applied-entering, applied-others}
 use Rattle.state.specs.laws.Layout.{read-back}
 use Rattle.soundness.specs.Sound.{scopesIn, soundB, tenantsIn}
 use Rattle.soundness.specs.laws.Book.{Sound, sound-lists}
@@ -29,11 +31,11 @@ use Rattle.allocation.specs.Rule.{grantOf, suffices, unusedReserve}
 use Rattle.allocation.specs.laws.Granted.{grant-exists, guaranteed}
 use Rattle.decision.specs.declared.Decided.{Decided}
 use Rattle.decision.specs.declared.Reply.the-variants.{LeaseAck}
-use Rattle.decision.specs.laws.Kept.{Passed, passed}
-use Rattle.decision.specs.Parts.{horizon, defaultLease, askAt, badCounts, error0Of, error1Of, error2Of, error3Of, fitsNew, hasPeriod, holdsOf, isNew, knowsScope, leaseFrom, lengthOf, newAt, newOf, newWith, ownOf, proposalOf, recordedOf, resends, scopePlace, startOf, withLease}
+use Rattle.decision.specs.laws.Cases.{Passed, passed, new-known, or-none}
+use Rattle.decision.specs.Parts.{horizon, defaultLease, askAt, badCounts, error0Of, error1Of, error2Of, error3Of, fitsNew, hasPeriod, holdsOf, isNew, knowsScope, leaseFrom, lengthOf, newOf, newWith, ownOf, proposalOf, recordedOf, resends, scopePlace, startOf, withLease}
 use Rattle.decision.specs.Decide.{changed, decideOf, judgedOf, leasedOf, settledOf}
 use Rattle.server.specs.Serve.{Answer, Call, answered, atClock, forServer, headOf, replyOf, serveOf, withReading}
-use Rattle.guarantee.specs.Statement.{Demand3, Granted, NewRequest, SoundBook, askFor, grantFor, leaseFor, placeFor, run, saysOf, scopeFor, stateAt, tableAt, tenantFor, termsFor}
+use Rattle.guarantee.specs.Statement.{Demand3, Granted, NewRequest, SoundBook, askFor, bookAt, grantFor, leaseFor, placeFor, run, saysOf, scopeFor, stateAt, tableAt, tenantFor, termsFor}
 use Rattle.guarantee.proofs.Inserted.{others-stay}
 use Rattle.guarantee.proofs.Ranges.{ack-names, grant-small, named-head, offsets-some, pool-fits}
 use Rattle.guarantee.proofs.Kept.{now-sound, run-sound, within-limits}
@@ -46,13 +48,6 @@ taken t x y e = ap (λ (b : Bool). pick b x y) e
 not-taken : {A : Type 0} (t : Bool) (x y : A) → t ≡ false → pick t x y ≡ y
 unfolding pick
 not-taken t x y e = ap (λ (b : Bool). pick b x y) e
-
-no : {A : Type 0} → true ≡ false → A
-no e = let z : _≡_ {A = ℕ} 0 1 = cc in absurd (omega arith)
-
-or-none : (a b : Bool) → (a || b) ≡ false → (a ≡ false) × (b ≡ false)
-or-none true b e = no e
-or-none false b e = (refl, e)
 
 none-or : {a b : Bool} → a ≡ false → b ≡ false → (a || b) ≡ false
 none-or {a} {b} p q = ap (λ (x : Bool). x || b) p ∙ q
@@ -115,8 +110,9 @@ module _ (s : State) (t : LeaseTable) (h : ℕ) (m : Fields) (v : Sound s (lease
   enough = guaranteed s (leasesOf t) v (scopePlace s (m .scope .value)) here A refl known
 
   proposed : newOf s t h m ≡ newWith t m A G
-  unfolding newOf newAt
-  proposed = ap (λ (a : Ask). newWith t m a (grantOf (scopeAt s (scopePlace s (m .scope .value))) (tenantsIn s) (leasesOf t) a)) asked
+  proposed =
+      new-known s t h m known
+      ∙ ap (λ (a : Ask). newWith t m a (grantOf (scopeAt s (scopePlace s (m .scope .value))) (tenantsIn s) (leasesOf t) a)) asked
 
   -- the lease that it records
   abbrev L : Lease
@@ -179,7 +175,7 @@ module _ (s : State) (t : LeaseTable) (h : ℕ) (m : Fields) (v : Sound s (lease
     unfolding proposalOf
     proposal-is = taken (isNew m) _ _ is-new
 
-    pub decided : decideOf s t h m ≡ changed t h (insertOf L (ownOf t h)) (withLease LeaseAck L)
+    pub decided : decideOf s t h m ≡ changed (entering L) (withLease LeaseAck L)
     unfolding decideOf judgedOf settledOf leasedOf
     decided =
         not-taken (resends m (recordedOf (ownOf t h) m)) _ _ new
@@ -187,9 +183,9 @@ module _ (s : State) (t : LeaseTable) (h : ℕ) (m : Fields) (v : Sound s (lease
         ∙ not-taken (error2Of s m) _ _ error2
         ∙ not-taken (error3Of m (holdsOf (ownOf t h) m)) _ _ no-error3
         ∙ taken (hasPeriod m) _ _ has-period
-        ∙ ap (settledOf s t h m) proposal-is
+        ∙ ap (settledOf s m (recordedOf (ownOf t h) m)) proposal-is
         ∙ not-taken (error0Of s (newOf s t h m)) _ _ no-error
-        ∙ ap (leasedOf t h m) recorded
+        ∙ ap (leasedOf m (recordedOf (ownOf t h) m)) recorded
         ∙ not-taken (eqb (m .kind) 1) _ _ (ap (λ (k : ℕ). eqb k 1) request)
         ∙ taken (eqb (m .kind) 3) _ _ (ap (λ (k : ℕ). eqb k 3) request)
 
@@ -216,9 +212,9 @@ module _ (b : Book) (c : Call) (v : SoundBook b) (r : NewRequest b c) where
   S = sound-lists (stateAt b c) (tableAt b c) (now-sound b c v .sound)
 
   abbrev D : Decided
-  D = changed (tableAt b c) (tenantFor b c) (insertOf (leaseFor b c) (ownOf (tableAt b c) (tenantFor b c))) (withLease LeaseAck (leaseFor b c))
+  D = changed (entering (leaseFor b c)) (withLease LeaseAck (leaseFor b c))
 
-  served : serveOf b c ≡ answered (stateAt b c) (saysOf b c) D
+  served : serveOf b c ≡ answered (bookAt b c) (tenantFor b c) (saysOf b c) D
   unfolding serveOf atClock withReading forServer
   served =
       taken (soundB (b .state) (b .table)) _ _ (v .sound)
@@ -226,7 +222,7 @@ module _ (b : Book) (c : Call) (v : SoundBook b) (r : NewRequest b c) where
       ∙ taken (ltb (tenantFor b c) (tenantsIn (stateAt b c))) _ _ (lt-ltb (tenantFor b c) (tenantsIn (stateAt b c)) (r .house))
       ∙ taken (eqb (readOf (c .datagram) .discard) 0) _ _ (eq-eqb (readOf (c .datagram) .discard) 0 (r .read))
       ∙ not-taken (eqb (saysOf b c .kind) 3 && not (saysOf b c .ours)) _ _ (ap₂ (λ (k : ℕ) (o : Bool). eqb k 3 && not o) (r .request) (r .ours))
-      ∙ ap (answered (stateAt b c) (saysOf b c))
+      ∙ ap (answered (bookAt b c) (tenantFor b c) (saysOf b c))
       (decided (stateAt b c) (tableAt b c) (tenantFor b c) (saysOf b c) S (r .house) (r .request) (r .new) (r .error1) (r .error2) (r .soon) (r .fits) (r .left) (r .least))
 
   there : tenantFor b c < length (tableAt b c .tenants)
@@ -239,6 +235,7 @@ module _ (b : Book) (c : Call) (v : SoundBook b) (r : NewRequest b c) where
   unfolding ls
   after =
       ap (λ (a : Answer). ownOf (a .book .table) (tenantFor b c)) served
+      ∙ ap (λ (t : LeaseTable). ownOf t (tenantFor b c)) (applied-entering (tableAt b c) (tenantFor b c) (leaseFor b c) (r .left))
       ∙ ap inUse (getD-set-same (tableAt b c .tenants) (tenantFor b c) (laidOut ls) (laidOut []) there) ∙ read-back ls
 
   pub granted : Granted b c (serveOf b c)
@@ -267,7 +264,7 @@ module _ (b : Book) (c : Call) (v : SoundBook b) (r : NewRequest b c) where
         (here (stateAt b c) (tableAt b c) (tenantFor b c) (saysOf b c) S (r .house) (r .request) (r .new) (r .error1) (r .error2)));
     state = ap (λ (a : Answer). a .book .state) served;
     others = λ g n.
-        ap (λ (a : Answer). ownOf (a .book .table) g) served ∙ ap inUse (getD-set-other (tableAt b c .tenants) (tenantFor b c) g (laidOut ls) (laidOut []) n);
+        ap (λ (a : Answer). ownOf (a .book .table) g) served ∙ ap inUse (applied-others (entering (leaseFor b c)) (tenantFor b c) g (tableAt b c) n);
     own = after;
     unchanged =
         ap (removeOf (idOf (leaseFor b c))) after

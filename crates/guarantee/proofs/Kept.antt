@@ -1,14 +1,13 @@
 -- Laws: any list of calls keeps a sound book sound: a call raises the clock and drops ended leases, and a decision keeps the leases sound.
 use Prim.Native.Nat.{ℕ, _≤_, _<_}
-use mathlib.Core.Path.{_≡_, refl, sym, ap, _∙_}
-use mathlib.Core.Bool.{Bool, true, false, _&&_}
+use mathlib.Core.Path.{_≡_, sym, ap, _∙_}
+use mathlib.Core.Bool.{_&&_}
 use mathlib.Core.List.{List, [], _∷_, map}
 use native.Mathlib.Omega.{arith}
 use lib.Dec.{ltb, leb, eqb}
-use lib.ListN.{length, length-map, length-set}
+use lib.ListN.{length, length-map}
 use borrow.Author.Tests.{eqb-true, ltb-true, leb-true}
 use Rattle.reply.specs.Reply.{leastRoom}
-use Rattle.lists.specs.Pick.{pick}
 use Rattle.lists.specs.All.{allBy}
 use Rattle.lists.specs.laws.Both.{and-parts}
 use Rattle.message.specs.declared.Fields.{Fields}
@@ -16,41 +15,20 @@ use Rattle.message.specs.laws.Placed.{pick-cases}
 use Rattle.message.specs.Read.{readOf}
 use Rattle.state.specs.declared.Book.{Book}
 use Rattle.state.specs.declared.Lease.{Lease}
-use Rattle.state.specs.declared.LeaseTable.{LeaseTable}
 use Rattle.state.specs.declared.State.{State}
 use Rattle.state.specs.Book.{advanced, dropped, inUse, laidOut, leasesOf, liveOf, scopesOf, tableOf}
+use Rattle.state.specs.laws.Edited.{applied-count}
 use Rattle.state.specs.laws.Layout.{table-back}
 use Rattle.soundness.specs.Sound.{oneTo, countsB, rule3, rule4, rule5, rule6, settingsB, sizeB, soundB, tenantsIn}
 use Rattle.soundness.specs.laws.Book.{Sound, settingsOk, sound-lists}
 use Rattle.soundness.specs.laws.Kept.{advanced-sound}
-use Rattle.decision.specs.declared.Decided.{Decided}
-use Rattle.decision.specs.Parts.{updated}
-use Rattle.decision.specs.Decide.{decideOf, judgedOf, leasedOf, plainOf, settledOf}
+use Rattle.decision.specs.Decide.{decideOf}
 use Rattle.decision.specs.laws.Kept.{GoodId, decision-sound}
 use Rattle.decision.specs.laws.Reads.{read-id}
 use Rattle.server.specs.Serve.{Answer, Call, answered, atClock, forServer, serveOf, tenantOf, withReading}
 use Rattle.guarantee.specs.Statement.{SoundBook, WithinLimits, bookAt, run}
 
--- ---- the records stay eight tenants'
-module _ (t : LeaseTable) where
-  Eight : Decided → Type 0
-  Eight d = length (d .table .tenants) ≡ length (t .tenants)
-
-  both-eight : (p : Bool) (x y : Decided) → Eight x → Eight y → Eight (pick p x y)
-  unfolding pick
-  both-eight true x y a b = a
-  both-eight false x y a b = b
-
-  put-eight : (h : ℕ) (ls : List Lease) → length (updated t h ls .tenants) ≡ length (t .tenants)
-  put-eight h ls = length-set (t .tenants) h (laidOut ls)
-
-  decided-eight : (s : State) (h : ℕ) (m : Fields) → length (decideOf s t h m .table .tenants) ≡ length (t .tenants)
-  unfolding decideOf judgedOf settledOf leasedOf plainOf Eight
-  decided-eight s h m =
-      both-eight _ _ _ refl (both-eight _ _ _ refl (both-eight _ _ _ refl (both-eight _ _ _ refl (both-eight _ _ _
-      (both-eight _ _ _ refl (both-eight _ _ _ refl (both-eight _ _ _ (put-eight h _) (put-eight h _))))
-      (both-eight _ _ _ (put-eight h _) refl)))))
-
+-- ---- the records stay eight tenants', and laid out
 advanced-eight : (b : Book) (time : ℕ) → length (advanced b time .table .tenants) ≡ length (b .table .tenants)
 unfolding advanced dropped tableOf
 advanced-eight b time =
@@ -68,10 +46,10 @@ module _ (b : Book) (c : Call) (v : SoundBook b) where
   pub now-sound : SoundBook (bookAt b c)
   now-sound = record { tenants = advanced-eight b (c .time) ∙ v .tenants; sound = advanced-sound b (c .time) (v .sound) }
 
-  decided-sound : (h : ℕ) (m : Fields) → h < tenantsIn (bookAt b c .state) → GoodId m → Keeps (answered (bookAt b c .state) m (decideOf (bookAt b c .state) (bookAt b c .table) h m))
+  decided-sound : (h : ℕ) (m : Fields) → h < tenantsIn (bookAt b c .state) → GoodId m → Keeps (answered (bookAt b c) h m (decideOf (bookAt b c .state) (bookAt b c .table) h m))
   unfolding Keeps
   decided-sound h m known good = record {
-    tenants = decided-eight (bookAt b c .table) (bookAt b c .state) h m ∙ now-sound .tenants;
+    tenants = applied-count (decideOf (bookAt b c .state) (bookAt b c .table) h m .edit) h (bookAt b c .table) ∙ now-sound .tenants;
     sound =
         decision-sound (bookAt b c .state) (bookAt b c .table) h m (now-sound .sound) (advanced-laid b (c .time)) known (let e = now-sound .tenants in omega arith) good;
   }

@@ -1,7 +1,7 @@
 -- Proof of the OFFER rule about datagrams: the same datagram with its type octet set to REQUEST is read alike but for its type.
 use Prim.Native.Nat.{ℕ, zero, suc, _+_, _-_, _*_, _/_, _≤_, _<_}
 use mathlib.Core.Path.{_≡_, refl, sym, ap, ap₂, _∙_, subst}
-use mathlib.Core.Bool.{Bool, true, false, not, _&&_, _||_}
+use mathlib.Core.Bool.{Bool, true, false, _&&_, _||_}
 use mathlib.Core.List.{List, [], _∷_, _++_}
 use mathlib.Core.Logic.{_⊎_, inl, inr, ⊎-elim}
 use native.Mathlib.Omega.{arith}
@@ -37,7 +37,7 @@ use Rattle.state.specs.declared.State.{State}
 use Rattle.state.specs.Book.{placeOf, zeroLease}
 use Rattle.decision.specs.declared.Decided.{Decided}
 use Rattle.decision.specs.Decide.{decideOf, judgedOf}
-use Rattle.decision.specs.Parts.{asOffer, badCounts, discardWith, error1Of, holdsOf, isNew, lacksCurrent, lacksScope, leaseIdIn, ownOf, recordedOf, refusalOf, resends, zeroLength}
+use Rattle.decision.specs.Parts.{asOffer, discardWith, early1Of, error1Of, heldAlready, holdsOf, isNew, leaseIdIn, ownOf, recordedOf, refusalOf, resends}
 use Rattle.decision.specs.laws.Ensured.{offered-as-requested, sentAs}
 use Rattle.guarantee.specs.Statement.{OfferAt, OfferRule, wordsOf}
 
@@ -274,10 +274,10 @@ unfolding pick
 picked b x y e = ap (λ (t : Bool). pick t x y .verdict) e
 
 discovered-held : (s : State) (t : LeaseTable) (h : ℕ) (m : Fields) → resends (sentAs 3 m) (recordedOf (ownOf t h) m) ≡ true → decideOf s t h (sentAs 1 m) .verdict ≡ discardWith 8
-unfolding decideOf judgedOf resends sentAs refusalOf pick error1Of isNew holdsOf
+unfolding decideOf judgedOf resends sentAs refusalOf pick error1Of heldAlready isNew holdsOf
 discovered-held s t h m e =
     picked (error1Of s (sentAs 1 m) (holdsOf (ownOf t h) m)) _ _
-    (or-right (not (m .allowed)) (or-right (lacksScope s (sentAs 1 m)) (or-right (zeroLength (sentAs 1 m)) (or-right (badCounts (sentAs 1 m)) (or-right (lacksCurrent (sentAs 1 m)) (resent-held (ownOf t h) m e))))))
+    (or-right (early1Of s (sentAs 1 m)) (resent-held (ownOf t h) m e))
 
 -- ---- the reading
 module _ (x : ℕ) (l : List ℕ) where

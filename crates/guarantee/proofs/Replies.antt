@@ -22,14 +22,14 @@ use Rattle.state.specs.Book.{advanced, dropped, leasesOf, live, liveOf, raised,
 use Rattle.state.specs.laws.Layout.{table-back}
 use Rattle.soundness.specs.Sound.{soundB, tenantsIn}
 use Rattle.decision.specs.declared.Decided.{Decided}
-use Rattle.decision.specs.declared.Proposal.{Proposal}
 use Rattle.decision.specs.declared.Reply.{Reply}
 use Rattle.decision.specs.declared.Reply.the-variants.{Nothing, Offer, LeaseAck, ReleaseAck, InfoAck, Nak}
 use Rattle.decision.specs.declared.Verdict.{Verdict}
 use Rattle.decision.specs.laws.Kept.{own-is}
 use Rattle.decision.specs.laws.Reads.{read-array}
-use Rattle.decision.specs.Parts.{discardWith, error0Of, nakWith, ownOf, plainReply, refusalOf, withLease}
-use Rattle.decision.specs.Decide.{decideOf, judgedOf, leasedOf, plainOf, settledOf}
+use Rattle.decision.specs.Parts.{discardWith, nakWith, ownOf, plainReply, refusalOf, withLease}
+use Rattle.decision.specs.laws.Cases.{decided-by}
+use Rattle.decision.specs.Decide.{decideOf}
 use Rattle.server.specs.Serve.{Answer, Call, answered, atClock, byReply, discarded, forServer, headOf, infoOf, replyOf, serveOf, tenantOf, termsOf, withReading}
 use Rattle.guarantee.specs.Statement.{Answered, Demand1Replies, Demand1Leases, IsReply, bookAt, liveUnder}
 use Rattle.guarantee.proofs.Discards.{call-answered}
@@ -53,24 +53,17 @@ refused : (m : Fields) (e : ℕ) → Q (refusalOf m e)
 unfolding refusalOf discardWith nakWith Q Sends
 refused m e = pick-cases Q (eqb (m .kind) 1) _ _ (λ _ z. absurd (omega arith)) (λ _. pick-cases Q (eqb (m .kind) 8) _ _ (λ _ z. absurd (omega arith)) (λ _ z. tt))
 
-settled : (s : State) (t : LeaseTable) (h : ℕ) (m : Fields) (p : Proposal) → P (settledOf s t h m p)
-unfolding settledOf leasedOf withLease P Q Sends
-settled s t h m p =
-    pick-cases P (error0Of s p) _ _ (λ _. refused m 0)
-    (λ _. pick-cases P (eqb (m .kind) 1) _ _ (λ _ z. tt) (λ _. pick-cases P (eqb (m .kind) 3) _ _ (λ _ z. tt) (λ _ z. tt)))
-
-plainly : (t : LeaseTable) (h : ℕ) (m : Fields) → P (plainOf t h m)
-unfolding plainOf plainReply P Q Sends
-plainly t h m = pick-cases P (eqb (m .kind) 7) _ _ (λ _ z. tt) (λ _ z. tt)
-
 decided : (s : State) (t : LeaseTable) (h : ℕ) (m : Fields) → P (decideOf s t h m)
-unfolding decideOf judgedOf withLease P Q Sends
-decided s t h m =
-    pick-cases P _ _ _ (λ _ z. tt)
-    (λ _. pick-cases P _ _ _ (λ _. refused m 1)
-    (λ _. pick-cases P _ _ _ (λ _. refused m 2)
-    (λ _. pick-cases P _ _ _ (λ _. refused m 3)
-    (λ _. pick-cases P _ _ _ (λ _. settled s t h m _) (λ _. plainly t h m)))))
+unfolding withLease plainReply P Q Sends
+decided s t h m = decided-by s t h m P (record {
+  resent = λ e z. tt;
+  refused = refused m;
+  offered = λ k ok e z. tt;
+  requested = λ k ok e z. tt;
+  renewed = λ k ok held e z. tt;
+  released = λ k held z. tt;
+  informed = λ z. tt;
+})
 
 -- ---- the octets of each reply
 message-long : (kind xid : ℕ) (os : List Option) → 12 ≤ length (messageOctets kind xid os)
@@ -95,7 +88,7 @@ module _ (b : Book) (c : Call) where
   unfolding R
   none n x h z = absurd (omega arith)
 
-  sent : (h : ℕ) (m : Fields) → length (m .id .octets) ≡ 32 → R (answered (bookAt b c .state) m (decideOf (bookAt b c .state) (bookAt b c .table) h m))
+  sent : (h : ℕ) (m : Fields) → length (m .id .octets) ≡ 32 → R (answered (bookAt b c) h m (decideOf (bookAt b c .state) (bookAt b c .table) h m))
   unfolding R replyOf P Q
   sent h m a z =
       octets-of (bookAt b c .state) m (decideOf (bookAt b c .state) (bookAt b c .table) h m .verdict) (decideOf (bookAt b c .state) (bookAt b c .table) h m .verdict .reply) a

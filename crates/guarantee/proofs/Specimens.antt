@@ -19,10 +19,11 @@ use Rattle.message.specs.Read.{ended, headerOk, noneRequired, readOf, requiredE
 use Rattle.message.specs.Values.{allowedAt, codesFrom, fieldsOf, foundAt, namesServer, timesOf}
 use Rattle.message.specs.Walk.{exactlyFilled, layoutOk, stepOf, optionTaken, valueOk, walkFrom, walkOf}
 use Rattle.state.specs.declared.Book.{Book}
-use Rattle.state.specs.Book.{byIdentifier, differ, addressesOf, advanced, dropped, insertOf, laidOut, liveOf, overlaps, raised, tableOf, unionAll, usedIn, zeroScope, committed, withHeld}
-use Rattle.soundness.specs.Sound.{oneTo, sizeB, idB, recordsB, countsB, rule1, belowB, offsetsB, rule2, rangeB, rangesApart, rule3, poolB, poolsApart, rule4, ttlB, rule5, reserveB, reservesB, rule6, kindB, periodB, leaseB, noneB, tenantsB, rule7, rule8, disjoint, apart, rule9, compatible, rule10, limitB, limitsB, rule11, committedB, rule12, zeroFrom, paddedB, blankB, unusedB, layoutB, rangeZero, tailB, scopeZero, settingsB, rule13, rulesOf, firstLate, firstBroken, brokenOf, soundB}
-use Rattle.allocation.specs.Rule.{allowed, busyIn, grantOf, suffices, takenOf}
-use Rattle.decision.specs.Parts.{askAt, badCounts, error0Of, error1Of, error2Of, error3Of, skewed, fitsNew, hasPeriod, holdsOf, isNew, knowsScope, lacksCurrent, lacksScope, leaseFrom, lengthOf, newAt, newOf, newWith, proposalOf, recordedOf, resends, scopePlace, startOf, wishedOr, withLease, zeroLength}
+use Rattle.state.specs.Book.{byIdentifier, differ, addressesOf, advanced, dropped, insertOf, laidOut, liveOf, overlaps, raised, tableOf, unionAll, usedIn, zeroScope, committed, withHeld, insertedIn}
+use Rattle.soundness.specs.Sound.{oneTo, sizeB, idB, recordsB, countsB, rule1, belowB, offsetsB, rule2, rangeB, rangesApart, rule3, poolB, poolsApart, rule4, ttlB, rule5, reserveB, reservesB, rule6, kindB, periodB, leaseB, noneB, tenantsB, rule7, rule8, disjoint, apart, rule9, compatible, rule10, limitB, limitsB, rule11, committedB, rule12, zeroFrom, paddedB, blankB, unusedB, layoutB, rangeZero, tailB, scopeZero, settingsB, rulesOf, firstLate, firstBroken, brokenOf, soundB, rule19}
+use Rattle.allocation.specs.Rule.{allowed, busyIn, grantOf, suffices, takenOf, grantTo}
+use Rattle.decision.specs.Parts.{askAt, badCounts, error0Of, error1Of, error2Of, error3Of, skewed, fitsNew, hasPeriod, holdsOf, isNew, knowsScope, lacksCurrent, lacksScope, leaseFrom, lengthOf, newAt, newOf, newWith, proposalOf, recordedOf, resends, scopePlace, startOf, wishedOr, withLease, zeroLength, heldAlready, early1Of}
+use Rattle.state.specs.Edit.{leftIn, editedIn, applied}
 use Rattle.decision.specs.Decide.{decideOf, judgedOf, leasedOf, settledOf}
 use Rattle.server.specs.Serve.{Call, atClock, forServer, hasClient, serveOf, tenantOf, withReading}
 use Rattle.guarantee.specs.Statement.{Demand3, Granted, NewRequest, SoundBook, run}
@@ -60,11 +61,11 @@ p3 : Call
 p3 = ask 1 2 66 2 3 (0 ∷ 1 ∷ 0 ∷ 4 ∷ 0 ∷ 0 ∷ 3 ∷ 232 ∷ [])
 
 sound : SoundBook campus
-unfolding campus pick allBy pairsBy allTo filterBy sumTo orderOf sameOf bit offsetsFrom laidOut tableOf byIdentifier unionAll addressesOf overlaps oneTo sizeB idB recordsB countsB rule1 belowB offsetsB rule2 rangeB rangesApart rule3 poolB poolsApart rule4 ttlB rule5 reserveB reservesB rule6 kindB periodB leaseB noneB tenantsB rule7 differ rule8 disjoint apart rule9 compatible rule10 limitB limitsB rule11 committed committedB rule12 zeroFrom paddedB blankB unusedB layoutB rangeZero tailB scopeZero settingsB rule13 rulesOf firstLate firstBroken brokenOf soundB
+unfolding campus pick allBy pairsBy allTo filterBy sumTo orderOf sameOf bit offsetsFrom laidOut tableOf byIdentifier unionAll addressesOf overlaps oneTo sizeB idB recordsB countsB rule1 belowB offsetsB rule2 rangeB rangesApart rule3 poolB poolsApart rule4 ttlB rule5 reserveB reservesB rule6 kindB periodB leaseB noneB tenantsB rule7 differ rule8 disjoint apart rule9 compatible rule10 limitB limitsB rule11 committed committedB rule12 zeroFrom paddedB blankB unusedB layoutB rangeZero tailB scopeZero settingsB rulesOf firstLate firstBroken brokenOf soundB rule19
 sound = record { tenants = refl; sound = refl }
 
 new : NewRequest (run campus (p1 ∷ [])) p3
-unfolding run campus ask p1 p3 pick allBy pairsBy allTo filterBy isIn placeBy largest sumTo orderOf sameOf bit differenceOf offsetsFrom setOf upTo laidOut tableOf byIdentifier unionAll addressesOf overlaps usedIn insertOf insertIn liveOf dropped raised advanced oneTo sizeB idB recordsB countsB rule1 belowB offsetsB rule2 rangeB rangesApart rule3 poolB poolsApart rule4 ttlB rule5 reserveB reservesB rule6 kindB periodB leaseB noneB tenantsB rule7 differ rule8 disjoint apart rule9 compatible rule10 limitB limitsB rule11 committed committedB rule12 zeroFrom paddedB blankB unusedB layoutB rangeZero tailB scopeZero settingsB rule13 rulesOf firstLate firstBroken brokenOf soundB at16 at32 allowedIn allows lengthOk ended headerOk noneRequired readOf requiredEmpty allowedAt codesFrom fieldsOf foundAt namesServer timesOf exactlyFilled layoutOk stepOf optionTaken valueOk walkFrom walkOf allowed busyIn grantOf withHeld suffices takenOf askAt badCounts error0Of error1Of error2Of error3Of skewed fitsNew hasPeriod holdsOf isNew knowsScope lacksCurrent lacksScope leaseFrom lengthOf newAt newOf newWith proposalOf recordedOf resends scopePlace startOf wishedOr withLease zeroLength decideOf judgedOf leasedOf settledOf atClock forServer hasClient serveOf tenantOf withReading
+unfolding run campus ask p1 p3 pick allBy pairsBy allTo filterBy isIn placeBy largest sumTo orderOf sameOf bit differenceOf offsetsFrom setOf upTo laidOut tableOf byIdentifier unionAll addressesOf overlaps usedIn insertOf insertIn liveOf dropped raised advanced oneTo sizeB idB recordsB countsB rule1 belowB offsetsB rule2 rangeB rangesApart rule3 poolB poolsApart rule4 ttlB rule5 reserveB reservesB rule6 kindB periodB leaseB noneB tenantsB rule7 differ rule8 disjoint apart rule9 compatible rule10 limitB limitsB rule11 committed committedB rule12 zeroFrom paddedB blankB unusedB layoutB rangeZero tailB scopeZero settingsB rulesOf firstLate firstBroken brokenOf soundB at16 at32 allowedIn allows lengthOk ended headerOk noneRequired readOf requiredEmpty allowedAt codesFrom fieldsOf foundAt namesServer timesOf exactlyFilled layoutOk stepOf optionTaken valueOk walkFrom walkOf allowed busyIn grantOf withHeld suffices takenOf askAt badCounts error0Of error1Of error2Of error3Of skewed fitsNew hasPeriod holdsOf isNew knowsScope lacksCurrent lacksScope leaseFrom lengthOf newAt newOf newWith proposalOf recordedOf resends scopePlace startOf wishedOr withLease zeroLength decideOf judgedOf leasedOf settledOf atClock forServer hasClient serveOf tenantOf withReading insertedIn leftIn editedIn applied rule19 grantTo early1Of heldAlready
 new = record {
   room = leb-true _ _ refl;
   house = ltb-true _ _ refl;

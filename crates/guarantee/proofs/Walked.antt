@@ -1,7 +1,7 @@
 -- Proof of demand 1, of the reply's layout: the reader's walk over a reply comes to its End.
-use Prim.Native.Nat.{ℕ, zero, suc, _+_, _≤_, _<_, _^_}
+use Prim.Native.Nat.{ℕ, zero, suc, _≤_, _<_, _^_}
 use mathlib.Core.Path.{_≡_, refl, sym, ap, _∙_, subst}
-use mathlib.Core.Bool.{Bool, true, false, not, _&&_, _||_}
+use mathlib.Core.Bool.{Bool, true, false, _&&_, _||_}
 use mathlib.Core.List.{List, [], _∷_}
 use native.Mathlib.Omega.{arith}
 use lib.Dec.{ltb, leb, eqb}
@@ -35,9 +35,10 @@ use Rattle.decision.specs.declared.Proposal.{Proposal}
 use Rattle.decision.specs.declared.Reply.{Reply}
 use Rattle.decision.specs.declared.Reply.the-variants.{Nothing, Offer, LeaseAck, ReleaseAck, InfoAck, Nak}
 use Rattle.decision.specs.declared.Verdict.{Verdict}
-use Rattle.decision.specs.laws.Kept.{Passed, own-is, passed}
-use Rattle.decision.specs.Parts.{horizon, askAt, badCounts, discardWith, error0Of, error1Of, error2Of, error3Of, fitsNew, hasPeriod, holdsOf, isNew, knowsScope, leaseFrom, nakWith, leaseIdIn, newAt, newOf, newWith, ownOf, plainReply, proposalOf, recordedOf, refusalOf, renewedOf, renewedTo, resends, scopePlace, withLease}
-use Rattle.decision.specs.Decide.{decideOf, judgedOf, leasedOf, plainOf, settledOf}
+use Rattle.decision.specs.laws.Kept.{own-is}
+use Rattle.decision.specs.laws.Cases.{Passed, decided-by, inside, new-known, new-type, no, or-none}
+use Rattle.decision.specs.Parts.{askAt, badCounts, discardWith, error0Of, fitsNew, holdsOf, isNew, knowsScope, leaseFrom, nakWith, leaseIdIn, newOf, newWith, ownOf, plainReply, recordedOf, refusalOf, renewedOf, renewedTo, resends, scopePlace, withLease}
+use Rattle.decision.specs.Decide.{decideOf}
 use Rattle.server.specs.Serve.{Answer, Call, answered, atClock, byReply, discarded, forServer, headOf, infoOf, replyOf, serveOf, tenantOf, termsOf, withReading}
 use Rattle.guarantee.specs.Statement.{Demand1Layout, Narrow, bookAt}
 use Rattle.guarantee.proofs.Ranges.{grant-small, named-head, offsets-some}
@@ -66,17 +67,6 @@ unfolding All
 at-all F [] i d h p = absurd (omega arith)
 at-all F (x ∷ l) zero d h p = h .0
 at-all F (x ∷ l) (suc i) d h p = at-all F l i d (h .1) (omega arith)
-
-no : {A : Type 0} → true ≡ false → A
-no e = let z : _≡_ {A = ℕ} 0 1 = cc in absurd (omega arith)
-
-none-left : (a b : Bool) → (a || b) ≡ false → (a ≡ false) × (b ≡ false)
-none-left true b e = no e
-none-left false b e = (refl, e)
-
-not-not : (b : Bool) → not b ≡ false → b ≡ true
-not-not true e = refl
-not-not false e = no e
 
 refused : (m : Fields) (e : ℕ) → Q (refusalOf m e)
 unfolding refusalOf discardWith nakWith Q Leases
@@ -120,65 +110,36 @@ module _ (s : State) (t : LeaseTable) (h : ℕ) (m : Fields) (v : Sound s (lease
           let z : recordedOf (ownOf t h) m ≡ zeroLease = List·getD-eq-default (ownOf t h) zeroLease {n = placeOf (leaseIdIn m) (ownOf t h)} (ltb-false (placeOf (leaseIdIn m) (ownOf t h)) (length (ownOf t h)) p) in
           no (sym e ∙ ap (resends m) z ∙ no-resend m)
 
-  -- the lease that is proposed
-  module _ (error1 : error1Of s m (holdsOf (ownOf t h) m) ≡ false) (error3 : error3Of m (holdsOf (ownOf t h) m) ≡ false) where
-    left : Passed s m (holdsOf (ownOf t h) m)
-    left = passed s m (holdsOf (ownOf t h) m) error1
+  -- the lease that a new message would get
+  abbrev N : Proposal
+  N = newWith t m (askAt s h m (scopePlace s (m .scope .value))) (grantOf (scopeAt s (scopePlace s (m .scope .value))) (tenantsIn s) (leasesOf t) (askAt s h m (scopePlace s (m .scope .value))))
 
-    some : 0 < m .counts .least
-    unfolding badCounts
-    some = let q = eqb-false (m .counts .least) 0 (none-left (eqb (m .counts .least) 0) (ltb (m .counts .desired) (m .counts .least)) (left .counts) .0) in omega arith
+  grant-sized : isNew m ≡ true → Passed s m (holdsOf (ownOf t h) m) → error0Of s N ≡ false → Sized (N .addresses)
+  unfolding newWith fitsNew suffices Sized knowsScope askAt badCounts
+  grant-sized n left e =
+      let here = ltb-true (scopePlace s (m .scope .value)) (scopesIn s) (and-parts (m .scope .there) (ltb (scopePlace s (m .scope .value)) (scopesIn s)) (left .scope n) .1) in
+      let g = and-parts (ltb (length (ownOf t h)) 16) (leb (m .counts .least) (grantOf (scopeAt s (scopePlace s (m .scope .value))) (tenantsIn s) (leasesOf t) (askAt s h m (scopePlace s (m .scope .value))) .number)) (inside s N e .1) in
+      let k = leb-true (m .counts .least) (grantOf (scopeAt s (scopePlace s (m .scope .value))) (tenantsIn s) (leasesOf t) (askAt s h m (scopePlace s (m .scope .value))) .number) (g .1) in
+      let o = eqb-false (m .counts .least) 0 (or-none (eqb (m .counts .least) 0) (ltb (m .counts .desired) (m .counts .least)) (left .counts) .0) in
+      let x = grant-exists s (leasesOf t) v (scopePlace s (m .scope .value)) here (askAt s h m (scopePlace s (m .scope .value))) (omega arith) known (omega arith) in (
+        offsets-some (grantOf (scopeAt s (scopePlace s (m .scope .value))) (tenantsIn s) (leasesOf t) (askAt s h m (scopePlace s (m .scope .value))) .addresses) (omega arith),
+        grant-small (scopeAt s (scopePlace s (m .scope .value))) (tenantsIn s) (leasesOf t) (askAt s h m (scopePlace s (m .scope .value))),
+      )
 
-    new-sized : isNew m ≡ true → error0Of s (newOf s t h m) ≡ false → Sized (newOf s t h m .addresses)
-    unfolding error0Of newOf newAt newWith fitsNew suffices Sized knowsScope askAt
-    new-sized n e =
-        let here = ltb-true (scopePlace s (m .scope .value)) (scopesIn s) (and-parts (m .scope .there) (ltb (scopePlace s (m .scope .value)) (scopesIn s)) (left .scope n) .1) in
-        let f = none-left (ltb 4294967295 (newOf s t h m .end)) (not (newOf s t h m .fits)) (none-left (ltb (s .clock + horizon) (newOf s t h m .start)) _ e .1) .1 in
-        let g = and-parts (ltb (length (ownOf t h)) 16) (leb (m .counts .least) (grantOf (scopeAt s (scopePlace s (m .scope .value))) (tenantsIn s) (leasesOf t) (askAt s h m (scopePlace s (m .scope .value))) .number)) (not-not _ f) in
-        let k = leb-true (m .counts .least) (grantOf (scopeAt s (scopePlace s (m .scope .value))) (tenantsIn s) (leasesOf t) (askAt s h m (scopePlace s (m .scope .value))) .number) (g .1) in
-        let o = some in
-        let x = grant-exists s (leasesOf t) v (scopePlace s (m .scope .value)) here (askAt s h m (scopePlace s (m .scope .value))) (omega arith) known (omega arith) in (
-          offsets-some (grantOf (scopeAt s (scopePlace s (m .scope .value))) (tenantsIn s) (leasesOf t) (askAt s h m (scopePlace s (m .scope .value))) .addresses) (omega arith),
-          grant-small (scopeAt s (scopePlace s (m .scope .value))) (tenantsIn s) (leasesOf t) (askAt s h m (scopePlace s (m .scope .value))),
-        )
-
-    error3-held : m .kind ≡ 4 → not (holdsOf (ownOf t h) m) ≡ false
-    unfolding error3Of
-    error3-held k = sym (ap (λ (n : ℕ). (eqb n 4 || eqb n 7) && not (holdsOf (ownOf t h) m)) k) ∙ error3
-
-    renewed-sized : Sized (recordedOf (ownOf t h) m .addresses) → Sized (renewedOf s t h m (recordedOf (ownOf t h) m) .addresses)
-    unfolding renewedOf renewedTo
-    renewed-sized z = z
-
-    proposed : hasPeriod m ≡ true → error0Of s (proposalOf s t h m (recordedOf (ownOf t h) m)) ≡ false → Sized (proposalOf s t h m (recordedOf (ownOf t h) m) .addresses)
-    unfolding proposalOf hasPeriod
-    proposed period = pick-cases (λ (p : Proposal). error0Of s p ≡ false → Sized (p .addresses)) (isNew m) _ _ new-sized (λ n e. old (renewing (isNew m) n period))
-      where
-        renewing : (b : Bool) → b ≡ false → (b || eqb (m .kind) 4) ≡ true → eqb (m .kind) 4 ≡ true
-        renewing true e p = no e
-        renewing false e p = p
-
-        old : eqb (m .kind) 4 ≡ true → Sized (renewedOf s t h m (recordedOf (ownOf t h) m) .addresses)
-        old e = renewed-sized (is-held (not-not (holdsOf (ownOf t h) m) (error3-held (eqb-true (m .kind) 4 e))))
-
-    settled : hasPeriod m ≡ true → P (settledOf s t h m (proposalOf s t h m (recordedOf (ownOf t h) m)))
-    unfolding settledOf leasedOf withLease leaseFrom P Q Leases
-    settled period =
-        pick-cases P (error0Of s (proposalOf s t h m (recordedOf (ownOf t h) m))) _ _ (λ _. refused m 0)
-        (λ e. pick-cases P (eqb (m .kind) 1) _ _ (λ _ z. proposed period e) (λ _. pick-cases P (eqb (m .kind) 3) _ _ (λ _ z. proposed period e) (λ _ z. proposed period e)))
-
-  plainly : P (plainOf t h m)
-  unfolding plainOf plainReply P Q Leases
-  plainly = pick-cases P (eqb (m .kind) 7) _ _ (λ _ z. tt) (λ _ z. tt)
+  new-sized : isNew m ≡ true → Passed s m (holdsOf (ownOf t h) m) → error0Of s (newOf s t h m) ≡ false → Sized (newOf s t h m .addresses)
+  new-sized n left e = let q = new-known s t h m known in subst (λ (p : Proposal). Sized (p .addresses)) (sym q) (grant-sized n left (sym (ap (error0Of s) q) ∙ e))
 
   decided : P (decideOf s t h m)
-  unfolding decideOf judgedOf withLease P Q Leases
-  decided =
-      pick-cases P (resends m (recordedOf (ownOf t h) m)) _ _ (λ e z. resent e)
-      (λ _. pick-cases P (error1Of s m (holdsOf (ownOf t h) m)) _ _ (λ _. refused m 1)
-      (λ one. pick-cases P (error2Of s m) _ _ (λ _. refused m 2)
-      (λ _. pick-cases P (error3Of m (holdsOf (ownOf t h) m)) _ _ (λ _. refused m 3)
-      (λ three. pick-cases P (hasPeriod m) _ _ (λ period. settled one three period) (λ _. plainly)))))
+  unfolding withLease leaseFrom plainReply renewedOf renewedTo P Q Leases
+  decided = decided-by s t h m P (record {
+    resent = λ e z. resent e;
+    refused = refused m;
+    offered = λ k ok e z. new-sized (new-type m k refl) ok e;
+    requested = λ k ok e z. new-sized (new-type m k refl) ok e;
+    renewed = λ k ok held e z. is-held held;
+    released = λ k held z. tt;
+    informed = λ z. tt;
+  })
 
 -- ---- the octets
 octets-walk : (s : State) (m : Fields) (v : Verdict) (k : Reply) → Named (headOf s m) → Leases k (v .addresses) → walkOf (byReply s m v k) .stage ≡ Done
@@ -215,7 +176,7 @@ module _ (b : Book) (c : Call) (narrow : Narrow b) where
   some-number zero h = absurd (h refl)
   some-number (suc n) h = omega arith
 
-  sent : soundB (b .state) (b .table) ≡ true → (h : ℕ) (m : Fields) → h < tenantsIn (bookAt b c .state) → Named (headOf (bookAt b c .state) m) → R (answered (bookAt b c .state) m (decideOf (bookAt b c .state) (bookAt b c .table) h m))
+  sent : soundB (b .state) (b .table) ≡ true → (h : ℕ) (m : Fields) → h < tenantsIn (bookAt b c .state) → Named (headOf (bookAt b c .state) m) → R (answered (bookAt b c) h m (decideOf (bookAt b c .state) (bookAt b c .table) h m))
   unfolding R replyOf P Q
   sent v h m known n z =
       octets-walk (bookAt b c .state) m (decideOf (bookAt b c .state) (bookAt b c .table) h m .verdict) (decideOf (bookAt b c .state) (bookAt b c .table) h m .verdict .reply) n

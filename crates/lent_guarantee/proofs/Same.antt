@@ -1,25 +1,21 @@
 -- Proof of `SameCall`: records and table stand for each other, in a sound book and in any that a call leaves as it was.
 use Prim.Native.Nat.{ℕ}
 use mathlib.Core.Path.{_≡_, refl, sym, ap, _∙_}
-use mathlib.Core.Bool.{Bool, true, false}
+use mathlib.Core.Bool.{true}
 use mathlib.Core.List.{List, [], map}
 use mathlib.Core.Logic.{_⊎_, inl, inr, ⊎-elim}
 use lib.Dec.{ltb}
-use lib.ListN.{length, length-map, set}
+use lib.ListN.{length, length-map}
 use Rattle.reply.specs.Reply.{leastRoom}
-use Rattle.lists.specs.Pick.{pick}
-use Rattle.message.specs.declared.Fields.{Fields}
 use Rattle.message.specs.laws.Placed.{pick-cases}
 use Rattle.state.specs.declared.Book.{Book}
 use Rattle.state.specs.declared.Lease.{Lease}
 use Rattle.state.specs.declared.LeaseTable.{LeaseTable}
 use Rattle.state.specs.declared.State.{State}
-use Rattle.state.specs.Book.{advanced, dropped, inUse, laidOut, leasesOf, liveOf, tableOf}
-use Rattle.state.specs.laws.Layout.{put-laid, table-back as lists-back}
+use Rattle.state.specs.Book.{advanced, dropped, inUse, leasesOf, liveOf, tableOf}
+use Rattle.state.specs.laws.Edited.{applied-laid}
+use Rattle.state.specs.laws.Layout.{table-back as lists-back}
 use Rattle.soundness.specs.Sound.{soundB}
-use Rattle.decision.specs.declared.Decided.{Decided}
-use Rattle.decision.specs.Parts.{updated}
-use Rattle.decision.specs.Decide.{decideOf, judgedOf, leasedOf, plainOf, settledOf}
 use Rattle.server.specs.Serve.{Answer, Call, atClock, forServer, serveOf, withReading}
 use Rattle.guarantee.specs.Statement.{SoundBook}
 use Rattle.guarantee.proofs.Kept.{call-sound}
@@ -30,27 +26,9 @@ use Rattle.records.specs.Lent.{bookFrom, lentAnswer, LentAnswer, serveLent, ser
 use Rattle.records.specs.laws.Steps.{on-whole}
 use Rattle.lent_guarantee.specs.Statement.{answerOf, SameCall}
 
--- ---- a decision's table is laid out where the table before it was
+-- ---- a table that only lays out its leases
 Laid : LeaseTable → Type 0
 Laid t = t ≡ tableOf (leasesOf t)
-
-laid-put : (t : LeaseTable) (h : ℕ) (p : List Lease) → Laid t → Laid (updated t h p)
-unfolding Laid
-laid-put t h p e =
-    let q : updated t h p ≡ tableOf (set (leasesOf t) h p) = put-laid (leasesOf t) t h (laidOut p) p e refl in
-    q ∙ ap tableOf (sym (lists-back (set (leasesOf t) h p)) ∙ ap leasesOf (sym q))
-
-both-laid : (p : Bool) (x y : Decided) → Laid (x .table) → Laid (y .table) → Laid (pick p x y .table)
-unfolding pick
-both-laid true x y a b = a
-both-laid false x y a b = b
-
-decided-laid : (s : State) (t : LeaseTable) (h : ℕ) (m : Fields) → Laid t → Laid (decideOf s t h m .table)
-unfolding decideOf judgedOf settledOf leasedOf plainOf
-decided-laid s t h m e =
-    both-laid _ _ _ e (both-laid _ _ _ e (both-laid _ _ _ e (both-laid _ _ _ e (both-laid _ _ _
-    (both-laid _ _ _ e (both-laid _ _ _ e (both-laid _ _ _ (laid-put t h _ e) (laid-put t h _ e))))
-    (both-laid _ _ _ (laid-put t h _ e) e)))))
 
 advanced-laid : (b : Book) (time : ℕ) → Laid (advanced b time .table)
 unfolding advanced dropped Laid
@@ -62,13 +40,13 @@ module _ (b : Book) (c : Call) where
   Kind a = (a .book ≡ b) ⊎ ((soundB (b .state) (b .table) ≡ true) × Laid (a .book .table))
 
   kind : Kind (serveOf b c)
-  unfolding serveOf atClock withReading forServer Kind
+  unfolding serveOf atClock withReading forServer Kind Laid
   kind =
       pick-cases Kind (soundB (b .state) (b .table)) _ _
       (λ y. pick-cases Kind (ltb (c .room) leastRoom) _ _ (λ _. inl refl)
       (λ _. pick-cases Kind _ _ _
       (λ _. pick-cases Kind _ _ _
-      (λ _. pick-cases Kind _ _ _ (λ _. inr (y, advanced-laid b (c .time))) (λ _. inr (y, decided-laid _ _ _ _ (advanced-laid b (c .time)))))
+      (λ _. pick-cases Kind _ _ _ (λ _. inr (y, advanced-laid b (c .time))) (λ _. inr (y, applied-laid _ _ _ (advanced-laid b (c .time)))))
       (λ _. inr (y, advanced-laid b (c .time)))) (λ _. inr (y, advanced-laid b (c .time))))) (λ _. inl refl)
 
 -- ---- the same call

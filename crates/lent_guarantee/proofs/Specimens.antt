@@ -12,7 +12,7 @@ use Rattle.address_set.specs.AddressSet.{bit, offsetsFrom}
 use Rattle.state.specs.declared.Lease.{Lease}
 use Rattle.state.specs.declared.State.{State}
 use Rattle.state.specs.Book.{byIdentifier, differ, laidOut, tableOf, unionAll, addressesOf, overlaps, zeroLease, zeroScope, committed}
-use Rattle.soundness.specs.Sound.{oneTo, sizeB, idB, recordsB, countsB, rule1, belowB, offsetsB, rule2, rangeB, rangesApart, rule3, poolB, poolsApart, rule4, ttlB, rule5, reserveB, reservesB, rule6, kindB, periodB, leaseB, noneB, tenantsB, rule7, rule8, disjoint, apart, rule9, compatible, rule10, limitB, limitsB, rule11, committedB, rule12, zeroFrom, paddedB, blankB, unusedB, layoutB, rangeZero, tailB, scopeZero, settingsB, rule13, rulesOf, firstLate, firstBroken, brokenOf, soundB}
+use Rattle.soundness.specs.Sound.{oneTo, sizeB, idB, recordsB, countsB, rule1, belowB, offsetsB, rule2, rangeB, rangesApart, rule3, poolB, poolsApart, rule4, ttlB, rule5, reserveB, reservesB, rule6, kindB, periodB, leaseB, noneB, tenantsB, rule7, rule8, disjoint, apart, rule9, compatible, rule10, limitB, limitsB, rule11, committedB, rule12, zeroFrom, paddedB, blankB, unusedB, layoutB, rangeZero, tailB, scopeZero, settingsB, rulesOf, firstLate, firstBroken, brokenOf, soundB, rule19}
 use Rattle.records.specs.Records.{rows, tableFrom, tenantFrom}
 use Rattle.lent_guarantee.specs.Statement.{Lent, SoundLent}
 
@@ -34,5 +34,5 @@ after-p1 : Lent
 after-p1 = record { state = state; leases = replicate 16 zeroLease ++ lease ∷ replicate 111 zeroLease }
 
 met : SoundLent after-p1
-unfolding state lease after-p1 placeBy rows tableFrom tenantFrom pick allBy pairsBy allTo filterBy sumTo orderOf sameOf bit offsetsFrom laidOut tableOf byIdentifier unionAll addressesOf overlaps oneTo sizeB idB recordsB countsB rule1 belowB offsetsB rule2 rangeB rangesApart rule3 poolB poolsApart rule4 ttlB rule5 reserveB reservesB rule6 kindB periodB leaseB noneB tenantsB rule7 differ rule8 disjoint apart rule9 compatible rule10 limitB limitsB rule11 committed committedB rule12 zeroFrom paddedB blankB unusedB layoutB rangeZero tailB scopeZero settingsB rule13 rulesOf firstLate firstBroken brokenOf soundB
+unfolding state lease after-p1 placeBy rows tableFrom tenantFrom pick allBy pairsBy allTo filterBy sumTo orderOf sameOf bit offsetsFrom laidOut tableOf byIdentifier unionAll addressesOf overlaps oneTo sizeB idB recordsB countsB rule1 belowB offsetsB rule2 rangeB rangesApart rule3 poolB poolsApart rule4 ttlB rule5 reserveB reservesB rule6 kindB periodB leaseB noneB tenantsB rule7 differ rule8 disjoint apart rule9 compatible rule10 limitB limitsB rule11 committed committedB rule12 zeroFrom paddedB blankB unusedB layoutB rangeZero tailB scopeZero settingsB rulesOf firstLate firstBroken brokenOf soundB rule19
 met = record { whole = refl; sound = refl }

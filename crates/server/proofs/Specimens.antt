@@ -23,10 +23,11 @@ use Rattle.message.specs.Values.{foundAt, namesServer, codesFrom, allowedAt, ti
 use Rattle.reply.specs.Reply.{optionsOctets, messageOctets, rangesOctets, scopesOctets, offerOf, leaseAckOf, releaseAckOf, infoAckOf, nakOf}
 use Rattle.state.specs.declared.Lease.{Lease}
 use Rattle.state.specs.declared.Book.{Book}
-use Rattle.state.specs.Book.{byIdentifier, differ, zeroScope, idOf, leasesOf, laidOut, tableOf, insertOf, removeOf, replaceOf, liveOf, raised, dropped, advanced, unionAll, addressesOf, overlaps, usedIn, committed, withHeld}
-use Rattle.soundness.specs.Sound.{oneTo, sizeB, idB, recordsB, countsB, rule1, belowB, offsetsB, rule2, rangeB, rangesApart, rule3, poolB, poolsApart, rule4, ttlB, rule5, reserveB, reservesB, rule6, kindB, periodB, leaseB, noneB, tenantsB, rule7, rule8, disjoint, apart, rule9, compatible, rule10, limitB, limitsB, rule11, committedB, rule12, zeroFrom, paddedB, blankB, unusedB, layoutB, rangeZero, tailB, scopeZero, settingsB, rule13, rulesOf, firstLate, firstBroken, brokenOf, soundB}
-use Rattle.allocation.specs.Rule.{takenOf, busyIn, allowed, grantOf, suffices}
-use Rattle.decision.specs.Parts.{isNew, hasPeriod, holdsOf, recordedOf, resends, scopePlace, knowsScope, lacksScope, zeroLength, badCounts, lacksCurrent, error1Of, skewed, error2Of, error3Of, wishedOr, startOf, lengthOf, endOf, askAt, fitsNew, newWith, newAt, newOf, othersBusy, fitsRenewed, renewedTo, renewedOf, proposalOf, error0Of, leaseFrom, withLease, plainReply, nakWith, discardWith, refusalOf}
+use Rattle.state.specs.Book.{byIdentifier, differ, zeroScope, idOf, leasesOf, laidOut, tableOf, insertOf, removeOf, liveOf, raised, dropped, advanced, unionAll, addressesOf, overlaps, usedIn, committed, withHeld, insertedIn}
+use Rattle.soundness.specs.Sound.{oneTo, sizeB, idB, recordsB, countsB, rule1, belowB, offsetsB, rule2, rangeB, rangesApart, rule3, poolB, poolsApart, rule4, ttlB, rule5, reserveB, reservesB, rule6, kindB, periodB, leaseB, noneB, tenantsB, rule7, rule8, disjoint, apart, rule9, compatible, rule10, limitB, limitsB, rule11, committedB, rule12, zeroFrom, paddedB, blankB, unusedB, layoutB, rangeZero, tailB, scopeZero, settingsB, rulesOf, firstLate, firstBroken, brokenOf, soundB, rule19}
+use Rattle.allocation.specs.Rule.{takenOf, busyIn, allowed, grantOf, suffices, grantTo}
+use Rattle.decision.specs.Parts.{isNew, hasPeriod, holdsOf, recordedOf, resends, scopePlace, knowsScope, lacksScope, zeroLength, badCounts, lacksCurrent, error1Of, skewed, error2Of, error3Of, wishedOr, startOf, lengthOf, endOf, askAt, fitsNew, newWith, newAt, newOf, othersBusy, fitsRenewed, renewedTo, renewedOf, proposalOf, error0Of, leaseFrom, withLease, plainReply, nakWith, discardWith, refusalOf, heldAlready, early1Of}
+use Rattle.state.specs.Edit.{leftIn, editedIn, applied}
 use Rattle.decision.specs.Decide.{leasedOf, plainOf, settledOf, judgedOf, decideOf}
 use Rattle.server.specs.Serve.{Call, Answer, replyOf, forServer, withReading, hasClient, tenantOf, atClock, serveOf}
 
@@ -241,5 +242,5 @@ table =
     ∷ []
 
 specimens : allBy holds table ≡ true
-unfolding book option seconds header identifier scope server end request ackAt ack nak call house1 house2 run p1 p3 p5 row rows allRows lease lease1 lease3 lease5 same holds answers discards getinfo infoAck p12 p12Reply requestAt renewAt discover offer table pick allBy pairsBy allTo filterBy isIn placeBy sumTo largest at16 at32 orderOf sameOf bit offsetsFrom setOf differenceOf upTo joined fewestRanges lengthOk allowedIn allows layoutOk exactlyFilled valueOk optionTaken stepOf walkFrom walkOf headerOk requiredEmpty noneRequired ended readOf foundAt namesServer codesFrom allowedAt timesOf fieldsOf optionsOctets messageOctets rangesOctets scopesOctets offerOf leaseAckOf releaseAckOf infoAckOf nakOf laidOut tableOf byIdentifier insertOf insertIn removeOf replaceOf liveOf raised dropped advanced unionAll addressesOf overlaps usedIn oneTo sizeB idB recordsB countsB rule1 belowB offsetsB rule2 rangeB rangesApart rule3 poolB poolsApart rule4 ttlB rule5 reserveB reservesB rule6 kindB periodB leaseB noneB tenantsB rule7 differ rule8 disjoint apart rule9 compatible rule10 limitB limitsB rule11 committed committedB rule12 zeroFrom paddedB blankB unusedB layoutB rangeZero tailB scopeZero settingsB rule13 rulesOf firstLate firstBroken brokenOf soundB takenOf busyIn withHeld allowed grantOf suffices isNew hasPeriod holdsOf recordedOf resends scopePlace knowsScope lacksScope zeroLength badCounts lacksCurrent error1Of skewed error2Of error3Of wishedOr startOf lengthOf endOf askAt fitsNew newWith newAt newOf othersBusy fitsRenewed renewedTo renewedOf proposalOf error0Of leaseFrom withLease plainReply nakWith discardWith refusalOf leasedOf plainOf settledOf judgedOf decideOf replyOf forServer withReading hasClient tenantOf atClock serveOf
+unfolding book option seconds header identifier scope server end request ackAt ack nak call house1 house2 run p1 p3 p5 row rows allRows lease lease1 lease3 lease5 same holds answers discards getinfo infoAck p12 p12Reply requestAt renewAt discover offer table pick allBy pairsBy allTo filterBy isIn placeBy sumTo largest at16 at32 orderOf sameOf bit offsetsFrom setOf differenceOf upTo joined fewestRanges lengthOk allowedIn allows layoutOk exactlyFilled valueOk optionTaken stepOf walkFrom walkOf headerOk requiredEmpty noneRequired ended readOf foundAt namesServer codesFrom allowedAt timesOf fieldsOf optionsOctets messageOctets rangesOctets scopesOctets offerOf leaseAckOf releaseAckOf infoAckOf nakOf laidOut tableOf byIdentifier insertOf insertIn removeOf liveOf raised dropped advanced unionAll addressesOf overlaps usedIn oneTo sizeB idB recordsB countsB rule1 belowB offsetsB rule2 rangeB rangesApart rule3 poolB poolsApart rule4 ttlB rule5 reserveB reservesB rule6 kindB periodB leaseB noneB tenantsB rule7 differ rule8 disjoint apart rule9 compatible rule10 limitB limitsB rule11 committed committedB rule12 zeroFrom paddedB blankB unusedB layoutB rangeZero tailB scopeZero settingsB rulesOf firstLate firstBroken brokenOf soundB takenOf busyIn withHeld allowed grantOf suffices isNew hasPeriod holdsOf recordedOf resends scopePlace knowsScope lacksScope zeroLength badCounts lacksCurrent error1Of skewed error2Of error3Of wishedOr startOf lengthOf endOf askAt fitsNew newWith newAt newOf othersBusy fitsRenewed renewedTo renewedOf proposalOf error0Of leaseFrom withLease plainReply nakWith discardWith refusalOf leasedOf plainOf settledOf judgedOf decideOf replyOf forServer withReading hasClient tenantOf atClock serveOf insertedIn leftIn editedIn applied rule19 grantTo early1Of heldAlready
 specimens = refl

@@ -20,9 +20,11 @@ use Rattle.reply.specs.declared.Terms.{Terms}
 use Rattle.reply.specs.declared.Info.{Info}
 use Rattle.reply.specs.declared.ScopeEntry.{ScopeEntry}
 use Rattle.state.specs.declared.Book.{Book}
+use Rattle.state.specs.declared.LeaseTable.{LeaseTable}
 use Rattle.state.specs.declared.Scope.{Scope}
 use Rattle.state.specs.declared.State.{State}
 use Rattle.state.specs.Book.{advanced, scopeAt}
+use Rattle.state.specs.Edit.{applied}
 use Rattle.soundness.specs.Sound.{soundB, tenantsIn}
 use Rattle.decision.specs.declared.Decided.{Decided}
 use Rattle.decision.specs.declared.Reply.{Reply}
@@ -66,25 +68,26 @@ serves-discard n b buffer r e = record {
 serves-as : {a a′ : Answer} {x y : List ℕ} {r : Served} → a ≡ a′ → Serves a x y r → Serves a′ x y r
 serves-as {x = x} {y = y} {r = r} e s = subst (λ (z : Answer). Serves z x y r) e s
 
-pub serves-decided : (b : Book) (h : ℕ) (m : Fields) (d : Decided) (n : ℕ) {x y : List ℕ} → d ≡ decideOf (b .state) (b .table) h m → Replied x (replyOf (b .state) m (d .verdict)) y n
-    → Serves (answered (b .state) m (decideOf (b .state) (b .table) h m)) x y (record { outcome = d .verdict .outcome; length = n; book = record { state = b .state; table = d .table } })
-serves-decided b h m d n {x} {y} e w =
-    subst (λ (z : Decided). Serves (answered (b .state) m z) x y (record { outcome = d .verdict .outcome; length = n; book = record { state = b .state; table = d .table } })) e
-    (record { outcome = refl; size = w .size; book = refl; buffer = w .buffer })
+pub serves-decided : (b : Book) (h : ℕ) (m : Fields) (d : Decided) (after : LeaseTable) (n : ℕ) {x y : List ℕ} → d ≡ decideOf (b .state) (b .table) h m → after ≡ applied (d .edit) h (b .table)
+    → Replied x (replyOf (b .state) m (d .verdict)) y n
+    → Serves (answered b h m (decideOf (b .state) (b .table) h m)) x y (record { outcome = d .verdict .outcome; length = n; book = record { state = b .state; table = after } })
+serves-decided b h m d after n {x} {y} e f w =
+    subst (λ (z : Decided). Serves (answered b h m z) x y (record { outcome = d .verdict .outcome; length = n; book = record { state = b .state; table = after } })) e
+    (record { outcome = refl; size = w .size; book = ap {B = Book} (λ (t : LeaseTable). record { state = b .state; table = t }) f; buffer = w .buffer })
 
 -- ---- test 7
 module _ (b : Book) (h : ℕ) (m : Fields) {x y : List ℕ} {r : Served} where
-  pub for-any : (m .kind ≡ 3 → ⊥) → Serves (answered (b .state) m (decideOf (b .state) (b .table) h m)) x y r → Serves (forServer b h m) x y r
+  pub for-any : (m .kind ≡ 3 → ⊥) → Serves (answered b h m (decideOf (b .state) (b .table) h m)) x y r → Serves (forServer b h m) x y r
   unfolding forServer pick
-  for-any e s = serves-as (sym (ap (λ (t : Bool). pick (t && not (m .ours)) (discarded 7 b) (answered (b .state) m (decideOf (b .state) (b .table) h m))) (ne-eqb (m .kind) 3 e))) s
+  for-any e s = serves-as (sym (ap (λ (t : Bool). pick (t && not (m .ours)) (discarded 7 b) (answered b h m (decideOf (b .state) (b .table) h m))) (ne-eqb (m .kind) 3 e))) s
 
-  pub for-ours : m .kind ≡ 3 → m .ours ≡ true → Serves (answered (b .state) m (decideOf (b .state) (b .table) h m)) x y r → Serves (forServer b h m) x y r
+  pub for-ours : m .kind ≡ 3 → m .ours ≡ true → Serves (answered b h m (decideOf (b .state) (b .table) h m)) x y r → Serves (forServer b h m) x y r
   unfolding forServer pick
-  for-ours e o s = serves-as (sym (ap₂ (λ (t u : Bool). pick (t && not u) (discarded 7 b) (answered (b .state) m (decideOf (b .state) (b .table) h m))) (eq-eqb (m .kind) 3 e) o)) s
+  for-ours e o s = serves-as (sym (ap₂ (λ (t u : Bool). pick (t && not u) (discarded 7 b) (answered b h m (decideOf (b .state) (b .table) h m))) (eq-eqb (m .kind) 3 e) o)) s
 
   pub for-others : m .kind ≡ 3 → m .ours ≡ false → Serves (discarded 7 b) x y r → Serves (forServer b h m) x y r
   unfolding forServer pick
-  for-others e o s = serves-as (sym (ap₂ (λ (t u : Bool). pick (t && not u) (discarded 7 b) (answered (b .state) m (decideOf (b .state) (b .table) h m))) (eq-eqb (m .kind) 3 e) o)) s
+  for-others e o s = serves-as (sym (ap₂ (λ (t u : Bool). pick (t && not u) (discarded 7 b) (answered b h m (decideOf (b .state) (b .table) h m))) (eq-eqb (m .kind) 3 e) o)) s
 
 -- ---- tests 4 to 6
 module _ (b : Book) (h : ℕ) (s : List ℕ) (r : Reading) (e : r ≡ readOf s) where

@@ -22,6 +22,7 @@ use Rattle.state.specs.declared.ClientRange.{ClientRange}
 use Rattle.state.specs.declared.Scope.{Scope}
 use Rattle.state.specs.declared.State.{State}
 use Rattle.state.specs.Book.{advanced, rangesOf, scopeAt}
+use Rattle.state.specs.Edit.{applied}
 use Rattle.soundness.specs.Sound.{soundB, tenantsIn}
 use Rattle.decision.specs.declared.Decided.{Decided}
 use Rattle.decision.specs.declared.Reply.{Reply}
@@ -76,14 +77,19 @@ unfoldable pub replyOf : State → Fields → Verdict → List ℕ
 replyOf s m v = byReply s m v (v .reply)
 
 -- ---- the tests
-abbrev pub answered : State → Fields → Decided → Answer
-answered s m d = record { outcome = d .verdict .outcome; reply = replyOf s m (d .verdict); book = record { state = s; table = d .table } }
+-- the reply that the verdict asks for, and the book with the tenant's leases edited
+abbrev pub answered : Book → ℕ → Fields → Decided → Answer
+answered b h m d = record {
+  outcome = d .verdict .outcome;
+  reply = replyOf (b .state) m (d .verdict);
+  book = record { state = b .state; table = applied (d .edit) h (b .table) };
+}
 
 -- test 7: "REQUEST with a Server Identifier other than the six octets of family 1 and our address"; then the decision
 unfoldable pub forServer : Book → ℕ → Fields → Answer
 forServer b h m =
     pick (eqb (m .kind) 3 && not (m .ours)) (discarded 7 b)
-    (answered (b .state) m (decideOf (b .state) (b .table) h m))
+    (answered b h m (decideOf (b .state) (b .table) h m))
 
 -- tests 4, 5 and 6, by the reader
 unfoldable pub withReading : Book → ℕ → List ℕ → Reading → Answer

@@ -3,7 +3,6 @@ ghost use mathlib.Core.Path.{_≡_};
 ghost use Prim.Native.Nat.{_≤_, _<_};
 ghost use lib.ListN.{length};
 ghost use Rattle.message.specs.Read.{readOf};
-ghost use Rattle.soundness.specs.Sound.{tenantsIn};
 ghost use Rattle.reply.specs.Put.{Replied};
 ghost use Rattle.reply.specs.Reply.{leastRoom};
 ghost use Rattle.decision.specs.Decide.{decideOf};
@@ -109,16 +108,17 @@ fn discard(n: u8, book: Book) -> Served
     }
 }
 
-// After test 7: the decision, and the reply written from it.
+// After test 7: the decision, the leases edited as it says, and the reply written from it.
 fn decided(book: Book, h: usize, m: Fields, reply: &mut [u8]) -> Served
-    requires { ⌜ (leastRoom ≤ length (now reply)) × (h < tenantsIn (book .state)) ⌝ }
-    ensures { λ r. ⌜ Serves (answered (book .state) m (decideOf (book .state) (book .table) h m)) (now (reply .entry)) (now (reply .exit)) r ⌝ }
+    requires { ⌜ leastRoom ≤ length (now reply) ⌝ }
+    ensures { λ r. ⌜ Serves (answered book h m (decideOf (book .state) (book .table) h m)) (now (reply .entry)) (now (reply .exit)) r ⌝ }
 {
     let s = book.state;
     let t = book.table;
     let d = decision::decide(s, t, h, m);
     let v = d.verdict;
-    let after = d.table;
+    let e = d.edit;
+    let after = state::apply(t, h, e);
     let n = write_reply(s, m, v, reply);
     Served {
         outcome: v.outcome,
@@ -132,7 +132,7 @@ fn decided(book: Book, h: usize, m: Fields, reply: &mut [u8]) -> Served
 
 // Test 7.
 fn for_server(book: Book, h: usize, m: Fields, reply: &mut [u8]) -> Served
-    requires { ⌜ (leastRoom ≤ length (now reply)) × (h < tenantsIn (book .state)) ⌝ }
+    requires { ⌜ leastRoom ≤ length (now reply) ⌝ }
     ensures { λ r. ⌜ Serves (forServer book h m) (now (reply .entry)) (now (reply .exit)) r ⌝ }
 {
     if m.kind == MessageType::REQUEST {
@@ -146,7 +146,7 @@ fn for_server(book: Book, h: usize, m: Fields, reply: &mut [u8]) -> Served
 
 // Tests 4, 5 and 6.
 fn with_datagram(book: Book, h: usize, datagram: &[u8], reply: &mut [u8]) -> Served
-    requires { ⌜ (leastRoom ≤ length (now reply)) × (h < tenantsIn (book .state)) ⌝ }
+    requires { ⌜ leastRoom ≤ length (now reply) ⌝ }
     ensures { λ r. ⌜ Serves (withReading book h (now (datagram .entry)) (readOf (now (datagram .entry)))) (now (reply .entry)) (now (reply .exit)) r ⌝ }
 {
     let r = message::read(datagram);

@@ -16,7 +16,7 @@ use Rattle.state.specs.declared.State.{State}
 use Rattle.state.specs.declared.ClientRange.{ClientRange}
 use Rattle.state.specs.declared.Scope.{Scope}
 use Rattle.state.specs.Book.{byIdentifier, differ, laidOut, tableOf, unionAll, addressesOf, overlaps, zeroScope, committed}
-use Rattle.soundness.specs.Sound.{oneTo, sizeB, idB, recordsB, countsB, rule1, belowB, offsetsB, rule2, rangeB, rangesApart, rule3, poolB, poolsApart, rule4, ttlB, rule5, reserveB, reservesB, rule6, kindB, periodB, leaseB, noneB, tenantsB, rule7, rule8, disjoint, apart, rule9, compatible, rule10, limitB, limitsB, rule11, committedB, rule12, zeroFrom, paddedB, blankB, unusedB, layoutB, rangeZero, tailB, scopeZero, settingsB, rule13, rulesOf, firstLate, firstBroken, brokenOf}
+use Rattle.soundness.specs.Sound.{oneTo, sizeB, idB, recordsB, countsB, rule1, belowB, offsetsB, rule2, rangeB, rangesApart, rule3, poolB, poolsApart, rule4, ttlB, rule5, reserveB, reservesB, rule6, kindB, periodB, leaseB, noneB, tenantsB, rule7, rule8, disjoint, apart, rule9, compatible, rule10, limitB, limitsB, rule11, committedB, rule12, zeroFrom, paddedB, blankB, unusedB, layoutB, rangeZero, tailB, scopeZero, settingsB, rulesOf, firstLate, firstBroken, brokenOf, rule19}
 
 -- the specimens' scope 239.192.0.0 and two houses, with what a case changes: the number of houses, the second house's lowest client,
 -- the scope's lowest address and TTL, and the first house's share
@@ -115,7 +115,7 @@ cases =
     ∷ case plain (lease 1 1000 2000 1 ∷ lease 2 1999 3000 1 ∷ []) [] [] 10
     ∷ case plain (lease 1 1000 2000 15 ∷ []) [] [] 11
     ∷ case plain [] (lease 1 1000 2000 7 ∷ []) [] 12
-    ∷ case plain (lease 2 1000 2000 1 ∷ lease 1 1000 2000 2 ∷ []) [] [] 13
+    ∷ case plain (lease 2 1000 2000 1 ∷ lease 1 1000 2000 2 ∷ []) [] [] 19
     -- sound: one address in each of two scopes, whose pools touch; client ranges that touch, and of one address; an identifier of 32 octets, and type 4
     ∷ case (paired 2 (scopeOf 4022337540 4 0 1 0 1 0)) (leaseOf 2 2 0 3 1000 2000 1 ∷ []) (leaseOf 1 2 0 3 1000 2000 1 ∷ []) [] 0
     ∷ case (ranged (range 9 9) (range 10 19) noRange) [] [] [] 0
@@ -140,13 +140,13 @@ cases =
     ∷ case plain (leaseOf 1 2 0 5 1000 2000 1 ∷ []) [] [] 7
     ∷ case plain (leaseOf 1 2 0 3 2000 2000 1 ∷ []) [] [] 7
     ∷ case plain (leaseOf 1 2 0 3 1000 2000 0 ∷ []) [] [] 7
-    -- 13: an octet past the identifier's length, a client range past the last house, a scope past the last, a share past the last house
-    ∷ case plain (leaseOf 1 2 9 3 1000 2000 1 ∷ []) [] [] 13
-    ∷ case (ranged (range 1 9) (range 10 19) (range 20 29)) [] [] [] 13
-    ∷ case (paired 1 (scopeOf 4022337540 4 0 1 0 1 0)) [] [] [] 13
-    ∷ case (scoped (scopeOf 4022337536 4 2 3 1 4 1)) [] [] [] 13
+    -- 19: an octet past the identifier's length, a client range past the last house, a scope past the last, a share past the last house
+    ∷ case plain (leaseOf 1 2 9 3 1000 2000 1 ∷ []) [] [] 19
+    ∷ case (ranged (range 1 9) (range 10 19) (range 20 29)) [] [] [] 19
+    ∷ case (paired 1 (scopeOf 4022337540 4 0 1 0 1 0)) [] [] [] 19
+    ∷ case (scoped (scopeOf 4022337536 4 2 3 1 4 1)) [] [] [] 19
     ∷ []
 
 all-hold : allBy holds cases ≡ true
-unfolding settings plain lease elsewhere short case holds cases pick allBy pairsBy allTo filterBy sumTo orderOf sameOf bit offsetsFrom laidOut tableOf byIdentifier unionAll addressesOf overlaps oneTo sizeB idB recordsB countsB rule1 belowB offsetsB rule2 rangeB rangesApart rule3 poolB poolsApart rule4 ttlB rule5 reserveB reservesB rule6 kindB periodB leaseB noneB tenantsB rule7 differ rule8 disjoint apart rule9 compatible rule10 limitB limitsB rule11 committed committedB rule12 zeroFrom paddedB blankB unusedB layoutB rangeZero tailB scopeZero settingsB rule13 rulesOf firstLate firstBroken brokenOf
+unfolding settings plain lease elsewhere short case holds cases pick allBy pairsBy allTo filterBy sumTo orderOf sameOf bit offsetsFrom laidOut tableOf byIdentifier unionAll addressesOf overlaps oneTo sizeB idB recordsB countsB rule1 belowB offsetsB rule2 rangeB rangesApart rule3 poolB poolsApart rule4 ttlB rule5 reserveB reservesB rule6 kindB periodB leaseB noneB tenantsB rule7 differ rule8 disjoint apart rule9 compatible rule10 limitB limitsB rule11 committed committedB rule12 zeroFrom paddedB blankB unusedB layoutB rangeZero tailB scopeZero settingsB rule19 rulesOf firstLate firstBroken brokenOf
 all-hold = refl

@@ -1,4 +1,5 @@
--- Definitions: document 01's "Sound", rule by rule in its order, numbered by its semicolons. Rule 13 is the layout of "How it is to be built".
+-- Definitions: document 01's "Sound", rule by rule in its order, numbered by its semicolons. Rule 19 is the layout of "How it is to be built"; 13 to 18 are
+-- kept for document 02.
 -- A house is a tenant here, its share a reserve; tenants count from 0, scopes from 1.
 use Prim.Native.Nat.{ℕ, _+_, _-_, min}
 use mathlib.Core.Bool.{Bool, true, _&&_, _||_}
@@ -168,7 +169,7 @@ committedB s t k = leb (committedSum (scopeAt s k) (tenantsIn s) (holding t (k +
 unfoldable pub rule12 : State → LeaseTable → Bool
 rule12 s t = allTo (committedB s t) (scopesIn s)
 
--- ---- 13. a house's leases stand in the file's order; what is unused is zero: octets past an identifier's length, records, settings entries,
+-- ---- 19. a house's leases stand in the file's order; what is unused is zero: octets past an identifier's length, records, settings entries,
 -- shares and limits past the last house
 unfoldable pub zeroFrom : ℕ → List ℕ → Bool
 zeroFrom n l = allBy (λ x. eqb x 0) (drop n l)
@@ -197,8 +198,8 @@ scopeZero c = eqb (c .lowest) 0 && (eqb (c .size) 0 && (eqb (c .ttl) 0 && tailB 
 unfoldable pub settingsB : State → Bool
 settingsB s = allBy rangeZero (drop (tenantsIn s) (s .tenants)) && (allBy scopeZero (drop (scopesIn s) (s .scopes)) && allBy (tailB (tenantsIn s)) (scopesOf s))
 
-unfoldable pub rule13 : State → LeaseTable → Bool
-rule13 s t = settingsB s && allBy layoutB (t .tenants)
+unfoldable pub rule19 : State → LeaseTable → Bool
+rule19 s t = settingsB s && allBy layoutB (t .tenants)
 
 -- ---- all of them
 unfoldable pub rulesOf : State → LeaseTable → Rules
@@ -215,13 +216,13 @@ rulesOf s t = record {
   periods = rule10 t;
   holdings = rule11 s t;
   commitments = rule12 s t;
-  layout = rule13 s t;
+  layout = rule19 s t;
 }
 
--- of rules 7 to 13, the number of the first that is broken, or 0
+-- of rules 7 to 19, the number of the first that is broken, or 0
 unfoldable pub firstLate : Rules → ℕ
 firstLate r =
-    pick (r .leases) (pick (r .identifiers) (pick (r .owners) (pick (r .periods) (pick (r .holdings) (pick (r .commitments) (pick (r .layout) 0 13) 12) 11) 10) 9) 8) 7
+    pick (r .leases) (pick (r .identifiers) (pick (r .owners) (pick (r .periods) (pick (r .holdings) (pick (r .commitments) (pick (r .layout) 0 19) 12) 11) 10) 9) 8) 7
 
 -- the number of the first rule that is broken, or 0
 unfoldable pub firstBroken : Rules → ℕ

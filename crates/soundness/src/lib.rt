@@ -186,7 +186,7 @@ fn first_late(r: Rules) -> u8
         return 12;
     }
     if !r.layout {
-        return 13;
+        return 19;
     }
     0
 }

@@ -74,7 +74,7 @@ named i l = sameOf (idOf l) i
 abbrev pub other : List ℕ → Lease → Bool
 other i l = not (named i l)
 
--- ---- finding, inserting, removing, replacing one lease
+-- ---- finding, inserting, removing one lease
 -- the place of an identifier among the leases; their number where it has none
 abbrev pub placeOf : List ℕ → List Lease → ℕ
 placeOf i ls = placeBy (named i) ls
@@ -87,12 +87,12 @@ leaseAt ls at = getD ls at zeroLease
 unfoldable pub insertOf : Lease → List Lease → List Lease
 insertOf l ls = insertIn ordered l ls
 
+-- the same of a tenant's records, where one is left; full records stay as they are
+unfoldable pub insertedIn : Lease → TenantLeases → TenantLeases
+insertedIn l t = pick (ltb (length (inUse t)) 16) (laidOut (insertOf l (inUse t))) t
+
 unfoldable pub removeOf : List ℕ → List Lease → List Lease
 removeOf i ls = filterBy (other i) ls
-
--- the lease of that identifier gives way to l, which takes its own place
-unfoldable pub replaceOf : List ℕ → Lease → List Lease → List Lease
-replaceOf i l ls = insertOf l (removeOf i ls)
 
 -- ---- the clock
 -- document 01's live: a lease is live while its end is after the clock

@@ -1,3 +1,4 @@
 pub mod Layout
+pub mod Edited
 pub mod Sets
 pub mod Sorted

@@ -18,7 +18,7 @@ use Rattle.lists.specs.laws.All.{all-append, all-cons, all-head, each-to, pairs
 use Rattle.lists.specs.laws.Both.{and-parts}
 use Rattle.lists.specs.Pick.{pick}
 use Rattle.soundness.specs.laws.Book.{AllRules, rules-of}
-use Rattle.soundness.specs.Sound.{blankB, countsB, oneTo, idB, layoutB, paddedB, rangeZero, recordsB, rule1, rule13, rulesOf, scopeZero, settingsB, sizeB, soundB, tailB, unusedB, zeroFrom}
+use Rattle.soundness.specs.Sound.{blankB, countsB, oneTo, idB, layoutB, paddedB, rangeZero, recordsB, rule1, rule19, rulesOf, scopeZero, settingsB, sizeB, soundB, tailB, unusedB, zeroFrom}
 use Rattle.state.specs.Book.{byIdentifier, idOf, inUse, laidOut, leasesOf, ordered, rangesOf, scopesOf, tableOf, zeroLease, zeroScope}
 use Rattle.state.specs.declared.ClientRange.{ClientRange}
 use Rattle.state.specs.declared.Lease.{Lease}
@@ -439,7 +439,7 @@ module _ (s : State) (b : LeaseTable) (v : Typed s b) (e : soundB s b ≡ true) 
   counted-both = and-parts (countsB s) (allBy recordsB (b .tenants)) (rules .limits)
 
   laid-both : (settingsB s ≡ true) × (allBy layoutB (b .tenants) ≡ true)
-  unfolding rulesOf rule13
+  unfolding rulesOf rule19
   laid-both = and-parts (settingsB s) (allBy layoutB (b .tenants)) (rules .layout)
 
   few-most : (most n : ℕ) → oneTo most n ≡ true → n ≤ most

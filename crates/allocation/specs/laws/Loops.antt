@@ -1,5 +1,5 @@
 -- Laws: between the grant rule and the loops that gather its numbers.
-use Prim.Native.Nat.{ℕ, _+_, _-_, _*_, _≤_, _<_, max}
+use Prim.Native.Nat.{ℕ, _+_, _-_, _*_, _≤_, _<_, max, min}
 use mathlib.Core.Path.{_≡_, refl, sym, ap, ap₂, _∙_}
 use mathlib.Core.Bool.{Bool, true, false, _&&_}
 use mathlib.Core.List.{List, [], _∷_, map}
@@ -9,6 +9,7 @@ use lib.Bits.{bitOr, or-zero-l, or-zero-r}
 use lib.ListN.{length, getD, List·getD-map}
 use borrow.Author.Tests.{eq-eqb}
 use Rattle.lists.specs.Pick.{pick}
+use Rattle.lists.specs.laws.Pick.{pick-lt, pick-not-lt}
 use Rattle.lists.specs.Fold.{fold}
 use Rattle.lists.specs.Sums.{sumTo, except}
 use Rattle.lists.specs.laws.Sums.{sum-same, sum-split}
@@ -25,7 +26,7 @@ use Rattle.allocation.specs.declared.Ask.{Ask}
 use Rattle.allocation.specs.declared.GrantNumbers.{GrantNumbers}
 use Rattle.allocation.specs.declared.Grant.{Grant}
 use Rattle.allocation.specs.Closed.{allowedOf}
-use Rattle.allocation.specs.Rule.{takenOf, busyIn, freeOf, nobodysOf, allowed, grantOf, suffices}
+use Rattle.allocation.specs.Rule.{takenOf, busyIn, freeOf, nobodysOf, allowed, grantOf, suffices, grantTo}
 use Rattle.allocation.specs.Loops.{takenOne, busyMore, numbersOf, Numbered}
 
 -- ---- one more tenant
@@ -112,6 +113,18 @@ grant-is c n t a l k o f m d h v ed ek eo ef em =
     let e : k ≡ largest (allowed c n t a) (a .desired) =
     ek ∙ ap (largest (allowedOf l)) ed ∙ ap (λ (x : GrantNumbers). largest (allowedOf x) (a .desired)) (v .whole) ∙ sym (largest-same _ _ (a .desired) (λ k. allowed-is c n t a k h)) in
     cc
+
+pub granted-known : (c : Scope) (n : ℕ) (t : List (List Lease)) (a : Ask) {k : ℕ} {r : Grant} → k ≡ min n 8 → a .tenant < k → r ≡ grantOf c k t a → r ≡ grantTo c n t a
+unfolding grantTo
+granted-known c n t a {k} {r} e h p = pick-lt (grantOf c (min n 8) t a) (record { number = 0; addresses = 0 }) r (a .tenant) (min n 8) (omega arith) (p ∙ ap (λ (x : ℕ). grantOf c x t a) e)
+
+pub granted-unknown : (c : Scope) (n : ℕ) (t : List (List Lease)) (a : Ask) {k : ℕ} → k ≡ min n 8 → k ≤ a .tenant → _≡_ {A = Grant} (record { number = 0; addresses = 0 }) (grantTo c n t a)
+unfolding grantTo
+granted-unknown c n t a {k} e h = pick-not-lt (grantOf c (min n 8) t a) (record { number = 0; addresses = 0 }) (record { number = 0; addresses = 0 }) (a .tenant) (min n 8) (omega arith) refl
+
+-- the grant to a tenant that is known
+pub grant-known : (c : Scope) (n : ℕ) (t : List (List Lease)) (a : Ask) → n ≤ 8 → a .tenant < n → grantTo c n t a ≡ grantOf c n t a
+grant-known c n t a h p = sym (granted-known c n t a {k = n} {r = grantOf c n t a} (omega arith) p refl)
 
 pub suffices-is : (least r : ℕ) (g : Grant) → r ≡ least → leb r (g .number) ≡ suffices least g
 unfolding suffices

@@ -1,5 +1,5 @@
--- `acknowledge` meets its contract: by unchanged-is.
-use Rattle.decision.specs.laws.Code.{unchanged-is}
+-- `acknowledge` meets its contract: by changed-is.
+use Rattle.decision.specs.laws.Code.{changed-is}
 use borrow.Author.Needs.{needs}
 use Rattle.decision.proofs.acknowledge.Statement.{statement}
 use Rattle.decision.proofs.acknowledge.Tie as tie
@@ -9,4 +9,4 @@ acknowledge-spec =
     tie.close
     (tie.spec
     (λ c κs. search needs)
-    (λ c. search (unchanged-is, needs)))
+    (λ c. search (changed-is, needs)))

@@ -1,5 +1,5 @@
 -- `decide` meets its contract: by decide-is.
-use Rattle.decision.specs.laws.Code.{decide-is, held-is}
+use Rattle.decision.specs.laws.Code.{decide-is}
 use borrow.Author.Needs.{needs}
 use Rattle.decision.proofs.decide.Statement.{statement}
 use Rattle.decision.proofs.decide.Tie as tie
@@ -12,5 +12,5 @@ decide-spec =
     (λ c κs. search needs)
     (λ c κs. search needs)
     (λ c κs. search needs)
-    (λ c κs. search (held-is, needs))
+    (λ c κs. search needs)
     (λ c. search (decide-is, needs)))

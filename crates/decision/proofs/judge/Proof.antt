@@ -1,6 +1,6 @@
--- `judge` meets its contract: its tests, which are calls.
+-- `judge` meets its contract: its tests, which are calls, and by edited-as.
 use Rattle.decision.specs.Decide.{judgedOf}
-use Rattle.decision.specs.laws.Code.{old-there}
+use Rattle.decision.specs.laws.Code.{edited-as}
 use Rattle.lists.specs.laws.Pick.{calls}
 use borrow.Author.Needs.{needs}
 use Rattle.decision.proofs.judge.Statement.{statement}
@@ -8,7 +8,7 @@ use Rattle.decision.proofs.judge.Tie as tie
 
 returns : tie.Need-returns
 unfolding judgedOf
-returns c = search (calls, needs)
+returns c = search (calls, edited-as, needs)
 
 returns-2 : tie.Need-returns-2
 unfolding judgedOf
@@ -34,20 +34,21 @@ pub judge-spec : {M : Type 1} → statement M
 judge-spec =
     tie.close
     (tie.spec
-    (λ c κs. search (calls, needs))
-    (λ c κs. search (calls, needs))
+    (λ c κs. search needs)
+    (λ c κs. search needs)
+    (λ c κs. search needs)
     returns
-    (λ c κs. search (calls, needs))
-    (λ c κs. search (calls, needs))
+    (λ c κs. search needs)
+    (λ c κs. search needs)
     returns-2
-    (λ c κs. search (calls, needs))
-    (λ c κs. search (calls, needs))
+    (λ c κs. search needs)
+    (λ c κs. search needs)
     returns-3
-    (λ c κs. search (calls, needs))
-    (λ c κs. search (calls, needs))
+    (λ c κs. search needs)
+    (λ c κs. search needs)
     returns-4
-    (λ c κs. search (calls, needs))
-    (λ c κs. (search needs, old-there _ _ _ _ (search needs) (c .before .before .before .error-3 .ensures) (search needs) (c .before .has-period .ensures) (search needs)))
+    (λ c κs. search needs)
+    (λ c κs. search needs)
     returns-5
-    (λ c κs. search (calls, needs))
+    (λ c κs. search needs)
     returns-6)

@@ -1,5 +1,5 @@
--- `release` meets its contract: by removed-is.
-use Rattle.decision.specs.laws.Code.{removed-is}
+-- `release` meets its contract: by changed-is.
+use Rattle.decision.specs.laws.Code.{changed-is}
 use borrow.Author.Needs.{needs}
 use Rattle.decision.proofs.release.Statement.{statement}
 use Rattle.decision.proofs.release.Tie as tie
@@ -10,6 +10,4 @@ release-spec =
     (tie.spec
     (λ c κs. search needs)
     (λ c κs. search needs)
-    (λ c κs. search needs)
-    (λ c κs. search needs)
-    (λ c. search (removed-is, needs)))
+    (λ c. search (changed-is, needs)))

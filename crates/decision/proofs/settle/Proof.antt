@@ -1,6 +1,6 @@
--- `settle` meets its contract: its tests, and by leased-is, fits-room.
+-- `settle` meets its contract: its tests, and by leased-is.
 use Rattle.decision.specs.Decide.{settledOf}
-use Rattle.decision.specs.laws.Code.{fits-room, leased-is}
+use Rattle.decision.specs.laws.Code.{leased-is}
 use Rattle.lists.specs.laws.Pick.{calls}
 use borrow.Author.Needs.{needs}
 use Rattle.decision.proofs.settle.Statement.{statement}
@@ -22,5 +22,5 @@ settle-spec =
     (λ c κs. search (calls, needs))
     returns
     (λ c κs. search (calls, needs))
-    (λ c κs. search (calls, fits-room, needs))
+    (λ c κs. search needs)
     returns-2)

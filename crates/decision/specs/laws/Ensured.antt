@@ -7,10 +7,10 @@ use Rattle.lists.specs.Pick.{pick}
 use Rattle.message.specs.declared.Fields.{Fields}
 use Rattle.state.specs.declared.LeaseTable.{LeaseTable}
 use Rattle.state.specs.declared.State.{State}
-use Rattle.state.specs.Book.{insertOf}
 use Rattle.decision.specs.declared.Decided.{Decided}
 use Rattle.decision.specs.declared.Reply.the-variants.{Offer, LeaseAck}
-use Rattle.decision.specs.Parts.{isNew, hasPeriod, ownOf, holdsOf, recordedOf, resends, knowsScope, lacksScope, zeroLength, badCounts, lacksCurrent, error1Of, error2Of, error3Of, startOf, lengthOf, askAt, fitsNew, newWith, newAt, newOf, proposalOf, error0Of, leaseFrom, withLease, nakWith, discardWith, refusalOf, asOffer}
+use Rattle.decision.specs.Parts.{isNew, hasPeriod, ownOf, holdsOf, recordedOf, resends, knowsScope, lacksScope, zeroLength, badCounts, lacksCurrent, error1Of, error2Of, error3Of, startOf, lengthOf, askAt, fitsNew, newWith, newAt, newOf, proposalOf, error0Of, leaseFrom, withLease, nakWith, discardWith, refusalOf, asOffer, heldAlready, early1Of}
+use Rattle.state.specs.Edit.{entering}
 use Rattle.decision.specs.Decide.{unchanged, changed, leasedOf, settledOf, judgedOf, decideOf}
 
 -- ---- "DISCOVER .. draws an OFFER exactly if the same message sent as a REQUEST would get a new grant now, with that period and those ranges"
@@ -33,18 +33,18 @@ sentAs kind m = record {
 -- where it is no Resend
 pub offered-as-requested : (s : State) (b : LeaseTable) (h : ℕ) (m : Fields) → resends (sentAs 3 m) (recordedOf (ownOf b h) m) ≡ false
     → decideOf s b h (sentAs 1 m) .verdict ≡ asOffer (decideOf s b h (sentAs 3 m) .verdict .reply) (decideOf s b h (sentAs 3 m) .verdict)
-unfolding decideOf judgedOf settledOf leasedOf sentAs resends isNew hasPeriod lacksScope knowsScope zeroLength badCounts lacksCurrent error1Of error2Of error3Of proposalOf newOf newAt newWith askAt fitsNew startOf lengthOf leaseFrom recordedOf holdsOf withLease nakWith discardWith refusalOf error0Of pick
+unfolding decideOf judgedOf settledOf leasedOf sentAs resends isNew hasPeriod lacksScope knowsScope zeroLength badCounts lacksCurrent early1Of heldAlready error1Of error2Of error3Of proposalOf newOf newAt newWith askAt fitsNew startOf lengthOf leaseFrom recordedOf holdsOf withLease nakWith discardWith refusalOf error0Of pick
 offered-as-requested s b h m e =
     go (resends (sentAs 3 m) (recordedOf (ownOf b h) m)) (error1Of s (sentAs 3 m) (holdsOf (ownOf b h) m)) (error2Of s m) (error0Of s (newOf s b h m)) e
   where
     D : Bool → Bool → Bool → Decided
-    D p q r = pick p (unchanged b (discardWith 8)) (pick q (unchanged b (discardWith 8)) (pick r (unchanged b (discardWith 8)) (unchanged b (withLease Offer (leaseFrom (sentAs 1 m) (newOf s b h m))))))
+    D p q r = pick p (unchanged (discardWith 8)) (pick q (unchanged (discardWith 8)) (pick r (unchanged (discardWith 8)) (unchanged (withLease Offer (leaseFrom (sentAs 1 m) (newOf s b h m))))))
 
     R : Bool → Bool → Bool → Bool → Decided
     R x p q r =
-        pick x (unchanged b (withLease LeaseAck (recordedOf (ownOf b h) m)))
-        (pick p (unchanged b (nakWith 1)) (pick q (unchanged b (nakWith 2)) (pick r (unchanged b (nakWith 0))
-        (changed b h (insertOf (leaseFrom (sentAs 3 m) (newOf s b h m)) (ownOf b h)) (withLease LeaseAck (leaseFrom (sentAs 3 m) (newOf s b h m)))))))
+        pick x (unchanged (withLease LeaseAck (recordedOf (ownOf b h) m)))
+        (pick p (unchanged (nakWith 1)) (pick q (unchanged (nakWith 2)) (pick r (unchanged (nakWith 0))
+        (changed (entering (leaseFrom (sentAs 3 m) (newOf s b h m))) (withLease LeaseAck (leaseFrom (sentAs 3 m) (newOf s b h m)))))))
 
     go : (x p q r : Bool) → x ≡ false → D p q r .verdict ≡ asOffer (R x p q r .verdict .reply) (R x p q r .verdict)
     go true p q r e = let z : _≡_ {A = ℕ} 0 1 = cc in absurd (omega arith)

@@ -21,21 +21,25 @@ use Rattle.message.specs.declared.Fields.{Fields}
 use Rattle.state.specs.declared.Lease.{Lease}
 use Rattle.state.specs.declared.LeaseTable.{LeaseTable}
 use Rattle.state.specs.declared.State.{State}
-use Rattle.state.specs.Book.{inUse, laidOut, leasesOf, tableOf, idOf, other, placeOf, leaseAt, zeroLease, live, busyOf, insertOf, removeOf, replaceOf, scopeAt}
-use Rattle.state.specs.laws.Layout.{read-back, put-laid}
+use Rattle.state.specs.Book.{inUse, laidOut, leasesOf, tableOf, idOf, other, placeOf, leaseAt, zeroLease, live, busyOf, insertOf, removeOf, scopeAt}
+use Rattle.state.specs.Edit.{noEdit, applied}
+use Rattle.state.specs.laws.Edited.{applied-none, applied-entering, applied-leaving, applied-way, applied-laid}
+use Rattle.state.specs.laws.Sorted.{named-at}
+use Rattle.state.specs.laws.Layout.{read-back, removed-fewer}
 use Rattle.soundness.specs.Sound.{oneTo, tenantsIn, scopesIn, idB, scopeKnown, belowB, offsetsB, kindB, periodB, leaseB, paddedB, disjoint, compatible, zeroFrom, soundB}
 use Rattle.soundness.specs.laws.Book.{leaseOk, Sound, sound-lists, lists-sound}
 use Rattle.soundness.specs.laws.Kept.{sound-removed}
-use Rattle.soundness.specs.laws.Added.{each-at, sound-renewed}
+use Rattle.soundness.specs.laws.Added.{each-at, few-at, sound-renewed}
 use Rattle.allocation.specs.declared.Ask.{Ask}
 use Rattle.allocation.specs.declared.Grant.{Grant}
 use Rattle.allocation.specs.Rule.{grantOf, suffices}
 use Rattle.allocation.specs.laws.Granted.{busy-here}
 use Rattle.allocation.specs.laws.Kept.{compatible-within, bits-disjoint, grant-offsets, grant-some, sound-granted}
-use Rattle.decision.specs.declared.Proposal.{Proposal}
 use Rattle.decision.specs.declared.Decided.{Decided}
-use Rattle.decision.specs.Parts.{horizon, defaultLease, longestLease, isNew, hasPeriod, ownOf, leaseIdIn, holdsOf, recordedOf, scopePlace, knowsScope, lacksScope, zeroLength, badCounts, lacksCurrent, error1Of, error3Of, wishedOr, startOf, lengthOf, endOf, askAt, fitsNew, newWith, newAt, newOf, othersBusy, fitsRenewed, renewedTo, renewedOf, proposalOf, error0Of, leaseFrom, updated}
-use Rattle.decision.specs.Decide.{leasedOf, plainOf, settledOf, judgedOf, decideOf}
+use Rattle.decision.specs.Parts.{defaultLease, longestLease, isNew, ownOf, leaseIdIn, holdsOf, recordedOf, scopePlace, knowsScope, zeroLength, badCounts, wishedOr, startOf, lengthOf, endOf, askAt, fitsNew, newWith, newAt, newOf, othersBusy, fitsRenewed, renewedTo, renewedOf, error0Of, leaseFrom, updated}
+use Rattle.decision.specs.Decide.{decideOf}
+use Rattle.decision.specs.declared.Proposal.{Proposal}
+use Rattle.decision.specs.laws.Cases.{no, or-none, Passed, inside, new-known, oldFor, newFor, renewedFor, decided-by}
 
 -- ---- a tenant's leases, read and written
 pub own-is : (b : LeaseTable) (h : ℕ) → ownOf b h ≡ getD (leasesOf b) h []
@@ -85,48 +89,6 @@ unfolding leaseOk leaseB periodB
 lease-rules s l i o k t a c n p =
     and-both (and-both i o) (and-both (and-both k (and-both t (and-both (lt-ltb (l .start) (l .end) a) (and-both (lt-ltb (s .clock) (l .end) c) (lt-ltb 0 (l .addresses) n))))) p)
 
--- ---- what the tests say when they pass
-no : {A : Type 0} → true ≡ false → A
-no e = let z : _≡_ {A = ℕ} 0 1 = cc in absurd (omega arith)
-
-or-none : (a b : Bool) → (a || b) ≡ false → (a ≡ false) × (b ≡ false)
-or-none true b e = no e
-or-none false b e = (refl, e)
-
-not-none : (a : Bool) → not a ≡ false → a ≡ true
-not-none true e = refl
-not-none false e = no e
-
-and-not-none : (a b : Bool) → a ≡ true → (a && not b) ≡ false → b ≡ true
-and-not-none true b p e = not-none b e
-and-not-none false b p e = no (sym p)
-
-and-none : (a b : Bool) → a ≡ true → (a && b) ≡ false → b ≡ false
-and-none true b p e = e
-and-none false b p e = no (sym p)
-
--- what error 1 leaves
-pub record Passed (s : State) (m : Fields) (held : Bool) : Type 0 where
-  pub scope : isNew m ≡ true → knowsScope s m ≡ true
-  pub length : zeroLength m ≡ false
-  pub counts : badCounts m ≡ false
-  pub new : isNew m ≡ true → held ≡ false
-
-pub passed : (s : State) (m : Fields) (held : Bool) → error1Of s m held ≡ false → Passed s m held
-unfolding error1Of lacksScope
-passed s m held e =
-    let a = or-none (not (m .allowed)) _ e in
-    let b = or-none (lacksScope s m) _ (a .1) in
-    let c = or-none (zeroLength m) _ (b .1) in
-    let d = or-none (badCounts m) _ (c .1) in
-    let f = or-none (lacksCurrent m) (isNew m && held) (d .1) in
-    record {
-      scope = λ n. and-not-none (isNew m) (knowsScope s m) n (b .0);
-      length = c .0;
-      counts = d .0;
-      new = λ n. and-none (isNew m) held n (f .1);
-    }
-
 -- a length is not 0 where the old one is not
 length-some : (m : Fields) (old : ℕ) → 0 < old → zeroLength m ≡ false → 0 < lengthOf m old
 unfolding lengthOf wishedOr zeroLength pick
@@ -136,14 +98,6 @@ length-some m old h e = go (m .times .length .there) (m .times .length .value) e
     go true zero e = no e
     go true (suc v) e = omega arith
     go false v e = omega arith
-
--- what error 0 leaves
-inside : (s : State) (p : Proposal) → error0Of s p ≡ false → (p .end ≤ 4294967295) × (p .fits ≡ true)
-unfolding error0Of
-inside s p e =
-    let a = or-none (ltb (s .clock + horizon) (p .start)) _ e in
-    let b = or-none (ltb 4294967295 (p .end)) (not (p .fits)) (a .1) in
-    (ltb-false 4294967295 (p .end) (b .0), not-none (p .fits) (b .1))
 
 -- a message's identifier is as the reader gives it: 2 to 32 octets, and zeros behind them
 pub record GoodId (m : Fields) : Type 0 where
@@ -186,8 +140,8 @@ module _ (s : State) (b : LeaseTable) (h : ℕ) (m : Fields) (v : Sound s (lease
   scoped = let p = here in omega arith
 
   fit : (ltb (length (ownOf b h)) 16 ≡ true) × (suffices (m .counts .least) G ≡ true)
-  unfolding newOf newAt newWith fitsNew askAt
-  fit = and-parts (ltb (length (ownOf b h)) 16) (suffices (m .counts .least) G) (inside s (newOf s b h m) e .1)
+  unfolding newWith fitsNew askAt
+  fit = and-parts (ltb (length (ownOf b h)) 16) (suffices (m .counts .least) G) (inside s (newWith b m A G) (sym (ap (error0Of s) (new-known s b h m known)) ∙ e) .1)
 
   some : 0 < G .number
   unfolding suffices badCounts
@@ -205,8 +159,8 @@ module _ (s : State) (b : LeaseTable) (h : ℕ) (m : Fields) (v : Sound s (lease
   L-scope = refl
 
   L-addresses : L .addresses ≡ G .addresses
-  unfolding leaseFrom newOf newAt newWith
-  L-addresses = refl
+  unfolding leaseFrom newWith
+  L-addresses = ap (λ (p : Proposal). p .addresses) (new-known s b h m known)
 
   L-start : L .start ≡ A .from
   unfolding leaseFrom newOf newAt newWith
@@ -367,91 +321,60 @@ module _ (s : State) (b : LeaseTable) (h : ℕ) (m : Fields) (v : Sound s (lease
       (λ a. subst (λ (x : List Lease). bit (busyOf (O .scope) F E x) a ≤ bit (othersBusy b h m (O .scope) F E) a) rest-is
       (busy-here (O .scope) F E (leasesOf (updated b h (removeOf (leaseIdIn m) (ownOf b h)))) h a))
 
-  pub renew-sound : Sound s (leasesOf (updated b h (replaceOf (leaseIdIn m) N (ownOf b h))))
+  pub renew-sound : Sound s (leasesOf (updated b h (insertOf N (removeOf (leaseIdIn m) (ownOf b h)))))
   unfolding recordedOf
   renew-sound =
       let o = own-is b h in
-      back s b h there (replaceOf (leaseIdIn m) N)
+      back s b h there (λ x. insertOf N (removeOf (leaseIdIn m) x))
       (sound-renewed s (leasesOf b) h (leaseIdIn m) N v known (there-too s b h there) N-named
       (subst (λ (x : List Lease). placeOf (leaseIdIn m) x < length x) o found)
       (subst (λ (x : List Lease). leaseAt x (placeOf (leaseIdIn m) x) .scope ≡ N .scope) o (sym N-scope))
       (subst (λ (x : List Lease). leaseAt x (placeOf (leaseIdIn m) x) .addresses ≡ N .addresses) o (sym N-addresses))
       N-good (subst (λ (x : List Lease). allBy (compatible N) (removeOf (leaseIdIn m) x) ≡ true) o rest-compatible))
 
--- ---- the decision, test by test
-by-test : (P : Decided → Type 0) (t : Bool) (x y : Decided) → (t ≡ true → P x) → (t ≡ false → P y) → P (pick t x y)
-unfolding pick
-by-test P true x y f g = f refl
-by-test P false x y f g = g refl
-
+-- ---- the leases after a decision on a sound book are sound again
 module _ (s : State) (b : LeaseTable) (h : ℕ) (m : Fields) (v : Sound s (leasesOf b)) (known : h < tenantsIn s) (there : h < length (b .tenants)) (good : GoodId m) where
-  abbrev Keeps : Decided → Type 0
-  Keeps r = Sound s (leasesOf (r .table))
+  Keeps : Decided → Type 0
+  Keeps d = Sound s (leasesOf (applied (d .edit) h b))
 
-  proposal-new : (l : Lease) → m .kind ≡ 3 → proposalOf s b h m l ≡ newOf s b h m
-  unfolding proposalOf isNew pick
-  proposal-new l k = ap (λ (t : Bool). pick t (newOf s b h m) (renewedOf s b h m l)) (ap (λ (x : ℕ). eqb x 1 || eqb x 3) k)
+  -- an edit by which the table becomes t
+  becomes : (t : LeaseTable) {x : LeaseTable} → x ≡ t → Sound s (leasesOf t) → Sound s (leasesOf x)
+  becomes t e w = subst (λ (y : LeaseTable). Sound s (leasesOf y)) (sym e) w
 
-  proposal-renewed : (l : Lease) → m .kind ≡ 4 → proposalOf s b h m l ≡ renewedOf s b h m l
-  unfolding proposalOf isNew pick
-  proposal-renewed l k = ap (λ (t : Bool). pick t (newOf s b h m) (renewedOf s b h m l)) (ap (λ (x : ℕ). eqb x 1 || eqb x 3) k)
+  none : Sound s (leasesOf (applied noEdit h b))
+  none = becomes b (applied-none b h) v
 
-  last-type : hasPeriod m ≡ true → eqb (m .kind) 1 ≡ false → eqb (m .kind) 3 ≡ false → m .kind ≡ 4
-  unfolding hasPeriod isNew
-  last-type p q r = eqb-true (m .kind) 4 (go (eqb (m .kind) 1) (eqb (m .kind) 3) (eqb (m .kind) 4) q r p)
-    where
-      go : (x y z : Bool) → x ≡ false → y ≡ false → ((x || y) || z) ≡ true → z ≡ true
-      go true y z q r p = no q
-      go false true z q r p = no r
-      go false false z q r p = p
+  fits-new : error0Of s (newOf s b h m) ≡ false → length (ownOf b h) < 16
+  unfolding newOf newAt newWith fitsNew askAt
+  fits-new e = ltb-true (length (ownOf b h)) 16 (and-parts (ltb (length (ownOf b h)) 16) _ (inside s (newOf s b h m) e .1) .0)
 
-  held-four : m .kind ≡ 4 → (held : Bool) → error3Of m held ≡ false → held ≡ true
-  unfolding error3Of
-  held-four k held e = and-not-none (eqb (m .kind) 4 || eqb (m .kind) 7) held (ap (λ (x : ℕ). eqb x 4 || eqb x 7) k) e
+  fits-old : holdsOf (ownOf b h) m ≡ true → (idOf (oldFor b h m) ≡ leaseIdIn m) × (length (removeOf (idOf (oldFor b h m)) (ownOf b h)) < 16)
+  unfolding holdsOf recordedOf
+  fits-old held =
+      let at = ltb-true (placeOf (leaseIdIn m) (ownOf b h)) (length (ownOf b h)) held in
+      let e : idOf (oldFor b h m) ≡ leaseIdIn m = named-at (leaseIdIn m) (ownOf b h) at in
+      let oneTo : length (ownOf b h) ≤ 16 = subst (λ (x : List Lease). length x ≤ 16) (sym (own-is b h)) (few-at s (leasesOf b) v h) in
+      let fewer = removed-fewer (leaseIdIn m) (ownOf b h) at in
+      (e, subst (λ (i : List ℕ). length (removeOf i (ownOf b h)) < 16) (sym e) (let k : length (removeOf (leaseIdIn m) (ownOf b h)) < 16 = omega arith in k))
 
-  settled-sound : Passed s m (holdsOf (ownOf b h) m) → error3Of m (holdsOf (ownOf b h) m) ≡ false → hasPeriod m ≡ true
-      → Keeps (settledOf s b h m (proposalOf s b h m (recordedOf (ownOf b h) m)))
-  unfolding settledOf leasedOf
-  settled-sound ok e3 hp =
-      by-test Keeps _ _ _ (λ t. v) (λ e0. by-test Keeps _ _ _ (λ t. v) (λ k1. by-test Keeps _ _ _
-      (λ k3. let k : m .kind ≡ 3 = eqb-true (m .kind) 3 k3 in
-      let q = proposal-new (recordedOf (ownOf b h) m) k in
-      subst (λ (p : Proposal). Sound s (leasesOf (updated b h (insertOf (leaseFrom m p) (ownOf b h))))) (sym q)
-      (request-sound s b h m v known there good k ok (sym (ap (error0Of s) q) ∙ e0)))
-      (λ k3. let k : m .kind ≡ 4 = last-type hp k1 k3 in
-      let q = proposal-renewed (recordedOf (ownOf b h) m) k in
-      subst (λ (p : Proposal). Sound s (leasesOf (updated b h (replaceOf (leaseIdIn m) (leaseFrom m p) (ownOf b h))))) (sym q)
-      (renew-sound s b h m v known there good k ok (held-four k (holdsOf (ownOf b h) m) e3) (sym (ap (error0Of s) q) ∙ e0)))))
-
-  plain-sound : Keeps (plainOf b h m)
-  unfolding plainOf
-  plain-sound = by-test Keeps _ _ _ (λ k. release-sound s b h there (leaseIdIn m) v) (λ k. v)
-
-  -- the leases after a decision on a sound book are sound again
-  pub decided-sound : Sound s (leasesOf (decideOf s b h m .table))
-  unfolding decideOf judgedOf
-  decided-sound =
-      by-test Keeps _ _ _ (λ t. v) (λ r. by-test Keeps _ _ _ (λ t. v) (λ e1. by-test Keeps _ _ _ (λ t. v) (λ e2. by-test Keeps _ _ _ (λ t. v) (λ e3.
-      by-test Keeps _ _ _ (λ hp. settled-sound (passed s m (holdsOf (ownOf b h) m) e1) e3 hp) (λ hp. plain-sound)))))
-
--- ---- records that only lay out their leases still do
-by-laid : (t : Bool) (x y : Decided) → x .table ≡ tableOf (leasesOf (x .table)) → y .table ≡ tableOf (leasesOf (y .table)) → pick t x y .table ≡ tableOf (leasesOf (pick t x y .table))
-unfolding pick
-by-laid true x y p q = p
-by-laid false x y p q = q
-
-updated-laid : (b : LeaseTable) (h : ℕ) (ls : List Lease) → b ≡ tableOf (leasesOf b) → updated b h ls ≡ tableOf (leasesOf (updated b h ls))
-updated-laid b h ls e = put-laid (leasesOf b) b h (laidOut ls) ls e refl ∙ ap tableOf (sym (updated-leases b h ls))
-
-pub decided-laid : (s : State) (b : LeaseTable) (h : ℕ) (m : Fields) → b ≡ tableOf (leasesOf b) → decideOf s b h m .table ≡ tableOf (leasesOf (decideOf s b h m .table))
-unfolding decideOf judgedOf settledOf leasedOf plainOf
-decided-laid s b h m e =
-    by-laid _ _ _ e (by-laid _ _ _ e (by-laid _ _ _ e (by-laid _ _ _ e (by-laid _ _ _
-    (by-laid _ _ _ e (by-laid _ _ _ e (by-laid _ _ _ (updated-laid b h _ e) (updated-laid b h _ e))))
-    (by-laid _ _ _ (updated-laid b h _ e) e)))))
+  pub decided-sound : Sound s (leasesOf (applied (decideOf s b h m .edit) h b))
+  unfolding Keeps
+  decided-sound = decided-by s b h m Keeps (record {
+    resent = λ e. none;
+    refused = λ e. none;
+    offered = λ k ok e. none;
+    requested = λ k ok e. becomes (updated b h (insertOf (newFor s b h m) (ownOf b h))) (applied-entering b h (newFor s b h m) (fits-new e)) (request-sound s b h m v known there good k ok e);
+    renewed = λ k ok held e.
+        becomes (updated b h (insertOf (renewedFor s b h m) (removeOf (leaseIdIn m) (ownOf b h))))
+        (applied-way b h (oldFor b h m) (renewedFor s b h m) (fits-old held .1) ∙ ap (λ (i : List ℕ). updated b h (insertOf (renewedFor s b h m) (removeOf i (ownOf b h)))) (fits-old held .0))
+        (renew-sound s b h m v known there good k ok held e);
+    released = λ k held. becomes (updated b h (removeOf (idOf (oldFor b h m)) (ownOf b h))) (applied-leaving b h (oldFor b h m)) (release-sound s b h there (idOf (oldFor b h m)) v);
+    informed = none;
+  })
 
 -- so a decision keeps a sound book sound
 pub decision-sound : (s : State) (b : LeaseTable) (h : ℕ) (m : Fields) → soundB s b ≡ true → b ≡ tableOf (leasesOf b) → h < tenantsIn s → h < length (b .tenants) → GoodId m
-    → soundB s (decideOf s b h m .table) ≡ true
+    → soundB s (applied (decideOf s b h m .edit) h b) ≡ true
 decision-sound s b h m e laid known there good =
-    ap (soundB s) (decided-laid s b h m laid) ∙ lists-sound s (leasesOf (decideOf s b h m .table)) (decided-sound s b h m (sound-lists s b e) known there good)
+    ap (soundB s) (applied-laid (decideOf s b h m .edit) h b laid)
+    ∙ lists-sound s (leasesOf (applied (decideOf s b h m .edit) h b)) (decided-sound s b h m (sound-lists s b e) known there good)

@@ -13,7 +13,6 @@ use Rattle.state.specs.declared.Lease.{Lease}
 use Rattle.state.specs.Book.{idOf, differ, ordered, other, insertOf, removeOf}
 use Rattle.state.specs.laws.Sorted.{rising, insert-same, insert-rises}
 
--- ---- the tenant's other leases
 -- a new lease, taken out again, leaves what was there
 pub insert-leaves : (l : Lease) (ls : List Lease) → allBy (other (idOf l)) ls ≡ true → pairsBy differ ls ≡ true → pairsBy ordered ls ≡ true → removeOf (idOf l) (insertOf l ls) ≡ ls
 unfolding removeOf filterBy pick

@@ -13,7 +13,7 @@ use Rattle.state.specs.declared.Lease.{Lease}
 use Rattle.state.specs.declared.LeaseTable.{LeaseTable}
 use Rattle.state.specs.declared.State.{State}
 use Rattle.state.specs.declared.TenantLeases.{TenantLeases}
-use Rattle.state.specs.Book.{inUse, insertOf, laidOut, placeOf, putAt, removeOf, tenantAt}
+use Rattle.state.specs.Book.{inUse, insertOf, insertedIn, laidOut, placeOf, putAt, removeOf, tenantAt}
 use Rattle.decision.specs.Parts.{ownOf}
 use Rattle.server.specs.declared.Served.{Served}
 use Rattle.server.specs.Serve.{Answer, Call, Serves, serveOf}
@@ -65,10 +65,10 @@ module _ (n h : ℕ) (ls : List Lease) where
 
   module _ (l : Lease) where
     pub insert-in : {t u : LeaseTable} {own x : TenantLeases} {k : ℕ} {m : List Lease} → n ≡ 128 → h < 8 → t ≡ tableFrom ls → own ≡ tenantAt t h → k ≡ length (inUse own) → k < 16
-        → x ≡ laidOut (insertOf l (inUse own)) → u ≡ putAt t h x → m ≡ recordsOf u → m ≡ insertWith n h l ls
-    unfolding insertWith pick
-    insert-in e f a b c g d i j =
-        put-in (insertOf l) a b d i j
+        → x ≡ insertedIn l own → u ≡ putAt t h x → m ≡ recordsOf u → m ≡ insertWith n h l ls
+    unfolding insertWith insertedIn pick
+    insert-in {own = own} e f a b c g d i j =
+        put-in (insertOf l) a b (d ∙ ap (λ (t : Bool). pick t (laidOut (insertOf l (inUse own))) own) (lt-ltb _ 16 (subst-lt c g))) i j
         ∙ sym (ap (λ (t : Bool). pick t (inserted l) ls) (lt-ltb _ 16 (subst-lt (c ∙ ap (λ (y : TenantLeases). length (inUse y)) (b ∙ ap (λ (y : LeaseTable). tenantAt y h) a)) g)))
         ∙ sym (ap (λ (t : Bool). pick t (pick (ltb (length (ownOf (tableFrom ls) h)) 16) (inserted l) ls) ls) (lt-ltb h 8 f))
         ∙ on-whole (pick (ltb h 8) (pick (ltb (length (ownOf (tableFrom ls) h)) 16) (inserted l) ls) ls) ls e

@@ -1,16 +1,21 @@
--- `decided` meets its contract: the decision, and the reply written from it.
+-- `decided` meets its contract: the decision, the leases edited as it says, and the reply written from it.
 use Rattle.server.proofs.Steps.{serves-decided}
 use borrow.Author.Needs.{needs}
 use Rattle.server.proofs.decided.Statement.{statement}
 use Rattle.server.proofs.decided.Tie as tie
 
 returns : tie.Need-returns
-returns c = let at-write-reply = c .before .before in let at-decide = at-write-reply .before .before .before .before in serves-decided _ _ _ _ _ (at-decide .decide .ensures) (at-write-reply .write-reply .ensures)
+returns c =
+    let at-reply = c .before .before in
+    let at-apply = c .before .before .before .before in
+    let at-decide = c .before .before .before .before .before .before .before in
+    serves-decided _ _ _ _ _ _ (at-decide .decide .ensures) (at-apply .apply .ensures) (at-reply .write-reply .ensures)
 
 pub decided-spec : {M : Type 1} → statement M
 decided-spec =
     tie.close
     (tie.spec
+    (λ c κs. search needs)
     (λ c κs. search needs)
     (λ c κs. search needs)
     (λ c. search needs)

@@ -18,7 +18,7 @@ use Rattle.lists.specs.laws.Filter.{filter-all, filter-pairs, filter-passes}
 use Rattle.lists.specs.laws.Sums.{sum-same}
 use Rattle.state.specs.declared.Lease.{Lease}
 use Rattle.state.specs.declared.State.{State}
-use Rattle.state.specs.Book.{idOf, differ, ordered, other, placeOf, leaseAt, insertOf, removeOf, replaceOf, addressesOf, unionAll, overlaps, inScope, heldOf, heldCount, scopeAt, reserveAt, limitAt, heldAt, committed, committedSum}
+use Rattle.state.specs.Book.{idOf, differ, ordered, other, placeOf, leaseAt, insertOf, removeOf, addressesOf, unionAll, overlaps, inScope, heldOf, heldCount, scopeAt, reserveAt, limitAt, heldAt, committed, committedSum}
 use Rattle.state.specs.laws.Sets.{adds, addresses-cons, addresses-reordered, insert-addresses}
 use Rattle.address_set.specs.AddressSet.{offsets}
 use Rattle.state.specs.laws.Sorted.{differ-turn, insert-same, insert-rises, others-differ, taken-out}
@@ -264,8 +264,8 @@ module _ (s : State) (ls : List (List Lease)) (h : ℕ) (i : List ℕ) (l : Leas
   unfolding pairOk
   new-pairs c = all-and (differ l) (compatible l) rest ∙ and-both (sym (others-differ l rest) ∙ others) c
 
-  pub sound-renewed : leaseOk s l ≡ true → allBy (compatible l) (removeOf i (getD ls h [])) ≡ true → Sound s (set ls h (replaceOf i l (getD ls h [])))
-  unfolding replaceOf committed
+  pub sound-renewed : leaseOk s l ≡ true → allBy (compatible l) (removeOf i (getD ls h [])) ≡ true → Sound s (set ls h (insertOf l (removeOf i (getD ls h []))))
+  unfolding committed
   sound-renewed ok c =
       sound-put s ls h new v known there
       (le-leb (length new) 16 (let a = reordered-length out in let b = reordered-length (insert-same l rest) in let d = few-at s ls v h in omega arith))

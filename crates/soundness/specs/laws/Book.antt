@@ -19,7 +19,7 @@ use Rattle.state.specs.declared.State.{State}
 use Rattle.state.specs.Book.{differ, zeroLease, inUse, laidOut, leasesOf, tableOf, ordered, scopeAt, limitAt, heldAt, committedSum}
 use Rattle.state.specs.laws.Layout.{read-back, table-back}
 use Rattle.soundness.specs.declared.Rules.{Rules}
-use Rattle.soundness.specs.Sound.{tenantsIn, scopesIn, idB, recordsB, countsB, rule1, offsetsB, rule2, rule3, rule4, rule5, rule6, leaseB, noneB, tenantsB, rule7, rule8, apart, rule9, compatible, rule10, limitB, limitsB, rule11, committedB, rule12, zeroFrom, paddedB, blankB, unusedB, layoutB, settingsB, rule13, rulesOf, firstLate, firstBroken, brokenOf, soundB}
+use Rattle.soundness.specs.Sound.{tenantsIn, scopesIn, idB, recordsB, countsB, rule1, offsetsB, rule2, rule3, rule4, rule5, rule6, leaseB, noneB, tenantsB, rule7, rule8, apart, rule9, compatible, rule10, limitB, limitsB, rule11, committedB, rule12, zeroFrom, paddedB, blankB, unusedB, layoutB, settingsB, rulesOf, firstLate, firstBroken, brokenOf, soundB, rule19}
 use Rattle.soundness.specs.laws.Code.{drop-map}
 
 -- ---- the facts
@@ -27,7 +27,7 @@ use Rattle.soundness.specs.laws.Code.{drop-map}
 unfoldable pub settingsOk : State → Bool
 settingsOk s = (countsB s && (rule3 s && rule4 s)) && (rule5 s && (rule6 s && settingsB s))
 
--- every rule on one lease: 1, 2, 7 and 13
+-- every rule on one lease: 1, 2, 7 and 19
 unfoldable pub leaseOk : State → Lease → Bool
 leaseOk s l = (idB l && offsetsB s l) && (leaseB s l && paddedB l)
 
@@ -88,7 +88,7 @@ none-broken r e =
     let k = peel (r .periods) _ 10 (omega arith) (j .1) in
     let l = peel (r .holdings) _ 11 (omega arith) (k .1) in
     let m = peel (r .commitments) _ 12 (omega arith) (l .1) in
-    let n = peel (r .layout) _ 13 (omega arith) (m .1) in
+    let n = peel (r .layout) _ 19 (omega arith) (m .1) in
     record {
       limits = a .0;
       offsets = b .0;
@@ -113,7 +113,7 @@ all-hold : (r : Rules) → AllRules r → firstBroken r ≡ 0
 unfolding firstBroken firstLate
 all-hold r a =
     wrap 1 (a .limits) (wrap 2 (a .offsets) (wrap 3 (a .ranges) (wrap 4 (a .pools) (wrap 5 (a .ttls) (wrap 6 (a .reserves)
-    (wrap 7 (a .leases) (wrap 8 (a .identifiers) (wrap 9 (a .owners) (wrap 10 (a .periods) (wrap 11 (a .holdings) (wrap 12 (a .commitments) (wrap 13 (a .layout) refl))))))))))))
+    (wrap 7 (a .leases) (wrap 8 (a .identifiers) (wrap 9 (a .owners) (wrap 10 (a .periods) (wrap 11 (a .holdings) (wrap 12 (a .commitments) (wrap 19 (a .layout) refl))))))))))))
 
 pub rules-of : (s : State) (t : LeaseTable) → soundB s t ≡ true → AllRules (rulesOf s t)
 unfolding soundB brokenOf
@@ -179,7 +179,7 @@ module _ (s : State) (t : LeaseTable) (a : AllRules (rulesOf s t)) where
   known = and-parts _ _ (a .leases)
 
   laid : (settingsB s ≡ true) × (allBy layoutB (t .tenants) ≡ true)
-  unfolding rulesOf rule13
+  unfolding rulesOf rule19
   laid = and-parts _ _ (a .layout)
 
   few-from : allBy fewLeases (leasesOf t) ≡ true
@@ -273,7 +273,7 @@ module _ (s : State) (ls : List (List Lease)) (v : Sound s ls) where
   tenants-to = ap (allBy noneB) (drop-map laidOut (tenantsIn s) ls) ∙ all-map noneB laidOut (drop (tenantsIn s) ls) ∙ v .tenants
 
   pub rules-to : AllRules (rulesOf s (tableOf ls))
-  unfolding rulesOf rule1 rule2 rule7 rule8 rule9 rule10 rule11 limitsB limitB rule12 committedB rule13
+  unfolding rulesOf rule1 rule2 rule7 rule8 rule9 rule10 rule11 limitsB limitB rule12 committedB rule19
   rules-to = record {
     limits = and-both (settings-front .0) records-to;
     offsets = ap (allBy (allBy (offsetsB s))) back ∙ offsets-to;

@@ -22,7 +22,7 @@ use Rattle.soundness.specs.declared.SettingsRules.{SettingsRules}
 use Rattle.soundness.specs.declared.HoldingRules.{HoldingRules}
 use Rattle.soundness.specs.declared.Held.{Held}
 use Rattle.soundness.specs.declared.HeldTable.{HeldTable}
-use Rattle.soundness.specs.Sound.{tenantsIn, scopesIn, sizeB, countsB, idB, recordsB, offsetsB, rule3, poolB, rule4, ttlB, rule5, reservesB, rule6, leaseB, tenantsB, rule9, compatible, rule11, rule12, layoutB, paddedB, tailB, settingsB, oneTo, zeroFrom, belowB, scopeOf, unusedB, rule1, rule2, poolsApart, rule7, rule8, rule10, rangeZero, scopeZero, rule13, rulesOf, firstBroken, brokenOf, soundB, noneB, apart, holding, limitB, limitsB, committedB}
+use Rattle.soundness.specs.Sound.{tenantsIn, scopesIn, sizeB, countsB, idB, recordsB, offsetsB, rule3, poolB, rule4, ttlB, rule5, reservesB, rule6, leaseB, tenantsB, rule9, compatible, rule11, rule12, layoutB, paddedB, tailB, settingsB, oneTo, zeroFrom, belowB, scopeOf, unusedB, rule1, rule2, poolsApart, rule7, rule8, rule10, rangeZero, scopeZero, rulesOf, firstBroken, brokenOf, soundB, noneB, apart, holding, limitB, limitsB, committedB, rule19}
 use mathlib.Core.Path.{_≡_, refl, sym, ap, ap₂, _∙_, subst}
 use native.Mathlib.Omega.{arith}
 use lib.Bits.{bitOr, or-add-and, and-le-r, and-le-l, or-zero-r}
@@ -476,7 +476,7 @@ unfolding joinedRules
 joined-is a b c p q r = cc
 
 joined-all : (s : State) (t : LeaseTable) → joinedRules (settingsRulesOf s) (tenantsAll s t) (holdingRulesOf s t) ≡ rulesOf s t
-unfolding joinedRules rulesOf settingsRulesOf tenantsAll holdingRulesOf rule1 rule2 rule7 rule8 rule10 rule13
+unfolding joinedRules rulesOf settingsRulesOf tenantsAll holdingRulesOf rule1 rule2 rule7 rule8 rule10 rule19
 joined-all s t = refl
 
 pub rules-are : (s : State) (t : LeaseTable) (a : SettingsRules) (b : TableRules) (c : HoldingRules) {r : Rules}

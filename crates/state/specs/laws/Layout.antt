@@ -19,10 +19,11 @@ use mathlib.Core.Path.{_≡_, refl, sym, ap, ap₂, _∙_}
 use native.Mathlib.Omega.{arith}
 use lib.Seq.{set-at, take-at, getD-take}
 use borrow.Author.Tests.{lt-ltb, le-ltb}
+use Rattle.lists.specs.laws.Pick.{pick-lt, pick-not-lt}
 use Rattle.lists.specs.Fold.{fold}
 use Rattle.lists.specs.laws.Filter.{filter-length}
 use Rattle.lists.specs.laws.Each.{map-set}
-use Rattle.state.specs.Book.{zeroLease, inUse, laidOut, pushed, keptIf, idOf, byIdentifier, ordered, before, notBefore, named, other, insertOf, removeOf, replaceOf, placeOf, liveOf, leaseAt, tableOf, leasesOf, putAt, raised, dropped, advanced, withClock}
+use Rattle.state.specs.Book.{zeroLease, inUse, laidOut, pushed, keptIf, idOf, byIdentifier, ordered, before, notBefore, named, other, insertOf, insertedIn, removeOf, placeOf, liveOf, leaseAt, tableOf, leasesOf, putAt, raised, dropped, advanced, withClock}
 
 -- ---- one turn of the loops below
 -- what an element is past the end of an array
@@ -119,11 +120,22 @@ insert-is ls l a b c r h ea eb ec er =
     ∙ filter-fold (notBefore l) ls (filterBy t ls ++ l ∷ []) (omega arith)
     ∙ ap laidOut (append-assoc (filterBy t ls) (l ∷ []) (filterBy (notBefore l) ls))
 
+pub inserted-in : (t : TenantLeases) (l : Lease) {n : ℕ} {a b c r : TenantLeases} → n ≡ length (inUse t) → n < 16 → a ≡ laidOut [] → b ≡ fold (keptIf (before l)) a (inUse t) → c ≡ pushed b l
+    → r ≡ fold (keptIf (notBefore l)) c (inUse t) → r ≡ insertedIn l t
+unfolding insertedIn
+inserted-in t l {n} {a} {b} {c} {r} k h ea eb ec er =
+    let short : length (inUse t) < 16 = omega arith in
+    pick-lt (laidOut (insertOf l (inUse t))) t r (length (inUse t)) 16 short (insert-is (inUse t) l a b c r short ea eb ec er)
+
+pub inserted-full : (t : TenantLeases) (l : Lease) {n : ℕ} → n ≡ length (inUse t) → 16 ≤ n → t ≡ insertedIn l t
+unfolding insertedIn
+inserted-full t l k h = pick-not-lt (laidOut (insertOf l (inUse t))) t t (length (inUse t)) 16 (omega arith) refl
+
 pub empty-is : (l : Lease) → l ≡ zeroLease → _≡_ {A = TenantLeases} (record { leases = replicate 16 l; count = 0 }) (laidOut [])
 unfolding laidOut
 empty-is l e = ap {B = TenantLeases} (λ (x : Lease). record { leases = replicate 16 x; count = 0 }) e
 
--- ---- replacement: the old lease out, the new one in
+-- ---- removal
 pub removed-fewer : (i : List ℕ) (ls : List Lease) → placeOf i ls < length ls → length (removeOf i ls) < length ls
 unfolding placeBy removeOf filterBy pick
 removed-fewer i [] h = absurd (omega arith)
@@ -133,18 +145,6 @@ removed-fewer i (x ∷ ls) h = go (named i x) h (removed-fewer i ls)
         → length (pick (not c) (x ∷ filterBy (other i) ls) (filterBy (other i) ls)) < suc (length ls)
     go true h ih = let k = filter-length (other i) ls in omega arith
     go false h ih = let k = ih (omega arith) in omega arith
-
-pub replace-room : (t left : TenantLeases) (i : List ℕ) → length (t .leases) ≡ 16 → left ≡ laidOut (removeOf i (inUse t)) → placeOf i (inUse t) < length (inUse t) → length (inUse left) < 16
-replace-room t left i g e h =
-    let k = removed-fewer i (inUse t) h in
-    let n = length-take (t .count) (t .leases) in
-    let m : length (inUse left) ≡ length (removeOf i (inUse t)) = ap (λ (x : TenantLeases). length (inUse x)) e ∙ ap length (read-back (removeOf i (inUse t))) in
-    omega arith
-
-pub replace-is : (t left : TenantLeases) (i : List ℕ) (new : Lease) (r : TenantLeases) → left ≡ laidOut (removeOf i (inUse t)) → r ≡ laidOut (insertOf new (inUse left)) → r ≡ laidOut (replaceOf i new (inUse t))
-unfolding replaceOf
-replace-is t left i new r e p =
-    p ∙ ap (λ (x : List Lease). laidOut (insertOf new x)) (ap inUse e ∙ read-back (removeOf i (inUse t)))
 
 -- ---- lengths and places
 pub length-in-use : (t : TenantLeases) (r : ℕ) → length (t .leases) ≡ 16 → r ≡ min (t .count) 16 → r ≡ length (inUse t)

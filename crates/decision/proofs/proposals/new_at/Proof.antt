@@ -1,5 +1,5 @@
--- `proposals::new_at` meets its contract: by new-at-is, ask-tenant.
-use Rattle.decision.specs.laws.Code.{ask-tenant, new-at-is}
+-- `proposals::new_at` meets its contract: by new-at-is.
+use Rattle.decision.specs.laws.Code.{new-at-is}
 use borrow.Author.Needs.{needs}
 use Rattle.decision.proofs.proposals.new_at.Statement.{statement}
 use Rattle.decision.proofs.proposals.new_at.Tie as tie
@@ -11,6 +11,6 @@ new-at-spec =
     (λ c κs. search needs)
     (λ c κs. search needs)
     (λ c κs. search needs)
-    (λ c κs. search (new-at-is, ask-tenant, needs))
+    (λ c κs. search needs)
     (λ c κs. search needs)
     (λ c. search (new-at-is, needs)))

@@ -13,22 +13,6 @@ returns-2 : tie.Need-returns-2
 unfolding error1Of
 returns-2 c = search (joins, needs)
 
-returns-3 : tie.Need-returns-3
-unfolding error1Of
-returns-3 c = search (joins, needs)
-
-returns-4 : tie.Need-returns-4
-unfolding error1Of
-returns-4 c = search (joins, needs)
-
-returns-5 : tie.Need-returns-5
-unfolding error1Of
-returns-5 c = search (joins, needs)
-
-returns-6 : tie.Need-returns-6
-unfolding error1Of
-returns-6 c = search (joins, needs)
-
 pub error-1-spec : {M : Type 1} → statement M
 error-1-spec =
     tie.close
@@ -36,12 +20,4 @@ error-1-spec =
     (λ c κs. search (joins, needs))
     returns
     (λ c κs. search (joins, needs))
-    returns-2
-    (λ c κs. search (joins, needs))
-    returns-3
-    (λ c κs. search (joins, needs))
-    returns-4
-    (λ c κs. search (joins, needs))
-    returns-5
-    (λ c κs. search (joins, needs))
-    returns-6)
+    returns-2)

@@ -1,0 +1,99 @@
+-- Laws: laws of an edit: the table after each kind, and what every edit keeps.
+use Prim.Native.Nat.{ℕ, zero, suc, _<_}
+use mathlib.Core.Path.{_≡_, refl, sym, ap, _∙_}
+use mathlib.Core.Bool.{Bool, true, false}
+use mathlib.Core.List.{List, [], _∷_}
+use lib.Dec.{ltb}
+use lib.ListN.{length, getD, set, length-set, List·getD-map}
+use lib.Seq.{getD-set-other}
+use borrow.Author.Tests.{lt-ltb}
+use Rattle.lists.specs.Pick.{pick}
+use Rattle.lists.specs.laws.Each.{map-set}
+use Rattle.state.specs.declared.Lease.{Lease}
+use Rattle.state.specs.declared.TenantLeases.{TenantLeases}
+use Rattle.state.specs.declared.LeaseTable.{LeaseTable}
+use Rattle.state.specs.declared.Edit.{Edit}
+use Rattle.state.specs.Book.{inUse, laidOut, leasesOf, tableOf, tenantAt, putAt, idOf, insertOf, insertedIn, removeOf}
+use Rattle.state.specs.Edit.{noEdit, entering, leaving, givingWay, leftIn, editedIn, applied}
+use Rattle.state.specs.laws.Layout.{read-back, put-laid}
+
+-- ---- between the code and the definition
+pub edit-is : (x y : Bool) {o o′ n n′ : Lease} → o ≡ o′ → n ≡ n′ → _≡_ {A = Edit} (record { leaves = x; old = o; enters = y; new = n }) (record { leaves = x; old = o′; enters = y; new = n′ })
+edit-is x y p q = cc
+
+pub edited-is : (e : Edit) (t rest r : TenantLeases) → rest ≡ leftIn e t → r ≡ pick (e .enters) (insertedIn (e .new) rest) rest → r ≡ editedIn e t
+unfolding editedIn
+edited-is e t rest r p q = q ∙ ap (λ (x : TenantLeases). pick (e .enters) (insertedIn (e .new) x) x) p
+
+pub applied-is : (e : Edit) (h : ℕ) (b r : LeaseTable) (t now : TenantLeases) → t ≡ tenantAt b h → now ≡ editedIn e t → r ≡ putAt b h now → r ≡ applied e h b
+unfolding applied
+applied-is e h b r t now p q w = w ∙ ap (putAt b h) (q ∙ ap (editedIn e) p)
+
+-- ---- the table after each kind of edit
+set-own : {A : Type 0} (l : List A) (h : ℕ) (d : A) → set l h (getD l h d) ≡ l
+set-own [] h d = refl
+set-own (x ∷ l) zero d = refl
+set-own {A} (x ∷ l) (suc h) d = ap {B = List A} (λ (r : List A). x ∷ r) (set-own l h d)
+
+module _ (b : LeaseTable) (h : ℕ) where
+  pub applied-none : applied noEdit h b ≡ b
+  unfolding applied editedIn leftIn pick
+  applied-none = ap {B = LeaseTable} (λ (x : List TenantLeases). record { tenants = x }) (set-own (b .tenants) h (laidOut []))
+
+  pub applied-entering : (l : Lease) → length (inUse (tenantAt b h)) < 16 → applied (entering l) h b ≡ putAt b h (laidOut (insertOf l (inUse (tenantAt b h))))
+  unfolding applied editedIn leftIn insertedIn pick
+  applied-entering l p = ap (λ (x : Bool). putAt b h (pick x (laidOut (insertOf l (inUse (tenantAt b h)))) (tenantAt b h))) (lt-ltb (length (inUse (tenantAt b h))) 16 p)
+
+  pub applied-leaving : (o : Lease) → applied (leaving o) h b ≡ putAt b h (laidOut (removeOf (idOf o) (inUse (tenantAt b h))))
+  unfolding applied editedIn leftIn pick
+  applied-leaving o = refl
+
+  pub applied-way : (o l : Lease) → length (removeOf (idOf o) (inUse (tenantAt b h))) < 16
+      → applied (givingWay o l) h b ≡ putAt b h (laidOut (insertOf l (removeOf (idOf o) (inUse (tenantAt b h)))))
+  unfolding applied editedIn leftIn insertedIn pick
+  applied-way o l p =
+      let rest : List Lease = removeOf (idOf o) (inUse (tenantAt b h)) in
+      ap (λ (x : List Lease). putAt b h (pick (ltb (length x) 16) (laidOut (insertOf l x)) (laidOut rest))) (read-back rest)
+      ∙ ap (λ (x : Bool). putAt b h (pick x (laidOut (insertOf l rest)) (laidOut rest))) (lt-ltb (length rest) 16 p)
+
+-- ---- what every edit keeps
+-- how many tenants there are, and the other tenants' records
+pub applied-count : (e : Edit) (h : ℕ) (b : LeaseTable) → length (applied e h b .tenants) ≡ length (b .tenants)
+unfolding applied
+applied-count e h b = length-set (b .tenants) h (editedIn e (tenantAt b h))
+
+pub applied-others : (e : Edit) (h g : ℕ) (b : LeaseTable) → (g ≡ h → ⊥) → tenantAt (applied e h b) g ≡ tenantAt b g
+unfolding applied
+applied-others e h g b n = getD-set-other (b .tenants) h g (editedIn e (tenantAt b h)) (laidOut []) n
+
+-- records that only lay out their leases
+laid-again : (x : List Lease) → laidOut x ≡ laidOut (inUse (laidOut x))
+laid-again x = ap laidOut (sym (read-back x))
+
+edited-laid : (e : Edit) (t : TenantLeases) → t ≡ laidOut (inUse t) → editedIn e t ≡ laidOut (inUse (editedIn e t))
+unfolding editedIn leftIn insertedIn pick
+edited-laid e t p = enter (e .enters) (pick (e .leaves) (laidOut (removeOf (idOf (e .old)) (inUse t))) t) (leave (e .leaves))
+  where
+    leave : (c : Bool) → pick c (laidOut (removeOf (idOf (e .old)) (inUse t))) t ≡ laidOut (inUse (pick c (laidOut (removeOf (idOf (e .old)) (inUse t))) t))
+    leave true = laid-again (removeOf (idOf (e .old)) (inUse t))
+    leave false = p
+
+    inserted : (c : Bool) (u : TenantLeases) → u ≡ laidOut (inUse u) → pick c (laidOut (insertOf (e .new) (inUse u))) u ≡ laidOut (inUse (pick c (laidOut (insertOf (e .new) (inUse u))) u))
+    inserted true u q = laid-again (insertOf (e .new) (inUse u))
+    inserted false u q = q
+
+    enter : (c : Bool) (u : TenantLeases) → u ≡ laidOut (inUse u) → pick c (insertedIn (e .new) u) u ≡ laidOut (inUse (pick c (insertedIn (e .new) u) u))
+    enter true u q = inserted (ltb (length (inUse u)) 16) u q
+    enter false u q = q
+
+tenant-laid : (b : LeaseTable) (h : ℕ) → b ≡ tableOf (leasesOf b) → tenantAt b h ≡ laidOut (inUse (tenantAt b h))
+unfolding tableOf
+tenant-laid b h e =
+    let p : tenantAt b h ≡ laidOut (getD (leasesOf b) h []) = ap (λ (x : LeaseTable). tenantAt x h) e ∙ List·getD-map laidOut (leasesOf b) h [] in
+    p ∙ laid-again (getD (leasesOf b) h []) ∙ ap (λ (x : TenantLeases). laidOut (inUse x)) (sym p)
+
+pub applied-laid : (e : Edit) (h : ℕ) (b : LeaseTable) → b ≡ tableOf (leasesOf b) → applied e h b ≡ tableOf (leasesOf (applied e h b))
+unfolding applied
+applied-laid e h b p =
+    let t : TenantLeases = editedIn e (tenantAt b h) in
+    put-laid (leasesOf b) b h t (inUse t) p (edited-laid e (tenantAt b h) (tenant-laid b h p)) ∙ ap tableOf (map-set inUse (b .tenants) h t)

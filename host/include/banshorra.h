@@ -38,8 +38,9 @@ enum {
     BANSHORRA_WRONG_FORM = 20,      /* campus file: layout, order, excess octets, or above 14,628 octets */
     BANSHORRA_UNSOUND = 21,         /* campus file: well formed, but not sound */
     BANSHORRA_SHORT_FILE_ROOM = 23, /* the file's buffer is below 14,628 octets */
-    BANSHORRA_CUT_OFF = 24,         /* the file's length is above its buffer's; or a call's record is cut off */
-    BANSHORRA_SHORT_ANSWERS = 27    /* fewer than 515 octets are left for the next answer */
+    BANSHORRA_CUT_OFF = 24,         /* a call's record is cut off */
+    BANSHORRA_SHORT_ANSWERS = 27,   /* fewer than 515 octets are left for the next answer */
+    BANSHORRA_FILE_LENGTH = 28      /* the file's length is above its buffer's */
 };
 
 /* Whether a campus file is accepted: 0, or refusal 20 or 21. */
@@ -53,7 +54,7 @@ size_t banshorra_board(const uint8_t *file, size_t file_length, uint8_t *text, s
    client: the IPv4 address it came from, as a number (10.0.1.5 is 0x0A000105). time: now, in whole seconds since 1970.
    Returns the outcome, 0 to 8. The reply stands in `reply` and its length in *reply_length, which is 0 for a discard; the file afterwards
    stands in the buffer and its length in *file_length. Octets past the reply and past the file are untouched.
-   Or a refusal, tested in the order 23, 24, 20, 21, which changes nothing but *reply_length, which is 0. */
+   Or a refusal, tested in the order 23, 28, 20, 21, which changes nothing but *reply_length, which is 0. */
 uint8_t banshorra_serve(uint8_t *file, size_t file_room, size_t *file_length, const uint8_t *datagram, size_t datagram_length,
                         uint32_t client, uint32_t time, uint8_t *reply, size_t reply_room, size_t *reply_length);
 
@@ -63,7 +64,7 @@ uint8_t banshorra_serve(uint8_t *file, size_t file_room, size_t *file_length, co
    Returns 0 where all calls are answered; 24 where the next call's record is cut off, or else 27 where fewer than 515 octets are left for the
    next answer. In all three *calls_used octets of the calls are answered, *answers_filled octets of answers filled, octets past them untouched,
    and the file afterwards stands in the buffer; after 27 go on from there with another buffer.
-   Or a refusal of the file, 23, 24, 20, 21 as above, which changes nothing but *calls_used and *answers_filled, which are 0. */
+   Or a refusal of the file, 23, 28, 20, 21 as above, which changes nothing but *calls_used and *answers_filled, which are 0. */
 uint8_t banshorra_replay(uint8_t *file, size_t file_room, size_t *file_length, const uint8_t *calls, size_t calls_length, size_t *calls_used,
                          uint8_t *answers, size_t answers_room, size_t *answers_filled);
 

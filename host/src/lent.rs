@@ -23,7 +23,7 @@ pub fn board<'t>(file: &[u8], text: &'t mut [u8]) -> Option<&'t str> {
 }
 
 /// Serves a datagram. The reply stands in the front of `reply`, and octets past it are left as they were. `time` is in whole seconds
-/// since 1970. A refusal (23 before 24 before 20 before 21) changes nothing.
+/// since 1970. A refusal (23 before 28 before 20 before 21) changes nothing.
 pub fn serve<'r>(
     file: &mut [u8],
     file_length: &mut usize,

@@ -107,19 +107,22 @@ pub enum Refusal {
     Unsound = 21,
     /// The file's buffer is below 14,628 octets.
     FileRoom = 23,
-    /// The file's length is above its buffer's, or a call's record is cut off.
+    /// A call's record is cut off.
     CutOff = 24,
     /// Fewer than 515 octets are left for the next answer.
     AnswersRoom = 27,
+    /// The file's length is above its buffer's.
+    FileLength = 28,
 }
 
 impl Refusal {
-    const ALL: [Refusal; 5] = [
+    const ALL: [Refusal; 6] = [
         Refusal::Form,
         Refusal::Unsound,
         Refusal::FileRoom,
         Refusal::CutOff,
         Refusal::AnswersRoom,
+        Refusal::FileLength,
     ];
 
     /// The number, as the C header has it.
@@ -138,8 +141,9 @@ impl fmt::Display for Refusal {
             Refusal::Form => "the campus file's form is wrong",
             Refusal::Unsound => "the campus file is unsound",
             Refusal::FileRoom => "the campus file's buffer is below 14,628 octets",
-            Refusal::CutOff => "a length goes past its octets",
+            Refusal::CutOff => "a call's record is cut off",
             Refusal::AnswersRoom => "too little room for the next answer",
+            Refusal::FileLength => "the campus file's length goes past its buffer",
         };
         write!(f, "refused {}: {why}", self.number())
     }

@@ -49,20 +49,20 @@ fn a_short_file_buffer_is_23() {
     let file = specimen_file();
     for room in [0, 1, file.len(), FILE_ROOM - 1] {
         refused(room, file.len().min(room), &file, Refusal::FileRoom);
-        // 23 comes before 24.
+        // 23 comes before 28.
         refused(room, room + 1, &file, Refusal::FileRoom);
         refused(room, usize::MAX, &file, Refusal::FileRoom);
     }
 }
 
 #[test]
-fn a_file_length_above_its_buffers_is_24() {
+fn a_file_length_above_its_buffers_is_28() {
     let file = specimen_file();
     for room in [FILE_ROOM, FILE_ROOM + 1, 20_000] {
-        refused(room, room + 1, &file, Refusal::CutOff);
-        refused(room, usize::MAX, &file, Refusal::CutOff);
-        // 24 comes before 20.
-        refused(room, room + 1, &[], Refusal::CutOff);
+        refused(room, room + 1, &file, Refusal::FileLength);
+        refused(room, usize::MAX, &file, Refusal::FileLength);
+        // 28 comes before 20.
+        refused(room, room + 1, &[], Refusal::FileLength);
     }
 }
 

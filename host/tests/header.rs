@@ -45,6 +45,7 @@ fn the_header_and_the_crate_agree() {
         ("SHORT_FILE_ROOM", Refusal::FileRoom),
         ("CUT_OFF", Refusal::CutOff),
         ("SHORT_ANSWERS", Refusal::AnswersRoom),
+        ("FILE_LENGTH", Refusal::FileLength),
     ] {
         expected.push((name, refusal.number().into()));
     }

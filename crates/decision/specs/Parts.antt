@@ -21,7 +21,7 @@ use Rattle.allocation.specs.Rule.{grantTo, suffices, busyIn}
 use Rattle.decision.specs.declared.Proposal.{Proposal}
 use Rattle.decision.specs.declared.Verdict.{Verdict}
 use Rattle.decision.specs.declared.Reply.{Reply}
-use Rattle.decision.specs.declared.Reply.the-variants.{Nothing, Offer, LeaseAck, ReleaseAck, InfoAck, Nak}
+use Rattle.decision.specs.declared.Reply.the-variants.{Nothing, Nak}
 
 -- ---- document 01, "Numbers we buy by", in seconds
 -- how far Current Time may be from the clock
@@ -223,14 +223,3 @@ discardWith n = record { outcome = n; reply = Nothing; error = 0; scope = 0; sta
 -- an error is a "NAK for types 3, 4, 7"; discard 8 is "DISCOVER or GETINFO that draws an error"
 unfoldable pub refusalOf : Fields → ℕ → Verdict
 refusalOf m e = pick (eqb (m .kind) 1) (discardWith 8) (pick (eqb (m .kind) 8) (discardWith 8) (nakWith e))
-
--- ---- "DISCOVER .. draws an OFFER exactly if the same message sent as a REQUEST would get a new grant now, with that period and those ranges"
-
--- an ACK's lease as an OFFER's; anything else as discard 8
-abbrev pub asOffer : Reply → Verdict → Verdict
-asOffer LeaseAck v = record { outcome = 0; reply = Offer; error = 0; scope = v .scope; start = v .start; end = v .end; addresses = v .addresses }
-asOffer Nothing v = discardWith 8
-asOffer Offer v = discardWith 8
-asOffer ReleaseAck v = discardWith 8
-asOffer InfoAck v = discardWith 8
-asOffer Nak v = discardWith 8

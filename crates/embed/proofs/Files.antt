@@ -34,7 +34,7 @@ module _ (b : List ℕ) (n : ℕ) where
   unfolding refusalIn
   refusal-short h = pick-lt _ _ _ (length b) largestFile h refl
 
-  refusal-past : largestFile ≤ length b → length b < n → 24 ≡ refusalIn b n
+  refusal-past : largestFile ≤ length b → length b < n → 28 ≡ refusalIn b n
   unfolding refusalIn
   refusal-past h k = pick-not-lt _ _ _ (length b) largestFile h (pick-lt _ _ _ (length b) n k refl)
 
@@ -49,7 +49,7 @@ module _ (b : List ℕ) (n : ℕ) where
   pub opened-short : {r : OwnedFile} → length b < largestFile → r .refusal ≡ 23 → Opened b n r
   opened-short h a = nothing a (refusal-short h) (λ p. omega arith)
 
-  pub opened-past : {r : OwnedFile} → largestFile ≤ length b → length b < n → r .refusal ≡ 24 → Opened b n r
+  pub opened-past : {r : OwnedFile} → largestFile ≤ length b → length b < n → r .refusal ≡ 28 → Opened b n r
   opened-past h k a = nothing a (refusal-past h k) (λ p. omega arith)
 
   pub opened-book : {r : OwnedFile} → largestFile ≤ length b → n ≤ length b → ReadsOwned (readBlank (take n b)) r → Opened b n r

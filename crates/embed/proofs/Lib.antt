@@ -1,3 +1,4 @@
 mod Files
 mod Answered
 mod Replayed
+pub mod Numbers

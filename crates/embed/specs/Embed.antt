@@ -1,6 +1,6 @@
 -- Definitions: what the functions for a host program in C or Rust answer: numbers and octets only. A campus file is held in a buffer of the caller's.
--- The buffer is tested first: 23, document 01's short room, below 14,628 octets; 24 a length past its end; then 20 and 21. Of a list of calls:
--- 24 a record that is cut off, then 27 fewer than 515 octets left for the next answer.
+-- The buffer is tested first: 23, document 01's short room, below 14,628 octets; 28 a length past its end; then 20 and 21. Of a list of calls:
+-- 24 a record that is cut off, then 27 fewer than 515 octets left for the next answer. Each number has one meaning.
 use Prim.Native.Nat.{ℕ, zero, suc, _+_, _-_, min}
 use mathlib.Core.Bool.{Bool, true}
 use mathlib.Core.List.{List, [], _∷_, _++_}
@@ -25,10 +25,10 @@ largestFile = longestFile
 
 -- the number that the first n octets of a buffer draw before anything is done with them, or 0
 unfoldable pub refusalIn : List ℕ → ℕ → ℕ
-refusalIn b n = pick (ltb (length b) largestFile) 23 (pick (ltb (length b) n) 24 (readFile (take n b) .refusal))
+refusalIn b n = pick (ltb (length b) largestFile) 23 (pick (ltb (length b) n) 28 (readFile (take n b) .refusal))
 
--- What is told once the file is written again. The writer refuses no book that calls on an accepted file leave (docs/DECISIONS.md says why); if it
--- did, the host would be told its refusal, the old file would stand, and the reply or the answers would be there all the same.
+-- What is told once the file is written again. The writer refuses no book that calls on an accepted file leave (`ServedNumbers`, `ReplayedNumbers` in
+-- Statement.antt); if it did, the host would be told its refusal, the old file would stand, and the reply or the answers would be there all the same.
 unfoldable pub numberAfter : Written → ℕ → ℕ
 numberAfter w k = pick (eqb (w .refusal) 0) k (w .refusal)
 

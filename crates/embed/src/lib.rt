@@ -45,7 +45,7 @@ fn open_in(file: &[u8], n: usize) -> OwnedFile
         return refused(23);
     }
     if file.len() < n {
-        return refused(24);
+        return refused(28);
     }
     owned::open(&file[..n])
 }
@@ -197,7 +197,7 @@ pub extern "C" fn banshorra_board(file: &[u8], text: &mut [u8]) -> usize
 }
 
 // One call on the campus file in a buffer: the outcome, 0 to 8, with the reply and its length, and the file and its length afterwards. 23 where the
-// buffer has fewer than 14,628 octets, 24 where `file_length` is past its end, then 20 or 21 where the file is refused: these change nothing but
+// buffer has fewer than 14,628 octets, 28 where `file_length` is past its end, then 20 or 21 where the file is refused: these change nothing but
 // the reply's length, which is 0.
 #[no_mangle]
 pub extern "C" fn banshorra_serve(
@@ -230,7 +230,7 @@ pub extern "C" fn banshorra_serve(
 // A list of calls on the campus file in a buffer, in the records that `replay` reads; the file is read once and written once. Each answer is
 // outcome(1), reply length(2) and the reply. `used` is how many octets of the calls are answered, `filled` how many of the answers there are.
 // 0 where all are answered, 24 where a record is cut off, 27 where fewer than 515 octets are left for the next answer; those before it stand, and
-// the file is written. 20, 21, 23 and 24 of the file as above, with `used` and `filled` 0.
+// the file is written. 20, 21, 23 and 28 of the file as above, with `used` and `filled` 0.
 #[no_mangle]
 pub extern "C" fn banshorra_replay(
     file: &mut [u8],

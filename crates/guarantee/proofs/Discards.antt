@@ -2,7 +2,7 @@
 use Prim.Native.Nat.{ℕ, _≤_}
 use mathlib.Core.Path.{_≡_, refl, ap, _∙_}
 use mathlib.Core.Bool.{Bool, true, false, not, _&&_}
-use mathlib.Core.List.{List}
+use mathlib.Core.List.{List, []}
 use native.Mathlib.Omega.{arith}
 use lib.Dec.{ltb, eqb}
 use lib.ListN.{getD}
@@ -32,7 +32,7 @@ use Rattle.decision.specs.Parts.{discardWith, nakWith, plainReply, refusalOf, w
 use Rattle.decision.specs.laws.Cases.{decided-by}
 use Rattle.decision.specs.Decide.{changed, decideOf, unchanged}
 use Rattle.server.specs.Serve.{Answer, Call, answered, atClock, byReply, discarded, forServer, replyOf, serveOf, tenantOf, withReading}
-use Rattle.guarantee.specs.Statement.{Answered, Demand1, bookAt}
+use Rattle.guarantee.specs.Statement.{bookAt}
 
 -- ---- the decision: outcome 0, or discard 8 with nothing changed
 record Judged (d : Decided) : Type 0 where
@@ -92,8 +92,15 @@ read-number s = pick-cases P (headerOk s) _ _ (λ _. at-stage (walkOf s .stage))
     at-stage Broken = λ n. (omega arith, omega arith)
 
 -- ---- the call
+pub record Tested (b : Book) (c : Call) (a : Answer) : Type 0 where
+  pub outcome : a .outcome ≤ 8
+  pub silent : (a .outcome ≡ 0 → ⊥) → a .reply ≡ []
+  pub untouched : a .outcome ≡ 1 → a .book ≡ b
+  pub untouched-too : a .outcome ≡ 2 → a .book ≡ b
+  pub advances : 3 ≤ a .outcome → a .book ≡ bookAt b c
+
 module _ (b : Book) (c : Call) where
-  early : (n : ℕ) → 1 ≤ n → n ≤ 2 → Answered b c (discarded n b)
+  early : (n : ℕ) → 1 ≤ n → n ≤ 2 → Tested b c (discarded n b)
   early n p q = record {
     outcome = omega arith;
     silent = λ z. refl;
@@ -102,7 +109,7 @@ module _ (b : Book) (c : Call) where
     advances = λ h. absurd (omega arith);
   }
 
-  late : (n : ℕ) → 3 ≤ n → n ≤ 8 → Answered b c (discarded n (bookAt b c))
+  late : (n : ℕ) → 3 ≤ n → n ≤ 8 → Tested b c (discarded n (bookAt b c))
   late n p q = record {
     outcome = q;
     silent = λ z. refl;
@@ -111,7 +118,7 @@ module _ (b : Book) (c : Call) where
     advances = λ h. refl;
   }
 
-  served : (h : ℕ) (m : Fields) (d : Decided) → Judged d → Answered b c (answered (bookAt b c) h m d)
+  served : (h : ℕ) (m : Fields) (d : Decided) → Judged d → Tested b c (answered (bookAt b c) h m d)
   unfolding replyOf
   served h m d j = record {
     outcome = j .few;
@@ -124,31 +131,27 @@ module _ (b : Book) (c : Call) where
   }
 
   P : Answer → Type 0
-  P a = Answered b c a
+  P a = Tested b c a
 
-  for-server : (h : ℕ) (m : Fields) → Answered b c (forServer (bookAt b c) h m)
+  for-server : (h : ℕ) (m : Fields) → Tested b c (forServer (bookAt b c) h m)
   unfolding forServer P
   for-server h m =
       pick-cases P (eqb (m .kind) 3 && not (m .ours)) _ _ (λ _. late 7 (omega arith) (omega arith))
       (λ _. served h m _ (decided (bookAt b c .state) (bookAt b c .table) h m))
 
-  with-reading : (h : ℕ) → Answered b c (withReading (bookAt b c) h (c .datagram) (readOf (c .datagram)))
+  with-reading : (h : ℕ) → Tested b c (withReading (bookAt b c) h (c .datagram) (readOf (c .datagram)))
   unfolding withReading P Numbered
   with-reading h =
       pick-cases P (eqb (readOf (c .datagram) .discard) 0) _ _ (λ _. for-server h _)
       (λ e. let n = read-number (c .datagram) (eqb-false (readOf (c .datagram) .discard) 0 e) in late (readOf (c .datagram) .discard) (n .0) (n .1))
 
-  at-clock : Answered b c (atClock (bookAt b c) (c .client) (c .datagram))
+  at-clock : Tested b c (atClock (bookAt b c) (c .client) (c .datagram))
   unfolding atClock P
   at-clock =
       pick-cases P (ltb (tenantOf (bookAt b c .state) (c .client)) (tenantsIn (bookAt b c .state))) _ _ (λ _. with-reading _) (λ _. late 3 (omega arith) (omega arith))
 
-  pub call-answered : Answered b c (serveOf b c)
+  pub call-tested : Tested b c (serveOf b c)
   unfolding serveOf P
-  call-answered =
+  call-tested =
       pick-cases P (soundB (b .state) (b .table)) _ _
       (λ _. pick-cases P (ltb (c .room) leastRoom) _ _ (λ _. early 2 (omega arith) (omega arith)) (λ _. at-clock)) (λ _. early 1 (omega arith) (omega arith))
-
-pub demand1 : Demand1
-unfolding Demand1
-demand1 b c = call-answered b c

@@ -276,4 +276,4 @@ pub demand3 : Demand3
 unfolding Demand3
 demand3 b v cs =
     let w : SoundBook (run b cs) = run-sound b cs v in
-    (w, (within-limits (run b cs) w, λ c r. granted (run b cs) c w r))
+    record { sound = w; limits = within-limits (run b cs) w; next = λ c r. granted (run b cs) c w r }

@@ -3,7 +3,10 @@ pub mod Kept
 mod Inserted
 mod Ranges
 pub mod Granted
+mod Codes
 pub mod Replies
 pub mod Walked
+pub mod Answers
 pub mod Offers
-mod Specimens
+pub mod Opened
+pub mod Specimens

@@ -8,7 +8,7 @@ use native.Mathlib.Omega.{arith}
 use native.Mathlib.Decide.{decLt}
 use lib.Dec.{ltb, leb, eqb}
 use lib.ListN.{length, getD, set, take, drop, replicate, getD-replicate, List·getD-eq-default}
-use borrow.Author.Tests.{eqb-true, ltb-false, ne-eqb}
+use borrow.Author.Tests.{eqb-true, eqb-false, ltb-false, ne-eqb}
 use Rattle.lists.specs.Pick.{pick}
 use Rattle.lists.specs.All.{allTo}
 use Rattle.lists.specs.laws.All.{to-same}
@@ -31,15 +31,22 @@ use Rattle.message.specs.declared.Stage.the-variants.{Walking, Done, Broken}
 use Rattle.message.specs.declared.Times.{Times}
 use Rattle.message.specs.declared.Walk.{Walk}
 use Rattle.message.specs.declared.Wish.{Wish}
+use Rattle.reply.specs.Reply.{leaseAckOf, messageOctets, nakOf, offerOf}
+use Rattle.state.specs.declared.Book.{Book}
 use Rattle.state.specs.declared.Lease.{Lease}
 use Rattle.state.specs.declared.LeaseTable.{LeaseTable}
 use Rattle.state.specs.declared.State.{State}
 use Rattle.state.specs.Book.{placeOf, zeroLease}
+use Rattle.soundness.specs.Sound.{soundB, tenantsIn}
 use Rattle.decision.specs.declared.Decided.{Decided}
-use Rattle.decision.specs.Decide.{decideOf, judgedOf}
-use Rattle.decision.specs.Parts.{asOffer, discardWith, early1Of, error1Of, heldAlready, holdsOf, isNew, leaseIdIn, ownOf, recordedOf, refusalOf, resends}
-use Rattle.decision.specs.laws.Ensured.{offered-as-requested, sentAs}
-use Rattle.guarantee.specs.Statement.{OfferAt, OfferRule, wordsOf}
+use Rattle.decision.specs.Decide.{decideOf, judgedOf, leasedOf, settledOf}
+use Rattle.decision.specs.Parts.{discardWith, early1Of, error1Of, heldAlready, holdsOf, isNew, leaseIdIn, ownOf, recordedOf, refusalOf, resends, hasPeriod, nakWith, withLease}
+use Rattle.decision.specs.laws.Ensured.{asOffer, offered-as-requested, sentAs}
+use Rattle.guarantee.specs.Statement.{OfferRule, Discovers, NewlyGranted, OfferedAs, asRequest, bookAt, ownFor, requested, saysOf, stateAt, tableAt, tenantFor}
+use Rattle.decision.specs.declared.Reply.{Reply}
+use Rattle.decision.specs.declared.Reply.the-variants.{LeaseAck, Nak}
+use Rattle.decision.specs.declared.Verdict.{Verdict}
+use Rattle.server.specs.Serve.{Answer, Call, answered, atClock, byReply, discarded, forServer, headOf, replyOf, serveOf, termsOf, withReading}
 
 -- ---- a place of an option: 0, or past the header
 Fine : ℕ → Type 0
@@ -280,6 +287,17 @@ discovered-held s t h m e =
     (or-right (early1Of s (sentAs 1 m)) (resent-held (ownOf t h) m e))
 
 -- ---- the reading
+-- what a datagram says to a server of that state
+abbrev wordsOf : State → List ℕ → Fields
+wordsOf s d = fieldsOf d (s .server) (readOf d .message)
+
+-- a DISCOVER and the same message as a REQUEST say the same, and name no other server
+record Alike (s : State) (d : List ℕ) : Type 0 where
+  words : Fields
+  discover : wordsOf s d ≡ sentAs 1 words
+  request : wordsOf s (asRequest d) ≡ sentAs 3 words
+  ours : words .ours ≡ true
+
 module _ (x : ℕ) (l : List ℕ) where
   abbrev D : List ℕ
   D = x ∷ 1 ∷ l
@@ -356,33 +374,207 @@ module _ (x : ℕ) (l : List ℕ) where
   unfolding fieldsOf
   kind-is server = refl
 
-  module _ (s : State) (t : LeaseTable) (h : ℕ) where
-    offered : OfferAt s t h D
-    unfolding OfferAt
-    offered e two =
-        let r = both-read e in
-        let places : getD P 2 0 ≡ 0 = ap (λ (g : Reading). getD (g .message .places) 2 0) (sym (r .0)) ∙ two in
-        let m : Fields = fieldsOf D (s .server) (messageOf D P) in
-        let a : wordsOf s R ≡ sentAs 3 m = ap (λ (g : Reading). fieldsOf R (s .server) (g .message)) (r .1) ∙ fields-same (s .server) places in
-        let d : wordsOf s D ≡ sentAs 1 m = ap (λ (g : Reading). fieldsOf D (s .server) (g .message)) (r .0) ∙ as-it-is in (
-          ap (λ (g : Reading). g .discard) (r .1),
-          (
-            λ new. ap (λ (f : Fields). decideOf s t h f .verdict) d
-                ∙ offered-as-requested s t h m (same-resends m ∙ sym (ap (λ (f : Fields). resends f (recordedOf (ownOf t h) f)) a) ∙ new)
-                ∙ sym (ap (λ (f : Fields). asOffer (decideOf s t h f .verdict .reply) (decideOf s t h f .verdict)) a),
-            λ old. ap (λ (f : Fields). decideOf s t h f .verdict) d
-                ∙ discovered-held s t h m (same-resends m ∙ sym (ap (λ (f : Fields). resends f (recordedOf (ownOf t h) f)) a) ∙ old),
-          ),
-        )
-      where
-        as-it-is : fieldsOf D (s .server) (messageOf D P) ≡ sentAs 1 (fieldsOf D (s .server) (messageOf D P))
-        as-it-is = kind-one (fieldsOf D (s .server) (messageOf D P)) (kind-is (s .server))
+  ours-is : (server : ℕ) → fieldsOf D server (messageOf D P) .ours ≡ serverOk D server (findOf P 2)
+  unfolding fieldsOf
+  ours-is server = refl
 
-        same-resends : (m : Fields) → resends (sentAs 3 m) (recordedOf (ownOf t h) m) ≡ resends (sentAs 3 m) (recordedOf (ownOf t h) (sentAs 3 m))
-        same-resends m = ap (resends (sentAs 3 m)) (recorded-same (ownOf t h) m)
+  -- what both say
+  alike : (s : State) → readOf D .discard ≡ 0 → getD (readOf D .message .places) 2 0 ≡ 0 → Alike s D
+  unfolding sentAs foundAt pick
+  alike s e two =
+      let r = both-read e in
+      let places : getD P 2 0 ≡ 0 = ap (λ (g : Reading). getD (g .message .places) 2 0) (sym (r .0)) ∙ two in
+      record {
+        words = fieldsOf D (s .server) (messageOf D P);
+        discover = ap (λ (g : Reading). fieldsOf D (s .server) (g .message)) (r .0) ∙ kind-one (fieldsOf D (s .server) (messageOf D P)) (kind-is (s .server));
+        request = ap (λ (g : Reading). fieldsOf R (s .server) (g .message)) (r .1) ∙ fields-same (s .server) places;
+        ours = ours-is (s .server) ∙ ap (λ (p : ℕ). serverOk D (s .server) (foundAt p)) places;
+      }
+
+  -- both are read or neither is
+  number : Bool → Stage → Bool → Bool → ℕ
+  number h g p q = pick h (byNumber g) 4
+    where
+      byNumber : Stage → ℕ
+      byNumber Walking = 5
+      byNumber Done = pick p 5 (pick q 0 6)
+      byNumber Broken = 5
+
+  numbered : (d : List ℕ) → readOf d .discard ≡ number (headerOk d) (walkOf d .stage) (eqb (getD (walkOf d .places) 3 0) 0) (noneRequired d (walkOf d .places))
+  unfolding readOf ended pick number
+  numbered d = go (headerOk d) (walkOf d .stage) (eqb (getD (walkOf d .places) 3 0) 0) (noneRequired d (walkOf d .places))
+    where
+      go : (h : Bool) (g : Stage) (p q : Bool)
+          → pick h (byStage g (pick p (read.noMessage 5 (length d)) (pick q (good d (walkOf d .places)) (read.noMessage 6 0))) (read.noMessage 5 (walkOf d .at))) (read.noMessage 4 0) .discard ≡ number h g p q
+      go false g p q = refl
+      go true Walking p q = refl
+      go true Broken p q = refl
+      go true Done true q = refl
+      go true Done false true = refl
+      go true Done false false = refl
+
+  same-number : readOf D .discard ≡ readOf R .discard
+  same-number =
+      numbered D
+      ∙ ap₂ (λ (h q : Bool). number h (walkOf D .stage) (eqb (getD (walkOf D .places) 3 0) 0) q) same-header (same-required x 1 3 l (walkOf D .places) (walked-on x 1 3 l .places))
+      ∙ ap (λ (w : Walk). number (headerOk R) (w .stage) (eqb (getD (w .places) 3 0) 0) (noneRequired R (w .places))) (walked-same x 1 3 l)
+      ∙ sym (numbered R)
+
+-- ---- any datagram of type 1
+both-numbers : (d : List ℕ) → getD d 1 0 ≡ 1 → readOf d .discard ≡ readOf (asRequest d) .discard
+both-numbers [] e = absurd (omega arith)
+both-numbers (x ∷ []) e = absurd (omega arith)
+both-numbers (x ∷ k ∷ l) e = subst (λ (n : ℕ). readOf (x ∷ n ∷ l) .discard ≡ readOf (x ∷ 3 ∷ l) .discard) (sym e) (same-number x l)
+
+both-say : (s : State) (d : List ℕ) → getD d 1 0 ≡ 1 → readOf d .discard ≡ 0 → getD (readOf d .message .places) 2 0 ≡ 0 → Alike s d
+both-say s [] e = absurd (omega arith)
+both-say s (x ∷ []) e = absurd (omega arith)
+both-say s (x ∷ k ∷ l) e = subst (λ (n : ℕ). readOf (x ∷ n ∷ l) .discard ≡ 0 → getD (readOf (x ∷ n ∷ l) .message .places) 2 0 ≡ 0 → Alike s (x ∷ n ∷ l)) (sym e) (alike x l s)
+
+-- ---- a REQUEST draws an ACK with a lease, or a NAK
+Drawn : Verdict → Type 0
+Drawn v = ((v .outcome ≡ 0) × (v .reply ≡ LeaseAck)) ⊎ (v .reply ≡ Nak)
+
+never : {A : Type 0} → true ≡ false → A
+never e = let z : _≡_ {A = ℕ} 0 1 = cc in absurd (omega arith)
+
+request-draws : (s : State) (t : LeaseTable) (h : ℕ) (m : Fields) → Drawn (decideOf s t h (sentAs 3 m) .verdict)
+unfolding decideOf judgedOf settledOf leasedOf withLease refusalOf nakWith sentAs hasPeriod isNew Drawn
+request-draws s t h m =
+    pick-cases P _ _ _ (λ _. inl (refl, refl))
+    (λ _. pick-cases P _ _ _ (λ _. nak 1)
+    (λ _. pick-cases P _ _ _ (λ _. nak 2)
+    (λ _. pick-cases P _ _ _ (λ _. nak 3)
+    (λ _. pick-cases P _ _ _
+    (λ _. pick-cases P _ _ _ (λ _. nak 0) (λ _. pick-cases P (eqb 3 1) _ _ (λ e. never (sym e)) (λ _. pick-cases P (eqb 3 3) _ _ (λ _. inl (refl, refl)) (λ e. never e))))
+    (λ e. never e)))))
+  where
+    P : Decided → Type 0
+    P d = Drawn (d .verdict)
+
+    nak : (e : ℕ) → Drawn (refusalOf (sentAs 3 m) e)
+    nak e = pick-cases Drawn (eqb 3 1) _ _ (λ e. never (sym e)) (λ _. pick-cases Drawn (eqb 3 8) _ _ (λ e. never (sym e)) (λ _. inr refl))
+
+-- ---- the two calls
+module _ (b : Book) (c : Call) where
+  Pair : Answer → Answer → Type 0
+  Pair x y = OfferedAs b c x y
+
+  neither : (x y : Answer) → (x .outcome ≡ 0 → ⊥) → (y .outcome ≡ 0 → ⊥) → Pair x y
+  unfolding Pair
+  neither x y p q = record { offers = λ n. absurd (q (n .outcome)); only = λ o. absurd (p (o .outcome)); same = λ o. absurd (p (o .outcome)) }
+
+  both : (t u : Bool) (x y z w : Answer) → t ≡ u → (t ≡ true → Pair x z) → (t ≡ false → Pair y w) → Pair (pick t x y) (pick u z w)
+  unfolding pick
+  both true true x y z w e p q = p refl
+  both true false x y z w e p q = never e
+  both false true x y z w e p q = never (sym e)
+  both false false x y z w e p q = q refl
+
+  abbrev s : State
+  s = stateAt b c
+
+  abbrev t : LeaseTable
+  t = tableAt b c
+
+  abbrev h : ℕ
+  h = tenantFor b c
+
+  -- the decision's answers
+  module _ (k : Alike s (c .datagram)) where
+    abbrev m : Fields
+    m = k .words
+
+    abbrev ruled : Verdict
+    ruled = decideOf s t h (sentAs 3 m) .verdict
+
+    abbrev discovered : Answer
+    discovered = answered s (sentAs 1 m) (decideOf s t h (sentAs 1 m))
+
+    abbrev asked : Answer
+    asked = answered s (sentAs 3 m) (decideOf s t h (sentAs 3 m))
+
+    resent : Bool
+    resent = resends (sentAs 3 m) (recordedOf (ownOf t h) m)
+
+    new-is : resends (saysOf b (requested c)) (recordedOf (ownFor b (requested c)) (saysOf b (requested c))) ≡ resent
+    unfolding resent
+    new-is = ap (λ (f : Fields). resends f (recordedOf (ownOf t h) f)) (k .request) ∙ ap (resends (sentAs 3 m)) (sym (recorded-same (ownOf t h) m))
+
+    -- not offered: the DISCOVER's verdict is discard 8
+    kept-back : decideOf s t h (sentAs 1 m) .verdict ≡ discardWith 8 → (NewlyGranted b (requested c) asked → ⊥) → Pair discovered asked
+    unfolding Pair discardWith
+    kept-back e none = record { offers = λ n. absurd (none n); only = λ o. absurd (eight (o .outcome)); same = λ o. absurd (eight (o .outcome)) }
+      where
+        eight : decideOf s t h (sentAs 1 m) .verdict .outcome ≡ 0 → ⊥
+        eight z = let q : decideOf s t h (sentAs 1 m) .verdict .outcome ≡ 8 = ap (λ (v : Verdict). v .outcome) e in omega arith
+
+    by-reply : resent ≡ false → decideOf s t h (sentAs 1 m) .verdict ≡ asOffer (ruled .reply) ruled → Drawn ruled → Pair discovered asked
+    unfolding Pair Drawn replyOf offerOf leaseAckOf nakOf messageOctets sentAs
+    by-reply new e d = ⊎-elim granted refused d
+      where
+        granted : (ruled .outcome ≡ 0) × (ruled .reply ≡ LeaseAck) → OfferedAs b c discovered asked
+        granted g = record {
+          offers = λ _. record { outcome = ap (λ (v : Verdict). v .outcome) to; type = ap (λ (r : List ℕ). getD r 1 0) offer };
+          only = λ _. record { outcome = g .0; type = ap (λ (r : List ℕ). getD r 1 0) ack; new = new-is ∙ new };
+          same = λ _. offer ∙ sym (ap (λ (r : List ℕ). set r 1 2) ack);
+        }
+          where
+            to : decideOf s t h (sentAs 1 m) .verdict ≡ asOffer LeaseAck ruled
+            to = e ∙ ap (λ (r : Reply). asOffer r ruled) (g .1)
+
+            offer : discovered .reply ≡ offerOf (headOf s m) (termsOf s ruled)
+            offer = ap (λ (v : Verdict). byReply s (sentAs 1 m) v (v .reply)) to
+
+            ack : asked .reply ≡ leaseAckOf (headOf s m) (termsOf s ruled)
+            ack = ap (byReply s (sentAs 3 m) ruled) (g .1)
+
+        refused : ruled .reply ≡ Nak → OfferedAs b c discovered asked
+        refused g = kept-back (e ∙ ap (λ (r : Reply). asOffer r ruled) g) (λ n.
+            let z : getD (asked .reply) 1 0 ≡ 6 = ap (λ (r : Reply). getD (byReply s (sentAs 3 m) ruled r) 1 0) g in
+            let y = n .type in
+            omega arith)
+
+    decided : Pair discovered asked
+    unfolding resent
+    decided = go resent refl
+      where
+        go : (r : Bool) → resent ≡ r → Pair discovered asked
+        go true e = kept-back (discovered-held s t h m e) (λ n. never (sym e ∙ sym new-is ∙ n .new))
+        go false e = by-reply e (offered-as-requested s t h m e) (request-draws s t h m)
+
+    -- test 7 is passed
+    as-discover : forServer (bookAt b c) h (wordsOf s (c .datagram)) ≡ discovered
+    unfolding forServer pick sentAs
+    as-discover = ap (forServer (bookAt b c) h) (k .discover)
+
+    as-request : forServer (bookAt b c) h (wordsOf s (asRequest (c .datagram))) ≡ asked
+    unfolding forServer pick sentAs
+    as-request = ap (forServer (bookAt b c) h) (k .request) ∙ ap (λ (o : Bool). pick (not o) (discarded 7 (bookAt b c)) asked) (k .ours)
+
+    served : Pair (forServer (bookAt b c) h (wordsOf s (c .datagram))) (forServer (bookAt b c) h (wordsOf s (asRequest (c .datagram))))
+    served =
+        subst (λ (x : Answer). Pair x (forServer (bookAt b c) h (wordsOf s (asRequest (c .datagram))))) (sym as-discover)
+        (subst (λ (y : Answer). Pair discovered y) (sym as-request) decided)
+
+  offered : Discovers c → Pair (serveOf b c) (serveOf b (requested c))
+  unfolding serveOf atClock withReading
+  offered v =
+      both (soundB (b .state) (b .table)) _ _ _ _ _ refl
+      (λ _. both (ltb (c .room) leastRoom) _ _ _ _ _ refl (λ _. out 2 b (λ z. omega arith))
+      (λ _. both (ltb h (tenantsIn s)) _ _ _ _ _ refl
+      (λ _. both (eqb (readOf (c .datagram) .discard) 0) (eqb (readOf (asRequest (c .datagram)) .discard) 0) _ _ _ _ (ap (λ (n : ℕ). eqb n 0) same)
+      (λ e. served (both-say s (c .datagram) (v .type) (eqb-true _ _ e) (v .alone)))
+      (λ e. neither _ _ (eqb-false (readOf (c .datagram) .discard) 0 e) (λ z. eqb-false (readOf (c .datagram) .discard) 0 e (same ∙ z))))
+      (λ _. out 3 (bookAt b c) (λ z. omega arith))))
+      (λ _. out 1 b (λ z. omega arith))
+    where
+      same : readOf (c .datagram) .discard ≡ readOf (asRequest (c .datagram)) .discard
+      same = both-numbers (c .datagram) (v .type)
+
+      out : (n : ℕ) (x : Book) → (n ≡ 0 → ⊥) → Pair (discarded n x) (discarded n x)
+      out n x z = neither (discarded n x) (discarded n x) z z
 
 pub offer-rule : OfferRule
-unfolding OfferRule
-offer-rule s t h [] e = absurd (omega arith)
-offer-rule s t h (x ∷ []) e = absurd (omega arith)
-offer-rule s t h (x ∷ k ∷ l) e = subst (λ (n : ℕ). OfferAt s t h (x ∷ n ∷ l)) (sym e) (offered x l s t h)
+unfolding OfferRule Pair
+offer-rule b c v = offered b c v

@@ -31,8 +31,8 @@ use Rattle.decision.specs.Parts.{discardWith, nakWith, ownOf, plainReply, refus
 use Rattle.decision.specs.laws.Cases.{decided-by}
 use Rattle.decision.specs.Decide.{decideOf}
 use Rattle.server.specs.Serve.{Answer, Call, answered, atClock, byReply, discarded, forServer, headOf, infoOf, replyOf, serveOf, tenantOf, termsOf, withReading}
-use Rattle.guarantee.specs.Statement.{Answered, Demand1Replies, Demand1Leases, IsReply, bookAt, liveUnder}
-use Rattle.guarantee.proofs.Discards.{call-answered}
+use Rattle.guarantee.specs.Statement.{IsReply, bookAt, liveUnder}
+use Rattle.guarantee.proofs.Discards.{Tested, call-tested}
 
 -- ---- a verdict with outcome 0 sends something
 Sends : Reply → Type 0
@@ -111,9 +111,9 @@ module _ (b : Book) (c : Call) where
       some-number zero h = absurd (h refl)
       some-number (suc n) h = omega arith
 
-pub demand1-replies : Demand1Replies
-unfolding Demand1Replies R
-demand1-replies b c = call-replies b c
+pub replied : (b : Book) (c : Call) → serveOf b c .outcome ≡ 0 → IsReply (serveOf b c .reply)
+unfolding R
+replied b c = call-replies b c
 
 -- ---- the leases that are live at the clock
 live-twice : (k : ℕ) (ls : List Lease) → liveOf k (liveOf k ls) ≡ liveOf k ls
@@ -137,12 +137,12 @@ advanced-live : (b : Book) (time g : ℕ) → liveOf (advanced b time .state .cl
 unfolding advanced raised
 advanced-live b time g = ap (liveOf (max (b .state .clock) time)) (own-dropped (max (b .state .clock) time) (b .table) g) ∙ live-twice (max (b .state .clock) time) (ownOf (b .table) g)
 
-pub demand1-leases : Demand1Leases
-unfolding Demand1Leases
-demand1-leases b c n g i = go (serveOf b c .outcome) refl
+pub leases-stay : (b : Book) (c : Call) → (serveOf b c .outcome ≡ 0 → ⊥) → (g : ℕ) (i : List ℕ)
+    → liveUnder (serveOf b c .book .state .clock) (serveOf b c .book .table) g i ≡ liveUnder (serveOf b c .book .state .clock) (b .table) g i
+leases-stay b c n g i = go (serveOf b c .outcome) refl
   where
-    v : Answered b c (serveOf b c)
-    v = call-answered b c
+    v : Tested b c (serveOf b c)
+    v = call-tested b c
 
     same : (x : Book) → serveOf b c .book ≡ x → liveOf (x .state .clock) (ownOf (x .table) g) ≡ liveOf (x .state .clock) (ownOf (b .table) g)
         → liveUnder (serveOf b c .book .state .clock) (serveOf b c .book .table) g i ≡ liveUnder (serveOf b c .book .state .clock) (b .table) g i

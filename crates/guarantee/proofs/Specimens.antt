@@ -1,71 +1,245 @@
--- Specimens: demand 3's premises can be met: document 01's specimen P3, after P1, is a new REQUEST within the unused share, by computation.
-use mathlib.Core.Path.{refl}
+-- Specimens: document 01's specimens P1 to P12, those of skew and a few more, on whole datagrams, whole replies and the book afterwards, by computation: one table of
+-- cases, one theorem; and the premises of the statements, met on the same book.
+use mathlib.Core.Path.{_≡_, refl, sym, ap, _∙_, subst}
 use mathlib.Core.List.{List, [], _∷_, _++_}
-use Prim.Native.Nat.{ℕ}
-use lib.ListN.{replicate}
-use borrow.Author.Tests.{ltb-true, leb-true}
+use mathlib.Core.Bool.{Bool, true, false}
+use Prim.Native.Nat.{ℕ, zero, suc, _+_, _<_, _^_}
+use lib.ListN.{getD, length, replicate}
+use lib.Dec.{eqb}
+use borrow.Author.Tests.{leb-true, ltb-true}
 use Rattle.lists.specs.Pick.{pick}
-use Rattle.lists.specs.All.{allBy, pairsBy, allTo}
-use Rattle.lists.specs.Down.{largest}
-use Rattle.lists.specs.Arranged.{insertIn}
-use Rattle.lists.specs.Filter.{filterBy, isIn}
-use Rattle.lists.specs.Place.{placeBy}
-use Rattle.lists.specs.Sums.{sumTo}
-use Rattle.octets.specs.Octets.{at16, at32}
-use Rattle.identifier.specs.Order.{orderOf, sameOf}
-use Rattle.address_set.specs.AddressSet.{bit, differenceOf, offsetsFrom, setOf, upTo}
-use Rattle.message.specs.Codes.{allowedIn, allows, lengthOk}
-use Rattle.message.specs.Read.{ended, headerOk, noneRequired, readOf, requiredEmpty}
-use Rattle.message.specs.Values.{allowedAt, codesFrom, fieldsOf, foundAt, namesServer, timesOf}
-use Rattle.message.specs.Walk.{exactlyFilled, layoutOk, stepOf, optionTaken, valueOk, walkFrom, walkOf}
+use Rattle.lists.specs.All.{All, allBy}
 use Rattle.state.specs.declared.Book.{Book}
-use Rattle.state.specs.Book.{byIdentifier, differ, addressesOf, advanced, dropped, insertOf, laidOut, liveOf, overlaps, raised, tableOf, unionAll, usedIn, zeroScope, committed, withHeld, insertedIn}
-use Rattle.soundness.specs.Sound.{oneTo, sizeB, idB, recordsB, countsB, rule1, belowB, offsetsB, rule2, rangeB, rangesApart, rule3, poolB, poolsApart, rule4, ttlB, rule5, reserveB, reservesB, rule6, kindB, periodB, leaseB, noneB, tenantsB, rule7, rule8, disjoint, apart, rule9, compatible, rule10, limitB, limitsB, rule11, committedB, rule12, zeroFrom, paddedB, blankB, unusedB, layoutB, rangeZero, tailB, scopeZero, settingsB, rulesOf, firstLate, firstBroken, brokenOf, soundB, rule19}
-use Rattle.allocation.specs.Rule.{allowed, busyIn, grantOf, suffices, takenOf, grantTo}
-use Rattle.decision.specs.Parts.{askAt, badCounts, error0Of, error1Of, error2Of, error3Of, skewed, fitsNew, hasPeriod, holdsOf, isNew, knowsScope, lacksCurrent, lacksScope, leaseFrom, lengthOf, newAt, newOf, newWith, proposalOf, recordedOf, resends, scopePlace, startOf, wishedOr, withLease, zeroLength, heldAlready, early1Of}
-use Rattle.state.specs.Edit.{leftIn, editedIn, applied}
-use Rattle.decision.specs.Decide.{decideOf, judgedOf, leasedOf, settledOf}
-use Rattle.server.specs.Serve.{Call, atClock, forServer, hasClient, serveOf, tenantOf, withReading}
-use Rattle.guarantee.specs.Statement.{Demand3, Granted, NewRequest, SoundBook, run}
+use Rattle.state.specs.Book.{tableOf, zeroScope, idOf, leasesOf}
+use Rattle.server.specs.Serve.{Call, serveOf, Answer}
+use Rattle.guarantee.specs.Statement.{Demand3, Granted, NewRequest, SoundBook, run, Discovers, Narrow, Offered, OfferRule}
+use Rattle.state.specs.declared.Lease.{Lease}
+use Rattle.state.specs.laws.Layout.{table-back}
+use Rattle.decision.specs.laws.Kept.{own-is}
 use Rattle.guarantee.proofs.Granted.{demand3}
+use Rattle.guarantee.proofs.Offers.{offer-rule}
+use Rattle.guarantee.proofs.Opened.{computed}
 
--- scope 239.192.0.0, size 4; house 1 share 2 limit 3; house 2 share 1 limit 4; clock 1000
-campus : Book
-campus = record {
+-- scope 239.192.0.0, size 4; house 1 share 2 limit 3; house 2 share 1 limit 4; clock 1000; server 10.1.1.1; house 1's clients are 10.0.1.0 to
+-- 10.0.1.255, house 2's 10.0.2.0 to 10.0.2.255
+abbrev pub book : Book
+book = record {
   state = record {
-    server = 167837953;
+    server = 0x0A010101;
     clock = 1000;
     «tenant_count» = 2;
-    tenants = record { low = 1; high = 9 } ∷ record { low = 10; high = 19 } ∷ replicate 6 (record { low = 0; high = 0 });
+    tenants = record { low = 0x0A000100; high = 0x0A0001FF } ∷ record { low = 0x0A000200; high = 0x0A0002FF } ∷ replicate 6 (record { low = 0; high = 0 });
     «scope_count» = 1;
-    scopes = record { lowest = 4022337536; size = 4; ttl = 1; reserve = 2 ∷ 1 ∷ replicate 6 0; limit = 3 ∷ 4 ∷ replicate 6 0 } ∷ replicate 3 zeroScope;
+    scopes = record { lowest = 0xEFC00000; size = 4; ttl = 15; reserve = 2 ∷ 1 ∷ replicate 6 0; limit = 3 ∷ 4 ∷ replicate 6 0 } ∷ replicate 3 zeroScope;
   };
   table = tableOf (replicate 8 []);
 }
 
--- a REQUEST at 1000: transaction id, identifier, least and desired number, and other options
-ask : ℕ → ℕ → ℕ → ℕ → ℕ → List ℕ → Call
-ask client xid i least desired more = record {
-  datagram =
-      (0 ∷ 3 ∷ 0 ∷ 1 ∷ 0 ∷ 0 ∷ 0 ∷ xid ∷ 0 ∷ 3 ∷ 0 ∷ 2 ∷ 0 ∷ i ∷ 0 ∷ 4 ∷ 0 ∷ 4 ∷ 239 ∷ 192 ∷ 0 ∷ 0 ∷ 0 ∷ 7 ∷ 0 ∷ 4 ∷ 0 ∷ least ∷ 0 ∷ desired ∷ [])
-      ++ more ++ 0 ∷ 0 ∷ 0 ∷ 0 ∷ [];
-  client = client;
-  time = 1000;
-  room = 512;
-}
+-- ---- datagrams and replies
+-- an option with a code and a value
+abbrev pub option : ℕ → List ℕ → List ℕ
+option code value = 0 ∷ code ∷ 0 ∷ length value ∷ value
 
-p1 : Call
-p1 = ask 10 1 65 1 4 []
+-- the four octets of a time whose upper two are 0
+abbrev pub seconds : ℕ → ℕ → List ℕ
+seconds high low = 0 ∷ 0 ∷ high ∷ low ∷ []
 
-p3 : Call
-p3 = ask 1 2 66 2 3 (0 ∷ 1 ∷ 0 ∷ 4 ∷ 0 ∷ 0 ∷ 3 ∷ 232 ∷ [])
+-- a type and transaction id 01 02 03 x
+abbrev pub header : ℕ → ℕ → List ℕ
+header kind x = 0 ∷ kind ∷ 0 ∷ 1 ∷ 1 ∷ 2 ∷ 3 ∷ x ∷ []
 
-sound : SoundBook campus
-unfolding campus pick allBy pairsBy allTo filterBy sumTo orderOf sameOf bit offsetsFrom laidOut tableOf byIdentifier unionAll addressesOf overlaps oneTo sizeB idB recordsB countsB rule1 belowB offsetsB rule2 rangeB rangesApart rule3 poolB poolsApart rule4 ttlB rule5 reserveB reservesB rule6 kindB periodB leaseB noneB tenantsB rule7 differ rule8 disjoint apart rule9 compatible rule10 limitB limitsB rule11 committed committedB rule12 zeroFrom paddedB blankB unusedB layoutB rangeZero tailB scopeZero settingsB rulesOf firstLate firstBroken brokenOf soundB rule19
+-- Lease Identifier 00 i
+abbrev pub identifier : ℕ → List ℕ
+identifier i = option 3 (0 ∷ i ∷ [])
+
+abbrev pub scope : List ℕ
+scope = option 4 (0xEF ∷ 0xC0 ∷ 0 ∷ 0 ∷ [])
+
+abbrev pub server : List ℕ
+server = option 2 (0 ∷ 1 ∷ 0x0A ∷ 1 ∷ 1 ∷ 1 ∷ [])
+
+abbrev pub end : List ℕ
+end = 0 ∷ 0 ∷ 0 ∷ 0 ∷ []
+
+-- a REQUEST: transaction id, identifier, least, desired, other options
+abbrev pub request : ℕ → ℕ → ℕ → ℕ → List ℕ → List ℕ
+request x i least desired more = header 3 x ++ identifier i ++ scope ++ option 7 (0 ∷ least ∷ 0 ∷ desired ∷ []) ++ more ++ end
+
+-- ACK to REQUEST and RENEW: Current Time, transaction id, identifier, Lease Time, Start Time, offset and count of the one range
+abbrev pub ackAt : List ℕ → ℕ → ℕ → List ℕ → List ℕ → ℕ → ℕ → List ℕ
+ackAt now x i lease start offset count =
+    header 5 x ++ option 1 lease ++ server ++ identifier i ++ scope ++ option 6 start ++ option 10 (0xEF ∷ 0xC0 ∷ 0 ∷ offset ∷ 0 ∷ count ∷ []) ++ option 11 now ++ end
+
+-- at 1000
+abbrev pub ack : ℕ → ℕ → List ℕ → List ℕ → ℕ → ℕ → List ℕ
+ack = ackAt (seconds 0x03 0xE8)
+
+-- NAK: transaction id, identifier, error
+abbrev pub nak : ℕ → ℕ → ℕ → List ℕ
+nak x i error = header 6 x ++ server ++ identifier i ++ option 16 (0 ∷ error ∷ []) ++ end
+
+-- ---- calls
+abbrev pub call : ℕ → ℕ → List ℕ → Call
+call client time datagram = record { datagram = datagram; client = client; time = time; room = 512 }
+
+-- from 10.0.1.5, a client of house 1, and from 10.0.2.5, of house 2
+abbrev pub house1 : ℕ → List ℕ → Call
+house1 = call 0x0A000105
+
+abbrev pub house2 : ℕ → List ℕ → Call
+house2 = call 0x0A000205
+
+abbrev pub p1 : Call
+p1 = house2 1000 (request 1 0x41 1 4 [])
+
+abbrev pub p3 : Call
+p3 = house1 1000 (request 3 0x42 2 3 (option 1 (seconds 0x03 0xE8)))
+
+abbrev pub p5 : Call
+p5 = house1 1000 (request 5 0x43 2 2 (option 6 (seconds 0x07 0xD0) ++ option 11 (seconds 0x03 0xE8)))
+
+-- ---- the leases of a book, in numbers: house, scope, identifier length and octets, type, transaction id, start, end, set of offsets
+abbrev pub row : ℕ → Lease → List ℕ
+row h l = h ∷ l .scope ∷ l .«id_len» ∷ idOf l ++ l .kind ∷ l .xid ∷ l .start ∷ l .end ∷ l .addresses ∷ []
+
+unfoldable pub rows : ℕ → List Lease → List ℕ
+rows h [] = []
+rows h (l ∷ ls) = row h l ++ rows h ls
+
+unfoldable pub allRows : ℕ → List (List Lease) → List ℕ
+allRows h [] = []
+allRows h (ls ∷ more) = rows h ls ++ allRows (suc h) more
+
+-- such a row in the one scope: house, identifier 00 i, type, transaction id 01 02 03 x, start, end, set of offsets
+abbrev pub lease : ℕ → ℕ → ℕ → ℕ → ℕ → ℕ → ℕ → List ℕ
+lease h i kind x from to set = h ∷ 1 ∷ 2 ∷ 0 ∷ i ∷ kind ∷ (0x01020300 + x) ∷ from ∷ to ∷ set ∷ []
+
+-- .0 and .1 are the set 3, .2 and .3 the set 12
+abbrev pub lease1 : List ℕ
+lease1 = lease 2 0x41 3 1 1000 4600 3
+
+abbrev pub lease3 : List ℕ
+lease3 = lease 1 0x42 3 3 1000 2000 12
+
+abbrev pub lease5 : List ℕ
+lease5 = lease 1 0x43 3 5 2000 5600 12
+
+-- ---- the cases: the calls before, the last call; its outcome and reply, the book's clock and leases afterwards
+pub record Case : Type 0 where
+  pub before : List Call
+  pub last : Call
+  pub outcome : ℕ
+  pub reply : List ℕ
+  pub clock : ℕ
+  pub leases : List ℕ
+
+unfoldable pub same : List ℕ → List ℕ → Bool
+same [] [] = true
+same [] (y ∷ ys) = false
+same (x ∷ xs) [] = false
+same (x ∷ xs) (y ∷ ys) = pick (eqb x y) (same xs ys) false
+
+-- an answer is the case's
+unfoldable pub agrees : Case → Answer → Bool
+agrees c a =
+    pick (eqb (a .outcome) (c .outcome))
+    (pick (same (a .reply) (c .reply)) (pick (eqb (a .book .state .clock) (c .clock)) (same (allRows 1 (leasesOf (a .book .table))) (c .leases)) false) false)
+    false
+
+unfoldable pub holds : Case → Bool
+holds c = agrees c (serveOf (run book (c .before)) (c .last))
+
+-- a reply, with the leases afterwards
+abbrev pub answers : List Call → Call → List ℕ → List ℕ → Case
+answers before last reply leases = record { before = before; last = last; outcome = 0; reply = reply; clock = last .time; leases = leases }
+
+-- a discard of the first call
+abbrev pub discards : Call → ℕ → Case
+discards last number = record { before = []; last = last; outcome = number; reply = []; clock = last .time; leases = [] }
+
+-- P9: GETINFO asking for the time, and its ACK, at 1999 and 2000
+abbrev pub getinfo : List ℕ
+getinfo = header 8 9 ++ identifier 0x50 ++ option 5 (0 ∷ 11 ∷ []) ++ end
+
+abbrev pub infoAck : List ℕ → List ℕ
+infoAck now = header 5 9 ++ server ++ identifier 0x50 ++ option 11 now ++ end
+
+-- P12, as document 01 writes it
+abbrev pub p12 : List ℕ
+p12 = 0x00 ∷ 0x07 ∷ 0x00 ∷ 0x01 ∷ 0x01 ∷ 0x02 ∷ 0x03 ∷ 0x04 ∷ 0x00 ∷ 0x03 ∷ 0x00 ∷ 0x02 ∷ 0x00 ∷ 0x41 ∷ 0x00 ∷ 0x00 ∷ 0x00 ∷ 0x00 ∷ []
+
+abbrev pub p12Reply : List ℕ
+p12Reply =
+    0x00 ∷ 0x06 ∷ 0x00 ∷ 0x01 ∷ 0x01 ∷ 0x02 ∷ 0x03 ∷ 0x04 ∷ 0x00 ∷ 0x02 ∷ 0x00 ∷ 0x06 ∷ 0x00 ∷ 0x01 ∷ 0x0A ∷ 0x01 ∷ 0x01 ∷ 0x01 ∷ 0x00 ∷ 0x03 ∷ 0x00 ∷ 0x02 ∷ 0x00 ∷ 0x41
+    ∷ 0x00 ∷ 0x10 ∷ 0x00 ∷ 0x02 ∷ 0x00 ∷ 0x03 ∷ 0x00 ∷ 0x00 ∷ 0x00 ∷ 0x00 ∷ []
+
+-- P1's REQUEST with a Current Time, and a RENEW of its lease with one
+abbrev pub requestAt : ℕ → ℕ → List ℕ
+requestAt high low = request 1 0x41 1 4 (option 11 (seconds high low))
+
+abbrev pub renewAt : ℕ → ℕ → List ℕ
+renewAt high low = header 4 12 ++ identifier 0x41 ++ option 11 (seconds high low) ++ end
+
+-- a DISCOVER as P1's REQUEST, with a least and a desired number, and the OFFER that it draws
+abbrev pub discover : ℕ → ℕ → List ℕ
+discover least desired = header 1 1 ++ identifier 0x41 ++ scope ++ option 7 (0 ∷ least ∷ 0 ∷ desired ∷ []) ++ end
+
+abbrev pub offer : List ℕ
+offer =
+    header 2 1 ++ option 1 (seconds 0x0E 0x10) ++ server ++ identifier 0x41 ++ scope ++ option 6 (seconds 0x03 0xE8) ++ option 10 (0xEF ∷ 0xC0 ∷ 0 ∷ 0 ∷ 0 ∷ 2 ∷ [])
+    ++ option 11 (seconds 0x03 0xE8) ++ end
+
+unfoldable pub table : List Case
+table =
+    -- P1: .0 and .1; P2: error 0
+    answers [] p1 (ack 1 0x41 (seconds 0x0E 0x10) (seconds 0x03 0xE8) 0 2) lease1
+    ∷ answers [] (house2 1000 (request 2 0x41 3 4 [])) (nak 2 0x41 0) []
+    -- P3: .2, .3; P4: error 0
+    ∷ answers (p1 ∷ []) p3 (ack 3 0x42 (seconds 0x03 0xE8) (seconds 0x03 0xE8) 2 2) (lease3 ++ lease1)
+    ∷ answers (p1 ∷ []) (house1 1000 (request 4 0x42 3 3 [])) (nak 4 0x42 0) lease1
+    -- P5: from 2000 .2, .3; P6: from 1999 error 0
+    ∷ answers (p1 ∷ p3 ∷ []) p5 (ack 5 0x43 (seconds 0x0E 0x10) (seconds 0x07 0xD0) 2 2) (lease3 ++ lease5 ++ lease1)
+    ∷ answers (p1 ∷ p3 ∷ []) (house1 1000 (request 6 0x43 2 2 (option 6 (seconds 0x07 0xCF) ++ option 11 (seconds 0x03 0xE8)))) (nak 6 0x43 0) (lease3 ++ lease1)
+    -- P7: RENEW with Lease Time 1001, error 0; P8: with 1000, ACK, and the lease has the type and transaction id of the RENEW
+    ∷ answers (p1 ∷ p3 ∷ p5 ∷ []) (house1 1000 (header 4 7 ++ option 1 (seconds 0x03 0xE9) ++ identifier 0x42 ++ end)) (nak 7 0x42 0) (lease3 ++ lease5 ++ lease1)
+    ∷ answers (p1 ∷ p3 ∷ p5 ∷ []) (house1 1000 (header 4 8 ++ option 1 (seconds 0x03 0xE8) ++ identifier 0x42 ++ end)) (ack 8 0x42 (seconds 0x03 0xE8) (seconds 0x03 0xE8) 2 2)
+    (lease 1 0x42 4 8 1000 2000 12 ++ lease5 ++ lease1)
+    -- P9: P3's lease is in the book at 1999, to be released; at 2000 it is gone
+    ∷ answers (p1 ∷ p3 ∷ []) (house2 1999 getinfo) (infoAck (seconds 0x07 0xCF)) (lease3 ++ lease1)
+    ∷ answers (p1 ∷ p3 ∷ []) (house2 2000 getinfo) (infoAck (seconds 0x07 0xD0)) lease1
+    ∷ answers (p1 ∷ p3 ∷ []) (house1 1999 (header 7 9 ++ identifier 0x42 ++ end)) (header 5 9 ++ server ++ identifier 0x42 ++ end) lease1
+    ∷ answers (p1 ∷ p3 ∷ []) (house1 2000 (header 7 9 ++ identifier 0x42 ++ end)) (nak 9 0x42 3) lease1
+    -- P10: 11 octets; P11: header and End alone; P12
+    ∷ discards (house1 1000 (header 3 10 ++ 0 ∷ 3 ∷ 0 ∷ [])) 4
+    ∷ discards (house1 1000 (header 3 11 ++ end)) 5
+    ∷ answers [] (house1 1000 p12) p12Reply []
+    -- skew 1,800 passes, 1,801 draws error 2: Current Time after the clock, and before it
+    ∷ answers [] (house2 1000 (requestAt 0x0A 0xF0)) (ack 1 0x41 (seconds 0x0E 0x10) (seconds 0x03 0xE8) 0 2) lease1
+    ∷ answers [] (house2 1000 (requestAt 0x0A 0xF1)) (nak 1 0x41 2) []
+    ∷ answers (p1 ∷ []) (house2 2800 (renewAt 0x03 0xE8)) (ackAt (seconds 0x0A 0xF0) 12 0x41 (seconds 0x0E 0x10) (seconds 0x0A 0xF0) 0 2) (lease 2 0x41 4 12 2800 6400 3)
+    ∷ answers (p1 ∷ []) (house2 2800 (renewAt 0x03 0xE7)) (nak 12 0x41 2) lease1
+    -- a Resend: P1 again, at a later time, draws the ACK with the lease as it is; DISCOVER as P1 draws the OFFER, and the book is as it was
+    ∷ answers (p1 ∷ []) (house2 2000 (request 1 0x41 1 4 [])) (ackAt (seconds 0x07 0xD0) 1 0x41 (seconds 0x0E 0x10) (seconds 0x03 0xE8) 0 2) lease1
+    ∷ answers [] (house2 1000 (discover 1 4)) offer []
+    -- discards: a room of 511 octets, at a later time, changes nothing; a stranger; a required feature; another server; a DISCOVER that draws an error
+    ∷ record { before = p1 ∷ []; last = record { datagram = getinfo; client = 0x0A000105; time = 9000; room = 511 }; outcome = 2; reply = []; clock = 1000; leases = lease1 }
+    ∷ discards (call 0x0A000305 1000 getinfo) 3
+    ∷ discards (house1 1000 (header 8 9 ++ identifier 0x50 ++ option 12 (0 ∷ 0 ∷ 0 ∷ 0 ∷ 0 ∷ 1 ∷ 0 ∷ 7 ∷ []) ++ end)) 6
+    ∷ discards (house2 1000 (request 1 0x41 1 4 (option 2 (0 ∷ 1 ∷ 0x0A ∷ 1 ∷ 1 ∷ 2 ∷ [])))) 7
+    ∷ discards (house2 1000 (discover 3 4)) 8
+    ∷ []
+
+pub specimens : allBy holds table ≡ true
+unfolding computed table rows allRows same agrees holds
+specimens = refl
+
+-- ---- demand 3's premises are met: P3 after P1 is a new REQUEST within the unused share
+pub sound : SoundBook book
+unfolding computed
 sound = record { tenants = refl; sound = refl }
 
-new : NewRequest (run campus (p1 ∷ [])) p3
-unfolding run campus ask p1 p3 pick allBy pairsBy allTo filterBy isIn placeBy largest sumTo orderOf sameOf bit differenceOf offsetsFrom setOf upTo laidOut tableOf byIdentifier unionAll addressesOf overlaps usedIn insertOf insertIn liveOf dropped raised advanced oneTo sizeB idB recordsB countsB rule1 belowB offsetsB rule2 rangeB rangesApart rule3 poolB poolsApart rule4 ttlB rule5 reserveB reservesB rule6 kindB periodB leaseB noneB tenantsB rule7 differ rule8 disjoint apart rule9 compatible rule10 limitB limitsB rule11 committed committedB rule12 zeroFrom paddedB blankB unusedB layoutB rangeZero tailB scopeZero settingsB rulesOf firstLate firstBroken brokenOf soundB at16 at32 allowedIn allows lengthOk ended headerOk noneRequired readOf requiredEmpty allowedAt codesFrom fieldsOf foundAt namesServer timesOf exactlyFilled layoutOk stepOf optionTaken valueOk walkFrom walkOf allowed busyIn grantOf withHeld suffices takenOf askAt badCounts error0Of error1Of error2Of error3Of skewed fitsNew hasPeriod holdsOf isNew knowsScope lacksCurrent lacksScope leaseFrom lengthOf newAt newOf newWith proposalOf recordedOf resends scopePlace startOf wishedOr withLease zeroLength decideOf judgedOf leasedOf settledOf atClock forServer hasClient serveOf tenantOf withReading insertedIn leftIn editedIn applied rule19 grantTo early1Of heldAlready
+pub new : NewRequest (run book (p1 ∷ [])) p3
+unfolding computed
 new = record {
   room = leb-true _ _ refl;
   house = ltb-true _ _ refl;
@@ -81,6 +255,25 @@ new = record {
   least = leb-true _ _ refl;
 }
 
-granted : Granted (run campus (p1 ∷ [])) p3 (serveOf (run campus (p1 ∷ [])) p3)
+granted : Granted (run book (p1 ∷ [])) p3 (serveOf (run book (p1 ∷ [])) p3)
 unfolding Demand3
-granted = demand3 campus sound (p1 ∷ []) .1 .1 p3 new
+granted = demand3 book sound (p1 ∷ []) .next p3 new
+
+-- ---- so are demand 1's, of every book that holds no lease, and the OFFER rule's
+pub narrow : Narrow book
+unfolding Narrow All
+narrow g = subst (All (λ l. l .addresses < 2 ^ 64)) (sym (own-is (book .table) g ∙ ap (λ (l : List (List Lease)). getD l g []) (table-back (replicate 8 [])) ∙ none 8 g)) tt
+  where
+    none : (n g : ℕ) → _≡_ {A = List Lease} (getD (replicate n []) g []) []
+    none zero g = refl
+    none (suc n) zero = refl
+    none (suc n) (suc g) = none n g
+
+pub discovers : Discovers (house2 1000 (discover 1 4))
+unfolding computed
+discovers = record { type = refl; alone = refl }
+
+-- the REQUEST would get a new grant, so the OFFER is drawn
+pub offered : Offered (serveOf book (house2 1000 (discover 1 4)))
+unfolding OfferRule computed
+offered = offer-rule book (house2 1000 (discover 1 4)) discovers .offers (record { outcome = refl; type = refl; new = refl })

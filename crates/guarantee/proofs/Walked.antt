@@ -12,13 +12,10 @@ use Rattle.lists.specs.All.{All}
 use Rattle.lists.specs.laws.Both.{and-parts}
 use Rattle.lists.specs.Filter.{filterBy}
 use Rattle.message.specs.declared.Fields.{Fields}
-use Rattle.message.specs.declared.Stage.the-variants.{Done}
-use Rattle.message.specs.declared.Walk.{Walk}
 use Rattle.message.specs.laws.Placed.{pick-cases}
 use Rattle.message.specs.Read.{readOf}
-use Rattle.message.specs.Walk.{walkOf}
-use Rattle.reply.specs.Reply.{leastRoom, infoAckOf, leaseAckOf, nakOf, offerOf, releaseAckOf}
-use Rattle.reply.proofs.ReadBack.{Named, ReadBack, info-back, lease-back, nak-back, release-back}
+use Rattle.reply.specs.Reply.{leastRoom, infoAckOf, leaseAckOf, nakOf, offerOf, releaseAckOf, infoOptions, leaseOptions, nakOptions, releaseOptions}
+use Rattle.reply.proofs.ReadBack.{Named, info-back, lease-back, nak-back, release-back}
 use Rattle.state.specs.declared.Book.{Book}
 use Rattle.state.specs.declared.Lease.{Lease}
 use Rattle.state.specs.declared.LeaseTable.{LeaseTable}
@@ -40,7 +37,8 @@ use Rattle.decision.specs.laws.Cases.{Passed, decided-by, inside, new-known, ne
 use Rattle.decision.specs.Parts.{askAt, badCounts, discardWith, error0Of, fitsNew, holdsOf, isNew, knowsScope, leaseFrom, nakWith, leaseIdIn, newOf, newWith, ownOf, plainReply, recordedOf, refusalOf, renewedOf, renewedTo, resends, scopePlace, withLease}
 use Rattle.decision.specs.Decide.{decideOf}
 use Rattle.server.specs.Serve.{Answer, Call, answered, atClock, byReply, discarded, forServer, headOf, infoOf, replyOf, serveOf, tenantOf, termsOf, withReading}
-use Rattle.guarantee.specs.Statement.{Demand1Layout, Narrow, bookAt}
+use Rattle.guarantee.specs.Statement.{Narrow, ReadAs, bookAt}
+use Rattle.guarantee.proofs.Codes.{info-found, lease-found, nak-found, offer-found, read-as, release-found}
 use Rattle.guarantee.proofs.Ranges.{grant-small, named-head, offsets-some}
 use Rattle.guarantee.proofs.Replies.{own-dropped}
 
@@ -142,14 +140,16 @@ module _ (s : State) (t : LeaseTable) (h : ℕ) (m : Fields) (v : Sound s (lease
   })
 
 -- ---- the octets
-octets-walk : (s : State) (m : Fields) (v : Verdict) (k : Reply) → Named (headOf s m) → Leases k (v .addresses) → walkOf (byReply s m v k) .stage ≡ Done
-unfolding Leases Sized ReadBack offerOf leaseAckOf releaseAckOf infoAckOf nakOf
-octets-walk s m v Nothing n h = absurd h
-octets-walk s m v Offer n h = ap (λ (w : Walk). w .stage) (lease-back (headOf s m) n 2 (termsOf s v) (h .0) (h .1))
-octets-walk s m v LeaseAck n h = ap (λ (w : Walk). w .stage) (lease-back (headOf s m) n 5 (termsOf s v) (h .0) (h .1))
-octets-walk s m v ReleaseAck n h = ap (λ (w : Walk). w .stage) (release-back (headOf s m) n)
-octets-walk s m v InfoAck n h = ap (λ (w : Walk). w .stage) (info-back (headOf s m) n (infoOf s m) (let e = length-take (infoOf s m .count) (infoOf s m .scopes) in omega arith))
-octets-walk s m v Nak n h = ap (λ (w : Walk). w .stage) (nak-back (headOf s m) n (v .error))
+octets-read : (s : State) (m : Fields) (v : Verdict) (k : Reply) → Named (headOf s m) → Leases k (v .addresses) → ReadAs (byReply s m v k)
+unfolding Leases Sized offerOf leaseAckOf releaseAckOf infoAckOf nakOf
+octets-read s m v Nothing n h = absurd h
+octets-read s m v Offer n h = read-as 2 (m .xid) (leaseOptions (headOf s m) (termsOf s v)) (lease-back (headOf s m) n 2 (termsOf s v) (h .0) (h .1)) (offer-found _ _ _ _ _ _ _ _ (m .features))
+octets-read s m v LeaseAck n h = read-as 5 (m .xid) (leaseOptions (headOf s m) (termsOf s v)) (lease-back (headOf s m) n 5 (termsOf s v) (h .0) (h .1)) (lease-found _ _ _ _ _ _ _ _ (m .features))
+octets-read s m v ReleaseAck n h = read-as 5 (m .xid) (releaseOptions (headOf s m)) (release-back (headOf s m) n) (release-found _ _ _ (m .features))
+octets-read s m v InfoAck n h =
+    read-as 5 (m .xid) (infoOptions (headOf s m) (infoOf s m)) (info-back (headOf s m) n (infoOf s m) (let e = length-take (infoOf s m .count) (infoOf s m .scopes) in omega arith))
+    (info-found _ _ _ _ _ (m .«list_asked») (m .«time_asked») (m .features))
+octets-read s m v Nak n h = read-as 6 (m .xid) (nakOptions (headOf s m) (v .error)) (nak-back (headOf s m) n (v .error)) (nak-found _ _ _ _ (m .features))
 
 all-filter : {A : Type 0} (F : A → Type 0) (u : A → Bool) (l : List A) → All F l → All F (filterBy u l)
 unfolding All filterBy pick
@@ -162,7 +162,7 @@ all-filter {A} F u (x ∷ l) h = go (u x) (all-filter F u l (h .1))
 
 module _ (b : Book) (c : Call) (narrow : Narrow b) where
   R : Answer → Type 0
-  R a = a .outcome ≡ 0 → walkOf (a .reply) .stage ≡ Done
+  R a = a .outcome ≡ 0 → ReadAs (a .reply)
 
   now-narrow : (g : ℕ) → All (λ l. l .addresses < 2 ^ 64) (ownOf (bookAt b c .table) g)
   unfolding advanced liveOf Narrow
@@ -179,12 +179,12 @@ module _ (b : Book) (c : Call) (narrow : Narrow b) where
   sent : soundB (b .state) (b .table) ≡ true → (h : ℕ) (m : Fields) → h < tenantsIn (bookAt b c .state) → Named (headOf (bookAt b c .state) m) → R (answered (bookAt b c) h m (decideOf (bookAt b c .state) (bookAt b c .table) h m))
   unfolding R replyOf P Q
   sent v h m known n z =
-      octets-walk (bookAt b c .state) m (decideOf (bookAt b c .state) (bookAt b c .table) h m .verdict) (decideOf (bookAt b c .state) (bookAt b c .table) h m .verdict .reply) n
+      octets-read (bookAt b c .state) m (decideOf (bookAt b c .state) (bookAt b c .table) h m .verdict) (decideOf (bookAt b c .state) (bookAt b c .table) h m .verdict .reply) n
       (decided (bookAt b c .state) (bookAt b c .table) h m (sound-lists (bookAt b c .state) (bookAt b c .table) (advanced-sound b (c .time) v)) known (now-narrow h) z)
 
-  call-walk : R (serveOf b c)
+  call-read : R (serveOf b c)
   unfolding serveOf atClock withReading forServer
-  call-walk =
+  call-read =
       pick-cases R (soundB (b .state) (b .table)) _ _
       (λ v. pick-cases R (ltb (c .room) leastRoom) _ _ (λ _. none 2 b (omega arith))
       (λ _. pick-cases R (ltb (tenantOf (bookAt b c .state) (c .client)) (tenantsIn (bookAt b c .state))) _ _
@@ -195,6 +195,6 @@ module _ (b : Book) (c : Call) (narrow : Narrow b) where
       (λ _. none 3 (bookAt b c) (omega arith))))
       (λ _. none 1 b (omega arith))
 
-pub demand1-layout : Demand1Layout
-unfolding Demand1Layout R
-demand1-layout b c n = call-walk b c n
+pub read-back : (b : Book) (c : Call) → Narrow b → serveOf b c .outcome ≡ 0 → ReadAs (serveOf b c .reply)
+unfolding R
+read-back b c n = call-read b c n

@@ -1,9 +1,11 @@
--- Statement: what the server guarantees: document 01's demand 3 ("Demand 3 in detail") as a single claim about any list of server calls, and demand 1
--- about each call. A house is a tenant here, its share a reserve; tenants count from 0, a lease's scope from 1.
+-- Statement: what the server guarantees: demand 3 as a single claim about any list of server calls, demand 1 about each call, and the OFFER rule. The buyer's
+-- sentences, and those of document 01's "Demand 3 in detail", are quoted beside what says them. A house is a tenant here, its share a
+-- reserve; tenants count from 0, a lease's scope from 1.
 use Prim.Native.Nat.{ℕ, _+_, _-_, _≤_, _<_, min, _^_}
 use mathlib.Core.Path.{_≡_}
-use mathlib.Core.Bool.{true, false}
+use mathlib.Core.Bool.{true, false, not}
 use mathlib.Core.List.{List, [], _∷_, map}
+use lib.Dec.{eqb}
 use lib.ListN.{getD, length, set}
 use Rattle.lists.specs.All.{All}
 use Rattle.lists.specs.Filter.{filterBy, isIn}
@@ -26,12 +28,12 @@ use Rattle.soundness.specs.Sound.{holding, soundB, tenantsIn}
 use Rattle.allocation.specs.declared.Ask.{Ask}
 use Rattle.allocation.specs.declared.Grant.{Grant}
 use Rattle.allocation.specs.Rule.{grantOf, unusedReserve}
-use Rattle.decision.specs.Decide.{decideOf}
-use Rattle.decision.specs.Parts.{asOffer, horizon, defaultLease, discardWith, error1Of, error2Of, holdsOf, lengthOf, ownOf, recordedOf, resends, scopePlace, startOf}
+use Rattle.decision.specs.Parts.{horizon, defaultLease, error1Of, error2Of, holdsOf, lengthOf, ownOf, recordedOf, resends, scopePlace, startOf}
 use Rattle.server.specs.Serve.{Answer, Call, headOf, serveOf, tenantOf}
 
--- ---- the list of calls
--- "each later one .. gets the book as the call before left it"; "only the book passes on"
+-- ---- the list of calls: "any number of server calls, or none: DISCOVER, REQUEST, RENEW, RELEASE, GETINFO and any other octets, from any address, with any
+-- time and room" (`Call`)
+-- "The first gets that book, each later one the book as the one before left it"; "Only the book passes on"; "that is the book the rules above give" (`serveOf`)
 unfoldable pub run : Book → List Call → Book
 run b [] = b
 run b (c ∷ cs) = run (serveOf b c .book) cs
@@ -42,12 +44,13 @@ pub record SoundBook (b : Book) : Type 0 where
   pub tenants : length (b .table .tenants) ≡ 8
   pub sound : soundB (b .state) (b .table) ≡ true
 
--- no tenant g holds more in a scope (at place k, counted from 0) than its limit there; holdings are counted from the leases
+-- "no house holds more addresses in a scope than its limit": tenant g, the scope at place k, counted from 0. "It counts holdings from the leases, never from
+-- a kept total" (`holding`)
 unfoldable pub WithinLimits : Book → Type 0
 WithinLimits b = (k g : ℕ) → k < b .state .«scope_count» → g < b .state .«tenant_count» → holding (b .table) (k + 1) g ≤ limitAt (scopeAt (b .state) k) g
 
 -- ---- the next call c on a book b
--- "once its call has set the clock and dropped ended leases"
+-- "Its period, D and the records left are taken once its call has set the clock and dropped ended leases"
 abbrev pub bookAt : Book → Call → Book
 bookAt b c = advanced b (c .time)
 
@@ -95,10 +98,9 @@ abbrev pub grantFor : Book → Call → Grant
 grantFor b c = grantOf (scopeFor b c) (tenantsIn (stateAt b c)) (leasesOf (tableAt b c)) (askFor b c)
 
 -- ---- the calls that have to be granted
--- A new REQUEST that passes the checks before error 0 (discard 1 is no premise: the book is sound), whose period is inside, for which a
--- lease record is left and whose least number is at most the unused share.
+-- "a new REQUEST that passes every check before error 0, its period inside the horizon and the 32-bit clock, a lease record of its house's own left"
 pub record NewRequest (b : Book) (c : Call) : Type 0 where
-  -- not discard 2, "reply room below 512"
+  -- "the checks before error 0 are discards 1 to 7 and errors 1 to 3". Discard 1 is no premise: the book is sound. Not discard 2, "reply room below 512"
   pub room : leastRoom ≤ c .room
   -- not discard 3, "client address in no house"
   pub house : tenantFor b c < tenantsIn (stateAt b c)
@@ -117,6 +119,7 @@ pub record NewRequest (b : Book) (c : Call) : Type 0 where
   pub fits : endFor b c ≤ 4294967295
   -- of the house's 16 lease records one is left
   pub left : length (ownFor b c) < 16
+  -- "If the least number it accepts is no more than its house's unused share"
   pub least : saysOf b c .counts .least ≤ unusedFor b c
 
 -- ---- "Granted with k means"
@@ -146,90 +149,133 @@ termsFor b c = record {
 pub record Granted (b : Book) (c : Call) (a : Answer) : Type 0 where
   -- "the outcome is 0"
   pub outcome : a .outcome ≡ 0
-  -- k, the grant, is at least the smaller of what is desired and the unused share
+  -- "k is the grant": "with at least the smaller of the number desired and that unused share"
   pub enough : min (saysOf b c .counts .desired) (unusedFor b c) ≤ grantFor b c .number
-  -- and there are just k addresses
+  -- "its addresses are those of the grant rule" (`grantFor`): there are just k
   pub exact : length (offsets (grantFor b c .addresses)) ≡ grantFor b c .number
-  -- "the reply is an ACK whose Ranges name just these k addresses"
+  -- "the reply is an ACK": this one, octet for octet
   pub reply : a .reply ≡ leaseAckOf (headOf (stateAt b c) (saysOf b c)) (termsFor b c)
-  -- option 10, decoded from the reply's octets, names the scope's lowest address + offset for each address granted, and no other (a sound pool
-  -- never wraps)
+  -- "whose Ranges name just these k addresses": option 10, decoded from the reply's octets, names the scope's lowest address + offset for each address
+  -- granted, and no other (a sound pool never wraps)
   pub names : addressesIn (a .reply) ≡ map (λ o. scopeFor b c .lowest + o) (offsets (grantFor b c .addresses))
-  -- "the book afterwards has every other live lease unchanged": settings and clock, the other tenants' leases, and the tenant's own, among
-  -- which the new lease now stands
+  -- "the book afterwards has every other live lease unchanged": settings and clock, the other tenants' leases
   pub state : a .book .state ≡ stateAt b c
   pub others : (g : ℕ) → (g ≡ tenantFor b c → ⊥) → ownOf (a .book .table) g ≡ ownOf (tableAt b c) g
+  -- "and the lease that REQUEST records": it now stands among the tenant's own
   pub own : ownOf (a .book .table) (tenantFor b c) ≡ insertOf (leaseFor b c) (ownFor b c)
-  -- and without which they are as they were
+  -- and without it they are as they were
   pub unchanged : removeOf (idOf (leaseFor b c)) (ownOf (a .book .table) (tenantFor b c)) ≡ ownFor b c
 
 -- ---- demand 3
+-- of the book after a list of calls
+pub record AfterList (b : Book) : Type 0 where
+  -- "After the list the book is sound"
+  pub sound : SoundBook b
+  -- "and no house holds more addresses in a scope than its limit"
+  pub limits : WithinLimits b
+  -- "Let the next datagram be a new REQUEST ..: it is granted, .., whatever the other houses sent"
+  pub next : (c : Call) → NewRequest b c → Granted b c (serveOf b c)
+
+-- "Take every sound book and every list of datagrams, answered or discarded, whatever their addresses, times and reply rooms"; "It is a single claim about the
+-- list, not one for each call"
 unfoldable pub Demand3 : Type 0
-Demand3 =
-    (b : Book) → SoundBook b → (cs : List Call)
-    → SoundBook (run b cs) × (WithinLimits (run b cs) × ((c : Call) → NewRequest (run b cs) c → Granted (run b cs) c (serveOf (run b cs) c)))
+Demand3 = (b : Book) → SoundBook b → (cs : List Call) → AfterList (run b cs)
 
--- ---- demand 1: every call has one of the outcomes 0 to 8, and a discard changes no more than document 01 says
-pub record Answered (b : Book) (c : Call) (a : Answer) : Type 0 where
-  pub outcome : a .outcome ≤ 8
-  -- "a discard has length 0"
-  pub silent : (a .outcome ≡ 0 → ⊥) → a .reply ≡ []
-  -- "Discards 1 and 2 change nothing"
-  pub untouched : a .outcome ≡ 1 → a .book ≡ b
-  pub untouched-too : a .outcome ≡ 2 → a .book ≡ b
-  -- "All other calls first set the book's clock .. and drop leases ..; 3 to 8 do no more"
-  pub advances : 3 ≤ a .outcome → a .book ≡ bookAt b c
-
-unfoldable pub Demand1 : Type 0
-Demand1 = (b : Book) (c : Call) → Answered b c (serveOf b c)
-
--- ---- demand 1, of the reply: "the server ends with a reply or a numbered discard"
+-- ---- demand 1
 -- octets that are an OFFER, an ACK or a NAK, header and End at least, and fit any room that is not too short
 pub record IsReply (r : List ℕ) : Type 0 where
   pub some : 12 ≤ length r
   pub short : length r ≤ leastRoom
   pub type : isIn (getD r 1 0) (2 ∷ 5 ∷ 6 ∷ []) ≡ true
 
-unfoldable pub Demand1Replies : Type 0
-Demand1Replies = (b : Book) (c : Call) → serveOf b c .outcome ≡ 0 → IsReply (serveOf b c .reply)
+-- the codes of document 01's options, but for 12, which each reply has if the client sent it
+abbrev pub optionCodes : List ℕ
+optionCodes = 1 ∷ 2 ∷ 3 ∷ 4 ∷ 5 ∷ 6 ∷ 7 ∷ 8 ∷ 9 ∷ 10 ∷ 11 ∷ 13 ∷ 14 ∷ 15 ∷ 16 ∷ []
 
--- and the message layout rules accept it: the reader's walk over its options, each of a right length and none twice, comes to End in its last four
--- octets. A lease's addresses are a set of 64 bits, as its type says of every book that code has
+-- those of them that the message reader finds in some octets, rising
+unfoldable pub codesIn : List ℕ → List ℕ
+codesIn r = filterBy (λ c. not (eqb (getD (walkOf r .places) c 0) 0)) optionCodes
+
+-- the replies of document 01: type, then codes. OFFER; the ACK to REQUEST and RENEW; the ACK to RELEASE; that to GETINFO with 9, with 11, with both; NAK
+abbrev pub replies : List (List ℕ)
+replies =
+    (2 ∷ 1 ∷ 2 ∷ 3 ∷ 4 ∷ 6 ∷ 10 ∷ 11 ∷ [])
+    ∷ (5 ∷ 1 ∷ 2 ∷ 3 ∷ 4 ∷ 6 ∷ 10 ∷ 11 ∷ [])
+    ∷ (5 ∷ 2 ∷ 3 ∷ [])
+    ∷ (5 ∷ 2 ∷ 3 ∷ 9 ∷ [])
+    ∷ (5 ∷ 2 ∷ 3 ∷ 11 ∷ [])
+    ∷ (5 ∷ 2 ∷ 3 ∷ 9 ∷ 11 ∷ [])
+    ∷ (6 ∷ 2 ∷ 3 ∷ 16 ∷ [])
+    ∷ []
+
+-- read back as one of them
+pub record ReadAs (r : List ℕ) : Type 0 where
+  -- the reader's walk over its options, each of a right length and none twice, comes to End in its last four octets
+  pub whole : walkOf r .stage ≡ Done
+  pub one : (k : ℕ) × ((k < length replies) × ((getD r 1 0 ∷ codesIn r) ≡ getD replies k []))
+
+-- a lease's addresses are a set of 64 bits, as its type says of every book that code has (a larger number may have none of the 64 offsets, so
+-- that its Ranges would be empty)
 unfoldable pub Narrow : Book → Type 0
 Narrow b = (g : ℕ) → All (λ l. l .addresses < 2 ^ 64) (ownOf (b .table) g)
 
-unfoldable pub Demand1Layout : Type 0
-Demand1Layout = (b : Book) (c : Call) → Narrow b → serveOf b c .outcome ≡ 0 → walkOf (serveOf b c .reply) .stage ≡ Done
-
--- ---- demand 1, of the leases: "A discard .. changes no lease live at the clock it leaves in the book"
 -- tenant g's leases under identifier i that are live at a clock
 abbrev pub liveUnder : ℕ → LeaseTable → ℕ → List ℕ → List Lease
 liveUnder clock t g i = filterBy (named i) (liveOf clock (ownOf t g))
 
-unfoldable pub Demand1Leases : Type 0
-Demand1Leases =
-    (b : Book) (c : Call) → (serveOf b c .outcome ≡ 0 → ⊥) → (g : ℕ) (i : List ℕ)
-    → liveUnder (serveOf b c .book .state .clock) (serveOf b c .book .table) g i ≡ liveUnder (serveOf b c .book .state .clock) (b .table) g i
+pub record Answered (b : Book) (c : Call) (a : Answer) : Type 0 where
+  -- "the server ends with a reply or a numbered discard"
+  pub outcome : a .outcome ≤ 8
+  pub reply : a .outcome ≡ 0 → IsReply (a .reply)
+  -- the reader reads it back as one of document 01's
+  pub reads : Narrow b → a .outcome ≡ 0 → ReadAs (a .reply)
+  -- "A discard writes no reply octet"
+  pub silent : (a .outcome ≡ 0 → ⊥) → a .reply ≡ []
+  -- "and changes no lease live at the clock it leaves in the book"
+  pub leases : (a .outcome ≡ 0 → ⊥) → (g : ℕ) (i : List ℕ) → liveUnder (a .book .state .clock) (a .book .table) g i ≡ liveUnder (a .book .state .clock) (b .table) g i
+  -- "Discards 1 and 2 change nothing"
+  pub untouched : a .outcome ≡ 1 → a .book ≡ b
+  pub untouched-too : a .outcome ≡ 2 → a .book ≡ b
+  -- "All other calls first set the book's clock .. and drop leases ..; 3 to 8 do no more"
+  pub advances : 3 ≤ a .outcome → a .book ≡ bookAt b c
+
+-- "For every datagram, clock, book and reply room". "It faults on none and checks all it is handed": the call is proved safe and to end, and asks for nothing
+-- (`lent::serve` has no `requires`)
+unfoldable pub Demand1 : Type 0
+Demand1 = (b : Book) (c : Call) → Answered b c (serveOf b c)
 
 -- ---- the OFFER rule: a DISCOVER "without option 2 draws an OFFER exactly if the same message sent as a REQUEST would get a new grant now, with
 -- that period and those ranges"
--- the same message sent as a REQUEST: the datagram with its type octet set to 3
+-- a DISCOVER without option 2
+pub record Discovers (c : Call) : Type 0 where
+  pub type : getD (c .datagram) 1 0 ≡ 1
+  pub alone : getD (readOf (c .datagram) .message .places) 2 0 ≡ 0
+
+-- "the same message sent as a REQUEST": the datagram with its type octet set to 3
 abbrev pub asRequest : List ℕ → List ℕ
 asRequest d = set d 1 3
 
-abbrev pub wordsOf : State → List ℕ → Fields
-wordsOf s d = fieldsOf d (s .server) (readOf d .message)
+abbrev pub requested : Call → Call
+requested c = record { datagram = asRequest (c .datagram); client = c .client; time = c .time; room = c .room }
 
--- a datagram that is read and has no option 2: as a REQUEST it is read too; and where that REQUEST is no Resend, the DISCOVER's verdict is the
--- REQUEST's with an OFFER for its ACK, so of the same scope, period and addresses, and discard 8 where that draws a NAK;
--- where it is a Resend, which is no new grant, the DISCOVER is discard 8 too
-unfoldable pub OfferAt : State → LeaseTable → ℕ → List ℕ → Type 0
-OfferAt s t h d =
-    readOf d .discard ≡ 0 → getD (readOf d .message .places) 2 0 ≡ 0
-    → (readOf (asRequest d) .discard ≡ 0)
-    × ((resends (wordsOf s (asRequest d)) (recordedOf (ownOf t h) (wordsOf s (asRequest d))) ≡ false
-    → decideOf s t h (wordsOf s d) .verdict ≡ asOffer (decideOf s t h (wordsOf s (asRequest d)) .verdict .reply) (decideOf s t h (wordsOf s (asRequest d)) .verdict))
-    × (resends (wordsOf s (asRequest d)) (recordedOf (ownOf t h) (wordsOf s (asRequest d))) ≡ true → decideOf s t h (wordsOf s d) .verdict ≡ discardWith 8))
+-- "draws an OFFER"
+pub record Offered (a : Answer) : Type 0 where
+  pub outcome : a .outcome ≡ 0
+  pub type : getD (a .reply) 1 0 ≡ 2
+
+-- "would get a new grant now": an ACK, and it is no Resend
+pub record NewlyGranted (b : Book) (c : Call) (a : Answer) : Type 0 where
+  pub outcome : a .outcome ≡ 0
+  pub type : getD (a .reply) 1 0 ≡ 5
+  pub new : resends (saysOf b c) (recordedOf (ownFor b c) (saysOf b c)) ≡ false
+
+-- of the answers to a DISCOVER and to the same message sent as a REQUEST
+pub record OfferedAs (b : Book) (c : Call) (discover request : Answer) : Type 0 where
+  -- "exactly if"
+  pub offers : NewlyGranted b (requested c) request → Offered discover
+  pub only : Offered discover → NewlyGranted b (requested c) request
+  -- "with that period and those ranges": the ACK's octets, but for the type
+  pub same : Offered discover → discover .reply ≡ set (request .reply) 1 2
 
 unfoldable pub OfferRule : Type 0
-OfferRule = (s : State) (t : LeaseTable) (h : ℕ) (d : List ℕ) → getD d 1 0 ≡ 1 → OfferAt s t h d
+OfferRule = (b : Book) (c : Call) → Discovers c → OfferedAs b c (serveOf b c) (serveOf b (requested c))

@@ -1,5 +1,5 @@
 -- Proof of the guarantee for the lent state and records, by `same`.
-use Prim.Native.Nat.{_≤_}
+use Prim.Native.Nat.{ℕ, _≤_}
 use mathlib.Core.Path.{_≡_, refl, sym, ap, _∙_, subst}
 use mathlib.Core.Bool.{Bool, true, false}
 use mathlib.Core.List.{List, [], _∷_}
@@ -12,32 +12,33 @@ use Rattle.state.specs.declared.Lease.{Lease}
 use Rattle.state.specs.declared.State.{State}
 use Rattle.soundness.specs.Sound.{soundB}
 use Rattle.server.specs.Serve.{Answer, Call, serveOf}
-use Rattle.guarantee.specs.Statement.{Answered, Demand3, Granted, NewRequest, run, WithinLimits}
-use Rattle.guarantee.proofs.Discards.{call-answered}
+use Rattle.guarantee.specs.Statement.{Answered, Demand3, Granted, IsReply, NewRequest, OfferedAs, OfferRule, ReadAs, WithinLimits, liveUnder, requested, run}
+use Rattle.guarantee.proofs.Answers.{call-answered}
 use Rattle.guarantee.proofs.Granted.{demand3}
 use Rattle.guarantee.proofs.Kept.{call-sound}
-use Rattle.records.specs.Records.{recordsOf}
+use Rattle.guarantee.proofs.Offers.{offer-rule}
+use Rattle.records.specs.Records.{recordsOf, tableFrom}
 use Rattle.records.specs.Lent.{bookFrom, lentAnswer, LentAnswer, serveLent, serveWith}
 use Rattle.records.specs.laws.Steps.{off-whole}
-use Rattle.lent_guarantee.specs.Statement.{answerOf, bookOf, Lent, LentAnswered, LentDemand1, LentDemand3, runLent, SoundLent}
+use Rattle.lent_guarantee.specs.Statement.{answerOf, bookOf, Lent, LentAnswered, LentDemand1, LentDemand3, LentOfferRule, runLent, SoundLent}
 use Rattle.lent_guarantee.proofs.Same.{at-whole, kept-back, same, sound-book, still-whole}
 
 -- ---- the list of calls
-next : Lent → Call → Lent
+unfoldable pub next : Lent → Call → Lent
 next l c = record { state = serveLent (l .state) (l .leases) c .state; leases = serveLent (l .state) (l .leases) c .leases }
 
 next-book : (l : Lent) (c : Call) → SoundLent l → bookOf (next l c) ≡ serveOf (bookOf l) c .book
 unfolding next
 next-book l c v = ap (λ (a : Answer). a .book) (same (l .state) (l .leases) c (v .whole))
 
-next-sound : (l : Lent) (c : Call) → SoundLent l → SoundLent (next l c)
+pub next-sound : (l : Lent) (c : Call) → SoundLent l → SoundLent (next l c)
 unfolding next
 next-sound l c v = record {
   whole = still-whole (l .state) (l .leases) c (v .whole);
   sound = ap (λ (b : Book). soundB (b .state) (b .table)) (next-book l c v) ∙ call-sound (bookOf l) c (sound-book (l .state) (l .leases) c (v .whole) (v .sound)) .sound;
 }
 
-run-lent : (l : Lent) (cs : List Call) → SoundLent l → SoundLent (runLent l cs) × (bookOf (runLent l cs) ≡ run (bookOf l) cs)
+pub run-lent : (l : Lent) (cs : List Call) → SoundLent l → SoundLent (runLent l cs) × (bookOf (runLent l cs) ≡ run (bookOf l) cs)
 unfolding runLent run next
 run-lent l [] v = (v, refl)
 run-lent l (c ∷ cs) v =
@@ -50,14 +51,13 @@ unfolding LentDemand3 Demand3
 lent-demand3 l v cs =
     let r = run-lent l cs v in
     let d = demand3 (bookOf l) (sound-book (l .state) (l .leases) (record { datagram = []; client = 0; time = 0; room = 0 }) (v .whole) (v .sound)) cs in
-    let e : run (bookOf l) cs ≡ bookOf (runLent l cs) = sym (r .1) in (
-      r .0,
-      (
-        subst WithinLimits e (d .1 .0),
-        λ c n. subst (λ (a : Answer). Granted (bookOf (runLent l cs)) c a) (sym (same (runLent l cs .state) (runLent l cs .leases) c (r .0 .whole)))
-            (subst (λ (b : Book). (m : NewRequest b c) → Granted b c (serveOf b c)) e (d .1 .1 c) n),
-      ),
-    )
+    let e : run (bookOf l) cs ≡ bookOf (runLent l cs) = sym (r .1) in
+    record {
+      sound = r .0;
+      limits = subst WithinLimits e (d .limits);
+      next = λ c n. subst (λ (a : Answer). Granted (bookOf (runLent l cs)) c a) (sym (same (runLent l cs .state) (runLent l cs .leases) c (r .0 .whole)))
+          (subst (λ (b : Book). (m : NewRequest b c) → Granted b c (serveOf b c)) e (d .next c) n);
+    }
 
 -- ---- demand 1
 module _ (s : State) (ls : List Lease) (c : Call) where
@@ -68,7 +68,10 @@ module _ (s : State) (ls : List Lease) (c : Call) where
   other-answered : (length ls ≡ 128 → ⊥) → LentAnswered s ls c (record { outcome = 1; reply = []; state = s; leases = ls })
   other-answered e = record {
     outcome = omega arith;
+    reply = λ z. absurd (omega arith);
+    reads = λ _ z. absurd (omega arith);
     silent = λ _. refl;
+    leases = λ _ g i. refl;
     untouched = λ _. (refl, refl);
     untouched-too = λ _. (refl, refl);
     advances = λ h. absurd (omega arith);
@@ -78,7 +81,11 @@ module _ (s : State) (ls : List Lease) (c : Call) where
   whole-answered : length ls ≡ 128 → LentAnswered s ls c (serveLent s ls c)
   whole-answered long = record {
     outcome = subst (λ (a : Answer). a .outcome ≤ 8) back (v .outcome);
+    reply = subst (λ (a : Answer). a .outcome ≡ 0 → IsReply (a .reply)) back (v .reply);
+    reads = λ n. subst (λ (a : Answer). a .outcome ≡ 0 → ReadAs (a .reply)) back (v .reads n);
     silent = λ z. ap (λ (a : Answer). a .reply) (sym back) ∙ v .silent (λ y. z (ap (λ (a : Answer). a .outcome) (sym back) ∙ y));
+    leases = subst (λ (a : Answer). (a .outcome ≡ 0 → ⊥) → (g : ℕ) (i : List ℕ)
+        → liveUnder (a .book .state .clock) (a .book .table) g i ≡ liveUnder (a .book .state .clock) (tableFrom ls) g i) back (v .leases);
     untouched = λ e. still (v .untouched (number ∙ e));
     untouched-too = λ e. still (v .untouched-too (number ∙ e));
     advances = λ h. let e = v .advances (let n = number in omega arith) in (
@@ -113,3 +120,10 @@ module _ (s : State) (ls : List Lease) (c : Call) where
 pub lent-demand1 : LentDemand1
 unfolding LentDemand1
 lent-demand1 s ls c = call-lent s ls c
+
+-- ---- the OFFER rule
+pub lent-offer-rule : LentOfferRule
+unfolding LentOfferRule OfferRule
+lent-offer-rule s ls c long v =
+    subst (λ (a : Answer). OfferedAs (bookFrom s ls) c a (answerOf (serveLent s ls (requested c)))) (sym (same s ls c long))
+    (subst (λ (a : Answer). OfferedAs (bookFrom s ls) c (serveOf (bookFrom s ls) c) a) (sym (same s ls (requested c) long)) (offer-rule (bookFrom s ls) c v))

@@ -1,38 +1,72 @@
--- Specimens: the premises of the lent guarantee are met: document 01's scope of the specimens, with a lease of the second house, lent as 128 records; computed.
-use mathlib.Core.Path.{refl}
-use mathlib.Core.List.{_∷_, _++_}
+-- Specimens: document 01's specimens through the lent call, over the table of guarantee's; and the premises of the lent statements, met by the same book, lent as 128
+-- records.
+use mathlib.Core.Path.{_≡_, refl, sym, ap, _∙_, subst}
+use mathlib.Core.Bool.{Bool, true, false}
+use mathlib.Core.List.{List, [], _∷_}
 use lib.ListN.{replicate}
 use Rattle.lists.specs.Pick.{pick}
-use Rattle.lists.specs.All.{allBy, pairsBy, allTo}
-use Rattle.lists.specs.Filter.{filterBy}
-use Rattle.lists.specs.Place.{placeBy}
-use Rattle.lists.specs.Sums.{sumTo}
-use Rattle.identifier.specs.Order.{orderOf, sameOf}
-use Rattle.address_set.specs.AddressSet.{bit, offsetsFrom}
-use Rattle.state.specs.declared.Lease.{Lease}
-use Rattle.state.specs.declared.State.{State}
-use Rattle.state.specs.Book.{byIdentifier, differ, laidOut, tableOf, unionAll, addressesOf, overlaps, zeroLease, zeroScope, committed}
-use Rattle.soundness.specs.Sound.{oneTo, sizeB, idB, recordsB, countsB, rule1, belowB, offsetsB, rule2, rangeB, rangesApart, rule3, poolB, poolsApart, rule4, ttlB, rule5, reserveB, reservesB, rule6, kindB, periodB, leaseB, noneB, tenantsB, rule7, rule8, disjoint, apart, rule9, compatible, rule10, limitB, limitsB, rule11, committedB, rule12, zeroFrom, paddedB, blankB, unusedB, layoutB, rangeZero, tailB, scopeZero, settingsB, rulesOf, firstLate, firstBroken, brokenOf, soundB, rule19}
+use Rattle.lists.specs.All.{allBy}
+use Rattle.state.specs.Book.{zeroLease}
+use Rattle.soundness.specs.Sound.{soundB}
+use Rattle.state.specs.declared.Book.{Book}
+use Rattle.server.specs.Serve.{Call, serveOf}
+use Rattle.guarantee.specs.Statement.{Granted, Narrow, NewRequest, Offered, OfferedAs, requested, run}
+use Rattle.guarantee.proofs.Opened.{computed}
+use Rattle.guarantee.proofs.Specimens.{Case, agrees, book, discover, discovers, holds, house2, narrow, new, offered, p1, p3, sound, specimens, table}
 use Rattle.records.specs.Records.{rows, tableFrom, tenantFrom}
-use Rattle.lent_guarantee.specs.Statement.{Lent, SoundLent}
+use Rattle.records.specs.Lent.{serveLent}
+use Rattle.lent_guarantee.specs.Statement.{answerOf, bookOf, Lent, LentDemand3, LentOfferRule, runLent, SoundLent}
+use Rattle.lent_guarantee.proofs.Guaranteed.{lent-demand3, lent-offer-rule, run-lent}
+use Rattle.lent_guarantee.proofs.Same.{same}
 
-state : State
-state = record {
-  server = 167837953;
-  clock = 1000;
-  «tenant_count» = 2;
-  tenants = record { low = 1; high = 9 } ∷ record { low = 10; high = 19 } ∷ replicate 6 (record { low = 0; high = 0 });
-  «scope_count» = 1;
-  scopes = record { lowest = 4022337536; size = 4; ttl = 1; reserve = 2 ∷ 1 ∷ replicate 6 0; limit = 3 ∷ 4 ∷ replicate 6 0 } ∷ replicate 3 zeroScope;
-}
+-- the specimens' book, lent as 128 unused records
+campus : Lent
+campus = record { state = book .state; leases = replicate 128 zeroLease }
 
--- P1's lease: the addresses .0 and .1
-lease : Lease
-lease = record { scope = 1; «id_len» = 2; id = 0 ∷ 66 ∷ replicate 30 0; kind = 3; xid = 7; start = 1000; end = 4600; addresses = 3 }
+same-book : bookOf campus ≡ book
+unfolding campus computed rows tableFrom tenantFrom
+same-book = refl
 
-after-p1 : Lent
-after-p1 = record { state = state; leases = replicate 16 zeroLease ++ lease ∷ replicate 111 zeroLease }
+met : SoundLent campus
+unfolding campus
+met = record { whole = refl; sound = ap (λ (b : Book). soundB (b .state) (b .table)) same-book ∙ sound .sound }
 
-met : SoundLent after-p1
-unfolding state lease after-p1 placeBy rows tableFrom tenantFrom pick allBy pairsBy allTo filterBy sumTo orderOf sameOf bit offsetsFrom laidOut tableOf byIdentifier unionAll addressesOf overlaps oneTo sizeB idB recordsB countsB rule1 belowB offsetsB rule2 rangeB rangesApart rule3 poolB poolsApart rule4 ttlB rule5 reserveB reservesB rule6 kindB periodB leaseB noneB tenantsB rule7 differ rule8 disjoint apart rule9 compatible rule10 limitB limitsB rule11 committed committedB rule12 zeroFrom paddedB blankB unusedB layoutB rangeZero tailB scopeZero settingsB rulesOf firstLate firstBroken brokenOf soundB rule19
-met = record { whole = refl; sound = refl }
+run-same : (cs : List Call) → bookOf (runLent campus cs) ≡ run book cs
+run-same cs = run-lent campus cs met .1 ∙ ap (λ (b : Book). run b cs) same-book
+
+-- ---- P1 to P12
+lent-holds : Case → Bool
+lent-holds c = agrees c (answerOf (serveLent (runLent campus (c .before) .state) (runLent campus (c .before) .leases) (c .last)))
+
+each : (c : Case) → lent-holds c ≡ holds c
+unfolding lent-holds holds
+each c =
+    ap (agrees c) (same (runLent campus (c .before) .state) (runLent campus (c .before) .leases) (c .last) (run-lent campus (c .before) met .0 .whole)
+    ∙ ap (λ (b : Book). serveOf b (c .last)) (run-same (c .before)))
+
+all-same : {A : Type 0} (f g : A → Bool) (l : List A) → ((x : A) → f x ≡ g x) → allBy f l ≡ allBy g l
+unfolding allBy
+all-same f g [] e = refl
+all-same f g (x ∷ l) e = ap (λ (b : Bool). pick b (allBy f l) false) (e x) ∙ ap (λ (r : Bool). pick (g x) r false) (all-same f g l e)
+
+lent-specimens : allBy lent-holds table ≡ true
+lent-specimens = all-same lent-holds holds table each ∙ specimens
+
+-- ---- demand 3: P3 after P1
+granted : Granted (bookOf (runLent campus (p1 ∷ []))) p3 (answerOf (serveLent (runLent campus (p1 ∷ []) .state) (runLent campus (p1 ∷ []) .leases) p3))
+unfolding LentDemand3
+granted = lent-demand3 campus met (p1 ∷ []) .next p3 (subst (λ (b : Book). NewRequest b p3) (sym (run-same (p1 ∷ []))) new)
+
+-- ---- demand 1's bound, and the OFFER rule
+lent-narrow : Narrow (bookOf campus)
+lent-narrow = subst Narrow (sym same-book) narrow
+
+abbrev asks : Call
+asks = house2 1000 (discover 1 4)
+
+offer-met : OfferedAs (bookOf campus) asks (answerOf (serveLent (campus .state) (campus .leases) asks)) (answerOf (serveLent (campus .state) (campus .leases) (requested asks)))
+unfolding LentOfferRule campus
+offer-met = lent-offer-rule (campus .state) (campus .leases) asks refl discovers
+
+lent-offered : Offered (answerOf (serveLent (campus .state) (campus .leases) asks))
+lent-offered = subst Offered (sym (same (campus .state) (campus .leases) asks (met .whole) ∙ ap (λ (b : Book). serveOf b asks) same-book)) offered

@@ -5,7 +5,7 @@ use mathlib.Core.Bool.{Bool, true, false}
 use mathlib.Core.List.{List}
 use native.Mathlib.Omega.{arith}
 use lib.Dec.{eqb}
-use lib.ListN.{length, take}
+use lib.ListN.{length, length-map, take}
 use borrow.Author.Tests.{eqb-true, eqb-false}
 use Rattle.state_file.specs.File.{longestFile}
 use Rattle.lists.specs.Pick.{pick}
@@ -16,12 +16,11 @@ use Rattle.soundness.specs.Sound.{soundB}
 use Rattle.state_file.specs.declared.Loaded.{Loaded}
 use Rattle.state_file.specs.declared.Written.{Written}
 use Rattle.state_file.specs.StateFile.{accepted, readFile, roomAfter, writtenOf}
-use Rattle.state_file.specs.Format.{Octets}
-use Rattle.state_file.specs.Typed.{Typed}
-use Rattle.state_file.proofs.RoundTrip.{never-refused, read-write, written-read}
+use Rattle.state_file.proofs.RoundTrip.{never-refused, read-sound, written-read}
 use Rattle.records.specs.laws.Back.{records-back}
 use Rattle.records.specs.laws.Files.{file-back, file-long}
-use Rattle.records.specs.Records.{recordsOf, tableFrom}
+use Rattle.records.specs.laws.Table.{rows-length}
+use Rattle.records.specs.Records.{recordsOf, rows, tableFrom, tenantFrom}
 use Rattle.records.specs.Lent.{LentReading, readLent, readWith, roomLent, roomWith, writtenLent, writtenWith}
 use Rattle.records.specs.laws.Steps.{off-whole, on-whole}
 use Rattle.lent_guarantee.specs.Statement.{FileWritten, Lent, LentDemand3, LentWriteRead, LentWritten, SoundLent, afterFile, runLent}
@@ -59,27 +58,27 @@ lent-write-read s ls room s′ ls′ v long e =
     ∙ ap {B = LentReading} (λ (x : List Lease). record { refusal = 0; state = s; leases = x }) (records-back ls here)
 
 -- ---- after any list of calls
-sound-written : (l : Lent) → SoundLent l → (n : ℕ) → Typed (l .state) (tableFrom (l .leases)) → longestFile ≤ n → writtenLent (l .state) (l .leases) n .refusal ≡ 0
-unfolding writtenWith
-sound-written l v n t h =
+-- records stand for eight tenants' always
+pub sound-written : (l : Lent) → SoundLent l → (n : ℕ) → longestFile ≤ n → writtenLent (l .state) (l .leases) n .refusal ≡ 0
+unfolding writtenWith tableFrom
+sound-written l v n h =
     ap (λ (w : Written). w .refusal)
-    (sym (on-whole (writtenOf (l .state) (tableFrom (l .leases)) n) (record { refusal = 22; length = 0 }) (v .whole)) ∙ never-refused (l .state) (tableFrom (l .leases)) n t (v .sound) h)
+    (sym (on-whole (writtenOf (l .state) (tableFrom (l .leases)) n) (record { refusal = 22; length = 0 }) (v .whole))
+    ∙ never-refused (l .state) (tableFrom (l .leases)) n (length-map (rows 8 (l .leases)) tenantFrom ∙ rows-length 8 (l .leases)) (v .sound) h)
 
 pub lent-written : LentWritten
 unfolding LentWritten LentDemand3
-lent-written l v cs n t h = sound-written (runLent l cs) (lent-demand3 l v cs .0) n t h
+lent-written l v cs n h = sound-written (runLent l cs) (lent-demand3 l v cs .sound) n h
 
 -- an accepted file's state and records are sound
-file-sound : (f : List ℕ) (s : State) (ls : List Lease) → Octets f → readLent f s ls .refusal ≡ 0 → SoundLent (afterFile f s ls)
-unfolding accepted
-file-sound f s ls o e =
+pub file-sound : (f : List ℕ) (s : State) (ls : List Lease) → readLent f s ls .refusal ≡ 0 → SoundLent (afterFile f s ls)
+file-sound f s ls e =
     let r = read-whole f s ls e in
-    let b = read-write f (readFile f .state) (readFile f .table) o (ap {B = Loaded} (λ (n : ℕ). record { refusal = n; state = readFile f .state; table = readFile f .table }) (r .0)) in
     record {
       whole = ap (λ (x : LentReading). length (x .leases)) (r .1) ∙ file-long f (r .0);
-      sound = ap (λ (x : LentReading). soundB (x .state) (tableFrom (x .leases))) (r .1) ∙ ap (soundB (readFile f .state)) (file-back f (r .0)) ∙ b .0;
+      sound = ap (λ (x : LentReading). soundB (x .state) (tableFrom (x .leases))) (r .1) ∙ ap (soundB (readFile f .state)) (file-back f (r .0)) ∙ read-sound f (r .0);
     }
 
 pub file-written : FileWritten
 unfolding FileWritten LentWritten
-file-written f s ls cs n o e t h = lent-written (afterFile f s ls) (file-sound f s ls o e) cs n t h
+file-written f s ls cs n e h = lent-written (afterFile f s ls) (file-sound f s ls e) cs n h

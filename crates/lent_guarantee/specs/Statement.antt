@@ -11,7 +11,7 @@ use Rattle.state.specs.declared.Lease.{Lease}
 use Rattle.state.specs.declared.State.{State}
 use Rattle.soundness.specs.Sound.{soundB}
 use Rattle.server.specs.Serve.{Answer, Call, serveOf}
-use Rattle.guarantee.specs.Statement.{bookAt, Granted, NewRequest, WithinLimits}
+use Rattle.guarantee.specs.Statement.{Discovers, Granted, IsReply, Narrow, NewRequest, OfferedAs, ReadAs, WithinLimits, bookAt, liveUnder, requested}
 use Rattle.state_file.specs.Format.{Octets}
 use Rattle.state_file.specs.Typed.{Typed}
 use Rattle.records.specs.Records.{recordsOf, tableFrom}
@@ -43,21 +43,32 @@ pub record SoundLent (l : Lent) : Type 0 where
 unfoldable pub SameCall : Type 0
 SameCall = (s : State) (ls : List Lease) (c : Call) → length ls ≡ 128 → answerOf (serveLent s ls c) ≡ serveOf (bookFrom s ls) c
 
--- ---- demand 3: from a sound lent book, after any list of calls, the book is sound on 128 records, no house is above its limit, and the next call is
--- granted if it is a new REQUEST that passes the checks before error 0, whose period is inside, for which a record is left and whose least
--- number is at most the unused share
-unfoldable pub LentDemand3 : Type 0
-LentDemand3 =
-    (l : Lent) → SoundLent l → (cs : List Call)
-    → SoundLent (runLent l cs)
-    × (WithinLimits (bookOf (runLent l cs))
-    × ((c : Call) → NewRequest (bookOf (runLent l cs)) c
-    → Granted (bookOf (runLent l cs)) c (answerOf (serveLent (runLent l cs .state) (runLent l cs .leases) c))))
+-- ---- demand 3, its sentences in guarantee's statement
+-- of the state and records after a list of calls
+pub record LentAfterList (l : Lent) : Type 0 where
+  -- "After the list the book is sound", on 128 records
+  pub sound : SoundLent l
+  -- "and no house holds more addresses in a scope than its limit"
+  pub limits : WithinLimits (bookOf l)
+  -- "Let the next datagram be a new REQUEST ..: it is granted, .., whatever the other houses sent"
+  pub next : (c : Call) → NewRequest (bookOf l) c → Granted (bookOf l) c (answerOf (serveLent (l .state) (l .leases) c))
 
--- ---- demand 1: every call on any state and any number of records has one of the outcomes 0 to 8, and a discard changes no more than document 01 says
+-- "Take every sound book and every list of datagrams, answered or discarded, whatever their addresses, times and reply rooms"
+unfoldable pub LentDemand3 : Type 0
+LentDemand3 = (l : Lent) → SoundLent l → (cs : List Call) → LentAfterList (runLent l cs)
+
+-- ---- demand 1: "For every datagram, clock, book and reply room", so any state and any number of records
 pub record LentAnswered (s : State) (ls : List Lease) (c : Call) (a : LentAnswer) : Type 0 where
+  -- "the server ends with a reply or a numbered discard"
   pub outcome : a .outcome ≤ 8
+  pub reply : a .outcome ≡ 0 → IsReply (a .reply)
+  -- the reader reads it back as one of document 01's
+  pub reads : Narrow (bookFrom s ls) → a .outcome ≡ 0 → ReadAs (a .reply)
+  -- "A discard writes no reply octet"
   pub silent : (a .outcome ≡ 0 → ⊥) → a .reply ≡ []
+  -- "and changes no lease live at the clock it leaves in the book"
+  pub leases : (a .outcome ≡ 0 → ⊥) → (g : ℕ) (i : List ℕ)
+      → liveUnder (a .state .clock) (tableFrom (a .leases)) g i ≡ liveUnder (a .state .clock) (tableFrom ls) g i
   -- "Discards 1 and 2 change nothing"
   pub untouched : a .outcome ≡ 1 → (a .state ≡ s) × (a .leases ≡ ls)
   pub untouched-too : a .outcome ≡ 2 → (a .state ≡ s) × (a .leases ≡ ls)
@@ -69,7 +80,14 @@ pub record LentAnswered (s : State) (ls : List Lease) (c : Call) (a : LentAnswer
 unfoldable pub LentDemand1 : Type 0
 LentDemand1 = (s : State) (ls : List Lease) (c : Call) → LentAnswered s ls c (serveLent s ls c)
 
--- ---- the file: an accepted one, read into any lent state and records and written from them again, has the same octets
+-- ---- the OFFER rule, on any state and any 128 records
+unfoldable pub LentOfferRule : Type 0
+LentOfferRule =
+    (s : State) (ls : List Lease) (c : Call) → length ls ≡ 128 → Discovers c
+    → OfferedAs (bookFrom s ls) c (answerOf (serveLent s ls c)) (answerOf (serveLent s ls (requested c)))
+
+-- ---- demand 2, of the file: "A campus file that is accepted, read and written again has the same octets"; read into any lent state and records. Of the call,
+-- "what it reads, what it writes and the book afterwards" are `serveOf`'s, which `lent::serve` promises octet for octet (`ServesLent`)
 unfoldable pub LentRoundTrip : Type 0
 LentRoundTrip =
     (f : List ℕ) (s : State) (ls : List Lease) (room : List ℕ) → Octets f → readLent f s ls .refusal ≡ 0 → length f ≤ length room
@@ -85,17 +103,14 @@ LentWriteRead =
 
 -- ---- after any list of calls on a sound book the writer refuses nothing in a room for the largest file: neither 22 nor 23 can occur
 unfoldable pub LentWritten : Type 0
-LentWritten =
-    (l : Lent) → SoundLent l → (cs : List Call) (n : ℕ) → Typed (runLent l cs .state) (tableFrom (runLent l cs .leases)) → longestFile ≤ n
-    → writtenLent (runLent l cs .state) (runLent l cs .leases) n .refusal ≡ 0
+LentWritten = (l : Lent) → SoundLent l → (cs : List Call) (n : ℕ) → longestFile ≤ n → writtenLent (runLent l cs .state) (runLent l cs .leases) n .refusal ≡ 0
 
 -- the state and the records that a file was read into
 abbrev pub afterFile : List ℕ → State → List Lease → Lent
 afterFile f s ls = record { state = readLent f s ls .state; leases = readLent f s ls .leases }
 
--- so after any list of calls on an accepted file, read into any lent state and 128 records
+-- so after any list of calls on an accepted file, read into any lent state and records
 unfoldable pub FileWritten : Type 0
 FileWritten =
-    (f : List ℕ) (s : State) (ls : List Lease) (cs : List Call) (n : ℕ) → Octets f → readLent f s ls .refusal ≡ 0
-    → Typed (runLent (afterFile f s ls) cs .state) (tableFrom (runLent (afterFile f s ls) cs .leases)) → longestFile ≤ n
+    (f : List ℕ) (s : State) (ls : List Lease) (cs : List Call) (n : ℕ) → readLent f s ls .refusal ≡ 0 → longestFile ≤ n
     → writtenLent (runLent (afterFile f s ls) cs .state) (runLent (afterFile f s ls) cs .leases) n .refusal ≡ 0

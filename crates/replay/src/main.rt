@@ -4,10 +4,13 @@ use libc::STDIN_FILENO;
 use libc::STDOUT_FILENO;
 use owned::Owned;
 
+// The first n octets of a text, or all of it.
 fn print(text: &[u8], n: usize) {
     if n <= text.len() {
         io::write_all(STDOUT_FILENO, &text[..n]);
+        return;
     }
+    io::write_all(STDOUT_FILENO, text);
 }
 
 fn refuse(number: u8) {
@@ -16,26 +19,35 @@ fn refuse(number: u8) {
     print(&line, n);
 }
 
-// A reply is no longer than the least room, and lies within its room.
+// A reply is no longer than the least room and lies within its room (demand 1); one that did not would be told as 27, too little room for it.
 fn print_call(outcome: u8, room: &[u8], length: usize) {
     let mut line = [0u8; 2 * reply::LEAST_ROOM + 4];
     if length <= reply::LEAST_ROOM {
         if length <= room.len() {
             let n = replay_text::write_call_line(&mut line, outcome, room, length);
             print(&line, n);
+            return;
         }
     }
+    refuse(27);
 }
 
+// The writer refuses nothing after calls on an accepted file; what it refused would be told.
 fn print_book(book: Owned) {
     let mut file = [0u8; state_file::LONGEST_FILE];
     let mut line = [0u8; 2 * state_file::LONGEST_FILE + 6];
     let w = owned::write(book, &mut file);
     let length = w.length;
+    if w.refusal != 0 {
+        refuse(w.refusal);
+        return;
+    }
     if length <= state_file::LONGEST_FILE {
         let n = replay_text::write_book_line(&mut line, &file, length);
         print(&line, n);
+        return;
     }
+    refuse(23);
 }
 
 // Reads n octets to the front of a buffer; false where the input is cut off before them.
@@ -46,7 +58,7 @@ fn read_part(buffer: &mut [u8], n: usize) -> bool {
     false
 }
 
-// One call on a datagram of n octets, in a room of just `size` octets.
+// One call on a datagram of n octets, in a room of just `size` octets; both lie within their buffers, which have 65,536.
 fn call(
     book: Owned,
     client: u32,
@@ -63,6 +75,7 @@ fn call(
             return r.owned;
         }
     }
+    refuse(24);
     book
 }
 
@@ -134,6 +147,8 @@ fn replay_file(file: &[u8], n: usize) {
         } else {
             refuse(r.refusal);
         }
+    } else {
+        refuse(24);
     }
 }
 

@@ -13,6 +13,7 @@ mod Loads
 mod RowLaws
 mod Writes
 mod ReadAgain
+mod Short
 mod WriteAgain
 pub mod RoundTrip
 mod Cases

@@ -14,8 +14,9 @@ use Rattle.soundness.specs.Sound.{soundB}
 use Rattle.state.specs.declared.LeaseTable.{LeaseTable}
 use Rattle.state.specs.declared.State.{State}
 use Rattle.state_file.proofs.ReadAgain.{book-again}
-use Rattle.state_file.proofs.WriteAgain.{book-fits, book-ok, book-short, state-same, table-same}
+use Rattle.state_file.proofs.WriteAgain.{book-fits, book-ok, state-same, table-same}
 use Rattle.state_file.specs.File.{longestFile, File, fileFormat, fileOf}
+use Rattle.state_file.proofs.Short.{sound-short}
 use Rattle.state_file.specs.laws.File.{file-reads, file-written}
 use Rattle.state_file.specs.Format.{Got, bad, closed, got, Octets}
 use Rattle.state_file.specs.Records.{filedBook, fitsB, storedState, storedTable}
@@ -60,7 +61,22 @@ again : (f : File) (st : State) (tb : LeaseTable) → storedState f ≡ st → s
 unfolding octetsOf
 again f st tb es eb ok fit = ap₂ (λ (x : State) (y : LeaseTable). fileFormat .write (filedBook x y)) (sym es) (sym eb) ∙ ap (fileFormat .write) (book-again f ok fit)
 
--- the book of octets that are accepted is sound, and its octets are those
+-- the book of octets that are accepted is sound
+pub read-sound : (s : List ℕ) → readFile s .refusal ≡ 0 → soundB (readFile s .state) (readFile s .table) ≡ true
+unfolding readFile loadedGot loaded judged accepted refused pick
+read-sound s e = go (fileOf s) e
+  where
+    kept : (f : File) (p q : Bool) → soundB (storedState f) (storedTable f) ≡ q → pick p (pick q (accepted (storedState f) (storedTable f)) (refused 21)) (refused 21) .refusal ≡ 0
+        → soundB (pick p (pick q (accepted (storedState f) (storedTable f)) (refused 21)) (refused 21) .state) (pick p (pick q (accepted (storedState f) (storedTable f)) (refused 21)) (refused 21) .table) ≡ true
+    kept f true true v e = v
+    kept f true false v e = absurd (omega arith)
+    kept f false q v e = absurd (omega arith)
+
+    go : (g : Got File) → loadedGot g .refusal ≡ 0 → soundB (loadedGot g .state) (loadedGot g .table) ≡ true
+    go bad e = absurd (omega arith)
+    go (got f r) e = kept f (fitsB f) (soundB (storedState f) (storedTable f)) refl e
+
+-- and its octets are those
 pub read-write : (s : List ℕ) (st : State) (tb : LeaseTable) → Octets s → readFile s ≡ accepted st tb → (soundB st tb ≡ true) × (octetsOf st tb ≡ s)
 unfolding readFile loadedGot
 read-write s st tb o e = go (fileOf s) refl e
@@ -86,15 +102,15 @@ read-written s room st tb o e h =
           ∙ ap (λ (x : List ℕ). x ++ drop (length x) room) w,
     )
 
-short : (st : State) (tb : LeaseTable) → Typed st tb → soundB st tb ≡ true → length (fileFormat .write (filedBook st tb)) ≤ longestFile
+short : (st : State) (tb : LeaseTable) → length (tb .tenants) ≡ 8 → soundB st tb ≡ true → length (fileFormat .write (filedBook st tb)) ≤ longestFile
 unfolding octetsOf
-short st tb v e = book-short st tb v e
+short st tb v e = sound-short st tb (omega arith) e
 
 -- a sound book's octets are accepted, and give the book
 pub write-read : (st : State) (tb : LeaseTable) → Typed st tb → soundB st tb ≡ true → readFile (octetsOf st tb) ≡ accepted st tb
 unfolding readFile loadedGot loaded judged octetsOf pick
 write-read st tb v e =
-    ap loadedGot (file-written (filedBook st tb) (book-ok st tb v e) (short st tb v e))
+    ap loadedGot (file-written (filedBook st tb) (book-ok st tb v e) (short st tb (v .tenants) e))
     ∙ ap (λ (x : Bool). pick x (judged (storedState (filedBook st tb)) (storedTable (filedBook st tb))) (refused 21)) (book-fits st tb v e)
     ∙ ap₂ judged (state-same st tb v e) (table-same st tb v e)
     ∙ ap (λ (x : Bool). pick x (accepted st tb) (refused 21)) e
@@ -112,9 +128,9 @@ written-read st tb room v e = go (soundB st tb) refl (ltb (length room) (length 
     go true a false e = ap readFile (take-append-seam (octetsOf st tb) (drop (length (octetsOf st tb)) room)) ∙ write-read st tb v a
     go false a q e = absurd (omega arith)
 
--- and in a room for the largest file the writer refuses no sound book
-pub never-refused : (st : State) (tb : LeaseTable) (n : ℕ) → Typed st tb → soundB st tb ≡ true → longestFile ≤ n → writtenOf st tb n ≡ record { refusal = 0; length = length (octetsOf st tb) }
+-- and in a room for the largest file the writer refuses no sound book of eight tenants' records
+pub never-refused : (st : State) (tb : LeaseTable) (n : ℕ) → length (tb .tenants) ≡ 8 → soundB st tb ≡ true → longestFile ≤ n → writtenOf st tb n ≡ record { refusal = 0; length = length (octetsOf st tb) }
 unfolding writtenOf pick
 never-refused st tb n v e h =
     ap₂ (λ (x y : Bool). pick x (pick y (record { refusal = 23; length = 0 }) (record { refusal = 0; length = length (octetsOf st tb) })) (record { refusal = 22; length = 0 }))
-    e (le-ltb n (length (octetsOf st tb)) (let k = book-short st tb v e in omega arith))
+    e (le-ltb n (length (octetsOf st tb)) (let k = sound-short st tb (omega arith) e in omega arith))

@@ -3,7 +3,6 @@ use mathlib.Core.Bool.{Bool, _&&_, false, true}
 use mathlib.Core.List.{List, [], _++_, _∷_, map}
 use mathlib.Core.Path.{_∙_, _≡_, ap, ap₂, refl, sym}
 use Prim.Native.Nat.{_*_, _+_, _-_, _<_, _≤_, min, suc, zero, ℕ}
-use native.Mathlib.Nat.{suc-mul, zero-mul}
 use native.Mathlib.Omega.{arith}
 use lib.Dec.{eqb, leb, ltb}
 use lib.ListN.{drop, getD, length, length-append, length-drop, length-map, replicate, take}
@@ -29,12 +28,9 @@ use Rattle.state.specs.declared.TenantLeases.{TenantLeases}
 use Rattle.state_file.proofs.ReadAgain.{all-facts, two-facts}
 use Rattle.state_file.proofs.RowLaws.{pair-length}
 use Rattle.state_file.proofs.WholeForm.{ts}
-use Rattle.state_file.proofs.Writes.{file-length, lease-length, ranges-length, scope-length}
-use Rattle.state_file.specs.File.{longestFile, FileLease, fileFormat, isAfter, leaseFormat, orderedFrom, partFormat, scopeFormat, tenantFormat}
+use Rattle.state_file.specs.File.{FileLease, fileFormat, isAfter, leaseFormat, orderedFrom, partFormat, scopeFormat, tenantFormat}
 use Rattle.state_file.specs.laws.Records.{Neat, filled-back}
 use Rattle.state_file.specs.Records.{fewOf, filedLease, filedBook, filedFrom, filedScope, filled, fitsB, isOffset, leasesFitB, ofTenant, pairUp, storableB, stored, storedScope, storedState, storedTable, tenantsFrom, zeroRange}
-use Rattle.state_file.specs.Rows.{leaseOctets, scopeRow, tenantRow, writeFrom}
-use Rattle.state_file.specs.StateFile.{octetsOf}
 use Rattle.state_file.specs.laws.Tenants.{leases-back}
 use Rattle.state_file.specs.Typed.{Typed, TypedLease, TypedRange, TypedScope, TypedTenant}
 
@@ -325,7 +321,7 @@ unfolding All filedFrom orderedFrom
 leases-ordered u t a [] h v = refl
 leases-ordered u t a (x ∷ ts) h v = enter-order u t a (inUse x) (filedFrom (suc t) (map inUse ts)) h (good-order x (v .0)) (λ w b g. leases-ordered w (suc t) b ts (omega arith) (v .1))
 
--- ---- how many leases, and how many octets
+-- ---- how many leases
 leases-many : (t : ℕ) (ts : List TenantLeases) → All Good ts → length (filedFrom t (map inUse ts)) ≤ length ts * 16
 unfolding All filedFrom
 leases-many t [] v = omega arith
@@ -336,34 +332,6 @@ leases-many t (x ∷ ts) v =
     let c = good-length x (v .0) in
     let d = good-count x (v .0) in
     omega arith
-
-at-most : {A : Type 0} (w : ℕ → A → List ℕ) (P : A → Type 0) (most : ℕ) → ((i : ℕ) (x : A) → P x → length (w i x) ≤ most) → (k : ℕ) (l : List A) → All P l → length (writeFrom w k l) ≤ length l * most
-unfolding All writeFrom
-at-most w P most f k [] v = let z = zero-mul most in omega arith
-at-most w P most f k (x ∷ l) v =
-    let ih = at-most w P most f (suc k) l (v .1) in
-    let a = length-append (w k x) (writeFrom w (suc k) l) in
-    let b = f k x (v .0) in
-    let c = suc-mul (length l) most in
-    omega arith
-
-lease-most : (t i : ℕ) (l : Lease) → Fine l → length (leaseOctets t i l) ≤ 113
-unfolding leaseOctets
-lease-most t i l v =
-    let e = lease-length t l (min (l .«id_len») 32) (length (offsets (l .addresses))) (min (l .«id_len») 32 + 17 + length (offsets (l .addresses))) (v .typed .long) refl refl refl in
-    omega (arith, e .0, e .1)
-
-tenant-most : (i : ℕ) (t : TenantLeases) → Good t → length (tenantRow i t) ≤ 1808
-unfolding tenantRow
-tenant-most i t v =
-    let a = at-most (leaseOctets (i + 1)) Fine 113 (lease-most (i + 1)) 0 (inUse t) (good-fine t v) in
-    let b = good-length t v in
-    let c = good-count t v in
-    omega arith
-
-scope-most : (h i : ℕ) (c : Scope) → TypedScope c → length (scopeRow h i c) ≤ 22
-unfolding scopeRow
-scope-most h i c v = let e = scope-length c h (min h 8) (v .reserves) (v .limits) refl in omega (arith, e .0, e .1)
 
 -- ---- scopes
 firsts : (n : ℕ) (a b : List ℕ) → length a ≡ length b → map (λ p. p .reserve) (take n (pairUp a b)) ≡ take n a
@@ -497,16 +465,6 @@ module _ (s : State) (b : LeaseTable) (v : Typed s b) (e : soundB s b ≡ true) 
       scopes-ok = all-mapped (scopeFormat (length (rangesOf s)) .ok) (filedScope (s .«tenant_count»)) (scopesOf s)
           (two-facts TypedScope TypedScope (λ c. scopeFormat (length (rangesOf s)) .ok (filedScope (s .«tenant_count») c)) (scopesOf s) (λ c p q. scope-ok (s .«tenant_count») (length (rangesOf s)) c tenants-few ranges-many p)
           (all-take TypedScope (s .«scope_count») (s .scopes) (v .scopes)) (all-take TypedScope (s .«scope_count») (s .scopes) (v .scopes)))
-
-  pub book-short : length (octetsOf s b) ≤ longestFile
-  book-short =
-      let f = file-length s b (v .tenants) in
-      let r = ranges-length 0 (rangesOf s) in
-      let c = at-most (scopeRow (s .«tenant_count»)) TypedScope 22 (scope-most (s .«tenant_count»)) 0 (scopesOf s) (all-take TypedScope (s .«scope_count») (s .scopes) (v .scopes)) in
-      let t = at-most tenantRow Good 1808 tenant-most 0 (b .tenants) good in
-      let n = tenants-few in let m = scopes-few in
-      let p = ranges-many in let q = scopes-many in
-      omega (arith, v .tenants)
 
   -- the records can hold it
   leases-same : tenantsFrom 1 8 (filedFrom 1 (leasesOf b)) ≡ leasesOf b

@@ -12,6 +12,7 @@ use std::panic::{catch_unwind, AssertUnwindSafe};
 const FILE_ROOM_SHORT: u8 = 23;
 const CUT_OFF: u8 = 24;
 const ANSWERS_FULL: u8 = 27;
+const LENGTH_PAST: u8 = 28;
 /// Octets around each lent buffer are watched.
 const LENDER: Lender = Lender { around: 32 };
 
@@ -266,13 +267,13 @@ fn replay(case: &Case, expected: &Expected, choice: usize, tally: &mut Tally) {
     }
 }
 
-/// A room for the file that is too short (23), then a file length above the room (24): nothing changes.
+/// A room for the file that is too short (23), then a file length above the room (28): nothing changes.
 fn lent_rooms(case: &Case, tally: &mut Tally) {
     let front = &case.file[..case.file.len().min(600)];
     for (room, length, refusal) in [
         (LONGEST_FILE - 1, front.len(), FILE_ROOM_SHORT),
         (600, 20_000, FILE_ROOM_SHORT),
-        (LONGEST_FILE, LONGEST_FILE + 1, CUT_OFF),
+        (LONGEST_FILE, LONGEST_FILE + 1, LENGTH_PAST),
     ] {
         let what = format!("{refusal} in a file room of {room}");
         let mut held = LENDER.hold(front, room, length);

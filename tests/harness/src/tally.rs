@@ -18,13 +18,14 @@ const REPLIES: [(u8, u8); 8] = [
     (7, 6),
     (8, 5),
 ];
-const CODES: [(u8, &str); 6] = [
+const CODES: [(u8, &str); 7] = [
     (0, "replay answered the whole list"),
     (20, "refused 20: wrong form"),
     (21, "refused 21: unsound"),
     (23, "refused 23: file room below 14,628"),
-    (24, "refused 24: file or record cut off"),
+    (24, "stopped 24: a record cut off"),
     (27, "stopped 27: answers' room used up"),
+    (28, "refused 28: file length past its room"),
 ];
 
 #[derive(Default)]

@@ -8,10 +8,12 @@ use Rattle.message.specs.declared.Fields.{Fields}
 use Rattle.state.specs.declared.LeaseTable.{LeaseTable}
 use Rattle.state.specs.declared.State.{State}
 use Rattle.decision.specs.declared.Decided.{Decided}
-use Rattle.decision.specs.declared.Reply.the-variants.{Offer, LeaseAck}
-use Rattle.decision.specs.Parts.{isNew, hasPeriod, ownOf, holdsOf, recordedOf, resends, knowsScope, lacksScope, zeroLength, badCounts, lacksCurrent, error1Of, error2Of, error3Of, startOf, lengthOf, askAt, fitsNew, newWith, newAt, newOf, proposalOf, error0Of, leaseFrom, withLease, nakWith, discardWith, refusalOf, asOffer, heldAlready, early1Of}
+use Rattle.decision.specs.declared.Reply.the-variants.{Offer, LeaseAck, Nothing, ReleaseAck, InfoAck, Nak}
+use Rattle.decision.specs.Parts.{isNew, hasPeriod, ownOf, holdsOf, recordedOf, resends, knowsScope, lacksScope, zeroLength, badCounts, lacksCurrent, error1Of, error2Of, error3Of, startOf, lengthOf, askAt, fitsNew, newWith, newAt, newOf, proposalOf, error0Of, leaseFrom, withLease, nakWith, discardWith, refusalOf, heldAlready, early1Of}
 use Rattle.state.specs.Edit.{entering}
 use Rattle.decision.specs.Decide.{unchanged, changed, leasedOf, settledOf, judgedOf, decideOf}
+use Rattle.decision.specs.declared.Verdict.{Verdict}
+use Rattle.decision.specs.declared.Reply.{Reply}
 
 -- ---- "DISCOVER .. draws an OFFER exactly if the same message sent as a REQUEST would get a new grant now, with that period and those ranges"
 -- the same message, sent as another type
@@ -29,6 +31,15 @@ sentAs kind m = record {
   «list_asked» = m .«list_asked»;
   «time_asked» = m .«time_asked»;
 }
+
+-- an ACK's lease as an OFFER's; anything else as discard 8
+abbrev pub asOffer : Reply → Verdict → Verdict
+asOffer LeaseAck v = record { outcome = 0; reply = Offer; error = 0; scope = v .scope; start = v .start; end = v .end; addresses = v .addresses }
+asOffer Nothing v = discardWith 8
+asOffer Offer v = discardWith 8
+asOffer ReleaseAck v = discardWith 8
+asOffer InfoAck v = discardWith 8
+asOffer Nak v = discardWith 8
 
 -- where it is no Resend
 pub offered-as-requested : (s : State) (b : LeaseTable) (h : ℕ) (m : Fields) → resends (sentAs 3 m) (recordedOf (ownOf b h) m) ≡ false

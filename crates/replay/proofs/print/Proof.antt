@@ -15,4 +15,5 @@ print-spec =
     slice-aggregate-write-all
     (λ c κs. search needs)
     (λ c. search needs)
+    (λ c. search needs)
     (λ c. search needs))

@@ -1,0 +1,25 @@
+-- Laws: demand 1, put together: what the tests leave, the reply, its reading, and the leases.
+use Rattle.guarantee.specs.Statement.{Answered, Demand1}
+use Rattle.guarantee.proofs.Discards.{Tested, call-tested}
+use Rattle.guarantee.proofs.Replies.{leases-stay, replied}
+use Rattle.guarantee.proofs.Walked.{read-back}
+use Rattle.state.specs.declared.Book.{Book}
+use Rattle.server.specs.Serve.{Call, serveOf}
+
+pub call-answered : (b : Book) (c : Call) → Answered b c (serveOf b c)
+call-answered b c =
+    let v : Tested b c (serveOf b c) = call-tested b c in
+    record {
+      outcome = v .outcome;
+      reply = replied b c;
+      reads = read-back b c;
+      silent = v .silent;
+      leases = leases-stay b c;
+      untouched = v .untouched;
+      untouched-too = v .untouched-too;
+      advances = v .advances;
+    }
+
+pub demand1 : Demand1
+unfolding Demand1
+demand1 b c = call-answered b c

@@ -1,5 +1,6 @@
 -- Definitions: document 01's grant rule ("Periods and the grant rule"), over lists of live leases, one list for each tenant. A house is a tenant here,
 -- its share a reserve. Tenants count from 0, scopes from 1; c is the scope, n the number of tenants, t their leases, a what is asked for.
+use Rattle.lists.specs.Pick.{pick}
 use Prim.Native.Nat.{ℕ, _+_, _-_, min}
 use mathlib.Core.Bool.{Bool, _&&_}
 use mathlib.Core.List.{List, [], map}

@@ -1,6 +1,6 @@
 // Document 01's grant rule: how many addresses a tenant gets for a period, and which.
 ghost use mathlib.Core.Path.{_≡_};
-ghost use Prim.Native.Nat.{_*_, _<_, _≤_, max};
+ghost use Prim.Native.Nat.{_*_, _<_, _≤_, max, min};
 ghost use lib.Dec.{eqb};
 ghost use Rattle.lists.specs.Down.{largest};
 ghost use Rattle.lists.specs.Pick.{pick};

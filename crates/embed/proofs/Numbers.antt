@@ -21,7 +21,7 @@ use Rattle.records.specs.Lent.{LentAnswer, serveLent, writtenLent}
 use Rattle.lent_guarantee.specs.Statement.{Lent, LentDemand1, SoundLent}
 use Rattle.lent_guarantee.proofs.Guaranteed.{lent-demand1, next, next-sound}
 use Rattle.lent_guarantee.proofs.Written.{sound-written}
-use Rattle.embed.specs.Embed.{Replayed, answerOctets, callIn, cutOff, filed, FileAnswer, FileReplay, kept, lengthAfter, numberAfter, answerBefore, recordSize, refiled, refusalIn, replayed, replayFile, serveFile, stopIn, stopped}
+use Rattle.embed.specs.Embed.{Replayed, answerOctets, callIn, cutOff, filed, FileAnswer, FileReplay, kept, lengthAfter, numberAfter, answerBefore, recordSize, refiled, refusalIn, replayed, replayFile, serveFile, stopIn, stopped, largestFile}
 use Rattle.embed.specs.Statement.{ReplayedNumber, ReplayedNumbers, ServedNumber, ServedNumbers, leasesIn, stateIn}
 
 lent : State → List Lease → Lent

@@ -7,6 +7,7 @@ mod Codes
 pub mod Replies
 pub mod Walked
 pub mod Answers
+pub mod Bounded
 pub mod Offers
 pub mod Opened
 pub mod Specimens

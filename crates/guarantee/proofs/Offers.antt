@@ -1,7 +1,7 @@
 -- Proof of the OFFER rule about datagrams: the same datagram with its type octet set to REQUEST is read alike but for its type.
 use Prim.Native.Nat.{ℕ, zero, suc, _+_, _-_, _*_, _/_, _≤_, _<_}
 use mathlib.Core.Path.{_≡_, refl, sym, ap, ap₂, _∙_, subst}
-use mathlib.Core.Bool.{Bool, true, false, _&&_, _||_}
+use mathlib.Core.Bool.{Bool, true, false, not, _&&_, _||_}
 use mathlib.Core.List.{List, [], _∷_, _++_}
 use mathlib.Core.Logic.{_⊎_, inl, inr, ⊎-elim}
 use native.Mathlib.Omega.{arith}
@@ -31,7 +31,7 @@ use Rattle.message.specs.declared.Stage.the-variants.{Walking, Done, Broken}
 use Rattle.message.specs.declared.Times.{Times}
 use Rattle.message.specs.declared.Walk.{Walk}
 use Rattle.message.specs.declared.Wish.{Wish}
-use Rattle.reply.specs.Reply.{leaseAckOf, messageOctets, nakOf, offerOf}
+use Rattle.reply.specs.Reply.{leaseAckOf, messageOctets, nakOf, offerOf, leastRoom}
 use Rattle.state.specs.declared.Book.{Book}
 use Rattle.state.specs.declared.Lease.{Lease}
 use Rattle.state.specs.declared.LeaseTable.{LeaseTable}
@@ -489,10 +489,10 @@ module _ (b : Book) (c : Call) where
     ruled = decideOf s t h (sentAs 3 m) .verdict
 
     abbrev discovered : Answer
-    discovered = answered s (sentAs 1 m) (decideOf s t h (sentAs 1 m))
+    discovered = answered (bookAt b c) h (sentAs 1 m) (decideOf s t h (sentAs 1 m))
 
     abbrev asked : Answer
-    asked = answered s (sentAs 3 m) (decideOf s t h (sentAs 3 m))
+    asked = answered (bookAt b c) h (sentAs 3 m) (decideOf s t h (sentAs 3 m))
 
     resent : Bool
     resent = resends (sentAs 3 m) (recordedOf (ownOf t h) m)

@@ -45,7 +45,7 @@ all-take P zero l h = tt
 all-take P (suc k) [] h = tt
 all-take P (suc k) (x ∷ l) h = (h .0, all-take P k l (h .1))
 
-all-join : {A : Type 0} (P : A → Type 0) (x y : List A) → All P x → All P y → All P (x ++ y)
+pub all-join : {A : Type 0} (P : A → Type 0) (x y : List A) → All P x → All P y → All P (x ++ y)
 unfolding All
 all-join P [] y h g = g
 all-join P (a ∷ x) y h g = (h .0, all-join P x y (h .1) g)

@@ -151,7 +151,7 @@ octets-read s m v InfoAck n h =
     (info-found _ _ _ _ _ (m .«list_asked») (m .«time_asked») (m .features))
 octets-read s m v Nak n h = read-as 6 (m .xid) (nakOptions (headOf s m) (v .error)) (nak-back (headOf s m) n (v .error)) (nak-found _ _ _ _ (m .features))
 
-all-filter : {A : Type 0} (F : A → Type 0) (u : A → Bool) (l : List A) → All F l → All F (filterBy u l)
+pub all-filter : {A : Type 0} (F : A → Type 0) (u : A → Bool) (l : List A) → All F l → All F (filterBy u l)
 unfolding All filterBy pick
 all-filter F u [] h = tt
 all-filter {A} F u (x ∷ l) h = go (u x) (all-filter F u l (h .1))
@@ -164,7 +164,7 @@ module _ (b : Book) (c : Call) (narrow : Narrow b) where
   R : Answer → Type 0
   R a = a .outcome ≡ 0 → ReadAs (a .reply)
 
-  now-narrow : (g : ℕ) → All (λ l. l .addresses < 2 ^ 64) (ownOf (bookAt b c .table) g)
+  pub now-narrow : (g : ℕ) → All (λ l. l .addresses < 2 ^ 64) (ownOf (bookAt b c .table) g)
   unfolding advanced liveOf Narrow
   now-narrow g = subst (λ (x : List Lease). All (λ l. l .addresses < 2 ^ 64) x) (sym (own-dropped _ (b .table) g)) (all-filter (λ l. l .addresses < 2 ^ 64) _ (ownOf (b .table) g) (narrow g))
 

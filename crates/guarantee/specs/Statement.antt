@@ -33,7 +33,7 @@ use Rattle.server.specs.Serve.{Answer, Call, headOf, serveOf, tenantOf}
 
 -- ---- the list of calls: "any number of server calls, or none: DISCOVER, REQUEST, RENEW, RELEASE, GETINFO and any other octets, from any address, with any
 -- time and room" (`Call`)
--- "The first gets that book, each later one the book as the one before left it"; "Only the book passes on"; "that is the book the rules above give" (`serveOf`)
+-- "The first gets that book, each later one the book as the one before left it, and nobody else writes it meanwhile"; "Only the book passes on"; "that is the book the rules above give" (`serveOf`)
 unfoldable pub run : Book → List Call → Book
 run b [] = b
 run b (c ∷ cs) = run (serveOf b c .book) cs
@@ -136,7 +136,7 @@ leaseFor b c = record {
   addresses = grantFor b c .addresses;
 }
 
--- what the ACK says: its Ranges are the runs of the grant's addresses
+-- what the ACK says: its Ranges are those of the grant's addresses
 abbrev pub termsFor : Book → Call → Terms
 termsFor b c = record {
   length = endFor b c - startFor b c;
@@ -243,6 +243,10 @@ pub record Answered (b : Book) (c : Call) (a : Answer) : Type 0 where
 -- (`lent::serve` has no `requires`)
 unfoldable pub Demand1 : Type 0
 Demand1 = (b : Book) (c : Call) → Answered b c (serveOf b c)
+
+-- calls keep the 64 bits, whatever the book
+unfoldable pub StaysNarrow : Type 0
+StaysNarrow = (b : Book) → Narrow b → (cs : List Call) → Narrow (run b cs)
 
 -- ---- the OFFER rule: a DISCOVER "without option 2 draws an OFFER exactly if the same message sent as a REQUEST would get a new grant now, with
 -- that period and those ranges"

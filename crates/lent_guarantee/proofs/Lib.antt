@@ -2,4 +2,5 @@ pub mod Same
 pub mod Guaranteed
 pub mod RoundTrip
 pub mod Written
+pub mod FileReads
 mod Specimens

@@ -114,3 +114,10 @@ unfoldable pub FileWritten : Type 0
 FileWritten =
     (f : List ℕ) (s : State) (ls : List Lease) (cs : List Call) (n : ℕ) → readLent f s ls .refusal ≡ 0 → longestFile ≤ n
     → writtenLent (runLent (afterFile f s ls) cs .state) (runLent (afterFile f s ls) cs .leases) n .refusal ≡ 0
+
+-- ---- and every reply to such a call is read back as one of document 01's: an accepted file's leases are `Narrow`, and calls keep them so
+unfoldable pub FileReads : Type 0
+FileReads =
+    (f : List ℕ) (s : State) (ls : List Lease) (cs : List Call) (c : Call) → readLent f s ls .refusal ≡ 0
+    → serveLent (runLent (afterFile f s ls) cs .state) (runLent (afterFile f s ls) cs .leases) c .outcome ≡ 0
+    → ReadAs (serveLent (runLent (afterFile f s ls) cs .state) (runLent (afterFile f s ls) cs .leases) c .reply)

@@ -14,8 +14,8 @@ pub const EXACT: Lender = Lender { around: 0 };
 const SEEN: [(&str, &str); 6] = [
     ("check", "0, 20, 21"),
     ("board", "lines, refused 20, refused 21, no room"),
-    ("serve", "0, 2, 3, 4, 5, 6, 7, 8, 20, 21, 23, 24"),
-    ("replay", "0, 20, 21, 23, 24, 27"),
+    ("serve", "0, 2, 3, 4, 5, 6, 7, 8, 20, 21, 23, 28"),
+    ("replay", "0, 20, 21, 23, 24, 27, 28"),
     ("replies", "OFFER, ACK, NAK"),
     ("errors", "0, 1, 2, 3"),
 ];
@@ -100,7 +100,7 @@ impl Watch {
     fn refusal_due(&mut self, held: &Held) -> u8 {
         match (held.room(), held.length()) {
             (..FILE_ROOM, _) => 23,
-            (room, length) if length > room => 24,
+            (room, length) if length > room => 28,
             _ => self.check(held.file()),
         }
     }

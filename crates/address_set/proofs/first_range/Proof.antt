@@ -4,19 +4,12 @@ use borrow.Author.Needs.{needs}
 use Rattle.address_set.proofs.first_range.Statement.{statement}
 use Rattle.address_set.proofs.first_range.Tie as tie
 
-returns : tie.Need-returns
-unfolding flip
-returns c = search (first-some, needs)
-
-returns-2 : tie.Need-returns-2
-unfolding flip
-returns-2 c = search (first-none, needs)
-
 pub first-range-spec : {M : Type 1} → statement M
+unfolding flip
 first-range-spec =
     tie.close
     (tie.spec
     (λ c. search (trailing-fits, needs))
     (λ c. search (trailing-lt, needs))
-    returns
-    returns-2)
+    (λ c. search (first-some, needs))
+    (λ c. search (first-none, needs)))

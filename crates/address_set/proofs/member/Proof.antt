@@ -5,18 +5,11 @@ use borrow.Author.Needs.{needs}
 use Rattle.address_set.proofs.member.Statement.{statement}
 use Rattle.address_set.proofs.member.Tie as tie
 
-returns : tie.Need-returns
-unfolding bit
-returns c = search (in-bit, needs)
-
-returns-2 : tie.Need-returns-2
-unfolding bit
-returns-2 c = search (not-in, needs)
-
 pub member-spec : {M : Type 1} → statement M
+unfolding bit
 member-spec =
     tie.close
     (tie.spec
     (λ c. search (in-bit, not-in, needs))
-    returns
-    returns-2)
+    (λ c. search (in-bit, needs))
+    (λ c. search (not-in, needs)))

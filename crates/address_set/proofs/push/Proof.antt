@@ -5,19 +5,12 @@ use borrow.Author.Needs.{needs}
 use Rattle.address_set.proofs.push.Statement.{statement}
 use Rattle.address_set.proofs.push.Tie as tie
 
-returns : tie.Need-returns
-unfolding pushedOffset
-returns c = search (picks, needs)
-
-returns-2 : tie.Need-returns-2
-unfolding pushedOffset
-returns-2 c = search (picks, needs)
-
 pub push-spec : {M : Type 1} → statement M
+unfolding pushedOffset
 push-spec =
     tie.close
     (tie.spec
     (λ c. search (picks, needs))
     (λ c. search (picks, needs))
-    returns
-    returns-2)
+    (λ c. search (picks, needs))
+    (λ c. search (picks, needs)))

@@ -5,13 +5,10 @@ use borrow.Author.Needs.{needs}
 use Rattle.allocation.proofs.busy_more.Statement.{statement}
 use Rattle.allocation.proofs.busy_more.Tie as tie
 
-returns : tie.Need-returns
-unfolding busyMore
-returns c = search (or-same, needs)
-
 pub busy-more-spec : {M : Type 1} → statement M
+unfolding busyMore
 busy-more-spec =
     tie.close
     (tie.spec
     (λ c κs. search needs)
-    returns)
+    (λ c. search (or-same, needs)))

@@ -5,13 +5,10 @@ use borrow.Author.Needs.{needs}
 use Rattle.allocation.proofs.taken_one.Statement.{statement}
 use Rattle.allocation.proofs.taken_one.Tie as tie
 
-returns : tie.Need-returns
-unfolding takenOne
-returns c = search (or-same, needs)
-
 pub taken-one-spec : {M : Type 1} → statement M
+unfolding takenOne
 taken-one-spec =
     tie.close
     (tie.spec
     (λ c κs. search needs)
-    returns)
+    (λ c. search (or-same, needs)))

@@ -4,9 +4,9 @@ use borrow.Author.Needs.{needs}
 use Rattle.decision.proofs.discard.Statement.{statement}
 use Rattle.decision.proofs.discard.Tie as tie
 
-returns : tie.Need-returns
-unfolding discardWith
-returns c = search needs
-
 pub discard-spec : {M : Type 1} → statement M
-discard-spec = tie.close (tie.spec returns)
+unfolding discardWith
+discard-spec =
+    tie.close
+    (tie.spec
+    (λ c. search needs))

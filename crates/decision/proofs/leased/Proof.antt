@@ -6,27 +6,16 @@ use borrow.Author.Needs.{needs}
 use Rattle.decision.proofs.leased.Statement.{statement}
 use Rattle.decision.proofs.leased.Tie as tie
 
-returns : tie.Need-returns
-unfolding leasedOf
-returns c = search (picks, needs)
-
-returns-2 : tie.Need-returns-2
-unfolding leasedOf
-returns-2 c = search (picks, edited-as, needs)
-
-returns-3 : tie.Need-returns-3
-unfolding leasedOf
-returns-3 c = search (picks, edited-as, needs)
-
 pub leased-spec : {M : Type 1} → statement M
+unfolding leasedOf
 leased-spec =
     tie.close
     (tie.spec
     (λ c κs. search needs)
-    returns
+    (λ c. search (picks, needs))
     (λ c κs. search needs)
     (λ c κs. search needs)
-    returns-2
+    (λ c. search (picks, edited-as, needs))
     (λ c κs. search needs)
     (λ c κs. search needs)
-    returns-3)
+    (λ c. search (picks, edited-as, needs)))

@@ -5,19 +5,12 @@ use borrow.Author.Needs.{needs}
 use Rattle.decision.proofs.plain.Statement.{statement}
 use Rattle.decision.proofs.plain.Tie as tie
 
-returns : tie.Need-returns
-unfolding plainOf
-returns c = search (picks, needs)
-
-returns-2 : tie.Need-returns-2
-unfolding plainOf
-returns-2 c = search (picks, needs)
-
 pub plain-spec : {M : Type 1} → statement M
+unfolding plainOf
 plain-spec =
     tie.close
     (tie.spec
     (λ c κs. search (picks, needs))
-    returns
+    (λ c. search (picks, needs))
     (λ c κs. search (picks, needs))
-    returns-2)
+    (λ c. search (picks, needs)))

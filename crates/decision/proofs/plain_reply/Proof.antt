@@ -4,9 +4,9 @@ use borrow.Author.Needs.{needs}
 use Rattle.decision.proofs.plain_reply.Statement.{statement}
 use Rattle.decision.proofs.plain_reply.Tie as tie
 
-returns : tie.Need-returns
-unfolding plainReply
-returns c = search needs
-
 pub plain-reply-spec : {M : Type 1} → statement M
-plain-reply-spec = tie.close (tie.spec returns)
+unfolding plainReply
+plain-reply-spec =
+    tie.close
+    (tie.spec
+    (λ c. search needs))

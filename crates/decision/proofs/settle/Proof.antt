@@ -6,21 +6,14 @@ use borrow.Author.Needs.{needs}
 use Rattle.decision.proofs.settle.Statement.{statement}
 use Rattle.decision.proofs.settle.Tie as tie
 
-returns : tie.Need-returns
-unfolding settledOf
-returns c = search (calls, needs)
-
-returns-2 : tie.Need-returns-2
-unfolding settledOf
-returns-2 c = search (calls, leased-is, needs)
-
 pub settle-spec : {M : Type 1} → statement M
+unfolding settledOf
 settle-spec =
     tie.close
     (tie.spec
     (λ c κs. search (calls, needs))
     (λ c κs. search (calls, needs))
-    returns
+    (λ c. search (calls, needs))
     (λ c κs. search (calls, needs))
     (λ c κs. search needs)
-    returns-2)
+    (λ c. search (calls, leased-is, needs)))

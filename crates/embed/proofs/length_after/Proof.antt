@@ -5,13 +5,10 @@ use borrow.Author.Needs.{needs}
 use Rattle.embed.proofs.length_after.Statement.{statement}
 use Rattle.embed.proofs.length_after.Tie as tie
 
-returns : tie.Need-returns
-unfolding lengthAfter
-returns c = search (pick-eq, pick-not-eq, needs)
-
-returns-2 : tie.Need-returns-2
-unfolding lengthAfter
-returns-2 c = search (pick-eq, pick-not-eq, needs)
-
 pub length-after-spec : {M : Type 1} → statement M
-length-after-spec = tie.close (tie.spec returns returns-2)
+unfolding lengthAfter
+length-after-spec =
+    tie.close
+    (tie.spec
+    (λ c. search (pick-eq, pick-not-eq, needs))
+    (λ c. search (pick-eq, pick-not-eq, needs)))

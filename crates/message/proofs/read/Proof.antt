@@ -6,21 +6,14 @@ use borrow.Author.Needs.{needs}
 use Rattle.message.proofs.read.Statement.{statement}
 use Rattle.message.proofs.read.Tie as tie
 
-returns : tie.Need-returns
-unfolding readOf
-returns c = search (calls, walked-of, needs)
-
-returns-2 : tie.Need-returns-2
-unfolding readOf
-returns-2 c = search (calls, needs)
-
 pub read-spec : {M : Type 1} → statement M
+unfolding readOf
 read-spec =
     tie.close
     (tie.spec
     (λ c κs. search (calls, needs))
     (λ c κs. search (calls, eight-header, short-header, needs))
     (λ c κs. search (calls, long-header, short-header, needs))
-    returns
+    (λ c. search (calls, walked-of, needs))
     (λ c κs. search (calls, needs))
-    returns-2)
+    (λ c. search (calls, needs)))

@@ -4,11 +4,8 @@ use borrow.Author.Needs.{needs}
 use Rattle.octets.proofs.read_u16.Statement.{statement}
 use Rattle.octets.proofs.read_u16.Tie as tie
 
-returns : tie.Need-returns
-unfolding at16
-returns c = search needs
-
 pub read-u16-spec : {M : Type 1} → statement M
+unfolding at16
 read-u16-spec =
     tie.close
     (tie.spec
@@ -16,4 +13,4 @@ read-u16-spec =
     (λ c. search needs)
     (λ c. search needs)
     (λ c κs. search needs)
-    returns)
+    (λ c. search needs))

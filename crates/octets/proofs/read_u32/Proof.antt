@@ -4,11 +4,8 @@ use borrow.Author.Needs.{needs}
 use Rattle.octets.proofs.read_u32.Statement.{statement}
 use Rattle.octets.proofs.read_u32.Tie as tie
 
-returns : tie.Need-returns
-unfolding at32
-returns c = search needs
-
 pub read-u32-spec : {M : Type 1} → statement M
+unfolding at32
 read-u32-spec =
     tie.close
     (tie.spec
@@ -20,4 +17,4 @@ read-u32-spec =
     (λ c. search needs)
     (λ c. search needs)
     (λ c κs. search needs)
-    returns)
+    (λ c. search needs))

@@ -4,9 +4,9 @@ use borrow.Author.Needs.{needs}
 use Rattle.decision.proofs.proposals.fits_renewed.Statement.{statement}
 use Rattle.decision.proofs.proposals.fits_renewed.Tie as tie
 
-returns : tie.Need-returns
-unfolding fitsRenewed
-returns c = search needs
-
 pub fits-renewed-spec : {M : Type 1} → statement M
-fits-renewed-spec = tie.close (tie.spec returns)
+unfolding fitsRenewed
+fits-renewed-spec =
+    tie.close
+    (tie.spec
+    (λ c. search needs))

@@ -5,13 +5,10 @@ use borrow.Author.Needs.{needs}
 use Rattle.decision.proofs.tests.bad_counts.Statement.{statement}
 use Rattle.decision.proofs.tests.bad_counts.Tie as tie
 
-returns : tie.Need-returns
-unfolding badCounts
-returns c = search (ors, needs)
-
-returns-2 : tie.Need-returns-2
-unfolding badCounts
-returns-2 c = search (ors, needs)
-
 pub bad-counts-spec : {M : Type 1} → statement M
-bad-counts-spec = tie.close (tie.spec returns returns-2)
+unfolding badCounts
+bad-counts-spec =
+    tie.close
+    (tie.spec
+    (λ c. search (ors, needs))
+    (λ c. search (ors, needs)))

@@ -5,25 +5,14 @@ use borrow.Author.Needs.{needs}
 use Rattle.decision.proofs.tests.error_0.Statement.{statement}
 use Rattle.decision.proofs.tests.error_0.Tie as tie
 
-returns : tie.Need-returns
-unfolding error0Of
-returns c = search (ors, needs)
-
-returns-2 : tie.Need-returns-2
-unfolding error0Of
-returns-2 c = search (ors, needs)
-
-returns-3 : tie.Need-returns-3
-unfolding error0Of
-returns-3 c = search (ors, needs)
-
 pub error-0-spec : {M : Type 1} → statement M
+unfolding error0Of
 error-0-spec =
     tie.close
     (tie.spec
     (λ c. search (ors, needs))
     (λ c. search (ors, needs))
     (λ c. search (ors, needs))
-    returns
-    returns-2
-    returns-3)
+    (λ c. search (ors, needs))
+    (λ c. search (ors, needs))
+    (λ c. search (ors, needs)))

@@ -5,18 +5,11 @@ use borrow.Author.Needs.{needs}
 use Rattle.decision.proofs.tests.error_2.Statement.{statement}
 use Rattle.decision.proofs.tests.error_2.Tie as tie
 
-returns : tie.Need-returns
-unfolding error2Of
-returns c = search (and-true, and-false, needs)
-
-returns-2 : tie.Need-returns-2
-unfolding error2Of
-returns-2 c = search (and-true, and-false, needs)
-
 pub error-2-spec : {M : Type 1} → statement M
+unfolding error2Of
 error-2-spec =
     tie.close
     (tie.spec
     (λ c κs. search needs)
-    returns
-    returns-2)
+    (λ c. search (and-true, and-false, needs))
+    (λ c. search (and-true, and-false, needs)))

@@ -5,18 +5,11 @@ use borrow.Author.Needs.{needs}
 use Rattle.decision.proofs.tests.has_period.Statement.{statement}
 use Rattle.decision.proofs.tests.has_period.Tie as tie
 
-returns : tie.Need-returns
-unfolding hasPeriod
-returns c = search (joins, needs)
-
-returns-2 : tie.Need-returns-2
-unfolding hasPeriod
-returns-2 c = search (joins, needs)
-
 pub has-period-spec : {M : Type 1} → statement M
+unfolding hasPeriod
 has-period-spec =
     tie.close
     (tie.spec
     (λ c κs. search (joins, needs))
-    returns
-    returns-2)
+    (λ c. search (joins, needs))
+    (λ c. search (joins, needs)))

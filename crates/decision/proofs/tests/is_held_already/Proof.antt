@@ -5,18 +5,11 @@ use borrow.Author.Needs.{needs}
 use Rattle.decision.proofs.tests.is_held_already.Statement.{statement}
 use Rattle.decision.proofs.tests.is_held_already.Tie as tie
 
-returns : tie.Need-returns
-unfolding heldAlready
-returns c = search (joins, needs)
-
-returns-2 : tie.Need-returns-2
-unfolding heldAlready
-returns-2 c = search (joins, needs)
-
 pub is-held-already-spec : {M : Type 1} → statement M
+unfolding heldAlready
 is-held-already-spec =
     tie.close
     (tie.spec
     (λ c κs. search (joins, needs))
-    returns
-    returns-2)
+    (λ c. search (joins, needs))
+    (λ c. search (joins, needs)))

@@ -6,20 +6,13 @@ use borrow.Author.Needs.{needs}
 use Rattle.message.proofs.Message.allowed_at.Statement.{statement}
 use Rattle.message.proofs.Message.allowed_at.Tie as tie
 
-returns : tie.Need-returns
-unfolding allowedAt
-returns c = search (calls, allows-got, needs)
-
-returns-2 : tie.Need-returns-2
-unfolding allowedAt
-returns-2 c = search (calls, needs)
-
 pub allowed-at-spec : {M : Type 1} → statement M
+unfolding allowedAt
 allowed-at-spec =
     tie.close
     (tie.spec
     (λ c κs. search (calls, needs))
     (λ c κs. search needs)
     (λ c κs. search needs)
-    returns
-    returns-2)
+    (λ c. search (calls, allows-got, needs))
+    (λ c. search (calls, needs)))

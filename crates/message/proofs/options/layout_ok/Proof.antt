@@ -6,15 +6,8 @@ use borrow.Author.Needs.{needs}
 use Rattle.message.proofs.options.layout_ok.Statement.{statement}
 use Rattle.message.proofs.options.layout_ok.Tie as tie
 
-returns : tie.Need-returns
-unfolding layoutOk
-returns c = search (ands, after-got, needs)
-
-returns-2 : tie.Need-returns-2
-unfolding layoutOk
-returns-2 c = search (ands, needs)
-
 pub layout-ok-spec : {M : Type 1} → statement M
+unfolding layoutOk
 layout-ok-spec =
     tie.close
     (tie.spec
@@ -24,5 +17,5 @@ layout-ok-spec =
     (λ c. search (ands, after-got, needs))
     (λ c. search (ands, after-got, needs))
     (λ c. search (ands, after-got, needs))
-    returns
-    returns-2)
+    (λ c. search (ands, after-got, needs))
+    (λ c. search (ands, needs)))

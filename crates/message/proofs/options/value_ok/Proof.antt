@@ -7,19 +7,8 @@ use borrow.Author.Needs.{needs}
 use Rattle.message.proofs.options.value_ok.Statement.{statement}
 use Rattle.message.proofs.options.value_ok.Tie as tie
 
-returns : tie.Need-returns
-unfolding valueOk
-returns c = search (joins, gots, length-got, filled-got, needs)
-
-returns-2 : tie.Need-returns-2
-unfolding valueOk
-returns-2 c = search (joins, gots, length-got, needs)
-
-returns-3 : tie.Need-returns-3
-unfolding valueOk
-returns-3 c = search (joins, gots, length-got, needs)
-
 pub value-ok-spec : {M : Type 1} → statement M
+unfolding valueOk
 value-ok-spec =
     tie.close
     (tie.spec
@@ -33,6 +22,6 @@ value-ok-spec =
     (λ c. search (joins, gots, length-got, filled-got, needs))
     (λ c. search (joins, gots, length-got, filled-got, needs))
     (λ c κs. search (joins, gots, length-got, filled-got, needs))
-    returns
-    returns-2
-    returns-3)
+    (λ c. search (joins, gots, length-got, filled-got, needs))
+    (λ c. search (joins, gots, length-got, needs))
+    (λ c. search (joins, gots, length-got, needs)))

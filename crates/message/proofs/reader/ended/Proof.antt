@@ -6,19 +6,8 @@ use borrow.Author.Needs.{needs}
 use Rattle.message.proofs.reader.ended.Statement.{statement}
 use Rattle.message.proofs.reader.ended.Tie as tie
 
-returns : tie.Need-returns
-unfolding ended
-returns c = search (calls, picks, needs)
-
-returns-2 : tie.Need-returns-2
-unfolding ended
-returns-2 c = search (calls, picks, message-is, needs)
-
-returns-3 : tie.Need-returns-3
-unfolding ended
-returns-3 c = search (calls, picks, needs)
-
 pub ended-spec : {M : Type 1} → statement M
+unfolding ended
 ended-spec =
     tie.close
     (tie.spec
@@ -26,11 +15,11 @@ ended-spec =
     (λ c. search (calls, picks, needs))
     (λ c. search (calls, picks, needs))
     (λ c κs. search (calls, picks, needs))
-    returns
+    (λ c. search (calls, picks, needs))
     (λ c κs. search (calls, picks, needs))
     (λ c. search (calls, picks, message-is, needs))
     (λ c κs. search needs)
     (λ c κs. search (calls, picks, message-is, needs))
-    returns-2
+    (λ c. search (calls, picks, message-is, needs))
     (λ c κs. search (calls, picks, needs))
-    returns-3)
+    (λ c. search (calls, picks, needs)))

@@ -6,21 +6,14 @@ use borrow.Author.Needs.{needs}
 use Rattle.message.proofs.reader.none_required.Statement.{statement}
 use Rattle.message.proofs.reader.none_required.Tie as tie
 
-returns : tie.Need-returns
-unfolding noneRequired
-returns c = search (picks, needs)
-
-returns-2 : tie.Need-returns-2
-unfolding noneRequired
-returns-2 c = search (picks, needs)
-
 pub none-required-spec : {M : Type 1} → statement M
+unfolding noneRequired
 none-required-spec =
     tie.close
     (tie.spec
     (λ c. search (picks, needs))
     (λ c. search (picks, needs))
     (λ c. search (picks, needs))
-    returns
+    (λ c. search (picks, needs))
     (λ c κs. search (picks, features-fit, features-filled, needs))
-    returns-2)
+    (λ c. search (picks, needs)))

@@ -6,19 +6,8 @@ use borrow.Author.Needs.{needs}
 use Rattle.message.proofs.values.names_server.Statement.{statement}
 use Rattle.message.proofs.values.names_server.Tie as tie
 
-returns : tie.Need-returns
-unfolding namesServer
-returns c = search (and-gots, eqb-got, needs)
-
-returns-2 : tie.Need-returns-2
-unfolding namesServer
-returns-2 c = search (and-gots, needs)
-
-returns-3 : tie.Need-returns-3
-unfolding namesServer
-returns-3 c = search (and-gots, needs)
-
 pub names-server-spec : {M : Type 1} → statement M
+unfolding namesServer
 names-server-spec =
     tie.close
     (tie.spec
@@ -28,6 +17,6 @@ names-server-spec =
     (λ c κs. search (and-gots, eqb-got, needs))
     (λ c. search (and-gots, eqb-got, needs))
     (λ c κs. search (and-gots, eqb-got, needs))
-    returns
-    returns-2
-    returns-3)
+    (λ c. search (and-gots, eqb-got, needs))
+    (λ c. search (and-gots, needs))
+    (λ c. search (and-gots, needs)))

@@ -4,9 +4,9 @@ use borrow.Author.Needs.{needs}
 use Rattle.soundness.proofs.holdings.has_none.Statement.{statement}
 use Rattle.soundness.proofs.holdings.has_none.Tie as tie
 
-returns : tie.Need-returns
-unfolding noneH
-returns c = search needs
-
 pub has-none-spec : {M : Type 1} → statement M
-has-none-spec = tie.close (tie.spec returns)
+unfolding noneH
+has-none-spec =
+    tie.close
+    (tie.spec
+    (λ c. search needs))

@@ -5,19 +5,12 @@ use borrow.Author.Needs.{needs}
 use Rattle.soundness.proofs.leases.offsets_ok.Statement.{statement}
 use Rattle.soundness.proofs.leases.offsets_ok.Tie as tie
 
-returns : tie.Need-returns
-unfolding offsetsB
-returns c = search (calls, needs)
-
-returns-2 : tie.Need-returns-2
-unfolding offsetsB
-returns-2 c = search (calls, needs)
-
 pub offsets-ok-spec : {M : Type 1} → statement M
+unfolding offsetsB
 offsets-ok-spec =
     tie.close
     (tie.spec
     (λ c κs. search (calls, needs))
     (λ c κs. search (calls, needs))
-    returns
-    returns-2)
+    (λ c. search (calls, needs))
+    (λ c. search (calls, needs)))

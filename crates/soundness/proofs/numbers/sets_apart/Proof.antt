@@ -4,9 +4,9 @@ use borrow.Author.Needs.{needs}
 use Rattle.soundness.proofs.numbers.sets_apart.Statement.{statement}
 use Rattle.soundness.proofs.numbers.sets_apart.Tie as tie
 
-returns : tie.Need-returns
-unfolding disjoint
-returns c = search needs
-
 pub sets-apart-spec : {M : Type 1} → statement M
-sets-apart-spec = tie.close (tie.spec returns)
+unfolding disjoint
+sets-apart-spec =
+    tie.close
+    (tie.spec
+    (λ c. search needs))

@@ -6,18 +6,11 @@ use borrow.Author.Needs.{needs}
 use Rattle.soundness.proofs.settings.pool_ok.Statement.{statement}
 use Rattle.soundness.proofs.settings.pool_ok.Tie as tie
 
-returns : tie.Need-returns
-unfolding poolB
-returns c = search (ands, leb-left, needs)
-
-returns-2 : tie.Need-returns-2
-unfolding poolB
-returns-2 c = search (ands, needs)
-
 pub pool-ok-spec : {M : Type 1} → statement M
+unfolding poolB
 pool-ok-spec =
     tie.close
     (tie.spec
     (λ c κs. search (ands, needs))
-    returns
-    returns-2)
+    (λ c. search (ands, leb-left, needs))
+    (λ c. search (ands, needs)))

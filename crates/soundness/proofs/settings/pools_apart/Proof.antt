@@ -5,15 +5,8 @@ use borrow.Author.Needs.{needs}
 use Rattle.soundness.proofs.settings.pools_apart.Statement.{statement}
 use Rattle.soundness.proofs.settings.pools_apart.Tie as tie
 
-returns : tie.Need-returns
-unfolding poolsApart
-returns c = search (ors, needs)
-
-returns-2 : tie.Need-returns-2
-unfolding poolsApart
-returns-2 c = search (ors, needs)
-
 pub pools-apart-spec : {M : Type 1} → statement M
+unfolding poolsApart
 pools-apart-spec =
     tie.close
     (tie.spec
@@ -21,7 +14,7 @@ pools-apart-spec =
     (λ c. search (ors, needs))
     (λ c. search (ors, needs))
     (λ c. search (ors, needs))
-    returns
     (λ c. search (ors, needs))
     (λ c. search (ors, needs))
-    returns-2)
+    (λ c. search (ors, needs))
+    (λ c. search (ors, needs)))

@@ -4,9 +4,9 @@ use borrow.Author.Needs.{needs}
 use Rattle.soundness.proofs.settings.range_ok.Statement.{statement}
 use Rattle.soundness.proofs.settings.range_ok.Tie as tie
 
-returns : tie.Need-returns
-unfolding rangeB
-returns c = search needs
-
 pub range-ok-spec : {M : Type 1} → statement M
-range-ok-spec = tie.close (tie.spec returns)
+unfolding rangeB
+range-ok-spec =
+    tie.close
+    (tie.spec
+    (λ c. search needs))

@@ -5,19 +5,12 @@ use borrow.Author.Needs.{needs}
 use Rattle.soundness.proofs.settings.rule_3.Statement.{statement}
 use Rattle.soundness.proofs.settings.rule_3.Tie as tie
 
-returns : tie.Need-returns
-unfolding rule3
-returns c = search (joins, needs)
-
-returns-2 : tie.Need-returns-2
-unfolding rule3
-returns-2 c = search (joins, needs)
-
 pub rule-3-spec : {M : Type 1} → statement M
+unfolding rule3
 rule-3-spec =
     tie.close
     (tie.spec
     (λ c κs. search (joins, needs))
     (λ c κs. search (joins, needs))
-    returns
-    returns-2)
+    (λ c. search (joins, needs))
+    (λ c. search (joins, needs)))

@@ -5,11 +5,8 @@ use borrow.Author.Needs.{needs}
 use Rattle.soundness.proofs.settings.scope_rules.Statement.{statement}
 use Rattle.soundness.proofs.settings.scope_rules.Tie as tie
 
-returns : tie.Need-returns
-unfolding sizeB
-returns c = search (scope-is, needs)
-
 pub scope-rules-spec : {M : Type 1} → statement M
+unfolding sizeB
 scope-rules-spec =
     tie.close
     (tie.spec
@@ -17,4 +14,4 @@ scope-rules-spec =
     (λ c κs. search needs)
     (λ c κs. search (scope-is, needs))
     (λ c κs. search needs)
-    returns)
+    (λ c. search (scope-is, needs)))

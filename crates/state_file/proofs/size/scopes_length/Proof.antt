@@ -16,35 +16,24 @@ Inv-loop state n sum₀ i₀ sum i = SizeInv (λ i. length (scopeRow (state .«t
 abbrev μ-loop : tie.MeasureT-loop
 μ-loop state n sum₀ i₀ sum i = n - i
 
-loop-holds : tie.Need-loop-holds Inv-loop μ-loop
-unfolding scopeRow
-loop-holds c = search (sizes, needs)
-
-loop-less : tie.Need-loop-less Inv-loop μ-loop
-unfolding scopeRow
-loop-less c = search (sizes, needs)
-
-loop-again : tie.Need-loop-again Inv-loop μ-loop
-unfolding scopeRow
-loop-again c = search (sizes, needs)
-
 returns : tie.Need-returns Inv-loop μ-loop
 unfolding scopeRow
 returns c = let s = c .before .before .before .args .t1 in (row-sum (scopeRow (s .«tenant_count»)) noScope (s .scopes) 4 (s .«scope_count») _ _ (search (unmapped, needs)) (c .before .before .cut4 .ensures) (size-end (c .before .loop .inv) (search needs)), omega (arith, c .before .loop .inv .small, c .before .loop .inv .within, c .before .before .cut4 .ensures))
 
 pub scopes-length-spec : {M : Type 1} → statement M
+unfolding scopeRow
 scopes-length-spec =
     tie.close
     (tie.spec
     Inv-loop
     μ-loop
     (λ c κs. search (sizes, needs))
-    loop-holds
+    (λ c. search (sizes, needs))
     (λ c. search (sizes, needs))
     (λ c. search (sizes, needs))
     (λ c κs. search (sizes, needs))
     (λ c. search (sizes, needs))
     (λ c. search (sizes, needs))
-    loop-less
-    loop-again
+    (λ c. search (sizes, needs))
+    (λ c. search (sizes, needs))
     returns)

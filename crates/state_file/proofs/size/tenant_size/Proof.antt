@@ -16,35 +16,24 @@ Inv-loop t n sum₀ i₀ sum i = SizeInv (λ i. length (leaseOctets 0 i (getD (t
 abbrev μ-loop : tie.MeasureT-loop
 μ-loop t n sum₀ i₀ sum i = n - i
 
-loop-holds : tie.Need-loop-holds Inv-loop μ-loop
-unfolding leaseOctets
-loop-holds c = search (sizes, needs)
-
-loop-less : tie.Need-loop-less Inv-loop μ-loop
-unfolding leaseOctets
-loop-less c = search (sizes, needs)
-
-loop-again : tie.Need-loop-again Inv-loop μ-loop
-unfolding leaseOctets
-loop-again c = search (sizes, needs)
-
 returns : tie.Need-returns Inv-loop μ-loop
 unfolding leaseOctets
 returns c = (row-sum (leaseOctets 0) noLease (c .before .before .before .args .t1 .leases) 16 (c .before .before .before .args .t1 .count) _ _ (search (unmapped, needs)) (c .before .before .cut16 .ensures) (size-end (c .before .loop .inv) (search needs)), omega (arith, c .before .loop .inv .small, c .before .loop .inv .within, c .before .before .cut16 .ensures))
 
 pub tenant-size-spec : {M : Type 1} → statement M
+unfolding leaseOctets
 tenant-size-spec =
     tie.close
     (tie.spec
     Inv-loop
     μ-loop
     (λ c κs. search (sizes, needs))
-    loop-holds
+    (λ c. search (sizes, needs))
     (λ c. search (sizes, needs))
     (λ c. search (sizes, needs))
     (λ c κs. search (sizes, needs))
     (λ c. search (sizes, needs))
     (λ c. search (sizes, needs))
-    loop-less
-    loop-again
+    (λ c. search (sizes, needs))
+    (λ c. search (sizes, needs))
     returns)

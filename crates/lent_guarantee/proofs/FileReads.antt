@@ -1,0 +1,96 @@
+-- Laws: an accepted file's leases have addresses within 64 bits, calls keep them so, and so every reply is read back.
+use Prim.Native.Nat.{ℕ, zero, suc, _<_, _^_}
+use mathlib.Core.Path.{_≡_, refl, sym, ap, _∙_, subst}
+use mathlib.Core.Bool.{Bool, true, false}
+use mathlib.Core.List.{List, [], _∷_, map}
+use lib.Dec.{ltb}
+use lib.ListN.{getD, replicate}
+use borrow.Author.Tests.{ltb-true}
+use Rattle.lists.specs.Pick.{pick}
+use Rattle.lists.specs.All.{All}
+use Rattle.lists.specs.Filter.{filterBy}
+use Rattle.address_set.specs.AddressSet.{readOffsets}
+use Rattle.address_set.specs.laws.Offsets.{setOf-small}
+use Rattle.message.specs.laws.Placed.{pick-cases}
+use Rattle.state.specs.declared.Lease.{Lease}
+use Rattle.state.specs.declared.LeaseTable.{LeaseTable}
+use Rattle.state.specs.declared.State.{State}
+use Rattle.state.specs.Book.{tableOf}
+use Rattle.state.specs.laws.Layout.{table-back}
+use Rattle.decision.specs.laws.Kept.{own-is}
+use Rattle.decision.specs.Parts.{ownOf}
+use Rattle.guarantee.specs.Statement.{Narrow, StaysNarrow}
+use Rattle.guarantee.proofs.Bounded.{stays-narrow}
+use Rattle.state_file.specs.declared.Loaded.{Loaded}
+use Rattle.state_file.specs.File.{File, FileLease, fileOf}
+use Rattle.state_file.specs.Format.{Got, bad, got}
+use Rattle.state_file.specs.Records.{fitsB, ofTenant, stored, storedTable, tenantsFrom}
+use Rattle.state_file.specs.StateFile.{accepted, loadedGot, judged, loaded, readFile, refused, zeroTable}
+use Rattle.records.specs.laws.Files.{file-back}
+use Rattle.records.specs.Lent.{LentReading, readLent}
+use Rattle.records.specs.Records.{tableFrom}
+use Rattle.lent_guarantee.specs.Statement.{FileReads, LentDemand1, afterFile, bookOf, runLent}
+use Rattle.lent_guarantee.proofs.Guaranteed.{lent-demand1, run-lent}
+use Rattle.lent_guarantee.proofs.RoundTrip.{read-whole}
+use Rattle.lent_guarantee.proofs.Written.{file-sound}
+
+abbrev F : Lease → Type 0
+F l = l .addresses < 2 ^ 64
+
+-- ---- a file's leases: octets that are no offsets add nothing
+below : (l : List ℕ) → All (λ a. a < 64) (filterBy (λ a. ltb a 64) l)
+unfolding All filterBy pick
+below [] = tt
+below (x ∷ l) = go (ltb x 64) refl (below l)
+  where
+    go : (b : Bool) → ltb x 64 ≡ b → All (λ a. a < 64) (filterBy (λ a. ltb a 64) l) → All (λ a. a < 64) (pick b (x ∷ filterBy (λ a. ltb a 64) l) (filterBy (λ a. ltb a 64) l))
+    go true e r = (ltb-true x 64 e, r)
+    go false e r = r
+
+all-stored : (xs : List FileLease) → All F (map stored xs)
+unfolding All stored readOffsets
+all-stored [] = tt
+all-stored (x ∷ xs) = (setOf-small 64 (filterBy (λ a. ltb a 64) (x .offsets)) (below (x .offsets)), all-stored xs)
+
+each-tenant : (t n : ℕ) (xs : List FileLease) (g : ℕ) → All F (getD (tenantsFrom t n xs) g [])
+unfolding All tenantsFrom
+each-tenant t zero xs g = tt
+each-tenant t (suc n) xs zero = all-stored (ofTenant t xs)
+each-tenant t (suc n) xs (suc g) = each-tenant (suc t) n xs g
+
+of-lists : (ll : List (List Lease)) (g : ℕ) → All F (getD ll g []) → All F (ownOf (tableOf ll) g)
+of-lists ll g h = subst (All F) (sym (own-is (tableOf ll) g ∙ ap (λ (l : List (List Lease)). getD l g []) (table-back ll))) h
+
+none : (n g : ℕ) → All F (getD (replicate n []) g [])
+unfolding All
+none zero g = tt
+none (suc n) zero = tt
+none (suc n) (suc g) = none n g
+
+read-narrow : (f : List ℕ) (g : ℕ) → All F (ownOf (readFile f .table) g)
+unfolding readFile loadedGot loaded judged accepted refused storedTable zeroTable
+read-narrow f g = go (fileOf f)
+  where
+    P : Loaded → Type 0
+    P r = All F (ownOf (r .table) g)
+
+    zeros : All F (ownOf (tableOf (replicate 8 [])) g)
+    zeros = of-lists (replicate 8 []) g (none 8 g)
+
+    go : (x : Got File) → P (loadedGot x)
+    go bad = zeros
+    go (got x r) = pick-cases P (fitsB x) _ _ (λ _. pick-cases P _ _ _ (λ _. of-lists (tenantsFrom 1 8 (x .leases)) g (each-tenant 1 8 (x .leases) g)) (λ _. zeros)) (λ _. zeros)
+
+-- ---- read into lent records, and after any calls
+file-narrow : (f : List ℕ) (s : State) (ls : List Lease) → readLent f s ls .refusal ≡ 0 → Narrow (bookOf (afterFile f s ls))
+unfolding Narrow
+file-narrow f s ls e g =
+    let r = read-whole f s ls e in
+    subst (λ (t : LeaseTable). All F (ownOf t g)) (sym (ap (λ (x : LentReading). tableFrom (x .leases)) (r .1) ∙ file-back f (r .0))) (read-narrow f g)
+
+pub file-reads : FileReads
+unfolding FileReads StaysNarrow LentDemand1
+file-reads f s ls cs c e =
+    let v = run-lent (afterFile f s ls) cs (file-sound f s ls e) in
+    lent-demand1 (runLent (afterFile f s ls) cs .state) (runLent (afterFile f s ls) cs .leases) c .reads
+    (subst Narrow (sym (v .1)) (stays-narrow (bookOf (afterFile f s ls)) (file-narrow f s ls e) cs))

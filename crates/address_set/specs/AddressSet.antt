@@ -100,8 +100,7 @@ firstRange (r ∷ rs) = r
 unfoldable pub behind : ℕ → Range → ℕ
 behind m r = setOf (filterBy (λ a. leb (r .first + r .count) a) (offsets m))
 
--- ---- bit forms, which proofs calculate with
-
+-- ---- rising lists
 -- each is at least m, and each above the one before it
 unfoldable pub risesFrom : ℕ → List ℕ → Bool
 risesFrom m [] = true

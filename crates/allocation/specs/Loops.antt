@@ -1,4 +1,4 @@
--- Definitions: what the loops of the grant gather: the sets taken and busy, the loads of the other tenants, the numbers of the rule.
+-- Definitions: what the loops of the grant gather: the sets taken and busy, what the other tenants have committed, the numbers of the rule.
 use Prim.Native.Nat.{ℕ}
 use mathlib.Core.Path.{_≡_}
 use mathlib.Core.List.{List}

@@ -1,4 +1,4 @@
-// Small functions on numbers, each written once for all crates: the smaller and the larger of two, a difference that stops at 0, an octet in a
+// Small functions on numbers that several crates use: the smaller and the larger of two, a difference that stops at 0, an octet in a
 // wider type, and a stored count cut to what its array holds, so that a loop over it never leaves the array.
 ghost use mathlib.Core.Path.{_≡_};
 ghost use Prim.Native.Nat.{_-_, max, min};

@@ -182,7 +182,7 @@ unfoldable pub Demand3 : Type 0
 Demand3 = (b : Book) → SoundBook b → (cs : List Call) → AfterList (run b cs)
 
 -- ---- demand 1
--- octets that are an OFFER, an ACK or a NAK, header and End at least, and fit any room that is not too short
+-- octets with the type of an OFFER, an ACK or a NAK, header and End at least, that fit any room that is not too short
 pub record IsReply (r : List ℕ) : Type 0 where
   pub some : 12 ≤ length r
   pub short : length r ≤ leastRoom
@@ -208,7 +208,7 @@ replies =
     ∷ (6 ∷ 2 ∷ 3 ∷ 16 ∷ [])
     ∷ []
 
--- read back as one of them
+-- read back as one of them: what the reader of options finds (that test 4 refuses a server's types is of no matter here). The values are those of `serveOf`
 pub record ReadAs (r : List ℕ) : Type 0 where
   -- the reader's walk over its options, each of a right length and none twice, comes to End in its last four octets
   pub whole : walkOf r .stage ≡ Done

@@ -1,5 +1,5 @@
--- Statement: the guarantee of `guarantee`, in words that speak of the lent state and the lent lease records. `serveLent` is what `lent::serve` is proved
--- to meet.
+-- Statement: the guarantee of `guarantee`, in words that speak of the lent state and the lent lease records, and the round trips of the file read into them
+-- and written of them. `serveLent` is what `lent::serve` is proved to meet.
 use Prim.Native.Nat.{ℕ, _≤_}
 use mathlib.Core.Path.{_≡_}
 use mathlib.Core.Bool.{true}

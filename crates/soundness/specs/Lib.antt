@@ -1,3 +1,4 @@
 pub mod Sound
 pub mod Parts
+pub mod Across
 pub mod laws

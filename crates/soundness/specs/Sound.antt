@@ -140,7 +140,7 @@ apart a b = apartIn 1 a b && (apartIn 2 a b && (apartIn 3 a b && apartIn 4 a b))
 unfoldable pub rule9 : LeaseTable → Bool
 rule9 t = pairsBy apart (leasesOf t)
 
--- ---- 10. leases on one address don't overlap; by rule 9 they are of one house, so that it holds of all leases (`sound-compatible`)
+-- ---- 10. leases on one address don't overlap; by rule 9 they are of one house, so that it holds of all leases (`sound-compatible` in laws/Across.antt)
 -- two leases of one scope whose periods overlap have no address in common
 unfoldable pub compatible : Lease → Lease → Bool
 compatible a b = pick (inScope (b .scope) a) (pick (overlaps (b .start) (b .end) a) (disjoint (a .addresses) (b .addresses)) true) true

@@ -3,3 +3,4 @@ pub mod Book
 pub mod Kept
 pub mod Added
 pub mod Facts
+pub mod Across

@@ -57,7 +57,7 @@ differ a b = not (sameOf (idOf a) (idOf b))
 unfoldable pub byIdentifier : Lease → Lease → Bool
 byIdentifier a b = eqb (orderOf (idOf a) (idOf b)) 0
 
--- records rise: the first comes before the second. Nothing else says how records are ordered; that it decides is `rising` in Sorted.antt
+-- records rise: the first comes before the second. Nothing else says how records are ordered; that it decides is `rising` in laws/Sorted.antt
 abbrev pub ordered : Lease → Lease → Bool
 ordered = byIdentifier
 
@@ -186,7 +186,7 @@ committed c held g = max (held g) (reserveAt c g)
 abbrev pub committedSum : Scope → ℕ → (ℕ → ℕ) → ℕ
 committedSum c n held = sumTo (committed c held) n
 
--- ---- one turn of the loops below
+-- ---- what stands for a tenant that is not there, and one turn of the loops that insert and remove
 
 abbrev pub noLeases : TenantLeases
 noLeases = record { leases = []; count = 0 }

@@ -1,4 +1,4 @@
-//! The C header and the crate name the same numbers.
+//! The C header and the crate name the same numbers and functions.
 
 use banshorra_host::{Discard, Outcome, Refusal};
 use banshorra_host::{ANSWER_ROOM, BOARD_ROOM, FILE_ROOM, REPLY_ROOM};

@@ -1,4 +1,4 @@
-//! An independent second MADCAP server library, written from documents 01 and 002 only
+//! An independent second MADCAP server library, written from document 01 and the MADCAP draft only
 //! (with the project's readings where document 01 is open), and used for comparison.
 //! It is plain and slow on purpose: where the rules speak of addresses one by one, so does the code.
 

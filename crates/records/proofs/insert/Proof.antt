@@ -12,7 +12,7 @@ insert-spec =
     (λ c κs. search needs)
     (λ c κs. search needs)
     (λ c κs. search needs)
-    (λ c κs. search (insert-in, insert-full, insert-none, insert-out, unmapped, needs))
+    (λ c κs. search needs)
     (λ c κs. search needs)
     (λ c κs. search needs)
     (λ c. search (insert-in, needs))

@@ -9,5 +9,5 @@ new-lease-spec =
     tie.close
     (tie.spec
     (λ c κs. search needs)
-    (λ c κs. search (new-is, needs))
+    (λ c κs. search needs)
     (λ c. search (new-is, needs)))

@@ -1,4 +1,5 @@
 pub mod Sound
 pub mod Parts
 pub mod Across
+pub mod View
 pub mod laws

@@ -55,13 +55,13 @@ struct LeaseRules {
 }
 
 // The rules that go tenant by tenant.
-struct TenantRules {
-    records: bool,
-    offsets: bool,
-    leases: bool,
-    identifiers: bool,
-    periods: bool,
-    layout: bool,
+pub struct TenantRules {
+    pub records: bool,
+    pub offsets: bool,
+    pub leases: bool,
+    pub identifiers: bool,
+    pub periods: bool,
+    pub layout: bool,
 }
 
 // The rules on the settings alone.
@@ -83,18 +83,18 @@ struct HoldingRules {
 }
 
 // A tenant's addresses, scope by scope, and its number of records.
-struct Held {
-    sets: [u64; 4],
-    count: usize,
+pub struct Held {
+    pub sets: [u64; 4],
+    pub count: usize,
 }
 
-struct HeldTable {
-    tenants: [Held; 8],
+pub struct HeldTable {
+    pub tenants: [Held; 8],
 }
 
-struct TableRules {
-    rules: TenantRules,
-    held: HeldTable,
+pub struct TableRules {
+    pub rules: TenantRules,
+    pub held: HeldTable,
 }
 
 // One pass over the tenants, so that a table is copied once.

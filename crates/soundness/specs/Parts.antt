@@ -1,11 +1,11 @@
 -- Definitions: the rules as the code gathers them: scope by scope, tenant by tenant, and from the address sets of all tenants.
-use Prim.Native.Nat.{ℕ}
-use mathlib.Core.Bool.{Bool, _&&_}
+use Prim.Native.Nat.{ℕ, min}
+use mathlib.Core.Bool.{Bool, true, _&&_}
 use mathlib.Core.List.{List, [], _∷_, map}
 use lib.Dec.{leb, eqb}
-use lib.ListN.{length, drop, getD}
+use lib.ListN.{length, drop, getD, replicate, set}
 use Rattle.lists.specs.All.{allBy, pairsBy, allTo}
-use Rattle.address_set.specs.AddressSet.{offsets}
+use Rattle.address_set.specs.AddressSet.{offsets, setOf, upTo}
 use Rattle.state.specs.declared.Lease.{Lease}
 use Rattle.state.specs.declared.TenantLeases.{TenantLeases}
 use Rattle.state.specs.declared.LeaseTable.{LeaseTable}
@@ -21,7 +21,7 @@ use Rattle.soundness.specs.declared.SettingsRules.{SettingsRules}
 use Rattle.soundness.specs.declared.HoldingRules.{HoldingRules}
 use Rattle.soundness.specs.declared.Held.{Held}
 use Rattle.soundness.specs.declared.HeldTable.{HeldTable}
-use Rattle.soundness.specs.Sound.{tenantsIn, scopesIn, sizeB, countsB, idB, recordsB, offsetsB, rule3, poolB, rule4, ttlB, rule5, reservesB, rule6, leaseB, disjoint, compatible, layoutB, paddedB, tailB, settingsB}
+use Rattle.soundness.specs.Sound.{tenantsIn, scopesIn, sizeB, countsB, idB, recordsB, offsetsB, rule3, poolB, rule4, ttlB, rule5, reservesB, rule6, leaseB, disjoint, compatible, layoutB, paddedB, tailB, settingsB, firstBroken}
 
 -- ---- scopes
 unfoldable pub scopeRulesOf : ℕ → Scope → ScopeRules
@@ -76,10 +76,19 @@ bothTenants a x = record {
 
 -- ---- address sets
 abbrev pub noHeld : Held
-noHeld = record { sets = []; count = 0 }
+noHeld = record { sets = []; count = 0; «first_end» = 0 }
+
+-- the earliest end; of no lease, the largest that an end can be
+unfoldable pub firstEnd : List Lease → ℕ
+firstEnd [] = 4294967295
+firstEnd (l ∷ ls) = min (l .end) (firstEnd ls)
 
 unfoldable pub heldSets : TenantLeases → Held
-heldSets t = record { sets = heldOf 1 (inUse t) ∷ heldOf 2 (inUse t) ∷ heldOf 3 (inUse t) ∷ heldOf 4 (inUse t) ∷ []; count = t .count }
+heldSets t = record {
+  sets = heldOf 1 (inUse t) ∷ heldOf 2 (inUse t) ∷ heldOf 3 (inUse t) ∷ heldOf 4 (inUse t) ∷ [];
+  count = t .count;
+  «first_end» = firstEnd (inUse t);
+}
 
 unfoldable pub holdingsOf : LeaseTable → HeldTable
 holdingsOf b = record { tenants = map heldSets (b .tenants) }
@@ -92,6 +101,7 @@ unfoldable pub addedSets : Held → Lease → Held
 addedSets h l = record {
   sets = addedIf (inScope 1) (setAt h 0) l ∷ addedIf (inScope 2) (setAt h 1) l ∷ addedIf (inScope 3) (setAt h 2) l ∷ addedIf (inScope 4) (setAt h 3) l ∷ [];
   count = h .count;
+  «first_end» = min (h .«first_end») (l .end);
 }
 
 unfoldable pub apartSets : Held → Held → Bool
@@ -128,6 +138,28 @@ holdingRulesIn s h = record {
 unfoldable pub tableRulesOf : State → LeaseTable → TableRules
 tableRulesOf s t = record { rules = tenantsAll s t; held = holdingsOf t }
 
+-- ---- the same gathered tenant by tenant
+abbrev pub poolIn : State → ℕ → ℕ
+poolIn s k = setOf (upTo (min (scopeAt s k .size) 64))
+
+-- each scope's whole pool as a set
+unfoldable pub poolsOf : State → List ℕ
+poolsOf s = poolIn s 0 ∷ poolIn s 1 ∷ poolIn s 2 ∷ poolIn s 3 ∷ []
+
+-- of no tenant
+abbrev pub noRules : TenantRules
+noRules = record { records = true; offsets = true; leases = true; identifiers = true; periods = true; layout = true }
+
+abbrev pub noSets : List Held
+noSets = replicate 8 (record { sets = replicate 4 0; count = 0; «first_end» = 4294967295 })
+
+unfoldable pub noTenants : TableRules
+noTenants = record { rules = noRules; held = record { tenants = noSets } }
+
+-- with tenant i, counted from 0
+unfoldable pub addedTenant : State → TableRules → ℕ → TenantLeases → TableRules
+addedTenant s c i t = record { rules = bothTenants (c .rules) (tenantRulesOf s t); held = record { tenants = set (c .held .tenants) i (heldSets t) } }
+
 unfoldable pub joinedRules : SettingsRules → TenantRules → HoldingRules → Rules
 joinedRules a b c = record {
   limits = a .counts && b .records;
@@ -144,3 +176,10 @@ joinedRules a b c = record {
   commitments = c .commitments;
   layout = a .unused && b .layout;
 }
+
+-- all rules, and whether a book is sound, from the rules of its tenants and what they hold
+unfoldable pub rulesFrom : State → TableRules → Rules
+rulesFrom s c = joinedRules (settingsRulesOf s) (c .rules) (holdingRulesIn s (c .held))
+
+unfoldable pub soundFrom : State → TableRules → Bool
+soundFrom s c = eqb (firstBroken (rulesFrom s c)) 0

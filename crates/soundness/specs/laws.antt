@@ -1,4 +1,5 @@
 pub mod Code
+pub mod Survey
 pub mod Book
 pub mod Kept
 pub mod Added

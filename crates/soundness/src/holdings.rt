@@ -4,7 +4,7 @@ ghost use Prim.Native.Nat.{_<_, _≤_};
 ghost use lib.ListN.{drop};
 ghost use Rattle.lists.specs.All.{allBy, pairsBy, allTo};
 ghost use Rattle.state.specs.Book.{committed, committedSum};
-ghost use Rattle.soundness.specs.Parts.{heldSets, addedSets, apartSets, countIn, limitIn, limitsIn, committedIn, noneH, holdingRulesIn};
+ghost use Rattle.soundness.specs.Parts.{addedSets, apartSets, countIn, limitIn, limitsIn, committedIn, noneH, holdingRulesIn};
 use crate::Held;
 use crate::HeldTable;
 use crate::HoldingRules;
@@ -13,9 +13,8 @@ use crate::numbers::sets_apart;
 use state::Lease;
 use state::Scope;
 use state::State;
-use state::TenantLeases;
 
-fn add_sets(h: Held, l: Lease) -> Held
+pub fn add_sets(h: Held, l: Lease) -> Held
     ensures { λ r. ⌜ r ≡ addedSets h l ⌝ }
 {
     let a = state::add_held(h.sets[0], l, 1);
@@ -25,24 +24,8 @@ fn add_sets(h: Held, l: Lease) -> Held
     Held {
         sets: [a, b, c, d],
         count: h.count,
+        first_end: arithmetic::smaller(h.first_end, l.end),
     }
-}
-
-pub fn held_sets(t: TenantLeases) -> Held
-    ensures { λ r. ⌜ r ≡ heldSets t ⌝ }
-{
-    let mut now = Held {
-        sets: [0u64; 4],
-        count: t.count,
-    };
-    let n = state::cut16(t.count);
-    let mut i: usize = 0;
-    while i < n {
-        let l = t.leases[i];
-        now = add_sets(now, l);
-        i += 1;
-    }
-    now
 }
 
 fn held_apart(a: Held, b: Held) -> bool

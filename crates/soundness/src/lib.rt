@@ -7,8 +7,9 @@ mod tenants;
 
 ghost use mathlib.Core.Path.{_≡_};
 ghost use Rattle.soundness.specs.Sound.{rulesOf, firstLate, firstBroken, brokenOf, soundB, unusedB};
-ghost use Rattle.soundness.specs.Parts.{tableRulesOf, joinedRules};
-use crate::holdings::held_sets;
+ghost use Prim.Native.Nat.{_<_};
+ghost use Rattle.soundness.specs.Parts.{heldSets, tableRulesOf, joinedRules, noTenants, poolIn, poolsOf, addedTenant, rulesFrom, soundFrom};
+use crate::holdings::add_sets;
 use crate::holdings::holding_rules;
 use crate::numbers::both;
 use crate::settings::settings_rules;
@@ -18,6 +19,7 @@ use crate::tenants::tenant_rules;
 use state::Lease;
 use state::LeaseTable;
 use state::State;
+use state::TenantLeases;
 
 // Document 01's rules 1 to 12 and the layout, each true where it holds. Of `offsets` a lease in an unknown scope is left to `leases`; of
 // `periods` two tenants on one address are left to `owners`.
@@ -82,10 +84,11 @@ struct HoldingRules {
     commitments: bool,
 }
 
-// A tenant's addresses, scope by scope, and its number of records.
+// A tenant's addresses, scope by scope, its number of records, and the earliest end of its leases: 4,294,967,295 where it has none.
 pub struct Held {
     pub sets: [u64; 4],
     pub count: usize,
+    pub first_end: u32,
 }
 
 pub struct HeldTable {
@@ -97,16 +100,36 @@ pub struct TableRules {
     pub held: HeldTable,
 }
 
-// One pass over the tenants, so that a table is copied once.
-fn table_rules(s: State, table: LeaseTable) -> TableRules
-    ensures { λ r. ⌜ r ≡ tableRulesOf s table ⌝ }
+// What a tenant holds.
+pub fn held_sets(t: TenantLeases) -> Held
+    ensures { λ r. ⌜ r ≡ heldSets t ⌝ }
+{
+    let mut now = Held {
+        sets: [0u64; 4],
+        count: t.count,
+        first_end: 4294967295,
+    };
+    let n = state::cut16(t.count);
+    let mut i: usize = 0;
+    while i < n {
+        let l = t.leases[i];
+        now = add_sets(now, l);
+        i += 1;
+    }
+    now
+}
+
+// The rules of no tenant.
+pub fn no_tenants() -> TableRules
+    ensures { λ r. ⌜ r ≡ noTenants ⌝ }
 {
     let none = Held {
         sets: [0u64; 4],
         count: 0,
+        first_end: 4294967295,
     };
-    let mut held = HeldTable { tenants: [none; 8] };
-    let mut all = TenantRules {
+    let held = HeldTable { tenants: [none; 8] };
+    let all = TenantRules {
         records: true,
         offsets: true,
         leases: true,
@@ -114,19 +137,60 @@ fn table_rules(s: State, table: LeaseTable) -> TableRules
         periods: true,
         layout: true,
     };
-    let mut i: usize = 0;
-    while i < 8 {
-        let t = table.tenants[i];
-        let x = tenant_rules(s, t);
-        let h = held_sets(t);
-        all = and_tenants(all, x);
-        held.tenants[i] = h;
-        i += 1;
-    }
     TableRules {
         rules: all,
         held: held,
     }
+}
+
+fn pool_of(s: State, k: usize) -> u64
+    ensures { λ r. ⌜ r ≡ poolIn s k ⌝ }
+{
+    let c = state::scope_at(s, k);
+    address_set::first_n(c.size)
+}
+
+// Each scope's whole pool as a set.
+pub fn pools_of(s: State) -> [u64; 4]
+    ensures { λ r. ⌜ r ≡ poolsOf s ⌝ }
+{
+    let a = pool_of(s, 0);
+    let b = pool_of(s, 1);
+    let c = pool_of(s, 2);
+    let d = pool_of(s, 3);
+    [a, b, c, d]
+}
+
+// The rules with one tenant more, counted from 0.
+pub fn add_tenant(s: State, pools: [u64; 4], c: TableRules, i: usize, t: TenantLeases) -> TableRules
+    requires { ⌜ (pools ≡ poolsOf s) × (i < 8) ⌝ }
+    ensures { λ r. ⌜ r ≡ addedTenant s c i t ⌝ }
+{
+    let x = tenant_rules(s, t);
+    let h = held_sets(t);
+    let a = c.rules;
+    let both = and_tenants(a, x);
+    let mut held = c.held;
+    held.tenants[i] = h;
+    TableRules {
+        rules: both,
+        held: held,
+    }
+}
+
+// One pass over the tenants.
+fn table_rules(s: State, table: LeaseTable) -> TableRules
+    ensures { λ r. ⌜ r ≡ tableRulesOf s table ⌝ }
+{
+    let pools = pools_of(s);
+    let mut all = no_tenants();
+    let mut i: usize = 0;
+    while i < 8 {
+        let t = table.tenants[i];
+        all = add_tenant(s, pools, all, i, t);
+        i += 1;
+    }
+    all
 }
 
 fn join_rules(a: SettingsRules, b: TenantRules, c: HoldingRules) -> Rules
@@ -152,16 +216,23 @@ fn join_rules(a: SettingsRules, b: TenantRules, c: HoldingRules) -> Rules
     }
 }
 
+// All rules, from those of the tenants.
+fn rules_from(s: State, c: TableRules) -> Rules
+    ensures { λ r. ⌜ r ≡ rulesFrom s c ⌝ }
+{
+    let a = settings_rules(s);
+    let t = c.rules;
+    let h = c.held;
+    let x = holding_rules(s, h);
+    join_rules(a, t, x)
+}
+
 // Which rules a book keeps.
 pub fn check_rules(s: State, table: LeaseTable) -> Rules
     ensures { λ r. ⌜ r ≡ rulesOf s table ⌝ }
 {
-    let a = settings_rules(s);
-    let b = table_rules(s, table);
-    let t = b.rules;
-    let h = b.held;
-    let c = holding_rules(s, h);
-    join_rules(a, t, c)
+    let c = table_rules(s, table);
+    rules_from(s, c)
 }
 
 fn first_late(r: Rules) -> u8
@@ -229,6 +300,14 @@ pub fn sound(s: State, table: LeaseTable) -> bool
     ensures { λ r. ⌜ r ≡ soundB s table ⌝ }
 {
     broken(s, table) == 0
+}
+
+// Whether a book is sound, from the rules of its tenants.
+pub fn sound_from(s: State, c: TableRules) -> bool
+    ensures { λ r. ⌜ r ≡ soundFrom s c ⌝ }
+{
+    let r = rules_from(s, c);
+    first_broken(r) == 0
 }
 
 // Whether a record is all zero, as an unused one has to be.

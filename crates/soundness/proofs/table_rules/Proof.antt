@@ -1,19 +1,16 @@
--- `table_rules` meets its contract: by folds, tenants-are, tenant-and, eachs, table-is.
+-- `table_rules` meets its contract: a loop over the tenants.
 use Prim.Native.Nat.{_-_}
-use Rattle.lists.specs.laws.Each.{BuildInv, eachs}
-use Rattle.lists.specs.laws.Fold.{FoldInv, folds}
-use Rattle.soundness.specs.laws.Code.{table-is, tenant-and, tenants-are, andTenants}
-use Rattle.soundness.specs.Parts.{heldSets, tenantsAll}
-use Rattle.state.specs.Book.{noLeases}
+use Rattle.lists.specs.laws.Part.{unmapped}
+use Rattle.soundness.specs.laws.Survey.{SurveyInv, surveys}
 use borrow.Author.Needs.{needs}
 use Rattle.soundness.proofs.table_rules.Statement.{statement}
 use Rattle.soundness.proofs.table_rules.Tie as tie
 
 abbrev Inv-loop : tie.InvT-loop
-Inv-loop s table held₀ all₀ i₀ held all i = FoldInv (andTenants s) noLeases (table .tenants) 8 (tenantsAll s table) all i × BuildInv heldSets noLeases (table .tenants) (held₀ .tenants) 8 (held .tenants) i
+Inv-loop s table pools all₀ i₀ all i = SurveyInv s table all i
 
 abbrev μ-loop : tie.MeasureT-loop
-μ-loop s table held₀ all₀ i₀ held all i = 8 - i
+μ-loop s table pools all₀ i₀ all i = 8 - i
 
 pub table-rules-spec : {M : Type 1} → statement M
 table-rules-spec =
@@ -21,15 +18,13 @@ table-rules-spec =
     (tie.spec
     Inv-loop
     μ-loop
-    (λ c. search (folds, tenants-are, eachs, needs))
-    (λ c. search (folds, tenants-are, tenant-and, eachs, table-is, needs))
-    (λ c. search (folds, tenants-are, tenant-and, eachs, table-is, needs))
-    (λ c κs. search (folds, eachs, needs))
-    (λ c κs. search (folds, eachs, needs))
-    (λ c κs. search (folds, eachs, needs))
-    (λ c. search (folds, tenants-are, tenant-and, eachs, table-is, needs))
-    (λ c. search (folds, tenants-are, tenant-and, eachs, table-is, needs))
-    (λ c. search (folds, tenants-are, tenant-and, eachs, table-is, needs))
-    (λ c. search (folds, tenants-are, tenant-and, eachs, table-is, needs))
-    (λ c. search (folds, tenant-and, eachs, needs))
-    (λ c. search (folds, eachs, table-is, needs)))
+    (λ c κs. search (surveys, unmapped, needs))  -- src/lib.rt:185:9 pools-of-requires
+    (λ c κs. search (surveys, unmapped, needs))  -- src/lib.rt:186:9 no-tenants-requires
+    (λ c. search (surveys, unmapped, needs))  -- src/lib.rt:188:5 loop-holds
+    (λ c. search (surveys, unmapped, needs))  -- src/lib.rt:189:17 mul-t
+    (λ c. search (surveys, unmapped, needs))  -- src/lib.rt:189:17 element-copy-out-t
+    (λ c κs. search (surveys, unmapped, needs))  -- src/lib.rt:190:9 add-tenant-requires
+    (λ c. search (surveys, unmapped, needs))  -- src/lib.rt:191:9 add-i
+    (λ c. search (surveys, unmapped, needs))  -- src/lib.rt:188:5 loop-less
+    (λ c. search (surveys, unmapped, needs))  -- src/lib.rt:188:5 loop-again
+    (λ c. search (surveys, unmapped, needs)))  -- src/lib.rt:182:1 returns

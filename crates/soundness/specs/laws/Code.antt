@@ -41,7 +41,7 @@ use Rattle.address_set.specs.laws.Bits.{length-offsets}
 use Rattle.address_set.specs.laws.Offsets.{upTo-ones, below-bits}
 use Rattle.lists.specs.laws.Next.{NextInv, next-start, next-is-pairs}
 use Rattle.lists.specs.laws.Sums.{sum-same}
-use Rattle.soundness.specs.Parts.{scopeRulesOf, andScopes, scopesAll, leaseRulesOf, andLeases, leasesAll, tenantRulesOf, bothTenants, addedSets, noneH, holdingRulesIn, tableRulesOf, joinedRules, tenantsAll, noHeld, heldSets, holdingsOf, setAt, apartSets, countIn, limitIn, limitsIn, committedIn, settingsRulesOf}
+use Rattle.soundness.specs.Parts.{scopeRulesOf, andScopes, scopesAll, leaseRulesOf, andLeases, leasesAll, tenantRulesOf, bothTenants, addedSets, noneH, holdingRulesIn, tableRulesOf, joinedRules, tenantsAll, noHeld, heldSets, holdingsOf, setAt, apartSets, countIn, limitIn, limitsIn, committedIn, settingsRulesOf, firstEnd}
 
 abbrev pub noRange : ClientRange
 noRange = record { low = 0; high = 0 }
@@ -311,21 +311,40 @@ unfolding andTenants bothTenants tenantRulesOf
 tenant-and s a x r t e p = p ∙ ap (bothTenants a) e
 
 -- ---- address sets
-pub sets-added : (h : Held) (l : Lease) {a b c d : ℕ} → a ≡ addedIf (inScope 1) (getD (h .sets) 0 0) l → b ≡ addedIf (inScope 2) (getD (h .sets) 1 0) l
-    → c ≡ addedIf (inScope 3) (getD (h .sets) 2 0) l → d ≡ addedIf (inScope 4) (getD (h .sets) 3 0) l
-    → _≡_ {A = Held} (record { sets = a ∷ b ∷ c ∷ d ∷ []; count = h .count }) (addedSets h l)
+pub sets-added : (h : Held) (l : Lease) {a b c d e : ℕ} → a ≡ addedIf (inScope 1) (getD (h .sets) 0 0) l → b ≡ addedIf (inScope 2) (getD (h .sets) 1 0) l
+    → c ≡ addedIf (inScope 3) (getD (h .sets) 2 0) l → d ≡ addedIf (inScope 4) (getD (h .sets) 3 0) l → e ≡ min (h .«first_end») (l .end)
+    → _≡_ {A = Held} (record { sets = a ∷ b ∷ c ∷ d ∷ []; count = h .count; «first_end» = e }) (addedSets h l)
 unfolding addedSets
-sets-added h l p q r u = cc
+sets-added h l p q r u v = cc
 
-sets-from : (n a b c d : ℕ) (l : List Lease) → fold addedSets (record { sets = a ∷ b ∷ c ∷ d ∷ []; count = n }) l
-    ≡ record { sets = fold (addedIf (inScope 1)) a l ∷ fold (addedIf (inScope 2)) b l ∷ fold (addedIf (inScope 3)) c l ∷ fold (addedIf (inScope 4)) d l ∷ []; count = n }
+sets-from : (n a b c d e : ℕ) (l : List Lease) → fold addedSets (record { sets = a ∷ b ∷ c ∷ d ∷ []; count = n; «first_end» = e }) l
+    ≡ record {
+      sets = fold (addedIf (inScope 1)) a l ∷ fold (addedIf (inScope 2)) b l ∷ fold (addedIf (inScope 3)) c l ∷ fold (addedIf (inScope 4)) d l ∷ [];
+      count = n;
+      «first_end» = fold (λ x y. min x (y .end)) e l;
+    }
 unfolding addedSets
-sets-from n a b c d [] = refl
-sets-from n a b c d (x ∷ l) = sets-from n (addedIf (inScope 1) a x) (addedIf (inScope 2) b x) (addedIf (inScope 3) c x) (addedIf (inScope 4) d x) l
+sets-from n a b c d e [] = refl
+sets-from n a b c d e (x ∷ l) = sets-from n (addedIf (inScope 1) a x) (addedIf (inScope 2) b x) (addedIf (inScope 3) c x) (addedIf (inScope 4) d x) (min e (x .end)) l
 
-pub held-are : (t : TenantLeases) → fold addedSets (record { sets = 0 ∷ 0 ∷ 0 ∷ 0 ∷ []; count = t .count }) (inUse t) ≡ heldSets t
+end-least : (l : List Lease) → firstEnd l ≤ 4294967295
+unfolding firstEnd
+end-least [] = omega arith
+end-least (x ∷ l) = let h = end-least l in omega arith
+
+ends-from : (e : ℕ) (l : List Lease) → e ≤ 4294967295 → fold (λ x y. min x (y .end)) e l ≡ min e (firstEnd l)
+unfolding firstEnd
+ends-from e [] h = omega arith
+ends-from e (x ∷ l) h = ends-from (min e (x .end)) l (omega arith) ∙ (let q : min (min e (x .end)) (firstEnd l) ≡ min e (min (x .end) (firstEnd l)) = omega arith in q)
+
+pub held-are : (t : TenantLeases) → fold addedSets (record { sets = 0 ∷ 0 ∷ 0 ∷ 0 ∷ []; count = t .count; «first_end» = 4294967295 }) (inUse t) ≡ heldSets t
 unfolding heldSets
-held-are t = sets-from (t .count) 0 0 0 0 (inUse t) ∙ cc (added-is (inScope 1) (inUse t), added-is (inScope 2) (inUse t), added-is (inScope 3) (inUse t), added-is (inScope 4) (inUse t))
+held-are t =
+    sets-from (t .count) 0 0 0 0 4294967295 (inUse t)
+    ∙ cc (added-is (inScope 1) (inUse t), added-is (inScope 2) (inUse t), added-is (inScope 3) (inUse t), added-is (inScope 4) (inUse t), end-is)
+  where
+    end-is : fold (λ x y. min x (y .end)) 4294967295 (inUse t) ≡ firstEnd (inUse t)
+    end-is = ends-from 4294967295 (inUse t) (omega arith) ∙ (let h = end-least (inUse t) in let q : min 4294967295 (firstEnd (inUse t)) ≡ firstEnd (inUse t) = omega arith in q)
 
 pub holdings-are : (b : LeaseTable) (h : HeldTable) → h .tenants ≡ map heldSets (b .tenants) → h ≡ holdingsOf b
 unfolding holdingsOf

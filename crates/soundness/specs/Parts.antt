@@ -107,9 +107,12 @@ addedSets h l = record {
 unfoldable pub apartSets : Held → Held → Bool
 apartSets a b = disjoint (setAt a 0) (setAt b 0) && (disjoint (setAt a 1) (setAt b 1) && (disjoint (setAt a 2) (setAt b 2) && disjoint (setAt a 3) (setAt b 3)))
 
--- how many addresses tenant g has in scope k + 1
+-- how many addresses a tenant has in scope k + 1, and tenant g of all
+abbrev pub sizeIn : Held → ℕ → ℕ
+sizeIn a k = length (offsets (setAt a k))
+
 unfoldable pub countIn : HeldTable → ℕ → ℕ → ℕ
-countIn h k g = length (offsets (setAt (getD (h .tenants) g noHeld) k))
+countIn h k g = sizeIn (getD (h .tenants) g noHeld) k
 
 unfoldable pub limitIn : HeldTable → Scope → ℕ → ℕ → Bool
 limitIn h c k g = leb (countIn h k g) (limitAt c g)

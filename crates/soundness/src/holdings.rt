@@ -1,10 +1,11 @@
 // The rules on what the tenants hold: 7, 9, 11 and 12.
 ghost use mathlib.Core.Path.{_≡_};
-ghost use Prim.Native.Nat.{_<_, _≤_};
+ghost use Prim.Native.Nat.{_<_, _≤_, max};
+ghost use lib.Dec.{leb};
 ghost use lib.ListN.{drop};
 ghost use Rattle.lists.specs.All.{allBy, pairsBy, allTo};
-ghost use Rattle.state.specs.Book.{committed, committedSum};
-ghost use Rattle.soundness.specs.Parts.{addedSets, apartSets, countIn, limitIn, limitsIn, committedIn, noneH, holdingRulesIn};
+ghost use Rattle.state.specs.Book.{reserveAt, limitAt, committedSum};
+ghost use Rattle.soundness.specs.Parts.{addedSets, apartSets, sizeIn, countIn, limitsIn, committedIn, noneH, holdingRulesIn};
 use crate::Held;
 use crate::HeldTable;
 use crate::HoldingRules;
@@ -62,19 +63,18 @@ fn all_held_apart(h: HeldTable) -> bool
     true
 }
 
-fn count_in(h: HeldTable, k: usize, g: usize) -> u32
-    requires { ⌜ (k < 4) × (g < 8) ⌝ }
-    ensures { λ r. ⌜ r ≡ countIn h k g ⌝ }
+fn count_in(t: Held, k: usize) -> u32
+    requires { ⌜ k < 4 ⌝ }
+    ensures { λ r. ⌜ r ≡ sizeIn t k ⌝ }
 {
-    let t = h.tenants[g];
     address_set::count(t.sets[k])
 }
 
-fn limit_ok(h: HeldTable, c: Scope, k: usize, g: usize) -> bool
+fn limit_ok(t: Held, c: Scope, k: usize, g: usize) -> bool
     requires { ⌜ (k < 4) × (g < 8) ⌝ }
-    ensures { λ r. ⌜ r ≡ limitIn h c k g ⌝ }
+    ensures { λ r. ⌜ r ≡ leb (sizeIn t k) (limitAt c g) ⌝ }
 {
-    let d = count_in(h, k, g);
+    let d = count_in(t, k);
     let limit = octet(c.limit[g]);
     d <= (limit as u32)
 }
@@ -86,7 +86,8 @@ fn limits_ok(s: State, h: HeldTable, n: usize, k: usize) -> bool
     let c = state::scope_at(s, k);
     let mut g: usize = 0;
     while g < n {
-        if !limit_ok(h, c, k, g) {
+        let t = h.tenants[g];
+        if !limit_ok(t, c, k, g) {
             return false;
         }
         g += 1;
@@ -108,11 +109,11 @@ fn all_limits_ok(s: State, h: HeldTable, n: usize, m: usize) -> bool
     true
 }
 
-fn committed(h: HeldTable, c: Scope, k: usize, g: usize) -> u32
+fn committed(t: Held, c: Scope, k: usize, g: usize) -> u32
     requires { ⌜ (k < 4) × (g < 8) ⌝ }
-    ensures { λ r. ⌜ (r ≡ committed c (countIn h k) g) × (r < 256) ⌝ }
+    ensures { λ r. ⌜ (r ≡ max (sizeIn t k) (reserveAt c g)) × (r < 256) ⌝ }
 {
-    let d = count_in(h, k, g);
+    let d = count_in(t, k);
     let reserve = octet(c.reserve[g]);
     arithmetic::larger(d, reserve as u32)
 }
@@ -124,7 +125,8 @@ fn committed_sum(h: HeldTable, c: Scope, k: usize, n: usize) -> u32
     let mut sum: u32 = 0;
     let mut g: usize = 0;
     while g < n {
-        let x = committed(h, c, k, g);
+        let t = h.tenants[g];
+        let x = committed(t, c, k, g);
         sum += x;
         g += 1;
     }

@@ -41,7 +41,7 @@ use Rattle.address_set.specs.laws.Bits.{length-offsets}
 use Rattle.address_set.specs.laws.Offsets.{upTo-ones, below-bits}
 use Rattle.lists.specs.laws.Next.{NextInv, next-start, next-is-pairs}
 use Rattle.lists.specs.laws.Sums.{sum-same}
-use Rattle.soundness.specs.Parts.{scopeRulesOf, andScopes, scopesAll, leaseRulesOf, andLeases, leasesAll, tenantRulesOf, bothTenants, addedSets, noneH, holdingRulesIn, tableRulesOf, joinedRules, tenantsAll, noHeld, heldSets, holdingsOf, setAt, apartSets, countIn, limitIn, limitsIn, committedIn, settingsRulesOf, firstEnd}
+use Rattle.soundness.specs.Parts.{scopeRulesOf, andScopes, scopesAll, leaseRulesOf, andLeases, leasesAll, tenantRulesOf, bothTenants, addedSets, noneH, holdingRulesIn, tableRulesOf, joinedRules, tenantsAll, noHeld, heldSets, holdingsOf, setAt, apartSets, sizeIn, countIn, limitIn, limitsIn, committedIn, settingsRulesOf, firstEnd}
 
 abbrev pub noRange : ClientRange
 noRange = record { low = 0; high = 0 }
@@ -400,24 +400,22 @@ module _ (s : State) (b : LeaseTable) (h : HeldTable) (e : h ≡ holdingsOf b) w
       (sum-same (committed (scopeAt s k) (countIn h k)) (committed (scopeAt s k) (holding b (k + 1))) (tenantsIn s) (λ g c. ap (λ (x : ℕ). max x (reserveAt (scopeAt s k) g)) (counts k g (omega arith)))))
 
 -- ---- the turns of the code
-pub count-at : (h : HeldTable) (k g : ℕ) (t : Held) {r : ℕ} → t ≡ getD (h .tenants) g noHeld → r ≡ length (offsets (getD (t .sets) k 0)) → r ≡ countIn h k g
-unfolding countIn
-count-at h k g t e p = p ∙ ap (λ (x : Held). length (offsets (setAt x k))) e
+pub limit-at : (h : HeldTable) (c : Scope) (k g : ℕ) (t : Held) {r : Bool} → t ≡ getD (h .tenants) g noHeld → r ≡ leb (sizeIn t k) (limitAt c g) → r ≡ limitIn h c k g
+unfolding limitIn countIn
+limit-at h c k g t e p = p ∙ ap (λ (x : Held). leb (sizeIn x k) (limitAt c g)) e
 
-pub limit-is : (h : HeldTable) (c : Scope) (k g : ℕ) {d l : ℕ} → d ≡ countIn h k g → l ≡ getD (c .limit) g 0 → leb d l ≡ limitIn h c k g
-unfolding limitIn
-limit-is h c k g p q = ap₂ leb p q
+pub limit-is : (d l x y : ℕ) → d ≡ x → l ≡ y → leb d l ≡ leb x y
+limit-is d l x y p q = ap₂ leb p q
 
-pub count-few : (h : HeldTable) (k g : ℕ) → countIn h k g ≤ 64
-unfolding countIn
-count-few h k g = length-offsets _
+pub committed-at : (h : HeldTable) (c : Scope) (k g : ℕ) (t : Held) {r : ℕ} → t ≡ getD (h .tenants) g noHeld → r ≡ max (sizeIn t k) (reserveAt c g) → r ≡ committed c (countIn h k) g
+unfolding committed countIn
+committed-at h c k g t e p = p ∙ ap (λ (x : Held). max (sizeIn x k) (reserveAt c g)) e
 
-pub committed-is : (h : HeldTable) (c : Scope) (k g : ℕ) {d l r : ℕ} → d ≡ countIn h k g → l ≡ getD (c .reserve) g 0 → r ≡ max d l → r ≡ committed c (countIn h k) g
-unfolding committed
-committed-is h c k g p q e = e ∙ ap₂ max p q
+pub committed-is : (d l r x y : ℕ) → d ≡ x → l ≡ y → r ≡ max d l → r ≡ max x y
+committed-is d l r x y p q e = e ∙ ap₂ max p q
 
-pub committed-small : (h : HeldTable) (k g : ℕ) {d l r : ℕ} → d ≡ countIn h k g → l < 256 → r ≡ max d l → r < 256
-committed-small h k g p q e = let f = count-few h k g in omega arith
+pub committed-small : (t : Held) (k : ℕ) {d l r : ℕ} → d ≡ sizeIn t k → l < 256 → r ≡ max d l → r < 256
+committed-small t k p q e = let f = length-offsets (setAt t k) in omega arith
 
 pub committed-ok-is : (s : State) (h : HeldTable) (n k : ℕ) (c : Scope) {sum : ℕ} → c ≡ scopeAt s k → sum ≡ committedSum c n (countIn h k) → leb sum (c .size) ≡ committedIn s h n k
 unfolding committedIn

@@ -1,4 +1,4 @@
--- `holdings::limit_ok` meets its contract: by limit-is.
+-- `limit_ok` meets its contract: by limit-is.
 use Rattle.soundness.specs.laws.Code.{limit-is}
 use borrow.Author.Needs.{needs}
 use Rattle.soundness.proofs.holdings.limit_ok.Statement.{statement}
@@ -8,8 +8,8 @@ pub limit-ok-spec : {M : Type 1} → statement M
 limit-ok-spec =
     tie.close
     (tie.spec
-    (λ c κs. search (limit-is, needs))
-    (λ c. search (limit-is, needs))
-    (λ c κs. search needs)
-    (λ c. search (limit-is, needs))
-    (λ c. search (limit-is, needs)))
+    (λ c κs. search needs)  -- src/holdings.rt:77:9 count-in-requires
+    (λ c. search needs)  -- src/holdings.rt:78:23 element-copy-out-octet
+    (λ c κs. search needs)  -- src/holdings.rt:78:9 octet-requires
+    (λ c. search needs)  -- src/holdings.rt:79:11 cast-result
+    (λ c. search (limit-is, needs)))  -- src/holdings.rt:73:1 returns

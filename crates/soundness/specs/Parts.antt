@@ -1,5 +1,5 @@
 -- Definitions: the rules as the code gathers them: scope by scope, tenant by tenant, and from the address sets of all tenants.
-use Prim.Native.Nat.{ℕ, min}
+use Prim.Native.Nat.{ℕ, _-_, min}
 use mathlib.Core.Bool.{Bool, true, _&&_}
 use mathlib.Core.List.{List, [], _∷_, map}
 use lib.Dec.{leb, eqb}
@@ -20,8 +20,10 @@ use Rattle.soundness.specs.declared.Rules.{Rules}
 use Rattle.soundness.specs.declared.SettingsRules.{SettingsRules}
 use Rattle.soundness.specs.declared.HoldingRules.{HoldingRules}
 use Rattle.soundness.specs.declared.Held.{Held}
+use Rattle.soundness.specs.declared.Gathered.{Gathered}
+use Rattle.soundness.specs.declared.Checked.{Checked}
 use Rattle.soundness.specs.declared.HeldTable.{HeldTable}
-use Rattle.soundness.specs.Sound.{tenantsIn, scopesIn, sizeB, countsB, idB, recordsB, offsetsB, rule3, poolB, rule4, ttlB, rule5, reservesB, rule6, leaseB, disjoint, compatible, layoutB, paddedB, tailB, settingsB, firstBroken}
+use Rattle.soundness.specs.Sound.{tenantsIn, scopesIn, sizeB, countsB, idB, recordsB, offsetsB, rule3, poolB, rule4, ttlB, rule5, reservesB, rule6, leaseB, disjoint, compatible, layoutB, paddedB, tailB, settingsB, firstBroken, oneTo}
 
 -- ---- scopes
 unfoldable pub scopeRulesOf : ℕ → Scope → ScopeRules
@@ -103,6 +105,29 @@ addedSets h l = record {
   count = h .count;
   «first_end» = min (h .«first_end») (l .end);
 }
+
+-- ---- one tenant's rules and sets, gathered together
+-- a lease in a scope that there can be, on no address that is held already
+unfoldable pub freshIn : Held → Lease → Bool
+freshIn h l = oneTo 4 (l .scope) && disjoint (setAt h (l .scope - 1)) (l .addresses)
+
+-- each lease on no address that is held already, or that one before it has
+unfoldable pub freshAll : Held → List Lease → Bool
+freshAll h [] = true
+freshAll h (l ∷ ls) = freshIn h l && freshAll (addedSets h l) ls
+
+-- one turn: with one more lease
+unfoldable pub addedLease : State → Gathered → Lease → Gathered
+addedLease s g l = record { rules = andLeases s (g .rules) l; held = addedSets (g .held) l; apart = g .apart && freshIn (g .held) l }
+
+abbrev pub emptySets : ℕ → Held
+emptySets n = record { sets = 0 ∷ 0 ∷ 0 ∷ 0 ∷ []; count = n; «first_end» = 4294967295 }
+
+unfoldable pub gatheredOf : State → TenantLeases → Gathered
+gatheredOf s t = record { rules = leasesAll s (inUse t); held = heldSets t; apart = freshAll (emptySets (t .count)) (inUse t) }
+
+unfoldable pub checkedOf : State → TenantLeases → Checked
+checkedOf s t = record { rules = tenantRulesOf s t; held = heldSets t }
 
 unfoldable pub apartSets : Held → Held → Bool
 apartSets a b = disjoint (setAt a 0) (setAt b 0) && (disjoint (setAt a 1) (setAt b 1) && (disjoint (setAt a 2) (setAt b 2) && disjoint (setAt a 3) (setAt b 3)))

@@ -1,5 +1,6 @@
 pub mod Code
 pub mod Survey
+pub mod Gathered
 pub mod Book
 pub mod Kept
 pub mod Added

@@ -1,16 +1,15 @@
 // The rules on one lease: 1, 2, 7 and the octets past its identifier.
 ghost use mathlib.Core.Path.{_≡_};
-ghost use Rattle.state.specs.Book.{inUse};
 ghost use Rattle.soundness.specs.Sound.{idB, belowB, scopeOf, offsetsB, kindB, periodB, leaseB, paddedB};
-ghost use Rattle.soundness.specs.Parts.{leaseRulesOf, andLeases, leasesAll};
+ghost use Rattle.soundness.specs.Parts.{poolsOf, leaseRulesOf, andLeases};
 use crate::LeaseRules;
 use crate::numbers::both;
 use crate::numbers::is_one_to;
+use crate::numbers::set_at;
 use crate::numbers::zeros32;
 use message::MessageType;
 use state::Lease;
 use state::State;
-use state::TenantLeases;
 
 fn id_ok(l: Lease) -> bool
     ensures { λ r. ⌜ r ≡ idB l ⌝ }
@@ -21,20 +20,21 @@ fn id_ok(l: Lease) -> bool
     false
 }
 
-fn within(s: State, l: Lease) -> bool
+fn within(s: State, pools: [u64; 4], l: Lease) -> bool
+    requires { ⌜ pools ≡ poolsOf s ⌝ }
     ensures { λ r. ⌜ r ≡ belowB (scopeOf s l .size) (l .addresses) ⌝ }
 {
     let k = arithmetic::place_of(l.scope);
-    let c = state::scope_at(s, k);
-    let pool = address_set::first_n(c.size);
+    let pool = set_at(pools, k);
     l.addresses <= pool
 }
 
-fn offsets_ok(s: State, l: Lease) -> bool
+fn offsets_ok(s: State, pools: [u64; 4], l: Lease) -> bool
+    requires { ⌜ pools ≡ poolsOf s ⌝ }
     ensures { λ r. ⌜ r ≡ offsetsB s l ⌝ }
 {
     if is_one_to(s.scope_count, l.scope) {
-        return within(s, l);
+        return within(s, pools, l);
     }
     true
 }
@@ -77,11 +77,12 @@ fn padded_ok(l: Lease) -> bool
     zeros32(l.id_len as usize, id)
 }
 
-fn lease_rules(s: State, l: Lease) -> LeaseRules
+fn lease_rules(s: State, pools: [u64; 4], l: Lease) -> LeaseRules
+    requires { ⌜ pools ≡ poolsOf s ⌝ }
     ensures { λ r. ⌜ r ≡ leaseRulesOf s l ⌝ }
 {
     let id = id_ok(l);
-    let offset = offsets_ok(s, l);
+    let offset = offsets_ok(s, pools, l);
     let lease = lease_ok(s, l);
     let pad = padded_ok(l);
     LeaseRules {
@@ -92,10 +93,11 @@ fn lease_rules(s: State, l: Lease) -> LeaseRules
     }
 }
 
-fn and_leases(s: State, a: LeaseRules, l: Lease) -> LeaseRules
+pub fn and_leases(s: State, pools: [u64; 4], a: LeaseRules, l: Lease) -> LeaseRules
+    requires { ⌜ pools ≡ poolsOf s ⌝ }
     ensures { λ r. ⌜ r ≡ andLeases s a l ⌝ }
 {
-    let x = lease_rules(s, l);
+    let x = lease_rules(s, pools, l);
     let id = both(a.ids, x.ids);
     let offset = both(a.offsets, x.offsets);
     let lease = both(a.leases, x.leases);
@@ -106,23 +108,4 @@ fn and_leases(s: State, a: LeaseRules, l: Lease) -> LeaseRules
         leases: lease,
         padded: pad,
     }
-}
-
-pub fn leases_rules(s: State, t: TenantLeases) -> LeaseRules
-    ensures { λ r. ⌜ r ≡ leasesAll s (inUse t) ⌝ }
-{
-    let mut all = LeaseRules {
-        ids: true,
-        offsets: true,
-        leases: true,
-        padded: true,
-    };
-    let n = state::cut16(t.count);
-    let mut i: usize = 0;
-    while i < n {
-        let l = t.leases[i];
-        all = and_leases(s, all, l);
-        i += 1;
-    }
-    all
 }

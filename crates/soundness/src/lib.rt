@@ -1,4 +1,5 @@
 // Whether a book of any contents is sound, and the number of the first rule of document 01 that it breaks.
+mod gather;
 mod holdings;
 mod leases;
 mod numbers;
@@ -14,8 +15,8 @@ use crate::holdings::holding_rules;
 use crate::numbers::both;
 use crate::settings::settings_rules;
 use crate::tenants::and_tenants;
+use crate::tenants::check_tenant;
 use crate::tenants::is_unused;
-use crate::tenants::tenant_rules;
 use state::Lease;
 use state::LeaseTable;
 use state::State;
@@ -89,6 +90,19 @@ pub struct Held {
     pub sets: [u64; 4],
     pub count: usize,
     pub first_end: u32,
+}
+
+// What one loop over a tenant's leases gathers; `apart` where each is on addresses of its own.
+struct Gathered {
+    rules: LeaseRules,
+    held: Held,
+    apart: bool,
+}
+
+// One tenant's rules, and what it holds.
+struct Checked {
+    rules: TenantRules,
+    held: Held,
 }
 
 pub struct HeldTable {
@@ -166,8 +180,9 @@ pub fn add_tenant(s: State, pools: [u64; 4], c: TableRules, i: usize, t: TenantL
     requires { ⌜ (pools ≡ poolsOf s) × (i < 8) ⌝ }
     ensures { λ r. ⌜ r ≡ addedTenant s c i t ⌝ }
 {
-    let x = tenant_rules(s, t);
-    let h = held_sets(t);
+    let y = check_tenant(s, pools, t);
+    let x = y.rules;
+    let h = y.held;
     let a = c.rules;
     let both = and_tenants(a, x);
     let mut held = c.held;

@@ -2,6 +2,7 @@
 ghost use mathlib.Core.Path.{_≡_};
 ghost use mathlib.Core.Bool.{_&&_};
 ghost use lib.Dec.{ltb};
+ghost use lib.ListN.{getD};
 ghost use Rattle.lists.specs.Pick.{pick};
 ghost use Rattle.soundness.specs.Sound.{oneTo, disjoint, zeroFrom};
 
@@ -62,6 +63,16 @@ pub fn zeros32(n: usize, a: [u8; 32]) -> bool
         i += 1;
     }
     any == 0
+}
+
+// The set at a place, or none.
+pub fn set_at(sets: [u64; 4], k: usize) -> u64
+    ensures { λ r. ⌜ r ≡ getD sets k 0 ⌝ }
+{
+    if k < 4 {
+        return sets[k];
+    }
+    0
 }
 
 pub fn sets_apart(m: u64, n: u64) -> bool

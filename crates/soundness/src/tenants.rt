@@ -6,9 +6,10 @@ ghost use lib.ListN.{drop};
 ghost use Rattle.lists.specs.All.{allBy, pairsBy};
 ghost use Rattle.state.specs.Book.{differ, inUse, ordered};
 ghost use Rattle.soundness.specs.Sound.{compatible, blankB, unusedB};
-ghost use Rattle.soundness.specs.Parts.{tenantRulesOf, bothTenants};
+ghost use Rattle.soundness.specs.Parts.{poolsOf, emptySets, freshAll, checkedOf, bothTenants};
+use crate::Checked;
 use crate::TenantRules;
-use crate::leases::leases_rules;
+use crate::gather::gather;
 use crate::numbers::both;
 use crate::numbers::sets_apart;
 use crate::numbers::zeros32;
@@ -175,22 +176,40 @@ fn layout_ok(t: TenantLeases, rising: bool, padded: bool) -> bool
     false
 }
 
-pub fn tenant_rules(s: State, t: TenantLeases) -> TenantRules
-    ensures { λ r. ⌜ r ≡ tenantRulesOf s t ⌝ }
+// Leases on addresses of their own are compatible, so that only others are compared pair by pair.
+fn periods_ok(t: TenantLeases, apart: bool) -> bool
+    requires { ⌜ apart ≡ freshAll (emptySets (t .count)) (inUse t) ⌝ }
+    ensures { λ r. ⌜ r ≡ pairsBy compatible (inUse t) ⌝ }
 {
-    let l = leases_rules(s, t);
+    if apart {
+        return true;
+    }
+    all_compatible(t)
+}
+
+pub fn check_tenant(s: State, pools: [u64; 4], t: TenantLeases) -> Checked
+    requires { ⌜ pools ≡ poolsOf s ⌝ }
+    ensures { λ r. ⌜ r ≡ checkedOf s t ⌝ }
+{
+    let g = gather(s, pools, t);
+    let l = g.rules;
+    let held = g.held;
     let rising = all_rise(t);
     let record = both(t.count <= 16, l.ids);
     let identifier = ids_differ(t, rising);
-    let period = all_compatible(t);
+    let period = periods_ok(t, g.apart);
     let layout = layout_ok(t, rising, l.padded);
-    TenantRules {
+    let rules = TenantRules {
         records: record,
         offsets: l.offsets,
         leases: l.leases,
         identifiers: identifier,
         periods: period,
         layout: layout,
+    };
+    Checked {
+        rules: rules,
+        held: held,
     }
 }
 

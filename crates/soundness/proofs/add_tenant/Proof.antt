@@ -9,9 +9,8 @@ pub add-tenant-spec : {M : Type 1} → statement M
 add-tenant-spec =
     tie.close
     (tie.spec
-    (λ c κs. search needs)  -- src/lib.rt:169:9 tenant-rules-requires
-    (λ c κs. search needs)  -- src/lib.rt:170:9 held-sets-requires
-    (λ c κs. search needs)  -- src/lib.rt:172:9 and-tenants-requires
-    (λ c. search needs)  -- src/lib.rt:174:5 mul-h
-    (λ c. search needs)  -- src/lib.rt:174:5 element-set-from-h
-    (λ c. search (tenant-added, unmapped, needs)))  -- src/lib.rt:165:1 returns
+    (λ c κs. search needs)  -- src/lib.rt:183:9 check-tenant-requires
+    (λ c κs. search needs)  -- src/lib.rt:187:9 and-tenants-requires
+    (λ c. search needs)  -- src/lib.rt:189:5 mul-h
+    (λ c. search needs)  -- src/lib.rt:189:5 element-set-from-h
+    (λ c. search (tenant-added, unmapped, needs)))  -- src/lib.rt:179:1 returns

@@ -89,11 +89,11 @@ zero-step l i h = ap (allBy (λ x. eqb x 0)) (drop-cons l i 0 h) ∙ go (eqb (ge
     go true = refl
     go false = refl
 
-and-assoc : (a b c : Bool) → ((a && b) && c) ≡ (a && (b && c))
+pub and-assoc : (a b c : Bool) → ((a && b) && c) ≡ (a && (b && c))
 and-assoc true b c = refl
 and-assoc false b c = refl
 
-and-true-r : (a : Bool) → (a && true) ≡ a
+pub and-true-r : (a : Bool) → (a && true) ≡ a
 and-true-r true = refl
 and-true-r false = refl
 

@@ -20,6 +20,7 @@ use Rattle.state.specs.declared.Scope.{Scope}
 use Rattle.state.specs.declared.State.{State}
 use Rattle.state.specs.Book.{live, liveOf, noLeases, tenantAt, laidOut, scopeAt}
 use Rattle.soundness.specs.declared.Held.{Held}
+use Rattle.soundness.specs.declared.Checked.{Checked}
 use Rattle.soundness.specs.declared.HeldTable.{HeldTable}
 use Rattle.soundness.specs.declared.Rules.{Rules}
 use Rattle.soundness.specs.declared.TableRules.{TableRules}
@@ -27,7 +28,7 @@ use Rattle.soundness.specs.declared.TenantRules.{TenantRules}
 use Rattle.soundness.specs.declared.SettingsRules.{SettingsRules}
 use Rattle.soundness.specs.declared.HoldingRules.{HoldingRules}
 use Rattle.soundness.specs.Sound.{rulesOf, firstBroken, brokenOf, soundB}
-use Rattle.soundness.specs.Parts.{noHeld, noRules, noSets, firstEnd, poolIn, poolsOf, rulesFrom, heldSets, holdingsOf, holdingRulesIn, tenantsAll, tenantRulesOf, bothTenants, tableRulesOf, settingsRulesOf, joinedRules, noTenants, addedTenant, soundFrom}
+use Rattle.soundness.specs.Parts.{noHeld, noRules, noSets, firstEnd, poolIn, poolsOf, rulesFrom, heldSets, holdingsOf, holdingRulesIn, tenantsAll, tenantRulesOf, bothTenants, tableRulesOf, settingsRulesOf, joinedRules, noTenants, addedTenant, checkedOf, soundFrom}
 use Rattle.soundness.specs.laws.Code.{andTenants, tenants-are, tenant-and, table-is, rules-are}
 
 in-range : {A : Type 0} (l : List A) (i : ℕ) (d e : A) → i < length l → getD l i d ≡ getD l i e
@@ -105,10 +106,10 @@ pub pools-are : (s : State) {a b c d : ℕ} → a ≡ poolIn s 0 → b ≡ poolI
 unfolding poolsOf
 pools-are s p q r u = cc
 
-pub tenant-added : (s : State) (c : TableRules) (i : ℕ) (t : TenantLeases) (h : Held) (x : TenantRules) {r : TenantRules} → x ≡ tenantRulesOf s t → h ≡ heldSets t → r ≡ bothTenants (c .rules) x
-    → _≡_ {A = TableRules} (record { rules = r; held = record { tenants = set (c .held .tenants) i h } }) (addedTenant s c i t)
-unfolding addedTenant
-tenant-added s c i t h x ex eh er = cc (er ∙ ap (bothTenants (c .rules)) ex)
+pub tenant-added : (s : State) (c : TableRules) (i : ℕ) (t : TenantLeases) (y : Checked) {r : TenantRules} → y ≡ checkedOf s t → r ≡ bothTenants (c .rules) (y .rules)
+    → _≡_ {A = TableRules} (record { rules = r; held = record { tenants = set (c .held .tenants) i (y .held) } }) (addedTenant s c i t)
+unfolding addedTenant checkedOf
+tenant-added s c i t y e er = cc (er ∙ ap (λ (x : Checked). bothTenants (c .rules) (x .rules)) e, ap (λ (x : Checked). x .held) e)
 
 pub rules-joined : (s : State) (c : TableRules) (a : SettingsRules) (x : HoldingRules) {r : Rules} → a ≡ settingsRulesOf s → x ≡ holdingRulesIn s (c .held) → r ≡ joinedRules a (c .rules) x → r ≡ rulesFrom s c
 unfolding rulesFrom

@@ -1,4 +1,4 @@
--- `leases::offsets_ok` meets its contract: by calls.
+-- `offsets_ok` meets its contract: by calls.
 use Rattle.lists.specs.laws.Pick.{calls}
 use Rattle.soundness.specs.Sound.{offsetsB}
 use borrow.Author.Needs.{needs}
@@ -10,7 +10,7 @@ unfolding offsetsB
 offsets-ok-spec =
     tie.close
     (tie.spec
-    (λ c κs. search (calls, needs))
-    (λ c κs. search (calls, needs))
-    (λ c. search (calls, needs))
-    (λ c. search (calls, needs)))
+    (λ c κs. search needs)  -- src/leases.rt:36:8 is-one-to-requires
+    (λ c κs. search needs)  -- src/leases.rt:37:9 within-requires
+    (λ c. search (calls, needs))  -- src/leases.rt:37:9 returns
+    (λ c. search (calls, needs)))  -- src/leases.rt:32:1 returns-2

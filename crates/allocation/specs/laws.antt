@@ -3,3 +3,4 @@ pub mod Loops
 pub mod Sets
 pub mod Granted
 pub mod Kept
+pub mod View

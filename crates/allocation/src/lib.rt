@@ -1,15 +1,22 @@
-// Document 01's grant rule: how many addresses a tenant gets for a period, and which.
+// Document 01's grant rule: how many addresses a tenant gets for a period, and which. It goes by the tenant's own leases and by what every
+// tenant holds: in a sound book no other tenant's lease is on an address of the tenant's, so that these are enough.
 ghost use mathlib.Core.Path.{_≡_};
 ghost use Prim.Native.Nat.{_*_, _<_, _≤_, max, min};
 ghost use lib.Dec.{eqb};
+ghost use lib.ListN.{length};
 ghost use Rattle.lists.specs.Down.{largest};
 ghost use Rattle.lists.specs.Pick.{pick};
 ghost use Rattle.lists.specs.Sums.{sumTo, except};
-ghost use Rattle.state.specs.Book.{inUse, leasesOf, heldCount, heldAt, committed};
-ghost use Rattle.allocation.specs.Rule.{takenOf, busyIn, freeOf, nobodysOf, grantOf, suffices, grantTo};
+ghost use Rattle.address_set.specs.AddressSet.{offsets, differenceOf};
+ghost use Rattle.state.specs.declared.LeaseTable.{LeaseTable};
+ghost use Rattle.state.specs.declared.State.{State};
+ghost use Rattle.state.specs.Book.{inUse, leasesOf, unionAll, committed};
+ghost use Rattle.soundness.specs.View.{View};
+ghost use Rattle.allocation.specs.Rule.{poolOf, grantOf, suffices, grantTo};
 ghost use Rattle.allocation.specs.Closed.{allowedOf, Small};
-ghost use Rattle.allocation.specs.Loops.{takenOne, busyMore, Numbered};
-use state::LeaseTable;
+ghost use Rattle.allocation.specs.Loops.{setIn, setsIn, countAt, freeIn, Numbered};
+use soundness::Held;
+use soundness::HeldTable;
 use state::Scope;
 use state::TenantLeases;
 
@@ -69,123 +76,119 @@ fn wide16(x: u16) -> u32
     x as u32
 }
 
-// What a tenant g other than h holds or has in reserve.
-fn committed_other(t: TenantLeases, scope: u8, reserve: u8, g: usize, h: usize) -> u32
-    ensures { λ r. ⌜ (r ≡ pick (eqb g h) 0 (max (heldCount scope (inUse t)) reserve)) × (r < 256) ⌝ }
+// What a tenant holds in a scope: nothing in one that there cannot be.
+fn set_in(h: Held, scope: u8) -> u64
+    ensures { λ r. ⌜ r ≡ setIn scope h ⌝ }
+{
+    if scope == 0 {
+        return 0;
+    }
+    if 4 < scope {
+        return 0;
+    }
+    let k = arithmetic::place_of(scope);
+    h.sets[k]
+}
+
+// What each tenant holds in a scope.
+fn sets_in(held: HeldTable, scope: u8) -> [u64; 8]
+    ensures { λ r. ⌜ r ≡ setsIn scope held ⌝ }
+{
+    let mut sets: [u64; 8] = [0u64; 8];
+    let mut i: usize = 0;
+    while i < 8 {
+        let h = held.tenants[i];
+        let m = set_in(h, scope);
+        sets[i] = m;
+        i += 1;
+    }
+    sets
+}
+
+// What a tenant g other than h, which holds the set m, holds or has in reserve.
+fn committed_other(m: u64, reserve: u8, g: usize, h: usize) -> u32
+    ensures { λ r. ⌜ (r ≡ pick (eqb g h) 0 (max (length (offsets m)) reserve)) × (r < 256) ⌝ }
 {
     if g == h {
         return 0;
     }
-    let n = state::held_count(t, scope);
+    let n = address_set::count(m);
     arithmetic::larger(n, reserve as u32)
 }
 
 // What the other tenants hold or have in reserve.
-fn others(table: LeaseTable, c: Scope, n: usize, scope: u8, h: usize) -> u32
+fn others(sets: [u64; 8], c: Scope, n: usize, h: usize) -> u32
     requires { ⌜ n ≤ 8 ⌝ }
-    ensures { λ r. ⌜ (r ≡ sumTo (except h (committed c (heldAt (leasesOf table) scope))) n) × (r ≤ 255 * n) ⌝ }
+    ensures { λ r. ⌜ (r ≡ sumTo (except h (committed c (countAt sets))) n) × (r ≤ 255 * n) ⌝ }
 {
     let mut sum: u32 = 0;
     let mut g: usize = 0;
     while g < n {
-        let t = table.tenants[g];
-        let x = committed_other(t, scope, c.reserve[g], g, h);
+        let x = committed_other(sets[g], c.reserve[g], g, h);
         sum += x;
         g += 1;
     }
     sum
 }
 
-fn taken_one(sum: u64, t: TenantLeases, scope: u8) -> u64
-    ensures { λ r. ⌜ r ≡ takenOne scope sum t ⌝ }
-{
-    let m = state::held(t, scope);
-    sum | m
-}
-
 // The addresses that are somebody's.
-pub fn taken(table: LeaseTable, scope: u8) -> u64
-    ensures { λ r. ⌜ r ≡ takenOf scope (leasesOf table) ⌝ }
+fn taken(sets: [u64; 8]) -> u64
+    ensures { λ r. ⌜ r ≡ unionAll sets ⌝ }
 {
     let mut sum: u64 = 0;
     let mut i: usize = 0;
     while i < 8 {
-        let t = table.tenants[i];
-        sum = taken_one(sum, t, scope);
-        i += 1;
-    }
-    sum
-}
-
-fn busy_more(sum: u64, t: TenantLeases, scope: u8, from: u32, to: u64) -> u64
-    ensures { λ r. ⌜ r ≡ busyMore scope from to sum t ⌝ }
-{
-    let m = state::busy(t, scope, from, to);
-    sum | m
-}
-
-// The addresses in use in some part of a period.
-pub fn busy(table: LeaseTable, scope: u8, from: u32, to: u64) -> u64
-    ensures { λ r. ⌜ r ≡ busyIn scope from to (leasesOf table) ⌝ }
-{
-    let mut sum: u64 = 0;
-    let mut i: usize = 0;
-    while i < 8 {
-        let t = table.tenants[i];
-        sum = busy_more(sum, t, scope, from, to);
+        sum = sum | sets[i];
         i += 1;
     }
     sum
 }
 
 // The tenant's addresses that are free in the period.
-fn free(table: LeaseTable, a: Ask) -> u64
+fn free(own: TenantLeases, sets: [u64; 8], a: Ask) -> u64
     requires { ⌜ a .tenant < 8 ⌝ }
-    ensures { λ r. ⌜ r ≡ freeOf (leasesOf table) a ⌝ }
+    ensures { λ r. ⌜ r ≡ freeIn sets (inUse own) a ⌝ }
 {
     let h = a.tenant;
-    let t = table.tenants[h];
-    let mine = state::held(t, a.scope);
-    let used = busy(table, a.scope, a.from, a.to);
-    address_set::difference(mine, used)
+    let used = state::busy(own, a.scope, a.from, a.to);
+    address_set::difference(sets[h], used)
 }
 
 // The addresses that are nobody's.
-fn nobodys(table: LeaseTable, c: Scope, a: Ask) -> u64
-    ensures { λ r. ⌜ r ≡ nobodysOf c (leasesOf table) a ⌝ }
+fn nobodys(sets: [u64; 8], c: Scope) -> u64
+    ensures { λ r. ⌜ r ≡ differenceOf (poolOf c) (unionAll sets) ⌝ }
 {
     let all = address_set::first_n(c.size);
-    let some = taken(table, a.scope);
+    let some = taken(sets);
     address_set::difference(all, some)
 }
 
-fn numbers(table: LeaseTable, c: Scope, n: usize, a: Ask, own: u64) -> GrantNumbers
-    requires { ⌜ (a .tenant < n) × (n ≤ 8) × (own ≡ freeOf (leasesOf table) a) ⌝ }
-    ensures { λ r. ⌜ Numbered c n (leasesOf table) a r ⌝ }
+fn numbers(sets: [u64; 8], c: Scope, n: usize, h: usize, free: u64) -> GrantNumbers
+    requires { ⌜ (h < n) × (n ≤ 8) ⌝ }
+    ensures { λ r. ⌜ Numbered c n sets h free r ⌝ }
 {
-    let h = a.tenant;
-    let t = table.tenants[h];
     GrantNumbers {
-        held: state::held_count(t, a.scope),
-        free: address_set::count(own),
+        held: address_set::count(sets[h]),
+        free: address_set::count(free),
         reserve: wide(c.reserve[h]),
         limit: wide(c.limit[h]),
-        others: others(table, c, n, a.scope, h),
+        others: others(sets, c, n, h),
         size: wide(c.size),
     }
 }
 
 // The grant of n tenants' rule to one of them: the largest allowed number up to the desired one, and its addresses.
-fn grant_known(table: LeaseTable, c: Scope, n: usize, a: Ask) -> Grant
+fn grant_known(own: TenantLeases, held: HeldTable, c: Scope, n: usize, a: Ask) -> Grant
     requires { ⌜ (a .tenant < n) × (n ≤ 8) ⌝ }
-    ensures { λ r. ⌜ r ≡ grantOf c n (leasesOf table) a ⌝ }
+    ensures { λ r. ⌜ ((s : State) (t : LeaseTable) → View s t (a .tenant) own held → r ≡ grantOf c n (leasesOf t) a) ⌝ }
 {
-    let own = free(table, a);
-    let l = numbers(table, c, n, a, own);
+    let sets = sets_in(held, a.scope);
+    let own_free = free(own, sets, a);
+    let l = numbers(sets, c, n, a.tenant, own_free);
     let desired = wide16(a.desired);
     let k = most(l, desired);
-    let new = nobodys(table, c, a);
-    let m = address_set::choose(own, new, k as u64);
+    let new = nobodys(sets, c);
+    let m = address_set::choose(own_free, new, k as u64);
     Grant {
         number: k,
         addresses: m,
@@ -201,13 +204,14 @@ fn cut8(n: usize) -> usize
     8
 }
 
-// The same for any tenant: an unknown one is granted nothing.
-pub fn granted(table: LeaseTable, c: Scope, n: usize, a: Ask) -> Grant
-    ensures { λ r. ⌜ r ≡ grantTo c n (leasesOf table) a ⌝ }
+// The same for any tenant: an unknown one is granted nothing. What is promised holds of every sound book of which `own` are the tenant's
+// records and `held` is what all tenants hold; of arguments that no sound book has, nothing is said.
+pub fn granted(own: TenantLeases, held: HeldTable, c: Scope, n: usize, a: Ask) -> Grant
+    ensures { λ r. ⌜ ((s : State) (t : LeaseTable) → View s t (a .tenant) own held → r ≡ grantTo c n (leasesOf t) a) ⌝ }
 {
     let known = cut8(n);
     if a.tenant < known {
-        return grant_known(table, c, known, a);
+        return grant_known(own, held, c, known, a);
     }
     Grant {
         number: 0,

@@ -9,7 +9,7 @@ pub committed-other-spec : {M : Type 1} → statement M
 committed-other-spec =
     tie.close
     (tie.spec
-    (λ c. search (picks, needs))
-    (λ c κs. search (picks, needs))
-    (λ c κs. search (picks, needs))
-    (λ c. search (picks, other-committed-is, other-committed-small, needs)))
+    (λ c. search (picks, needs))  -- src/lib.rt:113:9 returns
+    (λ c κs. search needs)  -- src/lib.rt:115:9 count-requires
+    (λ c κs. search needs)  -- src/lib.rt:116:5 larger-requires
+    (λ c. search (picks, other-committed-is, other-committed-small, needs)))  -- src/lib.rt:109:1 returns-2

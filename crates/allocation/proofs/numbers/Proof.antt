@@ -8,14 +8,14 @@ pub numbers-spec : {M : Type 1} → statement M
 numbers-spec =
     tie.close
     (tie.spec
-    (λ c. search (numbers-is, needs))
-    (λ c. search (numbers-is, needs))
-    (λ c κs. search needs)
-    (λ c κs. search needs)
-    (λ c. search (numbers-is, needs))
-    (λ c κs. search needs)
-    (λ c. search (numbers-is, needs))
-    (λ c κs. search needs)
-    (λ c κs. search (numbers-is, needs))
-    (λ c κs. search needs)
-    (λ c. search (numbers-is, needs)))
+    (λ c. search needs)  -- src/lib.rt:171:34 mul-count
+    (λ c. search needs)  -- src/lib.rt:171:34 array-read-count
+    (λ c κs. search needs)  -- src/lib.rt:171:15 count-requires
+    (λ c κs. search needs)  -- src/lib.rt:172:15 count-requires-2
+    (λ c. search needs)  -- src/lib.rt:173:23 element-copy-out-wide
+    (λ c κs. search needs)  -- src/lib.rt:173:18 wide-requires
+    (λ c. search needs)  -- src/lib.rt:174:21 element-copy-out-wide-2
+    (λ c κs. search needs)  -- src/lib.rt:174:16 wide-requires-2
+    (λ c κs. search needs)  -- src/lib.rt:175:17 others-requires
+    (λ c κs. search needs)  -- src/lib.rt:176:15 wide-requires-3
+    (λ c. search (numbers-is, needs)))  -- src/lib.rt:166:1 returns

@@ -43,7 +43,7 @@ bits-disjoint m n e a =
     let z : min (bit m a) (bit n a) ≡ 0 = sym (bit-and m n a) ∙ ap (λ (x : ℕ). bit x a) (eqb-true (bitAnd m n) 0 e) ∙ bit-of-zero a in
     let p = bit-le m a in let q = bit-le n a in omega arith
 
-apart-in : (x y : List Lease) (k : ℕ) → k < 4 → apart x y ≡ true → apartIn (k + 1) x y ≡ true
+pub apart-in : (x y : List Lease) (k : ℕ) → k < 4 → apart x y ≡ true → apartIn (k + 1) x y ≡ true
 unfolding apart
 apart-in x y zero h e = and-parts (apartIn 1 x y) (apartIn 2 x y && (apartIn 3 x y && apartIn 4 x y)) e .0
 apart-in x y (suc zero) h e = and-parts (apartIn 2 x y) (apartIn 3 x y && apartIn 4 x y) (and-parts (apartIn 1 x y) (apartIn 2 x y && (apartIn 3 x y && apartIn 4 x y)) e .1) .0
@@ -71,7 +71,7 @@ unfolding addressesOf filterBy unionAll
 no-addresses u a = bit-of-zero a
 
 -- a lease that is in use in a period is held
-used-held : (s from to : ℕ) (x : List Lease) (a : ℕ) → bit (busyOf s from to x) a ≤ bit (heldOf s x) a
+pub used-held : (s from to : ℕ) (x : List Lease) (a : ℕ) → bit (busyOf s from to x) a ≤ bit (heldOf s x) a
 unfolding usedIn pick
 used-held s from to [] a = let p = no-addresses (usedIn s from to) a in omega arith
 used-held s from to (y ∷ x) a =

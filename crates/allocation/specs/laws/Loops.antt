@@ -1,5 +1,5 @@
 -- Laws: between the grant rule and the loops that gather its numbers.
-use Prim.Native.Nat.{ℕ, _+_, _-_, _*_, _≤_, _<_, max, min}
+use Prim.Native.Nat.{ℕ, zero, suc, _+_, _-_, _*_, _≤_, _<_, max, min}
 use mathlib.Core.Path.{_≡_, refl, sym, ap, ap₂, _∙_}
 use mathlib.Core.Bool.{Bool, true, false, _&&_}
 use mathlib.Core.List.{List, [], _∷_, map}
@@ -7,9 +7,11 @@ use native.Mathlib.Omega.{arith}
 use lib.Dec.{leb, eqb}
 use lib.Bits.{bitOr, or-zero-l, or-zero-r}
 use lib.ListN.{length, getD, List·getD-map}
-use borrow.Author.Tests.{eq-eqb}
+use borrow.Author.Tests.{eq-eqb, le-leb, lt-leb}
 use Rattle.lists.specs.Pick.{pick}
 use Rattle.lists.specs.laws.Pick.{pick-lt, pick-not-lt}
+use Rattle.lists.specs.laws.Both.{and-both}
+use Rattle.lists.specs.Filter.{filterBy}
 use Rattle.lists.specs.Fold.{fold}
 use Rattle.lists.specs.Sums.{sumTo, except}
 use Rattle.lists.specs.laws.Sums.{sum-same, sum-split}
@@ -20,46 +22,60 @@ use Rattle.address_set.specs.AddressSet.{offsets, setOf, differenceOf, chosen}
 use Rattle.state.specs.declared.Lease.{Lease}
 use Rattle.state.specs.declared.TenantLeases.{TenantLeases}
 use Rattle.state.specs.declared.Scope.{Scope}
-use Rattle.state.specs.declared.LeaseTable.{LeaseTable}
-use Rattle.state.specs.Book.{inUse, noLeases, leasesOf, unionAll, heldOf, heldCount, busyOf, reserveAt, heldAt, withHeld, committed, committedSum}
+use Rattle.state.specs.Book.{inUse, unionAll, addressesOf, heldOf, busyOf, reserveAt, limitAt, heldAt, withHeld, committed, committedSum}
+use Rattle.soundness.specs.declared.Held.{Held}
+use Rattle.soundness.specs.Sound.{oneTo}
+use Rattle.soundness.specs.Parts.{setAt}
 use Rattle.allocation.specs.declared.Ask.{Ask}
 use Rattle.allocation.specs.declared.GrantNumbers.{GrantNumbers}
 use Rattle.allocation.specs.declared.Grant.{Grant}
 use Rattle.allocation.specs.Closed.{allowedOf}
-use Rattle.allocation.specs.Rule.{takenOf, busyIn, freeOf, nobodysOf, allowed, grantOf, suffices, grantTo}
-use Rattle.allocation.specs.Loops.{takenOne, busyMore, numbersOf, Numbered}
+use Rattle.allocation.specs.Rule.{takenOf, poolOf, freeOf, allowed, grantOf, suffices, grantTo}
+use Rattle.allocation.specs.Loops.{setIn, countAt, freeIn, numbersOf, Numbered}
 
--- ---- one more tenant
+-- ---- the sets
+pub set-here : (x : Held) (s k : ℕ) → (s ≡ 0 → ⊥) → s ≤ 4 → k ≡ s - 1 → setAt x k ≡ setIn s x
+unfolding setIn oneTo pick
+set-here x s k h g e =
+    ap (setAt x) e ∙ sym (ap (λ (b : Bool). pick b (setAt x (s - 1)) 0) (and-both (le-leb 1 s (let z = positive s h in omega arith)) (le-leb s 4 g)))
+  where
+    positive : (n : ℕ) → (n ≡ 0 → ⊥) → 1 ≤ n
+    positive zero f = absurd (f refl)
+    positive (suc n) f = omega arith
 
--- a loop that joins the sets of all tenants
-joined : (f : List Lease → ℕ) (m : ℕ) (ts : List TenantLeases) → fold (λ (x : ℕ) (t : TenantLeases). bitOr x (f (inUse t))) m ts ≡ bitOr m (unionAll (map f (map inUse ts)))
+pub set-zero : (x : Held) (s : ℕ) → s ≡ 0 → 0 ≡ setIn s x
+unfolding setIn oneTo pick
+set-zero x s e = sym (ap (λ (n : ℕ). pick (leb 1 n && leb n 4) (setAt x (n - 1)) 0) e)
+
+pub set-past : (x : Held) (s : ℕ) → 4 < s → 0 ≡ setIn s x
+unfolding setIn oneTo pick
+set-past x s h = sym (ap₂ (λ (a b : Bool). pick (a && b) (setAt x (s - 1)) 0) (le-leb 1 s (omega arith)) (lt-leb s 4 h))
+
+joined : (sum : ℕ) (m : List ℕ) → fold bitOr sum m ≡ bitOr sum (unionAll m)
 unfolding unionAll
-joined f m [] = sym (or-zero-r m)
-joined f m (t ∷ ts) = joined f (bitOr m (f (inUse t))) ts ∙ or-assoc m (f (inUse t)) (unionAll (map f (map inUse ts)))
+joined sum [] = sym (or-zero-r sum)
+joined sum (x ∷ m) = joined (bitOr sum x) m ∙ or-assoc sum x (unionAll m)
 
-pub taken-is : (s : ℕ) (b : LeaseTable) → fold (takenOne s) 0 (b .tenants) ≡ takenOf s (leasesOf b)
-unfolding takenOne takenOf
-taken-is s b = joined (heldOf s) 0 (b .tenants) ∙ or-zero-l (takenOf s (leasesOf b))
+pub union-is : (m : List ℕ) → fold bitOr 0 m ≡ unionAll m
+union-is m = joined 0 m ∙ or-zero-l (unionAll m)
 
-pub busy-is : (s from to : ℕ) (b : LeaseTable) → fold (busyMore s from to) 0 (b .tenants) ≡ busyIn s from to (leasesOf b)
-unfolding busyMore busyIn
-busy-is s from to b = joined (busyOf s from to) 0 (b .tenants) ∙ or-zero-l (busyIn s from to (leasesOf b))
+pub free-is : (m : List ℕ) (own : TenantLeases) (a : Ask) (u r : ℕ) → u ≡ busyOf (a .scope) (a .from) (a .to) (inUse own) → r ≡ differenceOf (getD m (a .tenant) 0) u → r ≡ freeIn m (inUse own) a
+unfolding freeIn
+free-is m own a u r p e = e ∙ ap (differenceOf (getD m (a .tenant) 0)) p
 
--- a tenant's leases
-pub reads : (b : LeaseTable) (g : ℕ) → inUse (getD (b .tenants) g noLeases) ≡ getD (leasesOf b) g []
-reads b g = sym (List·getD-map inUse (b .tenants) g noLeases)
+pub difference-is : (a b m n r : ℕ) → a ≡ m → b ≡ n → r ≡ differenceOf a b → r ≡ differenceOf m n
+difference-is a b m n r p q e = e ∙ ap₂ differenceOf p q
 
 -- ---- what the other tenants hold or have in reserve
-pub other-committed-read : (b : LeaseTable) (c : Scope) (s h g r : ℕ) → r ≡ pick (eqb g h) 0 (max (heldCount s (inUse (getD (b .tenants) g noLeases))) (getD (c .reserve) g 0))
-    → r ≡ except h (committed c (heldAt (leasesOf b) s)) g
-unfolding except committed
-other-committed-read b c s h g r e = e ∙ ap (λ (ls : List Lease). pick (eqb g h) 0 (max (heldCount s ls) (getD (c .reserve) g 0))) (reads b g)
+pub other-committed-read : (m : List ℕ) (c : Scope) (h g r : ℕ) → r ≡ pick (eqb g h) 0 (max (length (offsets (getD m g 0))) (getD (c .reserve) g 0)) → r ≡ except h (committed c (countAt m)) g
+unfolding except committed countAt
+other-committed-read m c h g r e = e
 
-pub other-committed-is : (t : TenantLeases) (s reserve n r : ℕ) → n ≡ heldCount s (inUse t) → r ≡ max n reserve → r ≡ max (heldCount s (inUse t)) reserve
-other-committed-is t s reserve n r p e = e ∙ ap (λ (x : ℕ). max x reserve) p
+pub other-committed-is : (m reserve n r : ℕ) → n ≡ length (offsets m) → r ≡ max n reserve → r ≡ max (length (offsets m)) reserve
+other-committed-is m reserve n r p e = e ∙ ap (λ (x : ℕ). max x reserve) p
 
-pub other-committed-small : (t : TenantLeases) (s reserve n r : ℕ) → n ≡ heldCount s (inUse t) → reserve < 256 → r ≡ max n reserve → r < 256
-other-committed-small t s reserve n r p h e = omega (arith, length-offsets (heldOf s (inUse t)))
+pub other-committed-small : (m reserve n r : ℕ) → n ≡ length (offsets m) → reserve < 256 → r ≡ max n reserve → r < 256
+other-committed-small m reserve n r p h e = omega (arith, length-offsets m)
 
 -- the others' and the tenant's own, with d for what it holds, make the sum
 pub committed-split : (c : Scope) (n : ℕ) (held : ℕ → ℕ) (h d : ℕ) → h < n
@@ -74,44 +90,52 @@ committed-split c n held h d p =
     others g true = refl
     others g false = refl
 
--- ---- the sets
-pub free-is : (b : LeaseTable) (h s r m u from to : ℕ) → m ≡ heldOf s (inUse (getD (b .tenants) h noLeases)) → u ≡ busyIn s from to (leasesOf b) → r ≡ differenceOf m u
-    → r ≡ differenceOf (heldOf s (getD (leasesOf b) h [])) (busyIn s from to (leasesOf b))
-free-is b h s r m u from to p q e = e ∙ ap₂ differenceOf (p ∙ ap (heldOf s) (reads b h)) q
-
-pub difference-is : (a b m n r : ℕ) → a ≡ m → b ≡ n → r ≡ differenceOf a b → r ≡ differenceOf m n
-difference-is a b m n r p q e = e ∙ ap₂ differenceOf p q
-
 -- ---- the whole
-
-pub numbers-is : (c : Scope) (n : ℕ) (b : LeaseTable) (a : Ask) (d o f v u w z : ℕ) → d ≡ heldCount (a .scope) (inUse (getD (b .tenants) (a .tenant) noLeases))
-    → o ≡ freeOf (leasesOf b) a → f ≡ length (offsets o)
-    → (v ≡ getD (c .reserve) (a .tenant) 0) × (v ≤ 255) → (u ≡ getD (c .limit) (a .tenant) 0) × (u ≤ 255)
-    → (w ≡ sumTo (except (a .tenant) (committed c (heldAt (leasesOf b) (a .scope)))) n) × (w ≤ 255 * n) → n ≤ 8 → (z ≡ c .size) × (z ≤ 255)
-    → Numbered c n (leasesOf b) a (record { held = d; free = f; reserve = v; limit = u; others = w; size = z })
-unfolding numbersOf
-numbers-is c n b a d o f v u w z ed eo ef ev eu ew hn ez =
-    let x : d ≡ heldAt (leasesOf b) (a .scope) (a .tenant) = ed ∙ ap (heldCount (a .scope)) (reads b (a .tenant)) in
-    let y : f ≡ length (offsets (freeOf (leasesOf b) a)) = ef ∙ ap (λ (z : ℕ). length (offsets z)) eo in
-    let p = length-offsets (heldOf (a .scope) (inUse (getD (b .tenants) (a .tenant) noLeases))) in
-    let q = length-offsets o in
+pub numbers-is : (c : Scope) (n : ℕ) (m : List ℕ) (h free : ℕ) (d f v u w z : ℕ) → d ≡ length (offsets (getD m h 0)) → f ≡ length (offsets free)
+    → (v ≡ getD (c .reserve) h 0) × (v ≤ 255) → (u ≡ getD (c .limit) h 0) × (u ≤ 255)
+    → (w ≡ sumTo (except h (committed c (countAt m))) n) × (w ≤ 255 * n) → n ≤ 8 → (z ≡ c .size) × (z ≤ 255)
+    → Numbered c n m h free (record { held = d; free = f; reserve = v; limit = u; others = w; size = z })
+unfolding numbersOf countAt
+numbers-is c n m h free d f v u w z ed ef ev eu ew hn ez =
+    let p = length-offsets (getD m h 0) in
+    let q = length-offsets free in
     record {
       whole = cc (ev .0, eu .0, ew .0, ez .0);
       small = record { held = omega arith; free = omega arith; others = omega arith; reserve = ev .1; limit = eu .1; size = ez .1 };
     }
 
-pub allowed-is : (c : Scope) (n : ℕ) (t : List (List Lease)) (a : Ask) (k : ℕ) → a .tenant < n → allowed c n t a k ≡ allowedOf (numbersOf c n t a) k
-unfolding allowed allowedOf numbersOf
+-- what a tenant holds, by the sets of all
+held-none : (s : ℕ) → heldOf s [] ≡ 0
+unfolding addressesOf filterBy unionAll
+held-none s = refl
+
+pub held-read : (s : ℕ) (t : List (List Lease)) (g : ℕ) → getD (map (heldOf s) t) g 0 ≡ heldOf s (getD t g [])
+held-read s t g = ap (getD (map (heldOf s) t) g) (sym (held-none s)) ∙ List·getD-map (heldOf s) t g []
+
+counts-are : (s : ℕ) (t : List (List Lease)) (g : ℕ) → heldAt t s g ≡ countAt (map (heldOf s) t) g
+unfolding countAt
+counts-are s t g = ap (λ (x : ℕ). length (offsets x)) (sym (held-read s t g))
+
+pub allowed-is : (c : Scope) (n : ℕ) (t : List (List Lease)) (a : Ask) (k : ℕ) → a .tenant < n → allowed c n t a k ≡ allowedOf (numbersOf c n (map (heldOf (a .scope)) t) (a .tenant) (freeOf t a)) k
+unfolding allowed allowedOf numbersOf committed except pick
 allowed-is c n t a k h =
     let d : ℕ = heldAt t (a .scope) (a .tenant) + (k - length (offsets (freeOf t a))) in
-    ap (λ (x : ℕ). leb d (getD (c .limit) (a .tenant) 0) && leb x (c .size)) (committed-split c n (heldAt t (a .scope)) (a .tenant) d h)
+    ap (λ (x : ℕ). leb d (limitAt c (a .tenant)) && leb x (c .size)) (committed-split c n (heldAt t (a .scope)) (a .tenant) d h)
+    ∙ ap₂ (λ (x y : ℕ). leb (x + (k - length (offsets (freeOf t a)))) (limitAt c (a .tenant)) && leb (y + max (x + (k - length (offsets (freeOf t a)))) (reserveAt c (a .tenant))) (c .size))
+    (counts-are (a .scope) t (a .tenant))
+    (sum-same (except (a .tenant) (committed c (heldAt t (a .scope)))) (except (a .tenant) (committed c (countAt (map (heldOf (a .scope)) t)))) n
+    (λ g q. ap (λ (x : ℕ). pick (eqb g (a .tenant)) 0 (max x (reserveAt c g))) (counts-are (a .scope) t g)))
 
-pub grant-is : (c : Scope) (n : ℕ) (t : List (List Lease)) (a : Ask) (l : GrantNumbers) (k o f m d : ℕ) → a .tenant < n → Numbered c n t a l → d ≡ a .desired → k ≡ largest (allowedOf l) d
-    → o ≡ freeOf t a → f ≡ nobodysOf c t a → m ≡ setOf (chosen k o f) → _≡_ {A = Grant} (record { number = k; addresses = m }) (grantOf c n t a)
-unfolding grantOf
-grant-is c n t a l k o f m d h v ed ek eo ef em =
+-- the grant, by the sets of all tenants
+pub grant-by : (c : Scope) (n : ℕ) (t : List (List Lease)) (a : Ask) (m : List ℕ) (l : GrantNumbers) (k o f x d : ℕ) → a .tenant < n → m ≡ map (heldOf (a .scope)) t → o ≡ freeOf t a
+    → Numbered c n m (a .tenant) o l → d ≡ a .desired → k ≡ largest (allowedOf l) d → f ≡ differenceOf (poolOf c) (unionAll m) → x ≡ setOf (chosen k o f)
+    → _≡_ {A = Grant} (record { number = k; addresses = x }) (grantOf c n t a)
+unfolding grantOf takenOf
+grant-by c n t a m l k o f x d h em eo v ed ek ef ex =
+    let w : l ≡ numbersOf c n (map (heldOf (a .scope)) t) (a .tenant) (freeOf t a) = v .whole ∙ ap₂ (λ (y : List ℕ) (z : ℕ). numbersOf c n y (a .tenant) z) em eo in
     let e : k ≡ largest (allowed c n t a) (a .desired) =
-    ek ∙ ap (largest (allowedOf l)) ed ∙ ap (λ (x : GrantNumbers). largest (allowedOf x) (a .desired)) (v .whole) ∙ sym (largest-same _ _ (a .desired) (λ k. allowed-is c n t a k h)) in
+    ek ∙ ap (largest (allowedOf l)) ed ∙ ap (λ (x : GrantNumbers). largest (allowedOf x) (a .desired)) w ∙ sym (largest-same _ _ (a .desired) (λ k. allowed-is c n t a k h)) in
+    let g : f ≡ differenceOf (poolOf c) (unionAll (map (heldOf (a .scope)) t)) = ef ∙ ap (λ (y : List ℕ). differenceOf (poolOf c) (unionAll y)) em in
     cc
 
 pub granted-known : (c : Scope) (n : ℕ) (t : List (List Lease)) (a : Ask) {k : ℕ} {r : Grant} → k ≡ min n 8 → a .tenant < k → r ≡ grantOf c k t a → r ≡ grantTo c n t a

@@ -114,6 +114,16 @@ by-64 a P f g = go (ltb a 64) refl
     go true e = f a (ltb-true a 64 e)
     go false e = g a (ltb-false a 64 e)
 
+-- of the second set only what is in the first counts
+pub difference-agrees : (m n n′ : ℕ) → ((a : ℕ) → min (bit m a) (bit n a) ≡ min (bit m a) (bit n′ a)) → differenceOf m n ≡ differenceOf m n′
+difference-agrees m n n′ f = bit-eq (differenceOf m n) (differenceOf m n′) here
+  where
+    here : (a : ℕ) → bit (differenceOf m n) a ≡ bit (differenceOf m n′) a
+    here a =
+        by-64 a (λ a. bit (differenceOf m n) a ≡ bit (differenceOf m n′) a)
+        (λ a h. let e = difference-bit m n a in let e′ = difference-bit m n′ a in let u = low-bit m a h in let w = low-bit n a h in let w′ = low-bit n′ a h in let g = f a in omega arith)
+        (λ a h. let e = difference-bit m n a in let e′ = difference-bit m n′ a in let u = low-past m a h in omega arith)
+
 -- a difference is in the first set, and not in the second
 pub difference-in : (m n a : ℕ) → bit (differenceOf m n) a ≤ bit m a
 difference-in m n a =

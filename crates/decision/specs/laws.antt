@@ -4,3 +4,4 @@ pub mod Kept
 pub mod Ensured
 pub mod Reads
 pub mod Others
+pub mod View

@@ -4,8 +4,11 @@ mod proposals;
 mod tests;
 
 ghost use mathlib.Core.Path.{_≡_};
+ghost use Rattle.state.specs.declared.LeaseTable.{LeaseTable};
+ghost use Rattle.state.specs.Book.{inUse};
 ghost use Rattle.state.specs.Edit.{leaving};
-ghost use Rattle.decision.specs.Parts.{proposalOf, withLease, plainReply, nakWith, discardWith, refusalOf};
+ghost use Rattle.soundness.specs.View.{View};
+ghost use Rattle.decision.specs.Parts.{recordedOf, proposalOf, withLease, plainReply, nakWith, discardWith, refusalOf};
 ghost use Rattle.decision.specs.Decide.{unchanged, changed, leasedOf, plainOf, settledOf, judgedOf, decideOf};
 ghost use Rattle.decision.specs.declared.Reply.the-variants.{Offer, LeaseAck, ReleaseAck, InfoAck};
 use crate::proposals::lease_from;
@@ -18,10 +21,11 @@ use crate::tests::has_period;
 use crate::tests::is_resend;
 use message::Fields;
 use message::MessageType;
+use soundness::HeldTable;
 use state::Edit;
 use state::Lease;
-use state::LeaseTable;
 use state::State;
+use state::TenantLeases;
 
 // Which reply is sent: none, OFFER, ACK with a lease, ACK to RELEASE, ACK to GETINFO, or NAK.
 pub enum Reply {
@@ -210,43 +214,53 @@ fn settle(s: State, m: Fields, old: Lease, p: Proposal) -> Decided
 }
 
 // Error 0, or a lease.
-fn lease(s: State, table: LeaseTable, h: usize, m: Fields, old: Lease) -> Decided
-    ensures { λ r. ⌜ r ≡ settledOf s m old (proposalOf s table h m old) ⌝ }
+fn lease(s: State, own: TenantLeases, held: HeldTable, h: usize, m: Fields, old: Lease) -> Decided
+    requires { ⌜ old ≡ recordedOf (inUse own) m ⌝ }
+    ensures { λ r. ⌜ ((t : LeaseTable) → View s t h own held → r ≡ settledOf s m old (proposalOf s t h m old)) ⌝ }
 {
-    let p = propose(s, table, h, m, old);
+    let p = propose(s, own, held, h, m, old);
     settle(s, m, old, p)
 }
 
-fn judge(s: State, table: LeaseTable, h: usize, m: Fields, old: Lease, held: bool) -> Decided
-    ensures { λ r. ⌜ r ≡ judgedOf s table h m old held ⌝ }
+fn judge(
+    s: State,
+    own: TenantLeases,
+    held: HeldTable,
+    h: usize,
+    m: Fields,
+    old: Lease,
+    found: bool,
+) -> Decided
+    requires { ⌜ old ≡ recordedOf (inUse own) m ⌝ }
+    ensures { λ r. ⌜ ((t : LeaseTable) → View s t h own held → r ≡ judgedOf s t h m old found) ⌝ }
 {
     if is_resend(m, old) {
         return acknowledge(state::no_edit(), old);
     }
-    if error_1(s, m, held) {
+    if error_1(s, m, found) {
         return refuse(m, 1);
     }
     if error_2(s, m) {
         return refuse(m, 2);
     }
-    if error_3(m, held) {
+    if error_3(m, found) {
         return refuse(m, 3);
     }
     if has_period(m) {
-        return lease(s, table, h, m, old);
+        return lease(s, own, held, h, m, old);
     }
     plain(m, old)
 }
 
-// The verdict on a message of tenant h, counted from 0, and what it does to the tenant's leases; an unknown tenant is granted nothing.
-pub fn decide(s: State, table: LeaseTable, h: usize, m: Fields) -> Decided
-    ensures { λ r. ⌜ r ≡ decideOf s table h m ⌝ }
+// The verdict on a message of tenant h, counted from 0, and what it does to the tenant's leases. `own` are the tenant's records and `held` is
+// what all tenants hold: the answer is document 01's for every sound book of which they are that; of other arguments nothing is said.
+pub fn decide(s: State, own: TenantLeases, held: HeldTable, h: usize, m: Fields) -> Decided
+    ensures { λ r. ⌜ ((t : LeaseTable) → View s t h own held → r ≡ decideOf s t h m) ⌝ }
 {
-    let own = state::tenant_at(table, h);
     let i = m.id;
     let octets = i.octets;
     let at = state::find(own, octets, i.len);
     let n = state::lease_count(own);
     let old = state::lease_at(own, at);
-    judge(s, table, h, m, old, at < n)
+    judge(s, own, held, h, m, old, at < n)
 }

@@ -1,7 +1,16 @@
-// The period, and what a lease would be: newly granted, or renewed.
+// The period, and what a lease would be: newly granted, or renewed. `own` are the tenant's records and `held` is what all tenants hold; what is
+// promised holds of every sound book that they are a view of.
 ghost use mathlib.Core.Path.{_≡_};
-ghost use Rattle.state.specs.Book.{inUse};
-ghost use Rattle.decision.specs.Parts.{wishedOr, startOf, lengthOf, endOf, askAt, fitsNew, newWith, newAt, newOf, othersBusy, fitsRenewed, renewedTo, renewedOf, proposalOf, leaseFrom};
+ghost use Prim.Native.Nat.{ℕ};
+ghost use mathlib.Core.Bool.{_&&_};
+ghost use lib.Dec.{ltb};
+ghost use lib.ListN.{take};
+ghost use Rattle.state.specs.declared.LeaseTable.{LeaseTable};
+ghost use Rattle.state.specs.Book.{inUse, addedIf, removeOf, busyOf};
+ghost use Rattle.soundness.specs.View.{View};
+ghost use Rattle.allocation.specs.Rule.{suffices};
+ghost use Rattle.decision.specs.Parts.{wishedOr, startOf, lengthOf, endOf, askAt, recordedOf, newAt, newOf, fitsRenewed, renewedTo, renewedOf, proposalOf, leaseFrom};
+ghost use Rattle.decision.specs.Gather.{newBy, otherIn};
 use crate::Proposal;
 use crate::numbers::DEFAULT_LEASE;
 use crate::numbers::LONGEST_LEASE;
@@ -14,8 +23,8 @@ use allocation::Ask;
 use allocation::Grant;
 use message::Fields;
 use message::Wish;
+use soundness::HeldTable;
 use state::Lease;
-use state::LeaseTable;
 use state::State;
 use state::TenantLeases;
 
@@ -71,21 +80,18 @@ fn ask_at(s: State, h: usize, m: Fields, k: usize) -> Ask
     }
 }
 
-// A record is left, and the grant is enough.
-fn fits_new(t: TenantLeases, m: Fields, g: Grant) -> bool
-    ensures { λ r. ⌜ r ≡ fitsNew (inUse t) m g ⌝ }
+// Of 16 records, of which n are in use, one is left, and the grant is enough.
+fn fits_new(n: usize, least: u16, g: Grant) -> bool
+    ensures { λ r. ⌜ r ≡ (ltb n 16 && suffices least g) ⌝ }
 {
-    let n = state::lease_count(t);
-    let c = m.counts;
-    let enough = allocation::enough(c.least, g);
+    let enough = allocation::enough(least, g);
     below_and(n, 16, enough)
 }
 
-fn new_with(table: LeaseTable, m: Fields, a: Ask, g: Grant) -> Proposal
-    ensures { λ r. ⌜ r ≡ newWith table m a g ⌝ }
+fn new_with(n: usize, least: u16, a: Ask, g: Grant) -> Proposal
+    ensures { λ r. ⌜ r ≡ newBy n least a g ⌝ }
 {
-    let t = state::tenant_at(table, a.tenant);
-    let fits = fits_new(t, m, g);
+    let fits = fits_new(n, least, g);
     Proposal {
         fits: fits,
         scope: a.scope,
@@ -95,35 +101,55 @@ fn new_with(table: LeaseTable, m: Fields, a: Ask, g: Grant) -> Proposal
     }
 }
 
-fn new_at(s: State, table: LeaseTable, h: usize, m: Fields, k: usize) -> Proposal
-    ensures { λ r. ⌜ r ≡ newAt s table h m k ⌝ }
+fn new_at(s: State, own: TenantLeases, held: HeldTable, h: usize, m: Fields, k: usize) -> Proposal
+    ensures { λ r. ⌜ ((t : LeaseTable) → View s t h own held → r ≡ newAt s t h m k) ⌝ }
 {
     let c = state::scope_at(s, k);
     let a = ask_at(s, h, m, k);
     let n = arithmetic::cut8(s.tenant_count);
-    let g = allocation::granted(table, c, n, a);
-    new_with(table, m, a, g)
+    let g = allocation::granted(own, held, c, n, a);
+    let used = state::lease_count(own);
+    let w = m.counts;
+    new_with(used, w.least, a, g)
 }
 
 // What a DISCOVER or REQUEST would newly get.
-fn new_lease(s: State, table: LeaseTable, h: usize, m: Fields) -> Proposal
-    ensures { λ r. ⌜ r ≡ newOf s table h m ⌝ }
+fn new_lease(s: State, own: TenantLeases, held: HeldTable, h: usize, m: Fields) -> Proposal
+    ensures { λ r. ⌜ ((t : LeaseTable) → View s t h own held → r ≡ newOf s t h m) ⌝ }
 {
     let w = m.scope;
     let k = scope_place(s, w.value);
-    new_at(s, table, h, m, k)
+    new_at(s, own, held, h, m, k)
 }
 
-// The addresses of a scope that other leases than the message's use in a period.
-fn others_busy(table: LeaseTable, h: usize, m: Fields, scope: u8, from: u32, to: u64) -> u64
-    ensures { λ r. ⌜ r ≡ othersBusy table h m scope from to ⌝ }
+// The addresses gathered so far, with those of one more lease if it has another identifier, is in the scope and overlaps the period.
+fn add_other(sum: u64, l: Lease, id: [u8; 32], len: u8, scope: u8, from: u32, to: u64) -> u64
+    ensures { λ r. ⌜ r ≡ addedIf (otherIn (take len id) scope from to) sum l ⌝ }
 {
-    let t = state::tenant_at(table, h);
-    let i = m.id;
-    let octets = i.octets;
-    let rest = state::remove(t, octets, i.len);
-    let others = state::put_tenant(table, h, rest);
-    allocation::busy(others, scope, from, to)
+    if state::is_named(l, id, len) {
+        return sum;
+    }
+    if l.scope == scope {
+        if state::overlapping(l, from, to) {
+            return sum | l.addresses;
+        }
+    }
+    sum
+}
+
+// The addresses of a scope that the tenant's other leases than that of an identifier use in a period.
+fn others_busy(own: TenantLeases, id: [u8; 32], len: u8, scope: u8, from: u32, to: u64) -> u64
+    ensures { λ r. ⌜ r ≡ busyOf scope from to (removeOf (take len id) (inUse own)) ⌝ }
+{
+    let mut sum: u64 = 0;
+    let n = state::cut16(own.count);
+    let mut i: usize = 0;
+    while i < n {
+        let l = own.leases[i];
+        sum = add_other(sum, l, id, len, scope, from, to);
+        i += 1;
+    }
+    sum
 }
 
 fn fits_renewed(used: u64, mine: u64) -> bool
@@ -133,10 +159,13 @@ fn fits_renewed(used: u64, mine: u64) -> bool
     both == 0
 }
 
-fn renewed_to(table: LeaseTable, h: usize, m: Fields, l: Lease, from: u32, to: u64) -> Proposal
-    ensures { λ r. ⌜ r ≡ renewedTo table h m l from to ⌝ }
+fn renewed_to(own: TenantLeases, m: Fields, l: Lease, from: u32, to: u64) -> Proposal
+    requires { ⌜ l ≡ recordedOf (inUse own) m ⌝ }
+    ensures { λ r. ⌜ ((s : State) (t : LeaseTable) (h : ℕ) (held : HeldTable) → View s t h own held → r ≡ renewedTo t h m l from to) ⌝ }
 {
-    let used = others_busy(table, h, m, l.scope, from, to);
+    let i = m.id;
+    let octets = i.octets;
+    let used = others_busy(own, octets, i.len, l.scope, from, to);
     let fits = fits_renewed(used, l.addresses);
     Proposal {
         fits: fits,
@@ -147,22 +176,31 @@ fn renewed_to(table: LeaseTable, h: usize, m: Fields, l: Lease, from: u32, to: u
     }
 }
 
-// What a RENEW would make of a lease.
-fn renewed(s: State, table: LeaseTable, h: usize, m: Fields, l: Lease) -> Proposal
-    ensures { λ r. ⌜ r ≡ renewedOf s table h m l ⌝ }
+// What a RENEW would make of the lease that the tenant holds under the message's identifier.
+fn renewed(s: State, own: TenantLeases, m: Fields, l: Lease) -> Proposal
+    requires { ⌜ l ≡ recordedOf (inUse own) m ⌝ }
+    ensures { λ r. ⌜ ((t : LeaseTable) (h : ℕ) (held : HeldTable) → View s t h own held → r ≡ renewedOf s t h m l) ⌝ }
 {
     let from = start_of(m, s.clock, l.start);
     let to = end_of(m, from, l);
-    renewed_to(table, h, m, l, from, to)
+    renewed_to(own, m, l, from, to)
 }
 
-pub fn propose(s: State, table: LeaseTable, h: usize, m: Fields, l: Lease) -> Proposal
-    ensures { λ r. ⌜ r ≡ proposalOf s table h m l ⌝ }
+pub fn propose(
+    s: State,
+    own: TenantLeases,
+    held: HeldTable,
+    h: usize,
+    m: Fields,
+    l: Lease,
+) -> Proposal
+    requires { ⌜ l ≡ recordedOf (inUse own) m ⌝ }
+    ensures { λ r. ⌜ ((t : LeaseTable) → View s t h own held → r ≡ proposalOf s t h m l) ⌝ }
 {
     if is_new(m) {
-        return new_lease(s, table, h, m);
+        return new_lease(s, own, held, h, m);
     }
-    renewed(s, table, h, m, l)
+    renewed(s, own, m, l)
 }
 
 pub fn lease_from(m: Fields, p: Proposal) -> Lease

@@ -1,5 +1,5 @@
 -- `decide` meets its contract: by decide-is.
-use Rattle.decision.specs.laws.Code.{decide-is}
+use Rattle.decision.specs.laws.View.{decide-is, recorded-is}
 use borrow.Author.Needs.{needs}
 use Rattle.decision.proofs.decide.Statement.{statement}
 use Rattle.decision.proofs.decide.Tie as tie
@@ -8,9 +8,8 @@ pub decide-spec : {M : Type 1} → statement M
 decide-spec =
     tie.close
     (tie.spec
-    (λ c κs. search needs)
-    (λ c κs. search needs)
-    (λ c κs. search needs)
-    (λ c κs. search needs)
-    (λ c κs. search needs)
-    (λ c. search (decide-is, needs)))
+    (λ c κs. search needs)  -- src/lib.rt:254:9 find-requires
+    (λ c κs. search needs)  -- src/lib.rt:255:9 lease-count-requires
+    (λ c κs. search needs)  -- src/lib.rt:256:9 lease-at-requires
+    (λ c κs. search (decide-is, recorded-is, needs))  -- src/lib.rt:257:5 judge-requires
+    (λ c. search (decide-is, recorded-is, needs)))  -- src/lib.rt:249:1 returns

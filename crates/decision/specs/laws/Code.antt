@@ -22,6 +22,7 @@ use Rattle.state.specs.declared.Edit.{Edit}
 use Rattle.state.specs.declared.TenantLeases.{TenantLeases}
 use Rattle.decision.specs.declared.Decided.{Decided}
 use Rattle.decision.specs.Parts.{defaultLease, longestLease, skew, isNew, ownOf, leaseIdIn, holdsOf, recordedOf, scopePlace, knowsScope, lacksScope, lacksCurrent, skewed, error3Of, wishedOr, startOf, lengthOf, endOf, askAt, fitsNew, newWith, newAt, newOf, othersBusy, fitsRenewed, renewedTo, renewedOf, leaseFrom}
+use Rattle.decision.specs.Gather.{newBy}
 use Rattle.decision.specs.Decide.{unchanged, changed, leasedOf, settledOf, judgedOf, decideOf}
 
 -- ---- the lease, and the verdicts
@@ -78,40 +79,13 @@ pub ask-is : (s : State) (h : ℕ) (m : Fields) (k start n number : ℕ) → sta
 unfolding askAt
 ask-is s h m k start n number a b c = cc
 
-pub fits-is : (t : TenantLeases) (m : Fields) (g : Grant) (n : ℕ) (e r : Bool) → n ≡ length (inUse t) → e ≡ suffices (m .counts .least) g → r ≡ (ltb n 16 && e) → r ≡ fitsNew (inUse t) m g
-unfolding fitsNew
-fits-is t m g n e r p q u = u ∙ ap₂ (λ (x : ℕ) (y : Bool). ltb x 16 && y) p q
+pub fits-is : (n least : ℕ) (g : Grant) (e r : Bool) → e ≡ suffices least g → r ≡ (ltb n 16 && e) → r ≡ (ltb n 16 && suffices least g)
+fits-is n least g e r q u = u ∙ ap (λ (y : Bool). ltb n 16 && y) q
 
-pub new-with-is : (b : LeaseTable) (m : Fields) (a : Ask) (g : Grant) (t : TenantLeases) (f : Bool) → t ≡ tenantAt b (a .tenant) → f ≡ fitsNew (inUse t) m g
-    → _≡_ {A = Proposal} (record { fits = f; scope = a .scope; start = a .from; end = a .to; addresses = g .addresses }) (newWith b m a g)
-unfolding newWith
-new-with-is b m a g t f p q =
-    ap {B = Proposal} (λ (x : Bool). record { fits = x; scope = a .scope; start = a .from; end = a .to; addresses = g .addresses }) (q ∙ ap (λ (x : TenantLeases). fitsNew (inUse x) m g) p)
-
-pub new-at-is : (s : State) (b : LeaseTable) (h : ℕ) (m : Fields) (k : ℕ) (c : Scope) (a : Ask) (n : ℕ) (g : Grant) (r : Proposal) → c ≡ scopeAt s k → a ≡ askAt s h m k → n ≡ min (s .«tenant_count») 8
-    → g ≡ grantTo c n (leasesOf b) a → r ≡ newWith b m a g → r ≡ newAt s b h m k
-unfolding newAt
-new-at-is s b h m k c a n g r ec ea en eg er = cc
-
-pub new-is : (s : State) (b : LeaseTable) (h : ℕ) (m : Fields) (k : ℕ) (r : Proposal) → k ≡ scopePlace s (m .scope .value) → r ≡ newAt s b h m k → r ≡ newOf s b h m
-unfolding newOf
-new-is s b h m k r p e = e ∙ ap (newAt s b h m) p
-
-pub others-is : (b b′ : LeaseTable) (h : ℕ) (m : Fields) (scope from to : ℕ) (t t′ : TenantLeases) (r : ℕ) → t ≡ tenantAt b h → t′ ≡ laidOut (removeOf (leaseIdIn m) (inUse t)) → b′ ≡ putAt b h t′
-    → r ≡ busyIn scope from to (leasesOf b′) → r ≡ othersBusy b h m scope from to
-unfolding othersBusy
-others-is b b′ h m scope from to t t′ r et et′ eb er =
-    er ∙ ap (λ (x : LeaseTable). busyIn scope from to (leasesOf x)) (eb ∙ ap (putAt b h) (et′ ∙ ap (λ (x : TenantLeases). laidOut (removeOf (leaseIdIn m) (inUse x))) et))
-
-pub renewed-to-is : (b : LeaseTable) (h : ℕ) (m : Fields) (l : Lease) (from to used : ℕ) (f : Bool) → used ≡ othersBusy b h m (l .scope) from to → f ≡ fitsRenewed used (l .addresses)
-    → _≡_ {A = Proposal} (record { fits = f; scope = l .scope; start = from; end = to; addresses = l .addresses }) (renewedTo b h m l from to)
-unfolding renewedTo
-renewed-to-is b h m l from to used f p q = cc
-
-pub renewed-is : (s : State) (b : LeaseTable) (h : ℕ) (m : Fields) (l : Lease) (from to : ℕ) (r : Proposal) → from ≡ startOf m (s .clock) (l .start) → to ≡ endOf m from l
-    → r ≡ renewedTo b h m l from to → r ≡ renewedOf s b h m l
-unfolding renewedOf
-renewed-is s b h m l from to r p q e = cc
+pub new-with-is : (n least : ℕ) (a : Ask) (g : Grant) (f : Bool) → f ≡ (ltb n 16 && suffices least g)
+    → _≡_ {A = Proposal} (record { fits = f; scope = a .scope; start = a .from; end = a .to; addresses = g .addresses }) (newBy n least a g)
+unfolding newBy
+new-with-is n least a g f p = ap {B = Proposal} (λ (x : Bool). record { fits = x; scope = a .scope; start = a .from; end = a .to; addresses = g .addresses }) p
 
 pub lease-from-is : (m : Fields) (p : Proposal) (e : ℕ) → e ≡ min (p .end) 4294967295
     → _≡_ {A = Lease} (record { scope = p .scope; «id_len» = m .id .len; id = m .id .octets; kind = m .kind; xid = m .xid; start = p .start; end = e; addresses = p .addresses }) (leaseFrom m p)
@@ -130,15 +104,3 @@ edited-as {v = v} e p = p ∙ ap (λ (x : Edit). changed x v) e
 
 pub leased-is : (m : Fields) (o l l′ : Lease) (r : Decided) → l ≡ l′ → r ≡ leasedOf m o l → r ≡ leasedOf m o l′
 leased-is m o l l′ r e p = p ∙ ap (leasedOf m o) e
-
-pub settled-is : (s : State) (m : Fields) (o : Lease) (p p′ : Proposal) (r : Decided) → p ≡ p′ → r ≡ settledOf s m o p → r ≡ settledOf s m o p′
-settled-is s m o p p′ r e q = q ∙ ap (settledOf s m o) e
-
-pub decide-is : (s : State) (b : LeaseTable) (h : ℕ) (m : Fields) (t : TenantLeases) (at n : ℕ) (l : Lease) (r : Decided) → t ≡ tenantAt b h → at ≡ placeOf (leaseIdIn m) (inUse t) → n ≡ length (inUse t)
-    → l ≡ leaseAt (inUse t) at → r ≡ judgedOf s b h m l (ltb at n) → r ≡ decideOf s b h m
-unfolding decideOf recordedOf holdsOf
-decide-is s b h m t at n l r et ea en el er =
-    let x : at ≡ placeOf (leaseIdIn m) (ownOf b h) = ea ∙ ap (λ (y : TenantLeases). placeOf (leaseIdIn m) (inUse y)) et in
-    let z : n ≡ length (ownOf b h) = en ∙ ap (λ (y : TenantLeases). length (inUse y)) et in
-    let w : l ≡ leaseAt (ownOf b h) (placeOf (leaseIdIn m) (ownOf b h)) = el ∙ ap₂ (λ (y : TenantLeases) (i : ℕ). leaseAt (inUse y) i) et x in
-    er ∙ ap₂ (judgedOf s b h m) w (ap₂ ltb x z)

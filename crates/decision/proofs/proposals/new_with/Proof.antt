@@ -1,4 +1,4 @@
--- `proposals::new_with` meets its contract: by new-with-is.
+-- `new_with` meets its contract: by new-with-is.
 use Rattle.decision.specs.laws.Code.{new-with-is}
 use borrow.Author.Needs.{needs}
 use Rattle.decision.proofs.proposals.new_with.Statement.{statement}
@@ -8,6 +8,5 @@ pub new-with-spec : {M : Type 1} → statement M
 new-with-spec =
     tie.close
     (tie.spec
-    (λ c κs. search needs)
-    (λ c κs. search needs)
-    (λ c. search (new-with-is, needs)))
+    (λ c κs. search needs)  -- src/proposals.rt:94:9 fits-new-requires
+    (λ c. search (new-with-is, needs)))  -- src/proposals.rt:91:1 returns

@@ -1,13 +1,13 @@
 -- Laws: in a sound book the tenant's own leases and the sets of all tenants are all that the rule goes by, since by rule 9 no other tenant's lease is on an
 -- address of the tenant's.
-use Prim.Native.Nat.{ℕ, zero, suc, _+_, _-_, _≤_, _<_, min, max}
+use Prim.Native.Nat.{ℕ, zero, suc, _+_, _-_, _≤_, _<_, min}
 use mathlib.Core.Path.{_≡_, refl, sym, ap, ap₂, _∙_, subst}
 use mathlib.Core.Bool.{Bool, true, false, _&&_}
 use mathlib.Core.List.{List, [], _∷_, map}
 use native.Mathlib.Omega.{arith}
 use native.Mathlib.Numerals.{add-one}
 use lib.Dec.{leb, eqb}
-use lib.Bits.{bitAnd, bitOr}
+use lib.Bits.{bitOr}
 use lib.ListN.{length, getD, set, length-map, List·getD-map}
 use lib.Seq.{set-getD}
 use borrow.Author.Tests.{eqb-true, le-leb, leb-true}
@@ -18,17 +18,16 @@ use Rattle.lists.specs.laws.Both.{and-parts, and-both}
 use Rattle.lists.specs.Filter.{filterBy}
 use Rattle.lists.specs.Down.{largest}
 use Rattle.address_set.specs.AddressSet.{bit, setOf, differenceOf, chosen}
-use Rattle.address_set.specs.laws.Bits.{bit-le, bit-or, bit-and, bit-eq, bit-of-zero, without}
+use Rattle.address_set.specs.laws.Bits.{bit-le, bit-or, bit-of-zero}
 use Rattle.state.specs.declared.Lease.{Lease}
 use Rattle.state.specs.declared.TenantLeases.{TenantLeases}
 use Rattle.state.specs.declared.LeaseTable.{LeaseTable}
 use Rattle.state.specs.declared.Scope.{Scope}
 use Rattle.state.specs.declared.State.{State}
-use Rattle.state.specs.Book.{inUse, laidOut, leasesOf, tenantAt, unionAll, addressesOf, inScope, heldOf, busyOf}
-use Rattle.state.specs.laws.Sets.{adds, addresses-cons}
-use Rattle.soundness.specs.declared.Held.{Held}
+use Rattle.state.specs.Book.{inUse, laidOut, leasesOf, unionAll, addressesOf, inScope, heldOf, busyOf}
+use Rattle.state.specs.laws.Sets.{addresses-cons}
 use Rattle.soundness.specs.declared.HeldTable.{HeldTable}
-use Rattle.soundness.specs.Sound.{oneTo, apart, apartIn, soundB}
+use Rattle.soundness.specs.Sound.{oneTo, apartIn}
 use Rattle.soundness.specs.Parts.{setAt, heldSets, holdingsOf}
 use Rattle.soundness.specs.View.{View}
 use Rattle.soundness.specs.laws.Book.{leaseOk, Sound, sound-lists}

@@ -2,16 +2,12 @@
 use Prim.Native.Nat.{ℕ, _+_, _-_, min, max, _<_, _≤_}
 use mathlib.Core.Bool.{Bool, not, _&&_, _||_}
 use lib.Dec.{ltb, eqb}
-use lib.ListN.{length}
 use Rattle.message.specs.declared.Fields.{Fields}
 use Rattle.state.specs.declared.Lease.{Lease}
-use Rattle.state.specs.declared.LeaseTable.{LeaseTable}
-use Rattle.state.specs.declared.Scope.{Scope}
 use Rattle.state.specs.declared.State.{State}
-use Rattle.state.specs.Book.{inUse, laidOut, leasesOf, tenantAt, putAt, placeOf, leaseAt, removeOf, scopeAt}
 use Rattle.allocation.specs.declared.Ask.{Ask}
 use Rattle.allocation.specs.declared.Grant.{Grant}
-use Rattle.allocation.specs.Rule.{grantTo, suffices, busyIn}
+use Rattle.allocation.specs.Rule.{suffices}
 use Rattle.decision.specs.declared.Proposal.{Proposal}
 use Rattle.decision.specs.declared.Verdict.{Verdict}
 use Rattle.decision.specs.declared.Reply.{Reply}
@@ -19,11 +15,10 @@ use Rattle.decision.specs.declared.Reply.the-variants.{Nothing, Offer, L
 use mathlib.Core.Path.{_≡_, ap, ap₂, _∙_}
 use native.Mathlib.Omega.{arith}
 use Rattle.state.specs.declared.Edit.{Edit}
-use Rattle.state.specs.declared.TenantLeases.{TenantLeases}
 use Rattle.decision.specs.declared.Decided.{Decided}
-use Rattle.decision.specs.Parts.{defaultLease, longestLease, skew, isNew, ownOf, leaseIdIn, holdsOf, recordedOf, scopePlace, knowsScope, lacksScope, lacksCurrent, skewed, error3Of, wishedOr, startOf, lengthOf, endOf, askAt, fitsNew, newWith, newAt, newOf, othersBusy, fitsRenewed, renewedTo, renewedOf, leaseFrom}
+use Rattle.decision.specs.Parts.{defaultLease, longestLease, skew, isNew, scopePlace, knowsScope, lacksScope, lacksCurrent, skewed, error3Of, wishedOr, startOf, lengthOf, endOf, askAt, leaseFrom}
 use Rattle.decision.specs.Gather.{newBy}
-use Rattle.decision.specs.Decide.{unchanged, changed, leasedOf, settledOf, judgedOf, decideOf}
+use Rattle.decision.specs.Decide.{unchanged, changed, leasedOf}
 
 -- ---- the lease, and the verdicts
 -- the type number of each reply: OFFER, ACK and NAK; 0 where none is sent

@@ -6,7 +6,7 @@ use mathlib.Core.List.{List, [], _∷_, map}
 use native.Mathlib.Omega.{arith}
 use lib.Dec.{ltb, eqb}
 use lib.Bits.{bitAnd, bitOr}
-use lib.ListN.{length, getD, set}
+use lib.ListN.{length, set}
 use borrow.Author.Tests.{eq-eqb, ne-eqb}
 use Rattle.lists.specs.Pick.{pick}
 use Rattle.lists.specs.laws.Pick.{pick-yes, pick-no}
@@ -20,7 +20,7 @@ use Rattle.state.specs.declared.TenantLeases.{TenantLeases}
 use Rattle.state.specs.declared.LeaseTable.{LeaseTable}
 use Rattle.state.specs.declared.Scope.{Scope}
 use Rattle.state.specs.declared.State.{State}
-use Rattle.state.specs.Book.{inUse, leasesOf, tenantAt, named, other, placeOf, leaseAt, zeroLease, removeOf, unionAll, addressesOf, inScope, overlaps, usedIn, heldOf, busyOf, scopeAt, addedIf}
+use Rattle.state.specs.Book.{inUse, leasesOf, named, other, placeOf, leaseAt, removeOf, unionAll, addressesOf, inScope, overlaps, usedIn, heldOf, busyOf, scopeAt, addedIf}
 use Rattle.state.specs.laws.Sets.{adds, addresses-cons, added-is, add-yes, add-no}
 use Rattle.soundness.specs.declared.HeldTable.{HeldTable}
 use Rattle.soundness.specs.View.{View}
@@ -30,7 +30,7 @@ use Rattle.allocation.specs.Rule.{grantTo, busyIn}
 use Rattle.allocation.specs.laws.View.{view-sound, view-there, view-own, busy-own}
 use Rattle.decision.specs.declared.Proposal.{Proposal}
 use Rattle.decision.specs.declared.Decided.{Decided}
-use Rattle.decision.specs.Parts.{isNew, fitsNew, ownOf, leaseIdIn, holdsOf, recordedOf, scopePlace, startOf, endOf, askAt, newWith, newAt, newOf, othersBusy, fitsRenewed, renewedTo, renewedOf, proposalOf, updated}
+use Rattle.decision.specs.Parts.{isNew, fitsNew, ownOf, leaseIdIn, holdsOf, recordedOf, scopePlace, startOf, endOf, askAt, newWith, newAt, newOf, othersBusy, fitsRenewed, renewedTo, renewedOf, proposalOf}
 use Rattle.decision.specs.Gather.{newBy, otherIn}
 use Rattle.decision.specs.Decide.{settledOf, judgedOf, decideOf}
 use Rattle.decision.specs.laws.Kept.{updated-leases}

@@ -22,12 +22,12 @@ others-busy-spec =
     (tie.spec
     Inv-loop
     μ-loop
-    (λ c κs. search (parts, others-added, needs))  -- src/proposals.rt:145:9 cut16-requires
+    (λ c κs. search (parts, needs))  -- src/proposals.rt:145:9 cut16-requires
     (λ c. search (parts, others-added, needs))  -- src/proposals.rt:147:5 loop-holds
     (λ c. search (parts, others-added, needs))  -- src/proposals.rt:148:17 mul-l
     (λ c. search (parts, others-added, needs))  -- src/proposals.rt:148:17 element-copy-out-l
-    (λ c κs. search (parts, others-added, needs))  -- src/proposals.rt:149:9 add-other-requires
+    (λ c κs. search (parts, needs))  -- src/proposals.rt:149:9 add-other-requires
     (λ c. search (parts, others-added, needs))  -- src/proposals.rt:150:9 add-i
     (λ c. search (parts, others-added, needs))  -- src/proposals.rt:147:5 loop-less
-    (λ c. search (parts, others-added, needs))  -- src/proposals.rt:147:5 loop-again
-    (λ c. search (parts, others-added, needs)))  -- src/proposals.rt:141:1 returns
+    (λ c. search (parts, needs))  -- src/proposals.rt:147:5 loop-again
+    (λ c. search (parts, needs)))  -- src/proposals.rt:141:1 returns

@@ -4,11 +4,13 @@ mod proposals;
 mod tests;
 
 ghost use mathlib.Core.Path.{_≡_};
+ghost use lib.ListN.{take};
 ghost use Rattle.state.specs.declared.LeaseTable.{LeaseTable};
 ghost use Rattle.state.specs.Book.{inUse};
 ghost use Rattle.state.specs.Edit.{leaving};
 ghost use Rattle.soundness.specs.View.{View};
 ghost use Rattle.decision.specs.Parts.{recordedOf, proposalOf, withLease, plainReply, nakWith, discardWith, refusalOf};
+ghost use Rattle.decision.specs.Gather.{recordedIn};
 ghost use Rattle.decision.specs.Decide.{unchanged, changed, leasedOf, plainOf, settledOf, judgedOf, decideOf};
 ghost use Rattle.decision.specs.declared.Reply.the-variants.{Offer, LeaseAck, ReleaseAck, InfoAck};
 use crate::proposals::lease_from;
@@ -61,6 +63,12 @@ pub struct Proposal {
     pub start: u32,
     pub end: u64,
     pub addresses: u64,
+}
+
+// Whether a tenant holds an identifier, and its lease, an unused record where it holds none.
+struct Recorded {
+    found: bool,
+    lease: Lease,
 }
 
 fn with_lease(reply: Reply, l: Lease) -> Verdict
@@ -252,6 +260,27 @@ fn judge(
     plain(m, old)
 }
 
+fn look_up(own: TenantLeases, id: [u8; 32], len: u8) -> Recorded
+    ensures { λ r. ⌜ r ≡ recordedIn (take len id) (inUse own) ⌝ }
+{
+    let n = state::cut16(own.count);
+    let mut i: usize = 0;
+    while i < n {
+        let l = own.leases[i];
+        if state::is_named(l, id, len) {
+            return Recorded {
+                found: true,
+                lease: l,
+            };
+        }
+        i += 1;
+    }
+    Recorded {
+        found: false,
+        lease: state::no_lease(),
+    }
+}
+
 // The verdict on a message of tenant h, counted from 0, and what it does to the tenant's leases. `own` are the tenant's records and `held` is
 // what all tenants hold: the answer is document 01's for every sound book of which they are that; of other arguments nothing is said.
 pub fn decide(s: State, own: TenantLeases, held: HeldTable, h: usize, m: Fields) -> Decided
@@ -259,8 +288,7 @@ pub fn decide(s: State, own: TenantLeases, held: HeldTable, h: usize, m: Fields)
 {
     let i = m.id;
     let octets = i.octets;
-    let at = state::find(own, octets, i.len);
-    let n = state::lease_count(own);
-    let old = state::lease_at(own, at);
-    judge(s, own, held, h, m, old, at < n)
+    let r = look_up(own, octets, i.len);
+    let old = r.lease;
+    judge(s, own, held, h, m, old, r.found)
 }

@@ -8,8 +8,6 @@ pub decide-spec : {M : Type 1} → statement M
 decide-spec =
     tie.close
     (tie.spec
-    (λ c κs. search needs)  -- src/lib.rt:254:9 find-requires
-    (λ c κs. search needs)  -- src/lib.rt:255:9 lease-count-requires
-    (λ c κs. search needs)  -- src/lib.rt:256:9 lease-at-requires
-    (λ c κs. search (recorded-is, needs))  -- src/lib.rt:257:5 judge-requires
-    (λ c. search (decide-is, needs)))  -- src/lib.rt:249:1 returns
+    (λ c κs. search needs)  -- src/lib.rt:291:9 look-up-requires
+    (λ c κs. search (decide-is, recorded-is, needs))  -- src/lib.rt:293:5 judge-requires
+    (λ c. search (decide-is, recorded-is, needs)))  -- src/lib.rt:286:1 returns

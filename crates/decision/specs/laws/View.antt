@@ -1,13 +1,13 @@
 -- Laws: between the decision, which is one of the whole book, and the code, which has the tenant's own records and what all tenants hold.
-use Prim.Native.Nat.{ℕ, zero, suc, _≤_, min, max}
+use Prim.Native.Nat.{ℕ, zero, suc, _≤_, _<_, min, max}
 use mathlib.Core.Path.{_≡_, refl, sym, ap, ap₂, _∙_, subst}
 use mathlib.Core.Bool.{Bool, true, false, not, _&&_}
 use mathlib.Core.List.{List, [], _∷_, map}
 use native.Mathlib.Omega.{arith}
 use lib.Dec.{ltb, eqb}
 use lib.Bits.{bitAnd, bitOr}
-use lib.ListN.{length, set}
-use borrow.Author.Tests.{eq-eqb, ne-eqb}
+use lib.ListN.{length, getD, set}
+use borrow.Author.Tests.{eq-eqb, ne-eqb, lt-ltb, le-ltb}
 use Rattle.lists.specs.Pick.{pick}
 use Rattle.lists.specs.laws.Pick.{pick-yes, pick-no}
 use Rattle.lists.specs.Fold.{fold}
@@ -20,7 +20,8 @@ use Rattle.state.specs.declared.TenantLeases.{TenantLeases}
 use Rattle.state.specs.declared.LeaseTable.{LeaseTable}
 use Rattle.state.specs.declared.Scope.{Scope}
 use Rattle.state.specs.declared.State.{State}
-use Rattle.state.specs.Book.{inUse, leasesOf, named, other, placeOf, leaseAt, removeOf, unionAll, addressesOf, inScope, overlaps, usedIn, heldOf, busyOf, scopeAt, addedIf}
+use Rattle.state.specs.Book.{inUse, leasesOf, named, other, placeOf, leaseAt, zeroLease, removeOf, unionAll, addressesOf, inScope, overlaps, usedIn, heldOf, busyOf, scopeAt, addedIf}
+use Rattle.state.specs.laws.Layout.{noLease, length-in-use, lease-in, lease-out}
 use Rattle.state.specs.laws.Sets.{adds, addresses-cons, added-is, add-yes, add-no}
 use Rattle.soundness.specs.declared.HeldTable.{HeldTable}
 use Rattle.soundness.specs.View.{View}
@@ -30,8 +31,9 @@ use Rattle.allocation.specs.Rule.{grantTo, busyIn}
 use Rattle.allocation.specs.laws.View.{view-sound, view-there, view-own, busy-own}
 use Rattle.decision.specs.declared.Proposal.{Proposal}
 use Rattle.decision.specs.declared.Decided.{Decided}
+use Rattle.decision.specs.declared.Recorded.{Recorded}
 use Rattle.decision.specs.Parts.{isNew, fitsNew, ownOf, leaseIdIn, holdsOf, recordedOf, scopePlace, startOf, endOf, askAt, newWith, newAt, newOf, othersBusy, fitsRenewed, renewedTo, renewedOf, proposalOf}
-use Rattle.decision.specs.Gather.{newBy, otherIn}
+use Rattle.decision.specs.Gather.{recordedIn, newBy, otherIn}
 use Rattle.decision.specs.Decide.{settledOf, judgedOf, decideOf}
 use Rattle.decision.specs.laws.Kept.{updated-leases}
 
@@ -162,16 +164,30 @@ pub settled-is : (s : State) (own : TenantLeases) (held : HeldTable) (h : ℕ) (
     → r ≡ settledOf s m o p → (t : LeaseTable) → View s t h own held → r ≡ settledOf s m o (proposalOf s t h m o)
 settled-is s own held h m o p r f e t w = e ∙ ap (settledOf s m o) (f t w)
 
-pub recorded-is : (own : TenantLeases) (m : Fields) (at : ℕ) (l : Lease) → at ≡ placeOf (leaseIdIn m) (inUse own) → l ≡ leaseAt (inUse own) at → l ≡ recordedOf (inUse own) m
-unfolding recordedOf
-recorded-is own m at l p e = e ∙ ap (leaseAt (inUse own)) p
+-- the loop that looks for an identifier
+pub found-is : (i : List ℕ) (own : TenantLeases) (n at : ℕ) → length (own .leases) ≡ 16 → n ≡ min (own .count) 16 → at < n → at ≡ placeOf i (inUse own)
+    → _≡_ {A = Recorded} (record { found = true; lease = getD (own .leases) at noLease }) (recordedIn i (inUse own))
+unfolding recordedIn
+found-is i own n at g e h p =
+    let k = length-in-use own n g e in
+    ap₂ {C = Recorded} (λ (b : Bool) (x : Lease). record { found = b; lease = x }) (sym (lt-ltb (placeOf i (inUse own)) (length (inUse own)) (omega arith)))
+    (lease-in own n at g e h ∙ ap (leaseAt (inUse own)) p)
 
-pub decide-is : (s : State) (own : TenantLeases) (held : HeldTable) (h : ℕ) (m : Fields) (at n : ℕ) (l : Lease) (r : Decided) → at ≡ placeOf (leaseIdIn m) (inUse own) → n ≡ length (inUse own)
-    → l ≡ leaseAt (inUse own) at → ((t : LeaseTable) → View s t h own held → r ≡ judgedOf s t h m l (ltb at n)) → (t : LeaseTable) → View s t h own held → r ≡ decideOf s t h m
-unfolding decideOf recordedOf holdsOf
-decide-is s own held h m at n l r ea en el f t w =
-    let e : inUse own ≡ ownOf t h = ap inUse (w .records) in
-    let x : at ≡ placeOf (leaseIdIn m) (ownOf t h) = ea ∙ ap (placeOf (leaseIdIn m)) e in
-    let z : n ≡ length (ownOf t h) = en ∙ ap length e in
-    let y : l ≡ leaseAt (ownOf t h) (placeOf (leaseIdIn m) (ownOf t h)) = el ∙ ap₂ leaseAt e x in
-    f t w ∙ ap₂ (judgedOf s t h m) y (ap₂ ltb x z)
+pub absent-is : (i : List ℕ) (own : TenantLeases) (n at : ℕ) (z : Lease) → length (own .leases) ≡ 16 → n ≡ min (own .count) 16 → n ≤ at → at ≡ placeOf i (inUse own) → z ≡ zeroLease
+    → _≡_ {A = Recorded} (record { found = false; lease = z }) (recordedIn i (inUse own))
+unfolding recordedIn
+absent-is i own n at z g e h p q =
+    let k = length-in-use own n g e in
+    ap₂ {C = Recorded} (λ (b : Bool) (x : Lease). record { found = b; lease = x }) (sym (le-ltb (placeOf i (inUse own)) (length (inUse own)) (omega arith)))
+    (lease-out own n at z g q e h ∙ ap (leaseAt (inUse own)) p)
+
+pub recorded-is : (own : TenantLeases) (m : Fields) (o : Recorded) → o ≡ recordedIn (leaseIdIn m) (inUse own) → o .lease ≡ recordedOf (inUse own) m
+unfolding recordedOf recordedIn
+recorded-is own m o p = ap (λ (x : Recorded). x .lease) p
+
+pub decide-is : (s : State) (own : TenantLeases) (held : HeldTable) (h : ℕ) (m : Fields) (o : Recorded) (r : Decided) → o ≡ recordedIn (leaseIdIn m) (inUse own)
+    → ((t : LeaseTable) → View s t h own held → r ≡ judgedOf s t h m (o .lease) (o .found)) → (t : LeaseTable) → View s t h own held → r ≡ decideOf s t h m
+unfolding decideOf recordedOf holdsOf recordedIn
+decide-is s own held h m o r p f t w =
+    let e : o ≡ recordedIn (leaseIdIn m) (ownOf t h) = p ∙ ap (λ (x : TenantLeases). recordedIn (leaseIdIn m) (inUse x)) (w .records) in
+    f t w ∙ ap (λ (x : Recorded). judgedOf s t h m (x .lease) (x .found)) e

@@ -21,14 +21,14 @@ look-up-spec =
     (tie.spec
     Inv-loop
     μ-loop
-    (λ c κs. search (places, found-is, absent-is, needs))  -- src/lib.rt:266:9 cut16-requires
-    (λ c. search (places, found-is, absent-is, needs))  -- src/lib.rt:268:5 loop-holds
+    (λ c κs. search (places, needs))  -- src/lib.rt:266:9 cut16-requires
+    (λ c. search (places, needs))  -- src/lib.rt:268:5 loop-holds
     (λ c. search (places, found-is, absent-is, needs))  -- src/lib.rt:269:17 mul-l
     (λ c. search (places, found-is, absent-is, needs))  -- src/lib.rt:269:17 element-copy-out-l
-    (λ c κs. search (places, found-is, absent-is, needs))  -- src/lib.rt:270:12 is-named-requires
-    (λ c. search (places, found-is, absent-is, needs))  -- src/lib.rt:271:13 returns
+    (λ c κs. search (places, needs))  -- src/lib.rt:270:12 is-named-requires
+    (λ c. search (places, found-is, needs))  -- src/lib.rt:271:13 returns
     (λ c. search (places, found-is, absent-is, needs))  -- src/lib.rt:276:9 add-i
     (λ c. search (places, found-is, absent-is, needs))  -- src/lib.rt:268:5 loop-less
-    (λ c. search (places, found-is, absent-is, needs))  -- src/lib.rt:268:5 loop-again
-    (λ c κs. search (places, found-is, absent-is, needs))  -- src/lib.rt:280:16 no-lease-requires
-    (λ c. search (places, found-is, absent-is, needs)))  -- src/lib.rt:263:1 returns-2
+    (λ c. search (places, needs))  -- src/lib.rt:268:5 loop-again
+    (λ c κs. search (places, needs))  -- src/lib.rt:280:16 no-lease-requires
+    (λ c. search (places, absent-is, needs)))  -- src/lib.rt:263:1 returns-2

@@ -15,8 +15,9 @@ use Rattle.state.specs.declared.State.{State}
 use Rattle.state.specs.Book.{byIdentifier, insertOf, laidOut, removeOf, zeroLease}
 use Rattle.soundness.specs.Sound.{blankB, layoutB, paddedB, unusedB, zeroFrom}
 use Rattle.server.specs.Serve.{Call}
+use Rattle.records.specs.declared.Found.the-variants.{Absent, At}
 use Rattle.records.specs.Records.{recordsOf, rows, rowsOf, tableFrom, tenantFrom}
-use Rattle.records.specs.Lent.{findLent, findWith, insertLent, insertWith, removeLent, removeWith, serveLent, serveWith, is128, writtenLent, writtenWith}
+use Rattle.records.specs.Lent.{findLent, findWith, foundAmong, insertLent, insertWith, removeLent, removeWith, serveLent, serveWith, is128, writtenLent, writtenWith}
 
 -- a lease by the last octet of its identifier
 lease : ℕ → Lease
@@ -39,14 +40,31 @@ remove-first : removeLent 1 (0 ∷ 1 ∷ []) (ours (lease 1 ∷ lease 3 ∷ []) 
 unfolding lease unused ours removeWith is128 pick tableFrom rows tenantFrom placeBy unusedB blankB zeroFrom allBy removeOf filterBy orderOf sameOf laidOut recordsOf rowsOf
 remove-first = refl
 
-find-second : findLent 1 (0 ∷ 3 ∷ []) (ours (lease 1 ∷ lease 3 ∷ []) 110) ≡ 1
-unfolding lease unused ours findWith is128 pick tableFrom rows tenantFrom placeBy unusedB blankB zeroFrom allBy orderOf sameOf
+-- at a place, the first too
+find-second : findLent 1 (0 ∷ 3 ∷ []) (ours (lease 1 ∷ lease 3 ∷ []) 110) ≡ At 1
+unfolding lease unused ours findWith foundAmong is128 pick tableFrom rows tenantFrom placeBy unusedB blankB zeroFrom allBy orderOf sameOf
 find-second = refl
 
--- of another house
-find-none : findLent 0 (0 ∷ 3 ∷ []) (ours (lease 1 ∷ lease 3 ∷ []) 110) ≡ 0
-unfolding lease unused ours findWith is128 pick tableFrom rows tenantFrom placeBy unusedB blankB zeroFrom allBy orderOf sameOf
+find-first : findLent 1 (0 ∷ 1 ∷ []) (ours (lease 1 ∷ lease 3 ∷ []) 110) ≡ At 0
+unfolding lease unused ours findWith foundAmong is128 pick tableFrom rows tenantFrom placeBy unusedB blankB zeroFrom allBy orderOf sameOf
+find-first = refl
+
+-- another identifier, another house, a ninth house, 127 records
+find-other : findLent 1 (0 ∷ 2 ∷ []) (ours (lease 1 ∷ lease 3 ∷ []) 110) ≡ Absent
+unfolding lease unused ours findWith foundAmong is128 pick tableFrom rows tenantFrom placeBy unusedB blankB zeroFrom allBy orderOf sameOf
+find-other = refl
+
+find-none : findLent 0 (0 ∷ 3 ∷ []) (ours (lease 1 ∷ lease 3 ∷ []) 110) ≡ Absent
+unfolding lease unused ours findWith foundAmong is128 pick tableFrom rows tenantFrom placeBy unusedB blankB zeroFrom allBy orderOf sameOf
 find-none = refl
+
+find-ninth : findLent 8 (0 ∷ 3 ∷ []) (ours (lease 1 ∷ lease 3 ∷ []) 110) ≡ Absent
+unfolding lease unused ours findWith foundAmong is128 pick tableFrom rows tenantFrom placeBy unusedB blankB zeroFrom allBy orderOf sameOf laidOut
+find-ninth = refl
+
+find-127 : findLent 1 (0 ∷ 3 ∷ []) (ours (lease 1 ∷ lease 3 ∷ []) 109) ≡ Absent
+unfolding lease unused ours findWith is128 pick
+find-127 = refl
 
 -- a ninth house, a house whose sixteen records are used, 127 records: nothing changes
 ninth : insertLent 8 (lease 2) (unused 128) ≡ unused 128

@@ -3,9 +3,9 @@
 use Prim.Native.Nat.{ℕ}
 use mathlib.Core.Path.{_≡_}
 use mathlib.Core.Bool.{Bool}
-use mathlib.Core.List.{List, [], _++_}
+use mathlib.Core.List.{List, []}
 use lib.Dec.{eqb, ltb}
-use lib.ListN.{drop, length}
+use lib.ListN.{length}
 use Rattle.lists.specs.Pick.{pick}
 use Rattle.state.specs.declared.Book.{Book}
 use Rattle.state.specs.declared.Lease.{Lease}
@@ -13,11 +13,13 @@ use Rattle.state.specs.declared.LeaseTable.{LeaseTable}
 use Rattle.state.specs.declared.State.{State}
 use Rattle.state.specs.Book.{insertOf, laidOut, placeOf, putAt, removeOf}
 use Rattle.decision.specs.Parts.{ownOf}
-use Rattle.server.specs.Serve.{Answer, Call, serveOf}
+use Rattle.server.specs.declared.Outcome.{Outcome}
+use Rattle.server.specs.Serve.{Answer, Call, Said, Tells, bookOf, serveOf}
 use Rattle.state_file.specs.declared.Loaded.{Loaded}
 use Rattle.state_file.specs.declared.Written.{Written}
 use Rattle.state_file.specs.StateFile.{readFile, roomAfter, writtenOf}
-use Rattle.records.specs.declared.Outcome.{Outcome}
+use Rattle.records.specs.declared.Found.{Found}
+use Rattle.records.specs.declared.Found.the-variants.{Absent, At}
 use Rattle.records.specs.declared.ReadRecords.{ReadRecords}
 use Rattle.records.specs.declared.ServedRecords.{ServedRecords}
 use Rattle.records.specs.Records.{recordsOf, tableFrom}
@@ -28,7 +30,7 @@ is128 n = eqb n 128
 
 -- the book that a lent state and lent records are
 abbrev pub bookFrom : State → List Lease → Book
-bookFrom s ls = record { state = s; table = tableFrom ls }
+bookFrom s ls = bookOf s (tableFrom ls)
 
 -- ---- the call
 pub record LentAnswer : Type 0 where
@@ -36,6 +38,10 @@ pub record LentAnswer : Type 0 where
   pub reply : List ℕ
   pub state : State
   pub leases : List Lease
+
+-- what of it the caller is told
+abbrev pub lentSaid : LentAnswer → Said
+lentSaid a = record { outcome = a .outcome; reply = a .reply }
 
 -- an answer with its book as state and records
 abbrev pub lentAnswer : Answer → LentAnswer
@@ -48,22 +54,18 @@ serveWith n s ls c = pick (is128 n) (lentAnswer (serveOf (bookFrom s ls) c)) (re
 abbrev pub serveLent : State → List Lease → Call → LentAnswer
 serveLent s ls c = serveWith (length ls) s ls c
 
--- what a function on 128 records by value promises: outcome, length, clock, records, and every octet of the reply buffer
+-- what a function on 128 records by value promises: what is told, the clock and every record
 pub record ServesRecords (a : LentAnswer) (before after : List ℕ) (r : ServedRecords) : Type 0 where
-  pub outcome : r .outcome ≡ a .outcome
-  pub size : r .length ≡ length (a .reply)
+  pub tells : Tells (lentSaid a) before after (r .outcome)
   pub clock : r .clock ≡ a .state .clock
   pub leases : r .records .leases ≡ a .leases
-  pub buffer : after ≡ a .reply ++ drop (length (a .reply)) before
   pub long : length (r .records .leases) ≡ 128
 
--- what the call promises: outcome and length, the state, every lease record and every octet of the reply buffer
+-- what the call promises: what is told, the state and every lease record
 pub record ServesLent (a : LentAnswer) (s : State) (ls : List Lease) (before after : List ℕ) (r : Outcome) : Type 0 where
-  pub outcome : r .outcome ≡ a .outcome
-  pub size : r .length ≡ length (a .reply)
+  pub tells : Tells (lentSaid a) before after r
   pub state : s ≡ a .state
   pub leases : ls ≡ a .leases
-  pub buffer : after ≡ a .reply ++ drop (length (a .reply)) before
 
 -- ---- the reader
 pub record LentReading : Type 0 where
@@ -117,10 +119,14 @@ roomLent s ls room = roomWith (length ls) s ls room
 abbrev pub withOwn : LeaseTable → ℕ → List Lease → List Lease
 withOwn t h p = recordsOf (putAt t h (laidOut p))
 
--- the place of an identifier among the records of a tenant; the number of its leases where it has none, so 0 of no tenant; 0 too of another number
--- of records
-unfoldable pub findWith : ℕ → ℕ → List ℕ → List Lease → ℕ
-findWith n h i ls = pick (is128 n) (placeOf i (ownOf (tableFrom ls) h)) 0
+-- at a place below their number n, or absent
+unfoldable pub foundAmong : ℕ → ℕ → Found
+foundAmong n at = pick (ltb at n) (At at) Absent
+
+-- where an identifier stands among the leases of a tenant, counted from 0: at the first with that identifier, or absent; so absent of no tenant, and
+-- absent too of another number of records
+unfoldable pub findWith : ℕ → ℕ → List ℕ → List Lease → Found
+findWith n h i ls = pick (is128 n) (foundAmong (length (ownOf (tableFrom ls) h)) (placeOf i (ownOf (tableFrom ls) h))) Absent
 
 -- one lease more, after those before it in the order of identifiers and ahead of the others, those of the same identifier too; a tenant whose sixteen
 -- records are used, no tenant, and another number of records keep what they have
@@ -133,7 +139,7 @@ insertWith n h l ls =
 unfoldable pub removeWith : ℕ → ℕ → List ℕ → List Lease → List Lease
 removeWith n h i ls = pick (is128 n) (pick (ltb h 8) (withOwn (tableFrom ls) h (removeOf i (ownOf (tableFrom ls) h))) ls) ls
 
-abbrev pub findLent : ℕ → List ℕ → List Lease → ℕ
+abbrev pub findLent : ℕ → List ℕ → List Lease → Found
 findLent h i ls = findWith (length ls) h i ls
 
 abbrev pub insertLent : ℕ → Lease → List Lease → List Lease

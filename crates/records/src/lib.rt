@@ -8,7 +8,8 @@ ghost use Rattle.soundness.specs.Sound.{unusedB};
 ghost use Rattle.state.specs.Book.{zeroLease};
 ghost use Rattle.state_file.specs.StateFile.{readFile};
 ghost use Rattle.records.specs.Records.{tenantFrom, tableFrom, recordsOf};
-ghost use Rattle.records.specs.Lent.{serveWith, ServesRecords, readWith, Reads, writtenWith, roomWith, findWith, insertWith, removeWith};
+ghost use Rattle.records.specs.Lent.{serveWith, ServesRecords, readWith, Reads, writtenWith, roomWith, foundAmong, findWith, insertWith, removeWith};
+use server::Outcome;
 use state::Book;
 use state::Lease;
 use state::LeaseTable;
@@ -20,18 +21,17 @@ pub struct Records {
     pub leases: [Lease; 128],
 }
 
-// A call's outcome and its reply's length.
-pub struct Outcome {
-    pub outcome: u8,
-    pub length: usize,
-}
-
-// The same with the clock and the records afterwards.
+// What the caller is told of a call, with the clock and the records afterwards.
 pub struct ServedRecords {
-    pub outcome: u8,
-    pub length: usize,
+    pub outcome: Outcome,
     pub clock: u32,
     pub records: Records,
+}
+
+// Where a tenant has a lease with an identifier: at a place among its records, counted from 0.
+pub enum Found {
+    At(usize),
+    Absent,
 }
 
 // A refusal or 0, and the state and the records afterwards.
@@ -163,16 +163,18 @@ pub fn serve(
         let s = b.state;
         let u = b.table;
         let x = records_of(u);
+        let o = r.outcome;
         return ServedRecords {
-            outcome: r.outcome,
-            length: r.length,
+            outcome: o,
             clock: s.clock,
             records: x,
         };
     }
     ServedRecords {
-        outcome: 1,
-        length: 0,
+        outcome: Outcome {
+            outcome: 1,
+            length: 0,
+        },
         clock: state.clock,
         records: records,
     }
@@ -223,16 +225,27 @@ pub fn write(state: State, records: Records, n: usize, room: &mut [u8]) -> Writt
 
 // ---- one record of a tenant, counted from 0
 
-// The place of an identifier among a tenant's records; the number of its leases where it has none.
-pub fn find(records: Records, n: usize, h: usize, id: [u8; 32], len: u8) -> usize
+// A place among n leases; that of none is n.
+fn found_among(n: usize, at: usize) -> Found
+    ensures { λ r. ⌜ r ≡ foundAmong n at ⌝ }
+{
+    if at < n {
+        return Found::At(at);
+    }
+    Found::Absent
+}
+
+// The place of an identifier among a tenant's records.
+pub fn find(records: Records, n: usize, h: usize, id: [u8; 32], len: u8) -> Found
     ensures { λ r. ⌜ r ≡ findWith n h (take len id) (records .leases) ⌝ }
 {
     if n == 128 {
         let t = table_of(records);
         let own = state::tenant_at(t, h);
-        return state::find(own, id, len);
+        let at = state::find(own, id, len);
+        return found_among(state::lease_count(own), at);
     }
-    0
+    Found::Absent
 }
 
 // One lease more, where a record of the tenant is left.

@@ -31,7 +31,7 @@ use Rattle.decision.specs.declared.Reply.{Reply}
 use Rattle.decision.specs.declared.Verdict.{Verdict}
 use Rattle.decision.specs.Decide.{decideOf}
 use Rattle.server.specs.declared.Served.{Served}
-use Rattle.server.specs.Serve.{Call, Answer, discarded, termsOf, entryOf, infoOf, byReply, replyOf, answered, forServer, withReading, tenantOf, atClock, serveOf, Serves}
+use Rattle.server.specs.Serve.{Call, Answer, discarded, termsOf, entryOf, infoOf, byReply, replyOf, answered, forServer, withReading, tenantOf, atClock, serveOf, Serves, withTable}
 
 -- ---- the reply
 pub terms-is : (s : State) (v : Verdict) (n : ℕ) (c : Scope) (k : ℕ) → n ≡ v .end - v .start → k ≡ v .scope - 1 → c ≡ scopeAt s k
@@ -57,12 +57,10 @@ pub replied-none : (b : List ℕ) → Replied b [] b 0
 replied-none b = record { size = refl; buffer = refl }
 
 -- ---- answers
-pub serves-discard : (n : ℕ) (b : Book) (buffer : List ℕ) (r : Served) → r ≡ record { outcome = n; length = 0; book = b } → Serves (discarded n b) buffer buffer r
+pub serves-discard : (n : ℕ) (b : Book) (buffer : List ℕ) (r : Served) → r ≡ record { outcome = record { outcome = n; length = 0 }; book = b } → Serves (discarded n b) buffer buffer r
 serves-discard n b buffer r e = record {
-  outcome = ap (λ (x : Served). x .outcome) e;
-  size = ap (λ (x : Served). x .length) e;
+  tells = record { outcome = ap (λ (x : Served). x .outcome .outcome) e; size = ap (λ (x : Served). x .outcome .length) e; buffer = refl };
   book = ap (λ (x : Served). x .book) e;
-  buffer = refl;
 }
 
 serves-as : {a a′ : Answer} {x y : List ℕ} {r : Served} → a ≡ a′ → Serves a x y r → Serves a′ x y r
@@ -70,10 +68,10 @@ serves-as {x = x} {y = y} {r = r} e s = subst (λ (z : Answer). Serves z x y r) 
 
 pub serves-decided : (b : Book) (h : ℕ) (m : Fields) (d : Decided) (after : LeaseTable) (n : ℕ) {x y : List ℕ} → d ≡ decideOf (b .state) (b .table) h m → after ≡ applied (d .edit) h (b .table)
     → Replied x (replyOf (b .state) m (d .verdict)) y n
-    → Serves (answered b h m (decideOf (b .state) (b .table) h m)) x y (record { outcome = d .verdict .outcome; length = n; book = record { state = b .state; table = after } })
+    → Serves (answered b h m (decideOf (b .state) (b .table) h m)) x y (record { outcome = record { outcome = d .verdict .outcome; length = n }; book = withTable b after })
 serves-decided b h m d after n {x} {y} e f w =
-    subst (λ (z : Decided). Serves (answered b h m z) x y (record { outcome = d .verdict .outcome; length = n; book = record { state = b .state; table = after } })) e
-    (record { outcome = refl; size = w .size; book = ap {B = Book} (λ (t : LeaseTable). record { state = b .state; table = t }) f; buffer = w .buffer })
+    subst (λ (z : Decided). Serves (answered b h m z) x y (record { outcome = record { outcome = d .verdict .outcome; length = n }; book = withTable b after })) e
+    (record { tells = record { outcome = refl; size = w .size; buffer = w .buffer }; book = ap (withTable b) f })
 
 -- ---- test 7
 module _ (b : Book) (h : ℕ) (m : Fields) {x y : List ℕ} {r : Served} where

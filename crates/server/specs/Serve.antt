@@ -19,6 +19,7 @@ use Rattle.reply.specs.declared.ScopeEntry.{ScopeEntry}
 use Rattle.reply.specs.Reply.{leastRoom, offerOf, leaseAckOf, releaseAckOf, infoAckOf, nakOf}
 use Rattle.state.specs.declared.Book.{Book}
 use Rattle.state.specs.declared.ClientRange.{ClientRange}
+use Rattle.state.specs.declared.LeaseTable.{LeaseTable}
 use Rattle.state.specs.declared.Scope.{Scope}
 use Rattle.state.specs.declared.State.{State}
 use Rattle.state.specs.Book.{advanced, rangesOf, scopeAt}
@@ -29,6 +30,7 @@ use Rattle.decision.specs.declared.Reply.{Reply}
 use Rattle.decision.specs.declared.Reply.the-variants.{Nothing, Offer, LeaseAck, ReleaseAck, InfoAck, Nak}
 use Rattle.decision.specs.declared.Verdict.{Verdict}
 use Rattle.decision.specs.Decide.{decideOf}
+use Rattle.server.specs.declared.Outcome.{Outcome}
 use Rattle.server.specs.declared.Served.{Served}
 
 pub record Call : Type 0 where
@@ -42,6 +44,21 @@ pub record Answer : Type 0 where
   pub outcome : ℕ
   pub reply : List ℕ
   pub book : Book
+
+-- what of it the caller is told: the outcome's number and the reply's octets
+pub record Said : Type 0 where
+  pub outcome : ℕ
+  pub reply : List ℕ
+
+abbrev pub said : Answer → Said
+said a = record { outcome = a .outcome; reply = a .reply }
+
+-- the book of a state and a table, and a book with another table
+abbrev pub bookOf : State → LeaseTable → Book
+bookOf s t = record { state = s; table = t }
+
+abbrev pub withTable : Book → LeaseTable → Book
+withTable b t = bookOf (b .state) t
 
 abbrev pub discarded : ℕ → Book → Answer
 discarded n b = record { outcome = n; reply = []; book = b }
@@ -82,7 +99,7 @@ abbrev pub answered : Book → ℕ → Fields → Decided → Answer
 answered b h m d = record {
   outcome = d .verdict .outcome;
   reply = replyOf (b .state) m (d .verdict);
-  book = record { state = b .state; table = applied (d .edit) h (b .table) };
+  book = withTable b (applied (d .edit) h (b .table));
 }
 
 -- test 7: "REQUEST with a Server Identifier other than the six octets of family 1 and our address"; then the decision
@@ -115,9 +132,14 @@ serveOf b c =
     (pick (ltb (c .room) leastRoom) (discarded 2 b) (atClock (advanced b (c .time)) (c .client) (c .datagram)))
     (discarded 1 b)
 
--- ---- what a function promises: outcome, length, book, and every octet of the reply buffer
-pub record Serves (a : Answer) (before after : List ℕ) (r : Served) : Type 0 where
+-- ---- what a function promises
+-- what the caller is told: the outcome, the reply's length, and every octet of the reply buffer
+pub record Tells (a : Said) (before after : List ℕ) (r : Outcome) : Type 0 where
   pub outcome : r .outcome ≡ a .outcome
   pub size : r .length ≡ length (a .reply)
-  pub book : r .book ≡ a .book
   pub buffer : after ≡ a .reply ++ drop (length (a .reply)) before
+
+-- and the book
+pub record Serves (a : Answer) (before after : List ℕ) (r : Served) : Type 0 where
+  pub tells : Tells (said a) before after (r .outcome)
+  pub book : r .book ≡ a .book

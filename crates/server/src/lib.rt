@@ -20,10 +20,15 @@ use state::ClientRange;
 use state::Scope;
 use state::State;
 
-// The outcome's number, the reply's length and the book afterwards.
-pub struct Served {
+// What the caller is told of a call: the outcome's number and the reply's length.
+pub struct Outcome {
     pub outcome: u8,
     pub length: usize,
+}
+
+// The same with the book afterwards.
+pub struct Served {
+    pub outcome: Outcome,
     pub book: Book,
 }
 
@@ -99,11 +104,13 @@ fn write_reply(s: State, m: Fields, v: Verdict, reply: &mut [u8]) -> usize
 // ---- the tests
 
 fn discard(n: u8, book: Book) -> Served
-    ensures { λ r. ⌜ r ≡ record { outcome = n; length = 0; book = book } ⌝ }
+    ensures { λ r. ⌜ r ≡ record { outcome = record { outcome = n; length = 0 }; book = book } ⌝ }
 {
     Served {
-        outcome: n,
-        length: 0,
+        outcome: Outcome {
+            outcome: n,
+            length: 0,
+        },
         book: book,
     }
 }
@@ -121,8 +128,10 @@ fn decided(book: Book, h: usize, m: Fields, reply: &mut [u8]) -> Served
     let after = state::apply(t, h, e);
     let n = write_reply(s, m, v, reply);
     Served {
-        outcome: v.outcome,
-        length: n,
+        outcome: Outcome {
+            outcome: v.outcome,
+            length: n,
+        },
         book: Book {
             state: s,
             table: after,

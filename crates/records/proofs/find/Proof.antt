@@ -11,5 +11,7 @@ find-spec =
     (λ c κs. search needs)
     (λ c κs. search needs)
     (λ c κs. search needs)
+    (λ c κs. search needs)
+    (λ c κs. search needs)
     (λ c. search (find-in, needs))
-    (λ c. search (find-in, find-out, needs)))
+    (λ c. search (find-out, needs)))

@@ -1,5 +1,5 @@
 -- Laws: of the entry points: what the functions on 128 records by value give is what the definitions on a lent slice of any length yield.
-use mathlib.Core.Path.{_≡_, refl, sym, ap, _∙_}
+use mathlib.Core.Path.{_≡_, refl, sym, ap, _∙_, subst}
 use mathlib.Core.Bool.{Bool, true, false}
 use mathlib.Core.List.{List, [], _++_, append-nil}
 use Prim.Native.Nat.{ℕ, min, max}
@@ -18,15 +18,18 @@ use Rattle.state.specs.Book.{advanced, insertOf, placeOf, raised, removeOf, wit
 use Rattle.decision.specs.Parts.{ownOf}
 use Rattle.message.specs.laws.Placed.{pick-cases}
 use Rattle.soundness.specs.Sound.{soundB}
-use Rattle.server.specs.Serve.{Answer, Call, atClock, forServer, serveOf, withReading}
+use Rattle.server.specs.declared.Outcome.{Outcome}
+use Rattle.server.specs.Serve.{Answer, Call, Tells, atClock, forServer, serveOf, withReading}
+use Rattle.server.specs.laws.Told.{tells-as}
 use Rattle.state_file.specs.declared.Loaded.{Loaded}
 use Rattle.state_file.specs.declared.Written.{Written}
-use Rattle.records.specs.declared.Outcome.{Outcome}
+use Rattle.records.specs.declared.Found.{Found}
+use Rattle.records.specs.declared.Found.the-variants.{Absent}
 use Rattle.records.specs.declared.ReadRecords.{ReadRecords}
 use Rattle.records.specs.declared.ServedRecords.{ServedRecords}
 use Rattle.state_file.specs.StateFile.{roomAfter, writtenOf}
 use Rattle.records.specs.Records.{recordsOf, tableFrom, first128, covered}
-use Rattle.records.specs.Lent.{bookFrom, lentAnswer, withOwn, is128, untouched, LentAnswer, LentReading, serveWith, serveLent, ServesRecords, ServesLent, readWith, Reads, ReadsLent, writtenWith, writtenLent, roomWith, roomLent, findWith, findLent, insertWith, insertLent, removeWith, removeLent}
+use Rattle.records.specs.Lent.{bookFrom, lentAnswer, lentSaid, withOwn, is128, untouched, LentAnswer, LentReading, serveWith, serveLent, ServesRecords, ServesLent, readWith, Reads, ReadsLent, writtenWith, writtenLent, roomWith, roomLent, foundAmong, findWith, findLent, insertWith, insertLent, removeWith, removeLent}
 
 -- ---- slices
 -- 128 records are all taken
@@ -88,9 +91,9 @@ unfolding pick
 told-pick {A} G k ls = told-lent (λ n m. pick (is128 n) (G m) k) (λ n m m' p. ap (λ (t : Bool). pick t (G m) k) p ∙ sym (ap (λ (t : Bool). pick t (G m') k) p)) ls
 
 -- ---- one record
-pub found-lent : (h : ℕ) (i : List ℕ) (ls : List Lease) {all : List Lease} {r : ℕ} → all ≡ first128 ls → r ≡ findWith (length ls) h i all → r ≡ findLent h i ls
+pub found-lent : (h : ℕ) (i : List ℕ) (ls : List Lease) {all : List Lease} {r : Found} → all ≡ first128 ls → r ≡ findWith (length ls) h i all → r ≡ findLent h i ls
 unfolding findWith
-found-lent h i ls = told-pick (λ m. placeOf i (ownOf (tableFrom m) h)) 0 ls
+found-lent h i ls = told-pick (λ m. foundAmong (length (ownOf (tableFrom m) h)) (placeOf i (ownOf (tableFrom m) h))) Absent ls
 
 pub inserted-lent : (h : ℕ) (l : Lease) (ls : List Lease) {all x zs : List Lease} → all ≡ first128 ls → x ≡ insertWith (length ls) h l all → length x ≡ 128 → zs ≡ covered ls x → zs ≡ insertLent h l ls
 unfolding insertWith
@@ -156,13 +159,11 @@ module _ (s : State) (ls : List Lease) (c : Call) where
 
   pub served-lent : {all zs : List Lease} {s' : State} {before after : List ℕ} {r : ServedRecords} {o : Outcome}
       → all ≡ first128 ls → ServesRecords (serveWith (length ls) s all c) before after r → s' ≡ raised s (r .clock) → zs ≡ covered ls (r .records .leases)
-      → o .outcome ≡ r .outcome → o .length ≡ r .length → ServesLent (serveLent s ls c) s' zs before after o
-  served-lent {all} {before = before} a v p q e f = record {
-    outcome = part (λ x. x .outcome) (λ m m'. refl) a (e ∙ v .outcome);
-    size = part (λ x. length (x .reply)) (λ m m'. refl) a (f ∙ v .size);
+      → o ≡ r .outcome → ServesLent (serveLent s ls c) s' zs before after o
+  served-lent {all} {before = before} {after} a v p q e = record {
+    tells = subst (Tells (lentSaid (serveLent s ls c)) before after) (sym e) (tells-as (part lentSaid (λ m m'. refl) a refl) (v .tells));
     state = part (λ x. x .state) (λ m m'. refl) a (p ∙ ap (raised s) (v .clock) ∙ sym (lent-clock (length ls) s all c));
     leases = changed-lent (λ k m. serveWith k s m c .leases) (λ k m o. ap (λ (x : LentAnswer). x .leases) (off k m o)) ls a (v .leases) (v .long) q;
-    buffer = part (λ x. x .reply ++ drop (length (x .reply)) before) (λ m m'. refl) a (v .buffer);
   }
 
 -- ---- the reader

@@ -1,11 +1,11 @@
 -- Laws: what the functions on 128 records by value are proved by: each branch of a definition, from what the calls gave.
-use mathlib.Core.Path.{_≡_, sym, ap, _∙_}
+use mathlib.Core.Path.{_≡_, refl, sym, ap, ap₂, _∙_}
 use mathlib.Core.Bool.{Bool, true, false}
-use mathlib.Core.List.{List, [], _++_}
+use mathlib.Core.List.{List, []}
 use Prim.Native.Nat.{ℕ, _≤_, _<_}
 use native.Mathlib.Omega.{arith}
 use lib.Dec.{ltb}
-use lib.ListN.{length, drop}
+use lib.ListN.{length}
 use borrow.Author.Tests.{eq-eqb, ne-eqb, lt-ltb, le-ltb}
 use Rattle.lists.specs.Pick.{pick}
 use Rattle.state.specs.declared.Book.{Book}
@@ -16,14 +16,17 @@ use Rattle.state.specs.declared.TenantLeases.{TenantLeases}
 use Rattle.state.specs.Book.{inUse, insertOf, insertedIn, laidOut, placeOf, putAt, removeOf, tenantAt}
 use Rattle.decision.specs.Parts.{ownOf}
 use Rattle.server.specs.declared.Served.{Served}
-use Rattle.server.specs.Serve.{Answer, Call, Serves, serveOf}
+use Rattle.server.specs.Serve.{Answer, Call, Serves, bookOf, said, serveOf}
+use Rattle.server.specs.laws.Told.{tells-as}
 use Rattle.state_file.specs.declared.Loaded.{Loaded}
 use Rattle.state_file.specs.declared.Written.{Written}
 use Rattle.state_file.specs.StateFile.{roomAfter, writtenOf}
+use Rattle.records.specs.declared.Found.{Found}
+use Rattle.records.specs.declared.Found.the-variants.{Absent}
 use Rattle.records.specs.declared.ReadRecords.{ReadRecords}
 use Rattle.records.specs.declared.Records.{Records}
 use Rattle.records.specs.Records.{recordsOf, tableFrom}
-use Rattle.records.specs.Lent.{bookFrom, findWith, insertWith, lentAnswer, LentAnswer, LentReading, readWith, Reads, removeWith, roomWith, serveWith, ServesRecords, untouched, is128, withOwn, writtenWith}
+use Rattle.records.specs.Lent.{bookFrom, findWith, foundAmong, insertWith, lentAnswer, lentSaid, LentAnswer, LentReading, readWith, Reads, removeWith, roomWith, serveWith, ServesRecords, untouched, is128, withOwn, writtenWith}
 
 -- ---- a test on the number of records
 pub is-whole : {n : ℕ} → n ≡ 128 → is128 n ≡ true
@@ -45,13 +48,16 @@ module _ {A : Type 0} {n : ℕ} (x y : A) where
 
 -- ---- one record
 module _ (n h : ℕ) (ls : List Lease) where
-  pub find-in : (i : List ℕ) {t : LeaseTable} {own : TenantLeases} {r : ℕ} → n ≡ 128 → t ≡ tableFrom ls → own ≡ tenantAt t h → r ≡ placeOf i (inUse own) → r ≡ findWith n h i ls
+  pub find-in : (i : List ℕ) {t : LeaseTable} {own : TenantLeases} {at k : ℕ} {r : Found} → n ≡ 128 → t ≡ tableFrom ls → own ≡ tenantAt t h → at ≡ placeOf i (inUse own) → k ≡ length (inUse own)
+      → r ≡ foundAmong k at → r ≡ findWith n h i ls
   unfolding findWith
-  find-in i e a b c = c ∙ ap (λ (x : TenantLeases). placeOf i (inUse x)) (b ∙ ap (λ (x : LeaseTable). tenantAt x h) a) ∙ on-whole (placeOf i (ownOf (tableFrom ls) h)) 0 e
+  find-in i e a b c d f =
+      f ∙ ap₂ foundAmong d c ∙ ap (λ (x : TenantLeases). foundAmong (length (inUse x)) (placeOf i (inUse x))) (b ∙ ap (λ (x : LeaseTable). tenantAt x h) a)
+      ∙ on-whole (foundAmong (length (ownOf (tableFrom ls) h)) (placeOf i (ownOf (tableFrom ls) h))) Absent e
 
-  pub find-out : (i : List ℕ) → (n ≡ 128 → ⊥) → 0 ≡ findWith n h i ls
+  pub find-out : (i : List ℕ) → (n ≡ 128 → ⊥) → Absent ≡ findWith n h i ls
   unfolding findWith
-  find-out i e = off-whole (placeOf i (ownOf (tableFrom ls) h)) 0 e
+  find-out i e = off-whole (foundAmong (length (ownOf (tableFrom ls) h)) (placeOf i (ownOf (tableFrom ls) h))) Absent e
 
   -- the tenant's records, put in place
   put-in : (p : List Lease → List Lease) {t u : LeaseTable} {own x : TenantLeases} {m : List Lease}
@@ -116,34 +122,30 @@ module _ (n h : ℕ) (ls : List Lease) where
 
 -- ---- the call
 module _ (n : ℕ) (s : State) (ls : List Lease) (c : Call) where
-  pub serve-in : {t : LeaseTable} {before after : List ℕ} {r : Served} {m : Records} → n ≡ 128 → t ≡ tableFrom ls → Serves (serveOf (record { state = s; table = t }) c) before after r
+  pub serve-in : {t : LeaseTable} {before after : List ℕ} {r : Served} {m : Records} → n ≡ 128 → t ≡ tableFrom ls → Serves (serveOf (bookOf s t) c) before after r
       → (m .leases ≡ recordsOf (r .book .table)) × (length (m .leases) ≡ 128)
-      → ServesRecords (serveWith n s ls c) before after (record { outcome = r .outcome; length = r .length; clock = r .book .state .clock; records = m })
+      → ServesRecords (serveWith n s ls c) before after (record { outcome = r .outcome; clock = r .book .state .clock; records = m })
   unfolding serveWith
   serve-in {t} {before} {after} {r} {m} e a v w = record {
-    outcome = v .outcome ∙ ap (λ (x : Answer). x .outcome) same ∙ ap (λ (x : LentAnswer). x .outcome) at;
-    size = v .size ∙ ap (λ (x : Answer). length (x .reply)) same ∙ ap (λ (x : LentAnswer). length (x .reply)) at;
+    tells = tells-as (ap said same ∙ ap lentSaid at) (v .tells);
     clock = ap (λ (x : Book). x .state .clock) (v .book) ∙ ap (λ (x : Answer). x .book .state .clock) same ∙ ap (λ (x : LentAnswer). x .state .clock) at;
     leases = w .0 ∙ ap (λ (x : Book). recordsOf (x .table)) (v .book) ∙ ap (λ (x : Answer). recordsOf (x .book .table)) same ∙ ap (λ (x : LentAnswer). x .leases) at;
-    buffer = v .buffer ∙ ap (λ (x : Answer). x .reply ++ drop (length (x .reply)) before) same ∙ ap (λ (x : LentAnswer). x .reply ++ drop (length (x .reply)) before) at;
     long = w .1;
   }
     where
-      same : serveOf (record { state = s; table = t }) c ≡ serveOf (bookFrom s ls) c
-      same = ap (λ (x : LeaseTable). serveOf (record { state = s; table = x }) c) a
+      same : serveOf (bookOf s t) c ≡ serveOf (bookFrom s ls) c
+      same = ap (λ (x : LeaseTable). serveOf (bookOf s x) c) a
 
       at : lentAnswer (serveOf (bookFrom s ls) c) ≡ serveWith n s ls c
       at = on-whole (lentAnswer (serveOf (bookFrom s ls) c)) (record { outcome = 1; reply = []; state = s; leases = ls }) e
 
   pub serve-out : {before : List ℕ} {m : Records} → (n ≡ 128 → ⊥) → m .leases ≡ ls → length ls ≡ 128
-      → ServesRecords (serveWith n s ls c) before before (record { outcome = 1; length = 0; clock = s .clock; records = m })
+      → ServesRecords (serveWith n s ls c) before before (record { outcome = record { outcome = 1; length = 0 }; clock = s .clock; records = m })
   unfolding serveWith
   serve-out {before} {m} e a q = record {
-    outcome = ap (λ (x : LentAnswer). x .outcome) at;
-    size = ap (λ (x : LentAnswer). length (x .reply)) at;
+    tells = tells-as (ap lentSaid at) (record { outcome = refl; size = refl; buffer = refl });
     clock = ap (λ (x : LentAnswer). x .state .clock) at;
     leases = a ∙ ap (λ (x : LentAnswer). x .leases) at;
-    buffer = ap (λ (x : LentAnswer). x .reply ++ drop (length (x .reply)) before) at;
     long = ap length a ∙ q;
   }
     where

@@ -1,3 +1,4 @@
+pub mod Walk
 pub mod Again
 pub mod Shared
 pub mod Slices

@@ -129,7 +129,7 @@ class Use:
         return [b or a.split('.')[-1] for a, b in self.items]
 
     def text(self, end=''):
-        head = ('pub ' if self.public else '') + ('ghost ' if self.ghost else '') + 'use ' + self.path
+        head = self.mark + ('pub ' if self.public else '') + ('ghost ' if self.ghost else '') + 'use ' + self.path
         if self.items is None:
             return head + (' as ' + self.alias if self.alias else '') + end
         return head + '.{' + ', '.join(a if not b else a + ' as ' + b for a, b in self.items) + '}' + end
@@ -358,7 +358,7 @@ class File:
                 while '{' in ''.join(lines[i:j + 1]) and '}' not in ''.join(lines[i:j + 1]):
                     j += 1
                 u = read_use([re.sub(r'^unfoldable ', '', lines[i])] + lines[i + 1:j + 1], i + 1)
-                u.lines = lines[i:j + 1]
+                u.lines, u.mark = lines[i:j + 1], re.match(r'(unfoldable )?', l).group()
                 self.uses.append(u)
                 self.header.append(u)
                 i = j + 1

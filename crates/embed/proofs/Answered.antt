@@ -16,6 +16,7 @@ use Rattle.octets.specs.Octets.{at16, at32, octets16, put, Wrote}
 use Rattle.octets.specs.laws.Octets.{put-put}
 use Rattle.state.specs.declared.Lease.{Lease}
 use Rattle.state.specs.declared.State.{State}
+use Rattle.server.specs.declared.Outcome.{Outcome}
 use Rattle.server.specs.Serve.{Call}
 use Rattle.records.specs.Lent.{LentAnswer, serveLent}
 use Rattle.owned.specs.declared.OwnedCall.{OwnedCall}
@@ -147,28 +148,31 @@ module _ (s : State) (ls : List Lease) (d : List ℕ) (client time room : ℕ) (
   callWith k = record { datagram = d; client = client; time = time; room = k }
 
   pub answered : {ys x y : List ℕ} {m n : ℕ} {r : OwnedCall} → (to + answerRoom ≤ length b) × (room ≤ leastRoom) → ServesOwned (serveLent s ls (callWith (length lent))) lent ys r → length ys ≡ length lent
-      → Wrote (withPart b (to + 3) width ys) to (r .outcome ∷ []) x m → Wrote x (to + 1) (octets16 (r .length % 65536)) y n → Answers (serveLent s ls (callWith room)) b to y r
+      → Wrote (withPart b (to + 3) width ys) to (r .outcome .outcome ∷ []) x m → Wrote x (to + 1) (octets16 (r .outcome .length % 65536)) y n → Answers (serveLent s ls (callWith room)) b to y r
   answered {ys} {x} {y} {r = r} h v l p q = subst (λ (k : ℕ). Answers (serveLent s ls (callWith k)) b to y r) full (record {
-    size = v .size;
+    size = v .tells .size;
     state = v .state;
     leases = v .leases;
     buffer =
-        q .buffer ∙ ap (λ (z : List ℕ). put z (to + 1) (octets16 (r .length % 65536))) (p .buffer)
-        ∙ ap (λ (z : List ℕ). put (put z to (r .outcome ∷ [])) (to + 1) (octets16 (r .length % 65536))) (part-put b (to + 3) width (a .reply) (v .buffer) l)
-        ∙ put-put (put b (to + 3) (a .reply)) to (r .outcome ∷ []) (octets16 (r .length % 65536)) (let e = put-length b (to + 3) (a .reply) in omega arith)
-        ∙ put-under b to (r .outcome ∷ octets16 (r .length % 65536)) (a .reply) (omega arith)
-        ∙ ap (λ (j : ℕ). put b to (j ∷ octets16 (r .length % 65536) ++ a .reply)) (v .outcome)
-        ∙ ap (λ (j : ℕ). put b to (a .outcome ∷ octets16 j ++ a .reply)) (small ∙ v .size);
+        q .buffer ∙ ap (λ (z : List ℕ). put z (to + 1) (octets16 (o .length % 65536))) (p .buffer)
+        ∙ ap (λ (z : List ℕ). put (put z to (o .outcome ∷ [])) (to + 1) (octets16 (o .length % 65536))) (part-put b (to + 3) width (a .reply) (v .tells .buffer) l)
+        ∙ put-put (put b (to + 3) (a .reply)) to (o .outcome ∷ []) (octets16 (o .length % 65536)) (let e = put-length b (to + 3) (a .reply) in omega arith)
+        ∙ put-under b to (o .outcome ∷ octets16 (o .length % 65536)) (a .reply) (omega arith)
+        ∙ ap (λ (j : ℕ). put b to (j ∷ octets16 (o .length % 65536) ++ a .reply)) (v .tells .outcome)
+        ∙ ap (λ (j : ℕ). put b to (a .outcome ∷ octets16 j ++ a .reply)) (small ∙ v .tells .size);
   })
     where
+      o : Outcome
+      o = r .outcome
+
       a : LentAnswer
       a = serveLent s ls (callWith (length lent))
 
       full : length lent ≡ room
       full = let e = length-drop (to + 3) b in length-take-le width (drop (to + 3) b) (omega arith) ∙ (let q : to + 3 + room - (to + 3) ≡ room = omega arith in q)
 
-      small : r .length % 65536 ≡ r .length
-      small = let f = full in let i = reply-inside b (to + 3) width (a .reply) (v .buffer) l in let z = v .size in omega arith
+      small : o .length % 65536 ≡ o .length
+      small = let f = full in let i = reply-inside b (to + 3) width (a .reply) (v .tells .buffer) l in let z = v .tells .size in omega arith
 
 -- ---- the call of a record
 module _ (cs : List ℕ) (at : ℕ) where

@@ -17,12 +17,12 @@ use Rattle.state_file.specs.StateFile.{readFile}
 use Rattle.state_file.proofs.RoundTrip.{read-sound}
 use Rattle.soundness.specs.Sound.{soundB}
 use Rattle.records.specs.laws.Files.{file-back, file-long}
-use Rattle.records.specs.Lent.{LentAnswer, serveLent, writtenLent}
+use Rattle.records.specs.Lent.{serveLent, writtenLent}
 use Rattle.lent_guarantee.specs.Statement.{Lent, LentDemand1, SoundLent}
 use Rattle.lent_guarantee.proofs.Guaranteed.{lent-demand1, next, next-sound}
 use Rattle.lent_guarantee.proofs.Written.{sound-written}
-use Rattle.embed.specs.Embed.{Replayed, answerOctets, callIn, cutOff, filed, FileAnswer, FileReplay, kept, lengthAfter, numberAfter, answerBefore, recordSize, refiled, refusalIn, replayed, replayFile, serveFile, stopIn, stopped, largestFile}
-use Rattle.embed.specs.Statement.{ReplayedNumber, ReplayedNumbers, ServedNumber, ServedNumbers, leasesIn, stateIn}
+use Rattle.embed.specs.Embed.{answerBefore, answerOctets, called, callIn, cutOff, filed, Filed, kept, largestFile, leasesIn, lengthAfter, numberAfter, onFile, recordSize, refusalIn, replayed, replayFile, serveFile, stateIn, stopIn, stopped, Worked}
+use Rattle.embed.specs.Statement.{Numbered, ReplayedNumbers, ServedNumbers}
 
 lent : State → List Lease → Lent
 lent s ls = record { state = s; leases = ls }
@@ -57,40 +57,35 @@ told-length : (w : Written) (n : ℕ) → w .refusal ≡ 0 → lengthAfter w n �
 unfolding lengthAfter pick
 told-length w n e = ap (λ (k : ℕ). pick (eqb k 0) (w .length) n) e
 
--- ---- one call
-module _ (b : List ℕ) (n : ℕ) (c : Call) (e : refusalIn b n ≡ 0) where
-  abbrev answer : LentAnswer
-  answer = serveLent (stateIn b n) (leasesIn b n) c
+-- ---- some work that keeps the state and the records sound
+module _ (b : List ℕ) (n : ℕ) (work : State → List Lease → Worked) (e : refusalIn b n ≡ 0) where
+  abbrev done : Worked
+  done = work (stateIn b n) (leasesIn b n)
 
-  abbrev after : Written
-  after = writtenLent (answer .state) (answer .leases) (length b)
+  at : onFile b n work ≡ filed b n done
+  unfolding onFile pick
+  at = ap (λ (k : ℕ). pick (eqb k 0) (filed b n done) (kept b n)) e
 
-  at : serveFile b n c ≡ filed b n answer
-  unfolding serveFile pick
-  at = ap (λ (k : ℕ). pick (eqb k 0) (filed b n answer) (kept (refusalIn b n) b n)) e
-
-  written : after .refusal ≡ 0
+  numbered : SoundLent (lent (done .state) (done .leases)) → Numbered b (onFile b n work) done
   unfolding lent
-  written = sound-written (lent (answer .state) (answer .leases)) (step (stateIn b n) (leasesIn b n) c (book-sound b n e)) (length b) (parts b n e .0)
-
-  number : serveFile b n c .number ≡ answer .outcome
-  number = ap (λ (x : FileAnswer). x .number) at ∙ told after (answer .outcome) written
-
-  pub served-number : ServedNumber b n c answer
-  unfolding LentDemand1
-  served-number = record {
-    outcome = number;
-    few = subst (λ (k : ℕ). k ≤ 8) (sym number) (lent-demand1 (stateIn b n) (leasesIn b n) c .outcome);
+  numbered v = record {
+    number = ap (λ (x : Filed). x .number) at ∙ told (writtenLent (done .state) (done .leases) (length b)) (done .number) written;
     written = written;
-    long = ap (λ (x : FileAnswer). x .length) at ∙ told-length after n written;
+    long = ap (λ (x : Filed). x .length) at ∙ told-length (writtenLent (done .state) (done .leases) (length b)) n written;
   }
+    where
+      written : writtenLent (done .state) (done .leases) (length b) .refusal ≡ 0
+      written = sound-written (lent (done .state) (done .leases)) v (length b) (parts b n e .0)
 
+-- ---- one call
 pub served-numbers : ServedNumbers
-unfolding ServedNumbers
-served-numbers b n c e = served-number b n c e
+unfolding ServedNumbers LentDemand1 serveFile
+served-numbers b n c e =
+    let w : Numbered b (serveFile b n c) (called (serveLent (stateIn b n) (leasesIn b n) c)) = numbered b n (λ s ls. called (serveLent s ls c)) e (step (stateIn b n) (leasesIn b n) c (book-sound b n e)) in
+    record { numbered = w; few = subst (λ (k : ℕ). k ≤ 8) (sym (w .number)) (lent-demand1 (stateIn b n) (leasesIn b n) c .outcome) }
 
 -- ---- a list of calls: its state and records stay sound, and it stops for one of two reasons
-record Stopped (r : Replayed) : Type 0 where
+record Stopped (r : Worked) : Type 0 where
   sound : SoundLent (lent (r .state) (r .leases))
   few : isIn (r .number) (0 ∷ 24 ∷ 27 ∷ []) ≡ true
 
@@ -116,35 +111,9 @@ replays (suc k) s ls cs room v =
     go false true r = record { sound = r .sound; few = r .few }
     go false false r = record { sound = v; few = stop-few cs room }
 
-module _ (b : List ℕ) (n : ℕ) (cs : List ℕ) (room : ℕ) (e : refusalIn b n ≡ 0) where
-  abbrev progress : Replayed
-  progress = replayed (length cs) (stateIn b n) (leasesIn b n) cs room
-
-  ends : Stopped progress
-  ends = replays (length cs) (stateIn b n) (leasesIn b n) cs room (book-sound b n e)
-
-  abbrev file-after : Written
-  file-after = writtenLent (progress .state) (progress .leases) (length b)
-
-  at-list : replayFile b n cs room ≡ refiled b n progress
-  unfolding replayFile pick
-  at-list = ap (λ (k : ℕ). pick (eqb k 0) (refiled b n progress) (record { number = refusalIn b n; buffer = b; length = n; used = 0; answers = [] })) e
-
-  list-written : file-after .refusal ≡ 0
-  unfolding lent
-  list-written = sound-written (lent (progress .state) (progress .leases)) (ends .sound) (length b) (parts b n e .0)
-
-  list-number : replayFile b n cs room .number ≡ progress .number
-  list-number = ap (λ (x : FileReplay). x .number) at-list ∙ told file-after (progress .number) list-written
-
-  pub replayed-number : ReplayedNumber b n cs room progress
-  replayed-number = record {
-    number = list-number;
-    few = ap (λ (k : ℕ). isIn k (0 ∷ 24 ∷ 27 ∷ [])) list-number ∙ ends .few;
-    written = list-written;
-    long = ap (λ (x : FileReplay). x .length) at-list ∙ told-length file-after n list-written;
-  }
-
 pub replayed-numbers : ReplayedNumbers
-unfolding ReplayedNumbers
-replayed-numbers b n cs room e = replayed-number b n cs room e
+unfolding ReplayedNumbers replayFile
+replayed-numbers b n cs room e =
+    let ends = replays (length cs) (stateIn b n) (leasesIn b n) cs room (book-sound b n e) in
+    let w : Numbered b (replayFile b n cs room) (replayed (length cs) (stateIn b n) (leasesIn b n) cs room) = numbered b n (λ s ls. replayed (length cs) s ls cs room) e (ends .sound) in
+    record { numbered = w; few = ap (λ (k : ℕ). isIn k (0 ∷ 24 ∷ 27 ∷ [])) (w .number) ∙ ends .few }

@@ -15,7 +15,7 @@ use Rattle.state.specs.declared.State.{State}
 use Rattle.records.specs.Lent.{LentAnswer, serveLent}
 use Rattle.owned.specs.declared.Owned.{Owned}
 use Rattle.owned.specs.declared.OwnedCall.{OwnedCall}
-use Rattle.embed.specs.Embed.{answerRoom, answerOctets, callIn, answerBefore, recordSize, Replayed, replayed, stopIn, stopped}
+use Rattle.embed.specs.Embed.{answerRoom, answerOctets, callIn, answerBefore, recordSize, Worked, replayed, stopIn, stopped}
 use Rattle.embed.specs.Promises.{Answers, Replays}
 use Rattle.embed.proofs.Answered.{goes-on, put-inside}
 
@@ -24,11 +24,11 @@ abbrev firstAnswer : State → List Lease → List ℕ → LentAnswer
 firstAnswer s ls cs = serveLent s ls (callIn cs)
 
 -- the first record answered, with what the others give, or why it is not
-abbrev first : State → List Lease → List ℕ → ℕ → Replayed → Replayed
+abbrev first : State → List Lease → List ℕ → ℕ → Worked → Worked
 first s ls cs room r = pick (eqb (stopIn cs room) 0) (answerBefore cs (firstAnswer s ls cs) r) (stopped (stopIn cs room) s ls)
 
 -- the others, at most k
-abbrev others : ℕ → State → List Lease → List ℕ → ℕ → Replayed
+abbrev others : ℕ → State → List Lease → List ℕ → ℕ → Worked
 others k s ls cs room =
     replayed k (firstAnswer s ls cs .state) (firstAnswer s ls cs .leases) (drop (recordSize cs) cs) (room - length (answerOctets (firstAnswer s ls cs)))
 
@@ -46,10 +46,10 @@ unfolding replayed
 same-fuel zero j s ls cs room h g = sym (none-left j s ls cs room (omega arith))
 same-fuel (suc k) zero s ls cs room h g = none-left (suc k) s ls cs room (omega arith)
 same-fuel (suc k) (suc j) s ls cs room h g =
-    ap (λ (r : Replayed). pick (eqb (length cs) 0) (stopped 0 s ls) (first s ls cs room r))
+    ap (λ (r : Worked). pick (eqb (length cs) 0) (stopped 0 s ls) (first s ls cs room r))
     (same-fuel k j (firstAnswer s ls cs .state) (firstAnswer s ls cs .leases) (drop (recordSize cs) cs) (room - length (answerOctets (firstAnswer s ls cs))) (fewer k cs h) (fewer j cs g))
 
-abbrev going : State → List Lease → List ℕ → ℕ → Replayed
+abbrev going : State → List Lease → List ℕ → ℕ → Worked
 going s ls cs room = replayed (length cs) s ls cs room
 
 module _ (s : State) (ls : List Lease) (cs : List ℕ) (room : ℕ) (h : 0 < length cs) where
@@ -72,11 +72,11 @@ module _ (s : State) (ls : List Lease) (cs : List ℕ) (room : ℕ) (h : 0 < len
 
 -- ---- what the loop keeps
 -- what is done, `at` octets of calls with the answers xs, before what the rest gives
-abbrev joined : ℕ → List ℕ → Replayed → Replayed
-joined at xs r = record { number = r .number; state = r .state; leases = r .leases; used = at + r .used; answers = xs ++ r .answers }
+abbrev joined : ℕ → List ℕ → Worked → Worked
+joined at xs r = record { number = r .number; state = r .state; leases = r .leases; used = at + r .used; out = xs ++ r .out }
 
 -- With `at` octets of the calls cs done and `to` octets of answers in the buffer b, which was `before`: to go on from there gives w.
-pub record ReplayInv (cs before : List ℕ) (w : Replayed) (s : State) (ls : List Lease) (b : List ℕ) (at to : ℕ) : Type 0 where
+pub record ReplayInv (cs before : List ℕ) (w : Worked) (s : State) (ls : List Lease) (b : List ℕ) (at to : ℕ) : Type 0 where
   pub within : at ≤ length cs
   pub inside : to ≤ length before
   pub long : length b ≡ length before
@@ -91,13 +91,13 @@ replay-start cs before s ls = record {
   rest = refl;
   whole =
       ap (λ (k : ℕ). joined 0 [] (going s ls cs k)) (let q : length before - 0 ≡ length before = omega arith in q)
-      ∙ ap {B = Replayed} (λ (k : ℕ). record { number = r .number; state = r .state; leases = r .leases; used = k; answers = r .answers }) (zero-add (r .used));
+      ∙ ap {B = Worked} (λ (k : ℕ). record { number = r .number; state = r .state; leases = r .leases; used = k; out = r .out }) (zero-add (r .used));
 }
   where
-    r : Replayed
+    r : Worked
     r = going s ls cs (length before)
 
-module _ {cs before : List ℕ} {w : Replayed} {s : State} {ls : List Lease} {b : List ℕ} {at to : ℕ} (v : ReplayInv cs before w s ls b at to) {k : ℕ} (e : k ≡ stopIn (drop at cs) (length b - to)) (z : k ≡ 0) where
+module _ {cs before : List ℕ} {w : Worked} {s : State} {ls : List Lease} {b : List ℕ} {at to : ℕ} (v : ReplayInv cs before w s ls b at to) {k : ℕ} (e : k ≡ stopIn (drop at cs) (length b - to)) (z : k ≡ 0) where
   goes : stopIn (drop at cs) (length before - to) ≡ 0
   goes = ap (λ (n : ℕ). stopIn (drop at cs) (n - to)) (sym (v .long)) ∙ sym e ∙ z
 
@@ -115,11 +115,11 @@ module _ {cs before : List ℕ} {w : Replayed} {s : State} {ls : List Lease} {b 
     octets : List ℕ
     octets = answerOctets (firstAnswer s ls (drop at cs))
 
-    filled : to + 3 + r .length ≡ to + length octets
+    filled : to + 3 + r .outcome .length ≡ to + length octets
     unfolding octets
     filled = let q = a .size in omega arith
 
-    pub answer-inside : to + 3 + r .length ≤ length b
+    pub answer-inside : to + 3 + r .outcome .length ≤ length b
     unfolding octets
     answer-inside =
         let p = put-inside b to octets (let i = v .inside in let g = v .long in omega arith) (sym (ap length (a .buffer)) ∙ l) in
@@ -129,7 +129,7 @@ module _ {cs before : List ℕ} {w : Replayed} {s : State} {ls : List Lease} {b 
     head-length : length (take to b ++ octets) ≡ to + length octets
     head-length = length-append (take to b) octets ∙ ap (λ (n : ℕ). n + length octets) (length-take-le to b (let i = v .inside in let g = v .long in omega arith))
 
-    pub replay-next : {n : ℕ} → at < length cs → n ≡ recordSize (drop at cs) → ReplayInv cs before w (r .owned .state) (r .owned .records .leases) b' (at + n) (to + 3 + r .length)
+    pub replay-next : {n : ℕ} → at < length cs → n ≡ recordSize (drop at cs) → ReplayInv cs before w (r .owned .state) (r .owned .records .leases) b' (at + n) (to + 3 + r .outcome .length)
     unfolding octets put
     replay-next {n} h m = record {
       within = let i = record-inside in omega arith;
@@ -141,48 +141,48 @@ module _ {cs before : List ℕ} {w : Replayed} {s : State} {ls : List Lease} {b 
           ∙ sym (drop-drop (length octets) to b) ∙ ap (drop (length octets)) (v .rest) ∙ drop-drop (length octets) to before
           ∙ ap (λ (j : ℕ). drop j before) (sym filled);
       whole =
-          ap (λ (y : List ℕ). joined (at + n) y (going (r .owned .state) (r .owned .records .leases) (drop (at + n) cs) (length before - (to + 3 + r .length)))) taken
+          ap (λ (y : List ℕ). joined (at + n) y (going (r .owned .state) (r .owned .records .leases) (drop (at + n) cs) (length before - (to + 3 + r .outcome .length)))) taken
           ∙ ap (joined (at + n) (take to b ++ octets)) same
-          ∙ ap {B = Replayed} (λ (j : ℕ). record { number = o .number; state = o .state; leases = o .leases; used = j; answers = take to b ++ octets ++ o .answers }) (
+          ∙ ap {B = Worked} (λ (j : ℕ). record { number = o .number; state = o .state; leases = o .leases; used = j; out = take to b ++ octets ++ o .out }) (
           add-assoc at n (o .used) ∙ ap (λ (j : ℕ). at + (j + o .used)) m
           )
-          ∙ ap {B = Replayed} (λ (y : List ℕ). record { number = o .number; state = o .state; leases = o .leases; used = at + (recordSize c + o .used); answers = y }) (append-assoc (take to b) octets (o .answers))
+          ∙ ap {B = Worked} (λ (y : List ℕ). record { number = o .number; state = o .state; leases = o .leases; used = at + (recordSize c + o .used); out = y }) (append-assoc (take to b) octets (o .out))
           ∙ ap (joined at (take to b)) (sym (one-more s ls c (length before - to) (let q = length-drop at cs in omega arith) goes)) ∙ v .whole;
     }
       where
         c : List ℕ
         c = drop at cs
 
-        o : Replayed
+        o : Worked
         o = others (length (drop (recordSize c) c)) s ls c (length before - to)
 
-        taken : take (to + 3 + r .length) b' ≡ take to b ++ octets
+        taken : take (to + 3 + r .outcome .length) b' ≡ take to b ++ octets
         taken = ap (λ (j : ℕ). take j b') filled ∙ ap (take (to + length octets)) (a .buffer) ∙ take-at (take to b ++ octets) (drop (to + length octets) b) (to + length octets) head-length
 
-        same : going (r .owned .state) (r .owned .records .leases) (drop (at + n) cs) (length before - (to + 3 + r .length)) ≡ o
+        same : going (r .owned .state) (r .owned .records .leases) (drop (at + n) cs) (length before - (to + 3 + r .outcome .length)) ≡ o
         same =
-            ap (λ (x : State). going x (r .owned .records .leases) (drop (at + n) cs) (length before - (to + 3 + r .length))) (a .state)
-            ∙ ap (λ (x : List Lease). going (firstAnswer s ls c .state) x (drop (at + n) cs) (length before - (to + 3 + r .length))) (a .leases)
-            ∙ ap (λ (x : List ℕ). going (firstAnswer s ls c .state) (firstAnswer s ls c .leases) x (length before - (to + 3 + r .length)))
+            ap (λ (x : State). going x (r .owned .records .leases) (drop (at + n) cs) (length before - (to + 3 + r .outcome .length))) (a .state)
+            ∙ ap (λ (x : List Lease). going (firstAnswer s ls c .state) x (drop (at + n) cs) (length before - (to + 3 + r .outcome .length))) (a .leases)
+            ∙ ap (λ (x : List ℕ). going (firstAnswer s ls c .state) (firstAnswer s ls c .leases) x (length before - (to + 3 + r .outcome .length)))
             (ap (λ (j : ℕ). drop (at + j) cs) m ∙ sym (drop-drop (recordSize c) at cs))
             ∙ ap (going (firstAnswer s ls c .state) (firstAnswer s ls c .leases) (drop (recordSize c) c))
-            (let f = filled in let q : length before - (to + 3 + r .length) ≡ length before - to - length octets = omega arith in q)
+            (let f = filled in let q : length before - (to + 3 + r .outcome .length) ≡ length before - to - length octets = omega arith in q)
 
 -- the loop ends with what is done
-module _ {cs before : List ℕ} {w : Replayed} {o : Owned} {b : List ℕ} {at to : ℕ} (v : ReplayInv cs before w (o .state) (o .records .leases) b at to) where
+module _ {cs before : List ℕ} {w : Worked} {o : Owned} {b : List ℕ} {at to : ℕ} (v : ReplayInv cs before w (o .state) (o .records .leases) b at to) where
   ends : {k : ℕ} → going (o .state) (o .records .leases) (drop at cs) (length before - to) ≡ stopped k (o .state) (o .records .leases)
       → Replays w before b (record { number = k; used = at; filled = to; owned = o })
   ends {k} e = record {
-    number = ap (λ (x : Replayed). x .number) is;
-    used = sym (add-zero at) ∙ ap (λ (x : Replayed). x .used) is;
-    filled = sym full ∙ ap (λ (x : Replayed). length (x .answers)) is;
-    state = ap (λ (x : Replayed). x .state) is;
-    leases = ap (λ (x : Replayed). x .leases) is;
+    number = ap (λ (x : Worked). x .number) is;
+    used = sym (add-zero at) ∙ ap (λ (x : Worked). x .used) is;
+    filled = sym full ∙ ap (λ (x : Worked). length (x .out)) is;
+    state = ap (λ (x : Worked). x .state) is;
+    leases = ap (λ (x : Worked). x .leases) is;
     buffer =
         sym (take-append-drop to b) ∙ ap (λ (y : List ℕ). take to b ++ y) (v .rest)
         ∙ ap (λ (j : ℕ). take to b ++ drop j before) (sym full)
         ∙ ap (λ (y : List ℕ). y ++ drop (length (take to b ++ [])) before) (sym (append-nil (take to b)))
-        ∙ ap (λ (x : Replayed). x .answers ++ drop (length (x .answers)) before) is;
+        ∙ ap (λ (x : Worked). x .out ++ drop (length (x .out)) before) is;
   }
     where
       is : joined at (take to b) (stopped k (o .state) (o .records .leases)) ≡ w

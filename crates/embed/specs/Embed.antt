@@ -27,6 +27,13 @@ largestFile = longestFile
 unfoldable pub refusalIn : List ℕ → ℕ → ℕ
 refusalIn b n = pick (ltb (length b) largestFile) 23 (pick (ltb (length b) n) 28 (readFile (take n b) .refusal))
 
+-- their state and records
+abbrev pub stateIn : List ℕ → ℕ → State
+stateIn b n = readFile (take n b) .state
+
+abbrev pub leasesIn : List ℕ → ℕ → List Lease
+leasesIn b n = recordsOf (readFile (take n b) .table)
+
 -- What is told once the file is written again. The writer refuses no book that calls on an accepted file leave (`ServedNumbers`, `ReplayedNumbers` in
 -- Statement.antt); if it did, the host would be told its refusal, the old file would stand, and the reply or the answers would be there all the same.
 unfoldable pub numberAfter : Written → ℕ → ℕ
@@ -35,30 +42,46 @@ numberAfter w k = pick (eqb (w .refusal) 0) k (w .refusal)
 unfoldable pub lengthAfter : Written → ℕ → ℕ
 lengthAfter w n = pick (eqb (w .refusal) 0) (w .length) n
 
--- ---- one call
--- the number returned, the file's buffer and the file's length afterwards, and the reply
-pub record FileAnswer : Type 0 where
+-- ---- work on a file's book: one call, or a list of calls
+-- the number to tell, the state and the records afterwards, how many octets of calls are done, and the octets to hand out: a reply, or answers
+pub record Worked : Type 0 where
+  pub number : ℕ
+  pub state : State
+  pub leases : List Lease
+  pub used : ℕ
+  pub out : List ℕ
+
+-- the number returned, the file's buffer and the file's length afterwards, and the work's other parts
+pub record Filed : Type 0 where
   pub number : ℕ
   pub buffer : List ℕ
   pub length : ℕ
-  pub reply : List ℕ
-
--- a refused file changes nothing
-abbrev pub kept : ℕ → List ℕ → ℕ → FileAnswer
-kept k b n = record { number = k; buffer = b; length = n; reply = [] }
+  pub used : ℕ
+  pub out : List ℕ
 
 -- the file of the state and the records afterwards takes the place of the old one
-abbrev pub filed : List ℕ → ℕ → LentAnswer → FileAnswer
-filed b n a = record {
-  number = numberAfter (writtenLent (a .state) (a .leases) (length b)) (a .outcome);
-  buffer = roomLent (a .state) (a .leases) b;
-  length = lengthAfter (writtenLent (a .state) (a .leases) (length b)) n;
-  reply = a .reply;
+abbrev pub filed : List ℕ → ℕ → Worked → Filed
+filed b n r = record {
+  number = numberAfter (writtenLent (r .state) (r .leases) (length b)) (r .number);
+  buffer = roomLent (r .state) (r .leases) b;
+  length = lengthAfter (writtenLent (r .state) (r .leases) (length b)) n;
+  used = r .used;
+  out = r .out;
 }
 
-unfoldable pub serveFile : List ℕ → ℕ → Call → FileAnswer
-serveFile b n c =
-    pick (eqb (refusalIn b n) 0) (filed b n (serveLent (readFile (take n b) .state) (recordsOf (readFile (take n b) .table)) c)) (kept (refusalIn b n) b n)
+-- a refused file changes nothing
+abbrev pub kept : List ℕ → ℕ → Filed
+kept b n = record { number = refusalIn b n; buffer = b; length = n; used = 0; out = [] }
+
+unfoldable pub onFile : List ℕ → ℕ → (State → List Lease → Worked) → Filed
+onFile b n work = pick (eqb (refusalIn b n) 0) (filed b n (work (stateIn b n) (leasesIn b n))) (kept b n)
+
+-- ---- one call
+abbrev pub called : LentAnswer → Worked
+called a = record { number = a .outcome; state = a .state; leases = a .leases; used = 0; out = a .reply }
+
+unfoldable pub serveFile : List ℕ → ℕ → Call → Filed
+serveFile b n c = onFile b n (λ s ls. called (serveLent s ls c))
 
 -- ---- a list of calls, each a record as `replay` reads it: time(4), client address(4), reply room length(2), datagram length(2), the datagram
 -- how many octets the first record takes
@@ -81,33 +104,19 @@ answerOctets a = a .outcome ∷ octets16 (length (a .reply)) ++ a .reply
 abbrev pub answerRoom : ℕ
 answerRoom = 3 + leastRoom
 
-pub record Replayed : Type 0 where
-  pub number : ℕ
-  pub state : State
-  pub leases : List Lease
-  -- how many octets of these calls are done
-  pub used : ℕ
-  pub answers : List ℕ
-
-abbrev pub stopped : ℕ → State → List Lease → Replayed
-stopped k s ls = record { number = k; state = s; leases = ls; used = 0; answers = [] }
+abbrev pub stopped : ℕ → State → List Lease → Worked
+stopped k s ls = record { number = k; state = s; leases = ls; used = 0; out = [] }
 
 -- the answer to the first record before those to the others
-abbrev pub answerBefore : List ℕ → LentAnswer → Replayed → Replayed
-answerBefore cs a r = record {
-  number = r .number;
-  state = r .state;
-  leases = r .leases;
-  used = recordSize cs + r .used;
-  answers = answerOctets a ++ r .answers;
-}
+abbrev pub answerBefore : List ℕ → LentAnswer → Worked → Worked
+answerBefore cs a r = record { number = r .number; state = r .state; leases = r .leases; used = recordSize cs + r .used; out = answerOctets a ++ r .out }
 
 -- why the first record is not answered, with so much room for answers left: 24, 27 or 0
 unfoldable pub stopIn : List ℕ → ℕ → ℕ
 stopIn cs room = pick (cutOff cs) 24 (pick (ltb room answerRoom) 27 0)
 
 -- at most k records, each on what the one before left
-unfoldable pub replayed : ℕ → State → List Lease → List ℕ → ℕ → Replayed
+unfoldable pub replayed : ℕ → State → List Lease → List ℕ → ℕ → Worked
 replayed zero s ls cs room = stopped 0 s ls
 replayed (suc k) s ls cs room =
     pick (eqb (length cs) 0) (stopped 0 s ls)
@@ -116,25 +125,6 @@ replayed (suc k) s ls cs room =
     (replayed k (serveLent s ls (callIn cs) .state) (serveLent s ls (callIn cs) .leases) (drop (recordSize cs) cs) (room - length (answerOctets (serveLent s ls (callIn cs))))))
     (stopped (stopIn cs room) s ls))
 
--- the number returned, the file's buffer and the file's length afterwards, how many octets of the calls are done, and the answers
-pub record FileReplay : Type 0 where
-  pub number : ℕ
-  pub buffer : List ℕ
-  pub length : ℕ
-  pub used : ℕ
-  pub answers : List ℕ
-
-abbrev pub refiled : List ℕ → ℕ → Replayed → FileReplay
-refiled b n r = record {
-  number = numberAfter (writtenLent (r .state) (r .leases) (length b)) (r .number);
-  buffer = roomLent (r .state) (r .leases) b;
-  length = lengthAfter (writtenLent (r .state) (r .leases) (length b)) n;
-  used = r .used;
-  answers = r .answers;
-}
-
 -- a list of calls on the file in a buffer, with so much room for answers
-unfoldable pub replayFile : List ℕ → ℕ → List ℕ → ℕ → FileReplay
-replayFile b n cs room =
-    pick (eqb (refusalIn b n) 0) (refiled b n (replayed (length cs) (readFile (take n b) .state) (recordsOf (readFile (take n b) .table)) cs room))
-    (record { number = refusalIn b n; buffer = b; length = n; used = 0; answers = [] })
+unfoldable pub replayFile : List ℕ → ℕ → List ℕ → ℕ → Filed
+replayFile b n cs room = onFile b n (λ s ls. replayed (length cs) s ls cs room)

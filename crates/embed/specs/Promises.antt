@@ -2,50 +2,54 @@
 use Prim.Native.Nat.{ℕ}
 use mathlib.Core.Path.{_≡_}
 use mathlib.Core.List.{List, _++_}
-use lib.ListN.{drop, length, take}
+use lib.ListN.{drop, length}
 use Rattle.octets.specs.Octets.{put}
+use Rattle.server.specs.declared.Outcome.{Outcome}
+use Rattle.server.specs.Serve.{Said, Tells}
 use Rattle.owned.specs.declared.OwnedCall.{OwnedCall}
 use Rattle.owned.specs.declared.OwnedFile.{OwnedFile}
 use Rattle.records.specs.Lent.{LentAnswer}
-use Rattle.records.specs.Records.{recordsOf}
-use Rattle.state_file.specs.StateFile.{readFile}
 use Rattle.embed.specs.declared.Progress.{Progress}
-use Rattle.embed.specs.Embed.{answerOctets, FileAnswer, FileReplay, refusalIn, Replayed}
+use Rattle.embed.specs.Embed.{answerOctets, Filed, leasesIn, refusalIn, stateIn, Worked}
 
 -- the book of the first n octets of a buffer
 pub record Opened (b : List ℕ) (n : ℕ) (r : OwnedFile) : Type 0 where
   pub refusal : r .refusal ≡ refusalIn b n
-  pub state : refusalIn b n ≡ 0 → r .owned .state ≡ readFile (take n b) .state
-  pub leases : refusalIn b n ≡ 0 → r .owned .records .leases ≡ recordsOf (readFile (take n b) .table)
+  pub state : refusalIn b n ≡ 0 → r .owned .state ≡ stateIn b n
+  pub leases : refusalIn b n ≡ 0 → r .owned .records .leases ≡ leasesIn b n
 
 -- a call's answer, written into a buffer from `to` on
 pub record Answers (a : LentAnswer) (before : List ℕ) (to : ℕ) (after : List ℕ) (r : OwnedCall) : Type 0 where
-  pub size : r .length ≡ length (a .reply)
+  pub size : r .outcome .length ≡ length (a .reply)
   pub state : r .owned .state ≡ a .state
   pub leases : r .owned .records .leases ≡ a .leases
   pub buffer : after ≡ put before to (answerOctets a)
 
-pub record Replays (a : Replayed) (before after : List ℕ) (r : Progress) : Type 0 where
+pub record Replays (a : Worked) (before after : List ℕ) (r : Progress) : Type 0 where
   pub number : r .number ≡ a .number
   pub used : r .used ≡ a .used
-  pub filled : r .filled ≡ length (a .answers)
+  pub filled : r .filled ≡ length (a .out)
   pub state : r .owned .state ≡ a .state
   pub leases : r .owned .records .leases ≡ a .leases
-  pub buffer : after ≡ a .answers ++ drop (length (a .answers)) before
+  pub buffer : after ≡ a .out ++ drop (length (a .out)) before
 
--- the number, the file's buffer and length afterwards, the reply's length and every octet of the reply room
-pub record ServesFile (a : FileAnswer) (b : List ℕ) (n : ℕ) (before after : List ℕ) (k r : ℕ) : Type 0 where
-  pub number : r ≡ a .number
+-- the file's buffer and length afterwards
+pub record Files (a : Filed) (b : List ℕ) (n : ℕ) : Type 0 where
   pub file : b ≡ a .buffer
   pub long : n ≡ a .length
-  pub size : k ≡ length (a .reply)
-  pub reply : after ≡ a .reply ++ drop (length (a .reply)) before
 
--- the number, the file's buffer and length afterwards, the octets of calls used, and those of answers filled with every octet of their room
-pub record ReplaysFile (a : FileReplay) (b : List ℕ) (n u : ℕ) (before after : List ℕ) (k r : ℕ) : Type 0 where
+-- what of it the caller of one call is told
+abbrev pub filedSaid : Filed → Said
+filedSaid a = record { outcome = a .number; reply = a .out }
+
+pub record ServesFile (a : Filed) (b : List ℕ) (n : ℕ) (before after : List ℕ) (r : Outcome) : Type 0 where
+  pub tells : Tells (filedSaid a) before after r
+  pub files : Files a b n
+
+-- the number, the octets of calls used, those of answers filled with every octet of their room, and the file
+pub record ReplaysFile (a : Filed) (b : List ℕ) (n u : ℕ) (before after : List ℕ) (k r : ℕ) : Type 0 where
   pub number : r ≡ a .number
-  pub file : b ≡ a .buffer
-  pub long : n ≡ a .length
   pub used : u ≡ a .used
-  pub filled : k ≡ length (a .answers)
-  pub answers : after ≡ a .answers ++ drop (length (a .answers)) before
+  pub filled : k ≡ length (a .out)
+  pub answers : after ≡ a .out ++ drop (length (a .out)) before
+  pub files : Files a b n

@@ -120,8 +120,9 @@ fn answer_call(
         time,
         &mut answers[to + 3..to + 3 + room],
     );
-    octets::put_u8(answers, to, r.outcome);
-    octets::put_u16(answers, to + 1, (r.length % 65536) as u16);
+    let told = r.outcome;
+    octets::put_u8(answers, to, told.outcome);
+    octets::put_u16(answers, to + 1, (told.length % 65536) as u16);
     r
 }
 
@@ -164,9 +165,10 @@ fn replay(start: Owned, calls: &[u8], answers: &mut [u8]) -> Progress
             };
         }
         let r = answer_record(o, calls, at, answers, to);
+        let told = r.outcome;
         o = r.owned;
         at = at + record_size(calls, at);
-        to = to + 3 + r.length;
+        to = to + 3 + told.length;
     }
     Progress {
         number: 0,
@@ -209,7 +211,7 @@ pub extern "C" fn banshorra_serve(
     reply: &mut [u8],
     reply_length: &mut usize,
 ) -> u8
-    ensures { λ r. ⌜ ServesFile (serveFile (now (file .entry)) (now («file_length» .entry)) (record { datagram = now (datagram .entry); client = client; time = time; room = length (now (reply .entry)) })) (now (file .exit)) (now («file_length» .exit)) (now (reply .entry)) (now (reply .exit)) (now («reply_length» .exit)) r ⌝ }
+    ensures { λ r. ⌜ ServesFile (serveFile (now (file .entry)) (now («file_length» .entry)) (record { datagram = now (datagram .entry); client = client; time = time; room = length (now (reply .entry)) })) (now (file .exit)) (now («file_length» .exit)) (now (reply .entry)) (now (reply .exit)) (record { outcome = r; length = now («reply_length» .exit) }) ⌝ }
 {
     let n = *file_length;
     let f = open_in(file, n);
@@ -217,11 +219,12 @@ pub extern "C" fn banshorra_serve(
     if refusal == 0 {
         let o = f.owned;
         let r = owned::serve(o, datagram, client, time, reply);
+        let told = r.outcome;
         let b = r.owned;
         let w = owned::write(b, file);
         *file_length = length_after(w, n);
-        *reply_length = r.length;
-        return number_after(w, r.outcome);
+        *reply_length = told.length;
+        return number_after(w, told.outcome);
     }
     *reply_length = 0;
     refusal

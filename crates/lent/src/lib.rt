@@ -6,8 +6,9 @@ ghost use lib.ListN.{length, take};
 ghost use Rattle.state.specs.Book.{raised};
 ghost use Rattle.records.specs.Records.{first128, covered};
 ghost use Rattle.records.specs.Lent.{serveLent, ServesLent, readLent, ReadsLent, writtenLent, roomLent, findLent, insertLent, removeLent};
-use records::Outcome;
+use records::Found;
 use records::Records;
+use server::Outcome;
 use state::Lease;
 use state::State;
 use state_file::Written;
@@ -46,9 +47,9 @@ pub fn store(leases: &mut [Lease], records: Records)
     }
 }
 
-// The place of an identifier among the records of tenant h, counted from 0; the number of its leases where it has none. 0 for no tenant, and of
-// another number of records than 128.
-pub fn find(leases: &[Lease], h: usize, id: [u8; 32], len: u8) -> usize
+// The place of an identifier among the records of tenant h, counted from 0. Absent where it has none, for no tenant, and of another number of
+// records than 128.
+pub fn find(leases: &[Lease], h: usize, id: [u8; 32], len: u8) -> Found
     ensures { λ r. ⌜ r ≡ findLent h (take len id) (now (leases .entry)) ⌝ }
 {
     let all = load(leases);
@@ -91,10 +92,7 @@ pub fn serve(
     let r = records::serve(s, all, leases.len(), datagram, client, time, reply);
     advance(state, r.clock);
     store(leases, r.records);
-    Outcome {
-        outcome: r.outcome,
-        length: r.length,
-    }
+    r.outcome
 }
 
 // Reads a state file into the lent state and records: 0, or refusal 20 and then 21, which leave both as they were. Another number of records

@@ -1,19 +1,17 @@
 -- Definitions: what the entry points promise to a caller that holds its state and records by value and lends them for each call.
 use Prim.Native.Nat.{ℕ}
 use mathlib.Core.Path.{_≡_}
-use mathlib.Core.List.{List, _++_}
-use lib.ListN.{drop, length}
-use Rattle.records.specs.Lent.{LentAnswer, LentReading}
+use mathlib.Core.List.{List}
+use Rattle.server.specs.Serve.{Tells}
+use Rattle.records.specs.Lent.{LentAnswer, lentSaid, LentReading}
 use Rattle.owned.specs.declared.OwnedCall.{OwnedCall}
 use Rattle.owned.specs.declared.OwnedFile.{OwnedFile}
 
--- outcome, length, state, every lease record and every octet of the reply buffer
+-- what is told, the state and every lease record
 pub record ServesOwned (a : LentAnswer) (before after : List ℕ) (r : OwnedCall) : Type 0 where
-  pub outcome : r .outcome ≡ a .outcome
-  pub size : r .length ≡ length (a .reply)
+  pub tells : Tells (lentSaid a) before after (r .outcome)
   pub state : r .owned .state ≡ a .state
   pub leases : r .owned .records .leases ≡ a .leases
-  pub buffer : after ≡ a .reply ++ drop (length (a .reply)) before
 
 -- the refusal, the state and every lease record
 pub record ReadsOwned (a : LentReading) (r : OwnedFile) : Type 0 where

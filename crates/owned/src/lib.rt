@@ -7,6 +7,7 @@ ghost use Rattle.state_file.specs.StateFile.{zeroState};
 ghost use Rattle.records.specs.Lent.{serveLent, readLent, writtenLent, roomLent};
 ghost use Rattle.owned.specs.Owned.{ServesOwned, ReadsOwned};
 use records::Records;
+use server::Outcome;
 use state::State;
 use state_file::Written;
 
@@ -16,10 +17,9 @@ pub struct Owned {
     pub records: Records,
 }
 
-// A call's outcome, its reply's length and the book afterwards.
+// A call's outcome and the book afterwards.
 pub struct OwnedCall {
-    pub outcome: u8,
-    pub length: usize,
+    pub outcome: Outcome,
     pub owned: Owned,
 }
 
@@ -38,8 +38,7 @@ pub fn serve(o: Owned, datagram: &[u8], client: u32, time: u32, reply: &mut [u8]
     let mut leases = records.leases;
     let r = lent::serve(datagram, client, time, &mut state, &mut leases, reply);
     OwnedCall {
-        outcome: r.outcome,
-        length: r.length,
+        outcome: r,
         owned: Owned {
             state: state,
             records: Records { leases: leases },

@@ -71,7 +71,8 @@ fn call(
     if n <= datagram.len() {
         if size <= room.len() {
             let r = owned::serve(book, &datagram[..n], client, time, &mut room[..size]);
-            print_call(r.outcome, room, r.length);
+            let told = r.outcome;
+            print_call(told.outcome, room, told.length);
             return r.owned;
         }
     }

@@ -1,12 +1,12 @@
 -- `lent::serve` meets its contract: a walk of its MIR, by hand. The state's borrow is opened, the state copied out, and the borrow closed as it was; `load` gives the records of the slice by value; `records::serve` gets both with the datagram and the reply buffer.
 -- The state's borrow goes to `advance` with the clock that came back, and the slice to `store` with the records that came back. Of each callee the proof knows only that it meets its contract.
 -- The reply buffer and the state are passed on at their own lifetimes, shares and ghost names, so what the callees say of their last values is said of these (`gave-slice`, `gave-ref`). Nothing is kept of the `&` of the datagram.
-use Rattle.lent.proofs.Walk.{stands, _≡_, refl, ap, ℕ, _<_, _^_, [], _∷_, List, length, URA, fullShare, named, w8, w32, w64, Val, vint, vptr, SProp, ent, sep, emp, via, fst∗, id⊢, Lft, Share, GName, Fml, ftrue, flft, fres, fat, Memory, Routine, Heap, Calls, Loops, WpFn, Atoms, sem, Fun, fact, givenOf, tables, tablesOf, Given, ‵, raw, _⊛_, some, later, ⋆, _$_, _∵_, !, qed, by, move, keep, drop, use1, use3, split, join, pick, rewrite, fsplit, fjoin, feqL, suffices, frame, await, done, look, look-raw, init, store, forget, stop, hop, fld, from, load, of-opd, addr, and-then, no-more, assigns, land, returns, enter, alloc1, alloc0, params1, pass1, pass0, free1, free0, whole, sub, look-in, agg, FmC, owns, Is, shows, uint-makes, uint-vals, uint-tells, nothing-lawful, usize, u8, u32, RefT, MutRef, ptr-vals, mut-tells, slice-vals, shr-slice-tells, mut-slice-tells, MutSlice, ShrSlice, Room, finally, only, owned, peeks, heard, nothing, plain, shrSliceOf, Contract, Triple, calls-at, onEntry, tripleOf, cited, says, Stays, stay-dropped, stay-slice, gave-ref, gave-slice, walkOf, AllGo, goes-dropped, goes-slice, goes-gave-ref, goes-gave-slice, Walks, ends-at, walked, ensured, lasts, yes}
+use Rattle.lent.proofs.Walk.{stands, _≡_, refl, ap, ℕ, _<_, _^_, [], _∷_, List, length, URA, fullShare, named, w32, w64, Val, vint, vptr, SProp, ent, sep, emp, via, fst∗, id⊢, Lft, Share, GName, Fml, ftrue, flft, fres, fat, Memory, Routine, Heap, Calls, Loops, WpFn, Atoms, sem, Fun, fact, givenOf, tables, tablesOf, Given, ‵, raw, _⊛_, some, later, ⋆, _$_, _∵_, !, qed, by, move, keep, drop, use1, use3, split, join, pick, rewrite, fsplit, fjoin, feqL, suffices, frame, await, done, look, look-raw, init, store, forget, stop, hop, fld, from, load, of-opd, addr, and-then, no-more, assigns, land, returns, enter, alloc1, alloc0, params1, pass1, pass0, free1, free0, whole, sub, look-in, agg, FmC, owns, Is, shows, uint-makes, uint-vals, uint-tells, nothing-lawful, usize, u8, u32, RefT, MutRef, ptr-vals, mut-tells, slice-vals, shr-slice-tells, mut-slice-tells, MutSlice, ShrSlice, Room, finally, only, owned, peeks, heard, nothing, plain, shrSliceOf, Contract, Triple, calls-at, onEntry, tripleOf, cited, says, Stays, stay-dropped, stay-slice, gave-ref, gave-slice, walkOf, AllGo, goes-dropped, goes-slice, goes-gave-ref, goes-gave-slice, Walks, ends-at, walked, ensured, lasts, yes}
 use denote.Struct.Laws as LL
 use Rattle.state.specs.declared.Lease.{Lease}
 use Rattle.state.specs.declared.State.{State}
 use Rattle.server.specs.Serve.{Call}
-use Rattle.records.specs.declared.Outcome.{Outcome}
+use Rattle.server.specs.declared.Outcome.{Outcome}
 use Rattle.records.specs.declared.Records.{Records}
 use Rattle.records.specs.declared.ServedRecords.{ServedRecords}
 use Rattle.records.specs.Lent.{serveWith, serveLent, ServesRecords, ServesLent}
@@ -14,8 +14,8 @@ use Rattle.records.specs.laws.Lent.{served-lent}
 use Rattle.state.proofs.Lease as R
 use Rattle.state.proofs.State as T
 use Rattle.state.proofs.State.Laws as T′
-use Rattle.records.proofs.Outcome as O
-use Rattle.records.proofs.Outcome.Laws as O′
+use Rattle.server.proofs.Outcome as O
+use Rattle.server.proofs.Outcome.Laws as O′
 use Rattle.records.proofs.Records as N
 use Rattle.records.proofs.Records.Laws as N′
 use Rattle.records.proofs.ServedRecords as Z
@@ -133,18 +133,12 @@ module _ {M : Type 1} (𝓤 : URA M) (H : Heap 𝓤) (A : Atoms 𝓤) (W : Given
   abbrev Served : Records → List ℕ → ServedRecords → Type 0
   Served r us z = ServesRecords (serveWith (length ys) h (r .leases) c) ns us z
 
-  -- what is known of the parts of what it gives back, and of the outcome that is made of them
+  -- what is known of the parts of what it gives back
   abbrev Parts : ServedRecords → Type 0
-  Parts r = Is u8 (r .outcome) (vint w8 (r .outcome) ∷ []) × (Is usize (r .length) (vint w64 (r .length) ∷ []) × (Is u32 (r .clock) (vint w32 (r .clock) ∷ []) × (Is N.the-row (r .records) (LL.vals N.the-type N′.the-laws (r .records)) × Unit {0})))
+  Parts r = Is O.the-row (r .outcome) (LL.vals O.the-type O′.the-laws (r .outcome)) × (Is u32 (r .clock) (vint w32 (r .clock) ∷ []) × (Is N.the-row (r .records) (LL.vals N.the-type N′.the-laws (r .records)) × Unit {0}))
 
   parts : (r : ServedRecords) (w : Val) → Is Z.the-row r (w ∷ []) → Parts r
   parts r w is = LL.owed Z.the-type Z′.the-laws r (w ∷ []) is
-
-  abbrev made : ServedRecords → Outcome
-  made r = record { outcome = r .outcome; length = r .length }
-
-  made-is : (r : ServedRecords) → Parts r → Is O.the-row (made r) (LL.vals O.the-type O′.the-laws (made r))
-  made-is r p = LL.owes O.the-type O′.the-laws (made r) (p .0, (p .1 .0, tt))
 
   module _ (C : Calls 𝓤 H) (Λ : Loops 𝓤 H) (fm : FmC 𝓤 H (W .laws) C) (known-load : Triple 𝓤 (C #lent·load) (Load 𝓤 H A mem run)) (known-serve : Triple 𝓤 (C #records·serve) (Serve 𝓤 H A mem run))
       (known-advance : Triple 𝓤 (C #lent·advance) (Advance 𝓤 H A mem run)) (known-store : Triple 𝓤 (C #lent·store) (Store 𝓤 H A mem run)) where
@@ -189,24 +183,23 @@ module _ {M : Type 1} (𝓤 : URA M) (H : Heap 𝓤) (A : Atoms 𝓤) (W : Given
         rewrite ! 25 (λ (u : Val). ‵ (fat fullShare Z′.mir l₉ 0 u)) (ap only (LL.tells Z.the-type Z′.the-laws r₂ _ is₂)) refl $
         -- the state's borrow goes to `advance` with the clock that came back
         assigns ! (addr ! (from ! (hop ! (look ! 35 refl) (stop !)))) (from ! (stop !)) (init ! 11 refl (tt, tt)) $
-        move ! (5 ∷ 6 ∷ []) $ advances ! mem run κ₁ q₁ b₁ o₁ γ₁ h (r₂ .clock) (parts r₂ w₂ is₂ .1 .1 .0 .1) fm known-advance (and-then ! (load ! (from ! (stop !)) (look ! 10 refl)) (and-then ! (load ! (from ! (fld ! refl (stop !))) (look-in ! 24 (sub ! 2 refl (whole !)))) (no-more !))) (λ w₃ h′ is₃ e₃.
+        move ! (5 ∷ 6 ∷ []) $ advances ! mem run κ₁ q₁ b₁ o₁ γ₁ h (r₂ .clock) (parts r₂ w₂ is₂ .1 .0 .1) fm known-advance (and-then ! (load ! (from ! (stop !)) (look ! 10 refl)) (and-then ! (load ! (from ! (fld ! refl (stop !))) (look-in ! 24 (sub ! 1 refl (whole !)))) (no-more !))) (λ w₃ h′ is₃ e₃.
         -- [what says the last state; [κ₁]; [κ₃]; [κ₀]; the last octets; the slice; [κ₂]; _18; …; _0; …]
         land ! (from ! (stop !)) (init ! 13 refl (nothing-lawful 𝓤 H A W .typed tt _ is₃ .0)) $
         -- the slice goes to `store` with the records that came back
         assigns ! (addr ! (from ! (fld ! refl (hop ! (look-in ! 33 (sub ! 0 refl (whole !))) (stop !))))) (from ! (stop !)) (init ! 9 refl (tt, tt)) $
         assigns ! (agg ! (and-then ! (load ! (from ! (stop !)) (look ! 9 refl)) (and-then ! (load ! (from ! (fld ! refl (stop !))) (look-in ! 33 (sub ! 1 refl (whole !)))) (no-more !)))) (from ! (stop !)) (init ! 7 refl (tt, (tt, (record { fits = room₂ .0 }, tt)))) $
-        move ! (5 ∷ 6 ∷ []) $ stores ! mem run κ₂ q₂ b₂ o₂ γ₂ ys (r₂ .records) (LL.val N.the-type N′.the-laws (r₂ .records)) fm known-store room₂ (parts r₂ w₂ is₂ .1 .1 .1 .0)
-        (λ ν δ. and-then ! (load ! (from ! (stop !)) (look ! 7 refl)) (and-then ! (load ! (from ! (fld ! refl (stop !))) (look-in ! 25 (sub ! 3 refl (whole !)))) (no-more !))) (λ w₄ zs is₄ len e₄.
-        -- [the slice; [κ₂]; what says the last state; [κ₁]; [κ₃]; [κ₀]; the last octets; _18; …; _0; …]: the outcome is made
+        move ! (5 ∷ 6 ∷ []) $ stores ! mem run κ₂ q₂ b₂ o₂ γ₂ ys (r₂ .records) (LL.val N.the-type N′.the-laws (r₂ .records)) fm known-store room₂ (parts r₂ w₂ is₂ .1 .1 .0)
+        (λ ν δ. and-then ! (load ! (from ! (stop !)) (look ! 7 refl)) (and-then ! (load ! (from ! (fld ! refl (stop !))) (look-in ! 25 (sub ! 2 refl (whole !)))) (no-more !))) (λ w₄ zs is₄ len e₄.
+        -- [the slice; [κ₂]; what says the last state; [κ₁]; [κ₃]; [κ₀]; the last octets; _18; …; _0; …]: the outcome is handed on whole
         land ! (from ! (stop !)) (store ! 13 refl (nothing-lawful 𝓤 H A W .typed tt _ is₄ .0)) $
-        assigns ! (agg ! (and-then ! (load ! (from ! (fld ! refl (stop !))) (look-in ! 25 (sub ! 0 refl (whole !)))) (and-then ! (load ! (from ! (fld ! refl (stop !))) (look-in ! 25 (sub ! 1 refl (whole !)))) (no-more !)))) (from ! (stop !))
-        (init ! 43 refl (LL.lawful O.the-type O′.the-laws 𝓤 H A W .typed (made r₂) _ (made-is r₂ (parts r₂ w₂ is₂)) .0)) $ returns ! (look ! 43 refl) $
+        assigns ! (of-opd ! (load ! (from ! (fld ! refl (stop !))) (look-in ! 25 (sub ! 0 refl (whole !))))) (from ! (stop !)) (init ! 43 refl (LL.lawful O.the-type O′.the-laws 𝓤 H A W .typed (r₂ .outcome) _ (parts r₂ w₂ is₂ .0) .0)) $ returns ! (look ! 43 refl) $
         forget ! 7 refl $ forget ! 9 refl $ forget ! 11 refl $ forget ! 13 refl $ forget ! 15 refl $ forget ! 17 refl $ forget ! 19 refl $ forget ! 21 refl $ forget ! 23 refl $ forget ! 25 refl $ forget ! 27 refl $ forget ! 29 refl $
         forget ! 31 refl $ forget ! 33 refl $ forget ! 35 refl $ forget ! 37 refl $ forget ! 39 refl $ forget ! 41 refl $ forget ! 43 refl $
         move ! (43 ∷ 44 ∷ []) $ free1 ! $ move ! (41 ∷ 42 ∷ []) $ free1 ! $ move ! (39 ∷ 40 ∷ []) $ free1 ! $ move ! (37 ∷ 38 ∷ []) $ free1 ! $ move ! (35 ∷ 36 ∷ []) $ free1 ! $ move ! (33 ∷ 34 ∷ []) $ free1 ! $ move ! (31 ∷ 32 ∷ []) $ free1 ! $
         move ! (29 ∷ 30 ∷ []) $ free1 ! $ move ! (27 ∷ 28 ∷ []) $ free1 ! $ move ! (25 ∷ 26 ∷ []) $ free1 ! $ move ! (23 ∷ 24 ∷ []) $ free1 ! $ move ! (21 ∷ 22 ∷ []) $ free1 ! $ move ! (19 ∷ 20 ∷ []) $ free1 ! $ move ! (17 ∷ 18 ∷ []) $ free1 ! $
         move ! (15 ∷ 16 ∷ []) $ free1 ! $ move ! (13 ∷ 14 ∷ []) $ free1 ! $ move ! (11 ∷ 12 ∷ []) $ free1 ! $ move ! (9 ∷ 10 ∷ []) $ free1 ! $ move ! (7 ∷ 8 ∷ []) $ free1 ! $ free0 ! $
-        keep ! (5 ∷ 3 ∷ 1 ∷ 4 ∷ 2 ∷ 0 ∷ 6 ∷ []) $ by ! (exits (made r₂) h′ zs (us .1 .1 .1 .1 .1 .1 .0) (made-is r₂ (parts r₂ w₂ is₂)) (served-lent h ys c e₁ e₂ e₃ e₄ refl refl) len len₂))))))))))))))))))))))))))))))
+        keep ! (5 ∷ 3 ∷ 1 ∷ 4 ∷ 2 ∷ 0 ∷ 6 ∷ []) $ by ! (exits (r₂ .outcome) h′ zs (us .1 .1 .1 .1 .1 .1 .0) (parts r₂ w₂ is₂ .0) (served-lent h ys c e₁ e₂ e₃ e₄ refl) len len₂))))))))))))))))))))))))))))))
 
 module _ {M : Type 1} (𝓤 : URA M) (H : Heap 𝓤) (A : Atoms 𝓤) (W : Given 𝓤 H A) (mem : Memory → SProp 𝓤) (run : Routine → Fun 𝓤) where
   walks : (C : Calls 𝓤 H) (Λ : Loops 𝓤 H) → FmC 𝓤 H (W .laws) C → Triple 𝓤 (C #lent·load) (Load 𝓤 H A mem run) → Triple 𝓤 (C #records·serve) (Serve 𝓤 H A mem run) → Triple 𝓤 (C #lent·advance) (Advance 𝓤 H A mem run) → Triple 𝓤 (C #lent·store) (Store 𝓤 H A mem run)

@@ -6,12 +6,12 @@ use denote.Struct.Laws as LL
 use Rattle.state.specs.declared.Lease.{Lease}
 use Rattle.state.specs.declared.State.{State}
 use Rattle.server.specs.Serve.{Call}
-use Rattle.records.specs.declared.Outcome.{Outcome}
+use Rattle.server.specs.declared.Outcome.{Outcome}
 use Rattle.records.specs.Lent.{serveLent, ServesLent}
 use Rattle.owned.specs.declared.Owned.{Owned}
 use Rattle.owned.specs.declared.OwnedCall.{OwnedCall}
-use Rattle.records.proofs.Outcome as U
-use Rattle.records.proofs.Outcome.Laws as U′
+use Rattle.server.proofs.Outcome as U
+use Rattle.server.proofs.Outcome.Laws as U′
 use Rattle.lent.proofs.serve as serve′
 use Rattle.lent.proofs.serve.Symbol as serve-def
 use Rattle.lent.proofs.serve.Symbol.{name as #lent·serve}
@@ -75,21 +75,21 @@ module _ {M : Type 1} (𝓤 : URA M) (H : Heap 𝓤) (A : Atoms 𝓤) (W : Given
 
   -- the result
   abbrev served : Outcome → State → List Lease → OwnedCall
-  served r h′ zs = record { outcome = r .outcome; length = r .length; owned = to-owned h′ zs }
+  served r h′ zs = record { outcome = r; owned = to-owned h′ zs }
 
   abbrev word-served : Outcome → State → List Lease → Val
   word-served r h′ zs = LL.val Z.the-type Z′.the-laws (served r h′ zs)
 
   is-served : (r : Outcome) (w : Val) (h′ : State) (zs : List Lease) → Is U.the-row r (w ∷ []) → IsState h′ → IsLeases zs → Is Z.the-row (served r h′ zs) (word-served r h′ zs ∷ [])
   is-served r w h′ zs is-r is-h is-zs =
-      LL.owes Z.the-type Z′.the-laws (served r h′ zs) (LL.owed U.the-type U′.the-laws r (w ∷ []) is-r .0, (LL.owed U.the-type U′.the-laws r (w ∷ []) is-r .1 .0, (is-owned h′ zs is-h is-zs, tt)))
+      LL.owes Z.the-type Z′.the-laws (served r h′ zs) (LL.owes U.the-type U′.the-laws r (LL.owed U.the-type U′.the-laws r (w ∷ []) is-r), (is-owned h′ zs is-h is-zs, tt))
 
   exits : (r : Outcome) (h′ : State) (zs : List Lease) (us : List ℕ) → Is Z.the-row (served r h′ zs) (word-served r h′ zs ∷ []) → ServesLent (serveLent h ys c) h′ zs ns us r → length us ≡ length ns
       → ent 𝓤 (⋆ 𝓤 H A (‵ (flft κ₀ q₀) ∷ ‵ (flft κ₁ q₁) ∷ ‵ (finally u8 γ₁ us) ∷ [])) (Post (word-served r h′ zs))
   exits r h′ zs us is e len =
       qed W (‵ (flft κ₀ q₀) ∷ ‵ (flft κ₁ q₁) ∷ ‵ (finally u8 γ₁ us) ∷ []) ∵
       suffices ! _ (ends-at 𝓤 H A f.ended stayed (f.clauses 𝓤 H A mem run) W (((κ₀, (κ₁, tt)), (q₀, (q₁, tt)), tt, a, vals), tt) (word-served r h′ zs) (served r h′ zs) (tt, (tt, (tt, (tt, (us, tt))))) (tt, (tt, (tt, (tt, (len, tt)))))) $
-      says ! (record { outcome = e .outcome; size = e .size; state = e .state; leases = e .leases; buffer = e .buffer }) $
+      says ! (record { tells = e .tells; state = e .state; leases = e .leases }) $
       -- the tokens
       nothing ! $ move ! (2 ∷ 0 ∷ []) $ join ! $ move ! (1 ∷ 0 ∷ []) $ join ! $ frame ! $
       -- what is had of the parameters, and the result
@@ -165,7 +165,7 @@ module _ {M : Type 1} (𝓤 : URA M) (H : Heap 𝓤) (A : Atoms 𝓤) (W : Given
         assigns ! (of-opd ! (load ! (from ! (stop !)) (look ! 1 refl))) (from ! (stop !)) (init ! 11 refl (typed-leases 𝓤 H A W (ws .1 .1 .1 .1 .0) is-zs)) $
         assigns ! (agg ! (and-then ! (load ! (from ! (stop !)) (look ! 11 refl)) (no-more !))) (from ! (stop !)) (init ! 9 refl (typed-records 𝓤 H A W (to-records (ws .1 .1 .1 .1 .0)) (is-records (ws .1 .1 .1 .1 .0) is-zs))) $
         assigns ! (agg ! (and-then ! (load ! (from ! (stop !)) (look ! 13 refl)) (and-then ! (load ! (from ! (stop !)) (look ! 9 refl)) (no-more !)))) (from ! (stop !)) (init ! 7 refl (typed-owned 𝓤 H A W (to-owned (ws .1 .1 .1 .0) (ws .1 .1 .1 .1 .0)) (is-owned (ws .1 .1 .1 .0) (ws .1 .1 .1 .1 .0) is-h is-zs))) $
-        assigns ! (agg ! (and-then ! (load ! (from ! (fld ! refl (stop !))) (look-in ! 25 (sub ! 0 refl (whole !)))) (and-then ! (load ! (from ! (fld ! refl (stop !))) (look-in ! 25 (sub ! 1 refl (whole !)))) (and-then ! (load ! (from ! (stop !)) (look ! 7 refl)) (no-more !))))) (from ! (stop !))
+        assigns ! (agg ! (and-then ! (load ! (from ! (stop !)) (look ! 25 refl)) (and-then ! (load ! (from ! (stop !)) (look ! 7 refl)) (no-more !)))) (from ! (stop !))
         (init ! 41 refl (LL.lawful Z.the-type Z′.the-laws 𝓤 H A W .typed (served r (ws .1 .1 .1 .0) (ws .1 .1 .1 .1 .0)) _ (is-served r w (ws .1 .1 .1 .0) (ws .1 .1 .1 .1 .0) is-r is-h is-zs) .0)) $ returns ! (look ! 41 refl) $
         forget ! 0 refl $ forget ! 1 refl $ forget ! 7 refl $ forget ! 9 refl $ forget ! 11 refl $ forget ! 13 refl $ forget ! 15 refl $ forget ! 17 refl $ forget ! 19 refl $ forget ! 21 refl $ forget ! 23 refl $ forget ! 25 refl $ forget ! 28 refl $
         forget ! 31 refl $ forget ! 33 refl $ forget ! 35 refl $ forget ! 37 refl $ forget ! 39 refl $ forget ! 41 refl $

@@ -2,6 +2,7 @@
 --     Holder           the row of such a struct: N's own row, by computation, where D is N's record and `held` its field
 --     start o          where the elements begin in such a struct at the offset o
 --     Back             what is set aside while the elements are out: the way back to the struct, at any n elements
+--     of-tuples, to-tuples     a row of records is the row of their tuples
 --     array-out        the local's cell with what the struct owns gives the row of its elements and `Back`, and says that there are n
 --     array-in         the row of n elements and `Back` give the local's cell with what the struct of those elements owns
 -- Assumes `Given`.
@@ -10,12 +11,12 @@ use denote.Memory.{mem}
 
 -- a row of records is the row of their tuples
 module _ {M : Type 1} (𝓤 : URA M) (H : Heap 𝓤) (A : Atoms 𝓤) (W : Given 𝓤 H A) (R : RattleType) (D : Type 0) (to : D → R .Denot) (one : (x y : D) → to x ≡ to y → x ≡ y) (q : Share) where
-  of-tuples : (ds : List D) (b o : ℕ) → ent 𝓤 (sem 𝓤 H A (row R q (map to ds) b o)) (sem 𝓤 H A (row (Recorded R D to one) q ds b o))
+  pub of-tuples : (ds : List D) (b o : ℕ) → ent 𝓤 (sem 𝓤 H A (row R q (map to ds) b o)) (sem 𝓤 H A (row (Recorded R D to one) q ds b o))
   unfolding partOf
   of-tuples [] b o = id⊢ 𝓤 (emp 𝓤)
   of-tuples (d ∷ ds) b o = qed W (‵ (partAt R q (to d) b o) ∷ ‵ (row R q (map to ds) b (o + mem R .size)) ∷ []) ∵ frame ! $ by ! (of-tuples ds b (o + mem R .size))
 
-  to-tuples : (ds : List D) (b o : ℕ) → ent 𝓤 (sem 𝓤 H A (row (Recorded R D to one) q ds b o)) (sem 𝓤 H A (row R q (map to ds) b o))
+  pub to-tuples : (ds : List D) (b o : ℕ) → ent 𝓤 (sem 𝓤 H A (row (Recorded R D to one) q ds b o)) (sem 𝓤 H A (row R q (map to ds) b o))
   unfolding partOf
   to-tuples [] b o = id⊢ 𝓤 (emp 𝓤)
   to-tuples (d ∷ ds) b o = qed W (‵ (partAt (Recorded R D to one) q d b o) ∷ ‵ (row (Recorded R D to one) q ds b (o + mem R .size)) ∷ []) ∵ frame ! $ by ! (to-tuples ds b (o + mem R .size))

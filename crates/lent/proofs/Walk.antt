@@ -1,5 +1,7 @@
 -- Laws: what every walk begins with and ends in: the names of the program logic that walks use, passed on, so that a walk brings them in by one line; and how a walk is its function's theorem.
 --     stands       a walk of a function's MIR, for all that its contract binds outside, is the function's theorem, where what the walk has of each parameter at exit gives what the contract says of it
+--     counts       a loop of n turns, where At i is what holds after i of them
+--     says-both    a goal that ends in two clauses, P ∗ (⌜φ⌝ ∗ ⌜ψ⌝): φ and ψ are shown, and P is left
 -- Assumes `Given`.
 pub use mathlib.Core.Path.{_≡_, refl, ap, sym, _∙_, subst}
 pub use Prim.Native.Nat.{ℕ, _<_, _^_, max, zero, suc, _+_, _*_, _≤_, min}
@@ -66,9 +68,10 @@ pub use denote.Struct.Parts.{shapeOf, PartsBack}
 pub use denote.Struct.Pick.{record-field-out, record-field-back}
 pub use denote.Struct.Recorded.{Recorded}
 pub use denote.Struct.Struct.{Struct, layout, struct-lawful, struct-makes}
-use mir.Syntax.{Fn}
+use mir.Syntax.{Fn, Body, loop}
 use prog.Wp.{Closed}
 use prog.Routine.{Name}
+use sound.Laws.{Laws}
 use denote.Triple.Clauses.{Ended, Clauses, closing}
 
 module _ {M : Type 1} (𝓤 : URA M) (H : Heap 𝓤) (A : Atoms 𝓤) (W : Given 𝓤 H A) (T : Ended) (hs : Stays (T .signature .params) (T .kept)) (c : Clauses 𝓤 T) (𝓣 : Tables 𝓤 H) (k : Name) (e : Fn) where
@@ -77,3 +80,30 @@ module _ {M : Type 1} (𝓤 : URA M) (H : Heap 𝓤) (A : Atoms 𝓤) (W : Given
   stands closed gs walks =
       entered 𝓤 H (tripleOf 𝓤 H A (T .signature) (closing 𝓤 H A T c)) (𝓣 .C) (𝓣 .Λ) k e closed
       (walk-meets 𝓤 H A T hs W gs c (WpFn 𝓤 H (𝓣 .C) (𝓣 .Λ) e) (WpFn-mono 𝓤 H (W .laws) 𝓣 e) (walks (fmOf 𝓤 H (W .laws) 𝓣)))
+
+module _ {M : Type 1} (𝓤 : URA M) (H : Heap 𝓤) (L : Laws 𝓤 H) (𝓣 : Tables 𝓤 H) (E : Env 𝓤 H) (turn : Body) (Left : Out → SProp 𝓤) (n : ℕ) (At : ℕ → SProp 𝓤) where
+  -- where t turns are left
+  abbrev Inv : ℕ → SProp 𝓤
+  Inv t = ex 𝓤 (λ (i : ℕ). guard 𝓤 (i + t ≡ n) (At i))
+
+  abbrev Below : ℕ → SProp 𝓤
+  Below t = ex 𝓤 (λ (t′ : ℕ). guard 𝓤 (t′ < t) (Inv t′))
+
+  abbrev Turn : SProp 𝓤 → SProp 𝓤
+  Turn X = Wp 𝓤 H (𝓣 .C) (𝓣 .Λ) E turn (afterTurn 𝓤 H X Left)
+
+  inv : (t i : ℕ) → i + t ≡ n → ent 𝓤 (At i) (Inv t)
+  inv t i e = via 𝓤 (guard 𝓤 (i + t ≡ n) (At i)) (guardI 𝓤 (i + t ≡ n) (At i) e) (exI 𝓤 (λ (j : ℕ). guard 𝓤 (j + t ≡ n) (At j)) i)
+
+  -- a turn leaves the loop, or ends where fewer are left
+  pub counts : ((X : SProp 𝓤) → ent 𝓤 (At n) (Turn X)) → ((i : ℕ) (X : SProp 𝓤) → i < n → ent 𝓤 (At (i + 1)) X → ent 𝓤 (At i) (Turn X)) → ent 𝓤 (At 0) (Wp 𝓤 H (𝓣 .C) (𝓣 .Λ) E (loop turn) Left)
+  counts ends more = via 𝓤 (Inv n) (inv n 0 (omega arith)) (loop-rule 𝓤 H L 𝓣 _<_ (Nat·lt-wfRel .wf) E turn Left Inv (λ t. exE 𝓤 (λ (i : ℕ). guard 𝓤 (i + t ≡ n) (At i)) (λ i. guardE 𝓤 (i + t ≡ n) (At i) (go t i))) n)
+    where
+      go : (t i : ℕ) → i + t ≡ n → ent 𝓤 (At i) (Turn (Below t))
+      go zero i e = subst (λ (j : ℕ). ent 𝓤 (At j) (Turn (Below zero))) (let g : n ≡ i = omega arith in g) (ends (Below zero))
+      go (suc t) i e =
+          more i (Below (suc t)) (omega arith)
+          (via 𝓤 (Inv t) (inv t (i + 1) (omega arith)) (via 𝓤 (guard 𝓤 (t < suc t) (Inv t)) (guardI 𝓤 (t < suc t) (Inv t) (omega arith)) (exI 𝓤 (λ (u : ℕ). guard 𝓤 (u < suc t) (Inv u)) t)))
+
+pub says-both : {M : Type 1} {𝓤 : URA M} {H : Heap 𝓤} {A : Atoms 𝓤} {K : Type 0} {W : Given 𝓤 H A} {Γ : List (Item 𝓤)} → K → {φ ψ : Type 0} {P : SProp 𝓤} → φ → ψ → Step K W Γ (prop P) Γ (prop (sep 𝓤 P (sep 𝓤 (fact 𝓤 φ) (fact 𝓤 ψ))))
+says-both {𝓤 = 𝓤} t {φ} {ψ} {P} x y = step (λ s. record { prf = via 𝓤 (sep 𝓤 (sep 𝓤 P (fact 𝓤 φ)) (fact 𝓤 ψ)) ((says t y $ says t x $ s) .prf) (assoc∗ 𝓤 P (fact 𝓤 φ) (fact 𝓤 ψ)) })

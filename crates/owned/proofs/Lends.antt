@@ -8,7 +8,7 @@
 --     lends-shr, backs-shr     the same as `&`, with `OutShr`: the cells come back as they were
 -- A step has its items at the head of the context, in this order, and the rest of the context is as it was.
 -- Assumes `Given`.
-use Rattle.lent.proofs.Walk.{_≡_, refl, sym, _∙_, subst, ℕ, _+_, arith, List, [], _∷_, map, length, length-map, URA, fullShare, erased, tyArray, Val, WT, hasTy, vptr, ent, emp, id⊢, Lft, GName, Share, Fml, feq, fsep, fat, flft, fres, flent, Heap, Atoms, sem, Given, Item, Goal, Soaks, Seq, Step, step, ‵, _⊛_, some, later, _$_, _∵_, !, qed, by, move, drop, use1, use3, split, pick, rewrite, fsplit, fjoin, fpick, fpack, feqI, frame, await, cells, Arr, arr-parts, lft-new, lft-end, lent-back, RattleType, Is, shows, cellAt, partAt, shares, partOf, Array, array-makes, array-apart, array-whole, row, whole-in, whole-out, lends-ref, ref-back, lends-slice, slice-back, lends-shr-slice, RefT, MutRef, ShrRef, sliceVal, MutSlice, ShrSlice, Room, finally, owned, facts, field, shape, Recorded, spelt, struct-makes}
+use Rattle.lent.proofs.Walk.{_≡_, refl, sym, _∙_, subst, ℕ, arith, List, [], _∷_, map, length, length-map, URA, fullShare, erased, tyArray, Val, WT, hasTy, vptr, Lft, GName, Fml, feq, fsep, fat, flft, fres, flent, Heap, Atoms, Given, Item, Goal, Soaks, Seq, Step, step, ‵, _⊛_, some, later, _$_, move, drop, use1, use3, split, pick, rewrite, fsplit, fjoin, fpick, fpack, feqI, await, cells, Arr, arr-parts, lft-new, lft-end, lent-back, RattleType, Is, shows, cellAt, partAt, shares, partOf, Array, array-makes, array-apart, array-whole, row, whole-in, whole-out, lends-ref, ref-back, lends-slice, slice-back, lends-shr-slice, RefT, MutRef, ShrRef, sliceVal, MutSlice, ShrSlice, Room, finally, owned, facts, field, shape, spelt, struct-makes}
 use lib.Dec.{T as Holds}
 use types.SemTy.{Body}
 use denote.Memory.{mem}
@@ -23,21 +23,10 @@ use Rattle.state.proofs.State.Laws as T′
 use Rattle.records.specs.declared.Records.{Records}
 use Rattle.records.proofs.Records as N
 use Rattle.records.proofs.Records.Laws as N′
+use Rattle.lent.proofs.Local.{of-tuples, to-tuples}
 use Rattle.owned.specs.declared.Owned.{Owned}
 use Rattle.owned.proofs.Owned as O
 use Rattle.owned.proofs.Owned.Laws as O′
-
--- a row of records is the row of their tuples
-module _ {M : Type 1} (𝓤 : URA M) (H : Heap 𝓤) (A : Atoms 𝓤) (W : Given 𝓤 H A) (R : RattleType) (D : Type 0) (to : D → R .Denot) (one : (x y : D) → to x ≡ to y → x ≡ y) (q : Share) where
-  of-tuples : (ds : List D) (b o : ℕ) → ent 𝓤 (sem 𝓤 H A (row R q (map to ds) b o)) (sem 𝓤 H A (row (Recorded R D to one) q ds b o))
-  unfolding partOf
-  of-tuples [] b o = id⊢ 𝓤 (emp 𝓤)
-  of-tuples (d ∷ ds) b o = qed W (‵ (partAt R q (to d) b o) ∷ ‵ (row R q (map to ds) b (o + mem R .size)) ∷ []) ∵ frame ! $ by ! (of-tuples ds b (o + mem R .size))
-
-  to-tuples : (ds : List D) (b o : ℕ) → ent 𝓤 (sem 𝓤 H A (row (Recorded R D to one) q ds b o)) (sem 𝓤 H A (row R q (map to ds) b o))
-  unfolding partOf
-  to-tuples [] b o = id⊢ 𝓤 (emp 𝓤)
-  to-tuples (d ∷ ds) b o = qed W (‵ (partAt (Recorded R D to one) q d b o) ∷ ‵ (row (Recorded R D to one) q ds b (o + mem R .size)) ∷ []) ∵ frame ! $ by ! (to-tuples ds b (o + mem R .size))
 
 abbrev pub word-state : State → Val
 word-state h = LL.val T.the-type T′.the-laws h

@@ -2,7 +2,7 @@
 -- Before the loop the slice is looked into, and the local `Records` is taken apart into the row of its 128 lease records; after it the row is put together again and the slice is shut. A turn takes one lease
 -- record out of the slice's row, copies it, and puts it back, and takes the one at the same place out of the local's row and stores the copy there. After i turns the local's row is what `no_records` gave with the slice's first i records pasted over it.
 -- The walk is cut in parts, each a check of its own: the call of `no_records` (`walk`), the call of `cut128` and up to the loop (`starts`), a turn (`more`), and the turn that leaves the loop with what follows it (`ends`).
-use Rattle.lent.proofs.Walk.{stands, _≡_, refl, sym, _∙_, ap, subst, Bool, [], _∷_, List, ℕ, zero, suc, _+_, _*_, _≤_, _<_, min, min-le-left, min-le-right, arith, Nat·lt-wfRel, length, getD, replicate, paste, paste-zero, lt-ltb, le-ltb, URA, fullShare, Ty, named, imm, w64, tyInt, tyBool, tyPtr, tyRef, Val, Fits, vbool, vint, vptr, SProp, ent, ex, guard, via, exI, exE, guardI, guardE, emp, fst∗, snd∗, id⊢, Lft, Share, GName, Fml, ftrue, fat, froom, fdies, flft, fres, fobor, fshr-bor, Memory, Routine, Heap, Out, Env, Wp, WpFn, Tables, afterSeq, afterBlock, afterTurn, atReturn, loop-rule, fmOf, Atoms, sem, Fun, fact, givenOf, tables, tablesOf, Given, Item, anyQ, atRet, ‵, raw, _⊛_, some, later, ⋆, _$_, _∵_, !, qed, by, move, keep, drop, use0, use1, split, join, pick, rewrite, fsplit, fsplit3, fjoin, suffices, frame, await, done, look, look-raw, init, store, store-raw, forget, stop, hop, fld, from, load, lit, of-opd, bin, addr, and-then, no-more, assigns, assigns-last, stays, leaves-loop, exec, land, returns, enter, alloc1, alloc0, params1, pass1, pass0, free1, free0, whole, sub, look-in, arr-parts, owns, pureI, Is, shows, pointee, shares, RefT, sliceVal, sliceTy, slice-vals, shr-slice-tells, ShrSlice, Room, heres, codedHoleys, at-slice, row, place-is, elem-out, elem-back, elem-put, looks-slice, shuts-slice, owned, peeks, heard, nothing, plain, Contract, Triple, calls-at, ensured, lasts, onEntry, tripleOf, cited, says, Stays, stay-none-slice, walkOf, AllGo, goes-none-slice, Walks, ends-at, walked, yes}
+use Rattle.lent.proofs.Walk.{stands, counts, _≡_, refl, sym, _∙_, ap, subst, Bool, [], _∷_, List, ℕ, _+_, _*_, _≤_, _<_, min, min-le-left, min-le-right, arith, length, getD, replicate, paste, paste-zero, lt-ltb, le-ltb, URA, fullShare, Ty, named, imm, w64, tyInt, tyBool, tyPtr, tyRef, Val, Fits, vbool, vint, vptr, SProp, ent, via, exE, emp, fst∗, snd∗, id⊢, Lft, Share, GName, Fml, ftrue, fat, froom, fdies, flft, fres, fobor, fshr-bor, Memory, Routine, Heap, Out, Env, Wp, WpFn, Tables, afterSeq, afterBlock, afterTurn, atReturn, fmOf, Atoms, sem, Fun, fact, givenOf, tables, tablesOf, Given, Item, anyQ, atRet, ‵, raw, _⊛_, some, later, ⋆, _$_, _∵_, !, qed, by, move, keep, drop, use0, use1, split, join, pick, rewrite, fsplit, fsplit3, fjoin, suffices, frame, await, done, look, look-raw, init, store, store-raw, forget, stop, hop, fld, from, load, lit, of-opd, bin, addr, and-then, no-more, assigns, assigns-last, stays, leaves-loop, exec, land, returns, enter, alloc1, alloc0, params1, pass1, pass0, free1, free0, whole, sub, look-in, arr-parts, owns, pureI, Is, shows, pointee, shares, RefT, sliceVal, sliceTy, slice-vals, shr-slice-tells, ShrSlice, Room, heres, codedHoleys, at-slice, row, place-is, elem-out, elem-back, elem-put, looks-slice, shuts-slice, owned, peeks, heard, nothing, plain, Contract, Triple, calls-at, ensured, lasts, onEntry, tripleOf, cited, says, Stays, stay-none-slice, walkOf, AllGo, goes-none-slice, Walks, ends-at, walked, yes}
 use denote.Struct.Laws as LL
 use Rattle.lists.specs.laws.Copy.{CopyInv, copy-front, copy-long}
 use Rattle.state.specs.declared.Lease.{Lease}
@@ -120,13 +120,6 @@ module _ {M : Type 1} (𝓤 : URA M) (H : Heap 𝓤) (A : Atoms 𝓤) (W : Given
           ∷ ‵ (fdies T′.mir l₀) ∷ ‵ (fdies slice l₁) ∷ ‵ (fdies T′.mir l₂) ∷ ‵ (fdies word l₃) ∷ ‵ (fdies word l₄) ∷ ‵ (fdies T′.mir l₅) ∷ ‵ (fdies word l₆) ∷ ‵ (fdies tyBool l₇)
           ∷ ‵ (fdies word l₈) ∷ ‵ (fdies tyPtr l₉) ∷ ‵ (fdies R′.mir l₁₀) ∷ ‵ (fdies word l₁₁) ∷ ‵ (fdies tyPtr l₁₂) ∷ ‵ (fdies tyPtr l₁₃) ∷ []
 
-      -- the invariant, where t turns are left
-      abbrev Inv : ℕ → SProp 𝓤
-      Inv t = ex 𝓤 (λ (i : ℕ). guard 𝓤 (i + t ≡ n) (⋆ 𝓤 H A (At i)))
-
-      abbrev Below : ℕ → SProp 𝓤
-      Below t = ex 𝓤 (λ (t′ : ℕ). guard 𝓤 (t′ < t) (Inv t′))
-
       abbrev Left : Out → SProp 𝓤
       Left = afterBlock 𝓤 H (afterSeq 𝓤 H (Wp 𝓤 H (𝓣 .C) (𝓣 .Λ) En mirs.t-7 (atReturn 𝓤 H En Post)) (atReturn 𝓤 H En Post))
 
@@ -196,20 +189,8 @@ module _ {M : Type 1} (𝓤 : URA M) (H : Heap 𝓤) (A : Atoms 𝓤) (W : Given
           r : Records
           r = record { leases = copied d n }
 
-      inv : (t i : ℕ) → i + t ≡ n → ent 𝓤 (⋆ 𝓤 H A (At i)) (Inv t)
-      inv t i e = via 𝓤 (guard 𝓤 (i + t ≡ n) (⋆ 𝓤 H A (At i))) (guardI 𝓤 (i + t ≡ n) (⋆ 𝓤 H A (At i)) e) (exI 𝓤 (λ (j : ℕ). guard 𝓤 (j + t ≡ n) (⋆ 𝓤 H A (At j))) i)
-
-      -- a turn from the invariant at t leaves the loop, or ends in the invariant below t
-      turn-at : (t i : ℕ) → i + t ≡ n → ent 𝓤 (⋆ 𝓤 H A (At i)) (Wp 𝓤 H (𝓣 .C) (𝓣 .Λ) En mirs.turn-1 (afterTurn 𝓤 H (Below t) Left))
-      turn-at zero i e = subst (λ (j : ℕ). ent 𝓤 (⋆ 𝓤 H A (At j)) (Wp 𝓤 H (𝓣 .C) (𝓣 .Λ) En mirs.turn-1 (afterTurn 𝓤 H (Below zero) Left))) (let g : n ≡ i = omega arith in g) (ends (Below zero))
-      turn-at (suc t) i e =
-          more i (Below (suc t)) (omega arith)
-          (via 𝓤 (Inv t) (inv t (i + 1) (omega arith)) (via 𝓤 (guard 𝓤 (t < suc t) (Inv t)) (guardI 𝓤 (t < suc t) (Inv t) (omega arith)) (exI 𝓤 (λ (u : ℕ). guard 𝓤 (u < suc t) (Inv u)) t)))
-
       loops : ent 𝓤 (⋆ 𝓤 H A (At 0)) (Wp 𝓤 H (𝓣 .C) (𝓣 .Λ) En mirs.s-6 (afterSeq 𝓤 H (Wp 𝓤 H (𝓣 .C) (𝓣 .Λ) En mirs.t-7 (atReturn 𝓤 H En Post)) (atReturn 𝓤 H En Post)))
-      loops =
-          via 𝓤 (Inv n) (inv n 0 (omega arith))
-          (loop-rule 𝓤 H (W .laws) 𝓣 _<_ (Nat·lt-wfRel .wf) En mirs.turn-1 Left Inv (λ t. exE 𝓤 (λ (i : ℕ). guard 𝓤 (i + t ≡ n) (⋆ 𝓤 H A (At i))) (λ i. guardE 𝓤 (i + t ≡ n) (⋆ 𝓤 H A (At i)) (turn-at t i))) n)
+      loops = counts 𝓤 H (W .laws) 𝓣 En mirs.turn-1 Left n (λ i. ⋆ 𝓤 H A (At i)) ends more
 
     -- ---- what comes before it
     -- what stands once the local is filled, where v is its value

@@ -1,7 +1,7 @@
 -- `lent::store` meets its contract: a walk of its MIR, by hand, with a call and a loop. The records are copied to a local, and `records::cut128` is called, of which the proof knows only its contract.
 -- Then, once, before the loop, the borrow is opened and the local is taken apart into the row of its records. A turn takes one record out of each row, copies it from the local's to the slice's, and puts both back.
 -- After the loop the local is put together again, and the borrow is closed at the list with the records laid over it.
-use Rattle.lent.proofs.Walk.{stands, _≡_, refl, sym, _∙_, ap, subst, Bool, ℕ, zero, suc, _+_, _<_, _≤_, _*_, min, min-le-left, min-le-right, add-one, Nat·lt-wfRel, lt-ltb, le-ltb, arith, [], _∷_, List, length, getD, set, paste, paste-zero, URA, fullShare, Ty, named, mut, w64, tyInt, tyBool, tyPtr, tyUnit, tyRef, Val, Fits, vunit, vbool, vint, vptr, SProp, ent, ex, guard, via, exI, exE, guardI, guardE, emp, fst∗, Lft, Share, GName, ftrue, fat, froom, fdies, flft, fobs, fauth, fbor, fobor, Memory, Routine, Heap, Out, Env, Wp, WpFn, Tables, afterSeq, afterBlock, afterTurn, atReturn, loop-rule, fmOf, Atoms, Fun, givenOf, tables, tablesOf, Given, Item, anyQ, atRet, ‵, raw, _⊛_, ⋆, _$_, _∵_, !, qed, by, move, keep, drop, split, join, rewrite, fsplit, fjoin, suffices, frame, done, feqI, look, look-raw, init, store-raw, forget, stop, hop, fld, from, load, lit, unit-lit, of-opd, and-then, no-more, bin, addr, assigns, assigns-last, land, stays, leaves-loop, exec, store, returns, enter, alloc1, alloc0, params1, pass1, pass0, free1, free0, whole, sub, look-in, owns, pureI, Is, shows, pointee, RefT, sliceVal, sliceTy, slice-vals, mut-slice-tells, MutSlice, Room, heres, codedHoleys, at-slice, row, place-is, elem-out, elem-back, elem-put, opens-slice, closes-slice, owned, nothing, plain, Triple, onEntry, cited, says, Stays, stay-none, stay-slice, walkOf, AllGo, goes-none, goes-slice, Walks, ends-at, walked, yes}
+use Rattle.lent.proofs.Walk.{stands, counts, _≡_, refl, sym, ap, subst, Bool, ℕ, _+_, _<_, _≤_, _*_, min, min-le-left, min-le-right, lt-ltb, le-ltb, arith, [], _∷_, List, length, getD, set, paste, paste-zero, URA, fullShare, Ty, named, mut, w64, tyInt, tyBool, tyPtr, tyUnit, tyRef, Val, Fits, vunit, vbool, vint, vptr, SProp, ent, via, emp, fst∗, Lft, Share, GName, ftrue, fat, froom, fdies, flft, fobs, fauth, fbor, fobor, Memory, Routine, Heap, Out, Env, Wp, WpFn, Tables, afterSeq, afterBlock, afterTurn, atReturn, fmOf, Atoms, Fun, givenOf, tables, tablesOf, Given, Item, anyQ, atRet, ‵, raw, _⊛_, ⋆, _$_, _∵_, !, qed, by, move, keep, drop, split, join, rewrite, fsplit, fjoin, suffices, frame, done, feqI, look, look-raw, init, store-raw, forget, stop, hop, fld, from, load, lit, unit-lit, of-opd, and-then, no-more, bin, addr, assigns, assigns-last, land, stays, leaves-loop, exec, store, returns, enter, alloc1, alloc0, params1, pass1, pass0, free1, free0, whole, sub, look-in, owns, pureI, Is, shows, pointee, RefT, sliceVal, sliceTy, slice-vals, mut-slice-tells, MutSlice, Room, heres, codedHoleys, at-slice, row, place-is, elem-out, elem-back, elem-put, opens-slice, closes-slice, owned, nothing, plain, Triple, onEntry, cited, says, Stays, stay-none, stay-slice, walkOf, AllGo, goes-none, goes-slice, Walks, ends-at, walked, yes}
 use denote.Lend.{Held}
 use denote.Struct.Laws as LL
 use Rattle.state.specs.declared.Lease.{Lease}
@@ -42,8 +42,8 @@ module _ (ys all : List Lease) (long : length all ≡ 128) where
   over-length : (i : ℕ) → i ≤ turns ys → length (over ys all i) ≡ length ys
   over-length i h = copy-long (copied i h)
 
-  over-next : (i : ℕ) → i < turns ys → set (over ys all i) i (getD all i zeroLease) ≡ over ys all (suc i)
-  over-next i h = copy-front (copied i (omega arith)) (getD all i zeroLease) h refl .whole ∙ ap (over ys all) (add-one i)
+  over-next : (i : ℕ) → i < turns ys → set (over ys all i) i (getD all i zeroLease) ≡ over ys all (i + 1)
+  over-next i h = copy-front (copied i (omega arith)) (getD all i zeroLease) h refl .whole
 
 module _ {M : Type 1} (𝓤 : URA M) (H : Heap 𝓤) (A : Atoms 𝓤) (W : Given 𝓤 H A) (mem : Memory → SProp 𝓤) (run : Routine → Fun 𝓤) (κ : Lft) (q : Share) (b o : ℕ) (γ : GName) (ys : List Lease) (r : Records) (r-is : Is Q.the-row r (LL.vals Q.the-type Q′.the-laws r)) where
   abbrev x : List Lease → RefT (List Lease)
@@ -112,18 +112,11 @@ module _ {M : Type 1} (𝓤 : URA M) (H : Heap 𝓤) (A : Atoms 𝓤) (W : Given
           ∷ ‵ (fdies tyUnit l₀) ∷ ‵ (fdies slice l₁) ∷ ‵ (fdies Q′.mir l₂) ∷ ‵ (fdies Q′.mir l₃) ∷ ‵ (fdies word l₄) ∷ ‵ (fdies word l₅) ∷ ‵ (fdies word l₆)
           ∷ ‵ (fdies tyBool l₇) ∷ ‵ (fdies word l₈) ∷ ‵ (fdies tyPtr l₉) ∷ ‵ (fdies tyPtr l₁₀) ∷ ‵ (fdies T′.mir l₁₁) ∷ ‵ (fdies word l₁₂) ∷ ‵ (fdies tyPtr l₁₃) ∷ []
 
-      -- the invariant, where t records are left
-      abbrev Inv : ℕ → SProp 𝓤
-      Inv t = ex 𝓤 (λ (i : ℕ). guard 𝓤 (i + t ≡ m) (⋆ 𝓤 H A (At i)))
-
-      abbrev Below : ℕ → SProp 𝓤
-      Below t = ex 𝓤 (λ (t′ : ℕ). guard 𝓤 (t′ < t) (Inv t′))
-
       abbrev Left : Out → SProp 𝓤
       Left = afterBlock 𝓤 H (afterSeq 𝓤 H (Wp 𝓤 H (𝓣 .C) (𝓣 .Λ) En mirs.t-6 (atReturn 𝓤 H En Post)) (atReturn 𝓤 H En Post))
 
       -- a turn that stores one record
-      more : (i : ℕ) (X : SProp 𝓤) → i < m → ent 𝓤 (⋆ 𝓤 H A (At (suc i))) X → ent 𝓤 (⋆ 𝓤 H A (At i)) (Wp 𝓤 H (𝓣 .C) (𝓣 .Λ) En mirs.turn-1 (afterTurn 𝓤 H X Left))
+      more : (i : ℕ) (X : SProp 𝓤) → i < m → ent 𝓤 (⋆ 𝓤 H A (At (i + 1))) X → ent 𝓤 (⋆ 𝓤 H A (At i)) (Wp 𝓤 H (𝓣 .C) (𝓣 .Λ) En mirs.turn-1 (afterTurn 𝓤 H X Left))
       unfolding afterTurn
       more i X small k =
           -- [the slice's records; the local's records; the way back to the local; _5; room for _7, _8, _9, _10, _11, _12, _13; _1; _4; …]
@@ -151,7 +144,7 @@ module _ {M : Type 1} (𝓤 : URA M) (H : Heap 𝓤) (A : Atoms 𝓤) (W : Given
           -- [the slice's records; the local's records; the way back to the local; _5; _7; …]
           assigns-last ! (bin ! (load ! (from ! (stop !)) (look ! 3 refl)) (lit ! tt) next-fits) (from ! (stop !)) (store ! 3 refl (tt, next-fits)) $
           forget ! 4 refl $ forget ! 5 refl $ forget ! 6 refl $ forget ! 7 refl $ forget ! 8 refl $ forget ! 9 refl $ forget ! 10 refl $
-          rewrite ! 3 (λ (j : ℕ). ‵ (fat fullShare word l₅ 0 (vint w64 j))) (add-one i) refl $ rewrite ! 0 (λ (zs : List Lease). ‵ (row T.the-row fullShare zs b o)) (over-next ys all long i small) refl $ by ! k))
+          rewrite ! 0 (λ (zs : List Lease). ‵ (row T.the-row fullShare zs b o)) (over-next ys all long i small) refl $ by ! k))
         where
           within-all : i < length all
           within-all = omega (arith, small, long, min-le-right n 128)
@@ -186,20 +179,8 @@ module _ {M : Type 1} (𝓤 : URA M) (H : Heap 𝓤) (A : Atoms 𝓤) (W : Given
           is-long : length at-end ≡ n
           is-long = over-length ys all long m (omega arith)
 
-      inv : (t i : ℕ) → i + t ≡ m → ent 𝓤 (⋆ 𝓤 H A (At i)) (Inv t)
-      inv t i e = via 𝓤 (guard 𝓤 (i + t ≡ m) (⋆ 𝓤 H A (At i))) (guardI 𝓤 (i + t ≡ m) (⋆ 𝓤 H A (At i)) e) (exI 𝓤 (λ (j : ℕ). guard 𝓤 (j + t ≡ m) (⋆ 𝓤 H A (At j))) i)
-
-      -- a turn from the invariant at t leaves the loop, or ends in the invariant below t
-      turn-at : (t i : ℕ) → i + t ≡ m → ent 𝓤 (⋆ 𝓤 H A (At i)) (Wp 𝓤 H (𝓣 .C) (𝓣 .Λ) En mirs.turn-1 (afterTurn 𝓤 H (Below t) Left))
-      turn-at zero i e = subst (λ (j : ℕ). ent 𝓤 (⋆ 𝓤 H A (At j)) (Wp 𝓤 H (𝓣 .C) (𝓣 .Λ) En mirs.turn-1 (afterTurn 𝓤 H (Below zero) Left))) (let g : m ≡ i = omega arith in g) (ends (Below zero))
-      turn-at (suc t) i e =
-          more i (Below (suc t)) (omega arith)
-          (via 𝓤 (Inv t) (inv t (suc i) (omega arith)) (via 𝓤 (guard 𝓤 (t < suc t) (Inv t)) (guardI 𝓤 (t < suc t) (Inv t) (omega arith)) (exI 𝓤 (λ (u : ℕ). guard 𝓤 (u < suc t) (Inv u)) t)))
-
       loops : ent 𝓤 (⋆ 𝓤 H A (At 0)) (Wp 𝓤 H (𝓣 .C) (𝓣 .Λ) En mirs.s-5 (afterSeq 𝓤 H (Wp 𝓤 H (𝓣 .C) (𝓣 .Λ) En mirs.t-6 (atReturn 𝓤 H En Post)) (atReturn 𝓤 H En Post)))
-      loops =
-          via 𝓤 (Inv m) (inv m 0 (omega arith))
-          (loop-rule 𝓤 H (W .laws) 𝓣 _<_ (Nat·lt-wfRel .wf) En mirs.turn-1 Left Inv (λ t. exE 𝓤 (λ (i : ℕ). guard 𝓤 (i + t ≡ m) (⋆ 𝓤 H A (At i))) (λ i. guardE 𝓤 (i + t ≡ m) (⋆ 𝓤 H A (At i)) (turn-at t i))) m)
+      loops = counts 𝓤 H (W .laws) 𝓣 En mirs.turn-1 Left m (λ i. ⋆ 𝓤 H A (At i)) ends more
 
     -- what there is once the call has landed. The walk is cut here in two, each part a check of its own
     abbrev Ready : List (Item 𝓤)

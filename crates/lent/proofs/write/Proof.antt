@@ -1,6 +1,6 @@
 -- `lent::write` meets its contract: a walk of its MIR, by hand. The state is copied out of its `&`, `load` gives the records of the slice by value, and `records::write` gets both with the room.
 -- The room is passed on at its own lifetime, share and ghost name, so what `records::write` says of the last octets is said of the room's (`gave-slice`); nothing is kept of the two `&`. Of each callee the proof knows only that it meets its contract.
-use Rattle.lent.proofs.Walk.{stands, _≡_, refl, ℕ, [], _∷_, List, length, URA, named, w64, Val, vint, vptr, SProp, ent, sep, emp, via, fst∗, assoc∗, id⊢, Lft, Share, GName, Fml, ftrue, flft, Memory, Routine, Heap, Calls, Loops, WpFn, Atoms, sem, Fun, fact, givenOf, tables, tablesOf, Given, Item, Step, step, prop, ‵, raw, _⊛_, some, later, ⋆, _$_, _∵_, !, qed, by, move, keep, drop, use1, use2, split, split3, join, pick, fsplit, fjoin, feqL, suffices, frame, await, done, look, look-raw, init, forget, stop, hop, fld, from, load, of-opd, addr, and-then, no-more, assigns, land, returns, enter, alloc1, alloc0, params1, pass1, pass0, free1, free0, whole, sub, look-in, agg, FmC, owns, Is, shows, uint-makes, usize, u8, RefT, ShrRef, ptr-vals, shr-tells, slice-vals, shr-slice-tells, mut-slice-tells, MutSlice, ShrSlice, Room, finally, owned, peeks, heard, nothing, plain, shrRefTo, shrSliceOf, Contract, Triple, calls-at, onEntry, tripleOf, cited, says, Stays, stay-dropped, gave-slice, walkOf, AllGo, goes-dropped, goes-gave-slice, Walks, ends-at, walked, ensured, lasts, yes}
+use Rattle.lent.proofs.Walk.{stands, says-both, _≡_, refl, ℕ, [], _∷_, List, length, URA, named, w64, Val, vint, vptr, SProp, ent, sep, emp, via, fst∗, id⊢, Lft, Share, GName, Fml, ftrue, flft, Memory, Routine, Heap, Calls, Loops, WpFn, Atoms, sem, Fun, fact, givenOf, tables, tablesOf, Given, ‵, raw, _⊛_, some, later, ⋆, _$_, _∵_, !, qed, by, move, keep, drop, use1, use2, split, split3, join, pick, fsplit, fjoin, feqL, suffices, frame, await, done, look, look-raw, init, forget, stop, hop, fld, from, load, of-opd, addr, and-then, no-more, assigns, land, returns, enter, alloc1, alloc0, params1, pass1, pass0, free1, free0, whole, sub, look-in, agg, FmC, owns, Is, shows, uint-makes, usize, u8, RefT, ShrRef, ptr-vals, shr-tells, slice-vals, shr-slice-tells, mut-slice-tells, MutSlice, ShrSlice, Room, finally, owned, peeks, heard, nothing, plain, shrRefTo, shrSliceOf, Contract, Triple, calls-at, onEntry, tripleOf, cited, Stays, stay-dropped, gave-slice, walkOf, AllGo, goes-dropped, goes-gave-slice, Walks, ends-at, walked, ensured, lasts, yes}
 use denote.Struct.Laws as LL
 use Rattle.state.specs.declared.Lease.{Lease}
 use Rattle.state.specs.declared.State.{State}
@@ -31,10 +31,6 @@ use Rattle.lent.proofs.write.Code as code
 
 abbrev stayed : Stays (f.ended .signature .params) (f.ended .kept)
 stayed = (stay-dropped (shrRefTo (0 ∷ []) tt (plain (λ _. T.the-row))) yes, (stay-dropped (shrSliceOf (1 ∷ []) tt (plain (λ _. R.the-row))) yes, (gave-slice (2 ∷ []) tt (plain (λ _. u8)), tt)))
-
--- a goal that ends in two clauses, P ∗ (⌜φ⌝ ∗ ⌜ψ⌝): φ and ψ are shown, and P is left
-says-both : {M : Type 1} {𝓤 : URA M} {H : Heap 𝓤} {A : Atoms 𝓤} {K : Type 0} {W : Given 𝓤 H A} {Γ : List (Item 𝓤)} → K → {φ ψ : Type 0} {P : SProp 𝓤} → φ → ψ → Step K W Γ (prop P) Γ (prop (sep 𝓤 P (sep 𝓤 (fact 𝓤 φ) (fact 𝓤 ψ))))
-says-both {𝓤 = 𝓤} t {φ} {ψ} {P} x y = step (λ s. record { prf = via 𝓤 (sep 𝓤 (sep 𝓤 P (fact 𝓤 φ)) (fact 𝓤 ψ)) ((says t y $ says t x $ s) .prf) (assoc∗ 𝓤 P (fact 𝓤 φ) (fact 𝓤 ψ)) })
 
 module _ {M : Type 1} (𝓤 : URA M) (H : Heap 𝓤) (A : Atoms 𝓤) (mem : Memory → SProp 𝓤) (run : Routine → Fun 𝓤) where
   -- the contract of `records::write`

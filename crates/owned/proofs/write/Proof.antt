@@ -1,6 +1,6 @@
 -- `owned::write` meets its contract: a walk of its MIR, by hand. The state and the lease records are copied into locals, which are lent as `&` to `lent::write`, and come back as they were.
 -- The room is passed on at its own lifetime, share and ghost name, so what `lent::write` says of the last octets is said of the room's (`gave-slice`). Of `lent::write` the proof knows only that it meets its contract.
-use Rattle.lent.proofs.Walk.{stands, _≡_, refl, ℕ, [], _∷_, List, length, URA, fullShare, named, Val, vptr, SProp, ent, sep, emp, via, fst∗, assoc∗, id⊢, Lft, Share, GName, Fml, ftrue, flft, Memory, Routine, Heap, Calls, Loops, WpFn, Atoms, Fun, fact, givenOf, tables, tablesOf, Given, Item, Step, step, prop, ‵, raw, _⊛_, some, later, ⋆, _$_, _∵_, !, qed, by, move, keep, drop, group, use1, split, split3, join, pick, fsplit, fjoin, feqL, suffices, frame, await, done, look, init, forget, stop, hop, fld, from, load, lit, of-opd, addr, and-then, no-more, assigns, land, returns, enter, alloc1, alloc0, params1, pass1, pass0, free1, free0, whole, sub, look-in, agg, FmC, owns, Is, shows, u8, RefT, sliceVal, slice-vals, mut-slice-tells, MutSlice, Room, finally, owned, facts, heard, nothing, plain, Contract, Triple, calls-at, onEntry, tripleOf, cited, says, Stays, stay-dropped, gave-slice, walkOf, AllGo, goes-dropped, goes-gave-slice, Walks, ends-at, walked, ensured, lasts, yes}
+use Rattle.lent.proofs.Walk.{stands, says-both, _≡_, refl, ℕ, [], _∷_, List, length, URA, fullShare, named, Val, vptr, SProp, ent, emp, via, fst∗, id⊢, Lft, Share, GName, Fml, ftrue, flft, Memory, Routine, Heap, Calls, Loops, WpFn, Atoms, Fun, fact, givenOf, tables, tablesOf, Given, ‵, raw, _⊛_, some, later, ⋆, _$_, _∵_, !, qed, by, move, keep, drop, group, use1, split, split3, join, pick, fsplit, fjoin, feqL, suffices, frame, await, done, look, init, forget, stop, hop, fld, from, load, lit, of-opd, addr, and-then, no-more, assigns, land, returns, enter, alloc1, alloc0, params1, pass1, pass0, free1, free0, whole, sub, look-in, agg, FmC, owns, Is, shows, u8, RefT, sliceVal, slice-vals, mut-slice-tells, MutSlice, Room, finally, owned, facts, heard, nothing, plain, Contract, Triple, calls-at, onEntry, tripleOf, cited, Stays, stay-dropped, gave-slice, walkOf, AllGo, goes-dropped, goes-gave-slice, Walks, ends-at, walked, ensured, lasts, yes}
 use denote.Struct.Laws as LL
 use Rattle.state.specs.declared.Lease.{Lease}
 use Rattle.state.specs.declared.State.{State}
@@ -20,10 +20,6 @@ use Rattle.owned.proofs.write.Key.{name as #owned·write}
 use Rattle.owned.proofs.write as f
 use Rattle.owned.proofs.write.Statement as stated
 use Rattle.owned.proofs.write.Code as code
-
--- a goal P ∗ (⌜φ⌝ ∗ ⌜ψ⌝): φ and ψ are shown, and P is left
-says-both : {M : Type 1} {𝓤 : URA M} {H : Heap 𝓤} {A : Atoms 𝓤} {K : Type 0} {W : Given 𝓤 H A} {Γ : List (Item 𝓤)} → K → {φ ψ : Type 0} {P : SProp 𝓤} → φ → ψ → Step K W Γ (prop P) Γ (prop (sep 𝓤 P (sep 𝓤 (fact 𝓤 φ) (fact 𝓤 ψ))))
-says-both {𝓤 = 𝓤} t {φ} {ψ} {P} x y = step (λ s. record { prf = via 𝓤 (sep 𝓤 (sep 𝓤 P (fact 𝓤 φ)) (fact 𝓤 ψ)) ((says t y $ says t x $ s) .prf) (assoc∗ 𝓤 P (fact 𝓤 φ) (fact 𝓤 ψ)) })
 
 abbrev stayed : Stays (f.ended .signature .params) (f.ended .kept)
 stayed = (stay-dropped (plain (λ _. O.the-row)) yes, (gave-slice (0 ∷ []) tt (plain (λ _. u8)), tt))

@@ -9,7 +9,7 @@ returns : tie.Need-returns
 returns c =
     let low = c .before .before in
     let high = low .before .before .before .before .before in
-    let back = high .before .before .before in
+    let back = high .before .before .before .before in
     let call = back .before in
     let start = call .before .before .before .before in
     let a = start .args in

@@ -18,13 +18,13 @@ abbrev μ-loop : tie.MeasureT-loop
 
 add-at : tie.Need-add-at Inv-loop μ-loop
 add-at c =
-    let test = c .before .before .before .before .before .before in
+    let test = c .before .before .before .before .before .before .before in
     let turn = test .before .before .before in
     omega (arith, record-inside (turn .loop .inv) (test .before .stop-number .ensures) (test .if1 .left))
 
 add-to-2 : tie.Need-add-to-2 Inv-loop μ-loop
 add-to-2 c =
-    let call = c .before .before .before .before .before in
+    let call = c .before .before .before .before .before .before in
     let test = call .before .before in
     let turn = test .before .before .before in
     omega (arith, answer-inside (turn .loop .inv) (test .before .stop-number .ensures) (test .if1 .left) (call .answer-record .ensures) (search needs))

@@ -23,7 +23,7 @@ use Rattle.guarantee.specs.Statement.{Narrow, StaysNarrow}
 use Rattle.guarantee.proofs.Bounded.{stays-narrow}
 use Rattle.state_file.specs.declared.Loaded.{Loaded}
 use Rattle.state_file.specs.File.{File, FileLease, fileOf}
-use Rattle.state_file.specs.Format.{Got, bad, got}
+use Rattle.format.specs.Format.{Got, bad, got}
 use Rattle.state_file.specs.Records.{fitsB, ofTenant, stored, storedTable, tenantsFrom}
 use Rattle.state_file.specs.StateFile.{accepted, loadedGot, judged, loaded, readFile, refused, zeroTable}
 use Rattle.records.specs.laws.Files.{file-back}

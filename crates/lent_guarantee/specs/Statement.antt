@@ -12,7 +12,7 @@ use Rattle.state.specs.declared.State.{State}
 use Rattle.soundness.specs.Sound.{soundB}
 use Rattle.server.specs.Serve.{Answer, Call, serveOf}
 use Rattle.guarantee.specs.Statement.{Discovers, Granted, IsReply, Narrow, NewRequest, OfferedAs, ReadAs, WithinLimits, bookAt, liveUnder, requested}
-use Rattle.state_file.specs.Format.{Octets}
+use Rattle.format.specs.Format.{Octets}
 use Rattle.state_file.specs.Typed.{Typed}
 use Rattle.records.specs.Records.{recordsOf, tableFrom}
 use Rattle.records.specs.Lent.{bookFrom, LentAnswer, readLent, roomLent, serveLent, writtenLent}

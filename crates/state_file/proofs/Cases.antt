@@ -18,7 +18,7 @@ use Rattle.state.specs.declared.Lease.{Lease}
 use Rattle.state.specs.declared.LeaseTable.{LeaseTable}
 use Rattle.state.specs.declared.State.{State}
 use Rattle.state_file.specs.File.{File, fileOf, isAfter, orderedFrom}
-use Rattle.state_file.specs.Format.{Got, bad, closed, got, readNumber, readOctet, readTimes, then, writeAll}
+use Rattle.format.specs.Format.{Got, bad, closed, got, readNumber, readOctet, readTimes, then, writeAll}
 use Rattle.state_file.specs.Records.{fewOf, filled, fitsB, leasesFitB, storableB, stored, storedScope, storedState, storedTable, tenantsFrom, zeroRange, filedBook, filedFrom, filedLease, filedScope, pairUp}
 use Rattle.state_file.specs.StateFile.{accepted, loadedGot, judged, loaded, readFile, refused, octetsOf, roomAfter, writtenOf, zeroState, zeroTable}
 

@@ -10,8 +10,8 @@ use lib.ListN.{drop, drop-of-length-le, getD, length, length-drop}
 use borrow.Author.Tests.{leb-false, leb-true}
 use Rattle.octets.specs.Octets.{at32}
 use Rattle.state_file.proofs.Stands.{Fails, Stands, fails-viewed, stands-number, stands-octet, stands-viewed}
-use Rattle.state_file.specs.Format.{Format, _⊗_, _▷_, bad, counted, got, number, octet, readNumber, readOctet, readTimes, then, times, viewed}
-use Rattle.state_file.specs.laws.Format.{then-with}
+use Rattle.format.specs.Format.{Format, _⊗_, _▷_, bad, counted, got, number, octet, readNumber, readOctet, readTimes, then, times, viewed}
+use Rattle.format.specs.laws.Format.{then-with}
 use Rattle.state_file.specs.Place.{row}
 
 pub record Fixed {A : Type 0} (f : Format A) (z : ℕ) : Type 0 where

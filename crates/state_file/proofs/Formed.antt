@@ -16,7 +16,7 @@ use Rattle.state_file.proofs.Run.{section-run}
 use Rattle.state_file.proofs.Stands.{Stands, stands-viewed}
 use Rattle.state_file.proofs.WholeForm.{Server, afterServer, afterTenants, fixed-pair, fixed-part, fixed-scope, fixed-tenant, form-long, form-rest, form-scopes, form-short, form-tag, form-tenants, server}
 use Rattle.state_file.specs.File.{longestFile, FileLease, FilePart, FileScope, fileFormat, fileOf, leasesFormat, ofSections, scopeFormat, tenantFormat, toSections}
-use Rattle.state_file.specs.Format.{Format, Got, _▷_, bad, closed, counted, got, Octets}
+use Rattle.format.specs.Format.{Format, Got, _▷_, bad, closed, counted, got, Octets}
 use Rattle.state_file.specs.Place.{Formed, fileAt, isGot, leaseCount, leasesAt, leasesPlace, partAt, rangeAt, row, fileScopeAt, scopeCount, scopesPlace, tenantCount}
 
 same-row : {A : Type 0} (v w : List ℕ → ℕ → A) (z n : ℕ) (s : List ℕ) (at : ℕ) → ((x : ℕ) → v s x ≡ w s x) → row v z n s at ≡ row w z n s at

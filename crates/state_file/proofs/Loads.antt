@@ -24,7 +24,7 @@ use Rattle.state_file.proofs.Pad.{row-length}
 use Rattle.state_file.proofs.ReadAgain.{both, neither}
 use Rattle.state_file.proofs.WholeForm.{ts}
 use Rattle.state_file.specs.File.{File, FileLease, fileOf}
-use Rattle.state_file.specs.Format.{Got, bad, got}
+use Rattle.format.specs.Format.{Got, bad, got}
 use Rattle.state_file.specs.Place.{AllStorable, Formed, StorableAt, InRow, Inside, fileAt, isGot, keptFrom, fileLeaseAt, leaseCount, leasesAt, leasesPlace, nextAt, rangeAt, row, fileScopeAt, scopeCount, scopesPlace, tenantCount}
 use Rattle.state_file.specs.Records.{fewOf, filled, fitsB, leasesFitB, storableB, storedScope, storedState, storedTable, zeroRange}
 use Rattle.state_file.specs.StateFile.{accepted, loadedGot, judged, loaded, readFile, refused, zeroTable, zeroState}

@@ -18,7 +18,7 @@ use Rattle.state_file.proofs.WriteAgain.{book-fits, book-ok, state-same
 use Rattle.state_file.specs.File.{longestFile, File, fileFormat, fileOf}
 use Rattle.state_file.proofs.Short.{sound-short}
 use Rattle.state_file.specs.laws.File.{file-reads, file-written}
-use Rattle.state_file.specs.Format.{Got, bad, closed, got, Octets}
+use Rattle.format.specs.Format.{Got, bad, closed, got, Octets}
 use Rattle.state_file.specs.Records.{filedBook, fitsB, storedState, storedTable}
 use Rattle.state_file.specs.StateFile.{accepted, loadedGot, judged, loaded, octetsOf, readFile, refused, roomAfter, writtenOf}
 use Rattle.state_file.specs.Typed.{Typed}

@@ -10,8 +10,8 @@ use borrow.Author.Tests.{ltb-false, ltb-true}
 use Rattle.lists.specs.Pick.{pick}
 use Rattle.state_file.proofs.Stands.{lease-is, stands-octet}
 use Rattle.state_file.specs.File.{FileLease, leaseFormat, leasesFormat, leasesOrdered}
-use Rattle.state_file.specs.Format.{Got, bad, counted, got, readOctet, readTimes, then, Octets}
-use Rattle.state_file.specs.laws.Format.{then-got}
+use Rattle.format.specs.Format.{Got, bad, counted, got, readOctet, readTimes, then, Octets}
+use Rattle.format.specs.laws.Format.{then-got}
 use Rattle.state_file.specs.Place.{InRow, Inside, leasesAt, nextAt}
 
 inside : (s : List ℕ) (at : ℕ) → nextAt s at ≤ length s → Inside s at

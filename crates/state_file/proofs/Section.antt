@@ -12,10 +12,10 @@ use Rattle.identifier.specs.Order.{orderOf}
 use Rattle.lists.specs.Pick.{pick}
 use Rattle.lists.specs.laws.Pick.{pick-lt, pick-not-lt}
 use Rattle.state_file.specs.File.{FileLease, isAfter, leaseFormat, leasesFormat, orderedFrom}
-use Rattle.state_file.specs.Format.{Got, bad, got, readOctet, readTimes, then}
+use Rattle.format.specs.Format.{Got, bad, got, readOctet, readTimes, then}
 use Rattle.state_file.specs.Place.{LeaseEnds, PlaceIn, gotAt, fileLeaseAt, leasesFrom, onGot, endPlace}
-use Rattle.state_file.specs.declared.Place.{Place}
-use Rattle.state_file.specs.declared.Place.the-variants.{At, Nowhere}
+use Rattle.format.specs.declared.Place.{Place}
+use Rattle.format.specs.declared.Place.the-variants.{At, Nowhere}
 
 -- reading all and then testing the order ends where the walk that tests on the way ends
 from-ordered : (n k t : ℕ) (a s : List ℕ)

@@ -23,7 +23,7 @@ use Rattle.state.specs.declared.Scope.{Scope}
 use Rattle.state.specs.declared.State.{State}
 use Rattle.state.specs.declared.TenantLeases.{TenantLeases}
 use Rattle.state_file.specs.File.{FileLease, FilePart, leaseFormat, partFormat, scopeFormat, tenantFormat, longestFile}
-use Rattle.state_file.specs.Format.{octet, writeAll}
+use Rattle.format.specs.Format.{octet, writeAll}
 use Rattle.state_file.specs.Records.{filedLease, filedBook, filedFrom, filedScope, pairUp}
 use Rattle.state_file.specs.StateFile.{octetsOf}
 

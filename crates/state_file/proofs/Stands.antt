@@ -12,10 +12,10 @@ use Rattle.lists.specs.Pick.{pick}
 use Rattle.octets.specs.Octets.{at32, octets32}
 use Rattle.state_file.specs.File.{FileLease, leaseFormat, ofParts, toParts}
 use Rattle.state_file.specs.laws.File.{lease-lawful}
-use Rattle.state_file.specs.Format.{Format, Got, _⊗_, bad, counted, got, number, octet, only, readNumber, readOctet, readTimes, then, viewed, writeAll, Octets}
-use Rattle.state_file.specs.laws.Format.{then-with}
+use Rattle.format.specs.Format.{Format, Got, _⊗_, bad, counted, got, number, octet, only, readNumber, readOctet, readTimes, then, viewed, writeAll, Octets}
+use Rattle.format.specs.laws.Format.{then-with}
 use Rattle.state_file.specs.Place.{LeaseEnds, PlaceIn, gotAt, fileLeaseAt, nextAt}
-use Rattle.state_file.specs.declared.Place.the-variants.{At, Nowhere}
+use Rattle.format.specs.declared.Place.the-variants.{At, Nowhere}
 
 -- the octets from at on are x, and go on at next
 pub record Stands {A : Type 0} (f : Format A) (s : List ℕ) (at : ℕ) (x : A) (next : ℕ) : Type 0 where

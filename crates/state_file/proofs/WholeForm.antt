@@ -14,10 +14,10 @@ use Rattle.state_file.proofs.Fixed.{Fixed, counted-none, counted-short,
 use Rattle.state_file.proofs.Pad.{row-length}
 use Rattle.state_file.proofs.Stands.{Fails, Stands, fails-viewed, stands-octet}
 use Rattle.state_file.specs.File.{longestFile, FileLease, FileScope, fileFormat, fileOf, leasesFormat, partFormat, scopeFormat, tenantFormat}
-use Rattle.state_file.specs.Format.{Format, Got, _⊗_, _▷_, after, bad, closed, counted, got, number, readOctet, then}
-use Rattle.state_file.specs.laws.Format.{then-with}
+use Rattle.format.specs.Format.{Format, Got, _⊗_, _▷_, after, bad, closed, counted, got, number, readOctet, then}
+use Rattle.format.specs.laws.Format.{then-with}
 use Rattle.state_file.specs.Place.{isGot, endPlace, row}
-use Rattle.state_file.specs.declared.Place.the-variants.{At, Nowhere}
+use Rattle.format.specs.declared.Place.the-variants.{At, Nowhere}
 
 unfoldable pub fixed-pair : Fixed (number ⊗ number) 8
 fixed-pair = fixed-both fixed-number fixed-number

@@ -28,7 +28,7 @@ use Rattle.state.specs.declared.State.{State}
 use Rattle.state.specs.declared.TenantLeases.{TenantLeases}
 use Rattle.state_file.proofs.RowLaws.{pair-length, row-sum}
 use Rattle.state_file.specs.File.{FilePart, leaseFormat, partFormat, scopeFormat, tenantFormat}
-use Rattle.state_file.specs.Format.{writeAll}
+use Rattle.format.specs.Format.{writeAll}
 use Rattle.state_file.specs.Records.{filedLease, filedBook, filedFrom, filedScope, pairUp}
 use Rattle.state_file.specs.Rows.{leaseOctets, leaseTotal, partOctets, partRow, fileRangeOctets, rangeRow, fileScopeOctets, scopeRow, tableOctets, tenantOctets, tenantRow, writeFrom}
 use Rattle.state_file.specs.StateFile.{octetsOf, roomAfter, writtenOf}

@@ -9,7 +9,7 @@ use Rattle.address_set.specs.AddressSet.{rises}
 use Rattle.identifier.specs.Order.{orderOf}
 use Rattle.lists.specs.Pick.{pick}
 use Rattle.state.specs.declared.ClientRange.{ClientRange}
-use Rattle.state_file.specs.Format.{Format, Got, _⊗_, _▷_, after, bad, closed, counted, number, octet, only, times, viewed}
+use Rattle.format.specs.Format.{Format, Got, _⊗_, _▷_, after, bad, closed, counted, number, octet, only, times, viewed}
 
 -- a tenant's reserve and limit in a scope (document 01's share and limit)
 pub record FilePart : Type 0 where

@@ -12,10 +12,10 @@ use Rattle.state.specs.Book.{laidOut, pushed}
 use Rattle.state.specs.declared.ClientRange.{ClientRange}
 use Rattle.state.specs.declared.TenantLeases.{TenantLeases}
 use Rattle.state_file.specs.File.{longestFile, File, FileLease, FilePart, FileScope, fileOf, isAfter, leaseFormat}
-use Rattle.state_file.specs.Format.{Got, bad, got}
+use Rattle.format.specs.Format.{Got, bad, got}
 use Rattle.state_file.specs.Records.{stored}
-use Rattle.state_file.specs.declared.Place.{Place}
-use Rattle.state_file.specs.declared.Place.the-variants.{At, Nowhere}
+use Rattle.format.specs.declared.Place.{Place}
+use Rattle.format.specs.declared.Place.the-variants.{At, Nowhere}
 
 -- ---- where reading ends
 -- among n octets

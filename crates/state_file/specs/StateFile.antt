@@ -9,7 +9,7 @@ use Rattle.state.specs.Book.{tableOf, zeroScope}
 use Rattle.state.specs.declared.LeaseTable.{LeaseTable}
 use Rattle.state.specs.declared.State.{State}
 use Rattle.state_file.specs.File.{File, fileFormat, fileOf}
-use Rattle.state_file.specs.Format.{Got, bad, got}
+use Rattle.format.specs.Format.{Got, bad, got}
 use Rattle.state_file.specs.Records.{filedBook, fitsB, storedState, storedTable, zeroRange}
 use Rattle.state_file.specs.declared.Loaded.{Loaded}
 use Rattle.state_file.specs.declared.Written.{Written}

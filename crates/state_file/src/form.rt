@@ -8,7 +8,7 @@ ghost use Rattle.identifier.specs.Order.{orderOf};
 ghost use Rattle.state_file.specs.File.{fileOf, isAfter, leasesFormat};
 ghost use Rattle.state_file.specs.Place.{LeaseEnds, isGot, leasesFrom, endPlace};
 use crate::LONGEST_FILE;
-use crate::Place;
+use format::Place;
 
 // Whether the octets have the form of a state file.
 pub fn form(s: &[u8]) -> bool

@@ -34,12 +34,6 @@ pub struct Written {
     pub length: usize,
 }
 
-// Where reading ended: past a value, or nowhere because none stands there.
-pub enum Place {
-    At(usize),
-    Nowhere,
-}
-
 // Reads a state file: the book, or refusal 20 for a wrong form and then 21 for an unsound file.
 pub fn read(s: &[u8]) -> Loaded
     ensures { λ r. ⌜ r ≡ readFile (now (s .entry)) ⌝ }

@@ -19,7 +19,7 @@ use Rattle.state.specs.laws.Layout.{table-back as lists-back}
 use Rattle.soundness.specs.Sound.{blankB, soundB, unusedB, zeroFrom}
 use Rattle.state_file.specs.declared.Loaded.{Loaded}
 use Rattle.state_file.specs.File.{File, FileLease, fileOf}
-use Rattle.state_file.specs.Format.{Got, bad, got}
+use Rattle.format.specs.Format.{Got, bad, got}
 use Rattle.state_file.specs.Records.{fitsB, storedState, storedTable, tenantsFrom}
 use Rattle.state_file.specs.StateFile.{accepted, loadedGot, judged, loaded, readFile, refused, zeroState, zeroTable}
 use Rattle.records.specs.laws.Back.{lent-table-back, table-long}

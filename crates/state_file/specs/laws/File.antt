@@ -10,8 +10,8 @@ use borrow.Author.Tests.{le-leb, leb-true}
 use Rattle.address_set.specs.AddressSet.{rises}
 use Rattle.lists.specs.Pick.{pick}
 use Rattle.state_file.specs.File.{longestFile, File, fileFormat, fileOf, leaseFormat, leasesOrdered, partFormat, scopeFormat, tenantFormat}
-use Rattle.state_file.specs.Format.{bad, closed, counted, got, octet, Octets}
-use Rattle.state_file.specs.laws.Format.{Lawful, after-lawful, both-lawful, counted-lawful, number-lawful, octet-lawful, only-lawful, then-lawful, times-lawful, viewed-lawful, whole-reads, whole-written}
+use Rattle.format.specs.Format.{bad, closed, counted, got, octet, Octets}
+use Rattle.format.specs.laws.Format.{Lawful, after-lawful, both-lawful, counted-lawful, number-lawful, octet-lawful, only-lawful, then-lawful, times-lawful, viewed-lawful, whole-reads, whole-written}
 
 pub tenant-lawful : Lawful tenantFormat
 tenant-lawful = viewed-lawful (both-lawful number-lawful number-lawful) _ _ (λ x. refl) (λ y. refl)

@@ -12,7 +12,7 @@ use Rattle.lists.specs.All.{All}
 use Rattle.lists.specs.Pick.{pick}
 use Rattle.octets.specs.laws.Octets.{read-back32}
 use Rattle.octets.specs.Octets.{be32, octets32}
-use Rattle.state_file.specs.Format.{Format, Got, _⊗_, _▷_, after, bad, closed, counted, got, number, octet, only, readNumber, readOctet, readTimes, then, times, viewed, writeAll, Octets}
+use Rattle.format.specs.Format.{Format, Got, _⊗_, _▷_, after, bad, closed, counted, got, number, octet, only, readNumber, readOctet, readTimes, then, times, viewed, writeAll, Octets}
 
 pub octets-rest : (w r : List ℕ) {s : List ℕ} → s ≡ w ++ r → Octets s → Octets r
 octets-rest w r {s} e h i = subst (λ (x : ℕ). x < 256) (ap (λ (l : List ℕ). getD l (length w + i) 0) e ∙ getD-append-add w r i 0) (h (length w + i))

@@ -1,0 +1,4 @@
+pub mod Format
+pub mod Place
+pub mod Section
+pub mod laws

@@ -1,0 +1,4 @@
+pub mod Format
+pub mod Place
+pub mod Fixed
+pub mod Section

@@ -17,9 +17,10 @@ use Rattle.state.specs.Book.{byIdentifier, differ, addressesOf, laidOut, overla
 use Rattle.state.specs.declared.Lease.{Lease}
 use Rattle.state.specs.declared.LeaseTable.{LeaseTable}
 use Rattle.state.specs.declared.State.{State}
-use Rattle.state_file.specs.File.{File, fileOf, isAfter, orderedFrom}
+use Rattle.state_file.specs.File.{File, fileOf, isAfter}
+use Rattle.format.specs.Section.{orderedFrom}
 use Rattle.format.specs.Format.{Got, bad, closed, got, readNumber, readOctet, readTimes, then, writeAll}
-use Rattle.state_file.specs.Records.{fewOf, filled, fitsB, leasesFitB, storableB, stored, storedScope, storedState, storedTable, tenantsFrom, zeroRange, filedBook, filedFrom, filedLease, filedScope, pairUp}
+use Rattle.state_file.specs.Records.{countsFit, fewOf, filled, fitsB, leasesFitB, storableB, stored, storedScope, storedState, storedTable, tenantsFrom, zeroRange, filedBook, filedFrom, filedLease, filedScope, pairUp}
 use Rattle.state_file.specs.StateFile.{accepted, loadedGot, judged, loaded, readFile, refused, octetsOf, roomAfter, writtenOf, zeroState, zeroTable}
 
 -- ---- files
@@ -219,7 +220,7 @@ unsound =
     ∷ []
 
 answers : allHold (sound ++ form ++ unsound) ≡ true
-unfolding allHold ruleOf long largest sound form unsound server range scope lease tenants pool settings plain a b ab again row eight four upFrom sixteen pick allBy pairsBy allTo filterBy isIn sumTo bit offsetsFrom setOf readOffsets risesFrom orderOf sameOf laidOut tableOf byIdentifier unionAll addressesOf overlaps oneTo sizeB idB recordsB countsB rule1 belowB offsetsB rule2 rangeB rangesApart rule3 poolB poolsApart rule4 ttlB rule5 reserveB reservesB rule6 kindB periodB leaseB noneB tenantsB rule7 differ rule8 disjoint apart rule9 compatible rule10 limitB limitsB rule11 committed committedB rule12 zeroFrom paddedB blankB unusedB layoutB rangeZero tailB scopeZero settingsB rulesOf firstLate firstBroken brokenOf soundB then closed readOctet readNumber readTimes isAfter orderedFrom fileOf filled stored tenantsFrom storedScope storedState storedTable storableB fewOf leasesFitB fitsB refused accepted judged loaded loadedGot readFile rule19
+unfolding allHold ruleOf long largest sound form unsound server range scope lease tenants pool settings plain a b ab again row eight four upFrom sixteen pick allBy pairsBy allTo filterBy isIn sumTo bit offsetsFrom setOf readOffsets risesFrom orderOf sameOf laidOut tableOf byIdentifier unionAll addressesOf overlaps oneTo sizeB idB recordsB countsB rule1 belowB offsetsB rule2 rangeB rangesApart rule3 poolB poolsApart rule4 ttlB rule5 reserveB reservesB rule6 kindB periodB leaseB noneB tenantsB rule7 differ rule8 disjoint apart rule9 compatible rule10 limitB limitsB rule11 committed committedB rule12 zeroFrom paddedB blankB unusedB layoutB rangeZero tailB scopeZero settingsB rulesOf firstLate firstBroken brokenOf soundB then closed readOctet readNumber readTimes isAfter orderedFrom fileOf filled stored tenantsFrom storedScope storedState storedTable storableB fewOf leasesFitB countsFit fitsB refused accepted judged loaded loadedGot readFile rule19
 answers = refl
 
 -- ---- the book that a file gives, and what the writer answers to it
@@ -244,7 +245,7 @@ specimenTable : LeaseTable
 specimenTable = tableOf ((specimenLease b 2000 12 ∷ []) ∷ (specimenLease a 4600 3 ∷ []) ∷ replicate 6 [])
 
 read-specimen : readFile specimen ≡ accepted specimenState specimenTable
-unfolding specimen specimenState specimenLease specimenTable server range scope lease tenants pool settings plain a b pick allBy pairsBy allTo filterBy isIn sumTo bit offsetsFrom setOf readOffsets risesFrom orderOf sameOf laidOut tableOf byIdentifier unionAll addressesOf overlaps oneTo sizeB idB recordsB countsB rule1 belowB offsetsB rule2 rangeB rangesApart rule3 poolB poolsApart rule4 ttlB rule5 reserveB reservesB rule6 kindB periodB leaseB noneB tenantsB rule7 differ rule8 disjoint apart rule9 compatible rule10 limitB limitsB rule11 committedB rule12 zeroFrom paddedB blankB unusedB layoutB rangeZero tailB scopeZero settingsB rule19 rulesOf firstLate firstBroken brokenOf soundB then closed readOctet readNumber readTimes isAfter orderedFrom fileOf filled stored tenantsFrom storedScope storedState storedTable storableB fewOf leasesFitB fitsB refused accepted judged loaded loadedGot readFile committed
+unfolding specimen specimenState specimenLease specimenTable server range scope lease tenants pool settings plain a b pick allBy pairsBy allTo filterBy isIn sumTo bit offsetsFrom setOf readOffsets risesFrom orderOf sameOf laidOut tableOf byIdentifier unionAll addressesOf overlaps oneTo sizeB idB recordsB countsB rule1 belowB offsetsB rule2 rangeB rangesApart rule3 poolB poolsApart rule4 ttlB rule5 reserveB reservesB rule6 kindB periodB leaseB noneB tenantsB rule7 differ rule8 disjoint apart rule9 compatible rule10 limitB limitsB rule11 committedB rule12 zeroFrom paddedB blankB unusedB layoutB rangeZero tailB scopeZero settingsB rule19 rulesOf firstLate firstBroken brokenOf soundB then closed readOctet readNumber readTimes isAfter orderedFrom fileOf filled stored tenantsFrom storedScope storedState storedTable storableB fewOf leasesFitB countsFit fitsB refused accepted judged loaded loadedGot readFile committed
 read-specimen = refl
 
 -- an exact room suffices, one octet less does not, and an unsound book comes before too little room
@@ -255,5 +256,5 @@ write-specimen : (octetsOf specimenState specimenTable ≡ specimen)
     × (roomAfter specimenState specimenTable (replicate 82 9) ≡ specimen ++ 9 ∷ 9 ∷ [])
     × (roomAfter specimenState specimenTable (replicate 79 9) ≡ replicate 79 9)
     × (roomAfter zeroState zeroTable (9 ∷ []) ≡ 9 ∷ [])
-unfolding specimen specimenState specimenLease specimenTable server range scope lease tenants pool settings plain a b pick allBy pairsBy allTo filterBy isIn sumTo bit offsetsFrom setOf readOffsets risesFrom orderOf sameOf laidOut tableOf byIdentifier unionAll addressesOf overlaps oneTo sizeB idB recordsB countsB rule1 belowB offsetsB rule2 rangeB rangesApart rule3 poolB poolsApart rule4 ttlB rule5 reserveB reservesB rule6 kindB periodB leaseB noneB tenantsB rule7 differ rule8 disjoint apart rule9 compatible rule10 limitB limitsB rule11 committedB rule12 zeroFrom paddedB blankB unusedB layoutB rangeZero tailB scopeZero settingsB rule19 rulesOf firstLate firstBroken brokenOf soundB then closed readOctet readNumber readTimes isAfter orderedFrom fileOf filled stored tenantsFrom storedScope storedState storedTable storableB fewOf leasesFitB fitsB refused accepted judged loaded loadedGot readFile zeroTable octetsOf writtenOf roomAfter filedBook filedFrom filedScope pairUp filedLease writeAll committed
+unfolding specimen specimenState specimenLease specimenTable server range scope lease tenants pool settings plain a b pick allBy pairsBy allTo filterBy isIn sumTo bit offsetsFrom setOf readOffsets risesFrom orderOf sameOf laidOut tableOf byIdentifier unionAll addressesOf overlaps oneTo sizeB idB recordsB countsB rule1 belowB offsetsB rule2 rangeB rangesApart rule3 poolB poolsApart rule4 ttlB rule5 reserveB reservesB rule6 kindB periodB leaseB noneB tenantsB rule7 differ rule8 disjoint apart rule9 compatible rule10 limitB limitsB rule11 committedB rule12 zeroFrom paddedB blankB unusedB layoutB rangeZero tailB scopeZero settingsB rule19 rulesOf firstLate firstBroken brokenOf soundB then closed readOctet readNumber readTimes isAfter orderedFrom fileOf filled stored tenantsFrom storedScope storedState storedTable storableB fewOf leasesFitB countsFit fitsB refused accepted judged loaded loadedGot readFile zeroTable octetsOf writtenOf roomAfter filedBook filedFrom filedScope pairUp filedLease writeAll committed
 write-specimen = (refl, refl, refl, refl, refl, refl, refl)

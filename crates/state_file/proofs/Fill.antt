@@ -8,6 +8,8 @@ use lib.Dec.{eqb}
 use lib.ListN.{getD, length, length-append, length-replicate, length-set, replicate, set}
 use lib.Seq.{take-all}
 use borrow.Author.Tests.{leb-true}
+use Rattle.format.specs.Place.{EachAt, walk}
+use Rattle.format.specs.Section.{Inside}
 use Rattle.lists.specs.All.{allTo}
 use Rattle.lists.specs.laws.All.{to-each}
 use Rattle.lists.specs.laws.Copy.{CopyInv, copy-front, copy-full, copy-start}
@@ -20,11 +22,10 @@ use Rattle.state.specs.laws.Layout.{push-laid}
 use Rattle.state.specs.declared.Lease.{Lease}
 use Rattle.state.specs.declared.TenantLeases.{TenantLeases}
 use Rattle.state_file.specs.File.{FileLease}
-use Rattle.state_file.specs.Place.{AllStorable, StorableAt, Inside, keepOne, keptFrom, keptOf, fileLeaseAt, leasesAt, nextAt}
+use Rattle.state_file.specs.Place.{AllStorable, StorableAt, keepOne, keptFrom, keptOf, fileLeaseAt, leasesAt, nextAt}
 use Rattle.state_file.specs.Records.{fewOf, ofTenant, stored, tenantsFrom}
 
 pub next-at : (s : List ℕ) (at n k : ℕ) → n ≡ getD s (at + 2) 0 → k ≡ getD s (at + (n + 16)) 0 → at + (n + 17 + k) ≡ nextAt s at
-unfolding nextAt
 next-at s at n k en ek = ap₂ (λ (x y : ℕ). at + (x + 17 + y)) en (ek ∙ ap (λ (z : ℕ). getD s (at + (z + 16)) 0) en)
 
 pub keep-yes : (s : List ℕ) (at t : ℕ) (h r : TenantLeases) (l : Lease) → getD s at 0 ≡ t → l ≡ stored (fileLeaseAt s at) → r ≡ pushed h l → r ≡ keepOne t h (fileLeaseAt s at)
@@ -52,17 +53,17 @@ fill-start {s} {from} {count} t out h e =
 
 module _ {s : List ℕ} {from count t : ℕ} {out : TenantLeases} {here i : ℕ} (v : FillInv s from count t out here i) where
   head : i < count → StorableAt s here × AllStorable s (nextAt s here) (count - (i + 1))
-  unfolding AllStorable
+  unfolding EachAt
   head h = let e : count - i ≡ suc (count - (i + 1)) = omega arith in subst (λ (k : ℕ). AllStorable s here k) e (v .held)
 
   pub fill-held : i < count → StorableAt s here
   fill-held h = head h .0
 
-  pub fill-inside : i < count → Inside s here
+  pub fill-inside : i < count → Inside nextAt s here
   fill-inside h = record { room = head h .0 .room }
 
   pub fill-next : (r : TenantLeases) (n : ℕ) → i < count → r ≡ keepOne t out (fileLeaseAt s here) → n ≡ nextAt s here → FillInv s from count t r n (i + 1)
-  unfolding leasesAt
+  unfolding walk
   fill-next r n h e q =
       let z : count - i ≡ suc (count - (i + 1)) = omega arith in
       record {
@@ -72,7 +73,7 @@ module _ {s : List ℕ} {from count t : ℕ} {out : TenantLeases} {here i : ℕ}
       }
 
   pub fill-end : count ≤ i → out ≡ keptOf t (leasesAt s from count)
-  unfolding leasesAt
+  unfolding walk
   fill-end h = let z : count - i ≡ 0 = omega arith in sym (ap (λ (k : ℕ). fold (keepOne t) out (leasesAt s here k)) z) ∙ v .whole
 
 pub ruleset fills = (next-at, keep-yes, keep-not, fill-held, fill-inside, fill-next, fill-end)

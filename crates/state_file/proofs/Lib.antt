@@ -1,10 +1,6 @@
 mod Stands
 mod Walk
-mod Section
-mod Fixed
 mod WholeForm
-mod Run
-mod Formed
 mod Limit
 mod Gather
 mod Fill

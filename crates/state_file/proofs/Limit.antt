@@ -8,12 +8,14 @@ use lib.Dec.{eqb, leb, ltb}
 use lib.ListN.{drop, drop-of-length-le, getD, length, length-drop, take}
 use lib.Seq.{length-take-le}
 use borrow.Author.Tests.{eq-eqb, le-ltb, lt-ltb, ne-eqb}
+use Rattle.format.specs.Place.{EachAt, walk}
+use Rattle.format.specs.Section.{InRow, Inside}
 use Rattle.lists.specs.All.{allBy}
 use Rattle.lists.specs.Filter.{filterBy}
 use Rattle.lists.specs.Pick.{pick}
 use Rattle.state_file.proofs.Walk.{part-length, part-next}
 use Rattle.state_file.specs.File.{FileLease}
-use Rattle.state_file.specs.Place.{InRow, Inside, fileLeaseAt, leasesAt, nextAt}
+use Rattle.state_file.specs.Place.{fileLeaseAt, leasesAt, nextAt}
 use Rattle.state_file.specs.Records.{fewOf, isOffset, ofTenant, storableB}
 
 pub record LowInv (s : List ℕ) (at k i : ℕ) : Type 0 where
@@ -45,7 +47,7 @@ module _ {s : List ℕ} {at k i : ℕ} (v : LowInv s at k i) where
   unfolding allBy
   low-end h = sym (sym (v .whole) ∙ ap (allBy isOffset) (drop-of-length-le (take k (drop at s)) {i = i} (let e = part-length s at k (v .fits) in omega arith)))
 
-module _ {s : List ℕ} {at n : ℕ} (v : Inside s at) (en : n ≡ getD s (at + 2) 0) where
+module _ {s : List ℕ} {at n : ℕ} (v : Inside nextAt s at) (en : n ≡ getD s (at + 2) 0) where
   id-long : n ≡ length (take (getD s (at + 2) 0) (drop (at + 3) s))
   id-long = en ∙ sym (length-take-le (getD s (at + 2) 0) (drop (at + 3) s) (let e = length-drop (at + 3) s in let r = v .room in omega arith))
 
@@ -66,24 +68,24 @@ module _ {s : List ℕ} {at n : ℕ} (v : Inside s at) (en : n ≡ getD s (at + 
 
 pub record StoreInv (s : List ℕ) (from count here i : ℕ) : Type 0 where
   pub within : i ≤ count
-  pub run : InRow s here (count - i)
+  pub run : InRow nextAt s here (count - i)
   pub whole : allBy storableB (leasesAt s here (count - i)) ≡ allBy storableB (leasesAt s from count)
 
-pub store-start : {s : List ℕ} {from count : ℕ} → InRow s from count → StoreInv s from count from 0
+pub store-start : {s : List ℕ} {from count : ℕ} → InRow nextAt s from count → StoreInv s from count from 0
 store-start {s} {from} {count} h =
     let z : count - 0 ≡ count = omega arith in
-    record { within = omega arith; run = subst (λ (k : ℕ). InRow s from k) (sym z) h; whole = ap (λ (k : ℕ). allBy storableB (leasesAt s from k)) z }
+    record { within = omega arith; run = subst (λ (k : ℕ). InRow nextAt s from k) (sym z) h; whole = ap (λ (k : ℕ). allBy storableB (leasesAt s from k)) z }
 
 module _ {s : List ℕ} {from count here i : ℕ} (v : StoreInv s from count here i) where
-  store-head : i < count → Inside s here × InRow s (nextAt s here) (count - (i + 1))
-  unfolding InRow
-  store-head h = let e : count - i ≡ suc (count - (i + 1)) = omega arith in subst (λ (k : ℕ). InRow s here k) e (v .run)
+  store-head : i < count → Inside nextAt s here × InRow nextAt s (nextAt s here) (count - (i + 1))
+  unfolding EachAt
+  store-head h = let e : count - i ≡ suc (count - (i + 1)) = omega arith in subst (λ (k : ℕ). InRow nextAt s here k) e (v .run)
 
-  pub store-in : i < count → Inside s here
+  pub store-in : i < count → Inside nextAt s here
   store-in h = store-head h .0
 
   store-open : i < count → allBy storableB (leasesAt s from count) ≡ pick (storableB (fileLeaseAt s here)) (allBy storableB (leasesAt s (nextAt s here) (count - (i + 1)))) false
-  unfolding leasesAt allBy
+  unfolding walk allBy
   store-open h = let e : count - i ≡ suc (count - (i + 1)) = omega arith in sym (v .whole) ∙ ap (λ (k : ℕ). allBy storableB (leasesAt s here k)) e
 
   pub store-not : (r : Bool) → i < count → r ≡ storableB (fileLeaseAt s here) → r ≡ false → false ≡ allBy storableB (leasesAt s from count)
@@ -94,12 +96,12 @@ module _ {s : List ℕ} {from count here i : ℕ} (v : StoreInv s from count her
   unfolding pick
   store-next r n h e f q = record {
     within = omega arith;
-    run = subst (λ (k : ℕ). InRow s k (count - (i + 1))) (sym q) (store-head h .1);
+    run = subst (λ (k : ℕ). InRow nextAt s k (count - (i + 1))) (sym q) (store-head h .1);
     whole = ap (λ (k : ℕ). allBy storableB (leasesAt s k (count - (i + 1)))) q ∙ sym (store-open h ∙ ap (λ (b : Bool). pick b (allBy storableB (leasesAt s (nextAt s here) (count - (i + 1)))) false) (sym e ∙ f));
   }
 
   pub store-end : count ≤ i → true ≡ allBy storableB (leasesAt s from count)
-  unfolding leasesAt allBy
+  unfolding walk allBy
   store-end h = let e : count - i ≡ 0 = omega arith in sym (ap (λ (k : ℕ). allBy storableB (leasesAt s here k)) e) ∙ v .whole
 
 pub ruleset limits = (low-not, low-next, low-end, limit-long, limit-short, limit-room, limit-low, store-in, store-not, store-next, store-end)
@@ -117,28 +119,28 @@ one-not x t e = sym (ap (λ (b : Bool). pick {A = ℕ} b 1 0) (ne-eqb x t e))
 pub record CountInv (s : List ℕ) (from count t n here i : ℕ) : Type 0 where
   pub within : i ≤ count
   pub few : n ≤ i
-  pub run : InRow s here (count - i)
+  pub run : InRow nextAt s here (count - i)
   pub whole : n + length (ofTenant t (leasesAt s here (count - i))) ≡ length (ofTenant t (leasesAt s from count))
 
-pub count-start : {s : List ℕ} {from count : ℕ} (t : ℕ) → InRow s from count → CountInv s from count t 0 from 0
+pub count-start : {s : List ℕ} {from count : ℕ} (t : ℕ) → InRow nextAt s from count → CountInv s from count t 0 from 0
 count-start {s} {from} {count} t h =
     let z : count - 0 ≡ count = omega arith in
     let e = ap (λ (k : ℕ). length (ofTenant t (leasesAt s from k))) z in
-    record { within = omega arith; few = omega arith; run = subst (λ (k : ℕ). InRow s from k) (sym z) h; whole = omega arith }
+    record { within = omega arith; few = omega arith; run = subst (λ (k : ℕ). InRow nextAt s from k) (sym z) h; whole = omega arith }
 
 module _ {s : List ℕ} {from count t n here i : ℕ} (v : CountInv s from count t n here i) where
-  count-head : i < count → Inside s here × InRow s (nextAt s here) (count - (i + 1))
-  unfolding InRow
-  count-head h = let e : count - i ≡ suc (count - (i + 1)) = omega arith in subst (λ (k : ℕ). InRow s here k) e (v .run)
+  count-head : i < count → Inside nextAt s here × InRow nextAt s (nextAt s here) (count - (i + 1))
+  unfolding EachAt
+  count-head h = let e : count - i ≡ suc (count - (i + 1)) = omega arith in subst (λ (k : ℕ). InRow nextAt s here k) e (v .run)
 
-  pub count-in : i < count → Inside s here
+  pub count-in : i < count → Inside nextAt s here
   count-in h = count-head h .0
 
   pub count-at : i < count → here < length s
   count-at h = omega (arith, count-head h .0 .room)
 
   count-open : i < count → length (ofTenant t (leasesAt s here (count - i))) ≡ pick (eqb (getD s here 0) t) 1 0 + length (ofTenant t (leasesAt s (nextAt s here) (count - (i + 1))))
-  unfolding leasesAt fileLeaseAt filterBy pick
+  unfolding walk fileLeaseAt filterBy pick
   count-open h =
       let e : count - i ≡ suc (count - (i + 1)) = omega arith in
       ap (λ (k : ℕ). length (ofTenant t (leasesAt s here k))) e ∙ go (eqb (getD s here 0) t)
@@ -157,12 +159,12 @@ module _ {s : List ℕ} {from count t n here i : ℕ} (v : CountInv s from count
       record {
         within = omega arith;
         few = omega (arith, v .few);
-        run = subst (λ (k : ℕ). InRow s k (count - (i + 1))) (sym q) (count-head h .1);
+        run = subst (λ (k : ℕ). InRow nextAt s k (count - (i + 1))) (sym q) (count-head h .1);
         whole = omega (arith, v .whole);
       }
 
   pub count-end : count ≤ i → n ≡ length (ofTenant t (leasesAt s from count))
-  unfolding leasesAt filterBy
+  unfolding walk filterBy
   count-end h =
       let z : count - i ≡ 0 = omega arith in
       let e : length (ofTenant t (leasesAt s here (count - i))) ≡ 0 = ap (λ (k : ℕ). length (ofTenant t (leasesAt s here k))) z in

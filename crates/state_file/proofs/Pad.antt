@@ -5,21 +5,18 @@ use Prim.Native.Nat.{_*_, _+_, _-_, _<_, _≤_, suc, zero, ℕ}
 use native.Mathlib.Nat.{mul-le-mul, suc-mul, zero-add, zero-mul}
 use native.Mathlib.Omega.{arith}
 use lib.ListN.{drop, getD, length, length-map, length-replicate, length-set, replicate, set}
+use Rattle.format.specs.Place.{row, walk}
+use Rattle.format.specs.laws.Fixed.{walk-length}
 use Rattle.lists.specs.laws.Copy.{CopyInv, copy-front, copy-paste, copy-start}
 use Rattle.octets.specs.Octets.{at32}
 use Rattle.state.specs.declared.ClientRange.{ClientRange}
 use Rattle.state.specs.declared.Scope.{Scope}
 use Rattle.state_file.specs.File.{FilePart}
-use Rattle.state_file.specs.Place.{partAt, rangeAt, row, fileScopeAt}
+use Rattle.state_file.specs.Place.{partAt, rangeAt, fileScopeAt}
 use Rattle.state_file.specs.Records.{filled, storedScope}
 
-pub row-length : {A : Type 0} (v : List ℕ → ℕ → A) (z n : ℕ) (s : List ℕ) (at : ℕ) → length (row v z n s at) ≡ n
-unfolding row
-row-length v z zero s at = refl
-row-length v z (suc n) s at = ap suc (row-length v z n s (at + z))
-
 row-get : {A : Type 0} (v : List ℕ → ℕ → A) (z n : ℕ) (s : List ℕ) (at i : ℕ) (d : A) → i < n → getD (row v z n s at) i d ≡ v s (at + i * z)
-unfolding row
+unfolding walk
 row-get v z zero s at i d h = absurd (omega arith)
 row-get v z (suc n) s at zero d h = ap (v s) (let q = zero-mul z in let e : at ≡ at + 0 * z = omega arith in e)
 row-get v z (suc n) s at (suc i) d h = row-get v z n s (at + z) i d (omega arith) ∙ ap (v s) (let q = suc-mul i z in let e : at + z + i * z ≡ at + suc i * z = omega arith in e)
@@ -57,7 +54,7 @@ module _ {A : Type 0} {z : A} {m : ℕ} {l : List A} {n : ℕ} {out : List A} {i
   pad-end h = copy-paste (v .copy) h (v .long) ∙ ap (λ (r : List A). l ++ r) (ap (λ (j : ℕ). drop j (replicate m z)) (zero-add n ∙ sym (v .long)) ∙ drop-replicate z (length l) m)
 
 pub row-long : {A : Type 0} (w : List ℕ → ℕ → A) (z n : ℕ) (s : List ℕ) (at : ℕ) → length (row w z n s at) ≡ n
-row-long w z n s at = row-length w z n s at
+row-long w z n s at = walk-length w _ n s at
 
 -- the element at a place of the row
 pub row-element : {A : Type 0} (w : List ℕ → ℕ → A) (z n : ℕ) (s : List ℕ) (at i : ℕ) (x d : A) → i < n → x ≡ w s (at + i * z) → x ≡ getD (row w z n s at) i d
@@ -81,7 +78,7 @@ second s x = refl
 -- a part's column is every other octet
 column : (f : FilePart → ℕ) (c h : ℕ) (s : List ℕ) (at at′ : ℕ) → at′ ≡ at + c → ((x : ℕ) → f (partAt s x) ≡ getD s (x + c) 0)
     → map f (row partAt 2 h s at) ≡ row (λ s at. getD s at 0) 2 h s at′
-unfolding row
+unfolding walk
 column f c zero s at at′ e p = refl
 column f c (suc h) s at at′ e p =
     ap₂ {C = List ℕ} (λ (x : ℕ) (l : List ℕ). x ∷ l) (p at ∙ ap (λ (k : ℕ). getD s k 0) (sym e))
@@ -98,10 +95,10 @@ scope-of h s at a r l ea er el =
     cc
 
 pub scopes-long : (h z n : ℕ) (s : List ℕ) (at : ℕ) → length (map storedScope (row (fileScopeAt h) z n s at)) ≡ n
-scopes-long h z n s at = length-map (row (fileScopeAt h) z n s at) storedScope ∙ row-length (fileScopeAt h) z n s at
+scopes-long h z n s at = length-map (row (fileScopeAt h) z n s at) storedScope ∙ walk-length (fileScopeAt h) _ n s at
 
 pub scopes-element : (h z n : ℕ) (s : List ℕ) (at i : ℕ) (x d : Scope) → i < n → x ≡ storedScope (fileScopeAt h s (at + i * z)) → x ≡ getD (map storedScope (row (fileScopeAt h) z n s at)) i d
-unfolding row
+unfolding walk
 scopes-element h z n s at i x d g e = e ∙ sym (mapped n s at i g)
   where
     mapped : (n : ℕ) (s : List ℕ) (at i : ℕ) → i < n → getD (map storedScope (row (fileScopeAt h) z n s at)) i d ≡ storedScope (fileScopeAt h s (at + i * z))

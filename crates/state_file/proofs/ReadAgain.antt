@@ -13,7 +13,6 @@ use Rattle.lists.specs.Pick.{pick}
 use Rattle.state.specs.Book.{leasesOf, rangesOf, scopesOf, zeroScope}
 use Rattle.state.specs.laws.Layout.{table-back}
 use Rattle.state.specs.declared.ClientRange.{ClientRange}
-use Rattle.state_file.proofs.WholeForm.{ts}
 use Rattle.state_file.specs.File.{File, FileLease, FilePart, FileScope, fileFormat, leaseFormat, scopeFormat}
 use Rattle.state_file.specs.laws.Records.{StorableAt, filled-take}
 use Rattle.state_file.specs.Records.{filedBook, filedFrom, filedScope, filled, fitsB, isOffset, leasesFitB, pairUp, storableB, storedScope, storedState, storedTable, tenantsFrom, zeroRange}
@@ -95,7 +94,7 @@ scopes-again n (c ∷ l) h = ap₂ {C = List FileScope} (λ (x : FileScope) (r :
 module _ (f : File) (h : fileFormat .ok f) (e : fitsB f ≡ true) where
   leases-fit : allBy storableB (f .leases) ≡ true
   unfolding fitsB leasesFitB
-  leases-fit = both _ _ (neither _ _ (neither _ _ e .1) .1) .0
+  leases-fit = both _ _ (both _ _ e .1) .0
 
   leases-facts : All Fits (f .leases)
   leases-facts = all-facts storableB Fits (f .leases) fits-of leases-fit

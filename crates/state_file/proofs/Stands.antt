@@ -1,98 +1,31 @@
--- Laws: a value that stands at a place of the octets, part by part.
+-- Laws: a lease record that stands at a place of the octets, part by part, and the order of two.
 use mathlib.Core.Bool.{Bool, false, true}
 use mathlib.Core.List.{List, [], _++_, _∷_, append-assoc}
 use mathlib.Core.Path.{_∙_, _≡_, ap, ap₂, refl, subst, sym}
-use Prim.Native.Nat.{_+_, _-_, _<_, _≤_, suc, zero, ℕ}
-use native.Mathlib.Numerals.{add-one}
+use Prim.Native.Nat.{_+_, _-_, _<_, _≤_, ℕ}
 use native.Mathlib.Omega.{arith}
+use lib.Dec.{eqb}
 use lib.ListN.{drop, getD, length, length-append, length-drop, take}
-use lib.Seq.{drop-cons, drop-drop, getD-append-add, getD-drop}
+use lib.Seq.{getD-append-add, getD-drop}
 use Rattle.address_set.specs.AddressSet.{rises}
-use Rattle.lists.specs.Pick.{pick}
-use Rattle.octets.specs.Octets.{at32, octets32}
-use Rattle.state_file.specs.File.{FileLease, leaseFormat, ofParts, toParts}
-use Rattle.state_file.specs.laws.File.{lease-lawful}
-use Rattle.format.specs.Format.{Format, Got, _⊗_, bad, counted, got, number, octet, only, readNumber, readOctet, readTimes, then, viewed, writeAll, Octets}
-use Rattle.format.specs.laws.Format.{then-with}
-use Rattle.state_file.specs.Place.{LeaseEnds, PlaceIn, gotAt, fileLeaseAt, nextAt}
+use Rattle.format.specs.Format.{Got, Octets, bad, counted, got, number, octet, writeAll}
+use Rattle.format.specs.Place.{Fails, Stands}
+use Rattle.format.specs.Section.{IsAt}
+use Rattle.format.specs.declared.Place.{Place}
 use Rattle.format.specs.declared.Place.the-variants.{At, Nowhere}
-
--- the octets from at on are x, and go on at next
-pub record Stands {A : Type 0} (f : Format A) (s : List ℕ) (at : ℕ) (x : A) (next : ℕ) : Type 0 where
-  pub reads : f .read (drop at s) ≡ got x (drop next s)
-
--- no value stands there
-pub record Fails {A : Type 0} (f : Format A) (s : List ℕ) (at : ℕ) : Type 0 where
-  pub reads : f .read (drop at s) ≡ bad
-
-drop-next : (s : List ℕ) (at : ℕ) → at < length s → drop at s ≡ getD s at 0 ∷ drop (at + 1) s
-drop-next s at h = drop-cons s at 0 h ∙ ap {B = List ℕ} (λ (n : ℕ). getD s at 0 ∷ drop n s) (sym (add-one at))
-
-drop-four : (s : List ℕ) (at : ℕ) → at + 4 ≤ length s → drop at s ≡ getD s at 0 ∷ getD s (at + 1) 0 ∷ getD s (at + 2) 0 ∷ getD s (at + 3) 0 ∷ drop (at + 4) s
-drop-four s at h =
-    let e2 : at + 1 + 1 ≡ at + 2 = omega arith in
-    let e3 : at + 2 + 1 ≡ at + 3 = omega arith in
-    let e4 : at + 3 + 1 ≡ at + 4 = omega arith in
-    let d0 : drop at s ≡ getD s at 0 ∷ drop (at + 1) s = drop-next s at (omega arith) in
-    let d1 : drop (at + 1) s ≡ getD s (at + 1) 0 ∷ drop (at + 2) s = rw (← e2) (drop-next s (at + 1) (omega arith)) in
-    let d2 : drop (at + 2) s ≡ getD s (at + 2) 0 ∷ drop (at + 3) s = rw (← e3) (drop-next s (at + 2) (omega arith)) in
-    let d3 : drop (at + 3) s ≡ getD s (at + 3) 0 ∷ drop (at + 4) s = rw (← e4) (drop-next s (at + 3) (omega arith)) in
-    cc
-
-pub stands-octet : (s : List ℕ) (at : ℕ) {m : ℕ} → m ≡ at + 1 → at < length s → Stands octet s at (getD s at 0) m
-unfolding readOctet
-stands-octet s at e h = record { reads = ap readOctet (drop-next s at h) ∙ ap (λ (n : ℕ). got (getD s at 0) (drop n s)) (sym e) }
-
-pub stands-number : (s : List ℕ) (at : ℕ) {m : ℕ} → m ≡ at + 4 → at + 4 ≤ length s → Stands number s at (at32 s at) m
-unfolding readNumber at32
-stands-number s at e h = record { reads = ap readNumber (drop-four s at h) ∙ ap (λ (n : ℕ). got (at32 s at) (drop n s)) (sym e) }
-
-times-octets : (k : ℕ) (l : List ℕ) → k ≤ length l → readTimes k readOctet l ≡ got (take k l) (drop k l)
-unfolding readTimes readOctet then
-times-octets zero [] h = refl
-times-octets zero (x ∷ l) h = refl
-times-octets (suc k) [] h = absurd (omega arith)
-times-octets (suc k) (x ∷ l) h = then-with _ _ _ (times-octets k l (let g : k ≤ length l = omega arith in g))
-
-pub stands-octets : (s : List ℕ) (at : ℕ) {p m n : ℕ} → n ≡ getD s at 0 → p ≡ at + 1 → m ≡ at + (n + 1) → m ≤ length s → Stands (counted octet) s at (take n (drop p s)) m
-stands-octets s at {p} {m} {n} en ep em h = record {
-  reads =
-      then-with _ _ _ (stands-octet s at refl (omega arith) .reads)
-      ∙ ap₂ (λ (k q : ℕ). readTimes k readOctet (drop q s)) (sym en) (sym ep)
-      ∙ times-octets n (drop p s) (let e = length-drop p s in omega arith)
-      ∙ ap (got (take n (drop p s))) (drop-drop n p s ∙ ap (λ (k : ℕ). drop k s) (let q : p + n ≡ m = omega arith in q));
-}
-
-module _ {A B : Type 0} {f : Format A} {s : List ℕ} {at m : ℕ} {x : A} (p : Stands f s at x m) where
-  pub stands-both : {g : Format B} {n : ℕ} {y : B} → Stands g s m y n → Stands (f ⊗ g) s at (x, y) n
-  stands-both q = record { reads = then-with _ _ _ (p .reads) ∙ then-with _ _ _ (q .reads) }
-
-  pub fails-both : {g : Format B} → Fails g s m → Fails (f ⊗ g) s at
-  unfolding then
-  fails-both q = record { reads = then-with _ _ _ (p .reads) ∙ ap (λ w. then w (λ y t. got (x, y) t)) (q .reads) }
-
-module _ {A : Type 0} {f : Format A} {s : List ℕ} {at m : ℕ} {x : A} (p : Stands f s at x m) where
-  pub stands-only : (t : A → Bool) → t x ≡ true → Stands (only t f) s at x m
-  unfolding pick
-  stands-only t e = record { reads = then-with _ _ _ (p .reads) ∙ ap (λ (b : Bool). pick b (got x (drop m s)) bad) e }
-
-  pub fails-only : (t : A → Bool) → t x ≡ false → Fails (only t f) s at
-  unfolding pick
-  fails-only t e = record { reads = then-with _ _ _ (p .reads) ∙ ap (λ (b : Bool). pick b (got x (drop m s)) bad) e }
-
-  pub stands-viewed : {B : Type 0} (to : A → B) (from : B → A) → Stands (viewed to from f) s at (to x) m
-  stands-viewed to from = record { reads = then-with _ _ _ (p .reads) }
-
-pub fails-viewed : {A B : Type 0} {f : Format A} {s : List ℕ} {at : ℕ} (to : A → B) (from : B → A) → Fails f s at → Fails (viewed to from f) s at
-unfolding then
-fails-viewed to from e = record { reads = ap (λ w. then w (λ x r. got (to x) r)) (e .reads) }
+use Rattle.format.specs.laws.Place.{as-nowhere, as-there, fails-second, number-stands, octet-stands, octets-stand, only-fails, only-stands, stands-both, stands-to, viewed-none, viewed-stands}
+use Rattle.format.specs.laws.Section.{SectionInv, entry-in, entry-is, section-broken, section-done, section-next, section-start, section-wrong}
+use Rattle.identifier.specs.Order.{orderOf}
+use Rattle.lists.specs.laws.Pick.{pick-lt, pick-not-lt}
+use Rattle.octets.specs.Octets.{at32, octets32}
+use Rattle.state_file.specs.File.{FileLease, isAfter, leaseAfter, leaseFormat, leaseKey, ofParts, toParts}
+use Rattle.state_file.specs.Place.{LeaseEnds, LeasesEnd, fileLeaseAt, nextAt}
+use Rattle.state_file.specs.laws.File.{lease-lawful}
 
 -- nothing is got where nothing can be
 pub not-got : {A : Type 0} (g : Got A) → ((x : A) (r : List ℕ) → g ≡ got x r → ⊥) → g ≡ bad
 not-got (got x r) h = absurd (h x r refl)
 not-got bad h = refl
-
--- ---- a lease record
 
 -- what its octets say of its lengths
 record Shape (s : List ℕ) (at : ℕ) (x : FileLease) (r : List ℕ) : Type 0 where
@@ -120,9 +53,12 @@ shape s at x r o e =
           ∙ getD-append-add front (back ++ r) 13 0;
     }
 
+none : {s : List ℕ} {at : ℕ} → Fails leaseFormat s at → LeaseEnds s at Nowhere
+unfolding IsAt
+none p = record { ends = as-nowhere p; there = tt }
+
 short : (s : List ℕ) (at : ℕ) → Octets s → ((x : FileLease) (r : List ℕ) → Shape s at x r → ⊥) → LeaseEnds s at Nowhere
-unfolding gotAt PlaceIn
-short s at o h = record { reads = not-got (leaseFormat .read (drop at s)) (λ x r e. h x r (shape s at x r (λ i. subst (λ (n : ℕ). n < 256) (sym (getD-drop at s i 0)) (o (at + i))) e)); within = tt }
+short s at o h = none (record { reads = not-got (leaseFormat .read (drop at s)) (λ x r e. h x r (shape s at x r (λ i. subst (λ (n : ℕ). n < 256) (sym (getD-drop at s i 0)) (o (at + i))) e)) })
 
 pub lease-short-1 : (s : List ℕ) (at : ℕ) → Octets s → length s - at < 3 → LeaseEnds s at Nowhere
 lease-short-1 s at o h = short s at o (λ x r v. let l = v .long in omega arith)
@@ -137,70 +73,96 @@ lease-short-3 s at n k o e f h =
     let c : k ≡ length (x .offsets) = f ∙ ap (λ (z : ℕ). getD s (at + (z + 16)) 0) (e ∙ i) ∙ v .count in
     omega arith)
 
+-- the parts of a record one after the other
 module _ (s : List ℕ) (at n k : ℕ) (en : n ≡ getD s (at + 2) 0) (ek : k ≡ getD s (at + (n + 16)) 0) (h : n + 17 + k ≤ length s - at) (a : at ≤ length s) where
+  octet-to : (i : ℕ) {m : ℕ} → m ≡ i + 1 → i < length s → Stands octet s i (getD s i 0) m
+  octet-to i e l = stands-to (sym e) (octet-stands s i l)
+
+  number-to : (i : ℕ) {m : ℕ} → m ≡ i + 4 → i + 4 ≤ length s → Stands number s i (at32 s i) m
+  number-to i e l = stands-to (sym e) (number-stands s i l)
+
+  octets-to : (i p m j : ℕ) → j ≡ getD s i 0 → p ≡ i + 1 → m ≡ p + j → m ≤ length s → Stands (counted octet) s i (take j (drop p s)) m
+  octets-to i p m j e ep em l =
+      subst (λ (q : ℕ). Stands (counted octet) s i (take j (drop q s)) m) (sym ep)
+      (stands-to (let g : i + 1 + j ≡ m = omega arith in g) (octets-stand s i j (omega arith) e (omega arith)))
+
   offsets-stand : Stands (counted octet) s (at + (n + 16)) (take k (drop (at + (n + 17)) s)) (at + (n + 17 + k))
-  offsets-stand = stands-octets s (at + (n + 16)) {p = at + (n + 17)} {m = at + (n + 17 + k)} {n = k} ek (omega arith) (omega arith) (omega arith)
+  offsets-stand = octets-to (at + (n + 16)) (at + (n + 17)) (at + (n + 17 + k)) k ek (omega arith) (omega arith) (omega arith)
 
   pub lease-rises : true ≡ rises (take k (drop (at + (n + 17)) s)) → LeaseEnds s at (At (at + (n + 17 + k)))
-  unfolding gotAt PlaceIn fileLeaseAt
+  unfolding IsAt fileLeaseAt
   lease-rises e =
       let st =
-      stands-viewed
-      (stands-both (stands-octet s at {m = at + 1} refl (omega arith))
-      (stands-both (stands-octet s (at + 1) {m = at + 2} (omega arith) (omega arith))
-      (stands-both (stands-octets s (at + 2) {p = at + 3} {m = at + (n + 3)} {n = n} en (omega arith) (omega arith) (omega arith))
-      (stands-both (stands-octet s (at + (n + 3)) {m = at + (n + 4)} (omega arith) (omega arith))
-      (stands-both (stands-number s (at + (n + 4)) {m = at + (n + 8)} (omega arith) (omega arith))
-      (stands-both (stands-number s (at + (n + 8)) {m = at + (n + 12)} (omega arith) (omega arith))
-      (stands-both (stands-number s (at + (n + 12)) {m = at + (n + 16)} (omega arith) (omega arith))
-      (stands-only offsets-stand rises (sym e)))))))))
+      viewed-stands
+      (stands-both _ (octet-to at {m = at + 1} refl (omega arith))
+      (stands-both _ (octet-to (at + 1) {m = at + 2} (omega arith) (omega arith))
+      (stands-both _ (octets-to (at + 2) (at + 3) (at + (n + 3)) n en (omega arith) (omega arith) (omega arith))
+      (stands-both _ (octet-to (at + (n + 3)) {m = at + (n + 4)} (omega arith) (omega arith))
+      (stands-both _ (number-to (at + (n + 4)) {m = at + (n + 8)} (omega arith) (omega arith))
+      (stands-both _ (number-to (at + (n + 8)) {m = at + (n + 12)} (omega arith) (omega arith))
+      (stands-both _ (number-to (at + (n + 12)) {m = at + (n + 16)} (omega arith) (omega arith))
+      (only-stands offsets-stand rises (sym e)))))))))
       ofParts toParts in
-      record { reads = rw (← en, ← ek) (st .reads); within = (omega arith, omega arith) }
+      record { ends = as-there (record { reads = rw (← en, ← ek) (st .reads) }) (omega arith) (omega arith); there = ap₂ (λ (x y : ℕ). at + (x + 17 + y)) en (ek ∙ ap (λ (z : ℕ). getD s (at + (z + 16)) 0) en) }
 
   pub lease-falls : false ≡ rises (take k (drop (at + (n + 17)) s)) → LeaseEnds s at Nowhere
-  unfolding gotAt PlaceIn
   lease-falls e =
-      let fa =
-      fails-viewed ofParts toParts
-      (fails-both (stands-octet s at {m = at + 1} refl (omega arith))
-      (fails-both (stands-octet s (at + 1) {m = at + 2} (omega arith) (omega arith))
-      (fails-both (stands-octets s (at + 2) {p = at + 3} {m = at + (n + 3)} {n = n} en (omega arith) (omega arith) (omega arith))
-      (fails-both (stands-octet s (at + (n + 3)) {m = at + (n + 4)} (omega arith) (omega arith))
-      (fails-both (stands-number s (at + (n + 4)) {m = at + (n + 8)} (omega arith) (omega arith))
-      (fails-both (stands-number s (at + (n + 8)) {m = at + (n + 12)} (omega arith) (omega arith))
-      (fails-both (stands-number s (at + (n + 12)) {m = at + (n + 16)} (omega arith) (omega arith))
-      (fails-only offsets-stand rises (sym e))))))))) in
-      record { reads = fa .reads; within = tt }
+      none (viewed-none
+      (fails-second _ (octet-to at {m = at + 1} refl (omega arith))
+      (fails-second _ (octet-to (at + 1) {m = at + 2} (omega arith) (omega arith))
+      (fails-second _ (octets-to (at + 2) (at + 3) (at + (n + 3)) n en (omega arith) (omega arith) (omega arith))
+      (fails-second _ (octet-to (at + (n + 3)) {m = at + (n + 4)} (omega arith) (omega arith))
+      (fails-second _ (number-to (at + (n + 4)) {m = at + (n + 8)} (omega arith) (omega arith))
+      (fails-second _ (number-to (at + (n + 8)) {m = at + (n + 12)} (omega arith) (omega arith))
+      (fails-second _ (number-to (at + (n + 12)) {m = at + (n + 16)} (omega arith) (omega arith))
+      (only-fails offsets-stand rises (sym e)))))))))
+      ofParts toParts)
 
-got-of : {s : List ℕ} {at n : ℕ} → LeaseEnds s at (At n) → leaseFormat .read (drop at s) ≡ got (fileLeaseAt s at) (drop n s)
-unfolding gotAt
-got-of v = v .reads
+-- the order of two records
+module _ (t u : ℕ) (a b : List ℕ) where
+  pub after-less : t < u → false ≡ isAfter t a u b
+  unfolding isAfter
+  after-less h = pick-lt _ _ _ t u h refl
 
-bad-of : {s : List ℕ} {at : ℕ} → LeaseEnds s at Nowhere → leaseFormat .read (drop at s) ≡ bad
-unfolding gotAt
-bad-of v = v .reads
+  pub after-more : u < t → u ≤ t → true ≡ isAfter t a u b
+  unfolding isAfter
+  after-more h g = pick-not-lt _ _ _ t u g (pick-lt _ _ _ u t h refl)
 
--- a lease that is read is the one of the place's parts, and reading goes on where the code goes on
-pub lease-is : (s : List ℕ) (at : ℕ) (x : FileLease) (r : List ℕ) → Octets s → at ≤ length s → leaseFormat .read (drop at s) ≡ got x r
-    → (fileLeaseAt s at ≡ x) × (drop (nextAt s at) s ≡ r) × (nextAt s at ≤ length s)
-unfolding nextAt
-lease-is s at x r o a e =
-    let v = shape s at x r (λ i. subst (λ (n : ℕ). n < 256) (sym (getD-drop at s i 0)) (o (at + i))) e in
-    let c : getD s (at + (getD s (at + 2) 0 + 16)) 0 ≡ length (x .offsets) = ap (λ (z : ℕ). getD s (at + (z + 16)) 0) (v .ids) ∙ v .count in
-    let l = v .long in let i = v .ids in
-    let h : getD s (at + 2) 0 + 17 + getD s (at + (getD s (at + 2) 0 + 16)) 0 ≤ length s - at = omega arith in
-    go (rises (take (getD s (at + (getD s (at + 2) 0 + 16)) 0) (drop (at + (getD s (at + 2) 0 + 17)) s))) refl h
-  where
-    N : ℕ
-    N = getD s (at + 2) 0
+pub after-same : (t u r n m : ℕ) (a l : List ℕ) → u ≤ t → t ≤ u → n ≡ m → r ≡ orderOf a (take n l) → eqb r 2 ≡ isAfter t a u (take m l)
+unfolding isAfter
+after-same t u r n m a l h g p q = pick-not-lt _ _ _ t u h (pick-not-lt _ _ _ u t g (ap (λ (k : ℕ). eqb k 2) (q ∙ ap (λ (k : ℕ). orderOf a (take k l)) p)))
 
-    K : ℕ
-    K = getD s (at + (N + 16)) 0
+pub ruleset afters = (after-less, after-more, after-same)
 
-    go : (b : Bool) → rises (take K (drop (at + (N + 17)) s)) ≡ b → N + 17 + K ≤ length s - at → (fileLeaseAt s at ≡ x) × (drop (at + (N + 17 + K)) s ≡ r) × (at + (N + 17 + K) ≤ length s)
-    go true q h =
-        let w : got (fileLeaseAt s at) (drop (at + (N + 17 + K)) s) ≡ got x r = sym (got-of (lease-rises s at N K refl refl h a (sym q))) ∙ e in
-        (cc, cc, omega arith)
-    go false q h =
-        let w : bad ≡ got x r = sym (bad-of (lease-falls s at N K refl refl h a (sym q))) ∙ e in
-        let z : _≡_ {A = ℕ} 0 1 = cc in absurd (omega arith)
+-- ---- the loop over the records, with where the identifier before stands
+pub record LeasesInv (s : List ℕ) (from count here i tenant id-at id-len : ℕ) : Type 0 where
+  pub inv : SectionInv leaseKey leaseAfter leaseFormat fileLeaseAt nextAt s (0, []) from count here i (tenant, take id-len (drop id-at s))
+  pub prior : id-at + id-len ≤ length s
+
+pub leases-start : {s : List ℕ} {from count : ℕ} → from ≤ length s → LeasesInv s from count from 0 0 0 0
+leases-start h = record { inv = section-start h; prior = omega arith }
+
+pub lease-in : {s : List ℕ} {at n : ℕ} {r : Place} → LeaseEnds s at r → r ≡ At n → nextAt s at ≤ length s
+lease-in w e = entry-in (entry-is w e)
+
+module _ {s : List ℕ} {from count here i tenant id-at id-len : ℕ} {r : Place} (v : LeasesInv s from count here i tenant id-at id-len) (h : i < count) (w : LeaseEnds s here r) where
+  pub leases-broken : r ≡ Nowhere → LeasesEnd count s from Nowhere
+  leases-broken e = section-broken (v .inv) h (entry-is w e)
+
+  module _ {next : ℕ} (e : r ≡ At next) {q : Bool} (eq : q ≡ isAfter tenant (take id-len (drop id-at s)) (getD s here 0) (take (getD s (here + 2) 0) (drop (here + 3) s))) where
+    pub leases-after : q ≡ true → LeasesEnd count s from Nowhere
+    unfolding fileLeaseAt
+    leases-after t = section-wrong (v .inv) h (entry-is w e) (sym eq ∙ t)
+
+    pub leases-next : (n : ℕ) → q ≡ false → n ≡ getD s (here + 2) 0 → LeasesInv s from count next (i + 1) (getD s here 0) (here + 3) n
+    unfolding fileLeaseAt
+    leases-next n t en = record {
+      inv = subst (λ (k : ℕ). SectionInv leaseKey leaseAfter leaseFormat fileLeaseAt nextAt s (0, []) from count next (i + 1) (getD s here 0, take k (drop (here + 3) s))) (sym en)
+          (section-next (v .inv) h (entry-is w e) (sym eq ∙ t));
+      prior = let l = lease-in w e in omega arith;
+    }
+
+pub leases-done : {s : List ℕ} {from count here i tenant id-at id-len : ℕ} → LeasesInv s from count here i tenant id-at id-len → count ≤ i → LeasesEnd count s from (At here)
+leases-done v h = section-done (v .inv) h
+
+pub ruleset leaseWalk = (leases-start, lease-in, leases-broken, leases-after, leases-next, leases-done)

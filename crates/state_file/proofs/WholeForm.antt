@@ -1,174 +1,153 @@
--- Laws: the form of the whole file, section by section.
+-- Laws: the form of the whole file, section by section: one `then-ends` each.
 use mathlib.Core.Bool.{Bool, false, true}
-use mathlib.Core.List.{List, [], _∷_}
-use mathlib.Core.Path.{_∙_, _≡_, ap, refl, sym}
-use Prim.Native.Nat.{_*_, _+_, _-_, _<_, _≤_, suc, ℕ}
+use mathlib.Core.List.{List, []}
+use mathlib.Core.Path.{_∙_, _≡_, ap, ap₂, refl, subst, sym}
+use Prim.Native.Nat.{_*_, _+_, _<_, _≤_, ℕ}
 use native.Mathlib.Nat.{mul-le-mul}
 use native.Mathlib.Omega.{arith}
-use lib.Dec.{eqb, leb}
-use lib.ListN.{drop, drop-of-length-le, getD, length}
-use borrow.Author.Tests.{eq-eqb, eqb-false, eqb-true, le-leb, leb-false, leb-true, lt-leb, ne-eqb}
-use Rattle.lists.specs.Pick.{pick}
-use Rattle.state.specs.declared.ClientRange.{ClientRange}
-use Rattle.state_file.proofs.Fixed.{Fixed, counted-none, counted-short, counted-stands, fails-first, fails-then, fixed-as, fixed-both, fixed-number, fixed-octet, fixed-times, fixed-viewed}
-use Rattle.state_file.proofs.Pad.{row-length}
-use Rattle.state_file.proofs.Stands.{Fails, Stands, fails-viewed, stands-octet}
-use Rattle.state_file.specs.File.{longestFile, FileLease, FileScope, fileFormat, fileOf, leasesFormat, partFormat, scopeFormat, tenantFormat}
-use Rattle.format.specs.Format.{Format, Got, _⊗_, _▷_, after, bad, closed, counted, got, number, readOctet, then}
-use Rattle.format.specs.laws.Format.{then-with}
-use Rattle.state_file.specs.Place.{isGot, endPlace, row}
+use lib.Dec.{leb}
+use lib.ListN.{getD, length}
+use borrow.Author.Tests.{le-leb, lt-leb}
+use Rattle.format.specs.Format.{Format, _⊗_, _▷_, after, bad, closed, counted, number}
+use Rattle.format.specs.Place.{EndsAs, countedEnd, row}
+use Rattle.format.specs.declared.Place.{Place}
 use Rattle.format.specs.declared.Place.the-variants.{At, Nowhere}
+use Rattle.format.specs.laws.Fixed.{Fixed, after-ends, after-other, after-short, counted-place, fixed-as, fixed-both, fixed-ends, fixed-is, fixed-number, fixed-octet, fixed-times, fixed-viewed, walk-length}
+use Rattle.format.specs.laws.Place.{as-is, closed-ends, closed-not, closed-over, then-ends, then-not, viewed-ends}
+use Rattle.format.specs.laws.Section.{section-is, section-row}
+use Rattle.lists.specs.Pick.{pick}
+use Rattle.octets.specs.Octets.{at32}
+use Rattle.state.specs.declared.ClientRange.{ClientRange}
+use Rattle.state_file.specs.File.{longestFile, FileLease, FilePart, FileScope, fileFormat, fileOf, leasesFormat, ofSections, partFormat, scopeFormat, tenantFormat, toSections}
+use Rattle.state_file.specs.Place.{FormedBy, LeaseSection, fileAt, fileScopeAt, partAt, rangeAt, scopesIn, sectionAt, tenantCount}
+use Rattle.state_file.specs.declared.Layout.the-variants.{Right, Wrong}
 
-unfoldable pub fixed-pair : Fixed (number ⊗ number) 8
+-- ---- values of a fixed size
+unfoldable fixed-pair : Fixed (number ⊗ number) 8
 fixed-pair = fixed-both fixed-number fixed-number
 
-unfoldable pub fixed-tenant : Fixed tenantFormat 8
-fixed-tenant = fixed-viewed _ _ fixed-pair
+unfoldable fixed-range : Fixed tenantFormat 8
+unfolding rangeAt fixed-pair fixed-both fixed-number fixed-viewed
+fixed-range = fixed-is (fixed-viewed _ _ fixed-pair) rangeAt (λ s at. refl)
 
-unfoldable pub fixed-part : Fixed partFormat 2
-fixed-part = fixed-viewed _ _ (fixed-both fixed-octet fixed-octet)
+unfoldable fixed-part : Fixed partFormat 2
+unfolding partAt fixed-both fixed-octet fixed-viewed
+fixed-part = fixed-is (fixed-viewed _ _ (fixed-both fixed-octet fixed-octet)) partAt (λ s at. refl)
 
-unfoldable pub fixed-scope : (h : ℕ) → Fixed (scopeFormat h) (6 + h * 2)
-fixed-scope h = fixed-viewed _ _ (fixed-as (let e : 4 + (1 + (1 + h * 2)) ≡ 6 + h * 2 = omega arith in e) (fixed-both fixed-number (fixed-both fixed-octet (fixed-both fixed-octet (fixed-times fixed-part h)))))
+unfoldable fixed-scope : (h : ℕ) → Fixed (scopeFormat h) (6 + h * 2)
+unfolding fileScopeAt fixed-part fixed-octet fixed-number fixed-both fixed-viewed fixed-as fixed-times fixed-is
+fixed-scope h =
+    fixed-is (fixed-viewed _ _ (fixed-as (let e : 4 + (1 + (1 + h * 2)) ≡ 6 + h * 2 = omega arith in e) (fixed-both fixed-number (fixed-both fixed-octet (fixed-both fixed-octet (fixed-times fixed-part h))))))
+    (fileScopeAt h)
+    (λ s at. ap₂ {C = FileScope} (λ (t : ℕ) (p : List FilePart). record { lowest = at32 s at; size = getD s (at + 4) 0; ttl = t; parts = p })
+    (ap (λ (k : ℕ). getD s k 0) (let e : at + 4 + 1 ≡ at + 5 = omega arith in e)) (ap (λ (k : ℕ). row partAt 2 h s k) (let e : at + 4 + 1 + 1 ≡ at + 6 = omega arith in e)))
 
--- what follows the server's section, and what follows the tenants
-abbrev pub afterTenants : List ClientRange → Format (List FileScope × List FileLease)
-afterTenants ts = counted (scopeFormat (length ts)) ⊗ leasesFormat
-
-abbrev pub afterServer : (ℕ × ℕ) → Format (List ClientRange × (List FileScope × List FileLease))
-afterServer p = counted tenantFormat ▷ afterTenants
-
-pub after-stands : {A : Type 0} {f : Format A} {z : ℕ} (n : ℕ) (p : Fixed f z) (s : List ℕ) (at : ℕ) → getD s at 0 ≡ n → at + 1 + z ≤ length s → Stands (after n f) s at (p .value s (at + 1)) (at + 1 + z)
-unfolding pick
-after-stands {f = f} {z = z} n p s at e h = record {
-  reads =
-      then-with _ _ _ (stands-octet s at refl (omega arith) .reads)
-      ∙ ap (λ (b : Bool). pick b (f .read (drop (at + 1) s)) bad) (eq-eqb _ _ e) ∙ p .stands s (at + 1) (omega arith) .reads;
-}
-
-after-other : {A : Type 0} (n : ℕ) (f : Format A) (s : List ℕ) (at : ℕ) → (getD s at 0 ≡ n → ⊥) → at < length s → Fails (after n f) s at
-unfolding pick
-after-other n f s at e h = record {
-  reads = then-with _ _ _ (stands-octet s at refl h .reads) ∙ ap (λ (b : Bool). pick b (f .read (drop (at + 1) s)) bad) (ne-eqb _ _ e);
-}
-
-neither : {A : Type 0} (b : Bool) → _≡_ {A = Got A} (pick b bad bad) bad
-unfolding pick
-neither true = refl
-neither false = refl
-
-after-short : {A : Type 0} {f : Format A} {z : ℕ} (n : ℕ) (p : Fixed f z) (s : List ℕ) (at : ℕ) → at ≤ length s → length s < at + 1 + z → Fails (after n f) s at
-unfolding pick then readOctet
-after-short {f = f} n p s at a h = go (leb (at + 1) (length s)) refl
-  where
-    go : (b : Bool) → leb (at + 1) (length s) ≡ b → Fails (after n f) s at
-    go true e =
-        let l : at + 1 ≤ length s = leb-true _ _ e in
-        record { reads = then-with _ _ _ (stands-octet s at refl (omega arith) .reads) ∙ ap (λ w. pick (eqb (getD s at 0) n) w bad) (p .fails s (at + 1) l h .reads) ∙ neither (eqb (getD s at 0) n) }
-    go false e = record { reads = ap (after n f .read) (drop-of-length-le s {i = at} (let l : length s < at + 1 = leb-false _ _ e in omega arith)) }
-
--- what fails from the first octet on is no file
-not-file : (s : List ℕ) → Fails fileFormat s 0 → false ≡ isGot (fileOf s)
-unfolding fileOf isGot closed pick
-not-file s p = go (leb (length s) longestFile)
-  where
-    go : (b : Bool) → false ≡ isGot (pick b (closed (fileFormat .read s)) bad)
-    go true = sym (ap (λ w. isGot (closed w)) (p .reads))
-    go false = refl
-
-pub form-long : (s : List ℕ) → longestFile < length s → false ≡ isGot (fileOf s)
-unfolding fileOf isGot pick
-form-long s h = sym (ap (λ (b : Bool). isGot (pick b (closed (fileFormat .read s)) bad)) (lt-leb _ _ h))
-
--- a value made of another does not change where reading ends
-ends : {A B : Type 0} (g : Got A) (k : A → B) → isGot (closed (then g (λ x r. got (k x) r))) ≡ isGot (closed g)
-unfolding isGot closed then
-ends (got x []) k = refl
-ends (got x (y ∷ r)) k = refl
-ends bad k = refl
-
-abbrev pub Server : Format (ℕ × ℕ)
+-- ---- the sections
+abbrev Server : Format (ℕ × ℕ)
 Server = after 1 (number ⊗ number)
 
-server-fails : (s : List ℕ) → Fails Server s 0 → false ≡ isGot (fileOf s)
-server-fails s p = not-file s (fails-viewed _ _ (fails-first afterServer p))
+abbrev afterTenants : List ClientRange → Format (List FileScope × List FileLease)
+afterTenants ts = counted (scopeFormat (length ts)) ⊗ leasesFormat
 
-module _ (s : List ℕ) (one : getD s 0 0 ≡ 1) (long : 10 ≤ length s) where
-  pub server : Stands Server s 0 (fixed-pair .value s 1) 9
-  server = after-stands 1 fixed-pair s 0 one (omega arith)
+abbrev afterServer : (ℕ × ℕ) → Format (List ClientRange × (List FileScope × List FileLease))
+afterServer p = counted tenantFormat ▷ afterTenants
 
-  rest-fails : Fails (counted tenantFormat ▷ afterTenants) s 9 → false ≡ isGot (fileOf s)
-  rest-fails p = not-file s (fails-viewed _ _ (fails-then afterServer server p))
+module _ (s : List ℕ) where
+  file-bad : closed (fileFormat .read s) ≡ bad → fileOf s ≡ bad
+  unfolding fileOf pick
+  file-bad e = go (leb (length s) longestFile)
+    where
+      go : (g : Bool) → pick g (closed (fileFormat .read s)) bad ≡ bad
+      go true = e
+      go false = refl
 
-  module _ (h : ℕ) (eh : h ≡ getD s 9 0) where
-    pub ts : List ClientRange
-    ts = row (fixed-tenant .value) 8 h s 10
+  not-file : {x : (ℕ × ℕ) × (List ClientRange × (List FileScope × List FileLease))} {a : ℕ} → EndsAs (Server ▷ afterServer) x s 0 a Nowhere → fileOf s ≡ bad
+  not-file v = file-bad (closed-not (viewed-ends ofSections toSections v))
 
-    pub tenants : 10 + h * 8 ≤ length s → Stands (counted tenantFormat) s 9 ts (10 + h * 8)
+  pub form-long : longestFile < length s → FormedBy s Wrong
+  unfolding FormedBy fileOf pick
+  form-long h = ap (λ (b : Bool). pick b (closed (fileFormat .read s)) bad) (lt-leb _ _ h)
+
+  pub form-short : length s < 9 → FormedBy s Wrong
+  unfolding FormedBy
+  form-short h = not-file (then-not afterServer 0 ((0, 0), ([], ([], []))) (after-short fixed-pair 1 s 0 (0, 0) 0 (omega arith) (omega arith)))
+
+  pub form-tag : 9 ≤ length s → (getD s 0 0 ≡ 1 → ⊥) → FormedBy s Wrong
+  unfolding FormedBy
+  form-tag h e = not-file (then-not afterServer 0 ((0, 0), ([], ([], []))) (after-other fixed-pair 1 s 0 (0, 0) 0 e (omega arith)))
+
+  module _ (one : getD s 0 0 ≡ 1) (long : 9 ≤ length s) where
+    server : EndsAs Server (at32 s 1, at32 s 5) s 0 9 (At 9)
+    unfolding fixed-pair fixed-both fixed-number
+    server = after-ends fixed-pair 1 s 0 one (omega arith)
+
+    ts : List ClientRange
+    ts = row rangeAt 8 (tenantCount s) s 10
+
+    many : length ts ≡ tenantCount s
     unfolding ts
-    tenants l = counted-stands fixed-tenant s 9 h eh (omega arith) l
+    many = walk-length rangeAt _ (tenantCount s) s 10
 
-    pub many : length ts ≡ h
-    unfolding ts
-    many = row-length (fixed-tenant .value) 8 h s 10
+    tenants : {r q : Place} → r ≡ countedEnd s 9 8 → r ≡ q → EndsAs (counted tenantFormat) ts s 9 1 q
+    unfolding ts fixed-range fixed-is
+    tenants e p = as-is (fixed-ends fixed-range s 9) (sym e ∙ p)
 
-    scopes-fail : 10 + h * 8 ≤ length s → Fails (afterTenants ts) s (10 + h * 8) → false ≡ isGot (fileOf s)
-    scopes-fail l p = rest-fails (fails-then afterTenants (tenants l) p)
+    pub form-tenants : {r : Place} → r ≡ countedEnd s 9 8 → r ≡ Nowhere → FormedBy s Wrong
+    unfolding FormedBy
+    form-tenants e p = not-file (then-ends afterServer server (then-not afterTenants 0 ([], ([], [])) (tenants e p)))
 
-    pub form-tenants : length s ≤ 10 + h * 8 → false ≡ isGot (fileOf s)
-    form-tenants l = go (leb (10 + h * 8) (length s)) refl
-      where
-        go : (b : Bool) → leb (10 + h * 8) (length s) ≡ b → false ≡ isGot (fileOf s)
-        go true e = let m = leb-true _ _ e in scopes-fail m (fails-first (λ _. leasesFormat) (counted-none (scopeFormat (length ts)) s (10 + h * 8) l))
-        go false e = let m = leb-false _ _ e in rest-fails (fails-first afterTenants (counted-short fixed-tenant s 9 h eh (omega arith) m))
+    module _ {a : ℕ} {r : Place} (er : r ≡ countedEnd s 9 8) (pr : r ≡ At a) (h : ℕ) (eh : h ≡ getD s 9 0) where
+      cs : List FileScope
+      cs = scopesIn s a
 
-    module _ (k : ℕ) (ek : k ≡ getD s (10 + h * 8) 0) (room : 10 + h * 8 < length s) where
-      pub sized : k * (6 + length ts * 2) ≡ k * (6 + h * 2)
-      sized = ap (λ (n : ℕ). k * (6 + n * 2)) many
+      scopes : {u q : Place} → u ≡ countedEnd s a (6 + h * 2) → u ≡ q → EndsAs (counted (scopeFormat (length ts))) cs s a 1 q
+      unfolding cs fixed-scope fixed-is
+      scopes {u} {q} e p =
+          subst (λ (n : ℕ). EndsAs (counted (scopeFormat n)) cs s a 1 q) (sym many)
+          (as-is (fixed-ends (fixed-scope (tenantCount s)) s a) (ap (λ (n : ℕ). countedEnd s a (6 + n * 2)) (sym eh) ∙ sym e ∙ p))
 
-      pub form-scopes : (z : ℕ) → z ≡ k * (6 + h * 2) → length s < 10 + h * 8 + 1 + z → false ≡ isGot (fileOf s)
-      form-scopes z ez l =
-          let e = sized in
-          scopes-fail (omega arith) (fails-first (λ _. leasesFormat) (counted-short (fixed-scope (length ts)) s (10 + h * 8) k ek room (omega arith)))
+      pub form-scopes : {u : Place} → u ≡ countedEnd s a (6 + h * 2) → u ≡ Nowhere → FormedBy s Wrong
+      unfolding FormedBy
+      form-scopes e p = not-file (then-ends afterServer server (then-ends afterTenants (tenants er pr) (then-not (λ _. leasesFormat) 0 ([], []) (scopes e p))))
 
-      pub form-rest : (z : ℕ) → z ≡ k * (6 + h * 2) → 10 + h * 8 + 1 + z ≤ length s → isGot (closed (fileFormat .read s)) ≡ isGot (closed (leasesFormat .read (drop (10 + h * 8 + 1 + z) s)))
-      form-rest z ez l =
-          let e = sized in
-          let q : 10 + h * 8 + 1 + k * (6 + length ts * 2) ≡ 10 + h * 8 + 1 + z = omega arith in
-          let sc = counted-stands (fixed-scope (length ts)) s (10 + h * 8) k ek room (omega arith) in
-          ends ((Server ▷ afterServer) .read s) _
-          ∙ ap (λ w. isGot (closed w)) (then-with _ _ _ (server .reads)) ∙ ends ((counted tenantFormat ▷ afterTenants) .read (drop 9 s)) _
-          ∙ ap (λ w. isGot (closed w)) (then-with _ _ _ (tenants (omega arith) .reads)) ∙ ends (afterTenants ts .read (drop (10 + h * 8) s)) _
-          ∙ ap (λ w. isGot (closed w)) (then-with _ _ _ (sc .reads)) ∙ ends (leasesFormat .read (drop (10 + h * 8 + 1 + k * (6 + length ts * 2)) s)) _
-          ∙ ap (λ (n : ℕ). isGot (closed (leasesFormat .read (drop n s)))) q
+      module _ {b : ℕ} {u : Place} (eu : u ≡ countedEnd s a (6 + h * 2)) (pu : u ≡ At b) where
+        ls : List FileLease
+        ls = sectionAt s b
 
-      pub form-leases : (b : Bool) (z : ℕ) → z ≡ k * (6 + h * 2) → 10 + h * 8 + 1 + z ≤ length s → length s ≤ longestFile → b ≡ isGot (closed (leasesFormat .read (drop (10 + h * 8 + 1 + z) s))) → b ≡ isGot (fileOf s)
-      unfolding fileOf pick
-      form-leases b z ez l m e = e ∙ sym (form-rest z ez l) ∙ sym (ap (λ (t : Bool). isGot (pick t (closed (fileFormat .read s)) bad)) (le-leb _ _ m))
+        leases : {w q : Place} → LeaseSection s b w → w ≡ q → EndsAs leasesFormat ls s b 1 q
+        unfolding ls
+        leases v p = section-is v p .ends
 
-pub place-none : {A : Type 0} (n : ℕ) (g : Got A) → Nowhere ≡ endPlace n g → false ≡ isGot (closed g)
-unfolding endPlace isGot closed
-place-none n (got x r) e = let z : _≡_ {A = ℕ} 0 1 = cc in absurd (omega arith)
-place-none n bad e = refl
+        whole : {w q : Place} → LeaseSection s b w → w ≡ q → EndsAs (Server ▷ afterServer) ((at32 s 1, at32 s 5), (ts, (cs, ls))) s 0 (9 + (1 + (1 + 1))) q
+        whole v p = then-ends afterServer server (then-ends afterTenants (tenants er pr) (then-ends (λ _. leasesFormat) (scopes eu pu) (leases v p)))
 
-pub place-at : {A : Type 0} (n k : ℕ) (g : Got A) → 0 < n → At k ≡ endPlace n g → eqb k n ≡ isGot (closed g)
-unfolding endPlace isGot closed
-place-at n k (got x []) h e = let q : k ≡ n - 0 = cc in eq-eqb k n (omega arith)
-place-at n k (got x (y ∷ r)) h e = let q : k ≡ n - suc (length r) = cc in ne-eqb k n (λ z. absurd (omega arith))
-place-at n k bad h e = let z : _≡_ {A = ℕ} 0 1 = cc in absurd (omega arith)
+        pub form-leases : {w : Place} → LeaseSection s b w → w ≡ Nowhere → FormedBy s Wrong
+        unfolding FormedBy
+        form-leases v p = not-file (whole v p)
 
-pub form-short : (s : List ℕ) → length s < 10 → false ≡ isGot (fileOf s)
-form-short s h = go (eqb (getD s 0 0) 1) refl (leb 9 (length s)) refl
-  where
-    go : (b : Bool) → eqb (getD s 0 0) 1 ≡ b → (c : Bool) → leb 9 (length s) ≡ c → false ≡ isGot (fileOf s)
-    go b p false q = let l = leb-false 9 (length s) q in server-fails s (after-short 1 fixed-pair s 0 (omega arith) (omega arith))
-    go false p true q = let l = leb-true 9 (length s) q in server-fails s (after-other 1 (number ⊗ number) s 0 (eqb-false _ _ p) (omega arith))
-    go true p true q =
-        let l = leb-true 9 (length s) q in
-        not-file s (fails-viewed _ _ (fails-then afterServer (after-stands 1 fixed-pair s 0 (eqb-true _ _ p) (omega arith)) (fails-first afterTenants (counted-none tenantFormat s 9 (omega arith)))))
+        module _ {w : Place} {n : ℕ} (v : LeaseSection s b w) (p : w ≡ At n) where
+          pub form-over : (n ≡ length s → ⊥) → FormedBy s Wrong
+          unfolding FormedBy
+          form-over e = file-bad (closed-over (viewed-ends ofSections toSections (whole v p)) e)
 
-pub form-tag : (s : List ℕ) → 10 ≤ length s → (getD s 0 0 ≡ 1 → ⊥) → false ≡ isGot (fileOf s)
-form-tag s h e = server-fails s (after-other 1 (number ⊗ number) s 0 e (omega arith))
+          pub form-right : length s ≤ longestFile → n ≡ length s → FormedBy s (Right (record { scopes = a; leases = b }))
+          unfolding FormedBy fileOf fileAt ts cs ls pick
+          form-right h e =
+              let x = counted-place s 9 8 (sym er ∙ pr) in
+              let y = counted-place s a _ (sym eu ∙ pu) in
+              let z = section-row (section-is v p) in
+              record {
+                file = ap (λ (b : Bool). pick b (closed (fileFormat .read s)) bad) (le-leb _ _ h) ∙ closed-ends (viewed-ends ofSections toSections (whole v p)) e;
+                tenants = x .1;
+                sizes = y .1 ∙ ap (λ (n : ℕ). a + 1 + getD s a 0 * (6 + n * 2)) eh;
+                records = record { start = omega arith; each = z .1 };
+              }
 
-pub scopes-bound : (k w : ℕ) → k < 256 → w < 517 → k * w < 200000
-scopes-bound k w h g = let l : k * w ≤ 255 * 516 = mul-le-mul (let a : k ≤ 255 = omega arith in a) (let b : w ≤ 516 = omega arith in b) in omega arith
+-- the place of the tenants' count
+pub form-pools : (s : List ℕ) {a : ℕ} {r : Place} → r ≡ countedEnd s 9 8 → r ≡ At a → 9 < length s
+form-pools s e p = counted-place s 9 8 (sym e ∙ p) .0
+
+pub octets-bound : (n z : ℕ) → n < 256 → z < 600 → n * z < 200000
+octets-bound n z h g = let l : n * z ≤ 255 * 599 = mul-le-mul (let a : n ≤ 255 = omega arith in a) (let b : z ≤ 599 = omega arith in b) in omega arith
+
+pub ruleset forms = (form-long, form-short, form-tag, form-tenants, form-scopes, form-leases, form-over, form-right, form-pools)

@@ -11,6 +11,7 @@ use borrow.Author.Tests.{eqb-true, le-leb, le-ltb, leb-true, lt-ltb, ne-eqb}
 use Rattle.address_set.specs.AddressSet.{offsets}
 use Rattle.address_set.specs.laws.Bits.{length-offsets}
 use Rattle.address_set.specs.laws.Offsets.{offsets-small, rises-offsets}
+use Rattle.format.specs.Section.{orderedFrom}
 use Rattle.identifier.specs.Order.{orderOf}
 use Rattle.lists.specs.All.{All, allBy, allTo, pairsBy}
 use Rattle.lists.specs.laws.All.{all-append, all-cons, all-head, each-to, pairs-head}
@@ -27,10 +28,9 @@ use Rattle.state.specs.declared.State.{State}
 use Rattle.state.specs.declared.TenantLeases.{TenantLeases}
 use Rattle.state_file.proofs.ReadAgain.{all-facts, two-facts}
 use Rattle.state_file.proofs.RowLaws.{pair-length}
-use Rattle.state_file.proofs.WholeForm.{ts}
-use Rattle.state_file.specs.File.{FileLease, fileFormat, isAfter, leaseFormat, orderedFrom, partFormat, scopeFormat, tenantFormat}
+use Rattle.state_file.specs.File.{FileLease, fileFormat, isAfter, leaseFormat, leasesFrom, partFormat, scopeFormat, tenantFormat}
 use Rattle.state_file.specs.laws.Records.{Neat, filled-back}
-use Rattle.state_file.specs.Records.{fewOf, filedLease, filedBook, filedFrom, filedScope, filled, fitsB, isOffset, leasesFitB, ofTenant, pairUp, storableB, stored, storedScope, storedState, storedTable, tenantsFrom, zeroRange}
+use Rattle.state_file.specs.Records.{countsFit, fewOf, filedLease, filedBook, filedFrom, filedScope, filled, fitsB, isOffset, leasesFitB, ofTenant, pairUp, storableB, stored, storedScope, storedState, storedTable, tenantsFrom, zeroRange}
 use Rattle.state_file.specs.laws.Tenants.{leases-back}
 use Rattle.state_file.specs.Typed.{Typed, TypedLease, TypedRange, TypedScope, TypedTenant}
 
@@ -302,21 +302,21 @@ unfolding isAfter pick
 after-less u t a b h = ap (λ (c : Bool). pick c false (pick (ltb t u) true (eqb (orderOf a b) 2))) (lt-ltb u t h)
 
 -- the leases after x, and what follows the tenant's
-own-order : (t : ℕ) (x : Lease) (l : List Lease) (rest : List FileLease) → pairsBy ordered (x ∷ l) ≡ true → ((b : List ℕ) → orderedFrom t b rest ≡ true)
-    → orderedFrom t (idOf x) (map (filedLease t) l ++ rest) ≡ true
+own-order : (t : ℕ) (x : Lease) (l : List Lease) (rest : List FileLease) → pairsBy ordered (x ∷ l) ≡ true → ((b : List ℕ) → leasesFrom t b rest ≡ true)
+    → leasesFrom t (idOf x) (map (filedLease t) l ++ rest) ≡ true
 unfolding orderedFrom filedLease
 own-order t x [] rest e r = r (idOf x)
 own-order t x (y ∷ l) rest e r =
     let p = pairs-head ordered x (y ∷ l) e in
     passes _ _ (after-same t (idOf x) (idOf y) (next-not x y (all-head (ordered x) y l (p .0) .0))) (own-order t y l rest (p .1) r)
 
-enter-order : (u t : ℕ) (a : List ℕ) (l : List Lease) (rest : List FileLease) → u < t → pairsBy ordered l ≡ true → ((v : ℕ) (b : List ℕ) → v ≤ t → orderedFrom v b rest ≡ true)
-    → orderedFrom u a (map (filedLease t) l ++ rest) ≡ true
+enter-order : (u t : ℕ) (a : List ℕ) (l : List Lease) (rest : List FileLease) → u < t → pairsBy ordered l ≡ true → ((v : ℕ) (b : List ℕ) → v ≤ t → leasesFrom v b rest ≡ true)
+    → leasesFrom u a (map (filedLease t) l ++ rest) ≡ true
 unfolding orderedFrom filedLease
 enter-order u t a [] rest h e r = r u a (omega arith)
 enter-order u t a (x ∷ l) rest h e r = passes _ _ (after-less u t a (idOf x) h) (own-order t x l rest e (λ b. r t b (omega arith)))
 
-leases-ordered : (u t : ℕ) (a : List ℕ) (ts : List TenantLeases) → u < t → All Good ts → orderedFrom u a (filedFrom t (map inUse ts)) ≡ true
+leases-ordered : (u t : ℕ) (a : List ℕ) (ts : List TenantLeases) → u < t → All Good ts → leasesFrom u a (filedFrom t (map inUse ts)) ≡ true
 unfolding All filedFrom orderedFrom
 leases-ordered u t a [] h v = refl
 leases-ordered u t a (x ∷ ts) h v = enter-order u t a (inUse x) (filedFrom (suc t) (map inUse ts)) h (good-order x (v .0)) (λ w b g. leases-ordered w (suc t) b ts (omega arith) (v .1))
@@ -482,14 +482,14 @@ module _ (s : State) (b : LeaseTable) (v : Typed s b) (e : soundB s b ≡ true) 
       le-leb _ _ (let g : length (ofTenant (i + 1) (filedFrom 1 (leasesOf b))) ≤ 16 = omega arith in g)
 
   pub book-fits : fitsB (filedBook s b) ≡ true
-  unfolding fitsB filedBook leasesFitB
+  unfolding fitsB filedBook leasesFitB countsFit
   book-fits =
       let n = tenants-few in let m = scopes-few in
       let a = ranges-many in let c = scopes-many in
       let d = length-map (scopesOf s) (filedScope (s .«tenant_count»)) in
-      passes _ _ (le-ltb 8 (length (rangesOf s)) (omega arith)) (passes _ _ (le-ltb 4 (length (map (filedScope (s .«tenant_count»)) (scopesOf s))) (omega arith))
-      (ap (λ (x : Bool). pick x (allTo (λ i. fewOf (filedFrom 1 (leasesOf b)) (i + 1)) 8) false) (leases-storable 1 (b .tenants) (omega arith) (omega (arith, v .tenants)) good)
-      ∙ every-few))
+      ap (λ (x : Bool). pick x (leasesFitB (filedFrom 1 (leasesOf b))) false) (passes _ _ (le-ltb 8 (length (rangesOf s)) (omega arith)) (le-leb (length (map (filedScope (s .«tenant_count»)) (scopesOf s))) 4 (omega arith)))
+      ∙ picked _ _ (ap (λ (x : Bool). pick x (allTo (λ i. fewOf (filedFrom 1 (leasesOf b)) (i + 1)) 8) false) (leases-storable 1 (b .tenants) (omega arith) (omega (arith, v .tenants)) good)
+      ∙ every-few)
     where
       every-few : pick true (allTo (λ i. fewOf (filedFrom 1 (leasesOf b)) (i + 1)) 8) false ≡ true
       every-few = picked _ _ (each-to (λ i. fewOf (filedFrom 1 (leasesOf b)) (i + 1)) 8 tenant-few)

@@ -1,7 +1,7 @@
 -- Definitions: the state file ("campus file" in document 01): its values and its format, section by section. Its lists have any length: what the
 -- records cannot hold is still a file, and unsound. A tenant is document 01's house.
 use mathlib.Core.Bool.{Bool, false, true}
-use mathlib.Core.List.{List, [], _∷_}
+use mathlib.Core.List.{List, []}
 use Prim.Native.Nat.{ℕ}
 use lib.Dec.{eqb, leb, ltb}
 use lib.ListN.{length}
@@ -10,6 +10,7 @@ use Rattle.identifier.specs.Order.{orderOf}
 use Rattle.lists.specs.Pick.{pick}
 use Rattle.state.specs.declared.ClientRange.{ClientRange}
 use Rattle.format.specs.Format.{Format, Got, _⊗_, _▷_, after, bad, closed, counted, number, octet, only, times, viewed}
+use Rattle.format.specs.Section.{orderedFrom, sectionFormat}
 
 -- a tenant's reserve and limit in a scope (document 01's share and limit)
 pub record FilePart : Type 0 where
@@ -43,13 +44,19 @@ pub record File : Type 0 where
 unfoldable pub isAfter : ℕ → List ℕ → ℕ → List ℕ → Bool
 isAfter t a u b = pick (ltb t u) false (pick (ltb u t) true (eqb (orderOf a b) 2))
 
+-- what of a lease the next is compared with, and whether a lease is out of order after that
+abbrev pub leaseKey : FileLease → ℕ × List ℕ
+leaseKey x = (x .tenant, x .id)
+
+abbrev pub leaseAfter : ℕ × List ℕ → FileLease → Bool
+leaseAfter k x = isAfter (k .0) (k .1) (x .tenant) (x .id)
+
 -- tenant t with identifier a comes first, and none is after the next
-unfoldable pub orderedFrom : ℕ → List ℕ → List FileLease → Bool
-orderedFrom t a [] = true
-orderedFrom t a (b ∷ l) = pick (isAfter t a (b .tenant) (b .id)) false (orderedFrom (b .tenant) (b .id) l)
+abbrev pub leasesFrom : ℕ → List ℕ → List FileLease → Bool
+leasesFrom t a = orderedFrom leaseKey leaseAfter (t, a)
 
 abbrev pub leasesOrdered : List FileLease → Bool
-leasesOrdered = orderedFrom 0 []
+leasesOrdered = leasesFrom 0 []
 
 abbrev pub tenantFormat : Format ClientRange
 tenantFormat = viewed (λ p. record { low = p .0; high = p .1 }) (λ t. (t .low, t .high)) (number ⊗ number)
@@ -77,7 +84,7 @@ abbrev pub leaseFormat : Format FileLease
 leaseFormat = viewed ofParts toParts (octet ⊗ octet ⊗ counted octet ⊗ octet ⊗ number ⊗ number ⊗ number ⊗ only rises (counted octet))
 
 abbrev pub leasesFormat : Format (List FileLease)
-leasesFormat = only leasesOrdered (counted leaseFormat)
+leasesFormat = sectionFormat leaseKey leaseAfter (0, []) leaseFormat
 
 -- the sections in the file's order, and the file of its sections
 abbrev pub Sections : Type 0

@@ -131,9 +131,14 @@ fewOf xs t = leb (length (ofTenant t xs)) 16
 unfoldable pub leasesFitB : List FileLease → Bool
 leasesFitB xs = pick (allBy storableB xs) (allTo (λ i. fewOf xs (i + 1)) 8) false
 
--- the records can hold the file: at most 8 tenants and 4 scopes (rule 1), and its leases
+-- so many tenants and scopes (rule 1)
+unfoldable pub countsFit : ℕ → ℕ → Bool
+countsFit tenants scopes = pick (ltb 8 tenants) false (leb scopes 4)
+
+-- the records can hold the settings
+abbrev pub settingsFitB : File → Bool
+settingsFitB f = countsFit (length (f .tenants)) (length (f .scopes))
+
+-- the records can hold the file: its settings and its leases
 unfoldable pub fitsB : File → Bool
-fitsB f =
-    pick (ltb 8 (length (f .tenants))) false
-    (pick (ltb 4 (length (f .scopes))) false
-    (leasesFitB (f .leases)))
+fitsB f = pick (settingsFitB f) (leasesFitB (f .leases)) false

@@ -1,49 +1,76 @@
 // The form of a state file, judged over its octets with nothing stored: where each section ends, offsets that rise, leases in order.
-ghost use mathlib.Core.List.{[]};
 ghost use mathlib.Core.Path.{_≡_};
 ghost use Prim.Native.Nat.{_*_, _+_, _<_, _≤_};
 ghost use lib.ListN.{drop, getD, length, take};
 ghost use Rattle.address_set.specs.AddressSet.{rises};
+ghost use Rattle.format.specs.Place.{countedEnd};
 ghost use Rattle.identifier.specs.Order.{orderOf};
-ghost use Rattle.state_file.specs.File.{fileOf, isAfter, leasesFormat};
-ghost use Rattle.state_file.specs.Place.{LeaseEnds, isGot, leasesFrom, endPlace};
+ghost use Rattle.state_file.specs.File.{isAfter};
+ghost use Rattle.state_file.specs.Place.{FormedBy, LeaseEnds, LeaseSection, LeasesEnd, nextAt};
 use crate::LONGEST_FILE;
+use crate::Layout;
+use crate::Places;
 use format::Place;
 
-// Whether the octets have the form of a state file.
-pub fn form(s: &[u8]) -> bool
-    ensures { λ r. ⌜ r ≡ isGot (fileOf (now (s .entry))) ⌝ }
+// Whether the octets have the form of a state file, and where its sections start.
+pub fn form(s: &[u8]) -> Layout
+    ensures { λ r. ⌜ FormedBy (now (s .entry)) r ⌝ }
 {
     let len = s.len();
     if LONGEST_FILE < len {
-        return false;
+        return Layout::Wrong;
     }
-    if len < 10 {
-        return false;
+    if len < 9 {
+        return Layout::Wrong;
     }
     if s[0] != 1 {
-        return false;
+        return Layout::Wrong;
     }
-    let h = wide(s[9]);
-    let scopes = 10 + h * 8;
-    if len <= scopes {
-        return false;
-    }
-    let k = wide(s[scopes]);
-    let leases = scopes + 1 + scopes_size(k, h);
-    if len < leases {
-        return false;
-    }
-    let end = leases_end(s, leases);
-    let Place::At(n) = end else {
-        return false;
+    let ranges = counted_end(s, 9, 8);
+    let Place::At(scopes) = ranges else {
+        return Layout::Wrong;
     };
-    n == len
+    let h = wide(s[9]);
+    let pools = counted_end(s, scopes, 6 + h * 2);
+    let Place::At(leases) = pools else {
+        return Layout::Wrong;
+    };
+    let records = leases_end(s, leases);
+    let Place::At(end) = records else {
+        return Layout::Wrong;
+    };
+    if end != len {
+        return Layout::Wrong;
+    }
+    Layout::Right(Places { scopes, leases })
+}
+
+// Where a count at `at` and as many values of z octets end.
+fn counted_end(s: &[u8], at: usize, z: usize) -> Place
+    requires { ⌜ z < 600 ⌝ }
+    ensures { λ r. ⌜ r ≡ countedEnd (now (s .entry)) at z ⌝ }
+{
+    if s.len() <= at {
+        return Place::Nowhere;
+    }
+    let end = at + 1 + octets_of(wide(s[at]), z);
+    if s.len() < end {
+        return Place::Nowhere;
+    }
+    Place::At(end)
+}
+
+// How many octets n values of z octets take.
+fn octets_of(n: usize, z: usize) -> usize
+    requires { ⌜ (n < 256) × (z < 600) ⌝ }
+    ensures { λ r. ⌜ (r ≡ n * z) × (r < 200000) ⌝ }
+{
+    n * z
 }
 
 // Where the section of leases that starts at `at` ends.
 fn leases_end(s: &[u8], at: usize) -> Place
-    ensures { λ r. ⌜ r ≡ endPlace (length (now (s .entry))) (leasesFormat .read (drop at (now (s .entry)))) ⌝ }
+    ensures { λ r. ⌜ LeaseSection (now (s .entry)) at r ⌝ }
 {
     if s.len() <= at {
         return Place::Nowhere;
@@ -55,7 +82,7 @@ fn leases_end(s: &[u8], at: usize) -> Place
 // Where `count` lease records that start at `from` end.
 fn leases_from(s: &[u8], from: usize, count: usize) -> Place
     requires { ⌜ from ≤ length (now s) ⌝ }
-    ensures { λ r. ⌜ r ≡ leasesFrom (length (now (s .entry))) count 0 [] (drop from (now (s .entry))) ⌝ }
+    ensures { λ r. ⌜ LeasesEnd count (now (s .entry)) from r ⌝ }
 {
     let mut here = from;
     let mut i: usize = 0;
@@ -122,7 +149,7 @@ fn rising(s: &[u8], at: usize, k: usize) -> bool
 
 // Whether the tenant and the identifier that stand apart are after those of the record at `here`.
 fn is_after(s: &[u8], tenant: u8, id_at: usize, id_len: usize, here: usize) -> bool
-    requires { ⌜ («id_at» + «id_len» ≤ length (now s)) × (here + (getD (now s) (here + 2) 0 + 17) ≤ length (now s)) ⌝ }
+    requires { ⌜ («id_at» + «id_len» ≤ length (now s)) × (nextAt (now s) here ≤ length (now s)) ⌝ }
     ensures { λ r. ⌜ r ≡ isAfter tenant (take «id_len» (drop «id_at» (now (s .entry)))) (getD (now (s .entry)) here 0) (take (getD (now (s .entry)) (here + 2) 0) (drop (here + 3) (now (s .entry)))) ⌝ }
 {
     let t = s[here];
@@ -159,14 +186,6 @@ fn order_parts(s: &[u8], a: usize, m: usize, b: usize, n: usize) -> u8
         return 0;
     }
     1
-}
-
-// How many octets k scopes of h tenants take.
-pub fn scopes_size(k: usize, h: usize) -> usize
-    requires { ⌜ (k < 256) × (h < 256) ⌝ }
-    ensures { λ r. ⌜ (r ≡ k * (6 + h * 2)) × (r < 200000) ⌝ }
-{
-    k * (6 + h * 2)
 }
 
 pub fn wide(x: u8) -> usize

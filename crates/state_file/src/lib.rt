@@ -34,14 +34,27 @@ pub struct Written {
     pub length: usize,
 }
 
+// Where the sections of a file start, after the server and the tenants.
+pub struct Places {
+    pub scopes: usize,
+    pub leases: usize,
+}
+
+// What the form of octets is: a file's, with its places, or none.
+pub enum Layout {
+    Right(Places),
+    Wrong,
+}
+
 // Reads a state file: the book, or refusal 20 for a wrong form and then 21 for an unsound file.
 pub fn read(s: &[u8]) -> Loaded
     ensures { λ r. ⌜ r ≡ readFile (now (s .entry)) ⌝ }
 {
-    if form(s) {
-        return load(s);
-    }
-    refusal(20)
+    let layout = form(s);
+    let Layout::Right(places) = layout else {
+        return refusal(20);
+    };
+    load(s, places.scopes, places.leases)
 }
 
 // Writes a book as a state file: its length, or refusal 22 for an unsound book and then 23 where the room is too short.

@@ -3,34 +3,39 @@ ghost use mathlib.Core.Path.{_≡_};
 ghost use Prim.Native.Nat.{_+_, _<_, _≤_};
 ghost use lib.Dec.{eqb};
 ghost use lib.ListN.{drop, getD, length, take};
+ghost use Rattle.format.specs.Section.{InRow, Inside};
 ghost use Rattle.lists.specs.All.{allBy, allTo};
 ghost use Rattle.lists.specs.Pick.{pick};
-ghost use Rattle.state_file.specs.Place.{Formed, InRow, Inside, fileAt, fileLeaseAt, leasesAt, leasesPlace, nextAt, scopesPlace};
-ghost use Rattle.state_file.specs.Records.{fewOf, fitsB, isOffset, leasesFitB, ofTenant, storableB};
-use crate::form::scopes_size;
+ghost use Rattle.state_file.specs.Place.{Formed, LeasesIn, fileAt, fileLeaseAt, leasesAt, nextAt, sectionAt};
+ghost use Rattle.state_file.specs.Records.{countsFit, fewOf, fitsB, isOffset, leasesFitB, ofTenant, storableB};
 use crate::form::wide;
 
 // Whether the records can hold the file.
-pub fn fits(s: &[u8]) -> bool
-    requires { ⌜ Formed (now s) ⌝ }
-    ensures { λ r. ⌜ r ≡ fitsB (fileAt (now (s .entry))) ⌝ }
+pub fn fits(s: &[u8], scopes: usize, leases: usize) -> bool
+    requires { ⌜ Formed (now s) scopes leases ⌝ }
+    ensures { λ r. ⌜ r ≡ fitsB (fileAt (now (s .entry)) scopes leases) ⌝ }
 {
-    if 8 < s[9] {
-        return false;
+    if counts_fit(s[9], s[scopes]) {
+        return leases_fit(s, leases);
     }
-    let at = scopes_place(s);
-    if 4 < s[at] {
-        return false;
-    }
-    leases_fit(s)
+    false
 }
 
-// Whether the records can hold the leases.
-fn leases_fit(s: &[u8]) -> bool
-    requires { ⌜ Formed (now s) ⌝ }
-    ensures { λ r. ⌜ r ≡ leasesFitB (fileAt (now (s .entry)) .leases) ⌝ }
+// Whether they can hold so many tenants and scopes.
+fn counts_fit(tenants: u8, scopes: u8) -> bool
+    ensures { λ r. ⌜ r ≡ countsFit tenants scopes ⌝ }
 {
-    let at = leases_place(s);
+    if 8 < tenants {
+        return false;
+    }
+    scopes <= 4
+}
+
+// Whether they can hold the leases, whose section starts at `at`.
+fn leases_fit(s: &[u8], at: usize) -> bool
+    requires { ⌜ LeasesIn (now s) at ⌝ }
+    ensures { λ r. ⌜ r ≡ leasesFitB (sectionAt (now (s .entry)) at) ⌝ }
+{
     let count = wide(s[at]);
     if all_storable(s, at + 1, count) {
         return all_few(s, at + 1, count);
@@ -40,7 +45,7 @@ fn leases_fit(s: &[u8]) -> bool
 
 // Whether records of the book can hold all of `count` leases whose records start at `from`.
 fn all_storable(s: &[u8], from: usize, count: usize) -> bool
-    requires { ⌜ InRow (now s) from count ⌝ }
+    requires { ⌜ InRow nextAt (now s) from count ⌝ }
     ensures { λ r. ⌜ r ≡ allBy storableB (leasesAt (now (s .entry)) from count) ⌝ }
 {
     let mut here = from;
@@ -58,7 +63,7 @@ fn all_storable(s: &[u8], from: usize, count: usize) -> bool
 
 // Whether a record of the book can hold the lease whose record starts at `at`.
 fn storable_at(s: &[u8], at: usize) -> bool
-    requires { ⌜ Inside (now s) at ⌝ }
+    requires { ⌜ Inside nextAt (now s) at ⌝ }
     ensures { λ r. ⌜ r ≡ storableB (fileLeaseAt (now (s .entry)) at) ⌝ }
 {
     let t = s[at];
@@ -93,7 +98,7 @@ fn low(s: &[u8], at: usize, k: usize) -> bool
 
 // Whether no tenant has more leases than records.
 fn all_few(s: &[u8], from: usize, count: usize) -> bool
-    requires { ⌜ InRow (now s) from count ⌝ }
+    requires { ⌜ InRow nextAt (now s) from count ⌝ }
     ensures { λ r. ⌜ r ≡ allTo (λ i. fewOf (leasesAt (now (s .entry)) from count) (i + 1)) 8 ⌝ }
 {
     let mut i: usize = 0;
@@ -107,7 +112,7 @@ fn all_few(s: &[u8], from: usize, count: usize) -> bool
 }
 
 fn few_of(s: &[u8], from: usize, count: usize, t: u8) -> bool
-    requires { ⌜ InRow (now s) from count ⌝ }
+    requires { ⌜ InRow nextAt (now s) from count ⌝ }
     ensures { λ r. ⌜ r ≡ fewOf (leasesAt (now (s .entry)) from count) t ⌝ }
 {
     count_of(s, from, count, t) <= 16
@@ -115,7 +120,7 @@ fn few_of(s: &[u8], from: usize, count: usize, t: u8) -> bool
 
 // How many of `count` leases whose records start at `from` are tenant t's.
 fn count_of(s: &[u8], from: usize, count: usize, t: u8) -> usize
-    requires { ⌜ InRow (now s) from count ⌝ }
+    requires { ⌜ InRow nextAt (now s) from count ⌝ }
     ensures { λ r. ⌜ r ≡ length (ofTenant t (leasesAt (now (s .entry)) from count)) ⌝ }
 {
     let mut n: usize = 0;
@@ -142,26 +147,10 @@ fn one_of(s: &[u8], at: usize, t: u8) -> usize
 
 // Where the record that starts at `at` ends.
 pub fn lease_next(s: &[u8], at: usize) -> usize
-    requires { ⌜ Inside (now s) at ⌝ }
+    requires { ⌜ Inside nextAt (now s) at ⌝ }
     ensures { λ r. ⌜ r ≡ nextAt (now (s .entry)) at ⌝ }
 {
     let n = wide(s[at + 2]);
     let k = wide(s[at + (n + 16)]);
     at + (n + 17 + k)
-}
-
-// Where the sections of scopes and of leases start.
-pub fn scopes_place(s: &[u8]) -> usize
-    requires { ⌜ Formed (now s) ⌝ }
-    ensures { λ r. ⌜ (r ≡ scopesPlace (now (s .entry))) × (r < length (now (s .entry))) ⌝ }
-{
-    10 + wide(s[9]) * 8
-}
-
-pub fn leases_place(s: &[u8]) -> usize
-    requires { ⌜ Formed (now s) ⌝ }
-    ensures { λ r. ⌜ (r ≡ leasesPlace (now (s .entry))) × (r < length (now (s .entry))) ⌝ }
-{
-    let at = scopes_place(s);
-    at + 1 + scopes_size(wide(s[at]), wide(s[9]))
 }

@@ -5,16 +5,15 @@ ghost use mathlib.Core.Path.{_≡_};
 ghost use Prim.Native.Nat.{_*_, _+_, _≤_};
 ghost use lib.ListN.{drop, getD, length, take};
 ghost use Rattle.address_set.specs.AddressSet.{readOffsets};
-ghost use Rattle.state.specs.Book.{zeroScope};
-ghost use Rattle.state_file.specs.Place.{AllStorable, Formed, StorableAt, fileAt, keepOne, keptFrom, keptOf, fileLeaseAt, leasesAt, rangeAt, row, fileScopeAt};
-ghost use Rattle.state_file.specs.Records.{filled, fitsB, stored, storedScope, storedState, storedTable, zeroRange};
+ghost use Rattle.format.specs.Place.{row};
+ghost use Rattle.state.specs.Book.{tableOf, zeroScope};
+ghost use Rattle.state_file.specs.Place.{AllStorable, Formed, LeasesIn, SettingsIn, StorableAt, fileAt, keepOne, keptFrom, keptOf, fileLeaseAt, leasesAt, rangeAt, fileScopeAt, sectionAt, stateAt};
+ghost use Rattle.state_file.specs.Records.{filled, leasesFitB, stored, storedScope, tenantsFrom, zeroRange};
 ghost use Rattle.state_file.specs.StateFile.{judged, loaded, refused};
 use crate::Loaded;
 use crate::form::wide;
 use crate::limits::fits;
 use crate::limits::lease_next;
-use crate::limits::leases_place;
-use crate::limits::scopes_place;
 use crate::no_state;
 use state::ClientRange;
 use state::Lease;
@@ -23,13 +22,13 @@ use state::Scope;
 use state::State;
 use state::TenantLeases;
 
-pub fn load(s: &[u8]) -> Loaded
-    requires { ⌜ Formed (now s) ⌝ }
-    ensures { λ r. ⌜ r ≡ loaded (fileAt (now (s .entry))) ⌝ }
+pub fn load(s: &[u8], scopes: usize, leases: usize) -> Loaded
+    requires { ⌜ Formed (now s) scopes leases ⌝ }
+    ensures { λ r. ⌜ r ≡ loaded (fileAt (now (s .entry)) scopes leases) ⌝ }
 {
-    if fits(s) {
-        let state = state_at(s);
-        let table = table_at(s);
+    if fits(s, scopes, leases) {
+        let state = state_at(s, scopes);
+        let table = table_at(s, leases);
         return judge(state, table);
     }
     refusal(21)
@@ -61,11 +60,11 @@ pub fn refusal(n: u8) -> Loaded
     }
 }
 
-fn state_at(s: &[u8]) -> State
-    requires { ⌜ Formed (now s) × (fitsB (fileAt (now s)) ≡ true) ⌝ }
-    ensures { λ r. ⌜ r ≡ storedState (fileAt (now (s .entry))) ⌝ }
+// The settings and the clock, by where the section of scopes starts.
+fn state_at(s: &[u8], at: usize) -> State
+    requires { ⌜ SettingsIn (now s) at ⌝ }
+    ensures { λ r. ⌜ r ≡ stateAt (now (s .entry)) at ⌝ }
 {
-    let at = scopes_place(s);
     let h = s[9];
     let k = s[at];
     let n = wide(h);
@@ -160,11 +159,11 @@ fn column_at(s: &[u8], at: usize, n: usize) -> [u8; 8]
     out
 }
 
-fn table_at(s: &[u8]) -> LeaseTable
-    requires { ⌜ Formed (now s) × (fitsB (fileAt (now s)) ≡ true) ⌝ }
-    ensures { λ r. ⌜ r ≡ storedTable (fileAt (now (s .entry))) ⌝ }
+// The leases, whose section starts at `at`.
+fn table_at(s: &[u8], at: usize) -> LeaseTable
+    requires { ⌜ LeasesIn (now s) at × (leasesFitB (sectionAt (now s) at) ≡ true) ⌝ }
+    ensures { λ r. ⌜ r ≡ tableOf (tenantsFrom 1 8 (sectionAt (now (s .entry)) at)) ⌝ }
 {
-    let at = leases_place(s);
     let count = wide(s[at]);
     let tenants = all_leases(s, at + 1, count);
     LeaseTable { tenants }

@@ -1,18 +1,18 @@
 -- Laws: values of a fixed number of octets: they stand wherever there are as many, and nowhere else.
 use mathlib.Core.Bool.{Bool, false, true}
 use mathlib.Core.List.{List, [], _∷_}
-use mathlib.Core.Path.{_∙_, _≡_, ap, refl, sym}
+use mathlib.Core.Path.{_∙_, _≡_, ap, refl, subst}
 use Prim.Native.Nat.{_*_, _+_, _<_, _≤_, suc, zero, ℕ}
 use native.Mathlib.Nat.{suc-mul, zero-mul}
 use native.Mathlib.Omega.{arith}
 use lib.Dec.{eqb, leb, ltb}
 use lib.ListN.{drop, getD, length, length-drop}
-use borrow.Author.Tests.{eq-eqb, le-leb, le-ltb, leb-false, leb-true, lt-leb, lt-ltb, ltb-false, ltb-true, ne-eqb}
+use borrow.Author.Tests.{eq-eqb, leb-false, leb-true, ltb-false, ltb-true, ne-eqb}
 use Rattle.lists.specs.Pick.{pick}
+use Rattle.lists.specs.laws.Pick.{pick-le, pick-lt, pick-not-le, pick-not-lt}
 use Rattle.octets.specs.Octets.{at32}
-use Rattle.format.specs.Format.{Format, Got, _⊗_, after, bad, counted, got, number, octet, readNumber, readOctet, readTimes, then, times, viewed}
+use Rattle.format.specs.Format.{Format, Got, _⊗_, after, bad, counted, got, number, octet, readNumber, readTimes, then, times, viewed}
 use Rattle.format.specs.Place.{EndsAs, Fails, Stands, countedEnd, row, walk}
-use Rattle.format.specs.declared.Place.{Place}
 use Rattle.format.specs.declared.Place.the-variants.{At, Nowhere}
 use Rattle.format.specs.laws.Format.{then-with}
 use Rattle.format.specs.laws.Place.{as-nowhere, as-there, counted-is, counted-none, fails-before, fails-then, number-stands, octet-fails, octet-stands, stands-then, stands-to, viewed-none, viewed-stands}
@@ -58,6 +58,10 @@ fixed-as e p = record {
   stands = λ s at h. stands-to (ap (λ (k : ℕ). at + k) e) (p .stands s at (omega arith));
   fails = λ s at a h. p .fails s at a (omega arith);
 }
+
+-- the same value in other words
+unfoldable pub fixed-is : {A : Type 0} {f : Format A} {z : ℕ} (p : Fixed f z) (v : List ℕ → ℕ → A) → ((s : List ℕ) (at : ℕ) → p .value s at ≡ v s at) → Fixed f z
+fixed-is {A} {f} {z} p v e = record { value = v; stands = λ s at h. subst (λ (x : A). Stands f s at x (at + z)) (e s at) (p .stands s at h); fails = p .fails }
 
 unfoldable pub fixed-viewed : {A B : Type 0} {f : Format A} {z : ℕ} (to : A → B) (from : B → A) → Fixed f z → Fixed (viewed to from f) z
 fixed-viewed to from p = record {
@@ -140,3 +144,39 @@ module _ {A : Type 0} {f : Format A} {z : ℕ} (p : Fixed f z) where
         go false e =
             let l = leb-false _ _ e in
             record { reads = first-read l ∙ ap (λ w. pick (eqb (getD s at 0) n) w bad) (p .fails s (at + 1) (omega arith) (omega arith) .reads) ∙ neither (eqb (getD s at 0) n) }
+
+pub walk-length : {A : Type 0} (v : List ℕ → ℕ → A) (next : List ℕ → ℕ → ℕ) (n : ℕ) (s : List ℕ) (at : ℕ) → length (walk v next n s at) ≡ n
+unfolding walk
+walk-length v next zero s at = refl
+walk-length v next (suc n) s at = ap suc (walk-length v next n s (next s at))
+
+-- what the place of an end says
+pub counted-place : (s : List ℕ) (at z : ℕ) {n : ℕ} → countedEnd s at z ≡ At n → (at < length s) × (n ≡ at + 1 + getD s at 0 * z) × (n ≤ length s)
+unfolding countedEnd pick
+counted-place s at z {n} e = go (leb (length s) at) refl (ltb (length s) (at + 1 + getD s at 0 * z)) refl e
+  where
+    go : (b : Bool) → leb (length s) at ≡ b → (c : Bool) → ltb (length s) (at + 1 + getD s at 0 * z) ≡ c → pick b Nowhere (pick c Nowhere (At (at + 1 + getD s at 0 * z))) ≡ At n
+        → (at < length s) × (n ≡ at + 1 + getD s at 0 * z) × (n ≤ length s)
+    go true p c q e = let w : _≡_ {A = ℕ} 0 1 = cc in absurd (omega arith)
+    go false p true q e = let w : _≡_ {A = ℕ} 0 1 = cc in absurd (omega arith)
+    go false p false q e = let w : n ≡ at + 1 + getD s at 0 * z = cc in let h : at + 1 + getD s at 0 * z ≤ length s = ltb-false _ _ q in (leb-false _ _ p, w, omega arith)
+
+-- as the code comes to it
+module _ (s : List ℕ) (at z : ℕ) where
+  pub counted-over : length s ≤ at → Nowhere ≡ countedEnd s at z
+  unfolding countedEnd
+  counted-over h = pick-le _ _ _ (length s) at h refl
+
+  module _ (n m : ℕ) (en : n ≡ getD s at 0) (em : m ≡ n * z) (h : at < length s) where
+    size : at + 1 + m ≡ at + 1 + getD s at 0 * z
+    size = ap (λ (k : ℕ). at + 1 + k) (em ∙ ap (λ (k : ℕ). k * z) en)
+
+    pub counted-past : length s < at + 1 + m → Nowhere ≡ countedEnd s at z
+    unfolding countedEnd
+    counted-past l = let e = size in pick-not-le _ _ _ (length s) at h (pick-lt _ _ _ (length s) _ (omega arith) refl)
+
+    pub counted-at : at + 1 + m ≤ length s → At (at + 1 + m) ≡ countedEnd s at z
+    unfolding countedEnd
+    counted-at l = let e = size in pick-not-le _ _ _ (length s) at h (pick-not-lt _ _ _ (length s) _ (omega arith) (ap At e))
+
+pub ruleset countedEnds = (counted-over, counted-past, counted-at)

@@ -2,7 +2,7 @@
 use mathlib.Core.Bool.{Bool, false, true}
 use mathlib.Core.List.{List, [], _++_, _∷_}
 use mathlib.Core.Path.{_∙_, _≡_, ap, ap₂, refl, subst, sym}
-use Prim.Native.Nat.{_+_, _-_, _<_, _≤_, suc, zero, ℕ}
+use Prim.Native.Nat.{_+_, _-_, _<_, _≤_, suc, ℕ}
 use native.Mathlib.Numerals.{add-one}
 use native.Mathlib.Omega.{arith}
 use lib.ListN.{drop, getD, length, length-append, take}
@@ -10,11 +10,11 @@ use lib.Seq.{take-at}
 use Rattle.lists.specs.Pick.{pick}
 use Rattle.format.specs.Format.{Format, Got, Octets, bad, got, readTimes, then, times}
 use Rattle.format.specs.Place.{EachAt, EndsAs, EndsWith, Stands, walk}
-use Rattle.format.specs.Section.{EntryEnds, Found, InRow, Inside, IsAt, RowEnds, SectionEnds, inOrder, orderedFrom, sectionFormat, verbatim}
+use Rattle.format.specs.Section.{EntryEnds, Found, InRow, IsAt, RowEnds, SectionEnds, inOrder, orderedFrom, sectionFormat, verbatim}
 use Rattle.format.specs.declared.Place.{Place}
 use Rattle.format.specs.declared.Place.the-variants.{At, Nowhere}
 use Rattle.format.specs.laws.Format.{Lawful, then-got, then-with}
-use Rattle.format.specs.laws.Place.{as-in, as-is, as-nowhere, as-there, counted-is, counted-none, only-none}
+use Rattle.format.specs.laws.Place.{as-in, as-nowhere, as-there, counted-is, counted-none, only-none}
 
 module _ {A K : Type 0} (key : A → K) (wrong : K → A → Bool) (f : Format A) {s : List ℕ} where
   -- one entry and then the others, as reading goes

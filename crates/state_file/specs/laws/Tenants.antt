@@ -7,12 +7,13 @@ use native.Mathlib.Omega.{arith}
 use lib.Dec.{eqb, ltb}
 use lib.ListN.{length}
 use borrow.Author.Tests.{eq-eqb, eqb-false, eqb-true, ltb-false, ltb-true, ne-eqb}
+use Rattle.format.specs.Section.{orderedFrom}
 use Rattle.identifier.specs.Order.{orderOf}
 use Rattle.lists.specs.All.{All}
 use Rattle.lists.specs.Filter.{filterBy}
 use Rattle.lists.specs.Pick.{pick}
 use Rattle.state.specs.declared.Lease.{Lease}
-use Rattle.state_file.specs.File.{FileLease, isAfter, leasesOrdered, orderedFrom}
+use Rattle.state_file.specs.File.{FileLease, isAfter, leasesFrom, leasesOrdered}
 use Rattle.state_file.specs.laws.Records.{Neat, StorableAt, filed-stored, stored-filed}
 use Rattle.state_file.specs.Records.{filedLease, filedFrom, ofTenant, stored, tenantsFrom}
 
@@ -92,14 +93,14 @@ module _ {A : Type 0} (key : A → ℕ) where
       apart-cons n t x l (s .0) (h .0) (s .1) ∙ ap {B = List A} (λ (r : List A). x ∷ r) (chained-apart n t l (sorted-from t (key x) l (s .0) (s .1)) (h .1))
 
 -- the file's order is sorted by tenant
-ordered-sorted : (t : ℕ) (a : List ℕ) (l : List FileLease) → orderedFrom t a l ≡ true → Sorted (λ x. x .tenant) t l
+ordered-sorted : (t : ℕ) (a : List ℕ) (l : List FileLease) → leasesFrom t a l ≡ true → Sorted (λ x. x .tenant) t l
 unfolding orderedFrom Sorted isAfter pick
 ordered-sorted t a [] e = tt
 ordered-sorted t a (x ∷ l) e = go (ltb t (x .tenant)) refl (ltb (x .tenant) t) refl (eqb (orderOf a (x .id)) 2) (ordered-sorted (x .tenant) (x .id) l) e
   where
     go : (b : Bool) → ltb t (x .tenant) ≡ b → (c : Bool) → ltb (x .tenant) t ≡ c → (d : Bool)
-        → (orderedFrom (x .tenant) (x .id) l ≡ true → Sorted (λ x. x .tenant) (x .tenant) l)
-        → pick (pick b false (pick c true d)) false (orderedFrom (x .tenant) (x .id) l) ≡ true → (t ≤ x .tenant) × Sorted (λ x. x .tenant) (x .tenant) l
+        → (leasesFrom (x .tenant) (x .id) l ≡ true → Sorted (λ x. x .tenant) (x .tenant) l)
+        → pick (pick b false (pick c true d)) false (leasesFrom (x .tenant) (x .id) l) ≡ true → (t ≤ x .tenant) × Sorted (λ x. x .tenant) (x .tenant) l
     go true p c q d ih e = (let h = ltb-true t (x .tenant) p in omega arith, ih e)
     go false p true q d ih e = let w : _≡_ {A = ℕ} 0 1 = cc in absurd (omega arith)
     go false p false q true ih e = let w : _≡_ {A = ℕ} 0 1 = cc in absurd (omega arith)

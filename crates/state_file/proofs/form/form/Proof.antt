@@ -1,63 +1,36 @@
--- `form::form` meets its contract: by `form-leases`, `form-long`, `form-scopes`, `form-short`, `form-tag`.
-use mathlib.Core.Path.{_∙_, sym}
-use denote.Ref.{now}
-use lib.ListN.{length}
+-- `form` meets its contract: by `forms`.
+use Rattle.state_file.proofs.WholeForm.{form-pools, forms}
 use borrow.Author.Needs.{needs}
-use Rattle.state_file.proofs.WholeForm.{form-leases, form-long, form-scopes, form-short, form-tag, form-tenants, place-at, place-none}
 use Rattle.state_file.proofs.form.form.Statement.{statement}
 use Rattle.state_file.proofs.form.form.Tie as tie
 
-returns : tie.Need-returns
-returns c =
-    form-long (now (c .before .before .args .s)) (search needs)
-
-returns-2 : tie.Need-returns-2
-returns-2 c =
-    form-short (now (c .before .before .before .args .s)) (search needs)
-
-returns-3 : tie.Need-returns-3
-returns-3 c =
-    form-tag (now (c .before .before .before .before .before .args .s)) (search needs) (c .if3 .taken)
-
-returns-4 : tie.Need-returns-4
-returns-4 c =
-    form-tenants (now (c .before .before .before .before .before .before .before .before .args .s)) (c .before .before .before .if3 .left) (search needs) _ (c .before .wide .ensures .0) (search needs)
-
-returns-5 : tie.Need-returns-5
-returns-5 c =
-    form-scopes (now (c .before .before .before .before .before .before .before .before .before .before .before .before .args .s)) (c .before .before .before .before .before .before .before .if3 .left) (search needs) _ (c .before .before .before .before .before .wide .ensures .0) _ (c .before .before .wide2 .ensures .0) (search needs) _ (c .before .scopes-size .ensures .0) (search needs)
-
-returns-6 : tie.Need-returns-6
-returns-6 c =
-    form-leases (now (c .before .before .before .before .before .before .before .before .before .before .before .before .before .before .before .args .s)) (c .before .before .before .before .before .before .before .before .before .before .if3 .left) (search needs) _ (c .before .before .before .before .before .before .before .before .wide .ensures .0) _ (c .before .before .before .before .before .wide2 .ensures .0) (search needs) _ _ (c .before .before .before .before .scopes-size .ensures .0) (search needs) (search needs)
-    (place-none _ _ (sym (c .enum-told .given .1) ∙ c .before .before .leases-end .ensures))
-
-returns-7 : tie.Need-returns-7
-returns-7 c =
-    form-leases (now (c .before .before .before .before .before .before .before .before .before .before .before .before .before .before .before .before .args .s)) (c .before .before .before .before .before .before .before .before .before .before .before .if3 .left) (search needs) _ (c .before .before .before .before .before .before .before .before .before .wide .ensures .0) _ (c .before .before .before .before .before .before .wide2 .ensures .0) (search needs) _ _ (c .before .before .before .before .before .scopes-size .ensures .0) (search needs) (search needs)
-    (place-at (length (now (c .before .before .before .before .before .before .before .before .before .before .before .before .before .before .before .before .args .s))) _ _ (search needs) (sym (c .before .end .given .1) ∙ c .before .before .before .leases-end .ensures))
+-- src/form.rt:33:18
+shared-slice-read-wide : tie.Need-shared-slice-read-wide
+shared-slice-read-wide c = let p = form-pools _ (c .before .before .before .before .counted-end .ensures) (c .before .before .ranges .given .1) in search needs
 
 pub form-spec : {M : Type 1} → statement M
 form-spec =
     tie.close
     (tie.spec
-    returns
-    returns-2
-    (λ c. search needs)
-    returns-3
-    (λ c. search needs)
-    (λ c κs. search needs)
-    (λ c. search needs)
-    (λ c. search needs)
-    returns-4
-    (λ c. search needs)
-    (λ c κs. search needs)
-    (λ c. search needs)
-    (λ c κs. search needs)
-    (λ c. search needs)
-    returns-5
-    (λ c κs. search needs)
-    (λ c. search needs)
-    (λ c. search needs)
-    returns-6
-    returns-7)
+    (λ c. search (forms, needs))  -- src/form.rt:21:9 returns
+    (λ c. search (forms, needs))  -- src/form.rt:24:9 returns-2
+    (λ c. search (forms, needs))  -- src/form.rt:26:8 shared-slice-read-if3
+    (λ c. search (forms, needs))  -- src/form.rt:27:9 returns-3
+    (λ c κs. search (forms, needs))  -- src/form.rt:29:9 counted-end-requires
+    (λ c. search (forms, needs))  -- src/form.rt:30:19 enum-known-ranges
+    (λ c. search (forms, needs))  -- src/form.rt:31:9 enum-told
+    (λ c. search (forms, needs))  -- src/form.rt:31:9 returns-4
+    shared-slice-read-wide
+    (λ c κs. search (forms, needs))  -- src/form.rt:33:9 wide-requires
+    (λ c. search (forms, needs))  -- src/form.rt:34:44 mul-counted-end
+    (λ c. search (forms, needs))  -- src/form.rt:34:40 add-counted-end
+    (λ c κs. search (forms, needs))  -- src/form.rt:34:9 counted-end-requires-2
+    (λ c. search (forms, needs))  -- src/form.rt:35:19 enum-known-pools
+    (λ c. search (forms, needs))  -- src/form.rt:36:9 enum-told-2
+    (λ c. search (forms, needs))  -- src/form.rt:36:9 returns-5
+    (λ c κs. search (forms, needs))  -- src/form.rt:38:9 leases-end-requires
+    (λ c. search (forms, needs))  -- src/form.rt:39:19 enum-known-records
+    (λ c. search (forms, needs))  -- src/form.rt:40:9 enum-told-3
+    (λ c. search (forms, needs))  -- src/form.rt:40:9 returns-6
+    (λ c. search (forms, needs))  -- src/form.rt:43:9 returns-7
+    (λ c. search (forms, needs)))  -- src/form.rt:16:1 returns-8

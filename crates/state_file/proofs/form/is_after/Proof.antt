@@ -1,6 +1,6 @@
 -- `form::is_after` meets its contract: by `afters`.
 use borrow.Author.Needs.{needs}
-use Rattle.state_file.proofs.Section.{afters}
+use Rattle.state_file.proofs.Stands.{afters}
 use Rattle.state_file.proofs.form.is_after.Statement.{statement}
 use Rattle.state_file.proofs.form.is_after.Tie as tie
 

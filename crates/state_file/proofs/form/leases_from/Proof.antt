@@ -1,9 +1,7 @@
--- `form::leases_from` meets its contract: its loop keeps `LeasesInv`; by `ends-at`, `ends-in`, `ends-not`, `leases-after`, `leases-broken`.
-use mathlib.Core.Path.{_∙_, sym}
+-- `leases_from` meets its contract: its loop keeps `LeasesInv`; by `leaseWalk`.
 use Prim.Native.Nat.{_-_}
-use native.Mathlib.Omega.{arith}
+use Rattle.state_file.proofs.Stands.{LeasesInv, lease-in, leaseWalk}
 use borrow.Author.Needs.{needs}
-use Rattle.state_file.proofs.Section.{LeasesInv, ends-at, ends-in, ends-not, leases-after, leases-broken, leases-next, leases-start, sections}
 use Rattle.state_file.proofs.form.leases_from.Statement.{statement}
 use Rattle.state_file.proofs.form.leases_from.Tie as tie
 
@@ -13,39 +11,21 @@ Inv-loop s from count here₀ i₀ tenant₀ id-at₀ id-len₀ here i tenant id
 abbrev μ-loop : tie.MeasureT-loop
 μ-loop s from count here₀ i₀ tenant₀ id-at₀ id-len₀ here i tenant id-at id-len = count - i
 
-returns : tie.Need-returns Inv-loop μ-loop
-returns c =
-    leases-broken (c .before .before .before .before .loop .inv) (search needs) (ends-not (c .before .before .lease-end .ensures) (c .enum-told .given .1))
-
-is-after-requires : tie.Need-is-after-requires Inv-loop μ-loop
-is-after-requires c κs =
-    let w = ends-at (c .before .before .before .lease-end .ensures) (c .before .end .given .1) in let p = ends-in w in (search needs, omega arith)
-
-returns-2 : tie.Need-returns-2 Inv-loop μ-loop
-returns-2 c =
-    let w = ends-at (c .before .before .before .before .before .lease-end .ensures) (c .before .before .before .end .given .1) in
-    leases-after (c .before .before .before .before .before .before .before .loop .inv) _ (search needs) w (sym (c .if1 .taken) ∙ c .before .is-after .ensures)
-
+-- src/form.rt:100:18
 shared-slice-read-tenant : tie.Need-shared-slice-read-tenant Inv-loop μ-loop
-shared-slice-read-tenant c =
-    let w = ends-at (c .before .before .before .before .before .before .lease-end .ensures) (c .before .before .before .before .end .given .1) in let p = ends-in w in search needs
+shared-slice-read-tenant c = let p = lease-in (c .before .before .before .before .before .before .lease-end .ensures) (c .before .before .before .before .end .given .1) in search needs
 
+-- src/form.rt:101:25
 add-wide : tie.Need-add-wide Inv-loop μ-loop
-add-wide c =
-    let w = ends-at (c .before .before .before .before .before .before .lease-end .ensures) (c .before .before .before .before .end .given .1) in let p = ends-in w in search needs
+add-wide c = let p = lease-in (c .before .before .before .before .before .before .lease-end .ensures) (c .before .before .before .before .end .given .1) in search needs
 
+-- src/form.rt:101:23
 shared-slice-read-wide : tie.Need-shared-slice-read-wide Inv-loop μ-loop
-shared-slice-read-wide c =
-    let w = ends-at (c .before .before .before .before .before .before .before .lease-end .ensures) (c .before .before .before .before .before .end .given .1) in let p = ends-in w in search needs
+shared-slice-read-wide c = let p = lease-in (c .before .before .before .before .before .before .before .lease-end .ensures) (c .before .before .before .before .before .end .given .1) in search needs
 
+-- src/form.rt:102:17
 add-id-at : tie.Need-add-id-at Inv-loop μ-loop
-add-id-at c =
-    let w = ends-at (c .before .before .before .before .before .before .before .before .lease-end .ensures) (c .before .before .before .before .before .before .end .given .1) in let p = ends-in w in search needs
-
-loop-again : tie.Need-loop-again Inv-loop μ-loop
-loop-again c =
-    let w = ends-at (c .before .before .before .before .before .before .before .before .lease-end .ensures) (c .before .before .before .before .before .before .end .given .1) in
-    leases-next (c .before .before .before .before .before .before .before .before .before .before .loop .inv) _ _ (search needs) w (sym (c .before .before .before .if1 .left) ∙ c .before .before .before .before .is-after .ensures) (c .wide .ensures .0)
+add-id-at c = let p = lease-in (c .before .before .before .before .before .before .before .before .lease-end .ensures) (c .before .before .before .before .before .before .end .given .1) in search needs
 
 pub leases-from-spec : {M : Type 1} → statement M
 leases-from-spec =
@@ -53,19 +33,19 @@ leases-from-spec =
     (tie.spec
     Inv-loop
     μ-loop
-    (λ c. search (leases-start, needs))
-    (λ c κs. search (sections, needs))
-    (λ c. search (sections, needs))
-    (λ c. search (sections, needs))
-    returns
-    is-after-requires
-    returns-2
+    (λ c. search (leaseWalk, needs))  -- src/form.rt:92:5 loop-holds
+    (λ c κs. search (leaseWalk, needs))  -- src/form.rt:93:13 lease-end-requires
+    (λ c. search (leaseWalk, needs))  -- src/form.rt:94:23 enum-known-end
+    (λ c. search (leaseWalk, needs))  -- src/form.rt:95:13 enum-told
+    (λ c. search (leaseWalk, needs))  -- src/form.rt:95:13 returns
+    (λ c κs. search (leaseWalk, needs))  -- src/form.rt:97:12 is-after-requires
+    (λ c. search (leaseWalk, needs))  -- src/form.rt:98:13 returns-2
     shared-slice-read-tenant
     add-wide
     shared-slice-read-wide
-    (λ c κs. search (sections, needs))
+    (λ c κs. search (leaseWalk, needs))  -- src/form.rt:101:9 wide-requires
     add-id-at
-    (λ c. search (sections, needs))
-    (λ c. search (sections, needs))
-    loop-again
-    (λ c. search (sections, needs)))
+    (λ c. search (leaseWalk, needs))  -- src/form.rt:104:9 add-i
+    (λ c. search (leaseWalk, needs))  -- src/form.rt:92:5 loop-less
+    (λ c. search (leaseWalk, needs))  -- src/form.rt:92:5 loop-again
+    (λ c. search (leaseWalk, needs)))  -- src/form.rt:83:1 returns-3

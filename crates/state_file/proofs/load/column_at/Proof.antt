@@ -3,7 +3,7 @@ use Prim.Native.Nat.{_-_}
 use lib.ListN.{getD}
 use borrow.Author.Needs.{needs}
 use Rattle.state_file.proofs.Pad.{PadInv, pads}
-use Rattle.state_file.specs.Place.{row}
+use Rattle.format.specs.Place.{row}
 use Rattle.state_file.proofs.load.column_at.Statement.{statement}
 use Rattle.state_file.proofs.load.column_at.Tie as tie
 

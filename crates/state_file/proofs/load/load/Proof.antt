@@ -1,6 +1,6 @@
--- `load::load` meets its contract: by `loaded-not`, `loaded-yes`, `test-true`.
+-- `load` meets its contract: by `loaded-yes`, `loaded-not`, `fileParts`.
+use Rattle.state_file.proofs.Loads.{fileParts, loaded-not, loaded-yes}
 use borrow.Author.Needs.{needs}
-use Rattle.state_file.proofs.Loads.{loaded-not, loaded-yes, test-true}
 use Rattle.state_file.proofs.load.load.Statement.{statement}
 use Rattle.state_file.proofs.load.load.Tie as tie
 
@@ -8,10 +8,10 @@ pub load-spec : {M : Type 1} → statement M
 load-spec =
     tie.close
     (tie.spec
-    (λ c κs. search needs)
-    (λ c κs. search (test-true, needs))
-    (λ c κs. search (test-true, needs))
-    (λ c κs. search needs)
-    (λ c. search (loaded-yes, loaded-not, needs))
-    (λ c κs. search needs)
-    (λ c. search (loaded-yes, loaded-not, needs)))
+    (λ c κs. search (loaded-yes, loaded-not, fileParts, needs))  -- src/load.rt:29:8 fits-requires
+    (λ c κs. search (loaded-yes, loaded-not, fileParts, needs))  -- src/load.rt:30:13 state-at-requires
+    (λ c κs. search (loaded-yes, loaded-not, fileParts, needs))  -- src/load.rt:31:13 table-at-requires
+    (λ c κs. search (loaded-yes, loaded-not, fileParts, needs))  -- src/load.rt:32:9 judge-requires
+    (λ c. search (loaded-yes, loaded-not, fileParts, needs))  -- src/load.rt:32:9 returns
+    (λ c κs. search (loaded-yes, loaded-not, fileParts, needs))  -- src/load.rt:34:5 refusal-requires
+    (λ c. search (loaded-yes, loaded-not, fileParts, needs)))  -- src/load.rt:25:1 returns-2

@@ -2,7 +2,8 @@
 use Prim.Native.Nat.{_-_}
 use borrow.Author.Needs.{needs}
 use Rattle.state_file.proofs.Pad.{PadInv, pads}
-use Rattle.state_file.specs.Place.{rangeAt, row}
+use Rattle.state_file.specs.Place.{rangeAt}
+use Rattle.format.specs.Place.{row}
 use Rattle.state_file.specs.Records.{zeroRange}
 use Rattle.state_file.proofs.load.ranges_at.Statement.{statement}
 use Rattle.state_file.proofs.load.ranges_at.Tie as tie

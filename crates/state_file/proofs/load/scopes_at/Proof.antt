@@ -7,7 +7,8 @@ use lib.ListN.{length}
 use borrow.Author.Needs.{needs}
 use Rattle.state.specs.Book.{zeroScope}
 use Rattle.state_file.proofs.Pad.{PadInv, row-in, scopePads}
-use Rattle.state_file.specs.Place.{row, fileScopeAt}
+use Rattle.state_file.specs.Place.{fileScopeAt}
+use Rattle.format.specs.Place.{row}
 use Rattle.state_file.specs.Records.{storedScope}
 use Rattle.state_file.proofs.load.scopes_at.Statement.{statement}
 use Rattle.state_file.proofs.load.scopes_at.Tie as tie

@@ -8,6 +8,7 @@ mod Pad
 mod Loads
 mod RowLaws
 mod Writes
+mod Sets
 mod ReadAgain
 mod Short
 mod WriteAgain

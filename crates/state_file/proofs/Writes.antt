@@ -86,17 +86,6 @@ pub lease-wrote : {r₀ r₁ r₂ r₃ : List ℕ} {at a b c : ℕ} (t : ℕ) (l
 lease-wrote {r₀} {r₁} {r₂} {r₃} {at} {a} {b} {c} t l h p q w = subst (λ (o : List ℕ). Wrote r₀ at o r₃ c) (sym (lease-octets t l)) (wrote-joined h (wrote-joined h p q) w)
 
 -- the list that is lent and its length
-pub listed-run : {r₀ r₁ : List ℕ} {at n k : ℕ} (m : ℕ) (o : Offsets) → o ≡ listed (offsets m) → n ≡ o .count → Wrote r₀ at (take n (o .list)) r₁ k → Wrote r₀ at (offsets m) r₁ k
-unfolding listed
-listed-run {n = n} m o e p w =
-    let l : o .list ≡ offsets m ++ replicate (64 - length (offsets m)) 0 = ap (λ (x : Offsets). x .list) e in
-    let q : n ≡ length (offsets m) = p ∙ ap (λ (x : Offsets). x .count) e in
-    wrote-as (ap₂ (λ (k : ℕ) (x : List ℕ). take k x) q l ∙ take-append-seam (offsets m) (replicate (64 - length (offsets m)) 0)) w
-
-pub listed-count : (m : ℕ) (o : Offsets) → o ≡ listed (offsets m) → o .count ≡ length (offsets m)
-unfolding listed
-listed-count m o e = ap (λ (x : Offsets). x .count) e
-
 -- ---- settings
 pub part-wrote : {r₀ r₁ r₂ : List ℕ} {at a b x y : ℕ} → at ≤ length r₀ → Wrote r₀ at (x ∷ []) r₁ a → Wrote r₁ a (y ∷ []) r₂ b → Wrote r₀ at (x ∷ y ∷ []) r₂ b
 part-wrote h p q = wrote-joined h p q
@@ -143,14 +132,6 @@ section-wrote {r₀} {r₁} {at = at} {a = a} k h e p q = wrote-joined h (wrote-
 
 pub server-wrote : {r₀ r₁ r₂ r₃ : List ℕ} {a b c : ℕ} (x y : ℕ) → Wrote r₀ 0 (1 ∷ []) r₁ a → Wrote r₁ a (octets32 x) r₂ b → Wrote r₂ b (octets32 y) r₃ c → Wrote r₀ 0 (1 ∷ octets32 x ++ octets32 y) r₃ c
 server-wrote x y p q w = wrote-joined (omega arith) (wrote-joined (omega arith) p q) w
-
-pub listed-long : (m : ℕ) (o : Offsets) → o ≡ listed (offsets m) → o .count ≤ length (o .list)
-unfolding listed
-listed-long m o e =
-    let p = ap (λ (x : Offsets). x .count) e in
-    let q = ap (λ (x : Offsets). length (x .list)) e in
-    let r = length-append (offsets m) (replicate (64 - length (offsets m)) 0) in
-    omega arith
 
 -- ---- lengths
 -- a lease has as many octets whoever's it is

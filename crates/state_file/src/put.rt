@@ -224,11 +224,23 @@ fn put_addresses(buffer: &mut [u8], at: usize, set: u64) -> usize
     requires { ⌜ at + (length (offsets set) + 1) ≤ length (now buffer) ⌝ }
     ensures { λ r. ⌜ Wrote (now (buffer .entry)) at (length (offsets set) ∷ offsets set) (now (buffer .exit)) r ⌝ }
 {
-    let o = address_set::to_offsets(set);
-    let list = o.list;
-    let n = o.count;
     let a = octets::put_u8(buffer, at, address_set::count(set) as u8);
-    octets::put_run(buffer, a, &list, n)
+    put_offsets(buffer, a, set)
+}
+
+// The offsets of a set, lowest first.
+fn put_offsets(buffer: &mut [u8], at: usize, set: u64) -> usize
+    requires { ⌜ at + length (offsets set) ≤ length (now buffer) ⌝ }
+    ensures { λ r. ⌜ Wrote (now (buffer .entry)) at (offsets set) (now (buffer .exit)) r ⌝ }
+{
+    let mut left = set;
+    let mut to = at;
+    while 0 < left {
+        let a = u64::trailing_zeros(left);
+        to = octets::put_u8(buffer, to, a as u8);
+        left = address_set::difference(left, 1u64 << (a as u64));
+    }
+    to
 }
 
 fn put_number(buffer: &mut [u8], at: usize, v: u32) -> usize

@@ -2,6 +2,7 @@
 use Prim.Native.Nat.{ℕ, _-_, min}
 use mathlib.Core.Bool.{Bool, true, _&&_}
 use mathlib.Core.List.{List, [], _∷_, map}
+use mathlib.Core.Path.{_≡_}
 use lib.Dec.{leb, eqb}
 use lib.ListN.{length, drop, getD, replicate, set}
 use Rattle.lists.specs.All.{allBy, pairsBy, allTo}
@@ -11,7 +12,7 @@ use Rattle.state.specs.declared.TenantLeases.{TenantLeases}
 use Rattle.state.specs.declared.LeaseTable.{LeaseTable}
 use Rattle.state.specs.declared.Scope.{Scope}
 use Rattle.state.specs.declared.State.{State}
-use Rattle.state.specs.Book.{differ, inUse, leasesOf, inScope, heldOf, addedIf, scopeAt, limitAt, committedSum}
+use Rattle.state.specs.Book.{differ, ordered, inUse, leasesOf, inScope, heldOf, addedIf, scopeAt, limitAt, committedSum}
 use Rattle.soundness.specs.declared.ScopeRules.{ScopeRules}
 use Rattle.soundness.specs.declared.LeaseRules.{LeaseRules}
 use Rattle.soundness.specs.declared.TenantRules.{TenantRules}
@@ -22,8 +23,9 @@ use Rattle.soundness.specs.declared.HoldingRules.{HoldingRules}
 use Rattle.soundness.specs.declared.Held.{Held}
 use Rattle.soundness.specs.declared.Gathered.{Gathered}
 use Rattle.soundness.specs.declared.Checked.{Checked}
+use Rattle.soundness.specs.declared.Pass.{Pass}
 use Rattle.soundness.specs.declared.HeldTable.{HeldTable}
-use Rattle.soundness.specs.Sound.{tenantsIn, scopesIn, sizeB, countsB, idB, recordsB, offsetsB, rule3, poolB, rule4, ttlB, rule5, reservesB, rule6, leaseB, disjoint, compatible, layoutB, paddedB, tailB, settingsB, firstBroken, oneTo}
+use Rattle.soundness.specs.Sound.{tenantsIn, scopesIn, sizeB, countsB, idB, recordsB, offsetsB, rule3, poolB, rule4, ttlB, rule5, reservesB, rule6, leaseB, disjoint, compatible, layoutB, paddedB, tailB, settingsB, firstBroken, oneTo, unusedB}
 
 -- ---- scopes
 unfoldable pub scopeRulesOf : ℕ → Scope → ScopeRules
@@ -123,8 +125,17 @@ addedLease s g l = record { rules = andLeases s (g .rules) l; held = addedSets (
 abbrev pub emptySets : ℕ → Held
 emptySets n = record { sets = 0 ∷ 0 ∷ 0 ∷ 0 ∷ []; count = n; «first_end» = 4294967295 }
 
+unfoldable pub noneGathered : ℕ → Gathered
+noneGathered n = record { rules = record { ids = true; offsets = true; leases = true; padded = true }; held = emptySets n; apart = true }
+
 unfoldable pub gatheredOf : State → TenantLeases → Gathered
 gatheredOf s t = record { rules = leasesAll s (inUse t); held = heldSets t; apart = freshAll (emptySets (t .count)) (inUse t) }
+
+-- what one pass over a tenant's records gives: where `swift`, the first eight octets of its identifiers rise
+pub record Passed (s : State) (t : TenantLeases) (p : Pass) : Type 0 where
+  pub gathers : p .gathered ≡ gatheredOf s t
+  pub rises : p .swift ≡ true → true ≡ pairsBy ordered (inUse t)
+  pub rest : p .unused ≡ allBy unusedB (drop (t .count) (t .leases))
 
 unfoldable pub checkedOf : State → TenantLeases → Checked
 checkedOf s t = record { rules = tenantRulesOf s t; held = heldSets t }

@@ -1,15 +1,19 @@
 // One tenant's leases in one loop: the rules on each, what the tenant holds, and whether each is on addresses of its own.
 ghost use mathlib.Core.Path.{_≡_};
-ghost use Rattle.soundness.specs.Parts.{poolsOf, freshIn, addedLease, gatheredOf};
+ghost use mathlib.Core.Bool.{true};
+ghost use Rattle.state.specs.Book.{ordered};
+ghost use Rattle.soundness.specs.Parts.{poolsOf, freshIn, addedLease, noneGathered, Passed};
 use crate::Gathered;
 use crate::Held;
 use crate::LeaseRules;
+use crate::Pass;
 use crate::holdings::add_sets;
 use crate::leases::and_leases;
 use crate::numbers::both;
 use crate::numbers::is_one_to;
 use crate::numbers::set_at;
 use crate::numbers::sets_apart;
+use crate::records::is_unused;
 use state::Lease;
 use state::State;
 use state::TenantLeases;
@@ -42,13 +46,12 @@ fn add_lease(s: State, pools: [u64; 4], g: Gathered, l: Lease) -> Gathered
     }
 }
 
-pub fn gather(s: State, pools: [u64; 4], t: TenantLeases) -> Gathered
-    requires { ⌜ pools ≡ poolsOf s ⌝ }
-    ensures { λ r. ⌜ r ≡ gatheredOf s t ⌝ }
+fn no_lease_yet(count: usize) -> Gathered
+    ensures { λ r. ⌜ r ≡ noneGathered count ⌝ }
 {
     let none = Held {
         sets: [0u64; 4],
-        count: t.count,
+        count: count,
         first_end: 4294967295,
     };
     let all = LeaseRules {
@@ -57,17 +60,60 @@ pub fn gather(s: State, pools: [u64; 4], t: TenantLeases) -> Gathered
         leases: true,
         padded: true,
     };
-    let mut now = Gathered {
+    Gathered {
         rules: all,
         held: none,
         apart: true,
-    };
+    }
+}
+
+// Whether the first eight octets say that a lease comes before another.
+fn is_swift(a: Lease, b: Lease) -> bool
+    ensures { λ r. ⌜ (r ≡ true → ordered a b ≡ true) ⌝ }
+{
+    if 8 <= a.id_len {
+        if 8 <= b.id_len {
+            let i = a.id;
+            let j = b.id;
+            let x = identifier::word(i, 0);
+            let y = identifier::word(j, 0);
+            return x < y;
+        }
+    }
+    false
+}
+
+// All loops over a tenant's records are here, so that they are copied once.
+pub fn pass(s: State, pools: [u64; 4], t: TenantLeases) -> Pass
+    requires { ⌜ pools ≡ poolsOf s ⌝ }
+    ensures { λ r. ⌜ Passed s t r ⌝ }
+{
     let n = state::cut16(t.count);
+    let mut now = no_lease_yet(t.count);
     let mut i: usize = 0;
     while i < n {
         let l = t.leases[i];
         now = add_lease(s, pools, now, l);
         i += 1;
     }
-    now
+    let mut swift = true;
+    let mut j: usize = 0;
+    while j + 1 < n {
+        let a = t.leases[j];
+        j += 1;
+        let b = t.leases[j];
+        swift = both(swift, is_swift(a, b));
+    }
+    let mut unused = true;
+    let mut k: usize = n;
+    while k < 16 {
+        let l = t.leases[k];
+        unused = both(unused, is_unused(l));
+        k += 1;
+    }
+    Pass {
+        gathered: now,
+        swift: swift,
+        unused: unused,
+    }
 }

@@ -3,6 +3,7 @@ mod gather;
 mod holdings;
 mod leases;
 mod numbers;
+mod records;
 mod settings;
 mod tenants;
 
@@ -13,10 +14,10 @@ ghost use Rattle.soundness.specs.Parts.{heldSets, tableRulesOf, joinedRu
 use crate::holdings::add_sets;
 use crate::holdings::holding_rules;
 use crate::numbers::both;
+use crate::records::is_unused;
 use crate::settings::settings_rules;
 use crate::tenants::and_tenants;
 use crate::tenants::check_tenant;
-use crate::tenants::is_unused;
 use state::Lease;
 use state::LeaseTable;
 use state::State;
@@ -97,6 +98,13 @@ struct Gathered {
     rules: LeaseRules,
     held: Held,
     apart: bool,
+}
+
+// What one pass over a tenant's records gives; `swift` where the first eight octets of its identifiers rise.
+struct Pass {
+    gathered: Gathered,
+    swift: bool,
+    unused: bool,
 }
 
 // One tenant's rules, and what it holds.

@@ -1,50 +1,18 @@
-// The rules on one tenant's leases: 8, 10, the order and the unused records.
+// The rules on one tenant's leases: 8, 10 and the order.
 ghost use mathlib.Core.Path.{_≡_};
-ghost use mathlib.Core.Bool.{_&&_};
-ghost use Prim.Native.Nat.{_≤_};
-ghost use lib.ListN.{drop};
-ghost use Rattle.lists.specs.All.{allBy, pairsBy};
+ghost use mathlib.Core.Bool.{true};
+ghost use Rattle.lists.specs.All.{pairsBy};
 ghost use Rattle.state.specs.Book.{differ, inUse, ordered};
-ghost use Rattle.soundness.specs.Sound.{compatible, blankB, unusedB};
+ghost use Rattle.soundness.specs.Sound.{compatible};
 ghost use Rattle.soundness.specs.Parts.{poolsOf, emptySets, freshAll, checkedOf, bothTenants};
 use crate::Checked;
 use crate::TenantRules;
-use crate::gather::gather;
+use crate::gather::pass;
 use crate::numbers::both;
 use crate::numbers::sets_apart;
-use crate::numbers::zeros32;
 use state::Lease;
 use state::State;
 use state::TenantLeases;
-
-fn is_blank(l: Lease) -> bool
-    ensures { λ r. ⌜ r ≡ blankB l ⌝ }
-{
-    if l.scope == 0 {
-        if l.id_len == 0 {
-            if l.kind == 0 {
-                return l.xid == 0;
-            }
-        }
-    }
-    false
-}
-
-pub fn is_unused(l: Lease) -> bool
-    ensures { λ r. ⌜ r ≡ unusedB l ⌝ }
-{
-    if is_blank(l) {
-        if l.start == 0 {
-            if l.end == 0 {
-                if l.addresses == 0 {
-                    let id = l.id;
-                    return zeros32(0, id);
-                }
-            }
-        }
-    }
-    false
-}
 
 fn names_differ(a: Lease, b: Lease) -> bool
     ensures { λ r. ⌜ r ≡ differ a b ⌝ }
@@ -64,31 +32,6 @@ fn are_compatible(a: Lease, b: Lease) -> bool
         if state::overlapping(a, b.start, b.end as u64) {
             return sets_apart(a.addresses, b.addresses);
         }
-    }
-    true
-}
-
-fn unused_from(t: TenantLeases, n: usize) -> bool
-    requires { ⌜ n ≤ 16 ⌝ }
-    ensures { λ r. ⌜ r ≡ allBy unusedB (drop n (t .leases)) ⌝ }
-{
-    let mut i: usize = n;
-    while i < 16 {
-        let l = t.leases[i];
-        if !is_unused(l) {
-            return false;
-        }
-        i += 1;
-    }
-    true
-}
-
-fn rest_unused(t: TenantLeases) -> bool
-    ensures { λ r. ⌜ r ≡ allBy unusedB (drop (t .count) (t .leases)) ⌝ }
-{
-    let n = t.count;
-    if n < 16 {
-        return unused_from(t, n);
     }
     true
 }
@@ -165,15 +108,15 @@ fn all_compatible(t: TenantLeases) -> bool
     true
 }
 
-fn layout_ok(t: TenantLeases, rising: bool, padded: bool) -> bool
-    ensures { λ r. ⌜ r ≡ (rising && (padded && allBy unusedB (drop (t .count) (t .leases)))) ⌝ }
+// Only where the first eight octets do not rise are whole identifiers compared.
+fn rises(t: TenantLeases, swift: bool) -> bool
+    requires { ⌜ (swift ≡ true → true ≡ pairsBy ordered (inUse t)) ⌝ }
+    ensures { λ r. ⌜ r ≡ pairsBy ordered (inUse t) ⌝ }
 {
-    if rising {
-        if padded {
-            return rest_unused(t);
-        }
+    if swift {
+        return true;
     }
-    false
+    all_rise(t)
 }
 
 // Leases on addresses of their own are compatible, so that only others are compared pair by pair.
@@ -191,14 +134,15 @@ pub fn check_tenant(s: State, pools: [u64; 4], t: TenantLeases) -> Checked
     requires { ⌜ pools ≡ poolsOf s ⌝ }
     ensures { λ r. ⌜ r ≡ checkedOf s t ⌝ }
 {
-    let g = gather(s, pools, t);
+    let p = pass(s, pools, t);
+    let g = p.gathered;
     let l = g.rules;
     let held = g.held;
-    let rising = all_rise(t);
+    let rising = rises(t, p.swift);
     let record = both(t.count <= 16, l.ids);
     let identifier = ids_differ(t, rising);
     let period = periods_ok(t, g.apart);
-    let layout = layout_ok(t, rising, l.padded);
+    let layout = both(rising, both(l.padded, p.unused));
     let rules = TenantRules {
         records: record,
         offsets: l.offsets,

@@ -9,8 +9,8 @@ pub add-tenant-spec : {M : Type 1} → statement M
 add-tenant-spec =
     tie.close
     (tie.spec
-    (λ c κs. search needs)  -- src/lib.rt:183:9 check-tenant-requires
-    (λ c κs. search needs)  -- src/lib.rt:187:9 and-tenants-requires
-    (λ c. search needs)  -- src/lib.rt:189:5 mul-h
-    (λ c. search needs)  -- src/lib.rt:189:5 element-set-from-h
-    (λ c. search (tenant-added, unmapped, needs)))  -- src/lib.rt:179:1 returns
+    (λ c κs. search needs)  -- src/lib.rt:191:9 check-tenant-requires
+    (λ c κs. search needs)  -- src/lib.rt:195:9 and-tenants-requires
+    (λ c. search needs)  -- src/lib.rt:197:5 mul-h
+    (λ c. search needs)  -- src/lib.rt:197:5 element-set-from-h
+    (λ c. search (tenant-added, unmapped, needs)))  -- src/lib.rt:187:1 returns

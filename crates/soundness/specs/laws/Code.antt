@@ -127,7 +127,7 @@ pub leb-left : (a b c : ℕ) → a ≡ b → leb a c ≡ leb b c
 leb-left a b c e = ap (λ (x : ℕ). leb x c) e
 
 -- ---- all of a list, one test at a time
-and-more : (a b r : Bool) → ((a && b) && r) ≡ (a && pick b r false)
+pub and-more : (a b r : Bool) → ((a && b) && r) ≡ (a && pick b r false)
 unfolding pick
 and-more true true r = refl
 and-more true false r = refl

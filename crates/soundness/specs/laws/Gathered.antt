@@ -4,30 +4,35 @@ use mathlib.Core.Path.{_≡_, refl, sym, ap, ap₂, _∙_, subst}
 use mathlib.Core.Bool.{Bool, true, false, _&&_}
 use mathlib.Core.List.{List, [], _∷_}
 use native.Mathlib.Omega.{arith}
-use lib.Dec.{leb, eqb}
+use lib.Dec.{leb, ltb, eqb}
 use lib.Bits.{bitOr}
-use lib.ListN.{length, drop, getD, List·getD-eq-default}
-use borrow.Author.Tests.{eq-eqb, eqb-true, leb-true}
+use lib.ListN.{length, take, drop, getD, List·getD-eq-default, drop-of-length-le}
+use borrow.Author.Tests.{eq-eqb, eqb-true, ltb-true, leb-true, leb-false}
 use Rattle.lists.specs.Pick.{pick}
 use Rattle.lists.specs.Fold.{fold}
 use Rattle.lists.specs.All.{allBy, pairsBy}
 use Rattle.lists.specs.laws.All.{all-head, all-cons, all-both, pairs-cons}
+use Rattle.lists.specs.laws.Next.{NextInv, next-next, next-end}
 use Rattle.lists.specs.laws.Both.{and-parts, and-both}
+use Rattle.identifier.specs.Order.{orderOf, numberFrom, Octets}
+use Rattle.identifier.specs.laws.Word.{word-less}
 use Rattle.address_set.specs.AddressSet.{bit, setOf, upTo}
 use Rattle.address_set.specs.laws.Bits.{bit-or}
 use Rattle.state.specs.declared.Lease.{Lease}
 use Rattle.state.specs.declared.TenantLeases.{TenantLeases}
 use Rattle.state.specs.declared.Scope.{Scope}
 use Rattle.state.specs.declared.State.{State}
-use Rattle.state.specs.Book.{differ, inUse, inScope, overlaps, addedIf, ordered, scopeAt, zeroScope}
+use Rattle.state.specs.Book.{differ, inUse, inScope, overlaps, addedIf, ordered, byIdentifier, idOf, scopeAt, zeroScope}
+use Rattle.state.specs.laws.Layout.{noLease}
 use Rattle.soundness.specs.declared.Held.{Held}
 use Rattle.soundness.specs.declared.LeaseRules.{LeaseRules}
 use Rattle.soundness.specs.declared.TenantRules.{TenantRules}
 use Rattle.soundness.specs.declared.Gathered.{Gathered}
 use Rattle.soundness.specs.declared.Checked.{Checked}
+use Rattle.soundness.specs.declared.Pass.{Pass}
 use Rattle.soundness.specs.Sound.{oneTo, disjoint, compatible, belowB, scopeOf, unusedB}
-use Rattle.soundness.specs.Parts.{setAt, poolIn, poolsOf, andLeases, leasesAll, tenantRulesOf, heldSets, addedSets, freshIn, freshAll, emptySets, addedLease, gatheredOf, checkedOf}
-use Rattle.soundness.specs.laws.Code.{and-assoc, and-true-r, pool-is, leases-are, held-are, tenant-is}
+use Rattle.soundness.specs.Parts.{setAt, poolIn, poolsOf, andLeases, leasesAll, tenantRulesOf, heldSets, addedSets, freshIn, freshAll, emptySets, addedLease, noneGathered, gatheredOf, Passed, checkedOf}
+use Rattle.soundness.specs.laws.Code.{and-assoc, and-true-r, and-more, rise-start, pool-is, leases-are, held-are, tenant-is}
 use Rattle.soundness.specs.laws.Kept.{disjoint-less}
 
 -- ---- leases on addresses of their own
@@ -113,9 +118,12 @@ gathered-from s g (l ∷ ls) =
     ∙ ap {B = Gathered} (λ (b : Bool). record { rules = fold (andLeases s) (g .rules) (l ∷ ls); held = fold addedSets (g .held) (l ∷ ls); apart = b })
     (and-assoc (g .apart) (freshIn (g .held) l) (freshAll (addedSets (g .held) l) ls))
 
-pub gathered-are : (s : State) (t : TenantLeases)
-    → fold (addedLease s) (record { rules = record { ids = true; offsets = true; leases = true; padded = true }; held = emptySets (t .count); apart = true }) (inUse t) ≡ gatheredOf s t
-unfolding gatheredOf
+pub none-gathered : (n : ℕ) → _≡_ {A = Gathered} (record { rules = record { ids = true; offsets = true; leases = true; padded = true }; held = emptySets n; apart = true }) (noneGathered n)
+unfolding noneGathered
+none-gathered n = refl
+
+pub gathered-are : (s : State) (t : TenantLeases) → fold (addedLease s) (noneGathered (t .count)) (inUse t) ≡ gatheredOf s t
+unfolding gatheredOf noneGathered
 gathered-are s t =
     gathered-from s _ (inUse t)
     ∙ ap₂ {C = Gathered} (λ (r : LeaseRules) (h : Held). record { rules = r; held = h; apart = freshAll (emptySets (t .count)) (inUse t) }) (leases-are s (inUse t)) (held-are t)
@@ -148,14 +156,77 @@ pub lease-added : (s : State) (g : Gathered) (l : Lease) (f : Bool) {a : Bool} {
 unfolding addedLease
 lease-added s g l f ef ea eh er = cc (ea ∙ ap (λ (x : Bool). g .apart && x) ef)
 
-pub gathered-apart : (s : State) (t : TenantLeases) (g : Gathered) → g ≡ gatheredOf s t → g .apart ≡ freshAll (emptySets (t .count)) (inUse t)
-unfolding gatheredOf
-gathered-apart s t g e = ap (λ (x : Gathered). x .apart) e
+-- ---- identifiers whose first eight octets rise
+pub swift-yes : (a b : Lease) {x y : ℕ} → 8 ≤ a .«id_len» → 8 ≤ b .«id_len» → length (a .id) ≡ 32 → length (b .id) ≡ 32
+    → x ≡ numberFrom 0 (take 8 (drop 0 (a .id))) → y ≡ numberFrom 0 (take 8 (drop 0 (b .id))) → Octets (take 8 (drop 0 (a .id))) → Octets (take 8 (drop 0 (b .id)))
+    → ltb x y ≡ true → ordered a b ≡ true
+unfolding byIdentifier
+swift-yes a b {x = x} {y = y} h g la lb ex ey oa ob e =
+    eq-eqb (orderOf (idOf a) (idOf b)) 0 (sym (word-less (a .id) (b .id) (a .«id_len») (b .«id_len») refl refl (omega arith) (omega arith) la lb ex ey oa ob (ltb-true x y e)))
 
-pub tenant-checked : (s : State) (t : TenantLeases) (g : Gathered) {rising p r v w : Bool} → g ≡ gatheredOf s t → rising ≡ pairsBy ordered (inUse t)
-    → p ≡ (leb (t .count) 16 && g .rules .ids) → r ≡ pairsBy differ (inUse t) → v ≡ pairsBy compatible (inUse t)
-    → w ≡ (rising && (g .rules .padded && allBy unusedB (drop (t .count) (t .leases))))
-    → _≡_ {A = Checked} (record { rules = record { records = p; offsets = g .rules .offsets; leases = g .rules .leases; identifiers = r; periods = v; layout = w }; held = g .held }) (checkedOf s t)
+pub no-claim : {P : Type 0} → false ≡ true → P
+no-claim e = absurd (let z : _≡_ {A = ℕ} 0 1 = cc in omega arith)
+
+pub claimed : (r w : Bool) → r ≡ true → (r ≡ true → true ≡ w) → true ≡ w
+claimed r w e f = f e
+
+pub record SwiftInv (l : List Lease) (n : ℕ) (w fast : Bool) (i : ℕ) : Type 0 where
+  pub within : i ≤ n
+  pub long : n ≤ length l
+  pub sofar : fast ≡ true → NextInv ordered noLease l n w i
+
+pub swift-start : {l : List Lease} {n : ℕ} (x k : ℕ) → n ≡ min x k → length l ≡ k → SwiftInv l n (pairsBy ordered (take x l)) true 0
+swift-start x k e g = record { within = omega arith; long = omega arith; sofar = λ p. rise-start x k e g }
+
+module _ {l : List Lease} {n : ℕ} {w fast : Bool} {i : ℕ} (v : SwiftInv l n w fast i) where
+  pub swift-next : {q r : Bool} → i + 1 < n → (q ≡ true → ordered (getD l i noLease) (getD l (i + 1) noLease) ≡ true) → r ≡ (fast && q) → SwiftInv l n w r (i + 1)
+  swift-next {q} {r} h f e = record {
+    within = omega arith;
+    long = v .long;
+    sofar = λ p. let y = and-parts fast q (sym e ∙ p) in next-next (v .sofar (y .0)) h refl (f (y .1));
+  }
+
+  pub swift-end : n ≤ i + 1 → fast ≡ true → true ≡ w
+  swift-end h p = next-end (v .sofar p) h
+
+pub ruleset swifts = (swift-start, swift-next, swift-end)
+
+-- ---- unused records
+unfoldable pub andUnused : Bool → Lease → Bool
+andUnused a l = a && unusedB l
+
+unused-from : (a : Bool) (l : List Lease) → fold andUnused a l ≡ (a && allBy unusedB l)
+unfolding andUnused allBy
+unused-from a [] = sym (and-true-r a)
+unused-from a (x ∷ l) = unused-from (a && unusedB x) l ∙ and-more a (unusedB x) (allBy unusedB l)
+
+pub unused-are : (c n : ℕ) (l : List Lease) → n ≡ min c 16 → length l ≡ 16 → fold andUnused true (drop n l) ≡ allBy unusedB (drop c l)
+unused-are c n l e h = unused-from true (drop n l) ∙ ap (allBy unusedB) (go (leb c 16) refl)
+  where
+    go : (b : Bool) → leb c 16 ≡ b → drop n l ≡ drop c l
+    go true p = let g = leb-true c 16 p in ap (λ (k : ℕ). drop k l) (let q : n ≡ c = omega arith in q)
+    go false p = let g = leb-false c 16 p in drop-of-length-le l {i = n} (omega arith) ∙ sym (drop-of-length-le l {i = c} (omega arith))
+
+pub unused-and : (a q r : Bool) (l : Lease) → q ≡ unusedB l → r ≡ (a && q) → r ≡ andUnused a l
+unfolding andUnused
+unused-and a q r l e p = p ∙ ap (λ (x : Bool). a && x) e
+
+-- ---- one tenant
+pub gathered-apart : (s : State) (t : TenantLeases) (p : Pass) → Passed s t p → p .gathered .apart ≡ freshAll (emptySets (t .count)) (inUse t)
+unfolding gatheredOf
+gathered-apart s t p v = ap (λ (x : Gathered). x .apart) (v .gathers)
+
+pub swift-rises : (s : State) (t : TenantLeases) (p : Pass) → Passed s t p → p .swift ≡ true → true ≡ pairsBy ordered (inUse t)
+swift-rises s t p v e = v .rises e
+
+pub tenant-checked : (s : State) (t : TenantLeases) (o : Pass) {rising p r v u w : Bool} → Passed s t o → rising ≡ pairsBy ordered (inUse t)
+    → p ≡ (leb (t .count) 16 && o .gathered .rules .ids) → r ≡ pairsBy differ (inUse t) → v ≡ pairsBy compatible (inUse t)
+    → u ≡ (o .gathered .rules .padded && o .unused) → w ≡ (rising && u)
+    → _≡_ {A = Checked} (record { rules = record { records = p; offsets = o .gathered .rules .offsets; leases = o .gathered .rules .leases; identifiers = r; periods = v; layout = w }; held = o .gathered .held })
+    (checkedOf s t)
 unfolding checkedOf gatheredOf
-tenant-checked s t g e er p r v w =
-    ap₂ {C = Checked} (λ (x : TenantRules) (y : Held). record { rules = x; held = y }) (tenant-is s t (g .rules) (ap (λ (x : Gathered). x .rules) e) er p r v w) (ap (λ (x : Gathered). x .held) e)
+tenant-checked s t o {rising = rising} y er p r v u w =
+    let e = y .gathers in
+    ap₂ {C = Checked} (λ (a : TenantRules) (b : Held). record { rules = a; held = b })
+    (tenant-is s t (o .gathered .rules) (ap (λ (x : Gathered). x .rules) e) er p r v (w ∙ ap (λ (x : Bool). rising && x) (u ∙ ap (λ (x : Bool). o .gathered .rules .padded && x) (y .rest))))
+    (ap (λ (x : Gathered). x .held) e)

@@ -1,9 +1,9 @@
--- `tenants::is_unused` meets its contract: by ands, joins.
+-- `records::is_unused` meets its contract: by ands, joins.
 use Rattle.lists.specs.laws.Both.{ands, joins}
 use Rattle.soundness.specs.Sound.{unusedB}
 use borrow.Author.Needs.{needs}
-use Rattle.soundness.proofs.tenants.is_unused.Statement.{statement}
-use Rattle.soundness.proofs.tenants.is_unused.Tie as tie
+use Rattle.soundness.proofs.records.is_unused.Statement.{statement}
+use Rattle.soundness.proofs.records.is_unused.Tie as tie
 
 pub is-unused-spec : {M : Type 1} → statement M
 unfolding unusedB

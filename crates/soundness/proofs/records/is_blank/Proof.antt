@@ -1,9 +1,9 @@
--- `tenants::is_blank` meets its contract: by ands.
+-- `records::is_blank` meets its contract: by ands.
 use Rattle.lists.specs.laws.Both.{ands}
 use Rattle.soundness.specs.Sound.{blankB}
 use borrow.Author.Needs.{needs}
-use Rattle.soundness.proofs.tenants.is_blank.Statement.{statement}
-use Rattle.soundness.proofs.tenants.is_blank.Tie as tie
+use Rattle.soundness.proofs.records.is_blank.Statement.{statement}
+use Rattle.soundness.proofs.records.is_blank.Tie as tie
 
 pub is-blank-spec : {M : Type 1} → statement M
 unfolding blankB

@@ -303,9 +303,6 @@ length-offsets m = go 0 64
     go at zero = omega arith
     go at (suc k) = keep-le (bit m at) at k (offsetsFrom m (suc at) k) (go (suc at) k)
 
-pub or-same : (a : ℕ) {m n : ℕ} → m ≡ n → bitOr a m ≡ bitOr a n
-or-same a e = ap (bitOr a) e
-
 -- ---- sizes of unions
 ones-zero : ones 0 ≡ 0
 unfolding ones

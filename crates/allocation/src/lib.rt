@@ -7,7 +7,7 @@ ghost use lib.ListN.{length};
 ghost use Rattle.lists.specs.Down.{largest};
 ghost use Rattle.lists.specs.Pick.{pick};
 ghost use Rattle.lists.specs.Sums.{sumTo, except};
-ghost use Rattle.address_set.specs.AddressSet.{offsets, differenceOf};
+ghost use Rattle.address_set.specs.AddressSet.{offsets, setOf, differenceOf, chosen};
 ghost use Rattle.state.specs.declared.LeaseTable.{LeaseTable};
 ghost use Rattle.state.specs.declared.State.{State};
 ghost use Rattle.state.specs.Book.{inUse, leasesOf, unionAll, committed};
@@ -177,6 +177,19 @@ fn numbers(sets: [u64; 8], c: Scope, n: usize, h: usize, free: u64) -> GrantNumb
     }
 }
 
+// k offsets: the lowest of the tenant's own free ones, then of the new ones. Nothing is walked where k is 0 or no own one is free, as mostly.
+fn choose(free: u64, new: u64, k: u32) -> u64
+    ensures { λ r. ⌜ r ≡ setOf (chosen k free new) ⌝ }
+{
+    if k == 0 {
+        return 0;
+    }
+    if free == 0 {
+        return address_set::lowest(new, k as u64);
+    }
+    address_set::choose(free, new, k as u64)
+}
+
 // The grant of n tenants' rule to one of them: the largest allowed number up to the desired one, and its addresses.
 fn grant_known(own: TenantLeases, held: HeldTable, c: Scope, n: usize, a: Ask) -> Grant
     requires { ⌜ (a .tenant < n) × (n ≤ 8) ⌝ }
@@ -188,7 +201,7 @@ fn grant_known(own: TenantLeases, held: HeldTable, c: Scope, n: usize, a: Ask) -
     let desired = wide16(a.desired);
     let k = most(l, desired);
     let new = nobodys(sets, c);
-    let m = address_set::choose(own_free, new, k as u64);
+    let m = choose(own_free, new, k);
     Grant {
         number: k,
         addresses: m,

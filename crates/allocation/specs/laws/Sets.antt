@@ -2,7 +2,7 @@
 use Prim.Native.Nat.{ℕ, zero, suc, _+_, _-_, _^_, _≤_, _<_, min, max}
 use mathlib.Core.Path.{_≡_, refl, sym, ap, ap₂, _∙_, subst}
 use mathlib.Core.Bool.{Bool, true, false, not}
-use mathlib.Core.List.{List, [], _∷_, map}
+use mathlib.Core.List.{List, [], _∷_, _++_, map}
 use native.Mathlib.Omega.{arith}
 use native.Mathlib.Nat.{lt-of-le-of-lt}
 use lib.Dec.{ltb, eqb}
@@ -14,7 +14,7 @@ use borrow.Author.Tests.{ltb-true, ltb-false, le-ltb, eqb-true, eqb-false}
 use Rattle.lists.specs.Pick.{pick}
 use Rattle.lists.specs.All.{All}
 use Rattle.lists.specs.Filter.{filterBy, isIn}
-use Rattle.address_set.specs.AddressSet.{bit, keep, offsetsFrom, offsets, setOf, differenceOf, chosen, upTo, risesFrom}
+use Rattle.address_set.specs.AddressSet.{bit, keep, offsetsFrom, offsets, setOf, lowestOf, differenceOf, chosen, upTo, risesFrom}
 use Rattle.address_set.specs.laws.Bits.{without, bit-le, bit-or, bit-and, bit-eq, bit-of-zero, bit-without, bit-pow-other, without-le, low-in, low-lt, low-size, size-union, ones-or-and, ones-offsets, chosen-is, length-offsets, offsets-of-zero, setOf-append}
 use Rattle.address_set.specs.laws.Offsets.{offsets-setOf, rises-offsets, offsets-small, setOf-small, bit-setOf, bit-past, difference-without, upTo-ones}
 use Rattle.state.specs.Book.{unionAll}
@@ -150,6 +150,13 @@ difference-rest m n h =
         (λ a g. let z = bit-past 64 m a h g in omega arith)
 
 -- ---- the lowest of own, then of new
+pub chosen-none : (k own new : ℕ) → k ≡ 0 → 0 ≡ setOf (chosen k own new)
+unfolding setOf
+chosen-none k own new e = sym (ap (λ (x : ℕ). setOf (chosen x own new)) e)
+
+pub chosen-new : (k own new r : ℕ) → own ≡ 0 → r ≡ lowestOf new k → r ≡ setOf (chosen k own new)
+chosen-new k own new r e p = p ∙ ap (λ (l : List ℕ). setOf (take k (l ++ offsets new))) (sym (ap offsets e ∙ offsets-of-zero 0 64))
+
 pub chosen-bit : (k own new a : ℕ) → bit (setOf (chosen k own new)) a ≤ max (bit own a) (bit new a)
 chosen-bit k own new a =
     let e : bit (setOf (chosen k own new)) a ≡ bit (bitOr (setOf (take k (offsets own))) (setOf (take (k - length (offsets own)) (offsets new)))) a = ap (λ (x : ℕ). bit x a) (chosen-is k own new) in

@@ -1,4 +1,4 @@
--- Laws: between the code of the call and its definition: replies by the verdict, and the tests one after the other.
+-- Laws: between the code of the call and its definition: replies by the verdict, and tests 4 to 7 one after the other.
 use mathlib.Core.Path.{_≡_, refl, sym, ap, ap₂, _∙_, subst}
 use mathlib.Core.List.{List, [], _∷_}
 use mathlib.Core.Bool.{Bool, true, false, not, _&&_}
@@ -24,7 +24,8 @@ use Rattle.state.specs.declared.LeaseTable.{LeaseTable}
 use Rattle.state.specs.declared.Scope.{Scope}
 use Rattle.state.specs.declared.State.{State}
 use Rattle.state.specs.Book.{advanced, scopeAt}
-use Rattle.state.specs.Edit.{applied}
+use Rattle.state.specs.Edit.{applied, noEdit}
+use Rattle.state.specs.laws.Edited.{applied-none}
 use Rattle.soundness.specs.Sound.{soundB, tenantsIn}
 use Rattle.decision.specs.declared.Decided.{Decided}
 use Rattle.decision.specs.declared.Reply.{Reply}
@@ -57,83 +58,57 @@ pub replied-none : (b : List ℕ) → Replied b [] b 0
 replied-none b = record { size = refl; buffer = refl }
 
 -- ---- answers
-pub serves-discard : (n : ℕ) (b : Book) (buffer : List ℕ) (r : Served) → r ≡ record { outcome = record { outcome = n; length = 0 }; book = b } → Serves (discarded n b) buffer buffer r
-serves-discard n b buffer r e = record {
+-- a discard edits nothing
+pub serves-discard : (n : ℕ) (b : Book) (h : ℕ) (buffer : List ℕ) (r : Served) → r ≡ record { outcome = record { outcome = n; length = 0 }; edit = noEdit } → Serves (discarded n b) b h buffer buffer r
+serves-discard n b h buffer r e = record {
   tells = record { outcome = ap (λ (x : Served). x .outcome .outcome) e; size = ap (λ (x : Served). x .outcome .length) e; buffer = refl };
-  book = ap (λ (x : Served). x .book) e;
+  book = sym (ap (λ (x : Served). withTable b (applied (x .edit) h (b .table))) e ∙ ap (withTable b) (applied-none (b .table) h));
 }
 
-serves-as : {a a′ : Answer} {x y : List ℕ} {r : Served} → a ≡ a′ → Serves a x y r → Serves a′ x y r
-serves-as {x = x} {y = y} {r = r} e s = subst (λ (z : Answer). Serves z x y r) e s
+serves-as : {a a′ : Answer} {b : Book} {h : ℕ} {x y : List ℕ} {r : Served} → a ≡ a′ → Serves a b h x y r → Serves a′ b h x y r
+serves-as {b = b} {h} {x} {y} {r} e s = subst (λ (z : Answer). Serves z b h x y r) e s
 
-pub serves-decided : (b : Book) (h : ℕ) (m : Fields) (d : Decided) (after : LeaseTable) (n : ℕ) {x y : List ℕ} → d ≡ decideOf (b .state) (b .table) h m → after ≡ applied (d .edit) h (b .table)
-    → Replied x (replyOf (b .state) m (d .verdict)) y n
-    → Serves (answered b h m (decideOf (b .state) (b .table) h m)) x y (record { outcome = record { outcome = d .verdict .outcome; length = n }; book = withTable b after })
-serves-decided b h m d after n {x} {y} e f w =
-    subst (λ (z : Decided). Serves (answered b h m z) x y (record { outcome = record { outcome = d .verdict .outcome; length = n }; book = withTable b after })) e
-    (record { tells = record { outcome = refl; size = w .size; buffer = w .buffer }; book = ap (withTable b) f })
+pub serves-decided : (b : Book) (h : ℕ) (m : Fields) (d : Decided) (n : ℕ) {x y : List ℕ} → d ≡ decideOf (b .state) (b .table) h m → Replied x (replyOf (b .state) m (d .verdict)) y n
+    → Serves (answered b h m (decideOf (b .state) (b .table) h m)) b h x y (record { outcome = record { outcome = d .verdict .outcome; length = n }; edit = d .edit })
+serves-decided b h m d n {x} {y} e w =
+    subst (λ (z : Decided). Serves (answered b h m z) b h x y (record { outcome = record { outcome = d .verdict .outcome; length = n }; edit = d .edit })) e
+    (record { tells = record { outcome = refl; size = w .size; buffer = w .buffer }; book = refl })
 
 -- ---- test 7
 module _ (b : Book) (h : ℕ) (m : Fields) {x y : List ℕ} {r : Served} where
-  pub for-any : (m .kind ≡ 3 → ⊥) → Serves (answered b h m (decideOf (b .state) (b .table) h m)) x y r → Serves (forServer b h m) x y r
-  unfolding forServer pick
-  for-any e s = serves-as (sym (ap (λ (t : Bool). pick (t && not (m .ours)) (discarded 7 b) (answered b h m (decideOf (b .state) (b .table) h m))) (ne-eqb (m .kind) 3 e))) s
+  abbrev told : Answer
+  told = answered b h m (decideOf (b .state) (b .table) h m)
 
-  pub for-ours : m .kind ≡ 3 → m .ours ≡ true → Serves (answered b h m (decideOf (b .state) (b .table) h m)) x y r → Serves (forServer b h m) x y r
+  pub for-any : (m .kind ≡ 3 → ⊥) → Serves told b h x y r → Serves (forServer b h m) b h x y r
   unfolding forServer pick
-  for-ours e o s = serves-as (sym (ap₂ (λ (t u : Bool). pick (t && not u) (discarded 7 b) (answered b h m (decideOf (b .state) (b .table) h m))) (eq-eqb (m .kind) 3 e) o)) s
+  for-any e s = serves-as (sym (ap (λ (t : Bool). pick (t && not (m .ours)) (discarded 7 b) told) (ne-eqb (m .kind) 3 e))) s
 
-  pub for-others : m .kind ≡ 3 → m .ours ≡ false → Serves (discarded 7 b) x y r → Serves (forServer b h m) x y r
+  pub for-ours : m .kind ≡ 3 → m .ours ≡ true → Serves told b h x y r → Serves (forServer b h m) b h x y r
   unfolding forServer pick
-  for-others e o s = serves-as (sym (ap₂ (λ (t u : Bool). pick (t && not u) (discarded 7 b) (answered b h m (decideOf (b .state) (b .table) h m))) (eq-eqb (m .kind) 3 e) o)) s
+  for-ours e o s = serves-as (sym (ap₂ (λ (t u : Bool). pick (t && not u) (discarded 7 b) told) (eq-eqb (m .kind) 3 e) o)) s
+
+  pub for-others : m .kind ≡ 3 → m .ours ≡ false → Serves (discarded 7 b) b h x y r → Serves (forServer b h m) b h x y r
+  unfolding forServer pick
+  for-others e o s = serves-as (sym (ap₂ (λ (t u : Bool). pick (t && not u) (discarded 7 b) told) (eq-eqb (m .kind) 3 e) o)) s
 
 -- ---- tests 4 to 6
-module _ (b : Book) (h : ℕ) (s : List ℕ) (r : Reading) (e : r ≡ readOf s) where
+module _ (s : List ℕ) (r : Reading) (e : r ≡ readOf s) where
   pub reading-good : GoodPlaces s (r .message .places)
   reading-good = subst (λ (x : Reading). GoodPlaces s (x .message .places)) (sym e) (read-good s)
 
   pub reading-short : r .discard ≡ 0 → length s ≤ longestDatagram
   reading-short z = read-short s (sym (ap (λ (x : Reading). x .discard) e) ∙ z)
 
-  pub reading-taken : {x y : List ℕ} {v : Served} (f : Fields) → r .discard ≡ 0 → f ≡ fieldsOf s (b .state .server) (r .message) → Serves (forServer b h f) x y v → Serves (withReading b h s (readOf s)) x y v
-  unfolding withReading pick
-  reading-taken {x} {y} {v} f z q w =
-      subst (λ (q : Reading). Serves (withReading b h s q) x y v) e
-      (serves-as (sym (ap (λ (t : Bool). pick t (forServer b h (fieldsOf s (b .state .server) (r .message))) (discarded (r .discard) b)) (eq-eqb (r .discard) 0 z)))
-      (serves-as (ap (forServer b h) q) w))
+  module _ (b : Book) (h : ℕ) {x y : List ℕ} {v : Served} where
+    pub reading-taken : (f : Fields) → r .discard ≡ 0 → f ≡ fieldsOf s (b .state .server) (r .message) → Serves (forServer b h f) b h x y v → Serves (withReading b h s (readOf s)) b h x y v
+    unfolding withReading pick
+    reading-taken f z q w =
+        subst (λ (q : Reading). Serves (withReading b h s q) b h x y v) e
+        (serves-as (sym (ap (λ (t : Bool). pick t (forServer b h (fieldsOf s (b .state .server) (r .message))) (discarded (r .discard) b)) (eq-eqb (r .discard) 0 z)))
+        (serves-as (ap (forServer b h) q) w))
 
-  pub reading-discarded : {x y : List ℕ} {v : Served} → (r .discard ≡ 0 → ⊥) → Serves (discarded (r .discard) b) x y v → Serves (withReading b h s (readOf s)) x y v
-  unfolding withReading pick
-  reading-discarded {x} {y} {v} z w =
-      subst (λ (q : Reading). Serves (withReading b h s q) x y v) e
-      (serves-as (sym (ap (λ (t : Bool). pick t (forServer b h (fieldsOf s (b .state .server) (r .message))) (discarded (r .discard) b)) (ne-eqb (r .discard) 0 z))) w)
-
--- ---- test 3
-module _ (b : Book) (client : ℕ) (s : List ℕ) (h n : ℕ) (e : h ≡ tenantOf (b .state) client) (f : n ≡ tenantsIn (b .state)) {x y : List ℕ} {v : Served} where
-  pub client-known : h < n → Serves (withReading b h s (readOf s)) x y v → Serves (atClock b client s) x y v
-  unfolding atClock pick
-  client-known g w =
-      serves-as (sym (ap (λ (t : Bool). pick t (withReading b (tenantOf (b .state) client) s (readOf s)) (discarded 3 b)) (lt-ltb (tenantOf (b .state) client) (tenantsIn (b .state)) (omega arith))))
-      (serves-as (ap (λ (k : ℕ). withReading b k s (readOf s)) e) w)
-
-  pub client-unknown : n ≤ h → Serves (discarded 3 b) x y v → Serves (atClock b client s) x y v
-  unfolding atClock pick
-  client-unknown g w =
-      serves-as (sym (ap (λ (t : Bool). pick t (withReading b (tenantOf (b .state) client) s (readOf s)) (discarded 3 b)) (le-ltb (tenantOf (b .state) client) (tenantsIn (b .state)) (omega arith)))) w
-
--- ---- tests 1 and 2
-at-test : Book → Call → Bool → Bool → Answer
-at-test b c t u = pick t (pick u (discarded 2 b) (atClock (advanced b (c .time)) (c .client) (c .datagram))) (discarded 1 b)
-
-module _ (b : Book) (c : Call) (q : Bool) (e : q ≡ soundB (b .state) (b .table)) {x y : List ℕ} {v : Served} where
-  pub call-unsound : q ≡ false → Serves (discarded 1 b) x y v → Serves (serveOf b c) x y v
-  unfolding serveOf pick at-test
-  call-unsound h w = serves-as (sym (ap (λ (t : Bool). at-test b c t (ltb (c .room) leastRoom)) (sym e ∙ h))) w
-
-  pub call-short : q ≡ true → c .room < leastRoom → Serves (discarded 2 b) x y v → Serves (serveOf b c) x y v
-  unfolding serveOf pick at-test
-  call-short h g w = serves-as (sym (ap₂ (at-test b c) (sym e ∙ h) (lt-ltb (c .room) leastRoom g))) w
-
-  pub call-served : q ≡ true → leastRoom ≤ c .room → Serves (atClock (advanced b (c .time)) (c .client) (c .datagram)) x y v → Serves (serveOf b c) x y v
-  unfolding serveOf pick at-test
-  call-served h g w = serves-as (sym (ap₂ (at-test b c) (sym e ∙ h) (le-ltb (c .room) leastRoom g))) w
+    pub reading-discarded : (r .discard ≡ 0 → ⊥) → Serves (discarded (r .discard) b) b h x y v → Serves (withReading b h s (readOf s)) b h x y v
+    unfolding withReading pick
+    reading-discarded z w =
+        subst (λ (q : Reading). Serves (withReading b h s q) b h x y v) e
+        (serves-as (sym (ap (λ (t : Bool). pick t (forServer b h (fieldsOf s (b .state .server) (r .message))) (discarded (r .discard) b)) (ne-eqb (r .discard) 0 z))) w)

@@ -22,9 +22,12 @@ use Rattle.state.specs.declared.ClientRange.{ClientRange}
 use Rattle.state.specs.declared.LeaseTable.{LeaseTable}
 use Rattle.state.specs.declared.Scope.{Scope}
 use Rattle.state.specs.declared.State.{State}
+use Rattle.state.specs.declared.TenantLeases.{TenantLeases}
 use Rattle.state.specs.Book.{advanced, rangesOf, scopeAt}
 use Rattle.state.specs.Edit.{applied}
+use Rattle.soundness.specs.declared.HeldTable.{HeldTable}
 use Rattle.soundness.specs.Sound.{soundB, tenantsIn}
+use Rattle.soundness.specs.View.{View}
 use Rattle.decision.specs.declared.Decided.{Decided}
 use Rattle.decision.specs.declared.Reply.{Reply}
 use Rattle.decision.specs.declared.Reply.the-variants.{Nothing, Offer, LeaseAck, ReleaseAck, InfoAck, Nak}
@@ -139,7 +142,11 @@ pub record Tells (a : Said) (before after : List ℕ) (r : Outcome) : Type 0 whe
   pub size : r .length ≡ length (a .reply)
   pub buffer : after ≡ a .reply ++ drop (length (a .reply)) before
 
--- and the book
-pub record Serves (a : Answer) (before after : List ℕ) (r : Served) : Type 0 where
+-- and the book b with the leases of tenant h edited
+pub record Serves (a : Answer) (b : Book) (h : ℕ) (before after : List ℕ) (r : Served) : Type 0 where
   pub tells : Tells (said a) before after (r .outcome)
-  pub book : r .book ≡ a .book
+  pub book : a .book ≡ withTable b (applied (r .edit) h (b .table))
+
+-- whatever book it is of which the state, the records of tenant h and what all tenants hold are at hand
+abbrev pub ServesTenant : State → TenantLeases → HeldTable → ℕ → (Book → Answer) → List ℕ → List ℕ → Served → Type 0
+ServesTenant s own held h answer before after r = (t : LeaseTable) → View s t h own held → Serves (answer (bookOf s t)) (bookOf s t) h before after r

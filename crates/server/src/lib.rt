@@ -1,4 +1,4 @@
-// The whole call by value: a datagram, the client's address, the time, the book and a lent reply buffer.
+// A call from test 3 on: the tenant of the client's address; and the datagram served on that tenant's records, with a lent reply buffer.
 ghost use mathlib.Core.Path.{_≡_};
 ghost use Prim.Native.Nat.{_≤_, _<_};
 ghost use lib.ListN.{length};
@@ -6,7 +6,8 @@ ghost use Rattle.message.specs.Read.{readOf};
 ghost use Rattle.reply.specs.Put.{Replied};
 ghost use Rattle.reply.specs.Reply.{leastRoom};
 ghost use Rattle.decision.specs.Decide.{decideOf};
-ghost use Rattle.server.specs.Serve.{headOf, termsOf, entryOf, infoOf, replyOf, answered, forServer, withReading, hasClient, tenantOf, atClock, serveOf, Serves};
+ghost use Rattle.state.specs.Edit.{noEdit};
+ghost use Rattle.server.specs.Serve.{headOf, termsOf, entryOf, infoOf, replyOf, answered, forServer, withReading, hasClient, tenantOf, ServesTenant};
 use decision::Reply;
 use decision::Verdict;
 use message::Fields;
@@ -15,10 +16,12 @@ use reply::Head;
 use reply::Info;
 use reply::ScopeEntry;
 use reply::Terms;
-use state::Book;
+use soundness::HeldTable;
 use state::ClientRange;
+use state::Edit;
 use state::Scope;
 use state::State;
+use state::TenantLeases;
 
 // What the caller is told of a call: the outcome's number and the reply's length.
 pub struct Outcome {
@@ -26,10 +29,10 @@ pub struct Outcome {
     pub length: usize,
 }
 
-// The same with the book afterwards.
+// The same with what the call does to the leases of the client's tenant.
 pub struct Served {
     pub outcome: Outcome,
-    pub book: Book,
+    pub edit: Edit,
 }
 
 // ---- the reply that a verdict asks for
@@ -103,69 +106,69 @@ fn write_reply(s: State, m: Fields, v: Verdict, reply: &mut [u8]) -> usize
 
 // ---- the tests
 
-fn discard(n: u8, book: Book) -> Served
-    ensures { λ r. ⌜ r ≡ record { outcome = record { outcome = n; length = 0 }; book = book } ⌝ }
+fn discard(n: u8) -> Served
+    ensures { λ r. ⌜ r ≡ record { outcome = record { outcome = n; length = 0 }; edit = noEdit } ⌝ }
 {
     Served {
         outcome: Outcome {
             outcome: n,
             length: 0,
         },
-        book: book,
+        edit: state::no_edit(),
     }
 }
 
-// After test 7: the decision, the leases edited as it says, and the reply written from it.
-fn decided(book: Book, h: usize, m: Fields, reply: &mut [u8]) -> Served
+// After test 7: the decision, and the reply written from it.
+fn decided(s: State, own: TenantLeases, held: HeldTable, h: usize, m: Fields, reply: &mut [u8]) -> Served
     requires { ⌜ leastRoom ≤ length (now reply) ⌝ }
-    ensures { λ r. ⌜ Serves (answered book h m (decideOf (book .state) (book .table) h m)) (now (reply .entry)) (now (reply .exit)) r ⌝ }
+    ensures { λ r. ⌜ ServesTenant s own held h (λ b. answered b h m (decideOf (b .state) (b .table) h m)) (now (reply .entry)) (now (reply .exit)) r ⌝ }
 {
-    let s = book.state;
-    let t = book.table;
-    let d = decision::decide(s, t, h, m);
+    let d = decision::decide(s, own, held, h, m);
     let v = d.verdict;
     let e = d.edit;
-    let after = state::apply(t, h, e);
     let n = write_reply(s, m, v, reply);
     Served {
         outcome: Outcome {
             outcome: v.outcome,
             length: n,
         },
-        book: Book {
-            state: s,
-            table: after,
-        },
+        edit: e,
     }
 }
 
 // Test 7.
-fn for_server(book: Book, h: usize, m: Fields, reply: &mut [u8]) -> Served
+fn for_server(s: State, own: TenantLeases, held: HeldTable, h: usize, m: Fields, reply: &mut [u8]) -> Served
     requires { ⌜ leastRoom ≤ length (now reply) ⌝ }
-    ensures { λ r. ⌜ Serves (forServer book h m) (now (reply .entry)) (now (reply .exit)) r ⌝ }
+    ensures { λ r. ⌜ ServesTenant s own held h (λ b. forServer b h m) (now (reply .entry)) (now (reply .exit)) r ⌝ }
 {
     if m.kind == MessageType::REQUEST {
         if m.ours {
-            return decided(book, h, m, reply);
+            return decided(s, own, held, h, m, reply);
         }
-        return discard(7, book);
+        return discard(7);
     }
-    decided(book, h, m, reply)
+    decided(s, own, held, h, m, reply)
 }
 
-// Tests 4, 5 and 6.
-fn with_datagram(book: Book, h: usize, datagram: &[u8], reply: &mut [u8]) -> Served
+// Tests 4 to 7 and what follows, on the records of the client's tenant, counted from 0, and what all tenants hold.
+pub fn on_tenant(
+    s: State,
+    own: TenantLeases,
+    held: HeldTable,
+    h: usize,
+    datagram: &[u8],
+    reply: &mut [u8],
+) -> Served
     requires { ⌜ leastRoom ≤ length (now reply) ⌝ }
-    ensures { λ r. ⌜ Serves (withReading book h (now (datagram .entry)) (readOf (now (datagram .entry)))) (now (reply .entry)) (now (reply .exit)) r ⌝ }
+    ensures { λ r. ⌜ ServesTenant s own held h (λ b. withReading b h (now (datagram .entry)) (readOf (now (datagram .entry)))) (now (reply .entry)) (now (reply .exit)) r ⌝ }
 {
     let r = message::read(datagram);
     if r.discard == 0 {
-        let s = book.state;
         let m = r.message;
         let f = m.fields(datagram, s.server);
-        return for_server(book, h, f, reply);
+        return for_server(s, own, held, h, f, reply);
     }
-    discard(r.discard, book)
+    discard(r.discard)
 }
 
 fn has_client(client: u32, r: ClientRange) -> bool
@@ -177,8 +180,8 @@ fn has_client(client: u32, r: ClientRange) -> bool
     false
 }
 
-// The tenant of a client's address, counted from 0.
-fn tenant_of(s: State, client: u32) -> usize
+// The tenant of a client's address, counted from 0; their number where it has none.
+pub fn tenant_of(s: State, client: u32) -> usize
     ensures { λ r. ⌜ r ≡ tenantOf s client ⌝ }
 {
     let n = arithmetic::cut8(s.tenant_count);
@@ -191,32 +194,4 @@ fn tenant_of(s: State, client: u32) -> usize
         i += 1;
     }
     i
-}
-
-// Test 3.
-fn at_clock(book: Book, client: u32, datagram: &[u8], reply: &mut [u8]) -> Served
-    requires { ⌜ leastRoom ≤ length (now reply) ⌝ }
-    ensures { λ r. ⌜ Serves (atClock book client (now (datagram .entry))) (now (reply .entry)) (now (reply .exit)) r ⌝ }
-{
-    let s = book.state;
-    let h = tenant_of(s, client);
-    if h < arithmetic::cut8(s.tenant_count) {
-        return with_datagram(book, h, datagram, reply);
-    }
-    discard(3, book)
-}
-
-// The call.
-pub fn serve(book: Book, datagram: &[u8], client: u32, time: u32, reply: &mut [u8]) -> Served
-    ensures { λ r. ⌜ Serves (serveOf book (record { datagram = now (datagram .entry); client = client; time = time; room = length (now (reply .entry)) })) (now (reply .entry)) (now (reply .exit)) r ⌝ }
-{
-    let s = book.state;
-    let t = book.table;
-    if soundness::sound(s, t) {
-        if reply.len() < reply::LEAST_ROOM {
-            return discard(2, book);
-        }
-        return at_clock(state::advance(book, time), client, datagram, reply);
-    }
-    discard(1, book)
 }

@@ -11,6 +11,6 @@ mod Writes
 mod Sets
 mod ReadAgain
 mod Short
-mod WriteAgain
+pub mod WriteAgain
 pub mod RoundTrip
 mod Cases

@@ -35,13 +35,13 @@ use Rattle.state_file.specs.laws.Tenants.{leases-back}
 use Rattle.state_file.specs.Typed.{Typed, TypedLease, TypedRange, TypedScope, TypedTenant}
 
 -- ---- facts about all of a list
-all-take : {A : Type 0} (P : A → Type 0) (n : ℕ) (l : List A) → All P l → All P (take n l)
+pub all-take : {A : Type 0} (P : A → Type 0) (n : ℕ) (l : List A) → All P l → All P (take n l)
 unfolding All
 all-take P zero l h = tt
 all-take P (suc n) [] h = tt
 all-take P (suc n) (x ∷ l) h = (h .0, all-take P n l (h .1))
 
-all-drop : {A : Type 0} (P : A → Type 0) (n : ℕ) (l : List A) → All P l → All P (drop n l)
+pub all-drop : {A : Type 0} (P : A → Type 0) (n : ℕ) (l : List A) → All P l → All P (drop n l)
 unfolding All
 all-drop P zero l h = h
 all-drop P (suc n) [] h = tt
@@ -115,7 +115,7 @@ scopes-zero (x ∷ l) v e =
     let p = all-head scopeZero x l e in
     ap₂ {C = List Scope} (λ (y : Scope) (r : List Scope). y ∷ r) (scope-zero x (v .0) (p .0)) (scopes-zero l (v .1) (p .1))
 
-lease-zero : (l : Lease) → TypedLease l → unusedB l ≡ true → l ≡ zeroLease
+lease-zero : (l : Lease) → length (l .id) ≡ 32 → unusedB l ≡ true → l ≡ zeroLease
 unfolding unusedB blankB
 lease-zero l v e =
     let p = and-parts _ _ e in
@@ -132,7 +132,7 @@ lease-zero l v e =
     let e5 : l .start ≡ 0 = eqb-true _ _ (q .0) in
     let e6 : l .end ≡ 0 = eqb-true _ _ (q1 .0) in
     let e7 : l .addresses ≡ 0 = eqb-true _ _ (q2 .0) in
-    let e8 : l .id ≡ replicate 32 0 = zero-whole 32 (l .id) (v .long) (q2 .1) in
+    let e8 : l .id ≡ replicate 32 0 = zero-whole 32 (l .id) v (q2 .1) in
     ap₂ (λ (x y : ℕ). make x y (l .id) (l .kind) (l .xid) (l .start) (l .end) (l .addresses)) e1 e2
     ∙ ap₂ (λ (x : List ℕ) (y : ℕ). make 0 0 x y (l .xid) (l .start) (l .end) (l .addresses)) e8 e3
     ∙ ap₂ (λ (x y : ℕ). make 0 0 (replicate 32 0) 0 x y (l .end) (l .addresses)) e4 e5
@@ -141,12 +141,12 @@ lease-zero l v e =
     make : ℕ → ℕ → List ℕ → ℕ → ℕ → ℕ → ℕ → ℕ → Lease
     make a b c d e f g h = record { scope = a; «id_len» = b; id = c; kind = d; xid = e; start = f; end = g; addresses = h }
 
-leases-zero : (l : List Lease) → All TypedLease l → allBy unusedB l ≡ true → l ≡ replicate (length l) zeroLease
+pub leases-zero : (P : Lease → Type 0) → ((l : Lease) → P l → length (l .id) ≡ 32) → (l : List Lease) → All P l → allBy unusedB l ≡ true → l ≡ replicate (length l) zeroLease
 unfolding All
-leases-zero [] v e = refl
-leases-zero (x ∷ l) v e =
+leases-zero P long [] v e = refl
+leases-zero P long (x ∷ l) v e =
     let p = all-head unusedB x l e in
-    ap₂ {C = List Lease} (λ (y : Lease) (r : List Lease). y ∷ r) (lease-zero x (v .0) (p .0)) (leases-zero l (v .1) (p .1))
+    ap₂ {C = List Lease} (λ (y : Lease) (r : List Lease). y ∷ r) (lease-zero x (long x (v .0)) (p .0)) (leases-zero P long l (v .1) (p .1))
 
 -- ---- a tenant's records
 record Good (t : TenantLeases) : Type 0 where
@@ -186,7 +186,7 @@ module _ (t : TenantLeases) (v : Good t) where
   good-laid =
       ap₂ {C = TenantLeases} (λ (l : List Lease) (n : ℕ). record { leases = l; count = n })
       (filled-back zeroLease 16 (t .count) (t .leases) good-length
-      (leases-zero (drop (t .count) (t .leases)) (all-drop TypedLease (t .count) (t .leases) (v .typed .each)) good-unused
+      (leases-zero TypedLease (λ l p. p .long) (drop (t .count) (t .leases)) (all-drop TypedLease (t .count) (t .leases) (v .typed .each)) good-unused
       ∙ ap (λ (k : ℕ). replicate k zeroLease) (length-drop (t .count) (t .leases) ∙ ap (λ (k : ℕ). k - t .count) (v .typed .long))))
       good-length
 

@@ -1,0 +1,30 @@
+-- `on_tenant` meets its contract: by tests 4 to 6.
+use Rattle.server.proofs.Steps.{reading-discarded, reading-good, reading-short, reading-taken, serves-discard}
+use borrow.Author.Needs.{needs}
+use denote.Ref.{now}
+use Rattle.server.proofs.on_tenant.Statement.{statement}
+use Rattle.server.proofs.on_tenant.Tie as tie
+
+fields-requires : tie.Need-fields-requires
+fields-requires c κs =
+    let at-if1 = c .before in
+    let at-read = at-if1 .before .before in
+    (reading-good _ _ (at-read .read .ensures), reading-short _ _ (at-read .read .ensures) (at-if1 .if1 .taken))
+
+returns : tie.Need-returns
+returns c t v = let at-for-server = c .before .before in let at-fields = at-for-server .before .before in let at-if1 = at-fields .before .before in let at-read = at-if1 .before .before in reading-taken _ _ (at-read .read .ensures) _ _ _ (at-if1 .if1 .taken) (at-fields .fields .ensures) (at-for-server .for-server .ensures t v)
+
+returns-2 : tie.Need-returns-2
+returns-2 c t v = let at-discard = c in let at-if1 = at-discard .before in let at-read = at-if1 .before .before in reading-discarded _ _ (at-read .read .ensures) _ _ (at-if1 .if1 .left) (serves-discard _ _ _ _ _ (at-discard .discard .ensures))
+
+pub on-tenant-spec : {M : Type 1} → statement M
+on-tenant-spec =
+    tie.close
+    (tie.spec
+    (λ c κs. search needs)
+    fields-requires
+    (λ c κs. search needs)
+    (λ c. search needs)
+    returns
+    (λ c κs. search needs)
+    returns-2)

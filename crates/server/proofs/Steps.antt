@@ -20,6 +20,7 @@ use Rattle.reply.specs.declared.Terms.{Terms}
 use Rattle.reply.specs.declared.Info.{Info}
 use Rattle.reply.specs.declared.ScopeEntry.{ScopeEntry}
 use Rattle.state.specs.declared.Book.{Book}
+use Rattle.state.specs.declared.Edit.{Edit}
 use Rattle.state.specs.declared.LeaseTable.{LeaseTable}
 use Rattle.state.specs.declared.Scope.{Scope}
 use Rattle.state.specs.declared.State.{State}
@@ -58,6 +59,9 @@ pub replied-none : (b : List ℕ) → Replied b [] b 0
 replied-none b = record { size = refl; buffer = refl }
 
 -- ---- answers
+pub discard-is : (n : ℕ) {e : Edit} → e ≡ noEdit → _≡_ {A = Served} (record { outcome = record { outcome = n; length = 0 }; edit = e }) (record { outcome = record { outcome = n; length = 0 }; edit = noEdit })
+discard-is n p = ap {B = Served} (λ (e : Edit). record { outcome = record { outcome = n; length = 0 }; edit = e }) p
+
 -- a discard edits nothing
 pub serves-discard : (n : ℕ) (b : Book) (h : ℕ) (buffer : List ℕ) (r : Served) → r ≡ record { outcome = record { outcome = n; length = 0 }; edit = noEdit } → Serves (discarded n b) b h buffer buffer r
 serves-discard n b h buffer r e = record {
@@ -75,21 +79,21 @@ serves-decided b h m d n {x} {y} e w =
     (record { tells = record { outcome = refl; size = w .size; buffer = w .buffer }; book = refl })
 
 -- ---- test 7
+abbrev told : Book → ℕ → Fields → Answer
+told b h m = answered b h m (decideOf (b .state) (b .table) h m)
+
 module _ (b : Book) (h : ℕ) (m : Fields) {x y : List ℕ} {r : Served} where
-  abbrev told : Answer
-  told = answered b h m (decideOf (b .state) (b .table) h m)
-
-  pub for-any : (m .kind ≡ 3 → ⊥) → Serves told b h x y r → Serves (forServer b h m) b h x y r
+  pub for-any : (m .kind ≡ 3 → ⊥) → Serves (told b h m) b h x y r → Serves (forServer b h m) b h x y r
   unfolding forServer pick
-  for-any e s = serves-as (sym (ap (λ (t : Bool). pick (t && not (m .ours)) (discarded 7 b) told) (ne-eqb (m .kind) 3 e))) s
+  for-any e s = serves-as (sym (ap (λ (t : Bool). pick (t && not (m .ours)) (discarded 7 b) (told b h m)) (ne-eqb (m .kind) 3 e))) s
 
-  pub for-ours : m .kind ≡ 3 → m .ours ≡ true → Serves told b h x y r → Serves (forServer b h m) b h x y r
+  pub for-ours : m .kind ≡ 3 → m .ours ≡ true → Serves (told b h m) b h x y r → Serves (forServer b h m) b h x y r
   unfolding forServer pick
-  for-ours e o s = serves-as (sym (ap₂ (λ (t u : Bool). pick (t && not u) (discarded 7 b) told) (eq-eqb (m .kind) 3 e) o)) s
+  for-ours e o s = serves-as (sym (ap₂ (λ (t u : Bool). pick (t && not u) (discarded 7 b) (told b h m)) (eq-eqb (m .kind) 3 e) o)) s
 
   pub for-others : m .kind ≡ 3 → m .ours ≡ false → Serves (discarded 7 b) b h x y r → Serves (forServer b h m) b h x y r
   unfolding forServer pick
-  for-others e o s = serves-as (sym (ap₂ (λ (t u : Bool). pick (t && not u) (discarded 7 b) told) (eq-eqb (m .kind) 3 e) o)) s
+  for-others e o s = serves-as (sym (ap₂ (λ (t u : Bool). pick (t && not u) (discarded 7 b) (told b h m)) (eq-eqb (m .kind) 3 e) o)) s
 
 -- ---- tests 4 to 6
 module _ (s : List ℕ) (r : Reading) (e : r ≡ readOf s) where

@@ -119,7 +119,14 @@ fn discard(n: u8) -> Served
 }
 
 // After test 7: the decision, and the reply written from it.
-fn decided(s: State, own: TenantLeases, held: HeldTable, h: usize, m: Fields, reply: &mut [u8]) -> Served
+fn decided(
+    s: State,
+    own: TenantLeases,
+    held: HeldTable,
+    h: usize,
+    m: Fields,
+    reply: &mut [u8],
+) -> Served
     requires { ⌜ leastRoom ≤ length (now reply) ⌝ }
     ensures { λ r. ⌜ ServesTenant s own held h (λ b. answered b h m (decideOf (b .state) (b .table) h m)) (now (reply .entry)) (now (reply .exit)) r ⌝ }
 {
@@ -137,7 +144,14 @@ fn decided(s: State, own: TenantLeases, held: HeldTable, h: usize, m: Fields, re
 }
 
 // Test 7.
-fn for_server(s: State, own: TenantLeases, held: HeldTable, h: usize, m: Fields, reply: &mut [u8]) -> Served
+fn for_server(
+    s: State,
+    own: TenantLeases,
+    held: HeldTable,
+    h: usize,
+    m: Fields,
+    reply: &mut [u8],
+) -> Served
     requires { ⌜ leastRoom ≤ length (now reply) ⌝ }
     ensures { λ r. ⌜ ServesTenant s own held h (λ b. forServer b h m) (now (reply .entry)) (now (reply .exit)) r ⌝ }
 {

@@ -2,7 +2,7 @@
 -- records afterwards. A house is a tenant here. A slice has "always 128" records; "another number makes the book unsound (1, 21 or 22)".
 use Prim.Native.Nat.{ℕ}
 use mathlib.Core.Path.{_≡_}
-use mathlib.Core.Bool.{Bool}
+use mathlib.Core.Bool.{Bool, true}
 use mathlib.Core.List.{List, []}
 use lib.Dec.{eqb, ltb}
 use lib.ListN.{length}
@@ -12,6 +12,9 @@ use Rattle.state.specs.declared.Lease.{Lease}
 use Rattle.state.specs.declared.LeaseTable.{LeaseTable}
 use Rattle.state.specs.declared.State.{State}
 use Rattle.state.specs.Book.{insertOf, laidOut, placeOf, putAt, removeOf}
+use Rattle.soundness.specs.declared.HeldTable.{HeldTable}
+use Rattle.soundness.specs.Sound.{soundB}
+use Rattle.soundness.specs.Parts.{holdingsOf}
 use Rattle.decision.specs.Parts.{ownOf}
 use Rattle.server.specs.declared.Outcome.{Outcome}
 use Rattle.server.specs.Serve.{Answer, Call, Said, Tells, bookOf, serveOf}
@@ -53,6 +56,11 @@ serveWith n s ls c = pick (is128 n) (lentAnswer (serveOf (bookFrom s ls) c)) (re
 
 abbrev pub serveLent : State → List Lease → Call → LentAnswer
 serveLent s ls c = serveWith (length ls) s ls c
+
+-- what a call has gathered of the lent records once it knows that the book is sound: what the tenants hold
+pub record Gathered (s : State) (ls : List Lease) (held : HeldTable) : Type 0 where
+  pub sound : soundB s (tableFrom ls) ≡ true
+  pub holdings : held ≡ holdingsOf (tableFrom ls)
 
 -- what a function on 128 records by value promises: what is told, the clock and every record
 pub record ServesRecords (a : LentAnswer) (before after : List ℕ) (r : ServedRecords) : Type 0 where

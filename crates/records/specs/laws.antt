@@ -1,5 +1,7 @@
 pub mod Table
+pub mod Back
+pub mod Rows
 pub mod Lent
 pub mod Steps
-pub mod Back
+pub mod Call
 pub mod Files

@@ -1,16 +1,24 @@
 // The lent lease records by value, and what each entry point does with them: 128 in a row, sixteen to a tenant, tenant by tenant. The number
 // of records that the lent slice has comes with them.
+ghost use mathlib.Core.Bool.{_||_};
 ghost use mathlib.Core.Path.{_≡_};
-ghost use Prim.Native.Nat.{min};
+ghost use Prim.Native.Nat.{_≤_, _<_, min};
 ghost use lib.ListN.{length, replicate, take};
+ghost use Rattle.lists.specs.All.{allBy};
 ghost use Rattle.lists.specs.Place.{placeBy};
+ghost use Rattle.reply.specs.Reply.{leastRoom};
 ghost use Rattle.soundness.specs.Sound.{unusedB};
-ghost use Rattle.state.specs.Book.{zeroLease};
+ghost use Rattle.soundness.specs.Parts.{holdingsOf, tableRulesOf};
+ghost use Rattle.state.specs.Book.{leasesOf, tableOf, tenantAt, zeroLease};
+ghost use Rattle.server.specs.Serve.{atClock};
 ghost use Rattle.state_file.specs.StateFile.{readFile};
-ghost use Rattle.records.specs.Records.{tenantFrom, tableFrom, recordsOf};
-ghost use Rattle.records.specs.Lent.{serveWith, ServesRecords, readWith, Reads, writtenWith, roomWith, foundAmong, findWith, insertWith, removeWith};
+ghost use Rattle.records.specs.Records.{Drops, endsAfter, putRow, recordsOf, tableFrom, tenantFrom};
+ghost use Rattle.records.specs.Lent.{Gathered, bookFrom, lentAnswer, serveWith, ServesRecords, readWith, Reads, writtenWith, roomWith, foundAmong, findWith, insertWith, removeWith};
 use server::Outcome;
-use state::Book;
+use soundness::Held;
+use soundness::HeldTable;
+use soundness::TableRules;
+use state::Edit;
 use state::Lease;
 use state::LeaseTable;
 use state::State;
@@ -26,6 +34,12 @@ pub struct ServedRecords {
     pub outcome: Outcome,
     pub clock: u32,
     pub records: Records,
+}
+
+// Records after a drop, and what their tenants hold.
+struct Dropped {
+    records: Records,
+    held: HeldTable,
 }
 
 // Where a tenant has a lease with an identifier: at a place among its records, counted from 0.
@@ -133,9 +147,167 @@ pub fn records_of(table: LeaseTable) -> Records
     now
 }
 
+// ---- one tenant's records, counted from 0
+
+fn row(records: Records, h: usize) -> TenantLeases
+    requires { ⌜ h < 8 ⌝ }
+    ensures { λ r. ⌜ r ≡ tenantAt (tableFrom (records .leases)) h ⌝ }
+{
+    let l = state::no_lease();
+    let mut now = [l; 16];
+    let mut i: usize = 0;
+    while i < 16 {
+        now[i] = records.leases[16 * h + i];
+        i += 1;
+    }
+    tenant_from(now)
+}
+
+fn put_row(records: Records, h: usize, t: TenantLeases) -> Records
+    requires { ⌜ h < 8 ⌝ }
+    ensures { λ r. ⌜ (r .leases ≡ putRow (records .leases) h (t .leases)) × (length (r .leases) ≡ 128) ⌝ }
+{
+    let mut now = records;
+    let mut i: usize = 0;
+    while i < 16 {
+        now.leases[16 * h + i] = t.leases[i];
+        i += 1;
+    }
+    now
+}
+
+// Which rules each tenant's records keep, and what all tenants hold, row by row.
+fn survey(s: State, records: Records) -> TableRules
+    ensures { λ r. ⌜ r ≡ tableRulesOf s (tableFrom (records .leases)) ⌝ }
+{
+    let l = state::no_lease();
+    let pools = soundness::pools_of(s);
+    let mut now = soundness::no_tenants();
+    let mut h: usize = 0;
+    while h < 8 {
+        let mut row = [l; 16];
+        let mut i: usize = 0;
+        while i < 16 {
+            row[i] = records.leases[16 * h + i];
+            i += 1;
+        }
+        let t = tenant_from(row);
+        now = soundness::add_tenant(s, pools, now, h, t);
+        h += 1;
+    }
+    now
+}
+
+// ---- the drop
+
+fn ends_after(x: Held, clock: u32) -> bool
+    ensures { λ r. ⌜ r ≡ endsAfter clock x ⌝ }
+{
+    clock < x.first_end
+}
+
+// Whether no lease ends at or before a clock.
+fn none_ended(held: HeldTable, clock: u32) -> bool
+    ensures { λ r. ⌜ r ≡ allBy (endsAfter clock) (held .tenants) ⌝ }
+{
+    let mut h: usize = 0;
+    while h < 8 {
+        let x = held.tenants[h];
+        h += 1;
+        if !ends_after(x, clock) {
+            return false;
+        }
+    }
+    true
+}
+
+// The leases that end at or before a clock go, tenant by tenant; the records of a tenant that has none stay as they are.
+fn drop_ended(records: Records, held: HeldTable, clock: u32) -> Dropped
+    requires { ⌜ (tableFrom (records .leases) ≡ tableOf (leasesOf (tableFrom (records .leases)))) × (held ≡ holdingsOf (tableFrom (records .leases))) ⌝ }
+    ensures { λ r. ⌜ Drops clock (records .leases) r ⌝ }
+{
+    let mut now = records;
+    let mut sets = held;
+    let mut h: usize = 0;
+    while h < 8 {
+        let x = held.tenants[h];
+        let at = h;
+        h += 1;
+        if !ends_after(x, clock) {
+            let t = row(records, at);
+            let left = state::live_leases(t, clock);
+            now = put_row(now, at, left);
+            let g = soundness::held_sets(left);
+            sets.tenants[at] = g;
+        }
+    }
+    Dropped {
+        records: now,
+        held: sets,
+    }
+}
+
 // ---- the entry points
 
-// The call on the records of a slice that has n.
+fn discard(n: u8, clock: u32, records: Records) -> ServedRecords
+    ensures { λ r. ⌜ r ≡ record { outcome = record { outcome = n; length = 0 }; clock = clock; records = records } ⌝ }
+{
+    ServedRecords {
+        outcome: Outcome {
+            outcome: n,
+            length: 0,
+        },
+        clock: clock,
+        records: records,
+    }
+}
+
+fn is_edit(e: Edit) -> bool
+    ensures { λ r. ⌜ r ≡ (e .leaves || e .enters) ⌝ }
+{
+    if e.leaves {
+        return true;
+    }
+    e.enters
+}
+
+// Test 3 and what follows, after the drop: the client's tenant, whose records alone are edited, and only where something changes.
+fn at_clock(
+    s: State,
+    records: Records,
+    held: HeldTable,
+    client: u32,
+    datagram: &[u8],
+    reply: &mut [u8],
+) -> ServedRecords
+    requires { ⌜ (leastRoom ≤ length (now reply)) × Gathered s (records .leases) held ⌝ }
+    ensures { λ r. ⌜ ServesRecords (lentAnswer (atClock (bookFrom s (records .leases)) client (now (datagram .entry)))) (now (reply .entry)) (now (reply .exit)) r ⌝ }
+{
+    let h = server::tenant_of(s, client);
+    if h < arithmetic::cut8(s.tenant_count) {
+        let own = row(records, h);
+        let r = server::on_tenant(s, own, held, h, datagram, reply);
+        let o = r.outcome;
+        let e = r.edit;
+        if is_edit(e) {
+            let t = state::edited(own, e);
+            let now = put_row(records, h, t);
+            return ServedRecords {
+                outcome: o,
+                clock: s.clock,
+                records: now,
+            };
+        }
+        return ServedRecords {
+            outcome: o,
+            clock: s.clock,
+            records: records,
+        };
+    }
+    discard(3, s.clock, records)
+}
+
+// The call on the records of a slice that has n: tests 1 and 2; then the clock is raised, and ended leases are dropped where there are any.
 pub fn serve(
     state: State,
     records: Records,
@@ -147,37 +319,25 @@ pub fn serve(
 ) -> ServedRecords
     ensures { λ r. ⌜ ServesRecords (serveWith n state (records .leases) (record { datagram = now (datagram .entry); client = client; time = time; room = length (now (reply .entry)) })) (now (reply .entry)) (now (reply .exit)) r ⌝ }
 {
-    if n == 128 {
-        let t = table_of(records);
-        let r = server::serve(
-            Book {
-                state: state,
-                table: t,
-            },
-            datagram,
-            client,
-            time,
-            reply,
-        );
-        let b = r.book;
-        let s = b.state;
-        let u = b.table;
-        let x = records_of(u);
-        let o = r.outcome;
-        return ServedRecords {
-            outcome: o,
-            clock: s.clock,
-            records: x,
-        };
+    if n != 128 {
+        return discard(1, state.clock, records);
     }
-    ServedRecords {
-        outcome: Outcome {
-            outcome: 1,
-            length: 0,
-        },
-        clock: state.clock,
-        records: records,
+    let c = survey(state, records);
+    if !soundness::sound_from(state, c) {
+        return discard(1, state.clock, records);
     }
+    if reply.len() < reply::LEAST_ROOM {
+        return discard(2, state.clock, records);
+    }
+    let s = state::raise(state, time);
+    let held = c.held;
+    if none_ended(held, s.clock) {
+        return at_clock(s, records, held, client, datagram, reply);
+    }
+    let d = drop_ended(records, held, s.clock);
+    let left = d.records;
+    let sets = d.held;
+    at_clock(s, left, sets, client, datagram, reply)
 }
 
 fn untouched(refusal: u8, state: State, records: Records) -> ReadRecords
@@ -240,10 +400,11 @@ pub fn find(records: Records, n: usize, h: usize, id: [u8; 32], len: u8) -> Foun
     ensures { λ r. ⌜ r ≡ findWith n h (take len id) (records .leases) ⌝ }
 {
     if n == 128 {
-        let t = table_of(records);
-        let own = state::tenant_at(t, h);
-        let at = state::find(own, id, len);
-        return found_among(state::lease_count(own), at);
+        if h < 8 {
+            let own = row(records, h);
+            let at = state::find(own, id, len);
+            return found_among(state::lease_count(own), at);
+        }
     }
     Found::Absent
 }
@@ -254,12 +415,10 @@ pub fn insert(records: Records, n: usize, h: usize, l: Lease) -> Records
 {
     if n == 128 {
         if h < 8 {
-            let t = table_of(records);
-            let own = state::tenant_at(t, h);
+            let own = row(records, h);
             if state::lease_count(own) < 16 {
                 let x = state::insert(own, l);
-                let u = state::put_tenant(t, h, x);
-                return records_of(u);
+                return put_row(records, h, x);
             }
         }
     }
@@ -272,11 +431,9 @@ pub fn remove(records: Records, n: usize, h: usize, id: [u8; 32], len: u8) -> Re
 {
     if n == 128 {
         if h < 8 {
-            let t = table_of(records);
-            let own = state::tenant_at(t, h);
+            let own = row(records, h);
             let x = state::remove(own, id, len);
-            let u = state::put_tenant(t, h, x);
-            return records_of(u);
+            return put_row(records, h, x);
         }
     }
     records

@@ -9,13 +9,11 @@ pub insert-spec : {M : Type 1} → statement M
 insert-spec =
     tie.close
     (tie.spec
-    (λ c κs. search needs)
-    (λ c κs. search needs)
-    (λ c κs. search needs)
-    (λ c κs. search needs)
-    (λ c κs. search needs)
-    (λ c κs. search needs)
-    (λ c. search (insert-in, needs))
-    (λ c. search (insert-full, insert-none, insert-out, unmapped, needs))
-    (λ c. search (insert-none, insert-out, unmapped, needs))
-    (λ c. search (insert-out, unmapped, needs)))
+    (λ c κs. search needs)  -- src/lib.rt:417:17 row-requires
+    (λ c κs. search needs)  -- src/lib.rt:418:16 lease-count-requires
+    (λ c κs. search needs)  -- src/lib.rt:419:21 insert-requires
+    (λ c κs. search needs)  -- src/lib.rt:420:17 put-row-requires
+    (λ c. search (insert-in, unmapped, needs))  -- src/lib.rt:420:17 returns
+    (λ c. search (insert-full, insert-none, insert-out, unmapped, needs))  -- src/lib.rt:412:1 returns-2
+    (λ c. search (insert-none, insert-out, unmapped, needs))  -- src/lib.rt:412:1 returns-3
+    (λ c. search (insert-out, unmapped, needs)))  -- src/lib.rt:412:1 returns-4

@@ -9,11 +9,9 @@ pub remove-spec : {M : Type 1} → statement M
 remove-spec =
     tie.close
     (tie.spec
-    (λ c κs. search needs)
-    (λ c κs. search needs)
-    (λ c κs. search needs)
-    (λ c κs. search needs)
-    (λ c κs. search needs)
-    (λ c. search (remove-in, needs))
-    (λ c. search (remove-none, remove-out, unmapped, needs))
-    (λ c. search (remove-out, unmapped, needs)))
+    (λ c κs. search needs)  -- src/lib.rt:433:17 row-requires
+    (λ c κs. search needs)  -- src/lib.rt:434:17 remove-requires
+    (λ c κs. search needs)  -- src/lib.rt:435:13 put-row-requires
+    (λ c. search (remove-in, unmapped, needs))  -- src/lib.rt:435:13 returns
+    (λ c. search (remove-none, remove-out, unmapped, needs))  -- src/lib.rt:428:1 returns-2
+    (λ c. search (remove-out, unmapped, needs)))  -- src/lib.rt:428:1 returns-3

@@ -1,13 +1,13 @@
 -- `table_of` meets its contract: row by row, and within a row record by record.
 use Prim.Native.Nat.{_-_}
 use Rattle.lists.specs.laws.Part.{unmapped}
-use Rattle.records.specs.laws.Table.{InRowInv, RowsInv, to-table}
+use Rattle.records.specs.laws.Table.{RowInv, RowsInv, to-table}
 use borrow.Author.Needs.{needs}
 use Rattle.records.proofs.table_of.Statement.{statement}
 use Rattle.records.proofs.table_of.Tie as tie
 
 abbrev Inv-loop2 : tie.InvT-loop2
-Inv-loop2 records l now h row₀ i₀ row i = InRowInv (records .leases) (now .tenants) h row₀ row i
+Inv-loop2 records l now h row₀ i₀ row i = RowsInv (records .leases) (now .tenants) h × RowInv (records .leases) h row₀ row i
 
 abbrev μ-loop2 : tie.MeasureT-loop2
 μ-loop2 records l now h row₀ i₀ row i = 16 - i

@@ -8,16 +8,14 @@ use lib.Dec.{ltb}
 use lib.ListN.{length}
 use borrow.Author.Tests.{eq-eqb, ne-eqb, lt-ltb, le-ltb}
 use Rattle.lists.specs.Pick.{pick}
-use Rattle.state.specs.declared.Book.{Book}
+use Rattle.lists.specs.Place.{placeBy}
 use Rattle.state.specs.declared.Lease.{Lease}
 use Rattle.state.specs.declared.LeaseTable.{LeaseTable}
 use Rattle.state.specs.declared.State.{State}
 use Rattle.state.specs.declared.TenantLeases.{TenantLeases}
 use Rattle.state.specs.Book.{inUse, insertOf, insertedIn, laidOut, placeOf, putAt, removeOf, tenantAt}
+use Rattle.state.specs.laws.Layout.{at-out}
 use Rattle.decision.specs.Parts.{ownOf}
-use Rattle.server.specs.declared.Served.{Served}
-use Rattle.server.specs.Serve.{Answer, Call, Serves, bookOf, said, serveOf}
-use Rattle.server.specs.laws.Told.{tells-as}
 use Rattle.state_file.specs.declared.Loaded.{Loaded}
 use Rattle.state_file.specs.declared.Written.{Written}
 use Rattle.state_file.specs.StateFile.{roomAfter, writtenOf}
@@ -25,8 +23,10 @@ use Rattle.records.specs.declared.Found.{Found}
 use Rattle.records.specs.declared.Found.the-variants.{Absent}
 use Rattle.records.specs.declared.ReadRecords.{ReadRecords}
 use Rattle.records.specs.declared.Records.{Records}
-use Rattle.records.specs.Records.{recordsOf, tableFrom}
-use Rattle.records.specs.Lent.{bookFrom, findWith, foundAmong, insertWith, lentAnswer, lentSaid, LentAnswer, LentReading, readWith, Reads, removeWith, roomWith, serveWith, ServesRecords, untouched, is128, withOwn, writtenWith}
+use Rattle.records.specs.Records.{putRow, recordsOf, tableFrom}
+use Rattle.records.specs.laws.Rows.{put-row-is}
+use Rattle.records.specs.laws.Table.{table-eight}
+use Rattle.records.specs.Lent.{findWith, foundAmong, insertWith, LentReading, readWith, Reads, removeWith, roomWith, untouched, is128, withOwn, writtenWith}
 
 -- ---- a test on the number of records
 pub is-whole : {n : ℕ} → n ≡ 128 → is128 n ≡ true
@@ -48,11 +48,18 @@ module _ {A : Type 0} {n : ℕ} (x y : A) where
 
 -- ---- one record
 module _ (n h : ℕ) (ls : List Lease) where
-  pub find-in : (i : List ℕ) {t : LeaseTable} {own : TenantLeases} {at k : ℕ} {r : Found} → n ≡ 128 → t ≡ tableFrom ls → own ≡ tenantAt t h → at ≡ placeOf i (inUse own) → k ≡ length (inUse own)
+  pub find-in : (i : List ℕ) {own : TenantLeases} {at k : ℕ} {r : Found} → n ≡ 128 → own ≡ tenantAt (tableFrom ls) h → at ≡ placeOf i (inUse own) → k ≡ length (inUse own)
       → r ≡ foundAmong k at → r ≡ findWith n h i ls
   unfolding findWith
-  find-in i e a b c d f =
-      f ∙ ap₂ foundAmong d c ∙ ap (λ (x : TenantLeases). foundAmong (length (inUse x)) (placeOf i (inUse x))) (b ∙ ap (λ (x : LeaseTable). tenantAt x h) a)
+  find-in i e b c d f =
+      f ∙ ap₂ foundAmong d c ∙ ap (λ (x : TenantLeases). foundAmong (length (inUse x)) (placeOf i (inUse x))) b
+      ∙ on-whole (foundAmong (length (ownOf (tableFrom ls) h)) (placeOf i (ownOf (tableFrom ls) h))) Absent e
+
+  -- no tenant has no lease
+  pub find-none : (i : List ℕ) → n ≡ 128 → 8 ≤ h → Absent ≡ findWith n h i ls
+  unfolding findWith foundAmong laidOut placeBy pick
+  find-none i e p =
+      ap (λ (x : TenantLeases). foundAmong (length (inUse x)) (placeOf i (inUse x))) (at-out (tableFrom ls .tenants) 8 h (laidOut []) (laidOut []) (table-eight ls) p refl)
       ∙ on-whole (foundAmong (length (ownOf (tableFrom ls) h)) (placeOf i (ownOf (tableFrom ls) h))) Absent e
 
   pub find-out : (i : List ℕ) → (n ≡ 128 → ⊥) → Absent ≡ findWith n h i ls
@@ -60,32 +67,31 @@ module _ (n h : ℕ) (ls : List Lease) where
   find-out i e = off-whole (foundAmong (length (ownOf (tableFrom ls) h)) (placeOf i (ownOf (tableFrom ls) h))) Absent e
 
   -- the tenant's records, put in place
-  put-in : (p : List Lease → List Lease) {t u : LeaseTable} {own x : TenantLeases} {m : List Lease}
-      → t ≡ tableFrom ls → own ≡ tenantAt t h → x ≡ laidOut (p (inUse own)) → u ≡ putAt t h x → m ≡ recordsOf u → m ≡ withOwn (tableFrom ls) h (p (ownOf (tableFrom ls) h))
-  put-in p {t} a b c d e =
-      e ∙ ap recordsOf (d ∙ ap (putAt t h) (c ∙ ap (λ (y : TenantLeases). laidOut (p (inUse y))) b)
-      ∙ ap (λ (y : LeaseTable). putAt y h (laidOut (p (ownOf y h)))) a)
+  put-in : (p : List Lease → List Lease) {own x : TenantLeases} {m : List Lease} → length ls ≡ 128 → h < 8
+      → own ≡ tenantAt (tableFrom ls) h → x ≡ laidOut (p (inUse own)) → m ≡ putRow ls h (x .leases) → m ≡ withOwn (tableFrom ls) h (p (ownOf (tableFrom ls) h))
+  put-in p {x = x} z f b c e =
+      e ∙ put-row-is ls h x z f ∙ ap (λ (y : TenantLeases). recordsOf (putAt (tableFrom ls) h y)) (c ∙ ap (λ (y : TenantLeases). laidOut (p (inUse y))) b)
 
   abbrev inserted : Lease → List Lease
   inserted l = withOwn (tableFrom ls) h (insertOf l (ownOf (tableFrom ls) h))
 
   module _ (l : Lease) where
-    pub insert-in : {t u : LeaseTable} {own x : TenantLeases} {k : ℕ} {m : List Lease} → n ≡ 128 → h < 8 → t ≡ tableFrom ls → own ≡ tenantAt t h → k ≡ length (inUse own) → k < 16
-        → x ≡ insertedIn l own → u ≡ putAt t h x → m ≡ recordsOf u → m ≡ insertWith n h l ls
+    pub insert-in : {own x : TenantLeases} {k : ℕ} {m : List Lease} → n ≡ 128 → h < 8 → length ls ≡ 128 → own ≡ tenantAt (tableFrom ls) h → k ≡ length (inUse own) → k < 16
+        → x ≡ insertedIn l own → m ≡ putRow ls h (x .leases) → m ≡ insertWith n h l ls
     unfolding insertWith insertedIn pick
-    insert-in {own = own} e f a b c g d i j =
-        put-in (insertOf l) a b (d ∙ ap (λ (t : Bool). pick t (laidOut (insertOf l (inUse own))) own) (lt-ltb _ 16 (subst-lt c g))) i j
-        ∙ sym (ap (λ (t : Bool). pick t (inserted l) ls) (lt-ltb _ 16 (subst-lt (c ∙ ap (λ (y : TenantLeases). length (inUse y)) (b ∙ ap (λ (y : LeaseTable). tenantAt y h) a)) g)))
+    insert-in {own = own} e f z b c g d j =
+        put-in (insertOf l) z f b (d ∙ ap (λ (t : Bool). pick t (laidOut (insertOf l (inUse own))) own) (lt-ltb _ 16 (subst-lt c g))) j
+        ∙ sym (ap (λ (t : Bool). pick t (inserted l) ls) (lt-ltb _ 16 (subst-lt (c ∙ ap (λ (y : TenantLeases). length (inUse y)) b) g)))
         ∙ sym (ap (λ (t : Bool). pick t (pick (ltb (length (ownOf (tableFrom ls) h)) 16) (inserted l) ls) ls) (lt-ltb h 8 f))
         ∙ on-whole (pick (ltb h 8) (pick (ltb (length (ownOf (tableFrom ls) h)) 16) (inserted l) ls) ls) ls e
       where
         subst-lt : {x y z : ℕ} → x ≡ y → x < z → y < z
         subst-lt p q = omega arith
 
-    pub insert-full : {t : LeaseTable} {own : TenantLeases} {k : ℕ} → n ≡ 128 → h < 8 → t ≡ tableFrom ls → own ≡ tenantAt t h → k ≡ length (inUse own) → 16 ≤ k → ls ≡ insertWith n h l ls
+    pub insert-full : {own : TenantLeases} {k : ℕ} → n ≡ 128 → h < 8 → own ≡ tenantAt (tableFrom ls) h → k ≡ length (inUse own) → 16 ≤ k → ls ≡ insertWith n h l ls
     unfolding insertWith pick
-    insert-full e f a b c g =
-        sym (ap (λ (t : Bool). pick t (inserted l) ls) (le-ltb _ 16 (subst-le (c ∙ ap (λ (y : TenantLeases). length (inUse y)) (b ∙ ap (λ (y : LeaseTable). tenantAt y h) a)) g)))
+    insert-full e f b c g =
+        sym (ap (λ (t : Bool). pick t (inserted l) ls) (le-ltb _ 16 (subst-le (c ∙ ap (λ (y : TenantLeases). length (inUse y)) b) g)))
         ∙ sym (ap (λ (t : Bool). pick t (pick (ltb (length (ownOf (tableFrom ls) h)) 16) (inserted l) ls) ls) (lt-ltb h 8 f))
         ∙ on-whole (pick (ltb h 8) (pick (ltb (length (ownOf (tableFrom ls) h)) 16) (inserted l) ls) ls) ls e
       where
@@ -106,11 +112,11 @@ module _ (n h : ℕ) (ls : List Lease) where
   removed i = withOwn (tableFrom ls) h (removeOf i (ownOf (tableFrom ls) h))
 
   module _ (i : List ℕ) where
-    pub remove-in : {t u : LeaseTable} {own x : TenantLeases} {m : List Lease} → n ≡ 128 → h < 8 → t ≡ tableFrom ls → own ≡ tenantAt t h
-        → x ≡ laidOut (removeOf i (inUse own)) → u ≡ putAt t h x → m ≡ recordsOf u → m ≡ removeWith n h i ls
+    pub remove-in : {own x : TenantLeases} {m : List Lease} → n ≡ 128 → h < 8 → length ls ≡ 128 → own ≡ tenantAt (tableFrom ls) h
+        → x ≡ laidOut (removeOf i (inUse own)) → m ≡ putRow ls h (x .leases) → m ≡ removeWith n h i ls
     unfolding removeWith pick
-    remove-in e f a b d p j =
-        put-in (removeOf i) a b d p j ∙ sym (ap (λ (t : Bool). pick t (removed i) ls) (lt-ltb h 8 f)) ∙ on-whole (pick (ltb h 8) (removed i) ls) ls e
+    remove-in e f z b d j =
+        put-in (removeOf i) z f b d j ∙ sym (ap (λ (t : Bool). pick t (removed i) ls) (lt-ltb h 8 f)) ∙ on-whole (pick (ltb h 8) (removed i) ls) ls e
 
     pub remove-none : n ≡ 128 → 8 ≤ h → ls ≡ removeWith n h i ls
     unfolding removeWith pick
@@ -119,38 +125,6 @@ module _ (n h : ℕ) (ls : List Lease) where
     pub remove-out : (n ≡ 128 → ⊥) → ls ≡ removeWith n h i ls
     unfolding removeWith
     remove-out e = off-whole (pick (ltb h 8) (removed i) ls) ls e
-
--- ---- the call
-module _ (n : ℕ) (s : State) (ls : List Lease) (c : Call) where
-  pub serve-in : {t : LeaseTable} {before after : List ℕ} {r : Served} {m : Records} → n ≡ 128 → t ≡ tableFrom ls → Serves (serveOf (bookOf s t) c) before after r
-      → (m .leases ≡ recordsOf (r .book .table)) × (length (m .leases) ≡ 128)
-      → ServesRecords (serveWith n s ls c) before after (record { outcome = r .outcome; clock = r .book .state .clock; records = m })
-  unfolding serveWith
-  serve-in {t} {before} {after} {r} {m} e a v w = record {
-    tells = tells-as (ap said same ∙ ap lentSaid at) (v .tells);
-    clock = ap (λ (x : Book). x .state .clock) (v .book) ∙ ap (λ (x : Answer). x .book .state .clock) same ∙ ap (λ (x : LentAnswer). x .state .clock) at;
-    leases = w .0 ∙ ap (λ (x : Book). recordsOf (x .table)) (v .book) ∙ ap (λ (x : Answer). recordsOf (x .book .table)) same ∙ ap (λ (x : LentAnswer). x .leases) at;
-    long = w .1;
-  }
-    where
-      same : serveOf (bookOf s t) c ≡ serveOf (bookFrom s ls) c
-      same = ap (λ (x : LeaseTable). serveOf (bookOf s x) c) a
-
-      at : lentAnswer (serveOf (bookFrom s ls) c) ≡ serveWith n s ls c
-      at = on-whole (lentAnswer (serveOf (bookFrom s ls) c)) (record { outcome = 1; reply = []; state = s; leases = ls }) e
-
-  pub serve-out : {before : List ℕ} {m : Records} → (n ≡ 128 → ⊥) → m .leases ≡ ls → length ls ≡ 128
-      → ServesRecords (serveWith n s ls c) before before (record { outcome = record { outcome = 1; length = 0 }; clock = s .clock; records = m })
-  unfolding serveWith
-  serve-out {before} {m} e a q = record {
-    tells = tells-as (ap lentSaid at) (record { outcome = refl; size = refl; buffer = refl });
-    clock = ap (λ (x : LentAnswer). x .state .clock) at;
-    leases = a ∙ ap (λ (x : LentAnswer). x .leases) at;
-    long = ap length a ∙ q;
-  }
-    where
-      at : record { outcome = 1; reply = []; state = s; leases = ls } ≡ serveWith n s ls c
-      at = off-whole (lentAnswer (serveOf (bookFrom s ls) c)) (record { outcome = 1; reply = []; state = s; leases = ls }) e
 
 -- ---- the writer
 module _ (n : ℕ) (s : State) (ls : List Lease) where

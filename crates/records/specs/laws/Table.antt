@@ -1,10 +1,10 @@
 -- Laws: between records and the table that they stand for, and the loops that go from one to the other.
 use mathlib.Core.Path.{_≡_, refl, sym, ap, ap₂, _∙_, subst}
-use mathlib.Core.List.{List, [], _∷_, _++_, append-assoc, append-nil}
+use mathlib.Core.List.{List, [], _∷_, _++_, map, append-assoc, append-nil}
 use Prim.Native.Nat.{ℕ, zero, suc, _+_, _-_, _*_, _≤_, _<_}
 use native.Mathlib.Omega.{arith}
 use native.Mathlib.Numerals.{add-one}
-use lib.ListN.{length, replicate, take, drop, getD, set, length-append, length-replicate, replicate-append-replicate}
+use lib.ListN.{length, replicate, take, drop, getD, set, length-append, length-map, length-replicate, replicate-append-replicate, List·getD-map}
 use lib.Seq.{getD-drop, take-at, drop-at, take-suc, take-all, drop-drop}
 use Rattle.lists.specs.laws.Copy.{CopyInv, copy-start, copy-start-part, copy-next, copy-front, copy-long, copy-paste, copy-full}
 use Rattle.lists.specs.laws.Place.{PlaceInv, place-start}
@@ -13,8 +13,8 @@ use Rattle.lists.specs.laws.Each.{BuildInv, build-start, each-next, each-end}
 use Rattle.state.specs.declared.Lease.{Lease}
 use Rattle.state.specs.declared.TenantLeases.{TenantLeases}
 use Rattle.state.specs.declared.LeaseTable.{LeaseTable}
-use Rattle.state.specs.Book.{laidOut, zeroLease, noLeases}
-use Rattle.state.specs.laws.Layout.{noLease}
+use Rattle.state.specs.Book.{laidOut, noLeases, tenantAt, zeroLease}
+use Rattle.state.specs.laws.Layout.{noLease, at-in}
 use Rattle.soundness.specs.Sound.{unusedB}
 use Rattle.records.specs.Records.{rows, tenantFrom, tableFrom, rowsOf, recordsOf}
 
@@ -36,7 +36,7 @@ rows-at (suc n) (suc h) ls p =
     rows-at n h (drop 16 ls) (omega arith)
     ∙ ap (take 16) (drop-drop (16 * h) 16 ls ∙ ap (λ (k : ℕ). drop k ls) (let e : 16 + 16 * h ≡ 16 * suc h = omega arith in e))
 
--- what the loop over the rows keeps, and the loop that copies one row within it
+-- what the loop over the rows keeps
 pub record RowsInv (ls : List Lease) (now : List TenantLeases) (h : ℕ) : Type 0 where
   pub built : BuildInv tenantFrom [] (rows 8 ls) (replicate 8 (laidOut [])) 8 now h
   pub size : length ls ≡ 128
@@ -44,35 +44,46 @@ pub record RowsInv (ls : List Lease) (now : List TenantLeases) (h : ℕ) : Type 
 pub rows-start : {ls : List Lease} {t : TenantLeases} → length ls ≡ 128 → t ≡ laidOut [] → RowsInv ls (replicate 8 t) 0
 rows-start {ls} p q = subst (λ (x : TenantLeases). RowsInv ls (replicate 8 x) 0) (sym q) (record { built = build-start (rows-length 8 ls) refl; size = p })
 
-pub record InRowInv (ls : List Lease) (now : List TenantLeases) (h : ℕ) (d row : List Lease) (i : ℕ) : Type 0 where
-  pub outer : RowsInv ls now h
+-- one row taken out, record by record
+pub record RowInv (ls : List Lease) (h : ℕ) (d row : List Lease) (i : ℕ) : Type 0 where
   pub more : h < 8
+  pub size : length ls ≡ 128
   pub clear : length d ≡ 16
   pub copied : CopyInv noLease d 0 (drop (16 * h) ls) 16 row i
 
-pub in-row-start : {ls : List Lease} {now : List TenantLeases} {h : ℕ} {d : List Lease} → RowsInv ls now h → h < 8 → length d ≡ 16 → InRowInv ls now h d d 0
-in-row-start {ls} {h = h} v p q = record { outer = v; more = p; clear = q; copied = copy-start-part ls (16 * h) 16 128 q (v .size) (omega arith) (omega arith) }
+pub row-start : {ls : List Lease} {h : ℕ} {d : List Lease} → h < 8 → length ls ≡ 128 → length d ≡ 16 → RowInv ls h d d 0
+row-start {ls} {h = h} p e q = record { more = p; size = e; clear = q; copied = copy-start-part ls (16 * h) 16 128 q e (omega arith) (omega arith) }
 
-module _ {ls : List Lease} {now : List TenantLeases} {h : ℕ} {d row : List Lease} {i : ℕ} (v : InRowInv ls now h d row i) where
-  pub in-row-next : {x : Lease} → i < 16 → x ≡ getD ls (16 * h + i) noLease → InRowInv ls now h d (set row i x) (i + 1)
-  in-row-next {x} p q = record { outer = v .outer; more = v .more; clear = v .clear; copied = copy-front (v .copied) x p (q ∙ at-drop) }
+module _ {ls : List Lease} {h : ℕ} {d row : List Lease} {i : ℕ} (v : RowInv ls h d row i) where
+  pub row-next : {x : Lease} → i < 16 → x ≡ getD ls (16 * h + i) noLease → RowInv ls h d (set row i x) (i + 1)
+  row-next {x} p q = record { more = v .more; size = v .size; clear = v .clear; copied = copy-front (v .copied) x p (q ∙ at-drop) }
     where
       at-drop : getD ls (16 * h + i) noLease ≡ getD (drop (16 * h) ls) i noLease
       at-drop = sym (getD-drop (16 * h) ls i noLease)
 
-  pub in-row-long : length row ≡ 16
-  in-row-long = copy-long (v .copied) ∙ v .clear
+  pub row-long : length row ≡ 16
+  row-long = copy-long (v .copied) ∙ v .clear
 
-  pub in-row-size : length ls ≡ 128
-  in-row-size = v .outer .size
+  pub row-size : length ls ≡ 128
+  row-size = v .size
 
-  pub in-row-end : {t : TenantLeases} → 16 ≤ i → t ≡ tenantFrom row → RowsInv ls (set now h t) (h + 1)
-  in-row-end {t} p q = record {
-    built = each-next (v .outer .built) (v .more) (q ∙ ap tenantFrom (copy-full (v .copied) p (v .clear) ∙ sym (rows-at 8 h ls (v .more))));
-    size = v .outer .size;
-  }
+  pub row-full : {t : TenantLeases} → 16 ≤ i → t ≡ tenantFrom row → t ≡ tenantFrom (getD (rows 8 ls) h [])
+  row-full {t} p q = q ∙ ap tenantFrom (copy-full (v .copied) p (v .clear) ∙ sym (rows-at 8 h ls (v .more)))
+
+pub table-eight : (ls : List Lease) → length (tableFrom ls .tenants) ≡ 8
+unfolding tableFrom
+table-eight ls = length-map (rows 8 ls) tenantFrom ∙ rows-length 8 ls
+
+-- the records of tenant h
+pub row-own : (ls : List Lease) {h : ℕ} {t : TenantLeases} → h < 8 → t ≡ tenantFrom (getD (rows 8 ls) h []) → t ≡ tenantAt (tableFrom ls) h
+unfolding tableFrom
+row-own ls {h} p q =
+    q ∙ sym (List·getD-map tenantFrom (rows 8 ls) h []) ∙ at-in (map tenantFrom (rows 8 ls)) 8 h (tenantFrom []) (laidOut []) (length-map (rows 8 ls) tenantFrom ∙ rows-length 8 ls) p
 
 module _ {ls : List Lease} {now : List TenantLeases} {h : ℕ} (v : RowsInv ls now h) where
+  pub rows-next : {t : TenantLeases} → h < 8 → t ≡ tenantFrom (getD (rows 8 ls) h []) → RowsInv ls (set now h t) (h + 1)
+  rows-next p q = record { built = each-next (v .built) p q; size = v .size }
+
   pub rows-within : h ≤ 8
   rows-within = v .built .within
 
@@ -170,7 +181,9 @@ laid-records v p = laid-end v p
 pub laid-size : {ts : List TenantLeases} {now : List Lease} {h : ℕ} → LaidInv ts now h → length now ≡ 128
 laid-size v = ap length (v .laid) ∙ laid-length v
 
-pub ruleset to-table = (rows-start, in-row-start, in-row-next, in-row-long, in-row-size, in-row-end, rows-within, rows-end)
+pub ruleset to-row = (row-start, row-next, row-long, row-size, row-full)
+
+pub ruleset to-table = (to-row, rows-start, rows-next, rows-within, rows-end)
 
 pub ruleset to-records = (laid-start, lay-start, lay-next, lay-long, lay-end, laid-within, laid-records, laid-size)
 

@@ -1,0 +1,276 @@
+-- Laws: one tenant's records among the 128: put back, surveyed, and left as they are by the drop where no lease has ended.
+use mathlib.Core.Path.{_≡_, refl, sym, ap, ap₂, _∙_, subst}
+use mathlib.Core.Bool.{Bool, true, false, _&&_}
+use mathlib.Core.List.{List, [], _∷_, _++_, map, append-assoc}
+use Prim.Native.Nat.{ℕ, zero, suc, _+_, _-_, _*_, _≤_, _<_}
+use native.Mathlib.Omega.{arith}
+use lib.ListN.{length, replicate, take, drop, getD, set, length-append, length-drop, length-map, length-take, take-append-drop, List·getD-map}
+use lib.Seq.{take-append-add, drop-append-add, drop-at, drop-cons, getD-at, length-take-le, set-getD, take-length}
+use borrow.Author.Tests.{ltb-true}
+use Rattle.lists.specs.Pick.{pick}
+use Rattle.lists.specs.All.{All, allBy, pairsBy}
+use Rattle.lists.specs.laws.All.{AllInv, all-head, all-rest}
+use Rattle.lists.specs.laws.Both.{and-parts}
+use Rattle.lists.specs.laws.Copy.{CopyInv, copy-start, copy-next, copy-long, copy-paste}
+use Rattle.lists.specs.laws.Each.{EachInv, each-start, each-next, each-end, map-set}
+use Rattle.lists.specs.Place.{placeBy}
+use Rattle.state.specs.declared.Lease.{Lease}
+use Rattle.state.specs.declared.LeaseTable.{LeaseTable}
+use Rattle.state.specs.declared.State.{State}
+use Rattle.state.specs.declared.TenantLeases.{TenantLeases}
+use Rattle.state.specs.Book.{dropped, inUse, laidOut, leasesOf, liveOf, noLeases, ordered, putAt, tableOf, tenantAt, zeroLease}
+use Rattle.state.specs.laws.Layout.{at-in, dropped-is, endedIn, noLease, read-back}
+use Rattle.soundness.specs.declared.Held.{Held}
+use Rattle.soundness.specs.declared.HeldTable.{HeldTable}
+use Rattle.soundness.specs.declared.TableRules.{TableRules}
+use Rattle.soundness.specs.Sound.{layoutB, paddedB, rule19, rulesOf, settingsB, soundB, unusedB}
+use Rattle.soundness.specs.Parts.{addedTenant, firstEnd, heldSets, holdingsOf, noHeld, noTenants}
+use Rattle.soundness.specs.laws.Book.{rules-of}
+use Rattle.soundness.specs.laws.Survey.{SurveyInv, held-at, none-ended, survey-next-row, survey-start}
+use Rattle.state_file.proofs.WriteAgain.{all-drop, all-take, leases-zero}
+use Rattle.records.specs.declared.Records.{Records}
+use Rattle.records.specs.laws.Back.{rows-back}
+use Rattle.records.specs.laws.Table.{row-own, rows-length, table-eight}
+use Rattle.records.specs.Records.{Drops, endsAfter, putRow, recordsOf, rows, rowsOf, tableFrom, tenantFrom}
+
+-- ---- a row put back
+abbrev Sixteen : TenantLeases → Type 0
+Sixteen t = length (t .leases) ≡ 16
+
+rows-put : (us : List TenantLeases) (h : ℕ) (t : TenantLeases) → All Sixteen us → h < length us → take (16 * h) (rowsOf us) ++ t .leases ++ drop (16 * h + 16) (rowsOf us) ≡ rowsOf (set us h t)
+unfolding rowsOf All
+rows-put [] h t v p = absurd (omega arith)
+rows-put (u ∷ us) zero t v p = ap (λ (x : List Lease). t .leases ++ x) (drop-at (u .leases) (rowsOf us) 16 (v .0))
+rows-put (u ∷ us) (suc h) t v p =
+    ap₂ (λ (x y : List Lease). x ++ t .leases ++ y)
+    (ap (λ (k : ℕ). take k (u .leases ++ rowsOf us)) (let e : 16 * suc h ≡ length (u .leases) + 16 * h = omega (arith, v .0) in e) ∙ take-append-add (u .leases) (rowsOf us) (16 * h))
+    (ap (λ (k : ℕ). drop k (u .leases ++ rowsOf us)) (let e : 16 * suc h + 16 ≡ length (u .leases) + (16 * h + 16) = omega (arith, v .0) in e) ∙ drop-append-add (u .leases) (rowsOf us) (16 * h + 16))
+    ∙ ap (λ (x : List Lease). x ++ drop (16 * h + 16) (rowsOf us)) (append-assoc (u .leases) (take (16 * h) (rowsOf us)) (t .leases))
+    ∙ append-assoc (u .leases) (take (16 * h) (rowsOf us) ++ t .leases) (drop (16 * h + 16) (rowsOf us))
+    ∙ ap (λ (x : List Lease). u .leases ++ x) (rows-put us h t (v .1) (omega arith))
+
+put-rows : (us : List TenantLeases) (h : ℕ) (t : TenantLeases) → All Sixteen us → h < length us → putRow (rowsOf us) h (t .leases) ≡ rowsOf (set us h t)
+unfolding putRow
+put-rows us h t v p = rows-put us h t v p
+
+pub rows-sixteen : (n : ℕ) (ls : List Lease) → length ls ≡ 16 * n → All Sixteen (map tenantFrom (rows n ls))
+unfolding rows tenantFrom All
+rows-sixteen zero ls e = tt
+rows-sixteen (suc n) ls e = (length-take-le 16 ls (omega arith), rows-sixteen n (drop 16 ls) (length-drop 16 ls ∙ (let q : length ls - 16 ≡ 16 * n = omega arith in q)))
+
+-- of the records of a table, the table with the tenant replaced
+pub put-row-is : (ls : List Lease) (h : ℕ) (t : TenantLeases) → length ls ≡ 128 → h < 8 → putRow ls h (t .leases) ≡ recordsOf (putAt (tableFrom ls) h t)
+unfolding recordsOf tableFrom
+put-row-is ls h t e p =
+    ap (λ (x : List Lease). putRow x h (t .leases)) (sym (rows-back 8 ls e))
+    ∙ put-rows (map tenantFrom (rows 8 ls)) h t (rows-sixteen 8 ls e) (let k = length-map (rows 8 ls) tenantFrom ∙ rows-length 8 ls in omega arith)
+
+-- the loop
+pub record PutInv (ls : List Lease) (h : ℕ) (r now : List Lease) (i : ℕ) : Type 0 where
+  pub size : length ls ≡ 128
+  pub full : length r ≡ 16
+  pub copied : CopyInv noLease ls (16 * h) r 16 now i
+
+pub put-start : {ls : List Lease} {h : ℕ} {r : List Lease} → h < 8 → length ls ≡ 128 → length r ≡ 16 → PutInv ls h r ls 0
+put-start p e q = record { size = e; full = q; copied = copy-start 128 16 e q (omega arith) (omega arith) }
+
+module _ {ls : List Lease} {h : ℕ} {r now : List Lease} {i : ℕ} (v : PutInv ls h r now i) where
+  pub put-next : {x : Lease} → i < 16 → x ≡ getD r i noLease → PutInv ls h r (set now (16 * h + i) x) (i + 1)
+  put-next {x} p q = record { size = v .size; full = v .full; copied = copy-next (v .copied) x p q }
+
+  pub put-long : length now ≡ 128
+  put-long = copy-long (v .copied) ∙ v .size
+
+  pub put-end : 16 ≤ i → now ≡ putRow ls h r
+  unfolding putRow
+  put-end p = copy-paste (v .copied) p (v .full)
+
+pub ruleset puts = (put-start, put-next, put-long, put-end)
+
+-- ---- the survey
+pub survey-first : {s : State} (ls : List Lease) {c : TableRules} → c ≡ noTenants → SurveyInv s (tableFrom ls) c 0
+survey-first ls e = survey-start (table-eight ls) e
+
+pub survey-row : {s : State} (ls : List Lease) {c r : TableRules} {h : ℕ} {t : TenantLeases} → SurveyInv s (tableFrom ls) c h → h < 8 → t ≡ tenantFrom (getD (rows 8 ls) h []) → r ≡ addedTenant s c h t
+    → SurveyInv s (tableFrom ls) r (h + 1)
+unfolding tableFrom
+survey-row ls v p q e = survey-next-row v tenantFrom (rows 8 ls) [] refl p q e
+
+-- ---- a sound book's records only lay out its leases
+place-within : {A : Type 0} (t : A → Bool) (l : List A) → placeBy t l ≤ length l
+unfolding placeBy pick
+place-within t [] = omega arith
+place-within t (x ∷ l) = go (t x) (place-within t l)
+  where
+    go : (b : Bool) → placeBy t l ≤ length l → pick b 0 (suc (placeBy t l)) ≤ suc (length l)
+    go true p = omega arith
+    go false p = omega arith
+
+abbrev pub Long : Lease → Type 0
+Long l = length (l .id) ≡ 32
+
+row-laid : (r : List Lease) → length r ≡ 16 → All Long r → layoutB (tenantFrom r) ≡ true → laidOut (inUse (tenantFrom r)) ≡ tenantFrom r
+unfolding laidOut tenantFrom layoutB
+row-laid r e v q =
+    ap₂ {C = TenantLeases} (λ (l : List Lease) (n : ℕ). record { leases = l; count = n }) whole count
+  where
+    k : ℕ
+    k = placeBy unusedB r
+
+    count : length (take k r) ≡ k
+    count = length-take-le k r (place-within unusedB r)
+
+    unused : allBy unusedB (drop k r) ≡ true
+    unused = and-parts (allBy paddedB (take k r)) (allBy unusedB (drop k r)) (and-parts (pairsBy ordered (take k r)) (allBy paddedB (take k r) && allBy unusedB (drop k r)) q .1) .1
+
+    whole : take k r ++ replicate (16 - length (take k r)) zeroLease ≡ r
+    whole =
+        ap (λ (n : ℕ). take k r ++ replicate n zeroLease) (let a = length-drop k r in let b = count in let c : 16 - length (take k r) ≡ length (drop k r) = omega arith in c)
+        ∙ ap (λ (x : List Lease). take k r ++ x) (sym (leases-zero Long (λ l p. p) (drop k r) (all-drop Long k r v) unused)) ∙ take-append-drop k r
+
+rows-laid : (n : ℕ) (ls : List Lease) → length ls ≡ 16 * n → All Long ls → allBy layoutB (map tenantFrom (rows n ls)) ≡ true
+    → map tenantFrom (rows n ls) ≡ map laidOut (map inUse (map tenantFrom (rows n ls)))
+unfolding rows
+rows-laid zero ls e v q = refl
+rows-laid (suc n) ls e v q =
+    let p = all-head layoutB (tenantFrom (take 16 ls)) (map tenantFrom (rows n (drop 16 ls))) q in
+    ap₂ {C = List TenantLeases} (λ (x : TenantLeases) (y : List TenantLeases). x ∷ y) (sym (row-laid (take 16 ls) (length-take-le 16 ls (omega arith)) (all-take Long 16 ls v) (p .0)))
+    (rows-laid n (drop 16 ls) (length-drop 16 ls ∙ (let c : length ls - 16 ≡ 16 * n = omega arith in c)) (all-drop Long 16 ls v) (p .1))
+
+pub sound-laid : (s : State) (ls : List Lease) → length ls ≡ 128 → All Long ls → soundB s (tableFrom ls) ≡ true → tableFrom ls ≡ tableOf (leasesOf (tableFrom ls))
+unfolding tableFrom tableOf rulesOf rule19
+sound-laid s ls e v q =
+    ap {B = LeaseTable} (λ (x : List TenantLeases). record { tenants = x })
+    (rows-laid 8 ls e v (and-parts (settingsB s) (allBy layoutB (map tenantFrom (rows 8 ls))) (rules-of s (tableFrom ls) q .layout) .1))
+
+-- ---- the drop
+pub ended-start : (clock : ℕ) {l : List Held} → length l ≡ 8 → AllInv (endsAfter clock) noHeld l 8 (allBy (endsAfter clock) l) 0
+ended-start clock e = all-rest (omega arith) e
+
+-- before its first end a tenant's records stay
+kept : (clock : ℕ) (t : TenantLeases) → t ≡ laidOut (inUse t) → clock < firstEnd (inUse t) → endedIn clock t ≡ t
+kept clock t e p = ap laidOut (none-ended clock (inUse t) p) ∙ sym e
+
+laid-at : (b : LeaseTable) (h : ℕ) → b ≡ tableOf (leasesOf b) → tenantAt b h ≡ laidOut (getD (leasesOf b) h [])
+unfolding tableOf
+laid-at b h e = ap (λ (x : LeaseTable). tenantAt x h) e ∙ List·getD-map laidOut (leasesOf b) h []
+
+laid-own : (b : LeaseTable) (h : ℕ) (t : TenantLeases) → t ≡ tenantAt b h → b ≡ tableOf (leasesOf b) → t ≡ laidOut (inUse t)
+laid-own b h t e v =
+    let p : t ≡ laidOut (getD (leasesOf b) h []) = e ∙ laid-at b h v in
+    p ∙ ap laidOut (sym (read-back (getD (leasesOf b) h []))) ∙ ap (λ (x : TenantLeases). laidOut (inUse x)) (sym p)
+
+-- with h tenants done
+pub record DropInv (clock : ℕ) (b : LeaseTable) (now : List Lease) (held : List Held) (h : ℕ) : Type 0 where
+  pub tenants : List TenantLeases
+  pub each : EachInv (endedIn clock) noLeases (b .tenants) 8 tenants h
+  pub sixteen : All Sixteen tenants
+  pub records : now ≡ rowsOf tenants
+  pub sets : held ≡ map heldSets tenants
+  pub size : length now ≡ 128
+  pub laid : b ≡ tableOf (leasesOf b)
+
+pub drop-start : {clock : ℕ} {ls : List Lease} {held : HeldTable} → length ls ≡ 128 → tableFrom ls ≡ tableOf (leasesOf (tableFrom ls)) → held ≡ holdingsOf (tableFrom ls)
+    → DropInv clock (tableFrom ls) ls (held .tenants) 0
+unfolding tableFrom holdingsOf
+drop-start {ls = ls} e v q = record {
+  tenants = map tenantFrom (rows 8 ls);
+  each = each-start (length-map (rows 8 ls) tenantFrom ∙ rows-length 8 ls);
+  sixteen = rows-sixteen 8 ls e;
+  records = sym (rows-back 8 ls e);
+  sets = ap (λ (x : HeldTable). x .tenants) q;
+  size = e;
+  laid = v;
+}
+
+all-set : {A : Type 0} (P : A → Type 0) (l : List A) (i : ℕ) (x : A) → All P l → P x → All P (set l i x)
+unfolding All
+all-set P [] i x v p = v
+all-set P (y ∷ l) zero x v p = (p, v .1)
+all-set P (y ∷ l) (suc i) x v p = (v .0, all-set P l i x (v .1) p)
+
+module _ {clock : ℕ} {b : LeaseTable} {now : List Lease} {held : List Held} {h : ℕ} (v : DropInv clock b now held h) where
+  long : length (v .tenants) ≡ 8
+  long = ap length (v .each .whole) ∙ length-append (map (endedIn clock) (take h (b .tenants))) (drop h (b .tenants))
+      ∙ (let a = length-map (take h (b .tenants)) (endedIn clock) in let c = length-take h (b .tenants) in let d = length-drop h (b .tenants) in let e = v .each .long in let f = v .each .within in omega arith)
+
+  own : h < 8 → {t : TenantLeases} → t ≡ tenantAt b h → t ≡ getD (b .tenants) h noLeases
+  own p e = e ∙ at-in (b .tenants) 8 h (laidOut []) noLeases (v .each .long) p
+
+  -- tenant h as it is still
+  still : h < 8 → getD (v .tenants) h noLeases ≡ getD (b .tenants) h noLeases
+  still p =
+      ap (λ (x : List TenantLeases). getD x h noLeases) (v .each .whole ∙ ap (λ (x : List TenantLeases). map (endedIn clock) (take h (b .tenants)) ++ x) (drop-cons (b .tenants) h noLeases (let e = v .each .long in omega arith)))
+      ∙ getD-at (map (endedIn clock) (take h (b .tenants))) (getD (b .tenants) h noLeases) (drop (suc h) (b .tenants)) noLeases h
+      (length-map (take h (b .tenants)) (endedIn clock) ∙ length-take-le h (b .tenants) (let e = v .each .long in omega arith))
+
+  -- its leases that ended go
+  pub drop-ended : {t left : TenantLeases} {r : List Lease} {g : Held} → h < 8 → t ≡ tenantAt b h → left ≡ laidOut (liveOf clock (inUse t)) → length (left .leases) ≡ 16
+      → (r ≡ putRow now h (left .leases)) × (length r ≡ 128) → g ≡ heldSets left → DropInv clock b r (set held h g) (h + 1)
+  drop-ended {t} {left} p e q z w u = record {
+    tenants = set (v .tenants) h left;
+    each = each-next (v .each) p (q ∙ ap (endedIn clock) (own p e));
+    sixteen = all-set Sixteen (v .tenants) h left (v .sixteen) z;
+    records = w .0 ∙ ap (λ (x : List Lease). putRow x h (left .leases)) (v .records) ∙ put-rows (v .tenants) h left (v .sixteen) (let k = long in omega arith);
+    sets = ap₂ {C = List Held} (λ (x : List Held) (y : Held). set x h y) (v .sets) u ∙ map-set heldSets (v .tenants) h left;
+    size = w .1;
+    laid = v .laid;
+  }
+
+  -- none ended
+  pub drop-none : {all : HeldTable} {x : Held} {q : Bool} → h < 8 → all ≡ holdingsOf b → x ≡ getD (all .tenants) h noHeld → q ≡ endsAfter clock x → q ≡ true → DropInv clock b now held (h + 1)
+  unfolding heldSets
+  drop-none {x = x} p a e q y = record {
+    tenants = v .tenants;
+    each = subst (λ (l : List TenantLeases). EachInv (endedIn clock) noLeases (b .tenants) 8 l (h + 1)) same (each-next (v .each) p (sym (kept clock t laid-t before)));
+    sixteen = v .sixteen;
+    records = v .records;
+    sets = v .sets;
+    size = v .size;
+    laid = v .laid;
+  }
+    where
+      t : TenantLeases
+      t = getD (b .tenants) h noLeases
+
+      at : t ≡ tenantAt b h
+      at = sym (own p refl)
+
+      laid-t : t ≡ laidOut (inUse t)
+      laid-t = laid-own b h t at (v .laid)
+
+      before : clock < firstEnd (inUse t)
+      before = subst (λ (z : TenantLeases). clock < firstEnd (inUse z)) (sym at)
+          (subst (λ (z : Held). clock < z .«first_end») (e ∙ ap (λ (z : HeldTable). getD (z .tenants) h noHeld) a ∙ held-at b h (v .each .long) p) (ltb-true clock (x .«first_end») (sym q ∙ y)))
+
+      same : set (v .tenants) h t ≡ v .tenants
+      same = ap (set (v .tenants) h) (sym (still p)) ∙ set-getD (v .tenants) h noLeases
+
+  pub drop-within : h ≤ 8
+  drop-within = v .each .within
+
+pub drop-end : {clock : ℕ} {ls : List Lease} {all : Records} {sets : HeldTable} {h : ℕ} → DropInv clock (tableFrom ls) (all .leases) (sets .tenants) h → 8 ≤ h → Drops clock ls (record { records = all; held = sets })
+unfolding recordsOf holdingsOf
+drop-end {clock} {ls} v p = record {
+  records = v .records ∙ ap (λ (x : LeaseTable). rowsOf (x .tenants)) done;
+  long = v .size;
+  holdings = ap {B = HeldTable} (λ (x : List Held). record { tenants = x }) (v .sets ∙ ap (λ (x : LeaseTable). map heldSets (x .tenants)) done);
+}
+  where
+    done : record { tenants = v .tenants } ≡ dropped clock (tableFrom ls)
+    done = dropped-is clock (tableFrom ls) (record { tenants = v .tenants }) (each-end (v .each) p)
+
+pub ruleset drops = (drop-start, drop-ended, drop-none, drop-within, drop-end)
+
+-- ---- where no lease at all has ended
+pub drop-idle : (clock : ℕ) (b : LeaseTable) → b ≡ tableOf (leasesOf b) → allBy (endsAfter clock) (holdingsOf b .tenants) ≡ true → b ≡ dropped clock b
+unfolding holdingsOf heldSets tableOf
+drop-idle clock b e q =
+    dropped-is clock b b (ap (λ (x : LeaseTable). x .tenants) e ∙ go (leasesOf b) (subst (λ (x : LeaseTable). allBy (endsAfter clock) (map heldSets (x .tenants)) ≡ true) e q) ∙ ap (map (endedIn clock)) (sym (ap (λ (x : LeaseTable). x .tenants) e)))
+  where
+    go : (ll : List (List Lease)) → allBy (endsAfter clock) (map heldSets (map laidOut ll)) ≡ true → map laidOut ll ≡ map (endedIn clock) (map laidOut ll)
+    go [] p = refl
+    go (l ∷ ll) p =
+        let d = all-head (endsAfter clock) (heldSets (laidOut l)) (map heldSets (map laidOut ll)) p in
+        ap₂ {C = List TenantLeases} (λ (x : TenantLeases) (y : List TenantLeases). x ∷ y)
+        (sym (kept clock (laidOut l) (ap laidOut (sym (read-back l))) (ltb-true clock (firstEnd (inUse (laidOut l))) (d .0)))) (go ll (d .1))

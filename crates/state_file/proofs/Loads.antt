@@ -23,7 +23,7 @@ use Rattle.state.specs.declared.State.{State}
 use Rattle.state.specs.declared.TenantLeases.{TenantLeases}
 use Rattle.state_file.proofs.Fill.{eight-laid}
 use Rattle.state_file.proofs.ReadAgain.{both, neither}
-use Rattle.state_file.specs.Place.{AllStorable, Formed, FormedBy, LeasesIn, SettingsIn, StorableAt, fileAt, keptFrom, fileLeaseAt, leasesAt, nextAt, rangeAt, fileScopeAt, scopesIn, sectionAt, stateAt, tenantCount}
+use Rattle.state_file.specs.Place.{AllStorable, Formed, FormedBy, LeasesIn, SettingsIn, StorableAt, fileAt, keptAll, fileLeaseAt, leasesAt, nextAt, rangeAt, fileScopeAt, scopesIn, sectionAt, stateAt, tenantCount}
 use Rattle.state_file.specs.Records.{countsFit, fewOf, filled, fitsB, leasesFitB, settingsFitB, storableB, storedScope, storedState, storedTable, tenantsFrom, zeroRange}
 use Rattle.state_file.specs.StateFile.{accepted, loadedGot, judged, loaded, readFile, refused, zeroTable, zeroState}
 use Rattle.state_file.specs.declared.Layout.{Layout}
@@ -74,10 +74,12 @@ pub ruleset fileParts = (formed-settings, formed-leases)
 storable-held : (s : List ℕ) (at : ℕ) → Inside nextAt s at → storableB (fileLeaseAt s at) ≡ true → StorableAt s at
 unfolding storableB fileLeaseAt
 storable-held s at v e =
-    let p = neither _ _ (neither _ _ (neither _ _ e .1) .1) in
+    let a = neither _ _ e in
+    let b = neither _ _ (a .1) in
+    let p = neither _ _ (b .1) in
     let h = ltb-false 32 (length (take (getD s (at + 2) 0) (drop (at + 3) s))) (p .0) in
     let l = length-take-le (getD s (at + 2) 0) (drop (at + 3) s) (let d = length-drop (at + 3) s in let r = v .room in omega arith) in
-    record { ids = omega arith; room = v .room }
+    record { from = ltb-false (getD s at 0) 1 (a .0); to = ltb-false 8 (getD s at 0) (b .0); ids = omega arith; room = v .room }
 
 held-row : (k : ℕ) (s : List ℕ) (at : ℕ) → InRow nextAt s at k → allBy storableB (leasesAt s at k) ≡ true → AllStorable s at k
 unfolding EachAt walk
@@ -92,6 +94,9 @@ module _ {s : List ℕ} {at count : ℕ} (v : LeasesIn s at) (ec : count ≡ get
 
   leases-same : leasesAt s (at + 1) count ≡ sectionAt s at
   leases-same = ap (leasesAt s (at + 1)) ec
+
+  pub leases-stored : {a : Bool} → a ≡ allBy storableB (leasesAt s (at + 1) count) → a ≡ true → AllStorable s (at + 1) count
+  leases-stored p q = held-row count s (at + 1) leases-in (sym p ∙ q)
 
   pub leases-yes : (a r : Bool) → a ≡ allBy storableB (leasesAt s (at + 1) count) → a ≡ true → r ≡ allTo (λ i. fewOf (leasesAt s (at + 1) count) (i + 1)) 8 → r ≡ leasesFitB (sectionAt s at)
   unfolding leasesFitB pick
@@ -108,9 +113,9 @@ module _ {s : List ℕ} {at count : ℕ} (v : LeasesIn s at) (ec : count ≡ get
     unfolding leasesFitB
     leases-held = held-row count s (at + 1) leases-in (ap (allBy storableB) leases-same ∙ both _ _ e .0)
 
-    pub table-is : (ts : List TenantLeases) → ts ≡ keptFrom 1 8 (leasesAt s (at + 1) count) → record { tenants = ts } ≡ tableOf (tenantsFrom 1 8 (sectionAt s at))
+    pub table-is : (ts : List TenantLeases) → ts ≡ keptAll (leasesAt s (at + 1) count) → record { tenants = ts } ≡ tableOf (tenantsFrom 1 8 (sectionAt s at))
     unfolding tableOf leasesFitB
-    table-is ts p = ap {B = LeaseTable} (λ (l : List TenantLeases). record { tenants = l }) (p ∙ ap (keptFrom 1 8) leases-same ∙ eight-laid _ (both _ _ e .1))
+    table-is ts p = ap {B = LeaseTable} (λ (l : List TenantLeases). record { tenants = l }) (p ∙ ap keptAll leases-same ∙ eight-laid _ (both _ _ e .1))
 
 -- ---- settings
 module _ {s : List ℕ} {at : ℕ} (v : SettingsIn s at) where

@@ -16,7 +16,7 @@ use Rattle.state.specs.declared.ClientRange.{ClientRange}
 use Rattle.state.specs.declared.State.{State}
 use Rattle.state.specs.declared.TenantLeases.{TenantLeases}
 use Rattle.state_file.specs.File.{File, FileLease, FilePart, FileScope, fileOf, leaseAfter, leaseFormat, leaseKey}
-use Rattle.state_file.specs.Records.{stored, storedState}
+use Rattle.state_file.specs.Records.{ofTenant, stored, storedState}
 use Rattle.state_file.specs.declared.Layout.{Layout}
 use Rattle.state_file.specs.declared.Layout.the-variants.{Right, Wrong}
 
@@ -52,25 +52,35 @@ LeasesEnd k s from r = RowEnds leaseKey leaseAfter (0, []) leaseFormat fileLease
 abbrev pub LeaseSection : List ℕ → ℕ → Place → Type 0
 LeaseSection s at r = SectionEnds leaseKey leaseAfter (0, []) leaseFormat fileLeaseAt nextAt s at r
 
--- a record that lies within the octets and that a record of the book can hold
+-- a record that lies within the octets and that a record of one of eight tenants can hold
 pub record StorableAt (s : List ℕ) (at : ℕ) : Type 0 where
+  pub from : 1 ≤ getD s at 0
+  pub to : getD s at 0 ≤ 8
   pub ids : getD s (at + 2) 0 ≤ 32
   pub room : nextAt s at ≤ length s
 
 abbrev pub AllStorable : List ℕ → ℕ → ℕ → Type 0
 AllStorable s at k = EachAt StorableAt nextAt k s at
 
--- tenant t's records with the lease x as well, if it is tenant t's
-unfoldable pub keepOne : ℕ → TenantLeases → FileLease → TenantLeases
-keepOne t h x = pick (eqb (x .tenant) t) (pushed h (stored x)) h
+-- what f gives for each of n tenants from t on
+unfoldable pub perTenant : {B : Type 0} → (ℕ → B) → ℕ → ℕ → List B
+perTenant f t zero = []
+perTenant f t (suc n) = f t ∷ perTenant f (suc t) n
 
-unfoldable pub keptOf : ℕ → List FileLease → TenantLeases
-keptOf t xs = fold (keepOne t) (laidOut []) xs
+-- b, and with the lease x as well if it is tenant t's
+unfoldable pub keepBy : {B : Type 0} → (B → FileLease → B) → ℕ → B → FileLease → B
+keepBy g t b x = pick (eqb (x .tenant) t) (g b x) b
 
--- those of n tenants from t on
-unfoldable pub keptFrom : ℕ → ℕ → List FileLease → List TenantLeases
-keptFrom t zero xs = []
-keptFrom t (suc n) xs = keptOf t xs ∷ keptFrom (suc t) n xs
+-- tenant t's records, filled from the front
+abbrev pub keptOf : ℕ → List FileLease → TenantLeases
+keptOf t xs = fold (keepBy (λ h x. pushed h (stored x)) t) (laidOut []) xs
+
+unfoldable pub keptAll : List FileLease → List TenantLeases
+keptAll xs = perTenant (λ t. keptOf t xs) 1 8
+
+-- how many leases each tenant has
+unfoldable pub tallyOf : List FileLease → List ℕ
+tallyOf xs = perTenant (λ t. length (ofTenant t xs)) 1 8
 
 -- ---- settings
 unfoldable pub rangeAt : List ℕ → ℕ → ClientRange

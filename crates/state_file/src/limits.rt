@@ -1,13 +1,11 @@
 // Whether the records of a book can hold what a well-formed file has: so many tenants, scopes and leases, identifiers and offsets.
 ghost use mathlib.Core.Path.{_≡_};
-ghost use Prim.Native.Nat.{_+_, _<_, _≤_};
-ghost use lib.Dec.{eqb};
+ghost use Prim.Native.Nat.{_+_, _-_, _<_, _≤_};
 ghost use lib.ListN.{drop, getD, length, take};
 ghost use Rattle.format.specs.Section.{InRow, Inside};
 ghost use Rattle.lists.specs.All.{allBy, allTo};
-ghost use Rattle.lists.specs.Pick.{pick};
-ghost use Rattle.state_file.specs.Place.{Formed, LeasesIn, fileAt, fileLeaseAt, leasesAt, nextAt, sectionAt};
-ghost use Rattle.state_file.specs.Records.{countsFit, fewOf, fitsB, isOffset, leasesFitB, ofTenant, storableB};
+ghost use Rattle.state_file.specs.Place.{AllStorable, Formed, LeasesIn, StorableAt, fileAt, fileLeaseAt, leasesAt, nextAt, sectionAt, tallyOf};
+ghost use Rattle.state_file.specs.Records.{countsFit, fewOf, fitsB, isOffset, leasesFitB, storableB};
 use crate::form::wide;
 
 // Whether the records can hold the file.
@@ -98,12 +96,13 @@ fn low(s: &[u8], at: usize, k: usize) -> bool
 
 // Whether no tenant has more leases than records.
 fn all_few(s: &[u8], from: usize, count: usize) -> bool
-    requires { ⌜ InRow nextAt (now s) from count ⌝ }
+    requires { ⌜ AllStorable (now s) from count × (count < 256) ⌝ }
     ensures { λ r. ⌜ r ≡ allTo (λ i. fewOf (leasesAt (now (s .entry)) from count) (i + 1)) 8 ⌝ }
 {
+    let n = tally(s, from, count);
     let mut i: usize = 0;
     while i < 8 {
-        if !few_of(s, from, count, (i + 1) as u8) {
+        if 16 < n[i] {
             return false;
         }
         i += 1;
@@ -111,38 +110,22 @@ fn all_few(s: &[u8], from: usize, count: usize) -> bool
     true
 }
 
-fn few_of(s: &[u8], from: usize, count: usize, t: u8) -> bool
-    requires { ⌜ InRow nextAt (now s) from count ⌝ }
-    ensures { λ r. ⌜ r ≡ fewOf (leasesAt (now (s .entry)) from count) t ⌝ }
+// How many of `count` leases whose records start at `from` each tenant has.
+fn tally(s: &[u8], from: usize, count: usize) -> [usize; 8]
+    requires { ⌜ AllStorable (now s) from count × (count < 256) ⌝ }
+    ensures { λ r. ⌜ r ≡ tallyOf (leasesAt (now (s .entry)) from count) ⌝ }
 {
-    count_of(s, from, count, t) <= 16
-}
-
-// How many of `count` leases whose records start at `from` are tenant t's.
-fn count_of(s: &[u8], from: usize, count: usize, t: u8) -> usize
-    requires { ⌜ InRow nextAt (now s) from count ⌝ }
-    ensures { λ r. ⌜ r ≡ length (ofTenant t (leasesAt (now (s .entry)) from count)) ⌝ }
-{
-    let mut n: usize = 0;
+    let mut n = [0usize; 8];
     let mut here = from;
     let mut i: usize = 0;
     while i < count {
-        n += one_of(s, here, t);
+        let t = tenant_place(s, here);
+        let k = n[t];
+        n[t] = k + 1;
         here = lease_next(s, here);
         i += 1;
     }
     n
-}
-
-// 1 if the lease whose record starts at `at` is tenant t's, else 0.
-fn one_of(s: &[u8], at: usize, t: u8) -> usize
-    requires { ⌜ at < length (now s) ⌝ }
-    ensures { λ r. ⌜ (r ≡ pick (eqb (getD (now (s .entry)) at 0) t) 1 0) × (r ≤ 1) ⌝ }
-{
-    if s[at] == t {
-        return 1;
-    }
-    0
 }
 
 // Where the record that starts at `at` ends.
@@ -153,4 +136,12 @@ pub fn lease_next(s: &[u8], at: usize) -> usize
     let n = wide(s[at + 2]);
     let k = wide(s[at + (n + 16)]);
     at + (n + 17 + k)
+}
+
+// The place among the tenants of the one whose record starts at `at`.
+pub fn tenant_place(s: &[u8], at: usize) -> usize
+    requires { ⌜ StorableAt (now s) at ⌝ }
+    ensures { λ r. ⌜ (r ≡ getD (now (s .entry)) at 0 - 1) × (r < 8) ⌝ }
+{
+    wide(s[at]) - 1
 }

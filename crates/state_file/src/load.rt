@@ -7,13 +7,14 @@ ghost use lib.ListN.{drop, getD, length, take};
 ghost use Rattle.address_set.specs.AddressSet.{readOffsets};
 ghost use Rattle.format.specs.Place.{row};
 ghost use Rattle.state.specs.Book.{tableOf, zeroScope};
-ghost use Rattle.state_file.specs.Place.{AllStorable, Formed, LeasesIn, SettingsIn, StorableAt, fileAt, keepOne, keptFrom, keptOf, fileLeaseAt, leasesAt, rangeAt, fileScopeAt, sectionAt, stateAt};
+ghost use Rattle.state_file.specs.Place.{AllStorable, Formed, LeasesIn, SettingsIn, StorableAt, fileAt, keptAll, fileLeaseAt, leasesAt, rangeAt, fileScopeAt, sectionAt, stateAt};
 ghost use Rattle.state_file.specs.Records.{filled, leasesFitB, stored, storedScope, tenantsFrom, zeroRange};
 ghost use Rattle.state_file.specs.StateFile.{judged, loaded, refused};
 use crate::Loaded;
 use crate::form::wide;
 use crate::limits::fits;
 use crate::limits::lease_next;
+use crate::limits::tenant_place;
 use crate::no_state;
 use state::ClientRange;
 use state::Lease;
@@ -172,43 +173,21 @@ fn table_at(s: &[u8], at: usize) -> LeaseTable
 // The leases of the eight tenants among `count` records that start at `from`.
 fn all_leases(s: &[u8], from: usize, count: usize) -> [TenantLeases; 8]
     requires { ⌜ AllStorable (now s) from count ⌝ }
-    ensures { λ r. ⌜ r ≡ keptFrom 1 8 (leasesAt (now (s .entry)) from count) ⌝ }
+    ensures { λ r. ⌜ r ≡ keptAll (leasesAt (now (s .entry)) from count) ⌝ }
 {
     let z = state::no_leases();
     let mut out = [z; 8];
-    let mut i: usize = 0;
-    while i < 8 {
-        let h = tenant_leases(s, from, count, (i + 1) as u8);
-        out[i] = h;
-        i += 1;
-    }
-    out
-}
-
-// The leases of tenant t among `count` records that start at `from`.
-fn tenant_leases(s: &[u8], from: usize, count: usize, t: u8) -> TenantLeases
-    requires { ⌜ AllStorable (now s) from count ⌝ }
-    ensures { λ r. ⌜ r ≡ keptOf t (leasesAt (now (s .entry)) from count) ⌝ }
-{
-    let mut out = state::no_leases();
     let mut here = from;
     let mut i: usize = 0;
     while i < count {
-        out = keep_tenant(out, s, here, t);
+        let t = tenant_place(s, here);
+        let h = out[t];
+        let g = state::push(h, lease_at(s, here));
+        out[t] = g;
         here = lease_next(s, here);
         i += 1;
     }
     out
-}
-
-fn keep_tenant(h: TenantLeases, s: &[u8], at: usize, t: u8) -> TenantLeases
-    requires { ⌜ StorableAt (now s) at ⌝ }
-    ensures { λ r. ⌜ r ≡ keepOne t h (fileLeaseAt (now (s .entry)) at) ⌝ }
-{
-    if s[at] == t {
-        return state::push(h, lease_at(s, at));
-    }
-    h
 }
 
 // The lease whose record starts at `at`.

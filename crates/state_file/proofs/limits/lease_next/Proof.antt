@@ -1,6 +1,6 @@
--- `limits::lease_next` meets its contract: by `fills`.
+-- `limits::lease_next` meets its contract: by `next-at`.
 use borrow.Author.Needs.{needs}
-use Rattle.state_file.proofs.Fill.{fills}
+use Rattle.state_file.proofs.Fill.{next-at}
 use Rattle.state_file.proofs.limits.lease_next.Statement.{statement}
 use Rattle.state_file.proofs.limits.lease_next.Tie as tie
 
@@ -18,4 +18,4 @@ lease-next-spec =
     (λ c. search needs)
     (λ c. search needs)
     (λ c. search needs)
-    (λ c. search (fills, needs)))
+    (λ c. search (next-at, needs)))

@@ -4,10 +4,10 @@ use mathlib.Core.List.{List, [], _++_, _∷_, append-assoc, append-nil, map}
 use mathlib.Core.Path.{_∙_, _≡_, ap, ap₂, refl, subst, sym}
 use Prim.Native.Nat.{_+_, _-_, _<_, _≤_, suc, zero, ℕ}
 use native.Mathlib.Omega.{arith}
-use lib.Dec.{eqb, leb}
+use lib.Dec.{eqb}
 use lib.ListN.{getD, getD-replicate, length, length-append, length-replicate, length-set, replicate, set}
 use lib.Seq.{ext-getD, getD-set-other, getD-set-same}
-use borrow.Author.Tests.{eq-eqb, eqb-false, eqb-true, le-leb, leb-true, lt-leb, ne-eqb}
+use borrow.Author.Tests.{eqb-false, eqb-true, le-leb, leb-true, lt-leb}
 use Rattle.format.specs.Place.{EachAt, walk}
 use Rattle.format.specs.Section.{Inside}
 use Rattle.format.specs.laws.Fixed.{walk-length}

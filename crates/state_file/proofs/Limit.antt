@@ -1,22 +1,20 @@
 -- Laws: the loops that decide whether leases can be held.
 use mathlib.Core.Bool.{Bool, false, true}
-use mathlib.Core.List.{List, _∷_}
+use mathlib.Core.List.{List}
 use mathlib.Core.Path.{_∙_, _≡_, ap, ap₂, refl, subst, sym}
 use Prim.Native.Nat.{_+_, _-_, _<_, _≤_, suc, ℕ}
 use native.Mathlib.Omega.{arith}
-use lib.Dec.{eqb, leb, ltb}
+use lib.Dec.{ltb}
 use lib.ListN.{drop, drop-of-length-le, getD, length, length-drop, take}
 use lib.Seq.{length-take-le}
-use borrow.Author.Tests.{eq-eqb, le-ltb, lt-ltb, ne-eqb}
+use borrow.Author.Tests.{le-ltb, lt-ltb}
 use Rattle.format.specs.Place.{EachAt, walk}
 use Rattle.format.specs.Section.{InRow, Inside}
 use Rattle.lists.specs.All.{allBy}
-use Rattle.lists.specs.Filter.{filterBy}
 use Rattle.lists.specs.Pick.{pick}
 use Rattle.state_file.proofs.Walk.{part-length, part-next}
-use Rattle.state_file.specs.File.{FileLease}
 use Rattle.state_file.specs.Place.{fileLeaseAt, leasesAt, nextAt}
-use Rattle.state_file.specs.Records.{fewOf, isOffset, ofTenant, storableB}
+use Rattle.state_file.specs.Records.{isOffset, storableB}
 
 pub record LowInv (s : List ℕ) (at k i : ℕ) : Type 0 where
   pub fits : at + k ≤ length s

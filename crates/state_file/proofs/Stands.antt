@@ -8,11 +8,12 @@ use lib.Dec.{eqb}
 use lib.ListN.{drop, getD, length, length-append, length-drop, take}
 use lib.Seq.{getD-append-add, getD-drop}
 use Rattle.address_set.specs.AddressSet.{rises}
-use Rattle.format.specs.Format.{Got, Octets, bad, counted, got, number, octet, writeAll}
+use Rattle.format.specs.Format.{Got, Octets, bad, counted, got, number, octet}
 use Rattle.format.specs.Place.{Fails, Stands}
 use Rattle.format.specs.Section.{IsAt}
 use Rattle.format.specs.declared.Place.{Place}
 use Rattle.format.specs.declared.Place.the-variants.{At, Nowhere}
+use Rattle.format.specs.laws.Format.{plain}
 use Rattle.format.specs.laws.Place.{as-nowhere, as-there, fails-second, number-stands, octet-stands, octets-stand, only-fails, only-stands, stands-both, stands-to, viewed-none, viewed-stands}
 use Rattle.format.specs.laws.Section.{SectionInv, entry-in, entry-is, section-broken, section-done, section-next, section-start, section-wrong}
 use Rattle.identifier.specs.Order.{orderOf}
@@ -32,11 +33,6 @@ record Shape (s : List ℕ) (at : ℕ) (x : FileLease) (r : List ℕ) : Type 0 w
   long : length s - at ≡ length (x .id) + 17 + length (x .offsets) + length r
   ids : getD s (at + 2) 0 ≡ length (x .id)
   count : getD s (at + (length (x .id) + 16)) 0 ≡ length (x .offsets)
-
-plain : (l : List ℕ) → writeAll (λ (x : ℕ). x ∷ []) l ≡ l
-unfolding writeAll
-plain [] = refl
-plain (x ∷ l) = ap {B = List ℕ} (λ (m : List ℕ). x ∷ m) (plain l)
 
 shape : (s : List ℕ) (at : ℕ) (x : FileLease) (r : List ℕ) → Octets (drop at s) → leaseFormat .read (drop at s) ≡ got x r → Shape s at x r
 shape s at x r o e =

@@ -28,9 +28,10 @@ use Rattle.state.specs.declared.State.{State}
 use Rattle.state.specs.declared.TenantLeases.{TenantLeases}
 use Rattle.state_file.proofs.ReadAgain.{all-facts, two-facts}
 use Rattle.state_file.proofs.RowLaws.{pair-length}
-use Rattle.state_file.specs.File.{FileLease, fileFormat, isAfter, leaseFormat, leasesFrom, partFormat, scopeFormat, tenantFormat}
+use Rattle.state_file.specs.File.{FileLease, fileFormat, isAfter, leaseFormat, partFormat, scopeFormat, tenantFormat}
 use Rattle.state_file.specs.laws.Records.{Neat, filled-back}
 use Rattle.state_file.specs.Records.{countsFit, fewOf, filedLease, filedBook, filedFrom, filedScope, filled, fitsB, isOffset, leasesFitB, ofTenant, pairUp, storableB, stored, storedScope, storedState, storedTable, tenantsFrom, zeroRange}
+use Rattle.state_file.specs.laws.File.{leasesFrom}
 use Rattle.state_file.specs.laws.Tenants.{leases-back}
 use Rattle.state_file.specs.Typed.{Typed, TypedLease, TypedRange, TypedScope, TypedTenant}
 

@@ -2,16 +2,15 @@
 use mathlib.Core.Bool.{Bool, false, true}
 use mathlib.Core.List.{List, [], _++_, _∷_, append-assoc, map}
 use mathlib.Core.Path.{_∙_, _≡_, ap, ap₂, refl, subst, sym}
-use Prim.Native.Nat.{_*_, _+_, _-_, _<_, _≤_, min, suc, zero, ℕ}
+use Prim.Native.Nat.{_*_, _+_, _<_, _≤_, min, suc, zero, ℕ}
 use native.Mathlib.Omega.{arith}
 use denote.Ref.{now}
 use lib.Dec.{ltb}
-use lib.ListN.{drop, getD, length, length-append, length-map, length-take, replicate, take}
-use lib.Seq.{take-all, take-append-seam}
+use lib.ListN.{drop, getD, length, length-append, length-map, length-take, take}
+use lib.Seq.{take-all}
 use borrow.Author.Tests.{le-ltb, lt-ltb}
-use Rattle.address_set.specs.AddressSet.{listed, offsets}
+use Rattle.address_set.specs.AddressSet.{offsets}
 use Rattle.address_set.specs.laws.Bits.{length-offsets}
-use Rattle.address_set.specs.declared.Offsets.{Offsets}
 use Rattle.lists.specs.laws.Part.{cut-take}
 use Rattle.lists.specs.Pick.{pick}
 use Rattle.lists.specs.laws.Sums.{sum-same}
@@ -28,6 +27,7 @@ use Rattle.state.specs.declared.State.{State}
 use Rattle.state.specs.declared.TenantLeases.{TenantLeases}
 use Rattle.state_file.proofs.RowLaws.{pair-length, row-sum}
 use Rattle.state_file.specs.File.{FilePart, leaseFormat, partFormat, scopeFormat, tenantFormat}
+use Rattle.format.specs.laws.Format.{plain}
 use Rattle.format.specs.Format.{writeAll}
 use Rattle.state_file.specs.Records.{filedLease, filedBook, filedFrom, filedScope, pairUp}
 use Rattle.state_file.specs.Rows.{leaseOctets, leaseTotal, partOctets, partRow, fileRangeOctets, rangeRow, fileScopeOctets, scopeRow, tableOctets, tenantOctets, tenantRow, writeFrom}
@@ -52,11 +52,6 @@ middle-wrote x s e h p q w z = wrote-joined h (wrote-joined h (wrote-joined h p 
 pub addresses-wrote : {r₀ r₁ r₂ : List ℕ} {at a b n : ℕ} (m : ℕ) → at ≤ length r₀ → n ≡ length (offsets m) → Wrote r₀ at (n ∷ []) r₁ a → Wrote r₁ a (offsets m) r₂ b
     → Wrote r₀ at (length (offsets m) ∷ offsets m) r₂ b
 addresses-wrote {r₀} {r₁} {r₂} {at} {a} m h e p q = wrote-joined h (subst (λ (n : ℕ). Wrote r₀ at (n ∷ []) r₁ a) e p) q
-
-plain : (l : List ℕ) → writeAll (λ (x : ℕ). x ∷ []) l ≡ l
-unfolding writeAll
-plain [] = refl
-plain (x ∷ l) = ap {B = List ℕ} (λ (m : List ℕ). x ∷ m) (plain l)
 
 lease-octets : (t : ℕ) (l : Lease) → leaseFormat .write (filedLease t l)
     ≡ (t ∷ l .scope ∷ length (take (l .«id_len») (l .id)) ∷ take (l .«id_len») (l .id)) ++ (l .kind ∷ octets32 (l .xid) ++ octets32 (l .start) ++ octets32 (l .end)) ++ (length (offsets (l .addresses)) ∷ offsets (l .addresses))

@@ -10,7 +10,7 @@ use Rattle.identifier.specs.Order.{orderOf}
 use Rattle.lists.specs.Pick.{pick}
 use Rattle.state.specs.declared.ClientRange.{ClientRange}
 use Rattle.format.specs.Format.{Format, Got, _⊗_, _▷_, after, bad, closed, counted, number, octet, only, times, viewed}
-use Rattle.format.specs.Section.{orderedFrom, sectionFormat}
+use Rattle.format.specs.Section.{sectionFormat}
 
 -- a tenant's reserve and limit in a scope (document 01's share and limit)
 pub record FilePart : Type 0 where
@@ -50,13 +50,6 @@ leaseKey x = (x .tenant, x .id)
 
 abbrev pub leaseAfter : ℕ × List ℕ → FileLease → Bool
 leaseAfter k x = isAfter (k .0) (k .1) (x .tenant) (x .id)
-
--- tenant t with identifier a comes first, and none is after the next
-abbrev pub leasesFrom : ℕ → List ℕ → List FileLease → Bool
-leasesFrom t a = orderedFrom leaseKey leaseAfter (t, a)
-
-abbrev pub leasesOrdered : List FileLease → Bool
-leasesOrdered = leasesFrom 0 []
 
 abbrev pub tenantFormat : Format ClientRange
 tenantFormat = viewed (λ p. record { low = p .0; high = p .1 }) (λ t. (t .low, t .high)) (number ⊗ number)

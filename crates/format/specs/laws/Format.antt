@@ -172,6 +172,12 @@ module _ {A : Type 0} {f : Format A} (lf : Lawful f) where
           let w : x ≡ from y = sym (back x) ∙ ap from p in
           lf .reads s (from y) r o (ex ∙ ap₂ got w q)
 
+-- octets written one by one are themselves
+pub plain : (l : List ℕ) → writeAll (λ (x : ℕ). x ∷ []) l ≡ l
+unfolding writeAll
+plain [] = refl
+plain (x ∷ l) = ap {B = List ℕ} (λ (m : List ℕ). x ∷ m) (plain l)
+
 -- the whole of the octets
 pub closed-got : {A : Type 0} (g : Got A) (x : A) (r : List ℕ) → closed g ≡ got x r → g ≡ got x []
 unfolding closed

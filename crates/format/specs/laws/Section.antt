@@ -135,8 +135,6 @@ module _ {A K : Type 0} {key : A → K} {wrong : K → A → Bool} {f : Format A
           each = w .each (subst (λ (m : ℕ). InRow next s here m) (sym e) tt);
         }
 
-pub ruleset sections = (section-start, section-next, section-wrong, section-broken, section-done)
-
 -- ---- the section is its count and the entries
 module _ {A K : Type 0} {key : A → K} {wrong : K → A → Bool} {first : K} {f : Format A} {v : List ℕ → ℕ → A} {next : List ℕ → ℕ → ℕ} {s : List ℕ} {at : ℕ} where
   pub section-none : length s ≤ at → SectionEnds key wrong first f v next s at Nowhere

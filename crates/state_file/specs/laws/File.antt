@@ -9,9 +9,14 @@ use lib.ListN.{length}
 use borrow.Author.Tests.{le-leb, leb-true}
 use Rattle.address_set.specs.AddressSet.{rises}
 use Rattle.lists.specs.Pick.{pick}
-use Rattle.state_file.specs.File.{longestFile, File, fileFormat, fileOf, leaseFormat, leasesOrdered, partFormat, scopeFormat, tenantFormat}
+use Rattle.state_file.specs.File.{longestFile, File, FileLease, fileFormat, fileOf, leaseAfter, leaseFormat, leaseKey, partFormat, scopeFormat, tenantFormat}
 use Rattle.format.specs.Format.{bad, closed, counted, got, octet, Octets}
+use Rattle.format.specs.Section.{orderedFrom}
 use Rattle.format.specs.laws.Format.{Lawful, after-lawful, both-lawful, counted-lawful, number-lawful, octet-lawful, only-lawful, then-lawful, times-lawful, viewed-lawful, whole-reads, whole-written}
+
+-- tenant t with identifier a comes first, and none is after the next
+abbrev pub leasesFrom : ℕ → List ℕ → List FileLease → Bool
+leasesFrom t a = orderedFrom leaseKey leaseAfter (t, a)
 
 pub tenant-lawful : Lawful tenantFormat
 tenant-lawful = viewed-lawful (both-lawful number-lawful number-lawful) _ _ (λ x. refl) (λ y. refl)
@@ -35,7 +40,7 @@ pub file-lawful : Lawful fileFormat
 file-lawful =
     viewed-lawful
     (both-lawful (after-lawful (both-lawful number-lawful number-lawful) 1)
-    (then-lawful (counted-lawful tenant-lawful) (λ ts. both-lawful (counted-lawful (scope-lawful (length ts))) (only-lawful (counted-lawful lease-lawful) leasesOrdered))))
+    (then-lawful (counted-lawful tenant-lawful) (λ ts. both-lawful (counted-lawful (scope-lawful (length ts))) (only-lawful (counted-lawful lease-lawful) (leasesFrom 0 [])))))
     _ _ (λ x. refl) (λ y. refl)
 
 -- Octets that make a file are what the file's writing gives.

@@ -13,7 +13,8 @@ use Rattle.lists.specs.All.{All}
 use Rattle.lists.specs.Filter.{filterBy}
 use Rattle.lists.specs.Pick.{pick}
 use Rattle.state.specs.declared.Lease.{Lease}
-use Rattle.state_file.specs.File.{FileLease, isAfter, leasesFrom, leasesOrdered}
+use Rattle.state_file.specs.File.{FileLease, isAfter}
+use Rattle.state_file.specs.laws.File.{leasesFrom}
 use Rattle.state_file.specs.laws.Records.{Neat, StorableAt, filed-stored, stored-filed}
 use Rattle.state_file.specs.Records.{filedLease, filedFrom, ofTenant, stored, tenantsFrom}
 
@@ -139,7 +140,7 @@ sorted-up t u [] h s = tt
 sorted-up t u (x ∷ xs) h s = (h .0, s .1)
 
 -- leases in the file's order, of tenants 1 to n, each of which a record can hold: the book made of them gives them back
-pub leases-again : (n : ℕ) (xs : List FileLease) → leasesOrdered xs ≡ true → All (λ x. 1 ≤ x .tenant) xs → All (λ x. x .tenant < 1 + n) xs → All StorableAt xs
+pub leases-again : (n : ℕ) (xs : List FileLease) → leasesFrom 0 [] xs ≡ true → All (λ x. 1 ≤ x .tenant) xs → All (λ x. x .tenant < 1 + n) xs → All StorableAt xs
     → filedFrom 1 (tenantsFrom 1 n xs) ≡ xs
 unfolding bookFrom
 leases-again n xs o low high h = ap (filedFrom 1) (tenants-book 1 n xs) ∙ filed-apart n 1 xs h ∙ chained-apart (λ x. x .tenant) n 1 xs (sorted-up 0 1 xs low (ordered-sorted 0 [] xs o)) high

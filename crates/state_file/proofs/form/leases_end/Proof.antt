@@ -10,7 +10,7 @@ leases-end-spec =
     (tie.spec
     (λ c. search (section-none, section-from, needs))  -- src/form.rt:76:9 returns
     (λ c. search (section-none, section-from, needs))  -- src/form.rt:78:22 shared-slice-read-wide
-    (λ c κs. search (section-none, section-from, needs))  -- src/form.rt:78:9 wide-requires
+    (λ c κs. search needs)  -- src/form.rt:78:9 wide-requires
     (λ c. search (section-none, section-from, needs))  -- src/form.rt:79:20 add-leases-from
     (λ c κs. search (section-none, section-from, needs))  -- src/form.rt:79:5 leases-from-requires
-    (λ c. search (section-none, section-from, needs)))  -- src/form.rt:72:1 returns-2
+    (λ c. search (section-from, needs)))  -- src/form.rt:72:1 returns-2

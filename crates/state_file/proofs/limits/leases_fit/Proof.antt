@@ -11,8 +11,8 @@ leases-fit-spec =
     (λ c. search needs)  -- src/limits.rt:37:22 shared-slice-read-wide
     (λ c κs. search needs)  -- src/limits.rt:37:9 wide-requires
     (λ c. search needs)  -- src/limits.rt:38:24 add-all-storable
-    (λ c κs. search (leases-in, leases-stored, leases-yes, leases-not, needs))  -- src/limits.rt:38:8 all-storable-requires
+    (λ c κs. search (leases-in, needs))  -- src/limits.rt:38:8 all-storable-requires
     (λ c. search needs)  -- src/limits.rt:39:27 add-all-few
-    (λ c κs. search (leases-in, leases-stored, leases-yes, leases-not, needs))  -- src/limits.rt:39:9 all-few-requires
-    (λ c. search (leases-in, leases-stored, leases-yes, leases-not, needs))  -- src/limits.rt:39:9 returns
-    (λ c. search (leases-in, leases-stored, leases-yes, leases-not, needs)))  -- src/limits.rt:33:1 returns-2
+    (λ c κs. search (leases-stored, needs))  -- src/limits.rt:39:9 all-few-requires
+    (λ c. search (leases-yes, needs))  -- src/limits.rt:39:9 returns
+    (λ c. search (leases-yes, leases-not, needs)))  -- src/limits.rt:33:1 returns-2

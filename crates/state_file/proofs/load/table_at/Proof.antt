@@ -11,5 +11,5 @@ table-at-spec =
     (λ c. search needs)  -- src/load.rt:167:22 shared-slice-read-wide
     (λ c κs. search needs)  -- src/load.rt:167:9 wide-requires
     (λ c. search needs)  -- src/load.rt:168:33 add-all-leases
-    (λ c κs. search (leases-held, table-is, needs))  -- src/load.rt:168:9 all-leases-requires
-    (λ c. search (leases-held, table-is, needs)))  -- src/load.rt:163:1 returns
+    (λ c κs. search (leases-held, needs))  -- src/load.rt:168:9 all-leases-requires
+    (λ c. search (table-is, needs)))  -- src/load.rt:163:1 returns

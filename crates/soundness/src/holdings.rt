@@ -5,10 +5,13 @@ ghost use lib.Dec.{leb};
 ghost use lib.ListN.{drop};
 ghost use Rattle.lists.specs.All.{allBy, pairsBy, allTo};
 ghost use Rattle.state.specs.Book.{reserveAt, limitAt, committedSum};
-ghost use Rattle.soundness.specs.Parts.{addedSets, apartSets, sizeIn, countIn, limitsIn, committedIn, noneH, holdingRulesIn};
+ghost use Rattle.soundness.specs.Parts.{addedSets, apartSets, sizeIn, countIn, limitIn, limitsIn, committedIn, noneH, holdingRulesIn};
 use crate::Held;
 use crate::HeldTable;
 use crate::HoldingRules;
+use crate::LoadRules;
+use crate::ScopeLoad;
+use crate::numbers::both;
 use crate::numbers::octet;
 use crate::numbers::sets_apart;
 use state::Lease;
@@ -65,95 +68,72 @@ fn all_held_apart(h: HeldTable) -> bool
 
 fn count_in(t: Held, k: usize) -> u32
     requires { ⌜ k < 4 ⌝ }
-    ensures { λ r. ⌜ r ≡ sizeIn t k ⌝ }
+    ensures { λ r. ⌜ (r ≡ sizeIn t k) × (r ≤ 64) ⌝ }
 {
     address_set::count(t.sets[k])
 }
 
-fn limit_ok(t: Held, c: Scope, k: usize, g: usize) -> bool
-    requires { ⌜ (k < 4) × (g < 8) ⌝ }
-    ensures { λ r. ⌜ r ≡ leb (sizeIn t k) (limitAt c g) ⌝ }
+fn limit_ok(d: u32, c: Scope, g: usize) -> bool
+    requires { ⌜ g < 8 ⌝ }
+    ensures { λ r. ⌜ r ≡ leb d (limitAt c g) ⌝ }
 {
-    let d = count_in(t, k);
     let limit = octet(c.limit[g]);
     d <= (limit as u32)
 }
 
-fn limits_ok(s: State, h: HeldTable, n: usize, k: usize) -> bool
-    requires { ⌜ (n ≤ 8) × (k < 4) ⌝ }
-    ensures { λ r. ⌜ r ≡ limitsIn s h n k ⌝ }
+fn committed(d: u32, c: Scope, g: usize) -> u32
+    requires { ⌜ (g < 8) × (d ≤ 64) ⌝ }
+    ensures { λ r. ⌜ (r ≡ max d (reserveAt c g)) × (r < 256) ⌝ }
 {
-    let c = state::scope_at(s, k);
-    let mut g: usize = 0;
-    while g < n {
-        let t = h.tenants[g];
-        if !limit_ok(t, c, k, g) {
-            return false;
-        }
-        g += 1;
-    }
-    true
-}
-
-fn all_limits_ok(s: State, h: HeldTable, n: usize, m: usize) -> bool
-    requires { ⌜ (n ≤ 8) × (m ≤ 4) ⌝ }
-    ensures { λ r. ⌜ r ≡ allTo (limitsIn s h n) m ⌝ }
-{
-    let mut k: usize = 0;
-    while k < m {
-        if !limits_ok(s, h, n, k) {
-            return false;
-        }
-        k += 1;
-    }
-    true
-}
-
-fn committed(t: Held, c: Scope, k: usize, g: usize) -> u32
-    requires { ⌜ (k < 4) × (g < 8) ⌝ }
-    ensures { λ r. ⌜ (r ≡ max (sizeIn t k) (reserveAt c g)) × (r < 256) ⌝ }
-{
-    let d = count_in(t, k);
     let reserve = octet(c.reserve[g]);
     arithmetic::larger(d, reserve as u32)
 }
 
-fn committed_sum(h: HeldTable, c: Scope, k: usize, n: usize) -> u32
+fn scope_load(h: HeldTable, c: Scope, k: usize, n: usize) -> ScopeLoad
     requires { ⌜ (n ≤ 8) × (k < 4) ⌝ }
-    ensures { λ r. ⌜ r ≡ committedSum c n (countIn h k) ⌝ }
+    ensures { λ r. ⌜ (r .within ≡ allTo (limitIn h c k) n) × (r .sum ≡ committedSum c n (countIn h k)) ⌝ }
 {
+    let mut within = true;
     let mut sum: u32 = 0;
     let mut g: usize = 0;
     while g < n {
         let t = h.tenants[g];
-        let x = committed(t, c, k, g);
+        let d = count_in(t, k);
+        within = both(within, limit_ok(d, c, g));
+        let x = committed(d, c, g);
         sum += x;
         g += 1;
     }
-    sum
+    ScopeLoad {
+        within: within,
+        sum: sum,
+    }
 }
 
-fn committed_ok(s: State, h: HeldTable, n: usize, k: usize) -> bool
-    requires { ⌜ (n ≤ 8) × (k < 4) ⌝ }
-    ensures { λ r. ⌜ r ≡ committedIn s h n k ⌝ }
+fn has_room(c: Scope, sum: u32) -> bool
+    ensures { λ r. ⌜ r ≡ leb sum (c .size) ⌝ }
 {
-    let c = state::scope_at(s, k);
-    let sum = committed_sum(h, c, k, n);
     sum <= (c.size as u32)
 }
 
-fn all_committed_ok(s: State, h: HeldTable, n: usize, m: usize) -> bool
+fn load_rules(s: State, h: HeldTable, n: usize, m: usize) -> LoadRules
     requires { ⌜ (n ≤ 8) × (m ≤ 4) ⌝ }
-    ensures { λ r. ⌜ r ≡ allTo (committedIn s h n) m ⌝ }
+    ensures { λ r. ⌜ (r .holdings ≡ allTo (limitsIn s h n) m) × (r .commitments ≡ allTo (committedIn s h n) m) ⌝ }
 {
+    let mut limit = true;
+    let mut fits = true;
     let mut k: usize = 0;
     while k < m {
-        if !committed_ok(s, h, n, k) {
-            return false;
-        }
+        let c = state::scope_at(s, k);
+        let x = scope_load(h, c, k, n);
+        limit = both(limit, x.within);
+        fits = both(fits, has_room(c, x.sum));
         k += 1;
     }
-    true
+    LoadRules {
+        holdings: limit,
+        commitments: fits,
+    }
 }
 
 fn has_none(h: Held) -> bool
@@ -184,12 +164,11 @@ pub fn holding_rules(s: State, h: HeldTable) -> HoldingRules
     let m = arithmetic::cut4(s.scope_count);
     let tenant = rest_none(h, n);
     let owner = all_held_apart(h);
-    let limit = all_limits_ok(s, h, n, m);
-    let sum = all_committed_ok(s, h, n, m);
+    let load = load_rules(s, h, n, m);
     HoldingRules {
         tenants: tenant,
         owners: owner,
-        holdings: limit,
-        commitments: sum,
+        holdings: load.holdings,
+        commitments: load.commitments,
     }
 }

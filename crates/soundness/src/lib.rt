@@ -78,6 +78,18 @@ struct SettingsRules {
     unused: bool,
 }
 
+// What the tenants hold in one scope: whether each is within its limit, and the sum of the larger of holding and share.
+struct ScopeLoad {
+    within: bool,
+    sum: u32,
+}
+
+// The same in all scopes.
+struct LoadRules {
+    holdings: bool,
+    commitments: bool,
+}
+
 // The rules on what all tenants hold.
 struct HoldingRules {
     tenants: bool,

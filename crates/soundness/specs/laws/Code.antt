@@ -20,6 +20,7 @@ use Rattle.soundness.specs.declared.TableRules.{TableRules}
 use Rattle.soundness.specs.declared.Rules.{Rules}
 use Rattle.soundness.specs.declared.SettingsRules.{SettingsRules}
 use Rattle.soundness.specs.declared.HoldingRules.{HoldingRules}
+use Rattle.soundness.specs.declared.LoadRules.{LoadRules}
 use Rattle.soundness.specs.declared.Held.{Held}
 use Rattle.soundness.specs.declared.HeldTable.{HeldTable}
 use Rattle.soundness.specs.Sound.{tenantsIn, scopesIn, sizeB, countsB, idB, recordsB, offsetsB, rule3, poolB, rule4, ttlB, rule5, reservesB, rule6, leaseB, tenantsB, rule9, compatible, rule11, rule12, layoutB, paddedB, tailB, settingsB, oneTo, zeroFrom, belowB, scopeOf, unusedB, rule1, rule2, poolsApart, rule7, rule8, rule10, rangeZero, scopeZero, rulesOf, firstBroken, brokenOf, soundB, noneB, apart, holding, limitB, limitsB, committedB, rule19}
@@ -399,31 +400,58 @@ module _ (s : State) (b : LeaseTable) (h : HeldTable) (e : h ≡ holdingsOf b) w
       ap (λ (x : ℕ). leb x (scopeAt s k .size))
       (sum-same (committed (scopeAt s k) (countIn h k)) (committed (scopeAt s k) (holding b (k + 1))) (tenantsIn s) (λ g c. ap (λ (x : ℕ). max x (reserveAt (scopeAt s k) g)) (counts k g (omega arith)))))
 
+and-pick : (a b : Bool) → (a && b) ≡ pick a b false
+unfolding pick
+and-pick true b = refl
+and-pick false b = refl
+
 -- ---- the turns of the code
-pub limit-at : (h : HeldTable) (c : Scope) (k g : ℕ) (t : Held) {r : Bool} → t ≡ getD (h .tenants) g noHeld → r ≡ leb (sizeIn t k) (limitAt c g) → r ≡ limitIn h c k g
+pub limit-at : (h : HeldTable) (c : Scope) (k g d : ℕ) (t : Held) {r : Bool} → t ≡ getD (h .tenants) g noHeld → d ≡ sizeIn t k → r ≡ leb d (limitAt c g) → r ≡ limitIn h c k g
 unfolding limitIn countIn
-limit-at h c k g t e p = p ∙ ap (λ (x : Held). leb (sizeIn x k) (limitAt c g)) e
+limit-at h c k g d t e ed p = p ∙ ap (λ (x : ℕ). leb x (limitAt c g)) (ed ∙ ap (λ (x : Held). sizeIn x k) e)
 
-pub limit-is : (d l x y : ℕ) → d ≡ x → l ≡ y → leb d l ≡ leb x y
-limit-is d l x y p q = ap₂ leb p q
-
-pub committed-at : (h : HeldTable) (c : Scope) (k g : ℕ) (t : Held) {r : ℕ} → t ≡ getD (h .tenants) g noHeld → r ≡ max (sizeIn t k) (reserveAt c g) → r ≡ committed c (countIn h k) g
+pub committed-at : (h : HeldTable) (c : Scope) (k g d : ℕ) (t : Held) {r : ℕ} → t ≡ getD (h .tenants) g noHeld → d ≡ sizeIn t k → r ≡ max d (reserveAt c g) → r ≡ committed c (countIn h k) g
 unfolding committed countIn
-committed-at h c k g t e p = p ∙ ap (λ (x : Held). max (sizeIn x k) (reserveAt c g)) e
+committed-at h c k g d t e ed p = p ∙ ap (λ (x : ℕ). max x (reserveAt c g)) (ed ∙ ap (λ (x : Held). sizeIn x k) e)
 
-pub committed-is : (d l r x y : ℕ) → d ≡ x → l ≡ y → r ≡ max d l → r ≡ max x y
-committed-is d l r x y p q e = e ∙ ap₂ max p q
+pub count-few : (m : ℕ) {r : ℕ} → r ≡ length (offsets m) → r ≤ 64
+count-few m e = let f = length-offsets m in omega arith
 
-pub committed-small : (t : Held) (k : ℕ) {d l r : ℕ} → d ≡ sizeIn t k → l < 256 → r ≡ max d l → r < 256
-committed-small t k p q e = let f = length-offsets (setAt t k) in omega arith
+pub limit-is : (d l y : ℕ) → l ≡ y → leb d l ≡ leb d y
+limit-is d l y q = ap (leb d) q
 
-pub committed-ok-is : (s : State) (h : HeldTable) (n k : ℕ) (c : Scope) {sum : ℕ} → c ≡ scopeAt s k → sum ≡ committedSum c n (countIn h k) → leb sum (c .size) ≡ committedIn s h n k
+pub committed-is : (d l r y : ℕ) → l ≡ y → r ≡ max d l → r ≡ max d y
+committed-is d l r y q e = e ∙ ap (max d) q
+
+pub committed-ok-is : (s : State) (h : HeldTable) (n k sum : ℕ) (c : Scope) {q : Bool} → q ≡ leb sum (c .size) → c ≡ scopeAt s k → sum ≡ committedSum c n (countIn h k) → q ≡ committedIn s h n k
 unfolding committedIn
-committed-ok-is s h n k c e p = ap (λ (x : ℕ). leb x (c .size)) p ∙ ap (λ (x : Scope). leb (committedSum x n (countIn h k)) (x .size)) e
+committed-ok-is s h n k sum c eq e p = eq ∙ ap (λ (x : ℕ). leb x (c .size)) p ∙ ap (λ (x : Scope). leb (committedSum x n (countIn h k)) (x .size)) e
 
 pub limits-in : (s : State) (h : HeldTable) (n k : ℕ) (c : Scope) {r : Bool} → c ≡ scopeAt s k → r ≡ allTo (limitIn h c k) n → r ≡ limitsIn s h n k
 unfolding limitsIn
 limits-in s h n k c e p = p ∙ ap (λ (x : Scope). allTo (limitIn h x k) n) e
+
+-- a test of every number below n, gathered
+pub record FlagInv (p : ℕ → Bool) (n : ℕ) (b : Bool) (i : ℕ) : Type 0 where
+  pub within : i ≤ n
+  pub whole : b ≡ allTo p i
+
+pub flag-start : {p : ℕ → Bool} {n : ℕ} → FlagInv p n true 0
+unfolding allTo
+flag-start = record { within = omega arith; whole = refl }
+
+module _ {p : ℕ → Bool} {n : ℕ} {b : Bool} {i : ℕ} (v : FlagInv p n b i) where
+  pub flag-next : {q r : Bool} → i < n → r ≡ (b && q) → q ≡ p i → FlagInv p n r (i + 1)
+  unfolding allTo
+  flag-next {q} {r} h f e = record { within = omega arith; whole = f ∙ ap₂ (λ (x y : Bool). x && y) (v .whole) e ∙ go (allTo p i) ∙ sym (ap (allTo p) (add-one i)) }
+    where
+      go : (a : Bool) → (a && p i) ≡ pick a (p i) false
+      go a = and-pick a (p i)
+
+  pub flag-end : n ≤ i → b ≡ allTo p n
+  flag-end h = v .whole ∙ ap (allTo p) (let e : i ≡ n = omega (arith, v .within) in e)
+
+pub ruleset flags = (flag-start, flag-next, flag-end)
 
 -- ---- all rules
 settings-same : {p p′ q q′ u u′ r r′ t t′ v v′ : Bool} → p ≡ p′ → q ≡ q′ → u ≡ u′ → r ≡ r′ → t ≡ t′ → v ≡ v′
@@ -446,11 +474,11 @@ holding-same : {p p′ q q′ u u′ r r′ : Bool} → p ≡ p′ → q ≡ q�
     → _≡_ {A = HoldingRules} (record { tenants = p; owners = q; holdings = u; commitments = r }) (record { tenants = p′; owners = q′; holdings = u′; commitments = r′ })
 holding-same a b c d = cc
 
-pub holding-are : (s : State) (n m : ℕ) (h : HeldTable) {p q u r : Bool} → n ≡ tenantsIn s → m ≡ scopesIn s
-    → p ≡ allBy noneH (drop n (h .tenants)) → q ≡ pairsBy apartSets (h .tenants) → u ≡ allTo (limitsIn s h n) m → r ≡ allTo (committedIn s h n) m
-    → _≡_ {A = HoldingRules} (record { tenants = p; owners = q; holdings = u; commitments = r }) (holdingRulesIn s h)
+pub holding-are : (s : State) (n m : ℕ) (h : HeldTable) (l : LoadRules) {p q : Bool} → n ≡ tenantsIn s → m ≡ scopesIn s
+    → p ≡ allBy noneH (drop n (h .tenants)) → q ≡ pairsBy apartSets (h .tenants) → l .holdings ≡ allTo (limitsIn s h n) m → l .commitments ≡ allTo (committedIn s h n) m
+    → _≡_ {A = HoldingRules} (record { tenants = p; owners = q; holdings = l .holdings; commitments = l .commitments }) (holdingRulesIn s h)
 unfolding holdingRulesIn
-holding-are s n m h en em p q u r =
+holding-are s n m h l en em p q u r =
     holding-same (p ∙ ap (λ (x : ℕ). allBy noneH (drop x (h .tenants))) en) q (u ∙ ap₂ (λ (x y : ℕ). allTo (limitsIn s h x) y) en em) (r ∙ ap₂ (λ (x y : ℕ). allTo (committedIn s h x) y) en em)
 
 pub drop-map : {A B : Type 0} (g : A → B) (n : ℕ) (l : List A) → drop n (map g l) ≡ map g (drop n l)

@@ -8,8 +8,7 @@ pub limit-ok-spec : {M : Type 1} → statement M
 limit-ok-spec =
     tie.close
     (tie.spec
-    (λ c κs. search needs)  -- src/holdings.rt:77:9 count-in-requires
-    (λ c. search needs)  -- src/holdings.rt:78:23 element-copy-out-octet
-    (λ c κs. search needs)  -- src/holdings.rt:78:9 octet-requires
-    (λ c. search needs)  -- src/holdings.rt:79:11 cast-result
-    (λ c. search (limit-is, needs)))  -- src/holdings.rt:73:1 returns
+    (λ c. search needs)  -- src/holdings.rt:80:23 element-copy-out-octet
+    (λ c κs. search needs)  -- src/holdings.rt:80:9 octet-requires
+    (λ c. search needs)  -- src/holdings.rt:81:11 cast-result
+    (λ c. search (limit-is, needs)))  -- src/holdings.rt:76:1 returns

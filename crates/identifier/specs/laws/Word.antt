@@ -8,10 +8,9 @@ use lib.ListN.{length, getD, take, drop, take-append-drop, length-take}
 use lib.Seq.{drop-cons, take-take}
 use lib.Dec.{ltb}
 use lib.Bits.{bitOr, or-shifted}
-use borrow.Author.Tests.{lt-ltb, le-ltb, ltb-true, ltb-false}
+use borrow.Author.Tests.{ltb-true, ltb-false}
 use Rattle.lists.specs.Pick.{pick}
 use Rattle.lists.specs.All.{All}
-use Rattle.lists.specs.laws.Part.{cut-take}
 use Rattle.identifier.specs.Order.{orderOf, numberFrom, Octets}
 
 -- ---- the number of eight octets

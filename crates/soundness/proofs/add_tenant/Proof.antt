@@ -1,5 +1,4 @@
 -- `add_tenant` meets its contract: by tenant-added.
-use Rattle.lists.specs.laws.Part.{unmapped}
 use Rattle.soundness.specs.laws.Survey.{tenant-added}
 use borrow.Author.Needs.{needs}
 use Rattle.soundness.proofs.add_tenant.Statement.{statement}
@@ -13,4 +12,4 @@ add-tenant-spec =
     (λ c κs. search needs)  -- src/lib.rt:195:9 and-tenants-requires
     (λ c. search needs)  -- src/lib.rt:197:5 mul-h
     (λ c. search needs)  -- src/lib.rt:197:5 element-set-from-h
-    (λ c. search (tenant-added, unmapped, needs)))  -- src/lib.rt:187:1 returns
+    (λ c. search (tenant-added, needs)))  -- src/lib.rt:187:1 returns

@@ -20,12 +20,12 @@ held-sets-spec =
     (tie.spec
     Inv-loop
     μ-loop
-    (λ c κs. search (parts, held-are, needs))  -- src/lib.rt:112:9 cut16-requires
+    (λ c κs. search (parts, needs))  -- src/lib.rt:112:9 cut16-requires
     (λ c. search (parts, held-are, needs))  -- src/lib.rt:114:5 loop-holds
     (λ c. search (parts, held-are, needs))  -- src/lib.rt:115:17 mul-l
     (λ c. search (parts, held-are, needs))  -- src/lib.rt:115:17 element-copy-out-l
-    (λ c κs. search (parts, held-are, needs))  -- src/lib.rt:116:9 add-sets-requires
+    (λ c κs. search (parts, needs))  -- src/lib.rt:116:9 add-sets-requires
     (λ c. search (parts, held-are, needs))  -- src/lib.rt:117:9 add-i
     (λ c. search (parts, held-are, needs))  -- src/lib.rt:114:5 loop-less
-    (λ c. search (parts, held-are, needs))  -- src/lib.rt:114:5 loop-again
-    (λ c. search (parts, held-are, needs)))  -- src/lib.rt:104:1 returns
+    (λ c. search (parts, needs))  -- src/lib.rt:114:5 loop-again
+    (λ c. search (parts, needs)))  -- src/lib.rt:104:1 returns

@@ -18,13 +18,13 @@ table-rules-spec =
     (tie.spec
     Inv-loop
     μ-loop
-    (λ c κs. search (surveys, unmapped, needs))  -- src/lib.rt:185:9 pools-of-requires
-    (λ c κs. search (surveys, unmapped, needs))  -- src/lib.rt:186:9 no-tenants-requires
+    (λ c κs. search (surveys, needs))  -- src/lib.rt:185:9 pools-of-requires
+    (λ c κs. search (surveys, needs))  -- src/lib.rt:186:9 no-tenants-requires
     (λ c. search (surveys, unmapped, needs))  -- src/lib.rt:188:5 loop-holds
     (λ c. search (surveys, unmapped, needs))  -- src/lib.rt:189:17 mul-t
     (λ c. search (surveys, unmapped, needs))  -- src/lib.rt:189:17 element-copy-out-t
-    (λ c κs. search (surveys, unmapped, needs))  -- src/lib.rt:190:9 add-tenant-requires
+    (λ c κs. search (surveys, needs))  -- src/lib.rt:190:9 add-tenant-requires
     (λ c. search (surveys, unmapped, needs))  -- src/lib.rt:191:9 add-i
     (λ c. search (surveys, unmapped, needs))  -- src/lib.rt:188:5 loop-less
-    (λ c. search (surveys, unmapped, needs))  -- src/lib.rt:188:5 loop-again
-    (λ c. search (surveys, unmapped, needs)))  -- src/lib.rt:182:1 returns
+    (λ c. search (surveys, needs))  -- src/lib.rt:188:5 loop-again
+    (λ c. search (surveys, needs)))  -- src/lib.rt:182:1 returns

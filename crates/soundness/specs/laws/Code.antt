@@ -188,10 +188,6 @@ pool-is s l k pool c h ek ec ep =
         let p : 2 ^ 64 ≤ 2 ^ n = pow-mono {i = 64} {j = n} (omega arith) in
         ap (λ (x : ℕ). ltb (l .addresses) (2 ^ x)) (let q : min n 64 ≡ 64 = omega arith in q) ∙ lt-ltb _ _ h ∙ sym (lt-ltb (l .addresses) (2 ^ n) (omega arith))
 
-pub unused-past : (n k : ℕ) (l : List Lease) → length l ≡ k → k ≤ n → true ≡ allBy unusedB (drop n l)
-unfolding allBy
-unused-past n k l e h = sym (ap (allBy unusedB) (drop-of-length-le l {i = n} (omega arith)))
-
 -- ---- two leases
 pub differ-no : (a b : Lease) {q : Bool} → q ≡ sameOf (idOf a) (idOf b) → q ≡ true → false ≡ differ a b
 unfolding differ
@@ -419,9 +415,6 @@ count-few m e = let f = length-offsets m in omega arith
 
 pub limit-is : (d l y : ℕ) → l ≡ y → leb d l ≡ leb d y
 limit-is d l y q = ap (leb d) q
-
-pub committed-is : (d l r y : ℕ) → l ≡ y → r ≡ max d l → r ≡ max d y
-committed-is d l r y q e = e ∙ ap (max d) q
 
 pub committed-ok-is : (s : State) (h : HeldTable) (n k sum : ℕ) (c : Scope) {q : Bool} → q ≡ leb sum (c .size) → c ≡ scopeAt s k → sum ≡ committedSum c n (countIn h k) → q ≡ committedIn s h n k
 unfolding committedIn

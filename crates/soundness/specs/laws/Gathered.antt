@@ -1,17 +1,17 @@
 -- Laws: a tenant's rules and sets gathered in one loop; leases on addresses of their own are compatible.
 use Prim.Native.Nat.{ℕ, zero, suc, _+_, _-_, _^_, _≤_, _<_, min}
-use mathlib.Core.Path.{_≡_, refl, sym, ap, ap₂, _∙_, subst}
+use mathlib.Core.Path.{_≡_, refl, sym, ap, ap₂, _∙_}
 use mathlib.Core.Bool.{Bool, true, false, _&&_}
 use mathlib.Core.List.{List, [], _∷_}
 use native.Mathlib.Omega.{arith}
-use lib.Dec.{leb, ltb, eqb}
+use lib.Dec.{leb, ltb}
 use lib.Bits.{bitOr}
 use lib.ListN.{length, take, drop, getD, List·getD-eq-default, drop-of-length-le}
-use borrow.Author.Tests.{eq-eqb, eqb-true, ltb-true, leb-true, leb-false}
+use borrow.Author.Tests.{eq-eqb, ltb-true, leb-true, leb-false}
 use Rattle.lists.specs.Pick.{pick}
 use Rattle.lists.specs.Fold.{fold}
 use Rattle.lists.specs.All.{allBy, pairsBy}
-use Rattle.lists.specs.laws.All.{all-head, all-cons, all-both, pairs-cons}
+use Rattle.lists.specs.laws.All.{all-cons, all-both, pairs-cons}
 use Rattle.lists.specs.laws.Next.{NextInv, next-next, next-end}
 use Rattle.lists.specs.laws.Both.{and-parts, and-both}
 use Rattle.identifier.specs.Order.{orderOf, numberFrom, Octets}
@@ -31,7 +31,7 @@ use Rattle.soundness.specs.declared.Gathered.{Gathered}
 use Rattle.soundness.specs.declared.Checked.{Checked}
 use Rattle.soundness.specs.declared.Pass.{Pass}
 use Rattle.soundness.specs.Sound.{oneTo, disjoint, compatible, belowB, scopeOf, unusedB}
-use Rattle.soundness.specs.Parts.{setAt, poolIn, poolsOf, andLeases, leasesAll, tenantRulesOf, heldSets, addedSets, freshIn, freshAll, emptySets, addedLease, noneGathered, gatheredOf, Passed, checkedOf}
+use Rattle.soundness.specs.Parts.{setAt, poolIn, poolsOf, andLeases, addedSets, freshIn, freshAll, emptySets, addedLease, noneGathered, gatheredOf, Passed, checkedOf}
 use Rattle.soundness.specs.laws.Code.{and-assoc, and-true-r, and-more, rise-start, pool-is, leases-are, held-are, tenant-is}
 use Rattle.soundness.specs.laws.Kept.{disjoint-less}
 

@@ -1,7 +1,7 @@
 -- Laws: the rules of a table gathered tenant by tenant, and what the earliest end says.
 use Prim.Native.Nat.{ℕ, zero, suc, _+_, _≤_, _<_, min}
 use mathlib.Core.Path.{_≡_, refl, sym, ap, ap₂, _∙_, subst}
-use mathlib.Core.Bool.{Bool, true}
+use mathlib.Core.Bool.{true}
 use mathlib.Core.List.{List, [], _∷_, map}
 use native.Mathlib.Omega.{arith}
 use lib.Dec.{eqb}
@@ -21,7 +21,6 @@ use Rattle.state.specs.declared.State.{State}
 use Rattle.state.specs.Book.{live, liveOf, noLeases, tenantAt, laidOut, scopeAt}
 use Rattle.soundness.specs.declared.Held.{Held}
 use Rattle.soundness.specs.declared.Checked.{Checked}
-use Rattle.soundness.specs.declared.HeldTable.{HeldTable}
 use Rattle.soundness.specs.declared.Rules.{Rules}
 use Rattle.soundness.specs.declared.TableRules.{TableRules}
 use Rattle.soundness.specs.declared.TenantRules.{TenantRules}

@@ -10,6 +10,6 @@ is-swift-spec =
     (tie.spec
     (λ c κs. search needs)  -- src/gather.rt:78:17 word-requires
     (λ c κs. search needs)  -- src/gather.rt:79:17 word-requires-2
-    (λ c. search (swift-yes, no-claim, needs))  -- src/gather.rt:80:13 returns
+    (λ c. search (swift-yes, needs))  -- src/gather.rt:80:13 returns
     (λ c. search (swift-yes, no-claim, needs))  -- src/gather.rt:71:1 returns-2
     (λ c. search (swift-yes, no-claim, needs)))  -- src/gather.rt:71:1 returns-3

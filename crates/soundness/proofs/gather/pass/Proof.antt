@@ -52,7 +52,7 @@ pass-spec =
     (λ c κs. search (parts, needs))
     (λ c. search (parts, swifts, folds, needs))
     (λ c. search (parts, gathered-are, needs))
-    (λ c. search (parts, gathered-are, needs))
+    (λ c. search (parts, needs))
     (λ c. search (swifts, parts, needs))
     (λ c. search (parts, swifts, folds, needs))
     (λ c. search (parts, swifts, folds, needs))

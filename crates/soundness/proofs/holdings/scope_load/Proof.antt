@@ -21,15 +21,15 @@ scope-load-spec =
     (tie.spec
     Inv-loop
     μ-loop
-    (λ c. search (flags, sums, limit-at, committed-at, unmapped, needs))  -- src/holdings.rt:99:5 loop-holds
+    (λ c. search (flags, sums, needs))  -- src/holdings.rt:99:5 loop-holds
     (λ c. search (flags, sums, limit-at, committed-at, unmapped, needs))  -- src/holdings.rt:100:17 mul-t
     (λ c. search (flags, sums, limit-at, committed-at, unmapped, needs))  -- src/holdings.rt:100:17 element-copy-out-t
     (λ c κs. search (flags, sums, limit-at, committed-at, unmapped, needs))  -- src/holdings.rt:101:13 count-in-requires
     (λ c κs. search (flags, sums, limit-at, committed-at, unmapped, needs))  -- src/holdings.rt:102:31 limit-ok-requires
-    (λ c κs. search (flags, sums, limit-at, committed-at, unmapped, needs))  -- src/holdings.rt:102:9 both-requires
+    (λ c κs. search (flags, sums, needs))  -- src/holdings.rt:102:9 both-requires
     (λ c κs. search (flags, sums, limit-at, committed-at, unmapped, needs))  -- src/holdings.rt:103:13 committed-requires
     (λ c. search (flags, sums, limit-at, committed-at, unmapped, needs))  -- src/holdings.rt:104:9 add-sum
     (λ c. search (flags, sums, limit-at, committed-at, unmapped, needs))  -- src/holdings.rt:105:9 add-g
     (λ c. search (flags, sums, limit-at, committed-at, unmapped, needs))  -- src/holdings.rt:99:5 loop-less
-    (λ c. search (flags, sums, limit-at, committed-at, unmapped, needs))  -- src/holdings.rt:99:5 loop-again
-    (λ c. search (flags, sums, limit-at, committed-at, unmapped, needs)))  -- src/holdings.rt:92:1 returns
+    (λ c. search (flags, sums, limit-at, committed-at, needs))  -- src/holdings.rt:99:5 loop-again
+    (λ c. search (flags, sums, needs)))  -- src/holdings.rt:92:1 returns

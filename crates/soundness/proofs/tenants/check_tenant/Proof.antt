@@ -1,5 +1,5 @@
 -- `check_tenant` meets its contract: by gathered-apart, swift-rises, tenant-checked.
-use Rattle.soundness.specs.laws.Gathered.{gathered-apart, swift-rises, tenant-checked}
+use Rattle.soundness.specs.laws.Gathered.{gathered-apart, tenant-checked}
 use borrow.Author.Needs.{needs}
 use Rattle.soundness.proofs.tenants.check_tenant.Statement.{statement}
 use Rattle.soundness.proofs.tenants.check_tenant.Tie as tie
@@ -12,7 +12,7 @@ check-tenant-spec =
     (λ c κs. search needs)  -- src/tenants.rt:141:9 rises-requires
     (λ c κs. search needs)  -- src/tenants.rt:142:9 both-requires
     (λ c κs. search needs)  -- src/tenants.rt:143:9 ids-differ-requires
-    (λ c κs. search (gathered-apart, swift-rises, tenant-checked, needs))  -- src/tenants.rt:144:9 periods-ok-requires
+    (λ c κs. search (gathered-apart, needs))  -- src/tenants.rt:144:9 periods-ok-requires
     (λ c κs. search needs)  -- src/tenants.rt:145:31 both-requires-2
     (λ c κs. search needs)  -- src/tenants.rt:145:9 both-requires-3
-    (λ c. search (gathered-apart, swift-rises, tenant-checked, needs)))  -- src/tenants.rt:133:1 returns
+    (λ c. search (tenant-checked, needs)))  -- src/tenants.rt:133:1 returns

@@ -2,7 +2,7 @@
 use mathlib.Core.Path.{_≡_, refl, sym, ap, ap₂, _∙_, subst}
 use mathlib.Core.Bool.{Bool, true, false, _||_, true≢false}
 use mathlib.Core.List.{List, [], map}
-use Prim.Native.Nat.{ℕ, _≤_, _<_, max, min}
+use Prim.Native.Nat.{ℕ, _≤_, _<_}
 use native.Mathlib.Omega.{arith}
 use lib.ListN.{length, length-map}
 use lib.Seq.{set-getD}
@@ -23,18 +23,16 @@ use Rattle.soundness.specs.declared.HeldTable.{HeldTable}
 use Rattle.soundness.specs.declared.TableRules.{TableRules}
 use Rattle.soundness.specs.Sound.{soundB, tenantsIn}
 use Rattle.soundness.specs.Parts.{holdingsOf, soundFrom, tableRulesOf}
-use Rattle.soundness.specs.View.{View}
 use Rattle.soundness.specs.laws.Kept.{advanced-sound}
 use Rattle.soundness.specs.laws.Survey.{held-from, sound-from}
 use Rattle.server.specs.declared.Served.{Served}
-use Rattle.server.specs.Serve.{Answer, Call, Serves, ServesTenant, atClock, bookOf, discarded, said, serveOf, tenantOf, withReading}
-use Rattle.server.specs.laws.Told.{tells-as}
+use Rattle.server.specs.Serve.{Call, Serves, ServesTenant, atClock, discarded, serveOf, tenantOf, withReading}
 use Rattle.server.specs.laws.Tests.{call-served, call-short, call-unsound, client-known, client-unknown}
 use Rattle.records.specs.declared.Dropped.{Dropped}
 use Rattle.records.specs.declared.Records.{Records}
 use Rattle.records.specs.declared.ServedRecords.{ServedRecords}
 use Rattle.records.specs.Records.{Drops, endsAfter, putRow, recordsOf, tableFrom}
-use Rattle.records.specs.Lent.{Gathered, LentAnswer, ServesRecords, bookFrom, lentAnswer, lentSaid, serveWith}
+use Rattle.records.specs.Lent.{Gathered, LentAnswer, ServesRecords, bookFrom, lentAnswer, serveWith}
 use Rattle.records.specs.laws.Back.{lent-table-back, records-back}
 use Rattle.records.specs.laws.Rows.{Long, drop-idle, put-row-is, sound-laid}
 use Rattle.records.specs.laws.Steps.{off-whole, on-whole}

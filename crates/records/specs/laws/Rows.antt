@@ -5,7 +5,7 @@ use mathlib.Core.List.{List, [], _∷_, _++_, map, append-assoc}
 use Prim.Native.Nat.{ℕ, zero, suc, _+_, _-_, _*_, _≤_, _<_}
 use native.Mathlib.Omega.{arith}
 use lib.ListN.{length, replicate, take, drop, getD, set, length-append, length-drop, length-map, length-take, take-append-drop, List·getD-map}
-use lib.Seq.{take-append-add, drop-append-add, drop-at, drop-cons, getD-at, length-take-le, set-getD, take-length}
+use lib.Seq.{take-append-add, drop-append-add, drop-at, drop-cons, getD-at, length-take-le, set-getD}
 use borrow.Author.Tests.{ltb-true}
 use Rattle.lists.specs.Pick.{pick}
 use Rattle.lists.specs.All.{All, allBy, pairsBy}
@@ -30,7 +30,7 @@ use Rattle.soundness.specs.laws.Survey.{SurveyInv, held-at, none-ended, survey-
 use Rattle.state_file.proofs.WriteAgain.{all-drop, all-take, leases-zero}
 use Rattle.records.specs.declared.Records.{Records}
 use Rattle.records.specs.laws.Back.{rows-back}
-use Rattle.records.specs.laws.Table.{row-own, rows-length, table-eight}
+use Rattle.records.specs.laws.Table.{rows-length, table-eight}
 use Rattle.records.specs.Records.{Drops, endsAfter, putRow, recordsOf, rows, rowsOf, tableFrom, tenantFrom}
 
 -- ---- a row put back

@@ -1,7 +1,6 @@
 -- `on_tenant` meets its contract: by tests 4 to 6.
 use Rattle.server.proofs.Steps.{reading-discarded, reading-good, reading-short, reading-taken, serves-discard}
 use borrow.Author.Needs.{needs}
-use denote.Ref.{now}
 use Rattle.server.proofs.on_tenant.Statement.{statement}
 use Rattle.server.proofs.on_tenant.Tie as tie
 

@@ -1,6 +1,6 @@
--- Laws: leases in the file's order and tenant by tenant: each gives the other back.
+-- Laws: entries in the file's order and tenant by tenant, leases among them: each gives the other back.
 use mathlib.Core.Bool.{Bool, false, true}
-use mathlib.Core.List.{List, [], _++_, _∷_, map}
+use mathlib.Core.List.{List, [], _++_, _∷_, append-nil, map}
 use mathlib.Core.Path.{_∙_, _≡_, ap, ap₂, refl, subst, sym}
 use Prim.Native.Nat.{_+_, _<_, _≤_, suc, zero, ℕ}
 use native.Mathlib.Omega.{arith}
@@ -19,11 +19,11 @@ use Rattle.state_file.specs.laws.Records.{Neat, StorableAt, filed-stored
 use Rattle.state_file.specs.Records.{filedLease, filedFrom, ofTenant, stored, tenantsFrom}
 
 -- those with key t
-abbrev own : {A : Type 0} → (A → ℕ) → ℕ → List A → List A
+abbrev pub own : {A : Type 0} → (A → ℕ) → ℕ → List A → List A
 own key t l = filterBy (λ x. eqb (key x) t) l
 
 -- the lists of n tenants from t on
-unfoldable apart : {A : Type 0} → (A → ℕ) → ℕ → ℕ → List A → List (List A)
+unfoldable pub apart : {A : Type 0} → (A → ℕ) → ℕ → ℕ → List A → List (List A)
 apart key t zero l = []
 apart key t (suc n) l = own key t l ∷ apart key (suc t) n l
 
@@ -32,7 +32,7 @@ chained [] = []
 chained (l ∷ ls) = l ++ chained ls
 
 -- none is before the one before it, and all are from t on
-unfoldable Sorted : {A : Type 0} → (A → ℕ) → ℕ → List A → Type 0
+unfoldable pub Sorted : {A : Type 0} → (A → ℕ) → ℕ → List A → Type 0
 Sorted key t [] = Unit {0}
 Sorted key t (x ∷ l) = (t ≤ key x) × Sorted key (key x) l
 
@@ -93,6 +93,77 @@ module _ {A : Type 0} (key : A → ℕ) where
   chained-apart n t (x ∷ l) s h =
       apart-cons n t x l (s .0) (h .0) (s .1) ∙ ap {B = List A} (λ (r : List A). x ∷ r) (chained-apart n t l (sorted-from t (key x) l (s .0) (s .1)) (h .1))
 
+-- ---- any entries, filed by tenant: key is an entry's tenant, put its record, file the entry of a tenant's record
+unfoldable pub filedAll : {A B : Type 0} → (ℕ → B → A) → ℕ → List (List B) → List A
+filedAll file t [] = []
+filedAll file t (l ∷ ls) = map (file t) l ++ filedAll file (suc t) ls
+
+module _ {A B : Type 0} (key : A → ℕ) (put : A → B) (file : ℕ → B → A) where
+  -- read and written again, where the entry of each record is the entry
+  module _ (P : A → Type 0) (again : (x : A) → P x → file (key x) (put x) ≡ x) where
+    filed-own : (t : ℕ) (xs : List A) → All P xs → map (file t) (map put (own key t xs)) ≡ own key t xs
+    unfolding All filterBy pick
+    filed-own t [] h = refl
+    filed-own t (x ∷ xs) h = go (eqb (key x) t) refl (filed-own t xs (h .1))
+      where
+        go : (b : Bool) → eqb (key x) t ≡ b → map (file t) (map put (own key t xs)) ≡ own key t xs
+            → map (file t) (map put (pick b (x ∷ own key t xs) (own key t xs))) ≡ pick b (x ∷ own key t xs) (own key t xs)
+        go true e ih = ap₂ {C = List A} (λ (y : A) (ys : List A). y ∷ ys) (ap (λ (u : ℕ). file u (put x)) (sym (eqb-true (key x) t e)) ∙ again x (h .0)) ih
+        go false e ih = ih
+
+    filed-apart : (n t : ℕ) (xs : List A) → All P xs → filedAll file t (map (map put) (apart key t n xs)) ≡ chained (apart key t n xs)
+    unfolding filedAll apart chained
+    filed-apart zero t xs h = refl
+    filed-apart (suc n) t xs h = ap₂ {C = List A} (λ (p q : List A). p ++ q) (filed-own t xs h) (filed-apart n (suc t) xs h)
+
+    pub entries-again : (n : ℕ) (xs : List A) → Sorted key 1 xs → All (λ x. key x < 1 + n) xs → All P xs → filedAll file 1 (map (map put) (apart key 1 n xs)) ≡ xs
+    entries-again n xs s high h = filed-apart n 1 xs h ∙ chained-apart key n 1 xs s high
+
+  -- written and read again, where the record of each entry is the record
+  module _ (Q : B → Type 0) (keyed : (t : ℕ) (y : B) → key (file t y) ≡ t) (back : (t : ℕ) (y : B) → Q y → put (file t y) ≡ y) where
+    only-own : (t : ℕ) (l : List B) (xs : List A) → own key t (map (file t) l ++ xs) ≡ map (file t) l ++ own key t xs
+    unfolding filterBy pick
+    only-own t [] xs = refl
+    only-own t (y ∷ l) xs =
+        ap (λ (b : Bool). pick b (file t y ∷ own key t (map (file t) l ++ xs)) (own key t (map (file t) l ++ xs))) (eq-eqb (key (file t y)) t (keyed t y))
+        ∙ ap {B = List A} (λ (ys : List A). file t y ∷ ys) (only-own t l xs)
+
+    only-other : (t u : ℕ) (l : List B) (xs : List A) → (t ≡ u → ⊥) → own key u (map (file t) l ++ xs) ≡ own key u xs
+    unfolding filterBy pick
+    only-other t u [] xs h = refl
+    only-other t u (y ∷ l) xs h =
+        ap (λ (b : Bool). pick b (file t y ∷ own key u (map (file t) l ++ xs)) (own key u (map (file t) l ++ xs))) (ne-eqb (key (file t y)) u (λ e. h (sym (keyed t y) ∙ e)))
+        ∙ only-other t u l xs h
+
+    only-later : (t u : ℕ) (ls : List (List B)) → u < t → own key u (filedAll file t ls) ≡ []
+    unfolding filedAll filterBy
+    only-later t u [] h = refl
+    only-later t u (l ∷ ls) h = only-other t u l (filedAll file (suc t) ls) (λ e. absurd (omega arith)) ∙ only-later (suc t) u ls (omega arith)
+
+    apart-later : (n t u : ℕ) (l : List B) (xs : List A) → t < u → apart key u n (map (file t) l ++ xs) ≡ apart key u n xs
+    unfolding apart
+    apart-later zero t u l xs h = refl
+    apart-later (suc n) t u l xs h =
+        ap₂ {C = List (List A)} (λ (p : List A) (q : List (List A)). p ∷ q) (only-other t u l xs (λ e. absurd (omega arith))) (apart-later n t (suc u) l xs (omega arith))
+
+    put-all : (t : ℕ) (l : List B) → All Q l → map put (map (file t) l) ≡ l
+    unfolding All
+    put-all t [] h = refl
+    put-all t (y ∷ l) h = ap₂ {C = List B} (λ (z : B) (zs : List B). z ∷ zs) (back t y (h .0)) (put-all t l (h .1))
+
+    pub entries-back : (t : ℕ) (ls : List (List B)) → All (All Q) ls → map (map put) (apart key t (length ls) (filedAll file t ls)) ≡ ls
+    unfolding filedAll apart All
+    entries-back t [] h = refl
+    entries-back t (l ∷ ls) h =
+        ap₂ {C = List (List B)} (λ (p : List B) (q : List (List B)). p ∷ q)
+        (ap (map put) (only-own t l (filedAll file (suc t) ls) ∙ ap (λ (ys : List A). map (file t) l ++ ys) (only-later (suc t) t ls (omega arith)) ∙ append-nil (map (file t) l)) ∙ put-all t l (h .0))
+        (ap (map (map put)) (apart-later (length ls) t (suc t) l (filedAll file (suc t) ls) (omega arith)) ∙ entries-back (suc t) ls (h .1))
+
+sorted-up : {A : Type 0} (key : A → ℕ) (t u : ℕ) (xs : List A) → All (λ x. u ≤ key x) xs → Sorted key t xs → Sorted key u xs
+unfolding Sorted All
+sorted-up key t u [] h s = tt
+sorted-up key t u (x ∷ xs) h s = (h .0, s .1)
+
 -- the file's order is sorted by tenant
 ordered-sorted : (t : ℕ) (a : List ℕ) (l : List FileLease) → leasesFrom t a l ≡ true → Sorted (λ x. x .tenant) t l
 unfolding orderedFrom Sorted isAfter pick
@@ -107,88 +178,27 @@ ordered-sorted t a (x ∷ l) e = go (ltb t (x .tenant)) refl (ltb (x .tenant) t)
     go false p false q true ih e = let w : _≡_ {A = ℕ} 0 1 = cc in absurd (omega arith)
     go false p false q false ih e = (ltb-false (x .tenant) t q, ih e)
 
--- the file's leases apart, by tenant, for n tenants from t on
-unfoldable bookFrom : ℕ → ℕ → List FileLease → List (List Lease)
-bookFrom t n xs = map (map stored) (apart (λ x. x .tenant) t n xs)
+-- ---- the leases
+tenants-apart : (t n : ℕ) (xs : List FileLease) → tenantsFrom t n xs ≡ map (map stored) (apart (λ x. x .tenant) t n xs)
+unfolding tenantsFrom apart
+tenants-apart t zero xs = refl
+tenants-apart t (suc n) xs = ap {B = List (List Lease)} (λ (l : List (List Lease)). map stored (ofTenant t xs) ∷ l) (tenants-apart (suc t) n xs)
 
-tenants-book : (t n : ℕ) (xs : List FileLease) → tenantsFrom t n xs ≡ bookFrom t n xs
-unfolding tenantsFrom bookFrom apart
-tenants-book t zero xs = refl
-tenants-book t (suc n) xs = ap {B = List (List Lease)} (λ (l : List (List Lease)). map stored (ofTenant t xs) ∷ l) (tenants-book (suc t) n xs)
-
--- ---- read and written again
-
-filed-only : (t : ℕ) (xs : List FileLease) → All StorableAt xs → map (filedLease t) (map stored (ofTenant t xs)) ≡ ofTenant t xs
-unfolding All filterBy pick
-filed-only t [] h = refl
-filed-only t (x ∷ xs) h = go (eqb (x .tenant) t) refl (filed-only t xs (h .1))
-  where
-    go : (b : Bool) → eqb (x .tenant) t ≡ b → map (filedLease t) (map stored (ofTenant t xs)) ≡ ofTenant t xs
-        → map (filedLease t) (map stored (pick b (x ∷ ofTenant t xs) (ofTenant t xs))) ≡ pick b (x ∷ ofTenant t xs) (ofTenant t xs)
-    go true e ih =
-        ap₂ {C = List FileLease} (λ (y : FileLease) (ys : List FileLease). y ∷ ys) (ap (λ (u : ℕ). filedLease u (stored x)) (sym (eqb-true (x .tenant) t e)) ∙ filed-stored x (h .0)) ih
-    go false e ih = ih
-
-filed-apart : (n t : ℕ) (xs : List FileLease) → All StorableAt xs → filedFrom t (map (map stored) (apart (λ x. x .tenant) t n xs)) ≡ chained (apart (λ x. x .tenant) t n xs)
-unfolding filedFrom apart chained
-filed-apart zero t xs h = refl
-filed-apart (suc n) t xs h = ap₂ {C = List FileLease} (λ (p q : List FileLease). p ++ q) (filed-only t xs h) (filed-apart n (suc t) xs h)
-
-sorted-up : (t u : ℕ) (xs : List FileLease) → All (λ x. u ≤ x .tenant) xs → Sorted (λ x. x .tenant) t xs → Sorted (λ x. x .tenant) u xs
-unfolding Sorted All
-sorted-up t u [] h s = tt
-sorted-up t u (x ∷ xs) h s = (h .0, s .1)
+filed-all : (t : ℕ) (ls : List (List Lease)) → filedFrom t ls ≡ filedAll filedLease t ls
+unfolding filedFrom filedAll
+filed-all t [] = refl
+filed-all t (l ∷ ls) = ap (λ (r : List FileLease). map (filedLease t) l ++ r) (filed-all (suc t) ls)
 
 -- leases in the file's order, of tenants 1 to n, each of which a record can hold: the book made of them gives them back
 pub leases-again : (n : ℕ) (xs : List FileLease) → leasesFrom 0 [] xs ≡ true → All (λ x. 1 ≤ x .tenant) xs → All (λ x. x .tenant < 1 + n) xs → All StorableAt xs
     → filedFrom 1 (tenantsFrom 1 n xs) ≡ xs
-unfolding bookFrom
-leases-again n xs o low high h = ap (filedFrom 1) (tenants-book 1 n xs) ∙ filed-apart n 1 xs h ∙ chained-apart (λ x. x .tenant) n 1 xs (sorted-up 0 1 xs low (ordered-sorted 0 [] xs o)) high
-
--- ---- written and read again
-
-only-own : (t : ℕ) (l : List Lease) (xs : List FileLease) → ofTenant t (map (filedLease t) l ++ xs) ≡ map (filedLease t) l ++ ofTenant t xs
-unfolding filterBy pick filedLease
-only-own t [] xs = refl
-only-own t (x ∷ l) xs =
-    ap (λ (b : Bool). pick b (filedLease t x ∷ ofTenant t (map (filedLease t) l ++ xs)) (ofTenant t (map (filedLease t) l ++ xs))) (eq-eqb t t refl)
-    ∙ ap {B = List FileLease} (λ (ys : List FileLease). filedLease t x ∷ ys) (only-own t l xs)
-
-only-other : (t u : ℕ) (l : List Lease) (xs : List FileLease) → (t ≡ u → ⊥) → ofTenant u (map (filedLease t) l ++ xs) ≡ ofTenant u xs
-unfolding filterBy pick filedLease
-only-other t u [] xs h = refl
-only-other t u (x ∷ l) xs h =
-    ap (λ (b : Bool). pick b (filedLease t x ∷ ofTenant u (map (filedLease t) l ++ xs)) (ofTenant u (map (filedLease t) l ++ xs))) (ne-eqb t u h)
-    ∙ only-other t u l xs h
-
-only-later : (t u : ℕ) (ls : List (List Lease)) → u < t → ofTenant u (filedFrom t ls) ≡ []
-unfolding filedFrom filterBy
-only-later t u [] h = refl
-only-later t u (l ∷ ls) h = only-other t u l (filedFrom (suc t) ls) (λ e. absurd (omega arith)) ∙ only-later (suc t) u ls (omega arith)
-
-apart-later : (n t u : ℕ) (l : List Lease) (xs : List FileLease) → t < u → apart (λ x. x .tenant) u n (map (filedLease t) l ++ xs) ≡ apart (λ x. x .tenant) u n xs
-unfolding apart
-apart-later zero t u l xs h = refl
-apart-later (suc n) t u l xs h =
-    ap₂ {C = List (List FileLease)} (λ (p : List FileLease) (q : List (List FileLease)). p ∷ q) (only-other t u l xs (λ e. absurd (omega arith))) (apart-later n t (suc u) l xs (omega arith))
-
-stored-all : (t : ℕ) (l : List Lease) → All Neat l → map stored (map (filedLease t) l) ≡ l
-unfolding All
-stored-all t [] h = refl
-stored-all t (x ∷ l) h = ap₂ {C = List Lease} (λ (y : Lease) (ys : List Lease). y ∷ ys) (stored-filed t x (h .0)) (stored-all t l (h .1))
-
-append-none : (l : List FileLease) → l ++ [] ≡ l
-append-none [] = refl
-append-none (x ∷ l) = ap {B = List FileLease} (λ (ys : List FileLease). x ∷ ys) (append-none l)
-
-book-again : (t : ℕ) (ls : List (List Lease)) → All (All Neat) ls → bookFrom t (length ls) (filedFrom t ls) ≡ ls
-unfolding bookFrom filedFrom apart All
-book-again t [] h = refl
-book-again t (l ∷ ls) h =
-    ap₂ {C = List (List Lease)} (λ (p : List Lease) (q : List (List Lease)). p ∷ q)
-    (ap (map stored) (only-own t l (filedFrom (suc t) ls) ∙ ap (λ (ys : List FileLease). map (filedLease t) l ++ ys) (only-later (suc t) t ls (omega arith)) ∙ append-none (map (filedLease t) l)) ∙ stored-all t l (h .0))
-    (ap (map (map stored)) (apart-later (length ls) t (suc t) l (filedFrom (suc t) ls) (omega arith)) ∙ book-again (suc t) ls (h .1))
+leases-again n xs o low high h =
+    ap (filedFrom 1) (tenants-apart 1 n xs) ∙ filed-all 1 _
+    ∙ entries-again (λ x. x .tenant) stored filedLease StorableAt filed-stored n xs (sorted-up (λ x. x .tenant) 0 1 xs low (ordered-sorted 0 [] xs o)) high h
 
 -- the tenants' leases, neat in their records: the file's leases made of them give them back
 pub leases-back : (ls : List (List Lease)) → All (All Neat) ls → tenantsFrom 1 (length ls) (filedFrom 1 ls) ≡ ls
-leases-back ls h = tenants-book 1 (length ls) (filedFrom 1 ls) ∙ book-again 1 ls h
+unfolding filedLease
+leases-back ls h =
+    tenants-apart 1 (length ls) (filedFrom 1 ls) ∙ ap (λ (xs : List FileLease). map (map stored) (apart (λ x. x .tenant) 1 (length ls) xs)) (filed-all 1 ls)
+    ∙ entries-back (λ x. x .tenant) stored filedLease Neat (λ t y. refl) stored-filed 1 ls h

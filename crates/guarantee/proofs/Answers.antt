@@ -3,7 +3,7 @@ use Rattle.guarantee.specs.Statement.{Answered, Demand1}
 use Rattle.guarantee.proofs.Discards.{Tested, call-tested}
 use Rattle.guarantee.proofs.Replies.{leases-stay, replied}
 use Rattle.guarantee.proofs.Walked.{read-back}
-use Rattle.state.specs.declared.Book.{Book}
+use Rattle.state.specs.Book.{Book}
 use Rattle.server.specs.Serve.{Call, serveOf}
 
 pub call-answered : (b : Book) (c : Call) → Answered b c (serveOf b c)

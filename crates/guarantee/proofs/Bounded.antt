@@ -12,14 +12,13 @@ use Rattle.lists.specs.Arranged.{insertIn}
 use Rattle.lists.specs.Filter.{filterBy}
 use Rattle.message.specs.declared.Fields.{Fields}
 use Rattle.message.specs.laws.Placed.{pick-cases}
-use Rattle.state.specs.declared.Book.{Book}
 use Rattle.state.specs.declared.Lease.{Lease}
 use Rattle.state.specs.declared.LeaseTable.{LeaseTable}
 use Rattle.state.specs.declared.State.{State}
 use Rattle.state.specs.declared.TenantLeases.{TenantLeases}
 use Rattle.state.specs.declared.Scope.{Scope}
 use Rattle.state.specs.declared.Edit.{Edit}
-use Rattle.state.specs.Book.{idOf, inUse, insertOf, insertedIn, laidOut, ordered, removeOf, tenantAt, zeroLease}
+use Rattle.state.specs.Book.{Book, idOf, inUse, insertOf, insertedIn, laidOut, ordered, removeOf, tenantAt, zeroLease}
 use Rattle.state.specs.Edit.{applied, editedIn, leftIn}
 use Rattle.allocation.specs.declared.Ask.{Ask}
 use Rattle.allocation.specs.declared.Grant.{Grant}

@@ -17,7 +17,7 @@ use Rattle.message.specs.laws.Placed.{pick-cases}
 use Rattle.message.specs.Read.{byStage, ended, headerOk, noneRequired, readOf}
 use Rattle.message.specs.Read as read
 use Rattle.message.specs.Walk.{walkOf}
-use Rattle.state.specs.declared.Book.{Book}
+use Rattle.state.specs.Book.{Book}
 use Rattle.state.specs.declared.Edit.{Edit}
 use Rattle.state.specs.declared.Lease.{Lease}
 use Rattle.state.specs.declared.LeaseTable.{LeaseTable}

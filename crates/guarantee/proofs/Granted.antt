@@ -15,11 +15,10 @@ use Rattle.message.specs.declared.Fields.{Fields}
 use Rattle.message.specs.Read.{readOf}
 use Rattle.reply.specs.Reply.{leastRoom, leaseAckOf}
 use Rattle.reply.specs.Ranges.{addressesIn}
-use Rattle.state.specs.declared.Book.{Book}
 use Rattle.state.specs.declared.Lease.{Lease}
 use Rattle.state.specs.declared.LeaseTable.{LeaseTable}
 use Rattle.state.specs.declared.State.{State}
-use Rattle.state.specs.Book.{idOf, inUse, insertOf, laidOut, leasesOf, removeOf, scopeAt}
+use Rattle.state.specs.Book.{Book, idOf, inUse, insertOf, laidOut, leasesOf, removeOf, scopeAt}
 use Rattle.state.specs.Edit.{entering}
 use Rattle.state.specs.laws.Edited.{applied-entering, applied-others}
 use Rattle.state.specs.laws.Layout.{read-back}

@@ -32,11 +32,10 @@ use Rattle.message.specs.declared.Times.{Times}
 use Rattle.message.specs.declared.Walk.{Walk}
 use Rattle.message.specs.declared.Wish.{Wish}
 use Rattle.reply.specs.Reply.{leaseAckOf, messageOctets, nakOf, offerOf, leastRoom}
-use Rattle.state.specs.declared.Book.{Book}
 use Rattle.state.specs.declared.Lease.{Lease}
 use Rattle.state.specs.declared.LeaseTable.{LeaseTable}
 use Rattle.state.specs.declared.State.{State}
-use Rattle.state.specs.Book.{placeOf, zeroLease}
+use Rattle.state.specs.Book.{Book, placeOf, zeroLease}
 use Rattle.soundness.specs.Sound.{soundB, tenantsIn}
 use Rattle.decision.specs.declared.Decided.{Decided}
 use Rattle.decision.specs.Decide.{decideOf, judgedOf, leasedOf, settledOf}

@@ -14,11 +14,10 @@ use Rattle.message.specs.laws.Placed.{pick-cases}
 use Rattle.message.specs.Read.{readOf}
 use Rattle.reply.specs.Reply.{leastRoom, Option, infoAckOf, infoOptions, leaseAckOf, leaseOptions, messageOctets, nakOf, nakOptions, offerOf, option, optionOctets, optionsOctets, releaseAckOf, releaseOptions}
 use Rattle.reply.proofs.Short.{info-ack-short, lease-ack-short, nak-short, offer-short, release-ack-short}
-use Rattle.state.specs.declared.Book.{Book}
 use Rattle.state.specs.declared.Lease.{Lease}
 use Rattle.state.specs.declared.LeaseTable.{LeaseTable}
 use Rattle.state.specs.declared.State.{State}
-use Rattle.state.specs.Book.{advanced, dropped, leasesOf, live, liveOf, raised, tableOf}
+use Rattle.state.specs.Book.{Book, advanced, dropped, leasesOf, live, liveOf, raised, tableOf}
 use Rattle.state.specs.laws.Layout.{table-back}
 use Rattle.soundness.specs.Sound.{soundB, tenantsIn}
 use Rattle.decision.specs.declared.Decided.{Decided}

@@ -9,8 +9,7 @@ use lib.Dec.{eqb}
 use borrow.Author.Tests.{leb-true, ltb-true}
 use Rattle.lists.specs.Pick.{pick}
 use Rattle.lists.specs.All.{All, allBy}
-use Rattle.state.specs.declared.Book.{Book}
-use Rattle.state.specs.Book.{tableOf, zeroScope, idOf, leasesOf}
+use Rattle.state.specs.Book.{Book, tableOf, zeroScope, idOf, leasesOf}
 use Rattle.server.specs.Serve.{Call, serveOf, Answer}
 use Rattle.guarantee.specs.Statement.{Demand3, Granted, NewRequest, SoundBook, run, Discovers, Narrow, Offered, OfferRule}
 use Rattle.state.specs.declared.Lease.{Lease}

@@ -16,11 +16,10 @@ use Rattle.message.specs.laws.Placed.{pick-cases}
 use Rattle.message.specs.Read.{readOf}
 use Rattle.reply.specs.Reply.{leastRoom, infoAckOf, leaseAckOf, nakOf, offerOf, releaseAckOf, infoOptions, leaseOptions, nakOptions, releaseOptions}
 use Rattle.reply.proofs.ReadBack.{Named, info-back, lease-back, nak-back, release-back}
-use Rattle.state.specs.declared.Book.{Book}
 use Rattle.state.specs.declared.Lease.{Lease}
 use Rattle.state.specs.declared.LeaseTable.{LeaseTable}
 use Rattle.state.specs.declared.State.{State}
-use Rattle.state.specs.Book.{advanced, leasesOf, liveOf, placeOf, scopeAt, zeroLease}
+use Rattle.state.specs.Book.{Book, advanced, leasesOf, liveOf, placeOf, scopeAt, zeroLease}
 use Rattle.soundness.specs.Sound.{scopesIn, soundB, tenantsIn}
 use Rattle.soundness.specs.laws.Book.{Sound, sound-lists}
 use Rattle.soundness.specs.laws.Facts.{lease-at-facts}

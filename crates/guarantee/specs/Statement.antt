@@ -18,12 +18,11 @@ use Rattle.message.specs.declared.Stage.the-variants.{Done}
 use Rattle.reply.specs.declared.Terms.{Terms}
 use Rattle.reply.specs.Reply.{leastRoom, leaseAckOf}
 use Rattle.reply.specs.Ranges.{addressesIn}
-use Rattle.state.specs.declared.Book.{Book}
 use Rattle.state.specs.declared.Lease.{Lease}
 use Rattle.state.specs.declared.LeaseTable.{LeaseTable}
 use Rattle.state.specs.declared.Scope.{Scope}
 use Rattle.state.specs.declared.State.{State}
-use Rattle.state.specs.Book.{advanced, idOf, insertOf, leasesOf, liveOf, named, removeOf, scopeAt, limitAt}
+use Rattle.state.specs.Book.{Book, advanced, idOf, insertOf, leasesOf, liveOf, named, removeOf, scopeAt, limitAt}
 use Rattle.soundness.specs.Sound.{holding, soundB, tenantsIn}
 use Rattle.allocation.specs.declared.Ask.{Ask}
 use Rattle.allocation.specs.declared.Grant.{Grant}

@@ -8,11 +8,10 @@ use lib.Dec.{ltb}
 use lib.ListN.{length, length-map}
 use Rattle.reply.specs.Reply.{leastRoom}
 use Rattle.message.specs.laws.Placed.{pick-cases}
-use Rattle.state.specs.declared.Book.{Book}
 use Rattle.state.specs.declared.Lease.{Lease}
 use Rattle.state.specs.declared.LeaseTable.{LeaseTable}
 use Rattle.state.specs.declared.State.{State}
-use Rattle.state.specs.Book.{advanced, dropped, inUse, leasesOf, liveOf, tableOf}
+use Rattle.state.specs.Book.{Book, advanced, dropped, inUse, leasesOf, liveOf, tableOf}
 use Rattle.state.specs.laws.Edited.{applied-laid}
 use Rattle.state.specs.laws.Layout.{table-back as lists-back}
 use Rattle.soundness.specs.Sound.{soundB}

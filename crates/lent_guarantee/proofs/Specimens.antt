@@ -6,9 +6,8 @@ use mathlib.Core.List.{List, [], _∷_}
 use lib.ListN.{replicate}
 use Rattle.lists.specs.Pick.{pick}
 use Rattle.lists.specs.All.{allBy}
-use Rattle.state.specs.Book.{zeroLease}
+use Rattle.state.specs.Book.{Book, zeroLease}
 use Rattle.soundness.specs.Sound.{soundB}
-use Rattle.state.specs.declared.Book.{Book}
 use Rattle.server.specs.Serve.{Call, serveOf}
 use Rattle.guarantee.specs.Statement.{Granted, Narrow, NewRequest, Offered, OfferedAs, requested, run}
 use Rattle.guarantee.proofs.Opened.{computed}

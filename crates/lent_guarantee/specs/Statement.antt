@@ -6,7 +6,7 @@ use mathlib.Core.Bool.{true}
 use mathlib.Core.List.{List, [], _∷_, _++_}
 use lib.ListN.{drop, length, take}
 use Rattle.state_file.specs.File.{longestFile}
-use Rattle.state.specs.declared.Book.{Book}
+use Rattle.state.specs.Book.{Book}
 use Rattle.state.specs.declared.Lease.{Lease}
 use Rattle.state.specs.declared.State.{State}
 use Rattle.soundness.specs.Sound.{soundB}

@@ -16,7 +16,6 @@ use Rattle.reply.specs.Put.{Replied}
 use Rattle.reply.specs.declared.Terms.{Terms}
 use Rattle.reply.specs.declared.Info.{Info}
 use Rattle.reply.specs.declared.ScopeEntry.{ScopeEntry}
-use Rattle.state.specs.declared.Book.{Book}
 use Rattle.state.specs.declared.Edit.{Edit}
 use Rattle.state.specs.declared.Scope.{Scope}
 use Rattle.state.specs.declared.State.{State}

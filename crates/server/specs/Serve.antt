@@ -17,7 +17,6 @@ use Rattle.reply.specs.declared.Terms.{Terms}
 use Rattle.reply.specs.declared.Info.{Info}
 use Rattle.reply.specs.declared.ScopeEntry.{ScopeEntry}
 use Rattle.reply.specs.Reply.{leastRoom, offerOf, leaseAckOf, releaseAckOf, infoAckOf, nakOf}
-use Rattle.state.specs.declared.Book.{Book}
 use Rattle.state.specs.declared.ClientRange.{ClientRange}
 use Rattle.state.specs.declared.LeaseTable.{LeaseTable}
 use Rattle.state.specs.declared.Scope.{Scope}

@@ -1,4 +1,4 @@
--- Definitions: lease records and the lists of leases that they stand for. Document 01's book is a `State`, its settings and clock, with a `LeaseTable`.
+-- Definitions: lease records and the lists of leases that they stand for; document 01's book, a `State`, its settings and clock, with a `LeaseTable`.
 use Prim.Native.Nat.{ℕ, _+_, _-_, max}
 use mathlib.Core.Bool.{Bool, not, _&&_}
 use mathlib.Core.List.{List, [], _∷_, _++_, map}
@@ -18,7 +18,6 @@ use Rattle.state.specs.declared.LeaseTable.{LeaseTable}
 use Rattle.state.specs.declared.ClientRange.{ClientRange}
 use Rattle.state.specs.declared.Scope.{Scope}
 use Rattle.state.specs.declared.State.{State}
-use Rattle.state.specs.declared.Book.{Book}
 
 -- ---- records and lists
 -- the unused record
@@ -46,6 +45,15 @@ putAt b h t = record { tenants = set (b .tenants) h t }
 
 unfoldable pub tableOf : List (List Lease) → LeaseTable
 tableOf ls = record { tenants = map laidOut ls }
+
+-- ---- the book: a value of definitions alone, whose parts code has one by one
+pub record Book : Type 0 where
+  pub state : State
+  pub table : LeaseTable
+
+-- a book that a call changes: its settings stay, all but the clock, and so does what a call never changes. A further part of the book touches this line
+abbrev pub changedTo : Book → State → LeaseTable → Book
+changedTo b s t = record { state = s; table = t }
 
 -- ---- identifiers, and the order of a tenant's records
 abbrev pub idOf : Lease → List ℕ
@@ -115,7 +123,7 @@ dropped clock t = tableOf (map (liveOf clock) (leasesOf t))
 
 -- what every call but discards 1 and 2 does first: the clock is raised, and the ended leases are dropped
 unfoldable pub advanced : Book → ℕ → Book
-advanced b time = record { state = raised (b .state) time; table = dropped (max (b .state .clock) time) (b .table) }
+advanced b time = changedTo b (raised (b .state) time) (dropped (max (b .state .clock) time) (b .table))
 
 -- ---- address sets
 unfoldable pub unionAll : List ℕ → ℕ

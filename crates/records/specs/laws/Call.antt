@@ -10,13 +10,12 @@ use Rattle.lists.specs.Pick.{pick}
 use Rattle.lists.specs.All.{All, allBy}
 use Rattle.message.specs.Read.{readOf}
 use Rattle.reply.specs.Reply.{leastRoom}
-use Rattle.state.specs.declared.Book.{Book}
 use Rattle.state.specs.declared.Edit.{Edit}
 use Rattle.state.specs.declared.Lease.{Lease}
 use Rattle.state.specs.declared.LeaseTable.{LeaseTable}
 use Rattle.state.specs.declared.State.{State}
 use Rattle.state.specs.declared.TenantLeases.{TenantLeases}
-use Rattle.state.specs.Book.{advanced, dropped, idOf, inUse, insertedIn, laidOut, leasesOf, liveOf, putAt, raised, removeOf, tableOf, tenantAt}
+use Rattle.state.specs.Book.{Book, advanced, dropped, idOf, inUse, insertedIn, laidOut, leasesOf, liveOf, putAt, raised, removeOf, tableOf, tenantAt}
 use Rattle.state.specs.Edit.{applied, editedIn, leftIn}
 use Rattle.state.specs.laws.Layout.{advanced-is, table-back}
 use Rattle.soundness.specs.declared.HeldTable.{HeldTable}

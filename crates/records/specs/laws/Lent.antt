@@ -11,10 +11,9 @@ use native.Mathlib.Nat.{zero-add}
 use borrow.Author.Tests.{eqb-true}
 use Rattle.reply.specs.Reply.{leastRoom}
 use Rattle.lists.specs.Pick.{pick}
-use Rattle.state.specs.declared.Book.{Book}
 use Rattle.state.specs.declared.Lease.{Lease}
 use Rattle.state.specs.declared.State.{State}
-use Rattle.state.specs.Book.{advanced, insertOf, placeOf, raised, removeOf, withClock, zeroLease}
+use Rattle.state.specs.Book.{Book, advanced, insertOf, placeOf, raised, removeOf, withClock, zeroLease}
 use Rattle.decision.specs.Parts.{ownOf}
 use Rattle.message.specs.laws.Placed.{pick-cases}
 use Rattle.soundness.specs.Sound.{soundB}

@@ -9,8 +9,7 @@ use borrow.Author.Tests.{lt-ltb, le-ltb}
 use Rattle.lists.specs.Pick.{pick}
 use Rattle.message.specs.Read.{readOf}
 use Rattle.reply.specs.Reply.{leastRoom}
-use Rattle.state.specs.declared.Book.{Book}
-use Rattle.state.specs.Book.{advanced}
+use Rattle.state.specs.Book.{Book, advanced}
 use Rattle.soundness.specs.Sound.{soundB, tenantsIn}
 use Rattle.server.specs.Serve.{Answer, Call, atClock, discarded, serveOf, tenantOf, withReading}
 

@@ -21,8 +21,7 @@ use Rattle.address_set.specs.AddressSet.{bit, keep, offsetsFrom, offsets}
 use Rattle.address_set.specs.laws.Bits.{bit-or, bit-and, bit-eq, bit-of-zero}
 use Rattle.state.specs.declared.Lease.{Lease}
 use Rattle.state.specs.declared.State.{State}
-use Rattle.state.specs.declared.Book.{Book}
-use Rattle.state.specs.Book.{leasesOf, ordered, other, removeOf, live, liveOf, withClock, raised, dropped, advanced, heldOf, heldCount, inScope, scopeAt, heldAt, committed}
+use Rattle.state.specs.Book.{Book, leasesOf, ordered, other, removeOf, live, liveOf, withClock, raised, dropped, advanced, heldOf, heldCount, inScope, scopeAt, heldAt, committed}
 use Rattle.state.specs.laws.Sets.{addresses-append, addresses-reordered}
 use Rattle.soundness.specs.Sound.{tenantsIn, idB, offsetsB, scopeKnown, kindB, periodB, leaseB, paddedB, disjoint, apartIn, apart, countsB, rule3, rule4, rule5, rule6, settingsB, soundB}
 use Rattle.soundness.specs.laws.Book.{settingsOk, leaseOk, pairOk, fewLeases, noLeasesB, Sound, sound-lists, lists-sound}

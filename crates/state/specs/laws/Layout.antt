@@ -14,7 +14,6 @@ use Rattle.state.specs.declared.TenantLeases.{TenantLeases}
 use Rattle.state.specs.declared.LeaseTable.{LeaseTable}
 use Rattle.state.specs.declared.Scope.{Scope}
 use Rattle.state.specs.declared.State.{State}
-use Rattle.state.specs.declared.Book.{Book}
 use mathlib.Core.Path.{_≡_, refl, sym, ap, ap₂, _∙_}
 use native.Mathlib.Omega.{arith}
 use lib.Seq.{set-at, take-at, getD-take}
@@ -23,7 +22,7 @@ use Rattle.lists.specs.laws.Pick.{pick-lt, pick-not-lt}
 use Rattle.lists.specs.Fold.{fold}
 use Rattle.lists.specs.laws.Filter.{filter-length}
 use Rattle.lists.specs.laws.Each.{map-set}
-use Rattle.state.specs.Book.{zeroLease, inUse, laidOut, pushed, keptIf, idOf, byIdentifier, ordered, before, notBefore, named, other, insertOf, insertedIn, removeOf, placeOf, liveOf, leaseAt, tableOf, leasesOf, putAt, raised, dropped, advanced, withClock}
+use Rattle.state.specs.Book.{zeroLease, inUse, laidOut, pushed, keptIf, idOf, byIdentifier, ordered, before, notBefore, named, other, insertOf, insertedIn, removeOf, placeOf, liveOf, leaseAt, tableOf, leasesOf, putAt, raised, dropped, withClock}
 
 -- ---- one turn of the loops below
 -- what an element is past the end of an array
@@ -217,8 +216,3 @@ raised-up s time h = ap (withClock s) (let e : time ≡ max (s .clock) time = om
 pub raised-not : (s : State) (time : ℕ) → time ≤ s .clock → s ≡ raised s time
 unfolding raised
 raised-not s time h = ap (withClock s) (let e : s .clock ≡ max (s .clock) time = omega arith in e)
-
-pub advanced-is : (b : Book) (time : ℕ) (s : State) (t : LeaseTable) → s ≡ raised (b .state) time → t ≡ dropped (s .clock) (b .table)
-    → _≡_ {A = Book} (record { state = s; table = t }) (advanced b time)
-unfolding advanced raised
-advanced-is b time s t p q = ap₂ {C = Book} (λ (x : State) (y : LeaseTable). record { state = x; table = y }) p (q ∙ ap (λ (x : State). dropped (x .clock) (b .table)) p)

@@ -1,6 +1,6 @@
 // A call from test 3 on: the tenant of the client's address; and the datagram served on that tenant's records, with a lent reply buffer.
 ghost use mathlib.Core.Path.{_≡_};
-ghost use Prim.Native.Nat.{_≤_, _<_};
+ghost use Prim.Native.Nat.{_≤_};
 ghost use lib.ListN.{length};
 ghost use Rattle.message.specs.Read.{readOf};
 ghost use Rattle.reply.specs.Put.{Replied};

@@ -216,9 +216,6 @@ pub gathered-apart : (s : State) (t : TenantLeases) (p : Pass) → Passed s t p 
 unfolding gatheredOf
 gathered-apart s t p v = ap (λ (x : Gathered). x .apart) (v .gathers)
 
-pub swift-rises : (s : State) (t : TenantLeases) (p : Pass) → Passed s t p → p .swift ≡ true → true ≡ pairsBy ordered (inUse t)
-swift-rises s t p v e = v .rises e
-
 pub tenant-checked : (s : State) (t : TenantLeases) (o : Pass) {rising p r v u w : Bool} → Passed s t o → rising ≡ pairsBy ordered (inUse t)
     → p ≡ (leb (t .count) 16 && o .gathered .rules .ids) → r ≡ pairsBy differ (inUse t) → v ≡ pairsBy compatible (inUse t)
     → u ≡ (o .gathered .rules .padded && o .unused) → w ≡ (rising && u)

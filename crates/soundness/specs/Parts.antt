@@ -14,7 +14,6 @@ use Rattle.state.specs.declared.Scope.{Scope}
 use Rattle.state.specs.declared.State.{State}
 use Rattle.state.specs.Book.{differ, ordered, inUse, leasesOf, inScope, heldOf, addedIf, scopeAt, limitAt, committedSum}
 use Rattle.soundness.specs.declared.ScopeRules.{ScopeRules}
-use Rattle.soundness.specs.declared.LeaseRules.{LeaseRules}
 use Rattle.soundness.specs.declared.TenantRules.{TenantRules}
 use Rattle.soundness.specs.declared.TableRules.{TableRules}
 use Rattle.soundness.specs.declared.Rules.{Rules}
@@ -36,16 +35,6 @@ andScopes n a c = record { sizes = a .sizes && sizeB c; pools = a .pools && pool
 
 unfoldable pub scopesAll : ℕ → List Scope → ScopeRules
 scopesAll n l = record { sizes = allBy sizeB l; pools = allBy poolB l; ttls = allBy ttlB l; reserves = allBy (reservesB n) l; tails = allBy (tailB n) l }
-
--- ---- leases
-unfoldable pub leaseRulesOf : State → Lease → LeaseRules
-leaseRulesOf s l = record { ids = idB l; offsets = offsetsB s l; leases = leaseB s l; padded = paddedB l }
-
-unfoldable pub andLeases : State → LeaseRules → Lease → LeaseRules
-andLeases s a l = record { ids = a .ids && idB l; offsets = a .offsets && offsetsB s l; leases = a .leases && leaseB s l; padded = a .padded && paddedB l }
-
-unfoldable pub leasesAll : State → List Lease → LeaseRules
-leasesAll s l = record { ids = allBy idB l; offsets = allBy (offsetsB s) l; leases = allBy (leaseB s) l; padded = allBy paddedB l }
 
 -- ---- tenants
 unfoldable pub tenantRulesOf : State → TenantLeases → TenantRules
@@ -120,16 +109,30 @@ freshAll h (l ∷ ls) = freshIn h l && freshAll (addedSets h l) ls
 
 -- one turn: with one more lease
 unfoldable pub addedLease : State → Gathered → Lease → Gathered
-addedLease s g l = record { rules = andLeases s (g .rules) l; held = addedSets (g .held) l; apart = g .apart && freshIn (g .held) l }
+addedLease s g l = record {
+  ids = g .ids && idB l;
+  offsets = g .offsets && offsetsB s l;
+  leases = g .leases && leaseB s l;
+  padded = g .padded && paddedB l;
+  held = addedSets (g .held) l;
+  apart = g .apart && freshIn (g .held) l;
+}
 
 abbrev pub emptySets : ℕ → Held
 emptySets n = record { sets = 0 ∷ 0 ∷ 0 ∷ 0 ∷ []; count = n; «first_end» = 4294967295 }
 
 unfoldable pub noneGathered : ℕ → Gathered
-noneGathered n = record { rules = record { ids = true; offsets = true; leases = true; padded = true }; held = emptySets n; apart = true }
+noneGathered n = record { ids = true; offsets = true; leases = true; padded = true; held = emptySets n; apart = true }
 
 unfoldable pub gatheredOf : State → TenantLeases → Gathered
-gatheredOf s t = record { rules = leasesAll s (inUse t); held = heldSets t; apart = freshAll (emptySets (t .count)) (inUse t) }
+gatheredOf s t = record {
+  ids = allBy idB (inUse t);
+  offsets = allBy (offsetsB s) (inUse t);
+  leases = allBy (leaseB s) (inUse t);
+  padded = allBy paddedB (inUse t);
+  held = heldSets t;
+  apart = freshAll (emptySets (t .count)) (inUse t);
+}
 
 -- what one pass over a tenant's records gives: where `swift`, the first eight octets of its identifiers rise
 pub record Passed (s : State) (t : TenantLeases) (p : Pass) : Type 0 where

@@ -5,10 +5,12 @@ ghost use Rattle.state.specs.Book.{ordered};
 ghost use Rattle.soundness.specs.Parts.{poolsOf, freshIn, addedLease, noneGathered, Passed};
 use crate::Gathered;
 use crate::Held;
-use crate::LeaseRules;
 use crate::Pass;
 use crate::holdings::add_sets;
-use crate::leases::and_leases;
+use crate::leases::id_ok;
+use crate::leases::lease_ok;
+use crate::leases::offsets_ok;
+use crate::leases::padded_ok;
 use crate::numbers::both;
 use crate::numbers::is_one_to;
 use crate::numbers::set_at;
@@ -33,16 +35,20 @@ fn add_lease(s: State, pools: [u64; 4], g: Gathered, l: Lease) -> Gathered
     requires { ⌜ pools ≡ poolsOf s ⌝ }
     ensures { λ r. ⌜ r ≡ addedLease s g l ⌝ }
 {
-    let a = g.rules;
     let h = g.held;
+    let id = id_ok(l);
+    let offset = offsets_ok(s, pools, l);
+    let lease = lease_ok(s, l);
+    let pad = padded_ok(l);
     let free = is_fresh(h, l);
-    let apart = both(g.apart, free);
     let held = add_sets(h, l);
-    let rule = and_leases(s, pools, a, l);
     Gathered {
-        rules: rule,
+        ids: both(g.ids, id),
+        offsets: both(g.offsets, offset),
+        leases: both(g.leases, lease),
+        padded: both(g.padded, pad),
         held: held,
-        apart: apart,
+        apart: both(g.apart, free),
     }
 }
 
@@ -54,14 +60,11 @@ fn no_lease_yet(count: usize) -> Gathered
         count: count,
         first_end: 4294967295,
     };
-    let all = LeaseRules {
+    Gathered {
         ids: true,
         offsets: true,
         leases: true,
         padded: true,
-    };
-    Gathered {
-        rules: all,
         held: none,
         apart: true,
     }

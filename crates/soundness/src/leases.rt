@@ -1,9 +1,7 @@
 // The rules on one lease: 1, 2, 7 and the octets past its identifier.
 ghost use mathlib.Core.Path.{_≡_};
 ghost use Rattle.soundness.specs.Sound.{idB, belowB, scopeOf, offsetsB, kindB, periodB, leaseB, paddedB};
-ghost use Rattle.soundness.specs.Parts.{poolsOf, leaseRulesOf, andLeases};
-use crate::LeaseRules;
-use crate::numbers::both;
+ghost use Rattle.soundness.specs.Parts.{poolsOf};
 use crate::numbers::is_one_to;
 use crate::numbers::set_at;
 use crate::numbers::zeros32;
@@ -11,7 +9,7 @@ use message::MessageType;
 use state::Lease;
 use state::State;
 
-fn id_ok(l: Lease) -> bool
+pub fn id_ok(l: Lease) -> bool
     ensures { λ r. ⌜ r ≡ idB l ⌝ }
 {
     if 2 <= l.id_len {
@@ -29,7 +27,7 @@ fn within(s: State, pools: [u64; 4], l: Lease) -> bool
     l.addresses <= pool
 }
 
-fn offsets_ok(s: State, pools: [u64; 4], l: Lease) -> bool
+pub fn offsets_ok(s: State, pools: [u64; 4], l: Lease) -> bool
     requires { ⌜ pools ≡ poolsOf s ⌝ }
     ensures { λ r. ⌜ r ≡ offsetsB s l ⌝ }
 {
@@ -59,7 +57,7 @@ fn period_ok(clock: u32, l: Lease) -> bool
     false
 }
 
-fn lease_ok(s: State, l: Lease) -> bool
+pub fn lease_ok(s: State, l: Lease) -> bool
     ensures { λ r. ⌜ r ≡ leaseB s l ⌝ }
 {
     if is_one_to(s.scope_count, l.scope) {
@@ -70,42 +68,9 @@ fn lease_ok(s: State, l: Lease) -> bool
     false
 }
 
-fn padded_ok(l: Lease) -> bool
+pub fn padded_ok(l: Lease) -> bool
     ensures { λ r. ⌜ r ≡ paddedB l ⌝ }
 {
     let id = l.id;
     zeros32(l.id_len as usize, id)
-}
-
-fn lease_rules(s: State, pools: [u64; 4], l: Lease) -> LeaseRules
-    requires { ⌜ pools ≡ poolsOf s ⌝ }
-    ensures { λ r. ⌜ r ≡ leaseRulesOf s l ⌝ }
-{
-    let id = id_ok(l);
-    let offset = offsets_ok(s, pools, l);
-    let lease = lease_ok(s, l);
-    let pad = padded_ok(l);
-    LeaseRules {
-        ids: id,
-        offsets: offset,
-        leases: lease,
-        padded: pad,
-    }
-}
-
-pub fn and_leases(s: State, pools: [u64; 4], a: LeaseRules, l: Lease) -> LeaseRules
-    requires { ⌜ pools ≡ poolsOf s ⌝ }
-    ensures { λ r. ⌜ r ≡ andLeases s a l ⌝ }
-{
-    let x = lease_rules(s, pools, l);
-    let id = both(a.ids, x.ids);
-    let offset = both(a.offsets, x.offsets);
-    let lease = both(a.leases, x.leases);
-    let pad = both(a.padded, x.padded);
-    LeaseRules {
-        ids: id,
-        offsets: offset,
-        leases: lease,
-        padded: pad,
-    }
 }

@@ -50,14 +50,6 @@ struct ScopeRules {
     tails: bool,
 }
 
-// The rules that go lease by lease.
-struct LeaseRules {
-    ids: bool,
-    offsets: bool,
-    leases: bool,
-    padded: bool,
-}
-
 // The rules that go tenant by tenant.
 pub struct TenantRules {
     pub records: bool,
@@ -107,7 +99,10 @@ pub struct Held {
 
 // What one loop over a tenant's leases gathers; `apart` where each is on addresses of its own.
 struct Gathered {
-    rules: LeaseRules,
+    ids: bool,
+    offsets: bool,
+    leases: bool,
+    padded: bool,
     held: Held,
     apart: bool,
 }

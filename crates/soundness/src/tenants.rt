@@ -136,17 +136,16 @@ pub fn check_tenant(s: State, pools: [u64; 4], t: TenantLeases) -> Checked
 {
     let p = pass(s, pools, t);
     let g = p.gathered;
-    let l = g.rules;
     let held = g.held;
     let rising = rises(t, p.swift);
-    let record = both(t.count <= 16, l.ids);
+    let record = both(t.count <= 16, g.ids);
     let identifier = ids_differ(t, rising);
     let period = periods_ok(t, g.apart);
-    let layout = both(rising, both(l.padded, p.unused));
+    let layout = both(rising, both(g.padded, p.unused));
     let rules = TenantRules {
         records: record,
-        offsets: l.offsets,
-        leases: l.leases,
+        offsets: g.offsets,
+        leases: g.leases,
         identifiers: identifier,
         periods: period,
         layout: layout,

@@ -14,7 +14,6 @@ use Rattle.state.specs.declared.ClientRange.{ClientRange}
 use Rattle.state.specs.declared.State.{State}
 use Rattle.state.specs.Book.{differ, inUse, inScope, heldOf, addedIf, scopeAt, limitAt, committedSum, byIdentifier, idOf, ordered, scopesOf, addressesOf, unionAll, reserveAt, committed}
 use Rattle.soundness.specs.declared.ScopeRules.{ScopeRules}
-use Rattle.soundness.specs.declared.LeaseRules.{LeaseRules}
 use Rattle.soundness.specs.declared.TenantRules.{TenantRules}
 use Rattle.soundness.specs.declared.TableRules.{TableRules}
 use Rattle.soundness.specs.declared.Rules.{Rules}
@@ -42,7 +41,7 @@ use Rattle.address_set.specs.laws.Bits.{length-offsets}
 use Rattle.address_set.specs.laws.Offsets.{upTo-ones, below-bits}
 use Rattle.lists.specs.laws.Next.{NextInv, next-start, next-is-pairs}
 use Rattle.lists.specs.laws.Sums.{sum-same}
-use Rattle.soundness.specs.Parts.{scopeRulesOf, andScopes, scopesAll, leaseRulesOf, andLeases, leasesAll, tenantRulesOf, bothTenants, addedSets, noneH, holdingRulesIn, tableRulesOf, joinedRules, tenantsAll, noHeld, heldSets, holdingsOf, setAt, apartSets, sizeIn, countIn, limitIn, limitsIn, committedIn, settingsRulesOf, firstEnd}
+use Rattle.soundness.specs.Parts.{scopeRulesOf, andScopes, scopesAll, tenantRulesOf, bothTenants, addedSets, noneH, holdingRulesIn, tableRulesOf, joinedRules, tenantsAll, noHeld, heldSets, holdingsOf, setAt, apartSets, sizeIn, countIn, limitIn, limitsIn, committedIn, settingsRulesOf, firstEnd}
 
 abbrev pub noRange : ClientRange
 noRange = record { low = 0; high = 0 }
@@ -215,36 +214,6 @@ pairs-imply t u (x ∷ l) f h =
 pub rise-differ : (l : List Lease) {r : Bool} → r ≡ pairsBy ordered l → r ≡ true → true ≡ pairsBy differ l
 rise-differ l e h = sym (pairs-imply ordered differ l apart-names (sym e ∙ h))
 
--- ---- leases
-four : {p p′ q q′ u u′ r r′ : Bool} → p ≡ p′ → q ≡ q′ → u ≡ u′ → r ≡ r′
-    → _≡_ {A = LeaseRules} (record { ids = p; offsets = q; leases = u; padded = r }) (record { ids = p′; offsets = q′; leases = u′; padded = r′ })
-four a b c d = cc
-
-leases-from : (s : State) (a : LeaseRules) (l : List Lease) → fold (andLeases s) a l
-    ≡ record { ids = a .ids && allBy idB l; offsets = a .offsets && allBy (offsetsB s) l; leases = a .leases && allBy (leaseB s) l; padded = a .padded && allBy paddedB l }
-unfolding andLeases allBy
-leases-from s a [] = sym (four (and-true-r (a .ids)) (and-true-r (a .offsets)) (and-true-r (a .leases)) (and-true-r (a .padded)))
-leases-from s a (x ∷ l) =
-    leases-from s (andLeases s a x) l
-    ∙ four (and-more (a .ids) (idB x) (allBy idB l)) (and-more (a .offsets) (offsetsB s x) (allBy (offsetsB s) l)) (and-more (a .leases) (leaseB s x) (allBy (leaseB s) l)) (and-more (a .padded) (paddedB x) (allBy paddedB l))
-
-pub leases-are : (s : State) (l : List Lease) → fold (andLeases s) (record { ids = true; offsets = true; leases = true; padded = true }) l ≡ leasesAll s l
-unfolding leasesAll
-leases-are s l = leases-from s _ l
-
-pub lease-is : (s : State) (l : Lease) {p q r t : Bool} → p ≡ idB l → q ≡ offsetsB s l → r ≡ leaseB s l → t ≡ paddedB l
-    → _≡_ {A = LeaseRules} (record { ids = p; offsets = q; leases = r; padded = t }) (leaseRulesOf s l)
-unfolding leaseRulesOf
-lease-is s l e f g h = four e f g h
-
-pub lease-and : (s : State) (a x : LeaseRules) (l : Lease) {p q u r : Bool} → x ≡ leaseRulesOf s l
-    → p ≡ (a .ids && x .ids) → q ≡ (a .offsets && x .offsets) → u ≡ (a .leases && x .leases) → r ≡ (a .padded && x .padded)
-    → _≡_ {A = LeaseRules} (record { ids = p; offsets = q; leases = u; padded = r }) (andLeases s a l)
-unfolding leaseRulesOf andLeases
-lease-and s a x l e f g h i =
-    four (f ∙ ap (λ (y : LeaseRules). a .ids && y .ids) e) (g ∙ ap (λ (y : LeaseRules). a .offsets && y .offsets) e) (h ∙ ap (λ (y : LeaseRules). a .leases && y .leases) e)
-    (i ∙ ap (λ (y : LeaseRules). a .padded && y .padded) e)
-
 -- ---- tenants
 six : {p p′ q q′ u u′ r r′ t t′ v v′ : Bool} → p ≡ p′ → q ≡ q′ → u ≡ u′ → r ≡ r′ → t ≡ t′ → v ≡ v′
     → _≡_ {A = TenantRules} (record { records = p; offsets = q; leases = u; identifiers = r; periods = t; layout = v }) (record { records = p′; offsets = q′; leases = u′; identifiers = r′; periods = t′; layout = v′ })
@@ -287,14 +256,13 @@ tenants-are s b =
     ∙ six refl (sym (all-map (allBy (offsetsB s)) inUse (b .tenants))) (sym (all-map (allBy (leaseB s)) inUse (b .tenants))) (sym (all-map (pairsBy differ) inUse (b .tenants)))
     (sym (all-map (pairsBy compatible) inUse (b .tenants))) refl
 
-pub tenant-is : (s : State) (t : TenantLeases) (l : LeaseRules) {rising p r v w : Bool} → l ≡ leasesAll s (inUse t) → rising ≡ pairsBy ordered (inUse t)
-    → p ≡ (leb (t .count) 16 && l .ids) → r ≡ pairsBy differ (inUse t) → v ≡ pairsBy compatible (inUse t)
-    → w ≡ (rising && (l .padded && allBy unusedB (drop (t .count) (t .leases))))
-    → _≡_ {A = TenantRules} (record { records = p; offsets = l .offsets; leases = l .leases; identifiers = r; periods = v; layout = w }) (tenantRulesOf s t)
-unfolding tenantRulesOf leasesAll recordsB layoutB
-tenant-is s t l el er p r v w =
-    six (p ∙ ap (λ (x : LeaseRules). leb (t .count) 16 && x .ids) el) (ap (λ (x : LeaseRules). x .offsets) el) (ap (λ (x : LeaseRules). x .leases) el) r v
-    (w ∙ ap₂ (λ (b : Bool) (x : LeaseRules). b && (x .padded && allBy unusedB (drop (t .count) (t .leases)))) er el)
+pub tenant-is : (s : State) (t : TenantLeases) {rising ids padded p q u r v w : Bool} → ids ≡ allBy idB (inUse t) → padded ≡ allBy paddedB (inUse t) → rising ≡ pairsBy ordered (inUse t)
+    → p ≡ (leb (t .count) 16 && ids) → q ≡ allBy (offsetsB s) (inUse t) → u ≡ allBy (leaseB s) (inUse t) → r ≡ pairsBy differ (inUse t) → v ≡ pairsBy compatible (inUse t)
+    → w ≡ (rising && (padded && allBy unusedB (drop (t .count) (t .leases))))
+    → _≡_ {A = TenantRules} (record { records = p; offsets = q; leases = u; identifiers = r; periods = v; layout = w }) (tenantRulesOf s t)
+unfolding tenantRulesOf recordsB layoutB
+tenant-is s t ei ep er p q u r v w =
+    six (p ∙ ap (λ (x : Bool). leb (t .count) 16 && x) ei) q u r v (w ∙ ap₂ (λ (x y : Bool). x && (y && allBy unusedB (drop (t .count) (t .leases)))) er ep)
 
 pub tenant-both : (a x : TenantRules) {p q u r v w : Bool}
     → p ≡ (a .records && x .records) → q ≡ (a .offsets && x .offsets) → u ≡ (a .leases && x .leases) → r ≡ (a .identifiers && x .identifiers) → v ≡ (a .periods && x .periods)

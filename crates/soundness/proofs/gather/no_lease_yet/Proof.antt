@@ -8,4 +8,4 @@ pub no-lease-yet-spec : {M : Type 1} → statement M
 no-lease-yet-spec =
     tie.close
     (tie.spec
-    (λ c. search (none-gathered, needs)))  -- src/gather.rt:49:1 returns
+    (λ c. search (none-gathered, needs)))  -- src/gather.rt:55:1 returns

@@ -1,4 +1,4 @@
--- `check_tenant` meets its contract: by gathered-apart, swift-rises, tenant-checked.
+-- `check_tenant` meets its contract: by gathered-apart, tenant-checked.
 use Rattle.soundness.specs.laws.Gathered.{gathered-apart, tenant-checked}
 use borrow.Author.Needs.{needs}
 use Rattle.soundness.proofs.tenants.check_tenant.Statement.{statement}
@@ -9,10 +9,10 @@ check-tenant-spec =
     tie.close
     (tie.spec
     (λ c κs. search needs)  -- src/tenants.rt:137:9 pass-requires
-    (λ c κs. search needs)  -- src/tenants.rt:141:9 rises-requires
-    (λ c κs. search needs)  -- src/tenants.rt:142:9 both-requires
-    (λ c κs. search needs)  -- src/tenants.rt:143:9 ids-differ-requires
-    (λ c κs. search (gathered-apart, needs))  -- src/tenants.rt:144:9 periods-ok-requires
-    (λ c κs. search needs)  -- src/tenants.rt:145:31 both-requires-2
-    (λ c κs. search needs)  -- src/tenants.rt:145:9 both-requires-3
-    (λ c. search (tenant-checked, needs)))  -- src/tenants.rt:133:1 returns
+    (λ c κs. search needs)  -- src/tenants.rt:140:9 rises-requires
+    (λ c κs. search needs)  -- src/tenants.rt:141:9 both-requires
+    (λ c κs. search needs)  -- src/tenants.rt:142:9 ids-differ-requires
+    (λ c κs. search (gathered-apart, tenant-checked, needs))  -- src/tenants.rt:143:9 periods-ok-requires
+    (λ c κs. search needs)  -- src/tenants.rt:144:31 both-requires-2
+    (λ c κs. search needs)  -- src/tenants.rt:144:9 both-requires-3
+    (λ c. search (gathered-apart, tenant-checked, needs)))  -- src/tenants.rt:133:1 returns

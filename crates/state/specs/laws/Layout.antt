@@ -22,7 +22,7 @@ use Rattle.lists.specs.laws.Pick.{pick-lt, pick-not-lt}
 use Rattle.lists.specs.Fold.{fold}
 use Rattle.lists.specs.laws.Filter.{filter-length}
 use Rattle.lists.specs.laws.Each.{map-set}
-use Rattle.state.specs.Book.{zeroLease, inUse, laidOut, pushed, keptIf, idOf, byIdentifier, ordered, before, notBefore, named, other, insertOf, insertedIn, removeOf, placeOf, liveOf, leaseAt, tableOf, leasesOf, putAt, raised, dropped, withClock}
+use Rattle.state.specs.Book.{Book, advanced, changedTo, zeroLease, inUse, laidOut, pushed, keptIf, idOf, byIdentifier, ordered, before, notBefore, named, other, insertOf, insertedIn, removeOf, placeOf, liveOf, leaseAt, tableOf, leasesOf, putAt, raised, dropped, withClock}
 
 -- ---- one turn of the loops below
 -- what an element is past the end of an array
@@ -216,3 +216,7 @@ raised-up s time h = ap (withClock s) (let e : time ≡ max (s .clock) time = om
 pub raised-not : (s : State) (time : ℕ) → time ≤ s .clock → s ≡ raised s time
 unfolding raised
 raised-not s time h = ap (withClock s) (let e : s .clock ≡ max (s .clock) time = omega arith in e)
+
+pub advanced-is : (b : Book) (time : ℕ) (s : State) (t : LeaseTable) → s ≡ raised (b .state) time → t ≡ dropped (s .clock) (b .table) → changedTo b s t ≡ advanced b time
+unfolding advanced raised
+advanced-is b time s t p q = ap₂ (changedTo b) p (q ∙ ap (λ (x : State). dropped (x .clock) (b .table)) p)

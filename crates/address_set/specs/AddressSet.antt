@@ -1,15 +1,14 @@
 -- Definitions: a set of offsets below 64 is a number below 2 ^ 64: offset a is in it where its bit a is 1. Document 01's addresses of a scope are
 -- offsets from the scope's lowest address.
-use Prim.Native.Nat.{ℕ, zero, suc, _+_, _-_, _/_, _%_, _^_}
+use Prim.Native.Nat.{ℕ, zero, suc, _+_, _/_, _%_, _^_}
 use mathlib.Core.Bool.{Bool, true, false, not}
 use mathlib.Core.List.{List, [], _∷_, _++_}
 use lib.Bits.{bitOr}
 use lib.Dec.{eqb, ltb, leb}
-use lib.ListN.{length, take, replicate, set}
+use lib.ListN.{take}
 use Rattle.lists.specs.Pick.{pick}
 use Rattle.lists.specs.Filter.{filterBy, isIn}
 use Rattle.address_set.specs.declared.Range.{Range}
-use Rattle.address_set.specs.declared.Offsets.{Offsets}
 
 -- bit a of m, 0 or 1
 unfoldable pub bit : ℕ → ℕ → ℕ
@@ -59,14 +58,6 @@ readOffsets l = setOf (filterBy (λ a. ltb a 64) l)
 -- one offset more
 unfoldable pub withOffset : ℕ → ℕ → ℕ
 withOffset m a = pick (ltb a 64) (bitOr m (2 ^ a)) m
-
--- a list of offsets in an array that zeros fill up
-unfoldable pub listed : List ℕ → Offsets
-listed l = record { list = l ++ replicate (64 - length l) 0; count = length l }
-
--- one offset more at the end, where there is room
-unfoldable pub pushedOffset : Offsets → ℕ → Offsets
-pushedOffset o a = pick (ltb (o .count) 64) (record { list = set (o .list) (o .count) a; count = o .count + 1 }) o
 
 -- ---- document 01's "fewest ranges, rising": a range is its first offset and its count
 abbrev pub extend : Bool → ℕ → Range → List Range → List Range

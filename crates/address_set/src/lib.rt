@@ -1,21 +1,13 @@
 // A set of up to 64 addresses of a scope, as offsets from its lowest address: the bits of a u64.
 ghost use mathlib.Core.Path.{_≡_};
-ghost use mathlib.Core.List.{[]};
 ghost use Prim.Native.Nat.{min};
 ghost use lib.ListN.{length};
-ghost use Rattle.lists.specs.Filter.{isIn};
-ghost use Rattle.address_set.specs.AddressSet.{offsets, setOf, differenceOf, lowestOf, chosen, upTo, readOffsets, withOffset, listed, pushedOffset, fewestRanges, firstRange, behind};
+ghost use Rattle.address_set.specs.AddressSet.{offsets, setOf, differenceOf, lowestOf, chosen, upTo, readOffsets, withOffset, fewestRanges, firstRange, behind};
 
 // A range of offsets, all of one set: the first and how many.
 pub struct Range {
     pub first: u32,
     pub count: u32,
-}
-
-// The offsets of a set, rising, from the first entry on; zeros follow.
-pub struct Offsets {
-    pub list: [u8; 64],
-    pub count: usize,
 }
 
 // The offsets of a scope of a size: those below it.
@@ -26,16 +18,6 @@ pub fn first_n(n: u8) -> u64
         return (1u64 << (n as u64)) - 1;
     }
     18446744073709551615
-}
-
-// Whether an offset is in a set; none from 64 on is.
-pub fn member(set: u64, offset: u64) -> bool
-    ensures { λ r. ⌜ r ≡ isIn offset (offsets set) ⌝ }
-{
-    if offset < 64 {
-        return (set >> offset) % 2 == 1;
-    }
-    false
 }
 
 // The offsets of m that are not in n.
@@ -104,44 +86,6 @@ pub fn from_offsets(s: &[u8]) -> u64
         i += 1;
     }
     set
-}
-
-fn no_offsets() -> Offsets
-    ensures { λ r. ⌜ r ≡ listed [] ⌝ }
-{
-    Offsets {
-        list: [0u8; 64],
-        count: 0,
-    }
-}
-
-fn push(out: Offsets, at: u8) -> Offsets
-    ensures { λ r. ⌜ r ≡ pushedOffset out at ⌝ }
-{
-    let n = out.count;
-    if n < 64 {
-        let mut o = out;
-        o.list[n] = at;
-        o.count = n + 1;
-        return o;
-    }
-    out
-}
-
-// The offsets of a set, rising.
-pub fn to_offsets(set: u64) -> Offsets
-    ensures { λ r. ⌜ r ≡ listed (offsets set) ⌝ }
-{
-    let mut out = no_offsets();
-    let mut at: u8 = 0;
-    while at < 64 {
-        let x = at;
-        at += 1;
-        if member(set, x as u64) {
-            out = push(out, x);
-        }
-    }
-    out
 }
 
 // The first of the fewest ranges of a set; one of no offset where the set is empty.

@@ -1,15 +1,13 @@
 -- Laws: sets and lists of offsets: the one gives the other back, and the bit forms of what the functions promise by lists.
 use mathlib.Core.Path.{_≡_, refl, sym, ap, ap₂, _∙_, subst}
 use mathlib.Core.Bool.{Bool, true, false, not}
-use mathlib.Core.List.{List, [], _∷_, _++_, append-assoc, append-nil}
+use mathlib.Core.List.{List, [], _∷_}
 use Prim.Native.Nat.{ℕ, zero, suc, _+_, _-_, _*_, _%_, _^_, _≤_, _<_, min, max}
 use native.Mathlib.Omega.{arith}
 use native.Mathlib.Nat.{one-mul, pow-suc, lt-of-lt-of-le, div-eq-of-lt}
 use lib.Dec.{ltb, eqb}
 use lib.Bits.{bitAnd, bitOr, or-lt, or-zero-r, or-zero-l, or-shifted-r}
 use lib.Pow.{pow-pos, pow-lt, pow-mono, shl-exact}
-use lib.ListN.{length, replicate, set, length-append}
-use lib.Seq.{set-at}
 use borrow.Author.Tests.{ltb-true, ltb-false, lt-ltb, le-ltb, eq-eqb, eqb-true, eqb-false}
 use Rattle.lists.specs.Pick.{pick}
 use Rattle.lists.specs.Fold.{fold}
@@ -17,9 +15,8 @@ use Rattle.lists.specs.All.{All, allBy}
 use Rattle.lists.specs.laws.All.{all-head, all-cons, all-both}
 use Rattle.lists.specs.Filter.{filterBy, isIn}
 use Rattle.lists.specs.laws.Filter.{in-filter}
-use Rattle.address_set.specs.declared.Offsets.{Offsets}
-use Rattle.address_set.specs.AddressSet.{bit, keep, offsetsFrom, offsets, setOf, differenceOf, upTo, readOffsets, withOffset, listed, pushedOffset, risesFrom, rises}
-use Rattle.address_set.specs.laws.Bits.{without, bit-le, bit-or, bit-without, bit-of-zero, bit-ext, bit-eq, bit-pow-same, bit-pow-other, offsets-cong, offsets-of-zero, setOf-append, or-assoc, length-offsets, offsets-step, and-not}
+use Rattle.address_set.specs.AddressSet.{bit, keep, offsetsFrom, offsets, setOf, differenceOf, upTo, readOffsets, withOffset, risesFrom, rises}
+use Rattle.address_set.specs.laws.Bits.{without, bit-le, bit-or, bit-without, bit-of-zero, bit-ext, bit-eq, bit-pow-same, bit-pow-other, offsets-cong, offsets-of-zero, setOf-append, or-assoc, and-not}
 
 -- ---- rising offsets and their set
 
@@ -168,21 +165,10 @@ bit-setOf a (x ∷ l) = bit-or (2 ^ x) (setOf l) a ∙ go (eqb a x) refl (bit-se
 pub bit-in : (m a : ℕ) → m < 2 ^ 64 → bit m a ≡ pick (isIn a (offsets m)) 1 0
 bit-in m a h = ap (λ (x : ℕ). bit x a) (sym (setOf-offsets m h)) ∙ bit-setOf a (offsets m)
 
-pub in-bit : (m a : ℕ) → m < 2 ^ 64 → eqb (bit m a) 1 ≡ isIn a (offsets m)
-unfolding pick
-in-bit m a h = ap (λ (x : ℕ). eqb x 1) (bit-in m a h) ∙ go (isIn a (offsets m))
-  where
-    go : (b : Bool) → eqb (pick b 1 0) 1 ≡ b
-    go true = refl
-    go false = refl
-
 -- no bit from k on in a number of k bits
 pub bit-past : (k m a : ℕ) → m < 2 ^ k → k ≤ a → bit m a ≡ 0
 unfolding bit
 bit-past k m a h g = ap (λ (x : ℕ). x % 2) (div-eq-of-lt (lt-of-lt-of-le h (pow-mono g)))
-
-pub not-in : (m a : ℕ) → m < 2 ^ 64 → 64 ≤ a → false ≡ isIn a (offsets m)
-not-in m a h g = sym (ap (λ (x : ℕ). eqb x 1) (bit-past 64 m a h g)) ∙ in-bit m a h
 
 -- every offset of a set has its bit
 offsets-set : (m at k : ℕ) → allBy (λ a. eqb (bit m a) 1) (offsetsFrom m at k) ≡ true
@@ -277,65 +263,6 @@ read-from m (x ∷ l) = go (ltb x 64) (λ n. read-from n l)
 
 pub read-is : (l : List ℕ) → fold withOffset 0 l ≡ readOffsets l
 read-is l = read-from 0 l ∙ or-zero-l (readOffsets l)
-
--- ---- a set's offsets put into an array, one at a time
-pub push-listed : (p : List ℕ) (a : ℕ) → length p < 64 → pushedOffset (listed p) a ≡ listed (p ++ a ∷ [])
-unfolding pushedOffset listed pick
-push-listed p a h =
-    let e : 64 - length p ≡ suc (64 - length (p ++ a ∷ [])) = omega (arith, length-append p (a ∷ [])) in
-    ap (λ (t : Bool). pick t (record { list = set (p ++ replicate (64 - length p) 0) (length p) a; count = length p + 1 }) (listed p)) (lt-ltb _ _ h)
-    ∙ ap₂ {C = Offsets} (λ (x : List ℕ) (k : ℕ). record { list = x; count = k })
-    (ap (λ (k : ℕ). set (p ++ replicate k 0) (length p) a) e
-    ∙ set-at p 0 (replicate (64 - length (p ++ a ∷ [])) 0) a (length p) refl
-    ∙ sym (append-assoc p (a ∷ []) (replicate (64 - length (p ++ a ∷ [])) 0)))
-    (sym (length-append p (a ∷ [])))
-
-push-all : (l p : List ℕ) → length p + length l ≤ 64 → fold pushedOffset (listed p) l ≡ listed (p ++ l)
-push-all [] p h = ap listed (sym (append-nil p))
-push-all (a ∷ l) p h =
-    ap (λ (x : Offsets). fold pushedOffset x l) (push-listed p a (omega arith)) ∙ push-all l (p ++ a ∷ []) (omega (arith, length-append p (a ∷ [])))
-    ∙ ap listed (append-assoc p (a ∷ []) l)
-
--- what that loop keeps: to go on from `at` gives the answer
-pub record ListInv (m : ℕ) (out : Offsets) (at : ℕ) : Type 0 where
-  pub within : at ≤ 64
-  pub whole : fold pushedOffset out (offsetsFrom m at (64 - at)) ≡ listed (offsets m)
-
-pub list-start : (m : ℕ) (out : Offsets) → out ≡ listed [] → ListInv m out 0
-list-start m out e = record {
-  within = omega arith;
-  whole = ap (λ (x : Offsets). fold pushedOffset x (offsets m)) e ∙ push-all (offsets m) [] (let h = length-offsets m in omega arith);
-}
-
-module _ {m : ℕ} {out : Offsets} {at : ℕ} (v : ListInv m out at) where
-  pub list-skip : {q : Bool} → m < 2 ^ 64 → at < 64 → q ≡ isIn at (offsets m) → q ≡ false → ListInv m out (at + 1)
-  unfolding pick
-  list-skip hm h e n = record {
-    within = omega arith;
-    whole =
-        ap (fold pushedOffset out) (sym (offsets-step m at h ∙ ap (λ (b : ℕ). keep b at (offsetsFrom m (at + 1) (64 - (at + 1)))) none)) ∙ v .whole;
-  }
-    where
-      none : bit m at ≡ 0
-      none = bit-in m at hm ∙ ap (λ (b : Bool). pick b 1 0) (sym e ∙ n)
-
-  pub list-take : {q : Bool} {r : Offsets} → m < 2 ^ 64 → at < 64 → q ≡ isIn at (offsets m) → q ≡ true → r ≡ pushedOffset out at → ListInv m r (at + 1)
-  unfolding pick
-  list-take {r = r} hm h e y p = record {
-    within = omega arith;
-    whole =
-        ap (λ (x : Offsets). fold pushedOffset x (offsetsFrom m (at + 1) (64 - (at + 1)))) p
-        ∙ ap (fold pushedOffset out) (sym (offsets-step m at h ∙ ap (λ (b : ℕ). keep b at (offsetsFrom m (at + 1) (64 - (at + 1)))) some)) ∙ v .whole;
-  }
-    where
-      some : bit m at ≡ 1
-      some = bit-in m at hm ∙ ap (λ (b : Bool). pick b 1 0) (sym e ∙ y)
-
-  pub list-end : 64 ≤ at → out ≡ listed (offsets m)
-  unfolding offsetsFrom
-  list-end h = sym (ap (λ (k : ℕ). fold pushedOffset out (offsetsFrom m at k)) (let e : 64 - at ≡ 0 = omega arith in e)) ∙ v .whole
-
-pub ruleset lists = (list-start, list-skip, list-take, list-end)
 
 -- ---- as the code has them
 pub difference-by : (m n : ℕ) → m < 2 ^ 64 → n < 2 ^ 64 → bitAnd m ((2 ^ 64 - 1) - n) ≡ differenceOf m n

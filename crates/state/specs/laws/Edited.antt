@@ -25,10 +25,6 @@ pub edited-is : (e : Edit) (t rest r : TenantLeases) → rest ≡ leftIn e t →
 unfolding editedIn
 edited-is e t rest r p q = q ∙ ap (λ (x : TenantLeases). pick (e .enters) (insertedIn (e .new) x) x) p
 
-pub applied-is : (e : Edit) (h : ℕ) (b r : LeaseTable) (t now : TenantLeases) → t ≡ tenantAt b h → now ≡ editedIn e t → r ≡ putAt b h now → r ≡ applied e h b
-unfolding applied
-applied-is e h b r t now p q w = w ∙ ap (putAt b h) (q ∙ ap (editedIn e) p)
-
 -- ---- the table after each kind of edit
 set-own : {A : Type 0} (l : List A) (h : ℕ) (d : A) → set l h (getD l h d) ≡ l
 set-own [] h d = refl

@@ -19,7 +19,7 @@ use Rattle.reply.specs.declared.ScopeEntry.{ScopeEntry}
 use Rattle.state.specs.declared.Edit.{Edit}
 use Rattle.state.specs.declared.Scope.{Scope}
 use Rattle.state.specs.declared.State.{State}
-use Rattle.state.specs.Book.{scopeAt}
+use Rattle.state.specs.Book.{Book, scopeAt}
 use Rattle.state.specs.Edit.{applied, noEdit}
 use Rattle.state.specs.laws.Edited.{applied-none}
 use Rattle.decision.specs.declared.Decided.{Decided}

@@ -22,7 +22,7 @@ use Rattle.state.specs.declared.LeaseTable.{LeaseTable}
 use Rattle.state.specs.declared.Scope.{Scope}
 use Rattle.state.specs.declared.State.{State}
 use Rattle.state.specs.declared.TenantLeases.{TenantLeases}
-use Rattle.state.specs.Book.{advanced, rangesOf, scopeAt}
+use Rattle.state.specs.Book.{Book, advanced, rangesOf, scopeAt}
 use Rattle.state.specs.Edit.{applied}
 use Rattle.soundness.specs.declared.HeldTable.{HeldTable}
 use Rattle.soundness.specs.Sound.{soundB, tenantsIn}

@@ -159,11 +159,6 @@ getD-past [] i d h = refl
 getD-past (x ∷ l) zero d h = absurd (omega arith)
 getD-past (x ∷ l) (suc i) d h = getD-past l i d (omega arith)
 
-set-past : {A : Type 0} (l : List A) (i : ℕ) (x : A) → length l ≤ i → l ≡ set l i x
-set-past [] i x h = refl
-set-past (y ∷ l) zero x h = absurd (omega arith)
-set-past {A} (y ∷ l) (suc i) x h = ap {B = List A} (λ (r : List A). y ∷ r) (set-past l i x (omega arith))
-
 -- an element that the code reads, or does not
 pub at-in : {A : Type 0} (l : List A) (n i : ℕ) (d e : A) → length l ≡ n → i < n → getD l i d ≡ getD l i e
 at-in l n i d e g h = getD-any l i d e (omega arith)
@@ -178,9 +173,6 @@ lease-in t n at g e h =
 
 pub lease-out : (t : TenantLeases) (n at : ℕ) (r : Lease) → length (t .leases) ≡ 16 → r ≡ zeroLease → n ≡ min (t .count) 16 → n ≤ at → r ≡ leaseAt (inUse t) at
 lease-out t n at r g z e h = let k = length-take (t .count) (t .leases) in z ∙ getD-past (inUse t) at zeroLease (omega arith)
-
-pub put-past : (b : LeaseTable) (h : ℕ) (t : TenantLeases) → length (b .tenants) ≡ 8 → 8 ≤ h → b ≡ putAt b h t
-put-past b h t g e = ap {B = LeaseTable} (λ (x : List TenantLeases). record { tenants = x }) (set-past (b .tenants) h t (omega arith))
 
 -- ---- all tenants
 map-map : {A B C : Type 0} (f : B → C) (g : A → B) (h : A → C) (l : List A) → ((x : A) → h x ≡ f (g x)) → map h l ≡ map f (map g l)

@@ -34,18 +34,18 @@ leases-from-spec =
     Inv-loop
     μ-loop
     (λ c. search (leaseWalk, needs))  -- src/form.rt:92:5 loop-holds
-    (λ c κs. search (leaseWalk, needs))  -- src/form.rt:93:13 lease-end-requires
-    (λ c. search (leaseWalk, needs))  -- src/form.rt:94:23 enum-known-end
-    (λ c. search (leaseWalk, needs))  -- src/form.rt:95:13 enum-told
+    (λ c κs. search needs)  -- src/form.rt:93:13 lease-end-requires
+    (λ c. search needs)  -- src/form.rt:94:23 enum-known-end
+    (λ c. search needs)  -- src/form.rt:95:13 enum-told
     (λ c. search (leaseWalk, needs))  -- src/form.rt:95:13 returns
     (λ c κs. search (leaseWalk, needs))  -- src/form.rt:97:12 is-after-requires
     (λ c. search (leaseWalk, needs))  -- src/form.rt:98:13 returns-2
     shared-slice-read-tenant
     add-wide
     shared-slice-read-wide
-    (λ c κs. search (leaseWalk, needs))  -- src/form.rt:101:9 wide-requires
+    (λ c κs. search needs)  -- src/form.rt:101:9 wide-requires
     add-id-at
-    (λ c. search (leaseWalk, needs))  -- src/form.rt:104:9 add-i
-    (λ c. search (leaseWalk, needs))  -- src/form.rt:92:5 loop-less
+    (λ c. search needs)  -- src/form.rt:104:9 add-i
+    (λ c. search needs)  -- src/form.rt:92:5 loop-less
     (λ c. search (leaseWalk, needs))  -- src/form.rt:92:5 loop-again
     (λ c. search (leaseWalk, needs)))  -- src/form.rt:83:1 returns-3

@@ -28,12 +28,12 @@ all-few-spec =
     (tie.spec
     Inv-loop
     μ-loop
-    (λ c κs. search (fews, needs))  -- src/limits.rt:102:13 tally-requires
+    (λ c κs. search needs)  -- src/limits.rt:102:13 tally-requires
     (λ c. search (fews, needs))  -- src/limits.rt:104:5 loop-holds
-    (λ c. search (fews, needs))  -- src/limits.rt:105:17 mul-if1
-    (λ c. search (fews, needs))  -- src/limits.rt:105:17 array-read-if1
+    (λ c. search needs)  -- src/limits.rt:105:17 mul-if1
+    (λ c. search needs)  -- src/limits.rt:105:17 array-read-if1
     returns
-    (λ c. search (fews, needs))  -- src/limits.rt:108:9 add-i
-    (λ c. search (fews, needs))  -- src/limits.rt:104:5 loop-less
+    (λ c. search needs)  -- src/limits.rt:108:9 add-i
+    (λ c. search needs)  -- src/limits.rt:104:5 loop-less
     loop-again
     (λ c. search (fews, needs)))  -- src/limits.rt:98:1 returns-2

@@ -23,13 +23,13 @@ tally-spec =
     μ-loop
     (λ c. search (counts, needs))  -- src/limits.rt:121:5 loop-holds
     (λ c κs. search (counts, needs))  -- src/limits.rt:122:13 tenant-place-requires
-    (λ c. search (counts, needs))  -- src/limits.rt:123:17 mul-k
-    (λ c. search (counts, needs))  -- src/limits.rt:123:17 array-read-k
+    (λ c. search needs)  -- src/limits.rt:123:17 mul-k
+    (λ c. search needs)  -- src/limits.rt:123:17 array-read-k
     add-n
-    (λ c. search (counts, needs))  -- src/limits.rt:124:9 mul-n
-    (λ c. search (counts, needs))  -- src/limits.rt:124:9 array-write-n
+    (λ c. search needs)  -- src/limits.rt:124:9 mul-n
+    (λ c. search needs)  -- src/limits.rt:124:9 array-write-n
     (λ c κs. search (counts, needs))  -- src/limits.rt:125:9 lease-next-requires
-    (λ c. search (counts, needs))  -- src/limits.rt:126:9 add-i
-    (λ c. search (counts, needs))  -- src/limits.rt:121:5 loop-less
+    (λ c. search needs)  -- src/limits.rt:126:9 add-i
+    (λ c. search needs)  -- src/limits.rt:121:5 loop-less
     (λ c. search (counts, needs))  -- src/limits.rt:121:5 loop-again
     (λ c. search (counts, needs)))  -- src/limits.rt:114:1 returns

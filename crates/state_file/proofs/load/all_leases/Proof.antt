@@ -17,17 +17,17 @@ all-leases-spec =
     (tie.spec
     Inv-loop
     μ-loop
-    (λ c κs. search (fills, needs))  -- src/load.rt:178:9 no-leases-requires
+    (λ c κs. search needs)  -- src/load.rt:178:9 no-leases-requires
     (λ c. search (fills, needs))  -- src/load.rt:182:5 loop-holds
     (λ c κs. search (fills, needs))  -- src/load.rt:183:13 tenant-place-requires
-    (λ c. search (fills, needs))  -- src/load.rt:184:17 mul-h
-    (λ c. search (fills, needs))  -- src/load.rt:184:17 array-copy-out-h
+    (λ c. search needs)  -- src/load.rt:184:17 mul-h
+    (λ c. search needs)  -- src/load.rt:184:17 array-copy-out-h
     (λ c κs. search (fills, needs))  -- src/load.rt:185:32 lease-at-requires
-    (λ c κs. search (fills, needs))  -- src/load.rt:185:13 push-requires
-    (λ c. search (fills, needs))  -- src/load.rt:186:9 mul-out
-    (λ c. search (fills, needs))  -- src/load.rt:186:9 array-set-from-out
+    (λ c κs. search needs)  -- src/load.rt:185:13 push-requires
+    (λ c. search needs)  -- src/load.rt:186:9 mul-out
+    (λ c. search needs)  -- src/load.rt:186:9 array-set-from-out
     (λ c κs. search (fills, needs))  -- src/load.rt:187:9 lease-next-requires
-    (λ c. search (fills, needs))  -- src/load.rt:188:9 add-i
-    (λ c. search (fills, needs))  -- src/load.rt:182:5 loop-less
+    (λ c. search needs)  -- src/load.rt:188:9 add-i
+    (λ c. search needs)  -- src/load.rt:182:5 loop-less
     (λ c. search (fills, needs))  -- src/load.rt:182:5 loop-again
     (λ c. search (fills, needs)))  -- src/load.rt:174:1 returns

@@ -23,7 +23,7 @@ put-offsets-spec =
     (λ c κs. search (offsetLoop, needs))  -- src/put.rt:240:9 put-u8-requires
     (λ c. search (offsetLoop, needs))  -- src/put.rt:241:55 cast-difference
     (λ c. search (offsetLoop, needs))  -- src/put.rt:241:46 shl-difference
-    (λ c κs. search (offsetLoop, needs))  -- src/put.rt:241:9 difference-requires
+    (λ c κs. search needs)  -- src/put.rt:241:9 difference-requires
     (λ c. search (offsetLoop, needs))  -- src/put.rt:238:5 loop-less
     (λ c. search (offsetLoop, needs))  -- src/put.rt:238:5 loop-again
     (λ c. search (offsetLoop, needs))  -- src/put.rt:232:1 same-length

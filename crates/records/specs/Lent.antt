@@ -10,7 +10,7 @@ use Rattle.lists.specs.Pick.{pick}
 use Rattle.state.specs.declared.Lease.{Lease}
 use Rattle.state.specs.declared.LeaseTable.{LeaseTable}
 use Rattle.state.specs.declared.State.{State}
-use Rattle.state.specs.Book.{insertOf, laidOut, placeOf, putAt, removeOf}
+use Rattle.state.specs.Book.{Book, insertOf, laidOut, placeOf, putAt, removeOf}
 use Rattle.soundness.specs.declared.HeldTable.{HeldTable}
 use Rattle.soundness.specs.Sound.{soundB}
 use Rattle.soundness.specs.Parts.{holdingsOf}

@@ -13,7 +13,7 @@ use Rattle.state.specs.declared.Lease.{Lease}
 use Rattle.state.specs.declared.LeaseTable.{LeaseTable}
 use Rattle.state.specs.declared.Scope.{Scope}
 use Rattle.state.specs.declared.State.{State}
-use Rattle.state.specs.Book.{inUse, laidOut, leasesOf, tenantAt, putAt, placeOf, leaseAt, removeOf, scopesOf, scopeAt}
+use Rattle.state.specs.Book.{inUse, laidOut, leaseWith, leasesOf, tenantAt, putAt, placeOf, leaseAt, removeOf, scopesOf, scopeAt}
 use Rattle.soundness.specs.Sound.{tenantsIn, scopesIn}
 use Rattle.allocation.specs.declared.Ask.{Ask}
 use Rattle.allocation.specs.declared.Grant.{Grant}
@@ -195,16 +195,7 @@ error0Of s p = ltb (s .clock + horizon) (p .start) || (ltb 4294967295 (p .end) |
 
 -- with the message's type and transaction id; error 0 has kept the end within 32 bits
 unfoldable pub leaseFrom : Fields → Proposal → Lease
-leaseFrom m p = record {
-  scope = p .scope;
-  «id_len» = m .id .len;
-  id = m .id .octets;
-  kind = m .kind;
-  xid = m .xid;
-  start = p .start;
-  end = min (p .end) 4294967295;
-  addresses = p .addresses;
-}
+leaseFrom m p = leaseWith (p .scope) (m .id .len) (m .id .octets) (m .kind) (m .xid) (p .start) (min (p .end) 4294967295) (p .addresses)
 
 -- a reply with a lease: OFFER, or ACK to REQUEST and RENEW
 unfoldable pub withLease : Reply → Lease → Verdict

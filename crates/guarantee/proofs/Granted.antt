@@ -18,7 +18,7 @@ use Rattle.reply.specs.Ranges.{addressesIn}
 use Rattle.state.specs.declared.Lease.{Lease}
 use Rattle.state.specs.declared.LeaseTable.{LeaseTable}
 use Rattle.state.specs.declared.State.{State}
-use Rattle.state.specs.Book.{Book, idOf, inUse, insertOf, laidOut, leasesOf, removeOf, scopeAt}
+use Rattle.state.specs.Book.{Book, idOf, inUse, insertOf, laidOut, leaseWith, leasesOf, removeOf, scopeAt}
 use Rattle.state.specs.Edit.{entering}
 use Rattle.state.specs.laws.Edited.{applied-entering, applied-others}
 use Rattle.state.specs.laws.Layout.{read-back}
@@ -115,16 +115,8 @@ module _ (s : State) (t : LeaseTable) (h : ℕ) (m : Fields) (v : Sound s (lease
 
   -- the lease that it records
   abbrev L : Lease
-  L = record {
-    scope = scopePlace s (m .scope .value) + 1;
-    «id_len» = m .id .len;
-    id = m .id .octets;
-    kind = 3;
-    xid = m .xid;
-    start = startOf m (s .clock) (s .clock);
-    end = startOf m (s .clock) (s .clock) + lengthOf m defaultLease;
-    addresses = G .addresses;
-  }
+  L = leaseWith (scopePlace s (m .scope .value) + 1) (m .id .len) (m .id .octets) 3 (m .xid)
+      (startOf m (s .clock) (s .clock)) (startOf m (s .clock) (s .clock) + lengthOf m defaultLease) (G .addresses)
 
   -- ---- inside, with a record left and least at most the unused reserve
   module _ (soon : startOf m (s .clock) (s .clock) ≤ s .clock + horizon) (fits : startOf m (s .clock) (s .clock) + lengthOf m defaultLease ≤ 4294967295)
@@ -150,16 +142,8 @@ module _ (s : State) (t : LeaseTable) (h : ℕ) (m : Fields) (v : Sound s (lease
     unfolding leaseFrom newWith
     recorded =
         ap (leaseFrom m) proposed
-        ∙ ap₂ {C = Lease} (λ (kind end : ℕ). record {
-          scope = scopePlace s (m .scope .value) + 1;
-          «id_len» = m .id .len;
-          id = m .id .octets;
-          kind = kind;
-          xid = m .xid;
-          start = startOf m (s .clock) (s .clock);
-          end = end;
-          addresses = G .addresses;
-        }) request
+        ∙ ap₂ (λ (kind end : ℕ). leaseWith (scopePlace s (m .scope .value) + 1) (m .id .len) (m .id .octets) kind (m .xid) (startOf m (s .clock) (s .clock)) end (G .addresses))
+        request
         (let e : min (startOf m (s .clock) (s .clock) + lengthOf m defaultLease) 4294967295 ≡ startOf m (s .clock) (s .clock) + lengthOf m defaultLease = omega arith in e)
 
     no-error3 : error3Of m (holdsOf (ownOf t h) m) ≡ false

@@ -22,7 +22,7 @@ use Rattle.state.specs.declared.Lease.{Lease}
 use Rattle.state.specs.declared.LeaseTable.{LeaseTable}
 use Rattle.state.specs.declared.Scope.{Scope}
 use Rattle.state.specs.declared.State.{State}
-use Rattle.state.specs.Book.{Book, advanced, idOf, insertOf, leasesOf, liveOf, named, removeOf, scopeAt, limitAt}
+use Rattle.state.specs.Book.{Book, advanced, idOf, insertOf, leaseWith, leasesOf, liveOf, named, removeOf, scopeAt, limitAt}
 use Rattle.soundness.specs.Sound.{holding, soundB, tenantsIn}
 use Rattle.allocation.specs.declared.Ask.{Ask}
 use Rattle.allocation.specs.declared.Grant.{Grant}
@@ -124,16 +124,7 @@ pub record NewRequest (b : Book) (c : Call) : Type 0 where
 -- ---- "Granted with k means"
 -- "the lease that REQUEST records, of that house, identifier, scope and period, on just these addresses", with its type and transaction id
 abbrev pub leaseFor : Book → Call → Lease
-leaseFor b c = record {
-  scope = placeFor b c + 1;
-  «id_len» = saysOf b c .id .len;
-  id = saysOf b c .id .octets;
-  kind = 3;
-  xid = saysOf b c .xid;
-  start = startFor b c;
-  end = endFor b c;
-  addresses = grantFor b c .addresses;
-}
+leaseFor b c = leaseWith (placeFor b c + 1) (saysOf b c .id .len) (saysOf b c .id .octets) 3 (saysOf b c .xid) (startFor b c) (endFor b c) (grantFor b c .addresses)
 
 -- what the ACK says: its Ranges are those of the grant's addresses
 abbrev pub termsFor : Book → Call → Terms

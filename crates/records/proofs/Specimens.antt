@@ -12,7 +12,7 @@ use Rattle.lists.specs.Place.{placeBy}
 use Rattle.identifier.specs.Order.{orderOf, sameOf}
 use Rattle.state.specs.declared.Lease.{Lease}
 use Rattle.state.specs.declared.State.{State}
-use Rattle.state.specs.Book.{byIdentifier, insertOf, laidOut, removeOf, zeroLease}
+use Rattle.state.specs.Book.{byIdentifier, insertOf, laidOut, leaseWith, removeOf, zeroLease}
 use Rattle.soundness.specs.Sound.{blankB, layoutB, paddedB, unusedB, zeroFrom}
 use Rattle.server.specs.Serve.{Call}
 use Rattle.records.specs.declared.Found.the-variants.{Absent, At}
@@ -21,7 +21,7 @@ use Rattle.records.specs.Lent.{findLent, findWith, foundAmong, insertLen
 
 -- a lease by the last octet of its identifier
 lease : ℕ → Lease
-lease i = record { scope = 1; «id_len» = 2; id = 0 ∷ i ∷ replicate 30 0; kind = 3; xid = 7; start = 1000; end = 2000; addresses = 1 }
+lease i = leaseWith 1 2 (0 ∷ i ∷ replicate 30 0) 3 7 1000 2000 1
 
 unused : ℕ → List Lease
 unused n = replicate n zeroLease

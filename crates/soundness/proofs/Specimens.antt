@@ -15,7 +15,7 @@ use Rattle.state.specs.declared.Lease.{Lease}
 use Rattle.state.specs.declared.State.{State}
 use Rattle.state.specs.declared.ClientRange.{ClientRange}
 use Rattle.state.specs.declared.Scope.{Scope}
-use Rattle.state.specs.Book.{byIdentifier, differ, laidOut, tableOf, unionAll, addressesOf, overlaps, zeroScope, committed}
+use Rattle.state.specs.Book.{leaseWith, byIdentifier, differ, laidOut, tableOf, unionAll, addressesOf, overlaps, zeroScope, committed}
 use Rattle.soundness.specs.Sound.{oneTo, sizeB, idB, recordsB, countsB, rule1, belowB, offsetsB, rule2, rangeB, rangesApart, rule3, poolB, poolsApart, rule4, ttlB, rule5, reserveB, reservesB, rule6, kindB, periodB, leaseB, noneB, tenantsB, rule7, rule8, disjoint, apart, rule9, compatible, rule10, limitB, limitsB, rule11, committedB, rule12, zeroFrom, paddedB, blankB, unusedB, layoutB, rangeZero, tailB, scopeZero, settingsB, rulesOf, firstLate, firstBroken, brokenOf, rule19}
 
 -- the specimens' scope 239.192.0.0 and two houses, with what a case changes: the number of houses, the second house's lowest client,
@@ -35,13 +35,13 @@ plain = settings 2 10 4022337536 1 2
 
 -- a lease of the scope: the last octet of its identifier, its period and its addresses
 lease : ℕ → ℕ → ℕ → ℕ → Lease
-lease i start end addresses = record { scope = 1; «id_len» = 2; id = 0 ∷ i ∷ replicate 30 0; kind = 3; xid = 7; start = start; end = end; addresses = addresses }
+lease i start end addresses = leaseWith 1 2 (0 ∷ i ∷ replicate 30 0) 3 7 start end addresses
 
 elsewhere : Lease
-elsewhere = record { scope = 2; «id_len» = 2; id = replicate 32 0; kind = 3; xid = 7; start = 1000; end = 2000; addresses = 1 }
+elsewhere = leaseWith 2 2 (replicate 32 0) 3 7 1000 2000 1
 
 short : Lease
-short = record { scope = 1; «id_len» = 1; id = replicate 32 0; kind = 3; xid = 7; start = 1000; end = 2000; addresses = 1 }
+short = leaseWith 1 1 (replicate 32 0) 3 7 1000 2000 1
 
 abbrev range : ℕ → ℕ → ClientRange
 range low high = record { low = low; high = high }
@@ -80,7 +80,7 @@ paired scopes second = settingsOf 2 (range 1 9) (range 10 19) noRange scopes poo
 
 -- a lease by its scope, the length of its identifier 00 01 00 .., the octet past that, its type, its period and its addresses
 abbrev leaseOf : ℕ → ℕ → ℕ → ℕ → ℕ → ℕ → ℕ → Lease
-leaseOf scope len past kind start end addresses = record { scope = scope; «id_len» = len; id = 0 ∷ 1 ∷ past ∷ replicate 29 0; kind = kind; xid = 7; start = start; end = end; addresses = addresses }
+leaseOf scope len past kind start end addresses = leaseWith scope len (0 ∷ 1 ∷ past ∷ replicate 29 0) kind 7 start end addresses
 
 record Case : Type 0 where
   state : State

@@ -20,9 +20,14 @@ use Rattle.state.specs.declared.Scope.{Scope}
 use Rattle.state.specs.declared.State.{State}
 
 -- ---- records and lists
+-- a lease from its scope, the length and octets of its identifier, its type, transaction id, start, end and addresses: every definition, law and specimen
+-- makes a lease by it. A further field of a lease touches this line
+abbrev pub leaseWith : ℕ → ℕ → List ℕ → ℕ → ℕ → ℕ → ℕ → ℕ → Lease
+leaseWith scope len id kind xid start end addresses = record { scope = scope; «id_len» = len; id = id; kind = kind; xid = xid; start = start; end = end; addresses = addresses }
+
 -- the unused record
 abbrev pub zeroLease : Lease
-zeroLease = record { scope = 0; «id_len» = 0; id = replicate 32 0; kind = 0; xid = 0; start = 0; end = 0; addresses = 0 }
+zeroLease = leaseWith 0 0 (replicate 32 0) 0 0 0 0 0
 
 -- the leases that one tenant's records stand for
 abbrev pub inUse : TenantLeases → List Lease

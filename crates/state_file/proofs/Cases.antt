@@ -13,7 +13,7 @@ use Rattle.lists.specs.Pick.{pick}
 use Rattle.lists.specs.Sums.{sumTo}
 use Rattle.octets.specs.Octets.{octets32}
 use Rattle.soundness.specs.Sound.{apart, belowB, blankB, brokenOf, compatible, countsB, disjoint, oneTo, firstBroken, firstLate, tenantsB, idB, kindB, layoutB, leaseB, limitB, limitsB, committedB, noneB, offsetsB, paddedB, periodB, poolB, poolsApart, rangeB, rangeZero, rangesApart, recordsB, rule1, rule10, rule11, rule12, rule2, rule3, rule4, rule5, rule6, rule7, rule8, rule9, rulesOf, scopeZero, settingsB, reserveB, reservesB, sizeB, soundB, tailB, ttlB, unusedB, zeroFrom, rule19}
-use Rattle.state.specs.Book.{byIdentifier, differ, addressesOf, laidOut, overlaps, tableOf, unionAll, zeroScope, committed}
+use Rattle.state.specs.Book.{byIdentifier, differ, addressesOf, laidOut, leaseWith, overlaps, tableOf, unionAll, zeroScope, committed}
 use Rattle.state.specs.declared.Lease.{Lease}
 use Rattle.state.specs.declared.LeaseTable.{LeaseTable}
 use Rattle.state.specs.declared.State.{State}
@@ -239,7 +239,7 @@ specimenState = record {
 }
 
 specimenLease : List ℕ → ℕ → ℕ → Lease
-specimenLease id end addresses = record { scope = 1; «id_len» = 2; id = id ++ replicate 30 0; kind = 3; xid = 16909060; start = 1000; end = end; addresses = addresses }
+specimenLease id end addresses = leaseWith 1 2 (id ++ replicate 30 0) 3 16909060 1000 end addresses
 
 specimenTable : LeaseTable
 specimenTable = tableOf ((specimenLease b 2000 12 ∷ []) ∷ (specimenLease a 4600 3 ∷ []) ∷ replicate 6 [])

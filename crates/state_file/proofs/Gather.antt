@@ -5,6 +5,7 @@ use Prim.Native.Nat.{_+_, _-_, _<_, _≤_, ℕ}
 use native.Mathlib.Omega.{arith}
 use lib.ListN.{drop, getD, length, take}
 use lib.Seq.{getD-drop, getD-take}
+use Rattle.state.specs.Book.{leaseWith}
 use Rattle.address_set.specs.AddressSet.{readOffsets}
 use Rattle.octets.specs.Octets.{at32}
 use Rattle.state_file.proofs.Pad.{pad-end, pad-next, pad-start}
@@ -29,7 +30,7 @@ module _ {s : List ℕ} {at n k : ℕ} (en : n ≡ getD s (at + 2) 0) (ek : k �
 
   pub lease-stored : (id : List ℕ) (x b e m : ℕ) → id ≡ filled 0 32 (take n (drop (at + 3) s)) → x ≡ at32 s (at + (n + 4)) → b ≡ at32 s (at + (n + 8)) → e ≡ at32 s (at + (n + 12))
       → m ≡ readOffsets (take k (drop (at + (n + 17)) s))
-      → record { scope = getD s (at + 1) 0; «id_len» = getD s (at + 2) 0; id = id; kind = getD s (at + (n + 3)) 0; xid = x; start = b; end = e; addresses = m } ≡ stored (fileLeaseAt s at)
+      → leaseWith (getD s (at + 1) 0) (getD s (at + 2) 0) id (getD s (at + (n + 3)) 0) x b e m ≡ stored (fileLeaseAt s at)
   unfolding stored fileLeaseAt
   lease-stored id x b e m pi px pb pe pm =
       let N : ℕ = getD s (at + 2) 0 in

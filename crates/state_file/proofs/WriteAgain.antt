@@ -19,7 +19,7 @@ use Rattle.lists.specs.laws.Both.{and-parts}
 use Rattle.lists.specs.Pick.{pick}
 use Rattle.soundness.specs.laws.Book.{AllRules, rules-of}
 use Rattle.soundness.specs.Sound.{blankB, countsB, oneTo, idB, layoutB, paddedB, rangeZero, recordsB, rule1, rule19, rulesOf, scopeZero, settingsB, sizeB, soundB, tailB, unusedB, zeroFrom}
-use Rattle.state.specs.Book.{byIdentifier, idOf, inUse, laidOut, leasesOf, ordered, rangesOf, scopesOf, tableOf, zeroLease, zeroScope}
+use Rattle.state.specs.Book.{byIdentifier, idOf, inUse, laidOut, leaseWith, leasesOf, ordered, rangesOf, scopesOf, tableOf, zeroLease, zeroScope}
 use Rattle.state.specs.declared.ClientRange.{ClientRange}
 use Rattle.state.specs.declared.Lease.{Lease}
 use Rattle.state.specs.declared.LeaseTable.{LeaseTable}
@@ -134,13 +134,10 @@ lease-zero l v e =
     let e6 : l .end ≡ 0 = eqb-true _ _ (q1 .0) in
     let e7 : l .addresses ≡ 0 = eqb-true _ _ (q2 .0) in
     let e8 : l .id ≡ replicate 32 0 = zero-whole 32 (l .id) v (q2 .1) in
-    ap₂ (λ (x y : ℕ). make x y (l .id) (l .kind) (l .xid) (l .start) (l .end) (l .addresses)) e1 e2
-    ∙ ap₂ (λ (x : List ℕ) (y : ℕ). make 0 0 x y (l .xid) (l .start) (l .end) (l .addresses)) e8 e3
-    ∙ ap₂ (λ (x y : ℕ). make 0 0 (replicate 32 0) 0 x y (l .end) (l .addresses)) e4 e5
-    ∙ ap₂ (make 0 0 (replicate 32 0) 0 0 0) e6 e7
-  where
-    make : ℕ → ℕ → List ℕ → ℕ → ℕ → ℕ → ℕ → ℕ → Lease
-    make a b c d e f g h = record { scope = a; «id_len» = b; id = c; kind = d; xid = e; start = f; end = g; addresses = h }
+    ap₂ (λ (x y : ℕ). leaseWith x y (l .id) (l .kind) (l .xid) (l .start) (l .end) (l .addresses)) e1 e2
+    ∙ ap₂ (λ (x : List ℕ) (y : ℕ). leaseWith 0 0 x y (l .xid) (l .start) (l .end) (l .addresses)) e8 e3
+    ∙ ap₂ (λ (x y : ℕ). leaseWith 0 0 (replicate 32 0) 0 x y (l .end) (l .addresses)) e4 e5
+    ∙ ap₂ (leaseWith 0 0 (replicate 32 0) 0 0 0) e6 e7
 
 pub leases-zero : (P : Lease → Type 0) → ((l : Lease) → P l → length (l .id) ≡ 32) → (l : List Lease) → All P l → allBy unusedB l ≡ true → l ≡ replicate (length l) zeroLease
 unfolding All

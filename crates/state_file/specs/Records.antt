@@ -8,7 +8,7 @@ use Rattle.address_set.specs.AddressSet.{offsets, readOffsets}
 use Rattle.lists.specs.All.{allBy, allTo}
 use Rattle.lists.specs.Filter.{filterBy}
 use Rattle.lists.specs.Pick.{pick}
-use Rattle.state.specs.Book.{leasesOf, rangesOf, scopesOf, tableOf, zeroScope}
+use Rattle.state.specs.Book.{leaseWith, leasesOf, rangesOf, scopesOf, tableOf, zeroScope}
 use Rattle.state.specs.declared.ClientRange.{ClientRange}
 use Rattle.state.specs.declared.Lease.{Lease}
 use Rattle.state.specs.declared.LeaseTable.{LeaseTable}
@@ -23,16 +23,7 @@ filled z n l = l ++ replicate (n - length l) z
 -- ---- leases
 -- a lease of the file as a record keeps it
 unfoldable pub stored : FileLease → Lease
-stored x = record {
-  scope = x .scope;
-  «id_len» = length (x .id);
-  id = filled 0 32 (x .id);
-  kind = x .kind;
-  xid = x .xid;
-  start = x .start;
-  end = x .end;
-  addresses = readOffsets (x .offsets);
-}
+stored x = leaseWith (x .scope) (length (x .id)) (filled 0 32 (x .id)) (x .kind) (x .xid) (x .start) (x .end) (readOffsets (x .offsets))
 
 -- a record of tenant t as it stands in the file
 unfoldable pub filedLease : ℕ → Lease → FileLease

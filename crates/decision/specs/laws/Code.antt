@@ -3,6 +3,7 @@ use Prim.Native.Nat.{ℕ, _+_, _-_, min, max, _<_, _≤_}
 use mathlib.Core.Bool.{Bool, not, _&&_, _||_}
 use lib.Dec.{ltb, eqb}
 use Rattle.message.specs.declared.Fields.{Fields}
+use Rattle.state.specs.Book.{leaseWith}
 use Rattle.state.specs.declared.Lease.{Lease}
 use Rattle.state.specs.declared.State.{State}
 use Rattle.allocation.specs.declared.Ask.{Ask}
@@ -83,7 +84,7 @@ unfolding newBy
 new-with-is n least a g f p = ap {B = Proposal} (λ (x : Bool). record { fits = x; scope = a .scope; start = a .from; end = a .to; addresses = g .addresses }) p
 
 pub lease-from-is : (m : Fields) (p : Proposal) (e : ℕ) → e ≡ min (p .end) 4294967295
-    → _≡_ {A = Lease} (record { scope = p .scope; «id_len» = m .id .len; id = m .id .octets; kind = m .kind; xid = m .xid; start = p .start; end = e; addresses = p .addresses }) (leaseFrom m p)
+    → leaseWith (p .scope) (m .id .len) (m .id .octets) (m .kind) (m .xid) (p .start) e (p .addresses) ≡ leaseFrom m p
 unfolding leaseFrom
 lease-from-is m p e q = cc
 

@@ -22,12 +22,12 @@ use Rattle.lists.specs.laws.Pick.{pick-lt, pick-not-lt}
 use Rattle.lists.specs.Fold.{fold}
 use Rattle.lists.specs.laws.Filter.{filter-length}
 use Rattle.lists.specs.laws.Each.{map-set}
-use Rattle.state.specs.Book.{Book, advanced, changedTo, zeroLease, inUse, laidOut, pushed, keptIf, idOf, byIdentifier, ordered, before, notBefore, named, other, insertOf, insertedIn, removeOf, placeOf, liveOf, leaseAt, tableOf, leasesOf, putAt, raised, dropped, withClock}
+use Rattle.state.specs.Book.{Book, advanced, changedTo, leaseWith, zeroLease, inUse, laidOut, pushed, keptIf, idOf, byIdentifier, ordered, before, notBefore, named, other, insertOf, insertedIn, removeOf, placeOf, liveOf, leaseAt, tableOf, leasesOf, putAt, raised, dropped, withClock}
 
 -- ---- one turn of the loops below
 -- what an element is past the end of an array
 abbrev pub noLease : Lease
-noLease = record { scope = 0; «id_len» = 0; id = []; kind = 0; xid = 0; start = 0; end = 0; addresses = 0 }
+noLease = leaseWith 0 0 [] 0 0 0 0 0
 
 abbrev pub noScope : Scope
 noScope = record { lowest = 0; size = 0; ttl = 0; reserve = []; limit = [] }

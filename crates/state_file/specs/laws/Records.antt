@@ -11,6 +11,7 @@ use Rattle.address_set.specs.laws.Offsets.{offsets-setOf, offsets-small, setOf-
 use Rattle.lists.specs.All.{All, allBy}
 use Rattle.lists.specs.laws.All.{all-cons, all-head}
 use Rattle.lists.specs.laws.Filter.{filter-none-out}
+use Rattle.state.specs.Book.{leaseWith}
 use Rattle.state.specs.declared.Lease.{Lease}
 use Rattle.state_file.specs.File.{FileLease}
 use Rattle.state_file.specs.Records.{filedLease, filled, isOffset, stored}
@@ -68,4 +69,4 @@ stored-filed t l h =
     ∙ ap₂ (make (l .«id_len»)) (filled-back 0 32 (l .«id_len») (l .id) (h .long) (h .zeros)) (read-offsets (l .addresses) (h .bits))
   where
     make : ℕ → List ℕ → ℕ → Lease
-    make n i a = record { scope = l .scope; «id_len» = n; id = i; kind = l .kind; xid = l .xid; start = l .start; end = l .end; addresses = a }
+    make n i a = leaseWith (l .scope) n i (l .kind) (l .xid) (l .start) (l .end) a

@@ -1,6 +1,6 @@
 -- Specimens: sound books by document 01's specimens, and a book for each rule that breaks it first; computed.
 use mathlib.Core.Path.{_≡_, refl}
-use mathlib.Core.Bool.{Bool, true}
+use mathlib.Core.Bool.{Bool, false, true}
 use mathlib.Core.List.{List, [], _∷_}
 use Prim.Native.Nat.{ℕ}
 use lib.Dec.{eqb}
@@ -16,7 +16,8 @@ use Rattle.state.specs.declared.State.{State}
 use Rattle.state.specs.declared.ClientRange.{ClientRange}
 use Rattle.state.specs.declared.Scope.{Scope}
 use Rattle.state.specs.Book.{leaseWith, byIdentifier, differ, laidOut, tableOf, unionAll, addressesOf, overlaps, zeroScope, committed}
-use Rattle.soundness.specs.Sound.{oneTo, sizeB, idB, recordsB, countsB, rule1, belowB, offsetsB, rule2, rangeB, rangesApart, rule3, poolB, poolsApart, rule4, ttlB, rule5, reserveB, reservesB, rule6, kindB, periodB, leaseB, noneB, tenantsB, rule7, rule8, disjoint, apart, rule9, compatible, rule10, limitB, limitsB, rule11, committedB, rule12, zeroFrom, paddedB, blankB, unusedB, layoutB, rangeZero, tailB, scopeZero, settingsB, rulesOf, firstLate, firstBroken, brokenOf, rule19}
+use Rattle.soundness.specs.declared.Rules.{Rules}
+use Rattle.soundness.specs.Sound.{oneTo, sizeB, idB, recordsB, countsB, rule1, belowB, offsetsB, rule2, rangeB, rangesApart, rule3, poolB, poolsApart, rule4, ttlB, rule5, reserveB, reservesB, rule6, kindB, periodB, leaseB, noneB, tenantsB, rule7, rule8, disjoint, apart, rule9, compatible, rule10, limitB, limitsB, rule11, committedB, rule12, zeroFrom, paddedB, blankB, unusedB, layoutB, rangeZero, tailB, scopeZero, settingsB, rulesOf, firstLate, firstRule, firstBroken, brokenOf, rule19}
 
 -- the specimens' scope 239.192.0.0 and two houses, with what a case changes: the number of houses, the second house's lowest client,
 -- the scope's lowest address and TTL, and the first house's share
@@ -148,5 +149,28 @@ cases =
     ∷ []
 
 all-hold : allBy holds cases ≡ true
-unfolding settings plain lease elsewhere short case holds cases pick allBy pairsBy allTo filterBy sumTo orderOf sameOf bit offsetsFrom laidOut tableOf byIdentifier unionAll addressesOf overlaps oneTo sizeB idB recordsB countsB rule1 belowB offsetsB rule2 rangeB rangesApart rule3 poolB poolsApart rule4 ttlB rule5 reserveB reservesB rule6 kindB periodB leaseB noneB tenantsB rule7 differ rule8 disjoint apart rule9 compatible rule10 limitB limitsB rule11 committed committedB rule12 zeroFrom paddedB blankB unusedB layoutB rangeZero tailB scopeZero settingsB rule19 rulesOf firstLate firstBroken brokenOf
+unfolding settings plain lease elsewhere short case holds cases pick allBy pairsBy allTo filterBy sumTo orderOf sameOf bit offsetsFrom laidOut tableOf byIdentifier unionAll addressesOf overlaps oneTo sizeB idB recordsB countsB rule1 belowB offsetsB rule2 rangeB rangesApart rule3 poolB poolsApart rule4 ttlB rule5 reserveB reservesB rule6 kindB periodB leaseB noneB tenantsB rule7 differ rule8 disjoint apart rule9 compatible rule10 limitB limitsB rule11 committed committedB rule12 zeroFrom paddedB blankB unusedB layoutB rangeZero tailB scopeZero settingsB rule19 rulesOf firstLate firstRule firstBroken brokenOf
 all-hold = refl
+
+-- ---- the layout comes last of all rules, and no file can break it
+-- all rules kept but perhaps the twelfth and the layout
+abbrev only : Bool → Bool → Rules
+only commitments layout = record {
+  limits = true;
+  offsets = true;
+  ranges = true;
+  pools = true;
+  ttls = true;
+  reserves = true;
+  leases = true;
+  identifiers = true;
+  owners = true;
+  periods = true;
+  holdings = true;
+  commitments = commitments;
+  layout = layout;
+}
+
+layout-last : (firstRule (only true false) ∷ firstBroken (only true false) ∷ firstRule (only false false) ∷ firstBroken (only false false) ∷ []) ≡ 0 ∷ 19 ∷ 12 ∷ 12 ∷ []
+unfolding pick firstLate firstRule firstBroken
+layout-last = refl

@@ -219,14 +219,17 @@ rulesOf s t = record {
   layout = rule19 s t;
 }
 
--- of rules 7 to 19, the number of the first that is broken, or 0
+-- of rules 7 to 12, the number of the first that is broken, or 0
 unfoldable pub firstLate : Rules → ℕ
-firstLate r =
-    pick (r .leases) (pick (r .identifiers) (pick (r .owners) (pick (r .periods) (pick (r .holdings) (pick (r .commitments) (pick (r .layout) 0 19) 12) 11) 10) 9) 8) 7
+firstLate r = pick (r .leases) (pick (r .identifiers) (pick (r .owners) (pick (r .periods) (pick (r .holdings) (pick (r .commitments) 0 12) 11) 10) 9) 8) 7
 
--- the number of the first rule that is broken, or 0
+-- "first broken rule(1). Rules 1 to 12 are document 01's 'Sound' by semicolons" (document 02, W-212): of the rules that a file can break, or 0
+unfoldable pub firstRule : Rules → ℕ
+firstRule r = pick (r .limits) (pick (r .offsets) (pick (r .ranges) (pick (r .pools) (pick (r .ttls) (pick (r .reserves) (firstLate r) 6) 5) 4) 3) 2) 1
+
+-- the number of the first rule that is broken, or 0: that one, or 19 where only the layout is broken, as it can be in a book that is lent
 unfoldable pub firstBroken : Rules → ℕ
-firstBroken r = pick (r .limits) (pick (r .offsets) (pick (r .ranges) (pick (r .pools) (pick (r .ttls) (pick (r .reserves) (firstLate r) 6) 5) 4) 3) 2) 1
+firstBroken r = pick (eqb (firstRule r) 0) (pick (r .layout) 0 19) (firstRule r)
 
 unfoldable pub brokenOf : State → LeaseTable → ℕ
 brokenOf s t = firstBroken (rulesOf s t)

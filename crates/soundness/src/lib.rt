@@ -8,7 +8,7 @@ mod settings;
 mod tenants;
 
 ghost use mathlib.Core.Path.{_≡_};
-ghost use Rattle.soundness.specs.Sound.{rulesOf, firstLate, firstBroken, brokenOf, soundB, unusedB};
+ghost use Rattle.soundness.specs.Sound.{rulesOf, firstLate, firstRule, firstBroken, brokenOf, soundB, unusedB};
 ghost use Prim.Native.Nat.{_<_};
 ghost use Rattle.soundness.specs.Parts.{heldSets, tableRulesOf, joinedRules, noTenants, poolIn, poolsOf, addedTenant, rulesFrom, soundFrom};
 use crate::holdings::add_sets;
@@ -265,6 +265,7 @@ pub fn check_rules(s: State, table: LeaseTable) -> Rules
     rules_from(s, c)
 }
 
+// Of rules 7 to 12 the number of the first that is broken, or 0.
 fn first_late(r: Rules) -> u8
     ensures { λ x. ⌜ x ≡ firstLate r ⌝ }
 {
@@ -286,15 +287,12 @@ fn first_late(r: Rules) -> u8
     if !r.commitments {
         return 12;
     }
-    if !r.layout {
-        return 19;
-    }
     0
 }
 
-// The number of the first rule that is broken, or 0.
-pub fn first_broken(r: Rules) -> u8
-    ensures { λ x. ⌜ x ≡ firstBroken r ⌝ }
+// Of rules 1 to 12, those that a file can break, the number of the first that is broken, or 0.
+pub fn first_rule(r: Rules) -> u8
+    ensures { λ x. ⌜ x ≡ firstRule r ⌝ }
 {
     if !r.limits {
         return 1;
@@ -315,6 +313,20 @@ pub fn first_broken(r: Rules) -> u8
         return 6;
     }
     first_late(r)
+}
+
+// The number of the first rule that is broken, or 0; the layout, which only a book that is lent can break, comes last.
+pub fn first_broken(r: Rules) -> u8
+    ensures { λ x. ⌜ x ≡ firstBroken r ⌝ }
+{
+    let n = first_rule(r);
+    if n != 0 {
+        return n;
+    }
+    if !r.layout {
+        return 19;
+    }
+    0
 }
 
 // The number of the first rule that a book breaks, or 0.

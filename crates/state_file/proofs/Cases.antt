@@ -12,7 +12,7 @@ use Rattle.lists.specs.Filter.{filterBy, isIn}
 use Rattle.lists.specs.Pick.{pick}
 use Rattle.lists.specs.Sums.{sumTo}
 use Rattle.octets.specs.Octets.{octets32}
-use Rattle.soundness.specs.Sound.{apart, belowB, blankB, brokenOf, compatible, countsB, disjoint, oneTo, firstBroken, firstLate, tenantsB, idB, kindB, layoutB, leaseB, limitB, limitsB, committedB, noneB, offsetsB, paddedB, periodB, poolB, poolsApart, rangeB, rangeZero, rangesApart, recordsB, rule1, rule10, rule11, rule12, rule2, rule3, rule4, rule5, rule6, rule7, rule8, rule9, rulesOf, scopeZero, settingsB, reserveB, reservesB, sizeB, soundB, tailB, ttlB, unusedB, zeroFrom, rule19}
+use Rattle.soundness.specs.Sound.{apart, belowB, blankB, brokenOf, compatible, countsB, disjoint, oneTo, firstBroken, firstRule, firstLate, tenantsB, idB, kindB, layoutB, leaseB, limitB, limitsB, committedB, noneB, offsetsB, paddedB, periodB, poolB, poolsApart, rangeB, rangeZero, rangesApart, recordsB, rule1, rule10, rule11, rule12, rule2, rule3, rule4, rule5, rule6, rule7, rule8, rule9, rulesOf, scopeZero, settingsB, reserveB, reservesB, sizeB, soundB, tailB, ttlB, unusedB, zeroFrom, rule19}
 use Rattle.state.specs.Book.{byIdentifier, differ, addressesOf, laidOut, leaseWith, overlaps, tableOf, unionAll, zeroScope, committed}
 use Rattle.state.specs.declared.Lease.{Lease}
 use Rattle.state.specs.declared.LeaseTable.{LeaseTable}
@@ -220,7 +220,7 @@ unsound =
     ∷ []
 
 answers : allHold (sound ++ form ++ unsound) ≡ true
-unfolding allHold ruleOf long largest sound form unsound server range scope lease tenants pool settings plain a b ab again row eight four upFrom sixteen pick allBy pairsBy allTo filterBy isIn sumTo bit offsetsFrom setOf readOffsets risesFrom orderOf sameOf laidOut tableOf byIdentifier unionAll addressesOf overlaps oneTo sizeB idB recordsB countsB rule1 belowB offsetsB rule2 rangeB rangesApart rule3 poolB poolsApart rule4 ttlB rule5 reserveB reservesB rule6 kindB periodB leaseB noneB tenantsB rule7 differ rule8 disjoint apart rule9 compatible rule10 limitB limitsB rule11 committed committedB rule12 zeroFrom paddedB blankB unusedB layoutB rangeZero tailB scopeZero settingsB rulesOf firstLate firstBroken brokenOf soundB then closed readOctet readNumber readTimes isAfter orderedFrom fileOf filled stored tenantsFrom storedScope storedState storedTable storableB fewOf leasesFitB countsFit fitsB refused accepted judged loaded loadedGot readFile rule19
+unfolding allHold ruleOf long largest sound form unsound server range scope lease tenants pool settings plain a b ab again row eight four upFrom sixteen pick allBy pairsBy allTo filterBy isIn sumTo bit offsetsFrom setOf readOffsets risesFrom orderOf sameOf laidOut tableOf byIdentifier unionAll addressesOf overlaps oneTo sizeB idB recordsB countsB rule1 belowB offsetsB rule2 rangeB rangesApart rule3 poolB poolsApart rule4 ttlB rule5 reserveB reservesB rule6 kindB periodB leaseB noneB tenantsB rule7 differ rule8 disjoint apart rule9 compatible rule10 limitB limitsB rule11 committed committedB rule12 zeroFrom paddedB blankB unusedB layoutB rangeZero tailB scopeZero settingsB rulesOf firstLate firstRule firstBroken brokenOf soundB then closed readOctet readNumber readTimes isAfter orderedFrom fileOf filled stored tenantsFrom storedScope storedState storedTable storableB fewOf leasesFitB countsFit fitsB refused accepted judged loaded loadedGot readFile rule19
 answers = refl
 
 -- ---- the book that a file gives, and what the writer answers to it
@@ -245,7 +245,7 @@ specimenTable : LeaseTable
 specimenTable = tableOf ((specimenLease b 2000 12 ∷ []) ∷ (specimenLease a 4600 3 ∷ []) ∷ replicate 6 [])
 
 read-specimen : readFile specimen ≡ accepted specimenState specimenTable
-unfolding specimen specimenState specimenLease specimenTable server range scope lease tenants pool settings plain a b pick allBy pairsBy allTo filterBy isIn sumTo bit offsetsFrom setOf readOffsets risesFrom orderOf sameOf laidOut tableOf byIdentifier unionAll addressesOf overlaps oneTo sizeB idB recordsB countsB rule1 belowB offsetsB rule2 rangeB rangesApart rule3 poolB poolsApart rule4 ttlB rule5 reserveB reservesB rule6 kindB periodB leaseB noneB tenantsB rule7 differ rule8 disjoint apart rule9 compatible rule10 limitB limitsB rule11 committedB rule12 zeroFrom paddedB blankB unusedB layoutB rangeZero tailB scopeZero settingsB rule19 rulesOf firstLate firstBroken brokenOf soundB then closed readOctet readNumber readTimes isAfter orderedFrom fileOf filled stored tenantsFrom storedScope storedState storedTable storableB fewOf leasesFitB countsFit fitsB refused accepted judged loaded loadedGot readFile committed
+unfolding specimen specimenState specimenLease specimenTable server range scope lease tenants pool settings plain a b pick allBy pairsBy allTo filterBy isIn sumTo bit offsetsFrom setOf readOffsets risesFrom orderOf sameOf laidOut tableOf byIdentifier unionAll addressesOf overlaps oneTo sizeB idB recordsB countsB rule1 belowB offsetsB rule2 rangeB rangesApart rule3 poolB poolsApart rule4 ttlB rule5 reserveB reservesB rule6 kindB periodB leaseB noneB tenantsB rule7 differ rule8 disjoint apart rule9 compatible rule10 limitB limitsB rule11 committedB rule12 zeroFrom paddedB blankB unusedB layoutB rangeZero tailB scopeZero settingsB rule19 rulesOf firstLate firstRule firstBroken brokenOf soundB then closed readOctet readNumber readTimes isAfter orderedFrom fileOf filled stored tenantsFrom storedScope storedState storedTable storableB fewOf leasesFitB countsFit fitsB refused accepted judged loaded loadedGot readFile committed
 read-specimen = refl
 
 -- an exact room suffices, one octet less does not, and an unsound book comes before too little room
@@ -256,5 +256,5 @@ write-specimen : (octetsOf specimenState specimenTable ≡ specimen)
     × (roomAfter specimenState specimenTable (replicate 82 9) ≡ specimen ++ 9 ∷ 9 ∷ [])
     × (roomAfter specimenState specimenTable (replicate 79 9) ≡ replicate 79 9)
     × (roomAfter zeroState zeroTable (9 ∷ []) ≡ 9 ∷ [])
-unfolding specimen specimenState specimenLease specimenTable server range scope lease tenants pool settings plain a b pick allBy pairsBy allTo filterBy isIn sumTo bit offsetsFrom setOf readOffsets risesFrom orderOf sameOf laidOut tableOf byIdentifier unionAll addressesOf overlaps oneTo sizeB idB recordsB countsB rule1 belowB offsetsB rule2 rangeB rangesApart rule3 poolB poolsApart rule4 ttlB rule5 reserveB reservesB rule6 kindB periodB leaseB noneB tenantsB rule7 differ rule8 disjoint apart rule9 compatible rule10 limitB limitsB rule11 committedB rule12 zeroFrom paddedB blankB unusedB layoutB rangeZero tailB scopeZero settingsB rule19 rulesOf firstLate firstBroken brokenOf soundB then closed readOctet readNumber readTimes isAfter orderedFrom fileOf filled stored tenantsFrom storedScope storedState storedTable storableB fewOf leasesFitB countsFit fitsB refused accepted judged loaded loadedGot readFile zeroTable octetsOf writtenOf roomAfter filedBook filedFrom filedScope pairUp filedLease writeAll committed
+unfolding specimen specimenState specimenLease specimenTable server range scope lease tenants pool settings plain a b pick allBy pairsBy allTo filterBy isIn sumTo bit offsetsFrom setOf readOffsets risesFrom orderOf sameOf laidOut tableOf byIdentifier unionAll addressesOf overlaps oneTo sizeB idB recordsB countsB rule1 belowB offsetsB rule2 rangeB rangesApart rule3 poolB poolsApart rule4 ttlB rule5 reserveB reservesB rule6 kindB periodB leaseB noneB tenantsB rule7 differ rule8 disjoint apart rule9 compatible rule10 limitB limitsB rule11 committedB rule12 zeroFrom paddedB blankB unusedB layoutB rangeZero tailB scopeZero settingsB rule19 rulesOf firstLate firstRule firstBroken brokenOf soundB then closed readOctet readNumber readTimes isAfter orderedFrom fileOf filled stored tenantsFrom storedScope storedState storedTable storableB fewOf leasesFitB countsFit fitsB refused accepted judged loaded loadedGot readFile zeroTable octetsOf writtenOf roomAfter filedBook filedFrom filedScope pairUp filedLease writeAll committed
 write-specimen = (refl, refl, refl, refl, refl, refl, refl)

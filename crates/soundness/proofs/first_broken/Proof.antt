@@ -1,21 +1,14 @@
--- `first_broken` meets its contract: by tests, not-true, not-false.
-use Rattle.lists.specs.laws.Pick.{tests}
-use Rattle.soundness.specs.Sound.{firstBroken}
+-- `first_broken` meets its contract: by firsts.
+use Rattle.soundness.specs.laws.Code.{firsts}
 use borrow.Author.Needs.{needs}
-use borrow.Author.Tests.{not-false, not-true}
 use Rattle.soundness.proofs.first_broken.Statement.{statement}
 use Rattle.soundness.proofs.first_broken.Tie as tie
 
 pub first-broken-spec : {M : Type 1} → statement M
-unfolding firstBroken
 first-broken-spec =
     tie.close
     (tie.spec
-    (λ c. search (tests, not-true, not-false, needs) depth 24)
-    (λ c. search (tests, not-true, not-false, needs) depth 24)
-    (λ c. search (tests, not-true, not-false, needs) depth 24)
-    (λ c. search (tests, not-true, not-false, needs) depth 24)
-    (λ c. search (tests, not-true, not-false, needs) depth 24)
-    (λ c. search (tests, not-true, not-false, needs) depth 24)
-    (λ c κs. search (tests, needs) depth 24)
-    (λ c. search (tests, not-true, not-false, needs) depth 24))
+    (λ c κs. search needs)
+    (λ c. search (firsts, needs))
+    (λ c. search (firsts, needs))
+    (λ c. search (firsts, needs)))

@@ -10,4 +10,11 @@ pub first-late-spec : {M : Type 1} → statement M
 unfolding firstLate
 first-late-spec =
     tie.close
-    (tie.spec (λ c. search (tests, not-true, not-false, needs) depth 24) (λ c. search (tests, not-true, not-false, needs) depth 24) (λ c. search (tests, not-true, not-false, needs) depth 24) (λ c. search (tests, not-true, not-false, needs) depth 24) (λ c. search (tests, not-true, not-false, needs) depth 24) (λ c. search (tests, not-true, not-false, needs) depth 24) (λ c. search (tests, not-true, not-false, needs) depth 24) (λ c. search (tests, not-true, not-false, needs) depth 24))
+    (tie.spec
+    (λ c. search (tests, not-true, not-false, needs) depth 24)
+    (λ c. search (tests, not-true, not-false, needs) depth 24)
+    (λ c. search (tests, not-true, not-false, needs) depth 24)
+    (λ c. search (tests, not-true, not-false, needs) depth 24)
+    (λ c. search (tests, not-true, not-false, needs) depth 24)
+    (λ c. search (tests, not-true, not-false, needs) depth 24)
+    (λ c. search (tests, not-true, not-false, needs) depth 24))

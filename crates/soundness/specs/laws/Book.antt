@@ -8,7 +8,7 @@ use native.Mathlib.Omega.{arith}
 use lib.Dec.{leb, eqb}
 use lib.ListN.{length, drop, replicate, length-take}
 use lib.Seq.{drop-at}
-use borrow.Author.Tests.{eq-eqb, eqb-true, le-leb, leb-true}
+use borrow.Author.Tests.{eq-eqb, eqb-false, eqb-true, le-leb, leb-true}
 use Rattle.lists.specs.Pick.{pick}
 use Rattle.lists.specs.All.{allBy, pairsBy}
 use Rattle.lists.specs.laws.All.{all-map, all-same, all-both, all-cons, to-each, each-to}
@@ -19,8 +19,8 @@ use Rattle.state.specs.declared.State.{State}
 use Rattle.state.specs.Book.{differ, zeroLease, inUse, laidOut, leasesOf, tableOf, ordered, scopeAt, limitAt, heldAt, committedSum}
 use Rattle.state.specs.laws.Layout.{read-back, table-back}
 use Rattle.soundness.specs.declared.Rules.{Rules}
-use Rattle.soundness.specs.Sound.{tenantsIn, scopesIn, idB, recordsB, countsB, rule1, offsetsB, rule2, rule3, rule4, rule5, rule6, leaseB, noneB, tenantsB, rule7, rule8, apart, rule9, compatible, rule10, limitB, limitsB, rule11, committedB, rule12, zeroFrom, paddedB, blankB, unusedB, layoutB, settingsB, rulesOf, firstLate, firstBroken, brokenOf, soundB, rule19}
-use Rattle.soundness.specs.laws.Code.{drop-map}
+use Rattle.soundness.specs.Sound.{tenantsIn, scopesIn, idB, recordsB, countsB, rule1, offsetsB, rule2, rule3, rule4, rule5, rule6, leaseB, noneB, tenantsB, rule7, rule8, apart, rule9, compatible, rule10, limitB, limitsB, rule11, committedB, rule12, zeroFrom, paddedB, blankB, unusedB, layoutB, settingsB, rulesOf, firstLate, firstRule, firstBroken, brokenOf, soundB, rule19}
+use Rattle.soundness.specs.laws.Code.{drop-map, first-none}
 
 -- ---- the facts
 -- every rule on the settings alone
@@ -73,10 +73,19 @@ unfolding pick
 peel true x n h e = (refl, e)
 peel false x n h e = absurd (omega arith)
 
+peel-last : (n : ℕ) (b : Bool) → pick (eqb n 0) (pick b 0 19) n ≡ 0 → (n ≡ 0) × (b ≡ true)
+unfolding pick
+peel-last n b e = go (eqb n 0) refl e
+  where
+    go : (t : Bool) → eqb n 0 ≡ t → pick t (pick b 0 19) n ≡ 0 → (n ≡ 0) × (b ≡ true)
+    go true q e = (eqb-true n 0 q, peel b 0 19 (omega arith) e .0)
+    go false q e = absurd (eqb-false n 0 q e)
+
 none-broken : (r : Rules) → firstBroken r ≡ 0 → AllRules r
-unfolding firstBroken firstLate
+unfolding firstBroken firstRule firstLate
 none-broken r e =
-    let a = peel (r .limits) _ 1 (omega arith) e in
+    let n = peel-last (firstRule r) (r .layout) e in
+    let a = peel (r .limits) _ 1 (omega arith) (n .0) in
     let b = peel (r .offsets) _ 2 (omega arith) (a .1) in
     let c = peel (r .ranges) _ 3 (omega arith) (b .1) in
     let d = peel (r .pools) _ 4 (omega arith) (c .1) in
@@ -88,7 +97,6 @@ none-broken r e =
     let k = peel (r .periods) _ 10 (omega arith) (j .1) in
     let l = peel (r .holdings) _ 11 (omega arith) (k .1) in
     let m = peel (r .commitments) _ 12 (omega arith) (l .1) in
-    let n = peel (r .layout) _ 19 (omega arith) (m .1) in
     record {
       limits = a .0;
       offsets = b .0;
@@ -102,18 +110,21 @@ none-broken r e =
       periods = k .0;
       holdings = l .0;
       commitments = m .0;
-      layout = n .0;
+      layout = n .1;
     }
 
 wrap : {b : Bool} {x : ℕ} (n : ℕ) → b ≡ true → x ≡ 0 → pick b x n ≡ 0
 unfolding pick
 wrap {b} {x} n e h = ap (λ (t : Bool). pick t x n) e ∙ h
 
-all-hold : (r : Rules) → AllRules r → firstBroken r ≡ 0
-unfolding firstBroken firstLate
-all-hold r a =
+rules-hold : (r : Rules) → AllRules r → firstRule r ≡ 0
+unfolding firstRule firstLate
+rules-hold r a =
     wrap 1 (a .limits) (wrap 2 (a .offsets) (wrap 3 (a .ranges) (wrap 4 (a .pools) (wrap 5 (a .ttls) (wrap 6 (a .reserves)
-    (wrap 7 (a .leases) (wrap 8 (a .identifiers) (wrap 9 (a .owners) (wrap 10 (a .periods) (wrap 11 (a .holdings) (wrap 12 (a .commitments) (wrap 19 (a .layout) refl))))))))))))
+    (wrap 7 (a .leases) (wrap 8 (a .identifiers) (wrap 9 (a .owners) (wrap 10 (a .periods) (wrap 11 (a .holdings) (wrap 12 (a .commitments) refl)))))))))))
+
+all-hold : (r : Rules) → AllRules r → firstBroken r ≡ 0
+all-hold r a = sym (first-none r (sym (rules-hold r a)) refl (a .layout))
 
 pub rules-of : (s : State) (t : LeaseTable) → soundB s t ≡ true → AllRules (rulesOf s t)
 unfolding soundB brokenOf

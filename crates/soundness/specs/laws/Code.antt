@@ -22,15 +22,16 @@ use Rattle.soundness.specs.declared.HoldingRules.{HoldingRules}
 use Rattle.soundness.specs.declared.LoadRules.{LoadRules}
 use Rattle.soundness.specs.declared.Held.{Held}
 use Rattle.soundness.specs.declared.HeldTable.{HeldTable}
-use Rattle.soundness.specs.Sound.{tenantsIn, scopesIn, sizeB, countsB, idB, recordsB, offsetsB, rule3, poolB, rule4, ttlB, rule5, reservesB, rule6, leaseB, tenantsB, rule9, compatible, rule11, rule12, layoutB, paddedB, tailB, settingsB, oneTo, zeroFrom, belowB, scopeOf, unusedB, rule1, rule2, poolsApart, rule7, rule8, rule10, rangeZero, scopeZero, rulesOf, firstBroken, brokenOf, soundB, noneB, apart, holding, limitB, limitsB, committedB, rule19}
+use Rattle.soundness.specs.Sound.{tenantsIn, scopesIn, sizeB, countsB, idB, recordsB, offsetsB, rule3, poolB, rule4, ttlB, rule5, reservesB, rule6, leaseB, tenantsB, rule9, compatible, rule11, rule12, layoutB, paddedB, tailB, settingsB, oneTo, zeroFrom, belowB, scopeOf, unusedB, rule1, rule2, poolsApart, rule7, rule8, rule10, rangeZero, scopeZero, rulesOf, firstRule, firstBroken, brokenOf, soundB, noneB, apart, holding, limitB, limitsB, committedB, rule19}
 use mathlib.Core.Path.{_≡_, refl, sym, ap, ap₂, _∙_, subst}
 use native.Mathlib.Omega.{arith}
 use lib.Bits.{bitOr, or-add-and, and-le-r, and-le-l, or-zero-r}
 use lib.Seq.{drop-cons}
 use native.Mathlib.Numerals.{add-one}
 use lib.Pow.{pow-pos, pow-mono}
-use borrow.Author.Tests.{eq-eqb, ne-eqb, eqb-true, eqb-false, lt-ltb, ltb-true, ltb-false, le-leb, lt-leb, leb-true, leb-false}
+use borrow.Author.Tests.{eq-eqb, ne-eqb, eqb-true, eqb-false, lt-ltb, ltb-true, ltb-false, le-leb, lt-leb, leb-true, leb-false, not-false, not-true}
 use Rattle.lists.specs.Pick.{pick}
+use Rattle.lists.specs.laws.Pick.{pick-eq-got, pick-false, pick-not-eq-got, pick-true}
 use Rattle.lists.specs.Fold.{fold}
 use Rattle.lists.specs.laws.All.{to-same, all-map, pairs-map, pairs-same, all-both, pairs-head, pairs-cons}
 use Rattle.lists.specs.Filter.{filterBy}
@@ -491,6 +492,22 @@ unfolding tableRulesOf
 rules-are s t a b c ea eb ec e =
     let h : c ≡ holdingRulesOf s t = ec ∙ ap (λ (x : TableRules). holdingRulesIn s (x .held)) eb ∙ holdings-in s t in
     e ∙ ap (λ (x : SettingsRules). joinedRules x (b .rules) c) ea ∙ ap₂ (λ (x : TableRules) (y : HoldingRules). joinedRules (settingsRulesOf s) (x .rules) y) eb h ∙ joined-all s t
+
+-- the first broken rule, from the first that a file can break and the layout
+module _ (r : Rules) {n : ℕ} (e : n ≡ firstRule r) where
+  pub first-file : (n ≡ 0 → ⊥) → n ≡ firstBroken r
+  unfolding firstBroken
+  first-file h = pick-not-eq-got _ _ _ _ _ e h e
+
+  pub first-layout : n ≡ 0 → r .layout ≡ false → 19 ≡ firstBroken r
+  unfolding firstBroken
+  first-layout h b = pick-eq-got _ _ _ _ _ e h (pick-false _ _ _ _ b refl)
+
+  pub first-none : n ≡ 0 → r .layout ≡ true → 0 ≡ firstBroken r
+  unfolding firstBroken
+  first-none h b = pick-eq-got _ _ _ _ _ e h (pick-true _ _ _ _ b refl)
+
+pub ruleset firsts = (first-file, first-layout, first-none, not-true, not-false)
 
 pub broken-is : (s : State) (t : LeaseTable) (r : Rules) {x : ℕ} → r ≡ rulesOf s t → x ≡ firstBroken r → x ≡ brokenOf s t
 unfolding brokenOf

@@ -12,4 +12,5 @@ pub mod Copy
 pub mod Down
 pub mod Reordered
 pub mod Arranged
+pub mod Row
 pub mod Some

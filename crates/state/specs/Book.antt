@@ -1,7 +1,7 @@
 -- Definitions: lease records and the lists of leases that they stand for; document 01's book, a `State`, its settings and clock, with a `LeaseTable`.
-use Prim.Native.Nat.{ℕ, _+_, _-_, max}
+use Prim.Native.Nat.{ℕ, _+_, max}
 use mathlib.Core.Bool.{Bool, not, _&&_}
-use mathlib.Core.List.{List, [], _∷_, _++_, map}
+use mathlib.Core.List.{List, [], _∷_, map}
 use lib.Dec.{eqb, ltb}
 use lib.Bits.{bitOr}
 use lib.ListN.{length, replicate, set, take, getD}
@@ -10,6 +10,7 @@ use Rattle.lists.specs.Filter.{filterBy}
 use Rattle.lists.specs.Place.{placeBy}
 use Rattle.lists.specs.Sums.{sumTo}
 use Rattle.lists.specs.Arranged.{insertIn}
+use Rattle.lists.specs.Row.{laidRow, keepRow}
 use Rattle.identifier.specs.Order.{orderOf, sameOf}
 use Rattle.address_set.specs.AddressSet.{offsets}
 use Rattle.state.specs.declared.Lease.{Lease}
@@ -35,7 +36,7 @@ inUse t = take (t .count) (t .leases)
 
 -- the records of a list of leases
 unfoldable pub laidOut : List Lease → TenantLeases
-laidOut p = record { leases = p ++ replicate (16 - length p) zeroLease; count = length p }
+laidOut p = record { leases = laidRow zeroLease 16 p; count = length p }
 
 -- the leases of all tenants, tenant by tenant
 abbrev pub leasesOf : LeaseTable → List (List Lease)
@@ -210,7 +211,7 @@ pushed t l = pick (ltb (t .count) 16) (record { leases = set (t .leases) (t .cou
 
 -- one turn of a filter, of a union
 unfoldable pub keptIf : (Lease → Bool) → TenantLeases → Lease → TenantLeases
-keptIf t h l = pick (t l) (pushed h l) h
+keptIf t h l = keepRow pushed t h l
 
 unfoldable pub addedIf : (Lease → Bool) → ℕ → Lease → ℕ
 addedIf t sum l = pick (t l) (bitOr sum (l .addresses)) sum

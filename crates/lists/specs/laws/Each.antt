@@ -12,6 +12,11 @@ map-append : {A B : Type 0} (f : A → B) (x y : List A) → map f (x ++ y) ≡ 
 map-append f [] y = refl
 map-append {A} {B} f (a ∷ x) y = ap {B = List B} (λ (l : List B). f a ∷ l) (map-append f x y)
 
+-- what one function makes, another takes back
+pub map-back : {A B : Type 0} (f : A → B) (g : B → A) → ((x : A) → g (f x) ≡ x) → (l : List A) → map g (map f l) ≡ l
+map-back f g h [] = refl
+map-back {A} {B} f g h (x ∷ l) = ap₂ {C = List A} (λ (y : A) (r : List A). y ∷ r) (h x) (map-back f g h l)
+
 pub map-set : {A B : Type 0} (f : A → B) (l : List A) (i : ℕ) (x : A) → set (map f l) i (f x) ≡ map f (set l i x)
 map-set f [] i x = refl
 map-set f (y ∷ l) zero x = refl

@@ -1,8 +1,8 @@
 -- Laws: of the elements that pass a test, and of the numbers of a list.
 use mathlib.Core.Path.{_≡_, refl, sym, ap, _∙_}
-use mathlib.Core.Bool.{Bool, true, false}
+use mathlib.Core.Bool.{Bool, not, true, false}
 use mathlib.Core.List.{List, [], _∷_, _++_}
-use Prim.Native.Nat.{ℕ, suc, _≤_}
+use Prim.Native.Nat.{ℕ, suc, _+_, _≤_, _<_}
 use native.Mathlib.Omega.{arith}
 use lib.ListN.{length}
 use lib.Dec.{eqb}
@@ -11,6 +11,7 @@ use Rattle.lists.specs.Pick.{pick}
 use Rattle.lists.specs.All.{allBy, pairsBy}
 use Rattle.lists.specs.laws.All.{all-head, all-cons, pairs-head, pairs-cons}
 use Rattle.lists.specs.Filter.{filterBy, isIn}
+use Rattle.lists.specs.Place.{placeBy}
 
 -- ---- laws of filters
 -- what holds of all holds of those that pass
@@ -68,6 +69,28 @@ filter-length {A} t (x ∷ l) = go (t x) (filter-length t l)
     go : (b : Bool) → length (filterBy t l) ≤ length l → length (pick b (x ∷ filterBy t l) (filterBy t l)) ≤ suc (length l)
     go true ih = omega arith
     go false ih = omega arith
+
+-- those that pass and those that don't are all
+pub filter-both : {A : Type 0} (t : A → Bool) (l : List A) → length (filterBy t l) + length (filterBy (λ x. not (t x)) l) ≡ length l
+unfolding filterBy pick
+filter-both t [] = refl
+filter-both t (x ∷ l) = go (t x) (filter-both t l)
+  where
+    go : (b : Bool) → length (filterBy t l) + length (filterBy (λ x. not (t x)) l) ≡ length l
+        → length (pick b (x ∷ filterBy t l) (filterBy t l)) + length (pick (not b) (x ∷ filterBy (λ x. not (t x)) l) (filterBy (λ x. not (t x)) l)) ≡ suc (length l)
+    go true h = omega arith
+    go false h = omega arith
+
+-- where one is found, fewer are left without its like
+pub filter-fewer : {A : Type 0} (t : A → Bool) (l : List A) → placeBy t l < length l → length (filterBy (λ x. not (t x)) l) < length l
+unfolding placeBy filterBy pick
+filter-fewer t [] h = absurd (omega arith)
+filter-fewer {A} t (x ∷ l) h = go (t x) h (filter-fewer t l)
+  where
+    go : (b : Bool) → pick b 0 (suc (placeBy t l)) < suc (length l) → (placeBy t l < length l → length (filterBy (λ x. not (t x)) l) < length l)
+        → length (pick (not b) (x ∷ filterBy (λ x. not (t x)) l) (filterBy (λ x. not (t x)) l)) < suc (length l)
+    go true h ih = let k = filter-length (λ x. not (t x)) l in omega arith
+    go false h ih = let k = ih (omega arith) in omega arith
 
 -- ---- laws of membership
 -- a number is among those that pass where it is in the list and passes

@@ -19,7 +19,8 @@ use Rattle.state.specs.declared.LeaseTable.{LeaseTable}
 use Rattle.state.specs.declared.State.{State}
 use Rattle.state.specs.declared.TenantLeases.{TenantLeases}
 use Rattle.state.specs.Book.{dropped, inUse, laidOut, leasesOf, liveOf, noLeases, ordered, putAt, tableOf, tenantAt, zeroLease}
-use Rattle.state.specs.laws.Layout.{at-in, dropped-is, endedIn, noLease, read-back}
+use Rattle.lists.specs.laws.Row.{at-in}
+use Rattle.state.specs.laws.Layout.{dropped-is, endedIn, noLease, read-back}
 use Rattle.soundness.specs.declared.Held.{Held}
 use Rattle.soundness.specs.declared.HeldTable.{HeldTable}
 use Rattle.soundness.specs.declared.TableRules.{TableRules}

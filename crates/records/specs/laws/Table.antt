@@ -14,7 +14,8 @@ use Rattle.state.specs.declared.Lease.{Lease}
 use Rattle.state.specs.declared.TenantLeases.{TenantLeases}
 use Rattle.state.specs.declared.LeaseTable.{LeaseTable}
 use Rattle.state.specs.Book.{laidOut, noLeases, tenantAt, zeroLease}
-use Rattle.state.specs.laws.Layout.{noLease, at-in}
+use Rattle.state.specs.laws.Layout.{noLease}
+use Rattle.lists.specs.laws.Row.{at-in}
 use Rattle.soundness.specs.Sound.{unusedB}
 use Rattle.records.specs.Records.{rows, tenantFrom, tableFrom, rowsOf, recordsOf}
 

@@ -4,7 +4,6 @@ use mathlib.Core.List.{List, [], _∷_, _++_, append-nil}
 use mathlib.Core.Path.{_≡_, refl, sym, ap, _∙_, subst}
 use Prim.Native.Nat.{ℕ, suc, _+_, _-_, _≤_, _<_}
 use native.Mathlib.Omega.{arith}
-use lib.Dec.{ltb}
 use lib.ListN.{length, drop, take, getD, length-drop, length-append}
 use lib.Seq.{take-at, getD-drop}
 use borrow.Author.Tests.{lt-ltb}
@@ -15,7 +14,7 @@ use Rattle.format.specs.declared.Place.{Place}
 use Rattle.format.specs.declared.Place.the-variants.{At, Nowhere}
 use Rattle.format.specs.Place.{Stands, EndsWith}
 use Rattle.message.specs.declared.Language.{Language}
-use Rattle.names.specs.Names.{IsList, NameEnds, TagIn, Name, nameFormat, nameAt, fewNames, listFormat, firstBy, orElse, valueOr, namesIn, shown, isFlagged, isAny, inLanguage, defaultOf, chosenOf}
+use Rattle.names.specs.Names.{IsList, NameEnds, TagIn, Name, nameFormat, nameAt, fewNames, firstBy, orElse, valueOr, namesIn, shown, isFlagged, isAny, inLanguage, defaultOf, chosenOf}
 use Rattle.names.specs.laws.Names.{name-lawful}
 
 -- what a list's octets say: a count, and the names

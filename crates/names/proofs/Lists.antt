@@ -1,16 +1,16 @@
 -- Laws: the lists of a section: where list j of the scope at a place begins, and that it is a part of the section.
 use mathlib.Core.Bool.{true}
-use mathlib.Core.List.{List, [], _∷_, _++_, append-nil}
+use mathlib.Core.List.{List, [], _∷_, append-nil}
 use mathlib.Core.Path.{_≡_, refl, sym, ap, ap₂, _∙_, subst}
 use Prim.Native.Nat.{ℕ, suc, _+_, _-_, _≤_, _<_}
 use native.Mathlib.Omega.{arith}
 use native.Mathlib.Nat.{add-zero}
 use lib.ListN.{length, drop, take, getD, length-drop, length-append}
 use lib.Seq.{take-at, getD-drop, drop-drop}
-use Rattle.format.specs.Format.{Format, Got, got, bad, then, readTimes, times, Octets}
+use Rattle.format.specs.Format.{Format, got, bad, readTimes, times, Octets}
 use Rattle.format.specs.declared.Place.the-variants.{At, Nowhere}
 use Rattle.format.specs.Place.{Ends}
-use Rattle.format.specs.laws.Format.{Lawful, then-got, then-with}
+use Rattle.format.specs.laws.Format.{then-got}
 use Rattle.format.specs.laws.Place.{ends-in, ends-value, ends-bad}
 use Rattle.message.specs.declared.Language.{Language}
 use Rattle.names.specs.Names.{Name, listFormat, namesB, namesIn, listsIn, listIn, sentFor, chosenOf, valueOr, shown, Begins, IsList}

@@ -1,6 +1,7 @@
+-- `scope_end` and `scope_names_end`, which call each other: each meets its contract, and the octets left fall (a scope is read at twice what is left
+-- and one more, its names at twice).
 use Prim.Native.Nat.{ℕ, _<_, _+_, _-_}
 use lib.ListN.{length}
-use native.Mathlib.Omega.{arith}
 use borrow.Author.Needs.{needs}
 use Rattle.format.specs.laws.Place.{ends-at, ends-not, ends-in}
 use Rattle.names.proofs.Ends.{scope-done, scope-broken, scope-more, falls-in, falls-back}

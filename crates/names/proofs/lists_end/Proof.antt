@@ -1,7 +1,7 @@
 -- `lists_end` meets its contract: what ends the rest ends the whole.
 use borrow.Author.Needs.{needs}
 use Prim.Native.Nat.{_-_}
-use Rattle.format.specs.laws.Place.{Rest, ends-as, ends-at, ends-not, ends-in, rest-start, rest-next, rest-broken, rest-done}
+use Rattle.format.specs.laws.Place.{Rest, ends-at, ends-not, rest-start, rest-next, rest-broken, rest-done}
 use Rattle.names.specs.Names.{listFormat}
 use Rattle.names.proofs.lists_end.Statement.{statement}
 use Rattle.names.proofs.lists_end.Tie as tie

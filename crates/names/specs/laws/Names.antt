@@ -1,11 +1,11 @@
 -- Laws: of names: what is read is written again, how many octets a section and a name have at most, and that one name at most is sent.
 use mathlib.Core.Bool.{Bool, true, false, _||_}
-use mathlib.Core.List.{List, [], _∷_, _++_}
+use mathlib.Core.List.{List, [], _∷_}
 use mathlib.Core.Path.{_≡_, refl, sym, ap, _∙_, subst}
 use Prim.Native.Nat.{ℕ, zero, suc, _+_, _-_, _*_, _≤_, _<_, min}
 use native.Mathlib.Omega.{arith}
 use native.Mathlib.Nat.{suc-mul, zero-mul}
-use lib.Dec.{eqb, leb, ltb}
+use lib.Dec.{eqb, ltb}
 use lib.ListN.{length, drop, take, getD, length-append}
 use borrow.Author.Tests.{eqb-true, ltb-false, leb-true}
 use Rattle.lists.specs.All.{All}
@@ -14,7 +14,7 @@ use Rattle.format.specs.Format.{Format, Got, got, bad, then, readOctet, readTim
 use Rattle.format.specs.Section.{verbatim}
 use Rattle.format.specs.declared.Place.{Place}
 use Rattle.format.specs.declared.Place.the-variants.{At, Nowhere}
-use Rattle.format.specs.Place.{Stands, Ends, EndsBy, EndsAs, EndsWith, isWhole}
+use Rattle.format.specs.Place.{Ends, EndsBy, EndsAs, EndsWith, isWhole}
 use Rattle.format.specs.laws.Format.{Lawful, octet-lawful, both-lawful, counted-lawful, only-lawful, viewed-lawful, times-lawful, after-lawful, then-got, then-with}
 use Rattle.format.specs.laws.Place.{times-length}
 use Rattle.message.specs.declared.Language.{Language}

@@ -19,6 +19,7 @@ use Rattle.format.specs.laws.Place.{ends-at, ends-not, ends-in, ends-bad, ends-
 use Rattle.message.specs.declared.Language.{Language}
 use Rattle.names.specs.Names.{NameEnds, TagIn, Name, sizesOk, nameOk, plainName, nameFormat, nameAt, fewNames, listFormat, scopesFormat, namesFormat, namesB, same, inLanguage, testOf}
 use Rattle.names.specs.declared.Wanted.{Wanted}
+use Rattle.names.specs.laws.Names.{sizes-most}
 
 abbrev Rest : Format (List ℕ × List ℕ)
 Rest = counted octet ⊗ counted octet
@@ -33,16 +34,6 @@ less a b e = go (ltb b a) refl
     go : (c : Bool) → ltb b a ≡ c → b < a
     go true q = ltb-true _ _ q
     go false q = let z : true ≡ false = sym (le-leb a b (ltb-false _ _ q)) ∙ e in let w : _≡_ {A = ℕ} 0 1 = cc in absurd (omega arith)
-
--- a tag of at most eight octets
-sizes-tag : (flags n k : ℕ) → sizesOk flags n k ≡ true → n ≤ 8
-unfolding sizesOk pick
-sizes-tag flags n k e = go (ltb n 1) (ltb 8 n) refl e
-  where
-    go : (p q : Bool) → ltb 8 n ≡ q → pick p false (pick q false (pick (ltb k 1) false (pick (ltb 32 k) false (eqb flags 0 || eqb flags 128)))) ≡ true → n ≤ 8
-    go true q f e = let w : _≡_ {A = ℕ} 0 1 = cc in absurd (omega arith)
-    go false true f e = let w : _≡_ {A = ℕ} 0 1 = cc in absurd (omega arith)
-    go false false f e = ltb-false 8 n f
 
 pub name-none : (s : List ℕ) (at : ℕ) → at ≤ length s → length s - at < 2 → NameEnds s at Nowhere
 name-none s at h g = go (leb (length s) at) refl
@@ -103,7 +94,7 @@ module _ (s : List ℕ) (at n : ℕ) (h : 2 ≤ length s - at) (en : n ≡ getD 
       pub name-good : {q : Bool} → q ≡ sizesOk (getD s at 0) n k → q ≡ true → NameEnds s at (At (at + (n + 3 + k)))
       unfolding EndsWith TagIn
       name-good e y =
-          let w = sizes-tag (getD s at 0) n k (sym e ∙ y) in
+          let w = sizes-most (getD s at 0) n k (sym e ∙ y) .0 in
           record { ends = record { by = (only-stands stands nameOk (sizes ∙ sym e ∙ y), omega arith, omega arith) }; tag = (omega arith, omega arith) }
 
       pub name-bad : {q : Bool} → q ≡ sizesOk (getD s at 0) n k → q ≡ false → NameEnds s at Nowhere

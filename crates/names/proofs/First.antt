@@ -14,7 +14,7 @@ use Rattle.format.specs.declared.Place.{Place}
 use Rattle.format.specs.declared.Place.the-variants.{At, Nowhere}
 use Rattle.format.specs.Place.{Stands, EndsWith}
 use Rattle.message.specs.declared.Language.{Language}
-use Rattle.names.specs.Names.{IsList, NameEnds, TagIn, Name, nameFormat, nameAt, fewNames, firstBy, orElse, valueOr, namesIn, shown, isFlagged, isAny, inLanguage, defaultOf, chosenOf}
+use Rattle.names.specs.Names.{IsList, NameEnds, TagIn, Name, nameFormat, nameAt, fewNames, firstBy, orElse, valueOr, namesIn, shown, isFlagged, isAny, inLanguage, defaultOf, matchOf, chosenOf}
 use Rattle.names.specs.laws.Names.{name-lawful}
 
 -- what a list's octets say: a count, and the names
@@ -152,6 +152,11 @@ unfolding orElse pick writeAll
 or-second [] ys e h p = p
 or-second (x ∷ xs) ys {a} e h p = let z : length a ≡ suc (length (drop 1 (nameFormat .write x ++ writeAll (nameFormat .write) xs))) = ap length e in absurd (omega arith)
 
+any-is : (l : List Name) → firstBy isAny l ≡ take 1 l
+unfolding firstBy pick
+any-is [] = refl
+any-is (x ∷ l) = refl
+
 module _ (campus : List Name) where
   pub default-flagged : {r : List ℕ} → r ≡ shown (firstBy isFlagged campus) → 0 < length r → r ≡ shown (defaultOf campus)
   unfolding defaultOf
@@ -159,27 +164,30 @@ module _ (campus : List Name) where
 
   pub default-any : {a r : List ℕ} → a ≡ shown (firstBy isFlagged campus) → length a ≤ 0 → r ≡ shown (firstBy isAny campus) → r ≡ shown (defaultOf campus)
   unfolding defaultOf
-  default-any e h p = or-second _ _ e h p
+  default-any e h p = or-second _ _ e h (p ∙ ap shown (any-is campus))
 
 module _ (l : Language) (own campus : List Name) where
-  abbrev asked : List Name
-  asked = orElse (firstBy (inLanguage l) own) (orElse (firstBy (inLanguage l) campus) (defaultOf campus))
+  abbrev match : List Name
+  match = orElse (firstBy (inLanguage l) own) (firstBy (inLanguage l) campus)
 
-  chosen-asked : l .asked ≡ true → chosenOf l own campus ≡ asked
-  unfolding chosenOf pick
-  chosen-asked t = ap (λ (b : Bool). pick b asked (defaultOf campus)) t
+  matched : l .asked ≡ true → matchOf l own campus ≡ match
+  unfolding matchOf pick
+  matched t = ap (λ (b : Bool). pick b match []) t
 
   pub chosen-own : {r : List ℕ} → l .asked ≡ true → r ≡ shown (firstBy (inLanguage l) own) → 0 < length r → r ≡ shown (chosenOf l own campus)
-  chosen-own t e h = or-first _ _ e h ∙ ap shown (sym (chosen-asked t))
+  unfolding chosenOf
+  chosen-own t e h = or-first _ _ (or-first _ _ e h ∙ ap shown (sym (matched t))) h
 
   pub chosen-campus : {a r : List ℕ} → l .asked ≡ true → a ≡ shown (firstBy (inLanguage l) own) → length a ≤ 0 → r ≡ shown (firstBy (inLanguage l) campus) → 0 < length r → r ≡ shown (chosenOf l own campus)
-  chosen-campus t e g p h = or-second _ _ e g (or-first _ _ p h) ∙ ap shown (sym (chosen-asked t))
+  unfolding chosenOf
+  chosen-campus t e g p h = or-first _ _ (or-second _ _ e g p ∙ ap shown (sym (matched t))) h
 
   pub chosen-neither : {a d r : List ℕ} → l .asked ≡ true → a ≡ shown (firstBy (inLanguage l) own) → length a ≤ 0 → d ≡ shown (firstBy (inLanguage l) campus) → length d ≤ 0 → r ≡ shown (defaultOf campus) → r ≡ shown (chosenOf l own campus)
-  chosen-neither t e g p h o = or-second _ _ e g (or-second _ _ p h o) ∙ ap shown (sym (chosen-asked t))
+  unfolding chosenOf
+  chosen-neither t e g p h o = or-second _ _ (or-second _ _ e g p ∙ ap shown (sym (matched t))) h o
 
   pub chosen-default : {r : List ℕ} → l .asked ≡ false → r ≡ shown (defaultOf campus) → r ≡ shown (chosenOf l own campus)
-  unfolding chosenOf pick
-  chosen-default t o = o ∙ ap shown (sym (ap (λ (b : Bool). pick b asked (defaultOf campus)) t))
+  unfolding chosenOf matchOf pick writeAll
+  chosen-default t o = or-second _ _ (ap shown (sym (ap (λ (b : Bool). pick b match []) t))) (let z : 0 ≤ 0 = omega arith in z) o
 
 pub ruleset chosens = (default-flagged, default-any, chosen-own, chosen-campus, chosen-neither, chosen-default)

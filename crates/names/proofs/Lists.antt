@@ -129,7 +129,7 @@ pub names-are : {s : List ℕ} {l : List Name} → IsList s l → IsList s (name
 unfolding valueOr
 names-are {s} {l} v = record { reads = v .reads ∙ ap (λ (x : List Name). got x []) (sym (ap (valueOr []) (v .reads))) }
 
-pub sent-is : {own campus r : List ℕ} (h : ℕ) (s : List ℕ) (place tenant : ℕ) (l : Language) → IsList own (listIn h s place (tenant + 1)) → IsList campus (listIn h s place 0)
-    → r ≡ shown (chosenOf l (namesIn own) (namesIn campus)) → r ≡ shown (sentFor h s place tenant l)
+pub sent-is : {own campus r : List ℕ} (h : ℕ) (s : List ℕ) (tenant place : ℕ) (l : Language) → IsList own (listIn h s place (tenant + 1)) → IsList campus (listIn h s place 0)
+    → r ≡ shown (chosenOf l (namesIn own) (namesIn campus)) → r ≡ shown (sentFor h s tenant place l)
 unfolding sentFor valueOr
-sent-is h s place tenant l a b e = e ∙ ap₂ (λ (x y : List Name). shown (chosenOf l x y)) (ap (valueOr []) (a .reads)) (ap (valueOr []) (b .reads))
+sent-is h s tenant place l a b e = e ∙ ap₂ (λ (x y : List Name). shown (chosenOf l x y)) (ap (valueOr []) (a .reads)) (ap (valueOr []) (b .reads))

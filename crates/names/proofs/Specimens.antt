@@ -9,12 +9,12 @@ use Rattle.lists.specs.All.{allBy}
 use Rattle.format.specs.Format.{readOctet, readTimes, then, writeAll}
 use Rattle.format.specs.Place.{isWhole}
 use Rattle.message.specs.declared.Language.{Language}
-use Rattle.names.specs.Names.{chosenOf, defaultOf, firstBy, inLanguage, listsIn, namesB, orElse, same, sentFor, shown, sizesOk, valueOr}
+use Rattle.names.specs.Names.{chosenOf, defaultOf, firstBy, inLanguage, listsIn, matchOf, namesB, orElse, same, sentFor, shown, sizesOk, valueOr}
 
 name : ℕ → List ℕ → List ℕ → List ℕ
 name flags tag text = flags ∷ length tag ∷ tag ++ length text ∷ text
 
--- the tags de, en and en-GB, tags of 8 octets that differ in the last one, and one that begins with the first of them
+-- the tags de, en and en-GB, and tags of eight octets that differ in the last
 de : List ℕ
 de = 0x64 ∷ 0x65 ∷ []
 
@@ -82,6 +82,9 @@ bad =
     ∷ of 1 0 (1 ∷ 1 ∷ name 0 (replicate 9 0x61) (1 ∷ []))
     ∷ of 1 0 (1 ∷ 1 ∷ name 0 de [])
     ∷ of 1 0 (1 ∷ 1 ∷ name 0 de (replicate 33 7))
+    -- a bad name in a house's list, in a later scope
+    ∷ of 1 1 (1 ∷ 0 ∷ 1 ∷ name 1 de (1 ∷ []))
+    ∷ of 2 1 (2 ∷ 0 ∷ 0 ∷ 0 ∷ 1 ∷ name 1 de (1 ∷ []))
     -- five names
     ∷ of 1 0 (1 ∷ 5 ∷ name 0 de (1 ∷ []) ++ name 0 de (1 ∷ []) ++ name 0 de (1 ∷ []) ++ name 0 de (1 ∷ []) ++ name 0 de (1 ∷ []))
     ∷ []
@@ -94,9 +97,16 @@ bads : allBy isBad bad ≡ true
 unfolding name de en en-GB eight of isGood isBad bad allBy pick namesB isWhole then readOctet readTimes sizesOk
 bads = refl
 
--- a full section has as many octets as one can have
-longest : length (4 ∷ writeAll {A = ℕ} (λ x. 4 ∷ name 0 (eight 0) (replicate 32 7) ++ name 0 (eight 0) (replicate 32 7) ++ name 0 (eight 0) (replicate 32 7) ++ name 0 (eight 0) (replicate 32 7)) (replicate 36 0)) ≡ 6229
-unfolding name eight writeAll
+-- a full section of four scopes and eight houses has as many octets as one can have
+full : List ℕ
+full = 4 ∷ writeAll {A = ℕ} (λ x. 4 ∷ name 0 (eight x) (replicate 32 7) ++ name 0 (eight x) (replicate 32 7) ++ name 0 (eight x) (replicate 32 7) ++ name 0 (eight x) (replicate 32 7)) (replicate 36 0)
+
+full-good : namesB 4 8 full ≡ true
+unfolding name eight full writeAll pick namesB isWhole then readOctet readTimes sizesOk
+full-good = refl
+
+longest : length full ≡ 6229
+unfolding name eight full writeAll
 longest = refl
 
 -- ---- which name is sent: two scopes and two houses
@@ -111,9 +121,13 @@ names =
     ++ 0
     ∷ 1 ∷ name 128 de (10 ∷ [])
 
--- scope 3: the campus has none, and house 1 has one flagged 128
+-- another section of one scope: the campus has none, and house 1 has one flagged 128
 more : List ℕ
 more = 1 ∷ 0 ∷ 1 ∷ name 128 de (11 ∷ []) ++ 0 ∷ []
+
+-- another: the campus has de, flagged 128, and en-GB; house 1 has de twice, the second flagged 128
+twice : List ℕ
+twice = 1 ∷ 2 ∷ name 128 de (12 ∷ []) ++ name 0 en-GB (13 ∷ []) ++ 2 ∷ name 0 de (14 ∷ []) ++ name 128 de (15 ∷ []) ++ 0 ∷ []
 
 silent : Language
 silent = record { asked = false; len = 0; octets = replicate 8 0 }
@@ -136,7 +150,7 @@ sends : ℕ → ℕ → Language → List ℕ → Sent
 sends place tenant language octets = record { section = names; place = place; tenant = tenant; language = language; octets = octets }
 
 isSent : Sent → Bool
-isSent c = same (shown (sentFor 2 (c .section) (c .place) (c .tenant) (c .language))) (c .octets)
+isSent c = same (shown (sentFor 2 (c .section) (c .tenant) (c .place) (c .language))) (c .octets)
 
 sent : List Sent
 sent =
@@ -161,6 +175,10 @@ sent =
     ∷ sends 1 0 (asks de) (name 0 en (8 ∷ []))
     ∷ sends 1 1 (asks de) (name 128 de (10 ∷ []))
     ∷ sends 1 1 (asks en) (name 0 en (8 ∷ []))
+    -- no en and no e, though en-GB begins so; the first match counts, and not the flagged one
+    ∷ record { section = twice; place = 0; tenant = 0; language = asks en; octets = name 128 de (12 ∷ []) }
+    ∷ record { section = twice; place = 0; tenant = 0; language = asks (0x65 ∷ []); octets = name 128 de (12 ∷ []) }
+    ∷ record { section = twice; place = 0; tenant = 0; language = asks de; octets = name 0 de (14 ∷ []) }
     -- neither match nor default: none, though the house's own is flagged 128
     ∷ record { section = more; place = 0; tenant = 0; language = asks en; octets = [] }
     ∷ record { section = more; place = 0; tenant = 0; language = silent; octets = [] }
@@ -168,9 +186,9 @@ sent =
     ∷ []
 
 are-sent : allBy isSent sent ≡ true
-unfolding name de en en-GB eight names more silent asks nine sends isSent sent allBy pick listsIn valueOr then readOctet readTimes writeAll sizesOk sentFor chosenOf defaultOf firstBy orElse inLanguage same
+unfolding name de en en-GB eight names more twice silent asks nine sends isSent sent allBy pick listsIn valueOr then readOctet readTimes writeAll sizesOk sentFor chosenOf matchOf defaultOf firstBy orElse inLanguage same
 are-sent = refl
 
-both-good : allBy isGood (of 2 2 names ∷ of 1 2 more ∷ []) ≡ true
-unfolding name de en en-GB eight names more of isGood allBy pick namesB isWhole then readOctet readTimes sizesOk
-both-good = refl
+all-good : allBy isGood (of 2 2 names ∷ of 1 2 more ∷ of 1 2 twice ∷ []) ≡ true
+unfolding name de en en-GB eight names more twice of isGood allBy pick namesB isWhole then readOctet readTimes sizesOk
+all-good = refl

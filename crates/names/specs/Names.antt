@@ -1,5 +1,5 @@
 -- Definitions: names for the scopes (document 02, W-201): their section, whether octets are one, and the name that is sent.
-use mathlib.Core.Bool.{Bool, true, false, _||_}
+use mathlib.Core.Bool.{Bool, true, false, _&&_, _||_}
 use mathlib.Core.List.{List, [], _∷_}
 use mathlib.Core.Path.{_≡_}
 use Prim.Native.Nat.{ℕ, _+_, _≤_}
@@ -22,14 +22,10 @@ pub record Name : Type 0 where
   pub tag : List ℕ
   pub text : List ℕ
 
--- "flags (0 or 128)"; "names have at most 32 octets, tags at most 8"; by RFC 2730 neither is empty
+-- "tags at most 8", "names have at most 32 octets", by RFC 2730 neither is empty; "flags (0 or 128)", where RFC 2730 ignores the other bits: of the
+-- flags and the two lengths
 unfoldable pub sizesOk : ℕ → ℕ → ℕ → Bool
-sizesOk flags tag text =
-    pick (ltb tag 1) false
-    (pick (ltb 8 tag) false
-    (pick (ltb text 1) false
-    (pick (ltb 32 text) false
-    (eqb flags 0 || eqb flags 128))))
+sizesOk flags tag text = leb 1 tag && (leb tag 8 && (leb 1 text && (leb text 32 && (eqb flags 0 || eqb flags 128))))
 
 abbrev pub nameOk : Name → Bool
 nameOk x = sizesOk (x .flags) (length (x .tag)) (length (x .text))
@@ -48,7 +44,8 @@ fewNames l = leb (length l) 4
 abbrev pub listFormat : Format (List Name)
 listFormat = only fewNames (counted nameFormat)
 
--- "a scope, its names, then the next scope, until both counts run out": n lists for each of k scopes, whose place is all that says which it is
+-- "a scope, its names, then the next scope, until both counts run out": n lists for each of k scopes. Both counts, the section's and the scopes', are
+-- k; no scope is numbered, its place tells which it is
 abbrev pub scopesFormat : ℕ → ℕ → Format (List (List (List Name)))
 scopesFormat k n = times k (times n listFormat)
 
@@ -78,31 +75,25 @@ same [] (y ∷ b) = false
 same (x ∷ a) [] = false
 same (x ∷ a) (y ∷ b) = pick (eqb x y) (same a b) false
 
--- "tags match octet for octet": a tag that is as long as the language asked for, and has its octets
+-- "tags match octet for octet": a tag that is as long as the language asked for, and has its octets. Case counts, unlike in RFC 2730
 unfoldable pub inLanguage : Language → Name → Bool
 inLanguage l x = pick (eqb (length (x .tag)) (l .len)) (same (x .tag) (take (l .len) (l .octets))) false
 
 abbrev pub isFlagged : Name → Bool
 isFlagged x = eqb (x .flags) 128
 
-abbrev pub isAny : Name → Bool
-isAny x = true
-
-abbrev pub testOf : Wanted → Language → Name → Bool
-testOf InLanguage l = inLanguage l
-testOf Flagged l = isFlagged
-testOf Any l = isAny
-
 -- "the default is the first campus name flagged 128, else the first"
 unfoldable pub defaultOf : List Name → List Name
-defaultOf campus = orElse (firstBy isFlagged campus) (firstBy isAny campus)
+defaultOf campus = orElse (firstBy isFlagged campus) (take 1 campus)
 
--- "the house's own list, or .. the campus list where the house has none in the language asked for by option 8, and the campus default
--- otherwise"; "a scope with neither match nor default sends none"
+-- "the part of the house's own list, or of the campus list where the house has none in the language asked for by option 8"; without option 8 no
+-- language is asked for, and none matches
+unfoldable pub matchOf : Language → List Name → List Name → List Name
+matchOf l own campus = pick (l .asked) (orElse (firstBy (inLanguage l) own) (firstBy (inLanguage l) campus)) []
+
+-- ".. and the campus default otherwise"; "a scope with neither match nor default sends none". (Without option 8 RFC 2730 has all names sent.)
 unfoldable pub chosenOf : Language → List Name → List Name → List Name
-chosenOf l own campus =
-    pick (l .asked) (orElse (firstBy (inLanguage l) own) (orElse (firstBy (inLanguage l) campus) (defaultOf campus)))
-    (defaultOf campus)
+chosenOf l own campus = orElse (matchOf l own campus) (defaultOf campus)
 
 -- ---- of octets
 
@@ -125,13 +116,22 @@ listIn h s place j = getD (getD (listsIn h s) place []) j []
 
 -- the name that is sent to the tenant at a place (from 0) for the scope at a place
 unfoldable pub sentFor : ℕ → List ℕ → ℕ → ℕ → Language → List Name
-sentFor h s place tenant l = chosenOf l (listIn h s place (tenant + 1)) (listIn h s place 0)
+sentFor h s tenant place l = chosenOf l (listIn h s place (tenant + 1)) (listIn h s place 0)
 
--- its octets, as they stand in the section; none has none
+-- its octets, as they stand in the section; no name has no octets
 abbrev pub shown : List Name → List ℕ
 shown l = writeAll (nameFormat .write) l
 
 -- ---- what the readers promise
+
+-- what the name that is looked for has to pass
+abbrev pub isAny : Name → Bool
+isAny x = true
+
+abbrev pub testOf : Wanted → Language → Name → Bool
+testOf InLanguage l = inLanguage l
+testOf Flagged l = isFlagged
+testOf Any l = isAny
 
 -- the name whose first octet is at a place, by its lengths
 abbrev pub nameAt : List ℕ → ℕ → Name

@@ -333,7 +333,7 @@ pub fn for_scope(
     language: Language,
 ) -> &[u8]
     requires { ⌜ (namesB (getD (now names) 0 0) tenants (now names) ≡ true) × ((place < getD (now names) 0 0) × (tenant < tenants)) ⌝ }
-    ensures { λ r. ⌜ now r ≡ shown (sentFor tenants (now (names .entry)) place tenant language) ⌝ }
+    ensures { λ r. ⌜ now r ≡ shown (sentFor tenants (now (names .entry)) tenant place language) ⌝ }
 {
     let own = list_part(names, tenants, place, tenant + 1);
     let campus = list_part(names, tenants, place, 0);

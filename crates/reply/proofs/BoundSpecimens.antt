@@ -13,7 +13,7 @@ use Rattle.message.specs.Values.{foundAt}
 use Rattle.message.specs.Walk.{exactlyFilled, layoutOk, stepOf, optionTaken, valueOk, walkFrom, walkOf}
 use Rattle.message.specs.declared.Stage.the-variants.{Done}
 use Rattle.format.specs.Format.{readOctet, readTimes, then, writeAll}
-use Rattle.names.specs.Names.{chosenOf, defaultOf, firstBy, listsIn, orElse, sentFor, sizesOk, valueOr}
+use Rattle.names.specs.Names.{chosenOf, defaultOf, firstBy, listsIn, matchOf, orElse, sentFor, sizesOk, valueOr}
 use Rattle.reply.specs.Ranges.{addressesIn, rangesFrom}
 use Rattle.reply.specs.Reply.{infoAckOf, leaseAckOf, messageOctets, nakOf, offerOf, optionsOctets, rangesOctets, releaseAckOf, scopesOctets}
 use Rattle.reply.specs.declared.Head.{Head}
@@ -48,7 +48,7 @@ unfolding head terms bit offsetsFrom joined fewestRanges rangesOctets optionsOct
 longest-ack = refl
 
 longest-info : length (infoAckOf head info names) ≡ 293
-unfolding head info name names scopesOctets optionsOctets messageOctets infoAckOf sentFor chosenOf defaultOf firstBy orElse listsIn valueOr sizesOk then readOctet readTimes writeAll pick
+unfolding head info name names scopesOctets optionsOctets messageOctets infoAckOf sentFor chosenOf matchOf defaultOf firstBy orElse listsIn valueOr sizesOk then readOctet readTimes writeAll pick
 longest-info = refl
 
 longest-release : length (releaseAckOf head) ≡ 68

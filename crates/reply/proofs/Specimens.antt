@@ -8,7 +8,7 @@ use Rattle.lists.specs.Pick.{pick}
 use Rattle.lists.specs.All.{allBy}
 use Rattle.address_set.specs.AddressSet.{bit, offsetsFrom, joined, fewestRanges, offsets}
 use Rattle.format.specs.Format.{readOctet, readTimes, then, writeAll}
-use Rattle.names.specs.Names.{chosenOf, defaultOf, firstBy, inLanguage, listsIn, orElse, same, sentFor, sizesOk, valueOr}
+use Rattle.names.specs.Names.{chosenOf, defaultOf, firstBy, inLanguage, listsIn, matchOf, orElse, same, sentFor, sizesOk, valueOr}
 use Rattle.reply.specs.Reply.{optionsOctets, messageOctets, rangesOctets, scopesOctets, leaseAckOf, releaseAckOf, infoAckOf, nakOf}
 use Rattle.reply.specs.declared.Head.{Head}
 use Rattle.reply.specs.declared.Terms.{Terms}
@@ -48,6 +48,33 @@ unnamed = 1 ∷ 0 ∷ 0 ∷ 0 ∷ []
 
 named : List ℕ
 named = 1 ∷ 2 ∷ 0 ∷ 2 ∷ 0x64 ∷ 0x65 ∷ 1 ∷ 0x62 ∷ 128 ∷ 2 ∷ 0x65 ∷ 0x6E ∷ 1 ∷ 0x61 ∷ 1 ∷ 128 ∷ 2 ∷ 0x64 ∷ 0x65 ∷ 2 ∷ 0x63 ∷ 0x64 ∷ 0 ∷ []
+
+-- the house has a name, but the campus none, and it is asked for in no language
+own : List ℕ
+own = 1 ∷ 0 ∷ 1 ∷ 128 ∷ 2 ∷ 0x64 ∷ 0x65 ∷ 1 ∷ 0x62 ∷ 0 ∷ []
+
+-- two scopes, named or not: the campus names "a" and "b", or the first alone
+first : List ℕ
+first = 1 ∷ 0 ∷ 2 ∷ 0x65 ∷ 0x6E ∷ 1 ∷ 0x61 ∷ 0 ∷ 0 ∷ []
+
+second : List ℕ
+second = 1 ∷ 0 ∷ 2 ∷ 0x64 ∷ 0x65 ∷ 1 ∷ 0x62 ∷ 0 ∷ 0 ∷ []
+
+scope : List ℕ
+scope = 0xEF ∷ 0xC0 ∷ 0 ∷ 0 ∷ 0xEF ∷ 0xC0 ∷ 0 ∷ 3 ∷ 15 ∷ []
+
+-- the scope twice
+doubled : Info → Info
+doubled i = record {
+  scopes = replicate 4 (record { lowest = 0xEFC00000; size = 4; ttl = 15 });
+  count = 2;
+  «list_asked» = true;
+  clock = i .clock;
+  «time_asked» = false;
+  tenants = i .tenants;
+  tenant = i .tenant;
+  language = i .language;
+}
 
 -- the same, asking for de
 inGerman : Info → Info
@@ -104,8 +131,23 @@ table =
       octets = infoAckOf (head false) (inGerman (info true false)) named;
       expected = front 5 ++ 0 ∷ 9 ∷ 0 ∷ 18 ∷ 1 ∷ 0xEF ∷ 0xC0 ∷ 0 ∷ 0 ∷ 0xEF ∷ 0xC0 ∷ 0 ∷ 3 ∷ 15 ∷ 1 ∷ 128 ∷ 2 ∷ 0x64 ∷ 0x65 ∷ 2 ∷ 0x63 ∷ 0x64 ∷ end;
     }
+    -- neither match nor default: number 0, though the house has a name
+    ∷ record { octets = infoAckOf (head false) (info true false) own; expected = front 5 ++ 0 ∷ 9 ∷ 0 ∷ 11 ∷ 1 ∷ scope ++ 0 ∷ end }
+    -- two scopes: each with its own name; the first alone with one; the second alone
+    ∷ record {
+      octets = infoAckOf (head false) (doubled (info true false)) (2 ∷ first ++ second);
+      expected = front 5 ++ 0 ∷ 9 ∷ 0 ∷ 33 ∷ 2 ∷ scope ++ 1 ∷ 0 ∷ 2 ∷ 0x65 ∷ 0x6E ∷ 1 ∷ 0x61 ∷ scope ++ 1 ∷ 0 ∷ 2 ∷ 0x64 ∷ 0x65 ∷ 1 ∷ 0x62 ∷ end;
+    }
+    ∷ record {
+      octets = infoAckOf (head false) (doubled (info true false)) (2 ∷ first ++ 0 ∷ 0 ∷ 0 ∷ []);
+      expected = front 5 ++ 0 ∷ 9 ∷ 0 ∷ 27 ∷ 2 ∷ scope ++ 1 ∷ 0 ∷ 2 ∷ 0x65 ∷ 0x6E ∷ 1 ∷ 0x61 ∷ scope ++ 0 ∷ end;
+    }
+    ∷ record {
+      octets = infoAckOf (head false) (doubled (info true false)) (2 ∷ 0 ∷ 0 ∷ 0 ∷ second);
+      expected = front 5 ++ 0 ∷ 9 ∷ 0 ∷ 27 ∷ 2 ∷ scope ++ 0 ∷ scope ++ 1 ∷ 0 ∷ 2 ∷ 0x64 ∷ 0x65 ∷ 1 ∷ 0x62 ∷ end;
+    }
     ∷ []
 
 specimens : allBy holds table ≡ true
-unfolding pick allBy same holds head terms info unnamed named inGerman front end features clock table bit offsetsFrom joined fewestRanges optionsOctets messageOctets rangesOctets scopesOctets leaseAckOf releaseAckOf infoAckOf nakOf sentFor chosenOf defaultOf firstBy orElse inLanguage listsIn valueOr sizesOk then readOctet readTimes writeAll
+unfolding pick allBy same holds head terms info unnamed named own first second scope doubled inGerman front end features clock table bit offsetsFrom joined fewestRanges optionsOctets messageOctets rangesOctets scopesOctets leaseAckOf releaseAckOf infoAckOf nakOf sentFor chosenOf matchOf defaultOf firstBy orElse inLanguage listsIn valueOr sizesOk then readOctet readTimes writeAll
 specimens = refl

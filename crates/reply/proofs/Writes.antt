@@ -268,7 +268,7 @@ scopes-put f l count n m {b₀ = b₀} {b₁ = b₁} {b₂ = b₂} {b₃ = b₃}
 
 -- the scopes of a reply, with their names
 pub names-length : (i : Info) (names : List ℕ) → length (scopesOctets (nameFor i names) 0 (scopeEntriesOf i)) ≤ 53 * length (scopeEntriesOf i)
-names-length i names = scopes-length (nameFor i names) 0 (scopeEntriesOf i) (λ place. sent-most (i .tenants) names place (i .tenant) (i .language))
+names-length i names = scopes-length (nameFor i names) 0 (scopeEntriesOf i) (λ place. sent-most (i .tenants) names (i .tenant) place (i .language))
 
 -- its length fits two octets
 pub list-fits : (f : ℕ → List Name) (l : List ScopeEntry) (n at : ℕ) {b₀ b₁ : List ℕ} {end : ℕ} → ((place : ℕ) → length (shown (f place)) ≤ 43) → n ≤ 4 → Wrote b₀ (at + 5) (scopesOctets f 0 (take n l)) b₁ end
@@ -290,8 +290,8 @@ sendable-place i names place s h = let e = good-opened (i .count) (i .tenants) n
 pub scope-put : (i : Info) (names : List ℕ) (place : ℕ) (e : ScopeEntry) {name : List ℕ} (n c : ℕ) {b₀ b₁ b₂ : List ℕ} {at a r : ℕ} → name ≡ shown (nameFor i names place) → n ≡ length name → c ≡ min n 1
     → at ≤ length b₀ → Wrote b₀ at (entryOctets e c []) b₁ a → Wrote b₁ a (take n name) b₂ r → Wrote b₀ at (scopeOctets e (nameFor i names place)) b₂ r
 scope-put i names place e {name} n c p l k h v w =
-    let count : c ≡ length (nameFor i names place) = k ∙ ap (λ (j : ℕ). min j 1) (l ∙ ap length p) ∙ sent-count (i .tenants) names place (i .tenant) (i .language) in
+    let count : c ≡ length (nameFor i names place) = k ∙ ap (λ (j : ℕ). min j 1) (l ∙ ap length p) ∙ sent-count (i .tenants) names (i .tenant) place (i .language) in
     wrote-as (ap₂ (λ (j : ℕ) (x : List ℕ). entryOctets e j x) count (take-all n name (omega arith) ∙ p)) (wrote-joined h v w)
 
 pub name-short : (i : Info) (names : List ℕ) (place : ℕ) {name : List ℕ} → name ≡ shown (nameFor i names place) → length name ≤ 43
-name-short i names place p = let m = sent-most (i .tenants) names place (i .tenant) (i .language) in let e = ap length p in omega arith
+name-short i names place p = let m = sent-most (i .tenants) names (i .tenant) place (i .language) in let e = ap length p in omega arith

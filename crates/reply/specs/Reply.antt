@@ -87,7 +87,7 @@ scopesOctets names place (e ∷ es) = scopeOctets e (names place) ++ scopesOctet
 
 -- "the name sent" to the client's house for the scope at a place, one or none, of the octets of a section of names
 abbrev pub nameFor : Info → List ℕ → ℕ → List Name
-nameFor i names place = sentFor (i .tenants) names place (i .tenant) (i .language)
+nameFor i names place = sentFor (i .tenants) names (i .tenant) place (i .language)
 
 -- the names are good ones and the client's house is one of those that they are for, as tests 1 and 3 have shown
 abbrev pub Sendable : Info → List ℕ → Type 0

@@ -1,8 +1,8 @@
--- `lists_end` meets its contract: what ends the rest ends the whole.
-use borrow.Author.Needs.{needs}
+-- `lists_end` meets its contract: what ends the rest ends the whole (`Rest`).
 use Prim.Native.Nat.{_-_}
-use Rattle.format.specs.laws.Place.{Rest, ends-at, ends-not, rest-start, rest-next, rest-broken, rest-done}
+use Rattle.format.specs.laws.Place.{Rest, ends-at, ends-not, rest-broken, rest-done, rest-next, rest-start}
 use Rattle.names.specs.Names.{listFormat}
+use borrow.Author.Needs.{needs}
 use Rattle.names.proofs.lists_end.Statement.{statement}
 use Rattle.names.proofs.lists_end.Tie as tie
 
@@ -12,32 +12,17 @@ Inv-loop s at n here₀ i₀ here i = Rest listFormat s at n here i
 abbrev μ-loop : tie.MeasureT-loop
 μ-loop s at n here₀ i₀ here i = n - i
 
+-- src/lib.rt:114:5
 loop-holds : tie.Need-loop-holds Inv-loop μ-loop
 loop-holds c = rest-start (search needs)
 
-list-end-requires : tie.Need-list-end-requires Inv-loop μ-loop
-list-end-requires c κs = search needs
-
-enum-known-end : tie.Need-enum-known-end Inv-loop μ-loop
-enum-known-end c = search needs
-
-enum-told : tie.Need-enum-told Inv-loop μ-loop
-enum-told c = search needs
-
+-- src/lib.rt:117:13
 returns : tie.Need-returns Inv-loop μ-loop
 returns c = rest-broken (c .before .before .before .before .loop .inv) (search needs) (ends-not (c .before .before .list-end .ensures) (c .enum-told .given .1))
 
-add-i : tie.Need-add-i Inv-loop μ-loop
-add-i c = search needs
-
-loop-less : tie.Need-loop-less Inv-loop μ-loop
-loop-less c = search needs
-
+-- src/lib.rt:114:5
 loop-again : tie.Need-loop-again Inv-loop μ-loop
 loop-again c = rest-next (c .before .before .before .before .before .loop .inv) (search needs) (ends-at (c .before .before .before .list-end .ensures) (c .before .end .given .1))
-
-returns-2 : tie.Need-returns-2 Inv-loop μ-loop
-returns-2 c = search (rest-done, needs)
 
 pub lists-end-spec : {M : Type 1} → statement M
 lists-end-spec =
@@ -46,11 +31,11 @@ lists-end-spec =
     Inv-loop
     μ-loop
     loop-holds
-    list-end-requires
-    enum-known-end
-    enum-told
+    (λ c κs. search (rest-done, needs))  -- src/lib.rt:115:13 list-end-requires
+    (λ c. search (rest-done, needs))  -- src/lib.rt:116:23 enum-known-end
+    (λ c. search (rest-done, needs))  -- src/lib.rt:117:13 enum-told
     returns
-    add-i
-    loop-less
+    (λ c. search (rest-done, needs))  -- src/lib.rt:120:9 add-i
+    (λ c. search (rest-done, needs))  -- src/lib.rt:114:5 loop-less
     loop-again
-    returns-2)
+    (λ c. search (rest-done, needs)))  -- src/lib.rt:108:1 returns-2

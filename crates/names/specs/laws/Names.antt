@@ -1,13 +1,13 @@
 -- Laws: of names: what is read is written again, how many octets a section and a name have at most, and that one name at most is sent.
-use mathlib.Core.Bool.{Bool, true, false, _||_}
+use mathlib.Core.Bool.{Bool, true, false, _&&_, _||_}
 use mathlib.Core.List.{List, [], _∷_}
 use mathlib.Core.Path.{_≡_, refl, sym, ap, _∙_, subst}
 use Prim.Native.Nat.{ℕ, zero, suc, _+_, _-_, _*_, _≤_, _<_, min}
 use native.Mathlib.Omega.{arith}
 use native.Mathlib.Nat.{suc-mul, zero-mul}
-use lib.Dec.{eqb, ltb}
+use lib.Dec.{eqb, leb, ltb}
 use lib.ListN.{length, drop, take, getD, length-append}
-use borrow.Author.Tests.{eqb-true, ltb-false, leb-true}
+use borrow.Author.Tests.{eqb-true, leb-true}
 use Rattle.lists.specs.All.{All}
 use Rattle.lists.specs.Pick.{pick}
 use Rattle.format.specs.Format.{Format, Got, got, bad, then, readOctet, readTimes, octet, _⊗_, times, counted, only, writeAll}
@@ -18,7 +18,7 @@ use Rattle.format.specs.Place.{Ends, EndsBy, EndsAs, EndsWith, isWhole}
 use Rattle.format.specs.laws.Format.{Lawful, octet-lawful, both-lawful, counted-lawful, only-lawful, viewed-lawful, times-lawful, after-lawful, then-got, then-with}
 use Rattle.format.specs.laws.Place.{times-length}
 use Rattle.message.specs.declared.Language.{Language}
-use Rattle.names.specs.Names.{Name, sizesOk, nameOk, plainName, nameFormat, fewNames, listFormat, scopesFormat, namesFormat, namesB, firstBy, orElse, isFlagged, isAny, inLanguage, defaultOf, chosenOf, valueOr, listsIn, listIn, sentFor, shown}
+use Rattle.names.specs.Names.{Name, sizesOk, nameOk, plainName, nameFormat, fewNames, listFormat, scopesFormat, namesFormat, namesB, firstBy, orElse, isFlagged, inLanguage, defaultOf, matchOf, chosenOf, valueOr, listsIn, listIn, sentFor, shown}
 
 octets-lawful : Lawful (counted octet)
 octets-lawful = counted-lawful octet-lawful
@@ -87,16 +87,18 @@ octets-take s xs r e =
     let c = times-takes octet 1 octet-takes (length xs) t xs r b in
     omega arith
 
-sizes-most : (flags n k : ℕ) → sizesOk flags n k ≡ true → (n ≤ 8) × (k ≤ 32)
-unfolding sizesOk pick
-sizes-most flags n k e = go (ltb n 1) (ltb 8 n) (ltb k 1) (ltb 32 k) refl refl e
-  where
-    go : (a b c d : Bool) → ltb 8 n ≡ b → ltb 32 k ≡ d → pick a false (pick b false (pick c false (pick d false (eqb flags 0 || eqb flags 128)))) ≡ true → (n ≤ 8) × (k ≤ 32)
-    go true b c d p q e = let w : _≡_ {A = ℕ} 0 1 = cc in absurd (omega arith)
-    go false true c d p q e = let w : _≡_ {A = ℕ} 0 1 = cc in absurd (omega arith)
-    go false false true d p q e = let w : _≡_ {A = ℕ} 0 1 = cc in absurd (omega arith)
-    go false false false true p q e = let w : _≡_ {A = ℕ} 0 1 = cc in absurd (omega arith)
-    go false false false false p q e = (ltb-false 8 n p, ltb-false 32 k q)
+split : (a b : Bool) → (a && b) ≡ true → (a ≡ true) × (b ≡ true)
+split true b e = (refl, e)
+split false b e = let z : _≡_ {A = ℕ} 0 1 = cc in absurd (omega arith)
+
+pub sizes-most : (flags n k : ℕ) → sizesOk flags n k ≡ true → (n ≤ 8) × (k ≤ 32)
+unfolding sizesOk
+sizes-most flags n k e =
+    let (a, e1) = split (leb 1 n) (leb n 8 && (leb 1 k && (leb k 32 && (eqb flags 0 || eqb flags 128)))) e in
+    let (b, e2) = split (leb n 8) (leb 1 k && (leb k 32 && (eqb flags 0 || eqb flags 128))) e1 in
+    let (c, e3) = split (leb 1 k) (leb k 32 && (eqb flags 0 || eqb flags 128)) e2 in
+    let (d, e4) = split (leb k 32) (eqb flags 0 || eqb flags 128) e3 in
+    (leb-true n 8 b, leb-true k 32 d)
 
 both-take : {A B : Type 0} (m : A → ℕ) (n : B → ℕ) (f : Format A) (g : Format B) → Takes f m → Takes g n → Takes (f ⊗ g) (λ p. m (p .0) + n (p .1))
 both-take {A} {B} m n f g tf tg s p r e =
@@ -228,13 +230,22 @@ else-one a b p q = go (ltb 0 (length a))
     go true = p
     go false = q
 
+take-one : (l : List Name) → All Ok l → One (take 1 l)
+unfolding All
+take-one [] a = record { few = omega arith; ok = tt }
+take-one (x ∷ l) a = record { few = omega arith; ok = (a .0, tt) }
+
+none-one : One []
+unfolding All
+none-one = record { few = omega arith; ok = tt }
+
 default-one : (l : List Name) → All Ok l → One (defaultOf l)
 unfolding defaultOf
-default-one l a = else-one _ _ (first-one isFlagged l a) (first-one isAny l a)
+default-one l a = else-one _ _ (first-one isFlagged l a) (take-one l a)
 
-sent-one : (h : ℕ) (s : List ℕ) (place tenant : ℕ) (l : Language) → One (sentFor h s place tenant l)
-unfolding sentFor chosenOf pick
-sent-one h s place tenant l = go (l .asked)
+sent-one : (h : ℕ) (s : List ℕ) (tenant place : ℕ) (l : Language) → One (sentFor h s tenant place l)
+unfolding sentFor chosenOf matchOf pick
+sent-one h s tenant place l = else-one _ _ (go (l .asked)) (default-one campus (list-in-ok h s place 0))
   where
     own : List Name
     own = listIn h s place (tenant + 1)
@@ -242,9 +253,9 @@ sent-one h s place tenant l = go (l .asked)
     campus : List Name
     campus = listIn h s place 0
 
-    go : (b : Bool) → One (pick b (orElse (firstBy (inLanguage l) own) (orElse (firstBy (inLanguage l) campus) (defaultOf campus))) (defaultOf campus))
-    go true = else-one _ _ (first-one (inLanguage l) own (list-in-ok h s place (tenant + 1))) (else-one _ _ (first-one (inLanguage l) campus (list-in-ok h s place 0)) (default-one campus (list-in-ok h s place 0)))
-    go false = default-one campus (list-in-ok h s place 0)
+    go : (b : Bool) → One (pick b (orElse (firstBy (inLanguage l) own) (firstBy (inLanguage l) campus)) [])
+    go true = else-one _ _ (first-one (inLanguage l) own (list-in-ok h s place (tenant + 1))) (first-one (inLanguage l) campus (list-in-ok h s place 0))
+    go false = none-one
 
 octets-long : (l : List ℕ) → length (writeAll (octet .write) l) ≡ length l
 unfolding writeAll
@@ -266,13 +277,13 @@ shown-most [] o = omega arith
 shown-most (x ∷ []) o = let a = name-most x (o .ok .0) in let b = length-append (nameFormat .write x) [] in omega arith
 shown-most (x ∷ y ∷ l) o = let h = o .few in absurd (omega arith)
 
-pub sent-most : (h : ℕ) (s : List ℕ) (place tenant : ℕ) (l : Language) → length (shown (sentFor h s place tenant l)) ≤ 43
-sent-most h s place tenant l = shown-most _ (sent-one h s place tenant l)
+pub sent-most : (h : ℕ) (s : List ℕ) (tenant place : ℕ) (l : Language) → length (shown (sentFor h s tenant place l)) ≤ 43
+sent-most h s tenant place l = shown-most _ (sent-one h s tenant place l)
 
 -- how many names are sent is seen from their octets
-pub sent-count : (h : ℕ) (s : List ℕ) (place tenant : ℕ) (l : Language) → min (length (shown (sentFor h s place tenant l))) 1 ≡ length (sentFor h s place tenant l)
+pub sent-count : (h : ℕ) (s : List ℕ) (tenant place : ℕ) (l : Language) → min (length (shown (sentFor h s tenant place l))) 1 ≡ length (sentFor h s tenant place l)
 unfolding writeAll
-sent-count h s place tenant l = go (sentFor h s place tenant l) (sent-one h s place tenant l .few)
+sent-count h s tenant place l = go (sentFor h s tenant place l) (sent-one h s tenant place l .few)
   where
     go : (ns : List Name) → length ns ≤ 1 → min (length (shown ns)) 1 ≡ length ns
     go [] f = omega arith

@@ -15,11 +15,11 @@ put-scopes-requires c κs = (search needs, (c .before .before .before .before .p
 
 -- src/lib.rt:247:58
 cast-put-code : tie.Need-cast-put-code
-cast-put-code c = let a = c .before .before .before .before .before .before .before .before .args in let f = list-fits (nameFor (a .info) (now (a .names))) (a .info .scopes) (c .before .before .before .before .before .cut4 .result) (a .at) (λ place. sent-most _ _ place _ _) (search needs) (c .before .before .before .put-scopes .ensures) in search needs
+cast-put-code c = let a = c .before .before .before .before .before .before .before .before .args in let f = list-fits (nameFor (a .info) (now (a .names))) (a .info .scopes) (c .before .before .before .before .before .cut4 .result) (a .at) (λ place. sent-most _ _ _ place _) (search needs) (c .before .before .before .put-scopes .ensures) in search needs
 
 -- src/lib.rt:241:1
 returns : tie.Need-returns
-returns c = let at-put-u8 = c .before .before in let at-put-code = at-put-u8 .before .before .before .before in let at-put-scopes = at-put-code .before .before .before .before in let at-cut4 = at-put-scopes .before .before in let start = at-cut4 .before .before .before in let a = start .args in scopes-put (nameFor (a .info) (now (a .names))) _ (a .info .count) _ _ (λ place. sent-most _ _ place _ _) (search (unmapped, start .good .1 .1 .0, needs)) (at-cut4 .cut4 .ensures) (search needs) (search needs) (at-put-scopes .put-scopes .ensures) refl (at-put-code .put-code .ensures) (at-put-u8 .put-u8 .ensures)
+returns c = let at-put-u8 = c .before .before in let at-put-code = at-put-u8 .before .before .before .before in let at-put-scopes = at-put-code .before .before .before .before in let at-cut4 = at-put-scopes .before .before in let start = at-cut4 .before .before .before in let a = start .args in scopes-put (nameFor (a .info) (now (a .names))) _ (a .info .count) _ _ (λ place. sent-most _ _ _ place _) (search (unmapped, start .good .1 .1 .0, needs)) (at-cut4 .cut4 .ensures) (search needs) (search needs) (at-put-scopes .put-scopes .ensures) refl (at-put-code .put-code .ensures) (at-put-u8 .put-u8 .ensures)
 
 pub put-scope-list-spec : {M : Type 1} → statement M
 put-scope-list-spec =

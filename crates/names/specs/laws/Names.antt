@@ -6,8 +6,9 @@ use Prim.Native.Nat.{ℕ, zero, suc, _+_, _-_, _*_, _≤_, _<_, min}
 use native.Mathlib.Omega.{arith}
 use native.Mathlib.Nat.{suc-mul, zero-mul}
 use lib.Dec.{eqb, leb, ltb}
-use lib.ListN.{length, drop, take, getD, length-append}
-use borrow.Author.Tests.{eqb-true, leb-true}
+use lib.Seq.{length-take-le, take-at}
+use lib.ListN.{replicate, length-drop, length, drop, take, getD, length-append}
+use borrow.Author.Tests.{eqb-false, eqb-true, leb-true}
 use Rattle.lists.specs.All.{All}
 use Rattle.lists.specs.Pick.{pick}
 use Rattle.format.specs.Format.{Format, Got, got, bad, then, readOctet, readTimes, octet, _⊗_, times, counted, only, writeAll}
@@ -17,8 +18,10 @@ use Rattle.format.specs.declared.Place.the-variants.{At, Nowhere}
 use Rattle.format.specs.Place.{Ends, EndsBy, EndsAs, EndsWith, isWhole}
 use Rattle.format.specs.laws.Format.{Lawful, octet-lawful, both-lawful, counted-lawful, only-lawful, viewed-lawful, times-lawful, after-lawful, then-got, then-with}
 use Rattle.format.specs.laws.Place.{times-length}
+use Rattle.message.specs.Values.{languageAt, padded}
+use Rattle.message.specs.Walk.{afterAt, lengthAt}
 use Rattle.message.specs.declared.Language.{Language}
-use Rattle.names.specs.Names.{Name, sizesOk, nameOk, plainName, nameFormat, fewNames, listFormat, scopesFormat, namesFormat, namesB, firstBy, orElse, isFlagged, inLanguage, defaultOf, matchOf, chosenOf, valueOr, listsIn, listIn, sentFor, shown}
+use Rattle.names.specs.Names.{Name, sizesOk, nameOk, plainName, nameFormat, fewNames, listFormat, scopesFormat, namesFormat, namesB, firstBy, orElse, same, isFlagged, inLanguage, defaultOf, matchOf, chosenOf, valueOr, listsIn, listIn, sentFor, shown}
 
 octets-lawful : Lawful (counted octet)
 octets-lawful = counted-lawful octet-lawful
@@ -303,3 +306,39 @@ section-octets k h s at {r} v = record { by = go r (v .by) }
         let e : f .read (drop at s) ≡ got (take (length (drop at s) - length (drop n s)) (drop at s)) (drop n s) = then-with _ _ _ (p .reads) in
         (record { reads = e ∙ ap (λ (o : List ℕ). got o (drop n s)) (sym (ap (valueOr []) e)) }, a, b)
     go Nowhere p = record { reads = ap (λ g. then g (λ x t. got (take (length (drop at s) - length t) (drop at s)) t)) (p .reads) }
+
+-- ---- what is kept of the language that is asked for suffices
+
+same-other : (a b : List ℕ) → (length a ≡ length b → ⊥) → same a b ≡ false
+unfolding same pick
+same-other [] [] h = absurd (h refl)
+same-other [] (y ∷ b) h = refl
+same-other (x ∷ a) [] h = refl
+same-other (x ∷ a) (y ∷ b) h = go (eqb x y) (same-other a b (λ e. h (ap suc e)))
+  where
+    go : (c : Bool) → same a b ≡ false → pick c (same a b) false ≡ false
+    go true p = p
+    go false p = refl
+
+-- a good name is in the language of an option 8 just if its tag is the option's whole value: nine octets or more match none
+pub language-whole : (s : List ℕ) (at : ℕ) (x : Name) → afterAt s at ≤ length s → nameOk x ≡ true → inLanguage (languageAt s at) x ≡ same (x .tag) (take (lengthAt s at) (drop (at + 4) s))
+unfolding inLanguage pick
+language-whole s at x h ok = go (eqb (length (x .tag)) n) refl
+  where
+    n : ℕ
+    n = lengthAt s at
+
+    v : List ℕ
+    v = drop (at + 4) s
+
+    long : length (take n v) ≡ n
+    long = length-take-le n v (let d = length-drop (at + 4) s in omega arith)
+
+    kept : n ≤ 8 → take n (padded 8 (min n 8) v) ≡ take n v
+    kept f =
+        ap (λ (k : ℕ). take n (padded 8 k v)) (let e : min n 8 ≡ n = omega arith in e)
+        ∙ take-at (take n v) (replicate (8 - n) 0) n long
+
+    go : (b : Bool) → eqb (length (x .tag)) n ≡ b → pick b (same (x .tag) (take n (padded 8 (min n 8) v))) false ≡ same (x .tag) (take n v)
+    go true e = ap (same (x .tag)) (kept (let o = sizes-most (x .flags) (length (x .tag)) (length (x .text)) ok .0 in let q : length (x .tag) ≡ n = eqb-true (length (x .tag)) n e in omega arith))
+    go false e = sym (same-other (x .tag) (take n v) (λ p. eqb-false (length (x .tag)) n e (p ∙ long)))

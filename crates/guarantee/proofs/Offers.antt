@@ -36,6 +36,7 @@ use Rattle.state.specs.declared.Lease.{Lease}
 use Rattle.state.specs.declared.LeaseTable.{LeaseTable}
 use Rattle.state.specs.declared.State.{State}
 use Rattle.state.specs.Book.{Book, placeOf, zeroLease}
+use Rattle.soundness.specs.Named.{bookB}
 use Rattle.soundness.specs.Sound.{soundB, tenantsIn}
 use Rattle.decision.specs.declared.Decided.{Decided}
 use Rattle.decision.specs.Decide.{decideOf, judgedOf, leasedOf, settledOf}
@@ -523,14 +524,14 @@ module _ (b : Book) (c : Call) where
             to = e ∙ ap (λ (r : Reply). asOffer r ruled) (g .1)
 
             offer : discovered .reply ≡ offerOf (headOf s m) (termsOf s ruled)
-            offer = ap (λ (v : Verdict). byReply s (sentAs 1 m) v (v .reply)) to
+            offer = ap (λ (v : Verdict). byReply s (bookAt b c .names) h (sentAs 1 m) v (v .reply)) to
 
             ack : asked .reply ≡ leaseAckOf (headOf s m) (termsOf s ruled)
-            ack = ap (byReply s (sentAs 3 m) ruled) (g .1)
+            ack = ap (byReply s (bookAt b c .names) h (sentAs 3 m) ruled) (g .1)
 
         refused : ruled .reply ≡ Nak → OfferedAs b c discovered asked
         refused g = kept-back (e ∙ ap (λ (r : Reply). asOffer r ruled) g) (λ n.
-            let z : getD (asked .reply) 1 0 ≡ 6 = ap (λ (r : Reply). getD (byReply s (sentAs 3 m) ruled r) 1 0) g in
+            let z : getD (asked .reply) 1 0 ≡ 6 = ap (λ (r : Reply). getD (byReply s (bookAt b c .names) h (sentAs 3 m) ruled r) 1 0) g in
             let y = n .type in
             omega arith)
 
@@ -559,7 +560,7 @@ module _ (b : Book) (c : Call) where
   offered : Discovers c → Pair (serveOf b c) (serveOf b (requested c))
   unfolding serveOf atClock withReading
   offered v =
-      both (soundB (b .state) (b .table)) _ _ _ _ _ refl
+      both (bookB b) _ _ _ _ _ refl
       (λ _. both (ltb (c .room) leastRoom) _ _ _ _ _ refl (λ _. out 2 b (λ z. omega arith))
       (λ _. both (ltb h (tenantsIn s)) _ _ _ _ _ refl
       (λ _. both (eqb (readOf (c .datagram) .discard) 0) (eqb (readOf (asRequest (c .datagram)) .discard) 0) _ _ _ _ (ap (λ (n : ℕ). eqb n 0) same)

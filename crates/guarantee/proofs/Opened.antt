@@ -16,6 +16,8 @@ use Rattle.message.specs.Values.{allowedAt, codesFrom, fieldsOf, foundAt, names
 use Rattle.reply.specs.Reply.{infoAckOf, leaseAckOf, messageOctets, nakOf, offerOf, optionsOctets, rangesOctets, releaseAckOf, scopesOctets}
 use Rattle.state.specs.Book.{addressesOf, advanced, byIdentifier, differ, dropped, insertOf, laidOut, liveOf, overlaps, raised, removeOf, insertedIn, tableOf, withHeld, committed, unionAll, usedIn}
 use Rattle.state.specs.Edit.{applied, editedIn, leftIn}
+use Rattle.names.specs.Names.{namesB}
+use Rattle.soundness.specs.Named.{bookB}
 use Rattle.soundness.specs.Sound.{apart, belowB, blankB, brokenOf, compatible, countsB, disjoint, oneTo, firstBroken, firstRule, firstLate, tenantsB, idB, kindB, layoutB, leaseB, limitB, limitsB, committedB, noneB, offsetsB, paddedB, periodB, poolB, poolsApart, rangeB, rangeZero, rangesApart, recordsB, rule1, rule10, rule11, rule12, rule19, rule2, rule3, rule4, rule5, rule6, rule7, rule8, rule9, rulesOf, scopeZero, settingsB, reserveB, reservesB, sizeB, soundB, tailB, ttlB, unusedB, zeroFrom}
 use Rattle.allocation.specs.Rule.{allowed, busyIn, grantOf, grantTo, suffices, takenOf}
 use Rattle.decision.specs.Parts.{askAt, badCounts, discardWith, endOf, early1Of, heldAlready, error0Of, error1Of, error2Of, error3Of, skewed, fitsNew, fitsRenewed, hasPeriod, holdsOf, isNew, knowsScope, lacksCurrent, lacksScope, leaseFrom, lengthOf, nakWith, newAt, newOf, newWith, othersBusy, plainReply, proposalOf, recordedOf, refusalOf, renewedOf, renewedTo, resends, scopePlace, startOf, wishedOr, withLease, zeroLength}
@@ -75,7 +77,7 @@ decision-open = tt
 
 -- the call
 unfoldable pub call-open : Unit {0}
-unfolding replyOf forServer withReading hasClient tenantOf atClock serveOf
+unfolding bookB namesB replyOf forServer withReading hasClient tenantOf atClock serveOf
 call-open = tt
 
 -- all of them, and a list of calls

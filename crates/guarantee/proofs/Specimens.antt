@@ -32,6 +32,7 @@ book = record {
     scopes = record { lowest = 0xEFC00000; size = 4; ttl = 15; reserve = 2 ∷ 1 ∷ replicate 6 0; limit = 3 ∷ 4 ∷ replicate 6 0 } ∷ replicate 3 zeroScope;
   };
   table = tableOf (replicate 8 []);
+  names = 1 ∷ 0 ∷ 0 ∷ 0 ∷ [];
 }
 
 -- ---- datagrams and replies

@@ -76,7 +76,7 @@ octets-of s names g m v Nothing a h = absurd h
 octets-of s names g m v Offer a h = record { some = message-long 2 (m .xid) (leaseOptions (headOf s m) (termsOf s v)); short = offer-short (headOf s m) a (termsOf s v); type = refl }
 octets-of s names g m v LeaseAck a h = record { some = message-long 5 (m .xid) (leaseOptions (headOf s m) (termsOf s v)); short = lease-ack-short (headOf s m) a (termsOf s v); type = refl }
 octets-of s names g m v ReleaseAck a h = record { some = message-long 5 (m .xid) (releaseOptions (headOf s m)); short = release-ack-short (headOf s m) a; type = refl }
-octets-of s names g m v InfoAck a h = record { some = message-long 5 (m .xid) (infoOptions (headOf s m) (infoOf s m)); short = info-ack-short (headOf s m) a (infoOf s m) refl; type = refl }
+octets-of s names g m v InfoAck a h = record { some = message-long 5 (m .xid) (infoOptions (headOf s m) (infoOf s g m) names); short = info-ack-short (headOf s m) a (infoOf s g m) names refl; type = refl }
 octets-of s names g m v Nak a h = record { some = message-long 6 (m .xid) (nakOptions (headOf s m) (v .error)); short = nak-short (headOf s m) a (v .error); type = refl }
 
 -- ---- the call

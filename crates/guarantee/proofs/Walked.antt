@@ -148,7 +148,7 @@ octets-read s names g m v Offer n h = read-as 2 (m .xid) (leaseOptions (headOf s
 octets-read s names g m v LeaseAck n h = read-as 5 (m .xid) (leaseOptions (headOf s m) (termsOf s v)) (lease-back (headOf s m) n 5 (termsOf s v) (h .0) (h .1)) (lease-found _ _ _ _ _ _ _ _ (m .features))
 octets-read s names g m v ReleaseAck n h = read-as 5 (m .xid) (releaseOptions (headOf s m)) (release-back (headOf s m) n) (release-found _ _ _ (m .features))
 octets-read s names g m v InfoAck n h =
-    read-as 5 (m .xid) (infoOptions (headOf s m) (infoOf s m)) (info-back (headOf s m) n (infoOf s m) (let e = length-take (infoOf s m .count) (infoOf s m .scopes) in omega arith))
+    read-as 5 (m .xid) (infoOptions (headOf s m) (infoOf s g m) names) (info-back (headOf s m) n (infoOf s g m) names (let e = length-take (infoOf s g m .count) (infoOf s g m .scopes) in omega arith))
     (info-found _ _ _ _ _ (m .«list_asked») (m .«time_asked») (m .features))
 octets-read s names g m v Nak n h = read-as 6 (m .xid) (nakOptions (headOf s m) (v .error)) (nak-back (headOf s m) n (v .error)) (nak-found _ _ _ _ (m .features))
 

@@ -1,7 +1,7 @@
 -- Definitions: a server call (document 01, "Outcomes, tested in this order" and "Replies"): a datagram, the client's address, the time, a book and the
 -- length of the lent reply room give an outcome, a reply's octets and the book afterwards.
-use Prim.Native.Nat.{ℕ, _-_}
-use mathlib.Core.Bool.{Bool, not, _&&_}
+use Prim.Native.Nat.{ℕ, _-_, _<_}
+use mathlib.Core.Bool.{Bool, true, not, _&&_}
 use mathlib.Core.List.{List, [], _∷_, _++_}
 use mathlib.Core.Path.{_≡_}
 use lib.Dec.{ltb, leb, eqb}
@@ -12,6 +12,7 @@ use Rattle.message.specs.declared.Fields.{Fields}
 use Rattle.message.specs.declared.Reading.{Reading}
 use Rattle.message.specs.Read.{readOf}
 use Rattle.message.specs.Values.{fieldsOf}
+use Rattle.names.specs.Names.{namesB}
 use Rattle.reply.specs.declared.Head.{Head}
 use Rattle.reply.specs.declared.Terms.{Terms}
 use Rattle.reply.specs.declared.Info.{Info}
@@ -152,6 +153,10 @@ pub record Serves (a : Answer) (b : Book) (h : ℕ) (before after : List ℕ) (r
   pub tells : Tells (said a) before after (r .outcome)
   pub book : a .book ≡ withTable b (applied (r .edit) h (b .table))
 
--- whatever book it is of which the state, the records of tenant h and what all tenants hold are at hand
-abbrev pub ServesTenant : State → TenantLeases → HeldTable → ℕ → (Book → Answer) → List ℕ → List ℕ → Served → Type 0
-ServesTenant s own held h answer before after r = (t : LeaseTable) → View s t h own held → Serves (answer (bookOf s t)) (bookOf s t) h before after r
+-- what tests 1 and 3 have shown when a datagram is read: the names are a section for the settings' scopes and tenants, and h is one of these
+abbrev pub NamesFor : State → ℕ → List ℕ → Type 0
+NamesFor s h names = (namesB (s .«scope_count») (s .«tenant_count») names ≡ true) × (h < s .«tenant_count»)
+
+-- whatever book it is of which the state, the names, the records of tenant h and what all tenants hold are at hand
+abbrev pub ServesTenant : State → List ℕ → TenantLeases → HeldTable → ℕ → (Book → Answer) → List ℕ → List ℕ → Served → Type 0
+ServesTenant s names own held h answer before after r = (t : LeaseTable) → View s t h own held → Serves (answer (bookOf s t names)) (bookOf s t names) h before after r

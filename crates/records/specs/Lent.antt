@@ -12,7 +12,7 @@ use Rattle.state.specs.declared.LeaseTable.{LeaseTable}
 use Rattle.state.specs.declared.State.{State}
 use Rattle.state.specs.Book.{Book, insertOf, laidOut, placeOf, putAt, removeOf}
 use Rattle.soundness.specs.declared.HeldTable.{HeldTable}
-use Rattle.soundness.specs.Sound.{soundB}
+use Rattle.soundness.specs.Named.{bookB}
 use Rattle.soundness.specs.Parts.{holdingsOf}
 use Rattle.decision.specs.Parts.{ownOf}
 use Rattle.server.specs.declared.Outcome.{Outcome}
@@ -56,9 +56,9 @@ serveWith n s ls names c = pick (is128 n) (lentAnswer (serveOf (bookFrom s ls na
 abbrev pub serveLent : State → List Lease → List ℕ → Call → LentAnswer
 serveLent s ls names c = serveWith (length ls) s ls names c
 
--- what a call has gathered of the lent records once it knows that the book is sound: what the tenants hold
-pub record Gathered (s : State) (ls : List Lease) (held : HeldTable) : Type 0 where
-  pub sound : soundB s (tableFrom ls) ≡ true
+-- what a call has gathered of the lent records and names once it knows that the book is sound: what the tenants hold
+pub record Gathered (s : State) (ls : List Lease) (names : List ℕ) (held : HeldTable) : Type 0 where
+  pub sound : bookB (bookFrom s ls names) ≡ true
   pub holdings : held ≡ holdingsOf (tableFrom ls)
 
 -- what a function on 128 records by value promises: what is told, the clock and every record

@@ -276,17 +276,18 @@ fn at_clock(
     s: State,
     records: Records,
     held: HeldTable,
+    names: &[u8],
     client: u32,
     datagram: &[u8],
     reply: &mut [u8],
 ) -> ServedRecords
-    requires { ⌜ (leastRoom ≤ length (now reply)) × Gathered s (records .leases) held ⌝ }
-    ensures { λ r. ⌜ ServesRecords (lentAnswer (atClock (bookFrom s (records .leases)) client (now (datagram .entry)))) (now (reply .entry)) (now (reply .exit)) r ⌝ }
+    requires { ⌜ (leastRoom ≤ length (now reply)) × Gathered s (records .leases) (now names) held ⌝ }
+    ensures { λ r. ⌜ ServesRecords (lentAnswer (atClock (bookFrom s (records .leases) (now (names .entry))) client (now (datagram .entry)))) (now (reply .entry)) (now (reply .exit)) r ⌝ }
 {
     let h = server::tenant_of(s, client);
     if h < arithmetic::cut8(s.tenant_count) {
         let own = row(records, h);
-        let r = server::on_tenant(s, own, held, h, datagram, reply);
+        let r = server::on_tenant(s, names, own, held, h, datagram, reply);
         let o = r.outcome;
         let e = r.edit;
         if is_edit(e) {
@@ -312,12 +313,13 @@ pub fn serve(
     state: State,
     records: Records,
     n: usize,
+    names: &[u8],
     datagram: &[u8],
     client: u32,
     time: u32,
     reply: &mut [u8],
 ) -> ServedRecords
-    ensures { λ r. ⌜ ServesRecords (serveWith n state (records .leases) (record { datagram = now (datagram .entry); client = client; time = time; room = length (now (reply .entry)) })) (now (reply .entry)) (now (reply .exit)) r ⌝ }
+    ensures { λ r. ⌜ ServesRecords (serveWith n state (records .leases) (now (names .entry)) (record { datagram = now (datagram .entry); client = client; time = time; room = length (now (reply .entry)) })) (now (reply .entry)) (now (reply .exit)) r ⌝ }
 {
     if n != 128 {
         return discard(1, state.clock, records);
@@ -326,18 +328,21 @@ pub fn serve(
     if !soundness::sound_from(state, c) {
         return discard(1, state.clock, records);
     }
+    if !names::good(names, state.scope_count, state.tenant_count) {
+        return discard(1, state.clock, records);
+    }
     if reply.len() < reply::LEAST_ROOM {
         return discard(2, state.clock, records);
     }
     let s = state::raise(state, time);
     let held = c.held;
     if none_ended(held, s.clock) {
-        return at_clock(s, records, held, client, datagram, reply);
+        return at_clock(s, records, held, names, client, datagram, reply);
     }
     let d = drop_ended(records, held, s.clock);
     let left = d.records;
     let sets = d.held;
-    at_clock(s, left, sets, client, datagram, reply)
+    at_clock(s, left, sets, names, client, datagram, reply)
 }
 
 fn untouched(refusal: u8, state: State, records: Records) -> ReadRecords
@@ -369,13 +374,13 @@ pub fn read(file: &[u8], state: State, records: Records, n: usize) -> ReadRecord
 }
 
 // The writer of a state file: its length, or refusal 22 and then 23.
-pub fn write(state: State, records: Records, n: usize, room: &mut [u8]) -> Written
-    ensures answer { λ r. ⌜ r ≡ writtenWith n state (records .leases) (length (now (room .entry))) ⌝ }
-    ensures octets { λ r. ⌜ now (room .exit) ≡ roomWith n state (records .leases) (now (room .entry)) ⌝ }
+pub fn write(state: State, records: Records, n: usize, names: &[u8], room: &mut [u8]) -> Written
+    ensures answer { λ r. ⌜ r ≡ writtenWith n state (records .leases) (now (names .entry)) (length (now (room .entry))) ⌝ }
+    ensures octets { λ r. ⌜ now (room .exit) ≡ roomWith n state (records .leases) (now (names .entry)) (now (room .entry)) ⌝ }
 {
     if n == 128 {
         let t = table_of(records);
-        return state_file::write(state, t, room);
+        return state_file::write(state, t, names, room);
     }
     Written {
         refusal: 22,

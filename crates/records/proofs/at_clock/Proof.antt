@@ -12,7 +12,7 @@ returns c =
     let at-row = at-on .before .before in
     let at-tenant = at-row .before .before .before in
     let start = at-tenant .before .before .before in
-    at-edited _ _ _ _ (records-size (start .args .records) _ (start .good .1 .0)) (at-tenant .tenant-of .ensures) (at-row .before .before .cut8 .ensures) (at-row .before .if1 .taken) (start .pre .1) (at-row .row .ensures) (at-on .on-tenant .ensures)
+    at-edited _ _ _ _ _ (records-size (start .args .records) _ (start .good .1 .0)) (at-tenant .tenant-of .ensures) (at-row .before .before .cut8 .ensures) (at-row .before .if1 .taken) (start .pre .1) (at-row .row .ensures) (at-on .on-tenant .ensures)
     (c .before .edited .ensures) (c .put-row .ensures)
 
 returns-2 : tie.Need-returns-2
@@ -21,7 +21,7 @@ returns-2 c =
     let at-row = at-on .before .before in
     let at-tenant = at-row .before .before .before in
     let start = at-tenant .before .before .before in
-    at-same _ _ _ _ (records-size (start .args .records) _ (start .good .1 .0)) (at-tenant .tenant-of .ensures) (at-row .before .before .cut8 .ensures) (at-row .before .if1 .taken) (start .pre .1) (at-row .row .ensures) (at-on .on-tenant .ensures)
+    at-same _ _ _ _ _ (records-size (start .args .records) _ (start .good .1 .0)) (at-tenant .tenant-of .ensures) (at-row .before .before .cut8 .ensures) (at-row .before .if1 .taken) (start .pre .1) (at-row .row .ensures) (at-on .on-tenant .ensures)
     (c .before .is-edit .ensures) (c .if2 .left) refl
 
 returns-3 : tie.Need-returns-3
@@ -29,7 +29,7 @@ returns-3 c =
     let at-if1 = c .before in
     let at-tenant = at-if1 .before .before in
     let start = at-tenant .before .before .before in
-    at-unknown _ _ _ _ (records-size (start .args .records) _ (start .good .1 .0)) (at-tenant .tenant-of .ensures) (at-if1 .before .cut8 .ensures) (at-if1 .if1 .left) refl (c .discard .ensures)
+    at-unknown _ _ _ _ _ (records-size (start .args .records) _ (start .good .1 .0)) (at-tenant .tenant-of .ensures) (at-if1 .before .cut8 .ensures) (at-if1 .if1 .left) refl (c .discard .ensures)
 
 pub at-clock-spec : {M : Type 1} → statement M
 at-clock-spec =

@@ -34,11 +34,6 @@ EndsWith f x s at least Nowhere = Fails f s at
 pub record EndsAs {A : Type 0} (f : Format A) (x : A) (s : List ℕ) (at least : ℕ) (r : Place) : Type 0 where
   pub by : EndsWith f x s at least r
 
--- the octets are just one value
-pub record Whole {A : Type 0} (f : Format A) (s : List ℕ) : Type 0 where
-  pub value : A
-  pub reads : f .read s ≡ got value []
-
 -- whether reading gives a value and leaves nothing over
 unfoldable pub isWhole : {A : Type 0} → Got A → Bool
 isWhole (got x []) = true

@@ -29,11 +29,11 @@ unfolding Demand1
 demand1 b c = call-answered b c
 
 -- ---- no call changes the names
+names-after : (b : Book) (cs : List Call) → run b cs .names ≡ b .names
+unfolding run
+names-after b [] = refl
+names-after b (c ∷ cs) = names-after (serveOf b c .book) cs ∙ call-tested b c .names
+
 pub names-stay : NamesStay
 unfolding NamesStay
-names-stay b cs = after b cs
-  where
-    after : (x : Book) (cs : List Call) → run x cs .names ≡ x .names
-    unfolding run
-    after x [] = refl
-    after x (c ∷ cs) = after (serveOf x c .book) cs ∙ call-tested x c .names
+names-stay b cs = names-after b cs

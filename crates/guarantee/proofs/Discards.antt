@@ -26,7 +26,7 @@ use Rattle.state.specs.Edit.{applied, noEdit}
 use Rattle.state.specs.laws.Edited.{applied-none}
 use Rattle.soundness.specs.Named.{bookB, namesGood}
 use Rattle.soundness.specs.laws.Named.{advanced-names, bad-book}
-use Rattle.soundness.specs.Sound.{soundB, tenantsIn}
+use Rattle.soundness.specs.Sound.{tenantsIn}
 use Rattle.decision.specs.declared.Decided.{Decided}
 use Rattle.decision.specs.declared.Reply.{Reply}
 use Rattle.decision.specs.declared.Reply.the-variants.{Nothing, Offer, LeaseAck, ReleaseAck, InfoAck}

@@ -24,7 +24,7 @@ use Rattle.state.specs.laws.Edited.{applied-entering, applied-others}
 use Rattle.state.specs.laws.Layout.{read-back}
 use Rattle.soundness.specs.Named.{bookB}
 use Rattle.soundness.specs.laws.Named.{advanced-names, book-sound}
-use Rattle.soundness.specs.Sound.{scopesIn, soundB, tenantsIn}
+use Rattle.soundness.specs.Sound.{scopesIn, tenantsIn}
 use Rattle.soundness.specs.laws.Book.{Sound, sound-lists}
 use Rattle.allocation.specs.declared.Ask.{Ask}
 use Rattle.allocation.specs.declared.Grant.{Grant}

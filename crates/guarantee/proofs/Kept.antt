@@ -20,9 +20,8 @@ use Rattle.state.specs.laws.Edited.{applied-count}
 use Rattle.state.specs.laws.Layout.{table-back}
 use Rattle.soundness.specs.Named.{bookB}
 use Rattle.soundness.specs.laws.Named.{advanced-book, book-named, book-sound, both-book}
-use Rattle.soundness.specs.Sound.{oneTo, countsB, rule3, rule4, rule5, rule6, settingsB, sizeB, soundB, tenantsIn}
+use Rattle.soundness.specs.Sound.{oneTo, countsB, rule3, rule4, rule5, rule6, settingsB, sizeB, tenantsIn}
 use Rattle.soundness.specs.laws.Book.{Sound, settingsOk, sound-lists}
-use Rattle.soundness.specs.laws.Kept.{advanced-sound}
 use Rattle.decision.specs.Decide.{decideOf}
 use Rattle.decision.specs.laws.Kept.{GoodId, decision-sound}
 use Rattle.decision.specs.laws.Reads.{read-id}

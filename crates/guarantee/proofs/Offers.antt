@@ -38,7 +38,7 @@ use Rattle.state.specs.declared.LeaseTable.{LeaseTable}
 use Rattle.state.specs.declared.State.{State}
 use Rattle.state.specs.Book.{Book, placeOf, zeroLease}
 use Rattle.soundness.specs.Named.{bookB}
-use Rattle.soundness.specs.Sound.{soundB, tenantsIn}
+use Rattle.soundness.specs.Sound.{tenantsIn}
 use Rattle.decision.specs.declared.Decided.{Decided}
 use Rattle.decision.specs.Decide.{decideOf, judgedOf, leasedOf, settledOf}
 use Rattle.decision.specs.Parts.{discardWith, early1Of, error1Of, heldAlready, holdsOf, isNew, leaseIdIn, ownOf, recordedOf, refusalOf, resends, hasPeriod, nakWith, withLease}

@@ -20,7 +20,7 @@ use Rattle.state.specs.declared.State.{State}
 use Rattle.state.specs.Book.{Book, advanced, dropped, leasesOf, live, liveOf, raised, tableOf}
 use Rattle.state.specs.laws.Layout.{table-back}
 use Rattle.soundness.specs.Named.{bookB}
-use Rattle.soundness.specs.Sound.{soundB, tenantsIn}
+use Rattle.soundness.specs.Sound.{tenantsIn}
 use Rattle.decision.specs.declared.Decided.{Decided}
 use Rattle.decision.specs.declared.Reply.{Reply}
 use Rattle.decision.specs.declared.Reply.the-variants.{Nothing, Offer, LeaseAck, ReleaseAck, InfoAck, Nak}

@@ -22,7 +22,7 @@ use Rattle.state.specs.declared.State.{State}
 use Rattle.state.specs.Book.{Book, advanced, leasesOf, liveOf, placeOf, scopeAt, zeroLease}
 use Rattle.soundness.specs.Named.{bookB}
 use Rattle.soundness.specs.laws.Named.{book-sound}
-use Rattle.soundness.specs.Sound.{scopesIn, soundB, tenantsIn}
+use Rattle.soundness.specs.Sound.{scopesIn, tenantsIn}
 use Rattle.soundness.specs.laws.Book.{Sound, sound-lists}
 use Rattle.soundness.specs.laws.Facts.{lease-at-facts}
 use Rattle.soundness.specs.laws.Kept.{advanced-sound}

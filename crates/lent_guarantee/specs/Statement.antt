@@ -2,7 +2,7 @@
 -- and written of them. `serveLent` is what `lent::serve` is proved to meet.
 use Prim.Native.Nat.{ℕ, _≤_}
 use mathlib.Core.Path.{_≡_}
-use mathlib.Core.Bool.{true}
+use mathlib.Core.Bool.{true, false}
 use mathlib.Core.List.{List, [], _∷_, _++_}
 use lib.ListN.{drop, length, take}
 use Rattle.state_file.specs.File.{longestFile}

@@ -1,6 +1,6 @@
 // The lent lease records by value, and what each entry point does with them: 128 in a row, sixteen to a tenant, tenant by tenant. The number
 // of records that the lent slice has comes with them.
-ghost use mathlib.Core.Bool.{_||_};
+ghost use mathlib.Core.Bool.{_&&_, _||_};
 ghost use mathlib.Core.Path.{_≡_};
 ghost use Prim.Native.Nat.{_≤_, _<_, min};
 ghost use lib.ListN.{length, replicate, take};
@@ -8,7 +8,8 @@ ghost use Rattle.lists.specs.All.{allBy};
 ghost use Rattle.lists.specs.Place.{placeBy};
 ghost use Rattle.reply.specs.Reply.{leastRoom};
 ghost use Rattle.soundness.specs.Sound.{unusedB};
-ghost use Rattle.soundness.specs.Parts.{holdingsOf, tableRulesOf};
+ghost use Rattle.names.specs.Names.{namesB};
+ghost use Rattle.soundness.specs.Parts.{holdingsOf, soundFrom, tableRulesOf};
 ghost use Rattle.state.specs.Book.{leasesOf, tableOf, tenantAt, zeroLease};
 ghost use Rattle.server.specs.Serve.{atClock};
 ghost use Rattle.state_file.specs.StateFile.{readFile};
@@ -308,6 +309,16 @@ fn at_clock(
     discard(3, s.clock, records)
 }
 
+// Test 1: every rule holds, and the names are good for the settings.
+fn is_sound(s: State, c: TableRules, names: &[u8]) -> bool
+    ensures { λ r. ⌜ r ≡ (soundFrom s c && namesB (s .«scope_count») (s .«tenant_count») (now (names .entry))) ⌝ }
+{
+    if soundness::sound_from(s, c) {
+        return names::good(names, s.scope_count, s.tenant_count);
+    }
+    false
+}
+
 // The call on the records of a slice that has n: tests 1 and 2; then the clock is raised, and ended leases are dropped where there are any.
 pub fn serve(
     state: State,
@@ -325,10 +336,7 @@ pub fn serve(
         return discard(1, state.clock, records);
     }
     let c = survey(state, records);
-    if !soundness::sound_from(state, c) {
-        return discard(1, state.clock, records);
-    }
-    if !names::good(names, state.scope_count, state.tenant_count) {
+    if !is_sound(state, c, names) {
         return discard(1, state.clock, records);
     }
     if reply.len() < reply::LEAST_ROOM {

@@ -2,7 +2,7 @@
 use mathlib.Core.Path.{_≡_, refl, sym, ap, ap₂, _∙_, subst}
 use mathlib.Core.List.{List, [], _∷_}
 use mathlib.Core.Bool.{Bool, true, false, not, _&&_}
-use Prim.Native.Nat.{ℕ, _≤_, _-_}
+use Prim.Native.Nat.{ℕ, _≤_, _<_, _-_}
 use borrow.Author.Tests.{eq-eqb, ne-eqb}
 use lib.ListN.{length}
 use Rattle.lists.specs.Pick.{pick}
@@ -12,6 +12,7 @@ use Rattle.message.specs.Read.{longestDatagram, readOf}
 use Rattle.message.specs.Placed.{GoodPlaces}
 use Rattle.message.specs.laws.Placed.{read-good, read-short}
 use Rattle.message.specs.Values.{fieldsOf}
+use Rattle.names.specs.Names.{namesB}
 use Rattle.reply.specs.Put.{Replied}
 use Rattle.reply.specs.declared.Terms.{Terms}
 use Rattle.reply.specs.declared.Info.{Info}
@@ -43,6 +44,13 @@ info-is s h m {a} {b} {c} {d} x a′ y b′ z c′ w d′ =
   where
     made : ScopeEntry → ScopeEntry → ScopeEntry → ScopeEntry → Info
     made p q r t = record { scopes = p ∷ q ∷ r ∷ t ∷ []; count = s .«scope_count»; «list_asked» = m .«list_asked»; clock = s .clock; «time_asked» = m .«time_asked»; tenants = s .«tenant_count»; tenant = h; language = m .language }
+
+-- the names and the tenant that the writer of an ACK to GETINFO asks for
+pub sendable-names : (s : State) (h : ℕ) (m : Fields) (names : List ℕ) {i : Info} → i ≡ infoOf s h m → namesB (s .«scope_count») (s .«tenant_count») names ≡ true → namesB (i .count) (i .tenants) names ≡ true
+sendable-names s h m names e v = ap (λ (i : Info). namesB (i .count) (i .tenants) names) e ∙ v
+
+pub sendable-tenant : (s : State) (h : ℕ) (m : Fields) {i : Info} → i ≡ infoOf s h m → h < s .«tenant_count» → i .tenant < i .tenants
+sendable-tenant s h m e v = subst (λ (i : Info). i .tenant < i .tenants) (sym e) v
 
 -- the reply of a kind
 pub reply-as : (s : State) (names : List ℕ) (h : ℕ) (m : Fields) (v : Verdict) (k : Reply) {before after : List ℕ} {n : ℕ} → v .reply ≡ k → Replied before (byReply s names h m v k) after n → Replied before (replyOf s names h m v) after n

@@ -92,14 +92,7 @@ fn info_of(s: State, h: usize, m: Fields) -> Info
     }
 }
 
-fn write_reply(
-    s: State,
-    names: &[u8],
-    h: usize,
-    m: Fields,
-    v: Verdict,
-    reply: &mut [u8],
-) -> usize
+fn write_reply(s: State, names: &[u8], h: usize, m: Fields, v: Verdict, reply: &mut [u8]) -> usize
     requires { ⌜ (leastRoom ≤ length (now reply)) × NamesFor s h (now names) ⌝ }
     ensures { λ r. ⌜ Replied (now (reply .entry)) (replyOf s (now (names .entry)) h m v) (now (reply .exit)) r ⌝ }
 {

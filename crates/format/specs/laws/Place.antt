@@ -5,14 +5,12 @@ use mathlib.Core.Path.{_∙_, _≡_, ap, refl, subst, sym}
 use Prim.Native.Nat.{_+_, _-_, _<_, _≤_, suc, zero, ℕ}
 use native.Mathlib.Numerals.{add-one}
 use native.Mathlib.Omega.{arith}
-use lib.Dec.{eqb}
 use lib.ListN.{drop, drop-of-length-le, getD, length, length-drop, take}
 use lib.Seq.{drop-cons, drop-drop}
-use borrow.Author.Tests.{eq-eqb, ne-eqb}
 use Rattle.lists.specs.Pick.{pick}
 use Rattle.octets.specs.Octets.{at32}
-use Rattle.format.specs.Format.{Format, Got, _⊗_, _▷_, after, bad, closed, counted, got, number, octet, only, readNumber, readOctet, readTimes, then, times, viewed}
-use Rattle.format.specs.Place.{Ends, EndsAs, EndsBy, EndsWith, Fails, Stands, isWhole}
+use Rattle.format.specs.Format.{Format, Got, _⊗_, _▷_, bad, closed, counted, got, number, octet, only, readNumber, readOctet, readTimes, then, times, viewed}
+use Rattle.format.specs.Place.{Ends, EndsAs, EndsBy, EndsWith, Fails, Stands}
 use Rattle.format.specs.declared.Place.{Place}
 use Rattle.format.specs.declared.Place.the-variants.{At, Nowhere}
 use Rattle.format.specs.laws.Format.{then-with}
@@ -24,11 +22,6 @@ ends-as {f = f} {x = x} {s = s} {at = at} {least = least} {r = r} v = record { b
     go : (r : Place) → EndsWith f x s at least r → EndsBy f s at least r
     go (At n) (p, a, b) = (x, p, a, b)
     go Nowhere e = e
-
--- made of what stands there, or of nothing
-pub ends-there : {A : Type 0} {f : Format A} {s : List ℕ} {at n : ℕ} {x : A} (least : ℕ) → Stands f s at x n → at + least ≤ n → n ≤ length s → Ends f s at least (At n)
-unfolding EndsBy
-ends-there {x = x} least p a b = record { by = (x, p, a, b) }
 
 pub ends-nowhere : {A : Type 0} {f : Format A} {s : List ℕ} {at : ℕ} (least : ℕ) → Fails f s at → Ends f s at least Nowhere
 unfolding EndsBy
@@ -313,41 +306,3 @@ module _ {A : Type 0} {f : Format A} {s : List ℕ} {x : A} {least : ℕ} where
         more : (r : List ℕ) → length r ≡ length s - n → n ≤ length s → closed (got x r) ≡ bad
         more [] q h = absurd (e (omega arith))
         more (y ∷ r) q h = refl
-
--- ---- the whole of the octets, after a first octet that is always n
-module _ {A : Type 0} (f : Format A) (s : List ℕ) (n : ℕ) where
-  pub whole-none : length s ≤ 0 → false ≡ isWhole (after n f .read s)
-  unfolding then readOctet isWhole
-  whole-none h = empty s h
-    where
-      empty : (l : List ℕ) → length l ≤ 0 → false ≡ isWhole (after n f .read l)
-      empty [] h = refl
-      empty (x ∷ l) h = absurd (omega arith)
-
-  after-is : 0 < length s → getD s 0 0 ≡ n → after n f .read s ≡ f .read (drop 1 s)
-  unfolding pick
-  after-is h e = ap (after n f .read) (sym (drop-zero s)) ∙ then-with _ _ _ (octet-stands s 0 h .reads) ∙ ap (λ (b : Bool). pick b (f .read (drop 1 s)) bad) (eq-eqb _ _ e)
-
-  pub whole-other : 0 < length s → (getD s 0 0 ≡ n → ⊥) → false ≡ isWhole (after n f .read s)
-  unfolding pick isWhole then readOctet
-  whole-other h e = go s h e
-    where
-      go : (l : List ℕ) → 0 < length l → (getD l 0 0 ≡ n → ⊥) → false ≡ isWhole (after n f .read l)
-      go [] h e = absurd (omega arith)
-      go (x ∷ l) h e = sym (ap (λ (b : Bool). isWhole (pick b (f .read l) bad)) (ne-eqb x n e))
-
-  pub whole-nowhere : {least : ℕ} → 0 < length s → getD s 0 0 ≡ n → Ends f s 1 least Nowhere → false ≡ isWhole (after n f .read s)
-  unfolding isWhole
-  whole-nowhere h e v = sym (ap isWhole (after-is h e ∙ ends-bad v .reads))
-
-  pub whole-at : {least m : ℕ} → 0 < length s → getD s 0 0 ≡ n → Ends f s 1 least (At m) → eqb m (length s) ≡ isWhole (after n f .read s)
-  unfolding isWhole
-  whole-at {least} {m} h e v =
-      let w = ends-value v in let i = ends-in v in
-      rest (drop m s) (w .0) (let d = length-drop m s in d) (i .1) ∙ sym (ap isWhole (after-is h e ∙ w .1 .reads))
-    where
-      rest : (r : List ℕ) (x : A) → length r ≡ length s - m → m ≤ length s → eqb m (length s) ≡ isWhole (got x r)
-      rest [] x q h = eq-eqb m (length s) (omega arith)
-      rest (y ∷ r) x q h = ne-eqb m (length s) (λ z. absurd (omega arith))
-
-pub ruleset wholes = (whole-none, whole-other, whole-nowhere, whole-at)

@@ -1,12 +1,13 @@
 -- Laws: the call on 128 records by value: tests 1 to 3, the drop, and the edit of the records of the client's tenant.
 use mathlib.Core.Path.{_≡_, refl, sym, ap, ap₂, _∙_, subst}
-use mathlib.Core.Bool.{Bool, true, false, _||_, true≢false}
+use mathlib.Core.Bool.{Bool, true, false, _&&_, _||_, true≢false}
 use mathlib.Core.List.{List, [], map}
 use Prim.Native.Nat.{ℕ, _≤_, _<_}
 use native.Mathlib.Omega.{arith}
 use lib.ListN.{length, length-map}
 use lib.Seq.{set-getD}
 use Rattle.lists.specs.Pick.{pick}
+use Rattle.lists.specs.laws.Both.{and-parts}
 use Rattle.lists.specs.All.{All, allBy}
 use Rattle.message.specs.Read.{readOf}
 use Rattle.reply.specs.Reply.{leastRoom}
@@ -22,7 +23,7 @@ use Rattle.soundness.specs.declared.HeldTable.{HeldTable}
 use Rattle.soundness.specs.declared.TableRules.{TableRules}
 use Rattle.names.specs.Names.{namesB}
 use Rattle.soundness.specs.Named.{bookB}
-use Rattle.soundness.specs.laws.Named.{advanced-book, bad-book, book-named, book-sound, both-book, unsound-book}
+use Rattle.soundness.specs.laws.Named.{advanced-book, book-named, book-sound, both-book}
 use Rattle.soundness.specs.Sound.{soundB, tenantsIn}
 use Rattle.soundness.specs.Parts.{holdingsOf, soundFrom, tableRulesOf}
 use Rattle.soundness.specs.laws.Kept.{advanced-sound}
@@ -128,13 +129,15 @@ module _ (s : State) (ls : List Lease) (names : List ℕ) (time : ℕ) {s′ : S
     advanced-gathered q h = record { sound = subst (λ (b : Book). bookB b ≡ true) (sym advanced-now) (advanced-book (bookFrom s ls names) time q); holdings = h }
 
   -- where none ended, the records themselves
-  module _ {c : TableRules} {q : Bool} (size : length ls ≡ 128) (long : All Long ls) (v : c ≡ tableRulesOf s (tableFrom ls)) (w : q ≡ soundFrom s c) (y : q ≡ true)
-      {o : Bool} (i : o ≡ namesB (s .«scope_count») (s .«tenant_count») names) (j : o ≡ true) where
+  module _ {c : TableRules} {q : Bool} (size : length ls ≡ 128) (long : All Long ls) (v : c ≡ tableRulesOf s (tableFrom ls)) (w : q ≡ (soundFrom s c && namesB (s .«scope_count») (s .«tenant_count») names)) (y : q ≡ true) where
+    parts : (soundFrom s c ≡ true) × (namesB (s .«scope_count») (s .«tenant_count») names ≡ true)
+    parts = and-parts (soundFrom s c) (namesB (s .«scope_count») (s .«tenant_count») names) (sym w ∙ y)
+
     sound : soundB s (tableFrom ls) ≡ true
-    sound = sym (sound-from s (tableFrom ls) c v) ∙ sym w ∙ y
+    sound = sym (sound-from s (tableFrom ls) c v) ∙ parts .0
 
     whole : bookB (bookFrom s ls names) ≡ true
-    whole = both-book (bookFrom s ls names) sound (sym i ∙ j)
+    whole = both-book (bookFrom s ls names) sound (parts .1)
 
     laid : tableFrom ls ≡ tableOf (leasesOf (tableFrom ls))
     laid = sound-laid s ls size long sound
@@ -181,28 +184,20 @@ module _ (n : ℕ) (s : State) (ls : List Lease) (names : List ℕ) (c : Call) w
   unfolding serveWith
   serve-out e a q v = serves-as (off-whole (lentAnswer (serveOf (bookFrom s ls names) c)) (none 1 s ls) e) (stays 1 s ls a q v)
 
-  module _ {g : TableRules} {t : Bool} (e : n ≡ 128) (p : g ≡ tableRulesOf s (tableFrom ls)) (w : t ≡ soundFrom s g) where
-    is-sound : t ≡ soundB s (tableFrom ls)
-    is-sound = w ∙ sound-from s (tableFrom ls) g p
+  module _ {g : TableRules} {t : Bool} (e : n ≡ 128) (p : g ≡ tableRulesOf s (tableFrom ls)) (w : t ≡ (soundFrom s g && namesB (s .«scope_count») (s .«tenant_count») names)) where
+    is-sound : t ≡ bookB (bookFrom s ls names)
+    unfolding bookB
+    is-sound = w ∙ ap (λ (x : Bool). x && namesB (s .«scope_count») (s .«tenant_count») names) (sound-from s (tableFrom ls) g p)
 
     pub serve-unsound : {m : Records} {x : List ℕ} {r : ServedRecords} → t ≡ false → m .leases ≡ ls → length ls ≡ 128
         → r ≡ record { outcome = record { outcome = 1; length = 0 }; clock = s .clock; records = m } → ServesRecords (serveWith n s ls names c) x x r
-    serve-unsound f a q v = serves-as (discarded-is 1 s ls names q ∙ ap lentAnswer (call-unsound (bookFrom s ls names) c (unsound-book (bookFrom s ls names) (sym is-sound ∙ f))) ∙ on e) (stays 1 s ls a q v)
+    serve-unsound f a q v = serves-as (discarded-is 1 s ls names q ∙ ap lentAnswer (call-unsound (bookFrom s ls names) c (sym is-sound ∙ f)) ∙ on e) (stays 1 s ls a q v)
 
-    module _ {o : Bool} (i : o ≡ namesB (s .«scope_count») (s .«tenant_count») names) where
-      pub serve-named : {m : Records} {x : List ℕ} {r : ServedRecords} → o ≡ false → m .leases ≡ ls → length ls ≡ 128
-          → r ≡ record { outcome = record { outcome = 1; length = 0 }; clock = s .clock; records = m } → ServesRecords (serveWith n s ls names c) x x r
-      serve-named f a q v = serves-as (discarded-is 1 s ls names q ∙ ap lentAnswer (call-unsound (bookFrom s ls names) c (bad-book (bookFrom s ls names) (sym i ∙ f))) ∙ on e) (stays 1 s ls a q v)
+    pub serve-short : {m : Records} {x : List ℕ} {r : ServedRecords} → t ≡ true → c .room < leastRoom → m .leases ≡ ls → length ls ≡ 128
+        → r ≡ record { outcome = record { outcome = 2; length = 0 }; clock = s .clock; records = m } → ServesRecords (serveWith n s ls names c) x x r
+    serve-short f h a q v = serves-as (discarded-is 2 s ls names q ∙ ap lentAnswer (call-short (bookFrom s ls names) c (sym is-sound ∙ f) h) ∙ on e) (stays 2 s ls a q v)
 
-      module _ (f : t ≡ true) (j : o ≡ true) where
-        whole-book : bookB (bookFrom s ls names) ≡ true
-        whole-book = both-book (bookFrom s ls names) (sym is-sound ∙ f) (sym i ∙ j)
-
-        pub serve-short : {m : Records} {x : List ℕ} {r : ServedRecords} → c .room < leastRoom → m .leases ≡ ls → length ls ≡ 128
-            → r ≡ record { outcome = record { outcome = 2; length = 0 }; clock = s .clock; records = m } → ServesRecords (serveWith n s ls names c) x x r
-        serve-short h a q v = serves-as (discarded-is 2 s ls names q ∙ ap lentAnswer (call-short (bookFrom s ls names) c whole-book h) ∙ on e) (stays 2 s ls a q v)
-
-        pub serve-on : {b : Book} {x y : List ℕ} {r : ServedRecords} → leastRoom ≤ c .room → b ≡ advanced (bookFrom s ls names) (c .time)
-            → ServesRecords (lentAnswer (atClock b (c .client) (c .datagram))) x y r → ServesRecords (serveWith n s ls names c) x y r
-        serve-on h k v =
-            serves-as (ap (λ (z : Book). lentAnswer (atClock z (c .client) (c .datagram))) k ∙ ap lentAnswer (call-served (bookFrom s ls names) c whole-book h) ∙ on e) v
+    pub serve-on : {b : Book} {x y : List ℕ} {r : ServedRecords} → t ≡ true → leastRoom ≤ c .room → b ≡ advanced (bookFrom s ls names) (c .time)
+        → ServesRecords (lentAnswer (atClock b (c .client) (c .datagram))) x y r → ServesRecords (serveWith n s ls names c) x y r
+    serve-on f h i v =
+        serves-as (ap (λ (z : Book). lentAnswer (atClock z (c .client) (c .datagram))) i ∙ ap lentAnswer (call-served (bookFrom s ls names) c (sym is-sound ∙ f) h) ∙ on e) v

@@ -1,6 +1,6 @@
 -- `write_reply` meets its contract: by the kind of reply.
 use Rattle.decision.specs.declared.Reply.the-variants.{InfoAck, LeaseAck, Nak, Nothing, Offer, ReleaseAck}
-use Rattle.server.proofs.Steps.{replied-none, reply-as}
+use Rattle.server.proofs.Steps.{replied-none, reply-as, sendable-names, sendable-tenant}
 use borrow.Author.Needs.{needs}
 use Rattle.server.proofs.write_reply.Statement.{statement}
 use Rattle.server.proofs.write_reply.Tie as tie
@@ -39,7 +39,7 @@ write-reply-spec =
     (λ c κs. search needs)
     (λ c. search needs)
     (λ c κs. search needs)
-    (λ c κs. search needs)
+    (λ c κs. search (sendable-names, sendable-tenant, needs))
     (λ c. search needs)
     (λ c κs. search needs)
     (λ c κs. search needs)

@@ -16,10 +16,6 @@ pub book-named : (b : Book) → bookB b ≡ true → namesGood b ≡ true
 unfolding bookB
 book-named b v = and-parts (soundB (b .state) (b .table)) (namesGood b) v .1
 
-pub unsound-book : (b : Book) → soundB (b .state) (b .table) ≡ false → bookB b ≡ false
-unfolding bookB
-unsound-book b e = ap (λ (x : Bool). x && namesGood b) e
-
 pub bad-book : (b : Book) → namesGood b ≡ false → bookB b ≡ false
 unfolding bookB
 bad-book b e = ap (λ (x : Bool). soundB (b .state) (b .table) && x) e ∙ with-false (soundB (b .state) (b .table))

@@ -4,7 +4,7 @@ mod common;
 
 use common::*;
 use second::file::{read, write, LONGEST_FILE};
-use second::{serve, sound, Book, House, Quota, Scope};
+use second::{serve, sound, Book, House, Quota, Scope, ScopeNames};
 
 /// The specimens' book with a change.
 fn changed(change: impl FnOnce(&mut Book)) -> Book {
@@ -54,6 +54,7 @@ fn wide(book: &mut Book, houses: u32, scopes: u32) {
             quotas: vec![Quota { share: 0, limit: 1 }; houses as usize],
         })
         .collect();
+    book.names = vec![ScopeNames::none(houses as usize); scopes as usize];
 }
 
 #[test]
@@ -170,6 +171,7 @@ fn pools_disjoint() {
             let mut second = book.scopes[0].clone();
             second.lowest = lowest;
             book.scopes.push(second);
+            book.names.push(ScopeNames::none(2));
         }
     };
     accepted(second_at(0xEFC0_0004));

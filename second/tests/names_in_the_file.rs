@@ -206,7 +206,7 @@ fn a_bad_name_comes_before_an_unsound_book() {
     }
 }
 
-/// Settings of so many houses and scopes, sound in no other way than by their number, up to the names.
+/// Settings of so many houses and scopes, up to the names. Only these numbers can make them unsound.
 fn many(houses: usize, scopes: usize) -> String {
     let houses_section: String = (0..houses)
         .map(|number| format!("0A0000{number:02X} 0A0000{number:02X}"))

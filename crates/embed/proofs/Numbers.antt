@@ -7,13 +7,15 @@ use lib.Dec.{eqb, ltb}
 use lib.ListN.{drop, length, take}
 use Rattle.lists.specs.Pick.{pick}
 use Rattle.lists.specs.Filter.{isIn}
+use native.Mathlib.Omega.{arith}
 use Rattle.state.specs.declared.Lease.{Lease}
+use Rattle.state.specs.declared.LeaseTable.{LeaseTable}
 use Rattle.state.specs.declared.State.{State}
-use Rattle.server.specs.Serve.{Call}
+use Rattle.server.specs.Serve.{Call, bookOf}
 use Rattle.state_file.specs.declared.Written.{Written}
 use Rattle.state_file.specs.StateFile.{readFile}
 use Rattle.state_file.proofs.RoundTrip.{read-sound}
-use Rattle.soundness.specs.Sound.{soundB}
+use Rattle.soundness.specs.Named.{bookB}
 use Rattle.records.specs.laws.Files.{file-back, file-long}
 use Rattle.records.specs.Lent.{serveLent, writtenLent}
 use Rattle.lent_guarantee.specs.Statement.{Lent, LentDemand1, SoundLent}
@@ -36,7 +38,7 @@ module _ (b : List ℕ) (n : ℕ) (e : refusalIn b n ≡ 0) where
   unfolding lent
   book-sound =
       let r = accepted-parts b n e .2 in
-      record { whole = file-long (take n b) r; sound = ap (soundB (readFile (take n b) .state)) (file-back (take n b) r) ∙ read-sound (take n b) r }
+      record { whole = file-long (take n b) r; sound = ap (λ (t : LeaseTable). bookB (bookOf (readFile (take n b) .state) t (namesIn b n))) (file-back (take n b) r) ∙ read-sound (take n b) r }
 
 -- ---- what is told where the writer refuses nothing
 told : (w : Written) (k : ℕ) → w .refusal ≡ 0 → numberAfter w k ≡ k
@@ -65,7 +67,7 @@ module _ (b : List ℕ) (n : ℕ) (work : State → List Lease → Worked) (e : 
   }
     where
       written : writtenLent (done .state) (done .leases) (namesIn b n) (length b) .refusal ≡ 0
-      written = sound-written (lent (done .state) (done .leases) (namesIn b n)) v (length b) (accepted-parts b n e .0)
+      written = sound-written (lent (done .state) (done .leases) (namesIn b n)) v (length b) (let h = accepted-parts b n e .0 in omega arith)
 
 -- ---- one call
 pub served-numbers : ServedNumbers

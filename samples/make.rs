@@ -17,14 +17,24 @@ const fn address(a: u8, b: u8, c: u8, d: u8) -> u32 {
     Ipv4Addr::new(a, b, c, d).to_bits()
 }
 
-/// Two houses, two scopes, one lease.
+/// Two houses, two scopes, one lease. The small scope has names for the campus, of which the English one is the default, and house 2 has
+/// one of its own for it; the large one has no names.
 fn campus() -> Vec<u8> {
-    let scope = |lowest, size, ttl, parts: [(u8, u8); 2]| Scope {
+    let scope = |lowest, size, ttl, parts: [(u8, u8); 2], names| Scope {
         lowest,
         size,
         ttl,
         parts: parts.to_vec(),
+        names,
     };
+    let small = vec![
+        vec![
+            Name::new(0, b"de", b"Kleine B\xC3\xBChne"),
+            Name::new(128, b"en", b"Small stage"),
+        ],
+        vec![],
+        vec![Name::new(0, b"de", b"Probe")],
+    ];
     let lease = Lease {
         house: 2,
         scope: 2,
@@ -43,8 +53,8 @@ fn campus() -> Vec<u8> {
             (address(10, 0, 2, 0), address(10, 0, 2, 255)),
         ],
         scopes: vec![
-            scope(SMALL, 4, 15, [(2, 3), (1, 4)]),
-            scope(LARGE, 16, 31, [(4, 8), (4, 12)]),
+            scope(SMALL, 4, 15, [(2, 3), (1, 4)], small),
+            scope(LARGE, 16, 31, [(4, 8), (4, 12)], vec![]),
         ],
         leases: vec![lease],
     }
@@ -62,8 +72,11 @@ fn calls() -> Vec<(u32, u32, Vec<u8>, u16)> {
     let requested = message(REQUEST, 3, a, &[server_identifier(SERVER), scope(SMALL), number(1, 2), lease_time(3600)]);
     let info = |transaction, options: &[Coded]| message(GETINFO, transaction, c, options);
     vec![
-        // GETINFO asking for the scope list and the time
+        // GETINFO asking for the scope list and the time: the default name
         (10, one, message(GETINFO, 1, a, &[option_request_list(&[9, 11])]), 512),
+        // in German: the campus's name, and for house 2 its own
+        (11, one, message(GETINFO, 21, a, &[option_request_list(&[9]), requested_language(b"de")]), 512),
+        (12, two, message(GETINFO, 22, a, &[option_request_list(&[9]), requested_language(b"de")]), 512),
         // DISCOVER, then a REQUEST of what was offered, and the same REQUEST again: a Resend
         (20, one, message(DISCOVER, 2, a, &[scope(SMALL), number(1, 2), lease_time(3600)]), 512),
         (21, one, requested.clone(), 512),

@@ -154,7 +154,7 @@ def read_use(lines, at):
     return Use((m.group(3) or '') + m.group(4), items, m.group(6), bool(m.group(1)), at, lines, bool(m.group(2)))
 
 
-START = re.compile(r'^((?:unfoldable |abbrev |pub |axiom )*)(record|data|ruleset|module|mutual|open|infixl|infixr|infix|deriving)?\b')
+START = re.compile(r'^((?:unfoldable |abbrev |pub |axiom )*)(record|data|ruleset|module|mutual|open|infixl|infixr|infix|deriving)?(?:\b|(?=\+))')   # a cycle's theorem is called +f+g-spec
 
 
 class Block:

@@ -9,8 +9,9 @@
 #include <arpa/inet.h>
 #include <stdio.h>
 
-/* Version 0, GETINFO, family 1, transaction id 1; Lease Identifier 00 41; Option Request List: scope list and time; End. */
-static const uint8_t getinfo[] = {0, 8, 0, 1, 0, 0, 0, 1, 0, 3, 0, 2, 0, 0x41, 0, 5, 0, 4, 0, 9, 0, 11, 0, 0, 0, 0};
+/* Version 0, GETINFO, family 1, transaction id 1; Lease Identifier 00 41; Option Request List: scope list and time; Requested Language: de, in
+   which the scopes' names are to be, where they have one; End. */
+static const uint8_t getinfo[] = {0, 8, 0, 1, 0, 0, 0, 1, 0, 3, 0, 2, 0, 0x41, 0, 5, 0, 4, 0, 9, 0, 11, 0, 8, 0, 2, 'd', 'e', 0, 0, 0, 0};
 
 int main(int count, char **words)
 {

@@ -8,9 +8,11 @@ use banshorra_host::{CampusFile, REPLY_ROOM};
 use std::net::Ipv4Addr;
 use std::process::ExitCode;
 
-/// Version 0, GETINFO, family 1, transaction id 1; Lease Identifier 00 41; Option Request List: scope list and time; End.
+/// Version 0, GETINFO, family 1, transaction id 1; Lease Identifier 00 41; Option Request List: scope list and time; Requested Language: de, in
+/// which the scopes' names are to be, where they have one; End.
 const GETINFO: &[u8] = &[
-    0, 8, 0, 1, 0, 0, 0, 1, 0, 3, 0, 2, 0, 0x41, 0, 5, 0, 4, 0, 9, 0, 11, 0, 0, 0, 0,
+    0, 8, 0, 1, 0, 0, 0, 1, 0, 3, 0, 2, 0, 0x41, 0, 5, 0, 4, 0, 9, 0, 11, 0, 8, 0, 2, b'd', b'e',
+    0, 0, 0, 0,
 ];
 
 fn main() -> ExitCode {

@@ -4,7 +4,9 @@
    own: all that passes from call to call is the campus file. Calls on different files may run at the same time.
    No pointer is NULL, not even with length 0. What a function writes overlaps nothing else that it is given. A call takes about 150 KiB of
    stack: give a thread that calls 256 KiB at least.
-   "Document 01" is the campus's paper; numbers of more than one octet stand high octet first in files, datagrams and lists. */
+   The scopes' names are the campus file's last section, so no function is given any: GETINFO's reply has the one for the client's house.
+   "Document 01" is the campus's paper, "document 02" that of its changes; numbers of more than one octet stand high octet first in files,
+   datagrams and lists. */
 #ifndef BANSHORRA_H
 #define BANSHORRA_H
 
@@ -15,7 +17,7 @@
 extern "C" {
 #endif
 
-#define BANSHORRA_FILE_ROOM 14628 /* the longest campus file, and the least buffer for one that is served */
+#define BANSHORRA_FILE_ROOM 32768 /* the longest campus file, and the least buffer for one that is served */
 #define BANSHORRA_REPLY_ROOM 512  /* the least reply buffer; no reply is longer */
 #define BANSHORRA_BOARD_ROOM 1100 /* the least buffer for the board's text */
 #define BANSHORRA_ANSWER_ROOM 515 /* what a replay needs free before it answers a call */
@@ -35,9 +37,9 @@ enum {
 
 /* Refusals. */
 enum {
-    BANSHORRA_WRONG_FORM = 20,      /* campus file: layout, order, excess octets, or above 14,628 octets */
+    BANSHORRA_WRONG_FORM = 20,      /* campus file: layout, order, names, excess octets, or above 32,768 octets */
     BANSHORRA_UNSOUND = 21,         /* campus file: well formed, but not sound */
-    BANSHORRA_SHORT_FILE_ROOM = 23, /* the file's buffer is below 14,628 octets */
+    BANSHORRA_SHORT_FILE_ROOM = 23, /* the file's buffer is below 32,768 octets */
     BANSHORRA_CUT_OFF = 24,         /* a call's record is cut off */
     BANSHORRA_SHORT_ANSWERS = 27,   /* fewer than 515 octets are left for the next answer */
     BANSHORRA_FILE_LENGTH = 28      /* the file's length is above its buffer's */

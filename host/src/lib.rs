@@ -29,7 +29,7 @@
 //! }
 //! ```
 //!
-//! [`lent`] has the same calls on buffers of the caller's. The numbers are those of document 01 and of `include/banshorra.h`.
+//! [`lent`] has the same calls on buffers of the caller's. The numbers are those of documents 01 and 02 and of `include/banshorra.h`.
 
 #![deny(unsafe_code)]
 #![warn(missing_docs)]
@@ -47,7 +47,7 @@ pub use numbers::{Discard, Outcome, Refusal};
 pub use records::{answers, Answers, Call};
 
 /// The longest campus file, and the least buffer for a file that is served.
-pub const FILE_ROOM: usize = 14_628;
+pub const FILE_ROOM: usize = 32_768;
 /// The least reply buffer. No reply is longer.
 pub const REPLY_ROOM: usize = 512;
 /// The least buffer for the board's text.

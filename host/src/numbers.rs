@@ -101,11 +101,11 @@ impl fmt::Display for Discard {
 #[derive(Clone, Copy, Debug, PartialEq, Eq, Hash)]
 #[repr(u8)]
 pub enum Refusal {
-    /// The file's form is wrong: layout, order, excess octets, or above 14,628 octets.
+    /// The file's form is wrong: layout, order, names, excess octets, or above 32,768 octets.
     Form = 20,
     /// The file is unsound.
     Unsound = 21,
-    /// The file's buffer is below 14,628 octets.
+    /// The file's buffer is below 32,768 octets.
     FileRoom = 23,
     /// A call's record is cut off.
     CutOff = 24,
@@ -140,7 +140,7 @@ impl fmt::Display for Refusal {
         let why = match self {
             Refusal::Form => "the campus file's form is wrong",
             Refusal::Unsound => "the campus file is unsound",
-            Refusal::FileRoom => "the campus file's buffer is below 14,628 octets",
+            Refusal::FileRoom => "the campus file's buffer is below 32,768 octets",
             Refusal::CutOff => "a call's record is cut off",
             Refusal::AnswersRoom => "too little room for the next answer",
             Refusal::FileLength => "the campus file's length goes past its buffer",

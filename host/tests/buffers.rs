@@ -58,7 +58,7 @@ fn a_short_file_buffer_is_23() {
 #[test]
 fn a_file_length_above_its_buffers_is_28() {
     let file = specimen_file();
-    for room in [FILE_ROOM, FILE_ROOM + 1, 20_000] {
+    for room in [FILE_ROOM, FILE_ROOM + 1, 40_000] {
         refused(room, room + 1, &file, Refusal::FileLength);
         refused(room, usize::MAX, &file, Refusal::FileLength);
         // 28 comes before 20.
@@ -72,7 +72,7 @@ fn a_wrong_file_length_is_20_or_21() {
     for length in (0..file.len()).chain([file.len() + 1, FILE_ROOM]) {
         refused(FILE_ROOM, length, &file, Refusal::Form);
     }
-    refused(20_000, FILE_ROOM + 1, &file, Refusal::Form);
+    refused(40_000, FILE_ROOM + 1, &file, Refusal::Form);
     let mut unsound = file.clone();
     unsound[32] = 0;
     refused(FILE_ROOM, file.len(), &unsound, Refusal::Unsound);
@@ -90,7 +90,7 @@ fn octets_past_the_file_and_the_reply_stay() {
         end: 1500,
         offsets: vec![0, 1],
     };
-    for room in [FILE_ROOM, FILE_ROOM + 1, 20_000] {
+    for room in [FILE_ROOM, FILE_ROOM + 1, 40_000] {
         // The file gets longer by a REQUEST, and shorter again as the leases end.
         let before = file_at(1000, std::slice::from_ref(&lease));
         let mut file = buffer(room, &before);

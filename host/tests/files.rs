@@ -90,14 +90,16 @@ fn unsound_files_are_21() {
     assert_eq!(refusal(&wrong_house), Some(Refusal::Unsound));
 }
 
-/// 8 houses, 4 scopes, 128 leases with 32 octets of identifier and 64 addresses: the longest file that has the limits' counts. Its form is
-/// right, and as each house has all addresses of a scope it is unsound.
-fn longest() -> Vec<u8> {
+/// 8 houses, 4 scopes, 128 leases with 32 octets of identifier and 64 addresses, four names of 8 and 32 octets in each list: the longest file
+/// that has the limits' counts. Its form is right, and as each house has all addresses of a scope it is unsound.
+fn longest() -> Campus {
+    let name = Name::new(128, b"language", b"a name of the thirty-two octets.");
     let pool = |number: u32| Scope {
         lowest: POOL + (number << 8),
         size: 64,
         ttl: 15,
         parts: vec![(8, 64); 8],
+        names: vec![vec![name.clone(); 4]; 9],
     };
     let lease = |number: u8| Lease {
         scope: number / 32 + 1,
@@ -113,22 +115,27 @@ fn longest() -> Vec<u8> {
         scopes: (0..4).map(pool).collect(),
         leases: (0..128).map(lease).collect(),
     }
-    .octets()
 }
 
 #[test]
 fn the_longest_file_fits_and_an_overlong_one_is_20() {
-    let mut file = longest();
-    assert_eq!(file.len(), FILE_ROOM);
+    let mut campus = longest();
+    let mut file = campus.octets();
+    assert_eq!((file.len(), campus.names().len()), (20_857, 6_229));
     assert_eq!(refusal(&file), Some(Refusal::Unsound));
     file.push(0);
     assert_eq!(refusal(&file), Some(Refusal::Form));
-    // A layout that fits its octets, but more of them than a file may have.
-    let mut file = longest();
-    let places = [9 + 65 + 89 + 2, 9 + 65 + 89 + 3];
-    file[places[0] + 1] = 33;
-    file.insert(places[1] + 1, 0);
-    assert_eq!(file.len(), FILE_ROOM + 1);
-    assert_eq!(refusal(&file), Some(Refusal::Form));
+    // Longer identifiers are unsound, and their file is of right form up to 32,768 octets.
+    let mut left = FILE_ROOM - 20_857;
+    for lease in &mut campus.leases {
+        let more = left.min(255 - 32);
+        lease.identifier.resize(32 + more, 0);
+        left -= more;
+    }
+    assert_eq!(campus.octets().len(), FILE_ROOM);
+    assert_eq!(refusal(&campus.octets()), Some(Refusal::Unsound));
+    campus.leases[127].identifier.push(0);
+    assert_eq!(campus.octets().len(), FILE_ROOM + 1);
+    assert_eq!(refusal(&campus.octets()), Some(Refusal::Form));
     assert_eq!(refusal(&vec![0; 100_000]), Some(Refusal::Form));
 }

@@ -1,5 +1,6 @@
-//! The book: the server's settings, its clock and its leases.
+//! The book: the server's settings with the scopes' names, its clock and its leases.
 
+use crate::names::ScopeNames;
 use crate::period::Period;
 
 /// Houses and scopes, at most ("Houses 1 to 8; scopes 1 to 4").
@@ -70,6 +71,7 @@ impl Lease {
 }
 
 /// The book. Leases of all houses stand in one list, in the campus file's order.
+/// The names stand in the order of the scopes; they are settings, and no call changes them.
 #[derive(Clone, Debug, PartialEq, Eq)]
 pub struct Book {
     pub server: u32,
@@ -77,6 +79,7 @@ pub struct Book {
     pub houses: Vec<House>,
     pub scopes: Vec<Scope>,
     pub leases: Vec<Lease>,
+    pub names: Vec<ScopeNames>,
 }
 
 /// How a house stands in a scope.

@@ -1,11 +1,12 @@
 //! Reader and writer of the campus file.
 
 use crate::book::{Book, House, Lease, Quota, Scope};
+use crate::names::{Name, ScopeNames};
 use crate::octets::Octets;
-use crate::sound::{leases_in_file_order, offsets_rise, sound};
+use crate::sound::{leases_in_file_order, names_are_good, offsets_rise, sound};
 
 /// The longest campus file.
-pub const LONGEST_FILE: usize = 14_628;
+pub const LONGEST_FILE: usize = 32_768;
 
 /// Refusals of the reader and of the writer.
 pub const WRONG_FORM: u8 = 20;
@@ -23,7 +24,8 @@ pub fn read(file: &[u8]) -> Result<Book, u8> {
     }
 }
 
-/// The form alone: layout, order and no octet after it. What the sections say may be far from sound.
+/// The form alone: layout, order and no octet after it. What the sections say may be far from sound,
+/// except the names: every fault of theirs is one of form.
 fn read_form(file: &[u8]) -> Option<Book> {
     if file.len() > LONGEST_FILE {
         return None;
@@ -37,14 +39,17 @@ fn read_form(file: &[u8]) -> Option<Book> {
     let houses = section(&mut octets, read_house)?;
     let scopes = section(&mut octets, |octets| read_scope(octets, houses.len()))?;
     let leases = section(&mut octets, read_lease)?;
+    let names = section(&mut octets, |octets| read_scope_names(octets, houses.len()))?;
     let book = Book {
         server,
         clock,
         houses,
         scopes,
         leases,
+        names,
     };
-    (octets.is_empty() && leases_in_file_order(&book.leases)).then_some(book)
+    (octets.is_empty() && leases_in_file_order(&book.leases) && names_are_good(&book))
+        .then_some(book)
 }
 
 /// A one-octet count and then that many entries.
@@ -95,6 +100,24 @@ fn read_lease(octets: &mut Octets) -> Option<Lease> {
     offsets_rise(&lease.offsets).then_some(lease)
 }
 
+/// The campus list and then each house's own, each after its count. The scope is told by the place alone.
+fn read_scope_names(octets: &mut Octets, houses: usize) -> Option<ScopeNames> {
+    Some(ScopeNames {
+        campus: section(octets, read_name)?,
+        houses: (0..houses)
+            .map(|_| section(octets, read_name))
+            .collect::<Option<Vec<Vec<Name>>>>()?,
+    })
+}
+
+fn read_name(octets: &mut Octets) -> Option<Name> {
+    Some(Name {
+        flags: octets.u8()?,
+        tag: counted_octets(octets)?,
+        text: counted_octets(octets)?,
+    })
+}
+
 /// A one-octet length and then that many octets.
 fn counted_octets(octets: &mut Octets) -> Option<Vec<u8>> {
     let length = octets.u8()?;
@@ -133,6 +156,10 @@ fn file_of(book: &Book) -> Vec<u8> {
     for lease in &book.leases {
         write_lease(&mut file, lease);
     }
+    file.push(book.names.len() as u8);
+    for names in &book.names {
+        write_scope_names(&mut file, names);
+    }
     file
 }
 
@@ -157,4 +184,13 @@ fn write_lease(file: &mut Vec<u8>, lease: &Lease) {
     file.extend(lease.end.to_be_bytes());
     file.push(lease.offsets.len() as u8);
     file.extend(&lease.offsets);
+}
+
+fn write_scope_names(file: &mut Vec<u8>, names: &ScopeNames) {
+    for list in names.lists() {
+        file.push(list.len() as u8);
+        for name in list {
+            file.extend(name.octets());
+        }
+    }
 }

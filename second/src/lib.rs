@@ -1,5 +1,5 @@
-//! An independent second MADCAP server library, written from document 01 and the MADCAP draft only
-//! (with the project's readings where document 01 is open), and used for comparison.
+//! An independent second MADCAP server library, written from documents 01 and 02 (W-201) and the MADCAP draft
+//! only (with the project's readings where the documents are open), and used for comparison.
 //! It is plain and slow on purpose: where the rules speak of addresses one by one, so does the code.
 
 #![forbid(unsafe_code)]
@@ -8,6 +8,7 @@ pub mod book;
 pub mod file;
 pub mod grant;
 pub mod message;
+pub mod names;
 pub mod octets;
 pub mod period;
 pub mod programs;
@@ -16,5 +17,6 @@ pub mod server;
 pub mod sound;
 
 pub use book::{Book, House, Lease, Quota, Scope};
+pub use names::{Name, ScopeNames};
 pub use server::serve;
 pub use sound::sound;

@@ -77,11 +77,13 @@ pub fn of_release(book: &Book, header: &Header, asked: &Options) -> Vec<u8> {
     Reply::new(ACK, book, header, asked).octets()
 }
 
-/// ACK to GETINFO: 2, 3, and 9 and 11 if option 5 names them.
-pub fn of_getinfo(book: &Book, header: &Header, asked: &Options) -> Vec<u8> {
+/// ACK to GETINFO: 2, 3, and 9 and 11 if option 5 names them. The names in 9 are those for this house
+/// and for the language of option 8.
+pub fn of_getinfo(book: &Book, house: u8, header: &Header, asked: &Options) -> Vec<u8> {
     let mut reply = Reply::new(ACK, book, header, asked);
     if asked.asks_for(code::SCOPE_LIST) {
-        reply.put(code::SCOPE_LIST, scope_list(book));
+        let language = asked.value(code::REQUESTED_LANGUAGE);
+        reply.put(code::SCOPE_LIST, scope_list(book, house, language));
     }
     if asked.asks_for(code::CURRENT_TIME) {
         reply.put(code::CURRENT_TIME, book.clock.to_be_bytes());
@@ -118,10 +120,10 @@ fn ranges_value(lowest: u32, offsets: &[u8]) -> Vec<u8> {
     value
 }
 
-/// A count(1), and per scope lowest address, highest address, TTL(1), number of names(1), here 0.
-fn scope_list(book: &Book) -> Vec<u8> {
+/// A count(1), and per scope lowest address, highest address, TTL(1), number of names(1), at most 1, and the name.
+fn scope_list(book: &Book, house: u8, language: Option<&[u8]>) -> Vec<u8> {
     let mut value = vec![book.scopes.len() as u8];
-    for scope in &book.scopes {
+    for (scope, names) in book.scopes.iter().zip(&book.names) {
         let highest = scope
             .lowest
             .wrapping_add(u32::from(scope.size))
@@ -129,7 +131,13 @@ fn scope_list(book: &Book) -> Vec<u8> {
         value.extend(scope.lowest.to_be_bytes());
         value.extend(highest.to_be_bytes());
         value.push(scope.ttl);
-        value.push(0);
+        match names.sent(house, language) {
+            Some(name) => {
+                value.push(1);
+                value.extend(name.octets());
+            }
+            None => value.push(0),
+        }
     }
     value
 }

@@ -146,7 +146,12 @@ fn reply_or_error(book: &mut Book, call: &Call) -> Result<Vec<u8>, u16> {
         Kind::Request => request(book, call),
         Kind::Renew => renew(book, call),
         Kind::Release => release(book, call),
-        Kind::GetInfo => Ok(reply::of_getinfo(book, &call.header, &call.options)),
+        Kind::GetInfo => Ok(reply::of_getinfo(
+            book,
+            call.house,
+            &call.header,
+            &call.options,
+        )),
     }
 }
 

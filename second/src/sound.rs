@@ -26,6 +26,7 @@ pub fn sound(book: &Book) -> bool {
         && no_leases_overlap(book)
         && holdings_within_limits(book)
         && shares_are_kept(book)
+        && names_are_good(book)
 }
 
 /// Houses 1 to 8, scopes 1 to 4, addresses in a scope 1 to 64; a share and limit for each house.
@@ -167,4 +168,14 @@ fn shares_are_kept(book: &Book) -> bool {
             .sum();
         sum <= book.offsets(scope).count() as u64
     })
+}
+
+/// Names for every scope, with a list for every house, each list of good names.
+/// The counts are those that the book has, be they sound or not.
+pub fn names_are_good(book: &Book) -> bool {
+    book.names.len() == book.scopes.len()
+        && book
+            .names
+            .iter()
+            .all(|names| names.are_good(book.houses.len()))
 }

@@ -5,26 +5,31 @@ mod common;
 use common::*;
 use second::file::{read, write, LONGEST_FILE};
 use second::programs::{board, replay};
-use second::{Book, House, Quota, Scope};
+use second::{Book, House, Name, Quota, Scope, ScopeNames};
 
 /// The specimens' book.
 const EMPTY: &str = "01 0A010101 000003E8
     02 0A010000 0A0100FF 0A020000 0A0200FF
     01 EFC00000 04 0F 02 03 01 04
-    00";
+    00
+    01 00 00 00";
+/// The names' section of the specimens' book, which has none: one scope, and three empty lists.
+const NO_NAMES: &str = "01 00 00 00";
 /// The same after P1 and P3.
 const AFTER_P3: &str = "01 0A010101 000003E8
     02 0A010000 0A0100FF 0A020000 0A0200FF
     01 EFC00000 04 0F 02 03 01 04
     02
     01 01 02 00A3 03 00000003 000003E8 000007D0 02 02 03
-    02 01 02 00B2 03 00000001 000003E8 000011F8 02 00 01";
+    02 01 02 00B2 03 00000001 000003E8 000011F8 02 00 01
+    01 00 00 00";
 
 /// The specimens' settings with the leases that the hex gives, count and all.
 fn with_leases(leases: &str) -> Vec<u8> {
     let mut file = hex(EMPTY);
-    file.pop();
+    file.truncate(file.len() - hex(NO_NAMES).len() - 1);
     file.extend(hex(leases));
+    file.extend(hex(NO_NAMES));
     file
 }
 
@@ -122,16 +127,18 @@ fn counts_past_the_limits_are_21_where_the_layout_fits() {
         + &"0A010000 0A0100FF".repeat(9)
         + "01 EFC00000 04 0F"
         + &"00 00".repeat(9)
-        + "00";
+        + "00 01"
+        + &"00".repeat(10);
     assert_eq!(read(&hex(&nine_houses)), Err(21));
     assert_eq!(read(&hex(&nine_houses[..nine_houses.len() - 2])), Err(20));
-    let no_house = "01 0A010101 000003E8 00 01 EFC00000 04 0F 00";
+    let no_house = "01 0A010101 000003E8 00 01 EFC00000 04 0F 00 01 00";
     assert_eq!(read(&hex(no_house)), Err(21));
-    let no_scope = "01 0A010101 000003E8 01 0A010000 0A0100FF 00 00";
+    let no_scope = "01 0A010101 000003E8 01 0A010000 0A0100FF 00 00 00";
     assert_eq!(read(&hex(no_scope)), Err(21));
     let five_scopes = "01 0A010101 000003E8 01 0A010000 0A0100FF 05".to_string()
         + &"EFC00000 04 0F 00 00".repeat(5)
-        + "00";
+        + "00 05"
+        + &"00 00".repeat(5);
     assert_eq!(read(&hex(&five_scopes)), Err(21));
     let long_identifier =
         "01 01 01 FF".to_string() + &"41".repeat(255) + "03 00000001 000003E8 000007D0 01 00";
@@ -148,77 +155,102 @@ fn counts_past_the_limits_are_21_where_the_layout_fits() {
     assert_eq!(read(&with_leases(&format!("81 {many_leases}"))), Err(21));
 }
 
-/// Every count at its limit: the file has just 14,628 octets. Each house has a whole scope, so only
-/// the first four houses name a known one.
+/// Every count at its limit, and every lease with as many addresses as two houses to a scope leave it.
 fn fullest_book() -> Book {
-    let houses: Vec<House> = (0..8)
+    let houses = (0..8)
         .map(|number| House {
             lowest: number,
             highest: number,
         })
         .collect();
+    let quota = Quota {
+        share: 0,
+        limit: 64,
+    };
     let scopes = (0..4)
         .map(|number| Scope {
             lowest: 0xE000_0000 + 64 * number,
             size: 64,
             ttl: 1,
-            quotas: vec![
-                Quota {
-                    share: 0,
-                    limit: 64
-                };
-                8
-            ],
+            quotas: vec![quota.clone(); 8],
         })
         .collect();
-    let mut book = Book {
+    let name = Name {
+        flags: 128,
+        tag: vec![0xFF; 8],
+        text: vec![0xFF; 32],
+    };
+    let names = ScopeNames {
+        campus: vec![name.clone(); 4],
+        houses: vec![vec![name; 4]; 8],
+    };
+    let halves: [Vec<u8>; 2] = [(0..32).collect(), (32..64).collect()];
+    let mut leases = vec![];
+    for house in 0..8u8 {
+        for number in 0..16u8 {
+            let start = u32::from(number);
+            let half = &halves[usize::from(house % 2)];
+            let mut lease = lease(house + 1, &[number; 32], start, start + 1, half);
+            lease.scope = house / 2 + 1;
+            leases.push(lease);
+        }
+    }
+    Book {
         server: 1,
         clock: 0,
         houses,
         scopes,
-        leases: vec![],
-    };
-    let all: Vec<u8> = (0..64).collect();
-    for house in 1..=8u8 {
-        for number in 0..16u8 {
-            let start = u32::from(number);
-            let mut lease = lease(house, &[number; 32], start, start + 1, &all);
-            lease.scope = house;
-            book.leases.push(lease);
-        }
+        leases,
+        names: vec![names; 4],
     }
-    book
 }
 
 #[test]
-fn the_longest_file() {
-    // Four houses with a whole scope each are sound.
-    let mut book = fullest_book();
-    book.leases.retain(|lease| lease.house <= 4);
-    let mut room = [0; LONGEST_FILE];
+fn the_longest_file_of_a_sound_book() {
+    let book = fullest_book();
+    let mut room = vec![7; LONGEST_FILE];
     let length = write(&book, &mut room).expect("a length");
-    assert_eq!(length, 164 + 64 * 113);
+    assert_eq!(length, 164 + 128 * 81 + 1 + 4 * 9 * (1 + 4 * 43));
     assert_eq!(read(&room[..length]), Ok(book));
-    // The eight houses' leases have a file of 14,628 octets, which is of right form.
-    let mut file = room[..length].to_vec();
-    file[163] = 128;
-    for lease in &fullest_book().leases[64..] {
-        file.extend([lease.house, lease.scope, 32]);
-        file.extend(&lease.identifier);
-        file.extend([3, 0, 0, 0, 1]);
-        file.extend(lease.start.to_be_bytes());
-        file.extend(lease.end.to_be_bytes());
-        file.push(64);
-        file.extend(&lease.offsets);
+    assert!(room[length..].iter().all(|&octet| octet == 7));
+}
+
+/// A file of right form with 62 leases of 527 octets and a last one that makes up its length.
+fn file_of(length: usize) -> Vec<u8> {
+    let mut leases = vec![63];
+    for number in 0..62 {
+        leases.extend([1, 1, 255]);
+        leases.extend([number; 255]);
+        leases.extend(hex("03 00000001 000003E8 000007D0 FF"));
+        leases.extend(0..255);
     }
-    assert_eq!(file.len(), LONGEST_FILE);
-    assert_eq!(read(&file), Err(21));
-    // One octet more, laid out in full, is 20.
-    let last_identifier = file.len() - 64 - 1 - 13 - 32;
-    file[last_identifier - 1] = 33;
-    file.insert(last_identifier + 32, 0);
-    assert_eq!(file.len(), LONGEST_FILE + 1);
-    assert_eq!(read(&file), Err(20));
+    let last = length - hex(EMPTY).len() - 62 * 527 - 18;
+    leases.extend([1, 1, last as u8]);
+    leases.extend(vec![62; last]);
+    leases.extend(hex("03 00000001 000003E8 000007D0 01 00"));
+    let file = with_leases(&second::octets::hex(&leases));
+    assert_eq!(file.len(), length);
+    file
+}
+
+#[test]
+fn more_than_32_768_octets_are_20() {
+    assert_eq!(LONGEST_FILE, 32_768);
+    assert_eq!(read(&file_of(32_767)), Err(21));
+    assert_eq!(read(&file_of(32_768)), Err(21));
+    assert_eq!(read(&file_of(32_769)), Err(20));
+    // Just 32,768 are judged as usual: with an octet in excess, or without its names, a file is 20.
+    let mut excess = file_of(32_767);
+    excess.push(0);
+    assert_eq!(read(&excess), Err(20));
+    let mut unnamed = file_of(32_772);
+    unnamed.truncate(32_768);
+    assert_eq!(read(&unnamed), Err(20));
+    // The programs go by the same limit.
+    assert_eq!(board(&file_of(32_768)), "refused 21\n");
+    assert_eq!(board(&file_of(32_769)), "refused 20\n");
+    assert_eq!(replay(&replay_input(&file_of(32_768), "")), "refused 21\n");
+    assert_eq!(replay(&replay_input(&file_of(32_769), "")), "refused 20\n");
 }
 
 #[test]
@@ -270,7 +302,7 @@ const P12_LINE: &str = "0 0006000101020304000200060001\
 #[test]
 fn replay_texts() {
     let empty_line = "book 010a010101000003e8020a0100000a0100ff0a0200000a0200ff\
-        01efc00000040f0203010400\n";
+        01efc00000040f020301040001000000\n";
     let file = hex(EMPTY);
     assert_eq!(replay(&replay_input(&file, "")), empty_line);
     assert_eq!(

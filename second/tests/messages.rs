@@ -3,7 +3,7 @@
 mod common;
 
 use common::*;
-use second::{serve, Book, Quota, Scope};
+use second::{serve, Book, Quota, Scope, ScopeNames};
 
 const ID: &[u8] = &[0, 0x41];
 const SCOPE: &[u8] = &[0xEF, 0xC0, 0, 0];
@@ -293,6 +293,7 @@ fn a_house_holds_an_identifier_in_any_scope() {
     let mut other = book.scopes[0].clone();
     other.lowest += 4;
     book.scopes.push(other);
+    book.names.push(ScopeNames::none(2));
     book.leases = vec![lease(1, ID, 1000, 2000, &[0])];
     book.leases[0].scope = 2;
     assert_eq!(request(&mut book, &[]), Err(1));

@@ -4,7 +4,7 @@ mod common;
 
 use common::*;
 use second::file::{read, write, LONGEST_FILE};
-use second::{serve, sound, Book, House, Quota, Scope};
+use second::{serve, sound, Book, House, Name, Quota, Scope, ScopeNames};
 
 /// The specimens' book with a change.
 fn changed(change: impl FnOnce(&mut Book)) -> Book {
@@ -54,6 +54,7 @@ fn wide(book: &mut Book, houses: u32, scopes: u32) {
             quotas: vec![Quota { share: 0, limit: 1 }; houses as usize],
         })
         .collect();
+    book.names = vec![ScopeNames::none(houses as usize); scopes as usize];
 }
 
 #[test]
@@ -170,6 +171,7 @@ fn pools_disjoint() {
             let mut second = book.scopes[0].clone();
             second.lowest = lowest;
             book.scopes.push(second);
+            book.names.push(ScopeNames::none(2));
         }
     };
     accepted(second_at(0xEFC0_0004));
@@ -334,4 +336,88 @@ fn holdings_at_most_their_limit() {
 fn per_scope_the_larger_of_holding_and_share_at_most_size() {
     accepted(|book| book.leases = vec![lease(2, &[0, 1], 1000, 1001, &[0, 1])]);
     refused(|book| book.leases = vec![lease(2, &[0, 1], 1000, 1001, &[0, 1, 2])]);
+}
+
+/// A name of given flags and lengths.
+fn name(flags: u8, tag: usize, text: usize) -> Name {
+    Name {
+        flags,
+        tag: vec![b'e'; tag],
+        text: vec![b'A'; text],
+    }
+}
+
+/// A list is accepted, as the campus list of the scope and as house 2's own.
+fn accepted_list(list: &[Name]) {
+    accepted(|book| book.names[0].campus = list.to_vec());
+    accepted(|book| book.names[0].houses[1] = list.to_vec());
+}
+
+/// A list is refused in either place.
+fn refused_list(list: &[Name]) {
+    refused(|book| book.names[0].campus = list.to_vec());
+    refused(|book| book.names[0].houses[1] = list.to_vec());
+}
+
+#[test]
+fn names_for_each_scope() {
+    refused(|book| book.names.clear());
+    refused(|book| book.names.push(ScopeNames::none(2)));
+    refused(|book| {
+        wide(book, 2, 2);
+        book.names.pop();
+    });
+    accepted(|book| wide(book, 2, 2));
+}
+
+#[test]
+fn a_list_of_names_for_each_house() {
+    refused(|book| book.names[0] = ScopeNames::none(0));
+    refused(|book| book.names[0] = ScopeNames::none(1));
+    accepted(|book| book.names[0] = ScopeNames::none(2));
+    refused(|book| book.names[0] = ScopeNames::none(3));
+    refused(|book| {
+        wide(book, 2, 2);
+        book.names[1].houses.pop();
+    });
+}
+
+#[test]
+fn four_names_in_a_list() {
+    for count in 0..=4 {
+        accepted_list(&vec![name(0, 2, 5); count]);
+    }
+    refused_list(&vec![name(0, 2, 5); 5]);
+    refused_list(&vec![name(0, 2, 5); 256]);
+}
+
+#[test]
+fn flags_0_or_128() {
+    for flags in 0..=255 {
+        if flags == 0 || flags == 128 {
+            accepted_list(&[name(flags, 2, 5)]);
+        } else {
+            refused_list(&[name(flags, 2, 5)]);
+        }
+    }
+    refused_list(&[name(0, 1, 1), name(128, 1, 1), name(1, 1, 1)]);
+}
+
+#[test]
+fn tags_of_1_to_8_octets() {
+    refused_list(&[name(0, 0, 5)]);
+    accepted_list(&[name(0, 1, 5)]);
+    accepted_list(&[name(0, 8, 5)]);
+    refused_list(&[name(0, 9, 5)]);
+    // 258 octets aren't 2.
+    refused_list(&[name(0, 258, 5)]);
+}
+
+#[test]
+fn texts_of_1_to_32_octets() {
+    refused_list(&[name(0, 2, 0)]);
+    accepted_list(&[name(0, 2, 1)]);
+    accepted_list(&[name(0, 2, 32)]);
+    refused_list(&[name(0, 2, 33)]);
+    refused_list(&[name(0, 2, 258)]);
 }

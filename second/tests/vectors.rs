@@ -1,19 +1,22 @@
 //! Runs `second replay` over a folder of cases, named by the environment variable SECOND_VECTORS:
-//! every `N.bin` in it or below it is given on standard input, and `N.out` is what must come out.
+//! every `N.bin` or `N.in` in it or below it is given on standard input, and `N.out` is what must come out.
 
 use std::fs;
 use std::io::Write;
 use std::path::{Path, PathBuf};
 use std::process::{Command, Stdio};
 
-/// Every `.bin` file in a folder and below it.
+/// Every `.bin` and `.in` file in a folder and below it.
 fn cases(folder: &Path) -> Vec<PathBuf> {
     let mut found = Vec::new();
     for entry in fs::read_dir(folder).expect("the folder of vectors") {
         let path = entry.expect("an entry of the folder").path();
         if path.is_dir() {
             found.extend(cases(&path));
-        } else if path.extension().is_some_and(|extension| extension == "bin") {
+        } else if path
+            .extension()
+            .is_some_and(|extension| extension == "bin" || extension == "in")
+        {
             found.push(path);
         }
     }

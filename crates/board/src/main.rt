@@ -6,7 +6,7 @@ fn print(text: &[u8], n: usize) {
 }
 
 fn main() {
-    let mut file = [0u8; state_file::LONGEST_FILE + 1];
+    let mut file = [0u8; state_file::FILE_LIMIT + 1];
     let n = io::read_full(0, &mut file);
     let mut room = [0u8; 1100];
     let k = board_text::write_board(&file[..n], &mut room);

@@ -15,6 +15,7 @@ use Rattle.identifier.specs.Order.{orderOf, sameOf}
 use Rattle.address_set.specs.AddressSet.{bit, offsetsFrom, setOf, differenceOf, upTo}
 use Rattle.message.specs.declared.Wish.{Wish}
 use Rattle.message.specs.declared.Fields.{Fields}
+use Rattle.message.specs.declared.Language.{Language}
 use Rattle.state.specs.declared.State.{State}
 use Rattle.state.specs.declared.LeaseTable.{LeaseTable}
 use Rattle.state.specs.Book.{byIdentifier, zeroScope, laidOut, tableOf, insertOf, removeOf, liveOf, dropped, unionAll, addressesOf, overlaps, usedIn, withHeld, committed, insertedIn}
@@ -40,6 +41,10 @@ settings clock = record {
 wish : ℕ → Wish
 wish n = record { there = not (eqb n 0); value = n }
 
+-- no option 8
+abbrev unasked : Language
+unasked = record { asked = false; len = 0; octets = replicate 8 0 }
+
 -- a call by a tenant counted from 0: time, type, identifier, transaction id, least, desired, Lease Time, Start Time, Current Time
 record Call : Type 0 where
   tenant : ℕ
@@ -62,6 +67,7 @@ call h time kind i xid least desired len start current = record {
     ours = true;
     «list_asked» = false;
     «time_asked» = false;
+    language = unasked;
   };
 }
 
@@ -92,6 +98,7 @@ asks allowed scope least desired len latest = record {
     ours = true;
     «list_asked» = false;
     «time_asked» = false;
+    language = unasked;
   };
 }
 
@@ -199,6 +206,7 @@ period len start clock oldStart oldLength =
       ours = true;
       «list_asked» = false;
       «time_asked» = false;
+      language = unasked;
     } in
     startOf m clock oldStart ∷ lengthOf m oldLength ∷ []
 

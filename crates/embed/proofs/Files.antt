@@ -1,25 +1,33 @@
 -- Laws: what the functions on a file in a buffer are proved by: the book of its first n octets, and the answer and the buffer after a call or a list
 -- of calls, from what the calls below gave.
-use mathlib.Core.Path.{_≡_, refl, sym, ap, _∙_}
+use mathlib.Core.Path.{_≡_, refl, sym, ap, _∙_, subst}
+use mathlib.Core.Bool.{Bool, true, false}
 use mathlib.Core.List.{List, _++_}
-use Prim.Native.Nat.{ℕ, _≤_, _<_}
+use Prim.Native.Nat.{ℕ, _+_, _≤_, _<_, min}
+use native.Mathlib.Nat.{zero-add}
 use native.Mathlib.Omega.{arith}
+use lib.Dec.{ltb}
 use lib.ListN.{drop, length, take}
-use lib.Seq.{length-take-le}
+use lib.Seq.{length-take-le, take-all, take-at}
+use borrow.Author.Tests.{ltb-false, ltb-true}
+use Rattle.lists.specs.Pick.{pick}
 use Rattle.lists.specs.laws.Pick.{pick-eq, pick-lt, pick-not-eq, pick-not-lt}
+use Rattle.octets.specs.Octets.{put, Wrote}
 use Rattle.state.specs.declared.Lease.{Lease}
 use Rattle.state.specs.declared.State.{State}
 use Rattle.server.specs.Serve.{Call}
 use Rattle.state_file.specs.declared.Written.{Written}
 use Rattle.state_file.specs.StateFile.{readFile}
+use Rattle.state_file.proofs.RoundTrip.{names-short}
 use Rattle.records.specs.laws.Files.{blank-accepted, blank-refusal, readBlank}
 use Rattle.records.specs.Lent.{LentReading, roomLent, serveLent, writtenLent}
 use Rattle.owned.specs.declared.OwnedCall.{OwnedCall}
 use Rattle.owned.specs.declared.OwnedFile.{OwnedFile}
 use Rattle.owned.specs.Owned.{ReadsOwned, ServesOwned}
 use Rattle.embed.specs.declared.Progress.{Progress}
-use Rattle.embed.specs.Embed.{called, filed, Filed, kept, largestFile, lengthAfter, numberAfter, onFile, refusalIn, replayed, replayFile, serveFile, stateIn, Worked}
-use Rattle.embed.specs.Promises.{Files, Opened, Replays, ReplaysFile, ServesFile}
+use Rattle.embed.proofs.Answered.{put-length}
+use Rattle.embed.specs.Embed.{called, filed, Filed, kept as unchanged, largestFile, largestNames, lengthAfter, namesIn, numberAfter, onFile, refusalIn, replayed, replayFile, serveFile, stateIn, Worked}
+use Rattle.embed.specs.Promises.{Files, Keeps, Opened, Replays, ReplaysFile, ServesFile}
 
 -- ---- a file read over a book that is all zero
 pub opened-refusal : (f : List ℕ) {r : OwnedFile} → ReadsOwned (readBlank f) r → r .refusal ≡ readFile f .refusal
@@ -42,6 +50,17 @@ module _ (b : List ℕ) (n : ℕ) where
   unfolding refusalIn
   refusal-within h k = pick-not-lt _ _ _ (length b) largestFile h (pick-not-lt _ _ _ (length b) n k refl)
 
+  -- where none is drawn
+  pub accepted-parts : refusalIn b n ≡ 0 → (largestFile ≤ length b) × (n ≤ length b) × (readFile (take n b) .refusal ≡ 0)
+  unfolding refusalIn pick
+  accepted-parts e = go (ltb (length b) largestFile) refl (ltb (length b) n) refl e
+    where
+      go : (p : Bool) → ltb (length b) largestFile ≡ p → (q : Bool) → ltb (length b) n ≡ q → pick p 23 (pick q 28 (readFile (take n b) .refusal)) ≡ 0
+          → (largestFile ≤ length b) × (n ≤ length b) × (readFile (take n b) .refusal ≡ 0)
+      go true p q t e = absurd (omega arith)
+      go false p true t e = absurd (omega arith)
+      go false p false t e = (ltb-false (length b) largestFile p, ltb-false (length b) n t, e)
+
   -- a refusal says nothing of the book
   nothing : {r : OwnedFile} {k : ℕ} → r .refusal ≡ k → k ≡ refusalIn b n → (k ≡ 0 → ⊥) → Opened b n r
   nothing a e z = record { refusal = a ∙ e; state = λ p. absurd (z (e ∙ p)); leases = λ p. absurd (z (e ∙ p)) }
@@ -62,10 +81,45 @@ module _ (b : List ℕ) (n : ℕ) where
       at : readFile (take n b) .refusal ≡ refusalIn b n
       at = refusal-within h k
 
+-- ---- the names, copied
+take-min : (l : List ℕ) (n : ℕ) → take (min (length l) n) l ≡ take n l
+take-min l n = go (ltb (length l) n) refl
+  where
+    go : (t : Bool) → ltb (length l) n ≡ t → take (min (length l) n) l ≡ take n l
+    go true p = let h = ltb-true (length l) n p in ap (λ (j : ℕ). take j l) (let e : min (length l) n ≡ length l = omega arith in e) ∙ take-all (length l) l (omega arith) ∙ sym (take-all n l (omega arith))
+    go false p = let h = ltb-false (length l) n p in ap (λ (j : ℕ). take j l) (let e : min (length l) n ≡ n = omega arith in e)
+
+pub keeps-none : {b kept : List ℕ} {n : ℕ} → length b < n → Keeps b n kept 0
+keeps-none h = record { within = omega arith; front = λ k. absurd (omega arith) }
+
+pub keeps-front : {b kept before names : List ℕ} {n k m : ℕ} → names ≡ namesIn b n → k ≡ min (length names) largestNames → Wrote before 0 (take k names) kept m → Keeps b n kept m
+unfolding put
+keeps-front {kept = kept} {before} {names} {k = k} a e w = record {
+  within = let p = w .next in let q = ap length (w .buffer) ∙ put-length before 0 x in omega arith;
+  front = λ _.
+      ap (λ (j : ℕ). take j kept) (w .next ∙ zero-add (length x)) ∙ ap (take (length x)) (w .buffer) ∙ take-at x (drop (0 + length x) before) (length x) refl
+      ∙ ap (λ (j : ℕ). take j names) e ∙ take-min names largestNames ∙ ap (take largestNames) a;
+}
+  where
+    x : List ℕ
+    x = take k names
+
+pub kept-within : {b kept : List ℕ} {n k : ℕ} → Keeps b n kept k → k ≤ length kept
+kept-within g = g .within
+
+pub kept-length : {b kept : List ℕ} {n k : ℕ} → Keeps b n kept k → k ≡ length (take k kept)
+kept-length {kept = kept} {k = k} g = first-length kept k (g .within)
+
 -- ---- the call and the list of calls
 module _ (b : List ℕ) (n : ℕ) {f : OwnedFile} (o : Opened b n f) where
   zero-in : f .refusal ≡ 0 → refusalIn b n ≡ 0
   zero-in z = sym (o .refusal) ∙ z
+
+  -- what was copied of the names of an accepted file is all of them
+  names-are : {kept : List ℕ} {k : ℕ} → Keeps b n kept k → f .refusal ≡ 0 → take k kept ≡ namesIn b n
+  names-are g z =
+      let p = accepted-parts b n (zero-in z) in
+      g .front (p .1) ∙ take-all largestNames (namesIn b n) (names-short (take n b) (p .2))
 
   -- some work on the book that was read is that on the file's
   module _ (work : State → List Lease → Worked) where
@@ -78,7 +132,7 @@ module _ (b : List ℕ) (n : ℕ) {f : OwnedFile} (o : Opened b n f) where
         pick-eq _ _ _ (refusalIn b n) 0 (zero-in z) (ap (λ (s : State). filed b n (work s (f .owned .records .leases))) (o .state (zero-in z))
         ∙ ap (λ (ls : List Lease). filed b n (work (stateIn b n) ls)) (o .leases (zero-in z)))
 
-    no : (f .refusal ≡ 0 → ⊥) → kept b n ≡ onFile b n work
+    no : (f .refusal ≡ 0 → ⊥) → unchanged b n ≡ onFile b n work
     unfolding onFile
     no z = pick-not-eq _ _ _ (refusalIn b n) 0 (λ p. z (o .refusal ∙ p)) refl
 
@@ -89,36 +143,41 @@ module _ (b : List ℕ) (n : ℕ) {f : OwnedFile} (o : Opened b n f) where
     files-no z = record { file = ap (λ (x : Filed). x .buffer) (no z); long = ap (λ (x : Filed). x .length) (no z) }
 
     -- the book afterwards, written
-    module _ (z : f .refusal ≡ 0) {s : State} {ls : List Lease} (p : s ≡ done .state) (q : ls ≡ done .leases) {w : Written} (e : w ≡ writtenLent s ls (length b)) where
-      w-is : w ≡ writtenLent (done .state) (done .leases) (length b)
-      w-is = e ∙ ap (λ (x : State). writtenLent x ls (length b)) p ∙ ap (λ (x : List Lease). writtenLent (done .state) x (length b)) q
+    module _ (z : f .refusal ≡ 0) {s : State} {ls : List Lease} (p : s ≡ done .state) (q : ls ≡ done .leases) {w : Written} (e : w ≡ writtenLent s ls (namesIn b n) (length b)) where
+      w-is : w ≡ writtenLent (done .state) (done .leases) (namesIn b n) (length b)
+      w-is = e ∙ ap (λ (x : State). writtenLent x ls (namesIn b n) (length b)) p ∙ ap (λ (x : List Lease). writtenLent (done .state) x (namesIn b n) (length b)) q
 
       told-yes : {j k : ℕ} → k ≡ numberAfter w j → j ≡ done .number → k ≡ onFile b n work .number
-      told-yes {j} i h = i ∙ ap (λ (x : Written). numberAfter x j) w-is ∙ ap (numberAfter (writtenLent (done .state) (done .leases) (length b))) h ∙ ap (λ (x : Filed). x .number) (yes z)
+      told-yes {j} i h = i ∙ ap (λ (x : Written). numberAfter x j) w-is ∙ ap (numberAfter (writtenLent (done .state) (done .leases) (namesIn b n) (length b))) h ∙ ap (λ (x : Filed). x .number) (yes z)
 
-      files-yes : {b' : List ℕ} {m : ℕ} → b' ≡ roomLent s ls b → m ≡ lengthAfter w n → Files (onFile b n work) b' m
+      files-yes : {b' : List ℕ} {m : ℕ} → b' ≡ roomLent s ls (namesIn b n) b → m ≡ lengthAfter w n → Files (onFile b n work) b' m
       files-yes i h = record {
-        file = i ∙ ap (λ (x : State). roomLent x ls b) p ∙ ap (λ (x : List Lease). roomLent (done .state) x b) q ∙ ap (λ (x : Filed). x .buffer) (yes z);
+        file = i ∙ ap (λ (x : State). roomLent x ls (namesIn b n) b) p ∙ ap (λ (x : List Lease). roomLent (done .state) x (namesIn b n) b) q ∙ ap (λ (x : Filed). x .buffer) (yes z);
         long = h ∙ ap (λ (x : Written). lengthAfter x n) w-is ∙ ap (λ (x : Filed). x .length) (yes z);
       }
 
   module _ (c : Call) where
     abbrev one : State → List Lease → Worked
-    one s ls = called (serveLent s ls c)
+    one s ls = called (serveLent s ls (namesIn b n) c)
 
-    pub file-served : {before after b' : List ℕ} {m k : ℕ} {r : OwnedCall} {w : Written} → f .refusal ≡ 0
-        → ServesOwned (serveLent (f .owned .state) (f .owned .records .leases) c) before after r
-        → w ≡ writtenLent (r .owned .state) (r .owned .records .leases) (length b) → b' ≡ roomLent (r .owned .state) (r .owned .records .leases) b
+    pub file-served : {kept : List ℕ} {i : ℕ} {before after b' : List ℕ} {m k : ℕ} {r : OwnedCall} {w : Written} → f .refusal ≡ 0 → Keeps b n kept i
+        → ServesOwned (serveLent (f .owned .state) (f .owned .records .leases) (take i kept) c) before after r
+        → w ≡ writtenLent (r .owned .state) (r .owned .records .leases) (take i kept) (length b) → b' ≡ roomLent (r .owned .state) (r .owned .records .leases) (take i kept) b
         → m ≡ lengthAfter w n → k ≡ numberAfter w (r .outcome .outcome) → ServesFile (serveFile b n c) b' m before after (record { outcome = k; length = r .outcome .length })
     unfolding serveFile
-    file-served {before = before} z v p q i j = record {
-      tells = record {
-        outcome = told-yes one z (v .state) (v .leases) p j (v .tells .outcome);
-        size = v .tells .size ∙ ap (λ (x : Filed). length (x .out)) (yes one z);
-        buffer = v .tells .buffer ∙ ap (λ (x : Filed). x .out ++ drop (length (x .out)) before) (yes one z);
-      };
-      files = files-yes one z (v .state) (v .leases) p q i;
-    }
+    file-served {before = before} {after} {r = r} z g v′ p q i j =
+        let e = names-are g z in
+        let v : ServesOwned (serveLent (f .owned .state) (f .owned .records .leases) (namesIn b n) c) before after r =
+        subst (λ (x : List ℕ). ServesOwned (serveLent (f .owned .state) (f .owned .records .leases) x c) before after r) e v′ in
+        let u = p ∙ ap (λ (x : List ℕ). writtenLent (r .owned .state) (r .owned .records .leases) x (length b)) e in
+        record {
+          tells = record {
+            outcome = told-yes one z (v .state) (v .leases) u j (v .tells .outcome);
+            size = v .tells .size ∙ ap (λ (x : Filed). length (x .out)) (yes one z);
+            buffer = v .tells .buffer ∙ ap (λ (x : Filed). x .out ++ drop (length (x .out)) before) (yes one z);
+          };
+          files = files-yes one z (v .state) (v .leases) u (q ∙ ap (λ (x : List ℕ). roomLent (r .owned .state) (r .owned .records .leases) x b) e) i;
+        }
 
     pub file-kept : {before : List ℕ} → (f .refusal ≡ 0 → ⊥) → ServesFile (serveFile b n c) b n before before (record { outcome = f .refusal; length = 0 })
     unfolding serveFile
@@ -133,20 +192,25 @@ module _ (b : List ℕ) (n : ℕ) {f : OwnedFile} (o : Opened b n f) where
 
   module _ (cs : List ℕ) (room : ℕ) where
     abbrev all : State → List Lease → Worked
-    all s ls = replayed (length cs) s ls cs room
+    all s ls = replayed (length cs) s ls (namesIn b n) cs room
 
-    pub file-replayed : {before after b' : List ℕ} {m k : ℕ} {r : Progress} {w : Written} → f .refusal ≡ 0
-        → Replays (replayed (length cs) (f .owned .state) (f .owned .records .leases) cs room) before after r
-        → w ≡ writtenLent (r .owned .state) (r .owned .records .leases) (length b) → b' ≡ roomLent (r .owned .state) (r .owned .records .leases) b
+    pub file-replayed : {kept : List ℕ} {i : ℕ} {before after b' : List ℕ} {m k : ℕ} {r : Progress} {w : Written} → f .refusal ≡ 0 → Keeps b n kept i
+        → Replays (replayed (length cs) (f .owned .state) (f .owned .records .leases) (take i kept) cs room) before after r
+        → w ≡ writtenLent (r .owned .state) (r .owned .records .leases) (take i kept) (length b) → b' ≡ roomLent (r .owned .state) (r .owned .records .leases) (take i kept) b
         → m ≡ lengthAfter w n → k ≡ numberAfter w (r .number) → ReplaysFile (replayFile b n cs room) b' m (r .used) before after (r .filled) k
     unfolding replayFile
-    file-replayed {before = before} z v p q i j = record {
-      number = told-yes all z (v .state) (v .leases) p j (v .number);
-      used = v .used ∙ ap (λ (x : Filed). x .used) (yes all z);
-      filled = v .filled ∙ ap (λ (x : Filed). length (x .out)) (yes all z);
-      answers = v .buffer ∙ ap (λ (x : Filed). x .out ++ drop (length (x .out)) before) (yes all z);
-      files = files-yes all z (v .state) (v .leases) p q i;
-    }
+    file-replayed {before = before} {after} {r = r} z g v′ p q i j =
+        let e = names-are g z in
+        let v : Replays (all (f .owned .state) (f .owned .records .leases)) before after r =
+        subst (λ (x : List ℕ). Replays (replayed (length cs) (f .owned .state) (f .owned .records .leases) x cs room) before after r) e v′ in
+        let u = p ∙ ap (λ (x : List ℕ). writtenLent (r .owned .state) (r .owned .records .leases) x (length b)) e in
+        record {
+          number = told-yes all z (v .state) (v .leases) u j (v .number);
+          used = v .used ∙ ap (λ (x : Filed). x .used) (yes all z);
+          filled = v .filled ∙ ap (λ (x : Filed). length (x .out)) (yes all z);
+          answers = v .buffer ∙ ap (λ (x : Filed). x .out ++ drop (length (x .out)) before) (yes all z);
+          files = files-yes all z (v .state) (v .leases) u (q ∙ ap (λ (x : List ℕ). roomLent (r .owned .state) (r .owned .records .leases) x b) e) i;
+        }
 
     pub file-left : {before : List ℕ} → (f .refusal ≡ 0 → ⊥) → ReplaysFile (replayFile b n cs room) b n 0 before before 0 (f .refusal)
     unfolding replayFile

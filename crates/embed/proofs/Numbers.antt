@@ -3,50 +3,42 @@ use Prim.Native.Nat.{ℕ, zero, suc, _-_, _≤_}
 use mathlib.Core.Path.{_≡_, refl, sym, ap, _∙_, subst}
 use mathlib.Core.Bool.{Bool, true, false}
 use mathlib.Core.List.{List, [], _∷_}
-use native.Mathlib.Omega.{arith}
 use lib.Dec.{eqb, ltb}
 use lib.ListN.{drop, length, take}
-use borrow.Author.Tests.{ltb-false}
 use Rattle.lists.specs.Pick.{pick}
 use Rattle.lists.specs.Filter.{isIn}
+use native.Mathlib.Omega.{arith}
 use Rattle.state.specs.declared.Lease.{Lease}
+use Rattle.state.specs.declared.LeaseTable.{LeaseTable}
 use Rattle.state.specs.declared.State.{State}
-use Rattle.server.specs.Serve.{Call}
+use Rattle.server.specs.Serve.{Call, bookOf}
 use Rattle.state_file.specs.declared.Written.{Written}
 use Rattle.state_file.specs.StateFile.{readFile}
 use Rattle.state_file.proofs.RoundTrip.{read-sound}
-use Rattle.soundness.specs.Sound.{soundB}
+use Rattle.soundness.specs.Named.{bookB}
 use Rattle.records.specs.laws.Files.{file-back, file-long}
 use Rattle.records.specs.Lent.{serveLent, writtenLent}
 use Rattle.lent_guarantee.specs.Statement.{Lent, LentDemand1, SoundLent}
 use Rattle.lent_guarantee.proofs.Guaranteed.{lent-demand1, next, next-sound}
 use Rattle.lent_guarantee.proofs.Written.{sound-written}
-use Rattle.embed.specs.Embed.{answerBefore, answerOctets, called, callIn, cutOff, filed, Filed, kept, largestFile, leasesIn, lengthAfter, numberAfter, onFile, recordSize, refusalIn, replayed, replayFile, serveFile, stateIn, stopIn, stopped, Worked}
+use Rattle.embed.specs.Embed.{answerBefore, answerOctets, called, callIn, cutOff, filed, Filed, kept, leasesIn, lengthAfter, namesIn, numberAfter, onFile, recordSize, refusalIn, replayed, replayFile, serveFile, stateIn, stopIn, stopped, Worked}
+use Rattle.embed.proofs.Files.{accepted-parts}
 use Rattle.embed.specs.Statement.{Numbered, ReplayedNumbers, ServedNumbers}
 
-lent : State → List Lease → Lent
-lent s ls = record { state = s; leases = ls }
+lent : State → List Lease → List ℕ → Lent
+lent s ls names = record { state = s; leases = ls; names = names }
 
-step : (s : State) (ls : List Lease) (c : Call) → SoundLent (lent s ls) → SoundLent (lent (serveLent s ls c .state) (serveLent s ls c .leases))
+step : (s : State) (ls : List Lease) (names : List ℕ) (c : Call) → SoundLent (lent s ls names) → SoundLent (lent (serveLent s ls names c .state) (serveLent s ls names c .leases) names)
 unfolding next lent
-step s ls c v = next-sound (lent s ls) c v
+step s ls names c v = next-sound (lent s ls names) c v
 
 -- ---- a buffer whose file is not refused
 module _ (b : List ℕ) (n : ℕ) (e : refusalIn b n ≡ 0) where
-  parts : (largestFile ≤ length b) × (readFile (take n b) .refusal ≡ 0)
-  unfolding refusalIn pick
-  parts = go (ltb (length b) largestFile) refl (ltb (length b) n) e
-    where
-      go : (p : Bool) → ltb (length b) largestFile ≡ p → (q : Bool) → pick p 23 (pick q 28 (readFile (take n b) .refusal)) ≡ 0 → (largestFile ≤ length b) × (readFile (take n b) .refusal ≡ 0)
-      go true p q e = absurd (omega arith)
-      go false p true e = absurd (omega arith)
-      go false p false e = (ltb-false (length b) largestFile p, e)
-
-  book-sound : SoundLent (lent (stateIn b n) (leasesIn b n))
+  book-sound : SoundLent (lent (stateIn b n) (leasesIn b n) (namesIn b n))
   unfolding lent
   book-sound =
-      let r = parts .1 in
-      record { whole = file-long (take n b) r; sound = ap (soundB (readFile (take n b) .state)) (file-back (take n b) r) ∙ read-sound (take n b) r }
+      let r = accepted-parts b n e .2 in
+      record { whole = file-long (take n b) r; sound = ap (λ (t : LeaseTable). bookB (bookOf (readFile (take n b) .state) t (namesIn b n))) (file-back (take n b) r) ∙ read-sound (take n b) r }
 
 -- ---- what is told where the writer refuses nothing
 told : (w : Written) (k : ℕ) → w .refusal ≡ 0 → numberAfter w k ≡ k
@@ -66,27 +58,27 @@ module _ (b : List ℕ) (n : ℕ) (work : State → List Lease → Worked) (e : 
   unfolding onFile pick
   at = ap (λ (k : ℕ). pick (eqb k 0) (filed b n done) (kept b n)) e
 
-  numbered : SoundLent (lent (done .state) (done .leases)) → Numbered b (onFile b n work) done
+  numbered : SoundLent (lent (done .state) (done .leases) (namesIn b n)) → Numbered b n (onFile b n work) done
   unfolding lent
   numbered v = record {
-    number = ap (λ (x : Filed). x .number) at ∙ told (writtenLent (done .state) (done .leases) (length b)) (done .number) written;
+    number = ap (λ (x : Filed). x .number) at ∙ told (writtenLent (done .state) (done .leases) (namesIn b n) (length b)) (done .number) written;
     written = written;
-    long = ap (λ (x : Filed). x .length) at ∙ told-length (writtenLent (done .state) (done .leases) (length b)) n written;
+    long = ap (λ (x : Filed). x .length) at ∙ told-length (writtenLent (done .state) (done .leases) (namesIn b n) (length b)) n written;
   }
     where
-      written : writtenLent (done .state) (done .leases) (length b) .refusal ≡ 0
-      written = sound-written (lent (done .state) (done .leases)) v (length b) (parts b n e .0)
+      written : writtenLent (done .state) (done .leases) (namesIn b n) (length b) .refusal ≡ 0
+      written = sound-written (lent (done .state) (done .leases) (namesIn b n)) v (length b) (let h = accepted-parts b n e .0 in omega arith)
 
 -- ---- one call
 pub served-numbers : ServedNumbers
-unfolding ServedNumbers LentDemand1 serveFile
+unfolding ServedNumbers LentDemand1 serveFile lent
 served-numbers b n c e =
-    let w : Numbered b (serveFile b n c) (called (serveLent (stateIn b n) (leasesIn b n) c)) = numbered b n (λ s ls. called (serveLent s ls c)) e (step (stateIn b n) (leasesIn b n) c (book-sound b n e)) in
-    record { numbered = w; few = subst (λ (k : ℕ). k ≤ 8) (sym (w .number)) (lent-demand1 (stateIn b n) (leasesIn b n) c .outcome) }
+    let w : Numbered b n (serveFile b n c) (called (serveLent (stateIn b n) (leasesIn b n) (namesIn b n) c)) = numbered b n (λ s ls. called (serveLent s ls (namesIn b n) c)) e (step (stateIn b n) (leasesIn b n) (namesIn b n) c (book-sound b n e)) in
+    record { numbered = w; few = subst (λ (k : ℕ). k ≤ 8) (sym (w .number)) (lent-demand1 (lent (stateIn b n) (leasesIn b n) (namesIn b n)) c .outcome) }
 
 -- ---- a list of calls: its state and records stay sound, and it stops for one of two reasons
-record Stopped (r : Worked) : Type 0 where
-  sound : SoundLent (lent (r .state) (r .leases))
+record Stopped (names : List ℕ) (r : Worked) : Type 0 where
+  sound : SoundLent (lent (r .state) (r .leases) names)
   few : isIn (r .number) (0 ∷ 24 ∷ 27 ∷ []) ≡ true
 
 stop-few : (cs : List ℕ) (room : ℕ) → isIn (stopIn cs room) (0 ∷ 24 ∷ 27 ∷ []) ≡ true
@@ -98,15 +90,15 @@ stop-few cs room = go (cutOff cs) (ltb room 515)
     go false true = refl
     go false false = refl
 
-replays : (k : ℕ) (s : State) (ls : List Lease) (cs : List ℕ) (room : ℕ) → SoundLent (lent s ls) → Stopped (replayed k s ls cs room)
+replays : (k : ℕ) (s : State) (ls : List Lease) (names cs : List ℕ) (room : ℕ) → SoundLent (lent s ls names) → Stopped names (replayed k s ls names cs room)
 unfolding replayed isIn pick
-replays zero s ls cs room v = record { sound = v; few = refl }
-replays (suc k) s ls cs room v =
+replays zero s ls names cs room v = record { sound = v; few = refl }
+replays (suc k) s ls names cs room v =
     go (eqb (length cs) 0) (eqb (stopIn cs room) 0)
-    (replays k (serveLent s ls (callIn cs) .state) (serveLent s ls (callIn cs) .leases) (drop (recordSize cs) cs) _ (step s ls (callIn cs) v))
+    (replays k (serveLent s ls names (callIn cs) .state) (serveLent s ls names (callIn cs) .leases) names (drop (recordSize cs) cs) _ (step s ls names (callIn cs) v))
   where
-    go : (p q : Bool) → Stopped (replayed k (serveLent s ls (callIn cs) .state) (serveLent s ls (callIn cs) .leases) (drop (recordSize cs) cs) (room - length (answerOctets (serveLent s ls (callIn cs)))))
-        → Stopped (pick p (stopped 0 s ls) (pick q (answerBefore cs (serveLent s ls (callIn cs)) (replayed k (serveLent s ls (callIn cs) .state) (serveLent s ls (callIn cs) .leases) (drop (recordSize cs) cs) (room - length (answerOctets (serveLent s ls (callIn cs)))))) (stopped (stopIn cs room) s ls)))
+    go : (p q : Bool) → Stopped names (replayed k (serveLent s ls names (callIn cs) .state) (serveLent s ls names (callIn cs) .leases) names (drop (recordSize cs) cs) (room - length (answerOctets (serveLent s ls names (callIn cs)))))
+        → Stopped names (pick p (stopped 0 s ls) (pick q (answerBefore cs (serveLent s ls names (callIn cs)) (replayed k (serveLent s ls names (callIn cs) .state) (serveLent s ls names (callIn cs) .leases) names (drop (recordSize cs) cs) (room - length (answerOctets (serveLent s ls names (callIn cs)))))) (stopped (stopIn cs room) s ls)))
     go true q r = record { sound = v; few = refl }
     go false true r = record { sound = r .sound; few = r .few }
     go false false r = record { sound = v; few = stop-few cs room }
@@ -114,6 +106,6 @@ replays (suc k) s ls cs room v =
 pub replayed-numbers : ReplayedNumbers
 unfolding ReplayedNumbers replayFile
 replayed-numbers b n cs room e =
-    let ends = replays (length cs) (stateIn b n) (leasesIn b n) cs room (book-sound b n e) in
-    let w : Numbered b (replayFile b n cs room) (replayed (length cs) (stateIn b n) (leasesIn b n) cs room) = numbered b n (λ s ls. replayed (length cs) s ls cs room) e (ends .sound) in
+    let ends = replays (length cs) (stateIn b n) (leasesIn b n) (namesIn b n) cs room (book-sound b n e) in
+    let w : Numbered b n (replayFile b n cs room) (replayed (length cs) (stateIn b n) (leasesIn b n) (namesIn b n) cs room) = numbered b n (λ s ls. replayed (length cs) s ls (namesIn b n) cs room) e (ends .sound) in
     record { numbered = w; few = ap (λ (k : ℕ). isIn k (0 ∷ 24 ∷ 27 ∷ [])) (w .number) ∙ ends .few }

@@ -1,5 +1,5 @@
 -- Definitions: what the functions for a host program in C or Rust answer: numbers and octets only. A campus file is held in a buffer of the caller's.
--- The buffer is tested first: 23, document 01's short room, below 14,628 octets; 28 a length past its end; then 20 and 21. Of a list of calls:
+-- The buffer is tested first: 23, document 01's short room, below 32,768 octets; 28 a length past its end; then 20 and 21. Of a list of calls:
 -- 24 a record that is cut off, then 27 fewer than 515 octets left for the next answer. Each number has one meaning.
 use Prim.Native.Nat.{ℕ, zero, suc, _+_, _-_, min}
 use mathlib.Core.Bool.{Bool, true}
@@ -7,32 +7,40 @@ use mathlib.Core.List.{List, [], _∷_, _++_}
 use lib.Dec.{eqb, ltb}
 use lib.ListN.{drop, length, take}
 use Rattle.reply.specs.Reply.{leastRoom}
-use Rattle.state_file.specs.File.{longestFile}
+use Rattle.state_file.specs.File.{fileLimit}
 use Rattle.lists.specs.Pick.{pick}
 use Rattle.octets.specs.Octets.{at16, at32, octets16}
 use Rattle.state.specs.declared.Lease.{Lease}
 use Rattle.state.specs.declared.State.{State}
 use Rattle.server.specs.Serve.{Call}
 use Rattle.state_file.specs.declared.Written.{Written}
-use Rattle.state_file.specs.StateFile.{readFile}
+use Rattle.state_file.specs.StateFile.{namesOf, readFile}
 use Rattle.records.specs.Records.{recordsOf}
 use Rattle.records.specs.Lent.{LentAnswer, roomLent, serveLent, writtenLent}
 
 -- ---- a file in a buffer
 -- a file's buffer has to hold the largest file
 abbrev pub largestFile : ℕ
-largestFile = longestFile
+largestFile = fileLimit
 
 -- the number that the first n octets of a buffer draw before anything is done with them, or 0
 unfoldable pub refusalIn : List ℕ → ℕ → ℕ
 refusalIn b n = pick (ltb (length b) largestFile) 23 (pick (ltb (length b) n) 28 (readFile (take n b) .refusal))
 
--- their state and records
+-- their state and records,
 abbrev pub stateIn : List ℕ → ℕ → State
 stateIn b n = readFile (take n b) .state
 
 abbrev pub leasesIn : List ℕ → ℕ → List Lease
 leasesIn b n = recordsOf (readFile (take n b) .table)
+
+-- and the names of its scopes
+abbrev pub namesIn : List ℕ → ℕ → List ℕ
+namesIn b n = namesOf (take n b)
+
+-- no accepted file has more octets of names
+abbrev pub largestNames : ℕ
+largestNames = 6229
 
 -- What is told once the file is written again. The writer refuses no book that calls on an accepted file leave (`ServedNumbers`, `ReplayedNumbers` in
 -- Statement.antt); if it did, the host would be told its refusal, the old file would stand, and the reply or the answers would be there all the same.
@@ -59,12 +67,12 @@ pub record Filed : Type 0 where
   pub used : ℕ
   pub out : List ℕ
 
--- the file of the state and the records afterwards takes the place of the old one
+-- the file of the state and the records afterwards, with the same names, takes the place of the old one
 abbrev pub filed : List ℕ → ℕ → Worked → Filed
 filed b n r = record {
-  number = numberAfter (writtenLent (r .state) (r .leases) (length b)) (r .number);
-  buffer = roomLent (r .state) (r .leases) b;
-  length = lengthAfter (writtenLent (r .state) (r .leases) (length b)) n;
+  number = numberAfter (writtenLent (r .state) (r .leases) (namesIn b n) (length b)) (r .number);
+  buffer = roomLent (r .state) (r .leases) (namesIn b n) b;
+  length = lengthAfter (writtenLent (r .state) (r .leases) (namesIn b n) (length b)) n;
   used = r .used;
   out = r .out;
 }
@@ -81,7 +89,7 @@ abbrev pub called : LentAnswer → Worked
 called a = record { number = a .outcome; state = a .state; leases = a .leases; used = 0; out = a .reply }
 
 unfoldable pub serveFile : List ℕ → ℕ → Call → Filed
-serveFile b n c = onFile b n (λ s ls. called (serveLent s ls c))
+serveFile b n c = onFile b n (λ s ls. called (serveLent s ls (namesIn b n) c))
 
 -- ---- a list of calls, each a record as `replay` reads it: time(4), client address(4), reply room length(2), datagram length(2), the datagram
 -- how many octets the first record takes
@@ -116,15 +124,15 @@ unfoldable pub stopIn : List ℕ → ℕ → ℕ
 stopIn cs room = pick (cutOff cs) 24 (pick (ltb room answerRoom) 27 0)
 
 -- at most k records, each on what the one before left
-unfoldable pub replayed : ℕ → State → List Lease → List ℕ → ℕ → Worked
-replayed zero s ls cs room = stopped 0 s ls
-replayed (suc k) s ls cs room =
+unfoldable pub replayed : ℕ → State → List Lease → List ℕ → List ℕ → ℕ → Worked
+replayed zero s ls names cs room = stopped 0 s ls
+replayed (suc k) s ls names cs room =
     pick (eqb (length cs) 0) (stopped 0 s ls)
     (pick (eqb (stopIn cs room) 0)
-    (answerBefore cs (serveLent s ls (callIn cs))
-    (replayed k (serveLent s ls (callIn cs) .state) (serveLent s ls (callIn cs) .leases) (drop (recordSize cs) cs) (room - length (answerOctets (serveLent s ls (callIn cs))))))
+    (answerBefore cs (serveLent s ls names (callIn cs))
+    (replayed k (serveLent s ls names (callIn cs) .state) (serveLent s ls names (callIn cs) .leases) names (drop (recordSize cs) cs) (room - length (answerOctets (serveLent s ls names (callIn cs))))))
     (stopped (stopIn cs room) s ls))
 
 -- a list of calls on the file in a buffer, with so much room for answers
 unfoldable pub replayFile : List ℕ → ℕ → List ℕ → ℕ → Filed
-replayFile b n cs room = onFile b n (λ s ls. replayed (length cs) s ls cs room)
+replayFile b n cs room = onFile b n (λ s ls. replayed (length cs) s ls (namesIn b n) cs room)

@@ -1,8 +1,8 @@
 -- Definitions: what each function promises of its answer and of what was lent to it.
-use Prim.Native.Nat.{ℕ}
+use Prim.Native.Nat.{ℕ, _≤_}
 use mathlib.Core.Path.{_≡_}
 use mathlib.Core.List.{List, _++_}
-use lib.ListN.{drop, length}
+use lib.ListN.{drop, length, take}
 use Rattle.octets.specs.Octets.{put}
 use Rattle.server.specs.declared.Outcome.{Outcome}
 use Rattle.server.specs.Serve.{Said, Tells}
@@ -10,13 +10,18 @@ use Rattle.owned.specs.declared.OwnedCall.{OwnedCall}
 use Rattle.owned.specs.declared.OwnedFile.{OwnedFile}
 use Rattle.records.specs.Lent.{LentAnswer}
 use Rattle.embed.specs.declared.Progress.{Progress}
-use Rattle.embed.specs.Embed.{answerOctets, Filed, leasesIn, refusalIn, stateIn, Worked}
+use Rattle.embed.specs.Embed.{answerOctets, Filed, largestNames, leasesIn, namesIn, refusalIn, stateIn, Worked}
 
 -- the book of the first n octets of a buffer
 pub record Opened (b : List ℕ) (n : ℕ) (r : OwnedFile) : Type 0 where
   pub refusal : r .refusal ≡ refusalIn b n
   pub state : refusalIn b n ≡ 0 → r .owned .state ≡ stateIn b n
   pub leases : refusalIn b n ≡ 0 → r .owned .records .leases ≡ leasesIn b n
+
+-- its names, copied to the front of another buffer: the first r octets of it
+pub record Keeps (b : List ℕ) (n : ℕ) (kept : List ℕ) (r : ℕ) : Type 0 where
+  pub within : r ≤ length kept
+  pub front : n ≤ length b → take r kept ≡ take largestNames (namesIn b n)
 
 -- a call's answer, written into a buffer from `to` on
 pub record Answers (a : LentAnswer) (before : List ℕ) (to : ℕ) (after : List ℕ) (r : OwnedCall) : Type 0 where

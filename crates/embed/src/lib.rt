@@ -1,5 +1,5 @@
 // The functions that a host program in C or Rust links: numbers and octets only. For `banshorra_serve` and `banshorra_replay` a campus file is
-// held in a buffer of the caller's, of at least 14,628 octets; `file_length` is the number of its octets, before and after.
+// held in a buffer of the caller's, of at least 32,768 octets; `file_length` is the number of its octets, before and after.
 ghost use mathlib.Core.Path.{_≡_};
 ghost use Prim.Native.Nat.{_+_, _≤_, min};
 ghost use lib.ListN.{drop, length};
@@ -7,8 +7,8 @@ ghost use Rattle.board_text.specs.Board.{lengthIn, roomWithText};
 ghost use Rattle.state_file.specs.StateFile.{readFile};
 ghost use Rattle.records.specs.Lent.{serveLent};
 ghost use Rattle.reply.specs.Reply.{leastRoom};
-ghost use Rattle.embed.specs.Embed.{answerRoom, numberAfter, lengthAfter, serveFile, replayFile, replayed, stopIn, callIn, recordSize};
-ghost use Rattle.embed.specs.Promises.{Opened, ServesFile, Answers, Replays, ReplaysFile};
+ghost use Rattle.embed.specs.Embed.{answerRoom, largestNames, numberAfter, lengthAfter, serveFile, replayFile, replayed, stopIn, callIn, recordSize};
+ghost use Rattle.embed.specs.Promises.{Keeps, Opened, ServesFile, Answers, Replays, ReplaysFile};
 use owned::Owned;
 use owned::OwnedCall;
 use owned::OwnedFile;
@@ -16,6 +16,9 @@ use state_file::Written;
 
 // What an answer in a list may take: outcome(1), reply length(2) and the longest reply.
 const ANSWER_ROOM: usize = 3 + reply::LEAST_ROOM;
+
+// The longest names of an accepted file.
+const NAMES_ROOM: usize = 6229;
 
 // How far a list of calls came: 0 or why it stopped, the octets of calls used, the octets of answers filled, and the book afterwards.
 struct Progress {
@@ -41,13 +44,34 @@ fn refused(number: u8) -> OwnedFile
 fn open_in(file: &[u8], n: usize) -> OwnedFile
     ensures { λ r. ⌜ Opened (now (file .entry)) n r ⌝ }
 {
-    if file.len() < state_file::LONGEST_FILE {
+    if file.len() < state_file::FILE_LIMIT {
         return refused(23);
     }
     if file.len() < n {
         return refused(28);
     }
     owned::open(&file[..n])
+}
+
+fn cut_names(n: usize) -> usize
+    ensures { λ r. ⌜ r ≡ min n largestNames ⌝ }
+{
+    if n < NAMES_ROOM {
+        return n;
+    }
+    NAMES_ROOM
+}
+
+// The names in the first n octets of a buffer, copied to the front of another, since the file is written over them; how many octets they are.
+fn keep_names(kept: &mut [u8; NAMES_ROOM], file: &[u8], n: usize) -> usize
+    ensures { λ r. ⌜ Keeps (now (file .entry)) n (now (kept .exit)) r ⌝ }
+{
+    if file.len() < n {
+        return 0;
+    }
+    let names = state_file::names(&file[..n]);
+    let k = cut_names(names.len());
+    octets::put_run(kept, 0, names, k)
 }
 
 // ---- what is told once the file is written again
@@ -103,6 +127,7 @@ fn cut_room(n: usize) -> usize
 // The call, and its answer written from `to` on.
 fn answer_call(
     o: Owned,
+    names: &[u8],
     datagram: &[u8],
     client: u32,
     time: u32,
@@ -111,10 +136,11 @@ fn answer_call(
     to: usize,
 ) -> OwnedCall
     requires { ⌜ (to + answerRoom ≤ length (now answers)) × (room ≤ leastRoom) ⌝ }
-    ensures { λ r. ⌜ Answers (serveLent (o .state) (o .records .leases) (record { datagram = now (datagram .entry); client = client; time = time; room = room })) (now (answers .entry)) to (now (answers .exit)) r ⌝ }
+    ensures { λ r. ⌜ Answers (serveLent (o .state) (o .records .leases) (now (names .entry)) (record { datagram = now (datagram .entry); client = client; time = time; room = room })) (now (answers .entry)) to (now (answers .exit)) r ⌝ }
 {
     let r = owned::serve(
         o,
+        names,
         datagram,
         client,
         time,
@@ -127,9 +153,16 @@ fn answer_call(
 }
 
 // The record at a place, answered from `to` on.
-fn answer_record(o: Owned, calls: &[u8], at: usize, answers: &mut [u8], to: usize) -> OwnedCall
+fn answer_record(
+    o: Owned,
+    names: &[u8],
+    calls: &[u8],
+    at: usize,
+    answers: &mut [u8],
+    to: usize,
+) -> OwnedCall
     requires { ⌜ (to + answerRoom ≤ length (now answers)) × (at + recordSize (drop at (now calls)) ≤ length (now calls)) ⌝ }
-    ensures { λ r. ⌜ Answers (serveLent (o .state) (o .records .leases) (callIn (drop at (now (calls .entry))))) (now (answers .entry)) to (now (answers .exit)) r ⌝ }
+    ensures { λ r. ⌜ Answers (serveLent (o .state) (o .records .leases) (now (names .entry)) (callIn (drop at (now (calls .entry))))) (now (answers .entry)) to (now (answers .exit)) r ⌝ }
 {
     let time = octets::read_u32(calls, at);
     let client = octets::read_u32(calls, at + 4);
@@ -137,7 +170,16 @@ fn answer_record(o: Owned, calls: &[u8], at: usize, answers: &mut [u8], to: usiz
     let n = octets::read_u16(calls, at + 10) as usize;
     let room = cut_room(size);
     let from = at + 12;
-    answer_call(o, &calls[from..from + n], client, time, room, answers, to)
+    answer_call(
+        o,
+        names,
+        &calls[from..from + n],
+        client,
+        time,
+        room,
+        answers,
+        to,
+    )
 }
 
 fn record_size(calls: &[u8], at: usize) -> usize
@@ -148,8 +190,8 @@ fn record_size(calls: &[u8], at: usize) -> usize
 }
 
 // Answers records until they end, one is cut off, or the next answer may not fit.
-fn replay(start: Owned, calls: &[u8], answers: &mut [u8]) -> Progress
-    ensures { λ r. ⌜ Replays (replayed (length (now (calls .entry))) (start .state) (start .records .leases) (now (calls .entry)) (length (now (answers .entry)))) (now (answers .entry)) (now (answers .exit)) r ⌝ }
+fn replay(start: Owned, names: &[u8], calls: &[u8], answers: &mut [u8]) -> Progress
+    ensures { λ r. ⌜ Replays (replayed (length (now (calls .entry))) (start .state) (start .records .leases) (now (names .entry)) (now (calls .entry)) (length (now (answers .entry)))) (now (answers .entry)) (now (answers .exit)) r ⌝ }
 {
     let mut o = start;
     let mut at: usize = 0;
@@ -164,7 +206,7 @@ fn replay(start: Owned, calls: &[u8], answers: &mut [u8]) -> Progress
                 owned: o,
             };
         }
-        let r = answer_record(o, calls, at, answers, to);
+        let r = answer_record(o, names, calls, at, answers, to);
         let told = r.outcome;
         o = r.owned;
         at = at + record_size(calls, at);
@@ -199,7 +241,7 @@ pub extern "C" fn banshorra_board(file: &[u8], text: &mut [u8]) -> usize
 }
 
 // One call on the campus file in a buffer: the outcome, 0 to 8, with the reply and its length, and the file and its length afterwards. 23 where the
-// buffer has fewer than 14,628 octets, 28 where `file_length` is past its end, then 20 or 21 where the file is refused: these change nothing but
+// buffer has fewer than 32,768 octets, 28 where `file_length` is past its end, then 20 or 21 where the file is refused: these change nothing but
 // the reply's length, which is 0.
 #[no_mangle]
 pub extern "C" fn banshorra_serve(
@@ -217,11 +259,13 @@ pub extern "C" fn banshorra_serve(
     let f = open_in(file, n);
     let refusal = f.refusal;
     if refusal == 0 {
+        let mut kept = [0u8; NAMES_ROOM];
+        let k = keep_names(&mut kept, file, n);
         let o = f.owned;
-        let r = owned::serve(o, datagram, client, time, reply);
+        let r = owned::serve(o, &kept[..k], datagram, client, time, reply);
         let told = r.outcome;
         let b = r.owned;
-        let w = owned::write(b, file);
+        let w = owned::write(b, &kept[..k], file);
         *file_length = length_after(w, n);
         *reply_length = told.length;
         return number_after(w, told.outcome);
@@ -249,10 +293,12 @@ pub extern "C" fn banshorra_replay(
     let f = open_in(file, n);
     let refusal = f.refusal;
     if refusal == 0 {
+        let mut kept = [0u8; NAMES_ROOM];
+        let k = keep_names(&mut kept, file, n);
         let o = f.owned;
-        let p = replay(o, calls, answers);
+        let p = replay(o, &kept[..k], calls, answers);
         let b = p.owned;
-        let w = owned::write(b, file);
+        let w = owned::write(b, &kept[..k], file);
         *file_length = length_after(w, n);
         *used = p.used;
         *filled = p.filled;

@@ -1,11 +1,12 @@
 -- Definitions: where the value that stands at a place of the octets ends: what every function that walks over octets promises.
+use mathlib.Core.Bool.{Bool, false, true}
 use mathlib.Core.List.{List, [], _∷_}
 use mathlib.Core.Path.{_≡_}
 use Prim.Native.Nat.{_*_, _+_, _≤_, suc, zero, ℕ}
 use lib.Dec.{leb, ltb}
 use lib.ListN.{drop, getD, length}
 use Rattle.lists.specs.Pick.{pick}
-use Rattle.format.specs.Format.{Format, bad, got}
+use Rattle.format.specs.Format.{Format, Got, bad, got}
 use Rattle.format.specs.declared.Place.{Place}
 use Rattle.format.specs.declared.Place.the-variants.{At, Nowhere}
 
@@ -17,6 +18,14 @@ pub record Stands {A : Type 0} (f : Format A) (s : List ℕ) (at : ℕ) (x : A) 
 pub record Fails {A : Type 0} (f : Format A) (s : List ℕ) (at : ℕ) : Type 0 where
   pub reads : f .read (drop at s) ≡ bad
 
+-- a value of at least `least` octets stands at `at` and ends at the place; or none stands there
+unfoldable pub EndsBy : {A : Type 0} → Format A → List ℕ → ℕ → ℕ → Place → Type 0
+EndsBy {A} f s at least (At n) = (x : A) × Stands f s at x n × (at + least ≤ n) × (n ≤ length s)
+EndsBy f s at least Nowhere = Fails f s at
+
+pub record Ends {A : Type 0} (f : Format A) (s : List ℕ) (at least : ℕ) (r : Place) : Type 0 where
+  pub by : EndsBy f s at least r
+
 -- the same of the value x
 unfoldable pub EndsWith : {A : Type 0} → Format A → A → List ℕ → ℕ → ℕ → Place → Type 0
 EndsWith f x s at least (At n) = Stands f s at x n × (at + least ≤ n) × (n ≤ length s)
@@ -24,6 +33,12 @@ EndsWith f x s at least Nowhere = Fails f s at
 
 pub record EndsAs {A : Type 0} (f : Format A) (x : A) (s : List ℕ) (at least : ℕ) (r : Place) : Type 0 where
   pub by : EndsWith f x s at least r
+
+-- whether reading gives a value and leaves nothing over
+unfoldable pub isWhole : {A : Type 0} → Got A → Bool
+isWhole (got x []) = true
+isWhole (got x (y ∷ r)) = false
+isWhole bad = false
 
 -- ---- values in a row
 -- the values of n in a row, each of which says where the next starts

@@ -3,10 +3,10 @@
 use mathlib.Core.Bool.{Bool, false, true}
 use mathlib.Core.List.{List, [], _∷_}
 use mathlib.Core.Path.{_≡_}
-use Prim.Native.Nat.{_+_, _≤_, ℕ}
-use lib.ListN.{getD, length}
+use Prim.Native.Nat.{_+_, _-_, _≤_, ℕ}
+use lib.ListN.{getD, length, take}
 use Rattle.lists.specs.Pick.{pick}
-use Rattle.format.specs.Format.{Format, counted, only, times}
+use Rattle.format.specs.Format.{Format, counted, got, only, then, times}
 use Rattle.format.specs.Place.{EachAt, EndsAs, walk}
 use Rattle.format.specs.declared.Place.{Place}
 use Rattle.format.specs.declared.Place.the-variants.{At, Nowhere}
@@ -53,3 +53,11 @@ pub record RowEnds {A K : Type 0} (key : A → K) (wrong : K → A → Bool) (k 
 pub record SectionEnds {A K : Type 0} (key : A → K) (wrong : K → A → Bool) (k : K) (f : Format A) (v : List ℕ → ℕ → A) (next : List ℕ → ℕ → ℕ) (s : List ℕ) (at : ℕ) (r : Place) : Type 0 where
   pub ends : EndsAs (sectionFormat key wrong k f) (walk v next (getD s at 0) s (at + 1)) s at 1 r
   pub each : Found r ((at + 1 ≤ length s) × InRow next s (at + 1) (getD s at 0))
+
+-- ---- the octets of a value, kept as they are
+abbrev pub verbatim : {A : Type 0} → Format A → Format (List ℕ)
+verbatim {A} f = record {
+  read = λ s. then (f .read s) (λ x r. got (take (length s - length r) s) r);
+  write = λ o. o;
+  ok = λ o. (x : A) × (f .ok x) × (o ≡ f .write x);
+}

@@ -1,8 +1,10 @@
 -- Laws: demand 1, put together: what the tests leave, the reply, its reading, and the leases.
-use Rattle.guarantee.specs.Statement.{Answered, Demand1}
-use Rattle.guarantee.proofs.Discards.{Tested, call-tested}
+use Rattle.guarantee.specs.Statement.{Answered, Demand1, NamesStay, run}
+use Rattle.guarantee.proofs.Discards.{Tested, call-tested, names-refused}
 use Rattle.guarantee.proofs.Replies.{leases-stay, replied}
 use Rattle.guarantee.proofs.Walked.{read-back}
+use mathlib.Core.List.{List, [], _∷_}
+use mathlib.Core.Path.{_≡_, refl, _∙_}
 use Rattle.state.specs.Book.{Book}
 use Rattle.server.specs.Serve.{Call, serveOf}
 
@@ -15,6 +17,8 @@ call-answered b c =
       reads = read-back b c;
       silent = v .silent;
       leases = leases-stay b c;
+      bad-names = names-refused b c;
+      names = v .names;
       untouched = v .untouched;
       untouched-too = v .untouched-too;
       advances = v .advances;
@@ -23,3 +27,13 @@ call-answered b c =
 pub demand1 : Demand1
 unfolding Demand1
 demand1 b c = call-answered b c
+
+-- ---- no call changes the names
+names-after : (b : Book) (cs : List Call) → run b cs .names ≡ b .names
+unfolding run
+names-after b [] = refl
+names-after b (c ∷ cs) = names-after (serveOf b c .book) cs ∙ call-tested b c .names
+
+pub names-stay : NamesStay
+unfolding NamesStay
+names-stay b cs = names-after b cs

@@ -17,14 +17,16 @@ use Rattle.message.specs.laws.Placed.{pick-cases}
 use Rattle.message.specs.Read.{byStage, ended, headerOk, noneRequired, readOf}
 use Rattle.message.specs.Read as read
 use Rattle.message.specs.Walk.{walkOf}
-use Rattle.state.specs.Book.{Book}
+use Rattle.state.specs.Book.{Book, advanced, changedTo}
 use Rattle.state.specs.declared.Edit.{Edit}
 use Rattle.state.specs.declared.Lease.{Lease}
 use Rattle.state.specs.declared.LeaseTable.{LeaseTable}
 use Rattle.state.specs.declared.State.{State}
 use Rattle.state.specs.Edit.{applied, noEdit}
 use Rattle.state.specs.laws.Edited.{applied-none}
-use Rattle.soundness.specs.Sound.{soundB, tenantsIn}
+use Rattle.soundness.specs.Named.{bookB, namesGood}
+use Rattle.soundness.specs.laws.Named.{advanced-names, bad-book}
+use Rattle.soundness.specs.Sound.{tenantsIn}
 use Rattle.decision.specs.declared.Decided.{Decided}
 use Rattle.decision.specs.declared.Reply.{Reply}
 use Rattle.decision.specs.declared.Reply.the-variants.{Nothing, Offer, LeaseAck, ReleaseAck, InfoAck}
@@ -98,6 +100,7 @@ pub record Tested (b : Book) (c : Call) (a : Answer) : Type 0 where
   pub untouched : a .outcome ≡ 1 → a .book ≡ b
   pub untouched-too : a .outcome ≡ 2 → a .book ≡ b
   pub advances : 3 ≤ a .outcome → a .book ≡ bookAt b c
+  pub names : a .book .names ≡ b .names
 
 module _ (b : Book) (c : Call) where
   early : (n : ℕ) → 1 ≤ n → n ≤ 2 → Tested b c (discarded n b)
@@ -107,6 +110,7 @@ module _ (b : Book) (c : Call) where
     untouched = λ e. refl;
     untouched-too = λ e. refl;
     advances = λ h. absurd (omega arith);
+    names = refl;
   }
 
   late : (n : ℕ) → 3 ≤ n → n ≤ 8 → Tested b c (discarded n (bookAt b c))
@@ -116,18 +120,20 @@ module _ (b : Book) (c : Call) where
     untouched = λ e. absurd (omega arith);
     untouched-too = λ e. absurd (omega arith);
     advances = λ h. refl;
+    names = advanced-names b (c .time);
   }
 
   served : (h : ℕ) (m : Fields) (d : Decided) → Judged d → Tested b c (answered (bookAt b c) h m d)
   unfolding replyOf
   served h m d j = record {
     outcome = j .few;
-    silent = λ z. ap (byReply (bookAt b c .state) m (d .verdict)) (j .rest z .1 .0);
+    silent = λ z. ap (byReply (bookAt b c .state) (bookAt b c .names) h m (d .verdict)) (j .rest z .1 .0);
     untouched = λ e. absurd (let r = j .rest (λ z. omega arith) .0 in omega arith);
     untouched-too = λ e. absurd (let r = j .rest (λ z. omega arith) .0 in omega arith);
     advances = λ n.
-        ap {B = Book} (λ (t : LeaseTable). record { state = bookAt b c .state; table = t })
+        ap {B = Book} (changedTo (bookAt b c) (bookAt b c .state))
         (ap (λ (e : Edit). applied e h (bookAt b c .table)) (j .rest (λ z. omega arith) .1 .1) ∙ applied-none (bookAt b c .table) h);
+    names = advanced-names b (c .time);
   }
 
   P : Answer → Type 0
@@ -153,5 +159,10 @@ module _ (b : Book) (c : Call) where
   pub call-tested : Tested b c (serveOf b c)
   unfolding serveOf P
   call-tested =
-      pick-cases P (soundB (b .state) (b .table)) _ _
+      pick-cases P (bookB b) _ _
       (λ _. pick-cases P (ltb (c .room) leastRoom) _ _ (λ _. early 2 (omega arith) (omega arith)) (λ _. at-clock)) (λ _. early 1 (omega arith) (omega arith))
+
+-- ---- bad names are discard 1
+pub names-refused : (b : Book) (c : Call) → namesGood b ≡ false → serveOf b c .outcome ≡ 1
+unfolding serveOf pick
+names-refused b c e = ap {A = Bool} (λ (x : Bool). pick x (pick (ltb (c .room) leastRoom) (discarded 2 b) (atClock (advanced b (c .time)) (c .client) (c .datagram))) (discarded 1 b) .outcome) (bad-book b e)

@@ -22,7 +22,9 @@ use Rattle.state.specs.Book.{Book, idOf, inUse, insertOf, laidOut, leaseWith, l
 use Rattle.state.specs.Edit.{entering}
 use Rattle.state.specs.laws.Edited.{applied-entering, applied-others}
 use Rattle.state.specs.laws.Layout.{read-back}
-use Rattle.soundness.specs.Sound.{scopesIn, soundB, tenantsIn}
+use Rattle.soundness.specs.Named.{bookB}
+use Rattle.soundness.specs.laws.Named.{advanced-names, book-sound}
+use Rattle.soundness.specs.Sound.{scopesIn, tenantsIn}
 use Rattle.soundness.specs.laws.Book.{Sound, sound-lists}
 use Rattle.allocation.specs.declared.Ask.{Ask}
 use Rattle.allocation.specs.declared.Grant.{Grant}
@@ -172,7 +174,7 @@ module _ (s : State) (t : LeaseTable) (h : ℕ) (m : Fields) (v : Sound s (lease
         ∙ not-taken (eqb (m .kind) 1) _ _ (ap (λ (k : ℕ). eqb k 1) request)
         ∙ taken (eqb (m .kind) 3) _ _ (ap (λ (k : ℕ). eqb k 3) request)
 
-    pub acknowledged : replyOf s m (withLease LeaseAck L) ≡ leaseAckOf (headOf s m) (record {
+    pub acknowledged : (names : List ℕ) → replyOf s names h m (withLease LeaseAck L) ≡ leaseAckOf (headOf s m) (record {
       length = (startOf m (s .clock) (s .clock) + lengthOf m defaultLease) - startOf m (s .clock) (s .clock);
       start = startOf m (s .clock) (s .clock);
       scope = scopeAt s (scopePlace s (m .scope .value)) .lowest;
@@ -180,7 +182,7 @@ module _ (s : State) (t : LeaseTable) (h : ℕ) (m : Fields) (v : Sound s (lease
       clock = s .clock;
     })
     unfolding replyOf withLease
-    acknowledged =
+    acknowledged names =
         ap (λ (k : ℕ). leaseAckOf (headOf s m) (record {
           length = (startOf m (s .clock) (s .clock) + lengthOf m defaultLease) - startOf m (s .clock) (s .clock);
           start = startOf m (s .clock) (s .clock);
@@ -192,7 +194,7 @@ module _ (s : State) (t : LeaseTable) (h : ℕ) (m : Fields) (v : Sound s (lease
 -- ---- the call
 module _ (b : Book) (c : Call) (v : SoundBook b) (r : NewRequest b c) where
   S : Sound (stateAt b c) (leasesOf (tableAt b c))
-  S = sound-lists (stateAt b c) (tableAt b c) (now-sound b c v .sound)
+  S = sound-lists (stateAt b c) (tableAt b c) (book-sound (bookAt b c) (now-sound b c v .sound))
 
   abbrev D : Decided
   D = changed (entering (leaseFor b c)) (withLease LeaseAck (leaseFor b c))
@@ -200,7 +202,7 @@ module _ (b : Book) (c : Call) (v : SoundBook b) (r : NewRequest b c) where
   served : serveOf b c ≡ answered (bookAt b c) (tenantFor b c) (saysOf b c) D
   unfolding serveOf atClock withReading forServer
   served =
-      taken (soundB (b .state) (b .table)) _ _ (v .sound)
+      taken (bookB b) _ _ (v .sound)
       ∙ not-taken (ltb (c .room) leastRoom) _ _ (le-ltb (c .room) leastRoom (r .room))
       ∙ taken (ltb (tenantFor b c) (tenantsIn (stateAt b c))) _ _ (lt-ltb (tenantFor b c) (tenantsIn (stateAt b c)) (r .house))
       ∙ taken (eqb (readOf (c .datagram) .discard) 0) _ _ (eq-eqb (readOf (c .datagram) .discard) 0 (r .read))
@@ -230,10 +232,10 @@ module _ (b : Book) (c : Call) (v : SoundBook b) (r : NewRequest b c) where
         exact (stateAt b c) (tableAt b c) (tenantFor b c) (saysOf b c) S (r .house) (r .request) (r .new) (r .error1) (r .error2) (r .soon) (r .fits) (r .left) (r .least);
     reply =
         ap (λ (a : Answer). a .reply) served
-        ∙ acknowledged (stateAt b c) (tableAt b c) (tenantFor b c) (saysOf b c) S (r .house) (r .request) (r .new) (r .error1) (r .error2) (r .soon) (r .fits) (r .left) (r .least);
+        ∙ acknowledged (stateAt b c) (tableAt b c) (tenantFor b c) (saysOf b c) S (r .house) (r .request) (r .new) (r .error1) (r .error2) (r .soon) (r .fits) (r .left) (r .least) (bookAt b c .names);
     names =
         ap (λ (a : Answer). addressesIn (a .reply)) served
-        ∙ ap addressesIn (acknowledged (stateAt b c) (tableAt b c) (tenantFor b c) (saysOf b c) S (r .house) (r .request) (r .new) (r .error1) (r .error2) (r .soon) (r .fits) (r .left) (r .least))
+        ∙ ap addressesIn (acknowledged (stateAt b c) (tableAt b c) (tenantFor b c) (saysOf b c) S (r .house) (r .request) (r .new) (r .error1) (r .error2) (r .soon) (r .fits) (r .left) (r .least) (bookAt b c .names))
         ∙ ack-names (headOf (stateAt b c) (saysOf b c)) (termsFor b c)
         (named-head (c .datagram) (stateAt b c) (r .read))
         (offsets-some (grantFor b c .addresses)
@@ -246,6 +248,7 @@ module _ (b : Book) (c : Call) (v : SoundBook b) (r : NewRequest b c) where
         (pool-fits (stateAt b c) (leasesOf (tableAt b c)) S (placeFor b c)
         (here (stateAt b c) (tableAt b c) (tenantFor b c) (saysOf b c) S (r .house) (r .request) (r .new) (r .error1) (r .error2)));
     state = ap (λ (a : Answer). a .book .state) served;
+    titles = ap (λ (a : Answer). a .book .names) served ∙ advanced-names b (c .time);
     others = λ g n.
         ap (λ (a : Answer). ownOf (a .book .table) g) served ∙ ap inUse (applied-others (entering (leaseFor b c)) (tenantFor b c) g (tableAt b c) n);
     own = after;

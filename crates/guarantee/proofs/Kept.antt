@@ -18,9 +18,10 @@ use Rattle.state.specs.declared.State.{State}
 use Rattle.state.specs.Book.{Book, advanced, dropped, inUse, laidOut, leasesOf, liveOf, scopesOf, tableOf}
 use Rattle.state.specs.laws.Edited.{applied-count}
 use Rattle.state.specs.laws.Layout.{table-back}
-use Rattle.soundness.specs.Sound.{oneTo, countsB, rule3, rule4, rule5, rule6, settingsB, sizeB, soundB, tenantsIn}
+use Rattle.soundness.specs.Named.{bookB}
+use Rattle.soundness.specs.laws.Named.{advanced-book, book-named, book-sound, both-book}
+use Rattle.soundness.specs.Sound.{oneTo, countsB, rule3, rule4, rule5, rule6, settingsB, sizeB, tenantsIn}
 use Rattle.soundness.specs.laws.Book.{Sound, settingsOk, sound-lists}
-use Rattle.soundness.specs.laws.Kept.{advanced-sound}
 use Rattle.decision.specs.Decide.{decideOf}
 use Rattle.decision.specs.laws.Kept.{GoodId, decision-sound}
 use Rattle.decision.specs.laws.Reads.{read-id}
@@ -43,21 +44,23 @@ module _ (b : Book) (c : Call) (v : SoundBook b) where
   Keeps a = SoundBook (a .book)
 
   pub now-sound : SoundBook (bookAt b c)
-  now-sound = record { tenants = advanced-eight b (c .time) ∙ v .tenants; sound = advanced-sound b (c .time) (v .sound) }
+  now-sound = record { tenants = advanced-eight b (c .time) ∙ v .tenants; sound = advanced-book b (c .time) (v .sound) }
 
   decided-sound : (h : ℕ) (m : Fields) → h < tenantsIn (bookAt b c .state) → GoodId m → Keeps (answered (bookAt b c) h m (decideOf (bookAt b c .state) (bookAt b c .table) h m))
   unfolding Keeps
   decided-sound h m known good = record {
     tenants = applied-count (decideOf (bookAt b c .state) (bookAt b c .table) h m .edit) h (bookAt b c .table) ∙ now-sound .tenants;
     sound =
-        decision-sound (bookAt b c .state) (bookAt b c .table) h m (now-sound .sound) (advanced-laid b (c .time)) known (let e = now-sound .tenants in omega arith) good;
+        both-book (answered (bookAt b c) h m (decideOf (bookAt b c .state) (bookAt b c .table) h m) .book)
+        (decision-sound (bookAt b c .state) (bookAt b c .table) h m (book-sound (bookAt b c) (now-sound .sound)) (advanced-laid b (c .time)) known (let e = now-sound .tenants in omega arith) good)
+        (book-named (bookAt b c) (now-sound .sound));
   }
 
   pub call-sound : SoundBook (serveOf b c .book)
   unfolding serveOf atClock withReading forServer Keeps
   call-sound =
       let now : SoundBook (bookAt b c) = now-sound in
-      pick-cases Keeps (soundB (b .state) (b .table)) _ _
+      pick-cases Keeps (bookB b) _ _
       (λ _. pick-cases Keeps (ltb (c .room) leastRoom) _ _ (λ _. v)
       (λ _. pick-cases Keeps (ltb (tenantOf (bookAt b c .state) (c .client)) (tenantsIn (bookAt b c .state))) _ _
       (λ known. pick-cases Keeps (eqb (readOf (c .datagram) .discard) 0) _ _
@@ -86,6 +89,6 @@ counts-few s ls v =
 pub within-limits : (b : Book) → SoundBook b → WithinLimits b
 unfolding WithinLimits
 within-limits b v k g here known =
-    let w = sound-lists (b .state) (b .table) (v .sound) in
+    let w = sound-lists (b .state) (b .table) (book-sound b (v .sound)) in
     let n = counts-few (b .state) (leasesOf (b .table)) w in
     w .holdings k g (omega arith) (omega arith)

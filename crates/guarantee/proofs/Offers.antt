@@ -1,5 +1,5 @@
 -- Proof of the OFFER rule about datagrams: the same datagram with its type octet set to REQUEST is read alike but for its type.
-use Prim.Native.Nat.{ℕ, zero, suc, _+_, _-_, _*_, _/_, _≤_, _<_}
+use Prim.Native.Nat.{ℕ, zero, suc, _+_, _-_, _*_, _/_, _≤_, _<_, min}
 use mathlib.Core.Path.{_≡_, refl, sym, ap, ap₂, _∙_, subst}
 use mathlib.Core.Bool.{Bool, true, false, not, _&&_, _||_}
 use mathlib.Core.List.{List, [], _∷_, _++_}
@@ -18,10 +18,11 @@ use Rattle.message.specs.Codes.{allowedIn, allows, lengthOk}
 use Rattle.message.specs.laws.Placed.{pick-cases}
 use Rattle.message.specs.Read.{byStage, ended, headerOk, messageOf, noneRequired, readOf, requiredEmpty}
 use Rattle.message.specs.Read as read
-use Rattle.message.specs.Values.{allowedAt, codesFrom, countsOf, fieldsOf, findOf, foundAt, identifierOf, isFound, namesOf, namesServer, serverOk, timesOf, wishOf}
+use Rattle.message.specs.Values.{allowedAt, codesFrom, countsOf, fieldsOf, findOf, foundAt, identifierOf, isFound, languageOf, namesOf, namesServer, serverOk, timesOf, wishOf}
 use Rattle.message.specs.Walk.{broken, codeAt, exactlyFilled, layoutOk, lengthAt, onward, pastList, start, stepOf, optionTaken, valueOk, walkFrom, walkOf}
 use Rattle.message.specs.declared.Counts.{Counts}
 use Rattle.message.specs.declared.Fields.{Fields}
+use Rattle.message.specs.declared.Language.{Language}
 use Rattle.message.specs.declared.Found.{Found}
 use Rattle.message.specs.declared.Found.the-variants.{At, Absent}
 use Rattle.message.specs.declared.Identifier.{Identifier}
@@ -36,7 +37,8 @@ use Rattle.state.specs.declared.Lease.{Lease}
 use Rattle.state.specs.declared.LeaseTable.{LeaseTable}
 use Rattle.state.specs.declared.State.{State}
 use Rattle.state.specs.Book.{Book, placeOf, zeroLease}
-use Rattle.soundness.specs.Sound.{soundB, tenantsIn}
+use Rattle.soundness.specs.Named.{bookB}
+use Rattle.soundness.specs.Sound.{tenantsIn}
 use Rattle.decision.specs.declared.Decided.{Decided}
 use Rattle.decision.specs.Decide.{decideOf, judgedOf, leasedOf, settledOf}
 use Rattle.decision.specs.Parts.{discardWith, early1Of, error1Of, heldAlready, holdsOf, isNew, leaseIdIn, ownOf, recordedOf, refusalOf, resends, hasPeriod, nakWith, withLease}
@@ -195,6 +197,10 @@ module _ (x a b : ℕ) (l : List ℕ) where
     same-id c = by-found (identifierOf A) (identifierOf B) refl
         (λ at h. ap₂ {C = Identifier} (λ (n : ℕ) (r : List ℕ). record { octets = take n r ++ replicate (32 - n) 0; len = n }) (same16 (at + 2) (omega arith)) (same-drop (at + 4) (omega arith))) c
 
+    same-language : (c : ℕ) → languageOf A (findOf places c) ≡ languageOf B (findOf places c)
+    same-language c = by-found (languageOf A) (languageOf B) refl
+        (λ at h. ap₂ {C = Language} (λ (n : ℕ) (r : List ℕ). record { asked = true; len = n; octets = take (min n 8) r ++ replicate (8 - min n 8) 0 }) (same16 (at + 2) (omega arith)) (same-drop (at + 4) (omega arith))) c
+
     same-server : (server c : ℕ) → serverOk A server (findOf places c) ≡ serverOk B server (findOf places c)
     unfolding namesServer
     same-server server c = by-found (serverOk A server) (serverOk B server) refl
@@ -252,6 +258,7 @@ kind-one m e = ap {B = Fields} (λ (k : ℕ). record {
   ours = m .ours;
   «list_asked» = m .«list_asked»;
   «time_asked» = m .«time_asked»;
+  language = m .language;
 }) e
 
 recorded-same : (own : List Lease) (m : Fields) → recordedOf own m ≡ recordedOf own (sentAs 3 m)
@@ -342,20 +349,20 @@ module _ (x : ℕ) (l : List ℕ) where
   fields-same server e =
       let fine = walked-on x 1 3 l .places in
       sym (
-      ap₂ (λ (i : Identifier) (t : Bool). made (at32 D 4) i t (wishOf D (findOf P 4)) (countsOf D (findOf P 7)) (timesOf D P) (serverOk D server (findOf P 2)) (namesOf D 9 (findOf P 5)) (namesOf D 11 (findOf P 5)))
+      ap₂ (λ (i : Identifier) (t : Bool). made (at32 D 4) i t (wishOf D (findOf P 4)) (countsOf D (findOf P 7)) (timesOf D P) (serverOk D server (findOf P 2)) (namesOf D 9 (findOf P 5)) (namesOf D 11 (findOf P 5)) (languageOf D (findOf P 8)))
       (same-id x 1 3 l P fine 3) (to-same (allowedAt 1 P) (allowedAt 3 P) 17 (λ i h. allowed-same P e i))
-      ∙ ap₂ (λ (w : Wish) (k : Counts). made (at32 D 4) (identifierOf R (findOf P 3)) (allTo (allowedAt 3 P) 17) w k (timesOf D P) (serverOk D server (findOf P 2)) (namesOf D 9 (findOf P 5)) (namesOf D 11 (findOf P 5)))
+      ∙ ap₂ (λ (w : Wish) (k : Counts). made (at32 D 4) (identifierOf R (findOf P 3)) (allTo (allowedAt 3 P) 17) w k (timesOf D P) (serverOk D server (findOf P 2)) (namesOf D 9 (findOf P 5)) (namesOf D 11 (findOf P 5)) (languageOf D (findOf P 8)))
       (same-wish x 1 3 l P fine 4) (same-counts x 1 3 l P fine 7)
-      ∙ ap₂ (λ (w : Times) (k : Bool). made (at32 D 4) (identifierOf R (findOf P 3)) (allTo (allowedAt 3 P) 17) (wishOf R (findOf P 4)) (countsOf R (findOf P 7)) w k (namesOf D 9 (findOf P 5)) (namesOf D 11 (findOf P 5)))
+      ∙ ap₂ (λ (w : Times) (k : Bool). made (at32 D 4) (identifierOf R (findOf P 3)) (allTo (allowedAt 3 P) 17) (wishOf R (findOf P 4)) (countsOf R (findOf P 7)) w k (namesOf D 9 (findOf P 5)) (namesOf D 11 (findOf P 5)) (languageOf D (findOf P 8)))
       (same-times x 1 3 l P fine) (same-server x 1 3 l P fine server 2)
-      ∙ ap₂ (λ (w k : Bool). made (at32 D 4) (identifierOf R (findOf P 3)) (allTo (allowedAt 3 P) 17) (wishOf R (findOf P 4)) (countsOf R (findOf P 7)) (timesOf R P) (serverOk R server (findOf P 2)) w k)
+      ∙ ap₂ (λ (w k : Bool). made (at32 D 4) (identifierOf R (findOf P 3)) (allTo (allowedAt 3 P) 17) (wishOf R (findOf P 4)) (countsOf R (findOf P 7)) (timesOf R P) (serverOk R server (findOf P 2)) w k (languageOf D (findOf P 8)))
       (same-names x 1 3 l P fine 9 5) (same-names x 1 3 l P fine 11 5)
-      ∙ ap (λ (n : ℕ). made n (identifierOf R (findOf P 3)) (allTo (allowedAt 3 P) 17) (wishOf R (findOf P 4)) (countsOf R (findOf P 7)) (timesOf R P) (serverOk R server (findOf P 2)) (namesOf R 9 (findOf P 5)) (namesOf R 11 (findOf P 5)))
-      (same32 x 1 3 l 4 (omega arith))
+      ∙ ap₂ (λ (n : ℕ) (v : Language). made n (identifierOf R (findOf P 3)) (allTo (allowedAt 3 P) 17) (wishOf R (findOf P 4)) (countsOf R (findOf P 7)) (timesOf R P) (serverOk R server (findOf P 2)) (namesOf R 9 (findOf P 5)) (namesOf R 11 (findOf P 5)) v)
+      (same32 x 1 3 l 4 (omega arith)) (same-language x 1 3 l P fine 8)
       )
     where
-      made : ℕ → Identifier → Bool → Wish → Counts → Times → Bool → Bool → Bool → Fields
-      made n i t w k u o p q = record {
+      made : ℕ → Identifier → Bool → Wish → Counts → Times → Bool → Bool → Bool → Language → Fields
+      made n i t w k u o p q v = record {
         kind = 3;
         xid = n;
         id = i;
@@ -367,6 +374,7 @@ module _ (x : ℕ) (l : List ℕ) where
         ours = o;
         «list_asked» = p;
         «time_asked» = q;
+        language = v;
       }
 
   kind-is : (server : ℕ) → fieldsOf D server (messageOf D P) .kind ≡ 1
@@ -523,14 +531,14 @@ module _ (b : Book) (c : Call) where
             to = e ∙ ap (λ (r : Reply). asOffer r ruled) (g .1)
 
             offer : discovered .reply ≡ offerOf (headOf s m) (termsOf s ruled)
-            offer = ap (λ (v : Verdict). byReply s (sentAs 1 m) v (v .reply)) to
+            offer = ap (λ (v : Verdict). byReply s (bookAt b c .names) h (sentAs 1 m) v (v .reply)) to
 
             ack : asked .reply ≡ leaseAckOf (headOf s m) (termsOf s ruled)
-            ack = ap (byReply s (sentAs 3 m) ruled) (g .1)
+            ack = ap (byReply s (bookAt b c .names) h (sentAs 3 m) ruled) (g .1)
 
         refused : ruled .reply ≡ Nak → OfferedAs b c discovered asked
         refused g = kept-back (e ∙ ap (λ (r : Reply). asOffer r ruled) g) (λ n.
-            let z : getD (asked .reply) 1 0 ≡ 6 = ap (λ (r : Reply). getD (byReply s (sentAs 3 m) ruled r) 1 0) g in
+            let z : getD (asked .reply) 1 0 ≡ 6 = ap (λ (r : Reply). getD (byReply s (bookAt b c .names) h (sentAs 3 m) ruled r) 1 0) g in
             let y = n .type in
             omega arith)
 
@@ -559,7 +567,7 @@ module _ (b : Book) (c : Call) where
   offered : Discovers c → Pair (serveOf b c) (serveOf b (requested c))
   unfolding serveOf atClock withReading
   offered v =
-      both (soundB (b .state) (b .table)) _ _ _ _ _ refl
+      both (bookB b) _ _ _ _ _ refl
       (λ _. both (ltb (c .room) leastRoom) _ _ _ _ _ refl (λ _. out 2 b (λ z. omega arith))
       (λ _. both (ltb h (tenantsIn s)) _ _ _ _ _ refl
       (λ _. both (eqb (readOf (c .datagram) .discard) 0) (eqb (readOf (asRequest (c .datagram)) .discard) 0) _ _ _ _ (ap (λ (n : ℕ). eqb n 0) same)

@@ -19,7 +19,8 @@ use Rattle.state.specs.declared.LeaseTable.{LeaseTable}
 use Rattle.state.specs.declared.State.{State}
 use Rattle.state.specs.Book.{Book, advanced, dropped, leasesOf, live, liveOf, raised, tableOf}
 use Rattle.state.specs.laws.Layout.{table-back}
-use Rattle.soundness.specs.Sound.{soundB, tenantsIn}
+use Rattle.soundness.specs.Named.{bookB}
+use Rattle.soundness.specs.Sound.{tenantsIn}
 use Rattle.decision.specs.declared.Decided.{Decided}
 use Rattle.decision.specs.declared.Reply.{Reply}
 use Rattle.decision.specs.declared.Reply.the-variants.{Nothing, Offer, LeaseAck, ReleaseAck, InfoAck, Nak}
@@ -69,14 +70,14 @@ message-long : (kind xid : ℕ) (os : List Option) → 12 ≤ length (messageOct
 unfolding messageOctets
 message-long kind xid os = let e = length-append (optionsOctets os) (optionOctets (option 0 [])) in omega arith
 
-octets-of : (s : State) (m : Fields) (v : Verdict) (k : Reply) → length (m .id .octets) ≡ 32 → Sends k → IsReply (byReply s m v k)
+octets-of : (s : State) (names : List ℕ) (g : ℕ) (m : Fields) (v : Verdict) (k : Reply) → length (m .id .octets) ≡ 32 → Sends k → IsReply (byReply s names g m v k)
 unfolding Sends offerOf leaseAckOf releaseAckOf infoAckOf nakOf messageOctets isIn pick
-octets-of s m v Nothing a h = absurd h
-octets-of s m v Offer a h = record { some = message-long 2 (m .xid) (leaseOptions (headOf s m) (termsOf s v)); short = offer-short (headOf s m) a (termsOf s v); type = refl }
-octets-of s m v LeaseAck a h = record { some = message-long 5 (m .xid) (leaseOptions (headOf s m) (termsOf s v)); short = lease-ack-short (headOf s m) a (termsOf s v); type = refl }
-octets-of s m v ReleaseAck a h = record { some = message-long 5 (m .xid) (releaseOptions (headOf s m)); short = release-ack-short (headOf s m) a; type = refl }
-octets-of s m v InfoAck a h = record { some = message-long 5 (m .xid) (infoOptions (headOf s m) (infoOf s m)); short = info-ack-short (headOf s m) a (infoOf s m) refl; type = refl }
-octets-of s m v Nak a h = record { some = message-long 6 (m .xid) (nakOptions (headOf s m) (v .error)); short = nak-short (headOf s m) a (v .error); type = refl }
+octets-of s names g m v Nothing a h = absurd h
+octets-of s names g m v Offer a h = record { some = message-long 2 (m .xid) (leaseOptions (headOf s m) (termsOf s v)); short = offer-short (headOf s m) a (termsOf s v); type = refl }
+octets-of s names g m v LeaseAck a h = record { some = message-long 5 (m .xid) (leaseOptions (headOf s m) (termsOf s v)); short = lease-ack-short (headOf s m) a (termsOf s v); type = refl }
+octets-of s names g m v ReleaseAck a h = record { some = message-long 5 (m .xid) (releaseOptions (headOf s m)); short = release-ack-short (headOf s m) a; type = refl }
+octets-of s names g m v InfoAck a h = record { some = message-long 5 (m .xid) (infoOptions (headOf s m) (infoOf s g m) names); short = info-ack-short (headOf s m) a (infoOf s g m) names refl; type = refl }
+octets-of s names g m v Nak a h = record { some = message-long 6 (m .xid) (nakOptions (headOf s m) (v .error)); short = nak-short (headOf s m) a (v .error); type = refl }
 
 -- ---- the call
 module _ (b : Book) (c : Call) where
@@ -90,13 +91,13 @@ module _ (b : Book) (c : Call) where
   sent : (h : ℕ) (m : Fields) → length (m .id .octets) ≡ 32 → R (answered (bookAt b c) h m (decideOf (bookAt b c .state) (bookAt b c .table) h m))
   unfolding R replyOf P Q
   sent h m a z =
-      octets-of (bookAt b c .state) m (decideOf (bookAt b c .state) (bookAt b c .table) h m .verdict) (decideOf (bookAt b c .state) (bookAt b c .table) h m .verdict .reply) a
+      octets-of (bookAt b c .state) (bookAt b c .names) h m (decideOf (bookAt b c .state) (bookAt b c .table) h m .verdict) (decideOf (bookAt b c .state) (bookAt b c .table) h m .verdict .reply) a
       (decided (bookAt b c .state) (bookAt b c .table) h m z)
 
   call-replies : R (serveOf b c)
   unfolding serveOf atClock withReading forServer
   call-replies =
-      pick-cases R (soundB (b .state) (b .table)) _ _
+      pick-cases R (bookB b) _ _
       (λ _. pick-cases R (ltb (c .room) leastRoom) _ _ (λ _. none 2 b (omega arith))
       (λ _. pick-cases R (ltb (tenantOf (bookAt b c .state) (c .client)) (tenantsIn (bookAt b c .state))) _ _
       (λ _. pick-cases R (eqb (readOf (c .datagram) .discard) 0) _ _

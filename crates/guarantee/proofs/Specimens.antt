@@ -19,6 +19,13 @@ use Rattle.guarantee.proofs.Granted.{demand3}
 use Rattle.guarantee.proofs.Offers.{offer-rule}
 use Rattle.guarantee.proofs.Opened.{computed}
 
+-- names of a scope: "en", flagged 128, with the text A; "de" with the text B
+abbrev pub english : List ℕ
+english = 128 ∷ 2 ∷ 0x65 ∷ 0x6E ∷ 1 ∷ 0x41 ∷ []
+
+abbrev pub german : List ℕ
+german = 0 ∷ 2 ∷ 0x64 ∷ 0x65 ∷ 1 ∷ 0x42 ∷ []
+
 -- scope 239.192.0.0, size 4; house 1 share 2 limit 3; house 2 share 1 limit 4; clock 1000; server 10.1.1.1; house 1's clients are 10.0.1.0 to
 -- 10.0.1.255, house 2's 10.0.2.0 to 10.0.2.255
 abbrev pub book : Book
@@ -32,6 +39,7 @@ book = record {
     scopes = record { lowest = 0xEFC00000; size = 4; ttl = 15; reserve = 2 ∷ 1 ∷ replicate 6 0; limit = 3 ∷ 4 ∷ replicate 6 0 } ∷ replicate 3 zeroScope;
   };
   table = tableOf (replicate 8 []);
+  names = 1 ∷ 1 ∷ english ++ 1 ∷ german ++ 0 ∷ [];
 }
 
 -- ---- datagrams and replies
@@ -163,6 +171,13 @@ getinfo = header 8 9 ++ identifier 0x50 ++ option 5 (0 ∷ 11 ∷ []) ++ end
 abbrev pub infoAck : List ℕ → List ℕ
 infoAck now = header 5 9 ++ server ++ identifier 0x50 ++ option 11 now ++ end
 
+-- document 02, W-201: GETINFO asking for the scopes, with other options before; its ACK, with the scope's names after their number
+abbrev pub scopesAsked : List ℕ → List ℕ
+scopesAsked more = header 8 9 ++ identifier 0x50 ++ option 5 (0 ∷ 9 ∷ []) ++ more ++ end
+
+abbrev pub scopesAck : List ℕ → List ℕ
+scopesAck named = header 5 9 ++ server ++ identifier 0x50 ++ option 9 (1 ∷ 0xEF ∷ 0xC0 ∷ 0 ∷ 0 ∷ 0xEF ∷ 0xC0 ∷ 0 ∷ 3 ∷ 15 ∷ named) ++ end
+
 -- P12, as document 01 writes it
 abbrev pub p12 : List ℕ
 p12 = 0x00 ∷ 0x07 ∷ 0x00 ∷ 0x01 ∷ 0x01 ∷ 0x02 ∷ 0x03 ∷ 0x04 ∷ 0x00 ∷ 0x03 ∷ 0x00 ∷ 0x02 ∷ 0x00 ∷ 0x41 ∷ 0x00 ∷ 0x00 ∷ 0x00 ∷ 0x00 ∷ []
@@ -226,6 +241,10 @@ table =
     ∷ discards (house1 1000 (header 8 9 ++ identifier 0x50 ++ option 12 (0 ∷ 0 ∷ 0 ∷ 0 ∷ 0 ∷ 1 ∷ 0 ∷ 7 ∷ []) ++ end)) 6
     ∷ discards (house2 1000 (request 1 0x41 1 4 (option 2 (0 ∷ 1 ∷ 0x0A ∷ 1 ∷ 1 ∷ 2 ∷ [])))) 7
     ∷ discards (house2 1000 (discover 3 4)) 8
+    -- W-201: the house's own name in the language; the campus default where neither list has one, and where no language is asked for; after calls too
+    ∷ answers [] (house1 1000 (scopesAsked (option 8 (0x64 ∷ 0x65 ∷ [])))) (scopesAck (1 ∷ german)) []
+    ∷ answers [] (house2 1000 (scopesAsked (option 8 (0x64 ∷ 0x65 ∷ [])))) (scopesAck (1 ∷ english)) []
+    ∷ answers (p1 ∷ p3 ∷ []) (house1 1000 (scopesAsked [])) (scopesAck (1 ∷ english)) (lease3 ++ lease1)
     ∷ []
 
 pub specimens : allBy holds table ≡ true
@@ -276,3 +295,11 @@ discovers = record { type = refl; alone = refl }
 pub offered : Offered (serveOf book (house2 1000 (discover 1 4)))
 unfolding OfferRule computed
 offered = offer-rule book (house2 1000 (discover 1 4)) discovers .offers (record { outcome = refl; type = refl; new = refl })
+
+-- ---- W-201: a book with bad names is unsound, before the room is looked at
+abbrev badly : Book
+badly = record { state = book .state; table = book .table; names = 1 ∷ 0 ∷ 0 ∷ [] }
+
+named-badly : (serveOf badly p1 .outcome ≡ 1) × (serveOf badly (record { datagram = getinfo; client = 0x0A000105; time = 1000; room = 511 }) .outcome ≡ 1)
+unfolding computed
+named-badly = (refl, refl)

@@ -20,7 +20,9 @@ use Rattle.state.specs.declared.Lease.{Lease}
 use Rattle.state.specs.declared.LeaseTable.{LeaseTable}
 use Rattle.state.specs.declared.State.{State}
 use Rattle.state.specs.Book.{Book, advanced, leasesOf, liveOf, placeOf, scopeAt, zeroLease}
-use Rattle.soundness.specs.Sound.{scopesIn, soundB, tenantsIn}
+use Rattle.soundness.specs.Named.{bookB}
+use Rattle.soundness.specs.laws.Named.{book-sound}
+use Rattle.soundness.specs.Sound.{scopesIn, tenantsIn}
 use Rattle.soundness.specs.laws.Book.{Sound, sound-lists}
 use Rattle.soundness.specs.laws.Facts.{lease-at-facts}
 use Rattle.soundness.specs.laws.Kept.{advanced-sound}
@@ -139,16 +141,16 @@ module _ (s : State) (t : LeaseTable) (h : ℕ) (m : Fields) (v : Sound s (lease
   })
 
 -- ---- the octets
-octets-read : (s : State) (m : Fields) (v : Verdict) (k : Reply) → Named (headOf s m) → Leases k (v .addresses) → ReadAs (byReply s m v k)
+octets-read : (s : State) (names : List ℕ) (g : ℕ) (m : Fields) (v : Verdict) (k : Reply) → Named (headOf s m) → Leases k (v .addresses) → ReadAs (byReply s names g m v k)
 unfolding Leases Sized offerOf leaseAckOf releaseAckOf infoAckOf nakOf
-octets-read s m v Nothing n h = absurd h
-octets-read s m v Offer n h = read-as 2 (m .xid) (leaseOptions (headOf s m) (termsOf s v)) (lease-back (headOf s m) n 2 (termsOf s v) (h .0) (h .1)) (offer-found _ _ _ _ _ _ _ _ (m .features))
-octets-read s m v LeaseAck n h = read-as 5 (m .xid) (leaseOptions (headOf s m) (termsOf s v)) (lease-back (headOf s m) n 5 (termsOf s v) (h .0) (h .1)) (lease-found _ _ _ _ _ _ _ _ (m .features))
-octets-read s m v ReleaseAck n h = read-as 5 (m .xid) (releaseOptions (headOf s m)) (release-back (headOf s m) n) (release-found _ _ _ (m .features))
-octets-read s m v InfoAck n h =
-    read-as 5 (m .xid) (infoOptions (headOf s m) (infoOf s m)) (info-back (headOf s m) n (infoOf s m) (let e = length-take (infoOf s m .count) (infoOf s m .scopes) in omega arith))
+octets-read s names g m v Nothing n h = absurd h
+octets-read s names g m v Offer n h = read-as 2 (m .xid) (leaseOptions (headOf s m) (termsOf s v)) (lease-back (headOf s m) n 2 (termsOf s v) (h .0) (h .1)) (offer-found _ _ _ _ _ _ _ _ (m .features))
+octets-read s names g m v LeaseAck n h = read-as 5 (m .xid) (leaseOptions (headOf s m) (termsOf s v)) (lease-back (headOf s m) n 5 (termsOf s v) (h .0) (h .1)) (lease-found _ _ _ _ _ _ _ _ (m .features))
+octets-read s names g m v ReleaseAck n h = read-as 5 (m .xid) (releaseOptions (headOf s m)) (release-back (headOf s m) n) (release-found _ _ _ (m .features))
+octets-read s names g m v InfoAck n h =
+    read-as 5 (m .xid) (infoOptions (headOf s m) (infoOf s g m) names) (info-back (headOf s m) n (infoOf s g m) names (let e = length-take (infoOf s g m .count) (infoOf s g m .scopes) in omega arith))
     (info-found _ _ _ _ _ (m .«list_asked») (m .«time_asked») (m .features))
-octets-read s m v Nak n h = read-as 6 (m .xid) (nakOptions (headOf s m) (v .error)) (nak-back (headOf s m) n (v .error)) (nak-found _ _ _ _ (m .features))
+octets-read s names g m v Nak n h = read-as 6 (m .xid) (nakOptions (headOf s m) (v .error)) (nak-back (headOf s m) n (v .error)) (nak-found _ _ _ _ (m .features))
 
 pub all-filter : {A : Type 0} (F : A → Type 0) (u : A → Bool) (l : List A) → All F l → All F (filterBy u l)
 unfolding All filterBy pick
@@ -175,16 +177,16 @@ module _ (b : Book) (c : Call) (narrow : Narrow b) where
   some-number zero h = absurd (h refl)
   some-number (suc n) h = omega arith
 
-  sent : soundB (b .state) (b .table) ≡ true → (h : ℕ) (m : Fields) → h < tenantsIn (bookAt b c .state) → Named (headOf (bookAt b c .state) m) → R (answered (bookAt b c) h m (decideOf (bookAt b c .state) (bookAt b c .table) h m))
+  sent : bookB b ≡ true → (h : ℕ) (m : Fields) → h < tenantsIn (bookAt b c .state) → Named (headOf (bookAt b c .state) m) → R (answered (bookAt b c) h m (decideOf (bookAt b c .state) (bookAt b c .table) h m))
   unfolding R replyOf P Q
   sent v h m known n z =
-      octets-read (bookAt b c .state) m (decideOf (bookAt b c .state) (bookAt b c .table) h m .verdict) (decideOf (bookAt b c .state) (bookAt b c .table) h m .verdict .reply) n
-      (decided (bookAt b c .state) (bookAt b c .table) h m (sound-lists (bookAt b c .state) (bookAt b c .table) (advanced-sound b (c .time) v)) known (now-narrow h) z)
+      octets-read (bookAt b c .state) (bookAt b c .names) h m (decideOf (bookAt b c .state) (bookAt b c .table) h m .verdict) (decideOf (bookAt b c .state) (bookAt b c .table) h m .verdict .reply) n
+      (decided (bookAt b c .state) (bookAt b c .table) h m (sound-lists (bookAt b c .state) (bookAt b c .table) (advanced-sound b (c .time) (book-sound b v))) known (now-narrow h) z)
 
   call-read : R (serveOf b c)
   unfolding serveOf atClock withReading forServer
   call-read =
-      pick-cases R (soundB (b .state) (b .table)) _ _
+      pick-cases R (bookB b) _ _
       (λ v. pick-cases R (ltb (c .room) leastRoom) _ _ (λ _. none 2 b (omega arith))
       (λ _. pick-cases R (ltb (tenantOf (bookAt b c .state) (c .client)) (tenantsIn (bookAt b c .state))) _ _
       (λ known. pick-cases R (eqb (readOf (c .datagram) .discard) 0) _ _

@@ -23,7 +23,8 @@ use Rattle.state.specs.declared.LeaseTable.{LeaseTable}
 use Rattle.state.specs.declared.Scope.{Scope}
 use Rattle.state.specs.declared.State.{State}
 use Rattle.state.specs.Book.{Book, advanced, idOf, insertOf, leaseWith, leasesOf, liveOf, named, removeOf, scopeAt, limitAt}
-use Rattle.soundness.specs.Sound.{holding, soundB, tenantsIn}
+use Rattle.soundness.specs.Named.{bookB, namesGood}
+use Rattle.soundness.specs.Sound.{holding, tenantsIn}
 use Rattle.allocation.specs.declared.Ask.{Ask}
 use Rattle.allocation.specs.declared.Grant.{Grant}
 use Rattle.allocation.specs.Rule.{grantOf, unusedReserve}
@@ -38,10 +39,10 @@ run b [] = b
 run b (c ∷ cs) = run (serveOf b c .book) cs
 
 -- ---- books
--- "Sound", with the eight tenants' records that every book has
+-- "Sound", its names too (document 02, W-201), with the eight tenants' records that every book has
 pub record SoundBook (b : Book) : Type 0 where
   pub tenants : length (b .table .tenants) ≡ 8
-  pub sound : soundB (b .state) (b .table) ≡ true
+  pub sound : bookB b ≡ true
 
 -- "no house holds more addresses in a scope than its limit": tenant g, the scope at place k, counted from 0. "It counts holdings from the leases, never from
 -- a kept total" (`holding`)
@@ -150,6 +151,8 @@ pub record Granted (b : Book) (c : Call) (a : Answer) : Type 0 where
   pub names : addressesIn (a .reply) ≡ map (λ o. scopeFor b c .lowest + o) (offsets (grantFor b c .addresses))
   -- "the book afterwards has every other live lease unchanged": settings and clock, the other tenants' leases
   pub state : a .book .state ≡ stateAt b c
+  -- and the names for the scopes (document 02, W-201)
+  pub titles : a .book .names ≡ b .names
   pub others : (g : ℕ) → (g ≡ tenantFor b c → ⊥) → ownOf (a .book .table) g ≡ ownOf (tableAt b c) g
   -- "and the lease that REQUEST records": it now stands among the tenant's own
   pub own : ownOf (a .book .table) (tenantFor b c) ≡ insertOf (leaseFor b c) (ownFor b c)
@@ -223,6 +226,9 @@ pub record Answered (b : Book) (c : Call) (a : Answer) : Type 0 where
   pub silent : (a .outcome ≡ 0 → ⊥) → a .reply ≡ []
   -- "and changes no lease live at the clock it leaves in the book"
   pub leases : (a .outcome ≡ 0 → ⊥) → (g : ℕ) (i : List ℕ) → liveUnder (a .book .state .clock) (a .book .table) g i ≡ liveUnder (a .book .state .clock) (b .table) g i
+  -- bad names make the book unsound (document 02, W-201): "bad names lent 1"; and no call changes the names
+  pub bad-names : namesGood b ≡ false → a .outcome ≡ 1
+  pub names : a .book .names ≡ b .names
   -- "Discards 1 and 2 change nothing"
   pub untouched : a .outcome ≡ 1 → a .book ≡ b
   pub untouched-too : a .outcome ≡ 2 → a .book ≡ b
@@ -233,6 +239,10 @@ pub record Answered (b : Book) (c : Call) (a : Answer) : Type 0 where
 -- (`lent::serve` has no `requires`)
 unfoldable pub Demand1 : Type 0
 Demand1 = (b : Book) (c : Call) → Answered b c (serveOf b c)
+
+-- the names pass on unchanged through every list of calls
+unfoldable pub NamesStay : Type 0
+NamesStay = (b : Book) (cs : List Call) → run b cs .names ≡ b .names
 
 -- calls keep the 64 bits, whatever the book
 unfoldable pub StaysNarrow : Type 0

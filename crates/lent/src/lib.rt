@@ -76,20 +76,21 @@ pub fn remove(leases: &mut [Lease], h: usize, id: [u8; 32], len: u8)
     store(leases, x);
 }
 
-// The call. Another number of records than 128 is discard 1.
+// The call, with the names of the scopes lent. Another number of records than 128 is discard 1.
 pub fn serve(
     datagram: &[u8],
     client: u32,
     time: u32,
     state: &mut State,
     leases: &mut [Lease],
+    names: &[u8],
     reply: &mut [u8],
 ) -> Outcome
-    ensures { λ r. ⌜ ServesLent (serveLent (now (state .entry)) (now (leases .entry)) (record { datagram = now (datagram .entry); client = client; time = time; room = length (now (reply .entry)) })) (now (state .exit)) (now (leases .exit)) (now (reply .entry)) (now (reply .exit)) r ⌝ }
+    ensures { λ r. ⌜ ServesLent (serveLent (now (state .entry)) (now (leases .entry)) (now (names .entry)) (record { datagram = now (datagram .entry); client = client; time = time; room = length (now (reply .entry)) })) (now (state .exit)) (now (leases .exit)) (now (reply .entry)) (now (reply .exit)) r ⌝ }
 {
     let s = *state;
     let all = load(leases);
-    let r = records::serve(s, all, leases.len(), datagram, client, time, reply);
+    let r = records::serve(s, all, leases.len(), names, datagram, client, time, reply);
     advance(state, r.clock);
     store(leases, r.records);
     r.outcome
@@ -108,13 +109,13 @@ pub fn read(file: &[u8], state: &mut State, leases: &mut [Lease]) -> u8
     r.refusal
 }
 
-// Writes a state file from the lent state and records: its length, or refusal 22 and then 23, which write nothing. Another number of records than
+// Writes a state file from the lent state, records and names: its length, or refusal 22 and then 23, which write nothing. Another number of records than
 // 128 is 22.
-pub fn write(state: &State, leases: &[Lease], room: &mut [u8]) -> Written
-    ensures answer { λ r. ⌜ r ≡ writtenLent (now (state .entry)) (now (leases .entry)) (length (now (room .entry))) ⌝ }
-    ensures octets { λ r. ⌜ now (room .exit) ≡ roomLent (now (state .entry)) (now (leases .entry)) (now (room .entry)) ⌝ }
+pub fn write(state: &State, leases: &[Lease], names: &[u8], room: &mut [u8]) -> Written
+    ensures answer { λ r. ⌜ r ≡ writtenLent (now (state .entry)) (now (leases .entry)) (now (names .entry)) (length (now (room .entry))) ⌝ }
+    ensures octets { λ r. ⌜ now (room .exit) ≡ roomLent (now (state .entry)) (now (leases .entry)) (now (names .entry)) (now (room .entry)) ⌝ }
 {
     let s = *state;
     let all = load(leases);
-    records::write(s, all, leases.len(), room)
+    records::write(s, all, leases.len(), names, room)
 }

@@ -92,5 +92,5 @@ pub file-reads : FileReads
 unfolding FileReads StaysNarrow LentDemand1
 file-reads f s ls cs c e =
     let v = run-lent (afterFile f s ls) cs (file-sound f s ls e) in
-    lent-demand1 (runLent (afterFile f s ls) cs .state) (runLent (afterFile f s ls) cs .leases) c .reads
+    lent-demand1 (runLent (afterFile f s ls) cs) c .reads
     (subst Narrow (sym (v .1)) (stays-narrow (bookOf (afterFile f s ls)) (file-narrow f s ls e) cs))

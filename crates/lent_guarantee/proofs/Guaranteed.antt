@@ -10,7 +10,7 @@ use borrow.Author.Tests.{eqb-true, eqb-false}
 use Rattle.state.specs.Book.{Book}
 use Rattle.state.specs.declared.Lease.{Lease}
 use Rattle.state.specs.declared.State.{State}
-use Rattle.soundness.specs.Sound.{soundB}
+use Rattle.soundness.specs.Named.{bookB}
 use Rattle.server.specs.Serve.{Answer, Call, serveOf}
 use Rattle.guarantee.specs.Statement.{Answered, Demand3, Granted, IsReply, NewRequest, OfferedAs, OfferRule, ReadAs, WithinLimits, liveUnder, requested, run}
 use Rattle.guarantee.proofs.Answers.{call-answered}
@@ -18,24 +18,24 @@ use Rattle.guarantee.proofs.Granted.{demand3}
 use Rattle.guarantee.proofs.Kept.{call-sound}
 use Rattle.guarantee.proofs.Offers.{offer-rule}
 use Rattle.records.specs.Records.{recordsOf, tableFrom}
-use Rattle.records.specs.Lent.{bookFrom, lentAnswer, LentAnswer, serveLent, serveWith}
+use Rattle.records.specs.Lent.{lentAnswer, LentAnswer, serveWith}
 use Rattle.records.specs.laws.Steps.{off-whole}
-use Rattle.lent_guarantee.specs.Statement.{answerOf, bookOf, Lent, LentAnswered, LentDemand1, LentDemand3, LentOfferRule, runLent, SoundLent}
+use Rattle.lent_guarantee.specs.Statement.{answerOf, bookOf, Lent, LentAnswered, LentDemand1, LentDemand3, LentOfferRule, runLent, served, SoundLent}
 use Rattle.lent_guarantee.proofs.Same.{at-whole, kept-back, same, sound-book, still-whole}
 
 -- ---- the list of calls
 unfoldable pub next : Lent → Call → Lent
-next l c = record { state = serveLent (l .state) (l .leases) c .state; leases = serveLent (l .state) (l .leases) c .leases }
+next l c = record { state = served l c .state; leases = served l c .leases; names = l .names }
 
 next-book : (l : Lent) (c : Call) → SoundLent l → bookOf (next l c) ≡ serveOf (bookOf l) c .book
 unfolding next
-next-book l c v = ap (λ (a : Answer). a .book) (same (l .state) (l .leases) c (v .whole))
+next-book l c v = ap (λ (a : Answer). a .book) (same (l .state) (l .leases) (l .names) c (v .whole))
 
 pub next-sound : (l : Lent) (c : Call) → SoundLent l → SoundLent (next l c)
 unfolding next
 next-sound l c v = record {
-  whole = still-whole (l .state) (l .leases) c (v .whole);
-  sound = ap (λ (b : Book). soundB (b .state) (b .table)) (next-book l c v) ∙ call-sound (bookOf l) c (sound-book (l .state) (l .leases) c (v .whole) (v .sound)) .sound;
+  whole = still-whole (l .state) (l .leases) (l .names) c (v .whole);
+  sound = ap bookB (next-book l c v) ∙ call-sound (bookOf l) c (sound-book (l .state) (l .leases) (l .names) c (v .whole) (v .sound)) .sound;
 }
 
 pub run-lent : (l : Lent) (cs : List Call) → SoundLent l → SoundLent (runLent l cs) × (bookOf (runLent l cs) ≡ run (bookOf l) cs)
@@ -50,22 +50,28 @@ pub lent-demand3 : LentDemand3
 unfolding LentDemand3 Demand3
 lent-demand3 l v cs =
     let r = run-lent l cs v in
-    let d = demand3 (bookOf l) (sound-book (l .state) (l .leases) (record { datagram = []; client = 0; time = 0; room = 0 }) (v .whole) (v .sound)) cs in
+    let d = demand3 (bookOf l) (sound-book (l .state) (l .leases) (l .names) (record { datagram = []; client = 0; time = 0; room = 0 }) (v .whole) (v .sound)) cs in
     let e : run (bookOf l) cs ≡ bookOf (runLent l cs) = sym (r .1) in
     record {
       sound = r .0;
       limits = subst WithinLimits e (d .limits);
-      next = λ c n. subst (λ (a : Answer). Granted (bookOf (runLent l cs)) c a) (sym (same (runLent l cs .state) (runLent l cs .leases) c (r .0 .whole)))
+      next = λ c n. subst (λ (a : Answer). Granted (bookOf (runLent l cs)) c a) (sym (same (runLent l cs .state) (runLent l cs .leases) (runLent l cs .names) c (r .0 .whole)))
           (subst (λ (b : Book). (m : NewRequest b c) → Granted b c (serveOf b c)) e (d .next c) n);
     }
 
 -- ---- demand 1
-module _ (s : State) (ls : List Lease) (c : Call) where
-  out : (length ls ≡ 128 → ⊥) → serveLent s ls c ≡ record { outcome = 1; reply = []; state = s; leases = ls }
-  unfolding serveWith
-  out e = sym (off-whole (lentAnswer (serveOf (bookFrom s ls) c)) (record { outcome = 1; reply = []; state = s; leases = ls }) e)
+module _ (l : Lent) (c : Call) where
+  abbrev s : State
+  s = l .state
 
-  other-answered : (length ls ≡ 128 → ⊥) → LentAnswered s ls c (record { outcome = 1; reply = []; state = s; leases = ls })
+  abbrev ls : List Lease
+  ls = l .leases
+
+  out : (length ls ≡ 128 → ⊥) → served l c ≡ record { outcome = 1; reply = []; state = s; leases = ls }
+  unfolding serveWith
+  out e = sym (off-whole (lentAnswer (serveOf (bookOf l) c)) (record { outcome = 1; reply = []; state = s; leases = ls }) e)
+
+  other-answered : (length ls ≡ 128 → ⊥) → LentAnswered l c (record { outcome = 1; reply = []; state = s; leases = ls })
   other-answered e = record {
     outcome = omega arith;
     reply = λ z. absurd (omega arith);
@@ -76,9 +82,10 @@ module _ (s : State) (ls : List Lease) (c : Call) where
     untouched-too = λ _. (refl, refl);
     advances = λ h. absurd (omega arith);
     other = λ _. refl;
+    bad-names = λ _. refl;
   }
 
-  whole-answered : length ls ≡ 128 → LentAnswered s ls c (serveLent s ls c)
+  whole-answered : length ls ≡ 128 → LentAnswered l c (served l c)
   whole-answered long = record {
     outcome = subst (λ (a : Answer). a .outcome ≤ 8) back (v .outcome);
     reply = subst (λ (a : Answer). a .outcome ≡ 0 → IsReply (a .reply)) back (v .reply);
@@ -89,41 +96,43 @@ module _ (s : State) (ls : List Lease) (c : Call) where
     untouched = λ e. still (v .untouched (number ∙ e));
     untouched-too = λ e. still (v .untouched-too (number ∙ e));
     advances = λ h. let e = v .advances (let n = number in omega arith) in (
-      ap (λ (a : LentAnswer). a .state) (at-whole s ls c long) ∙ ap (λ (b : Book). b .state) e,
-      ap (λ (a : LentAnswer). a .leases) (at-whole s ls c long) ∙ ap (λ (b : Book). recordsOf (b .table)) e,
+      ap (λ (a : LentAnswer). a .state) (at-whole s ls (l .names) c long) ∙ ap (λ (b : Book). b .state) e,
+      ap (λ (a : LentAnswer). a .leases) (at-whole s ls (l .names) c long) ∙ ap (λ (b : Book). recordsOf (b .table)) e,
     );
     other = λ no. absurd (no long);
+    bad-names = λ e. sym number ∙ v .bad-names e;
   }
     where
-      v : Answered (bookFrom s ls) c (serveOf (bookFrom s ls) c)
-      v = call-answered (bookFrom s ls) c
+      v : Answered (bookOf l) c (serveOf (bookOf l) c)
+      v = call-answered (bookOf l) c
 
-      back : serveOf (bookFrom s ls) c ≡ answerOf (serveLent s ls c)
-      back = sym (same s ls c long)
+      back : serveOf (bookOf l) c ≡ answerOf (l .names) (served l c)
+      back = sym (same s ls (l .names) c long)
 
-      number : serveOf (bookFrom s ls) c .outcome ≡ serveLent s ls c .outcome
+      number : serveOf (bookOf l) c .outcome ≡ served l c .outcome
       number = ap (λ (a : Answer). a .outcome) back
 
-      still : serveOf (bookFrom s ls) c .book ≡ bookFrom s ls → (serveLent s ls c .state ≡ s) × (serveLent s ls c .leases ≡ ls)
+      still : serveOf (bookOf l) c .book ≡ bookOf l → (served l c .state ≡ s) × (served l c .leases ≡ ls)
       still e = (
-        ap (λ (a : LentAnswer). a .state) (at-whole s ls c long) ∙ ap (λ (b : Book). b .state) e,
-        ap (λ (a : LentAnswer). a .leases) (at-whole s ls c long) ∙ kept-back s ls c long (serveOf (bookFrom s ls) c .book .table) (ap (λ (b : Book). b .table) e),
+        ap (λ (a : LentAnswer). a .state) (at-whole s ls (l .names) c long) ∙ ap (λ (b : Book). b .state) e,
+        ap (λ (a : LentAnswer). a .leases) (at-whole s ls (l .names) c long) ∙ kept-back s ls (l .names) c long (serveOf (bookOf l) c .book .table) (ap (λ (b : Book). b .table) e),
       )
 
-  pub call-lent : LentAnswered s ls c (serveLent s ls c)
+  pub call-lent : LentAnswered l c (served l c)
   call-lent = by-number (eqb (length ls) 128) refl
     where
-      by-number : (t : Bool) → eqb (length ls) 128 ≡ t → LentAnswered s ls c (serveLent s ls c)
+      by-number : (t : Bool) → eqb (length ls) 128 ≡ t → LentAnswered l c (served l c)
       by-number true e = whole-answered (eqb-true _ _ e)
-      by-number false e = subst (LentAnswered s ls c) (sym (out (eqb-false _ _ e))) (other-answered (eqb-false _ _ e))
+      by-number false e = subst (LentAnswered l c) (sym (out (eqb-false _ _ e))) (other-answered (eqb-false _ _ e))
 
 pub lent-demand1 : LentDemand1
 unfolding LentDemand1
-lent-demand1 s ls c = call-lent s ls c
+lent-demand1 l c = call-lent l c
 
 -- ---- the OFFER rule
 pub lent-offer-rule : LentOfferRule
 unfolding LentOfferRule OfferRule
-lent-offer-rule s ls c long v =
-    subst (λ (a : Answer). OfferedAs (bookFrom s ls) c a (answerOf (serveLent s ls (requested c)))) (sym (same s ls c long))
-    (subst (λ (a : Answer). OfferedAs (bookFrom s ls) c (serveOf (bookFrom s ls) c) a) (sym (same s ls (requested c) long)) (offer-rule (bookFrom s ls) c v))
+lent-offer-rule l c long v =
+    let at : (d : Call) → answerOf (l .names) (served l d) ≡ serveOf (bookOf l) d = λ d. same (l .state) (l .leases) (l .names) d long in
+    subst (λ (a : Answer). OfferedAs (bookOf l) c a (answerOf (l .names) (served l (requested c)))) (sym (at c))
+    (subst (λ (a : Answer). OfferedAs (bookOf l) c (serveOf (bookOf l) c) a) (sym (at (requested c))) (offer-rule (bookOf l) c v))

@@ -12,11 +12,12 @@ use Rattle.state.specs.declared.Lease.{Lease}
 use Rattle.state.specs.declared.LeaseTable.{LeaseTable}
 use Rattle.state.specs.declared.State.{State}
 use Rattle.state_file.specs.declared.Loaded.{Loaded}
-use Rattle.state_file.specs.StateFile.{accepted, readFile, roomAfter, writtenOf}
+use Rattle.state_file.specs.StateFile.{accepted, namesOf, readFile, roomAfter, writtenOf}
 use Rattle.state_file.proofs.RoundTrip.{read-written}
 use Rattle.records.specs.laws.Files.{file-back, file-long}
-use Rattle.records.specs.Records.{recordsOf, tableFrom}
-use Rattle.records.specs.Lent.{LentReading, readLent, readWith, roomLent, roomWith, untouched, is128, writtenLent, writtenWith}
+use Rattle.records.specs.Records.{recordsOf}
+use Rattle.server.specs.Serve.{bookOf}
+use Rattle.records.specs.Lent.{LentReading, bookFrom, readLent, readWith, roomLent, roomWith, untouched, is128, writtenLent, writtenWith}
 use Rattle.records.specs.laws.Steps.{on-whole}
 use Rattle.lent_guarantee.specs.Statement.{LentRoundTrip}
 
@@ -43,10 +44,10 @@ lent-round-trip f s ls room o e h =
     let long = file-long f (r .0) in
     let t = file-back f (r .0) in
     let w = read-written f room (readFile f .state) (readFile f .table) o (ap {B = Loaded} (λ (n : ℕ). record { refusal = n; state = readFile f .state; table = readFile f .table }) (r .0)) h in (
-      ap (λ (x : LentReading). writtenLent (x .state) (x .leases) (length room)) (r .1)
-          ∙ sym (on-whole (writtenOf (readFile f .state) (tableFrom (recordsOf (readFile f .table))) (length room)) (record { refusal = 22; length = 0 }) long)
-          ∙ ap (λ (x : LeaseTable). writtenOf (readFile f .state) x (length room)) t ∙ w .0,
-      ap (λ (x : LentReading). roomLent (x .state) (x .leases) room) (r .1)
-          ∙ sym (on-whole (roomAfter (readFile f .state) (tableFrom (recordsOf (readFile f .table))) room) room long)
-          ∙ ap (λ (x : LeaseTable). roomAfter (readFile f .state) x room) t ∙ w .1,
+      ap (λ (x : LentReading). writtenLent (x .state) (x .leases) (namesOf f) (length room)) (r .1)
+          ∙ sym (on-whole (writtenOf (bookFrom (readFile f .state) (recordsOf (readFile f .table)) (namesOf f)) (length room)) (record { refusal = 22; length = 0 }) long)
+          ∙ ap (λ (x : LeaseTable). writtenOf (bookOf (readFile f .state) x (namesOf f)) (length room)) t ∙ w .0,
+      ap (λ (x : LentReading). roomLent (x .state) (x .leases) (namesOf f) room) (r .1)
+          ∙ sym (on-whole (roomAfter (bookFrom (readFile f .state) (recordsOf (readFile f .table)) (namesOf f)) room) room long)
+          ∙ ap (λ (x : LeaseTable). roomAfter (bookOf (readFile f .state) x (namesOf f)) room) t ∙ w .1,
     )

@@ -14,9 +14,12 @@ use Rattle.state.specs.declared.State.{State}
 use Rattle.state.specs.Book.{Book, advanced, dropped, inUse, leasesOf, liveOf, tableOf}
 use Rattle.state.specs.laws.Edited.{applied-laid}
 use Rattle.state.specs.laws.Layout.{table-back as lists-back}
+use Rattle.soundness.specs.Named.{bookB}
 use Rattle.soundness.specs.Sound.{soundB}
-use Rattle.server.specs.Serve.{Answer, Call, atClock, forServer, serveOf, withReading}
+use Rattle.soundness.specs.laws.Named.{book-sound}
+use Rattle.server.specs.Serve.{Answer, Call, atClock, bookOf, forServer, serveOf, withReading}
 use Rattle.guarantee.specs.Statement.{SoundBook}
+use Rattle.guarantee.proofs.Discards.{call-tested}
 use Rattle.guarantee.proofs.Kept.{call-sound}
 use Rattle.records.specs.laws.Back.{records-back, lent-table-back, table-long}
 use Rattle.records.specs.laws.Table.{rows-length}
@@ -36,12 +39,12 @@ advanced-laid b time = ap tableOf (sym (lists-back (map (liveOf _) (leasesOf (b 
 -- a call leaves the book as it was, or the book was sound and its table is laid out afterwards
 module _ (b : Book) (c : Call) where
   Kind : Answer → Type 0
-  Kind a = (a .book ≡ b) ⊎ ((soundB (b .state) (b .table) ≡ true) × Laid (a .book .table))
+  Kind a = (a .book ≡ b) ⊎ ((bookB b ≡ true) × Laid (a .book .table))
 
   kind : Kind (serveOf b c)
   unfolding serveOf atClock withReading forServer Kind Laid
   kind =
-      pick-cases Kind (soundB (b .state) (b .table)) _ _
+      pick-cases Kind (bookB b) _ _
       (λ y. pick-cases Kind (ltb (c .room) leastRoom) _ _ (λ _. inl refl)
       (λ _. pick-cases Kind _ _ _
       (λ _. pick-cases Kind _ _ _
@@ -49,15 +52,15 @@ module _ (b : Book) (c : Call) where
       (λ _. inr (y, advanced-laid b (c .time)))) (λ _. inr (y, advanced-laid b (c .time))))) (λ _. inl refl)
 
 -- ---- the same call
-module _ (s : State) (ls : List Lease) (c : Call) (long : length ls ≡ 128) where
+module _ (s : State) (ls : List Lease) (names : List ℕ) (c : Call) (long : length ls ≡ 128) where
   abbrev before : Book
-  before = bookFrom s ls
+  before = bookFrom s ls names
 
   pub eight : length (before .table .tenants) ≡ 8
   unfolding tableFrom
   eight = length-map (rows 8 ls) tenantFrom ∙ rows-length 8 ls
 
-  pub sound-book : soundB s (tableFrom ls) ≡ true → SoundBook before
+  pub sound-book : bookB before ≡ true → SoundBook before
   sound-book y = record { tenants = eight; sound = y }
 
   pub kept-back : (t : LeaseTable) → t ≡ tableFrom ls → recordsOf t ≡ ls
@@ -71,7 +74,7 @@ module _ (s : State) (ls : List Lease) (c : Call) (long : length ls ≡ 128) whe
   unfolding Kind Laid
   left P f g = ⊎-elim
       (λ e. f (ap (λ (x : Book). x .table) e))
-      (λ p. let v = call-sound before c (sound-book (p .0)) in g (length-map (after .tenants) inUse ∙ v .tenants) (p .1) (v .sound))
+      (λ p. let v = call-sound before c (sound-book (p .0)) in g (length-map (after .tenants) inUse ∙ v .tenants) (p .1) (book-sound (serveOf before c .book) (v .sound)))
       (kind before c)
 
   back : tableFrom (recordsOf after) ≡ after
@@ -80,17 +83,18 @@ module _ (s : State) (ls : List Lease) (c : Call) (long : length ls ≡ 128) whe
   long-after : length (recordsOf after) ≡ 128
   long-after = left (length (recordsOf after) ≡ 128) (λ t. ap length (kept-back after t) ∙ long) (table-long (serveOf before c .book .state) after)
 
-  pub at-whole : serveLent s ls c ≡ lentAnswer (serveOf before c)
+  pub at-whole : serveLent s ls names c ≡ lentAnswer (serveOf before c)
   unfolding serveWith
   at-whole = sym (on-whole (lentAnswer (serveOf before c)) (record { outcome = 1; reply = []; state = s; leases = ls }) long)
 
-  pub still-whole : length (serveLent s ls c .leases) ≡ 128
+  pub still-whole : length (serveLent s ls names c .leases) ≡ 128
   still-whole = ap (λ (x : LentAnswer). length (x .leases)) at-whole ∙ long-after
 
-  pub same : answerOf (serveLent s ls c) ≡ serveOf before c
-  same = ap answerOf at-whole
-      ∙ ap {B = Answer} (λ (t : LeaseTable). record { outcome = serveOf before c .outcome; reply = serveOf before c .reply; book = record { state = serveOf before c .book .state; table = t } }) back
+  pub same : answerOf names (serveLent s ls names c) ≡ serveOf before c
+  same = ap (answerOf names) at-whole
+      ∙ ap {B = Answer} (λ (t : LeaseTable). record { outcome = serveOf before c .outcome; reply = serveOf before c .reply; book = bookOf (serveOf before c .book .state) t names }) back
+      ∙ ap {B = Answer} (λ (n : List ℕ). record { outcome = serveOf before c .outcome; reply = serveOf before c .reply; book = bookOf (serveOf before c .book .state) after n }) (sym (call-tested before c .names))
 
 pub same-call : SameCall
 unfolding SameCall
-same-call s ls c long = same s ls c long
+same-call l c long = same (l .state) (l .leases) (l .names) c long

@@ -7,20 +7,19 @@ use lib.ListN.{replicate}
 use Rattle.lists.specs.Pick.{pick}
 use Rattle.lists.specs.All.{allBy}
 use Rattle.state.specs.Book.{Book, zeroLease}
-use Rattle.soundness.specs.Sound.{soundB}
+use Rattle.soundness.specs.Named.{bookB}
 use Rattle.server.specs.Serve.{Call, serveOf}
 use Rattle.guarantee.specs.Statement.{Granted, Narrow, NewRequest, Offered, OfferedAs, requested, run}
 use Rattle.guarantee.proofs.Opened.{computed}
 use Rattle.guarantee.proofs.Specimens.{Case, agrees, book, discover, discovers, holds, house2, narrow, new, offered, p1, p3, sound, specimens, table}
 use Rattle.records.specs.Records.{rows, tableFrom, tenantFrom}
-use Rattle.records.specs.Lent.{serveLent}
-use Rattle.lent_guarantee.specs.Statement.{answerOf, bookOf, Lent, LentDemand3, LentOfferRule, runLent, SoundLent}
+use Rattle.lent_guarantee.specs.Statement.{answerOf, bookOf, Lent, LentDemand3, LentOfferRule, runLent, served, SoundLent}
 use Rattle.lent_guarantee.proofs.Guaranteed.{lent-demand3, lent-offer-rule, run-lent}
 use Rattle.lent_guarantee.proofs.Same.{same}
 
 -- the specimens' book, lent as 128 unused records
 campus : Lent
-campus = record { state = book .state; leases = replicate 128 zeroLease }
+campus = record { state = book .state; leases = replicate 128 zeroLease; names = book .names }
 
 same-book : bookOf campus ≡ book
 unfolding campus computed rows tableFrom tenantFrom
@@ -28,19 +27,19 @@ same-book = refl
 
 met : SoundLent campus
 unfolding campus
-met = record { whole = refl; sound = ap (λ (b : Book). soundB (b .state) (b .table)) same-book ∙ sound .sound }
+met = record { whole = refl; sound = ap bookB same-book ∙ sound .sound }
 
 run-same : (cs : List Call) → bookOf (runLent campus cs) ≡ run book cs
 run-same cs = run-lent campus cs met .1 ∙ ap (λ (b : Book). run b cs) same-book
 
 -- ---- P1 to P12
 lent-holds : Case → Bool
-lent-holds c = agrees c (answerOf (serveLent (runLent campus (c .before) .state) (runLent campus (c .before) .leases) (c .last)))
+lent-holds c = agrees c (answerOf (runLent campus (c .before) .names) (served (runLent campus (c .before)) (c .last)))
 
 each : (c : Case) → lent-holds c ≡ holds c
 unfolding lent-holds holds
 each c =
-    ap (agrees c) (same (runLent campus (c .before) .state) (runLent campus (c .before) .leases) (c .last) (run-lent campus (c .before) met .0 .whole)
+    ap (agrees c) (same (runLent campus (c .before) .state) (runLent campus (c .before) .leases) (runLent campus (c .before) .names) (c .last) (run-lent campus (c .before) met .0 .whole)
     ∙ ap (λ (b : Book). serveOf b (c .last)) (run-same (c .before)))
 
 all-same : {A : Type 0} (f g : A → Bool) (l : List A) → ((x : A) → f x ≡ g x) → allBy f l ≡ allBy g l
@@ -52,7 +51,7 @@ lent-specimens : allBy lent-holds table ≡ true
 lent-specimens = all-same lent-holds holds table each ∙ specimens
 
 -- ---- demand 3: P3 after P1
-granted : Granted (bookOf (runLent campus (p1 ∷ []))) p3 (answerOf (serveLent (runLent campus (p1 ∷ []) .state) (runLent campus (p1 ∷ []) .leases) p3))
+granted : Granted (bookOf (runLent campus (p1 ∷ []))) p3 (answerOf (runLent campus (p1 ∷ []) .names) (served (runLent campus (p1 ∷ [])) p3))
 unfolding LentDemand3
 granted = lent-demand3 campus met (p1 ∷ []) .next p3 (subst (λ (b : Book). NewRequest b p3) (sym (run-same (p1 ∷ []))) new)
 
@@ -63,9 +62,9 @@ lent-narrow = subst Narrow (sym same-book) narrow
 abbrev asks : Call
 asks = house2 1000 (discover 1 4)
 
-offer-met : OfferedAs (bookOf campus) asks (answerOf (serveLent (campus .state) (campus .leases) asks)) (answerOf (serveLent (campus .state) (campus .leases) (requested asks)))
+offer-met : OfferedAs (bookOf campus) asks (answerOf (campus .names) (served campus asks)) (answerOf (campus .names) (served campus (requested asks)))
 unfolding LentOfferRule campus
-offer-met = lent-offer-rule (campus .state) (campus .leases) asks refl discovers
+offer-met = lent-offer-rule campus asks refl discovers
 
-lent-offered : Offered (answerOf (serveLent (campus .state) (campus .leases) asks))
-lent-offered = subst Offered (sym (same (campus .state) (campus .leases) asks (met .whole) ∙ ap (λ (b : Book). serveOf b asks) same-book)) offered
+lent-offered : Offered (answerOf (campus .names) (served campus asks))
+lent-offered = subst Offered (sym (same (campus .state) (campus .leases) (campus .names) asks (met .whole) ∙ ap (λ (b : Book). serveOf b asks) same-book)) offered

@@ -12,18 +12,18 @@ use Rattle.lists.specs.Pick.{pick}
 use Rattle.state.specs.declared.Lease.{Lease}
 use Rattle.state.specs.declared.LeaseTable.{LeaseTable}
 use Rattle.state.specs.declared.State.{State}
-use Rattle.soundness.specs.Sound.{soundB}
+use Rattle.soundness.specs.Named.{bookB}
 use Rattle.state_file.specs.declared.Loaded.{Loaded}
 use Rattle.state_file.specs.declared.Written.{Written}
-use Rattle.state_file.specs.StateFile.{accepted, readFile, roomAfter, writtenOf}
+use Rattle.state_file.specs.StateFile.{accepted, namesOf, readFile, roomAfter, writtenOf}
 use Rattle.state_file.proofs.RoundTrip.{never-refused, read-sound, written-read}
 use Rattle.records.specs.laws.Back.{records-back}
 use Rattle.records.specs.laws.Files.{file-back, file-long}
 use Rattle.records.specs.laws.Table.{rows-length}
 use Rattle.records.specs.Records.{recordsOf, rows, tableFrom, tenantFrom}
-use Rattle.records.specs.Lent.{LentReading, readLent, readWith, roomLent, roomWith, writtenLent, writtenWith}
+use Rattle.records.specs.Lent.{LentReading, bookFrom, readLent, readWith, roomWith, writtenLent, writtenWith}
 use Rattle.records.specs.laws.Steps.{off-whole, on-whole}
-use Rattle.lent_guarantee.specs.Statement.{FileWritten, Lent, LentDemand3, LentWriteRead, LentWritten, SoundLent, afterFile, runLent}
+use Rattle.lent_guarantee.specs.Statement.{FileWritten, Lent, bookOf, LentDemand3, LentWriteRead, lentRoom, LentWritten, lentWritten, SoundLent, afterFile, runLent}
 use Rattle.lent_guarantee.proofs.Guaranteed.{lent-demand3}
 use Rattle.lent_guarantee.proofs.RoundTrip.{read-whole}
 
@@ -35,36 +35,40 @@ read-as f s t b ls long e =
     ap (λ (r : Loaded). readWith (length ls) r s ls) e ∙ sym (on-whole (record { refusal = 0; state = t; leases = recordsOf b }) (record { refusal = 21; state = s; leases = ls }) long)
 
 -- the writer refuses another number of records
-written-whole : (s : State) (ls : List Lease) (n : ℕ) → writtenLent s ls n .refusal ≡ 0 → length ls ≡ 128
+written-whole : (s : State) (ls : List Lease) (names : List ℕ) (n : ℕ) → writtenLent s ls names n .refusal ≡ 0 → length ls ≡ 128
 unfolding writtenWith
-written-whole s ls n e = go (eqb (length ls) 128) refl
+written-whole s ls names n e = go (eqb (length ls) 128) refl
   where
     go : (b : Bool) → eqb (length ls) 128 ≡ b → length ls ≡ 128
     go true p = eqb-true (length ls) 128 p
     go false p =
-        let q : writtenLent s ls n ≡ record { refusal = 22; length = 0 } = sym (off-whole (writtenOf s (tableFrom ls) n) (record { refusal = 22; length = 0 }) (eqb-false (length ls) 128 p)) in
-        let z : writtenLent s ls n .refusal ≡ 22 = ap (λ (w : Written). w .refusal) q in
+        let q : writtenLent s ls names n ≡ record { refusal = 22; length = 0 } = sym (off-whole (writtenOf (bookFrom s ls names) n) (record { refusal = 22; length = 0 }) (eqb-false (length ls) 128 p)) in
+        let z : writtenLent s ls names n .refusal ≡ 22 = ap (λ (w : Written). w .refusal) q in
         absurd (omega arith)
 
 pub lent-write-read : LentWriteRead
 unfolding LentWriteRead writtenWith roomWith
-lent-write-read s ls room s′ ls′ v long e =
-    let here : length ls ≡ 128 = written-whole s ls (length room) e in
-    let w : writtenOf s (tableFrom ls) (length room) ≡ writtenLent s ls (length room) = on-whole (writtenOf s (tableFrom ls) (length room)) (record { refusal = 22; length = 0 }) here in
-    let r : roomAfter s (tableFrom ls) room ≡ roomLent s ls room = on-whole (roomAfter s (tableFrom ls) room) room here in
-    ap₂ (λ (x : Written) (y : List ℕ). readLent (take (x .length) y) s′ ls′) (sym w) (sym r)
-    ∙ read-as (take (writtenOf s (tableFrom ls) (length room) .length) (roomAfter s (tableFrom ls) room)) s′ s (tableFrom ls) ls′ long
-    (written-read s (tableFrom ls) room v (ap (λ (x : Written). x .refusal) w ∙ e))
-    ∙ ap {B = LentReading} (λ (x : List Lease). record { refusal = 0; state = s; leases = x }) (records-back ls here)
+lent-write-read l room s′ ls′ v o long e =
+    let s : State = l .state in
+    let ls : List Lease = l .leases in
+    let here : length ls ≡ 128 = written-whole s ls (l .names) (length room) e in
+    let w : writtenOf (bookOf l) (length room) ≡ lentWritten l (length room) = on-whole (writtenOf (bookOf l) (length room)) (record { refusal = 22; length = 0 }) here in
+    let r : roomAfter (bookOf l) room ≡ lentRoom l room = on-whole (roomAfter (bookOf l) room) room here in
+    let back = written-read (bookOf l) v o room (ap (λ (x : Written). x .refusal) w ∙ e) in (
+      ap₂ (λ (x : Written) (y : List ℕ). readLent (take (x .length) y) s′ ls′) (sym w) (sym r)
+          ∙ read-as (take (writtenOf (bookOf l) (length room) .length) (roomAfter (bookOf l) room)) s′ s (tableFrom ls) ls′ long (back .0)
+          ∙ ap {B = LentReading} (λ (x : List Lease). record { refusal = 0; state = s; leases = x }) (records-back ls here),
+      ap₂ (λ (x : Written) (y : List ℕ). namesOf (take (x .length) y)) (sym w) (sym r) ∙ back .1,
+    )
 
 -- ---- after any list of calls
 -- records stand for eight tenants' always
-pub sound-written : (l : Lent) → SoundLent l → (n : ℕ) → longestFile ≤ n → writtenLent (l .state) (l .leases) n .refusal ≡ 0
+pub sound-written : (l : Lent) → SoundLent l → (n : ℕ) → longestFile ≤ n → lentWritten l n .refusal ≡ 0
 unfolding writtenWith tableFrom
 sound-written l v n h =
     ap (λ (w : Written). w .refusal)
-    (sym (on-whole (writtenOf (l .state) (tableFrom (l .leases)) n) (record { refusal = 22; length = 0 }) (v .whole))
-    ∙ never-refused (l .state) (tableFrom (l .leases)) n (length-map (rows 8 (l .leases)) tenantFrom ∙ rows-length 8 (l .leases)) (v .sound) h)
+    (sym (on-whole (writtenOf (bookOf l) n) (record { refusal = 22; length = 0 }) (v .whole))
+    ∙ never-refused (bookOf l) n (length-map (rows 8 (l .leases)) tenantFrom ∙ rows-length 8 (l .leases)) (v .sound) h)
 
 pub lent-written : LentWritten
 unfolding LentWritten LentDemand3
@@ -76,7 +80,7 @@ file-sound f s ls e =
     let r = read-whole f s ls e in
     record {
       whole = ap (λ (x : LentReading). length (x .leases)) (r .1) ∙ file-long f (r .0);
-      sound = ap (λ (x : LentReading). soundB (x .state) (tableFrom (x .leases))) (r .1) ∙ ap (soundB (readFile f .state)) (file-back f (r .0)) ∙ read-sound f (r .0);
+      sound = ap (λ (x : LentReading). bookB (bookFrom (x .state) (x .leases) (namesOf f))) (r .1) ∙ ap (λ (t : LeaseTable). bookB (record { state = readFile f .state; table = t; names = namesOf f })) (file-back f (r .0)) ∙ read-sound f (r .0);
     }
 
 pub file-written : FileWritten

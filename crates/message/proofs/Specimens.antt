@@ -88,13 +88,14 @@ table =
     ∷ bad (header ++ time ++ 0 ∷ 3 ∷ 0 ∷ 1 ∷ 7 ∷ end) 5 16
     ∷ bad (header ++ id ++ 0 ∷ 5 ∷ 0 ∷ 3 ∷ 0 ∷ 9 ∷ 0 ∷ end) 5 14
     ∷ bad (header ++ time ++ end) 5 20
-    -- the longest identifier, and one octet more; 18 octets of option 2, and 7; one range, and one octet more; no codes asked for
+    -- the longest identifier, and one octet more; 18 octets of option 2, and 7; one range, and one octet more; no codes asked for; an empty language
     ∷ good (header ++ any 3 32 ++ end) 0 8
     ∷ bad (header ++ any 3 33 ++ end) 5 8
     ∷ good (header ++ id ++ any 2 18 ++ any 10 6 ++ end) 0 8
     ∷ bad (header ++ id ++ any 2 7 ++ end) 5 14
     ∷ bad (header ++ id ++ any 10 7 ++ end) 5 14
     ∷ bad (header ++ id ++ any 5 0 ++ end) 5 14
+    ∷ bad (header ++ id ++ any 8 0 ++ end) 5 14
     -- code 16 twice, 17 twice; End with a value; one and three octets left over; an early End with octets left over
     ∷ bad (header ++ id ++ any 16 2 ++ any 16 2 ++ end) 5 20
     ∷ good (header ++ any 17 3 ++ any 17 3 ++ id ++ end) 0 22

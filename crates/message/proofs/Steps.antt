@@ -2,7 +2,7 @@
 use mathlib.Core.Path.{_≡_, refl, sym, ap, ap₂, _∙_, subst}
 use mathlib.Core.List.{List, [], _∷_, _++_}
 use mathlib.Core.Bool.{Bool, true, false, _&&_, _||_}
-use Prim.Native.Nat.{ℕ, zero, suc, _+_, _-_, _*_, _/_, _≤_, _<_}
+use Prim.Native.Nat.{ℕ, zero, suc, _+_, _-_, _*_, _/_, _≤_, _<_, min}
 use native.Mathlib.Omega.{arith}
 use native.Mathlib.Numerals.{add-one}
 use borrow.Author.Tests.{lt-ltb, le-ltb, leb-true, eqb-true, eqb-false, eq-eqb, ne-eqb, ltb-true, ltb-false}
@@ -15,7 +15,7 @@ use borrow.Author.Needs.{needs}
 use Rattle.octets.specs.Octets.{at16, at32}
 use Rattle.lists.specs.Filter.{isIn}
 use Rattle.message.specs.Codes.{clientTypes, lengthOk, allowedIn, allows}
-use Rattle.message.specs.Values.{wishAt, wishOf, timesOf, fieldsOf, countsAt, countsOf, serverOk, namesOf, allAllowed, identifierOf, codesFrom, foundAt, findOf, isFound, padded, identifierAt}
+use Rattle.message.specs.Values.{wishAt, wishOf, timesOf, fieldsOf, countsAt, countsOf, serverOk, namesOf, allAllowed, identifierOf, codesFrom, foundAt, findOf, isFound, padded, identifierAt, languageAt, languageOf}
 use Rattle.message.specs.Read.{longestDatagram, headerOk, noMessage, messageOf, requiredEmpty, ended, byStage, walked}
 use Rattle.lists.specs.laws.Copy.{CopyInv, copy-end}
 use Rattle.message.specs.Walk.{codeAt, lengthAt, afterAt, layoutOk, valueOk, pastList, exactlyFilled, optionTaken, stepOf, onward, walkFrom, walkOf, start}
@@ -30,6 +30,7 @@ use Rattle.message.specs.declared.Found.the-variants.{At, Absent}
 use Rattle.message.specs.declared.Counts.{Counts}
 use Rattle.message.specs.declared.Identifier.{Identifier}
 use Rattle.message.specs.declared.Fields.{Fields}
+use Rattle.message.specs.declared.Language.{Language}
 use Rattle.message.specs.declared.Message.{Message}
 use Rattle.message.specs.declared.Reading.{Reading}
 use Rattle.message.specs.declared.Times.{Times}
@@ -537,13 +538,21 @@ pub identifier-is : (s id : List ℕ) (at n i : ℕ) → CopyInv 0 (replicate 32
     → _≡_ {A = Identifier} (record { octets = id; len = n }) (identifierAt s at)
 identifier-is s id at n i v h e =
     let z : 0 + n ≡ n = omega arith in
-    let o : id ≡ padded n (drop (at + 4) s) = copy-end v h ∙ ap (λ (l : List ℕ). take n (drop (at + 4) s) ++ l) (ap (λ (k : ℕ). drop {A = ℕ} k (replicate 32 0)) z ∙ zeros-left n 32) in
+    let o : id ≡ padded 32 n (drop (at + 4) s) = copy-end v h ∙ ap (λ (l : List ℕ). take n (drop (at + 4) s) ++ l) (ap (λ (k : ℕ). drop {A = ℕ} k (replicate 32 0)) z ∙ zeros-left n 32) in
     cc
 
-pub fields-is : (s : List ℕ) (server : ℕ) (m : Message) {id : Identifier} {allowed : Bool} {scope : Wish} {counts : Counts} {times : Times} {features ours list time : Bool}
+pub language-is : (s kept : List ℕ) (at len n i : ℕ) → CopyInv 0 (replicate 8 0) 0 (drop (at + 4) s) n kept i → n ≤ i → n ≡ min len 8 → len ≡ lengthAt s at
+    → _≡_ {A = Language} (record { asked = true; len = len; octets = kept }) (languageAt s at)
+language-is s kept at len n i v h e q =
+    let z : 0 + n ≡ n = omega arith in
+    let o : kept ≡ padded 8 n (drop (at + 4) s) = copy-end v h ∙ ap (λ (l : List ℕ). take n (drop (at + 4) s) ++ l) (ap (λ (k : ℕ). drop {A = ℕ} k (replicate 8 0)) z ∙ zeros-left n 8) in
+    cc
+
+pub fields-is : (s : List ℕ) (server : ℕ) (m : Message) {id : Identifier} {allowed : Bool} {scope : Wish} {counts : Counts} {times : Times} {features ours list time : Bool} {language : Language}
     → id ≡ identifierOf s (findOf (m .places) 3) → allowed ≡ allAllowed m → scope ≡ wishOf s (findOf (m .places) 4) → counts ≡ countsOf s (findOf (m .places) 7) → times ≡ timesOf s (m .places)
     → features ≡ isFound (findOf (m .places) 12) → ours ≡ serverOk s server (findOf (m .places) 2) → list ≡ namesOf s 9 (findOf (m .places) 5) → time ≡ namesOf s 11 (findOf (m .places) 5)
-    → _≡_ {A = Fields} (record { kind = m .kind .number; xid = m .xid; id = id; allowed = allowed; scope = scope; counts = counts; times = times; features = features; ours = ours; «list_asked» = list; «time_asked» = time })
+    → language ≡ languageOf s (findOf (m .places) 8)
+    → _≡_ {A = Fields} (record { kind = m .kind .number; xid = m .xid; id = id; allowed = allowed; scope = scope; counts = counts; times = times; features = features; ours = ours; «list_asked» = list; «time_asked» = time; language = language })
     (fieldsOf s server m)
 unfolding fieldsOf
-fields-is s server m a b c d e f g h i = cc
+fields-is s server m a b c d e f g h i j = cc

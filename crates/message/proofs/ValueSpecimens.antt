@@ -53,11 +53,12 @@ shown : Wish → List ℕ
 shown w = flag (w .there) ∷ w .value ∷ []
 
 -- type, transaction id; are all options allowed, is it for this server, was 12 sent, are 9 and 11 asked for; least, desired; Scope, Lease Time, Start Time, Current Time,
--- Minimum Lease, Maximum Start; the identifier's length and 32 octets
+-- Minimum Lease, Maximum Start; the identifier's length and 32 octets; Requested Language: is it there, its length and 8 octets
 flat : Fields → List ℕ
 flat f =
     f .kind ∷ f .xid ∷ flag (f .allowed) ∷ flag (f .ours) ∷ flag (f .features) ∷ flag (f .«list_asked») ∷ flag (f .«time_asked») ∷ f .counts .least ∷ f .counts .desired ∷ shown (f .scope)
     ++ shown (f .times .length) ++ shown (f .times .start) ++ shown (f .times .current) ++ shown (f .times .shortest) ++ shown (f .times .latest) ++ f .id .len ∷ f .id .octets
+    ++ flag (f .language .asked) ∷ f .language .len ∷ f .language .octets
 
 record Case : Type 0 where
   octets : List ℕ
@@ -80,8 +81,12 @@ option code value = 0 ∷ code ∷ 0 ∷ length value ∷ value
 sent : ℕ → List ℕ → List ℕ
 sent kind more = 0 ∷ kind ∷ 0 ∷ 1 ∷ 1 ∷ 2 ∷ 3 ∷ 4 ∷ option 3 (0 ∷ 0x41 ∷ []) ++ more ++ 0 ∷ 0 ∷ 0 ∷ 0 ∷ []
 
+-- no language is asked for
+silent : List ℕ
+silent = replicate 10 0
+
 short : List ℕ
-short = 2 ∷ 0 ∷ 0x41 ∷ replicate 30 0
+short = 2 ∷ 0 ∷ 0x41 ∷ replicate 30 0 ++ silent
 
 -- nothing but the identifier, with these flags: "absent Number is least 1, desired 1", and no option of four octets is there
 bare : ℕ → ℕ → ℕ → ℕ → ℕ → ℕ → Case → Case
@@ -89,6 +94,10 @@ bare kind allowed ours features list time c = record { octets = c .octets; says 
 
 of : List ℕ → Case
 of s = record { octets = s; says = [] }
+
+-- nothing but the identifier and a language: its length and octets
+spoken : ℕ → ℕ → List ℕ → List ℕ → Case
+spoken kind allowed s language = record { octets = s; says = kind ∷ 0x01020304 ∷ allowed ∷ 1 ∷ 0 ∷ 0 ∷ 0 ∷ 1 ∷ 1 ∷ replicate 12 0 ++ 2 ∷ 0 ∷ 0x41 ∷ replicate 30 0 ++ 1 ∷ language }
 
 table : List Case
 table =
@@ -115,19 +124,23 @@ table =
     ∷ bare 8 1 1 0 0 0 (of (sent 8 (option 5 (9 ∷ 0 ∷ 11 ∷ 0 ∷ []))))
     -- an option that isn't allowed: 5 in a REQUEST, 8 in a RELEASE; a code above 16 is allowed everywhere
     ∷ bare 3 0 1 0 1 0 (of (sent 3 (option 5 (0 ∷ 9 ∷ []))))
-    ∷ bare 7 0 1 0 0 0 (of (sent 7 (option 8 (0 ∷ []))))
+    ∷ spoken 7 0 (sent 7 (option 8 (0 ∷ []))) (1 ∷ replicate 8 0)
     ∷ bare 7 1 1 0 0 0 (of (sent 7 (option 17 (0 ∷ []))))
     -- Lease Identifier: 32 octets, and zeros, which are octets like any other
     ∷ record {
       octets = 0 ∷ 7 ∷ 0 ∷ 1 ∷ 1 ∷ 2 ∷ 3 ∷ 4 ∷ option 3 (replicate 31 7 ++ 8 ∷ []) ++ 0 ∷ 0 ∷ 0 ∷ 0 ∷ [];
-      says = 7 ∷ 0x01020304 ∷ 1 ∷ 1 ∷ 0 ∷ 0 ∷ 0 ∷ 1 ∷ 1 ∷ replicate 12 0 ++ 32 ∷ replicate 31 7 ++ 8 ∷ [];
+      says = 7 ∷ 0x01020304 ∷ 1 ∷ 1 ∷ 0 ∷ 0 ∷ 0 ∷ 1 ∷ 1 ∷ replicate 12 0 ++ 32 ∷ replicate 31 7 ++ 8 ∷ silent;
     }
     ∷ record {
       octets = 0 ∷ 7 ∷ 0 ∷ 1 ∷ 1 ∷ 2 ∷ 3 ∷ 4 ∷ option 3 (replicate 3 0) ++ 0 ∷ 0 ∷ 0 ∷ 0 ∷ [];
-      says = 7 ∷ 0x01020304 ∷ 1 ∷ 1 ∷ 0 ∷ 0 ∷ 0 ∷ 1 ∷ 1 ∷ replicate 12 0 ++ 3 ∷ replicate 32 0;
+      says = 7 ∷ 0x01020304 ∷ 1 ∷ 1 ∷ 0 ∷ 0 ∷ 0 ∷ 1 ∷ 1 ∷ replicate 12 0 ++ 3 ∷ replicate 32 0 ++ silent;
     }
+    -- Requested Language: "de"; eight octets; of nine, its length and the first eight
+    ∷ spoken 8 1 (sent 8 (option 8 (0x64 ∷ 0x65 ∷ []))) (2 ∷ 0x64 ∷ 0x65 ∷ replicate 6 0)
+    ∷ spoken 8 1 (sent 8 (option 8 (1 ∷ 2 ∷ 3 ∷ 4 ∷ 5 ∷ 6 ∷ 7 ∷ 8 ∷ []))) (8 ∷ 1 ∷ 2 ∷ 3 ∷ 4 ∷ 5 ∷ 6 ∷ 7 ∷ 8 ∷ [])
+    ∷ spoken 8 1 (sent 8 (option 8 (1 ∷ 2 ∷ 3 ∷ 4 ∷ 5 ∷ 6 ∷ 7 ∷ 8 ∷ 9 ∷ []))) (9 ∷ 1 ∷ 2 ∷ 3 ∷ 4 ∷ 5 ∷ 6 ∷ 7 ∷ 8 ∷ [])
     ∷ []
 
 values : allBy holds table ≡ true
-unfolding flag shown flat same holds option sent short bare of table pick allBy allTo filterBy isIn at16 at32 lengthOk allowedIn allows layoutOk exactlyFilled valueOk optionTaken stepOf walkFrom walkOf headerOk requiredEmpty noneRequired ended readOf foundAt namesServer codesFrom allowedAt timesOf fieldsOf
+unfolding flag shown flat same holds option sent silent short bare of spoken table pick allBy allTo filterBy isIn at16 at32 lengthOk allowedIn allows layoutOk exactlyFilled valueOk optionTaken stepOf walkFrom walkOf headerOk requiredEmpty noneRequired ended readOf foundAt namesServer codesFrom allowedAt timesOf fieldsOf
 values = refl

@@ -1,5 +1,5 @@
 -- Definitions: the values of a message's options, and what stands for an absent one (document 01).
-use Prim.Native.Nat.{ℕ, zero, suc, _+_, _-_, _/_}
+use Prim.Native.Nat.{ℕ, zero, suc, _+_, _-_, _/_, min}
 use mathlib.Core.List.{List, [], _∷_, _++_}
 use mathlib.Core.Bool.{Bool, true, false, _&&_}
 use lib.ListN.{getD, take, drop, replicate}
@@ -13,6 +13,7 @@ use Rattle.message.specs.Walk.{lengthAt}
 use Rattle.message.specs.declared.Counts.{Counts}
 use Rattle.message.specs.declared.Fields.{Fields}
 use Rattle.message.specs.declared.Identifier.{Identifier}
+use Rattle.message.specs.declared.Language.{Language}
 use Rattle.message.specs.declared.Message.{Message}
 use Rattle.message.specs.declared.Times.{Times}
 use Rattle.message.specs.declared.Wish.{Wish}
@@ -58,17 +59,26 @@ abbrev pub namesOf : List ℕ → ℕ → Found → Bool
 namesOf s code (At at) = isIn code (codesFrom s (at + 4) (lengthAt s at / 2))
 namesOf s code Absent = false
 
--- n octets and zeros up to 32
-abbrev pub padded : ℕ → List ℕ → List ℕ
-padded n v = take n v ++ replicate (32 - n) 0
+-- n octets and zeros up to a size
+abbrev pub padded : ℕ → ℕ → List ℕ → List ℕ
+padded size n v = take n v ++ replicate (size - n) 0
 
 -- Lease Identifier, opaque
 abbrev pub identifierAt : List ℕ → ℕ → Identifier
-identifierAt s at = record { octets = padded (lengthAt s at) (drop (at + 4) s); len = lengthAt s at }
+identifierAt s at = record { octets = padded 32 (lengthAt s at) (drop (at + 4) s); len = lengthAt s at }
 
 abbrev pub identifierOf : List ℕ → Found → Identifier
 identifierOf s (At at) = identifierAt s at
 identifierOf s Absent = record { octets = replicate 32 0; len = 0 }
+
+-- "the language asked for by option 8" (document 02): its length, and its octets, of which no more than eight are kept, since "tags [have] at
+-- most 8" and match "octet for octet": a longer one matches none
+abbrev pub languageAt : List ℕ → ℕ → Language
+languageAt s at = record { asked = true; len = lengthAt s at; octets = padded 8 (min (lengthAt s at) 8) (drop (at + 4) s) }
+
+abbrev pub languageOf : List ℕ → Found → Language
+languageOf s (At at) = languageAt s at
+languageOf s Absent = record { asked = false; len = 0; octets = replicate 8 0 }
 
 -- error 1's "an option that isn't allowed": every option that is there is one that the message type allows
 unfoldable pub allowedAt : ℕ → List ℕ → ℕ → Bool
@@ -111,4 +121,5 @@ fieldsOf s server m = record {
   ours = serverOk s server (findOf (m .places) 2);
   «list_asked» = namesOf s 9 (findOf (m .places) 5);
   «time_asked» = namesOf s 11 (findOf (m .places) 5);
+  language = languageOf s (findOf (m .places) 8);
 }

@@ -36,7 +36,7 @@ pub struct Reading {
 }
 
 // All that a message says. `allowed`: each option is one that the type allows; `features`: the client sent 12; `ours`: no other server is
-// named; `list_asked`, `time_asked`: the Option Request List names 9, 11.
+// named; `list_asked`, `time_asked`: the Option Request List names 9, 11; `language`: what a name is to be in.
 pub struct Fields {
     pub kind: u8,
     pub xid: u32,
@@ -49,6 +49,7 @@ pub struct Fields {
     pub ours: bool,
     pub list_asked: bool,
     pub time_asked: bool,
+    pub language: Language,
 }
 
 // Lease Identifier: its octets, with zeros past its length.
@@ -70,6 +71,14 @@ pub struct Times {
     pub current: Wish,
     pub shortest: Wish,
     pub latest: Wish,
+}
+
+// Requested Language: is it there, its length, and its first eight octets, with zeros past its length. No tag of a name has more than eight,
+// so the others need not be kept: by its length alone a longer one is no tag's.
+pub struct Language {
+    pub asked: bool,
+    pub len: usize,
+    pub octets: [u8; 8],
 }
 
 // An option of four octets, if it is there.
@@ -127,6 +136,7 @@ impl Message {
             ours: self.is_for(s, server),
             list_asked: self.asks_for(s, OptionCode::SCOPE_LIST),
             time_asked: self.asks_for(s, OptionCode::CURRENT_TIME),
+            language: self.language(s),
         }
     }
 }

@@ -1,16 +1,17 @@
 // The values of a message's options, and what stands for an absent one.
 ghost use mathlib.Core.Path.{_≡_};
 ghost use mathlib.Core.Bool.{true};
-ghost use Prim.Native.Nat.{_+_, _/_, _≤_};
+ghost use Prim.Native.Nat.{_+_, _/_, _≤_, min};
 ghost use lib.ListN.{length};
 ghost use Rattle.lists.specs.Filter.{isIn};
 ghost use Rattle.message.specs.Walk.{lengthAt, afterAt};
 ghost use Rattle.message.specs.Read.{longestDatagram};
-ghost use Rattle.message.specs.Values.{foundAt, findOf, isFound, countsAt, countsOf, namesServer, serverOk, codesFrom, namesOf, identifierAt, identifierOf, allowedAt, allAllowed, wishAt, wishOf, timesOf};
+ghost use Rattle.message.specs.Values.{foundAt, findOf, isFound, countsAt, countsOf, namesServer, serverOk, codesFrom, namesOf, identifierAt, identifierOf, languageAt, languageOf, allowedAt, allAllowed, wishAt, wishOf, timesOf};
 ghost use Rattle.message.specs.Placed.{GoodPlaces, fourOctets};
 use crate::Counts;
 use crate::Found;
 use crate::Identifier;
+use crate::Language;
 use crate::Message;
 use crate::OptionCode;
 use crate::Times;
@@ -122,6 +123,22 @@ impl Message {
         identifier_at(s, at)
     }
 
+    // Requested Language, or that none is asked for.
+    pub fn language(self, s: &[u8]) -> Language
+        requires { ⌜ GoodPlaces (now s) (self .places) × (length (now s) ≤ longestDatagram) ⌝ }
+        ensures { λ r. ⌜ r ≡ languageOf (now (s .entry)) (findOf (self .places) 8) ⌝ }
+    {
+        let found = self.find(OptionCode::REQUESTED_LANGUAGE);
+        let Found::At(at) = found else {
+            return Language {
+                asked: false,
+                len: 0,
+                octets: [0; 8],
+            };
+        };
+        language_at(s, at)
+    }
+
     // Whether every option that is there is one that the message type allows.
     pub fn all_allowed(self) -> bool
         ensures { λ r. ⌜ r ≡ allAllowed self ⌝ }
@@ -225,5 +242,35 @@ fn identifier_at(s: &[u8], at: usize) -> Identifier
     Identifier {
         octets: id,
         len: n as u8,
+    }
+}
+
+// A number, or 8 where it is larger.
+fn cut8(n: usize) -> usize
+    ensures { λ r. ⌜ r ≡ min n 8 ⌝ }
+{
+    if n < 8 {
+        return n;
+    }
+    8
+}
+
+// The language at a place: its length, and its octets as far as they are kept.
+fn language_at(s: &[u8], at: usize) -> Language
+    requires { ⌜ (afterAt (now s) at ≤ length (now s)) × (length (now s) ≤ longestDatagram) ⌝ }
+    ensures { λ r. ⌜ r ≡ languageAt (now (s .entry)) at ⌝ }
+{
+    let len = octets::read_u16(s, at + 2) as usize;
+    let n = cut8(len);
+    let mut kept: [u8; 8] = [0; 8];
+    let mut i: usize = 0;
+    while i < n {
+        kept[i] = s[at + 4 + i];
+        i += 1;
+    }
+    Language {
+        asked: true,
+        len: len,
+        octets: kept,
     }
 }

@@ -29,14 +29,29 @@ pub struct OwnedFile {
     pub owned: Owned,
 }
 
-// The call.
-pub fn serve(o: Owned, datagram: &[u8], client: u32, time: u32, reply: &mut [u8]) -> OwnedCall
-    ensures { λ r. ⌜ ServesOwned (serveLent (o .state) (o .records .leases) (record { datagram = now (datagram .entry); client = client; time = time; room = length (now (reply .entry)) })) (now (reply .entry)) (now (reply .exit)) r ⌝ }
+// The call, with the names of the scopes lent.
+pub fn serve(
+    o: Owned,
+    names: &[u8],
+    datagram: &[u8],
+    client: u32,
+    time: u32,
+    reply: &mut [u8],
+) -> OwnedCall
+    ensures { λ r. ⌜ ServesOwned (serveLent (o .state) (o .records .leases) (now (names .entry)) (record { datagram = now (datagram .entry); client = client; time = time; room = length (now (reply .entry)) })) (now (reply .entry)) (now (reply .exit)) r ⌝ }
 {
     let mut state = o.state;
     let records = o.records;
     let mut leases = records.leases;
-    let r = lent::serve(datagram, client, time, &mut state, &mut leases, reply);
+    let r = lent::serve(
+        datagram,
+        client,
+        time,
+        &mut state,
+        &mut leases,
+        names,
+        reply,
+    );
     OwnedCall {
         outcome: r,
         owned: Owned {
@@ -83,13 +98,13 @@ pub fn open(file: &[u8]) -> OwnedFile
     read(file, o)
 }
 
-// Writes a state file from a book.
-pub fn write(o: Owned, room: &mut [u8]) -> Written
-    ensures answer { λ r. ⌜ r ≡ writtenLent (o .state) (o .records .leases) (length (now (room .entry))) ⌝ }
-    ensures octets { λ r. ⌜ now (room .exit) ≡ roomLent (o .state) (o .records .leases) (now (room .entry)) ⌝ }
+// Writes a state file from a book and the names of its scopes.
+pub fn write(o: Owned, names: &[u8], room: &mut [u8]) -> Written
+    ensures answer { λ r. ⌜ r ≡ writtenLent (o .state) (o .records .leases) (now (names .entry)) (length (now (room .entry))) ⌝ }
+    ensures octets { λ r. ⌜ now (room .exit) ≡ roomLent (o .state) (o .records .leases) (now (names .entry)) (now (room .entry)) ⌝ }
 {
     let state = o.state;
     let records = o.records;
     let leases = records.leases;
-    lent::write(&state, &leases, room)
+    lent::write(&state, &leases, names, room)
 }

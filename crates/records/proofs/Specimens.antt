@@ -79,18 +79,18 @@ short : insertLent 1 (lease 2) (unused 127) ≡ unused 127
 unfolding unused insertWith is128 pick
 short = refl
 
--- 127 and 129 records are discard 1 and refusal 22, whatever the state, the call and the room
-serve-127 : (s : State) (c : Call) → serveLent s (unused 127) c .outcome ≡ 1
+-- 127 and 129 records are discard 1 and refusal 22, whatever the state, the names, the call and the room
+serve-127 : (s : State) (names : List ℕ) (c : Call) → serveLent s (unused 127) names c .outcome ≡ 1
 unfolding unused serveWith is128 pick
-serve-127 s c = refl
+serve-127 s names c = refl
 
-serve-129 : (s : State) (c : Call) → serveLent s (unused 129) c .outcome ≡ 1
+serve-129 : (s : State) (names : List ℕ) (c : Call) → serveLent s (unused 129) names c .outcome ≡ 1
 unfolding unused serveWith is128 pick
-serve-129 s c = refl
+serve-129 s names c = refl
 
-write-127 : (s : State) (room : ℕ) → writtenLent s (unused 127) room .refusal ≡ 22
+write-127 : (s : State) (names : List ℕ) (room : ℕ) → writtenLent s (unused 127) names room .refusal ≡ 22
 unfolding unused writtenWith is128 pick
-write-127 s room = refl
+write-127 s names room = refl
 
 -- a lease after an unused record
 gap : layoutB (tenantFrom (lease 1 ∷ zeroLease ∷ lease 3 ∷ unused 13)) ≡ false

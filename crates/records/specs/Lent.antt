@@ -12,7 +12,7 @@ use Rattle.state.specs.declared.LeaseTable.{LeaseTable}
 use Rattle.state.specs.declared.State.{State}
 use Rattle.state.specs.Book.{Book, insertOf, laidOut, placeOf, putAt, removeOf}
 use Rattle.soundness.specs.declared.HeldTable.{HeldTable}
-use Rattle.soundness.specs.Sound.{soundB}
+use Rattle.soundness.specs.Named.{bookB}
 use Rattle.soundness.specs.Parts.{holdingsOf}
 use Rattle.decision.specs.Parts.{ownOf}
 use Rattle.server.specs.declared.Outcome.{Outcome}
@@ -30,9 +30,9 @@ use Rattle.records.specs.Records.{recordsOf, tableFrom}
 unfoldable pub is128 : ℕ → Bool
 is128 n = eqb n 128
 
--- the book that a lent state and lent records are
-abbrev pub bookFrom : State → List Lease → Book
-bookFrom s ls = bookOf s (tableFrom ls)
+-- the book that a lent state, lent records and lent names are
+abbrev pub bookFrom : State → List Lease → List ℕ → Book
+bookFrom s ls names = bookOf s (tableFrom ls) names
 
 -- ---- the call
 pub record LentAnswer : Type 0 where
@@ -50,15 +50,15 @@ abbrev pub lentAnswer : Answer → LentAnswer
 lentAnswer a = record { outcome = a .outcome; reply = a .reply; state = a .book .state; leases = recordsOf (a .book .table) }
 
 -- on records of a slice that has n; discard 1 changes nothing
-unfoldable pub serveWith : ℕ → State → List Lease → Call → LentAnswer
-serveWith n s ls c = pick (is128 n) (lentAnswer (serveOf (bookFrom s ls) c)) (record { outcome = 1; reply = []; state = s; leases = ls })
+unfoldable pub serveWith : ℕ → State → List Lease → List ℕ → Call → LentAnswer
+serveWith n s ls names c = pick (is128 n) (lentAnswer (serveOf (bookFrom s ls names) c)) (record { outcome = 1; reply = []; state = s; leases = ls })
 
-abbrev pub serveLent : State → List Lease → Call → LentAnswer
-serveLent s ls c = serveWith (length ls) s ls c
+abbrev pub serveLent : State → List Lease → List ℕ → Call → LentAnswer
+serveLent s ls names c = serveWith (length ls) s ls names c
 
--- what a call has gathered of the lent records once it knows that the book is sound: what the tenants hold
-pub record Gathered (s : State) (ls : List Lease) (held : HeldTable) : Type 0 where
-  pub sound : soundB s (tableFrom ls) ≡ true
+-- what a call has gathered of the lent records and names once it knows that the book is sound: what the tenants hold
+pub record Gathered (s : State) (ls : List Lease) (names : List ℕ) (held : HeldTable) : Type 0 where
+  pub sound : bookB (bookFrom s ls names) ≡ true
   pub holdings : held ≡ holdingsOf (tableFrom ls)
 
 -- what a function on 128 records by value promises: what is told, the clock and every record
@@ -109,17 +109,17 @@ pub record ReadsLent (a : LentReading) (s : State) (ls : List Lease) (r : ℕ) :
 
 -- ---- the writer
 -- 22 before 23
-unfoldable pub writtenWith : ℕ → State → List Lease → ℕ → Written
-writtenWith n s ls room = pick (is128 n) (writtenOf s (tableFrom ls) room) (record { refusal = 22; length = 0 })
+unfoldable pub writtenWith : ℕ → State → List Lease → List ℕ → ℕ → Written
+writtenWith n s ls names room = pick (is128 n) (writtenOf (bookFrom s ls names) room) (record { refusal = 22; length = 0 })
 
-unfoldable pub roomWith : ℕ → State → List Lease → List ℕ → List ℕ
-roomWith n s ls room = pick (is128 n) (roomAfter s (tableFrom ls) room) room
+unfoldable pub roomWith : ℕ → State → List Lease → List ℕ → List ℕ → List ℕ
+roomWith n s ls names room = pick (is128 n) (roomAfter (bookFrom s ls names) room) room
 
-abbrev pub writtenLent : State → List Lease → ℕ → Written
-writtenLent s ls room = writtenWith (length ls) s ls room
+abbrev pub writtenLent : State → List Lease → List ℕ → ℕ → Written
+writtenLent s ls names room = writtenWith (length ls) s ls names room
 
-abbrev pub roomLent : State → List Lease → List ℕ → List ℕ
-roomLent s ls room = roomWith (length ls) s ls room
+abbrev pub roomLent : State → List Lease → List ℕ → List ℕ → List ℕ
+roomLent s ls names room = roomWith (length ls) s ls names room
 
 -- ---- one record
 -- the leases of tenant h, counted from 0, become p: records past them become unused

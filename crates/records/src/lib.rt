@@ -1,6 +1,6 @@
 // The lent lease records by value, and what each entry point does with them: 128 in a row, sixteen to a tenant, tenant by tenant. The number
 // of records that the lent slice has comes with them.
-ghost use mathlib.Core.Bool.{_||_};
+ghost use mathlib.Core.Bool.{_&&_, _||_};
 ghost use mathlib.Core.Path.{_≡_};
 ghost use Prim.Native.Nat.{_≤_, _<_, min};
 ghost use lib.ListN.{length, replicate, take};
@@ -8,7 +8,8 @@ ghost use Rattle.lists.specs.All.{allBy};
 ghost use Rattle.lists.specs.Place.{placeBy};
 ghost use Rattle.reply.specs.Reply.{leastRoom};
 ghost use Rattle.soundness.specs.Sound.{unusedB};
-ghost use Rattle.soundness.specs.Parts.{holdingsOf, tableRulesOf};
+ghost use Rattle.names.specs.Names.{namesB};
+ghost use Rattle.soundness.specs.Parts.{holdingsOf, soundFrom, tableRulesOf};
 ghost use Rattle.state.specs.Book.{leasesOf, tableOf, tenantAt, zeroLease};
 ghost use Rattle.server.specs.Serve.{atClock};
 ghost use Rattle.state_file.specs.StateFile.{readFile};
@@ -276,17 +277,18 @@ fn at_clock(
     s: State,
     records: Records,
     held: HeldTable,
+    names: &[u8],
     client: u32,
     datagram: &[u8],
     reply: &mut [u8],
 ) -> ServedRecords
-    requires { ⌜ (leastRoom ≤ length (now reply)) × Gathered s (records .leases) held ⌝ }
-    ensures { λ r. ⌜ ServesRecords (lentAnswer (atClock (bookFrom s (records .leases)) client (now (datagram .entry)))) (now (reply .entry)) (now (reply .exit)) r ⌝ }
+    requires { ⌜ (leastRoom ≤ length (now reply)) × Gathered s (records .leases) (now names) held ⌝ }
+    ensures { λ r. ⌜ ServesRecords (lentAnswer (atClock (bookFrom s (records .leases) (now (names .entry))) client (now (datagram .entry)))) (now (reply .entry)) (now (reply .exit)) r ⌝ }
 {
     let h = server::tenant_of(s, client);
     if h < arithmetic::cut8(s.tenant_count) {
         let own = row(records, h);
-        let r = server::on_tenant(s, own, held, h, datagram, reply);
+        let r = server::on_tenant(s, names, own, held, h, datagram, reply);
         let o = r.outcome;
         let e = r.edit;
         if is_edit(e) {
@@ -307,23 +309,34 @@ fn at_clock(
     discard(3, s.clock, records)
 }
 
+// Test 1: every rule holds, and the names are good for the settings.
+fn is_sound(s: State, c: TableRules, names: &[u8]) -> bool
+    ensures { λ r. ⌜ r ≡ (soundFrom s c && namesB (s .«scope_count») (s .«tenant_count») (now (names .entry))) ⌝ }
+{
+    if soundness::sound_from(s, c) {
+        return names::good(names, s.scope_count, s.tenant_count);
+    }
+    false
+}
+
 // The call on the records of a slice that has n: tests 1 and 2; then the clock is raised, and ended leases are dropped where there are any.
 pub fn serve(
     state: State,
     records: Records,
     n: usize,
+    names: &[u8],
     datagram: &[u8],
     client: u32,
     time: u32,
     reply: &mut [u8],
 ) -> ServedRecords
-    ensures { λ r. ⌜ ServesRecords (serveWith n state (records .leases) (record { datagram = now (datagram .entry); client = client; time = time; room = length (now (reply .entry)) })) (now (reply .entry)) (now (reply .exit)) r ⌝ }
+    ensures { λ r. ⌜ ServesRecords (serveWith n state (records .leases) (now (names .entry)) (record { datagram = now (datagram .entry); client = client; time = time; room = length (now (reply .entry)) })) (now (reply .entry)) (now (reply .exit)) r ⌝ }
 {
     if n != 128 {
         return discard(1, state.clock, records);
     }
     let c = survey(state, records);
-    if !soundness::sound_from(state, c) {
+    if !is_sound(state, c, names) {
         return discard(1, state.clock, records);
     }
     if reply.len() < reply::LEAST_ROOM {
@@ -332,12 +345,12 @@ pub fn serve(
     let s = state::raise(state, time);
     let held = c.held;
     if none_ended(held, s.clock) {
-        return at_clock(s, records, held, client, datagram, reply);
+        return at_clock(s, records, held, names, client, datagram, reply);
     }
     let d = drop_ended(records, held, s.clock);
     let left = d.records;
     let sets = d.held;
-    at_clock(s, left, sets, client, datagram, reply)
+    at_clock(s, left, sets, names, client, datagram, reply)
 }
 
 fn untouched(refusal: u8, state: State, records: Records) -> ReadRecords
@@ -369,13 +382,13 @@ pub fn read(file: &[u8], state: State, records: Records, n: usize) -> ReadRecord
 }
 
 // The writer of a state file: its length, or refusal 22 and then 23.
-pub fn write(state: State, records: Records, n: usize, room: &mut [u8]) -> Written
-    ensures answer { λ r. ⌜ r ≡ writtenWith n state (records .leases) (length (now (room .entry))) ⌝ }
-    ensures octets { λ r. ⌜ now (room .exit) ≡ roomWith n state (records .leases) (now (room .entry)) ⌝ }
+pub fn write(state: State, records: Records, n: usize, names: &[u8], room: &mut [u8]) -> Written
+    ensures answer { λ r. ⌜ r ≡ writtenWith n state (records .leases) (now (names .entry)) (length (now (room .entry))) ⌝ }
+    ensures octets { λ r. ⌜ now (room .exit) ≡ roomWith n state (records .leases) (now (names .entry)) (now (room .entry)) ⌝ }
 {
     if n == 128 {
         let t = table_of(records);
-        return state_file::write(state, t, room);
+        return state_file::write(state, t, names, room);
     }
     Written {
         refusal: 22,

@@ -33,16 +33,16 @@ fn print_call(outcome: u8, room: &[u8], length: usize) {
 }
 
 // The writer refuses nothing after calls on an accepted file; what it refused would be told.
-fn print_book(book: Owned) {
-    let mut file = [0u8; state_file::LONGEST_FILE];
-    let mut line = [0u8; 2 * state_file::LONGEST_FILE + 6];
-    let w = owned::write(book, &mut file);
+fn print_book(book: Owned, names: &[u8]) {
+    let mut file = [0u8; state_file::FILE_LIMIT];
+    let mut line = [0u8; 2 * state_file::FILE_LIMIT + 6];
+    let w = owned::write(book, names, &mut file);
     let length = w.length;
     if w.refusal != 0 {
         refuse(w.refusal);
         return;
     }
-    if length <= state_file::LONGEST_FILE {
+    if length <= state_file::FILE_LIMIT {
         let n = replay_text::write_book_line(&mut line, &file, length);
         print(&line, n);
         return;
@@ -61,6 +61,7 @@ fn read_part(buffer: &mut [u8], n: usize) -> bool {
 // One call on a datagram of n octets, in a room of just `size` octets; both lie within their buffers, which have 65,536.
 fn call(
     book: Owned,
+    names: &[u8],
     client: u32,
     time: u32,
     datagram: &[u8],
@@ -70,7 +71,7 @@ fn call(
 ) -> Owned {
     if n <= datagram.len() {
         if size <= room.len() {
-            let r = owned::serve(book, &datagram[..n], client, time, &mut room[..size]);
+            let r = owned::serve(book, names, &datagram[..n], client, time, &mut room[..size]);
             let told = r.outcome;
             print_call(told.outcome, room, told.length);
             return r.owned;
@@ -81,11 +82,18 @@ fn call(
 }
 
 // The call whose record starts with a head of twelve octets.
-fn call_of(head: [u8; 12], book: Owned, datagram: &[u8], n: usize, room: &mut [u8]) -> Owned {
+fn call_of(
+    head: [u8; 12],
+    book: Owned,
+    names: &[u8],
+    datagram: &[u8],
+    n: usize,
+    room: &mut [u8],
+) -> Owned {
     let time = octets::read_u32(&head, 0);
     let client = octets::read_u32(&head, 4);
     let size = octets::read_u16(&head, 8) as usize;
-    call(book, client, time, datagram, n, room, size)
+    call(book, names, client, time, datagram, n, room, size)
 }
 
 // The book after a record, and whether there may be another.
@@ -101,11 +109,11 @@ fn stop(book: Owned) -> Turn {
     }
 }
 
-fn take_turn(book: Owned, datagram: &mut [u8], room: &mut [u8]) -> Turn {
+fn take_turn(book: Owned, names: &[u8], datagram: &mut [u8], room: &mut [u8]) -> Turn {
     let mut head = [0u8; 12];
     let got = io::read_full(STDIN_FILENO, &mut head);
     if got == 0 {
-        print_book(book);
+        print_book(book, names);
         return stop(book);
     }
     let n = octets::read_u16(&head, 10) as usize;
@@ -113,7 +121,7 @@ fn take_turn(book: Owned, datagram: &mut [u8], room: &mut [u8]) -> Turn {
         if read_part(datagram, n) {
             return Turn {
                 go: true,
-                book: call_of(head, book, datagram, n, room),
+                book: call_of(head, book, names, datagram, n, room),
             };
         }
         refuse(24);
@@ -124,14 +132,14 @@ fn take_turn(book: Owned, datagram: &mut [u8], room: &mut [u8]) -> Turn {
 }
 
 // Answers calls until the input ends or is cut off. A proved loop has to end: its turns are counted down from a number that no run uses up.
-fn replay(start: Owned) {
+fn replay(start: Owned, names: &[u8]) {
     let mut book = start;
     let mut datagram = [0u8; 65536];
     let mut room = [0u8; 65536];
     let mut turns = u64::MAX;
     while turns > 0 {
         turns -= 1;
-        let t = take_turn(book, &mut datagram, &mut room);
+        let t = take_turn(book, names, &mut datagram, &mut room);
         if !t.go {
             return;
         }
@@ -139,12 +147,12 @@ fn replay(start: Owned) {
     }
 }
 
-// On the campus file of n octets.
+// On the campus file of n octets, whose names are lent where they stand.
 fn replay_file(file: &[u8], n: usize) {
     if n <= file.len() {
         let r = owned::open(&file[..n]);
         if r.refusal == 0 {
-            replay(r.owned);
+            replay(r.owned, state_file::names(&file[..n]));
         } else {
             refuse(r.refusal);
         }

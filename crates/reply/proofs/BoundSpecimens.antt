@@ -1,7 +1,7 @@
 -- Specimens: how many octets the longest reply of each kind has, where the reader's walk finds each option of an ACK, and which addresses it names.
 use mathlib.Core.Path.{_≡_, refl}
-use mathlib.Core.List.{[], _∷_}
-use mathlib.Core.Bool.{true}
+use mathlib.Core.List.{List, [], _∷_, _++_}
+use mathlib.Core.Bool.{false, true}
 use Prim.Native.Nat.{ℕ}
 use lib.ListN.{length, replicate}
 use Rattle.lists.specs.Pick.{pick}
@@ -12,6 +12,8 @@ use Rattle.message.specs.Codes.{lengthOk}
 use Rattle.message.specs.Values.{foundAt}
 use Rattle.message.specs.Walk.{exactlyFilled, layoutOk, stepOf, optionTaken, valueOk, walkFrom, walkOf}
 use Rattle.message.specs.declared.Stage.the-variants.{Done}
+use Rattle.format.specs.Format.{readOctet, readTimes, then, writeAll}
+use Rattle.names.specs.Names.{chosenOf, defaultOf, firstBy, listsIn, matchOf, orElse, sentFor, sizesOk, valueOr}
 use Rattle.reply.specs.Ranges.{addressesIn, rangesFrom}
 use Rattle.reply.specs.Reply.{infoAckOf, leaseAckOf, messageOctets, nakOf, offerOf, optionsOctets, rangesOctets, releaseAckOf, scopesOctets}
 use Rattle.reply.specs.declared.Head.{Head}
@@ -26,9 +28,15 @@ head = record { xid = 0x01020304; server = 0x0A010101; id = record { octets = re
 terms : ℕ → Terms
 terms addresses = record { length = 3600; start = 1000; scope = 0xEFC00000; addresses = addresses; clock = 1000 }
 
--- four scopes, 9 and 11 asked for
+-- four scopes, 9 and 11 asked for; of each the campus name has a tag of 8 octets and a text of 32
 info : Info
-info = record { scopes = replicate 4 (record { lowest = 0xEFC00000; size = 64; ttl = 15 }); count = 4; «list_asked» = true; clock = 1000; «time_asked» = true }
+info = record { scopes = replicate 4 (record { lowest = 0xEFC00000; size = 64; ttl = 15 }); count = 4; «list_asked» = true; clock = 1000; «time_asked» = true; tenants = 1; tenant = 0; language = record { asked = false; len = 0; octets = replicate 8 0 } }
+
+name : List ℕ
+name = 1 ∷ 0 ∷ 8 ∷ replicate 8 0x61 ++ 32 ∷ replicate 32 0x62 ++ 0 ∷ []
+
+names : List ℕ
+names = 4 ∷ name ++ name ++ name ++ name
 
 -- the most octets that each kind of reply has: Short.antt bounds them by 488, within "reply room at least 512"
 longest-offer : length (offerOf head (terms 0x5555555555555555)) ≡ 296
@@ -39,8 +47,8 @@ longest-ack : length (leaseAckOf head (terms 0x5555555555555555)) ≡ 296
 unfolding head terms bit offsetsFrom joined fewestRanges rangesOctets optionsOctets messageOctets leaseAckOf
 longest-ack = refl
 
-longest-info : length (infoAckOf head info) ≡ 121
-unfolding head info scopesOctets optionsOctets messageOctets infoAckOf
+longest-info : length (infoAckOf head info names) ≡ 293
+unfolding head info name names scopesOctets optionsOctets messageOctets infoAckOf sentFor chosenOf matchOf defaultOf firstBy orElse listsIn valueOr sizesOk then readOctet readTimes writeAll pick
 longest-info = refl
 
 longest-release : length (releaseAckOf head) ≡ 68

@@ -21,11 +21,11 @@ use Rattle.message.specs.Walk.{codeAt, lengthAt, afterAt, layoutOk, pastList, e
 use Rattle.message.specs.declared.Walk.{Walk}
 use Rattle.message.specs.declared.Stage.{Stage}
 use Rattle.message.specs.declared.Stage.the-variants.{Walking, Done, Broken}
-use Rattle.reply.specs.Reply.{Option, option, optionOctets, optionsOctets, header, messageOctets, wanted, rangesOctets, leaseOptions, releaseOptions, infoOptions, nakOptions, scopeEntriesOf, scopesOctets}
+use Rattle.reply.specs.Reply.{Option, option, optionOctets, optionsOctets, header, messageOctets, wanted, rangesOctets, leaseOptions, releaseOptions, infoOptions, nakOptions, nameFor, scopeEntriesOf, scopeListOption, scopesOctets}
 use Rattle.reply.specs.declared.Head.{Head}
 use Rattle.reply.specs.declared.Terms.{Terms}
 use Rattle.reply.specs.declared.Info.{Info}
-use Rattle.reply.proofs.Writes.{ranges-length, scopes-length}
+use Rattle.reply.proofs.Writes.{names-length, ranges-length}
 
 -- ---- what is stated
 
@@ -280,11 +280,11 @@ ranges-right t p h =
     plain 10 _ (omega arith) (λ e. omega arith) (omega arith)
     (ap (λ (b : Bool). b && eqb (n % 6) 0) (le-leb 6 n (omega arith)) ∙ eq-eqb (n % 6) 0 (omega arith))
 
-scopes-right : (i : Info) → length (scopeEntriesOf i) ≤ 4 → Right (option 9 (length (scopeEntriesOf i) ∷ scopesOctets (scopeEntriesOf i)))
+scopes-right : (i : Info) (names : List ℕ) → length (scopeEntriesOf i) ≤ 4 → Right (scopeListOption i names)
 unfolding lengthOk isIn pick
-scopes-right i h =
-    let l = scopes-length (scopeEntriesOf i) in
-    plain 9 _ (omega arith) (λ e. omega arith) (omega arith) (le-leb 1 (suc (length (scopesOctets (scopeEntriesOf i)))) (omega arith))
+scopes-right i names h =
+    let l = names-length i names in
+    plain 9 _ (omega arith) (λ e. omega arith) (omega arith) (le-leb 1 (suc (length (scopesOctets (nameFor i names) 0 (scopeEntriesOf i)))) (omega arith))
 
 -- an option that may be there, before others
 wanted-rise : (b : Bool) (o : Option) (c : ℕ) (os : List Option) → c < o .code → Right o → ((d : ℕ) → d ≤ o .code → Rising d os) → Rising c (wanted b o ++ os)
@@ -355,9 +355,9 @@ module _ (h : Head) (n : Named h) where
   )
 
   -- ACK to GETINFO
-  pub info-back : (i : Info) → length (scopeEntriesOf i) ≤ 4 → ReadBack 5 (h .xid) (infoOptions h i)
+  pub info-back : (i : Info) (names : List ℕ) → length (scopeEntriesOf i) ≤ 4 → ReadBack 5 (h .xid) (infoOptions h i names)
   unfolding Rising
-  info-back i few = read-back 5 (h .xid) (infoOptions h i) (
+  info-back i names few = read-back 5 (h .xid) (infoOptions h i names) (
     omega arith,
     (
       server-right h,
@@ -365,8 +365,8 @@ module _ (h : Head) (n : Named h) where
         omega arith,
         (
           id-right h n,
-          subst (λ (l : List Option). Rising 3 l) (sym (append-assoc (wanted (i .«list_asked») (option 9 (length (scopeEntriesOf i) ∷ scopesOctets (scopeEntriesOf i)))) (wanted (i .«time_asked») (option 11 (octets32 (i .clock)))) (wanted (h .features) (featuresSent))))
-              (wanted-rise (i .«list_asked») _ 3 _ (omega arith) (scopes-right i few) (λ c a.
+          subst (λ (l : List Option). Rising 3 l) (sym (append-assoc (wanted (i .«list_asked») (scopeListOption i names)) (wanted (i .«time_asked») (option 11 (octets32 (i .clock)))) (wanted (h .features) (featuresSent))))
+              (wanted-rise (i .«list_asked») _ 3 _ (omega arith) (scopes-right i names few) (λ c a.
               wanted-rise (i .«time_asked») _ c _ (omega arith) (time-right (i .clock)) (λ d b.
               last-rise (h .features) (featuresSent) d (omega arith) zeros-right))),
         ),

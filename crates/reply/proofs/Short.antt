@@ -8,11 +8,11 @@ use lib.ListN.{length, take, length-append, length-take}
 use Rattle.address_set.specs.AddressSet.{offsets, fewestRanges}
 use Rattle.address_set.specs.laws.Ranges.{ranges-few}
 use Rattle.octets.specs.Octets.{octets16, octets32}
-use Rattle.reply.specs.Reply.{leastRoom, Option, option, optionOctets, optionsOctets, messageOctets, wanted, scopeEntriesOf, scopeListOption, leaseOptions, releaseOptions, infoOptions, nakOptions, offerOf, leaseAckOf, releaseAckOf, infoAckOf, nakOf}
+use Rattle.reply.specs.Reply.{leastRoom, Option, option, optionOctets, optionsOctets, messageOctets, wanted, scopeListOption, leaseOptions, releaseOptions, infoOptions, nakOptions, offerOf, leaseAckOf, releaseAckOf, infoAckOf, nakOf}
 use Rattle.reply.specs.declared.Head.{Head}
 use Rattle.reply.specs.declared.Terms.{Terms}
 use Rattle.reply.specs.declared.Info.{Info}
-use Rattle.reply.proofs.Writes.{options-append, ranges-length, scopes-length}
+use Rattle.reply.proofs.Writes.{names-length, options-append, ranges-length}
 
 -- at most n octets of options
 record Within (options : List Option) (n : ℕ) : Type 0 where
@@ -69,15 +69,16 @@ module _ (h : Head) (array : length (h .id .octets) ≡ 32) where
   unfolding releaseAckOf
   release-ack-short = let m = message 5 (h .xid) (releaseOptions h) 56 (named _ 10 (last (h .features) _ 6 (omega arith))) in omega arith
 
-  pub info-ack-short : (i : Info) → length (i .scopes) ≡ 4 → length (infoAckOf h i) ≤ leastRoom
+  -- four scopes, each with a name of 43 octets: 293
+  pub info-ack-short : (i : Info) (names : List ℕ) → length (i .scopes) ≡ 4 → length (infoAckOf h i names) ≤ leastRoom
   unfolding infoAckOf
-  info-ack-short i four =
+  info-ack-short i names four =
       let k = length-take (i .count) (i .scopes) in
-      let l = scopes-length (scopeEntriesOf i) in
-      let a : Within (wanted (i .«list_asked») (scopeListOption i)) 45 = last (i .«list_asked») (scopeListOption i) 41 (omega arith) in
+      let l = names-length i names in
+      let a : Within (wanted (i .«list_asked») (scopeListOption i names)) 217 = last (i .«list_asked») (scopeListOption i names) 213 (omega arith) in
       let b : Within (wanted (i .«time_asked») (option 11 (octets32 (i .clock)))) 8 = last (i .«time_asked») _ 4 (omega arith) in
       let c : Within (wanted (h .features) (option 12 (0 ∷ 0 ∷ 0 ∷ 0 ∷ 0 ∷ 0 ∷ []))) 10 = last (h .features) _ 6 (omega arith) in
-      let m = message 5 (h .xid) (infoOptions h i) 109 (named _ 63 (both _ _ 53 10 (both _ _ 45 8 a b) c)) in
+      let m = message 5 (h .xid) (infoOptions h i names) 281 (named _ 235 (both _ _ 225 10 (both _ _ 217 8 a b) c)) in
       omega arith
     where
       both : (xs ys : List Option) (m n : ℕ) → Within xs m → Within ys n → Within (xs ++ ys) (m + n)

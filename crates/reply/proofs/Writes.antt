@@ -1,20 +1,25 @@
 -- Laws: writes one after the other: an option of its parts, options in a row, a message of header, options and End; ranges and scopes in a loop.
-use mathlib.Core.Path.{_≡_, refl, sym, ap, _∙_}
+use mathlib.Core.Bool.{true}
+use mathlib.Core.Path.{_≡_, refl, sym, ap, ap₂, _∙_, subst}
 use mathlib.Core.List.{List, [], _∷_, _++_, append-assoc, append-nil}
-use Prim.Native.Nat.{ℕ, zero, suc, _+_, _*_, _^_, _≤_, _<_, min}
+use Prim.Native.Nat.{ℕ, zero, suc, _+_, _-_, _*_, _^_, _≤_, _<_, min}
 use native.Mathlib.Omega.{arith}
+use native.Mathlib.Nat.{add-zero}
 use native.Mathlib.Numerals.{add-one}
-use lib.ListN.{length, getD, take, length-take}
-use lib.Seq.{take-suc}
+use lib.ListN.{length, getD, take, drop, length-take, length-append}
+use lib.Seq.{take-suc, take-take, take-all, take-append-le, drop-append-seam, length-take-le}
 use Rattle.lists.specs.laws.Part.{cut-take}
-use Rattle.octets.specs.Octets.{octets16, Wrote}
+use Rattle.octets.specs.Octets.{octets16, put, Wrote}
 use Rattle.octets.specs.laws.Octets.{wrote-joined, wrote-whole, whole-length, wrote-none, wrote-as}
 use Rattle.address_set.specs.declared.Range.{Range}
 use Rattle.address_set.specs.AddressSet.{offsets, fewestRanges, firstRange, behind}
 use Rattle.address_set.specs.laws.Ranges.{ranges-none, ranges-next, ranges-less, ranges-few, range-count}
-use Rattle.reply.specs.Reply.{Option, option, optionOctets, optionsOctets, header, messageOctets, rangeOctets, rangesOctets, scopeOctets, scopesOctets}
+use Rattle.reply.specs.Reply.{Option, option, optionOctets, optionsOctets, header, messageOctets, rangeOctets, rangesOctets, entryOctets, scopeOctets, scopesOctets, nameFor, scopeEntriesOf, Sendable}
 use Rattle.reply.specs.Put.{Put, Replied}
+use Rattle.reply.specs.declared.Info.{Info}
 use Rattle.reply.specs.declared.ScopeEntry.{ScopeEntry}
+use Rattle.names.specs.Names.{Name, namesB, shown}
+use Rattle.names.specs.laws.Names.{good-opened, sent-most, sent-count}
 
 -- ---- options
 
@@ -141,43 +146,74 @@ ranges-end {lowest = lowest} {left = left} v h =
 
 -- ---- scopes
 
-scopes-append : (xs ys : List ScopeEntry) → scopesOctets (xs ++ ys) ≡ scopesOctets xs ++ scopesOctets ys
+scopes-append : (f : ℕ → List Name) (k : ℕ) (xs ys : List ScopeEntry) → scopesOctets f k (xs ++ ys) ≡ scopesOctets f k xs ++ scopesOctets f (k + length xs) ys
 unfolding scopesOctets
-scopes-append [] ys = refl
-scopes-append (x ∷ xs) ys = ap (λ (l : List ℕ). scopeOctets x ++ l) (scopes-append xs ys) ∙ sym (append-assoc (scopeOctets x) (scopesOctets xs) (scopesOctets ys))
+scopes-append f k [] ys = ap (λ (j : ℕ). scopesOctets f j ys) (sym (add-zero k))
+scopes-append f k (x ∷ xs) ys =
+    ap (λ (l : List ℕ). scopeOctets x (f k) ++ l) (scopes-append f (suc k) xs ys ∙ ap (λ (j : ℕ). scopesOctets f (suc k) xs ++ scopesOctets f j ys) (let e : suc k + length xs ≡ k + suc (length xs) = omega arith in e))
+    ∙ sym (append-assoc (scopeOctets x (f k)) (scopesOctets f (suc k) xs) (scopesOctets f (k + suc (length xs)) ys))
 
-pub scopes-length : (l : List ScopeEntry) → length (scopesOctets l) ≡ 10 * length l
+-- no name has more than 43 octets, so no scope more than 53
+pub scopes-length : (f : ℕ → List Name) (k : ℕ) (l : List ScopeEntry) → ((place : ℕ) → length (shown (f place)) ≤ 43) → length (scopesOctets f k l) ≤ 53 * length l
 unfolding scopesOctets
-scopes-length [] = refl
-scopes-length (e ∷ l) = let h = scopes-length l in omega arith
+scopes-length f k [] h = omega arith
+scopes-length f k (e ∷ l) h =
+    let i = scopes-length f (suc k) l h in
+    let m = h k in
+    let a = length-append (scopeOctets e (f k)) (scopesOctets f (suc k) l) in
+    omega arith
 
 -- what the loop that writes them keeps
-pub record ScopesInv (b₀ : List ℕ) (at : ℕ) (l : List ScopeEntry) (n : ℕ) (b : List ℕ) (i to : ℕ) : Type 0 where
+pub record ScopesInv (b₀ : List ℕ) (at : ℕ) (f : ℕ → List Name) (l : List ScopeEntry) (n : ℕ) (b : List ℕ) (i to : ℕ) : Type 0 where
   pub within : i ≤ n
   pub long : n ≤ length l
-  pub place : to ≡ at + 10 * i
-  pub wrote : Wrote b₀ at (scopesOctets (take i l)) b to
+  pub near : to ≤ at + 53 * i
+  pub wrote : Wrote b₀ at (scopesOctets f 0 (take i l)) b to
   pub kept : length b ≡ length b₀
 
-pub scopes-start : {b : List ℕ} {at : ℕ} {l : List ScopeEntry} {n : ℕ} → n ≤ length l → ScopesInv b at l n b 0 at
+pub scopes-start : {b : List ℕ} {at : ℕ} {f : ℕ → List Name} {l : List ScopeEntry} {n : ℕ} → n ≤ length l → ScopesInv b at f l n b 0 at
 unfolding scopesOctets
-scopes-start {b} {at} h = record { within = omega arith; long = h; place = omega arith; wrote = wrote-none b at; kept = refl }
+scopes-start {b} {at} h = record { within = omega arith; long = h; near = omega arith; wrote = wrote-none b at; kept = refl }
 
-module _ {b₀ : List ℕ} {at : ℕ} {l : List ScopeEntry} {n : ℕ} {b : List ℕ} {i to : ℕ} (v : ScopesInv b₀ at l n b i to) where
-  pub scopes-next : {b₁ : List ℕ} {to₁ : ℕ} (d : ScopeEntry) → at ≤ length b₀ → i < n → Wrote b to (scopeOctets (getD l i d)) b₁ to₁ → length b₁ ≡ length b → ScopesInv b₀ at l n b₁ (i + 1) to₁
+module _ {b₀ : List ℕ} {at : ℕ} {f : ℕ → List Name} {l : List ScopeEntry} {n : ℕ} {b : List ℕ} {i to : ℕ} (v : ScopesInv b₀ at f l n b i to) where
+  pub scopes-next : {b₁ : List ℕ} {to₁ : ℕ} (d : ScopeEntry) → at ≤ length b₀ → i < n → length (shown (f i)) ≤ 43 → Wrote b to (scopeOctets (getD l i d) (f i)) b₁ to₁ → length b₁ ≡ length b
+      → ScopesInv b₀ at f l n b₁ (i + 1) to₁
   unfolding scopesOctets
-  scopes-next {b₁} {to₁} d g h w k =
+  scopes-next {b₁} {to₁} d g h m w k =
       let s : take (i + 1) l ≡ take i l ++ (getD l i d ∷ []) = ap (λ (x : ℕ). take x l) (add-one i) ∙ take-suc l i d (let o = v .long in omega arith) in
+      let p : 0 + length (take i l) ≡ i = (let o = v .long in let e = length-take-le i l (omega arith) in omega arith) in
       record {
         within = omega arith;
         long = v .long;
-        place = let p = v .place in let q = w .next in omega arith;
-        wrote = wrote-as (ap (λ (x : List ℕ). scopesOctets (take i l) ++ x) (sym (append-nil (scopeOctets (getD l i d)))) ∙ sym (scopes-append (take i l) (getD l i d ∷ [])) ∙ ap scopesOctets (sym s)) (wrote-joined g (v .wrote) w);
+        near = let p = v .near in let q = w .next in omega arith;
+        wrote = wrote-as
+            (ap (λ (x : List ℕ). scopesOctets f 0 (take i l) ++ x) (sym (append-nil (scopeOctets (getD l i d) (f i))) ∙ ap (λ (j : ℕ). scopesOctets f j (getD l i d ∷ [])) (sym p))
+            ∙ sym (scopes-append f 0 (take i l) (getD l i d ∷ [])) ∙ ap (scopesOctets f 0) (sym s))
+            (wrote-joined g (v .wrote) w);
         kept = k ∙ v .kept;
       }
 
-  pub scopes-end : n ≤ i → Wrote b₀ at (scopesOctets (take n l)) b to
-  scopes-end h = let e : i ≡ n = (let o = v .within in omega arith) in wrote-as (ap (λ (x : ℕ). scopesOctets (take x l)) e) (v .wrote)
+  pub scopes-end : n ≤ i → Wrote b₀ at (scopesOctets f 0 (take n l)) b to
+  scopes-end h = let e : i ≡ n = (let o = v .within in omega arith) in wrote-as (ap (λ (x : ℕ). scopesOctets f 0 (take x l)) e) (v .wrote)
+
+-- a run, and then what stands before it
+wrote-before : {b₀ b₁ b₂ xs ys : List ℕ} {at a end : ℕ} → a ≡ at + length xs → a ≤ length b₀ → Wrote b₀ a ys b₁ end → Wrote b₁ at xs b₂ a → Wrote b₀ at (xs ++ ys) b₂ end
+unfolding put
+wrote-before {b₀ = b₀} {b₁ = b₁} {xs = xs} {ys = ys} {at = at} {a = a} {end = end} e h p q =
+    let front : List ℕ = take a b₀ in
+    let back : List ℕ = drop (a + length ys) b₀ in
+    let long : length front ≡ a = length-take-le a b₀ h in
+    let both : length (front ++ ys) ≡ a + length ys = length-append front ys ∙ ap (λ (k : ℕ). k + length ys) long in
+    let joined : length (xs ++ ys) ≡ length xs + length ys = length-append xs ys in
+    let left : take at b₁ ≡ take at b₀ =
+    ap (take at) (p .buffer) ∙ take-append-le at (front ++ ys) back (omega arith) ∙ take-append-le at front ys (omega arith) ∙ take-take at a b₀ (omega arith) in
+    let right : drop (at + length xs) b₁ ≡ ys ++ back =
+    ap₂ (λ (k : ℕ) (l : List ℕ). drop k l) (sym e ∙ sym long) (p .buffer ∙ append-assoc front ys back) ∙ drop-append-seam front (ys ++ back) in
+    record {
+      next = let n = p .next in omega arith;
+      buffer = q .buffer ∙ ap₂ (λ (x y : List ℕ). x ++ xs ++ y) left right ∙ sym (append-assoc (take at b₀ ++ xs) ys back)
+          ∙ ap₂ (λ (x : List ℕ) (k : ℕ). x ++ drop k b₀) (append-assoc (take at b₀) xs ys) (let g : a + length ys ≡ at + length (xs ++ ys) = omega arith in g);
+    }
 
 -- ---- options whose value is cut or counted
 
@@ -211,14 +247,51 @@ ranges-put lowest set n e h v w =
     let f = ranges-few set in
     option-put 10 (n * 6) 388 _ (omega arith) (omega arith) h v w
 
--- the scopes, and their count before them
-pub scopes-put : (l : List ScopeEntry) (count n : ℕ) {b₀ b₁ b₂ b₃ : List ℕ} {at a b r : ℕ} → length l ≡ 4 → n ≡ min count 4 → at ≤ length b₀ → a ≤ length b₁
-    → Wrote b₀ at (octets16 9 ++ octets16 (1 + 10 * n)) b₁ a → Wrote b₁ a (n ∷ []) b₂ b → Wrote b₂ b (scopesOctets (take n l)) b₃ r
-    → Put b₀ at (option 9 (length (take count l) ∷ scopesOctets (take count l)) ∷ []) b₃ r 45
-scopes-put l count n {b₁ = b₁} {b₃ = b₃} {a = a} {r = r} e q h g u v w =
+-- the scopes, and then the code, the length and the count before them
+pub scopes-put : (f : ℕ → List Name) (l : List ScopeEntry) (count n m : ℕ) {b₀ b₁ b₂ b₃ : List ℕ} {at end a b : ℕ} → ((place : ℕ) → length (shown (f place)) ≤ 43) → length l ≡ 4 → n ≡ min count 4
+    → at + 5 ≤ length b₀ → at ≤ length b₁ → Wrote b₀ (at + 5) (scopesOctets f 0 (take n l)) b₁ end → m ≡ end - (at + 4)
+    → Wrote b₁ at (octets16 9 ++ octets16 m) b₂ a → Wrote b₂ a (n ∷ []) b₃ b → Put b₀ at (option 9 (length (take count l) ∷ scopesOctets f 0 (take count l)) ∷ []) b₃ end 217
+scopes-put f l count n m {b₀ = b₀} {b₁ = b₁} {b₂ = b₂} {b₃ = b₃} {at = at} {end = end} {a = a} {b = b} short e q h g u em v w =
     let t : take n l ≡ take count l = ap (λ (k : ℕ). take k l) q ∙ cut-take 4 count l e in
-    let m : length (take count l) ≡ n = ap length (sym t) ∙ length-take n l ∙ (let z : min n (length l) ≡ n = omega arith in z) in
-    let k = scopes-length (take count l) in
-    let j : Wrote b₁ a (n ∷ scopesOctets (take n l)) b₃ r = wrote-joined g v w in
-    let value : n ∷ scopesOctets (take n l) ≡ length (take count l) ∷ scopesOctets (take count l) = ap (λ (x : List ScopeEntry). n ∷ scopesOctets x) t ∙ ap (λ (x : ℕ). x ∷ scopesOctets (take count l)) (sym m) in
-    option-put 9 (1 + 10 * n) 45 _ (omega arith) (omega arith) h u (wrote-as value j)
+    let c : length (take count l) ≡ n = ap length (sym t) ∙ length-take n l ∙ (let z : min n (length l) ≡ n = omega arith in z) in
+    let body : List ℕ = scopesOctets f 0 (take n l) in
+    let k = scopes-length f 0 (take n l) short in
+    let few : length (take n l) ≤ 4 = (let z = ap length t in omega arith) in
+    let x : Wrote b₁ at (octets16 9 ++ octets16 m ++ (n ∷ [])) b₃ b = wrote-joined g v w in
+    let y : Wrote b₀ at ((octets16 9 ++ octets16 m ++ (n ∷ [])) ++ body) b₃ end = wrote-before (omega arith) h u (subst (λ (j : ℕ). Wrote b₁ at (octets16 9 ++ octets16 m ++ (n ∷ [])) b₃ j) (let j : b ≡ at + 5 = (let i = x .next in omega arith) in j) x) in
+    let len : m ≡ length (n ∷ body) = (let i = u .next in omega arith) in
+    let value : n ∷ body ≡ length (take count l) ∷ scopesOctets f 0 (take count l) = ap₂ {C = List ℕ} (λ (j : ℕ) (s : List ScopeEntry). j ∷ scopesOctets f 0 s) (sym c) t in
+    record {
+      wrote = wrote-as (ap (λ (j : ℕ). octets16 9 ++ octets16 j ++ (n ∷ body)) len ∙ one-option 9 (n ∷ body) ∙ ap (λ (s : List ℕ). optionsOctets (option 9 s ∷ [])) value) y;
+      near = let i = u .next in omega arith;
+    }
+
+-- the scopes of a reply, with their names
+pub names-length : (i : Info) (names : List ℕ) → length (scopesOctets (nameFor i names) 0 (scopeEntriesOf i)) ≤ 53 * length (scopeEntriesOf i)
+names-length i names = scopes-length (nameFor i names) 0 (scopeEntriesOf i) (λ place. sent-most (i .tenants) names (i .tenant) place (i .language))
+
+-- its length fits two octets
+pub list-fits : (f : ℕ → List Name) (l : List ScopeEntry) (n at : ℕ) {b₀ b₁ : List ℕ} {end : ℕ} → ((place : ℕ) → length (shown (f place)) ≤ 43) → n ≤ 4 → Wrote b₀ (at + 5) (scopesOctets f 0 (take n l)) b₁ end
+    → (at + 4 ≤ end) × (end - (at + 4) < 65536)
+list-fits f l n at short h u =
+    let k = scopes-length f 0 (take n l) short in
+    let e = length-take n l in
+    let i = u .next in
+    (omega arith, omega arith)
+
+-- names that are good for the scopes' count are good for their own
+pub sendable-good : (i : Info) (names : List ℕ) → Sendable i names → namesB (getD names 0 0) (i .tenants) names ≡ true
+sendable-good i names s = ap (λ (k : ℕ). namesB k (i .tenants) names) (good-opened (i .count) (i .tenants) names (s .0) .1) ∙ s .0
+
+pub sendable-place : (i : Info) (names : List ℕ) (place : ℕ) → Sendable i names → place < i .count → place < getD names 0 0
+sendable-place i names place s h = let e = good-opened (i .count) (i .tenants) names (s .0) .1 in omega arith
+
+-- the entry, and then the name that was found
+pub scope-put : (i : Info) (names : List ℕ) (place : ℕ) (e : ScopeEntry) {name : List ℕ} (n c : ℕ) {b₀ b₁ b₂ : List ℕ} {at a r : ℕ} → name ≡ shown (nameFor i names place) → n ≡ length name → c ≡ min n 1
+    → at ≤ length b₀ → Wrote b₀ at (entryOctets e c []) b₁ a → Wrote b₁ a (take n name) b₂ r → Wrote b₀ at (scopeOctets e (nameFor i names place)) b₂ r
+scope-put i names place e {name} n c p l k h v w =
+    let count : c ≡ length (nameFor i names place) = k ∙ ap (λ (j : ℕ). min j 1) (l ∙ ap length p) ∙ sent-count (i .tenants) names (i .tenant) place (i .language) in
+    wrote-as (ap₂ (λ (j : ℕ) (x : List ℕ). entryOctets e j x) count (take-all n name (omega arith) ∙ p)) (wrote-joined h v w)
+
+pub name-short : (i : Info) (names : List ℕ) (place : ℕ) {name : List ℕ} → name ≡ shown (nameFor i names place) → length name ≤ 43
+name-short i names place p = let m = sent-most (i .tenants) names (i .tenant) place (i .language) in let e = ap length p in omega arith

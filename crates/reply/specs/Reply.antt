@@ -1,10 +1,12 @@
 -- Definitions: the replies of document 01 ("Replies"), as lists of octets: "the transaction id is echoed; options stand in rising order of code, End last".
-use Prim.Native.Nat.{ℕ, _+_, _-_}
+use mathlib.Core.Path.{_≡_}
+use Prim.Native.Nat.{ℕ, suc, _+_, _-_, _<_}
 use mathlib.Core.List.{List, [], _∷_, _++_}
 use mathlib.Core.Bool.{Bool, true, false}
 use lib.ListN.{length, take}
 use Rattle.octets.specs.Octets.{octets16, octets32}
 use Rattle.address_set.specs.declared.Range.{Range}
+use Rattle.names.specs.Names.{Name, namesB, sentFor, shown}
 use Rattle.address_set.specs.AddressSet.{offsets, fewestRanges}
 use Rattle.reply.specs.declared.Head.{Head}
 use Rattle.reply.specs.declared.Terms.{Terms}
@@ -70,21 +72,34 @@ rangesOctets lowest (r ∷ rs) = rangeOctets lowest r ++ rangesOctets lowest rs
 abbrev pub rangesOption : Terms → Option
 rangesOption t = option 10 (rangesOctets (t .scope) (fewestRanges (offsets (t .addresses))))
 
--- a scope: lowest address, highest address, TTL(1), number of names(1), here 0
-abbrev pub scopeOctets : ScopeEntry → List ℕ
-scopeOctets e = octets32 (e .lowest) ++ octets32 (e .lowest + (e .size - 1)) ++ e .ttl ∷ 0 ∷ []
+-- a scope: lowest address, highest address, TTL(1), number of names(1), names
+abbrev pub entryOctets : ScopeEntry → ℕ → List ℕ → List ℕ
+entryOctets e n names = octets32 (e .lowest) ++ octets32 (e .lowest + (e .size - 1)) ++ e .ttl ∷ n ∷ names
 
-unfoldable pub scopesOctets : List ScopeEntry → List ℕ
-scopesOctets [] = []
-scopesOctets (e ∷ es) = scopeOctets e ++ scopesOctets es
+-- with the names that are sent, "laid out as in RFC 2730's option 9" (document 02)
+abbrev pub scopeOctets : ScopeEntry → List Name → List ℕ
+scopeOctets e ns = entryOctets e (length ns) (shown ns)
+
+-- scopes in a row, the first at a place, each with the names for its place
+unfoldable pub scopesOctets : (ℕ → List Name) → ℕ → List ScopeEntry → List ℕ
+scopesOctets names place [] = []
+scopesOctets names place (e ∷ es) = scopeOctets e (names place) ++ scopesOctets names (suc place) es
+
+-- "the name sent" to the client's house for the scope at a place, one or none, of the octets of a section of names
+abbrev pub nameFor : Info → List ℕ → ℕ → List Name
+nameFor i names place = sentFor (i .tenants) names (i .tenant) place (i .language)
+
+-- the names are good ones and the client's house is one of those that they are for, as tests 1 and 3 have shown
+abbrev pub Sendable : Info → List ℕ → Type 0
+Sendable i names = (namesB (i .count) (i .tenants) names ≡ true) × (i .tenant < i .tenants)
 
 -- the scopes that are there
 abbrev pub scopeEntriesOf : Info → List ScopeEntry
 scopeEntriesOf i = take (i .count) (i .scopes)
 
 -- 9, Scope List: a count(1) and the scopes
-abbrev pub scopeListOption : Info → Option
-scopeListOption i = option 9 (length (scopeEntriesOf i) ∷ scopesOctets (scopeEntriesOf i))
+abbrev pub scopeListOption : Info → List ℕ → Option
+scopeListOption i names = option 9 (length (scopeEntriesOf i) ∷ scopesOctets (nameFor i names) 0 (scopeEntriesOf i))
 
 -- ---- the replies
 
@@ -105,11 +120,11 @@ abbrev pub releaseOptions : Head → List Option
 releaseOptions h = serverOption h ∷ identifierOption h ∷ featuresOption h
 
 -- ACK to GETINFO: 2, 3, and 9 and 11 if option 5 names them
-abbrev pub infoOptions : Head → Info → List Option
-infoOptions h i =
+abbrev pub infoOptions : Head → Info → List ℕ → List Option
+infoOptions h i names =
     serverOption h
     ∷ identifierOption h
-    ∷ wanted (i .«list_asked») (scopeListOption i)
+    ∷ wanted (i .«list_asked») (scopeListOption i names)
     ++ wanted (i .«time_asked») (option 11 (octets32 (i .clock)))
     ++ featuresOption h
 
@@ -126,8 +141,8 @@ leaseAckOf h t = messageOctets 5 (h .xid) (leaseOptions h t)
 unfoldable pub releaseAckOf : Head → List ℕ
 releaseAckOf h = messageOctets 5 (h .xid) (releaseOptions h)
 
-unfoldable pub infoAckOf : Head → Info → List ℕ
-infoAckOf h i = messageOctets 5 (h .xid) (infoOptions h i)
+unfoldable pub infoAckOf : Head → Info → List ℕ → List ℕ
+infoAckOf h i names = messageOctets 5 (h .xid) (infoOptions h i names)
 
 unfoldable pub nakOf : Head → ℕ → List ℕ
 nakOf h error = messageOctets 6 (h .xid) (nakOptions h error)

@@ -1,17 +1,18 @@
 // The replies, written into a lent buffer of at least LEAST_ROOM octets. Each function returns the reply's length and leaves what is past it.
 // Each writer asks for the room that its options can take at most, and promises to stay within it, so that the writers after it have theirs:
 // an option takes 4 octets and its value's, of which a Lease Identifier has at most 32, Ranges 64 of 6 octets (a pool has 64 addresses), a
-// Scope List 1 and 4 scopes of 10. A sum of such bounds is the bound of options in a row; header(8), the longest row(476) and End(4) are 488.
+// Scope List 1 and 4 scopes of 10, each with a name of 43. A sum of such bounds is the bound of options in a row; header(8), the longest row(476) and End(4) are 488.
 ghost use mathlib.Core.Path.{_≡_};
 ghost use mathlib.Core.List.{[], _∷_, _++_};
-ghost use Prim.Native.Nat.{_+_, _-_, _≤_};
+ghost use Prim.Native.Nat.{_+_, _-_, _<_, _≤_, min};
 ghost use lib.ListN.{length, take};
 ghost use Rattle.octets.specs.Octets.{octets16, octets32, Wrote};
 ghost use Rattle.address_set.specs.AddressSet.{offsets, fewestRanges};
-ghost use Rattle.reply.specs.Reply.{leastRoom, option, header, wanted, serverOption, identifierOption, featuresOption, rangeOctets, rangesOctets, rangesOption, scopeOctets, scopesOctets, scopeListOption, offerOf, leaseAckOf, releaseAckOf, infoAckOf, nakOf, optionOctets, messageOctets, leaseOptions, infoOptions, nakOptions};
+ghost use Rattle.reply.specs.Reply.{leastRoom, option, header, wanted, serverOption, identifierOption, featuresOption, rangeOctets, rangesOctets, rangesOption, entryOctets, scopeOctets, scopesOctets, nameFor, Sendable, scopeListOption, offerOf, leaseAckOf, releaseAckOf, infoAckOf, nakOf, optionOctets, messageOctets, leaseOptions, infoOptions, nakOptions};
 ghost use Rattle.reply.specs.Put.{Put, Replied};
 use address_set::Range;
 use message::Identifier;
+use message::Language;
 use message::MessageType;
 use message::OptionCode;
 
@@ -42,13 +43,17 @@ pub struct ScopeEntry {
     pub ttl: u8,
 }
 
-// What GETINFO may ask for, and whether it did.
+// What GETINFO may ask for, and whether it did; and by what a scope's name is chosen: how many tenants there are, the place of the client's
+// among them, and the language.
 pub struct Info {
     pub scopes: [ScopeEntry; 4],
     pub count: u8,
     pub list_asked: bool,
     pub clock: u32,
     pub time_asked: bool,
+    pub tenants: u8,
+    pub tenant: usize,
+    pub language: Language,
 }
 
 // ---- parts of options
@@ -186,39 +191,69 @@ fn highest(e: ScopeEntry) -> u64
     wide64(e.lowest) + ((e.size - 1) as u64)
 }
 
-fn put_scope(buffer: &mut [u8], at: usize, e: ScopeEntry) -> usize
+// How many names there are, by the octets of what is one name or none.
+fn name_count(n: usize) -> u8
+    ensures { λ r. ⌜ r ≡ min n 1 ⌝ }
+{
+    if n < 1 {
+        return 0;
+    }
+    1
+}
+
+// A scope, up to its names.
+fn put_entry(buffer: &mut [u8], at: usize, e: ScopeEntry, names: u8) -> usize
     requires { ⌜ at + 10 ≤ length (now buffer) ⌝ }
-    ensures { λ r. ⌜ Wrote (now (buffer .entry)) at (scopeOctets e) (now (buffer .exit)) r ⌝ }
+    ensures { λ r. ⌜ Wrote (now (buffer .entry)) at (entryOctets e names []) (now (buffer .exit)) r ⌝ }
 {
     let a = octets::put_u32(buffer, at, wide64(e.lowest));
     let b = octets::put_u32(buffer, a, highest(e));
     let c = octets::put_u8(buffer, b, e.ttl);
-    octets::put_u8(buffer, c, 0)
+    octets::put_u8(buffer, c, names)
 }
 
-fn put_scopes(buffer: &mut [u8], at: usize, info: Info, n: usize) -> usize
-    requires { ⌜ (at + 40 ≤ length (now buffer)) × (n ≤ 4) ⌝ }
-    ensures { λ r. ⌜ Wrote (now (buffer .entry)) at (scopesOctets (take n (info .scopes))) (now (buffer .exit)) r ⌝ }
+// The scope e, and the name for its place, which is written from where it stands.
+fn put_scope(
+    buffer: &mut [u8],
+    at: usize,
+    e: ScopeEntry,
+    place: usize,
+    info: Info,
+    names: &[u8],
+) -> usize
+    requires { ⌜ (at + 53 ≤ length (now buffer)) × (Sendable info (now names) × (place < info .count)) ⌝ }
+    ensures { λ r. ⌜ Wrote (now (buffer .entry)) at (scopeOctets e (nameFor info (now (names .entry)) place)) (now (buffer .exit)) r ⌝ }
+{
+    let name = names::for_scope(names, info.tenants, info.tenant, place, info.language);
+    let n = name.len();
+    let a = put_entry(buffer, at, e, name_count(n));
+    octets::put_run(buffer, a, name, n)
+}
+
+fn put_scopes(buffer: &mut [u8], at: usize, info: Info, names: &[u8], n: usize) -> usize
+    requires { ⌜ (at + 212 ≤ length (now buffer)) × (Sendable info (now names) × ((n ≤ info .count) × (n ≤ 4))) ⌝ }
+    ensures { λ r. ⌜ Wrote (now (buffer .entry)) at (scopesOctets (nameFor info (now (names .entry))) 0 (take n (info .scopes))) (now (buffer .exit)) r ⌝ }
 {
     let mut i: usize = 0;
     let mut to = at;
     while i < n {
         let e = info.scopes[i];
-        to = put_scope(buffer, to, e);
+        to = put_scope(buffer, to, e, i, info, names);
         i += 1;
     }
     to
 }
 
-// A code and a length(4), a count(1), and 4 scopes of 10: 45.
-fn put_scope_list(buffer: &mut [u8], at: usize, info: Info) -> usize
-    requires { ⌜ at + 45 ≤ length (now buffer) ⌝ }
-    ensures { λ r. ⌜ Put (now (buffer .entry)) at (scopeListOption info ∷ []) (now (buffer .exit)) r 45 ⌝ }
+// A code and a length(4), a count(1), and 4 scopes of 10 with a name of 43: 217. The scopes are written first: only then the length is known.
+fn put_scope_list(buffer: &mut [u8], at: usize, info: Info, names: &[u8]) -> usize
+    requires { ⌜ (at + 217 ≤ length (now buffer)) × Sendable info (now names) ⌝ }
+    ensures { λ r. ⌜ Put (now (buffer .entry)) at (scopeListOption info (now (names .entry)) ∷ []) (now (buffer .exit)) r 217 ⌝ }
 {
     let n = arithmetic::cut4(info.count);
-    let a = put_code(buffer, at, OptionCode::SCOPE_LIST, (1 + 10 * n) as u16);
+    let end = put_scopes(buffer, at + 5, info, names, n);
+    let a = put_code(buffer, at, OptionCode::SCOPE_LIST, (end - (at + 4)) as u16);
     let b = octets::put_u8(buffer, a, n as u8);
-    put_scopes(buffer, b, info, n)
+    end
 }
 
 // ---- messages
@@ -263,12 +298,12 @@ fn put_lease_options(buffer: &mut [u8], at: usize, head: Head, terms: Terms) -> 
     put_features(buffer, f, head)
 }
 
-fn put_scope_list_if(buffer: &mut [u8], at: usize, info: Info) -> usize
-    requires { ⌜ at + 45 ≤ length (now buffer) ⌝ }
-    ensures { λ r. ⌜ Put (now (buffer .entry)) at (wanted (info .«list_asked») (scopeListOption info)) (now (buffer .exit)) r 45 ⌝ }
+fn put_scope_list_if(buffer: &mut [u8], at: usize, info: Info, names: &[u8]) -> usize
+    requires { ⌜ (at + 217 ≤ length (now buffer)) × Sendable info (now names) ⌝ }
+    ensures { λ r. ⌜ Put (now (buffer .entry)) at (wanted (info .«list_asked») (scopeListOption info (now (names .entry)))) (now (buffer .exit)) r 217 ⌝ }
 {
     if info.list_asked {
-        return put_scope_list(buffer, at, info);
+        return put_scope_list(buffer, at, info, names);
     }
     at
 }
@@ -283,13 +318,13 @@ fn put_time_if(buffer: &mut [u8], at: usize, info: Info) -> usize
     at
 }
 
-// The two identifiers 46, Scope List 45, Current Time 8, Features 10: 109.
-fn put_info_options(buffer: &mut [u8], at: usize, head: Head, info: Info) -> usize
-    requires { ⌜ at + 109 ≤ length (now buffer) ⌝ }
-    ensures { λ r. ⌜ Put (now (buffer .entry)) at (infoOptions head info) (now (buffer .exit)) r 109 ⌝ }
+// The two identifiers 46, Scope List 217, Current Time 8, Features 10: 281.
+fn put_info_options(buffer: &mut [u8], at: usize, head: Head, info: Info, names: &[u8]) -> usize
+    requires { ⌜ (at + 281 ≤ length (now buffer)) × Sendable info (now names) ⌝ }
+    ensures { λ r. ⌜ Put (now (buffer .entry)) at (infoOptions head info (now (names .entry))) (now (buffer .exit)) r 281 ⌝ }
 {
     let a = put_named(buffer, at, head);
-    let b = put_scope_list_if(buffer, a, info);
+    let b = put_scope_list_if(buffer, a, info, names);
     let c = put_time_if(buffer, b, info);
     put_features(buffer, c, head)
 }
@@ -340,13 +375,13 @@ pub fn write_release_ack(buffer: &mut [u8], head: Head) -> usize
     put_end(buffer, c)
 }
 
-// ACK to GETINFO.
-pub fn write_info_ack(buffer: &mut [u8], head: Head, info: Info) -> usize
-    requires { ⌜ leastRoom ≤ length (now buffer) ⌝ }
-    ensures { λ r. ⌜ Replied (now (buffer .entry)) (infoAckOf head info) (now (buffer .exit)) r ⌝ }
+// ACK to GETINFO, with the scopes' names from a lent section of names.
+pub fn write_info_ack(buffer: &mut [u8], head: Head, info: Info, names: &[u8]) -> usize
+    requires { ⌜ (leastRoom ≤ length (now buffer)) × Sendable info (now names) ⌝ }
+    ensures { λ r. ⌜ Replied (now (buffer .entry)) (infoAckOf head info (now (names .entry))) (now (buffer .exit)) r ⌝ }
 {
     let a = put_header(buffer, MessageType::ack(), head.xid);
-    let b = put_info_options(buffer, a, head, info);
+    let b = put_info_options(buffer, a, head, info, names);
     put_end(buffer, b)
 }
 

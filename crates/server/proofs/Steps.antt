@@ -2,7 +2,7 @@
 use mathlib.Core.Path.{_≡_, refl, sym, ap, ap₂, _∙_, subst}
 use mathlib.Core.List.{List, [], _∷_}
 use mathlib.Core.Bool.{Bool, true, false, not, _&&_}
-use Prim.Native.Nat.{ℕ, _≤_, _-_}
+use Prim.Native.Nat.{ℕ, _≤_, _<_, _-_}
 use borrow.Author.Tests.{eq-eqb, ne-eqb}
 use lib.ListN.{length}
 use Rattle.lists.specs.Pick.{pick}
@@ -12,6 +12,7 @@ use Rattle.message.specs.Read.{longestDatagram, readOf}
 use Rattle.message.specs.Placed.{GoodPlaces}
 use Rattle.message.specs.laws.Placed.{read-good, read-short}
 use Rattle.message.specs.Values.{fieldsOf}
+use Rattle.names.specs.Names.{namesB}
 use Rattle.reply.specs.Put.{Replied}
 use Rattle.reply.specs.declared.Terms.{Terms}
 use Rattle.reply.specs.declared.Info.{Info}
@@ -36,18 +37,25 @@ terms-is s v n c k p q r =
     ap₂ {C = Terms} (λ (x y : ℕ). record { length = x; start = v .start; scope = y; addresses = v .addresses; clock = s .clock }) p
     (ap (λ (y : Scope). y .lowest) (r ∙ ap (scopeAt s) q))
 
-pub info-is : (s : State) (m : Fields) {a b c d : ScopeEntry} {x y z w : Scope} → x ≡ scopeAt s 0 → a ≡ entryOf x → y ≡ scopeAt s 1 → b ≡ entryOf y → z ≡ scopeAt s 2 → c ≡ entryOf z → w ≡ scopeAt s 3 → d ≡ entryOf w
-    → _≡_ {A = Info} (record { scopes = a ∷ b ∷ c ∷ d ∷ []; count = s .«scope_count»; «list_asked» = m .«list_asked»; clock = s .clock; «time_asked» = m .«time_asked» }) (infoOf s m)
-info-is s m {a} {b} {c} {d} x a′ y b′ z c′ w d′ =
+pub info-is : (s : State) (h : ℕ) (m : Fields) {a b c d : ScopeEntry} {x y z w : Scope} → x ≡ scopeAt s 0 → a ≡ entryOf x → y ≡ scopeAt s 1 → b ≡ entryOf y → z ≡ scopeAt s 2 → c ≡ entryOf z → w ≡ scopeAt s 3 → d ≡ entryOf w
+    → _≡_ {A = Info} (record { scopes = a ∷ b ∷ c ∷ d ∷ []; count = s .«scope_count»; «list_asked» = m .«list_asked»; clock = s .clock; «time_asked» = m .«time_asked»; tenants = s .«tenant_count»; tenant = h; language = m .language }) (infoOf s h m)
+info-is s h m {a} {b} {c} {d} x a′ y b′ z c′ w d′ =
     ap₂ (λ (p q : ScopeEntry). made p q c d) (a′ ∙ ap entryOf x) (b′ ∙ ap entryOf y) ∙ ap₂ (λ (p q : ScopeEntry). made (entryOf (scopeAt s 0)) (entryOf (scopeAt s 1)) p q) (c′ ∙ ap entryOf z) (d′ ∙ ap entryOf w)
   where
     made : ScopeEntry → ScopeEntry → ScopeEntry → ScopeEntry → Info
-    made p q r t = record { scopes = p ∷ q ∷ r ∷ t ∷ []; count = s .«scope_count»; «list_asked» = m .«list_asked»; clock = s .clock; «time_asked» = m .«time_asked» }
+    made p q r t = record { scopes = p ∷ q ∷ r ∷ t ∷ []; count = s .«scope_count»; «list_asked» = m .«list_asked»; clock = s .clock; «time_asked» = m .«time_asked»; tenants = s .«tenant_count»; tenant = h; language = m .language }
+
+-- the names and the tenant that the writer of an ACK to GETINFO asks for
+pub sendable-names : (s : State) (h : ℕ) (m : Fields) (names : List ℕ) {i : Info} → i ≡ infoOf s h m → namesB (s .«scope_count») (s .«tenant_count») names ≡ true → namesB (i .count) (i .tenants) names ≡ true
+sendable-names s h m names e v = ap (λ (i : Info). namesB (i .count) (i .tenants) names) e ∙ v
+
+pub sendable-tenant : (s : State) (h : ℕ) (m : Fields) {i : Info} → i ≡ infoOf s h m → h < s .«tenant_count» → i .tenant < i .tenants
+sendable-tenant s h m e v = subst (λ (i : Info). i .tenant < i .tenants) (sym e) v
 
 -- the reply of a kind
-pub reply-as : (s : State) (m : Fields) (v : Verdict) (k : Reply) {before after : List ℕ} {n : ℕ} → v .reply ≡ k → Replied before (byReply s m v k) after n → Replied before (replyOf s m v) after n
+pub reply-as : (s : State) (names : List ℕ) (h : ℕ) (m : Fields) (v : Verdict) (k : Reply) {before after : List ℕ} {n : ℕ} → v .reply ≡ k → Replied before (byReply s names h m v k) after n → Replied before (replyOf s names h m v) after n
 unfolding replyOf
-reply-as s m v k {before} {after} {n} e r = subst (λ (x : Reply). Replied before (byReply s m v x) after n) (sym e) r
+reply-as s names h m v k {before} {after} {n} e r = subst (λ (x : Reply). Replied before (byReply s names h m v x) after n) (sym e) r
 
 pub replied-none : (b : List ℕ) → Replied b [] b 0
 replied-none b = record { size = refl; buffer = refl }
@@ -66,7 +74,7 @@ serves-discard n b h buffer r e = record {
 serves-as : {a a′ : Answer} {b : Book} {h : ℕ} {x y : List ℕ} {r : Served} → a ≡ a′ → Serves a b h x y r → Serves a′ b h x y r
 serves-as {b = b} {h} {x} {y} {r} e s = subst (λ (z : Answer). Serves z b h x y r) e s
 
-pub serves-decided : (b : Book) (h : ℕ) (m : Fields) (d : Decided) (n : ℕ) {x y : List ℕ} → d ≡ decideOf (b .state) (b .table) h m → Replied x (replyOf (b .state) m (d .verdict)) y n
+pub serves-decided : (b : Book) (h : ℕ) (m : Fields) (d : Decided) (n : ℕ) {x y : List ℕ} → d ≡ decideOf (b .state) (b .table) h m → Replied x (replyOf (b .state) (b .names) h m (d .verdict)) y n
     → Serves (answered b h m (decideOf (b .state) (b .table) h m)) b h x y (record { outcome = record { outcome = d .verdict .outcome; length = n }; edit = d .edit })
 serves-decided b h m d n {x} {y} e w =
     subst (λ (z : Decided). Serves (answered b h m z) b h x y (record { outcome = record { outcome = d .verdict .outcome; length = n }; edit = d .edit })) e

@@ -1,7 +1,7 @@
 -- Definitions: a server call (document 01, "Outcomes, tested in this order" and "Replies"): a datagram, the client's address, the time, a book and the
 -- length of the lent reply room give an outcome, a reply's octets and the book afterwards.
-use Prim.Native.Nat.{ℕ, _-_}
-use mathlib.Core.Bool.{Bool, not, _&&_}
+use Prim.Native.Nat.{ℕ, _-_, _<_}
+use mathlib.Core.Bool.{Bool, true, not, _&&_}
 use mathlib.Core.List.{List, [], _∷_, _++_}
 use mathlib.Core.Path.{_≡_}
 use lib.Dec.{ltb, leb, eqb}
@@ -12,6 +12,7 @@ use Rattle.message.specs.declared.Fields.{Fields}
 use Rattle.message.specs.declared.Reading.{Reading}
 use Rattle.message.specs.Read.{readOf}
 use Rattle.message.specs.Values.{fieldsOf}
+use Rattle.names.specs.Names.{namesB}
 use Rattle.reply.specs.declared.Head.{Head}
 use Rattle.reply.specs.declared.Terms.{Terms}
 use Rattle.reply.specs.declared.Info.{Info}
@@ -22,10 +23,11 @@ use Rattle.state.specs.declared.LeaseTable.{LeaseTable}
 use Rattle.state.specs.declared.Scope.{Scope}
 use Rattle.state.specs.declared.State.{State}
 use Rattle.state.specs.declared.TenantLeases.{TenantLeases}
-use Rattle.state.specs.Book.{Book, advanced, rangesOf, scopeAt}
+use Rattle.state.specs.Book.{Book, advanced, changedTo, rangesOf, scopeAt}
 use Rattle.state.specs.Edit.{applied}
 use Rattle.soundness.specs.declared.HeldTable.{HeldTable}
-use Rattle.soundness.specs.Sound.{soundB, tenantsIn}
+use Rattle.soundness.specs.Named.{bookB}
+use Rattle.soundness.specs.Sound.{tenantsIn}
 use Rattle.soundness.specs.View.{View}
 use Rattle.decision.specs.declared.Decided.{Decided}
 use Rattle.decision.specs.declared.Reply.{Reply}
@@ -55,12 +57,12 @@ pub record Said : Type 0 where
 abbrev pub said : Answer → Said
 said a = record { outcome = a .outcome; reply = a .reply }
 
--- the book of a state and a table, and a book with another table
-abbrev pub bookOf : State → LeaseTable → Book
-bookOf s t = record { state = s; table = t }
+-- the book of a state, a table and the names that are lent with them; and a book with another table
+abbrev pub bookOf : State → LeaseTable → List ℕ → Book
+bookOf s t names = record { state = s; table = t; names = names }
 
 abbrev pub withTable : Book → LeaseTable → Book
-withTable b t = bookOf (b .state) t
+withTable b t = changedTo b (b .state) t
 
 abbrev pub discarded : ℕ → Book → Answer
 discarded n b = record { outcome = n; reply = []; book = b }
@@ -75,32 +77,37 @@ termsOf s v = record { length = v .end - v .start; start = v .start; scope = sco
 abbrev pub entryOf : Scope → ScopeEntry
 entryOf c = record { lowest = c .lowest; size = c .size; ttl = c .ttl }
 
-abbrev pub infoOf : State → Fields → Info
-infoOf s m = record {
+-- to tenant h, counted from 0; its names go by the language that option 8 asks for
+abbrev pub infoOf : State → ℕ → Fields → Info
+infoOf s h m = record {
   scopes = entryOf (scopeAt s 0) ∷ entryOf (scopeAt s 1) ∷ entryOf (scopeAt s 2) ∷ entryOf (scopeAt s 3) ∷ [];
   count = s .«scope_count»;
   «list_asked» = m .«list_asked»;
   clock = s .clock;
   «time_asked» = m .«time_asked»;
+  tenants = s .«tenant_count»;
+  tenant = h;
+  language = m .language;
 }
 
-abbrev pub byReply : State → Fields → Verdict → Reply → List ℕ
-byReply s m v Nothing = []
-byReply s m v Offer = offerOf (headOf s m) (termsOf s v)
-byReply s m v LeaseAck = leaseAckOf (headOf s m) (termsOf s v)
-byReply s m v ReleaseAck = releaseAckOf (headOf s m)
-byReply s m v InfoAck = infoAckOf (headOf s m) (infoOf s m)
-byReply s m v Nak = nakOf (headOf s m) (v .error)
+-- with the names that are lent, to tenant h
+abbrev pub byReply : State → List ℕ → ℕ → Fields → Verdict → Reply → List ℕ
+byReply s names h m v Nothing = []
+byReply s names h m v Offer = offerOf (headOf s m) (termsOf s v)
+byReply s names h m v LeaseAck = leaseAckOf (headOf s m) (termsOf s v)
+byReply s names h m v ReleaseAck = releaseAckOf (headOf s m)
+byReply s names h m v InfoAck = infoAckOf (headOf s m) (infoOf s h m) names
+byReply s names h m v Nak = nakOf (headOf s m) (v .error)
 
-unfoldable pub replyOf : State → Fields → Verdict → List ℕ
-replyOf s m v = byReply s m v (v .reply)
+unfoldable pub replyOf : State → List ℕ → ℕ → Fields → Verdict → List ℕ
+replyOf s names h m v = byReply s names h m v (v .reply)
 
 -- ---- the tests
 -- the reply that the verdict asks for, and the book with the tenant's leases edited
 abbrev pub answered : Book → ℕ → Fields → Decided → Answer
 answered b h m d = record {
   outcome = d .verdict .outcome;
-  reply = replyOf (b .state) m (d .verdict);
+  reply = replyOf (b .state) (b .names) h m (d .verdict);
   book = withTable b (applied (d .edit) h (b .table));
 }
 
@@ -127,10 +134,10 @@ unfoldable pub atClock : Book → ℕ → List ℕ → Answer
 atClock b client s =
     pick (ltb (tenantOf (b .state) client) (tenantsIn (b .state))) (withReading b (tenantOf (b .state) client) s (readOf s)) (discarded 3 b)
 
--- tests 1 and 2 change nothing; "all other calls first set the book's clock .. and drop leases that end at or before it"
+-- test 1: "book unsound", for its names too (document 02, W-201). Tests 1 and 2 change nothing; "all other calls first set the book's clock .. and drop leases that end at or before it"
 unfoldable pub serveOf : Book → Call → Answer
 serveOf b c =
-    pick (soundB (b .state) (b .table))
+    pick (bookB b)
     (pick (ltb (c .room) leastRoom) (discarded 2 b) (atClock (advanced b (c .time)) (c .client) (c .datagram)))
     (discarded 1 b)
 
@@ -146,6 +153,10 @@ pub record Serves (a : Answer) (b : Book) (h : ℕ) (before after : List ℕ) (r
   pub tells : Tells (said a) before after (r .outcome)
   pub book : a .book ≡ withTable b (applied (r .edit) h (b .table))
 
--- whatever book it is of which the state, the records of tenant h and what all tenants hold are at hand
-abbrev pub ServesTenant : State → TenantLeases → HeldTable → ℕ → (Book → Answer) → List ℕ → List ℕ → Served → Type 0
-ServesTenant s own held h answer before after r = (t : LeaseTable) → View s t h own held → Serves (answer (bookOf s t)) (bookOf s t) h before after r
+-- what tests 1 and 3 have shown when a datagram is read: the names are a section for the settings' scopes and tenants, and h is one of these
+abbrev pub NamesFor : State → ℕ → List ℕ → Type 0
+NamesFor s h names = (namesB (s .«scope_count») (s .«tenant_count») names ≡ true) × (h < s .«tenant_count»)
+
+-- whatever book it is of which the state, the names, the records of tenant h and what all tenants hold are at hand
+abbrev pub ServesTenant : State → List ℕ → TenantLeases → HeldTable → ℕ → (Book → Answer) → List ℕ → List ℕ → Served → Type 0
+ServesTenant s names own held h answer before after r = (t : LeaseTable) → View s t h own held → Serves (answer (bookOf s t names)) (bookOf s t names) h before after r

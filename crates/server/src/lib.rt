@@ -1,4 +1,4 @@
-// A call from test 3 on: the tenant of the client's address; and the datagram served on that tenant's records, with a lent reply buffer.
+// A call from test 3 on: the tenant of the client's address; and the datagram served on that tenant's records, with the names and a reply buffer lent.
 ghost use mathlib.Core.Path.{_≡_};
 ghost use Prim.Native.Nat.{_≤_};
 ghost use lib.ListN.{length};
@@ -7,7 +7,7 @@ ghost use Rattle.reply.specs.Put.{Replied};
 ghost use Rattle.reply.specs.Reply.{leastRoom};
 ghost use Rattle.decision.specs.Decide.{decideOf};
 ghost use Rattle.state.specs.Edit.{noEdit};
-ghost use Rattle.server.specs.Serve.{headOf, termsOf, entryOf, infoOf, replyOf, answered, forServer, withReading, hasClient, tenantOf, ServesTenant};
+ghost use Rattle.server.specs.Serve.{headOf, termsOf, entryOf, infoOf, replyOf, answered, forServer, withReading, hasClient, tenantOf, NamesFor, ServesTenant};
 use decision::Reply;
 use decision::Verdict;
 use message::Fields;
@@ -72,25 +72,29 @@ fn entry_of(c: Scope) -> ScopeEntry
     }
 }
 
-fn info_of(s: State, m: Fields) -> Info
-    ensures { λ r. ⌜ r ≡ infoOf s m ⌝ }
+fn info_of(s: State, h: usize, m: Fields) -> Info
+    ensures { λ r. ⌜ r ≡ infoOf s h m ⌝ }
 {
     let a = entry_of(state::scope_at(s, 0));
     let b = entry_of(state::scope_at(s, 1));
     let c = entry_of(state::scope_at(s, 2));
     let d = entry_of(state::scope_at(s, 3));
+    let language = m.language;
     Info {
         scopes: [a, b, c, d],
         count: s.scope_count,
         list_asked: m.list_asked,
         clock: s.clock,
         time_asked: m.time_asked,
+        tenants: s.tenant_count,
+        tenant: h,
+        language: language,
     }
 }
 
-fn write_reply(s: State, m: Fields, v: Verdict, reply: &mut [u8]) -> usize
-    requires { ⌜ leastRoom ≤ length (now reply) ⌝ }
-    ensures { λ r. ⌜ Replied (now (reply .entry)) (replyOf s m v) (now (reply .exit)) r ⌝ }
+fn write_reply(s: State, names: &[u8], h: usize, m: Fields, v: Verdict, reply: &mut [u8]) -> usize
+    requires { ⌜ (leastRoom ≤ length (now reply)) × NamesFor s h (now names) ⌝ }
+    ensures { λ r. ⌜ Replied (now (reply .entry)) (replyOf s (now (names .entry)) h m v) (now (reply .exit)) r ⌝ }
 {
     let head = head_of(s, m);
     let kind = v.reply;
@@ -99,7 +103,7 @@ fn write_reply(s: State, m: Fields, v: Verdict, reply: &mut [u8]) -> usize
         Reply::Offer => reply::write_offer(reply, head, terms_of(s, v)),
         Reply::LeaseAck => reply::write_lease_ack(reply, head, terms_of(s, v)),
         Reply::ReleaseAck => reply::write_release_ack(reply, head),
-        Reply::InfoAck => reply::write_info_ack(reply, head, info_of(s, m)),
+        Reply::InfoAck => reply::write_info_ack(reply, head, info_of(s, h, m), names),
         Reply::Nak => reply::write_nak(reply, head, arithmetic::wide16(v.error)),
     }
 }
@@ -121,19 +125,20 @@ fn discard(n: u8) -> Served
 // After test 7: the decision, and the reply written from it.
 fn decided(
     s: State,
+    names: &[u8],
     own: TenantLeases,
     held: HeldTable,
     h: usize,
     m: Fields,
     reply: &mut [u8],
 ) -> Served
-    requires { ⌜ leastRoom ≤ length (now reply) ⌝ }
-    ensures { λ r. ⌜ ServesTenant s own held h (λ b. answered b h m (decideOf (b .state) (b .table) h m)) (now (reply .entry)) (now (reply .exit)) r ⌝ }
+    requires { ⌜ (leastRoom ≤ length (now reply)) × NamesFor s h (now names) ⌝ }
+    ensures { λ r. ⌜ ServesTenant s (now (names .entry)) own held h (λ b. answered b h m (decideOf (b .state) (b .table) h m)) (now (reply .entry)) (now (reply .exit)) r ⌝ }
 {
     let d = decision::decide(s, own, held, h, m);
     let v = d.verdict;
     let e = d.edit;
-    let n = write_reply(s, m, v, reply);
+    let n = write_reply(s, names, h, m, v, reply);
     Served {
         outcome: Outcome {
             outcome: v.outcome,
@@ -146,41 +151,43 @@ fn decided(
 // Test 7.
 fn for_server(
     s: State,
+    names: &[u8],
     own: TenantLeases,
     held: HeldTable,
     h: usize,
     m: Fields,
     reply: &mut [u8],
 ) -> Served
-    requires { ⌜ leastRoom ≤ length (now reply) ⌝ }
-    ensures { λ r. ⌜ ServesTenant s own held h (λ b. forServer b h m) (now (reply .entry)) (now (reply .exit)) r ⌝ }
+    requires { ⌜ (leastRoom ≤ length (now reply)) × NamesFor s h (now names) ⌝ }
+    ensures { λ r. ⌜ ServesTenant s (now (names .entry)) own held h (λ b. forServer b h m) (now (reply .entry)) (now (reply .exit)) r ⌝ }
 {
     if m.kind == MessageType::REQUEST {
         if m.ours {
-            return decided(s, own, held, h, m, reply);
+            return decided(s, names, own, held, h, m, reply);
         }
         return discard(7);
     }
-    decided(s, own, held, h, m, reply)
+    decided(s, names, own, held, h, m, reply)
 }
 
 // Tests 4 to 7 and what follows, on the records of the client's tenant, counted from 0, and what all tenants hold.
 pub fn on_tenant(
     s: State,
+    names: &[u8],
     own: TenantLeases,
     held: HeldTable,
     h: usize,
     datagram: &[u8],
     reply: &mut [u8],
 ) -> Served
-    requires { ⌜ leastRoom ≤ length (now reply) ⌝ }
-    ensures { λ r. ⌜ ServesTenant s own held h (λ b. withReading b h (now (datagram .entry)) (readOf (now (datagram .entry)))) (now (reply .entry)) (now (reply .exit)) r ⌝ }
+    requires { ⌜ (leastRoom ≤ length (now reply)) × NamesFor s h (now names) ⌝ }
+    ensures { λ r. ⌜ ServesTenant s (now (names .entry)) own held h (λ b. withReading b h (now (datagram .entry)) (readOf (now (datagram .entry)))) (now (reply .entry)) (now (reply .exit)) r ⌝ }
 {
     let r = message::read(datagram);
     if r.discard == 0 {
         let m = r.message;
         let f = m.fields(datagram, s.server);
-        return for_server(s, own, held, h, f, reply);
+        return for_server(s, names, own, held, h, f, reply);
     }
     discard(r.discard)
 }

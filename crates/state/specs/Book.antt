@@ -1,4 +1,4 @@
--- Definitions: lease records and the lists of leases that they stand for; document 01's book, a `State`, its settings and clock, with a `LeaseTable`.
+-- Definitions: lease records and the lists of leases that they stand for; document 01's book, a `State`, its settings and clock, with a `LeaseTable` and the names for the scopes.
 use Prim.Native.Nat.{ℕ, _+_, max}
 use mathlib.Core.Bool.{Bool, not, _&&_}
 use mathlib.Core.List.{List, [], _∷_, map}
@@ -56,10 +56,12 @@ tableOf ls = record { tenants = map laidOut ls }
 pub record Book : Type 0 where
   pub state : State
   pub table : LeaseTable
+  -- document 02, W-201: the names for the scopes, as the octets of the campus file's section
+  pub names : List ℕ
 
--- a book that a call changes: its settings stay, all but the clock, and so does what a call never changes. A further part of the book touches this line
+-- the book with another state and lease table; its names, which no call changes, as they were. A further part of the book touches this line
 abbrev pub changedTo : Book → State → LeaseTable → Book
-changedTo b s t = record { state = s; table = t }
+changedTo b s t = record { state = s; table = t; names = b .names }
 
 -- ---- identifiers, and the order of a tenant's records
 abbrev pub idOf : Lease → List ℕ

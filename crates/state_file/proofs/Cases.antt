@@ -13,15 +13,18 @@ use Rattle.lists.specs.Pick.{pick}
 use Rattle.lists.specs.Sums.{sumTo}
 use Rattle.octets.specs.Octets.{octets32}
 use Rattle.soundness.specs.Sound.{apart, belowB, blankB, brokenOf, compatible, countsB, disjoint, oneTo, firstBroken, firstRule, firstLate, tenantsB, idB, kindB, layoutB, leaseB, limitB, limitsB, committedB, noneB, offsetsB, paddedB, periodB, poolB, poolsApart, rangeB, rangeZero, rangesApart, recordsB, rule1, rule10, rule11, rule12, rule2, rule3, rule4, rule5, rule6, rule7, rule8, rule9, rulesOf, scopeZero, settingsB, reserveB, reservesB, sizeB, soundB, tailB, ttlB, unusedB, zeroFrom, rule19}
-use Rattle.state.specs.Book.{byIdentifier, differ, addressesOf, laidOut, leaseWith, overlaps, tableOf, unionAll, zeroScope, committed}
+use Rattle.state.specs.Book.{Book, byIdentifier, differ, addressesOf, laidOut, leaseWith, overlaps, tableOf, unionAll, zeroScope, committed}
 use Rattle.state.specs.declared.Lease.{Lease}
 use Rattle.state.specs.declared.LeaseTable.{LeaseTable}
 use Rattle.state.specs.declared.State.{State}
 use Rattle.state_file.specs.File.{File, fileOf, isAfter}
+use Rattle.format.specs.Place.{isWhole}
 use Rattle.format.specs.Section.{orderedFrom}
+use Rattle.names.specs.Names.{namesB, sizesOk}
+use Rattle.soundness.specs.Named.{bookB}
 use Rattle.format.specs.Format.{Got, bad, closed, got, readNumber, readOctet, readTimes, then, writeAll}
 use Rattle.state_file.specs.Records.{countsFit, fewOf, filled, fitsB, leasesFitB, storableB, stored, storedScope, storedState, storedTable, tenantsFrom, zeroRange, filedBook, filedFrom, filedLease, filedScope, pairUp}
-use Rattle.state_file.specs.StateFile.{accepted, loadedGot, judged, loaded, readFile, refused, octetsOf, roomAfter, writtenOf, zeroState, zeroTable}
+use Rattle.state_file.specs.StateFile.{accepted, loadedGot, judged, loaded, namesGot, namesOf, readFile, refused, octetsOf, roomAfter, writtenOf, zeroState, zeroTable}
 
 -- ---- files
 -- 10.1.1.1, and the clock
@@ -49,6 +52,23 @@ pool size parts = 1 ∷ scope 4022337536 size 1 parts
 settings : List ℕ
 settings = server 1000 ++ tenants ++ pool 4 (2 ∷ 3 ∷ 1 ∷ 4 ∷ [])
 
+-- names of k scopes and h tenants that are all missing, and those for the settings
+unnamed : ℕ → ℕ → List ℕ
+unnamed k h = k ∷ replicate (k * (h + 1)) 0
+
+none : List ℕ
+none = unnamed 1 2
+
+name : ℕ → List ℕ → List ℕ → List ℕ
+name flags tag text = flags ∷ length tag ∷ tag ++ length text ∷ text
+
+-- the settings with a campus list of names, no lease and no tenant's own names
+named : List ℕ → List ℕ
+named campus = settings ++ 0 ∷ 1 ∷ campus ++ 0 ∷ 0 ∷ []
+
+en : List ℕ
+en = 101 ∷ 110 ∷ []
+
 -- a lease on the first scope from 1000 to 4600
 plain : ℕ → List ℕ → List ℕ → List ℕ
 plain t id offs = lease t 1 id 3 1000 4600 offs
@@ -73,11 +93,11 @@ row : ℕ → ℕ → List ℕ
 row zero k = []
 row (suc n) k = lease 1 1 (0 ∷ k ∷ []) 4 (1000 + k) (1001 + k) (0 ∷ []) ++ row n (suc k)
 
--- 14,525 octets and those of one more identifier
+-- 32,547 octets and those of one more identifier
 long : ℕ → List ℕ
-long n = settings ++ 54 ∷ plain 1 (replicate n 7) (0 ∷ []) ++ again 53 (plain 1 (replicate 255 7) (0 ∷ []))
+long n = settings ++ 120 ∷ plain 1 (replicate n 7) (0 ∷ []) ++ again 119 (plain 1 (replicate 255 7) (0 ∷ [])) ++ none
 
--- ---- the largest sound file: eight tenants, four scopes of 64, each half of one with sixteen leases on it
+-- ---- the largest sound file: eight tenants, four scopes of 64, each half of one with sixteen leases on it, and nine lists of four names a scope
 eight : ℕ → ℕ → List ℕ
 eight zero k = []
 eight (suc n) k = range (k * 256) (k * 256 + 255) ++ eight n (suc k)
@@ -99,6 +119,7 @@ largest =
     server 0 ++ 8 ∷ eight 8 1 ++ 4 ∷ four 4 0 ++ 128 ∷
     sixteen 1 1 (upFrom 32 0) 16 ++ sixteen 2 1 (upFrom 32 32) 16 ++ sixteen 3 2 (upFrom 32 0) 16 ++ sixteen 4 2 (upFrom 32 32) 16
     ++ sixteen 5 3 (upFrom 32 0) 16 ++ sixteen 6 3 (upFrom 32 32) 16 ++ sixteen 7 4 (upFrom 32 0) 16 ++ sixteen 8 4 (upFrom 32 32) 16
+    ++ 4 ∷ again 36 (4 ∷ again 4 (name 128 (replicate 8 97) (replicate 32 98)))
 
 -- ---- the table
 record Case : Type 0 where
@@ -119,15 +140,18 @@ allHold (c ∷ l) = eqb (readFile (c .octets) .refusal) (c .answer) && (eqb (rul
 sound : List Case
 sound =
     -- no lease; the smallest of all; touching periods; sixteen leases; a prefix before what it begins; then a pool that ends at 239.255.255.255
-    record { octets = settings ++ 0 ∷ []; answer = 0; rule = 0 }
-    ∷ record { octets = server 4294967295 ++ 1 ∷ range 5 5 ++ 1 ∷ scope 3758096384 1 1 (0 ∷ 0 ∷ []) ++ 0 ∷ []; answer = 0; rule = 0 }
-    ∷ record { octets = settings ++ 2 ∷ lease 1 1 a 3 1000 2000 (2 ∷ 3 ∷ []) ++ lease 1 1 b 4 2000 3000 (2 ∷ 3 ∷ []); answer = 0; rule = 0 }
-    ∷ record { octets = settings ++ 16 ∷ row 16 0; answer = 0; rule = 0 }
-    ∷ record { octets = settings ++ 2 ∷ plain 1 a (0 ∷ []) ++ plain 1 ab (1 ∷ []); answer = 0; rule = 0 }
+    record { octets = settings ++ 0 ∷ none; answer = 0; rule = 0 }
+    ∷ record { octets = server 4294967295 ++ 1 ∷ range 5 5 ++ 1 ∷ scope 3758096384 1 1 (0 ∷ 0 ∷ []) ++ 0 ∷ unnamed 1 1; answer = 0; rule = 0 }
+    ∷ record { octets = settings ++ 2 ∷ lease 1 1 a 3 1000 2000 (2 ∷ 3 ∷ []) ++ lease 1 1 b 4 2000 3000 (2 ∷ 3 ∷ []) ++ none; answer = 0; rule = 0 }
+    ∷ record { octets = settings ++ 16 ∷ row 16 0 ++ none; answer = 0; rule = 0 }
+    ∷ record { octets = settings ++ 2 ∷ plain 1 a (0 ∷ []) ++ plain 1 ab (1 ∷ []) ++ none; answer = 0; rule = 0 }
     -- the specimen after P3
-    ∷ record { octets = settings ++ 2 ∷ lease 1 1 b 3 1000 2000 (2 ∷ 3 ∷ []) ++ plain 2 a (0 ∷ 1 ∷ []); answer = 0; rule = 0 }
-    ∷ record { octets = server 1000 ++ tenants ++ 1 ∷ scope 4026531836 4 1 (2 ∷ 3 ∷ 1 ∷ 4 ∷ []) ++ 0 ∷ []; answer = 0; rule = 0 }
+    ∷ record { octets = settings ++ 2 ∷ lease 1 1 b 3 1000 2000 (2 ∷ 3 ∷ []) ++ plain 2 a (0 ∷ 1 ∷ []) ++ none; answer = 0; rule = 0 }
+    ∷ record { octets = server 1000 ++ tenants ++ 1 ∷ scope 4026531836 4 1 (2 ∷ 3 ∷ 1 ∷ 4 ∷ []) ++ 0 ∷ none; answer = 0; rule = 0 }
     ∷ record { octets = largest; answer = 0; rule = 0 }
+    -- names: four in a list, with a tag of 8 and a text of 32 octets, and two alike; of one octet each
+    ∷ record { octets = named (4 ∷ name 128 (replicate 8 97) (replicate 32 98) ++ again 3 (name 128 en en)); answer = 0; rule = 0 }
+    ∷ record { octets = named (1 ∷ name 0 (0 ∷ []) (255 ∷ [])); answer = 0; rule = 0 }
     ∷ []
 
 -- wrong form
@@ -145,88 +169,109 @@ form =
     ∷ record { octets = settings ++ 1 ∷ 1 ∷ 1 ∷ 40 ∷ a; answer = 20; rule = 0 }
     ∷ record { octets = settings ++ 2 ∷ plain 1 a (0 ∷ []); answer = 20; rule = 0 }
     -- the server's count, octets left over
-    ∷ record { octets = 0 ∷ tenants ++ pool 4 (2 ∷ 3 ∷ 1 ∷ 4 ∷ []) ++ 0 ∷ []; answer = 20; rule = 0 }
-    ∷ record { octets = 2 ∷ 10 ∷ 1 ∷ 1 ∷ 1 ∷ octets32 1000 ++ tenants ++ pool 4 (2 ∷ 3 ∷ 1 ∷ 4 ∷ []) ++ 0 ∷ []; answer = 20; rule = 0 }
-    ∷ record { octets = settings ++ 0 ∷ 0 ∷ []; answer = 20; rule = 0 }
+    ∷ record { octets = 0 ∷ tenants ++ pool 4 (2 ∷ 3 ∷ 1 ∷ 4 ∷ []) ++ 0 ∷ none; answer = 20; rule = 0 }
+    ∷ record { octets = 2 ∷ 10 ∷ 1 ∷ 1 ∷ 1 ∷ octets32 1000 ++ tenants ++ pool 4 (2 ∷ 3 ∷ 1 ∷ 4 ∷ []) ++ 0 ∷ none; answer = 20; rule = 0 }
+    ∷ record { octets = settings ++ 0 ∷ none ++ 0 ∷ []; answer = 20; rule = 0 }
     -- offsets that don't rise
-    ∷ record { octets = settings ++ 1 ∷ plain 1 a (0 ∷ 0 ∷ []); answer = 20; rule = 0 }
-    ∷ record { octets = settings ++ 1 ∷ plain 1 a (1 ∷ 0 ∷ []); answer = 20; rule = 0 }
+    ∷ record { octets = settings ++ 1 ∷ plain 1 a (0 ∷ 0 ∷ []) ++ none; answer = 20; rule = 0 }
+    ∷ record { octets = settings ++ 1 ∷ plain 1 a (1 ∷ 0 ∷ []) ++ none; answer = 20; rule = 0 }
     -- leases that fall: by tenant, by identifier, a prefix after what it begins, by tenants that are not there
-    ∷ record { octets = settings ++ 2 ∷ plain 2 a (0 ∷ []) ++ plain 1 b (1 ∷ []); answer = 20; rule = 0 }
-    ∷ record { octets = settings ++ 2 ∷ plain 1 b (0 ∷ []) ++ plain 1 a (1 ∷ []); answer = 20; rule = 0 }
-    ∷ record { octets = settings ++ 2 ∷ plain 1 ab (0 ∷ []) ++ plain 1 a (1 ∷ []); answer = 20; rule = 0 }
-    ∷ record { octets = settings ++ 2 ∷ plain 200 a (0 ∷ []) ++ plain 0 b (0 ∷ []); answer = 20; rule = 0 }
+    ∷ record { octets = settings ++ 2 ∷ plain 2 a (0 ∷ []) ++ plain 1 b (1 ∷ []) ++ none; answer = 20; rule = 0 }
+    ∷ record { octets = settings ++ 2 ∷ plain 1 b (0 ∷ []) ++ plain 1 a (1 ∷ []) ++ none; answer = 20; rule = 0 }
+    ∷ record { octets = settings ++ 2 ∷ plain 1 ab (0 ∷ []) ++ plain 1 a (1 ∷ []) ++ none; answer = 20; rule = 0 }
+    ∷ record { octets = settings ++ 2 ∷ plain 200 a (0 ∷ []) ++ plain 0 b (0 ∷ []) ++ none; answer = 20; rule = 0 }
     -- equal identifiers with another between them
-    ∷ record { octets = settings ++ 3 ∷ plain 1 a (0 ∷ []) ++ plain 1 b (1 ∷ []) ++ plain 1 a (2 ∷ []); answer = 20; rule = 0 }
-    -- 14,629 octets, and 14,628
-    ∷ record { octets = long 104; answer = 20; rule = 0 }
-    ∷ record { octets = long 103; answer = 21; rule = 0 }
+    ∷ record { octets = settings ++ 3 ∷ plain 1 a (0 ∷ []) ++ plain 1 b (1 ∷ []) ++ plain 1 a (2 ∷ []) ++ none; answer = 20; rule = 0 }
+    -- the names are missing, cut off in a name and before a list, or not as many as the scopes, though the octets would suffice
+    ∷ record { octets = settings ++ 0 ∷ []; answer = 20; rule = 0 }
+    ∷ record { octets = settings ++ 0 ∷ 1 ∷ 1 ∷ 0 ∷ 2 ∷ 101 ∷ 110 ∷ 5 ∷ 97 ∷ []; answer = 20; rule = 0 }
+    ∷ record { octets = settings ++ 0 ∷ 1 ∷ 0 ∷ 0 ∷ []; answer = 20; rule = 0 }
+    ∷ record { octets = settings ++ 0 ∷ unnamed 0 2; answer = 20; rule = 0 }
+    ∷ record { octets = settings ++ 0 ∷ unnamed 2 2; answer = 20; rule = 0 }
+    ∷ record { octets = settings ++ 0 ∷ 2 ∷ 0 ∷ 0 ∷ 0 ∷ []; answer = 20; rule = 0 }
+    -- flags 1, a tag of no octet and of 9, a text of none and of 33, five names in a list
+    ∷ record { octets = named (1 ∷ name 1 en en); answer = 20; rule = 0 }
+    ∷ record { octets = named (1 ∷ name 0 [] en); answer = 20; rule = 0 }
+    ∷ record { octets = named (1 ∷ name 0 (replicate 9 97) en); answer = 20; rule = 0 }
+    ∷ record { octets = named (1 ∷ name 0 en []); answer = 20; rule = 0 }
+    ∷ record { octets = named (1 ∷ name 0 en (replicate 33 97)); answer = 20; rule = 0 }
+    ∷ record { octets = named (5 ∷ again 5 (name 0 en en)); answer = 20; rule = 0 }
+    -- a bad name comes before an unsound lease; nine tenants have ten lists, and nine are too few
+    ∷ record { octets = settings ++ 1 ∷ plain 3 a (0 ∷ []) ++ 1 ∷ 1 ∷ name 1 en en ++ 0 ∷ 0 ∷ []; answer = 20; rule = 0 }
+    ∷ record { octets = server 1000 ++ 9 ∷ eight 9 1 ++ pool 4 (again 9 (0 ∷ 0 ∷ [])) ++ 0 ∷ unnamed 1 8; answer = 20; rule = 0 }
+    -- 32,769 octets, and 32,768
+    ∷ record { octets = long 222; answer = 20; rule = 0 }
+    ∷ record { octets = long 221; answer = 21; rule = 0 }
     ∷ []
 
 -- unsound, by the rules of document 01
 unsound : List Case
 unsound =
     -- 1. no tenant, nine, no scope, five, sizes 0 and 65, identifiers of no octet, of 1 and of 33, 17 leases, 129 of them
-    record { octets = server 1000 ++ 0 ∷ pool 4 [] ++ 0 ∷ []; answer = 21; rule = 1 }
-    ∷ record { octets = server 1000 ++ 9 ∷ eight 9 1 ++ pool 4 (again 9 (0 ∷ 0 ∷ [])) ++ 0 ∷ []; answer = 21; rule = 0 }
-    ∷ record { octets = server 1000 ++ tenants ++ 0 ∷ 0 ∷ []; answer = 21; rule = 1 }
-    ∷ record { octets = server 1000 ++ 8 ∷ eight 8 1 ++ 5 ∷ four 5 0 ++ 0 ∷ []; answer = 21; rule = 0 }
-    ∷ record { octets = server 1000 ++ tenants ++ pool 0 (0 ∷ 0 ∷ 0 ∷ 0 ∷ []) ++ 0 ∷ []; answer = 21; rule = 1 }
-    ∷ record { octets = server 1000 ++ tenants ++ pool 65 (0 ∷ 0 ∷ 0 ∷ 0 ∷ []) ++ 0 ∷ []; answer = 21; rule = 1 }
-    ∷ record { octets = settings ++ 1 ∷ plain 1 [] (0 ∷ []); answer = 21; rule = 1 }
-    ∷ record { octets = settings ++ 1 ∷ plain 1 (7 ∷ []) (0 ∷ []); answer = 21; rule = 1 }
-    ∷ record { octets = settings ++ 1 ∷ plain 1 (replicate 33 7) (0 ∷ []); answer = 21; rule = 0 }
-    ∷ record { octets = settings ++ 17 ∷ row 17 0; answer = 21; rule = 0 }
-    ∷ record { octets = settings ++ 129 ∷ row 129 0; answer = 21; rule = 0 }
+    record { octets = server 1000 ++ 0 ∷ pool 4 [] ++ 0 ∷ unnamed 1 0; answer = 21; rule = 1 }
+    ∷ record { octets = server 1000 ++ 9 ∷ eight 9 1 ++ pool 4 (again 9 (0 ∷ 0 ∷ [])) ++ 0 ∷ unnamed 1 9; answer = 21; rule = 0 }
+    ∷ record { octets = server 1000 ++ tenants ++ 0 ∷ 0 ∷ unnamed 0 2; answer = 21; rule = 1 }
+    ∷ record { octets = server 1000 ++ 8 ∷ eight 8 1 ++ 5 ∷ four 5 0 ++ 0 ∷ unnamed 5 8; answer = 21; rule = 0 }
+    ∷ record { octets = server 1000 ++ tenants ++ pool 0 (0 ∷ 0 ∷ 0 ∷ 0 ∷ []) ++ 0 ∷ none; answer = 21; rule = 1 }
+    ∷ record { octets = server 1000 ++ tenants ++ pool 65 (0 ∷ 0 ∷ 0 ∷ 0 ∷ []) ++ 0 ∷ none; answer = 21; rule = 1 }
+    ∷ record { octets = settings ++ 1 ∷ plain 1 [] (0 ∷ []) ++ none; answer = 21; rule = 1 }
+    ∷ record { octets = settings ++ 1 ∷ plain 1 (7 ∷ []) (0 ∷ []) ++ none; answer = 21; rule = 1 }
+    ∷ record { octets = settings ++ 1 ∷ plain 1 (replicate 33 7) (0 ∷ []) ++ none; answer = 21; rule = 0 }
+    ∷ record { octets = settings ++ 17 ∷ row 17 0 ++ none; answer = 21; rule = 0 }
+    ∷ record { octets = settings ++ 129 ∷ row 129 0 ++ none; answer = 21; rule = 0 }
     -- 2. an offset at the size, past 63, 65 of them
-    ∷ record { octets = settings ++ 1 ∷ plain 1 a (4 ∷ []); answer = 21; rule = 2 }
-    ∷ record { octets = settings ++ 1 ∷ plain 1 a (64 ∷ []); answer = 21; rule = 0 }
-    ∷ record { octets = settings ++ 1 ∷ plain 1 a (upFrom 65 0); answer = 21; rule = 0 }
+    ∷ record { octets = settings ++ 1 ∷ plain 1 a (4 ∷ []) ++ none; answer = 21; rule = 2 }
+    ∷ record { octets = settings ++ 1 ∷ plain 1 a (64 ∷ []) ++ none; answer = 21; rule = 0 }
+    ∷ record { octets = settings ++ 1 ∷ plain 1 a (upFrom 65 0) ++ none; answer = 21; rule = 0 }
     -- 3. an empty client range, two that meet
-    ∷ record { octets = server 1000 ++ 2 ∷ range 9 8 ++ range 10 11 ++ pool 4 (2 ∷ 3 ∷ 1 ∷ 4 ∷ []) ++ 0 ∷ []; answer = 21; rule = 3 }
-    ∷ record { octets = server 1000 ++ 2 ∷ range 8 9 ++ range 9 10 ++ pool 4 (2 ∷ 3 ∷ 1 ∷ 4 ∷ []) ++ 0 ∷ []; answer = 21; rule = 3 }
+    ∷ record { octets = server 1000 ++ 2 ∷ range 9 8 ++ range 10 11 ++ pool 4 (2 ∷ 3 ∷ 1 ∷ 4 ∷ []) ++ 0 ∷ none; answer = 21; rule = 3 }
+    ∷ record { octets = server 1000 ++ 2 ∷ range 8 9 ++ range 9 10 ++ pool 4 (2 ∷ 3 ∷ 1 ∷ 4 ∷ []) ++ 0 ∷ none; answer = 21; rule = 3 }
     -- 4. a pool before 224.0.0.0, one past 239.255.255.255, two that meet
-    ∷ record { octets = server 1000 ++ tenants ++ 1 ∷ scope 3758096383 4 1 (2 ∷ 3 ∷ 1 ∷ 4 ∷ []) ++ 0 ∷ []; answer = 21; rule = 4 }
-    ∷ record { octets = server 1000 ++ tenants ++ 1 ∷ scope 4026531837 4 1 (2 ∷ 3 ∷ 1 ∷ 4 ∷ []) ++ 0 ∷ []; answer = 21; rule = 4 }
-    ∷ record { octets = server 1000 ++ tenants ++ 2 ∷ scope 4022337536 4 1 (2 ∷ 3 ∷ 1 ∷ 4 ∷ []) ++ scope 4022337539 4 1 (2 ∷ 3 ∷ 1 ∷ 4 ∷ []) ++ 0 ∷ []; answer = 21; rule = 4 }
+    ∷ record { octets = server 1000 ++ tenants ++ 1 ∷ scope 3758096383 4 1 (2 ∷ 3 ∷ 1 ∷ 4 ∷ []) ++ 0 ∷ none; answer = 21; rule = 4 }
+    ∷ record { octets = server 1000 ++ tenants ++ 1 ∷ scope 4026531837 4 1 (2 ∷ 3 ∷ 1 ∷ 4 ∷ []) ++ 0 ∷ none; answer = 21; rule = 4 }
+    ∷ record { octets = server 1000 ++ tenants ++ 2 ∷ scope 4022337536 4 1 (2 ∷ 3 ∷ 1 ∷ 4 ∷ []) ++ scope 4022337539 4 1 (2 ∷ 3 ∷ 1 ∷ 4 ∷ []) ++ 0 ∷ unnamed 2 2; answer = 21; rule = 4 }
     -- 5. TTL 0
-    ∷ record { octets = server 1000 ++ tenants ++ 1 ∷ scope 4022337536 4 0 (2 ∷ 3 ∷ 1 ∷ 4 ∷ []) ++ 0 ∷ []; answer = 21; rule = 5 }
+    ∷ record { octets = server 1000 ++ tenants ++ 1 ∷ scope 4022337536 4 0 (2 ∷ 3 ∷ 1 ∷ 4 ∷ []) ++ 0 ∷ none; answer = 21; rule = 5 }
     -- 6. a reserve above its limit, a limit above the size, the reserves together above it
-    ∷ record { octets = server 1000 ++ tenants ++ pool 4 (3 ∷ 2 ∷ 1 ∷ 4 ∷ []) ++ 0 ∷ []; answer = 21; rule = 6 }
-    ∷ record { octets = server 1000 ++ tenants ++ pool 4 (2 ∷ 5 ∷ 1 ∷ 4 ∷ []) ++ 0 ∷ []; answer = 21; rule = 6 }
-    ∷ record { octets = server 1000 ++ tenants ++ pool 4 (3 ∷ 3 ∷ 2 ∷ 4 ∷ []) ++ 0 ∷ []; answer = 21; rule = 6 }
+    ∷ record { octets = server 1000 ++ tenants ++ pool 4 (3 ∷ 2 ∷ 1 ∷ 4 ∷ []) ++ 0 ∷ none; answer = 21; rule = 6 }
+    ∷ record { octets = server 1000 ++ tenants ++ pool 4 (2 ∷ 5 ∷ 1 ∷ 4 ∷ []) ++ 0 ∷ none; answer = 21; rule = 6 }
+    ∷ record { octets = server 1000 ++ tenants ++ pool 4 (3 ∷ 3 ∷ 2 ∷ 4 ∷ []) ++ 0 ∷ none; answer = 21; rule = 6 }
     -- 7. an unknown tenant, an unknown scope, another type, an empty period, one that is over, no address
-    ∷ record { octets = settings ++ 1 ∷ plain 0 a (0 ∷ []); answer = 21; rule = 0 }
-    ∷ record { octets = settings ++ 1 ∷ plain 3 a (0 ∷ []); answer = 21; rule = 7 }
-    ∷ record { octets = settings ++ 1 ∷ plain 9 a (0 ∷ []); answer = 21; rule = 0 }
-    ∷ record { octets = settings ++ 1 ∷ lease 1 0 a 3 1000 4600 (0 ∷ []); answer = 21; rule = 7 }
-    ∷ record { octets = settings ++ 1 ∷ lease 1 2 a 3 1000 4600 (0 ∷ []); answer = 21; rule = 7 }
-    ∷ record { octets = settings ++ 1 ∷ lease 1 1 a 2 1000 4600 (0 ∷ []); answer = 21; rule = 7 }
-    ∷ record { octets = settings ++ 1 ∷ lease 1 1 a 5 1000 4600 (0 ∷ []); answer = 21; rule = 7 }
-    ∷ record { octets = settings ++ 1 ∷ lease 1 1 a 3 4600 4600 (0 ∷ []); answer = 21; rule = 7 }
-    ∷ record { octets = settings ++ 1 ∷ lease 1 1 a 3 900 1000 (0 ∷ []); answer = 21; rule = 7 }
-    ∷ record { octets = settings ++ 1 ∷ plain 1 a []; answer = 21; rule = 7 }
+    ∷ record { octets = settings ++ 1 ∷ plain 0 a (0 ∷ []) ++ none; answer = 21; rule = 0 }
+    ∷ record { octets = settings ++ 1 ∷ plain 3 a (0 ∷ []) ++ none; answer = 21; rule = 7 }
+    ∷ record { octets = settings ++ 1 ∷ plain 9 a (0 ∷ []) ++ none; answer = 21; rule = 0 }
+    ∷ record { octets = settings ++ 1 ∷ lease 1 0 a 3 1000 4600 (0 ∷ []) ++ none; answer = 21; rule = 7 }
+    ∷ record { octets = settings ++ 1 ∷ lease 1 2 a 3 1000 4600 (0 ∷ []) ++ none; answer = 21; rule = 7 }
+    ∷ record { octets = settings ++ 1 ∷ lease 1 1 a 2 1000 4600 (0 ∷ []) ++ none; answer = 21; rule = 7 }
+    ∷ record { octets = settings ++ 1 ∷ lease 1 1 a 5 1000 4600 (0 ∷ []) ++ none; answer = 21; rule = 7 }
+    ∷ record { octets = settings ++ 1 ∷ lease 1 1 a 3 4600 4600 (0 ∷ []) ++ none; answer = 21; rule = 7 }
+    ∷ record { octets = settings ++ 1 ∷ lease 1 1 a 3 900 1000 (0 ∷ []) ++ none; answer = 21; rule = 7 }
+    ∷ record { octets = settings ++ 1 ∷ plain 1 a [] ++ none; answer = 21; rule = 7 }
     -- 8. equal identifiers, and those of a tenant that is not there
-    ∷ record { octets = settings ++ 2 ∷ plain 1 a (0 ∷ []) ++ plain 1 a (1 ∷ []); answer = 21; rule = 8 }
-    ∷ record { octets = settings ++ 2 ∷ plain 200 a (0 ∷ []) ++ plain 200 a (1 ∷ []); answer = 21; rule = 0 }
+    ∷ record { octets = settings ++ 2 ∷ plain 1 a (0 ∷ []) ++ plain 1 a (1 ∷ []) ++ none; answer = 21; rule = 8 }
+    ∷ record { octets = settings ++ 2 ∷ plain 200 a (0 ∷ []) ++ plain 200 a (1 ∷ []) ++ none; answer = 21; rule = 0 }
     -- 9. an address with two tenants, though at other times
-    ∷ record { octets = settings ++ 2 ∷ lease 1 1 a 3 1000 2000 (0 ∷ []) ++ lease 2 1 a 3 2000 3000 (0 ∷ []); answer = 21; rule = 9 }
+    ∷ record { octets = settings ++ 2 ∷ lease 1 1 a 3 1000 2000 (0 ∷ []) ++ lease 2 1 a 3 2000 3000 (0 ∷ []) ++ none; answer = 21; rule = 9 }
     -- 10. leases on one address that overlap by a second
-    ∷ record { octets = settings ++ 2 ∷ lease 1 1 a 3 1000 2000 (0 ∷ []) ++ lease 1 1 b 3 1999 3000 (0 ∷ []); answer = 21; rule = 10 }
+    ∷ record { octets = settings ++ 2 ∷ lease 1 1 a 3 1000 2000 (0 ∷ []) ++ lease 1 1 b 3 1999 3000 (0 ∷ []) ++ none; answer = 21; rule = 10 }
     -- 11. more addresses than the limit
-    ∷ record { octets = server 1000 ++ tenants ++ pool 4 (0 ∷ 1 ∷ 0 ∷ 4 ∷ []) ++ 1 ∷ plain 1 a (0 ∷ 1 ∷ []); answer = 21; rule = 11 }
+    ∷ record { octets = server 1000 ++ tenants ++ pool 4 (0 ∷ 1 ∷ 0 ∷ 4 ∷ []) ++ 1 ∷ plain 1 a (0 ∷ 1 ∷ []) ++ none; answer = 21; rule = 11 }
     -- 12. more than the size with what is reserved
-    ∷ record { octets = settings ++ 1 ∷ plain 2 a (0 ∷ 1 ∷ 2 ∷ []); answer = 21; rule = 12 }
+    ∷ record { octets = settings ++ 1 ∷ plain 2 a (0 ∷ 1 ∷ 2 ∷ []) ++ none; answer = 21; rule = 12 }
     ∷ []
 
 answers : allHold (sound ++ form ++ unsound) ≡ true
-unfolding allHold ruleOf long largest sound form unsound server range scope lease tenants pool settings plain a b ab again row eight four upFrom sixteen pick allBy pairsBy allTo filterBy isIn sumTo bit offsetsFrom setOf readOffsets risesFrom orderOf sameOf laidOut tableOf byIdentifier unionAll addressesOf overlaps oneTo sizeB idB recordsB countsB rule1 belowB offsetsB rule2 rangeB rangesApart rule3 poolB poolsApart rule4 ttlB rule5 reserveB reservesB rule6 kindB periodB leaseB noneB tenantsB rule7 differ rule8 disjoint apart rule9 compatible rule10 limitB limitsB rule11 committed committedB rule12 zeroFrom paddedB blankB unusedB layoutB rangeZero tailB scopeZero settingsB rulesOf firstLate firstRule firstBroken brokenOf soundB then closed readOctet readNumber readTimes isAfter orderedFrom fileOf filled stored tenantsFrom storedScope storedState storedTable storableB fewOf leasesFitB countsFit fitsB refused accepted judged loaded loadedGot readFile rule19
+unfolding allHold ruleOf long largest sound form unsound server range scope lease tenants pool settings unnamed none name named en plain a b ab again row eight four upFrom sixteen pick allBy pairsBy allTo filterBy isIn sumTo bit offsetsFrom setOf readOffsets risesFrom orderOf sameOf laidOut tableOf byIdentifier unionAll addressesOf overlaps oneTo sizeB idB recordsB countsB rule1 belowB offsetsB rule2 rangeB rangesApart rule3 poolB poolsApart rule4 ttlB rule5 reserveB reservesB rule6 kindB periodB leaseB noneB tenantsB rule7 differ rule8 disjoint apart rule9 compatible rule10 limitB limitsB rule11 committed committedB rule12 zeroFrom paddedB blankB unusedB layoutB rangeZero tailB scopeZero settingsB rulesOf firstLate firstRule firstBroken brokenOf soundB then closed readOctet readNumber readTimes isAfter orderedFrom fileOf filled stored tenantsFrom storedScope storedState storedTable storableB fewOf leasesFitB countsFit fitsB refused accepted judged loaded loadedGot readFile rule19 sizesOk
 answers = refl
 
 -- ---- the book that a file gives, and what the writer answers to it
+-- a campus name in one language, and one of tenant 1's own in another
+specimenNames : List ℕ
+specimenNames = 1 ∷ 1 ∷ name 128 en (83 ∷ 116 ∷ 117 ∷ 100 ∷ 105 ∷ 111 ∷ []) ++ 1 ∷ name 0 (100 ∷ 101 ∷ []) (83 ∷ 101 ∷ 110 ∷ []) ++ 0 ∷ []
+
 -- the specimen after P3: tenant 2 has .0 and .1 until 4600, tenant 1 has .2 and .3 until 2000
 specimen : List ℕ
-specimen = settings ++ 2 ∷ lease 1 1 b 3 1000 2000 (2 ∷ 3 ∷ []) ++ plain 2 a (0 ∷ 1 ∷ [])
+specimen = settings ++ 2 ∷ lease 1 1 b 3 1000 2000 (2 ∷ 3 ∷ []) ++ plain 2 a (0 ∷ 1 ∷ []) ++ specimenNames
 
 specimenState : State
 specimenState = record {
@@ -244,17 +289,30 @@ specimenLease id end addresses = leaseWith 1 2 (id ++ replicate 30 0) 3 16909060
 specimenTable : LeaseTable
 specimenTable = tableOf ((specimenLease b 2000 12 ∷ []) ∷ (specimenLease a 4600 3 ∷ []) ∷ replicate 6 [])
 
-read-specimen : readFile specimen ≡ accepted specimenState specimenTable
-unfolding specimen specimenState specimenLease specimenTable server range scope lease tenants pool settings plain a b pick allBy pairsBy allTo filterBy isIn sumTo bit offsetsFrom setOf readOffsets risesFrom orderOf sameOf laidOut tableOf byIdentifier unionAll addressesOf overlaps oneTo sizeB idB recordsB countsB rule1 belowB offsetsB rule2 rangeB rangesApart rule3 poolB poolsApart rule4 ttlB rule5 reserveB reservesB rule6 kindB periodB leaseB noneB tenantsB rule7 differ rule8 disjoint apart rule9 compatible rule10 limitB limitsB rule11 committedB rule12 zeroFrom paddedB blankB unusedB layoutB rangeZero tailB scopeZero settingsB rule19 rulesOf firstLate firstRule firstBroken brokenOf soundB then closed readOctet readNumber readTimes isAfter orderedFrom fileOf filled stored tenantsFrom storedScope storedState storedTable storableB fewOf leasesFitB countsFit fitsB refused accepted judged loaded loadedGot readFile committed
-read-specimen = refl
+read-specimen : (readFile specimen ≡ accepted specimenState specimenTable) × (namesOf specimen ≡ specimenNames) × (namesOf (specimen ++ 0 ∷ []) ≡ [])
+unfolding specimen specimenNames specimenState specimenLease specimenTable server range scope lease tenants pool settings unnamed name en plain a b pick allBy pairsBy allTo filterBy isIn sumTo bit offsetsFrom setOf readOffsets risesFrom orderOf sameOf laidOut tableOf byIdentifier unionAll addressesOf overlaps oneTo sizeB idB recordsB countsB rule1 belowB offsetsB rule2 rangeB rangesApart rule3 poolB poolsApart rule4 ttlB rule5 reserveB reservesB rule6 kindB periodB leaseB noneB tenantsB rule7 differ rule8 disjoint apart rule9 compatible rule10 limitB limitsB rule11 committedB rule12 zeroFrom paddedB blankB unusedB layoutB rangeZero tailB scopeZero settingsB rule19 rulesOf firstLate firstRule firstBroken brokenOf soundB then closed readOctet readNumber readTimes isAfter orderedFrom fileOf filled stored tenantsFrom storedScope storedState storedTable storableB fewOf leasesFitB countsFit fitsB refused accepted judged loaded loadedGot readFile committed namesOf namesGot sizesOk
+read-specimen = (refl, refl, refl)
 
--- an exact room suffices, one octet less does not, and an unsound book comes before too little room
-write-specimen : (octetsOf specimenState specimenTable ≡ specimen)
-    × (writtenOf specimenState specimenTable 80 ≡ record { refusal = 0; length = 80 })
-    × (writtenOf specimenState specimenTable 79 ≡ record { refusal = 23; length = 0 })
-    × (writtenOf zeroState zeroTable 0 ≡ record { refusal = 22; length = 0 })
-    × (roomAfter specimenState specimenTable (replicate 82 9) ≡ specimen ++ 9 ∷ 9 ∷ [])
-    × (roomAfter specimenState specimenTable (replicate 79 9) ≡ replicate 79 9)
-    × (roomAfter zeroState zeroTable (9 ∷ []) ≡ 9 ∷ [])
-unfolding specimen specimenState specimenLease specimenTable server range scope lease tenants pool settings plain a b pick allBy pairsBy allTo filterBy isIn sumTo bit offsetsFrom setOf readOffsets risesFrom orderOf sameOf laidOut tableOf byIdentifier unionAll addressesOf overlaps oneTo sizeB idB recordsB countsB rule1 belowB offsetsB rule2 rangeB rangesApart rule3 poolB poolsApart rule4 ttlB rule5 reserveB reservesB rule6 kindB periodB leaseB noneB tenantsB rule7 differ rule8 disjoint apart rule9 compatible rule10 limitB limitsB rule11 committedB rule12 zeroFrom paddedB blankB unusedB layoutB rangeZero tailB scopeZero settingsB rule19 rulesOf firstLate firstRule firstBroken brokenOf soundB then closed readOctet readNumber readTimes isAfter orderedFrom fileOf filled stored tenantsFrom storedScope storedState storedTable storableB fewOf leasesFitB countsFit fitsB refused accepted judged loaded loadedGot readFile zeroTable octetsOf writtenOf roomAfter filedBook filedFrom filedScope pairUp filedLease writeAll committed
-write-specimen = (refl, refl, refl, refl, refl, refl, refl)
+-- the book with these names, or others
+bookWith : List ℕ → Book
+bookWith names = record { state = specimenState; table = specimenTable; names = names }
+
+zeroBook : Book
+zeroBook = record { state = zeroState; table = zeroTable; names = 0 ∷ [] }
+
+-- an exact room suffices, one octet less does not, and an unsound book and bad names come before too little room
+write-specimen : (octetsOf (bookWith specimenNames) ≡ specimen)
+    × (writtenOf (bookWith specimenNames) 103 ≡ record { refusal = 0; length = 103 })
+    × (writtenOf (bookWith specimenNames) 102 ≡ record { refusal = 23; length = 0 })
+    × (writtenOf zeroBook 0 ≡ record { refusal = 22; length = 0 })
+    × (roomAfter (bookWith specimenNames) (replicate 105 9) ≡ specimen ++ 9 ∷ 9 ∷ [])
+    × (roomAfter (bookWith specimenNames) (replicate 102 9) ≡ replicate 102 9)
+    × (roomAfter zeroBook (9 ∷ []) ≡ 9 ∷ [])
+    -- none at all, an octet more, no count of the scopes, flags 1
+    × (writtenOf (bookWith []) 103 ≡ record { refusal = 22; length = 0 })
+    × (writtenOf (bookWith (specimenNames ++ 0 ∷ [])) 0 ≡ record { refusal = 22; length = 0 })
+    × (writtenOf (bookWith (unnamed 2 2)) 103 ≡ record { refusal = 22; length = 0 })
+    × (writtenOf (bookWith (1 ∷ 1 ∷ name 1 en en ++ 0 ∷ 0 ∷ [])) 103 ≡ record { refusal = 22; length = 0 })
+    × (roomAfter (bookWith []) (replicate 105 9) ≡ replicate 105 9)
+unfolding specimen specimenNames specimenState specimenLease specimenTable server range scope lease tenants pool settings unnamed name en plain a b pick allBy pairsBy allTo filterBy isIn sumTo bit offsetsFrom setOf readOffsets risesFrom orderOf sameOf laidOut tableOf byIdentifier unionAll addressesOf overlaps oneTo sizeB idB recordsB countsB rule1 belowB offsetsB rule2 rangeB rangesApart rule3 poolB poolsApart rule4 ttlB rule5 reserveB reservesB rule6 kindB periodB leaseB noneB tenantsB rule7 differ rule8 disjoint apart rule9 compatible rule10 limitB limitsB rule11 committedB rule12 zeroFrom paddedB blankB unusedB layoutB rangeZero tailB scopeZero settingsB rule19 rulesOf firstLate firstRule firstBroken brokenOf soundB then closed readOctet readNumber readTimes isAfter orderedFrom fileOf filled stored tenantsFrom storedScope storedState storedTable storableB fewOf leasesFitB countsFit fitsB refused accepted judged loaded loadedGot readFile zeroTable octetsOf writtenOf roomAfter filedBook filedFrom filedScope pairUp filedLease writeAll committed bookWith zeroBook bookB namesB isWhole sizesOk
+write-specimen = (refl, refl, refl, refl, refl, refl, refl, refl, refl, refl, refl, refl)

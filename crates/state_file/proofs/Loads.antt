@@ -2,10 +2,10 @@
 use mathlib.Core.Bool.{Bool, false, true}
 use mathlib.Core.List.{List, [], map}
 use mathlib.Core.Path.{_∙_, _≡_, ap, ap₂, subst, sym}
-use Prim.Native.Nat.{_*_, _+_, _<_, _≤_, suc, zero, ℕ}
+use Prim.Native.Nat.{_*_, _+_, _-_, _<_, _≤_, suc, zero, ℕ}
 use native.Mathlib.Omega.{arith}
 use lib.ListN.{drop, getD, length, length-drop, replicate, take}
-use lib.Seq.{length-take-le}
+use lib.Seq.{length-take-le, take-all}
 use borrow.Author.Tests.{leb-true, ltb-false}
 use Rattle.format.specs.Place.{EachAt, row, walk}
 use Rattle.format.specs.Section.{InRow, Inside}
@@ -25,7 +25,7 @@ use Rattle.state_file.proofs.Fill.{eight-laid}
 use Rattle.state_file.proofs.ReadAgain.{both, neither}
 use Rattle.state_file.specs.Place.{AllStorable, Formed, FormedBy, LeasesIn, SettingsIn, StorableAt, fileAt, keptAll, fileLeaseAt, leasesAt, nextAt, rangeAt, fileScopeAt, scopesIn, sectionAt, stateAt, tenantCount}
 use Rattle.state_file.specs.Records.{countsFit, fewOf, filled, fitsB, leasesFitB, settingsFitB, storableB, storedScope, storedState, storedTable, tenantsFrom, zeroRange}
-use Rattle.state_file.specs.StateFile.{accepted, loadedGot, judged, loaded, readFile, refused, zeroTable, zeroState}
+use Rattle.state_file.specs.StateFile.{accepted, loadedGot, judged, loaded, namesGot, namesOf, readFile, refused, zeroTable, zeroState}
 use Rattle.state_file.specs.declared.Layout.{Layout}
 use Rattle.state_file.specs.declared.Layout.the-variants.{Right, Wrong}
 use Rattle.state_file.specs.declared.Loaded.{Loaded}
@@ -36,33 +36,33 @@ pub counts-few : (h k : ℕ) → countsFit h k ≡ true → (h ≤ 8) × (k ≤ 
 unfolding countsFit
 counts-few h k e = let p = neither _ _ e in (ltb-false 8 h (p .0), leb-true k 4 (p .1))
 
-module _ (s : List ℕ) (a b : ℕ) where
-  counts-same : settingsFitB (fileAt s a b) ≡ countsFit (getD s 9 0) (getD s a 0)
+module _ (s : List ℕ) (p : Places) where
+  counts-same : settingsFitB (fileAt s p) ≡ countsFit (getD s 9 0) (getD s (p .scopes) 0)
   unfolding fileAt
-  counts-same = ap₂ countsFit (walk-length rangeAt _ (tenantCount s) s 10) (walk-length (fileScopeAt (tenantCount s)) _ (getD s a 0) s (a + 1))
+  counts-same = ap₂ countsFit (walk-length rangeAt _ (tenantCount s) s 10) (walk-length (fileScopeAt (tenantCount s)) _ (getD s (p .scopes) 0) s (p .scopes + 1))
 
-  module _ {q : Bool} (e : q ≡ countsFit (getD s 9 0) (getD s a 0)) where
-    pub fits-yes : (r : Bool) → q ≡ true → r ≡ leasesFitB (sectionAt s b) → r ≡ fitsB (fileAt s a b)
+  module _ {q : Bool} (e : q ≡ countsFit (getD s 9 0) (getD s (p .scopes) 0)) where
+    pub fits-yes : (r : Bool) → q ≡ true → r ≡ leasesFitB (sectionAt s (p .leases)) → r ≡ fitsB (fileAt s p)
     unfolding fitsB fileAt pick
-    fits-yes r t p = p ∙ ap (λ (c : Bool). pick c (leasesFitB (sectionAt s b)) false) (sym t ∙ e ∙ sym counts-same)
+    fits-yes r t w = w ∙ ap (λ (c : Bool). pick c (leasesFitB (sectionAt s (p .leases))) false) (sym t ∙ e ∙ sym counts-same)
 
-    pub fits-not : q ≡ false → false ≡ fitsB (fileAt s a b)
+    pub fits-not : q ≡ false → false ≡ fitsB (fileAt s p)
     unfolding fitsB fileAt pick
-    fits-not t = ap (λ (c : Bool). pick c (leasesFitB (sectionAt s b)) false) (sym t ∙ e ∙ sym counts-same)
+    fits-not t = ap (λ (c : Bool). pick c (leasesFitB (sectionAt s (p .leases))) false) (sym t ∙ e ∙ sym counts-same)
 
   -- what the test of a file with the form says of its parts
-  module _ (v : Formed s a b) where
-    pub formed-counts : (9 < length s) × (a < length s)
+  module _ (v : Formed s p) where
+    pub formed-counts : (9 < length s) × (p .scopes < length s)
     formed-counts = let h = v .records .start in let t = v .tenants in let z = v .sizes in (omega arith, omega arith)
 
-    module _ {q : Bool} (e : q ≡ fitsB (fileAt s a b)) (t : q ≡ true) where
-      pub formed-settings : SettingsIn s a
+    module _ {q : Bool} (e : q ≡ fitsB (fileAt s p)) (t : q ≡ true) where
+      pub formed-settings : SettingsIn s (p .scopes)
       unfolding fitsB
       formed-settings =
           let c = counts-few _ _ (sym counts-same ∙ both _ _ (sym e ∙ t) .0) in
           record { tenants = v .tenants; few = c .0; four = c .1; room = let h = v .records .start in let z = v .sizes in omega arith }
 
-      pub formed-leases : leasesFitB (sectionAt s b) ≡ true
+      pub formed-leases : leasesFitB (sectionAt s (p .leases)) ≡ true
       unfolding fitsB fileAt
       formed-leases = both _ _ (sym e ∙ t) .1
 
@@ -168,24 +168,37 @@ module _ (s : State) (b : LeaseTable) (q : Bool) (e : q ≡ soundB s b) where
   unfolding judged pick
   judged-not r t p = p ∙ ap (λ (x : Bool). pick x (accepted s b) (refused 21)) (sym t ∙ e)
 
-module _ (s : List ℕ) (a b : ℕ) {q : Bool} (e : q ≡ fitsB (fileAt s a b)) where
-  pub loaded-yes : (x : State) (y : LeaseTable) (r : Loaded) → q ≡ true → x ≡ stateAt s a → y ≡ tableOf (tenantsFrom 1 8 (sectionAt s b)) → r ≡ judged x y → r ≡ loaded (fileAt s a b)
+module _ (s : List ℕ) (p : Places) {q : Bool} (e : q ≡ fitsB (fileAt s p)) where
+  pub loaded-yes : (x : State) (y : LeaseTable) (r : Loaded) → q ≡ true → x ≡ stateAt s (p .scopes) → y ≡ tableOf (tenantsFrom 1 8 (sectionAt s (p .leases))) → r ≡ judged x y → r ≡ loaded (fileAt s p)
   unfolding loaded pick storedState storedTable fileAt
-  loaded-yes x y r t ex ey er = er ∙ ap₂ judged ex ey ∙ ap (λ (c : Bool). pick c (judged (stateAt s a) (tableOf (tenantsFrom 1 8 (sectionAt s b)))) (refused 21)) (sym t ∙ e)
+  loaded-yes x y r t ex ey er = er ∙ ap₂ judged ex ey ∙ ap (λ (c : Bool). pick c (judged (stateAt s (p .scopes)) (tableOf (tenantsFrom 1 8 (sectionAt s (p .leases))))) (refused 21)) (sym t ∙ e)
 
-  pub loaded-not : (r : Loaded) → q ≡ false → r ≡ refused 21 → r ≡ loaded (fileAt s a b)
+  pub loaded-not : (r : Loaded) → q ≡ false → r ≡ refused 21 → r ≡ loaded (fileAt s p)
   unfolding loaded pick
-  loaded-not r t p = p ∙ ap (λ (c : Bool). pick c (judged (storedState (fileAt s a b)) (storedTable (fileAt s a b))) (refused 21)) (sym t ∙ e)
+  loaded-not r t w = w ∙ ap (λ (c : Bool). pick c (judged (storedState (fileAt s p)) (storedTable (fileAt s p))) (refused 21)) (sym t ∙ e)
 
 module _ (s : List ℕ) {l : Layout} (v : FormedBy s l) where
-  pub layout-right : {p : Places} → l ≡ Right p → Formed s (p .scopes) (p .leases)
+  pub layout-right : {p : Places} → l ≡ Right p → Formed s p
   unfolding FormedBy
   layout-right e = subst (FormedBy s) e v
 
-  pub read-yes : {p : Places} (r : Loaded) → l ≡ Right p → r ≡ loaded (fileAt s (p .scopes) (p .leases)) → r ≡ readFile s
+  pub read-yes : {p : Places} (r : Loaded) → l ≡ Right p → r ≡ loaded (fileAt s p) → r ≡ readFile s
   unfolding readFile loadedGot
   read-yes r e q = q ∙ sym (ap loadedGot (layout-right e .file))
 
   pub read-not : (r : Loaded) → l ≡ Wrong → r ≡ refused 20 → r ≡ readFile s
   unfolding readFile loadedGot FormedBy
   read-not r e q = q ∙ sym (ap loadedGot (subst (FormedBy s) e v))
+
+  -- the names, as a part of the octets
+  pub names-in : {p : Places} → l ≡ Right p → p .names ≤ length s
+  names-in e = layout-right e .last
+
+  pub names-yes : {p : Places} {n : ℕ} (r : List ℕ) → l ≡ Right p → n ≡ length s → r ≡ take (n - p .names) (drop (p .names) s) → r ≡ namesOf s
+  unfolding namesOf namesGot fileAt
+  names-yes {p} {n} r e m q =
+      q ∙ take-all (n - p .names) (drop (p .names) s) (let d = length-drop (p .names) s in omega arith) ∙ sym (ap namesGot (layout-right e .file))
+
+  pub names-not : (r : List ℕ) → l ≡ Wrong → r ≡ [] → r ≡ namesOf s
+  unfolding namesOf namesGot FormedBy
+  names-not r e q = q ∙ sym (ap namesGot (subst (FormedBy s) e v))

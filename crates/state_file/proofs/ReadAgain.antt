@@ -103,10 +103,10 @@ module _ (f : File) (h : fileFormat .ok f) (e : fitsB f ≡ true) where
   unfolding storedTable
   leases-filed =
       ap (filedFrom 1) (table-back (tenantsFrom 1 8 (f .leases)))
-      ∙ leases-again 8 (f .leases) (h .1 .1 .1 .1)
+      ∙ leases-again 8 (f .leases) (h .1 .1 .1 .0 .1)
       (two-facts Fits Fits (λ x. 1 ≤ x .tenant) (f .leases) (λ x v w. v .from) leases-facts leases-facts)
       (two-facts Fits Fits (λ x. x .tenant < 1 + 8) (f .leases) (λ x v w. v .to) leases-facts leases-facts)
-      (two-facts Fits (leaseFormat .ok) StorableAt (f .leases) storable-of leases-facts (h .1 .1 .1 .0 .1))
+      (two-facts Fits (leaseFormat .ok) StorableAt (f .leases) storable-of leases-facts (h .1 .1 .1 .0 .0 .1))
 
   ranges-filed : rangesOf (storedState f) ≡ f .tenants
   unfolding storedState
@@ -118,9 +118,9 @@ module _ (f : File) (h : fileFormat .ok f) (e : fitsB f ≡ true) where
       ap (map (filedScope (length (f .tenants)))) (ap (λ (k : ℕ). take k (filled zeroScope 4 (map storedScope (f .scopes)))) (sym (length-map (f .scopes) storedScope)) ∙ filled-take zeroScope 4 (map storedScope (f .scopes)))
       ∙ scopes-again (length (f .tenants)) (f .scopes) (h .1 .1 .0 .1)
 
-  pub book-again : filedBook (storedState f) (storedTable f) ≡ f
+  pub book-again : filedBook (record { state = storedState f; table = storedTable f; names = f .names }) ≡ f
   unfolding filedBook storedState
   book-again = ap₂ (λ (ts : List ClientRange) (cs : List FileScope). make ts cs (filedFrom 1 (leasesOf (storedTable f)))) ranges-filed scopes-filed ∙ ap (make (f .tenants) (f .scopes)) leases-filed
     where
       make : List ClientRange → List FileScope → List FileLease → File
-      make ts cs ls = record { server = f .server; clock = f .clock; tenants = ts; scopes = cs; leases = ls }
+      make ts cs ls = record { server = f .server; clock = f .clock; tenants = ts; scopes = cs; leases = ls; names = f .names }

@@ -1,5 +1,5 @@
--- Proof of the round trips: a file that is accepted, read and written again has the same octets; a sound book, written and read again, is the
--- same book, so that what the writer writes is always accepted.
+-- Proof of the round trips: a file that is accepted, read and written again has the same octets; a sound book with good names, written and read
+-- again, is the same book, so that what the writer writes is always accepted.
 use mathlib.Core.Bool.{Bool, false, true}
 use mathlib.Core.List.{List, [], _++_, _∷_}
 use mathlib.Core.Path.{_∙_, _≡_, ap, ap₂, refl, subst, sym}
@@ -9,21 +9,30 @@ use lib.Dec.{leb, ltb}
 use lib.ListN.{drop, length, take}
 use lib.Seq.{take-append-seam}
 use borrow.Author.Tests.{le-ltb}
+use Rattle.format.specs.Format.{Got, Octets, bad, closed, got}
 use Rattle.lists.specs.Pick.{pick}
+use Rattle.names.specs.Names.{namesB}
+use Rattle.soundness.specs.Named.{bookB}
 use Rattle.soundness.specs.Sound.{soundB}
+use Rattle.soundness.specs.laws.Named.{book-named, book-sound, both-book}
+use Rattle.state.specs.Book.{Book}
 use Rattle.state.specs.declared.LeaseTable.{LeaseTable}
 use Rattle.state.specs.declared.State.{State}
 use Rattle.state_file.proofs.ReadAgain.{book-again}
+use Rattle.state_file.proofs.Short.{names-few, sound-short}
 use Rattle.state_file.proofs.WriteAgain.{book-fits, book-ok, state-same, table-same}
-use Rattle.state_file.specs.File.{longestFile, File, fileFormat, fileOf}
-use Rattle.state_file.proofs.Short.{sound-short}
+use Rattle.state_file.specs.File.{File, fileFormat, fileLimit, fileOf, longestFile}
 use Rattle.state_file.specs.laws.File.{file-reads, file-written}
-use Rattle.format.specs.Format.{Got, bad, closed, got, Octets}
+use Rattle.state_file.specs.laws.Local.{file-names}
 use Rattle.state_file.specs.Records.{filedBook, fitsB, storedState, storedTable}
-use Rattle.state_file.specs.StateFile.{accepted, loadedGot, judged, loaded, octetsOf, readFile, refused, roomAfter, writtenOf}
+use Rattle.state_file.specs.StateFile.{accepted, judged, loaded, loadedGot, namesGot, namesOf, octetsOf, readFile, refused, roomAfter, writtenOf}
 use Rattle.state_file.specs.Typed.{Typed}
 use Rattle.state_file.specs.declared.Loaded.{Loaded}
 use Rattle.state_file.specs.declared.Written.{Written}
+
+-- the book of its parts
+abbrev with : State → LeaseTable → List ℕ → Book
+with s b names = record { state = s; table = b; names = names }
 
 -- an accepted answer is a sound file's
 refused-not : {A : Type 0} (n : ℕ) (s : State) (b : LeaseTable) → 0 < n → refused n ≡ accepted s b → A
@@ -47,90 +56,117 @@ loaded-is f t c e = go (fitsB f) refl e
     go false p e = refused-not 21 t c (omega arith) e
 
 -- nothing is left over
-file-whole : (s : List ℕ) (f : File) (r : List ℕ) → fileOf s ≡ got f r → fileOf s ≡ got f []
+file-whole : (s : List ℕ) (f : File) (r : List ℕ) → fileOf s ≡ got f r → (fileOf s ≡ got f []) × (closed (fileFormat .read s) ≡ got f [])
 unfolding fileOf pick closed
-file-whole s f r e = go (leb (length s) longestFile) (fileFormat .read s) e
+file-whole s f r e = go (leb (length s) fileLimit) (fileFormat .read s) e
   where
-    go : (b : Bool) (g : Got File) → pick b (closed g) bad ≡ got f r → pick b (closed g) bad ≡ got f []
-    go true (got x []) e = cc
+    go : (b : Bool) (g : Got File) → pick b (closed g) bad ≡ got f r → (pick b (closed g) bad ≡ got f []) × (closed g ≡ got f [])
+    go true (got x []) e = let p : x ≡ f = cc in (ap (λ (y : File). got y []) p, ap (λ (y : File). got y []) p)
     go true (got x (y ∷ l)) e = let z : _≡_ {A = ℕ} 0 1 = cc in absurd (omega arith)
     go true bad e = let z : _≡_ {A = ℕ} 0 1 = cc in absurd (omega arith)
     go false g e = let z : _≡_ {A = ℕ} 0 1 = cc in absurd (omega arith)
 
-again : (f : File) (st : State) (tb : LeaseTable) → storedState f ≡ st → storedTable f ≡ tb → fileFormat .ok f → fitsB f ≡ true → octetsOf st tb ≡ fileFormat .write f
+-- the names of a file are good for its settings
+names-good : (s : List ℕ) (f : File) (r : List ℕ) → fileOf s ≡ got f r → namesB (storedState f .«scope_count») (storedState f .«tenant_count») (f .names) ≡ true
+unfolding storedState
+names-good s f r e = file-names s f [] (file-whole s f r e .1)
+
+again : (f : File) (st : State) (tb : LeaseTable) → storedState f ≡ st → storedTable f ≡ tb → fileFormat .ok f → fitsB f ≡ true → octetsOf (with st tb (f .names)) ≡ fileFormat .write f
 unfolding octetsOf
-again f st tb es eb ok fit = ap₂ (λ (x : State) (y : LeaseTable). fileFormat .write (filedBook x y)) (sym es) (sym eb) ∙ ap (fileFormat .write) (book-again f ok fit)
+again f st tb es eb ok fit = ap₂ (λ (x : State) (y : LeaseTable). fileFormat .write (filedBook (with x y (f .names)))) (sym es) (sym eb) ∙ ap (fileFormat .write) (book-again f ok fit)
 
--- the book of octets that are accepted is sound
-pub read-sound : (s : List ℕ) → readFile s .refusal ≡ 0 → soundB (readFile s .state) (readFile s .table) ≡ true
-unfolding readFile loadedGot loaded judged accepted refused pick
-read-sound s e = go (fileOf s) e
+-- the book of octets that are accepted, with the names in them, is sound
+pub read-sound : (s : List ℕ) → readFile s .refusal ≡ 0 → bookB (record { state = readFile s .state; table = readFile s .table; names = namesOf s }) ≡ true
+unfolding readFile loadedGot loaded judged accepted refused pick namesOf namesGot
+read-sound s e = go (fileOf s) refl e
   where
-    kept : (f : File) (p q : Bool) → soundB (storedState f) (storedTable f) ≡ q → pick p (pick q (accepted (storedState f) (storedTable f)) (refused 21)) (refused 21) .refusal ≡ 0
-        → soundB (pick p (pick q (accepted (storedState f) (storedTable f)) (refused 21)) (refused 21) .state) (pick p (pick q (accepted (storedState f) (storedTable f)) (refused 21)) (refused 21) .table) ≡ true
-    kept f true true v e = v
-    kept f true false v e = absurd (omega arith)
-    kept f false q v e = absurd (omega arith)
+    kept : (f : File) (p q : Bool) → soundB (storedState f) (storedTable f) ≡ q → namesB (storedState f .«scope_count») (storedState f .«tenant_count») (f .names) ≡ true
+        → pick p (pick q (accepted (storedState f) (storedTable f)) (refused 21)) (refused 21) .refusal ≡ 0
+        → bookB (with (pick p (pick q (accepted (storedState f) (storedTable f)) (refused 21)) (refused 21) .state) (pick p (pick q (accepted (storedState f) (storedTable f)) (refused 21)) (refused 21) .table) (f .names)) ≡ true
+    kept f true true v w e = both-book (with (storedState f) (storedTable f) (f .names)) v w
+    kept f true false v w e = absurd (omega arith)
+    kept f false q v w e = absurd (omega arith)
 
-    go : (g : Got File) → loadedGot g .refusal ≡ 0 → soundB (loadedGot g .state) (loadedGot g .table) ≡ true
-    go bad e = absurd (omega arith)
-    go (got f r) e = kept f (fitsB f) (soundB (storedState f) (storedTable f)) refl e
+    go : (g : Got File) → fileOf s ≡ g → loadedGot g .refusal ≡ 0 → bookB (with (loadedGot g .state) (loadedGot g .table) (namesGot g)) ≡ true
+    go bad p e = absurd (omega arith)
+    go (got f r) p e = kept f (fitsB f) (soundB (storedState f) (storedTable f)) refl (names-good s f r p) e
+
+-- so its names have no more octets than four scopes' and eight houses' can
+pub names-short : (s : List ℕ) → readFile s .refusal ≡ 0 → length (namesOf s) ≤ 6229
+names-short s e = names-few (record { state = readFile s .state; table = readFile s .table; names = namesOf s }) (read-sound s e)
 
 -- and its octets are those
-pub read-write : (s : List ℕ) (st : State) (tb : LeaseTable) → Octets s → readFile s ≡ accepted st tb → (soundB st tb ≡ true) × (octetsOf st tb ≡ s)
-unfolding readFile loadedGot
+pub read-write : (s : List ℕ) (st : State) (tb : LeaseTable) → Octets s → readFile s ≡ accepted st tb
+    → (bookB (record { state = st; table = tb; names = namesOf s }) ≡ true) × (octetsOf (record { state = st; table = tb; names = namesOf s }) ≡ s)
+unfolding readFile loadedGot namesOf namesGot
 read-write s st tb o e = go (fileOf s) refl e
   where
-    go : (g : Got File) → fileOf s ≡ g → loadedGot g ≡ accepted st tb → (soundB st tb ≡ true) × (octetsOf st tb ≡ s)
+    go : (g : Got File) → fileOf s ≡ g → loadedGot g ≡ accepted st tb → (bookB (with st tb (namesGot g)) ≡ true) × (octetsOf (with st tb (namesGot g)) ≡ s)
     go bad p e = refused-not 20 st tb (omega arith) e
     go (got f r) p e =
         let (fit, j) = loaded-is f st tb e in
         let (sound, es, eb) = judged-is (storedState f) st (storedTable f) tb j in
-        let (ok, w, short) = file-reads s f o (file-whole s f r p) in
-        (sym (ap₂ soundB es eb) ∙ sound, again f st tb es eb ok fit ∙ sym w)
+        let (ok, w, short) = file-reads s f o (file-whole s f r p .0) in (
+          both-book (with st tb (f .names)) (sym (ap₂ soundB es eb) ∙ sound)
+              (subst (λ (x : State). namesB (x .«scope_count») (x .«tenant_count») (f .names) ≡ true) es (names-good s f r p)),
+          again f st tb es eb ok fit ∙ sym w,
+        )
 
 -- so the writer gives them back, in any room that they fit
-pub read-written : (s room : List ℕ) (st : State) (tb : LeaseTable) → Octets s → readFile s ≡ accepted st tb → length s ≤ length room
-    → (writtenOf st tb (length room) ≡ record { refusal = 0; length = length s }) × (roomAfter st tb room ≡ s ++ drop (length s) room)
-unfolding writtenOf roomAfter pick
-read-written s room st tb o e h =
-    let (p, w) = read-write s st tb o e in
-    let k : ltb (length room) (length (octetsOf st tb)) ≡ false = le-ltb _ _ (subst (λ (x : List ℕ). length x ≤ length room) (sym w) h) in (
-      ap₂ (λ (x y : Bool). pick x (pick y (record { refusal = 23; length = 0 }) (record { refusal = 0; length = length (octetsOf st tb) })) (record { refusal = 22; length = 0 })) p k
-          ∙ ap {B = Written} (λ (x : List ℕ). record { refusal = 0; length = length x }) w,
-      ap₂ (λ (x y : Bool). pick x (pick y room (octetsOf st tb ++ drop (length (octetsOf st tb)) room)) room) p k
-          ∙ ap (λ (x : List ℕ). x ++ drop (length x) room) w,
-    )
+module _ (s room : List ℕ) (st : State) (tb : LeaseTable) (o : Octets s) (e : readFile s ≡ accepted st tb) (h : length s ≤ length room) where
+  b : Book
+  b = record { state = st; table = tb; names = namesOf s }
 
-short : (st : State) (tb : LeaseTable) → length (tb .tenants) ≡ 8 → soundB st tb ≡ true → length (fileFormat .write (filedBook st tb)) ≤ longestFile
-unfolding octetsOf
-short st tb v e = sound-short st tb (omega arith) e
+  pub read-written : (writtenOf (record { state = st; table = tb; names = namesOf s }) (length room) ≡ record { refusal = 0; length = length s })
+      × (roomAfter (record { state = st; table = tb; names = namesOf s }) room ≡ s ++ drop (length s) room)
+  unfolding writtenOf roomAfter pick b
+  read-written =
+      let (p, w) = read-write s st tb o e in
+      let k : ltb (length room) (length (octetsOf b)) ≡ false = le-ltb _ _ (subst (λ (x : List ℕ). length x ≤ length room) (sym w) h) in (
+        ap₂ (λ (x y : Bool). pick x (pick y (record { refusal = 23; length = 0 }) (record { refusal = 0; length = length (octetsOf b) })) (record { refusal = 22; length = 0 })) p k
+            ∙ ap {B = Written} (λ (x : List ℕ). record { refusal = 0; length = length x }) w,
+        ap₂ (λ (x y : Bool). pick x (pick y room (octetsOf b ++ drop (length (octetsOf b)) room)) room) p k
+            ∙ ap (λ (x : List ℕ). x ++ drop (length x) room) w,
+      )
 
 -- a sound book's octets are accepted, and give the book
-pub write-read : (st : State) (tb : LeaseTable) → Typed st tb → soundB st tb ≡ true → readFile (octetsOf st tb) ≡ accepted st tb
-unfolding readFile loadedGot loaded judged octetsOf pick
-write-read st tb v e =
-    ap loadedGot (file-written (filedBook st tb) (book-ok st tb v e) (short st tb (v .tenants) e))
-    ∙ ap (λ (x : Bool). pick x (judged (storedState (filedBook st tb)) (storedTable (filedBook st tb))) (refused 21)) (book-fits st tb v e)
-    ∙ ap₂ judged (state-same st tb v e) (table-same st tb v e)
-    ∙ ap (λ (x : Bool). pick x (accepted st tb) (refused 21)) e
+module _ (b : Book) (v : Typed (b .state) (b .table)) (o : Octets (b .names)) where
+  file-is : bookB b ≡ true → fileOf (octetsOf b) ≡ got (filedBook b) []
+  unfolding octetsOf
+  file-is e =
+      file-written (filedBook b) (book-ok (b .state) (b .table) v (book-sound b e) (b .names) o (book-named b e))
+      (let k : length (octetsOf b) ≤ longestFile = sound-short b (let t = v .tenants in omega arith) e in omega arith)
 
--- so is what the writer leaves in a room
-pub written-read : (st : State) (tb : LeaseTable) (room : List ℕ) → Typed st tb → writtenOf st tb (length room) .refusal ≡ 0
-    → readFile (take (writtenOf st tb (length room) .length) (roomAfter st tb room)) ≡ accepted st tb
-unfolding writtenOf roomAfter pick
-written-read st tb room v e = go (soundB st tb) refl (ltb (length room) (length (octetsOf st tb))) e
-  where
-    go : (p : Bool) → soundB st tb ≡ p → (q : Bool)
-        → pick {A = Written} p (pick q (record { refusal = 23; length = 0 }) (record { refusal = 0; length = length (octetsOf st tb) })) (record { refusal = 22; length = 0 }) .refusal ≡ 0
-        → readFile (take (pick {A = Written} p (pick q (record { refusal = 23; length = 0 }) (record { refusal = 0; length = length (octetsOf st tb) })) (record { refusal = 22; length = 0 }) .length) (pick p (pick q room (octetsOf st tb ++ drop (length (octetsOf st tb)) room)) room)) ≡ accepted st tb
-    go true a true e = absurd (omega arith)
-    go true a false e = ap readFile (take-append-seam (octetsOf st tb) (drop (length (octetsOf st tb)) room)) ∙ write-read st tb v a
-    go false a q e = absurd (omega arith)
+  pub write-read : bookB b ≡ true → (readFile (octetsOf b) ≡ accepted (b .state) (b .table)) × (namesOf (octetsOf b) ≡ b .names)
+  unfolding readFile loadedGot loaded judged namesOf namesGot filedBook pick
+  write-read e =
+      let q = book-sound b e in (
+        ap loadedGot (file-is e)
+            ∙ ap (λ (x : Bool). pick x (judged (storedState (filedBook b)) (storedTable (filedBook b))) (refused 21)) (book-fits (b .state) (b .table) v q (b .names))
+            ∙ ap₂ judged (state-same (b .state) (b .table) v q (b .names)) (table-same (b .state) (b .table) v q (b .names))
+            ∙ ap (λ (x : Bool). pick x (accepted (b .state) (b .table)) (refused 21)) q,
+        ap namesGot (file-is e),
+      )
 
--- and in a room for the largest file the writer refuses no sound book of eight tenants' records
-pub never-refused : (st : State) (tb : LeaseTable) (n : ℕ) → length (tb .tenants) ≡ 8 → soundB st tb ≡ true → longestFile ≤ n → writtenOf st tb n ≡ record { refusal = 0; length = length (octetsOf st tb) }
+  -- so is what the writer leaves in a room
+  pub written-read : (room : List ℕ) → writtenOf b (length room) .refusal ≡ 0
+      → (readFile (take (writtenOf b (length room) .length) (roomAfter b room)) ≡ accepted (b .state) (b .table)) × (namesOf (take (writtenOf b (length room) .length) (roomAfter b room)) ≡ b .names)
+  unfolding writtenOf roomAfter pick
+  written-read room e = go (bookB b) refl (ltb (length room) (length (octetsOf b))) e
+    where
+      Gives : List ℕ → Type 0
+      Gives l = (readFile l ≡ accepted (b .state) (b .table)) × (namesOf l ≡ b .names)
+
+      go : (p : Bool) → bookB b ≡ p → (q : Bool)
+          → pick {A = Written} p (pick q (record { refusal = 23; length = 0 }) (record { refusal = 0; length = length (octetsOf b) })) (record { refusal = 22; length = 0 }) .refusal ≡ 0
+          → Gives (take (pick {A = Written} p (pick q (record { refusal = 23; length = 0 }) (record { refusal = 0; length = length (octetsOf b) })) (record { refusal = 22; length = 0 }) .length) (pick p (pick q room (octetsOf b ++ drop (length (octetsOf b)) room)) room))
+      go true a true e = absurd (omega arith)
+      go true a false e = subst Gives (sym (take-append-seam (octetsOf b) (drop (length (octetsOf b)) room))) (write-read a)
+      go false a q e = absurd (omega arith)
+
+-- and in a room for the longest file the writer refuses no sound book of eight tenants' records
+pub never-refused : (b : Book) (n : ℕ) → length (b .table .tenants) ≡ 8 → bookB b ≡ true → longestFile ≤ n → writtenOf b n ≡ record { refusal = 0; length = length (octetsOf b) }
 unfolding writtenOf pick
-never-refused st tb n v e h =
-    ap₂ (λ (x y : Bool). pick x (pick y (record { refusal = 23; length = 0 }) (record { refusal = 0; length = length (octetsOf st tb) })) (record { refusal = 22; length = 0 }))
-    e (le-ltb n (length (octetsOf st tb)) (let k = sound-short st tb (omega arith) e in omega arith))
+never-refused b n v e h =
+    ap₂ (λ (x y : Bool). pick x (pick y (record { refusal = 23; length = 0 }) (record { refusal = 0; length = length (octetsOf b) })) (record { refusal = 22; length = 0 }))
+    e (le-ltb n (length (octetsOf b)) (let k = sound-short b (omega arith) e in omega arith))

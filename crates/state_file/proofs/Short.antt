@@ -1,4 +1,5 @@
--- Laws: a sound book's file has at most 14,628 octets: whatever its records hold, what is written of them is cut by counts that soundness bounds.
+-- Laws: a sound book's file has at most 20,857 octets: whatever its records hold, what is written of them is cut by counts that soundness bounds, and
+-- names are good.
 use mathlib.Core.Bool.{_&&_, true}
 use mathlib.Core.List.{List, [], _++_, _∷_, map}
 use mathlib.Core.Path.{_≡_, refl}
@@ -13,9 +14,12 @@ use Rattle.address_set.specs.laws.Bits.{length-offsets}
 use Rattle.lists.specs.laws.All.{all-head}
 use Rattle.lists.specs.All.{allBy}
 use Rattle.lists.specs.laws.Both.{and-parts}
+use Rattle.names.specs.laws.Names.{names-most}
 use Rattle.soundness.specs.laws.Book.{rules-of}
+use Rattle.soundness.specs.laws.Named.{book-named, book-sound}
+use Rattle.soundness.specs.Named.{bookB}
 use Rattle.soundness.specs.Sound.{countsB, oneTo, idB, recordsB, rule1, rulesOf, sizeB, soundB}
-use Rattle.state.specs.Book.{inUse, rangesOf, scopesOf}
+use Rattle.state.specs.Book.{Book, inUse, rangesOf, scopesOf}
 use Rattle.state.specs.declared.ClientRange.{ClientRange}
 use Rattle.state.specs.declared.Lease.{Lease}
 use Rattle.state.specs.declared.LeaseTable.{LeaseTable}
@@ -93,17 +97,35 @@ tenants-most t (x ∷ ts) e =
     let ih = tenants-most (suc t) ts (p .1) in
     omega arith
 
--- ---- the book: 9 octets of the server, 65 of the tenants, 89 of the scopes, 14,465 of the leases
-pub sound-short : (s : State) (b : LeaseTable) → length (b .tenants) ≤ 8 → soundB s b ≡ true → length (octetsOf s b) ≤ longestFile
+-- ---- how many houses and scopes a sound book has
+counts-most : (s : State) (b : LeaseTable) → soundB s b ≡ true → (s .«tenant_count» ≤ 8) × (s .«scope_count» ≤ 4)
+unfolding rulesOf rule1 countsB oneTo
+counts-most s b v =
+    let p = and-parts (countsB s) (allBy recordsB (b .tenants)) (rules-of s b v .limits) in
+    let q = and-parts (oneTo 8 (s .«tenant_count»)) (oneTo 4 (s .«scope_count») && allBy sizeB (scopesOf s)) (p .0) in (
+      leb-true (s .«tenant_count») 8 (and-parts (leb 1 (s .«tenant_count»)) (leb (s .«tenant_count») 8) (q .0) .1),
+      leb-true (s .«scope_count») 4 (and-parts (leb 1 (s .«scope_count»)) (leb (s .«scope_count») 4) (and-parts (oneTo 4 (s .«scope_count»)) (allBy sizeB (scopesOf s)) (q .1) .0) .1),
+    )
+
+-- and how many octets its names have
+pub names-few : (b : Book) → bookB b ≡ true → length (b .names) ≤ 6229
+names-few b v =
+    let n = counts-most (b .state) (b .table) (book-sound b v) in
+    names-most (b .state .«scope_count») (b .state .«tenant_count») (b .names) (n .1) (n .0) (book-named b v)
+
+-- ---- the book: 9 octets of the server, 65 of the tenants, 89 of the scopes, 14,465 of the leases, 6,229 of the names
+pub sound-short : (b : Book) → length (b .table .tenants) ≤ 8 → bookB b ≡ true → length (octetsOf b) ≤ longestFile
 unfolding octetsOf filedBook rulesOf rule1 countsB oneTo
-sound-short s b eight e =
-    let p = and-parts (countsB s) (allBy recordsB (b .tenants)) (rules-of s b e .limits) in
-    let q = and-parts (oneTo 8 (s .«tenant_count»)) (oneTo 4 (s .«scope_count») && allBy sizeB (scopesOf s)) (p .0) in
-    let n = leb-true (s .«tenant_count») 8 (and-parts (leb 1 (s .«tenant_count»)) (leb (s .«tenant_count») 8) (q .0) .1) in
-    let m = leb-true (s .«scope_count») 4 (and-parts (leb 1 (s .«scope_count»)) (leb (s .«scope_count») 4) (and-parts (oneTo 4 (s .«scope_count»)) (allBy sizeB (scopesOf s)) (q .1) .0) .1) in
+sound-short k eight v =
+    let s : State = k .state in
+    let b : LeaseTable = k .table in
+    let p = and-parts (countsB s) (allBy recordsB (b .tenants)) (rules-of s b (book-sound k v) .limits) in
+    let n = counts-most s b (book-sound k v) .0 in
+    let m = counts-most s b (book-sound k v) .1 in
     let r = all-most (tenantFormat .write) 8 (λ (x : ClientRange). omega arith) (rangesOf s) in
     let c = scopes-most (s .«tenant_count») (length (rangesOf s)) (scopesOf s) n in
     let l = tenants-most 1 (b .tenants) (p .1) in
     let i = length-take (s .«tenant_count») (s .tenants) in
     let j = length-take (s .«scope_count») (s .scopes) in
+    let w = names-few k v in
     simp length-append (omega arith)

@@ -1,7 +1,7 @@
 -- Laws: a sound book's file is one that the records can hold, and its records are the book's.
 use mathlib.Core.Bool.{Bool, _&&_, false, true}
-use mathlib.Core.List.{List, [], _++_, _∷_, map}
-use mathlib.Core.Path.{_∙_, _≡_, ap, ap₂, refl, sym}
+use mathlib.Core.List.{List, [], _++_, _∷_, append-nil, map}
+use mathlib.Core.Path.{_∙_, _≡_, ap, ap₂, refl, subst, sym}
 use Prim.Native.Nat.{_*_, _+_, _-_, _<_, _≤_, min, suc, zero, ℕ}
 use native.Mathlib.Omega.{arith}
 use lib.Dec.{eqb, leb, ltb}
@@ -11,12 +11,16 @@ use borrow.Author.Tests.{eqb-true, le-leb, le-ltb, leb-true, lt-ltb, ne-eqb}
 use Rattle.address_set.specs.AddressSet.{offsets}
 use Rattle.address_set.specs.laws.Bits.{length-offsets}
 use Rattle.address_set.specs.laws.Offsets.{offsets-small, rises-offsets}
-use Rattle.format.specs.Section.{orderedFrom}
+use Rattle.format.specs.Format.{Got, Octets, bad, got}
+use Rattle.format.specs.Place.{isWhole}
+use Rattle.format.specs.Section.{orderedFrom, verbatim}
 use Rattle.identifier.specs.Order.{orderOf}
 use Rattle.lists.specs.All.{All, allBy, allTo, pairsBy}
 use Rattle.lists.specs.laws.All.{all-append, all-cons, all-head, each-to, pairs-head}
 use Rattle.lists.specs.laws.Both.{and-parts}
 use Rattle.lists.specs.Pick.{pick}
+use Rattle.names.specs.Names.{Name, namesB, namesFormat}
+use Rattle.names.specs.laws.Names.{names-lawful}
 use Rattle.soundness.specs.laws.Book.{AllRules, rules-of}
 use Rattle.soundness.specs.Sound.{blankB, countsB, oneTo, idB, layoutB, paddedB, rangeZero, recordsB, rule1, rule19, rulesOf, scopeZero, settingsB, sizeB, soundB, tailB, unusedB, zeroFrom}
 use Rattle.state.specs.Book.{byIdentifier, idOf, inUse, laidOut, leaseWith, leasesOf, ordered, rangesOf, scopesOf, tableOf, zeroLease, zeroScope}
@@ -28,7 +32,7 @@ use Rattle.state.specs.declared.State.{State}
 use Rattle.state.specs.declared.TenantLeases.{TenantLeases}
 use Rattle.state_file.proofs.ReadAgain.{all-facts, two-facts}
 use Rattle.state_file.proofs.RowLaws.{pair-length}
-use Rattle.state_file.specs.File.{FileLease, fileFormat, isAfter, leaseFormat, partFormat, scopeFormat, tenantFormat}
+use Rattle.state_file.specs.File.{File, FileLease, fileFormat, isAfter, leaseFormat, partFormat, scopeFormat, tenantFormat}
 use Rattle.state_file.specs.laws.Records.{Neat, filled-back}
 use Rattle.state_file.specs.Records.{countsFit, fewOf, filedLease, filedBook, filedFrom, filedScope, filled, fitsB, isOffset, leasesFitB, ofTenant, pairUp, storableB, stored, storedScope, storedState, storedTable, tenantsFrom, zeroRange}
 use Rattle.state_file.specs.laws.File.{leasesFrom}
@@ -395,8 +399,22 @@ picked : (b : Bool) (c : Bool) → b ≡ true → pick true b c ≡ true
 unfolding pick
 picked b c e = e
 
+-- ---- names
+-- good names are a section's octets
+names-ok : (k h m n : ℕ) (names : List ℕ) → k ≡ m → h ≡ n → Octets names → namesB k h names ≡ true → verbatim (namesFormat m n) .ok names
+unfolding namesB isWhole
+names-ok k h m n names ek eh o e = subst (λ (x : ℕ). verbatim (namesFormat x n) .ok names) ek (subst (λ (x : ℕ). verbatim (namesFormat k x) .ok names) eh (go (namesFormat k h .read names) refl e))
+  where
+    go : (g : Got (List (List (List Name)))) → namesFormat k h .read names ≡ g → isWhole g ≡ true → verbatim (namesFormat k h) .ok names
+    go (got x []) p w = let (q, r) = names-lawful k h .reads names x [] o p in (x, q, r ∙ append-nil (namesFormat k h .write x))
+    go (got x (y ∷ r)) p w = let z : _≡_ {A = ℕ} 0 1 = cc in absurd (omega arith)
+    go bad p w = let z : _≡_ {A = ℕ} 0 1 = cc in absurd (omega arith)
+
 -- ---- the book
-module _ (s : State) (b : LeaseTable) (v : Typed s b) (e : soundB s b ≡ true) where
+module _ (s : State) (b : LeaseTable) (v : Typed s b) (e : soundB s b ≡ true) (names : List ℕ) where
+  abbrev filed : File
+  filed = filedBook (record { state = s; table = b; names = names })
+
   rules : AllRules (rulesOf s b)
   rules = rules-of s b e
 
@@ -439,9 +457,9 @@ module _ (s : State) (b : LeaseTable) (v : Typed s b) (e : soundB s b ≡ true) 
   leases-total : length (filedFrom 1 (leasesOf b)) ≤ 128
   leases-total = let m = leases-many 1 (b .tenants) good in omega (arith, v .tenants)
 
-  pub book-ok : fileFormat .ok (filedBook s b)
+  pub book-ok : Octets names → namesB (s .«scope_count») (s .«tenant_count») names ≡ true → fileFormat .ok filed
   unfolding filedBook
-  book-ok =
+  book-ok o good-names =
       let t = leases-total in
       let n = tenants-few in let m = scopes-few in
       let a = ranges-many in let c = scopes-many in
@@ -451,7 +469,10 @@ module _ (s : State) (b : LeaseTable) (v : Typed s b) (e : soundB s b ≡ true) 
           (let g : length (rangesOf s) < 256 = omega arith in g, ranges-ok),
           (
             (let g : length (map (filedScope (s .«tenant_count»)) (scopesOf s)) < 256 = omega arith in g, scopes-ok),
-            ((let g : length (filedFrom 1 (leasesOf b)) < 256 = omega arith in g, leases-ok 1 (b .tenants) (omega (arith, v .tenants)) good), leases-ordered 0 1 [] (b .tenants) (omega arith) good),
+            (
+              ((let g : length (filedFrom 1 (leasesOf b)) < 256 = omega arith in g, leases-ok 1 (b .tenants) (omega (arith, v .tenants)) good), leases-ordered 0 1 [] (b .tenants) (omega arith) good),
+              names-ok (s .«scope_count») (s .«tenant_count») _ _ names (sym (d ∙ c)) (sym a) o good-names,
+            ),
           ),
         ),
       )
@@ -479,7 +500,7 @@ module _ (s : State) (b : LeaseTable) (v : Typed s b) (e : soundB s b ≡ true) 
       let q = leases-few i (b .tenants) good in
       le-leb _ _ (let g : length (ofTenant (i + 1) (filedFrom 1 (leasesOf b))) ≤ 16 = omega arith in g)
 
-  pub book-fits : fitsB (filedBook s b) ≡ true
+  pub book-fits : fitsB (filed) ≡ true
   unfolding fitsB filedBook leasesFitB countsFit
   book-fits =
       let n = tenants-few in let m = scopes-few in
@@ -493,7 +514,7 @@ module _ (s : State) (b : LeaseTable) (v : Typed s b) (e : soundB s b ≡ true) 
       every-few = picked _ _ (each-to (λ i. fewOf (filedFrom 1 (leasesOf b)) (i + 1)) 8 tenant-few)
 
   -- and hold what the book holds
-  pub table-same : storedTable (filedBook s b) ≡ b
+  pub table-same : storedTable (filed) ≡ b
   unfolding storedTable filedBook tableOf
   table-same = ap {B = LeaseTable} (λ (l : List TenantLeases). record { tenants = l }) (ap (map laidOut) leases-same ∙ leases-laid (b .tenants) good)
 
@@ -522,7 +543,7 @@ module _ (s : State) (b : LeaseTable) (v : Typed s b) (e : soundB s b ≡ true) 
       (scopes-zero (drop (s .«scope_count») (s .scopes)) (all-drop TypedScope (s .«scope_count») (s .scopes) (v .scopes)) (tails .1)
       ∙ ap (λ (k : ℕ). replicate k zeroScope) (length-drop (s .«scope_count») (s .scopes) ∙ ap (λ (k : ℕ). k - s .«scope_count») (v .four)))
 
-  pub state-same : storedState (filedBook s b) ≡ s
+  pub state-same : storedState (filed) ≡ s
   unfolding storedState filedBook
   state-same =
       ap₂ (λ (n m : ℕ). make n (filled zeroRange 8 (rangesOf s)) m (filled zeroScope 4 (map storedScope (map (filedScope (s .«tenant_count»)) (scopesOf s))))) ranges-many (length-map (scopesOf s) (filedScope (s .«tenant_count»)) ∙ scopes-many)

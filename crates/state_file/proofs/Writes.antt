@@ -1,5 +1,5 @@
 -- Laws: writing: the octets of a lease and of the settings piece by piece.
-use mathlib.Core.Bool.{Bool, false, true}
+use mathlib.Core.Bool.{Bool, _&&_, false, true}
 use mathlib.Core.List.{List, [], _++_, _∷_, append-assoc, map}
 use mathlib.Core.Path.{_∙_, _≡_, ap, ap₂, refl, subst, sym}
 use Prim.Native.Nat.{_*_, _+_, _<_, _≤_, min, suc, zero, ℕ}
@@ -17,8 +17,9 @@ use Rattle.lists.specs.laws.Sums.{sum-same}
 use Rattle.lists.specs.Sums.{sumTo}
 use Rattle.octets.specs.laws.Octets.{wrote-joined, wrote-whole, wrote-as}
 use Rattle.octets.specs.Octets.{Wrote, octets32}
+use Rattle.soundness.specs.Named.{bookB, namesGood}
 use Rattle.soundness.specs.Sound.{soundB}
-use Rattle.state.specs.Book.{inUse, leasesOf, noLeases, rangesOf, scopesOf}
+use Rattle.state.specs.Book.{Book, inUse, leasesOf, noLeases, rangesOf, scopesOf}
 use Rattle.state.specs.declared.ClientRange.{ClientRange}
 use Rattle.state.specs.declared.Lease.{Lease}
 use Rattle.state.specs.declared.LeaseTable.{LeaseTable}
@@ -30,7 +31,7 @@ use Rattle.state_file.specs.File.{FilePart, leaseFormat, partFormat, sco
 use Rattle.format.specs.laws.Format.{plain}
 use Rattle.format.specs.Format.{writeAll}
 use Rattle.state_file.specs.Records.{filedLease, filedBook, filedFrom, filedScope, pairUp}
-use Rattle.state_file.specs.Rows.{leaseOctets, leaseTotal, partOctets, partRow, fileRangeOctets, rangeRow, fileScopeOctets, scopeRow, tableOctets, tenantOctets, tenantRow, writeFrom}
+use Rattle.state_file.specs.Rows.{leaseOctets, leaseTotal, partOctets, partRow, fileRangeOctets, rangeRow, fileScopeOctets, scopeRow, sectionOctets, tableOctets, tenantOctets, tenantRow, writeFrom}
 use Rattle.state_file.specs.StateFile.{octetsOf, roomAfter, writtenOf}
 use Rattle.state_file.specs.declared.Written.{Written}
 
@@ -160,8 +161,7 @@ ranges-length k (x ∷ l) = let ih = ranges-length (suc k) l in omega arith
 pub scope-length : (c : Scope) (h n : ℕ) → length (c .reserve) ≡ 8 → length (c .limit) ≡ 8 → n ≡ min h 8 → (6 + n * 2 ≡ length (scopeFormat h .write (filedScope h c))) × (6 + n * 2 ≤ 22)
 scope-length c h n p q e = (sym (scope-size h n c p q e), omega arith)
 
--- ---- the whole file
--- the sections as they are written
+-- ---- the sections as they are written
 filed-octets : (t : ℕ) (l : List Lease) → writeAll (leaseFormat .write) (map (filedLease t) l) ≡ writeFrom (leaseOctets t) 0 l
 unfolding writeAll writeFrom leaseOctets
 filed-octets t l = go 0 l
@@ -217,62 +217,88 @@ unfolding writeFrom writeAll rangeRow
 ranges-octets k [] = refl
 ranges-octets k (r ∷ l) = ap (λ (x : List ℕ). tenantFormat .write r ++ x) (ranges-octets (suc k) l)
 
-four : (a b c d : List ℕ) → a ++ (b ++ (c ++ d)) ≡ ((a ++ b) ++ c) ++ d
-four a b c d = sym (append-assoc (a ++ b) c d ∙ append-assoc a b (c ++ d))
+five : (a b c d e : List ℕ) → a ++ (b ++ (c ++ (d ++ e))) ≡ (((a ++ b) ++ c) ++ d) ++ e
+five a b c d e = sym (append-assoc ((a ++ b) ++ c) d e ∙ append-assoc (a ++ b) c (d ++ e) ∙ append-assoc a b (c ++ (d ++ e)))
 
--- the sections as they are written
-module _ (s : State) (b : LeaseTable) (e : length (b .tenants) ≡ 8) where
-  file-octets : octetsOf s b ≡ (((1 ∷ octets32 (s .server) ++ octets32 (s .clock)) ++ (length (rangesOf s) ∷ fileRangeOctets s)) ++ (length (scopesOf s) ∷ fileScopeOctets s)) ++ (leaseTotal b ∷ tableOctets b)
-  unfolding octetsOf filedBook
+-- ---- the sections before the names
+pub sections-length : (s : State) (b : LeaseTable) → length (sectionOctets s b) ≡ 12 + length (fileRangeOctets s) + length (fileScopeOctets s) + length (tableOctets b)
+unfolding sectionOctets
+sections-length s b = simp length-append (omega arith)
+
+pub sections-wrote : (s : State) (b : LeaseTable) {r₀ r₁ r₂ r₃ r₄ : List ℕ} {a c d f : ℕ} → Wrote r₀ 0 (1 ∷ octets32 (s .server) ++ octets32 (s .clock)) r₁ a → Wrote r₁ a (length (rangesOf s) ∷ fileRangeOctets s) r₂ c
+    → Wrote r₂ c (length (scopesOf s) ∷ fileScopeOctets s) r₃ d → Wrote r₃ d (leaseTotal b ∷ tableOctets b) r₄ f → Wrote r₀ 0 (sectionOctets s b) r₄ f
+unfolding sectionOctets
+sections-wrote s b p q w z = wrote-joined (omega arith) (wrote-joined (omega arith) (wrote-joined (omega arith) p q) w) z
+
+pub size-is : (s : State) (b : LeaseTable) (h x y r : ℕ) → length (s .tenants) ≡ 8 → h ≡ min (s .«tenant_count») 8 → (x ≡ length (fileScopeOctets s)) × (x ≤ 88) → (y ≡ length (tableOctets b)) × (y ≤ 14464)
+    → r ≡ 12 + h * 8 + x + y → (r ≡ length (sectionOctets s b)) × (r ≤ 14628)
+size-is s b h x y r l p q w z =
+    let f = sections-length s b in
+    let k = ranges-length 0 (rangesOf s) in
+    let m = length-take (s .«tenant_count») (s .tenants) in
+    let e = q .0 in
+    let g = w .0 in
+    let i = q .1 in
+    let j = w .1 in
+    (omega arith, omega arith)
+
+-- ---- the whole file
+module _ (s : State) (b : LeaseTable) (names : List ℕ) (e : length (b .tenants) ≡ 8) where
+  file-octets : octetsOf (record { state = s; table = b; names = names }) ≡ sectionOctets s b ++ names
+  unfolding octetsOf filedBook sectionOctets
   file-octets =
       ap₂ {C = List ℕ} (λ (x y : List ℕ). server ++ ((length (rangesOf s) ∷ x) ++ y)) (ranges-octets 0 (rangesOf s))
       (ap₂ {C = List ℕ} (λ (x y : List ℕ). x ++ y)
       (ap₂ {C = List ℕ} (λ (n : ℕ) (x : List ℕ). n ∷ x) (length-map (scopesOf s) (filedScope (s .«tenant_count»))) (scopes-octets (length (rangesOf s)) (s .«tenant_count») 0 (scopesOf s)))
-      (ap₂ {C = List ℕ} (λ (n : ℕ) (x : List ℕ). n ∷ x) (lease-total b e) (table-octets 0 (b .tenants))))
-      ∙ four server (length (rangesOf s) ∷ fileRangeOctets s) (length (scopesOf s) ∷ fileScopeOctets s) (leaseTotal b ∷ tableOctets b)
+      (ap₂ {C = List ℕ} (λ (n : ℕ) (x : List ℕ). (n ∷ x) ++ names) (lease-total b e) (table-octets 0 (b .tenants))))
+      ∙ five server (length (rangesOf s) ∷ fileRangeOctets s) (length (scopesOf s) ∷ fileScopeOctets s) (leaseTotal b ∷ tableOctets b) names
     where
       server : List ℕ
       server = 1 ∷ octets32 (s .server) ++ octets32 (s .clock)
 
-  pub file-length : length (octetsOf s b) ≡ 12 + length (fileRangeOctets s) + length (fileScopeOctets s) + length (tableOctets b)
-  file-length = ap length file-octets ∙ simp length-append (omega arith)
+  pub file-length : length (octetsOf (record { state = s; table = b; names = names })) ≡ length (sectionOctets s b) + length names
+  file-length = ap length file-octets ∙ length-append (sectionOctets s b) names
 
-  pub file-wrote : {r₀ r₁ r₂ r₃ r₄ : List ℕ} {a c d f : ℕ} → Wrote r₀ 0 (1 ∷ octets32 (s .server) ++ octets32 (s .clock)) r₁ a → Wrote r₁ a (length (rangesOf s) ∷ fileRangeOctets s) r₂ c
-      → Wrote r₂ c (length (scopesOf s) ∷ fileScopeOctets s) r₃ d → Wrote r₃ d (leaseTotal b ∷ tableOctets b) r₄ f → Wrote r₀ 0 (octetsOf s b) r₄ f
-  file-wrote p q w z = wrote-as (sym file-octets) (wrote-joined (omega arith) (wrote-joined (omega arith) (wrote-joined (omega arith) p q) w) z)
+  pub file-sum : (n : ℕ) → n ≡ length (sectionOctets s b) → n + length names ≡ length (octetsOf (record { state = s; table = b; names = names }))
+  file-sum n p = ap (λ (k : ℕ). k + length names) p ∙ sym file-length
 
-  pub size-is : (h x y r : ℕ) → length (s .tenants) ≡ 8 → h ≡ min (s .«tenant_count») 8 → x ≡ length (fileScopeOctets s) → y ≡ length (tableOctets b) → r ≡ 12 + h * 8 + x + y → r ≡ length (octetsOf s b)
-  size-is h x y r l p q w z =
-      let f = file-length in
-      let k = ranges-length 0 (rangesOf s) in
-      let m = length-take (s .«tenant_count») (s .tenants) in
-      omega arith
+  pub file-wrote : {r₀ r₁ r₂ : List ℕ} {a c n : ℕ} → Wrote r₀ 0 (sectionOctets s b) r₁ a → n ≡ length names → Wrote r₁ a (take n names) r₂ c → Wrote r₀ 0 (octetsOf (record { state = s; table = b; names = names })) r₂ c
+  file-wrote {n = n} p l q = wrote-as (sym file-octets) (wrote-joined (omega arith) p (wrote-as (take-all n names (omega arith)) q))
 
 -- ---- the answers
-module _ (s : State) (b : LeaseTable) (q : Bool) (e : q ≡ soundB s b) where
-  pub write-unsound : (room : List ℕ) → q ≡ false → (_≡_ {A = Written} (record { refusal = 22; length = 0 }) (writtenOf s b (length room))) × (room ≡ roomAfter s b room)
+module _ (b : Book) (q : Bool) (e : q ≡ soundB (b .state) (b .table)) where
+  pub book-yes : (r : Bool) → q ≡ true → r ≡ namesGood b → r ≡ bookB b
+  unfolding bookB
+  book-yes r t p = p ∙ ap (λ (x : Bool). x && namesGood b) (sym t ∙ e)
+
+  pub book-not : q ≡ false → false ≡ bookB b
+  unfolding bookB
+  book-not t = ap (λ (x : Bool). x && namesGood b) (sym t ∙ e)
+
+module _ (b : Book) (q : Bool) (e : q ≡ bookB b) where
+  pub write-unsound : (room : List ℕ) → q ≡ false → (_≡_ {A = Written} (record { refusal = 22; length = 0 }) (writtenOf b (length room))) × (room ≡ roomAfter b room)
   unfolding writtenOf roomAfter pick
   write-unsound room t =
-      let p : soundB s b ≡ false = sym e ∙ t in (
-        sym (ap (λ (x : Bool). pick x (pick (ltb (length room) (length (octetsOf s b))) (record { refusal = 23; length = 0 }) (record { refusal = 0; length = length (octetsOf s b) })) (record { refusal = 22; length = 0 })) p),
-        sym (ap (λ (x : Bool). pick x (pick (ltb (length room) (length (octetsOf s b))) room (octetsOf s b ++ drop (length (octetsOf s b)) room)) room) p),
+      let p : bookB b ≡ false = sym e ∙ t in (
+        sym (ap (λ (x : Bool). pick x (pick (ltb (length room) (length (octetsOf b))) (record { refusal = 23; length = 0 }) (record { refusal = 0; length = length (octetsOf b) })) (record { refusal = 22; length = 0 })) p),
+        sym (ap (λ (x : Bool). pick x (pick (ltb (length room) (length (octetsOf b))) room (octetsOf b ++ drop (length (octetsOf b)) room)) room) p),
       )
 
-  module _ (n : ℕ) (room : List ℕ) (t : q ≡ true) (l : n ≡ length (octetsOf s b)) where
-    pub write-short : length room < n → (_≡_ {A = Written} (record { refusal = 23; length = 0 }) (writtenOf s b (length room))) × (room ≡ roomAfter s b room)
+  module _ (n : ℕ) (room : List ℕ) (t : q ≡ true) (l : n ≡ length (octetsOf b)) where
+    pub write-short : length room < n → (_≡_ {A = Written} (record { refusal = 23; length = 0 }) (writtenOf b (length room))) × (room ≡ roomAfter b room)
     unfolding writtenOf roomAfter pick
     write-short h =
-        let p : soundB s b ≡ true = sym e ∙ t in
-        let k : ltb (length room) (length (octetsOf s b)) ≡ true = lt-ltb _ _ (let g : length room < length (octetsOf s b) = omega arith in g) in (
-          sym (ap₂ (λ (x y : Bool). pick x (pick y (record { refusal = 23; length = 0 }) (record { refusal = 0; length = length (octetsOf s b) })) (record { refusal = 22; length = 0 })) p k),
-          sym (ap₂ (λ (x y : Bool). pick x (pick y room (octetsOf s b ++ drop (length (octetsOf s b)) room)) room) p k),
+        let p : bookB b ≡ true = sym e ∙ t in
+        let k : ltb (length room) (length (octetsOf b)) ≡ true = lt-ltb _ _ (let g : length room < length (octetsOf b) = omega arith in g) in (
+          sym (ap₂ (λ (x y : Bool). pick x (pick y (record { refusal = 23; length = 0 }) (record { refusal = 0; length = length (octetsOf b) })) (record { refusal = 22; length = 0 })) p k),
+          sym (ap₂ (λ (x y : Bool). pick x (pick y room (octetsOf b ++ drop (length (octetsOf b)) room)) room) p k),
         )
 
-    pub write-done : (now : List ℕ) (f : ℕ) → n ≤ length room → Wrote room 0 (octetsOf s b) now f → (_≡_ {A = Written} (record { refusal = 0; length = n }) (writtenOf s b (length room))) × (now ≡ roomAfter s b room)
+    pub write-done : (now : List ℕ) (f : ℕ) → n ≤ length room → Wrote room 0 (octetsOf b) now f → (_≡_ {A = Written} (record { refusal = 0; length = n }) (writtenOf b (length room))) × (now ≡ roomAfter b room)
     unfolding writtenOf roomAfter pick
     write-done now f h w =
-        let p : soundB s b ≡ true = sym e ∙ t in
-        let k : ltb (length room) (length (octetsOf s b)) ≡ false = le-ltb _ _ (let g : length (octetsOf s b) ≤ length room = omega arith in g) in (
-          ap {B = Written} (λ (x : ℕ). record { refusal = 0; length = x }) l ∙ sym (ap₂ (λ (x y : Bool). pick x (pick y (record { refusal = 23; length = 0 }) (record { refusal = 0; length = length (octetsOf s b) })) (record { refusal = 22; length = 0 })) p k),
-          wrote-whole w ∙ sym (ap₂ (λ (x y : Bool). pick x (pick y room (octetsOf s b ++ drop (length (octetsOf s b)) room)) room) p k),
+        let p : bookB b ≡ true = sym e ∙ t in
+        let k : ltb (length room) (length (octetsOf b)) ≡ false = le-ltb _ _ (let g : length (octetsOf b) ≤ length room = omega arith in g) in (
+          ap {B = Written} (λ (x : ℕ). record { refusal = 0; length = x }) l ∙ sym (ap₂ (λ (x y : Bool). pick x (pick y (record { refusal = 23; length = 0 }) (record { refusal = 0; length = length (octetsOf b) })) (record { refusal = 22; length = 0 })) p k),
+          wrote-whole w ∙ sym (ap₂ (λ (x y : Bool). pick x (pick y room (octetsOf b ++ drop (length (octetsOf b)) room)) room) p k),
         )

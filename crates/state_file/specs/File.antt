@@ -1,5 +1,5 @@
--- Definitions: the state file ("campus file" in document 01): its values and its format, section by section. Its lists have any length: what the
--- records cannot hold is still a file, and unsound. A tenant is document 01's house.
+-- Definitions: the state file ("campus file" in documents 01 and 02): its values and its format, section by section. Its lists have any length: what
+-- the records cannot hold is still a file, and unsound. A tenant is document 01's house.
 use mathlib.Core.Bool.{Bool, false, true}
 use mathlib.Core.List.{List, []}
 use Prim.Native.Nat.{ℕ}
@@ -10,7 +10,8 @@ use Rattle.identifier.specs.Order.{orderOf}
 use Rattle.lists.specs.Pick.{pick}
 use Rattle.state.specs.declared.ClientRange.{ClientRange}
 use Rattle.format.specs.Format.{Format, Got, _⊗_, _▷_, after, bad, closed, counted, number, octet, only, times, viewed}
-use Rattle.format.specs.Section.{sectionFormat}
+use Rattle.format.specs.Section.{sectionFormat, verbatim}
+use Rattle.names.specs.Names.{namesFormat}
 
 -- a tenant's reserve and limit in a scope (document 01's share and limit)
 pub record FilePart : Type 0 where
@@ -39,6 +40,8 @@ pub record File : Type 0 where
   pub tenants : List ClientRange
   pub scopes : List FileScope
   pub leases : List FileLease
+  -- document 02, W-201: the octets of the section, as they are
+  pub names : List ℕ
 
 -- tenant t with identifier a is after tenant u with identifier b: by tenant, then by identifier
 unfoldable pub isAfter : ℕ → List ℕ → ℕ → List ℕ → Bool
@@ -81,24 +84,33 @@ leasesFormat = sectionFormat leaseKey leaseAfter (0, []) leaseFormat
 
 -- the sections in the file's order, and the file of its sections
 abbrev pub Sections : Type 0
-Sections = (ℕ × ℕ) × (List ClientRange × (List FileScope × List FileLease))
+Sections = (ℕ × ℕ) × (List ClientRange × (List FileScope × (List FileLease × List ℕ)))
 
 abbrev pub ofSections : Sections → File
-ofSections p = record { server = p .0 .0; clock = p .0 .1; tenants = p .1 .0; scopes = p .1 .1 .0; leases = p .1 .1 .1 }
+ofSections p = record { server = p .0 .0; clock = p .0 .1; tenants = p .1 .0; scopes = p .1 .1 .0; leases = p .1 .1 .1 .0; names = p .1 .1 .1 .1 }
 
 abbrev pub toSections : File → Sections
-toSections f = ((f .server, f .clock), (f .tenants, (f .scopes, f .leases)))
+toSections f = ((f .server, f .clock), (f .tenants, (f .scopes, (f .leases, f .names))))
 
--- server (its count is always 1), tenants, scopes, leases
+-- after the scopes and the tenants: leases; document 02: "a last section, its count that of the scopes", with names for as many tenants
+abbrev pub lastFormat : List FileScope → List ClientRange → Format (List FileLease × List ℕ)
+lastFormat cs ts = leasesFormat ⊗ verbatim (namesFormat (length cs) (length ts))
+
+-- server (its count is always 1), tenants, scopes, leases, names
 abbrev pub fileFormat : Format File
 fileFormat =
     viewed ofSections toSections
-    (after 1 (number ⊗ number) ⊗ (counted tenantFormat ▷ (λ ts. counted (scopeFormat (length ts)) ⊗ leasesFormat)))
+    (after 1 (number ⊗ number) ⊗ (counted tenantFormat ▷ (λ ts. counted (scopeFormat (length ts)) ▷ (λ cs. lastFormat cs ts))))
 
--- how many octets a file may have: 12 for the counts and the server, 8 tenants of 8, 4 scopes of 22 and 128 leases of 113
+-- document 02: "From here the file's limit is 32,768 octets"
+abbrev pub fileLimit : ℕ
+fileLimit = 32768
+
+-- how many octets a sound book's file has at most: 12 for the counts and the server, 8 tenants of 8, 4 scopes of 22, 128 leases of 113, and 6,229 of
+-- names: a count, and for each of 4 scopes 9 lists of a count and 4 names of 43
 abbrev pub longestFile : ℕ
-longestFile = 14628
+longestFile = 20857
 
--- the file that octets make; bad is refusal 20
+-- the file that octets make; bad is refusal 20: "a bad or missing names section is 20"
 unfoldable pub fileOf : List ℕ → Got File
-fileOf s = pick (leb (length s) longestFile) (closed (fileFormat .read s)) bad
+fileOf s = pick (leb (length s) fileLimit) (closed (fileFormat .read s)) bad

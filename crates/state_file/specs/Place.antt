@@ -19,6 +19,7 @@ use Rattle.state_file.specs.File.{File, FileLease, FilePart, FileScope, 
 use Rattle.state_file.specs.Records.{ofTenant, stored, storedState}
 use Rattle.state_file.specs.declared.Layout.{Layout}
 use Rattle.state_file.specs.declared.Layout.the-variants.{Right, Wrong}
+use Rattle.state_file.specs.declared.Places.{Places}
 
 -- ---- leases
 -- the lease that starts at a place, whose parts are taken from where they would stand
@@ -104,12 +105,19 @@ scopesIn s at = row (fileScopeAt (tenantCount s)) (6 + tenantCount s * 2) (getD 
 abbrev pub sectionAt : List ℕ → ℕ → List FileLease
 sectionAt s at = leasesAt s (at + 1) (getD s at 0)
 
-unfoldable pub fileAt : List ℕ → ℕ → ℕ → File
-fileAt s scopes leases = record { server = at32 s 1; clock = at32 s 5; tenants = row rangeAt 8 (tenantCount s) s 10; scopes = scopesIn s scopes; leases = sectionAt s leases }
+unfoldable pub fileAt : List ℕ → Places → File
+fileAt s p = record {
+  server = at32 s 1;
+  clock = at32 s 5;
+  tenants = row rangeAt 8 (tenantCount s) s 10;
+  scopes = scopesIn s (p .scopes);
+  leases = sectionAt s (p .leases);
+  names = drop (p .names) s;
+}
 
--- the settings do not go by where the leases are
+-- the settings do not go by where the later sections are
 abbrev pub stateAt : List ℕ → ℕ → State
-stateAt s scopes = storedState (fileAt s scopes 0)
+stateAt s scopes = storedState (fileAt s (record { scopes = scopes; leases = 0; names = 0 }))
 
 -- the sections before the leases lie within the octets, and the records can hold them
 pub record SettingsIn (s : List ℕ) (at : ℕ) : Type 0 where
@@ -124,12 +132,13 @@ pub record LeasesIn (s : List ℕ) (at : ℕ) : Type 0 where
   pub each : InRow nextAt s (at + 1) (getD s at 0)
 
 -- the octets have the form of a file: it is the one of their places, which lie within them
-pub record Formed (s : List ℕ) (scopes leases : ℕ) : Type 0 where
-  pub file : fileOf s ≡ got (fileAt s scopes leases) []
-  pub tenants : scopes ≡ 10 + tenantCount s * 8
-  pub sizes : leases ≡ scopes + 1 + getD s scopes 0 * (6 + tenantCount s * 2)
-  pub records : LeasesIn s leases
+pub record Formed (s : List ℕ) (p : Places) : Type 0 where
+  pub file : fileOf s ≡ got (fileAt s p) []
+  pub tenants : p .scopes ≡ 10 + tenantCount s * 8
+  pub sizes : p .leases ≡ p .scopes + 1 + getD s (p .scopes) 0 * (6 + tenantCount s * 2)
+  pub records : LeasesIn s (p .leases)
+  pub last : p .names ≤ length s
 
 unfoldable pub FormedBy : List ℕ → Layout → Type 0
-FormedBy s (Right p) = Formed s (p .scopes) (p .leases)
+FormedBy s (Right p) = Formed s p
 FormedBy s Wrong = fileOf s ≡ bad

@@ -8,7 +8,7 @@ use Rattle.address_set.specs.AddressSet.{offsets, readOffsets}
 use Rattle.lists.specs.All.{allBy, allTo}
 use Rattle.lists.specs.Filter.{filterBy}
 use Rattle.lists.specs.Pick.{pick}
-use Rattle.state.specs.Book.{leaseWith, leasesOf, rangesOf, scopesOf, tableOf, zeroScope}
+use Rattle.state.specs.Book.{Book, leaseWith, leasesOf, rangesOf, scopesOf, tableOf, zeroScope}
 use Rattle.state.specs.declared.ClientRange.{ClientRange}
 use Rattle.state.specs.declared.Lease.{Lease}
 use Rattle.state.specs.declared.LeaseTable.{LeaseTable}
@@ -91,13 +91,14 @@ unfoldable pub storedTable : File → LeaseTable
 storedTable f = tableOf (tenantsFrom 1 8 (f .leases))
 
 -- the file of a book
-unfoldable pub filedBook : State → LeaseTable → File
-filedBook s b = record {
-  server = s .server;
-  clock = s .clock;
-  tenants = rangesOf s;
-  scopes = map (filedScope (s .«tenant_count»)) (scopesOf s);
-  leases = filedFrom 1 (leasesOf b);
+unfoldable pub filedBook : Book → File
+filedBook b = record {
+  server = b .state .server;
+  clock = b .state .clock;
+  tenants = rangesOf (b .state);
+  scopes = map (filedScope (b .state .«tenant_count»)) (scopesOf (b .state));
+  leases = filedFrom 1 (leasesOf (b .table));
+  names = b .names;
 }
 
 -- ---- limits

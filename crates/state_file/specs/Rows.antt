@@ -3,6 +3,7 @@ use mathlib.Core.List.{List, [], _++_, _∷_}
 use Prim.Native.Nat.{_+_, suc, ℕ}
 use lib.ListN.{getD, length, take}
 use Rattle.lists.specs.Sums.{sumTo}
+use Rattle.octets.specs.Octets.{octets32}
 use Rattle.state.specs.Book.{inUse, noLeases, rangesOf, scopesOf}
 use Rattle.state.specs.declared.ClientRange.{ClientRange}
 use Rattle.state.specs.declared.Lease.{Lease}
@@ -52,3 +53,9 @@ fileScopeOctets s = writeFrom (scopeRow (s .«tenant_count»)) 0 (scopesOf s)
 -- ---- how many there are
 abbrev pub leaseTotal : LeaseTable → ℕ
 leaseTotal b = sumTo (λ i. length (inUse (getD (b .tenants) i noLeases))) 8
+
+-- ---- the sections before the names, one after the other
+unfoldable pub sectionOctets : State → LeaseTable → List ℕ
+sectionOctets s b =
+    (((1 ∷ octets32 (s .server) ++ octets32 (s .clock)) ++ (length (rangesOf s) ∷ fileRangeOctets s)) ++ (length (scopesOf s) ∷ fileScopeOctets s))
+    ++ (leaseTotal b ∷ tableOctets b)

@@ -1,11 +1,12 @@
--- Definitions: what the reader and the writer of the state file answer: document 01, "Campus file and sound book".
+-- Definitions: what the reader and the writer of the state file answer: document 01, "Campus file and sound book"; document 02, W-201, for the names.
 use mathlib.Core.List.{List, [], _++_}
 use Prim.Native.Nat.{ℕ}
 use lib.Dec.{ltb}
 use lib.ListN.{drop, length, replicate}
 use Rattle.lists.specs.Pick.{pick}
+use Rattle.soundness.specs.Named.{bookB}
 use Rattle.soundness.specs.Sound.{soundB}
-use Rattle.state.specs.Book.{tableOf, zeroScope}
+use Rattle.state.specs.Book.{Book, tableOf, zeroScope}
 use Rattle.state.specs.declared.LeaseTable.{LeaseTable}
 use Rattle.state.specs.declared.State.{State}
 use Rattle.state_file.specs.File.{File, fileFormat, fileOf}
@@ -43,21 +44,29 @@ loadedGot bad = refused 20
 unfoldable pub readFile : List ℕ → Loaded
 readFile s = loadedGot (fileOf s)
 
+-- the names of a file, as they stand in it, wherever its form is right; octets refused with 20 have none
+unfoldable pub namesGot : Got File → List ℕ
+namesGot (got f r) = f .names
+namesGot bad = []
+
+unfoldable pub namesOf : List ℕ → List ℕ
+namesOf s = namesGot (fileOf s)
+
 -- ---- the writer
 -- the octets of a book's file
-unfoldable pub octetsOf : State → LeaseTable → List ℕ
-octetsOf s b = fileFormat .write (filedBook s b)
+unfoldable pub octetsOf : Book → List ℕ
+octetsOf b = fileFormat .write (filedBook b)
 
--- 22 is an unsound book, and 23 too little room, of which there are n octets
-unfoldable pub writtenOf : State → LeaseTable → ℕ → Written
-writtenOf s b n =
-    pick (soundB s b)
-    (pick (ltb n (length (octetsOf s b))) (record { refusal = 23; length = 0 }) (record { refusal = 0; length = length (octetsOf s b) }))
+-- 22 is an unsound book, "bad names lent" among them, and 23 too little room, of which there are n octets
+unfoldable pub writtenOf : Book → ℕ → Written
+writtenOf b n =
+    pick (bookB b)
+    (pick (ltb n (length (octetsOf b))) (record { refusal = 23; length = 0 }) (record { refusal = 0; length = length (octetsOf b) }))
     (record { refusal = 22; length = 0 })
 
 -- what the room holds afterwards: the octets, and past them what it held; a refusal writes nothing
-unfoldable pub roomAfter : State → LeaseTable → List ℕ → List ℕ
-roomAfter s b room =
-    pick (soundB s b)
-    (pick (ltb (length room) (length (octetsOf s b))) room (octetsOf s b ++ drop (length (octetsOf s b)) room))
+unfoldable pub roomAfter : Book → List ℕ → List ℕ
+roomAfter b room =
+    pick (bookB b)
+    (pick (ltb (length room) (length (octetsOf b))) room (octetsOf b ++ drop (length (octetsOf b)) room))
     room

@@ -1,3 +1,4 @@
 pub mod File
+pub mod Local
 pub mod Records
 pub mod Tenants

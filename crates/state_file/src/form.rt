@@ -1,4 +1,5 @@
-// The form of a state file, judged over its octets with nothing stored: where each section ends, offsets that rise, leases in order.
+// The form of a state file, judged over its octets with nothing stored: where each section ends, offsets that rise, leases in order, good
+// names.
 ghost use mathlib.Core.Path.{_≡_};
 ghost use Prim.Native.Nat.{_*_, _+_, _<_, _≤_};
 ghost use lib.ListN.{drop, getD, length, take};
@@ -7,7 +8,7 @@ ghost use Rattle.format.specs.Place.{countedEnd};
 ghost use Rattle.identifier.specs.Order.{orderOf};
 ghost use Rattle.state_file.specs.File.{isAfter};
 ghost use Rattle.state_file.specs.Place.{FormedBy, LeaseEnds, LeaseSection, LeasesEnd, nextAt};
-use crate::LONGEST_FILE;
+use crate::FILE_LIMIT;
 use crate::Layout;
 use crate::Places;
 use format::Place;
@@ -17,7 +18,7 @@ pub fn form(s: &[u8]) -> Layout
     ensures { λ r. ⌜ FormedBy (now (s .entry)) r ⌝ }
 {
     let len = s.len();
-    if LONGEST_FILE < len {
+    if FILE_LIMIT < len {
         return Layout::Wrong;
     }
     if len < 9 {
@@ -30,19 +31,27 @@ pub fn form(s: &[u8]) -> Layout
     let Place::At(scopes) = ranges else {
         return Layout::Wrong;
     };
-    let h = wide(s[9]);
-    let pools = counted_end(s, scopes, 6 + h * 2);
+    let h = s[9];
+    let pools = counted_end(s, scopes, 6 + wide(h) * 2);
     let Place::At(leases) = pools else {
         return Layout::Wrong;
     };
     let records = leases_end(s, leases);
-    let Place::At(end) = records else {
+    let Place::At(names) = records else {
+        return Layout::Wrong;
+    };
+    let last = names::section_end(s, names, s[scopes], h);
+    let Place::At(end) = last else {
         return Layout::Wrong;
     };
     if end != len {
         return Layout::Wrong;
     }
-    Layout::Right(Places { scopes, leases })
+    Layout::Right(Places {
+        scopes,
+        leases,
+        names,
+    })
 }
 
 // Where a count at `at` and as many values of z octets end.

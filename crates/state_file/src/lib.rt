@@ -1,5 +1,6 @@
 // The state file (document 01's campus file): its reader and its writer, by value. The reader judges the form, then the limits, then loads the
-// book and judges whether it is sound; the writer judges the book, counts its octets and puts them.
+// book and judges whether it is sound; the writer judges the book, counts its octets and puts them. The names for the scopes are octets to both: of
+// a file they are shown as the part in which they stand, and they are written as they are lent.
 mod form;
 mod limits;
 mod load;
@@ -8,7 +9,8 @@ mod size;
 
 ghost use mathlib.Core.Path.{_≡_};
 ghost use lib.ListN.{length};
-ghost use Rattle.state_file.specs.StateFile.{readFile, roomAfter, writtenOf, zeroState};
+ghost use Rattle.soundness.specs.Named.{bookB};
+ghost use Rattle.state_file.specs.StateFile.{namesOf, readFile, roomAfter, writtenOf, zeroState};
 use crate::form::form;
 use crate::load::load;
 use crate::load::refusal;
@@ -18,8 +20,11 @@ use crate::size::file_size;
 use state::LeaseTable;
 use state::State;
 
-// How many octets a file may have: those of a book whose every record is as long as it can be.
-pub const LONGEST_FILE: usize = 14628;
+// How many octets a file may have.
+pub const FILE_LIMIT: usize = 32768;
+
+// How many octets the file of a sound book has at most: those of one whose every record and name is as long as it can be.
+pub const LONGEST_FILE: usize = 20857;
 
 // What the reader answers: refusal 0 and the book, or the number of a refusal and records that are all zero.
 pub struct Loaded {
@@ -38,6 +43,7 @@ pub struct Written {
 pub struct Places {
     pub scopes: usize,
     pub leases: usize,
+    pub names: usize,
 }
 
 // What the form of octets is: a file's, with its places, or none.
@@ -54,23 +60,36 @@ pub fn read(s: &[u8]) -> Loaded
     let Layout::Right(places) = layout else {
         return refusal(20);
     };
-    load(s, places.scopes, places.leases)
+    load(s, places)
 }
 
-// Writes a book as a state file: its length, or refusal 22 for an unsound book and then 23 where the room is too short.
-pub fn write(state: State, table: LeaseTable, room: &mut [u8]) -> Written
-    ensures answer { λ r. ⌜ r ≡ writtenOf state table (length (now (room .entry))) ⌝ }
-    ensures octets { λ r. ⌜ now (room .exit) ≡ roomAfter state table (now (room .entry)) ⌝ }
+// The names of a state file, as the part of it in which they stand; an empty part where its form is wrong. Whether the book is sound, `read` tells.
+pub fn names(file: &[u8]) -> &[u8]
+    ensures { λ r. ⌜ now r ≡ namesOf (now (file .entry)) ⌝ }
 {
-    if soundness::sound(state, table) {
-        let n = file_size(state, table);
+    let layout = form(file);
+    let Layout::Right(places) = layout else {
+        return &file[0..0];
+    };
+    let from = places.names;
+    let end = file.len();
+    &file[from..end]
+}
+
+// Writes a book as a state file: its length, or refusal 22 for an unsound book or bad names and then 23 where the room is too short.
+pub fn write(state: State, table: LeaseTable, names: &[u8], room: &mut [u8]) -> Written
+    ensures answer { λ r. ⌜ r ≡ writtenOf (record { state = state; table = table; names = now (names .entry) }) (length (now (room .entry))) ⌝ }
+    ensures octets { λ r. ⌜ now (room .exit) ≡ roomAfter (record { state = state; table = table; names = now (names .entry) }) (now (room .entry)) ⌝ }
+{
+    if sound_book(state, table, names) {
+        let n = file_size(state, table, names);
         if room.len() < n {
             return Written {
                 refusal: 23,
                 length: 0,
             };
         }
-        put_file(room, state, table);
+        put_file(room, state, table, names);
         return Written {
             refusal: 0,
             length: n,
@@ -80,6 +99,16 @@ pub fn write(state: State, table: LeaseTable, room: &mut [u8]) -> Written
         refusal: 22,
         length: 0,
     }
+}
+
+// Whether a book is sound and its names are good.
+fn sound_book(state: State, table: LeaseTable, names: &[u8]) -> bool
+    ensures { λ r. ⌜ r ≡ bookB (record { state = state; table = table; names = now (names .entry) }) ⌝ }
+{
+    if soundness::sound(state, table) {
+        return names::good(names, state.scope_count, state.tenant_count);
+    }
+    false
 }
 
 // A state that is all zero.

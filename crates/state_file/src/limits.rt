@@ -6,15 +6,17 @@ ghost use Rattle.format.specs.Section.{InRow, Inside};
 ghost use Rattle.lists.specs.All.{allBy, allTo};
 ghost use Rattle.state_file.specs.Place.{AllStorable, Formed, LeasesIn, StorableAt, fileAt, fileLeaseAt, leasesAt, nextAt, sectionAt, tallyOf};
 ghost use Rattle.state_file.specs.Records.{countsFit, fewOf, fitsB, isOffset, leasesFitB, storableB};
+use crate::Places;
 use crate::form::wide;
 
 // Whether the records can hold the file.
-pub fn fits(s: &[u8], scopes: usize, leases: usize) -> bool
-    requires { ⌜ Formed (now s) scopes leases ⌝ }
-    ensures { λ r. ⌜ r ≡ fitsB (fileAt (now (s .entry)) scopes leases) ⌝ }
+pub fn fits(s: &[u8], places: Places) -> bool
+    requires { ⌜ Formed (now s) places ⌝ }
+    ensures { λ r. ⌜ r ≡ fitsB (fileAt (now (s .entry)) places) ⌝ }
 {
-    if counts_fit(s[9], s[scopes]) {
-        return leases_fit(s, leases);
+    let at = places.scopes;
+    if counts_fit(s[9], s[at]) {
+        return leases_fit(s, places.leases);
     }
     false
 }

@@ -11,6 +11,7 @@ ghost use Rattle.state_file.specs.Place.{AllStorable, Formed, LeasesIn, 
 ghost use Rattle.state_file.specs.Records.{filled, leasesFitB, stored, storedScope, tenantsFrom, zeroRange};
 ghost use Rattle.state_file.specs.StateFile.{judged, loaded, refused};
 use crate::Loaded;
+use crate::Places;
 use crate::form::wide;
 use crate::limits::fits;
 use crate::limits::lease_next;
@@ -23,13 +24,13 @@ use state::Scope;
 use state::State;
 use state::TenantLeases;
 
-pub fn load(s: &[u8], scopes: usize, leases: usize) -> Loaded
-    requires { ⌜ Formed (now s) scopes leases ⌝ }
-    ensures { λ r. ⌜ r ≡ loaded (fileAt (now (s .entry)) scopes leases) ⌝ }
+pub fn load(s: &[u8], places: Places) -> Loaded
+    requires { ⌜ Formed (now s) places ⌝ }
+    ensures { λ r. ⌜ r ≡ loaded (fileAt (now (s .entry)) places) ⌝ }
 {
-    if fits(s, scopes, leases) {
-        let state = state_at(s, scopes);
-        let table = table_at(s, leases);
+    if fits(s, places) {
+        let state = state_at(s, places.scopes);
+        let table = table_at(s, places.leases);
         return judge(state, table);
     }
     refusal(21)

@@ -8,7 +8,7 @@ ghost use Rattle.octets.specs.Octets.{Wrote, octets32};
 ghost use Rattle.state.specs.Book.{idOf, inUse, rangesOf, scopesOf};
 ghost use Rattle.state_file.specs.File.{leaseFormat, scopeFormat, tenantFormat};
 ghost use Rattle.state_file.specs.Records.{filedLease, filedScope};
-ghost use Rattle.state_file.specs.Rows.{leaseTotal, partOctets, fileRangeOctets, fileScopeOctets, tableOctets, tenantOctets};
+ghost use Rattle.state_file.specs.Rows.{leaseTotal, partOctets, fileRangeOctets, fileScopeOctets, sectionOctets, tableOctets, tenantOctets};
 ghost use Rattle.state_file.specs.StateFile.{octetsOf};
 use state::ClientRange;
 use state::Lease;
@@ -17,9 +17,18 @@ use state::Scope;
 use state::State;
 use state::TenantLeases;
 
-pub fn put_file(buffer: &mut [u8], state: State, table: LeaseTable) -> usize
-    requires { ⌜ length (octetsOf state table) ≤ length (now buffer) ⌝ }
-    ensures { λ r. ⌜ Wrote (now (buffer .entry)) 0 (octetsOf state table) (now (buffer .exit)) r ⌝ }
+pub fn put_file(buffer: &mut [u8], state: State, table: LeaseTable, names: &[u8]) -> usize
+    requires { ⌜ length (octetsOf (record { state = state; table = table; names = now names })) ≤ length (now buffer) ⌝ }
+    ensures { λ r. ⌜ Wrote (now (buffer .entry)) 0 (octetsOf (record { state = state; table = table; names = now (names .entry) })) (now (buffer .exit)) r ⌝ }
+{
+    let a = put_sections(buffer, state, table);
+    octets::put_run(buffer, a, names, names.len())
+}
+
+// The sections before the names.
+fn put_sections(buffer: &mut [u8], state: State, table: LeaseTable) -> usize
+    requires { ⌜ length (sectionOctets state table) ≤ length (now buffer) ⌝ }
+    ensures { λ r. ⌜ Wrote (now (buffer .entry)) 0 (sectionOctets state table) (now (buffer .exit)) r ⌝ }
 {
     let a = put_server(buffer, state);
     let b = put_range_section(buffer, a, state);

@@ -4,7 +4,7 @@ ghost use Prim.Native.Nat.{_≤_};
 ghost use lib.ListN.{length};
 ghost use Rattle.state_file.specs.File.{leaseFormat, scopeFormat};
 ghost use Rattle.state_file.specs.Records.{filedLease, filedScope};
-ghost use Rattle.state_file.specs.Rows.{fileScopeOctets, tableOctets, tenantOctets};
+ghost use Rattle.state_file.specs.Rows.{fileScopeOctets, sectionOctets, tableOctets, tenantOctets};
 ghost use Rattle.state_file.specs.StateFile.{octetsOf};
 use state::Lease;
 use state::LeaseTable;
@@ -12,8 +12,15 @@ use state::Scope;
 use state::State;
 use state::TenantLeases;
 
-pub fn file_size(state: State, table: LeaseTable) -> usize
-    ensures { λ r. ⌜ r ≡ length (octetsOf state table) ⌝ }
+pub fn file_size(state: State, table: LeaseTable, names: &[u8]) -> usize
+    ensures { λ r. ⌜ r ≡ length (octetsOf (record { state = state; table = table; names = now (names .entry) })) ⌝ }
+{
+    sections_size(state, table) + names.len()
+}
+
+// Those of the sections before the names.
+fn sections_size(state: State, table: LeaseTable) -> usize
+    ensures { λ r. ⌜ (r ≡ length (sectionOctets state table)) × (r ≤ 14628) ⌝ }
 {
     12 + arithmetic::cut8(state.tenant_count) * 8 + scopes_length(state) + table_size(table)
 }

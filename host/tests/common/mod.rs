@@ -14,14 +14,29 @@ pub const HOUSE_1: Ipv4Addr = Ipv4Addr::new(10, 0, 1, 5);
 pub const HOUSE_2: Ipv4Addr = Ipv4Addr::new(10, 0, 2, 5);
 pub const STRANGER: Ipv4Addr = Ipv4Addr::new(10, 0, 3, 5);
 
-/// The specimens' campus at a clock: scope 239.192.0.0, size 4; house 1 share 2 limit 3; house 2 share 1 limit 4. Leases in the file's order.
-pub fn file_at(clock: u32, leases: &[Lease]) -> Vec<u8> {
-    let pool = Scope {
+/// Scope 239.192.0.0, size 4; house 1 share 2 limit 3; house 2 share 1 limit 4. The campus calls it Studio, Studio A or Plateau, and house 1 by
+/// names of its own.
+pub fn pool() -> Scope {
+    let campus = vec![
+        Name::new(0, b"en-GB", b"Studio"),
+        Name::new(128, b"en", b"Studio A"),
+        Name::new(0, b"fr", b"Plateau"),
+    ];
+    let house_1 = vec![
+        Name::new(128, b"de", b"B\xFChne"),
+        Name::new(0, b"en", b"Stage"),
+    ];
+    Scope {
         lowest: POOL,
         size: 4,
         ttl: 15,
         parts: vec![(2, 3), (1, 4)],
-    };
+        names: vec![campus, house_1, vec![]],
+    }
+}
+
+/// The specimens' campus at a clock, with one scope. Leases in the file's order.
+pub fn campus_at(clock: u32, pool: Scope, leases: &[Lease]) -> Campus {
     Campus {
         server: SERVER,
         clock,
@@ -29,7 +44,11 @@ pub fn file_at(clock: u32, leases: &[Lease]) -> Vec<u8> {
         scopes: vec![pool],
         leases: leases.to_vec(),
     }
-    .octets()
+}
+
+/// Its file.
+pub fn file_at(clock: u32, leases: &[Lease]) -> Vec<u8> {
+    campus_at(clock, pool(), leases).octets()
 }
 
 /// The specimens' campus before any call.

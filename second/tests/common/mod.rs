@@ -1,7 +1,7 @@
 //! What the tests share: hex, the specimens' book and calls with a watched room.
 #![allow(dead_code)]
 
-use second::{serve, Book, House, Lease, Quota, Scope};
+use second::{serve, Book, House, Lease, Quota, Scope, ScopeNames};
 
 pub const CLIENT_1: u32 = 0x0A01_0005;
 pub const CLIENT_2: u32 = 0x0A02_0005;
@@ -22,6 +22,7 @@ pub fn hex(text: &str) -> Vec<u8> {
 }
 
 /// Scope 239.192.0.0, size 4; house 1 share 2 limit 3; house 2 share 1 limit 4; clock 1000; server 10.1.1.1.
+/// No names.
 pub fn specimen_book() -> Book {
     Book {
         server: 0x0A01_0101,
@@ -43,6 +44,7 @@ pub fn specimen_book() -> Book {
             quotas: vec![Quota { share: 2, limit: 3 }, Quota { share: 1, limit: 4 }],
         }],
         leases: vec![],
+        names: vec![ScopeNames::none(2)],
     }
 }
 

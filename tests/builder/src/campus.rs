@@ -1,5 +1,30 @@
 //! Campus files.
 
+#[derive(Clone, Debug, PartialEq, Eq)]
+pub struct Name {
+    /// 128 for a default, else 0.
+    pub flags: u8,
+    /// The language's.
+    pub tag: Vec<u8>,
+    pub text: Vec<u8>,
+}
+
+impl Name {
+    pub fn new(flags: u8, tag: &[u8], text: &[u8]) -> Name {
+        Name {
+            flags,
+            tag: tag.to_vec(),
+            text: text.to_vec(),
+        }
+    }
+
+    /// Flags(1), tag length(1), tag, text length(1), text.
+    pub fn octets(&self) -> Vec<u8> {
+        let (tag, text) = (self.tag.len() as u8, self.text.len() as u8);
+        [&[self.flags, tag], &self.tag[..], &[text], &self.text].concat()
+    }
+}
+
 #[derive(Clone, Debug)]
 pub struct Scope {
     pub lowest: u32,
@@ -7,6 +32,15 @@ pub struct Scope {
     pub ttl: u8,
     /// Share and limit of each house.
     pub parts: Vec<(u8, u8)>,
+    /// The campus list of names, then each house's own. Lists that aren't there are empty ones.
+    pub names: Vec<Vec<Name>>,
+}
+
+impl Scope {
+    /// The campus list (0) or a house's own (from 1).
+    pub fn names_of(&self, list: usize) -> &[Name] {
+        self.names.get(list).map_or(&[], |names| &names[..])
+    }
 }
 
 #[derive(Clone, Debug, PartialEq, Eq)]
@@ -38,8 +72,28 @@ impl Campus {
             .sort_by(|a, b| (a.house, &a.identifier).cmp(&(b.house, &b.identifier)));
     }
 
-    /// The campus file: four sections, each after its count.
+    /// The campus file: five sections, each after its count.
     pub fn octets(&self) -> Vec<u8> {
+        let mut file = self.front();
+        file.extend(self.names());
+        file
+    }
+
+    /// The last section: for each scope 1 + houses lists of names, each after its count.
+    pub fn names(&self) -> Vec<u8> {
+        let mut section = vec![self.scopes.len() as u8];
+        for scope in &self.scopes {
+            for list in 0..=self.houses.len() {
+                let names = scope.names_of(list);
+                section.push(names.len() as u8);
+                section.extend(names.iter().flat_map(Name::octets));
+            }
+        }
+        section
+    }
+
+    /// The sections before the names.
+    pub fn front(&self) -> Vec<u8> {
         let mut file = vec![1];
         file.extend(self.server.to_be_bytes());
         file.extend(self.clock.to_be_bytes());

@@ -1,10 +1,10 @@
-//! Campus files, datagrams and lists of calls as octets, laid out as document 01 says, high octet first. It rests on no implementation,
+//! Campus files, datagrams and lists of calls as octets, laid out as documents 01 and 02 say, high octet first. It rests on no implementation,
 //! and builds what is unsound or damaged as well as what is right.
 
 mod campus;
 mod message;
 
-pub use campus::{Campus, Lease, Scope};
+pub use campus::{Campus, Lease, Name, Scope};
 pub use message::*;
 
 use std::borrow::Cow;

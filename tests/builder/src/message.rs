@@ -1,5 +1,7 @@
 //! Datagrams: a header, options by code and value, End.
 
+use crate::campus::{Name, Scope};
+
 pub const DISCOVER: u8 = 1;
 pub const OFFER: u8 = 2;
 pub const REQUEST: u8 = 3;
@@ -102,6 +104,23 @@ pub fn number(least: u16, desired: u16) -> Coded {
     (7, numbers(&[least, desired]))
 }
 
+pub fn requested_language(tag: &[u8]) -> Coded {
+    (8, tag.to_vec())
+}
+
+/// A count(1), and per scope lowest address, highest address, TTL(1), number of names(1) and the name that is shown, if there is one.
+pub fn scope_list<'a>(shown: impl IntoIterator<Item = (&'a Scope, Option<&'a Name>)>) -> Coded {
+    let mut value = vec![0];
+    for (scope, name) in shown {
+        value[0] += 1;
+        value.extend(scope.lowest.to_be_bytes());
+        value.extend((scope.lowest + u32::from(scope.size) - 1).to_be_bytes());
+        value.extend([scope.ttl, name.iter().count() as u8]);
+        value.extend(name.map_or_else(Vec::new, Name::octets));
+    }
+    (9, value)
+}
+
 /// One range.
 pub fn range(lowest: u32, count: u16) -> Coded {
     (
@@ -126,4 +145,18 @@ pub fn error(code: u16) -> Coded {
 
 fn numbers(numbers: &[u16]) -> Vec<u8> {
     numbers.iter().flat_map(|n| n.to_be_bytes()).collect()
+}
+
+/// The value of an option, in a datagram whose options have their layout.
+pub fn value_of(datagram: &[u8], code: u16) -> Option<&[u8]> {
+    let mut rest = datagram.get(8..)?;
+    while let Some((&[high, low, length_high, length_low], tail)) = rest.split_first_chunk() {
+        let length = u16::from_be_bytes([length_high, length_low]);
+        let (value, behind) = tail.split_at_checked(length.into())?;
+        if u16::from_be_bytes([high, low]) == code {
+            return Some(value);
+        }
+        rest = behind;
+    }
+    None
 }

@@ -2,9 +2,11 @@
 
 use crate::campus::{beside, identifier};
 use crate::message;
+use crate::names;
 use crate::random::Random;
 use crate::{DEFAULT_LEASE, HORIZON, LAST_TIME, LONGEST_LEASE, SKEW};
-use builder::{number, Call, Campus, Message, DISCOVER, GETINFO, RELEASE, RENEW, REQUEST};
+use builder::{number, requested_language, Call, Campus, Message};
+use builder::{DISCOVER, GETINFO, RELEASE, RENEW, REQUEST};
 
 /// What a client may refer to: a lease of the file, or one that it has asked for.
 #[derive(Clone)]
@@ -149,7 +151,7 @@ impl Talk<'_> {
     fn message(&mut self, random: &mut Random) -> (usize, Message) {
         let kind = random.pick(&[
             DISCOVER, DISCOVER, REQUEST, REQUEST, REQUEST, REQUEST, REQUEST, RENEW, RENEW, RENEW,
-            RELEASE, RELEASE, GETINFO,
+            RELEASE, RELEASE, GETINFO, GETINFO,
         ]);
         let wants_known = if matches!(kind, RENEW | RELEASE) {
             85
@@ -187,13 +189,14 @@ impl Talk<'_> {
             DISCOVER | REQUEST => self.ask(random, &mut message),
             RENEW => self.put_period(random, &mut message),
             GETINFO => {
-                if random.chance(80) {
+                if random.chance(85) {
                     let codes = (0..random.between(1, 4))
-                        .flat_map(|_| random.pick(&[9_u16, 11, 1, 300, 0x0900]).to_be_bytes());
+                        .flat_map(|_| random.pick(&[9_u16, 9, 11, 1, 300, 0x0900]).to_be_bytes());
                     message.put(5, codes.collect::<Vec<u8>>());
                 }
-                if random.chance(20) {
-                    message.put(8, *b"en");
+                if random.chance(70) {
+                    let language = names::language(random, self.campus, house);
+                    message.options.push(requested_language(&language));
                 }
             }
             _ => {}

@@ -1,5 +1,6 @@
 //! Sound campuses of every shape; they rest on neither implementation.
 
+use crate::names;
 use crate::random::Random;
 use crate::{HORIZON, LAST_TIME, LONGEST_LEASE};
 use builder::{Campus, Lease, Scope};
@@ -244,6 +245,7 @@ fn pools(random: &mut Random, count: usize, houses: usize) -> Vec<Scope> {
             size,
             ttl: random.pick(&[1, 15, 255]),
             parts: parts(random, size, houses),
+            names: names::lists(random, houses),
         });
     }
     if random.chance(50) {

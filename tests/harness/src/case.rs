@@ -15,6 +15,8 @@ pub struct Case {
     /// The calls' records; the last may be cut off.
     pub calls: Vec<u8>,
     pub meant: Meant,
+    /// What the file is made of, if it is that of a sound campus.
+    pub campus: Option<Campus>,
 }
 
 impl Case {
@@ -32,11 +34,13 @@ impl Case {
                     file,
                     calls,
                     meant: Some(place),
+                    campus: None,
                 };
             }
         }
         let campus = sound(&mut random);
-        let file = if number.is_multiple_of(25) {
+        let is_scrambled = number.is_multiple_of(25);
+        let file = if is_scrambled {
             damage::scrambled(&mut random, &campus)
         } else {
             campus.octets()
@@ -50,6 +54,7 @@ impl Case {
             file,
             calls,
             meant: None,
+            campus: (!is_scrambled).then_some(campus),
         }
     }
 
@@ -68,6 +73,7 @@ impl Case {
             file,
             calls: octets[2 + length..].to_vec(),
             meant: None,
+            campus: None,
         })
     }
 }

@@ -2,10 +2,11 @@
 
 use crate::case::Case;
 use crate::lent::{Held, Lender};
+use crate::names;
 use crate::tally::Tally;
 use crate::LONGEST_FILE;
 use banshorra_host::{ANSWER_ROOM, BOARD_ROOM};
-use builder::Call;
+use builder::{value_of, Call, ACK, GETINFO};
 use std::panic::{catch_unwind, AssertUnwindSafe};
 
 /// Refusals of the C interface.
@@ -126,8 +127,7 @@ pub fn compare(case: &Case, tally: &mut Tally) -> Result<(), Difference> {
             lent_rooms(case, tally);
         }
     })?;
-    count(case, &expected, tally);
-    Ok(())
+    count(case, &expected, tally)
 }
 
 fn choice(case: &Case) -> usize {
@@ -137,7 +137,8 @@ fn choice(case: &Case) -> usize {
     }) >> 3
 }
 
-fn count(case: &Case, expected: &Expected, tally: &mut Tally) {
+/// Counts what the case has shown, and sees that each scope list is the one that is due by what the case was made of.
+fn count(case: &Case, expected: &Expected, tally: &mut Tally) -> Result<(), Difference> {
     if expected.refusal != 0 {
         tally.code(expected.refusal);
     }
@@ -145,10 +146,21 @@ fn count(case: &Case, expected: &Expected, tally: &mut Tally) {
         tally.damaged(place, expected.refusal);
     }
     for answer in &expected.answers {
-        if let Some(call) = Call::read(&case.calls[answer.place..]) {
-            tally.call(&call.datagram, answer.outcome, &answer.reply);
+        let Some(call) = Call::read(&case.calls[answer.place..]) else {
+            continue;
+        };
+        tally.call(&call.datagram, answer.outcome, &answer.reply);
+        let kinds = (call.datagram.get(1), answer.reply.get(1));
+        if let (Some(campus), (Some(&GETINFO), Some(&ACK))) = (&case.campus, kinds) {
+            let (due, why) = names::scope_list_due(campus, &call);
+            why.into_iter().for_each(|why| tally.named(why));
+            if due.as_ref().map(|option| &option.1[..]) != value_of(&answer.reply, 9) {
+                let reply = hex(&answer.reply);
+                return Err(format!("another scope list is due than in {reply}"));
+            }
         }
     }
+    Ok(())
 }
 
 /// The text in a room that is exactly large enough by its rule, or larger; nothing where it is smaller.

@@ -1,9 +1,13 @@
 //! Campus files with one thing wrong: each part of each rule of a sound book (21), and each rule of form (20).
 
 use crate::campus::{holding, new_lease, sound, HIGHEST_POOL, LOWEST_POOL, RECORDS};
+use crate::names::{self, LONGEST_TAG, LONGEST_TEXT, MOST_NAMES};
 use crate::random::Random;
 use crate::{LAST_TIME, LONGEST_FILE};
-use builder::{Campus, Lease, Scope};
+use builder::{Campus, Lease, Name, Scope};
+
+/// The longest file that counts, sizes and lengths within their limits allow, of which the names have 6,229 octets.
+const LONGEST_LAYOUT: usize = 20_857;
 
 /// A damage: what it breaks, the refusal that it has to draw, and how it is done. `None` where a campus has nothing to break.
 pub struct Damage {
@@ -28,12 +32,15 @@ const fn malformed(name: &'static str, make: fn(&mut Random, Campus) -> Option<V
     }
 }
 
-/// Every damage. The names follow document 01's words.
+/// Every damage, in the words of documents 01 and 02.
 pub const DAMAGES: &[Damage] = &[
     unsound("counts: no house", no_house),
     unsound("counts: more than 8 houses", many_houses),
     unsound("counts: no scope", no_scope),
     unsound("counts: more than 4 scopes", many_scopes),
+    unsound("counts: 255 scopes, 40 houses", |_, campus| {
+        Some(very_many_lists(campus))
+    }),
     unsound("counts: more than 16 leases of a house", many_leases),
     unsound("counts: more than 128 leases", very_many_leases),
     unsound("counts: more than 64 addresses of a lease", many_addresses),
@@ -58,7 +65,10 @@ pub const DAMAGES: &[Damage] = &[
     unsound("a lease has an address", no_address),
     unsound("identifiers differ within a house", equal_identifiers),
     unsound("no address has two houses", two_houses),
-    unsound("no address has two houses, 14,628 octets", longest_file),
+    unsound("no address has two houses, 20,857 octets", longest_file),
+    unsound("identifier lengths, 32,768 octets", |random, campus| {
+        grown_layout(random, &campus, LONGEST_FILE)
+    }),
     unsound("leases on one address don't overlap", leases_overlap),
     unsound("each holding at most its limit", holding_above_limit),
     unsound(
@@ -69,9 +79,11 @@ pub const DAMAGES: &[Damage] = &[
     malformed("cut off before a count", cut_at_count),
     malformed("no octets", |_, _| Some(Vec::new())),
     malformed("excess octets", excess),
-    malformed("excess octets past 14,628", padded),
-    malformed("14,629 octets", one_too_long),
-    malformed("more than 14,628 octets, layout right", too_long),
+    malformed("excess octets up to 32,768 and past it", padded),
+    malformed("32,769 octets, layout right", |random, campus| {
+        grown_layout(random, &campus, LONGEST_FILE + 1)
+    }),
+    malformed("more than 32,769 octets, layout right", too_long),
     malformed("server count", server_count),
     malformed("server count, layout right", server_sections),
     malformed("houses not rising", houses_fall),
@@ -80,7 +92,32 @@ pub const DAMAGES: &[Damage] = &[
     malformed("a prefix last", prefix_last),
     malformed("equal offsets", equal_offsets),
     malformed("falling offsets", falling_offsets),
+    malformed("names: no section", |_, campus| Some(campus.front())),
+    malformed("names: cut inside", names_cut),
+    malformed("names: cut off after 255 scopes, 40 houses", deep_cut),
+    malformed("names: an octet more", names_excess),
+    malformed("names: count one more than the scopes", |_, campus| {
+        with_section(&campus, |section| section[0] += 1)
+    }),
+    malformed("names: count one less than the scopes", |_, campus| {
+        with_section(&campus, |section| section[0] -= 1)
+    }),
+    malformed("names: a scope more, layout right", a_scope_more),
+    malformed("names: a scope fewer, layout right", a_scope_fewer),
+    malformed("names: a list more", a_list_more),
+    malformed("names: a list fewer", a_list_fewer),
+    malformed("names: flags neither 0 nor 128", wrong_flags),
+    malformed("names: a tag of 0 octets", |random, campus| {
+        with_name(random, campus, |_, name| name.tag.clear())
+    }),
+    malformed("names: a tag of 9 octets or more", long_tag),
+    malformed("names: a text of 0 octets", |random, campus| {
+        with_name(random, campus, |_, name| name.text.clear())
+    }),
+    malformed("names: a text of 33 octets or more", long_text),
+    malformed("names: five in a list or more", many_names),
     malformed("wrong form and unsound", form_and_unsound),
+    malformed("bad names and unsound", names_and_unsound),
 ];
 
 impl Damage {
@@ -131,6 +168,9 @@ fn many_houses(random: &mut Random, mut campus: Campus) -> Option<Vec<u8>> {
     campus.houses = (0..count).map(|n| (n << 8, (n << 8) + 255)).collect();
     for scope in &mut campus.scopes {
         scope.parts.resize(count as usize, (0, 0));
+        if count < 20 {
+            scope.names = names::lists(random, count as usize);
+        }
     }
     ordered(campus)
 }
@@ -143,15 +183,34 @@ fn no_scope(_: &mut Random, mut campus: Campus) -> Option<Vec<u8>> {
 
 fn many_scopes(random: &mut Random, mut campus: Campus) -> Option<Vec<u8>> {
     let count = random.pick(&[5, 5, 6, 255]);
+    let houses = campus.houses.len();
     for number in campus.scopes.len()..count {
-        campus.scopes.push(Scope {
-            lowest: 0xE600_0000 + ((number as u32) << 8),
-            size: 64,
-            ttl: 1,
-            parts: vec![(0, 0); campus.houses.len()],
-        });
+        let mut scope = spare_scope(number as u32, houses);
+        if count < 20 {
+            scope.names = names::lists(random, houses);
+        }
+        campus.scopes.push(scope);
     }
     ordered(campus)
+}
+
+/// A scope of 64 addresses beside those of other campuses, without names.
+fn spare_scope(number: u32, houses: usize) -> Scope {
+    Scope {
+        lowest: 0xE600_0000 + (number << 8),
+        size: 64,
+        ttl: 1,
+        parts: vec![(0, 64); houses],
+        names: Vec::new(),
+    }
+}
+
+/// As many scopes as a count can say, and houses up to the longest file: a walk over the names is deepest here.
+fn very_many_lists(mut campus: Campus) -> Vec<u8> {
+    campus.houses = (0..40).map(|n| (n << 8, (n << 8) + 255)).collect();
+    campus.scopes = (0..255).map(|n| spare_scope(n, 40)).collect();
+    campus.leases.clear();
+    campus.octets()
 }
 
 /// Brings a house to so many leases, on an address that it has, each touching the one before.
@@ -441,14 +500,10 @@ fn full_layout(random: &mut Random, campus: &Campus) -> Campus {
     let mut full = campus.clone();
     full.clock = 1_000;
     full.houses = (0..8).map(|n| (n, n)).collect();
-    full.scopes = (0..4)
-        .map(|n| Scope {
-            lowest: 0xE600_0000 + (n << 8),
-            size: 64,
-            ttl: 1,
-            parts: vec![(0, 64); 8],
-        })
-        .collect();
+    full.scopes = (0..4).map(|n| spare_scope(n, 8)).collect();
+    for scope in &mut full.scopes {
+        scope.names = names::full_lists(8);
+    }
     full.leases.clear();
     for house in 0..8 {
         for number in 0..16_u32 {
@@ -465,7 +520,19 @@ fn full_layout(random: &mut Random, campus: &Campus) -> Campus {
 
 fn longest_file(random: &mut Random, campus: Campus) -> Option<Vec<u8>> {
     let full = full_layout(random, &campus).octets();
-    (full.len() == LONGEST_FILE).then_some(full)
+    (full.len() == LONGEST_LAYOUT).then_some(full)
+}
+
+/// A file of this length with its layout right: the longest layout with longer identifiers.
+fn grown_layout(random: &mut Random, campus: &Campus, length: usize) -> Option<Vec<u8>> {
+    let mut full = full_layout(random, campus);
+    let mut left = length.checked_sub(full.octets().len())?;
+    for lease in &mut full.leases {
+        let more = left.min(255 - lease.identifier.len());
+        lease.identifier.resize(lease.identifier.len() + more, 7);
+        left -= more;
+    }
+    (left == 0).then(|| full.octets())
 }
 
 /// A lease of the same house on the same address that begins a second before the other ends.
@@ -538,12 +605,12 @@ fn cut(random: &mut Random, campus: Campus) -> Option<Vec<u8>> {
     Some(file)
 }
 
-/// Cut after the server, the houses or the scopes.
+/// Cut after the server, the houses, the scopes or the leases.
 fn cut_at_count(random: &mut Random, campus: Campus) -> Option<Vec<u8>> {
     let mut file = campus.octets();
     let houses = 10 + 8 * campus.houses.len();
     let scopes = houses + 1 + campus.scopes.len() * (6 + 2 * campus.houses.len());
-    file.truncate(random.pick(&[1, 9, houses, scopes]));
+    file.truncate(random.pick(&[1, 9, houses, scopes, campus.front().len()]));
     Some(file)
 }
 
@@ -564,22 +631,9 @@ fn padded(random: &mut Random, campus: Campus) -> Option<Vec<u8>> {
     Some(file)
 }
 
-fn one_too_long(random: &mut Random, campus: Campus) -> Option<Vec<u8>> {
-    let mut full = full_layout(random, &campus);
-    full.leases[0].identifier.push(0);
-    full.sort();
-    let file = full.octets();
-    (file.len() == LONGEST_FILE + 1).then_some(file)
-}
-
 fn too_long(random: &mut Random, campus: Campus) -> Option<Vec<u8>> {
-    let mut full = full_layout(random, &campus);
-    let length = random.pick(&[33, 40, 100]);
-    full.leases
-        .iter_mut()
-        .for_each(|lease| lease.identifier.resize(length, 7));
-    full.sort();
-    Some(full.octets())
+    let more = random.pick(&[2, 3, 500, 16_000]);
+    grown_layout(random, &campus, LONGEST_FILE + more)
 }
 
 fn server_count(random: &mut Random, campus: Campus) -> Option<Vec<u8>> {
@@ -651,21 +705,135 @@ fn falling_offsets(random: &mut Random, mut campus: Campus) -> Option<Vec<u8>> {
     Some(campus.octets())
 }
 
-fn form_and_unsound(random: &mut Random, mut campus: Campus) -> Option<Vec<u8>> {
+// ---- names
+
+/// The file with its last section changed.
+fn with_section(campus: &Campus, change: impl FnOnce(&mut Vec<u8>)) -> Option<Vec<u8>> {
+    let mut section = campus.names();
+    change(&mut section);
+    Some([campus.front(), section].concat())
+}
+
+/// The file with a name changed.
+fn with_name(
+    random: &mut Random,
+    mut campus: Campus,
+    change: impl FnOnce(&mut Random, &mut Name),
+) -> Option<Vec<u8>> {
+    let scope = random.below(campus.scopes.len());
+    let list = random.below(campus.houses.len() + 1);
+    let name = place(random, campus.scopes[scope].names_of(list))?;
+    change(random, &mut campus.scopes[scope].names[list][name]);
+    Some(campus.octets())
+}
+
+fn names_cut(random: &mut Random, campus: Campus) -> Option<Vec<u8>> {
+    with_section(&campus, |section| {
+        section.truncate(random.between(1, section.len() - 1))
+    })
+}
+
+fn deep_cut(random: &mut Random, campus: Campus) -> Option<Vec<u8>> {
+    let mut file = very_many_lists(campus);
+    if random.chance(50) {
+        file.pop();
+    } else {
+        *file.last_mut()? = 1;
+    }
+    Some(file)
+}
+
+fn names_excess(random: &mut Random, campus: Campus) -> Option<Vec<u8>> {
+    with_section(&campus, |section| {
+        section.push(random.pick(&[0, 0, 1, 128, 255]))
+    })
+}
+
+fn a_scope_more(random: &mut Random, campus: Campus) -> Option<Vec<u8>> {
+    let mut other = campus.clone();
+    other.scopes.push(random.pick(&campus.scopes));
+    Some([campus.front(), other.names()].concat())
+}
+
+fn a_scope_fewer(random: &mut Random, campus: Campus) -> Option<Vec<u8>> {
+    let mut other = campus.clone();
+    other.scopes.remove(random.below(campus.scopes.len()));
+    Some([campus.front(), other.names()].concat())
+}
+
+/// One list more than the houses and the campus have: in the first scope or in the last.
+fn a_list_more(random: &mut Random, campus: Campus) -> Option<Vec<u8>> {
+    with_section(&campus, |section| {
+        let place = random.pick(&[1, section.len()]);
+        section.insert(place, 0);
+    })
+}
+
+/// A scope whose campus list isn't there.
+fn a_list_fewer(_: &mut Random, campus: Campus) -> Option<Vec<u8>> {
+    campus.scopes[0].names_of(0).is_empty().then_some(())?;
+    with_section(&campus, |section| section.drain(1..2).for_each(drop))
+}
+
+fn wrong_flags(random: &mut Random, campus: Campus) -> Option<Vec<u8>> {
+    with_name(random, campus, |random, name| {
+        name.flags = random.pick(&[1, 1, 2, 64, 127, 129, 192, 255])
+    })
+}
+
+fn long_tag(random: &mut Random, campus: Campus) -> Option<Vec<u8>> {
+    with_name(random, campus, |random, name| {
+        let length = random.pick(&[1, 1, 1, 2, 24, 247]);
+        name.tag.resize(LONGEST_TAG + length, b'-');
+    })
+}
+
+fn long_text(random: &mut Random, campus: Campus) -> Option<Vec<u8>> {
+    with_name(random, campus, |random, name| {
+        let length = random.pick(&[1, 1, 1, 2, 96, 223]);
+        name.text.resize(LONGEST_TEXT + length, b'-');
+    })
+}
+
+fn many_names(random: &mut Random, mut campus: Campus) -> Option<Vec<u8>> {
+    let scope = random.below(campus.scopes.len());
+    let list = random.below(campus.houses.len() + 1);
+    let count = MOST_NAMES + random.pick(&[1, 1, 1, 2, 251]);
+    let names = &mut campus.scopes[scope].names[list];
+    names.resize_with(count, || Name::new(0, b"x", b"y"));
+    Some(campus.octets())
+}
+
+// ---- form and soundness
+
+/// Breaks a rule of soundness, but none of form.
+fn unsettle(random: &mut Random, campus: &mut Campus) {
     match random.below(3) {
         0 => campus.scopes[0].ttl = 0,
         1 => campus.houses[0] = (1, 0),
         _ => campus.scopes[0].lowest = 0,
     }
+}
+
+fn form_and_unsound(random: &mut Random, mut campus: Campus) -> Option<Vec<u8>> {
+    unsettle(random, &mut campus);
     let form = random.pick(&[cut, excess, equal_offsets, identifiers_fall, houses_fall]);
     form(random, campus)
+}
+
+fn names_and_unsound(random: &mut Random, mut campus: Campus) -> Option<Vec<u8>> {
+    unsettle(random, &mut campus);
+    let bad = random.pick(&[names_cut, wrong_flags, long_tag, long_text, many_names]);
+    bad(random, campus)
 }
 
 /// A file with a few octets changed, or a count. What it draws isn't foretold.
 pub fn scrambled(random: &mut Random, campus: &Campus) -> Vec<u8> {
     let mut file = campus.octets();
+    let before_names = campus.front().len();
     for _ in 0..random.pick(&[1, 1, 1, 2, 5]) {
-        let place = random.below(file.len());
+        let below = random.pick(&[before_names, file.len()]);
+        let place = random.below(below);
         file[place] = match random.below(4) {
             0 => file[place] ^ (1 << random.below(8)),
             1 => file[place].wrapping_add(1),

@@ -1,5 +1,6 @@
 //! Work to measure: campus files with a number of leases, and lists of calls that leave the book as it was.
 
+use crate::names::full_lists;
 use crate::random::Random;
 use crate::{DEFAULT_LEASE, LONGEST_FILE};
 use banshorra_host::{library, ANSWER_ROOM};
@@ -9,6 +10,8 @@ const CLOCK: u32 = 1_700_000_000;
 const SERVER: u32 = 0x0A01_0101;
 /// The numbers of leases that calls are measured at.
 pub const LEASES: [usize; 4] = [0, 16, 64, 128];
+/// The number at which they are measured with names too, and the mixed list.
+const NAMED_LEASES: usize = 64;
 
 /// What is done with a file.
 pub enum Work {
@@ -20,6 +23,8 @@ pub enum Work {
 pub struct Job {
     pub name: &'static str,
     pub leases: usize,
+    /// Whether the file's names section is the longest; else it has no names.
+    pub full_names: bool,
     pub file: Vec<u8>,
     pub work: Work,
     /// Outcome and, for a reply, its type, that each of its calls has to draw; none for the mixed list.
@@ -151,6 +156,7 @@ fn settings() -> Campus {
                 size: 64,
                 ttl: 15,
                 parts: vec![(4, 32); 8],
+                names: Vec::new(),
             })
             .collect(),
         leases: Vec::new(),
@@ -162,9 +168,18 @@ fn name(house: u8, number: u8) -> Vec<u8> {
     format!("house{house}{number:02}").into_bytes()
 }
 
-/// The fullest sound file: 128 leases, identifiers of 32 octets, 32 addresses each, sixteen periods one after the other.
+/// The campus with the longest names section: four names in every list, with tags of 8 octets and texts of 32.
+fn with_full_names(mut campus: Campus) -> Campus {
+    for scope in &mut campus.scopes {
+        scope.names = full_lists(8);
+    }
+    campus
+}
+
+/// The fullest sound file: 128 leases, identifiers of 32 octets, 32 addresses each, sixteen periods one after the other, and the longest
+/// names section.
 fn full_campus() -> Campus {
-    let mut campus = settings();
+    let mut campus = with_full_names(settings());
     campus
         .scopes
         .iter_mut()
@@ -234,6 +249,13 @@ fn information(code: u16) -> Message {
     Message::new(GETINFO, 9, options)
 }
 
+/// A GETINFO that asks for the scope list in a language. That of the last name of the campus list is found last.
+fn information_in(language: &[u8]) -> Message {
+    let mut message = information(5);
+    message.options.push(requested_language(language));
+    message
+}
+
 /// The calls to measure at a number of leases: a name, what they draw, and calls that are sent in turn and leave the book as it was.
 fn turns(leases: usize) -> Vec<(&'static str, Draws, Vec<Call<'static>>)> {
     let at = |house: u8, message: Message| call(house, CLOCK, &message);
@@ -281,6 +303,11 @@ fn turns(leases: usize) -> Vec<(&'static str, Draws, Vec<Call<'static>>)> {
             "GETINFO, answered",
             ACKNOWLEDGED,
             vec![at(5, information(5))],
+        ),
+        (
+            "GETINFO, with a language",
+            ACKNOWLEDGED,
+            vec![at(5, information_in(&full_lists(0)[0][3].tag))],
         ),
         (
             "GETINFO, refused (option)",
@@ -368,6 +395,7 @@ pub fn jobs(count: usize, mixed_count: usize) -> Vec<Job> {
     let empty = |leases: usize, file: &[u8]| Job {
         name: "empty list",
         leases,
+        full_names: false,
         file: file.to_vec(),
         work: repeated(&[], 0),
         draws: Some(ACKNOWLEDGED),
@@ -384,6 +412,7 @@ pub fn jobs(count: usize, mixed_count: usize) -> Vec<Job> {
             let job = |leases: usize, file: &[u8]| Job {
                 name,
                 leases,
+                full_names: false,
                 file: file.to_vec(),
                 work: repeated(&calls, count),
                 draws: Some(draws),
@@ -402,25 +431,48 @@ pub fn jobs(count: usize, mixed_count: usize) -> Vec<Job> {
             }
         }
     }
+    jobs.extend(jobs_with_names(count, mixed_count));
     let full = full_campus().octets();
     let read = Job {
         name: "full file, read",
         leases: 128,
+        full_names: true,
         file: full.clone(),
         work: Work::Check,
         draws: Some(ACKNOWLEDGED),
     };
     let written = Job {
         name: "full file, read and written",
+        full_names: true,
         ..empty(128, &full)
     };
     let mixed = Job {
         name: "mixed list",
-        leases: 64,
-        file: campus(64).octets(),
+        leases: NAMED_LEASES,
+        full_names: false,
+        file: campus(NAMED_LEASES).octets(),
         work: mixed(mixed_count),
         draws: None,
     };
     jobs.extend([read, written, mixed]);
     jobs
+}
+
+/// The same calls and the mixed list on a file with the longest names section, at one number of leases: what names cost a call, and what they
+/// cost one that shows none.
+fn jobs_with_names(count: usize, mixed_count: usize) -> Vec<Job> {
+    let file = with_full_names(campus(NAMED_LEASES)).octets();
+    let job = |name, work, draws| Job {
+        name,
+        leases: NAMED_LEASES,
+        full_names: true,
+        file: file.clone(),
+        work,
+        draws,
+    };
+    let empty = job("empty list", repeated(&[], 0), Some(ACKNOWLEDGED));
+    let calls = turns(NAMED_LEASES).into_iter();
+    let calls = calls.map(|(name, draws, calls)| job(name, repeated(&calls, count), Some(draws)));
+    let mixed = job("mixed list", mixed(mixed_count), None);
+    [empty].into_iter().chain(calls).chain([mixed]).collect()
 }

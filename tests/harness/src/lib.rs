@@ -9,16 +9,17 @@ pub mod damage;
 pub mod jobs;
 pub mod lent;
 pub mod message;
+pub mod names;
 pub mod random;
 pub mod tally;
 pub mod watch;
 
-/// Numbers of document 01.
+/// Numbers of documents 01 and 02.
 pub const SKEW: u32 = 1_800;
 pub const DEFAULT_LEASE: u32 = 3_600;
 pub const LONGEST_LEASE: u32 = 604_800;
 pub const HORIZON: u32 = 2_592_000;
 pub const LAST_TIME: u32 = u32::MAX;
-pub const LONGEST_FILE: usize = 14_628;
+pub const LONGEST_FILE: usize = 32_768;
 pub const LONGEST_DATAGRAM: usize = 1_472;
 pub const SHORTEST_ROOM: usize = 512;

@@ -10,7 +10,7 @@ pub fn fitting_value(random: &mut Random, code: u16) -> Vec<u8> {
         2 => random.pick(&[6, 6, 18]),
         3 => random.pick(&[2, 32]),
         5 => random.pick(&[2, 4, 6]),
-        8 | 9 => random.pick(&[1, 2, 21]),
+        8 | 9 => random.pick(&[1, 2, 8, 9, 21]),
         10 => random.pick(&[6, 12]),
         12 => return features(random, 0),
         16 => random.pick(&[2, 3, 9]),

@@ -1,6 +1,7 @@
 //! How often each outcome, error, refusal and rule occurred.
 
 use crate::damage::DAMAGES;
+use crate::names;
 use std::collections::BTreeMap;
 
 /// Message types by number; the server's own are among them.
@@ -22,7 +23,7 @@ const CODES: [(u8, &str); 7] = [
     (0, "replay answered the whole list"),
     (20, "refused 20: wrong form"),
     (21, "refused 21: unsound"),
-    (23, "refused 23: file room below 14,628"),
+    (23, "refused 23: file room below 32,768"),
     (24, "stopped 24: a record cut off"),
     (27, "stopped 27: answers' room used up"),
     (28, "refused 28: file length past its room"),
@@ -55,6 +56,10 @@ fn damage_name(place: usize) -> String {
     )
 }
 
+fn named_for(why: &str) -> String {
+    format!("name: {why}")
+}
+
 impl Tally {
     fn add(&mut self, name: String) {
         *self.counts.entry(name).or_default() += 1;
@@ -80,6 +85,11 @@ impl Tally {
         self.add(code_name(code));
     }
 
+    /// Why the name of a scope was chosen, or none.
+    pub fn named(&mut self, why: &str) {
+        self.add(named_for(why));
+    }
+
     /// A file that was damaged on purpose, and what it drew.
     pub fn damaged(&mut self, place: usize, refusal: u8) {
         if refusal == DAMAGES[place].refusal {
@@ -95,6 +105,7 @@ impl Tally {
         names.extend(REPLIES.map(|(sent, reply)| reply_name(sent, reply)));
         names.extend((0..4).map(|error| format!("error {error}")));
         names.extend(CODES.map(|(code, _)| code_name(code)));
+        names.extend(names::COUNTED.map(named_for));
         names.extend((0..DAMAGES.len()).map(damage_name));
         names
     }

@@ -4,20 +4,21 @@
 
 use crate::lent::{Held, Lender};
 use banshorra_host::{ANSWER_ROOM, BOARD_ROOM, FILE_ROOM, REPLY_ROOM};
-use builder::{Call, ACK, NAK, OFFER};
+use builder::{value_of, Call, ACK, NAK, OFFER};
 use std::collections::BTreeMap;
 
 /// Buffers are just as long as the library is told, for valgrind.
 pub const EXACT: Lender = Lender { around: 0 };
 
 /// What a run of some length has to see.
-const SEEN: [(&str, &str); 6] = [
+const SEEN: [(&str, &str); 7] = [
     ("check", "0, 20, 21"),
     ("board", "lines, refused 20, refused 21, no room"),
     ("serve", "0, 2, 3, 4, 5, 6, 7, 8, 20, 21, 23, 28"),
     ("replay", "0, 20, 21, 23, 24, 27, 28"),
     ("replies", "OFFER, ACK, NAK"),
     ("errors", "0, 1, 2, 3"),
+    ("names", "0, 1"),
 ];
 
 /// Where a campus file's clock stands.
@@ -36,6 +37,18 @@ fn settings_length(file: &[u8]) -> usize {
     11 + 8 * houses + scopes * (6 + 2 * houses)
 }
 
+/// The octets of an accepted file behind its leases: the names, which no call changes.
+fn names(file: &[u8]) -> &[u8] {
+    let start = settings_length(file);
+    let mut names = &file[start + 1..];
+    for _ in 0..file[start] {
+        // House, scope, the identifier, type, transaction id, start and end, the offsets.
+        let behind = &names[3 + usize::from(names[2]) + 13..];
+        names = &behind[1 + usize::from(behind[0])..];
+    }
+    names
+}
+
 /// How often each number was returned, and each reply and error seen.
 #[derive(Default)]
 pub struct Watch(BTreeMap<(&'static str, String), u64>);
@@ -45,7 +58,7 @@ impl Watch {
         *self.0.entry((what, of.to_string())).or_default() += 1;
     }
 
-    /// A line for each function, for replies and errors; and how many of those that have to occur never did.
+    /// A line for each function, for replies, errors and names; and how many of those that have to occur never did.
     pub fn lines(&self) -> (Vec<String>, usize) {
         let (mut lines, mut missing) = (vec![], 0);
         for (what, names) in SEEN {
@@ -129,6 +142,8 @@ impl Watch {
         assert!(right, "serve returned {number}, {due} is due");
         if number == 0 {
             self.see_reply(call, &reply);
+            let list = value_of(&reply, 9).unwrap_or(&[0]);
+            self.see_scope_list(&before, list);
         }
         if due == 0 && number != 2 {
             self.see_file(&before, held, call.time);
@@ -158,6 +173,25 @@ impl Watch {
         }
     }
 
+    /// No scope of a list has more than one name, and that is one of the file's.
+    fn see_scope_list(&mut self, file: &[u8], list: &[u8]) {
+        let (scopes, mut rest) = (list[0], &list[1..]);
+        for _ in 0..scopes {
+            let (scope, behind) = rest.split_at(10);
+            self.count("names", scope[9]);
+            assert!(scope[9] < 2, "{} names of a scope", scope[9]);
+            rest = behind;
+            if scope[9] == 1 {
+                let tag = usize::from(rest[1]);
+                let (name, behind) = rest.split_at(3 + tag + usize::from(rest[2 + tag]));
+                let mut parts = names(file).windows(name.len());
+                assert!(parts.any(|part| part == name), "a name that isn't there");
+                rest = behind;
+            }
+        }
+        assert!(rest.is_empty(), "octets after the scopes of a list");
+    }
+
     /// What every call leaves that changes something: an accepted file with the settings as before and the larger clock.
     fn see_file(&mut self, before: &[u8], after: &Held, time: u32) {
         let (file, length, settings) = (after.file(), after.length(), settings_length(before));
@@ -173,6 +207,7 @@ impl Watch {
         let same = file[..CLOCK.start] == before[..CLOCK.start]
             && file[CLOCK.end..settings] == before[CLOCK.end..settings];
         assert!(same, "the settings have changed");
+        assert!(names(file) == names(before), "the names have changed");
     }
 
     /// A replay, compared with its single serves.

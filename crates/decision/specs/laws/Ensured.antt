@@ -30,6 +30,7 @@ sentAs kind m = record {
   ours = m .ours;
   «list_asked» = m .«list_asked»;
   «time_asked» = m .«time_asked»;
+  language = m .language;
 }
 
 -- an ACK's lease as an OFFER's; anything else as discard 8

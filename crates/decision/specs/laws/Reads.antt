@@ -57,7 +57,7 @@ zeros zero = refl
 zeros (suc k) = all-cons (λ x. eqb x 0) 0 (replicate k 0) refl (zeros k)
 
 -- and zeros stand behind it
-id-padded : (s : List ℕ) (at : ℕ) → Placed s 3 at → zeroFrom (lengthAt s at) (padded (lengthAt s at) (drop (at + 4) s)) ≡ true
+id-padded : (s : List ℕ) (at : ℕ) → Placed s 3 at → zeroFrom (lengthAt s at) (padded 32 (lengthAt s at) (drop (at + 4) s)) ≡ true
 unfolding zeroFrom
 id-padded s at p =
     let f = p .fits in
@@ -90,4 +90,4 @@ read-array s server e =
     let b = length-drop (at + 4) s in
     let c = length-append (take n (drop (at + 4) s)) (replicate (32 - n) 0) in
     let d = length-replicate {A = ℕ} (32 - n) 0 in
-    ap (λ (i : Identifier). length (i .octets)) (sym q) ∙ (let g : length (padded n (drop (at + 4) s)) ≡ 32 = omega arith in g)
+    ap (λ (i : Identifier). length (i .octets)) (sym q) ∙ (let g : length (padded 32 n (drop (at + 4) s)) ≡ 32 = omega arith in g)

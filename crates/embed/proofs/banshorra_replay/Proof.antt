@@ -1,5 +1,5 @@
 -- `banshorra_replay` meets its contract: the file is read, the list is answered, the file is written again; a refused file changes nothing.
-use Rattle.embed.proofs.Files.{file-left, file-replayed}
+use Rattle.embed.proofs.Files.{file-left, file-replayed, kept-length, kept-within}
 use borrow.Author.Needs.{needs}
 use Rattle.embed.proofs.banshorra_replay.Statement.{statement}
 use Rattle.embed.proofs.banshorra_replay.Tie as tie
@@ -10,6 +10,11 @@ banshorra-replay-spec =
     (tie.spec
     (λ c κs. search needs)
     (λ c κs. search needs)
+    (λ c. search (kept-within, needs))
+    (λ c. search (kept-length, needs))
+    (λ c κs. search needs)
+    (λ c. search (kept-within, needs))
+    (λ c. search (kept-length, needs))
     (λ c κs. search needs)
     (λ c κs. search needs)
     (λ c κs. search needs)

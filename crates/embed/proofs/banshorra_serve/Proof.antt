@@ -1,5 +1,5 @@
 -- `banshorra_serve` meets its contract: the file is read, the call is served, the file is written again; a refused file changes nothing.
-use Rattle.embed.proofs.Files.{file-kept, file-served}
+use Rattle.embed.proofs.Files.{file-kept, file-served, kept-length, kept-within}
 use borrow.Author.Needs.{needs}
 use Rattle.embed.proofs.banshorra_serve.Statement.{statement}
 use Rattle.embed.proofs.banshorra_serve.Tie as tie
@@ -10,6 +10,11 @@ banshorra-serve-spec =
     (tie.spec
     (λ c κs. search needs)
     (λ c κs. search needs)
+    (λ c. search (kept-within, needs))
+    (λ c. search (kept-length, needs))
+    (λ c κs. search needs)
+    (λ c. search (kept-within, needs))
+    (λ c. search (kept-length, needs))
     (λ c κs. search needs)
     (λ c κs. search needs)
     (λ c κs. search needs)

@@ -10,24 +10,30 @@ use Rattle.embed.proofs.replay.Statement.{statement}
 use Rattle.embed.proofs.replay.Tie as tie
 
 abbrev Inv-loop : tie.InvT-loop
-Inv-loop calls answers₀ o₀ at₀ to₀ answers o at to =
-    ReplayInv calls answers₀ (replayed (length calls) (o₀ .state) (o₀ .records .leases) calls (length answers₀)) (o .state) (o .records .leases) answers at to
+Inv-loop names calls answers₀ o₀ at₀ to₀ answers o at to =
+    ReplayInv names calls answers₀ (replayed (length calls) (o₀ .state) (o₀ .records .leases) names calls (length answers₀)) (o .state) (o .records .leases) answers at to
 
 abbrev μ-loop : tie.MeasureT-loop
-μ-loop calls answers₀ o₀ at₀ to₀ answers o at to = length calls - at
+μ-loop names calls answers₀ o₀ at₀ to₀ answers o at to = length calls - at
 
 add-at : tie.Need-add-at Inv-loop μ-loop
 add-at c =
     let test = c .before .before .before .before .before .before .before in
     let turn = test .before .before .before in
-    omega (arith, record-inside (turn .loop .inv) (test .before .stop-number .ensures) (test .if1 .left))
+    omega (arith, record-inside _ (turn .loop .inv) (test .before .stop-number .ensures) (test .if1 .left))
+
+add-to : tie.Need-add-to Inv-loop μ-loop
+add-to c =
+    let test = c .before .before .before .before .before .before .before in
+    let turn = test .before .before .before in
+    omega (arith, answer-room _ (turn .loop .inv) (test .before .stop-number .ensures) (test .if1 .left), turn .loop .inv .long, turn .before .before .before .before .good .1 .1 .1 .0 .0)
 
 add-to-2 : tie.Need-add-to-2 Inv-loop μ-loop
 add-to-2 c =
     let call = c .before .before .before .before .before .before in
     let test = call .before .before in
     let turn = test .before .before .before in
-    omega (arith, answer-inside (turn .loop .inv) (test .before .stop-number .ensures) (test .if1 .left) (call .answer-record .ensures) (search needs))
+    omega (arith, answer-inside _ (turn .loop .inv) (test .before .stop-number .ensures) (test .if1 .left) (call .answer-record .ensures) (search needs), turn .before .before .before .before .good .1 .1 .1 .0 .0)
 
 pub replay-spec : {M : Type 1} → statement M
 replay-spec =
@@ -43,7 +49,7 @@ replay-spec =
     (λ c κs. search (record-inside, answer-room, needs))
     (λ c κs. search (record-head, needs))
     add-at
-    (λ c. search needs)
+    add-to
     add-to-2
     (λ c. search needs)
     (λ c. search (replay-next, needs))

@@ -10,10 +10,50 @@ use lib.Seq.{drop-cons, drop-drop}
 use Rattle.lists.specs.Pick.{pick}
 use Rattle.octets.specs.Octets.{at32}
 use Rattle.format.specs.Format.{Format, Got, _⊗_, _▷_, bad, closed, counted, got, number, octet, only, readNumber, readOctet, readTimes, then, times, viewed}
-use Rattle.format.specs.Place.{EndsAs, EndsWith, Fails, Stands}
+use Rattle.format.specs.Place.{Ends, EndsAs, EndsBy, EndsWith, Fails, Stands}
 use Rattle.format.specs.declared.Place.{Place}
 use Rattle.format.specs.declared.Place.the-variants.{At, Nowhere}
 use Rattle.format.specs.laws.Format.{then-with}
+
+pub ends-as : {A : Type 0} {f : Format A} {x : A} {s : List ℕ} {at least : ℕ} {r : Place} → EndsAs f x s at least r → Ends f s at least r
+unfolding EndsBy EndsWith
+ends-as {f = f} {x = x} {s = s} {at = at} {least = least} {r = r} v = record { by = go r (v .by) }
+  where
+    go : (r : Place) → EndsWith f x s at least r → EndsBy f s at least r
+    go (At n) (p, a, b) = (x, p, a, b)
+    go Nowhere e = e
+
+pub ends-nowhere : {A : Type 0} {f : Format A} {s : List ℕ} {at : ℕ} (least : ℕ) → Fails f s at → Ends f s at least Nowhere
+unfolding EndsBy
+ends-nowhere least e = record { by = e }
+
+-- what is known of a place that a call gave
+pub ends-at : {A : Type 0} {f : Format A} {s : List ℕ} {at least n : ℕ} {r : Place} → Ends f s at least r → r ≡ At n → Ends f s at least (At n)
+ends-at {f = f} {s = s} {at = at} {least = least} v e = subst (λ (r : Place). Ends f s at least r) e v
+
+pub ends-not : {A : Type 0} {f : Format A} {s : List ℕ} {at least : ℕ} {r : Place} → Ends f s at least r → r ≡ Nowhere → Ends f s at least Nowhere
+ends-not {f = f} {s = s} {at = at} {least = least} v e = subst (λ (r : Place). Ends f s at least r) e v
+
+pub ends-in : {A : Type 0} {f : Format A} {s : List ℕ} {at least n : ℕ} → Ends f s at least (At n) → (at + least ≤ n) × (n ≤ length s)
+unfolding EndsBy
+ends-in v = (v .by .2, v .by .3)
+
+pub ends-value : {A : Type 0} {f : Format A} {s : List ℕ} {at least n : ℕ} → Ends f s at least (At n) → (x : A) × Stands f s at x n
+unfolding EndsBy
+ends-value v = (v .by .0, v .by .1)
+
+pub ends-bad : {A : Type 0} {f : Format A} {s : List ℕ} {at least : ℕ} → Ends f s at least Nowhere → Fails f s at
+unfolding EndsBy
+ends-bad v = v .by
+
+-- a weaker bound
+pub ends-from : {A : Type 0} {f : Format A} {s : List ℕ} {at least : ℕ} (less : ℕ) {r : Place} → less ≤ least → Ends f s at least r → Ends f s at less r
+unfolding EndsBy
+ends-from {f = f} {s = s} {at = at} {least = least} less {r} h v = record { by = go r (v .by) }
+  where
+    go : (r : Place) → EndsBy f s at least r → EndsBy f s at less r
+    go (At n) (x, p, a, b) = (x, p, omega arith, b)
+    go Nowhere e = e
 
 -- the same of a known value
 module _ {A : Type 0} {f : Format A} {x : A} {s : List ℕ} {at least : ℕ} where
@@ -74,6 +114,14 @@ module _ {A : Type 0} (f : Format A) (s : List ℕ) (at : ℕ) where
     pub counted-is : counted f .read (drop at s) ≡ times k f .read (drop (at + 1) s)
     counted-is = then-with _ _ _ (octet-stands s at h .reads) ∙ ap (λ (n : ℕ). readTimes n (f .read) (drop (at + 1) s)) (sym e)
 
+    pub counted-ends : (least : ℕ) {r : Place} → Ends (times k f) s (at + 1) least r → Ends (counted f) s at 1 r
+    unfolding EndsBy
+    counted-ends least {r} v = record { by = go r (v .by) }
+      where
+        go : (r : Place) → EndsBy (times k f) s (at + 1) least r → EndsBy (counted f) s at 1 r
+        go (At n) (xs, p, a, b) = (xs, record { reads = counted-is ∙ p .reads }, omega arith, b)
+        go Nowhere q = record { reads = counted-is ∙ q .reads }
+
 -- a run of octets
 times-octets : (k : ℕ) (l : List ℕ) → k ≤ length l → readTimes k readOctet l ≡ got (take k l) (drop k l)
 unfolding readTimes readOctet then
@@ -82,11 +130,20 @@ times-octets zero (x ∷ l) h = refl
 times-octets (suc k) [] h = absurd (omega arith)
 times-octets (suc k) (x ∷ l) h = then-with _ _ _ (times-octets k l (let g : k ≤ length l = omega arith in g))
 
+times-short : (k : ℕ) (l : List ℕ) → length l < k → readTimes k readOctet l ≡ bad
+unfolding readTimes readOctet then
+times-short zero l h = absurd (omega arith)
+times-short (suc k) [] h = refl
+times-short (suc k) (x ∷ l) h = ap (λ g. then g (λ xs t. got (x ∷ xs) t)) (times-short k l (let g : length l < k = omega arith in g))
+
 module _ (s : List ℕ) (at n : ℕ) (h : at < length s) (e : n ≡ getD s at 0) where
   pub octets-stand : at + 1 + n ≤ length s → Stands (counted octet) s at (take n (drop (at + 1) s)) (at + 1 + n)
   octets-stand g = record {
     reads = counted-is octet s at n h e ∙ times-octets n (drop (at + 1) s) (let d = length-drop (at + 1) s in omega arith) ∙ ap (got (take n (drop (at + 1) s))) (drop-drop n (at + 1) s);
   }
+
+  pub octets-short : length s < at + 1 + n → Fails (counted octet) s at
+  octets-short g = record { reads = counted-is octet s at n h e ∙ times-short n (drop (at + 1) s) (let d = length-drop (at + 1) s in omega arith) }
 
 -- ---- one after the other, whose format may go by the first
 module _ {A B : Type 0} {f : Format A} {s : List ℕ} {at : ℕ} (g : A → Format B) where
@@ -120,6 +177,9 @@ module _ {A B : Type 0} {f : Format A} {s : List ℕ} {at m : ℕ} {x : A} (g : 
   pub fails-second : Fails g s m → Fails (f ⊗ g) s at
   fails-second q = fails-then (λ _. g) p q
 
+pub fails-first : {A B : Type 0} {f : Format A} {s : List ℕ} {at : ℕ} (g : Format B) → Fails f s at → Fails (f ⊗ g) s at
+fails-first g q = fails-before (λ _. g) q
+
 -- ---- only values that pass a test, and the same octets for another type
 module _ {A : Type 0} {f : Format A} {s : List ℕ} {at n : ℕ} {x : A} (p : Stands f s at x n) where
   pub only-stands : (t : A → Bool) → t x ≡ true → Stands (only t f) s at x n
@@ -149,6 +209,77 @@ viewed-ends {f = f} {s = s} {at = at} {least = least} {x = x} {r = r} to from v 
     go : (r : Place) → EndsWith f x s at least r → EndsWith (viewed to from f) (to x) s at least r
     go (At n) (p, a, b) = (viewed-stands p to from, a, b)
     go Nowhere q = viewed-none q to from
+
+-- ---- n in a row
+pub times-length : {A : Type 0} (f : Format A) (k : ℕ) (s : List ℕ) (xs : List A) (r : List ℕ) → times k f .read s ≡ got xs r → length xs ≡ k
+unfolding readTimes then
+times-length f zero s xs r e = let p : [] ≡ xs = cc in ap length (sym p)
+times-length {A} f (suc k) s xs r e = one (f .read s) (times-length f k) e
+  where
+    two : (x : A) (g : Got (List A)) → ((ys : List A) (u : List ℕ) → g ≡ got ys u → length ys ≡ k) → then g (λ ys t. got (x ∷ ys) t) ≡ got xs r → length xs ≡ suc k
+    two x (got ys t) ih e = let p : x ∷ ys ≡ xs = cc in ap length (sym p) ∙ ap suc (ih ys t refl)
+    two x bad ih e = let z : _≡_ {A = ℕ} 0 1 = cc in absurd (omega arith)
+
+    one : (g : Got A) → ((t : List ℕ) (ys : List A) (u : List ℕ) → times k f .read t ≡ got ys u → length ys ≡ k) → then g (λ x t. then (readTimes k (f .read) t) (λ ys u. got (x ∷ ys) u)) ≡ got xs r → length xs ≡ suc k
+    one (got x t) ih e = two x (readTimes k (f .read) t) (ih t) e
+    one bad ih e = let z : _≡_ {A = ℕ} 0 1 = cc in absurd (omega arith)
+
+module _ {A : Type 0} (f : Format A) {s : List ℕ} where
+  pub none-ends : (at k : ℕ) → k ≡ 0 → at ≤ length s → Ends (times k f) s at 0 (At at)
+  unfolding EndsBy readTimes
+  none-ends at k e h = record { by = ([], record { reads = ap (λ (n : ℕ). readTimes n (f .read) (drop at s)) e }, omega arith, h) }
+
+  -- one, and then the others
+  pub more-ends : (j : ℕ) {at here k a b : ℕ} {r : Place} → k ≡ j + 1 → Ends f s at a (At here) → Ends (times j f) s here b r → Ends (times k f) s at (a + b) r
+  unfolding EndsBy readTimes then
+  more-ends j {at} {here} {k} {a} {b} {r} e v w = record { by = go r (w .by) }
+    where
+      x : A
+      x = v .by .0
+
+      one : (g : Got (List A)) → readTimes j (f .read) (drop here s) ≡ g → readTimes k (f .read) (drop at s) ≡ then g (λ xs t. got (x ∷ xs) t)
+      one g q =
+          ap (λ (n : ℕ). readTimes n (f .read) (drop at s)) (e ∙ add-one j)
+          ∙ then-with _ _ _ (v .by .1 .reads) ∙ ap (λ z. then z (λ xs t. got (x ∷ xs) t)) q
+
+      go : (r : Place) → EndsBy (times j f) s here b r → EndsBy (times k f) s at (a + b) r
+      go (At n) (xs, q, c, d) = let u = v .by .2 in (x ∷ xs, record { reads = one (got xs (drop n s)) (q .reads) }, omega arith, d)
+      go Nowhere q = record { reads = one bad (q .reads) }
+
+  pub first-fails : (k : ℕ) {at least : ℕ} → 0 < k → Ends f s at least Nowhere → Fails (times k f) s at
+  unfolding readTimes then
+  first-fails zero h v = absurd (omega arith)
+  first-fails (suc k) h v = record { reads = ap (λ z. then z (λ x t. then (readTimes k (f .read) t) (λ xs u. got (x ∷ xs) u))) (ends-bad v .reads) }
+
+-- ---- the loop over n in a row, each of at least one octet: what ends the rest ends the whole
+pub record Rest {A : Type 0} (f : Format A) (s : List ℕ) (at k here i : ℕ) : Type 0 where
+  pub within : i ≤ k
+  pub inside : here ≤ length s
+  pub on : (r : Place) → Ends (times (k - i) f) s here (k - i) r → Ends (times k f) s at k r
+
+module _ {A : Type 0} {f : Format A} {s : List ℕ} {at k : ℕ} where
+  pub rest-start : at ≤ length s → Rest f s at k at 0
+  rest-start h = record {
+    within = omega arith;
+    inside = h;
+    on = λ r v. subst (λ (n : ℕ). Ends (times n f) s at n r) (let e : k - 0 ≡ k = omega arith in e) v;
+  }
+
+  module _ {here i : ℕ} (v : Rest f s at k here i) where
+    pub rest-next : {next : ℕ} → i < k → Ends f s here 1 (At next) → Rest f s at k next (i + 1)
+    rest-next {next} h w = record {
+      within = omega arith;
+      inside = ends-in w .1;
+      on = λ r q. v .on r (subst (λ (n : ℕ). Ends (times (k - i) f) s here n r) (let e : 1 + (k - (i + 1)) ≡ k - i = omega arith in e) (more-ends f (k - (i + 1)) (let e : k - i ≡ (k - (i + 1)) + 1 = omega arith in e) w q));
+    }
+
+    pub rest-broken : i < k → Ends f s here 1 Nowhere → Ends (times k f) s at k Nowhere
+    rest-broken h w = v .on Nowhere (ends-nowhere (k - i) (first-fails f (k - i) (omega arith) w))
+
+    pub rest-done : k ≤ i → Ends (times k f) s at k (At here)
+    rest-done h =
+        let e : k - i ≡ 0 = (let g = v .within in omega arith) in
+        v .on (At here) (subst (λ (n : ℕ). Ends (times (k - i) f) s here n (At here)) (sym e) (none-ends f here (k - i) e (v .inside)))
 
 -- ---- the whole of the octets
 drop-zero : (l : List ℕ) → drop 0 l ≡ l

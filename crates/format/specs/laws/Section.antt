@@ -1,18 +1,19 @@
 -- Laws: the walk over the entries of any section with its order, and a value's octets kept as they are.
 use mathlib.Core.Bool.{Bool, false, true}
-use mathlib.Core.List.{List, [], _∷_}
-use mathlib.Core.Path.{_∙_, _≡_, ap, refl, subst, sym}
+use mathlib.Core.List.{List, [], _++_, _∷_}
+use mathlib.Core.Path.{_∙_, _≡_, ap, ap₂, refl, subst, sym}
 use Prim.Native.Nat.{_+_, _-_, _<_, _≤_, suc, ℕ}
 use native.Mathlib.Numerals.{add-one}
 use native.Mathlib.Omega.{arith}
-use lib.ListN.{drop, getD, length}
+use lib.ListN.{drop, getD, length, length-append, take}
+use lib.Seq.{take-at}
 use Rattle.lists.specs.Pick.{pick}
-use Rattle.format.specs.Format.{Format, Got, bad, got, readTimes, then, times}
+use Rattle.format.specs.Format.{Format, Got, Octets, bad, got, readTimes, then, times}
 use Rattle.format.specs.Place.{EachAt, EndsAs, EndsWith, Stands, walk}
-use Rattle.format.specs.Section.{EntryEnds, Found, InRow, IsAt, RowEnds, SectionEnds, inOrder, orderedFrom, sectionFormat}
+use Rattle.format.specs.Section.{EntryEnds, Found, InRow, IsAt, RowEnds, SectionEnds, inOrder, orderedFrom, sectionFormat, verbatim}
 use Rattle.format.specs.declared.Place.{Place}
 use Rattle.format.specs.declared.Place.the-variants.{At, Nowhere}
-use Rattle.format.specs.laws.Format.{then-with}
+use Rattle.format.specs.laws.Format.{Lawful, then-got, then-with}
 use Rattle.format.specs.laws.Place.{as-in, as-nowhere, as-there, counted-is, counted-none, only-none}
 
 module _ {A K : Type 0} (key : A → K) (wrong : K → A → Bool) (f : Format A) {s : List ℕ} where
@@ -157,3 +158,23 @@ module _ {A K : Type 0} {key : A → K} {wrong : K → A → Bool} {first : K} {
   pub section-row : {m : ℕ} → SectionEnds key wrong first f v next s at (At m) → (at + 1 ≤ length s) × InRow next s (at + 1) (getD s at 0)
   unfolding Found
   section-row w = w .each
+
+pub verbatim-lawful : {A : Type 0} {f : Format A} → Lawful f → Lawful (verbatim f)
+unfolding then
+verbatim-lawful {A} {f} lf = record { reads = rd; written = wr }
+  where
+    cut : (o r : List ℕ) → take (length (o ++ r) - length r) (o ++ r) ≡ o
+    cut o r = take-at o r (length (o ++ r) - length r) (let e = length-append o r in let q : length o ≡ length (o ++ r) - length r = omega arith in q)
+
+    rd : (s : List ℕ) (o : List ℕ) (r : List ℕ) → Octets s → verbatim f .read s ≡ got o r → (verbatim f .ok o) × (s ≡ o ++ r)
+    rd s o r h e =
+        let (x, t, ex, e′) = then-got (f .read s) _ o r e in
+        let p : take (length s - length t) s ≡ o = cc in
+        let q : t ≡ r = cc in
+        let (okx, sx) = lf .reads s x t h ex in
+        let w : o ≡ f .write x = sym p ∙ ap (λ (l : List ℕ). take (length l - length t) l) sx ∙ cut (f .write x) t in
+        ((x, okx, w), sx ∙ ap₂ {C = List ℕ} (λ (a b : List ℕ). a ++ b) (sym w) q)
+
+    wr : (o r : List ℕ) → verbatim f .ok o → verbatim f .read (o ++ r) ≡ got o r
+    wr o r (x, okx, w) =
+        then-with _ x r (ap (λ (l : List ℕ). f .read (l ++ r)) w ∙ lf .written x r okx) ∙ ap (λ (l : List ℕ). got l r) (cut o r)

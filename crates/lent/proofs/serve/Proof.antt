@@ -1,7 +1,7 @@
 -- `lent::serve` meets its contract: a walk of its MIR, by hand. The state's borrow is opened, the state copied out, and the borrow closed as it was; `load` gives the records of the slice by value; `records::serve` gets both with the datagram and the reply buffer.
 -- The state's borrow goes to `advance` with the clock that came back, and the slice to `store` with the records that came back. Of each callee the proof knows only that it meets its contract.
 -- The reply buffer and the state are passed on at their own lifetimes, shares and ghost names, so what the callees say of their last values is said of these (`gave-slice`, `gave-ref`). Nothing is kept of the `&` of the datagram.
-use Rattle.lent.proofs.Walk.{stands, _≡_, refl, ap, ℕ, _<_, _^_, [], _∷_, List, length, URA, fullShare, named, w32, w64, Val, vint, vptr, SProp, ent, sep, emp, via, fst∗, id⊢, Lft, Share, GName, Fml, ftrue, flft, fres, fat, Memory, Routine, Heap, Calls, Loops, WpFn, Atoms, sem, Fun, fact, givenOf, tables, tablesOf, Given, ‵, raw, _⊛_, some, later, ⋆, _$_, _∵_, !, qed, by, move, keep, drop, use1, use3, split, join, pick, rewrite, fsplit, fjoin, feqL, suffices, frame, await, done, look, look-raw, init, store, forget, stop, hop, fld, from, load, of-opd, addr, and-then, no-more, assigns, land, returns, enter, alloc1, alloc0, params1, pass1, pass0, free1, free0, whole, sub, look-in, agg, FmC, owns, Is, shows, uint-makes, uint-vals, uint-tells, nothing-lawful, usize, u8, u32, RefT, MutRef, ptr-vals, mut-tells, slice-vals, shr-slice-tells, mut-slice-tells, MutSlice, ShrSlice, Room, finally, only, owned, peeks, heard, nothing, plain, shrSliceOf, Contract, Triple, calls-at, onEntry, tripleOf, cited, says, Stays, stay-dropped, stay-slice, gave-ref, gave-slice, walkOf, AllGo, goes-dropped, goes-slice, goes-gave-ref, goes-gave-slice, Walks, ends-at, walked, ensured, lasts, yes}
+use Rattle.lent.proofs.Walk.{stands, _≡_, refl, ap, ℕ, _<_, _^_, [], _∷_, List, length, URA, fullShare, named, w32, w64, Val, vint, vptr, SProp, ent, emp, via, fst∗, id⊢, Lft, Share, GName, Fml, ftrue, flft, fres, fat, Memory, Routine, Heap, Calls, Loops, WpFn, Atoms, Fun, fact, givenOf, tables, tablesOf, Given, ‵, raw, _⊛_, some, later, ⋆, _$_, _∵_, !, qed, by, move, keep, drop, use1, group, split, join, pick, rewrite, fsplit, fjoin, feqL, suffices, frame, await, done, look, look-raw, init, store, forget, stop, hop, fld, from, load, of-opd, addr, and-then, no-more, assigns, land, returns, enter, alloc1, alloc0, params1, pass1, pass0, free1, free0, whole, sub, look-in, agg, FmC, owns, Is, shows, uint-makes, uint-vals, uint-tells, nothing-lawful, usize, u8, u32, RefT, MutRef, ptr-vals, mut-tells, slice-vals, shr-slice-tells, mut-slice-tells, MutSlice, ShrSlice, Room, finally, only, owned, peeks, heard, nothing, plain, shrSliceOf, Contract, Triple, calls-at, onEntry, tripleOf, cited, says, Stays, stay-dropped, stay-slice, gave-ref, gave-slice, walkOf, AllGo, goes-dropped, goes-slice, goes-gave-ref, goes-gave-slice, Walks, ends-at, walked, ensured, lasts, yes}
 use denote.Struct.Laws as LL
 use Rattle.state.specs.declared.Lease.{Lease}
 use Rattle.state.specs.declared.State.{State}
@@ -47,7 +47,7 @@ stayed = (
     stay-dropped (plain (λ _. u32)) yes,
     (
       stay-dropped (plain (λ _. u32)) yes,
-      (gave-ref (1 ∷ []) tt (plain (λ _. T.the-row)), (stay-slice (2 ∷ []) tt (plain (λ _. R.the-row)), (gave-slice (3 ∷ []) tt (plain (λ _. u8)), tt))),
+      (gave-ref (1 ∷ []) tt (plain (λ _. T.the-row)), (stay-slice (2 ∷ []) tt (plain (λ _. R.the-row)), (stay-dropped (shrSliceOf (3 ∷ []) tt (plain (λ _. u8))) yes, (gave-slice (4 ∷ []) tt (plain (λ _. u8)), tt)))),
     ),
   ),
 )
@@ -57,14 +57,17 @@ module _ {M : Type 1} (𝓤 : URA M) (H : Heap 𝓤) (A : Atoms 𝓤) (mem : Mem
   abbrev Serve : Contract 𝓤
   Serve = tripleOf 𝓤 H A serve′.signature (serve′.spec 𝓤 H A mem run)
 
--- 0 is the datagram, 1 the state, 2 the slice of lease records and 3 the reply buffer: each has a lifetime κ, a share q of its token, a place (b, o) and a ghost name γ. The client is m, and the time n
-module _ {M : Type 1} (𝓤 : URA M) (H : Heap 𝓤) (A : Atoms 𝓤) (W : Given 𝓤 H A) (mem : Memory → SProp 𝓤) (run : Routine → Fun 𝓤) (κ₀ κ₁ κ₂ κ₃ : Lft) (q₀ q₁ q₂ q₃ : Share)
-    (b₀ o₀ b₁ o₁ b₂ o₂ b₃ o₃ : ℕ) (γ₀ γ₁ γ₂ γ₃ : GName) (os : List ℕ) (m n : ℕ) (h : State) (ys : List Lease) (ns : List ℕ) (m-fits : m < 2 ^ 32) (n-fits : n < 2 ^ 32) where
+-- 0 is the datagram, 1 the state, 2 the slice of lease records, 3 the names and 4 the reply buffer: each has a lifetime κ, a share q of its token, a place (b, o) and a ghost name γ. The client is m, and the time n
+module _ {M : Type 1} (𝓤 : URA M) (H : Heap 𝓤) (A : Atoms 𝓤) (W : Given 𝓤 H A) (mem : Memory → SProp 𝓤) (run : Routine → Fun 𝓤) (κ₀ κ₁ κ₂ κ₃ κ₄ : Lft) (q₀ q₁ q₂ q₃ q₄ : Share)
+    (b₀ o₀ b₁ o₁ b₂ o₂ b₃ o₃ b₄ o₄ : ℕ) (γ₀ γ₁ γ₂ γ₃ γ₄ : GName) (os : List ℕ) (m n : ℕ) (h : State) (ys : List Lease) (names ns : List ℕ) (m-fits : m < 2 ^ 32) (n-fits : n < 2 ^ 32) where
   abbrev x₀ : RefT (List ℕ)
   x₀ = record { ptr = (b₀, o₀); name = γ₀; now = os }
 
   abbrev x₃ : RefT (List ℕ)
-  x₃ = record { ptr = (b₃, o₃); name = γ₃; now = ns }
+  x₃ = record { ptr = (b₃, o₃); name = γ₃; now = names }
+
+  abbrev x₄ : RefT (List ℕ)
+  x₄ = record { ptr = (b₄, o₄); name = γ₄; now = ns }
 
   abbrev s₀ : Val
   s₀ = word b₀ o₀ (length os)
@@ -73,65 +76,68 @@ module _ {M : Type 1} (𝓤 : URA M) (H : Heap 𝓤) (A : Atoms 𝓤) (W : Given
   s₂ = word b₂ o₂ (length ys)
 
   abbrev s₃ : Val
-  s₃ = word b₃ o₃ (length ns)
+  s₃ = word b₃ o₃ (length names)
+
+  abbrev s₄ : Val
+  s₄ = word b₄ o₄ (length ns)
 
   -- the call as a value
   abbrev c : Call
   c = record { datagram = os; client = m; time = n; room = length ns }
 
   abbrev Arg : Type 0
-  Arg = RefT (List ℕ) × (ℕ × (ℕ × (RefT State × (RefT (List Lease) × (RefT (List ℕ) × Unit {0})))))
+  Arg = RefT (List ℕ) × (ℕ × (ℕ × (RefT State × (RefT (List Lease) × (RefT (List ℕ) × (RefT (List ℕ) × Unit {0}))))))
 
   abbrev a : Arg
-  a = (x₀, (m, (n, (ref-state b₁ o₁ γ₁ h, (ref b₂ o₂ γ₂ ys, (x₃, tt))))))
+  a = (x₀, (m, (n, (ref-state b₁ o₁ γ₁ h, (ref b₂ o₂ γ₂ ys, (x₃, (x₄, tt)))))))
 
-  abbrev vals : List Val × (List Val × (List Val × (List Val × (List Val × (List Val × Unit {0})))))
-  vals = (s₀ ∷ [], (vint w32 m ∷ [], (vint w32 n ∷ [], (vptr b₁ o₁ ∷ [], (s₂ ∷ [], (s₃ ∷ [], tt))))))
+  abbrev vals : List Val × (List Val × (List Val × (List Val × (List Val × (List Val × (List Val × Unit {0}))))))
+  vals = (s₀ ∷ [], (vint w32 m ∷ [], (vint w32 n ∷ [], (vptr b₁ o₁ ∷ [], (s₂ ∷ [], (s₃ ∷ [], (s₄ ∷ [], tt)))))))
 
   abbrev Post : Val → SProp 𝓤
-  Post = walkOf 𝓤 H A f.ended stayed (f.clauses 𝓤 H A mem run) .post (((κ₀, (κ₁, (κ₂, (κ₃, tt)))), (q₀, (q₁, (q₂, (q₃, tt)))), tt, a, vals), tt)
+  Post = walkOf 𝓤 H A f.ended stayed (f.clauses 𝓤 H A mem run) .post (((κ₀, (κ₁, (κ₂, (κ₃, (κ₄, tt))))), (q₀, (q₁, (q₂, (q₃, (q₄, tt))))), tt, a, vals), tt)
 
   -- what the walk has at exit makes the end of the contract's triple
-  exits : (r : Outcome) (h′ : State) (zs : List Lease) (us : List ℕ) → Is O.the-row r (LL.vals O.the-type O′.the-laws r) → ServesLent (serveLent h ys c) h′ zs ns us r → length zs ≡ length ys → length us ≡ length ns
-      → ent 𝓤 (⋆ 𝓤 H A (‵ (flft κ₀ q₀) ∷ ‵ (flft κ₁ q₁) ∷ ‵ (flft κ₂ q₂) ∷ ‵ (flft κ₃ q₃) ∷ ‵ (fres γ₁ (T.the-row .coded .code h′)) ∷ ‵ (Mut κ₂ b₂ o₂ γ₂ (length ys) zs) ∷ ‵ (finally u8 γ₃ us) ∷ [])) (Post (LL.val O.the-type O′.the-laws r))
+  exits : (r : Outcome) (h′ : State) (zs : List Lease) (us : List ℕ) → Is O.the-row r (LL.vals O.the-type O′.the-laws r) → ServesLent (serveLent h ys names c) h′ zs ns us r → length zs ≡ length ys → length us ≡ length ns
+      → ent 𝓤 (⋆ 𝓤 H A (‵ (flft κ₀ q₀) ∷ ‵ (flft κ₁ q₁) ∷ ‵ (flft κ₂ q₂) ∷ ‵ (flft κ₃ q₃) ∷ ‵ (flft κ₄ q₄) ∷ ‵ (fres γ₁ (T.the-row .coded .code h′)) ∷ ‵ (Mut κ₂ b₂ o₂ γ₂ (length ys) zs) ∷ ‵ (finally u8 γ₄ us) ∷ [])) (Post (LL.val O.the-type O′.the-laws r))
   exits r h′ zs us is e len len′ =
-      qed W (‵ (flft κ₀ q₀) ∷ ‵ (flft κ₁ q₁) ∷ ‵ (flft κ₂ q₂) ∷ ‵ (flft κ₃ q₃) ∷ ‵ (fres γ₁ (T.the-row .coded .code h′)) ∷ ‵ (Mut κ₂ b₂ o₂ γ₂ (length ys) zs) ∷ ‵ (finally u8 γ₃ us) ∷ []) ∵
-      suffices ! _ (ends-at 𝓤 H A f.ended stayed (f.clauses 𝓤 H A mem run) W (((κ₀, (κ₁, (κ₂, (κ₃, tt)))), (q₀, (q₁, (q₂, (q₃, tt)))), tt, a, vals), tt) (LL.val O.the-type O′.the-laws r) r (tt, (tt, (tt, (h′, (zs, (us, tt)))))) (tt, (tt, (tt, (tt, (len, (len′, tt))))))) $ says ! e $
+      qed W (‵ (flft κ₀ q₀) ∷ ‵ (flft κ₁ q₁) ∷ ‵ (flft κ₂ q₂) ∷ ‵ (flft κ₃ q₃) ∷ ‵ (flft κ₄ q₄) ∷ ‵ (fres γ₁ (T.the-row .coded .code h′)) ∷ ‵ (Mut κ₂ b₂ o₂ γ₂ (length ys) zs) ∷ ‵ (finally u8 γ₄ us) ∷ []) ∵
+      suffices ! _ (ends-at 𝓤 H A f.ended stayed (f.clauses 𝓤 H A mem run) W (((κ₀, (κ₁, (κ₂, (κ₃, (κ₄, tt))))), (q₀, (q₁, (q₂, (q₃, (q₄, tt))))), tt, a, vals), tt) (LL.val O.the-type O′.the-laws r) r (tt, (tt, (tt, (h′, (zs, (tt, (us, tt))))))) (tt, (tt, (tt, (tt, (len, (tt, (len′, tt)))))))) $ says ! e $
       -- the tokens
-      nothing ! $ move ! (4 ∷ 0 ∷ []) $ join ! $ move ! (3 ∷ 0 ∷ []) $ join ! $ move ! (2 ∷ 0 ∷ []) $ join ! $ move ! (1 ∷ 0 ∷ []) $ join ! $ frame ! $
+      nothing ! $ move ! (5 ∷ 0 ∷ []) $ join ! $ move ! (4 ∷ 0 ∷ []) $ join ! $ move ! (3 ∷ 0 ∷ []) $ join ! $ move ! (2 ∷ 0 ∷ []) $ join ! $ move ! (1 ∷ 0 ∷ []) $ join ! $ frame ! $
       -- what is had of the parameters, and the result
-      nothing ! $ move ! (3 ∷ 0 ∷ []) $ fjoin ! $ move ! (2 ∷ 0 ∷ []) $ fjoin ! $ move ! (1 ∷ 0 ∷ []) $ fjoin ! $ nothing ! $ fjoin ! $ nothing ! $ fjoin ! $ nothing ! $ fjoin ! $
+      nothing ! $ move ! (3 ∷ 0 ∷ []) $ fjoin ! $ nothing ! $ fjoin ! $ move ! (2 ∷ 0 ∷ []) $ fjoin ! $ move ! (1 ∷ 0 ∷ []) $ fjoin ! $ nothing ! $ fjoin ! $ nothing ! $ fjoin ! $ nothing ! $ fjoin ! $
       owned ! O.the-row (Is O.the-row) (LL.makes O.the-type O′.the-plain 𝓤 H A) r _ is $ move ! (1 ∷ 0 ∷ []) $ done !
 
   -- what the triple of `records::serve` binds outside, and what makes its `pre`
   abbrev Arg′ : Type 0
-  Arg′ = State × (Records × (ℕ × (RefT (List ℕ) × (ℕ × (ℕ × (RefT (List ℕ) × Unit {0}))))))
+  Arg′ = State × (Records × (ℕ × (RefT (List ℕ) × (RefT (List ℕ) × (ℕ × (ℕ × (RefT (List ℕ) × Unit {0})))))))
 
   abbrev a′ : Records → Arg′
-  a′ r = (h, (r, (length ys, (x₀, (m, (n, (x₃, tt)))))))
+  a′ r = (h, (r, (length ys, (x₃, (x₀, (m, (n, (x₄, tt))))))))
 
   abbrev to-serve : Records → Val → Serve 𝓤 H A mem run .Ghost
-  to-serve r w = (((κ₀, (κ₃, tt)), (q₀, (q₃, tt)), tt, a′ r, (word-state h ∷ [], (w ∷ [], (vint w64 (length ys) ∷ [], (s₀ ∷ [], (vint w32 m ∷ [], (vint w32 n ∷ [], (s₃ ∷ [], tt)))))))), tt)
+  to-serve r w = (((κ₃, (κ₀, (κ₄, tt))), (q₃, (q₀, (q₄, tt))), tt, a′ r, (word-state h ∷ [], (w ∷ [], (vint w64 (length ys) ∷ [], (s₃ ∷ [], (s₀ ∷ [], (vint w32 m ∷ [], (vint w32 n ∷ [], (s₄ ∷ [], tt))))))))), tt)
 
   goes-serve : (r : Records) (w : Val) → Is T.the-row h (word-state h ∷ []) → Is N.the-row r (w ∷ []) → Room R.the-row (length ys)
-      → ent 𝓤 (sep 𝓤 (sep 𝓤 (A .lft κ₀ q₀) (A .lft κ₃ q₃)) (sep 𝓤 (sem 𝓤 H A (ShrSlice (named 0) κ₀ u8 .own x₀ (s₀ ∷ []))) (sem 𝓤 H A (MutSlice (named 1) κ₃ u8 .own x₃ (s₃ ∷ []))))) (Serve 𝓤 H A mem run .pre (to-serve r w))
+      → ent 𝓤 (⋆ 𝓤 H A (‵ (flft κ₃ q₃) ∷ ‵ (flft κ₀ q₀) ∷ ‵ (flft κ₄ q₄) ∷ ‵ (ShrSlice (named 0) κ₃ u8 .own x₃ (s₃ ∷ [])) ∷ ‵ (ShrSlice (named 1) κ₀ u8 .own x₀ (s₀ ∷ [])) ∷ ‵ (MutSlice (named 2) κ₄ u8 .own x₄ (s₄ ∷ [])) ∷ [])) (Serve 𝓤 H A mem run .pre (to-serve r w))
   goes-serve r w is-h is-r room =
-      qed W ((‵ (flft κ₀ q₀) ⊛ ‵ (flft κ₃ q₃)) ∷ ‵ (ShrSlice (named 0) κ₀ u8 .own x₀ (s₀ ∷ [])) ∷ ‵ (MutSlice (named 1) κ₃ u8 .own x₃ (s₃ ∷ [])) ∷ []) ∵
-      split ! $ nothing ! $ move ! (2 ∷ 0 ∷ []) $ join ! $ move ! (1 ∷ 0 ∷ []) $ join ! $
-      -- [the tokens; the datagram; the reply buffer]
-      nothing ! $ move ! (3 ∷ 0 ∷ []) $ fjoin ! $ owned ! u32 (Is u32) (uint-makes 𝓤 H A W w32) n _ (refl, n-fits) $ fjoin ! $ owned ! u32 (Is u32) (uint-makes 𝓤 H A W w32) m _ (refl, m-fits) $ fjoin ! $ move ! (2 ∷ 0 ∷ []) $ fjoin ! $
+      qed W (‵ (flft κ₃ q₃) ∷ ‵ (flft κ₀ q₀) ∷ ‵ (flft κ₄ q₄) ∷ ‵ (ShrSlice (named 0) κ₃ u8 .own x₃ (s₃ ∷ [])) ∷ ‵ (ShrSlice (named 1) κ₀ u8 .own x₀ (s₀ ∷ [])) ∷ ‵ (MutSlice (named 2) κ₄ u8 .own x₄ (s₄ ∷ [])) ∷ []) ∵
+      nothing ! $ move ! (6 ∷ 0 ∷ []) $ fjoin ! $ owned ! u32 (Is u32) (uint-makes 𝓤 H A W w32) n _ (refl, n-fits) $ fjoin ! $ owned ! u32 (Is u32) (uint-makes 𝓤 H A W w32) m _ (refl, m-fits) $ fjoin ! $
+      move ! (5 ∷ 0 ∷ []) $ fjoin ! $ move ! (4 ∷ 0 ∷ []) $ fjoin ! $
       owned ! usize (Is usize) (uint-makes 𝓤 H A W w64) (length ys) _ (refl, room .0) $ fjoin ! $ owned ! N.the-row (Is N.the-row) (LL.makes N.the-type N′.the-plain 𝓤 H A) r _ is-r $ fjoin ! $
-      owned ! T.the-row (Is T.the-row) (LL.makes T.the-type T′.the-plain 𝓤 H A) h _ is-h $ fjoin ! $ move ! (1 ∷ 0 ∷ []) $ join ! $ nothing ! $ move ! (1 ∷ 0 ∷ []) $ done !
+      owned ! T.the-row (Is T.the-row) (LL.makes T.the-type T′.the-plain 𝓤 H A) h _ is-h $ fjoin ! $
+      nothing ! $ move ! (4 ∷ 0 ∷ []) $ join ! $ move ! (3 ∷ 0 ∷ []) $ join ! $ move ! (2 ∷ 0 ∷ []) $ join ! $ join ! $ nothing ! $ move ! (1 ∷ 0 ∷ []) $ done !
 
   -- what `records::serve` binds for its parameters at exit, which is the last octets of the reply buffer, and what it says of that
   abbrev Last : Type 0
-  Last = Unit {0} × (Unit {0} × (Unit {0} × (Unit {0} × (Unit {0} × (Unit {0} × (List ℕ × Unit {0}))))))
+  Last = Unit {0} × (Unit {0} × (Unit {0} × (Unit {0} × (Unit {0} × (Unit {0} × (Unit {0} × (List ℕ × Unit {0})))))))
 
   abbrev Left : Records → Last → Fml
-  Left r us = lasts serve′.ended (κ₀, (κ₃, tt)) (a′ r) us
+  Left r us = lasts serve′.ended (κ₃, (κ₀, (κ₄, tt))) (a′ r) us
 
   abbrev Served : Records → List ℕ → ServedRecords → Type 0
-  Served r us z = ServesRecords (serveWith (length ys) h (r .leases) c) ns us z
+  Served r us z = ServesRecords (serveWith (length ys) h (r .leases) names c) ns us z
 
   -- what is known of the parts of what it gives back
   abbrev Parts : ServedRecords → Type 0
@@ -142,84 +148,84 @@ module _ {M : Type 1} (𝓤 : URA M) (H : Heap 𝓤) (A : Atoms 𝓤) (W : Given
 
   module _ (C : Calls 𝓤 H) (Λ : Loops 𝓤 H) (fm : FmC 𝓤 H (W .laws) C) (known-load : Triple 𝓤 (C #lent·load) (Load 𝓤 H A mem run)) (known-serve : Triple 𝓤 (C #records·serve) (Serve 𝓤 H A mem run))
       (known-advance : Triple 𝓤 (C #lent·advance) (Advance 𝓤 H A mem run)) (known-store : Triple 𝓤 (C #lent·store) (Store 𝓤 H A mem run)) where
-    walk : Room u8 (length os) → Room R.the-row (length ys) → Room u8 (length ns)
-        → ent 𝓤 (onEntry 𝓤 H A f.signature (κ₀, (κ₁, (κ₂, (κ₃, tt)))) (q₀, (q₁, (q₂, (q₃, tt)))) a vals) (WpFn 𝓤 H C Λ code.function (s₀ ∷ vint w32 m ∷ vint w32 n ∷ vptr b₁ o₁ ∷ s₂ ∷ s₃ ∷ []) Post)
-    walk room₀ room₂ room₃ =
-        qed W ((‵ (flft κ₀ q₀) ⊛ ‵ (flft κ₁ q₁) ⊛ ‵ (flft κ₂ q₂) ⊛ ‵ (flft κ₃ q₃) ⊛ ‵ ftrue) ∷ ‵ (owns (ShrSlice (named 0) κ₀ u8 ∷ u32 ∷ u32 ∷ MutRef (named 1) κ₁ T.the-row ∷ MutSlice (named 2) κ₂ R.the-row ∷ MutSlice (named 3) κ₃ u8 ∷ []) a vals) ∷ []) ∵
-        split ! $ move ! (1 ∷ []) $ split ! $ move ! (1 ∷ []) $ split ! $ move ! (1 ∷ []) $ split ! $
-        move ! (5 ∷ []) $ fsplit ! $ move ! (1 ∷ []) $ fsplit ! $ move ! (1 ∷ []) $ fsplit ! $ move ! (1 ∷ []) $ fsplit ! $ move ! (1 ∷ []) $ fsplit ! $ move ! (1 ∷ []) $ fsplit ! $ keep ! (3 ∷ 10 ∷ 2 ∷ 9 ∷ 6 ∷ 11 ∷ 0 ∷ 7 ∷ []) $
-        -- [the state's borrow; [κ₁]; the slice; [κ₂]; the datagram; [κ₀]; the reply buffer; [κ₃]]
-        enter ! C Λ code.function (s₀ ∷ vint w32 m ∷ vint w32 n ∷ vptr b₁ o₁ ∷ s₂ ∷ s₃ ∷ []) _ $
+    walk : Room u8 (length os) → Room R.the-row (length ys) → Room u8 (length names) → Room u8 (length ns)
+        → ent 𝓤 (onEntry 𝓤 H A f.signature (κ₀, (κ₁, (κ₂, (κ₃, (κ₄, tt))))) (q₀, (q₁, (q₂, (q₃, (q₄, tt))))) a vals) (WpFn 𝓤 H C Λ code.function (s₀ ∷ vint w32 m ∷ vint w32 n ∷ vptr b₁ o₁ ∷ s₂ ∷ s₃ ∷ s₄ ∷ []) Post)
+    walk room₀ room₂ room₃ room₄ =
+        qed W ((‵ (flft κ₀ q₀) ⊛ ‵ (flft κ₁ q₁) ⊛ ‵ (flft κ₂ q₂) ⊛ ‵ (flft κ₃ q₃) ⊛ ‵ (flft κ₄ q₄) ⊛ ‵ ftrue) ∷ ‵ (owns (ShrSlice (named 0) κ₀ u8 ∷ u32 ∷ u32 ∷ MutRef (named 1) κ₁ T.the-row ∷ MutSlice (named 2) κ₂ R.the-row ∷ ShrSlice (named 3) κ₃ u8 ∷ MutSlice (named 4) κ₄ u8 ∷ []) a vals) ∷ []) ∵
+        split ! $ move ! (1 ∷ []) $ split ! $ move ! (1 ∷ []) $ split ! $ move ! (1 ∷ []) $ split ! $ move ! (1 ∷ []) $ split ! $ move ! (6 ∷ []) $ fsplit ! $ move ! (1 ∷ []) $ fsplit ! $ move ! (1 ∷ []) $ fsplit ! $ move ! (1 ∷ []) $ fsplit ! $
+        move ! (1 ∷ []) $ fsplit ! $ move ! (1 ∷ []) $ fsplit ! $ move ! (1 ∷ []) $ fsplit ! $ keep ! (4 ∷ 12 ∷ 3 ∷ 11 ∷ 2 ∷ 10 ∷ 7 ∷ 13 ∷ 0 ∷ 8 ∷ []) $
+        -- [the state's borrow; [κ₁]; the slice; [κ₂]; the names; [κ₃]; the datagram; [κ₀]; the reply buffer; [κ₄]]
+        enter ! C Λ code.function (s₀ ∷ vint w32 m ∷ vint w32 n ∷ vptr b₁ o₁ ∷ s₂ ∷ s₃ ∷ s₄ ∷ []) _ $
         alloc1 ! (λ l₀. alloc1 ! (λ l₁. alloc1 ! (λ l₂. alloc1 ! (λ l₃. alloc1 ! (λ l₄. alloc1 ! (λ l₅. alloc1 ! (λ l₆. alloc1 ! (λ l₇. alloc1 ! (λ l₈. alloc1 ! (λ l₉. alloc1 ! (λ l₁₀. alloc1 ! (λ l₁₁. alloc1 ! (λ l₁₂. alloc1 ! (λ l₁₃.
-        alloc1 ! (λ l₁₄. alloc1 ! (λ l₁₅. alloc1 ! (λ l₁₆. alloc1 ! (λ l₁₇. alloc1 ! (λ l₁₈. alloc0 ! $ params1 ! $
-        pass1 ! (init ! 34 refl (tt, (tt, (record { fits = room₀ .0 }, tt)))) $ pass1 ! (init ! 32 refl (tt, record { fits = m-fits })) $ pass1 ! (init ! 30 refl (tt, record { fits = n-fits })) $ pass1 ! (init ! 28 refl (tt, tt)) $
-        pass1 ! (init ! 26 refl (tt, (tt, (record { fits = room₂ .0 }, tt)))) $ pass1 ! (init ! 24 refl (tt, (tt, (record { fits = room₃ .0 }, tt)))) $ pass0 ! $
-        -- [_18; …; _17; …; …; _1; …; room for _0; …; the state's borrow; [κ₁]; the slice; [κ₂]; the datagram; [κ₀]; the reply buffer; [κ₃]]: the state is copied out
-        move ! (38 ∷ 39 ∷ []) $ opens-state ! tt κ₁ q₁ b₁ o₁ γ₁ h (λ is-h.
-        -- [the state's cell; the open borrow; obs; auth; _18; …; _0; …; the slice; [κ₂]; …]
-        assigns ! (of-opd ! (load ! (from ! (hop ! (look ! 32 refl) (stop !))) (look-raw ! 0 refl))) (from ! (stop !)) (init ! 26 refl (LL.lawful T.the-type T′.the-laws 𝓤 H A W .typed h _ is-h .0)) $
+        alloc1 ! (λ l₁₄. alloc1 ! (λ l₁₅. alloc1 ! (λ l₁₆. alloc1 ! (λ l₁₇. alloc1 ! (λ l₁₈. alloc1 ! (λ l₁₉. alloc0 ! $ params1 ! $
+        pass1 ! (init ! 36 refl (tt, (tt, (record { fits = room₀ .0 }, tt)))) $ pass1 ! (init ! 34 refl (tt, record { fits = m-fits })) $ pass1 ! (init ! 32 refl (tt, record { fits = n-fits })) $ pass1 ! (init ! 30 refl (tt, tt)) $
+        pass1 ! (init ! 28 refl (tt, (tt, (record { fits = room₂ .0 }, tt)))) $ pass1 ! (init ! 26 refl (tt, (tt, (record { fits = room₃ .0 }, tt)))) $ pass1 ! (init ! 24 refl (tt, (tt, (record { fits = room₄ .0 }, tt)))) $ pass0 ! $
+        -- [_19; …; _18; …; …; _1; …; room for _0; …; the state's borrow; [κ₁]; the slice; [κ₂]; the names; [κ₃]; the datagram; [κ₀]; the reply buffer; [κ₄]]: the state is copied out
+        move ! (40 ∷ 41 ∷ []) $ opens-state ! tt κ₁ q₁ b₁ o₁ γ₁ h (λ is-h.
+        -- [the state's cell; the open borrow; obs; auth; _19; …; _0; …; the slice; [κ₂]; …]
+        assigns ! (of-opd ! (load ! (from ! (hop ! (look ! 34 refl) (stop !))) (look-raw ! 0 refl))) (from ! (stop !)) (init ! 26 refl (LL.lawful T.the-type T′.the-laws 𝓤 H A W .typed h _ is-h .0)) $
         closes-state ! tt κ₁ q₁ b₁ o₁ γ₁ h h is-h $
-        -- [the state's borrow; [κ₁]; _18; …; _0; …; the slice; [κ₂]; the datagram; [κ₀]; the reply buffer; [κ₃]]
-        assigns ! (addr ! (from ! (fld ! refl (hop ! (look-in ! 28 (sub ! 0 refl (whole !))) (stop !))))) (from ! (stop !)) (init ! 18 refl (tt, tt)) $
-        assigns ! (agg ! (and-then ! (load ! (from ! (stop !)) (look ! 18 refl)) (and-then ! (load ! (from ! (fld ! refl (stop !))) (look-in ! 28 (sub ! 1 refl (whole !)))) (no-more !)))) (from ! (stop !)) (init ! 16 refl (tt, (tt, (record { fits = room₂ .0 }, tt)))) $
+        -- [the state's borrow; [κ₁]; _19; …; _0; …; the slice; [κ₂]; the names; [κ₃]; the datagram; [κ₀]; the reply buffer; [κ₄]]
+        assigns ! (addr ! (from ! (fld ! refl (hop ! (look-in ! 30 (sub ! 0 refl (whole !))) (stop !))))) (from ! (stop !)) (init ! 18 refl (tt, tt)) $
+        assigns ! (agg ! (and-then ! (load ! (from ! (stop !)) (look ! 18 refl)) (and-then ! (load ! (from ! (fld ! refl (stop !))) (look-in ! 30 (sub ! 1 refl (whole !)))) (no-more !)))) (from ! (stop !)) (init ! 16 refl (tt, (tt, (record { fits = room₂ .0 }, tt)))) $
         -- the records by value
-        move ! (40 ∷ 41 ∷ []) $ loads ! mem run κ₂ q₂ b₂ o₂ γ₂ ys fm known-load (λ ν δ. and-then ! (load ! (from ! (stop !)) (look ! 18 refl)) (no-more !)) (λ w₁ r₁ is₁ e₁.
-        -- [the slice; [κ₂]; the state's borrow; [κ₁]; _18; …; _0; …; the datagram; [κ₀]; the reply buffer; [κ₃]]
+        move ! (42 ∷ 43 ∷ []) $ loads ! mem run κ₂ q₂ b₂ o₂ γ₂ ys fm known-load (λ ν δ. and-then ! (load ! (from ! (stop !)) (look ! 18 refl)) (no-more !)) (λ w₁ r₁ is₁ e₁.
+        -- [the slice; [κ₂]; the state's borrow; [κ₁]; _19; …; _0; …; the names; [κ₃]; the datagram; [κ₀]; the reply buffer; [κ₄]]
         land ! (from ! (stop !)) (init ! 24 refl (LL.lawful N.the-type N′.the-laws 𝓤 H A W .typed r₁ _ is₁ .0)) $
-        assigns ! (of-opd ! (load ! (from ! (fld ! refl (stop !))) (look-in ! 30 (sub ! 1 refl (whole !))))) (from ! (stop !)) (init ! 16 refl (tt, record { fits = room₂ .0 })) $
+        assigns ! (of-opd ! (load ! (from ! (fld ! refl (stop !))) (look-in ! 32 (sub ! 1 refl (whole !))))) (from ! (stop !)) (init ! 16 refl (tt, record { fits = room₂ .0 })) $
         assigns ! (addr ! (from ! (fld ! refl (hop ! (look-in ! 28 (sub ! 0 refl (whole !))) (stop !))))) (from ! (stop !)) (init ! 14 refl (tt, tt)) $
-        assigns ! (agg ! (and-then ! (load ! (from ! (stop !)) (look ! 14 refl)) (and-then ! (load ! (from ! (fld ! refl (stop !))) (look-in ! 28 (sub ! 1 refl (whole !)))) (no-more !)))) (from ! (stop !)) (init ! 12 refl (tt, (tt, (record { fits = room₃ .0 }, tt)))) $
-        -- the state, the records, their number, the datagram, the client, the time and the reply buffer go to `records::serve`
-        move ! (43 ∷ 45 ∷ 42 ∷ 44 ∷ []) $ join ! $ use3 W (raw (Serve 𝓤 H A mem run .pre (to-serve r₁ w₁))) (goes-serve r₁ w₁ is-h is₁ room₂) $
-        calls-at ! fm (Serve 𝓤 H A mem run) known-serve (to-serve r₁ w₁) (and-then ! (load ! (from ! (stop !)) (look ! 27 refl)) (and-then ! (load ! (from ! (stop !)) (look ! 25 refl)) (and-then ! (load ! (from ! (stop !)) (look ! 17 refl)) (and-then ! (load ! (from ! (stop !)) (look ! 39 refl))
-        (and-then ! (load ! (from ! (stop !)) (look ! 37 refl)) (and-then ! (load ! (from ! (stop !)) (look ! 35 refl)) (and-then ! (load ! (from ! (stop !)) (look ! 13 refl)) (no-more !)))))))) (λ w₂.
-        use1 W (later (some (λ (r : ServedRecords). ((‵ (flft κ₀ q₀) ⊛ ‵ (flft κ₃ q₃) ⊛ ‵ ftrue) ⊛ ‵ (Z.the-row .own r (w₂ ∷ []))) ⊛ raw (ensured 𝓤 H A serve′.ended (serve′.clauses 𝓤 H A mem run) (κ₀, (κ₃, tt)) (a′ r₁) tt r)))) (id⊢ 𝓤 _) $ await ! tt $ pick ! (λ r₂.
-        split ! $ move ! (1 ∷ []) $ use1 W (some (λ (us : Last). ‵ (Left r₁ us) ⊛ raw (fact 𝓤 (Served r₁ (us .1 .1 .1 .1 .1 .1 .0) r₂)))) (id⊢ 𝓤 _) $ pick ! (λ us.
-        split ! $ move ! (1 ∷ []) $ heard ! (Served r₁ (us .1 .1 .1 .1 .1 .1 .0) r₂) (λ e₂. fsplit ! $ drop ! $ fsplit ! $ drop ! $ fsplit ! $ drop ! $ fsplit ! $ drop ! $ fsplit ! $ drop ! $ fsplit ! $ drop ! $ fsplit ! $ fsplit ! $ move ! (1 ∷ []) $ feqL ! (λ len₂.
-        -- [the last octets; true; the tokens and the result; the slice; [κ₂]; the state's borrow; [κ₁]; _18; …]
-        move ! (2 ∷ []) $ split ! $ move ! (1 ∷ []) $ peeks ! Z.the-row (Is Z.the-row) (shows 𝓤 H A Z.the-row) r₂ (w₂ ∷ []) (λ is₂. drop ! $ split ! $ move ! (1 ∷ []) $ split ! $ move ! (1 ∷ 4 ∷ []) $ drop ! $ drop ! $
-        -- [[κ₃]; [κ₀]; the last octets; the slice; [κ₂]; the state's borrow; [κ₁]; _18; …; _0; …]
-        land ! (from ! (stop !)) (init ! 25 refl (LL.lawful Z.the-type Z′.the-laws 𝓤 H A W .typed r₂ _ is₂ .0)) $
-        rewrite ! 25 (λ (u : Val). ‵ (fat fullShare Z′.mir l₉ 0 u)) (ap only (LL.tells Z.the-type Z′.the-laws r₂ _ is₂)) refl $
+        assigns ! (agg ! (and-then ! (load ! (from ! (stop !)) (look ! 14 refl)) (and-then ! (load ! (from ! (fld ! refl (stop !))) (look-in ! 28 (sub ! 1 refl (whole !)))) (no-more !)))) (from ! (stop !)) (init ! 12 refl (tt, (tt, (record { fits = room₄ .0 }, tt)))) $
+        -- the state, the records, their number, the names, the datagram, the client, the time and the reply buffer go to `records::serve`
+        move ! (45 ∷ 47 ∷ 49 ∷ 44 ∷ 46 ∷ 48 ∷ []) $ group ! 6 $ use1 W (raw (Serve 𝓤 H A mem run .pre (to-serve r₁ w₁))) (goes-serve r₁ w₁ is-h is₁ room₂) $
+        calls-at ! fm (Serve 𝓤 H A mem run) known-serve (to-serve r₁ w₁) (and-then ! (load ! (from ! (stop !)) (look ! 27 refl)) (and-then ! (load ! (from ! (stop !)) (look ! 25 refl)) (and-then ! (load ! (from ! (stop !)) (look ! 17 refl)) (and-then ! (load ! (from ! (stop !)) (look ! 31 refl))
+        (and-then ! (load ! (from ! (stop !)) (look ! 41 refl)) (and-then ! (load ! (from ! (stop !)) (look ! 39 refl)) (and-then ! (load ! (from ! (stop !)) (look ! 37 refl)) (and-then ! (load ! (from ! (stop !)) (look ! 13 refl)) (no-more !))))))))) (λ w₂.
+        use1 W (later (some (λ (r : ServedRecords). ((‵ (flft κ₃ q₃) ⊛ ‵ (flft κ₀ q₀) ⊛ ‵ (flft κ₄ q₄) ⊛ ‵ ftrue) ⊛ ‵ (Z.the-row .own r (w₂ ∷ []))) ⊛ raw (ensured 𝓤 H A serve′.ended (serve′.clauses 𝓤 H A mem run) (κ₃, (κ₀, (κ₄, tt))) (a′ r₁) tt r)))) (id⊢ 𝓤 _) $ await ! tt $ pick ! (λ r₂.
+        split ! $ move ! (1 ∷ []) $ use1 W (some (λ (us : Last). ‵ (Left r₁ us) ⊛ raw (fact 𝓤 (Served r₁ (us .1 .1 .1 .1 .1 .1 .1 .0) r₂)))) (id⊢ 𝓤 _) $ pick ! (λ us.
+        split ! $ move ! (1 ∷ []) $ heard ! (Served r₁ (us .1 .1 .1 .1 .1 .1 .1 .0) r₂) (λ e₂. fsplit ! $ drop ! $ fsplit ! $ drop ! $ fsplit ! $ drop ! $ fsplit ! $ drop ! $ fsplit ! $ drop ! $ fsplit ! $ drop ! $ fsplit ! $ drop ! $ fsplit ! $ fsplit ! $ move ! (1 ∷ []) $ feqL ! (λ len₂.
+        -- [the last octets; true; the tokens and the result; the slice; [κ₂]; the state's borrow; [κ₁]; _19; …]
+        move ! (2 ∷ []) $ split ! $ move ! (1 ∷ []) $ peeks ! Z.the-row (Is Z.the-row) (shows 𝓤 H A Z.the-row) r₂ (w₂ ∷ []) (λ is₂. drop ! $ split ! $ move ! (1 ∷ []) $ split ! $ move ! (1 ∷ []) $ split ! $ move ! (1 ∷ 5 ∷ []) $ drop ! $ drop ! $
+        -- [[κ₄]; [κ₀]; [κ₃]; the last octets; the slice; [κ₂]; the state's borrow; [κ₁]; _19; …; _0; …]
+        land ! (from ! (stop !)) (init ! 26 refl (LL.lawful Z.the-type Z′.the-laws 𝓤 H A W .typed r₂ _ is₂ .0)) $
+        rewrite ! 26 (λ (u : Val). ‵ (fat fullShare Z′.mir l₁₀ 0 u)) (ap only (LL.tells Z.the-type Z′.the-laws r₂ _ is₂)) refl $
         -- the state's borrow goes to `advance` with the clock that came back
-        assigns ! (addr ! (from ! (hop ! (look ! 35 refl) (stop !)))) (from ! (stop !)) (init ! 11 refl (tt, tt)) $
-        move ! (5 ∷ 6 ∷ []) $ advances ! mem run κ₁ q₁ b₁ o₁ γ₁ h (r₂ .clock) (parts r₂ w₂ is₂ .1 .0 .1) fm known-advance (and-then ! (load ! (from ! (stop !)) (look ! 10 refl)) (and-then ! (load ! (from ! (fld ! refl (stop !))) (look-in ! 24 (sub ! 1 refl (whole !)))) (no-more !))) (λ w₃ h′ is₃ e₃.
-        -- [what says the last state; [κ₁]; [κ₃]; [κ₀]; the last octets; the slice; [κ₂]; _18; …; _0; …]
-        land ! (from ! (stop !)) (init ! 13 refl (nothing-lawful 𝓤 H A W .typed tt _ is₃ .0)) $
+        assigns ! (addr ! (from ! (hop ! (look ! 38 refl) (stop !)))) (from ! (stop !)) (init ! 12 refl (tt, tt)) $
+        move ! (6 ∷ 7 ∷ []) $ advances ! mem run κ₁ q₁ b₁ o₁ γ₁ h (r₂ .clock) (parts r₂ w₂ is₂ .1 .0 .1) fm known-advance (and-then ! (load ! (from ! (stop !)) (look ! 11 refl)) (and-then ! (load ! (from ! (fld ! refl (stop !))) (look-in ! 25 (sub ! 1 refl (whole !)))) (no-more !))) (λ w₃ h′ is₃ e₃.
+        -- [what says the last state; [κ₁]; [κ₄]; [κ₀]; [κ₃]; the last octets; the slice; [κ₂]; _19; …; _0; …]
+        land ! (from ! (stop !)) (init ! 14 refl (nothing-lawful 𝓤 H A W .typed tt _ is₃ .0)) $
         -- the slice goes to `store` with the records that came back
-        assigns ! (addr ! (from ! (fld ! refl (hop ! (look-in ! 33 (sub ! 0 refl (whole !))) (stop !))))) (from ! (stop !)) (init ! 9 refl (tt, tt)) $
-        assigns ! (agg ! (and-then ! (load ! (from ! (stop !)) (look ! 9 refl)) (and-then ! (load ! (from ! (fld ! refl (stop !))) (look-in ! 33 (sub ! 1 refl (whole !)))) (no-more !)))) (from ! (stop !)) (init ! 7 refl (tt, (tt, (record { fits = room₂ .0 }, tt)))) $
-        move ! (5 ∷ 6 ∷ []) $ stores ! mem run κ₂ q₂ b₂ o₂ γ₂ ys (r₂ .records) (LL.val N.the-type N′.the-laws (r₂ .records)) fm known-store room₂ (parts r₂ w₂ is₂ .1 .1 .0)
-        (λ ν δ. and-then ! (load ! (from ! (stop !)) (look ! 7 refl)) (and-then ! (load ! (from ! (fld ! refl (stop !))) (look-in ! 25 (sub ! 2 refl (whole !)))) (no-more !))) (λ w₄ zs is₄ len e₄.
-        -- [the slice; [κ₂]; what says the last state; [κ₁]; [κ₃]; [κ₀]; the last octets; _18; …; _0; …]: the outcome is handed on whole
-        land ! (from ! (stop !)) (store ! 13 refl (nothing-lawful 𝓤 H A W .typed tt _ is₄ .0)) $
-        assigns ! (of-opd ! (load ! (from ! (fld ! refl (stop !))) (look-in ! 25 (sub ! 0 refl (whole !))))) (from ! (stop !)) (init ! 43 refl (LL.lawful O.the-type O′.the-laws 𝓤 H A W .typed (r₂ .outcome) _ (parts r₂ w₂ is₂ .0) .0)) $ returns ! (look ! 43 refl) $
-        forget ! 7 refl $ forget ! 9 refl $ forget ! 11 refl $ forget ! 13 refl $ forget ! 15 refl $ forget ! 17 refl $ forget ! 19 refl $ forget ! 21 refl $ forget ! 23 refl $ forget ! 25 refl $ forget ! 27 refl $ forget ! 29 refl $
-        forget ! 31 refl $ forget ! 33 refl $ forget ! 35 refl $ forget ! 37 refl $ forget ! 39 refl $ forget ! 41 refl $ forget ! 43 refl $
-        move ! (43 ∷ 44 ∷ []) $ free1 ! $ move ! (41 ∷ 42 ∷ []) $ free1 ! $ move ! (39 ∷ 40 ∷ []) $ free1 ! $ move ! (37 ∷ 38 ∷ []) $ free1 ! $ move ! (35 ∷ 36 ∷ []) $ free1 ! $ move ! (33 ∷ 34 ∷ []) $ free1 ! $ move ! (31 ∷ 32 ∷ []) $ free1 ! $
-        move ! (29 ∷ 30 ∷ []) $ free1 ! $ move ! (27 ∷ 28 ∷ []) $ free1 ! $ move ! (25 ∷ 26 ∷ []) $ free1 ! $ move ! (23 ∷ 24 ∷ []) $ free1 ! $ move ! (21 ∷ 22 ∷ []) $ free1 ! $ move ! (19 ∷ 20 ∷ []) $ free1 ! $ move ! (17 ∷ 18 ∷ []) $ free1 ! $
-        move ! (15 ∷ 16 ∷ []) $ free1 ! $ move ! (13 ∷ 14 ∷ []) $ free1 ! $ move ! (11 ∷ 12 ∷ []) $ free1 ! $ move ! (9 ∷ 10 ∷ []) $ free1 ! $ move ! (7 ∷ 8 ∷ []) $ free1 ! $ free0 ! $
-        keep ! (5 ∷ 3 ∷ 1 ∷ 4 ∷ 2 ∷ 0 ∷ 6 ∷ []) $ by ! (exits (r₂ .outcome) h′ zs (us .1 .1 .1 .1 .1 .1 .0) (parts r₂ w₂ is₂ .0) (served-lent h ys c e₁ e₂ e₃ e₄ refl) len len₂))))))))))))))))))))))))))))))
+        assigns ! (addr ! (from ! (fld ! refl (hop ! (look-in ! 36 (sub ! 0 refl (whole !))) (stop !))))) (from ! (stop !)) (init ! 10 refl (tt, tt)) $
+        assigns ! (agg ! (and-then ! (load ! (from ! (stop !)) (look ! 10 refl)) (and-then ! (load ! (from ! (fld ! refl (stop !))) (look-in ! 36 (sub ! 1 refl (whole !)))) (no-more !)))) (from ! (stop !)) (init ! 8 refl (tt, (tt, (record { fits = room₂ .0 }, tt)))) $
+        move ! (6 ∷ 7 ∷ []) $ stores ! mem run κ₂ q₂ b₂ o₂ γ₂ ys (r₂ .records) (LL.val N.the-type N′.the-laws (r₂ .records)) fm known-store room₂ (parts r₂ w₂ is₂ .1 .1 .0)
+        (λ ν δ. and-then ! (load ! (from ! (stop !)) (look ! 8 refl)) (and-then ! (load ! (from ! (fld ! refl (stop !))) (look-in ! 26 (sub ! 2 refl (whole !)))) (no-more !))) (λ w₄ zs is₄ len e₄.
+        -- [the slice; [κ₂]; what says the last state; [κ₁]; [κ₄]; [κ₀]; [κ₃]; the last octets; _19; …; _0; …]: the outcome is handed on whole
+        land ! (from ! (stop !)) (store ! 14 refl (nothing-lawful 𝓤 H A W .typed tt _ is₄ .0)) $
+        assigns ! (of-opd ! (load ! (from ! (fld ! refl (stop !))) (look-in ! 26 (sub ! 0 refl (whole !))))) (from ! (stop !)) (init ! 46 refl (LL.lawful O.the-type O′.the-laws 𝓤 H A W .typed (r₂ .outcome) _ (parts r₂ w₂ is₂ .0) .0)) $ returns ! (look ! 46 refl) $
+        forget ! 8 refl $ forget ! 10 refl $ forget ! 12 refl $ forget ! 14 refl $ forget ! 16 refl $ forget ! 18 refl $ forget ! 20 refl $ forget ! 22 refl $ forget ! 24 refl $ forget ! 26 refl $ forget ! 28 refl $ forget ! 30 refl $
+        forget ! 32 refl $ forget ! 34 refl $ forget ! 36 refl $ forget ! 38 refl $ forget ! 40 refl $ forget ! 42 refl $ forget ! 44 refl $ forget ! 46 refl $
+        move ! (46 ∷ 47 ∷ []) $ free1 ! $ move ! (44 ∷ 45 ∷ []) $ free1 ! $ move ! (42 ∷ 43 ∷ []) $ free1 ! $ move ! (40 ∷ 41 ∷ []) $ free1 ! $ move ! (38 ∷ 39 ∷ []) $ free1 ! $ move ! (36 ∷ 37 ∷ []) $ free1 ! $ move ! (34 ∷ 35 ∷ []) $ free1 ! $
+        move ! (32 ∷ 33 ∷ []) $ free1 ! $ move ! (30 ∷ 31 ∷ []) $ free1 ! $ move ! (28 ∷ 29 ∷ []) $ free1 ! $ move ! (26 ∷ 27 ∷ []) $ free1 ! $ move ! (24 ∷ 25 ∷ []) $ free1 ! $ move ! (22 ∷ 23 ∷ []) $ free1 ! $ move ! (20 ∷ 21 ∷ []) $ free1 ! $
+        move ! (18 ∷ 19 ∷ []) $ free1 ! $ move ! (16 ∷ 17 ∷ []) $ free1 ! $ move ! (14 ∷ 15 ∷ []) $ free1 ! $ move ! (12 ∷ 13 ∷ []) $ free1 ! $ move ! (10 ∷ 11 ∷ []) $ free1 ! $ move ! (8 ∷ 9 ∷ []) $ free1 ! $ free0 ! $
+        keep ! (5 ∷ 3 ∷ 1 ∷ 6 ∷ 4 ∷ 2 ∷ 0 ∷ 7 ∷ []) $ by ! (exits (r₂ .outcome) h′ zs (us .1 .1 .1 .1 .1 .1 .1 .0) (parts r₂ w₂ is₂ .0) (served-lent h ys names c e₁ e₂ e₃ e₄ refl) len len₂)))))))))))))))))))))))))))))))
 
 module _ {M : Type 1} (𝓤 : URA M) (H : Heap 𝓤) (A : Atoms 𝓤) (W : Given 𝓤 H A) (mem : Memory → SProp 𝓤) (run : Routine → Fun 𝓤) where
   walks : (C : Calls 𝓤 H) (Λ : Loops 𝓤 H) → FmC 𝓤 H (W .laws) C → Triple 𝓤 (C #lent·load) (Load 𝓤 H A mem run) → Triple 𝓤 (C #records·serve) (Serve 𝓤 H A mem run) → Triple 𝓤 (C #lent·advance) (Advance 𝓤 H A mem run) → Triple 𝓤 (C #lent·store) (Store 𝓤 H A mem run)
       → Walks 𝓤 H A f.ended stayed (WpFn 𝓤 H C Λ code.function) (f.clauses 𝓤 H A mem run)
   walks C Λ fm k₁ k₂ k₃ k₄ = walked 𝓤 H A f.ended stayed (f.clauses 𝓤 H A mem run) (WpFn 𝓤 H C Λ code.function)
-      (λ κs. (slice-vals, (uint-vals w32, (uint-vals w32, (ptr-vals, (slice-vals, (slice-vals, tt)))))))
-      (λ κs. (shr-slice-tells (named 0) (κs .0) u8, (uint-tells w32, (uint-tells w32, (mut-tells (named 1) (κs .1 .0) T.the-row, (mut-slice-tells (named 2) (κs .1 .1 .0) R.the-row, (mut-slice-tells (named 3) (κs .1 .1 .1 .0) u8, tt)))))))
-      (λ κs qs bounds a g are. via 𝓤 _ (fst∗ 𝓤 _ (emp 𝓤)) (walk 𝓤 H A W mem run (κs .0) (κs .1 .0) (κs .1 .1 .0) (κs .1 .1 .1 .0) (qs .0) (qs .1 .0) (qs .1 .1 .0) (qs .1 .1 .1 .0)
-      (a .0 .ptr .0) (a .0 .ptr .1) (a .1 .1 .1 .0 .ptr .0) (a .1 .1 .1 .0 .ptr .1) (a .1 .1 .1 .1 .0 .ptr .0) (a .1 .1 .1 .1 .0 .ptr .1) (a .1 .1 .1 .1 .1 .0 .ptr .0) (a .1 .1 .1 .1 .1 .0 .ptr .1)
-      (a .0 .name) (a .1 .1 .1 .0 .name) (a .1 .1 .1 .1 .0 .name) (a .1 .1 .1 .1 .1 .0 .name) (a .0 .now) (a .1 .0) (a .1 .1 .0) (a .1 .1 .1 .0 .now) (a .1 .1 .1 .1 .0 .now) (a .1 .1 .1 .1 .1 .0 .now) (are .1 .0 .1) (are .1 .1 .0 .1)
-      C Λ fm k₁ k₂ k₃ k₄ (are .0 .0 .1) (are .1 .1 .1 .1 .0 .0 .1) (are .1 .1 .1 .1 .1 .0 .0 .1)))
+      (λ κs. (slice-vals, (uint-vals w32, (uint-vals w32, (ptr-vals, (slice-vals, (slice-vals, (slice-vals, tt))))))))
+      (λ κs. (shr-slice-tells (named 0) (κs .0) u8, (uint-tells w32, (uint-tells w32, (mut-tells (named 1) (κs .1 .0) T.the-row, (mut-slice-tells (named 2) (κs .1 .1 .0) R.the-row, (shr-slice-tells (named 3) (κs .1 .1 .1 .0) u8, (mut-slice-tells (named 4) (κs .1 .1 .1 .1 .0) u8, tt))))))))
+      (λ κs qs bounds a g are. via 𝓤 _ (fst∗ 𝓤 _ (emp 𝓤)) (walk 𝓤 H A W mem run (κs .0) (κs .1 .0) (κs .1 .1 .0) (κs .1 .1 .1 .0) (κs .1 .1 .1 .1 .0) (qs .0) (qs .1 .0) (qs .1 .1 .0) (qs .1 .1 .1 .0) (qs .1 .1 .1 .1 .0)
+      (a .0 .ptr .0) (a .0 .ptr .1) (a .1 .1 .1 .0 .ptr .0) (a .1 .1 .1 .0 .ptr .1) (a .1 .1 .1 .1 .0 .ptr .0) (a .1 .1 .1 .1 .0 .ptr .1) (a .1 .1 .1 .1 .1 .0 .ptr .0) (a .1 .1 .1 .1 .1 .0 .ptr .1) (a .1 .1 .1 .1 .1 .1 .0 .ptr .0) (a .1 .1 .1 .1 .1 .1 .0 .ptr .1)
+      (a .0 .name) (a .1 .1 .1 .0 .name) (a .1 .1 .1 .1 .0 .name) (a .1 .1 .1 .1 .1 .0 .name) (a .1 .1 .1 .1 .1 .1 .0 .name) (a .0 .now) (a .1 .0) (a .1 .1 .0) (a .1 .1 .1 .0 .now) (a .1 .1 .1 .1 .0 .now) (a .1 .1 .1 .1 .1 .0 .now) (a .1 .1 .1 .1 .1 .1 .0 .now) (are .1 .0 .1) (are .1 .1 .0 .1)
+      C Λ fm k₁ k₂ k₃ k₄ (are .0 .0 .1) (are .1 .1 .1 .1 .0 .0 .1) (are .1 .1 .1 .1 .1 .0 .0 .1) (are .1 .1 .1 .1 .1 .1 .0 .0 .1)))
 
-  goes : AllGo 𝓤 H A W 4 (f.signature .params) (f.ended .kept) stayed
+  goes : AllGo 𝓤 H A W 5 (f.signature .params) (f.ended .kept) stayed
   goes = (
-    goes-dropped 𝓤 H A W 4 (shrSliceOf (0 ∷ []) tt (plain (λ _. u8))) yes (λ κs x f. refl),
+    goes-dropped 𝓤 H A W 5 (shrSliceOf (0 ∷ []) tt (plain (λ _. u8))) yes (λ κs x f. refl),
     (
-      goes-dropped 𝓤 H A W 4 (plain (λ _. u32)) yes (λ κs x f. refl),
+      goes-dropped 𝓤 H A W 5 (plain (λ _. u32)) yes (λ κs x f. refl),
       (
-        goes-dropped 𝓤 H A W 4 (plain (λ _. u32)) yes (λ κs x f. refl),
-        (goes-gave-ref 𝓤 H A W 4 1 tt (plain (λ _. T.the-row)), (goes-slice 𝓤 H A W 4 2 tt (plain (λ _. R.the-row)), (goes-gave-slice 𝓤 H A W 4 3 tt (plain (λ _. u8)), tt))),
+        goes-dropped 𝓤 H A W 5 (plain (λ _. u32)) yes (λ κs x f. refl),
+        (goes-gave-ref 𝓤 H A W 5 1 tt (plain (λ _. T.the-row)), (goes-slice 𝓤 H A W 5 2 tt (plain (λ _. R.the-row)), (goes-dropped 𝓤 H A W 5 (shrSliceOf (3 ∷ []) tt (plain (λ _. u8))) yes (λ κs x f. refl), (goes-gave-slice 𝓤 H A W 5 4 tt (plain (λ _. u8)), tt)))),
       ),
     ),
   )

@@ -1,6 +1,6 @@
 -- `owned::write` meets its contract: a walk of its MIR, by hand. The state and the lease records are copied into locals, which are lent as `&` to `lent::write`, and come back as they were.
 -- The room is passed on at its own lifetime, share and ghost name, so what `lent::write` says of the last octets is said of the room's (`gave-slice`). Of `lent::write` the proof knows only that it meets its contract.
-use Rattle.lent.proofs.Walk.{stands, says-both, _≡_, refl, ℕ, [], _∷_, List, length, URA, fullShare, named, Val, vptr, SProp, ent, emp, via, fst∗, id⊢, Lft, Share, GName, Fml, ftrue, flft, Memory, Routine, Heap, Calls, Loops, WpFn, Atoms, Fun, fact, givenOf, tables, tablesOf, Given, ‵, raw, _⊛_, some, later, ⋆, _$_, _∵_, !, qed, by, move, keep, drop, group, use1, split, split3, join, pick, fsplit, fjoin, feqL, suffices, frame, await, done, look, init, forget, stop, hop, fld, from, load, lit, of-opd, addr, and-then, no-more, assigns, land, returns, enter, alloc1, alloc0, params1, pass1, pass0, free1, free0, whole, sub, look-in, agg, FmC, owns, Is, shows, u8, RefT, sliceVal, slice-vals, mut-slice-tells, MutSlice, Room, finally, owned, facts, heard, nothing, plain, Contract, Triple, calls-at, onEntry, tripleOf, cited, Stays, stay-dropped, gave-slice, walkOf, AllGo, goes-dropped, goes-gave-slice, Walks, ends-at, walked, ensured, lasts, yes}
+use Rattle.lent.proofs.Walk.{stands, shrSliceOf, ShrSlice, shr-slice-tells, says-both, _≡_, refl, ℕ, [], _∷_, List, length, URA, fullShare, named, Val, vptr, SProp, ent, emp, via, fst∗, id⊢, Lft, Share, GName, Fml, ftrue, flft, Memory, Routine, Heap, Calls, Loops, WpFn, Atoms, Fun, fact, givenOf, tables, tablesOf, Given, ‵, raw, _⊛_, some, later, ⋆, _$_, _∵_, !, qed, by, move, keep, drop, group, use1, split, split3, join, pick, fsplit, fjoin, feqL, suffices, frame, await, done, look, init, forget, stop, hop, fld, from, load, lit, of-opd, addr, and-then, no-more, assigns, land, returns, enter, alloc1, alloc0, params1, pass1, pass0, free1, free0, whole, sub, look-in, agg, FmC, owns, Is, shows, u8, RefT, sliceVal, slice-vals, mut-slice-tells, MutSlice, Room, finally, owned, facts, heard, nothing, plain, Contract, Triple, calls-at, onEntry, tripleOf, cited, Stays, stay-dropped, gave-slice, walkOf, AllGo, goes-dropped, goes-gave-slice, Walks, ends-at, walked, ensured, lasts, yes}
 use denote.Struct.Laws as LL
 use Rattle.state.specs.declared.Lease.{Lease}
 use Rattle.state.specs.declared.State.{State}
@@ -22,121 +22,129 @@ use Rattle.owned.proofs.write.Statement as stated
 use Rattle.owned.proofs.write.Code as code
 
 abbrev stayed : Stays (f.ended .signature .params) (f.ended .kept)
-stayed = (stay-dropped (plain (λ _. O.the-row)) yes, (gave-slice (0 ∷ []) tt (plain (λ _. u8)), tt))
+stayed = (stay-dropped (plain (λ _. O.the-row)) yes, (stay-dropped (shrSliceOf (0 ∷ []) tt (plain (λ _. u8))) yes, (gave-slice (1 ∷ []) tt (plain (λ _. u8)), tt)))
 
 module _ {M : Type 1} (𝓤 : URA M) (H : Heap 𝓤) (A : Atoms 𝓤) (mem : Memory → SProp 𝓤) (run : Routine → Fun 𝓤) where
   -- the contract of `lent::write`
   abbrev Write : Contract 𝓤
   Write = tripleOf 𝓤 H A write′.signature (write′.spec 𝓤 H A mem run)
 
-module _ {M : Type 1} (𝓤 : URA M) (H : Heap 𝓤) (A : Atoms 𝓤) (W : Given 𝓤 H A) (mem : Memory → SProp 𝓤) (run : Routine → Fun 𝓤) (κ : Lft) (q : Share) (o : Owned) (b i : ℕ) (γ : GName) (os : List ℕ) where
+module _ {M : Type 1} (𝓤 : URA M) (H : Heap 𝓤) (A : Atoms 𝓤) (W : Given 𝓤 H A) (mem : Memory → SProp 𝓤) (run : Routine → Fun 𝓤) (κ₀ κ₁ : Lft) (q₀ q₁ : Share)
+    (o : Owned) (b₀ i₀ : ℕ) (γ₀ : GName) (names : List ℕ) (b₁ i₁ : ℕ) (γ : GName) (os : List ℕ) where
   abbrev h : State
   h = o .state
 
   abbrev ys : List Lease
   ys = o .records .leases
 
-  abbrev x : RefT (List ℕ)
-  x = record { ptr = (b, i); name = γ; now = os }
+  abbrev x₀ : RefT (List ℕ)
+  x₀ = record { ptr = (b₀, i₀); name = γ₀; now = names }
 
-  abbrev s : Val
-  s = sliceVal (b, i) (length os)
+  abbrev x₁ : RefT (List ℕ)
+  x₁ = record { ptr = (b₁, i₁); name = γ; now = os }
+
+  abbrev s₀ : Val
+  s₀ = sliceVal (b₀, i₀) (length names)
+
+  abbrev s₁ : Val
+  s₁ = sliceVal (b₁, i₁) (length os)
 
   abbrev Arg : Type 0
-  Arg = Owned × (RefT (List ℕ) × Unit {0})
+  Arg = Owned × (RefT (List ℕ) × (RefT (List ℕ) × Unit {0}))
 
   abbrev a : Arg
-  a = (o, (x, tt))
+  a = (o, (x₀, (x₁, tt)))
 
-  abbrev vals : List Val × (List Val × Unit {0})
-  vals = (word-owned o ∷ [], (s ∷ [], tt))
+  abbrev vals : List Val × (List Val × (List Val × Unit {0}))
+  vals = (word-owned o ∷ [], (s₀ ∷ [], (s₁ ∷ [], tt)))
 
   abbrev Post : Val → SProp 𝓤
-  Post = walkOf 𝓤 H A f.ended stayed (f.clauses 𝓤 H A mem run) .post (((κ, tt), (q, tt), tt, a, vals), tt)
+  Post = walkOf 𝓤 H A f.ended stayed (f.clauses 𝓤 H A mem run) .post (((κ₀, (κ₁, tt)), (q₀, (q₁, tt)), tt, a, vals), tt)
 
-  exits : (r : Written) (w : Val) (zs : List ℕ) → Is Z.the-row r (w ∷ []) → r ≡ writtenLent h ys (length os) → zs ≡ roomLent h ys os → length zs ≡ length os
-      → ent 𝓤 (⋆ 𝓤 H A (‵ (flft κ q) ∷ ‵ (finally u8 γ zs) ∷ [])) (Post w)
+  exits : (r : Written) (w : Val) (zs : List ℕ) → Is Z.the-row r (w ∷ []) → r ≡ writtenLent h ys names (length os) → zs ≡ roomLent h ys names os → length zs ≡ length os
+      → ent 𝓤 (⋆ 𝓤 H A (‵ (flft κ₀ q₀) ∷ ‵ (flft κ₁ q₁) ∷ ‵ (finally u8 γ zs) ∷ [])) (Post w)
   exits r w zs is e₁ e₂ len =
-      qed W (‵ (flft κ q) ∷ ‵ (finally u8 γ zs) ∷ []) ∵
-      suffices ! _ (ends-at 𝓤 H A f.ended stayed (f.clauses 𝓤 H A mem run) W (((κ, tt), (q, tt), tt, a, vals), tt) w r (tt, (zs, tt)) (tt, (len, tt))) $
+      qed W (‵ (flft κ₀ q₀) ∷ ‵ (flft κ₁ q₁) ∷ ‵ (finally u8 γ zs) ∷ []) ∵
+      suffices ! _ (ends-at 𝓤 H A f.ended stayed (f.clauses 𝓤 H A mem run) W (((κ₀, (κ₁, tt)), (q₀, (q₁, tt)), tt, a, vals), tt) w r (tt, (tt, (zs, tt))) (tt, (tt, (len, tt)))) $
       says-both ! e₁ e₂ $
-      -- the token
-      nothing ! $ move ! (1 ∷ 0 ∷ []) $ join ! $ frame ! $
+      -- the tokens
+      nothing ! $ move ! (2 ∷ 0 ∷ []) $ join ! $ move ! (1 ∷ 0 ∷ []) $ join ! $ frame ! $
       -- what is had of the parameters, and the result
-      nothing ! $ move ! (1 ∷ 0 ∷ []) $ fjoin ! $ nothing ! $ fjoin ! $
+      nothing ! $ move ! (1 ∷ 0 ∷ []) $ fjoin ! $ nothing ! $ fjoin ! $ nothing ! $ fjoin ! $
       owned ! Z.the-row (Is Z.the-row) (LL.makes Z.the-type Z′.the-plain 𝓤 H A) r _ is $ move ! (1 ∷ 0 ∷ []) $ done !
 
   -- the call of `lent::write`, with the state in the local c lent for ν and the leases in the local d lent for μ
   module _ (ν μ c d : ℕ) (γ₁ γ₂ : GName) where
-    abbrev to-args : RefT State × (RefT (List Lease) × (RefT (List ℕ) × Unit {0}))
-    to-args = (ref-state c γ₁ h, (ref-leases d γ₂ ys, (x, tt)))
+    abbrev to-args : RefT State × (RefT (List Lease) × (RefT (List ℕ) × (RefT (List ℕ) × Unit {0})))
+    to-args = (ref-state c γ₁ h, (ref-leases d γ₂ ys, (x₀, (x₁, tt))))
 
     -- what its triple binds outside, and what makes its `pre`
     abbrev to-write : Write 𝓤 H A mem run .Ghost
-    to-write = (((ν ∷ [], (μ ∷ [], (κ, tt))), (fullShare, (fullShare, (q, tt))), tt, to-args, (vptr c 0 ∷ [], (word-slice d ∷ [], (s ∷ [], tt)))), tt)
+    to-write = (((ν ∷ [], (μ ∷ [], (κ₀, (κ₁, tt)))), (fullShare, (fullShare, (q₀, (q₁, tt)))), tt, to-args, (vptr c 0 ∷ [], (word-slice d ∷ [], (s₀ ∷ [], (s₁ ∷ [], tt))))), tt)
 
-    goes-write : ent 𝓤 (⋆ 𝓤 H A (‵ (flft (ν ∷ []) fullShare) ∷ ‵ (flft (μ ∷ []) fullShare) ∷ ‵ (flft κ q) ∷ ‵ (ShrState (ν ∷ []) c γ₁ h) ∷ ‵ (ShrLeases (μ ∷ []) d γ₂ ys) ∷ ‵ (MutSlice (named 0) κ u8 .own x (s ∷ [])) ∷ []))
+    goes-write : ent 𝓤 (⋆ 𝓤 H A (‵ (flft (ν ∷ []) fullShare) ∷ ‵ (flft (μ ∷ []) fullShare) ∷ ‵ (flft κ₀ q₀) ∷ ‵ (flft κ₁ q₁) ∷ ‵ (ShrState (ν ∷ []) c γ₁ h) ∷ ‵ (ShrLeases (μ ∷ []) d γ₂ ys) ∷ ‵ (ShrSlice (named 0) κ₀ u8 .own x₀ (s₀ ∷ [])) ∷ ‵ (MutSlice (named 1) κ₁ u8 .own x₁ (s₁ ∷ [])) ∷ []))
         (Write 𝓤 H A mem run .pre to-write)
     goes-write =
-        qed W (‵ (flft (ν ∷ []) fullShare) ∷ ‵ (flft (μ ∷ []) fullShare) ∷ ‵ (flft κ q) ∷ ‵ (ShrState (ν ∷ []) c γ₁ h) ∷ ‵ (ShrLeases (μ ∷ []) d γ₂ ys) ∷ ‵ (MutSlice (named 0) κ u8 .own x (s ∷ [])) ∷ []) ∵
-        nothing ! $ move ! (6 ∷ 0 ∷ []) $ fjoin ! $ move ! (5 ∷ 0 ∷ []) $ fjoin ! $ move ! (4 ∷ 0 ∷ []) $ fjoin ! $
-        nothing ! $ move ! (4 ∷ 0 ∷ []) $ join ! $ move ! (3 ∷ 0 ∷ []) $ join ! $ move ! (2 ∷ 0 ∷ []) $ join ! $ join ! $ nothing ! $ move ! (1 ∷ 0 ∷ []) $ done !
+        qed W (‵ (flft (ν ∷ []) fullShare) ∷ ‵ (flft (μ ∷ []) fullShare) ∷ ‵ (flft κ₀ q₀) ∷ ‵ (flft κ₁ q₁) ∷ ‵ (ShrState (ν ∷ []) c γ₁ h) ∷ ‵ (ShrLeases (μ ∷ []) d γ₂ ys) ∷ ‵ (ShrSlice (named 0) κ₀ u8 .own x₀ (s₀ ∷ [])) ∷ ‵ (MutSlice (named 1) κ₁ u8 .own x₁ (s₁ ∷ [])) ∷ []) ∵
+        nothing ! $ move ! (8 ∷ 0 ∷ []) $ fjoin ! $ move ! (7 ∷ 0 ∷ []) $ fjoin ! $ move ! (6 ∷ 0 ∷ []) $ fjoin ! $ move ! (5 ∷ 0 ∷ []) $ fjoin ! $
+        nothing ! $ move ! (5 ∷ 0 ∷ []) $ join ! $ move ! (4 ∷ 0 ∷ []) $ join ! $ move ! (3 ∷ 0 ∷ []) $ join ! $ move ! (2 ∷ 0 ∷ []) $ join ! $ join ! $ nothing ! $ move ! (1 ∷ 0 ∷ []) $ done !
 
     -- what it leaves behind, beside the tokens and the result
-    abbrev Left : Unit {0} × (Unit {0} × (List ℕ × Unit {0})) → Fml
-    Left zs = lasts write′.ended (ν ∷ [], (μ ∷ [], (κ, tt))) to-args zs
+    abbrev Left : Unit {0} × (Unit {0} × (Unit {0} × (List ℕ × Unit {0}))) → Fml
+    Left zs = lasts write′.ended (ν ∷ [], (μ ∷ [], (κ₀, (κ₁, tt)))) to-args zs
 
   module _ (C : Calls 𝓤 H) (Λ : Loops 𝓤 H) (fm : FmC 𝓤 H (W .laws) C) (known : Triple 𝓤 (C #lent·write) (Write 𝓤 H A mem run)) where
-    walk : IsOwned o → Room u8 (length os) → ent 𝓤 (onEntry 𝓤 H A f.signature (κ, tt) (q, tt) a vals) (WpFn 𝓤 H C Λ code.function (word-owned o ∷ s ∷ []) Post)
-    walk is fits =
-        qed W ((‵ (flft κ q) ⊛ ‵ ftrue) ∷ ‵ (owns (O.the-row ∷ MutSlice (named 0) κ u8 ∷ []) a vals) ∷ []) ∵
-        split ! $ move ! (2 ∷ []) $ fsplit ! $ move ! (1 ∷ []) $ fsplit ! $ keep ! (0 ∷ 3 ∷ []) $
-        -- [the room; [κ]]
-        enter ! C Λ code.function (word-owned o ∷ s ∷ []) _ $
-        alloc1 ! (λ l₀. alloc1 ! (λ l₁. alloc1 ! (λ l₂. alloc1 ! (λ l₃. alloc1 ! (λ l₄. alloc1 ! (λ l₅. alloc1 ! (λ l₆. alloc1 ! (λ l₇. alloc1 ! (λ l₈. alloc1 ! (λ l₉. alloc1 ! (λ l₁₀. alloc0 ! $ params1 ! $
-        pass1 ! (init ! 18 refl (typed-owned 𝓤 H A W o is)) $ pass1 ! (init ! 16 refl (tt, (tt, (record { fits = fits .0 }, tt)))) $ pass0 ! $
-        -- [_10; …; _9; …; _8; …; _7; …; _6; …; _5; …; _4; …; _3; …; _2; …; _1; …; room for _0; …; the room; [κ]]: the state and the lease records are copied
-        assigns ! (of-opd ! (load ! (from ! (fld ! refl (stop !))) (look-in ! 18 (sub ! 0 refl (whole !))))) (from ! (stop !)) (init ! 14 refl (typed-state 𝓤 H A W h (its-state o is))) $
-        assigns ! (of-opd ! (load ! (from ! (fld ! refl (stop !))) (look-in ! 18 (sub ! 1 refl (whole !))))) (from ! (stop !)) (init ! 12 refl (typed-records 𝓤 H A W (o .records) (its-records o is))) $
+    walk : IsOwned o → Room u8 (length names) → Room u8 (length os) → ent 𝓤 (onEntry 𝓤 H A f.signature (κ₀, (κ₁, tt)) (q₀, (q₁, tt)) a vals) (WpFn 𝓤 H C Λ code.function (word-owned o ∷ s₀ ∷ s₁ ∷ []) Post)
+    walk is fits₀ fits₁ =
+        qed W ((‵ (flft κ₀ q₀) ⊛ ‵ (flft κ₁ q₁) ⊛ ‵ ftrue) ∷ ‵ (owns (O.the-row ∷ ShrSlice (named 0) κ₀ u8 ∷ MutSlice (named 1) κ₁ u8 ∷ []) a vals) ∷ []) ∵
+        split ! $ move ! (1 ∷ []) $ split ! $ move ! (3 ∷ []) $ fsplit ! $ drop ! $ fsplit ! $ move ! (1 ∷ []) $ fsplit ! $ keep ! (2 ∷ 5 ∷ 0 ∷ 3 ∷ []) $
+        -- [the names; [κ₀]; the room; [κ₁]]
+        enter ! C Λ code.function (word-owned o ∷ s₀ ∷ s₁ ∷ []) _ $
+        alloc1 ! (λ l₀. alloc1 ! (λ l₁. alloc1 ! (λ l₂. alloc1 ! (λ l₃. alloc1 ! (λ l₄. alloc1 ! (λ l₅. alloc1 ! (λ l₆. alloc1 ! (λ l₇. alloc1 ! (λ l₈. alloc1 ! (λ l₉. alloc1 ! (λ l₁₀. alloc1 ! (λ l₁₁. alloc0 ! $ params1 ! $
+        pass1 ! (init ! 20 refl (typed-owned 𝓤 H A W o is)) $ pass1 ! (init ! 18 refl (tt, (tt, (record { fits = fits₀ .0 }, tt)))) $ pass1 ! (init ! 16 refl (tt, (tt, (record { fits = fits₁ .0 }, tt)))) $ pass0 ! $
+        -- [_11; …; _10; …; _9; …; _8; …; _7; …; _6; …; _5; …; _4; …; _3; …; _2; …; _1; …; room for _0; …; the names; [κ₀]; the room; [κ₁]]: the state and the lease records are copied
+        assigns ! (of-opd ! (load ! (from ! (fld ! refl (stop !))) (look-in ! 20 (sub ! 0 refl (whole !))))) (from ! (stop !)) (init ! 14 refl (typed-state 𝓤 H A W h (its-state o is))) $
+        assigns ! (of-opd ! (load ! (from ! (fld ! refl (stop !))) (look-in ! 20 (sub ! 1 refl (whole !))))) (from ! (stop !)) (init ! 12 refl (typed-records 𝓤 H A W (o .records) (its-records o is))) $
         assigns ! (of-opd ! (load ! (from ! (fld ! refl (stop !))) (look-in ! 12 (sub ! 0 refl (whole !))))) (from ! (stop !)) (init ! 10 refl (typed-leases 𝓤 H A W ys (its-leases o is))) $
         -- the references
         assigns ! (addr ! (from ! (stop !))) (from ! (stop !)) (init ! 8 refl (tt, tt)) $
         assigns ! (addr ! (from ! (stop !))) (from ! (stop !)) (init ! 6 refl (tt, tt)) $
         assigns ! (agg ! (and-then ! (load ! (from ! (stop !)) (look ! 6 refl)) (and-then ! (lit ! tt) (no-more !)))) (from ! (stop !)) (init ! 4 refl (tt, (tt, (record { fits = room .0 }, tt)))) $
         assigns ! (addr ! (from ! (fld ! refl (hop ! (look-in ! 16 (sub ! 0 refl (whole !))) (stop !))))) (from ! (stop !)) (init ! 2 refl (tt, tt)) $
-        assigns ! (agg ! (and-then ! (load ! (from ! (stop !)) (look ! 2 refl)) (and-then ! (load ! (from ! (fld ! refl (stop !))) (look-in ! 16 (sub ! 1 refl (whole !)))) (no-more !)))) (from ! (stop !)) (init ! 0 refl (tt, (tt, (record { fits = fits .0 }, tt)))) $
-        -- the locals are lent, and go to `lent::write` with the room
-        move ! (14 ∷ 10 ∷ []) $ lends-shr ! tt l₃ l₅ h ys (its-state o is) (its-leases o is) (λ ν μ γ₁ γ₂.
-        -- [[ν]; [μ]; the `&State`; the `&[Lease]`; what brings _3 and _5 back; _10; …; _9; …; _8; …; _7; …; _6; …; (_5) …; _4; …; (_3) …; _2; …; _1; …; room for _0; …; the room; [κ]]
-        move ! (0 ∷ 1 ∷ 26 ∷ 2 ∷ 3 ∷ 25 ∷ []) $ group ! 6 $ use1 W (raw (Write 𝓤 H A mem run .pre (to-write ν μ l₃ l₅ γ₁ γ₂))) (goes-write ν μ l₃ l₅ γ₁ γ₂) $
-        -- [the `pre`; what brings _3 and _5 back; _10; …; _9; …; _8; …; _7; …; _6; …; (_5) …; _4; …; (_3) …; _2; …; _1; …; room for _0; …]
-        calls-at ! fm (Write 𝓤 H A mem run) known (to-write ν μ l₃ l₅ γ₁ γ₂) (and-then ! (load ! (from ! (stop !)) (look ! 10 refl)) (and-then ! (load ! (from ! (stop !)) (look ! 6 refl)) (and-then ! (load ! (from ! (stop !)) (look ! 2 refl)) (no-more !)))) (λ w.
-        use1 W (later (some (λ (r : Written). ((‵ (flft (ν ∷ []) fullShare) ⊛ ‵ (flft (μ ∷ []) fullShare) ⊛ ‵ (flft κ q) ⊛ ‵ ftrue) ⊛ ‵ (Z.the-row .own r (w ∷ []))) ⊛ raw (ensured 𝓤 H A write′.ended (write′.clauses 𝓤 H A mem run) (ν ∷ [], (μ ∷ [], (κ, tt))) (to-args ν μ l₃ l₅ γ₁ γ₂) tt r)))) (id⊢ 𝓤 _) $ await ! tt $ pick ! (λ r.
-        split ! $ move ! (1 ∷ []) $ use1 W (some (λ (zs : Unit {0} × (Unit {0} × (List ℕ × Unit {0}))). ‵ (Left ν μ l₃ l₅ γ₁ γ₂ zs) ⊛ raw (fact 𝓤 (r ≡ writtenLent h ys (length os))) ⊛ raw (fact 𝓤 (zs .1 .1 .0 ≡ roomLent h ys os)))) (id⊢ 𝓤 _) $ pick ! (λ zs.
-        split3 ! $ move ! (1 ∷ []) $ heard ! (r ≡ writtenLent h ys (length os)) (λ e₁. move ! (1 ∷ []) $ heard ! (zs .1 .1 .0 ≡ roomLent h ys os) (λ e₂.
-        -- [what it leaves of its parameters; the tokens and the result; what brings _3 and _5 back; _10; …]
-        fsplit ! $ drop ! $ fsplit ! $ drop ! $ fsplit ! $ fsplit ! $ move ! (1 ∷ []) $ feqL ! (λ len.
-        -- [the last octets; true; the tokens and the result; what brings _3 and _5 back; _10; …]
-        move ! (2 ∷ []) $ split ! $ move ! (1 ∷ []) $ facts ! Z.the-row (Is Z.the-row) (shows 𝓤 H A Z.the-row) r (w ∷ []) (λ is-r. split ! $ move ! (1 ∷ []) $ split ! $ move ! (1 ∷ []) $ split ! $
-        -- [[κ]; true; [μ]; [ν]; the last octets; true; what brings _3 and _5 back; _10; …]
-        land ! (from ! (stop !)) (init ! 25 refl (LL.lawful Z.the-type Z′.the-laws 𝓤 H A W .typed r _ is-r .0)) $
-        move ! (3 ∷ 2 ∷ 6 ∷ []) $ backs-shr ! tt ν μ l₃ l₅ h ys (long ys (its-leases o is)) $
-        -- [_3; _5; [κ]; true; the last octets; true; _10; …; _9; …; _8; …; _7; …; _6; …; (_5) …; _4; …; (_3) …; _2; …; _1; …; _0; …]
-        returns ! (look ! 24 refl) $
-        forget ! 0 refl $ forget ! 1 refl $ forget ! 6 refl $ forget ! 8 refl $ forget ! 10 refl $ forget ! 12 refl $ forget ! 14 refl $ forget ! 17 refl $ forget ! 20 refl $ forget ! 22 refl $ forget ! 24 refl $
-        move ! (24 ∷ 25 ∷ []) $ free1 ! $ move ! (22 ∷ 23 ∷ []) $ free1 ! $ move ! (20 ∷ 21 ∷ []) $ free1 ! $ move ! (0 ∷ 19 ∷ []) $ free1 ! $ move ! (16 ∷ 17 ∷ []) $ free1 ! $ move ! (0 ∷ 15 ∷ []) $ free1 ! $
-        -- [[κ]; true; the last octets; true; _10; …; _9; …; _8; …; _7; …; _6; …]
-        move ! (12 ∷ 13 ∷ []) $ free1 ! $ move ! (10 ∷ 11 ∷ []) $ free1 ! $ move ! (8 ∷ 9 ∷ []) $ free1 ! $ move ! (6 ∷ 7 ∷ []) $ free1 ! $ move ! (4 ∷ 5 ∷ []) $ free1 ! $ free0 ! $
-        keep ! (0 ∷ 2 ∷ []) $ by ! (exits r w (zs .1 .1 .0) is-r e₁ e₂ len))))))))))))))))))))
+        assigns ! (agg ! (and-then ! (load ! (from ! (stop !)) (look ! 2 refl)) (and-then ! (load ! (from ! (fld ! refl (stop !))) (look-in ! 16 (sub ! 1 refl (whole !)))) (no-more !)))) (from ! (stop !)) (init ! 0 refl (tt, (tt, (record { fits = fits₁ .0 }, tt)))) $
+        -- the locals are lent, and go to `lent::write` with the names and the room
+        move ! (14 ∷ 10 ∷ []) $ lends-shr ! tt l₄ l₆ h ys (its-state o is) (its-leases o is) (λ ν μ γ₁ γ₂.
+        -- [[ν]; [μ]; the `&State`; the `&[Lease]`; what brings _4 and _6 back; _11; …; _10; …; _9; …; _8; …; _7; …; (_6) …; _5; …; (_4) …; _3; …; _2; …; _1; …; room for _0; …; the names; [κ₀]; the room; [κ₁]]
+        move ! (0 ∷ 1 ∷ 28 ∷ 30 ∷ 2 ∷ 3 ∷ 27 ∷ 29 ∷ []) $ group ! 8 $ use1 W (raw (Write 𝓤 H A mem run .pre (to-write ν μ l₄ l₆ γ₁ γ₂))) (goes-write ν μ l₄ l₆ γ₁ γ₂) $
+        -- [the `pre`; what brings _4 and _6 back; _11; …; _10; …; _9; …; _8; …; _7; …; (_6) …; _5; …; (_4) …; _3; …; _2; …; _1; …; room for _0; …]
+        calls-at ! fm (Write 𝓤 H A mem run) known (to-write ν μ l₄ l₆ γ₁ γ₂) (and-then ! (load ! (from ! (stop !)) (look ! 10 refl)) (and-then ! (load ! (from ! (stop !)) (look ! 6 refl)) (and-then ! (load ! (from ! (stop !)) (look ! 18 refl)) (and-then ! (load ! (from ! (stop !)) (look ! 2 refl)) (no-more !))))) (λ w.
+        use1 W (later (some (λ (r : Written). ((‵ (flft (ν ∷ []) fullShare) ⊛ ‵ (flft (μ ∷ []) fullShare) ⊛ ‵ (flft κ₀ q₀) ⊛ ‵ (flft κ₁ q₁) ⊛ ‵ ftrue) ⊛ ‵ (Z.the-row .own r (w ∷ []))) ⊛ raw (ensured 𝓤 H A write′.ended (write′.clauses 𝓤 H A mem run) (ν ∷ [], (μ ∷ [], (κ₀, (κ₁, tt)))) (to-args ν μ l₄ l₆ γ₁ γ₂) tt r)))) (id⊢ 𝓤 _) $ await ! tt $ pick ! (λ r.
+        split ! $ move ! (1 ∷ []) $ use1 W (some (λ (zs : Unit {0} × (Unit {0} × (Unit {0} × (List ℕ × Unit {0})))). ‵ (Left ν μ l₄ l₆ γ₁ γ₂ zs) ⊛ raw (fact 𝓤 (r ≡ writtenLent h ys names (length os))) ⊛ raw (fact 𝓤 (zs .1 .1 .1 .0 ≡ roomLent h ys names os)))) (id⊢ 𝓤 _) $ pick ! (λ zs.
+        split3 ! $ move ! (1 ∷ []) $ heard ! (r ≡ writtenLent h ys names (length os)) (λ e₁. move ! (1 ∷ []) $ heard ! (zs .1 .1 .1 .0 ≡ roomLent h ys names os) (λ e₂.
+        -- [what it leaves of its parameters; the tokens and the result; what brings _4 and _6 back; _11; …]
+        fsplit ! $ drop ! $ fsplit ! $ drop ! $ fsplit ! $ drop ! $ fsplit ! $ fsplit ! $ move ! (1 ∷ []) $ feqL ! (λ len.
+        -- [the last octets; true; the tokens and the result; what brings _4 and _6 back; _11; …]
+        move ! (2 ∷ []) $ split ! $ move ! (1 ∷ []) $ facts ! Z.the-row (Is Z.the-row) (shows 𝓤 H A Z.the-row) r (w ∷ []) (λ is-r. split ! $ move ! (1 ∷ []) $ split ! $ move ! (1 ∷ []) $ split ! $ move ! (1 ∷ []) $ split ! $
+        -- [[κ₁]; true; [κ₀]; [μ]; [ν]; the last octets; true; what brings _4 and _6 back; _11; …]
+        land ! (from ! (stop !)) (init ! 28 refl (LL.lawful Z.the-type Z′.the-laws 𝓤 H A W .typed r _ is-r .0)) $
+        move ! (4 ∷ 3 ∷ 7 ∷ []) $ backs-shr ! tt ν μ l₄ l₆ h ys (long ys (its-leases o is)) $
+        -- [_4; _6; [κ₁]; true; [κ₀]; the last octets; true; _11; …; _10; …; _9; …; _8; …; _7; …; (_6) …; _5; …; (_4) …; _3; …; _2; …; _1; …; _0; …]
+        returns ! (look ! 27 refl) $
+        forget ! 0 refl $ forget ! 1 refl $ forget ! 7 refl $ forget ! 9 refl $ forget ! 11 refl $ forget ! 13 refl $ forget ! 15 refl $ forget ! 18 refl $ forget ! 21 refl $ forget ! 23 refl $ forget ! 25 refl $ forget ! 27 refl $
+        move ! (27 ∷ 28 ∷ []) $ free1 ! $ move ! (25 ∷ 26 ∷ []) $ free1 ! $ move ! (23 ∷ 24 ∷ []) $ free1 ! $ move ! (21 ∷ 22 ∷ []) $ free1 ! $ move ! (0 ∷ 20 ∷ []) $ free1 ! $ move ! (17 ∷ 18 ∷ []) $ free1 ! $ move ! (0 ∷ 16 ∷ []) $ free1 ! $
+        -- [[κ₁]; true; [κ₀]; the last octets; true; _11; …; _10; …; _9; …; _8; …; _7; …]
+        move ! (13 ∷ 14 ∷ []) $ free1 ! $ move ! (11 ∷ 12 ∷ []) $ free1 ! $ move ! (9 ∷ 10 ∷ []) $ free1 ! $ move ! (7 ∷ 8 ∷ []) $ free1 ! $ move ! (5 ∷ 6 ∷ []) $ free1 ! $ free0 ! $
+        keep ! (2 ∷ 0 ∷ 3 ∷ []) $ by ! (exits r w (zs .1 .1 .1 .0) is-r e₁ e₂ len)))))))))))))))))))))
 
 module _ {M : Type 1} (𝓤 : URA M) (H : Heap 𝓤) (A : Atoms 𝓤) (W : Given 𝓤 H A) (mem : Memory → SProp 𝓤) (run : Routine → Fun 𝓤) where
   walks : (C : Calls 𝓤 H) (Λ : Loops 𝓤 H) → FmC 𝓤 H (W .laws) C → Triple 𝓤 (C #lent·write) (Write 𝓤 H A mem run) → Walks 𝓤 H A f.ended stayed (WpFn 𝓤 H C Λ code.function) (f.clauses 𝓤 H A mem run)
   walks C Λ fm known = walked 𝓤 H A f.ended stayed (f.clauses 𝓤 H A mem run) (WpFn 𝓤 H C Λ code.function)
-      (λ κs. (LL.vals O.the-type O′.the-laws, (slice-vals, tt))) (λ κs. (LL.tells O.the-type O′.the-laws, (mut-slice-tells (named 0) (κs .0) u8, tt)))
-      (λ κs qs bounds a g are. via 𝓤 _ (fst∗ 𝓤 _ (emp 𝓤)) (walk 𝓤 H A W mem run (κs .0) (qs .0) (a .0) (a .1 .0 .ptr .0) (a .1 .0 .ptr .1) (a .1 .0 .name) (a .1 .0 .now) C Λ fm known (are .0) (are .1 .0 .0 .1)))
+      (λ κs. (LL.vals O.the-type O′.the-laws, (slice-vals, (slice-vals, tt)))) (λ κs. (LL.tells O.the-type O′.the-laws, (shr-slice-tells (named 0) (κs .0) u8, (mut-slice-tells (named 1) (κs .1 .0) u8, tt))))
+      (λ κs qs bounds a g are. via 𝓤 _ (fst∗ 𝓤 _ (emp 𝓤)) (walk 𝓤 H A W mem run (κs .0) (κs .1 .0) (qs .0) (qs .1 .0)
+      (a .0) (a .1 .0 .ptr .0) (a .1 .0 .ptr .1) (a .1 .0 .name) (a .1 .0 .now) (a .1 .1 .0 .ptr .0) (a .1 .1 .0 .ptr .1) (a .1 .1 .0 .name) (a .1 .1 .0 .now) C Λ fm known (are .0) (are .1 .0 .0 .1) (are .1 .1 .0 .0 .1)))
 
-  goes : AllGo 𝓤 H A W 1 (f.signature .params) (f.ended .kept) stayed
-  goes = (goes-dropped 𝓤 H A W 1 (plain (λ _. O.the-row)) yes (λ κs x f. refl), (goes-gave-slice 𝓤 H A W 1 0 tt (plain (λ _. u8)), tt))
+  goes : AllGo 𝓤 H A W 2 (f.signature .params) (f.ended .kept) stayed
+  goes = (goes-dropped 𝓤 H A W 2 (plain (λ _. O.the-row)) yes (λ κs x f. refl), (goes-dropped 𝓤 H A W 2 (shrSliceOf (0 ∷ []) tt (plain (λ _. u8))) yes (λ κs x f. refl), (goes-gave-slice 𝓤 H A W 2 1 tt (plain (λ _. u8)), tt)))
 
 pub write-spec : {M : Type 1} → stated.statement M
 unfolding code.routine tablesOf

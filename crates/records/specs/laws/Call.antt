@@ -1,12 +1,13 @@
 -- Laws: the call on 128 records by value: tests 1 to 3, the drop, and the edit of the records of the client's tenant.
 use mathlib.Core.Path.{_≡_, refl, sym, ap, ap₂, _∙_, subst}
-use mathlib.Core.Bool.{Bool, true, false, _||_, true≢false}
+use mathlib.Core.Bool.{Bool, true, false, _&&_, _||_, true≢false}
 use mathlib.Core.List.{List, [], map}
 use Prim.Native.Nat.{ℕ, _≤_, _<_}
 use native.Mathlib.Omega.{arith}
 use lib.ListN.{length, length-map}
 use lib.Seq.{set-getD}
 use Rattle.lists.specs.Pick.{pick}
+use Rattle.lists.specs.laws.Both.{and-parts}
 use Rattle.lists.specs.All.{All, allBy}
 use Rattle.message.specs.Read.{readOf}
 use Rattle.reply.specs.Reply.{leastRoom}
@@ -20,12 +21,15 @@ use Rattle.state.specs.Edit.{applied, editedIn, leftIn}
 use Rattle.state.specs.laws.Layout.{advanced-is, table-back}
 use Rattle.soundness.specs.declared.HeldTable.{HeldTable}
 use Rattle.soundness.specs.declared.TableRules.{TableRules}
+use Rattle.names.specs.Names.{namesB}
+use Rattle.soundness.specs.Named.{bookB}
+use Rattle.soundness.specs.laws.Named.{advanced-book, book-named, book-sound, both-book}
 use Rattle.soundness.specs.Sound.{soundB, tenantsIn}
 use Rattle.soundness.specs.Parts.{holdingsOf, soundFrom, tableRulesOf}
 use Rattle.soundness.specs.laws.Kept.{advanced-sound}
 use Rattle.soundness.specs.laws.Survey.{held-from, sound-from}
 use Rattle.server.specs.declared.Served.{Served}
-use Rattle.server.specs.Serve.{Call, Serves, ServesTenant, atClock, discarded, serveOf, tenantOf, withReading}
+use Rattle.server.specs.Serve.{Call, NamesFor, Serves, ServesTenant, atClock, discarded, serveOf, tenantOf, withReading}
 use Rattle.server.specs.laws.Tests.{call-served, call-short, call-unsound, client-known, client-unknown}
 use Rattle.records.specs.declared.Dropped.{Dropped}
 use Rattle.records.specs.declared.Records.{Records}
@@ -53,8 +57,12 @@ stays k s ls a q e = record {
   long = ap (λ (z : ServedRecords). length (z .records .leases)) e ∙ ap length a ∙ q;
 }
 
-discarded-is : (k : ℕ) (s : State) (ls : List Lease) → length ls ≡ 128 → none k s ls ≡ lentAnswer (discarded k (bookFrom s ls))
-discarded-is k s ls q = ap (none k s) (sym (records-back ls q))
+discarded-is : (k : ℕ) (s : State) (ls : List Lease) (names : List ℕ) → length ls ≡ 128 → none k s ls ≡ lentAnswer (discarded k (bookFrom s ls names))
+discarded-is k s ls names q = ap (none k s) (sym (records-back ls q))
+
+-- the names and the tenant that `on_tenant` asks for
+pub names-for : (s : State) (ls : List Lease) (names : List ℕ) {held : HeldTable} {h n : ℕ} → Gathered s ls names held → n ≡ tenantsIn s → h < n → NamesFor s h names
+names-for s ls names w f g = (book-named (bookFrom s ls names) (w .sound), omega arith)
 
 -- ---- an edit in which nothing leaves or enters
 or-none : (a b : Bool) → (a || b) ≡ false → (a ≡ false) × (b ≡ false)
@@ -75,22 +83,22 @@ idle e h b p q =
     gone = laidOut (removeOf (idOf (e .old)) (inUse own))
 
 -- ---- test 3
-module _ (s : State) (ls : List Lease) (client : ℕ) (d : List ℕ) (size : length ls ≡ 128) {h n : ℕ} (e : h ≡ tenantOf s client) (f : n ≡ tenantsIn s) where
+module _ (s : State) (ls : List Lease) (names : List ℕ) (client : ℕ) (d : List ℕ) (size : length ls ≡ 128) {h n : ℕ} (e : h ≡ tenantOf s client) (f : n ≡ tenantsIn s) where
   pub at-unknown : {m : Records} {x : List ℕ} {r : ServedRecords} → n ≤ h → m .leases ≡ ls → r ≡ record { outcome = record { outcome = 3; length = 0 }; clock = s .clock; records = m }
-      → ServesRecords (lentAnswer (atClock (bookFrom s ls) client d)) x x r
-  at-unknown g a v = serves-as (discarded-is 3 s ls size ∙ ap lentAnswer (client-unknown (bookFrom s ls) client d h n e f g)) (stays 3 s ls a size v)
+      → ServesRecords (lentAnswer (atClock (bookFrom s ls names) client d)) x x r
+  at-unknown g a v = serves-as (discarded-is 3 s ls names size ∙ ap lentAnswer (client-unknown (bookFrom s ls names) client d h n e f g)) (stays 3 s ls a size v)
 
-  module _ {own : TenantLeases} {held : HeldTable} {x y : List ℕ} {r : Served} (g : h < n) (w : Gathered s ls held) (o : own ≡ tenantAt (tableFrom ls) h)
-      (v : ServesTenant s own held h (λ b. withReading b h d (readOf d)) x y r) where
-    served : Serves (withReading (bookFrom s ls) h d (readOf d)) (bookFrom s ls) h x y r
-    served = v (tableFrom ls) (record { sound = w .sound; eight = table-eight ls; known = omega arith; records = o; holdings = w .holdings })
+  module _ {own : TenantLeases} {held : HeldTable} {x y : List ℕ} {r : Served} (g : h < n) (w : Gathered s ls names held) (o : own ≡ tenantAt (tableFrom ls) h)
+      (v : ServesTenant s names own held h (λ b. withReading b h d (readOf d)) x y r) where
+    served : Serves (withReading (bookFrom s ls names) h d (readOf d)) (bookFrom s ls names) h x y r
+    served = v (tableFrom ls) (record { sound = book-sound (bookFrom s ls names) (w .sound); eight = table-eight ls; known = omega arith; records = o; holdings = w .holdings })
 
-    at : withReading (bookFrom s ls) h d (readOf d) ≡ atClock (bookFrom s ls) client d
-    at = client-known (bookFrom s ls) client d h n e f g
+    at : withReading (bookFrom s ls names) h d (readOf d) ≡ atClock (bookFrom s ls names) client d
+    at = client-known (bookFrom s ls names) client d h n e f g
 
     -- with the records that the edit leaves
     edits : {m : Records} → m .leases ≡ recordsOf (applied (r .edit) h (tableFrom ls)) → length (m .leases) ≡ 128
-        → ServesRecords (lentAnswer (atClock (bookFrom s ls) client d)) x y (record { outcome = r .outcome; clock = s .clock; records = m })
+        → ServesRecords (lentAnswer (atClock (bookFrom s ls names) client d)) x y (record { outcome = r .outcome; clock = s .clock; records = m })
     edits p q = serves-as (ap lentAnswer at) (record {
       tells = served .tells;
       clock = sym (ap (λ (z : Book). z .state .clock) (served .book));
@@ -99,31 +107,37 @@ module _ (s : State) (ls : List Lease) (client : ℕ) (d : List ℕ) (size : len
     })
 
     pub at-edited : {t : TenantLeases} {m : Records} → t ≡ editedIn (r .edit) own → (m .leases ≡ putRow ls h (t .leases)) × (length (m .leases) ≡ 128)
-        → ServesRecords (lentAnswer (atClock (bookFrom s ls) client d)) x y (record { outcome = r .outcome; clock = s .clock; records = m })
+        → ServesRecords (lentAnswer (atClock (bookFrom s ls names) client d)) x y (record { outcome = r .outcome; clock = s .clock; records = m })
     unfolding applied
     at-edited {t} c z =
         edits (z .0 ∙ put-row-is ls h t size (omega (arith, f, g)) ∙ ap (λ (u : TenantLeases). recordsOf (putAt (tableFrom ls) h u)) (c ∙ ap (editedIn (r .edit)) o)) (z .1)
 
     pub at-same : {m : Records} {q : Bool} → q ≡ (r .edit .leaves || r .edit .enters) → q ≡ false → m .leases ≡ ls
-        → ServesRecords (lentAnswer (atClock (bookFrom s ls) client d)) x y (record { outcome = r .outcome; clock = s .clock; records = m })
+        → ServesRecords (lentAnswer (atClock (bookFrom s ls names) client d)) x y (record { outcome = r .outcome; clock = s .clock; records = m })
     at-same p c z =
         let k = or-none (r .edit .leaves) (r .edit .enters) (sym p ∙ c) in
         edits (z ∙ sym (records-back ls size) ∙ ap recordsOf (sym (idle (r .edit) h (tableFrom ls) (k .0) (k .1)))) (ap length z ∙ size)
 
 -- ---- the drop
-module _ (s : State) (ls : List Lease) (time : ℕ) {s′ : State} (e : s′ ≡ raised s time) where
+module _ (s : State) (ls : List Lease) (names : List ℕ) (time : ℕ) {s′ : State} (e : s′ ≡ raised s time) where
   -- records that stand for the advanced book
   module _ (ls′ : List Lease) (p : tableFrom ls′ ≡ dropped (s′ .clock) (tableFrom ls)) where
-    advanced-book : bookFrom s′ ls′ ≡ advanced (bookFrom s ls) time
-    advanced-book = advanced-is (bookFrom s ls) time s′ (tableFrom ls′) e p
+    advanced-now : bookFrom s′ ls′ names ≡ advanced (bookFrom s ls names) time
+    advanced-now = advanced-is (bookFrom s ls names) time s′ (tableFrom ls′) e p
 
-    advanced-gathered : {held : HeldTable} → soundB s (tableFrom ls) ≡ true → held ≡ holdingsOf (tableFrom ls′) → Gathered s′ ls′ held
-    advanced-gathered q h = record { sound = subst (λ (b : Book). soundB (b .state) (b .table) ≡ true) (sym advanced-book) (advanced-sound (bookFrom s ls) time q); holdings = h }
+    advanced-gathered : {held : HeldTable} → bookB (bookFrom s ls names) ≡ true → held ≡ holdingsOf (tableFrom ls′) → Gathered s′ ls′ names held
+    advanced-gathered q h = record { sound = subst (λ (b : Book). bookB b ≡ true) (sym advanced-now) (advanced-book (bookFrom s ls names) time q); holdings = h }
 
   -- where none ended, the records themselves
-  module _ {c : TableRules} {q : Bool} (size : length ls ≡ 128) (long : All Long ls) (v : c ≡ tableRulesOf s (tableFrom ls)) (w : q ≡ soundFrom s c) (y : q ≡ true) where
+  module _ {c : TableRules} {q : Bool} (size : length ls ≡ 128) (long : All Long ls) (v : c ≡ tableRulesOf s (tableFrom ls)) (w : q ≡ (soundFrom s c && namesB (s .«scope_count») (s .«tenant_count») names)) (y : q ≡ true) where
+    parts : (soundFrom s c ≡ true) × (namesB (s .«scope_count») (s .«tenant_count») names ≡ true)
+    parts = and-parts (soundFrom s c) (namesB (s .«scope_count») (s .«tenant_count») names) (sym w ∙ y)
+
     sound : soundB s (tableFrom ls) ≡ true
-    sound = sym (sound-from s (tableFrom ls) c v) ∙ sym w ∙ y
+    sound = sym (sound-from s (tableFrom ls) c v) ∙ parts .0
+
+    whole : bookB (bookFrom s ls names) ≡ true
+    whole = both-book (bookFrom s ls names) sound (parts .1)
 
     laid : tableFrom ls ≡ tableOf (leasesOf (tableFrom ls))
     laid = sound-laid s ls size long sound
@@ -132,18 +146,18 @@ module _ (s : State) (ls : List Lease) (time : ℕ) {s′ : State} (e : s′ ≡
       same : tableFrom ls ≡ dropped (s′ .clock) (tableFrom ls)
       same = drop-idle (s′ .clock) (tableFrom ls) laid (ap (λ (x : HeldTable). allBy (endsAfter (s′ .clock)) (x .tenants)) (sym (held-from s (tableFrom ls) c v)) ∙ sym a ∙ b)
 
-      pub idle-gathered : Gathered s′ ls (c .held)
-      idle-gathered = advanced-gathered ls same sound (held-from s (tableFrom ls) c v)
+      pub idle-gathered : Gathered s′ ls names (c .held)
+      idle-gathered = advanced-gathered ls same whole (held-from s (tableFrom ls) c v)
 
-      pub idle-book : bookFrom s′ ls ≡ advanced (bookFrom s ls) time
-      idle-book = advanced-book ls same
+      pub idle-book : bookFrom s′ ls names ≡ advanced (bookFrom s ls names) time
+      idle-book = advanced-now ls same
 
     pub drop-ready : (tableFrom ls ≡ tableOf (leasesOf (tableFrom ls))) × (c .held ≡ holdingsOf (tableFrom ls))
     drop-ready = (laid, held-from s (tableFrom ls) c v)
 
     module _ {d : Dropped} (u : Drops (s′ .clock) ls d) where
       live : soundB s′ (dropped (s′ .clock) (tableFrom ls)) ≡ true
-      live = subst (λ (z : Book). soundB (z .state) (z .table) ≡ true) (sym (advanced-is (bookFrom s ls) time s′ (dropped (s′ .clock) (tableFrom ls)) e refl)) (advanced-sound (bookFrom s ls) time sound)
+      live = subst (λ (z : Book). soundB (z .state) (z .table) ≡ true) (sym (advanced-is (bookFrom s ls names) time s′ (dropped (s′ .clock) (tableFrom ls)) e refl)) (advanced-sound (bookFrom s ls names) time sound)
 
       left : tableFrom (d .records .leases) ≡ dropped (s′ .clock) (tableFrom ls)
       unfolding dropped
@@ -153,36 +167,37 @@ module _ (s : State) (ls : List Lease) (time : ℕ) {s′ : State} (e : s′ ≡
           (ap length (table-back (map (liveOf (s′ .clock)) (leasesOf (tableFrom ls)))) ∙ length-map (leasesOf (tableFrom ls)) (liveOf (s′ .clock)) ∙ length-map (tableFrom ls .tenants) inUse ∙ table-eight ls)
           (ap tableOf (sym (table-back (map (liveOf (s′ .clock)) (leasesOf (tableFrom ls)))))) live
 
-      pub left-gathered : Gathered s′ (d .records .leases) (d .held)
-      left-gathered = advanced-gathered (d .records .leases) left sound (u .holdings ∙ ap holdingsOf (sym left))
+      pub left-gathered : Gathered s′ (d .records .leases) names (d .held)
+      left-gathered = advanced-gathered (d .records .leases) left whole (u .holdings ∙ ap holdingsOf (sym left))
 
-      pub left-book : bookFrom s′ (d .records .leases) ≡ advanced (bookFrom s ls) time
-      left-book = advanced-book (d .records .leases) left
+      pub left-book : bookFrom s′ (d .records .leases) names ≡ advanced (bookFrom s ls names) time
+      left-book = advanced-now (d .records .leases) left
 
 -- ---- tests 1 and 2
-module _ (n : ℕ) (s : State) (ls : List Lease) (c : Call) where
-  on : n ≡ 128 → lentAnswer (serveOf (bookFrom s ls) c) ≡ serveWith n s ls c
+module _ (n : ℕ) (s : State) (ls : List Lease) (names : List ℕ) (c : Call) where
+  on : n ≡ 128 → lentAnswer (serveOf (bookFrom s ls names) c) ≡ serveWith n s ls names c
   unfolding serveWith
-  on e = on-whole (lentAnswer (serveOf (bookFrom s ls) c)) (none 1 s ls) e
+  on e = on-whole (lentAnswer (serveOf (bookFrom s ls names) c)) (none 1 s ls) e
 
   pub serve-out : {m : Records} {x : List ℕ} {r : ServedRecords} → (n ≡ 128 → ⊥) → m .leases ≡ ls → length ls ≡ 128
-      → r ≡ record { outcome = record { outcome = 1; length = 0 }; clock = s .clock; records = m } → ServesRecords (serveWith n s ls c) x x r
+      → r ≡ record { outcome = record { outcome = 1; length = 0 }; clock = s .clock; records = m } → ServesRecords (serveWith n s ls names c) x x r
   unfolding serveWith
-  serve-out e a q v = serves-as (off-whole (lentAnswer (serveOf (bookFrom s ls) c)) (none 1 s ls) e) (stays 1 s ls a q v)
+  serve-out e a q v = serves-as (off-whole (lentAnswer (serveOf (bookFrom s ls names) c)) (none 1 s ls) e) (stays 1 s ls a q v)
 
-  module _ {g : TableRules} {t : Bool} (e : n ≡ 128) (p : g ≡ tableRulesOf s (tableFrom ls)) (w : t ≡ soundFrom s g) where
-    is-sound : t ≡ soundB s (tableFrom ls)
-    is-sound = w ∙ sound-from s (tableFrom ls) g p
+  module _ {g : TableRules} {t : Bool} (e : n ≡ 128) (p : g ≡ tableRulesOf s (tableFrom ls)) (w : t ≡ (soundFrom s g && namesB (s .«scope_count») (s .«tenant_count») names)) where
+    is-sound : t ≡ bookB (bookFrom s ls names)
+    unfolding bookB
+    is-sound = w ∙ ap (λ (x : Bool). x && namesB (s .«scope_count») (s .«tenant_count») names) (sound-from s (tableFrom ls) g p)
 
     pub serve-unsound : {m : Records} {x : List ℕ} {r : ServedRecords} → t ≡ false → m .leases ≡ ls → length ls ≡ 128
-        → r ≡ record { outcome = record { outcome = 1; length = 0 }; clock = s .clock; records = m } → ServesRecords (serveWith n s ls c) x x r
-    serve-unsound f a q v = serves-as (discarded-is 1 s ls q ∙ ap lentAnswer (call-unsound (bookFrom s ls) c (sym is-sound ∙ f)) ∙ on e) (stays 1 s ls a q v)
+        → r ≡ record { outcome = record { outcome = 1; length = 0 }; clock = s .clock; records = m } → ServesRecords (serveWith n s ls names c) x x r
+    serve-unsound f a q v = serves-as (discarded-is 1 s ls names q ∙ ap lentAnswer (call-unsound (bookFrom s ls names) c (sym is-sound ∙ f)) ∙ on e) (stays 1 s ls a q v)
 
     pub serve-short : {m : Records} {x : List ℕ} {r : ServedRecords} → t ≡ true → c .room < leastRoom → m .leases ≡ ls → length ls ≡ 128
-        → r ≡ record { outcome = record { outcome = 2; length = 0 }; clock = s .clock; records = m } → ServesRecords (serveWith n s ls c) x x r
-    serve-short f h a q v = serves-as (discarded-is 2 s ls q ∙ ap lentAnswer (call-short (bookFrom s ls) c (sym is-sound ∙ f) h) ∙ on e) (stays 2 s ls a q v)
+        → r ≡ record { outcome = record { outcome = 2; length = 0 }; clock = s .clock; records = m } → ServesRecords (serveWith n s ls names c) x x r
+    serve-short f h a q v = serves-as (discarded-is 2 s ls names q ∙ ap lentAnswer (call-short (bookFrom s ls names) c (sym is-sound ∙ f) h) ∙ on e) (stays 2 s ls a q v)
 
-    pub serve-on : {b : Book} {x y : List ℕ} {r : ServedRecords} → t ≡ true → leastRoom ≤ c .room → b ≡ advanced (bookFrom s ls) (c .time)
-        → ServesRecords (lentAnswer (atClock b (c .client) (c .datagram))) x y r → ServesRecords (serveWith n s ls c) x y r
+    pub serve-on : {b : Book} {x y : List ℕ} {r : ServedRecords} → t ≡ true → leastRoom ≤ c .room → b ≡ advanced (bookFrom s ls names) (c .time)
+        → ServesRecords (lentAnswer (atClock b (c .client) (c .datagram))) x y r → ServesRecords (serveWith n s ls names c) x y r
     serve-on f h i v =
-        serves-as (ap (λ (z : Book). lentAnswer (atClock z (c .client) (c .datagram))) i ∙ ap lentAnswer (call-served (bookFrom s ls) c (sym is-sound ∙ f) h) ∙ on e) v
+        serves-as (ap (λ (z : Book). lentAnswer (atClock z (c .client) (c .datagram))) i ∙ ap lentAnswer (call-served (bookFrom s ls names) c (sym is-sound ∙ f) h) ∙ on e) v

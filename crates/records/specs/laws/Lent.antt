@@ -16,7 +16,7 @@ use Rattle.state.specs.declared.State.{State}
 use Rattle.state.specs.Book.{Book, advanced, insertOf, placeOf, raised, removeOf, withClock, zeroLease}
 use Rattle.decision.specs.Parts.{ownOf}
 use Rattle.message.specs.laws.Placed.{pick-cases}
-use Rattle.soundness.specs.Sound.{soundB}
+use Rattle.soundness.specs.Named.{bookB}
 use Rattle.server.specs.declared.Outcome.{Outcome}
 use Rattle.server.specs.Serve.{Answer, Call, Tells, atClock, forServer, serveOf, withReading}
 use Rattle.server.specs.laws.Told.{tells-as}
@@ -103,13 +103,13 @@ unfolding removeWith
 removed-lent h i ls = changed-pick (λ m. pick (ltb h 8) (withOwn (tableFrom m) h (removeOf i (ownOf (tableFrom m) h))) m) ls
 
 -- ---- the writer
-pub written-lent : (s : State) (ls : List Lease) (room : ℕ) {all : List Lease} {w : Written} → all ≡ first128 ls → w ≡ writtenWith (length ls) s all room → w ≡ writtenLent s ls room
+pub written-lent : (s : State) (ls : List Lease) (names : List ℕ) (room : ℕ) {all : List Lease} {w : Written} → all ≡ first128 ls → w ≡ writtenWith (length ls) s all names room → w ≡ writtenLent s ls names room
 unfolding writtenWith
-written-lent s ls room = told-pick (λ m. writtenOf s (tableFrom m) room) (record { refusal = 22; length = 0 }) ls
+written-lent s ls names room = told-pick (λ m. writtenOf (bookFrom s m names) room) (record { refusal = 22; length = 0 }) ls
 
-pub room-lent : (s : State) (ls : List Lease) (room : List ℕ) {all : List Lease} {after : List ℕ} → all ≡ first128 ls → after ≡ roomWith (length ls) s all room → after ≡ roomLent s ls room
+pub room-lent : (s : State) (ls : List Lease) (names room : List ℕ) {all : List Lease} {after : List ℕ} → all ≡ first128 ls → after ≡ roomWith (length ls) s all names room → after ≡ roomLent s ls names room
 unfolding roomWith
-room-lent s ls room = told-pick (λ m. roomAfter s (tableFrom m) room) room ls
+room-lent s ls names room = told-pick (λ m. roomAfter (bookFrom s m names) room) room ls
 
 -- ---- the call
 -- of a state, only the clock changes, and it is raised
@@ -127,7 +127,7 @@ raised-once s time = ap (withClock s) (let e : max (s .clock) time ≡ max (s .c
 pub clock-only : (b : Book) (c : Call) → serveOf b c .book .state ≡ raised (b .state) (serveOf b c .book .state .clock)
 unfolding serveOf atClock withReading forServer Raises advanced
 clock-only b c =
-    pick-cases Keeps (soundB (b .state) (b .table)) _ _
+    pick-cases Keeps (bookB b) _ _
     (λ _. pick-cases Keeps (ltb (c .room) leastRoom) _ _ (λ _. raised-self (b .state))
     (λ _. pick-cases Keeps _ _ _
     (λ _. pick-cases Keeps _ _ _ (λ _. pick-cases Keeps _ _ _ (λ _. now) (λ _. now)) (λ _. now)) (λ _. now))) (λ _. raised-self (b .state))
@@ -138,31 +138,31 @@ clock-only b c =
     now : Raises (b .state) (raised (b .state) (c .time))
     now = raised-once (b .state) (c .time)
 
-pub lent-clock : (n : ℕ) (s : State) (ls : List Lease) (c : Call) → serveWith n s ls c .state ≡ raised s (serveWith n s ls c .state .clock)
+pub lent-clock : (n : ℕ) (s : State) (ls : List Lease) (names : List ℕ) (c : Call) → serveWith n s ls names c .state ≡ raised s (serveWith n s ls names c .state .clock)
 unfolding serveWith Raises pick
-lent-clock n s ls c = go (is128 n)
+lent-clock n s ls names c = go (is128 n)
   where
-    go : (t : Bool) → Raises s (pick t (lentAnswer (serveOf (bookFrom s ls) c)) (record { outcome = 1; reply = []; state = s; leases = ls }) .state)
-    go true = clock-only (bookFrom s ls) c
+    go : (t : Bool) → Raises s (pick t (lentAnswer (serveOf (bookFrom s ls names) c)) (record { outcome = 1; reply = []; state = s; leases = ls }) .state)
+    go true = clock-only (bookFrom s ls names) c
     go false = raised-self s
 
 -- each part of its answer
-module _ (s : State) (ls : List Lease) (c : Call) where
-  off : (k : ℕ) (m : List Lease) → is128 k ≡ false → serveWith k s m c ≡ record { outcome = 1; reply = []; state = s; leases = m }
+module _ (s : State) (ls : List Lease) (names : List ℕ) (c : Call) where
+  off : (k : ℕ) (m : List Lease) → is128 k ≡ false → serveWith k s m names c ≡ record { outcome = 1; reply = []; state = s; leases = m }
   unfolding serveWith pick
-  off k m o = ap (λ (t : Bool). pick t (lentAnswer (serveOf (bookFrom s m) c)) (record { outcome = 1; reply = []; state = s; leases = m })) o
+  off k m o = ap (λ (t : Bool). pick t (lentAnswer (serveOf (bookFrom s m names) c)) (record { outcome = 1; reply = []; state = s; leases = m })) o
 
   part : {A : Type 0} (f : LentAnswer → A) → ((m m' : List Lease) → f (record { outcome = 1; reply = []; state = s; leases = m }) ≡ f (record { outcome = 1; reply = []; state = s; leases = m' }))
-      → {all : List Lease} {r : A} → all ≡ first128 ls → r ≡ f (serveWith (length ls) s all c) → r ≡ f (serveLent s ls c)
-  part f same = told-lent (λ k m. f (serveWith k s m c)) (λ k m m' o. ap f (off k m o) ∙ same m m' ∙ sym (ap f (off k m' o))) ls
+      → {all : List Lease} {r : A} → all ≡ first128 ls → r ≡ f (serveWith (length ls) s all names c) → r ≡ f (serveLent s ls names c)
+  part f same = told-lent (λ k m. f (serveWith k s m names c)) (λ k m m' o. ap f (off k m o) ∙ same m m' ∙ sym (ap f (off k m' o))) ls
 
   pub served-lent : {all zs : List Lease} {s' : State} {before after : List ℕ} {r : ServedRecords} {o : Outcome}
-      → all ≡ first128 ls → ServesRecords (serveWith (length ls) s all c) before after r → s' ≡ raised s (r .clock) → zs ≡ covered ls (r .records .leases)
-      → o ≡ r .outcome → ServesLent (serveLent s ls c) s' zs before after o
+      → all ≡ first128 ls → ServesRecords (serveWith (length ls) s all names c) before after r → s' ≡ raised s (r .clock) → zs ≡ covered ls (r .records .leases)
+      → o ≡ r .outcome → ServesLent (serveLent s ls names c) s' zs before after o
   served-lent {all} {before = before} {after} a v p q e = record {
-    tells = subst (Tells (lentSaid (serveLent s ls c)) before after) (sym e) (tells-as (part lentSaid (λ m m'. refl) a refl) (v .tells));
-    state = part (λ x. x .state) (λ m m'. refl) a (p ∙ ap (raised s) (v .clock) ∙ sym (lent-clock (length ls) s all c));
-    leases = changed-lent (λ k m. serveWith k s m c .leases) (λ k m o. ap (λ (x : LentAnswer). x .leases) (off k m o)) ls a (v .leases) (v .long) q;
+    tells = subst (Tells (lentSaid (serveLent s ls names c)) before after) (sym e) (tells-as (part lentSaid (λ m m'. refl) a refl) (v .tells));
+    state = part (λ x. x .state) (λ m m'. refl) a (p ∙ ap (raised s) (v .clock) ∙ sym (lent-clock (length ls) s all names c));
+    leases = changed-lent (λ k m. serveWith k s m names c .leases) (λ k m o. ap (λ (x : LentAnswer). x .leases) (off k m o)) ls a (v .leases) (v .long) q;
   }
 
 -- ---- the reader

@@ -26,7 +26,8 @@ use Rattle.records.specs.declared.Records.{Records}
 use Rattle.records.specs.Records.{putRow, recordsOf, tableFrom}
 use Rattle.records.specs.laws.Rows.{put-row-is}
 use Rattle.records.specs.laws.Table.{table-eight}
-use Rattle.records.specs.Lent.{findWith, foundAmong, insertWith, LentReading, readWith, Reads, removeWith, roomWith, untouched, is128, withOwn, writtenWith}
+use Rattle.server.specs.Serve.{bookOf}
+use Rattle.records.specs.Lent.{bookFrom, findWith, foundAmong, insertWith, LentReading, readWith, Reads, removeWith, roomWith, untouched, is128, withOwn, writtenWith}
 
 -- ---- a test on the number of records
 pub is-whole : {n : ℕ} → n ≡ 128 → is128 n ≡ true
@@ -127,22 +128,22 @@ module _ (n h : ℕ) (ls : List Lease) where
     remove-out e = off-whole (pick (ltb h 8) (removed i) ls) ls e
 
 -- ---- the writer
-module _ (n : ℕ) (s : State) (ls : List Lease) where
-  pub write-in : (k : ℕ) {t : LeaseTable} {w : Written} → n ≡ 128 → t ≡ tableFrom ls → w ≡ writtenOf s t k → w ≡ writtenWith n s ls k
+module _ (n : ℕ) (s : State) (ls : List Lease) (names : List ℕ) where
+  pub write-in : (k : ℕ) {t : LeaseTable} {w : Written} → n ≡ 128 → t ≡ tableFrom ls → w ≡ writtenOf (bookOf s t names) k → w ≡ writtenWith n s ls names k
   unfolding writtenWith
-  write-in k e a b = b ∙ ap (λ (x : LeaseTable). writtenOf s x k) a ∙ on-whole (writtenOf s (tableFrom ls) k) (record { refusal = 22; length = 0 }) e
+  write-in k e a b = b ∙ ap (λ (x : LeaseTable). writtenOf (bookOf s x names) k) a ∙ on-whole (writtenOf (bookFrom s ls names) k) (record { refusal = 22; length = 0 }) e
 
-  pub write-out : (k : ℕ) → (n ≡ 128 → ⊥) → record { refusal = 22; length = 0 } ≡ writtenWith n s ls k
+  pub write-out : (k : ℕ) → (n ≡ 128 → ⊥) → record { refusal = 22; length = 0 } ≡ writtenWith n s ls names k
   unfolding writtenWith
-  write-out k e = off-whole (writtenOf s (tableFrom ls) k) (record { refusal = 22; length = 0 }) e
+  write-out k e = off-whole (writtenOf (bookFrom s ls names) k) (record { refusal = 22; length = 0 }) e
 
-  pub room-in : (room : List ℕ) {t : LeaseTable} {after : List ℕ} → n ≡ 128 → t ≡ tableFrom ls → after ≡ roomAfter s t room → after ≡ roomWith n s ls room
+  pub room-in : (room : List ℕ) {t : LeaseTable} {after : List ℕ} → n ≡ 128 → t ≡ tableFrom ls → after ≡ roomAfter (bookOf s t names) room → after ≡ roomWith n s ls names room
   unfolding roomWith
-  room-in room e a b = b ∙ ap (λ (x : LeaseTable). roomAfter s x room) a ∙ on-whole (roomAfter s (tableFrom ls) room) room e
+  room-in room e a b = b ∙ ap (λ (x : LeaseTable). roomAfter (bookOf s x names) room) a ∙ on-whole (roomAfter (bookFrom s ls names) room) room e
 
-  pub room-out : (room : List ℕ) → (n ≡ 128 → ⊥) → room ≡ roomWith n s ls room
+  pub room-out : (room : List ℕ) → (n ≡ 128 → ⊥) → room ≡ roomWith n s ls names room
   unfolding roomWith
-  room-out room e = off-whole (roomAfter s (tableFrom ls) room) room e
+  room-out room e = off-whole (roomAfter (bookFrom s ls names) room) room e
 
 -- ---- the reader
 module _ (n : ℕ) (s : State) (ls : List Lease) (f : Loaded) where

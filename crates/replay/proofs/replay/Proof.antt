@@ -7,10 +7,10 @@ use Rattle.replay.proofs.replay.Statement.{statement}
 use Rattle.replay.proofs.replay.Tie as tie
 
 abbrev Inv-loop : tie.InvT-loop
-Inv-loop book₀ datagram₀ room₀ turns₀ book datagram room turns = (length datagram ≡ 65536) × (length room ≡ 65536)
+Inv-loop names book₀ datagram₀ room₀ turns₀ book datagram room turns = (length datagram ≡ 65536) × (length room ≡ 65536)
 
 abbrev μ-loop : tie.MeasureT-loop
-μ-loop book₀ datagram₀ room₀ turns₀ book datagram room turns = turns
+μ-loop names book₀ datagram₀ room₀ turns₀ book datagram room turns = turns
 
 pub replay-spec : {M : Type 1} → statement M
 replay-spec =

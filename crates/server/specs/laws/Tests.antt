@@ -10,7 +10,8 @@ use Rattle.lists.specs.Pick.{pick}
 use Rattle.message.specs.Read.{readOf}
 use Rattle.reply.specs.Reply.{leastRoom}
 use Rattle.state.specs.Book.{Book, advanced}
-use Rattle.soundness.specs.Sound.{soundB, tenantsIn}
+use Rattle.soundness.specs.Named.{bookB}
+use Rattle.soundness.specs.Sound.{tenantsIn}
 use Rattle.server.specs.Serve.{Answer, Call, atClock, discarded, serveOf, tenantOf, withReading}
 
 -- ---- test 3
@@ -31,14 +32,14 @@ at-test : Book → Call → Bool → Bool → Answer
 at-test b c t u = pick t (pick u (discarded 2 b) (atClock (advanced b (c .time)) (c .client) (c .datagram))) (discarded 1 b)
 
 module _ (b : Book) (c : Call) where
-  pub call-unsound : soundB (b .state) (b .table) ≡ false → discarded 1 b ≡ serveOf b c
+  pub call-unsound : bookB b ≡ false → discarded 1 b ≡ serveOf b c
   unfolding serveOf pick at-test
   call-unsound e = sym (ap (λ (t : Bool). at-test b c t (ltb (c .room) leastRoom)) e)
 
-  pub call-short : soundB (b .state) (b .table) ≡ true → c .room < leastRoom → discarded 2 b ≡ serveOf b c
+  pub call-short : bookB b ≡ true → c .room < leastRoom → discarded 2 b ≡ serveOf b c
   unfolding serveOf pick at-test
   call-short e g = sym (ap₂ (at-test b c) e (lt-ltb (c .room) leastRoom g))
 
-  pub call-served : soundB (b .state) (b .table) ≡ true → leastRoom ≤ c .room → atClock (advanced b (c .time)) (c .client) (c .datagram) ≡ serveOf b c
+  pub call-served : bookB b ≡ true → leastRoom ≤ c .room → atClock (advanced b (c .time)) (c .client) (c .datagram) ≡ serveOf b c
   unfolding serveOf pick at-test
   call-served e g = sym (ap₂ (at-test b c) e (le-ltb (c .room) leastRoom g))

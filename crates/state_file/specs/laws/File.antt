@@ -9,10 +9,13 @@ use lib.ListN.{length}
 use borrow.Author.Tests.{le-leb, leb-true}
 use Rattle.address_set.specs.AddressSet.{rises}
 use Rattle.lists.specs.Pick.{pick}
-use Rattle.state_file.specs.File.{longestFile, File, FileLease, fileFormat, fileOf, leaseAfter, leaseFormat, leaseKey, partFormat, scopeFormat, tenantFormat}
+use Rattle.names.specs.laws.Names.{names-lawful}
+use Rattle.state.specs.declared.ClientRange.{ClientRange}
+use Rattle.state_file.specs.File.{File, FileLease, FileScope, fileFormat, fileLimit, fileOf, lastFormat, leaseAfter, leaseFormat, leaseKey, partFormat, scopeFormat, tenantFormat}
 use Rattle.format.specs.Format.{bad, closed, counted, got, octet, Octets}
 use Rattle.format.specs.Section.{orderedFrom}
 use Rattle.format.specs.laws.Format.{Lawful, after-lawful, both-lawful, counted-lawful, number-lawful, octet-lawful, only-lawful, then-lawful, times-lawful, viewed-lawful, whole-reads, whole-written}
+use Rattle.format.specs.laws.Section.{verbatim-lawful}
 
 -- tenant t with identifier a comes first, and none is after the next
 abbrev pub leasesFrom : ℕ → List ℕ → List FileLease → Bool
@@ -36,23 +39,26 @@ lease-lawful =
     (both-lawful octet-lawful (both-lawful octet-lawful (both-lawful octets-lawful (both-lawful octet-lawful
     (both-lawful number-lawful (both-lawful number-lawful (both-lawful number-lawful (only-lawful octets-lawful rises)))))))) _ _ (λ x. refl) (λ y. refl)
 
+last-lawful : (cs : List FileScope) (ts : List ClientRange) → Lawful (lastFormat cs ts)
+last-lawful cs ts = both-lawful (only-lawful (counted-lawful lease-lawful) (leasesFrom 0 [])) (verbatim-lawful (names-lawful (length cs) (length ts)))
+
 pub file-lawful : Lawful fileFormat
 file-lawful =
     viewed-lawful
     (both-lawful (after-lawful (both-lawful number-lawful number-lawful) 1)
-    (then-lawful (counted-lawful tenant-lawful) (λ ts. both-lawful (counted-lawful (scope-lawful (length ts))) (only-lawful (counted-lawful lease-lawful) (leasesFrom 0 [])))))
+    (then-lawful (counted-lawful tenant-lawful) (λ ts. then-lawful (counted-lawful (scope-lawful (length ts))) (λ cs. last-lawful cs ts))))
     _ _ (λ x. refl) (λ y. refl)
 
 -- Octets that make a file are what the file's writing gives.
-pub file-reads : (s : List ℕ) (f : File) → Octets s → fileOf s ≡ got f [] → (fileFormat .ok f) × (s ≡ fileFormat .write f) × (length s ≤ longestFile)
+pub file-reads : (s : List ℕ) (f : File) → Octets s → fileOf s ≡ got f [] → (fileFormat .ok f) × (s ≡ fileFormat .write f) × (length s ≤ fileLimit)
 unfolding fileOf pick
-file-reads s f o e = go (leb (length s) longestFile) refl e
+file-reads s f o e = go (leb (length s) fileLimit) refl e
   where
-    go : (b : Bool) → leb (length s) longestFile ≡ b → pick b (closed (fileFormat .read s)) bad ≡ got f [] → (fileFormat .ok f) × (s ≡ fileFormat .write f) × (length s ≤ longestFile)
+    go : (b : Bool) → leb (length s) fileLimit ≡ b → pick b (closed (fileFormat .read s)) bad ≡ got f [] → (fileFormat .ok f) × (s ≡ fileFormat .write f) × (length s ≤ fileLimit)
     go true q e = let (h, p) = whole-reads file-lawful s f [] o e in (h, p, leb-true _ _ q)
     go false q e = let z : _≡_ {A = ℕ} 0 1 = cc in absurd (omega arith)
 
 -- A file that has octets, few enough, is read from them.
-pub file-written : (f : File) → fileFormat .ok f → length (fileFormat .write f) ≤ longestFile → fileOf (fileFormat .write f) ≡ got f []
+pub file-written : (f : File) → fileFormat .ok f → length (fileFormat .write f) ≤ fileLimit → fileOf (fileFormat .write f) ≡ got f []
 unfolding fileOf pick
 file-written f h l = ap (λ (b : Bool). pick b (closed (fileFormat .read (fileFormat .write f))) bad) (le-leb _ _ l) ∙ whole-written file-lawful f h

@@ -107,7 +107,7 @@ fn refusals(random: &mut Random, watch: &mut Watch, campus: &Campus) {
             usize::MAX / 2 + 1,
             1 << 32,
         ];
-        let any = random.below(30_000);
+        let any = random.below(60_000);
         length = random.pick(&[&[0, 1, space, any], &past[..]].concat());
     }
     let mut held = EXACT.hold(&file, space, length);
@@ -122,9 +122,9 @@ fn refusals(random: &mut Random, watch: &mut Watch, campus: &Campus) {
 /// Any octets, damaged by a rule or octet by octet, padded, or sound.
 fn any_file(random: &mut Random, campus: &Campus) -> Vec<u8> {
     let mut file = campus.octets();
-    match random.below(6) {
+    match random.below(7) {
         0 => {
-            let length = random.pick(&[0, 1, 9, 40, 300, FILE_ROOM, FILE_ROOM + 1, 20_000, 40_000]);
+            let length = random.pick(&[0, 1, 9, 40, 300, 15_000, FILE_ROOM, FILE_ROOM + 1, 40_000]);
             file = random.low_octets(length, 60, 4);
             if random.chance(80) {
                 // The count of the server.
@@ -146,6 +146,12 @@ fn any_file(random: &mut Random, campus: &Campus) -> Vec<u8> {
             file.resize(length.max(file.len()), 0);
         }
         4 => {}
+        5 => {
+            // The names alone.
+            let mut names = campus.names();
+            battered(random, &mut names);
+            file = [campus.front(), names].concat();
+        }
         _ => battered(random, &mut file),
     }
     file

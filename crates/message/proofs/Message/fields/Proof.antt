@@ -5,7 +5,7 @@ use Rattle.message.proofs.Message.fields.Statement.{statement}
 use Rattle.message.proofs.Message.fields.Tie as tie
 
 returns : tie.Need-returns
-returns c = fields-is _ _ _ (c .before .before .before .before .before .before .before .before .identifier .ensures) (c .before .before .before .before .before .before .before .all-allowed .ensures) (c .before .before .before .before .before .before .wish .ensures) (c .before .before .before .before .before .counts .ensures) (c .before .before .before .before .times .ensures) (c .before .before .before .has .ensures) (c .before .before .is-for .ensures) (c .before .asks-for .ensures) (c .asks-for2 .ensures)
+returns c = fields-is _ _ _ (c .before .before .before .before .before .before .before .before .before .identifier .ensures) (c .before .before .before .before .before .before .before .before .all-allowed .ensures) (c .before .before .before .before .before .before .before .wish .ensures) (c .before .before .before .before .before .before .counts .ensures) (c .before .before .before .before .before .times .ensures) (c .before .before .before .before .has .ensures) (c .before .before .before .is-for .ensures) (c .before .before .asks-for .ensures) (c .before .asks-for2 .ensures) (c .language .ensures)
 
 pub fields-spec : {M : Type 1} → statement M
 fields-spec =
@@ -14,6 +14,7 @@ fields-spec =
     (λ c κs. search needs)
     (λ c κs. search needs)
     (λ c κs. search (four-scope, needs))
+    (λ c κs. search needs)
     (λ c κs. search needs)
     (λ c κs. search needs)
     (λ c κs. search needs)

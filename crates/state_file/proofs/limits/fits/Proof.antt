@@ -13,4 +13,4 @@ fits-spec =
     (λ c κs. search needs)  -- src/limits.rt:18:8 counts-fit-requires
     (λ c κs. search needs)  -- src/limits.rt:19:9 leases-fit-requires
     (λ c. search (limitsFit, needs))  -- src/limits.rt:19:9 returns
-    (λ c. search (limitsFit, needs)))  -- src/limits.rt:14:1 returns-2
+    (λ c. search (limitsFit, needs)))  -- src/limits.rt:13:1 returns-2

@@ -1,33 +1,29 @@
--- `put::put_file` meets its contract: by `file-length`, `file-wrote`, `unmapped`.
-use native.Mathlib.Omega.{arith}
-use borrow.Author.Needs.{needs}
+-- `put_file` meets its contract: by `file-length`, `file-wrote`.
 use Rattle.lists.specs.laws.Part.{unmapped}
 use Rattle.state_file.proofs.Writes.{file-length, file-wrote}
+use borrow.Author.Needs.{needs}
+use mathlib.Core.Path.{refl}
+use native.Mathlib.Omega.{arith}
 use Rattle.state_file.proofs.put.put_file.Statement.{statement}
 use Rattle.state_file.proofs.put.put_file.Tie as tie
 
-put-server-requires : tie.Need-put-server-requires
-put-server-requires c κs = let f = file-length (c .before .before .args .state) (c .before .before .args .table) (search (unmapped, needs)) in omega arith
+-- src/put.rt:24:9
+put-sections-requires : tie.Need-put-sections-requires
+put-sections-requires c κs = let f = file-length (c .before .before .before .args .state) (c .before .before .before .args .table) (c .before .before .before .args .names .now) (search (unmapped, needs)) in omega arith
 
-put-range-section-requires : tie.Need-put-range-section-requires
-put-range-section-requires c κs = let f = file-length (c .before .before .before .before .before .before .args .state) (c .before .before .before .before .before .before .args .table) (search (unmapped, needs)) in omega (arith, c .before .before .before .put-server .ensures .next)
+-- src/put.rt:25:5
+put-run-requires : tie.Need-put-run-requires
+put-run-requires c κs = let f = file-length (c .before .before .before .before .before .before .before .args .state) (c .before .before .before .before .before .before .before .args .table) (c .before .before .before .before .before .before .before .args .names .now) (search (unmapped, needs)) in let g = c .before .before .before .put-sections .ensures .next in search needs
 
-put-scope-section-requires : tie.Need-put-scope-section-requires
-put-scope-section-requires c κs = let f = file-length (c .before .before .before .before .before .before .before .before .before .before .args .state) (c .before .before .before .before .before .before .before .before .before .before .args .table) (search (unmapped, needs)) in omega (arith, c .before .before .before .before .before .before .before .put-server .ensures .next, c .before .before .before .put-range-section .ensures .next)
-
-put-lease-section-requires : tie.Need-put-lease-section-requires
-put-lease-section-requires c κs = let f = file-length (c .before .before .before .before .before .before .before .before .before .before .before .before .before .before .args .state) (c .before .before .before .before .before .before .before .before .before .before .before .before .before .before .args .table) (search (unmapped, needs)) in omega (arith, c .before .before .before .before .before .before .before .before .before .before .before .put-server .ensures .next, c .before .before .before .before .before .before .before .put-range-section .ensures .next, c .before .before .before .put-scope-section .ensures .next)
-
+-- src/put.rt:20:1
 returns : tie.Need-returns
-returns c = file-wrote (c .before .before .before .before .before .before .before .before .before .before .before .before .before .before .before .before .before .args .state) (c .before .before .before .before .before .before .before .before .before .before .before .before .before .before .before .before .before .args .table) (search (unmapped, needs)) (c .before .before .before .before .before .before .before .before .before .before .before .before .before .before .put-server .ensures) (c .before .before .before .before .before .before .before .before .before .before .put-range-section .ensures) (c .before .before .before .before .before .before .put-scope-section .ensures) (c .before .before .put-lease-section .ensures)
+returns c = file-wrote (c .before .before .before .before .before .before .before .before .before .before .args .state) (c .before .before .before .before .before .before .before .before .before .before .args .table) (c .before .before .before .before .before .before .before .before .before .before .args .names .now) (search (unmapped, needs)) (c .before .before .before .before .before .before .put-sections .ensures) refl (c .before .before .put-run .ensures)
 
 pub put-file-spec : {M : Type 1} → statement M
 put-file-spec =
     tie.close
     (tie.spec
-    put-server-requires
-    put-range-section-requires
-    put-scope-section-requires
-    put-lease-section-requires
-    (λ c. search needs)
+    put-sections-requires
+    put-run-requires
+    (λ c. search needs)  -- src/put.rt:20:1 same-length
     returns)

@@ -1,0 +1,4 @@
+mod Ends
+mod First
+mod Lists
+mod Specimens

@@ -1,0 +1,14 @@
+-- `is_sound` meets its contract: the rules, and then the names.
+use Rattle.lists.specs.laws.Both.{and-no, and-yes}
+use borrow.Author.Needs.{needs}
+use Rattle.records.proofs.is_sound.Statement.{statement}
+use Rattle.records.proofs.is_sound.Tie as tie
+
+pub is-sound-spec : {M : Type 1} → statement M
+is-sound-spec =
+    tie.close
+    (tie.spec
+    (λ c κs. search needs)
+    (λ c κs. search needs)
+    (λ c. search (and-yes, needs))
+    (λ c. search (and-no, needs)))

@@ -1,0 +1,83 @@
+//! The stack that the header asks of a thread is enough: for the longest files and for the deepest walk over names.
+
+mod common;
+
+use banshorra_host::{lent, CampusFile, Refusal, ANSWER_ROOM};
+use common::*;
+use std::thread::Builder;
+
+/// What `banshorra.h` says.
+const STACK: usize = 256 << 10;
+
+fn on_that_stack(work: impl FnOnce() + Send + 'static) {
+    let thread = Builder::new().stack_size(STACK).spawn(work);
+    thread.expect("a thread").join().expect("no panic");
+}
+
+/// So many houses, scopes of 64 addresses, and lists of so many of the longest names.
+fn settings(houses: u32, scopes: u32, names: usize) -> Campus {
+    let name = Name::new(128, b"language", b"a name of the thirty-two octets.");
+    let scope = |number: u32| Scope {
+        lowest: POOL + (number << 8),
+        size: 64,
+        ttl: 15,
+        parts: vec![(8, 64); houses as usize],
+        names: vec![vec![name.clone(); names]; houses as usize + 1],
+    };
+    Campus {
+        server: SERVER,
+        clock: CLOCK,
+        houses: (0..houses)
+            .map(|house| (0x0A00_0100 + (house << 8), 0x0A00_01FF + (house << 8)))
+            .collect(),
+        scopes: (0..scopes).map(scope).collect(),
+        leases: vec![],
+    }
+}
+
+#[test]
+fn the_most_scopes_and_lists_are_walked() {
+    // As many scopes as a count can say, and then as many houses as a file has room for; and the other way round.
+    for (houses, scopes) in [(40, 255), (255, 39), (0, 255)] {
+        let file = settings(houses, scopes, 0).octets();
+        assert!(file.len() <= 32_768, "{} octets", file.len());
+        on_that_stack(move || assert_eq!(lent::check(&file), Err(Refusal::Unsound)));
+    }
+}
+
+#[test]
+fn a_full_campus_is_served() {
+    let file = settings(8, 4, 4).octets();
+    on_that_stack(move || {
+        let mut campus = CampusFile::from_bytes(&file).expect("sound");
+        let options = [identifier(b"ab"), scope(POOL), number(1, 8)];
+        let getinfo = [
+            identifier(b"ab"),
+            option_request_list(&[9, 11]),
+            requested_language(b"language"),
+        ];
+        let mut calls = vec![];
+        for (kind, options) in [
+            (DISCOVER, &options[..]),
+            (REQUEST, &options),
+            (RENEW, &options[..1]),
+            (GETINFO, &getinfo),
+            (RELEASE, &options[..1]),
+        ] {
+            let datagram = message(kind, u32::from(kind), options);
+            assert_eq!(call(&mut campus, HOUSE_1, CLOCK, &datagram).0, 0);
+            let call = banshorra_host::Call {
+                time: CLOCK,
+                client: HOUSE_2,
+                reply_room: 512,
+                datagram: &datagram,
+            };
+            call.append_to(&mut calls);
+        }
+        assert_eq!(campus.as_bytes(), file);
+        let mut answers = vec![0; 5 * ANSWER_ROOM];
+        assert_eq!(campus.replay(&calls, &mut answers).stopped, None);
+        assert_eq!(campus.as_bytes(), file);
+        campus.board();
+    });
+}

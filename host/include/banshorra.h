@@ -2,9 +2,10 @@
 
    Every function ends, for any octets, and reads and writes only within the lengths it is given. None keeps a pointer or has state of its
    own: all that passes from call to call is the campus file. Calls on different files may run at the same time.
-   No pointer is NULL, not even with length 0. What a function writes overlaps nothing else that it is given. A call takes about 150 KiB of
-   stack: give a thread that calls 256 KiB at least.
-   The scopes' names are the campus file's last section, so no function is given any: GETINFO's reply has the one for the client's house.
+   No pointer is NULL, not even with length 0. What a function writes overlaps nothing else that it is given. A call takes less than 128 KiB
+   of stack: give a thread that calls 256 KiB at least.
+   The scopes' names are the campus file's last section, so no function is given any: a GETINFO whose option 5 names 9 is sent, for each
+   scope, the one chosen by the client's house and the language that it asks for, or none.
    "Document 01" is the campus's paper, "document 02" that of its changes; numbers of more than one octet stand high octet first in files,
    datagrams and lists. */
 #ifndef BANSHORRA_H

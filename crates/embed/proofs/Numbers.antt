@@ -15,7 +15,7 @@ use Rattle.server.specs.Serve.{Call, bookOf}
 use Rattle.state_file.specs.declared.Written.{Written}
 use Rattle.state_file.specs.StateFile.{readFile}
 use Rattle.state_file.proofs.RoundTrip.{read-sound}
-use Rattle.soundness.specs.Named.{bookB}
+use Rattle.releases.specs.Whole.{bookB}
 use Rattle.records.specs.laws.Files.{file-back, file-long}
 use Rattle.records.specs.Lent.{serveLent, writtenLent}
 use Rattle.lent_guarantee.specs.Statement.{Lent, LentDemand1, SoundLent}

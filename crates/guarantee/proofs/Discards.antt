@@ -24,8 +24,8 @@ use Rattle.state.specs.declared.LeaseTable.{LeaseTable}
 use Rattle.state.specs.declared.State.{State}
 use Rattle.state.specs.Edit.{applied, noEdit}
 use Rattle.state.specs.laws.Edited.{applied-none}
-use Rattle.soundness.specs.Named.{bookB, namesGood}
-use Rattle.soundness.specs.laws.Named.{advanced-names, bad-book}
+use Rattle.releases.specs.Whole.{bookB, namesGood}
+use Rattle.releases.specs.laws.Whole.{advanced-names, bad-book}
 use Rattle.soundness.specs.Sound.{tenantsIn}
 use Rattle.decision.specs.declared.Decided.{Decided}
 use Rattle.decision.specs.declared.Reply.{Reply}

@@ -22,8 +22,8 @@ use Rattle.state.specs.Book.{Book, idOf, inUse, insertOf, laidOut, leaseWith, l
 use Rattle.state.specs.Edit.{entering}
 use Rattle.state.specs.laws.Edited.{applied-entering, applied-others}
 use Rattle.state.specs.laws.Layout.{read-back}
-use Rattle.soundness.specs.Named.{bookB}
-use Rattle.soundness.specs.laws.Named.{advanced-names, book-sound}
+use Rattle.releases.specs.Whole.{bookB}
+use Rattle.releases.specs.laws.Whole.{advanced-names, book-sound}
 use Rattle.soundness.specs.Sound.{scopesIn, tenantsIn}
 use Rattle.soundness.specs.laws.Book.{Sound, sound-lists}
 use Rattle.allocation.specs.declared.Ask.{Ask}

@@ -18,8 +18,8 @@ use Rattle.state.specs.declared.State.{State}
 use Rattle.state.specs.Book.{Book, advanced, dropped, inUse, laidOut, leasesOf, liveOf, scopesOf, tableOf}
 use Rattle.state.specs.laws.Edited.{applied-count}
 use Rattle.state.specs.laws.Layout.{table-back}
-use Rattle.soundness.specs.Named.{bookB}
-use Rattle.soundness.specs.laws.Named.{advanced-book, book-named, book-sound, both-book}
+use Rattle.releases.specs.Whole.{bookB}
+use Rattle.releases.specs.laws.Whole.{advanced-book, book-named, book-sound, both-book}
 use Rattle.soundness.specs.Sound.{oneTo, countsB, rule3, rule4, rule5, rule6, settingsB, sizeB, tenantsIn}
 use Rattle.soundness.specs.laws.Book.{Sound, settingsOk, sound-lists}
 use Rattle.decision.specs.Decide.{decideOf}

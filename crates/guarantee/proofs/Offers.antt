@@ -37,7 +37,7 @@ use Rattle.state.specs.declared.Lease.{Lease}
 use Rattle.state.specs.declared.LeaseTable.{LeaseTable}
 use Rattle.state.specs.declared.State.{State}
 use Rattle.state.specs.Book.{Book, placeOf, zeroLease}
-use Rattle.soundness.specs.Named.{bookB}
+use Rattle.releases.specs.Whole.{bookB}
 use Rattle.soundness.specs.Sound.{tenantsIn}
 use Rattle.decision.specs.declared.Decided.{Decided}
 use Rattle.decision.specs.Decide.{decideOf, judgedOf, leasedOf, settledOf}

@@ -23,7 +23,7 @@ use Rattle.state.specs.declared.LeaseTable.{LeaseTable}
 use Rattle.state.specs.declared.Scope.{Scope}
 use Rattle.state.specs.declared.State.{State}
 use Rattle.state.specs.Book.{Book, advanced, idOf, insertOf, leaseWith, leasesOf, liveOf, named, removeOf, scopeAt, limitAt}
-use Rattle.soundness.specs.Named.{bookB, namesGood}
+use Rattle.releases.specs.Whole.{bookB, namesGood}
 use Rattle.soundness.specs.Sound.{holding, tenantsIn}
 use Rattle.allocation.specs.declared.Ask.{Ask}
 use Rattle.allocation.specs.declared.Grant.{Grant}

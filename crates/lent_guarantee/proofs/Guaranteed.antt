@@ -10,7 +10,7 @@ use borrow.Author.Tests.{eqb-true, eqb-false}
 use Rattle.state.specs.Book.{Book}
 use Rattle.state.specs.declared.Lease.{Lease}
 use Rattle.state.specs.declared.State.{State}
-use Rattle.soundness.specs.Named.{bookB}
+use Rattle.releases.specs.Whole.{bookB}
 use Rattle.server.specs.Serve.{Answer, Call, serveOf}
 use Rattle.guarantee.specs.Statement.{Answered, Demand3, Granted, IsReply, NewRequest, OfferedAs, OfferRule, ReadAs, WithinLimits, liveUnder, requested, run}
 use Rattle.guarantee.proofs.Answers.{call-answered}

@@ -14,9 +14,9 @@ use Rattle.state.specs.declared.State.{State}
 use Rattle.state.specs.Book.{Book, advanced, dropped, inUse, leasesOf, liveOf, tableOf}
 use Rattle.state.specs.laws.Edited.{applied-laid}
 use Rattle.state.specs.laws.Layout.{table-back as lists-back}
-use Rattle.soundness.specs.Named.{bookB}
+use Rattle.releases.specs.Whole.{bookB}
 use Rattle.soundness.specs.Sound.{soundB}
-use Rattle.soundness.specs.laws.Named.{book-sound}
+use Rattle.releases.specs.laws.Whole.{book-sound}
 use Rattle.server.specs.Serve.{Answer, Call, atClock, bookOf, forServer, serveOf, withReading}
 use Rattle.guarantee.specs.Statement.{SoundBook}
 use Rattle.guarantee.proofs.Discards.{call-tested}

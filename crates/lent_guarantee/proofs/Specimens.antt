@@ -7,7 +7,7 @@ use lib.ListN.{replicate}
 use Rattle.lists.specs.Pick.{pick}
 use Rattle.lists.specs.All.{allBy}
 use Rattle.state.specs.Book.{Book, zeroLease}
-use Rattle.soundness.specs.Named.{bookB}
+use Rattle.releases.specs.Whole.{bookB}
 use Rattle.server.specs.Serve.{Call, serveOf}
 use Rattle.guarantee.specs.Statement.{Granted, Narrow, NewRequest, Offered, OfferedAs, requested, run}
 use Rattle.guarantee.proofs.Opened.{computed}

@@ -9,7 +9,7 @@ use Rattle.state_file.specs.File.{longestFile}
 use Rattle.state.specs.Book.{Book}
 use Rattle.state.specs.declared.Lease.{Lease}
 use Rattle.state.specs.declared.State.{State}
-use Rattle.soundness.specs.Named.{bookB, namesGood}
+use Rattle.releases.specs.Whole.{bookB, namesGood}
 use Rattle.server.specs.Serve.{Answer, Call, serveOf}
 use Rattle.guarantee.specs.Statement.{Discovers, Granted, IsReply, Narrow, NewRequest, OfferedAs, ReadAs, WithinLimits, bookAt, liveUnder, requested}
 use Rattle.format.specs.Format.{Octets}

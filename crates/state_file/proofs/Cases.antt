@@ -21,7 +21,7 @@ use Rattle.state_file.specs.File.{File, fileOf, isAfter}
 use Rattle.format.specs.Place.{isWhole}
 use Rattle.format.specs.Section.{orderedFrom}
 use Rattle.names.specs.Names.{namesB, sizesOk}
-use Rattle.soundness.specs.Named.{bookB}
+use Rattle.releases.specs.Whole.{bookB}
 use Rattle.format.specs.Format.{Got, bad, closed, got, readNumber, readOctet, readTimes, then, writeAll}
 use Rattle.state_file.specs.Records.{countsFit, fewOf, filled, fitsB, leasesFitB, storableB, stored, storedScope, storedState, storedTable, tenantsFrom, zeroRange, filedBook, filedFrom, filedLease, filedScope, pairUp}
 use Rattle.state_file.specs.StateFile.{accepted, loadedGot, judged, loaded, namesGot, namesOf, readFile, refused, octetsOf, roomAfter, writtenOf, zeroState, zeroTable}

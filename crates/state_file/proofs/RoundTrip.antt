@@ -12,9 +12,9 @@ use borrow.Author.Tests.{le-ltb}
 use Rattle.format.specs.Format.{Got, Octets, bad, closed, got}
 use Rattle.lists.specs.Pick.{pick}
 use Rattle.names.specs.Names.{namesB}
-use Rattle.soundness.specs.Named.{bookB}
+use Rattle.releases.specs.Whole.{bookB}
 use Rattle.soundness.specs.Sound.{soundB}
-use Rattle.soundness.specs.laws.Named.{book-named, book-sound, both-book}
+use Rattle.releases.specs.laws.Whole.{book-named, book-sound, both-book}
 use Rattle.state.specs.Book.{Book}
 use Rattle.state.specs.declared.LeaseTable.{LeaseTable}
 use Rattle.state.specs.declared.State.{State}

@@ -16,8 +16,8 @@ use Rattle.lists.specs.All.{allBy}
 use Rattle.lists.specs.laws.Both.{and-parts}
 use Rattle.names.specs.laws.Names.{names-most}
 use Rattle.soundness.specs.laws.Book.{rules-of}
-use Rattle.soundness.specs.laws.Named.{book-named, book-sound}
-use Rattle.soundness.specs.Named.{bookB}
+use Rattle.releases.specs.laws.Whole.{book-named, book-sound}
+use Rattle.releases.specs.Whole.{bookB}
 use Rattle.soundness.specs.Sound.{countsB, oneTo, idB, recordsB, rule1, rulesOf, sizeB, soundB}
 use Rattle.state.specs.Book.{Book, inUse, rangesOf, scopesOf}
 use Rattle.state.specs.declared.ClientRange.{ClientRange}

@@ -17,7 +17,7 @@ use Rattle.lists.specs.laws.Sums.{sum-same}
 use Rattle.lists.specs.Sums.{sumTo}
 use Rattle.octets.specs.laws.Octets.{wrote-joined, wrote-whole, wrote-as}
 use Rattle.octets.specs.Octets.{Wrote, octets32}
-use Rattle.soundness.specs.Named.{bookB, namesGood}
+use Rattle.releases.specs.Whole.{bookB, namesGood}
 use Rattle.soundness.specs.Sound.{soundB}
 use Rattle.state.specs.Book.{Book, inUse, leasesOf, noLeases, rangesOf, scopesOf}
 use Rattle.state.specs.declared.ClientRange.{ClientRange}

@@ -1,7 +1,7 @@
 -- Definitions: where the file's values stand in its octets, for the code that goes over them.
 use mathlib.Core.List.{List, [], _∷_}
 use mathlib.Core.Path.{_≡_}
-use Prim.Native.Nat.{_*_, _+_, _<_, _≤_, suc, zero, ℕ}
+use Prim.Native.Nat.{_*_, _+_, _-_, _<_, _≤_, suc, zero, ℕ}
 use lib.Dec.{eqb}
 use lib.ListN.{drop, getD, length, take}
 use Rattle.format.specs.Format.{bad, got}
@@ -11,6 +11,7 @@ use Rattle.format.specs.declared.Place.{Place}
 use Rattle.lists.specs.Fold.{fold}
 use Rattle.lists.specs.Pick.{pick}
 use Rattle.octets.specs.Octets.{at32}
+use Rattle.release_file.specs.Place.{ReleasesIn, releasesIn}
 use Rattle.state.specs.Book.{laidOut, pushed}
 use Rattle.state.specs.declared.ClientRange.{ClientRange}
 use Rattle.state.specs.declared.State.{State}
@@ -112,12 +113,13 @@ fileAt s p = record {
   tenants = row rangeAt 8 (tenantCount s) s 10;
   scopes = scopesIn s (p .scopes);
   leases = sectionAt s (p .leases);
-  names = drop (p .names) s;
+  names = take (p .releases - p .names) (drop (p .names) s);
+  releases = releasesIn s (p .releases);
 }
 
 -- the settings do not go by where the later sections are
 abbrev pub stateAt : List ℕ → ℕ → State
-stateAt s scopes = storedState (fileAt s (record { scopes = scopes; leases = 0; names = 0 }))
+stateAt s scopes = storedState (fileAt s (record { scopes = scopes; leases = 0; names = 0; releases = 0 }))
 
 -- the sections before the leases lie within the octets, and the records can hold them
 pub record SettingsIn (s : List ℕ) (at : ℕ) : Type 0 where
@@ -137,7 +139,8 @@ pub record Formed (s : List ℕ) (p : Places) : Type 0 where
   pub tenants : p .scopes ≡ 10 + tenantCount s * 8
   pub sizes : p .leases ≡ p .scopes + 1 + getD s (p .scopes) 0 * (6 + tenantCount s * 2)
   pub records : LeasesIn s (p .leases)
-  pub last : p .names ≤ length s
+  pub names : p .names ≤ p .releases
+  pub last : ReleasesIn s (p .releases)
 
 unfoldable pub FormedBy : List ℕ → Layout → Type 0
 FormedBy s (Right p) = Formed s p

@@ -22,8 +22,8 @@ use Rattle.state.specs.laws.Layout.{advanced-is, table-back}
 use Rattle.soundness.specs.declared.HeldTable.{HeldTable}
 use Rattle.soundness.specs.declared.TableRules.{TableRules}
 use Rattle.names.specs.Names.{namesB}
-use Rattle.soundness.specs.Named.{bookB}
-use Rattle.soundness.specs.laws.Named.{advanced-book, book-named, book-sound, both-book}
+use Rattle.releases.specs.Whole.{bookB}
+use Rattle.releases.specs.laws.Whole.{advanced-book, book-named, book-sound, both-book}
 use Rattle.soundness.specs.Sound.{soundB, tenantsIn}
 use Rattle.soundness.specs.Parts.{holdingsOf, soundFrom, tableRulesOf}
 use Rattle.soundness.specs.laws.Kept.{advanced-sound}

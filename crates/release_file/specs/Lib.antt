@@ -1,0 +1,3 @@
+pub mod Section
+pub mod Place
+pub mod laws

@@ -1,4 +1,5 @@
 pub mod Format
 pub mod Place
 pub mod Section
+pub mod Tenants
 pub mod laws

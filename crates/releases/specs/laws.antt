@@ -1,1 +1,2 @@
+pub mod Tenants
 pub mod Whole

@@ -2,14 +2,17 @@
 // sound book it keeps.
 mod rules;
 
-ghost use mathlib.Core.Bool.{_&&_};
+ghost use mathlib.Core.Bool.{not};
 ghost use mathlib.Core.Path.{_≡_};
-ghost use Prim.Native.Nat.{min};
+ghost use Prim.Native.Nat.{_≤_, min};
 ghost use lib.ListN.{drop, take};
-ghost use Rattle.state.specs.Book.{inUse, laidReleases, remembered};
+ghost use Rattle.identifier.specs.Order.{sameOf};
+ghost use Rattle.state.specs.Book.{inUse, laidReleases, releaseId, remembered};
 ghost use Rattle.state.specs.Edit.{forgetOf, notedIn, rememberOf};
 ghost use Rattle.releases.specs.Again.{anyAgain, isAgain};
+ghost use Rattle.releases.specs.Parts.{pushedR};
 ghost use Rattle.releases.specs.Rules.{bothRules, firstBroken, firstRelease, memoryB, noRules, rulesAt};
+use crate::rules::both_rules;
 use crate::rules::check_tenant;
 use state::Edit;
 use state::LeaseTable;
@@ -96,6 +99,7 @@ fn is_other(r: Release, id: [u8; 32], len: u8) -> bool
 
 // Those from a place on.
 fn later(q: TenantReleases, from: usize) -> TenantReleases
+    requires { ⌜ from ≤ min (q .count) 4 ⌝ }
     ensures { λ r. ⌜ r ≡ laidReleases (drop from (remembered q)) ⌝ }
 {
     let mut now = state::no_releases();
@@ -179,7 +183,14 @@ pub fn no_tenants() -> ReleaseRules
 }
 
 // The rules with those of one tenant more: h of n, counted from 0, whose leases are `own`.
-pub fn add_tenant(a: ReleaseRules, n: usize, clock: u32, h: usize, own: TenantLeases, q: TenantReleases) -> ReleaseRules
+pub fn add_tenant(
+    a: ReleaseRules,
+    n: usize,
+    clock: u32,
+    h: usize,
+    own: TenantLeases,
+    q: TenantReleases,
+) -> ReleaseRules
     ensures { λ r. ⌜ r ≡ bothRules a (rulesAt n clock h (inUse own) q) ⌝ }
 {
     let x = check_tenant(n, clock, h, own, q);

@@ -1,2 +1,3 @@
 pub mod Tenants
+pub mod Code
 pub mod Whole

@@ -1,6 +1,6 @@
 -- Laws: the rules on what is remembered, tenant by tenant, and the loop over the tenants.
 use Prim.Native.Nat.{ℕ, suc, _+_, _≤_, _<_}
-use mathlib.Core.Bool.{Bool, true, false, _&&_, _||_}
+use mathlib.Core.Bool.{Bool, true, false, _&&_}
 use mathlib.Core.List.{List, []}
 use mathlib.Core.Path.{_≡_, refl, sym, ap, ap₂, _∙_}
 use native.Mathlib.Omega.{arith}
@@ -23,7 +23,7 @@ use Rattle.state.specs.declared.TenantReleases.{TenantReleases}
 use Rattle.state.specs.Book.{inUse, laidOut, laidReleases, releasesAt, remembered}
 use Rattle.soundness.specs.Sound.{tenantsIn}
 use Rattle.releases.specs.declared.ReleaseRules.{ReleaseRules}
-use Rattle.releases.specs.Rules.{bothRules, brokenOf, differs, fewB, firstBroken, firstRelease, houseB, laidB, leasesAt, lengthB, memoryB, noRules, notLeased, onceB, pastB, releaseRulesOf, rulesAt, rulesTo}
+use Rattle.releases.specs.Rules.{bothRules, brokenOf, differs, firstBroken, firstRelease, leasesAt, memoryB, noRules, notLeased, onceB, releaseRulesOf, rulesAt, rulesTo}
 
 -- what an element is past the end of an array
 abbrev pub noRelease : Release

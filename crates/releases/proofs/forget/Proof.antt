@@ -3,8 +3,7 @@ use Prim.Native.Nat.{_-_}
 use Rattle.identifier.specs.Order.{sameOf}
 use Rattle.lists.specs.Filter.{filterBy}
 use Rattle.lists.specs.laws.Part.{PartInv, parts}
-use Rattle.releases.specs.Parts.{keptR}
-use Rattle.releases.specs.laws.Code.{forgotten-is, turns}
+use Rattle.releases.specs.laws.Code.{forgotten-is, keptR, turns}
 use Rattle.releases.specs.laws.Tenants.{noRelease}
 use Rattle.state.specs.Book.{laidReleases, releaseId, remembered}
 use Rattle.state.specs.Edit.{forgetOf}

@@ -13,6 +13,7 @@ use Rattle.lists.specs.All.{allBy, pairsBy}
 use Rattle.lists.specs.Fold.{fold}
 use Rattle.lists.specs.Filter.{filterBy}
 use Rattle.lists.specs.Place.{placeBy}
+use Rattle.lists.specs.Row.{keepRow}
 use Rattle.lists.specs.laws.All.{AllInv, all-rest, all-broken, all-next}
 use Rattle.lists.specs.laws.Next.{NextInv, next-start, next-is-pairs}
 use Rattle.lists.specs.laws.Part.{PartInv, cut-take}
@@ -28,7 +29,7 @@ use Rattle.state.specs.Edit.{rememberOf}
 use Rattle.soundness.specs.Sound.{zeroFrom}
 use Rattle.releases.specs.declared.ReleaseRules.{ReleaseRules}
 use Rattle.releases.specs.Again.{isAgain}
-use Rattle.releases.specs.Parts.{keptR, pushedR}
+use Rattle.releases.specs.Parts.{pushedR}
 use Rattle.releases.specs.Rules.{bothRules, differs, fewB, filledB, firstBroken, firstRelease, houseB, laidB, lengthB, notLeased, older, onceB, pastB, rulesAt, unusedR}
 use Rattle.releases.specs.laws.Tenants.{six}
 
@@ -68,6 +69,10 @@ module _ {t : Release → Bool} {d : Release} {l : List Release} {n i : ℕ} (x 
   any-no h = let f = place-end v h in sym (le-ltb (placeBy t (take x l)) (length (take x l)) (let k = length-take x l in omega arith))
 
 -- ---- remembering and forgetting
+-- one turn of a filter
+unfoldable pub keptR : (Release → Bool) → TenantReleases → Release → TenantReleases
+keptR t q r = keepRow pushedR t q r
+
 -- one more behind those that are laid out
 push-laid : (p : List Release) (r : Release) → length p < 4 → pushedR (laidReleases p) r ≡ laidReleases (p ++ r ∷ [])
 unfolding pushedR laidReleases

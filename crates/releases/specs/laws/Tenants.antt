@@ -99,9 +99,6 @@ unfolding firstBroken firstRelease pick
 all-hold r v = ap firstBroken (six (v .houses) (v .few) (v .lengths) (v .once) (v .times) (v .layout))
 
 module _ (s : State) (t : LeaseTable) (m : Memory) where
-  at : ℕ → ReleaseRules
-  at h = rulesAt (tenantsIn s) (s .clock) h (leasesAt t h) (releasesAt m h)
-
   pub memory-each : memoryB s t m ≡ true → (h : ℕ) → h < 8 → Holds (rulesAt (tenantsIn s) (s .clock) h (leasesAt t h) (releasesAt m h))
   unfolding memoryB brokenOf releaseRulesOf rulesTo rulesAt
   memory-each e h p =

@@ -2,7 +2,9 @@
 use mathlib.Core.List.{List, [], _++_, _∷_, map}
 use Prim.Native.Nat.{suc, zero, ℕ}
 use lib.Dec.{eqb}
+use lib.ListN.{length}
 use Rattle.lists.specs.Filter.{filterBy}
+use Rattle.lists.specs.Pick.{pick}
 
 -- those of tenant t, where key is an entry's tenant
 abbrev pub own : {A : Type 0} → (A → ℕ) → ℕ → List A → List A
@@ -17,3 +19,17 @@ apart key t (suc n) l = own key t l ∷ apart key (suc t) n l
 unfoldable pub filedAll : {A B : Type 0} → (ℕ → B → A) → ℕ → List (List B) → List A
 filedAll file t [] = []
 filedAll file t (l ∷ ls) = map (file t) l ++ filedAll file (suc t) ls
+
+-- ---- a value for each tenant, as a loop over the entries has it
+-- what f gives for each of n tenants from t on
+unfoldable pub perTenant : {B : Type 0} → (ℕ → B) → ℕ → ℕ → List B
+perTenant f t zero = []
+perTenant f t (suc n) = f t ∷ perTenant f (suc t) n
+
+-- b, and with the entry x as well if it is tenant t's
+unfoldable pub keepBy : {A B : Type 0} → (A → ℕ) → (B → A → B) → ℕ → B → A → B
+keepBy key g t b x = pick (eqb (key x) t) (g b x) b
+
+-- how many each of eight tenants has
+unfoldable pub tallyBy : {A : Type 0} → (A → ℕ) → List A → List ℕ
+tallyBy key xs = perTenant (λ t. length (own key t xs)) 1 8

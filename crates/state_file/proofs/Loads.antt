@@ -2,15 +2,15 @@
 use mathlib.Core.Bool.{Bool, false, true}
 use mathlib.Core.List.{List, [], map}
 use mathlib.Core.Path.{_∙_, _≡_, ap, ap₂, subst, sym}
-use Prim.Native.Nat.{_*_, _+_, _-_, _<_, _≤_, suc, zero, ℕ}
+use Prim.Native.Nat.{_*_, _+_, _-_, _<_, _≤_, ℕ}
 use native.Mathlib.Omega.{arith}
 use lib.ListN.{drop, getD, length, length-drop, replicate, take}
 use lib.Seq.{length-take-le, take-all}
 use borrow.Author.Tests.{leb-true, ltb-false}
-use Rattle.format.specs.Place.{EachAt, row, walk}
+use Rattle.format.specs.Place.{row}
 use Rattle.format.specs.Section.{InRow, Inside}
+use Rattle.format.specs.laws.Entries.{row-facts}
 use Rattle.format.specs.laws.Fixed.{walk-length}
-use Rattle.lists.specs.laws.All.{all-head}
 use Rattle.lists.specs.All.{allBy, allTo}
 use Rattle.lists.specs.Pick.{pick}
 use Rattle.octets.specs.Octets.{at32}
@@ -22,7 +22,7 @@ use Rattle.state.specs.declared.Scope.{Scope}
 use Rattle.state.specs.declared.State.{State}
 use Rattle.state.specs.declared.TenantLeases.{TenantLeases}
 use Rattle.state_file.proofs.Fill.{eight-laid}
-use Rattle.state_file.proofs.ReadAgain.{both, neither}
+use Rattle.lists.specs.laws.Pick.{both, neither}
 use Rattle.state_file.specs.Place.{AllStorable, Formed, FormedBy, LeasesIn, SettingsIn, StorableAt, fileAt, keptAll, fileLeaseAt, leasesAt, nextAt, rangeAt, fileScopeAt, scopesIn, sectionAt, stateAt, tenantCount}
 use Rattle.state_file.specs.Records.{countsFit, fewOf, filled, fitsB, leasesFitB, settingsFitB, storableB, storedScope, storedState, storedTable, tenantsFrom, zeroRange}
 use Rattle.state_file.specs.StateFile.{accepted, loadedGot, judged, loaded, namesGot, namesOf, readFile, refused, zeroTable, zeroState}
@@ -82,11 +82,7 @@ storable-held s at v e =
     record { from = ltb-false (getD s at 0) 1 (a .0); to = ltb-false 8 (getD s at 0) (b .0); ids = omega arith; room = v .room }
 
 held-row : (k : ℕ) (s : List ℕ) (at : ℕ) → InRow nextAt s at k → allBy storableB (leasesAt s at k) ≡ true → AllStorable s at k
-unfolding EachAt walk
-held-row zero s at v e = tt
-held-row (suc k) s at v e =
-    let p = all-head storableB (fileLeaseAt s at) (leasesAt s (nextAt s at) k) e in
-    (storable-held s at (v .0) (p .0), held-row k s (nextAt s at) (v .1) (p .1))
+held-row k s at v e = row-facts storableB StorableAt fileLeaseAt nextAt storable-held k s at v e
 
 module _ {s : List ℕ} {at count : ℕ} (v : LeasesIn s at) (ec : count ≡ getD s at 0) where
   pub leases-in : InRow nextAt s (at + 1) count

@@ -2,9 +2,8 @@
 -- names are good.
 use mathlib.Core.Bool.{_&&_, true}
 use mathlib.Core.List.{List, [], _++_, _∷_, map}
-use mathlib.Core.Path.{_≡_, refl}
+use mathlib.Core.Path.{_≡_}
 use Prim.Native.Nat.{_*_, _+_, _≤_, suc, ℕ}
-use native.Mathlib.Nat.{suc-mul, zero-mul}
 use native.Mathlib.Omega.{arith}
 use lib.Dec.{leb}
 use lib.ListN.{length, length-append, length-take, take}
@@ -27,25 +26,10 @@ use Rattle.state.specs.declared.Scope.{Scope}
 use Rattle.state.specs.declared.State.{State}
 use Rattle.state.specs.declared.TenantLeases.{TenantLeases}
 use Rattle.state_file.specs.File.{FileLease, FilePart, leaseFormat, partFormat, scopeFormat, tenantFormat, longestFile}
-use Rattle.format.specs.Format.{octet, writeAll}
+use Rattle.format.specs.Format.{writeAll}
+use Rattle.format.specs.laws.Rows.{all-most, octets-many}
 use Rattle.state_file.specs.Records.{filedLease, filedBook, filedFrom, filedScope, pairUp}
 use Rattle.state_file.specs.StateFile.{octetsOf}
-
--- ---- the octets of a list, each of whose values has at most so many
-all-most : {A : Type 0} (w : A → List ℕ) (most : ℕ) → ((x : A) → length (w x) ≤ most) → (l : List A) → length (writeAll w l) ≤ length l * most
-unfolding writeAll
-all-most w most f [] = let z = zero-mul most in omega arith
-all-most w most f (x ∷ l) =
-    let ih = all-most w most f l in
-    let a = length-append (w x) (writeAll w l) in
-    let b = f x in
-    let c = suc-mul (length l) most in
-    omega arith
-
-octets-many : (l : List ℕ) → length (writeAll (octet .write) l) ≡ length l
-unfolding writeAll
-octets-many [] = refl
-octets-many (x ∷ l) = let ih = octets-many l in omega arith
 
 -- ---- a scope with parts for at most eight tenants
 scope-most : (n k : ℕ) (c : Scope) → n ≤ 8 → length (scopeFormat k .write (filedScope n c)) ≤ 22

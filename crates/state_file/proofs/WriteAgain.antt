@@ -16,7 +16,7 @@ use Rattle.format.specs.Place.{isWhole}
 use Rattle.format.specs.Section.{orderedFrom, verbatim}
 use Rattle.identifier.specs.Order.{orderOf}
 use Rattle.lists.specs.All.{All, allBy, allTo, pairsBy}
-use Rattle.lists.specs.laws.All.{all-append, all-cons, all-head, each-to, pairs-head}
+use Rattle.lists.specs.laws.All.{all-append, all-cons, all-drop, all-facts, all-head, all-joined, all-mapped, all-take, each-to, pairs-head, two-facts}
 use Rattle.lists.specs.laws.Both.{and-parts}
 use Rattle.lists.specs.Pick.{pick}
 use Rattle.names.specs.Names.{Name, namesB, namesFormat}
@@ -30,7 +30,6 @@ use Rattle.state.specs.declared.LeaseTable.{LeaseTable}
 use Rattle.state.specs.declared.Scope.{Scope}
 use Rattle.state.specs.declared.State.{State}
 use Rattle.state.specs.declared.TenantLeases.{TenantLeases}
-use Rattle.state_file.proofs.ReadAgain.{all-facts, two-facts}
 use Rattle.state_file.proofs.RowLaws.{pair-length}
 use Rattle.state_file.specs.File.{File, FileLease, fileFormat, isAfter, leaseFormat, partFormat, scopeFormat, tenantFormat}
 use Rattle.state_file.specs.laws.Records.{Neat, filled-back}
@@ -38,29 +37,6 @@ use Rattle.state_file.specs.Records.{countsFit, fewOf, filedLease, filed
 use Rattle.state_file.specs.laws.File.{leasesFrom}
 use Rattle.state_file.specs.laws.Tenants.{leases-back}
 use Rattle.state_file.specs.Typed.{Typed, TypedLease, TypedRange, TypedScope, TypedTenant}
-
--- ---- facts about all of a list
-pub all-take : {A : Type 0} (P : A → Type 0) (n : ℕ) (l : List A) → All P l → All P (take n l)
-unfolding All
-all-take P zero l h = tt
-all-take P (suc n) [] h = tt
-all-take P (suc n) (x ∷ l) h = (h .0, all-take P n l (h .1))
-
-pub all-drop : {A : Type 0} (P : A → Type 0) (n : ℕ) (l : List A) → All P l → All P (drop n l)
-unfolding All
-all-drop P zero l h = h
-all-drop P (suc n) [] h = tt
-all-drop P (suc n) (x ∷ l) h = all-drop P n l (h .1)
-
-all-mapped : {A B : Type 0} (P : B → Type 0) (g : A → B) (l : List A) → All (λ x. P (g x)) l → All P (map g l)
-unfolding All
-all-mapped P g [] h = tt
-all-mapped P g (x ∷ l) h = (h .0, all-mapped P g l (h .1))
-
-all-joined : {A : Type 0} (P : A → Type 0) (x y : List A) → All P x → All P y → All P (x ++ y)
-unfolding All
-all-joined P [] y p q = q
-all-joined P (a ∷ x) y p q = (p .0, all-joined P x y (p .1) q)
 
 all-weak : (m n : ℕ) (l : List ℕ) → m ≤ n → All (λ x. x < m) l → All (λ x. x < n) l
 unfolding All

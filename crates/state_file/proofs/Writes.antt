@@ -2,7 +2,7 @@
 use mathlib.Core.Bool.{Bool, _&&_, false, true}
 use mathlib.Core.List.{List, [], _++_, _∷_, append-assoc, map}
 use mathlib.Core.Path.{_∙_, _≡_, ap, ap₂, refl, subst, sym}
-use Prim.Native.Nat.{_*_, _+_, _<_, _≤_, min, suc, zero, ℕ}
+use Prim.Native.Nat.{_*_, _+_, _<_, _≤_, min, suc, ℕ}
 use native.Mathlib.Omega.{arith}
 use denote.Ref.{now}
 use lib.Dec.{ltb}
@@ -26,12 +26,16 @@ use Rattle.state.specs.declared.LeaseTable.{LeaseTable}
 use Rattle.state.specs.declared.Scope.{Scope}
 use Rattle.state.specs.declared.State.{State}
 use Rattle.state.specs.declared.TenantLeases.{TenantLeases}
-use Rattle.state_file.proofs.RowLaws.{pair-length, row-sum}
+use Rattle.state_file.proofs.RowLaws.{pair-length}
 use Rattle.state_file.specs.File.{FilePart, leaseFormat, partFormat, scopeFormat, tenantFormat}
 use Rattle.format.specs.laws.Format.{plain}
 use Rattle.format.specs.Format.{writeAll}
+use Rattle.format.specs.Rows.{writeFrom}
+use Rattle.format.specs.laws.Rows.{row-all, row-sum, tenants-octets}
+use Rattle.format.specs.laws.Tenants.{filed-sum}
+use Rattle.state_file.specs.laws.Tenants.{filed-all}
 use Rattle.state_file.specs.Records.{filedLease, filedBook, filedFrom, filedScope, pairUp}
-use Rattle.state_file.specs.Rows.{leaseOctets, leaseTotal, partOctets, partRow, fileRangeOctets, rangeRow, fileScopeOctets, scopeRow, sectionOctets, tableOctets, tenantOctets, tenantRow, writeFrom}
+use Rattle.state_file.specs.Rows.{leaseOctets, leaseTotal, partOctets, partRow, fileRangeOctets, rangeRow, fileScopeOctets, scopeRow, sectionOctets, tableOctets, tenantOctets, tenantRow}
 use Rattle.state_file.specs.StateFile.{octetsOf, roomAfter, writtenOf}
 use Rattle.state_file.specs.declared.Written.{Written}
 
@@ -89,11 +93,6 @@ part-wrote h p q = wrote-joined h p q
 pub range-wrote : {r₀ r₁ r₂ : List ℕ} {at a b : ℕ} (x : ClientRange) → at ≤ length r₀ → Wrote r₀ at (octets32 (x .low)) r₁ a → Wrote r₁ a (octets32 (x .high)) r₂ b → Wrote r₀ at (tenantFormat .write x) r₂ b
 range-wrote x h p q = wrote-joined h p q
 
-row-all : {A : Type 0} (w : A → List ℕ) (k : ℕ) (l : List A) → writeFrom (λ _ x. w x) k l ≡ writeAll w l
-unfolding writeFrom writeAll
-row-all w k [] = refl
-row-all w k (x ∷ l) = ap (λ (r : List ℕ). w x ++ r) (row-all w (suc k) l)
-
 scope-octets : (h : ℕ) (x : Scope) → ((octets32 (x .lowest) ++ (x .size ∷ [])) ++ (x .ttl ∷ [])) ++ partOctets h x ≡ scopeFormat h .write (filedScope h x)
 unfolding filedScope partRow
 scope-octets h x = ap (λ (l : List ℕ). octets32 (x .lowest) ++ x .size ∷ x .ttl ∷ l) (row-all (partFormat .write) 0 (take h (pairUp (x .reserve) (x .limit))))
@@ -119,12 +118,6 @@ scope-least h x = ap length (sym (scope-octets h x)) ∙ simp length-append (ome
 pub scope-wrote : {r₀ r₁ r₂ r₃ r₄ : List ℕ} {at a b c d : ℕ} (h : ℕ) (x : Scope) → at ≤ length r₀ → Wrote r₀ at (octets32 (x .lowest)) r₁ a → Wrote r₁ a (x .size ∷ []) r₂ b → Wrote r₂ b (x .ttl ∷ []) r₃ c
     → Wrote r₃ c (partOctets h x) r₄ d → Wrote r₀ at (scopeFormat h .write (filedScope h x)) r₄ d
 scope-wrote h x l p q w z = wrote-as (scope-octets h x) (wrote-joined l (wrote-joined l (wrote-joined l p q) w) z)
-
-pub count-is : {A : Type 0} (m c n : ℕ) (l : List A) → length l ≡ m → n ≡ min c m → n ≡ length (take c l)
-count-is m c n l e p = p ∙ ap (min c) (sym e) ∙ sym (length-take c l)
-
-pub section-wrote : {r₀ r₁ r₂ xs : List ℕ} {at a b n : ℕ} (k : ℕ) → at ≤ length r₀ → n ≡ k → Wrote r₀ at (n ∷ []) r₁ a → Wrote r₁ a xs r₂ b → Wrote r₀ at (k ∷ xs) r₂ b
-section-wrote {r₀} {r₁} {at = at} {a = a} k h e p q = wrote-joined h (wrote-as (ap {B = List ℕ} (λ (n : ℕ). n ∷ []) e) p) q
 
 pub server-wrote : {r₀ r₁ r₂ r₃ : List ℕ} {a b c : ℕ} (x y : ℕ) → Wrote r₀ 0 (1 ∷ []) r₁ a → Wrote r₁ a (octets32 x) r₂ b → Wrote r₂ b (octets32 y) r₃ c → Wrote r₀ 0 (1 ∷ octets32 x ++ octets32 y) r₃ c
 server-wrote x y p q w = wrote-joined (omega arith) (wrote-joined (omega arith) p q) w
@@ -162,50 +155,12 @@ pub scope-length : (c : Scope) (h n : ℕ) → length (c .reserve) ≡ 8 → len
 scope-length c h n p q e = (sym (scope-size h n c p q e), omega arith)
 
 -- ---- the sections as they are written
-filed-octets : (t : ℕ) (l : List Lease) → writeAll (leaseFormat .write) (map (filedLease t) l) ≡ writeFrom (leaseOctets t) 0 l
-unfolding writeAll writeFrom leaseOctets
-filed-octets t l = go 0 l
-  where
-    go : (k : ℕ) (l : List Lease) → writeAll (leaseFormat .write) (map (filedLease t) l) ≡ writeFrom (leaseOctets t) k l
-    go k [] = refl
-    go k (x ∷ l) = ap (λ (r : List ℕ). leaseFormat .write (filedLease t x) ++ r) (go (suc k) l)
-
-write-append : {A : Type 0} (w : A → List ℕ) (x y : List A) → writeAll w (x ++ y) ≡ writeAll w x ++ writeAll w y
-unfolding writeAll
-write-append w [] y = refl
-write-append w (a ∷ x) y = ap (λ (l : List ℕ). w a ++ l) (write-append w x y) ∙ sym (append-assoc (w a) (writeAll w x) (writeAll w y))
-
-table-octets : (k : ℕ) (hs : List TenantLeases) → writeAll (leaseFormat .write) (filedFrom (k + 1) (map inUse hs)) ≡ writeFrom tenantRow k hs
-unfolding writeFrom writeAll filedFrom tenantRow
-table-octets k [] = refl
-table-octets k (h ∷ hs) =
-    write-append (leaseFormat .write) (map (filedLease (k + 1)) (inUse h)) (filedFrom (suc (k + 1)) (map inUse hs))
-    ∙ ap₂ {C = List ℕ} (λ (x y : List ℕ). x ++ y) (filed-octets (k + 1) (inUse h))
-    (ap (λ (j : ℕ). writeAll (leaseFormat .write) (filedFrom j (map inUse hs))) (let e : suc (k + 1) ≡ suc k + 1 = omega arith in e) ∙ table-octets (suc k) hs)
-
--- how many elements the lists have
-total : List (List Lease) → ℕ
-total [] = 0
-total (l ∷ ls) = length l + total ls
-
-filed-count : (t : ℕ) (ls : List (List Lease)) → length (filedFrom t ls) ≡ total ls
-unfolding filedFrom total
-filed-count t [] = refl
-filed-count t (l ∷ ls) = length-append (map (filedLease t) l) (filedFrom (suc t) ls) ∙ ap₂ (λ (a b : ℕ). a + b) (length-map l (filedLease t)) (filed-count (suc t) ls)
-
-total-next : (i : ℕ) (hs : List TenantLeases) → i < length hs → total (map inUse (take (suc i) hs)) ≡ total (map inUse (take i hs)) + length (inUse (getD hs i noLeases))
-unfolding total
-total-next i [] h = absurd (omega arith)
-total-next zero (x ∷ hs) h = let e : length (inUse x) + 0 ≡ 0 + length (inUse x) = omega arith in e
-total-next (suc i) (x ∷ hs) h = let ih = total-next i hs (let g : i < length hs = omega arith in g) in let e : length (inUse x) + total (map inUse (take (suc i) hs)) ≡ length (inUse x) + total (map inUse (take i hs)) + length (inUse (getD hs i noLeases)) = omega arith in e
-
-total-sum : (n : ℕ) (hs : List TenantLeases) → n ≤ length hs → total (map inUse (take n hs)) ≡ sumTo (λ i. length (inUse (getD hs i noLeases))) n
-unfolding sumTo total
-total-sum zero hs h = refl
-total-sum (suc n) hs h = total-next n hs (omega arith) ∙ ap (λ (k : ℕ). k + length (inUse (getD hs n noLeases))) (total-sum n hs (omega arith))
+table-octets : (hs : List TenantLeases) → writeAll (leaseFormat .write) (filedFrom 1 (map inUse hs)) ≡ writeFrom tenantRow 0 hs
+unfolding leaseOctets tenantRow
+table-octets hs = ap (writeAll (leaseFormat .write)) (filed-all 1 (map inUse hs)) ∙ tenants-octets (leaseFormat .write) filedLease inUse 0 hs
 
 lease-total : (b : LeaseTable) → length (b .tenants) ≡ 8 → length (filedFrom 1 (leasesOf b)) ≡ leaseTotal b
-lease-total b e = filed-count 1 (leasesOf b) ∙ ap (λ (l : List TenantLeases). total (map inUse l)) (sym (take-all 8 (b .tenants) (omega arith))) ∙ total-sum 8 (b .tenants) (omega arith)
+lease-total b e = ap length (filed-all 1 (leasesOf b)) ∙ filed-sum filedLease inUse noLeases 8 1 (b .tenants) e
 
 scopes-octets : (n h k : ℕ) (l : List Scope) → writeAll (scopeFormat n .write) (map (filedScope h) l) ≡ writeFrom (scopeRow h) k l
 unfolding writeFrom writeAll scopeRow
@@ -250,7 +205,7 @@ module _ (s : State) (b : LeaseTable) (names : List ℕ) (e : length (b .tenants
       ap₂ {C = List ℕ} (λ (x y : List ℕ). server ++ ((length (rangesOf s) ∷ x) ++ y)) (ranges-octets 0 (rangesOf s))
       (ap₂ {C = List ℕ} (λ (x y : List ℕ). x ++ y)
       (ap₂ {C = List ℕ} (λ (n : ℕ) (x : List ℕ). n ∷ x) (length-map (scopesOf s) (filedScope (s .«tenant_count»))) (scopes-octets (length (rangesOf s)) (s .«tenant_count») 0 (scopesOf s)))
-      (ap₂ {C = List ℕ} (λ (n : ℕ) (x : List ℕ). (n ∷ x) ++ names) (lease-total b e) (table-octets 0 (b .tenants))))
+      (ap₂ {C = List ℕ} (λ (n : ℕ) (x : List ℕ). (n ∷ x) ++ names) (lease-total b e) (table-octets (b .tenants))))
       ∙ five server (length (rangesOf s) ∷ fileRangeOctets s) (length (scopesOf s) ∷ fileScopeOctets s) (leaseTotal b ∷ tableOctets b) names
     where
       server : List ℕ

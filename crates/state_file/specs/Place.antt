@@ -1,15 +1,14 @@
 -- Definitions: where the file's values stand in its octets, for the code that goes over them.
-use mathlib.Core.List.{List, [], _∷_}
+use mathlib.Core.List.{List, []}
 use mathlib.Core.Path.{_≡_}
-use Prim.Native.Nat.{_*_, _+_, _-_, _<_, _≤_, suc, zero, ℕ}
-use lib.Dec.{eqb}
+use Prim.Native.Nat.{_*_, _+_, _-_, _<_, _≤_, ℕ}
 use lib.ListN.{drop, getD, length, take}
 use Rattle.format.specs.Format.{bad, got}
 use Rattle.format.specs.Place.{EachAt, row, walk}
 use Rattle.format.specs.Section.{EntryEnds, InRow, RowEnds, SectionEnds}
+use Rattle.format.specs.Tenants.{keepBy, perTenant, tallyBy}
 use Rattle.format.specs.declared.Place.{Place}
 use Rattle.lists.specs.Fold.{fold}
-use Rattle.lists.specs.Pick.{pick}
 use Rattle.octets.specs.Octets.{at32}
 use Rattle.release_file.specs.Place.{ReleasesIn, releasesIn}
 use Rattle.state.specs.Book.{laidOut, pushed}
@@ -17,7 +16,7 @@ use Rattle.state.specs.declared.ClientRange.{ClientRange}
 use Rattle.state.specs.declared.State.{State}
 use Rattle.state.specs.declared.TenantLeases.{TenantLeases}
 use Rattle.state_file.specs.File.{File, FileLease, FilePart, FileScope, fileOf, leaseAfter, leaseFormat, leaseKey}
-use Rattle.state_file.specs.Records.{ofTenant, stored, storedState}
+use Rattle.state_file.specs.Records.{stored, storedState}
 use Rattle.state_file.specs.declared.Layout.{Layout}
 use Rattle.state_file.specs.declared.Layout.the-variants.{Right, Wrong}
 use Rattle.state_file.specs.declared.Places.{Places}
@@ -64,25 +63,19 @@ pub record StorableAt (s : List ℕ) (at : ℕ) : Type 0 where
 abbrev pub AllStorable : List ℕ → ℕ → ℕ → Type 0
 AllStorable s at k = EachAt StorableAt nextAt k s at
 
--- what f gives for each of n tenants from t on
-unfoldable pub perTenant : {B : Type 0} → (ℕ → B) → ℕ → ℕ → List B
-perTenant f t zero = []
-perTenant f t (suc n) = f t ∷ perTenant f (suc t) n
-
--- b, and with the lease x as well if it is tenant t's
-unfoldable pub keepBy : {B : Type 0} → (B → FileLease → B) → ℕ → B → FileLease → B
-keepBy g t b x = pick (eqb (x .tenant) t) (g b x) b
+abbrev pub leaseTenant : FileLease → ℕ
+leaseTenant x = x .tenant
 
 -- tenant t's records, filled from the front
 abbrev pub keptOf : ℕ → List FileLease → TenantLeases
-keptOf t xs = fold (keepBy (λ h x. pushed h (stored x)) t) (laidOut []) xs
+keptOf t xs = fold (keepBy leaseTenant (λ h x. pushed h (stored x)) t) (laidOut []) xs
 
 unfoldable pub keptAll : List FileLease → List TenantLeases
 keptAll xs = perTenant (λ t. keptOf t xs) 1 8
 
 -- how many leases each tenant has
-unfoldable pub tallyOf : List FileLease → List ℕ
-tallyOf xs = perTenant (λ t. length (ofTenant t xs)) 1 8
+abbrev pub tallyOf : List FileLease → List ℕ
+tallyOf xs = tallyBy leaseTenant xs
 
 -- ---- settings
 unfoldable pub rangeAt : List ℕ → ℕ → ClientRange

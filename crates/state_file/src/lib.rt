@@ -78,7 +78,13 @@ pub fn names(file: &[u8]) -> &[u8]
 }
 
 // Writes a book as a state file: its length, or refusal 22 for an unsound book or bad names and then 23 where the room is too short.
-pub fn write(state: State, table: LeaseTable, memory: Memory, names: &[u8], room: &mut [u8]) -> Written
+pub fn write(
+    state: State,
+    table: LeaseTable,
+    memory: Memory,
+    names: &[u8],
+    room: &mut [u8],
+) -> Written
     ensures answer { λ r. ⌜ r ≡ writtenOf (record { state = state; table = table; memory = memory; names = now (names .entry) }) (length (now (room .entry))) ⌝ }
     ensures octets { λ r. ⌜ now (room .exit) ≡ roomAfter (record { state = state; table = table; memory = memory; names = now (names .entry) }) (now (room .entry)) ⌝ }
 {
@@ -119,7 +125,9 @@ pub fn no_memory() -> Memory
     ensures { λ r. ⌜ r ≡ zeroMemory ⌝ }
 {
     let none = state::no_releases();
-    Memory { releases: [none; 8] }
+    Memory {
+        releases: [none; 8],
+    }
 }
 
 // A ledger that is all zero.

@@ -206,7 +206,7 @@ fn lease_at(s: &[u8], at: usize) -> Lease
 {
     let n = wide(s[at + 2]);
     let k = wide(s[at + (n + 16)]);
-    let id = id_at(s, at + 3, n);
+    let id = octets::read_run(s, at + 3, n);
     let addresses = set_at(s, at + (n + 17), k);
     Lease {
         scope: s[at + 1],
@@ -218,20 +218,6 @@ fn lease_at(s: &[u8], at: usize) -> Lease
         end: octets::read_u32(s, at + (n + 12)),
         addresses,
     }
-}
-
-// The n octets from `at` on, and zeros after them.
-fn id_at(s: &[u8], at: usize, n: usize) -> [u8; 32]
-    requires { ⌜ (n ≤ 32) × (at + n ≤ length (now s)) ⌝ }
-    ensures { λ r. ⌜ r ≡ filled 0 32 (take n (drop at (now (s .entry)))) ⌝ }
-{
-    let mut id = [0u8; 32];
-    let mut i: usize = 0;
-    while i < n {
-        id[i] = s[at + i];
-        i += 1;
-    }
-    id
 }
 
 // The set of the k offsets from `at` on.

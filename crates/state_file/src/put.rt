@@ -18,7 +18,13 @@ use state::Scope;
 use state::State;
 use state::TenantLeases;
 
-pub fn put_file(buffer: &mut [u8], state: State, table: LeaseTable, memory: Memory, names: &[u8]) -> usize
+pub fn put_file(
+    buffer: &mut [u8],
+    state: State,
+    table: LeaseTable,
+    memory: Memory,
+    names: &[u8],
+) -> usize
     requires { ⌜ length (octetsOf (record { state = state; table = table; memory = memory; names = now names })) ≤ length (now buffer) ⌝ }
     ensures { λ r. ⌜ Wrote (now (buffer .entry)) 0 (octetsOf (record { state = state; table = table; memory = memory; names = now (names .entry) })) (now (buffer .exit)) r ⌝ }
 {

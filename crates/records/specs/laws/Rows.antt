@@ -9,7 +9,7 @@ use lib.Seq.{take-append-add, drop-append-add, drop-at, drop-cons, getD-at, leng
 use borrow.Author.Tests.{ltb-true}
 use Rattle.lists.specs.Pick.{pick}
 use Rattle.lists.specs.All.{All, allBy, pairsBy}
-use Rattle.lists.specs.laws.All.{AllInv, all-head, all-rest}
+use Rattle.lists.specs.laws.All.{AllInv, all-head, all-rest, all-drop, all-take}
 use Rattle.lists.specs.laws.Both.{and-parts}
 use Rattle.lists.specs.laws.Copy.{CopyInv, copy-start, copy-next, copy-long, copy-paste}
 use Rattle.lists.specs.laws.Each.{EachInv, each-start, each-next, each-end, map-set}
@@ -28,7 +28,7 @@ use Rattle.soundness.specs.Sound.{layoutB, paddedB, rule19, rulesOf, settingsB,
 use Rattle.soundness.specs.Parts.{addedTenant, firstEnd, heldSets, holdingsOf, noHeld, noTenants}
 use Rattle.soundness.specs.laws.Book.{rules-of}
 use Rattle.soundness.specs.laws.Survey.{SurveyInv, held-at, none-ended, survey-next-row, survey-start}
-use Rattle.state_file.proofs.WriteAgain.{all-drop, all-take, leases-zero}
+use Rattle.state_file.proofs.WriteAgain.{leases-zero}
 use Rattle.records.specs.declared.Records.{Records}
 use Rattle.records.specs.laws.Back.{rows-back}
 use Rattle.records.specs.laws.Table.{rows-length, table-eight}

@@ -31,7 +31,7 @@ use Rattle.state_file.specs.File.{FilePart, leaseFormat, partFormat, sco
 use Rattle.format.specs.laws.Format.{plain}
 use Rattle.format.specs.Format.{writeAll}
 use Rattle.format.specs.Rows.{writeFrom}
-use Rattle.format.specs.laws.Rows.{row-all, row-sum, tenants-octets}
+use Rattle.format.specs.laws.Rows.{row-all, row-same, row-sum, tenants-octets}
 use Rattle.format.specs.laws.Tenants.{filed-sum}
 use Rattle.state_file.specs.laws.Tenants.{filed-all}
 use Rattle.state_file.specs.Records.{filedLease, filedBook, filedFrom, filedScope, pairUp}
@@ -132,12 +132,8 @@ lease-length t l n k r e p q z =
     (omega arith, omega arith)
 
 tenant-any : (t k : ℕ) (l : List Lease) → length (writeFrom (leaseOctets t) k l) ≡ length (writeFrom (leaseOctets 0) k l)
-unfolding writeFrom leaseOctets
-tenant-any t k [] = refl
-tenant-any t k (x ∷ l) =
-    length-append (leaseFormat .write (filedLease t x)) (writeFrom (leaseOctets t) (suc k) l)
-    ∙ ap₂ (λ (a b : ℕ). a + b) (lease-size t x ∙ sym (lease-size 0 x)) (tenant-any t (suc k) l)
-    ∙ sym (length-append (leaseFormat .write (filedLease 0 x)) (writeFrom (leaseOctets 0) (suc k) l))
+unfolding leaseOctets
+tenant-any t k l = row-same (leaseOctets t) (leaseOctets 0) (λ i x. lease-size t x ∙ sym (lease-size 0 x)) k l
 
 pub table-length : (b : LeaseTable) (sum : ℕ) → length (b .tenants) ≡ 8 → sum ≡ sumTo (λ i. length (tenantOctets 0 (getD (b .tenants) i noLeases))) 8 → sum ≡ length (tableOctets b)
 unfolding tenantRow

@@ -148,6 +148,13 @@ pub row-sum : {A : Type 0} (w : ℕ → A → List ℕ) (d : A) (l : List A) (m 
 row-sum {A} w d l m c n sum e g p =
     p ∙ sym (row-size w d n l (omega arith)) ∙ ap (λ (x : List A). length (writeFrom w 0 x)) (ap (λ (k : ℕ). take k l) g ∙ cut-take m c l e)
 
+-- rows whose elements are as long are as long
+pub row-same : {A : Type 0} (w u : ℕ → A → List ℕ) → ((k : ℕ) (x : A) → length (w k x) ≡ length (u k x)) → (k : ℕ) (l : List A) → length (writeFrom w k l) ≡ length (writeFrom u k l)
+unfolding writeFrom
+row-same w u e k [] = refl
+row-same w u e k (x ∷ l) =
+    length-append (w k x) (writeFrom w (suc k) l) ∙ ap₂ (λ (a b : ℕ). a + b) (e k x) (row-same w u e (suc k) l) ∙ sym (length-append (u k x) (writeFrom u (suc k) l))
+
 -- ---- a row and what a format writes
 pub row-all : {A : Type 0} (w : A → List ℕ) (k : ℕ) (l : List A) → writeFrom (λ _ x. w x) k l ≡ writeAll w l
 unfolding writeFrom writeAll

@@ -20,6 +20,7 @@ use Rattle.address_set.specs.AddressSet.{bit}
 use Rattle.message.specs.declared.Fields.{Fields}
 use Rattle.state.specs.declared.Lease.{Lease}
 use Rattle.state.specs.declared.LeaseTable.{LeaseTable}
+use Rattle.state.specs.declared.Release.{Release}
 use Rattle.state.specs.declared.State.{State}
 use Rattle.state.specs.Book.{inUse, laidOut, leasesOf, tableOf, idOf, other, placeOf, leaseAt, zeroLease, live, busyOf, insertOf, removeOf, scopeAt}
 use Rattle.state.specs.Edit.{noEdit, applied}
@@ -357,10 +358,11 @@ module _ (s : State) (b : LeaseTable) (h : ℕ) (m : Fields) (v : Sound s (lease
       let fewer = removed-fewer (leaseIdIn m) (ownOf b h) at in
       (e, subst (λ (i : List ℕ). length (removeOf i (ownOf b h)) < 16) (sym e) (let k : length (removeOf (leaseIdIn m) (ownOf b h)) < 16 = omega arith in k))
 
-  pub decided-sound : Sound s (leasesOf (applied (decideOf s b h m .edit) h b))
+  pub decided-sound : (q : List Release) → Sound s (leasesOf (applied (decideOf s b q h m .edit) h b))
   unfolding Keeps
-  decided-sound = decided-by s b h m Keeps (record {
+  decided-sound q = decided-by s b h m Keeps (record {
     resent = λ e. none;
+    again = none;
     refused = λ e. none;
     offered = λ k ok e. none;
     requested = λ k ok e. becomes (updated b h (insertOf (newFor s b h m) (ownOf b h))) (applied-entering b h (newFor s b h m) (fits-new e)) (request-sound s b h m v known there good k ok e);
@@ -368,13 +370,13 @@ module _ (s : State) (b : LeaseTable) (h : ℕ) (m : Fields) (v : Sound s (lease
         becomes (updated b h (insertOf (renewedFor s b h m) (removeOf (leaseIdIn m) (ownOf b h))))
         (applied-way b h (oldFor b h m) (renewedFor s b h m) (fits-old held .1) ∙ ap (λ (i : List ℕ). updated b h (insertOf (renewedFor s b h m) (removeOf i (ownOf b h)))) (fits-old held .0))
         (renew-sound s b h m v known there good k ok held e);
-    released = λ k held. becomes (updated b h (removeOf (idOf (oldFor b h m)) (ownOf b h))) (applied-leaving b h (oldFor b h m)) (release-sound s b h there (idOf (oldFor b h m)) v);
+    released = λ k held. becomes (updated b h (removeOf (idOf (oldFor b h m)) (ownOf b h))) (applied-leaving b h (oldFor b h m) (m .xid) (s .clock)) (release-sound s b h there (idOf (oldFor b h m)) v);
     informed = none;
-  })
+  }) q
 
 -- so a decision keeps a sound book sound
-pub decision-sound : (s : State) (b : LeaseTable) (h : ℕ) (m : Fields) → soundB s b ≡ true → b ≡ tableOf (leasesOf b) → h < tenantsIn s → h < length (b .tenants) → GoodId m
-    → soundB s (applied (decideOf s b h m .edit) h b) ≡ true
-decision-sound s b h m e laid known there good =
-    ap (soundB s) (applied-laid (decideOf s b h m .edit) h b laid)
-    ∙ lists-sound s (leasesOf (applied (decideOf s b h m .edit) h b)) (decided-sound s b h m (sound-lists s b e) known there good)
+pub decision-sound : (s : State) (b : LeaseTable) (q : List Release) (h : ℕ) (m : Fields) → soundB s b ≡ true → b ≡ tableOf (leasesOf b) → h < tenantsIn s → h < length (b .tenants) → GoodId m
+    → soundB s (applied (decideOf s b q h m .edit) h b) ≡ true
+decision-sound s b q h m e laid known there good =
+    ap (soundB s) (applied-laid (decideOf s b q h m .edit) h b laid)
+    ∙ lists-sound s (leasesOf (applied (decideOf s b q h m .edit) h b)) (decided-sound s b h m (sound-lists s b e) known there good q)

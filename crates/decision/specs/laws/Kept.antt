@@ -73,6 +73,12 @@ module _ (s : State) (l : Lease) (e : leaseOk s l ≡ true) where
       let p = and-parts (idB l && offsetsB s l) (leaseB s l && paddedB l) e in
       (and-parts (idB l) (offsetsB s l) (p .0) .1, and-parts (leaseB s l) (paddedB l) (p .1) .0)
 
+  pub id-rules : (idB l ≡ true) × (paddedB l ≡ true)
+  unfolding leaseOk
+  id-rules =
+      let p = and-parts (idB l && offsetsB s l) (leaseB s l && paddedB l) e in
+      (and-parts (idB l) (offsetsB s l) (p .0) .0, and-parts (leaseB s l) (paddedB l) (p .1) .1)
+
   known-scope : scopeKnown s l ≡ true
   unfolding leaseB
   known-scope = and-parts (scopeKnown s l) (kindB l && periodB (s .clock) l) (rules .1) .0
@@ -104,6 +110,20 @@ length-some m old h e = go (m .times .length .there) (m .times .length .value) e
 pub record GoodId (m : Fields) : Type 0 where
   pub long : (leb 2 (m .id .len) && leb (m .id .len) 32) ≡ true
   pub padded : zeroFrom (m .id .len) (m .id .octets) ≡ true
+
+-- ---- the lease that a tenant of a sound book holds under the message's identifier
+module _ (s : State) (b : LeaseTable) (h : ℕ) (m : Fields) (held : holdsOf (ownOf b h) m ≡ true) where
+  pub held-at : placeOf (leaseIdIn m) (ownOf b h) < length (ownOf b h)
+  unfolding holdsOf
+  held-at = ltb-true (placeOf (leaseIdIn m) (ownOf b h)) (length (ownOf b h)) held
+
+  pub held-named : idOf (recordedOf (ownOf b h) m) ≡ leaseIdIn m
+  unfolding recordedOf
+  held-named = named-at (leaseIdIn m) (ownOf b h) held-at
+
+  pub held-good : Sound s (leasesOf b) → leaseOk s (recordedOf (ownOf b h) m) ≡ true
+  unfolding recordedOf
+  held-good v = at-all (leaseOk s) zeroLease (ownOf b h) (placeOf (leaseIdIn m) (ownOf b h)) held-at (ap (allBy (leaseOk s)) (own-is b h) ∙ each-at s (leasesOf b) v h)
 
 -- ---- the leases afterwards, by the tenant's own
 module _ (s : State) (b : LeaseTable) (h : ℕ) (there : h < length (b .tenants)) where
@@ -242,13 +262,8 @@ module _ (s : State) (b : LeaseTable) (h : ℕ) (m : Fields) (v : Sound s (lease
   abbrev N : Lease
   N = leaseFrom m (renewedOf s b h m (recordedOf (ownOf b h) m))
 
-  found : placeOf (leaseIdIn m) (ownOf b h) < length (ownOf b h)
-  unfolding holdsOf
-  found = ltb-true (placeOf (leaseIdIn m) (ownOf b h)) (length (ownOf b h)) held
-
   old-good : leaseOk s O ≡ true
-  unfolding recordedOf
-  old-good = at-all (leaseOk s) zeroLease (ownOf b h) (placeOf (leaseIdIn m) (ownOf b h)) found (ap (allBy (leaseOk s)) (own-is b h) ∙ each-at s (leasesOf b) v h)
+  old-good = held-good s b h m held v
 
   N-scope : N .scope ≡ O .scope
   unfolding leaseFrom renewedOf renewedTo
@@ -328,7 +343,7 @@ module _ (s : State) (b : LeaseTable) (h : ℕ) (m : Fields) (v : Sound s (lease
       let o = own-is b h in
       back s b h there (λ x. insertOf N (removeOf (leaseIdIn m) x))
       (sound-renewed s (leasesOf b) h (leaseIdIn m) N v known (there-too s b h there) N-named
-      (subst (λ (x : List Lease). placeOf (leaseIdIn m) x < length x) o found)
+      (subst (λ (x : List Lease). placeOf (leaseIdIn m) x < length x) o (held-at s b h m held))
       (subst (λ (x : List Lease). leaseAt x (placeOf (leaseIdIn m) x) .scope ≡ N .scope) o (sym N-scope))
       (subst (λ (x : List Lease). leaseAt x (placeOf (leaseIdIn m) x) .addresses ≡ N .addresses) o (sym N-addresses))
       N-good (subst (λ (x : List Lease). allBy (compatible N) (removeOf (leaseIdIn m) x) ≡ true) o rest-compatible))
@@ -350,12 +365,10 @@ module _ (s : State) (b : LeaseTable) (h : ℕ) (m : Fields) (v : Sound s (lease
   fits-new e = ltb-true (length (ownOf b h)) 16 (and-parts (ltb (length (ownOf b h)) 16) _ (inside s (newOf s b h m) e .1) .0)
 
   fits-old : holdsOf (ownOf b h) m ≡ true → (idOf (oldFor b h m) ≡ leaseIdIn m) × (length (removeOf (idOf (oldFor b h m)) (ownOf b h)) < 16)
-  unfolding holdsOf recordedOf
   fits-old held =
-      let at = ltb-true (placeOf (leaseIdIn m) (ownOf b h)) (length (ownOf b h)) held in
-      let e : idOf (oldFor b h m) ≡ leaseIdIn m = named-at (leaseIdIn m) (ownOf b h) at in
+      let e : idOf (oldFor b h m) ≡ leaseIdIn m = held-named s b h m held in
       let oneTo : length (ownOf b h) ≤ 16 = subst (λ (x : List Lease). length x ≤ 16) (sym (own-is b h)) (few-at s (leasesOf b) v h) in
-      let fewer = removed-fewer (leaseIdIn m) (ownOf b h) at in
+      let fewer = removed-fewer (leaseIdIn m) (ownOf b h) (held-at s b h m held) in
       (e, subst (λ (i : List ℕ). length (removeOf i (ownOf b h)) < 16) (sym e) (let k : length (removeOf (leaseIdIn m) (ownOf b h)) < 16 = omega arith in k))
 
   pub decided-sound : (q : List Release) → Sound s (leasesOf (applied (decideOf s b q h m .edit) h b))

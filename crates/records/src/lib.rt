@@ -298,13 +298,20 @@ fn discard(n: u8, clock: u32, memory: Memory, records: Records) -> ServedRecords
     }
 }
 
+// Whether an edit changes anything.
 fn is_edit(e: Edit) -> bool
-    ensures { λ r. ⌜ r ≡ (e .leaves || e .enters) ⌝ }
+    ensures { λ r. ⌜ r ≡ (e .leaves || (e .enters || (e .forgets || e .remembers))) ⌝ }
 {
     if e.leaves {
         return true;
     }
-    e.enters
+    if e.enters {
+        return true;
+    }
+    if e.forgets {
+        return true;
+    }
+    e.remembers
 }
 
 // Test 3 and what follows, after the drop: the client's tenant, whose records and releases alone are edited, and only where something changes.

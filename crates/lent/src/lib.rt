@@ -91,11 +91,7 @@ pub fn serve(
     let g = *ledger;
     let all = load(leases);
     let r = records::serve(g, all, leases.len(), names, datagram, client, time, reply);
-    let s = g.state;
-    *ledger = Ledger {
-        state: s,
-        memory: r.memory,
-    };
+    ledger.memory = r.memory;
     advance(ledger, r.clock);
     store(leases, r.records);
     r.outcome

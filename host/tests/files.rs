@@ -114,6 +114,7 @@ fn longest() -> Campus {
             .collect(),
         scopes: (0..4).map(pool).collect(),
         leases: (0..128).map(lease).collect(),
+        releases: vec![],
     }
 }
 

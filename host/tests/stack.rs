@@ -32,6 +32,7 @@ fn settings(houses: u32, scopes: u32, names: usize) -> Campus {
             .collect(),
         scopes: (0..scopes).map(scope).collect(),
         leases: vec![],
+        releases: vec![],
     }
 }
 

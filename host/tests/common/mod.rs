@@ -43,6 +43,7 @@ pub fn campus_at(clock: u32, pool: Scope, leases: &[Lease]) -> Campus {
         houses: vec![(0x0A00_0100, 0x0A00_01FF), (0x0A00_0200, 0x0A00_02FF)],
         scopes: vec![pool],
         leases: leases.to_vec(),
+        releases: vec![],
     }
 }
 

@@ -4,7 +4,7 @@
 mod campus;
 mod message;
 
-pub use campus::{Campus, Lease, Name, Scope};
+pub use campus::{Campus, Lease, Name, Release, Scope};
 pub use message::*;
 
 use std::borrow::Cow;

@@ -21,6 +21,7 @@ pub fn sound(random: &mut Random) -> Campus {
         houses: client_ranges(random, house_count),
         scopes: pools(random, scope_count, house_count),
         leases: Vec::new(),
+        releases: Vec::new(),
     };
     lend(&mut campus, random);
     campus.sort();

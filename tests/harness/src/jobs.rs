@@ -160,6 +160,7 @@ fn settings() -> Campus {
             })
             .collect(),
         leases: Vec::new(),
+        releases: Vec::new(),
     }
 }
 

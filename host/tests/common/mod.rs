@@ -52,6 +52,15 @@ pub fn file_at(clock: u32, leases: &[Lease]) -> Vec<u8> {
     campus_at(clock, pool(), leases).octets()
 }
 
+/// The file of the campus with these releases, in the file's order.
+pub fn file_with(clock: u32, leases: &[Lease], releases: &[Release]) -> Vec<u8> {
+    Campus {
+        releases: releases.to_vec(),
+        ..campus_at(clock, pool(), leases)
+    }
+    .octets()
+}
+
 /// The specimens' campus before any call.
 pub fn specimen_file() -> Vec<u8> {
     file_at(CLOCK, &[])
@@ -88,6 +97,12 @@ pub fn ack(
         range(POOL + u32::from(offset), count),
         current_time(clock),
     ];
+    message(ACK, transaction, &options)
+}
+
+/// The ACK to a RELEASE: 2, 3.
+pub fn release_ack(transaction: u32, of: &[u8]) -> Vec<u8> {
+    let options = [server_identifier(SERVER), identifier(of)];
     message(ACK, transaction, &options)
 }
 

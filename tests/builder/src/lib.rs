@@ -3,6 +3,7 @@
 
 mod campus;
 mod message;
+mod read;
 
 pub use campus::{Campus, Lease, Name, Release, Scope};
 pub use message::*;

@@ -18,7 +18,7 @@ pub record Opened (b : List ℕ) (n : ℕ) (r : OwnedFile) : Type 0 where
   pub ledger : refusalIn b n ≡ 0 → r .owned .ledger ≡ ledgerIn b n
   pub leases : refusalIn b n ≡ 0 → r .owned .records .leases ≡ leasesIn b n
 
--- its names, copied to the front of another buffer: the first r octets of it
+-- its names, copied to the front of another buffer: the first r octets of it. Names longer than `largestNames` are cut there; an accepted file has none so long
 pub record Keeps (b : List ℕ) (n : ℕ) (kept : List ℕ) (r : ℕ) : Type 0 where
   pub within : r ≤ length kept
   pub front : n ≤ length b → take r kept ≡ take largestNames (namesIn b n)

@@ -17,9 +17,9 @@ use crate::form::wide;
 use crate::limits::all_few;
 use crate::limits::all_keepable;
 use crate::reader::all_releases;
-use crate::writer::put_releases;
 use crate::sizes::releases_size;
 use crate::sizes::total;
+use crate::writer::put_releases;
 use format::Place;
 use state::Memory;
 

@@ -26,6 +26,9 @@ abbrev pub LeaseInv : {B : Type 0} → (B → FileLease → B) → B → B → L
 LeaseInv g z d s from count out here i = TenantInv leaseTenant StorableAt fileLeaseAt nextAt g z d s from count out here i
 
 module _ {B : Type 0} {g : B → FileLease → B} {z d : B} {s : List ℕ} {from count : ℕ} {out : List B} {here i : ℕ} (v : LeaseInv g z d s from count out here i) where
+  pub lease-held : i < count → StorableAt s here
+  lease-held h = tenant-held v h
+
   pub tenant-inside : i < count → Inside nextAt s here
   tenant-inside h = record { room = tenant-held v h .room }
 
@@ -33,7 +36,7 @@ module _ {B : Type 0} {g : B → FileLease → B} {z d : B} {s : List ℕ} {from
   unfolding fileLeaseAt
   lease-turn j n x h ej ex en = tenant-next v j n x (λ p. p .from) h ej ex en
 
-pub ruleset tenantLoop = (tenant-held, tenant-inside)
+pub ruleset tenantLoop = (lease-held, tenant-inside)
 
 -- ---- how many a tenant has
 module _ {s : List ℕ} {from count : ℕ} {n : List ℕ} {here i : ℕ} (v : CountInv leaseTenant StorableAt fileLeaseAt nextAt s from count n here i) where

@@ -65,6 +65,9 @@ module _ (s : List ℕ) (at n : ℕ) (a : at ≤ length s) (two : 2 ≤ length s
 
 pub ruleset releaseEnds = (release-cut, release-short, release-there)
 
+pub time-is : (s : List ℕ) (at n r : ℕ) → n ≡ getD s (at + 1) 0 → r ≡ at32 s (at + (n + 6)) → r ≡ at32 s (at + (getD s (at + 1) 0 + 6))
+time-is s at n r e p = p ∙ ap (λ (x : ℕ). at32 s (at + (x + 6))) e
+
 -- ---- the loop over the releases, with the tenant and the time of the one before
 abbrev pub ReleasesInv : List ℕ → ℕ → ℕ → ℕ → ℕ → ℕ → ℕ → Type 0
 ReleasesInv s from count here i tenant time = SectionInv releaseKey releaseAfter releaseFormat fileReleaseAt afterRelease s (0, 0) from count here i (tenant, time)

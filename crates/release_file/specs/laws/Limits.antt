@@ -58,6 +58,9 @@ pub ruleset sectionFits = (releases-in, releases-kept, fits-yes, fits-not)
 
 -- ---- a value for each tenant
 module _ {B : Type 0} {g : B → FileRelease → B} {z d : B} {s : List ℕ} {from count : ℕ} {out : List B} {here i : ℕ} (v : TenantInv tenantOf KeepableAt fileReleaseAt afterRelease g z d s from count out here i) where
+  pub release-held : i < count → KeepableAt s here
+  release-held h = tenant-held v h
+
   pub release-inside : i < count → Inside afterRelease s here
   release-inside h = record { room = tenant-held v h .room }
 
@@ -66,7 +69,7 @@ module _ {B : Type 0} {g : B → FileRelease → B} {z d : B} {s : List ℕ} {fr
   unfolding fileReleaseAt
   release-turn j n x h ej ex en = tenant-next v j n x (λ p. p .from) h ej ex en
 
-pub ruleset tenantLoop = (tenant-held, release-inside)
+pub ruleset tenantLoop = (release-held, release-inside)
 
 -- how many each has
 abbrev pub TallyInv : List ℕ → ℕ → ℕ → List ℕ → ℕ → ℕ → Type 0

@@ -17,12 +17,14 @@ use Rattle.lists.specs.laws.Sums.{sum-same}
 use Rattle.lists.specs.Sums.{sumTo}
 use Rattle.octets.specs.laws.Octets.{wrote-joined, wrote-whole, wrote-as}
 use Rattle.octets.specs.Octets.{Wrote, octets32}
-use Rattle.releases.specs.Whole.{bookB, namesGood}
+use Rattle.release_file.specs.Section.{memoryOctets}
+use Rattle.releases.specs.Whole.{bookB, memoryGood, namesGood}
 use Rattle.soundness.specs.Sound.{soundB}
 use Rattle.state.specs.Book.{Book, inUse, leasesOf, noLeases, rangesOf, scopesOf}
 use Rattle.state.specs.declared.ClientRange.{ClientRange}
 use Rattle.state.specs.declared.Lease.{Lease}
 use Rattle.state.specs.declared.LeaseTable.{LeaseTable}
+use Rattle.state.specs.declared.Memory.{Memory}
 use Rattle.state.specs.declared.Scope.{Scope}
 use Rattle.state.specs.declared.State.{State}
 use Rattle.state.specs.declared.TenantLeases.{TenantLeases}
@@ -168,8 +170,9 @@ unfolding writeFrom writeAll rangeRow
 ranges-octets k [] = refl
 ranges-octets k (r ∷ l) = ap (λ (x : List ℕ). tenantFormat .write r ++ x) (ranges-octets (suc k) l)
 
-five : (a b c d e : List ℕ) → a ++ (b ++ (c ++ (d ++ e))) ≡ (((a ++ b) ++ c) ++ d) ++ e
-five a b c d e = sym (append-assoc ((a ++ b) ++ c) d e ∙ append-assoc (a ++ b) c (d ++ e) ∙ append-assoc a b (c ++ (d ++ e)))
+six : (a b c d e f : List ℕ) → a ++ (b ++ (c ++ (d ++ (e ++ f)))) ≡ ((((a ++ b) ++ c) ++ d) ++ e) ++ f
+six a b c d e f =
+    sym (append-assoc (((a ++ b) ++ c) ++ d) e f ∙ append-assoc ((a ++ b) ++ c) d (e ++ f) ∙ append-assoc (a ++ b) c (d ++ (e ++ f)) ∙ append-assoc a b (c ++ (d ++ (e ++ f))))
 
 -- ---- the sections before the names
 pub sections-length : (s : State) (b : LeaseTable) → length (sectionOctets s b) ≡ 12 + length (fileRangeOctets s) + length (fileScopeOctets s) + length (tableOctets b)
@@ -194,37 +197,57 @@ size-is s b h x y r l p q w z =
     (omega arith, omega arith)
 
 -- ---- the whole file
-module _ (s : State) (b : LeaseTable) (names : List ℕ) (e : length (b .tenants) ≡ 8) where
-  file-octets : octetsOf (record { state = s; table = b; names = names }) ≡ sectionOctets s b ++ names
-  unfolding octetsOf filedBook sectionOctets
+module _ (s : State) (b : LeaseTable) (m : Memory) (names : List ℕ) (e : length (b .tenants) ≡ 8) where
+  file-octets : octetsOf (record { state = s; table = b; memory = m; names = names }) ≡ (sectionOctets s b ++ names) ++ memoryOctets m
+  unfolding octetsOf filedBook sectionOctets memoryOctets
   file-octets =
       ap₂ {C = List ℕ} (λ (x y : List ℕ). server ++ ((length (rangesOf s) ∷ x) ++ y)) (ranges-octets 0 (rangesOf s))
       (ap₂ {C = List ℕ} (λ (x y : List ℕ). x ++ y)
       (ap₂ {C = List ℕ} (λ (n : ℕ) (x : List ℕ). n ∷ x) (length-map (scopesOf s) (filedScope (s .«tenant_count»))) (scopes-octets (length (rangesOf s)) (s .«tenant_count») 0 (scopesOf s)))
-      (ap₂ {C = List ℕ} (λ (n : ℕ) (x : List ℕ). (n ∷ x) ++ names) (lease-total b e) (table-octets (b .tenants))))
-      ∙ five server (length (rangesOf s) ∷ fileRangeOctets s) (length (scopesOf s) ∷ fileScopeOctets s) (leaseTotal b ∷ tableOctets b) names
+      (ap₂ {C = List ℕ} (λ (n : ℕ) (x : List ℕ). (n ∷ x) ++ (names ++ memoryOctets m)) (lease-total b e) (table-octets (b .tenants))))
+      ∙ six server (length (rangesOf s) ∷ fileRangeOctets s) (length (scopesOf s) ∷ fileScopeOctets s) (leaseTotal b ∷ tableOctets b) names (memoryOctets m)
     where
       server : List ℕ
       server = 1 ∷ octets32 (s .server) ++ octets32 (s .clock)
 
-  pub file-length : length (octetsOf (record { state = s; table = b; names = names })) ≡ length (sectionOctets s b) + length names
-  file-length = ap length file-octets ∙ length-append (sectionOctets s b) names
+  pub file-length : length (octetsOf (record { state = s; table = b; memory = m; names = names })) ≡ length (sectionOctets s b) + length names + length (memoryOctets m)
+  file-length = ap length file-octets ∙ length-append (sectionOctets s b ++ names) (memoryOctets m) ∙ ap (λ (k : ℕ). k + length (memoryOctets m)) (length-append (sectionOctets s b) names)
 
-  pub file-sum : (n : ℕ) → n ≡ length (sectionOctets s b) → n + length names ≡ length (octetsOf (record { state = s; table = b; names = names }))
-  file-sum n p = ap (λ (k : ℕ). k + length names) p ∙ sym file-length
+  pub file-sum : (n k : ℕ) → n ≡ length (sectionOctets s b) → k ≡ length (memoryOctets m) → n + length names + k ≡ length (octetsOf (record { state = s; table = b; memory = m; names = names }))
+  file-sum n k p q = ap₂ (λ (x y : ℕ). x + length names + y) p q ∙ sym file-length
 
-  pub file-wrote : {r₀ r₁ r₂ : List ℕ} {a c n : ℕ} → Wrote r₀ 0 (sectionOctets s b) r₁ a → n ≡ length names → Wrote r₁ a (take n names) r₂ c → Wrote r₀ 0 (octetsOf (record { state = s; table = b; names = names })) r₂ c
-  file-wrote {n = n} p l q = wrote-as (sym file-octets) (wrote-joined (omega arith) p (wrote-as (take-all n names (omega arith)) q))
+  -- the room that is left for what is remembered
+  pub file-rest : {r₀ r₁ r₂ : List ℕ} {a c n : ℕ} → length (octetsOf (record { state = s; table = b; memory = m; names = names })) ≤ length r₀ → Wrote r₀ 0 (sectionOctets s b) r₁ a
+      → n ≡ length names → Wrote r₁ a (take n names) r₂ c → length r₂ ≡ length r₀ → c + length (memoryOctets m) ≤ length r₂
+  file-rest {n = n} h p l q e =
+      let f = file-length in
+      let x = p .next in
+      let y = q .next in
+      let z = ap length (take-all n names (omega arith)) in
+      omega arith
+
+  pub file-wrote : {r₀ r₁ r₂ r₃ : List ℕ} {a c d n : ℕ} → Wrote r₀ 0 (sectionOctets s b) r₁ a → n ≡ length names → Wrote r₁ a (take n names) r₂ c → Wrote r₂ c (memoryOctets m) r₃ d
+      → Wrote r₀ 0 (octetsOf (record { state = s; table = b; memory = m; names = names })) r₃ d
+  file-wrote {n = n} p l q w = wrote-as (sym file-octets) (wrote-joined (omega arith) (wrote-joined (omega arith) p (wrote-as (take-all n names (omega arith)) q)) w)
 
 -- ---- the answers
 module _ (b : Book) (q : Bool) (e : q ≡ soundB (b .state) (b .table)) where
-  pub book-yes : (r : Bool) → q ≡ true → r ≡ namesGood b → r ≡ bookB b
+  sound-tested : (c : Bool) → q ≡ c → (c && (memoryGood b && namesGood b)) ≡ bookB b
   unfolding bookB
-  book-yes r t p = p ∙ ap (λ (x : Bool). x && namesGood b) (sym t ∙ e)
+  sound-tested c t = ap (λ (x : Bool). x && (memoryGood b && namesGood b)) (sym t ∙ e)
 
   pub book-not : q ≡ false → false ≡ bookB b
-  unfolding bookB
-  book-not t = ap (λ (x : Bool). x && namesGood b) (sym t ∙ e)
+  book-not t = sound-tested false t
+
+  module _ (w : Bool) (f : w ≡ memoryGood b) (t : q ≡ true) where
+    memory-tested : (c : Bool) → w ≡ c → (c && namesGood b) ≡ bookB b
+    memory-tested c u = ap (λ (x : Bool). x && namesGood b) (sym u ∙ f) ∙ sound-tested true t
+
+    pub book-memory : w ≡ false → false ≡ bookB b
+    book-memory u = memory-tested false u
+
+    pub book-yes : (r : Bool) → w ≡ true → r ≡ namesGood b → r ≡ bookB b
+    book-yes r u p = p ∙ memory-tested true u
 
 module _ (b : Book) (q : Bool) (e : q ≡ bookB b) where
   pub write-unsound : (room : List ℕ) → q ≡ false → (_≡_ {A = Written} (record { refusal = 22; length = 0 }) (writtenOf b (length room))) × (room ≡ roomAfter b room)

@@ -10,6 +10,8 @@ use borrow.Author.Tests.{ltb-false}
 use Rattle.lists.specs.All.{All, allBy}
 use Rattle.lists.specs.laws.All.{all-facts, two-facts}
 use Rattle.lists.specs.laws.Pick.{both, neither}
+use Rattle.release_file.specs.Section.{FileRelease, filedMemory, storedMemory}
+use Rattle.release_file.specs.laws.Memory.{memory-again}
 use Rattle.state.specs.Book.{leasesOf, rangesOf, scopesOf, zeroScope}
 use Rattle.state.specs.laws.Layout.{table-back}
 use Rattle.state.specs.declared.ClientRange.{ClientRange}
@@ -73,7 +75,11 @@ scopes-again n (c ∷ l) h = ap₂ {C = List FileScope} (λ (x : FileScope) (r :
 module _ (f : File) (h : fileFormat .ok f) (e : fitsB f ≡ true) where
   leases-fit : allBy storableB (f .leases) ≡ true
   unfolding fitsB leasesFitB
-  leases-fit = both _ _ (both _ _ e .1) .0
+  leases-fit = both _ _ (both _ _ (both _ _ e .1) .0) .0
+
+  releases-filed : filedMemory (storedMemory (f .releases)) ≡ f .releases
+  unfolding fitsB
+  releases-filed = memory-again (f .releases) (h .1 .1 .1 .1 .1 .1) (both _ _ (both _ _ e .1) .1)
 
   leases-facts : All Fits (f .leases)
   leases-facts = all-facts storableB Fits (f .leases) fits-of leases-fit
@@ -97,9 +103,11 @@ module _ (f : File) (h : fileFormat .ok f) (e : fitsB f ≡ true) where
       ap (map (filedScope (length (f .tenants)))) (ap (λ (k : ℕ). take k (filled zeroScope 4 (map storedScope (f .scopes)))) (sym (length-map (f .scopes) storedScope)) ∙ filled-take zeroScope 4 (map storedScope (f .scopes)))
       ∙ scopes-again (length (f .tenants)) (f .scopes) (h .1 .1 .0 .1)
 
-  pub book-again : filedBook (record { state = storedState f; table = storedTable f; names = f .names }) ≡ f
+  pub book-again : filedBook (record { state = storedState f; table = storedTable f; memory = storedMemory (f .releases); names = f .names }) ≡ f
   unfolding filedBook storedState
-  book-again = ap₂ (λ (ts : List ClientRange) (cs : List FileScope). make ts cs (filedFrom 1 (leasesOf (storedTable f)))) ranges-filed scopes-filed ∙ ap (make (f .tenants) (f .scopes)) leases-filed
+  book-again =
+      ap₂ (λ (ts : List ClientRange) (cs : List FileScope). make ts cs (filedFrom 1 (leasesOf (storedTable f))) (filedMemory (storedMemory (f .releases)))) ranges-filed scopes-filed
+      ∙ ap₂ (make (f .tenants) (f .scopes)) leases-filed releases-filed
     where
-      make : List ClientRange → List FileScope → List FileLease → File
-      make ts cs ls = record { server = f .server; clock = f .clock; tenants = ts; scopes = cs; leases = ls; names = f .names }
+      make : List ClientRange → List FileScope → List FileLease → List FileRelease → File
+      make ts cs ls rs = record { server = f .server; clock = f .clock; tenants = ts; scopes = cs; leases = ls; names = f .names; releases = rs }

@@ -21,16 +21,21 @@ use Rattle.lists.specs.laws.Both.{and-parts}
 use Rattle.lists.specs.Pick.{pick}
 use Rattle.names.specs.Names.{Name, namesB, namesFormat}
 use Rattle.names.specs.laws.Names.{names-lawful}
+use Rattle.release_file.specs.Section.{filedMemory, releasesFitB, storedMemory}
+use Rattle.releases.specs.Rules.{memoryB}
 use Rattle.soundness.specs.laws.Book.{AllRules, rules-of}
 use Rattle.soundness.specs.Sound.{blankB, countsB, oneTo, idB, layoutB, paddedB, rangeZero, recordsB, rule1, rule19, rulesOf, scopeZero, settingsB, sizeB, soundB, tailB, unusedB, zeroFrom}
 use Rattle.state.specs.Book.{byIdentifier, idOf, inUse, laidOut, leaseWith, leasesOf, ordered, rangesOf, scopesOf, tableOf, zeroLease, zeroScope}
 use Rattle.state.specs.declared.ClientRange.{ClientRange}
 use Rattle.state.specs.declared.Lease.{Lease}
 use Rattle.state.specs.declared.LeaseTable.{LeaseTable}
+use Rattle.state.specs.declared.Memory.{Memory}
 use Rattle.state.specs.declared.Scope.{Scope}
 use Rattle.state.specs.declared.State.{State}
 use Rattle.state.specs.declared.TenantLeases.{TenantLeases}
+use Rattle.state_file.proofs.Remembered.{memory-held, memory-same, memory-written}
 use Rattle.state_file.proofs.RowLaws.{pair-length}
+use Rattle.state_file.proofs.Zeros.{zero-tail, zero-whole}
 use Rattle.state_file.specs.File.{File, FileLease, fileFormat, isAfter, leaseFormat, partFormat, scopeFormat, tenantFormat}
 use Rattle.state_file.specs.laws.Records.{Neat, filled-back}
 use Rattle.state_file.specs.Records.{countsFit, fewOf, filedLease, filedBook, filedFrom, filedScope, filled, fitsB, isOffset, leasesFitB, ofTenant, pairUp, storableB, stored, storedScope, storedState, storedTable, tenantsFrom, zeroRange}
@@ -44,20 +49,6 @@ all-weak m n [] h a = tt
 all-weak m n (x ∷ l) h a = (let g = a .0 in omega arith, all-weak m n l h (a .1))
 
 -- ---- what is unused is zero
-zeros-are : (l : List ℕ) → allBy (λ x. eqb x 0) l ≡ true → l ≡ replicate (length l) 0
-zeros-are [] e = refl
-zeros-are (x ∷ l) e =
-    let p = all-head (λ x. eqb x 0) x l e in
-    ap₂ {C = List ℕ} (λ (y : ℕ) (r : List ℕ). y ∷ r) (eqb-true x 0 (p .0)) (zeros-are l (p .1))
-
-zero-tail : (n k : ℕ) (l : List ℕ) → length l ≡ k → zeroFrom n l ≡ true → drop n l ≡ replicate (k - n) 0
-unfolding zeroFrom
-zero-tail n k l e h = zeros-are (drop n l) h ∙ ap (λ (j : ℕ). replicate j 0) (length-drop n l ∙ ap (λ (j : ℕ). j - n) e)
-
-zero-whole : (k : ℕ) (l : List ℕ) → length l ≡ k → zeroFrom 0 l ≡ true → l ≡ replicate k 0
-unfolding zeroFrom
-zero-whole k l e h = zeros-are l h ∙ ap (λ (j : ℕ). replicate j 0) e
-
 range-zero : (r : ClientRange) → rangeZero r ≡ true → r ≡ zeroRange
 unfolding rangeZero
 range-zero r e =
@@ -387,9 +378,9 @@ names-ok k h m n names ek eh o e = subst (λ (x : ℕ). verbatim (namesFormat x 
     go bad p w = let z : _≡_ {A = ℕ} 0 1 = cc in absurd (omega arith)
 
 -- ---- the book
-module _ (s : State) (b : LeaseTable) (v : Typed s b) (e : soundB s b ≡ true) (names : List ℕ) where
+module _ (s : State) (b : LeaseTable) (m : Memory) (v : Typed s b m) (e : soundB s b ≡ true) (w : memoryB s b m ≡ true) (names : List ℕ) where
   abbrev filed : File
-  filed = filedBook (record { state = s; table = b; names = names })
+  filed = filedBook (record { state = s; table = b; memory = m; names = names })
 
   rules : AllRules (rulesOf s b)
   rules = rules-of s b e
@@ -437,7 +428,7 @@ module _ (s : State) (b : LeaseTable) (v : Typed s b) (e : soundB s b ≡ true) 
   unfolding filedBook
   book-ok o good-names =
       let t = leases-total in
-      let n = tenants-few in let m = scopes-few in
+      let n = tenants-few in let k = scopes-few in
       let a = ranges-many in let c = scopes-many in
       let d = length-map (scopesOf s) (filedScope (s .«tenant_count»)) in (
         (v .server, v .clock),
@@ -447,7 +438,7 @@ module _ (s : State) (b : LeaseTable) (v : Typed s b) (e : soundB s b ≡ true) 
             (let g : length (map (filedScope (s .«tenant_count»)) (scopesOf s)) < 256 = omega arith in g, scopes-ok),
             (
               ((let g : length (filedFrom 1 (leasesOf b)) < 256 = omega arith in g, leases-ok 1 (b .tenants) (omega (arith, v .tenants)) good), leases-ordered 0 1 [] (b .tenants) (omega arith) good),
-              names-ok (s .«scope_count») (s .«tenant_count») _ _ names (sym (d ∙ c)) (sym a) o good-names,
+              (names-ok (s .«scope_count») (s .«tenant_count») _ _ names (sym (d ∙ c)) (sym a) o good-names, memory-written s b m w (v .memory) (v .releases)),
             ),
           ),
         ),
@@ -479,12 +470,15 @@ module _ (s : State) (b : LeaseTable) (v : Typed s b) (e : soundB s b ≡ true) 
   pub book-fits : fitsB (filed) ≡ true
   unfolding fitsB filedBook leasesFitB countsFit
   book-fits =
-      let n = tenants-few in let m = scopes-few in
+      let n = tenants-few in let k = scopes-few in
       let a = ranges-many in let c = scopes-many in
       let d = length-map (scopesOf s) (filedScope (s .«tenant_count»)) in
-      ap (λ (x : Bool). pick x (leasesFitB (filedFrom 1 (leasesOf b))) false) (passes _ _ (le-ltb 8 (length (rangesOf s)) (omega arith)) (le-leb (length (map (filedScope (s .«tenant_count»)) (scopesOf s))) 4 (omega arith)))
-      ∙ picked _ _ (ap (λ (x : Bool). pick x (allTo (λ i. fewOf (filedFrom 1 (leasesOf b)) (i + 1)) 8) false) (leases-storable 1 (b .tenants) (omega arith) (omega (arith, v .tenants)) good)
+      ap (λ (x : Bool). pick x (pick (leasesFitB (filedFrom 1 (leasesOf b))) (releasesFitB (filedMemory m)) false) false)
+      (passes _ _ (le-ltb 8 (length (rangesOf s)) (omega arith)) (le-leb (length (map (filedScope (s .«tenant_count»)) (scopesOf s))) 4 (omega arith)))
+      ∙ picked _ _ (ap (λ (x : Bool). pick x (releasesFitB (filedMemory m)) false)
+      (ap (λ (x : Bool). pick x (allTo (λ i. fewOf (filedFrom 1 (leasesOf b)) (i + 1)) 8) false) (leases-storable 1 (b .tenants) (omega arith) (omega (arith, v .tenants)) good)
       ∙ every-few)
+      ∙ picked _ _ (memory-held s b m w (v .memory) (v .releases)))
     where
       every-few : pick true (allTo (λ i. fewOf (filedFrom 1 (leasesOf b)) (i + 1)) 8) false ≡ true
       every-few = picked _ _ (each-to (λ i. fewOf (filedFrom 1 (leasesOf b)) (i + 1)) 8 tenant-few)
@@ -493,6 +487,10 @@ module _ (s : State) (b : LeaseTable) (v : Typed s b) (e : soundB s b ≡ true) 
   pub table-same : storedTable (filed) ≡ b
   unfolding storedTable filedBook tableOf
   table-same = ap {B = LeaseTable} (λ (l : List TenantLeases). record { tenants = l }) (ap (map laidOut) leases-same ∙ leases-laid (b .tenants) good)
+
+  pub releases-same : storedMemory (filed .releases) ≡ m
+  unfolding filedBook
+  releases-same = memory-same s b m w (v .memory) (v .releases)
 
   cut-tenants : min (s .«tenant_count») 8 ≡ s .«tenant_count»
   cut-tenants = let n = tenants-few in omega arith

@@ -29,14 +29,14 @@ module _ {B : Type 0} {g : B → FileLease → B} {z d : B} {s : List ℕ} {from
   pub lease-held : i < count → StorableAt s here
   lease-held h = tenant-held v h
 
-  pub lease-inside : i < count → Inside nextAt s here
-  lease-inside h = record { room = lease-held h .room }
+  pub tenant-inside : i < count → Inside nextAt s here
+  tenant-inside h = record { room = tenant-held v h .room }
 
   lease-turn : (j n : ℕ) (x : B) → i < count → j ≡ getD s here 0 - 1 → x ≡ g (getD out j d) (fileLeaseAt s here) → n ≡ nextAt s here → LeaseInv g z d s from count (set out j x) n (i + 1)
   unfolding fileLeaseAt
   lease-turn j n x h ej ex en = tenant-next v j n x (λ p. p .from) h ej ex en
 
-pub ruleset tenantLoop = (lease-held, lease-inside)
+pub ruleset tenantLoop = (lease-held, tenant-inside)
 
 -- ---- how many a tenant has
 module _ {s : List ℕ} {from count : ℕ} {n : List ℕ} {here i : ℕ} (v : CountInv leaseTenant StorableAt fileLeaseAt nextAt s from count n here i) where

@@ -19,7 +19,7 @@ use Rattle.decision.specs.declared.Decided.{Decided}
 use Rattle.decision.specs.declared.Reply.the-variants.{Offer, LeaseAck, ReleaseAck, InfoAck}
 use Rattle.decision.specs.Parts.{hasPeriod, ownOf, holdsOf, recordedOf, resends, releasedAgain, error1Of, error2Of, error3Of, proposalOf, error0Of, leaseFrom, withLease, plainReply, refusalOf}
 
--- a verdict with an edit, and one that leaves the leases as they are
+-- a verdict with an edit, and one that leaves leases and releases as they are
 abbrev pub changed : Edit → Verdict → Decided
 changed e v = record { verdict = v; edit = e }
 

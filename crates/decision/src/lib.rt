@@ -1,4 +1,4 @@
-// The decision after tests 1 to 7: Resend, errors 1, 2, 3, 0 and what the message asks for, with what it does to the tenant's leases and to what
+// The decision after tests 1 to 7: Resend, a RELEASE sent again, errors 1, 2, 3, 0 and what the message asks for, with what it does to the tenant's leases and to what
 // is remembered of it.
 mod numbers;
 mod proposals;

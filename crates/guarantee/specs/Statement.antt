@@ -158,11 +158,11 @@ pub record Granted (b : Book) (c : Call) (a : Answer) : Type 0 where
   pub names : addressesIn (a .reply) ≡ map (λ o. scopeFor b c .lowest + o) (offsets (grantFor b c .addresses))
   -- "the book afterwards has every other live lease unchanged": settings and clock, the other tenants' leases
   pub state : a .book .state ≡ stateAt b c
+  pub others : (g : ℕ) → (g ≡ tenantFor b c → ⊥) → ownOf (a .book .table) g ≡ ownOf (tableAt b c) g
   -- and the names for the scopes (document 02, W-201)
   pub titles : a .book .names ≡ b .names
-  -- "A new lease on the identifier forgets it" (document 02, W-202): no other release is forgotten, and none is remembered
+  -- "A new lease on the identifier forgets it" (document 02, W-202): no other release is forgotten, and no new one is remembered
   pub forgets : a .book .memory ≡ putReleases (b .memory) (tenantFor b c) (laidReleases (forgetOf (idOf (leaseFor b c)) (releasesFor b c)))
-  pub others : (g : ℕ) → (g ≡ tenantFor b c → ⊥) → ownOf (a .book .table) g ≡ ownOf (tableAt b c) g
   -- "and the lease that REQUEST records": it now stands among the tenant's own
   pub own : ownOf (a .book .table) (tenantFor b c) ≡ insertOf (leaseFor b c) (ownFor b c)
   -- and without it they are as they were

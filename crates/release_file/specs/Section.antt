@@ -21,7 +21,7 @@ pub record FileRelease : Type 0 where
   pub xid : ℕ
   pub time : ℕ
 
--- what of a release the next is compared with, and whether one is out of order after that: "by house, oldest first"
+-- what of a release the next is compared with, and whether one is out of order after that: "by house, oldest first"; equal times are fine
 abbrev pub releaseKey : FileRelease → ℕ × ℕ
 releaseKey x = (x .tenant, x .time)
 

@@ -45,7 +45,8 @@ onceB ls q = pairsBy differs (remembered q) && allBy (notLeased ls) (remembered 
 unfoldable pub pastB : ℕ → Release → Bool
 pastB clock r = leb (r .time) clock
 
--- ---- 19. "oldest first"; what is unused is zero
+-- ---- 19. "oldest first", where equal times stand in the order of release; and, as document 01 has it of records, what is unused is zero: octets past an
+-- identifier's length, entries past the count
 unfoldable pub older : Release → Release → Bool
 older a b = leb (a .time) (b .time)
 

@@ -55,13 +55,13 @@ rememberOf r q = drop (length (q ++ r ∷ []) - 4) (q ++ r ∷ [])
 unfoldable pub forgetOf : List ℕ → List Release → List Release
 forgetOf i q = filterBy (λ r. not (sameOf (releaseId r) i)) q
 
--- one tenant's
+-- what is remembered of one tenant; no edit does both
 unfoldable pub notedIn : Edit → TenantReleases → TenantReleases
 notedIn e q =
     pick (e .remembers) (laidReleases (rememberOf (e .release) (remembered q)))
     (pick (e .forgets) (laidReleases (forgetOf (idOf (e .new)) (remembered q))) q)
 
--- with those of the tenant at place h: the only way in which a call changes them
+-- the memory, with the entries of the tenant at place h so changed: the only way in which a call changes it
 unfoldable pub noted : Edit → ℕ → Memory → Memory
 noted e h m = putReleases m h (notedIn e (releasesAt m h))
 

@@ -95,7 +95,7 @@ ofSections p = record { server = p .0 .0; clock = p .0 .1; tenants = p .1 .0; sc
 abbrev pub toSections : File → Sections
 toSections f = ((f .server, f .clock), (f .tenants, (f .scopes, (f .leases, (f .names, f .releases)))))
 
--- after the scopes and the tenants: leases; document 02: "a last section, its count that of the scopes", with names for as many tenants; then the releases
+-- after the scopes and the tenants: leases; document 02's names, "its count that of the scopes", for as many tenants; and its releases, "a last section"
 abbrev pub lastFormat : List FileScope → List ClientRange → Format (List FileLease × (List ℕ × List FileRelease))
 lastFormat cs ts = leasesFormat ⊗ verbatim (namesFormat (length cs) (length ts)) ⊗ releasesFormat
 

@@ -24,9 +24,6 @@ abbrev pub memoryRows : Memory → List ℕ
 memoryRows m = writeFrom tenantRow 0 (m .releases)
 
 -- what an element is past the end of an array
-abbrev pub noRelease : Release
-noRelease = record { «id_len» = 0; id = []; xid = 0; time = 0 }
-
 abbrev pub noReleases : TenantReleases
 noReleases = record { releases = []; count = 0 }
 

@@ -1,6 +1,5 @@
 // The memory of a section whose form is right and that it can hold, tenant by tenant.
 ghost use mathlib.Core.Path.{_≡_};
-ghost use Prim.Native.Nat.{_+_};
 ghost use Rattle.release_file.specs.Place.{AllKeepable, KeepableAt, fileReleaseAt, keptAll, pushedRelease, releasesFrom};
 ghost use Rattle.release_file.specs.Section.{storedRelease};
 use crate::form::time_at;

@@ -17,7 +17,7 @@ use Rattle.format.specs.laws.Place.{as-nowhere, as-there, counted-none, fails-f
 use Rattle.format.specs.laws.Section.{SectionInv, entry-in, entry-is, section-broken, section-done, section-is, section-next, section-row, section-start, section-wrong}
 use Rattle.octets.specs.Octets.{at32}
 use Rattle.release_file.specs.Place.{ReleaseEnds, ReleaseSection, ReleasesEnd, ReleasesIn, afterRelease, fileReleaseAt}
-use Rattle.release_file.specs.Section.{FileRelease, releaseAfter, releaseFormat, releaseKey}
+use Rattle.release_file.specs.Section.{releaseAfter, releaseFormat, releaseKey}
 
 none : {s : List ℕ} {at : ℕ} → Fails (octet ⊗ counted octet ⊗ number ⊗ number) s at → ReleaseEnds s at Nowhere
 unfolding IsAt

@@ -19,9 +19,6 @@ use Rattle.release_file.specs.Place.{AllKeepable, KeepableAt, ReleasesIn
 use Rattle.release_file.specs.Section.{FileRelease, fewFor, keepableB, releasesFitB, tenantOf}
 
 -- ---- one release
-pub next-at : (s : List ℕ) (at n : ℕ) → n ≡ getD s (at + 1) 0 → at + (n + 10) ≡ afterRelease s at
-next-at s at n e = ap (λ (x : ℕ). at + (x + 10)) e
-
 pub limit-id : {s : List ℕ} {at n : ℕ} → Inside afterRelease s at → n ≡ getD s (at + 1) 0 → leb n 32 ≡ leb (length (take (getD s (at + 1) 0) (drop (at + 2) s))) 32
 limit-id {s} {at} v e = ap (λ (x : ℕ). leb x 32) (e ∙ sym (part-length s (at + 2) (getD s (at + 1) 0) (omega (arith, v .room))))
 

@@ -25,9 +25,6 @@ use Rattle.state.specs.declared.TenantReleases.{TenantReleases}
 
 -- ---- one release
 module _ {s : List ℕ} {at n : ℕ} (en : n ≡ getD s (at + 1) 0) (v : KeepableAt s at) where
-  pub release-room : (n ≤ 32) × (at + (n + 10) ≤ length s)
-  release-room = (omega (arith, v .ids), omega (arith, v .room))
-
   pub release-stored : (id : List ℕ) (x t : ℕ) → id ≡ laidRow 0 32 (take n (drop (at + 2) s)) → x ≡ at32 s (at + (n + 2)) → t ≡ at32 s (at + (getD s (at + 1) 0 + 6))
       → _≡_ {A = Release} (record { «id_len» = getD s (at + 1) 0; id = id; xid = x; time = t }) (storedRelease (fileReleaseAt s at))
   unfolding storedRelease fileReleaseAt

@@ -1,18 +1,17 @@
 -- Laws: a section read and written again, and a memory written and read again: each gives the other back. What is written has the section's format, and a
 -- memory can hold it.
 use mathlib.Core.Bool.{Bool, _&&_, _||_, false, true}
-use mathlib.Core.List.{List, [], _∷_, map, map-map}
-use mathlib.Core.Path.{_∙_, _≡_, ap, ap₂, refl, subst, sym}
+use mathlib.Core.List.{List, [], _∷_, map}
+use mathlib.Core.Path.{_∙_, _≡_, ap, ap₂, refl, sym}
 use Prim.Native.Nat.{_*_, _+_, _-_, _<_, _≤_, suc, zero, ℕ}
-use native.Mathlib.Nat.{mul-le-mul}
 use native.Mathlib.Omega.{arith}
 use lib.Dec.{eqb, leb, ltb}
 use lib.ListN.{drop, getD, length, length-map, length-take, replicate, take}
 use lib.Seq.{length-take-le}
-use borrow.Author.Tests.{eq-eqb, le-leb, le-ltb, leb-true, lt-ltb, ltb-false, ltb-true, ne-eqb}
+use borrow.Author.Tests.{eq-eqb, le-leb, le-ltb, leb-true, ltb-false, ne-eqb}
 use Rattle.format.specs.Section.{orderedFrom}
 use Rattle.format.specs.Tenants.{apart, filedAll, own}
-use Rattle.format.specs.laws.Rows.{octets-many, write-most}
+use Rattle.format.specs.laws.Rows.{write-most}
 use Rattle.format.specs.laws.Tenants.{Sorted, apart-at, entries-again, entries-back, filed-each, filed-most, filed-ordered, sorted-up}
 use Rattle.lists.specs.All.{All, allBy, allTo, pairsBy}
 use Rattle.lists.specs.Pick.{pick}
@@ -22,7 +21,7 @@ use Rattle.lists.specs.laws.Pick.{both, neither}
 use Rattle.lists.specs.laws.Row.{row-back, row-fill}
 use Rattle.release_file.specs.Section.{FileRelease, fewFor, filedMemory, filedRelease, keepableB, memoryOctets, releaseAfter, releaseFormat, releaseKey, releasesFitB, releasesFormat, storedMemory, storedRelease, tenantOf}
 use Rattle.release_file.specs.laws.Rows.{release-size}
-use Rattle.state.specs.Book.{laidReleases, releaseId, remembered, zeroRelease}
+use Rattle.state.specs.Book.{laidReleases, remembered, zeroRelease}
 use Rattle.state.specs.declared.Memory.{Memory}
 use Rattle.state.specs.declared.Release.{Release}
 use Rattle.state.specs.declared.TenantReleases.{TenantReleases}

@@ -1,26 +1,29 @@
 -- Laws: writing: the octets of a release piece by piece, of a tenant's and of all releases, and how many there are.
 use mathlib.Core.List.{List, [], _++_, _∷_, append-assoc}
-use mathlib.Core.Path.{_∙_, _≡_, ap, ap₂, refl, subst, sym}
-use Prim.Native.Nat.{_*_, _+_, _<_, _≤_, min, ℕ}
+use mathlib.Core.Path.{_∙_, _≡_, ap, ap₂, refl, sym}
+use Prim.Native.Nat.{_+_, _<_, _≤_, min, ℕ}
 use native.Mathlib.Omega.{arith}
 use lib.ListN.{getD, length, length-append, take}
 use lib.Seq.{take-all}
-use Rattle.format.specs.Format.{writeAll}
 use Rattle.format.specs.Rows.{writeFrom}
 use Rattle.format.specs.laws.Format.{plain}
-use Rattle.format.specs.laws.Rows.{RowInv, SizeInv, count-is, row-next, row-room, row-same, row-sum, rows, section-wrote, size-end, tenants-octets}
+use Rattle.format.specs.laws.Rows.{RowInv, count-is, row-next, row-room, row-same, row-sum, rows, section-wrote, tenants-octets}
 use Rattle.format.specs.laws.Tenants.{filed-sum}
 use Rattle.lists.specs.Sums.{sumTo}
 use Rattle.lists.specs.laws.Part.{cut-take}
 use Rattle.lists.specs.laws.Sums.{sum-same}
 use Rattle.octets.specs.Octets.{Wrote, octets32}
 use Rattle.octets.specs.laws.Octets.{wrote-as, wrote-joined}
-use Rattle.release_file.specs.Rows.{memoryRows, memoryTotal, noRelease, noReleases, releaseOctets, tenantOctets, tenantRow}
-use Rattle.release_file.specs.Section.{FileRelease, filedMemory, filedRelease, memoryOctets, releaseFormat}
+use Rattle.release_file.specs.Rows.{memoryRows, memoryTotal, noReleases, releaseOctets, tenantOctets, tenantRow}
+use Rattle.release_file.specs.Section.{filedMemory, filedRelease, memoryOctets, releaseFormat}
 use Rattle.state.specs.Book.{releaseId, remembered}
 use Rattle.state.specs.declared.Memory.{Memory}
 use Rattle.state.specs.declared.Release.{Release}
 use Rattle.state.specs.declared.TenantReleases.{TenantReleases}
+
+-- what an element is past the end of an array
+abbrev pub noRelease : Release
+noRelease = record { «id_len» = 0; id = []; xid = 0; time = 0 }
 
 -- ---- a release
 release-octets : (t : ℕ) (r : Release) → releaseFormat .write (filedRelease t r) ≡ ((t ∷ length (releaseId r) ∷ releaseId r) ++ octets32 (r .xid)) ++ octets32 (r .time)

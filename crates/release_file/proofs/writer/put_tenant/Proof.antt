@@ -1,7 +1,8 @@
 -- `put_tenant` meets its contract: its loop keeps `RowInv`; by `releaseRows`.
 use Prim.Native.Nat.{_-_}
 use Rattle.format.specs.laws.Rows.{RowInv}
-use Rattle.release_file.specs.Rows.{noRelease, releaseOctets}
+use Rattle.release_file.specs.Rows.{releaseOctets}
+use Rattle.release_file.specs.laws.Rows.{noRelease}
 use Rattle.release_file.specs.laws.Rows.{releaseRows}
 use borrow.Author.Needs.{needs}
 use Rattle.release_file.proofs.writer.put_tenant.Statement.{statement}

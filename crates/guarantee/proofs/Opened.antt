@@ -20,8 +20,7 @@ use Rattle.format.specs.Format.{readOctet, readTimes, then, writeAll}
 use Rattle.format.specs.Place.{isWhole}
 use Rattle.names.specs.Names.{chosenOf, defaultOf, firstBy, inLanguage, listsIn, matchOf, namesB, orElse, same, sentFor, sizesOk, valueOr}
 use Rattle.releases.specs.Again.{anyAgain, isAgain}
-use Rattle.releases.specs.Rules.{differs, fewB, filledB, firstRelease, houseB, laidB, lengthB, memoryB, notLeased, older, onceB, pastB, releaseRulesOf, rulesTo, unusedR}
-use Rattle.releases.specs.Rules as remembering
+use Rattle.releases.specs.Rules.{brokenMemory, brokenRelease, differs, fewB, filledB, firstRelease, houseB, laidB, lengthB, memoryB, notLeased, older, onceB, pastB, releaseRulesOf, rulesTo, unusedR}
 use Rattle.releases.specs.Whole.{bookB}
 use Rattle.soundness.specs.Sound.{apart, belowB, blankB, brokenOf, compatible, countsB, disjoint, oneTo, firstBroken, firstRule, firstLate, tenantsB, idB, kindB, layoutB, leaseB, limitB, limitsB, committedB, noneB, offsetsB, paddedB, periodB, poolB, poolsApart, rangeB, rangeZero, rangesApart, recordsB, rule1, rule10, rule11, rule12, rule19, rule2, rule3, rule4, rule5, rule6, rule7, rule8, rule9, rulesOf, scopeZero, settingsB, reserveB, reservesB, sizeB, soundB, tailB, ttlB, unusedB, zeroFrom}
 use Rattle.allocation.specs.Rule.{allowed, busyIn, grantOf, grantTo, suffices, takenOf}
@@ -72,7 +71,7 @@ sound-open = tt
 
 -- what is remembered
 unfoldable pub memory-open : Unit {0}
-unfolding houseB fewB lengthB differs notLeased onceB pastB older filledB unusedR laidB rulesTo releaseRulesOf firstRelease remembering.firstBroken remembering.brokenOf memoryB isAgain anyAgain
+unfolding houseB fewB lengthB differs notLeased onceB pastB older filledB unusedR laidB rulesTo releaseRulesOf firstRelease brokenRelease brokenMemory memoryB isAgain anyAgain
 memory-open = tt
 
 -- the grant rule

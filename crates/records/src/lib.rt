@@ -10,7 +10,7 @@ ghost use Rattle.reply.specs.Reply.{leastRoom};
 ghost use Rattle.soundness.specs.Sound.{unusedB};
 ghost use Rattle.names.specs.Names.{namesB};
 ghost use Rattle.soundness.specs.Parts.{holdingsOf, soundFrom, tableRulesOf};
-ghost use Rattle.releases.specs.Rules.{leasesAt, memoryB, rulesAt};
+ghost use Rattle.releases.specs.Rules.{ownLeases, memoryB, rulesAt};
 ghost use Rattle.state.specs.Book.{inUse, leasesOf, tableOf, tenantAt, zeroLease};
 ghost use Rattle.server.specs.Serve.{atClock};
 ghost use Rattle.state_file.specs.StateFile.{readFile};
@@ -185,7 +185,7 @@ fn put_row(records: Records, h: usize, t: TenantLeases) -> Records
 // The records of a tenant of whom q is remembered: those of no lease where that is nothing, since nothing then goes by them.
 fn row_for(records: Records, h: usize, q: TenantReleases) -> TenantLeases
     requires { ⌜ h < 8 ⌝ }
-    ensures { λ r. ⌜ ((n clock : ℕ) → rulesAt n clock h (inUse r) q ≡ rulesAt n clock h (leasesAt (tableFrom (records .leases)) h) q) ⌝ }
+    ensures { λ r. ⌜ ((n clock : ℕ) → rulesAt n clock h (inUse r) q ≡ rulesAt n clock h (ownLeases (tableFrom (records .leases)) h) q) ⌝ }
 {
     if q.count == 0 {
         return state::no_leases();

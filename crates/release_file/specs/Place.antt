@@ -10,7 +10,7 @@ use Rattle.format.specs.declared.Place.{Place}
 use Rattle.lists.specs.Fold.{fold}
 use Rattle.lists.specs.Pick.{pick}
 use Rattle.octets.specs.Octets.{at32}
-use Rattle.release_file.specs.Section.{FileRelease, releaseAfter, releaseFormat, releaseKey, storedRelease, tenantOf}
+use Rattle.release_file.specs.Section.{FileRelease, releaseAfter, releaseFormat, releaseKey, storedRelease, releaseTenant}
 use Rattle.state.specs.Book.{laidReleases}
 use Rattle.state.specs.declared.Release.{Release}
 use Rattle.state.specs.declared.TenantReleases.{TenantReleases}
@@ -67,7 +67,7 @@ unfoldable pub pushedRelease : TenantReleases → Release → TenantReleases
 pushedRelease q r = pick (ltb (q .count) 4) (record { releases = set (q .releases) (q .count) r; count = q .count + 1 }) q
 
 abbrev pub keptOf : ℕ → List FileRelease → TenantReleases
-keptOf t xs = fold (keepBy tenantOf (λ q x. pushedRelease q (storedRelease x)) t) (laidReleases []) xs
+keptOf t xs = fold (keepBy releaseTenant (λ q x. pushedRelease q (storedRelease x)) t) (laidReleases []) xs
 
 unfoldable pub keptAll : List FileRelease → List TenantReleases
 keptAll xs = perTenant (λ t. keptOf t xs) 1 8

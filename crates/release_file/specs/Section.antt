@@ -45,12 +45,12 @@ storedRelease x = record { «id_len» = length (x .id); id = laidRow 0 32 (x .id
 unfoldable pub filedRelease : ℕ → Release → FileRelease
 filedRelease t r = record { tenant = t; id = take (r .«id_len») (r .id); xid = r .xid; time = r .time }
 
-abbrev pub tenantOf : FileRelease → ℕ
-tenantOf x = x .tenant
+abbrev pub releaseTenant : FileRelease → ℕ
+releaseTenant x = x .tenant
 
 -- tenant by tenant, from 1 to 8
 unfoldable pub storedMemory : List FileRelease → Memory
-storedMemory xs = record { releases = map laidReleases (map (map storedRelease) (apart tenantOf 1 8 xs)) }
+storedMemory xs = record { releases = map laidReleases (map (map storedRelease) (apart releaseTenant 1 8 xs)) }
 
 unfoldable pub filedMemory : Memory → List FileRelease
 filedMemory m = filedAll filedRelease 1 (map remembered (m .releases))
@@ -66,7 +66,7 @@ keepableB x = pick (ltb (x .tenant) 1) false (pick (ltb 8 (x .tenant)) false (le
 
 -- tenant t has at most four (rule 15)
 unfoldable pub fewFor : List FileRelease → ℕ → Bool
-fewFor xs t = leb (length (own tenantOf t xs)) 4
+fewFor xs t = leb (length (own releaseTenant t xs)) 4
 
 -- the memory can hold them
 unfoldable pub releasesFitB : List FileRelease → Bool

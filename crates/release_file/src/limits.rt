@@ -6,7 +6,7 @@ ghost use Rattle.format.specs.Section.{InRow, Inside};
 ghost use Rattle.format.specs.Tenants.{tallyBy};
 ghost use Rattle.lists.specs.All.{allBy, allTo};
 ghost use Rattle.release_file.specs.Place.{AllKeepable, KeepableAt, afterRelease, fileReleaseAt, releasesFrom};
-ghost use Rattle.release_file.specs.Section.{fewFor, keepableB, tenantOf};
+ghost use Rattle.release_file.specs.Section.{fewFor, keepableB, releaseTenant};
 use crate::form::wide;
 
 // Whether the memory can hold each of `count` releases that start at `from`.
@@ -61,7 +61,7 @@ pub fn all_few(s: &[u8], from: usize, count: usize) -> bool
 // How many of `count` releases that start at `from` each tenant has.
 fn tally(s: &[u8], from: usize, count: usize) -> [usize; 8]
     requires { ⌜ AllKeepable (now s) from count × (count < 256) ⌝ }
-    ensures { λ r. ⌜ r ≡ tallyBy tenantOf (releasesFrom (now (s .entry)) from count) ⌝ }
+    ensures { λ r. ⌜ r ≡ tallyBy releaseTenant (releasesFrom (now (s .entry)) from count) ⌝ }
 {
     let mut n = [0usize; 8];
     let mut here = from;

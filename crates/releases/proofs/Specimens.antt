@@ -20,7 +20,7 @@ use Rattle.state.specs.Edit.{entering, forgetOf, givingWay, leaving, noEdit, no
 use Rattle.soundness.specs.Sound.{zeroFrom}
 use Rattle.releases.specs.declared.ReleaseRules.{ReleaseRules}
 use Rattle.releases.specs.Again.{anyAgain, isAgain}
-use Rattle.releases.specs.Rules.{brokenOf, differs, fewB, filledB, firstBroken, firstRelease, houseB, laidB, lengthB, notLeased, older, onceB, pastB, releaseRulesOf, rulesTo, unusedR}
+use Rattle.releases.specs.Rules.{brokenMemory, differs, fewB, filledB, brokenRelease, firstRelease, houseB, laidB, lengthB, notLeased, older, onceB, pastB, releaseRulesOf, rulesTo, unusedR}
 
 -- a release by the length of its identifier 00 i p 00 .., its transaction id and time
 abbrev releaseWith : ℕ → ℕ → ℕ → ℕ → ℕ → Release
@@ -126,7 +126,7 @@ abbrev counted : ℕ → Release → Release → TenantReleases
 counted n a b = record { releases = a ∷ b ∷ zeroRelease ∷ zeroRelease ∷ []; count = n }
 
 brokenIn : Case → ℕ
-brokenIn c = brokenOf settings (tableOf (c .leases ∷ replicate 7 [])) (record { releases = c .first ∷ c .second ∷ c .third ∷ replicate 5 none })
+brokenIn c = brokenMemory settings (tableOf (c .leases ∷ replicate 7 [])) (record { releases = c .first ∷ c .second ∷ c .third ∷ replicate 5 none })
 
 holds : Case → Bool
 holds c = eqb (brokenIn c) (c .broken)
@@ -167,13 +167,13 @@ cases =
     ∷ []
 
 all-hold : allBy holds cases ≡ true
-unfolding settings case brokenIn holds cases lease pick allBy pairsBy allTo sameOf orderOf laidOut laidReleases tableOf zeroFrom houseB fewB lengthB differs notLeased onceB pastB older filledB unusedR laidB rulesTo releaseRulesOf firstRelease firstBroken brokenOf
+unfolding settings case brokenIn holds cases lease pick allBy pairsBy allTo sameOf orderOf laidOut laidReleases tableOf zeroFrom houseB fewB lengthB differs notLeased onceB pastB older filledB unusedR laidB rulesTo releaseRulesOf firstRelease brokenRelease brokenMemory
 all-hold = refl
 
 -- where only the layout is broken, no file broke a rule
 abbrev only : Bool → Bool → ReleaseRules
 only times layout = record { houses = true; few = true; lengths = true; once = true; times = times; layout = layout }
 
-layout-last : (firstRelease (only true false) ∷ firstBroken (only true false) ∷ firstRelease (only false false) ∷ firstBroken (only false false) ∷ []) ≡ 0 ∷ 19 ∷ 18 ∷ 18 ∷ []
-unfolding pick firstRelease firstBroken
+layout-last : (firstRelease (only true false) ∷ brokenRelease (only true false) ∷ firstRelease (only false false) ∷ brokenRelease (only false false) ∷ []) ≡ 0 ∷ 19 ∷ 18 ∷ 18 ∷ []
+unfolding pick firstRelease brokenRelease
 layout-last = refl

@@ -85,8 +85,8 @@ bothRules a b = record {
   layout = a .layout && b .layout;
 }
 
-abbrev pub leasesAt : LeaseTable → ℕ → List Lease
-leasesAt t h = inUse (tenantAt t h)
+abbrev pub ownLeases : LeaseTable → ℕ → List Lease
+ownLeases t h = inUse (tenantAt t h)
 
 -- of the first k tenants
 unfoldable pub rulesTo : ℕ → ℕ → LeaseTable → Memory → ℕ → ReleaseRules
@@ -94,7 +94,7 @@ rulesTo n clock t m k = record {
   houses = allTo (λ h. houseB n h (releasesAt m h)) k;
   few = allTo (λ h. fewB (releasesAt m h)) k;
   lengths = allTo (λ h. allBy lengthB (remembered (releasesAt m h))) k;
-  once = allTo (λ h. onceB (leasesAt t h) (releasesAt m h)) k;
+  once = allTo (λ h. onceB (ownLeases t h) (releasesAt m h)) k;
   times = allTo (λ h. allBy (pastB clock) (remembered (releasesAt m h))) k;
   layout = allTo (λ h. laidB (releasesAt m h)) k;
 }
@@ -107,11 +107,11 @@ unfoldable pub firstRelease : ReleaseRules → ℕ
 firstRelease r = pick (r .houses) (pick (r .few) (pick (r .lengths) (pick (r .once) (pick (r .times) 0 18) 17) 16) 15) 14
 
 -- that, or 19 where only the layout is broken, as it can be in a book that is lent
-unfoldable pub firstBroken : ReleaseRules → ℕ
-firstBroken r = pick (eqb (firstRelease r) 0) (pick (r .layout) 0 19) (firstRelease r)
+unfoldable pub brokenRelease : ReleaseRules → ℕ
+brokenRelease r = pick (eqb (firstRelease r) 0) (pick (r .layout) 0 19) (firstRelease r)
 
-unfoldable pub brokenOf : State → LeaseTable → Memory → ℕ
-brokenOf s t m = firstBroken (releaseRulesOf s t m)
+unfoldable pub brokenMemory : State → LeaseTable → Memory → ℕ
+brokenMemory s t m = brokenRelease (releaseRulesOf s t m)
 
 unfoldable pub memoryB : State → LeaseTable → Memory → Bool
-memoryB s t m = eqb (brokenOf s t m) 0
+memoryB s t m = eqb (brokenMemory s t m) 0

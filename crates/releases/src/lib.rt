@@ -11,7 +11,7 @@ ghost use Rattle.state.specs.Book.{inUse, laidReleases, releaseId, remembered};
 ghost use Rattle.state.specs.Edit.{forgetOf, notedIn, rememberOf};
 ghost use Rattle.releases.specs.Again.{anyAgain, isAgain};
 ghost use Rattle.releases.specs.Parts.{pushedR};
-ghost use Rattle.releases.specs.Rules.{bothRules, firstBroken, firstRelease, memoryB, noRules, rulesAt};
+ghost use Rattle.releases.specs.Rules.{bothRules, brokenRelease, firstRelease, memoryB, noRules, rulesAt};
 use crate::rules::both_rules;
 use crate::rules::check_tenant;
 use state::Edit;
@@ -221,7 +221,7 @@ pub fn first_release(r: ReleaseRules) -> u8
 
 // The number of the first rule that is broken, or 0; the layout, which only a book that is lent can break, comes last.
 pub fn first_broken(r: ReleaseRules) -> u8
-    ensures { λ x. ⌜ x ≡ firstBroken r ⌝ }
+    ensures { λ x. ⌜ x ≡ brokenRelease r ⌝ }
 {
     let n = first_release(r);
     if n != 0 {

@@ -26,8 +26,7 @@ use Rattle.format.specs.Section.{orderedFrom}
 use Rattle.names.specs.Names.{namesB, sizesOk}
 use Rattle.release_file.specs.Section.{fewFor, filedMemory, filedRelease, keepableB, releasesFitB, storedMemory, storedRelease}
 use Rattle.format.specs.Tenants as entries
-use Rattle.releases.specs.Rules as releases
-use Rattle.releases.specs.Rules.{differs, fewB, filledB, firstRelease, houseB, laidB, lengthB, memoryB, notLeased, older, onceB, pastB, releaseRulesOf, rulesTo, unusedR}
+use Rattle.releases.specs.Rules.{brokenMemory, brokenRelease, differs, fewB, filledB, firstRelease, houseB, laidB, lengthB, memoryB, notLeased, older, onceB, pastB, releaseRulesOf, rulesTo, unusedR}
 use Rattle.releases.specs.Whole.{bookB}
 use Rattle.format.specs.Format.{Got, bad, closed, got, readNumber, readOctet, readTimes, then, writeAll}
 use Rattle.state_file.specs.Records.{countsFit, fewOf, filled, fitsB, leasesFitB, storableB, stored, storedScope, storedState, storedTable, tenantsFrom, zeroRange, filedBook, filedFrom, filedLease, filedScope, pairUp}
@@ -157,7 +156,7 @@ record Case : Type 0 where
 
 -- the first rule of soundness that a file breaks, by number; 0 where there is none, where it has no form, or where the records cannot hold it
 broken : State → LeaseTable → Memory → ℕ
-broken s t m = pick (eqb (brokenOf s t) 0) (releases.brokenOf s t m) (brokenOf s t)
+broken s t m = pick (eqb (brokenOf s t) 0) (brokenMemory s t m) (brokenOf s t)
 
 ruleOf : Got File → ℕ
 ruleOf (got f r) = pick (fitsB f) (broken (storedState f) (storedTable f) (storedMemory (f .releases))) 0
@@ -341,7 +340,7 @@ unsound =
     ∷ []
 
 answers : allHold (sound ++ form ++ unsound) ≡ true
-unfolding allHold ruleOf long largest sound form unsound server range scope lease tenants pool settings unnamed none name named en plain a b ab again row eight four upFrom sixteen pick allBy pairsBy allTo filterBy isIn sumTo bit offsetsFrom setOf readOffsets risesFrom orderOf sameOf laidOut tableOf byIdentifier unionAll addressesOf overlaps oneTo sizeB idB recordsB countsB rule1 belowB offsetsB rule2 rangeB rangesApart rule3 poolB poolsApart rule4 ttlB rule5 reserveB reservesB rule6 kindB periodB leaseB noneB tenantsB rule7 differ rule8 disjoint apart rule9 compatible rule10 limitB limitsB rule11 committed committedB rule12 zeroFrom paddedB blankB unusedB layoutB rangeZero tailB scopeZero settingsB rulesOf firstLate firstRule firstBroken brokenOf soundB then closed readOctet readNumber readTimes isAfter orderedFrom fileOf filled stored tenantsFrom storedScope storedState storedTable storableB fewOf leasesFitB countsFit fitsB refused accepted judged loaded loadedGot readFile rule19 sizesOk broken bare release remembering four-released releases.brokenOf releases.firstBroken firstRelease releaseRulesOf rulesTo houseB fewB lengthB differs notLeased onceB pastB older filledB unusedR laidB memoryB laidReleases storedRelease storedMemory entries.apart keepableB fewFor releasesFitB
+unfolding allHold ruleOf long largest sound form unsound server range scope lease tenants pool settings unnamed none name named en plain a b ab again row eight four upFrom sixteen pick allBy pairsBy allTo filterBy isIn sumTo bit offsetsFrom setOf readOffsets risesFrom orderOf sameOf laidOut tableOf byIdentifier unionAll addressesOf overlaps oneTo sizeB idB recordsB countsB rule1 belowB offsetsB rule2 rangeB rangesApart rule3 poolB poolsApart rule4 ttlB rule5 reserveB reservesB rule6 kindB periodB leaseB noneB tenantsB rule7 differ rule8 disjoint apart rule9 compatible rule10 limitB limitsB rule11 committed committedB rule12 zeroFrom paddedB blankB unusedB layoutB rangeZero tailB scopeZero settingsB rulesOf firstLate firstRule firstBroken brokenOf soundB then closed readOctet readNumber readTimes isAfter orderedFrom fileOf filled stored tenantsFrom storedScope storedState storedTable storableB fewOf leasesFitB countsFit fitsB refused accepted judged loaded loadedGot readFile rule19 sizesOk broken bare release remembering four-released brokenMemory brokenRelease firstRelease releaseRulesOf rulesTo houseB fewB lengthB differs notLeased onceB pastB older filledB unusedR laidB memoryB laidReleases storedRelease storedMemory entries.apart keepableB fewFor releasesFitB
 answers = refl
 
 -- ---- the book that a file gives, and what the writer answers to it
@@ -381,7 +380,7 @@ specimenMemory : Memory
 specimenMemory = memoryWith (specimenRelease a 5 900 ∷ [])
 
 read-specimen : (readFile specimen ≡ accepted specimenState specimenTable specimenMemory) × (namesOf specimen ≡ specimenNames) × (namesOf (specimen ++ 0 ∷ []) ≡ [])
-unfolding specimen specimenNames specimenState specimenLease specimenTable server range scope lease tenants pool settings unnamed name en plain a b pick allBy pairsBy allTo filterBy isIn sumTo bit offsetsFrom setOf readOffsets risesFrom orderOf sameOf laidOut tableOf byIdentifier unionAll addressesOf overlaps oneTo sizeB idB recordsB countsB rule1 belowB offsetsB rule2 rangeB rangesApart rule3 poolB poolsApart rule4 ttlB rule5 reserveB reservesB rule6 kindB periodB leaseB noneB tenantsB rule7 differ rule8 disjoint apart rule9 compatible rule10 limitB limitsB rule11 committedB rule12 zeroFrom paddedB blankB unusedB layoutB rangeZero tailB scopeZero settingsB rule19 rulesOf firstLate firstRule firstBroken brokenOf soundB then closed readOctet readNumber readTimes isAfter orderedFrom fileOf filled stored tenantsFrom storedScope storedState storedTable storableB fewOf leasesFitB countsFit fitsB refused accepted judged loaded loadedGot readFile committed namesOf namesGot sizesOk bare release specimenRelease memoryWith specimenMemory releases.brokenOf releases.firstBroken firstRelease releaseRulesOf rulesTo houseB fewB lengthB differs notLeased onceB pastB older filledB unusedR laidB memoryB laidReleases storedRelease storedMemory entries.apart keepableB fewFor releasesFitB
+unfolding specimen specimenNames specimenState specimenLease specimenTable server range scope lease tenants pool settings unnamed name en plain a b pick allBy pairsBy allTo filterBy isIn sumTo bit offsetsFrom setOf readOffsets risesFrom orderOf sameOf laidOut tableOf byIdentifier unionAll addressesOf overlaps oneTo sizeB idB recordsB countsB rule1 belowB offsetsB rule2 rangeB rangesApart rule3 poolB poolsApart rule4 ttlB rule5 reserveB reservesB rule6 kindB periodB leaseB noneB tenantsB rule7 differ rule8 disjoint apart rule9 compatible rule10 limitB limitsB rule11 committedB rule12 zeroFrom paddedB blankB unusedB layoutB rangeZero tailB scopeZero settingsB rule19 rulesOf firstLate firstRule firstBroken brokenOf soundB then closed readOctet readNumber readTimes isAfter orderedFrom fileOf filled stored tenantsFrom storedScope storedState storedTable storableB fewOf leasesFitB countsFit fitsB refused accepted judged loaded loadedGot readFile committed namesOf namesGot sizesOk bare release specimenRelease memoryWith specimenMemory brokenMemory brokenRelease firstRelease releaseRulesOf rulesTo houseB fewB lengthB differs notLeased onceB pastB older filledB unusedR laidB memoryB laidReleases storedRelease storedMemory entries.apart keepableB fewFor releasesFitB
 read-specimen = (refl, refl, refl)
 
 -- the book with these names, or others; and with another memory
@@ -412,7 +411,7 @@ write-specimen : (octetsOf (bookWith specimenNames) ≡ specimen)
     × (writtenOf (bookWith (unnamed 2 2)) 128 ≡ record { refusal = 22; length = 0 })
     × (writtenOf (bookWith (1 ∷ 1 ∷ name 1 en en ++ 0 ∷ 0 ∷ [])) 128 ≡ record { refusal = 22; length = 0 })
     × (roomAfter (bookWith []) (replicate 130 9) ≡ replicate 130 9)
-unfolding specimen specimenNames specimenState specimenLease specimenTable server range scope lease tenants pool settings unnamed name en plain a b pick allBy pairsBy allTo filterBy isIn sumTo bit offsetsFrom setOf readOffsets risesFrom orderOf sameOf laidOut tableOf byIdentifier unionAll addressesOf overlaps oneTo sizeB idB recordsB countsB rule1 belowB offsetsB rule2 rangeB rangesApart rule3 poolB poolsApart rule4 ttlB rule5 reserveB reservesB rule6 kindB periodB leaseB noneB tenantsB rule7 differ rule8 disjoint apart rule9 compatible rule10 limitB limitsB rule11 committedB rule12 zeroFrom paddedB blankB unusedB layoutB rangeZero tailB scopeZero settingsB rule19 rulesOf firstLate firstRule firstBroken brokenOf soundB then closed readOctet readNumber readTimes isAfter orderedFrom fileOf filled stored tenantsFrom storedScope storedState storedTable storableB fewOf leasesFitB countsFit fitsB refused accepted judged loaded loadedGot readFile zeroTable octetsOf writtenOf roomAfter filedBook filedFrom filedScope pairUp filedLease writeAll committed bookWith zeroBook bookB namesB isWhole sizesOk bare release specimenRelease memoryWith specimenMemory releases.brokenOf releases.firstBroken firstRelease releaseRulesOf rulesTo houseB fewB lengthB differs notLeased onceB pastB older filledB unusedR laidB memoryB laidReleases storedRelease storedMemory entries.apart keepableB fewFor releasesFitB entries.filedAll filedRelease filedMemory
+unfolding specimen specimenNames specimenState specimenLease specimenTable server range scope lease tenants pool settings unnamed name en plain a b pick allBy pairsBy allTo filterBy isIn sumTo bit offsetsFrom setOf readOffsets risesFrom orderOf sameOf laidOut tableOf byIdentifier unionAll addressesOf overlaps oneTo sizeB idB recordsB countsB rule1 belowB offsetsB rule2 rangeB rangesApart rule3 poolB poolsApart rule4 ttlB rule5 reserveB reservesB rule6 kindB periodB leaseB noneB tenantsB rule7 differ rule8 disjoint apart rule9 compatible rule10 limitB limitsB rule11 committedB rule12 zeroFrom paddedB blankB unusedB layoutB rangeZero tailB scopeZero settingsB rule19 rulesOf firstLate firstRule firstBroken brokenOf soundB then closed readOctet readNumber readTimes isAfter orderedFrom fileOf filled stored tenantsFrom storedScope storedState storedTable storableB fewOf leasesFitB countsFit fitsB refused accepted judged loaded loadedGot readFile zeroTable octetsOf writtenOf roomAfter filedBook filedFrom filedScope pairUp filedLease writeAll committed bookWith zeroBook bookB namesB isWhole sizesOk bare release specimenRelease memoryWith specimenMemory brokenMemory brokenRelease firstRelease releaseRulesOf rulesTo houseB fewB lengthB differs notLeased onceB pastB older filledB unusedR laidB memoryB laidReleases storedRelease storedMemory entries.apart keepableB fewFor releasesFitB entries.filedAll filedRelease filedMemory
 write-specimen = (refl, refl, refl, refl, refl, refl, refl, refl, refl, refl, refl, refl)
 
 c : List ℕ
@@ -430,5 +429,5 @@ lent-releases : (writtenOf (bookOf (memoryWith [])) 116 ≡ record { refusal = 0
     × (writtenOf (bookOf (countedAs 0 (specimenRelease a 5 900 ∷ replicate 3 zeroRelease))) 128 ≡ record { refusal = 22; length = 0 })
     × (writtenOf (bookOf (countedAs 5 (replicate 4 zeroRelease))) 128 ≡ record { refusal = 22; length = 0 })
     × (roomAfter (bookOf (countedAs 5 (replicate 4 zeroRelease))) (replicate 130 9) ≡ replicate 130 9)
-unfolding c specimen specimenNames specimenState specimenLease specimenTable server range scope lease tenants pool settings unnamed name en plain a b pick allBy pairsBy allTo filterBy isIn sumTo bit offsetsFrom setOf readOffsets risesFrom orderOf sameOf laidOut tableOf byIdentifier unionAll addressesOf overlaps oneTo sizeB idB recordsB countsB rule1 belowB offsetsB rule2 rangeB rangesApart rule3 poolB poolsApart rule4 ttlB rule5 reserveB reservesB rule6 kindB periodB leaseB noneB tenantsB rule7 differ rule8 disjoint apart rule9 compatible rule10 limitB limitsB rule11 committedB rule12 zeroFrom paddedB blankB unusedB layoutB rangeZero tailB scopeZero settingsB rule19 rulesOf firstLate firstRule firstBroken brokenOf soundB then closed readOctet readNumber readTimes isAfter orderedFrom fileOf filled stored tenantsFrom storedScope storedState storedTable storableB fewOf leasesFitB countsFit fitsB refused accepted judged loaded loadedGot readFile zeroTable octetsOf writtenOf roomAfter filedBook filedFrom filedScope pairUp filedLease writeAll committed bookOf countedAs zeroBook bookB namesB isWhole sizesOk bare release specimenRelease memoryWith specimenMemory releases.brokenOf releases.firstBroken firstRelease releaseRulesOf rulesTo houseB fewB lengthB differs notLeased onceB pastB older filledB unusedR laidB memoryB laidReleases storedRelease storedMemory entries.apart keepableB fewFor releasesFitB entries.filedAll filedRelease filedMemory
+unfolding c specimen specimenNames specimenState specimenLease specimenTable server range scope lease tenants pool settings unnamed name en plain a b pick allBy pairsBy allTo filterBy isIn sumTo bit offsetsFrom setOf readOffsets risesFrom orderOf sameOf laidOut tableOf byIdentifier unionAll addressesOf overlaps oneTo sizeB idB recordsB countsB rule1 belowB offsetsB rule2 rangeB rangesApart rule3 poolB poolsApart rule4 ttlB rule5 reserveB reservesB rule6 kindB periodB leaseB noneB tenantsB rule7 differ rule8 disjoint apart rule9 compatible rule10 limitB limitsB rule11 committedB rule12 zeroFrom paddedB blankB unusedB layoutB rangeZero tailB scopeZero settingsB rule19 rulesOf firstLate firstRule firstBroken brokenOf soundB then closed readOctet readNumber readTimes isAfter orderedFrom fileOf filled stored tenantsFrom storedScope storedState storedTable storableB fewOf leasesFitB countsFit fitsB refused accepted judged loaded loadedGot readFile zeroTable octetsOf writtenOf roomAfter filedBook filedFrom filedScope pairUp filedLease writeAll committed bookOf countedAs zeroBook bookB namesB isWhole sizesOk bare release specimenRelease memoryWith specimenMemory brokenMemory brokenRelease firstRelease releaseRulesOf rulesTo houseB fewB lengthB differs notLeased onceB pastB older filledB unusedR laidB memoryB laidReleases storedRelease storedMemory entries.apart keepableB fewFor releasesFitB entries.filedAll filedRelease filedMemory
 lent-releases = (refl, refl, refl, refl, refl, refl, refl, refl, refl, refl)

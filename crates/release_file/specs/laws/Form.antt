@@ -14,9 +14,9 @@ use Rattle.format.specs.declared.Place.{Place}
 use Rattle.format.specs.declared.Place.the-variants.{At, Nowhere}
 use Rattle.format.specs.laws.Fixed.{Fixed, fixed-both, fixed-number}
 use Rattle.format.specs.laws.Place.{as-nowhere, as-there, counted-none, fails-first, fails-second, number-stands, octet-fails, octet-stands, octets-short, octets-stand, stands-both, stands-to, viewed-none, viewed-stands}
-use Rattle.format.specs.laws.Section.{SectionInv, entry-in, entry-is, section-broken, section-done, section-is, section-next, section-row, section-start, section-wrong}
+use Rattle.format.specs.laws.Section.{SectionInv, entry-in, entry-is, section-broken, section-done, section-next, section-start, section-wrong}
 use Rattle.octets.specs.Octets.{at32}
-use Rattle.release_file.specs.Place.{ReleaseEnds, ReleaseSection, ReleasesEnd, ReleasesIn, afterRelease, fileReleaseAt}
+use Rattle.release_file.specs.Place.{ReleaseEnds, ReleasesEnd, afterRelease, fileReleaseAt}
 use Rattle.release_file.specs.Section.{releaseAfter, releaseFormat, releaseKey}
 
 none : {s : List ℕ} {at : ℕ} → Fails (octet ⊗ counted octet ⊗ number ⊗ number) s at → ReleaseEnds s at Nowhere
@@ -98,7 +98,3 @@ pub releases-done : {s : List ℕ} {from count here i tenant time : ℕ} → Rel
 releases-done v h = section-done v h
 
 pub ruleset releaseWalk = (releases-start, release-in, releases-broken, releases-later, releases-next, releases-done)
-
--- a section that was walked over lies within the octets
-pub section-in : {s : List ℕ} {at n : ℕ} {r : Place} → ReleaseSection s at r → r ≡ At n → ReleasesIn s at
-section-in w e = let p = section-row (section-is w e) in record { start = omega (arith, p .0); each = p .1 }

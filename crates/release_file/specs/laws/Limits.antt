@@ -16,7 +16,7 @@ use Rattle.lists.specs.laws.All.{UptoInv, upto-end, upto-start}
 use Rattle.lists.specs.laws.Pick.{neither}
 use Rattle.octets.specs.laws.Run.{part-length}
 use Rattle.release_file.specs.Place.{AllKeepable, KeepableAt, ReleasesIn, afterRelease, fileReleaseAt, releasesFrom, releasesIn}
-use Rattle.release_file.specs.Section.{FileRelease, fewFor, keepableB, releasesFitB, tenantOf}
+use Rattle.release_file.specs.Section.{FileRelease, fewFor, keepableB, releasesFitB, releaseTenant}
 
 -- ---- one release
 pub limit-id : {s : List ℕ} {at n : ℕ} → Inside afterRelease s at → n ≡ getD s (at + 1) 0 → leb n 32 ≡ leb (length (take (getD s (at + 1) 0) (drop (at + 2) s))) 32
@@ -54,7 +54,7 @@ module _ {s : List ℕ} {at count : ℕ} (v : ReleasesIn s at) (ec : count ≡ g
 pub ruleset sectionFits = (releases-in, releases-kept, fits-yes, fits-not)
 
 -- ---- a value for each tenant
-module _ {B : Type 0} {g : B → FileRelease → B} {z d : B} {s : List ℕ} {from count : ℕ} {out : List B} {here i : ℕ} (v : TenantInv tenantOf KeepableAt fileReleaseAt afterRelease g z d s from count out here i) where
+module _ {B : Type 0} {g : B → FileRelease → B} {z d : B} {s : List ℕ} {from count : ℕ} {out : List B} {here i : ℕ} (v : TenantInv releaseTenant KeepableAt fileReleaseAt afterRelease g z d s from count out here i) where
   pub release-held : i < count → KeepableAt s here
   release-held h = tenant-held v h
 
@@ -62,7 +62,7 @@ module _ {B : Type 0} {g : B → FileRelease → B} {z d : B} {s : List ℕ} {fr
   release-inside h = record { room = tenant-held v h .room }
 
   pub release-turn : (j n : ℕ) (x : B) → i < count → j ≡ getD s here 0 - 1 → x ≡ g (getD out j d) (fileReleaseAt s here) → n ≡ afterRelease s here
-      → TenantInv tenantOf KeepableAt fileReleaseAt afterRelease g z d s from count (set out j x) n (i + 1)
+      → TenantInv releaseTenant KeepableAt fileReleaseAt afterRelease g z d s from count (set out j x) n (i + 1)
   unfolding fileReleaseAt
   release-turn j n x h ej ex en = tenant-next v j n x (λ p. p .from) h ej ex en
 
@@ -70,7 +70,7 @@ pub ruleset tenantLoop = (release-held, release-inside)
 
 -- how many each has
 abbrev pub TallyInv : List ℕ → ℕ → ℕ → List ℕ → ℕ → ℕ → Type 0
-TallyInv s from count n here i = CountInv tenantOf KeepableAt fileReleaseAt afterRelease s from count n here i
+TallyInv s from count n here i = CountInv releaseTenant KeepableAt fileReleaseAt afterRelease s from count n here i
 
 pub tally-next : {s : List ℕ} {from count : ℕ} {n : List ℕ} {here i : ℕ} → TallyInv s from count n here i → (j k : ℕ) → i < count → j ≡ getD s here 0 - 1 → k ≡ afterRelease s here
     → TallyInv s from count (set n j (getD n j 0 + 1)) k (i + 1)
@@ -79,13 +79,13 @@ tally-next v j k h e q = release-turn v j k _ h e refl q
 pub ruleset tallies = (count-start, count-small, count-end, tally-next, tenantLoop)
 
 -- what was counted decides
-module _ (xs : List FileRelease) {n : List ℕ} {i : ℕ} (v : UptoInv (λ i. fewFor xs (i + 1)) 8 i) (e : n ≡ tallyBy tenantOf xs) (h : i < 8) where
+module _ (xs : List FileRelease) {n : List ℕ} {i : ℕ} (v : UptoInv (λ i. fewFor xs (i + 1)) 8 i) (e : n ≡ tallyBy releaseTenant xs) (h : i < 8) where
   pub four-next : getD n i 0 ≤ 4 → UptoInv (λ i. fewFor xs (i + 1)) 8 (i + 1)
   unfolding fewFor
-  four-next l = few-next tenantOf 4 xs v e h l
+  four-next l = few-next releaseTenant 4 xs v e h l
 
   pub four-broken : 4 < getD n i 0 → false ≡ allTo (λ i. fewFor xs (i + 1)) 8
   unfolding fewFor
-  four-broken l = few-broken tenantOf 4 xs v e h l
+  four-broken l = few-broken releaseTenant 4 xs v e h l
 
 pub ruleset fours = (four-next, four-broken, upto-start, upto-end)

@@ -16,7 +16,7 @@ use Rattle.octets.specs.Octets.{at32}
 use Rattle.octets.specs.laws.Run.{part-length}
 use Rattle.release_file.specs.Place.{AllKeepable, KeepableAt, ReleasesIn, afterRelease, fileReleaseAt, keptAll, pushedRelease, releasesFrom, releasesIn}
 use Rattle.release_file.specs.Rows.{noReleases}
-use Rattle.release_file.specs.Section.{FileRelease, fewFor, keepableB, releasesFitB, storedMemory, storedRelease, tenantOf}
+use Rattle.release_file.specs.Section.{FileRelease, fewFor, keepableB, releasesFitB, storedMemory, storedRelease, releaseTenant}
 use Rattle.release_file.specs.laws.Limits.{release-turn, releases-kept, releases-same, tenantLoop}
 use Rattle.state.specs.Book.{laidReleases, zeroRelease}
 use Rattle.state.specs.declared.Memory.{Memory}
@@ -51,11 +51,11 @@ push-laid p r h =
 
 -- ---- all tenants'
 abbrev pub FillInv : List ℕ → ℕ → ℕ → List TenantReleases → ℕ → ℕ → Type 0
-FillInv s from count out here i = TenantInv tenantOf KeepableAt fileReleaseAt afterRelease (λ q x. pushedRelease q (storedRelease x)) (laidReleases []) noReleases s from count out here i
+FillInv s from count out here i = TenantInv releaseTenant KeepableAt fileReleaseAt afterRelease (λ q x. pushedRelease q (storedRelease x)) (laidReleases []) noReleases s from count out here i
 
 module _ {s : List ℕ} {from count : ℕ} where
   pub fill-start : (z : TenantReleases) → z ≡ laidReleases [] → AllKeepable s from count → FillInv s from count (replicate 8 z) from 0
-  fill-start z e h = tenant-start tenantOf fileReleaseAt _ (laidReleases []) noReleases z e h
+  fill-start z e h = tenant-start releaseTenant fileReleaseAt _ (laidReleases []) noReleases z e h
 
   module _ {out : List TenantReleases} {here i : ℕ} (v : FillInv s from count out here i) where
     pub fill-next : (j k : ℕ) (x : Release) (r : TenantReleases) → i < count → j ≡ getD s here 0 - 1 → x ≡ storedRelease (fileReleaseAt s here) → r ≡ pushedRelease (getD out j noReleases) x → k ≡ afterRelease s here
@@ -80,4 +80,4 @@ module _ {s : List ℕ} {at count : ℕ} (v : ReleasesIn s at) (ec : count ≡ g
       let xs : List FileRelease = releasesIn s at in
       ap {B = Memory} (λ (l : List TenantReleases). record { releases = l })
       (p ∙ ap keptAll (releases-same v ec)
-      ∙ kept-laid tenantOf storedRelease 4 laidReleases pushedRelease push-laid 8 1 xs (λ i g. leb-true _ 4 (to-each (λ i. fewFor xs (i + 1)) 8 (both _ _ e .1) i g)))
+      ∙ kept-laid releaseTenant storedRelease 4 laidReleases pushedRelease push-laid 8 1 xs (λ i g. leb-true _ 4 (to-each (λ i. fewFor xs (i + 1)) 8 (both _ _ e .1) i g)))

@@ -19,7 +19,7 @@ use Rattle.lists.specs.laws.All.{all-facts, all-mapped, all-take, all-tests, ea
 use Rattle.lists.specs.laws.Each.{map-back}
 use Rattle.lists.specs.laws.Pick.{both, neither}
 use Rattle.lists.specs.laws.Row.{row-back, row-fill}
-use Rattle.release_file.specs.Section.{FileRelease, fewFor, filedMemory, filedRelease, keepableB, memoryOctets, releaseAfter, releaseFormat, releaseKey, releasesFitB, releasesFormat, storedMemory, storedRelease, tenantOf}
+use Rattle.release_file.specs.Section.{FileRelease, fewFor, filedMemory, filedRelease, keepableB, memoryOctets, releaseAfter, releaseFormat, releaseKey, releasesFitB, releasesFormat, storedMemory, storedRelease, releaseTenant}
 use Rattle.release_file.specs.laws.Rows.{release-size}
 use Rattle.state.specs.Book.{laidReleases, remembered, zeroRelease}
 use Rattle.state.specs.declared.Memory.{Memory}
@@ -49,13 +49,13 @@ keepable-facts x e =
     record { from = ltb-false (x .tenant) 1 (a .0); to = omega arith }
 
 -- the section's order is sorted by tenant
-ordered-sorted : (t k : ℕ) (l : List FileRelease) → orderedFrom releaseKey releaseAfter (t, k) l ≡ true → Sorted tenantOf t l
+ordered-sorted : (t k : ℕ) (l : List FileRelease) → orderedFrom releaseKey releaseAfter (t, k) l ≡ true → Sorted releaseTenant t l
 unfolding orderedFrom Sorted pick
 ordered-sorted t k [] e = tt
 ordered-sorted t k (x ∷ l) e = go (ltb (x .tenant) t) refl (ordered-sorted (x .tenant) (x .time) l) e
   where
-    go : (b : Bool) → ltb (x .tenant) t ≡ b → (orderedFrom releaseKey releaseAfter (x .tenant, x .time) l ≡ true → Sorted tenantOf (x .tenant) l)
-        → pick (b || (eqb (x .tenant) t && ltb (x .time) k)) false (orderedFrom releaseKey releaseAfter (x .tenant, x .time) l) ≡ true → (t ≤ x .tenant) × Sorted tenantOf (x .tenant) l
+    go : (b : Bool) → ltb (x .tenant) t ≡ b → (orderedFrom releaseKey releaseAfter (x .tenant, x .time) l ≡ true → Sorted releaseTenant (x .tenant) l)
+        → pick (b || (eqb (x .tenant) t && ltb (x .time) k)) false (orderedFrom releaseKey releaseAfter (x .tenant, x .time) l) ≡ true → (t ≤ x .tenant) × Sorted releaseTenant (x .tenant) l
     go true p ih e = absurd (let z : _≡_ {A = ℕ} 0 1 = cc in omega arith)
     go false p ih e = (ltb-false (x .tenant) t p, ih (neither (eqb (x .tenant) t && ltb (x .time) k) (orderedFrom releaseKey releaseAfter (x .tenant, x .time) l) e .1))
 
@@ -63,9 +63,9 @@ pub memory-again : (xs : List FileRelease) → orderedFrom releaseKey releaseAft
 unfolding filedMemory storedMemory releasesFitB
 memory-again xs o e =
     let kept : All Kept xs = all-facts keepableB Kept xs keepable-facts (both _ _ e .0) in
-    ap (filedAll filedRelease 1) (map-back laidReleases remembered laid-back (map (map storedRelease) (apart tenantOf 1 8 xs)))
-    ∙ entries-again tenantOf storedRelease filedRelease Kept (λ x p. filed-stored x) 8 xs
-    (sorted-up tenantOf 0 1 xs (one-fact Kept (λ x. 1 ≤ x .tenant) xs (λ x p. p .from) kept) (ordered-sorted 0 0 xs o)) (one-fact Kept (λ x. x .tenant < 1 + 8) xs (λ x p. p .to) kept) kept
+    ap (filedAll filedRelease 1) (map-back laidReleases remembered laid-back (map (map storedRelease) (apart releaseTenant 1 8 xs)))
+    ∙ entries-again releaseTenant storedRelease filedRelease Kept (λ x p. filed-stored x) 8 xs
+    (sorted-up releaseTenant 0 1 xs (one-fact Kept (λ x. 1 ≤ x .tenant) xs (λ x p. p .from) kept) (ordered-sorted 0 0 xs o)) (one-fact Kept (λ x. x .tenant < 1 + 8) xs (λ x p. p .to) kept) kept
 
 -- ---- written and read again
 -- a tenant's entries as rules 15 and 16 have them
@@ -129,20 +129,20 @@ module _ (m : Memory) (eight : length (m .releases) ≡ 8) (v : All NeatReleases
   unfolding rows
   neat = all-mapped (All NeatRelease) remembered (m .releases) (one-fact NeatReleases (λ q. All NeatRelease (remembered q)) (m .releases) (λ q p. p .each) v)
 
-  apart-back : map (map storedRelease) (apart tenantOf 1 8 (filedMemory m)) ≡ rows
+  apart-back : map (map storedRelease) (apart releaseTenant 1 8 (filedMemory m)) ≡ rows
   unfolding filedMemory filedRelease rows
   apart-back =
-      ap (λ (k : ℕ). map (map storedRelease) (apart tenantOf 1 k (filedAll filedRelease 1 rows))) (sym many)
-      ∙ entries-back tenantOf storedRelease filedRelease NeatRelease (λ t y. refl) stored-filed 1 rows neat
+      ap (λ (k : ℕ). map (map storedRelease) (apart releaseTenant 1 k (filedAll filedRelease 1 rows))) (sym many)
+      ∙ entries-back releaseTenant storedRelease filedRelease NeatRelease (λ t y. refl) stored-filed 1 rows neat
 
   pub memory-back : storedMemory (filedMemory m) ≡ m
   unfolding storedMemory rows
   memory-back = ap {B = Memory} (λ (l : List TenantReleases). record { releases = l }) (ap (map laidReleases) apart-back ∙ laid-all (m .releases) v)
 
   -- ---- a memory can hold its own section
-  own-row : (i : ℕ) → i < 8 → length (own tenantOf (i + 1) (filedMemory m)) ≡ length (getD rows i [])
+  own-row : (i : ℕ) → i < 8 → length (own releaseTenant (i + 1) (filedMemory m)) ≡ length (getD rows i [])
   own-row i h =
-      ap length (sym (apart-at tenantOf 8 1 i (filedMemory m) h)) ∙ rows-long i (apart tenantOf 1 8 (filedMemory m))
+      ap length (sym (apart-at releaseTenant 8 1 i (filedMemory m) h)) ∙ rows-long i (apart releaseTenant 1 8 (filedMemory m))
       ∙ ap (λ (ls : List (List Release)). length (getD ls i [])) apart-back
     where
       rows-long : (i : ℕ) (ls : List (List FileRelease)) → length (getD ls i []) ≡ length (getD (map (map storedRelease) ls) i [])
@@ -172,7 +172,7 @@ module _ (m : Memory) (eight : length (m .releases) ≡ 8) (v : All NeatReleases
       let n = many in
       let a : allBy keepableB (filedMemory m) ≡ true = all-tests keepableB (λ x. keepableB x ≡ true) (filedMemory m) (λ x p. p) (filed-each filedRelease (λ x. keepableB x ≡ true) NeatRelease 1 9 keepable 1 rows (omega arith) (omega arith) neat) in
       ap (λ (b : Bool). pick b (allTo (λ i. fewFor (filedMemory m) (i + 1)) 8) false) a
-      ∙ each-to (λ i. fewFor (filedMemory m) (i + 1)) 8 (λ i h. le-leb (length (own tenantOf (i + 1) (filedMemory m))) 4 (let p = own-row i h in let q = row-few i rows rows-few in omega arith))
+      ∙ each-to (λ i. fewFor (filedMemory m) (i + 1)) 8 (λ i h. le-leb (length (own releaseTenant (i + 1) (filedMemory m))) 4 (let p = own-row i h in let q = row-few i rows rows-few in omega arith))
 
   -- ---- and its section has the format
   module _ (w : All OldestFirst (m .releases)) where

@@ -28,9 +28,9 @@ use Rattle.state.specs.Book.{laidReleases, releaseId, remembered, zeroRelease}
 use Rattle.state.specs.Edit.{rememberOf}
 use Rattle.soundness.specs.Sound.{zeroFrom}
 use Rattle.releases.specs.declared.ReleaseRules.{ReleaseRules}
-use Rattle.releases.specs.Again.{isAgain}
+use Rattle.releases.specs.Again.{isAgain, resendTime}
 use Rattle.releases.specs.Parts.{pushedR}
-use Rattle.releases.specs.Rules.{bothRules, differs, fewB, filledB, firstBroken, firstRelease, houseB, laidB, lengthB, notLeased, older, onceB, pastB, rulesAt, unusedR}
+use Rattle.releases.specs.Rules.{bothRules, differs, fewB, filledB, brokenRelease, firstRelease, houseB, laidB, lengthB, notLeased, older, onceB, pastB, rulesAt, unusedR}
 use Rattle.releases.specs.laws.Tenants.{six}
 
 pub not-is : {q p : Bool} → q ≡ p → not q ≡ not p
@@ -38,9 +38,9 @@ not-is e = ap not e
 
 -- ---- a RELEASE sent again
 module _ (clock : ℕ) (i : List ℕ) (xid : ℕ) (r : Release) where
-  pub again-is : {q : Bool} → r .xid ≡ xid → clock < r .time + 300 → q ≡ sameOf (releaseId r) i → q ≡ isAgain clock i xid r
+  pub again-is : {q : Bool} → r .xid ≡ xid → clock < r .time + resendTime → q ≡ sameOf (releaseId r) i → q ≡ isAgain clock i xid r
   unfolding isAgain
-  again-is {q} e h p = p ∙ sym (ap (λ (b : Bool). sameOf (releaseId r) i && b) (ap₂ (λ (x y : Bool). x && y) (eq-eqb (r .xid) xid e) (lt-ltb clock (r .time + 300) h)) ∙ true-r (sameOf (releaseId r) i))
+  again-is {q} e h p = p ∙ sym (ap (λ (b : Bool). sameOf (releaseId r) i && b) (ap₂ (λ (x y : Bool). x && y) (eq-eqb (r .xid) xid e) (lt-ltb clock (r .time + resendTime) h)) ∙ true-r (sameOf (releaseId r) i))
     where
       true-r : (b : Bool) → (b && true) ≡ b
       true-r true = refl
@@ -52,13 +52,13 @@ module _ (clock : ℕ) (i : List ℕ) (xid : ℕ) (r : Release) where
 
   pub again-other : (r .xid ≡ xid → ⊥) → false ≡ isAgain clock i xid r
   unfolding isAgain
-  again-other n = last-false (sameOf (releaseId r) i) ∙ ap (λ (b : Bool). sameOf (releaseId r) i && (b && ltb clock (r .time + 300))) (sym (ne-eqb (r .xid) xid n))
+  again-other n = last-false (sameOf (releaseId r) i) ∙ ap (λ (b : Bool). sameOf (releaseId r) i && (b && ltb clock (r .time + resendTime))) (sym (ne-eqb (r .xid) xid n))
 
-  pub again-late : r .time + 300 ≤ clock → false ≡ isAgain clock i xid r
+  pub again-late : r .time + resendTime ≤ clock → false ≡ isAgain clock i xid r
   unfolding isAgain
   again-late h =
       last-false (sameOf (releaseId r) i) ∙ ap (λ (b : Bool). sameOf (releaseId r) i && b) (last-false (eqb (r .xid) xid))
-      ∙ ap (λ (b : Bool). sameOf (releaseId r) i && (eqb (r .xid) xid && b)) (sym (le-ltb clock (r .time + 300) h))
+      ∙ ap (λ (b : Bool). sameOf (releaseId r) i && (eqb (r .xid) xid && b)) (sym (le-ltb clock (r .time + resendTime) h))
 
 -- one of the first x entries of four passes, or none
 module _ {t : Release → Bool} {d : Release} {l : List Release} {n i : ℕ} (x : ℕ) (v : PlaceInv t d l n (placeBy t (take x l)) i) (e : n ≡ min x 4) (g : length l ≡ 4) where
@@ -264,16 +264,16 @@ added-is a x r e p = p ∙ ap (bothRules a) e
 
 -- the first broken rule, from the first that a file can break and the layout
 module _ (r : ReleaseRules) {n : ℕ} (e : n ≡ firstRelease r) where
-  pub first-file : (n ≡ 0 → ⊥) → n ≡ firstBroken r
-  unfolding firstBroken
+  pub first-file : (n ≡ 0 → ⊥) → n ≡ brokenRelease r
+  unfolding brokenRelease
   first-file h = pick-not-eq-got _ _ _ _ _ e h e
 
-  pub first-layout : n ≡ 0 → r .layout ≡ false → 19 ≡ firstBroken r
-  unfolding firstBroken
+  pub first-layout : n ≡ 0 → r .layout ≡ false → 19 ≡ brokenRelease r
+  unfolding brokenRelease
   first-layout h b = pick-eq-got _ _ _ _ _ e h (pick-false _ _ _ _ b refl)
 
-  pub first-none : n ≡ 0 → r .layout ≡ true → 0 ≡ firstBroken r
-  unfolding firstBroken
+  pub first-none : n ≡ 0 → r .layout ≡ true → 0 ≡ brokenRelease r
+  unfolding brokenRelease
   first-none h b = pick-eq-got _ _ _ _ _ e h (pick-true _ _ _ _ b refl)
 
 pub ruleset firsts = (first-file, first-layout, first-none, not-true, not-false)

@@ -30,7 +30,7 @@ use Rattle.state.specs.laws.Edited.{applied-others, edited-none}
 use Rattle.state.specs.laws.Layout.{read-back}
 use Rattle.state.specs.laws.Sorted.{differ-turn, insert-same}
 use Rattle.soundness.specs.Sound.{idB, paddedB, tenantsIn, zeroFrom}
-use Rattle.releases.specs.Rules.{differs, fewB, filledB, houseB, laidB, leasesAt, lengthB, notLeased, older, onceB, pastB, rulesAt, unusedR}
+use Rattle.releases.specs.Rules.{differs, fewB, filledB, houseB, laidB, ownLeases, lengthB, notLeased, older, onceB, pastB, rulesAt, unusedR}
 use Rattle.releases.specs.Whole.{memoryGood}
 use Rattle.releases.specs.laws.Tenants.{Holds, each-memory, memory-each}
 
@@ -219,21 +219,21 @@ module _ (b : Book) (h : ℕ) (known : h < tenantsIn (b .state)) (there : h < le
   edited-kept : (e : Edit) → HoldsAt b h (inUse (editedIn e (tenantAt (b .table) h))) (notedIn e (releasesAt (b .memory) h)) → memoryGood (editedBook e h b) ≡ true
   edited-kept e v = each-memory (b .state) (applied e h (b .table)) (noted e h (b .memory)) (λ g p. go g p (eqb g h) refl)
     where
-      go : (g : ℕ) → g < 8 → (c : Bool) → eqb g h ≡ c → HoldsAt b g (leasesAt (applied e h (b .table)) g) (releasesAt (noted e h (b .memory)) g)
+      go : (g : ℕ) → g < 8 → (c : Bool) → eqb g h ≡ c → HoldsAt b g (ownLeases (applied e h (b .table)) g) (releasesAt (noted e h (b .memory)) g)
       go g p true q =
-          subst (λ (k : ℕ). HoldsAt b k (leasesAt (applied e h (b .table)) k) (releasesAt (noted e h (b .memory)) k)) (sym (eqb-true g h q))
-          (subst (λ (x : TenantReleases). HoldsAt b h (leasesAt (applied e h (b .table)) h) x) (sym (noted-own e h (b .memory) (omega arith)))
+          subst (λ (k : ℕ). HoldsAt b k (ownLeases (applied e h (b .table)) k) (releasesAt (noted e h (b .memory)) k)) (sym (eqb-true g h q))
+          (subst (λ (x : TenantReleases). HoldsAt b h (ownLeases (applied e h (b .table)) h) x) (sym (noted-own e h (b .memory) (omega arith)))
           (subst (λ (x : TenantLeases). HoldsAt b h (inUse x) (notedIn e (releasesAt (b .memory) h))) (sym (applied-own e h (b .table) there)) v))
       go g p false q =
           let d = eqb-false g h q in
-          subst (λ (x : TenantReleases). HoldsAt b g (leasesAt (applied e h (b .table)) g) x) (sym (noted-other e h g (b .memory) d))
+          subst (λ (x : TenantReleases). HoldsAt b g (ownLeases (applied e h (b .table)) g) x) (sym (noted-other e h g (b .memory) d))
           (subst (λ (x : TenantLeases). HoldsAt b g (inUse x) (releasesAt (b .memory) g)) (sym (applied-others e h g (b .table) d)) (memory-each (b .state) (b .table) (b .memory) good g p))
 
-  own : HoldsAt b h (leasesAt (b .table) h) (releasesAt (b .memory) h)
+  own : HoldsAt b h (ownLeases (b .table) h) (releasesAt (b .memory) h)
   own = memory-each (b .state) (b .table) (b .memory) good h (omega arith)
 
-  own-good : Good (b .state .clock) (leasesAt (b .table) h) (remembered (releasesAt (b .memory) h))
-  own-good = good-of (tenantsIn (b .state)) (b .state .clock) h (leasesAt (b .table) h) (releasesAt (b .memory) h) own
+  own-good : Good (b .state .clock) (ownLeases (b .table) h) (remembered (releasesAt (b .memory) h))
+  own-good = good-of (tenantsIn (b .state)) (b .state .clock) h (ownLeases (b .table) h) (releasesAt (b .memory) h) own
 
   -- a new lease, which forgets its identifier
   pub entering-kept : (l : Lease) → memoryGood (editedBook (entering l) h b) ≡ true
@@ -241,15 +241,15 @@ module _ (b : Book) (h : ℕ) (known : h < tenantsIn (b .state)) (there : h < le
   entering-kept l =
       edited-kept (entering l)
       (laid-holds (tenantsIn (b .state)) (b .state .clock) h after (forgetOf (idOf l) (remembered (releasesAt (b .memory) h))) known
-      (forget-good (b .state .clock) (leasesAt (b .table) h) after (idOf l) (remembered (releasesAt (b .memory) h))
+      (forget-good (b .state .clock) (ownLeases (b .table) h) after (idOf l) (remembered (releasesAt (b .memory) h))
       (λ r p q. edited-all (other (releaseId r)) (entering l) (tenantAt (b .table) h) (sym (turned r l) ∙ p) q) own-good))
     where
       after : List Lease
       after = inUse (editedIn (entering l) (tenantAt (b .table) h))
 
   -- what holds of all of the tenant's leases holds of one that stands among them
-  stands : (o : Lease) (k : ℕ) → o ≡ leaseAt (inUse (tenantAt (b .table) h)) k → k < length (inUse (tenantAt (b .table) h)) → (u : Lease → Bool) → allBy u (leasesAt (b .table) h) ≡ true → u o ≡ true
-  stands o k held below u p = ap u held ∙ all-at u zeroLease (leasesAt (b .table) h) k below p
+  stands : (o : Lease) (k : ℕ) → o ≡ leaseAt (inUse (tenantAt (b .table) h)) k → k < length (inUse (tenantAt (b .table) h)) → (u : Lease → Bool) → allBy u (ownLeases (b .table) h) ≡ true → u o ≡ true
+  stands o k held below u p = ap u held ∙ all-at u zeroLease (ownLeases (b .table) h) k below p
 
   -- a lease is released, and is remembered
   pub leaving-kept : (o : Lease) (x k : ℕ) → o ≡ leaseAt (inUse (tenantAt (b .table) h)) k → k < length (inUse (tenantAt (b .table) h)) → idB o ≡ true → paddedB o ≡ true
@@ -259,7 +259,7 @@ module _ (b : Book) (h : ℕ) (known : h < tenantsIn (b .state)) (there : h < le
       edited-kept (leaving o x c)
       (subst (λ (ls : List Lease). HoldsAt b h ls (laidReleases (rememberOf r q))) (sym (left-is o x c (tenantAt (b .table) h)))
       (laid-holds (tenantsIn (b .state)) c h rest (rememberOf r q) known
-      (remember-good c rest r q len pad refl (filter-passes (other (idOf o)) (leasesAt (b .table) h)) new fewer)))
+      (remember-good c rest r q len pad refl (filter-passes (other (idOf o)) (ownLeases (b .table) h)) new fewer)))
     where
       c : ℕ
       c = b .state .clock
@@ -271,16 +271,16 @@ module _ (b : Book) (h : ℕ) (known : h < tenantsIn (b .state)) (there : h < le
       q = remembered (releasesAt (b .memory) h)
 
       rest : List Lease
-      rest = removeOf (idOf o) (leasesAt (b .table) h)
+      rest = removeOf (idOf o) (ownLeases (b .table) h)
 
-      off : (a : Release) → allBy (other (releaseId a)) (leasesAt (b .table) h) ≡ true → not (sameOf (releaseId a) (idOf o)) ≡ true
+      off : (a : Release) → allBy (other (releaseId a)) (ownLeases (b .table) h) ≡ true → not (sameOf (releaseId a) (idOf o)) ≡ true
       off a p = turned a o ∙ stands o k held below (other (releaseId a)) p
 
       new : allBy (λ a. differs a r) q ≡ true
-      new = all-both (notLeased (leasesAt (b .table) h)) (notLeased (leasesAt (b .table) h)) (λ a. differs a r) q (λ a p p′. off a p) (own-good .free) (own-good .free)
+      new = all-both (notLeased (ownLeases (b .table) h)) (notLeased (ownLeases (b .table) h)) (λ a. differs a r) q (λ a p p′. off a p) (own-good .free) (own-good .free)
 
       fewer : Good c rest q
-      fewer = leased-good c (leasesAt (b .table) h) rest q (λ a p. filter-all (other (releaseId a)) (other (idOf o)) (leasesAt (b .table) h) p) own-good
+      fewer = leased-good c (ownLeases (b .table) h) rest q (λ a p. filter-all (other (releaseId a)) (other (idOf o)) (ownLeases (b .table) h) p) own-good
 
   -- o gives way to a lease of its identifier
   pub way-kept : (o l : Lease) (k : ℕ) → o ≡ leaseAt (inUse (tenantAt (b .table) h)) k → k < length (inUse (tenantAt (b .table) h)) → idOf l ≡ idOf o
@@ -288,13 +288,13 @@ module _ (b : Book) (h : ℕ) (known : h < tenantsIn (b .state)) (there : h < le
   unfolding notedIn pick notLeased
   way-kept o l k held below same =
       edited-kept (givingWay o l)
-      (leased-holds (tenantsIn (b .state)) (b .state .clock) h (leasesAt (b .table) h) after (releasesAt (b .memory) h)
-      (all-both (notLeased (leasesAt (b .table) h)) (notLeased (leasesAt (b .table) h)) (notLeased after) (remembered (releasesAt (b .memory) h)) (λ a p p′. off a p) (own-good .free) (own-good .free)) own)
+      (leased-holds (tenantsIn (b .state)) (b .state .clock) h (ownLeases (b .table) h) after (releasesAt (b .memory) h)
+      (all-both (notLeased (ownLeases (b .table) h)) (notLeased (ownLeases (b .table) h)) (notLeased after) (remembered (releasesAt (b .memory) h)) (λ a p p′. off a p) (own-good .free) (own-good .free)) own)
     where
       after : List Lease
       after = inUse (editedIn (givingWay o l) (tenantAt (b .table) h))
 
-      off : (a : Release) → allBy (other (releaseId a)) (leasesAt (b .table) h) ≡ true → allBy (other (releaseId a)) after ≡ true
+      off : (a : Release) → allBy (other (releaseId a)) (ownLeases (b .table) h) ≡ true → allBy (other (releaseId a)) after ≡ true
       off a p =
           edited-all (other (releaseId a)) (givingWay o l) (tenantAt (b .table) h)
           (ap (λ (i : List ℕ). not (sameOf i (releaseId a))) same ∙ stands o k held below (other (releaseId a)) p) p

@@ -23,7 +23,7 @@ use Rattle.state.specs.declared.TenantReleases.{TenantReleases}
 use Rattle.state.specs.Book.{inUse, laidOut, laidReleases, releasesAt, remembered}
 use Rattle.soundness.specs.Sound.{tenantsIn}
 use Rattle.releases.specs.declared.ReleaseRules.{ReleaseRules}
-use Rattle.releases.specs.Rules.{bothRules, brokenOf, differs, firstBroken, firstRelease, leasesAt, memoryB, noRules, notLeased, onceB, releaseRulesOf, rulesAt, rulesTo}
+use Rattle.releases.specs.Rules.{bothRules, brokenMemory, differs, brokenRelease, firstRelease, ownLeases, memoryB, noRules, notLeased, onceB, releaseRulesOf, rulesAt, rulesTo}
 
 -- what an element is past the end of an array
 abbrev pub noRelease : Release
@@ -56,7 +56,7 @@ module _ (n clock : ℕ) (t : LeaseTable) (m : Memory) where
   unfolding rulesTo allTo
   rules-none = refl
 
-  pub rules-more : (k : ℕ) → rulesTo n clock t m (suc k) ≡ bothRules (rulesTo n clock t m k) (rulesAt n clock k (leasesAt t k) (releasesAt m k))
+  pub rules-more : (k : ℕ) → rulesTo n clock t m (suc k) ≡ bothRules (rulesTo n clock t m k) (rulesAt n clock k (ownLeases t k) (releasesAt m k))
   unfolding rulesTo bothRules rulesAt allTo
   rules-more k = six (and-pick _ _) (and-pick _ _) (and-pick _ _) (and-pick _ _) (and-pick _ _) (and-pick _ _)
 
@@ -83,8 +83,8 @@ peel-last n b e = go (eqb n 0) refl e
     go true q e = (eqb-true n 0 q, peel b 0 19 (omega arith) e .0)
     go false q e = absurd (eqb-false n 0 q e)
 
-none-broken : (r : ReleaseRules) → firstBroken r ≡ 0 → Holds r
-unfolding firstBroken firstRelease
+none-broken : (r : ReleaseRules) → brokenRelease r ≡ 0 → Holds r
+unfolding brokenRelease firstRelease
 none-broken r e =
     let n = peel-last (firstRelease r) (r .layout) e in
     let a = peel (r .houses) _ 14 (omega arith) (n .0) in
@@ -94,13 +94,13 @@ none-broken r e =
     let f = peel (r .times) _ 18 (omega arith) (d .1) in
     record { houses = a .0; few = b .0; lengths = c .0; once = d .0; times = f .0; layout = n .1 }
 
-all-hold : (r : ReleaseRules) → Holds r → firstBroken r ≡ 0
-unfolding firstBroken firstRelease pick
-all-hold r v = ap firstBroken (six (v .houses) (v .few) (v .lengths) (v .once) (v .times) (v .layout))
+all-hold : (r : ReleaseRules) → Holds r → brokenRelease r ≡ 0
+unfolding brokenRelease firstRelease pick
+all-hold r v = ap brokenRelease (six (v .houses) (v .few) (v .lengths) (v .once) (v .times) (v .layout))
 
 module _ (s : State) (t : LeaseTable) (m : Memory) where
-  pub memory-each : memoryB s t m ≡ true → (h : ℕ) → h < 8 → Holds (rulesAt (tenantsIn s) (s .clock) h (leasesAt t h) (releasesAt m h))
-  unfolding memoryB brokenOf releaseRulesOf rulesTo rulesAt
+  pub memory-each : memoryB s t m ≡ true → (h : ℕ) → h < 8 → Holds (rulesAt (tenantsIn s) (s .clock) h (ownLeases t h) (releasesAt m h))
+  unfolding memoryB brokenMemory releaseRulesOf rulesTo rulesAt
   memory-each e h p =
       let v = none-broken (releaseRulesOf s t m) (eqb-true _ 0 e) in
       record {
@@ -112,8 +112,8 @@ module _ (s : State) (t : LeaseTable) (m : Memory) where
         layout = to-each _ 8 (v .layout) h p;
       }
 
-  pub each-memory : ((h : ℕ) → h < 8 → Holds (rulesAt (tenantsIn s) (s .clock) h (leasesAt t h) (releasesAt m h))) → memoryB s t m ≡ true
-  unfolding memoryB brokenOf releaseRulesOf rulesTo rulesAt
+  pub each-memory : ((h : ℕ) → h < 8 → Holds (rulesAt (tenantsIn s) (s .clock) h (ownLeases t h) (releasesAt m h))) → memoryB s t m ≡ true
+  unfolding memoryB brokenMemory releaseRulesOf rulesTo rulesAt
   each-memory f =
       eq-eqb _ 0 (all-hold (releaseRulesOf s t m) (record {
         houses = each-to _ 8 (λ h p. f h p .houses);
@@ -136,7 +136,7 @@ memory-start {s} {t} {m} e p = record { within = omega arith; whole = p ∙ sym 
 module _ {s : State} {t : LeaseTable} {m : Memory} {n : ℕ} {all : ReleaseRules} {h : ℕ} (v : MemoryInv s t m n all h) where
   -- d is what the code's element is past the end; the leases are any that give the same rules
   pub memory-next : (own : TenantLeases) (d : TenantReleases) {r : ReleaseRules} → length (m .releases) ≡ 8 → h < 8
-      → ((n clock : ℕ) → rulesAt n clock h (inUse own) (getD (m .releases) h d) ≡ rulesAt n clock h (leasesAt t h) (getD (m .releases) h d))
+      → ((n clock : ℕ) → rulesAt n clock h (inUse own) (getD (m .releases) h d) ≡ rulesAt n clock h (ownLeases t h) (getD (m .releases) h d))
       → r ≡ bothRules all (rulesAt n (s .clock) h (inUse own) (getD (m .releases) h d)) → MemoryInv s t m n r (h + 1)
   memory-next own d {r} e g f p =
       let c : ℕ = s .clock in
@@ -145,21 +145,21 @@ module _ {s : State} {t : LeaseTable} {m : Memory} {n : ℕ} {all : ReleaseRules
         within = omega arith;
         whole =
             p ∙ ap₂ bothRules (v .whole)
-            (f n c ∙ ap (λ (q : TenantReleases). rulesAt n c h (leasesAt t h) q) (at-in (m .releases) 8 h d (laidReleases []) e g)
-            ∙ ap (λ (x : ℕ). rulesAt x c h (leasesAt t h) (releasesAt m h)) (v .tenants))
+            (f n c ∙ ap (λ (q : TenantReleases). rulesAt n c h (ownLeases t h) q) (at-in (m .releases) 8 h d (laidReleases []) e g)
+            ∙ ap (λ (x : ℕ). rulesAt x c h (ownLeases t h) (releasesAt m h)) (v .tenants))
             ∙ sym (ap (rulesTo k c t m) (add-one h) ∙ rules-more k c t m h);
         tenants = v .tenants;
       }
 
-  pub memory-end : {x : ℕ} → 8 ≤ h → x ≡ firstBroken all → eqb x 0 ≡ memoryB s t m
-  unfolding memoryB brokenOf releaseRulesOf
+  pub memory-end : {x : ℕ} → 8 ≤ h → x ≡ brokenRelease all → eqb x 0 ≡ memoryB s t m
+  unfolding memoryB brokenMemory releaseRulesOf
   memory-end g p =
       let e : h ≡ 8 = omega (arith, v .within) in
-      ap (λ (x : ℕ). eqb x 0) (p ∙ ap firstBroken (v .whole ∙ ap (rulesTo (tenantsIn s) (s .clock) t m) e))
+      ap (λ (x : ℕ). eqb x 0) (p ∙ ap brokenRelease (v .whole ∙ ap (rulesTo (tenantsIn s) (s .clock) t m) e))
 
 pub ruleset memories = (memory-start, memory-next, memory-end, unmapped)
 
 -- of a table that the code reads
 pub own-rules : (t : LeaseTable) (h : ℕ) (d : TenantLeases) (q : TenantReleases) → length (t .tenants) ≡ 8 → h < 8
-    → (n clock : ℕ) → rulesAt n clock h (inUse (getD (t .tenants) h d)) q ≡ rulesAt n clock h (leasesAt t h) q
+    → (n clock : ℕ) → rulesAt n clock h (inUse (getD (t .tenants) h d)) q ≡ rulesAt n clock h (ownLeases t h) q
 own-rules t h d q e g n clock = ap (λ (x : TenantLeases). rulesAt n clock h (inUse x) q) (at-in (t .tenants) 8 h d (laidOut []) e g)

@@ -20,7 +20,7 @@ use Rattle.state.specs.Book.{Book, advanced, dropped, inUse, laidOut, leasesOf,
 use Rattle.state.specs.laws.Layout.{read-back}
 use Rattle.soundness.specs.Sound.{soundB, tenantsIn}
 use Rattle.soundness.specs.laws.Kept.{advanced-sound}
-use Rattle.releases.specs.Rules.{differs, leasesAt, notLeased, onceB, pastB, rulesAt}
+use Rattle.releases.specs.Rules.{differs, ownLeases, notLeased, onceB, pastB, rulesAt}
 use Rattle.releases.specs.Whole.{bookB, memoryGood, namesGood}
 use Rattle.releases.specs.laws.Tenants.{Holds, each-memory, memory-each}
 
@@ -67,7 +67,7 @@ unfolding advanced raised
 advanced-named b time w = w
 
 -- a tenant's leases afterwards
-leases-dropped : (c : ℕ) (t : LeaseTable) (h : ℕ) → leasesAt (dropped c t) h ≡ liveOf c (leasesAt t h)
+leases-dropped : (c : ℕ) (t : LeaseTable) (h : ℕ) → ownLeases (dropped c t) h ≡ liveOf c (ownLeases t h)
 unfolding dropped tableOf liveOf filterBy laidOut
 leases-dropped c t h =
     ap inUse (List·getD-map laidOut (map (liveOf c) (leasesOf t)) h []) ∙ read-back (getD (map (liveOf c) (leasesOf t)) h []) ∙ List·getD-map (liveOf c) (leasesOf t) h []
@@ -103,7 +103,7 @@ advanced-memory b time e =
     let c : ℕ = max (s .clock) time in
     each-memory (withClock s c) (dropped c (b .table)) (b .memory) (λ h p.
     subst (λ (ls : List Lease). Holds (rulesAt (tenantsIn s) c h ls (releasesAt (b .memory) h))) (sym (leases-dropped c (b .table) h))
-    (later (tenantsIn s) (s .clock) c h (leasesAt (b .table) h) (releasesAt (b .memory) h) (omega arith) (memory-each s (b .table) (b .memory) e h p)))
+    (later (tenantsIn s) (s .clock) c h (ownLeases (b .table) h) (releasesAt (b .memory) h) (omega arith) (memory-each s (b .table) (b .memory) e h p)))
 
 pub advanced-book : (b : Book) (time : ℕ) → bookB b ≡ true → bookB (advanced b time) ≡ true
 advanced-book b time v =

@@ -16,7 +16,7 @@ use Rattle.state.specs.declared.Release.{Release}
 use Rattle.state.specs.declared.TenantReleases.{TenantReleases}
 use Rattle.state.specs.declared.Memory.{Memory}
 use Rattle.state.specs.declared.Edit.{Edit}
-use Rattle.state.specs.Book.{Book, releasesAt, laidReleases, inUse, laidOut, leasesOf, tableOf, tenantAt, putAt, idOf, insertOf, insertedIn, removeOf}
+use Rattle.state.specs.Book.{Book, laidReleases, inUse, laidOut, leasesOf, tableOf, tenantAt, putAt, idOf, insertOf, insertedIn, removeOf}
 use Rattle.state.specs.Edit.{noEdit, entering, leaving, givingWay, leftIn, editedIn, applied, notedIn, noted, editedBook}
 use Rattle.state.specs.laws.Layout.{read-back, put-laid}
 

@@ -17,8 +17,8 @@ const fn address(a: u8, b: u8, c: u8, d: u8) -> u32 {
     Ipv4Addr::new(a, b, c, d).to_bits()
 }
 
-/// Two houses, two scopes, one lease. The small scope has names for the campus, of which the English one is the default, and house 2 has
-/// one of its own for it; the large one has no names.
+/// Two houses, two scopes, one lease, one release that is remembered. The small scope has names for the campus, of which the English one
+/// is the default, and house 2 has one of its own for it; the large one has no names.
 fn campus() -> Vec<u8> {
     let scope = |lowest, size, ttl, parts: [(u8, u8); 2], names| Scope {
         lowest,
@@ -45,6 +45,12 @@ fn campus() -> Vec<u8> {
         end: CLOCK + 3000,
         offsets: vec![0, 1, 3],
     };
+    let release = Release {
+        house: 2,
+        identifier: b"\0L0".to_vec(),
+        transaction: 0x00C0_FFED,
+        time: CLOCK - 120,
+    };
     Campus {
         server: SERVER,
         clock: CLOCK,
@@ -57,6 +63,7 @@ fn campus() -> Vec<u8> {
             scope(LARGE, 16, 31, [(4, 8), (4, 12)], vec![]),
         ],
         leases: vec![lease],
+        releases: vec![release],
     }
     .octets()
 }
@@ -70,6 +77,7 @@ fn calls() -> Vec<(u32, u32, Vec<u8>, u16)> {
         Message::new(kind, transaction, [&[identifier(of)], options].concat()).octets()
     };
     let requested = message(REQUEST, 3, a, &[server_identifier(SERVER), scope(SMALL), number(1, 2), lease_time(3600)]);
+    let released = message(RELEASE, 7, a, &[]);
     let info = |transaction, options: &[Coded]| message(GETINFO, transaction, c, options);
     vec![
         // GETINFO asking for the scope list and the time: the default name
@@ -77,6 +85,8 @@ fn calls() -> Vec<(u32, u32, Vec<u8>, u16)> {
         // in German: the campus's name, and for house 2 its own
         (11, one, message(GETINFO, 21, a, &[option_request_list(&[9]), requested_language(b"de")]), 512),
         (12, two, message(GETINFO, 22, a, &[option_request_list(&[9]), requested_language(b"de")]), 512),
+        // a RELEASE of before the file was written, sent again
+        (15, two, message(RELEASE, 0x00C0_FFED, b"\0L0", &[]), 512),
         // DISCOVER, then a REQUEST of what was offered, and the same REQUEST again: a Resend
         (20, one, message(DISCOVER, 2, a, &[scope(SMALL), number(1, 2), lease_time(3600)]), 512),
         (21, one, requested.clone(), 512),
@@ -87,8 +97,9 @@ fn calls() -> Vec<(u32, u32, Vec<u8>, u16)> {
         (700, two, message(REQUEST, 5, b, &[scope(LARGE), number(2, 4), start_time(CLOCK + 3600), current_time(CLOCK + 700)]), 512),
         // a call whose time is before the clock: the clock stays
         (650, two, message(GETINFO, 6, b, &[option_request_list(&[11])]), 512),
-        // RELEASE, and once more: error 3
-        (900, one, message(RELEASE, 7, a, &[]), 512),
+        // RELEASE, and the same again, whose ACK was lost; with another transaction id: error 3
+        (900, one, released.clone(), 512),
+        (905, one, released.clone(), 512),
         (910, one, message(RELEASE, 8, a, &[]), 512),
         // error 0: four addresses are above house 1's limit
         (920, one, message(REQUEST, 9, c, &[scope(SMALL), number(4, 4)]), 512),
@@ -112,6 +123,9 @@ fn calls() -> Vec<(u32, u32, Vec<u8>, u16)> {
         (1010, one, message(REQUEST, 18, c, &[server_identifier(SERVER + 1), scope(SMALL)]), 512),
         // 8: a DISCOVER of an identifier that the house holds
         (1020, two, message(DISCOVER, 19, b, &[scope(LARGE)]), 512),
+        // the same RELEASE again: 299 seconds after it an ACK, 300 after it error 3
+        (1199, one, released.clone(), 512),
+        (1200, one, released, 512),
         // the lease of the file has ended: house 2 doesn't hold it any more
         (3000, two, message(RELEASE, 20, b"\0L1", &[]), 512),
     ]

@@ -90,8 +90,9 @@ fn unsound_files_are_21() {
     assert_eq!(refusal(&wrong_house), Some(Refusal::Unsound));
 }
 
-/// 8 houses, 4 scopes, 128 leases with 32 octets of identifier and 64 addresses, four names of 8 and 32 octets in each list: the longest file
-/// that has the limits' counts. Its form is right, and as each house has all addresses of a scope it is unsound.
+/// 8 houses, 4 scopes, 128 leases with 32 octets of identifier and 64 addresses, four names of 8 and 32 octets in each list, 32 releases with 32
+/// octets of identifier: the longest file that has the limits' counts. Its form is right, and as each house has all addresses of a scope it is
+/// unsound.
 fn longest() -> Campus {
     let name = Name::new(128, b"language", b"a name of the thirty-two octets.");
     let pool = |number: u32| Scope {
@@ -106,6 +107,12 @@ fn longest() -> Campus {
         offsets: (0..64).collect(),
         ..lease(number / 16 + 1, &[number; 32])
     };
+    let release = |number: u8| Release {
+        house: number / 4 + 1,
+        identifier: vec![200 + number; 32],
+        transaction: 7,
+        time: CLOCK,
+    };
     Campus {
         server: SERVER,
         clock: CLOCK,
@@ -114,6 +121,7 @@ fn longest() -> Campus {
             .collect(),
         scopes: (0..4).map(pool).collect(),
         leases: (0..128).map(lease).collect(),
+        releases: (0..32).map(release).collect(),
     }
 }
 
@@ -121,12 +129,13 @@ fn longest() -> Campus {
 fn the_longest_file_fits_and_an_overlong_one_is_20() {
     let mut campus = longest();
     let mut file = campus.octets();
-    assert_eq!((file.len(), campus.names().len()), (20_857, 6_229));
+    let sections = (campus.names().len(), campus.releases().len());
+    assert_eq!((file.len(), sections), (22_202, (6_229, 1_345)));
     assert_eq!(refusal(&file), Some(Refusal::Unsound));
     file.push(0);
     assert_eq!(refusal(&file), Some(Refusal::Form));
     // Longer identifiers are unsound, and their file is of right form up to 32,768 octets.
-    let mut left = FILE_ROOM - 20_857;
+    let mut left = FILE_ROOM - 22_202;
     for lease in &mut campus.leases {
         let more = left.min(255 - 32);
         lease.identifier.resize(32 + more, 0);

@@ -14,7 +14,7 @@ fn on_that_stack(work: impl FnOnce() + Send + 'static) {
     thread.expect("a thread").join().expect("no panic");
 }
 
-/// So many houses, scopes of 64 addresses, and lists of so many of the longest names.
+/// So many houses, scopes of 64 addresses, lists of so many of the longest names, and as many releases of each house.
 fn settings(houses: u32, scopes: u32, names: usize) -> Campus {
     let name = Name::new(128, b"language", b"a name of the thirty-two octets.");
     let scope = |number: u32| Scope {
@@ -24,6 +24,13 @@ fn settings(houses: u32, scopes: u32, names: usize) -> Campus {
         parts: vec![(8, 64); houses as usize],
         names: vec![vec![name.clone(); names]; houses as usize + 1],
     };
+    let release = |(house, number): (u32, u8)| Release {
+        house: house as u8 + 1,
+        identifier: vec![number; 32],
+        transaction: 9,
+        time: CLOCK,
+    };
+    let releases = (0..houses).flat_map(|house| (0..names as u8).map(move |n| (house, n)));
     Campus {
         server: SERVER,
         clock: CLOCK,
@@ -32,6 +39,7 @@ fn settings(houses: u32, scopes: u32, names: usize) -> Campus {
             .collect(),
         scopes: (0..scopes).map(scope).collect(),
         leases: vec![],
+        releases: releases.map(release).collect(),
     }
 }
 
@@ -47,21 +55,34 @@ fn the_most_scopes_and_lists_are_walked() {
 
 #[test]
 fn a_full_campus_is_served() {
-    let file = settings(8, 4, 4).octets();
+    let mut full = settings(8, 4, 4);
     on_that_stack(move || {
-        let mut campus = CampusFile::from_bytes(&file).expect("sound");
+        let mut campus = CampusFile::from_bytes(&full.octets()).expect("sound");
         let options = [identifier(b"ab"), scope(POOL), number(1, 8)];
         let getinfo = [
             identifier(b"ab"),
             option_request_list(&[9, 11]),
             requested_language(b"language"),
         ];
+        // The RELEASE is the fifth of its house.
+        let mut remember = |house: u8| {
+            let places = usize::from(house - 1) * 4..usize::from(house) * 4;
+            full.releases[places.clone()].rotate_left(1);
+            full.releases[places.end - 1] = Release {
+                house,
+                identifier: b"ab".to_vec(),
+                transaction: RELEASE.into(),
+                time: CLOCK,
+            };
+            full.octets()
+        };
         let mut calls = vec![];
         for (kind, options) in [
             (DISCOVER, &options[..]),
             (REQUEST, &options),
             (RENEW, &options[..1]),
             (GETINFO, &getinfo),
+            (RELEASE, &options[..1]),
             (RELEASE, &options[..1]),
         ] {
             let datagram = message(kind, u32::from(kind), options);
@@ -74,10 +95,10 @@ fn a_full_campus_is_served() {
             };
             call.append_to(&mut calls);
         }
-        assert_eq!(campus.as_bytes(), file);
-        let mut answers = vec![0; 5 * ANSWER_ROOM];
+        assert_eq!(campus.as_bytes(), remember(1));
+        let mut answers = vec![0; 6 * ANSWER_ROOM];
         assert_eq!(campus.replay(&calls, &mut answers).stopped, None);
-        assert_eq!(campus.as_bytes(), file);
+        assert_eq!(campus.as_bytes(), remember(2));
         campus.board();
     });
 }

@@ -1,7 +1,8 @@
-//! The book: the server's settings with the scopes' names, its clock and its leases.
+//! The book: the server's settings with the scopes' names, its clock, its leases and the remembered releases.
 
 use crate::names::ScopeNames;
 use crate::period::Period;
+use crate::releases::Release;
 
 /// Houses and scopes, at most ("Houses 1 to 8; scopes 1 to 4").
 pub const MOST_HOUSES: usize = 8;
@@ -72,6 +73,7 @@ impl Lease {
 
 /// The book. Leases of all houses stand in one list, in the campus file's order.
 /// The names stand in the order of the scopes; they are settings, and no call changes them.
+/// The remembered releases of all houses stand in one list too, by house, oldest first.
 #[derive(Clone, Debug, PartialEq, Eq)]
 pub struct Book {
     pub server: u32,
@@ -80,6 +82,7 @@ pub struct Book {
     pub scopes: Vec<Scope>,
     pub leases: Vec<Lease>,
     pub names: Vec<ScopeNames>,
+    pub releases: Vec<Release>,
 }
 
 /// How a house stands in a scope.

@@ -3,6 +3,7 @@
 use crate::book::{Book, House, Lease, Quota, Scope};
 use crate::names::{Name, ScopeNames};
 use crate::octets::Octets;
+use crate::releases::{releases_in_file_order, Release};
 use crate::sound::{leases_in_file_order, names_are_good, offsets_rise, sound};
 
 /// The longest campus file.
@@ -40,6 +41,7 @@ fn read_form(file: &[u8]) -> Option<Book> {
     let scopes = section(&mut octets, |octets| read_scope(octets, houses.len()))?;
     let leases = section(&mut octets, read_lease)?;
     let names = section(&mut octets, |octets| read_scope_names(octets, houses.len()))?;
+    let releases = section(&mut octets, read_release)?;
     let book = Book {
         server,
         clock,
@@ -47,9 +49,10 @@ fn read_form(file: &[u8]) -> Option<Book> {
         scopes,
         leases,
         names,
+        releases,
     };
-    (octets.is_empty() && leases_in_file_order(&book.leases) && names_are_good(&book))
-        .then_some(book)
+    let in_order = leases_in_file_order(&book.leases) && releases_in_file_order(&book.releases);
+    (octets.is_empty() && in_order && names_are_good(&book)).then_some(book)
 }
 
 /// A one-octet count and then that many entries.
@@ -118,6 +121,16 @@ fn read_name(octets: &mut Octets) -> Option<Name> {
     })
 }
 
+/// House(1), identifier length(1) and octets, transaction id(4), time(4).
+fn read_release(octets: &mut Octets) -> Option<Release> {
+    Some(Release {
+        house: octets.u8()?,
+        identifier: counted_octets(octets)?,
+        transaction: octets.u32()?,
+        time: octets.u32()?,
+    })
+}
+
 /// A one-octet length and then that many octets.
 fn counted_octets(octets: &mut Octets) -> Option<Vec<u8>> {
     let length = octets.u8()?;
@@ -160,6 +173,10 @@ fn file_of(book: &Book) -> Vec<u8> {
     for names in &book.names {
         write_scope_names(&mut file, names);
     }
+    file.push(book.releases.len() as u8);
+    for release in &book.releases {
+        write_release(&mut file, release);
+    }
     file
 }
 
@@ -193,4 +210,12 @@ fn write_scope_names(file: &mut Vec<u8>, names: &ScopeNames) {
             file.extend(name.octets());
         }
     }
+}
+
+fn write_release(file: &mut Vec<u8>, release: &Release) {
+    file.push(release.house);
+    file.push(release.identifier.len() as u8);
+    file.extend(&release.identifier);
+    file.extend(release.transaction.to_be_bytes());
+    file.extend(release.time.to_be_bytes());
 }

@@ -1,5 +1,5 @@
-//! An independent second MADCAP server library, written from documents 01 and 02 (W-201) and the MADCAP draft
-//! only (with the project's readings where the documents are open), and used for comparison.
+//! An independent second MADCAP server library, written from documents 01 and 02 (as far as W-202) and the
+//! MADCAP draft only (with the project's readings where the documents are open), and used for comparison.
 //! It is plain and slow on purpose: where the rules speak of addresses one by one, so does the code.
 
 #![forbid(unsafe_code)]
@@ -12,11 +12,13 @@ pub mod names;
 pub mod octets;
 pub mod period;
 pub mod programs;
+pub mod releases;
 pub mod reply;
 pub mod server;
 pub mod sound;
 
 pub use book::{Book, House, Lease, Quota, Scope};
 pub use names::{Name, ScopeNames};
+pub use releases::Release;
 pub use server::serve;
 pub use sound::sound;

@@ -4,6 +4,7 @@ use crate::book::{file_key, Book, Lease, RECORDS_OF_A_HOUSE};
 use crate::grant::grant;
 use crate::message::{code, Header, Kind, Options, ACK, OFFER};
 use crate::period::{Period, DEFAULT_LEASE};
+use crate::releases::{forget, remember, Release};
 use crate::reply;
 use crate::sound::sound;
 
@@ -130,10 +131,13 @@ impl Call<'_> {
     }
 }
 
-/// Resend, then the errors 1, 2 and 3, then what the message asks, which may draw error 0.
+/// Resend, of a RELEASE too, then the errors 1, 2 and 3, then what the message asks, which may draw error 0.
 fn reply_or_error(book: &mut Book, call: &Call) -> Result<Vec<u8>, u16> {
     if let Some(lease) = resent(book, call) {
         return Ok(call.lease_reply(ACK, book, lease));
+    }
+    if is_release_sent_again(book, call) {
+        return Ok(reply::of_release(book, &call.header, &call.options));
     }
     if is_bad_request(book, call) {
         return Err(BAD_REQUEST);
@@ -166,6 +170,17 @@ fn resent<'a>(book: &'a Book, call: &Call) -> Option<&'a Lease> {
             && lease.message_type == call.header.kind.number()
             && lease.transaction == call.header.transaction
     })
+}
+
+/// A RELEASE with the house, identifier and transaction id of a remembered release, at a clock less than
+/// 300 seconds after that. It changes nothing, the time remembered neither.
+fn is_release_sent_again(book: &Book, call: &Call) -> bool {
+    call.header.kind == Kind::Release
+        && book.releases.iter().any(|release| {
+            release.is_of(call.house, call.options.identifier)
+                && release.transaction == call.header.transaction
+                && release.counts_at(book.clock)
+        })
 }
 
 /// Error 1.
@@ -237,10 +252,11 @@ fn discover(book: &Book, call: &Call) -> Result<Vec<u8>, u16> {
     Ok(call.lease_reply(OFFER, book, &lease))
 }
 
-/// REQUEST records the lease with its type and transaction id.
+/// REQUEST records the lease with its type and transaction id. A new lease on an identifier forgets its release.
 fn request(book: &mut Book, call: &Call) -> Result<Vec<u8>, u16> {
     let lease = new_lease(book, call)?;
     let octets = call.lease_reply(ACK, book, &lease);
+    forget(&mut book.releases, lease.house, &lease.identifier);
     book.insert(lease);
     Ok(octets)
 }
@@ -280,11 +296,18 @@ fn overlaps_another(book: &Book, place: usize, period: &Period) -> bool {
     })
 }
 
-/// RELEASE removes the lease. Error 3 if the house doesn't hold the identifier.
+/// RELEASE removes the lease and is remembered. Error 3 if the house doesn't hold the identifier.
 fn release(book: &mut Book, call: &Call) -> Result<Vec<u8>, u16> {
     let place = book
         .position(call.house, call.options.identifier)
         .ok_or(NOT_HELD)?;
-    book.leases.remove(place);
+    let lease = book.leases.remove(place);
+    let release = Release {
+        house: lease.house,
+        identifier: lease.identifier,
+        transaction: call.header.transaction,
+        time: book.clock,
+    };
+    remember(&mut book.releases, release);
     Ok(reply::of_release(book, &call.header, &call.options))
 }

@@ -5,6 +5,7 @@ use crate::book::{
     RECORDS_OF_A_HOUSE, SHORTEST_IDENTIFIER,
 };
 use crate::message::Kind;
+use crate::releases::{releases_in_file_order, Release, RELEASES_OF_A_HOUSE};
 use std::collections::BTreeSet;
 
 /// Pools lie inside 224.0.0.0 to 239.255.255.255.
@@ -27,6 +28,8 @@ pub fn sound(book: &Book) -> bool {
         && holdings_within_limits(book)
         && shares_are_kept(book)
         && names_are_good(book)
+        && releases_are_sound(book)
+        && releases_in_file_order(&book.releases)
 }
 
 /// Houses 1 to 8, scopes 1 to 4, addresses in a scope 1 to 64; a share and limit for each house.
@@ -178,4 +181,42 @@ pub fn names_are_good(book: &Book) -> bool {
             .names
             .iter()
             .all(|names| names.are_good(book.houses.len()))
+}
+
+/// The five rules of the remembered releases. Their order is a matter of its own.
+fn releases_are_sound(book: &Book) -> bool {
+    book.releases
+        .iter()
+        .all(|release| release_is_sound(book, release))
+        && four_releases_to_a_house(book)
+        && released_identifiers_differ(book)
+}
+
+/// What is asked of each release by itself and beside the leases: a known house, an identifier neither too short
+/// nor too long and not on a lease of the house, and a time that is not after the clock.
+fn release_is_sound(book: &Book, release: &Release) -> bool {
+    book.house(release.house).is_some()
+        && (SHORTEST_IDENTIFIER..=LONGEST_IDENTIFIER).contains(&release.identifier.len())
+        && book
+            .leases
+            .iter()
+            .all(|lease| !release.is_of(lease.house, &lease.identifier))
+        && release.time <= book.clock
+}
+
+/// At most four remembered releases to a house.
+fn four_releases_to_a_house(book: &Book) -> bool {
+    book.house_numbers().all(|house| {
+        let releases = book.releases.iter().filter(|other| other.house == house);
+        releases.count() <= RELEASES_OF_A_HOUSE
+    })
+}
+
+/// No identifier is repeated in a house, whatever the transaction ids and times.
+fn released_identifiers_differ(book: &Book) -> bool {
+    book.releases.iter().enumerate().all(|(place, release)| {
+        book.releases[..place]
+            .iter()
+            .all(|other| !release.is_of(other.house, &other.identifier))
+    })
 }

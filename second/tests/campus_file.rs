@@ -12,9 +12,11 @@ const EMPTY: &str = "01 0A010101 000003E8
     02 0A010000 0A0100FF 0A020000 0A0200FF
     01 EFC00000 04 0F 02 03 01 04
     00
-    01 00 00 00";
-/// The names' section of the specimens' book, which has none: one scope, and three empty lists.
-const NO_NAMES: &str = "01 00 00 00";
+    01 00 00 00
+    00";
+/// The last two sections of the specimens' book, which has no names and no release: one scope, and three empty
+/// lists; no release.
+const NO_NAMES_NO_RELEASE: &str = "01 00 00 00 00";
 /// The same after P1 and P3.
 const AFTER_P3: &str = "01 0A010101 000003E8
     02 0A010000 0A0100FF 0A020000 0A0200FF
@@ -22,14 +24,15 @@ const AFTER_P3: &str = "01 0A010101 000003E8
     02
     01 01 02 00A3 03 00000003 000003E8 000007D0 02 02 03
     02 01 02 00B2 03 00000001 000003E8 000011F8 02 00 01
-    01 00 00 00";
+    01 00 00 00
+    00";
 
 /// The specimens' settings with the leases that the hex gives, count and all.
 fn with_leases(leases: &str) -> Vec<u8> {
     let mut file = hex(EMPTY);
-    file.truncate(file.len() - hex(NO_NAMES).len() - 1);
+    file.truncate(file.len() - hex(NO_NAMES_NO_RELEASE).len() - 1);
     file.extend(hex(leases));
-    file.extend(hex(NO_NAMES));
+    file.extend(hex(NO_NAMES_NO_RELEASE));
     file
 }
 
@@ -128,17 +131,19 @@ fn counts_past_the_limits_are_21_where_the_layout_fits() {
         + "01 EFC00000 04 0F"
         + &"00 00".repeat(9)
         + "00 01"
-        + &"00".repeat(10);
+        + &"00".repeat(10)
+        + "00";
     assert_eq!(read(&hex(&nine_houses)), Err(21));
     assert_eq!(read(&hex(&nine_houses[..nine_houses.len() - 2])), Err(20));
-    let no_house = "01 0A010101 000003E8 00 01 EFC00000 04 0F 00 01 00";
+    let no_house = "01 0A010101 000003E8 00 01 EFC00000 04 0F 00 01 00 00";
     assert_eq!(read(&hex(no_house)), Err(21));
-    let no_scope = "01 0A010101 000003E8 01 0A010000 0A0100FF 00 00 00";
+    let no_scope = "01 0A010101 000003E8 01 0A010000 0A0100FF 00 00 00 00";
     assert_eq!(read(&hex(no_scope)), Err(21));
     let five_scopes = "01 0A010101 000003E8 01 0A010000 0A0100FF 05".to_string()
         + &"EFC00000 04 0F 00 00".repeat(5)
         + "00 05"
-        + &"00 00".repeat(5);
+        + &"00 00".repeat(5)
+        + "00";
     assert_eq!(read(&hex(&five_scopes)), Err(21));
     let long_identifier =
         "01 01 01 FF".to_string() + &"41".repeat(255) + "03 00000001 000003E8 000007D0 01 00";
@@ -186,6 +191,7 @@ fn fullest_book() -> Book {
     };
     let halves: [Vec<u8>; 2] = [(0..32).collect(), (32..64).collect()];
     let mut leases = vec![];
+    let mut releases = vec![];
     for house in 0..8u8 {
         for number in 0..16u8 {
             let start = u32::from(number);
@@ -193,6 +199,9 @@ fn fullest_book() -> Book {
             let mut lease = lease(house + 1, &[number; 32], start, start + 1, half);
             lease.scope = house / 2 + 1;
             leases.push(lease);
+        }
+        for number in 16..20u8 {
+            releases.push(release(house + 1, &[number; 32], u32::MAX, 0));
         }
     }
     Book {
@@ -202,6 +211,7 @@ fn fullest_book() -> Book {
         scopes,
         leases,
         names: vec![names; 4],
+        releases,
     }
 }
 
@@ -210,7 +220,8 @@ fn the_longest_file_of_a_sound_book() {
     let book = fullest_book();
     let mut room = vec![7; LONGEST_FILE];
     let length = write(&book, &mut room).expect("a length");
-    assert_eq!(length, 164 + 128 * 81 + 1 + 4 * 9 * (1 + 4 * 43));
+    let names = 1 + 4 * 9 * (1 + 4 * 43);
+    assert_eq!(length, 164 + 128 * 81 + names + 1 + 32 * 42);
     assert_eq!(read(&room[..length]), Ok(book));
     assert!(room[length..].iter().all(|&octet| octet == 7));
 }
@@ -239,13 +250,15 @@ fn more_than_32_768_octets_are_20() {
     assert_eq!(read(&file_of(32_767)), Err(21));
     assert_eq!(read(&file_of(32_768)), Err(21));
     assert_eq!(read(&file_of(32_769)), Err(20));
-    // Just 32,768 are judged as usual: with an octet in excess, or without its names, a file is 20.
+    // Just 32,768 are judged as usual: with an octet in excess, or without its last section or two, a file is 20.
     let mut excess = file_of(32_767);
     excess.push(0);
     assert_eq!(read(&excess), Err(20));
-    let mut unnamed = file_of(32_772);
-    unnamed.truncate(32_768);
-    assert_eq!(read(&unnamed), Err(20));
+    for left_out in [1, 5] {
+        let mut cut = file_of(32_768 + left_out);
+        cut.truncate(32_768);
+        assert_eq!(read(&cut), Err(20));
+    }
     // The programs go by the same limit.
     assert_eq!(board(&file_of(32_768)), "refused 21\n");
     assert_eq!(board(&file_of(32_769)), "refused 20\n");
@@ -302,7 +315,7 @@ const P12_LINE: &str = "0 0006000101020304000200060001\
 #[test]
 fn replay_texts() {
     let empty_line = "book 010a010101000003e8020a0100000a0100ff0a0200000a0200ff\
-        01efc00000040f020301040001000000\n";
+        01efc00000040f02030104000100000000\n";
     let file = hex(EMPTY);
     assert_eq!(replay(&replay_input(&file, "")), empty_line);
     assert_eq!(

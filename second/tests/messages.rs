@@ -375,7 +375,7 @@ fn release_removes_the_lease() {
     );
     assert_eq!(call(&mut book, CLIENT_1, 1000, &release), (0, ack));
     assert_eq!(book.leases, [kept]);
-    assert_eq!(error(&mut book, CLIENT_1, 1000, &release), 3);
+    assert_eq!(book.releases, [common::release(1, ID, 6, 1000)]);
 }
 
 #[test]

@@ -471,12 +471,13 @@ fn no_call_changes_the_names() {
     }
     assert_eq!(call(&mut book, STRANGER, u32::MAX, &[]).0, 3);
     assert_eq!(book.names, before);
-    // They are in the file afterwards.
+    // They are in the file afterwards, before the release.
     let mut room = vec![0; LONGEST_FILE];
     let length = write(&book, &mut room).expect("a length");
     let section = hex("01 02 80 02 656E 01 41 00 02 6465 01 42
         01 00 02 6465 01 42
-        01 80 02 656E 01 41");
+        01 80 02 656E 01 41
+        01 01 02 0041 00000006 000003EE");
     assert!(room[..length].ends_with(&section));
     assert_eq!(read(&room[..length]), Ok(book));
 }

@@ -29,9 +29,9 @@ const TWO_SCOPES: &str = "01 0A010101 000003E8
 const EN: &str = "00 02 656E 01 41";
 const DE: &str = "80 02 6465 02 4243";
 
-/// What the reader makes of settings with a names' section.
+/// What the reader makes of settings with a names' section. No release follows.
 fn named(settings: &str, names: &str) -> Result<Book, u8> {
-    read(&hex(&format!("{settings} {names}")))
+    read(&hex(&format!("{settings} {names} 00")))
 }
 
 /// The refusal of the specimens' settings with a names' section, 0 for none.
@@ -59,7 +59,7 @@ fn name_of(flags: u8, tag: usize, text: usize) -> String {
 }
 
 #[test]
-fn the_section_stands_last_and_by_scope() {
+fn the_section_stands_after_the_leases_and_by_scope() {
     // Per scope the campus list, then house 1's and house 2's. No scope is told otherwise than by its place.
     let section = format!("02  02 {EN} {DE} 00 01 {DE}  00 01 {EN} 02 {EN} {EN}");
     let book = named(TWO_SCOPES, &section).expect("a book");
@@ -79,22 +79,24 @@ fn the_section_stands_last_and_by_scope() {
     // Written back octet for octet.
     let mut room = vec![7; LONGEST_FILE];
     let length = write(&book, &mut room).expect("a length");
-    assert_eq!(room[..length], hex(&format!("{TWO_SCOPES} {section}")));
+    assert_eq!(room[..length], hex(&format!("{TWO_SCOPES} {section} 00")));
     assert!(room[length..].iter().all(|&octet| octet == 7));
     // 23 goes by the length with the names.
     assert_eq!(write(&book, &mut room[..length]), Ok(length));
     let mut short = vec![7; length - 1];
     assert_eq!(write(&book, &mut short), Err(23));
     assert!(short.iter().all(|&octet| octet == 7));
-    // Names before the leases are no names: the sections have an order.
+    // Names before the leases, or after the releases, are no names: the sections have an order.
     let (settings, leases) = TWO_SCOPES.rsplit_once('\n').expect("two lines");
     assert_eq!(named(settings, &format!("{section} {leases}")), Err(20));
+    let names_last = hex(&format!("{TWO_SCOPES} 00 {section}"));
+    assert_eq!(read(&names_last), Err(20));
 }
 
 #[test]
 fn every_cut_and_every_excess_is_20() {
     let section = format!("02  02 {EN} {DE} 00 01 {DE}  00 01 {EN} 02 {EN} {EN}");
-    let file = hex(&format!("{TWO_SCOPES} {section}"));
+    let file = hex(&format!("{TWO_SCOPES} {section} 00"));
     assert!(read(&file).is_ok());
     for length in 0..file.len() {
         assert_eq!(read(&file[..length]), Err(20), "cut to {length}");
@@ -108,6 +110,7 @@ fn every_cut_and_every_excess_is_20() {
 
 #[test]
 fn a_missing_section_is_20() {
+    assert_eq!(read(&hex(SETTINGS)), Err(20));
     assert_eq!(refusal(""), 20);
     assert_eq!(refusal("01 00 00 00"), 0);
     // Even where the book is unsound: TTL 0.
@@ -258,7 +261,7 @@ fn names_go_by_the_house_and_scope_counts_as_written() {
 
 #[test]
 fn the_programs_and_the_names() {
-    let file = hex(&format!("{SETTINGS} 01 01 {EN} 00 01 {DE}"));
+    let file = hex(&format!("{SETTINGS} 01 01 {EN} 00 01 {DE} 00"));
     let text = "scope house share limit holds\n239.192.0.0 1 2 3 0\n239.192.0.0 2 1 4 0\n";
     assert_eq!(board(&file), text);
     let mut input = (file.len() as u16).to_be_bytes().to_vec();

@@ -421,3 +421,123 @@ fn texts_of_1_to_32_octets() {
     refused_list(&[name(0, 2, 33)]);
     refused_list(&[name(0, 2, 258)]);
 }
+
+#[test]
+fn releases_name_a_known_house() {
+    for house in [1, 2] {
+        accepted(|book| book.releases = vec![release(house, &[0, 1], 1, 1000)]);
+    }
+    for house in [0, 3, 200] {
+        refused(|book| book.releases = vec![release(house, &[0, 1], 1, 1000)]);
+    }
+}
+
+#[test]
+fn four_releases_to_a_house() {
+    let releases = |house: u8, count: usize| {
+        (0..count).map(move |number| release(house, &[number as u8, 7], 1, 1000))
+    };
+    for house in [1, 2] {
+        accepted(|book| book.releases = releases(house, 4).collect());
+        refused(|book| book.releases = releases(house, 5).collect());
+    }
+    accepted(|book| book.releases = releases(1, 4).chain(releases(2, 4)).collect());
+    refused(|book| book.releases = releases(1, 3).chain(releases(2, 5)).collect());
+    refused(|book| book.releases = releases(1, 256).collect());
+}
+
+#[test]
+fn released_identifiers_of_2_to_32_octets() {
+    let length =
+        |length| move |book: &mut Book| book.releases = vec![release(1, &vec![0; length], 1, 1000)];
+    for (octets, is_sound) in [
+        (0, false),
+        (1, false),
+        (2, true),
+        (32, true),
+        (33, false),
+        (258, false),
+    ] {
+        if is_sound {
+            accepted(length(octets));
+        } else {
+            refused(length(octets));
+        }
+    }
+}
+
+#[test]
+fn released_identifiers_differ_within_a_house() {
+    let two = |first, second| move |book: &mut Book| book.releases = vec![first, second];
+    refused(two(
+        release(1, &[0, 1], 1, 1000),
+        release(1, &[0, 1], 1, 1000),
+    ));
+    refused(two(
+        release(1, &[0, 1], 1, 900),
+        release(1, &[0, 1], 2, 1000),
+    ));
+    accepted(two(
+        release(1, &[0, 1], 1, 1000),
+        release(1, &[0, 2], 1, 1000),
+    ));
+    accepted(two(
+        release(1, &[0, 1], 1, 1000),
+        release(2, &[0, 1], 1, 1000),
+    ));
+    refused(|book| {
+        book.releases = vec![
+            release(1, &[0, 1], 1, 1000),
+            release(1, &[0, 2], 1, 1000),
+            release(1, &[0, 1], 1, 1000),
+        ];
+    });
+}
+
+#[test]
+fn no_release_on_a_lease_of_the_house() {
+    let leased_by = |house| {
+        move |book: &mut Book| {
+            book.leases = vec![lease(house, &[0, 1], 1000, 1001, &[0])];
+            book.releases = vec![release(1, &[0, 1], 1, 1000), release(2, &[0, 2], 1, 1000)];
+        }
+    };
+    refused(leased_by(1));
+    accepted(leased_by(2));
+    // A lease of next week counts too.
+    refused(|book| {
+        book.leases = vec![lease(2, &[0, 2], 500_000, 600_000, &[0])];
+        book.releases = vec![release(2, &[0, 2], 1, 1000)];
+    });
+}
+
+#[test]
+fn releases_not_after_the_clock() {
+    for time in [0, 999, 1000] {
+        accepted(|book| book.releases = vec![release(1, &[0, 1], 1, time)]);
+    }
+    for time in [1001, u32::MAX] {
+        refused(|book| book.releases = vec![release(1, &[0, 1], 1, time)]);
+    }
+    accepted(|book| {
+        book.clock = u32::MAX;
+        book.releases = vec![release(1, &[0, 1], 1, u32::MAX)];
+    });
+}
+
+#[test]
+fn releases_stand_by_house_oldest_first() {
+    let in_order = |houses_and_times: &'static [(u8, u32)]| {
+        move |book: &mut Book| {
+            book.releases = (0..)
+                .zip(houses_and_times)
+                .map(|(number, (house, time))| release(*house, &[number, 0], 1, *time))
+                .collect();
+        }
+    };
+    accepted(in_order(&[(1, 900), (1, 900), (1, 1000), (2, 0), (2, 1)]));
+    refused(in_order(&[(2, 1000), (1, 1000)]));
+    refused(in_order(&[(1, 1000), (2, 1000), (1, 1000)]));
+    refused(in_order(&[(1, 1000), (1, 999)]));
+    refused(in_order(&[(1, 0), (2, 1), (2, 0)]));
+}

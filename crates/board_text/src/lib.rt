@@ -172,13 +172,16 @@ fn read_book(file: &[u8]) -> Loaded
 {
     let f = owned::open(file);
     let o = f.owned;
-    let state = o.state;
+    let ledger = o.ledger;
+    let state = ledger.state;
+    let memory = ledger.memory;
     let records = o.records;
     let table = records::table_of(records);
     Loaded {
         refusal: f.refusal,
         state: state,
         table: table,
+        memory: memory,
     }
 }
 

@@ -1,8 +1,9 @@
--- Specimens: document 01's specimens P1 to P9 and those of skew, with Resend, RELEASE and DISCOVER, by computation: one table of cases.
+-- Specimens: document 01's specimens P1 to P9 and those of skew, with Resend, RELEASE and DISCOVER, and a RELEASE sent again (document 02, W-202), by
+-- computation: one table of cases.
 use mathlib.Core.Path.{_≡_, refl}
-use mathlib.Core.List.{List, [], _∷_}
+use mathlib.Core.List.{List, [], _∷_, _++_}
 use mathlib.Core.Bool.{Bool, true, false, not, _&&_}
-use Prim.Native.Nat.{ℕ}
+use Prim.Native.Nat.{ℕ, _+_}
 use lib.ListN.{replicate}
 use lib.Dec.{eqb}
 use Rattle.lists.specs.Pick.{pick}
@@ -17,12 +18,13 @@ use Rattle.message.specs.declared.Wish.{Wish}
 use Rattle.message.specs.declared.Fields.{Fields}
 use Rattle.message.specs.declared.Language.{Language}
 use Rattle.state.specs.declared.State.{State}
-use Rattle.state.specs.declared.LeaseTable.{LeaseTable}
-use Rattle.state.specs.Book.{byIdentifier, zeroScope, laidOut, tableOf, insertOf, removeOf, liveOf, dropped, unionAll, addressesOf, overlaps, usedIn, withHeld, committed, insertedIn}
+use Rattle.state.specs.Book.{Book, changedTo, laidReleases, releasesAt, remembered, byIdentifier, zeroScope, laidOut, tableOf, insertOf, removeOf, liveOf, dropped, unionAll, addressesOf, overlaps, usedIn, withHeld, committed, insertedIn}
 use Rattle.allocation.specs.Rule.{takenOf, busyIn, allowed, grantOf, suffices, grantTo}
-use Rattle.state.specs.Edit.{leftIn, editedIn, applied}
+use Rattle.state.specs.Edit.{leftIn, editedIn, applied, rememberOf, forgetOf, notedIn, noted, editedBook}
+use Rattle.releases.specs.Again.{isAgain, anyAgain}
+use Rattle.decision.specs.declared.Decided.{Decided}
 use Rattle.decision.specs.declared.Verdict.{Verdict}
-use Rattle.decision.specs.Parts.{heldAlready, isNew, hasPeriod, holdsOf, recordedOf, resends, scopePlace, knowsScope, lacksScope, zeroLength, badCounts, lacksCurrent, early1Of, error1Of, skewed, error2Of, error3Of, wishedOr, startOf, lengthOf, endOf, askAt, fitsNew, newWith, newAt, newOf, othersBusy, fitsRenewed, renewedTo, renewedOf, proposalOf, error0Of, leaseFrom, withLease, plainReply, nakWith, discardWith, refusalOf}
+use Rattle.decision.specs.Parts.{heldAlready, isNew, hasPeriod, holdsOf, recordedOf, resends, releasedAgain, scopePlace, knowsScope, lacksScope, zeroLength, badCounts, lacksCurrent, early1Of, error1Of, skewed, error2Of, error3Of, wishedOr, startOf, lengthOf, endOf, askAt, fitsNew, newWith, newAt, newOf, othersBusy, fitsRenewed, renewedTo, renewedOf, proposalOf, error0Of, leaseFrom, withLease, plainReply, nakWith, discardWith, refusalOf}
 use Rattle.decision.specs.laws.Code.{replyType}
 use Rattle.decision.specs.Decide.{leasedOf, plainOf, settledOf, judgedOf, decideOf}
 
@@ -102,11 +104,40 @@ asks allowed scope least desired len latest = record {
   };
 }
 
-run : LeaseTable → List Call → LeaseTable
+-- the same call with an option that isn't allowed
+abbrev forbidden : Call → Call
+forbidden c = record {
+  tenant = c .tenant;
+  time = c .time;
+  fields = record {
+    kind = c .fields .kind;
+    xid = c .fields .xid;
+    id = c .fields .id;
+    allowed = false;
+    scope = c .fields .scope;
+    counts = c .fields .counts;
+    times = c .fields .times;
+    features = c .fields .features;
+    ours = c .fields .ours;
+    «list_asked» = c .fields .«list_asked»;
+    «time_asked» = c .fields .«time_asked»;
+    language = c .fields .language;
+  };
+}
+
+-- the book that a call finds, and what is decided on it
+now : Book → Call → Book
+now b c = changedTo b (settings (c .time)) (dropped (c .time) (b .table)) (b .memory)
+
+decided : Book → Call → Decided
+decided b c = decideOf (b .state) (b .table) (remembered (releasesAt (b .memory) (c .tenant))) (c .tenant) (c .fields)
+
+run : Book → List Call → Book
 run b [] = b
-run b (c ∷ cs) =
-    let now : LeaseTable = dropped (c .time) b in
-    run (applied (decideOf (settings (c .time)) now (c .tenant) (c .fields) .edit) (c .tenant) now) cs
+run b (c ∷ cs) = run (editedBook (decided (now b c) c .edit) (c .tenant) (now b c)) cs
+
+empty : Book
+empty = record { state = settings 0; table = tableOf (replicate 8 []); memory = record { releases = replicate 8 (laidReleases []) }; names = [] }
 
 record Case : Type 0 where
   before : List Call
@@ -118,7 +149,7 @@ record Case : Type 0 where
 
 holds : Case → Bool
 holds c =
-    let v : Verdict = decideOf (settings (c .last .time)) (dropped (c .last .time) (run (tableOf (replicate 8 [])) (c .before))) (c .last .tenant) (c .last .fields) .verdict in
+    let v : Verdict = decided (now (run empty (c .before)) (c .last)) (c .last) .verdict in
     eqb (v .outcome) (c .outcome) && (eqb (replyType (v .reply)) (c .reply) && (eqb (v .error) (c .error) && eqb (v .addresses) (c .addresses)))
 
 allHold : List Case → Bool
@@ -139,6 +170,17 @@ p3 = call 0 1000 3 2 2 2 3 1000 0 0
 
 p5 : Call
 p5 = call 0 1000 3 3 3 2 2 0 2000 1000
+
+-- house 1 releases P3's lease at 1500; the same at a time
+released : ℕ → Call
+released time = call 0 time 7 2 5 1 1 0 0 0
+
+-- house 2 requests an address and releases it: identifier and transaction id k, at 1000 + k
+turn : ℕ → List Call
+turn k = call 1 (1000 + k) 3 k k 1 1 0 0 0 ∷ call 1 (1000 + k) 7 k k 1 1 0 0 0 ∷ []
+
+five : List Call
+five = turn 1 ++ turn 2 ++ turn 3 ++ turn 4 ++ turn 5
 
 table : List Case
 table =
@@ -184,10 +226,31 @@ table =
     -- house 1's own .1, free from 2000, comes before .0, which is nobody's since 1010; then .0
     ∷ ack (call 1 1000 3 1 1 1 1 10 0 0 ∷ call 0 1000 3 2 2 1 1 1000 0 0 ∷ []) (call 0 1010 3 3 3 1 1 0 2000 1010) 2
     ∷ ack (call 1 1000 3 1 1 1 1 10 0 0 ∷ call 0 1000 3 2 2 1 1 1000 0 0 ∷ []) (call 0 1010 3 3 3 1 2 0 2000 1010) 3
+    -- W-202: a RELEASE sent again, 299 and 300 seconds after the first; the one that was sent again renews nothing
+    ∷ ack (p3 ∷ released 1500 ∷ []) (released 1799) 0
+    ∷ nak (p3 ∷ released 1500 ∷ []) (released 1800) 3
+    ∷ nak (p3 ∷ released 1500 ∷ released 1799 ∷ []) (released 1800) 3
+    -- another transaction id; another identifier; another house; another type
+    ∷ nak (p3 ∷ released 1500 ∷ []) (call 0 1500 7 2 6 1 1 0 0 0) 3
+    ∷ nak (p3 ∷ released 1500 ∷ []) (call 0 1500 7 3 5 1 1 0 0 0) 3
+    ∷ nak (p3 ∷ released 1500 ∷ []) (call 1 1500 7 2 5 1 1 0 0 0) 3
+    ∷ nak (p3 ∷ released 1500 ∷ []) (call 0 1500 4 2 5 1 1 0 0 0) 3
+    -- before error 1: an option that isn't allowed is acknowledged with the RELEASE sent again, and is error 1 with the first; a NAK is not remembered
+    ∷ ack (p3 ∷ released 1500 ∷ []) (forbidden (released 1500)) 0
+    ∷ nak (p3 ∷ []) (forbidden (released 1500)) 1
+    ∷ nak (released 1500 ∷ []) (released 1500) 3
+    -- a new lease on the identifier, which ends at 1510, forgets its release; till then the old RELEASE's octets release it
+    ∷ nak (p3 ∷ released 1500 ∷ call 0 1500 3 2 8 1 1 10 0 0 ∷ []) (released 1510) 3
+    ∷ ack (p3 ∷ released 1500 ∷ call 0 1500 3 2 8 1 1 10 0 0 ∷ released 1501 ∷ []) (call 0 1501 3 2 9 1 1 0 0 0) 1
+    -- a REQUEST that is refused forgets nothing
+    ∷ ack (p3 ∷ released 1500 ∷ call 0 1500 3 2 8 4 4 0 0 0 ∷ []) (released 1510) 0
+    -- a fifth release forgets the oldest
+    ∷ nak five (call 1 1005 7 1 1 1 1 0 0 0) 3
+    ∷ ack five (call 1 1005 7 2 2 1 1 0 0 0) 0
     ∷ []
 
 specimens : allHold table ≡ true
-unfolding settings wish call run replyType holds allHold ack nak p1 p3 p5 table pick filterBy isIn placeBy sumTo largest orderOf sameOf bit offsetsFrom setOf differenceOf upTo laidOut tableOf insertOf insertIn byIdentifier removeOf liveOf dropped unionAll addressesOf overlaps usedIn takenOf busyIn withHeld committed allowed grantOf suffices isNew hasPeriod holdsOf recordedOf resends scopePlace knowsScope lacksScope zeroLength badCounts lacksCurrent error1Of skewed error2Of error3Of wishedOr startOf lengthOf endOf askAt fitsNew newWith newAt newOf othersBusy fitsRenewed renewedTo renewedOf proposalOf error0Of leaseFrom withLease plainReply nakWith discardWith refusalOf leasedOf plainOf settledOf judgedOf decideOf insertedIn leftIn editedIn applied grantTo early1Of heldAlready
+unfolding settings wish call now decided run empty replyType holds allHold ack nak p1 p3 p5 released turn five table pick filterBy isIn placeBy sumTo largest orderOf sameOf bit offsetsFrom setOf differenceOf upTo laidOut tableOf insertOf insertIn byIdentifier removeOf liveOf dropped unionAll addressesOf overlaps usedIn takenOf busyIn withHeld committed allowed grantOf suffices isNew hasPeriod holdsOf recordedOf resends scopePlace knowsScope lacksScope zeroLength badCounts lacksCurrent error1Of skewed error2Of error3Of wishedOr startOf lengthOf endOf askAt fitsNew newWith newAt newOf othersBusy fitsRenewed renewedTo renewedOf proposalOf error0Of leaseFrom withLease plainReply nakWith discardWith refusalOf leasedOf plainOf settledOf judgedOf decideOf insertedIn leftIn editedIn applied grantTo early1Of heldAlready laidReleases rememberOf forgetOf notedIn noted isAgain anyAgain releasedAgain
 specimens = refl
 
 -- ---- periods

@@ -1,23 +1,25 @@
 -- Definitions: document 01's decision "after test 7, in the order written, within an error too", for a book whose clock is raised and whose ended
--- leases are dropped: s is its state, b its leases, h the tenant of the client's address, m what the message says. It answers a verdict and
--- an edit of the tenant's leases; the leases afterwards are `applied` of it.
+-- leases are dropped: s is its state, b its leases, q the releases that are remembered of the client's tenant h (document 02, W-202), m what the message
+-- says. It answers a verdict and an edit of what the tenant has; the book afterwards is `editedBook` of it.
 use Prim.Native.Nat.{ℕ}
 use mathlib.Core.Bool.{Bool}
+use mathlib.Core.List.{List}
 use lib.Dec.{eqb}
 use Rattle.lists.specs.Pick.{pick}
 use Rattle.message.specs.declared.Fields.{Fields}
 use Rattle.state.specs.declared.Edit.{Edit}
 use Rattle.state.specs.declared.Lease.{Lease}
 use Rattle.state.specs.declared.LeaseTable.{LeaseTable}
+use Rattle.state.specs.declared.Release.{Release}
 use Rattle.state.specs.declared.State.{State}
 use Rattle.state.specs.Edit.{noEdit, entering, leaving, givingWay}
 use Rattle.decision.specs.declared.Proposal.{Proposal}
 use Rattle.decision.specs.declared.Verdict.{Verdict}
 use Rattle.decision.specs.declared.Decided.{Decided}
 use Rattle.decision.specs.declared.Reply.the-variants.{Offer, LeaseAck, ReleaseAck, InfoAck}
-use Rattle.decision.specs.Parts.{hasPeriod, ownOf, holdsOf, recordedOf, resends, error1Of, error2Of, error3Of, proposalOf, error0Of, leaseFrom, withLease, plainReply, refusalOf}
+use Rattle.decision.specs.Parts.{hasPeriod, ownOf, holdsOf, recordedOf, resends, releasedAgain, error1Of, error2Of, error3Of, proposalOf, error0Of, leaseFrom, withLease, plainReply, refusalOf}
 
--- a verdict with an edit, and one that leaves the leases as they are
+-- a verdict with an edit, and one that leaves leases and releases as they are
 abbrev pub changed : Edit → Verdict → Decided
 changed e v = record { verdict = v; edit = e }
 
@@ -29,24 +31,26 @@ unfoldable pub leasedOf : Fields → Lease → Lease → Decided
 leasedOf m o l =
     -- "DISCOVER changes nothing"
     pick (eqb (m .kind) 1) (unchanged (withLease Offer l))
-    -- "REQUEST records the lease with its type and transaction id"
+    -- "REQUEST records the lease with its type and transaction id"; "A new lease on the identifier forgets it" (W-202)
     (pick (eqb (m .kind) 3) (changed (entering l) (withLease LeaseAck l))
     -- "RENEW keeps the addresses and sets period, type and id"
     (changed (givingWay o l) (withLease LeaseAck l)))
 
--- "RELEASE removes the lease"; GETINFO changes nothing
-unfoldable pub plainOf : Fields → Lease → Decided
-plainOf m o = pick (eqb (m .kind) 7) (changed (leaving o) (plainReply ReleaseAck)) (unchanged (plainReply InfoAck))
+-- "RELEASE removes the lease", and is remembered "with transaction id and the clock at release" (W-202); GETINFO changes nothing
+unfoldable pub plainOf : State → Fields → Lease → Decided
+plainOf s m o = pick (eqb (m .kind) 7) (changed (leaving o (m .xid) (s .clock)) (plainReply ReleaseAck)) (unchanged (plainReply InfoAck))
 
 -- "Error 0", for the types that have a period
 unfoldable pub settledOf : State → Fields → Lease → Proposal → Decided
 settledOf s m o p = pick (error0Of s p) (unchanged (refusalOf m 0)) (leasedOf m o (leaseFrom m p))
 
 -- the lease o that the tenant holds under the message's identifier, if it holds one
-unfoldable pub judgedOf : State → LeaseTable → ℕ → Fields → Lease → Bool → Decided
-judgedOf s b h m o held =
+unfoldable pub judgedOf : State → LeaseTable → List Release → ℕ → Fields → Lease → Bool → Decided
+judgedOf s b q h m o held =
     -- "Resend: a REQUEST or RENEW whose house, identifier, type and transaction id are those recorded in a lease: ACK with that lease, unchanged"
     pick (resends m o) (unchanged (withLease LeaseAck o))
+    -- W-202: a RELEASE sent again "draws the ACK in the place of the resend test"
+    (pick (releasedAgain s q m) (unchanged (plainReply ReleaseAck))
     -- "Error 1"
     (pick (error1Of s m held) (unchanged (refusalOf m 1))
     -- "Error 2"
@@ -54,7 +58,7 @@ judgedOf s b h m o held =
     -- "Error 3"
     (pick (error3Of m held) (unchanged (refusalOf m 3))
     -- "Error 0", or what the message asks for
-    (pick (hasPeriod m) (settledOf s m o (proposalOf s b h m o)) (plainOf m o)))))
+    (pick (hasPeriod m) (settledOf s m o (proposalOf s b h m o)) (plainOf s m o))))))
 
-unfoldable pub decideOf : State → LeaseTable → ℕ → Fields → Decided
-decideOf s b h m = judgedOf s b h m (recordedOf (ownOf b h) m) (holdsOf (ownOf b h) m)
+unfoldable pub decideOf : State → LeaseTable → List Release → ℕ → Fields → Decided
+decideOf s b q h m = judgedOf s b q h m (recordedOf (ownOf b h) m) (holdsOf (ownOf b h) m)

@@ -11,10 +11,12 @@ use Rattle.message.specs.declared.Wish.{Wish}
 use Rattle.message.specs.declared.Fields.{Fields}
 use Rattle.state.specs.declared.Lease.{Lease}
 use Rattle.state.specs.declared.LeaseTable.{LeaseTable}
+use Rattle.state.specs.declared.Release.{Release}
 use Rattle.state.specs.declared.Scope.{Scope}
 use Rattle.state.specs.declared.State.{State}
 use Rattle.state.specs.Book.{inUse, laidOut, leaseWith, leasesOf, tenantAt, putAt, placeOf, leaseAt, removeOf, scopesOf, scopeAt}
 use Rattle.soundness.specs.Sound.{tenantsIn, scopesIn}
+use Rattle.releases.specs.Again.{anyAgain}
 use Rattle.allocation.specs.declared.Ask.{Ask}
 use Rattle.allocation.specs.declared.Grant.{Grant}
 use Rattle.allocation.specs.Rule.{grantTo, suffices, busyIn}
@@ -66,6 +68,11 @@ recordedOf own m = leaseAt own (placeOf (leaseIdIn m) own)
 -- ---- Resend
 unfoldable pub resends : Fields → Lease → Bool
 resends m l = (eqb (m .kind) 3 || eqb (m .kind) 4) && (eqb (l .kind) (m .kind) && eqb (l .xid) (m .xid))
+
+-- ---- document 02, W-202: "A RELEASE with the same house, identifier and transaction id, at a clock less than 300 seconds after that"; q are the releases that
+-- are remembered of the tenant
+unfoldable pub releasedAgain : State → List Release → Fields → Bool
+releasedAgain s q m = eqb (m .kind) 7 && anyAgain (s .clock) (leaseIdIn m) (m .xid) q
 
 -- ---- error 1
 -- the place of the scope with a lowest address, counted from 0; their number where there is none

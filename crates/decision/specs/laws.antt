@@ -1,6 +1,7 @@
 pub mod Code
 pub mod Cases
 pub mod Kept
+pub mod Remembered
 pub mod Ensured
 pub mod Reads
 pub mod Others

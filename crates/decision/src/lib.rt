@@ -1,4 +1,5 @@
-// The decision after tests 1 to 7: Resend, errors 1, 2, 3, 0 and what the message asks for, with what it does to the tenant's leases.
+// The decision after tests 1 to 7: Resend, a RELEASE sent again, errors 1, 2, 3, 0 and what the message asks for, with what it does to the tenant's leases and to what
+// is remembered of it.
 mod numbers;
 mod proposals;
 mod tests;
@@ -6,7 +7,7 @@ mod tests;
 ghost use mathlib.Core.Path.{_≡_};
 ghost use lib.ListN.{take};
 ghost use Rattle.state.specs.declared.LeaseTable.{LeaseTable};
-ghost use Rattle.state.specs.Book.{inUse};
+ghost use Rattle.state.specs.Book.{inUse, remembered};
 ghost use Rattle.state.specs.Edit.{leaving};
 ghost use Rattle.soundness.specs.View.{View};
 ghost use Rattle.decision.specs.Parts.{recordedOf, proposalOf, withLease, plainReply, nakWith, discardWith, refusalOf};
@@ -20,6 +21,7 @@ use crate::tests::error_1;
 use crate::tests::error_2;
 use crate::tests::error_3;
 use crate::tests::has_period;
+use crate::tests::is_released_again;
 use crate::tests::is_resend;
 use message::Fields;
 use message::MessageType;
@@ -28,6 +30,7 @@ use state::Edit;
 use state::Lease;
 use state::State;
 use state::TenantLeases;
+use state::TenantReleases;
 
 // Which reply is sent: none, OFFER, ACK with a lease, ACK to RELEASE, ACK to GETINFO, or NAK.
 pub enum Reply {
@@ -50,7 +53,7 @@ pub struct Verdict {
     pub addresses: u64,
 }
 
-// A verdict, and what it does to the tenant's leases.
+// A verdict, and what it does to what the tenant has.
 pub struct Decided {
     pub verdict: Verdict,
     pub edit: Edit,
@@ -174,13 +177,22 @@ fn acknowledge(e: Edit, l: Lease) -> Decided
     }
 }
 
-fn release(old: Lease) -> Decided
-    ensures { λ r. ⌜ r ≡ changed (leaving old) (plainReply ReleaseAck) ⌝ }
+// The ACK to a RELEASE, which is remembered.
+fn release(s: State, m: Fields, old: Lease) -> Decided
+    ensures { λ r. ⌜ r ≡ changed (leaving old (m .xid) (s .clock)) (plainReply ReleaseAck) ⌝ }
 {
     Decided {
         verdict: plain_reply(Reply::ReleaseAck),
-        edit: state::leave(old),
+        edit: state::leave(old, m.xid, s.clock),
     }
+}
+
+// The ACK to a RELEASE that was served before.
+fn acknowledge_again() -> Decided
+    ensures { λ r. ⌜ r ≡ unchanged (plainReply ReleaseAck) ⌝ }
+{
+    let v = plain_reply(Reply::ReleaseAck);
+    unchanged_by(v)
 }
 
 fn inform() -> Decided
@@ -202,11 +214,11 @@ fn leased(m: Fields, old: Lease, l: Lease) -> Decided
     acknowledge(state::give_way(old, l), l)
 }
 
-fn plain(m: Fields, old: Lease) -> Decided
-    ensures { λ r. ⌜ r ≡ plainOf m old ⌝ }
+fn plain(s: State, m: Fields, old: Lease) -> Decided
+    ensures { λ r. ⌜ r ≡ plainOf s m old ⌝ }
 {
     if m.kind == MessageType::RELEASE {
-        return release(old);
+        return release(s, m, old);
     }
     inform()
 }
@@ -233,6 +245,7 @@ fn lease(s: State, own: TenantLeases, held: HeldTable, h: usize, m: Fields, old:
 fn judge(
     s: State,
     own: TenantLeases,
+    q: TenantReleases,
     held: HeldTable,
     h: usize,
     m: Fields,
@@ -240,10 +253,13 @@ fn judge(
     found: bool,
 ) -> Decided
     requires { ⌜ old ≡ recordedOf (inUse own) m ⌝ }
-    ensures { λ r. ⌜ ((t : LeaseTable) → View s t h own held → r ≡ judgedOf s t h m old found) ⌝ }
+    ensures { λ r. ⌜ ((t : LeaseTable) → View s t h own held → r ≡ judgedOf s t (remembered q) h m old found) ⌝ }
 {
     if is_resend(m, old) {
         return acknowledge(state::no_edit(), old);
+    }
+    if is_released_again(s, q, m) {
+        return acknowledge_again();
     }
     if error_1(s, m, found) {
         return refuse(m, 1);
@@ -257,7 +273,7 @@ fn judge(
     if has_period(m) {
         return lease(s, own, held, h, m, old);
     }
-    plain(m, old)
+    plain(s, m, old)
 }
 
 fn look_up(own: TenantLeases, id: [u8; 32], len: u8) -> Recorded
@@ -281,14 +297,22 @@ fn look_up(own: TenantLeases, id: [u8; 32], len: u8) -> Recorded
     }
 }
 
-// The verdict on a message of tenant h, counted from 0, and what it does to the tenant's leases. `own` are the tenant's records and `held` is
-// what all tenants hold: the answer is document 01's for every sound book of which they are that; of other arguments nothing is said.
-pub fn decide(s: State, own: TenantLeases, held: HeldTable, h: usize, m: Fields) -> Decided
-    ensures { λ r. ⌜ ((t : LeaseTable) → View s t h own held → r ≡ decideOf s t h m) ⌝ }
+// The verdict on a message of tenant h, counted from 0, and what it does to what the tenant has. `own` are the tenant's records, `q` what is
+// remembered of its releases, and `held` is what all tenants hold: the answer is document 01's for every sound book of which they are that; of
+// other arguments nothing is said.
+pub fn decide(
+    s: State,
+    own: TenantLeases,
+    q: TenantReleases,
+    held: HeldTable,
+    h: usize,
+    m: Fields,
+) -> Decided
+    ensures { λ r. ⌜ ((t : LeaseTable) → View s t h own held → r ≡ decideOf s t (remembered q) h m) ⌝ }
 {
     let i = m.id;
     let octets = i.octets;
     let r = look_up(own, octets, i.len);
     let old = r.lease;
-    judge(s, own, held, h, m, old, r.found)
+    judge(s, own, q, held, h, m, old, r.found)
 }

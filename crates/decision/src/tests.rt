@@ -2,7 +2,8 @@
 ghost use mathlib.Core.Path.{_≡_};
 ghost use mathlib.Core.Bool.{not, _&&_, _||_};
 ghost use lib.Dec.{eqb};
-ghost use Rattle.decision.specs.Parts.{isNew, hasPeriod, resends, lowestIs, scopePlace, knowsScope, lacksScope, zeroLength, badCounts, lacksCurrent, early1Of, heldAlready, error1Of, skewed, error2Of, error3Of, error0Of};
+ghost use Rattle.state.specs.Book.{remembered};
+ghost use Rattle.decision.specs.Parts.{isNew, hasPeriod, resends, releasedAgain, lowestIs, scopePlace, knowsScope, lacksScope, zeroLength, badCounts, lacksCurrent, early1Of, heldAlready, error1Of, skewed, error2Of, error3Of, error0Of};
 use crate::Proposal;
 use crate::numbers::HORIZON;
 use crate::numbers::SKEW;
@@ -14,6 +15,7 @@ use message::MessageType;
 use state::Lease;
 use state::Scope;
 use state::State;
+use state::TenantReleases;
 
 // DISCOVER or REQUEST.
 pub fn is_new(m: Fields) -> bool
@@ -66,6 +68,18 @@ pub fn is_resend(m: Fields, l: Lease) -> bool
 {
     if is_recorded_type(m) {
         return same_message(m, l);
+    }
+    false
+}
+
+// Whether a RELEASE is one of those that are remembered of the tenant, less than 300 seconds ago.
+pub fn is_released_again(s: State, q: TenantReleases, m: Fields) -> bool
+    ensures { λ r. ⌜ r ≡ releasedAgain s (remembered q) m ⌝ }
+{
+    if m.kind == MessageType::RELEASE {
+        let i = m.id;
+        let octets = i.octets;
+        return releases::any_again(q, s.clock, octets, i.len, m.xid);
     }
     false
 }

@@ -15,7 +15,7 @@ use Rattle.lists.specs.laws.Pick.{pick-false, pick-lt, pick-not-lt, pick-true}
 use Rattle.octets.specs.Octets.{at16, at32, octets16, put, Wrote}
 use Rattle.octets.specs.laws.Octets.{put-put}
 use Rattle.state.specs.declared.Lease.{Lease}
-use Rattle.state.specs.declared.State.{State}
+use Rattle.state.specs.declared.Ledger.{Ledger}
 use Rattle.server.specs.declared.Outcome.{Outcome}
 use Rattle.server.specs.Serve.{Call}
 use Rattle.records.specs.Lent.{LentAnswer, serveLent}
@@ -137,7 +137,7 @@ module _ (b : List ℕ) (n k : ℕ) (x : List ℕ) {ys : List ℕ} (e : ys ≡ x
       d = drop n b
 
 -- the answer: the reply, then its outcome and its length before it
-module _ (s : State) (ls : List Lease) (names d : List ℕ) (client time room : ℕ) (b : List ℕ) (to : ℕ) where
+module _ (g : Ledger) (ls : List Lease) (names d : List ℕ) (client time room : ℕ) (b : List ℕ) (to : ℕ) where
   abbrev width : ℕ
   width = to + 3 + room - (to + 3)
 
@@ -147,11 +147,11 @@ module _ (s : State) (ls : List Lease) (names d : List ℕ) (client time room : 
   abbrev callWith : ℕ → Call
   callWith k = record { datagram = d; client = client; time = time; room = k }
 
-  pub answered : {ys x y : List ℕ} {m n : ℕ} {r : OwnedCall} → (to + answerRoom ≤ length b) × (room ≤ leastRoom) → ServesOwned (serveLent s ls names (callWith (length lent))) lent ys r → length ys ≡ length lent
-      → Wrote (withPart b (to + 3) width ys) to (r .outcome .outcome ∷ []) x m → Wrote x (to + 1) (octets16 (r .outcome .length % 65536)) y n → Answers (serveLent s ls names (callWith room)) b to y r
-  answered {ys} {x} {y} {r = r} h v l p q = subst (λ (k : ℕ). Answers (serveLent s ls names (callWith k)) b to y r) full (record {
+  pub answered : {ys x y : List ℕ} {m n : ℕ} {r : OwnedCall} → (to + answerRoom ≤ length b) × (room ≤ leastRoom) → ServesOwned (serveLent g ls names (callWith (length lent))) lent ys r → length ys ≡ length lent
+      → Wrote (withPart b (to + 3) width ys) to (r .outcome .outcome ∷ []) x m → Wrote x (to + 1) (octets16 (r .outcome .length % 65536)) y n → Answers (serveLent g ls names (callWith room)) b to y r
+  answered {ys} {x} {y} {r = r} h v l p q = subst (λ (k : ℕ). Answers (serveLent g ls names (callWith k)) b to y r) full (record {
     size = v .tells .size;
-    state = v .state;
+    ledger = v .ledger;
     leases = v .leases;
     buffer =
         q .buffer ∙ ap (λ (z : List ℕ). put z (to + 1) (octets16 (o .length % 65536))) (p .buffer)
@@ -166,7 +166,7 @@ module _ (s : State) (ls : List Lease) (names d : List ℕ) (client time room : 
       o = r .outcome
 
       a : LentAnswer
-      a = serveLent s ls names (callWith (length lent))
+      a = serveLent g ls names (callWith (length lent))
 
       full : length lent ≡ room
       full = let e = length-drop (to + 3) b in length-take-le width (drop (to + 3) b) (omega arith) ∙ (let q : to + 3 + room - (to + 3) ≡ room = omega arith in q)
@@ -191,8 +191,8 @@ module _ (cs : List ℕ) (at : ℕ) where
       call : List ℕ → ℕ → ℕ → ℕ → Call
       call d c t r = record { datagram = d; client = c; time = t; room = r }
 
-  pub answered-record : (s : State) (ls : List Lease) (names : List ℕ) {b after : List ℕ} {to : ℕ} {r : OwnedCall} {time client size n room : ℕ}
+  pub answered-record : (g : Ledger) (ls : List Lease) (names : List ℕ) {b after : List ℕ} {to : ℕ} {r : OwnedCall} {time client size n room : ℕ}
       → time ≡ at32 cs at → client ≡ at32 cs (at + 4) → size ≡ at16 cs (at + 8) → n ≡ at16 cs (at + 10) → room ≡ min size leastRoom
-      → Answers (serveLent s ls names (record { datagram = take (at + 12 + n - (at + 12)) (drop (at + 12) cs); client = client; time = time; room = room })) b to after r
-      → Answers (serveLent s ls names (callIn (drop at cs))) b to after r
-  answered-record s ls names {b} {after} {to} {r} t c z e k v = subst (λ (x : Call). Answers (serveLent s ls names x) b to after r) (call-is t c z e k) v
+      → Answers (serveLent g ls names (record { datagram = take (at + 12 + n - (at + 12)) (drop (at + 12) cs); client = client; time = time; room = room })) b to after r
+      → Answers (serveLent g ls names (callIn (drop at cs))) b to after r
+  answered-record g ls names {b} {after} {to} {r} t c z e k v = subst (λ (x : Call). Answers (serveLent g ls names x) b to after r) (call-is t c z e k) v

@@ -14,7 +14,7 @@ use Rattle.lists.specs.Pick.{pick}
 use Rattle.lists.specs.laws.Pick.{pick-eq, pick-lt, pick-not-eq, pick-not-lt}
 use Rattle.octets.specs.Octets.{put, Wrote}
 use Rattle.state.specs.declared.Lease.{Lease}
-use Rattle.state.specs.declared.State.{State}
+use Rattle.state.specs.declared.Ledger.{Ledger}
 use Rattle.server.specs.Serve.{Call}
 use Rattle.state_file.specs.declared.Written.{Written}
 use Rattle.state_file.specs.StateFile.{readFile}
@@ -26,7 +26,7 @@ use Rattle.owned.specs.declared.OwnedFile.{OwnedFile}
 use Rattle.owned.specs.Owned.{ReadsOwned, ServesOwned}
 use Rattle.embed.specs.declared.Progress.{Progress}
 use Rattle.embed.proofs.Answered.{put-length}
-use Rattle.embed.specs.Embed.{called, filed, Filed, kept as unchanged, largestFile, largestNames, lengthAfter, namesIn, numberAfter, onFile, refusalIn, replayed, replayFile, serveFile, stateIn, Worked}
+use Rattle.embed.specs.Embed.{called, filed, Filed, kept as unchanged, largestFile, largestNames, ledgerIn, lengthAfter, namesIn, numberAfter, onFile, refusalIn, replayed, replayFile, serveFile, Worked}
 use Rattle.embed.specs.Promises.{Files, Keeps, Opened, Replays, ReplaysFile, ServesFile}
 
 -- ---- a file read over a book that is all zero
@@ -63,7 +63,7 @@ module _ (b : List ℕ) (n : ℕ) where
 
   -- a refusal says nothing of the book
   nothing : {r : OwnedFile} {k : ℕ} → r .refusal ≡ k → k ≡ refusalIn b n → (k ≡ 0 → ⊥) → Opened b n r
-  nothing a e z = record { refusal = a ∙ e; state = λ p. absurd (z (e ∙ p)); leases = λ p. absurd (z (e ∙ p)) }
+  nothing a e z = record { refusal = a ∙ e; ledger = λ p. absurd (z (e ∙ p)); leases = λ p. absurd (z (e ∙ p)) }
 
   pub opened-short : {r : OwnedFile} → length b < largestFile → r .refusal ≡ 23 → Opened b n r
   opened-short h a = nothing a (refusal-short h) (λ p. omega arith)
@@ -74,7 +74,7 @@ module _ (b : List ℕ) (n : ℕ) where
   pub opened-book : {r : OwnedFile} → largestFile ≤ length b → n ≤ length b → ReadsOwned (readBlank (take n b)) r → Opened b n r
   opened-book h k v = record {
     refusal = opened-refusal (take n b) v ∙ at;
-    state = λ p. v .state ∙ ap (λ (a : LentReading). a .state) (blank-accepted (take n b) (at ∙ p));
+    ledger = λ p. v .ledger ∙ ap (λ (a : LentReading). a .ledger) (blank-accepted (take n b) (at ∙ p));
     leases = λ p. v .leases ∙ ap (λ (a : LentReading). a .leases) (blank-accepted (take n b) (at ∙ p));
   }
     where
@@ -122,15 +122,15 @@ module _ (b : List ℕ) (n : ℕ) {f : OwnedFile} (o : Opened b n f) where
       g .front (p .1) ∙ take-all largestNames (namesIn b n) (names-short (take n b) (p .2))
 
   -- some work on the book that was read is that on the file's
-  module _ (work : State → List Lease → Worked) where
+  module _ (work : Ledger → List Lease → Worked) where
     abbrev done : Worked
-    done = work (f .owned .state) (f .owned .records .leases)
+    done = work (f .owned .ledger) (f .owned .records .leases)
 
     yes : f .refusal ≡ 0 → filed b n done ≡ onFile b n work
     unfolding onFile
     yes z =
-        pick-eq _ _ _ (refusalIn b n) 0 (zero-in z) (ap (λ (s : State). filed b n (work s (f .owned .records .leases))) (o .state (zero-in z))
-        ∙ ap (λ (ls : List Lease). filed b n (work (stateIn b n) ls)) (o .leases (zero-in z)))
+        pick-eq _ _ _ (refusalIn b n) 0 (zero-in z) (ap (λ (g : Ledger). filed b n (work g (f .owned .records .leases))) (o .ledger (zero-in z))
+        ∙ ap (λ (ls : List Lease). filed b n (work (ledgerIn b n) ls)) (o .leases (zero-in z)))
 
     no : (f .refusal ≡ 0 → ⊥) → unchanged b n ≡ onFile b n work
     unfolding onFile
@@ -143,40 +143,40 @@ module _ (b : List ℕ) (n : ℕ) {f : OwnedFile} (o : Opened b n f) where
     files-no z = record { file = ap (λ (x : Filed). x .buffer) (no z); long = ap (λ (x : Filed). x .length) (no z) }
 
     -- the book afterwards, written
-    module _ (z : f .refusal ≡ 0) {s : State} {ls : List Lease} (p : s ≡ done .state) (q : ls ≡ done .leases) {w : Written} (e : w ≡ writtenLent s ls (namesIn b n) (length b)) where
-      w-is : w ≡ writtenLent (done .state) (done .leases) (namesIn b n) (length b)
-      w-is = e ∙ ap (λ (x : State). writtenLent x ls (namesIn b n) (length b)) p ∙ ap (λ (x : List Lease). writtenLent (done .state) x (namesIn b n) (length b)) q
+    module _ (z : f .refusal ≡ 0) {g : Ledger} {ls : List Lease} (p : g ≡ done .ledger) (q : ls ≡ done .leases) {w : Written} (e : w ≡ writtenLent g ls (namesIn b n) (length b)) where
+      w-is : w ≡ writtenLent (done .ledger) (done .leases) (namesIn b n) (length b)
+      w-is = e ∙ ap (λ (x : Ledger). writtenLent x ls (namesIn b n) (length b)) p ∙ ap (λ (x : List Lease). writtenLent (done .ledger) x (namesIn b n) (length b)) q
 
       told-yes : {j k : ℕ} → k ≡ numberAfter w j → j ≡ done .number → k ≡ onFile b n work .number
-      told-yes {j} i h = i ∙ ap (λ (x : Written). numberAfter x j) w-is ∙ ap (numberAfter (writtenLent (done .state) (done .leases) (namesIn b n) (length b))) h ∙ ap (λ (x : Filed). x .number) (yes z)
+      told-yes {j} i h = i ∙ ap (λ (x : Written). numberAfter x j) w-is ∙ ap (numberAfter (writtenLent (done .ledger) (done .leases) (namesIn b n) (length b))) h ∙ ap (λ (x : Filed). x .number) (yes z)
 
-      files-yes : {b' : List ℕ} {m : ℕ} → b' ≡ roomLent s ls (namesIn b n) b → m ≡ lengthAfter w n → Files (onFile b n work) b' m
+      files-yes : {b' : List ℕ} {m : ℕ} → b' ≡ roomLent g ls (namesIn b n) b → m ≡ lengthAfter w n → Files (onFile b n work) b' m
       files-yes i h = record {
-        file = i ∙ ap (λ (x : State). roomLent x ls (namesIn b n) b) p ∙ ap (λ (x : List Lease). roomLent (done .state) x (namesIn b n) b) q ∙ ap (λ (x : Filed). x .buffer) (yes z);
+        file = i ∙ ap (λ (x : Ledger). roomLent x ls (namesIn b n) b) p ∙ ap (λ (x : List Lease). roomLent (done .ledger) x (namesIn b n) b) q ∙ ap (λ (x : Filed). x .buffer) (yes z);
         long = h ∙ ap (λ (x : Written). lengthAfter x n) w-is ∙ ap (λ (x : Filed). x .length) (yes z);
       }
 
   module _ (c : Call) where
-    abbrev one : State → List Lease → Worked
-    one s ls = called (serveLent s ls (namesIn b n) c)
+    abbrev one : Ledger → List Lease → Worked
+    one g ls = called (serveLent g ls (namesIn b n) c)
 
     pub file-served : {kept : List ℕ} {i : ℕ} {before after b' : List ℕ} {m k : ℕ} {r : OwnedCall} {w : Written} → f .refusal ≡ 0 → Keeps b n kept i
-        → ServesOwned (serveLent (f .owned .state) (f .owned .records .leases) (take i kept) c) before after r
-        → w ≡ writtenLent (r .owned .state) (r .owned .records .leases) (take i kept) (length b) → b' ≡ roomLent (r .owned .state) (r .owned .records .leases) (take i kept) b
+        → ServesOwned (serveLent (f .owned .ledger) (f .owned .records .leases) (take i kept) c) before after r
+        → w ≡ writtenLent (r .owned .ledger) (r .owned .records .leases) (take i kept) (length b) → b' ≡ roomLent (r .owned .ledger) (r .owned .records .leases) (take i kept) b
         → m ≡ lengthAfter w n → k ≡ numberAfter w (r .outcome .outcome) → ServesFile (serveFile b n c) b' m before after (record { outcome = k; length = r .outcome .length })
     unfolding serveFile
     file-served {before = before} {after} {r = r} z g v′ p q i j =
         let e = names-are g z in
-        let v : ServesOwned (serveLent (f .owned .state) (f .owned .records .leases) (namesIn b n) c) before after r =
-        subst (λ (x : List ℕ). ServesOwned (serveLent (f .owned .state) (f .owned .records .leases) x c) before after r) e v′ in
-        let u = p ∙ ap (λ (x : List ℕ). writtenLent (r .owned .state) (r .owned .records .leases) x (length b)) e in
+        let v : ServesOwned (serveLent (f .owned .ledger) (f .owned .records .leases) (namesIn b n) c) before after r =
+        subst (λ (x : List ℕ). ServesOwned (serveLent (f .owned .ledger) (f .owned .records .leases) x c) before after r) e v′ in
+        let u = p ∙ ap (λ (x : List ℕ). writtenLent (r .owned .ledger) (r .owned .records .leases) x (length b)) e in
         record {
           tells = record {
-            outcome = told-yes one z (v .state) (v .leases) u j (v .tells .outcome);
+            outcome = told-yes one z (v .ledger) (v .leases) u j (v .tells .outcome);
             size = v .tells .size ∙ ap (λ (x : Filed). length (x .out)) (yes one z);
             buffer = v .tells .buffer ∙ ap (λ (x : Filed). x .out ++ drop (length (x .out)) before) (yes one z);
           };
-          files = files-yes one z (v .state) (v .leases) u (q ∙ ap (λ (x : List ℕ). roomLent (r .owned .state) (r .owned .records .leases) x b) e) i;
+          files = files-yes one z (v .ledger) (v .leases) u (q ∙ ap (λ (x : List ℕ). roomLent (r .owned .ledger) (r .owned .records .leases) x b) e) i;
         }
 
     pub file-kept : {before : List ℕ} → (f .refusal ≡ 0 → ⊥) → ServesFile (serveFile b n c) b n before before (record { outcome = f .refusal; length = 0 })
@@ -191,25 +191,25 @@ module _ (b : List ℕ) (n : ℕ) {f : OwnedFile} (o : Opened b n f) where
     }
 
   module _ (cs : List ℕ) (room : ℕ) where
-    abbrev all : State → List Lease → Worked
-    all s ls = replayed (length cs) s ls (namesIn b n) cs room
+    abbrev all : Ledger → List Lease → Worked
+    all g ls = replayed (length cs) g ls (namesIn b n) cs room
 
     pub file-replayed : {kept : List ℕ} {i : ℕ} {before after b' : List ℕ} {m k : ℕ} {r : Progress} {w : Written} → f .refusal ≡ 0 → Keeps b n kept i
-        → Replays (replayed (length cs) (f .owned .state) (f .owned .records .leases) (take i kept) cs room) before after r
-        → w ≡ writtenLent (r .owned .state) (r .owned .records .leases) (take i kept) (length b) → b' ≡ roomLent (r .owned .state) (r .owned .records .leases) (take i kept) b
+        → Replays (replayed (length cs) (f .owned .ledger) (f .owned .records .leases) (take i kept) cs room) before after r
+        → w ≡ writtenLent (r .owned .ledger) (r .owned .records .leases) (take i kept) (length b) → b' ≡ roomLent (r .owned .ledger) (r .owned .records .leases) (take i kept) b
         → m ≡ lengthAfter w n → k ≡ numberAfter w (r .number) → ReplaysFile (replayFile b n cs room) b' m (r .used) before after (r .filled) k
     unfolding replayFile
     file-replayed {before = before} {after} {r = r} z g v′ p q i j =
         let e = names-are g z in
-        let v : Replays (all (f .owned .state) (f .owned .records .leases)) before after r =
-        subst (λ (x : List ℕ). Replays (replayed (length cs) (f .owned .state) (f .owned .records .leases) x cs room) before after r) e v′ in
-        let u = p ∙ ap (λ (x : List ℕ). writtenLent (r .owned .state) (r .owned .records .leases) x (length b)) e in
+        let v : Replays (all (f .owned .ledger) (f .owned .records .leases)) before after r =
+        subst (λ (x : List ℕ). Replays (replayed (length cs) (f .owned .ledger) (f .owned .records .leases) x cs room) before after r) e v′ in
+        let u = p ∙ ap (λ (x : List ℕ). writtenLent (r .owned .ledger) (r .owned .records .leases) x (length b)) e in
         record {
-          number = told-yes all z (v .state) (v .leases) u j (v .number);
+          number = told-yes all z (v .ledger) (v .leases) u j (v .number);
           used = v .used ∙ ap (λ (x : Filed). x .used) (yes all z);
           filled = v .filled ∙ ap (λ (x : Filed). length (x .out)) (yes all z);
           answers = v .buffer ∙ ap (λ (x : Filed). x .out ++ drop (length (x .out)) before) (yes all z);
-          files = files-yes all z (v .state) (v .leases) u (q ∙ ap (λ (x : List ℕ). roomLent (r .owned .state) (r .owned .records .leases) x b) e) i;
+          files = files-yes all z (v .ledger) (v .leases) u (q ∙ ap (λ (x : List ℕ). roomLent (r .owned .ledger) (r .owned .records .leases) x b) e) i;
         }
 
     pub file-left : {before : List ℕ} → (f .refusal ≡ 0 → ⊥) → ReplaysFile (replayFile b n cs room) b n 0 before before 0 (f .refusal)

@@ -1,44 +1,43 @@
--- Laws: after a served call, or a list of calls, the writer refuses nothing: the state and records stay sound, and the buffer has room for the largest file.
+-- Laws: after a served call, or a list of calls, the writer refuses nothing: the ledger and records stay sound, and the buffer has room for the largest file.
 use Prim.Native.Nat.{ℕ, zero, suc, _-_, _≤_}
 use mathlib.Core.Path.{_≡_, refl, sym, ap, _∙_, subst}
 use mathlib.Core.Bool.{Bool, true, false}
 use mathlib.Core.List.{List, [], _∷_}
 use lib.Dec.{eqb, ltb}
-use lib.ListN.{drop, length, take}
+use lib.ListN.{drop, length, replicate, take}
 use Rattle.lists.specs.Pick.{pick}
 use Rattle.lists.specs.Filter.{isIn}
 use native.Mathlib.Omega.{arith}
 use Rattle.state.specs.declared.Lease.{Lease}
-use Rattle.state.specs.declared.LeaseTable.{LeaseTable}
-use Rattle.state.specs.declared.State.{State}
-use Rattle.server.specs.Serve.{Call, bookOf}
+use Rattle.state.specs.declared.Ledger.{Ledger}
+use Rattle.state.specs.Book.{zeroLease}
+use Rattle.server.specs.Serve.{Call}
 use Rattle.state_file.specs.declared.Written.{Written}
-use Rattle.state_file.specs.StateFile.{readFile}
-use Rattle.state_file.proofs.RoundTrip.{read-sound}
-use Rattle.soundness.specs.Named.{bookB}
-use Rattle.records.specs.laws.Files.{file-back, file-long}
-use Rattle.records.specs.Lent.{serveLent, writtenLent}
+use Rattle.state_file.specs.StateFile.{zeroLedger}
+use Rattle.records.specs.laws.Files.{blank-accepted, blank-refusal}
+use Rattle.records.specs.Lent.{LentReading, serveLent, writtenLent}
 use Rattle.lent_guarantee.specs.Statement.{Lent, LentDemand1, SoundLent}
 use Rattle.lent_guarantee.proofs.Guaranteed.{lent-demand1, next, next-sound}
-use Rattle.lent_guarantee.proofs.Written.{sound-written}
-use Rattle.embed.specs.Embed.{answerBefore, answerOctets, called, callIn, cutOff, filed, Filed, kept, leasesIn, lengthAfter, namesIn, numberAfter, onFile, recordSize, refusalIn, replayed, replayFile, serveFile, stateIn, stopIn, stopped, Worked}
+use Rattle.lent_guarantee.proofs.Written.{file-sound, sound-written}
+use Rattle.embed.specs.Embed.{answerBefore, answerOctets, called, callIn, cutOff, filed, Filed, kept, ledgerIn, leasesIn, lengthAfter, namesIn, numberAfter, onFile, recordSize, refusalIn, replayed, replayFile, serveFile, stopIn, stopped, Worked}
 use Rattle.embed.proofs.Files.{accepted-parts}
 use Rattle.embed.specs.Statement.{Numbered, ReplayedNumbers, ServedNumbers}
 
-lent : State → List Lease → List ℕ → Lent
-lent s ls names = record { state = s; leases = ls; names = names }
+lent : Ledger → List Lease → List ℕ → Lent
+lent g ls names = record { ledger = g; leases = ls; names = names }
 
-step : (s : State) (ls : List Lease) (names : List ℕ) (c : Call) → SoundLent (lent s ls names) → SoundLent (lent (serveLent s ls names c .state) (serveLent s ls names c .leases) names)
+step : (g : Ledger) (ls : List Lease) (names : List ℕ) (c : Call) → SoundLent (lent g ls names) → SoundLent (lent (serveLent g ls names c .ledger) (serveLent g ls names c .leases) names)
 unfolding next lent
-step s ls names c v = next-sound (lent s ls names) c v
+step g ls names c v = next-sound (lent g ls names) c v
 
 -- ---- a buffer whose file is not refused
 module _ (b : List ℕ) (n : ℕ) (e : refusalIn b n ≡ 0) where
-  book-sound : SoundLent (lent (stateIn b n) (leasesIn b n) (namesIn b n))
+  book-sound : SoundLent (lent (ledgerIn b n) (leasesIn b n) (namesIn b n))
   unfolding lent
   book-sound =
       let r = accepted-parts b n e .2 in
-      record { whole = file-long (take n b) r; sound = ap (λ (t : LeaseTable). bookB (bookOf (readFile (take n b) .state) t (namesIn b n))) (file-back (take n b) r) ∙ read-sound (take n b) r }
+      subst (λ (x : LentReading). SoundLent (lent (x .ledger) (x .leases) (namesIn b n))) (blank-accepted (take n b) r)
+      (file-sound (take n b) zeroLedger (replicate 128 zeroLease) (blank-refusal (take n b) ∙ r))
 
 -- ---- what is told where the writer refuses nothing
 told : (w : Written) (k : ℕ) → w .refusal ≡ 0 → numberAfter w k ≡ k
@@ -49,36 +48,36 @@ told-length : (w : Written) (n : ℕ) → w .refusal ≡ 0 → lengthAfter w n �
 unfolding lengthAfter pick
 told-length w n e = ap (λ (k : ℕ). pick (eqb k 0) (w .length) n) e
 
--- ---- some work that keeps the state and the records sound
-module _ (b : List ℕ) (n : ℕ) (work : State → List Lease → Worked) (e : refusalIn b n ≡ 0) where
+-- ---- some work that keeps the ledger and the records sound
+module _ (b : List ℕ) (n : ℕ) (work : Ledger → List Lease → Worked) (e : refusalIn b n ≡ 0) where
   abbrev done : Worked
-  done = work (stateIn b n) (leasesIn b n)
+  done = work (ledgerIn b n) (leasesIn b n)
 
   at : onFile b n work ≡ filed b n done
   unfolding onFile pick
   at = ap (λ (k : ℕ). pick (eqb k 0) (filed b n done) (kept b n)) e
 
-  numbered : SoundLent (lent (done .state) (done .leases) (namesIn b n)) → Numbered b n (onFile b n work) done
+  numbered : SoundLent (lent (done .ledger) (done .leases) (namesIn b n)) → Numbered b n (onFile b n work) done
   unfolding lent
   numbered v = record {
-    number = ap (λ (x : Filed). x .number) at ∙ told (writtenLent (done .state) (done .leases) (namesIn b n) (length b)) (done .number) written;
+    number = ap (λ (x : Filed). x .number) at ∙ told (writtenLent (done .ledger) (done .leases) (namesIn b n) (length b)) (done .number) written;
     written = written;
-    long = ap (λ (x : Filed). x .length) at ∙ told-length (writtenLent (done .state) (done .leases) (namesIn b n) (length b)) n written;
+    long = ap (λ (x : Filed). x .length) at ∙ told-length (writtenLent (done .ledger) (done .leases) (namesIn b n) (length b)) n written;
   }
     where
-      written : writtenLent (done .state) (done .leases) (namesIn b n) (length b) .refusal ≡ 0
-      written = sound-written (lent (done .state) (done .leases) (namesIn b n)) v (length b) (let h = accepted-parts b n e .0 in omega arith)
+      written : writtenLent (done .ledger) (done .leases) (namesIn b n) (length b) .refusal ≡ 0
+      written = sound-written (lent (done .ledger) (done .leases) (namesIn b n)) v (length b) (let h = accepted-parts b n e .0 in omega arith)
 
 -- ---- one call
 pub served-numbers : ServedNumbers
 unfolding ServedNumbers LentDemand1 serveFile lent
 served-numbers b n c e =
-    let w : Numbered b n (serveFile b n c) (called (serveLent (stateIn b n) (leasesIn b n) (namesIn b n) c)) = numbered b n (λ s ls. called (serveLent s ls (namesIn b n) c)) e (step (stateIn b n) (leasesIn b n) (namesIn b n) c (book-sound b n e)) in
-    record { numbered = w; few = subst (λ (k : ℕ). k ≤ 8) (sym (w .number)) (lent-demand1 (lent (stateIn b n) (leasesIn b n) (namesIn b n)) c .outcome) }
+    let w : Numbered b n (serveFile b n c) (called (serveLent (ledgerIn b n) (leasesIn b n) (namesIn b n) c)) = numbered b n (λ g ls. called (serveLent g ls (namesIn b n) c)) e (step (ledgerIn b n) (leasesIn b n) (namesIn b n) c (book-sound b n e)) in
+    record { numbered = w; few = subst (λ (k : ℕ). k ≤ 8) (sym (w .number)) (lent-demand1 (lent (ledgerIn b n) (leasesIn b n) (namesIn b n)) c .outcome) }
 
--- ---- a list of calls: its state and records stay sound, and it stops for one of two reasons
+-- ---- a list of calls: its ledger and records stay sound, and it stops for one of two reasons
 record Stopped (names : List ℕ) (r : Worked) : Type 0 where
-  sound : SoundLent (lent (r .state) (r .leases) names)
+  sound : SoundLent (lent (r .ledger) (r .leases) names)
   few : isIn (r .number) (0 ∷ 24 ∷ 27 ∷ []) ≡ true
 
 stop-few : (cs : List ℕ) (room : ℕ) → isIn (stopIn cs room) (0 ∷ 24 ∷ 27 ∷ []) ≡ true
@@ -90,15 +89,15 @@ stop-few cs room = go (cutOff cs) (ltb room 515)
     go false true = refl
     go false false = refl
 
-replays : (k : ℕ) (s : State) (ls : List Lease) (names cs : List ℕ) (room : ℕ) → SoundLent (lent s ls names) → Stopped names (replayed k s ls names cs room)
+replays : (k : ℕ) (g : Ledger) (ls : List Lease) (names cs : List ℕ) (room : ℕ) → SoundLent (lent g ls names) → Stopped names (replayed k g ls names cs room)
 unfolding replayed isIn pick
-replays zero s ls names cs room v = record { sound = v; few = refl }
-replays (suc k) s ls names cs room v =
+replays zero g ls names cs room v = record { sound = v; few = refl }
+replays (suc k) g ls names cs room v =
     go (eqb (length cs) 0) (eqb (stopIn cs room) 0)
-    (replays k (serveLent s ls names (callIn cs) .state) (serveLent s ls names (callIn cs) .leases) names (drop (recordSize cs) cs) _ (step s ls names (callIn cs) v))
+    (replays k (serveLent g ls names (callIn cs) .ledger) (serveLent g ls names (callIn cs) .leases) names (drop (recordSize cs) cs) _ (step g ls names (callIn cs) v))
   where
-    go : (p q : Bool) → Stopped names (replayed k (serveLent s ls names (callIn cs) .state) (serveLent s ls names (callIn cs) .leases) names (drop (recordSize cs) cs) (room - length (answerOctets (serveLent s ls names (callIn cs)))))
-        → Stopped names (pick p (stopped 0 s ls) (pick q (answerBefore cs (serveLent s ls names (callIn cs)) (replayed k (serveLent s ls names (callIn cs) .state) (serveLent s ls names (callIn cs) .leases) names (drop (recordSize cs) cs) (room - length (answerOctets (serveLent s ls names (callIn cs)))))) (stopped (stopIn cs room) s ls)))
+    go : (p q : Bool) → Stopped names (replayed k (serveLent g ls names (callIn cs) .ledger) (serveLent g ls names (callIn cs) .leases) names (drop (recordSize cs) cs) (room - length (answerOctets (serveLent g ls names (callIn cs)))))
+        → Stopped names (pick p (stopped 0 g ls) (pick q (answerBefore cs (serveLent g ls names (callIn cs)) (replayed k (serveLent g ls names (callIn cs) .ledger) (serveLent g ls names (callIn cs) .leases) names (drop (recordSize cs) cs) (room - length (answerOctets (serveLent g ls names (callIn cs)))))) (stopped (stopIn cs room) g ls)))
     go true q r = record { sound = v; few = refl }
     go false true r = record { sound = r .sound; few = r .few }
     go false false r = record { sound = v; few = stop-few cs room }
@@ -106,6 +105,6 @@ replays (suc k) s ls names cs room v =
 pub replayed-numbers : ReplayedNumbers
 unfolding ReplayedNumbers replayFile
 replayed-numbers b n cs room e =
-    let ends = replays (length cs) (stateIn b n) (leasesIn b n) (namesIn b n) cs room (book-sound b n e) in
-    let w : Numbered b n (replayFile b n cs room) (replayed (length cs) (stateIn b n) (leasesIn b n) (namesIn b n) cs room) = numbered b n (λ s ls. replayed (length cs) s ls (namesIn b n) cs room) e (ends .sound) in
+    let ends = replays (length cs) (ledgerIn b n) (leasesIn b n) (namesIn b n) cs room (book-sound b n e) in
+    let w : Numbered b n (replayFile b n cs room) (replayed (length cs) (ledgerIn b n) (leasesIn b n) (namesIn b n) cs room) = numbered b n (λ g ls. replayed (length cs) g ls (namesIn b n) cs room) e (ends .sound) in
     record { numbered = w; few = ap (λ (k : ℕ). isIn k (0 ∷ 24 ∷ 27 ∷ [])) (w .number) ∙ ends .few }

@@ -11,7 +11,7 @@ use Rattle.lists.specs.Pick.{pick}
 use Rattle.lists.specs.laws.Pick.{pick-eq, pick-not-eq}
 use Rattle.octets.specs.Octets.{put}
 use Rattle.state.specs.declared.Lease.{Lease}
-use Rattle.state.specs.declared.State.{State}
+use Rattle.state.specs.declared.Ledger.{Ledger}
 use Rattle.records.specs.Lent.{LentAnswer, serveLent}
 use Rattle.owned.specs.declared.Owned.{Owned}
 use Rattle.owned.specs.declared.OwnedCall.{OwnedCall}
@@ -21,84 +21,84 @@ use Rattle.embed.proofs.Answered.{goes-on, put-inside}
 
 module _ (names : List ℕ) where
   -- ---- a list of calls, record by record
-  abbrev firstAnswer : State → List Lease → List ℕ → LentAnswer
-  firstAnswer s ls cs = serveLent s ls names (callIn cs)
+  abbrev firstAnswer : Ledger → List Lease → List ℕ → LentAnswer
+  firstAnswer g ls cs = serveLent g ls names (callIn cs)
 
   -- the first record answered, with what the others give, or why it is not
-  abbrev first : State → List Lease → List ℕ → ℕ → Worked → Worked
-  first s ls cs room r = pick (eqb (stopIn cs room) 0) (answerBefore cs (firstAnswer s ls cs) r) (stopped (stopIn cs room) s ls)
+  abbrev first : Ledger → List Lease → List ℕ → ℕ → Worked → Worked
+  first g ls cs room r = pick (eqb (stopIn cs room) 0) (answerBefore cs (firstAnswer g ls cs) r) (stopped (stopIn cs room) g ls)
 
   -- the others, at most k
-  abbrev others : ℕ → State → List Lease → List ℕ → ℕ → Worked
-  others k s ls cs room =
-      replayed k (firstAnswer s ls cs .state) (firstAnswer s ls cs .leases) names (drop (recordSize cs) cs) (room - length (answerOctets (firstAnswer s ls cs)))
+  abbrev others : ℕ → Ledger → List Lease → List ℕ → ℕ → Worked
+  others k g ls cs room =
+      replayed k (firstAnswer g ls cs .ledger) (firstAnswer g ls cs .leases) names (drop (recordSize cs) cs) (room - length (answerOctets (firstAnswer g ls cs)))
 
-  none-left : (k : ℕ) (s : State) (ls : List Lease) (cs : List ℕ) (room : ℕ) → length cs ≡ 0 → replayed k s ls names cs room ≡ stopped 0 s ls
+  none-left : (k : ℕ) (g : Ledger) (ls : List Lease) (cs : List ℕ) (room : ℕ) → length cs ≡ 0 → replayed k g ls names cs room ≡ stopped 0 g ls
   unfolding replayed
-  none-left zero s ls cs room e = refl
-  none-left (suc k) s ls cs room e = sym (pick-eq _ _ _ (length cs) 0 e refl)
+  none-left zero g ls cs room e = refl
+  none-left (suc k) g ls cs room e = sym (pick-eq _ _ _ (length cs) 0 e refl)
 
   fewer : (k : ℕ) (cs : List ℕ) → length cs ≤ suc k → length (drop (recordSize cs) cs) ≤ k
   fewer k cs h = let e = length-drop (recordSize cs) cs in omega arith
 
   -- no list has more records than octets
-  same-fuel : (k j : ℕ) (s : State) (ls : List Lease) (cs : List ℕ) (room : ℕ) → length cs ≤ k → length cs ≤ j → replayed k s ls names cs room ≡ replayed j s ls names cs room
+  same-fuel : (k j : ℕ) (g : Ledger) (ls : List Lease) (cs : List ℕ) (room : ℕ) → length cs ≤ k → length cs ≤ j → replayed k g ls names cs room ≡ replayed j g ls names cs room
   unfolding replayed
-  same-fuel zero j s ls cs room h g = sym (none-left j s ls cs room (omega arith))
-  same-fuel (suc k) zero s ls cs room h g = none-left (suc k) s ls cs room (omega arith)
-  same-fuel (suc k) (suc j) s ls cs room h g =
-      ap (λ (r : Worked). pick (eqb (length cs) 0) (stopped 0 s ls) (first s ls cs room r))
-      (same-fuel k j (firstAnswer s ls cs .state) (firstAnswer s ls cs .leases) (drop (recordSize cs) cs) (room - length (answerOctets (firstAnswer s ls cs))) (fewer k cs h) (fewer j cs g))
+  same-fuel zero j g ls cs room h i = sym (none-left j g ls cs room (omega arith))
+  same-fuel (suc k) zero g ls cs room h i = none-left (suc k) g ls cs room (omega arith)
+  same-fuel (suc k) (suc j) g ls cs room h i =
+      ap (λ (r : Worked). pick (eqb (length cs) 0) (stopped 0 g ls) (first g ls cs room r))
+      (same-fuel k j (firstAnswer g ls cs .ledger) (firstAnswer g ls cs .leases) (drop (recordSize cs) cs) (room - length (answerOctets (firstAnswer g ls cs))) (fewer k cs h) (fewer j cs i))
 
-  abbrev going : State → List Lease → List ℕ → ℕ → Worked
-  going s ls cs room = replayed (length cs) s ls names cs room
+  abbrev going : Ledger → List Lease → List ℕ → ℕ → Worked
+  going g ls cs room = replayed (length cs) g ls names cs room
 
-  module _ (s : State) (ls : List Lease) (cs : List ℕ) (room : ℕ) (h : 0 < length cs) where
-    one : going s ls cs room ≡ first s ls cs room (others (length (drop (recordSize cs) cs)) s ls cs room)
+  module _ (g : Ledger) (ls : List Lease) (cs : List ℕ) (room : ℕ) (h : 0 < length cs) where
+    one : going g ls cs room ≡ first g ls cs room (others (length (drop (recordSize cs) cs)) g ls cs room)
     unfolding replayed
     one = go (length cs) refl
       where
-        go : (n : ℕ) → length cs ≡ n → replayed n s ls names cs room ≡ first s ls cs room (others (length (drop (recordSize cs) cs)) s ls cs room)
+        go : (n : ℕ) → length cs ≡ n → replayed n g ls names cs room ≡ first g ls cs room (others (length (drop (recordSize cs) cs)) g ls cs room)
         go zero e = absurd (omega arith)
         go (suc n) e =
             sym (pick-not-eq _ _ _ (length cs) 0 (λ p. omega arith) refl)
-            ∙ ap (first s ls cs room)
-            (same-fuel n (length (drop (recordSize cs) cs)) (firstAnswer s ls cs .state) (firstAnswer s ls cs .leases) (drop (recordSize cs) cs) (room - length (answerOctets (firstAnswer s ls cs))) (fewer n cs (omega arith)) (omega arith))
+            ∙ ap (first g ls cs room)
+            (same-fuel n (length (drop (recordSize cs) cs)) (firstAnswer g ls cs .ledger) (firstAnswer g ls cs .leases) (drop (recordSize cs) cs) (room - length (answerOctets (firstAnswer g ls cs))) (fewer n cs (omega arith)) (omega arith))
 
-    one-more : stopIn cs room ≡ 0 → going s ls cs room ≡ answerBefore cs (firstAnswer s ls cs) (others (length (drop (recordSize cs) cs)) s ls cs room)
+    one-more : stopIn cs room ≡ 0 → going g ls cs room ≡ answerBefore cs (firstAnswer g ls cs) (others (length (drop (recordSize cs) cs)) g ls cs room)
     one-more e = one ∙ sym (pick-eq _ _ _ (stopIn cs room) 0 e refl)
 
-    no-more : (stopIn cs room ≡ 0 → ⊥) → going s ls cs room ≡ stopped (stopIn cs room) s ls
+    no-more : (stopIn cs room ≡ 0 → ⊥) → going g ls cs room ≡ stopped (stopIn cs room) g ls
     no-more e = one ∙ sym (pick-not-eq _ _ _ (stopIn cs room) 0 e refl)
 
   -- ---- what the loop keeps
   -- what is done, `at` octets of calls with the answers xs, before what the rest gives
   abbrev joined : ℕ → List ℕ → Worked → Worked
-  joined at xs r = record { number = r .number; state = r .state; leases = r .leases; used = at + r .used; out = xs ++ r .out }
+  joined at xs r = record { number = r .number; ledger = r .ledger; leases = r .leases; used = at + r .used; out = xs ++ r .out }
 
   -- With `at` octets of the calls cs done and `to` octets of answers in the buffer b, which was `before`: to go on from there gives w.
-  pub record ReplayInv (cs before : List ℕ) (w : Worked) (s : State) (ls : List Lease) (b : List ℕ) (at to : ℕ) : Type 0 where
+  pub record ReplayInv (cs before : List ℕ) (w : Worked) (g : Ledger) (ls : List Lease) (b : List ℕ) (at to : ℕ) : Type 0 where
     pub within : at ≤ length cs
     pub inside : to ≤ length before
     pub long : length b ≡ length before
     pub rest : drop to b ≡ drop to before
-    pub whole : joined at (take to b) (going s ls (drop at cs) (length before - to)) ≡ w
+    pub whole : joined at (take to b) (going g ls (drop at cs) (length before - to)) ≡ w
 
-  pub replay-start : (cs before : List ℕ) (s : State) (ls : List Lease) → ReplayInv cs before (replayed (length cs) s ls names cs (length before)) s ls before 0 0
-  replay-start cs before s ls = record {
+  pub replay-start : (cs before : List ℕ) (g : Ledger) (ls : List Lease) → ReplayInv cs before (replayed (length cs) g ls names cs (length before)) g ls before 0 0
+  replay-start cs before g ls = record {
     within = omega arith;
     inside = omega arith;
     long = refl;
     rest = refl;
     whole =
-        ap (λ (k : ℕ). joined 0 [] (going s ls cs k)) (let q : length before - 0 ≡ length before = omega arith in q)
-        ∙ ap {B = Worked} (λ (k : ℕ). record { number = r .number; state = r .state; leases = r .leases; used = k; out = r .out }) (zero-add (r .used));
+        ap (λ (k : ℕ). joined 0 [] (going g ls cs k)) (let q : length before - 0 ≡ length before = omega arith in q)
+        ∙ ap {B = Worked} (λ (k : ℕ). record { number = r .number; ledger = r .ledger; leases = r .leases; used = k; out = r .out }) (zero-add (r .used));
   }
     where
       r : Worked
-      r = going s ls cs (length before)
+      r = going g ls cs (length before)
 
-  module _ {cs before : List ℕ} {w : Worked} {s : State} {ls : List Lease} {b : List ℕ} {at to : ℕ} (v : ReplayInv cs before w s ls b at to) {k : ℕ} (e : k ≡ stopIn (drop at cs) (length b - to)) (z : k ≡ 0) where
+  module _ {cs before : List ℕ} {w : Worked} {g : Ledger} {ls : List Lease} {b : List ℕ} {at to : ℕ} (v : ReplayInv cs before w g ls b at to) {k : ℕ} (e : k ≡ stopIn (drop at cs) (length b - to)) (z : k ≡ 0) where
     goes : stopIn (drop at cs) (length before - to) ≡ 0
     goes = ap (λ (n : ℕ). stopIn (drop at cs) (n - to)) (sym (v .long)) ∙ sym e ∙ z
 
@@ -112,9 +112,9 @@ module _ (names : List ℕ) where
     pub answer-room : to + answerRoom ≤ length b
     answer-room = let p = goes-on (drop at cs) (length before - to) goes .1 in let h = v .inside in let l = v .long in omega arith
 
-    module _ {r : OwnedCall} {b' : List ℕ} (a : Answers (serveLent s ls names (callIn (drop at cs))) b to b' r) (l : length b' ≡ length b) where
+    module _ {r : OwnedCall} {b' : List ℕ} (a : Answers (serveLent g ls names (callIn (drop at cs))) b to b' r) (l : length b' ≡ length b) where
       octets : List ℕ
-      octets = answerOctets (firstAnswer s ls (drop at cs))
+      octets = answerOctets (firstAnswer g ls (drop at cs))
 
       filled : to + 3 + r .outcome .length ≡ to + length octets
       unfolding octets
@@ -130,7 +130,7 @@ module _ (names : List ℕ) where
       head-length : length (take to b ++ octets) ≡ to + length octets
       head-length = length-append (take to b) octets ∙ ap (λ (n : ℕ). n + length octets) (length-take-le to b (let i = v .inside in let g = v .long in omega arith))
 
-      pub replay-next : {n : ℕ} → at < length cs → n ≡ recordSize (drop at cs) → ReplayInv cs before w (r .owned .state) (r .owned .records .leases) b' (at + n) (to + 3 + r .outcome .length)
+      pub replay-next : {n : ℕ} → at < length cs → n ≡ recordSize (drop at cs) → ReplayInv cs before w (r .owned .ledger) (r .owned .records .leases) b' (at + n) (to + 3 + r .outcome .length)
       unfolding octets put
       replay-next {n} h m = record {
         within = let i = record-inside in omega arith;
@@ -142,42 +142,42 @@ module _ (names : List ℕ) where
             ∙ sym (drop-drop (length octets) to b) ∙ ap (drop (length octets)) (v .rest) ∙ drop-drop (length octets) to before
             ∙ ap (λ (j : ℕ). drop j before) (sym filled);
         whole =
-            ap (λ (y : List ℕ). joined (at + n) y (going (r .owned .state) (r .owned .records .leases) (drop (at + n) cs) (length before - (to + 3 + r .outcome .length)))) taken
+            ap (λ (y : List ℕ). joined (at + n) y (going (r .owned .ledger) (r .owned .records .leases) (drop (at + n) cs) (length before - (to + 3 + r .outcome .length)))) taken
             ∙ ap (joined (at + n) (take to b ++ octets)) same
-            ∙ ap {B = Worked} (λ (j : ℕ). record { number = o .number; state = o .state; leases = o .leases; used = j; out = take to b ++ octets ++ o .out }) (
+            ∙ ap {B = Worked} (λ (j : ℕ). record { number = o .number; ledger = o .ledger; leases = o .leases; used = j; out = take to b ++ octets ++ o .out }) (
             add-assoc at n (o .used) ∙ ap (λ (j : ℕ). at + (j + o .used)) m
             )
-            ∙ ap {B = Worked} (λ (y : List ℕ). record { number = o .number; state = o .state; leases = o .leases; used = at + (recordSize c + o .used); out = y }) (append-assoc (take to b) octets (o .out))
-            ∙ ap (joined at (take to b)) (sym (one-more s ls c (length before - to) (let q = length-drop at cs in omega arith) goes)) ∙ v .whole;
+            ∙ ap {B = Worked} (λ (y : List ℕ). record { number = o .number; ledger = o .ledger; leases = o .leases; used = at + (recordSize c + o .used); out = y }) (append-assoc (take to b) octets (o .out))
+            ∙ ap (joined at (take to b)) (sym (one-more g ls c (length before - to) (let q = length-drop at cs in omega arith) goes)) ∙ v .whole;
       }
         where
           c : List ℕ
           c = drop at cs
 
           o : Worked
-          o = others (length (drop (recordSize c) c)) s ls c (length before - to)
+          o = others (length (drop (recordSize c) c)) g ls c (length before - to)
 
           taken : take (to + 3 + r .outcome .length) b' ≡ take to b ++ octets
           taken = ap (λ (j : ℕ). take j b') filled ∙ ap (take (to + length octets)) (a .buffer) ∙ take-at (take to b ++ octets) (drop (to + length octets) b) (to + length octets) head-length
 
-          same : going (r .owned .state) (r .owned .records .leases) (drop (at + n) cs) (length before - (to + 3 + r .outcome .length)) ≡ o
+          same : going (r .owned .ledger) (r .owned .records .leases) (drop (at + n) cs) (length before - (to + 3 + r .outcome .length)) ≡ o
           same =
-              ap (λ (x : State). going x (r .owned .records .leases) (drop (at + n) cs) (length before - (to + 3 + r .outcome .length))) (a .state)
-              ∙ ap (λ (x : List Lease). going (firstAnswer s ls c .state) x (drop (at + n) cs) (length before - (to + 3 + r .outcome .length))) (a .leases)
-              ∙ ap (λ (x : List ℕ). going (firstAnswer s ls c .state) (firstAnswer s ls c .leases) x (length before - (to + 3 + r .outcome .length)))
+              ap (λ (x : Ledger). going x (r .owned .records .leases) (drop (at + n) cs) (length before - (to + 3 + r .outcome .length))) (a .ledger)
+              ∙ ap (λ (x : List Lease). going (firstAnswer g ls c .ledger) x (drop (at + n) cs) (length before - (to + 3 + r .outcome .length))) (a .leases)
+              ∙ ap (λ (x : List ℕ). going (firstAnswer g ls c .ledger) (firstAnswer g ls c .leases) x (length before - (to + 3 + r .outcome .length)))
               (ap (λ (j : ℕ). drop (at + j) cs) m ∙ sym (drop-drop (recordSize c) at cs))
-              ∙ ap (going (firstAnswer s ls c .state) (firstAnswer s ls c .leases) (drop (recordSize c) c))
+              ∙ ap (going (firstAnswer g ls c .ledger) (firstAnswer g ls c .leases) (drop (recordSize c) c))
               (let f = filled in let q : length before - (to + 3 + r .outcome .length) ≡ length before - to - length octets = omega arith in q)
 
   -- the loop ends with what is done
-  module _ {cs before : List ℕ} {w : Worked} {o : Owned} {b : List ℕ} {at to : ℕ} (v : ReplayInv cs before w (o .state) (o .records .leases) b at to) where
-    ends : {k : ℕ} → going (o .state) (o .records .leases) (drop at cs) (length before - to) ≡ stopped k (o .state) (o .records .leases)
+  module _ {cs before : List ℕ} {w : Worked} {o : Owned} {b : List ℕ} {at to : ℕ} (v : ReplayInv cs before w (o .ledger) (o .records .leases) b at to) where
+    ends : {k : ℕ} → going (o .ledger) (o .records .leases) (drop at cs) (length before - to) ≡ stopped k (o .ledger) (o .records .leases)
         → Replays w before b (record { number = k; used = at; filled = to; owned = o })
     ends {k} e = record {
       number = ap (λ (x : Worked). x .number) is;
       used = sym (add-zero at) ∙ ap (λ (x : Worked). x .used) is;
       filled = sym full ∙ ap (λ (x : Worked). length (x .out)) is;
-      state = ap (λ (x : Worked). x .state) is;
+      ledger = ap (λ (x : Worked). x .ledger) is;
       leases = ap (λ (x : Worked). x .leases) is;
       buffer =
           sym (take-append-drop to b) ∙ ap (λ (y : List ℕ). take to b ++ y) (v .rest)
@@ -186,7 +186,7 @@ module _ (names : List ℕ) where
           ∙ ap (λ (x : Worked). x .out ++ drop (length (x .out)) before) is;
     }
       where
-        is : joined at (take to b) (stopped k (o .state) (o .records .leases)) ≡ w
+        is : joined at (take to b) (stopped k (o .ledger) (o .records .leases)) ≡ w
         is = ap (joined at (take to b)) (sym e) ∙ v .whole
 
         full : length (take to b ++ []) ≡ to
@@ -194,11 +194,11 @@ module _ (names : List ℕ) where
 
     pub replay-stopped : {k : ℕ} → at < length cs → k ≡ stopIn (drop at cs) (length b - to) → (k ≡ 0 → ⊥) → Replays w before b (record { number = k; used = at; filled = to; owned = o })
     replay-stopped {k} h e z =
-        ends (no-more (o .state) (o .records .leases) (drop at cs) (length before - to) (let q = length-drop at cs in omega arith) (λ p. z (is ∙ p))
-        ∙ ap (λ (j : ℕ). stopped j (o .state) (o .records .leases)) (sym is))
+        ends (no-more (o .ledger) (o .records .leases) (drop at cs) (length before - to) (let q = length-drop at cs in omega arith) (λ p. z (is ∙ p))
+        ∙ ap (λ (j : ℕ). stopped j (o .ledger) (o .records .leases)) (sym is))
       where
         is : k ≡ stopIn (drop at cs) (length before - to)
         is = e ∙ ap (λ (n : ℕ). stopIn (drop at cs) (n - to)) (v .long)
 
     pub replay-ended : length cs ≤ at → Replays w before b (record { number = 0; used = at; filled = to; owned = o })
-    replay-ended h = ends (none-left (length (drop at cs)) (o .state) (o .records .leases) (drop at cs) (length before - to) (let q = length-drop at cs in omega arith))
+    replay-ended h = ends (none-left (length (drop at cs)) (o .ledger) (o .records .leases) (drop at cs) (length before - to) (let q = length-drop at cs in omega arith))

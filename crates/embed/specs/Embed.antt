@@ -11,7 +11,7 @@ use Rattle.state_file.specs.File.{fileLimit}
 use Rattle.lists.specs.Pick.{pick}
 use Rattle.octets.specs.Octets.{at16, at32, octets16}
 use Rattle.state.specs.declared.Lease.{Lease}
-use Rattle.state.specs.declared.State.{State}
+use Rattle.state.specs.declared.Ledger.{Ledger}
 use Rattle.server.specs.Serve.{Call}
 use Rattle.state_file.specs.declared.Written.{Written}
 use Rattle.state_file.specs.StateFile.{namesOf, readFile}
@@ -27,9 +27,9 @@ largestFile = fileLimit
 unfoldable pub refusalIn : List ℕ → ℕ → ℕ
 refusalIn b n = pick (ltb (length b) largestFile) 23 (pick (ltb (length b) n) 28 (readFile (take n b) .refusal))
 
--- their state and records,
-abbrev pub stateIn : List ℕ → ℕ → State
-stateIn b n = readFile (take n b) .state
+-- their ledger (clock, settings and what is remembered) and records,
+abbrev pub ledgerIn : List ℕ → ℕ → Ledger
+ledgerIn b n = record { state = readFile (take n b) .state; memory = readFile (take n b) .memory }
 
 abbrev pub leasesIn : List ℕ → ℕ → List Lease
 leasesIn b n = recordsOf (readFile (take n b) .table)
@@ -51,10 +51,10 @@ unfoldable pub lengthAfter : Written → ℕ → ℕ
 lengthAfter w n = pick (eqb (w .refusal) 0) (w .length) n
 
 -- ---- work on a file's book: one call, or a list of calls
--- the number to tell, the state and the records afterwards, how many octets of calls are done, and the octets to hand out: a reply, or answers
+-- the number to tell, the ledger and the records afterwards, how many octets of calls are done, and the octets to hand out: a reply, or answers
 pub record Worked : Type 0 where
   pub number : ℕ
-  pub state : State
+  pub ledger : Ledger
   pub leases : List Lease
   pub used : ℕ
   pub out : List ℕ
@@ -67,12 +67,12 @@ pub record Filed : Type 0 where
   pub used : ℕ
   pub out : List ℕ
 
--- the file of the state and the records afterwards, with the same names, takes the place of the old one
+-- the file of the ledger and the records afterwards, with the same names, takes the place of the old one
 abbrev pub filed : List ℕ → ℕ → Worked → Filed
 filed b n r = record {
-  number = numberAfter (writtenLent (r .state) (r .leases) (namesIn b n) (length b)) (r .number);
-  buffer = roomLent (r .state) (r .leases) (namesIn b n) b;
-  length = lengthAfter (writtenLent (r .state) (r .leases) (namesIn b n) (length b)) n;
+  number = numberAfter (writtenLent (r .ledger) (r .leases) (namesIn b n) (length b)) (r .number);
+  buffer = roomLent (r .ledger) (r .leases) (namesIn b n) b;
+  length = lengthAfter (writtenLent (r .ledger) (r .leases) (namesIn b n) (length b)) n;
   used = r .used;
   out = r .out;
 }
@@ -81,15 +81,15 @@ filed b n r = record {
 abbrev pub kept : List ℕ → ℕ → Filed
 kept b n = record { number = refusalIn b n; buffer = b; length = n; used = 0; out = [] }
 
-unfoldable pub onFile : List ℕ → ℕ → (State → List Lease → Worked) → Filed
-onFile b n work = pick (eqb (refusalIn b n) 0) (filed b n (work (stateIn b n) (leasesIn b n))) (kept b n)
+unfoldable pub onFile : List ℕ → ℕ → (Ledger → List Lease → Worked) → Filed
+onFile b n work = pick (eqb (refusalIn b n) 0) (filed b n (work (ledgerIn b n) (leasesIn b n))) (kept b n)
 
 -- ---- one call
 abbrev pub called : LentAnswer → Worked
-called a = record { number = a .outcome; state = a .state; leases = a .leases; used = 0; out = a .reply }
+called a = record { number = a .outcome; ledger = a .ledger; leases = a .leases; used = 0; out = a .reply }
 
 unfoldable pub serveFile : List ℕ → ℕ → Call → Filed
-serveFile b n c = onFile b n (λ s ls. called (serveLent s ls (namesIn b n) c))
+serveFile b n c = onFile b n (λ g ls. called (serveLent g ls (namesIn b n) c))
 
 -- ---- a list of calls, each a record as `replay` reads it: time(4), client address(4), reply room length(2), datagram length(2), the datagram
 -- how many octets the first record takes
@@ -112,27 +112,27 @@ answerOctets a = a .outcome ∷ octets16 (length (a .reply)) ++ a .reply
 abbrev pub answerRoom : ℕ
 answerRoom = 3 + leastRoom
 
-abbrev pub stopped : ℕ → State → List Lease → Worked
-stopped k s ls = record { number = k; state = s; leases = ls; used = 0; out = [] }
+abbrev pub stopped : ℕ → Ledger → List Lease → Worked
+stopped k g ls = record { number = k; ledger = g; leases = ls; used = 0; out = [] }
 
 -- the answer to the first record before those to the others
 abbrev pub answerBefore : List ℕ → LentAnswer → Worked → Worked
-answerBefore cs a r = record { number = r .number; state = r .state; leases = r .leases; used = recordSize cs + r .used; out = answerOctets a ++ r .out }
+answerBefore cs a r = record { number = r .number; ledger = r .ledger; leases = r .leases; used = recordSize cs + r .used; out = answerOctets a ++ r .out }
 
 -- why the first record is not answered, with so much room for answers left: 24, 27 or 0
 unfoldable pub stopIn : List ℕ → ℕ → ℕ
 stopIn cs room = pick (cutOff cs) 24 (pick (ltb room answerRoom) 27 0)
 
 -- at most k records, each on what the one before left
-unfoldable pub replayed : ℕ → State → List Lease → List ℕ → List ℕ → ℕ → Worked
-replayed zero s ls names cs room = stopped 0 s ls
-replayed (suc k) s ls names cs room =
-    pick (eqb (length cs) 0) (stopped 0 s ls)
+unfoldable pub replayed : ℕ → Ledger → List Lease → List ℕ → List ℕ → ℕ → Worked
+replayed zero g ls names cs room = stopped 0 g ls
+replayed (suc k) g ls names cs room =
+    pick (eqb (length cs) 0) (stopped 0 g ls)
     (pick (eqb (stopIn cs room) 0)
-    (answerBefore cs (serveLent s ls names (callIn cs))
-    (replayed k (serveLent s ls names (callIn cs) .state) (serveLent s ls names (callIn cs) .leases) names (drop (recordSize cs) cs) (room - length (answerOctets (serveLent s ls names (callIn cs))))))
-    (stopped (stopIn cs room) s ls))
+    (answerBefore cs (serveLent g ls names (callIn cs))
+    (replayed k (serveLent g ls names (callIn cs) .ledger) (serveLent g ls names (callIn cs) .leases) names (drop (recordSize cs) cs) (room - length (answerOctets (serveLent g ls names (callIn cs))))))
+    (stopped (stopIn cs room) g ls))
 
 -- a list of calls on the file in a buffer, with so much room for answers
 unfoldable pub replayFile : List ℕ → ℕ → List ℕ → ℕ → Filed
-replayFile b n cs room = onFile b n (λ s ls. replayed (length cs) s ls (namesIn b n) cs room)
+replayFile b n cs room = onFile b n (λ g ls. replayed (length cs) g ls (namesIn b n) cs room)

@@ -10,15 +10,15 @@ use Rattle.owned.specs.declared.OwnedCall.{OwnedCall}
 use Rattle.owned.specs.declared.OwnedFile.{OwnedFile}
 use Rattle.records.specs.Lent.{LentAnswer}
 use Rattle.embed.specs.declared.Progress.{Progress}
-use Rattle.embed.specs.Embed.{answerOctets, Filed, largestNames, leasesIn, namesIn, refusalIn, stateIn, Worked}
+use Rattle.embed.specs.Embed.{answerOctets, Filed, largestNames, ledgerIn, leasesIn, namesIn, refusalIn, Worked}
 
 -- the book of the first n octets of a buffer
 pub record Opened (b : List ℕ) (n : ℕ) (r : OwnedFile) : Type 0 where
   pub refusal : r .refusal ≡ refusalIn b n
-  pub state : refusalIn b n ≡ 0 → r .owned .state ≡ stateIn b n
+  pub ledger : refusalIn b n ≡ 0 → r .owned .ledger ≡ ledgerIn b n
   pub leases : refusalIn b n ≡ 0 → r .owned .records .leases ≡ leasesIn b n
 
--- its names, copied to the front of another buffer: the first r octets of it
+-- its names, copied to the front of another buffer: the first r octets of it. Names longer than `largestNames` are cut there; an accepted file has none so long
 pub record Keeps (b : List ℕ) (n : ℕ) (kept : List ℕ) (r : ℕ) : Type 0 where
   pub within : r ≤ length kept
   pub front : n ≤ length b → take r kept ≡ take largestNames (namesIn b n)
@@ -26,7 +26,7 @@ pub record Keeps (b : List ℕ) (n : ℕ) (kept : List ℕ) (r : ℕ) : Type 0 w
 -- a call's answer, written into a buffer from `to` on
 pub record Answers (a : LentAnswer) (before : List ℕ) (to : ℕ) (after : List ℕ) (r : OwnedCall) : Type 0 where
   pub size : r .outcome .length ≡ length (a .reply)
-  pub state : r .owned .state ≡ a .state
+  pub ledger : r .owned .ledger ≡ a .ledger
   pub leases : r .owned .records .leases ≡ a .leases
   pub buffer : after ≡ put before to (answerOctets a)
 
@@ -34,7 +34,7 @@ pub record Replays (a : Worked) (before after : List ℕ) (r : Progress) : Type 
   pub number : r .number ≡ a .number
   pub used : r .used ≡ a .used
   pub filled : r .filled ≡ length (a .out)
-  pub state : r .owned .state ≡ a .state
+  pub ledger : r .owned .ledger ≡ a .ledger
   pub leases : r .owned .records .leases ≡ a .leases
   pub buffer : after ≡ a .out ++ drop (length (a .out)) before
 

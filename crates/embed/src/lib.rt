@@ -136,7 +136,7 @@ fn answer_call(
     to: usize,
 ) -> OwnedCall
     requires { ⌜ (to + answerRoom ≤ length (now answers)) × (room ≤ leastRoom) ⌝ }
-    ensures { λ r. ⌜ Answers (serveLent (o .state) (o .records .leases) (now (names .entry)) (record { datagram = now (datagram .entry); client = client; time = time; room = room })) (now (answers .entry)) to (now (answers .exit)) r ⌝ }
+    ensures { λ r. ⌜ Answers (serveLent (o .ledger) (o .records .leases) (now (names .entry)) (record { datagram = now (datagram .entry); client = client; time = time; room = room })) (now (answers .entry)) to (now (answers .exit)) r ⌝ }
 {
     let r = owned::serve(
         o,
@@ -162,7 +162,7 @@ fn answer_record(
     to: usize,
 ) -> OwnedCall
     requires { ⌜ (to + answerRoom ≤ length (now answers)) × (at + recordSize (drop at (now calls)) ≤ length (now calls)) ⌝ }
-    ensures { λ r. ⌜ Answers (serveLent (o .state) (o .records .leases) (now (names .entry)) (callIn (drop at (now (calls .entry))))) (now (answers .entry)) to (now (answers .exit)) r ⌝ }
+    ensures { λ r. ⌜ Answers (serveLent (o .ledger) (o .records .leases) (now (names .entry)) (callIn (drop at (now (calls .entry))))) (now (answers .entry)) to (now (answers .exit)) r ⌝ }
 {
     let time = octets::read_u32(calls, at);
     let client = octets::read_u32(calls, at + 4);
@@ -191,7 +191,7 @@ fn record_size(calls: &[u8], at: usize) -> usize
 
 // Answers records until they end, one is cut off, or the next answer may not fit.
 fn replay(start: Owned, names: &[u8], calls: &[u8], answers: &mut [u8]) -> Progress
-    ensures { λ r. ⌜ Replays (replayed (length (now (calls .entry))) (start .state) (start .records .leases) (now (names .entry)) (now (calls .entry)) (length (now (answers .entry)))) (now (answers .entry)) (now (answers .exit)) r ⌝ }
+    ensures { λ r. ⌜ Replays (replayed (length (now (calls .entry))) (start .ledger) (start .records .leases) (now (names .entry)) (now (calls .entry)) (length (now (answers .entry)))) (now (answers .entry)) (now (answers .exit)) r ⌝ }
 {
     let mut o = start;
     let mut at: usize = 0;

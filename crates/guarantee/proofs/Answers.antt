@@ -1,6 +1,6 @@
 -- Laws: demand 1, put together: what the tests leave, the reply, its reading, and the leases.
 use Rattle.guarantee.specs.Statement.{Answered, Demand1, NamesStay, run}
-use Rattle.guarantee.proofs.Discards.{Tested, call-tested, names-refused}
+use Rattle.guarantee.proofs.Discards.{Tested, call-tested, names-refused, releases-refused}
 use Rattle.guarantee.proofs.Replies.{leases-stay, replied}
 use Rattle.guarantee.proofs.Walked.{read-back}
 use mathlib.Core.List.{List, [], _∷_}
@@ -18,6 +18,7 @@ call-answered b c =
       silent = v .silent;
       leases = leases-stay b c;
       bad-names = names-refused b c;
+      bad-releases = releases-refused b c;
       names = v .names;
       untouched = v .untouched;
       untouched-too = v .untouched-too;

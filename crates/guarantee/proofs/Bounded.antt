@@ -14,6 +14,7 @@ use Rattle.message.specs.declared.Fields.{Fields}
 use Rattle.message.specs.laws.Placed.{pick-cases}
 use Rattle.state.specs.declared.Lease.{Lease}
 use Rattle.state.specs.declared.LeaseTable.{LeaseTable}
+use Rattle.state.specs.declared.Release.{Release}
 use Rattle.state.specs.declared.State.{State}
 use Rattle.state.specs.declared.TenantLeases.{TenantLeases}
 use Rattle.state.specs.declared.Scope.{Scope}
@@ -110,16 +111,16 @@ module _ (s : State) (t : LeaseTable) (h : ℕ) (m : Fields) (n : (g : ℕ) → 
   either true x y a b = a
   either false x y a b = b
 
-  enters : P (decideOf s t h m)
+  enters : (q : List Release) → P (decideOf s t q h m)
   unfolding decideOf judgedOf settledOf leasedOf plainOf P
-  enters =
-      either _ _ _ none (either _ _ _ none (either _ _ _ none (either _ _ _ none (either _ _ _
+  enters q =
+      either _ _ _ none (either _ _ _ none (either _ _ _ none (either _ _ _ none (either _ _ _ none (either _ _ _
       (either _ _ _ none (either _ _ _ none (either _ _ _ (proposed s t h m (n h)) (proposed s t h m (n h)))))
-      (either _ _ _ none none)))))
+      (either _ _ _ none none))))))
 
-  decided : (g : ℕ) → All F (ownOf (applied (decideOf s t h m .edit) h t) g)
+  decided : (q : List Release) (g : ℕ) → All F (ownOf (applied (decideOf s t q h m .edit) h t) g)
   unfolding P
-  decided g = put (decideOf s t h m .edit) t h g enters (n h) (n g)
+  decided q g = put (decideOf s t q h m .edit) t h g (enters q) (n h) (n g)
 
 -- ---- the call, and any list
 module _ (b : Book) (c : Call) (v : Narrow b) (g : ℕ) where
@@ -132,7 +133,7 @@ module _ (b : Book) (c : Call) (v : Narrow b) (g : ℕ) where
       pick-cases Q _ _ _
       (λ _. pick-cases Q _ _ _ (λ _. v g)
       (λ _. pick-cases Q _ _ _
-      (λ _. pick-cases Q _ _ _ (λ _. pick-cases Q _ _ _ (λ _. now-narrow b c v g) (λ _. decided (bookAt b c .state) (bookAt b c .table) _ _ (now-narrow b c v) g))
+      (λ _. pick-cases Q _ _ _ (λ _. pick-cases Q _ _ _ (λ _. now-narrow b c v g) (λ _. decided (bookAt b c .state) (bookAt b c .table) _ _ (now-narrow b c v) _ g))
       (λ _. now-narrow b c v g)) (λ _. now-narrow b c v g))) (λ _. v g)
 
 next : (b : Book) (c : Call) → Narrow b → Narrow (serveOf b c .book)

@@ -17,15 +17,16 @@ use Rattle.message.specs.laws.Placed.{pick-cases}
 use Rattle.message.specs.Read.{byStage, ended, headerOk, noneRequired, readOf}
 use Rattle.message.specs.Read as read
 use Rattle.message.specs.Walk.{walkOf}
-use Rattle.state.specs.Book.{Book, advanced, changedTo}
+use Rattle.state.specs.Book.{Book, advanced, releasesAt, remembered}
 use Rattle.state.specs.declared.Edit.{Edit}
 use Rattle.state.specs.declared.Lease.{Lease}
 use Rattle.state.specs.declared.LeaseTable.{LeaseTable}
+use Rattle.state.specs.declared.Release.{Release}
 use Rattle.state.specs.declared.State.{State}
-use Rattle.state.specs.Edit.{applied, noEdit}
-use Rattle.state.specs.laws.Edited.{applied-none}
-use Rattle.soundness.specs.Named.{bookB, namesGood}
-use Rattle.soundness.specs.laws.Named.{advanced-names, bad-book}
+use Rattle.state.specs.Edit.{editedBook, noEdit}
+use Rattle.state.specs.laws.Edited.{edited-none}
+use Rattle.releases.specs.Whole.{bookB, memoryGood, namesGood}
+use Rattle.releases.specs.laws.Whole.{advanced-names, bad-book, bad-memory}
 use Rattle.soundness.specs.Sound.{tenantsIn}
 use Rattle.decision.specs.declared.Decided.{Decided}
 use Rattle.decision.specs.declared.Reply.{Reply}
@@ -64,16 +65,17 @@ refused m e = go (eqb (m .kind) 1) (eqb (m .kind) 8)
     go false true = eight
     go false false = replied _ refl
 
-decided : (s : State) (t : LeaseTable) (h : ℕ) (m : Fields) → Judged (decideOf s t h m)
-decided s t h m = decided-by s t h m Judged (record {
+decided : (s : State) (t : LeaseTable) (q : List Release) (h : ℕ) (m : Fields) → Judged (decideOf s t q h m)
+decided s t q h m = decided-by s t h m Judged (record {
   resent = λ e. leased LeaseAck _ _;
+  again = plain ReleaseAck _;
   refused = refused m;
   offered = λ k ok e. leased Offer _ _;
   requested = λ k ok e. leased LeaseAck _ _;
   renewed = λ k ok held e. leased LeaseAck _ _;
   released = λ k held. plain ReleaseAck _;
   informed = plain InfoAck _;
-})
+}) q
 
 -- ---- the reader's discards are 4, 5 and 6
 Numbered : ℕ → Type 0
@@ -131,8 +133,7 @@ module _ (b : Book) (c : Call) where
     untouched = λ e. absurd (let r = j .rest (λ z. omega arith) .0 in omega arith);
     untouched-too = λ e. absurd (let r = j .rest (λ z. omega arith) .0 in omega arith);
     advances = λ n.
-        ap {B = Book} (changedTo (bookAt b c) (bookAt b c .state))
-        (ap (λ (e : Edit). applied e h (bookAt b c .table)) (j .rest (λ z. omega arith) .1 .1) ∙ applied-none (bookAt b c .table) h);
+        ap (λ (e : Edit). editedBook e h (bookAt b c)) (j .rest (λ z. omega arith) .1 .1) ∙ edited-none (bookAt b c) h;
     names = advanced-names b (c .time);
   }
 
@@ -143,7 +144,7 @@ module _ (b : Book) (c : Call) where
   unfolding forServer P
   for-server h m =
       pick-cases P (eqb (m .kind) 3 && not (m .ours)) _ _ (λ _. late 7 (omega arith) (omega arith))
-      (λ _. served h m _ (decided (bookAt b c .state) (bookAt b c .table) h m))
+      (λ _. served h m _ (decided (bookAt b c .state) (bookAt b c .table) (remembered (releasesAt (bookAt b c .memory) h)) h m))
 
   with-reading : (h : ℕ) → Tested b c (withReading (bookAt b c) h (c .datagram) (readOf (c .datagram)))
   unfolding withReading P Numbered
@@ -162,7 +163,13 @@ module _ (b : Book) (c : Call) where
       pick-cases P (bookB b) _ _
       (λ _. pick-cases P (ltb (c .room) leastRoom) _ _ (λ _. early 2 (omega arith) (omega arith)) (λ _. at-clock)) (λ _. early 1 (omega arith) (omega arith))
 
--- ---- bad names are discard 1
-pub names-refused : (b : Book) (c : Call) → namesGood b ≡ false → serveOf b c .outcome ≡ 1
+-- ---- bad names are discard 1, and so are bad releases
+unsound-refused : (b : Book) (c : Call) → bookB b ≡ false → serveOf b c .outcome ≡ 1
 unfolding serveOf pick
-names-refused b c e = ap {A = Bool} (λ (x : Bool). pick x (pick (ltb (c .room) leastRoom) (discarded 2 b) (atClock (advanced b (c .time)) (c .client) (c .datagram))) (discarded 1 b) .outcome) (bad-book b e)
+unsound-refused b c e = ap {A = Bool} (λ (x : Bool). pick x (pick (ltb (c .room) leastRoom) (discarded 2 b) (atClock (advanced b (c .time)) (c .client) (c .datagram))) (discarded 1 b) .outcome) e
+
+pub names-refused : (b : Book) (c : Call) → namesGood b ≡ false → serveOf b c .outcome ≡ 1
+names-refused b c e = unsound-refused b c (bad-book b e)
+
+pub releases-refused : (b : Book) (c : Call) → memoryGood b ≡ false → serveOf b c .outcome ≡ 1
+releases-refused b c e = unsound-refused b c (bad-memory b e)

@@ -17,13 +17,14 @@ use Rattle.reply.specs.Reply.{leastRoom, leaseAckOf}
 use Rattle.reply.specs.Ranges.{addressesIn}
 use Rattle.state.specs.declared.Lease.{Lease}
 use Rattle.state.specs.declared.LeaseTable.{LeaseTable}
+use Rattle.state.specs.declared.Release.{Release}
 use Rattle.state.specs.declared.State.{State}
-use Rattle.state.specs.Book.{Book, idOf, inUse, insertOf, laidOut, leaseWith, leasesOf, removeOf, scopeAt}
-use Rattle.state.specs.Edit.{entering}
+use Rattle.state.specs.Book.{Book, advanced, idOf, inUse, insertOf, laidOut, laidReleases, leaseWith, leasesOf, putReleases, releasesAt, remembered, removeOf, scopeAt}
+use Rattle.state.specs.Edit.{entering, forgetOf, noted, notedIn}
 use Rattle.state.specs.laws.Edited.{applied-entering, applied-others}
 use Rattle.state.specs.laws.Layout.{read-back}
-use Rattle.soundness.specs.Named.{bookB}
-use Rattle.soundness.specs.laws.Named.{advanced-names, book-sound}
+use Rattle.releases.specs.Whole.{bookB}
+use Rattle.releases.specs.laws.Whole.{advanced-names, book-sound}
 use Rattle.soundness.specs.Sound.{scopesIn, tenantsIn}
 use Rattle.soundness.specs.laws.Book.{Sound, sound-lists}
 use Rattle.allocation.specs.declared.Ask.{Ask}
@@ -32,11 +33,12 @@ use Rattle.allocation.specs.Rule.{grantOf, suffices, unusedReserve}
 use Rattle.allocation.specs.laws.Granted.{grant-exists, guaranteed}
 use Rattle.decision.specs.declared.Decided.{Decided}
 use Rattle.decision.specs.declared.Reply.the-variants.{LeaseAck}
+use Rattle.releases.specs.Again.{anyAgain}
 use Rattle.decision.specs.laws.Cases.{Passed, passed, new-known, or-none}
-use Rattle.decision.specs.Parts.{horizon, defaultLease, askAt, badCounts, error0Of, error1Of, error2Of, error3Of, fitsNew, hasPeriod, holdsOf, isNew, knowsScope, leaseFrom, lengthOf, newOf, newWith, ownOf, proposalOf, recordedOf, resends, scopePlace, startOf, withLease}
+use Rattle.decision.specs.Parts.{horizon, defaultLease, askAt, badCounts, error0Of, error1Of, error2Of, error3Of, fitsNew, hasPeriod, holdsOf, isNew, knowsScope, leaseFrom, leaseIdIn, lengthOf, newOf, newWith, ownOf, proposalOf, recordedOf, releasedAgain, resends, scopePlace, startOf, withLease}
 use Rattle.decision.specs.Decide.{changed, decideOf, judgedOf, leasedOf, settledOf}
 use Rattle.server.specs.Serve.{Answer, Call, answered, atClock, forServer, headOf, replyOf, serveOf, withReading}
-use Rattle.guarantee.specs.Statement.{Demand3, Granted, NewRequest, SoundBook, askFor, bookAt, grantFor, leaseFor, placeFor, run, saysOf, scopeFor, stateAt, tableAt, tenantFor, termsFor}
+use Rattle.guarantee.specs.Statement.{Demand3, Granted, NewRequest, SoundBook, askFor, bookAt, grantFor, leaseFor, placeFor, releasesFor, run, saysOf, scopeFor, stateAt, tableAt, tenantFor, termsFor}
 use Rattle.guarantee.proofs.Inserted.{others-stay}
 use Rattle.guarantee.proofs.Ranges.{ack-names, grant-small, named-head, offsets-some, pool-fits}
 use Rattle.guarantee.proofs.Kept.{now-sound, run-sound, within-limits}
@@ -160,10 +162,16 @@ module _ (s : State) (t : LeaseTable) (h : ℕ) (m : Fields) (v : Sound s (lease
     unfolding proposalOf
     proposal-is = taken (isNew m) _ _ is-new
 
-    pub decided : decideOf s t h m ≡ changed (entering L) (withLease LeaseAck L)
+    -- a REQUEST is no RELEASE sent again
+    no-again : (q : List Release) → releasedAgain s q m ≡ false
+    unfolding releasedAgain
+    no-again q = ap (λ (k : ℕ). eqb k 7 && anyAgain (s .clock) (leaseIdIn m) (m .xid) q) request
+
+    pub decided : (q : List Release) → decideOf s t q h m ≡ changed (entering L) (withLease LeaseAck L)
     unfolding decideOf judgedOf settledOf leasedOf
-    decided =
+    decided q =
         not-taken (resends m (recordedOf (ownOf t h) m)) _ _ new
+        ∙ not-taken (releasedAgain s q m) _ _ (no-again q)
         ∙ not-taken (error1Of s m (holdsOf (ownOf t h) m)) _ _ error1
         ∙ not-taken (error2Of s m) _ _ error2
         ∙ not-taken (error3Of m (holdsOf (ownOf t h) m)) _ _ no-error3
@@ -208,7 +216,8 @@ module _ (b : Book) (c : Call) (v : SoundBook b) (r : NewRequest b c) where
       ∙ taken (eqb (readOf (c .datagram) .discard) 0) _ _ (eq-eqb (readOf (c .datagram) .discard) 0 (r .read))
       ∙ not-taken (eqb (saysOf b c .kind) 3 && not (saysOf b c .ours)) _ _ (ap₂ (λ (k : ℕ) (o : Bool). eqb k 3 && not o) (r .request) (r .ours))
       ∙ ap (answered (bookAt b c) (tenantFor b c) (saysOf b c))
-      (decided (stateAt b c) (tableAt b c) (tenantFor b c) (saysOf b c) S (r .house) (r .request) (r .new) (r .error1) (r .error2) (r .soon) (r .fits) (r .left) (r .least))
+      (decided (stateAt b c) (tableAt b c) (tenantFor b c) (saysOf b c) S (r .house) (r .request) (r .new) (r .error1) (r .error2) (r .soon) (r .fits) (r .left) (r .least)
+      (remembered (releasesAt (bookAt b c .memory) (tenantFor b c))))
 
   there : tenantFor b c < length (tableAt b c .tenants)
   there = let e = now-sound b c v .tenants in let h = r .house in omega arith
@@ -222,6 +231,11 @@ module _ (b : Book) (c : Call) (v : SoundBook b) (r : NewRequest b c) where
       ap (λ (a : Answer). ownOf (a .book .table) (tenantFor b c)) served
       ∙ ap (λ (t : LeaseTable). ownOf t (tenantFor b c)) (applied-entering (tableAt b c) (tenantFor b c) (leaseFor b c) (r .left))
       ∙ ap inUse (getD-set-same (tableAt b c .tenants) (tenantFor b c) (laidOut ls) (laidOut []) there) ∙ read-back ls
+
+  -- what is remembered of the tenant, but for the identifier
+  forgotten : noted (entering (leaseFor b c)) (tenantFor b c) (bookAt b c .memory) ≡ putReleases (b .memory) (tenantFor b c) (laidReleases (forgetOf (idOf (leaseFor b c)) (releasesFor b c)))
+  unfolding noted notedIn pick advanced
+  forgotten = refl
 
   pub granted : Granted b c (serveOf b c)
   unfolding ls withLease
@@ -249,6 +263,7 @@ module _ (b : Book) (c : Call) (v : SoundBook b) (r : NewRequest b c) where
         (here (stateAt b c) (tableAt b c) (tenantFor b c) (saysOf b c) S (r .house) (r .request) (r .new) (r .error1) (r .error2)));
     state = ap (λ (a : Answer). a .book .state) served;
     titles = ap (λ (a : Answer). a .book .names) served ∙ advanced-names b (c .time);
+    forgets = ap (λ (a : Answer). a .book .memory) served ∙ forgotten;
     others = λ g n.
         ap (λ (a : Answer). ownOf (a .book .table) g) served ∙ ap inUse (applied-others (entering (leaseFor b c)) (tenantFor b c) g (tableAt b c) n);
     own = after;

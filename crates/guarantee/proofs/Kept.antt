@@ -1,6 +1,7 @@
--- Laws: any list of calls keeps a sound book sound: a call raises the clock and drops ended leases, and a decision keeps the leases sound.
+-- Laws: any list of calls keeps a sound book sound: a call raises the clock and drops ended leases, and a decision keeps the leases sound and what is
+-- remembered.
 use Prim.Native.Nat.{ℕ, _≤_, _<_}
-use mathlib.Core.Path.{_≡_, sym, ap, _∙_}
+use mathlib.Core.Path.{_≡_, refl, sym, ap, _∙_}
 use mathlib.Core.Bool.{_&&_}
 use mathlib.Core.List.{List, [], _∷_, map}
 use native.Mathlib.Omega.{arith}
@@ -15,17 +16,18 @@ use Rattle.message.specs.laws.Placed.{pick-cases}
 use Rattle.message.specs.Read.{readOf}
 use Rattle.state.specs.declared.Lease.{Lease}
 use Rattle.state.specs.declared.State.{State}
-use Rattle.state.specs.Book.{Book, advanced, dropped, inUse, laidOut, leasesOf, liveOf, scopesOf, tableOf}
+use Rattle.state.specs.Book.{Book, advanced, dropped, inUse, laidOut, leasesOf, liveOf, releasesAt, remembered, scopesOf, tableOf}
 use Rattle.state.specs.laws.Edited.{applied-count}
 use Rattle.state.specs.laws.Layout.{table-back}
-use Rattle.soundness.specs.Named.{bookB}
-use Rattle.soundness.specs.laws.Named.{advanced-book, book-named, book-sound, both-book}
+use Rattle.releases.specs.Whole.{bookB}
+use Rattle.releases.specs.laws.Whole.{advanced-book, book-named, book-remembers, book-sound, both-book}
+use Rattle.releases.specs.laws.Kept.{noted-count}
 use Rattle.soundness.specs.Sound.{oneTo, countsB, rule3, rule4, rule5, rule6, settingsB, sizeB, tenantsIn}
 use Rattle.soundness.specs.laws.Book.{Sound, settingsOk, sound-lists}
-use Rattle.decision.specs.Decide.{decideOf}
 use Rattle.decision.specs.laws.Kept.{GoodId, decision-sound}
+use Rattle.decision.specs.laws.Remembered.{decision-remembers}
 use Rattle.decision.specs.laws.Reads.{read-id}
-use Rattle.server.specs.Serve.{Answer, Call, answered, atClock, forServer, serveOf, tenantOf, withReading}
+use Rattle.server.specs.Serve.{Answer, Call, answered, atClock, decidedFor, forServer, serveOf, tenantOf, withReading}
 use Rattle.guarantee.specs.Statement.{SoundBook, WithinLimits, bookAt, run}
 
 -- ---- the records stay eight tenants', and laid out
@@ -38,21 +40,28 @@ advanced-laid : (b : Book) (time : ℕ) → advanced b time .table ≡ tableOf (
 unfolding advanced dropped
 advanced-laid b time = ap tableOf (sym (table-back (map (liveOf _) (leasesOf (b .table)))))
 
+advanced-remembered : (b : Book) (time : ℕ) → length (advanced b time .memory .releases) ≡ length (b .memory .releases)
+unfolding advanced
+advanced-remembered b time = refl
+
 -- ---- the call
 module _ (b : Book) (c : Call) (v : SoundBook b) where
   Keeps : Answer → Type 0
   Keeps a = SoundBook (a .book)
 
   pub now-sound : SoundBook (bookAt b c)
-  now-sound = record { tenants = advanced-eight b (c .time) ∙ v .tenants; sound = advanced-book b (c .time) (v .sound) }
+  now-sound = record { tenants = advanced-eight b (c .time) ∙ v .tenants; memory = advanced-remembered b (c .time) ∙ v .memory; sound = advanced-book b (c .time) (v .sound) }
 
-  decided-sound : (h : ℕ) (m : Fields) → h < tenantsIn (bookAt b c .state) → GoodId m → Keeps (answered (bookAt b c) h m (decideOf (bookAt b c .state) (bookAt b c .table) h m))
+  decided-sound : (h : ℕ) (m : Fields) → h < tenantsIn (bookAt b c .state) → GoodId m → Keeps (answered (bookAt b c) h m (decidedFor (bookAt b c) h m))
   unfolding Keeps
   decided-sound h m known good = record {
-    tenants = applied-count (decideOf (bookAt b c .state) (bookAt b c .table) h m .edit) h (bookAt b c .table) ∙ now-sound .tenants;
+    tenants = applied-count (decidedFor (bookAt b c) h m .edit) h (bookAt b c .table) ∙ now-sound .tenants;
+    memory = noted-count (decidedFor (bookAt b c) h m .edit) h (bookAt b c .memory) ∙ now-sound .memory;
     sound =
-        both-book (answered (bookAt b c) h m (decideOf (bookAt b c .state) (bookAt b c .table) h m) .book)
-        (decision-sound (bookAt b c .state) (bookAt b c .table) h m (book-sound (bookAt b c) (now-sound .sound)) (advanced-laid b (c .time)) known (let e = now-sound .tenants in omega arith) good)
+        both-book (answered (bookAt b c) h m (decidedFor (bookAt b c) h m) .book)
+        (decision-sound (bookAt b c .state) (bookAt b c .table) (remembered (releasesAt (bookAt b c .memory) h)) h m (book-sound (bookAt b c) (now-sound .sound)) (advanced-laid b (c .time)) known (let e = now-sound .tenants in omega arith) good)
+        (decision-remembers (bookAt b c) h m (book-sound (bookAt b c) (now-sound .sound)) (book-remembers (bookAt b c) (now-sound .sound)) (now-sound .memory) known
+        (let e = now-sound .tenants in omega arith) (remembered (releasesAt (bookAt b c .memory) h)))
         (book-named (bookAt b c) (now-sound .sound));
   }
 

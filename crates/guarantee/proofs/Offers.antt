@@ -35,13 +35,14 @@ use Rattle.message.specs.declared.Wish.{Wish}
 use Rattle.reply.specs.Reply.{leaseAckOf, messageOctets, nakOf, offerOf, leastRoom}
 use Rattle.state.specs.declared.Lease.{Lease}
 use Rattle.state.specs.declared.LeaseTable.{LeaseTable}
+use Rattle.state.specs.declared.Release.{Release}
 use Rattle.state.specs.declared.State.{State}
-use Rattle.state.specs.Book.{Book, placeOf, zeroLease}
-use Rattle.soundness.specs.Named.{bookB}
+use Rattle.state.specs.Book.{Book, placeOf, releasesAt, remembered, zeroLease}
+use Rattle.releases.specs.Whole.{bookB}
 use Rattle.soundness.specs.Sound.{tenantsIn}
 use Rattle.decision.specs.declared.Decided.{Decided}
 use Rattle.decision.specs.Decide.{decideOf, judgedOf, leasedOf, settledOf}
-use Rattle.decision.specs.Parts.{discardWith, early1Of, error1Of, heldAlready, holdsOf, isNew, leaseIdIn, ownOf, recordedOf, refusalOf, resends, hasPeriod, nakWith, withLease}
+use Rattle.decision.specs.Parts.{discardWith, early1Of, error1Of, heldAlready, holdsOf, isNew, leaseIdIn, ownOf, recordedOf, refusalOf, releasedAgain, resends, hasPeriod, nakWith, withLease}
 use Rattle.decision.specs.laws.Ensured.{asOffer, offered-as-requested, sentAs}
 use Rattle.guarantee.specs.Statement.{OfferRule, Discovers, NewlyGranted, OfferedAs, asRequest, bookAt, ownFor, requested, saysOf, stateAt, tableAt, tenantFor}
 use Rattle.decision.specs.declared.Reply.{Reply}
@@ -286,9 +287,9 @@ picked : (b : Bool) (x y : Decided) → b ≡ true → pick b x y .verdict ≡ x
 unfolding pick
 picked b x y e = ap (λ (t : Bool). pick t x y .verdict) e
 
-discovered-held : (s : State) (t : LeaseTable) (h : ℕ) (m : Fields) → resends (sentAs 3 m) (recordedOf (ownOf t h) m) ≡ true → decideOf s t h (sentAs 1 m) .verdict ≡ discardWith 8
-unfolding decideOf judgedOf resends sentAs refusalOf pick error1Of heldAlready isNew holdsOf
-discovered-held s t h m e =
+discovered-held : (s : State) (t : LeaseTable) (q : List Release) (h : ℕ) (m : Fields) → resends (sentAs 3 m) (recordedOf (ownOf t h) m) ≡ true → decideOf s t q h (sentAs 1 m) .verdict ≡ discardWith 8
+unfolding decideOf judgedOf resends releasedAgain sentAs refusalOf pick error1Of heldAlready isNew holdsOf
+discovered-held s t q h m e =
     picked (error1Of s (sentAs 1 m) (holdsOf (ownOf t h) m)) _ _
     (or-right (early1Of s (sentAs 1 m)) (resent-held (ownOf t h) m e))
 
@@ -445,16 +446,17 @@ Drawn v = ((v .outcome ≡ 0) × (v .reply ≡ LeaseAck)) ⊎ (v .reply ≡ Nak)
 never : {A : Type 0} → true ≡ false → A
 never e = let z : _≡_ {A = ℕ} 0 1 = cc in absurd (omega arith)
 
-request-draws : (s : State) (t : LeaseTable) (h : ℕ) (m : Fields) → Drawn (decideOf s t h (sentAs 3 m) .verdict)
-unfolding decideOf judgedOf settledOf leasedOf withLease refusalOf nakWith sentAs hasPeriod isNew Drawn
-request-draws s t h m =
+request-draws : (s : State) (t : LeaseTable) (q : List Release) (h : ℕ) (m : Fields) → Drawn (decideOf s t q h (sentAs 3 m) .verdict)
+unfolding decideOf judgedOf releasedAgain settledOf leasedOf withLease refusalOf nakWith sentAs hasPeriod isNew Drawn
+request-draws s t q h m =
     pick-cases P _ _ _ (λ _. inl (refl, refl))
+    (λ _. pick-cases P (releasedAgain s q (sentAs 3 m)) _ _ (λ e. never (sym e))
     (λ _. pick-cases P _ _ _ (λ _. nak 1)
     (λ _. pick-cases P _ _ _ (λ _. nak 2)
     (λ _. pick-cases P _ _ _ (λ _. nak 3)
     (λ _. pick-cases P _ _ _
     (λ _. pick-cases P _ _ _ (λ _. nak 0) (λ _. pick-cases P (eqb 3 1) _ _ (λ e. never (sym e)) (λ _. pick-cases P (eqb 3 3) _ _ (λ _. inl (refl, refl)) (λ e. never e))))
-    (λ e. never e)))))
+    (λ e. never e))))))
   where
     P : Decided → Type 0
     P d = Drawn (d .verdict)
@@ -487,19 +489,22 @@ module _ (b : Book) (c : Call) where
   abbrev h : ℕ
   h = tenantFor b c
 
+  abbrev q : List Release
+  q = remembered (releasesAt (bookAt b c .memory) (tenantFor b c))
+
   -- the decision's answers
   module _ (k : Alike s (c .datagram)) where
     abbrev m : Fields
     m = k .words
 
     abbrev ruled : Verdict
-    ruled = decideOf s t h (sentAs 3 m) .verdict
+    ruled = decideOf s t q h (sentAs 3 m) .verdict
 
     abbrev discovered : Answer
-    discovered = answered (bookAt b c) h (sentAs 1 m) (decideOf s t h (sentAs 1 m))
+    discovered = answered (bookAt b c) h (sentAs 1 m) (decideOf s t q h (sentAs 1 m))
 
     abbrev asked : Answer
-    asked = answered (bookAt b c) h (sentAs 3 m) (decideOf s t h (sentAs 3 m))
+    asked = answered (bookAt b c) h (sentAs 3 m) (decideOf s t q h (sentAs 3 m))
 
     resent : Bool
     resent = resends (sentAs 3 m) (recordedOf (ownOf t h) m)
@@ -509,14 +514,14 @@ module _ (b : Book) (c : Call) where
     new-is = ap (λ (f : Fields). resends f (recordedOf (ownOf t h) f)) (k .request) ∙ ap (resends (sentAs 3 m)) (sym (recorded-same (ownOf t h) m))
 
     -- not offered: the DISCOVER's verdict is discard 8
-    kept-back : decideOf s t h (sentAs 1 m) .verdict ≡ discardWith 8 → (NewlyGranted b (requested c) asked → ⊥) → Pair discovered asked
+    kept-back : decideOf s t q h (sentAs 1 m) .verdict ≡ discardWith 8 → (NewlyGranted b (requested c) asked → ⊥) → Pair discovered asked
     unfolding Pair discardWith
     kept-back e none = record { offers = λ n. absurd (none n); only = λ o. absurd (eight (o .outcome)); same = λ o. absurd (eight (o .outcome)) }
       where
-        eight : decideOf s t h (sentAs 1 m) .verdict .outcome ≡ 0 → ⊥
-        eight z = let q : decideOf s t h (sentAs 1 m) .verdict .outcome ≡ 8 = ap (λ (v : Verdict). v .outcome) e in omega arith
+        eight : decideOf s t q h (sentAs 1 m) .verdict .outcome ≡ 0 → ⊥
+        eight z = let q : decideOf s t q h (sentAs 1 m) .verdict .outcome ≡ 8 = ap (λ (v : Verdict). v .outcome) e in omega arith
 
-    by-reply : resent ≡ false → decideOf s t h (sentAs 1 m) .verdict ≡ asOffer (ruled .reply) ruled → Drawn ruled → Pair discovered asked
+    by-reply : resent ≡ false → decideOf s t q h (sentAs 1 m) .verdict ≡ asOffer (ruled .reply) ruled → Drawn ruled → Pair discovered asked
     unfolding Pair Drawn replyOf offerOf leaseAckOf nakOf messageOctets sentAs
     by-reply new e d = ⊎-elim granted refused d
       where
@@ -527,7 +532,7 @@ module _ (b : Book) (c : Call) where
           same = λ _. offer ∙ sym (ap (λ (r : List ℕ). set r 1 2) ack);
         }
           where
-            to : decideOf s t h (sentAs 1 m) .verdict ≡ asOffer LeaseAck ruled
+            to : decideOf s t q h (sentAs 1 m) .verdict ≡ asOffer LeaseAck ruled
             to = e ∙ ap (λ (r : Reply). asOffer r ruled) (g .1)
 
             offer : discovered .reply ≡ offerOf (headOf s m) (termsOf s ruled)
@@ -547,8 +552,8 @@ module _ (b : Book) (c : Call) where
     decided = go resent refl
       where
         go : (r : Bool) → resent ≡ r → Pair discovered asked
-        go true e = kept-back (discovered-held s t h m e) (λ n. never (sym e ∙ sym new-is ∙ n .new))
-        go false e = by-reply e (offered-as-requested s t h m e) (request-draws s t h m)
+        go true e = kept-back (discovered-held s t q h m e) (λ n. never (sym e ∙ sym new-is ∙ n .new))
+        go false e = by-reply e (offered-as-requested s t q h m e) (request-draws s t q h m)
 
     -- test 7 is passed
     as-discover : forServer (bookAt b c) h (wordsOf s (c .datagram)) ≡ discovered

@@ -14,15 +14,17 @@ use Rattle.message.specs.Walk.{exactlyFilled, layoutOk, stepOf, optionTaken, va
 use Rattle.message.specs.Read.{ended, headerOk, noneRequired, readOf, requiredEmpty}
 use Rattle.message.specs.Values.{allowedAt, codesFrom, fieldsOf, foundAt, namesServer, timesOf}
 use Rattle.reply.specs.Reply.{infoAckOf, leaseAckOf, messageOctets, nakOf, offerOf, optionsOctets, rangesOctets, releaseAckOf, scopesOctets}
-use Rattle.state.specs.Book.{addressesOf, advanced, byIdentifier, differ, dropped, insertOf, laidOut, liveOf, overlaps, raised, removeOf, insertedIn, tableOf, withHeld, committed, unionAll, usedIn}
-use Rattle.state.specs.Edit.{applied, editedIn, leftIn}
+use Rattle.state.specs.Book.{addressesOf, advanced, byIdentifier, differ, dropped, insertOf, laidOut, liveOf, overlaps, raised, removeOf, insertedIn, laidReleases, tableOf, withHeld, committed, unionAll, usedIn}
+use Rattle.state.specs.Edit.{applied, editedIn, forgetOf, leftIn, noted, notedIn, rememberOf}
 use Rattle.format.specs.Format.{readOctet, readTimes, then, writeAll}
 use Rattle.format.specs.Place.{isWhole}
 use Rattle.names.specs.Names.{chosenOf, defaultOf, firstBy, inLanguage, listsIn, matchOf, namesB, orElse, same, sentFor, sizesOk, valueOr}
-use Rattle.soundness.specs.Named.{bookB}
+use Rattle.releases.specs.Again.{anyAgain, isAgain}
+use Rattle.releases.specs.Rules.{brokenMemory, brokenRelease, differs, fewB, filledB, firstRelease, houseB, laidB, lengthB, memoryB, notLeased, older, onceB, pastB, releaseRulesOf, rulesTo, unusedR}
+use Rattle.releases.specs.Whole.{bookB}
 use Rattle.soundness.specs.Sound.{apart, belowB, blankB, brokenOf, compatible, countsB, disjoint, oneTo, firstBroken, firstRule, firstLate, tenantsB, idB, kindB, layoutB, leaseB, limitB, limitsB, committedB, noneB, offsetsB, paddedB, periodB, poolB, poolsApart, rangeB, rangeZero, rangesApart, recordsB, rule1, rule10, rule11, rule12, rule19, rule2, rule3, rule4, rule5, rule6, rule7, rule8, rule9, rulesOf, scopeZero, settingsB, reserveB, reservesB, sizeB, soundB, tailB, ttlB, unusedB, zeroFrom}
 use Rattle.allocation.specs.Rule.{allowed, busyIn, grantOf, grantTo, suffices, takenOf}
-use Rattle.decision.specs.Parts.{askAt, badCounts, discardWith, endOf, early1Of, heldAlready, error0Of, error1Of, error2Of, error3Of, skewed, fitsNew, fitsRenewed, hasPeriod, holdsOf, isNew, knowsScope, lacksCurrent, lacksScope, leaseFrom, lengthOf, nakWith, newAt, newOf, newWith, othersBusy, plainReply, proposalOf, recordedOf, refusalOf, renewedOf, renewedTo, resends, scopePlace, startOf, wishedOr, withLease, zeroLength}
+use Rattle.decision.specs.Parts.{askAt, badCounts, discardWith, endOf, early1Of, heldAlready, error0Of, error1Of, error2Of, error3Of, skewed, fitsNew, fitsRenewed, hasPeriod, holdsOf, isNew, knowsScope, lacksCurrent, lacksScope, leaseFrom, lengthOf, nakWith, newAt, newOf, newWith, othersBusy, plainReply, proposalOf, recordedOf, refusalOf, renewedOf, renewedTo, releasedAgain, resends, scopePlace, startOf, wishedOr, withLease, zeroLength}
 use Rattle.decision.specs.Decide.{decideOf, judgedOf, leasedOf, plainOf, settledOf}
 use Rattle.server.specs.Serve.{atClock, forServer, hasClient, replyOf, serveOf, tenantOf, withReading}
 use Rattle.guarantee.specs.Statement.{run}
@@ -59,13 +61,18 @@ replies-open = tt
 
 -- the book
 unfoldable pub book-open : Unit {0}
-unfolding laidOut tableOf byIdentifier insertOf removeOf insertedIn leftIn editedIn applied liveOf raised dropped advanced unionAll addressesOf overlaps usedIn differ
+unfolding laidOut tableOf laidReleases byIdentifier insertOf removeOf insertedIn leftIn editedIn applied rememberOf forgetOf notedIn noted liveOf raised dropped advanced unionAll addressesOf overlaps usedIn differ
 book-open = tt
 
 -- "Sound"
 unfoldable pub sound-open : Unit {0}
 unfolding oneTo sizeB idB recordsB countsB rule1 belowB offsetsB rule2 rangeB rangesApart rule3 poolB poolsApart rule4 ttlB rule5 reserveB reservesB rule6 kindB periodB leaseB noneB tenantsB rule7 rule8 disjoint apart rule9 compatible rule10 limitB limitsB rule11 committedB rule12 zeroFrom paddedB blankB unusedB layoutB rangeZero tailB scopeZero settingsB rule19 rulesOf firstLate firstRule firstBroken brokenOf soundB
 sound-open = tt
+
+-- what is remembered
+unfoldable pub memory-open : Unit {0}
+unfolding houseB fewB lengthB differs notLeased onceB pastB older filledB unusedR laidB rulesTo releaseRulesOf firstRelease brokenRelease brokenMemory memoryB isAgain anyAgain
+memory-open = tt
 
 -- the grant rule
 unfoldable pub grant-open : Unit {0}
@@ -74,7 +81,7 @@ grant-open = tt
 
 -- the decision
 unfoldable pub decision-open : Unit {0}
-unfolding isNew hasPeriod holdsOf recordedOf resends scopePlace knowsScope lacksScope zeroLength badCounts lacksCurrent early1Of heldAlready error1Of skewed error2Of error3Of wishedOr startOf lengthOf endOf askAt fitsNew newWith newAt newOf othersBusy fitsRenewed renewedTo renewedOf proposalOf error0Of leaseFrom withLease plainReply nakWith discardWith refusalOf leasedOf plainOf settledOf judgedOf decideOf
+unfolding isNew hasPeriod holdsOf recordedOf resends releasedAgain scopePlace knowsScope lacksScope zeroLength badCounts lacksCurrent early1Of heldAlready error1Of skewed error2Of error3Of wishedOr startOf lengthOf endOf askAt fitsNew newWith newAt newOf othersBusy fitsRenewed renewedTo renewedOf proposalOf error0Of leaseFrom withLease plainReply nakWith discardWith refusalOf leasedOf plainOf settledOf judgedOf decideOf
 decision-open = tt
 
 -- the names for the scopes
@@ -89,5 +96,5 @@ call-open = tt
 
 -- all of them, and a list of calls
 unfoldable pub computed : Unit {0}
-unfolding run lists-open octets-open identifiers-open sets-open reader-open replies-open book-open sound-open grant-open decision-open names-open call-open
+unfolding run lists-open octets-open identifiers-open sets-open reader-open replies-open book-open sound-open memory-open grant-open decision-open names-open call-open
 computed = tt

@@ -16,10 +16,11 @@ use Rattle.reply.specs.Reply.{leastRoom, Option, infoAckOf, infoOptions, leaseA
 use Rattle.reply.proofs.Short.{info-ack-short, lease-ack-short, nak-short, offer-short, release-ack-short}
 use Rattle.state.specs.declared.Lease.{Lease}
 use Rattle.state.specs.declared.LeaseTable.{LeaseTable}
+use Rattle.state.specs.declared.Release.{Release}
 use Rattle.state.specs.declared.State.{State}
-use Rattle.state.specs.Book.{Book, advanced, dropped, leasesOf, live, liveOf, raised, tableOf}
+use Rattle.state.specs.Book.{Book, advanced, dropped, leasesOf, live, liveOf, raised, releasesAt, remembered, tableOf}
 use Rattle.state.specs.laws.Layout.{table-back}
-use Rattle.soundness.specs.Named.{bookB}
+use Rattle.releases.specs.Whole.{bookB}
 use Rattle.soundness.specs.Sound.{tenantsIn}
 use Rattle.decision.specs.declared.Decided.{Decided}
 use Rattle.decision.specs.declared.Reply.{Reply}
@@ -30,7 +31,7 @@ use Rattle.decision.specs.laws.Reads.{read-array}
 use Rattle.decision.specs.Parts.{discardWith, nakWith, ownOf, plainReply, refusalOf, withLease}
 use Rattle.decision.specs.laws.Cases.{decided-by}
 use Rattle.decision.specs.Decide.{decideOf}
-use Rattle.server.specs.Serve.{Answer, Call, answered, atClock, byReply, discarded, forServer, headOf, infoOf, replyOf, serveOf, tenantOf, termsOf, withReading}
+use Rattle.server.specs.Serve.{Answer, Call, answered, atClock, byReply, decidedFor, discarded, forServer, headOf, infoOf, replyOf, serveOf, tenantOf, termsOf, withReading}
 use Rattle.guarantee.specs.Statement.{IsReply, bookAt, liveUnder}
 use Rattle.guarantee.proofs.Discards.{Tested, call-tested}
 
@@ -53,17 +54,18 @@ refused : (m : Fields) (e : ℕ) → Q (refusalOf m e)
 unfolding refusalOf discardWith nakWith Q Sends
 refused m e = pick-cases Q (eqb (m .kind) 1) _ _ (λ _ z. absurd (omega arith)) (λ _. pick-cases Q (eqb (m .kind) 8) _ _ (λ _ z. absurd (omega arith)) (λ _ z. tt))
 
-decided : (s : State) (t : LeaseTable) (h : ℕ) (m : Fields) → P (decideOf s t h m)
+decided : (s : State) (t : LeaseTable) (q : List Release) (h : ℕ) (m : Fields) → P (decideOf s t q h m)
 unfolding withLease plainReply P Q Sends
-decided s t h m = decided-by s t h m P (record {
+decided s t q h m = decided-by s t h m P (record {
   resent = λ e z. tt;
+  again = λ z. tt;
   refused = refused m;
   offered = λ k ok e z. tt;
   requested = λ k ok e z. tt;
   renewed = λ k ok held e z. tt;
   released = λ k held z. tt;
   informed = λ z. tt;
-})
+}) q
 
 -- ---- the octets of each reply
 message-long : (kind xid : ℕ) (os : List Option) → 12 ≤ length (messageOctets kind xid os)
@@ -88,11 +90,11 @@ module _ (b : Book) (c : Call) where
   unfolding R
   none n x h z = absurd (omega arith)
 
-  sent : (h : ℕ) (m : Fields) → length (m .id .octets) ≡ 32 → R (answered (bookAt b c) h m (decideOf (bookAt b c .state) (bookAt b c .table) h m))
+  sent : (h : ℕ) (m : Fields) → length (m .id .octets) ≡ 32 → R (answered (bookAt b c) h m (decidedFor (bookAt b c) h m))
   unfolding R replyOf P Q
   sent h m a z =
-      octets-of (bookAt b c .state) (bookAt b c .names) h m (decideOf (bookAt b c .state) (bookAt b c .table) h m .verdict) (decideOf (bookAt b c .state) (bookAt b c .table) h m .verdict .reply) a
-      (decided (bookAt b c .state) (bookAt b c .table) h m z)
+      octets-of (bookAt b c .state) (bookAt b c .names) h m (decidedFor (bookAt b c) h m .verdict) (decidedFor (bookAt b c) h m .verdict .reply) a
+      (decided (bookAt b c .state) (bookAt b c .table) (remembered (releasesAt (bookAt b c .memory) h)) h m z)
 
   call-replies : R (serveOf b c)
   unfolding serveOf atClock withReading forServer

@@ -1,18 +1,20 @@
 -- Specimens: document 01's specimens P1 to P12, those of skew and a few more, on whole datagrams, whole replies and the book afterwards, by computation: one table of
--- cases, one theorem; and the premises of the statements, met on the same book.
+-- cases, one theorem; a second table of a RELEASE sent again (document 02, W-202); and the premises of the statements, met on the same book.
 use mathlib.Core.Path.{_≡_, refl, sym, ap, _∙_, subst}
 use mathlib.Core.List.{List, [], _∷_, _++_}
 use mathlib.Core.Bool.{Bool, true, false}
 use Prim.Native.Nat.{ℕ, zero, suc, _+_, _<_, _^_}
-use lib.ListN.{getD, length, replicate}
+use lib.ListN.{getD, length, replicate, set}
 use lib.Dec.{eqb}
 use borrow.Author.Tests.{leb-true, ltb-true}
 use Rattle.lists.specs.Pick.{pick}
 use Rattle.lists.specs.All.{All, allBy}
-use Rattle.state.specs.Book.{Book, tableOf, zeroScope, idOf, leasesOf}
+use Rattle.state.specs.Book.{Book, laidReleases, releaseId, remembered, tableOf, zeroScope, idOf, leasesOf}
 use Rattle.server.specs.Serve.{Call, serveOf, Answer}
 use Rattle.guarantee.specs.Statement.{Demand3, Granted, NewRequest, SoundBook, run, Discovers, Narrow, Offered, OfferRule}
 use Rattle.state.specs.declared.Lease.{Lease}
+use Rattle.state.specs.declared.Release.{Release}
+use Rattle.state.specs.declared.TenantReleases.{TenantReleases}
 use Rattle.state.specs.laws.Layout.{table-back}
 use Rattle.decision.specs.laws.Kept.{own-is}
 use Rattle.guarantee.proofs.Granted.{demand3}
@@ -39,6 +41,7 @@ book = record {
     scopes = record { lowest = 0xEFC00000; size = 4; ttl = 15; reserve = 2 ∷ 1 ∷ replicate 6 0; limit = 3 ∷ 4 ∷ replicate 6 0 } ∷ replicate 3 zeroScope;
   };
   table = tableOf (replicate 8 []);
+  memory = record { releases = replicate 8 (laidReleases []) };
   names = 1 ∷ 1 ∷ english ++ 1 ∷ german ++ 0 ∷ [];
 }
 
@@ -251,10 +254,90 @@ pub specimens : allBy holds table ≡ true
 unfolding computed table rows allRows same agrees holds
 specimens = refl
 
+-- ---- W-202: a RELEASE sent again
+-- what a book remembers, in numbers: house, identifier length and octets, transaction id, time
+abbrev pub releaseRow : ℕ → Release → List ℕ
+releaseRow h r = h ∷ r .«id_len» ∷ releaseId r ++ r .xid ∷ r .time ∷ []
+
+unfoldable pub releaseRows : ℕ → List Release → List ℕ
+releaseRows h [] = []
+releaseRows h (r ∷ rs) = releaseRow h r ++ releaseRows h rs
+
+unfoldable pub allReleases : ℕ → List TenantReleases → List ℕ
+allReleases h [] = []
+allReleases h (q ∷ more) = releaseRows h (remembered q) ++ allReleases (suc h) more
+
+-- such a row: house, identifier 00 i, transaction id 01 02 03 x, time
+abbrev pub noted : ℕ → ℕ → ℕ → ℕ → List ℕ
+noted h i x time = h ∷ 2 ∷ 0 ∷ i ∷ (0x01020300 + x) ∷ time ∷ []
+
+-- a RELEASE, and the ACK to it
+abbrev pub release : ℕ → ℕ → List ℕ
+release x i = header 7 x ++ identifier i ++ end
+
+abbrev pub releaseAck : ℕ → ℕ → List ℕ
+releaseAck x i = header 5 x ++ server ++ identifier i ++ end
+
+-- a case, with what is remembered afterwards
+pub record ReleaseCase : Type 0 where
+  pub case : Case
+  pub releases : List ℕ
+
+unfoldable pub remembers : ReleaseCase → Answer → Bool
+remembers c a = pick (agrees (c .case) a) (same (allReleases 1 (a .book .memory .releases)) (c .releases)) false
+
+unfoldable pub keeps : ReleaseCase → Bool
+keeps c = remembers c (serveOf (run book (c .case .before)) (c .case .last))
+
+abbrev pub then : Case → List ℕ → ReleaseCase
+then c releases = record { case = c; releases = releases }
+
+-- house 1 releases P3's lease, at a time; P1, P3 and that at 1500
+abbrev pub r3 : ℕ → Call
+r3 time = house1 time (release 9 0x42)
+
+abbrev pub released : List Call
+released = p1 ∷ p3 ∷ r3 1500 ∷ []
+
+-- house 1 requests the identifier anew: .2 from 1500
+abbrev pub anew : Call
+anew = house1 1500 (request 10 0x42 1 1 [])
+
+-- house 2 requests one address and releases it
+abbrev pub turn : ℕ → List Call
+turn i = house2 1000 (request i i 1 1 []) ∷ house2 1000 (release i i) ∷ []
+
+unfoldable pub releaseTable : List ReleaseCase
+releaseTable =
+    -- released; the same RELEASE 299 seconds later draws the ACK, and what is remembered is as it was; 300 seconds later, and after a resend, error 3
+    then (answers (p1 ∷ p3 ∷ []) (r3 1500) (releaseAck 9 0x42) lease1) (noted 1 0x42 9 1500)
+    ∷ then (answers released (r3 1799) (releaseAck 9 0x42) lease1) (noted 1 0x42 9 1500)
+    ∷ then (answers released (r3 1800) (nak 9 0x42 3) lease1) (noted 1 0x42 9 1500)
+    ∷ then (answers (released ++ r3 1799 ∷ []) (r3 1800) (nak 9 0x42 3) lease1) (noted 1 0x42 9 1500)
+    -- another transaction id; another house's equal identifier
+    ∷ then (answers released (house1 1500 (release 8 0x42)) (nak 8 0x42 3) lease1) (noted 1 0x42 9 1500)
+    ∷ then (answers released (house2 1500 (release 9 0x42)) (nak 9 0x42 3) lease1) (noted 1 0x42 9 1500)
+    -- before error 1: with Scope, which a RELEASE may not have
+    ∷ then (answers released (house1 1500 (header 7 9 ++ identifier 0x42 ++ scope ++ end)) (releaseAck 9 0x42) lease1) (noted 1 0x42 9 1500)
+    -- a new lease on the identifier forgets it; then the old RELEASE's octets release the new lease
+    ∷ then (answers released anew (ackAt (seconds 0x05 0xDC) 10 0x42 (seconds 0x0E 0x10) (seconds 0x05 0xDC) 2 1) (lease 1 0x42 3 10 1500 5100 4 ++ lease1)) []
+    ∷ then (answers (released ++ anew ∷ []) (r3 1501) (releaseAck 9 0x42) lease1) (noted 1 0x42 9 1501)
+    -- a fifth release forgets the oldest
+    ∷ then (answers (turn 1 ++ turn 2 ++ turn 3 ++ turn 4 ++ house2 1000 (request 5 5 1 1 []) ∷ []) (house2 1000 (release 5 5)) (releaseAck 5 5) []) (noted 2 2 2 1000 ++ noted 2 3 3 1000 ++ noted 2 4 4 1000 ++ noted 2 5 5 1000)
+    ∷ then (answers (turn 1 ++ turn 2 ++ turn 3 ++ turn 4 ++ turn 5) (house2 1000 (release 1 1)) (nak 1 1 3) []) (noted 2 2 2 1000 ++ noted 2 3 3 1000 ++ noted 2 4 4 1000 ++ noted 2 5 5 1000)
+    ∷ then (answers (turn 1 ++ turn 2 ++ turn 3 ++ turn 4 ++ turn 5) (house2 1000 (release 2 2)) (releaseAck 2 2) []) (noted 2 2 2 1000 ++ noted 2 3 3 1000 ++ noted 2 4 4 1000 ++ noted 2 5 5 1000)
+    -- a discard leaves it
+    ∷ then (record { before = released; last = record { datagram = release 9 0x42; client = 0x0A000105; time = 1600; room = 511 }; outcome = 2; reply = []; clock = 1500; leases = lease1 }) (noted 1 0x42 9 1500)
+    ∷ []
+
+pub release-specimens : allBy keeps releaseTable ≡ true
+unfolding computed releaseTable rows allRows releaseRows allReleases same agrees remembers keeps
+release-specimens = refl
+
 -- ---- demand 3's premises are met: P3 after P1 is a new REQUEST within the unused share
 pub sound : SoundBook book
 unfolding computed
-sound = record { tenants = refl; sound = refl }
+sound = record { tenants = refl; memory = refl; sound = refl }
 
 pub new : NewRequest (run book (p1 ∷ [])) p3
 unfolding computed
@@ -298,8 +381,21 @@ offered = offer-rule book (house2 1000 (discover 1 4)) discovers .offers (record
 
 -- ---- W-201: a book with bad names is unsound, before the room is looked at
 abbrev badly : Book
-badly = record { state = book .state; table = book .table; names = 1 ∷ 0 ∷ 0 ∷ [] }
+badly = record { state = book .state; table = book .table; memory = book .memory; names = 1 ∷ 0 ∷ 0 ∷ [] }
 
 named-badly : (serveOf badly p1 .outcome ≡ 1) × (serveOf badly (record { datagram = getinfo; client = 0x0A000105; time = 1000; room = 511 }) .outcome ≡ 1)
 unfolding computed
 named-badly = (refl, refl)
+
+-- ---- W-202: and so is one with bad releases: an unknown house's, a time after the clock, an identifier of 1 octet; a time that is the clock's is good
+abbrev remembering : ℕ → ℕ → ℕ → Book
+remembering h len time = record {
+  state = book .state;
+  table = book .table;
+  memory = record { releases = set (replicate 8 (laidReleases [])) h (laidReleases (record { «id_len» = len; id = 0 ∷ replicate 31 0; xid = 1; time = time } ∷ [])) };
+  names = book .names;
+}
+
+remembered-badly : (serveOf (remembering 2 2 1000) p1 .outcome ≡ 1) × (serveOf (remembering 1 2 1001) p1 .outcome ≡ 1) × (serveOf (remembering 1 1 1000) p1 .outcome ≡ 1) × (serveOf (remembering 1 2 1000) p1 .outcome ≡ 0)
+unfolding computed
+remembered-badly = (refl, refl, refl, refl)

@@ -18,10 +18,11 @@ use Rattle.reply.specs.Reply.{leastRoom, infoAckOf, leaseAckOf, nakOf, offerOf,
 use Rattle.reply.proofs.ReadBack.{Named, info-back, lease-back, nak-back, release-back}
 use Rattle.state.specs.declared.Lease.{Lease}
 use Rattle.state.specs.declared.LeaseTable.{LeaseTable}
+use Rattle.state.specs.declared.Release.{Release}
 use Rattle.state.specs.declared.State.{State}
-use Rattle.state.specs.Book.{Book, advanced, leasesOf, liveOf, placeOf, scopeAt, zeroLease}
-use Rattle.soundness.specs.Named.{bookB}
-use Rattle.soundness.specs.laws.Named.{book-sound}
+use Rattle.state.specs.Book.{Book, advanced, leasesOf, liveOf, placeOf, releasesAt, remembered, scopeAt, zeroLease}
+use Rattle.releases.specs.Whole.{bookB}
+use Rattle.releases.specs.laws.Whole.{book-sound}
 use Rattle.soundness.specs.Sound.{scopesIn, tenantsIn}
 use Rattle.soundness.specs.laws.Book.{Sound, sound-lists}
 use Rattle.soundness.specs.laws.Facts.{lease-at-facts}
@@ -37,7 +38,7 @@ use Rattle.decision.specs.laws.Kept.{own-is}
 use Rattle.decision.specs.laws.Cases.{Passed, decided-by, inside, new-known, new-type, no, or-none}
 use Rattle.decision.specs.Parts.{askAt, badCounts, discardWith, error0Of, fitsNew, holdsOf, isNew, knowsScope, leaseFrom, nakWith, leaseIdIn, newOf, newWith, ownOf, plainReply, recordedOf, refusalOf, renewedOf, renewedTo, resends, scopePlace, withLease}
 use Rattle.decision.specs.Decide.{decideOf}
-use Rattle.server.specs.Serve.{Answer, Call, answered, atClock, byReply, discarded, forServer, headOf, infoOf, replyOf, serveOf, tenantOf, termsOf, withReading}
+use Rattle.server.specs.Serve.{Answer, Call, answered, atClock, byReply, decidedFor, discarded, forServer, headOf, infoOf, replyOf, serveOf, tenantOf, termsOf, withReading}
 use Rattle.guarantee.specs.Statement.{Narrow, ReadAs, bookAt}
 use Rattle.guarantee.proofs.Codes.{info-found, lease-found, nak-found, offer-found, read-as, release-found}
 use Rattle.guarantee.proofs.Ranges.{grant-small, named-head, offsets-some}
@@ -128,17 +129,18 @@ module _ (s : State) (t : LeaseTable) (h : ℕ) (m : Fields) (v : Sound s (lease
   new-sized : isNew m ≡ true → Passed s m (holdsOf (ownOf t h) m) → error0Of s (newOf s t h m) ≡ false → Sized (newOf s t h m .addresses)
   new-sized n left e = let q = new-known s t h m known in subst (λ (p : Proposal). Sized (p .addresses)) (sym q) (grant-sized n left (sym (ap (error0Of s) q) ∙ e))
 
-  decided : P (decideOf s t h m)
+  decided : (q : List Release) → P (decideOf s t q h m)
   unfolding withLease leaseFrom plainReply renewedOf renewedTo P Q Leases
-  decided = decided-by s t h m P (record {
+  decided q = decided-by s t h m P (record {
     resent = λ e z. resent e;
+    again = λ z. tt;
     refused = refused m;
     offered = λ k ok e z. new-sized (new-type m k refl) ok e;
     requested = λ k ok e z. new-sized (new-type m k refl) ok e;
     renewed = λ k ok held e z. is-held held;
     released = λ k held z. tt;
     informed = λ z. tt;
-  })
+  }) q
 
 -- ---- the octets
 octets-read : (s : State) (names : List ℕ) (g : ℕ) (m : Fields) (v : Verdict) (k : Reply) → Named (headOf s m) → Leases k (v .addresses) → ReadAs (byReply s names g m v k)
@@ -177,11 +179,11 @@ module _ (b : Book) (c : Call) (narrow : Narrow b) where
   some-number zero h = absurd (h refl)
   some-number (suc n) h = omega arith
 
-  sent : bookB b ≡ true → (h : ℕ) (m : Fields) → h < tenantsIn (bookAt b c .state) → Named (headOf (bookAt b c .state) m) → R (answered (bookAt b c) h m (decideOf (bookAt b c .state) (bookAt b c .table) h m))
+  sent : bookB b ≡ true → (h : ℕ) (m : Fields) → h < tenantsIn (bookAt b c .state) → Named (headOf (bookAt b c .state) m) → R (answered (bookAt b c) h m (decidedFor (bookAt b c) h m))
   unfolding R replyOf P Q
   sent v h m known n z =
-      octets-read (bookAt b c .state) (bookAt b c .names) h m (decideOf (bookAt b c .state) (bookAt b c .table) h m .verdict) (decideOf (bookAt b c .state) (bookAt b c .table) h m .verdict .reply) n
-      (decided (bookAt b c .state) (bookAt b c .table) h m (sound-lists (bookAt b c .state) (bookAt b c .table) (advanced-sound b (c .time) (book-sound b v))) known (now-narrow h) z)
+      octets-read (bookAt b c .state) (bookAt b c .names) h m (decidedFor (bookAt b c) h m .verdict) (decidedFor (bookAt b c) h m .verdict .reply) n
+      (decided (bookAt b c .state) (bookAt b c .table) h m (sound-lists (bookAt b c .state) (bookAt b c .table) (advanced-sound b (c .time) (book-sound b v))) known (now-narrow h) (remembered (releasesAt (bookAt b c .memory) h)) z)
 
   call-read : R (serveOf b c)
   unfolding serveOf atClock withReading forServer

@@ -22,8 +22,10 @@ use Rattle.state.specs.declared.Lease.{Lease}
 use Rattle.state.specs.declared.LeaseTable.{LeaseTable}
 use Rattle.state.specs.declared.Scope.{Scope}
 use Rattle.state.specs.declared.State.{State}
-use Rattle.state.specs.Book.{Book, advanced, idOf, insertOf, leaseWith, leasesOf, liveOf, named, removeOf, scopeAt, limitAt}
-use Rattle.soundness.specs.Named.{bookB, namesGood}
+use Rattle.state.specs.declared.Release.{Release}
+use Rattle.state.specs.Book.{Book, advanced, idOf, insertOf, laidReleases, leaseWith, leasesOf, liveOf, named, putReleases, releasesAt, remembered, removeOf, scopeAt, limitAt}
+use Rattle.state.specs.Edit.{forgetOf}
+use Rattle.releases.specs.Whole.{bookB, memoryGood, namesGood}
 use Rattle.soundness.specs.Sound.{holding, tenantsIn}
 use Rattle.allocation.specs.declared.Ask.{Ask}
 use Rattle.allocation.specs.declared.Grant.{Grant}
@@ -39,9 +41,10 @@ run b [] = b
 run b (c ∷ cs) = run (serveOf b c .book) cs
 
 -- ---- books
--- "Sound", its names too (document 02, W-201), with the eight tenants' records that every book has
+-- "Sound", its names and its releases too (document 02, W-201 and W-202), with the eight tenants' records and releases that every book has
 pub record SoundBook (b : Book) : Type 0 where
   pub tenants : length (b .table .tenants) ≡ 8
+  pub memory : length (b .memory .releases) ≡ 8
   pub sound : bookB b ≡ true
 
 -- "no house holds more addresses in a scope than its limit": tenant g, the scope at place k, counted from 0. "It counts holdings from the leases, never from
@@ -66,6 +69,10 @@ tenantFor b c = tenantOf (stateAt b c) (c .client)
 
 abbrev pub ownFor : Book → Call → List Lease
 ownFor b c = ownOf (tableAt b c) (tenantFor b c)
+
+-- what is remembered of its releases
+abbrev pub releasesFor : Book → Call → List Release
+releasesFor b c = remembered (releasesAt (b .memory) (tenantFor b c))
 
 -- what the datagram says
 abbrev pub saysOf : Book → Call → Fields
@@ -151,9 +158,11 @@ pub record Granted (b : Book) (c : Call) (a : Answer) : Type 0 where
   pub names : addressesIn (a .reply) ≡ map (λ o. scopeFor b c .lowest + o) (offsets (grantFor b c .addresses))
   -- "the book afterwards has every other live lease unchanged": settings and clock, the other tenants' leases
   pub state : a .book .state ≡ stateAt b c
+  pub others : (g : ℕ) → (g ≡ tenantFor b c → ⊥) → ownOf (a .book .table) g ≡ ownOf (tableAt b c) g
   -- and the names for the scopes (document 02, W-201)
   pub titles : a .book .names ≡ b .names
-  pub others : (g : ℕ) → (g ≡ tenantFor b c → ⊥) → ownOf (a .book .table) g ≡ ownOf (tableAt b c) g
+  -- "A new lease on the identifier forgets it" (document 02, W-202): no other release is forgotten, and no new one is remembered
+  pub forgets : a .book .memory ≡ putReleases (b .memory) (tenantFor b c) (laidReleases (forgetOf (idOf (leaseFor b c)) (releasesFor b c)))
   -- "and the lease that REQUEST records": it now stands among the tenant's own
   pub own : ownOf (a .book .table) (tenantFor b c) ≡ insertOf (leaseFor b c) (ownFor b c)
   -- and without it they are as they were
@@ -226,8 +235,9 @@ pub record Answered (b : Book) (c : Call) (a : Answer) : Type 0 where
   pub silent : (a .outcome ≡ 0 → ⊥) → a .reply ≡ []
   -- "and changes no lease live at the clock it leaves in the book"
   pub leases : (a .outcome ≡ 0 → ⊥) → (g : ℕ) (i : List ℕ) → liveUnder (a .book .state .clock) (a .book .table) g i ≡ liveUnder (a .book .state .clock) (b .table) g i
-  -- bad names make the book unsound (document 02, W-201): "bad names lent 1"; and no call changes the names
+  -- bad names and bad releases make the book unsound (document 02, W-201 and W-202): "bad names lent 1", "lent, both are 1"; and no call changes the names
   pub bad-names : namesGood b ≡ false → a .outcome ≡ 1
+  pub bad-releases : memoryGood b ≡ false → a .outcome ≡ 1
   pub names : a .book .names ≡ b .names
   -- "Discards 1 and 2 change nothing"
   pub untouched : a .outcome ≡ 1 → a .book ≡ b

@@ -5,4 +5,4 @@ pub mod Slices
 pub mod Local
 pub mod Leases
 pub mod Cut
-pub mod States
+pub mod Ledgers

@@ -1,24 +1,24 @@
-// The product's entry points: document 01's record of clock and settings lent by `&mut`, updated where it stands, and its lease records lent as
-// a slice. Each is a few whole values and calls; but for the copying loops of `load` and `store`, every decision is made by value in `records`
+// The product's entry points: the ledger, document 01's record of clock and settings with what is remembered, lent by `&mut` and updated where it
+// stands, and its lease records lent as a slice. Each is a few whole values and calls; but for the copying loops of `load` and `store`, every decision is made by value in `records`
 // and below. Their proofs are walks by hand.
 ghost use mathlib.Core.Path.{_≡_};
 ghost use lib.ListN.{length, take};
-ghost use Rattle.state.specs.Book.{raised};
+ghost use Rattle.state.specs.Book.{raisedIn};
 ghost use Rattle.records.specs.Records.{first128, covered};
 ghost use Rattle.records.specs.Lent.{serveLent, ServesLent, readLent, ReadsLent, writtenLent, roomLent, findLent, insertLent, removeLent};
 use records::Found;
 use records::Records;
 use server::Outcome;
 use state::Lease;
-use state::State;
+use state::Ledger;
 use state_file::Written;
 
 // Raises the clock where it stands.
-pub fn advance(state: &mut State, time: u32)
-    ensures { λ _. ⌜ now (state .exit) ≡ raised (now (state .entry)) time ⌝ }
+pub fn advance(ledger: &mut Ledger, time: u32)
+    ensures { λ _. ⌜ now (ledger .exit) ≡ raisedIn (now (ledger .entry)) time ⌝ }
 {
-    let c = arithmetic::larger(state.clock, time);
-    state.clock = c;
+    let c = arithmetic::larger(ledger.state.clock, time);
+    ledger.state.clock = c;
 }
 
 // The first 128 records of a slice; unused ones where it has fewer.
@@ -76,46 +76,47 @@ pub fn remove(leases: &mut [Lease], h: usize, id: [u8; 32], len: u8)
     store(leases, x);
 }
 
-// The call, with the names of the scopes lent. Another number of records than 128 is discard 1.
+// The call, with the names of the scopes lent. Another number of records than 128 is discard 1, and so are names that are not good for the settings.
 pub fn serve(
     datagram: &[u8],
     client: u32,
     time: u32,
-    state: &mut State,
+    ledger: &mut Ledger,
     leases: &mut [Lease],
     names: &[u8],
     reply: &mut [u8],
 ) -> Outcome
-    ensures { λ r. ⌜ ServesLent (serveLent (now (state .entry)) (now (leases .entry)) (now (names .entry)) (record { datagram = now (datagram .entry); client = client; time = time; room = length (now (reply .entry)) })) (now (state .exit)) (now (leases .exit)) (now (reply .entry)) (now (reply .exit)) r ⌝ }
+    ensures { λ r. ⌜ ServesLent (serveLent (now (ledger .entry)) (now (leases .entry)) (now (names .entry)) (record { datagram = now (datagram .entry); client = client; time = time; room = length (now (reply .entry)) })) (now (ledger .exit)) (now (leases .exit)) (now (reply .entry)) (now (reply .exit)) r ⌝ }
 {
-    let s = *state;
+    let g = *ledger;
     let all = load(leases);
-    let r = records::serve(s, all, leases.len(), names, datagram, client, time, reply);
-    advance(state, r.clock);
+    let r = records::serve(g, all, leases.len(), names, datagram, client, time, reply);
+    ledger.memory = r.memory;
+    advance(ledger, r.clock);
     store(leases, r.records);
     r.outcome
 }
 
-// Reads a state file into the lent state and records: 0, or refusal 20 and then 21, which leave both as they were. Another number of records
-// than 128 is 21 after 20.
-pub fn read(file: &[u8], state: &mut State, leases: &mut [Lease]) -> u8
-    ensures { λ r. ⌜ ReadsLent (readLent (now (file .entry)) (now (state .entry)) (now (leases .entry))) (now (state .exit)) (now (leases .exit)) r ⌝ }
+// Reads a state file into the lent ledger and records: 0, or refusal 20 and then 21, which leave both as they were. Another number of records
+// than 128 is 21 after 20. The file's names are `state_file::names`.
+pub fn read(file: &[u8], ledger: &mut Ledger, leases: &mut [Lease]) -> u8
+    ensures { λ r. ⌜ ReadsLent (readLent (now (file .entry)) (now (ledger .entry)) (now (leases .entry))) (now (ledger .exit)) (now (leases .exit)) r ⌝ }
 {
-    let s = *state;
+    let g = *ledger;
     let all = load(leases);
-    let r = records::read(file, s, all, leases.len());
-    *state = r.state;
+    let r = records::read(file, g, all, leases.len());
+    *ledger = r.ledger;
     store(leases, r.records);
     r.refusal
 }
 
-// Writes a state file from the lent state, records and names: its length, or refusal 22 and then 23, which write nothing. Another number of records than
-// 128 is 22.
-pub fn write(state: &State, leases: &[Lease], names: &[u8], room: &mut [u8]) -> Written
-    ensures answer { λ r. ⌜ r ≡ writtenLent (now (state .entry)) (now (leases .entry)) (now (names .entry)) (length (now (room .entry))) ⌝ }
-    ensures octets { λ r. ⌜ now (room .exit) ≡ roomLent (now (state .entry)) (now (leases .entry)) (now (names .entry)) (now (room .entry)) ⌝ }
+// Writes a state file from the lent ledger, records and names: its length, or refusal 22 and then 23, which write nothing. Another number of records
+// than 128 is 22, and so are names that are not good for the settings.
+pub fn write(ledger: &Ledger, leases: &[Lease], names: &[u8], room: &mut [u8]) -> Written
+    ensures answer { λ r. ⌜ r ≡ writtenLent (now (ledger .entry)) (now (leases .entry)) (now (names .entry)) (length (now (room .entry))) ⌝ }
+    ensures octets { λ r. ⌜ now (room .exit) ≡ roomLent (now (ledger .entry)) (now (leases .entry)) (now (names .entry)) (now (room .entry)) ⌝ }
 {
-    let s = *state;
+    let g = *ledger;
     let all = load(leases);
-    records::write(s, all, leases.len(), names, room)
+    records::write(g, all, leases.len(), names, room)
 }

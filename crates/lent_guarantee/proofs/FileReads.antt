@@ -14,7 +14,7 @@ use Rattle.address_set.specs.laws.Offsets.{setOf-small}
 use Rattle.message.specs.laws.Placed.{pick-cases}
 use Rattle.state.specs.declared.Lease.{Lease}
 use Rattle.state.specs.declared.LeaseTable.{LeaseTable}
-use Rattle.state.specs.declared.State.{State}
+use Rattle.state.specs.declared.Ledger.{Ledger}
 use Rattle.state.specs.Book.{tableOf}
 use Rattle.state.specs.laws.Layout.{table-back}
 use Rattle.decision.specs.laws.Kept.{own-is}
@@ -82,15 +82,15 @@ read-narrow f g = go (fileOf f)
     go (got x r) = pick-cases P (fitsB x) _ _ (λ _. pick-cases P _ _ _ (λ _. of-lists (tenantsFrom 1 8 (x .leases)) g (each-tenant 1 8 (x .leases) g)) (λ _. zeros)) (λ _. zeros)
 
 -- ---- read into lent records, and after any calls
-file-narrow : (f : List ℕ) (s : State) (ls : List Lease) → readLent f s ls .refusal ≡ 0 → Narrow (bookOf (afterFile f s ls))
+file-narrow : (f : List ℕ) (k : Ledger) (ls : List Lease) → readLent f k ls .refusal ≡ 0 → Narrow (bookOf (afterFile f k ls))
 unfolding Narrow
-file-narrow f s ls e g =
-    let r = read-whole f s ls e in
+file-narrow f k ls e g =
+    let r = read-whole f k ls e in
     subst (λ (t : LeaseTable). All F (ownOf t g)) (sym (ap (λ (x : LentReading). tableFrom (x .leases)) (r .1) ∙ file-back f (r .0))) (read-narrow f g)
 
 pub file-reads : FileReads
 unfolding FileReads StaysNarrow LentDemand1
-file-reads f s ls cs c e =
-    let v = run-lent (afterFile f s ls) cs (file-sound f s ls e) in
-    lent-demand1 (runLent (afterFile f s ls) cs) c .reads
-    (subst Narrow (sym (v .1)) (stays-narrow (bookOf (afterFile f s ls)) (file-narrow f s ls e) cs))
+file-reads f k ls cs c e =
+    let v = run-lent (afterFile f k ls) cs (file-sound f k ls e) in
+    lent-demand1 (runLent (afterFile f k ls) cs) c .reads
+    (subst Narrow (sym (v .1)) (stays-narrow (bookOf (afterFile f k ls)) (file-narrow f k ls e) cs))

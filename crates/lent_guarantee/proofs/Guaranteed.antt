@@ -1,4 +1,4 @@
--- Proof of the guarantee for the lent state and records, by `same`.
+-- Proof of the guarantee for the lent ledger and records, by `same`.
 use Prim.Native.Nat.{ℕ, _≤_}
 use mathlib.Core.Path.{_≡_, refl, sym, ap, _∙_, subst}
 use mathlib.Core.Bool.{Bool, true, false}
@@ -9,34 +9,38 @@ use lib.ListN.{length}
 use borrow.Author.Tests.{eqb-true, eqb-false}
 use Rattle.state.specs.Book.{Book}
 use Rattle.state.specs.declared.Lease.{Lease}
-use Rattle.state.specs.declared.State.{State}
-use Rattle.soundness.specs.Named.{bookB}
+use Rattle.state.specs.declared.Ledger.{Ledger}
+use Rattle.releases.specs.Whole.{bookB}
 use Rattle.server.specs.Serve.{Answer, Call, serveOf}
-use Rattle.guarantee.specs.Statement.{Answered, Demand3, Granted, IsReply, NewRequest, OfferedAs, OfferRule, ReadAs, WithinLimits, liveUnder, requested, run}
+use Rattle.guarantee.specs.Statement.{Answered, Demand3, Granted, IsReply, NewRequest, OfferedAs, OfferRule, ReadAs, SoundBook, WithinLimits, liveUnder, requested, run}
 use Rattle.guarantee.proofs.Answers.{call-answered}
 use Rattle.guarantee.proofs.Granted.{demand3}
 use Rattle.guarantee.proofs.Kept.{call-sound}
 use Rattle.guarantee.proofs.Offers.{offer-rule}
 use Rattle.records.specs.Records.{recordsOf, tableFrom}
-use Rattle.records.specs.Lent.{lentAnswer, LentAnswer, serveWith}
+use Rattle.records.specs.Lent.{ledgerOf, lentAnswer, LentAnswer, serveWith}
 use Rattle.records.specs.laws.Steps.{off-whole}
 use Rattle.lent_guarantee.specs.Statement.{answerOf, bookOf, Lent, LentAnswered, LentDemand1, LentDemand3, LentOfferRule, runLent, served, SoundLent}
 use Rattle.lent_guarantee.proofs.Same.{at-whole, kept-back, same, sound-book, still-whole}
 
 -- ---- the list of calls
 unfoldable pub next : Lent → Call → Lent
-next l c = record { state = served l c .state; leases = served l c .leases; names = l .names }
+next l c = record { ledger = served l c .ledger; leases = served l c .leases; names = l .names }
 
 next-book : (l : Lent) (c : Call) → SoundLent l → bookOf (next l c) ≡ serveOf (bookOf l) c .book
 unfolding next
-next-book l c v = ap (λ (a : Answer). a .book) (same (l .state) (l .leases) (l .names) c (v .whole))
+next-book l c v = ap (λ (a : Answer). a .book) (same (l .ledger) (l .leases) (l .names) c (v .whole))
 
 pub next-sound : (l : Lent) (c : Call) → SoundLent l → SoundLent (next l c)
 unfolding next
 next-sound l c v = record {
-  whole = still-whole (l .state) (l .leases) (l .names) c (v .whole);
-  sound = ap bookB (next-book l c v) ∙ call-sound (bookOf l) c (sound-book (l .state) (l .leases) (l .names) c (v .whole) (v .sound)) .sound;
+  whole = still-whole (l .ledger) (l .leases) (l .names) c (v .whole);
+  eight = ap (λ (b : Book). length (b .memory .releases)) (next-book l c v) ∙ after .memory;
+  sound = ap bookB (next-book l c v) ∙ after .sound;
 }
+  where
+    after : SoundBook (serveOf (bookOf l) c .book)
+    after = call-sound (bookOf l) c (sound-book (l .ledger) (l .leases) (l .names) c (v .whole) (v .eight) (v .sound))
 
 pub run-lent : (l : Lent) (cs : List Call) → SoundLent l → SoundLent (runLent l cs) × (bookOf (runLent l cs) ≡ run (bookOf l) cs)
 unfolding runLent run next
@@ -50,28 +54,28 @@ pub lent-demand3 : LentDemand3
 unfolding LentDemand3 Demand3
 lent-demand3 l v cs =
     let r = run-lent l cs v in
-    let d = demand3 (bookOf l) (sound-book (l .state) (l .leases) (l .names) (record { datagram = []; client = 0; time = 0; room = 0 }) (v .whole) (v .sound)) cs in
+    let d = demand3 (bookOf l) (sound-book (l .ledger) (l .leases) (l .names) (record { datagram = []; client = 0; time = 0; room = 0 }) (v .whole) (v .eight) (v .sound)) cs in
     let e : run (bookOf l) cs ≡ bookOf (runLent l cs) = sym (r .1) in
     record {
       sound = r .0;
       limits = subst WithinLimits e (d .limits);
-      next = λ c n. subst (λ (a : Answer). Granted (bookOf (runLent l cs)) c a) (sym (same (runLent l cs .state) (runLent l cs .leases) (runLent l cs .names) c (r .0 .whole)))
+      next = λ c n. subst (λ (a : Answer). Granted (bookOf (runLent l cs)) c a) (sym (same (runLent l cs .ledger) (runLent l cs .leases) (runLent l cs .names) c (r .0 .whole)))
           (subst (λ (b : Book). (m : NewRequest b c) → Granted b c (serveOf b c)) e (d .next c) n);
     }
 
 -- ---- demand 1
 module _ (l : Lent) (c : Call) where
-  abbrev s : State
-  s = l .state
+  abbrev k : Ledger
+  k = l .ledger
 
   abbrev ls : List Lease
   ls = l .leases
 
-  out : (length ls ≡ 128 → ⊥) → served l c ≡ record { outcome = 1; reply = []; state = s; leases = ls }
+  out : (length ls ≡ 128 → ⊥) → served l c ≡ record { outcome = 1; reply = []; ledger = k; leases = ls }
   unfolding serveWith
-  out e = sym (off-whole (lentAnswer (serveOf (bookOf l) c)) (record { outcome = 1; reply = []; state = s; leases = ls }) e)
+  out e = sym (off-whole (lentAnswer (serveOf (bookOf l) c)) (record { outcome = 1; reply = []; ledger = k; leases = ls }) e)
 
-  other-answered : (length ls ≡ 128 → ⊥) → LentAnswered l c (record { outcome = 1; reply = []; state = s; leases = ls })
+  other-answered : (length ls ≡ 128 → ⊥) → LentAnswered l c (record { outcome = 1; reply = []; ledger = k; leases = ls })
   other-answered e = record {
     outcome = omega arith;
     reply = λ z. absurd (omega arith);
@@ -83,6 +87,7 @@ module _ (l : Lent) (c : Call) where
     advances = λ h. absurd (omega arith);
     other = λ _. refl;
     bad-names = λ _. refl;
+    bad-releases = λ _. refl;
   }
 
   whole-answered : length ls ≡ 128 → LentAnswered l c (served l c)
@@ -96,26 +101,27 @@ module _ (l : Lent) (c : Call) where
     untouched = λ e. still (v .untouched (number ∙ e));
     untouched-too = λ e. still (v .untouched-too (number ∙ e));
     advances = λ h. let e = v .advances (let n = number in omega arith) in (
-      ap (λ (a : LentAnswer). a .state) (at-whole s ls (l .names) c long) ∙ ap (λ (b : Book). b .state) e,
-      ap (λ (a : LentAnswer). a .leases) (at-whole s ls (l .names) c long) ∙ ap (λ (b : Book). recordsOf (b .table)) e,
+      ap (λ (a : LentAnswer). a .ledger) (at-whole k ls (l .names) c long) ∙ ap ledgerOf e,
+      ap (λ (a : LentAnswer). a .leases) (at-whole k ls (l .names) c long) ∙ ap (λ (b : Book). recordsOf (b .table)) e,
     );
     other = λ no. absurd (no long);
     bad-names = λ e. sym number ∙ v .bad-names e;
+    bad-releases = λ e. sym number ∙ v .bad-releases e;
   }
     where
       v : Answered (bookOf l) c (serveOf (bookOf l) c)
       v = call-answered (bookOf l) c
 
       back : serveOf (bookOf l) c ≡ answerOf (l .names) (served l c)
-      back = sym (same s ls (l .names) c long)
+      back = sym (same k ls (l .names) c long)
 
       number : serveOf (bookOf l) c .outcome ≡ served l c .outcome
       number = ap (λ (a : Answer). a .outcome) back
 
-      still : serveOf (bookOf l) c .book ≡ bookOf l → (served l c .state ≡ s) × (served l c .leases ≡ ls)
+      still : serveOf (bookOf l) c .book ≡ bookOf l → (served l c .ledger ≡ k) × (served l c .leases ≡ ls)
       still e = (
-        ap (λ (a : LentAnswer). a .state) (at-whole s ls (l .names) c long) ∙ ap (λ (b : Book). b .state) e,
-        ap (λ (a : LentAnswer). a .leases) (at-whole s ls (l .names) c long) ∙ kept-back s ls (l .names) c long (serveOf (bookOf l) c .book .table) (ap (λ (b : Book). b .table) e),
+        ap (λ (a : LentAnswer). a .ledger) (at-whole k ls (l .names) c long) ∙ ap ledgerOf e,
+        ap (λ (a : LentAnswer). a .leases) (at-whole k ls (l .names) c long) ∙ kept-back k ls (l .names) c long (serveOf (bookOf l) c .book .table) (ap (λ (b : Book). b .table) e),
       )
 
   pub call-lent : LentAnswered l c (served l c)
@@ -133,6 +139,6 @@ lent-demand1 l c = call-lent l c
 pub lent-offer-rule : LentOfferRule
 unfolding LentOfferRule OfferRule
 lent-offer-rule l c long v =
-    let at : (d : Call) → answerOf (l .names) (served l d) ≡ serveOf (bookOf l) d = λ d. same (l .state) (l .leases) (l .names) d long in
+    let at : (d : Call) → answerOf (l .names) (served l d) ≡ serveOf (bookOf l) d = λ d. same (l .ledger) (l .leases) (l .names) d long in
     subst (λ (a : Answer). OfferedAs (bookOf l) c a (answerOf (l .names) (served l (requested c)))) (sym (at c))
     (subst (λ (a : Answer). OfferedAs (bookOf l) c (serveOf (bookOf l) c) a) (sym (at (requested c))) (offer-rule (bookOf l) c v))

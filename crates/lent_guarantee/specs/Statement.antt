@@ -1,4 +1,4 @@
--- Statement: the guarantee of `guarantee`, in words that speak of the lent state, the lent lease records and the lent names, and the round trips of the file read into them
+-- Statement: the guarantee of `guarantee`, in words that speak of the lent ledger, the lent lease records and the lent names, and the round trips of the file read into them
 -- and written of them. `serveLent` is what `lent::serve` is proved to meet.
 use Prim.Native.Nat.{ℕ, _≤_}
 use mathlib.Core.Path.{_≡_}
@@ -8,8 +8,8 @@ use lib.ListN.{drop, length, take}
 use Rattle.state_file.specs.File.{longestFile}
 use Rattle.state.specs.Book.{Book}
 use Rattle.state.specs.declared.Lease.{Lease}
-use Rattle.state.specs.declared.State.{State}
-use Rattle.soundness.specs.Named.{bookB, namesGood}
+use Rattle.state.specs.declared.Ledger.{Ledger}
+use Rattle.releases.specs.Whole.{bookB, memoryGood, namesGood}
 use Rattle.server.specs.Serve.{Answer, Call, serveOf}
 use Rattle.guarantee.specs.Statement.{Discovers, Granted, IsReply, Narrow, NewRequest, OfferedAs, ReadAs, WithinLimits, bookAt, liveUnder, requested}
 use Rattle.format.specs.Format.{Octets}
@@ -17,48 +17,49 @@ use Rattle.state_file.specs.declared.Written.{Written}
 use Rattle.state_file.specs.StateFile.{namesOf}
 use Rattle.state_file.specs.Typed.{Typed}
 use Rattle.records.specs.Records.{recordsOf, tableFrom}
-use Rattle.records.specs.Lent.{bookFrom, LentAnswer, readLent, roomLent, serveLent, writtenLent}
+use Rattle.records.specs.Lent.{bookFrom, ledgerOf, LentAnswer, readLent, roomLent, serveLent, writtenLent}
 
--- a state, records and names, as their caller holds them; the names are lent to be read only
+-- a ledger (clock, settings and what is remembered), records and names, as their caller holds them; the names are lent to be read only
 pub record Lent : Type 0 where
-  pub state : State
+  pub ledger : Ledger
   pub leases : List Lease
   pub names : List ℕ
 
 abbrev pub bookOf : Lent → Book
-bookOf l = bookFrom (l .state) (l .leases) (l .names)
+bookOf l = bookFrom (l .ledger) (l .leases) (l .names)
 
 -- the lent call on them
 abbrev pub served : Lent → Call → LentAnswer
-served l c = serveLent (l .state) (l .leases) (l .names) c
+served l c = serveLent (l .ledger) (l .leases) (l .names) c
 
 -- the writer on them: its answer for n octets of room, and what the room holds afterwards
 abbrev pub lentWritten : Lent → ℕ → Written
-lentWritten l n = writtenLent (l .state) (l .leases) (l .names) n
+lentWritten l n = writtenLent (l .ledger) (l .leases) (l .names) n
 
 abbrev pub lentRoom : Lent → List ℕ → List ℕ
-lentRoom l room = roomLent (l .state) (l .leases) (l .names) room
+lentRoom l room = roomLent (l .ledger) (l .leases) (l .names) room
 
--- an answer with the book that its state, its records and the names are
+-- an answer with the book that its ledger, its records and the names are
 abbrev pub answerOf : List ℕ → LentAnswer → Answer
-answerOf names a = record { outcome = a .outcome; reply = a .reply; book = bookFrom (a .state) (a .leases) names }
+answerOf names a = record { outcome = a .outcome; reply = a .reply; book = bookFrom (a .ledger) (a .leases) names }
 
--- ---- the list of calls: each gets the state and the records as the call before left them, and the same names
+-- ---- the list of calls: each gets the ledger and the records as the call before left them, and the same names
 unfoldable pub runLent : Lent → List Call → Lent
 runLent l [] = l
-runLent l (c ∷ cs) = runLent (record { state = served l c .state; leases = served l c .leases; names = l .names }) cs
+runLent l (c ∷ cs) = runLent (record { ledger = served l c .ledger; leases = served l c .leases; names = l .names }) cs
 
--- "There are always 128", and the book that they are is sound
+-- "There are always 128", releases of eight tenants, and the book that they are is sound
 pub record SoundLent (l : Lent) : Type 0 where
   pub whole : length (l .leases) ≡ 128
+  pub eight : length (l .ledger .memory .releases) ≡ 8
   pub sound : bookB (bookOf l) ≡ true
 
--- ---- the lent call is the call: on any state, any 128 records and any names, sound or not
+-- ---- the lent call is the call: on any ledger, any 128 records and any names, sound or not
 unfoldable pub SameCall : Type 0
 SameCall = (l : Lent) (c : Call) → length (l .leases) ≡ 128 → answerOf (l .names) (served l c) ≡ serveOf (bookOf l) c
 
 -- ---- demand 3, its sentences in guarantee's statement
--- of the state and records after a list of calls
+-- of the ledger and records after a list of calls
 pub record LentAfterList (l : Lent) : Type 0 where
   -- "After the list the book is sound", on 128 records
   pub sound : SoundLent l
@@ -71,7 +72,7 @@ pub record LentAfterList (l : Lent) : Type 0 where
 unfoldable pub LentDemand3 : Type 0
 LentDemand3 = (l : Lent) → SoundLent l → (cs : List Call) → LentAfterList (runLent l cs)
 
--- ---- demand 1: "For every datagram, clock, book and reply room", so any state, any number of records and any names
+-- ---- demand 1: "For every datagram, clock, book and reply room", so any ledger, any number of records and any names
 pub record LentAnswered (l : Lent) (c : Call) (a : LentAnswer) : Type 0 where
   -- "the server ends with a reply or a numbered discard"
   pub outcome : a .outcome ≤ 8
@@ -82,58 +83,59 @@ pub record LentAnswered (l : Lent) (c : Call) (a : LentAnswer) : Type 0 where
   pub silent : (a .outcome ≡ 0 → ⊥) → a .reply ≡ []
   -- "and changes no lease live at the clock it leaves in the book"
   pub leases : (a .outcome ≡ 0 → ⊥) → (g : ℕ) (i : List ℕ)
-      → liveUnder (a .state .clock) (tableFrom (a .leases)) g i ≡ liveUnder (a .state .clock) (tableFrom (l .leases)) g i
+      → liveUnder (a .ledger .state .clock) (tableFrom (a .leases)) g i ≡ liveUnder (a .ledger .state .clock) (tableFrom (l .leases)) g i
   -- "Discards 1 and 2 change nothing"
-  pub untouched : a .outcome ≡ 1 → (a .state ≡ l .state) × (a .leases ≡ l .leases)
-  pub untouched-too : a .outcome ≡ 2 → (a .state ≡ l .state) × (a .leases ≡ l .leases)
+  pub untouched : a .outcome ≡ 1 → (a .ledger ≡ l .ledger) × (a .leases ≡ l .leases)
+  pub untouched-too : a .outcome ≡ 2 → (a .ledger ≡ l .ledger) × (a .leases ≡ l .leases)
   -- the others set the clock and drop ended leases; 3 to 8 do no more
-  pub advances : 3 ≤ a .outcome → (a .state ≡ bookAt (bookOf l) c .state) × (a .leases ≡ recordsOf (bookAt (bookOf l) c .table))
+  pub advances : 3 ≤ a .outcome → (a .ledger ≡ ledgerOf (bookAt (bookOf l) c)) × (a .leases ≡ recordsOf (bookAt (bookOf l) c .table))
   -- another number of records makes the book unsound
   pub other : (length (l .leases) ≡ 128 → ⊥) → a .outcome ≡ 1
-  -- and so do bad names (document 02, W-201)
+  -- and so do bad names and bad releases (document 02, W-201 and W-202)
   pub bad-names : namesGood (bookOf l) ≡ false → a .outcome ≡ 1
+  pub bad-releases : memoryGood (bookOf l) ≡ false → a .outcome ≡ 1
 
 unfoldable pub LentDemand1 : Type 0
 LentDemand1 = (l : Lent) (c : Call) → LentAnswered l c (served l c)
 
--- ---- the OFFER rule, on any state, any 128 records and any names
+-- ---- the OFFER rule, on any ledger, any 128 records and any names
 unfoldable pub LentOfferRule : Type 0
 LentOfferRule =
     (l : Lent) (c : Call) → length (l .leases) ≡ 128 → Discovers c
     → OfferedAs (bookOf l) c (answerOf (l .names) (served l c)) (answerOf (l .names) (served l (requested c)))
 
--- ---- the file: the state and the records that it is read into, with the names that stand in it
-abbrev pub afterFile : List ℕ → State → List Lease → Lent
-afterFile f s ls = record { state = readLent f s ls .state; leases = readLent f s ls .leases; names = namesOf f }
+-- ---- the file: the ledger and the records that it is read into, with the names that stand in it
+abbrev pub afterFile : List ℕ → Ledger → List Lease → Lent
+afterFile f g ls = record { ledger = readLent f g ls .ledger; leases = readLent f g ls .leases; names = namesOf f }
 
--- demand 2, of the file: "A campus file that is accepted, read and written again has the same octets"; read into any lent state and records. Of the call,
+-- demand 2, of the file: "A campus file that is accepted, read and written again has the same octets"; read into any lent ledger and records. Of the call,
 -- "what it reads, what it writes and the book afterwards" are `serveOf`'s, which `lent::serve` promises octet for octet (`ServesLent`)
 unfoldable pub LentRoundTrip : Type 0
 LentRoundTrip =
-    (f : List ℕ) (s : State) (ls : List Lease) (room : List ℕ) → Octets f → readLent f s ls .refusal ≡ 0 → length f ≤ length room
-    → (lentWritten (afterFile f s ls) (length room) ≡ record { refusal = 0; length = length f })
-    × (lentRoom (afterFile f s ls) room ≡ f ++ drop (length f) room)
+    (f : List ℕ) (g : Ledger) (ls : List Lease) (room : List ℕ) → Octets f → readLent f g ls .refusal ≡ 0 → length f ≤ length room
+    → (lentWritten (afterFile f g ls) (length room) ≡ record { refusal = 0; length = length f })
+    × (lentRoom (afterFile f g ls) room ≡ f ++ drop (length f) room)
 
--- and the other way: what the writer writes of any state, records and names is read back as that state, those records and those names. `Typed` is what the types of
+-- and the other way: what the writer writes of any ledger, records and names is read back as that ledger, those records and those names. `Typed` is what the types of
 -- the records say of their numbers and arrays, `Octets` that of the names, as of all that code has
 unfoldable pub LentWriteRead : Type 0
 LentWriteRead =
-    (l : Lent) (room : List ℕ) (s : State) (ls : List Lease) → Typed (l .state) (tableFrom (l .leases)) → Octets (l .names) → length ls ≡ 128 → lentWritten l (length room) .refusal ≡ 0
-    → (readLent (take (lentWritten l (length room) .length) (lentRoom l room)) s ls ≡ record { refusal = 0; state = l .state; leases = l .leases })
+    (l : Lent) (room : List ℕ) (g : Ledger) (ls : List Lease) → Typed (l .ledger .state) (tableFrom (l .leases)) (l .ledger .memory) → Octets (l .names) → length ls ≡ 128 → lentWritten l (length room) .refusal ≡ 0
+    → (readLent (take (lentWritten l (length room) .length) (lentRoom l room)) g ls ≡ record { refusal = 0; ledger = l .ledger; leases = l .leases })
     × (namesOf (take (lentWritten l (length room) .length) (lentRoom l room)) ≡ l .names)
 
 -- ---- after any list of calls on a sound book the writer refuses nothing in a room for the largest file: neither 22 nor 23 can occur
 unfoldable pub LentWritten : Type 0
 LentWritten = (l : Lent) → SoundLent l → (cs : List Call) (n : ℕ) → longestFile ≤ n → lentWritten (runLent l cs) n .refusal ≡ 0
 
--- so after any list of calls on an accepted file, read into any lent state and records
+-- so after any list of calls on an accepted file, read into any lent ledger and records
 unfoldable pub FileWritten : Type 0
 FileWritten =
-    (f : List ℕ) (s : State) (ls : List Lease) (cs : List Call) (n : ℕ) → readLent f s ls .refusal ≡ 0 → longestFile ≤ n
-    → lentWritten (runLent (afterFile f s ls) cs) n .refusal ≡ 0
+    (f : List ℕ) (g : Ledger) (ls : List Lease) (cs : List Call) (n : ℕ) → readLent f g ls .refusal ≡ 0 → longestFile ≤ n
+    → lentWritten (runLent (afterFile f g ls) cs) n .refusal ≡ 0
 
 -- ---- and every reply to such a call is read back as one of document 01's: an accepted file's leases are `Narrow`, and calls keep them so
 unfoldable pub FileReads : Type 0
 FileReads =
-    (f : List ℕ) (s : State) (ls : List Lease) (cs : List Call) (c : Call) → readLent f s ls .refusal ≡ 0
-    → served (runLent (afterFile f s ls) cs) c .outcome ≡ 0 → ReadAs (served (runLent (afterFile f s ls) cs) c .reply)
+    (f : List ℕ) (g : Ledger) (ls : List Lease) (cs : List Call) (c : Call) → readLent f g ls .refusal ≡ 0
+    → served (runLent (afterFile f g ls) cs) c .outcome ≡ 0 → ReadAs (served (runLent (afterFile f g ls) cs) c .reply)

@@ -14,3 +14,4 @@ pub mod Reordered
 pub mod Arranged
 pub mod Row
 pub mod Some
+pub mod Pad

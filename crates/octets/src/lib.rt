@@ -2,7 +2,8 @@
 ghost use mathlib.Core.Path.{_≡_};
 ghost use mathlib.Core.List.{[], _∷_};
 ghost use Prim.Native.Nat.{_+_, _≤_};
-ghost use lib.ListN.{length, take};
+ghost use lib.ListN.{drop, length, take};
+ghost use Rattle.lists.specs.Row.{laidRow};
 ghost use Rattle.octets.specs.Octets.{be16, be32, at16, at32, octets16, octets32, Wrote};
 
 fn wide32(x: u8) -> u32
@@ -37,6 +38,20 @@ pub fn read_u32(s: &[u8], at: usize) -> u32
     ensures { λ r. ⌜ r ≡ at32 (now (s .entry)) at ⌝ }
 {
     join32(s[at], s[at + 1], s[at + 2], s[at + 3])
+}
+
+// The n octets from a place on, and zeros after them.
+pub fn read_run(s: &[u8], at: usize, n: usize) -> [u8; 32]
+    requires { ⌜ (n ≤ 32) × (at + n ≤ length (now s)) ⌝ }
+    ensures { λ r. ⌜ r ≡ laidRow 0 32 (take n (drop at (now (s .entry)))) ⌝ }
+{
+    let mut out = [0u8; 32];
+    let mut i: usize = 0;
+    while i < n {
+        out[i] = s[at + i];
+        i += 1;
+    }
+    out
 }
 
 // Each `put` writes at a place and returns the place after what it wrote.

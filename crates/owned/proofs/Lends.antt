@@ -1,8 +1,8 @@
--- Laws: a local `State` and a local `[Lease; 128]` are lent to a callee, and come back once the lifetimes of the loans are over: what the walks of this crate's functions share.
---     word-state, word-leases, word-records, word-owned    the machine values of a state, of 128 lease records, of a `Records` and of an `Owned`
---     IsState, IsLeases, IsRecords, IsOwned                that these stand for them.        typed-state, typed-leases, typed-records, typed-owned       then they have their MIR types.        long     then there are 128 lease records
---     its-state, its-records, its-leases                   of the parts of an `Owned`, from the whole.        is-records, is-owned     of a whole that is put together of a state and lease records (`to-records`, `to-owned`)
---     MutState, MutLeases, ShrState, ShrLeases             what owning a `&κ mut State`, a `&κ mut [Lease]`, a `&κ State` and a `&κ [Lease]` is, each of a whole local, the slices of 128.        room     as many have room
+-- Laws: a local `Ledger` and a local `[Lease; 128]` are lent to a callee, and come back once the lifetimes of the loans are over: what the walks of this crate's functions share.
+--     word-ledger, word-leases, word-records, word-owned    the machine values of a ledger, of 128 lease records, of a `Records` and of an `Owned`
+--     IsLedger, IsLeases, IsRecords, IsOwned                that these stand for them.        typed-ledger, typed-leases, typed-records, typed-owned       then they have their MIR types.        long     then there are 128 lease records
+--     its-ledger, its-records, its-leases                   of the parts of an `Owned`, from the whole.        is-records, is-owned     of a whole that is put together of a ledger and lease records (`to-records`, `to-owned`)
+--     MutLedger, MutLeases, ShrLedger, ShrLeases             what owning a `&κ mut Ledger`, a `&κ mut [Lease]`, a `&κ Ledger` and a `&κ [Lease]` is, each of a whole local, the slices of 128.        room     as many have room
 --     lends-mut        the cells of the two locals are lent as `&mut`, each for a lifetime of its own: the two tokens, the two references, and `OutMut`, which brings the cells back
 --     backs-mut        the tokens, what says the last values, and `OutMut` give the cells at those values
 --     lends-shr, backs-shr     the same as `&`, with `OutShr`: the cells come back as they were
@@ -15,11 +15,11 @@ use denote.Memory.{mem}
 use denote.Lend.{Held, lends-shr as lends-shr-ref}
 use denote.Struct.Laws as LL
 use Rattle.state.specs.declared.Lease.{Lease}
-use Rattle.state.specs.declared.State.{State}
+use Rattle.state.specs.declared.Ledger.{Ledger}
 use Rattle.state.proofs.Lease as L
 use Rattle.state.proofs.Lease.Laws as L′
-use Rattle.state.proofs.State as T
-use Rattle.state.proofs.State.Laws as T′
+use Rattle.state.proofs.Ledger as T
+use Rattle.state.proofs.Ledger.Laws as T′
 use Rattle.records.specs.declared.Records.{Records}
 use Rattle.records.proofs.Records as N
 use Rattle.records.proofs.Records.Laws as N′
@@ -28,8 +28,8 @@ use Rattle.owned.specs.declared.Owned.{Owned}
 use Rattle.owned.proofs.Owned as O
 use Rattle.owned.proofs.Owned.Laws as O′
 
-abbrev pub word-state : State → Val
-word-state h = LL.val T.the-type T′.the-laws h
+abbrev pub word-ledger : Ledger → Val
+word-ledger h = LL.val T.the-type T′.the-laws h
 
 abbrev tuples : List Lease → List (field L.the-type .row .Denot)
 tuples ys = map (L.the-type .to) ys
@@ -40,9 +40,9 @@ word-leases ys = N′.the-laws .0 .val (tuples ys)
 abbrev pub Row : RattleType
 Row = Array (field L.the-type .row) 128
 
--- that a machine value stands for a state, and for 128 lease records
-abbrev pub IsState : State → Type 0
-IsState h = Is T.the-row h (word-state h ∷ [])
+-- that a machine value stands for a ledger, and for 128 lease records
+abbrev pub IsLedger : Ledger → Type 0
+IsLedger h = Is T.the-row h (word-ledger h ∷ [])
 
 abbrev pub IsLeases : List Lease → Type 0
 IsLeases ys = Is Row (tuples ys) (word-leases ys ∷ [])
@@ -67,8 +67,8 @@ word-records r = LL.val N.the-type N′.the-laws r
 abbrev pub IsRecords : Records → Type 0
 IsRecords r = Is N.the-row r (word-records r ∷ [])
 
-pub its-state : (o : Owned) → IsOwned o → IsState (o .state)
-its-state o is = LL.owed O.the-type O′.the-laws o _ is .0
+pub its-ledger : (o : Owned) → IsOwned o → IsLedger (o .ledger)
+its-ledger o is = LL.owed O.the-type O′.the-laws o _ is .0
 
 pub its-records : (o : Owned) → IsOwned o → IsRecords (o .records)
 its-records o is = LL.owed O.the-type O′.the-laws o _ is .1 .0
@@ -80,19 +80,19 @@ its-leases o is = LL.owed N.the-type N′.the-laws (o .records) _ (its-records o
 abbrev pub to-records : List Lease → Records
 to-records ys = record { leases = ys }
 
-abbrev pub to-owned : State → List Lease → Owned
-to-owned h ys = record { state = h; records = to-records ys }
+abbrev pub to-owned : Ledger → List Lease → Owned
+to-owned h ys = record { ledger = h; records = to-records ys }
 
 pub is-records : (ys : List Lease) → IsLeases ys → IsRecords (to-records ys)
 is-records ys is = LL.owes N.the-type N′.the-laws (to-records ys) (is, tt)
 
-pub is-owned : (h : State) (ys : List Lease) → IsState h → IsLeases ys → IsOwned (to-owned h ys)
+pub is-owned : (h : Ledger) (ys : List Lease) → IsLedger h → IsLeases ys → IsOwned (to-owned h ys)
 is-owned h ys is-h is-ys = LL.owes O.the-type O′.the-laws (to-owned h ys) (is-h, (is-records ys is-ys, tt))
 
 -- ---- each machine value has its MIR type
 module _ {M : Type 1} (𝓤 : URA M) (H : Heap 𝓤) (A : Atoms 𝓤) (W : Given 𝓤 H A) where
-  pub typed-state : (h : State) → IsState h → Holds (hasTy T′.mir (word-state h)) × WT (word-state h)
-  typed-state h is = LL.lawful T.the-type T′.the-laws 𝓤 H A W .typed h _ is .0
+  pub typed-ledger : (h : Ledger) → IsLedger h → Holds (hasTy T′.mir (word-ledger h)) × WT (word-ledger h)
+  typed-ledger h is = LL.lawful T.the-type T′.the-laws 𝓤 H A W .typed h _ is .0
 
   pub typed-leases : (ys : List Lease) → IsLeases ys → Holds (hasTy (tyArray L′.mir 128) (word-leases ys)) × WT (word-leases ys)
   typed-leases ys is = N′.the-laws .0 .lawful 𝓤 H A W .typed (tuples ys) _ is .0
@@ -104,8 +104,8 @@ module _ {M : Type 1} (𝓤 : URA M) (H : Heap 𝓤) (A : Atoms 𝓤) (W : Given
   typed-owned o is = LL.lawful O.the-type O′.the-laws 𝓤 H A W .typed o _ is .0
 
 -- ---- the references to the local b
-abbrev pub ref-state : ℕ → GName → State → RefT State
-ref-state b γ h = record { ptr = (b, 0); name = γ; now = h }
+abbrev pub ref-ledger : ℕ → GName → Ledger → RefT Ledger
+ref-ledger b γ h = record { ptr = (b, 0); name = γ; now = h }
 
 abbrev pub ref-leases : ℕ → GName → List Lease → RefT (List Lease)
 ref-leases b γ ys = record { ptr = (b, 0); name = γ; now = ys }
@@ -113,11 +113,11 @@ ref-leases b γ ys = record { ptr = (b, 0); name = γ; now = ys }
 abbrev pub word-slice : ℕ → Val
 word-slice b = sliceVal (b, 0) 128
 
-abbrev pub MutState : Lft → ℕ → GName → State → Fml
-MutState κ b γ h = MutRef erased κ T.the-row .own (ref-state b γ h) (vptr b 0 ∷ [])
+abbrev pub MutLedger : Lft → ℕ → GName → Ledger → Fml
+MutLedger κ b γ h = MutRef erased κ T.the-row .own (ref-ledger b γ h) (vptr b 0 ∷ [])
 
-abbrev pub ShrState : Lft → ℕ → GName → State → Fml
-ShrState κ b γ h = ShrRef erased κ T.the-row .own (ref-state b γ h) (vptr b 0 ∷ [])
+abbrev pub ShrLedger : Lft → ℕ → GName → Ledger → Fml
+ShrLedger κ b γ h = ShrRef erased κ T.the-row .own (ref-ledger b γ h) (vptr b 0 ∷ [])
 
 abbrev pub MutLeases : Lft → ℕ → GName → List Lease → Fml
 MutLeases κ b γ ys = MutSlice erased κ L.the-row .own (ref-leases b γ ys) (word-slice b ∷ [])
@@ -125,28 +125,28 @@ MutLeases κ b γ ys = MutSlice erased κ L.the-row .own (ref-leases b γ ys) (w
 abbrev pub ShrLeases : Lft → ℕ → GName → List Lease → Fml
 ShrLeases κ b γ ys = ShrSlice erased κ L.the-row .own (ref-leases b γ ys) (word-slice b ∷ [])
 
--- ---- what is kept while the state in the local b and the leases in the local c are out
+-- ---- what is kept while the ledger in the local b and the leases in the local c are out
 abbrev pub OutMut : ℕ → ℕ → ℕ → ℕ → GName → GName → Fml
 OutMut ν μ b c γ δ = fsep (flent (ν ∷ []) (Body (mem T.the-row) b 0 γ)) (flent (μ ∷ []) (Held L.the-row 128 c 0 δ))
 
-abbrev pub OutShr : ℕ → ℕ → ℕ → ℕ → State → List Lease → Fml
+abbrev pub OutShr : ℕ → ℕ → ℕ → ℕ → Ledger → List Lease → Fml
 OutShr ν μ b c h ys = fsep (flent (ν ∷ []) (partAt T.the-row fullShare h b 0)) (flent (μ ∷ []) (arr-parts (shares L.the-row) 128 .part fullShare ys c 0))
 
 module _ {M : Type 1} {𝓤 : URA M} {H : Heap 𝓤} {A : Atoms 𝓤} {K : Type 0} {W : Given 𝓤 H A} {Γ : List (Item 𝓤)} {G : Goal 𝓤 H} where
   -- ---- a cell, and a value in memory
-  state-in : K → (h : State) (b : ℕ) → IsState h → Step K W (‵ (partAt T.the-row fullShare h b 0) ∷ Γ) G (‵ (fat fullShare T′.mir b 0 (word-state h)) ∷ Γ) G
+  ledger-in : K → (h : Ledger) (b : ℕ) → IsLedger h → Step K W (‵ (partAt T.the-row fullShare h b 0) ∷ Γ) G (‵ (fat fullShare T′.mir b 0 (word-ledger h)) ∷ Γ) G
   unfolding partOf
-  state-in t h b is = step (λ s.
-      use1 W (‵ (cellAt fullShare (T.the-row .mir) (word-state h ∷ []) b 0)) (W .laws .at-raw fullShare T′.mir b 0 (word-state h)) $
-      owned t T.the-row (Is T.the-row) (LL.makes T.the-type T′.the-plain 𝓤 H A) h (word-state h ∷ []) is $ move t (1 ∷ 0 ∷ []) $ fjoin t $
-      fpack t (List Val) (λ us. fsep (cellAt fullShare (T.the-row .mir) us b 0) (T.the-row .own h us)) (word-state h ∷ []) $ s)
+  ledger-in t h b is = step (λ s.
+      use1 W (‵ (cellAt fullShare (T.the-row .mir) (word-ledger h ∷ []) b 0)) (W .laws .at-raw fullShare T′.mir b 0 (word-ledger h)) $
+      owned t T.the-row (Is T.the-row) (LL.makes T.the-type T′.the-plain 𝓤 H A) h (word-ledger h ∷ []) is $ move t (1 ∷ 0 ∷ []) $ fjoin t $
+      fpack t (List Val) (λ us. fsep (cellAt fullShare (T.the-row .mir) us b 0) (T.the-row .own h us)) (word-ledger h ∷ []) $ s)
 
-  state-out : K → (h : State) (b : ℕ) → (IsState h → Seq K W (‵ (fat fullShare T′.mir b 0 (word-state h)) ∷ Γ) G) → Seq K W (‵ (partAt T.the-row fullShare h b 0) ∷ Γ) G
+  ledger-out : K → (h : Ledger) (b : ℕ) → (IsLedger h → Seq K W (‵ (fat fullShare T′.mir b 0 (word-ledger h)) ∷ Γ) G) → Seq K W (‵ (partAt T.the-row fullShare h b 0) ∷ Γ) G
   unfolding partOf
-  state-out t h b k =
+  ledger-out t h b k =
       fpick t (λ vs. fsplit t $ spelt t T.the-row (Is T.the-row) (shows 𝓤 H A T.the-row) (LL.vals T.the-type T′.the-laws) (LL.tells T.the-type T′.the-laws) fullShare h vs b 0 $ move t (1 ∷ []) $
-      facts t T.the-row (Is T.the-row) (shows 𝓤 H A T.the-row) h (word-state h ∷ []) (λ is.
-      use1 W (‵ (fat fullShare T′.mir b 0 (word-state h))) (W .laws .raw-at fullShare T′.mir b 0 (word-state h)) $ k is))
+      facts t T.the-row (Is T.the-row) (shows 𝓤 H A T.the-row) h (word-ledger h ∷ []) (λ is.
+      use1 W (‵ (fat fullShare T′.mir b 0 (word-ledger h))) (W .laws .raw-at fullShare T′.mir b 0 (word-ledger h)) $ k is))
 
   leases-in : K → (ys : List Lease) (b : ℕ) → IsLeases ys → Step K W (‵ (row L.the-row fullShare ys b 0) ∷ Γ) G (‵ (fat fullShare (tyArray L′.mir 128) b 0 (word-leases ys)) ∷ Γ) G
   unfolding partOf
@@ -169,51 +169,51 @@ module _ {M : Type 1} {𝓤 : URA M} {H : Heap 𝓤} {A : Atoms 𝓤} {K : Type 
 
 module _ {M : Type 1} {𝓤 : URA M} {H : Heap 𝓤} {A : Atoms 𝓤} {K : Type 0} {W : Given 𝓤 H A} {Γ : List (Item 𝓤)} {G : Goal 𝓤 H} where
   -- ---- as `&mut`
-  pub lends-mut : K → Soaks G → (b c : ℕ) (h : State) (ys : List Lease) → IsState h → IsLeases ys
+  pub lends-mut : K → Soaks G → (b c : ℕ) (h : Ledger) (ys : List Lease) → IsLedger h → IsLeases ys
       → ((ν μ : ℕ) (γ δ : GName)
-      → Seq K W (‵ (flft (ν ∷ []) fullShare) ∷ ‵ (flft (μ ∷ []) fullShare) ∷ ‵ (MutState (ν ∷ []) b γ h) ∷ ‵ (MutLeases (μ ∷ []) c δ ys) ∷ ‵ (OutMut ν μ b c γ δ) ∷ Γ) G)
-      → Seq K W (‵ (fat fullShare T′.mir b 0 (word-state h)) ∷ ‵ (fat fullShare (tyArray L′.mir 128) c 0 (word-leases ys)) ∷ Γ) G
+      → Seq K W (‵ (flft (ν ∷ []) fullShare) ∷ ‵ (flft (μ ∷ []) fullShare) ∷ ‵ (MutLedger (ν ∷ []) b γ h) ∷ ‵ (MutLeases (μ ∷ []) c δ ys) ∷ ‵ (OutMut ν μ b c γ δ) ∷ Γ) G)
+      → Seq K W (‵ (fat fullShare T′.mir b 0 (word-ledger h)) ∷ ‵ (fat fullShare (tyArray L′.mir 128) c 0 (word-leases ys)) ∷ Γ) G
   lends-mut t z b c h ys is-h is-ys k =
-      lft-new t z (λ ν. lft-new t z (λ μ. move t (2 ∷ []) $ state-in t h b is-h $
-      use1 W (later (some (λ (γ : GName). ‵ (MutState (ν ∷ []) b γ h) ⊛ ‵ (flent (ν ∷ []) (Body (mem T.the-row) b 0 γ))))) (lends-ref 𝓤 H A W T.the-row erased (ν ∷ []) h b 0) $ await t z $ pick t (λ γ. split t $
-      -- [the state's borrow; the lender's part; [μ]; [ν]; the leases' cell]
+      lft-new t z (λ ν. lft-new t z (λ μ. move t (2 ∷ []) $ ledger-in t h b is-h $
+      use1 W (later (some (λ (γ : GName). ‵ (MutLedger (ν ∷ []) b γ h) ⊛ ‵ (flent (ν ∷ []) (Body (mem T.the-row) b 0 γ))))) (lends-ref 𝓤 H A W T.the-row erased (ν ∷ []) h b 0) $ await t z $ pick t (λ γ. split t $
+      -- [the ledger's borrow; the lender's part; [μ]; [ν]; the leases' cell]
       move t (4 ∷ []) $ leases-in t ys c is-ys $ use1 W (‵ (cells (mem L.the-row) ys c 0)) (whole-in 𝓤 H A W L.the-row ys c 0) $
       use1 W (later (some (λ (δ : GName). ‵ (MutSlice erased (μ ∷ []) L.the-row .own (ref-leases c δ ys) (sliceVal (c, 0) (length ys) ∷ [])) ⊛ ‵ (flent (μ ∷ []) (Held L.the-row (length ys) c 0 δ)))))
       (lends-slice 𝓤 H A W L.the-row erased (μ ∷ []) ys c 0 (subst (Room L.the-row) (sym (long ys is-ys)) room)) $ await t z $ pick t (λ δ. split t $
       rewrite t 0 (λ (n : ℕ). ‵ (MutSlice erased (μ ∷ []) L.the-row .own (ref-leases c δ ys) (sliceVal (c, 0) n ∷ []))) (long ys is-ys) refl $
       rewrite t 1 (λ (n : ℕ). ‵ (flent (μ ∷ []) (Held L.the-row n c 0 δ))) (long ys is-ys) refl $
-      -- [the slice; the lender's part; the state's borrow; the lender's part; [μ]; [ν]]
+      -- [the slice; the lender's part; the ledger's borrow; the lender's part; [μ]; [ν]]
       move t (3 ∷ 1 ∷ []) $ fjoin t $ move t (4 ∷ 3 ∷ 2 ∷ 1 ∷ 0 ∷ []) $ k ν μ γ δ))))
 
-  pub backs-mut : K → Soaks G → (ν μ b c : ℕ) (γ δ : GName) (h : State) (ys : List Lease) → length ys ≡ 128
-      → (IsState h → IsLeases ys → Seq K W (‵ (fat fullShare T′.mir b 0 (word-state h)) ∷ ‵ (fat fullShare (tyArray L′.mir 128) c 0 (word-leases ys)) ∷ Γ) G)
+  pub backs-mut : K → Soaks G → (ν μ b c : ℕ) (γ δ : GName) (h : Ledger) (ys : List Lease) → length ys ≡ 128
+      → (IsLedger h → IsLeases ys → Seq K W (‵ (fat fullShare T′.mir b 0 (word-ledger h)) ∷ ‵ (fat fullShare (tyArray L′.mir 128) c 0 (word-leases ys)) ∷ Γ) G)
       → Seq K W (‵ (flft (ν ∷ []) fullShare) ∷ ‵ (flft (μ ∷ []) fullShare) ∷ ‵ (fres γ (T.the-row .coded .code h)) ∷ ‵ (finally L.the-row δ ys) ∷ ‵ (OutMut ν μ b c γ δ) ∷ Γ) G
   backs-mut t z ν μ b c γ δ h ys e k =
       move t (4 ∷ []) $ fsplit t $ move t (3 ∷ []) $ lft-end t z $ move t (0 ∷ 2 ∷ 5 ∷ []) $
       use3 W (later (‵ (Arr (mem L.the-row) 128 .lies ys c 0))) (slice-back 𝓤 H A W L.the-row (μ ∷ []) δ ys 128 c 0) $ await t z $ fsplit t $ drop t $ use1 W (‵ (row L.the-row fullShare ys c 0)) (whole-out 𝓤 H A W L.the-row ys c 0) $
       leases-out t ys c e (λ is-ys. move t (2 ∷ []) $ lft-end t z $ move t (0 ∷ 2 ∷ 3 ∷ []) $
-      use3 W (later (‵ (mem T.the-row .lies h b 0))) (ref-back 𝓤 H A W T.the-row (ν ∷ []) γ h b 0) $ await t z $ state-out t h b (λ is-h. k is-h is-ys))
+      use3 W (later (‵ (mem T.the-row .lies h b 0))) (ref-back 𝓤 H A W T.the-row (ν ∷ []) γ h b 0) $ await t z $ ledger-out t h b (λ is-h. k is-h is-ys))
 
   -- ---- as `&`
-  pub lends-shr : K → Soaks G → (b c : ℕ) (h : State) (ys : List Lease) → IsState h → IsLeases ys
+  pub lends-shr : K → Soaks G → (b c : ℕ) (h : Ledger) (ys : List Lease) → IsLedger h → IsLeases ys
       → ((ν μ : ℕ) (γ δ : GName)
-      → Seq K W (‵ (flft (ν ∷ []) fullShare) ∷ ‵ (flft (μ ∷ []) fullShare) ∷ ‵ (ShrState (ν ∷ []) b γ h) ∷ ‵ (ShrLeases (μ ∷ []) c δ ys) ∷ ‵ (OutShr ν μ b c h ys) ∷ Γ) G)
-      → Seq K W (‵ (fat fullShare T′.mir b 0 (word-state h)) ∷ ‵ (fat fullShare (tyArray L′.mir 128) c 0 (word-leases ys)) ∷ Γ) G
+      → Seq K W (‵ (flft (ν ∷ []) fullShare) ∷ ‵ (flft (μ ∷ []) fullShare) ∷ ‵ (ShrLedger (ν ∷ []) b γ h) ∷ ‵ (ShrLeases (μ ∷ []) c δ ys) ∷ ‵ (OutShr ν μ b c h ys) ∷ Γ) G)
+      → Seq K W (‵ (fat fullShare T′.mir b 0 (word-ledger h)) ∷ ‵ (fat fullShare (tyArray L′.mir 128) c 0 (word-leases ys)) ∷ Γ) G
   lends-shr t z b c h ys is-h is-ys k =
-      lft-new t z (λ ν. lft-new t z (λ μ. move t (2 ∷ []) $ state-in t h b is-h $
-      use1 W (later (some (λ (γ : GName). ‵ (ShrState (ν ∷ []) b γ h) ⊛ ‵ (flent (ν ∷ []) (partAt T.the-row fullShare h b 0))))) (lends-shr-ref 𝓤 H A W T.the-row erased (ν ∷ []) fullShare h b 0) $ await t z $ pick t (λ γ. split t $
-      -- [the state's reference; the lender's part; [μ]; [ν]; the leases' cell]
+      lft-new t z (λ ν. lft-new t z (λ μ. move t (2 ∷ []) $ ledger-in t h b is-h $
+      use1 W (later (some (λ (γ : GName). ‵ (ShrLedger (ν ∷ []) b γ h) ⊛ ‵ (flent (ν ∷ []) (partAt T.the-row fullShare h b 0))))) (lends-shr-ref 𝓤 H A W T.the-row erased (ν ∷ []) fullShare h b 0) $ await t z $ pick t (λ γ. split t $
+      -- [the ledger's reference; the lender's part; [μ]; [ν]; the leases' cell]
       move t (4 ∷ []) $ leases-in t ys c is-ys $ feqI t ℕ (length ys) (length ys) refl $ fjoin t $
       use1 W (later (some (λ (δ : GName). ‵ (ShrSlice erased (μ ∷ []) L.the-row .own (ref-leases c δ ys) (sliceVal (c, 0) (length ys) ∷ [])) ⊛ ‵ (flent (μ ∷ []) (arr-parts (shares L.the-row) (length ys) .part fullShare ys c 0)))))
       (lends-shr-slice 𝓤 H A W L.the-row erased (μ ∷ []) fullShare ys c 0 (subst (Room L.the-row) (sym (long ys is-ys)) room)) $ await t z $ pick t (λ δ. split t $
       rewrite t 0 (λ (n : ℕ). ‵ (ShrSlice erased (μ ∷ []) L.the-row .own (ref-leases c δ ys) (sliceVal (c, 0) n ∷ []))) (long ys is-ys) refl $
       rewrite t 1 (λ (n : ℕ). ‵ (flent (μ ∷ []) (arr-parts (shares L.the-row) n .part fullShare ys c 0))) (long ys is-ys) refl $
-      -- [the slice; the lender's part; the state's reference; the lender's part; [μ]; [ν]]
+      -- [the slice; the lender's part; the ledger's reference; the lender's part; [μ]; [ν]]
       move t (3 ∷ 1 ∷ []) $ fjoin t $ move t (4 ∷ 3 ∷ 2 ∷ 1 ∷ 0 ∷ []) $ k ν μ γ δ))))
 
-  pub backs-shr : K → Soaks G → (ν μ b c : ℕ) (h : State) (ys : List Lease) → length ys ≡ 128
-      → Step K W (‵ (fat fullShare T′.mir b 0 (word-state h)) ∷ ‵ (fat fullShare (tyArray L′.mir 128) c 0 (word-leases ys)) ∷ Γ) G
+  pub backs-shr : K → Soaks G → (ν μ b c : ℕ) (h : Ledger) (ys : List Lease) → length ys ≡ 128
+      → Step K W (‵ (fat fullShare T′.mir b 0 (word-ledger h)) ∷ ‵ (fat fullShare (tyArray L′.mir 128) c 0 (word-leases ys)) ∷ Γ) G
       (‵ (flft (ν ∷ []) fullShare) ∷ ‵ (flft (μ ∷ []) fullShare) ∷ ‵ (OutShr ν μ b c h ys) ∷ Γ) G
   backs-shr t z ν μ b c h ys e = step (λ s.
       move t (2 ∷ []) $ fsplit t $ move t (3 ∷ []) $ lft-end t z $ move t (0 ∷ 2 ∷ []) $ lent-back t z $ fsplit t $ drop t $ leases-out t ys c e (λ _.
-      move t (2 ∷ []) $ lft-end t z $ move t (0 ∷ 2 ∷ []) $ lent-back t z $ state-out t h b (λ _. s)))
+      move t (2 ∷ []) $ lft-end t z $ move t (0 ∷ 2 ∷ []) $ lent-back t z $ ledger-out t h b (λ _. s)))

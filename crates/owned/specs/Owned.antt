@@ -1,4 +1,4 @@
--- Definitions: what the entry points promise to a caller that holds its state and records by value and lends them for each call.
+-- Definitions: what the entry points promise to a caller that holds its ledger and records by value and lends them for each call.
 use Prim.Native.Nat.{ℕ}
 use mathlib.Core.Path.{_≡_}
 use mathlib.Core.List.{List}
@@ -7,14 +7,14 @@ use Rattle.records.specs.Lent.{LentAnswer, lentSaid, LentReading}
 use Rattle.owned.specs.declared.OwnedCall.{OwnedCall}
 use Rattle.owned.specs.declared.OwnedFile.{OwnedFile}
 
--- what is told, the state and every lease record
+-- what is told, the ledger and every lease record
 pub record ServesOwned (a : LentAnswer) (before after : List ℕ) (r : OwnedCall) : Type 0 where
   pub tells : Tells (lentSaid a) before after (r .outcome)
-  pub state : r .owned .state ≡ a .state
+  pub ledger : r .owned .ledger ≡ a .ledger
   pub leases : r .owned .records .leases ≡ a .leases
 
--- the refusal, the state and every lease record
+-- the refusal, the ledger and every lease record
 pub record ReadsOwned (a : LentReading) (r : OwnedFile) : Type 0 where
   pub refusal : r .refusal ≡ a .refusal
-  pub state : r .owned .state ≡ a .state
+  pub ledger : r .owned .ledger ≡ a .ledger
   pub leases : r .owned .records .leases ≡ a .leases

@@ -1,19 +1,19 @@
-// A caller of the entry points that holds its state and records by value: each function lends them for one call and hands them back. Programs
+// A caller of the entry points that holds its ledger and records by value: each function lends them for one call and hands them back. Programs
 // and other callers with plain values stand above it.
 ghost use mathlib.Core.Path.{_≡_};
 ghost use lib.ListN.{length, replicate};
 ghost use Rattle.state.specs.Book.{zeroLease};
-ghost use Rattle.state_file.specs.StateFile.{zeroState};
+ghost use Rattle.state_file.specs.StateFile.{zeroLedger};
 ghost use Rattle.records.specs.Lent.{serveLent, readLent, writtenLent, roomLent};
 ghost use Rattle.owned.specs.Owned.{ServesOwned, ReadsOwned};
 use records::Records;
 use server::Outcome;
-use state::State;
+use state::Ledger;
 use state_file::Written;
 
 // Document 01's book, as its caller holds it.
 pub struct Owned {
-    pub state: State,
+    pub ledger: Ledger,
     pub records: Records,
 }
 
@@ -38,16 +38,16 @@ pub fn serve(
     time: u32,
     reply: &mut [u8],
 ) -> OwnedCall
-    ensures { λ r. ⌜ ServesOwned (serveLent (o .state) (o .records .leases) (now (names .entry)) (record { datagram = now (datagram .entry); client = client; time = time; room = length (now (reply .entry)) })) (now (reply .entry)) (now (reply .exit)) r ⌝ }
+    ensures { λ r. ⌜ ServesOwned (serveLent (o .ledger) (o .records .leases) (now (names .entry)) (record { datagram = now (datagram .entry); client = client; time = time; room = length (now (reply .entry)) })) (now (reply .entry)) (now (reply .exit)) r ⌝ }
 {
-    let mut state = o.state;
+    let mut ledger = o.ledger;
     let records = o.records;
     let mut leases = records.leases;
     let r = lent::serve(
         datagram,
         client,
         time,
-        &mut state,
+        &mut ledger,
         &mut leases,
         names,
         reply,
@@ -55,7 +55,7 @@ pub fn serve(
     OwnedCall {
         outcome: r,
         owned: Owned {
-            state: state,
+            ledger: ledger,
             records: Records { leases: leases },
         },
     }
@@ -63,16 +63,16 @@ pub fn serve(
 
 // Reads a state file over a book; refusals 20 and 21 leave it as it was.
 pub fn read(file: &[u8], o: Owned) -> OwnedFile
-    ensures { λ r. ⌜ ReadsOwned (readLent (now (file .entry)) (o .state) (o .records .leases)) r ⌝ }
+    ensures { λ r. ⌜ ReadsOwned (readLent (now (file .entry)) (o .ledger) (o .records .leases)) r ⌝ }
 {
-    let mut state = o.state;
+    let mut ledger = o.ledger;
     let records = o.records;
     let mut leases = records.leases;
-    let n = lent::read(file, &mut state, &mut leases);
+    let n = lent::read(file, &mut ledger, &mut leases);
     OwnedFile {
         refusal: n,
         owned: Owned {
-            state: state,
+            ledger: ledger,
             records: Records { leases: leases },
         },
     }
@@ -80,19 +80,19 @@ pub fn read(file: &[u8], o: Owned) -> OwnedFile
 
 // A book that is all zero.
 pub fn blank() -> Owned
-    ensures { λ r. ⌜ (r .state ≡ zeroState) × (r .records .leases ≡ replicate 128 zeroLease) ⌝ }
+    ensures { λ r. ⌜ (r .ledger ≡ zeroLedger) × (r .records .leases ≡ replicate 128 zeroLease) ⌝ }
 {
-    let state = state_file::no_state();
+    let ledger = state_file::no_ledger();
     let records = records::no_records();
     Owned {
-        state: state,
+        ledger: ledger,
         records: records,
     }
 }
 
 // The book of a state file, for a caller that has none yet.
 pub fn open(file: &[u8]) -> OwnedFile
-    ensures { λ r. ⌜ ReadsOwned (readLent (now (file .entry)) zeroState (replicate 128 zeroLease)) r ⌝ }
+    ensures { λ r. ⌜ ReadsOwned (readLent (now (file .entry)) zeroLedger (replicate 128 zeroLease)) r ⌝ }
 {
     let o = blank();
     read(file, o)
@@ -100,11 +100,11 @@ pub fn open(file: &[u8]) -> OwnedFile
 
 // Writes a state file from a book and the names of its scopes.
 pub fn write(o: Owned, names: &[u8], room: &mut [u8]) -> Written
-    ensures answer { λ r. ⌜ r ≡ writtenLent (o .state) (o .records .leases) (now (names .entry)) (length (now (room .entry))) ⌝ }
-    ensures octets { λ r. ⌜ now (room .exit) ≡ roomLent (o .state) (o .records .leases) (now (names .entry)) (now (room .entry)) ⌝ }
+    ensures answer { λ r. ⌜ r ≡ writtenLent (o .ledger) (o .records .leases) (now (names .entry)) (length (now (room .entry))) ⌝ }
+    ensures octets { λ r. ⌜ now (room .exit) ≡ roomLent (o .ledger) (o .records .leases) (now (names .entry)) (now (room .entry)) ⌝ }
 {
-    let state = o.state;
+    let ledger = o.ledger;
     let records = o.records;
     let leases = records.leases;
-    lent::write(&state, &leases, names, room)
+    lent::write(&ledger, &leases, names, room)
 }

@@ -11,7 +11,7 @@ use Rattle.lists.specs.Filter.{filterBy}
 use Rattle.lists.specs.Place.{placeBy}
 use Rattle.identifier.specs.Order.{orderOf, sameOf}
 use Rattle.state.specs.declared.Lease.{Lease}
-use Rattle.state.specs.declared.State.{State}
+use Rattle.state.specs.declared.Ledger.{Ledger}
 use Rattle.state.specs.Book.{byIdentifier, insertOf, laidOut, leaseWith, removeOf, zeroLease}
 use Rattle.soundness.specs.Sound.{blankB, layoutB, paddedB, unusedB, zeroFrom}
 use Rattle.server.specs.Serve.{Call}
@@ -79,18 +79,18 @@ short : insertLent 1 (lease 2) (unused 127) ≡ unused 127
 unfolding unused insertWith is128 pick
 short = refl
 
--- 127 and 129 records are discard 1 and refusal 22, whatever the state, the names, the call and the room
-serve-127 : (s : State) (names : List ℕ) (c : Call) → serveLent s (unused 127) names c .outcome ≡ 1
+-- 127 and 129 records are discard 1 and refusal 22, whatever the ledger, the names, the call and the room
+serve-127 : (g : Ledger) (names : List ℕ) (c : Call) → serveLent g (unused 127) names c .outcome ≡ 1
 unfolding unused serveWith is128 pick
-serve-127 s names c = refl
+serve-127 g names c = refl
 
-serve-129 : (s : State) (names : List ℕ) (c : Call) → serveLent s (unused 129) names c .outcome ≡ 1
+serve-129 : (g : Ledger) (names : List ℕ) (c : Call) → serveLent g (unused 129) names c .outcome ≡ 1
 unfolding unused serveWith is128 pick
-serve-129 s names c = refl
+serve-129 g names c = refl
 
-write-127 : (s : State) (names : List ℕ) (room : ℕ) → writtenLent s (unused 127) names room .refusal ≡ 22
+write-127 : (g : Ledger) (names : List ℕ) (room : ℕ) → writtenLent g (unused 127) names room .refusal ≡ 22
 unfolding unused writtenWith is128 pick
-write-127 s names room = refl
+write-127 g names room = refl
 
 -- a lease after an unused record
 gap : layoutB (tenantFrom (lease 1 ∷ zeroLease ∷ lease 3 ∷ unused 13)) ≡ false

@@ -1,4 +1,4 @@
--- Laws: what the type of the records says of them: there are 128, and every identifier has 32 octets.
+-- Laws: what the type of the records says of them: there are 128, and every identifier has 32 octets; and that a memory is of eight tenants.
 use mathlib.Core.Path.{_≡_}
 use mathlib.Core.List.{List, [], _∷_, map}
 use lib.ListN.{length}
@@ -9,7 +9,9 @@ use denote.Shadow.{shadow}
 use Rattle.lists.specs.All.{All}
 use Rattle.lists.specs.laws.Part.{unmapped}
 use Rattle.state.specs.declared.Lease.{Lease}
+use Rattle.state.specs.declared.Memory.{Memory}
 use Rattle.state.proofs.Lease as L
+use Rattle.state.proofs.Memory as M
 use Rattle.records.specs.declared.Records.{Records}
 use Rattle.records.specs.laws.Rows.{Long}
 use Rattle.records.proofs.Records as R
@@ -28,3 +30,6 @@ records-long r vs p = each-long (r .leases) (p .1 .1 .0 .0) (p .1 .1 .0 .1 .1)
 
 pub records-size : (r : Records) (vs : List Val) → Is R.the-row r vs → length (r .leases) ≡ 128
 records-size r vs p = unmapped _ _ _ (r .leases) 128 (p .1 .1 .0 .1 .0 .1)
+
+pub memory-size : (m : Memory) (vs : List Val) → Is M.the-row m vs → length (m .releases) ≡ 8
+memory-size m vs p = unmapped _ _ _ (m .releases) 8 (p .1 .1 .0 .1 .0 .1)

@@ -1,5 +1,5 @@
--- Definitions: the entry points on a lent state and lent lease records (document 01, "How it is to be built"): what each answers, and the state and the
--- records afterwards. A house is a tenant here. A slice has "always 128" records; "another number makes the book unsound (1, 21 or 22)".
+-- Definitions: the entry points on a lent ledger, document 01's record of clock and settings with what is remembered (document 02, W-202), and lent lease
+-- records (document 01, "How it is to be built"): what each answers, and the ledger and the records afterwards. A house is a tenant here. A slice has "always 128" records; "another number makes the book unsound (1, 21 or 22)".
 use Prim.Native.Nat.{ℕ}
 use mathlib.Core.Path.{_≡_}
 use mathlib.Core.Bool.{Bool, true}
@@ -9,10 +9,10 @@ use lib.ListN.{length}
 use Rattle.lists.specs.Pick.{pick}
 use Rattle.state.specs.declared.Lease.{Lease}
 use Rattle.state.specs.declared.LeaseTable.{LeaseTable}
-use Rattle.state.specs.declared.State.{State}
+use Rattle.state.specs.declared.Ledger.{Ledger}
 use Rattle.state.specs.Book.{Book, insertOf, laidOut, placeOf, putAt, removeOf}
 use Rattle.soundness.specs.declared.HeldTable.{HeldTable}
-use Rattle.soundness.specs.Named.{bookB}
+use Rattle.releases.specs.Whole.{bookB}
 use Rattle.soundness.specs.Parts.{holdingsOf}
 use Rattle.decision.specs.Parts.{ownOf}
 use Rattle.server.specs.declared.Outcome.{Outcome}
@@ -30,96 +30,101 @@ use Rattle.records.specs.Records.{recordsOf, tableFrom}
 unfoldable pub is128 : ℕ → Bool
 is128 n = eqb n 128
 
--- the book that a lent state, lent records and lent names are
-abbrev pub bookFrom : State → List Lease → List ℕ → Book
-bookFrom s ls names = bookOf s (tableFrom ls) names
+-- the book that a lent ledger (clock, settings and what is remembered), lent records and lent names are
+abbrev pub bookFrom : Ledger → List Lease → List ℕ → Book
+bookFrom g ls names = bookOf (g .state) (tableFrom ls) (g .memory) names
+
+-- what of a book stands in the ledger
+abbrev pub ledgerOf : Book → Ledger
+ledgerOf b = record { state = b .state; memory = b .memory }
 
 -- ---- the call
 pub record LentAnswer : Type 0 where
   pub outcome : ℕ
   pub reply : List ℕ
-  pub state : State
+  pub ledger : Ledger
   pub leases : List Lease
 
 -- what of it the caller is told
 abbrev pub lentSaid : LentAnswer → Said
 lentSaid a = record { outcome = a .outcome; reply = a .reply }
 
--- an answer with its book as state and records
+-- an answer with its book as ledger and records
 abbrev pub lentAnswer : Answer → LentAnswer
-lentAnswer a = record { outcome = a .outcome; reply = a .reply; state = a .book .state; leases = recordsOf (a .book .table) }
+lentAnswer a = record { outcome = a .outcome; reply = a .reply; ledger = ledgerOf (a .book); leases = recordsOf (a .book .table) }
 
 -- on records of a slice that has n; discard 1 changes nothing
-unfoldable pub serveWith : ℕ → State → List Lease → List ℕ → Call → LentAnswer
-serveWith n s ls names c = pick (is128 n) (lentAnswer (serveOf (bookFrom s ls names) c)) (record { outcome = 1; reply = []; state = s; leases = ls })
+unfoldable pub serveWith : ℕ → Ledger → List Lease → List ℕ → Call → LentAnswer
+serveWith n g ls names c = pick (is128 n) (lentAnswer (serveOf (bookFrom g ls names) c)) (record { outcome = 1; reply = []; ledger = g; leases = ls })
 
-abbrev pub serveLent : State → List Lease → List ℕ → Call → LentAnswer
-serveLent s ls names c = serveWith (length ls) s ls names c
+abbrev pub serveLent : Ledger → List Lease → List ℕ → Call → LentAnswer
+serveLent g ls names c = serveWith (length ls) g ls names c
 
--- what a call has gathered of the lent records and names once it knows that the book is sound: what the tenants hold
-pub record Gathered (s : State) (ls : List Lease) (names : List ℕ) (held : HeldTable) : Type 0 where
-  pub sound : bookB (bookFrom s ls names) ≡ true
+-- what a call has gathered of what is lent once it knows that the book is sound: what the tenants hold
+pub record Gathered (g : Ledger) (ls : List Lease) (names : List ℕ) (held : HeldTable) : Type 0 where
+  pub sound : bookB (bookFrom g ls names) ≡ true
   pub holdings : held ≡ holdingsOf (tableFrom ls)
 
--- what a function on 128 records by value promises: what is told, the clock and every record
+-- what a function on 128 records by value promises: what is told, the clock, what is remembered and every record
 pub record ServesRecords (a : LentAnswer) (before after : List ℕ) (r : ServedRecords) : Type 0 where
   pub tells : Tells (lentSaid a) before after (r .outcome)
-  pub clock : r .clock ≡ a .state .clock
+  pub clock : r .clock ≡ a .ledger .state .clock
+  pub memory : r .memory ≡ a .ledger .memory
   pub leases : r .records .leases ≡ a .leases
   pub long : length (r .records .leases) ≡ 128
 
--- what the call promises: what is told, the state and every lease record
-pub record ServesLent (a : LentAnswer) (s : State) (ls : List Lease) (before after : List ℕ) (r : Outcome) : Type 0 where
+-- what the call promises: what is told, the ledger and every lease record
+pub record ServesLent (a : LentAnswer) (g : Ledger) (ls : List Lease) (before after : List ℕ) (r : Outcome) : Type 0 where
   pub tells : Tells (lentSaid a) before after r
-  pub state : s ≡ a .state
+  pub ledger : g ≡ a .ledger
   pub leases : ls ≡ a .leases
 
 -- ---- the reader
 pub record LentReading : Type 0 where
   pub refusal : ℕ
-  pub state : State
+  pub ledger : Ledger
   pub leases : List Lease
 
 -- "either .. leaves the lent records untouched"
-abbrev pub untouched : ℕ → State → List Lease → LentReading
-untouched n s ls = record { refusal = n; state = s; leases = ls }
+abbrev pub untouched : ℕ → Ledger → List Lease → LentReading
+untouched n g ls = record { refusal = n; ledger = g; leases = ls }
 
 -- the form is tested before the number of records
-unfoldable pub readWith : ℕ → Loaded → State → List Lease → LentReading
-readWith n r s ls =
+unfoldable pub readWith : ℕ → Loaded → Ledger → List Lease → LentReading
+readWith n r g ls =
     pick (eqb (r .refusal) 0)
-    (pick (is128 n) (record { refusal = 0; state = r .state; leases = recordsOf (r .table) }) (untouched 21 s ls))
-    (untouched (r .refusal) s ls)
+    (pick (is128 n) (record { refusal = 0; ledger = record { state = r .state; memory = r .memory }; leases = recordsOf (r .table) }) (untouched 21 g ls))
+    (untouched (r .refusal) g ls)
 
-abbrev pub readLent : List ℕ → State → List Lease → LentReading
-readLent f s ls = readWith (length ls) (readFile f) s ls
+abbrev pub readLent : List ℕ → Ledger → List Lease → LentReading
+readLent f g ls = readWith (length ls) (readFile f) g ls
 
 -- what a function on 128 records by value promises
 pub record Reads (a : LentReading) (r : ReadRecords) : Type 0 where
   pub refusal : r .refusal ≡ a .refusal
-  pub state : r .state ≡ a .state
+  pub ledger : r .ledger ≡ a .ledger
   pub leases : r .records .leases ≡ a .leases
   pub long : length (r .records .leases) ≡ 128
 
--- what the reader promises: the refusal, the state and every lease record
-pub record ReadsLent (a : LentReading) (s : State) (ls : List Lease) (r : ℕ) : Type 0 where
+-- what the reader promises: the refusal, the ledger and every lease record
+pub record ReadsLent (a : LentReading) (g : Ledger) (ls : List Lease) (r : ℕ) : Type 0 where
   pub refusal : r ≡ a .refusal
-  pub state : s ≡ a .state
+  pub ledger : g ≡ a .ledger
   pub leases : ls ≡ a .leases
 
 -- ---- the writer
 -- 22 before 23
-unfoldable pub writtenWith : ℕ → State → List Lease → List ℕ → ℕ → Written
-writtenWith n s ls names room = pick (is128 n) (writtenOf (bookFrom s ls names) room) (record { refusal = 22; length = 0 })
+unfoldable pub writtenWith : ℕ → Ledger → List Lease → List ℕ → ℕ → Written
+writtenWith n g ls names room = pick (is128 n) (writtenOf (bookFrom g ls names) room) (record { refusal = 22; length = 0 })
 
-unfoldable pub roomWith : ℕ → State → List Lease → List ℕ → List ℕ → List ℕ
-roomWith n s ls names room = pick (is128 n) (roomAfter (bookFrom s ls names) room) room
+unfoldable pub roomWith : ℕ → Ledger → List Lease → List ℕ → List ℕ → List ℕ
+roomWith n g ls names room = pick (is128 n) (roomAfter (bookFrom g ls names) room) room
 
-abbrev pub writtenLent : State → List Lease → List ℕ → ℕ → Written
-writtenLent s ls names room = writtenWith (length ls) s ls names room
+abbrev pub writtenLent : Ledger → List Lease → List ℕ → ℕ → Written
+writtenLent g ls names room = writtenWith (length ls) g ls names room
 
-abbrev pub roomLent : State → List Lease → List ℕ → List ℕ → List ℕ
-roomLent s ls names room = roomWith (length ls) s ls names room
+abbrev pub roomLent : Ledger → List Lease → List ℕ → List ℕ → List ℕ
+roomLent g ls names room = roomWith (length ls) g ls names room
 
 -- ---- one record
 -- the leases of tenant h, counted from 0, become p: records past them become unused

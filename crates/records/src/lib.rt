@@ -2,7 +2,7 @@
 // of records that the lent slice has comes with them.
 ghost use mathlib.Core.Bool.{_&&_, _||_};
 ghost use mathlib.Core.Path.{_≡_};
-ghost use Prim.Native.Nat.{_≤_, _<_, min};
+ghost use Prim.Native.Nat.{ℕ, _≤_, _<_, min};
 ghost use lib.ListN.{length, replicate, take};
 ghost use Rattle.lists.specs.All.{allBy};
 ghost use Rattle.lists.specs.Place.{placeBy};
@@ -10,7 +10,8 @@ ghost use Rattle.reply.specs.Reply.{leastRoom};
 ghost use Rattle.soundness.specs.Sound.{unusedB};
 ghost use Rattle.names.specs.Names.{namesB};
 ghost use Rattle.soundness.specs.Parts.{holdingsOf, soundFrom, tableRulesOf};
-ghost use Rattle.state.specs.Book.{leasesOf, tableOf, tenantAt, zeroLease};
+ghost use Rattle.releases.specs.Rules.{ownLeases, memoryB, rulesAt};
+ghost use Rattle.state.specs.Book.{inUse, leasesOf, tableOf, tenantAt, zeroLease};
 ghost use Rattle.server.specs.Serve.{atClock};
 ghost use Rattle.state_file.specs.StateFile.{readFile};
 ghost use Rattle.records.specs.Records.{Drops, endsAfter, putRow, recordsOf, tableFrom, tenantFrom};
@@ -22,18 +23,22 @@ use soundness::TableRules;
 use state::Edit;
 use state::Lease;
 use state::LeaseTable;
+use state::Ledger;
+use state::Memory;
 use state::State;
 use state::TenantLeases;
+use state::TenantReleases;
 use state_file::Written;
 
 pub struct Records {
     pub leases: [Lease; 128],
 }
 
-// What the caller is told of a call, with the clock and the records afterwards.
+// What the caller is told of a call, with the clock, what is remembered and the records afterwards.
 pub struct ServedRecords {
     pub outcome: Outcome,
     pub clock: u32,
+    pub memory: Memory,
     pub records: Records,
 }
 
@@ -49,10 +54,10 @@ pub enum Found {
     Absent,
 }
 
-// A refusal or 0, and the state and the records afterwards.
+// A refusal or 0, and the ledger and the records afterwards.
 pub struct ReadRecords {
     pub refusal: u8,
-    pub state: State,
+    pub ledger: Ledger,
     pub records: Records,
 }
 
@@ -177,6 +182,17 @@ fn put_row(records: Records, h: usize, t: TenantLeases) -> Records
     now
 }
 
+// The records of a tenant of whom q is remembered: those of no lease where that is nothing, since nothing then goes by them.
+fn row_for(records: Records, h: usize, q: TenantReleases) -> TenantLeases
+    requires { ⌜ h < 8 ⌝ }
+    ensures { λ r. ⌜ ((n clock : ℕ) → rulesAt n clock h (inUse r) q ≡ rulesAt n clock h (ownLeases (tableFrom (records .leases)) h) q) ⌝ }
+{
+    if q.count == 0 {
+        return state::no_leases();
+    }
+    row(records, h)
+}
+
 // Which rules each tenant's records keep, and what all tenants hold, row by row.
 fn survey(s: State, records: Records) -> TableRules
     ensures { λ r. ⌜ r ≡ tableRulesOf s (tableFrom (records .leases)) ⌝ }
@@ -248,10 +264,28 @@ fn drop_ended(records: Records, held: HeldTable, clock: u32) -> Dropped
     }
 }
 
+// ---- what is remembered
+
+// Whether it keeps every rule, row by row. The leases of a tenant are looked at only where releases of it are remembered.
+fn remembers_soundly(s: State, records: Records, memory: Memory) -> bool
+    ensures { λ r. ⌜ r ≡ memoryB s (tableFrom (records .leases)) memory ⌝ }
+{
+    let n = arithmetic::cut8(s.tenant_count);
+    let mut all = releases::no_tenants();
+    let mut h: usize = 0;
+    while h < 8 {
+        let q = memory.releases[h];
+        let own = row_for(records, h, q);
+        all = releases::add_tenant(all, n, s.clock, h, own, q);
+        h += 1;
+    }
+    releases::first_broken(all) == 0
+}
+
 // ---- the entry points
 
-fn discard(n: u8, clock: u32, records: Records) -> ServedRecords
-    ensures { λ r. ⌜ r ≡ record { outcome = record { outcome = n; length = 0 }; clock = clock; records = records } ⌝ }
+fn discard(n: u8, clock: u32, memory: Memory, records: Records) -> ServedRecords
+    ensures { λ r. ⌜ r ≡ record { outcome = record { outcome = n; length = 0 }; clock = clock; memory = memory; records = records } ⌝ }
 {
     ServedRecords {
         outcome: Outcome {
@@ -259,22 +293,31 @@ fn discard(n: u8, clock: u32, records: Records) -> ServedRecords
             length: 0,
         },
         clock: clock,
+        memory: memory,
         records: records,
     }
 }
 
+// Whether an edit changes anything.
 fn is_edit(e: Edit) -> bool
-    ensures { λ r. ⌜ r ≡ (e .leaves || e .enters) ⌝ }
+    ensures { λ r. ⌜ r ≡ (e .leaves || (e .enters || (e .forgets || e .remembers))) ⌝ }
 {
     if e.leaves {
         return true;
     }
-    e.enters
+    if e.enters {
+        return true;
+    }
+    if e.forgets {
+        return true;
+    }
+    e.remembers
 }
 
-// Test 3 and what follows, after the drop: the client's tenant, whose records alone are edited, and only where something changes.
+// Test 3 and what follows, after the drop: the client's tenant, whose records and releases alone are edited, and only where something changes.
 fn at_clock(
     s: State,
+    memory: Memory,
     records: Records,
     held: HeldTable,
     names: &[u8],
@@ -282,46 +325,54 @@ fn at_clock(
     datagram: &[u8],
     reply: &mut [u8],
 ) -> ServedRecords
-    requires { ⌜ (leastRoom ≤ length (now reply)) × Gathered s (records .leases) (now names) held ⌝ }
-    ensures { λ r. ⌜ ServesRecords (lentAnswer (atClock (bookFrom s (records .leases) (now (names .entry))) client (now (datagram .entry)))) (now (reply .entry)) (now (reply .exit)) r ⌝ }
+    requires { ⌜ (leastRoom ≤ length (now reply)) × Gathered (record { state = s; memory = memory }) (records .leases) (now names) held ⌝ }
+    ensures { λ r. ⌜ ServesRecords (lentAnswer (atClock (bookFrom (record { state = s; memory = memory }) (records .leases) (now (names .entry))) client (now (datagram .entry)))) (now (reply .entry)) (now (reply .exit)) r ⌝ }
 {
     let h = server::tenant_of(s, client);
     if h < arithmetic::cut8(s.tenant_count) {
         let own = row(records, h);
-        let r = server::on_tenant(s, names, own, held, h, datagram, reply);
+        let q = memory.releases[h];
+        let r = server::on_tenant(s, names, own, q, held, h, datagram, reply);
         let o = r.outcome;
         let e = r.edit;
         if is_edit(e) {
             let t = state::edited(own, e);
             let now = put_row(records, h, t);
+            let mut noted = memory;
+            let x = releases::note(q, e);
+            noted.releases[h] = x;
             return ServedRecords {
                 outcome: o,
                 clock: s.clock,
+                memory: noted,
                 records: now,
             };
         }
         return ServedRecords {
             outcome: o,
             clock: s.clock,
+            memory: memory,
             records: records,
         };
     }
-    discard(3, s.clock, records)
+    discard(3, s.clock, memory, records)
 }
 
-// Test 1: every rule holds, and the names are good for the settings.
-fn is_sound(s: State, c: TableRules, names: &[u8]) -> bool
-    ensures { λ r. ⌜ r ≡ (soundFrom s c && namesB (s .«scope_count») (s .«tenant_count») (now (names .entry))) ⌝ }
+// Test 1: every rule holds, of what is remembered too, and the names are good for the settings.
+fn is_sound(s: State, c: TableRules, memory: Memory, records: Records, names: &[u8]) -> bool
+    ensures { λ r. ⌜ r ≡ (soundFrom s c && (memoryB s (tableFrom (records .leases)) memory && namesB (s .«scope_count») (s .«tenant_count») (now (names .entry)))) ⌝ }
 {
     if soundness::sound_from(s, c) {
-        return names::good(names, s.scope_count, s.tenant_count);
+        if remembers_soundly(s, records, memory) {
+            return names::good(names, s.scope_count, s.tenant_count);
+        }
     }
     false
 }
 
 // The call on the records of a slice that has n: tests 1 and 2; then the clock is raised, and ended leases are dropped where there are any.
 pub fn serve(
-    state: State,
+    ledger: Ledger,
     records: Records,
     n: usize,
     names: &[u8],
@@ -330,65 +381,74 @@ pub fn serve(
     time: u32,
     reply: &mut [u8],
 ) -> ServedRecords
-    ensures { λ r. ⌜ ServesRecords (serveWith n state (records .leases) (now (names .entry)) (record { datagram = now (datagram .entry); client = client; time = time; room = length (now (reply .entry)) })) (now (reply .entry)) (now (reply .exit)) r ⌝ }
+    ensures { λ r. ⌜ ServesRecords (serveWith n ledger (records .leases) (now (names .entry)) (record { datagram = now (datagram .entry); client = client; time = time; room = length (now (reply .entry)) })) (now (reply .entry)) (now (reply .exit)) r ⌝ }
 {
+    let state = ledger.state;
+    let memory = ledger.memory;
     if n != 128 {
-        return discard(1, state.clock, records);
+        return discard(1, state.clock, memory, records);
     }
     let c = survey(state, records);
-    if !is_sound(state, c, names) {
-        return discard(1, state.clock, records);
+    if !is_sound(state, c, memory, records, names) {
+        return discard(1, state.clock, memory, records);
     }
     if reply.len() < reply::LEAST_ROOM {
-        return discard(2, state.clock, records);
+        return discard(2, state.clock, memory, records);
     }
     let s = state::raise(state, time);
     let held = c.held;
     if none_ended(held, s.clock) {
-        return at_clock(s, records, held, names, client, datagram, reply);
+        return at_clock(s, memory, records, held, names, client, datagram, reply);
     }
     let d = drop_ended(records, held, s.clock);
     let left = d.records;
     let sets = d.held;
-    at_clock(s, left, sets, names, client, datagram, reply)
+    at_clock(s, memory, left, sets, names, client, datagram, reply)
 }
 
-fn untouched(refusal: u8, state: State, records: Records) -> ReadRecords
-    ensures { λ r. ⌜ r ≡ record { refusal = refusal; state = state; records = records } ⌝ }
+fn untouched(refusal: u8, ledger: Ledger, records: Records) -> ReadRecords
+    ensures { λ r. ⌜ r ≡ record { refusal = refusal; ledger = ledger; records = records } ⌝ }
 {
     ReadRecords {
         refusal: refusal,
-        state: state,
+        ledger: ledger,
         records: records,
     }
 }
 
-// The reader of a state file: 20 or 21 gives back the state and the records as they were.
-pub fn read(file: &[u8], state: State, records: Records, n: usize) -> ReadRecords
-    ensures { λ r. ⌜ Reads (readWith n (readFile (now (file .entry))) state (records .leases)) r ⌝ }
+// The reader of a state file: 20 or 21 gives back the ledger and the records as they were.
+pub fn read(file: &[u8], ledger: Ledger, records: Records, n: usize) -> ReadRecords
+    ensures { λ r. ⌜ Reads (readWith n (readFile (now (file .entry))) ledger (records .leases)) r ⌝ }
 {
     let f = state_file::read(file);
     let refusal = f.refusal;
     if refusal == 0 {
         if n == 128 {
             let s = f.state;
+            let m = f.memory;
             let t = f.table;
             let x = records_of(t);
-            return untouched(0, s, x);
+            let now = Ledger {
+                state: s,
+                memory: m,
+            };
+            return untouched(0, now, x);
         }
-        return untouched(21, state, records);
+        return untouched(21, ledger, records);
     }
-    untouched(refusal, state, records)
+    untouched(refusal, ledger, records)
 }
 
 // The writer of a state file: its length, or refusal 22 and then 23.
-pub fn write(state: State, records: Records, n: usize, names: &[u8], room: &mut [u8]) -> Written
-    ensures answer { λ r. ⌜ r ≡ writtenWith n state (records .leases) (now (names .entry)) (length (now (room .entry))) ⌝ }
-    ensures octets { λ r. ⌜ now (room .exit) ≡ roomWith n state (records .leases) (now (names .entry)) (now (room .entry)) ⌝ }
+pub fn write(ledger: Ledger, records: Records, n: usize, names: &[u8], room: &mut [u8]) -> Written
+    ensures answer { λ r. ⌜ r ≡ writtenWith n ledger (records .leases) (now (names .entry)) (length (now (room .entry))) ⌝ }
+    ensures octets { λ r. ⌜ now (room .exit) ≡ roomWith n ledger (records .leases) (now (names .entry)) (now (room .entry)) ⌝ }
 {
     if n == 128 {
+        let s = ledger.state;
+        let m = ledger.memory;
         let t = table_of(records);
-        return state_file::write(state, t, names, room);
+        return state_file::write(s, t, m, names, room);
     }
     Written {
         refusal: 22,

@@ -20,15 +20,18 @@ use Rattle.reply.specs.declared.ScopeEntry.{ScopeEntry}
 use Rattle.state.specs.declared.Edit.{Edit}
 use Rattle.state.specs.declared.Scope.{Scope}
 use Rattle.state.specs.declared.State.{State}
-use Rattle.state.specs.Book.{Book, scopeAt}
-use Rattle.state.specs.Edit.{applied, noEdit}
-use Rattle.state.specs.laws.Edited.{applied-none}
+use Rattle.state.specs.declared.LeaseTable.{LeaseTable}
+use Rattle.state.specs.declared.Memory.{Memory}
+use Rattle.state.specs.declared.TenantReleases.{TenantReleases}
+use Rattle.state.specs.Book.{Book, releasesAt, remembered, scopeAt}
+use Rattle.state.specs.Edit.{editedBook, noEdit}
+use Rattle.state.specs.laws.Edited.{edited-none}
 use Rattle.decision.specs.declared.Decided.{Decided}
 use Rattle.decision.specs.declared.Reply.{Reply}
 use Rattle.decision.specs.declared.Verdict.{Verdict}
 use Rattle.decision.specs.Decide.{decideOf}
 use Rattle.server.specs.declared.Served.{Served}
-use Rattle.server.specs.Serve.{Answer, discarded, termsOf, entryOf, infoOf, byReply, replyOf, answered, forServer, withReading, Serves, withTable}
+use Rattle.server.specs.Serve.{Answer, discarded, termsOf, entryOf, infoOf, byReply, replyOf, bookOf, answered, decidedFor, forServer, withReading, Serves}
 
 -- ---- the reply
 pub terms-is : (s : State) (v : Verdict) (n : ℕ) (c : Scope) (k : ℕ) → n ≡ v .end - v .start → k ≡ v .scope - 1 → c ≡ scopeAt s k
@@ -68,21 +71,24 @@ discard-is n p = ap {B = Served} (λ (e : Edit). record { outcome = record { out
 pub serves-discard : (n : ℕ) (b : Book) (h : ℕ) (buffer : List ℕ) (r : Served) → r ≡ record { outcome = record { outcome = n; length = 0 }; edit = noEdit } → Serves (discarded n b) b h buffer buffer r
 serves-discard n b h buffer r e = record {
   tells = record { outcome = ap (λ (x : Served). x .outcome .outcome) e; size = ap (λ (x : Served). x .outcome .length) e; buffer = refl };
-  book = sym (ap (λ (x : Served). withTable b (applied (x .edit) h (b .table))) e ∙ ap (withTable b) (applied-none (b .table) h));
+  book = sym (ap (λ (x : Served). editedBook (x .edit) h b) e ∙ edited-none b h);
 }
 
 serves-as : {a a′ : Answer} {b : Book} {h : ℕ} {x y : List ℕ} {r : Served} → a ≡ a′ → Serves a b h x y r → Serves a′ b h x y r
 serves-as {b = b} {h} {x} {y} {r} e s = subst (λ (z : Answer). Serves z b h x y r) e s
 
-pub serves-decided : (b : Book) (h : ℕ) (m : Fields) (d : Decided) (n : ℕ) {x y : List ℕ} → d ≡ decideOf (b .state) (b .table) h m → Replied x (replyOf (b .state) (b .names) h m (d .verdict)) y n
-    → Serves (answered b h m (decideOf (b .state) (b .table) h m)) b h x y (record { outcome = record { outcome = d .verdict .outcome; length = n }; edit = d .edit })
-serves-decided b h m d n {x} {y} e w =
-    subst (λ (z : Decided). Serves (answered b h m z) b h x y (record { outcome = record { outcome = d .verdict .outcome; length = n }; edit = d .edit })) e
+-- of the tenant's releases the code has the entries q
+pub serves-decided : (s : State) (t : LeaseTable) (k : Memory) (names : List ℕ) (q : TenantReleases) (h : ℕ) (m : Fields) (d : Decided) (n : ℕ) {x y : List ℕ} → d ≡ decideOf s t (remembered q) h m → q ≡ releasesAt k h
+    → Replied x (replyOf s names h m (d .verdict)) y n
+    → Serves (answered (bookOf s t k names) h m (decidedFor (bookOf s t k names) h m)) (bookOf s t k names) h x y (record { outcome = record { outcome = d .verdict .outcome; length = n }; edit = d .edit })
+serves-decided s t k names q h m d n {x} {y} e f w =
+    subst (λ (z : Decided). Serves (answered (bookOf s t k names) h m z) (bookOf s t k names) h x y (record { outcome = record { outcome = d .verdict .outcome; length = n }; edit = d .edit }))
+    (e ∙ ap (λ (z : TenantReleases). decideOf s t (remembered z) h m) f)
     (record { tells = record { outcome = refl; size = w .size; buffer = w .buffer }; book = refl })
 
 -- ---- test 7
 abbrev told : Book → ℕ → Fields → Answer
-told b h m = answered b h m (decideOf (b .state) (b .table) h m)
+told b h m = answered b h m (decidedFor b h m)
 
 module _ (b : Book) (h : ℕ) (m : Fields) {x y : List ℕ} {r : Served} where
   pub for-any : (m .kind ≡ 3 → ⊥) → Serves (told b h m) b h x y r → Serves (forServer b h m) b h x y r

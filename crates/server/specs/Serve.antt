@@ -20,13 +20,15 @@ use Rattle.reply.specs.declared.ScopeEntry.{ScopeEntry}
 use Rattle.reply.specs.Reply.{leastRoom, offerOf, leaseAckOf, releaseAckOf, infoAckOf, nakOf}
 use Rattle.state.specs.declared.ClientRange.{ClientRange}
 use Rattle.state.specs.declared.LeaseTable.{LeaseTable}
+use Rattle.state.specs.declared.Memory.{Memory}
 use Rattle.state.specs.declared.Scope.{Scope}
 use Rattle.state.specs.declared.State.{State}
 use Rattle.state.specs.declared.TenantLeases.{TenantLeases}
-use Rattle.state.specs.Book.{Book, advanced, changedTo, rangesOf, scopeAt}
-use Rattle.state.specs.Edit.{applied}
+use Rattle.state.specs.declared.TenantReleases.{TenantReleases}
+use Rattle.state.specs.Book.{Book, advanced, rangesOf, releasesAt, remembered, scopeAt}
+use Rattle.state.specs.Edit.{editedBook}
 use Rattle.soundness.specs.declared.HeldTable.{HeldTable}
-use Rattle.soundness.specs.Named.{bookB}
+use Rattle.releases.specs.Whole.{bookB}
 use Rattle.soundness.specs.Sound.{tenantsIn}
 use Rattle.soundness.specs.View.{View}
 use Rattle.decision.specs.declared.Decided.{Decided}
@@ -57,12 +59,9 @@ pub record Said : Type 0 where
 abbrev pub said : Answer → Said
 said a = record { outcome = a .outcome; reply = a .reply }
 
--- the book of a state, a table and the names that are lent with them; and a book with another table
-abbrev pub bookOf : State → LeaseTable → List ℕ → Book
-bookOf s t names = record { state = s; table = t; names = names }
-
-abbrev pub withTable : Book → LeaseTable → Book
-withTable b t = changedTo b (b .state) t
+-- the book of a state, a table, what is remembered and the names that are lent with them
+abbrev pub bookOf : State → LeaseTable → Memory → List ℕ → Book
+bookOf s t m names = record { state = s; table = t; memory = m; names = names }
 
 abbrev pub discarded : ℕ → Book → Answer
 discarded n b = record { outcome = n; reply = []; book = b }
@@ -103,19 +102,23 @@ unfoldable pub replyOf : State → List ℕ → ℕ → Fields → Verdict → L
 replyOf s names h m v = byReply s names h m v (v .reply)
 
 -- ---- the tests
--- the reply that the verdict asks for, and the book with the tenant's leases edited
+-- the reply that the verdict asks for, and the book with what the tenant has edited
 abbrev pub answered : Book → ℕ → Fields → Decided → Answer
 answered b h m d = record {
   outcome = d .verdict .outcome;
   reply = replyOf (b .state) (b .names) h m (d .verdict);
-  book = withTable b (applied (d .edit) h (b .table));
+  book = editedBook (d .edit) h b;
 }
+
+-- the decision on tenant h's message: by its leases and by what is remembered of it
+abbrev pub decidedFor : Book → ℕ → Fields → Decided
+decidedFor b h m = decideOf (b .state) (b .table) (remembered (releasesAt (b .memory) h)) h m
 
 -- test 7: "REQUEST with a Server Identifier other than the six octets of family 1 and our address"; then the decision
 unfoldable pub forServer : Book → ℕ → Fields → Answer
 forServer b h m =
     pick (eqb (m .kind) 3 && not (m .ours)) (discarded 7 b)
-    (answered b h m (decideOf (b .state) (b .table) h m))
+    (answered b h m (decidedFor b h m))
 
 -- tests 4, 5 and 6, by the reader
 unfoldable pub withReading : Book → ℕ → List ℕ → Reading → Answer
@@ -134,7 +137,7 @@ unfoldable pub atClock : Book → ℕ → List ℕ → Answer
 atClock b client s =
     pick (ltb (tenantOf (b .state) client) (tenantsIn (b .state))) (withReading b (tenantOf (b .state) client) s (readOf s)) (discarded 3 b)
 
--- test 1: "book unsound", for its names too (document 02, W-201). Tests 1 and 2 change nothing; "all other calls first set the book's clock .. and drop leases that end at or before it"
+-- test 1: "book unsound", for its names and its releases too (document 02, W-201 and W-202). Tests 1 and 2 change nothing; "all other calls first set the book's clock .. and drop leases that end at or before it"
 unfoldable pub serveOf : Book → Call → Answer
 serveOf b c =
     pick (bookB b)
@@ -148,15 +151,16 @@ pub record Tells (a : Said) (before after : List ℕ) (r : Outcome) : Type 0 whe
   pub size : r .length ≡ length (a .reply)
   pub buffer : after ≡ a .reply ++ drop (length (a .reply)) before
 
--- and the book b with the leases of tenant h edited
+-- and the book b with what tenant h has edited
 pub record Serves (a : Answer) (b : Book) (h : ℕ) (before after : List ℕ) (r : Served) : Type 0 where
   pub tells : Tells (said a) before after (r .outcome)
-  pub book : a .book ≡ withTable b (applied (r .edit) h (b .table))
+  pub book : a .book ≡ editedBook (r .edit) h b
 
 -- what tests 1 and 3 have shown when a datagram is read: the names are a section for the settings' scopes and tenants, and h is one of these
 abbrev pub NamesFor : State → ℕ → List ℕ → Type 0
 NamesFor s h names = (namesB (s .«scope_count») (s .«tenant_count») names ≡ true) × (h < s .«tenant_count»)
 
--- whatever book it is of which the state, the names, the records of tenant h and what all tenants hold are at hand
-abbrev pub ServesTenant : State → List ℕ → TenantLeases → HeldTable → ℕ → (Book → Answer) → List ℕ → List ℕ → Served → Type 0
-ServesTenant s names own held h answer before after r = (t : LeaseTable) → View s t h own held → Serves (answer (bookOf s t names)) (bookOf s t names) h before after r
+-- whatever book it is of which the state, the names, the records of tenant h, what is remembered of it and what all tenants hold are at hand
+abbrev pub ServesTenant : State → List ℕ → TenantLeases → TenantReleases → HeldTable → ℕ → (Book → Answer) → List ℕ → List ℕ → Served → Type 0
+ServesTenant s names own q held h answer before after r =
+    (t : LeaseTable) (m : Memory) → View s t h own held → q ≡ releasesAt m h → Serves (answer (bookOf s t m names)) (bookOf s t m names) h before after r

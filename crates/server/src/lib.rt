@@ -5,9 +5,8 @@ ghost use lib.ListN.{length};
 ghost use Rattle.message.specs.Read.{readOf};
 ghost use Rattle.reply.specs.Put.{Replied};
 ghost use Rattle.reply.specs.Reply.{leastRoom};
-ghost use Rattle.decision.specs.Decide.{decideOf};
 ghost use Rattle.state.specs.Edit.{noEdit};
-ghost use Rattle.server.specs.Serve.{headOf, termsOf, entryOf, infoOf, replyOf, answered, forServer, withReading, hasClient, tenantOf, NamesFor, ServesTenant};
+ghost use Rattle.server.specs.Serve.{headOf, termsOf, entryOf, infoOf, replyOf, answered, decidedFor, forServer, withReading, hasClient, tenantOf, NamesFor, ServesTenant};
 use decision::Reply;
 use decision::Verdict;
 use message::Fields;
@@ -22,6 +21,7 @@ use state::Edit;
 use state::Scope;
 use state::State;
 use state::TenantLeases;
+use state::TenantReleases;
 
 // What the caller is told of a call: the outcome's number and the reply's length.
 pub struct Outcome {
@@ -29,7 +29,7 @@ pub struct Outcome {
     pub length: usize,
 }
 
-// The same with what the call does to the leases of the client's tenant.
+// The same with what the call does to what the client's tenant has.
 pub struct Served {
     pub outcome: Outcome,
     pub edit: Edit,
@@ -127,15 +127,16 @@ fn decided(
     s: State,
     names: &[u8],
     own: TenantLeases,
+    q: TenantReleases,
     held: HeldTable,
     h: usize,
     m: Fields,
     reply: &mut [u8],
 ) -> Served
     requires { ⌜ (leastRoom ≤ length (now reply)) × NamesFor s h (now names) ⌝ }
-    ensures { λ r. ⌜ ServesTenant s (now (names .entry)) own held h (λ b. answered b h m (decideOf (b .state) (b .table) h m)) (now (reply .entry)) (now (reply .exit)) r ⌝ }
+    ensures { λ r. ⌜ ServesTenant s (now (names .entry)) own q held h (λ b. answered b h m (decidedFor b h m)) (now (reply .entry)) (now (reply .exit)) r ⌝ }
 {
-    let d = decision::decide(s, own, held, h, m);
+    let d = decision::decide(s, own, q, held, h, m);
     let v = d.verdict;
     let e = d.edit;
     let n = write_reply(s, names, h, m, v, reply);
@@ -153,41 +154,43 @@ fn for_server(
     s: State,
     names: &[u8],
     own: TenantLeases,
+    q: TenantReleases,
     held: HeldTable,
     h: usize,
     m: Fields,
     reply: &mut [u8],
 ) -> Served
     requires { ⌜ (leastRoom ≤ length (now reply)) × NamesFor s h (now names) ⌝ }
-    ensures { λ r. ⌜ ServesTenant s (now (names .entry)) own held h (λ b. forServer b h m) (now (reply .entry)) (now (reply .exit)) r ⌝ }
+    ensures { λ r. ⌜ ServesTenant s (now (names .entry)) own q held h (λ b. forServer b h m) (now (reply .entry)) (now (reply .exit)) r ⌝ }
 {
     if m.kind == MessageType::REQUEST {
         if m.ours {
-            return decided(s, names, own, held, h, m, reply);
+            return decided(s, names, own, q, held, h, m, reply);
         }
         return discard(7);
     }
-    decided(s, names, own, held, h, m, reply)
+    decided(s, names, own, q, held, h, m, reply)
 }
 
-// Tests 4 to 7 and what follows, on the records of the client's tenant, counted from 0, and what all tenants hold.
+// Tests 4 to 7 and what follows, on the records of the client's tenant, counted from 0, what is remembered of it, and what all tenants hold.
 pub fn on_tenant(
     s: State,
     names: &[u8],
     own: TenantLeases,
+    q: TenantReleases,
     held: HeldTable,
     h: usize,
     datagram: &[u8],
     reply: &mut [u8],
 ) -> Served
     requires { ⌜ (leastRoom ≤ length (now reply)) × NamesFor s h (now names) ⌝ }
-    ensures { λ r. ⌜ ServesTenant s (now (names .entry)) own held h (λ b. withReading b h (now (datagram .entry)) (readOf (now (datagram .entry)))) (now (reply .entry)) (now (reply .exit)) r ⌝ }
+    ensures { λ r. ⌜ ServesTenant s (now (names .entry)) own q held h (λ b. withReading b h (now (datagram .entry)) (readOf (now (datagram .entry)))) (now (reply .entry)) (now (reply .exit)) r ⌝ }
 {
     let r = message::read(datagram);
     if r.discard == 0 {
         let m = r.message;
         let f = m.fields(datagram, s.server);
-        return for_server(s, names, own, held, h, f, reply);
+        return for_server(s, names, own, q, held, h, f, reply);
     }
     discard(r.discard)
 }

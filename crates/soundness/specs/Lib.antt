@@ -2,5 +2,4 @@ pub mod Sound
 pub mod Parts
 pub mod Across
 pub mod View
-pub mod Named
 pub mod laws

@@ -1,5 +1,5 @@
--- Definitions: document 01's "Sound", rule by rule in its order, numbered by its semicolons. Rule 19 is the layout of "How it is to be built"; 13 to 18 are
--- kept for document 02.
+-- Definitions: document 01's "Sound", rule by rule in its order, numbered by its semicolons. Rule 19 is the layout of "How it is to be built"; 13 is
+-- kept for document 02's holds, and 14 to 18 are Rules.antt of `releases`, whose `bookB` is the whole.
 -- A house is a tenant here, its share a reserve; tenants count from 0, scopes from 1.
 use Prim.Native.Nat.{ℕ, _+_, _-_, min}
 use mathlib.Core.Bool.{Bool, true, _&&_, _||_}

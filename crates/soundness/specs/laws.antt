@@ -3,7 +3,6 @@ pub mod Survey
 pub mod Gathered
 pub mod Book
 pub mod Kept
-pub mod Named
 pub mod Added
 pub mod Facts
 pub mod Across

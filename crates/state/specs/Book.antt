@@ -1,4 +1,5 @@
--- Definitions: lease records and the lists of leases that they stand for; document 01's book, a `State`, its settings and clock, with a `LeaseTable` and the names for the scopes.
+-- Definitions: lease records and the lists of leases that they stand for; document 01's book, a `State`, its settings and clock, with a `LeaseTable`, what
+-- is remembered of releases and the names for the scopes.
 use Prim.Native.Nat.{ℕ, _+_, max}
 use mathlib.Core.Bool.{Bool, not, _&&_}
 use mathlib.Core.List.{List, [], _∷_, map}
@@ -16,6 +17,10 @@ use Rattle.address_set.specs.AddressSet.{offsets}
 use Rattle.state.specs.declared.Lease.{Lease}
 use Rattle.state.specs.declared.TenantLeases.{TenantLeases}
 use Rattle.state.specs.declared.LeaseTable.{LeaseTable}
+use Rattle.state.specs.declared.Release.{Release}
+use Rattle.state.specs.declared.TenantReleases.{TenantReleases}
+use Rattle.state.specs.declared.Memory.{Memory}
+use Rattle.state.specs.declared.Ledger.{Ledger}
 use Rattle.state.specs.declared.ClientRange.{ClientRange}
 use Rattle.state.specs.declared.Scope.{Scope}
 use Rattle.state.specs.declared.State.{State}
@@ -52,16 +57,41 @@ putAt b h t = record { tenants = set (b .tenants) h t }
 unfoldable pub tableOf : List (List Lease) → LeaseTable
 tableOf ls = record { tenants = map laidOut ls }
 
+-- ---- what is remembered besides (document 02, W-202): "For each house the last four released identifiers are remembered, with transaction id and the
+-- clock at release"
+abbrev pub zeroRelease : Release
+zeroRelease = record { «id_len» = 0; id = replicate 32 0; xid = 0; time = 0 }
+
+-- a tenant's releases, oldest first
+abbrev pub remembered : TenantReleases → List Release
+remembered q = take (q .count) (q .releases)
+
+-- the entries of a list of releases
+unfoldable pub laidReleases : List Release → TenantReleases
+laidReleases p = record { releases = laidRow zeroRelease 4 p; count = length p }
+
+-- those of one tenant, counted from 0; of none past the last
+abbrev pub releasesAt : Memory → ℕ → TenantReleases
+releasesAt m h = getD (m .releases) h (laidReleases [])
+
+abbrev pub putReleases : Memory → ℕ → TenantReleases → Memory
+putReleases m h q = record { releases = set (m .releases) h q }
+
+-- the identifier that was released
+abbrev pub releaseId : Release → List ℕ
+releaseId r = take (r .«id_len») (r .id)
+
 -- ---- the book: a value of definitions alone, whose parts code has one by one
 pub record Book : Type 0 where
   pub state : State
   pub table : LeaseTable
+  pub memory : Memory
   -- document 02, W-201: the names for the scopes, as the octets of the campus file's section
   pub names : List ℕ
 
--- the book with another state and lease table; its names, which no call changes, as they were. A further part of the book touches this line
-abbrev pub changedTo : Book → State → LeaseTable → Book
-changedTo b s t = record { state = s; table = t; names = b .names }
+-- the book with another state, lease table and memory; its names, which no call changes, as they were. A further part of the book touches this line
+abbrev pub changedTo : Book → State → LeaseTable → Memory → Book
+changedTo b s t m = record { state = s; table = t; memory = m; names = b .names }
 
 -- ---- identifiers, and the order of a tenant's records
 abbrev pub idOf : Lease → List ℕ
@@ -125,13 +155,17 @@ withClock s c = record { server = s .server; clock = c; «tenant_count» = s .«
 unfoldable pub raised : State → ℕ → State
 raised s time = withClock s (max (s .clock) time)
 
+-- the same where clock and settings stand in a ledger
+abbrev pub raisedIn : Ledger → ℕ → Ledger
+raisedIn g time = record { state = raised (g .state) time; memory = g .memory }
+
 -- the leases that are live at a clock
 unfoldable pub dropped : ℕ → LeaseTable → LeaseTable
 dropped clock t = tableOf (map (liveOf clock) (leasesOf t))
 
--- what every call but discards 1 and 2 does first: the clock is raised, and the ended leases are dropped
+-- what every call but discards 1 and 2 does first: the clock is raised, and the ended leases are dropped; what is remembered stays, however old
 unfoldable pub advanced : Book → ℕ → Book
-advanced b time = changedTo b (raised (b .state) time) (dropped (max (b .state .clock) time) (b .table))
+advanced b time = changedTo b (raised (b .state) time) (dropped (max (b .state .clock) time) (b .table)) (b .memory)
 
 -- ---- address sets
 unfoldable pub unionAll : List ℕ → ℕ

@@ -1,26 +1,39 @@
--- Definitions: what a call does to one tenant's leases, as a value, and the records afterwards.
-use Prim.Native.Nat.{ℕ}
-use mathlib.Core.Bool.{true, false}
+-- Definitions: what a call does to one tenant's leases and to what is remembered of it, as a value, and the book afterwards.
+use Prim.Native.Nat.{ℕ, _-_}
+use mathlib.Core.Bool.{true, false, not}
+use mathlib.Core.List.{List, [], _∷_, _++_}
+use lib.ListN.{drop, length}
 use Rattle.lists.specs.Pick.{pick}
+use Rattle.lists.specs.Filter.{filterBy}
+use Rattle.identifier.specs.Order.{sameOf}
 use Rattle.state.specs.declared.Lease.{Lease}
 use Rattle.state.specs.declared.TenantLeases.{TenantLeases}
 use Rattle.state.specs.declared.LeaseTable.{LeaseTable}
+use Rattle.state.specs.declared.Release.{Release}
+use Rattle.state.specs.declared.TenantReleases.{TenantReleases}
+use Rattle.state.specs.declared.Memory.{Memory}
 use Rattle.state.specs.declared.Edit.{Edit}
-use Rattle.state.specs.Book.{zeroLease, inUse, laidOut, tenantAt, putAt, idOf, insertedIn, removeOf}
+use Rattle.state.specs.Book.{Book, changedTo, zeroLease, zeroRelease, inUse, laidOut, tenantAt, putAt, idOf, insertedIn, removeOf, remembered, laidReleases, releasesAt, putReleases, releaseId}
 
 abbrev pub noEdit : Edit
-noEdit = record { leaves = false; old = zeroLease; enters = false; new = zeroLease }
+noEdit = record { leaves = false; old = zeroLease; enters = false; new = zeroLease; forgets = false; remembers = false; release = zeroRelease }
 
+-- "A new lease on the identifier forgets it" (document 02, W-202)
 abbrev pub entering : Lease → Edit
-entering l = record { leaves = false; old = zeroLease; enters = true; new = l }
+entering l = record { leaves = false; old = zeroLease; enters = true; new = l; forgets = true; remembers = false; release = zeroRelease }
 
-abbrev pub leaving : Lease → Edit
-leaving o = record { leaves = true; old = o; enters = false; new = zeroLease }
+-- the released identifier, "with transaction id and the clock at release"
+abbrev pub releaseOf : Lease → ℕ → ℕ → Release
+releaseOf o x c = record { «id_len» = o .«id_len»; id = o .id; xid = x; time = c }
 
--- o gives way to l
+abbrev pub leaving : Lease → ℕ → ℕ → Edit
+leaving o x c = record { leaves = true; old = o; enters = false; new = zeroLease; forgets = false; remembers = true; release = releaseOf o x c }
+
+-- o gives way to l, which is no new lease
 abbrev pub givingWay : Lease → Lease → Edit
-givingWay o l = record { leaves = true; old = o; enters = true; new = l }
+givingWay o l = record { leaves = true; old = o; enters = true; new = l; forgets = false; remembers = false; release = zeroRelease }
 
+-- ---- the leases
 -- a tenant's records: the lease with the old one's identifier leaves
 unfoldable pub leftIn : Edit → TenantLeases → TenantLeases
 leftIn e t = pick (e .leaves) (laidOut (removeOf (idOf (e .old)) (inUse t))) t
@@ -32,3 +45,26 @@ editedIn e t = pick (e .enters) (insertedIn (e .new) (leftIn e t)) (leftIn e t)
 -- the table, with the records of the tenant at place h edited: the only way in which a call changes a lease that is live
 unfoldable pub applied : Edit → ℕ → LeaseTable → LeaseTable
 applied e h b = putAt b h (editedIn e (tenantAt b h))
+
+-- ---- what is remembered
+-- the last four: "a fifth release forgets the oldest"
+unfoldable pub rememberOf : Release → List Release → List Release
+rememberOf r q = drop (length (q ++ r ∷ []) - 4) (q ++ r ∷ [])
+
+-- those of other identifiers
+unfoldable pub forgetOf : List ℕ → List Release → List Release
+forgetOf i q = filterBy (λ r. not (sameOf (releaseId r) i)) q
+
+-- what is remembered of one tenant; no edit does both
+unfoldable pub notedIn : Edit → TenantReleases → TenantReleases
+notedIn e q =
+    pick (e .remembers) (laidReleases (rememberOf (e .release) (remembered q)))
+    (pick (e .forgets) (laidReleases (forgetOf (idOf (e .new)) (remembered q))) q)
+
+-- the memory, with the entries of the tenant at place h so changed: the only way in which a call changes it
+unfoldable pub noted : Edit → ℕ → Memory → Memory
+noted e h m = putReleases m h (notedIn e (releasesAt m h))
+
+-- ---- the book
+abbrev pub editedBook : Edit → ℕ → Book → Book
+editedBook e h b = changedTo b (b .state) (applied e h (b .table)) (noted e h (b .memory))

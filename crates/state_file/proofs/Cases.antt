@@ -10,21 +10,27 @@ use Rattle.identifier.specs.Order.{orderOf, sameOf}
 use Rattle.lists.specs.All.{allBy, allTo, pairsBy}
 use Rattle.lists.specs.Filter.{filterBy, isIn}
 use Rattle.lists.specs.Pick.{pick}
+use Rattle.lists.specs.Row.{laidRow}
 use Rattle.lists.specs.Sums.{sumTo}
 use Rattle.octets.specs.Octets.{octets32}
 use Rattle.soundness.specs.Sound.{apart, belowB, blankB, brokenOf, compatible, countsB, disjoint, oneTo, firstBroken, firstRule, firstLate, tenantsB, idB, kindB, layoutB, leaseB, limitB, limitsB, committedB, noneB, offsetsB, paddedB, periodB, poolB, poolsApart, rangeB, rangeZero, rangesApart, recordsB, rule1, rule10, rule11, rule12, rule2, rule3, rule4, rule5, rule6, rule7, rule8, rule9, rulesOf, scopeZero, settingsB, reserveB, reservesB, sizeB, soundB, tailB, ttlB, unusedB, zeroFrom, rule19}
-use Rattle.state.specs.Book.{Book, byIdentifier, differ, addressesOf, laidOut, leaseWith, overlaps, tableOf, unionAll, zeroScope, committed}
+use Rattle.state.specs.Book.{Book, byIdentifier, differ, addressesOf, laidOut, laidReleases, leaseWith, overlaps, tableOf, unionAll, zeroRelease, zeroScope, committed}
 use Rattle.state.specs.declared.Lease.{Lease}
 use Rattle.state.specs.declared.LeaseTable.{LeaseTable}
+use Rattle.state.specs.declared.Memory.{Memory}
+use Rattle.state.specs.declared.Release.{Release}
 use Rattle.state.specs.declared.State.{State}
 use Rattle.state_file.specs.File.{File, fileOf, isAfter}
 use Rattle.format.specs.Place.{isWhole}
 use Rattle.format.specs.Section.{orderedFrom}
 use Rattle.names.specs.Names.{namesB, sizesOk}
-use Rattle.soundness.specs.Named.{bookB}
+use Rattle.release_file.specs.Section.{fewFor, filedMemory, filedRelease, keepableB, releasesFitB, storedMemory, storedRelease}
+use Rattle.format.specs.Tenants as entries
+use Rattle.releases.specs.Rules.{brokenMemory, brokenRelease, differs, fewB, filledB, firstRelease, houseB, laidB, lengthB, memoryB, notLeased, older, onceB, pastB, releaseRulesOf, rulesTo, unusedR}
+use Rattle.releases.specs.Whole.{bookB}
 use Rattle.format.specs.Format.{Got, bad, closed, got, readNumber, readOctet, readTimes, then, writeAll}
 use Rattle.state_file.specs.Records.{countsFit, fewOf, filled, fitsB, leasesFitB, storableB, stored, storedScope, storedState, storedTable, tenantsFrom, zeroRange, filedBook, filedFrom, filedLease, filedScope, pairUp}
-use Rattle.state_file.specs.StateFile.{accepted, loadedGot, judged, loaded, namesGot, namesOf, readFile, refused, octetsOf, roomAfter, writtenOf, zeroState, zeroTable}
+use Rattle.state_file.specs.StateFile.{accepted, loadedGot, judged, loaded, namesGot, namesOf, readFile, refused, octetsOf, roomAfter, writtenOf, zeroMemory, zeroState, zeroTable}
 
 -- ---- files
 -- 10.1.1.1, and the clock
@@ -52,19 +58,23 @@ pool size parts = 1 ∷ scope 4022337536 size 1 parts
 settings : List ℕ
 settings = server 1000 ++ tenants ++ pool 4 (2 ∷ 3 ∷ 1 ∷ 4 ∷ [])
 
--- names of k scopes and h tenants that are all missing, and those for the settings
+-- names of k scopes and h tenants that are all missing
 unnamed : ℕ → ℕ → List ℕ
 unnamed k h = k ∷ replicate (k * (h + 1)) 0
 
+-- what follows the leases where there are no names and no releases
+bare : ℕ → ℕ → List ℕ
+bare k h = unnamed k h ++ 0 ∷ []
+
 none : List ℕ
-none = unnamed 1 2
+none = bare 1 2
 
 name : ℕ → List ℕ → List ℕ → List ℕ
 name flags tag text = flags ∷ length tag ∷ tag ++ length text ∷ text
 
--- the settings with a campus list of names, no lease and no tenant's own names
+-- the settings with a campus list of names, no lease, no tenant's own names and no release
 named : List ℕ → List ℕ
-named campus = settings ++ 0 ∷ 1 ∷ campus ++ 0 ∷ 0 ∷ []
+named campus = settings ++ 0 ∷ 1 ∷ campus ++ 0 ∷ 0 ∷ 0 ∷ []
 
 en : List ℕ
 en = 101 ∷ 110 ∷ []
@@ -83,6 +93,13 @@ b = 0 ∷ 66 ∷ []
 ab : List ℕ
 ab = 0 ∷ 65 ∷ 0 ∷ []
 
+release : ℕ → List ℕ → ℕ → ℕ → List ℕ
+release tenant id xid time = tenant ∷ length id ∷ id ++ octets32 xid ++ octets32 time
+
+-- the settings with these releases, so many by their count, no lease and no names
+remembering : ℕ → List ℕ → List ℕ
+remembering n entries = settings ++ 0 ∷ unnamed 1 2 ++ n ∷ entries
+
 -- the same n times
 again : ℕ → List ℕ → List ℕ
 again zero l = []
@@ -93,11 +110,20 @@ row : ℕ → ℕ → List ℕ
 row zero k = []
 row (suc n) k = lease 1 1 (0 ∷ k ∷ []) 4 (1000 + k) (1001 + k) (0 ∷ []) ++ row n (suc k)
 
--- 32,547 octets and those of one more identifier
+-- 32,548 octets and those of one more identifier
 long : ℕ → List ℕ
 long n = settings ++ 120 ∷ plain 1 (replicate n 7) (0 ∷ []) ++ again 119 (plain 1 (replicate 255 7) (0 ∷ [])) ++ none
 
--- ---- the largest sound file: eight tenants, four scopes of 64, each half of one with sixteen leases on it, and nine lists of four names a scope
+-- four releases of a tenant, with identifiers of 32 octets
+four-released : ℕ → ℕ → List ℕ
+four-released t time = go 4
+  where
+    go : ℕ → List ℕ
+    go zero = []
+    go (suc n) = release t (replicate 31 8 ++ n ∷ []) n time ++ go n
+
+-- ---- the largest sound file: eight tenants, four scopes of 64, each half of one with sixteen leases on it, nine lists of four names a scope, and four
+-- releases of each tenant
 eight : ℕ → ℕ → List ℕ
 eight zero k = []
 eight (suc n) k = range (k * 256) (k * 256 + 255) ++ eight n (suc k)
@@ -120,6 +146,7 @@ largest =
     sixteen 1 1 (upFrom 32 0) 16 ++ sixteen 2 1 (upFrom 32 32) 16 ++ sixteen 3 2 (upFrom 32 0) 16 ++ sixteen 4 2 (upFrom 32 32) 16
     ++ sixteen 5 3 (upFrom 32 0) 16 ++ sixteen 6 3 (upFrom 32 32) 16 ++ sixteen 7 4 (upFrom 32 0) 16 ++ sixteen 8 4 (upFrom 32 32) 16
     ++ 4 ∷ again 36 (4 ∷ again 4 (name 128 (replicate 8 97) (replicate 32 98)))
+    ++ 32 ∷ four-released 1 0 ++ four-released 2 0 ++ four-released 3 0 ++ four-released 4 0 ++ four-released 5 0 ++ four-released 6 0 ++ four-released 7 0 ++ four-released 8 0
 
 -- ---- the table
 record Case : Type 0 where
@@ -128,8 +155,11 @@ record Case : Type 0 where
   rule : ℕ
 
 -- the first rule of soundness that a file breaks, by number; 0 where there is none, where it has no form, or where the records cannot hold it
+broken : State → LeaseTable → Memory → ℕ
+broken s t m = pick (eqb (brokenOf s t) 0) (brokenMemory s t m) (brokenOf s t)
+
 ruleOf : Got File → ℕ
-ruleOf (got f r) = pick (fitsB f) (brokenOf (storedState f) (storedTable f)) 0
+ruleOf (got f r) = pick (fitsB f) (broken (storedState f) (storedTable f) (storedMemory (f .releases))) 0
 ruleOf bad = 0
 
 allHold : List Case → Bool
@@ -141,7 +171,7 @@ sound : List Case
 sound =
     -- no lease; the smallest of all; touching periods; sixteen leases; a prefix before what it begins; then a pool that ends at 239.255.255.255
     record { octets = settings ++ 0 ∷ none; answer = 0; rule = 0 }
-    ∷ record { octets = server 4294967295 ++ 1 ∷ range 5 5 ++ 1 ∷ scope 3758096384 1 1 (0 ∷ 0 ∷ []) ++ 0 ∷ unnamed 1 1; answer = 0; rule = 0 }
+    ∷ record { octets = server 4294967295 ++ 1 ∷ range 5 5 ++ 1 ∷ scope 3758096384 1 1 (0 ∷ 0 ∷ []) ++ 0 ∷ bare 1 1; answer = 0; rule = 0 }
     ∷ record { octets = settings ++ 2 ∷ lease 1 1 a 3 1000 2000 (2 ∷ 3 ∷ []) ++ lease 1 1 b 4 2000 3000 (2 ∷ 3 ∷ []) ++ none; answer = 0; rule = 0 }
     ∷ record { octets = settings ++ 16 ∷ row 16 0 ++ none; answer = 0; rule = 0 }
     ∷ record { octets = settings ++ 2 ∷ plain 1 a (0 ∷ []) ++ plain 1 ab (1 ∷ []) ++ none; answer = 0; rule = 0 }
@@ -152,6 +182,11 @@ sound =
     -- names: four in a list, with a tag of 8 and a text of 32 octets, and two alike; of one octet each
     ∷ record { octets = named (4 ∷ name 128 (replicate 8 97) (replicate 32 98) ++ again 3 (name 128 en en)); answer = 0; rule = 0 }
     ∷ record { octets = named (1 ∷ name 0 (0 ∷ []) (255 ∷ [])); answer = 0; rule = 0 }
+    -- releases: at clock 0 and at the clock, with equal times, a transaction id twice, times that fall from tenant to tenant and an identifier of both
+    ∷ record { octets = remembering 4 (release 1 a 5 0 ++ release 1 b 5 1000 ++ release 1 ab 6 1000 ++ release 2 a 5 999); answer = 0; rule = 0 }
+    -- four of one tenant, with an identifier of 32 octets; one that another tenant has on a lease
+    ∷ record { octets = remembering 4 (four-released 1 900); answer = 0; rule = 0 }
+    ∷ record { octets = settings ++ 1 ∷ plain 1 a (0 ∷ []) ++ unnamed 1 2 ++ 1 ∷ release 2 a 5 1000; answer = 0; rule = 0 }
     ∷ []
 
 -- wrong form
@@ -186,9 +221,9 @@ form =
     ∷ record { octets = settings ++ 0 ∷ []; answer = 20; rule = 0 }
     ∷ record { octets = settings ++ 0 ∷ 1 ∷ 1 ∷ 0 ∷ 2 ∷ 101 ∷ 110 ∷ 5 ∷ 97 ∷ []; answer = 20; rule = 0 }
     ∷ record { octets = settings ++ 0 ∷ 1 ∷ 0 ∷ 0 ∷ []; answer = 20; rule = 0 }
-    ∷ record { octets = settings ++ 0 ∷ unnamed 0 2; answer = 20; rule = 0 }
-    ∷ record { octets = settings ++ 0 ∷ unnamed 2 2; answer = 20; rule = 0 }
-    ∷ record { octets = settings ++ 0 ∷ 2 ∷ 0 ∷ 0 ∷ 0 ∷ []; answer = 20; rule = 0 }
+    ∷ record { octets = settings ++ 0 ∷ bare 0 2; answer = 20; rule = 0 }
+    ∷ record { octets = settings ++ 0 ∷ bare 2 2; answer = 20; rule = 0 }
+    ∷ record { octets = settings ++ 0 ∷ 2 ∷ 0 ∷ 0 ∷ 0 ∷ 0 ∷ []; answer = 20; rule = 0 }
     -- flags 1, a tag of no octet and of 9, a text of none and of 33, five names in a list
     ∷ record { octets = named (1 ∷ name 1 en en); answer = 20; rule = 0 }
     ∷ record { octets = named (1 ∷ name 0 [] en); answer = 20; rule = 0 }
@@ -197,21 +232,41 @@ form =
     ∷ record { octets = named (1 ∷ name 0 en (replicate 33 97)); answer = 20; rule = 0 }
     ∷ record { octets = named (5 ∷ again 5 (name 0 en en)); answer = 20; rule = 0 }
     -- a bad name comes before an unsound lease; nine tenants have ten lists, and nine are too few
-    ∷ record { octets = settings ++ 1 ∷ plain 3 a (0 ∷ []) ++ 1 ∷ 1 ∷ name 1 en en ++ 0 ∷ 0 ∷ []; answer = 20; rule = 0 }
-    ∷ record { octets = server 1000 ++ 9 ∷ eight 9 1 ++ pool 4 (again 9 (0 ∷ 0 ∷ [])) ++ 0 ∷ unnamed 1 8; answer = 20; rule = 0 }
+    ∷ record { octets = settings ++ 1 ∷ plain 3 a (0 ∷ []) ++ 1 ∷ 1 ∷ name 1 en en ++ 0 ∷ 0 ∷ 0 ∷ []; answer = 20; rule = 0 }
+    ∷ record { octets = server 1000 ++ 9 ∷ eight 9 1 ++ pool 4 (again 9 (0 ∷ 0 ∷ [])) ++ 0 ∷ bare 1 8; answer = 20; rule = 0 }
+    -- the releases are missing, and cut off: in front of an entry and in each of its parts
+    ∷ record { octets = settings ++ 0 ∷ unnamed 1 2; answer = 20; rule = 0 }
+    ∷ record { octets = remembering 1 []; answer = 20; rule = 0 }
+    ∷ record { octets = remembering 1 (1 ∷ []); answer = 20; rule = 0 }
+    ∷ record { octets = remembering 1 (1 ∷ 3 ∷ a); answer = 20; rule = 0 }
+    ∷ record { octets = remembering 1 (1 ∷ 2 ∷ a ++ 1 ∷ 2 ∷ 3 ∷ []); answer = 20; rule = 0 }
+    ∷ record { octets = remembering 1 (1 ∷ 2 ∷ a ++ octets32 5 ++ 0 ∷ 0 ∷ 0 ∷ []); answer = 20; rule = 0 }
+    ∷ record { octets = remembering 2 (release 1 a 5 900); answer = 20; rule = 0 }
+    -- octets left over
+    ∷ record { octets = remembering 0 (release 1 a 5 900); answer = 20; rule = 0 }
+    ∷ record { octets = remembering 1 (release 1 a 5 900 ++ 0 ∷ []); answer = 20; rule = 0 }
+    -- tenants that fall, times that fall in a tenant, and both of tenants that are not there
+    ∷ record { octets = remembering 2 (release 2 a 5 900 ++ release 1 b 5 900); answer = 20; rule = 0 }
+    ∷ record { octets = remembering 2 (release 1 a 5 900 ++ release 1 b 5 899); answer = 20; rule = 0 }
+    ∷ record { octets = remembering 3 (release 1 a 5 900 ++ release 1 b 5 900 ++ release 1 ab 5 0); answer = 20; rule = 0 }
+    ∷ record { octets = remembering 2 (release 200 a 5 900 ++ release 0 b 5 900); answer = 20; rule = 0 }
+    ∷ record { octets = remembering 2 (release 200 a 5 900 ++ release 200 b 5 899); answer = 20; rule = 0 }
+    -- releases in a wrong order come before an unsound lease, and a bad name before an unsound release
+    ∷ record { octets = settings ++ 1 ∷ plain 3 a (0 ∷ []) ++ unnamed 1 2 ++ 2 ∷ release 1 a 5 900 ++ release 1 b 5 899; answer = 20; rule = 0 }
+    ∷ record { octets = settings ++ 0 ∷ 1 ∷ 1 ∷ name 1 en en ++ 0 ∷ 0 ∷ 1 ∷ release 3 a 5 900; answer = 20; rule = 0 }
     -- 32,769 octets, and 32,768
-    ∷ record { octets = long 222; answer = 20; rule = 0 }
-    ∷ record { octets = long 221; answer = 21; rule = 0 }
+    ∷ record { octets = long 221; answer = 20; rule = 0 }
+    ∷ record { octets = long 220; answer = 21; rule = 0 }
     ∷ []
 
--- unsound, by the rules of document 01
+-- unsound, by the rules of document 01 and those of document 02 on releases
 unsound : List Case
 unsound =
     -- 1. no tenant, nine, no scope, five, sizes 0 and 65, identifiers of no octet, of 1 and of 33, 17 leases, 129 of them
-    record { octets = server 1000 ++ 0 ∷ pool 4 [] ++ 0 ∷ unnamed 1 0; answer = 21; rule = 1 }
-    ∷ record { octets = server 1000 ++ 9 ∷ eight 9 1 ++ pool 4 (again 9 (0 ∷ 0 ∷ [])) ++ 0 ∷ unnamed 1 9; answer = 21; rule = 0 }
-    ∷ record { octets = server 1000 ++ tenants ++ 0 ∷ 0 ∷ unnamed 0 2; answer = 21; rule = 1 }
-    ∷ record { octets = server 1000 ++ 8 ∷ eight 8 1 ++ 5 ∷ four 5 0 ++ 0 ∷ unnamed 5 8; answer = 21; rule = 0 }
+    record { octets = server 1000 ++ 0 ∷ pool 4 [] ++ 0 ∷ bare 1 0; answer = 21; rule = 1 }
+    ∷ record { octets = server 1000 ++ 9 ∷ eight 9 1 ++ pool 4 (again 9 (0 ∷ 0 ∷ [])) ++ 0 ∷ bare 1 9; answer = 21; rule = 0 }
+    ∷ record { octets = server 1000 ++ tenants ++ 0 ∷ 0 ∷ bare 0 2; answer = 21; rule = 1 }
+    ∷ record { octets = server 1000 ++ 8 ∷ eight 8 1 ++ 5 ∷ four 5 0 ++ 0 ∷ bare 5 8; answer = 21; rule = 0 }
     ∷ record { octets = server 1000 ++ tenants ++ pool 0 (0 ∷ 0 ∷ 0 ∷ 0 ∷ []) ++ 0 ∷ none; answer = 21; rule = 1 }
     ∷ record { octets = server 1000 ++ tenants ++ pool 65 (0 ∷ 0 ∷ 0 ∷ 0 ∷ []) ++ 0 ∷ none; answer = 21; rule = 1 }
     ∷ record { octets = settings ++ 1 ∷ plain 1 [] (0 ∷ []) ++ none; answer = 21; rule = 1 }
@@ -229,7 +284,7 @@ unsound =
     -- 4. a pool before 224.0.0.0, one past 239.255.255.255, two that meet
     ∷ record { octets = server 1000 ++ tenants ++ 1 ∷ scope 3758096383 4 1 (2 ∷ 3 ∷ 1 ∷ 4 ∷ []) ++ 0 ∷ none; answer = 21; rule = 4 }
     ∷ record { octets = server 1000 ++ tenants ++ 1 ∷ scope 4026531837 4 1 (2 ∷ 3 ∷ 1 ∷ 4 ∷ []) ++ 0 ∷ none; answer = 21; rule = 4 }
-    ∷ record { octets = server 1000 ++ tenants ++ 2 ∷ scope 4022337536 4 1 (2 ∷ 3 ∷ 1 ∷ 4 ∷ []) ++ scope 4022337539 4 1 (2 ∷ 3 ∷ 1 ∷ 4 ∷ []) ++ 0 ∷ unnamed 2 2; answer = 21; rule = 4 }
+    ∷ record { octets = server 1000 ++ tenants ++ 2 ∷ scope 4022337536 4 1 (2 ∷ 3 ∷ 1 ∷ 4 ∷ []) ++ scope 4022337539 4 1 (2 ∷ 3 ∷ 1 ∷ 4 ∷ []) ++ 0 ∷ bare 2 2; answer = 21; rule = 4 }
     -- 5. TTL 0
     ∷ record { octets = server 1000 ++ tenants ++ 1 ∷ scope 4022337536 4 0 (2 ∷ 3 ∷ 1 ∷ 4 ∷ []) ++ 0 ∷ none; answer = 21; rule = 5 }
     -- 6. a reserve above its limit, a limit above the size, the reserves together above it
@@ -258,10 +313,34 @@ unsound =
     ∷ record { octets = server 1000 ++ tenants ++ pool 4 (0 ∷ 1 ∷ 0 ∷ 4 ∷ []) ++ 1 ∷ plain 1 a (0 ∷ 1 ∷ []) ++ none; answer = 21; rule = 11 }
     -- 12. more than the size with what is reserved
     ∷ record { octets = settings ++ 1 ∷ plain 2 a (0 ∷ 1 ∷ 2 ∷ []) ++ none; answer = 21; rule = 12 }
+    -- document 02, W-202: 14. an unknown tenant
+    ∷ record { octets = remembering 1 (release 0 a 5 900); answer = 21; rule = 0 }
+    ∷ record { octets = remembering 1 (release 3 a 5 900); answer = 21; rule = 14 }
+    ∷ record { octets = remembering 1 (release 9 a 5 900); answer = 21; rule = 0 }
+    ∷ record { octets = remembering 1 (release 200 a 5 900); answer = 21; rule = 0 }
+    -- 15. more than four for one, and as many as can be counted
+    ∷ record { octets = remembering 5 (release 1 a 5 900 ++ four-released 1 900); answer = 21; rule = 0 }
+    ∷ record { octets = remembering 255 (again 255 (release 1 a 5 900)); answer = 21; rule = 0 }
+    -- 16. an identifier of no octet, of 1, of 33 and of 255
+    ∷ record { octets = remembering 1 (release 1 [] 5 900); answer = 21; rule = 16 }
+    ∷ record { octets = remembering 1 (release 1 (7 ∷ []) 5 900); answer = 21; rule = 16 }
+    ∷ record { octets = remembering 1 (release 1 (replicate 33 7) 5 900); answer = 21; rule = 0 }
+    ∷ record { octets = remembering 1 (release 1 (replicate 255 7) 5 900); answer = 21; rule = 0 }
+    -- 17. an identifier twice, with one transaction id, with two, with another between them, and on a lease
+    ∷ record { octets = remembering 2 (release 1 a 5 900 ++ release 1 a 5 900); answer = 21; rule = 17 }
+    ∷ record { octets = remembering 2 (release 2 a 5 900 ++ release 2 a 6 901); answer = 21; rule = 17 }
+    ∷ record { octets = remembering 3 (release 1 a 5 900 ++ release 1 b 6 900 ++ release 1 a 7 900); answer = 21; rule = 17 }
+    ∷ record { octets = settings ++ 1 ∷ plain 2 a (0 ∷ []) ++ unnamed 1 2 ++ 1 ∷ release 2 a 5 900; answer = 21; rule = 17 }
+    -- 18. a time after the clock
+    ∷ record { octets = remembering 1 (release 1 a 5 1001); answer = 21; rule = 18 }
+    ∷ record { octets = remembering 1 (release 1 a 5 4294967295); answer = 21; rule = 18 }
+    -- of two the first; a lease's before a release's
+    ∷ record { octets = remembering 1 (release 3 [] 5 1001); answer = 21; rule = 14 }
+    ∷ record { octets = settings ++ 1 ∷ lease 1 1 a 3 900 1000 (0 ∷ []) ++ unnamed 1 2 ++ 1 ∷ release 3 a 5 900; answer = 21; rule = 7 }
     ∷ []
 
 answers : allHold (sound ++ form ++ unsound) ≡ true
-unfolding allHold ruleOf long largest sound form unsound server range scope lease tenants pool settings unnamed none name named en plain a b ab again row eight four upFrom sixteen pick allBy pairsBy allTo filterBy isIn sumTo bit offsetsFrom setOf readOffsets risesFrom orderOf sameOf laidOut tableOf byIdentifier unionAll addressesOf overlaps oneTo sizeB idB recordsB countsB rule1 belowB offsetsB rule2 rangeB rangesApart rule3 poolB poolsApart rule4 ttlB rule5 reserveB reservesB rule6 kindB periodB leaseB noneB tenantsB rule7 differ rule8 disjoint apart rule9 compatible rule10 limitB limitsB rule11 committed committedB rule12 zeroFrom paddedB blankB unusedB layoutB rangeZero tailB scopeZero settingsB rulesOf firstLate firstRule firstBroken brokenOf soundB then closed readOctet readNumber readTimes isAfter orderedFrom fileOf filled stored tenantsFrom storedScope storedState storedTable storableB fewOf leasesFitB countsFit fitsB refused accepted judged loaded loadedGot readFile rule19 sizesOk
+unfolding allHold ruleOf long largest sound form unsound server range scope lease tenants pool settings unnamed none name named en plain a b ab again row eight four upFrom sixteen pick allBy pairsBy allTo filterBy isIn sumTo bit offsetsFrom setOf readOffsets risesFrom orderOf sameOf laidOut tableOf byIdentifier unionAll addressesOf overlaps oneTo sizeB idB recordsB countsB rule1 belowB offsetsB rule2 rangeB rangesApart rule3 poolB poolsApart rule4 ttlB rule5 reserveB reservesB rule6 kindB periodB leaseB noneB tenantsB rule7 differ rule8 disjoint apart rule9 compatible rule10 limitB limitsB rule11 committed committedB rule12 zeroFrom paddedB blankB unusedB layoutB rangeZero tailB scopeZero settingsB rulesOf firstLate firstRule firstBroken brokenOf soundB then closed readOctet readNumber readTimes isAfter orderedFrom fileOf filled stored tenantsFrom storedScope storedState storedTable storableB fewOf leasesFitB countsFit fitsB refused accepted judged loaded loadedGot readFile rule19 sizesOk broken bare release remembering four-released brokenMemory brokenRelease firstRelease releaseRulesOf rulesTo houseB fewB lengthB differs notLeased onceB pastB older filledB unusedR laidB memoryB laidReleases storedRelease storedMemory entries.apart keepableB fewFor releasesFitB
 answers = refl
 
 -- ---- the book that a file gives, and what the writer answers to it
@@ -269,9 +348,9 @@ answers = refl
 specimenNames : List ℕ
 specimenNames = 1 ∷ 1 ∷ name 128 en (83 ∷ 116 ∷ 117 ∷ 100 ∷ 105 ∷ 111 ∷ []) ++ 1 ∷ name 0 (100 ∷ 101 ∷ []) (83 ∷ 101 ∷ 110 ∷ []) ++ 0 ∷ []
 
--- the specimen after P3: tenant 2 has .0 and .1 until 4600, tenant 1 has .2 and .3 until 2000
+-- the specimen after P3: tenant 2 has .0 and .1 until 4600, tenant 1 has .2 and .3 until 2000; and a release of each is remembered
 specimen : List ℕ
-specimen = settings ++ 2 ∷ lease 1 1 b 3 1000 2000 (2 ∷ 3 ∷ []) ++ plain 2 a (0 ∷ 1 ∷ []) ++ specimenNames
+specimen = settings ++ 2 ∷ lease 1 1 b 3 1000 2000 (2 ∷ 3 ∷ []) ++ plain 2 a (0 ∷ 1 ∷ []) ++ specimenNames ++ 2 ∷ release 1 a 5 900 ++ release 2 b 6 800
 
 specimenState : State
 specimenState = record {
@@ -289,30 +368,66 @@ specimenLease id end addresses = leaseWith 1 2 (id ++ replicate 30 0) 3 16909060
 specimenTable : LeaseTable
 specimenTable = tableOf ((specimenLease b 2000 12 ∷ []) ∷ (specimenLease a 4600 3 ∷ []) ∷ replicate 6 [])
 
-read-specimen : (readFile specimen ≡ accepted specimenState specimenTable) × (namesOf specimen ≡ specimenNames) × (namesOf (specimen ++ 0 ∷ []) ≡ [])
-unfolding specimen specimenNames specimenState specimenLease specimenTable server range scope lease tenants pool settings unnamed name en plain a b pick allBy pairsBy allTo filterBy isIn sumTo bit offsetsFrom setOf readOffsets risesFrom orderOf sameOf laidOut tableOf byIdentifier unionAll addressesOf overlaps oneTo sizeB idB recordsB countsB rule1 belowB offsetsB rule2 rangeB rangesApart rule3 poolB poolsApart rule4 ttlB rule5 reserveB reservesB rule6 kindB periodB leaseB noneB tenantsB rule7 differ rule8 disjoint apart rule9 compatible rule10 limitB limitsB rule11 committedB rule12 zeroFrom paddedB blankB unusedB layoutB rangeZero tailB scopeZero settingsB rule19 rulesOf firstLate firstRule firstBroken brokenOf soundB then closed readOctet readNumber readTimes isAfter orderedFrom fileOf filled stored tenantsFrom storedScope storedState storedTable storableB fewOf leasesFitB countsFit fitsB refused accepted judged loaded loadedGot readFile committed namesOf namesGot sizesOk
+-- with the first two octets as its identifier
+specimenRelease : List ℕ → ℕ → ℕ → Release
+specimenRelease id xid time = record { «id_len» = 2; id = laidRow 0 32 id; xid = xid; time = time }
+
+-- the memory with these of tenant 1
+memoryWith : List Release → Memory
+memoryWith l = record { releases = laidReleases l ∷ laidReleases (specimenRelease b 6 800 ∷ []) ∷ replicate 6 (laidReleases []) }
+
+specimenMemory : Memory
+specimenMemory = memoryWith (specimenRelease a 5 900 ∷ [])
+
+read-specimen : (readFile specimen ≡ accepted specimenState specimenTable specimenMemory) × (namesOf specimen ≡ specimenNames) × (namesOf (specimen ++ 0 ∷ []) ≡ [])
+unfolding specimen specimenNames specimenState specimenLease specimenTable server range scope lease tenants pool settings unnamed name en plain a b pick allBy pairsBy allTo filterBy isIn sumTo bit offsetsFrom setOf readOffsets risesFrom orderOf sameOf laidOut tableOf byIdentifier unionAll addressesOf overlaps oneTo sizeB idB recordsB countsB rule1 belowB offsetsB rule2 rangeB rangesApart rule3 poolB poolsApart rule4 ttlB rule5 reserveB reservesB rule6 kindB periodB leaseB noneB tenantsB rule7 differ rule8 disjoint apart rule9 compatible rule10 limitB limitsB rule11 committedB rule12 zeroFrom paddedB blankB unusedB layoutB rangeZero tailB scopeZero settingsB rule19 rulesOf firstLate firstRule firstBroken brokenOf soundB then closed readOctet readNumber readTimes isAfter orderedFrom fileOf filled stored tenantsFrom storedScope storedState storedTable storableB fewOf leasesFitB countsFit fitsB refused accepted judged loaded loadedGot readFile committed namesOf namesGot sizesOk bare release specimenRelease memoryWith specimenMemory brokenMemory brokenRelease firstRelease releaseRulesOf rulesTo houseB fewB lengthB differs notLeased onceB pastB older filledB unusedR laidB memoryB laidReleases storedRelease storedMemory entries.apart keepableB fewFor releasesFitB
 read-specimen = (refl, refl, refl)
 
--- the book with these names, or others
+-- the book with these names, or others; and with another memory
 bookWith : List ℕ → Book
-bookWith names = record { state = specimenState; table = specimenTable; names = names }
+bookWith names = record { state = specimenState; table = specimenTable; memory = specimenMemory; names = names }
+
+bookOf : Memory → Book
+bookOf memory = record { state = specimenState; table = specimenTable; memory = memory; names = specimenNames }
 
 zeroBook : Book
-zeroBook = record { state = zeroState; table = zeroTable; names = 0 ∷ [] }
+zeroBook = record { state = zeroState; table = zeroTable; memory = zeroMemory; names = 0 ∷ [] }
+
+-- tenant 1's entries, so many in use
+countedAs : ℕ → List Release → Memory
+countedAs n l = record { releases = record { releases = l; count = n } ∷ replicate 7 (laidReleases []) }
 
 -- an exact room suffices, one octet less does not, and an unsound book and bad names come before too little room
 write-specimen : (octetsOf (bookWith specimenNames) ≡ specimen)
-    × (writtenOf (bookWith specimenNames) 103 ≡ record { refusal = 0; length = 103 })
-    × (writtenOf (bookWith specimenNames) 102 ≡ record { refusal = 23; length = 0 })
+    × (writtenOf (bookWith specimenNames) 128 ≡ record { refusal = 0; length = 128 })
+    × (writtenOf (bookWith specimenNames) 127 ≡ record { refusal = 23; length = 0 })
     × (writtenOf zeroBook 0 ≡ record { refusal = 22; length = 0 })
-    × (roomAfter (bookWith specimenNames) (replicate 105 9) ≡ specimen ++ 9 ∷ 9 ∷ [])
-    × (roomAfter (bookWith specimenNames) (replicate 102 9) ≡ replicate 102 9)
+    × (roomAfter (bookWith specimenNames) (replicate 130 9) ≡ specimen ++ 9 ∷ 9 ∷ [])
+    × (roomAfter (bookWith specimenNames) (replicate 127 9) ≡ replicate 127 9)
     × (roomAfter zeroBook (9 ∷ []) ≡ 9 ∷ [])
     -- none at all, an octet more, no count of the scopes, flags 1
-    × (writtenOf (bookWith []) 103 ≡ record { refusal = 22; length = 0 })
+    × (writtenOf (bookWith []) 128 ≡ record { refusal = 22; length = 0 })
     × (writtenOf (bookWith (specimenNames ++ 0 ∷ [])) 0 ≡ record { refusal = 22; length = 0 })
-    × (writtenOf (bookWith (unnamed 2 2)) 103 ≡ record { refusal = 22; length = 0 })
-    × (writtenOf (bookWith (1 ∷ 1 ∷ name 1 en en ++ 0 ∷ 0 ∷ [])) 103 ≡ record { refusal = 22; length = 0 })
-    × (roomAfter (bookWith []) (replicate 105 9) ≡ replicate 105 9)
-unfolding specimen specimenNames specimenState specimenLease specimenTable server range scope lease tenants pool settings unnamed name en plain a b pick allBy pairsBy allTo filterBy isIn sumTo bit offsetsFrom setOf readOffsets risesFrom orderOf sameOf laidOut tableOf byIdentifier unionAll addressesOf overlaps oneTo sizeB idB recordsB countsB rule1 belowB offsetsB rule2 rangeB rangesApart rule3 poolB poolsApart rule4 ttlB rule5 reserveB reservesB rule6 kindB periodB leaseB noneB tenantsB rule7 differ rule8 disjoint apart rule9 compatible rule10 limitB limitsB rule11 committedB rule12 zeroFrom paddedB blankB unusedB layoutB rangeZero tailB scopeZero settingsB rule19 rulesOf firstLate firstRule firstBroken brokenOf soundB then closed readOctet readNumber readTimes isAfter orderedFrom fileOf filled stored tenantsFrom storedScope storedState storedTable storableB fewOf leasesFitB countsFit fitsB refused accepted judged loaded loadedGot readFile zeroTable octetsOf writtenOf roomAfter filedBook filedFrom filedScope pairUp filedLease writeAll committed bookWith zeroBook bookB namesB isWhole sizesOk
+    × (writtenOf (bookWith (unnamed 2 2)) 128 ≡ record { refusal = 22; length = 0 })
+    × (writtenOf (bookWith (1 ∷ 1 ∷ name 1 en en ++ 0 ∷ 0 ∷ [])) 128 ≡ record { refusal = 22; length = 0 })
+    × (roomAfter (bookWith []) (replicate 130 9) ≡ replicate 130 9)
+unfolding specimen specimenNames specimenState specimenLease specimenTable server range scope lease tenants pool settings unnamed name en plain a b pick allBy pairsBy allTo filterBy isIn sumTo bit offsetsFrom setOf readOffsets risesFrom orderOf sameOf laidOut tableOf byIdentifier unionAll addressesOf overlaps oneTo sizeB idB recordsB countsB rule1 belowB offsetsB rule2 rangeB rangesApart rule3 poolB poolsApart rule4 ttlB rule5 reserveB reservesB rule6 kindB periodB leaseB noneB tenantsB rule7 differ rule8 disjoint apart rule9 compatible rule10 limitB limitsB rule11 committedB rule12 zeroFrom paddedB blankB unusedB layoutB rangeZero tailB scopeZero settingsB rule19 rulesOf firstLate firstRule firstBroken brokenOf soundB then closed readOctet readNumber readTimes isAfter orderedFrom fileOf filled stored tenantsFrom storedScope storedState storedTable storableB fewOf leasesFitB countsFit fitsB refused accepted judged loaded loadedGot readFile zeroTable octetsOf writtenOf roomAfter filedBook filedFrom filedScope pairUp filedLease writeAll committed bookWith zeroBook bookB namesB isWhole sizesOk bare release specimenRelease memoryWith specimenMemory brokenMemory brokenRelease firstRelease releaseRulesOf rulesTo houseB fewB lengthB differs notLeased onceB pastB older filledB unusedR laidB memoryB laidReleases storedRelease storedMemory entries.apart keepableB fewFor releasesFitB entries.filedAll filedRelease filedMemory
 write-specimen = (refl, refl, refl, refl, refl, refl, refl, refl, refl, refl, refl, refl)
+
+c : List ℕ
+c = 0 ∷ 67 ∷ []
+
+-- releases that are lent: none of tenant 1 and two of one time are written; a time after the clock, times that fall, an identifier on a lease, an octet past
+-- an identifier, an entry in use of which nothing is set, an unused one that is not zero, and five of four are 22
+lent-releases : (writtenOf (bookOf (memoryWith [])) 116 ≡ record { refusal = 0; length = 116 })
+    × (writtenOf (bookOf (memoryWith (specimenRelease a 5 900 ∷ specimenRelease c 5 900 ∷ []))) 140 ≡ record { refusal = 0; length = 140 })
+    × (writtenOf (bookOf (memoryWith (specimenRelease a 5 1001 ∷ []))) 0 ≡ record { refusal = 22; length = 0 })
+    × (writtenOf (bookOf (memoryWith (specimenRelease a 5 900 ∷ specimenRelease c 5 899 ∷ []))) 140 ≡ record { refusal = 22; length = 0 })
+    × (writtenOf (bookOf (memoryWith (specimenRelease b 5 900 ∷ []))) 128 ≡ record { refusal = 22; length = 0 })
+    × (writtenOf (bookOf (memoryWith (specimenRelease (0 ∷ 65 ∷ 1 ∷ []) 5 900 ∷ []))) 128 ≡ record { refusal = 22; length = 0 })
+    × (writtenOf (bookOf (countedAs 1 (replicate 4 zeroRelease))) 128 ≡ record { refusal = 22; length = 0 })
+    × (writtenOf (bookOf (countedAs 0 (specimenRelease a 5 900 ∷ replicate 3 zeroRelease))) 128 ≡ record { refusal = 22; length = 0 })
+    × (writtenOf (bookOf (countedAs 5 (replicate 4 zeroRelease))) 128 ≡ record { refusal = 22; length = 0 })
+    × (roomAfter (bookOf (countedAs 5 (replicate 4 zeroRelease))) (replicate 130 9) ≡ replicate 130 9)
+unfolding c specimen specimenNames specimenState specimenLease specimenTable server range scope lease tenants pool settings unnamed name en plain a b pick allBy pairsBy allTo filterBy isIn sumTo bit offsetsFrom setOf readOffsets risesFrom orderOf sameOf laidOut tableOf byIdentifier unionAll addressesOf overlaps oneTo sizeB idB recordsB countsB rule1 belowB offsetsB rule2 rangeB rangesApart rule3 poolB poolsApart rule4 ttlB rule5 reserveB reservesB rule6 kindB periodB leaseB noneB tenantsB rule7 differ rule8 disjoint apart rule9 compatible rule10 limitB limitsB rule11 committedB rule12 zeroFrom paddedB blankB unusedB layoutB rangeZero tailB scopeZero settingsB rule19 rulesOf firstLate firstRule firstBroken brokenOf soundB then closed readOctet readNumber readTimes isAfter orderedFrom fileOf filled stored tenantsFrom storedScope storedState storedTable storableB fewOf leasesFitB countsFit fitsB refused accepted judged loaded loadedGot readFile zeroTable octetsOf writtenOf roomAfter filedBook filedFrom filedScope pairUp filedLease writeAll committed bookOf countedAs zeroBook bookB namesB isWhole sizesOk bare release specimenRelease memoryWith specimenMemory brokenMemory brokenRelease firstRelease releaseRulesOf rulesTo houseB fewB lengthB differs notLeased onceB pastB older filledB unusedR laidB memoryB laidReleases storedRelease storedMemory entries.apart keepableB fewFor releasesFitB entries.filedAll filedRelease filedMemory
+lent-releases = (refl, refl, refl, refl, refl, refl, refl, refl, refl, refl)

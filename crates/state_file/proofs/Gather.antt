@@ -1,25 +1,16 @@
--- Laws: reading a lease into a record: an identifier into an array, and the parts together.
+-- Laws: reading a lease into a record: the parts together.
 use mathlib.Core.List.{List}
 use mathlib.Core.Path.{_∙_, _≡_, ap, ap₂, sym}
-use Prim.Native.Nat.{_+_, _-_, _<_, _≤_, ℕ}
+use Prim.Native.Nat.{_+_, _-_, _≤_, ℕ}
 use native.Mathlib.Omega.{arith}
 use lib.ListN.{drop, getD, length, take}
-use lib.Seq.{getD-drop, getD-take}
 use Rattle.state.specs.Book.{leaseWith}
 use Rattle.address_set.specs.AddressSet.{readOffsets}
+use Rattle.lists.specs.Row.{laidRow}
 use Rattle.octets.specs.Octets.{at32}
-use Rattle.state_file.proofs.Pad.{pad-end, pad-next, pad-start}
-use Rattle.state_file.proofs.Walk.{part-length}
+use Rattle.octets.specs.laws.Run.{part-length}
 use Rattle.state_file.specs.Place.{StorableAt, fileLeaseAt}
 use Rattle.state_file.specs.Records.{filled, stored}
-
-pub id-long : (s : List ℕ) (at n : ℕ) → at + n ≤ length s → length (take n (drop at s)) ≡ n
-id-long s at n h = part-length s at n h
-
-pub id-element : (s : List ℕ) (at n i : ℕ) → i < n → getD s (at + i) 0 ≡ getD (take n (drop at s)) i 0
-id-element s at n i h = sym (getD-take n (drop at s) i 0 h ∙ getD-drop at s i 0)
-
-pub ruleset ids = (pad-start, pad-next, pad-end, id-long, id-element)
 
 module _ {s : List ℕ} {at n k : ℕ} (en : n ≡ getD s (at + 2) 0) (ek : k ≡ getD s (at + (n + 16)) 0) (v : StorableAt s at) where
   count : k ≡ getD s (at + (getD s (at + 2) 0 + 16)) 0
@@ -28,10 +19,10 @@ module _ {s : List ℕ} {at n k : ℕ} (en : n ≡ getD s (at + 2) 0) (ek : k �
   pub lease-room : (n ≤ 32) × (at + (n + 17 + k) ≤ length s)
   lease-room = let c = count in (omega (arith, v .ids), omega (arith, v .room))
 
-  pub lease-stored : (id : List ℕ) (x b e m : ℕ) → id ≡ filled 0 32 (take n (drop (at + 3) s)) → x ≡ at32 s (at + (n + 4)) → b ≡ at32 s (at + (n + 8)) → e ≡ at32 s (at + (n + 12))
+  pub lease-stored : (id : List ℕ) (x b e m : ℕ) → id ≡ laidRow 0 32 (take n (drop (at + 3) s)) → x ≡ at32 s (at + (n + 4)) → b ≡ at32 s (at + (n + 8)) → e ≡ at32 s (at + (n + 12))
       → m ≡ readOffsets (take k (drop (at + (n + 17)) s))
       → leaseWith (getD s (at + 1) 0) (getD s (at + 2) 0) id (getD s (at + (n + 3)) 0) x b e m ≡ stored (fileLeaseAt s at)
-  unfolding stored fileLeaseAt
+  unfolding stored fileLeaseAt filled
   lease-stored id x b e m pi px pb pe pm =
       let N : ℕ = getD s (at + 2) 0 in
       let c = count in

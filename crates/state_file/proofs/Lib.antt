@@ -10,6 +10,8 @@ mod RowLaws
 mod Writes
 mod Sets
 mod ReadAgain
+mod Zeros
+mod Remembered
 mod Short
 pub mod WriteAgain
 pub mod RoundTrip

@@ -1,31 +1,36 @@
 -- Laws: the records of a file that has the form and that they can hold.
-use mathlib.Core.Bool.{Bool, false, true}
+use mathlib.Core.Bool.{Bool, _&&_, false, true}
 use mathlib.Core.List.{List, [], map}
 use mathlib.Core.Path.{_∙_, _≡_, ap, ap₂, subst, sym}
-use Prim.Native.Nat.{_*_, _+_, _-_, _<_, _≤_, suc, zero, ℕ}
+use Prim.Native.Nat.{_*_, _+_, _-_, _<_, _≤_, ℕ}
 use native.Mathlib.Omega.{arith}
 use lib.ListN.{drop, getD, length, length-drop, replicate, take}
-use lib.Seq.{length-take-le, take-all}
+use lib.Seq.{length-take-le}
 use borrow.Author.Tests.{leb-true, ltb-false}
-use Rattle.format.specs.Place.{EachAt, row, walk}
+use Rattle.format.specs.Place.{row}
 use Rattle.format.specs.Section.{InRow, Inside}
+use Rattle.format.specs.laws.Entries.{row-facts}
 use Rattle.format.specs.laws.Fixed.{walk-length}
-use Rattle.lists.specs.laws.All.{all-head}
 use Rattle.lists.specs.All.{allBy, allTo}
 use Rattle.lists.specs.Pick.{pick}
 use Rattle.octets.specs.Octets.{at32}
+use Rattle.release_file.specs.Place.{releasesIn}
+use Rattle.release_file.specs.Section.{releasesFitB, storedMemory}
+use Rattle.releases.specs.Rules.{memoryB}
 use Rattle.soundness.specs.Sound.{soundB}
-use Rattle.state.specs.Book.{laidOut, tableOf, zeroScope}
+use Rattle.state.specs.Book.{laidOut, laidReleases, tableOf, zeroScope}
 use Rattle.state.specs.declared.ClientRange.{ClientRange}
 use Rattle.state.specs.declared.LeaseTable.{LeaseTable}
+use Rattle.state.specs.declared.Memory.{Memory}
 use Rattle.state.specs.declared.Scope.{Scope}
 use Rattle.state.specs.declared.State.{State}
 use Rattle.state.specs.declared.TenantLeases.{TenantLeases}
+use Rattle.state.specs.declared.TenantReleases.{TenantReleases}
 use Rattle.state_file.proofs.Fill.{eight-laid}
-use Rattle.state_file.proofs.ReadAgain.{both, neither}
+use Rattle.lists.specs.laws.Pick.{both, neither}
 use Rattle.state_file.specs.Place.{AllStorable, Formed, FormedBy, LeasesIn, SettingsIn, StorableAt, fileAt, keptAll, fileLeaseAt, leasesAt, nextAt, rangeAt, fileScopeAt, scopesIn, sectionAt, stateAt, tenantCount}
 use Rattle.state_file.specs.Records.{countsFit, fewOf, filled, fitsB, leasesFitB, settingsFitB, storableB, storedScope, storedState, storedTable, tenantsFrom, zeroRange}
-use Rattle.state_file.specs.StateFile.{accepted, loadedGot, judged, loaded, namesGot, namesOf, readFile, refused, zeroTable, zeroState}
+use Rattle.state_file.specs.StateFile.{accepted, loadedGot, judged, loaded, namesGot, namesOf, readFile, refused, zeroLedger, zeroMemory, zeroState, zeroTable}
 use Rattle.state_file.specs.declared.Layout.{Layout}
 use Rattle.state_file.specs.declared.Layout.the-variants.{Right, Wrong}
 use Rattle.state_file.specs.declared.Loaded.{Loaded}
@@ -42,13 +47,26 @@ module _ (s : List ℕ) (p : Places) where
   counts-same = ap₂ countsFit (walk-length rangeAt _ (tenantCount s) s 10) (walk-length (fileScopeAt (tenantCount s)) _ (getD s (p .scopes) 0) s (p .scopes + 1))
 
   module _ {q : Bool} (e : q ≡ countsFit (getD s 9 0) (getD s (p .scopes) 0)) where
-    pub fits-yes : (r : Bool) → q ≡ true → r ≡ leasesFitB (sectionAt s (p .leases)) → r ≡ fitsB (fileAt s p)
+    counts-tested : (c : Bool) → q ≡ c → pick c (pick (leasesFitB (sectionAt s (p .leases))) (releasesFitB (releasesIn s (p .releases))) false) false ≡ fitsB (fileAt s p)
     unfolding fitsB fileAt pick
-    fits-yes r t w = w ∙ ap (λ (c : Bool). pick c (leasesFitB (sectionAt s (p .leases))) false) (sym t ∙ e ∙ sym counts-same)
+    counts-tested c t = ap (λ (x : Bool). pick x (pick (leasesFitB (sectionAt s (p .leases))) (releasesFitB (releasesIn s (p .releases))) false) false) (sym t ∙ e ∙ sym counts-same)
 
     pub fits-not : q ≡ false → false ≡ fitsB (fileAt s p)
-    unfolding fitsB fileAt pick
-    fits-not t = ap (λ (c : Bool). pick c (leasesFitB (sectionAt s (p .leases))) false) (sym t ∙ e ∙ sym counts-same)
+    unfolding pick
+    fits-not t = counts-tested false t
+
+    module _ {l : Bool} (el : l ≡ leasesFitB (sectionAt s (p .leases))) (t : q ≡ true) where
+      leases-tested : (c : Bool) → l ≡ c → pick c (releasesFitB (releasesIn s (p .releases))) false ≡ fitsB (fileAt s p)
+      unfolding pick
+      leases-tested c u = ap (λ (x : Bool). pick x (releasesFitB (releasesIn s (p .releases))) false) (sym u ∙ el) ∙ counts-tested true t
+
+      pub fits-leases : l ≡ false → false ≡ fitsB (fileAt s p)
+      unfolding pick
+      fits-leases u = leases-tested false u
+
+      pub fits-yes : (r : Bool) → l ≡ true → r ≡ releasesFitB (releasesIn s (p .releases)) → r ≡ fitsB (fileAt s p)
+      unfolding pick
+      fits-yes r u w = w ∙ leases-tested true u
 
   -- what the test of a file with the form says of its parts
   module _ (v : Formed s p) where
@@ -64,11 +82,15 @@ module _ (s : List ℕ) (p : Places) where
 
       pub formed-leases : leasesFitB (sectionAt s (p .leases)) ≡ true
       unfolding fitsB fileAt
-      formed-leases = both _ _ (sym e ∙ t) .1
+      formed-leases = both _ _ (both _ _ (sym e ∙ t) .1) .0
 
-pub ruleset limitsFit = (fits-yes, fits-not, formed-counts)
+      pub formed-releases : releasesFitB (releasesIn s (p .releases)) ≡ true
+      unfolding fitsB fileAt
+      formed-releases = both _ _ (both _ _ (sym e ∙ t) .1) .1
 
-pub ruleset fileParts = (formed-settings, formed-leases)
+pub ruleset limitsFit = (fits-yes, fits-leases, fits-not, formed-counts)
+
+pub ruleset fileParts = (formed-settings, formed-leases, formed-releases)
 
 -- ---- a record of the file that a record of the book can hold
 storable-held : (s : List ℕ) (at : ℕ) → Inside nextAt s at → storableB (fileLeaseAt s at) ≡ true → StorableAt s at
@@ -82,11 +104,7 @@ storable-held s at v e =
     record { from = ltb-false (getD s at 0) 1 (a .0); to = ltb-false 8 (getD s at 0) (b .0); ids = omega arith; room = v .room }
 
 held-row : (k : ℕ) (s : List ℕ) (at : ℕ) → InRow nextAt s at k → allBy storableB (leasesAt s at k) ≡ true → AllStorable s at k
-unfolding EachAt walk
-held-row zero s at v e = tt
-held-row (suc k) s at v e =
-    let p = all-head storableB (fileLeaseAt s at) (leasesAt s (nextAt s at) k) e in
-    (storable-held s at (v .0) (p .0), held-row k s (nextAt s at) (v .1) (p .1))
+held-row k s at v e = row-facts storableB StorableAt fileLeaseAt nextAt storable-held k s at v e
 
 module _ {s : List ℕ} {at count : ℕ} (v : LeasesIn s at) (ec : count ≡ getD s at 0) where
   pub leases-in : InRow nextAt s (at + 1) count
@@ -155,27 +173,51 @@ pub no-state-is : (x : ClientRange) (y : Scope) → x ≡ zeroRange → y ≡ ze
     → record { server = 0; clock = 0; «tenant_count» = 0; tenants = replicate 8 x; «scope_count» = 0; scopes = replicate 4 y } ≡ zeroState
 no-state-is x y ex ey = cc
 
-pub refused-is : (n : ℕ) (s : State) (z : TenantLeases) → s ≡ zeroState → z ≡ laidOut [] → record { refusal = n; state = s; table = record { tenants = replicate 8 z } } ≡ refused n
+pub no-memory-is : (q : TenantReleases) → q ≡ laidReleases [] → record { releases = replicate 8 q } ≡ zeroMemory
+no-memory-is q e = cc
+
+pub no-ledger-is : (s : State) (m : Memory) → s ≡ zeroState → m ≡ zeroMemory → record { state = s; memory = m } ≡ zeroLedger
+no-ledger-is s m es em = cc
+
+pub refused-is : (n : ℕ) (s : State) (z : TenantLeases) (m : Memory) → s ≡ zeroState → z ≡ laidOut [] → m ≡ zeroMemory
+    → record { refusal = n; state = s; table = record { tenants = replicate 8 z }; memory = m } ≡ refused n
 unfolding refused zeroTable tableOf
-refused-is n s z es ez = cc
+refused-is n s z m es ez em = cc
 
-module _ (s : State) (b : LeaseTable) (q : Bool) (e : q ≡ soundB s b) where
-  pub judged-yes : q ≡ true → record { refusal = 0; state = s; table = b } ≡ judged s b
-  unfolding judged accepted pick
-  judged-yes t = ap (λ (x : Bool). pick x (accepted s b) (refused 21)) (sym t ∙ e)
+module _ (s : State) (b : LeaseTable) (m : Memory) (q : Bool) (e : q ≡ soundB s b) where
+  book-judged : (c : Bool) → q ≡ c → pick (c && memoryB s b m) (accepted s b m) (refused 21) ≡ judged s b m
+  unfolding judged
+  book-judged c t = ap (λ (x : Bool). pick (x && memoryB s b m) (accepted s b m) (refused 21)) (sym t ∙ e)
 
-  pub judged-not : (r : Loaded) → q ≡ false → r ≡ refused 21 → r ≡ judged s b
-  unfolding judged pick
-  judged-not r t p = p ∙ ap (λ (x : Bool). pick x (accepted s b) (refused 21)) (sym t ∙ e)
+  pub judged-not : (r : Loaded) → q ≡ false → r ≡ refused 21 → r ≡ judged s b m
+  unfolding pick
+  judged-not r t p = p ∙ book-judged false t
+
+  module _ (w : Bool) (f : w ≡ memoryB s b m) (t : q ≡ true) where
+    memory-judged : (c : Bool) → w ≡ c → pick c (accepted s b m) (refused 21) ≡ judged s b m
+    memory-judged c u = ap (λ (x : Bool). pick x (accepted s b m) (refused 21)) (sym u ∙ f) ∙ book-judged true t
+
+    pub judged-yes : w ≡ true → record { refusal = 0; state = s; table = b; memory = m } ≡ judged s b m
+    unfolding accepted pick
+    judged-yes u = memory-judged true u
+
+    pub judged-memory : (r : Loaded) → w ≡ false → r ≡ refused 21 → r ≡ judged s b m
+    unfolding pick
+    judged-memory r u p = p ∙ memory-judged false u
 
 module _ (s : List ℕ) (p : Places) {q : Bool} (e : q ≡ fitsB (fileAt s p)) where
-  pub loaded-yes : (x : State) (y : LeaseTable) (r : Loaded) → q ≡ true → x ≡ stateAt s (p .scopes) → y ≡ tableOf (tenantsFrom 1 8 (sectionAt s (p .leases))) → r ≡ judged x y → r ≡ loaded (fileAt s p)
-  unfolding loaded pick storedState storedTable fileAt
-  loaded-yes x y r t ex ey er = er ∙ ap₂ judged ex ey ∙ ap (λ (c : Bool). pick c (judged (stateAt s (p .scopes)) (tableOf (tenantsFrom 1 8 (sectionAt s (p .leases))))) (refused 21)) (sym t ∙ e)
+  loaded-tested : (c : Bool) → q ≡ c → pick c (judged (stateAt s (p .scopes)) (tableOf (tenantsFrom 1 8 (sectionAt s (p .leases)))) (storedMemory (releasesIn s (p .releases)))) (refused 21) ≡ loaded (fileAt s p)
+  unfolding loaded storedState storedTable fileAt
+  loaded-tested c t = ap (λ (x : Bool). pick x (judged (stateAt s (p .scopes)) (tableOf (tenantsFrom 1 8 (sectionAt s (p .leases)))) (storedMemory (releasesIn s (p .releases)))) (refused 21)) (sym t ∙ e)
+
+  pub loaded-yes : (x : State) (y : LeaseTable) (m : Memory) (r : Loaded) → q ≡ true → x ≡ stateAt s (p .scopes) → y ≡ tableOf (tenantsFrom 1 8 (sectionAt s (p .leases)))
+      → m ≡ storedMemory (releasesIn s (p .releases)) → r ≡ judged x y m → r ≡ loaded (fileAt s p)
+  unfolding pick
+  loaded-yes x y m r t ex ey em er = er ∙ ap₂ (λ (a : State) (b : LeaseTable). judged a b m) ex ey ∙ ap (judged (stateAt s (p .scopes)) (tableOf (tenantsFrom 1 8 (sectionAt s (p .leases))))) em ∙ loaded-tested true t
 
   pub loaded-not : (r : Loaded) → q ≡ false → r ≡ refused 21 → r ≡ loaded (fileAt s p)
-  unfolding loaded pick
-  loaded-not r t w = w ∙ ap (λ (c : Bool). pick c (judged (storedState (fileAt s p)) (storedTable (fileAt s p))) (refused 21)) (sym t ∙ e)
+  unfolding pick
+  loaded-not r t w = w ∙ loaded-tested false t
 
 module _ (s : List ℕ) {l : Layout} (v : FormedBy s l) where
   pub layout-right : {p : Places} → l ≡ Right p → Formed s p
@@ -191,13 +233,15 @@ module _ (s : List ℕ) {l : Layout} (v : FormedBy s l) where
   read-not r e q = q ∙ sym (ap loadedGot (subst (FormedBy s) e v))
 
   -- the names, as a part of the octets
-  pub names-in : {p : Places} → l ≡ Right p → p .names ≤ length s
-  names-in e = layout-right e .last
+  pub names-from : {p : Places} → l ≡ Right p → p .names ≤ p .releases
+  names-from e = layout-right e .names
 
-  pub names-yes : {p : Places} {n : ℕ} (r : List ℕ) → l ≡ Right p → n ≡ length s → r ≡ take (n - p .names) (drop (p .names) s) → r ≡ namesOf s
+  pub names-in : {p : Places} → l ≡ Right p → p .releases ≤ length s
+  names-in e = let v = layout-right e in let h = v .last .start in omega arith
+
+  pub names-yes : {p : Places} (r : List ℕ) → l ≡ Right p → r ≡ take (p .releases - p .names) (drop (p .names) s) → r ≡ namesOf s
   unfolding namesOf namesGot fileAt
-  names-yes {p} {n} r e m q =
-      q ∙ take-all (n - p .names) (drop (p .names) s) (let d = length-drop (p .names) s in omega arith) ∙ sym (ap namesGot (layout-right e .file))
+  names-yes {p} r e q = q ∙ sym (ap namesGot (layout-right e .file))
 
   pub names-not : (r : List ℕ) → l ≡ Wrong → r ≡ [] → r ≡ namesOf s
   unfolding namesOf namesGot FormedBy

@@ -1,13 +1,13 @@
 -- Laws: one for every loop that fills an array from the front with the values of a row and leaves the rest as it was.
-use mathlib.Core.List.{List, _++_, _∷_, map}
-use mathlib.Core.Path.{_∙_, _≡_, ap, ap₂, refl, subst, sym}
-use Prim.Native.Nat.{_*_, _+_, _-_, _<_, _≤_, suc, zero, ℕ}
-use native.Mathlib.Nat.{mul-le-mul, suc-mul, zero-add, zero-mul}
+use mathlib.Core.List.{List, _∷_, map}
+use mathlib.Core.Path.{_∙_, _≡_, ap, ap₂, refl, sym}
+use Prim.Native.Nat.{_*_, _+_, _<_, _≤_, suc, zero, ℕ}
+use native.Mathlib.Nat.{mul-le-mul, suc-mul, zero-mul}
 use native.Mathlib.Omega.{arith}
-use lib.ListN.{drop, getD, length, length-map, length-replicate, length-set, replicate, set}
+use lib.ListN.{getD, length, length-map}
 use Rattle.format.specs.Place.{row, walk}
 use Rattle.format.specs.laws.Fixed.{walk-length}
-use Rattle.lists.specs.laws.Copy.{CopyInv, copy-front, copy-paste, copy-start}
+use Rattle.lists.specs.laws.Pad.{PadInv, pad-end, pad-next, pad-start}
 use Rattle.octets.specs.Octets.{at32}
 use Rattle.state.specs.declared.ClientRange.{ClientRange}
 use Rattle.state.specs.declared.Scope.{Scope}
@@ -28,31 +28,6 @@ row-in n at i k z h g =
     let q = suc-mul i z in
     omega arith
 
-drop-replicate : {A : Type 0} (z : A) (n k : ℕ) → drop n (replicate k z) ≡ replicate (k - n) z
-drop-replicate z zero k = ap (λ (j : ℕ). replicate j z) (let e : k ≡ k - 0 = omega arith in e)
-drop-replicate z (suc n) zero = ap (λ (j : ℕ). replicate j z) (let e : 0 ≡ 0 - suc n = omega arith in e)
-drop-replicate z (suc n) (suc k) = drop-replicate z n k ∙ ap (λ (j : ℕ). replicate j z) (let e : k - n ≡ suc k - suc n = omega arith in e)
-
-pub record PadInv {A : Type 0} (z : A) (m : ℕ) (l : List A) (n : ℕ) (out : List A) (i : ℕ) : Type 0 where
-  pub within : i ≤ n
-  pub small : n ≤ m
-  pub long : length l ≡ n
-  pub kept : length out ≡ m
-  pub copy : CopyInv z (replicate m z) 0 l n out i
-
-pub pad-start : {A : Type 0} (z y : A) (m n : ℕ) (l : List A) → y ≡ z → n ≤ m → length l ≡ n → PadInv z m l n (replicate m y) 0
-pad-start z y m n l e h g =
-    subst (λ x. PadInv z m l n (replicate m x) 0) (sym e)
-    (record { within = omega arith; small = h; long = g; kept = length-replicate m z; copy = copy-start m n (length-replicate m z) g (omega arith) (omega arith) })
-
-module _ {A : Type 0} {z : A} {m : ℕ} {l : List A} {n : ℕ} {out : List A} {i : ℕ} (v : PadInv z m l n out i) where
-  pub pad-next : (x : A) → i < n → x ≡ getD l i z → PadInv z m l n (set out i x) (i + 1)
-  pad-next x h e = record { within = omega arith; small = v .small; long = v .long; kept = length-set out i x ∙ v .kept; copy = copy-front (v .copy) x h e }
-
-  pub pad-end : n ≤ i → out ≡ filled z m l
-  unfolding filled
-  pad-end h = copy-paste (v .copy) h (v .long) ∙ ap (λ (r : List A). l ++ r) (ap (λ (j : ℕ). drop j (replicate m z)) (zero-add n ∙ sym (v .long)) ∙ drop-replicate z (length l) m)
-
 pub row-long : {A : Type 0} (w : List ℕ → ℕ → A) (z n : ℕ) (s : List ℕ) (at : ℕ) → length (row w z n s at) ≡ n
 row-long w z n s at = walk-length w _ n s at
 
@@ -64,7 +39,13 @@ pub range-of : (s : List ℕ) (at a b : ℕ) → a ≡ at32 s at → b ≡ at32 
 unfolding rangeAt
 range-of s at a b p q = ap₂ {C = ClientRange} (λ (x y : ℕ). record { low = x; high = y }) p q
 
-pub ruleset pads = (pad-start, row-long, pad-next, pad-end, row-element, range-of)
+-- the same under the file's name of a row
+module _ {A : Type 0} {z : A} {m : ℕ} {l : List A} {n : ℕ} {out : List A} {i : ℕ} (v : PadInv z m l n out i) where
+  pub filled-end : n ≤ i → out ≡ filled z m l
+  unfolding filled
+  filled-end h = pad-end v h
+
+pub ruleset pads = (pad-start, row-long, pad-next, filled-end, row-element, range-of)
 
 -- ---- scopes
 first : (s : List ℕ) (x : ℕ) → partAt s x .reserve ≡ getD s (x + 0) 0
@@ -106,4 +87,4 @@ scopes-element h z n s at i x d g e = e ∙ sym (mapped n s at i g)
     mapped (suc n) s at zero g = ap (λ (k : ℕ). storedScope (fileScopeAt h s k)) (let q = zero-mul z in let e : at ≡ at + 0 * z = omega arith in e)
     mapped (suc n) s at (suc i) g = mapped n s (at + z) i (omega arith) ∙ ap (λ (k : ℕ). storedScope (fileScopeAt h s k)) (let q = suc-mul i z in let e : at + z + i * z ≡ at + suc i * z = omega arith in e)
 
-pub ruleset scopePads = (pad-start, pad-next, pad-end, scopes-long, scopes-element, scope-of)
+pub ruleset scopePads = (pad-start, pad-next, filled-end, scopes-long, scopes-element, scope-of)

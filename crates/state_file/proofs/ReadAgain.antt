@@ -1,5 +1,5 @@
 -- Laws: a file that the records can hold is the file of its records.
-use mathlib.Core.Bool.{Bool, false, true}
+use mathlib.Core.Bool.{true}
 use mathlib.Core.List.{List, [], _++_, _∷_, map}
 use mathlib.Core.Path.{_∙_, _≡_, ap, ap₂, refl, sym}
 use Prim.Native.Nat.{_+_, _-_, _<_, _≤_, ℕ}
@@ -8,8 +8,10 @@ use lib.ListN.{length, length-map, replicate, take}
 use lib.Seq.{take-append-seam}
 use borrow.Author.Tests.{ltb-false}
 use Rattle.lists.specs.All.{All, allBy}
-use Rattle.lists.specs.laws.All.{all-head}
-use Rattle.lists.specs.Pick.{pick}
+use Rattle.lists.specs.laws.All.{all-facts, two-facts}
+use Rattle.lists.specs.laws.Pick.{both, neither}
+use Rattle.release_file.specs.Section.{FileRelease, filedMemory, storedMemory}
+use Rattle.release_file.specs.laws.Memory.{memory-again}
 use Rattle.state.specs.Book.{leasesOf, rangesOf, scopesOf, zeroScope}
 use Rattle.state.specs.laws.Layout.{table-back}
 use Rattle.state.specs.declared.ClientRange.{ClientRange}
@@ -17,27 +19,6 @@ use Rattle.state_file.specs.File.{File, FileLease, FilePart, FileScope, 
 use Rattle.state_file.specs.laws.Records.{StorableAt, filled-take}
 use Rattle.state_file.specs.Records.{filedBook, filedFrom, filedScope, filled, fitsB, isOffset, leasesFitB, pairUp, storableB, storedScope, storedState, storedTable, tenantsFrom, zeroRange}
 use Rattle.state_file.specs.laws.Tenants.{leases-again}
-
--- ---- from tests to facts
-pub all-facts : {A : Type 0} (t : A → Bool) (P : A → Type 0) (l : List A) → ((x : A) → t x ≡ true → P x) → allBy t l ≡ true → All P l
-unfolding All
-all-facts t P [] f e = tt
-all-facts t P (x ∷ l) f e = let p = all-head t x l e in (f x (p .0), all-facts t P l f (p .1))
-
-pub two-facts : {A : Type 0} (P Q R : A → Type 0) (l : List A) → ((x : A) → P x → Q x → R x) → All P l → All Q l → All R l
-unfolding All
-two-facts P Q R [] f p q = tt
-two-facts P Q R (x ∷ l) f p q = (f x (p .0) (q .0), two-facts P Q R l f (p .1) (q .1))
-
-pub neither : (b c : Bool) → pick b false c ≡ true → (b ≡ false) × (c ≡ true)
-unfolding pick
-neither true c e = let z : _≡_ {A = ℕ} 0 1 = cc in absurd (omega arith)
-neither false c e = (refl, e)
-
-pub both : (b c : Bool) → pick b c false ≡ true → (b ≡ true) × (c ≡ true)
-unfolding pick
-both true c e = (refl, e)
-both false c e = let z : _≡_ {A = ℕ} 0 1 = cc in absurd (omega arith)
 
 -- what a lease needs to be stored
 record Fits (x : FileLease) : Type 0 where
@@ -94,7 +75,11 @@ scopes-again n (c ∷ l) h = ap₂ {C = List FileScope} (λ (x : FileScope) (r :
 module _ (f : File) (h : fileFormat .ok f) (e : fitsB f ≡ true) where
   leases-fit : allBy storableB (f .leases) ≡ true
   unfolding fitsB leasesFitB
-  leases-fit = both _ _ (both _ _ e .1) .0
+  leases-fit = both _ _ (both _ _ (both _ _ e .1) .0) .0
+
+  releases-filed : filedMemory (storedMemory (f .releases)) ≡ f .releases
+  unfolding fitsB
+  releases-filed = memory-again (f .releases) (h .1 .1 .1 .1 .1 .1) (both _ _ (both _ _ e .1) .1)
 
   leases-facts : All Fits (f .leases)
   leases-facts = all-facts storableB Fits (f .leases) fits-of leases-fit
@@ -118,9 +103,11 @@ module _ (f : File) (h : fileFormat .ok f) (e : fitsB f ≡ true) where
       ap (map (filedScope (length (f .tenants)))) (ap (λ (k : ℕ). take k (filled zeroScope 4 (map storedScope (f .scopes)))) (sym (length-map (f .scopes) storedScope)) ∙ filled-take zeroScope 4 (map storedScope (f .scopes)))
       ∙ scopes-again (length (f .tenants)) (f .scopes) (h .1 .1 .0 .1)
 
-  pub book-again : filedBook (record { state = storedState f; table = storedTable f; names = f .names }) ≡ f
+  pub book-again : filedBook (record { state = storedState f; table = storedTable f; memory = storedMemory (f .releases); names = f .names }) ≡ f
   unfolding filedBook storedState
-  book-again = ap₂ (λ (ts : List ClientRange) (cs : List FileScope). make ts cs (filedFrom 1 (leasesOf (storedTable f)))) ranges-filed scopes-filed ∙ ap (make (f .tenants) (f .scopes)) leases-filed
+  book-again =
+      ap₂ (λ (ts : List ClientRange) (cs : List FileScope). make ts cs (filedFrom 1 (leasesOf (storedTable f))) (filedMemory (storedMemory (f .releases)))) ranges-filed scopes-filed
+      ∙ ap₂ (make (f .tenants) (f .scopes)) leases-filed releases-filed
     where
-      make : List ClientRange → List FileScope → List FileLease → File
-      make ts cs ls = record { server = f .server; clock = f .clock; tenants = ts; scopes = cs; leases = ls; names = f .names }
+      make : List ClientRange → List FileScope → List FileLease → List FileRelease → File
+      make ts cs ls rs = record { server = f .server; clock = f .clock; tenants = ts; scopes = cs; leases = ls; names = f .names; releases = rs }

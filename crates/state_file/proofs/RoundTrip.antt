@@ -1,6 +1,6 @@
 -- Proof of the round trips: a file that is accepted, read and written again has the same octets; a sound book with good names, written and read
 -- again, is the same book, so that what the writer writes is always accepted.
-use mathlib.Core.Bool.{Bool, false, true}
+use mathlib.Core.Bool.{Bool, _&&_, false, true}
 use mathlib.Core.List.{List, [], _++_, _∷_}
 use mathlib.Core.Path.{_∙_, _≡_, ap, ap₂, refl, subst, sym}
 use Prim.Native.Nat.{_<_, _≤_, ℕ}
@@ -10,17 +10,21 @@ use lib.ListN.{drop, length, take}
 use lib.Seq.{take-append-seam}
 use borrow.Author.Tests.{le-ltb}
 use Rattle.format.specs.Format.{Got, Octets, bad, closed, got}
+use Rattle.lists.specs.laws.Both.{and-both, and-parts}
 use Rattle.lists.specs.Pick.{pick}
 use Rattle.names.specs.Names.{namesB}
-use Rattle.soundness.specs.Named.{bookB}
+use Rattle.release_file.specs.Section.{storedMemory}
+use Rattle.releases.specs.Rules.{memoryB}
+use Rattle.releases.specs.Whole.{bookB}
 use Rattle.soundness.specs.Sound.{soundB}
-use Rattle.soundness.specs.laws.Named.{book-named, book-sound, both-book}
+use Rattle.releases.specs.laws.Whole.{book-named, book-remembers, book-sound, both-book}
 use Rattle.state.specs.Book.{Book}
 use Rattle.state.specs.declared.LeaseTable.{LeaseTable}
+use Rattle.state.specs.declared.Memory.{Memory}
 use Rattle.state.specs.declared.State.{State}
 use Rattle.state_file.proofs.ReadAgain.{book-again}
 use Rattle.state_file.proofs.Short.{names-few, sound-short}
-use Rattle.state_file.proofs.WriteAgain.{book-fits, book-ok, state-same, table-same}
+use Rattle.state_file.proofs.WriteAgain.{book-fits, book-ok, releases-same, state-same, table-same}
 use Rattle.state_file.specs.File.{File, fileFormat, fileLimit, fileOf, longestFile}
 use Rattle.state_file.specs.laws.File.{file-reads, file-written}
 use Rattle.state_file.specs.laws.Local.{file-names}
@@ -31,29 +35,33 @@ use Rattle.state_file.specs.declared.Loaded.{Loaded}
 use Rattle.state_file.specs.declared.Written.{Written}
 
 -- the book of its parts
-abbrev with : State → LeaseTable → List ℕ → Book
-with s b names = record { state = s; table = b; names = names }
+abbrev with : State → LeaseTable → Memory → List ℕ → Book
+with s b m names = record { state = s; table = b; memory = m; names = names }
+
+-- the memory of a file
+abbrev memoryIn : File → Memory
+memoryIn f = storedMemory (f .releases)
 
 -- an accepted answer is a sound file's
-refused-not : {A : Type 0} (n : ℕ) (s : State) (b : LeaseTable) → 0 < n → refused n ≡ accepted s b → A
+refused-not : {A : Type 0} (n : ℕ) (s : State) (b : LeaseTable) (m : Memory) → 0 < n → refused n ≡ accepted s b m → A
 unfolding refused accepted
-refused-not n s b h e = let z : n ≡ 0 = ap (λ (r : Loaded). r .refusal) e in absurd (omega arith)
+refused-not n s b m h e = let z : n ≡ 0 = ap (λ (r : Loaded). r .refusal) e in absurd (omega arith)
 
-judged-is : (s t : State) (b c : LeaseTable) → judged s b ≡ accepted t c → (soundB s b ≡ true) × (s ≡ t) × (b ≡ c)
+judged-is : (s t : State) (b c : LeaseTable) (m n : Memory) → judged s b m ≡ accepted t c n → (soundB s b && memoryB s b m ≡ true) × (s ≡ t) × (b ≡ c) × (m ≡ n)
 unfolding judged pick accepted
-judged-is s t b c e = go (soundB s b) refl e
+judged-is s t b c m n e = go (soundB s b && memoryB s b m) refl e
   where
-    go : (q : Bool) → soundB s b ≡ q → pick q (accepted s b) (refused 21) ≡ accepted t c → (q ≡ true) × (s ≡ t) × (b ≡ c)
-    go true p e = (refl, ap (λ (r : Loaded). r .state) e, ap (λ (r : Loaded). r .table) e)
-    go false p e = refused-not 21 t c (omega arith) e
+    go : (q : Bool) → soundB s b && memoryB s b m ≡ q → pick q (accepted s b m) (refused 21) ≡ accepted t c n → (q ≡ true) × (s ≡ t) × (b ≡ c) × (m ≡ n)
+    go true p e = (refl, ap (λ (r : Loaded). r .state) e, ap (λ (r : Loaded). r .table) e, ap (λ (r : Loaded). r .memory) e)
+    go false p e = refused-not 21 t c n (omega arith) e
 
-loaded-is : (f : File) (t : State) (c : LeaseTable) → loaded f ≡ accepted t c → (fitsB f ≡ true) × (judged (storedState f) (storedTable f) ≡ accepted t c)
+loaded-is : (f : File) (t : State) (c : LeaseTable) (n : Memory) → loaded f ≡ accepted t c n → (fitsB f ≡ true) × (judged (storedState f) (storedTable f) (memoryIn f) ≡ accepted t c n)
 unfolding loaded pick
-loaded-is f t c e = go (fitsB f) refl e
+loaded-is f t c n e = go (fitsB f) refl e
   where
-    go : (q : Bool) → fitsB f ≡ q → pick q (judged (storedState f) (storedTable f)) (refused 21) ≡ accepted t c → (q ≡ true) × (judged (storedState f) (storedTable f) ≡ accepted t c)
+    go : (q : Bool) → fitsB f ≡ q → pick q (judged (storedState f) (storedTable f) (memoryIn f)) (refused 21) ≡ accepted t c n → (q ≡ true) × (judged (storedState f) (storedTable f) (memoryIn f) ≡ accepted t c n)
     go true p e = (refl, e)
-    go false p e = refused-not 21 t c (omega arith) e
+    go false p e = refused-not 21 t c n (omega arith) e
 
 -- nothing is left over
 file-whole : (s : List ℕ) (f : File) (r : List ℕ) → fileOf s ≡ got f r → (fileOf s ≡ got f []) × (closed (fileFormat .read s) ≡ got f [])
@@ -71,57 +79,65 @@ names-good : (s : List ℕ) (f : File) (r : List ℕ) → fileOf s ≡ got f r �
 unfolding storedState
 names-good s f r e = file-names s f [] (file-whole s f r e .1)
 
-again : (f : File) (st : State) (tb : LeaseTable) → storedState f ≡ st → storedTable f ≡ tb → fileFormat .ok f → fitsB f ≡ true → octetsOf (with st tb (f .names)) ≡ fileFormat .write f
+again : (f : File) (st : State) (tb : LeaseTable) (m : Memory) → storedState f ≡ st → storedTable f ≡ tb → memoryIn f ≡ m → fileFormat .ok f → fitsB f ≡ true → octetsOf (with st tb m (f .names)) ≡ fileFormat .write f
 unfolding octetsOf
-again f st tb es eb ok fit = ap₂ (λ (x : State) (y : LeaseTable). fileFormat .write (filedBook (with x y (f .names)))) (sym es) (sym eb) ∙ ap (fileFormat .write) (book-again f ok fit)
+again f st tb m es eb em ok fit =
+    ap₂ (λ (x : State) (y : LeaseTable). fileFormat .write (filedBook (with x y m (f .names)))) (sym es) (sym eb)
+    ∙ ap (λ (x : Memory). fileFormat .write (filedBook (with (storedState f) (storedTable f) x (f .names)))) (sym em) ∙ ap (fileFormat .write) (book-again f ok fit)
+
+-- what is answered to a file that the records can hold, and that is sound, or not
+abbrev answer : File → Bool → Bool → Loaded
+answer f p q = pick p (pick q (accepted (storedState f) (storedTable f) (memoryIn f)) (refused 21)) (refused 21)
 
 -- the book of octets that are accepted, with the names in them, is sound
-pub read-sound : (s : List ℕ) → readFile s .refusal ≡ 0 → bookB (record { state = readFile s .state; table = readFile s .table; names = namesOf s }) ≡ true
+pub read-sound : (s : List ℕ) → readFile s .refusal ≡ 0 → bookB (record { state = readFile s .state; table = readFile s .table; memory = readFile s .memory; names = namesOf s }) ≡ true
 unfolding readFile loadedGot loaded judged accepted refused pick namesOf namesGot
 read-sound s e = go (fileOf s) refl e
   where
-    kept : (f : File) (p q : Bool) → soundB (storedState f) (storedTable f) ≡ q → namesB (storedState f .«scope_count») (storedState f .«tenant_count») (f .names) ≡ true
-        → pick p (pick q (accepted (storedState f) (storedTable f)) (refused 21)) (refused 21) .refusal ≡ 0
-        → bookB (with (pick p (pick q (accepted (storedState f) (storedTable f)) (refused 21)) (refused 21) .state) (pick p (pick q (accepted (storedState f) (storedTable f)) (refused 21)) (refused 21) .table) (f .names)) ≡ true
-    kept f true true v w e = both-book (with (storedState f) (storedTable f) (f .names)) v w
+    kept : (f : File) (p q : Bool) → soundB (storedState f) (storedTable f) && memoryB (storedState f) (storedTable f) (memoryIn f) ≡ q
+        → namesB (storedState f .«scope_count») (storedState f .«tenant_count») (f .names) ≡ true
+        → answer f p q .refusal ≡ 0 → bookB (with (answer f p q .state) (answer f p q .table) (answer f p q .memory) (f .names)) ≡ true
+    kept f true true v w e = let (a, b) = and-parts _ _ v in both-book (with (storedState f) (storedTable f) (memoryIn f) (f .names)) a b w
     kept f true false v w e = absurd (omega arith)
     kept f false q v w e = absurd (omega arith)
 
-    go : (g : Got File) → fileOf s ≡ g → loadedGot g .refusal ≡ 0 → bookB (with (loadedGot g .state) (loadedGot g .table) (namesGot g)) ≡ true
+    go : (g : Got File) → fileOf s ≡ g → loadedGot g .refusal ≡ 0 → bookB (with (loadedGot g .state) (loadedGot g .table) (loadedGot g .memory) (namesGot g)) ≡ true
     go bad p e = absurd (omega arith)
-    go (got f r) p e = kept f (fitsB f) (soundB (storedState f) (storedTable f)) refl (names-good s f r p) e
+    go (got f r) p e = kept f (fitsB f) (soundB (storedState f) (storedTable f) && memoryB (storedState f) (storedTable f) (memoryIn f)) refl (names-good s f r p) e
 
 -- so its names have no more octets than four scopes' and eight houses' can
 pub names-short : (s : List ℕ) → readFile s .refusal ≡ 0 → length (namesOf s) ≤ 6229
-names-short s e = names-few (record { state = readFile s .state; table = readFile s .table; names = namesOf s }) (read-sound s e)
+names-short s e = names-few (record { state = readFile s .state; table = readFile s .table; memory = readFile s .memory; names = namesOf s }) (read-sound s e)
 
 -- and its octets are those
-pub read-write : (s : List ℕ) (st : State) (tb : LeaseTable) → Octets s → readFile s ≡ accepted st tb
-    → (bookB (record { state = st; table = tb; names = namesOf s }) ≡ true) × (octetsOf (record { state = st; table = tb; names = namesOf s }) ≡ s)
+pub read-write : (s : List ℕ) (st : State) (tb : LeaseTable) (m : Memory) → Octets s → readFile s ≡ accepted st tb m
+    → (bookB (record { state = st; table = tb; memory = m; names = namesOf s }) ≡ true) × (octetsOf (record { state = st; table = tb; memory = m; names = namesOf s }) ≡ s)
 unfolding readFile loadedGot namesOf namesGot
-read-write s st tb o e = go (fileOf s) refl e
+read-write s st tb m o e = go (fileOf s) refl e
   where
-    go : (g : Got File) → fileOf s ≡ g → loadedGot g ≡ accepted st tb → (bookB (with st tb (namesGot g)) ≡ true) × (octetsOf (with st tb (namesGot g)) ≡ s)
-    go bad p e = refused-not 20 st tb (omega arith) e
+    go : (g : Got File) → fileOf s ≡ g → loadedGot g ≡ accepted st tb m → (bookB (with st tb m (namesGot g)) ≡ true) × (octetsOf (with st tb m (namesGot g)) ≡ s)
+    go bad p e = refused-not 20 st tb m (omega arith) e
     go (got f r) p e =
-        let (fit, j) = loaded-is f st tb e in
-        let (sound, es, eb) = judged-is (storedState f) st (storedTable f) tb j in
+        let (fit, j) = loaded-is f st tb m e in
+        let (good, es, eb, em) = judged-is (storedState f) st (storedTable f) tb (memoryIn f) m j in
+        let (sound, remembers) = and-parts (soundB (storedState f) (storedTable f)) (memoryB (storedState f) (storedTable f) (memoryIn f)) good in
         let (ok, w, short) = file-reads s f o (file-whole s f r p .0) in (
-          both-book (with st tb (f .names)) (sym (ap₂ soundB es eb) ∙ sound)
+          both-book (with st tb m (f .names)) (sym (ap₂ soundB es eb) ∙ sound)
+              (sym (ap₂ (λ (x : State) (y : LeaseTable). memoryB x y (memoryIn f)) es eb ∙ ap (memoryB st tb) em) ∙ remembers)
               (subst (λ (x : State). namesB (x .«scope_count») (x .«tenant_count») (f .names) ≡ true) es (names-good s f r p)),
-          again f st tb es eb ok fit ∙ sym w,
+          again f st tb m es eb em ok fit ∙ sym w,
         )
 
 -- so the writer gives them back, in any room that they fit
-module _ (s room : List ℕ) (st : State) (tb : LeaseTable) (o : Octets s) (e : readFile s ≡ accepted st tb) (h : length s ≤ length room) where
+module _ (s room : List ℕ) (st : State) (tb : LeaseTable) (m : Memory) (o : Octets s) (e : readFile s ≡ accepted st tb m) (h : length s ≤ length room) where
   b : Book
-  b = record { state = st; table = tb; names = namesOf s }
+  b = record { state = st; table = tb; memory = m; names = namesOf s }
 
-  pub read-written : (writtenOf (record { state = st; table = tb; names = namesOf s }) (length room) ≡ record { refusal = 0; length = length s })
-      × (roomAfter (record { state = st; table = tb; names = namesOf s }) room ≡ s ++ drop (length s) room)
+  pub read-written : (writtenOf (record { state = st; table = tb; memory = m; names = namesOf s }) (length room) ≡ record { refusal = 0; length = length s })
+      × (roomAfter (record { state = st; table = tb; memory = m; names = namesOf s }) room ≡ s ++ drop (length s) room)
   unfolding writtenOf roomAfter pick b
   read-written =
-      let (p, w) = read-write s st tb o e in
+      let (p, w) = read-write s st tb m o e in
       let k : ltb (length room) (length (octetsOf b)) ≡ false = le-ltb _ _ (subst (λ (x : List ℕ). length x ≤ length room) (sym w) h) in (
         ap₂ (λ (x y : Bool). pick x (pick y (record { refusal = 23; length = 0 }) (record { refusal = 0; length = length (octetsOf b) })) (record { refusal = 22; length = 0 })) p k
             ∙ ap {B = Written} (λ (x : List ℕ). record { refusal = 0; length = length x }) w,
@@ -130,32 +146,34 @@ module _ (s room : List ℕ) (st : State) (tb : LeaseTable) (o : Octets s) (e : 
       )
 
 -- a sound book's octets are accepted, and give the book
-module _ (b : Book) (v : Typed (b .state) (b .table)) (o : Octets (b .names)) where
+module _ (b : Book) (v : Typed (b .state) (b .table) (b .memory)) (o : Octets (b .names)) where
   file-is : bookB b ≡ true → fileOf (octetsOf b) ≡ got (filedBook b) []
   unfolding octetsOf
   file-is e =
-      file-written (filedBook b) (book-ok (b .state) (b .table) v (book-sound b e) (b .names) o (book-named b e))
-      (let k : length (octetsOf b) ≤ longestFile = sound-short b (let t = v .tenants in omega arith) e in omega arith)
+      file-written (filedBook b) (book-ok (b .state) (b .table) (b .memory) v (book-sound b e) (book-remembers b e) (b .names) o (book-named b e))
+      (let k : length (octetsOf b) ≤ longestFile = sound-short b (let t = v .tenants in omega arith) (let t = v .memory in omega arith) e in omega arith)
 
-  pub write-read : bookB b ≡ true → (readFile (octetsOf b) ≡ accepted (b .state) (b .table)) × (namesOf (octetsOf b) ≡ b .names)
+  pub write-read : bookB b ≡ true → (readFile (octetsOf b) ≡ accepted (b .state) (b .table) (b .memory)) × (namesOf (octetsOf b) ≡ b .names)
   unfolding readFile loadedGot loaded judged namesOf namesGot filedBook pick
   write-read e =
-      let q = book-sound b e in (
+      let q = book-sound b e in
+      let w = book-remembers b e in (
         ap loadedGot (file-is e)
-            ∙ ap (λ (x : Bool). pick x (judged (storedState (filedBook b)) (storedTable (filedBook b))) (refused 21)) (book-fits (b .state) (b .table) v q (b .names))
-            ∙ ap₂ judged (state-same (b .state) (b .table) v q (b .names)) (table-same (b .state) (b .table) v q (b .names))
-            ∙ ap (λ (x : Bool). pick x (accepted (b .state) (b .table)) (refused 21)) q,
+            ∙ ap (λ (x : Bool). pick x (judged (storedState (filedBook b)) (storedTable (filedBook b)) (memoryIn (filedBook b))) (refused 21)) (book-fits (b .state) (b .table) (b .memory) v q w (b .names))
+            ∙ ap₂ (λ (x : State) (y : LeaseTable). judged x y (memoryIn (filedBook b))) (state-same (b .state) (b .table) (b .memory) v q w (b .names)) (table-same (b .state) (b .table) (b .memory) v q w (b .names))
+            ∙ ap (judged (b .state) (b .table)) (releases-same (b .state) (b .table) (b .memory) v q w (b .names))
+            ∙ ap (λ (x : Bool). pick x (accepted (b .state) (b .table) (b .memory)) (refused 21)) (and-both q w),
         ap namesGot (file-is e),
       )
 
   -- so is what the writer leaves in a room
   pub written-read : (room : List ℕ) → writtenOf b (length room) .refusal ≡ 0
-      → (readFile (take (writtenOf b (length room) .length) (roomAfter b room)) ≡ accepted (b .state) (b .table)) × (namesOf (take (writtenOf b (length room) .length) (roomAfter b room)) ≡ b .names)
+      → (readFile (take (writtenOf b (length room) .length) (roomAfter b room)) ≡ accepted (b .state) (b .table) (b .memory)) × (namesOf (take (writtenOf b (length room) .length) (roomAfter b room)) ≡ b .names)
   unfolding writtenOf roomAfter pick
   written-read room e = go (bookB b) refl (ltb (length room) (length (octetsOf b))) e
     where
       Gives : List ℕ → Type 0
-      Gives l = (readFile l ≡ accepted (b .state) (b .table)) × (namesOf l ≡ b .names)
+      Gives l = (readFile l ≡ accepted (b .state) (b .table) (b .memory)) × (namesOf l ≡ b .names)
 
       go : (p : Bool) → bookB b ≡ p → (q : Bool)
           → pick {A = Written} p (pick q (record { refusal = 23; length = 0 }) (record { refusal = 0; length = length (octetsOf b) })) (record { refusal = 22; length = 0 }) .refusal ≡ 0
@@ -164,9 +182,9 @@ module _ (b : Book) (v : Typed (b .state) (b .table)) (o : Octets (b .names)) wh
       go true a false e = subst Gives (sym (take-append-seam (octetsOf b) (drop (length (octetsOf b)) room))) (write-read a)
       go false a q e = absurd (omega arith)
 
--- and in a room for the longest file the writer refuses no sound book of eight tenants' records
-pub never-refused : (b : Book) (n : ℕ) → length (b .table .tenants) ≡ 8 → bookB b ≡ true → longestFile ≤ n → writtenOf b n ≡ record { refusal = 0; length = length (octetsOf b) }
+-- and in a room for the longest file the writer refuses no sound book of eight tenants' records and releases
+pub never-refused : (b : Book) (n : ℕ) → length (b .table .tenants) ≡ 8 → length (b .memory .releases) ≡ 8 → bookB b ≡ true → longestFile ≤ n → writtenOf b n ≡ record { refusal = 0; length = length (octetsOf b) }
 unfolding writtenOf pick
-never-refused b n v e h =
+never-refused b n v w e h =
     ap₂ (λ (x y : Bool). pick x (pick y (record { refusal = 23; length = 0 }) (record { refusal = 0; length = length (octetsOf b) })) (record { refusal = 22; length = 0 }))
-    e (le-ltb n (length (octetsOf b)) (let k = sound-short b (omega arith) e in omega arith))
+    e (le-ltb n (length (octetsOf b)) (let k = sound-short b (omega arith) (omega arith) e in omega arith))

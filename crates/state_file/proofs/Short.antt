@@ -1,10 +1,9 @@
--- Laws: a sound book's file has at most 20,857 octets: whatever its records hold, what is written of them is cut by counts that soundness bounds, and
+-- Laws: a sound book's file has at most 22,202 octets: whatever its records hold, what is written of them is cut by counts that soundness bounds, and
 -- names are good.
 use mathlib.Core.Bool.{_&&_, true}
 use mathlib.Core.List.{List, [], _++_, _∷_, map}
-use mathlib.Core.Path.{_≡_, refl}
+use mathlib.Core.Path.{_≡_}
 use Prim.Native.Nat.{_*_, _+_, _≤_, suc, ℕ}
-use native.Mathlib.Nat.{suc-mul, zero-mul}
 use native.Mathlib.Omega.{arith}
 use lib.Dec.{leb}
 use lib.ListN.{length, length-append, length-take, take}
@@ -16,8 +15,9 @@ use Rattle.lists.specs.All.{allBy}
 use Rattle.lists.specs.laws.Both.{and-parts}
 use Rattle.names.specs.laws.Names.{names-most}
 use Rattle.soundness.specs.laws.Book.{rules-of}
-use Rattle.soundness.specs.laws.Named.{book-named, book-sound}
-use Rattle.soundness.specs.Named.{bookB}
+use Rattle.release_file.specs.Section.{memoryOctets}
+use Rattle.releases.specs.laws.Whole.{book-named, book-remembers, book-sound}
+use Rattle.releases.specs.Whole.{bookB}
 use Rattle.soundness.specs.Sound.{countsB, oneTo, idB, recordsB, rule1, rulesOf, sizeB, soundB}
 use Rattle.state.specs.Book.{Book, inUse, rangesOf, scopesOf}
 use Rattle.state.specs.declared.ClientRange.{ClientRange}
@@ -26,26 +26,12 @@ use Rattle.state.specs.declared.LeaseTable.{LeaseTable}
 use Rattle.state.specs.declared.Scope.{Scope}
 use Rattle.state.specs.declared.State.{State}
 use Rattle.state.specs.declared.TenantLeases.{TenantLeases}
+use Rattle.state_file.proofs.Remembered.{memory-short}
 use Rattle.state_file.specs.File.{FileLease, FilePart, leaseFormat, partFormat, scopeFormat, tenantFormat, longestFile}
-use Rattle.format.specs.Format.{octet, writeAll}
+use Rattle.format.specs.Format.{writeAll}
+use Rattle.format.specs.laws.Rows.{all-most, octets-many}
 use Rattle.state_file.specs.Records.{filedLease, filedBook, filedFrom, filedScope, pairUp}
 use Rattle.state_file.specs.StateFile.{octetsOf}
-
--- ---- the octets of a list, each of whose values has at most so many
-all-most : {A : Type 0} (w : A → List ℕ) (most : ℕ) → ((x : A) → length (w x) ≤ most) → (l : List A) → length (writeAll w l) ≤ length l * most
-unfolding writeAll
-all-most w most f [] = let z = zero-mul most in omega arith
-all-most w most f (x ∷ l) =
-    let ih = all-most w most f l in
-    let a = length-append (w x) (writeAll w l) in
-    let b = f x in
-    let c = suc-mul (length l) most in
-    omega arith
-
-octets-many : (l : List ℕ) → length (writeAll (octet .write) l) ≡ length l
-unfolding writeAll
-octets-many [] = refl
-octets-many (x ∷ l) = let ih = octets-many l in omega arith
 
 -- ---- a scope with parts for at most eight tenants
 scope-most : (n k : ℕ) (c : Scope) → n ≤ 8 → length (scopeFormat k .write (filedScope n c)) ≤ 22
@@ -113,10 +99,10 @@ names-few b v =
     let n = counts-most (b .state) (b .table) (book-sound b v) in
     names-most (b .state .«scope_count») (b .state .«tenant_count») (b .names) (n .1) (n .0) (book-named b v)
 
--- ---- the book: 9 octets of the server, 65 of the tenants, 89 of the scopes, 14,465 of the leases, 6,229 of the names
-pub sound-short : (b : Book) → length (b .table .tenants) ≤ 8 → bookB b ≡ true → length (octetsOf b) ≤ longestFile
-unfolding octetsOf filedBook rulesOf rule1 countsB oneTo
-sound-short k eight v =
+-- ---- the book: 9 octets of the server, 65 of the tenants, 89 of the scopes, 14,465 of the leases, 6,229 of the names, 1,345 of the releases
+pub sound-short : (b : Book) → length (b .table .tenants) ≤ 8 → length (b .memory .releases) ≤ 8 → bookB b ≡ true → length (octetsOf b) ≤ longestFile
+unfolding octetsOf filedBook memoryOctets rulesOf rule1 countsB oneTo
+sound-short k eight all v =
     let s : State = k .state in
     let b : LeaseTable = k .table in
     let p = and-parts (countsB s) (allBy recordsB (b .tenants)) (rules-of s b (book-sound k v) .limits) in
@@ -128,4 +114,5 @@ sound-short k eight v =
     let i = length-take (s .«tenant_count») (s .tenants) in
     let j = length-take (s .«scope_count») (s .scopes) in
     let w = names-few k v in
+    let q = memory-short s b (k .memory) (book-remembers k v) all in
     simp length-append (omega arith)

@@ -8,11 +8,12 @@ use lib.Dec.{eqb}
 use lib.ListN.{drop, getD, length, length-append, length-drop, take}
 use lib.Seq.{getD-append-add, getD-drop}
 use Rattle.address_set.specs.AddressSet.{rises}
-use Rattle.format.specs.Format.{Got, Octets, bad, counted, got, number, octet}
+use Rattle.format.specs.Format.{Octets, counted, got, number, octet}
 use Rattle.format.specs.Place.{Fails, Stands}
 use Rattle.format.specs.Section.{IsAt}
 use Rattle.format.specs.declared.Place.{Place}
 use Rattle.format.specs.declared.Place.the-variants.{At, Nowhere}
+use Rattle.format.specs.laws.Entries.{not-got}
 use Rattle.format.specs.laws.Format.{plain}
 use Rattle.format.specs.laws.Place.{as-nowhere, as-there, fails-second, number-stands, octet-stands, octets-stand, only-fails, only-stands, stands-both, stands-to, viewed-none, viewed-stands}
 use Rattle.format.specs.laws.Section.{SectionInv, entry-in, entry-is, section-broken, section-done, section-next, section-start, section-wrong}
@@ -22,11 +23,6 @@ use Rattle.octets.specs.Octets.{at32, octets32}
 use Rattle.state_file.specs.File.{FileLease, isAfter, leaseAfter, leaseFormat, leaseKey, ofParts, toParts}
 use Rattle.state_file.specs.Place.{LeaseEnds, LeasesEnd, fileLeaseAt, nextAt}
 use Rattle.state_file.specs.laws.File.{lease-lawful}
-
--- nothing is got where nothing can be
-pub not-got : {A : Type 0} (g : Got A) → ((x : A) (r : List ℕ) → g ≡ got x r → ⊥) → g ≡ bad
-not-got (got x r) h = absurd (h x r refl)
-not-got bad h = refl
 
 -- what its octets say of its lengths
 record Shape (s : List ℕ) (at : ℕ) (x : FileLease) (r : List ℕ) : Type 0 where

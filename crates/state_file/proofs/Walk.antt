@@ -1,31 +1,19 @@
 -- Laws: what the loops over a part of the octets keep.
 use mathlib.Core.Bool.{Bool, false, true}
-use mathlib.Core.List.{List, _∷_}
-use mathlib.Core.Path.{_∙_, _≡_, ap, ap₂, refl, sym}
+use mathlib.Core.List.{List}
+use mathlib.Core.Path.{_∙_, _≡_, ap, refl, sym}
 use Prim.Native.Nat.{_+_, _<_, _≤_, ℕ}
 use native.Mathlib.Numerals.{add-one}
 use native.Mathlib.Omega.{arith}
 use lib.Dec.{ltb}
 use lib.ListN.{drop, drop-of-length-le, getD, length, length-drop, take}
-use lib.Seq.{drop-cons, getD-drop, getD-take, length-take-le}
+use lib.Seq.{getD-drop}
 use borrow.Author.Tests.{le-ltb, lt-ltb}
 use Rattle.address_set.specs.AddressSet.{rises, risesFrom}
 use Rattle.identifier.specs.laws.Order.{OrderInv, order-both, order-less, order-longer, order-more, order-next, order-shorter}
 use Rattle.identifier.specs.Order.{orderOf}
 use Rattle.lists.specs.Pick.{pick}
-
--- the k octets from at on
-abbrev pub part : List ℕ → ℕ → ℕ → List ℕ
-part s at k = take k (drop at s)
-
-pub part-length : (s : List ℕ) (at k : ℕ) → at + k ≤ length s → length (part s at k) ≡ k
-part-length s at k h = length-take-le k (drop at s) (let e = length-drop at s in omega arith)
-
--- the next octet and the rest
-pub part-next : (s : List ℕ) (at k i : ℕ) → at + k ≤ length s → i < k → drop i (part s at k) ≡ getD s (at + i) 0 ∷ drop (i + 1) (part s at k)
-part-next s at k i h g =
-    drop-cons (part s at k) i 0 (let e = part-length s at k h in omega arith)
-    ∙ ap₂ {C = List ℕ} (λ (x : ℕ) (n : ℕ). x ∷ drop n (part s at k)) (getD-take k (drop at s) i 0 g ∙ getD-drop at s i 0) (sym (add-one i))
+use Rattle.octets.specs.laws.Run.{part-length, part-next}
 
 pub record RiseInv (s : List ℕ) (at k i least : ℕ) : Type 0 where
   pub fits : at + k ≤ length s

@@ -6,8 +6,7 @@ use Prim.Native.Nat.{_*_, _+_, _-_, _<_, _≤_, ℕ}
 use native.Mathlib.Nat.{mul-le-mul}
 use native.Mathlib.Omega.{arith}
 use lib.Dec.{leb}
-use lib.ListN.{drop, drop-of-length-le, getD, length, take}
-use lib.Seq.{take-all}
+use lib.ListN.{drop, getD, length, length-drop, take}
 use borrow.Author.Tests.{le-leb, lt-leb}
 use Rattle.format.specs.Format.{Format, _⊗_, _▷_, after, bad, closed, counted, got, number}
 use Rattle.format.specs.Place.{Ends, EndsAs, countedEnd, row}
@@ -15,13 +14,15 @@ use Rattle.format.specs.declared.Place.{Place}
 use Rattle.format.specs.declared.Place.the-variants.{At, Nowhere}
 use Rattle.format.specs.laws.Fixed.{Fixed, after-ends, after-other, after-short, counted-place, fixed-as, fixed-both, fixed-ends, fixed-is, fixed-number, fixed-octet, fixed-times, fixed-viewed, walk-length}
 use Rattle.format.specs.laws.Format.{then-with}
-use Rattle.format.specs.laws.Place.{as-in, as-is, closed-ends, closed-not, closed-over, ends-at, ends-not, ends-value, then-ends, then-not, viewed-ends}
+use Rattle.format.specs.laws.Place.{as-in, as-is, closed-ends, closed-not, closed-over, ends-at, ends-in, ends-not, ends-value, then-ends, then-not, viewed-ends}
 use Rattle.format.specs.Section.{verbatim}
 use Rattle.format.specs.laws.Section.{section-is, section-row}
 use Rattle.lists.specs.Pick.{pick}
 use Rattle.names.specs.Names.{namesFormat, valueOr}
 use Rattle.names.specs.laws.Names.{section-octets}
 use Rattle.octets.specs.Octets.{at32}
+use Rattle.release_file.specs.Place.{ReleaseSection, releasesIn}
+use Rattle.release_file.specs.Section.{FileRelease, releasesFormat}
 use Rattle.state.specs.declared.ClientRange.{ClientRange}
 use Rattle.state_file.specs.File.{FileLease, FilePart, FileScope, Sections, fileFormat, fileLimit, fileOf, lastFormat, leasesFormat, ofSections, partFormat, scopeFormat, tenantFormat, toSections}
 use Rattle.state_file.specs.Place.{FormedBy, LeaseSection, fileAt, fileScopeAt, partAt, rangeAt, scopesIn, sectionAt, tenantCount}
@@ -51,23 +52,25 @@ fixed-scope h =
 abbrev Server : Format (ℕ × ℕ)
 Server = after 1 (number ⊗ number)
 
-abbrev afterScopes : List ClientRange → List FileScope → Format (List FileLease × List ℕ)
+abbrev afterScopes : List ClientRange → List FileScope → Format (List FileLease × (List ℕ × List FileRelease))
 afterScopes ts cs = lastFormat cs ts
 
-abbrev afterTenants : List ClientRange → Format (List FileScope × (List FileLease × List ℕ))
+abbrev afterTenants : List ClientRange → Format (List FileScope × (List FileLease × (List ℕ × List FileRelease)))
 afterTenants ts = counted (scopeFormat (length ts)) ▷ afterScopes ts
 
-abbrev afterServer : (ℕ × ℕ) → Format (List ClientRange × (List FileScope × (List FileLease × List ℕ)))
+abbrev afterServer : (ℕ × ℕ) → Format (List ClientRange × (List FileScope × (List FileLease × (List ℕ × List FileRelease))))
 afterServer p = counted tenantFormat ▷ afterTenants
 
--- names that end where the octets do are all that is left
-rest-is : (k h : ℕ) (s : List ℕ) (at n : ℕ) → Ends (namesFormat k h) s at 1 (At n) → n ≡ length s → valueOr [] (verbatim (namesFormat k h) .read (drop at s)) ≡ drop at s
+-- the names are the octets from their place to where they end
+names-is : (k h : ℕ) (s : List ℕ) (at n : ℕ) → Ends (namesFormat k h) s at 1 (At n) → valueOr [] (verbatim (namesFormat k h) .read (drop at s)) ≡ take (n - at) (drop at s)
 unfolding valueOr
-rest-is k h s at n v e =
+names-is k h s at n v =
     let w = ends-value v in
+    let b = ends-in v in
+    let d = length-drop at s in
+    let e = length-drop n s in
     ap (valueOr []) (then-with _ (w .0) (drop n s) (w .1 .reads))
-    ∙ ap (λ (l : List ℕ). take (length (drop at s) - length l) (drop at s)) (drop-of-length-le s {i = n} (omega arith))
-    ∙ take-all (length (drop at s) - 0) (drop at s) (omega arith)
+    ∙ ap (λ (m : ℕ). take m (drop at s)) (let q : length (drop at s) - length (drop n s) ≡ n - at = omega arith in q)
 
 module _ (s : List ℕ) where
   file-bad : closed (fileFormat .read s) ≡ bad → fileOf s ≡ bad
@@ -87,11 +90,11 @@ module _ (s : List ℕ) where
 
   pub form-short : length s < 9 → FormedBy s Wrong
   unfolding FormedBy
-  form-short h = not-file (then-not afterServer 0 ((0, 0), ([], ([], ([], [])))) (after-short fixed-pair 1 s 0 (0, 0) 0 (omega arith) (omega arith)))
+  form-short h = not-file (then-not afterServer 0 ((0, 0), ([], ([], ([], ([], []))))) (after-short fixed-pair 1 s 0 (0, 0) 0 (omega arith) (omega arith)))
 
   pub form-tag : 9 ≤ length s → (getD s 0 0 ≡ 1 → ⊥) → FormedBy s Wrong
   unfolding FormedBy
-  form-tag h e = not-file (then-not afterServer 0 ((0, 0), ([], ([], ([], [])))) (after-other fixed-pair 1 s 0 (0, 0) 0 e (omega arith)))
+  form-tag h e = not-file (then-not afterServer 0 ((0, 0), ([], ([], ([], ([], []))))) (after-other fixed-pair 1 s 0 (0, 0) 0 e (omega arith)))
 
   module _ (one : getD s 0 0 ≡ 1) (long : 9 ≤ length s) where
     server : EndsAs Server (at32 s 1, at32 s 5) s 0 9 (At 9)
@@ -111,7 +114,7 @@ module _ (s : List ℕ) where
 
     pub form-tenants : {r : Place} → r ≡ countedEnd s 9 8 → r ≡ Nowhere → FormedBy s Wrong
     unfolding FormedBy
-    form-tenants e p = not-file (then-ends afterServer server (then-not afterTenants 0 ([], ([], ([], []))) (tenants e p)))
+    form-tenants e p = not-file (then-ends afterServer server (then-not afterTenants 0 ([], ([], ([], ([], [])))) (tenants e p)))
 
     module _ {a : ℕ} {r : Place} (er : r ≡ countedEnd s 9 8) (pr : r ≡ At a) (h : ℕ) (eh : h ≡ getD s 9 0) where
       cs : List FileScope
@@ -125,7 +128,7 @@ module _ (s : List ℕ) where
 
       pub form-scopes : {u : Place} → u ≡ countedEnd s a (6 + h * 2) → u ≡ Nowhere → FormedBy s Wrong
       unfolding FormedBy
-      form-scopes e p = not-file (then-ends afterServer server (then-ends afterTenants (tenants er pr) (then-not (afterScopes ts) 0 ([], ([], [])) (scopes e p))))
+      form-scopes e p = not-file (then-ends afterServer server (then-ends afterTenants (tenants er pr) (then-not (afterScopes ts) 0 ([], ([], ([], []))) (scopes e p))))
 
       module _ {b : ℕ} {u : Place} (eu : u ≡ countedEnd s a (6 + h * 2)) (pu : u ≡ At b) where
         ls : List FileLease
@@ -135,12 +138,15 @@ module _ (s : List ℕ) where
         unfolding ls
         leases v p = section-is v p .ends
 
-        first : {y : List FileLease × List ℕ} {n : ℕ} {q : Place} → EndsAs (lastFormat cs ts) y s b n q → EndsAs (Server ▷ afterServer) ((at32 s 1, at32 s 5), (ts, (cs, y))) s 0 (9 + (1 + (1 + n))) q
+        first : {y : List FileLease × (List ℕ × List FileRelease)} {n : ℕ} {q : Place} → EndsAs (lastFormat cs ts) y s b n q → EndsAs (Server ▷ afterServer) ((at32 s 1, at32 s 5), (ts, (cs, y))) s 0 (9 + (1 + (1 + n))) q
         first v = then-ends afterServer server (then-ends afterTenants (tenants er pr) (then-ends (afterScopes ts) (scopes eu pu) v))
 
+        afterLeases : Format (List ℕ × List FileRelease)
+        afterLeases = verbatim (namesFormat (length cs) (length ts)) ⊗ releasesFormat
+
         pub form-leases : {w : Place} → LeaseSection s b w → w ≡ Nowhere → FormedBy s Wrong
-        unfolding FormedBy
-        form-leases v p = not-file (first (then-not (λ _. verbatim (namesFormat (length cs) (length ts))) 0 ([], []) (leases v p)))
+        unfolding FormedBy afterLeases
+        form-leases v p = not-file (first (then-not (λ _. afterLeases) 0 ([], ([], [])) (leases v p)))
 
         module _ {w : Place} {c : ℕ} (v : LeaseSection s b w) (p : w ≡ At c) where
           counts : (getD s a 0 ≡ length cs) × (getD s 9 0 ≡ length ts)
@@ -154,44 +160,63 @@ module _ (s : List ℕ) where
           ns : List ℕ
           ns = valueOr [] (verbatim (namesFormat (length cs) (length ts)) .read (drop c s))
 
-          whole : {q : Place} → Ends (namesFormat (getD s a 0) (getD s 9 0)) s c 1 q → EndsAs (Server ▷ afterServer) ((at32 s 1, at32 s 5), (ts, (cs, (ls, ns)))) s 0 (9 + (1 + (1 + (1 + 1)))) q
+          names : {q : Place} → Ends (namesFormat (getD s a 0) (getD s 9 0)) s c 1 q → EndsAs (verbatim (namesFormat (length cs) (length ts))) ns s c 1 q
           unfolding ns
-          whole u = first (then-ends (λ _. verbatim (namesFormat (length cs) (length ts))) (leases v p) (section-octets (length cs) (length ts) s c (same-counts u)))
+          names u = section-octets (length cs) (length ts) s c (same-counts u)
 
-          module _ {z : Place} (last : Ends (namesFormat (getD s a 0) (getD s 9 0)) s c 1 z) where
+          second : {y : List ℕ × List FileRelease} {n : ℕ} {q : Place} → EndsAs afterLeases y s c n q → EndsAs (Server ▷ afterServer) ((at32 s 1, at32 s 5), (ts, (cs, (ls, y)))) s 0 (9 + (1 + (1 + (1 + n)))) q
+          unfolding afterLeases
+          second u = first (then-ends (λ _. afterLeases) (leases v p) u)
+
+          module _ {z : Place} (k : Ends (namesFormat (getD s a 0) (getD s 9 0)) s c 1 z) where
             pub form-names : z ≡ Nowhere → FormedBy s Wrong
-            unfolding FormedBy
-            form-names f = not-file (whole (ends-not last f))
+            unfolding FormedBy afterLeases
+            form-names f = not-file (second (then-not (λ _. releasesFormat) 0 ([], []) (names (ends-not k f))))
 
-            module _ {n : ℕ} (f : z ≡ At n) where
-              pub form-over : (n ≡ length s → ⊥) → FormedBy s Wrong
+            module _ {d : ℕ} (f : z ≡ At d) {x : Place} (last : ReleaseSection s d x) where
+              whole : {q : Place} → x ≡ q → EndsAs (Server ▷ afterServer) ((at32 s 1, at32 s 5), (ts, (cs, (ls, (ns, releasesIn s d))))) s 0 (9 + (1 + (1 + (1 + (1 + 1))))) q
+              unfolding afterLeases
+              whole e = second (then-ends (λ _. releasesFormat) (names (ends-at k f)) (section-is last e .ends))
+
+              pub form-releases : x ≡ Nowhere → FormedBy s Wrong
               unfolding FormedBy
-              form-over e = file-bad (closed-over (viewed-ends ofSections toSections (whole (ends-at last f))) e)
+              form-releases e = not-file (whole e)
 
-              pub form-right : length s ≤ fileLimit → n ≡ length s → FormedBy s (Right (record { scopes = a; leases = b; names = c }))
-              unfolding FormedBy fileOf fileAt ts cs ls ns pick
-              form-right h e =
-                  let x = counted-place s 9 8 (sym er ∙ pr) in
-                  let y = counted-place s a _ (sym eu ∙ pu) in
-                  let g = section-row (section-is v p) in
-                  record {
-                    file = ap (λ (b : Bool). pick b (closed (fileFormat .read s)) bad) (le-leb _ _ h) ∙ closed-ends (viewed-ends ofSections toSections (whole (ends-at last f))) e
-                        ∙ ap (λ (l : List ℕ). got (record { server = at32 s 1; clock = at32 s 5; tenants = ts; scopes = cs; leases = ls; names = l }) [])
-                        (rest-is (length cs) (length ts) s c n (same-counts (ends-at last f)) e);
-                    tenants = x .1;
-                    sizes = y .1 ∙ ap (λ (n : ℕ). a + 1 + getD s a 0 * (6 + n * 2)) eh;
-                    records = record { start = omega arith; each = g .1 };
-                    last = as-in (leases v p) .1;
-                  }
+              module _ {n : ℕ} (g : x ≡ At n) where
+                pub form-over : (n ≡ length s → ⊥) → FormedBy s Wrong
+                unfolding FormedBy
+                form-over e = file-bad (closed-over (viewed-ends ofSections toSections (whole g)) e)
 
--- the place of a count, and that of what follows the leases
+                pub form-right : length s ≤ fileLimit → n ≡ length s → FormedBy s (Right (record { scopes = a; leases = b; names = c; releases = d }))
+                unfolding FormedBy fileOf fileAt ts cs ls ns pick
+                form-right h e =
+                    let x = counted-place s 9 8 (sym er ∙ pr) in
+                    let y = counted-place s a _ (sym eu ∙ pu) in
+                    let r = section-row (section-is v p) in
+                    let q = section-row (section-is last g) in
+                    let i = ends-in (ends-at k f) in
+                    record {
+                      file = ap (λ (b : Bool). pick b (closed (fileFormat .read s)) bad) (le-leb _ _ h) ∙ closed-ends (viewed-ends ofSections toSections (whole g)) e
+                          ∙ ap (λ (l : List ℕ). got (record { server = at32 s 1; clock = at32 s 5; tenants = ts; scopes = cs; leases = ls; names = l; releases = releasesIn s d }) [])
+                          (names-is (length cs) (length ts) s c d (same-counts (ends-at k f)));
+                      tenants = x .1;
+                      sizes = y .1 ∙ ap (λ (n : ℕ). a + 1 + getD s a 0 * (6 + n * 2)) eh;
+                      records = record { start = omega arith; each = r .1 };
+                      names = omega arith;
+                      last = record { start = omega arith; each = q .1 };
+                    }
+
+-- the place of a count, and those of what follows the leases and the names
 pub count-in : (s : List ℕ) (at z : ℕ) {a : ℕ} {r : Place} → r ≡ countedEnd s at z → r ≡ At a → at < length s
 count-in s at z e p = counted-place s at z (sym e ∙ p) .0
 
 pub section-in : (s : List ℕ) {b c : ℕ} {w : Place} → LeaseSection s b w → w ≡ At c → c ≤ length s
 section-in s v p = as-in (section-is v p .ends) .1
 
+pub names-inside : (s : List ℕ) (k h : ℕ) {c d : ℕ} {z : Place} → Ends (namesFormat k h) s c 1 z → z ≡ At d → d ≤ length s
+names-inside s k h u f = ends-in (ends-at u f) .1
+
 pub octets-bound : (n z : ℕ) → n < 256 → z < 600 → n * z < 200000
 octets-bound n z h g = let l : n * z ≤ 255 * 599 = mul-le-mul (let a : n ≤ 255 = omega arith in a) (let b : z ≤ 599 = omega arith in b) in omega arith
 
-pub ruleset forms = (form-long, form-short, form-tag, form-tenants, form-scopes, form-leases, form-names, form-over, form-right)
+pub ruleset forms = (form-long, form-short, form-tag, form-tenants, form-scopes, form-leases, form-names, form-releases, form-over, form-right)

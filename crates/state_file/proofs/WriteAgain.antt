@@ -1,11 +1,11 @@
 -- Laws: a sound book's file is one that the records can hold, and its records are the book's.
 use mathlib.Core.Bool.{Bool, _&&_, false, true}
-use mathlib.Core.List.{List, [], _++_, _∷_, append-nil, map}
+use mathlib.Core.List.{List, [], _∷_, append-nil, map}
 use mathlib.Core.Path.{_∙_, _≡_, ap, ap₂, refl, subst, sym}
 use Prim.Native.Nat.{_*_, _+_, _-_, _<_, _≤_, min, suc, zero, ℕ}
 use native.Mathlib.Omega.{arith}
 use lib.Dec.{eqb, leb, ltb}
-use lib.ListN.{drop, getD, length, length-append, length-drop, length-map, replicate, take}
+use lib.ListN.{List·getD-map, drop, getD, length, length-drop, length-map, replicate, take}
 use lib.Seq.{length-take-le}
 use borrow.Author.Tests.{eqb-true, le-leb, le-ltb, leb-true, lt-ltb, ne-eqb}
 use Rattle.address_set.specs.AddressSet.{offsets}
@@ -13,54 +13,38 @@ use Rattle.address_set.specs.laws.Bits.{length-offsets}
 use Rattle.address_set.specs.laws.Offsets.{offsets-small, rises-offsets}
 use Rattle.format.specs.Format.{Got, Octets, bad, got}
 use Rattle.format.specs.Place.{isWhole}
-use Rattle.format.specs.Section.{orderedFrom, verbatim}
+use Rattle.format.specs.Section.{verbatim}
+use Rattle.format.specs.Tenants.{apart}
+use Rattle.format.specs.laws.Tenants.{apart-at, filed-each, filed-most, filed-ordered}
 use Rattle.identifier.specs.Order.{orderOf}
 use Rattle.lists.specs.All.{All, allBy, allTo, pairsBy}
-use Rattle.lists.specs.laws.All.{all-append, all-cons, all-head, each-to, pairs-head}
+use Rattle.lists.specs.laws.All.{all-cons, all-drop, all-facts, all-head, all-mapped, all-take, all-tests, each-to, one-fact, two-facts}
 use Rattle.lists.specs.laws.Both.{and-parts}
 use Rattle.lists.specs.Pick.{pick}
 use Rattle.names.specs.Names.{Name, namesB, namesFormat}
 use Rattle.names.specs.laws.Names.{names-lawful}
+use Rattle.release_file.specs.Section.{filedMemory, releasesFitB, storedMemory}
+use Rattle.releases.specs.Rules.{memoryB}
 use Rattle.soundness.specs.laws.Book.{AllRules, rules-of}
 use Rattle.soundness.specs.Sound.{blankB, countsB, oneTo, idB, layoutB, paddedB, rangeZero, recordsB, rule1, rule19, rulesOf, scopeZero, settingsB, sizeB, soundB, tailB, unusedB, zeroFrom}
 use Rattle.state.specs.Book.{byIdentifier, idOf, inUse, laidOut, leaseWith, leasesOf, ordered, rangesOf, scopesOf, tableOf, zeroLease, zeroScope}
 use Rattle.state.specs.declared.ClientRange.{ClientRange}
 use Rattle.state.specs.declared.Lease.{Lease}
 use Rattle.state.specs.declared.LeaseTable.{LeaseTable}
+use Rattle.state.specs.declared.Memory.{Memory}
 use Rattle.state.specs.declared.Scope.{Scope}
 use Rattle.state.specs.declared.State.{State}
 use Rattle.state.specs.declared.TenantLeases.{TenantLeases}
-use Rattle.state_file.proofs.ReadAgain.{all-facts, two-facts}
+use Rattle.state_file.proofs.Remembered.{memory-held, memory-same, memory-written}
 use Rattle.state_file.proofs.RowLaws.{pair-length}
-use Rattle.state_file.specs.File.{File, FileLease, fileFormat, isAfter, leaseFormat, partFormat, scopeFormat, tenantFormat}
+use Rattle.state_file.proofs.Zeros.{zero-tail, zero-whole}
+use Rattle.state_file.specs.File.{File, FileLease, fileFormat, isAfter, leaseAfter, leaseFormat, leaseKey, partFormat, scopeFormat, tenantFormat}
 use Rattle.state_file.specs.laws.Records.{Neat, filled-back}
 use Rattle.state_file.specs.Records.{countsFit, fewOf, filedLease, filedBook, filedFrom, filedScope, filled, fitsB, isOffset, leasesFitB, ofTenant, pairUp, storableB, stored, storedScope, storedState, storedTable, tenantsFrom, zeroRange}
 use Rattle.state_file.specs.laws.File.{leasesFrom}
-use Rattle.state_file.specs.laws.Tenants.{leases-back}
+use Rattle.state_file.specs.laws.Tenants.{filed-all, leases-back, tenants-apart}
+use Rattle.state_file.specs.Place.{leaseTenant}
 use Rattle.state_file.specs.Typed.{Typed, TypedLease, TypedRange, TypedScope, TypedTenant}
-
--- ---- facts about all of a list
-pub all-take : {A : Type 0} (P : A → Type 0) (n : ℕ) (l : List A) → All P l → All P (take n l)
-unfolding All
-all-take P zero l h = tt
-all-take P (suc n) [] h = tt
-all-take P (suc n) (x ∷ l) h = (h .0, all-take P n l (h .1))
-
-pub all-drop : {A : Type 0} (P : A → Type 0) (n : ℕ) (l : List A) → All P l → All P (drop n l)
-unfolding All
-all-drop P zero l h = h
-all-drop P (suc n) [] h = tt
-all-drop P (suc n) (x ∷ l) h = all-drop P n l (h .1)
-
-all-mapped : {A B : Type 0} (P : B → Type 0) (g : A → B) (l : List A) → All (λ x. P (g x)) l → All P (map g l)
-unfolding All
-all-mapped P g [] h = tt
-all-mapped P g (x ∷ l) h = (h .0, all-mapped P g l (h .1))
-
-all-joined : {A : Type 0} (P : A → Type 0) (x y : List A) → All P x → All P y → All P (x ++ y)
-unfolding All
-all-joined P [] y p q = q
-all-joined P (a ∷ x) y p q = (p .0, all-joined P x y (p .1) q)
 
 all-weak : (m n : ℕ) (l : List ℕ) → m ≤ n → All (λ x. x < m) l → All (λ x. x < n) l
 unfolding All
@@ -68,20 +52,6 @@ all-weak m n [] h a = tt
 all-weak m n (x ∷ l) h a = (let g = a .0 in omega arith, all-weak m n l h (a .1))
 
 -- ---- what is unused is zero
-zeros-are : (l : List ℕ) → allBy (λ x. eqb x 0) l ≡ true → l ≡ replicate (length l) 0
-zeros-are [] e = refl
-zeros-are (x ∷ l) e =
-    let p = all-head (λ x. eqb x 0) x l e in
-    ap₂ {C = List ℕ} (λ (y : ℕ) (r : List ℕ). y ∷ r) (eqb-true x 0 (p .0)) (zeros-are l (p .1))
-
-zero-tail : (n k : ℕ) (l : List ℕ) → length l ≡ k → zeroFrom n l ≡ true → drop n l ≡ replicate (k - n) 0
-unfolding zeroFrom
-zero-tail n k l e h = zeros-are (drop n l) h ∙ ap (λ (j : ℕ). replicate j 0) (length-drop n l ∙ ap (λ (j : ℕ). j - n) e)
-
-zero-whole : (k : ℕ) (l : List ℕ) → length l ≡ k → zeroFrom 0 l ≡ true → l ≡ replicate k 0
-unfolding zeroFrom
-zero-whole k l e h = zeros-are l h ∙ ap (λ (j : ℕ). replicate j 0) e
-
 range-zero : (r : ClientRange) → rangeZero r ≡ true → r ≡ zeroRange
 unfolding rangeZero
 range-zero r e =
@@ -260,29 +230,23 @@ fine-storable t l h g v =
     let n = id-length l v in let m = v .most in
     passes _ _ (le-ltb t 1 h) (passes _ _ (le-ltb 8 t g) (passes _ _ (le-ltb 32 (length (take (l .«id_len») (l .id))) (omega arith)) (offsets-below (offsets (l .addresses)) (offsets-small (l .addresses)))))
 
--- ---- all tenants
-leases-ok : (t : ℕ) (ts : List TenantLeases) → t + length ts ≤ 256 → All Good ts → All (leaseFormat .ok) (filedFrom t (map inUse ts))
-unfolding All filedFrom
-leases-ok t [] h v = tt
-leases-ok t (x ∷ ts) h v =
-    all-joined (leaseFormat .ok) (map (filedLease t) (inUse x)) (filedFrom (suc t) (map inUse ts))
-    (all-mapped (leaseFormat .ok) (filedLease t) (inUse x) (two-facts Fine Fine (λ l. leaseFormat .ok (filedLease t l)) (inUse x) (λ l p q. fine-ok t l (omega arith) p) (good-fine x (v .0)) (good-fine x (v .0))))
-    (leases-ok (suc t) ts (omega arith) (v .1))
+-- ---- all tenants: what holds of each of its leases, in the records and in the file
+leases-each : (P : Lease → Type 0) → ((l : Lease) → Fine l → P l) → (ts : List TenantLeases) → All Good ts → All (All P) (map inUse ts)
+leases-each P f ts v = all-mapped (All P) inUse ts (one-fact Good (λ t. All P (inUse t)) ts (λ t g. one-fact Fine P (inUse t) f (good-fine t g)) v)
 
-leases-storable : (t : ℕ) (ts : List TenantLeases) → 1 ≤ t → t + length ts ≤ 9 → All Good ts → allBy storableB (filedFrom t (map inUse ts)) ≡ true
-unfolding All filedFrom allBy
-leases-storable t [] l h v = refl
-leases-storable t (x ∷ ts) l h v =
-    all-append storableB (map (filedLease t) (inUse x)) (filedFrom (suc t) (map inUse ts)) (own (inUse x) (good-fine x (v .0))) (leases-storable (suc t) ts (omega arith) (omega arith) (v .1))
-  where
-    own : (ls : List Lease) → All Fine ls → allBy storableB (map (filedLease t) ls) ≡ true
-    own [] p = refl
-    own (y ∷ ls) p = all-cons storableB (filedLease t y) (map (filedLease t) ls) (fine-storable t y l (omega arith) (p .0)) (own ls (p .1))
+filed-fine : (P : FileLease → Type 0) (high : ℕ) → ((t : ℕ) (l : Lease) → 1 ≤ t → t < high → Fine l → P (filedLease t l)) → (ts : List TenantLeases) → 1 + length ts ≤ high → All Good ts
+    → All P (filedFrom 1 (map inUse ts))
+filed-fine P high f ts h v =
+    subst (All P) (sym (filed-all 1 (map inUse ts)))
+    (filed-each filedLease P Fine 1 high f 1 (map inUse ts) (omega arith) (let e = length-map ts inUse in omega arith) (leases-each Fine (λ l p. p) ts v))
 
-leases-neat : (ts : List TenantLeases) → All Good ts → All (All Neat) (map inUse ts)
-unfolding All
-leases-neat [] v = tt
-leases-neat (x ∷ ts) v = (two-facts Fine Fine Neat (inUse x) (λ l p q. fine-neat l p) (good-fine x (v .0)) (good-fine x (v .0)), leases-neat ts (v .1))
+leases-ok : (ts : List TenantLeases) → 1 + length ts ≤ 256 → All Good ts → All (leaseFormat .ok) (filedFrom 1 (map inUse ts))
+leases-ok ts h v = filed-fine (leaseFormat .ok) 256 (λ t l low high p. fine-ok t l high p) ts h v
+
+leases-storable : (ts : List TenantLeases) → 1 + length ts ≤ 9 → All Good ts → allBy storableB (filedFrom 1 (map inUse ts)) ≡ true
+leases-storable ts h v =
+    all-tests storableB (λ x. storableB x ≡ true) (filedFrom 1 (map inUse ts)) (λ x p. p)
+    (filed-fine (λ x. storableB x ≡ true) 9 (λ t l low high p. fine-storable t l low (omega arith) p) ts h v)
 
 leases-laid : (ts : List TenantLeases) → All Good ts → map laidOut (map inUse ts) ≡ ts
 unfolding All
@@ -303,36 +267,23 @@ after-less : (u t : ℕ) (a b : List ℕ) → u < t → isAfter u a t b ≡ fals
 unfolding isAfter pick
 after-less u t a b h = ap (λ (c : Bool). pick c false (pick (ltb t u) true (eqb (orderOf a b) 2))) (lt-ltb u t h)
 
--- the leases after x, and what follows the tenant's
-own-order : (t : ℕ) (x : Lease) (l : List Lease) (rest : List FileLease) → pairsBy ordered (x ∷ l) ≡ true → ((b : List ℕ) → leasesFrom t b rest ≡ true)
-    → leasesFrom t (idOf x) (map (filedLease t) l ++ rest) ≡ true
-unfolding orderedFrom filedLease
-own-order t x [] rest e r = r (idOf x)
-own-order t x (y ∷ l) rest e r =
-    let p = pairs-head ordered x (y ∷ l) e in
-    passes _ _ (after-same t (idOf x) (idOf y) (next-not x y (all-head (ordered x) y l (p .0) .0))) (own-order t y l rest (p .1) r)
-
-enter-order : (u t : ℕ) (a : List ℕ) (l : List Lease) (rest : List FileLease) → u < t → pairsBy ordered l ≡ true → ((v : ℕ) (b : List ℕ) → v ≤ t → leasesFrom v b rest ≡ true)
-    → leasesFrom u a (map (filedLease t) l ++ rest) ≡ true
-unfolding orderedFrom filedLease
-enter-order u t a [] rest h e r = r u a (omega arith)
-enter-order u t a (x ∷ l) rest h e r = passes _ _ (after-less u t a (idOf x) h) (own-order t x l rest e (λ b. r t b (omega arith)))
-
-leases-ordered : (u t : ℕ) (a : List ℕ) (ts : List TenantLeases) → u < t → All Good ts → leasesFrom u a (filedFrom t (map inUse ts)) ≡ true
-unfolding All filedFrom orderedFrom
-leases-ordered u t a [] h v = refl
-leases-ordered u t a (x ∷ ts) h v = enter-order u t a (inUse x) (filedFrom (suc t) (map inUse ts)) h (good-order x (v .0)) (λ w b g. leases-ordered w (suc t) b ts (omega arith) (v .1))
+leases-ordered : (ts : List TenantLeases) → All Good ts → leasesFrom 0 [] (filedFrom 1 (map inUse ts)) ≡ true
+unfolding filedLease
+leases-ordered ts v =
+    ap (leasesFrom 0 []) (filed-all 1 (map inUse ts))
+    ∙ filed-ordered filedLease leaseKey leaseAfter (λ k t. k .0 < t) ordered (λ k t y h. after-less (k .0) t (k .1) (idOf y) h)
+    (λ t x y e. after-same t (idOf x) (idOf y) (next-not x y e)) (λ t y. omega arith) (λ k t h. omega arith) (0, []) 1 (map inUse ts) (omega arith)
+    (all-mapped (λ l. pairsBy ordered l ≡ true) inUse ts (one-fact Good (λ t. pairsBy ordered (inUse t) ≡ true) ts good-order v))
 
 -- ---- how many leases
-leases-many : (t : ℕ) (ts : List TenantLeases) → All Good ts → length (filedFrom t (map inUse ts)) ≤ length ts * 16
-unfolding All filedFrom
-leases-many t [] v = omega arith
-leases-many t (x ∷ ts) v =
-    let ih = leases-many (suc t) ts (v .1) in
-    let a = length-append (map (filedLease t) (inUse x)) (filedFrom (suc t) (map inUse ts)) in
-    let b = length-map (inUse x) (filedLease t) in
-    let c = good-length x (v .0) in
-    let d = good-count x (v .0) in
+each-few : (ts : List TenantLeases) → All Good ts → All (λ l. length l ≤ 16) (map inUse ts)
+each-few ts v = all-mapped (λ l. length l ≤ 16) inUse ts (one-fact Good (λ t. length (inUse t) ≤ 16) ts (λ t g. let a = good-length t g in let b = good-count t g in omega arith) v)
+
+leases-many : (ts : List TenantLeases) → All Good ts → length (filedFrom 1 (map inUse ts)) ≤ length ts * 16
+leases-many ts v =
+    let f = ap length (filed-all 1 (map inUse ts)) in
+    let m = filed-most filedLease 16 1 (map inUse ts) (each-few ts v) in
+    let e = length-map ts inUse in
     omega arith
 
 -- ---- scopes
@@ -383,17 +334,15 @@ scope-ok n k c h e v =
     (v .lowest, (v .size, (v .ttl, (length-take-le n (pairUp (c .reserve) (c .limit)) (omega arith) ∙ sym e, all-take (partFormat .ok) n (pairUp (c .reserve) (c .limit)) (parts-ok (c .reserve) (c .limit) (v .reserve) (v .limit))))))
 
 -- ---- tenant by tenant
-tenant-at : (n t i : ℕ) (xs : List FileLease) → i < n → getD (tenantsFrom t n xs) i [] ≡ map stored (ofTenant (i + t) xs)
-unfolding tenantsFrom
-tenant-at zero t i xs h = absurd (omega arith)
-tenant-at (suc n) t zero xs h = ap (λ (k : ℕ). map stored (ofTenant k xs)) (let e : t ≡ 0 + t = omega arith in e)
-tenant-at (suc n) t (suc i) xs h = tenant-at n (suc t) i xs (omega arith) ∙ ap (λ (k : ℕ). map stored (ofTenant k xs)) (let e : i + suc t ≡ suc i + t = omega arith in e)
+tenant-at : (i : ℕ) (xs : List FileLease) → i < 8 → getD (tenantsFrom 1 8 xs) i [] ≡ map stored (ofTenant (i + 1) xs)
+tenant-at i xs h =
+    ap (λ (ls : List (List Lease)). getD ls i []) (tenants-apart 1 8 xs) ∙ List·getD-map (map stored) (apart leaseTenant 1 8 xs) i [] ∙ ap (map stored) (apart-at leaseTenant 8 1 i xs h)
 
-leases-few : (i : ℕ) (ts : List TenantLeases) → All Good ts → length (getD (map inUse ts) i []) ≤ 16
+leases-few : (i : ℕ) (ls : List (List Lease)) → All (λ l. length l ≤ 16) ls → length (getD ls i []) ≤ 16
 unfolding All
 leases-few i [] v = omega arith
-leases-few zero (x ∷ ts) v = let a = good-length x (v .0) in let b = good-count x (v .0) in omega arith
-leases-few (suc i) (x ∷ ts) v = leases-few i ts (v .1)
+leases-few zero (l ∷ ls) v = v .0
+leases-few (suc i) (l ∷ ls) v = leases-few i ls (v .1)
 
 picked : (b : Bool) (c : Bool) → b ≡ true → pick true b c ≡ true
 unfolding pick
@@ -411,9 +360,9 @@ names-ok k h m n names ek eh o e = subst (λ (x : ℕ). verbatim (namesFormat x 
     go bad p w = let z : _≡_ {A = ℕ} 0 1 = cc in absurd (omega arith)
 
 -- ---- the book
-module _ (s : State) (b : LeaseTable) (v : Typed s b) (e : soundB s b ≡ true) (names : List ℕ) where
+module _ (s : State) (b : LeaseTable) (m : Memory) (v : Typed s b m) (e : soundB s b ≡ true) (w : memoryB s b m ≡ true) (names : List ℕ) where
   abbrev filed : File
-  filed = filedBook (record { state = s; table = b; names = names })
+  filed = filedBook (record { state = s; table = b; memory = m; names = names })
 
   rules : AllRules (rulesOf s b)
   rules = rules-of s b e
@@ -455,13 +404,13 @@ module _ (s : State) (b : LeaseTable) (v : Typed s b) (e : soundB s b ≡ true) 
 
   -- its file has octets, few enough
   leases-total : length (filedFrom 1 (leasesOf b)) ≤ 128
-  leases-total = let m = leases-many 1 (b .tenants) good in omega (arith, v .tenants)
+  leases-total = let k = leases-many (b .tenants) good in omega (arith, v .tenants)
 
   pub book-ok : Octets names → namesB (s .«scope_count») (s .«tenant_count») names ≡ true → fileFormat .ok filed
   unfolding filedBook
   book-ok o good-names =
       let t = leases-total in
-      let n = tenants-few in let m = scopes-few in
+      let n = tenants-few in let k = scopes-few in
       let a = ranges-many in let c = scopes-many in
       let d = length-map (scopesOf s) (filedScope (s .«tenant_count»)) in (
         (v .server, v .clock),
@@ -470,45 +419,48 @@ module _ (s : State) (b : LeaseTable) (v : Typed s b) (e : soundB s b ≡ true) 
           (
             (let g : length (map (filedScope (s .«tenant_count»)) (scopesOf s)) < 256 = omega arith in g, scopes-ok),
             (
-              ((let g : length (filedFrom 1 (leasesOf b)) < 256 = omega arith in g, leases-ok 1 (b .tenants) (omega (arith, v .tenants)) good), leases-ordered 0 1 [] (b .tenants) (omega arith) good),
-              names-ok (s .«scope_count») (s .«tenant_count») _ _ names (sym (d ∙ c)) (sym a) o good-names,
+              ((let g : length (filedFrom 1 (leasesOf b)) < 256 = omega arith in g, leases-ok (b .tenants) (omega (arith, v .tenants)) good), leases-ordered (b .tenants) good),
+              (names-ok (s .«scope_count») (s .«tenant_count») _ _ names (sym (d ∙ c)) (sym a) o good-names, memory-written s b m w (v .memory) (v .releases)),
             ),
           ),
         ),
       )
     where
       ranges-ok : All (tenantFormat .ok) (rangesOf s)
-      ranges-ok = two-facts TypedRange TypedRange (tenantFormat .ok) (rangesOf s) (λ r p q. (p .low, p .high)) (all-take TypedRange (s .«tenant_count») (s .tenants) (v .ranges)) (all-take TypedRange (s .«tenant_count») (s .tenants) (v .ranges))
+      ranges-ok = one-fact TypedRange (tenantFormat .ok) (rangesOf s) (λ r p. (p .low, p .high)) (all-take TypedRange (s .«tenant_count») (s .tenants) (v .ranges))
 
       scopes-ok : All (scopeFormat (length (rangesOf s)) .ok) (map (filedScope (s .«tenant_count»)) (scopesOf s))
       scopes-ok = all-mapped (scopeFormat (length (rangesOf s)) .ok) (filedScope (s .«tenant_count»)) (scopesOf s)
-          (two-facts TypedScope TypedScope (λ c. scopeFormat (length (rangesOf s)) .ok (filedScope (s .«tenant_count») c)) (scopesOf s) (λ c p q. scope-ok (s .«tenant_count») (length (rangesOf s)) c tenants-few ranges-many p)
-          (all-take TypedScope (s .«scope_count») (s .scopes) (v .scopes)) (all-take TypedScope (s .«scope_count») (s .scopes) (v .scopes)))
+          (one-fact TypedScope (λ c. scopeFormat (length (rangesOf s)) .ok (filedScope (s .«tenant_count») c)) (scopesOf s) (λ c p. scope-ok (s .«tenant_count») (length (rangesOf s)) c tenants-few ranges-many p)
+          (all-take TypedScope (s .«scope_count») (s .scopes) (v .scopes)))
 
   -- the records can hold it
   leases-same : tenantsFrom 1 8 (filedFrom 1 (leasesOf b)) ≡ leasesOf b
   leases-same =
       ap (λ (n : ℕ). tenantsFrom 1 n (filedFrom 1 (leasesOf b))) (sym (length-map (b .tenants) inUse ∙ v .tenants))
-      ∙ leases-back (leasesOf b) (leases-neat (b .tenants) good)
+      ∙ leases-back (leasesOf b) (leases-each Neat fine-neat (b .tenants) good)
 
   tenant-few : (i : ℕ) → i < 8 → fewOf (filedFrom 1 (leasesOf b)) (i + 1) ≡ true
   unfolding fewOf
   tenant-few i h =
       let xs : List FileLease = filedFrom 1 (leasesOf b) in
       let p : length (ofTenant (i + 1) (filedFrom 1 (leasesOf b))) ≡ length (getD (leasesOf b) i []) =
-      sym (length-map (ofTenant (i + 1) (filedFrom 1 (leasesOf b))) stored) ∙ ap length (sym (tenant-at 8 1 i (filedFrom 1 (leasesOf b)) h) ∙ ap (λ (l : List (List Lease)). getD l i []) leases-same) in
-      let q = leases-few i (b .tenants) good in
+      sym (length-map (ofTenant (i + 1) (filedFrom 1 (leasesOf b))) stored) ∙ ap length (sym (tenant-at i (filedFrom 1 (leasesOf b)) h) ∙ ap (λ (l : List (List Lease)). getD l i []) leases-same) in
+      let q = leases-few i (leasesOf b) (each-few (b .tenants) good) in
       le-leb _ _ (let g : length (ofTenant (i + 1) (filedFrom 1 (leasesOf b))) ≤ 16 = omega arith in g)
 
   pub book-fits : fitsB (filed) ≡ true
   unfolding fitsB filedBook leasesFitB countsFit
   book-fits =
-      let n = tenants-few in let m = scopes-few in
+      let n = tenants-few in let k = scopes-few in
       let a = ranges-many in let c = scopes-many in
       let d = length-map (scopesOf s) (filedScope (s .«tenant_count»)) in
-      ap (λ (x : Bool). pick x (leasesFitB (filedFrom 1 (leasesOf b))) false) (passes _ _ (le-ltb 8 (length (rangesOf s)) (omega arith)) (le-leb (length (map (filedScope (s .«tenant_count»)) (scopesOf s))) 4 (omega arith)))
-      ∙ picked _ _ (ap (λ (x : Bool). pick x (allTo (λ i. fewOf (filedFrom 1 (leasesOf b)) (i + 1)) 8) false) (leases-storable 1 (b .tenants) (omega arith) (omega (arith, v .tenants)) good)
+      ap (λ (x : Bool). pick x (pick (leasesFitB (filedFrom 1 (leasesOf b))) (releasesFitB (filedMemory m)) false) false)
+      (passes _ _ (le-ltb 8 (length (rangesOf s)) (omega arith)) (le-leb (length (map (filedScope (s .«tenant_count»)) (scopesOf s))) 4 (omega arith)))
+      ∙ picked _ _ (ap (λ (x : Bool). pick x (releasesFitB (filedMemory m)) false)
+      (ap (λ (x : Bool). pick x (allTo (λ i. fewOf (filedFrom 1 (leasesOf b)) (i + 1)) 8) false) (leases-storable (b .tenants) (omega (arith, v .tenants)) good)
       ∙ every-few)
+      ∙ picked _ _ (memory-held s b m w (v .memory) (v .releases)))
     where
       every-few : pick true (allTo (λ i. fewOf (filedFrom 1 (leasesOf b)) (i + 1)) 8) false ≡ true
       every-few = picked _ _ (each-to (λ i. fewOf (filedFrom 1 (leasesOf b)) (i + 1)) 8 tenant-few)
@@ -517,6 +469,10 @@ module _ (s : State) (b : LeaseTable) (v : Typed s b) (e : soundB s b ≡ true) 
   pub table-same : storedTable (filed) ≡ b
   unfolding storedTable filedBook tableOf
   table-same = ap {B = LeaseTable} (λ (l : List TenantLeases). record { tenants = l }) (ap (map laidOut) leases-same ∙ leases-laid (b .tenants) good)
+
+  pub releases-same : storedMemory (filed .releases) ≡ m
+  unfolding filedBook
+  releases-same = memory-same s b m w (v .memory) (v .releases)
 
   cut-tenants : min (s .«tenant_count») 8 ≡ s .«tenant_count»
   cut-tenants = let n = tenants-few in omega arith

@@ -2,7 +2,7 @@
 use mathlib.Core.Bool.{Bool, _&&_, false, true}
 use mathlib.Core.List.{List, [], _++_, _∷_, append-assoc, map}
 use mathlib.Core.Path.{_∙_, _≡_, ap, ap₂, refl, subst, sym}
-use Prim.Native.Nat.{_*_, _+_, _<_, _≤_, min, suc, zero, ℕ}
+use Prim.Native.Nat.{_*_, _+_, _<_, _≤_, min, suc, ℕ}
 use native.Mathlib.Omega.{arith}
 use denote.Ref.{now}
 use lib.Dec.{ltb}
@@ -17,21 +17,27 @@ use Rattle.lists.specs.laws.Sums.{sum-same}
 use Rattle.lists.specs.Sums.{sumTo}
 use Rattle.octets.specs.laws.Octets.{wrote-joined, wrote-whole, wrote-as}
 use Rattle.octets.specs.Octets.{Wrote, octets32}
-use Rattle.soundness.specs.Named.{bookB, namesGood}
+use Rattle.release_file.specs.Section.{memoryOctets}
+use Rattle.releases.specs.Whole.{bookB, memoryGood, namesGood}
 use Rattle.soundness.specs.Sound.{soundB}
 use Rattle.state.specs.Book.{Book, inUse, leasesOf, noLeases, rangesOf, scopesOf}
 use Rattle.state.specs.declared.ClientRange.{ClientRange}
 use Rattle.state.specs.declared.Lease.{Lease}
 use Rattle.state.specs.declared.LeaseTable.{LeaseTable}
+use Rattle.state.specs.declared.Memory.{Memory}
 use Rattle.state.specs.declared.Scope.{Scope}
 use Rattle.state.specs.declared.State.{State}
 use Rattle.state.specs.declared.TenantLeases.{TenantLeases}
-use Rattle.state_file.proofs.RowLaws.{pair-length, row-sum}
+use Rattle.state_file.proofs.RowLaws.{pair-length}
 use Rattle.state_file.specs.File.{FilePart, leaseFormat, partFormat, scopeFormat, tenantFormat}
 use Rattle.format.specs.laws.Format.{plain}
 use Rattle.format.specs.Format.{writeAll}
+use Rattle.format.specs.Rows.{writeFrom}
+use Rattle.format.specs.laws.Rows.{row-all, row-same, row-sum, tenants-octets}
+use Rattle.format.specs.laws.Tenants.{filed-sum}
+use Rattle.state_file.specs.laws.Tenants.{filed-all}
 use Rattle.state_file.specs.Records.{filedLease, filedBook, filedFrom, filedScope, pairUp}
-use Rattle.state_file.specs.Rows.{leaseOctets, leaseTotal, partOctets, partRow, fileRangeOctets, rangeRow, fileScopeOctets, scopeRow, sectionOctets, tableOctets, tenantOctets, tenantRow, writeFrom}
+use Rattle.state_file.specs.Rows.{leaseOctets, leaseTotal, partOctets, partRow, fileRangeOctets, rangeRow, fileScopeOctets, scopeRow, sectionOctets, tableOctets, tenantOctets, tenantRow}
 use Rattle.state_file.specs.StateFile.{octetsOf, roomAfter, writtenOf}
 use Rattle.state_file.specs.declared.Written.{Written}
 
@@ -89,11 +95,6 @@ part-wrote h p q = wrote-joined h p q
 pub range-wrote : {r₀ r₁ r₂ : List ℕ} {at a b : ℕ} (x : ClientRange) → at ≤ length r₀ → Wrote r₀ at (octets32 (x .low)) r₁ a → Wrote r₁ a (octets32 (x .high)) r₂ b → Wrote r₀ at (tenantFormat .write x) r₂ b
 range-wrote x h p q = wrote-joined h p q
 
-row-all : {A : Type 0} (w : A → List ℕ) (k : ℕ) (l : List A) → writeFrom (λ _ x. w x) k l ≡ writeAll w l
-unfolding writeFrom writeAll
-row-all w k [] = refl
-row-all w k (x ∷ l) = ap (λ (r : List ℕ). w x ++ r) (row-all w (suc k) l)
-
 scope-octets : (h : ℕ) (x : Scope) → ((octets32 (x .lowest) ++ (x .size ∷ [])) ++ (x .ttl ∷ [])) ++ partOctets h x ≡ scopeFormat h .write (filedScope h x)
 unfolding filedScope partRow
 scope-octets h x = ap (λ (l : List ℕ). octets32 (x .lowest) ++ x .size ∷ x .ttl ∷ l) (row-all (partFormat .write) 0 (take h (pairUp (x .reserve) (x .limit))))
@@ -120,12 +121,6 @@ pub scope-wrote : {r₀ r₁ r₂ r₃ r₄ : List ℕ} {at a b c d : ℕ} (h : 
     → Wrote r₃ c (partOctets h x) r₄ d → Wrote r₀ at (scopeFormat h .write (filedScope h x)) r₄ d
 scope-wrote h x l p q w z = wrote-as (scope-octets h x) (wrote-joined l (wrote-joined l (wrote-joined l p q) w) z)
 
-pub count-is : {A : Type 0} (m c n : ℕ) (l : List A) → length l ≡ m → n ≡ min c m → n ≡ length (take c l)
-count-is m c n l e p = p ∙ ap (min c) (sym e) ∙ sym (length-take c l)
-
-pub section-wrote : {r₀ r₁ r₂ xs : List ℕ} {at a b n : ℕ} (k : ℕ) → at ≤ length r₀ → n ≡ k → Wrote r₀ at (n ∷ []) r₁ a → Wrote r₁ a xs r₂ b → Wrote r₀ at (k ∷ xs) r₂ b
-section-wrote {r₀} {r₁} {at = at} {a = a} k h e p q = wrote-joined h (wrote-as (ap {B = List ℕ} (λ (n : ℕ). n ∷ []) e) p) q
-
 pub server-wrote : {r₀ r₁ r₂ r₃ : List ℕ} {a b c : ℕ} (x y : ℕ) → Wrote r₀ 0 (1 ∷ []) r₁ a → Wrote r₁ a (octets32 x) r₂ b → Wrote r₂ b (octets32 y) r₃ c → Wrote r₀ 0 (1 ∷ octets32 x ++ octets32 y) r₃ c
 server-wrote x y p q w = wrote-joined (omega arith) (wrote-joined (omega arith) p q) w
 
@@ -139,12 +134,8 @@ lease-length t l n k r e p q z =
     (omega arith, omega arith)
 
 tenant-any : (t k : ℕ) (l : List Lease) → length (writeFrom (leaseOctets t) k l) ≡ length (writeFrom (leaseOctets 0) k l)
-unfolding writeFrom leaseOctets
-tenant-any t k [] = refl
-tenant-any t k (x ∷ l) =
-    length-append (leaseFormat .write (filedLease t x)) (writeFrom (leaseOctets t) (suc k) l)
-    ∙ ap₂ (λ (a b : ℕ). a + b) (lease-size t x ∙ sym (lease-size 0 x)) (tenant-any t (suc k) l)
-    ∙ sym (length-append (leaseFormat .write (filedLease 0 x)) (writeFrom (leaseOctets 0) (suc k) l))
+unfolding leaseOctets
+tenant-any t k l = row-same (leaseOctets t) (leaseOctets 0) (λ i x. lease-size t x ∙ sym (lease-size 0 x)) k l
 
 pub table-length : (b : LeaseTable) (sum : ℕ) → length (b .tenants) ≡ 8 → sum ≡ sumTo (λ i. length (tenantOctets 0 (getD (b .tenants) i noLeases))) 8 → sum ≡ length (tableOctets b)
 unfolding tenantRow
@@ -162,50 +153,12 @@ pub scope-length : (c : Scope) (h n : ℕ) → length (c .reserve) ≡ 8 → len
 scope-length c h n p q e = (sym (scope-size h n c p q e), omega arith)
 
 -- ---- the sections as they are written
-filed-octets : (t : ℕ) (l : List Lease) → writeAll (leaseFormat .write) (map (filedLease t) l) ≡ writeFrom (leaseOctets t) 0 l
-unfolding writeAll writeFrom leaseOctets
-filed-octets t l = go 0 l
-  where
-    go : (k : ℕ) (l : List Lease) → writeAll (leaseFormat .write) (map (filedLease t) l) ≡ writeFrom (leaseOctets t) k l
-    go k [] = refl
-    go k (x ∷ l) = ap (λ (r : List ℕ). leaseFormat .write (filedLease t x) ++ r) (go (suc k) l)
-
-write-append : {A : Type 0} (w : A → List ℕ) (x y : List A) → writeAll w (x ++ y) ≡ writeAll w x ++ writeAll w y
-unfolding writeAll
-write-append w [] y = refl
-write-append w (a ∷ x) y = ap (λ (l : List ℕ). w a ++ l) (write-append w x y) ∙ sym (append-assoc (w a) (writeAll w x) (writeAll w y))
-
-table-octets : (k : ℕ) (hs : List TenantLeases) → writeAll (leaseFormat .write) (filedFrom (k + 1) (map inUse hs)) ≡ writeFrom tenantRow k hs
-unfolding writeFrom writeAll filedFrom tenantRow
-table-octets k [] = refl
-table-octets k (h ∷ hs) =
-    write-append (leaseFormat .write) (map (filedLease (k + 1)) (inUse h)) (filedFrom (suc (k + 1)) (map inUse hs))
-    ∙ ap₂ {C = List ℕ} (λ (x y : List ℕ). x ++ y) (filed-octets (k + 1) (inUse h))
-    (ap (λ (j : ℕ). writeAll (leaseFormat .write) (filedFrom j (map inUse hs))) (let e : suc (k + 1) ≡ suc k + 1 = omega arith in e) ∙ table-octets (suc k) hs)
-
--- how many elements the lists have
-total : List (List Lease) → ℕ
-total [] = 0
-total (l ∷ ls) = length l + total ls
-
-filed-count : (t : ℕ) (ls : List (List Lease)) → length (filedFrom t ls) ≡ total ls
-unfolding filedFrom total
-filed-count t [] = refl
-filed-count t (l ∷ ls) = length-append (map (filedLease t) l) (filedFrom (suc t) ls) ∙ ap₂ (λ (a b : ℕ). a + b) (length-map l (filedLease t)) (filed-count (suc t) ls)
-
-total-next : (i : ℕ) (hs : List TenantLeases) → i < length hs → total (map inUse (take (suc i) hs)) ≡ total (map inUse (take i hs)) + length (inUse (getD hs i noLeases))
-unfolding total
-total-next i [] h = absurd (omega arith)
-total-next zero (x ∷ hs) h = let e : length (inUse x) + 0 ≡ 0 + length (inUse x) = omega arith in e
-total-next (suc i) (x ∷ hs) h = let ih = total-next i hs (let g : i < length hs = omega arith in g) in let e : length (inUse x) + total (map inUse (take (suc i) hs)) ≡ length (inUse x) + total (map inUse (take i hs)) + length (inUse (getD hs i noLeases)) = omega arith in e
-
-total-sum : (n : ℕ) (hs : List TenantLeases) → n ≤ length hs → total (map inUse (take n hs)) ≡ sumTo (λ i. length (inUse (getD hs i noLeases))) n
-unfolding sumTo total
-total-sum zero hs h = refl
-total-sum (suc n) hs h = total-next n hs (omega arith) ∙ ap (λ (k : ℕ). k + length (inUse (getD hs n noLeases))) (total-sum n hs (omega arith))
+table-octets : (hs : List TenantLeases) → writeAll (leaseFormat .write) (filedFrom 1 (map inUse hs)) ≡ writeFrom tenantRow 0 hs
+unfolding leaseOctets tenantRow
+table-octets hs = ap (writeAll (leaseFormat .write)) (filed-all 1 (map inUse hs)) ∙ tenants-octets (leaseFormat .write) filedLease inUse 0 hs
 
 lease-total : (b : LeaseTable) → length (b .tenants) ≡ 8 → length (filedFrom 1 (leasesOf b)) ≡ leaseTotal b
-lease-total b e = filed-count 1 (leasesOf b) ∙ ap (λ (l : List TenantLeases). total (map inUse l)) (sym (take-all 8 (b .tenants) (omega arith))) ∙ total-sum 8 (b .tenants) (omega arith)
+lease-total b e = ap length (filed-all 1 (leasesOf b)) ∙ filed-sum filedLease inUse noLeases 8 1 (b .tenants) e
 
 scopes-octets : (n h k : ℕ) (l : List Scope) → writeAll (scopeFormat n .write) (map (filedScope h) l) ≡ writeFrom (scopeRow h) k l
 unfolding writeFrom writeAll scopeRow
@@ -217,8 +170,9 @@ unfolding writeFrom writeAll rangeRow
 ranges-octets k [] = refl
 ranges-octets k (r ∷ l) = ap (λ (x : List ℕ). tenantFormat .write r ++ x) (ranges-octets (suc k) l)
 
-five : (a b c d e : List ℕ) → a ++ (b ++ (c ++ (d ++ e))) ≡ (((a ++ b) ++ c) ++ d) ++ e
-five a b c d e = sym (append-assoc ((a ++ b) ++ c) d e ∙ append-assoc (a ++ b) c (d ++ e) ∙ append-assoc a b (c ++ (d ++ e)))
+six : (a b c d e f : List ℕ) → a ++ (b ++ (c ++ (d ++ (e ++ f)))) ≡ ((((a ++ b) ++ c) ++ d) ++ e) ++ f
+six a b c d e f =
+    sym (append-assoc (((a ++ b) ++ c) ++ d) e f ∙ append-assoc ((a ++ b) ++ c) d (e ++ f) ∙ append-assoc (a ++ b) c (d ++ (e ++ f)) ∙ append-assoc a b (c ++ (d ++ (e ++ f))))
 
 -- ---- the sections before the names
 pub sections-length : (s : State) (b : LeaseTable) → length (sectionOctets s b) ≡ 12 + length (fileRangeOctets s) + length (fileScopeOctets s) + length (tableOctets b)
@@ -243,37 +197,57 @@ size-is s b h x y r l p q w z =
     (omega arith, omega arith)
 
 -- ---- the whole file
-module _ (s : State) (b : LeaseTable) (names : List ℕ) (e : length (b .tenants) ≡ 8) where
-  file-octets : octetsOf (record { state = s; table = b; names = names }) ≡ sectionOctets s b ++ names
-  unfolding octetsOf filedBook sectionOctets
+module _ (s : State) (b : LeaseTable) (m : Memory) (names : List ℕ) (e : length (b .tenants) ≡ 8) where
+  file-octets : octetsOf (record { state = s; table = b; memory = m; names = names }) ≡ (sectionOctets s b ++ names) ++ memoryOctets m
+  unfolding octetsOf filedBook sectionOctets memoryOctets
   file-octets =
       ap₂ {C = List ℕ} (λ (x y : List ℕ). server ++ ((length (rangesOf s) ∷ x) ++ y)) (ranges-octets 0 (rangesOf s))
       (ap₂ {C = List ℕ} (λ (x y : List ℕ). x ++ y)
       (ap₂ {C = List ℕ} (λ (n : ℕ) (x : List ℕ). n ∷ x) (length-map (scopesOf s) (filedScope (s .«tenant_count»))) (scopes-octets (length (rangesOf s)) (s .«tenant_count») 0 (scopesOf s)))
-      (ap₂ {C = List ℕ} (λ (n : ℕ) (x : List ℕ). (n ∷ x) ++ names) (lease-total b e) (table-octets 0 (b .tenants))))
-      ∙ five server (length (rangesOf s) ∷ fileRangeOctets s) (length (scopesOf s) ∷ fileScopeOctets s) (leaseTotal b ∷ tableOctets b) names
+      (ap₂ {C = List ℕ} (λ (n : ℕ) (x : List ℕ). (n ∷ x) ++ (names ++ memoryOctets m)) (lease-total b e) (table-octets (b .tenants))))
+      ∙ six server (length (rangesOf s) ∷ fileRangeOctets s) (length (scopesOf s) ∷ fileScopeOctets s) (leaseTotal b ∷ tableOctets b) names (memoryOctets m)
     where
       server : List ℕ
       server = 1 ∷ octets32 (s .server) ++ octets32 (s .clock)
 
-  pub file-length : length (octetsOf (record { state = s; table = b; names = names })) ≡ length (sectionOctets s b) + length names
-  file-length = ap length file-octets ∙ length-append (sectionOctets s b) names
+  pub file-length : length (octetsOf (record { state = s; table = b; memory = m; names = names })) ≡ length (sectionOctets s b) + length names + length (memoryOctets m)
+  file-length = ap length file-octets ∙ length-append (sectionOctets s b ++ names) (memoryOctets m) ∙ ap (λ (k : ℕ). k + length (memoryOctets m)) (length-append (sectionOctets s b) names)
 
-  pub file-sum : (n : ℕ) → n ≡ length (sectionOctets s b) → n + length names ≡ length (octetsOf (record { state = s; table = b; names = names }))
-  file-sum n p = ap (λ (k : ℕ). k + length names) p ∙ sym file-length
+  pub file-sum : (n k : ℕ) → n ≡ length (sectionOctets s b) → k ≡ length (memoryOctets m) → n + length names + k ≡ length (octetsOf (record { state = s; table = b; memory = m; names = names }))
+  file-sum n k p q = ap₂ (λ (x y : ℕ). x + length names + y) p q ∙ sym file-length
 
-  pub file-wrote : {r₀ r₁ r₂ : List ℕ} {a c n : ℕ} → Wrote r₀ 0 (sectionOctets s b) r₁ a → n ≡ length names → Wrote r₁ a (take n names) r₂ c → Wrote r₀ 0 (octetsOf (record { state = s; table = b; names = names })) r₂ c
-  file-wrote {n = n} p l q = wrote-as (sym file-octets) (wrote-joined (omega arith) p (wrote-as (take-all n names (omega arith)) q))
+  -- the room that is left for what is remembered
+  pub file-rest : {r₀ r₁ r₂ : List ℕ} {a c n : ℕ} → length (octetsOf (record { state = s; table = b; memory = m; names = names })) ≤ length r₀ → Wrote r₀ 0 (sectionOctets s b) r₁ a
+      → n ≡ length names → Wrote r₁ a (take n names) r₂ c → length r₂ ≡ length r₀ → c + length (memoryOctets m) ≤ length r₂
+  file-rest {n = n} h p l q e =
+      let f = file-length in
+      let x = p .next in
+      let y = q .next in
+      let z = ap length (take-all n names (omega arith)) in
+      omega arith
+
+  pub file-wrote : {r₀ r₁ r₂ r₃ : List ℕ} {a c d n : ℕ} → Wrote r₀ 0 (sectionOctets s b) r₁ a → n ≡ length names → Wrote r₁ a (take n names) r₂ c → Wrote r₂ c (memoryOctets m) r₃ d
+      → Wrote r₀ 0 (octetsOf (record { state = s; table = b; memory = m; names = names })) r₃ d
+  file-wrote {n = n} p l q w = wrote-as (sym file-octets) (wrote-joined (omega arith) (wrote-joined (omega arith) p (wrote-as (take-all n names (omega arith)) q)) w)
 
 -- ---- the answers
 module _ (b : Book) (q : Bool) (e : q ≡ soundB (b .state) (b .table)) where
-  pub book-yes : (r : Bool) → q ≡ true → r ≡ namesGood b → r ≡ bookB b
+  sound-tested : (c : Bool) → q ≡ c → (c && (memoryGood b && namesGood b)) ≡ bookB b
   unfolding bookB
-  book-yes r t p = p ∙ ap (λ (x : Bool). x && namesGood b) (sym t ∙ e)
+  sound-tested c t = ap (λ (x : Bool). x && (memoryGood b && namesGood b)) (sym t ∙ e)
 
   pub book-not : q ≡ false → false ≡ bookB b
-  unfolding bookB
-  book-not t = ap (λ (x : Bool). x && namesGood b) (sym t ∙ e)
+  book-not t = sound-tested false t
+
+  module _ (w : Bool) (f : w ≡ memoryGood b) (t : q ≡ true) where
+    memory-tested : (c : Bool) → w ≡ c → (c && namesGood b) ≡ bookB b
+    memory-tested c u = ap (λ (x : Bool). x && namesGood b) (sym u ∙ f) ∙ sound-tested true t
+
+    pub book-memory : w ≡ false → false ≡ bookB b
+    book-memory u = memory-tested false u
+
+    pub book-yes : (r : Bool) → w ≡ true → r ≡ namesGood b → r ≡ bookB b
+    book-yes r u p = p ∙ memory-tested true u
 
 module _ (b : Book) (q : Bool) (e : q ≡ bookB b) where
   pub write-unsound : (room : List ℕ) → q ≡ false → (_≡_ {A = Written} (record { refusal = 22; length = 0 }) (writtenOf b (length room))) × (room ≡ roomAfter b room)

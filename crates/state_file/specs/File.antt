@@ -12,6 +12,7 @@ use Rattle.state.specs.declared.ClientRange.{ClientRange}
 use Rattle.format.specs.Format.{Format, Got, _⊗_, _▷_, after, bad, closed, counted, number, octet, only, times, viewed}
 use Rattle.format.specs.Section.{sectionFormat, verbatim}
 use Rattle.names.specs.Names.{namesFormat}
+use Rattle.release_file.specs.Section.{FileRelease, releasesFormat}
 
 -- a tenant's reserve and limit in a scope (document 01's share and limit)
 pub record FilePart : Type 0 where
@@ -42,6 +43,8 @@ pub record File : Type 0 where
   pub leases : List FileLease
   -- document 02, W-201: the octets of the section, as they are
   pub names : List ℕ
+  -- document 02, W-202
+  pub releases : List FileRelease
 
 -- tenant t with identifier a is after tenant u with identifier b: by tenant, then by identifier
 unfoldable pub isAfter : ℕ → List ℕ → ℕ → List ℕ → Bool
@@ -84,19 +87,19 @@ leasesFormat = sectionFormat leaseKey leaseAfter (0, []) leaseFormat
 
 -- the sections in the file's order, and the file of its sections
 abbrev pub Sections : Type 0
-Sections = (ℕ × ℕ) × (List ClientRange × (List FileScope × (List FileLease × List ℕ)))
+Sections = (ℕ × ℕ) × (List ClientRange × (List FileScope × (List FileLease × (List ℕ × List FileRelease))))
 
 abbrev pub ofSections : Sections → File
-ofSections p = record { server = p .0 .0; clock = p .0 .1; tenants = p .1 .0; scopes = p .1 .1 .0; leases = p .1 .1 .1 .0; names = p .1 .1 .1 .1 }
+ofSections p = record { server = p .0 .0; clock = p .0 .1; tenants = p .1 .0; scopes = p .1 .1 .0; leases = p .1 .1 .1 .0; names = p .1 .1 .1 .1 .0; releases = p .1 .1 .1 .1 .1 }
 
 abbrev pub toSections : File → Sections
-toSections f = ((f .server, f .clock), (f .tenants, (f .scopes, (f .leases, f .names))))
+toSections f = ((f .server, f .clock), (f .tenants, (f .scopes, (f .leases, (f .names, f .releases)))))
 
--- after the scopes and the tenants: leases; document 02: "a last section, its count that of the scopes", with names for as many tenants
-abbrev pub lastFormat : List FileScope → List ClientRange → Format (List FileLease × List ℕ)
-lastFormat cs ts = leasesFormat ⊗ verbatim (namesFormat (length cs) (length ts))
+-- after the scopes and the tenants: leases; document 02's names, "its count that of the scopes", for as many tenants; and its releases, "a last section"
+abbrev pub lastFormat : List FileScope → List ClientRange → Format (List FileLease × (List ℕ × List FileRelease))
+lastFormat cs ts = leasesFormat ⊗ verbatim (namesFormat (length cs) (length ts)) ⊗ releasesFormat
 
--- server (its count is always 1), tenants, scopes, leases, names
+-- server (its count is always 1), tenants, scopes, leases, names, releases
 abbrev pub fileFormat : Format File
 fileFormat =
     viewed ofSections toSections
@@ -106,10 +109,10 @@ fileFormat =
 abbrev pub fileLimit : ℕ
 fileLimit = 32768
 
--- how many octets a sound book's file has at most: 12 for the counts and the server, 8 tenants of 8, 4 scopes of 22, 128 leases of 113, and 6,229 of
--- names: a count, and for each of 4 scopes 9 lists of a count and 4 names of 43
+-- no sound book's file has more octets: 12 for the counts and the server, 8 tenants of 8, 4 scopes of 22, 128 leases of 113, 6,229 of names (a count, and
+-- for each of 4 scopes 9 lists of a count and 4 names of 43), and 1,345 of releases (a count, and 32 of 42)
 abbrev pub longestFile : ℕ
-longestFile = 20857
+longestFile = 22202
 
 -- the file that octets make; bad is refusal 20: "a bad or missing names section is 20"
 unfoldable pub fileOf : List ℕ → Got File

@@ -1,22 +1,22 @@
 -- Definitions: where the file's values stand in its octets, for the code that goes over them.
-use mathlib.Core.List.{List, [], _∷_}
+use mathlib.Core.List.{List, []}
 use mathlib.Core.Path.{_≡_}
-use Prim.Native.Nat.{_*_, _+_, _<_, _≤_, suc, zero, ℕ}
-use lib.Dec.{eqb}
+use Prim.Native.Nat.{_*_, _+_, _-_, _<_, _≤_, ℕ}
 use lib.ListN.{drop, getD, length, take}
 use Rattle.format.specs.Format.{bad, got}
 use Rattle.format.specs.Place.{EachAt, row, walk}
 use Rattle.format.specs.Section.{EntryEnds, InRow, RowEnds, SectionEnds}
+use Rattle.format.specs.Tenants.{keepBy, perTenant, tallyBy}
 use Rattle.format.specs.declared.Place.{Place}
 use Rattle.lists.specs.Fold.{fold}
-use Rattle.lists.specs.Pick.{pick}
 use Rattle.octets.specs.Octets.{at32}
+use Rattle.release_file.specs.Place.{ReleasesIn, releasesIn}
 use Rattle.state.specs.Book.{laidOut, pushed}
 use Rattle.state.specs.declared.ClientRange.{ClientRange}
 use Rattle.state.specs.declared.State.{State}
 use Rattle.state.specs.declared.TenantLeases.{TenantLeases}
 use Rattle.state_file.specs.File.{File, FileLease, FilePart, FileScope, fileOf, leaseAfter, leaseFormat, leaseKey}
-use Rattle.state_file.specs.Records.{ofTenant, stored, storedState}
+use Rattle.state_file.specs.Records.{stored, storedState}
 use Rattle.state_file.specs.declared.Layout.{Layout}
 use Rattle.state_file.specs.declared.Layout.the-variants.{Right, Wrong}
 use Rattle.state_file.specs.declared.Places.{Places}
@@ -63,25 +63,19 @@ pub record StorableAt (s : List ℕ) (at : ℕ) : Type 0 where
 abbrev pub AllStorable : List ℕ → ℕ → ℕ → Type 0
 AllStorable s at k = EachAt StorableAt nextAt k s at
 
--- what f gives for each of n tenants from t on
-unfoldable pub perTenant : {B : Type 0} → (ℕ → B) → ℕ → ℕ → List B
-perTenant f t zero = []
-perTenant f t (suc n) = f t ∷ perTenant f (suc t) n
-
--- b, and with the lease x as well if it is tenant t's
-unfoldable pub keepBy : {B : Type 0} → (B → FileLease → B) → ℕ → B → FileLease → B
-keepBy g t b x = pick (eqb (x .tenant) t) (g b x) b
+abbrev pub leaseTenant : FileLease → ℕ
+leaseTenant x = x .tenant
 
 -- tenant t's records, filled from the front
 abbrev pub keptOf : ℕ → List FileLease → TenantLeases
-keptOf t xs = fold (keepBy (λ h x. pushed h (stored x)) t) (laidOut []) xs
+keptOf t xs = fold (keepBy leaseTenant (λ h x. pushed h (stored x)) t) (laidOut []) xs
 
 unfoldable pub keptAll : List FileLease → List TenantLeases
 keptAll xs = perTenant (λ t. keptOf t xs) 1 8
 
 -- how many leases each tenant has
-unfoldable pub tallyOf : List FileLease → List ℕ
-tallyOf xs = perTenant (λ t. length (ofTenant t xs)) 1 8
+abbrev pub tallyOf : List FileLease → List ℕ
+tallyOf xs = tallyBy leaseTenant xs
 
 -- ---- settings
 unfoldable pub rangeAt : List ℕ → ℕ → ClientRange
@@ -112,12 +106,13 @@ fileAt s p = record {
   tenants = row rangeAt 8 (tenantCount s) s 10;
   scopes = scopesIn s (p .scopes);
   leases = sectionAt s (p .leases);
-  names = drop (p .names) s;
+  names = take (p .releases - p .names) (drop (p .names) s);
+  releases = releasesIn s (p .releases);
 }
 
 -- the settings do not go by where the later sections are
 abbrev pub stateAt : List ℕ → ℕ → State
-stateAt s scopes = storedState (fileAt s (record { scopes = scopes; leases = 0; names = 0 }))
+stateAt s scopes = storedState (fileAt s (record { scopes = scopes; leases = 0; names = 0; releases = 0 }))
 
 -- the sections before the leases lie within the octets, and the records can hold them
 pub record SettingsIn (s : List ℕ) (at : ℕ) : Type 0 where
@@ -137,7 +132,8 @@ pub record Formed (s : List ℕ) (p : Places) : Type 0 where
   pub tenants : p .scopes ≡ 10 + tenantCount s * 8
   pub sizes : p .leases ≡ p .scopes + 1 + getD s (p .scopes) 0 * (6 + tenantCount s * 2)
   pub records : LeasesIn s (p .leases)
-  pub last : p .names ≤ length s
+  pub names : p .names ≤ p .releases
+  pub last : ReleasesIn s (p .releases)
 
 unfoldable pub FormedBy : List ℕ → Layout → Type 0
 FormedBy s (Right p) = Formed s p

@@ -14,6 +14,7 @@ use Rattle.state.specs.declared.Lease.{Lease}
 use Rattle.state.specs.declared.LeaseTable.{LeaseTable}
 use Rattle.state.specs.declared.Scope.{Scope}
 use Rattle.state.specs.declared.State.{State}
+use Rattle.release_file.specs.Section.{filedMemory, releasesFitB}
 use Rattle.state_file.specs.File.{File, FileLease, FilePart, FileScope}
 
 -- l and then z, n in all
@@ -99,6 +100,7 @@ filedBook b = record {
   scopes = map (filedScope (b .state .«tenant_count»)) (scopesOf (b .state));
   leases = filedFrom 1 (leasesOf (b .table));
   names = b .names;
+  releases = filedMemory (b .memory);
 }
 
 -- ---- limits
@@ -131,6 +133,6 @@ countsFit tenants scopes = pick (ltb 8 tenants) false (leb scopes 4)
 abbrev pub settingsFitB : File → Bool
 settingsFitB f = countsFit (length (f .tenants)) (length (f .scopes))
 
--- the records can hold the file: its settings and its leases
+-- the records can hold the file: its settings, its leases and its releases
 unfoldable pub fitsB : File → Bool
-fitsB f = pick (settingsFitB f) (leasesFitB (f .leases)) false
+fitsB f = pick (settingsFitB f) (pick (leasesFitB (f .leases)) (releasesFitB (f .releases)) false) false

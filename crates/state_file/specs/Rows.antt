@@ -1,7 +1,8 @@
 -- Definitions: the octets of the book's records, as the writer goes over them: row by row, each element's going by its place.
-use mathlib.Core.List.{List, [], _++_, _∷_}
-use Prim.Native.Nat.{_+_, suc, ℕ}
+use mathlib.Core.List.{List, _++_, _∷_}
+use Prim.Native.Nat.{_+_, ℕ}
 use lib.ListN.{getD, length, take}
+use Rattle.format.specs.Rows.{writeFrom}
 use Rattle.lists.specs.Sums.{sumTo}
 use Rattle.octets.specs.Octets.{octets32}
 use Rattle.state.specs.Book.{inUse, noLeases, rangesOf, scopesOf}
@@ -13,10 +14,6 @@ use Rattle.state.specs.declared.State.{State}
 use Rattle.state.specs.declared.TenantLeases.{TenantLeases}
 use Rattle.state_file.specs.File.{FilePart, leaseFormat, partFormat, scopeFormat, tenantFormat}
 use Rattle.state_file.specs.Records.{filedLease, filedScope, pairUp}
-
-unfoldable pub writeFrom : {A : Type 0} → (ℕ → A → List ℕ) → ℕ → List A → List ℕ
-writeFrom w k [] = []
-writeFrom w k (x ∷ l) = w k x ++ writeFrom w (suc k) l
 
 -- ---- leases
 unfoldable pub leaseOctets : ℕ → ℕ → Lease → List ℕ

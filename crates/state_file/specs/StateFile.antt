@@ -1,13 +1,19 @@
--- Definitions: what the reader and the writer of the state file answer: document 01, "Campus file and sound book"; document 02, W-201, for the names.
+-- Definitions: what the reader and the writer of the state file answer: document 01, "Campus file and sound book"; document 02, W-201 and W-202, for the names
+-- and the releases.
+use mathlib.Core.Bool.{_&&_}
 use mathlib.Core.List.{List, [], _++_}
 use Prim.Native.Nat.{ℕ}
 use lib.Dec.{ltb}
 use lib.ListN.{drop, length, replicate}
 use Rattle.lists.specs.Pick.{pick}
-use Rattle.soundness.specs.Named.{bookB}
+use Rattle.releases.specs.Whole.{bookB}
 use Rattle.soundness.specs.Sound.{soundB}
-use Rattle.state.specs.Book.{Book, tableOf, zeroScope}
+use Rattle.releases.specs.Rules.{memoryB}
+use Rattle.release_file.specs.Section.{storedMemory}
+use Rattle.state.specs.Book.{Book, laidReleases, tableOf, zeroScope}
 use Rattle.state.specs.declared.LeaseTable.{LeaseTable}
+use Rattle.state.specs.declared.Ledger.{Ledger}
+use Rattle.state.specs.declared.Memory.{Memory}
 use Rattle.state.specs.declared.State.{State}
 use Rattle.state_file.specs.File.{File, fileFormat, fileOf}
 use Rattle.format.specs.Format.{Got, bad, got}
@@ -21,20 +27,26 @@ zeroState = record { server = 0; clock = 0; «tenant_count» = 0; tenants = repl
 unfoldable pub zeroTable : LeaseTable
 zeroTable = tableOf (replicate 8 [])
 
+abbrev pub zeroMemory : Memory
+zeroMemory = record { releases = replicate 8 (laidReleases []) }
+
+abbrev pub zeroLedger : Ledger
+zeroLedger = record { state = zeroState; memory = zeroMemory }
+
 -- ---- the reader
 -- a refusal has no book: its records are zero
 unfoldable pub refused : ℕ → Loaded
-refused n = record { refusal = n; state = zeroState; table = zeroTable }
+refused n = record { refusal = n; state = zeroState; table = zeroTable; memory = zeroMemory }
 
-unfoldable pub accepted : State → LeaseTable → Loaded
-accepted s b = record { refusal = 0; state = s; table = b }
+unfoldable pub accepted : State → LeaseTable → Memory → Loaded
+accepted s b m = record { refusal = 0; state = s; table = b; memory = m }
 
-unfoldable pub judged : State → LeaseTable → Loaded
-judged s b = pick (soundB s b) (accepted s b) (refused 21)
+unfoldable pub judged : State → LeaseTable → Memory → Loaded
+judged s b m = pick (soundB s b && memoryB s b m) (accepted s b m) (refused 21)
 
--- 21 is an unsound file: one that the records cannot hold, or whose records are unsound
+-- 21 is an unsound file: one that the records cannot hold, or whose records or releases are unsound
 unfoldable pub loaded : File → Loaded
-loaded f = pick (fitsB f) (judged (storedState f) (storedTable f)) (refused 21)
+loaded f = pick (fitsB f) (judged (storedState f) (storedTable f) (storedMemory (f .releases))) (refused 21)
 
 -- 20 is a wrong form
 unfoldable pub loadedGot : Got File → Loaded
@@ -57,7 +69,7 @@ namesOf s = namesGot (fileOf s)
 unfoldable pub octetsOf : Book → List ℕ
 octetsOf b = fileFormat .write (filedBook b)
 
--- 22 is an unsound book, "bad names lent" among them, and 23 too little room, of which there are n octets
+-- 22 is an unsound book, bad names and releases that are lent among them, and 23 too little room, of which there are n octets
 unfoldable pub writtenOf : Book → ℕ → Written
 writtenOf b n =
     pick (bookB b)

@@ -6,9 +6,12 @@ use Rattle.lists.specs.All.{All}
 use Rattle.state.specs.declared.ClientRange.{ClientRange}
 use Rattle.state.specs.declared.Lease.{Lease}
 use Rattle.state.specs.declared.LeaseTable.{LeaseTable}
+use Rattle.state.specs.declared.Memory.{Memory}
+use Rattle.state.specs.declared.Release.{Release}
 use Rattle.state.specs.declared.Scope.{Scope}
 use Rattle.state.specs.declared.State.{State}
 use Rattle.state.specs.declared.TenantLeases.{TenantLeases}
+use Rattle.state.specs.declared.TenantReleases.{TenantReleases}
 
 pub record TypedLease (l : Lease) : Type 0 where
   pub scope : l .scope < 256
@@ -37,7 +40,17 @@ pub record TypedScope (c : Scope) : Type 0 where
   pub limits : length (c .limit) ≡ 8
   pub limit : All (λ x. x < 256) (c .limit)
 
-pub record Typed (s : State) (b : LeaseTable) : Type 0 where
+pub record TypedRelease (r : Release) : Type 0 where
+  pub long : length (r .id) ≡ 32
+  pub id : All (λ x. x < 256) (r .id)
+  pub xid : r .xid < 4294967296
+  pub time : r .time < 4294967296
+
+pub record TypedReleases (q : TenantReleases) : Type 0 where
+  pub long : length (q .releases) ≡ 4
+  pub each : All TypedRelease (q .releases)
+
+pub record Typed (s : State) (b : LeaseTable) (m : Memory) : Type 0 where
   pub server : s .server < 4294967296
   pub clock : s .clock < 4294967296
   pub eight : length (s .tenants) ≡ 8
@@ -46,3 +59,5 @@ pub record Typed (s : State) (b : LeaseTable) : Type 0 where
   pub scopes : All TypedScope (s .scopes)
   pub tenants : length (b .tenants) ≡ 8
   pub leases : All TypedTenant (b .tenants)
+  pub memory : length (m .releases) ≡ 8
+  pub releases : All TypedReleases (m .releases)

@@ -1,5 +1,5 @@
 // The form of a state file, judged over its octets with nothing stored: where each section ends, offsets that rise, leases in order, good
-// names.
+// names, releases in order.
 ghost use mathlib.Core.Path.{_≡_};
 ghost use Prim.Native.Nat.{_*_, _+_, _<_, _≤_};
 ghost use lib.ListN.{drop, getD, length, take};
@@ -40,7 +40,11 @@ pub fn form(s: &[u8]) -> Layout
     let Place::At(names) = records else {
         return Layout::Wrong;
     };
-    let last = names::section_end(s, names, s[scopes], h);
+    let lists = names::section_end(s, names, s[scopes], h);
+    let Place::At(releases) = lists else {
+        return Layout::Wrong;
+    };
+    let last = release_file::section_end(s, releases);
     let Place::At(end) = last else {
         return Layout::Wrong;
     };
@@ -51,6 +55,7 @@ pub fn form(s: &[u8]) -> Layout
         scopes,
         leases,
         names,
+        releases,
     })
 }
 

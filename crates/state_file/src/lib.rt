@@ -9,8 +9,8 @@ mod size;
 
 ghost use mathlib.Core.Path.{_≡_};
 ghost use lib.ListN.{length};
-ghost use Rattle.soundness.specs.Named.{bookB};
-ghost use Rattle.state_file.specs.StateFile.{namesOf, readFile, roomAfter, writtenOf, zeroState};
+ghost use Rattle.releases.specs.Whole.{bookB};
+ghost use Rattle.state_file.specs.StateFile.{namesOf, readFile, roomAfter, writtenOf, zeroLedger, zeroMemory, zeroState};
 use crate::form::form;
 use crate::load::load;
 use crate::load::refusal;
@@ -18,19 +18,19 @@ use crate::load::zero_range;
 use crate::put::put_file;
 use crate::size::file_size;
 use state::LeaseTable;
+use state::Ledger;
+use state::Memory;
 use state::State;
 
 // How many octets a file may have.
 pub const FILE_LIMIT: usize = 32768;
-
-// How many octets the file of a sound book has at most: those of one whose every record and name is as long as it can be.
-pub const LONGEST_FILE: usize = 20857;
 
 // What the reader answers: refusal 0 and the book, or the number of a refusal and records that are all zero.
 pub struct Loaded {
     pub refusal: u8,
     pub state: State,
     pub table: LeaseTable,
+    pub memory: Memory,
 }
 
 // What the writer answers: refusal 0 and the length of the file, or the number of a refusal and length 0.
@@ -44,6 +44,7 @@ pub struct Places {
     pub scopes: usize,
     pub leases: usize,
     pub names: usize,
+    pub releases: usize,
 }
 
 // What the form of octets is: a file's, with its places, or none.
@@ -72,24 +73,30 @@ pub fn names(file: &[u8]) -> &[u8]
         return &file[0..0];
     };
     let from = places.names;
-    let end = file.len();
+    let end = places.releases;
     &file[from..end]
 }
 
 // Writes a book as a state file: its length, or refusal 22 for an unsound book or bad names and then 23 where the room is too short.
-pub fn write(state: State, table: LeaseTable, names: &[u8], room: &mut [u8]) -> Written
-    ensures answer { λ r. ⌜ r ≡ writtenOf (record { state = state; table = table; names = now (names .entry) }) (length (now (room .entry))) ⌝ }
-    ensures octets { λ r. ⌜ now (room .exit) ≡ roomAfter (record { state = state; table = table; names = now (names .entry) }) (now (room .entry)) ⌝ }
+pub fn write(
+    state: State,
+    table: LeaseTable,
+    memory: Memory,
+    names: &[u8],
+    room: &mut [u8],
+) -> Written
+    ensures answer { λ r. ⌜ r ≡ writtenOf (record { state = state; table = table; memory = memory; names = now (names .entry) }) (length (now (room .entry))) ⌝ }
+    ensures octets { λ r. ⌜ now (room .exit) ≡ roomAfter (record { state = state; table = table; memory = memory; names = now (names .entry) }) (now (room .entry)) ⌝ }
 {
-    if sound_book(state, table, names) {
-        let n = file_size(state, table, names);
+    if sound_book(state, table, memory, names) {
+        let n = file_size(state, table, memory, names);
         if room.len() < n {
             return Written {
                 refusal: 23,
                 length: 0,
             };
         }
-        put_file(room, state, table, names);
+        put_file(room, state, table, memory, names);
         return Written {
             refusal: 0,
             length: n,
@@ -101,14 +108,35 @@ pub fn write(state: State, table: LeaseTable, names: &[u8], room: &mut [u8]) -> 
     }
 }
 
-// Whether a book is sound and its names are good.
-fn sound_book(state: State, table: LeaseTable, names: &[u8]) -> bool
-    ensures { λ r. ⌜ r ≡ bookB (record { state = state; table = table; names = now (names .entry) }) ⌝ }
+// Whether a book is sound, what it remembers too, and its names are good.
+fn sound_book(state: State, table: LeaseTable, memory: Memory, names: &[u8]) -> bool
+    ensures { λ r. ⌜ r ≡ bookB (record { state = state; table = table; memory = memory; names = now (names .entry) }) ⌝ }
 {
     if soundness::sound(state, table) {
-        return names::good(names, state.scope_count, state.tenant_count);
+        if releases::sound(state, table, memory) {
+            return names::good(names, state.scope_count, state.tenant_count);
+        }
     }
     false
+}
+
+// A memory that is all zero.
+pub fn no_memory() -> Memory
+    ensures { λ r. ⌜ r ≡ zeroMemory ⌝ }
+{
+    let none = state::no_releases();
+    Memory {
+        releases: [none; 8],
+    }
+}
+
+// A ledger that is all zero.
+pub fn no_ledger() -> Ledger
+    ensures { λ r. ⌜ r ≡ zeroLedger ⌝ }
+{
+    let state = no_state();
+    let memory = no_memory();
+    Ledger { state, memory }
 }
 
 // A state that is all zero.

@@ -16,7 +16,9 @@ pub fn fits(s: &[u8], places: Places) -> bool
 {
     let at = places.scopes;
     if counts_fit(s[9], s[at]) {
-        return leases_fit(s, places.leases);
+        if leases_fit(s, places.leases) {
+            return release_file::fits(s, places.releases);
+        }
     }
     false
 }

@@ -16,10 +16,12 @@ use crate::form::wide;
 use crate::limits::fits;
 use crate::limits::lease_next;
 use crate::limits::tenant_place;
+use crate::no_memory;
 use crate::no_state;
 use state::ClientRange;
 use state::Lease;
 use state::LeaseTable;
+use state::Memory;
 use state::Scope;
 use state::State;
 use state::TenantLeases;
@@ -31,20 +33,24 @@ pub fn load(s: &[u8], places: Places) -> Loaded
     if fits(s, places) {
         let state = state_at(s, places.scopes);
         let table = table_at(s, places.leases);
-        return judge(state, table);
+        let memory = release_file::load(s, places.releases);
+        return judge(state, table, memory);
     }
     refusal(21)
 }
 
-fn judge(state: State, table: LeaseTable) -> Loaded
-    ensures { λ r. ⌜ r ≡ judged state table ⌝ }
+fn judge(state: State, table: LeaseTable, memory: Memory) -> Loaded
+    ensures { λ r. ⌜ r ≡ judged state table memory ⌝ }
 {
     if soundness::sound(state, table) {
-        return Loaded {
-            refusal: 0,
-            state,
-            table,
-        };
+        if releases::sound(state, table, memory) {
+            return Loaded {
+                refusal: 0,
+                state,
+                table,
+                memory,
+            };
+        }
     }
     refusal(21)
 }
@@ -55,10 +61,12 @@ pub fn refusal(n: u8) -> Loaded
     let none = state::no_leases();
     let state = no_state();
     let table = LeaseTable { tenants: [none; 8] };
+    let memory = no_memory();
     Loaded {
         refusal: n,
         state,
         table,
+        memory,
     }
 }
 
@@ -198,7 +206,7 @@ fn lease_at(s: &[u8], at: usize) -> Lease
 {
     let n = wide(s[at + 2]);
     let k = wide(s[at + (n + 16)]);
-    let id = id_at(s, at + 3, n);
+    let id = octets::read_run(s, at + 3, n);
     let addresses = set_at(s, at + (n + 17), k);
     Lease {
         scope: s[at + 1],
@@ -210,20 +218,6 @@ fn lease_at(s: &[u8], at: usize) -> Lease
         end: octets::read_u32(s, at + (n + 12)),
         addresses,
     }
-}
-
-// The n octets from `at` on, and zeros after them.
-fn id_at(s: &[u8], at: usize, n: usize) -> [u8; 32]
-    requires { ⌜ (n ≤ 32) × (at + n ≤ length (now s)) ⌝ }
-    ensures { λ r. ⌜ r ≡ filled 0 32 (take n (drop at (now (s .entry)))) ⌝ }
-{
-    let mut id = [0u8; 32];
-    let mut i: usize = 0;
-    while i < n {
-        id[i] = s[at + i];
-        i += 1;
-    }
-    id
 }
 
 // The set of the k offsets from `at` on.

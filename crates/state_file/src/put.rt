@@ -13,16 +13,24 @@ ghost use Rattle.state_file.specs.StateFile.{octetsOf};
 use state::ClientRange;
 use state::Lease;
 use state::LeaseTable;
+use state::Memory;
 use state::Scope;
 use state::State;
 use state::TenantLeases;
 
-pub fn put_file(buffer: &mut [u8], state: State, table: LeaseTable, names: &[u8]) -> usize
-    requires { ⌜ length (octetsOf (record { state = state; table = table; names = now names })) ≤ length (now buffer) ⌝ }
-    ensures { λ r. ⌜ Wrote (now (buffer .entry)) 0 (octetsOf (record { state = state; table = table; names = now (names .entry) })) (now (buffer .exit)) r ⌝ }
+pub fn put_file(
+    buffer: &mut [u8],
+    state: State,
+    table: LeaseTable,
+    memory: Memory,
+    names: &[u8],
+) -> usize
+    requires { ⌜ length (octetsOf (record { state = state; table = table; memory = memory; names = now names })) ≤ length (now buffer) ⌝ }
+    ensures { λ r. ⌜ Wrote (now (buffer .entry)) 0 (octetsOf (record { state = state; table = table; memory = memory; names = now (names .entry) })) (now (buffer .exit)) r ⌝ }
 {
     let a = put_sections(buffer, state, table);
-    octets::put_run(buffer, a, names, names.len())
+    let b = octets::put_run(buffer, a, names, names.len());
+    release_file::put(buffer, b, memory)
 }
 
 // The sections before the names.

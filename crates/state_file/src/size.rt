@@ -8,14 +8,15 @@ ghost use Rattle.state_file.specs.Rows.{fileScopeOctets, sectionOctets, 
 ghost use Rattle.state_file.specs.StateFile.{octetsOf};
 use state::Lease;
 use state::LeaseTable;
+use state::Memory;
 use state::Scope;
 use state::State;
 use state::TenantLeases;
 
-pub fn file_size(state: State, table: LeaseTable, names: &[u8]) -> usize
-    ensures { λ r. ⌜ r ≡ length (octetsOf (record { state = state; table = table; names = now (names .entry) })) ⌝ }
+pub fn file_size(state: State, table: LeaseTable, memory: Memory, names: &[u8]) -> usize
+    ensures { λ r. ⌜ r ≡ length (octetsOf (record { state = state; table = table; memory = memory; names = now (names .entry) })) ⌝ }
 {
-    sections_size(state, table) + names.len()
+    sections_size(state, table) + names.len() + release_file::size(memory)
 }
 
 // Those of the sections before the names.

@@ -43,12 +43,22 @@ pub fn campus_at(clock: u32, pool: Scope, leases: &[Lease]) -> Campus {
         houses: vec![(0x0A00_0100, 0x0A00_01FF), (0x0A00_0200, 0x0A00_02FF)],
         scopes: vec![pool],
         leases: leases.to_vec(),
+        releases: vec![],
     }
 }
 
 /// Its file.
 pub fn file_at(clock: u32, leases: &[Lease]) -> Vec<u8> {
     campus_at(clock, pool(), leases).octets()
+}
+
+/// The file of the campus with these releases, in the file's order.
+pub fn file_with(clock: u32, leases: &[Lease], releases: &[Release]) -> Vec<u8> {
+    Campus {
+        releases: releases.to_vec(),
+        ..campus_at(clock, pool(), leases)
+    }
+    .octets()
 }
 
 /// The specimens' campus before any call.
@@ -87,6 +97,12 @@ pub fn ack(
         range(POOL + u32::from(offset), count),
         current_time(clock),
     ];
+    message(ACK, transaction, &options)
+}
+
+/// The ACK to a RELEASE: 2, 3.
+pub fn release_ack(transaction: u32, of: &[u8]) -> Vec<u8> {
+    let options = [server_identifier(SERVER), identifier(of)];
     message(ACK, transaction, &options)
 }
 

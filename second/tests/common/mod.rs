@@ -1,7 +1,7 @@
 //! What the tests share: hex, the specimens' book and calls with a watched room.
 #![allow(dead_code)]
 
-use second::{serve, Book, House, Lease, Quota, Scope, ScopeNames};
+use second::{serve, Book, House, Lease, Quota, Release, Scope, ScopeNames};
 
 pub const CLIENT_1: u32 = 0x0A01_0005;
 pub const CLIENT_2: u32 = 0x0A02_0005;
@@ -22,7 +22,7 @@ pub fn hex(text: &str) -> Vec<u8> {
 }
 
 /// Scope 239.192.0.0, size 4; house 1 share 2 limit 3; house 2 share 1 limit 4; clock 1000; server 10.1.1.1.
-/// No names.
+/// No names, and no release remembered.
 pub fn specimen_book() -> Book {
     Book {
         server: 0x0A01_0101,
@@ -45,6 +45,7 @@ pub fn specimen_book() -> Book {
         }],
         leases: vec![],
         names: vec![ScopeNames::none(2)],
+        releases: vec![],
     }
 }
 
@@ -58,6 +59,15 @@ pub fn lease(house: u8, identifier: &[u8], start: u32, end: u32, offsets: &[u8])
         start,
         end,
         offsets: offsets.to_vec(),
+    }
+}
+
+pub fn release(house: u8, identifier: &[u8], transaction: u32, time: u32) -> Release {
+    Release {
+        house,
+        identifier: identifier.to_vec(),
+        transaction,
+        time,
     }
 }
 

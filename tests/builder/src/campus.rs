@@ -55,6 +55,27 @@ pub struct Lease {
     pub offsets: Vec<u8>,
 }
 
+/// A release that is remembered.
+#[derive(Clone, Debug, PartialEq, Eq)]
+pub struct Release {
+    pub house: u8,
+    pub identifier: Vec<u8>,
+    pub transaction: u32,
+    /// The clock at release.
+    pub time: u32,
+}
+
+impl Release {
+    /// House(1), identifier length(1), the identifier, transaction id(4), time(4).
+    pub fn octets(&self) -> Vec<u8> {
+        let mut octets = vec![self.house, self.identifier.len() as u8];
+        octets.extend(&self.identifier);
+        octets.extend(self.transaction.to_be_bytes());
+        octets.extend(self.time.to_be_bytes());
+        octets
+    }
+}
+
 #[derive(Clone, Debug)]
 pub struct Campus {
     pub server: u32,
@@ -63,23 +84,31 @@ pub struct Campus {
     pub houses: Vec<(u32, u32)>,
     pub scopes: Vec<Scope>,
     pub leases: Vec<Lease>,
+    pub releases: Vec<Release>,
 }
 
 impl Campus {
-    /// Puts the leases in the file's order.
+    /// Puts leases and releases in the file's order. Releases of a house at one time stay in theirs.
     pub fn sort(&mut self) {
         self.leases
             .sort_by(|a, b| (a.house, &a.identifier).cmp(&(b.house, &b.identifier)));
+        self.releases
+            .sort_by_key(|release| (release.house, release.time));
     }
 
-    /// The campus file: five sections, each after its count.
+    /// The campus file: six sections, each after its count.
     pub fn octets(&self) -> Vec<u8> {
-        let mut file = self.front();
-        file.extend(self.names());
-        file
+        [self.front(), self.names(), self.releases()].concat()
     }
 
-    /// The last section: for each scope 1 + houses lists of names, each after its count.
+    /// The last section: the releases that are remembered.
+    pub fn releases(&self) -> Vec<u8> {
+        let mut section = vec![self.releases.len() as u8];
+        section.extend(self.releases.iter().flat_map(Release::octets));
+        section
+    }
+
+    /// The section before it: for each scope 1 + houses lists of names, each after its count.
     pub fn names(&self) -> Vec<u8> {
         let mut section = vec![self.scopes.len() as u8];
         for scope in &self.scopes {

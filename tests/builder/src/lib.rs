@@ -3,8 +3,9 @@
 
 mod campus;
 mod message;
+mod read;
 
-pub use campus::{Campus, Lease, Name, Scope};
+pub use campus::{Campus, Lease, Name, Release, Scope};
 pub use message::*;
 
 use std::borrow::Cow;

@@ -4,8 +4,9 @@ use crate::campus::{beside, identifier};
 use crate::message;
 use crate::names;
 use crate::random::Random;
+use crate::releases::{self, MOST_RELEASES, RESEND_TIME};
 use crate::{DEFAULT_LEASE, HORIZON, LAST_TIME, LONGEST_LEASE, SKEW};
-use builder::{number, requested_language, Call, Campus, Message};
+use builder::{number, requested_language, Call, Campus, Message, Release};
 use builder::{DISCOVER, GETINFO, RELEASE, RENEW, REQUEST};
 
 /// What a client may refer to: a lease of the file, or one that it has asked for.
@@ -22,6 +23,8 @@ struct Talk<'a> {
     campus: &'a Campus,
     clock: u32,
     known: Vec<Known>,
+    /// Releases of the file, and what was asked to be released since.
+    released: Vec<Release>,
     /// Starts and ends of periods.
     times: Vec<u32>,
     calls: Vec<Call<'static>>,
@@ -35,6 +38,7 @@ pub fn list(random: &mut Random, campus: &Campus, count: usize, turn: usize) -> 
         campus,
         clock: campus.clock,
         known: Vec::new(),
+        released: campus.releases.clone(),
         times: Vec::new(),
         calls: Vec::new(),
         damage: turn,
@@ -57,7 +61,11 @@ pub fn list(random: &mut Random, campus: &Campus, count: usize, turn: usize) -> 
 
 impl Talk<'_> {
     fn call(&mut self, random: &mut Random) -> Call<'static> {
-        let time = self.time(random);
+        let again = self.known_release(random);
+        let time = match &again {
+            Some(release) => self.time_after(random, release),
+            None => self.time(random),
+        };
         let room = if random.chance(4) {
             random.pick(&[0, 1, 100, 511, 511])
         } else {
@@ -65,6 +73,16 @@ impl Talk<'_> {
         };
         if room >= 512 {
             self.clock = self.clock.max(time);
+        }
+        if let Some(release) = again {
+            let house = usize::from(release.house) - 1;
+            let house = Some(house).filter(|_| !random.chance(10));
+            return Call {
+                time,
+                client: self.client(random, house),
+                room,
+                datagram: releases::sent_again(random, &release).octets().into(),
+            };
         }
         if !self.calls.is_empty() && random.chance(12) {
             // The same datagram again, from the same client or from another.
@@ -88,6 +106,32 @@ impl Talk<'_> {
             client,
             room,
             datagram: datagram.into(),
+        }
+    }
+
+    /// A release to send again, at times: often the last.
+    fn known_release(&self, random: &mut Random) -> Option<Release> {
+        let last = self.released.last()?;
+        match random.below(24) {
+            0 => Some(last.clone()),
+            1 => Some(random.pick(&self.released)),
+            2 => {
+                // The one that the last has pushed out, if all released something.
+                let of_house = |release: &&Release| release.house == last.house;
+                let mut older = self.released.iter().rev().filter(of_house);
+                older.nth(MOST_RELEASES).cloned()
+            }
+            _ => None,
+        }
+    }
+
+    /// When a RELEASE is sent again: mostly at an edge of the time in which it is known, if that is to come.
+    fn time_after(&self, random: &mut Random, release: &Release) -> u32 {
+        let after = [0, 1, RESEND_TIME - 1, RESEND_TIME, RESEND_TIME + 1];
+        let time = release.time.saturating_add(random.pick(&after));
+        match random.below(4) {
+            0 => self.clock,
+            _ => time.max(self.clock),
         }
     }
 
@@ -184,6 +228,14 @@ impl Talk<'_> {
                 (kind, transaction) = (known.kind, known.transaction);
             }
         }
+        if matches!(kind, DISCOVER | REQUEST | RENEW)
+            && !self.released.is_empty()
+            && random.chance(8)
+        {
+            // What was released before.
+            let release = random.pick(&self.released);
+            (house, ident) = (usize::from(release.house) - 1, release.identifier);
+        }
         let mut message = Message::new(kind, transaction, vec![builder::identifier(&ident)]);
         match kind {
             DISCOVER | REQUEST => self.ask(random, &mut message),
@@ -219,7 +271,14 @@ impl Talk<'_> {
             }
         }
         random.shuffle(&mut message.options);
-        if matches!(kind, REQUEST | RENEW) {
+        if kind == RELEASE {
+            self.released.push(Release {
+                house: house as u8 + 1,
+                identifier: ident,
+                transaction,
+                time: self.clock,
+            });
+        } else if matches!(kind, REQUEST | RENEW) {
             self.known.push(Known {
                 house,
                 identifier: ident,

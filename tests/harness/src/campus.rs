@@ -2,8 +2,9 @@
 
 use crate::names;
 use crate::random::Random;
+use crate::releases;
 use crate::{HORIZON, LAST_TIME, LONGEST_LEASE};
-use builder::{Campus, Lease, Scope};
+use builder::{Campus, Lease, Release, Scope};
 
 /// The multicast addresses that pools lie in.
 pub const LOWEST_POOL: u32 = 0xE000_0000;
@@ -21,8 +22,10 @@ pub fn sound(random: &mut Random) -> Campus {
         houses: client_ranges(random, house_count),
         scopes: pools(random, scope_count, house_count),
         leases: Vec::new(),
+        releases: Vec::new(),
     };
     lend(&mut campus, random);
+    releases::remember(&mut campus, random);
     campus.sort();
     campus
 }
@@ -138,14 +141,19 @@ pub fn new_lease(
     }
 }
 
-fn fresh_identifier(campus: &Campus, random: &mut Random, house: u8) -> Vec<u8> {
+/// An identifier on which a house has neither a lease nor a release; another house may have one.
+pub fn fresh_identifier(campus: &Campus, random: &mut Random, house: u8) -> Vec<u8> {
     loop {
-        let identifier = match campus.leases.last() {
-            Some(lease) if random.chance(30) => beside(random, &lease.identifier),
+        let identifier = match (campus.leases.last(), campus.releases.last()) {
+            (Some(lease), _) if random.chance(30) => beside(random, &lease.identifier),
+            (Some(_), _) if random.chance(10) => random.pick(&campus.leases).identifier,
+            (_, Some(_)) if random.chance(20) => random.pick(&campus.releases).identifier,
             _ => identifier(random),
         };
-        let taken = |lease: &Lease| lease.house == house && lease.identifier == identifier;
-        if !campus.leases.iter().any(taken) {
+        let leased = |lease: &Lease| lease.house == house && lease.identifier == identifier;
+        let released =
+            |release: &Release| (release.house, &release.identifier) == (house, &identifier);
+        if !campus.leases.iter().any(leased) && !campus.releases.iter().any(released) {
             return identifier;
         }
     }

@@ -3,10 +3,11 @@
 use crate::case::Case;
 use crate::lent::{Held, Lender};
 use crate::names;
+use crate::releases::Past;
 use crate::tally::Tally;
 use crate::LONGEST_FILE;
 use banshorra_host::{ANSWER_ROOM, BOARD_ROOM};
-use builder::{value_of, Call, ACK, GETINFO};
+use builder::{value_of, Call, Campus, ACK, GETINFO};
 use std::panic::{catch_unwind, AssertUnwindSafe};
 
 /// Refusals of the C interface.
@@ -137,7 +138,8 @@ fn choice(case: &Case) -> usize {
     }) >> 3
 }
 
-/// Counts what the case has shown, and sees that each scope list is the one that is due by what the case was made of.
+/// Counts what the case has shown, and sees that each scope list is the one that is due by what the case was made of, and what is remembered
+/// of releases what is due by the file before each call.
 fn count(case: &Case, expected: &Expected, tally: &mut Tally) -> Result<(), Difference> {
     if expected.refusal != 0 {
         tally.code(expected.refusal);
@@ -145,10 +147,16 @@ fn count(case: &Case, expected: &Expected, tally: &mut Tally) -> Result<(), Diff
     if let Some(place) = case.meant {
         tally.damaged(place, expected.refusal);
     }
+    let (mut past, mut before) = (Past::default(), Campus::read(&case.file));
     for answer in &expected.answers {
         let Some(call) = Call::read(&case.calls[answer.place..]) else {
             continue;
         };
+        let after = Campus::read(&answer.file);
+        if let (Some(before), Some(after)) = (&before, &after) {
+            released(&mut past, before, after, &call, answer, tally)?;
+        }
+        before = after;
         tally.call(&call.datagram, answer.outcome, &answer.reply);
         let kinds = (call.datagram.get(1), answer.reply.get(1));
         if let (Some(campus), (Some(&GETINFO), Some(&ACK))) = (&case.campus, kinds) {
@@ -160,6 +168,36 @@ fn count(case: &Case, expected: &Expected, tally: &mut Tally) -> Result<(), Diff
             }
         }
     }
+    Ok(())
+}
+
+/// What is remembered after a call, and the reply to a RELEASE: what is due by the campus before it.
+fn released(
+    past: &mut Past,
+    before: &Campus,
+    after: &Campus,
+    call: &Call,
+    answer: &Answer,
+    tally: &mut Tally,
+) -> Result<(), Difference> {
+    let due = match answer.outcome {
+        0 => past.due(before, call, &answer.reply),
+        _ => None,
+    };
+    let releases = due.as_ref().map_or(&before.releases, |due| &due.releases);
+    if after.releases != *releases {
+        let (found, releases) = (&after.releases, releases);
+        return Err(format!(
+            "{releases:?} is due to be remembered, not {found:?}"
+        ));
+    }
+    let reply = due.as_ref().and_then(|due| due.reply.as_ref());
+    if reply.is_some_and(|reply| *reply != answer.reply) {
+        let reply = hex(&answer.reply);
+        return Err(format!("another reply to the RELEASE is due than {reply}"));
+    }
+    let why = due.map_or(Vec::new(), |due| due.why);
+    why.into_iter().for_each(|why| tally.released(why));
     Ok(())
 }
 

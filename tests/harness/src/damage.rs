@@ -1,15 +1,18 @@
-//! Campus files with one thing wrong: each part of each rule of a sound book (21), and each rule of form (20).
+//! Campus files with one thing wrong: each part of each rule of a sound book (21), and each rule of form (20). And a few that are nearly wrong,
+//! which are accepted.
 
 use crate::campus::{holding, new_lease, sound, HIGHEST_POOL, LOWEST_POOL, RECORDS};
 use crate::names::{self, LONGEST_TAG, LONGEST_TEXT, MOST_NAMES};
 use crate::random::Random;
+use crate::releases::{new_release, MOST_RELEASES};
 use crate::{LAST_TIME, LONGEST_FILE};
-use builder::{Campus, Lease, Name, Scope};
+use builder::{Campus, Lease, Name, Release, Scope};
 
-/// The longest file that counts, sizes and lengths within their limits allow, of which the names have 6,229 octets.
-const LONGEST_LAYOUT: usize = 20_857;
+/// The longest file that counts, sizes and lengths within their limits allow, of which the names have 6,229 octets and the releases 1,345.
+const LONGEST_LAYOUT: usize = 22_202;
 
-/// A damage: what it breaks, the refusal that it has to draw, and how it is done. `None` where a campus has nothing to break.
+/// A damage: what it breaks, the refusal that it has to draw (0 where it breaks nothing), and how it is done. `None` where a campus has nothing
+/// to break.
 pub struct Damage {
     pub name: &'static str,
     pub refusal: u8,
@@ -20,6 +23,14 @@ const fn unsound(name: &'static str, make: fn(&mut Random, Campus) -> Option<Vec
     Damage {
         name,
         refusal: 21,
+        make,
+    }
+}
+
+const fn accepted(name: &'static str, make: fn(&mut Random, Campus) -> Option<Vec<u8>>) -> Damage {
+    Damage {
+        name,
+        refusal: 0,
         make,
     }
 }
@@ -65,7 +76,7 @@ pub const DAMAGES: &[Damage] = &[
     unsound("a lease has an address", no_address),
     unsound("identifiers differ within a house", equal_identifiers),
     unsound("no address has two houses", two_houses),
-    unsound("no address has two houses, 20,857 octets", longest_file),
+    unsound("no address has two houses, 22,202 octets", longest_file),
     unsound("identifier lengths, 32,768 octets", |random, campus| {
         grown_layout(random, &campus, LONGEST_FILE)
     }),
@@ -75,6 +86,80 @@ pub const DAMAGES: &[Damage] = &[
         "sum of larger-of-holding-and-share at most size",
         sum_above_size,
     ),
+    unsound("releases: house 0", |random, campus| {
+        of_house(random, campus, 0)
+    }),
+    unsound("releases: a house past the last", |random, campus| {
+        let next = campus.houses.len() as u8 + 1;
+        of_house(random, campus, next)
+    }),
+    unsound("releases: house 9", |random, campus| {
+        of_house(random, campus, 9)
+    }),
+    unsound("releases: house 200", |random, campus| {
+        of_house(random, campus, 200)
+    }),
+    unsound("releases: five of a house", |random, campus| {
+        many_releases(random, campus, MOST_RELEASES + 1)
+    }),
+    unsound("releases: six of a house or more", |random, campus| {
+        let count = random.pick(&[MOST_RELEASES + 2, 33]);
+        many_releases(random, campus, count)
+    }),
+    unsound("releases: 255", |random, campus| {
+        many_releases(random, campus, 255)
+    }),
+    unsound("releases: an identifier of 0 octets", |random, campus| {
+        with_identifier(random, campus, 0)
+    }),
+    unsound("releases: an identifier of 1 octet", |random, campus| {
+        with_identifier(random, campus, 1)
+    }),
+    unsound("releases: an identifier of 33 octets", |random, campus| {
+        with_identifier(random, campus, 33)
+    }),
+    unsound("releases: an identifier of 255 octets", |random, campus| {
+        with_identifier(random, campus, 255)
+    }),
+    unsound(
+        "releases: an identifier twice, neighbours",
+        |random, campus| repeated_release(random, campus, |apart| apart == 1),
+    ),
+    unsound(
+        "releases: an identifier twice, not neighbours",
+        |random, campus| repeated_release(random, campus, |apart| apart > 1),
+    ),
+    unsound(
+        "releases: an identifier that the house has a lease on",
+        |random, campus| on_a_lease(random, campus, |release, lease| release == lease),
+    ),
+    unsound("releases: after the clock", after_the_clock),
+    accepted(
+        "releases: an identifier that another house has a lease on",
+        |random, campus| on_a_lease(random, campus, |release, lease| release != lease),
+    ),
+    accepted(
+        "releases: an identifier that another house remembers",
+        of_two_houses,
+    ),
+    accepted("releases: at the clock", |random, campus| {
+        let clock = campus.clock;
+        with_release(random, campus, |_, release| release.time = clock)
+    }),
+    accepted("releases: at 0", |random, campus| {
+        with_release(random, campus, |_, release| release.time = 0)
+    }),
+    accepted("releases: equal times", equal_times),
+    accepted("releases: times fall from house to house", times_of_houses),
+    accepted("releases: none", |_, mut campus| {
+        campus.releases.clear();
+        Some(campus.octets())
+    }),
+    accepted("releases: 32", |random, mut campus| {
+        (campus.houses.len() == 8).then_some(())?;
+        four_each(random, &mut campus);
+        ordered(campus)
+    }),
     malformed("cut off", cut),
     malformed("cut off before a count", cut_at_count),
     malformed("no octets", |_, _| Some(Vec::new())),
@@ -92,7 +177,12 @@ pub const DAMAGES: &[Damage] = &[
     malformed("a prefix last", prefix_last),
     malformed("equal offsets", equal_offsets),
     malformed("falling offsets", falling_offsets),
-    malformed("names: no section", |_, campus| Some(campus.front())),
+    malformed("names: no section", |_, campus| {
+        Some([campus.front(), campus.releases()].concat())
+    }),
+    malformed("names: no section, and no releases", |_, campus| {
+        Some(campus.front())
+    }),
     malformed("names: cut inside", names_cut),
     malformed("names: cut off after 255 scopes, 40 houses", deep_cut),
     malformed("names: an octet more", names_excess),
@@ -116,8 +206,44 @@ pub const DAMAGES: &[Damage] = &[
     }),
     malformed("names: a text of 33 octets or more", long_text),
     malformed("names: five in a list or more", many_names),
+    malformed("releases: no section", |_, campus| {
+        Some([campus.front(), campus.names()].concat())
+    }),
+    malformed("releases: cut inside", releases_cut),
+    malformed("releases: count one more", |_, campus| {
+        with_releases(&campus, |section| section[0] += 1)
+    }),
+    malformed("releases: count 255", |_, campus| {
+        with_releases(&campus, |section| section[0] = 255)
+    }),
+    malformed("releases: count one less", |_, campus| {
+        (!campus.releases.is_empty()).then_some(())?;
+        with_releases(&campus, |section| section[0] -= 1)
+    }),
+    malformed("releases: octets after them", releases_excess),
+    malformed("releases: the section before the names", |_, campus| {
+        (!campus.releases.is_empty()).then_some(())?;
+        Some([campus.front(), campus.releases(), campus.names()].concat())
+    }),
+    malformed("releases: houses fall", release_houses_fall),
+    malformed("releases: unknown houses fall", unknown_release_houses_fall),
+    malformed("releases: times fall in a house", release_times_fall),
     malformed("wrong form and unsound", form_and_unsound),
     malformed("bad names and unsound", names_and_unsound),
+    malformed("releases of wrong form and unsound", releases_and_unsound),
+    malformed(
+        "releases out of order and after the clock",
+        |random, mut campus| {
+            campus.clock = campus
+                .releases
+                .iter()
+                .map(|release| release.time)
+                .max()?
+                .checked_sub(1)?;
+            campus.leases.clear();
+            release_times_fall(random, campus)
+        },
+    ),
 ];
 
 impl Damage {
@@ -156,6 +282,7 @@ fn all_differ(leases: &[Lease]) -> bool {
 fn no_house(_: &mut Random, mut campus: Campus) -> Option<Vec<u8>> {
     campus.houses.clear();
     campus.leases.clear();
+    campus.releases.clear();
     campus
         .scopes
         .iter_mut()
@@ -210,6 +337,7 @@ fn very_many_lists(mut campus: Campus) -> Vec<u8> {
     campus.houses = (0..40).map(|n| (n << 8, (n << 8) + 255)).collect();
     campus.scopes = (0..255).map(|n| spare_scope(n, 40)).collect();
     campus.leases.clear();
+    campus.releases.clear();
     campus.octets()
 }
 
@@ -514,6 +642,12 @@ fn full_layout(random: &mut Random, campus: &Campus) -> Campus {
             full.leases.push(lease);
         }
     }
+    four_each(random, &mut full);
+    for (place, release) in full.releases.iter_mut().enumerate() {
+        // No lease's identifier ends so.
+        release.identifier.resize(31, 0);
+        release.identifier.push(64 + place as u8);
+    }
     full.sort();
     full
 }
@@ -605,12 +739,14 @@ fn cut(random: &mut Random, campus: Campus) -> Option<Vec<u8>> {
     Some(file)
 }
 
-/// Cut after the server, the houses, the scopes or the leases.
+/// Cut after the server, the houses, the scopes, the leases or the names.
 fn cut_at_count(random: &mut Random, campus: Campus) -> Option<Vec<u8>> {
     let mut file = campus.octets();
     let houses = 10 + 8 * campus.houses.len();
     let scopes = houses + 1 + campus.scopes.len() * (6 + 2 * campus.houses.len());
-    file.truncate(random.pick(&[1, 9, houses, scopes, campus.front().len()]));
+    let leases = campus.front().len();
+    let names = leases + campus.names().len();
+    file.truncate(random.pick(&[1, 9, houses, scopes, leases, names]));
     Some(file)
 }
 
@@ -707,11 +843,11 @@ fn falling_offsets(random: &mut Random, mut campus: Campus) -> Option<Vec<u8>> {
 
 // ---- names
 
-/// The file with its last section changed.
+/// The file with its names section changed.
 fn with_section(campus: &Campus, change: impl FnOnce(&mut Vec<u8>)) -> Option<Vec<u8>> {
     let mut section = campus.names();
     change(&mut section);
-    Some([campus.front(), section].concat())
+    Some([campus.front(), section, campus.releases()].concat())
 }
 
 /// The file with a name changed.
@@ -727,14 +863,17 @@ fn with_name(
     Some(campus.octets())
 }
 
+/// The file ends inside of the names.
 fn names_cut(random: &mut Random, campus: Campus) -> Option<Vec<u8>> {
-    with_section(&campus, |section| {
-        section.truncate(random.between(1, section.len() - 1))
-    })
+    let mut names = campus.names();
+    names.truncate(random.between(1, names.len() - 1));
+    Some([campus.front(), names].concat())
 }
 
 fn deep_cut(random: &mut Random, campus: Campus) -> Option<Vec<u8>> {
     let mut file = very_many_lists(campus);
+    // The count of no releases, and before it the last list of names.
+    file.pop();
     if random.chance(50) {
         file.pop();
     } else {
@@ -745,20 +884,20 @@ fn deep_cut(random: &mut Random, campus: Campus) -> Option<Vec<u8>> {
 
 fn names_excess(random: &mut Random, campus: Campus) -> Option<Vec<u8>> {
     with_section(&campus, |section| {
-        section.push(random.pick(&[0, 0, 1, 128, 255]))
+        section.push(random.pick(&[0, 0, 128, 255]))
     })
 }
 
 fn a_scope_more(random: &mut Random, campus: Campus) -> Option<Vec<u8>> {
     let mut other = campus.clone();
     other.scopes.push(random.pick(&campus.scopes));
-    Some([campus.front(), other.names()].concat())
+    Some([campus.front(), other.names(), campus.releases()].concat())
 }
 
 fn a_scope_fewer(random: &mut Random, campus: Campus) -> Option<Vec<u8>> {
     let mut other = campus.clone();
     other.scopes.remove(random.below(campus.scopes.len()));
-    Some([campus.front(), other.names()].concat())
+    Some([campus.front(), other.names(), campus.releases()].concat())
 }
 
 /// One list more than the houses and the campus have: in the first scope or in the last.
@@ -804,6 +943,181 @@ fn many_names(random: &mut Random, mut campus: Campus) -> Option<Vec<u8>> {
     Some(campus.octets())
 }
 
+// ---- releases
+
+/// The file with its last section changed.
+fn with_releases(campus: &Campus, change: impl FnOnce(&mut Vec<u8>)) -> Option<Vec<u8>> {
+    let mut section = campus.releases();
+    change(&mut section);
+    Some([campus.front(), campus.names(), section].concat())
+}
+
+/// The file with a release changed, and the releases put in order again.
+fn with_release(
+    random: &mut Random,
+    mut campus: Campus,
+    change: impl FnOnce(&mut Random, &mut Release),
+) -> Option<Vec<u8>> {
+    let release = place(random, &campus.releases)?;
+    change(random, &mut campus.releases[release]);
+    ordered(campus)
+}
+
+fn of_house(random: &mut Random, campus: Campus, house: u8) -> Option<Vec<u8>> {
+    with_release(random, campus, |_, release| release.house = house)
+}
+
+fn with_identifier(random: &mut Random, campus: Campus, length: usize) -> Option<Vec<u8>> {
+    with_release(random, campus, |_, release| {
+        release.identifier.resize(length, b'x')
+    })
+}
+
+/// Brings a house to so many releases.
+fn lengthen_releases(random: &mut Random, campus: &mut Campus, house: u8, count: usize) {
+    let of_house = |release: &&Release| release.house == house;
+    for _ in campus.releases.iter().filter(of_house).count()..count {
+        let release = new_release(campus, random, house);
+        campus.releases.push(release);
+    }
+}
+
+fn many_releases(random: &mut Random, mut campus: Campus, count: usize) -> Option<Vec<u8>> {
+    let house = random.between(1, campus.houses.len()) as u8;
+    if count == 255 {
+        campus.releases.retain(|release| release.house == house);
+    }
+    lengthen_releases(random, &mut campus, house, count);
+    ordered(campus)
+}
+
+/// Four of each house.
+fn four_each(random: &mut Random, campus: &mut Campus) {
+    campus.releases.clear();
+    for house in 1..=campus.houses.len() as u8 {
+        lengthen_releases(random, campus, house, MOST_RELEASES);
+    }
+}
+
+/// Two of a house with one identifier, so many places apart.
+fn repeated_release(
+    random: &mut Random,
+    mut campus: Campus,
+    is_meant: fn(usize) -> bool,
+) -> Option<Vec<u8>> {
+    let a = place(random, &campus.releases)?;
+    let b = random.between(a, campus.releases.len() - 1);
+    (is_meant(b - a) && campus.releases[a].house == campus.releases[b].house).then_some(())?;
+    campus.releases[b].identifier = campus.releases[a].identifier.clone();
+    if random.chance(50) {
+        campus.releases[b].transaction = campus.releases[a].transaction;
+    }
+    Some(campus.octets())
+}
+
+/// A release on the identifier of a lease, of these two houses.
+fn on_a_lease(
+    random: &mut Random,
+    mut campus: Campus,
+    is_meant: fn(u8, u8) -> bool,
+) -> Option<Vec<u8>> {
+    let lease = place(random, &campus.leases)?;
+    let release = place(random, &campus.releases)?;
+    let (lease, house) = (campus.leases[lease].clone(), campus.releases[release].house);
+    let identifier = lease.identifier;
+    is_meant(house, lease.house).then_some(())?;
+    let leases = campus.leases.iter();
+    let mut leased = leases.map(|lease| (lease.house, &lease.identifier));
+    let releases = campus.releases.iter();
+    let mut released = releases.map(|release| (release.house, &release.identifier));
+    // Another house's identifier is neither on a lease nor on a release of this one.
+    let is_free = !leased.any(|of| of == (house, &identifier));
+    let is_free = is_free && !released.any(|of| of == (house, &identifier));
+    (is_free || house == lease.house).then_some(())?;
+    campus.releases[release].identifier = identifier;
+    Some(campus.octets())
+}
+
+fn of_two_houses(random: &mut Random, mut campus: Campus) -> Option<Vec<u8>> {
+    let a = place(random, &campus.releases)?;
+    let b = random.below(campus.releases.len());
+    let (house, identifier) = (
+        campus.releases[b].house,
+        campus.releases[a].identifier.clone(),
+    );
+    (campus.releases[a].house != house).then_some(())?;
+    let leased = |lease: &Lease| (lease.house, &lease.identifier) == (house, &identifier);
+    let released = |other: &Release| (other.house, &other.identifier) == (house, &identifier);
+    (!campus.leases.iter().any(leased) && !campus.releases.iter().any(released)).then_some(())?;
+    campus.releases[b].identifier = identifier;
+    Some(campus.octets())
+}
+
+fn after_the_clock(random: &mut Random, campus: Campus) -> Option<Vec<u8>> {
+    let next = campus.clock.checked_add(1)?;
+    with_release(random, campus, |random, release| {
+        release.time = random.pick(&[next, next, next.saturating_add(300), LAST_TIME])
+    })
+}
+
+fn equal_times(random: &mut Random, mut campus: Campus) -> Option<Vec<u8>> {
+    let a = place(random, &campus.releases)?;
+    let next = campus.releases.get(a + 1)?.clone();
+    (campus.releases[a].house == next.house).then_some(())?;
+    // Those of the house before it are no later.
+    campus.releases[a].time = next.time;
+    Some(campus.octets())
+}
+
+fn times_of_houses(_: &mut Random, campus: Campus) -> Option<Vec<u8>> {
+    let mut pairs = campus.releases.windows(2);
+    let falls = |pair: &[Release]| pair[0].house < pair[1].house && pair[0].time > pair[1].time;
+    pairs.any(falls).then(|| campus.octets())
+}
+
+/// The file ends inside of the releases.
+fn releases_cut(random: &mut Random, campus: Campus) -> Option<Vec<u8>> {
+    (!campus.releases.is_empty()).then_some(())?;
+    with_releases(&campus, |section| {
+        section.truncate(random.between(1, section.len() - 1))
+    })
+}
+
+fn releases_excess(random: &mut Random, campus: Campus) -> Option<Vec<u8>> {
+    let more = match campus.releases.last() {
+        Some(last) if random.chance(30) => last.octets(),
+        _ => vec![random.pick(&[0, 0, 1, 255]); random.pick(&[1, 1, 2, 12])],
+    };
+    with_releases(&campus, |section| section.extend(more))
+}
+
+fn release_houses_fall(random: &mut Random, mut campus: Campus) -> Option<Vec<u8>> {
+    let a = place(random, &campus.releases)?;
+    let b = random.between(a, campus.releases.len() - 1);
+    (campus.releases[a].house < campus.releases[b].house).then_some(())?;
+    campus.releases.swap(a, b);
+    Some(campus.octets())
+}
+
+fn unknown_release_houses_fall(random: &mut Random, mut campus: Campus) -> Option<Vec<u8>> {
+    (campus.releases.len() > 1).then_some(())?;
+    if random.chance(50) {
+        campus.releases[0].house = random.pick(&[9, 200, 255]);
+    } else {
+        campus.releases.last_mut()?.house = 0;
+    }
+    Some(campus.octets())
+}
+
+fn release_times_fall(random: &mut Random, mut campus: Campus) -> Option<Vec<u8>> {
+    let a = place(random, &campus.releases)?;
+    let next = campus.releases.get(a + 1)?;
+    let (one, house) = (&campus.releases[a], next.house);
+    (one.house == house && one.time < next.time).then_some(())?;
+    campus.releases.swap(a, a + 1);
+    Some(campus.octets())
+}
+
 // ---- form and soundness
 
 /// Breaks a rule of soundness, but none of form.
@@ -827,13 +1141,26 @@ fn names_and_unsound(random: &mut Random, mut campus: Campus) -> Option<Vec<u8>>
     bad(random, campus)
 }
 
+fn releases_and_unsound(random: &mut Random, mut campus: Campus) -> Option<Vec<u8>> {
+    unsettle(random, &mut campus);
+    let bad = random.pick(&[
+        releases_cut,
+        releases_excess,
+        release_houses_fall,
+        release_times_fall,
+    ]);
+    bad(random, campus)
+}
+
 /// A file with a few octets changed, or a count. What it draws isn't foretold.
 pub fn scrambled(random: &mut Random, campus: &Campus) -> Vec<u8> {
     let mut file = campus.octets();
     let before_names = campus.front().len();
+    let before_releases = file.len() - campus.releases().len();
     for _ in 0..random.pick(&[1, 1, 1, 2, 5]) {
-        let below = random.pick(&[before_names, file.len()]);
-        let place = random.below(below);
+        let parts = [0..before_names, 0..file.len(), before_releases..file.len()];
+        let part = random.pick(&parts);
+        let place = random.between(part.start, part.end - 1);
         file[place] = match random.below(4) {
             0 => file[place] ^ (1 << random.below(8)),
             1 => file[place].wrapping_add(1),

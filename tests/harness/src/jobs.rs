@@ -2,6 +2,7 @@
 
 use crate::names::full_lists;
 use crate::random::Random;
+use crate::releases::MOST_RELEASES;
 use crate::{DEFAULT_LEASE, LONGEST_FILE};
 use banshorra_host::{library, ANSWER_ROOM};
 use builder::*;
@@ -10,8 +11,8 @@ const CLOCK: u32 = 1_700_000_000;
 const SERVER: u32 = 0x0A01_0101;
 /// The numbers of leases that calls are measured at.
 pub const LEASES: [usize; 4] = [0, 16, 64, 128];
-/// The number at which they are measured with names too, and the mixed list.
-const NAMED_LEASES: usize = 64;
+/// The number at which they are measured with full sections of names and of releases too, and the mixed list.
+const FILLED_LEASES: usize = 64;
 
 /// What is done with a file.
 pub enum Work {
@@ -20,11 +21,22 @@ pub enum Work {
     Replay(Vec<u8>, usize),
 }
 
+/// What the file's last two sections hold.
+#[derive(Clone, Copy, PartialEq, Eq, Debug)]
+pub enum Filled {
+    /// No names, and a release or two.
+    Little = 0,
+    /// The longest names section.
+    Names = 1,
+    /// Four releases of each house.
+    Releases = 2,
+    Both = 3,
+}
+
 pub struct Job {
     pub name: &'static str,
     pub leases: usize,
-    /// Whether the file's names section is the longest; else it has no names.
-    pub full_names: bool,
+    pub filled: Filled,
     pub file: Vec<u8>,
     pub work: Work,
     /// Outcome and, for a reply, its type, that each of its calls has to draw; none for the mixed list.
@@ -117,9 +129,13 @@ impl Job {
 }
 
 /// Eight houses, four scopes of 64 addresses, and leases of two addresses each, the same number for each house. House 2's
-/// second lease follows its first on the same addresses.
+/// second lease follows its first on the same addresses. House 6 has released something, and house 1 too where there are no leases.
 fn campus(leases: usize) -> Campus {
     let mut campus = settings();
+    if leases == 0 {
+        campus.releases.push(gone(1, MOST_RELEASES));
+    }
+    campus.releases.push(gone(6, MOST_RELEASES));
     for house in 1..=8_u8 {
         for number in 0..(leases / 8) as u8 {
             let first = (house - 1) * 8 + number / 4 * 2;
@@ -160,12 +176,30 @@ fn settings() -> Campus {
             })
             .collect(),
         leases: Vec::new(),
+        releases: Vec::new(),
     }
 }
 
 /// An identifier of eight octets.
 fn name(house: u8, number: u8) -> Vec<u8> {
     format!("house{house}{number:02}").into_bytes()
+}
+
+/// A release of a house: the fourth at the clock, those before it a second earlier each.
+fn gone(house: u8, number: usize) -> Release {
+    Release {
+        house,
+        identifier: name(house, 90 + number as u8),
+        transaction: 2,
+        time: CLOCK - (MOST_RELEASES - number) as u32,
+    }
+}
+
+/// The campus with four releases of each house.
+fn with_full_releases(mut campus: Campus) -> Campus {
+    let releases = (1..=8).flat_map(|house| (1..=MOST_RELEASES).map(move |n| gone(house, n)));
+    campus.releases = releases.collect();
+    campus
 }
 
 /// The campus with the longest names section: four names in every list, with tags of 8 octets and texts of 32.
@@ -176,10 +210,13 @@ fn with_full_names(mut campus: Campus) -> Campus {
     campus
 }
 
-/// The fullest sound file: 128 leases, identifiers of 32 octets, 32 addresses each, sixteen periods one after the other, and the longest
-/// names section.
+/// The fullest sound file: 128 leases, identifiers of 32 octets, 32 addresses each, sixteen periods one after the other, the longest
+/// names section, and four releases of each house, with identifiers of 32 octets.
 fn full_campus() -> Campus {
-    let mut campus = with_full_names(settings());
+    let mut campus = with_full_releases(with_full_names(settings()));
+    for release in &mut campus.releases {
+        release.identifier.resize(32, b'-');
+    }
     campus
         .scopes
         .iter_mut()
@@ -256,18 +293,28 @@ fn information_in(language: &[u8]) -> Message {
     message
 }
 
-/// The calls to measure at a number of leases: a name, what they draw, and calls that are sent in turn and leave the book as it was.
-fn turns(leases: usize) -> Vec<(&'static str, Draws, Vec<Call<'static>>)> {
-    let at = |house: u8, message: Message| call(house, CLOCK, &message);
-    let first = name(1, 0);
-    let request = at(1, asking(REQUEST, 2, &first, 1, 2, 2, CLOCK));
-    let released = at(1, release(2, &first));
-    // House 1's first lease has the lowest addresses, so a REQUEST after its RELEASE brings back the same lease.
-    let in_turn = if leases == 0 {
+/// A REQUEST and a RELEASE of house 1 in turn, which leave the book as it was. Its first lease has the lowest addresses, so a REQUEST after its
+/// RELEASE brings back the same lease and forgets the release; where the house's last release is remembered, the REQUEST comes first.
+fn in_turn(campus: &Campus) -> Vec<Call<'static>> {
+    let last = gone(1, MOST_RELEASES);
+    let is_remembered = campus.releases.contains(&last);
+    let of = if is_remembered {
+        last.identifier
+    } else {
+        name(1, 0)
+    };
+    let request = call(1, CLOCK, &asking(REQUEST, 2, &of, 1, 2, 2, CLOCK));
+    let released = call(1, CLOCK, &release(2, &of));
+    if is_remembered {
         vec![request, released]
     } else {
         vec![released, request]
-    };
+    }
+}
+
+/// The calls to measure on a campus: a name, what they draw, and calls that are sent in turn and leave the book as it was.
+fn turns(campus: &Campus) -> Vec<(&'static str, Draws, Vec<Call<'static>>)> {
+    let at = |house: u8, message: Message| call(house, CLOCK, &message);
     let mut turns = vec![
         (
             "DISCOVER, offered",
@@ -282,7 +329,7 @@ fn turns(leases: usize) -> Vec<(&'static str, Draws, Vec<Call<'static>>)> {
         (
             "REQUEST and RELEASE in turn, granted",
             ACKNOWLEDGED,
-            in_turn,
+            in_turn(campus),
         ),
         (
             "REQUEST, refused (grant)",
@@ -298,6 +345,11 @@ fn turns(leases: usize) -> Vec<(&'static str, Draws, Vec<Call<'static>>)> {
             "RELEASE, refused (not held)",
             REFUSED,
             vec![at(3, release(5, b"none"))],
+        ),
+        (
+            "RELEASE, sent again",
+            ACKNOWLEDGED,
+            vec![at(6, release(2, &gone(6, MOST_RELEASES).identifier))],
         ),
         (
             "GETINFO, answered",
@@ -325,7 +377,7 @@ fn turns(leases: usize) -> Vec<(&'static str, Draws, Vec<Call<'static>>)> {
             }],
         ),
     ];
-    if leases > 0 {
+    if !campus.leases.is_empty() {
         let held = name(3, 0);
         turns.extend([
             (
@@ -395,7 +447,7 @@ pub fn jobs(count: usize, mixed_count: usize) -> Vec<Job> {
     let empty = |leases: usize, file: &[u8]| Job {
         name: "empty list",
         leases,
-        full_names: false,
+        filled: Filled::Little,
         file: file.to_vec(),
         work: repeated(&[], 0),
         draws: Some(ACKNOWLEDGED),
@@ -406,13 +458,14 @@ pub fn jobs(count: usize, mixed_count: usize) -> Vec<Job> {
     let one_less = one_less.octets();
     jobs.push(empty(127, &one_less));
     for leases in LEASES {
-        let file = campus(leases).octets();
+        let campus = campus(leases);
+        let file = campus.octets();
         jobs.push(empty(leases, &file));
-        for (name, draws, calls) in turns(leases) {
+        for (name, draws, calls) in turns(&campus) {
             let job = |leases: usize, file: &[u8]| Job {
                 name,
                 leases,
-                full_names: false,
+                filled: Filled::Little,
                 file: file.to_vec(),
                 work: repeated(&calls, count),
                 draws: Some(draws),
@@ -431,26 +484,29 @@ pub fn jobs(count: usize, mixed_count: usize) -> Vec<Job> {
             }
         }
     }
-    jobs.extend(jobs_with_names(count, mixed_count));
+    let named = with_full_names(campus(FILLED_LEASES));
+    let released = with_full_releases(campus(FILLED_LEASES));
+    jobs.extend(filled_jobs(&named, Filled::Names, count, mixed_count));
+    jobs.extend(filled_jobs(&released, Filled::Releases, count, mixed_count));
     let full = full_campus().octets();
     let read = Job {
         name: "full file, read",
         leases: 128,
-        full_names: true,
+        filled: Filled::Both,
         file: full.clone(),
         work: Work::Check,
         draws: Some(ACKNOWLEDGED),
     };
     let written = Job {
         name: "full file, read and written",
-        full_names: true,
+        filled: Filled::Both,
         ..empty(128, &full)
     };
     let mixed = Job {
         name: "mixed list",
-        leases: NAMED_LEASES,
-        full_names: false,
-        file: campus(NAMED_LEASES).octets(),
+        leases: FILLED_LEASES,
+        filled: Filled::Little,
+        file: campus(FILLED_LEASES).octets(),
         work: mixed(mixed_count),
         draws: None,
     };
@@ -458,20 +514,20 @@ pub fn jobs(count: usize, mixed_count: usize) -> Vec<Job> {
     jobs
 }
 
-/// The same calls and the mixed list on a file with the longest names section, at one number of leases: what names cost a call, and what they
-/// cost one that shows none.
-fn jobs_with_names(count: usize, mixed_count: usize) -> Vec<Job> {
-    let file = with_full_names(campus(NAMED_LEASES)).octets();
+/// The same calls and the mixed list on a file with a full section of names or of releases, at one number of leases: what they cost a call,
+/// and what they cost one that has nothing to do with them.
+fn filled_jobs(campus: &Campus, filled: Filled, count: usize, mixed_count: usize) -> Vec<Job> {
+    let file = campus.octets();
     let job = |name, work, draws| Job {
         name,
-        leases: NAMED_LEASES,
-        full_names: true,
+        leases: FILLED_LEASES,
+        filled,
         file: file.clone(),
         work,
         draws,
     };
     let empty = job("empty list", repeated(&[], 0), Some(ACKNOWLEDGED));
-    let calls = turns(NAMED_LEASES).into_iter();
+    let calls = turns(campus).into_iter();
     let calls = calls.map(|(name, draws, calls)| job(name, repeated(&calls, count), Some(draws)));
     let mixed = job("mixed list", mixed(mixed_count), None);
     [empty].into_iter().chain(calls).chain([mixed]).collect()

@@ -11,6 +11,7 @@ pub mod lent;
 pub mod message;
 pub mod names;
 pub mod random;
+pub mod releases;
 pub mod tally;
 pub mod watch;
 

@@ -2,6 +2,7 @@
 
 use crate::damage::DAMAGES;
 use crate::names;
+use crate::releases;
 use std::collections::BTreeMap;
 
 /// Message types by number; the server's own are among them.
@@ -50,14 +51,19 @@ fn code_name(code: u8) -> String {
 }
 
 fn damage_name(place: usize) -> String {
-    format!(
-        "refused {} for: {}",
-        DAMAGES[place].refusal, DAMAGES[place].name
-    )
+    let damage = &DAMAGES[place];
+    match damage.refusal {
+        0 => format!("accepted: {}", damage.name),
+        refusal => format!("refused {refusal} for: {}", damage.name),
+    }
 }
 
 fn named_for(why: &str) -> String {
     format!("name: {why}")
+}
+
+fn released_for(why: &str) -> String {
+    format!("release: {why}")
 }
 
 impl Tally {
@@ -90,6 +96,11 @@ impl Tally {
         self.add(named_for(why));
     }
 
+    /// Why a release was remembered, known or forgotten.
+    pub fn released(&mut self, why: &str) {
+        self.add(released_for(why));
+    }
+
     /// A file that was damaged on purpose, and what it drew.
     pub fn damaged(&mut self, place: usize, refusal: u8) {
         if refusal == DAMAGES[place].refusal {
@@ -106,6 +117,7 @@ impl Tally {
         names.extend((0..4).map(|error| format!("error {error}")));
         names.extend(CODES.map(|(code, _)| code_name(code)));
         names.extend(names::COUNTED.map(named_for));
+        names.extend(releases::COUNTED.map(released_for));
         names.extend((0..DAMAGES.len()).map(damage_name));
         names
     }

@@ -3,15 +3,16 @@
 //! that a replay is its single serves. What isn't so is a panic.
 
 use crate::lent::{Held, Lender};
+use crate::releases::Past;
 use banshorra_host::{ANSWER_ROOM, BOARD_ROOM, FILE_ROOM, REPLY_ROOM};
-use builder::{value_of, Call, ACK, NAK, OFFER};
+use builder::{value_of, Call, Campus, ACK, NAK, OFFER};
 use std::collections::BTreeMap;
 
 /// Buffers are just as long as the library is told, for valgrind.
 pub const EXACT: Lender = Lender { around: 0 };
 
 /// What a run of some length has to see.
-const SEEN: [(&str, &str); 7] = [
+const SEEN: [(&str, &str); 8] = [
     ("check", "0, 20, 21"),
     ("board", "lines, refused 20, refused 21, no room"),
     ("serve", "0, 2, 3, 4, 5, 6, 7, 8, 20, 21, 23, 28"),
@@ -19,6 +20,10 @@ const SEEN: [(&str, &str); 7] = [
     ("replies", "OFFER, ACK, NAK"),
     ("errors", "0, 1, 2, 3"),
     ("names", "0, 1"),
+    (
+        "releases",
+        "remembered, sent again, a new lease forgets it, a fifth forgets the oldest",
+    ),
 ];
 
 /// Where a campus file's clock stands.
@@ -37,16 +42,11 @@ fn settings_length(file: &[u8]) -> usize {
     11 + 8 * houses + scopes * (6 + 2 * houses)
 }
 
-/// The octets of an accepted file behind its leases: the names, which no call changes.
-fn names(file: &[u8]) -> &[u8] {
-    let start = settings_length(file);
-    let mut names = &file[start + 1..];
-    for _ in 0..file[start] {
-        // House, scope, the identifier, type, transaction id, start and end, the offsets.
-        let behind = &names[3 + usize::from(names[2]) + 13..];
-        names = &behind[1 + usize::from(behind[0])..];
-    }
-    names
+/// The campus of an accepted file.
+fn campus(file: &[u8]) -> Campus {
+    let campus = Campus::read(file).expect("an accepted file has its layout");
+    assert!(campus.octets() == file, "an accepted file is its campus's");
+    campus
 }
 
 /// How often each number was returned, and each reply and error seen.
@@ -58,7 +58,7 @@ impl Watch {
         *self.0.entry((what, of.to_string())).or_default() += 1;
     }
 
-    /// A line for each function, for replies, errors and names; and how many of those that have to occur never did.
+    /// A line for each function, for replies, errors, names and releases; and how many of those that have to occur never did.
     pub fn lines(&self) -> (Vec<String>, usize) {
         let (mut lines, mut missing) = (vec![], 0);
         for (what, names) in SEEN {
@@ -143,10 +143,11 @@ impl Watch {
         if number == 0 {
             self.see_reply(call, &reply);
             let list = value_of(&reply, 9).unwrap_or(&[0]);
-            self.see_scope_list(&before, list);
+            self.see_scope_list(&campus(&before).names(), list);
         }
         if due == 0 && number != 2 {
             self.see_file(&before, held, call.time);
+            self.see_releases(&campus(&before), &campus(held.file()), call, &reply);
         }
         (number, reply)
     }
@@ -174,7 +175,7 @@ impl Watch {
     }
 
     /// No scope of a list has more than one name, and that is one of the file's.
-    fn see_scope_list(&mut self, file: &[u8], list: &[u8]) {
+    fn see_scope_list(&mut self, names: &[u8], list: &[u8]) {
         let (scopes, mut rest) = (list[0], &list[1..]);
         for _ in 0..scopes {
             let (scope, behind) = rest.split_at(10);
@@ -184,7 +185,7 @@ impl Watch {
             if scope[9] == 1 {
                 let tag = usize::from(rest[1]);
                 let (name, behind) = rest.split_at(3 + tag + usize::from(rest[2 + tag]));
-                let mut parts = names(file).windows(name.len());
+                let mut parts = names.windows(name.len());
                 assert!(parts.any(|part| part == name), "a name that isn't there");
                 rest = behind;
             }
@@ -207,7 +208,25 @@ impl Watch {
         let same = file[..CLOCK.start] == before[..CLOCK.start]
             && file[CLOCK.end..settings] == before[CLOCK.end..settings];
         assert!(same, "the settings have changed");
-        assert!(names(file) == names(before), "the names have changed");
+        let same = campus(file).names() == campus(before).names();
+        assert!(same, "the names have changed");
+    }
+
+    /// What a call leaves of releases, and its reply to a RELEASE. A discard leaves them all.
+    fn see_releases(&mut self, before: &Campus, after: &Campus, call: &Call, reply: &[u8]) {
+        let due = match reply {
+            [] => None,
+            _ => Past::default().due(before, call, reply),
+        };
+        let releases = due.as_ref().map_or(&before.releases, |due| &due.releases);
+        assert!(after.releases == *releases, "other releases are due");
+        if let Some(due) = due {
+            let same = due.reply.is_none_or(|due| due == reply);
+            assert!(same, "another reply to the RELEASE is due");
+            due.why
+                .into_iter()
+                .for_each(|why| self.count("releases", why));
+        }
     }
 
     /// A replay, compared with its single serves.

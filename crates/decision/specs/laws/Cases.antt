@@ -2,6 +2,7 @@
 use Prim.Native.Nat.{ℕ, _+_, _≤_, _<_}
 use mathlib.Core.Path.{_≡_, refl, sym, ap, _∙_, subst}
 use mathlib.Core.Bool.{Bool, true, false, not, _&&_, _||_}
+use mathlib.Core.List.{List}
 use native.Mathlib.Omega.{arith}
 use lib.Dec.{ltb, eqb}
 use borrow.Author.Tests.{eqb-true, ltb-false}
@@ -10,6 +11,7 @@ use Rattle.message.specs.declared.Fields.{Fields}
 use Rattle.message.specs.laws.Placed.{pick-cases}
 use Rattle.state.specs.declared.Lease.{Lease}
 use Rattle.state.specs.declared.LeaseTable.{LeaseTable}
+use Rattle.state.specs.declared.Release.{Release}
 use Rattle.state.specs.declared.State.{State}
 use Rattle.state.specs.Book.{leasesOf, scopeAt}
 use Rattle.state.specs.Edit.{entering, leaving, givingWay}
@@ -94,13 +96,14 @@ renewedFor s b h m = leaseFrom m (renewedOf s b h m (recordedOf (ownOf b h) m))
 -- what is to be shown of P: each way in which a decision ends, with what the tests before it have shown
 pub record Cases (s : State) (b : LeaseTable) (h : ℕ) (m : Fields) (P : Decided → Type 0) : Type 0 where
   pub resent : resends m (oldFor b h m) ≡ true → P (unchanged (withLease LeaseAck (oldFor b h m)))
+  pub again : P (unchanged (plainReply ReleaseAck))
   pub refused : (e : ℕ) → P (unchanged (refusalOf m e))
   pub offered : m .kind ≡ 1 → Passed s m (holdsOf (ownOf b h) m) → error0Of s (newOf s b h m) ≡ false → P (unchanged (withLease Offer (newFor s b h m)))
   pub requested : m .kind ≡ 3 → Passed s m (holdsOf (ownOf b h) m) → error0Of s (newOf s b h m) ≡ false
       → P (changed (entering (newFor s b h m)) (withLease LeaseAck (newFor s b h m)))
   pub renewed : m .kind ≡ 4 → Passed s m (holdsOf (ownOf b h) m) → holdsOf (ownOf b h) m ≡ true → error0Of s (renewedOf s b h m (oldFor b h m)) ≡ false
       → P (changed (givingWay (oldFor b h m) (renewedFor s b h m)) (withLease LeaseAck (renewedFor s b h m)))
-  pub released : m .kind ≡ 7 → holdsOf (ownOf b h) m ≡ true → P (changed (leaving (oldFor b h m)) (plainReply ReleaseAck))
+  pub released : m .kind ≡ 7 → holdsOf (ownOf b h) m ≡ true → P (changed (leaving (oldFor b h m) (m .xid) (s .clock)) (plainReply ReleaseAck))
   pub informed : P (unchanged (plainReply InfoAck))
 
 pub new-type : (m : Fields) {k : ℕ} → m .kind ≡ k → (eqb k 1 || eqb k 3) ≡ true → isNew m ≡ true
@@ -144,12 +147,13 @@ module _ (s : State) (b : LeaseTable) (h : ℕ) (m : Fields) (P : Decided → Ty
       subst (λ (p : Proposal). P (changed (givingWay (oldFor b h m) (leaseFrom m p)) (withLease LeaseAck (leaseFrom m p)))) (sym q)
       (c .renewed k ok (held-by m (holdsOf (ownOf b h) m) k refl e3) (sym (ap (error0Of s) q) ∙ e0)))))
 
-  plainly : error3Of m (holdsOf (ownOf b h) m) ≡ false → P (plainOf m (oldFor b h m))
+  plainly : error3Of m (holdsOf (ownOf b h) m) ≡ false → P (plainOf s m (oldFor b h m))
   unfolding plainOf
   plainly e3 = pick-cases P _ _ _ (λ k7. let k : m .kind ≡ 7 = eqb-true (m .kind) 7 k7 in c .released k (held-by m (holdsOf (ownOf b h) m) k refl e3)) (λ k7. c .informed)
 
-  pub decided-by : P (decideOf s b h m)
+  -- whatever is remembered of the tenant
+  pub decided-by : (q : List Release) → P (decideOf s b q h m)
   unfolding decideOf judgedOf
-  decided-by =
-      pick-cases P _ _ _ (c .resent) (λ r. pick-cases P _ _ _ (λ t. c .refused 1) (λ e1. pick-cases P _ _ _ (λ t. c .refused 2) (λ e2. pick-cases P _ _ _ (λ t. c .refused 3) (λ e3.
-      pick-cases P _ _ _ (λ period. settled (passed s m (holdsOf (ownOf b h) m) e1) e3 period) (λ period. plainly e3)))))
+  decided-by q =
+      pick-cases P _ _ _ (c .resent) (λ r. pick-cases P _ _ _ (λ t. c .again) (λ a. pick-cases P _ _ _ (λ t. c .refused 1) (λ e1. pick-cases P _ _ _ (λ t. c .refused 2) (λ e2.
+      pick-cases P _ _ _ (λ t. c .refused 3) (λ e3. pick-cases P _ _ _ (λ period. settled (passed s m (holdsOf (ownOf b h) m) e1) e3 period) (λ period. plainly e3))))))

@@ -20,6 +20,7 @@ use Rattle.address_set.specs.AddressSet.{bit}
 use Rattle.message.specs.declared.Fields.{Fields}
 use Rattle.state.specs.declared.Lease.{Lease}
 use Rattle.state.specs.declared.LeaseTable.{LeaseTable}
+use Rattle.state.specs.declared.Release.{Release}
 use Rattle.state.specs.declared.State.{State}
 use Rattle.state.specs.Book.{inUse, laidOut, leasesOf, tableOf, idOf, other, placeOf, leaseAt, zeroLease, live, busyOf, insertOf, removeOf, scopeAt}
 use Rattle.state.specs.Edit.{noEdit, applied}
@@ -72,6 +73,12 @@ module _ (s : State) (l : Lease) (e : leaseOk s l ≡ true) where
       let p = and-parts (idB l && offsetsB s l) (leaseB s l && paddedB l) e in
       (and-parts (idB l) (offsetsB s l) (p .0) .1, and-parts (leaseB s l) (paddedB l) (p .1) .0)
 
+  pub id-rules : (idB l ≡ true) × (paddedB l ≡ true)
+  unfolding leaseOk
+  id-rules =
+      let p = and-parts (idB l && offsetsB s l) (leaseB s l && paddedB l) e in
+      (and-parts (idB l) (offsetsB s l) (p .0) .0, and-parts (leaseB s l) (paddedB l) (p .1) .1)
+
   known-scope : scopeKnown s l ≡ true
   unfolding leaseB
   known-scope = and-parts (scopeKnown s l) (kindB l && periodB (s .clock) l) (rules .1) .0
@@ -103,6 +110,20 @@ length-some m old h e = go (m .times .length .there) (m .times .length .value) e
 pub record GoodId (m : Fields) : Type 0 where
   pub long : (leb 2 (m .id .len) && leb (m .id .len) 32) ≡ true
   pub padded : zeroFrom (m .id .len) (m .id .octets) ≡ true
+
+-- ---- the lease that a tenant of a sound book holds under the message's identifier
+module _ (s : State) (b : LeaseTable) (h : ℕ) (m : Fields) (held : holdsOf (ownOf b h) m ≡ true) where
+  pub held-at : placeOf (leaseIdIn m) (ownOf b h) < length (ownOf b h)
+  unfolding holdsOf
+  held-at = ltb-true (placeOf (leaseIdIn m) (ownOf b h)) (length (ownOf b h)) held
+
+  pub held-named : idOf (recordedOf (ownOf b h) m) ≡ leaseIdIn m
+  unfolding recordedOf
+  held-named = named-at (leaseIdIn m) (ownOf b h) held-at
+
+  pub held-good : Sound s (leasesOf b) → leaseOk s (recordedOf (ownOf b h) m) ≡ true
+  unfolding recordedOf
+  held-good v = at-all (leaseOk s) zeroLease (ownOf b h) (placeOf (leaseIdIn m) (ownOf b h)) held-at (ap (allBy (leaseOk s)) (own-is b h) ∙ each-at s (leasesOf b) v h)
 
 -- ---- the leases afterwards, by the tenant's own
 module _ (s : State) (b : LeaseTable) (h : ℕ) (there : h < length (b .tenants)) where
@@ -241,13 +262,8 @@ module _ (s : State) (b : LeaseTable) (h : ℕ) (m : Fields) (v : Sound s (lease
   abbrev N : Lease
   N = leaseFrom m (renewedOf s b h m (recordedOf (ownOf b h) m))
 
-  found : placeOf (leaseIdIn m) (ownOf b h) < length (ownOf b h)
-  unfolding holdsOf
-  found = ltb-true (placeOf (leaseIdIn m) (ownOf b h)) (length (ownOf b h)) held
-
   old-good : leaseOk s O ≡ true
-  unfolding recordedOf
-  old-good = at-all (leaseOk s) zeroLease (ownOf b h) (placeOf (leaseIdIn m) (ownOf b h)) found (ap (allBy (leaseOk s)) (own-is b h) ∙ each-at s (leasesOf b) v h)
+  old-good = held-good s b h m held v
 
   N-scope : N .scope ≡ O .scope
   unfolding leaseFrom renewedOf renewedTo
@@ -327,7 +343,7 @@ module _ (s : State) (b : LeaseTable) (h : ℕ) (m : Fields) (v : Sound s (lease
       let o = own-is b h in
       back s b h there (λ x. insertOf N (removeOf (leaseIdIn m) x))
       (sound-renewed s (leasesOf b) h (leaseIdIn m) N v known (there-too s b h there) N-named
-      (subst (λ (x : List Lease). placeOf (leaseIdIn m) x < length x) o found)
+      (subst (λ (x : List Lease). placeOf (leaseIdIn m) x < length x) o (held-at s b h m held))
       (subst (λ (x : List Lease). leaseAt x (placeOf (leaseIdIn m) x) .scope ≡ N .scope) o (sym N-scope))
       (subst (λ (x : List Lease). leaseAt x (placeOf (leaseIdIn m) x) .addresses ≡ N .addresses) o (sym N-addresses))
       N-good (subst (λ (x : List Lease). allBy (compatible N) (removeOf (leaseIdIn m) x) ≡ true) o rest-compatible))
@@ -349,18 +365,17 @@ module _ (s : State) (b : LeaseTable) (h : ℕ) (m : Fields) (v : Sound s (lease
   fits-new e = ltb-true (length (ownOf b h)) 16 (and-parts (ltb (length (ownOf b h)) 16) _ (inside s (newOf s b h m) e .1) .0)
 
   fits-old : holdsOf (ownOf b h) m ≡ true → (idOf (oldFor b h m) ≡ leaseIdIn m) × (length (removeOf (idOf (oldFor b h m)) (ownOf b h)) < 16)
-  unfolding holdsOf recordedOf
   fits-old held =
-      let at = ltb-true (placeOf (leaseIdIn m) (ownOf b h)) (length (ownOf b h)) held in
-      let e : idOf (oldFor b h m) ≡ leaseIdIn m = named-at (leaseIdIn m) (ownOf b h) at in
+      let e : idOf (oldFor b h m) ≡ leaseIdIn m = held-named s b h m held in
       let oneTo : length (ownOf b h) ≤ 16 = subst (λ (x : List Lease). length x ≤ 16) (sym (own-is b h)) (few-at s (leasesOf b) v h) in
-      let fewer = removed-fewer (leaseIdIn m) (ownOf b h) at in
+      let fewer = removed-fewer (leaseIdIn m) (ownOf b h) (held-at s b h m held) in
       (e, subst (λ (i : List ℕ). length (removeOf i (ownOf b h)) < 16) (sym e) (let k : length (removeOf (leaseIdIn m) (ownOf b h)) < 16 = omega arith in k))
 
-  pub decided-sound : Sound s (leasesOf (applied (decideOf s b h m .edit) h b))
+  pub decided-sound : (q : List Release) → Sound s (leasesOf (applied (decideOf s b q h m .edit) h b))
   unfolding Keeps
-  decided-sound = decided-by s b h m Keeps (record {
+  decided-sound q = decided-by s b h m Keeps (record {
     resent = λ e. none;
+    again = none;
     refused = λ e. none;
     offered = λ k ok e. none;
     requested = λ k ok e. becomes (updated b h (insertOf (newFor s b h m) (ownOf b h))) (applied-entering b h (newFor s b h m) (fits-new e)) (request-sound s b h m v known there good k ok e);
@@ -368,13 +383,13 @@ module _ (s : State) (b : LeaseTable) (h : ℕ) (m : Fields) (v : Sound s (lease
         becomes (updated b h (insertOf (renewedFor s b h m) (removeOf (leaseIdIn m) (ownOf b h))))
         (applied-way b h (oldFor b h m) (renewedFor s b h m) (fits-old held .1) ∙ ap (λ (i : List ℕ). updated b h (insertOf (renewedFor s b h m) (removeOf i (ownOf b h)))) (fits-old held .0))
         (renew-sound s b h m v known there good k ok held e);
-    released = λ k held. becomes (updated b h (removeOf (idOf (oldFor b h m)) (ownOf b h))) (applied-leaving b h (oldFor b h m)) (release-sound s b h there (idOf (oldFor b h m)) v);
+    released = λ k held. becomes (updated b h (removeOf (idOf (oldFor b h m)) (ownOf b h))) (applied-leaving b h (oldFor b h m) (m .xid) (s .clock)) (release-sound s b h there (idOf (oldFor b h m)) v);
     informed = none;
-  })
+  }) q
 
 -- so a decision keeps a sound book sound
-pub decision-sound : (s : State) (b : LeaseTable) (h : ℕ) (m : Fields) → soundB s b ≡ true → b ≡ tableOf (leasesOf b) → h < tenantsIn s → h < length (b .tenants) → GoodId m
-    → soundB s (applied (decideOf s b h m .edit) h b) ≡ true
-decision-sound s b h m e laid known there good =
-    ap (soundB s) (applied-laid (decideOf s b h m .edit) h b laid)
-    ∙ lists-sound s (leasesOf (applied (decideOf s b h m .edit) h b)) (decided-sound s b h m (sound-lists s b e) known there good)
+pub decision-sound : (s : State) (b : LeaseTable) (q : List Release) (h : ℕ) (m : Fields) → soundB s b ≡ true → b ≡ tableOf (leasesOf b) → h < tenantsIn s → h < length (b .tenants) → GoodId m
+    → soundB s (applied (decideOf s b q h m .edit) h b) ≡ true
+decision-sound s b q h m e laid known there good =
+    ap (soundB s) (applied-laid (decideOf s b q h m .edit) h b laid)
+    ∙ lists-sound s (leasesOf (applied (decideOf s b q h m .edit) h b)) (decided-sound s b h m (sound-lists s b e) known there good q)

@@ -18,6 +18,7 @@ use Rattle.message.specs.declared.Fields.{Fields}
 use Rattle.state.specs.declared.Lease.{Lease}
 use Rattle.state.specs.declared.TenantLeases.{TenantLeases}
 use Rattle.state.specs.declared.LeaseTable.{LeaseTable}
+use Rattle.state.specs.declared.Release.{Release}
 use Rattle.state.specs.declared.Scope.{Scope}
 use Rattle.state.specs.declared.State.{State}
 use Rattle.state.specs.Book.{inUse, leasesOf, named, other, placeOf, leaseAt, zeroLease, removeOf, unionAll, addressesOf, inScope, overlaps, usedIn, heldOf, busyOf, scopeAt, addedIf}
@@ -32,9 +33,9 @@ use Rattle.allocation.specs.laws.View.{view-sound, view-there, view-own, busy-o
 use Rattle.decision.specs.declared.Proposal.{Proposal}
 use Rattle.decision.specs.declared.Decided.{Decided}
 use Rattle.decision.specs.declared.Recorded.{Recorded}
-use Rattle.decision.specs.Parts.{isNew, fitsNew, ownOf, leaseIdIn, holdsOf, recordedOf, scopePlace, startOf, endOf, askAt, newWith, newAt, newOf, othersBusy, fitsRenewed, renewedTo, renewedOf, proposalOf}
+use Rattle.decision.specs.Parts.{isNew, hasPeriod, resends, releasedAgain, error1Of, error2Of, error3Of, fitsNew, ownOf, leaseIdIn, holdsOf, recordedOf, scopePlace, startOf, endOf, askAt, newWith, newAt, newOf, othersBusy, fitsRenewed, renewedTo, renewedOf, proposalOf}
 use Rattle.decision.specs.Gather.{recordedIn, newBy, otherIn}
-use Rattle.decision.specs.Decide.{settledOf, judgedOf, decideOf}
+use Rattle.decision.specs.Decide.{plainOf, settledOf, judgedOf, decideOf}
 use Rattle.decision.specs.laws.Kept.{updated-leases}
 
 -- ---- a new lease
@@ -164,6 +165,20 @@ pub settled-is : (s : State) (own : TenantLeases) (held : HeldTable) (h : ℕ) (
     → r ≡ settledOf s m o p → (t : LeaseTable) → View s t h own held → r ≡ settledOf s m o (proposalOf s t h m o)
 settled-is s own held h m o p r f e t w = e ∙ ap (settledOf s m o) (f t w)
 
+-- a message that has passed the tests before error 0
+module _ (s : State) (own : TenantLeases) (q : List Release) (held : HeldTable) (h : ℕ) (m : Fields) (o : Lease) (found : Bool) (r : Decided) {x a e1 e2 e3 y : Bool} (x0 : x ≡ resends m o) (x1 : x ≡ false)
+    (a0 : a ≡ releasedAgain s q m) (a1 : a ≡ false) (b0 : e1 ≡ error1Of s m found) (b1 : e1 ≡ false) (c0 : e2 ≡ error2Of s m) (c1 : e2 ≡ false) (d0 : e3 ≡ error3Of m found) (d1 : e3 ≡ false)
+    (y0 : y ≡ hasPeriod m) where
+  passed-on : (t : LeaseTable) → r ≡ pick (hasPeriod m) (settledOf s m o (proposalOf s t h m o)) (plainOf s m o) → r ≡ judgedOf s t q h m o found
+  unfolding judgedOf
+  passed-on t e = pick-no _ _ r x0 x1 (pick-no _ _ r a0 a1 (pick-no _ _ r b0 b1 (pick-no _ _ r c0 c1 (pick-no _ _ r d0 d1 e))))
+
+  pub judged-leased : y ≡ true → ((t : LeaseTable) → View s t h own held → r ≡ settledOf s m o (proposalOf s t h m o)) → (t : LeaseTable) → View s t h own held → r ≡ judgedOf s t q h m o found
+  judged-leased y1 f t w = passed-on t (pick-yes _ _ r y0 y1 (f t w))
+
+  pub judged-plain : y ≡ false → r ≡ plainOf s m o → (t : LeaseTable) → View s t h own held → r ≡ judgedOf s t q h m o found
+  judged-plain y1 e t w = passed-on t (pick-no _ _ r y0 y1 e)
+
 -- the loop that looks for an identifier
 pub found-is : (i : List ℕ) (own : TenantLeases) (n at : ℕ) → length (own .leases) ≡ 16 → n ≡ min (own .count) 16 → at < n → at ≡ placeOf i (inUse own)
     → _≡_ {A = Recorded} (record { found = true; lease = getD (own .leases) at noLease }) (recordedIn i (inUse own))
@@ -185,9 +200,9 @@ pub recorded-is : (own : TenantLeases) (m : Fields) (o : Recorded) → o ≡ rec
 unfolding recordedOf recordedIn
 recorded-is own m o p = ap (λ (x : Recorded). x .lease) p
 
-pub decide-is : (s : State) (own : TenantLeases) (held : HeldTable) (h : ℕ) (m : Fields) (o : Recorded) (r : Decided) → o ≡ recordedIn (leaseIdIn m) (inUse own)
-    → ((t : LeaseTable) → View s t h own held → r ≡ judgedOf s t h m (o .lease) (o .found)) → (t : LeaseTable) → View s t h own held → r ≡ decideOf s t h m
+pub decide-is : (s : State) (own : TenantLeases) (q : List Release) (held : HeldTable) (h : ℕ) (m : Fields) (o : Recorded) (r : Decided) → o ≡ recordedIn (leaseIdIn m) (inUse own)
+    → ((t : LeaseTable) → View s t h own held → r ≡ judgedOf s t q h m (o .lease) (o .found)) → (t : LeaseTable) → View s t h own held → r ≡ decideOf s t q h m
 unfolding decideOf recordedOf holdsOf recordedIn
-decide-is s own held h m o r p f t w =
+decide-is s own q held h m o r p f t w =
     let e : o ≡ recordedIn (leaseIdIn m) (ownOf t h) = p ∙ ap (λ (x : TenantLeases). recordedIn (leaseIdIn m) (inUse x)) (w .records) in
-    f t w ∙ ap (λ (x : Recorded). judgedOf s t h m (x .lease) (x .found)) e
+    f t w ∙ ap (λ (x : Recorded). judgedOf s t q h m (x .lease) (x .found)) e

@@ -13,7 +13,7 @@ returns c =
     let call = back .before in
     let start = call .before .before .before .before .before in
     let a = start .args in
-    answered (a .o .state) (a .o .records .leases) (a .names .now) (a .datagram .now) (a .client) (a .time) (a .room) _ _
+    answered (a .o .ledger) (a .o .records .leases) (a .names .now) (a .datagram .now) (a .client) (a .time) (a .room) _ _
     (start .pre) (call .serve .ensures) (back .answers .given .0) (high .put-u8 .ensures) (low .put-u16 .ensures)
 
 pub answer-call-spec : {M : Type 1} → statement M

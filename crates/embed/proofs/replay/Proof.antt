@@ -11,7 +11,7 @@ use Rattle.embed.proofs.replay.Tie as tie
 
 abbrev Inv-loop : tie.InvT-loop
 Inv-loop names calls answers₀ o₀ at₀ to₀ answers o at to =
-    ReplayInv names calls answers₀ (replayed (length calls) (o₀ .state) (o₀ .records .leases) names calls (length answers₀)) (o .state) (o .records .leases) answers at to
+    ReplayInv names calls answers₀ (replayed (length calls) (o₀ .ledger) (o₀ .records .leases) names calls (length answers₀)) (o .ledger) (o .records .leases) answers at to
 
 abbrev μ-loop : tie.MeasureT-loop
 μ-loop names calls answers₀ o₀ at₀ to₀ answers o at to = length calls - at

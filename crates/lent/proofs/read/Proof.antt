@@ -1,18 +1,18 @@
--- `lent::read` meets its contract: a walk of its MIR, by hand. The state's borrow is opened and the state copied out; `load` gives the records of the slice by value; `records::read` gets the file and both.
--- The state that came back is stored as a whole, and the borrow is closed at it; the records that came back go to `store`. Of each callee the proof knows only that it meets its contract.
+-- `lent::read` meets its contract: a walk of its MIR, by hand. The ledger's borrow is opened and the ledger copied out; `load` gives the records of the slice by value; `records::read` gets the file and both.
+-- The ledger that came back is stored as a whole, and the borrow is closed at it; the records that came back go to `store`. Of each callee the proof knows only that it meets its contract.
 -- Nothing is kept of the `&` of the file, which `records::read` gets at its own lifetime and share.
 use Rattle.lent.proofs.Walk.{stands, _≡_, refl, ap, ℕ, _<_, _^_, [], _∷_, List, length, URA, fullShare, named, w8, w64, Val, vint, vptr, SProp, ent, sep, emp, via, fst∗, snd∗, exE, id⊢, Lft, Share, GName, ftrue, flft, fat, Memory, Routine, Heap, Calls, Loops, WpFn, Atoms, sem, Fun, fact, givenOf, tables, tablesOf, Given, ‵, raw, _⊛_, some, later, ⋆, _$_, _∵_, !, qed, by, move, keep, drop, use1, use2, split, join, pick, rewrite, fsplit, fjoin, suffices, frame, await, done, look, look-raw, init, store-raw, forget, stop, hop, fld, from, load, of-opd, addr, and-then, no-more, assigns, land, returns, enter, alloc1, alloc0, params1, pass1, pass0, free1, free0, whole, sub, look-in, agg, FmC, owns, Is, shows, uint-makes, nothing-lawful, usize, u8, RefT, MutRef, ptr-vals, mut-tells, slice-vals, shr-slice-tells, mut-slice-tells, MutSlice, ShrSlice, Room, only, owned, peeks, heard, nothing, plain, shrSliceOf, Contract, Triple, calls-at, onEntry, tripleOf, cited, says, Stays, stay-dropped, stay-ref, stay-slice, walkOf, AllGo, goes-dropped, goes-ref, goes-slice, Walks, ends-at, walked, ensured, lasts, yes}
 use denote.Struct.Laws as LL
 use Rattle.state.specs.declared.Lease.{Lease}
-use Rattle.state.specs.declared.State.{State}
+use Rattle.state.specs.declared.Ledger.{Ledger}
 use Rattle.state_file.specs.StateFile.{readFile}
 use Rattle.records.specs.declared.Records.{Records}
 use Rattle.records.specs.declared.ReadRecords.{ReadRecords}
 use Rattle.records.specs.Lent.{readWith, readLent, Reads, ReadsLent}
 use Rattle.records.specs.laws.Lent.{read-lent}
 use Rattle.state.proofs.Lease as R
-use Rattle.state.proofs.State as T
-use Rattle.state.proofs.State.Laws as T′
+use Rattle.state.proofs.Ledger as T
+use Rattle.state.proofs.Ledger.Laws as T′
 use Rattle.records.proofs.Records as N
 use Rattle.records.proofs.Records.Laws as N′
 use Rattle.records.proofs.ReadRecords as Z
@@ -22,7 +22,7 @@ use Rattle.records.proofs.read.Symbol as read-def
 use Rattle.records.proofs.read.Symbol.{name as #records·read}
 use Rattle.records.proofs.read.Met as read-thm
 use Rattle.lent.proofs.Slices.{Load, Store, Mut, ref, word, loads, stores}
-use Rattle.lent.proofs.States.{Held, ref-state, word-state, opens-state, closes-state}
+use Rattle.lent.proofs.Ledgers.{Held, ref-ledger, word-ledger, opens-ledger, closes-ledger}
 use Rattle.lent.proofs.load.Symbol as load-def
 use Rattle.lent.proofs.load.Symbol.{name as #lent·load}
 use Rattle.lent.proofs.load.Met as load-thm
@@ -42,13 +42,13 @@ module _ {M : Type 1} (𝓤 : URA M) (H : Heap 𝓤) (A : Atoms 𝓤) (mem : Mem
   abbrev Read : Contract 𝓤
   Read = tripleOf 𝓤 H A read′.signature (read′.spec 𝓤 H A mem run)
 
-  of-read : (κ : Lft) (x : RefT (List ℕ)) (h : State) (l : Records) (n : ℕ) (r : ReadRecords)
+  of-read : (κ : Lft) (x : RefT (List ℕ)) (h : Ledger) (l : Records) (n : ℕ) (r : ReadRecords)
       → ent 𝓤 (ensured 𝓤 H A read′.ended (read′.clauses 𝓤 H A mem run) (κ, tt) (x, (h, (l, (n, tt)))) tt r) (fact 𝓤 (Reads (readWith n (readFile (x .now)) h (l .leases)) r))
   of-read κ x h l n r = exE 𝓤 _ (λ ws. snd∗ 𝓤 (sem 𝓤 H A (lasts read′.ended (κ, tt) (x, (h, (l, (n, tt)))) ws)) (fact 𝓤 (Reads (readWith n (readFile (x .now)) h (l .leases)) r)))
 
--- 0 is the file, 1 the state and 2 the slice of lease records: each has a lifetime κ, a share q of its token, a place (b, o) and a ghost name γ
+-- 0 is the file, 1 the ledger and 2 the slice of lease records: each has a lifetime κ, a share q of its token, a place (b, o) and a ghost name γ
 module _ {M : Type 1} (𝓤 : URA M) (H : Heap 𝓤) (A : Atoms 𝓤) (W : Given 𝓤 H A) (mem : Memory → SProp 𝓤) (run : Routine → Fun 𝓤) (κ₀ κ₁ κ₂ : Lft) (q₀ q₁ q₂ : Share)
-    (b₀ o₀ b₁ o₁ b₂ o₂ : ℕ) (γ₀ γ₁ γ₂ : GName) (os : List ℕ) (h : State) (ys : List Lease) where
+    (b₀ o₀ b₁ o₁ b₂ o₂ : ℕ) (γ₀ γ₁ γ₂ : GName) (os : List ℕ) (h : Ledger) (ys : List Lease) where
   abbrev x₀ : RefT (List ℕ)
   x₀ = record { ptr = (b₀, o₀); name = γ₀; now = os }
 
@@ -59,10 +59,10 @@ module _ {M : Type 1} (𝓤 : URA M) (H : Heap 𝓤) (A : Atoms 𝓤) (W : Given
   s₂ = word b₂ o₂ (length ys)
 
   abbrev Arg : Type 0
-  Arg = RefT (List ℕ) × (RefT State × (RefT (List Lease) × Unit {0}))
+  Arg = RefT (List ℕ) × (RefT Ledger × (RefT (List Lease) × Unit {0}))
 
   abbrev a : Arg
-  a = (x₀, (ref-state b₁ o₁ γ₁ h, (ref b₂ o₂ γ₂ ys, tt)))
+  a = (x₀, (ref-ledger b₁ o₁ γ₁ h, (ref b₂ o₂ γ₂ ys, tt)))
 
   abbrev vals : List Val × (List Val × (List Val × Unit {0}))
   vals = (s₀ ∷ [], (vptr b₁ o₁ ∷ [], (s₂ ∷ [], tt)))
@@ -71,7 +71,7 @@ module _ {M : Type 1} (𝓤 : URA M) (H : Heap 𝓤) (A : Atoms 𝓤) (W : Given
   Post = walkOf 𝓤 H A f.ended stayed (f.clauses 𝓤 H A mem run) .post (((κ₀, (κ₁, (κ₂, tt))), (q₀, (q₁, (q₂, tt))), tt, a, vals), tt)
 
   -- what the walk has at exit makes the end of the contract's triple
-  exits : (n : ℕ) (h′ : State) (zs : List Lease) → n < 2 ^ 8 → ReadsLent (readLent os h ys) h′ zs n → length zs ≡ length ys
+  exits : (n : ℕ) (h′ : Ledger) (zs : List Lease) → n < 2 ^ 8 → ReadsLent (readLent os h ys) h′ zs n → length zs ≡ length ys
       → ent 𝓤 (⋆ 𝓤 H A (‵ (flft κ₀ q₀) ∷ ‵ (flft κ₁ q₁) ∷ ‵ (flft κ₂ q₂) ∷ ‵ (Held κ₁ b₁ o₁ γ₁ h′) ∷ ‵ (Mut κ₂ b₂ o₂ γ₂ (length ys) zs) ∷ [])) (Post (vint w8 n))
   exits n h′ zs fits e len =
       qed W (‵ (flft κ₀ q₀) ∷ ‵ (flft κ₁ q₁) ∷ ‵ (flft κ₂ q₂) ∷ ‵ (Held κ₁ b₁ o₁ γ₁ h′) ∷ ‵ (Mut κ₂ b₂ o₂ γ₂ (length ys) zs) ∷ []) ∵
@@ -84,9 +84,9 @@ module _ {M : Type 1} (𝓤 : URA M) (H : Heap 𝓤) (A : Atoms 𝓤) (W : Given
 
   -- what the triple of `records::read` binds outside, and what makes its `pre`
   abbrev to-read : Records → Val → Read 𝓤 H A mem run .Ghost
-  to-read r w = (((κ₀, tt), (q₀, tt), tt, (x₀, (h, (r, (length ys, tt)))), (s₀ ∷ [], (word-state h ∷ [], (w ∷ [], (vint w64 (length ys) ∷ [], tt))))), tt)
+  to-read r w = (((κ₀, tt), (q₀, tt), tt, (x₀, (h, (r, (length ys, tt)))), (s₀ ∷ [], (word-ledger h ∷ [], (w ∷ [], (vint w64 (length ys) ∷ [], tt))))), tt)
 
-  goes-read : (r : Records) (w : Val) → Is T.the-row h (word-state h ∷ []) → Is N.the-row r (w ∷ []) → Room R.the-row (length ys)
+  goes-read : (r : Records) (w : Val) → Is T.the-row h (word-ledger h ∷ []) → Is N.the-row r (w ∷ []) → Room R.the-row (length ys)
       → ent 𝓤 (sep 𝓤 (A .lft κ₀ q₀) (sem 𝓤 H A (ShrSlice (named 0) κ₀ u8 .own x₀ (s₀ ∷ [])))) (Read 𝓤 H A mem run .pre (to-read r w))
   goes-read r w is-h is-r room =
       qed W (‵ (flft κ₀ q₀) ∷ ‵ (ShrSlice (named 0) κ₀ u8 .own x₀ (s₀ ∷ [])) ∷ []) ∵ nothing ! $ move ! (1 ∷ 0 ∷ []) $ join ! $
@@ -96,7 +96,7 @@ module _ {M : Type 1} (𝓤 : URA M) (H : Heap 𝓤) (A : Atoms 𝓤) (W : Given
 
   -- what is known of the parts of what `records::read` gives back
   abbrev Parts : ReadRecords → Type 0
-  Parts r = Is u8 (r .refusal) (vint w8 (r .refusal) ∷ []) × (Is T.the-row (r .state) (word-state (r .state) ∷ []) × (Is N.the-row (r .records) (LL.vals N.the-type N′.the-laws (r .records)) × Unit {0}))
+  Parts r = Is u8 (r .refusal) (vint w8 (r .refusal) ∷ []) × (Is T.the-row (r .ledger) (word-ledger (r .ledger) ∷ []) × (Is N.the-row (r .records) (LL.vals N.the-type N′.the-laws (r .records)) × Unit {0}))
 
   parts : (r : ReadRecords) (w : Val) → Is Z.the-row r (w ∷ []) → Parts r
   parts r w is = LL.owed Z.the-type Z′.the-laws r (w ∷ []) is
@@ -106,45 +106,45 @@ module _ {M : Type 1} (𝓤 : URA M) (H : Heap 𝓤) (A : Atoms 𝓤) (W : Given
     walk room₀ room₂ =
         qed W ((‵ (flft κ₀ q₀) ⊛ ‵ (flft κ₁ q₁) ⊛ ‵ (flft κ₂ q₂) ⊛ ‵ ftrue) ∷ ‵ (owns (ShrSlice (named 0) κ₀ u8 ∷ MutRef (named 1) κ₁ T.the-row ∷ MutSlice (named 2) κ₂ R.the-row ∷ []) a vals) ∷ []) ∵
         split ! $ move ! (1 ∷ []) $ split ! $ move ! (1 ∷ []) $ split ! $ move ! (4 ∷ []) $ fsplit ! $ move ! (1 ∷ []) $ fsplit ! $ move ! (1 ∷ []) $ fsplit ! $ keep ! (2 ∷ 6 ∷ 0 ∷ 4 ∷ 3 ∷ 7 ∷ []) $
-        -- [the state's borrow; [κ₁]; the slice; [κ₂]; the file; [κ₀]]
+        -- [the ledger's borrow; [κ₁]; the slice; [κ₂]; the file; [κ₀]]
         enter ! C Λ code.function (s₀ ∷ vptr b₁ o₁ ∷ s₂ ∷ []) _ $
         alloc1 ! (λ l₀. alloc1 ! (λ l₁. alloc1 ! (λ l₂. alloc1 ! (λ l₃. alloc1 ! (λ l₄. alloc1 ! (λ l₅. alloc1 ! (λ l₆. alloc1 ! (λ l₇. alloc1 ! (λ l₈. alloc1 ! (λ l₉. alloc1 ! (λ l₁₀. alloc1 ! (λ l₁₁. alloc1 ! (λ l₁₂. alloc0 ! $ params1 ! $
         pass1 ! (init ! 22 refl (tt, (tt, (record { fits = room₀ .0 }, tt)))) $ pass1 ! (init ! 20 refl (tt, tt)) $ pass1 ! (init ! 18 refl (tt, (tt, (record { fits = room₂ .0 }, tt)))) $ pass0 ! $
-        -- [_12; …; _11; …; _10; …; _9; …; _8; …; _7; …; _6; …; _5; …; _4; …; _3; …; _2; …; _1; …; room for _0; …; the state's borrow; [κ₁]; the slice; [κ₂]; the file; [κ₀]]: the state is copied out
-        move ! (26 ∷ 27 ∷ []) $ opens-state ! tt κ₁ q₁ b₁ o₁ γ₁ h (λ is-h.
-        -- [the state's cell; the open borrow; obs; auth; _12; …; _0; …; the slice; [κ₂]; the file; [κ₀]]
+        -- [_12; …; _11; …; _10; …; _9; …; _8; …; _7; …; _6; …; _5; …; _4; …; _3; …; _2; …; _1; …; room for _0; …; the ledger's borrow; [κ₁]; the slice; [κ₂]; the file; [κ₀]]: the ledger is copied out
+        move ! (26 ∷ 27 ∷ []) $ opens-ledger ! tt κ₁ q₁ b₁ o₁ γ₁ h (λ is-h.
+        -- [the ledger's cell; the open borrow; obs; auth; _12; …; _0; …; the slice; [κ₂]; the file; [κ₀]]
         assigns ! (of-opd ! (load ! (from ! (hop ! (look ! 24 refl) (stop !))) (look-raw ! 0 refl))) (from ! (stop !)) (init ! 20 refl (LL.lawful T.the-type T′.the-laws 𝓤 H A W .typed h _ is-h .0)) $
         assigns ! (addr ! (from ! (fld ! refl (hop ! (look-in ! 22 (sub ! 0 refl (whole !))) (stop !))))) (from ! (stop !)) (init ! 14 refl (tt, tt)) $
         assigns ! (agg ! (and-then ! (load ! (from ! (stop !)) (look ! 14 refl)) (and-then ! (load ! (from ! (fld ! refl (stop !))) (look-in ! 22 (sub ! 1 refl (whole !)))) (no-more !)))) (from ! (stop !)) (init ! 12 refl (tt, (tt, (record { fits = room₂ .0 }, tt)))) $
         -- the records by value
         move ! (30 ∷ 31 ∷ []) $ loads ! mem run κ₂ q₂ b₂ o₂ γ₂ ys fm known-load (λ ν δ. and-then ! (load ! (from ! (stop !)) (look ! 14 refl)) (no-more !)) (λ w₁ r₁ is₁ e₁.
-        -- [the slice; [κ₂]; the state's cell; the open borrow; obs; auth; _12; …; _0; …; the file; [κ₀]]
+        -- [the slice; [κ₂]; the ledger's cell; the open borrow; obs; auth; _12; …; _0; …; the file; [κ₀]]
         land ! (from ! (stop !)) (init ! 20 refl (LL.lawful N.the-type N′.the-laws 𝓤 H A W .typed r₁ _ is₁ .0)) $
         assigns ! (of-opd ! (load ! (from ! (fld ! refl (stop !))) (look-in ! 24 (sub ! 1 refl (whole !))))) (from ! (stop !)) (init ! 12 refl (tt, record { fits = room₂ .0 })) $
-        -- the file, the state, the records and their number go to `records::read`
+        -- the file, the ledger, the records and their number go to `records::read`
         move ! (33 ∷ 32 ∷ []) $ use2 W (raw (Read 𝓤 H A mem run .pre (to-read r₁ w₁))) (goes-read r₁ w₁ is-h is₁ room₂) $
         calls-at ! fm (Read 𝓤 H A mem run) known-read (to-read r₁ w₁) (and-then ! (load ! (from ! (stop !)) (look ! 29 refl)) (and-then ! (load ! (from ! (stop !)) (look ! 23 refl)) (and-then ! (load ! (from ! (stop !)) (look ! 21 refl)) (and-then ! (load ! (from ! (stop !)) (look ! 13 refl)) (no-more !))))) (λ w₂.
         use1 W (later (some (λ (r : ReadRecords). ((‵ (flft κ₀ q₀) ⊛ ‵ ftrue) ⊛ ‵ (Z.the-row .own r (w₂ ∷ []))) ⊛ raw (ensured 𝓤 H A read′.ended (read′.clauses 𝓤 H A mem run) (κ₀, tt) (x₀, (h, (r₁, (length ys, tt)))) tt r)))) (id⊢ 𝓤 _) $ await ! tt $ pick ! (λ r₂.
         split ! $ move ! (1 ∷ []) $ use1 W (raw (fact 𝓤 (Reads (readWith (length ys) (readFile os) h (r₁ .leases)) r₂))) (of-read 𝓤 H A mem run κ₀ x₀ h r₁ (length ys) r₂) $ heard ! (Reads (readWith (length ys) (readFile os) h (r₁ .leases)) r₂) (λ e₂. split ! $ move ! (1 ∷ []) $
         peeks ! Z.the-row (Is Z.the-row) (shows 𝓤 H A Z.the-row) r₂ (w₂ ∷ []) (λ is₂. drop ! $ split ! $ move ! (1 ∷ []) $ drop ! $
-        -- [[κ₀]; the slice; [κ₂]; the state's cell; the open borrow; obs; auth; _12; …; _0; …]
+        -- [[κ₀]; the slice; [κ₂]; the ledger's cell; the open borrow; obs; auth; _12; …; _0; …]
         land ! (from ! (stop !)) (init ! 19 refl (LL.lawful Z.the-type Z′.the-laws 𝓤 H A W .typed r₂ _ is₂ .0)) $
         rewrite ! 19 (λ (u : Val). ‵ (fat fullShare Z′.mir l₆ 0 u)) (ap only (LL.tells Z.the-type Z′.the-laws r₂ _ is₂)) refl $
-        -- the state that came back is stored, and the borrow is closed at it
-        assigns ! (of-opd ! (load ! (from ! (fld ! refl (stop !))) (look-in ! 19 (sub ! 1 refl (whole !))))) (from ! (hop ! (look ! 27 refl) (stop !))) (store-raw ! 3 refl (LL.lawful T.the-type T′.the-laws 𝓤 H A W .typed (r₂ .state) _ (parts r₂ w₂ is₂ .1 .0) .0)) $
-        move ! (3 ∷ 4 ∷ 5 ∷ 6 ∷ []) $ closes-state ! tt κ₁ q₁ b₁ o₁ γ₁ h (r₂ .state) (parts r₂ w₂ is₂ .1 .0) $
-        -- [the state's borrow; [κ₁]; [κ₀]; the slice; [κ₂]; _12; …; _0; …]: the records that came back go to `store`
+        -- the ledger that came back is stored, and the borrow is closed at it
+        assigns ! (of-opd ! (load ! (from ! (fld ! refl (stop !))) (look-in ! 19 (sub ! 1 refl (whole !))))) (from ! (hop ! (look ! 27 refl) (stop !))) (store-raw ! 3 refl (LL.lawful T.the-type T′.the-laws 𝓤 H A W .typed (r₂ .ledger) _ (parts r₂ w₂ is₂ .1 .0) .0)) $
+        move ! (3 ∷ 4 ∷ 5 ∷ 6 ∷ []) $ closes-ledger ! tt κ₁ q₁ b₁ o₁ γ₁ h (r₂ .ledger) (parts r₂ w₂ is₂ .1 .0) $
+        -- [the ledger's borrow; [κ₁]; [κ₀]; the slice; [κ₂]; _12; …; _0; …]: the records that came back go to `store`
         assigns ! (addr ! (from ! (fld ! refl (hop ! (look-in ! 23 (sub ! 0 refl (whole !))) (stop !))))) (from ! (stop !)) (init ! 7 refl (tt, tt)) $
         assigns ! (agg ! (and-then ! (load ! (from ! (stop !)) (look ! 7 refl)) (and-then ! (load ! (from ! (fld ! refl (stop !))) (look-in ! 23 (sub ! 1 refl (whole !)))) (no-more !)))) (from ! (stop !)) (init ! 5 refl (tt, (tt, (record { fits = room₂ .0 }, tt)))) $
         move ! (3 ∷ 4 ∷ []) $ stores ! mem run κ₂ q₂ b₂ o₂ γ₂ ys (r₂ .records) (LL.val N.the-type N′.the-laws (r₂ .records)) fm known-store room₂ (parts r₂ w₂ is₂ .1 .1 .0)
         (λ ν δ. and-then ! (load ! (from ! (stop !)) (look ! 5 refl)) (and-then ! (load ! (from ! (fld ! refl (stop !))) (look-in ! 17 (sub ! 2 refl (whole !)))) (no-more !))) (λ w₃ zs is₃ len e₃.
-        -- [the slice; [κ₂]; the state's borrow; [κ₁]; [κ₀]; _12; …; _0; …]
+        -- [the slice; [κ₂]; the ledger's borrow; [κ₁]; [κ₀]; _12; …; _0; …]
         land ! (from ! (stop !)) (init ! 9 refl (nothing-lawful 𝓤 H A W .typed tt _ is₃ .0)) $
         assigns ! (of-opd ! (load ! (from ! (fld ! refl (stop !))) (look-in ! 17 (sub ! 0 refl (whole !))))) (from ! (stop !)) (init ! 29 refl (tt, record { fits = parts r₂ w₂ is₂ .0 .1 })) $ returns ! (look ! 29 refl) $
         forget ! 5 refl $ forget ! 7 refl $ forget ! 9 refl $ forget ! 11 refl $ forget ! 13 refl $ forget ! 15 refl $ forget ! 17 refl $ forget ! 19 refl $ forget ! 21 refl $ forget ! 23 refl $ forget ! 25 refl $ forget ! 27 refl $ forget ! 29 refl $
         move ! (29 ∷ 30 ∷ []) $ free1 ! $ move ! (27 ∷ 28 ∷ []) $ free1 ! $ move ! (25 ∷ 26 ∷ []) $ free1 ! $ move ! (23 ∷ 24 ∷ []) $ free1 ! $ move ! (21 ∷ 22 ∷ []) $ free1 ! $ move ! (19 ∷ 20 ∷ []) $ free1 ! $ move ! (17 ∷ 18 ∷ []) $ free1 ! $
         move ! (15 ∷ 16 ∷ []) $ free1 ! $ move ! (13 ∷ 14 ∷ []) $ free1 ! $ move ! (11 ∷ 12 ∷ []) $ free1 ! $ move ! (9 ∷ 10 ∷ []) $ free1 ! $ move ! (7 ∷ 8 ∷ []) $ free1 ! $ move ! (5 ∷ 6 ∷ []) $ free1 ! $ free0 ! $
-        keep ! (4 ∷ 3 ∷ 1 ∷ 2 ∷ 0 ∷ []) $ by ! (exits (r₂ .refusal) (r₂ .state) zs (parts r₂ w₂ is₂ .0 .1) (read-lent (readFile os) h ys e₁ e₂ refl e₃ refl) len)))))))))))))))))))))
+        keep ! (4 ∷ 3 ∷ 1 ∷ 2 ∷ 0 ∷ []) $ by ! (exits (r₂ .refusal) (r₂ .ledger) zs (parts r₂ w₂ is₂ .0 .1) (read-lent (readFile os) h ys e₁ e₂ refl e₃ refl) len)))))))))))))))))))))
 
 module _ {M : Type 1} (𝓤 : URA M) (H : Heap 𝓤) (A : Atoms 𝓤) (W : Given 𝓤 H A) (mem : Memory → SProp 𝓤) (run : Routine → Fun 𝓤) where
   walks : (C : Calls 𝓤 H) (Λ : Loops 𝓤 H) → FmC 𝓤 H (W .laws) C → Triple 𝓤 (C #lent·load) (Load 𝓤 H A mem run) → Triple 𝓤 (C #records·read) (Read 𝓤 H A mem run) → Triple 𝓤 (C #lent·store) (Store 𝓤 H A mem run)

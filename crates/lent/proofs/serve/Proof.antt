@@ -1,10 +1,10 @@
--- `lent::serve` meets its contract: a walk of its MIR, by hand. The state's borrow is opened, the state copied out, and the borrow closed as it was; `load` gives the records of the slice by value; `records::serve` gets both with the datagram and the reply buffer.
--- The state's borrow goes to `advance` with the clock that came back, and the slice to `store` with the records that came back. Of each callee the proof knows only that it meets its contract.
--- The reply buffer and the state are passed on at their own lifetimes, shares and ghost names, so what the callees say of their last values is said of these (`gave-slice`, `gave-ref`). Nothing is kept of the `&` of the datagram.
-use Rattle.lent.proofs.Walk.{stands, _≡_, refl, ap, ℕ, _<_, _^_, [], _∷_, List, length, URA, fullShare, named, w32, w64, Val, vint, vptr, SProp, ent, emp, via, fst∗, id⊢, Lft, Share, GName, Fml, ftrue, flft, fres, fat, Memory, Routine, Heap, Calls, Loops, WpFn, Atoms, Fun, fact, givenOf, tables, tablesOf, Given, ‵, raw, _⊛_, some, later, ⋆, _$_, _∵_, !, qed, by, move, keep, drop, use1, group, split, join, pick, rewrite, fsplit, fjoin, feqL, suffices, frame, await, done, look, look-raw, init, store, forget, stop, hop, fld, from, load, of-opd, addr, and-then, no-more, assigns, land, returns, enter, alloc1, alloc0, params1, pass1, pass0, free1, free0, whole, sub, look-in, agg, FmC, owns, Is, shows, uint-makes, uint-vals, uint-tells, nothing-lawful, usize, u8, u32, RefT, MutRef, ptr-vals, mut-tells, slice-vals, shr-slice-tells, mut-slice-tells, MutSlice, ShrSlice, Room, finally, only, owned, peeks, heard, nothing, plain, shrSliceOf, Contract, Triple, calls-at, onEntry, tripleOf, cited, says, Stays, stay-dropped, stay-slice, gave-ref, gave-slice, walkOf, AllGo, goes-dropped, goes-slice, goes-gave-ref, goes-gave-slice, Walks, ends-at, walked, ensured, lasts, yes}
+-- `lent::serve` meets its contract: a walk of its MIR, by hand. The ledger's borrow is opened, the ledger copied out, and the borrow closed as it was; `load` gives the records of the slice by value; `records::serve` gets both with the datagram and the reply buffer.
+-- The memory that came back is stored in the ledger, whose borrow then goes to `advance` with the clock that came back, and the slice to `store` with the records that came back. Of each callee the proof knows only that it meets its contract.
+-- The reply buffer and the ledger are passed on at their own lifetimes, shares and ghost names, so what the callees say of their last values is said of these (`gave-slice`, `gave-ref`). Nothing is kept of the `&` of the datagram.
+use Rattle.lent.proofs.Walk.{stands, _≡_, refl, ap, ℕ, _<_, _^_, [], _∷_, List, length, URA, fullShare, named, w32, w64, Val, vint, vptr, SProp, ent, emp, via, fst∗, id⊢, Lft, Share, GName, Fml, ftrue, flft, fres, fat, Memory, Routine, Heap, Calls, Loops, WpFn, Atoms, Fun, fact, givenOf, tables, tablesOf, Given, ‵, raw, _⊛_, some, later, ⋆, _$_, _∵_, !, qed, by, move, keep, drop, use1, group, split, join, pick, rewrite, fsplit, fjoin, feqL, suffices, frame, await, done, look, look-raw, init, store, forget, stop, hop, fld, from, load, of-opd, addr, and-then, no-more, assigns, land, returns, enter, alloc1, alloc0, params1, pass1, pass0, free1, free0, whole, sub, look-in, store-in, agg, FmC, owns, Is, shows, cellAt, uint-makes, uint-vals, uint-tells, nothing-lawful, usize, u8, u32, RefT, MutRef, ptr-vals, mut-tells, slice-vals, shr-slice-tells, mut-slice-tells, MutSlice, ShrSlice, Room, finally, only, owned, peeks, heard, nothing, plain, shrSliceOf, Contract, Triple, calls-at, onEntry, tripleOf, cited, says, Stays, stay-dropped, stay-slice, gave-ref, gave-slice, walkOf, AllGo, goes-dropped, goes-slice, goes-gave-ref, goes-gave-slice, Walks, ends-at, walked, ensured, lasts, yes}
 use denote.Struct.Laws as LL
 use Rattle.state.specs.declared.Lease.{Lease}
-use Rattle.state.specs.declared.State.{State}
+use Rattle.state.specs.declared.Ledger.{Ledger}
 use Rattle.server.specs.Serve.{Call}
 use Rattle.server.specs.declared.Outcome.{Outcome}
 use Rattle.records.specs.declared.Records.{Records}
@@ -12,8 +12,10 @@ use Rattle.records.specs.declared.ServedRecords.{ServedRecords}
 use Rattle.records.specs.Lent.{serveWith, serveLent, ServesRecords, ServesLent}
 use Rattle.records.specs.laws.Lent.{served-lent}
 use Rattle.state.proofs.Lease as R
-use Rattle.state.proofs.State as T
-use Rattle.state.proofs.State.Laws as T′
+use Rattle.state.proofs.Memory as Y
+use Rattle.state.proofs.Memory.Laws as Y′
+use Rattle.state.proofs.Ledger as T
+use Rattle.state.proofs.Ledger.Laws as T′
 use Rattle.server.proofs.Outcome as O
 use Rattle.server.proofs.Outcome.Laws as O′
 use Rattle.records.proofs.Records as N
@@ -25,7 +27,7 @@ use Rattle.records.proofs.serve.Symbol as serve-def
 use Rattle.records.proofs.serve.Symbol.{name as #records·serve}
 use Rattle.records.proofs.serve.Met as serve-thm
 use Rattle.lent.proofs.Slices.{Load, Store, Mut, ref, word, loads, stores}
-use Rattle.lent.proofs.States.{Advance, ref-state, word-state, opens-state, closes-state, advances}
+use Rattle.lent.proofs.Ledgers.{Advance, ref-ledger, word-ledger, opens-ledger, closes-ledger, advances}
 use Rattle.lent.proofs.advance.Symbol as advance-def
 use Rattle.lent.proofs.advance.Symbol.{name as #lent·advance}
 use Rattle.lent.proofs.advance.Met as advance-thm
@@ -57,9 +59,9 @@ module _ {M : Type 1} (𝓤 : URA M) (H : Heap 𝓤) (A : Atoms 𝓤) (mem : Mem
   abbrev Serve : Contract 𝓤
   Serve = tripleOf 𝓤 H A serve′.signature (serve′.spec 𝓤 H A mem run)
 
--- 0 is the datagram, 1 the state, 2 the slice of lease records, 3 the names and 4 the reply buffer: each has a lifetime κ, a share q of its token, a place (b, o) and a ghost name γ. The client is m, and the time n
+-- 0 is the datagram, 1 the ledger, 2 the slice of lease records, 3 the names and 4 the reply buffer: each has a lifetime κ, a share q of its token, a place (b, o) and a ghost name γ. The client is m, and the time n
 module _ {M : Type 1} (𝓤 : URA M) (H : Heap 𝓤) (A : Atoms 𝓤) (W : Given 𝓤 H A) (mem : Memory → SProp 𝓤) (run : Routine → Fun 𝓤) (κ₀ κ₁ κ₂ κ₃ κ₄ : Lft) (q₀ q₁ q₂ q₃ q₄ : Share)
-    (b₀ o₀ b₁ o₁ b₂ o₂ b₃ o₃ b₄ o₄ : ℕ) (γ₀ γ₁ γ₂ γ₃ γ₄ : GName) (os : List ℕ) (m n : ℕ) (h : State) (ys : List Lease) (names ns : List ℕ) (m-fits : m < 2 ^ 32) (n-fits : n < 2 ^ 32) where
+    (b₀ o₀ b₁ o₁ b₂ o₂ b₃ o₃ b₄ o₄ : ℕ) (γ₀ γ₁ γ₂ γ₃ γ₄ : GName) (os : List ℕ) (m n : ℕ) (h : Ledger) (ys : List Lease) (names ns : List ℕ) (m-fits : m < 2 ^ 32) (n-fits : n < 2 ^ 32) where
   abbrev x₀ : RefT (List ℕ)
   x₀ = record { ptr = (b₀, o₀); name = γ₀; now = os }
 
@@ -86,10 +88,10 @@ module _ {M : Type 1} (𝓤 : URA M) (H : Heap 𝓤) (A : Atoms 𝓤) (W : Given
   c = record { datagram = os; client = m; time = n; room = length ns }
 
   abbrev Arg : Type 0
-  Arg = RefT (List ℕ) × (ℕ × (ℕ × (RefT State × (RefT (List Lease) × (RefT (List ℕ) × (RefT (List ℕ) × Unit {0}))))))
+  Arg = RefT (List ℕ) × (ℕ × (ℕ × (RefT Ledger × (RefT (List Lease) × (RefT (List ℕ) × (RefT (List ℕ) × Unit {0}))))))
 
   abbrev a : Arg
-  a = (x₀, (m, (n, (ref-state b₁ o₁ γ₁ h, (ref b₂ o₂ γ₂ ys, (x₃, (x₄, tt)))))))
+  a = (x₀, (m, (n, (ref-ledger b₁ o₁ γ₁ h, (ref b₂ o₂ γ₂ ys, (x₃, (x₄, tt)))))))
 
   abbrev vals : List Val × (List Val × (List Val × (List Val × (List Val × (List Val × (List Val × Unit {0}))))))
   vals = (s₀ ∷ [], (vint w32 m ∷ [], (vint w32 n ∷ [], (vptr b₁ o₁ ∷ [], (s₂ ∷ [], (s₃ ∷ [], (s₄ ∷ [], tt)))))))
@@ -98,7 +100,7 @@ module _ {M : Type 1} (𝓤 : URA M) (H : Heap 𝓤) (A : Atoms 𝓤) (W : Given
   Post = walkOf 𝓤 H A f.ended stayed (f.clauses 𝓤 H A mem run) .post (((κ₀, (κ₁, (κ₂, (κ₃, (κ₄, tt))))), (q₀, (q₁, (q₂, (q₃, (q₄, tt))))), tt, a, vals), tt)
 
   -- what the walk has at exit makes the end of the contract's triple
-  exits : (r : Outcome) (h′ : State) (zs : List Lease) (us : List ℕ) → Is O.the-row r (LL.vals O.the-type O′.the-laws r) → ServesLent (serveLent h ys names c) h′ zs ns us r → length zs ≡ length ys → length us ≡ length ns
+  exits : (r : Outcome) (h′ : Ledger) (zs : List Lease) (us : List ℕ) → Is O.the-row r (LL.vals O.the-type O′.the-laws r) → ServesLent (serveLent h ys names c) h′ zs ns us r → length zs ≡ length ys → length us ≡ length ns
       → ent 𝓤 (⋆ 𝓤 H A (‵ (flft κ₀ q₀) ∷ ‵ (flft κ₁ q₁) ∷ ‵ (flft κ₂ q₂) ∷ ‵ (flft κ₃ q₃) ∷ ‵ (flft κ₄ q₄) ∷ ‵ (fres γ₁ (T.the-row .coded .code h′)) ∷ ‵ (Mut κ₂ b₂ o₂ γ₂ (length ys) zs) ∷ ‵ (finally u8 γ₄ us) ∷ [])) (Post (LL.val O.the-type O′.the-laws r))
   exits r h′ zs us is e len len′ =
       qed W (‵ (flft κ₀ q₀) ∷ ‵ (flft κ₁ q₁) ∷ ‵ (flft κ₂ q₂) ∷ ‵ (flft κ₃ q₃) ∷ ‵ (flft κ₄ q₄) ∷ ‵ (fres γ₁ (T.the-row .coded .code h′)) ∷ ‵ (Mut κ₂ b₂ o₂ γ₂ (length ys) zs) ∷ ‵ (finally u8 γ₄ us) ∷ []) ∵
@@ -111,15 +113,15 @@ module _ {M : Type 1} (𝓤 : URA M) (H : Heap 𝓤) (A : Atoms 𝓤) (W : Given
 
   -- what the triple of `records::serve` binds outside, and what makes its `pre`
   abbrev Arg′ : Type 0
-  Arg′ = State × (Records × (ℕ × (RefT (List ℕ) × (RefT (List ℕ) × (ℕ × (ℕ × (RefT (List ℕ) × Unit {0})))))))
+  Arg′ = Ledger × (Records × (ℕ × (RefT (List ℕ) × (RefT (List ℕ) × (ℕ × (ℕ × (RefT (List ℕ) × Unit {0})))))))
 
   abbrev a′ : Records → Arg′
   a′ r = (h, (r, (length ys, (x₃, (x₀, (m, (n, (x₄, tt))))))))
 
   abbrev to-serve : Records → Val → Serve 𝓤 H A mem run .Ghost
-  to-serve r w = (((κ₃, (κ₀, (κ₄, tt))), (q₃, (q₀, (q₄, tt))), tt, a′ r, (word-state h ∷ [], (w ∷ [], (vint w64 (length ys) ∷ [], (s₃ ∷ [], (s₀ ∷ [], (vint w32 m ∷ [], (vint w32 n ∷ [], (s₄ ∷ [], tt))))))))), tt)
+  to-serve r w = (((κ₃, (κ₀, (κ₄, tt))), (q₃, (q₀, (q₄, tt))), tt, a′ r, (word-ledger h ∷ [], (w ∷ [], (vint w64 (length ys) ∷ [], (s₃ ∷ [], (s₀ ∷ [], (vint w32 m ∷ [], (vint w32 n ∷ [], (s₄ ∷ [], tt))))))))), tt)
 
-  goes-serve : (r : Records) (w : Val) → Is T.the-row h (word-state h ∷ []) → Is N.the-row r (w ∷ []) → Room R.the-row (length ys)
+  goes-serve : (r : Records) (w : Val) → Is T.the-row h (word-ledger h ∷ []) → Is N.the-row r (w ∷ []) → Room R.the-row (length ys)
       → ent 𝓤 (⋆ 𝓤 H A (‵ (flft κ₃ q₃) ∷ ‵ (flft κ₀ q₀) ∷ ‵ (flft κ₄ q₄) ∷ ‵ (ShrSlice (named 0) κ₃ u8 .own x₃ (s₃ ∷ [])) ∷ ‵ (ShrSlice (named 1) κ₀ u8 .own x₀ (s₀ ∷ [])) ∷ ‵ (MutSlice (named 2) κ₄ u8 .own x₄ (s₄ ∷ [])) ∷ [])) (Serve 𝓤 H A mem run .pre (to-serve r w))
   goes-serve r w is-h is-r room =
       qed W (‵ (flft κ₃ q₃) ∷ ‵ (flft κ₀ q₀) ∷ ‵ (flft κ₄ q₄) ∷ ‵ (ShrSlice (named 0) κ₃ u8 .own x₃ (s₃ ∷ [])) ∷ ‵ (ShrSlice (named 1) κ₀ u8 .own x₀ (s₀ ∷ [])) ∷ ‵ (MutSlice (named 2) κ₄ u8 .own x₄ (s₄ ∷ [])) ∷ []) ∵
@@ -141,10 +143,17 @@ module _ {M : Type 1} (𝓤 : URA M) (H : Heap 𝓤) (A : Atoms 𝓤) (W : Given
 
   -- what is known of the parts of what it gives back
   abbrev Parts : ServedRecords → Type 0
-  Parts r = Is O.the-row (r .outcome) (LL.vals O.the-type O′.the-laws (r .outcome)) × (Is u32 (r .clock) (vint w32 (r .clock) ∷ []) × (Is N.the-row (r .records) (LL.vals N.the-type N′.the-laws (r .records)) × Unit {0}))
+  Parts r = Is O.the-row (r .outcome) (LL.vals O.the-type O′.the-laws (r .outcome)) × (Is u32 (r .clock) (vint w32 (r .clock) ∷ []) × (Is Y.the-row (r .memory) (LL.vals Y.the-type Y′.the-laws (r .memory)) × (Is N.the-row (r .records) (LL.vals N.the-type N′.the-laws (r .records)) × Unit {0})))
 
   parts : (r : ServedRecords) (w : Val) → Is Z.the-row r (w ∷ []) → Parts r
   parts r w is = LL.owed Z.the-type Z′.the-laws r (w ∷ []) is
+
+  -- the ledger with the memory that came back
+  abbrev with-memory : ServedRecords → Ledger
+  with-memory r = record { state = h .state; memory = r .memory }
+
+  made : (r : ServedRecords) → Is T.the-row h (word-ledger h ∷ []) → Is Y.the-row (r .memory) (LL.vals Y.the-type Y′.the-laws (r .memory)) → Is T.the-row (with-memory r) (word-ledger (with-memory r) ∷ [])
+  made r was is = LL.owes T.the-type T′.the-laws (with-memory r) (LL.owed T.the-type T′.the-laws h (word-ledger h ∷ []) was .0, (is, tt))
 
   module _ (C : Calls 𝓤 H) (Λ : Loops 𝓤 H) (fm : FmC 𝓤 H (W .laws) C) (known-load : Triple 𝓤 (C #lent·load) (Load 𝓤 H A mem run)) (known-serve : Triple 𝓤 (C #records·serve) (Serve 𝓤 H A mem run))
       (known-advance : Triple 𝓤 (C #lent·advance) (Advance 𝓤 H A mem run)) (known-store : Triple 𝓤 (C #lent·store) (Store 𝓤 H A mem run)) where
@@ -154,50 +163,57 @@ module _ {M : Type 1} (𝓤 : URA M) (H : Heap 𝓤) (A : Atoms 𝓤) (W : Given
         qed W ((‵ (flft κ₀ q₀) ⊛ ‵ (flft κ₁ q₁) ⊛ ‵ (flft κ₂ q₂) ⊛ ‵ (flft κ₃ q₃) ⊛ ‵ (flft κ₄ q₄) ⊛ ‵ ftrue) ∷ ‵ (owns (ShrSlice (named 0) κ₀ u8 ∷ u32 ∷ u32 ∷ MutRef (named 1) κ₁ T.the-row ∷ MutSlice (named 2) κ₂ R.the-row ∷ ShrSlice (named 3) κ₃ u8 ∷ MutSlice (named 4) κ₄ u8 ∷ []) a vals) ∷ []) ∵
         split ! $ move ! (1 ∷ []) $ split ! $ move ! (1 ∷ []) $ split ! $ move ! (1 ∷ []) $ split ! $ move ! (1 ∷ []) $ split ! $ move ! (6 ∷ []) $ fsplit ! $ move ! (1 ∷ []) $ fsplit ! $ move ! (1 ∷ []) $ fsplit ! $ move ! (1 ∷ []) $ fsplit ! $
         move ! (1 ∷ []) $ fsplit ! $ move ! (1 ∷ []) $ fsplit ! $ move ! (1 ∷ []) $ fsplit ! $ keep ! (4 ∷ 12 ∷ 3 ∷ 11 ∷ 2 ∷ 10 ∷ 7 ∷ 13 ∷ 0 ∷ 8 ∷ []) $
-        -- [the state's borrow; [κ₁]; the slice; [κ₂]; the names; [κ₃]; the datagram; [κ₀]; the reply buffer; [κ₄]]
+        -- [the ledger's borrow; [κ₁]; the slice; [κ₂]; the names; [κ₃]; the datagram; [κ₀]; the reply buffer; [κ₄]]
         enter ! C Λ code.function (s₀ ∷ vint w32 m ∷ vint w32 n ∷ vptr b₁ o₁ ∷ s₂ ∷ s₃ ∷ s₄ ∷ []) _ $
         alloc1 ! (λ l₀. alloc1 ! (λ l₁. alloc1 ! (λ l₂. alloc1 ! (λ l₃. alloc1 ! (λ l₄. alloc1 ! (λ l₅. alloc1 ! (λ l₆. alloc1 ! (λ l₇. alloc1 ! (λ l₈. alloc1 ! (λ l₉. alloc1 ! (λ l₁₀. alloc1 ! (λ l₁₁. alloc1 ! (λ l₁₂. alloc1 ! (λ l₁₃.
         alloc1 ! (λ l₁₄. alloc1 ! (λ l₁₅. alloc1 ! (λ l₁₆. alloc1 ! (λ l₁₇. alloc1 ! (λ l₁₈. alloc1 ! (λ l₁₉. alloc0 ! $ params1 ! $
         pass1 ! (init ! 36 refl (tt, (tt, (record { fits = room₀ .0 }, tt)))) $ pass1 ! (init ! 34 refl (tt, record { fits = m-fits })) $ pass1 ! (init ! 32 refl (tt, record { fits = n-fits })) $ pass1 ! (init ! 30 refl (tt, tt)) $
         pass1 ! (init ! 28 refl (tt, (tt, (record { fits = room₂ .0 }, tt)))) $ pass1 ! (init ! 26 refl (tt, (tt, (record { fits = room₃ .0 }, tt)))) $ pass1 ! (init ! 24 refl (tt, (tt, (record { fits = room₄ .0 }, tt)))) $ pass0 ! $
-        -- [_19; …; _18; …; …; _1; …; room for _0; …; the state's borrow; [κ₁]; the slice; [κ₂]; the names; [κ₃]; the datagram; [κ₀]; the reply buffer; [κ₄]]: the state is copied out
-        move ! (40 ∷ 41 ∷ []) $ opens-state ! tt κ₁ q₁ b₁ o₁ γ₁ h (λ is-h.
-        -- [the state's cell; the open borrow; obs; auth; _19; …; _0; …; the slice; [κ₂]; …]
+        -- [_19; …; _18; …; …; _1; …; room for _0; …; the ledger's borrow; [κ₁]; the slice; [κ₂]; the names; [κ₃]; the datagram; [κ₀]; the reply buffer; [κ₄]]: the ledger is copied out
+        move ! (40 ∷ 41 ∷ []) $ opens-ledger ! tt κ₁ q₁ b₁ o₁ γ₁ h (λ is-h.
+        -- [the ledger's cell; the open borrow; obs; auth; _19; …; _0; …; the slice; [κ₂]; …]
         assigns ! (of-opd ! (load ! (from ! (hop ! (look ! 34 refl) (stop !))) (look-raw ! 0 refl))) (from ! (stop !)) (init ! 26 refl (LL.lawful T.the-type T′.the-laws 𝓤 H A W .typed h _ is-h .0)) $
-        closes-state ! tt κ₁ q₁ b₁ o₁ γ₁ h h is-h $
-        -- [the state's borrow; [κ₁]; _19; …; _0; …; the slice; [κ₂]; the names; [κ₃]; the datagram; [κ₀]; the reply buffer; [κ₄]]
+        closes-ledger ! tt κ₁ q₁ b₁ o₁ γ₁ h h is-h $
+        -- [the ledger's borrow; [κ₁]; _19; …; _0; …; the slice; [κ₂]; the names; [κ₃]; the datagram; [κ₀]; the reply buffer; [κ₄]]
         assigns ! (addr ! (from ! (fld ! refl (hop ! (look-in ! 30 (sub ! 0 refl (whole !))) (stop !))))) (from ! (stop !)) (init ! 18 refl (tt, tt)) $
         assigns ! (agg ! (and-then ! (load ! (from ! (stop !)) (look ! 18 refl)) (and-then ! (load ! (from ! (fld ! refl (stop !))) (look-in ! 30 (sub ! 1 refl (whole !)))) (no-more !)))) (from ! (stop !)) (init ! 16 refl (tt, (tt, (record { fits = room₂ .0 }, tt)))) $
         -- the records by value
         move ! (42 ∷ 43 ∷ []) $ loads ! mem run κ₂ q₂ b₂ o₂ γ₂ ys fm known-load (λ ν δ. and-then ! (load ! (from ! (stop !)) (look ! 18 refl)) (no-more !)) (λ w₁ r₁ is₁ e₁.
-        -- [the slice; [κ₂]; the state's borrow; [κ₁]; _19; …; _0; …; the names; [κ₃]; the datagram; [κ₀]; the reply buffer; [κ₄]]
+        -- [the slice; [κ₂]; the ledger's borrow; [κ₁]; _19; …; _0; …; the names; [κ₃]; the datagram; [κ₀]; the reply buffer; [κ₄]]
         land ! (from ! (stop !)) (init ! 24 refl (LL.lawful N.the-type N′.the-laws 𝓤 H A W .typed r₁ _ is₁ .0)) $
         assigns ! (of-opd ! (load ! (from ! (fld ! refl (stop !))) (look-in ! 32 (sub ! 1 refl (whole !))))) (from ! (stop !)) (init ! 16 refl (tt, record { fits = room₂ .0 })) $
         assigns ! (addr ! (from ! (fld ! refl (hop ! (look-in ! 28 (sub ! 0 refl (whole !))) (stop !))))) (from ! (stop !)) (init ! 14 refl (tt, tt)) $
         assigns ! (agg ! (and-then ! (load ! (from ! (stop !)) (look ! 14 refl)) (and-then ! (load ! (from ! (fld ! refl (stop !))) (look-in ! 28 (sub ! 1 refl (whole !)))) (no-more !)))) (from ! (stop !)) (init ! 12 refl (tt, (tt, (record { fits = room₄ .0 }, tt)))) $
-        -- the state, the records, their number, the names, the datagram, the client, the time and the reply buffer go to `records::serve`
+        -- the ledger, the records, their number, the names, the datagram, the client, the time and the reply buffer go to `records::serve`
         move ! (45 ∷ 47 ∷ 49 ∷ 44 ∷ 46 ∷ 48 ∷ []) $ group ! 6 $ use1 W (raw (Serve 𝓤 H A mem run .pre (to-serve r₁ w₁))) (goes-serve r₁ w₁ is-h is₁ room₂) $
         calls-at ! fm (Serve 𝓤 H A mem run) known-serve (to-serve r₁ w₁) (and-then ! (load ! (from ! (stop !)) (look ! 27 refl)) (and-then ! (load ! (from ! (stop !)) (look ! 25 refl)) (and-then ! (load ! (from ! (stop !)) (look ! 17 refl)) (and-then ! (load ! (from ! (stop !)) (look ! 31 refl))
         (and-then ! (load ! (from ! (stop !)) (look ! 41 refl)) (and-then ! (load ! (from ! (stop !)) (look ! 39 refl)) (and-then ! (load ! (from ! (stop !)) (look ! 37 refl)) (and-then ! (load ! (from ! (stop !)) (look ! 13 refl)) (no-more !))))))))) (λ w₂.
         use1 W (later (some (λ (r : ServedRecords). ((‵ (flft κ₃ q₃) ⊛ ‵ (flft κ₀ q₀) ⊛ ‵ (flft κ₄ q₄) ⊛ ‵ ftrue) ⊛ ‵ (Z.the-row .own r (w₂ ∷ []))) ⊛ raw (ensured 𝓤 H A serve′.ended (serve′.clauses 𝓤 H A mem run) (κ₃, (κ₀, (κ₄, tt))) (a′ r₁) tt r)))) (id⊢ 𝓤 _) $ await ! tt $ pick ! (λ r₂.
         split ! $ move ! (1 ∷ []) $ use1 W (some (λ (us : Last). ‵ (Left r₁ us) ⊛ raw (fact 𝓤 (Served r₁ (us .1 .1 .1 .1 .1 .1 .1 .0) r₂)))) (id⊢ 𝓤 _) $ pick ! (λ us.
         split ! $ move ! (1 ∷ []) $ heard ! (Served r₁ (us .1 .1 .1 .1 .1 .1 .1 .0) r₂) (λ e₂. fsplit ! $ drop ! $ fsplit ! $ drop ! $ fsplit ! $ drop ! $ fsplit ! $ drop ! $ fsplit ! $ drop ! $ fsplit ! $ drop ! $ fsplit ! $ drop ! $ fsplit ! $ fsplit ! $ move ! (1 ∷ []) $ feqL ! (λ len₂.
-        -- [the last octets; true; the tokens and the result; the slice; [κ₂]; the state's borrow; [κ₁]; _19; …]
+        -- [the last octets; true; the tokens and the result; the slice; [κ₂]; the ledger's borrow; [κ₁]; _19; …]
         move ! (2 ∷ []) $ split ! $ move ! (1 ∷ []) $ peeks ! Z.the-row (Is Z.the-row) (shows 𝓤 H A Z.the-row) r₂ (w₂ ∷ []) (λ is₂. drop ! $ split ! $ move ! (1 ∷ []) $ split ! $ move ! (1 ∷ []) $ split ! $ move ! (1 ∷ 5 ∷ []) $ drop ! $ drop ! $
-        -- [[κ₄]; [κ₀]; [κ₃]; the last octets; the slice; [κ₂]; the state's borrow; [κ₁]; _19; …; _0; …]
+        -- [[κ₄]; [κ₀]; [κ₃]; the last octets; the slice; [κ₂]; the ledger's borrow; [κ₁]; _19; …; _0; …]
         land ! (from ! (stop !)) (init ! 26 refl (LL.lawful Z.the-type Z′.the-laws 𝓤 H A W .typed r₂ _ is₂ .0)) $
         rewrite ! 26 (λ (u : Val). ‵ (fat fullShare Z′.mir l₁₀ 0 u)) (ap only (LL.tells Z.the-type Z′.the-laws r₂ _ is₂)) refl $
-        -- the state's borrow goes to `advance` with the clock that came back
+        -- the memory that came back is stored in the ledger
+        move ! (6 ∷ 7 ∷ []) $ opens-ledger ! tt κ₁ q₁ b₁ o₁ γ₁ h (λ is-h₂.
+        -- [the ledger's cell; the open borrow; obs; auth; [κ₄]; [κ₀]; [κ₃]; the last octets; the slice; [κ₂]; _19; …; _0; …]: the cell is at its type's raw form, in which a field that is a struct has no name
+        use1 W (‵ (fat fullShare T′.mir b₁ o₁ (word-ledger h))) (W .laws .raw-at fullShare T′.mir b₁ o₁ (word-ledger h)) $
+        assigns ! (of-opd ! (load ! (from ! (fld ! refl (stop !))) (look-in ! 28 (sub ! 2 refl (whole !))))) (from ! (hop ! (look ! 40 refl) (fld ! refl (stop !)))) (store-in ! 0 (sub ! 1 refl (whole !)) (LL.lawful Y.the-type Y′.the-laws 𝓤 H A W .typed (r₂ .memory) _ (parts r₂ w₂ is₂ .1 .1 .0) .0)) $
+        use1 W (‵ (cellAt fullShare (T.the-row .mir) (word-ledger (with-memory r₂) ∷ []) b₁ o₁)) (W .laws .at-raw fullShare T′.mir b₁ o₁ (word-ledger (with-memory r₂))) $
+        closes-ledger ! tt κ₁ q₁ b₁ o₁ γ₁ h (with-memory r₂) (made r₂ is-h₂ (parts r₂ w₂ is₂ .1 .1 .0)) $
+        -- [the ledger's borrow; [κ₁]; [κ₄]; [κ₀]; [κ₃]; the last octets; the slice; [κ₂]; _19; …; _0; …]: it goes to `advance` with the clock that came back
         assigns ! (addr ! (from ! (hop ! (look ! 38 refl) (stop !)))) (from ! (stop !)) (init ! 12 refl (tt, tt)) $
-        move ! (6 ∷ 7 ∷ []) $ advances ! mem run κ₁ q₁ b₁ o₁ γ₁ h (r₂ .clock) (parts r₂ w₂ is₂ .1 .0 .1) fm known-advance (and-then ! (load ! (from ! (stop !)) (look ! 11 refl)) (and-then ! (load ! (from ! (fld ! refl (stop !))) (look-in ! 25 (sub ! 1 refl (whole !)))) (no-more !))) (λ w₃ h′ is₃ e₃.
-        -- [what says the last state; [κ₁]; [κ₄]; [κ₀]; [κ₃]; the last octets; the slice; [κ₂]; _19; …; _0; …]
+        advances ! mem run κ₁ q₁ b₁ o₁ γ₁ (with-memory r₂) (r₂ .clock) (parts r₂ w₂ is₂ .1 .0 .1) fm known-advance (and-then ! (load ! (from ! (stop !)) (look ! 11 refl)) (and-then ! (load ! (from ! (fld ! refl (stop !))) (look-in ! 25 (sub ! 1 refl (whole !)))) (no-more !))) (λ w₃ h′ is₃ e₃.
+        -- [what says the last ledger; [κ₁]; [κ₄]; [κ₀]; [κ₃]; the last octets; the slice; [κ₂]; _19; …; _0; …]
         land ! (from ! (stop !)) (init ! 14 refl (nothing-lawful 𝓤 H A W .typed tt _ is₃ .0)) $
         -- the slice goes to `store` with the records that came back
         assigns ! (addr ! (from ! (fld ! refl (hop ! (look-in ! 36 (sub ! 0 refl (whole !))) (stop !))))) (from ! (stop !)) (init ! 10 refl (tt, tt)) $
         assigns ! (agg ! (and-then ! (load ! (from ! (stop !)) (look ! 10 refl)) (and-then ! (load ! (from ! (fld ! refl (stop !))) (look-in ! 36 (sub ! 1 refl (whole !)))) (no-more !)))) (from ! (stop !)) (init ! 8 refl (tt, (tt, (record { fits = room₂ .0 }, tt)))) $
-        move ! (6 ∷ 7 ∷ []) $ stores ! mem run κ₂ q₂ b₂ o₂ γ₂ ys (r₂ .records) (LL.val N.the-type N′.the-laws (r₂ .records)) fm known-store room₂ (parts r₂ w₂ is₂ .1 .1 .0)
-        (λ ν δ. and-then ! (load ! (from ! (stop !)) (look ! 8 refl)) (and-then ! (load ! (from ! (fld ! refl (stop !))) (look-in ! 26 (sub ! 2 refl (whole !)))) (no-more !))) (λ w₄ zs is₄ len e₄.
-        -- [the slice; [κ₂]; what says the last state; [κ₁]; [κ₄]; [κ₀]; [κ₃]; the last octets; _19; …; _0; …]: the outcome is handed on whole
+        move ! (6 ∷ 7 ∷ []) $ stores ! mem run κ₂ q₂ b₂ o₂ γ₂ ys (r₂ .records) (LL.val N.the-type N′.the-laws (r₂ .records)) fm known-store room₂ (parts r₂ w₂ is₂ .1 .1 .1 .0)
+        (λ ν δ. and-then ! (load ! (from ! (stop !)) (look ! 8 refl)) (and-then ! (load ! (from ! (fld ! refl (stop !))) (look-in ! 26 (sub ! 3 refl (whole !)))) (no-more !))) (λ w₄ zs is₄ len e₄.
+        -- [the slice; [κ₂]; what says the last ledger; [κ₁]; [κ₄]; [κ₀]; [κ₃]; the last octets; _19; …; _0; …]: the outcome is handed on whole
         land ! (from ! (stop !)) (store ! 14 refl (nothing-lawful 𝓤 H A W .typed tt _ is₄ .0)) $
         assigns ! (of-opd ! (load ! (from ! (fld ! refl (stop !))) (look-in ! 26 (sub ! 0 refl (whole !))))) (from ! (stop !)) (init ! 46 refl (LL.lawful O.the-type O′.the-laws 𝓤 H A W .typed (r₂ .outcome) _ (parts r₂ w₂ is₂ .0) .0)) $ returns ! (look ! 46 refl) $
         forget ! 8 refl $ forget ! 10 refl $ forget ! 12 refl $ forget ! 14 refl $ forget ! 16 refl $ forget ! 18 refl $ forget ! 20 refl $ forget ! 22 refl $ forget ! 24 refl $ forget ! 26 refl $ forget ! 28 refl $ forget ! 30 refl $
@@ -205,7 +221,7 @@ module _ {M : Type 1} (𝓤 : URA M) (H : Heap 𝓤) (A : Atoms 𝓤) (W : Given
         move ! (46 ∷ 47 ∷ []) $ free1 ! $ move ! (44 ∷ 45 ∷ []) $ free1 ! $ move ! (42 ∷ 43 ∷ []) $ free1 ! $ move ! (40 ∷ 41 ∷ []) $ free1 ! $ move ! (38 ∷ 39 ∷ []) $ free1 ! $ move ! (36 ∷ 37 ∷ []) $ free1 ! $ move ! (34 ∷ 35 ∷ []) $ free1 ! $
         move ! (32 ∷ 33 ∷ []) $ free1 ! $ move ! (30 ∷ 31 ∷ []) $ free1 ! $ move ! (28 ∷ 29 ∷ []) $ free1 ! $ move ! (26 ∷ 27 ∷ []) $ free1 ! $ move ! (24 ∷ 25 ∷ []) $ free1 ! $ move ! (22 ∷ 23 ∷ []) $ free1 ! $ move ! (20 ∷ 21 ∷ []) $ free1 ! $
         move ! (18 ∷ 19 ∷ []) $ free1 ! $ move ! (16 ∷ 17 ∷ []) $ free1 ! $ move ! (14 ∷ 15 ∷ []) $ free1 ! $ move ! (12 ∷ 13 ∷ []) $ free1 ! $ move ! (10 ∷ 11 ∷ []) $ free1 ! $ move ! (8 ∷ 9 ∷ []) $ free1 ! $ free0 ! $
-        keep ! (5 ∷ 3 ∷ 1 ∷ 6 ∷ 4 ∷ 2 ∷ 0 ∷ 7 ∷ []) $ by ! (exits (r₂ .outcome) h′ zs (us .1 .1 .1 .1 .1 .1 .1 .0) (parts r₂ w₂ is₂ .0) (served-lent h ys names c e₁ e₂ e₃ e₄ refl) len len₂)))))))))))))))))))))))))))))))
+        keep ! (5 ∷ 3 ∷ 1 ∷ 6 ∷ 4 ∷ 2 ∷ 0 ∷ 7 ∷ []) $ by ! (exits (r₂ .outcome) h′ zs (us .1 .1 .1 .1 .1 .1 .1 .0) (parts r₂ w₂ is₂ .0) (served-lent h ys names c e₁ e₂ e₃ e₄ refl) len len₂))))))))))))))))))))))))))))))))
 
 module _ {M : Type 1} (𝓤 : URA M) (H : Heap 𝓤) (A : Atoms 𝓤) (W : Given 𝓤 H A) (mem : Memory → SProp 𝓤) (run : Routine → Fun 𝓤) where
   walks : (C : Calls 𝓤 H) (Λ : Loops 𝓤 H) → FmC 𝓤 H (W .laws) C → Triple 𝓤 (C #lent·load) (Load 𝓤 H A mem run) → Triple 𝓤 (C #records·serve) (Serve 𝓤 H A mem run) → Triple 𝓤 (C #lent·advance) (Advance 𝓤 H A mem run) → Triple 𝓤 (C #lent·store) (Store 𝓤 H A mem run)

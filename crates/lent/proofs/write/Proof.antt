@@ -1,16 +1,16 @@
--- `lent::write` meets its contract: a walk of its MIR, by hand. The state is copied out of its `&`, `load` gives the records of the slice by value, and `records::write` gets both with the room.
+-- `lent::write` meets its contract: a walk of its MIR, by hand. The ledger is copied out of its `&`, `load` gives the records of the slice by value, and `records::write` gets both with the room.
 -- The room is passed on at its own lifetime, share and ghost name, so what `records::write` says of the last octets is said of the room's (`gave-slice`); nothing is kept of the two `&`. Of each callee the proof knows only that it meets its contract.
 use Rattle.lent.proofs.Walk.{stands, says-both, _≡_, refl, ℕ, [], _∷_, List, length, URA, named, w64, Val, vint, vptr, SProp, ent, emp, via, fst∗, id⊢, Lft, Share, GName, Fml, ftrue, flft, Memory, Routine, Heap, Calls, Loops, WpFn, Atoms, Fun, fact, givenOf, tables, tablesOf, Given, ‵, raw, _⊛_, some, later, ⋆, _$_, _∵_, !, qed, by, move, keep, drop, use1, group, split, split3, join, pick, fsplit, fjoin, feqL, suffices, frame, await, done, look, look-raw, init, forget, stop, hop, fld, from, load, of-opd, addr, and-then, no-more, assigns, land, returns, enter, alloc1, alloc0, params1, pass1, pass0, free1, free0, whole, sub, look-in, agg, FmC, owns, Is, shows, uint-makes, usize, u8, RefT, ShrRef, ptr-vals, shr-tells, slice-vals, shr-slice-tells, mut-slice-tells, MutSlice, ShrSlice, Room, finally, owned, peeks, heard, nothing, plain, shrRefTo, shrSliceOf, Contract, Triple, calls-at, onEntry, tripleOf, cited, Stays, stay-dropped, gave-slice, walkOf, AllGo, goes-dropped, goes-gave-slice, Walks, ends-at, walked, ensured, lasts, yes}
 use denote.Struct.Laws as LL
 use Rattle.state.specs.declared.Lease.{Lease}
-use Rattle.state.specs.declared.State.{State}
+use Rattle.state.specs.declared.Ledger.{Ledger}
 use Rattle.state_file.specs.declared.Written.{Written}
 use Rattle.records.specs.declared.Records.{Records}
 use Rattle.records.specs.Lent.{writtenWith, roomWith, writtenLent, roomLent}
 use Rattle.records.specs.laws.Lent.{written-lent, room-lent}
 use Rattle.state.proofs.Lease as R
-use Rattle.state.proofs.State as T
-use Rattle.state.proofs.State.Laws as T′
+use Rattle.state.proofs.Ledger as T
+use Rattle.state.proofs.Ledger.Laws as T′
 use Rattle.state_file.proofs.Written as Z
 use Rattle.state_file.proofs.Written.Laws as Z′
 use Rattle.records.proofs.Records as N
@@ -20,7 +20,7 @@ use Rattle.records.proofs.write.Symbol as write-def
 use Rattle.records.proofs.write.Symbol.{name as #records·write}
 use Rattle.records.proofs.write.Met as write-thm
 use Rattle.lent.proofs.Slices.{Load, ref, word, loads-on}
-use Rattle.lent.proofs.States.{ref-state, word-state, looks-state, shuts-state}
+use Rattle.lent.proofs.Ledgers.{ref-ledger, word-ledger, looks-ledger, shuts-ledger}
 use Rattle.lent.proofs.load.Symbol as load-def
 use Rattle.lent.proofs.load.Symbol.{name as #lent·load}
 use Rattle.lent.proofs.load.Met as load-thm
@@ -37,9 +37,9 @@ module _ {M : Type 1} (𝓤 : URA M) (H : Heap 𝓤) (A : Atoms 𝓤) (mem : Mem
   abbrev Write : Contract 𝓤
   Write = tripleOf 𝓤 H A write′.signature (write′.spec 𝓤 H A mem run)
 
--- 0 is the state, 1 the slice of lease records, 2 the names and 3 the room: each has a lifetime κ, a share q of its token, a place (b, o) and a ghost name γ
+-- 0 is the ledger, 1 the slice of lease records, 2 the names and 3 the room: each has a lifetime κ, a share q of its token, a place (b, o) and a ghost name γ
 module _ {M : Type 1} (𝓤 : URA M) (H : Heap 𝓤) (A : Atoms 𝓤) (W : Given 𝓤 H A) (mem : Memory → SProp 𝓤) (run : Routine → Fun 𝓤) (κ₀ κ₁ κ₂ κ₃ : Lft) (q₀ q₁ q₂ q₃ : Share)
-    (b₀ o₀ b₁ o₁ b₂ o₂ b₃ o₃ : ℕ) (γ₀ γ₁ γ₂ γ₃ : GName) (h : State) (ys : List Lease) (names os : List ℕ) where
+    (b₀ o₀ b₁ o₁ b₂ o₂ b₃ o₃ : ℕ) (γ₀ γ₁ γ₂ γ₃ : GName) (h : Ledger) (ys : List Lease) (names os : List ℕ) where
   abbrev x₂ : RefT (List ℕ)
   x₂ = record { ptr = (b₂, o₂); name = γ₂; now = names }
 
@@ -56,10 +56,10 @@ module _ {M : Type 1} (𝓤 : URA M) (H : Heap 𝓤) (A : Atoms 𝓤) (W : Given
   s₃ = word b₃ o₃ (length os)
 
   abbrev Arg : Type 0
-  Arg = RefT State × (RefT (List Lease) × (RefT (List ℕ) × (RefT (List ℕ) × Unit {0})))
+  Arg = RefT Ledger × (RefT (List Lease) × (RefT (List ℕ) × (RefT (List ℕ) × Unit {0})))
 
   abbrev a : Arg
-  a = (ref-state b₀ o₀ γ₀ h, (ref b₁ o₁ γ₁ ys, (x₂, (x₃, tt))))
+  a = (ref-ledger b₀ o₀ γ₀ h, (ref b₁ o₁ γ₁ ys, (x₂, (x₃, tt))))
 
   abbrev vals : List Val × (List Val × (List Val × (List Val × Unit {0})))
   vals = (vptr b₀ o₀ ∷ [], (s₁ ∷ [], (s₂ ∷ [], (s₃ ∷ [], tt))))
@@ -81,9 +81,9 @@ module _ {M : Type 1} (𝓤 : URA M) (H : Heap 𝓤) (A : Atoms 𝓤) (W : Given
 
   -- what the triple of `records::write` binds outside, and what makes its `pre`
   abbrev to-write : Records → Val → Write 𝓤 H A mem run .Ghost
-  to-write r w = (((κ₂, (κ₃, tt)), (q₂, (q₃, tt)), tt, (h, (r, (length ys, (x₂, (x₃, tt))))), (word-state h ∷ [], (w ∷ [], (vint w64 (length ys) ∷ [], (s₂ ∷ [], (s₃ ∷ [], tt)))))), tt)
+  to-write r w = (((κ₂, (κ₃, tt)), (q₂, (q₃, tt)), tt, (h, (r, (length ys, (x₂, (x₃, tt))))), (word-ledger h ∷ [], (w ∷ [], (vint w64 (length ys) ∷ [], (s₂ ∷ [], (s₃ ∷ [], tt)))))), tt)
 
-  goes-write : (r : Records) (w : Val) → Is T.the-row h (word-state h ∷ []) → Is N.the-row r (w ∷ []) → Room R.the-row (length ys)
+  goes-write : (r : Records) (w : Val) → Is T.the-row h (word-ledger h ∷ []) → Is N.the-row r (w ∷ []) → Room R.the-row (length ys)
       → ent 𝓤 (⋆ 𝓤 H A (‵ (flft κ₂ q₂) ∷ ‵ (flft κ₃ q₃) ∷ ‵ (ShrSlice (named 0) κ₂ u8 .own x₂ (s₂ ∷ [])) ∷ ‵ (MutSlice (named 1) κ₃ u8 .own x₃ (s₃ ∷ [])) ∷ [])) (Write 𝓤 H A mem run .pre (to-write r w))
   goes-write r w is-h is-r room =
       qed W (‵ (flft κ₂ q₂) ∷ ‵ (flft κ₃ q₃) ∷ ‵ (ShrSlice (named 0) κ₂ u8 .own x₂ (s₂ ∷ [])) ∷ ‵ (MutSlice (named 1) κ₃ u8 .own x₃ (s₃ ∷ [])) ∷ []) ∵
@@ -104,15 +104,15 @@ module _ {M : Type 1} (𝓤 : URA M) (H : Heap 𝓤) (A : Atoms 𝓤) (W : Given
     walk room₁ room₂ room₃ =
         qed W ((‵ (flft κ₀ q₀) ⊛ ‵ (flft κ₁ q₁) ⊛ ‵ (flft κ₂ q₂) ⊛ ‵ (flft κ₃ q₃) ⊛ ‵ ftrue) ∷ ‵ (owns (ShrRef (named 0) κ₀ T.the-row ∷ ShrSlice (named 1) κ₁ R.the-row ∷ ShrSlice (named 2) κ₂ u8 ∷ MutSlice (named 3) κ₃ u8 ∷ []) a vals) ∷ []) ∵
         split ! $ move ! (1 ∷ []) $ split ! $ move ! (1 ∷ []) $ split ! $ move ! (1 ∷ []) $ split ! $ move ! (5 ∷ []) $ fsplit ! $ move ! (1 ∷ []) $ fsplit ! $ move ! (1 ∷ []) $ fsplit ! $ move ! (1 ∷ []) $ fsplit ! $ keep ! (4 ∷ 9 ∷ 3 ∷ 8 ∷ 2 ∷ 7 ∷ 0 ∷ 5 ∷ []) $
-        -- [the state's reference; [κ₀]; the slice; [κ₁]; the names; [κ₂]; the room; [κ₃]]
+        -- [the ledger's reference; [κ₀]; the slice; [κ₁]; the names; [κ₂]; the room; [κ₃]]
         enter ! C Λ code.function (vptr b₀ o₀ ∷ s₁ ∷ s₂ ∷ s₃ ∷ []) _ $
         alloc1 ! (λ l₀. alloc1 ! (λ l₁. alloc1 ! (λ l₂. alloc1 ! (λ l₃. alloc1 ! (λ l₄. alloc1 ! (λ l₅. alloc1 ! (λ l₆. alloc1 ! (λ l₇. alloc1 ! (λ l₈. alloc1 ! (λ l₉. alloc0 ! $ params1 ! $
         pass1 ! (init ! 16 refl (tt, tt)) $ pass1 ! (init ! 14 refl (tt, (tt, (record { fits = room₁ .0 }, tt)))) $ pass1 ! (init ! 12 refl (tt, (tt, (record { fits = room₂ .0 }, tt)))) $ pass1 ! (init ! 10 refl (tt, (tt, (record { fits = room₃ .0 }, tt)))) $ pass0 ! $
-        -- [_9; …; _8; …; _7; …; _6; …; _5; …; _4; …; _3; …; _2; …; _1; …; room for _0; …; the state's reference; [κ₀]; the slice; [κ₁]; the names; [κ₂]; the room; [κ₃]]: the state is copied out
-        move ! (20 ∷ 21 ∷ []) $ looks-state ! tt κ₀ q₀ b₀ o₀ γ₀ h (λ q′ is-h.
-        -- [a share of the state's cell; what shuts it; _9; …; _0; …; the slice; [κ₁]; the names; [κ₂]; the room; [κ₃]]
+        -- [_9; …; _8; …; _7; …; _6; …; _5; …; _4; …; _3; …; _2; …; _1; …; room for _0; …; the ledger's reference; [κ₀]; the slice; [κ₁]; the names; [κ₂]; the room; [κ₃]]: the ledger is copied out
+        move ! (20 ∷ 21 ∷ []) $ looks-ledger ! tt κ₀ q₀ b₀ o₀ γ₀ h (λ q′ is-h.
+        -- [a share of the ledger's cell; what shuts it; _9; …; _0; …; the slice; [κ₁]; the names; [κ₂]; the room; [κ₃]]
         assigns ! (of-opd ! (load ! (from ! (hop ! (look ! 18 refl) (stop !))) (look-raw ! 0 refl))) (from ! (stop !)) (init ! 10 refl (LL.lawful T.the-type T′.the-laws 𝓤 H A W .typed h _ is-h .0)) $
-        shuts-state ! tt κ₀ q₀ q′ b₀ o₀ h is-h $
+        shuts-ledger ! tt κ₀ q₀ q′ b₀ o₀ h is-h $
         -- [[κ₀]; _9; …; _0; …; the slice; [κ₁]; the names; [κ₂]; the room; [κ₃]]: the records by value
         move ! (21 ∷ 22 ∷ []) $ loads-on ! mem run κ₁ q₁ b₁ o₁ γ₁ ys fm known-load (and-then ! (load ! (from ! (stop !)) (look ! 17 refl)) (no-more !)) (λ w₁ r₁ is₁ e₁.
         -- [the slice; [κ₁]; [κ₀]; _9; …; _0; …; the names; [κ₂]; the room; [κ₃]]
@@ -120,7 +120,7 @@ module _ {M : Type 1} (𝓤 : URA M) (H : Heap 𝓤) (A : Atoms 𝓤) (W : Given
         assigns ! (of-opd ! (load ! (from ! (fld ! refl (stop !))) (look-in ! 17 (sub ! 1 refl (whole !))))) (from ! (stop !)) (init ! 7 refl (tt, record { fits = room₁ .0 })) $
         assigns ! (addr ! (from ! (fld ! refl (hop ! (look-in ! 13 (sub ! 0 refl (whole !))) (stop !))))) (from ! (stop !)) (init ! 5 refl (tt, tt)) $
         assigns ! (agg ! (and-then ! (load ! (from ! (stop !)) (look ! 5 refl)) (and-then ! (load ! (from ! (fld ! refl (stop !))) (look-in ! 13 (sub ! 1 refl (whole !)))) (no-more !)))) (from ! (stop !)) (init ! 3 refl (tt, (tt, (record { fits = room₃ .0 }, tt)))) $
-        -- the state, the records, their number, the names and the room go to `records::write`
+        -- the ledger, the records, their number, the names and the room go to `records::write`
         move ! (24 ∷ 26 ∷ 23 ∷ 25 ∷ []) $ group ! 4 $ use1 W (raw (Write 𝓤 H A mem run .pre (to-write r₁ w₁))) (goes-write r₁ w₁ is-h is₁ room₁) $
         calls-at ! fm (Write 𝓤 H A mem run) known-write (to-write r₁ w₁) (and-then ! (load ! (from ! (stop !)) (look ! 12 refl)) (and-then ! (load ! (from ! (stop !)) (look ! 10 refl)) (and-then ! (load ! (from ! (stop !)) (look ! 8 refl)) (and-then ! (load ! (from ! (stop !)) (look ! 16 refl)) (and-then ! (load ! (from ! (stop !)) (look ! 4 refl)) (no-more !)))))) (λ w₂.
         use1 W (later (some (λ (r : Written). ((‵ (flft κ₂ q₂) ⊛ ‵ (flft κ₃ q₃) ⊛ ‵ ftrue) ⊛ ‵ (Z.the-row .own r (w₂ ∷ []))) ⊛ raw (ensured 𝓤 H A write′.ended (write′.clauses 𝓤 H A mem run) (κ₂, (κ₃, tt)) (h, (r₁, (length ys, (x₂, (x₃, tt))))) tt r)))) (id⊢ 𝓤 _) $ await ! tt $ pick ! (λ r₂.

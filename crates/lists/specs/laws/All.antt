@@ -11,7 +11,7 @@ use borrow.Author.Tests.{eqb-true, eqb-false, not-true, not-false, ltb-true, ltb
 use lib.Seq.{take-all}
 use Rattle.lists.specs.Pick.{pick}
 use Rattle.lists.specs.laws.Part.{cut-take, part-head, part-ended, unmapped}
-use Rattle.lists.specs.All.{allBy, pairsBy, allTo}
+use Rattle.lists.specs.All.{All, allBy, pairsBy, allTo}
 
 -- ---- all
 pub record AllInv {A : Type 0} (t : A → Bool) (d : A) (l : List A) (n : ℕ) (w : Bool) (i : ℕ) : Type 0 where
@@ -176,6 +176,54 @@ pub each-to : (p : ℕ → Bool) (n : ℕ) → ((i : ℕ) → i < n → p i ≡ 
 unfolding allTo pick
 each-to p zero h = refl
 each-to p (suc n) h = ap (λ (b : Bool). pick b (p n) false) (each-to p n (λ i g. h i (omega arith))) ∙ h n (omega arith)
+
+-- ---- what holds of every element
+pub all-facts : {A : Type 0} (t : A → Bool) (P : A → Type 0) (l : List A) → ((x : A) → t x ≡ true → P x) → allBy t l ≡ true → All P l
+unfolding All
+all-facts t P [] f e = tt
+all-facts t P (x ∷ l) f e = let p = all-head t x l e in (f x (p .0), all-facts t P l f (p .1))
+
+pub all-tests : {A : Type 0} (t : A → Bool) (P : A → Type 0) (l : List A) → ((x : A) → P x → t x ≡ true) → All P l → allBy t l ≡ true
+unfolding All allBy
+all-tests t P [] f h = refl
+all-tests t P (x ∷ l) f h = all-cons t x l (f x (h .0)) (all-tests t P l f (h .1))
+
+pub all-any : {A : Type 0} (P : A → Type 0) → ((x : A) → P x) → (l : List A) → All P l
+unfolding All
+all-any P f [] = tt
+all-any P f (x ∷ l) = (f x, all-any P f l)
+
+pub one-fact : {A : Type 0} (P Q : A → Type 0) (l : List A) → ((x : A) → P x → Q x) → All P l → All Q l
+unfolding All
+one-fact P Q [] f p = tt
+one-fact P Q (x ∷ l) f p = (f x (p .0), one-fact P Q l f (p .1))
+
+pub two-facts : {A : Type 0} (P Q R : A → Type 0) (l : List A) → ((x : A) → P x → Q x → R x) → All P l → All Q l → All R l
+unfolding All
+two-facts P Q R [] f p q = tt
+two-facts P Q R (x ∷ l) f p q = (f x (p .0) (q .0), two-facts P Q R l f (p .1) (q .1))
+
+pub all-take : {A : Type 0} (P : A → Type 0) (n : ℕ) (l : List A) → All P l → All P (take n l)
+unfolding All
+all-take P zero l h = tt
+all-take P (suc n) [] h = tt
+all-take P (suc n) (x ∷ l) h = (h .0, all-take P n l (h .1))
+
+pub all-drop : {A : Type 0} (P : A → Type 0) (n : ℕ) (l : List A) → All P l → All P (drop n l)
+unfolding All
+all-drop P zero l h = h
+all-drop P (suc n) [] h = tt
+all-drop P (suc n) (x ∷ l) h = all-drop P n l (h .1)
+
+pub all-mapped : {A B : Type 0} (P : B → Type 0) (g : A → B) (l : List A) → All (λ x. P (g x)) l → All P (map g l)
+unfolding All
+all-mapped P g [] h = tt
+all-mapped P g (x ∷ l) h = (h .0, all-mapped P g l (h .1))
+
+pub all-joined : {A : Type 0} (P : A → Type 0) (x y : List A) → All P x → All P y → All P (x ++ y)
+unfolding All
+all-joined P [] y p q = q
+all-joined P (a ∷ x) y p q = (p .0, all-joined P x y (p .1) q)
 
 -- ---- pairs, in one loop over two places
 pub record CrossInv {A : Type 0} (t : A → A → Bool) (d : A) (l : List A) (n : ℕ) (w : Bool) (i j : ℕ) : Type 0 where

@@ -1,7 +1,8 @@
 -- Laws: by which `search` goes through a definition that picks by a test on numbers.
-use mathlib.Core.Path.{_≡_, sym, ap, _∙_}
+use mathlib.Core.Path.{_≡_, refl, sym, ap, _∙_}
 use mathlib.Core.Bool.{Bool, true, false}
 use Prim.Native.Nat.{ℕ, _≤_, _<_}
+use native.Mathlib.Omega.{arith}
 use lib.Dec.{ltb, leb, eqb}
 use borrow.Author.Tests.{lt-ltb, le-ltb, le-leb, lt-leb, eq-eqb, ne-eqb}
 use Rattle.lists.specs.Pick.{pick}
@@ -59,3 +60,14 @@ pub ruleset picks = (pick-lt, pick-not-lt, pick-le, pick-not-le, pick-eq, pick-n
 pub ruleset tests = (pick-true, pick-false)
 
 pub ruleset calls = (pick-yes, pick-no)
+
+-- what tests that hold one after the other say
+pub neither : (b c : Bool) → pick b false c ≡ true → (b ≡ false) × (c ≡ true)
+unfolding pick
+neither true c e = let z : _≡_ {A = ℕ} 0 1 = cc in absurd (omega arith)
+neither false c e = (refl, e)
+
+pub both : (b c : Bool) → pick b c false ≡ true → (b ≡ true) × (c ≡ true)
+unfolding pick
+both true c e = (refl, e)
+both false c e = let z : _≡_ {A = ℕ} 0 1 = cc in absurd (omega arith)

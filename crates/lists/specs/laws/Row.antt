@@ -4,7 +4,7 @@ use mathlib.Core.Bool.{Bool, not, true, false}
 use mathlib.Core.List.{List, [], _∷_, _++_, append-assoc, append-nil}
 use Prim.Native.Nat.{ℕ, zero, suc, _+_, _-_, _≤_, _<_, min}
 use native.Mathlib.Omega.{arith}
-use lib.ListN.{length, replicate, set, take, getD, length-append, length-take, List·getD-eq-default}
+use lib.ListN.{length, replicate, set, take, drop, getD, length-append, length-take, take-append-drop, List·getD-eq-default}
 use lib.Seq.{set-at, take-at, getD-take}
 use Rattle.lists.specs.Pick.{pick}
 use Rattle.lists.specs.Fold.{fold}
@@ -16,6 +16,10 @@ use Rattle.lists.specs.laws.Filter.{filter-both, filter-length}
 -- what is laid out is read back
 pub row-back : {A : Type 0} (z : A) (n : ℕ) (l : List A) → take (length l) (laidRow z n l) ≡ l
 row-back z n l = take-at l (replicate (n - length l) z) (length l) refl
+
+-- an array with only z past k is the row of its first k
+pub row-fill : {A : Type 0} (z : A) (n k : ℕ) (a : List A) → length (take k a) ≡ k → drop k a ≡ replicate (n - k) z → laidRow z n (take k a) ≡ a
+row-fill {A} z n k a e q = ap (λ (j : ℕ). take k a ++ replicate (n - j) z) e ∙ ap (λ (l : List A). take k a ++ l) (sym q) ∙ take-append-drop k a
 
 -- one entry more, written behind the last
 pub row-push : {A : Type 0} (z : A) (n : ℕ) (l : List A) (x : A) → length l < n → set (laidRow z n l) (length l) x ≡ laidRow z n (l ++ x ∷ [])

@@ -6,17 +6,17 @@ use lib.ListN.{replicate}
 use borrow.Author.Needs.{needs}
 use Rattle.state.specs.Book.{zeroLease}
 use Rattle.state.specs.declared.Lease.{Lease}
-use Rattle.state.specs.declared.State.{State}
-use Rattle.state_file.specs.StateFile.{zeroState}
+use Rattle.state.specs.declared.Ledger.{Ledger}
+use Rattle.state_file.specs.StateFile.{zeroLedger}
 use Rattle.records.specs.Lent.{readLent}
 use Rattle.owned.specs.declared.OwnedFile.{OwnedFile}
 use Rattle.owned.specs.Owned.{ReadsOwned}
 use Rattle.owned.proofs.open.Statement.{statement}
 use Rattle.owned.proofs.open.Tie as tie
 
--- what is read over a state and records that are all zero
-over-blank : (f : List ℕ) {s : State} {ls : List Lease} {r : OwnedFile} → s ≡ zeroState → ls ≡ replicate 128 zeroLease → ReadsOwned (readLent f s ls) r → ReadsOwned (readLent f zeroState (replicate 128 zeroLease)) r
-over-blank f {s} {ls} {r} e₁ e₂ x = subst (λ (ls′ : List Lease). ReadsOwned (readLent f zeroState ls′) r) e₂ (subst (λ (s′ : State). ReadsOwned (readLent f s′ ls) r) e₁ x)
+-- what is read over a ledger and records that are all zero
+over-blank : (f : List ℕ) {g : Ledger} {ls : List Lease} {r : OwnedFile} → g ≡ zeroLedger → ls ≡ replicate 128 zeroLease → ReadsOwned (readLent f g ls) r → ReadsOwned (readLent f zeroLedger (replicate 128 zeroLease)) r
+over-blank f {g} {ls} {r} e₁ e₂ x = subst (λ (ls′ : List Lease). ReadsOwned (readLent f zeroLedger ls′) r) e₂ (subst (λ (g′ : Ledger). ReadsOwned (readLent f g′ ls) r) e₁ x)
 
 pub open-spec : {M : Type 1} → statement M
 open-spec =

@@ -1,10 +1,10 @@
--- `owned::serve` meets its contract: a walk of its MIR, by hand. The state and the lease records are copied into locals, which are lent as `&mut` to `lent::serve`; they come back at the values that it left there,
+-- `owned::serve` meets its contract: a walk of its MIR, by hand. The ledger and the lease records are copied into locals, which are lent as `&mut` to `lent::serve`; they come back at the values that it left there,
 -- and the result is put together of these and of the outcome. Of `lent::serve` the proof knows only that it meets its contract.
 -- The reply buffer is passed on at its own lifetime, share and ghost name, so what `lent::serve` says of the last octets is said of the buffer's (`gave-slice`). Nothing is kept of the `&` of the datagram.
 use Rattle.lent.proofs.Walk.{stands, _≡_, refl, _∙_, ap, ℕ, _<_, _^_, [], _∷_, List, length, URA, fullShare, named, w32, Val, vint, vptr, SProp, ent, emp, via, fst∗, id⊢, Lft, Share, GName, Fml, ftrue, flft, fat, Memory, Routine, Heap, Calls, Loops, WpFn, Atoms, Fun, fact, givenOf, tables, tablesOf, Given, ‵, raw, _⊛_, some, later, ⋆, _$_, _∵_, !, qed, by, move, keep, drop, group, use1, split, join, pick, rewrite, fsplit, fjoin, feqL, suffices, frame, await, done, look, init, forget, stop, hop, fld, from, load, lit, of-opd, addr, and-then, no-more, assigns, land, returns, enter, alloc1, alloc0, params1, pass1, pass0, free1, free0, whole, sub, look-in, agg, FmC, owns, Is, shows, uint-vals, uint-tells, uint-makes, u8, u32, RefT, sliceVal, slice-vals, shr-slice-tells, mut-slice-tells, MutSlice, ShrSlice, Room, finally, only, owned, facts, heard, nothing, plain, shrSliceOf, Contract, Triple, calls-at, onEntry, tripleOf, cited, says, Stays, stay-dropped, gave-slice, walkOf, AllGo, goes-dropped, goes-gave-slice, Walks, ends-at, walked, ensured, lasts, yes}
 use denote.Struct.Laws as LL
 use Rattle.state.specs.declared.Lease.{Lease}
-use Rattle.state.specs.declared.State.{State}
+use Rattle.state.specs.declared.Ledger.{Ledger}
 use Rattle.server.specs.Serve.{Call}
 use Rattle.server.specs.declared.Outcome.{Outcome}
 use Rattle.records.specs.Lent.{serveLent, ServesLent}
@@ -20,7 +20,7 @@ use Rattle.owned.proofs.Owned as O
 use Rattle.owned.proofs.Owned.Laws as O′
 use Rattle.owned.proofs.OwnedCall as Z
 use Rattle.owned.proofs.OwnedCall.Laws as Z′
-use Rattle.owned.proofs.Lends.{IsState, IsLeases, IsOwned, word-owned, its-state, its-records, its-leases, to-records, to-owned, is-records, is-owned, typed-owned, typed-state, typed-records, typed-leases, long, room, ref-state, ref-leases, word-slice, MutState, MutLeases, lends-mut, backs-mut}
+use Rattle.owned.proofs.Lends.{IsLedger, IsLeases, IsOwned, word-owned, its-ledger, its-records, its-leases, to-records, to-owned, is-records, is-owned, typed-owned, typed-ledger, typed-records, typed-leases, long, room, ref-ledger, ref-leases, word-slice, MutLedger, MutLeases, lends-mut, backs-mut}
 use Rattle.owned.proofs.serve.Key.{name as #owned·serve}
 use Rattle.owned.proofs.serve as f
 use Rattle.owned.proofs.serve.Statement as stated
@@ -42,8 +42,8 @@ module _ {M : Type 1} (𝓤 : URA M) (H : Heap 𝓤) (A : Atoms 𝓤) (mem : Mem
 
 module _ {M : Type 1} (𝓤 : URA M) (H : Heap 𝓤) (A : Atoms 𝓤) (W : Given 𝓤 H A) (mem : Memory → SProp 𝓤) (run : Routine → Fun 𝓤) (κ₀ κ₁ κ₂ : Lft) (q₀ q₁ q₂ : Share)
     (o : Owned) (b₀ i₀ : ℕ) (γ₀ : GName) (names : List ℕ) (b₁ i₁ : ℕ) (γ₁ : GName) (os : List ℕ) (m n : ℕ) (m-fits : m < 2 ^ 32) (n-fits : n < 2 ^ 32) (b₂ i₂ : ℕ) (γ₂ : GName) (ns : List ℕ) where
-  abbrev h : State
-  h = o .state
+  abbrev h : Ledger
+  h = o .ledger
 
   abbrev ys : List Lease
   ys = o .records .leases
@@ -83,51 +83,51 @@ module _ {M : Type 1} (𝓤 : URA M) (H : Heap 𝓤) (A : Atoms 𝓤) (W : Given
   Post = walkOf 𝓤 H A f.ended stayed (f.clauses 𝓤 H A mem run) .post (((κ₀, (κ₁, (κ₂, tt))), (q₀, (q₁, (q₂, tt))), tt, a, vals), tt)
 
   -- the result
-  abbrev served : Outcome → State → List Lease → OwnedCall
+  abbrev served : Outcome → Ledger → List Lease → OwnedCall
   served r h′ zs = record { outcome = r; owned = to-owned h′ zs }
 
-  abbrev word-served : Outcome → State → List Lease → Val
+  abbrev word-served : Outcome → Ledger → List Lease → Val
   word-served r h′ zs = LL.val Z.the-type Z′.the-laws (served r h′ zs)
 
-  is-served : (r : Outcome) (w : Val) (h′ : State) (zs : List Lease) → Is U.the-row r (w ∷ []) → IsState h′ → IsLeases zs → Is Z.the-row (served r h′ zs) (word-served r h′ zs ∷ [])
+  is-served : (r : Outcome) (w : Val) (h′ : Ledger) (zs : List Lease) → Is U.the-row r (w ∷ []) → IsLedger h′ → IsLeases zs → Is Z.the-row (served r h′ zs) (word-served r h′ zs ∷ [])
   is-served r w h′ zs is-r is-h is-zs =
       LL.owes Z.the-type Z′.the-laws (served r h′ zs) (LL.owes U.the-type U′.the-laws r (LL.owed U.the-type U′.the-laws r (w ∷ []) is-r), (is-owned h′ zs is-h is-zs, tt))
 
-  exits : (r : Outcome) (h′ : State) (zs : List Lease) (us : List ℕ) → Is Z.the-row (served r h′ zs) (word-served r h′ zs ∷ []) → ServesLent (serveLent h ys names c) h′ zs ns us r → length us ≡ length ns
+  exits : (r : Outcome) (h′ : Ledger) (zs : List Lease) (us : List ℕ) → Is Z.the-row (served r h′ zs) (word-served r h′ zs ∷ []) → ServesLent (serveLent h ys names c) h′ zs ns us r → length us ≡ length ns
       → ent 𝓤 (⋆ 𝓤 H A (‵ (flft κ₀ q₀) ∷ ‵ (flft κ₁ q₁) ∷ ‵ (flft κ₂ q₂) ∷ ‵ (finally u8 γ₂ us) ∷ [])) (Post (word-served r h′ zs))
   exits r h′ zs us is e len =
       qed W (‵ (flft κ₀ q₀) ∷ ‵ (flft κ₁ q₁) ∷ ‵ (flft κ₂ q₂) ∷ ‵ (finally u8 γ₂ us) ∷ []) ∵
       suffices ! _ (ends-at 𝓤 H A f.ended stayed (f.clauses 𝓤 H A mem run) W (((κ₀, (κ₁, (κ₂, tt))), (q₀, (q₁, (q₂, tt))), tt, a, vals), tt) (word-served r h′ zs) (served r h′ zs) (tt, (tt, (tt, (tt, (tt, (us, tt)))))) (tt, (tt, (tt, (tt, (tt, (len, tt))))))) $
-      says ! (record { tells = e .tells; state = e .state; leases = e .leases }) $
+      says ! (record { tells = e .tells; ledger = e .ledger; leases = e .leases }) $
       -- the tokens
       nothing ! $ move ! (3 ∷ 0 ∷ []) $ join ! $ move ! (2 ∷ 0 ∷ []) $ join ! $ move ! (1 ∷ 0 ∷ []) $ join ! $ frame ! $
       -- what is had of the parameters, and the result
       nothing ! $ move ! (1 ∷ 0 ∷ []) $ fjoin ! $ nothing ! $ fjoin ! $ nothing ! $ fjoin ! $ nothing ! $ fjoin ! $ nothing ! $ fjoin ! $ nothing ! $ fjoin ! $
       owned ! Z.the-row (Is Z.the-row) (LL.makes Z.the-type Z′.the-plain 𝓤 H A) (served r h′ zs) _ is $ move ! (1 ∷ 0 ∷ []) $ done !
 
-  -- the call of `lent::serve`, with the state in the local i lent for ν and the leases in the local j lent for μ
+  -- the call of `lent::serve`, with the ledger in the local i lent for ν and the leases in the local j lent for μ
   module _ (ν μ i j : ℕ) (γ δ : GName) where
-    abbrev to-args : RefT (List ℕ) × (ℕ × (ℕ × (RefT State × (RefT (List Lease) × (RefT (List ℕ) × (RefT (List ℕ) × Unit {0}))))))
-    to-args = (x₁, (m, (n, (ref-state i γ h, (ref-leases j δ ys, (x₀, (x₂, tt)))))))
+    abbrev to-args : RefT (List ℕ) × (ℕ × (ℕ × (RefT Ledger × (RefT (List Lease) × (RefT (List ℕ) × (RefT (List ℕ) × Unit {0}))))))
+    to-args = (x₁, (m, (n, (ref-ledger i γ h, (ref-leases j δ ys, (x₀, (x₂, tt)))))))
 
     -- what its triple binds outside, and what makes its `pre`
     abbrev to-serve : Serve 𝓤 H A mem run .Ghost
     to-serve = (((κ₁, (ν ∷ [], (μ ∷ [], (κ₀, (κ₂, tt))))), (q₁, (fullShare, (fullShare, (q₀, (q₂, tt))))), tt, to-args, (s₁ ∷ [], (vint w32 m ∷ [], (vint w32 n ∷ [], (vptr i 0 ∷ [], (word-slice j ∷ [], (s₀ ∷ [], (s₂ ∷ [], tt)))))))), tt)
 
-    goes-serve : ent 𝓤 (⋆ 𝓤 H A (‵ (flft κ₁ q₁) ∷ ‵ (flft (ν ∷ []) fullShare) ∷ ‵ (flft (μ ∷ []) fullShare) ∷ ‵ (flft κ₀ q₀) ∷ ‵ (flft κ₂ q₂) ∷ ‵ (ShrSlice (named 0) κ₁ u8 .own x₁ (s₁ ∷ [])) ∷ ‵ (MutState (ν ∷ []) i γ h) ∷ ‵ (MutLeases (μ ∷ []) j δ ys) ∷ ‵ (ShrSlice (named 1) κ₀ u8 .own x₀ (s₀ ∷ [])) ∷ ‵ (MutSlice (named 2) κ₂ u8 .own x₂ (s₂ ∷ [])) ∷ []))
+    goes-serve : ent 𝓤 (⋆ 𝓤 H A (‵ (flft κ₁ q₁) ∷ ‵ (flft (ν ∷ []) fullShare) ∷ ‵ (flft (μ ∷ []) fullShare) ∷ ‵ (flft κ₀ q₀) ∷ ‵ (flft κ₂ q₂) ∷ ‵ (ShrSlice (named 0) κ₁ u8 .own x₁ (s₁ ∷ [])) ∷ ‵ (MutLedger (ν ∷ []) i γ h) ∷ ‵ (MutLeases (μ ∷ []) j δ ys) ∷ ‵ (ShrSlice (named 1) κ₀ u8 .own x₀ (s₀ ∷ [])) ∷ ‵ (MutSlice (named 2) κ₂ u8 .own x₂ (s₂ ∷ [])) ∷ []))
         (Serve 𝓤 H A mem run .pre to-serve)
     goes-serve =
-        qed W (‵ (flft κ₁ q₁) ∷ ‵ (flft (ν ∷ []) fullShare) ∷ ‵ (flft (μ ∷ []) fullShare) ∷ ‵ (flft κ₀ q₀) ∷ ‵ (flft κ₂ q₂) ∷ ‵ (ShrSlice (named 0) κ₁ u8 .own x₁ (s₁ ∷ [])) ∷ ‵ (MutState (ν ∷ []) i γ h) ∷ ‵ (MutLeases (μ ∷ []) j δ ys) ∷ ‵ (ShrSlice (named 1) κ₀ u8 .own x₀ (s₀ ∷ [])) ∷ ‵ (MutSlice (named 2) κ₂ u8 .own x₂ (s₂ ∷ [])) ∷ []) ∵
+        qed W (‵ (flft κ₁ q₁) ∷ ‵ (flft (ν ∷ []) fullShare) ∷ ‵ (flft (μ ∷ []) fullShare) ∷ ‵ (flft κ₀ q₀) ∷ ‵ (flft κ₂ q₂) ∷ ‵ (ShrSlice (named 0) κ₁ u8 .own x₁ (s₁ ∷ [])) ∷ ‵ (MutLedger (ν ∷ []) i γ h) ∷ ‵ (MutLeases (μ ∷ []) j δ ys) ∷ ‵ (ShrSlice (named 1) κ₀ u8 .own x₀ (s₀ ∷ [])) ∷ ‵ (MutSlice (named 2) κ₂ u8 .own x₂ (s₂ ∷ [])) ∷ []) ∵
         nothing ! $ move ! (10 ∷ 0 ∷ []) $ fjoin ! $ move ! (9 ∷ 0 ∷ []) $ fjoin ! $ move ! (8 ∷ 0 ∷ []) $ fjoin ! $ move ! (7 ∷ 0 ∷ []) $ fjoin ! $
         owned ! u32 (Is u32) (uint-makes 𝓤 H A W w32) n _ (refl, n-fits) $ fjoin ! $ owned ! u32 (Is u32) (uint-makes 𝓤 H A W w32) m _ (refl, m-fits) $ fjoin ! $ move ! (6 ∷ 0 ∷ []) $ fjoin ! $
         nothing ! $ move ! (6 ∷ 0 ∷ []) $ join ! $ move ! (5 ∷ 0 ∷ []) $ join ! $ move ! (4 ∷ 0 ∷ []) $ join ! $ move ! (3 ∷ 0 ∷ []) $ join ! $ move ! (2 ∷ 0 ∷ []) $ join ! $ join ! $ nothing ! $ move ! (1 ∷ 0 ∷ []) $ done !
 
     -- what it leaves behind, beside the tokens and the result
-    abbrev Left : Unit {0} × (Unit {0} × (Unit {0} × (State × (List Lease × (Unit {0} × (List ℕ × Unit {0})))))) → Fml
+    abbrev Left : Unit {0} × (Unit {0} × (Unit {0} × (Ledger × (List Lease × (Unit {0} × (List ℕ × Unit {0})))))) → Fml
     Left ws = lasts serve′.ended (κ₁, (ν ∷ [], (μ ∷ [], (κ₀, (κ₂, tt))))) to-args ws
 
-  -- what it says of that, at the last state h′, the last leases zs and the last octets us
-  abbrev Says : Outcome → State → List Lease → List ℕ → Type 0
+  -- what it says of that, at the last ledger h′, the last leases zs and the last octets us
+  abbrev Says : Outcome → Ledger → List Lease → List ℕ → Type 0
   Says r h′ zs us = ServesLent (serveLent h ys names c) h′ zs ns us r
 
   module _ (C : Calls 𝓤 H) (Λ : Loops 𝓤 H) (fm : FmC 𝓤 H (W .laws) C) (known : Triple 𝓤 (C #lent·serve) (Serve 𝓤 H A mem run)) where
@@ -141,8 +141,8 @@ module _ {M : Type 1} (𝓤 : URA M) (H : Heap 𝓤) (A : Atoms 𝓤) (W : Given
         alloc1 ! (λ l₁₄. alloc1 ! (λ l₁₅. alloc1 ! (λ l₁₆. alloc1 ! (λ l₁₇. alloc1 ! (λ l₁₈. alloc1 ! (λ l₁₉. alloc0 ! $ params1 ! $
         pass1 ! (init ! 36 refl (typed-owned 𝓤 H A W o is)) $ pass1 ! (init ! 34 refl (tt, (tt, (record { fits = fits₀ .0 }, tt)))) $ pass1 ! (init ! 32 refl (tt, (tt, (record { fits = fits₁ .0 }, tt)))) $
         pass1 ! (init ! 30 refl (tt, record { fits = m-fits })) $ pass1 ! (init ! 28 refl (tt, record { fits = n-fits })) $ pass1 ! (init ! 26 refl (tt, (tt, (record { fits = fits₂ .0 }, tt)))) $ pass0 ! $
-        -- [_19; …; _18; …; …; _1; …; room for _0; …; the names; [κ₀]; the datagram; [κ₁]; the reply buffer; [κ₂]]: the state and the lease records are copied
-        assigns ! (of-opd ! (load ! (from ! (fld ! refl (stop !))) (look-in ! 36 (sub ! 0 refl (whole !))))) (from ! (stop !)) (init ! 24 refl (typed-state 𝓤 H A W h (its-state o is))) $
+        -- [_19; …; _18; …; …; _1; …; room for _0; …; the names; [κ₀]; the datagram; [κ₁]; the reply buffer; [κ₂]]: the ledger and the lease records are copied
+        assigns ! (of-opd ! (load ! (from ! (fld ! refl (stop !))) (look-in ! 36 (sub ! 0 refl (whole !))))) (from ! (stop !)) (init ! 24 refl (typed-ledger 𝓤 H A W h (its-ledger o is))) $
         assigns ! (of-opd ! (load ! (from ! (fld ! refl (stop !))) (look-in ! 36 (sub ! 1 refl (whole !))))) (from ! (stop !)) (init ! 22 refl (typed-records 𝓤 H A W (o .records) (its-records o is))) $
         assigns ! (of-opd ! (load ! (from ! (fld ! refl (stop !))) (look-in ! 22 (sub ! 0 refl (whole !))))) (from ! (stop !)) (init ! 20 refl (typed-leases 𝓤 H A W ys (its-leases o is))) $
         -- the references
@@ -152,25 +152,25 @@ module _ {M : Type 1} (𝓤 : URA M) (H : Heap 𝓤) (A : Atoms 𝓤) (W : Given
         assigns ! (addr ! (from ! (fld ! refl (hop ! (look-in ! 26 (sub ! 0 refl (whole !))) (stop !))))) (from ! (stop !)) (init ! 10 refl (tt, tt)) $
         assigns ! (agg ! (and-then ! (load ! (from ! (stop !)) (look ! 10 refl)) (and-then ! (load ! (from ! (fld ! refl (stop !))) (look-in ! 26 (sub ! 1 refl (whole !)))) (no-more !)))) (from ! (stop !)) (init ! 8 refl (tt, (tt, (record { fits = fits₂ .0 }, tt)))) $
         -- the locals are lent, and go to `lent::serve` with the datagram, the client, the time, the names and the reply buffer
-        move ! (24 ∷ 20 ∷ []) $ lends-mut ! tt l₇ l₉ h ys (its-state o is) (its-leases o is) (λ ν μ γ δ.
-        -- [[ν]; [μ]; the `&mut State`; the `&mut [Lease]`; what brings _7 and _9 back; _19; …; …; _10; …; (_9) …; _8; …; (_7) …; _6; …; …; _1; …; room for _0; …; the names; [κ₀]; the datagram; [κ₁]; the reply buffer; [κ₂]]
+        move ! (24 ∷ 20 ∷ []) $ lends-mut ! tt l₇ l₉ h ys (its-ledger o is) (its-leases o is) (λ ν μ γ δ.
+        -- [[ν]; [μ]; the `&mut Ledger`; the `&mut [Lease]`; what brings _7 and _9 back; _19; …; …; _10; …; (_9) …; _8; …; (_7) …; _6; …; …; _1; …; room for _0; …; the names; [κ₀]; the datagram; [κ₁]; the reply buffer; [κ₂]]
         move ! (46 ∷ 0 ∷ 1 ∷ 44 ∷ 48 ∷ 45 ∷ 2 ∷ 3 ∷ 43 ∷ 47 ∷ []) $ group ! 10 $ use1 W (raw (Serve 𝓤 H A mem run .pre (to-serve ν μ l₇ l₉ γ δ))) (goes-serve ν μ l₇ l₉ γ δ) $
         -- [the `pre`; what brings _7 and _9 back; _19; …; …; _10; …; (_9) …; _8; …; (_7) …; _6; …; …; _1; …; room for _0; …]
         calls-at ! fm (Serve 𝓤 H A mem run) known (to-serve ν μ l₇ l₉ γ δ) (and-then ! (load ! (from ! (stop !)) (look ! 32 refl)) (and-then ! (load ! (from ! (stop !)) (look ! 30 refl)) (and-then ! (load ! (from ! (stop !)) (look ! 28 refl))
         (and-then ! (load ! (from ! (stop !)) (look ! 18 refl)) (and-then ! (load ! (from ! (stop !)) (look ! 14 refl)) (and-then ! (load ! (from ! (stop !)) (look ! 34 refl)) (and-then ! (load ! (from ! (stop !)) (look ! 10 refl)) (no-more !)))))))) (λ w.
         use1 W (later (some (λ (r : Outcome). ((‵ (flft κ₁ q₁) ⊛ ‵ (flft (ν ∷ []) fullShare) ⊛ ‵ (flft (μ ∷ []) fullShare) ⊛ ‵ (flft κ₀ q₀) ⊛ ‵ (flft κ₂ q₂) ⊛ ‵ ftrue) ⊛ ‵ (U.the-row .own r (w ∷ [])))
         ⊛ raw (ensured 𝓤 H A serve′.ended (serve′.clauses 𝓤 H A mem run) (κ₁, (ν ∷ [], (μ ∷ [], (κ₀, (κ₂, tt))))) (to-args ν μ l₇ l₉ γ δ) tt r)))) (id⊢ 𝓤 _) $ await ! tt $ pick ! (λ r.
-        split ! $ move ! (1 ∷ []) $ use1 W (some (λ (ws : Unit {0} × (Unit {0} × (Unit {0} × (State × (List Lease × (Unit {0} × (List ℕ × Unit {0}))))))). ‵ (Left ν μ l₇ l₉ γ δ ws) ⊛ raw (fact 𝓤 (Says r (ws .1 .1 .1 .0) (ws .1 .1 .1 .1 .0) (ws .1 .1 .1 .1 .1 .1 .0))))) (id⊢ 𝓤 _) $ pick ! (λ ws.
+        split ! $ move ! (1 ∷ []) $ use1 W (some (λ (ws : Unit {0} × (Unit {0} × (Unit {0} × (Ledger × (List Lease × (Unit {0} × (List ℕ × Unit {0}))))))). ‵ (Left ν μ l₇ l₉ γ δ ws) ⊛ raw (fact 𝓤 (Says r (ws .1 .1 .1 .0) (ws .1 .1 .1 .1 .0) (ws .1 .1 .1 .1 .1 .1 .0))))) (id⊢ 𝓤 _) $ pick ! (λ ws.
         split ! $ move ! (1 ∷ []) $ heard ! (Says r (ws .1 .1 .1 .0) (ws .1 .1 .1 .1 .0) (ws .1 .1 .1 .1 .1 .1 .0)) (λ e.
         -- [what it leaves of its parameters; the tokens and the result; what brings _7 and _9 back; _19; …]
         fsplit ! $ drop ! $ fsplit ! $ drop ! $ fsplit ! $ drop ! $ fsplit ! $ move ! (1 ∷ []) $ fsplit ! $ fsplit ! $ move ! (1 ∷ []) $ feqL ! (λ len. move ! (1 ∷ []) $ fsplit ! $ drop ! $ fsplit ! $ fsplit ! $ move ! (1 ∷ []) $ feqL ! (λ len′.
-        -- [the last octets; true; the last leases; the last state; the tokens and the result; what brings _7 and _9 back; _19; …]
+        -- [the last octets; true; the last leases; the last ledger; the tokens and the result; what brings _7 and _9 back; _19; …]
         move ! (4 ∷ []) $ split ! $ move ! (1 ∷ []) $ facts ! U.the-row (Is U.the-row) (shows 𝓤 H A U.the-row) r (w ∷ []) (λ is-r. split ! $ move ! (1 ∷ []) $ split ! $ move ! (1 ∷ []) $ split ! $ move ! (1 ∷ []) $ split ! $ move ! (1 ∷ []) $ split ! $
-        -- [[κ₂]; true; [κ₀]; [μ]; [ν]; [κ₁]; the last octets; true; the last leases; the last state; what brings _7 and _9 back; _19; …]
+        -- [[κ₂]; true; [κ₀]; [μ]; [ν]; [κ₁]; the last octets; true; the last leases; the last ledger; what brings _7 and _9 back; _19; …]
         land ! (from ! (stop !)) (init ! 29 refl (LL.lawful U.the-type U′.the-laws 𝓤 H A W .typed r _ is-r .0)) $ rewrite ! 29 (λ (u : Val). ‵ (fat fullShare U′.mir l₁₀ 0 u)) (ap only (LL.tells U.the-type U′.the-laws r _ is-r)) refl $
         move ! (4 ∷ 3 ∷ 9 ∷ 8 ∷ 10 ∷ []) $ backs-mut ! tt ν μ l₇ l₉ γ δ (ws .1 .1 .1 .0) (ws .1 .1 .1 .1 .0) (len ∙ long ys (its-leases o is)) (λ is-h is-zs.
         -- [_7; _9; [κ₂]; true; [κ₀]; [κ₁]; the last octets; true; _19; …; …; _10; …; (_9) …; _8; …; (_7) …; _6; …; …; _1; …; room for _0; …]: the result is put together
-        assigns ! (of-opd ! (load ! (from ! (stop !)) (look ! 0 refl))) (from ! (stop !)) (init ! 14 refl (typed-state 𝓤 H A W (ws .1 .1 .1 .0) is-h)) $
+        assigns ! (of-opd ! (load ! (from ! (stop !)) (look ! 0 refl))) (from ! (stop !)) (init ! 14 refl (typed-ledger 𝓤 H A W (ws .1 .1 .1 .0) is-h)) $
         assigns ! (of-opd ! (load ! (from ! (stop !)) (look ! 1 refl))) (from ! (stop !)) (init ! 12 refl (typed-leases 𝓤 H A W (ws .1 .1 .1 .1 .0) is-zs)) $
         assigns ! (agg ! (and-then ! (load ! (from ! (stop !)) (look ! 12 refl)) (no-more !))) (from ! (stop !)) (init ! 10 refl (typed-records 𝓤 H A W (to-records (ws .1 .1 .1 .1 .0)) (is-records (ws .1 .1 .1 .1 .0) is-zs))) $
         assigns ! (agg ! (and-then ! (load ! (from ! (stop !)) (look ! 14 refl)) (and-then ! (load ! (from ! (stop !)) (look ! 10 refl)) (no-more !)))) (from ! (stop !)) (init ! 8 refl (typed-owned 𝓤 H A W (to-owned (ws .1 .1 .1 .0) (ws .1 .1 .1 .1 .0)) (is-owned (ws .1 .1 .1 .0) (ws .1 .1 .1 .1 .0) is-h is-zs))) $

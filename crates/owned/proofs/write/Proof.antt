@@ -1,9 +1,9 @@
--- `owned::write` meets its contract: a walk of its MIR, by hand. The state and the lease records are copied into locals, which are lent as `&` to `lent::write`, and come back as they were.
+-- `owned::write` meets its contract: a walk of its MIR, by hand. The ledger and the lease records are copied into locals, which are lent as `&` to `lent::write`, and come back as they were.
 -- The room is passed on at its own lifetime, share and ghost name, so what `lent::write` says of the last octets is said of the room's (`gave-slice`). Of `lent::write` the proof knows only that it meets its contract.
 use Rattle.lent.proofs.Walk.{stands, shrSliceOf, ShrSlice, shr-slice-tells, says-both, _≡_, refl, ℕ, [], _∷_, List, length, URA, fullShare, named, Val, vptr, SProp, ent, emp, via, fst∗, id⊢, Lft, Share, GName, Fml, ftrue, flft, Memory, Routine, Heap, Calls, Loops, WpFn, Atoms, Fun, fact, givenOf, tables, tablesOf, Given, ‵, raw, _⊛_, some, later, ⋆, _$_, _∵_, !, qed, by, move, keep, drop, group, use1, split, split3, join, pick, fsplit, fjoin, feqL, suffices, frame, await, done, look, init, forget, stop, hop, fld, from, load, lit, of-opd, addr, and-then, no-more, assigns, land, returns, enter, alloc1, alloc0, params1, pass1, pass0, free1, free0, whole, sub, look-in, agg, FmC, owns, Is, shows, u8, RefT, sliceVal, slice-vals, mut-slice-tells, MutSlice, Room, finally, owned, facts, heard, nothing, plain, Contract, Triple, calls-at, onEntry, tripleOf, cited, Stays, stay-dropped, gave-slice, walkOf, AllGo, goes-dropped, goes-gave-slice, Walks, ends-at, walked, ensured, lasts, yes}
 use denote.Struct.Laws as LL
 use Rattle.state.specs.declared.Lease.{Lease}
-use Rattle.state.specs.declared.State.{State}
+use Rattle.state.specs.declared.Ledger.{Ledger}
 use Rattle.state_file.specs.declared.Written.{Written}
 use Rattle.records.specs.Lent.{writtenLent, roomLent}
 use Rattle.owned.specs.declared.Owned.{Owned}
@@ -15,7 +15,7 @@ use Rattle.lent.proofs.write.Symbol.{name as #lent·write}
 use Rattle.lent.proofs.write.Met as write-thm
 use Rattle.owned.proofs.Owned as O
 use Rattle.owned.proofs.Owned.Laws as O′
-use Rattle.owned.proofs.Lends.{IsOwned, word-owned, its-state, its-records, its-leases, typed-owned, typed-state, typed-records, typed-leases, long, room, ref-state, ref-leases, word-slice, ShrState, ShrLeases, lends-shr, backs-shr}
+use Rattle.owned.proofs.Lends.{IsOwned, word-owned, its-ledger, its-records, its-leases, typed-owned, typed-ledger, typed-records, typed-leases, long, room, ref-ledger, ref-leases, word-slice, ShrLedger, ShrLeases, lends-shr, backs-shr}
 use Rattle.owned.proofs.write.Key.{name as #owned·write}
 use Rattle.owned.proofs.write as f
 use Rattle.owned.proofs.write.Statement as stated
@@ -31,8 +31,8 @@ module _ {M : Type 1} (𝓤 : URA M) (H : Heap 𝓤) (A : Atoms 𝓤) (mem : Mem
 
 module _ {M : Type 1} (𝓤 : URA M) (H : Heap 𝓤) (A : Atoms 𝓤) (W : Given 𝓤 H A) (mem : Memory → SProp 𝓤) (run : Routine → Fun 𝓤) (κ₀ κ₁ : Lft) (q₀ q₁ : Share)
     (o : Owned) (b₀ i₀ : ℕ) (γ₀ : GName) (names : List ℕ) (b₁ i₁ : ℕ) (γ : GName) (os : List ℕ) where
-  abbrev h : State
-  h = o .state
+  abbrev h : Ledger
+  h = o .ledger
 
   abbrev ys : List Lease
   ys = o .records .leases
@@ -73,19 +73,19 @@ module _ {M : Type 1} (𝓤 : URA M) (H : Heap 𝓤) (A : Atoms 𝓤) (W : Given
       nothing ! $ move ! (1 ∷ 0 ∷ []) $ fjoin ! $ nothing ! $ fjoin ! $ nothing ! $ fjoin ! $
       owned ! Z.the-row (Is Z.the-row) (LL.makes Z.the-type Z′.the-plain 𝓤 H A) r _ is $ move ! (1 ∷ 0 ∷ []) $ done !
 
-  -- the call of `lent::write`, with the state in the local c lent for ν and the leases in the local d lent for μ
+  -- the call of `lent::write`, with the ledger in the local c lent for ν and the leases in the local d lent for μ
   module _ (ν μ c d : ℕ) (γ₁ γ₂ : GName) where
-    abbrev to-args : RefT State × (RefT (List Lease) × (RefT (List ℕ) × (RefT (List ℕ) × Unit {0})))
-    to-args = (ref-state c γ₁ h, (ref-leases d γ₂ ys, (x₀, (x₁, tt))))
+    abbrev to-args : RefT Ledger × (RefT (List Lease) × (RefT (List ℕ) × (RefT (List ℕ) × Unit {0})))
+    to-args = (ref-ledger c γ₁ h, (ref-leases d γ₂ ys, (x₀, (x₁, tt))))
 
     -- what its triple binds outside, and what makes its `pre`
     abbrev to-write : Write 𝓤 H A mem run .Ghost
     to-write = (((ν ∷ [], (μ ∷ [], (κ₀, (κ₁, tt)))), (fullShare, (fullShare, (q₀, (q₁, tt)))), tt, to-args, (vptr c 0 ∷ [], (word-slice d ∷ [], (s₀ ∷ [], (s₁ ∷ [], tt))))), tt)
 
-    goes-write : ent 𝓤 (⋆ 𝓤 H A (‵ (flft (ν ∷ []) fullShare) ∷ ‵ (flft (μ ∷ []) fullShare) ∷ ‵ (flft κ₀ q₀) ∷ ‵ (flft κ₁ q₁) ∷ ‵ (ShrState (ν ∷ []) c γ₁ h) ∷ ‵ (ShrLeases (μ ∷ []) d γ₂ ys) ∷ ‵ (ShrSlice (named 0) κ₀ u8 .own x₀ (s₀ ∷ [])) ∷ ‵ (MutSlice (named 1) κ₁ u8 .own x₁ (s₁ ∷ [])) ∷ []))
+    goes-write : ent 𝓤 (⋆ 𝓤 H A (‵ (flft (ν ∷ []) fullShare) ∷ ‵ (flft (μ ∷ []) fullShare) ∷ ‵ (flft κ₀ q₀) ∷ ‵ (flft κ₁ q₁) ∷ ‵ (ShrLedger (ν ∷ []) c γ₁ h) ∷ ‵ (ShrLeases (μ ∷ []) d γ₂ ys) ∷ ‵ (ShrSlice (named 0) κ₀ u8 .own x₀ (s₀ ∷ [])) ∷ ‵ (MutSlice (named 1) κ₁ u8 .own x₁ (s₁ ∷ [])) ∷ []))
         (Write 𝓤 H A mem run .pre to-write)
     goes-write =
-        qed W (‵ (flft (ν ∷ []) fullShare) ∷ ‵ (flft (μ ∷ []) fullShare) ∷ ‵ (flft κ₀ q₀) ∷ ‵ (flft κ₁ q₁) ∷ ‵ (ShrState (ν ∷ []) c γ₁ h) ∷ ‵ (ShrLeases (μ ∷ []) d γ₂ ys) ∷ ‵ (ShrSlice (named 0) κ₀ u8 .own x₀ (s₀ ∷ [])) ∷ ‵ (MutSlice (named 1) κ₁ u8 .own x₁ (s₁ ∷ [])) ∷ []) ∵
+        qed W (‵ (flft (ν ∷ []) fullShare) ∷ ‵ (flft (μ ∷ []) fullShare) ∷ ‵ (flft κ₀ q₀) ∷ ‵ (flft κ₁ q₁) ∷ ‵ (ShrLedger (ν ∷ []) c γ₁ h) ∷ ‵ (ShrLeases (μ ∷ []) d γ₂ ys) ∷ ‵ (ShrSlice (named 0) κ₀ u8 .own x₀ (s₀ ∷ [])) ∷ ‵ (MutSlice (named 1) κ₁ u8 .own x₁ (s₁ ∷ [])) ∷ []) ∵
         nothing ! $ move ! (8 ∷ 0 ∷ []) $ fjoin ! $ move ! (7 ∷ 0 ∷ []) $ fjoin ! $ move ! (6 ∷ 0 ∷ []) $ fjoin ! $ move ! (5 ∷ 0 ∷ []) $ fjoin ! $
         nothing ! $ move ! (5 ∷ 0 ∷ []) $ join ! $ move ! (4 ∷ 0 ∷ []) $ join ! $ move ! (3 ∷ 0 ∷ []) $ join ! $ move ! (2 ∷ 0 ∷ []) $ join ! $ join ! $ nothing ! $ move ! (1 ∷ 0 ∷ []) $ done !
 
@@ -102,8 +102,8 @@ module _ {M : Type 1} (𝓤 : URA M) (H : Heap 𝓤) (A : Atoms 𝓤) (W : Given
         enter ! C Λ code.function (word-owned o ∷ s₀ ∷ s₁ ∷ []) _ $
         alloc1 ! (λ l₀. alloc1 ! (λ l₁. alloc1 ! (λ l₂. alloc1 ! (λ l₃. alloc1 ! (λ l₄. alloc1 ! (λ l₅. alloc1 ! (λ l₆. alloc1 ! (λ l₇. alloc1 ! (λ l₈. alloc1 ! (λ l₉. alloc1 ! (λ l₁₀. alloc1 ! (λ l₁₁. alloc0 ! $ params1 ! $
         pass1 ! (init ! 20 refl (typed-owned 𝓤 H A W o is)) $ pass1 ! (init ! 18 refl (tt, (tt, (record { fits = fits₀ .0 }, tt)))) $ pass1 ! (init ! 16 refl (tt, (tt, (record { fits = fits₁ .0 }, tt)))) $ pass0 ! $
-        -- [_11; …; _10; …; _9; …; _8; …; _7; …; _6; …; _5; …; _4; …; _3; …; _2; …; _1; …; room for _0; …; the names; [κ₀]; the room; [κ₁]]: the state and the lease records are copied
-        assigns ! (of-opd ! (load ! (from ! (fld ! refl (stop !))) (look-in ! 20 (sub ! 0 refl (whole !))))) (from ! (stop !)) (init ! 14 refl (typed-state 𝓤 H A W h (its-state o is))) $
+        -- [_11; …; _10; …; _9; …; _8; …; _7; …; _6; …; _5; …; _4; …; _3; …; _2; …; _1; …; room for _0; …; the names; [κ₀]; the room; [κ₁]]: the ledger and the lease records are copied
+        assigns ! (of-opd ! (load ! (from ! (fld ! refl (stop !))) (look-in ! 20 (sub ! 0 refl (whole !))))) (from ! (stop !)) (init ! 14 refl (typed-ledger 𝓤 H A W h (its-ledger o is))) $
         assigns ! (of-opd ! (load ! (from ! (fld ! refl (stop !))) (look-in ! 20 (sub ! 1 refl (whole !))))) (from ! (stop !)) (init ! 12 refl (typed-records 𝓤 H A W (o .records) (its-records o is))) $
         assigns ! (of-opd ! (load ! (from ! (fld ! refl (stop !))) (look-in ! 12 (sub ! 0 refl (whole !))))) (from ! (stop !)) (init ! 10 refl (typed-leases 𝓤 H A W ys (its-leases o is))) $
         -- the references
@@ -113,8 +113,8 @@ module _ {M : Type 1} (𝓤 : URA M) (H : Heap 𝓤) (A : Atoms 𝓤) (W : Given
         assigns ! (addr ! (from ! (fld ! refl (hop ! (look-in ! 16 (sub ! 0 refl (whole !))) (stop !))))) (from ! (stop !)) (init ! 2 refl (tt, tt)) $
         assigns ! (agg ! (and-then ! (load ! (from ! (stop !)) (look ! 2 refl)) (and-then ! (load ! (from ! (fld ! refl (stop !))) (look-in ! 16 (sub ! 1 refl (whole !)))) (no-more !)))) (from ! (stop !)) (init ! 0 refl (tt, (tt, (record { fits = fits₁ .0 }, tt)))) $
         -- the locals are lent, and go to `lent::write` with the names and the room
-        move ! (14 ∷ 10 ∷ []) $ lends-shr ! tt l₄ l₆ h ys (its-state o is) (its-leases o is) (λ ν μ γ₁ γ₂.
-        -- [[ν]; [μ]; the `&State`; the `&[Lease]`; what brings _4 and _6 back; _11; …; _10; …; _9; …; _8; …; _7; …; (_6) …; _5; …; (_4) …; _3; …; _2; …; _1; …; room for _0; …; the names; [κ₀]; the room; [κ₁]]
+        move ! (14 ∷ 10 ∷ []) $ lends-shr ! tt l₄ l₆ h ys (its-ledger o is) (its-leases o is) (λ ν μ γ₁ γ₂.
+        -- [[ν]; [μ]; the `&Ledger`; the `&[Lease]`; what brings _4 and _6 back; _11; …; _10; …; _9; …; _8; …; _7; …; (_6) …; _5; …; (_4) …; _3; …; _2; …; _1; …; room for _0; …; the names; [κ₀]; the room; [κ₁]]
         move ! (0 ∷ 1 ∷ 28 ∷ 30 ∷ 2 ∷ 3 ∷ 27 ∷ 29 ∷ []) $ group ! 8 $ use1 W (raw (Write 𝓤 H A mem run .pre (to-write ν μ l₄ l₆ γ₁ γ₂))) (goes-write ν μ l₄ l₆ γ₁ γ₂) $
         -- [the `pre`; what brings _4 and _6 back; _11; …; _10; …; _9; …; _8; …; _7; …; (_6) …; _5; …; (_4) …; _3; …; _2; …; _1; …; room for _0; …]
         calls-at ! fm (Write 𝓤 H A mem run) known (to-write ν μ l₄ l₆ γ₁ γ₂) (and-then ! (load ! (from ! (stop !)) (look ! 10 refl)) (and-then ! (load ! (from ! (stop !)) (look ! 6 refl)) (and-then ! (load ! (from ! (stop !)) (look ! 18 refl)) (and-then ! (load ! (from ! (stop !)) (look ! 2 refl)) (no-more !))))) (λ w.

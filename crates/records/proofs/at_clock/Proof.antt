@@ -1,7 +1,9 @@
 -- `at_clock` meets its contract: by test 3, and by whether something is edited.
 use mathlib.Core.Path.{refl}
-use Rattle.records.proofs.Typed.{records-size}
-use Rattle.records.specs.laws.Call.{at-edited, at-same, at-unknown, names-for}
+use Rattle.releases.specs.laws.Tenants.{noReleases}
+use Rattle.records.proofs.Typed.{memory-size, records-size}
+use Rattle.records.specs.laws.Call.{at-edited, at-same, at-unknown, names-for, own-releases}
+use Rattle.lists.specs.laws.Part.{unmapped}
 use borrow.Author.Needs.{needs}
 use Rattle.records.proofs.at_clock.Statement.{statement}
 use Rattle.records.proofs.at_clock.Tie as tie
@@ -9,26 +11,33 @@ use Rattle.records.proofs.at_clock.Tie as tie
 -- tests 1 and 3 have shown what `on_tenant` asks for
 on-tenant-requires : tie.Need-on-tenant-requires
 on-tenant-requires c κs =
-    let at-if1 = c .before .before in
+    let at-if1 = c .before .before .before in
     let start = at-if1 .before .before .before .before .before .before in
     (start .pre .0, names-for _ _ _ (start .pre .1) (at-if1 .before .cut8 .ensures) (at-if1 .if1 .taken))
 
+-- `t2` is `memory`, which the code copies under another name
 returns : tie.Need-returns
 returns c =
-    let at-on = c .before .before .before .before .before .before .before .before in
-    let at-row = at-on .before .before in
+    let at-on = c .before .before .before .before .before .before .before .before .before in
+    let at-row = at-on .before .before .before in
     let at-tenant = at-row .before .before .before in
     let start = at-tenant .before .before .before .before in
-    at-edited _ _ _ _ _ (records-size (start .args .records) _ (start .good .1 .0)) (at-tenant .tenant-of .ensures) (at-row .before .before .cut8 .ensures) (at-row .before .if1 .taken) (start .pre .1) (at-row .row .ensures) (at-on .on-tenant .ensures)
-    (c .before .edited .ensures) (c .put-row .ensures)
+    let cut = at-row .before .before .cut8 .ensures in
+    let known = at-row .before .if1 .taken in
+    at-edited _ _ _ _ _ (records-size (start .args .records) _ (start .good .1 .1 .0)) (at-tenant .tenant-of .ensures) cut known
+    (start .pre .1) (at-row .row .ensures) (own-releases (start .args .t2) (start .args .s) noReleases (memory-size (start .args .t2) _ (start .good .1 .0)) cut known) (at-on .on-tenant .ensures)
+    (c .before .before .edited .ensures) (c .before .put-row .ensures) (c .note .ensures)
 
 returns-2 : tie.Need-returns-2
 returns-2 c =
     let at-on = c .before .before .before .before .before .before in
-    let at-row = at-on .before .before in
+    let at-row = at-on .before .before .before in
     let at-tenant = at-row .before .before .before in
     let start = at-tenant .before .before .before .before in
-    at-same _ _ _ _ _ (records-size (start .args .records) _ (start .good .1 .0)) (at-tenant .tenant-of .ensures) (at-row .before .before .cut8 .ensures) (at-row .before .if1 .taken) (start .pre .1) (at-row .row .ensures) (at-on .on-tenant .ensures)
+    let cut = at-row .before .before .cut8 .ensures in
+    let known = at-row .before .if1 .taken in
+    at-same _ _ _ _ _ (records-size (start .args .records) _ (start .good .1 .1 .0)) (at-tenant .tenant-of .ensures) cut known
+    (start .pre .1) (at-row .row .ensures) (own-releases (start .args .t2) (start .args .s) noReleases (memory-size (start .args .t2) _ (start .good .1 .0)) cut known) (at-on .on-tenant .ensures)
     (c .before .is-edit .ensures) (c .if2 .left) refl
 
 returns-3 : tie.Need-returns-3
@@ -36,7 +45,7 @@ returns-3 c =
     let at-if1 = c .before in
     let at-tenant = at-if1 .before .before in
     let start = at-tenant .before .before .before .before in
-    at-unknown _ _ _ _ _ (records-size (start .args .records) _ (start .good .1 .0)) (at-tenant .tenant-of .ensures) (at-if1 .before .cut8 .ensures) (at-if1 .if1 .left) refl (c .discard .ensures)
+    at-unknown _ _ _ _ _ (records-size (start .args .records) _ (start .good .1 .1 .0)) (at-tenant .tenant-of .ensures) (at-if1 .before .cut8 .ensures) (at-if1 .if1 .left) refl (c .discard .ensures)
 
 pub at-clock-spec : {M : Type 1} → statement M
 at-clock-spec =
@@ -45,10 +54,15 @@ at-clock-spec =
     (λ c κs. search needs)
     (λ c κs. search needs)
     (λ c κs. search needs)
+    (λ c. search (unmapped, needs))
+    (λ c. search (unmapped, needs))
     on-tenant-requires
     (λ c κs. search needs)
     (λ c κs. search needs)
     (λ c κs. search needs)
+    (λ c κs. search needs)
+    (λ c. search (unmapped, needs))
+    (λ c. search (unmapped, needs))
     (λ c. search needs)
     returns
     (λ c. search needs)

@@ -1,4 +1,4 @@
--- `is_sound` meets its contract: the rules, and then the names.
+-- `is_sound` meets its contract: the rules, what is remembered, and then the names.
 use Rattle.lists.specs.laws.Both.{and-no, and-yes}
 use borrow.Author.Needs.{needs}
 use Rattle.records.proofs.is_sound.Statement.{statement}
@@ -10,5 +10,7 @@ is-sound-spec =
     (tie.spec
     (λ c κs. search needs)
     (λ c κs. search needs)
+    (λ c κs. search needs)
     (λ c. search (and-yes, needs))
+    (λ c. search (and-yes, and-no, needs))
     (λ c. search (and-no, needs)))

@@ -1,29 +1,34 @@
--- Laws: the call on 128 records by value: tests 1 to 3, the drop, and the edit of the records of the client's tenant.
+-- Laws: the call on 128 records by value: tests 1 to 3, the drop, and the edit of the records and the releases of the client's tenant.
 use mathlib.Core.Path.{_≡_, refl, sym, ap, ap₂, _∙_, subst}
 use mathlib.Core.Bool.{Bool, true, false, _&&_, _||_, true≢false}
 use mathlib.Core.List.{List, [], map}
 use Prim.Native.Nat.{ℕ, _≤_, _<_}
 use native.Mathlib.Omega.{arith}
-use lib.ListN.{length, length-map}
+use lib.ListN.{length, getD, length-map}
 use lib.Seq.{set-getD}
 use Rattle.lists.specs.Pick.{pick}
 use Rattle.lists.specs.laws.Both.{and-parts}
+use Rattle.lists.specs.laws.Row.{at-in}
 use Rattle.lists.specs.All.{All, allBy}
 use Rattle.message.specs.Read.{readOf}
 use Rattle.reply.specs.Reply.{leastRoom}
 use Rattle.state.specs.declared.Edit.{Edit}
 use Rattle.state.specs.declared.Lease.{Lease}
 use Rattle.state.specs.declared.LeaseTable.{LeaseTable}
+use Rattle.state.specs.declared.Ledger.{Ledger}
+use Rattle.state.specs.declared.Memory.{Memory}
 use Rattle.state.specs.declared.State.{State}
 use Rattle.state.specs.declared.TenantLeases.{TenantLeases}
-use Rattle.state.specs.Book.{Book, advanced, dropped, idOf, inUse, insertedIn, laidOut, leasesOf, liveOf, putAt, raised, removeOf, tableOf, tenantAt}
-use Rattle.state.specs.Edit.{applied, editedIn, leftIn}
+use Rattle.state.specs.declared.TenantReleases.{TenantReleases}
+use Rattle.state.specs.Book.{Book, advanced, dropped, idOf, inUse, insertedIn, laidOut, laidReleases, leasesOf, liveOf, putAt, putReleases, raised, releasesAt, remembered, removeOf, tableOf, tenantAt}
+use Rattle.state.specs.Edit.{applied, editedIn, forgetOf, leftIn, noted, notedIn, rememberOf}
 use Rattle.state.specs.laws.Layout.{advanced-is, table-back}
 use Rattle.soundness.specs.declared.HeldTable.{HeldTable}
 use Rattle.soundness.specs.declared.TableRules.{TableRules}
 use Rattle.names.specs.Names.{namesB}
-use Rattle.soundness.specs.Named.{bookB}
-use Rattle.soundness.specs.laws.Named.{advanced-book, book-named, book-sound, both-book}
+use Rattle.releases.specs.Whole.{bookB}
+use Rattle.releases.specs.laws.Whole.{advanced-book, book-named, book-sound, both-book}
+use Rattle.releases.specs.Rules.{memoryB}
 use Rattle.soundness.specs.Sound.{soundB, tenantsIn}
 use Rattle.soundness.specs.Parts.{holdingsOf, soundFrom, tableRulesOf}
 use Rattle.soundness.specs.laws.Kept.{advanced-sound}
@@ -45,26 +50,29 @@ serves-as : {a b : LentAnswer} {x y : List ℕ} {r : ServedRecords} → a ≡ b 
 serves-as {x = x} {y} {r} e v = subst (λ (z : LentAnswer). ServesRecords z x y r) e v
 
 -- a discard gives back what it got
-abbrev none : ℕ → State → List Lease → LentAnswer
-none k s ls = record { outcome = k; reply = []; state = s; leases = ls }
+abbrev none : ℕ → Ledger → List Lease → LentAnswer
+none k g ls = record { outcome = k; reply = []; ledger = g; leases = ls }
 
-stays : (k : ℕ) (s : State) (ls : List Lease) {m : Records} {x : List ℕ} {r : ServedRecords} → m .leases ≡ ls → length ls ≡ 128
-    → r ≡ record { outcome = record { outcome = k; length = 0 }; clock = s .clock; records = m } → ServesRecords (none k s ls) x x r
-stays k s ls a q e = record {
+abbrev Discards : ℕ → Ledger → Records → ServedRecords → Type 0
+Discards k g m r = r ≡ record { outcome = record { outcome = k; length = 0 }; clock = g .state .clock; memory = g .memory; records = m }
+
+stays : (k : ℕ) (g : Ledger) (ls : List Lease) {m : Records} {x : List ℕ} {r : ServedRecords} → m .leases ≡ ls → length ls ≡ 128 → Discards k g m r → ServesRecords (none k g ls) x x r
+stays k g ls a q e = record {
   tells = record { outcome = ap (λ (z : ServedRecords). z .outcome .outcome) e; size = ap (λ (z : ServedRecords). z .outcome .length) e; buffer = refl };
   clock = ap (λ (z : ServedRecords). z .clock) e;
+  memory = ap (λ (z : ServedRecords). z .memory) e;
   leases = ap (λ (z : ServedRecords). z .records .leases) e ∙ a;
   long = ap (λ (z : ServedRecords). length (z .records .leases)) e ∙ ap length a ∙ q;
 }
 
-discarded-is : (k : ℕ) (s : State) (ls : List Lease) (names : List ℕ) → length ls ≡ 128 → none k s ls ≡ lentAnswer (discarded k (bookFrom s ls names))
-discarded-is k s ls names q = ap (none k s) (sym (records-back ls q))
+discarded-is : (k : ℕ) (g : Ledger) (ls : List Lease) (names : List ℕ) → length ls ≡ 128 → none k g ls ≡ lentAnswer (discarded k (bookFrom g ls names))
+discarded-is k g ls names q = ap (none k g) (sym (records-back ls q))
 
 -- the names and the tenant that `on_tenant` asks for
-pub names-for : (s : State) (ls : List Lease) (names : List ℕ) {held : HeldTable} {h n : ℕ} → Gathered s ls names held → n ≡ tenantsIn s → h < n → NamesFor s h names
-names-for s ls names w f g = (book-named (bookFrom s ls names) (w .sound), omega arith)
+pub names-for : (g : Ledger) (ls : List Lease) (names : List ℕ) {held : HeldTable} {h n : ℕ} → Gathered g ls names held → n ≡ tenantsIn (g .state) → h < n → NamesFor (g .state) h names
+names-for g ls names w f p = (book-named (bookFrom g ls names) (w .sound), omega arith)
 
--- ---- an edit in which nothing leaves or enters
+-- ---- an edit by which nothing leaves, enters, is forgotten or remembered
 or-none : (a b : Bool) → (a || b) ≡ false → (a ≡ false) × (b ≡ false)
 or-none true b e = absurd (true≢false e)
 or-none false true e = absurd (true≢false e)
@@ -82,82 +90,109 @@ idle e h b p q =
     gone : TenantLeases
     gone = laidOut (removeOf (idOf (e .old)) (inUse own))
 
+unnoted : (e : Edit) (h : ℕ) (m : Memory) → e .forgets ≡ false → e .remembers ≡ false → noted e h m ≡ m
+unfolding noted notedIn pick
+unnoted e h m p q =
+    ap₂ (λ (x y : Bool). putReleases m h (pick y (laidReleases (rememberOf (e .release) (remembered own))) (pick x (laidReleases (forgetOf (idOf (e .new)) (remembered own))) own))) p q
+    ∙ ap {B = Memory} (λ (x : List TenantReleases). record { releases = x }) (set-getD (m .releases) h (laidReleases []))
+  where
+    own : TenantReleases
+    own = releasesAt m h
+
 -- ---- test 3
-module _ (s : State) (ls : List Lease) (names : List ℕ) (client : ℕ) (d : List ℕ) (size : length ls ≡ 128) {h n : ℕ} (e : h ≡ tenantOf s client) (f : n ≡ tenantsIn s) where
-  pub at-unknown : {m : Records} {x : List ℕ} {r : ServedRecords} → n ≤ h → m .leases ≡ ls → r ≡ record { outcome = record { outcome = 3; length = 0 }; clock = s .clock; records = m }
-      → ServesRecords (lentAnswer (atClock (bookFrom s ls names) client d)) x x r
-  at-unknown g a v = serves-as (discarded-is 3 s ls names size ∙ ap lentAnswer (client-unknown (bookFrom s ls names) client d h n e f g)) (stays 3 s ls a size v)
+-- what is remembered of tenant h, as the code reads it
+pub own-releases : (m : Memory) (s : State) (d : TenantReleases) {h n : ℕ} → length (m .releases) ≡ 8 → n ≡ tenantsIn s → h < n → getD (m .releases) h d ≡ releasesAt m h
+own-releases m s d {h} e f p = at-in (m .releases) 8 h d (laidReleases []) e (omega arith)
 
-  module _ {own : TenantLeases} {held : HeldTable} {x y : List ℕ} {r : Served} (g : h < n) (w : Gathered s ls names held) (o : own ≡ tenantAt (tableFrom ls) h)
-      (v : ServesTenant s names own held h (λ b. withReading b h d (readOf d)) x y r) where
-    served : Serves (withReading (bookFrom s ls names) h d (readOf d)) (bookFrom s ls names) h x y r
-    served = v (tableFrom ls) (record { sound = book-sound (bookFrom s ls names) (w .sound); eight = table-eight ls; known = omega arith; records = o; holdings = w .holdings })
+module _ (g : Ledger) (ls : List Lease) (names : List ℕ) (client : ℕ) (d : List ℕ) (size : length ls ≡ 128) {h n : ℕ} (e : h ≡ tenantOf (g .state) client) (f : n ≡ tenantsIn (g .state)) where
+  pub at-unknown : {m : Records} {x : List ℕ} {r : ServedRecords} → n ≤ h → m .leases ≡ ls → Discards 3 g m r → ServesRecords (lentAnswer (atClock (bookFrom g ls names) client d)) x x r
+  at-unknown p a v = serves-as (discarded-is 3 g ls names size ∙ ap lentAnswer (client-unknown (bookFrom g ls names) client d h n e f p)) (stays 3 g ls a size v)
 
-    at : withReading (bookFrom s ls names) h d (readOf d) ≡ atClock (bookFrom s ls names) client d
-    at = client-known (bookFrom s ls names) client d h n e f g
+  module _ {own : TenantLeases} {q : TenantReleases} {held : HeldTable} {x y : List ℕ} {r : Served} (p : h < n) (w : Gathered g ls names held) (o : own ≡ tenantAt (tableFrom ls) h)
+      (u : q ≡ releasesAt (g .memory) h) (v : ServesTenant (g .state) names own q held h (λ b. withReading b h d (readOf d)) x y r) where
+    served : Serves (withReading (bookFrom g ls names) h d (readOf d)) (bookFrom g ls names) h x y r
+    served = v (tableFrom ls) (g .memory) (record { sound = book-sound (bookFrom g ls names) (w .sound); eight = table-eight ls; known = omega arith; records = o; holdings = w .holdings }) u
 
-    -- with the records that the edit leaves
-    edits : {m : Records} → m .leases ≡ recordsOf (applied (r .edit) h (tableFrom ls)) → length (m .leases) ≡ 128
-        → ServesRecords (lentAnswer (atClock (bookFrom s ls names) client d)) x y (record { outcome = r .outcome; clock = s .clock; records = m })
-    edits p q = serves-as (ap lentAnswer at) (record {
+    at : withReading (bookFrom g ls names) h d (readOf d) ≡ atClock (bookFrom g ls names) client d
+    at = client-known (bookFrom g ls names) client d h n e f p
+
+    -- with what the edit leaves
+    edits : {m : Memory} {z : Records} → m ≡ noted (r .edit) h (g .memory) → z .leases ≡ recordsOf (applied (r .edit) h (tableFrom ls)) → length (z .leases) ≡ 128
+        → ServesRecords (lentAnswer (atClock (bookFrom g ls names) client d)) x y (record { outcome = r .outcome; clock = g .state .clock; memory = m; records = z })
+    edits a b c = serves-as (ap lentAnswer at) (record {
       tells = served .tells;
       clock = sym (ap (λ (z : Book). z .state .clock) (served .book));
-      leases = p ∙ sym (ap (λ (z : Book). recordsOf (z .table)) (served .book));
-      long = q;
+      memory = a ∙ sym (ap (λ (z : Book). z .memory) (served .book));
+      leases = b ∙ sym (ap (λ (z : Book). recordsOf (z .table)) (served .book));
+      long = c;
     })
 
-    pub at-edited : {t : TenantLeases} {m : Records} → t ≡ editedIn (r .edit) own → (m .leases ≡ putRow ls h (t .leases)) × (length (m .leases) ≡ 128)
-        → ServesRecords (lentAnswer (atClock (bookFrom s ls names) client d)) x y (record { outcome = r .outcome; clock = s .clock; records = m })
-    unfolding applied
-    at-edited {t} c z =
-        edits (z .0 ∙ put-row-is ls h t size (omega (arith, f, g)) ∙ ap (λ (u : TenantLeases). recordsOf (putAt (tableFrom ls) h u)) (c ∙ ap (editedIn (r .edit)) o)) (z .1)
+    pub at-edited : {t : TenantLeases} {i : TenantReleases} {z : Records} → t ≡ editedIn (r .edit) own → (z .leases ≡ putRow ls h (t .leases)) × (length (z .leases) ≡ 128) → i ≡ notedIn (r .edit) q
+        → ServesRecords (lentAnswer (atClock (bookFrom g ls names) client d)) x y (record { outcome = r .outcome; clock = g .state .clock; memory = putReleases (g .memory) h i; records = z })
+    unfolding applied noted
+    at-edited {t} a b c =
+        edits (ap (putReleases (g .memory) h) (c ∙ ap (notedIn (r .edit)) u))
+        (b .0 ∙ put-row-is ls h t size (omega (arith, f, p)) ∙ ap (λ (k : TenantLeases). recordsOf (putAt (tableFrom ls) h k)) (a ∙ ap (editedIn (r .edit)) o)) (b .1)
 
-    pub at-same : {m : Records} {q : Bool} → q ≡ (r .edit .leaves || r .edit .enters) → q ≡ false → m .leases ≡ ls
-        → ServesRecords (lentAnswer (atClock (bookFrom s ls names) client d)) x y (record { outcome = r .outcome; clock = s .clock; records = m })
-    at-same p c z =
-        let k = or-none (r .edit .leaves) (r .edit .enters) (sym p ∙ c) in
-        edits (z ∙ sym (records-back ls size) ∙ ap recordsOf (sym (idle (r .edit) h (tableFrom ls) (k .0) (k .1)))) (ap length z ∙ size)
+    pub at-same : {z : Records} {t : Bool} → t ≡ (r .edit .leaves || (r .edit .enters || (r .edit .forgets || r .edit .remembers))) → t ≡ false → z .leases ≡ ls
+        → ServesRecords (lentAnswer (atClock (bookFrom g ls names) client d)) x y (record { outcome = r .outcome; clock = g .state .clock; memory = g .memory; records = z })
+    at-same a b c =
+        let j = or-none (r .edit .leaves) (r .edit .enters || (r .edit .forgets || r .edit .remembers)) (sym a ∙ b) in
+        let k = or-none (r .edit .enters) (r .edit .forgets || r .edit .remembers) (j .1) in
+        let i = or-none (r .edit .forgets) (r .edit .remembers) (k .1) in
+        edits (sym (unnoted (r .edit) h (g .memory) (i .0) (i .1)))
+        (c ∙ sym (records-back ls size) ∙ ap recordsOf (sym (idle (r .edit) h (tableFrom ls) (j .0) (k .0)))) (ap length c ∙ size)
 
 -- ---- the drop
-module _ (s : State) (ls : List Lease) (names : List ℕ) (time : ℕ) {s′ : State} (e : s′ ≡ raised s time) where
+-- what test 1 tests
+abbrev Tested : Ledger → List Lease → List ℕ → TableRules → Bool
+Tested g ls names c = soundFrom (g .state) c && (memoryB (g .state) (tableFrom ls) (g .memory) && namesB (g .state .«scope_count») (g .state .«tenant_count») names)
+
+module _ (g : Ledger) (ls : List Lease) (names : List ℕ) (time : ℕ) {s′ : State} (e : s′ ≡ raised (g .state) time) where
+  -- the ledger then
+  abbrev then : Ledger
+  then = record { state = s′; memory = g .memory }
+
   -- records that stand for the advanced book
   module _ (ls′ : List Lease) (p : tableFrom ls′ ≡ dropped (s′ .clock) (tableFrom ls)) where
-    advanced-now : bookFrom s′ ls′ names ≡ advanced (bookFrom s ls names) time
-    advanced-now = advanced-is (bookFrom s ls names) time s′ (tableFrom ls′) e p
+    advanced-now : bookFrom then ls′ names ≡ advanced (bookFrom g ls names) time
+    advanced-now = advanced-is (bookFrom g ls names) time s′ (tableFrom ls′) e p
 
-    advanced-gathered : {held : HeldTable} → bookB (bookFrom s ls names) ≡ true → held ≡ holdingsOf (tableFrom ls′) → Gathered s′ ls′ names held
-    advanced-gathered q h = record { sound = subst (λ (b : Book). bookB b ≡ true) (sym advanced-now) (advanced-book (bookFrom s ls names) time q); holdings = h }
+    advanced-gathered : {held : HeldTable} → bookB (bookFrom g ls names) ≡ true → held ≡ holdingsOf (tableFrom ls′) → Gathered then ls′ names held
+    advanced-gathered q h = record { sound = subst (λ (b : Book). bookB b ≡ true) (sym advanced-now) (advanced-book (bookFrom g ls names) time q); holdings = h }
 
   -- where none ended, the records themselves
-  module _ {c : TableRules} {q : Bool} (size : length ls ≡ 128) (long : All Long ls) (v : c ≡ tableRulesOf s (tableFrom ls)) (w : q ≡ (soundFrom s c && namesB (s .«scope_count») (s .«tenant_count») names)) (y : q ≡ true) where
-    parts : (soundFrom s c ≡ true) × (namesB (s .«scope_count») (s .«tenant_count») names ≡ true)
-    parts = and-parts (soundFrom s c) (namesB (s .«scope_count») (s .«tenant_count») names) (sym w ∙ y)
+  module _ {c : TableRules} {q : Bool} (size : length ls ≡ 128) (long : All Long ls) (v : c ≡ tableRulesOf (g .state) (tableFrom ls)) (w : q ≡ Tested g ls names c) (y : q ≡ true) where
+    parts : (soundFrom (g .state) c ≡ true) × ((memoryB (g .state) (tableFrom ls) (g .memory) && namesB (g .state .«scope_count») (g .state .«tenant_count») names) ≡ true)
+    parts = and-parts (soundFrom (g .state) c) (memoryB (g .state) (tableFrom ls) (g .memory) && namesB (g .state .«scope_count») (g .state .«tenant_count») names) (sym w ∙ y)
 
-    sound : soundB s (tableFrom ls) ≡ true
-    sound = sym (sound-from s (tableFrom ls) c v) ∙ parts .0
+    sound : soundB (g .state) (tableFrom ls) ≡ true
+    sound = sym (sound-from (g .state) (tableFrom ls) c v) ∙ parts .0
 
-    whole : bookB (bookFrom s ls names) ≡ true
-    whole = both-book (bookFrom s ls names) sound (parts .1)
+    whole : bookB (bookFrom g ls names) ≡ true
+    whole =
+        let k = and-parts (memoryB (g .state) (tableFrom ls) (g .memory)) (namesB (g .state .«scope_count») (g .state .«tenant_count») names) (parts .1) in
+        both-book (bookFrom g ls names) sound (k .0) (k .1)
 
     laid : tableFrom ls ≡ tableOf (leasesOf (tableFrom ls))
-    laid = sound-laid s ls size long sound
+    laid = sound-laid (g .state) ls size long sound
 
     module _ {n : Bool} (a : n ≡ allBy (endsAfter (s′ .clock)) (c .held .tenants)) (b : n ≡ true) where
       same : tableFrom ls ≡ dropped (s′ .clock) (tableFrom ls)
-      same = drop-idle (s′ .clock) (tableFrom ls) laid (ap (λ (x : HeldTable). allBy (endsAfter (s′ .clock)) (x .tenants)) (sym (held-from s (tableFrom ls) c v)) ∙ sym a ∙ b)
+      same = drop-idle (s′ .clock) (tableFrom ls) laid (ap (λ (x : HeldTable). allBy (endsAfter (s′ .clock)) (x .tenants)) (sym (held-from (g .state) (tableFrom ls) c v)) ∙ sym a ∙ b)
 
-      pub idle-gathered : Gathered s′ ls names (c .held)
-      idle-gathered = advanced-gathered ls same whole (held-from s (tableFrom ls) c v)
+      pub idle-gathered : Gathered then ls names (c .held)
+      idle-gathered = advanced-gathered ls same whole (held-from (g .state) (tableFrom ls) c v)
 
-      pub idle-book : bookFrom s′ ls names ≡ advanced (bookFrom s ls names) time
+      pub idle-book : bookFrom then ls names ≡ advanced (bookFrom g ls names) time
       idle-book = advanced-now ls same
 
     pub drop-ready : (tableFrom ls ≡ tableOf (leasesOf (tableFrom ls))) × (c .held ≡ holdingsOf (tableFrom ls))
-    drop-ready = (laid, held-from s (tableFrom ls) c v)
+    drop-ready = (laid, held-from (g .state) (tableFrom ls) c v)
 
     module _ {d : Dropped} (u : Drops (s′ .clock) ls d) where
       live : soundB s′ (dropped (s′ .clock) (tableFrom ls)) ≡ true
-      live = subst (λ (z : Book). soundB (z .state) (z .table) ≡ true) (sym (advanced-is (bookFrom s ls names) time s′ (dropped (s′ .clock) (tableFrom ls)) e refl)) (advanced-sound (bookFrom s ls names) time sound)
+      live = subst (λ (z : Book). soundB (z .state) (z .table) ≡ true) (sym (advanced-is (bookFrom g ls names) time s′ (dropped (s′ .clock) (tableFrom ls)) e refl)) (advanced-sound (bookFrom g ls names) time sound)
 
       left : tableFrom (d .records .leases) ≡ dropped (s′ .clock) (tableFrom ls)
       unfolding dropped
@@ -167,37 +202,36 @@ module _ (s : State) (ls : List Lease) (names : List ℕ) (time : ℕ) {s′ : S
           (ap length (table-back (map (liveOf (s′ .clock)) (leasesOf (tableFrom ls)))) ∙ length-map (leasesOf (tableFrom ls)) (liveOf (s′ .clock)) ∙ length-map (tableFrom ls .tenants) inUse ∙ table-eight ls)
           (ap tableOf (sym (table-back (map (liveOf (s′ .clock)) (leasesOf (tableFrom ls)))))) live
 
-      pub left-gathered : Gathered s′ (d .records .leases) names (d .held)
+      pub left-gathered : Gathered then (d .records .leases) names (d .held)
       left-gathered = advanced-gathered (d .records .leases) left whole (u .holdings ∙ ap holdingsOf (sym left))
 
-      pub left-book : bookFrom s′ (d .records .leases) names ≡ advanced (bookFrom s ls names) time
+      pub left-book : bookFrom then (d .records .leases) names ≡ advanced (bookFrom g ls names) time
       left-book = advanced-now (d .records .leases) left
 
 -- ---- tests 1 and 2
-module _ (n : ℕ) (s : State) (ls : List Lease) (names : List ℕ) (c : Call) where
-  on : n ≡ 128 → lentAnswer (serveOf (bookFrom s ls names) c) ≡ serveWith n s ls names c
+module _ (n : ℕ) (g : Ledger) (ls : List Lease) (names : List ℕ) (c : Call) where
+  on : n ≡ 128 → lentAnswer (serveOf (bookFrom g ls names) c) ≡ serveWith n g ls names c
   unfolding serveWith
-  on e = on-whole (lentAnswer (serveOf (bookFrom s ls names) c)) (none 1 s ls) e
+  on e = on-whole (lentAnswer (serveOf (bookFrom g ls names) c)) (none 1 g ls) e
 
-  pub serve-out : {m : Records} {x : List ℕ} {r : ServedRecords} → (n ≡ 128 → ⊥) → m .leases ≡ ls → length ls ≡ 128
-      → r ≡ record { outcome = record { outcome = 1; length = 0 }; clock = s .clock; records = m } → ServesRecords (serveWith n s ls names c) x x r
+  pub serve-out : {m : Records} {x : List ℕ} {r : ServedRecords} → (n ≡ 128 → ⊥) → m .leases ≡ ls → length ls ≡ 128 → Discards 1 g m r → ServesRecords (serveWith n g ls names c) x x r
   unfolding serveWith
-  serve-out e a q v = serves-as (off-whole (lentAnswer (serveOf (bookFrom s ls names) c)) (none 1 s ls) e) (stays 1 s ls a q v)
+  serve-out e a q v = serves-as (off-whole (lentAnswer (serveOf (bookFrom g ls names) c)) (none 1 g ls) e) (stays 1 g ls a q v)
 
-  module _ {g : TableRules} {t : Bool} (e : n ≡ 128) (p : g ≡ tableRulesOf s (tableFrom ls)) (w : t ≡ (soundFrom s g && namesB (s .«scope_count») (s .«tenant_count») names)) where
-    is-sound : t ≡ bookB (bookFrom s ls names)
+  module _ {k : TableRules} {t : Bool} (e : n ≡ 128) (p : k ≡ tableRulesOf (g .state) (tableFrom ls)) (w : t ≡ Tested g ls names k) where
+    is-sound : t ≡ bookB (bookFrom g ls names)
     unfolding bookB
-    is-sound = w ∙ ap (λ (x : Bool). x && namesB (s .«scope_count») (s .«tenant_count») names) (sound-from s (tableFrom ls) g p)
+    is-sound =
+        w ∙ ap (λ (x : Bool). x && (memoryB (g .state) (tableFrom ls) (g .memory) && namesB (g .state .«scope_count») (g .state .«tenant_count») names)) (sound-from (g .state) (tableFrom ls) k p)
 
-    pub serve-unsound : {m : Records} {x : List ℕ} {r : ServedRecords} → t ≡ false → m .leases ≡ ls → length ls ≡ 128
-        → r ≡ record { outcome = record { outcome = 1; length = 0 }; clock = s .clock; records = m } → ServesRecords (serveWith n s ls names c) x x r
-    serve-unsound f a q v = serves-as (discarded-is 1 s ls names q ∙ ap lentAnswer (call-unsound (bookFrom s ls names) c (sym is-sound ∙ f)) ∙ on e) (stays 1 s ls a q v)
+    pub serve-unsound : {m : Records} {x : List ℕ} {r : ServedRecords} → t ≡ false → m .leases ≡ ls → length ls ≡ 128 → Discards 1 g m r → ServesRecords (serveWith n g ls names c) x x r
+    serve-unsound f a q v = serves-as (discarded-is 1 g ls names q ∙ ap lentAnswer (call-unsound (bookFrom g ls names) c (sym is-sound ∙ f)) ∙ on e) (stays 1 g ls a q v)
 
-    pub serve-short : {m : Records} {x : List ℕ} {r : ServedRecords} → t ≡ true → c .room < leastRoom → m .leases ≡ ls → length ls ≡ 128
-        → r ≡ record { outcome = record { outcome = 2; length = 0 }; clock = s .clock; records = m } → ServesRecords (serveWith n s ls names c) x x r
-    serve-short f h a q v = serves-as (discarded-is 2 s ls names q ∙ ap lentAnswer (call-short (bookFrom s ls names) c (sym is-sound ∙ f) h) ∙ on e) (stays 2 s ls a q v)
+    pub serve-short : {m : Records} {x : List ℕ} {r : ServedRecords} → t ≡ true → c .room < leastRoom → m .leases ≡ ls → length ls ≡ 128 → Discards 2 g m r
+        → ServesRecords (serveWith n g ls names c) x x r
+    serve-short f h a q v = serves-as (discarded-is 2 g ls names q ∙ ap lentAnswer (call-short (bookFrom g ls names) c (sym is-sound ∙ f) h) ∙ on e) (stays 2 g ls a q v)
 
-    pub serve-on : {b : Book} {x y : List ℕ} {r : ServedRecords} → t ≡ true → leastRoom ≤ c .room → b ≡ advanced (bookFrom s ls names) (c .time)
-        → ServesRecords (lentAnswer (atClock b (c .client) (c .datagram))) x y r → ServesRecords (serveWith n s ls names c) x y r
+    pub serve-on : {b : Book} {x y : List ℕ} {r : ServedRecords} → t ≡ true → leastRoom ≤ c .room → b ≡ advanced (bookFrom g ls names) (c .time)
+        → ServesRecords (lentAnswer (atClock b (c .client) (c .datagram))) x y r → ServesRecords (serveWith n g ls names c) x y r
     serve-on f h i v =
-        serves-as (ap (λ (z : Book). lentAnswer (atClock z (c .client) (c .datagram))) i ∙ ap lentAnswer (call-served (bookFrom s ls names) c (sym is-sound ∙ f) h) ∙ on e) v
+        serves-as (ap (λ (z : Book). lentAnswer (atClock z (c .client) (c .datagram))) i ∙ ap lentAnswer (call-served (bookFrom g ls names) c (sym is-sound ∙ f) h) ∙ on e) v

@@ -1,7 +1,7 @@
 -- Laws: the table of a file that is read: laid out, and sound where the file is accepted, so that its records stand for it.
 use Prim.Native.Nat.{ℕ, zero, suc}
 use mathlib.Core.Path.{_≡_, refl, sym, ap, ap₂, _∙_}
-use mathlib.Core.Bool.{Bool, true, false}
+use mathlib.Core.Bool.{Bool, true, false, _&&_}
 use mathlib.Core.List.{List, []}
 use native.Mathlib.Omega.{arith}
 use lib.Dec.{eqb}
@@ -9,19 +9,22 @@ use lib.ListN.{length, replicate}
 use borrow.Author.Tests.{eq-eqb, eqb-true, eqb-false}
 use Rattle.lists.specs.Pick.{pick}
 use Rattle.lists.specs.All.{allBy}
+use Rattle.lists.specs.laws.Both.{and-parts}
 use Rattle.lists.specs.Place.{placeBy}
 use Rattle.message.specs.laws.Placed.{pick-cases}
 use Rattle.state.specs.declared.Lease.{Lease}
 use Rattle.state.specs.declared.LeaseTable.{LeaseTable}
+use Rattle.state.specs.declared.Memory.{Memory}
 use Rattle.state.specs.declared.State.{State}
 use Rattle.state.specs.Book.{laidOut, leasesOf, tableOf, zeroLease}
 use Rattle.state.specs.laws.Layout.{table-back as lists-back}
+use Rattle.releases.specs.Rules.{memoryB}
 use Rattle.soundness.specs.Sound.{blankB, soundB, unusedB, zeroFrom}
 use Rattle.state_file.specs.declared.Loaded.{Loaded}
 use Rattle.state_file.specs.File.{File, FileLease, fileOf}
 use Rattle.format.specs.Format.{Got, bad, got}
 use Rattle.state_file.specs.Records.{fitsB, storedState, storedTable, tenantsFrom}
-use Rattle.state_file.specs.StateFile.{accepted, loadedGot, judged, loaded, readFile, refused, zeroState, zeroTable}
+use Rattle.state_file.specs.StateFile.{accepted, loadedGot, judged, loaded, readFile, refused, zeroLedger, zeroMemory, zeroState, zeroTable}
 use Rattle.records.specs.laws.Back.{lent-table-back, table-long}
 use Rattle.records.specs.Lent.{LentReading, readLent, readWith, untouched, is128}
 use Rattle.records.specs.Records.{recordsOf, rows, tableFrom, tenantFrom}
@@ -33,9 +36,10 @@ record Whole (r : Loaded) : Type 0 where
   sound : r .refusal ≡ 0 → soundB (r .state) (r .table) ≡ true
   empty : (r .refusal ≡ 0 → ⊥) → r ≡ refused (r .refusal)
 
-of-lists : (n : ℕ) (s : State) (ll : List (List Lease)) → length ll ≡ 8 → (n ≡ 0 → soundB s (tableOf ll) ≡ true)
-    → ((n ≡ 0 → ⊥) → record { refusal = n; state = s; table = tableOf ll } ≡ refused n) → Whole (record { refusal = n; state = s; table = tableOf ll })
-of-lists n s ll e v z = record { laid = ap tableOf (sym (lists-back ll)); eight = ap length (lists-back ll) ∙ e; sound = v; empty = z }
+of-lists : (n : ℕ) (s : State) (ll : List (List Lease)) (m : Memory) → length ll ≡ 8 → (n ≡ 0 → soundB s (tableOf ll) ≡ true)
+    → ((n ≡ 0 → ⊥) → record { refusal = n; state = s; table = tableOf ll; memory = m } ≡ refused n)
+    → Whole (record { refusal = n; state = s; table = tableOf ll; memory = m })
+of-lists n s ll m e v z = record { laid = ap tableOf (sym (lists-back ll)); eight = ap length (lists-back ll) ∙ e; sound = v; empty = z }
 
 from-length : (t n : ℕ) (xs : List FileLease) → length (tenantsFrom t n xs) ≡ n
 unfolding tenantsFrom
@@ -44,13 +48,16 @@ from-length t (suc n) xs = ap suc (from-length (suc t) n xs)
 
 none : (n : ℕ) → (n ≡ 0 → ⊥) → Whole (refused n)
 unfolding refused zeroTable
-none n z = of-lists n _ (replicate 8 []) refl (λ e. absurd (z e)) (λ _. refl)
+none n z = of-lists n _ (replicate 8 []) _ refl (λ e. absurd (z e)) (λ _. refl)
 
-judged-whole : (f : File) → Whole (judged (storedState f) (storedTable f))
+judged-whole : (f : File) (m : Memory) → Whole (judged (storedState f) (storedTable f) m)
 unfolding judged storedTable accepted
-judged-whole f =
-    pick-cases Whole (soundB (storedState f) (tableOf (tenantsFrom 1 8 (f .leases)))) _ _
-    (λ y. of-lists 0 (storedState f) (tenantsFrom 1 8 (f .leases)) (from-length 1 8 (f .leases)) (λ _. y) (λ z. absurd (z refl))) (λ _. none 21 (λ e. absurd (omega arith)))
+judged-whole f m =
+    pick-cases Whole (soundB (storedState f) (tableOf lists) && memoryB (storedState f) (tableOf lists) m) _ _
+    (λ y. of-lists 0 (storedState f) lists m (from-length 1 8 (f .leases)) (λ _. and-parts _ _ y .0) (λ z. absurd (z refl))) (λ _. none 21 (λ e. absurd (omega arith)))
+  where
+    lists : List (List Lease)
+    lists = tenantsFrom 1 8 (f .leases)
 
 file-whole : (s : List ℕ) → Whole (readFile s)
 unfolding readFile loadedGot loaded
@@ -58,7 +65,7 @@ file-whole s = go (fileOf s)
   where
     go : (g : Got File) → Whole (loadedGot g)
     go bad = none 20 (λ e. absurd (omega arith))
-    go (got f r) = pick-cases Whole (fitsB f) _ _ (λ _. judged-whole f) (λ _. none 21 (λ e. absurd (omega arith)))
+    go (got f r) = pick-cases Whole (fitsB f) _ _ (λ _. judged-whole f _) (λ _. none 21 (λ e. absurd (omega arith)))
 
 -- the records of an accepted file stand for its table
 pub file-back : (s : List ℕ) → readFile s .refusal ≡ 0 → tableFrom (recordsOf (readFile s .table)) ≡ readFile s .table
@@ -73,33 +80,33 @@ unfolding tableFrom rows tenantFrom placeBy pick unusedB blankB zeroFrom allBy z
 blank-table = refl
 
 abbrev pub readBlank : List ℕ → LentReading
-readBlank f = readLent f zeroState (replicate 128 zeroLease)
+readBlank f = readLent f zeroLedger (replicate 128 zeroLease)
 
 pub blank-refusal : (f : List ℕ) → readBlank f .refusal ≡ readFile f .refusal
 unfolding readWith is128 pick
 blank-refusal f = go (eqb (readFile f .refusal) 0) refl
   where
     go : (p : Bool) → eqb (readFile f .refusal) 0 ≡ p
-        → pick {A = LentReading} p (record { refusal = 0; state = readFile f .state; leases = recordsOf (readFile f .table) }) (untouched (readFile f .refusal) zeroState (replicate 128 zeroLease)) .refusal ≡ readFile f .refusal
+        → pick {A = LentReading} p (record { refusal = 0; ledger = record { state = readFile f .state; memory = readFile f .memory }; leases = recordsOf (readFile f .table) }) (untouched (readFile f .refusal) zeroLedger (replicate 128 zeroLease)) .refusal ≡ readFile f .refusal
     go true e = sym (eqb-true _ _ e)
     go false e = refl
 
-pub blank-accepted : (f : List ℕ) → readFile f .refusal ≡ 0 → readBlank f ≡ record { refusal = 0; state = readFile f .state; leases = recordsOf (readFile f .table) }
+pub blank-accepted : (f : List ℕ) → readFile f .refusal ≡ 0 → readBlank f ≡ record { refusal = 0; ledger = record { state = readFile f .state; memory = readFile f .memory }; leases = recordsOf (readFile f .table) }
 unfolding readWith is128 pick
 blank-accepted f e =
-    ap (λ (p : Bool). pick p (record { refusal = 0; state = readFile f .state; leases = recordsOf (readFile f .table) }) (untouched (readFile f .refusal) zeroState (replicate 128 zeroLease)))
+    ap (λ (p : Bool). pick p (record { refusal = 0; ledger = record { state = readFile f .state; memory = readFile f .memory }; leases = recordsOf (readFile f .table) }) (untouched (readFile f .refusal) zeroLedger (replicate 128 zeroLease)))
     (eq-eqb _ _ e)
 
 -- it gives what the reader by value gives
-pub blank-read : (f : List ℕ) → record { refusal = readBlank f .refusal; state = readBlank f .state; table = tableFrom (readBlank f .leases) } ≡ readFile f
+pub blank-read : (f : List ℕ) → record { refusal = readBlank f .refusal; state = readBlank f .ledger .state; table = tableFrom (readBlank f .leases); memory = readBlank f .ledger .memory } ≡ readFile f
 unfolding readWith is128 pick refused
 blank-read f = go (eqb (readFile f .refusal) 0) refl
   where
     of : LentReading → Loaded
-    of r = record { refusal = r .refusal; state = r .state; table = tableFrom (r .leases) }
+    of r = record { refusal = r .refusal; state = r .ledger .state; table = tableFrom (r .leases); memory = r .ledger .memory }
 
     go : (p : Bool) → eqb (readFile f .refusal) 0 ≡ p
-        → of (pick p (record { refusal = 0; state = readFile f .state; leases = recordsOf (readFile f .table) }) (untouched (readFile f .refusal) zeroState (replicate 128 zeroLease))) ≡ readFile f
+        → of (pick p (record { refusal = 0; ledger = record { state = readFile f .state; memory = readFile f .memory }; leases = recordsOf (readFile f .table) }) (untouched (readFile f .refusal) zeroLedger (replicate 128 zeroLease))) ≡ readFile f
     go true e =
-        ap₂ {C = Loaded} (λ (n : ℕ) (t : LeaseTable). record { refusal = n; state = readFile f .state; table = t }) (sym (eqb-true _ _ e)) (file-back f (eqb-true _ _ e))
-    go false e = ap {B = Loaded} (λ (t : LeaseTable). record { refusal = readFile f .refusal; state = zeroState; table = t }) blank-table ∙ sym (file-whole f .empty (eqb-false _ _ e))
+        ap₂ {C = Loaded} (λ (n : ℕ) (t : LeaseTable). record { refusal = n; state = readFile f .state; table = t; memory = readFile f .memory }) (sym (eqb-true _ _ e)) (file-back f (eqb-true _ _ e))
+    go false e = ap {B = Loaded} (λ (t : LeaseTable). record { refusal = readFile f .refusal; state = zeroState; table = t; memory = zeroMemory }) blank-table ∙ sym (file-whole f .empty (eqb-false _ _ e))

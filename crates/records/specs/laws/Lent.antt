@@ -1,5 +1,5 @@
 -- Laws: of the entry points: what the functions on 128 records by value give is what the definitions on a lent slice of any length yield.
-use mathlib.Core.Path.{_≡_, refl, sym, ap, _∙_, subst}
+use mathlib.Core.Path.{_≡_, refl, sym, ap, ap₂, _∙_, subst}
 use mathlib.Core.Bool.{Bool, true, false}
 use mathlib.Core.List.{List, [], _++_, append-nil}
 use Prim.Native.Nat.{ℕ, min, max}
@@ -12,11 +12,13 @@ use borrow.Author.Tests.{eqb-true}
 use Rattle.reply.specs.Reply.{leastRoom}
 use Rattle.lists.specs.Pick.{pick}
 use Rattle.state.specs.declared.Lease.{Lease}
+use Rattle.state.specs.declared.Ledger.{Ledger}
+use Rattle.state.specs.declared.Memory.{Memory}
 use Rattle.state.specs.declared.State.{State}
 use Rattle.state.specs.Book.{Book, advanced, insertOf, placeOf, raised, removeOf, withClock, zeroLease}
 use Rattle.decision.specs.Parts.{ownOf}
 use Rattle.message.specs.laws.Placed.{pick-cases}
-use Rattle.soundness.specs.Named.{bookB}
+use Rattle.releases.specs.Whole.{bookB}
 use Rattle.server.specs.declared.Outcome.{Outcome}
 use Rattle.server.specs.Serve.{Answer, Call, Tells, atClock, forServer, serveOf, withReading}
 use Rattle.server.specs.laws.Told.{tells-as}
@@ -103,13 +105,13 @@ unfolding removeWith
 removed-lent h i ls = changed-pick (λ m. pick (ltb h 8) (withOwn (tableFrom m) h (removeOf i (ownOf (tableFrom m) h))) m) ls
 
 -- ---- the writer
-pub written-lent : (s : State) (ls : List Lease) (names : List ℕ) (room : ℕ) {all : List Lease} {w : Written} → all ≡ first128 ls → w ≡ writtenWith (length ls) s all names room → w ≡ writtenLent s ls names room
+pub written-lent : (g : Ledger) (ls : List Lease) (names : List ℕ) (room : ℕ) {all : List Lease} {w : Written} → all ≡ first128 ls → w ≡ writtenWith (length ls) g all names room → w ≡ writtenLent g ls names room
 unfolding writtenWith
-written-lent s ls names room = told-pick (λ m. writtenOf (bookFrom s m names) room) (record { refusal = 22; length = 0 }) ls
+written-lent g ls names room = told-pick (λ m. writtenOf (bookFrom g m names) room) (record { refusal = 22; length = 0 }) ls
 
-pub room-lent : (s : State) (ls : List Lease) (names room : List ℕ) {all : List Lease} {after : List ℕ} → all ≡ first128 ls → after ≡ roomWith (length ls) s all names room → after ≡ roomLent s ls names room
+pub room-lent : (g : Ledger) (ls : List Lease) (names room : List ℕ) {all : List Lease} {after : List ℕ} → all ≡ first128 ls → after ≡ roomWith (length ls) g all names room → after ≡ roomLent g ls names room
 unfolding roomWith
-room-lent s ls names room = told-pick (λ m. roomAfter (bookFrom s m names) room) room ls
+room-lent g ls names room = told-pick (λ m. roomAfter (bookFrom g m names) room) room ls
 
 -- ---- the call
 -- of a state, only the clock changes, and it is raised
@@ -138,67 +140,69 @@ clock-only b c =
     now : Raises (b .state) (raised (b .state) (c .time))
     now = raised-once (b .state) (c .time)
 
-pub lent-clock : (n : ℕ) (s : State) (ls : List Lease) (names : List ℕ) (c : Call) → serveWith n s ls names c .state ≡ raised s (serveWith n s ls names c .state .clock)
+pub lent-clock : (n : ℕ) (g : Ledger) (ls : List Lease) (names : List ℕ) (c : Call)
+    → serveWith n g ls names c .ledger .state ≡ raised (g .state) (serveWith n g ls names c .ledger .state .clock)
 unfolding serveWith Raises pick
-lent-clock n s ls names c = go (is128 n)
+lent-clock n g ls names c = go (is128 n)
   where
-    go : (t : Bool) → Raises s (pick t (lentAnswer (serveOf (bookFrom s ls names) c)) (record { outcome = 1; reply = []; state = s; leases = ls }) .state)
-    go true = clock-only (bookFrom s ls names) c
-    go false = raised-self s
+    go : (t : Bool) → Raises (g .state) (pick t (lentAnswer (serveOf (bookFrom g ls names) c)) (record { outcome = 1; reply = []; ledger = g; leases = ls }) .ledger .state)
+    go true = clock-only (bookFrom g ls names) c
+    go false = raised-self (g .state)
 
 -- each part of its answer
-module _ (s : State) (ls : List Lease) (names : List ℕ) (c : Call) where
-  off : (k : ℕ) (m : List Lease) → is128 k ≡ false → serveWith k s m names c ≡ record { outcome = 1; reply = []; state = s; leases = m }
+module _ (g : Ledger) (ls : List Lease) (names : List ℕ) (c : Call) where
+  off : (k : ℕ) (m : List Lease) → is128 k ≡ false → serveWith k g m names c ≡ record { outcome = 1; reply = []; ledger = g; leases = m }
   unfolding serveWith pick
-  off k m o = ap (λ (t : Bool). pick t (lentAnswer (serveOf (bookFrom s m names) c)) (record { outcome = 1; reply = []; state = s; leases = m })) o
+  off k m o = ap (λ (t : Bool). pick t (lentAnswer (serveOf (bookFrom g m names) c)) (record { outcome = 1; reply = []; ledger = g; leases = m })) o
 
-  part : {A : Type 0} (f : LentAnswer → A) → ((m m' : List Lease) → f (record { outcome = 1; reply = []; state = s; leases = m }) ≡ f (record { outcome = 1; reply = []; state = s; leases = m' }))
-      → {all : List Lease} {r : A} → all ≡ first128 ls → r ≡ f (serveWith (length ls) s all names c) → r ≡ f (serveLent s ls names c)
-  part f same = told-lent (λ k m. f (serveWith k s m names c)) (λ k m m' o. ap f (off k m o) ∙ same m m' ∙ sym (ap f (off k m' o))) ls
+  part : {A : Type 0} (f : LentAnswer → A) → ((m m' : List Lease) → f (record { outcome = 1; reply = []; ledger = g; leases = m }) ≡ f (record { outcome = 1; reply = []; ledger = g; leases = m' }))
+      → {all : List Lease} {r : A} → all ≡ first128 ls → r ≡ f (serveWith (length ls) g all names c) → r ≡ f (serveLent g ls names c)
+  part f same = told-lent (λ k m. f (serveWith k g m names c)) (λ k m m' o. ap f (off k m o) ∙ same m m' ∙ sym (ap f (off k m' o))) ls
 
-  pub served-lent : {all zs : List Lease} {s' : State} {before after : List ℕ} {r : ServedRecords} {o : Outcome}
-      → all ≡ first128 ls → ServesRecords (serveWith (length ls) s all names c) before after r → s' ≡ raised s (r .clock) → zs ≡ covered ls (r .records .leases)
-      → o ≡ r .outcome → ServesLent (serveLent s ls names c) s' zs before after o
+  pub served-lent : {all zs : List Lease} {g' : Ledger} {before after : List ℕ} {r : ServedRecords} {o : Outcome}
+      → all ≡ first128 ls → ServesRecords (serveWith (length ls) g all names c) before after r → g' ≡ record { state = raised (g .state) (r .clock); memory = r .memory }
+      → zs ≡ covered ls (r .records .leases) → o ≡ r .outcome → ServesLent (serveLent g ls names c) g' zs before after o
   served-lent {all} {before = before} {after} a v p q e = record {
-    tells = subst (Tells (lentSaid (serveLent s ls names c)) before after) (sym e) (tells-as (part lentSaid (λ m m'. refl) a refl) (v .tells));
-    state = part (λ x. x .state) (λ m m'. refl) a (p ∙ ap (raised s) (v .clock) ∙ sym (lent-clock (length ls) s all names c));
-    leases = changed-lent (λ k m. serveWith k s m names c .leases) (λ k m o. ap (λ (x : LentAnswer). x .leases) (off k m o)) ls a (v .leases) (v .long) q;
+    tells = subst (Tells (lentSaid (serveLent g ls names c)) before after) (sym e) (tells-as (part lentSaid (λ m m'. refl) a refl) (v .tells));
+    ledger = part (λ x. x .ledger) (λ m m'. refl) a
+        (p ∙ ap₂ {C = Ledger} (λ (s : State) (m : Memory). record { state = s; memory = m }) (ap (raised (g .state)) (v .clock) ∙ sym (lent-clock (length ls) g all names c)) (v .memory));
+    leases = changed-lent (λ k m. serveWith k g m names c .leases) (λ k m o. ap (λ (x : LentAnswer). x .leases) (off k m o)) ls a (v .leases) (v .long) q;
   }
 
 -- ---- the reader
 -- what it answers of a slice of another length
-abbrev refusing : Loaded → State → Bool → List Lease → LentReading
-refusing f s b m = pick b (untouched 21 s m) (untouched (f .refusal) s m)
+abbrev refusing : Loaded → Ledger → Bool → List Lease → LentReading
+refusing f g b m = pick b (untouched 21 g m) (untouched (f .refusal) g m)
 
-pub read-lent : (f : Loaded) (s : State) (ls : List Lease) {all zs : List Lease} {s' : State} {r : ReadRecords} {n : ℕ}
-    → all ≡ first128 ls → Reads (readWith (length ls) f s all) r → s' ≡ r .state → zs ≡ covered ls (r .records .leases) → n ≡ r .refusal → ReadsLent (readWith (length ls) f s ls) s' zs n
+pub read-lent : (f : Loaded) (g : Ledger) (ls : List Lease) {all zs : List Lease} {g' : Ledger} {r : ReadRecords} {n : ℕ}
+    → all ≡ first128 ls → Reads (readWith (length ls) f g all) r → g' ≡ r .ledger → zs ≡ covered ls (r .records .leases) → n ≡ r .refusal → ReadsLent (readWith (length ls) f g ls) g' zs n
 unfolding readWith pick
-read-lent f s ls {r = r} a v p q e = record {
-  refusal = told-lent (λ k m. readWith k f s m .refusal) (λ k m m' o. off-refusal k m o ∙ sym (off-refusal k m' o)) ls a (e ∙ v .refusal);
-  state = told-lent (λ k m. readWith k f s m .state) (λ k m m' o. off-state k m o ∙ sym (off-state k m' o)) ls a (p ∙ v .state);
-  leases = changed-lent (λ k m. readWith k f s m .leases) off-leases ls a (v .leases) (v .long) q;
+read-lent f g ls {r = r} a v p q e = record {
+  refusal = told-lent (λ k m. readWith k f g m .refusal) (λ k m m' o. off-refusal k m o ∙ sym (off-refusal k m' o)) ls a (e ∙ v .refusal);
+  ledger = told-lent (λ k m. readWith k f g m .ledger) (λ k m m' o. off-ledger k m o ∙ sym (off-ledger k m' o)) ls a (p ∙ v .ledger);
+  leases = changed-lent (λ k m. readWith k f g m .leases) off-leases ls a (v .leases) (v .long) q;
 }
   where
-    off : (k : ℕ) (m : List Lease) → is128 k ≡ false → readWith k f s m ≡ refusing f s (eqb (f .refusal) 0) m
-    off k m o = ap (λ (t : Bool). pick (eqb (f .refusal) 0) (pick t (record { refusal = 0; state = f .state; leases = recordsOf (f .table) }) (untouched 21 s m)) (untouched (f .refusal) s m)) o
+    off : (k : ℕ) (m : List Lease) → is128 k ≡ false → readWith k f g m ≡ refusing f g (eqb (f .refusal) 0) m
+    off k m o = ap (λ (t : Bool). pick (eqb (f .refusal) 0) (pick t (record { refusal = 0; ledger = record { state = f .state; memory = f .memory }; leases = recordsOf (f .table) }) (untouched 21 g m)) (untouched (f .refusal) g m)) o
 
-    of-refusal : (b : Bool) (m : List Lease) → refusing f s b m .refusal ≡ pick b 21 (f .refusal)
+    of-refusal : (b : Bool) (m : List Lease) → refusing f g b m .refusal ≡ pick b 21 (f .refusal)
     of-refusal true m = refl
     of-refusal false m = refl
 
-    of-state : (b : Bool) (m : List Lease) → refusing f s b m .state ≡ s
-    of-state true m = refl
-    of-state false m = refl
+    of-ledger : (b : Bool) (m : List Lease) → refusing f g b m .ledger ≡ g
+    of-ledger true m = refl
+    of-ledger false m = refl
 
-    of-leases : (b : Bool) (m : List Lease) → refusing f s b m .leases ≡ m
+    of-leases : (b : Bool) (m : List Lease) → refusing f g b m .leases ≡ m
     of-leases true m = refl
     of-leases false m = refl
 
-    off-refusal : (k : ℕ) (m : List Lease) → is128 k ≡ false → readWith k f s m .refusal ≡ pick (eqb (f .refusal) 0) 21 (f .refusal)
+    off-refusal : (k : ℕ) (m : List Lease) → is128 k ≡ false → readWith k f g m .refusal ≡ pick (eqb (f .refusal) 0) 21 (f .refusal)
     off-refusal k m o = ap (λ (x : LentReading). x .refusal) (off k m o) ∙ of-refusal (eqb (f .refusal) 0) m
 
-    off-state : (k : ℕ) (m : List Lease) → is128 k ≡ false → readWith k f s m .state ≡ s
-    off-state k m o = ap (λ (x : LentReading). x .state) (off k m o) ∙ of-state (eqb (f .refusal) 0) m
+    off-ledger : (k : ℕ) (m : List Lease) → is128 k ≡ false → readWith k f g m .ledger ≡ g
+    off-ledger k m o = ap (λ (x : LentReading). x .ledger) (off k m o) ∙ of-ledger (eqb (f .refusal) 0) m
 
-    off-leases : (k : ℕ) (m : List Lease) → is128 k ≡ false → readWith k f s m .leases ≡ m
+    off-leases : (k : ℕ) (m : List Lease) → is128 k ≡ false → readWith k f g m .leases ≡ m
     off-leases k m o = ap (λ (x : LentReading). x .leases) (off k m o) ∙ of-leases (eqb (f .refusal) 0) m

@@ -9,7 +9,7 @@ use lib.Seq.{take-append-add, drop-append-add, drop-at, drop-cons, getD-at, leng
 use borrow.Author.Tests.{ltb-true}
 use Rattle.lists.specs.Pick.{pick}
 use Rattle.lists.specs.All.{All, allBy, pairsBy}
-use Rattle.lists.specs.laws.All.{AllInv, all-head, all-rest}
+use Rattle.lists.specs.laws.All.{AllInv, all-head, all-rest, all-drop, all-take}
 use Rattle.lists.specs.laws.Both.{and-parts}
 use Rattle.lists.specs.laws.Copy.{CopyInv, copy-start, copy-next, copy-long, copy-paste}
 use Rattle.lists.specs.laws.Each.{EachInv, each-start, each-next, each-end, map-set}
@@ -18,6 +18,7 @@ use Rattle.state.specs.declared.Lease.{Lease}
 use Rattle.state.specs.declared.LeaseTable.{LeaseTable}
 use Rattle.state.specs.declared.State.{State}
 use Rattle.state.specs.declared.TenantLeases.{TenantLeases}
+use Rattle.state.specs.declared.TenantReleases.{TenantReleases}
 use Rattle.state.specs.Book.{dropped, inUse, laidOut, leasesOf, liveOf, noLeases, ordered, putAt, tableOf, tenantAt, zeroLease}
 use Rattle.lists.specs.laws.Row.{at-in}
 use Rattle.state.specs.laws.Layout.{dropped-is, endedIn, noLease, read-back}
@@ -27,8 +28,9 @@ use Rattle.soundness.specs.declared.TableRules.{TableRules}
 use Rattle.soundness.specs.Sound.{layoutB, paddedB, rule19, rulesOf, settingsB, soundB, unusedB}
 use Rattle.soundness.specs.Parts.{addedTenant, firstEnd, heldSets, holdingsOf, noHeld, noTenants}
 use Rattle.soundness.specs.laws.Book.{rules-of}
+use Rattle.releases.specs.Rules.{rulesAt}
 use Rattle.soundness.specs.laws.Survey.{SurveyInv, held-at, none-ended, survey-next-row, survey-start}
-use Rattle.state_file.proofs.WriteAgain.{all-drop, all-take, leases-zero}
+use Rattle.state_file.proofs.WriteAgain.{leases-zero}
 use Rattle.records.specs.declared.Records.{Records}
 use Rattle.records.specs.laws.Back.{rows-back}
 use Rattle.records.specs.laws.Table.{rows-length, table-eight}
@@ -96,6 +98,10 @@ pub survey-row : {s : State} (ls : List Lease) {c r : TableRules} {h : ℕ} {t :
     → SurveyInv s (tableFrom ls) r (h + 1)
 unfolding tableFrom
 survey-row ls v p q e = survey-next-row v tenantFrom (rows 8 ls) [] refl p q e
+
+-- ---- the rules on what is remembered, by a tenant's own records
+pub row-rules : {r t : TenantLeases} (n clock h : ℕ) (q : TenantReleases) → r ≡ t → rulesAt n clock h (inUse r) q ≡ rulesAt n clock h (inUse t) q
+row-rules n clock h q e = ap (λ (x : TenantLeases). rulesAt n clock h (inUse x) q) e
 
 -- ---- a sound book's records only lay out its leases
 place-within : {A : Type 0} (t : A → Bool) (l : List A) → placeBy t l ≤ length l

@@ -11,7 +11,7 @@ use Rattle.lists.specs.Pick.{pick}
 use Rattle.lists.specs.Place.{placeBy}
 use Rattle.state.specs.declared.Lease.{Lease}
 use Rattle.state.specs.declared.LeaseTable.{LeaseTable}
-use Rattle.state.specs.declared.State.{State}
+use Rattle.state.specs.declared.Ledger.{Ledger}
 use Rattle.state.specs.declared.TenantLeases.{TenantLeases}
 use Rattle.state.specs.Book.{inUse, insertOf, insertedIn, laidOut, placeOf, putAt, removeOf, tenantAt}
 use Rattle.lists.specs.laws.Row.{at-out}
@@ -128,59 +128,59 @@ module _ (n h : ℕ) (ls : List Lease) where
     remove-out e = off-whole (pick (ltb h 8) (removed i) ls) ls e
 
 -- ---- the writer
-module _ (n : ℕ) (s : State) (ls : List Lease) (names : List ℕ) where
-  pub write-in : (k : ℕ) {t : LeaseTable} {w : Written} → n ≡ 128 → t ≡ tableFrom ls → w ≡ writtenOf (bookOf s t names) k → w ≡ writtenWith n s ls names k
+module _ (n : ℕ) (g : Ledger) (ls : List Lease) (names : List ℕ) where
+  pub write-in : (k : ℕ) {t : LeaseTable} {w : Written} → n ≡ 128 → t ≡ tableFrom ls → w ≡ writtenOf (bookOf (g .state) t (g .memory) names) k → w ≡ writtenWith n g ls names k
   unfolding writtenWith
-  write-in k e a b = b ∙ ap (λ (x : LeaseTable). writtenOf (bookOf s x names) k) a ∙ on-whole (writtenOf (bookFrom s ls names) k) (record { refusal = 22; length = 0 }) e
+  write-in k e a b = b ∙ ap (λ (x : LeaseTable). writtenOf (bookOf (g .state) x (g .memory) names) k) a ∙ on-whole (writtenOf (bookFrom g ls names) k) (record { refusal = 22; length = 0 }) e
 
-  pub write-out : (k : ℕ) → (n ≡ 128 → ⊥) → record { refusal = 22; length = 0 } ≡ writtenWith n s ls names k
+  pub write-out : (k : ℕ) → (n ≡ 128 → ⊥) → record { refusal = 22; length = 0 } ≡ writtenWith n g ls names k
   unfolding writtenWith
-  write-out k e = off-whole (writtenOf (bookFrom s ls names) k) (record { refusal = 22; length = 0 }) e
+  write-out k e = off-whole (writtenOf (bookFrom g ls names) k) (record { refusal = 22; length = 0 }) e
 
-  pub room-in : (room : List ℕ) {t : LeaseTable} {after : List ℕ} → n ≡ 128 → t ≡ tableFrom ls → after ≡ roomAfter (bookOf s t names) room → after ≡ roomWith n s ls names room
+  pub room-in : (room : List ℕ) {t : LeaseTable} {after : List ℕ} → n ≡ 128 → t ≡ tableFrom ls → after ≡ roomAfter (bookOf (g .state) t (g .memory) names) room → after ≡ roomWith n g ls names room
   unfolding roomWith
-  room-in room e a b = b ∙ ap (λ (x : LeaseTable). roomAfter (bookOf s x names) room) a ∙ on-whole (roomAfter (bookFrom s ls names) room) room e
+  room-in room e a b = b ∙ ap (λ (x : LeaseTable). roomAfter (bookOf (g .state) x (g .memory) names) room) a ∙ on-whole (roomAfter (bookFrom g ls names) room) room e
 
-  pub room-out : (room : List ℕ) → (n ≡ 128 → ⊥) → room ≡ roomWith n s ls names room
+  pub room-out : (room : List ℕ) → (n ≡ 128 → ⊥) → room ≡ roomWith n g ls names room
   unfolding roomWith
-  room-out room e = off-whole (roomAfter (bookFrom s ls names) room) room e
+  room-out room e = off-whole (roomAfter (bookFrom g ls names) room) room e
 
 -- ---- the reader
-module _ (n : ℕ) (s : State) (ls : List Lease) (f : Loaded) where
+module _ (n : ℕ) (g : Ledger) (ls : List Lease) (f : Loaded) where
   abbrev Accepted : LentReading
-  Accepted = record { refusal = 0; state = f .state; leases = recordsOf (f .table) }
+  Accepted = record { refusal = 0; ledger = record { state = f .state; memory = f .memory }; leases = recordsOf (f .table) }
 
   abbrev by-number : LentReading
-  by-number = pick (is128 n) Accepted (untouched 21 s ls)
+  by-number = pick (is128 n) Accepted (untouched 21 g ls)
 
-  pub read-in : {g : Loaded} {x : Records} {r : ReadRecords} → g ≡ f → g .refusal ≡ 0 → n ≡ 128 → (x .leases ≡ recordsOf (g .table)) × (length (x .leases) ≡ 128)
-      → r ≡ record { refusal = 0; state = g .state; records = x } → Reads (readWith n f s ls) r
+  pub read-in : {k : Loaded} {x : Records} {r : ReadRecords} → k ≡ f → k .refusal ≡ 0 → n ≡ 128 → (x .leases ≡ recordsOf (k .table)) × (length (x .leases) ≡ 128)
+      → r ≡ record { refusal = 0; ledger = record { state = k .state; memory = k .memory }; records = x } → Reads (readWith n f g ls) r
   unfolding readWith pick
   read-in {x = x} a z e w v = record {
     refusal = ap (λ (y : ReadRecords). y .refusal) v ∙ ap (λ (y : LentReading). y .refusal) at;
-    state = ap (λ (y : ReadRecords). y .state) v ∙ ap (λ (y : Loaded). y .state) a ∙ ap (λ (y : LentReading). y .state) at;
+    ledger = ap (λ (y : ReadRecords). y .ledger) v ∙ ap {B = Ledger} (λ (y : Loaded). record { state = y .state; memory = y .memory }) a ∙ ap (λ (y : LentReading). y .ledger) at;
     leases = ap (λ (y : ReadRecords). y .records .leases) v ∙ w .0 ∙ ap (λ (y : Loaded). recordsOf (y .table)) a ∙ ap (λ (y : LentReading). y .leases) at;
     long = ap (λ (y : ReadRecords). length (y .records .leases)) v ∙ w .1;
   }
     where
-      at : Accepted ≡ readWith n f s ls
-      at = on-whole Accepted (untouched 21 s ls) e ∙ sym (ap (λ (t : Bool). pick t by-number (untouched (f .refusal) s ls)) (eq-eqb _ _ (sym (ap (λ (y : Loaded). y .refusal) a) ∙ z)))
+      at : Accepted ≡ readWith n f g ls
+      at = on-whole Accepted (untouched 21 g ls) e ∙ sym (ap (λ (t : Bool). pick t by-number (untouched (f .refusal) g ls)) (eq-eqb _ _ (sym (ap (λ (y : Loaded). y .refusal) a) ∙ z)))
 
-  kept : {k : ℕ} {m : Records} {r : ReadRecords} → m .leases ≡ ls → length ls ≡ 128 → r ≡ record { refusal = k; state = s; records = m } → untouched k s ls ≡ readWith n f s ls → Reads (readWith n f s ls) r
+  kept : {k : ℕ} {m : Records} {r : ReadRecords} → m .leases ≡ ls → length ls ≡ 128 → r ≡ record { refusal = k; ledger = g; records = m } → untouched k g ls ≡ readWith n f g ls → Reads (readWith n f g ls) r
   kept b q v at = record {
     refusal = ap (λ (y : ReadRecords). y .refusal) v ∙ ap (λ (y : LentReading). y .refusal) at;
-    state = ap (λ (y : ReadRecords). y .state) v ∙ ap (λ (y : LentReading). y .state) at;
+    ledger = ap (λ (y : ReadRecords). y .ledger) v ∙ ap (λ (y : LentReading). y .ledger) at;
     leases = ap (λ (y : ReadRecords). y .records .leases) v ∙ b ∙ ap (λ (y : LentReading). y .leases) at;
     long = ap (λ (y : ReadRecords). length (y .records .leases)) v ∙ ap length b ∙ q;
   }
 
-  pub read-out : {g : Loaded} {m : Records} {r : ReadRecords} → g ≡ f → g .refusal ≡ 0 → (n ≡ 128 → ⊥) → m .leases ≡ ls → length ls ≡ 128 → r ≡ record { refusal = 21; state = s; records = m } → Reads (readWith n f s ls) r
+  pub read-out : {k : Loaded} {m : Records} {r : ReadRecords} → k ≡ f → k .refusal ≡ 0 → (n ≡ 128 → ⊥) → m .leases ≡ ls → length ls ≡ 128 → r ≡ record { refusal = 21; ledger = g; records = m } → Reads (readWith n f g ls) r
   unfolding readWith pick
   read-out a z e b q v =
-      kept b q v (off-whole Accepted (untouched 21 s ls) e ∙ sym (ap (λ (t : Bool). pick t by-number (untouched (f .refusal) s ls)) (eq-eqb _ _ (sym (ap (λ (y : Loaded). y .refusal) a) ∙ z))))
+      kept b q v (off-whole Accepted (untouched 21 g ls) e ∙ sym (ap (λ (t : Bool). pick t by-number (untouched (f .refusal) g ls)) (eq-eqb _ _ (sym (ap (λ (y : Loaded). y .refusal) a) ∙ z))))
 
-  pub read-refused : {g : Loaded} {m : Records} {r : ReadRecords} → g ≡ f → (g .refusal ≡ 0 → ⊥) → m .leases ≡ ls → length ls ≡ 128 → r ≡ record { refusal = g .refusal; state = s; records = m } → Reads (readWith n f s ls) r
+  pub read-refused : {k : Loaded} {m : Records} {r : ReadRecords} → k ≡ f → (k .refusal ≡ 0 → ⊥) → m .leases ≡ ls → length ls ≡ 128 → r ≡ record { refusal = k .refusal; ledger = g; records = m } → Reads (readWith n f g ls) r
   unfolding readWith pick
   read-refused a z b q v =
-      kept b q v (ap (λ (y : Loaded). untouched (y .refusal) s ls) a
-      ∙ sym (ap (λ (t : Bool). pick t by-number (untouched (f .refusal) s ls)) (ne-eqb _ _ (λ p. z (ap (λ (y : Loaded). y .refusal) a ∙ p)))))
+      kept b q v (ap (λ (y : Loaded). untouched (y .refusal) g ls) a
+      ∙ sym (ap (λ (t : Bool). pick t by-number (untouched (f .refusal) g ls)) (ne-eqb _ _ (λ p. z (ap (λ (y : Loaded). y .refusal) a ∙ p)))))

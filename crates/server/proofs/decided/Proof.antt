@@ -5,10 +5,10 @@ use Rattle.server.proofs.decided.Statement.{statement}
 use Rattle.server.proofs.decided.Tie as tie
 
 returns : tie.Need-returns
-returns c t v =
+returns c t k v f =
     let at-reply = c .before .before in
     let at-decide = at-reply .before .before .before .before in
-    serves-decided _ _ _ _ _ (at-decide .decide .ensures t v) (at-reply .write-reply .ensures)
+    serves-decided _ _ _ _ _ _ _ _ _ (at-decide .decide .ensures t v) f (at-reply .write-reply .ensures)
 
 pub decided-spec : {M : Type 1} → statement M
 decided-spec =

@@ -10,7 +10,7 @@ use Rattle.lists.specs.Pick.{pick}
 use Rattle.message.specs.Read.{readOf}
 use Rattle.reply.specs.Reply.{leastRoom}
 use Rattle.state.specs.Book.{Book, advanced}
-use Rattle.soundness.specs.Named.{bookB}
+use Rattle.releases.specs.Whole.{bookB}
 use Rattle.soundness.specs.Sound.{tenantsIn}
 use Rattle.server.specs.Serve.{Answer, Call, atClock, discarded, serveOf, tenantOf, withReading}
 

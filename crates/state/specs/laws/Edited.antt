@@ -1,6 +1,6 @@
 -- Laws: laws of an edit: the table after each kind, and what every edit keeps.
 use Prim.Native.Nat.{ℕ, zero, suc, _<_}
-use mathlib.Core.Path.{_≡_, refl, sym, ap, _∙_}
+use mathlib.Core.Path.{_≡_, refl, sym, ap, ap₂, _∙_}
 use mathlib.Core.Bool.{Bool, true, false}
 use mathlib.Core.List.{List, [], _∷_}
 use lib.Dec.{ltb}
@@ -12,14 +12,19 @@ use Rattle.lists.specs.laws.Each.{map-set}
 use Rattle.state.specs.declared.Lease.{Lease}
 use Rattle.state.specs.declared.TenantLeases.{TenantLeases}
 use Rattle.state.specs.declared.LeaseTable.{LeaseTable}
+use Rattle.state.specs.declared.Release.{Release}
+use Rattle.state.specs.declared.TenantReleases.{TenantReleases}
+use Rattle.state.specs.declared.Memory.{Memory}
 use Rattle.state.specs.declared.Edit.{Edit}
-use Rattle.state.specs.Book.{inUse, laidOut, leasesOf, tableOf, tenantAt, putAt, idOf, insertOf, insertedIn, removeOf}
-use Rattle.state.specs.Edit.{noEdit, entering, leaving, givingWay, leftIn, editedIn, applied}
+use Rattle.state.specs.Book.{Book, laidReleases, inUse, laidOut, leasesOf, tableOf, tenantAt, putAt, idOf, insertOf, insertedIn, removeOf}
+use Rattle.state.specs.Edit.{noEdit, entering, leaving, givingWay, leftIn, editedIn, applied, notedIn, noted, editedBook}
 use Rattle.state.specs.laws.Layout.{read-back, put-laid}
 
 -- ---- between the code and the definition
-pub edit-is : (x y : Bool) {o o′ n n′ : Lease} → o ≡ o′ → n ≡ n′ → _≡_ {A = Edit} (record { leaves = x; old = o; enters = y; new = n }) (record { leaves = x; old = o′; enters = y; new = n′ })
-edit-is x y p q = cc
+pub edit-is : (x y f r : Bool) {o o′ n n′ : Lease} {q q′ : Release} → o ≡ o′ → n ≡ n′ → q ≡ q′
+    → _≡_ {A = Edit} (record { leaves = x; old = o; enters = y; new = n; forgets = f; remembers = r; release = q })
+    (record { leaves = x; old = o′; enters = y; new = n′; forgets = f; remembers = r; release = q′ })
+edit-is x y f r a b c = cc
 
 pub edited-is : (e : Edit) (t rest r : TenantLeases) → rest ≡ leftIn e t → r ≡ pick (e .enters) (insertedIn (e .new) rest) rest → r ≡ editedIn e t
 unfolding editedIn
@@ -40,9 +45,9 @@ module _ (b : LeaseTable) (h : ℕ) where
   unfolding applied editedIn leftIn insertedIn pick
   applied-entering l p = ap (λ (x : Bool). putAt b h (pick x (laidOut (insertOf l (inUse (tenantAt b h)))) (tenantAt b h))) (lt-ltb (length (inUse (tenantAt b h))) 16 p)
 
-  pub applied-leaving : (o : Lease) → applied (leaving o) h b ≡ putAt b h (laidOut (removeOf (idOf o) (inUse (tenantAt b h))))
+  pub applied-leaving : (o : Lease) (x c : ℕ) → applied (leaving o x c) h b ≡ putAt b h (laidOut (removeOf (idOf o) (inUse (tenantAt b h))))
   unfolding applied editedIn leftIn pick
-  applied-leaving o = refl
+  applied-leaving o x c = refl
 
   pub applied-way : (o l : Lease) → length (removeOf (idOf o) (inUse (tenantAt b h))) < 16
       → applied (givingWay o l) h b ≡ putAt b h (laidOut (insertOf l (removeOf (idOf o) (inUse (tenantAt b h)))))
@@ -51,6 +56,14 @@ module _ (b : LeaseTable) (h : ℕ) where
       let rest : List Lease = removeOf (idOf o) (inUse (tenantAt b h)) in
       ap (λ (x : List Lease). putAt b h (pick (ltb (length x) 16) (laidOut (insertOf l x)) (laidOut rest))) (read-back rest)
       ∙ ap (λ (x : Bool). putAt b h (pick x (laidOut (insertOf l rest)) (laidOut rest))) (lt-ltb (length rest) 16 p)
+
+-- ---- what is remembered, and the book, after no edit
+pub noted-none : (m : Memory) (h : ℕ) → noted noEdit h m ≡ m
+unfolding noted notedIn pick
+noted-none m h = ap {B = Memory} (λ (x : List TenantReleases). record { releases = x }) (set-own (m .releases) h (laidReleases []))
+
+pub edited-none : (b : Book) (h : ℕ) → editedBook noEdit h b ≡ b
+edited-none b h = ap₂ (λ (t : LeaseTable) (m : Memory). record { state = b .state; table = t; memory = m; names = b .names }) (applied-none (b .table) h) (noted-none (b .memory) h)
 
 -- ---- what every edit keeps
 -- how many tenants there are, and the other tenants' records

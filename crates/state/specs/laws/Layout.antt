@@ -9,6 +9,8 @@ use Rattle.identifier.specs.Order.{orderOf}
 use Rattle.state.specs.declared.Lease.{Lease}
 use Rattle.state.specs.declared.TenantLeases.{TenantLeases}
 use Rattle.state.specs.declared.LeaseTable.{LeaseTable}
+use Rattle.state.specs.declared.Release.{Release}
+use Rattle.state.specs.declared.TenantReleases.{TenantReleases}
 use Rattle.state.specs.declared.Scope.{Scope}
 use Rattle.state.specs.declared.State.{State}
 use mathlib.Core.Path.{_≡_, refl, sym, ap, ap₂, _∙_}
@@ -18,7 +20,7 @@ use Rattle.lists.specs.Fold.{fold}
 use Rattle.lists.specs.laws.Filter.{filter-fewer}
 use Rattle.lists.specs.laws.Each.{map-set, map-back}
 use Rattle.lists.specs.laws.Row.{row-back, row-push, row-filtered, row-insert, row-length, row-in, row-out}
-use Rattle.state.specs.Book.{Book, advanced, changedTo, leaseWith, zeroLease, inUse, laidOut, pushed, keptIf, idOf, byIdentifier, ordered, before, notBefore, named, other, insertOf, insertedIn, removeOf, placeOf, liveOf, leaseAt, tableOf, leasesOf, putAt, raised, dropped, withClock}
+use Rattle.state.specs.Book.{Book, advanced, changedTo, leaseWith, zeroLease, inUse, laidOut, pushed, keptIf, idOf, byIdentifier, ordered, before, notBefore, named, other, insertOf, insertedIn, removeOf, placeOf, liveOf, leaseAt, tableOf, leasesOf, putAt, raised, dropped, withClock, laidReleases, zeroRelease}
 
 -- ---- one turn of the loops below
 -- what an element is past the end of an array
@@ -85,6 +87,10 @@ pub empty-is : (l : Lease) → l ≡ zeroLease → _≡_ {A = TenantLeases} (rec
 unfolding laidOut
 empty-is l e = ap {B = TenantLeases} (λ (x : Lease). record { leases = replicate 16 x; count = 0 }) e
 
+pub none-released : (r : Release) → r ≡ zeroRelease → _≡_ {A = TenantReleases} (record { releases = replicate 4 r; count = 0 }) (laidReleases [])
+unfolding laidReleases
+none-released r e = ap {B = TenantReleases} (λ (x : Release). record { releases = replicate 4 x; count = 0 }) e
+
 -- ---- removal
 pub removed-fewer : (i : List ℕ) (ls : List Lease) → placeOf i ls < length ls → length (removeOf i ls) < length ls
 unfolding removeOf
@@ -130,6 +136,6 @@ pub raised-not : (s : State) (time : ℕ) → time ≤ s .clock → s ≡ raised
 unfolding raised
 raised-not s time h = ap (withClock s) (let e : s .clock ≡ max (s .clock) time = omega arith in e)
 
-pub advanced-is : (b : Book) (time : ℕ) (s : State) (t : LeaseTable) → s ≡ raised (b .state) time → t ≡ dropped (s .clock) (b .table) → changedTo b s t ≡ advanced b time
+pub advanced-is : (b : Book) (time : ℕ) (s : State) (t : LeaseTable) → s ≡ raised (b .state) time → t ≡ dropped (s .clock) (b .table) → changedTo b s t (b .memory) ≡ advanced b time
 unfolding advanced raised
-advanced-is b time s t p q = ap₂ (changedTo b) p (q ∙ ap (λ (x : State). dropped (x .clock) (b .table)) p)
+advanced-is b time s t p q = ap₂ (λ (x : State) (y : LeaseTable). changedTo b x y (b .memory)) p (q ∙ ap (λ (x : State). dropped (x .clock) (b .table)) p)

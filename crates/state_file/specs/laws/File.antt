@@ -10,6 +10,7 @@ use borrow.Author.Tests.{le-leb, leb-true}
 use Rattle.address_set.specs.AddressSet.{rises}
 use Rattle.lists.specs.Pick.{pick}
 use Rattle.names.specs.laws.Names.{names-lawful}
+use Rattle.release_file.specs.laws.Section.{releases-lawful}
 use Rattle.state.specs.declared.ClientRange.{ClientRange}
 use Rattle.state_file.specs.File.{File, FileLease, FileScope, fileFormat, fileLimit, fileOf, lastFormat, leaseAfter, leaseFormat, leaseKey, partFormat, scopeFormat, tenantFormat}
 use Rattle.format.specs.Format.{bad, closed, counted, got, octet, Octets}
@@ -40,7 +41,8 @@ lease-lawful =
     (both-lawful number-lawful (both-lawful number-lawful (both-lawful number-lawful (only-lawful octets-lawful rises)))))))) _ _ (λ x. refl) (λ y. refl)
 
 last-lawful : (cs : List FileScope) (ts : List ClientRange) → Lawful (lastFormat cs ts)
-last-lawful cs ts = both-lawful (only-lawful (counted-lawful lease-lawful) (leasesFrom 0 [])) (verbatim-lawful (names-lawful (length cs) (length ts)))
+last-lawful cs ts =
+    both-lawful (only-lawful (counted-lawful lease-lawful) (leasesFrom 0 [])) (both-lawful (verbatim-lawful (names-lawful (length cs) (length ts))) releases-lawful)
 
 pub file-lawful : Lawful fileFormat
 file-lawful =

@@ -1,16 +1,16 @@
 -- Laws: what is stored in a record is filed again, and back.
 use mathlib.Core.Bool.{true}
-use mathlib.Core.List.{List, [], _++_, _∷_}
-use mathlib.Core.Path.{_∙_, _≡_, ap, ap₂, refl, sym}
+use mathlib.Core.List.{List, [], _∷_}
+use mathlib.Core.Path.{_∙_, _≡_, ap, ap₂, refl}
 use Prim.Native.Nat.{_-_, _<_, _^_, _≤_, ℕ}
-use lib.ListN.{drop, length, replicate, take, take-append-drop}
-use lib.Seq.{take-append-seam}
+use lib.ListN.{drop, length, replicate, take}
 use borrow.Author.Tests.{lt-ltb, ltb-true}
 use Rattle.address_set.specs.AddressSet.{offsets, readOffsets, rises, setOf}
 use Rattle.address_set.specs.laws.Offsets.{offsets-setOf, offsets-small, setOf-offsets}
 use Rattle.lists.specs.All.{All, allBy}
 use Rattle.lists.specs.laws.All.{all-cons, all-head}
 use Rattle.lists.specs.laws.Filter.{filter-none-out}
+use Rattle.lists.specs.laws.Row.{row-back, row-fill}
 use Rattle.state.specs.Book.{leaseWith}
 use Rattle.state.specs.declared.Lease.{Lease}
 use Rattle.state_file.specs.File.{FileLease}
@@ -19,12 +19,12 @@ use Rattle.state_file.specs.Records.{filedLease, filled, isOffset, store
 -- ---- lists that zeros fill up
 pub filled-take : {A : Type 0} (z : A) (n : ℕ) (l : List A) → take (length l) (filled z n l) ≡ l
 unfolding filled
-filled-take z n l = take-append-seam l _
+filled-take z n l = row-back z n l
 
 -- an array with only z past k is the filled list of its first k
 pub filled-back : {A : Type 0} (z : A) (n k : ℕ) (a : List A) → length (take k a) ≡ k → drop k a ≡ replicate (n - k) z → filled z n (take k a) ≡ a
 unfolding filled
-filled-back {A} z n k a e q = ap (λ (j : ℕ). take k a ++ replicate (n - j) z) e ∙ ap (λ (l : List A). take k a ++ l) (sym q) ∙ take-append-drop k a
+filled-back z n k a e q = row-fill z n k a e q
 
 -- ---- leases
 -- a lease of the file that a record can hold

@@ -1,7 +1,8 @@
 //! Measures the proved library and the second program at the same work. `bench/run` calls it.
 //!
-//!   bench sizes CALLS MIXED          a line for each job: name, leases, whether its names section is full (1 or 0), calls in its list, octets of
-//!                                    its file, the place of the job with an empty list on the same file, or -1
+//!   bench sizes CALLS MIXED          a line for each job: name, leases, which of its last sections are full (0 none, 1 names, 2 releases, 3
+//!                                    both), calls in its list, octets of its file, the place of the job with an empty list on the same
+//!                                    file, or -1
 //!   bench once SIDE CALLS MIXED      does every job once, for counting instructions; SIDE is proved or plain
 //!   bench time RUNS CALLS MIXED      a line for each job and side: name, leases, side, median of the nanoseconds of so many runs
 
@@ -35,7 +36,7 @@ fn main() -> ExitCode {
                     "{}\t{}\t{}\t{}\t{}\t{empty}",
                     job.name,
                     job.leases,
-                    u8::from(job.full_names),
+                    job.filled as u8,
                     job.count(),
                     job.file.len()
                 );

@@ -122,7 +122,7 @@ fn refusals(random: &mut Random, watch: &mut Watch, campus: &Campus) {
 /// Any octets, damaged by a rule or octet by octet, padded, or sound.
 fn any_file(random: &mut Random, campus: &Campus) -> Vec<u8> {
     let mut file = campus.octets();
-    match random.below(7) {
+    match random.below(8) {
         0 => {
             let length = random.pick(&[0, 1, 9, 40, 300, 15_000, FILE_ROOM, FILE_ROOM + 1, 40_000]);
             file = random.low_octets(length, 60, 4);
@@ -150,7 +150,13 @@ fn any_file(random: &mut Random, campus: &Campus) -> Vec<u8> {
             // The names alone.
             let mut names = campus.names();
             battered(random, &mut names);
-            file = [campus.front(), names].concat();
+            file = [campus.front(), names, campus.releases()].concat();
+        }
+        6 => {
+            // The releases alone.
+            let mut releases = campus.releases();
+            battered(random, &mut releases);
+            file = [campus.front(), campus.names(), releases].concat();
         }
         _ => battered(random, &mut file),
     }

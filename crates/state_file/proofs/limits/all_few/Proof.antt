@@ -1,7 +1,7 @@
 -- `all_few` meets its contract: by `fews`.
 use Prim.Native.Nat.{_+_, _-_}
 use Rattle.lists.specs.laws.All.{UptoInv}
-use Rattle.state_file.proofs.Fill.{few-broken, few-next, fews}
+use Rattle.state_file.proofs.Fill.{fews, leases-few-broken, leases-few-next}
 use Rattle.state_file.specs.Place.{leasesAt}
 use Rattle.state_file.specs.Records.{fewOf}
 use borrow.Author.Needs.{needs}
@@ -16,11 +16,11 @@ abbrev μ-loop : tie.MeasureT-loop
 
 -- src/limits.rt:106:13
 returns : tie.Need-returns Inv-loop μ-loop
-returns c = few-broken _ (c .before .before .loop .inv) (c .before .before .before .tally .ensures) (search needs) (search needs)
+returns c = leases-few-broken _ (c .before .before .loop .inv) (c .before .before .before .tally .ensures) (search needs) (search needs)
 
 -- src/limits.rt:104:5
 loop-again : tie.Need-loop-again Inv-loop μ-loop
-loop-again c = few-next _ (c .before .before .loop .inv) (c .before .before .before .tally .ensures) (search needs) (search needs)
+loop-again c = leases-few-next _ (c .before .before .loop .inv) (c .before .before .before .tally .ensures) (search needs) (search needs)
 
 pub all-few-spec : {M : Type 1} → statement M
 all-few-spec =

@@ -1,12 +1,14 @@
 -- `tally` meets its contract: its loop keeps `CountInv`; by `counts`.
 use Prim.Native.Nat.{_-_}
-use Rattle.state_file.proofs.Fill.{CountInv, count-small, counts}
+use Rattle.format.specs.laws.Entries.{CountInv, count-small}
+use Rattle.state_file.proofs.Fill.{counts}
+use Rattle.state_file.specs.Place.{StorableAt, fileLeaseAt, leaseTenant, nextAt}
 use borrow.Author.Needs.{needs}
 use Rattle.state_file.proofs.limits.tally.Statement.{statement}
 use Rattle.state_file.proofs.limits.tally.Tie as tie
 
 abbrev Inv-loop : tie.InvT-loop
-Inv-loop s from count n₀ here₀ i₀ n here i = CountInv s from count n here i
+Inv-loop s from count n₀ here₀ i₀ n here i = CountInv leaseTenant StorableAt fileLeaseAt nextAt s from count n here i
 
 abbrev μ-loop : tie.MeasureT-loop
 μ-loop s from count n₀ here₀ i₀ n here i = count - i

@@ -2,7 +2,8 @@
 use Prim.Native.Nat.{_-_}
 use lib.ListN.{getD}
 use borrow.Author.Needs.{needs}
-use Rattle.state_file.proofs.Pad.{PadInv, pads}
+use Rattle.state_file.proofs.Pad.{pads}
+use Rattle.lists.specs.laws.Pad.{PadInv}
 use Rattle.format.specs.Place.{row}
 use Rattle.state_file.proofs.load.column_at.Statement.{statement}
 use Rattle.state_file.proofs.load.column_at.Tie as tie

@@ -10,7 +10,7 @@ set-at-requires c κs = let r = lease-room (c .before .before .before .wide .ens
 
 returns : tie.Need-returns
 returns c =
-    lease-stored (c .before .before .before .before .before .before .before .before .before .before .wide .ensures .0) (c .before .before .before .before .before .before .before .before .wide2 .ensures .0) (c .before .before .before .before .before .before .before .before .before .before .before .before .before .pre) _ _ _ _ _ (c .before .before .before .before .before .before .before .id-at .ensures) (c .before .before .read-u32 .ensures) (c .before .read-u322 .ensures) (c .read-u323 .ensures) (c .before .before .before .before .before .before .set-at .ensures)
+    lease-stored (c .before .before .before .before .before .before .before .before .before .before .wide .ensures .0) (c .before .before .before .before .before .before .before .before .wide2 .ensures .0) (c .before .before .before .before .before .before .before .before .before .before .before .before .before .pre) _ _ _ _ _ (c .before .before .before .before .before .before .before .read-run .ensures) (c .before .before .read-u32 .ensures) (c .before .read-u322 .ensures) (c .read-u323 .ensures) (c .before .before .before .before .before .before .set-at .ensures)
 
 pub lease-at-spec : {M : Type 1} → statement M
 lease-at-spec =

@@ -8,10 +8,11 @@ pub load-spec : {M : Type 1} → statement M
 load-spec =
     tie.close
     (tie.spec
-    (λ c κs. search (fileParts, needs))  -- src/load.rt:29:8 fits-requires
-    (λ c κs. search (fileParts, needs))  -- src/load.rt:30:13 state-at-requires
-    (λ c κs. search (fileParts, needs))  -- src/load.rt:31:13 table-at-requires
-    (λ c κs. search (fileParts, needs))  -- src/load.rt:32:9 judge-requires
-    (λ c. search (loaded-yes, loaded-not, fileParts, needs))  -- src/load.rt:32:9 returns
-    (λ c κs. search (fileParts, needs))  -- src/load.rt:34:5 refusal-requires
-    (λ c. search (loaded-yes, loaded-not, fileParts, needs)))  -- src/load.rt:25:1 returns-2
+    (λ c κs. search needs)  -- src/load.rt:33:8 fits-requires
+    (λ c κs. search (fileParts, needs))  -- src/load.rt:34:13 state-at-requires
+    (λ c κs. search (fileParts, needs))  -- src/load.rt:35:13 table-at-requires
+    (λ c κs. search (fileParts, needs))  -- src/load.rt:36:13 load-requires
+    (λ c κs. search needs)  -- src/load.rt:37:9 judge-requires
+    (λ c. search (loaded-yes, loaded-not, fileParts, needs))  -- src/load.rt:37:9 returns
+    (λ c κs. search needs)  -- src/load.rt:39:5 refusal-requires
+    (λ c. search (loaded-yes, loaded-not, fileParts, needs)))  -- src/load.rt:29:1 returns-2

@@ -1,7 +1,8 @@
 -- `load::ranges_at` meets its contract: its loop keeps `PadInv`; by `pads`.
 use Prim.Native.Nat.{_-_}
 use borrow.Author.Needs.{needs}
-use Rattle.state_file.proofs.Pad.{PadInv, pads}
+use Rattle.state_file.proofs.Pad.{pads}
+use Rattle.lists.specs.laws.Pad.{PadInv}
 use Rattle.state_file.specs.Place.{rangeAt}
 use Rattle.format.specs.Place.{row}
 use Rattle.state_file.specs.Records.{zeroRange}

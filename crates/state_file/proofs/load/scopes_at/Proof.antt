@@ -6,7 +6,8 @@ use denote.Ref.{now}
 use lib.ListN.{length}
 use borrow.Author.Needs.{needs}
 use Rattle.state.specs.Book.{zeroScope}
-use Rattle.state_file.proofs.Pad.{PadInv, row-in, scopePads}
+use Rattle.state_file.proofs.Pad.{row-in, scopePads}
+use Rattle.lists.specs.laws.Pad.{PadInv}
 use Rattle.state_file.specs.Place.{fileScopeAt}
 use Rattle.format.specs.Place.{row}
 use Rattle.state_file.specs.Records.{storedScope}

@@ -3,7 +3,7 @@ use Prim.Native.Nat.{_-_}
 use lib.ListN.{getD, length}
 use borrow.Author.Needs.{needs}
 use Rattle.state.specs.Book.{inUse, noLeases}
-use Rattle.state_file.proofs.RowLaws.{SizeInv, sizes}
+use Rattle.format.specs.laws.Rows.{SizeInv, sizes}
 use Rattle.state_file.proofs.put.lease_total.Statement.{statement}
 use Rattle.state_file.proofs.put.lease_total.Tie as tie
 

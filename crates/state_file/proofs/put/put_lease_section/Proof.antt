@@ -1,6 +1,6 @@
 -- `put::put_lease_section` meets its contract: by `section-wrote`.
 use borrow.Author.Needs.{needs}
-use Rattle.state_file.proofs.Writes.{section-wrote}
+use Rattle.format.specs.laws.Rows.{section-wrote}
 use Rattle.state_file.specs.Rows.{leaseTotal}
 use Rattle.state_file.proofs.put.put_lease_section.Statement.{statement}
 use Rattle.state_file.proofs.put.put_lease_section.Tie as tie

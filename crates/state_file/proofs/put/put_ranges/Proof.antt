@@ -1,7 +1,8 @@
 -- `put::put_ranges` meets its contract: its loop keeps `RowInv`; by `rangeRows`, `tenants`.
 use Prim.Native.Nat.{_-_}
 use borrow.Author.Needs.{needs}
-use Rattle.state_file.proofs.RowLaws.{RowInv, rangeRows}
+use Rattle.state_file.proofs.RowLaws.{rangeRows}
+use Rattle.format.specs.laws.Rows.{RowInv}
 use Rattle.state_file.specs.Records.{zeroRange}
 use Rattle.state_file.specs.Rows.{rangeRow}
 use Rattle.state_file.proofs.put.put_ranges.Statement.{statement}

@@ -2,7 +2,8 @@
 use Prim.Native.Nat.{_-_}
 use borrow.Author.Needs.{needs}
 use Rattle.state.specs.Book.{noLeases}
-use Rattle.state_file.proofs.RowLaws.{RowInv, tenantRows}
+use Rattle.state_file.proofs.RowLaws.{tenantRows}
+use Rattle.format.specs.laws.Rows.{RowInv}
 use Rattle.state_file.specs.Rows.{tenantRow}
 use Rattle.state_file.proofs.put.put_records.Statement.{statement}
 use Rattle.state_file.proofs.put.put_records.Tie as tie

@@ -2,7 +2,8 @@
 use Prim.Native.Nat.{_-_}
 use borrow.Author.Needs.{needs}
 use Rattle.state.specs.laws.Layout.{noScope}
-use Rattle.state_file.proofs.RowLaws.{RowInv, scopeRows}
+use Rattle.state_file.proofs.RowLaws.{scopeRows}
+use Rattle.format.specs.laws.Rows.{RowInv}
 use Rattle.state_file.specs.Rows.{scopeRow}
 use Rattle.state_file.proofs.put.put_scopes.Statement.{statement}
 use Rattle.state_file.proofs.put.put_scopes.Tie as tie

@@ -2,7 +2,8 @@
 use Prim.Native.Nat.{_-_}
 use borrow.Author.Needs.{needs}
 use Rattle.state.specs.laws.Layout.{noLease}
-use Rattle.state_file.proofs.RowLaws.{RowInv, leaseRows}
+use Rattle.state_file.proofs.RowLaws.{leaseRows}
+use Rattle.format.specs.laws.Rows.{RowInv}
 use Rattle.state_file.specs.Rows.{leaseOctets}
 use Rattle.state_file.proofs.put.put_tenant.Statement.{statement}
 use Rattle.state_file.proofs.put.put_tenant.Tie as tie

@@ -5,14 +5,16 @@ use borrow.Author.Needs.{needs}
 use Rattle.state_file.proofs.size.file_size.Statement.{statement}
 use Rattle.state_file.proofs.size.file_size.Tie as tie
 
--- src/size.rt:15:1
+-- src/size.rt:16:1
 returns : tie.Need-returns
-returns c = file-sum (c .before .before .args .state) (c .before .before .args .table) (c .before .before .args .names .now) (search (unmapped, needs)) _ (c .sections-size .ensures .0)
+returns c = file-sum (c .before .before .before .args .state) (c .before .before .before .args .table) (c .before .before .before .args .memory) (c .before .before .before .args .names .now) (search (unmapped, needs)) _ _ (c .before .sections-size .ensures .0) (c .size .ensures .0)
 
 pub file-size-spec : {M : Type 1} → statement M
 file-size-spec =
     tie.close
     (tie.spec
-    (λ c κs. search needs)  -- src/size.rt:18:5 sections-size-requires
-    (λ c. search needs)  -- src/size.rt:18:5 add-result
+    (λ c κs. search needs)  -- src/size.rt:19:5 sections-size-requires
+    (λ c. search needs)  -- src/size.rt:19:5 add-result
+    (λ c κs. search needs)  -- src/size.rt:19:49 size-requires
+    (λ c. search needs)  -- src/size.rt:19:5 add-result-2
     returns)

@@ -5,7 +5,7 @@ use lib.ListN.{getD, length}
 use borrow.Author.Needs.{needs}
 use Rattle.lists.specs.laws.Part.{unmapped}
 use Rattle.state.specs.laws.Layout.{noScope}
-use Rattle.state_file.proofs.RowLaws.{SizeInv, row-sum, size-end, sizes}
+use Rattle.format.specs.laws.Rows.{SizeInv, row-sum, size-end, sizes}
 use Rattle.state_file.specs.Rows.{scopeRow}
 use Rattle.state_file.proofs.size.scopes_length.Statement.{statement}
 use Rattle.state_file.proofs.size.scopes_length.Tie as tie

@@ -3,7 +3,7 @@ use Prim.Native.Nat.{_-_}
 use lib.ListN.{getD, length}
 use borrow.Author.Needs.{needs}
 use Rattle.state.specs.Book.{noLeases}
-use Rattle.state_file.proofs.RowLaws.{SizeInv, sizes}
+use Rattle.format.specs.laws.Rows.{SizeInv, sizes}
 use Rattle.state_file.proofs.Writes.{table-length}
 use Rattle.state_file.specs.Rows.{tenantOctets}
 use Rattle.state_file.proofs.size.table_size.Statement.{statement}

@@ -1,0 +1,13 @@
+-- `acknowledge_again` meets its contract: by unchanged-is.
+use Rattle.decision.specs.laws.Code.{unchanged-is}
+use borrow.Author.Needs.{needs}
+use Rattle.decision.proofs.acknowledge_again.Statement.{statement}
+use Rattle.decision.proofs.acknowledge_again.Tie as tie
+
+pub acknowledge-again-spec : {M : Type 1} → statement M
+acknowledge-again-spec =
+    tie.close
+    (tie.spec
+    (λ c κs. search needs)  -- src/lib.rt:194:9 plain-reply-requires
+    (λ c κs. search needs)  -- src/lib.rt:195:5 unchanged-by-requires
+    (λ c. search (unchanged-is, needs)))  -- src/lib.rt:191:1 returns

@@ -1,0 +1,4 @@
+pub mod Section
+pub mod Place
+pub mod Rows
+pub mod laws

@@ -1,0 +1,19 @@
+-- `first_release` meets its contract: by tests.
+use Rattle.lists.specs.laws.Pick.{tests}
+use Rattle.releases.specs.Rules.{firstRelease}
+use borrow.Author.Needs.{needs}
+use borrow.Author.Tests.{not-false, not-true}
+use Rattle.releases.proofs.first_release.Statement.{statement}
+use Rattle.releases.proofs.first_release.Tie as tie
+
+pub first-release-spec : {M : Type 1} → statement M
+unfolding firstRelease
+first-release-spec =
+    tie.close
+    (tie.spec
+    (λ c. search (tests, not-true, not-false, needs) depth 24)  -- src/lib.rt:198:9 returns
+    (λ c. search (tests, not-true, not-false, needs) depth 24)  -- src/lib.rt:201:9 returns-2
+    (λ c. search (tests, not-true, not-false, needs) depth 24)  -- src/lib.rt:204:9 returns-3
+    (λ c. search (tests, not-true, not-false, needs) depth 24)  -- src/lib.rt:207:9 returns-4
+    (λ c. search (tests, not-true, not-false, needs) depth 24)  -- src/lib.rt:210:9 returns-5
+    (λ c. search (tests, not-true, not-false, needs) depth 24))  -- src/lib.rt:194:1 returns-6

@@ -1,0 +1,17 @@
+-- `remember` meets its contract: with room, or without.
+use Rattle.lists.specs.laws.Part.{unmapped}
+use Rattle.releases.specs.laws.Code.{remember-full, remember-room}
+use borrow.Author.Needs.{needs}
+use Rattle.releases.proofs.remember.Statement.{statement}
+use Rattle.releases.proofs.remember.Tie as tie
+
+pub remember-spec : {M : Type 1} → statement M
+remember-spec =
+    tie.close
+    (tie.spec
+    (λ c κs. search needs)  -- src/lib.rt:125:13 later-requires
+    (λ c κs. search needs)  -- src/lib.rt:126:9 push-requires
+    (λ c. search (remember-room, remember-full, unmapped, needs))  -- src/lib.rt:126:9 returns
+    (λ c κs. search needs)  -- src/lib.rt:128:9 later-requires-2
+    (λ c κs. search needs)  -- src/lib.rt:129:5 push-requires-2
+    (λ c. search (remember-room, remember-full, unmapped, needs)))  -- src/lib.rt:121:1 returns-2

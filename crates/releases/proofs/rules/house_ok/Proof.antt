@@ -1,0 +1,14 @@
+-- `house_ok` meets its contract: by ors.
+use Rattle.lists.specs.laws.Both.{ors}
+use Rattle.releases.specs.Rules.{houseB}
+use borrow.Author.Needs.{needs}
+use Rattle.releases.proofs.rules.house_ok.Statement.{statement}
+use Rattle.releases.proofs.rules.house_ok.Tie as tie
+
+pub house-ok-spec : {M : Type 1} → statement M
+unfolding houseB
+house-ok-spec =
+    tie.close
+    (tie.spec
+    (λ c. search (ors, needs))  -- src/rules.rt:31:9 returns
+    (λ c. search (ors, needs)))  -- src/rules.rt:27:1 returns-2

@@ -1,0 +1,5 @@
+pub mod Again
+pub mod Rules
+pub mod Whole
+pub mod Parts
+pub mod laws

@@ -1,0 +1,4 @@
+pub mod Tenants
+pub mod Code
+pub mod Whole
+pub mod Kept

@@ -1,11 +1,11 @@
 -- Laws: laws of an edit: the table after each kind, and what every edit keeps.
-use Prim.Native.Nat.{ℕ, zero, suc, _<_}
+use Prim.Native.Nat.{ℕ, _<_}
 use mathlib.Core.Path.{_≡_, refl, sym, ap, ap₂, _∙_}
 use mathlib.Core.Bool.{Bool, true, false}
-use mathlib.Core.List.{List, [], _∷_}
+use mathlib.Core.List.{List, []}
 use lib.Dec.{ltb}
-use lib.ListN.{length, getD, set, length-set, List·getD-map}
-use lib.Seq.{getD-set-other}
+use lib.ListN.{length, getD, length-set, List·getD-map}
+use lib.Seq.{getD-set-other, set-getD}
 use borrow.Author.Tests.{lt-ltb}
 use Rattle.lists.specs.Pick.{pick}
 use Rattle.lists.specs.laws.Each.{map-set}
@@ -31,15 +31,10 @@ unfolding editedIn
 edited-is e t rest r p q = q ∙ ap (λ (x : TenantLeases). pick (e .enters) (insertedIn (e .new) x) x) p
 
 -- ---- the table after each kind of edit
-set-own : {A : Type 0} (l : List A) (h : ℕ) (d : A) → set l h (getD l h d) ≡ l
-set-own [] h d = refl
-set-own (x ∷ l) zero d = refl
-set-own {A} (x ∷ l) (suc h) d = ap {B = List A} (λ (r : List A). x ∷ r) (set-own l h d)
-
 module _ (b : LeaseTable) (h : ℕ) where
   pub applied-none : applied noEdit h b ≡ b
   unfolding applied editedIn leftIn pick
-  applied-none = ap {B = LeaseTable} (λ (x : List TenantLeases). record { tenants = x }) (set-own (b .tenants) h (laidOut []))
+  applied-none = ap {B = LeaseTable} (λ (x : List TenantLeases). record { tenants = x }) (set-getD (b .tenants) h (laidOut []))
 
   pub applied-entering : (l : Lease) → length (inUse (tenantAt b h)) < 16 → applied (entering l) h b ≡ putAt b h (laidOut (insertOf l (inUse (tenantAt b h))))
   unfolding applied editedIn leftIn insertedIn pick
@@ -60,7 +55,7 @@ module _ (b : LeaseTable) (h : ℕ) where
 -- ---- what is remembered, and the book, after no edit
 pub noted-none : (m : Memory) (h : ℕ) → noted noEdit h m ≡ m
 unfolding noted notedIn pick
-noted-none m h = ap {B = Memory} (λ (x : List TenantReleases). record { releases = x }) (set-own (m .releases) h (laidReleases []))
+noted-none m h = ap {B = Memory} (λ (x : List TenantReleases). record { releases = x }) (set-getD (m .releases) h (laidReleases []))
 
 pub edited-none : (b : Book) (h : ℕ) → editedBook noEdit h b ≡ b
 edited-none b h = ap₂ (λ (t : LeaseTable) (m : Memory). record { state = b .state; table = t; memory = m; names = b .names }) (applied-none (b .table) h) (noted-none (b .memory) h)

@@ -12,10 +12,9 @@ use Rattle.lists.specs.All.{allBy, allTo}
 use Rattle.lists.specs.Filter.{filterBy}
 use Rattle.lists.specs.Pick.{pick}
 use Rattle.octets.specs.Octets.{octets32}
-use Rattle.release_file.specs.Rows.{noReleases}
-use Rattle.release_file.specs.laws.Rows.{noRelease}
 use Rattle.release_file.specs.Section.{FileRelease, fewFor, filedMemory, filedRelease, keepableB, memoryOctets, releasesFitB, releasesFormat, storedMemory, storedRelease}
-use Rattle.state.specs.Book.{laidReleases}
+use Rattle.state.specs.Book.{laidReleases, noReleases}
+use Rattle.state.specs.laws.Layout.{noRelease}
 use Rattle.state.specs.declared.Memory.{Memory}
 use Rattle.state.specs.declared.Release.{Release}
 

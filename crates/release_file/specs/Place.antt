@@ -1,18 +1,15 @@
 -- Definitions: where the releases stand in the file's octets, for the code that goes over them.
 use mathlib.Core.List.{List, []}
 use Prim.Native.Nat.{_+_, _<_, _≤_, ℕ}
-use lib.Dec.{ltb}
-use lib.ListN.{drop, getD, length, set, take}
+use lib.ListN.{drop, getD, length, take}
 use Rattle.format.specs.Place.{EachAt, walk}
 use Rattle.format.specs.Section.{EntryEnds, InRow, RowEnds, SectionEnds}
 use Rattle.format.specs.Tenants.{keepBy, perTenant}
 use Rattle.format.specs.declared.Place.{Place}
 use Rattle.lists.specs.Fold.{fold}
-use Rattle.lists.specs.Pick.{pick}
 use Rattle.octets.specs.Octets.{at32}
 use Rattle.release_file.specs.Section.{FileRelease, releaseAfter, releaseFormat, releaseKey, storedRelease, releaseTenant}
-use Rattle.state.specs.Book.{laidReleases}
-use Rattle.state.specs.declared.Release.{Release}
+use Rattle.state.specs.Book.{laidReleases, pushedRelease}
 use Rattle.state.specs.declared.TenantReleases.{TenantReleases}
 
 -- the release that starts at a place, whose parts are taken from where they would stand
@@ -62,10 +59,6 @@ abbrev pub AllKeepable : List ℕ → ℕ → ℕ → Type 0
 AllKeepable s at k = EachAt KeepableAt afterRelease k s at
 
 -- ---- a tenant's entries, filled from the front
--- one release more at the end, where there is room
-unfoldable pub pushedRelease : TenantReleases → Release → TenantReleases
-pushedRelease q r = pick (ltb (q .count) 4) (record { releases = set (q .releases) (q .count) r; count = q .count + 1 }) q
-
 abbrev pub keptOf : ℕ → List FileRelease → TenantReleases
 keptOf t xs = fold (keepBy releaseTenant (λ q x. pushedRelease q (storedRelease x)) t) (laidReleases []) xs
 

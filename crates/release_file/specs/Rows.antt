@@ -1,11 +1,11 @@
 -- Definitions: the octets of what a memory holds, as the writer goes over it: tenant by tenant, release by release.
-use mathlib.Core.List.{List, []}
+use mathlib.Core.List.{List}
 use Prim.Native.Nat.{_+_, ℕ}
 use lib.ListN.{getD, length}
 use Rattle.format.specs.Rows.{writeFrom}
 use Rattle.lists.specs.Sums.{sumTo}
 use Rattle.release_file.specs.Section.{filedRelease, releaseFormat}
-use Rattle.state.specs.Book.{remembered}
+use Rattle.state.specs.Book.{noReleases, remembered}
 use Rattle.state.specs.declared.Memory.{Memory}
 use Rattle.state.specs.declared.Release.{Release}
 use Rattle.state.specs.declared.TenantReleases.{TenantReleases}
@@ -22,10 +22,6 @@ tenantRow i q = tenantOctets (i + 1) q
 -- all but the count
 abbrev pub memoryRows : Memory → List ℕ
 memoryRows m = writeFrom tenantRow 0 (m .releases)
-
--- what an element is past the end of an array
-abbrev pub noReleases : TenantReleases
-noReleases = record { releases = []; count = 0 }
 
 -- how many releases there are
 abbrev pub memoryTotal : Memory → ℕ

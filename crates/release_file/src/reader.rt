@@ -1,6 +1,6 @@
 // The memory of a section whose form is right and that it can hold, tenant by tenant.
 ghost use mathlib.Core.Path.{_≡_};
-ghost use Rattle.release_file.specs.Place.{AllKeepable, KeepableAt, fileReleaseAt, keptAll, pushedRelease, releasesFrom};
+ghost use Rattle.release_file.specs.Place.{AllKeepable, KeepableAt, fileReleaseAt, keptAll, releasesFrom};
 ghost use Rattle.release_file.specs.Section.{storedRelease};
 use crate::form::time_at;
 use crate::form::wide;
@@ -21,26 +21,12 @@ pub fn all_releases(s: &[u8], from: usize, count: usize) -> [TenantReleases; 8]
     while i < count {
         let t = tenant_place(s, here);
         let q = out[t];
-        let g = push(q, release_at(s, here));
+        let g = state::push_release(q, release_at(s, here));
         out[t] = g;
         here = release_next(s, here);
         i += 1;
     }
     out
-}
-
-// One release more at the end; full entries stay as they are.
-fn push(q: TenantReleases, r: Release) -> TenantReleases
-    ensures { λ x. ⌜ x ≡ pushedRelease q r ⌝ }
-{
-    let at = q.count;
-    if at < 4 {
-        let mut g = q;
-        g.releases[at] = r;
-        g.count = at + 1;
-        return g;
-    }
-    q
 }
 
 // The release that starts at `at`.

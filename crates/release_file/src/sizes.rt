@@ -1,6 +1,6 @@
 // How many releases a memory has, and how many octets they take.
 ghost use mathlib.Core.Path.{_≡_};
-ghost use Prim.Native.Nat.{_≤_, min};
+ghost use Prim.Native.Nat.{_≤_};
 ghost use lib.ListN.{length};
 ghost use Rattle.release_file.specs.Rows.{memoryRows, memoryTotal, releaseOctets, tenantOctets};
 ghost use Rattle.state.specs.Book.{remembered};
@@ -24,17 +24,7 @@ pub fn total(m: Memory) -> usize
 fn count_of(q: TenantReleases) -> usize
     ensures { λ r. ⌜ (r ≡ length (remembered q)) × (r ≤ 4) ⌝ }
 {
-    cut4(q.count)
-}
-
-// A count of a tenant's releases.
-pub fn cut4(n: usize) -> usize
-    ensures { λ r. ⌜ r ≡ min n 4 ⌝ }
-{
-    if n < 4 {
-        return n;
-    }
-    4
+    state::cut4(q.count)
 }
 
 // Octets of all releases.
@@ -54,7 +44,7 @@ pub fn releases_size(m: Memory) -> usize
 fn tenant_size(q: TenantReleases) -> usize
     ensures { λ r. ⌜ (r ≡ length (tenantOctets 0 q)) × (r ≤ 168) ⌝ }
 {
-    let n = cut4(q.count);
+    let n = state::cut4(q.count);
     let mut sum: usize = 0;
     let mut i: usize = 0;
     while i < n {

@@ -6,7 +6,6 @@ ghost use Rattle.octets.specs.Octets.{Wrote};
 ghost use Rattle.release_file.specs.Section.{filedRelease, releaseFormat};
 ghost use Rattle.release_file.specs.Rows.{memoryRows, tenantOctets};
 ghost use Rattle.state.specs.Book.{releaseId};
-use crate::sizes::cut4;
 use state::Memory;
 use state::Release;
 use state::TenantReleases;
@@ -31,7 +30,7 @@ fn put_tenant(buffer: &mut [u8], at: usize, tenant: u8, q: TenantReleases) -> us
     requires { ⌜ at + length (tenantOctets tenant q) ≤ length (now buffer) ⌝ }
     ensures { λ r. ⌜ Wrote (now (buffer .entry)) at (tenantOctets tenant q) (now (buffer .exit)) r ⌝ }
 {
-    let n = cut4(q.count);
+    let n = state::cut4(q.count);
     let mut to = at;
     let mut i: usize = 0;
     while i < n {

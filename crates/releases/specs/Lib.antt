@@ -1,5 +1,4 @@
 pub mod Again
 pub mod Rules
 pub mod Whole
-pub mod Parts
 pub mod laws

@@ -10,7 +10,6 @@ ghost use Rattle.identifier.specs.Order.{sameOf};
 ghost use Rattle.state.specs.Book.{inUse, laidReleases, releaseId, remembered};
 ghost use Rattle.state.specs.Edit.{forgetOf, notedIn, rememberOf};
 ghost use Rattle.releases.specs.Again.{anyAgain, isAgain};
-ghost use Rattle.releases.specs.Parts.{pushedR};
 ghost use Rattle.releases.specs.Rules.{bothRules, brokenRelease, firstRelease, memoryB, noRules, rulesAt};
 use crate::rules::both_rules;
 use crate::rules::check_tenant;
@@ -35,15 +34,6 @@ pub struct ReleaseRules {
     pub layout: bool,
 }
 
-pub fn cut4(n: usize) -> usize
-    ensures { λ r. ⌜ r ≡ min n 4 ⌝ }
-{
-    if n < 4 {
-        return n;
-    }
-    4
-}
-
 // ---- a RELEASE sent again
 
 fn is_again(r: Release, clock: u32, id: [u8; 32], len: u8, xid: u32) -> bool
@@ -62,7 +52,7 @@ fn is_again(r: Release, clock: u32, id: [u8; 32], len: u8, xid: u32) -> bool
 pub fn any_again(q: TenantReleases, clock: u32, id: [u8; 32], len: u8, xid: u32) -> bool
     ensures { λ r. ⌜ r ≡ anyAgain clock (take len id) xid (remembered q) ⌝ }
 {
-    let n = cut4(q.count);
+    let n = state::cut4(q.count);
     let mut i: usize = 0;
     while i < n {
         let r = q.releases[i];
@@ -75,20 +65,6 @@ pub fn any_again(q: TenantReleases, clock: u32, id: [u8; 32], len: u8, xid: u32)
 }
 
 // ---- remembering and forgetting
-
-// One more at the end; full entries stay as they are.
-fn push(q: TenantReleases, r: Release) -> TenantReleases
-    ensures { λ x. ⌜ x ≡ pushedR q r ⌝ }
-{
-    let at = q.count;
-    if at < 4 {
-        let mut now = q;
-        now.releases[at] = r;
-        now.count = at + 1;
-        return now;
-    }
-    q
-}
 
 fn is_other(r: Release, id: [u8; 32], len: u8) -> bool
     ensures { λ x. ⌜ x ≡ not (sameOf (releaseId r) (take len id)) ⌝ }
@@ -103,7 +79,7 @@ fn later(q: TenantReleases, from: usize) -> TenantReleases
     ensures { λ r. ⌜ r ≡ laidReleases (drop from (remembered q)) ⌝ }
 {
     let mut now = state::no_releases();
-    let n = cut4(q.count);
+    let n = state::cut4(q.count);
     let mut i = from;
     while i < n {
         let r = q.releases[i];
@@ -123,10 +99,10 @@ pub fn remember(q: TenantReleases, r: Release) -> TenantReleases
 {
     if q.count < 4 {
         let all = later(q, 0);
-        return push(all, r);
+        return state::push_release(all, r);
     }
     let last = later(q, 1);
-    push(last, r)
+    state::push_release(last, r)
 }
 
 // Those of other identifiers.
@@ -134,7 +110,7 @@ pub fn forget(q: TenantReleases, id: [u8; 32], len: u8) -> TenantReleases
     ensures { λ r. ⌜ r ≡ laidReleases (forgetOf (take len id) (remembered q)) ⌝ }
 {
     let mut now = state::no_releases();
-    let n = cut4(q.count);
+    let n = state::cut4(q.count);
     let mut i: usize = 0;
     while i < n {
         let r = q.releases[i];

@@ -7,7 +7,6 @@ ghost use Rattle.soundness.specs.Sound.{zeroFrom};
 ghost use Rattle.state.specs.Book.{inUse, other, releaseId, remembered};
 ghost use Rattle.releases.specs.Rules.{bothRules, differs, filledB, houseB, laidB, lengthB, notLeased, older, onceB, pastB, rulesAt, unusedR};
 use crate::ReleaseRules;
-use crate::cut4;
 use state::Lease;
 use state::Release;
 use state::TenantLeases;
@@ -47,7 +46,7 @@ fn length_ok(r: Release) -> bool
 fn lengths_ok(q: TenantReleases) -> bool
     ensures { λ r. ⌜ r ≡ allBy lengthB (remembered q) ⌝ }
 {
-    let n = cut4(q.count);
+    let n = state::cut4(q.count);
     let mut i: usize = 0;
     while i < n {
         let r = q.releases[i];
@@ -72,7 +71,7 @@ fn ids_differ(a: Release, b: Release) -> bool
 fn all_differ(q: TenantReleases) -> bool
     ensures { λ r. ⌜ r ≡ pairsBy differs (remembered q) ⌝ }
 {
-    let n = cut4(q.count);
+    let n = state::cut4(q.count);
     let mut i: usize = 0;
     let mut j: usize = 1;
     while i < n {
@@ -116,7 +115,7 @@ fn not_leased(own: TenantLeases, r: Release) -> bool
 fn none_leased(own: TenantLeases, q: TenantReleases) -> bool
     ensures { λ r. ⌜ r ≡ allBy (notLeased (inUse own)) (remembered q) ⌝ }
 {
-    let n = cut4(q.count);
+    let n = state::cut4(q.count);
     let mut i: usize = 0;
     while i < n {
         let r = q.releases[i];
@@ -148,7 +147,7 @@ fn is_past(clock: u32, r: Release) -> bool
 fn times_ok(clock: u32, q: TenantReleases) -> bool
     ensures { λ r. ⌜ r ≡ allBy (pastB clock) (remembered q) ⌝ }
 {
-    let n = cut4(q.count);
+    let n = state::cut4(q.count);
     let mut i: usize = 0;
     while i < n {
         let r = q.releases[i];
@@ -172,7 +171,7 @@ fn is_older(a: Release, b: Release) -> bool
 fn in_order(q: TenantReleases) -> bool
     ensures { λ r. ⌜ r ≡ pairsBy older (remembered q) ⌝ }
 {
-    let n = cut4(q.count);
+    let n = state::cut4(q.count);
     let mut i: usize = 0;
     while i + 1 < n {
         let a = q.releases[i];
@@ -202,7 +201,7 @@ fn is_filled(r: Release) -> bool
 fn all_filled(q: TenantReleases) -> bool
     ensures { λ r. ⌜ r ≡ allBy filledB (remembered q) ⌝ }
 {
-    let n = cut4(q.count);
+    let n = state::cut4(q.count);
     let mut i: usize = 0;
     while i < n {
         let r = q.releases[i];
@@ -245,7 +244,7 @@ fn is_unused(r: Release) -> bool
 fn rest_unused(q: TenantReleases) -> bool
     ensures { λ r. ⌜ r ≡ allBy unusedR (drop (q .count) (q .releases)) ⌝ }
 {
-    let mut i = cut4(q.count);
+    let mut i = state::cut4(q.count);
     while i < 4 {
         let r = q.releases[i];
         if !is_unused(r) {

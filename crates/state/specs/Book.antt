@@ -241,9 +241,16 @@ committedSum c n held = sumTo (committed c held) n
 abbrev pub noLeases : TenantLeases
 noLeases = record { leases = []; count = 0 }
 
+abbrev pub noReleases : TenantReleases
+noReleases = record { releases = []; count = 0 }
+
 -- one lease more at the end, where there is room
 unfoldable pub pushed : TenantLeases → Lease → TenantLeases
 pushed t l = pick (ltb (t .count) 16) (record { leases = set (t .leases) (t .count) l; count = t .count + 1 }) t
+
+-- the same of a release
+unfoldable pub pushedRelease : TenantReleases → Release → TenantReleases
+pushedRelease q r = pick (ltb (q .count) 4) (record { releases = set (q .releases) (q .count) r; count = q .count + 1 }) q
 
 -- one turn of a filter, of a union
 unfoldable pub keptIf : (Lease → Bool) → TenantLeases → Lease → TenantLeases

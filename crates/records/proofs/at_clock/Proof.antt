@@ -1,6 +1,6 @@
 -- `at_clock` meets its contract: by test 3, and by whether something is edited.
 use mathlib.Core.Path.{refl}
-use Rattle.releases.specs.laws.Tenants.{noReleases}
+use Rattle.state.specs.Book.{noReleases}
 use Rattle.records.proofs.Typed.{memory-size, records-size}
 use Rattle.records.specs.laws.Call.{at-edited, at-same, at-unknown, names-for, own-releases}
 use Rattle.lists.specs.laws.Part.{unmapped}

@@ -1,24 +1,23 @@
 -- Laws: reading a section into a memory: a release into an entry, and the entries tenant by tenant.
 use mathlib.Core.Bool.{true}
-use mathlib.Core.List.{List, [], _++_, _∷_}
-use mathlib.Core.Path.{_∙_, _≡_, ap, ap₂, refl, sym}
+use mathlib.Core.List.{List, []}
+use mathlib.Core.Path.{_∙_, _≡_, ap, refl, sym}
 use Prim.Native.Nat.{_+_, _-_, _<_, _≤_, ℕ}
 use native.Mathlib.Omega.{arith}
-use lib.ListN.{drop, getD, length, length-append, replicate, set, take}
+use lib.ListN.{drop, getD, length, replicate, set, take}
 use borrow.Author.Tests.{leb-true}
 use Rattle.format.specs.laws.Entries.{TenantInv, kept-laid, tenant-end, tenant-start}
 use Rattle.lists.specs.All.{allBy}
 use Rattle.lists.specs.Row.{laidRow}
 use Rattle.lists.specs.laws.All.{to-each}
-use Rattle.lists.specs.laws.Pick.{both, pick-lt, pick-not-lt}
-use Rattle.lists.specs.laws.Row.{row-push}
+use Rattle.lists.specs.laws.Pick.{both}
 use Rattle.octets.specs.Octets.{at32}
 use Rattle.octets.specs.laws.Run.{part-length}
-use Rattle.release_file.specs.Place.{AllKeepable, KeepableAt, ReleasesIn, afterRelease, fileReleaseAt, keptAll, pushedRelease, releasesFrom, releasesIn}
-use Rattle.release_file.specs.Rows.{noReleases}
+use Rattle.release_file.specs.Place.{AllKeepable, KeepableAt, ReleasesIn, afterRelease, fileReleaseAt, keptAll, releasesFrom, releasesIn}
 use Rattle.release_file.specs.Section.{FileRelease, fewFor, keepableB, releasesFitB, storedMemory, storedRelease, releaseTenant}
 use Rattle.release_file.specs.laws.Limits.{release-turn, releases-kept, releases-same, tenantLoop}
-use Rattle.state.specs.Book.{laidReleases, zeroRelease}
+use Rattle.state.specs.Book.{laidReleases, noReleases, pushedRelease}
+use Rattle.state.specs.laws.Layout.{push-release-laid}
 use Rattle.state.specs.declared.Memory.{Memory}
 use Rattle.state.specs.declared.Release.{Release}
 use Rattle.state.specs.declared.TenantReleases.{TenantReleases}
@@ -33,21 +32,6 @@ module _ {s : List ℕ} {at n : ℕ} (en : n ≡ getD s (at + 1) 0) (v : Keepabl
       let qi : id ≡ laidRow 0 32 (take (getD s (at + 1) 0) (drop (at + 2) s)) = pi ∙ ap (λ (z : ℕ). laidRow 0 32 (take z (drop (at + 2) s))) en in
       let qx : x ≡ at32 s (at + (getD s (at + 1) 0 + 2)) = px ∙ ap (λ (z : ℕ). at32 s (at + (z + 2))) en in
       cc
-
--- ---- a tenant's entries
-module _ (q : TenantReleases) (r : Release) where
-  pub push-in : q .count < 4 → _≡_ {A = TenantReleases} (record { releases = set (q .releases) (q .count) r; count = q .count + 1 }) (pushedRelease q r)
-  unfolding pushedRelease
-  push-in h = pick-lt _ q _ (q .count) 4 h refl
-
-  pub push-full : 4 ≤ q .count → q ≡ pushedRelease q r
-  unfolding pushedRelease
-  push-full h = pick-not-lt _ q _ (q .count) 4 h refl
-
-push-laid : (p : List Release) (r : Release) → length p < 4 → pushedRelease (laidReleases p) r ≡ laidReleases (p ++ r ∷ [])
-unfolding pushedRelease laidReleases
-push-laid p r h =
-    sym (pick-lt _ (laidReleases p) _ (length p) 4 h (sym (ap₂ {C = TenantReleases} (λ (x : List Release) (k : ℕ). record { releases = x; count = k }) (row-push zeroRelease 4 p r h) (sym (length-append p (r ∷ []))))))
 
 -- ---- all tenants'
 abbrev pub FillInv : List ℕ → ℕ → ℕ → List TenantReleases → ℕ → ℕ → Type 0
@@ -80,4 +64,4 @@ module _ {s : List ℕ} {at count : ℕ} (v : ReleasesIn s at) (ec : count ≡ g
       let xs : List FileRelease = releasesIn s at in
       ap {B = Memory} (λ (l : List TenantReleases). record { releases = l })
       (p ∙ ap keptAll (releases-same v ec)
-      ∙ kept-laid releaseTenant storedRelease 4 laidReleases pushedRelease push-laid 8 1 xs (λ i g. leb-true _ 4 (to-each (λ i. fewFor xs (i + 1)) 8 (both _ _ e .1) i g)))
+      ∙ kept-laid releaseTenant storedRelease 4 laidReleases pushedRelease push-release-laid 8 1 xs (λ i g. leb-true _ 4 (to-each (λ i. fewFor xs (i + 1)) 8 (both _ _ e .1) i g)))

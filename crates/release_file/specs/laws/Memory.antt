@@ -22,15 +22,12 @@ use Rattle.lists.specs.laws.Row.{row-back, row-fill}
 use Rattle.release_file.specs.Section.{FileRelease, fewFor, filedMemory, filedRelease, keepableB, memoryOctets, releaseAfter, releaseFormat, releaseKey, releasesFitB, releasesFormat, storedMemory, storedRelease, releaseTenant}
 use Rattle.release_file.specs.laws.Rows.{release-size}
 use Rattle.state.specs.Book.{laidReleases, remembered, zeroRelease}
+use Rattle.state.specs.laws.Layout.{releases-back}
 use Rattle.state.specs.declared.Memory.{Memory}
 use Rattle.state.specs.declared.Release.{Release}
 use Rattle.state.specs.declared.TenantReleases.{TenantReleases}
 
 -- ---- read and written again
-laid-back : (p : List Release) → remembered (laidReleases p) ≡ p
-unfolding laidReleases
-laid-back p = row-back zeroRelease 4 p
-
 filed-stored : (x : FileRelease) → filedRelease (x .tenant) (storedRelease x) ≡ x
 unfolding filedRelease storedRelease
 filed-stored x = ap {B = FileRelease} (λ (i : List ℕ). record { tenant = x .tenant; id = i; xid = x .xid; time = x .time }) (row-back 0 32 (x .id))
@@ -63,7 +60,7 @@ pub memory-again : (xs : List FileRelease) → orderedFrom releaseKey releaseAft
 unfolding filedMemory storedMemory releasesFitB
 memory-again xs o e =
     let kept : All Kept xs = all-facts keepableB Kept xs keepable-facts (both _ _ e .0) in
-    ap (filedAll filedRelease 1) (map-back laidReleases remembered laid-back (map (map storedRelease) (apart releaseTenant 1 8 xs)))
+    ap (filedAll filedRelease 1) (map-back laidReleases remembered releases-back (map (map storedRelease) (apart releaseTenant 1 8 xs)))
     ∙ entries-again releaseTenant storedRelease filedRelease Kept (λ x p. filed-stored x) 8 xs
     (sorted-up releaseTenant 0 1 xs (one-fact Kept (λ x. 1 ≤ x .tenant) xs (λ x p. p .from) kept) (ordered-sorted 0 0 xs o)) (one-fact Kept (λ x. x .tenant < 1 + 8) xs (λ x p. p .to) kept) kept
 

@@ -14,16 +14,13 @@ use Rattle.lists.specs.laws.Part.{cut-take}
 use Rattle.lists.specs.laws.Sums.{sum-same}
 use Rattle.octets.specs.Octets.{Wrote, octets32}
 use Rattle.octets.specs.laws.Octets.{wrote-as, wrote-joined}
-use Rattle.release_file.specs.Rows.{memoryRows, memoryTotal, noReleases, releaseOctets, tenantOctets, tenantRow}
+use Rattle.release_file.specs.Rows.{memoryRows, memoryTotal, releaseOctets, tenantOctets, tenantRow}
 use Rattle.release_file.specs.Section.{filedMemory, filedRelease, memoryOctets, releaseFormat}
-use Rattle.state.specs.Book.{releaseId, remembered}
+use Rattle.state.specs.Book.{noReleases, releaseId, remembered}
+use Rattle.state.specs.laws.Layout.{noRelease}
 use Rattle.state.specs.declared.Memory.{Memory}
 use Rattle.state.specs.declared.Release.{Release}
 use Rattle.state.specs.declared.TenantReleases.{TenantReleases}
-
--- what an element is past the end of an array
-abbrev pub noRelease : Release
-noRelease = record { «id_len» = 0; id = []; xid = 0; time = 0 }
 
 -- ---- a release
 release-octets : (t : ℕ) (r : Release) → releaseFormat .write (filedRelease t r) ≡ ((t ∷ length (releaseId r) ∷ releaseId r) ++ octets32 (r .xid)) ++ octets32 (r .time)

@@ -4,7 +4,7 @@ use Rattle.lists.specs.Place.{placeBy}
 use Rattle.lists.specs.laws.Place.{PlaceInv, places}
 use Rattle.releases.specs.Again.{anyAgain, isAgain}
 use Rattle.releases.specs.laws.Code.{any-no, any-yes}
-use Rattle.releases.specs.laws.Tenants.{noRelease}
+use Rattle.state.specs.laws.Layout.{noRelease}
 use Rattle.state.specs.Book.{remembered}
 use borrow.Author.Needs.{needs}
 use lib.ListN.{take}

@@ -4,7 +4,7 @@ use Rattle.identifier.specs.Order.{sameOf}
 use Rattle.lists.specs.Filter.{filterBy}
 use Rattle.lists.specs.laws.Part.{PartInv, parts}
 use Rattle.releases.specs.laws.Code.{forgotten-is, keptR, turns}
-use Rattle.releases.specs.laws.Tenants.{noRelease}
+use Rattle.state.specs.laws.Layout.{noRelease}
 use Rattle.state.specs.Book.{laidReleases, releaseId, remembered}
 use Rattle.state.specs.Edit.{forgetOf}
 use borrow.Author.Needs.{needs}

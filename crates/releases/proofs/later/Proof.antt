@@ -1,17 +1,16 @@
 -- `later` meets its contract: those from a place on, written one behind the other.
 use Prim.Native.Nat.{_-_}
 use Rattle.lists.specs.laws.Part.{PartInv, parts}
-use Rattle.releases.specs.Parts.{pushedR}
 use Rattle.releases.specs.laws.Code.{later-start, pushes}
-use Rattle.releases.specs.laws.Tenants.{noRelease}
-use Rattle.state.specs.Book.{laidReleases, remembered}
+use Rattle.state.specs.laws.Layout.{noRelease}
+use Rattle.state.specs.Book.{laidReleases, pushedRelease, remembered}
 use borrow.Author.Needs.{needs}
 use lib.ListN.{drop}
 use Rattle.releases.proofs.later.Statement.{statement}
 use Rattle.releases.proofs.later.Tie as tie
 
 abbrev Inv-loop : tie.InvT-loop
-Inv-loop from q now₀ n i₀ now i = PartInv pushedR noRelease (q .releases) n (laidReleases (drop from (remembered q))) now i
+Inv-loop from q now₀ n i₀ now i = PartInv pushedRelease noRelease (q .releases) n (laidReleases (drop from (remembered q))) now i
 
 abbrev μ-loop : tie.MeasureT-loop
 μ-loop from q now₀ n i₀ now i = n - i

@@ -10,8 +10,8 @@ remember-spec =
     tie.close
     (tie.spec
     (λ c κs. search needs)  -- src/lib.rt:125:13 later-requires
-    (λ c κs. search needs)  -- src/lib.rt:126:9 push-requires
+    (λ c κs. search needs)  -- src/lib.rt:126:9 push-release-requires
     (λ c. search (remember-room, remember-full, unmapped, needs))  -- src/lib.rt:126:9 returns
     (λ c κs. search needs)  -- src/lib.rt:128:9 later-requires-2
-    (λ c κs. search needs)  -- src/lib.rt:129:5 push-requires-2
+    (λ c κs. search needs)  -- src/lib.rt:129:5 push-release-requires-2
     (λ c. search (remember-room, remember-full, unmapped, needs)))  -- src/lib.rt:121:1 returns-2

@@ -19,17 +19,17 @@ use Rattle.lists.specs.laws.Next.{NextInv, next-start, next-is-pairs}
 use Rattle.lists.specs.laws.Part.{PartInv, cut-take}
 use Rattle.lists.specs.laws.Pick.{pick-lt, pick-not-lt, pick-yes, pick-no, pick-true, pick-false, pick-eq-got, pick-not-eq-got}
 use Rattle.lists.specs.laws.Place.{PlaceInv, place-found, place-end}
-use Rattle.lists.specs.laws.Row.{row-push, row-filtered}
+use Rattle.lists.specs.laws.Row.{row-filtered}
 use Rattle.identifier.specs.Order.{numberFrom, sameOf}
 use Rattle.state.specs.declared.Lease.{Lease}
 use Rattle.state.specs.declared.Release.{Release}
 use Rattle.state.specs.declared.TenantReleases.{TenantReleases}
-use Rattle.state.specs.Book.{laidReleases, releaseId, remembered, zeroRelease}
+use Rattle.state.specs.Book.{laidReleases, pushedRelease, releaseId, remembered}
 use Rattle.state.specs.Edit.{rememberOf}
+use Rattle.state.specs.laws.Layout.{push-release-laid}
 use Rattle.soundness.specs.Sound.{zeroFrom}
 use Rattle.releases.specs.declared.ReleaseRules.{ReleaseRules}
 use Rattle.releases.specs.Again.{isAgain, resendTime}
-use Rattle.releases.specs.Parts.{pushedR}
 use Rattle.releases.specs.Rules.{bothRules, differs, fewB, filledB, brokenRelease, firstRelease, houseB, laidB, lengthB, notLeased, older, onceB, pastB, rulesAt, unusedR}
 use Rattle.releases.specs.laws.Tenants.{six}
 
@@ -71,27 +71,20 @@ module _ {t : Release → Bool} {d : Release} {l : List Release} {n i : ℕ} (x 
 -- ---- remembering and forgetting
 -- one turn of a filter
 unfoldable pub keptR : (Release → Bool) → TenantReleases → Release → TenantReleases
-keptR t q r = keepRow pushedR t q r
-
--- one more behind those that are laid out
-push-laid : (p : List Release) (r : Release) → length p < 4 → pushedR (laidReleases p) r ≡ laidReleases (p ++ r ∷ [])
-unfolding pushedR laidReleases
-push-laid p r h =
-    sym (pick-lt _ (laidReleases p) _ (length p) 4 h
-    (sym (ap₂ {C = TenantReleases} (λ (x : List Release) (k : ℕ). record { releases = x; count = k }) (row-push zeroRelease 4 p r h) (sym (length-append p (r ∷ []))))))
+keptR t q r = keepRow pushedRelease t q r
 
 pub forgotten-is : (t : Release → Bool) (x : ℕ) (l : List Release) → length l ≡ 4 → fold (keptR t) (laidReleases []) (take x l) ≡ laidReleases (filterBy t (take x l))
 unfolding keptR
-forgotten-is t x l h = row-filtered 4 laidReleases pushedR push-laid t x l h
+forgotten-is t x l h = row-filtered 4 laidReleases pushedRelease push-release-laid t x l h
 
 -- the turns of the code: a release that a call passes is written behind the last one
 module _ (now : TenantReleases) (r : Release) where
-  pub pushed-in : now .count < 4 → _≡_ {A = TenantReleases} (record { releases = set (now .releases) (now .count) r; count = now .count + 1 }) (pushedR now r)
-  unfolding pushedR
+  pub pushed-in : now .count < 4 → _≡_ {A = TenantReleases} (record { releases = set (now .releases) (now .count) r; count = now .count + 1 }) (pushedRelease now r)
+  unfolding pushedRelease
   pushed-in h = pick-lt _ now _ _ 4 h refl
 
-  pub pushed-full : 4 ≤ now .count → now ≡ pushedR now r
-  unfolding pushedR
+  pub pushed-full : 4 ≤ now .count → now ≡ pushedRelease now r
+  unfolding pushedRelease
   pushed-full h = pick-not-lt _ now _ _ 4 h refl
 
   module _ (u : Release → Bool) where
@@ -112,39 +105,39 @@ pub ruleset turns = (kept-in, kept-full, kept-out)
 pub ruleset pushes = (pushed-in, pushed-full)
 
 -- those from a place on
-laid-all : (p ls : List Release) → length p + length ls ≤ 4 → fold pushedR (laidReleases p) ls ≡ laidReleases (p ++ ls)
+laid-all : (p ls : List Release) → length p + length ls ≤ 4 → fold pushedRelease (laidReleases p) ls ≡ laidReleases (p ++ ls)
 laid-all p [] h = ap laidReleases (sym (append-nil p))
 laid-all p (r ∷ ls) h =
-    ap (λ (x : TenantReleases). fold pushedR x ls) (push-laid p r (omega arith)) ∙ laid-all (p ++ r ∷ []) ls (omega (arith, length-append p (r ∷ []))) ∙ ap laidReleases (append-assoc p (r ∷ []) ls)
+    ap (λ (x : TenantReleases). fold pushedRelease x ls) (push-release-laid p r (omega arith)) ∙ laid-all (p ++ r ∷ []) ls (omega (arith, length-append p (r ∷ []))) ∙ ap laidReleases (append-assoc p (r ∷ []) ls)
 
 pub later-start : {d : Release} {l : List Release} {n from : ℕ} {now : TenantReleases} (x : ℕ) → now ≡ laidReleases [] → n ≡ min x 4 → length l ≡ 4 → from ≤ min x 4
-    → PartInv pushedR d l n (laidReleases (drop from (take x l))) now from
+    → PartInv pushedRelease d l n (laidReleases (drop from (take x l))) now from
 later-start {d} {l} {n} {from} {now} x e g h f = record {
   within = omega arith;
   long = omega arith;
   whole =
-      ap₂ (λ (z : TenantReleases) (k : List Release). fold pushedR z (drop from k)) e (ap (λ (z : ℕ). take z l) g ∙ cut-take 4 x l h)
+      ap₂ (λ (z : TenantReleases) (k : List Release). fold pushedRelease z (drop from k)) e (ap (λ (z : ℕ). take z l) g ∙ cut-take 4 x l h)
       ∙ laid-all [] (drop from (take x l)) (let a = length-take x l in let b = length-drop from (take x l) in omega arith);
 }
 
 module _ (q : TenantReleases) (r : Release) {y z : TenantReleases} (g : length (q .releases) ≡ 4) where
-  pub remember-room : q .count < 4 → y ≡ laidReleases (drop 0 (remembered q)) → z ≡ pushedR y r → z ≡ laidReleases (rememberOf r (remembered q))
+  pub remember-room : q .count < 4 → y ≡ laidReleases (drop 0 (remembered q)) → z ≡ pushedRelease y r → z ≡ laidReleases (rememberOf r (remembered q))
   unfolding rememberOf
   remember-room h e p =
       let k = length-take (q .count) (q .releases) in
       let m = length-append (remembered q) (r ∷ []) in
       let none : length (remembered q ++ r ∷ []) - 4 ≡ 0 = omega arith in
-      p ∙ ap (λ (x : TenantReleases). pushedR x r) e ∙ push-laid (remembered q) r (omega arith)
+      p ∙ ap (λ (x : TenantReleases). pushedRelease x r) e ∙ push-release-laid (remembered q) r (omega arith)
       ∙ sym (ap (λ (x : ℕ). laidReleases (drop x (remembered q ++ r ∷ []))) none)
 
-  pub remember-full : 4 ≤ q .count → y ≡ laidReleases (drop 1 (remembered q)) → z ≡ pushedR y r → z ≡ laidReleases (rememberOf r (remembered q))
+  pub remember-full : 4 ≤ q .count → y ≡ laidReleases (drop 1 (remembered q)) → z ≡ pushedRelease y r → z ≡ laidReleases (rememberOf r (remembered q))
   unfolding rememberOf
   remember-full h e p =
       let k = length-take (q .count) (q .releases) in
       let m = length-append (remembered q) (r ∷ []) in
       let j = length-drop 1 (remembered q) in
       let one : length (remembered q ++ r ∷ []) - 4 ≡ 1 = omega arith in
-      p ∙ ap (λ (x : TenantReleases). pushedR x r) e ∙ push-laid (drop 1 (remembered q)) r (omega arith)
+      p ∙ ap (λ (x : TenantReleases). pushedRelease x r) e ∙ push-release-laid (drop 1 (remembered q)) r (omega arith)
       ∙ ap laidReleases (first (remembered q) (omega arith)) ∙ sym (ap (λ (x : ℕ). laidReleases (drop x (remembered q ++ r ∷ []))) one)
     where
       first : (l : List Release) → 0 < length l → drop 1 l ++ r ∷ [] ≡ drop 1 (l ++ r ∷ [])

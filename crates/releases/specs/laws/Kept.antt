@@ -12,7 +12,6 @@ use Rattle.lists.specs.Pick.{pick}
 use Rattle.lists.specs.All.{allBy, pairsBy}
 use Rattle.lists.specs.laws.All.{all-head, all-cons, all-both, all-append, pairs-head, pairs-append}
 use Rattle.lists.specs.laws.Both.{and-both, and-parts}
-use Rattle.lists.specs.laws.Row.{row-back}
 use Rattle.lists.specs.Filter.{filterBy}
 use Rattle.lists.specs.laws.Filter.{filter-all, filter-length, filter-pairs, filter-passes}
 use Rattle.lists.specs.laws.Reordered.{reordered-all}
@@ -27,7 +26,7 @@ use Rattle.state.specs.declared.TenantReleases.{TenantReleases}
 use Rattle.state.specs.Book.{Book, differ, idOf, inUse, insertOf, insertedIn, laidOut, laidReleases, leaseAt, leaseWith, other, releaseId, releasesAt, remembered, removeOf, tenantAt, zeroLease, zeroRelease}
 use Rattle.state.specs.Edit.{applied, editedBook, editedIn, entering, forgetOf, givingWay, leaving, leftIn, noEdit, noted, notedIn, releaseOf, rememberOf}
 use Rattle.state.specs.laws.Edited.{applied-others, edited-none}
-use Rattle.state.specs.laws.Layout.{read-back}
+use Rattle.state.specs.laws.Layout.{read-back, releases-back}
 use Rattle.state.specs.laws.Sorted.{differ-turn, insert-same}
 use Rattle.soundness.specs.Sound.{idB, paddedB, tenantsIn, zeroFrom}
 use Rattle.releases.specs.Rules.{differs, fewB, filledB, houseB, laidB, ownLeases, lengthB, notLeased, older, onceB, pastB, rulesAt, unusedR}
@@ -108,7 +107,7 @@ module _ (n clock h : ℕ) (ls : List Lease) where
   laid-holds : (p : List Release) → h < n → Good clock ls p → Holds (rulesAt n clock h ls (laidReleases p))
   unfolding rulesAt houseB fewB onceB laidB laidReleases
   laid-holds p g v =
-      let e : remembered (laidReleases p) ≡ p = row-back zeroRelease 4 p in
+      let e = releases-back p in
       record {
         houses = ap (λ (b : Bool). b || eqb (length p) 0) (lt-ltb h n g);
         few = le-leb (length p) 4 (v .few);

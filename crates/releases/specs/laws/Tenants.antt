@@ -16,7 +16,6 @@ use Rattle.lists.specs.laws.Row.{at-in}
 use Rattle.state.specs.declared.Lease.{Lease}
 use Rattle.state.specs.declared.LeaseTable.{LeaseTable}
 use Rattle.state.specs.declared.Memory.{Memory}
-use Rattle.state.specs.declared.Release.{Release}
 use Rattle.state.specs.declared.State.{State}
 use Rattle.state.specs.declared.TenantLeases.{TenantLeases}
 use Rattle.state.specs.declared.TenantReleases.{TenantReleases}
@@ -24,13 +23,6 @@ use Rattle.state.specs.Book.{inUse, laidOut, laidReleases, releasesAt, remember
 use Rattle.soundness.specs.Sound.{tenantsIn}
 use Rattle.releases.specs.declared.ReleaseRules.{ReleaseRules}
 use Rattle.releases.specs.Rules.{bothRules, brokenMemory, differs, brokenRelease, firstRelease, ownLeases, memoryB, noRules, notLeased, onceB, releaseRulesOf, rulesAt, rulesTo}
-
--- what an element is past the end of an array
-abbrev pub noRelease : Release
-noRelease = record { «id_len» = 0; id = []; xid = 0; time = 0 }
-
-abbrev pub noReleases : TenantReleases
-noReleases = record { releases = []; count = 0 }
 
 pub six : {p p′ q q′ u u′ r r′ t t′ v v′ : Bool} → p ≡ p′ → q ≡ q′ → u ≡ u′ → r ≡ r′ → t ≡ t′ → v ≡ v′
     → _≡_ {A = ReleaseRules} (record { houses = p; few = q; lengths = u; once = r; times = t; layout = v }) (record { houses = p′; few = q′; lengths = u′; once = r′; times = t′; layout = v′ })

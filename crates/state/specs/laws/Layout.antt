@@ -2,9 +2,11 @@
 use Prim.Native.Nat.{ℕ, _+_, max, _≤_, _<_, min}
 use mathlib.Core.Bool.{Bool, not, true, false}
 use mathlib.Core.List.{List, [], _∷_, _++_, map, map-map}
-use lib.Dec.{eqb}
+use lib.Dec.{eqb, ltb}
 use lib.ListN.{length, replicate, set, take, getD, length-append}
 use Rattle.lists.specs.Filter.{filterBy}
+use Rattle.lists.specs.Pick.{pick}
+use Rattle.lists.specs.Row.{laidRow}
 use Rattle.identifier.specs.Order.{orderOf}
 use Rattle.state.specs.declared.Lease.{Lease}
 use Rattle.state.specs.declared.TenantLeases.{TenantLeases}
@@ -20,12 +22,15 @@ use Rattle.lists.specs.Fold.{fold}
 use Rattle.lists.specs.laws.Filter.{filter-fewer}
 use Rattle.lists.specs.laws.Each.{map-set, map-back}
 use Rattle.lists.specs.laws.Row.{row-back, row-push, row-filtered, row-insert, row-length, row-in, row-out}
-use Rattle.state.specs.Book.{Book, advanced, changedTo, leaseWith, zeroLease, inUse, laidOut, pushed, keptIf, idOf, byIdentifier, ordered, before, notBefore, named, other, insertOf, insertedIn, removeOf, placeOf, liveOf, leaseAt, tableOf, leasesOf, putAt, raised, dropped, withClock, laidReleases, zeroRelease}
+use Rattle.state.specs.Book.{Book, advanced, changedTo, leaseWith, zeroLease, inUse, laidOut, pushed, keptIf, idOf, byIdentifier, ordered, before, notBefore, named, other, insertOf, insertedIn, removeOf, placeOf, liveOf, leaseAt, tableOf, leasesOf, putAt, raised, dropped, withClock, laidReleases, pushedRelease, remembered, zeroRelease}
 
 -- ---- one turn of the loops below
 -- what an element is past the end of an array
 abbrev pub noLease : Lease
 noLease = leaseWith 0 0 [] 0 0 0 0 0
+
+abbrev pub noRelease : Release
+noRelease = record { «id_len» = 0; id = []; xid = 0; time = 0 }
 
 abbrev pub noScope : Scope
 noScope = record { lowest = 0; size = 0; ttl = 0; reserve = []; limit = [] }
@@ -35,10 +40,22 @@ pub read-back : (p : List Lease) → inUse (laidOut p) ≡ p
 unfolding laidOut
 read-back p = row-back zeroLease 16 p
 
+pub releases-back : (p : List Release) → remembered (laidReleases p) ≡ p
+unfolding laidReleases
+releases-back p = row-back zeroRelease 4 p
+
+-- one entry more behind those that are laid out, in any record of an array and a count
+push-row : {A R : Type 0} (z : A) (n : ℕ) (made : List A → ℕ → R) (p : List A) (x : A) → length p < n
+    → pick (ltb (length p) n) (made (set (laidRow z n p) (length p) x) (length p + 1)) (made (laidRow z n p) (length p)) ≡ made (laidRow z n (p ++ x ∷ [])) (length (p ++ x ∷ []))
+push-row z n made p x h = sym (pick-lt _ _ _ (length p) n h (sym (ap₂ made (row-push z n p x h) (sym (length-append p (x ∷ []))))))
+
 pub push-laid : (p : List Lease) (l : Lease) → length p < 16 → pushed (laidOut p) l ≡ laidOut (p ++ l ∷ [])
 unfolding pushed laidOut
-push-laid p l h =
-    sym (pick-lt _ (laidOut p) _ (length p) 16 h (sym (ap₂ {C = TenantLeases} (λ (x : List Lease) (k : ℕ). record { leases = x; count = k }) (row-push zeroLease 16 p l h) (sym (length-append p (l ∷ []))))))
+push-laid p l h = push-row zeroLease 16 (λ x k. record { leases = x; count = k }) p l h
+
+pub push-release-laid : (p : List Release) (r : Release) → length p < 4 → pushedRelease (laidReleases p) r ≡ laidReleases (p ++ r ∷ [])
+unfolding pushedRelease laidReleases
+push-release-laid p r h = push-row zeroRelease 4 (λ x k. record { releases = x; count = k }) p r h
 
 pub filter-is : (t : Lease → Bool) (x : ℕ) (l : List Lease) → length l ≡ 16 → fold (keptIf t) (laidOut []) (take x l) ≡ laidOut (filterBy t (take x l))
 unfolding keptIf

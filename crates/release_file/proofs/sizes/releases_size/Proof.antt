@@ -1,8 +1,9 @@
 -- `releases_size` meets its contract: its loop keeps `SizeInv`; by `sizes`, `rows-length`.
 use Prim.Native.Nat.{_-_}
 use Rattle.format.specs.laws.Rows.{SizeInv, sizes}
-use Rattle.release_file.specs.Rows.{noReleases, tenantOctets}
+use Rattle.release_file.specs.Rows.{tenantOctets}
 use Rattle.release_file.specs.laws.Rows.{rows-length}
+use Rattle.state.specs.Book.{noReleases}
 use borrow.Author.Needs.{needs}
 use lib.ListN.{getD, length}
 use Rattle.release_file.proofs.sizes.releases_size.Statement.{statement}

@@ -3,7 +3,7 @@ use Prim.Native.Nat.{_-_}
 use Rattle.format.specs.laws.Rows.{SizeInv, row-sum, size-end, sizes}
 use Rattle.lists.specs.laws.Part.{unmapped}
 use Rattle.release_file.specs.Rows.{releaseOctets}
-use Rattle.release_file.specs.laws.Rows.{noRelease}
+use Rattle.state.specs.laws.Layout.{noRelease}
 use borrow.Author.Needs.{needs}
 use lib.ListN.{getD, length}
 use native.Mathlib.Omega.{arith}

@@ -1,8 +1,7 @@
 -- `total` meets its contract: its loop keeps `SizeInv`; by `sizes`.
 use Prim.Native.Nat.{_-_}
 use Rattle.format.specs.laws.Rows.{SizeInv, sizes}
-use Rattle.release_file.specs.Rows.{noReleases}
-use Rattle.state.specs.Book.{remembered}
+use Rattle.state.specs.Book.{noReleases, remembered}
 use borrow.Author.Needs.{needs}
 use lib.ListN.{getD, length}
 use Rattle.release_file.proofs.sizes.total.Statement.{statement}

@@ -1,8 +1,9 @@
 -- `put_releases` meets its contract: its loop keeps `RowInv`; by `tenantRows`.
 use Prim.Native.Nat.{_-_}
 use Rattle.format.specs.laws.Rows.{RowInv}
-use Rattle.release_file.specs.Rows.{noReleases, tenantRow}
+use Rattle.release_file.specs.Rows.{tenantRow}
 use Rattle.release_file.specs.laws.Rows.{tenantRows}
+use Rattle.state.specs.Book.{noReleases}
 use borrow.Author.Needs.{needs}
 use Rattle.release_file.proofs.writer.put_releases.Statement.{statement}
 use Rattle.release_file.proofs.writer.put_releases.Tie as tie

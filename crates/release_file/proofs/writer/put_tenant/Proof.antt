@@ -2,7 +2,8 @@
 use Prim.Native.Nat.{_-_}
 use Rattle.format.specs.laws.Rows.{RowInv}
 use Rattle.release_file.specs.Rows.{releaseOctets}
-use Rattle.release_file.specs.laws.Rows.{noRelease, releaseRows}
+use Rattle.release_file.specs.laws.Rows.{releaseRows}
+use Rattle.state.specs.laws.Layout.{noRelease}
 use borrow.Author.Needs.{needs}
 use Rattle.release_file.proofs.writer.put_tenant.Statement.{statement}
 use Rattle.release_file.proofs.writer.put_tenant.Tie as tie

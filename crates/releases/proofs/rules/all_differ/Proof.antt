@@ -3,7 +3,7 @@ use Prim.Native.Nat.{_*_, _+_, _-_}
 use Rattle.lists.specs.All.{pairsBy}
 use Rattle.lists.specs.laws.All.{CrossInv, cross-next, cross-row, crosses}
 use Rattle.releases.specs.Rules.{differs}
-use Rattle.releases.specs.laws.Tenants.{noRelease}
+use Rattle.state.specs.laws.Layout.{noRelease}
 use Rattle.state.specs.Book.{remembered}
 use borrow.Author.Needs.{needs}
 use borrow.Author.Tests.{not-false}

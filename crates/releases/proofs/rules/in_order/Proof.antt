@@ -4,7 +4,7 @@ use Rattle.lists.specs.All.{pairsBy}
 use Rattle.lists.specs.laws.Next.{NextInv, nexts}
 use Rattle.releases.specs.Rules.{older}
 use Rattle.releases.specs.laws.Code.{older-start}
-use Rattle.releases.specs.laws.Tenants.{noRelease}
+use Rattle.state.specs.laws.Layout.{noRelease}
 use Rattle.state.specs.Book.{remembered}
 use borrow.Author.Needs.{needs}
 use Rattle.releases.proofs.rules.in_order.Statement.{statement}

@@ -4,7 +4,7 @@ use Rattle.lists.specs.All.{allBy}
 use Rattle.lists.specs.laws.All.{AllInv, alls}
 use Rattle.releases.specs.Rules.{unusedR}
 use Rattle.releases.specs.laws.Code.{rest-start}
-use Rattle.releases.specs.laws.Tenants.{noRelease}
+use Rattle.state.specs.laws.Layout.{noRelease}
 use borrow.Author.Needs.{needs}
 use lib.ListN.{drop}
 use Rattle.releases.proofs.rules.rest_unused.Statement.{statement}

@@ -1,20 +1,19 @@
 -- Definitions: what a sound book may remember: document 02, W-202, "Refusals", numbered as W-212 numbers them, and the layout (19). A house is a tenant
 -- here, counted from 0.
 use Prim.Native.Nat.{ℕ}
-use mathlib.Core.Bool.{Bool, true, not, _&&_, _||_}
+use mathlib.Core.Bool.{Bool, true, _&&_, _||_}
 use mathlib.Core.List.{List}
 use lib.Dec.{eqb, leb, ltb}
 use lib.ListN.{drop}
 use Rattle.lists.specs.Pick.{pick}
 use Rattle.lists.specs.All.{allBy, allTo, pairsBy}
-use Rattle.identifier.specs.Order.{sameOf}
 use Rattle.state.specs.declared.Lease.{Lease}
 use Rattle.state.specs.declared.LeaseTable.{LeaseTable}
 use Rattle.state.specs.declared.Memory.{Memory}
 use Rattle.state.specs.declared.Release.{Release}
 use Rattle.state.specs.declared.State.{State}
 use Rattle.state.specs.declared.TenantReleases.{TenantReleases}
-use Rattle.state.specs.Book.{inUse, other, releaseId, releasesAt, remembered, tenantAt}
+use Rattle.state.specs.Book.{inUse, other, otherRelease, releaseId, releasesAt, remembered, tenantAt}
 use Rattle.soundness.specs.Sound.{tenantsIn, zeroFrom}
 use Rattle.releases.specs.declared.ReleaseRules.{ReleaseRules}
 
@@ -32,7 +31,7 @@ lengthB r = leb 2 (r .«id_len») && leb (r .«id_len») 32
 
 -- ---- 17. an identifier "repeated in the house or on its lease"
 unfoldable pub differs : Release → Release → Bool
-differs a b = not (sameOf (releaseId a) (releaseId b))
+differs a b = otherRelease (releaseId b) a
 
 -- on none of the leases ls
 unfoldable pub notLeased : List Lease → Release → Bool

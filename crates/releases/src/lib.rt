@@ -2,12 +2,10 @@
 // sound book it keeps.
 mod rules;
 
-ghost use mathlib.Core.Bool.{not};
 ghost use mathlib.Core.Path.{_≡_};
 ghost use Prim.Native.Nat.{_≤_, min};
 ghost use lib.ListN.{drop, take};
-ghost use Rattle.identifier.specs.Order.{sameOf};
-ghost use Rattle.state.specs.Book.{inUse, laidReleases, releaseId, remembered};
+ghost use Rattle.state.specs.Book.{inUse, laidReleases, otherRelease, remembered};
 ghost use Rattle.state.specs.Edit.{forgetOf, notedIn, rememberOf};
 ghost use Rattle.releases.specs.Again.{anyAgain, isAgain};
 ghost use Rattle.releases.specs.Rules.{bothRules, brokenRelease, firstRelease, memoryB, noRules, rulesAt};
@@ -67,7 +65,7 @@ pub fn any_again(q: TenantReleases, clock: u32, id: [u8; 32], len: u8, xid: u32)
 // ---- remembering and forgetting
 
 fn is_other(r: Release, id: [u8; 32], len: u8) -> bool
-    ensures { λ x. ⌜ x ≡ not (sameOf (releaseId r) (take len id)) ⌝ }
+    ensures { λ x. ⌜ x ≡ otherRelease (take len id) r ⌝ }
 {
     let i = r.id;
     !identifier::same(i, r.id_len, id, len)

@@ -120,6 +120,10 @@ named i l = sameOf (idOf l) i
 abbrev pub other : List ℕ → Lease → Bool
 other i l = not (named i l)
 
+-- a release of another identifier
+abbrev pub otherRelease : List ℕ → Release → Bool
+otherRelease i r = not (sameOf (releaseId r) i)
+
 -- ---- finding, inserting, removing one lease
 -- the place of an identifier among the leases; their number where it has none
 abbrev pub placeOf : List ℕ → List Lease → ℕ

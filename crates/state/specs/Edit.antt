@@ -1,11 +1,10 @@
 -- Definitions: what a call does to one tenant's leases and to what is remembered of it, as a value, and the book afterwards.
 use Prim.Native.Nat.{ℕ, _-_}
-use mathlib.Core.Bool.{true, false, not}
+use mathlib.Core.Bool.{true, false}
 use mathlib.Core.List.{List, [], _∷_, _++_}
 use lib.ListN.{drop, length}
 use Rattle.lists.specs.Pick.{pick}
 use Rattle.lists.specs.Filter.{filterBy}
-use Rattle.identifier.specs.Order.{sameOf}
 use Rattle.state.specs.declared.Lease.{Lease}
 use Rattle.state.specs.declared.TenantLeases.{TenantLeases}
 use Rattle.state.specs.declared.LeaseTable.{LeaseTable}
@@ -13,7 +12,7 @@ use Rattle.state.specs.declared.Release.{Release}
 use Rattle.state.specs.declared.TenantReleases.{TenantReleases}
 use Rattle.state.specs.declared.Memory.{Memory}
 use Rattle.state.specs.declared.Edit.{Edit}
-use Rattle.state.specs.Book.{Book, changedTo, zeroLease, zeroRelease, inUse, laidOut, tenantAt, putAt, idOf, insertedIn, removeOf, remembered, laidReleases, releasesAt, putReleases, releaseId}
+use Rattle.state.specs.Book.{Book, changedTo, zeroLease, zeroRelease, inUse, laidOut, tenantAt, putAt, idOf, insertedIn, removeOf, remembered, laidReleases, releasesAt, putReleases, otherRelease}
 
 abbrev pub noEdit : Edit
 noEdit = record { leaves = false; old = zeroLease; enters = false; new = zeroLease; forgets = false; remembers = false; release = zeroRelease }
@@ -53,7 +52,7 @@ rememberOf r q = drop (length (q ++ r ∷ []) - 4) (q ++ r ∷ [])
 
 -- those of other identifiers
 unfoldable pub forgetOf : List ℕ → List Release → List Release
-forgetOf i q = filterBy (λ r. not (sameOf (releaseId r) i)) q
+forgetOf i q = filterBy (otherRelease i) q
 
 -- what is remembered of one tenant; no edit does both
 unfoldable pub notedIn : Edit → TenantReleases → TenantReleases

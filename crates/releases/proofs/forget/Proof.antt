@@ -1,20 +1,18 @@
 -- `forget` meets its contract: a filter over what is remembered.
 use Prim.Native.Nat.{_-_}
-use Rattle.identifier.specs.Order.{sameOf}
 use Rattle.lists.specs.Filter.{filterBy}
 use Rattle.lists.specs.laws.Part.{PartInv, parts}
 use Rattle.releases.specs.laws.Code.{forgotten-is, keptR, turns}
 use Rattle.state.specs.laws.Layout.{noRelease}
-use Rattle.state.specs.Book.{laidReleases, releaseId, remembered}
+use Rattle.state.specs.Book.{laidReleases, otherRelease, remembered}
 use Rattle.state.specs.Edit.{forgetOf}
 use borrow.Author.Needs.{needs}
 use lib.ListN.{take}
-use mathlib.Core.Bool.{not}
 use Rattle.releases.proofs.forget.Statement.{statement}
 use Rattle.releases.proofs.forget.Tie as tie
 
 abbrev Inv-loop : tie.InvT-loop
-Inv-loop id len q now₀ n i₀ now i = PartInv (keptR (λ r. not (sameOf (releaseId r) (take len id)))) noRelease (q .releases) n (laidReleases (filterBy (λ r. not (sameOf (releaseId r) (take len id))) (remembered q))) now i
+Inv-loop id len q now₀ n i₀ now i = PartInv (keptR (otherRelease (take len id))) noRelease (q .releases) n (laidReleases (filterBy (otherRelease (take len id)) (remembered q))) now i
 
 abbrev μ-loop : tie.MeasureT-loop
 μ-loop id len q now₀ n i₀ now i = n - i

@@ -23,7 +23,7 @@ use Rattle.state.specs.declared.Memory.{Memory}
 use Rattle.state.specs.declared.Release.{Release}
 use Rattle.state.specs.declared.TenantLeases.{TenantLeases}
 use Rattle.state.specs.declared.TenantReleases.{TenantReleases}
-use Rattle.state.specs.Book.{Book, differ, idOf, inUse, insertOf, insertedIn, laidOut, laidReleases, leaseAt, leaseWith, other, releaseId, releasesAt, remembered, removeOf, tenantAt, zeroLease, zeroRelease}
+use Rattle.state.specs.Book.{Book, differ, idOf, inUse, insertOf, insertedIn, laidOut, laidReleases, leaseAt, leaseWith, other, otherRelease, releaseId, releasesAt, remembered, removeOf, tenantAt, zeroLease, zeroRelease}
 use Rattle.state.specs.Edit.{applied, editedBook, editedIn, entering, forgetOf, givingWay, leaving, leftIn, noEdit, noted, notedIn, releaseOf, rememberOf}
 use Rattle.state.specs.laws.Edited.{applied-others, edited-none}
 use Rattle.state.specs.laws.Layout.{read-back, releases-back}
@@ -71,7 +71,7 @@ unfolding allBy
 one t x h = all-cons t x [] h refl
 
 -- an identifier on a lease and one that is remembered differ, whichever is named first
-turned : (r : Release) (l : Lease) → not (sameOf (releaseId r) (idOf l)) ≡ other (releaseId r) l
+turned : (r : Release) (l : Lease) → otherRelease (idOf l) r ≡ other (releaseId r) l
 unfolding differ
 turned r l = differ-turn (leaseWith 0 (r .«id_len») (r .id) 0 0 0 0 0) l
 
@@ -139,10 +139,10 @@ leased-good clock ls ls′ q f v = record {
 
 -- those of other identifiers are left, and none has this one
 pub forget-good : (clock : ℕ) (ls ls′ : List Lease) (i : List ℕ) (q : List Release)
-    → ((r : Release) → not (sameOf (releaseId r) i) ≡ true → notLeased ls r ≡ true → notLeased ls′ r ≡ true) → Good clock ls q → Good clock ls′ (forgetOf i q)
+    → ((r : Release) → otherRelease i r ≡ true → notLeased ls r ≡ true → notLeased ls′ r ≡ true) → Good clock ls q → Good clock ls′ (forgetOf i q)
 unfolding forgetOf
 forget-good clock ls ls′ i q f v =
-    let u : Release → Bool = λ r. not (sameOf (releaseId r) i) in
+    let u : Release → Bool = otherRelease i in
     let k = filter-length u q in
     let g = v .few in
     record {
@@ -272,7 +272,7 @@ module _ (b : Book) (h : ℕ) (known : h < tenantsIn (b .state)) (there : h < le
       rest : List Lease
       rest = removeOf (idOf o) (ownLeases (b .table) h)
 
-      off : (a : Release) → allBy (other (releaseId a)) (ownLeases (b .table) h) ≡ true → not (sameOf (releaseId a) (idOf o)) ≡ true
+      off : (a : Release) → allBy (other (releaseId a)) (ownLeases (b .table) h) ≡ true → otherRelease (idOf o) a ≡ true
       off a p = turned a o ∙ stands o k held below (other (releaseId a)) p
 
       new : allBy (λ a. differs a r) q ≡ true

@@ -14,7 +14,7 @@ use Rattle.state.specs.declared.Release.{Release}
 use Rattle.state.specs.declared.State.{State}
 use Rattle.state.specs.declared.TenantReleases.{TenantReleases}
 use Rattle.state.specs.Book.{inUse, other, otherRelease, releaseId, releasesAt, remembered, tenantAt}
-use Rattle.soundness.specs.Sound.{tenantsIn, zeroFrom}
+use Rattle.soundness.specs.Sound.{idLengthB, tenantsIn, zeroFrom}
 use Rattle.releases.specs.declared.ReleaseRules.{ReleaseRules}
 
 -- ---- 14. "an unknown house": none but the first n tenants has any
@@ -27,7 +27,7 @@ fewB q = leb (q .count) 4
 
 -- ---- 16. "an identifier too short or long"
 unfoldable pub lengthB : Release → Bool
-lengthB r = leb 2 (r .«id_len») && leb (r .«id_len») 32
+lengthB r = idLengthB (r .«id_len»)
 
 -- ---- 17. an identifier "repeated in the house or on its lease"
 unfoldable pub differs : Release → Release → Bool

@@ -35,8 +35,12 @@ scopesIn s = min (s .«scope_count») 4
 unfoldable pub sizeB : Scope → Bool
 sizeB c = oneTo 64 (c .size)
 
+-- "identifier 2 to 32 octets", on a lease and on a release
+abbrev pub idLengthB : ℕ → Bool
+idLengthB n = leb 2 n && leb n 32
+
 unfoldable pub idB : Lease → Bool
-idB l = leb 2 (l .«id_len») && leb (l .«id_len») 32
+idB l = idLengthB (l .«id_len»)
 
 unfoldable pub recordsB : TenantLeases → Bool
 recordsB t = leb (t .count) 16 && allBy idB (inUse t)

@@ -8,6 +8,6 @@ pub add-tenant-spec : {M : Type 1} → statement M
 add-tenant-spec =
     tie.close
     (tie.spec
-    (λ c κs. search needs)  -- src/lib.rt:196:9 check-tenant-requires
-    (λ c κs. search needs)  -- src/lib.rt:197:5 both-rules-requires
-    (λ c. search (added-is, needs)))  -- src/lib.rt:186:1 returns
+    (λ c κs. search needs)  -- src/lib.rt:170:9 check-tenant-requires
+    (λ c κs. search needs)  -- src/lib.rt:171:5 both-rules-requires
+    (λ c. search (added-is, needs)))  -- src/lib.rt:160:1 returns

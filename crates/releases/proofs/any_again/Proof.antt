@@ -24,13 +24,13 @@ any-again-spec =
     (tie.spec
     Inv-loop
     μ-loop
-    (λ c κs. search (places, needs))  -- src/lib.rt:65:9 cut4-requires
-    (λ c. search (places, needs))  -- src/lib.rt:67:5 loop-holds
-    (λ c. search (places, any-yes, any-no, needs))  -- src/lib.rt:68:17 mul-r
-    (λ c. search (places, any-yes, any-no, needs))  -- src/lib.rt:68:17 element-copy-out-r
-    (λ c κs. search (places, needs))  -- src/lib.rt:69:12 is-again-requires
-    (λ c. search (places, any-yes, needs))  -- src/lib.rt:70:13 returns
-    (λ c. search (places, any-yes, any-no, needs))  -- src/lib.rt:72:9 add-i
-    (λ c. search (places, any-yes, any-no, needs))  -- src/lib.rt:67:5 loop-less
-    (λ c. search (places, needs))  -- src/lib.rt:67:5 loop-again
-    (λ c. search (places, any-no, needs)))  -- src/lib.rt:62:1 returns-2
+    (λ c κs. search (places, needs))  -- src/lib.rt:53:9 cut4-requires
+    (λ c. search (places, needs))  -- src/lib.rt:55:5 loop-holds
+    (λ c. search (places, any-yes, any-no, needs))  -- src/lib.rt:56:17 mul-r
+    (λ c. search (places, any-yes, any-no, needs))  -- src/lib.rt:56:17 element-copy-out-r
+    (λ c κs. search (places, needs))  -- src/lib.rt:57:12 is-again-requires
+    (λ c. search (places, any-yes, needs))  -- src/lib.rt:58:13 returns
+    (λ c. search (places, any-yes, any-no, needs))  -- src/lib.rt:60:9 add-i
+    (λ c. search (places, any-yes, any-no, needs))  -- src/lib.rt:55:5 loop-less
+    (λ c. search (places, needs))  -- src/lib.rt:55:5 loop-again
+    (λ c. search (places, any-no, needs)))  -- src/lib.rt:50:1 returns-2

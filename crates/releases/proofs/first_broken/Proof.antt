@@ -8,7 +8,7 @@ pub first-broken-spec : {M : Type 1} → statement M
 first-broken-spec =
     tie.close
     (tie.spec
-    (λ c κs. search needs)  -- src/lib.rt:219:9 first-release-requires
-    (λ c. search (firsts, needs))  -- src/lib.rt:221:9 returns
-    (λ c. search (firsts, needs))  -- src/lib.rt:224:9 returns-2
-    (λ c. search (firsts, needs)))  -- src/lib.rt:216:1 returns-3
+    (λ c κs. search needs)  -- src/lib.rt:193:9 first-release-requires
+    (λ c. search (firsts, needs))  -- src/lib.rt:195:9 returns
+    (λ c. search (firsts, needs))  -- src/lib.rt:198:9 returns-2
+    (λ c. search (firsts, needs)))  -- src/lib.rt:190:1 returns-3

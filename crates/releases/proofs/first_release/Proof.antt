@@ -11,9 +11,9 @@ unfolding firstRelease
 first-release-spec =
     tie.close
     (tie.spec
-    (λ c. search (tests, not-true, not-false, needs) depth 24)  -- src/lib.rt:198:9 returns
-    (λ c. search (tests, not-true, not-false, needs) depth 24)  -- src/lib.rt:201:9 returns-2
-    (λ c. search (tests, not-true, not-false, needs) depth 24)  -- src/lib.rt:204:9 returns-3
-    (λ c. search (tests, not-true, not-false, needs) depth 24)  -- src/lib.rt:207:9 returns-4
-    (λ c. search (tests, not-true, not-false, needs) depth 24)  -- src/lib.rt:210:9 returns-5
-    (λ c. search (tests, not-true, not-false, needs) depth 24))  -- src/lib.rt:194:1 returns-6
+    (λ c. search (tests, not-true, not-false, needs) depth 24)  -- src/lib.rt:172:9 returns
+    (λ c. search (tests, not-true, not-false, needs) depth 24)  -- src/lib.rt:175:9 returns-2
+    (λ c. search (tests, not-true, not-false, needs) depth 24)  -- src/lib.rt:178:9 returns-3
+    (λ c. search (tests, not-true, not-false, needs) depth 24)  -- src/lib.rt:181:9 returns-4
+    (λ c. search (tests, not-true, not-false, needs) depth 24)  -- src/lib.rt:184:9 returns-5
+    (λ c. search (tests, not-true, not-false, needs) depth 24))  -- src/lib.rt:168:1 returns-6

@@ -24,20 +24,20 @@ forget-spec =
     (tie.spec
     Inv-loop
     μ-loop
-    (λ c κs. search (parts, turns, needs))  -- src/lib.rt:136:19 no-releases-requires
-    (λ c κs. search (parts, turns, needs))  -- src/lib.rt:137:9 cut4-requires
-    (λ c. search (parts, turns, forgotten-is, needs))  -- src/lib.rt:139:5 loop-holds
-    (λ c. search (parts, turns, forgotten-is, needs))  -- src/lib.rt:140:17 mul-r
-    (λ c. search (parts, turns, forgotten-is, needs))  -- src/lib.rt:140:17 element-copy-out-r
-    (λ c. search (parts, turns, forgotten-is, needs))  -- src/lib.rt:141:9 add-i
-    (λ c κs. search (parts, turns, needs))  -- src/lib.rt:142:12 is-other-requires
-    (λ c. search (parts, turns, forgotten-is, needs))  -- src/lib.rt:145:17 mul-r-2
-    (λ c. search (parts, turns, forgotten-is, needs))  -- src/lib.rt:145:17 element-set-from-r
-    (λ c. search (parts, turns, forgotten-is, needs))  -- src/lib.rt:146:29 add-now
-    (λ c. search (parts, turns, forgotten-is, needs))  -- src/lib.rt:139:5 loop-less
-    (λ c. search (parts, turns, needs))  -- src/lib.rt:139:5 loop-again
-    (λ c. search (parts, turns, forgotten-is, needs))  -- src/lib.rt:139:5 loop-less-2
-    (λ c. search (parts, turns, needs))  -- src/lib.rt:139:5 loop-again-2
-    (λ c. search (parts, turns, forgotten-is, needs))  -- src/lib.rt:139:5 loop-less-3
-    (λ c. search (parts, turns, needs))  -- src/lib.rt:139:5 loop-again-3
-    (λ c. search (parts, turns, needs)))  -- src/lib.rt:133:1 returns
+    (λ c κs. search (parts, turns, needs))  -- src/lib.rt:110:19 no-releases-requires
+    (λ c κs. search (parts, turns, needs))  -- src/lib.rt:111:9 cut4-requires
+    (λ c. search (parts, turns, forgotten-is, needs))  -- src/lib.rt:113:5 loop-holds
+    (λ c. search (parts, turns, forgotten-is, needs))  -- src/lib.rt:114:17 mul-r
+    (λ c. search (parts, turns, forgotten-is, needs))  -- src/lib.rt:114:17 element-copy-out-r
+    (λ c. search (parts, turns, forgotten-is, needs))  -- src/lib.rt:115:9 add-i
+    (λ c κs. search (parts, turns, needs))  -- src/lib.rt:116:12 is-other-requires
+    (λ c. search (parts, turns, forgotten-is, needs))  -- src/lib.rt:119:17 mul-r-2
+    (λ c. search (parts, turns, forgotten-is, needs))  -- src/lib.rt:119:17 element-set-from-r
+    (λ c. search (parts, turns, forgotten-is, needs))  -- src/lib.rt:120:29 add-now
+    (λ c. search (parts, turns, forgotten-is, needs))  -- src/lib.rt:113:5 loop-less
+    (λ c. search (parts, turns, needs))  -- src/lib.rt:113:5 loop-again
+    (λ c. search (parts, turns, forgotten-is, needs))  -- src/lib.rt:113:5 loop-less-2
+    (λ c. search (parts, turns, needs))  -- src/lib.rt:113:5 loop-again-2
+    (λ c. search (parts, turns, forgotten-is, needs))  -- src/lib.rt:113:5 loop-less-3
+    (λ c. search (parts, turns, needs))  -- src/lib.rt:113:5 loop-again-3
+    (λ c. search (parts, turns, needs)))  -- src/lib.rt:107:1 returns

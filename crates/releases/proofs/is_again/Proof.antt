@@ -8,9 +8,9 @@ pub is-again-spec : {M : Type 1} → statement M
 is-again-spec =
     tie.close
     (tie.spec
-    (λ c. search needs)  -- src/lib.rt:53:30 cast-if2
-    (λ c. search needs)  -- src/lib.rt:53:29 add-if2
-    (λ c κs. search needs)  -- src/lib.rt:55:13 same-requires
-    (λ c. search (again-is, needs))  -- src/lib.rt:55:13 returns
-    (λ c. search (again-is, again-other, again-late, needs))  -- src/lib.rt:49:1 returns-2
-    (λ c. search (again-is, again-other, again-late, needs)))  -- src/lib.rt:49:1 returns-3
+    (λ c. search needs)  -- src/lib.rt:41:30 cast-if2
+    (λ c. search needs)  -- src/lib.rt:41:29 add-if2
+    (λ c κs. search needs)  -- src/lib.rt:43:13 same-requires
+    (λ c. search (again-is, needs))  -- src/lib.rt:43:13 returns
+    (λ c. search (again-is, again-other, again-late, needs))  -- src/lib.rt:37:1 returns-2
+    (λ c. search (again-is, again-other, again-late, needs)))  -- src/lib.rt:37:1 returns-3

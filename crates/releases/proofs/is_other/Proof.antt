@@ -8,5 +8,5 @@ pub is-other-spec : {M : Type 1} → statement M
 is-other-spec =
     tie.close
     (tie.spec
-    (λ c κs. search needs)  -- src/lib.rt:97:6 same-requires
-    (λ c. search (not-is, needs)))  -- src/lib.rt:93:1 returns
+    (λ c κs. search needs)  -- src/lib.rt:71:6 same-requires
+    (λ c. search (not-is, needs)))  -- src/lib.rt:67:1 returns

@@ -21,17 +21,17 @@ later-spec =
     (tie.spec
     Inv-loop
     μ-loop
-    (λ c κs. search (parts, pushes, needs))  -- src/lib.rt:105:19 no-releases-requires
-    (λ c κs. search (parts, pushes, needs))  -- src/lib.rt:106:9 cut4-requires
-    (λ c. search (parts, pushes, later-start, needs))  -- src/lib.rt:108:5 loop-holds
-    (λ c. search (parts, pushes, later-start, needs))  -- src/lib.rt:109:17 mul-r
-    (λ c. search (parts, pushes, later-start, needs))  -- src/lib.rt:109:17 element-copy-out-r
-    (λ c. search (parts, pushes, later-start, needs))  -- src/lib.rt:110:9 add-i
-    (λ c. search (parts, pushes, later-start, needs))  -- src/lib.rt:113:13 mul-r-2
-    (λ c. search (parts, pushes, later-start, needs))  -- src/lib.rt:113:13 element-set-from-r
-    (λ c. search (parts, pushes, later-start, needs))  -- src/lib.rt:114:25 add-now
-    (λ c. search (parts, pushes, later-start, needs))  -- src/lib.rt:108:5 loop-less
-    (λ c. search (parts, pushes, needs))  -- src/lib.rt:108:5 loop-again
-    (λ c. search (parts, pushes, later-start, needs))  -- src/lib.rt:108:5 loop-less-2
-    (λ c. search (parts, pushes, needs))  -- src/lib.rt:108:5 loop-again-2
-    (λ c. search (parts, pushes, needs)))  -- src/lib.rt:101:1 returns
+    (λ c κs. search (parts, pushes, needs))  -- src/lib.rt:79:19 no-releases-requires
+    (λ c κs. search (parts, pushes, needs))  -- src/lib.rt:80:9 cut4-requires
+    (λ c. search (parts, pushes, later-start, needs))  -- src/lib.rt:82:5 loop-holds
+    (λ c. search (parts, pushes, later-start, needs))  -- src/lib.rt:83:17 mul-r
+    (λ c. search (parts, pushes, later-start, needs))  -- src/lib.rt:83:17 element-copy-out-r
+    (λ c. search (parts, pushes, later-start, needs))  -- src/lib.rt:84:9 add-i
+    (λ c. search (parts, pushes, later-start, needs))  -- src/lib.rt:87:13 mul-r-2
+    (λ c. search (parts, pushes, later-start, needs))  -- src/lib.rt:87:13 element-set-from-r
+    (λ c. search (parts, pushes, later-start, needs))  -- src/lib.rt:88:25 add-now
+    (λ c. search (parts, pushes, later-start, needs))  -- src/lib.rt:82:5 loop-less
+    (λ c. search (parts, pushes, needs))  -- src/lib.rt:82:5 loop-again
+    (λ c. search (parts, pushes, later-start, needs))  -- src/lib.rt:82:5 loop-less-2
+    (λ c. search (parts, pushes, needs))  -- src/lib.rt:82:5 loop-again-2
+    (λ c. search (parts, pushes, needs)))  -- src/lib.rt:75:1 returns

@@ -10,8 +10,8 @@ unfolding notedIn
 note-spec =
     tie.close
     (tie.spec
-    (λ c κs. search needs)  -- src/lib.rt:159:9 remember-requires
-    (λ c. search (tests, needs))  -- src/lib.rt:159:9 returns
-    (λ c κs. search needs)  -- src/lib.rt:164:9 forget-requires
-    (λ c. search (tests, needs))  -- src/lib.rt:164:9 returns-2
-    (λ c. search (tests, needs)))  -- src/lib.rt:154:1 returns-3
+    (λ c κs. search needs)  -- src/lib.rt:133:9 remember-requires
+    (λ c. search (tests, needs))  -- src/lib.rt:133:9 returns
+    (λ c κs. search needs)  -- src/lib.rt:138:9 forget-requires
+    (λ c. search (tests, needs))  -- src/lib.rt:138:9 returns-2
+    (λ c. search (tests, needs)))  -- src/lib.rt:128:1 returns-3

@@ -17,16 +17,16 @@ sound-spec =
     (tie.spec
     Inv-loop
     μ-loop
-    (λ c κs. search (memories, needs))  -- src/lib.rt:240:9 cut8-requires
-    (λ c κs. search (memories, needs))  -- src/lib.rt:241:9 no-tenants-requires
-    (λ c. search (memories, needs))  -- src/lib.rt:243:5 loop-holds
-    (λ c. search (memories, own-rules, needs))  -- src/lib.rt:244:19 mul-own
-    (λ c. search (memories, own-rules, needs))  -- src/lib.rt:244:19 element-copy-out-own
-    (λ c. search (memories, own-rules, needs))  -- src/lib.rt:245:17 mul-q
-    (λ c. search (memories, own-rules, needs))  -- src/lib.rt:245:17 element-copy-out-q
-    (λ c κs. search (memories, needs))  -- src/lib.rt:246:9 add-tenant-requires
-    (λ c. search (memories, own-rules, needs))  -- src/lib.rt:247:9 add-h
-    (λ c. search (memories, own-rules, needs))  -- src/lib.rt:243:5 loop-less
-    (λ c. search (memories, own-rules, needs))  -- src/lib.rt:243:5 loop-again
-    (λ c κs. search (memories, needs))  -- src/lib.rt:249:5 first-broken-requires
-    (λ c. search (memories, needs)))  -- src/lib.rt:237:1 returns
+    (λ c κs. search (memories, needs))  -- src/lib.rt:214:9 cut8-requires
+    (λ c κs. search (memories, needs))  -- src/lib.rt:215:9 no-tenants-requires
+    (λ c. search (memories, needs))  -- src/lib.rt:217:5 loop-holds
+    (λ c. search (memories, own-rules, needs))  -- src/lib.rt:218:19 mul-own
+    (λ c. search (memories, own-rules, needs))  -- src/lib.rt:218:19 element-copy-out-own
+    (λ c. search (memories, own-rules, needs))  -- src/lib.rt:219:17 mul-q
+    (λ c. search (memories, own-rules, needs))  -- src/lib.rt:219:17 element-copy-out-q
+    (λ c κs. search (memories, needs))  -- src/lib.rt:220:9 add-tenant-requires
+    (λ c. search (memories, own-rules, needs))  -- src/lib.rt:221:9 add-h
+    (λ c. search (memories, own-rules, needs))  -- src/lib.rt:217:5 loop-less
+    (λ c. search (memories, own-rules, needs))  -- src/lib.rt:217:5 loop-again
+    (λ c κs. search (memories, needs))  -- src/lib.rt:223:5 first-broken-requires
+    (λ c. search (memories, needs)))  -- src/lib.rt:211:1 returns

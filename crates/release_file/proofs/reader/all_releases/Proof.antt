@@ -22,7 +22,7 @@ all-releases-spec =
     (λ c κs. search (fills, needs))  -- src/reader.rt:23:13 tenant-place-requires
     (λ c. search (fills, needs))  -- src/reader.rt:24:17 mul-q
     (λ c. search (fills, needs))  -- src/reader.rt:24:17 array-copy-out-q
-    (λ c κs. search (fills, needs))  -- src/reader.rt:25:25 release-at-requires
+    (λ c κs. search (fills, needs))  -- src/reader.rt:25:40 release-at-requires
     (λ c κs. search (fills, needs))  -- src/reader.rt:25:13 push-release-requires
     (λ c. search (fills, needs))  -- src/reader.rt:26:9 mul-out
     (λ c. search (fills, needs))  -- src/reader.rt:26:9 array-set-from-out

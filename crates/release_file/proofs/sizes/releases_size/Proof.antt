@@ -21,12 +21,12 @@ releases-size-spec =
     (tie.spec
     Inv-loop
     μ-loop
-    (λ c. search (sizes, needs))  -- src/sizes.rt:46:5 loop-holds
-    (λ c. search (sizes, rows-length, needs))  -- src/sizes.rt:47:17 mul-q
-    (λ c. search (sizes, rows-length, needs))  -- src/sizes.rt:47:17 element-copy-out-q
-    (λ c κs. search (sizes, needs))  -- src/sizes.rt:48:16 tenant-size-requires
-    (λ c. search (sizes, rows-length, needs))  -- src/sizes.rt:48:9 add-sum
-    (λ c. search (sizes, rows-length, needs))  -- src/sizes.rt:49:9 add-i
-    (λ c. search (sizes, rows-length, needs))  -- src/sizes.rt:46:5 loop-less
-    (λ c. search (sizes, needs))  -- src/sizes.rt:46:5 loop-again
-    (λ c. search (sizes, rows-length, needs)))  -- src/sizes.rt:41:1 returns
+    (λ c. search (sizes, needs))  -- src/sizes.rt:36:5 loop-holds
+    (λ c. search (sizes, rows-length, needs))  -- src/sizes.rt:37:17 mul-q
+    (λ c. search (sizes, rows-length, needs))  -- src/sizes.rt:37:17 element-copy-out-q
+    (λ c κs. search (sizes, needs))  -- src/sizes.rt:38:16 tenant-size-requires
+    (λ c. search (sizes, rows-length, needs))  -- src/sizes.rt:38:9 add-sum
+    (λ c. search (sizes, rows-length, needs))  -- src/sizes.rt:39:9 add-i
+    (λ c. search (sizes, rows-length, needs))  -- src/sizes.rt:36:5 loop-less
+    (λ c. search (sizes, needs))  -- src/sizes.rt:36:5 loop-again
+    (λ c. search (sizes, rows-length, needs)))  -- src/sizes.rt:31:1 returns

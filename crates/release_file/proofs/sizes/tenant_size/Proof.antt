@@ -16,7 +16,7 @@ Inv-loop q n sum₀ i₀ sum i = SizeInv (λ i. length (releaseOctets 0 i (getD 
 abbrev μ-loop : tie.MeasureT-loop
 μ-loop q n sum₀ i₀ sum i = n - i
 
--- src/sizes.rt:54:1
+-- src/sizes.rt:44:1
 returns : tie.Need-returns Inv-loop μ-loop
 unfolding releaseOctets
 returns c = (row-sum (releaseOctets 0) noRelease (c .before .before .before .args .t1 .releases) 4 (c .before .before .before .args .t1 .count) _ _ (search (unmapped, needs)) (c .before .before .cut4 .ensures) (size-end (c .before .loop .inv) (search needs)), omega (arith, c .before .loop .inv .small, c .before .loop .inv .within, c .before .before .cut4 .ensures))
@@ -28,13 +28,13 @@ tenant-size-spec =
     (tie.spec
     Inv-loop
     μ-loop
-    (λ c κs. search (sizes, needs))  -- src/sizes.rt:57:9 cut4-requires
-    (λ c. search (sizes, needs))  -- src/sizes.rt:60:5 loop-holds
-    (λ c. search (sizes, needs))  -- src/sizes.rt:61:17 mul-e
-    (λ c. search (sizes, needs))  -- src/sizes.rt:61:17 element-copy-out-e
-    (λ c κs. search (sizes, needs))  -- src/sizes.rt:62:16 release-size-requires
-    (λ c. search (sizes, needs))  -- src/sizes.rt:62:9 add-sum
-    (λ c. search (sizes, needs))  -- src/sizes.rt:63:9 add-i
-    (λ c. search (sizes, needs))  -- src/sizes.rt:60:5 loop-less
-    (λ c. search (sizes, needs))  -- src/sizes.rt:60:5 loop-again
+    (λ c κs. search (sizes, needs))  -- src/sizes.rt:47:9 cut4-requires
+    (λ c. search (sizes, needs))  -- src/sizes.rt:50:5 loop-holds
+    (λ c. search (sizes, needs))  -- src/sizes.rt:51:17 mul-e
+    (λ c. search (sizes, needs))  -- src/sizes.rt:51:17 element-copy-out-e
+    (λ c κs. search (sizes, needs))  -- src/sizes.rt:52:16 release-size-requires
+    (λ c. search (sizes, needs))  -- src/sizes.rt:52:9 add-sum
+    (λ c. search (sizes, needs))  -- src/sizes.rt:53:9 add-i
+    (λ c. search (sizes, needs))  -- src/sizes.rt:50:5 loop-less
+    (λ c. search (sizes, needs))  -- src/sizes.rt:50:5 loop-again
     returns)

@@ -20,14 +20,14 @@ put-releases-spec =
     (tie.spec
     Inv-loop
     μ-loop
-    (λ c. search (tenantRows, needs))  -- src/writer.rt:21:5 loop-holds
-    (λ c. search (tenantRows, needs))  -- src/writer.rt:22:17 mul-q
-    (λ c. search (tenantRows, needs))  -- src/writer.rt:22:17 element-copy-out-q
-    (λ c. search (tenantRows, needs))  -- src/writer.rt:23:38 add-put-tenant
-    (λ c. search (tenantRows, needs))  -- src/writer.rt:23:37 cast-put-tenant
-    (λ c κs. search (tenantRows, needs))  -- src/writer.rt:23:9 put-tenant-requires
-    (λ c. search (tenantRows, needs))  -- src/writer.rt:24:9 add-i
-    (λ c. search (tenantRows, needs))  -- src/writer.rt:21:5 loop-less
-    (λ c. search (tenantRows, needs))  -- src/writer.rt:21:5 loop-again
-    (λ c. search (tenantRows, needs))  -- src/writer.rt:15:1 same-length
-    (λ c. search (tenantRows, needs)))  -- src/writer.rt:15:1 returns
+    (λ c. search (tenantRows, needs))  -- src/writer.rt:20:5 loop-holds
+    (λ c. search (tenantRows, needs))  -- src/writer.rt:21:17 mul-q
+    (λ c. search (tenantRows, needs))  -- src/writer.rt:21:17 element-copy-out-q
+    (λ c. search (tenantRows, needs))  -- src/writer.rt:22:38 add-put-tenant
+    (λ c. search (tenantRows, needs))  -- src/writer.rt:22:37 cast-put-tenant
+    (λ c κs. search (tenantRows, needs))  -- src/writer.rt:22:9 put-tenant-requires
+    (λ c. search (tenantRows, needs))  -- src/writer.rt:23:9 add-i
+    (λ c. search (tenantRows, needs))  -- src/writer.rt:20:5 loop-less
+    (λ c. search (tenantRows, needs))  -- src/writer.rt:20:5 loop-again
+    (λ c. search (tenantRows, needs))  -- src/writer.rt:14:1 same-length
+    (λ c. search (tenantRows, needs)))  -- src/writer.rt:14:1 returns

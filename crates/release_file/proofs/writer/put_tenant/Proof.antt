@@ -20,13 +20,13 @@ put-tenant-spec =
     (tie.spec
     Inv-loop
     μ-loop
-    (λ c κs. search (releaseRows, needs))  -- src/writer.rt:34:9 cut4-requires
-    (λ c. search (releaseRows, needs))  -- src/writer.rt:37:5 loop-holds
-    (λ c. search (releaseRows, needs))  -- src/writer.rt:38:17 mul-e
-    (λ c. search (releaseRows, needs))  -- src/writer.rt:38:17 element-copy-out-e
-    (λ c κs. search (releaseRows, needs))  -- src/writer.rt:39:9 put-release-requires
-    (λ c. search (releaseRows, needs))  -- src/writer.rt:40:9 add-i
-    (λ c. search (releaseRows, needs))  -- src/writer.rt:37:5 loop-less
-    (λ c. search (releaseRows, needs))  -- src/writer.rt:37:5 loop-again
-    (λ c. search (releaseRows, needs))  -- src/writer.rt:30:1 same-length
-    (λ c. search (releaseRows, needs)))  -- src/writer.rt:30:1 returns
+    (λ c κs. search (releaseRows, needs))  -- src/writer.rt:33:9 cut4-requires
+    (λ c. search (releaseRows, needs))  -- src/writer.rt:36:5 loop-holds
+    (λ c. search (releaseRows, needs))  -- src/writer.rt:37:17 mul-e
+    (λ c. search (releaseRows, needs))  -- src/writer.rt:37:17 element-copy-out-e
+    (λ c κs. search (releaseRows, needs))  -- src/writer.rt:38:9 put-release-requires
+    (λ c. search (releaseRows, needs))  -- src/writer.rt:39:9 add-i
+    (λ c. search (releaseRows, needs))  -- src/writer.rt:36:5 loop-less
+    (λ c. search (releaseRows, needs))  -- src/writer.rt:36:5 loop-again
+    (λ c. search (releaseRows, needs))  -- src/writer.rt:29:1 same-length
+    (λ c. search (releaseRows, needs)))  -- src/writer.rt:29:1 returns

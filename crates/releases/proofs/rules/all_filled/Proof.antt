@@ -21,13 +21,13 @@ all-filled-spec =
     (tie.spec
     Inv-loop
     μ-loop
-    (λ c κs. search (alls, needs))  -- src/rules.rt:205:9 cut4-requires
-    (λ c. search (alls, all-start, needs))  -- src/rules.rt:207:5 loop-holds
-    (λ c. search (alls, all-start, needs))  -- src/rules.rt:208:17 mul-r
-    (λ c. search (alls, all-start, needs))  -- src/rules.rt:208:17 element-copy-out-r
-    (λ c κs. search (alls, needs))  -- src/rules.rt:209:13 is-filled-requires
-    (λ c. search (alls, needs))  -- src/rules.rt:210:13 returns
-    (λ c. search (alls, all-start, needs))  -- src/rules.rt:212:9 add-i
-    (λ c. search (alls, all-start, needs))  -- src/rules.rt:207:5 loop-less
-    (λ c. search (alls, needs))  -- src/rules.rt:207:5 loop-again
-    (λ c. search (alls, needs)))  -- src/rules.rt:202:1 returns-2
+    (λ c κs. search (alls, needs))  -- src/rules.rt:204:9 cut4-requires
+    (λ c. search (alls, all-start, needs))  -- src/rules.rt:206:5 loop-holds
+    (λ c. search (alls, all-start, needs))  -- src/rules.rt:207:17 mul-r
+    (λ c. search (alls, all-start, needs))  -- src/rules.rt:207:17 element-copy-out-r
+    (λ c κs. search (alls, needs))  -- src/rules.rt:208:13 is-filled-requires
+    (λ c. search (alls, needs))  -- src/rules.rt:209:13 returns
+    (λ c. search (alls, all-start, needs))  -- src/rules.rt:211:9 add-i
+    (λ c. search (alls, all-start, needs))  -- src/rules.rt:206:5 loop-less
+    (λ c. search (alls, needs))  -- src/rules.rt:206:5 loop-again
+    (λ c. search (alls, needs)))  -- src/rules.rt:201:1 returns-2

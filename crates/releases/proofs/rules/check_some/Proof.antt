@@ -8,9 +8,9 @@ pub check-some-spec : {M : Type 1} → statement M
 check-some-spec =
     tie.close
     (tie.spec
-    (λ c κs. search needs)  -- src/rules.rt:276:9 house-ok-requires
-    (λ c κs. search needs)  -- src/rules.rt:277:9 lengths-ok-requires
-    (λ c κs. search needs)  -- src/rules.rt:278:9 once-ok-requires
-    (λ c κs. search needs)  -- src/rules.rt:279:9 times-ok-requires
-    (λ c κs. search needs)  -- src/rules.rt:280:9 laid-ok-requires
-    (λ c. search (some-are, needs)))  -- src/rules.rt:273:1 returns
+    (λ c κs. search needs)  -- src/rules.rt:275:9 house-ok-requires
+    (λ c κs. search needs)  -- src/rules.rt:276:9 lengths-ok-requires
+    (λ c κs. search needs)  -- src/rules.rt:277:9 once-ok-requires
+    (λ c κs. search needs)  -- src/rules.rt:278:9 times-ok-requires
+    (λ c κs. search needs)  -- src/rules.rt:279:9 laid-ok-requires
+    (λ c. search (some-are, needs)))  -- src/rules.rt:272:1 returns

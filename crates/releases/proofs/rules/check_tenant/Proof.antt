@@ -8,7 +8,7 @@ pub check-tenant-spec : {M : Type 1} → statement M
 check-tenant-spec =
     tie.close
     (tie.spec
-    (λ c κs. search needs)  -- src/rules.rt:302:13 rest-unused-requires
-    (λ c. search (none-are, needs))  -- src/rules.rt:303:9 returns
-    (λ c κs. search needs)  -- src/rules.rt:312:5 check-some-requires
-    (λ c. search needs))  -- src/rules.rt:292:1 returns-2
+    (λ c κs. search needs)  -- src/rules.rt:301:13 rest-unused-requires
+    (λ c. search (none-are, needs))  -- src/rules.rt:302:9 returns
+    (λ c κs. search needs)  -- src/rules.rt:311:5 check-some-requires
+    (λ c. search needs))  -- src/rules.rt:291:1 returns-2

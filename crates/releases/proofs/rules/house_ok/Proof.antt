@@ -10,5 +10,5 @@ unfolding houseB
 house-ok-spec =
     tie.close
     (tie.spec
-    (λ c. search (ors, needs))  -- src/rules.rt:31:9 returns
-    (λ c. search (ors, needs)))  -- src/rules.rt:27:1 returns-2
+    (λ c. search (ors, needs))  -- src/rules.rt:30:9 returns
+    (λ c. search (ors, needs)))  -- src/rules.rt:26:1 returns-2

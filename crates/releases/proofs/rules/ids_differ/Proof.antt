@@ -10,5 +10,5 @@ unfolding differs
 ids-differ-spec =
     tie.close
     (tie.spec
-    (λ c κs. search needs)  -- src/rules.rt:69:6 same-requires
-    (λ c. search (not-is, needs)))  -- src/rules.rt:64:1 returns
+    (λ c κs. search needs)  -- src/rules.rt:68:6 same-requires
+    (λ c. search (not-is, needs)))  -- src/rules.rt:63:1 returns

@@ -22,16 +22,16 @@ in-order-spec =
     (tie.spec
     Inv-loop
     μ-loop
-    (λ c κs. search (nexts, needs))  -- src/rules.rt:175:9 cut4-requires
-    (λ c. search (nexts, older-start, needs))  -- src/rules.rt:177:5 loop-holds
-    (λ c. search (nexts, older-start, needs))  -- src/rules.rt:177:11 add-loop
-    (λ c. search (nexts, older-start, needs))  -- src/rules.rt:178:17 mul-a
-    (λ c. search (nexts, older-start, needs))  -- src/rules.rt:178:17 element-copy-out-a
-    (λ c. search (nexts, older-start, needs))  -- src/rules.rt:179:9 add-i
-    (λ c. search (nexts, older-start, needs))  -- src/rules.rt:180:17 mul-b
-    (λ c. search (nexts, older-start, needs))  -- src/rules.rt:180:17 element-copy-out-b
-    (λ c κs. search (nexts, needs))  -- src/rules.rt:181:13 is-older-requires
-    (λ c. search (nexts, needs))  -- src/rules.rt:182:13 returns
-    (λ c. search (nexts, older-start, needs))  -- src/rules.rt:177:5 loop-less
-    (λ c. search (nexts, needs))  -- src/rules.rt:177:5 loop-again
-    (λ c. search (nexts, needs)))  -- src/rules.rt:172:1 returns-2
+    (λ c κs. search (nexts, needs))  -- src/rules.rt:174:9 cut4-requires
+    (λ c. search (nexts, older-start, needs))  -- src/rules.rt:176:5 loop-holds
+    (λ c. search (nexts, older-start, needs))  -- src/rules.rt:176:11 add-loop
+    (λ c. search (nexts, older-start, needs))  -- src/rules.rt:177:17 mul-a
+    (λ c. search (nexts, older-start, needs))  -- src/rules.rt:177:17 element-copy-out-a
+    (λ c. search (nexts, older-start, needs))  -- src/rules.rt:178:9 add-i
+    (λ c. search (nexts, older-start, needs))  -- src/rules.rt:179:17 mul-b
+    (λ c. search (nexts, older-start, needs))  -- src/rules.rt:179:17 element-copy-out-b
+    (λ c κs. search (nexts, needs))  -- src/rules.rt:180:13 is-older-requires
+    (λ c. search (nexts, needs))  -- src/rules.rt:181:13 returns
+    (λ c. search (nexts, older-start, needs))  -- src/rules.rt:176:5 loop-less
+    (λ c. search (nexts, needs))  -- src/rules.rt:176:5 loop-again
+    (λ c. search (nexts, needs)))  -- src/rules.rt:171:1 returns-2

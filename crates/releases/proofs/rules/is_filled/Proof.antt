@@ -20,11 +20,11 @@ is-filled-spec =
     (tie.spec
     Inv-loop
     μ-loop
-    (λ c κs. search needs)  -- src/rules.rt:192:9 cut32-requires
-    (λ c. search (filled-start, needs))  -- src/rules.rt:193:5 loop-holds
-    (λ c. search (filled-start, zero-broken, zero-next, all-end, filled-is, needs))  -- src/rules.rt:194:12 array-read-if1
-    (λ c. search (zero-broken, filled-is, needs))  -- src/rules.rt:195:13 returns
-    (λ c. search (filled-start, zero-broken, zero-next, all-end, filled-is, needs))  -- src/rules.rt:197:9 add-i
-    (λ c. search (filled-start, zero-broken, zero-next, all-end, filled-is, needs))  -- src/rules.rt:193:5 loop-less
-    (λ c. search (zero-next, needs))  -- src/rules.rt:193:5 loop-again
-    (λ c. search (all-end, filled-is, needs)))  -- src/rules.rt:188:1 returns-2
+    (λ c κs. search needs)  -- src/rules.rt:191:9 cut32-requires
+    (λ c. search (filled-start, needs))  -- src/rules.rt:192:5 loop-holds
+    (λ c. search (filled-start, zero-broken, zero-next, all-end, filled-is, needs))  -- src/rules.rt:193:12 array-read-if1
+    (λ c. search (zero-broken, filled-is, needs))  -- src/rules.rt:194:13 returns
+    (λ c. search (filled-start, zero-broken, zero-next, all-end, filled-is, needs))  -- src/rules.rt:196:9 add-i
+    (λ c. search (filled-start, zero-broken, zero-next, all-end, filled-is, needs))  -- src/rules.rt:192:5 loop-less
+    (λ c. search (zero-next, needs))  -- src/rules.rt:192:5 loop-again
+    (λ c. search (all-end, filled-is, needs)))  -- src/rules.rt:187:1 returns-2

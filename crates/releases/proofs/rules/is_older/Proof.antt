@@ -9,4 +9,4 @@ unfolding older
 is-older-spec =
     tie.close
     (tie.spec
-    (λ c. search needs))  -- src/rules.rt:165:1 returns
+    (λ c. search needs))  -- src/rules.rt:164:1 returns

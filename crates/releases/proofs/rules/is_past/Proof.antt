@@ -9,4 +9,4 @@ unfolding pastB
 is-past-spec =
     tie.close
     (tie.spec
-    (λ c. search needs))  -- src/rules.rt:142:1 returns
+    (λ c. search needs))  -- src/rules.rt:141:1 returns

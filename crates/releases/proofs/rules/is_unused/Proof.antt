@@ -10,8 +10,8 @@ unfolding unusedR
 is-unused-spec =
     tie.close
     (tie.spec
-    (λ c κs. search needs)  -- src/rules.rt:238:17 is-zero-requires
-    (λ c. search (ands, needs))  -- src/rules.rt:238:17 returns
-    (λ c. search (ands, needs))  -- src/rules.rt:231:1 returns-2
-    (λ c. search (ands, needs))  -- src/rules.rt:231:1 returns-3
-    (λ c. search (ands, needs)))  -- src/rules.rt:231:1 returns-4
+    (λ c κs. search needs)  -- src/rules.rt:237:17 is-zero-requires
+    (λ c. search (ands, needs))  -- src/rules.rt:237:17 returns
+    (λ c. search (ands, needs))  -- src/rules.rt:230:1 returns-2
+    (λ c. search (ands, needs))  -- src/rules.rt:230:1 returns-3
+    (λ c. search (ands, needs)))  -- src/rules.rt:230:1 returns-4

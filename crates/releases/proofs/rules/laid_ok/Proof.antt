@@ -10,9 +10,9 @@ unfolding laidB
 laid-ok-spec =
     tie.close
     (tie.spec
-    (λ c κs. search needs)  -- src/rules.rt:262:8 in-order-requires
-    (λ c κs. search needs)  -- src/rules.rt:263:12 all-filled-requires
-    (λ c κs. search needs)  -- src/rules.rt:264:13 rest-unused-requires
-    (λ c. search (joins, needs))  -- src/rules.rt:264:13 returns
-    (λ c. search (joins, needs))  -- src/rules.rt:259:1 returns-2
-    (λ c. search (joins, needs)))  -- src/rules.rt:259:1 returns-3
+    (λ c κs. search needs)  -- src/rules.rt:261:8 in-order-requires
+    (λ c κs. search needs)  -- src/rules.rt:262:12 all-filled-requires
+    (λ c κs. search needs)  -- src/rules.rt:263:13 rest-unused-requires
+    (λ c. search (joins, needs))  -- src/rules.rt:263:13 returns
+    (λ c. search (joins, needs))  -- src/rules.rt:258:1 returns-2
+    (λ c. search (joins, needs)))  -- src/rules.rt:258:1 returns-3

@@ -10,5 +10,5 @@ unfolding lengthB
 length-ok-spec =
     tie.close
     (tie.spec
-    (λ c. search (ands, needs))  -- src/rules.rt:42:9 returns
-    (λ c. search (ands, needs)))  -- src/rules.rt:38:1 returns-2
+    (λ c. search (ands, needs))  -- src/rules.rt:41:9 returns
+    (λ c. search (ands, needs)))  -- src/rules.rt:37:1 returns-2

@@ -21,13 +21,13 @@ lengths-ok-spec =
     (tie.spec
     Inv-loop
     μ-loop
-    (λ c κs. search (alls, needs))  -- src/rules.rt:50:9 cut4-requires
-    (λ c. search (alls, all-start, needs))  -- src/rules.rt:52:5 loop-holds
-    (λ c. search (alls, all-start, needs))  -- src/rules.rt:53:17 mul-r
-    (λ c. search (alls, all-start, needs))  -- src/rules.rt:53:17 element-copy-out-r
-    (λ c κs. search (alls, needs))  -- src/rules.rt:54:13 length-ok-requires
-    (λ c. search (alls, needs))  -- src/rules.rt:55:13 returns
-    (λ c. search (alls, all-start, needs))  -- src/rules.rt:57:9 add-i
-    (λ c. search (alls, all-start, needs))  -- src/rules.rt:52:5 loop-less
-    (λ c. search (alls, needs))  -- src/rules.rt:52:5 loop-again
-    (λ c. search (alls, needs)))  -- src/rules.rt:47:1 returns-2
+    (λ c κs. search (alls, needs))  -- src/rules.rt:49:9 cut4-requires
+    (λ c. search (alls, all-start, needs))  -- src/rules.rt:51:5 loop-holds
+    (λ c. search (alls, all-start, needs))  -- src/rules.rt:52:17 mul-r
+    (λ c. search (alls, all-start, needs))  -- src/rules.rt:52:17 element-copy-out-r
+    (λ c κs. search (alls, needs))  -- src/rules.rt:53:13 length-ok-requires
+    (λ c. search (alls, needs))  -- src/rules.rt:54:13 returns
+    (λ c. search (alls, all-start, needs))  -- src/rules.rt:56:9 add-i
+    (λ c. search (alls, all-start, needs))  -- src/rules.rt:51:5 loop-less
+    (λ c. search (alls, needs))  -- src/rules.rt:51:5 loop-again
+    (λ c. search (alls, needs)))  -- src/rules.rt:46:1 returns-2

@@ -21,13 +21,13 @@ none-leased-spec =
     (tie.spec
     Inv-loop
     μ-loop
-    (λ c κs. search (alls, needs))  -- src/rules.rt:119:9 cut4-requires
-    (λ c. search (alls, all-start, needs))  -- src/rules.rt:121:5 loop-holds
-    (λ c. search (alls, all-start, needs))  -- src/rules.rt:122:17 mul-r
-    (λ c. search (alls, all-start, needs))  -- src/rules.rt:122:17 element-copy-out-r
-    (λ c κs. search (alls, needs))  -- src/rules.rt:123:13 not-leased-requires
-    (λ c. search (alls, needs))  -- src/rules.rt:124:13 returns
-    (λ c. search (alls, all-start, needs))  -- src/rules.rt:126:9 add-i
-    (λ c. search (alls, all-start, needs))  -- src/rules.rt:121:5 loop-less
-    (λ c. search (alls, needs))  -- src/rules.rt:121:5 loop-again
-    (λ c. search (alls, needs)))  -- src/rules.rt:116:1 returns-2
+    (λ c κs. search (alls, needs))  -- src/rules.rt:118:9 cut4-requires
+    (λ c. search (alls, all-start, needs))  -- src/rules.rt:120:5 loop-holds
+    (λ c. search (alls, all-start, needs))  -- src/rules.rt:121:17 mul-r
+    (λ c. search (alls, all-start, needs))  -- src/rules.rt:121:17 element-copy-out-r
+    (λ c κs. search (alls, needs))  -- src/rules.rt:122:13 not-leased-requires
+    (λ c. search (alls, needs))  -- src/rules.rt:123:13 returns
+    (λ c. search (alls, all-start, needs))  -- src/rules.rt:125:9 add-i
+    (λ c. search (alls, all-start, needs))  -- src/rules.rt:120:5 loop-less
+    (λ c. search (alls, needs))  -- src/rules.rt:120:5 loop-again
+    (λ c. search (alls, needs)))  -- src/rules.rt:115:1 returns-2

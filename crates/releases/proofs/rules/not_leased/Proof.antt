@@ -22,13 +22,13 @@ not-leased-spec =
     (tie.spec
     Inv-loop
     μ-loop
-    (λ c κs. search (alls, needs))  -- src/rules.rt:104:9 cut16-requires
-    (λ c. search (alls, all-start, needs))  -- src/rules.rt:106:5 loop-holds
-    (λ c. search (alls, all-start, needs))  -- src/rules.rt:107:17 mul-l
-    (λ c. search (alls, all-start, needs))  -- src/rules.rt:107:17 element-copy-out-l
-    (λ c κs. search (alls, needs))  -- src/rules.rt:108:13 not-on-requires
-    (λ c. search (alls, needs))  -- src/rules.rt:109:13 returns
-    (λ c. search (alls, all-start, needs))  -- src/rules.rt:111:9 add-i
-    (λ c. search (alls, all-start, needs))  -- src/rules.rt:106:5 loop-less
-    (λ c. search (alls, needs))  -- src/rules.rt:106:5 loop-again
-    (λ c. search (alls, needs)))  -- src/rules.rt:101:1 returns-2
+    (λ c κs. search (alls, needs))  -- src/rules.rt:103:9 cut16-requires
+    (λ c. search (alls, all-start, needs))  -- src/rules.rt:105:5 loop-holds
+    (λ c. search (alls, all-start, needs))  -- src/rules.rt:106:17 mul-l
+    (λ c. search (alls, all-start, needs))  -- src/rules.rt:106:17 element-copy-out-l
+    (λ c κs. search (alls, needs))  -- src/rules.rt:107:13 not-on-requires
+    (λ c. search (alls, needs))  -- src/rules.rt:108:13 returns
+    (λ c. search (alls, all-start, needs))  -- src/rules.rt:110:9 add-i
+    (λ c. search (alls, all-start, needs))  -- src/rules.rt:105:5 loop-less
+    (λ c. search (alls, needs))  -- src/rules.rt:105:5 loop-again
+    (λ c. search (alls, needs)))  -- src/rules.rt:100:1 returns-2

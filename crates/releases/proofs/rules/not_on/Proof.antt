@@ -8,5 +8,5 @@ pub not-on-spec : {M : Type 1} → statement M
 not-on-spec =
     tie.close
     (tie.spec
-    (λ c κs. search needs)  -- src/rules.rt:98:6 is-named-requires
-    (λ c. search (not-is, needs)))  -- src/rules.rt:94:1 returns
+    (λ c κs. search needs)  -- src/rules.rt:97:6 is-named-requires
+    (λ c. search (not-is, needs)))  -- src/rules.rt:93:1 returns

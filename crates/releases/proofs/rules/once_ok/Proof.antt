@@ -10,7 +10,7 @@ unfolding onceB
 once-ok-spec =
     tie.close
     (tie.spec
-    (λ c κs. search needs)  -- src/rules.rt:134:8 all-differ-requires
-    (λ c κs. search needs)  -- src/rules.rt:135:9 none-leased-requires
-    (λ c. search (joins, needs))  -- src/rules.rt:135:9 returns
-    (λ c. search (joins, needs)))  -- src/rules.rt:131:1 returns-2
+    (λ c κs. search needs)  -- src/rules.rt:133:8 all-differ-requires
+    (λ c κs. search needs)  -- src/rules.rt:134:9 none-leased-requires
+    (λ c. search (joins, needs))  -- src/rules.rt:134:9 returns
+    (λ c. search (joins, needs)))  -- src/rules.rt:130:1 returns-2

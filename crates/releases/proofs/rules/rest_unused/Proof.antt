@@ -22,13 +22,13 @@ rest-unused-spec =
     (tie.spec
     Inv-loop
     μ-loop
-    (λ c κs. search (alls, needs))  -- src/rules.rt:248:9 cut4-requires
-    (λ c. search (alls, rest-start, needs))  -- src/rules.rt:249:5 loop-holds
-    (λ c. search (alls, rest-start, needs))  -- src/rules.rt:250:17 mul-r
-    (λ c. search (alls, rest-start, needs))  -- src/rules.rt:250:17 element-copy-out-r
-    (λ c κs. search (alls, needs))  -- src/rules.rt:251:13 is-unused-requires
-    (λ c. search (alls, needs))  -- src/rules.rt:252:13 returns
-    (λ c. search (alls, rest-start, needs))  -- src/rules.rt:254:9 add-i
-    (λ c. search (alls, rest-start, needs))  -- src/rules.rt:249:5 loop-less
-    (λ c. search (alls, rest-start, needs))  -- src/rules.rt:249:5 loop-again
-    (λ c. search (alls, needs)))  -- src/rules.rt:245:1 returns-2
+    (λ c κs. search (alls, needs))  -- src/rules.rt:247:9 cut4-requires
+    (λ c. search (alls, rest-start, needs))  -- src/rules.rt:248:5 loop-holds
+    (λ c. search (alls, rest-start, needs))  -- src/rules.rt:249:17 mul-r
+    (λ c. search (alls, rest-start, needs))  -- src/rules.rt:249:17 element-copy-out-r
+    (λ c κs. search (alls, needs))  -- src/rules.rt:250:13 is-unused-requires
+    (λ c. search (alls, needs))  -- src/rules.rt:251:13 returns
+    (λ c. search (alls, rest-start, needs))  -- src/rules.rt:253:9 add-i
+    (λ c. search (alls, rest-start, needs))  -- src/rules.rt:248:5 loop-less
+    (λ c. search (alls, rest-start, needs))  -- src/rules.rt:248:5 loop-again
+    (λ c. search (alls, needs)))  -- src/rules.rt:244:1 returns-2

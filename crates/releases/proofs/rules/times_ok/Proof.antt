@@ -21,13 +21,13 @@ times-ok-spec =
     (tie.spec
     Inv-loop
     μ-loop
-    (λ c κs. search (alls, needs))  -- src/rules.rt:151:9 cut4-requires
-    (λ c. search (alls, all-start, needs))  -- src/rules.rt:153:5 loop-holds
-    (λ c. search (alls, all-start, needs))  -- src/rules.rt:154:17 mul-r
-    (λ c. search (alls, all-start, needs))  -- src/rules.rt:154:17 element-copy-out-r
-    (λ c κs. search (alls, needs))  -- src/rules.rt:155:13 is-past-requires
-    (λ c. search (alls, needs))  -- src/rules.rt:156:13 returns
-    (λ c. search (alls, all-start, needs))  -- src/rules.rt:158:9 add-i
-    (λ c. search (alls, all-start, needs))  -- src/rules.rt:153:5 loop-less
-    (λ c. search (alls, needs))  -- src/rules.rt:153:5 loop-again
-    (λ c. search (alls, needs)))  -- src/rules.rt:148:1 returns-2
+    (λ c κs. search (alls, needs))  -- src/rules.rt:150:9 cut4-requires
+    (λ c. search (alls, all-start, needs))  -- src/rules.rt:152:5 loop-holds
+    (λ c. search (alls, all-start, needs))  -- src/rules.rt:153:17 mul-r
+    (λ c. search (alls, all-start, needs))  -- src/rules.rt:153:17 element-copy-out-r
+    (λ c κs. search (alls, needs))  -- src/rules.rt:154:13 is-past-requires
+    (λ c. search (alls, needs))  -- src/rules.rt:155:13 returns
+    (λ c. search (alls, all-start, needs))  -- src/rules.rt:157:9 add-i
+    (λ c. search (alls, all-start, needs))  -- src/rules.rt:152:5 loop-less
+    (λ c. search (alls, needs))  -- src/rules.rt:152:5 loop-again
+    (λ c. search (alls, needs)))  -- src/rules.rt:147:1 returns-2

@@ -1,4 +1,5 @@
 pub mod Rule
 pub mod Closed
 pub mod Loops
+pub mod Own
 pub mod laws

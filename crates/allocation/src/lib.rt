@@ -1,5 +1,5 @@
 // Document 01's grant rule: how many addresses a tenant gets for a period, and which. It goes by the tenant's own leases and by what every
-// tenant holds: in a sound book no other tenant's lease is on an address of the tenant's, so that these are enough.
+// tenant holds, and answers whatever they are; in a sound book no other tenant's lease is on an address of the tenant's, so that these are enough.
 ghost use mathlib.Core.Path.{_≡_};
 ghost use Prim.Native.Nat.{_*_, _<_, _≤_, max, min};
 ghost use lib.Dec.{eqb};
@@ -8,13 +8,11 @@ ghost use Rattle.lists.specs.Down.{largest};
 ghost use Rattle.lists.specs.Pick.{pick};
 ghost use Rattle.lists.specs.Sums.{sumTo, except};
 ghost use Rattle.address_set.specs.AddressSet.{offsets, setOf, differenceOf, chosen};
-ghost use Rattle.state.specs.declared.LeaseTable.{LeaseTable};
-ghost use Rattle.state.specs.declared.State.{State};
-ghost use Rattle.state.specs.Book.{inUse, leasesOf, unionAll, committed};
-ghost use Rattle.soundness.specs.View.{View};
-ghost use Rattle.allocation.specs.Rule.{poolOf, grantOf, suffices, grantTo};
+ghost use Rattle.state.specs.Book.{inUse, unionAll, committed};
+ghost use Rattle.allocation.specs.Rule.{poolOf, suffices};
 ghost use Rattle.allocation.specs.Closed.{allowedOf, Small};
 ghost use Rattle.allocation.specs.Loops.{setIn, setsIn, countAt, freeIn, Numbered};
+ghost use Rattle.allocation.specs.Own.{grantKnown, grantIn};
 use soundness::Held;
 use soundness::HeldTable;
 use state::Scope;
@@ -193,7 +191,7 @@ fn choose(free: u64, new: u64, k: u32) -> u64
 // The grant of n tenants' rule to one of them: the largest allowed number up to the desired one, and its addresses.
 fn grant_known(own: TenantLeases, held: HeldTable, c: Scope, n: usize, a: Ask) -> Grant
     requires { ⌜ (a .tenant < n) × (n ≤ 8) ⌝ }
-    ensures { λ r. ⌜ ((s : State) (t : LeaseTable) → View s t (a .tenant) own held → r ≡ grantOf c n (leasesOf t) a) ⌝ }
+    ensures { λ r. ⌜ r ≡ grantKnown (inUse own) held c n a ⌝ }
 {
     let sets = sets_in(held, a.scope);
     let own_free = free(own, sets, a);
@@ -217,10 +215,10 @@ fn cut8(n: usize) -> usize
     8
 }
 
-// The same for any tenant: an unknown one is granted nothing. What is promised holds of every sound book of which `own` are the tenant's
-// records and `held` is what all tenants hold; of arguments that no sound book has, nothing is said.
+// The same for any tenant: an unknown one is granted nothing. Where `own` are the tenant's records in a sound book and `held` is what all its
+// tenants hold, this is the rule over all leases of the book (`grant-in` in specs/laws/View.antt).
 pub fn granted(own: TenantLeases, held: HeldTable, c: Scope, n: usize, a: Ask) -> Grant
-    ensures { λ r. ⌜ ((s : State) (t : LeaseTable) → View s t (a .tenant) own held → r ≡ grantTo c n (leasesOf t) a) ⌝ }
+    ensures { λ r. ⌜ r ≡ grantIn (inUse own) held c n a ⌝ }
 {
     let known = cut8(n);
     if a.tenant < known {

@@ -1,5 +1,5 @@
--- `grant_known` meets its contract: the parts of the grant by their calls, in every book that its arguments are a view of.
-use Rattle.allocation.specs.laws.View.{grant-is}
+-- `grant_known` meets its contract: the parts of the grant by their calls.
+use Rattle.allocation.specs.laws.Loops.{grant-is}
 use borrow.Author.Needs.{needs}
 use Rattle.allocation.proofs.grant_known.Statement.{statement}
 use Rattle.allocation.proofs.grant_known.Tie as tie

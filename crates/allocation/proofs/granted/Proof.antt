@@ -1,6 +1,5 @@
 -- `granted` meets its contract: its test, on the number of tenants.
-use Rattle.allocation.specs.laws.Loops.{granted-unknown}
-use Rattle.allocation.specs.laws.View.{granted-view}
+use Rattle.allocation.specs.laws.Loops.{granted-known, granted-unknown}
 use borrow.Author.Needs.{needs}
 use Rattle.allocation.proofs.granted.Statement.{statement}
 use Rattle.allocation.proofs.granted.Tie as tie
@@ -11,5 +10,5 @@ granted-spec =
     (tie.spec
     (λ c κs. search needs)  -- src/lib.rt:212:9 cut8-requires
     (λ c κs. search needs)  -- src/lib.rt:214:9 grant-known-requires
-    (λ c. search (granted-view, needs))  -- src/lib.rt:214:9 returns
-    (λ c. search (granted-view, granted-unknown, needs)))  -- src/lib.rt:209:1 returns-2
+    (λ c. search (granted-known, needs))  -- src/lib.rt:214:9 returns
+    (λ c. search (granted-unknown, needs)))  -- src/lib.rt:209:1 returns-2

@@ -24,6 +24,7 @@ use Rattle.state.specs.declared.TenantLeases.{TenantLeases}
 use Rattle.state.specs.declared.Scope.{Scope}
 use Rattle.state.specs.Book.{inUse, unionAll, addressesOf, heldOf, busyOf, reserveAt, limitAt, heldAt, withHeld, committed, committedSum}
 use Rattle.soundness.specs.declared.Held.{Held}
+use Rattle.soundness.specs.declared.HeldTable.{HeldTable}
 use Rattle.soundness.specs.Sound.{oneTo}
 use Rattle.soundness.specs.Parts.{setAt}
 use Rattle.allocation.specs.declared.Ask.{Ask}
@@ -31,7 +32,8 @@ use Rattle.allocation.specs.declared.GrantNumbers.{GrantNumbers}
 use Rattle.allocation.specs.declared.Grant.{Grant}
 use Rattle.allocation.specs.Closed.{allowedOf}
 use Rattle.allocation.specs.Rule.{takenOf, poolOf, freeOf, allowed, grantOf, suffices, grantTo}
-use Rattle.allocation.specs.Loops.{setIn, countAt, freeIn, numbersOf, Numbered}
+use Rattle.allocation.specs.Loops.{setIn, setsIn, countAt, freeIn, numbersOf, Numbered}
+use Rattle.allocation.specs.Own.{grantKnown, grantIn}
 
 -- ---- the sets
 pub set-here : (x : Held) (s k : ℕ) → (s ≡ 0 → ⊥) → s ≤ 4 → k ≡ s - 1 → setAt x k ≡ setIn s x
@@ -126,29 +128,34 @@ allowed-is c n t a k h =
     (sum-same (except (a .tenant) (committed c (heldAt t (a .scope)))) (except (a .tenant) (committed c (countAt (map (heldOf (a .scope)) t)))) n
     (λ g q. ap (λ (x : ℕ). pick (eqb g (a .tenant)) 0 (max x (reserveAt c g))) (counts-are (a .scope) t g)))
 
--- the grant, by the sets of all tenants
-pub grant-by : (c : Scope) (n : ℕ) (t : List (List Lease)) (a : Ask) (m : List ℕ) (l : GrantNumbers) (k o f x d : ℕ) → a .tenant < n → m ≡ map (heldOf (a .scope)) t → o ≡ freeOf t a
+-- the grant by one tenant's leases: its parts by their calls, and the test on the number of tenants
+pub grant-is : (own : List Lease) (held : HeldTable) (c : Scope) (n : ℕ) (a : Ask) (m : List ℕ) (l : GrantNumbers) (k o f x d : ℕ) → m ≡ setsIn (a .scope) held → o ≡ freeIn m own a
     → Numbered c n m (a .tenant) o l → d ≡ a .desired → k ≡ largest (allowedOf l) d → f ≡ differenceOf (poolOf c) (unionAll m) → x ≡ setOf (chosen k o f)
-    → _≡_ {A = Grant} (record { number = k; addresses = x }) (grantOf c n t a)
-unfolding grantOf takenOf
-grant-by c n t a m l k o f x d h em eo v ed ek ef ex =
-    let w : l ≡ numbersOf c n (map (heldOf (a .scope)) t) (a .tenant) (freeOf t a) = v .whole ∙ ap₂ (λ (y : List ℕ) (z : ℕ). numbersOf c n y (a .tenant) z) em eo in
-    let e : k ≡ largest (allowed c n t a) (a .desired) =
-    ek ∙ ap (largest (allowedOf l)) ed ∙ ap (λ (x : GrantNumbers). largest (allowedOf x) (a .desired)) w ∙ sym (largest-same _ _ (a .desired) (λ k. allowed-is c n t a k h)) in
-    let g : f ≡ differenceOf (poolOf c) (unionAll (map (heldOf (a .scope)) t)) = ef ∙ ap (λ (y : List ℕ). differenceOf (poolOf c) (unionAll y)) em in
+    → _≡_ {A = Grant} (record { number = k; addresses = x }) (grantKnown own held c n a)
+unfolding grantKnown
+grant-is own held c n a m l k o f x d em eo v ed ek ef ex = cc (v .whole)
+
+pub granted-known : (own : List Lease) (held : HeldTable) (c : Scope) (n : ℕ) (a : Ask) {k : ℕ} {r : Grant} → k ≡ min n 8 → a .tenant < k → r ≡ grantKnown own held c k a → r ≡ grantIn own held c n a
+unfolding grantIn
+granted-known own held c n a {k} {r} e h p = pick-lt _ _ r (a .tenant) (min n 8) (omega arith) (p ∙ ap (λ (x : ℕ). grantKnown own held c x a) e)
+
+pub granted-unknown : (own : List Lease) (held : HeldTable) (c : Scope) (n : ℕ) (a : Ask) {k : ℕ} → k ≡ min n 8 → k ≤ a .tenant → _≡_ {A = Grant} (record { number = 0; addresses = 0 }) (grantIn own held c n a)
+unfolding grantIn
+granted-unknown own held c n a e h = pick-not-lt _ _ _ (a .tenant) (min n 8) (omega arith) refl
+
+-- it is the rule's where the sets are those of the tenants' leases, and the tenant's addresses that are free are
+pub grant-by : (own : List Lease) (held : HeldTable) (c : Scope) (n : ℕ) (t : List (List Lease)) (a : Ask) → a .tenant < n → setsIn (a .scope) held ≡ map (heldOf (a .scope)) t
+    → freeIn (setsIn (a .scope) held) own a ≡ freeOf t a → grantKnown own held c n a ≡ grantOf c n t a
+unfolding grantKnown grantOf takenOf
+grant-by own held c n t a h em eo =
+    let e : largest (allowedOf (numbersOf c n (setsIn (a .scope) held) (a .tenant) (freeIn (setsIn (a .scope) held) own a))) (a .desired) ≡ largest (allowed c n t a) (a .desired) =
+    ap₂ (λ (y : List ℕ) (z : ℕ). largest (allowedOf (numbersOf c n y (a .tenant) z)) (a .desired)) em eo ∙ sym (largest-same _ _ (a .desired) (λ k. allowed-is c n t a k h)) in
     cc
-
-pub granted-known : (c : Scope) (n : ℕ) (t : List (List Lease)) (a : Ask) {k : ℕ} {r : Grant} → k ≡ min n 8 → a .tenant < k → r ≡ grantOf c k t a → r ≡ grantTo c n t a
-unfolding grantTo
-granted-known c n t a {k} {r} e h p = pick-lt (grantOf c (min n 8) t a) (record { number = 0; addresses = 0 }) r (a .tenant) (min n 8) (omega arith) (p ∙ ap (λ (x : ℕ). grantOf c x t a) e)
-
-pub granted-unknown : (c : Scope) (n : ℕ) (t : List (List Lease)) (a : Ask) {k : ℕ} → k ≡ min n 8 → k ≤ a .tenant → _≡_ {A = Grant} (record { number = 0; addresses = 0 }) (grantTo c n t a)
-unfolding grantTo
-granted-unknown c n t a {k} e h = pick-not-lt (grantOf c (min n 8) t a) (record { number = 0; addresses = 0 }) (record { number = 0; addresses = 0 }) (a .tenant) (min n 8) (omega arith) refl
 
 -- the grant to a tenant that is known
 pub grant-known : (c : Scope) (n : ℕ) (t : List (List Lease)) (a : Ask) → n ≤ 8 → a .tenant < n → grantTo c n t a ≡ grantOf c n t a
-grant-known c n t a h p = sym (granted-known c n t a {k = n} {r = grantOf c n t a} (omega arith) p refl)
+unfolding grantTo
+grant-known c n t a h p = let e : n ≡ min n 8 = omega arith in sym (pick-lt _ _ _ (a .tenant) (min n 8) (omega arith) (ap (λ (x : ℕ). grantOf c x t a) e))
 
 pub suffices-is : (least r : ℕ) (g : Grant) → r ≡ least → leb r (g .number) ≡ suffices least g
 unfolding suffices

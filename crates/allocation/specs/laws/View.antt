@@ -6,18 +6,17 @@ use mathlib.Core.Bool.{Bool, true, false, _&&_}
 use mathlib.Core.List.{List, [], _∷_, map}
 use native.Mathlib.Omega.{arith}
 use native.Mathlib.Numerals.{add-one}
-use lib.Dec.{leb, eqb}
+use lib.Dec.{leb, ltb, eqb}
 use lib.Bits.{bitOr}
 use lib.ListN.{length, getD, set, length-map, List·getD-map}
 use lib.Seq.{set-getD}
-use borrow.Author.Tests.{eqb-true, le-leb, leb-true}
+use borrow.Author.Tests.{eqb-true, le-leb, leb-true, ltb-true}
 use Rattle.lists.specs.Pick.{pick}
 use Rattle.lists.specs.All.{allBy}
 use Rattle.lists.specs.laws.All.{all-head}
 use Rattle.lists.specs.laws.Both.{and-parts, and-both}
 use Rattle.lists.specs.Filter.{filterBy}
-use Rattle.lists.specs.Down.{largest}
-use Rattle.address_set.specs.AddressSet.{bit, setOf, differenceOf, chosen}
+use Rattle.address_set.specs.AddressSet.{bit, differenceOf}
 use Rattle.address_set.specs.laws.Bits.{bit-le, bit-or, bit-of-zero}
 use Rattle.state.specs.declared.Lease.{Lease}
 use Rattle.state.specs.declared.TenantLeases.{TenantLeases}
@@ -34,12 +33,11 @@ use Rattle.soundness.specs.laws.Book.{leaseOk, Sound, sound-lists}
 use Rattle.soundness.specs.laws.Added.{each-at, owners-at}
 use Rattle.soundness.specs.laws.Facts.{scopes-few, lease-facts}
 use Rattle.allocation.specs.declared.Ask.{Ask}
-use Rattle.allocation.specs.declared.GrantNumbers.{GrantNumbers}
 use Rattle.allocation.specs.declared.Grant.{Grant}
-use Rattle.allocation.specs.Closed.{allowedOf}
-use Rattle.allocation.specs.Rule.{busyIn, poolOf, freeOf, grantOf, grantTo}
-use Rattle.allocation.specs.Loops.{setIn, setsIn, freeIn, Numbered}
-use Rattle.allocation.specs.laws.Loops.{held-read, grant-by, granted-known}
+use Rattle.allocation.specs.Rule.{busyIn, freeOf, grantOf, grantTo}
+use Rattle.allocation.specs.Loops.{setIn, setsIn, freeIn}
+use Rattle.allocation.specs.Own.{grantKnown, grantIn}
+use Rattle.allocation.specs.laws.Loops.{held-read, grant-by}
 use Rattle.allocation.specs.laws.Sets.{difference-agrees}
 use Rattle.allocation.specs.laws.Kept.{bits-disjoint, apart-in, used-held}
 
@@ -170,12 +168,11 @@ view-free a {s} {t} {own} {held} w =
     ∙ ap (λ (l : List (List Lease)). min (bit (heldOf k x) b) (bit (busyIn k (a .from) (a .to) l) b)) (set-getD ls h []))
 
 -- ---- the grant
-pub grant-is : (c : Scope) (n : ℕ) (own : TenantLeases) (held : HeldTable) (a : Ask) (m : List ℕ) (l : GrantNumbers) (k o f x d : ℕ) → a .tenant < n → m ≡ setsIn (a .scope) held
-    → o ≡ freeIn m (inUse own) a → Numbered c n m (a .tenant) o l → d ≡ a .desired → k ≡ largest (allowedOf l) d → f ≡ differenceOf (poolOf c) (unionAll m) → x ≡ setOf (chosen k o f)
-    → {s : State} {t : LeaseTable} → View s t (a .tenant) own held → _≡_ {A = Grant} (record { number = k; addresses = x }) (grantOf c n (leasesOf t) a)
-grant-is c n own held a m l k o f x d h em eo v ed ek ef ex {s} {t} w =
-    grant-by c n (leasesOf t) a m l k o f x d h (em ∙ view-sets w (a .scope)) (eo ∙ ap (λ (y : List ℕ). freeIn y (inUse own) a) em ∙ view-free a w) v ed ek ef ex
-
-pub granted-view : (own : TenantLeases) (held : HeldTable) (c : Scope) (n : ℕ) (a : Ask) {k : ℕ} {r : Grant} → k ≡ min n 8 → a .tenant < k
-    → ((s : State) (t : LeaseTable) → View s t (a .tenant) own held → r ≡ grantOf c k (leasesOf t) a) → (s : State) (t : LeaseTable) → View s t (a .tenant) own held → r ≡ grantTo c n (leasesOf t) a
-granted-view own held c n a e h f s t w = granted-known c n (leasesOf t) a e h (f s t w)
+pub grant-in : (c : Scope) (n : ℕ) (a : Ask) {s : State} {t : LeaseTable} {own : TenantLeases} {held : HeldTable} → View s t (a .tenant) own held → grantIn (inUse own) held c n a ≡ grantTo c n (leasesOf t) a
+unfolding grantIn grantTo pick
+grant-in c n a {s} {t} {own} {held} w = go (ltb (a .tenant) (min n 8)) refl
+  where
+    go : (b : Bool) → ltb (a .tenant) (min n 8) ≡ b
+        → _≡_ {A = Grant} (pick b (grantKnown (inUse own) held c (min n 8) a) (record { number = 0; addresses = 0 })) (pick b (grantOf c (min n 8) (leasesOf t) a) (record { number = 0; addresses = 0 }))
+    go true e = grant-by (inUse own) held c (min n 8) (leasesOf t) a (ltb-true (a .tenant) (min n 8) e) (view-sets w (a .scope)) (view-free a w)
+    go false e = refl

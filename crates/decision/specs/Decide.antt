@@ -44,9 +44,9 @@ plainOf s m o = pick (eqb (m .kind) 7) (changed (leaving o (m .xid) (s .clock)) 
 unfoldable pub settledOf : State → Fields → Lease → Proposal → Decided
 settledOf s m o p = pick (error0Of s p) (unchanged (refusalOf m 0)) (leasedOf m o (leaseFrom m p))
 
--- the lease o that the tenant holds under the message's identifier, if it holds one
-unfoldable pub judgedOf : State → LeaseTable → List Release → ℕ → Fields → Lease → Bool → Decided
-judgedOf s b q h m o held =
+-- o is the lease that the tenant holds under the message's identifier, if it holds one; p what the lease would be that the message asks for
+unfoldable pub judgedOf : State → Proposal → List Release → Fields → Lease → Bool → Decided
+judgedOf s p q m o held =
     -- "Resend: a REQUEST or RENEW whose house, identifier, type and transaction id are those recorded in a lease: ACK with that lease, unchanged"
     pick (resends m o) (unchanged (withLease LeaseAck o))
     -- W-202: a RELEASE sent again "draws the ACK in the place of the resend test"
@@ -58,7 +58,9 @@ judgedOf s b q h m o held =
     -- "Error 3"
     (pick (error3Of m held) (unchanged (refusalOf m 3))
     -- "Error 0", or what the message asks for
-    (pick (hasPeriod m) (settledOf s m o (proposalOf s b h m o)) (plainOf s m o))))))
+    (pick (hasPeriod m) (settledOf s m o p) (plainOf s m o))))))
 
 unfoldable pub decideOf : State → LeaseTable → List Release → ℕ → Fields → Decided
-decideOf s b q h m = judgedOf s b q h m (recordedOf (ownOf b h) m) (holdsOf (ownOf b h) m)
+decideOf s b q h m =
+    let o : Lease = recordedOf (ownOf b h) m in
+    judgedOf s (proposalOf s b h m o) q m o (holdsOf (ownOf b h) m)

@@ -1,16 +1,27 @@
--- Definitions: what the code gathers: the lease that a tenant holds under an identifier, the proposal of a new lease, and what the loop of a RENEW adds.
+-- Definitions: for the code, which has no table: the decision by one tenant's leases `own` and what all tenants hold, and what its loops gather. It answers
+-- every input, one that no sound book has too; in a sound book it is document 01's decision, `decideOf` of Decide.antt (`decide-in` in laws/View.antt).
 use Prim.Native.Nat.{ℕ}
 use mathlib.Core.Bool.{Bool, _&&_}
 use mathlib.Core.List.{List}
 use lib.Dec.{ltb}
 use lib.ListN.{length}
+use Rattle.lists.specs.Pick.{pick}
+use Rattle.message.specs.declared.Fields.{Fields}
 use Rattle.state.specs.declared.Lease.{Lease}
-use Rattle.state.specs.Book.{placeOf, leaseAt, other, usedIn}
+use Rattle.state.specs.declared.Release.{Release}
+use Rattle.state.specs.declared.State.{State}
+use Rattle.state.specs.Book.{placeOf, leaseAt, removeOf, other, usedIn, busyOf, scopeAt}
+use Rattle.soundness.specs.declared.HeldTable.{HeldTable}
+use Rattle.soundness.specs.Sound.{tenantsIn}
 use Rattle.allocation.specs.declared.Ask.{Ask}
 use Rattle.allocation.specs.declared.Grant.{Grant}
 use Rattle.allocation.specs.Rule.{suffices}
+use Rattle.allocation.specs.Own.{grantIn}
 use Rattle.decision.specs.declared.Proposal.{Proposal}
 use Rattle.decision.specs.declared.Recorded.{Recorded}
+use Rattle.decision.specs.declared.Decided.{Decided}
+use Rattle.decision.specs.Parts.{isNew, leaseIdIn, holdsOf, recordedOf, scopePlace, startOf, endOf, askAt, fitsRenewed, renewedBy}
+use Rattle.decision.specs.Decide.{judgedOf}
 
 -- is the identifier i held, and its lease (an unused record where it is not)
 unfoldable pub recordedIn : List ℕ → List Lease → Recorded
@@ -23,3 +34,29 @@ newBy n least a g = record { fits = ltb n 16 && suffices least g; scope = a .sco
 -- a lease of another identifier than i that has addresses of the scope in some part of the period
 unfoldable pub otherIn : List ℕ → ℕ → ℕ → ℕ → Lease → Bool
 otherIn i scope from to l = other i l && usedIn scope from to l
+
+-- ---- what a lease would be, as in Parts.antt
+-- DISCOVER and REQUEST: the grant by the tenant's leases
+unfoldable pub newAtIn : State → List Lease → HeldTable → ℕ → Fields → ℕ → Proposal
+newAtIn s own held h m k = newBy (length own) (m .counts .least) (askAt s h m k) (grantIn own held (scopeAt s k) (tenantsIn s) (askAt s h m k))
+
+unfoldable pub newIn : State → List Lease → HeldTable → ℕ → Fields → Proposal
+newIn s own held h m = newAtIn s own held h m (scopePlace s (m .scope .value))
+
+-- RENEW: of the other leases, those of the tenant
+unfoldable pub renewedToIn : List Lease → Fields → Lease → ℕ → ℕ → Proposal
+renewedToIn own m l from to = renewedBy (fitsRenewed (busyOf (l .scope) from to (removeOf (leaseIdIn m) own)) (l .addresses)) l from to
+
+unfoldable pub renewedIn : State → List Lease → Fields → Lease → Proposal
+renewedIn s own m l =
+    let from : ℕ = startOf m (s .clock) (l .start) in
+    renewedToIn own m l from (endOf m from l)
+
+unfoldable pub proposalIn : State → List Lease → HeldTable → ℕ → Fields → Lease → Proposal
+proposalIn s own held h m l = pick (isNew m) (newIn s own held h m) (renewedIn s own m l)
+
+-- ---- the decision: document 01's judgement of that
+unfoldable pub decideIn : State → List Lease → List Release → HeldTable → ℕ → Fields → Decided
+decideIn s own q held h m =
+    let o : Lease = recordedOf own m in
+    judgedOf s (proposalIn s own held h m o) q m o (holdsOf own m)

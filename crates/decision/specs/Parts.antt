@@ -177,14 +177,11 @@ othersBusy b h m scope from to = busyIn scope from to (leasesOf (updated b h (re
 unfoldable pub fitsRenewed : ℕ → ℕ → Bool
 fitsRenewed used mine = eqb (bitAnd used mine) 0
 
+abbrev pub renewedBy : Bool → Lease → ℕ → ℕ → Proposal
+renewedBy fits l from to = record { fits = fits; scope = l .scope; start = from; end = to; addresses = l .addresses }
+
 unfoldable pub renewedTo : LeaseTable → ℕ → Fields → Lease → ℕ → ℕ → Proposal
-renewedTo b h m l from to = record {
-  fits = fitsRenewed (othersBusy b h m (l .scope) from to) (l .addresses);
-  scope = l .scope;
-  start = from;
-  end = to;
-  addresses = l .addresses;
-}
+renewedTo b h m l from to = renewedBy (fitsRenewed (othersBusy b h m (l .scope) from to) (l .addresses)) l from to
 
 unfoldable pub renewedOf : State → LeaseTable → ℕ → Fields → Lease → Proposal
 renewedOf s b h m l =

@@ -6,13 +6,11 @@ mod tests;
 
 ghost use mathlib.Core.Path.{_≡_};
 ghost use lib.ListN.{take};
-ghost use Rattle.state.specs.declared.LeaseTable.{LeaseTable};
 ghost use Rattle.state.specs.Book.{inUse, remembered};
 ghost use Rattle.state.specs.Edit.{leaving};
-ghost use Rattle.soundness.specs.View.{View};
-ghost use Rattle.decision.specs.Parts.{recordedOf, proposalOf, withLease, plainReply, nakWith, discardWith, refusalOf};
-ghost use Rattle.decision.specs.Gather.{recordedIn};
-ghost use Rattle.decision.specs.Decide.{unchanged, changed, leasedOf, plainOf, settledOf, judgedOf, decideOf};
+ghost use Rattle.decision.specs.Parts.{withLease, plainReply, nakWith, discardWith, refusalOf};
+ghost use Rattle.decision.specs.Gather.{recordedIn, proposalIn, decideIn};
+ghost use Rattle.decision.specs.Decide.{unchanged, changed, leasedOf, plainOf, settledOf, judgedOf};
 ghost use Rattle.decision.specs.declared.Reply.the-variants.{Offer, LeaseAck, ReleaseAck, InfoAck};
 use crate::proposals::lease_from;
 use crate::proposals::propose;
@@ -235,8 +233,7 @@ fn settle(s: State, m: Fields, old: Lease, p: Proposal) -> Decided
 
 // Error 0, or a lease.
 fn lease(s: State, own: TenantLeases, held: HeldTable, h: usize, m: Fields, old: Lease) -> Decided
-    requires { ⌜ old ≡ recordedOf (inUse own) m ⌝ }
-    ensures { λ r. ⌜ ((t : LeaseTable) → View s t h own held → r ≡ settledOf s m old (proposalOf s t h m old)) ⌝ }
+    ensures { λ r. ⌜ r ≡ settledOf s m old (proposalIn s (inUse own) held h m old) ⌝ }
 {
     let p = propose(s, own, held, h, m, old);
     settle(s, m, old, p)
@@ -252,8 +249,7 @@ fn judge(
     old: Lease,
     found: bool,
 ) -> Decided
-    requires { ⌜ old ≡ recordedOf (inUse own) m ⌝ }
-    ensures { λ r. ⌜ ((t : LeaseTable) → View s t h own held → r ≡ judgedOf s t (remembered q) h m old found) ⌝ }
+    ensures { λ r. ⌜ r ≡ judgedOf s (proposalIn s (inUse own) held h m old) (remembered q) m old found ⌝ }
 {
     if is_resend(m, old) {
         return acknowledge(state::no_edit(), old);
@@ -298,8 +294,8 @@ fn look_up(own: TenantLeases, id: [u8; 32], len: u8) -> Recorded
 }
 
 // The verdict on a message of tenant h, counted from 0, and what it does to what the tenant has. `own` are the tenant's records, `q` what is
-// remembered of its releases, and `held` is what all tenants hold: the answer is document 01's for every sound book of which they are that; of
-// other arguments nothing is said.
+// remembered of its releases, and `held` is what all tenants hold. Where they are that of a sound book, the answer is document 01's over the whole
+// book (`decide-in` in specs/laws/View.antt).
 pub fn decide(
     s: State,
     own: TenantLeases,
@@ -308,7 +304,7 @@ pub fn decide(
     h: usize,
     m: Fields,
 ) -> Decided
-    ensures { λ r. ⌜ ((t : LeaseTable) → View s t h own held → r ≡ decideOf s t (remembered q) h m) ⌝ }
+    ensures { λ r. ⌜ r ≡ decideIn s (inUse own) (remembered q) held h m ⌝ }
 {
     let i = m.id;
     let octets = i.octets;

@@ -1,16 +1,12 @@
-// The period, and what a lease would be: newly granted, or renewed. `own` are the tenant's records and `held` is what all tenants hold; what is
-// promised holds of every sound book that they are a view of.
+// The period, and what a lease would be: newly granted, or renewed. `own` are the tenant's records and `held` is what all tenants hold.
 ghost use mathlib.Core.Path.{_≡_};
-ghost use Prim.Native.Nat.{ℕ};
 ghost use mathlib.Core.Bool.{_&&_};
 ghost use lib.Dec.{ltb};
 ghost use lib.ListN.{take};
-ghost use Rattle.state.specs.declared.LeaseTable.{LeaseTable};
 ghost use Rattle.state.specs.Book.{inUse, addedIf, removeOf, busyOf};
-ghost use Rattle.soundness.specs.View.{View};
 ghost use Rattle.allocation.specs.Rule.{suffices};
-ghost use Rattle.decision.specs.Parts.{wishedOr, startOf, lengthOf, endOf, askAt, recordedOf, newAt, newOf, fitsRenewed, renewedTo, renewedOf, proposalOf, leaseFrom};
-ghost use Rattle.decision.specs.Gather.{newBy, otherIn};
+ghost use Rattle.decision.specs.Parts.{wishedOr, startOf, lengthOf, endOf, askAt, fitsRenewed, leaseFrom};
+ghost use Rattle.decision.specs.Gather.{newBy, otherIn, newAtIn, newIn, renewedToIn, renewedIn, proposalIn};
 use crate::Proposal;
 use crate::numbers::DEFAULT_LEASE;
 use crate::numbers::LONGEST_LEASE;
@@ -102,7 +98,7 @@ fn new_with(n: usize, least: u16, a: Ask, g: Grant) -> Proposal
 }
 
 fn new_at(s: State, own: TenantLeases, held: HeldTable, h: usize, m: Fields, k: usize) -> Proposal
-    ensures { λ r. ⌜ ((t : LeaseTable) → View s t h own held → r ≡ newAt s t h m k) ⌝ }
+    ensures { λ r. ⌜ r ≡ newAtIn s (inUse own) held h m k ⌝ }
 {
     let c = state::scope_at(s, k);
     let a = ask_at(s, h, m, k);
@@ -115,7 +111,7 @@ fn new_at(s: State, own: TenantLeases, held: HeldTable, h: usize, m: Fields, k: 
 
 // What a DISCOVER or REQUEST would newly get.
 fn new_lease(s: State, own: TenantLeases, held: HeldTable, h: usize, m: Fields) -> Proposal
-    ensures { λ r. ⌜ ((t : LeaseTable) → View s t h own held → r ≡ newOf s t h m) ⌝ }
+    ensures { λ r. ⌜ r ≡ newIn s (inUse own) held h m ⌝ }
 {
     let w = m.scope;
     let k = scope_place(s, w.value);
@@ -160,8 +156,7 @@ fn fits_renewed(used: u64, mine: u64) -> bool
 }
 
 fn renewed_to(own: TenantLeases, m: Fields, l: Lease, from: u32, to: u64) -> Proposal
-    requires { ⌜ l ≡ recordedOf (inUse own) m ⌝ }
-    ensures { λ r. ⌜ ((s : State) (t : LeaseTable) (h : ℕ) (held : HeldTable) → View s t h own held → r ≡ renewedTo t h m l from to) ⌝ }
+    ensures { λ r. ⌜ r ≡ renewedToIn (inUse own) m l from to ⌝ }
 {
     let i = m.id;
     let octets = i.octets;
@@ -176,10 +171,9 @@ fn renewed_to(own: TenantLeases, m: Fields, l: Lease, from: u32, to: u64) -> Pro
     }
 }
 
-// What a RENEW would make of the lease that the tenant holds under the message's identifier.
+// What a RENEW would make of a lease, that which the tenant holds under the message's identifier.
 fn renewed(s: State, own: TenantLeases, m: Fields, l: Lease) -> Proposal
-    requires { ⌜ l ≡ recordedOf (inUse own) m ⌝ }
-    ensures { λ r. ⌜ ((t : LeaseTable) (h : ℕ) (held : HeldTable) → View s t h own held → r ≡ renewedOf s t h m l) ⌝ }
+    ensures { λ r. ⌜ r ≡ renewedIn s (inUse own) m l ⌝ }
 {
     let from = start_of(m, s.clock, l.start);
     let to = end_of(m, from, l);
@@ -194,8 +188,7 @@ pub fn propose(
     m: Fields,
     l: Lease,
 ) -> Proposal
-    requires { ⌜ l ≡ recordedOf (inUse own) m ⌝ }
-    ensures { λ r. ⌜ ((t : LeaseTable) → View s t h own held → r ≡ proposalOf s t h m l) ⌝ }
+    ensures { λ r. ⌜ r ≡ proposalIn s (inUse own) held h m l ⌝ }
 {
     if is_new(m) {
         return new_lease(s, own, held, h, m);

@@ -1,5 +1,5 @@
 -- `decide` meets its contract: by decide-is.
-use Rattle.decision.specs.laws.View.{decide-is, recorded-is}
+use Rattle.decision.specs.laws.Code.{decide-is}
 use borrow.Author.Needs.{needs}
 use Rattle.decision.proofs.decide.Statement.{statement}
 use Rattle.decision.proofs.decide.Tie as tie
@@ -9,5 +9,5 @@ decide-spec =
     tie.close
     (tie.spec
     (λ c κs. search needs)  -- src/lib.rt:315:9 look-up-requires
-    (λ c κs. search (recorded-is, needs))  -- src/lib.rt:317:5 judge-requires
+    (λ c κs. search needs)  -- src/lib.rt:317:5 judge-requires
     (λ c. search (decide-is, needs)))  -- src/lib.rt:303:1 returns

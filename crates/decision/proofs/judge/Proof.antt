@@ -1,7 +1,6 @@
--- `judge` meets its contract: its tests, which are calls, and by edited-as, judged-leased, judged-plain.
+-- `judge` meets its contract: its tests, which are calls, and by edited-as, passed-on.
 use Rattle.decision.specs.Decide.{judgedOf}
-use Rattle.decision.specs.laws.Code.{edited-as}
-use Rattle.decision.specs.laws.View.{judged-leased, judged-plain}
+use Rattle.decision.specs.laws.Code.{edited-as, passed-on}
 use Rattle.lists.specs.laws.Pick.{calls}
 use borrow.Author.Needs.{needs}
 use Rattle.decision.proofs.judge.Statement.{statement}
@@ -30,6 +29,6 @@ judge-spec =
     (λ c. search (calls, needs))  -- src/lib.rt:271:9 returns-5
     (λ c κs. search needs)  -- src/lib.rt:273:8 has-period-requires
     (λ c κs. search needs)  -- src/lib.rt:274:9 lease-requires
-    (λ c. search (judged-leased, needs))  -- src/lib.rt:274:9 returns-6
+    (λ c. search (calls, passed-on, needs))  -- src/lib.rt:274:9 returns-6
     (λ c κs. search needs)  -- src/lib.rt:276:5 plain-requires
-    (λ c. search (judged-plain, needs)))  -- src/lib.rt:245:1 returns-7
+    (λ c. search (calls, passed-on, needs)))  -- src/lib.rt:245:1 returns-7

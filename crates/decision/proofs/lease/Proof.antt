@@ -1,5 +1,5 @@
 -- `lease` meets its contract: by settled-is.
-use Rattle.decision.specs.laws.View.{settled-is}
+use Rattle.decision.specs.laws.Code.{settled-is}
 use borrow.Author.Needs.{needs}
 use Rattle.decision.proofs.lease.Statement.{statement}
 use Rattle.decision.proofs.lease.Tie as tie

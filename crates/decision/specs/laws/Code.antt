@@ -1,14 +1,23 @@
 -- Laws: between the decision and the code.
 use Prim.Native.Nat.{ℕ, _+_, _-_, min, max, _<_, _≤_}
 use mathlib.Core.Bool.{Bool, not, _&&_, _||_}
+use mathlib.Core.List.{List}
 use lib.Dec.{ltb, eqb}
+use lib.ListN.{length}
+use Rattle.lists.specs.Pick.{pick}
+use Rattle.lists.specs.laws.Pick.{pick-no}
 use Rattle.message.specs.declared.Fields.{Fields}
-use Rattle.state.specs.Book.{leaseWith}
+use Rattle.state.specs.Book.{leaseWith, removeOf, busyOf, scopeAt}
 use Rattle.state.specs.declared.Lease.{Lease}
+use Rattle.state.specs.declared.Release.{Release}
+use Rattle.state.specs.declared.Scope.{Scope}
 use Rattle.state.specs.declared.State.{State}
+use Rattle.soundness.specs.declared.HeldTable.{HeldTable}
+use Rattle.soundness.specs.Sound.{tenantsIn}
 use Rattle.allocation.specs.declared.Ask.{Ask}
 use Rattle.allocation.specs.declared.Grant.{Grant}
 use Rattle.allocation.specs.Rule.{suffices}
+use Rattle.allocation.specs.Own.{grantIn}
 use Rattle.decision.specs.declared.Proposal.{Proposal}
 use Rattle.decision.specs.declared.Verdict.{Verdict}
 use Rattle.decision.specs.declared.Reply.{Reply}
@@ -17,9 +26,10 @@ use mathlib.Core.Path.{_≡_, ap, ap₂, _∙_}
 use native.Mathlib.Omega.{arith}
 use Rattle.state.specs.declared.Edit.{Edit}
 use Rattle.decision.specs.declared.Decided.{Decided}
-use Rattle.decision.specs.Parts.{defaultLease, longestLease, skew, isNew, scopePlace, knowsScope, lacksScope, lacksCurrent, skewed, error3Of, wishedOr, startOf, lengthOf, endOf, askAt, leaseFrom}
-use Rattle.decision.specs.Gather.{newBy}
-use Rattle.decision.specs.Decide.{unchanged, changed, leasedOf}
+use Rattle.decision.specs.declared.Recorded.{Recorded}
+use Rattle.decision.specs.Parts.{defaultLease, longestLease, skew, isNew, hasPeriod, resends, releasedAgain, error1Of, error2Of, scopePlace, knowsScope, lacksScope, lacksCurrent, skewed, error3Of, wishedOr, startOf, lengthOf, endOf, askAt, leaseIdIn, holdsOf, recordedOf, fitsRenewed, renewedBy, leaseFrom}
+use Rattle.decision.specs.Gather.{recordedIn, newBy, newAtIn, newIn, renewedToIn, renewedIn, proposalIn, decideIn}
+use Rattle.decision.specs.Decide.{unchanged, changed, leasedOf, plainOf, settledOf, judgedOf}
 
 -- ---- the lease, and the verdicts
 -- the type number of each reply: OFFER, ACK and NAK; 0 where none is sent
@@ -83,6 +93,24 @@ pub new-with-is : (n least : ℕ) (a : Ask) (g : Grant) (f : Bool) → f ≡ (lt
 unfolding newBy
 new-with-is n least a g f p = ap {B = Proposal} (λ (x : Bool). record { fits = x; scope = a .scope; start = a .from; end = a .to; addresses = g .addresses }) p
 
+pub new-at-is : (s : State) (own : List Lease) (held : HeldTable) (h : ℕ) (m : Fields) (k : ℕ) (c : Scope) (a : Ask) (n : ℕ) (g : Grant) (used : ℕ) (r : Proposal) → c ≡ scopeAt s k → a ≡ askAt s h m k
+    → n ≡ tenantsIn s → g ≡ grantIn own held c n a → used ≡ length own → r ≡ newBy used (m .counts .least) a g → r ≡ newAtIn s own held h m k
+unfolding newAtIn
+new-at-is s own held h m k c a n g used r ec ea en eg eu er = cc
+
+pub new-is : (s : State) (own : List Lease) (held : HeldTable) (h : ℕ) (m : Fields) (k : ℕ) (r : Proposal) → k ≡ scopePlace s (m .scope .value) → r ≡ newAtIn s own held h m k → r ≡ newIn s own held h m
+unfolding newIn
+new-is s own held h m k r p e = e ∙ ap (newAtIn s own held h m) p
+
+pub renewed-to-is : (own : List Lease) (m : Fields) (l : Lease) (from to used : ℕ) (f : Bool) → used ≡ busyOf (l .scope) from to (removeOf (leaseIdIn m) own) → f ≡ fitsRenewed used (l .addresses)
+    → renewedBy f l from to ≡ renewedToIn own m l from to
+unfolding renewedToIn
+renewed-to-is own m l from to used f p q = ap (λ (x : Bool). renewedBy x l from to) (q ∙ ap (λ (x : ℕ). fitsRenewed x (l .addresses)) p)
+
+pub renewed-is : (s : State) (own : List Lease) (m : Fields) (l : Lease) (from to : ℕ) (r : Proposal) → from ≡ startOf m (s .clock) (l .start) → to ≡ endOf m from l → r ≡ renewedToIn own m l from to → r ≡ renewedIn s own m l
+unfolding renewedIn
+renewed-is s own m l from to r p q e = cc
+
 pub lease-from-is : (m : Fields) (p : Proposal) (e : ℕ) → e ≡ min (p .end) 4294967295
     → leaseWith (p .scope) (m .id .len) (m .id .octets) (m .kind) (m .xid) (p .start) e (p .addresses) ≡ leaseFrom m p
 unfolding leaseFrom
@@ -100,3 +128,18 @@ edited-as {v = v} e p = p ∙ ap (λ (x : Edit). changed x v) e
 
 pub leased-is : (m : Fields) (o l l′ : Lease) (r : Decided) → l ≡ l′ → r ≡ leasedOf m o l → r ≡ leasedOf m o l′
 leased-is m o l l′ r e p = p ∙ ap (leasedOf m o) e
+
+pub settled-is : (s : State) (m : Fields) (o : Lease) (p p′ : Proposal) (r : Decided) → p ≡ p′ → r ≡ settledOf s m o p → r ≡ settledOf s m o p′
+settled-is s m o p p′ r e f = f ∙ ap (settledOf s m o) e
+
+-- a message that has passed the tests before error 0
+pub passed-on : (s : State) (p : Proposal) (q : List Release) (m : Fields) (o : Lease) (found : Bool) (r : Decided) {x a e1 e2 e3 : Bool} → x ≡ resends m o → x ≡ false → a ≡ releasedAgain s q m → a ≡ false
+    → e1 ≡ error1Of s m found → e1 ≡ false → e2 ≡ error2Of s m → e2 ≡ false → e3 ≡ error3Of m found → e3 ≡ false
+    → r ≡ pick (hasPeriod m) (settledOf s m o p) (plainOf s m o) → r ≡ judgedOf s p q m o found
+unfolding judgedOf
+passed-on s p q m o found r x0 x1 a0 a1 b0 b1 c0 c1 d0 d1 e = pick-no _ _ r x0 x1 (pick-no _ _ r a0 a1 (pick-no _ _ r b0 b1 (pick-no _ _ r c0 c1 (pick-no _ _ r d0 d1 e))))
+
+pub decide-is : (s : State) (own : List Lease) (q : List Release) (held : HeldTable) (h : ℕ) (m : Fields) (o : Recorded) (r : Decided) → o ≡ recordedIn (leaseIdIn m) own
+    → r ≡ judgedOf s (proposalIn s own held h m (o .lease)) q m (o .lease) (o .found) → r ≡ decideIn s own q held h m
+unfolding decideIn recordedOf holdsOf recordedIn
+decide-is s own q held h m o r p e = e ∙ ap (λ (x : Recorded). judgedOf s (proposalIn s own held h m (x .lease)) q m (x .lease) (x .found)) p

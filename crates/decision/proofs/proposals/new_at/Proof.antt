@@ -1,5 +1,5 @@
 -- `new_at` meets its contract: by new-at-is.
-use Rattle.decision.specs.laws.View.{new-at-is}
+use Rattle.decision.specs.laws.Code.{new-at-is}
 use borrow.Author.Needs.{needs}
 use Rattle.decision.proofs.proposals.new_at.Statement.{statement}
 use Rattle.decision.proofs.proposals.new_at.Tie as tie

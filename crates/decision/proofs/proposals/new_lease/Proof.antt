@@ -1,5 +1,5 @@
 -- `new_lease` meets its contract: by new-is.
-use Rattle.decision.specs.laws.View.{new-is}
+use Rattle.decision.specs.laws.Code.{new-is}
 use borrow.Author.Needs.{needs}
 use Rattle.decision.proofs.proposals.new_lease.Statement.{statement}
 use Rattle.decision.proofs.proposals.new_lease.Tie as tie

@@ -1,5 +1,5 @@
 -- `renewed` meets its contract: by renewed-is.
-use Rattle.decision.specs.laws.View.{renewed-is}
+use Rattle.decision.specs.laws.Code.{renewed-is}
 use borrow.Author.Needs.{needs}
 use Rattle.decision.proofs.proposals.renewed.Statement.{statement}
 use Rattle.decision.proofs.proposals.renewed.Tie as tie

@@ -1,5 +1,5 @@
 -- `renewed_to` meets its contract: by renewed-to-is.
-use Rattle.decision.specs.laws.View.{renewed-to-is}
+use Rattle.decision.specs.laws.Code.{renewed-to-is}
 use borrow.Author.Needs.{needs}
 use Rattle.decision.proofs.proposals.renewed_to.Statement.{statement}
 use Rattle.decision.proofs.proposals.renewed_to.Tie as tie

@@ -22,14 +22,19 @@ use Rattle.state.specs.declared.Scope.{Scope}
 use Rattle.state.specs.declared.State.{State}
 use Rattle.state.specs.declared.LeaseTable.{LeaseTable}
 use Rattle.state.specs.declared.Memory.{Memory}
+use Rattle.state.specs.declared.TenantLeases.{TenantLeases}
 use Rattle.state.specs.declared.TenantReleases.{TenantReleases}
-use Rattle.state.specs.Book.{Book, releasesAt, remembered, scopeAt}
+use Rattle.state.specs.Book.{Book, inUse, releasesAt, remembered, scopeAt}
 use Rattle.state.specs.Edit.{editedBook, noEdit}
 use Rattle.state.specs.laws.Edited.{edited-none}
+use Rattle.soundness.specs.declared.HeldTable.{HeldTable}
+use Rattle.soundness.specs.View.{View}
 use Rattle.decision.specs.declared.Decided.{Decided}
 use Rattle.decision.specs.declared.Reply.{Reply}
 use Rattle.decision.specs.declared.Verdict.{Verdict}
 use Rattle.decision.specs.Decide.{decideOf}
+use Rattle.decision.specs.Gather.{decideIn}
+use Rattle.decision.specs.laws.View.{decide-in}
 use Rattle.server.specs.declared.Served.{Served}
 use Rattle.server.specs.Serve.{Answer, discarded, termsOf, entryOf, infoOf, byReply, replyOf, bookOf, answered, decidedFor, forServer, withReading, Serves}
 
@@ -77,13 +82,13 @@ serves-discard n b h buffer r e = record {
 serves-as : {a a′ : Answer} {b : Book} {h : ℕ} {x y : List ℕ} {r : Served} → a ≡ a′ → Serves a b h x y r → Serves a′ b h x y r
 serves-as {b = b} {h} {x} {y} {r} e s = subst (λ (z : Answer). Serves z b h x y r) e s
 
--- of the tenant's releases the code has the entries q
-pub serves-decided : (s : State) (t : LeaseTable) (k : Memory) (names : List ℕ) (q : TenantReleases) (h : ℕ) (m : Fields) (d : Decided) (n : ℕ) {x y : List ℕ} → d ≡ decideOf s t (remembered q) h m → q ≡ releasesAt k h
-    → Replied x (replyOf s names h m (d .verdict)) y n
+-- of the book the code has the tenant's records and what all tenants hold; of the tenant's releases, the entries q
+pub serves-decided : (s : State) (t : LeaseTable) (k : Memory) (names : List ℕ) (q : TenantReleases) (h : ℕ) (m : Fields) (d : Decided) (n : ℕ) {own : TenantLeases} {held : HeldTable} {x y : List ℕ}
+    → View s t h own held → d ≡ decideIn s (inUse own) (remembered q) held h m → q ≡ releasesAt k h → Replied x (replyOf s names h m (d .verdict)) y n
     → Serves (answered (bookOf s t k names) h m (decidedFor (bookOf s t k names) h m)) (bookOf s t k names) h x y (record { outcome = record { outcome = d .verdict .outcome; length = n }; edit = d .edit })
-serves-decided s t k names q h m d n {x} {y} e f w =
+serves-decided s t k names q h m d n {x = x} {y} v e f w =
     subst (λ (z : Decided). Serves (answered (bookOf s t k names) h m z) (bookOf s t k names) h x y (record { outcome = record { outcome = d .verdict .outcome; length = n }; edit = d .edit }))
-    (e ∙ ap (λ (z : TenantReleases). decideOf s t (remembered z) h m) f)
+    (e ∙ decide-in v m (remembered q) ∙ ap (λ (z : TenantReleases). decideOf s t (remembered z) h m) f)
     (record { tells = record { outcome = refl; size = w .size; buffer = w .buffer }; book = refl })
 
 -- ---- test 7

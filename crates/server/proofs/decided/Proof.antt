@@ -1,4 +1,4 @@
--- `decided` meets its contract: the decision, and the reply written from it.
+-- `decided` meets its contract: the decision, which is that of every book that has these arguments, and the reply written from it.
 use Rattle.server.proofs.Steps.{serves-decided}
 use borrow.Author.Needs.{needs}
 use Rattle.server.proofs.decided.Statement.{statement}
@@ -8,7 +8,7 @@ returns : tie.Need-returns
 returns c t k v f =
     let at-reply = c .before .before in
     let at-decide = at-reply .before .before .before .before in
-    serves-decided _ _ _ _ _ _ _ _ _ (at-decide .decide .ensures t v) f (at-reply .write-reply .ensures)
+    serves-decided _ _ _ _ _ _ _ _ _ v (at-decide .decide .ensures) f (at-reply .write-reply .ensures)
 
 pub decided-spec : {M : Type 1} → statement M
 decided-spec =

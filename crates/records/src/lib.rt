@@ -2,7 +2,8 @@
 // of records that the lent slice has comes with them.
 ghost use mathlib.Core.Bool.{_&&_, _||_};
 ghost use mathlib.Core.Path.{_≡_};
-ghost use Prim.Native.Nat.{ℕ, _≤_, _<_, min};
+ghost use Prim.Native.Nat.{_≤_, _<_, min};
+ghost use lib.Dec.{eqb};
 ghost use lib.ListN.{length, replicate, take};
 ghost use Rattle.lists.specs.All.{allBy};
 ghost use Rattle.lists.specs.Place.{placeBy};
@@ -10,12 +11,13 @@ ghost use Rattle.reply.specs.Reply.{leastRoom};
 ghost use Rattle.soundness.specs.Sound.{unusedB};
 ghost use Rattle.names.specs.Names.{namesB};
 ghost use Rattle.soundness.specs.Parts.{holdingsOf, soundFrom, tableRulesOf};
-ghost use Rattle.releases.specs.Rules.{ownLeases, memoryB, rulesAt};
-ghost use Rattle.state.specs.Book.{inUse, leasesOf, tableOf, tenantAt, zeroLease};
+ghost use Rattle.releases.specs.Rules.{brokenRelease, releaseRulesOf};
+ghost use Rattle.state.specs.Book.{leasesOf, tableOf, tenantAt, zeroLease};
 ghost use Rattle.server.specs.Serve.{atClock};
 ghost use Rattle.state_file.specs.StateFile.{readFile};
 ghost use Rattle.records.specs.Records.{Drops, endsAfter, putRow, recordsOf, tableFrom, tenantFrom};
 ghost use Rattle.records.specs.Lent.{Gathered, bookFrom, lentAnswer, serveWith, ServesRecords, readWith, Reads, writtenWith, roomWith, foundAmong, findWith, insertWith, removeWith};
+use releases::ReleaseRules;
 use server::Outcome;
 use soundness::Held;
 use soundness::HeldTable;
@@ -27,7 +29,6 @@ use state::Ledger;
 use state::Memory;
 use state::State;
 use state::TenantLeases;
-use state::TenantReleases;
 use state_file::Written;
 
 pub struct Records {
@@ -40,6 +41,12 @@ pub struct ServedRecords {
     pub clock: u32,
     pub memory: Memory,
     pub records: Records,
+}
+
+// What one pass over the records gathers: which rules they keep and what all tenants hold, and which rules what is remembered keeps.
+struct Surveyed {
+    rules: TableRules,
+    releases: ReleaseRules,
 }
 
 // Records after a drop, and what their tenants hold.
@@ -182,24 +189,16 @@ fn put_row(records: Records, h: usize, t: TenantLeases) -> Records
     now
 }
 
-// The records of a tenant of whom q is remembered: those of no lease where that is nothing, since nothing then goes by them.
-fn row_for(records: Records, h: usize, q: TenantReleases) -> TenantLeases
-    requires { ⌜ h < 8 ⌝ }
-    ensures { λ r. ⌜ ((n clock : ℕ) → rulesAt n clock h (inUse r) q ≡ rulesAt n clock h (ownLeases (tableFrom (records .leases)) h) q) ⌝ }
-{
-    if q.count == 0 {
-        return state::no_leases();
-    }
-    row(records, h)
-}
-
-// Which rules each tenant's records keep, and what all tenants hold, row by row.
-fn survey(s: State, records: Records) -> TableRules
-    ensures { λ r. ⌜ r ≡ tableRulesOf s (tableFrom (records .leases)) ⌝ }
+// Which rules each tenant's records and releases keep, and what all tenants hold, row by row: one pass for both, since a function of
+// its own for the releases would copy the records.
+fn survey(s: State, memory: Memory, records: Records) -> Surveyed
+    ensures { λ r. ⌜ (r .rules ≡ tableRulesOf s (tableFrom (records .leases))) × (r .releases ≡ releaseRulesOf s (tableFrom (records .leases)) memory) ⌝ }
 {
     let l = state::no_lease();
     let pools = soundness::pools_of(s);
+    let n = arithmetic::cut8(s.tenant_count);
     let mut now = soundness::no_tenants();
+    let mut all = releases::no_tenants();
     let mut h: usize = 0;
     while h < 8 {
         let mut row = [l; 16];
@@ -210,9 +209,14 @@ fn survey(s: State, records: Records) -> TableRules
         }
         let t = tenant_from(row);
         now = soundness::add_tenant(s, pools, now, h, t);
+        let q = memory.releases[h];
+        all = releases::add_tenant(all, n, s.clock, h, t, q);
         h += 1;
     }
-    now
+    Surveyed {
+        rules: now,
+        releases: all,
+    }
 }
 
 // ---- the drop
@@ -262,24 +266,6 @@ fn drop_ended(records: Records, held: HeldTable, clock: u32) -> Dropped
         records: now,
         held: sets,
     }
-}
-
-// ---- what is remembered
-
-// Whether it keeps every rule, row by row. The leases of a tenant are looked at only where releases of it are remembered.
-fn remembers_soundly(s: State, records: Records, memory: Memory) -> bool
-    ensures { λ r. ⌜ r ≡ memoryB s (tableFrom (records .leases)) memory ⌝ }
-{
-    let n = arithmetic::cut8(s.tenant_count);
-    let mut all = releases::no_tenants();
-    let mut h: usize = 0;
-    while h < 8 {
-        let q = memory.releases[h];
-        let own = row_for(records, h, q);
-        all = releases::add_tenant(all, n, s.clock, h, own, q);
-        h += 1;
-    }
-    releases::first_broken(all) == 0
 }
 
 // ---- the entry points
@@ -359,11 +345,13 @@ fn at_clock(
 }
 
 // Test 1: every rule holds, of what is remembered too, and the names are good for the settings.
-fn is_sound(s: State, c: TableRules, memory: Memory, records: Records, names: &[u8]) -> bool
-    ensures { λ r. ⌜ r ≡ (soundFrom s c && (memoryB s (tableFrom (records .leases)) memory && namesB (s .«scope_count») (s .«tenant_count») (now (names .entry)))) ⌝ }
+fn is_sound(s: State, c: Surveyed, names: &[u8]) -> bool
+    ensures { λ r. ⌜ r ≡ (soundFrom s (c .rules) && (eqb (brokenRelease (c .releases)) 0 && namesB (s .«scope_count») (s .«tenant_count») (now (names .entry)))) ⌝ }
 {
-    if soundness::sound_from(s, c) {
-        if remembers_soundly(s, records, memory) {
+    let a = c.rules;
+    let x = c.releases;
+    if soundness::sound_from(s, a) {
+        if releases::first_broken(x) == 0 {
             return names::good(names, s.scope_count, s.tenant_count);
         }
     }
@@ -388,15 +376,15 @@ pub fn serve(
     if n != 128 {
         return discard(1, state.clock, memory, records);
     }
-    let c = survey(state, records);
-    if !is_sound(state, c, memory, records, names) {
+    let c = survey(state, memory, records);
+    if !is_sound(state, c, names) {
         return discard(1, state.clock, memory, records);
     }
     if reply.len() < reply::LEAST_ROOM {
         return discard(2, state.clock, memory, records);
     }
     let s = state::raise(state, time);
-    let held = c.held;
+    let held = c.rules.held;
     if none_ended(held, s.clock) {
         return at_clock(s, memory, records, held, names, client, datagram, reply);
     }

@@ -4,10 +4,10 @@ use mathlib.Core.Bool.{Bool, true, false, _&&_, _||_, true≢false}
 use mathlib.Core.List.{List, [], map}
 use Prim.Native.Nat.{ℕ, _≤_, _<_}
 use native.Mathlib.Omega.{arith}
+use lib.Dec.{eqb}
 use lib.ListN.{length, getD, length-map}
 use lib.Seq.{set-getD}
 use Rattle.lists.specs.Pick.{pick}
-use Rattle.lists.specs.laws.Both.{and-parts}
 use Rattle.lists.specs.laws.Row.{at-in}
 use Rattle.lists.specs.All.{All, allBy}
 use Rattle.message.specs.Read.{readOf}
@@ -24,11 +24,11 @@ use Rattle.state.specs.Book.{Book, advanced, dropped, idOf, inUse, insertedIn, 
 use Rattle.state.specs.Edit.{applied, editedIn, forgetOf, leftIn, noted, notedIn, rememberOf}
 use Rattle.state.specs.laws.Layout.{advanced-is, table-back}
 use Rattle.soundness.specs.declared.HeldTable.{HeldTable}
-use Rattle.soundness.specs.declared.TableRules.{TableRules}
 use Rattle.names.specs.Names.{namesB}
 use Rattle.releases.specs.Whole.{bookB}
-use Rattle.releases.specs.laws.Whole.{advanced-book, book-named, book-sound, both-book}
-use Rattle.releases.specs.Rules.{memoryB}
+use Rattle.releases.specs.laws.Whole.{advanced-book, book-named, book-sound}
+use Rattle.releases.specs.declared.ReleaseRules.{ReleaseRules}
+use Rattle.releases.specs.Rules.{brokenMemory, brokenRelease, memoryB, releaseRulesOf}
 use Rattle.soundness.specs.Sound.{soundB, tenantsIn}
 use Rattle.soundness.specs.Parts.{holdingsOf, soundFrom, tableRulesOf}
 use Rattle.soundness.specs.laws.Kept.{advanced-sound}
@@ -39,6 +39,7 @@ use Rattle.server.specs.laws.Tests.{call-served, call-short, call-unsound, clie
 use Rattle.records.specs.declared.Dropped.{Dropped}
 use Rattle.records.specs.declared.Records.{Records}
 use Rattle.records.specs.declared.ServedRecords.{ServedRecords}
+use Rattle.records.specs.declared.Surveyed.{Surveyed}
 use Rattle.records.specs.Records.{Drops, endsAfter, putRow, recordsOf, tableFrom}
 use Rattle.records.specs.Lent.{Gathered, LentAnswer, ServesRecords, bookFrom, lentAnswer, serveWith}
 use Rattle.records.specs.laws.Back.{lent-table-back, records-back}
@@ -144,9 +145,18 @@ module _ (g : Ledger) (ls : List Lease) (names : List ℕ) (client : ℕ) (d : L
         (c ∙ sym (records-back ls size) ∙ ap recordsOf (sym (idle (r .edit) h (tableFrom ls) (j .0) (k .0)))) (ap length c ∙ size)
 
 -- ---- the drop
--- what test 1 tests
-abbrev Tested : Ledger → List Lease → List ℕ → TableRules → Bool
-Tested g ls names c = soundFrom (g .state) c && (memoryB (g .state) (tableFrom ls) (g .memory) && namesB (g .state .«scope_count») (g .state .«tenant_count») names)
+-- what the survey promises, and what test 1 tests of it
+abbrev Surveys : Ledger → List Lease → Surveyed → Type 0
+Surveys g ls c = (c .rules ≡ tableRulesOf (g .state) (tableFrom ls)) × (c .releases ≡ releaseRulesOf (g .state) (tableFrom ls) (g .memory))
+
+abbrev Tested : Ledger → List ℕ → Surveyed → Bool
+Tested g names c = soundFrom (g .state) (c .rules) && (eqb (brokenRelease (c .releases)) 0 && namesB (g .state .«scope_count») (g .state .«tenant_count») names)
+
+tested : (g : Ledger) (ls : List Lease) (names : List ℕ) (c : Surveyed) {t : Bool} → Surveys g ls c → t ≡ Tested g names c → t ≡ bookB (bookFrom g ls names)
+unfolding bookB memoryB brokenMemory
+tested g ls names c v w =
+    w ∙ ap₂ (λ (x y : Bool). x && (y && namesB (g .state .«scope_count») (g .state .«tenant_count») names)) (sound-from (g .state) (tableFrom ls) (c .rules) (v .0))
+    (ap (λ (x : ReleaseRules). eqb (brokenRelease x) 0) (v .1))
 
 module _ (g : Ledger) (ls : List Lease) (names : List ℕ) (time : ℕ) {s′ : State} (e : s′ ≡ raised (g .state) time) where
   -- the ledger then
@@ -162,33 +172,28 @@ module _ (g : Ledger) (ls : List Lease) (names : List ℕ) (time : ℕ) {s′ : 
     advanced-gathered q h = record { sound = subst (λ (b : Book). bookB b ≡ true) (sym advanced-now) (advanced-book (bookFrom g ls names) time q); holdings = h }
 
   -- where none ended, the records themselves
-  module _ {c : TableRules} {q : Bool} (size : length ls ≡ 128) (long : All Long ls) (v : c ≡ tableRulesOf (g .state) (tableFrom ls)) (w : q ≡ Tested g ls names c) (y : q ≡ true) where
-    parts : (soundFrom (g .state) c ≡ true) × ((memoryB (g .state) (tableFrom ls) (g .memory) && namesB (g .state .«scope_count») (g .state .«tenant_count») names) ≡ true)
-    parts = and-parts (soundFrom (g .state) c) (memoryB (g .state) (tableFrom ls) (g .memory) && namesB (g .state .«scope_count») (g .state .«tenant_count») names) (sym w ∙ y)
+  module _ {c : Surveyed} {q : Bool} (size : length ls ≡ 128) (long : All Long ls) (v : Surveys g ls c) (w : q ≡ Tested g names c) (y : q ≡ true) where
+    whole : bookB (bookFrom g ls names) ≡ true
+    whole = sym (tested g ls names c v w) ∙ y
 
     sound : soundB (g .state) (tableFrom ls) ≡ true
-    sound = sym (sound-from (g .state) (tableFrom ls) c v) ∙ parts .0
-
-    whole : bookB (bookFrom g ls names) ≡ true
-    whole =
-        let k = and-parts (memoryB (g .state) (tableFrom ls) (g .memory)) (namesB (g .state .«scope_count») (g .state .«tenant_count») names) (parts .1) in
-        both-book (bookFrom g ls names) sound (k .0) (k .1)
+    sound = book-sound (bookFrom g ls names) whole
 
     laid : tableFrom ls ≡ tableOf (leasesOf (tableFrom ls))
     laid = sound-laid (g .state) ls size long sound
 
-    module _ {n : Bool} (a : n ≡ allBy (endsAfter (s′ .clock)) (c .held .tenants)) (b : n ≡ true) where
+    module _ {n : Bool} (a : n ≡ allBy (endsAfter (s′ .clock)) (c .rules .held .tenants)) (b : n ≡ true) where
       same : tableFrom ls ≡ dropped (s′ .clock) (tableFrom ls)
-      same = drop-idle (s′ .clock) (tableFrom ls) laid (ap (λ (x : HeldTable). allBy (endsAfter (s′ .clock)) (x .tenants)) (sym (held-from (g .state) (tableFrom ls) c v)) ∙ sym a ∙ b)
+      same = drop-idle (s′ .clock) (tableFrom ls) laid (ap (λ (x : HeldTable). allBy (endsAfter (s′ .clock)) (x .tenants)) (sym (held-from (g .state) (tableFrom ls) (c .rules) (v .0))) ∙ sym a ∙ b)
 
-      pub idle-gathered : Gathered then ls names (c .held)
-      idle-gathered = advanced-gathered ls same whole (held-from (g .state) (tableFrom ls) c v)
+      pub idle-gathered : Gathered then ls names (c .rules .held)
+      idle-gathered = advanced-gathered ls same whole (held-from (g .state) (tableFrom ls) (c .rules) (v .0))
 
       pub idle-book : bookFrom then ls names ≡ advanced (bookFrom g ls names) time
       idle-book = advanced-now ls same
 
-    pub drop-ready : (tableFrom ls ≡ tableOf (leasesOf (tableFrom ls))) × (c .held ≡ holdingsOf (tableFrom ls))
-    drop-ready = (laid, held-from (g .state) (tableFrom ls) c v)
+    pub drop-ready : (tableFrom ls ≡ tableOf (leasesOf (tableFrom ls))) × (c .rules .held ≡ holdingsOf (tableFrom ls))
+    drop-ready = (laid, held-from (g .state) (tableFrom ls) (c .rules) (v .0))
 
     module _ {d : Dropped} (u : Drops (s′ .clock) ls d) where
       live : soundB s′ (dropped (s′ .clock) (tableFrom ls)) ≡ true
@@ -218,11 +223,9 @@ module _ (n : ℕ) (g : Ledger) (ls : List Lease) (names : List ℕ) (c : Call) 
   unfolding serveWith
   serve-out e a q v = serves-as (off-whole (lentAnswer (serveOf (bookFrom g ls names) c)) (none 1 g ls) e) (stays 1 g ls a q v)
 
-  module _ {k : TableRules} {t : Bool} (e : n ≡ 128) (p : k ≡ tableRulesOf (g .state) (tableFrom ls)) (w : t ≡ Tested g ls names k) where
+  module _ {k : Surveyed} {t : Bool} (e : n ≡ 128) (p : Surveys g ls k) (w : t ≡ Tested g names k) where
     is-sound : t ≡ bookB (bookFrom g ls names)
-    unfolding bookB
-    is-sound =
-        w ∙ ap (λ (x : Bool). x && (memoryB (g .state) (tableFrom ls) (g .memory) && namesB (g .state .«scope_count») (g .state .«tenant_count») names)) (sound-from (g .state) (tableFrom ls) k p)
+    is-sound = tested g ls names k p w
 
     pub serve-unsound : {m : Records} {x : List ℕ} {r : ServedRecords} → t ≡ false → m .leases ≡ ls → length ls ≡ 128 → Discards 1 g m r → ServesRecords (serveWith n g ls names c) x x r
     serve-unsound f a q v = serves-as (discarded-is 1 g ls names q ∙ ap lentAnswer (call-unsound (bookFrom g ls names) c (sym is-sound ∙ f)) ∙ on e) (stays 1 g ls a q v)

@@ -16,6 +16,7 @@ use Rattle.lists.specs.laws.Each.{EachInv, each-start, each-next, each-end, map
 use Rattle.lists.specs.Place.{placeBy}
 use Rattle.state.specs.declared.Lease.{Lease}
 use Rattle.state.specs.declared.LeaseTable.{LeaseTable}
+use Rattle.state.specs.declared.Memory.{Memory}
 use Rattle.state.specs.declared.State.{State}
 use Rattle.state.specs.declared.TenantLeases.{TenantLeases}
 use Rattle.state.specs.declared.TenantReleases.{TenantReleases}
@@ -25,15 +26,17 @@ use Rattle.state.specs.laws.Layout.{dropped-is, endedIn, noLease, read-back}
 use Rattle.soundness.specs.declared.Held.{Held}
 use Rattle.soundness.specs.declared.HeldTable.{HeldTable}
 use Rattle.soundness.specs.declared.TableRules.{TableRules}
-use Rattle.soundness.specs.Sound.{layoutB, paddedB, rule19, rulesOf, settingsB, soundB, unusedB}
+use Rattle.soundness.specs.Sound.{layoutB, paddedB, rule19, rulesOf, settingsB, soundB, tenantsIn, unusedB}
 use Rattle.soundness.specs.Parts.{addedTenant, firstEnd, heldSets, holdingsOf, noHeld, noTenants}
 use Rattle.soundness.specs.laws.Book.{rules-of}
-use Rattle.releases.specs.Rules.{rulesAt}
+use Rattle.releases.specs.declared.ReleaseRules.{ReleaseRules}
+use Rattle.releases.specs.Rules.{bothRules, releaseRulesOf, rulesAt, rulesTo}
+use Rattle.releases.specs.laws.Tenants.{MemoryInv, memory-next}
 use Rattle.soundness.specs.laws.Survey.{SurveyInv, held-at, none-ended, survey-next-row, survey-start}
 use Rattle.state_file.proofs.WriteAgain.{leases-zero}
 use Rattle.records.specs.declared.Records.{Records}
 use Rattle.records.specs.laws.Back.{rows-back}
-use Rattle.records.specs.laws.Table.{rows-length, table-eight}
+use Rattle.records.specs.laws.Table.{row-own, rows-length, table-eight}
 use Rattle.records.specs.Records.{Drops, endsAfter, putRow, recordsOf, rows, rowsOf, tableFrom, tenantFrom}
 
 -- ---- a row put back
@@ -99,9 +102,17 @@ pub survey-row : {s : State} (ls : List Lease) {c r : TableRules} {h : ℕ} {t :
 unfolding tableFrom
 survey-row ls v p q e = survey-next-row v tenantFrom (rows 8 ls) [] refl p q e
 
--- ---- the rules on what is remembered, by a tenant's own records
-pub row-rules : {r t : TenantLeases} (n clock h : ℕ) (q : TenantReleases) → r ≡ t → rulesAt n clock h (inUse r) q ≡ rulesAt n clock h (inUse t) q
-row-rules n clock h q e = ap (λ (x : TenantLeases). rulesAt n clock h (inUse x) q) e
+-- ---- the rules on what is remembered, gathered in the same loop
+pub memory-row : {s : State} (ls : List Lease) {m : Memory} {n : ℕ} {all r : ReleaseRules} {h : ℕ} {t : TenantLeases} (d : TenantReleases) → MemoryInv s (tableFrom ls) m n all h → length (m .releases) ≡ 8 → h < 8
+    → t ≡ tenantFrom (getD (rows 8 ls) h []) → r ≡ bothRules all (rulesAt n (s .clock) h (inUse t) (getD (m .releases) h d)) → MemoryInv s (tableFrom ls) m n r (h + 1)
+memory-row ls {m} {h = h} {t} d v e p q u =
+    memory-next v t d e p (λ n clock. ap (λ (x : TenantLeases). rulesAt n clock h (inUse x) (getD (m .releases) h d)) (row-own ls p q)) u
+
+pub memory-whole : {s : State} {t : LeaseTable} {m : Memory} {n : ℕ} {all : ReleaseRules} {h : ℕ} → MemoryInv s t m n all h → 8 ≤ h → all ≡ releaseRulesOf s t m
+unfolding releaseRulesOf
+memory-whole {s} {t} {m} {h = h} v p =
+    let e : h ≡ 8 = omega (arith, v .within) in
+    v .whole ∙ ap (rulesTo (tenantsIn s) (s .clock) t m) e
 
 -- ---- a sound book's records only lay out its leases
 place-within : {A : Type 0} (t : A → Bool) (l : List A) → placeBy t l ≤ length l

@@ -3,9 +3,9 @@ use Prim.Native.Nat.{_-_}
 use Rattle.lists.specs.laws.Part.{unmapped}
 use Rattle.records.proofs.Typed.{memory-size, records-size}
 use Rattle.records.specs.Records.{tableFrom}
-use Rattle.records.specs.laws.Rows.{memory-row, memory-whole, survey-first, survey-row}
+use Rattle.records.specs.laws.Rows.{memory-row, survey-first, survey-row}
 use Rattle.records.specs.laws.Table.{RowInv, row-full, row-start, to-row}
-use Rattle.releases.specs.laws.Tenants.{MemoryInv, memory-start}
+use Rattle.releases.specs.laws.Tenants.{MemoryInv, memory-start, memory-whole}
 use Rattle.state.specs.Book.{noReleases}
 use Rattle.soundness.specs.laws.Survey.{SurveyInv, survey-end}
 use borrow.Author.Needs.{needs}
@@ -71,7 +71,7 @@ survey-spec =
     (λ c. search (to-row, unmapped, needs))  -- src/lib.rt:207:13 array-set-from-row
     (λ c. search (to-row, unmapped, needs))  -- src/lib.rt:208:13 add-i
     (λ c. search (to-row, needs))  -- src/lib.rt:206:9 loop2-less
-    (λ c. (search needs, search (to-row, unmapped, needs)))  -- src/lib.rt:206:9 loop2-again
+    (λ c. (search needs, search (to-row, needs)))  -- src/lib.rt:206:9 loop2-again
     (λ c κs. search (to-row, needs))  -- src/lib.rt:210:13 tenant-from-requires
     (λ c κs. search (to-row, needs))  -- src/lib.rt:211:9 add-tenant-requires
     (λ c. search (to-row, unmapped, needs))  -- src/lib.rt:212:17 mul-q

@@ -26,11 +26,11 @@ use Rattle.state.specs.laws.Layout.{dropped-is, endedIn, noLease, read-back}
 use Rattle.soundness.specs.declared.Held.{Held}
 use Rattle.soundness.specs.declared.HeldTable.{HeldTable}
 use Rattle.soundness.specs.declared.TableRules.{TableRules}
-use Rattle.soundness.specs.Sound.{layoutB, paddedB, rule19, rulesOf, settingsB, soundB, tenantsIn, unusedB}
+use Rattle.soundness.specs.Sound.{layoutB, paddedB, rule19, rulesOf, settingsB, soundB, unusedB}
 use Rattle.soundness.specs.Parts.{addedTenant, firstEnd, heldSets, holdingsOf, noHeld, noTenants}
 use Rattle.soundness.specs.laws.Book.{rules-of}
 use Rattle.releases.specs.declared.ReleaseRules.{ReleaseRules}
-use Rattle.releases.specs.Rules.{bothRules, releaseRulesOf, rulesAt, rulesTo}
+use Rattle.releases.specs.Rules.{bothRules, rulesAt}
 use Rattle.releases.specs.laws.Tenants.{MemoryInv, memory-next}
 use Rattle.soundness.specs.laws.Survey.{SurveyInv, held-at, none-ended, survey-next-row, survey-start}
 use Rattle.state_file.proofs.WriteAgain.{leases-zero}
@@ -107,12 +107,6 @@ pub memory-row : {s : State} (ls : List Lease) {m : Memory} {n : ℕ} {all r : R
     → t ≡ tenantFrom (getD (rows 8 ls) h []) → r ≡ bothRules all (rulesAt n (s .clock) h (inUse t) (getD (m .releases) h d)) → MemoryInv s (tableFrom ls) m n r (h + 1)
 memory-row ls {m} {h = h} {t} d v e p q u =
     memory-next v t d e p (λ n clock. ap (λ (x : TenantLeases). rulesAt n clock h (inUse x) (getD (m .releases) h d)) (row-own ls p q)) u
-
-pub memory-whole : {s : State} {t : LeaseTable} {m : Memory} {n : ℕ} {all : ReleaseRules} {h : ℕ} → MemoryInv s t m n all h → 8 ≤ h → all ≡ releaseRulesOf s t m
-unfolding releaseRulesOf
-memory-whole {s} {t} {m} {h = h} v p =
-    let e : h ≡ 8 = omega (arith, v .within) in
-    v .whole ∙ ap (rulesTo (tenantsIn s) (s .clock) t m) e
 
 -- ---- a sound book's records only lay out its leases
 place-within : {A : Type 0} (t : A → Bool) (l : List A) → placeBy t l ≤ length l

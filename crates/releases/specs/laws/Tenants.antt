@@ -1,41 +1,31 @@
 -- Laws: the rules on what is remembered, tenant by tenant, and the loop over the tenants.
 use Prim.Native.Nat.{ℕ, suc, _+_, _≤_, _<_}
 use mathlib.Core.Bool.{Bool, true, false, _&&_}
-use mathlib.Core.List.{List, []}
+use mathlib.Core.List.{[]}
 use mathlib.Core.Path.{_≡_, refl, sym, ap, ap₂, _∙_}
 use native.Mathlib.Omega.{arith}
 use native.Mathlib.Numerals.{add-one}
 use lib.Dec.{eqb}
-use lib.ListN.{length, getD, take}
+use lib.ListN.{length, getD}
 use borrow.Author.Tests.{eq-eqb, eqb-true, eqb-false}
 use Rattle.lists.specs.Pick.{pick}
-use Rattle.lists.specs.All.{allBy, allTo, pairsBy}
+use Rattle.lists.specs.All.{allTo}
 use Rattle.lists.specs.laws.All.{to-each, each-to}
 use Rattle.lists.specs.laws.Part.{unmapped}
 use Rattle.lists.specs.laws.Row.{at-in}
-use Rattle.state.specs.declared.Lease.{Lease}
 use Rattle.state.specs.declared.LeaseTable.{LeaseTable}
 use Rattle.state.specs.declared.Memory.{Memory}
 use Rattle.state.specs.declared.State.{State}
 use Rattle.state.specs.declared.TenantLeases.{TenantLeases}
 use Rattle.state.specs.declared.TenantReleases.{TenantReleases}
-use Rattle.state.specs.Book.{inUse, laidOut, laidReleases, releasesAt, remembered}
+use Rattle.state.specs.Book.{inUse, laidOut, laidReleases, releasesAt}
 use Rattle.soundness.specs.Sound.{tenantsIn}
 use Rattle.releases.specs.declared.ReleaseRules.{ReleaseRules}
-use Rattle.releases.specs.Rules.{bothRules, brokenMemory, differs, brokenRelease, firstRelease, ownLeases, memoryB, noRules, notLeased, onceB, releaseRulesOf, rulesAt, rulesTo}
+use Rattle.releases.specs.Rules.{bothRules, brokenMemory, brokenRelease, firstRelease, ownLeases, memoryB, noRules, releaseRulesOf, rulesAt, rulesTo}
 
 pub six : {p p′ q q′ u u′ r r′ t t′ v v′ : Bool} → p ≡ p′ → q ≡ q′ → u ≡ u′ → r ≡ r′ → t ≡ t′ → v ≡ v′
     → _≡_ {A = ReleaseRules} (record { houses = p; few = q; lengths = u; once = r; times = t; layout = v }) (record { houses = p′; few = q′; lengths = u′; once = r′; times = t′; layout = v′ })
 six a b c d e f = cc
-
--- ---- one tenant
--- of whom nothing is remembered: its leases are no matter
-pub no-releases-rules : (n clock h : ℕ) (ls ls′ : List Lease) (q : TenantReleases) → q .count ≡ 0 → rulesAt n clock h ls q ≡ rulesAt n clock h ls′ q
-unfolding rulesAt onceB allBy
-no-releases-rules n clock h ls ls′ q e = six refl refl refl (ap (λ (b : Bool). pairsBy differs (remembered q) && b) (none ls ∙ sym (none ls′))) refl refl
-  where
-    none : (x : List Lease) → allBy (notLeased x) (remembered q) ≡ true
-    none x = ap (λ (k : ℕ). allBy (notLeased x) (take k (q .releases))) e
 
 -- ---- the first k tenants
 and-pick : (a b : Bool) → pick a b false ≡ (a && b)
@@ -143,11 +133,15 @@ module _ {s : State} {t : LeaseTable} {m : Memory} {n : ℕ} {all : ReleaseRules
         tenants = v .tenants;
       }
 
-  pub memory-end : {x : ℕ} → 8 ≤ h → x ≡ brokenRelease all → eqb x 0 ≡ memoryB s t m
-  unfolding memoryB brokenMemory releaseRulesOf
-  memory-end g p =
+  pub memory-whole : 8 ≤ h → all ≡ releaseRulesOf s t m
+  unfolding releaseRulesOf
+  memory-whole g =
       let e : h ≡ 8 = omega (arith, v .within) in
-      ap (λ (x : ℕ). eqb x 0) (p ∙ ap brokenRelease (v .whole ∙ ap (rulesTo (tenantsIn s) (s .clock) t m) e))
+      v .whole ∙ ap (rulesTo (tenantsIn s) (s .clock) t m) e
+
+  pub memory-end : {x : ℕ} → 8 ≤ h → x ≡ brokenRelease all → eqb x 0 ≡ memoryB s t m
+  unfolding memoryB brokenMemory
+  memory-end g p = ap (λ (x : ℕ). eqb x 0) (p ∙ ap brokenRelease (memory-whole g))
 
 pub ruleset memories = (memory-start, memory-next, memory-end, unmapped)
 

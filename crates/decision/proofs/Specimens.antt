@@ -24,7 +24,7 @@ use Rattle.state.specs.Edit.{leftIn, editedIn, applied, rememberOf, forgetOf, n
 use Rattle.releases.specs.Again.{isAgain, anyAgain}
 use Rattle.decision.specs.declared.Decided.{Decided}
 use Rattle.decision.specs.declared.Verdict.{Verdict}
-use Rattle.decision.specs.Parts.{heldAlready, isNew, hasPeriod, holdsOf, recordedOf, resends, releasedAgain, scopePlace, knowsScope, lacksScope, zeroLength, badCounts, lacksCurrent, early1Of, error1Of, skewed, error2Of, error3Of, wishedOr, startOf, lengthOf, endOf, askAt, fitsNew, newWith, newAt, newOf, othersBusy, fitsRenewed, renewedTo, renewedOf, proposalOf, error0Of, leaseFrom, withLease, plainReply, nakWith, discardWith, refusalOf}
+use Rattle.decision.specs.Parts.{heldAlready, isNew, hasPeriod, holdsOf, recordedOf, resends, releasedAgain, scopePlace, knowsScope, lacksScope, zeroLength, badCounts, lacksCurrent, early1Of, error1Of, skewed, error2Of, error3Of, wishedOr, startOf, lengthOf, endOf, askAt, fitsNew, newWith, newAt, newOf, othersBusy, fitsRenewed, renewedTo, renewedOf, proposalOf, error0Of, leaseFrom, withLease, plainReply, nakWith, discardWith, refusalOf, latestFirst, tooShort, tooLate, meets}
 use Rattle.decision.specs.laws.Code.{replyType}
 use Rattle.decision.specs.Decide.{leasedOf, plainOf, settledOf, judgedOf, decideOf}
 
@@ -250,7 +250,7 @@ table =
     ∷ []
 
 specimens : allHold table ≡ true
-unfolding settings wish call now decided run empty replyType holds allHold ack nak p1 p3 p5 released turn five table pick filterBy isIn placeBy sumTo largest orderOf sameOf bit offsetsFrom setOf differenceOf upTo laidOut tableOf insertOf insertIn byIdentifier removeOf liveOf dropped unionAll addressesOf overlaps usedIn takenOf busyIn withHeld committed allowed grantOf suffices isNew hasPeriod holdsOf recordedOf resends scopePlace knowsScope lacksScope zeroLength badCounts lacksCurrent error1Of skewed error2Of error3Of wishedOr startOf lengthOf endOf askAt fitsNew newWith newAt newOf othersBusy fitsRenewed renewedTo renewedOf proposalOf error0Of leaseFrom withLease plainReply nakWith discardWith refusalOf leasedOf plainOf settledOf judgedOf decideOf insertedIn leftIn editedIn applied grantTo early1Of heldAlready laidReleases rememberOf forgetOf notedIn noted isAgain anyAgain releasedAgain
+unfolding settings wish call now decided run empty replyType holds allHold ack nak p1 p3 p5 released turn five table pick filterBy isIn placeBy sumTo largest orderOf sameOf bit offsetsFrom setOf differenceOf upTo laidOut tableOf insertOf insertIn byIdentifier removeOf liveOf dropped unionAll addressesOf overlaps usedIn takenOf busyIn withHeld committed allowed grantOf suffices isNew hasPeriod holdsOf recordedOf resends scopePlace knowsScope lacksScope zeroLength badCounts lacksCurrent error1Of skewed error2Of error3Of wishedOr startOf lengthOf endOf askAt fitsNew newWith newAt newOf othersBusy fitsRenewed renewedTo renewedOf proposalOf error0Of leaseFrom withLease plainReply nakWith discardWith refusalOf leasedOf plainOf settledOf judgedOf decideOf insertedIn leftIn editedIn applied grantTo early1Of heldAlready laidReleases rememberOf forgetOf notedIn noted isAgain anyAgain releasedAgain latestFirst tooShort tooLate meets
 specimens = refl
 
 -- ---- periods

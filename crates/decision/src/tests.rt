@@ -288,6 +288,13 @@ pub fn meets_wishes(m: Fields, start: u32, length: u64) -> bool
     !too_late(m, start)
 }
 
+fn is_unmet(m: Fields, p: Proposal) -> bool
+    ensures { λ r. ⌜ r ≡ not (meets m (p .start) (p .end - p .start)) ⌝ }
+{
+    let n = length_in(p);
+    !meets_wishes(m, p.start, n)
+}
+
 pub fn error_0(s: State, m: Fields, p: Proposal) -> bool
     ensures { λ r. ⌜ r ≡ error0Of s m p ⌝ }
 {
@@ -297,7 +304,7 @@ pub fn error_0(s: State, m: Fields, p: Proposal) -> bool
     if 4294967295 < p.end {
         return true;
     }
-    if !meets_wishes(m, p.start, length_in(p)) {
+    if is_unmet(m, p) {
         return true;
     }
     !p.fits

@@ -352,6 +352,7 @@ new = record {
   error2 = refl;
   soon = leb-true _ _ refl;
   fits = leb-true _ _ refl;
+  met = refl;
   left = ltb-true _ _ refl;
   least = leb-true _ _ refl;
 }

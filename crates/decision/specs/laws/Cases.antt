@@ -21,7 +21,7 @@ use Rattle.allocation.specs.laws.Loops.{grant-known}
 use Rattle.decision.specs.declared.Proposal.{Proposal}
 use Rattle.decision.specs.declared.Decided.{Decided}
 use Rattle.decision.specs.declared.Reply.the-variants.{Offer, LeaseAck, ReleaseAck, InfoAck}
-use Rattle.decision.specs.Parts.{isNew, hasPeriod, scopePlace, askAt, newWith, newAt, ownOf, holdsOf, recordedOf, resends, knowsScope, lacksScope, zeroLength, badCounts, lacksCurrent, early1Of, heldAlready, error1Of, error3Of, newOf, renewedOf, proposalOf, error0Of, leaseFrom, withLease, plainReply, refusalOf, horizon, meets}
+use Rattle.decision.specs.Parts.{isNew, hasPeriod, scopePlace, askAt, newWith, newAt, ownOf, holdsOf, recordedOf, resends, knowsScope, lacksScope, zeroLength, badCounts, early1Of, heldAlready, error1Of, error3Of, newOf, renewedOf, proposalOf, error0Of, leaseFrom, withLease, plainReply, refusalOf, horizon, meets}
 use Rattle.decision.specs.Decide.{unchanged, changed, leasedOf, plainOf, settledOf, judgedOf, decideOf}
 
 -- ---- what the tests say when they pass

@@ -24,6 +24,11 @@ impl Period {
         }
     }
 
+    /// Its length, in seconds.
+    pub fn length(&self) -> u64 {
+        self.end.saturating_sub(self.start)
+    }
+
     /// Periods that only touch don't overlap.
     pub fn overlaps(&self, other: &Period) -> bool {
         self.start < other.end && other.start < self.end

@@ -193,6 +193,7 @@ fn is_bad_request(book: &Book, call: &Call) -> bool {
     let number_is_wrong = least == 0 || least > desired;
     let lacks_current_time = (options.has(code::START_TIME) || options.has(code::MAXIMUM_START))
         && !options.has(code::CURRENT_TIME);
+    let latest_start_is_before_start = is_latest_start_before_start(options);
     let identifier_is_held =
         call.takes_new_addresses() && book.position(call.house, options.identifier).is_some();
     a_code_is_not_allowed
@@ -200,7 +201,19 @@ fn is_bad_request(book: &Book, call: &Call) -> bool {
         || lease_time_is_0
         || number_is_wrong
         || lacks_current_time
+        || latest_start_is_before_start
         || identifier_is_held
+}
+
+/// A Maximum Start Time before Start Time, both as they were sent.
+fn is_latest_start_before_start(options: &Options) -> bool {
+    match (
+        options.u32(code::MAXIMUM_START),
+        options.u32(code::START_TIME),
+    ) {
+        (Some(latest), Some(start)) => latest < start,
+        _ => false,
+    }
 }
 
 /// Error 2: Current Time and clock more than 1,800 apart.
@@ -218,7 +231,7 @@ fn new_lease(book: &Book, call: &Call) -> Result<Lease, u16> {
     let start = options.u32(code::START_TIME).unwrap_or(book.clock);
     let length = options.u32(code::LEASE_TIME).unwrap_or(DEFAULT_LEASE);
     let period = Period::wanted(start, length, book.clock);
-    let (start, end) = times_inside(&period, book.clock)?;
+    let (start, end) = times_given(&period, book.clock, &call.options)?;
     let records = book.leases.iter().filter(|lease| lease.house == call.house);
     if records.count() >= RECORDS_OF_A_HOUSE {
         return Err(CANNOT_GRANT);
@@ -237,13 +250,26 @@ fn new_lease(book: &Book, call: &Call) -> Result<Lease, u16> {
     })
 }
 
-/// The period's start and end as times of 32 bits, or error 0 for a period that isn't inside.
-fn times_inside(period: &Period, clock: u32) -> Result<(u32, u32), u16> {
-    if !period.is_inside(clock) {
+/// The period's start and end as times of 32 bits, or error 0 for a period that isn't inside
+/// or that the message's minimum or latest start forbids.
+fn times_given(period: &Period, clock: u32, options: &Options) -> Result<(u32, u32), u16> {
+    if !period.is_inside(clock) || !minimum_and_latest_start_are_met(period, options) {
         return Err(CANNOT_GRANT);
     }
     let time = |time: u64| u32::try_from(time).map_err(|_| CANNOT_GRANT);
     Ok((time(period.start)?, time(period.end)?))
+}
+
+/// "After the cut to the longest lease, a length below Minimum Lease Time can't be given, nor a start after
+/// Maximum Start Time." The start is the one raised to the clock; what isn't sent forbids nothing.
+fn minimum_and_latest_start_are_met(period: &Period, options: &Options) -> bool {
+    let minimum_is_met = options
+        .u32(code::MINIMUM_LEASE)
+        .is_none_or(|minimum| period.length() >= u64::from(minimum));
+    let latest_start_is_met = options
+        .u32(code::MAXIMUM_START)
+        .is_none_or(|latest| period.start <= u64::from(latest));
+    minimum_is_met && latest_start_is_met
 }
 
 /// DISCOVER changes nothing; the OFFER shows what a REQUEST would get now.
@@ -270,7 +296,7 @@ fn renew(book: &mut Book, call: &Call) -> Result<Vec<u8>, u16> {
     let start = call.options.u32(code::START_TIME).unwrap_or(old.start);
     let length = call.options.u32(code::LEASE_TIME).unwrap_or(old.length());
     let period = Period::wanted(start, length, book.clock);
-    let (start, end) = times_inside(&period, book.clock)?;
+    let (start, end) = times_given(&period, book.clock, &call.options)?;
     if overlaps_another(book, place, &period) {
         return Err(CANNOT_GRANT);
     }

@@ -1,5 +1,5 @@
--- Specimens: document 01's specimens P1 to P9 and those of skew, with Resend, RELEASE and DISCOVER, and a RELEASE sent again (document 02, W-202), by
--- computation: one table of cases.
+-- Specimens: document 01's specimens P1 to P9 and those of skew, with Resend, RELEASE and DISCOVER, a RELEASE sent again (document 02, W-202), and
+-- minimum lease and latest start (W-203), by computation: one table of cases.
 use mathlib.Core.Path.{_≡_, refl}
 use mathlib.Core.List.{List, [], _∷_, _++_}
 use mathlib.Core.Bool.{Bool, true, false, not, _&&_}
@@ -24,7 +24,7 @@ use Rattle.state.specs.Edit.{leftIn, editedIn, applied, rememberOf, forgetOf, n
 use Rattle.releases.specs.Again.{isAgain, anyAgain}
 use Rattle.decision.specs.declared.Decided.{Decided}
 use Rattle.decision.specs.declared.Verdict.{Verdict}
-use Rattle.decision.specs.Parts.{heldAlready, isNew, hasPeriod, holdsOf, recordedOf, resends, releasedAgain, scopePlace, knowsScope, lacksScope, zeroLength, badCounts, lacksCurrent, early1Of, error1Of, skewed, error2Of, error3Of, wishedOr, startOf, lengthOf, endOf, askAt, fitsNew, newWith, newAt, newOf, othersBusy, fitsRenewed, renewedTo, renewedOf, proposalOf, error0Of, leaseFrom, withLease, plainReply, nakWith, discardWith, refusalOf}
+use Rattle.decision.specs.Parts.{heldAlready, isNew, hasPeriod, holdsOf, recordedOf, resends, releasedAgain, scopePlace, knowsScope, lacksScope, zeroLength, badCounts, lacksCurrent, early1Of, error1Of, skewed, error2Of, error3Of, wishedOr, startOf, lengthOf, endOf, askAt, fitsNew, newWith, newAt, newOf, othersBusy, fitsRenewed, renewedTo, renewedOf, proposalOf, error0Of, leaseFrom, withLease, plainReply, nakWith, discardWith, refusalOf, latestFirst, tooShort, tooLate, meets}
 use Rattle.decision.specs.laws.Code.{replyType}
 use Rattle.decision.specs.Decide.{leasedOf, plainOf, settledOf, judgedOf, decideOf}
 
@@ -124,6 +124,41 @@ forbidden c = record {
     language = c .fields .language;
   };
 }
+
+-- the same call with Minimum Lease Time and Maximum Start Time
+abbrev bounded : Wish → Wish → Call → Call
+bounded shortest latest c = record {
+  tenant = c .tenant;
+  time = c .time;
+  fields = record {
+    kind = c .fields .kind;
+    xid = c .fields .xid;
+    id = c .fields .id;
+    allowed = c .fields .allowed;
+    scope = c .fields .scope;
+    counts = c .fields .counts;
+    times = record { length = c .fields .times .length; start = c .fields .times .start; current = c .fields .times .current; shortest = shortest; latest = latest };
+    features = c .fields .features;
+    ours = c .fields .ours;
+    «list_asked» = c .fields .«list_asked»;
+    «time_asked» = c .fields .«time_asked»;
+    language = c .fields .language;
+  };
+}
+
+-- house 2 asks for one address: Lease Time, with a Minimum Lease Time; Start Time and Current Time, with a Maximum Start Time
+abbrev lasting : ℕ → ℕ → Call
+lasting len shortest = bounded (given shortest) absent (call 1 1000 3 1 1 1 1 len 0 0)
+
+abbrev starting : ℕ → ℕ → ℕ → Call
+starting start current latest = bounded absent (given latest) (call 1 1000 3 1 1 1 1 0 start current)
+
+-- house 1 renews P3's lease, from 1000 to 2000, at 1500: Lease Time; and P5's, from 2000, at 1000: Start Time
+abbrev renewing3 : ℕ → Wish → Wish → Call
+renewing3 len shortest latest = bounded shortest latest (call 0 1500 4 2 4 1 1 len 0 1500)
+
+abbrev renewing5 : ℕ → ℕ → Call
+renewing5 start latest = bounded absent (given latest) (call 0 1000 4 3 4 1 1 0 start 1000)
 
 -- the book that a call finds, and what is decided on it
 now : Book → Call → Book
@@ -247,11 +282,50 @@ table =
     -- a fifth release forgets the oldest
     ∷ nak five (call 1 1005 7 1 1 1 1 0 0 0) 3
     ∷ ack five (call 1 1005 7 2 2 1 1 0 0 0) 0
+    -- W-203: a length below Minimum Lease Time. Ten days asked for, of which seven can be given; the longest lease and a second more or less, the cut before the test
+    ∷ nak [] (lasting 864000 864000) 0
+    ∷ ack [] (lasting 604801 604800) 1
+    ∷ nak [] (lasting 604801 604801) 0
+    ∷ nak [] (lasting 604799 604800) 0
+    -- equal passes, a second more does not; 0 is always met; without Lease Time the default counts, and is not raised
+    ∷ ack [] (lasting 1000 1000) 1 ∷ nak [] (lasting 1000 1001) 0 ∷ ack [] (lasting 1000 0) 1
+    ∷ ack [] (lasting 0 3600) 1 ∷ nak [] (lasting 0 3601) 0
+    -- a start after Maximum Start Time: without Start Time it is the clock; one before the clock is raised past the latest, also where it is the latest itself
+    ∷ ack [] (starting 0 1000 1000) 1 ∷ nak [] (starting 0 1000 999) 0 ∷ nak [] (starting 0 1000 0) 0
+    ∷ nak [] (starting 900 1000 900) 0 ∷ nak [] (starting 900 1000 999) 0 ∷ ack [] (starting 900 1000 1000) 1
+    -- Maximum Start Time before Start Time is error 1 and not 0, before the clock too, and before error 2; equal and later pass; 15 still needs 11
+    ∷ nak [] (starting 2000 1000 1999) 1 ∷ nak [] (starting 900 1000 899) 1 ∷ ack [] (starting 2000 1000 2000) 1 ∷ ack [] (starting 2000 1000 2001) 1
+    ∷ nak [] (starting 2000 9000 1999) 1 ∷ nak [] (starting 2000 9000 2000) 2 ∷ nak [] (starting 2000 0 2000) 1
+    -- RENEW: Lease Time, or the old length of 1,000 seconds; 604,801 is never met
+    ∷ ack (p1 ∷ p3 ∷ []) (renewing3 700 (given 700) absent) 12 ∷ nak (p1 ∷ p3 ∷ []) (renewing3 700 (given 701) absent) 0
+    ∷ ack (p1 ∷ p3 ∷ []) (renewing3 0 (given 1000) absent) 12 ∷ nak (p1 ∷ p3 ∷ []) (renewing3 0 (given 1001) absent) 0
+    ∷ ack (p1 ∷ p3 ∷ []) (renewing3 604801 (given 604800) absent) 12 ∷ nak (p1 ∷ p3 ∷ []) (renewing3 604801 (given 604801) absent) 0
+    -- without Start Time the old start, raised to the clock; error 1 goes by Start Time and not by the old start; error 3 comes before error 0
+    ∷ ack (p1 ∷ p3 ∷ []) (renewing3 0 absent (given 1500)) 12 ∷ nak (p1 ∷ p3 ∷ []) (renewing3 0 absent (given 1499)) 0
+    ∷ ack (p1 ∷ p3 ∷ p5 ∷ []) (renewing5 0 2000) 12 ∷ nak (p1 ∷ p3 ∷ p5 ∷ []) (renewing5 0 1999) 0
+    ∷ ack (p1 ∷ p3 ∷ p5 ∷ []) (renewing5 2500 2500) 12 ∷ nak (p1 ∷ p3 ∷ p5 ∷ []) (renewing5 2500 2499) 1
+    ∷ nak (p1 ∷ p3 ∷ []) (renewing5 0 999) 3
+    -- a Resend is acknowledged whatever 14 and 15 say, of a REQUEST and of a RENEW
+    ∷ ack (p1 ∷ p3 ∷ []) (bounded (given 4294967295) (given 0) p3) 12
+    ∷ ack (p1 ∷ p3 ∷ p5 ∷ []) (bounded (given 604801) (given 1999) p5) 12
+    ∷ ack (p1 ∷ p3 ∷ renewing3 0 absent absent ∷ []) (renewing3 0 (given 604801) (given 0)) 12
+    -- a DISCOVER draws the OFFER, or discard 8 for each of the three
+    ∷ record { before = []; last = bounded (given 3600) (given 1000) (call 1 1000 1 1 1 1 1 0 0 1000); outcome = 0; reply = 2; error = 0; addresses = 1 }
+    ∷ record { before = []; last = bounded (given 3601) (given 1000) (call 1 1000 1 1 1 1 1 0 0 1000); outcome = 8; reply = 0; error = 0; addresses = 0 }
+    ∷ record { before = []; last = bounded (given 3600) (given 999) (call 1 1000 1 1 1 1 1 0 0 1000); outcome = 8; reply = 0; error = 0; addresses = 0 }
+    ∷ record { before = []; last = bounded absent (given 1999) (call 1 1000 1 1 1 1 1 0 2000 1000); outcome = 8; reply = 0; error = 0; addresses = 0 }
+    -- a REQUEST that is refused so forgets no release
+    ∷ ack (p3 ∷ released 1500 ∷ bounded (given 604801) absent (call 0 1500 3 2 8 1 1 0 0 0) ∷ []) (released 1510) 0
     ∷ []
 
 specimens : allHold table ≡ true
-unfolding settings wish call now decided run empty replyType holds allHold ack nak p1 p3 p5 released turn five table pick filterBy isIn placeBy sumTo largest orderOf sameOf bit offsetsFrom setOf differenceOf upTo laidOut tableOf insertOf insertIn byIdentifier removeOf liveOf dropped unionAll addressesOf overlaps usedIn takenOf busyIn withHeld committed allowed grantOf suffices isNew hasPeriod holdsOf recordedOf resends scopePlace knowsScope lacksScope zeroLength badCounts lacksCurrent error1Of skewed error2Of error3Of wishedOr startOf lengthOf endOf askAt fitsNew newWith newAt newOf othersBusy fitsRenewed renewedTo renewedOf proposalOf error0Of leaseFrom withLease plainReply nakWith discardWith refusalOf leasedOf plainOf settledOf judgedOf decideOf insertedIn leftIn editedIn applied grantTo early1Of heldAlready laidReleases rememberOf forgetOf notedIn noted isAgain anyAgain releasedAgain
+unfolding settings wish call now decided run empty replyType holds allHold ack nak p1 p3 p5 released turn five table pick filterBy isIn placeBy sumTo largest orderOf sameOf bit offsetsFrom setOf differenceOf upTo laidOut tableOf insertOf insertIn byIdentifier removeOf liveOf dropped unionAll addressesOf overlaps usedIn takenOf busyIn withHeld committed allowed grantOf suffices isNew hasPeriod holdsOf recordedOf resends scopePlace knowsScope lacksScope zeroLength badCounts lacksCurrent error1Of skewed error2Of error3Of wishedOr startOf lengthOf endOf askAt fitsNew newWith newAt newOf othersBusy fitsRenewed renewedTo renewedOf proposalOf error0Of leaseFrom withLease plainReply nakWith discardWith refusalOf leasedOf plainOf settledOf judgedOf decideOf insertedIn leftIn editedIn applied grantTo early1Of heldAlready laidReleases rememberOf forgetOf notedIn noted isAgain anyAgain releasedAgain latestFirst tooShort tooLate meets
 specimens = refl
+
+-- W-203: Maximum Start Time before Start Time ends the matter before the identifier is looked for; equal it does not
+late-early : (early1Of (settings 1000) (starting 2000 1000 1999 .fields) ≡ true) × (early1Of (settings 1000) (starting 2000 1000 2000 .fields) ≡ false)
+unfolding settings wish call pick placeBy isNew scopePlace knowsScope lacksScope zeroLength badCounts lacksCurrent latestFirst early1Of
+late-early = (refl, refl)
 
 -- ---- periods
 -- start and length, from Lease Time and Start Time, the clock, and what stands for an absent one: the old start and length of a RENEW, the clock and 3,600 otherwise

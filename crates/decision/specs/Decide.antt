@@ -42,7 +42,7 @@ plainOf s m o = pick (eqb (m .kind) 7) (changed (leaving o (m .xid) (s .clock)) 
 
 -- "Error 0", for the types that have a period
 unfoldable pub settledOf : State → Fields → Lease → Proposal → Decided
-settledOf s m o p = pick (error0Of s p) (unchanged (refusalOf m 0)) (leasedOf m o (leaseFrom m p))
+settledOf s m o p = pick (error0Of s m p) (unchanged (refusalOf m 0)) (leasedOf m o (leaseFrom m p))
 
 -- o is the lease that the tenant holds under the message's identifier, if it holds one; p what the lease would be that the message asks for
 unfoldable pub judgedOf : State → Proposal → List Release → Fields → Lease → Bool → Decided

@@ -101,16 +101,21 @@ badCounts m = eqb (m .counts .least) 0 || ltb (m .counts .desired) (m .counts .l
 unfoldable pub lacksCurrent : Fields → Bool
 lacksCurrent m = (m .times .start .there || m .times .latest .there) && not (m .times .current .there)
 
+-- document 02, W-203: "a Maximum Start Time before Start Time", both as they are sent
+unfoldable pub latestFirst : Fields → Bool
+latestFirst m = m .times .start .there && (m .times .latest .there && ltb (m .times .latest .value) (m .times .start .value))
+
 -- what of error 1 the message and the settings say, before the identifier is looked for
 unfoldable pub early1Of : State → Fields → Bool
-early1Of s m = not (m .allowed) || (lacksScope s m || (zeroLength m || (badCounts m || lacksCurrent m)))
+early1Of s m = not (m .allowed) || (lacksScope s m || (zeroLength m || (badCounts m || (lacksCurrent m || latestFirst m))))
 
 -- "DISCOVER or REQUEST with an identifier the house holds"
 unfoldable pub heldAlready : Fields → Bool → Bool
 heldAlready m held = isNew m && held
 
 -- "an option that isn't allowed; DISCOVER or REQUEST whose scope is missing or not ours; Lease Time 0; least 0 or above desired;
--- 6 or 15 without 11; DISCOVER or REQUEST with an identifier the house holds"
+-- 6 or 15 without 11;" "a Maximum Start Time before Start Time is error 1, after the test for 11" (W-203); "DISCOVER or REQUEST with an identifier the house
+-- holds"
 unfoldable pub error1Of : State → Fields → Bool → Bool
 error1Of s m held = early1Of s m || heldAlready m held
 
@@ -191,9 +196,21 @@ renewedOf s b h m l =
 unfoldable pub proposalOf : State → LeaseTable → ℕ → Fields → Lease → Proposal
 proposalOf s b h m l = pick (isNew m) (newOf s b h m) (renewedOf s b h m l)
 
--- ---- error 0: "start after clock plus horizon; end above 4,294,967,295; .." and the test of its type
-unfoldable pub error0Of : State → Proposal → Bool
-error0Of s p = ltb (s .clock + horizon) (p .start) || (ltb 4294967295 (p .end) || not (p .fits))
+-- ---- document 02, W-203: "After the cut to the longest lease, a length below Minimum Lease Time can't be given, nor a start after Maximum Start Time". Asked
+-- of a start, raised to the clock, and a length
+unfoldable pub tooShort : Fields → ℕ → Bool
+tooShort m length = m .times .shortest .there && ltb length (m .times .shortest .value)
+
+unfoldable pub tooLate : Fields → ℕ → Bool
+tooLate m start = m .times .latest .there && ltb (m .times .latest .value) start
+
+-- the message's "minimum and latest start can be met"
+unfoldable pub meets : Fields → ℕ → ℕ → Bool
+meets m start length = not (tooShort m length) && not (tooLate m start)
+
+-- ---- error 0: "start after clock plus horizon; end above 4,294,967,295; .."; W-203's two, of which "both are error 0"; and the test of its type
+unfoldable pub error0Of : State → Fields → Proposal → Bool
+error0Of s m p = ltb (s .clock + horizon) (p .start) || (ltb 4294967295 (p .end) || (not (meets m (p .start) (p .end - p .start)) || not (p .fits)))
 
 -- ---- the lease, and the verdicts
 

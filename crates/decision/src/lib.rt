@@ -224,7 +224,7 @@ fn plain(s: State, m: Fields, old: Lease) -> Decided
 fn settle(s: State, m: Fields, old: Lease, p: Proposal) -> Decided
     ensures { λ r. ⌜ r ≡ settledOf s m old p ⌝ }
 {
-    if error_0(s, p) {
+    if error_0(s, m, p) {
         return refuse(m, 0);
     }
     let l = lease_from(m, p);

@@ -3,7 +3,8 @@ ghost use mathlib.Core.Path.{_≡_};
 ghost use mathlib.Core.Bool.{not, _&&_, _||_};
 ghost use lib.Dec.{eqb};
 ghost use Rattle.state.specs.Book.{remembered};
-ghost use Rattle.decision.specs.Parts.{isNew, hasPeriod, resends, releasedAgain, lowestIs, scopePlace, knowsScope, lacksScope, zeroLength, badCounts, lacksCurrent, early1Of, heldAlready, error1Of, skewed, error2Of, error3Of, error0Of};
+ghost use Rattle.decision.specs.Parts.{isNew, hasPeriod, resends, releasedAgain, lowestIs, scopePlace, knowsScope, lacksScope, zeroLength, badCounts, lacksCurrent, early1Of, heldAlready, error1Of, skewed, error2Of, error3Of, error0Of, latestFirst, tooShort, tooLate, meets};
+ghost use Prim.Native.Nat.{_-_};
 use crate::Proposal;
 use crate::numbers::HORIZON;
 use crate::numbers::SKEW;
@@ -155,6 +156,21 @@ fn lacks_current(m: Fields) -> bool
     and_not(needs, current.there)
 }
 
+// Whether the latest start is before the start, both as they are sent.
+fn latest_first(m: Fields) -> bool
+    ensures { λ r. ⌜ r ≡ latestFirst m ⌝ }
+{
+    let t = m.times;
+    let start = t.start;
+    let latest = t.latest;
+    if start.there {
+        if latest.there {
+            return latest.value < start.value;
+        }
+    }
+    false
+}
+
 fn is_forbidden(m: Fields) -> bool
     ensures { λ r. ⌜ r ≡ not (m .allowed) ⌝ }
 {
@@ -186,7 +202,10 @@ pub fn early_1(s: State, m: Fields) -> bool
     if bad_counts(m) {
         return true;
     }
-    lacks_current(m)
+    if lacks_current(m) {
+        return true;
+    }
+    latest_first(m)
 }
 
 pub fn error_1(s: State, m: Fields, held: bool) -> bool
@@ -225,13 +244,67 @@ pub fn error_3(m: Fields, held: bool) -> bool
     and_not(needs, held)
 }
 
-pub fn error_0(s: State, p: Proposal) -> bool
-    ensures { λ r. ⌜ r ≡ error0Of s p ⌝ }
+// Whether a length is below the least that the message takes.
+fn too_short(m: Fields, length: u64) -> bool
+    ensures { λ r. ⌜ r ≡ tooShort m length ⌝ }
+{
+    let t = m.times;
+    let w = t.shortest;
+    if w.there {
+        return length < (w.value as u64);
+    }
+    false
+}
+
+// Whether a start is after the latest that the message takes.
+fn too_late(m: Fields, start: u32) -> bool
+    ensures { λ r. ⌜ r ≡ tooLate m start ⌝ }
+{
+    let t = m.times;
+    let w = t.latest;
+    if w.there {
+        return w.value < start;
+    }
+    false
+}
+
+fn length_in(p: Proposal) -> u64
+    ensures { λ r. ⌜ r ≡ p .end - p .start ⌝ }
+{
+    let from = p.start as u64;
+    if from < p.end {
+        return p.end - from;
+    }
+    0
+}
+
+// Whether a start and a length are such as the message takes.
+pub fn meets_wishes(m: Fields, start: u32, length: u64) -> bool
+    ensures { λ r. ⌜ r ≡ meets m start length ⌝ }
+{
+    if too_short(m, length) {
+        return false;
+    }
+    !too_late(m, start)
+}
+
+fn is_unmet(m: Fields, p: Proposal) -> bool
+    ensures { λ r. ⌜ r ≡ not (meets m (p .start) (p .end - p .start)) ⌝ }
+{
+    let n = length_in(p);
+    !meets_wishes(m, p.start, n)
+}
+
+pub fn error_0(s: State, m: Fields, p: Proposal) -> bool
+    ensures { λ r. ⌜ r ≡ error0Of s m p ⌝ }
 {
     if (s.clock as u64) + HORIZON < (p.start as u64) {
         return true;
     }
     if 4294967295 < p.end {
+        return true;
+    }
+    if is_unmet(m, p) {
         return true;
     }
     !p.fits

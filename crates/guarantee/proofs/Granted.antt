@@ -35,7 +35,7 @@ use Rattle.decision.specs.declared.Decided.{Decided}
 use Rattle.decision.specs.declared.Reply.the-variants.{LeaseAck}
 use Rattle.releases.specs.Again.{anyAgain}
 use Rattle.decision.specs.laws.Cases.{Passed, passed, new-known, or-none}
-use Rattle.decision.specs.Parts.{horizon, defaultLease, askAt, badCounts, error0Of, error1Of, error2Of, error3Of, fitsNew, hasPeriod, holdsOf, isNew, knowsScope, leaseFrom, leaseIdIn, lengthOf, newOf, newWith, ownOf, proposalOf, recordedOf, releasedAgain, resends, scopePlace, startOf, withLease}
+use Rattle.decision.specs.Parts.{horizon, defaultLease, askAt, badCounts, error0Of, error1Of, error2Of, error3Of, fitsNew, hasPeriod, holdsOf, isNew, knowsScope, leaseFrom, leaseIdIn, lengthOf, newOf, newWith, ownOf, proposalOf, recordedOf, releasedAgain, resends, scopePlace, startOf, withLease, meets}
 use Rattle.decision.specs.Decide.{changed, decideOf, judgedOf, leasedOf, settledOf}
 use Rattle.server.specs.Serve.{Answer, Call, answered, atClock, forServer, headOf, replyOf, serveOf, withReading}
 use Rattle.guarantee.specs.Statement.{Demand3, Granted, NewRequest, SoundBook, askFor, bookAt, grantFor, leaseFor, placeFor, releasesFor, run, saysOf, scopeFor, stateAt, tableAt, tenantFor, termsFor}
@@ -124,7 +124,7 @@ module _ (s : State) (t : LeaseTable) (h : ℕ) (m : Fields) (v : Sound s (lease
 
   -- ---- inside, with a record left and least at most the unused reserve
   module _ (soon : startOf m (s .clock) (s .clock) ≤ s .clock + horizon) (fits : startOf m (s .clock) (s .clock) + lengthOf m defaultLease ≤ 4294967295)
-      (left : length (ownOf t h) < 16) (least : m .counts .least ≤ U) where
+      (met : meets m (startOf m (s .clock) (s .clock)) (lengthOf m defaultLease) ≡ true) (left : length (ownOf t h) < 16) (least : m .counts .least ≤ U) where
     suffice : m .counts .least ≤ G .number
     suffice = let p = enough in let q = counts in omega arith
 
@@ -134,13 +134,17 @@ module _ (s : State) (t : LeaseTable) (h : ℕ) (m : Fields) (v : Sound s (lease
     pub exact : length (offsets (G .addresses)) ≡ G .number
     exact = grant-exists s (leasesOf t) v (scopePlace s (m .scope .value)) here A refl known (let p = suffice in let q = counts in omega arith)
 
-    no-error : error0Of s (newOf s t h m) ≡ false
+    length-left : (startOf m (s .clock) (s .clock) + lengthOf m defaultLease) - startOf m (s .clock) (s .clock) ≡ lengthOf m defaultLease
+    length-left = omega arith
+
+    no-error : error0Of s m (newOf s t h m) ≡ false
     unfolding error0Of newWith fitsNew suffices
     no-error =
-        ap (error0Of s) proposed
+        ap (error0Of s m) proposed
         ∙ none-or (le-ltb (s .clock + horizon) (startOf m (s .clock) (s .clock)) soon)
         (none-or (le-ltb 4294967295 (startOf m (s .clock) (s .clock) + lengthOf m defaultLease) fits)
-        (ap not (and-both (lt-ltb (length (ownOf t h)) 16 left) (le-leb (m .counts .least) (G .number) suffice))))
+        (none-or (ap not (ap (meets m (startOf m (s .clock) (s .clock))) length-left ∙ met))
+        (ap not (and-both (lt-ltb (length (ownOf t h)) 16 left) (le-leb (m .counts .least) (G .number) suffice)))))
 
     recorded : leaseFrom m (newOf s t h m) ≡ L
     unfolding leaseFrom newWith
@@ -177,7 +181,7 @@ module _ (s : State) (t : LeaseTable) (h : ℕ) (m : Fields) (v : Sound s (lease
         ∙ not-taken (error3Of m (holdsOf (ownOf t h) m)) _ _ no-error3
         ∙ taken (hasPeriod m) _ _ has-period
         ∙ ap (settledOf s m (recordedOf (ownOf t h) m)) proposal-is
-        ∙ not-taken (error0Of s (newOf s t h m)) _ _ no-error
+        ∙ not-taken (error0Of s m (newOf s t h m)) _ _ no-error
         ∙ ap (leasedOf m (recordedOf (ownOf t h) m)) recorded
         ∙ not-taken (eqb (m .kind) 1) _ _ (ap (λ (k : ℕ). eqb k 1) request)
         ∙ taken (eqb (m .kind) 3) _ _ (ap (λ (k : ℕ). eqb k 3) request)
@@ -216,7 +220,7 @@ module _ (b : Book) (c : Call) (v : SoundBook b) (r : NewRequest b c) where
       ∙ taken (eqb (readOf (c .datagram) .discard) 0) _ _ (eq-eqb (readOf (c .datagram) .discard) 0 (r .read))
       ∙ not-taken (eqb (saysOf b c .kind) 3 && not (saysOf b c .ours)) _ _ (ap₂ (λ (k : ℕ) (o : Bool). eqb k 3 && not o) (r .request) (r .ours))
       ∙ ap (answered (bookAt b c) (tenantFor b c) (saysOf b c))
-      (decided (stateAt b c) (tableAt b c) (tenantFor b c) (saysOf b c) S (r .house) (r .request) (r .new) (r .error1) (r .error2) (r .soon) (r .fits) (r .left) (r .least)
+      (decided (stateAt b c) (tableAt b c) (tenantFor b c) (saysOf b c) S (r .house) (r .request) (r .new) (r .error1) (r .error2) (r .soon) (r .fits) (r .met) (r .left) (r .least)
       (remembered (releasesAt (bookAt b c .memory) (tenantFor b c))))
 
   there : tenantFor b c < length (tableAt b c .tenants)
@@ -243,20 +247,20 @@ module _ (b : Book) (c : Call) (v : SoundBook b) (r : NewRequest b c) where
     outcome = ap (λ (a : Answer). a .outcome) served;
     enough = enough (stateAt b c) (tableAt b c) (tenantFor b c) (saysOf b c) S (r .house) (r .request) (r .new) (r .error1) (r .error2);
     exact =
-        exact (stateAt b c) (tableAt b c) (tenantFor b c) (saysOf b c) S (r .house) (r .request) (r .new) (r .error1) (r .error2) (r .soon) (r .fits) (r .left) (r .least);
+        exact (stateAt b c) (tableAt b c) (tenantFor b c) (saysOf b c) S (r .house) (r .request) (r .new) (r .error1) (r .error2) (r .soon) (r .fits) (r .met) (r .left) (r .least);
     reply =
         ap (λ (a : Answer). a .reply) served
-        ∙ acknowledged (stateAt b c) (tableAt b c) (tenantFor b c) (saysOf b c) S (r .house) (r .request) (r .new) (r .error1) (r .error2) (r .soon) (r .fits) (r .left) (r .least) (bookAt b c .names);
+        ∙ acknowledged (stateAt b c) (tableAt b c) (tenantFor b c) (saysOf b c) S (r .house) (r .request) (r .new) (r .error1) (r .error2) (r .soon) (r .fits) (r .met) (r .left) (r .least) (bookAt b c .names);
     names =
         ap (λ (a : Answer). addressesIn (a .reply)) served
-        ∙ ap addressesIn (acknowledged (stateAt b c) (tableAt b c) (tenantFor b c) (saysOf b c) S (r .house) (r .request) (r .new) (r .error1) (r .error2) (r .soon) (r .fits) (r .left) (r .least) (bookAt b c .names))
+        ∙ ap addressesIn (acknowledged (stateAt b c) (tableAt b c) (tenantFor b c) (saysOf b c) S (r .house) (r .request) (r .new) (r .error1) (r .error2) (r .soon) (r .fits) (r .met) (r .left) (r .least) (bookAt b c .names))
         ∙ ack-names (headOf (stateAt b c) (saysOf b c)) (termsFor b c)
         (named-head (c .datagram) (stateAt b c) (r .read))
         (offsets-some (grantFor b c .addresses)
         (omega (
           arith,
-          exact (stateAt b c) (tableAt b c) (tenantFor b c) (saysOf b c) S (r .house) (r .request) (r .new) (r .error1) (r .error2) (r .soon) (r .fits) (r .left) (r .least),
-          some (stateAt b c) (tableAt b c) (tenantFor b c) (saysOf b c) S (r .house) (r .request) (r .new) (r .error1) (r .error2) (r .soon) (r .fits) (r .left) (r .least),
+          exact (stateAt b c) (tableAt b c) (tenantFor b c) (saysOf b c) S (r .house) (r .request) (r .new) (r .error1) (r .error2) (r .soon) (r .fits) (r .met) (r .left) (r .least),
+          some (stateAt b c) (tableAt b c) (tenantFor b c) (saysOf b c) S (r .house) (r .request) (r .new) (r .error1) (r .error2) (r .soon) (r .fits) (r .met) (r .left) (r .least),
         )))
         (grant-small (scopeFor b c) (tenantsIn (stateAt b c)) (leasesOf (tableAt b c)) (askFor b c))
         (pool-fits (stateAt b c) (leasesOf (tableAt b c)) S (placeFor b c)

@@ -24,7 +24,7 @@ use Rattle.releases.specs.Rules.{brokenMemory, brokenRelease, differs, fewB, fi
 use Rattle.releases.specs.Whole.{bookB}
 use Rattle.soundness.specs.Sound.{apart, belowB, blankB, brokenOf, compatible, countsB, disjoint, oneTo, firstBroken, firstRule, firstLate, tenantsB, idB, kindB, layoutB, leaseB, limitB, limitsB, committedB, noneB, offsetsB, paddedB, periodB, poolB, poolsApart, rangeB, rangeZero, rangesApart, recordsB, rule1, rule10, rule11, rule12, rule19, rule2, rule3, rule4, rule5, rule6, rule7, rule8, rule9, rulesOf, scopeZero, settingsB, reserveB, reservesB, sizeB, soundB, tailB, ttlB, unusedB, zeroFrom}
 use Rattle.allocation.specs.Rule.{allowed, busyIn, grantOf, grantTo, suffices, takenOf}
-use Rattle.decision.specs.Parts.{askAt, badCounts, discardWith, endOf, early1Of, heldAlready, error0Of, error1Of, error2Of, error3Of, skewed, fitsNew, fitsRenewed, hasPeriod, holdsOf, isNew, knowsScope, lacksCurrent, lacksScope, leaseFrom, lengthOf, nakWith, newAt, newOf, newWith, othersBusy, plainReply, proposalOf, recordedOf, refusalOf, renewedOf, renewedTo, releasedAgain, resends, scopePlace, startOf, wishedOr, withLease, zeroLength}
+use Rattle.decision.specs.Parts.{askAt, badCounts, discardWith, endOf, early1Of, heldAlready, error0Of, error1Of, error2Of, error3Of, skewed, fitsNew, fitsRenewed, hasPeriod, holdsOf, isNew, knowsScope, lacksCurrent, lacksScope, leaseFrom, lengthOf, nakWith, newAt, newOf, newWith, othersBusy, plainReply, proposalOf, recordedOf, refusalOf, renewedOf, renewedTo, releasedAgain, resends, scopePlace, startOf, wishedOr, withLease, zeroLength, latestFirst, meets, tooLate, tooShort}
 use Rattle.decision.specs.Decide.{decideOf, judgedOf, leasedOf, plainOf, settledOf}
 use Rattle.server.specs.Serve.{atClock, forServer, hasClient, replyOf, serveOf, tenantOf, withReading}
 use Rattle.guarantee.specs.Statement.{run}
@@ -81,7 +81,7 @@ grant-open = tt
 
 -- the decision
 unfoldable pub decision-open : Unit {0}
-unfolding isNew hasPeriod holdsOf recordedOf resends releasedAgain scopePlace knowsScope lacksScope zeroLength badCounts lacksCurrent early1Of heldAlready error1Of skewed error2Of error3Of wishedOr startOf lengthOf endOf askAt fitsNew newWith newAt newOf othersBusy fitsRenewed renewedTo renewedOf proposalOf error0Of leaseFrom withLease plainReply nakWith discardWith refusalOf leasedOf plainOf settledOf judgedOf decideOf
+unfolding isNew hasPeriod holdsOf recordedOf resends releasedAgain scopePlace knowsScope lacksScope zeroLength badCounts lacksCurrent early1Of heldAlready error1Of skewed error2Of error3Of wishedOr startOf lengthOf endOf askAt fitsNew newWith newAt newOf othersBusy fitsRenewed renewedTo renewedOf proposalOf error0Of leaseFrom withLease plainReply nakWith discardWith refusalOf leasedOf plainOf settledOf judgedOf decideOf latestFirst tooShort tooLate meets
 decision-open = tt
 
 -- the names for the scopes

@@ -206,6 +206,16 @@ offer =
     header 2 1 ++ option 1 (seconds 0x0E 0x10) ++ server ++ identifier 0x41 ++ scope ++ option 6 (seconds 0x03 0xE8) ++ option 10 (0xEF ∷ 0xC0 ∷ 0 ∷ 0 ∷ 0 ∷ 2 ∷ [])
     ++ option 11 (seconds 0x03 0xE8) ++ end
 
+-- document 02, W-203: P1's REQUEST with a Lease Time and a Minimum Lease Time of ten days; with a Maximum Start Time; RENEWs of P1's lease
+abbrev pub tenDays : List ℕ
+tenDays = 0 ∷ 0x0D ∷ 0x2F ∷ 0 ∷ []
+
+abbrev pub requestBy : ℕ → ℕ → List ℕ
+requestBy high low = request 1 0x41 1 4 (option 11 (seconds 0x03 0xE8) ++ option 15 (seconds high low))
+
+abbrev pub renewWith : List ℕ → List ℕ
+renewWith more = header 4 12 ++ identifier 0x41 ++ option 11 (seconds 0x07 0xD0) ++ more ++ end
+
 unfoldable pub table : List Case
 table =
     -- P1: .0 and .1; P2: error 0
@@ -248,6 +258,22 @@ table =
     ∷ answers [] (house1 1000 (scopesAsked (option 8 (0x64 ∷ 0x65 ∷ [])))) (scopesAck (1 ∷ german)) []
     ∷ answers [] (house2 1000 (scopesAsked (option 8 (0x64 ∷ 0x65 ∷ [])))) (scopesAck (1 ∷ english)) []
     ∷ answers (p1 ∷ p3 ∷ []) (house1 1000 (scopesAsked [])) (scopesAck (1 ∷ english)) (lease3 ++ lease1)
+    -- W-203: at least ten days can't be given; the default of 3,600 seconds against 3,600 and 3,601
+    ∷ answers [] (house2 1000 (request 1 0x41 1 4 (option 1 tenDays ++ option 14 tenDays))) (nak 1 0x41 0) []
+    ∷ answers [] (house2 1000 (request 1 0x41 1 4 (option 14 (seconds 0x0E 0x10)))) (ack 1 0x41 (seconds 0x0E 0x10) (seconds 0x03 0xE8) 0 2) lease1
+    ∷ answers [] (house2 1000 (request 1 0x41 1 4 (option 14 (seconds 0x0E 0x11)))) (nak 1 0x41 0) []
+    -- a latest start at the clock and a second before it; before Start Time
+    ∷ answers [] (house2 1000 (requestBy 0x03 0xE8)) (ack 1 0x41 (seconds 0x0E 0x10) (seconds 0x03 0xE8) 0 2) lease1
+    ∷ answers [] (house2 1000 (requestBy 0x03 0xE7)) (nak 1 0x41 0) []
+    ∷ answers [] (house2 1000 (request 1 0x41 1 4 (option 6 (seconds 0x07 0xD0) ++ option 11 (seconds 0x03 0xE8) ++ option 15 (seconds 0x07 0xCF)))) (nak 1 0x41 1) []
+    -- RENEW at 2000 of P1's lease: its old start is raised, its old length is 3,600
+    ∷ answers (p1 ∷ []) (house2 2000 (renewWith (option 14 (seconds 0x0E 0x10) ++ option 15 (seconds 0x07 0xD0))))
+    (ackAt (seconds 0x07 0xD0) 12 0x41 (seconds 0x0E 0x10) (seconds 0x07 0xD0) 0 2) (lease 2 0x41 4 12 2000 5600 3)
+    ∷ answers (p1 ∷ []) (house2 2000 (renewWith (option 14 (seconds 0x0E 0x11)))) (nak 12 0x41 0) lease1
+    ∷ answers (p1 ∷ []) (house2 2000 (renewWith (option 15 (seconds 0x07 0xCF)))) (nak 12 0x41 0) lease1
+    -- a Resend is acknowledged whatever 14 says; a DISCOVER that it forbids is discard 8
+    ∷ answers (p1 ∷ []) (house2 2000 (request 1 0x41 1 4 (option 14 tenDays))) (ackAt (seconds 0x07 0xD0) 1 0x41 (seconds 0x0E 0x10) (seconds 0x03 0xE8) 0 2) lease1
+    ∷ discards (house2 1000 (header 1 1 ++ identifier 0x41 ++ scope ++ option 14 (seconds 0x0E 0x11) ++ end)) 8
     ∷ []
 
 pub specimens : allBy holds table ≡ true
@@ -352,6 +378,7 @@ new = record {
   error2 = refl;
   soon = leb-true _ _ refl;
   fits = leb-true _ _ refl;
+  met = refl;
   left = ltb-true _ _ refl;
   least = leb-true _ _ refl;
 }

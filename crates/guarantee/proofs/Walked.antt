@@ -114,11 +114,11 @@ module _ (s : State) (t : LeaseTable) (h : ℕ) (m : Fields) (v : Sound s (lease
   abbrev N : Proposal
   N = newWith t m (askAt s h m (scopePlace s (m .scope .value))) (grantOf (scopeAt s (scopePlace s (m .scope .value))) (tenantsIn s) (leasesOf t) (askAt s h m (scopePlace s (m .scope .value))))
 
-  grant-sized : isNew m ≡ true → Passed s m (holdsOf (ownOf t h) m) → error0Of s N ≡ false → Sized (N .addresses)
+  grant-sized : isNew m ≡ true → Passed s m (holdsOf (ownOf t h) m) → error0Of s m N ≡ false → Sized (N .addresses)
   unfolding newWith fitsNew suffices Sized knowsScope askAt badCounts
   grant-sized n left e =
       let here = ltb-true (scopePlace s (m .scope .value)) (scopesIn s) (and-parts (m .scope .there) (ltb (scopePlace s (m .scope .value)) (scopesIn s)) (left .scope n) .1) in
-      let g = and-parts (ltb (length (ownOf t h)) 16) (leb (m .counts .least) (grantOf (scopeAt s (scopePlace s (m .scope .value))) (tenantsIn s) (leasesOf t) (askAt s h m (scopePlace s (m .scope .value))) .number)) (inside s N e .1) in
+      let g = and-parts (ltb (length (ownOf t h)) 16) (leb (m .counts .least) (grantOf (scopeAt s (scopePlace s (m .scope .value))) (tenantsIn s) (leasesOf t) (askAt s h m (scopePlace s (m .scope .value))) .number)) (inside s m N e .1) in
       let k = leb-true (m .counts .least) (grantOf (scopeAt s (scopePlace s (m .scope .value))) (tenantsIn s) (leasesOf t) (askAt s h m (scopePlace s (m .scope .value))) .number) (g .1) in
       let o = eqb-false (m .counts .least) 0 (or-none (eqb (m .counts .least) 0) (ltb (m .counts .desired) (m .counts .least)) (left .counts) .0) in
       let x = grant-exists s (leasesOf t) v (scopePlace s (m .scope .value)) here (askAt s h m (scopePlace s (m .scope .value))) (omega arith) known (omega arith) in (
@@ -126,8 +126,8 @@ module _ (s : State) (t : LeaseTable) (h : ℕ) (m : Fields) (v : Sound s (lease
         grant-small (scopeAt s (scopePlace s (m .scope .value))) (tenantsIn s) (leasesOf t) (askAt s h m (scopePlace s (m .scope .value))),
       )
 
-  new-sized : isNew m ≡ true → Passed s m (holdsOf (ownOf t h) m) → error0Of s (newOf s t h m) ≡ false → Sized (newOf s t h m .addresses)
-  new-sized n left e = let q = new-known s t h m known in subst (λ (p : Proposal). Sized (p .addresses)) (sym q) (grant-sized n left (sym (ap (error0Of s) q) ∙ e))
+  new-sized : isNew m ≡ true → Passed s m (holdsOf (ownOf t h) m) → error0Of s m (newOf s t h m) ≡ false → Sized (newOf s t h m .addresses)
+  new-sized n left e = let q = new-known s t h m known in subst (λ (p : Proposal). Sized (p .addresses)) (sym q) (grant-sized n left (sym (ap (error0Of s m) q) ∙ e))
 
   decided : (q : List Release) → P (decideOf s t q h m)
   unfolding withLease leaseFrom plainReply renewedOf renewedTo P Q Leases

@@ -30,7 +30,7 @@ use Rattle.soundness.specs.Sound.{holding, tenantsIn}
 use Rattle.allocation.specs.declared.Ask.{Ask}
 use Rattle.allocation.specs.declared.Grant.{Grant}
 use Rattle.allocation.specs.Rule.{grantOf, unusedReserve}
-use Rattle.decision.specs.Parts.{horizon, defaultLease, error1Of, error2Of, holdsOf, lengthOf, ownOf, recordedOf, resends, scopePlace, startOf}
+use Rattle.decision.specs.Parts.{horizon, defaultLease, error1Of, error2Of, holdsOf, lengthOf, meets, ownOf, recordedOf, resends, scopePlace, startOf}
 use Rattle.server.specs.Serve.{Answer, Call, headOf, serveOf, tenantOf}
 
 -- ---- the list of calls: "any number of server calls, or none: DISCOVER, REQUEST, RENEW, RELEASE, GETINFO and any other octets, from any address, with any
@@ -124,6 +124,8 @@ pub record NewRequest (b : Book) (c : Call) : Type 0 where
   -- "Inside means start at most clock plus horizon, end at most 4,294,967,295"
   pub soon : startFor b c ≤ stateAt b c .clock + horizon
   pub fits : endFor b c ≤ 4294967295
+  -- "and its minimum and latest start can be met" (document 02, W-203)
+  pub met : meets (saysOf b c) (startFor b c) (lengthOf (saysOf b c) defaultLease) ≡ true
   -- of the house's 16 lease records one is left
   pub left : length (ownFor b c) < 16
   -- "If the least number it accepts is no more than its house's unused share"

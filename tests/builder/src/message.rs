@@ -147,6 +147,22 @@ fn numbers(numbers: &[u16]) -> Vec<u8> {
     numbers.iter().flat_map(|n| n.to_be_bytes()).collect()
 }
 
+/// The same datagram without the options of some codes, if its options have their layout.
+pub fn without(datagram: &[u8], codes: &[u16]) -> Option<Vec<u8>> {
+    let (header, mut rest) = datagram.split_at_checked(8)?;
+    let mut octets = header.to_vec();
+    while let Some((&[high, low, length_high, length_low], tail)) = rest.split_first_chunk() {
+        let length = u16::from_be_bytes([length_high, length_low]);
+        let (value, behind) = tail.split_at_checked(length.into())?;
+        let code = u16::from_be_bytes([high, low]);
+        if !codes.contains(&code) {
+            octets.extend(option(code, value));
+        }
+        rest = behind;
+    }
+    rest.is_empty().then_some(octets)
+}
+
 /// The value of an option, in a datagram whose options have their layout.
 pub fn value_of(datagram: &[u8], code: u16) -> Option<&[u8]> {
     let mut rest = datagram.get(8..)?;

@@ -1,12 +1,13 @@
 //! Lists of calls: what clients of the houses send, mostly what draws a reply, and all the edges.
 
+use crate::bounds;
 use crate::campus::{beside, identifier};
 use crate::message;
 use crate::names;
 use crate::random::Random;
 use crate::releases::{self, MOST_RELEASES, RESEND_TIME};
 use crate::{DEFAULT_LEASE, HORIZON, LAST_TIME, LONGEST_LEASE, SKEW};
-use builder::{number, requested_language, Call, Campus, Message, Release};
+use builder::{number, requested_language, Call, Campus, Lease, Message, Release};
 use builder::{DISCOVER, GETINFO, RELEASE, RENEW, REQUEST};
 
 /// What a client may refer to: a lease of the file, or one that it has asked for.
@@ -239,7 +240,10 @@ impl Talk<'_> {
         let mut message = Message::new(kind, transaction, vec![builder::identifier(&ident)]);
         match kind {
             DISCOVER | REQUEST => self.ask(random, &mut message),
-            RENEW => self.put_period(random, &mut message),
+            RENEW => {
+                let old = self.period_of(house, &ident);
+                self.put_period(random, &mut message, old);
+            }
             GETINFO => {
                 if random.chance(85) {
                     let codes = (0..random.between(1, 4))
@@ -348,11 +352,21 @@ impl Talk<'_> {
             let value = message::fitting_value(random, 10);
             message.put(10, value);
         }
-        self.put_period(random, message);
+        self.put_period(random, message, None);
     }
 
-    /// Lease Time, Start Time, Current Time, Minimum Lease and Maximum Start.
-    fn put_period(&mut self, random: &mut Random, message: &mut Message) {
+    /// Start and length of a lease of the file.
+    fn period_of(&self, house: usize, identifier: &[u8]) -> Option<(u32, u32)> {
+        let mut leases = self.campus.leases.iter();
+        let is_it = |lease: &&Lease| {
+            usize::from(lease.house) == house + 1 && lease.identifier == identifier
+        };
+        let lease = leases.find(is_it)?;
+        Some((lease.start, lease.end - lease.start))
+    }
+
+    /// Lease Time, Start Time, Current Time, Minimum Lease and Maximum Start; a RENEW's old start and length stand for what it doesn't say.
+    fn put_period(&mut self, random: &mut Random, message: &mut Message, old: Option<(u32, u32)>) {
         let clock = self.clock;
         let mut start = clock;
         if random.chance(35) {
@@ -386,7 +400,21 @@ impl Talk<'_> {
             };
             message.put_u32(1, length);
         }
-        if random.chance(if message.has(6) { 93 } else { 40 }) {
+        if random.chance(20) {
+            let wished = if message.has(1) {
+                length
+            } else {
+                old.map_or(DEFAULT_LEASE, |old| old.1)
+            };
+            message.put_u32(14, bounds::minimum(random, wished));
+        }
+        if random.chance(20) {
+            let sent = message.has(6).then_some(start);
+            let start = sent.or(old.map(|old| old.0)).unwrap_or(clock);
+            message.put_u32(15, bounds::latest(random, clock, sent, start));
+        }
+        let needs_current = message.has(6) || message.has(15);
+        if random.chance(if needs_current { 93 } else { 40 }) {
             let apart = random.pick(&[
                 0,
                 0,
@@ -417,12 +445,6 @@ impl Talk<'_> {
                     time
                 },
             );
-        }
-        if random.chance(5) {
-            message.put_u32(14, random.pick(&[0, 1, LAST_TIME]));
-        }
-        if random.chance(5) {
-            message.put_u32(15, random.pick(&[0, clock, LAST_TIME]));
         }
         let start = start.max(clock);
         self.times

@@ -1,5 +1,6 @@
 //! One case, run by both implementations in this process and compared octet for octet.
 
+use crate::bounds;
 use crate::case::Case;
 use crate::lent::{Held, Lender};
 use crate::names;
@@ -139,7 +140,7 @@ fn choice(case: &Case) -> usize {
 }
 
 /// Counts what the case has shown, and sees that each scope list is the one that is due by what the case was made of, and what is remembered
-/// of releases what is due by the file before each call.
+/// of releases, and answered to options 14 and 15, what is due by the file before each call.
 fn count(case: &Case, expected: &Expected, tally: &mut Tally) -> Result<(), Difference> {
     if expected.refusal != 0 {
         tally.code(expected.refusal);
@@ -148,6 +149,7 @@ fn count(case: &Case, expected: &Expected, tally: &mut Tally) -> Result<(), Diff
         tally.damaged(place, expected.refusal);
     }
     let (mut past, mut before) = (Past::default(), Campus::read(&case.file));
+    let mut file = &case.file;
     for answer in &expected.answers {
         let Some(call) = Call::read(&case.calls[answer.place..]) else {
             continue;
@@ -155,8 +157,9 @@ fn count(case: &Case, expected: &Expected, tally: &mut Tally) -> Result<(), Diff
         let after = Campus::read(&answer.file);
         if let (Some(before), Some(after)) = (&before, &after) {
             released(&mut past, before, after, &call, answer, tally)?;
+            bounded(file, before, &call, answer, tally)?;
         }
-        before = after;
+        (before, file) = (after, &answer.file);
         tally.call(&call.datagram, answer.outcome, &answer.reply);
         let kinds = (call.datagram.get(1), answer.reply.get(1));
         if let (Some(campus), (Some(&GETINFO), Some(&ACK))) = (&case.campus, kinds) {
@@ -198,6 +201,34 @@ fn released(
     }
     let why = due.map_or(Vec::new(), |due| due.why);
     why.into_iter().for_each(|why| tally.released(why));
+    Ok(())
+}
+
+/// A call with option 14 or 15: what is due by what the second program answers to the same without both.
+fn bounded(
+    file: &[u8],
+    before: &Campus,
+    call: &Call,
+    answer: &Answer,
+    tally: &mut Tally,
+) -> Result<(), Difference> {
+    let judged = [0, 8].contains(&answer.outcome);
+    let Some(plain) = bounds::plain(call).filter(|_| judged) else {
+        return Ok(());
+    };
+    let (outcome, reply) = caught(|| {
+        let mut book = second::file::read(file).expect("the book before the call");
+        let room = plain.room.into();
+        second::server::answer(&mut book, &plain.datagram, plain.client, plain.time, room)
+    })?;
+    let Some(due) = bounds::due(before, call, outcome, &reply) else {
+        return Ok(());
+    };
+    if (due.outcome, &due.reply) != (answer.outcome, &answer.reply) {
+        let (due, reply) = (hex(&due.reply), hex(&answer.reply));
+        return Err(format!("by 14 and 15 {due} is due, not {reply}"));
+    }
+    due.why.into_iter().for_each(|why| tally.bounded(why));
     Ok(())
 }
 

@@ -1,6 +1,7 @@
 //! What compares the proved library with the second program, and measures both: cases made from a seed, both
 //! implementations in one process, every octet compared. And what tries the library by itself, each call watched.
 
+pub mod bounds;
 pub mod calls;
 pub mod campus;
 pub mod case;

@@ -147,20 +147,20 @@ pub struct Past {
     leased_again: Vec<Release>,
 }
 
-/// A call on a campus, as far as it matters here.
-struct Asked<'a> {
+/// A call on a campus, as far as it matters here and for the bounds of a period.
+pub struct Asked<'a> {
     campus: &'a Campus,
-    clock: u32,
+    pub clock: u32,
     house: u8,
-    kind: u8,
+    pub kind: u8,
     transaction: u32,
     identifier: &'a [u8],
-    datagram: &'a [u8],
+    pub datagram: &'a [u8],
 }
 
 impl<'a> Asked<'a> {
     /// Of a call that drew a reply, so that its client has a house and its options are laid out.
-    fn new(campus: &'a Campus, call: &'a Call) -> Option<Asked<'a>> {
+    pub fn new(campus: &'a Campus, call: &'a Call) -> Option<Asked<'a>> {
         let datagram = &call.datagram[..];
         let inside = |range: &(u32, u32)| range.0 <= call.client && call.client <= range.1;
         Some(Asked {
@@ -212,13 +212,20 @@ impl<'a> Asked<'a> {
     }
 
     /// The house's lease on the identifier, ended or not.
-    fn lease(&self) -> Option<&'a Lease> {
+    pub fn lease(&self) -> Option<&'a Lease> {
         let mut leases = self.campus.leases.iter();
         leases.find(|lease| lease.house == self.house && lease.identifier == self.identifier)
     }
 
-    fn holds(&self) -> bool {
+    pub fn holds(&self) -> bool {
         self.lease().is_some_and(|lease| lease.end > self.clock)
+    }
+
+    /// Whether the lease records this message: a REQUEST or RENEW sent again.
+    pub fn is_resend(&self) -> bool {
+        let sent = (self.kind, self.transaction);
+        let records = |lease: &Lease| (lease.kind, lease.transaction) == sent;
+        self.holds() && self.lease().is_some_and(records)
     }
 
     /// A RELEASE has options 3 and 12 only; codes above 16 are stepped over.
@@ -228,7 +235,7 @@ impl<'a> Asked<'a> {
     }
 
     /// The ACK to a RELEASE, or the NAK with an error.
-    fn reply(&self, refused: Option<u16>) -> Vec<u8> {
+    pub fn reply(&self, refused: Option<u16>) -> Vec<u8> {
         let kind = if refused.is_some() { NAK } else { ACK };
         let mut options = vec![
             server_identifier(self.campus.server),

@@ -1,5 +1,6 @@
 //! How often each outcome, error, refusal and rule occurred.
 
+use crate::bounds;
 use crate::damage::DAMAGES;
 use crate::names;
 use crate::releases;
@@ -66,6 +67,10 @@ fn released_for(why: &str) -> String {
     format!("release: {why}")
 }
 
+fn bounded_for(why: String) -> String {
+    format!("bounds: {why}")
+}
+
 impl Tally {
     fn add(&mut self, name: String) {
         *self.counts.entry(name).or_default() += 1;
@@ -101,6 +106,11 @@ impl Tally {
         self.add(released_for(why));
     }
 
+    /// How a minimum lease or a latest start stood to the period.
+    pub fn bounded(&mut self, why: String) {
+        self.add(bounded_for(why));
+    }
+
     /// A file that was damaged on purpose, and what it drew.
     pub fn damaged(&mut self, place: usize, refusal: u8) {
         if refusal == DAMAGES[place].refusal {
@@ -118,6 +128,7 @@ impl Tally {
         names.extend(CODES.map(|(code, _)| code_name(code)));
         names.extend(names::COUNTED.map(named_for));
         names.extend(releases::COUNTED.map(released_for));
+        names.extend(bounds::counted().into_iter().map(bounded_for));
         names.extend((0..DAMAGES.len()).map(damage_name));
         names
     }

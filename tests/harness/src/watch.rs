@@ -2,6 +2,7 @@
 //! names for that input, that a reply and the file afterwards have their form, that an answer depends on no octet outside of its input, and
 //! that a replay is its single serves. What isn't so is a panic.
 
+use crate::bounds;
 use crate::lent::{Held, Lender};
 use crate::releases::Past;
 use banshorra_host::{ANSWER_ROOM, BOARD_ROOM, FILE_ROOM, REPLY_ROOM};
@@ -12,7 +13,7 @@ use std::collections::BTreeMap;
 pub const EXACT: Lender = Lender { around: 0 };
 
 /// What a run of some length has to see.
-const SEEN: [(&str, &str); 8] = [
+const SEEN: [(&str, &str); 9] = [
     ("check", "0, 20, 21"),
     ("board", "lines, refused 20, refused 21, no room"),
     ("serve", "0, 2, 3, 4, 5, 6, 7, 8, 20, 21, 23, 28"),
@@ -23,6 +24,10 @@ const SEEN: [(&str, &str); 8] = [
     (
         "releases",
         "remembered, sent again, a new lease forgets it, a fifth forgets the oldest",
+    ),
+    (
+        "bounds",
+        "met, below the minimum, after the latest, latest before start, resent",
     ),
 ];
 
@@ -58,7 +63,7 @@ impl Watch {
         *self.0.entry((what, of.to_string())).or_default() += 1;
     }
 
-    /// A line for each function, for replies, errors, names and releases; and how many of those that have to occur never did.
+    /// A line for each function, for replies, errors, names, releases and bounds; and how many of those that have to occur never did.
     pub fn lines(&self) -> (Vec<String>, usize) {
         let (mut lines, mut missing) = (vec![], 0);
         for (what, names) in SEEN {
@@ -131,6 +136,8 @@ impl Watch {
 
     fn serve_once(&mut self, held: &mut Held, call: &Call, salt: u8) -> (u8, Vec<u8>) {
         let (due, before) = (self.refusal_due(held), held.file().to_vec());
+        let plain = bounds::plain(call).filter(|_| due == 0);
+        let plain = plain.map(|plain| EXACT.serve(&mut held.clone(), &plain, salt));
         let (number, reply) = EXACT.serve(held, call, salt);
         self.count("serve", number);
         let right = match due {
@@ -148,6 +155,9 @@ impl Watch {
         if due == 0 && number != 2 {
             self.see_file(&before, held, call.time);
             self.see_releases(&campus(&before), &campus(held.file()), call, &reply);
+        }
+        if let (Some(plain), 0 | 8) = (plain, number) {
+            self.see_bounds(&campus(&before), call, (number, &reply), plain);
         }
         (number, reply)
     }
@@ -226,6 +236,21 @@ impl Watch {
             due.why
                 .into_iter()
                 .for_each(|why| self.count("releases", why));
+        }
+    }
+
+    /// The answer to a call with option 14 or 15 is that to the same without both, or a refusal that is due.
+    fn see_bounds(
+        &mut self,
+        before: &Campus,
+        call: &Call,
+        (number, reply): (u8, &[u8]),
+        (outcome, plain): (u8, Vec<u8>),
+    ) {
+        if let Some(due) = bounds::due(before, call, outcome, &plain) {
+            let same = due.outcome == number && due.reply == reply;
+            assert!(same, "another answer to options 14 and 15 is due");
+            self.count("bounds", due.short);
         }
     }
 

@@ -1,5 +1,5 @@
 -- Laws: the decision, case by case: the one law by which whatever holds of every decision is shown.
-use Prim.Native.Nat.{ℕ, _+_, _≤_, _<_}
+use Prim.Native.Nat.{ℕ, _+_, _≤_, _<_, _-_}
 use mathlib.Core.Path.{_≡_, refl, sym, ap, _∙_, subst}
 use mathlib.Core.Bool.{Bool, true, false, not, _&&_, _||_}
 use mathlib.Core.List.{List}
@@ -21,7 +21,7 @@ use Rattle.allocation.specs.laws.Loops.{grant-known}
 use Rattle.decision.specs.declared.Proposal.{Proposal}
 use Rattle.decision.specs.declared.Decided.{Decided}
 use Rattle.decision.specs.declared.Reply.the-variants.{Offer, LeaseAck, ReleaseAck, InfoAck}
-use Rattle.decision.specs.Parts.{isNew, hasPeriod, scopePlace, askAt, newWith, newAt, ownOf, holdsOf, recordedOf, resends, knowsScope, lacksScope, zeroLength, badCounts, lacksCurrent, early1Of, heldAlready, error1Of, error3Of, newOf, renewedOf, proposalOf, error0Of, leaseFrom, withLease, plainReply, refusalOf, horizon}
+use Rattle.decision.specs.Parts.{isNew, hasPeriod, scopePlace, askAt, newWith, newAt, ownOf, holdsOf, recordedOf, resends, knowsScope, lacksScope, zeroLength, badCounts, early1Of, heldAlready, error1Of, error3Of, newOf, renewedOf, proposalOf, error0Of, leaseFrom, withLease, plainReply, refusalOf, horizon, meets}
 use Rattle.decision.specs.Decide.{unchanged, changed, leasedOf, plainOf, settledOf, judgedOf, decideOf}
 
 -- ---- what the tests say when they pass
@@ -58,7 +58,7 @@ passed s m held e =
     let a = or-none (not (m .allowed)) _ (f .0) in
     let b = or-none (lacksScope s m) _ (a .1) in
     let c = or-none (zeroLength m) _ (b .1) in
-    let d = or-none (badCounts m) (lacksCurrent m) (c .1) in
+    let d = or-none (badCounts m) _ (c .1) in
     record {
       scope = λ n. and-not-none (isNew m) (knowsScope s m) n (b .0);
       length = c .0;
@@ -67,12 +67,13 @@ passed s m held e =
     }
 
 -- what error 0 leaves
-pub inside : (s : State) (p : Proposal) → error0Of s p ≡ false → (p .end ≤ 4294967295) × (p .fits ≡ true)
+pub inside : (s : State) (m : Fields) (p : Proposal) → error0Of s m p ≡ false → (p .end ≤ 4294967295) × (p .fits ≡ true)
 unfolding error0Of
-inside s p e =
+inside s m p e =
     let a = or-none (ltb (s .clock + horizon) (p .start)) _ e in
-    let b = or-none (ltb 4294967295 (p .end)) (not (p .fits)) (a .1) in
-    (ltb-false 4294967295 (p .end) (b .0), not-none (p .fits) (b .1))
+    let b = or-none (ltb 4294967295 (p .end)) _ (a .1) in
+    let c = or-none (not (meets m (p .start) (p .end - p .start))) (not (p .fits)) (b .1) in
+    (ltb-false 4294967295 (p .end) (b .0), not-none (p .fits) (c .1))
 
 -- a known tenant would newly get the rule's grant
 pub new-known : (s : State) (b : LeaseTable) (h : ℕ) (m : Fields) → h < tenantsIn s → newOf s b h m
@@ -98,10 +99,10 @@ pub record Cases (s : State) (b : LeaseTable) (h : ℕ) (m : Fields) (P : Decide
   pub resent : resends m (oldFor b h m) ≡ true → P (unchanged (withLease LeaseAck (oldFor b h m)))
   pub again : P (unchanged (plainReply ReleaseAck))
   pub refused : (e : ℕ) → P (unchanged (refusalOf m e))
-  pub offered : m .kind ≡ 1 → Passed s m (holdsOf (ownOf b h) m) → error0Of s (newOf s b h m) ≡ false → P (unchanged (withLease Offer (newFor s b h m)))
-  pub requested : m .kind ≡ 3 → Passed s m (holdsOf (ownOf b h) m) → error0Of s (newOf s b h m) ≡ false
+  pub offered : m .kind ≡ 1 → Passed s m (holdsOf (ownOf b h) m) → error0Of s m (newOf s b h m) ≡ false → P (unchanged (withLease Offer (newFor s b h m)))
+  pub requested : m .kind ≡ 3 → Passed s m (holdsOf (ownOf b h) m) → error0Of s m (newOf s b h m) ≡ false
       → P (changed (entering (newFor s b h m)) (withLease LeaseAck (newFor s b h m)))
-  pub renewed : m .kind ≡ 4 → Passed s m (holdsOf (ownOf b h) m) → holdsOf (ownOf b h) m ≡ true → error0Of s (renewedOf s b h m (oldFor b h m)) ≡ false
+  pub renewed : m .kind ≡ 4 → Passed s m (holdsOf (ownOf b h) m) → holdsOf (ownOf b h) m ≡ true → error0Of s m (renewedOf s b h m (oldFor b h m)) ≡ false
       → P (changed (givingWay (oldFor b h m) (renewedFor s b h m)) (withLease LeaseAck (renewedFor s b h m)))
   pub released : m .kind ≡ 7 → holdsOf (ownOf b h) m ≡ true → P (changed (leaving (oldFor b h m) (m .xid) (s .clock)) (plainReply ReleaseAck))
   pub informed : P (unchanged (plainReply InfoAck))
@@ -139,13 +140,13 @@ module _ (s : State) (b : LeaseTable) (h : ℕ) (m : Fields) (P : Decided → Ty
   settled ok e3 period =
       pick-cases P _ _ _ (λ t. c .refused 0) (λ e0. pick-cases P _ _ _
       (λ k1. let k : m .kind ≡ 1 = eqb-true (m .kind) 1 k1 in let q = proposal-new (new-type m k refl) in
-      subst (λ (p : Proposal). P (unchanged (withLease Offer (leaseFrom m p)))) (sym q) (c .offered k ok (sym (ap (error0Of s) q) ∙ e0)))
+      subst (λ (p : Proposal). P (unchanged (withLease Offer (leaseFrom m p)))) (sym q) (c .offered k ok (sym (ap (error0Of s m) q) ∙ e0)))
       (λ k1. pick-cases P _ _ _
       (λ k3. let k : m .kind ≡ 3 = eqb-true (m .kind) 3 k3 in let q = proposal-new (new-type m k refl) in
-      subst (λ (p : Proposal). P (changed (entering (leaseFrom m p)) (withLease LeaseAck (leaseFrom m p)))) (sym q) (c .requested k ok (sym (ap (error0Of s) q) ∙ e0)))
+      subst (λ (p : Proposal). P (changed (entering (leaseFrom m p)) (withLease LeaseAck (leaseFrom m p)))) (sym q) (c .requested k ok (sym (ap (error0Of s m) q) ∙ e0)))
       (λ k3. let k : m .kind ≡ 4 = last-type m period k1 k3 in let q = proposal-old k in
       subst (λ (p : Proposal). P (changed (givingWay (oldFor b h m) (leaseFrom m p)) (withLease LeaseAck (leaseFrom m p)))) (sym q)
-      (c .renewed k ok (held-by m (holdsOf (ownOf b h) m) k refl e3) (sym (ap (error0Of s) q) ∙ e0)))))
+      (c .renewed k ok (held-by m (holdsOf (ownOf b h) m) k refl e3) (sym (ap (error0Of s m) q) ∙ e0)))))
 
   plainly : error3Of m (holdsOf (ownOf b h) m) ≡ false → P (plainOf s m (oldFor b h m))
   unfolding plainOf

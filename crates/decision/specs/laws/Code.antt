@@ -1,6 +1,6 @@
 -- Laws: between the decision and the code.
 use Prim.Native.Nat.{ℕ, _+_, _-_, min, max, _<_, _≤_}
-use mathlib.Core.Bool.{Bool, not, _&&_, _||_}
+use mathlib.Core.Bool.{Bool, true, false, not, _&&_, _||_}
 use mathlib.Core.List.{List}
 use lib.Dec.{ltb, eqb}
 use lib.ListN.{length}
@@ -22,12 +22,12 @@ use Rattle.decision.specs.declared.Proposal.{Proposal}
 use Rattle.decision.specs.declared.Verdict.{Verdict}
 use Rattle.decision.specs.declared.Reply.{Reply}
 use Rattle.decision.specs.declared.Reply.the-variants.{Nothing, Offer, LeaseAck, ReleaseAck, InfoAck, Nak}
-use mathlib.Core.Path.{_≡_, ap, ap₂, _∙_}
+use mathlib.Core.Path.{_≡_, sym, ap, ap₂, _∙_}
 use native.Mathlib.Omega.{arith}
 use Rattle.state.specs.declared.Edit.{Edit}
 use Rattle.decision.specs.declared.Decided.{Decided}
 use Rattle.decision.specs.declared.Recorded.{Recorded}
-use Rattle.decision.specs.Parts.{defaultLease, longestLease, skew, isNew, hasPeriod, resends, releasedAgain, error1Of, error2Of, scopePlace, knowsScope, lacksScope, lacksCurrent, skewed, error3Of, wishedOr, startOf, lengthOf, endOf, askAt, leaseIdIn, holdsOf, recordedOf, fitsRenewed, renewedBy, leaseFrom}
+use Rattle.decision.specs.Parts.{defaultLease, longestLease, skew, isNew, hasPeriod, resends, releasedAgain, error1Of, error2Of, scopePlace, knowsScope, lacksScope, lacksCurrent, skewed, error3Of, wishedOr, startOf, lengthOf, endOf, askAt, leaseIdIn, holdsOf, recordedOf, fitsRenewed, renewedBy, leaseFrom, tooShort, tooLate, meets}
 use Rattle.decision.specs.Gather.{recordedIn, newBy, newAtIn, newIn, renewedToIn, renewedIn, proposalIn, decideIn}
 use Rattle.decision.specs.Decide.{unchanged, changed, leasedOf, plainOf, settledOf, judgedOf}
 
@@ -61,6 +61,18 @@ skew-below a b h = let e : b - a ≡ (a - b) + (b - a) = omega arith in ap (ltb 
 pub skew-above : (a b : ℕ) → b ≤ a → ltb skew (a - b) ≡ skewed a b
 unfolding skewed
 skew-above a b h = let e : a - b ≡ (a - b) + (b - a) = omega arith in ap (ltb skew) e
+
+pub short-unmet : (m : Fields) (start length : ℕ) (a : Bool) → a ≡ tooShort m length → a ≡ true → false ≡ meets m start length
+unfolding meets
+short-unmet m start length a p q = ap (λ (x : Bool). not x && not (tooLate m start)) (sym q ∙ p)
+
+pub late-unmet : (m : Fields) (start length : ℕ) (a b r : Bool) → a ≡ tooShort m length → a ≡ false → b ≡ tooLate m start → r ≡ not b → r ≡ meets m start length
+unfolding meets
+late-unmet m start length a b r p q e f = f ∙ ap not e ∙ ap (λ (x : Bool). not x && not (tooLate m start)) (sym q ∙ p)
+
+pub unmet-is : (m : Fields) (start length n : ℕ) (a r : Bool) → n ≡ length → a ≡ meets m start n → r ≡ not a → r ≡ not (meets m start length)
+unfolding meets
+unmet-is m start length n a r p q e = e ∙ ap not (q ∙ ap (meets m start) p)
 
 pub error3-is : (m : Fields) (held a r : Bool) → a ≡ (eqb (m .kind) 4 || eqb (m .kind) 7) → r ≡ (a && not held) → r ≡ error3Of m held
 unfolding error3Of

@@ -11,7 +11,7 @@ use Rattle.state.specs.declared.Release.{Release}
 use Rattle.state.specs.declared.State.{State}
 use Rattle.decision.specs.declared.Decided.{Decided}
 use Rattle.decision.specs.declared.Reply.the-variants.{Offer, LeaseAck, Nothing, ReleaseAck, InfoAck, Nak}
-use Rattle.decision.specs.Parts.{isNew, hasPeriod, ownOf, holdsOf, recordedOf, resends, releasedAgain, knowsScope, lacksScope, zeroLength, badCounts, lacksCurrent, error1Of, error2Of, error3Of, startOf, lengthOf, askAt, fitsNew, newWith, newAt, newOf, proposalOf, error0Of, leaseFrom, withLease, nakWith, discardWith, refusalOf, heldAlready, early1Of}
+use Rattle.decision.specs.Parts.{isNew, hasPeriod, ownOf, holdsOf, recordedOf, resends, releasedAgain, knowsScope, lacksScope, zeroLength, badCounts, lacksCurrent, error1Of, error2Of, error3Of, startOf, lengthOf, askAt, fitsNew, newWith, newAt, newOf, proposalOf, error0Of, leaseFrom, withLease, nakWith, discardWith, refusalOf, heldAlready, early1Of, latestFirst, tooShort, tooLate, meets}
 use Rattle.state.specs.Edit.{entering}
 use Rattle.decision.specs.Decide.{unchanged, changed, leasedOf, settledOf, judgedOf, decideOf}
 use Rattle.decision.specs.declared.Verdict.{Verdict}
@@ -47,9 +47,9 @@ asOffer Nak v = discardWith 8
 -- where it is no Resend
 pub offered-as-requested : (s : State) (b : LeaseTable) (q : List Release) (h : ℕ) (m : Fields) → resends (sentAs 3 m) (recordedOf (ownOf b h) m) ≡ false
     → decideOf s b q h (sentAs 1 m) .verdict ≡ asOffer (decideOf s b q h (sentAs 3 m) .verdict .reply) (decideOf s b q h (sentAs 3 m) .verdict)
-unfolding decideOf judgedOf settledOf leasedOf sentAs resends releasedAgain isNew hasPeriod lacksScope knowsScope zeroLength badCounts lacksCurrent early1Of heldAlready error1Of error2Of error3Of proposalOf newOf newAt newWith askAt fitsNew startOf lengthOf leaseFrom recordedOf holdsOf withLease nakWith discardWith refusalOf error0Of pick
+unfolding decideOf judgedOf settledOf leasedOf sentAs resends releasedAgain isNew hasPeriod lacksScope knowsScope zeroLength badCounts lacksCurrent latestFirst early1Of heldAlready error1Of error2Of error3Of proposalOf newOf newAt newWith askAt fitsNew startOf lengthOf leaseFrom recordedOf holdsOf withLease nakWith discardWith refusalOf tooShort tooLate meets error0Of pick
 offered-as-requested s b q h m e =
-    go (resends (sentAs 3 m) (recordedOf (ownOf b h) m)) (error1Of s (sentAs 3 m) (holdsOf (ownOf b h) m)) (error2Of s m) (error0Of s (newOf s b h m)) e
+    go (resends (sentAs 3 m) (recordedOf (ownOf b h) m)) (error1Of s (sentAs 3 m) (holdsOf (ownOf b h) m)) (error2Of s m) (error0Of s m (newOf s b h m)) e
   where
     D : Bool → Bool → Bool → Decided
     D p q r = pick p (unchanged (discardWith 8)) (pick q (unchanged (discardWith 8)) (pick r (unchanged (discardWith 8)) (unchanged (withLease Offer (leaseFrom (sentAs 1 m) (newOf s b h m))))))

@@ -138,7 +138,7 @@ module _ (s : State) (b : LeaseTable) (h : ℕ) (there : h < length (b .tenants)
 
 -- ---- REQUEST: a grant is recorded
 module _ (s : State) (b : LeaseTable) (h : ℕ) (m : Fields) (v : Sound s (leasesOf b)) (known : h < tenantsIn s) (there : h < length (b .tenants)) (good : GoodId m)
-    (kind : m .kind ≡ 3) (ok : Passed s m (holdsOf (ownOf b h) m)) (e : error0Of s (newOf s b h m) ≡ false) where
+    (kind : m .kind ≡ 3) (ok : Passed s m (holdsOf (ownOf b h) m)) (e : error0Of s m (newOf s b h m) ≡ false) where
   abbrev A : Ask
   A = askAt s h m (scopePlace s (m .scope .value))
 
@@ -162,7 +162,7 @@ module _ (s : State) (b : LeaseTable) (h : ℕ) (m : Fields) (v : Sound s (lease
 
   fit : (ltb (length (ownOf b h)) 16 ≡ true) × (suffices (m .counts .least) G ≡ true)
   unfolding newWith fitsNew askAt
-  fit = and-parts (ltb (length (ownOf b h)) 16) (suffices (m .counts .least) G) (inside s (newWith b m A G) (sym (ap (error0Of s) (new-known s b h m known)) ∙ e) .1)
+  fit = and-parts (ltb (length (ownOf b h)) 16) (suffices (m .counts .least) G) (inside s m (newWith b m A G) (sym (ap (error0Of s m) (new-known s b h m known)) ∙ e) .1)
 
   some : 0 < G .number
   unfolding suffices badCounts
@@ -173,7 +173,7 @@ module _ (s : State) (b : LeaseTable) (h : ℕ) (m : Fields) (v : Sound s (lease
 
   ends : L .end ≡ A .to
   unfolding leaseFrom newOf newAt newWith
-  ends = let p = inside s (newOf s b h m) e .0 in omega arith
+  ends = let p = inside s m (newOf s b h m) e .0 in omega arith
 
   L-scope : L .scope ≡ A .scope
   unfolding leaseFrom newOf newAt newWith
@@ -249,7 +249,7 @@ module _ (s : State) (b : LeaseTable) (h : ℕ) (m : Fields) (v : Sound s (lease
 
 -- ---- RENEW: the lease gives way to one of its scope and addresses
 module _ (s : State) (b : LeaseTable) (h : ℕ) (m : Fields) (v : Sound s (leasesOf b)) (known : h < tenantsIn s) (there : h < length (b .tenants)) (good : GoodId m)
-    (kind : m .kind ≡ 4) (ok : Passed s m (holdsOf (ownOf b h) m)) (held : holdsOf (ownOf b h) m ≡ true) (e : error0Of s (renewedOf s b h m (recordedOf (ownOf b h) m)) ≡ false) where
+    (kind : m .kind ≡ 4) (ok : Passed s m (holdsOf (ownOf b h) m)) (held : holdsOf (ownOf b h) m ≡ true) (e : error0Of s m (renewedOf s b h m (recordedOf (ownOf b h) m)) ≡ false) where
   abbrev O : Lease
   O = recordedOf (ownOf b h) m
 
@@ -279,11 +279,11 @@ module _ (s : State) (b : LeaseTable) (h : ℕ) (m : Fields) (v : Sound s (lease
 
   N-end : N .end ≡ E
   unfolding leaseFrom renewedOf renewedTo
-  N-end = let p = inside s (renewedOf s b h m (recordedOf (ownOf b h) m)) e .0 in omega arith
+  N-end = let p = inside s m (renewedOf s b h m (recordedOf (ownOf b h) m)) e .0 in omega arith
 
   apart-from-others : bitAnd (othersBusy b h m (O .scope) F E) (O .addresses) ≡ 0
   unfolding renewedOf renewedTo fitsRenewed
-  apart-from-others = eqb-true (bitAnd (othersBusy b h m (O .scope) F E) (O .addresses)) 0 (inside s (renewedOf s b h m (recordedOf (ownOf b h) m)) e .1)
+  apart-from-others = eqb-true (bitAnd (othersBusy b h m (O .scope) F E) (O .addresses)) 0 (inside s m (renewedOf s b h m (recordedOf (ownOf b h) m)) e .1)
 
   N-period : (N .start < N .end) × (s .clock < N .end)
   unfolding endOf startOf
@@ -360,9 +360,9 @@ module _ (s : State) (b : LeaseTable) (h : ℕ) (m : Fields) (v : Sound s (lease
   none : Sound s (leasesOf (applied noEdit h b))
   none = becomes b (applied-none b h) v
 
-  fits-new : error0Of s (newOf s b h m) ≡ false → length (ownOf b h) < 16
+  fits-new : error0Of s m (newOf s b h m) ≡ false → length (ownOf b h) < 16
   unfolding newOf newAt newWith fitsNew askAt
-  fits-new e = ltb-true (length (ownOf b h)) 16 (and-parts (ltb (length (ownOf b h)) 16) _ (inside s (newOf s b h m) e .1) .0)
+  fits-new e = ltb-true (length (ownOf b h)) 16 (and-parts (ltb (length (ownOf b h)) 16) _ (inside s m (newOf s b h m) e .1) .0)
 
   fits-old : holdsOf (ownOf b h) m ≡ true → (idOf (oldFor b h m) ≡ leaseIdIn m) × (length (removeOf (idOf (oldFor b h m)) (ownOf b h)) < 16)
   fits-old held =

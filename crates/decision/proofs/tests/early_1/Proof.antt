@@ -19,4 +19,6 @@ early-1-spec =
     (λ c κs. search (joins, needs))
     (λ c. search (joins, needs))
     (λ c κs. search (joins, needs))
+    (λ c. search (joins, needs))
+    (λ c κs. search (joins, needs))
     (λ c. search (joins, needs)))

@@ -1,6 +1,6 @@
 -- `tests::error_0` meets its contract: its tests in order.
 use Rattle.decision.specs.Parts.{error0Of}
-use Rattle.lists.specs.laws.Both.{ors}
+use Rattle.lists.specs.laws.Both.{joins, ors}
 use borrow.Author.Needs.{needs}
 use Rattle.decision.proofs.tests.error_0.Statement.{statement}
 use Rattle.decision.proofs.tests.error_0.Tie as tie
@@ -15,4 +15,6 @@ error-0-spec =
     (λ c. search (ors, needs))
     (λ c. search (ors, needs))
     (λ c. search (ors, needs))
-    (λ c. search (ors, needs)))
+    (λ c κs. search needs)
+    (λ c. search (joins, ors, needs))
+    (λ c. search (joins, ors, needs)))

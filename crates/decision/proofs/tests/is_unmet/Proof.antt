@@ -1,0 +1,13 @@
+-- `tests::is_unmet` meets its contract: by unmet-is.
+use Rattle.decision.specs.laws.Code.{unmet-is}
+use borrow.Author.Needs.{needs}
+use Rattle.decision.proofs.tests.is_unmet.Statement.{statement}
+use Rattle.decision.proofs.tests.is_unmet.Tie as tie
+
+pub is-unmet-spec : {M : Type 1} → statement M
+is-unmet-spec =
+    tie.close
+    (tie.spec
+    (λ c κs. search needs)
+    (λ c κs. search needs)
+    (λ c. search (unmet-is, needs)))

@@ -33,10 +33,16 @@ pub fn count(set: u64) -> u32
     u64::count_ones(set)
 }
 
-// The lowest n offsets of a set; all of them where it has fewer.
+// The lowest n offsets of a set; all of them where it has fewer. Nothing is walked where there is none to find or none to take.
 pub fn lowest(set: u64, n: u64) -> u64
     ensures { λ r. ⌜ r ≡ lowestOf set n ⌝ }
 {
+    if set == 0 {
+        return 0;
+    }
+    if n == 0 {
+        return 0;
+    }
     let mut out: u64 = 0;
     let mut left: u64 = n;
     let mut at: u64 = 0;

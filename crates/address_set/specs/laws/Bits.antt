@@ -15,7 +15,7 @@ use lib.Count.{ones, ones-step}
 use lib.Seq.{take-nil, take-append-le}
 use lib.Pow.{pow-mono, shl-exact}
 use native.Mathlib.Numerals.{add-one, sub-one}
-use Rattle.address_set.specs.AddressSet.{bit, keep, offsetsFrom, offsets, setOf, chosen}
+use Rattle.address_set.specs.AddressSet.{bit, keep, offsetsFrom, offsets, setOf, lowestOf, chosen}
 
 -- ---- bit forms, which proofs calculate with
 -- the offsets of m that are not in n
@@ -255,6 +255,15 @@ pub offsets-of-zero : (at k : ℕ) → offsetsFrom 0 at k ≡ []
 unfolding offsetsFrom
 offsets-of-zero at zero = refl
 offsets-of-zero at (suc k) = ap (λ (b : ℕ). keep b at (offsetsFrom 0 (suc at) k)) (bit-of-zero at) ∙ offsets-of-zero (suc at) k
+
+-- a pass over no offsets, or up to 0, takes none
+pub low-of-zero : (m n : ℕ) → m ≡ 0 → 0 ≡ lowestOf m n
+unfolding setOf
+low-of-zero m n e = sym (ap (λ (x : ℕ). lowestOf x n) e ∙ ap (λ (l : List ℕ). setOf (take n l)) (offsets-of-zero 0 64) ∙ ap setOf (take-nil n))
+
+pub low-to-zero : (m n : ℕ) → n ≡ 0 → 0 ≡ lowestOf m n
+unfolding setOf
+low-to-zero m n e = sym (ap (lowestOf m) e)
 
 -- the offsets of the lowest n are the first n offsets
 low-offsetsFrom : (m at k n : ℕ) → offsetsFrom (setOf (take n (offsetsFrom m at k))) at k ≡ take n (offsetsFrom m at k)

@@ -12,7 +12,7 @@ use native.Mathlib.Nat.{one-mul, pow-suc, div-div-eq-div-mul, div-one, mul-comm,
 use native.Mathlib.Omega.{arith}
 use lib.Arith.{digits-mod}
 use lib.Count.{ones, ones-step}
-use lib.Seq.{take-nil, take-append-le}
+use lib.Seq.{take-nil}
 use lib.Pow.{pow-mono, shl-exact}
 use native.Mathlib.Numerals.{add-one, sub-one}
 use Rattle.address_set.specs.AddressSet.{bit, keep, offsetsFrom, offsets, setOf, lowestOf, chosen}
@@ -214,8 +214,8 @@ take-append {A} (suc k) (a ∷ x) y =
     ap {B = List A} (λ (r : List A). a ∷ r) (take-append k x y ∙ ap (λ (n : ℕ). take k x ++ take n y) e)
 
 -- the two passes
-pub chosen-is : (k own free : ℕ) → setOf (chosen k own free) ≡ bitOr (setOf (take k (offsets own))) (setOf (take (k - length (offsets own)) (offsets free)))
-chosen-is k own free = ap setOf (take-append k (offsets own) (offsets free)) ∙ setOf-append _ _
+pub chosen-is : (k own nobodys : ℕ) → setOf (chosen k own nobodys) ≡ bitOr (lowestOf own k) (lowestOf nobodys (k - length (offsets own)))
+chosen-is k own nobodys = ap setOf (take-append k (offsets own) (offsets nobodys)) ∙ setOf-append _ _
 
 -- ---- the bits of the lowest n
 
@@ -292,13 +292,6 @@ low-offsets m n = low-offsetsFrom m 0 64 n
 -- so the lowest n of m are n, or all that m has
 pub low-size : (m n : ℕ) → length (offsets (setOf (take n (offsets m)))) ≡ min n (length (offsets m))
 low-size m n = ap length (low-offsets m n) ∙ length-take n (offsets m)
-
-pub choose-both : (k own free f a b : ℕ) → f ≡ length (offsets own) → a ≡ setOf (take k (offsets own)) → b ≡ setOf (take (k - f) (offsets free))
-    → bitOr a b ≡ setOf (chosen k own free)
-choose-both k own free f a b p q r = ap₂ bitOr q (r ∙ ap (λ (x : ℕ). setOf (take (k - x) (offsets free))) p) ∙ sym (chosen-is k own free)
-
-pub choose-own : (k own free f a : ℕ) → f ≡ length (offsets own) → k ≤ f → a ≡ setOf (take k (offsets own)) → a ≡ setOf (chosen k own free)
-choose-own k own free f a p h q = q ∙ ap setOf (sym (take-append-le k (offsets own) (offsets free) (omega arith)))
 
 pub length-offsets : (m : ℕ) → length (offsets m) ≤ 64
 unfolding offsetsFrom

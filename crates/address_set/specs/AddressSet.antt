@@ -42,9 +42,9 @@ differenceOf m n = setOf (filterBy (λ a. not (isIn a (offsets n))) (offsets m))
 abbrev pub lowestOf : ℕ → ℕ → ℕ
 lowestOf m n = setOf (take n (offsets m))
 
--- k offsets: the lowest of own and, where these are fewer, then the lowest of free
+-- the k offsets that a grant chooses: the lowest of own and, where these are fewer, then the lowest of nobodys
 abbrev pub chosen : ℕ → ℕ → ℕ → List ℕ
-chosen k own free = take k (offsets own ++ offsets free)
+chosen k own nobodys = take k (offsets own ++ offsets nobodys)
 
 -- the numbers below n, rising: the offsets of a scope of size n
 unfoldable pub upTo : ℕ → List ℕ

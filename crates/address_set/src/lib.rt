@@ -2,7 +2,7 @@
 ghost use mathlib.Core.Path.{_≡_};
 ghost use Prim.Native.Nat.{min};
 ghost use lib.ListN.{length};
-ghost use Rattle.address_set.specs.AddressSet.{offsets, setOf, differenceOf, lowestOf, chosen, upTo, readOffsets, withOffset, fewestRanges, firstRange, behind};
+ghost use Rattle.address_set.specs.AddressSet.{offsets, setOf, differenceOf, lowestOf, upTo, readOffsets, withOffset, fewestRanges, firstRange, behind};
 
 // A range of offsets, all of one set: the first and how many.
 pub struct Range {
@@ -33,10 +33,16 @@ pub fn count(set: u64) -> u32
     u64::count_ones(set)
 }
 
-// The lowest n offsets of a set; all of them where it has fewer.
+// The lowest n offsets of a set; all of them where it has fewer. Nothing is walked where there is none to find or none to take.
 pub fn lowest(set: u64, n: u64) -> u64
     ensures { λ r. ⌜ r ≡ lowestOf set n ⌝ }
 {
+    if set == 0 {
+        return 0;
+    }
+    if n == 0 {
+        return 0;
+    }
     let mut out: u64 = 0;
     let mut left: u64 = n;
     let mut at: u64 = 0;
@@ -52,18 +58,6 @@ pub fn lowest(set: u64, n: u64) -> u64
         }
     }
     out
-}
-
-// k offsets: the lowest of own and, where these are fewer, then the lowest of free.
-pub fn choose(own: u64, free: u64, k: u64) -> u64
-    ensures { λ r. ⌜ r ≡ setOf (chosen k own free) ⌝ }
-{
-    let f = count(own) as u64;
-    let a = lowest(own, k);
-    if f < k {
-        return a | lowest(free, k - f);
-    }
-    a
 }
 
 fn with_offset(set: u64, at: u8) -> u64

@@ -7,7 +7,7 @@ ghost use lib.ListN.{length};
 ghost use Rattle.lists.specs.Down.{largest};
 ghost use Rattle.lists.specs.Pick.{pick};
 ghost use Rattle.lists.specs.Sums.{sumTo, except};
-ghost use Rattle.address_set.specs.AddressSet.{offsets, setOf, differenceOf, chosen};
+ghost use Rattle.address_set.specs.AddressSet.{offsets, setOf, differenceOf, lowestOf, chosen};
 ghost use Rattle.state.specs.Book.{inUse, unionAll, committed};
 ghost use Rattle.allocation.specs.Rule.{poolOf, suffices};
 ghost use Rattle.allocation.specs.Closed.{allowedOf, Small};
@@ -175,17 +175,30 @@ fn numbers(sets: [u64; 8], c: Scope, n: usize, h: usize, free: u64) -> GrantNumb
     }
 }
 
-// k offsets: the lowest of the tenant's own free ones, then of the new ones. Nothing is walked where k is 0 or no own one is free, as mostly.
-fn choose(free: u64, new: u64, k: u32) -> u64
-    ensures { λ r. ⌜ r ≡ setOf (chosen k free new) ⌝ }
+// The first pass of the choice: the lowest of the f, up to k.
+fn lowest_own(free: u64, k: u32) -> u64
+    ensures { λ r. ⌜ r ≡ lowestOf free k ⌝ }
 {
-    if k == 0 {
-        return 0;
-    }
-    if free == 0 {
-        return address_set::lowest(new, k as u64);
-    }
-    address_set::choose(free, new, k as u64)
+    address_set::lowest(free, k as u64)
+}
+
+// The second pass: the lowest that are nobody's, up to m.
+fn lowest_new(nobodys: u64, m: u32) -> u64
+    ensures { λ r. ⌜ r ≡ lowestOf nobodys m ⌝ }
+{
+    address_set::lowest(nobodys, m as u64)
+}
+
+// Which addresses, where k are given: "the lowest of the f, then the lowest that are nobody's". `free` are the f, and f is how many they are;
+// m, the number of new ones, is k - f, or 0 if f is larger. `|` joins what the two passes took.
+fn choose(free: u64, nobodys: u64, k: u32) -> u64
+    ensures { λ r. ⌜ r ≡ setOf (chosen k free nobodys) ⌝ }
+{
+    let own = lowest_own(free, k);
+    let f = address_set::count(free);
+    let m = arithmetic::monus(k, f);
+    let new = lowest_new(nobodys, m);
+    own | new
 }
 
 // The grant of n tenants' rule to one of them: the largest allowed number up to the desired one, and its addresses.

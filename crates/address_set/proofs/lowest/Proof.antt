@@ -1,7 +1,7 @@
 -- `lowest` meets its contract: what was taken and what is left to take make the answer.
 use Prim.Native.Nat.{_-_}
 use Rattle.address_set.specs.AddressSet.{bit}
-use Rattle.address_set.specs.laws.Bits.{LowInv, lows}
+use Rattle.address_set.specs.laws.Bits.{LowInv, lows, low-of-zero, low-to-zero}
 use borrow.Author.Needs.{needs}
 use lib.ListN.{set}
 use Rattle.address_set.proofs.lowest.Statement.{statement}
@@ -20,6 +20,8 @@ lowest-spec =
     (tie.spec
     Inv-loop
     μ-loop
+    (λ c. search (low-of-zero, needs))
+    (λ c. search (low-to-zero, needs))
     (λ c. search (lows, needs))
     (λ c. search (lows, needs))
     (λ c. search (lows, needs))

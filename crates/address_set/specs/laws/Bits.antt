@@ -12,10 +12,10 @@ use native.Mathlib.Nat.{one-mul, pow-suc, div-div-eq-div-mul, div-one, mul-comm,
 use native.Mathlib.Omega.{arith}
 use lib.Arith.{digits-mod}
 use lib.Count.{ones, ones-step}
-use lib.Seq.{take-nil, take-append-le}
+use lib.Seq.{take-nil}
 use lib.Pow.{pow-mono, shl-exact}
 use native.Mathlib.Numerals.{add-one, sub-one}
-use Rattle.address_set.specs.AddressSet.{bit, keep, offsetsFrom, offsets, setOf, chosen}
+use Rattle.address_set.specs.AddressSet.{bit, keep, offsetsFrom, offsets, setOf, lowestOf, chosen}
 
 -- ---- bit forms, which proofs calculate with
 -- the offsets of m that are not in n
@@ -214,8 +214,8 @@ take-append {A} (suc k) (a ∷ x) y =
     ap {B = List A} (λ (r : List A). a ∷ r) (take-append k x y ∙ ap (λ (n : ℕ). take k x ++ take n y) e)
 
 -- the two passes
-pub chosen-is : (k own free : ℕ) → setOf (chosen k own free) ≡ bitOr (setOf (take k (offsets own))) (setOf (take (k - length (offsets own)) (offsets free)))
-chosen-is k own free = ap setOf (take-append k (offsets own) (offsets free)) ∙ setOf-append _ _
+pub chosen-is : (k own nobodys : ℕ) → setOf (chosen k own nobodys) ≡ bitOr (lowestOf own k) (lowestOf nobodys (k - length (offsets own)))
+chosen-is k own nobodys = ap setOf (take-append k (offsets own) (offsets nobodys)) ∙ setOf-append _ _
 
 -- ---- the bits of the lowest n
 
@@ -256,6 +256,15 @@ unfolding offsetsFrom
 offsets-of-zero at zero = refl
 offsets-of-zero at (suc k) = ap (λ (b : ℕ). keep b at (offsetsFrom 0 (suc at) k)) (bit-of-zero at) ∙ offsets-of-zero (suc at) k
 
+-- a pass over no offsets, or up to 0, takes none
+pub low-of-zero : (m n : ℕ) → m ≡ 0 → 0 ≡ lowestOf m n
+unfolding setOf
+low-of-zero m n e = sym (ap (λ (x : ℕ). lowestOf x n) e ∙ ap (λ (l : List ℕ). setOf (take n l)) (offsets-of-zero 0 64) ∙ ap setOf (take-nil n))
+
+pub low-to-zero : (m n : ℕ) → n ≡ 0 → 0 ≡ lowestOf m n
+unfolding setOf
+low-to-zero m n e = sym (ap (lowestOf m) e)
+
 -- the offsets of the lowest n are the first n offsets
 low-offsetsFrom : (m at k n : ℕ) → offsetsFrom (setOf (take n (offsetsFrom m at k))) at k ≡ take n (offsetsFrom m at k)
 unfolding setOf offsetsFrom
@@ -283,13 +292,6 @@ low-offsets m n = low-offsetsFrom m 0 64 n
 -- so the lowest n of m are n, or all that m has
 pub low-size : (m n : ℕ) → length (offsets (setOf (take n (offsets m)))) ≡ min n (length (offsets m))
 low-size m n = ap length (low-offsets m n) ∙ length-take n (offsets m)
-
-pub choose-both : (k own free f a b : ℕ) → f ≡ length (offsets own) → a ≡ setOf (take k (offsets own)) → b ≡ setOf (take (k - f) (offsets free))
-    → bitOr a b ≡ setOf (chosen k own free)
-choose-both k own free f a b p q r = ap₂ bitOr q (r ∙ ap (λ (x : ℕ). setOf (take (k - x) (offsets free))) p) ∙ sym (chosen-is k own free)
-
-pub choose-own : (k own free f a : ℕ) → f ≡ length (offsets own) → k ≤ f → a ≡ setOf (take k (offsets own)) → a ≡ setOf (chosen k own free)
-choose-own k own free f a p h q = q ∙ ap setOf (sym (take-append-le k (offsets own) (offsets free) (omega arith)))
 
 pub length-offsets : (m : ℕ) → length (offsets m) ≤ 64
 unfolding offsetsFrom

@@ -2,7 +2,7 @@
 use Prim.Native.Nat.{ℕ, zero, suc, _+_, _-_, _^_, _≤_, _<_, min, max}
 use mathlib.Core.Path.{_≡_, refl, sym, ap, ap₂, _∙_, subst}
 use mathlib.Core.Bool.{Bool, true, false, not}
-use mathlib.Core.List.{List, [], _∷_, _++_, map}
+use mathlib.Core.List.{List, [], _∷_, map}
 use native.Mathlib.Omega.{arith}
 use native.Mathlib.Nat.{lt-of-le-of-lt}
 use lib.Dec.{ltb, eqb}
@@ -150,12 +150,10 @@ difference-rest m n h =
         (λ a g. let z = bit-past 64 m a h g in omega arith)
 
 -- ---- the lowest of own, then of new
-pub chosen-none : (k own new : ℕ) → k ≡ 0 → 0 ≡ setOf (chosen k own new)
-unfolding setOf
-chosen-none k own new e = sym (ap (λ (x : ℕ). setOf (chosen x own new)) e)
-
-pub chosen-new : (k own new r : ℕ) → own ≡ 0 → r ≡ lowestOf new k → r ≡ setOf (chosen k own new)
-chosen-new k own new r e p = p ∙ ap (λ (l : List ℕ). setOf (take k (l ++ offsets new))) (sym (ap offsets e ∙ offsets-of-zero 0 64))
+-- the two passes give the choice; where f is larger than k, k - f is 0 and the second pass takes none
+pub two-passes : (k own new f m a b : ℕ) → a ≡ lowestOf own k → f ≡ length (offsets own) → m ≡ k - f → b ≡ lowestOf new m → bitOr a b ≡ setOf (chosen k own new)
+two-passes k own new f m a b first counted less second =
+    ap₂ bitOr first (second ∙ ap (lowestOf new) (less ∙ ap (λ (x : ℕ). k - x) counted)) ∙ sym (chosen-is k own new)
 
 pub chosen-bit : (k own new a : ℕ) → bit (setOf (chosen k own new)) a ≤ max (bit own a) (bit new a)
 chosen-bit k own new a =

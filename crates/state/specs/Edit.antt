@@ -28,6 +28,11 @@ releaseOf o x c = record { «id_len» = o .«id_len»; id = o .id; xid = x; time
 abbrev pub leaving : Lease → ℕ → ℕ → Edit
 leaving o x c = record { leaves = true; old = o; enters = false; new = zeroLease; forgets = false; remembers = true; release = releaseOf o x c }
 
+-- "first drops the hold" (document 02, W-205): o leaves before what e does, in which nothing else leaves. Nothing is remembered of a hold, and the release that it
+-- forgot does not come back
+abbrev pub droppingFirst : Lease → Edit → Edit
+droppingFirst o e = record { leaves = true; old = o; enters = e .enters; new = e .new; forgets = e .forgets; remembers = e .remembers; release = e .release }
+
 -- o gives way to l, which is no new lease
 abbrev pub givingWay : Lease → Lease → Edit
 givingWay o l = record { leaves = true; old = o; enters = true; new = l; forgets = false; remembers = false; release = zeroRelease }

@@ -101,7 +101,7 @@ LentDemand1 = (l : Lent) (c : Call) → LentAnswered l c (served l c)
 -- ---- the OFFER rule, on any ledger, any 128 records and any names
 unfoldable pub LentOfferRule : Type 0
 LentOfferRule =
-    (l : Lent) (c : Call) → length (l .leases) ≡ 128 → Discovers c
+    (l : Lent) (c : Call) → length (l .leases) ≡ 128 → Discovers c → NoHold (bookOf l) c
     → OfferedAs (bookOf l) c (answerOf (l .names) (served l c)) (answerOf (l .names) (served l (requested c)))
 
 -- ---- the file: the ledger and the records that it is read into, with the names that stand in it

@@ -163,6 +163,9 @@ removeOf i ls = filterBy (other i) ls
 abbrev pub isHold : Lease → Bool
 isHold l = eqb (l .kind) 1
 
+abbrev pub isLease : Lease → Bool
+isLease l = not (isHold l)
+
 -- how long an offer is held: "thirty seconds"
 abbrev pub holdTime : ℕ
 holdTime = 30

@@ -35,6 +35,11 @@ pub record FileLease : Type 0 where
   pub end : ℕ
   pub offsets : List ℕ
 
+-- document 02, W-205: a hold, "laid out .. as leases, the lapse time(4) last"
+pub record FileHold : Type 0 where
+  pub lease : FileLease
+  pub lapse : ℕ
+
 pub record File : Type 0 where
   pub server : ℕ
   pub clock : ℕ
@@ -45,6 +50,8 @@ pub record File : Type 0 where
   pub names : List ℕ
   -- document 02, W-202
   pub releases : List FileRelease
+  -- document 02, W-205
+  pub holds : List FileHold
 
 -- tenant t with identifier a is after tenant u with identifier b: by tenant, then by identifier
 unfoldable pub isAfter : ℕ → List ℕ → ℕ → List ℕ → Bool
@@ -85,21 +92,43 @@ leaseFormat = viewed ofParts toParts (octet ⊗ octet ⊗ counted octet ⊗ octe
 abbrev pub leasesFormat : Format (List FileLease)
 leasesFormat = sectionFormat leaseKey leaseAfter (0, []) leaseFormat
 
+-- "a last section for holds, laid out and ordered as leases, the lapse time(4) last" (document 02, W-205)
+abbrev pub holdKey : FileHold → ℕ × List ℕ
+holdKey x = leaseKey (x .lease)
+
+abbrev pub holdAfter : ℕ × List ℕ → FileHold → Bool
+holdAfter k x = leaseAfter k (x .lease)
+
+abbrev pub holdFormat : Format FileHold
+holdFormat = viewed (λ p. record { lease = p .0; lapse = p .1 }) (λ x. (x .lease, x .lapse)) (leaseFormat ⊗ number)
+
+abbrev pub holdsFormat : Format (List FileHold)
+holdsFormat = sectionFormat holdKey holdAfter (0, []) holdFormat
+
 -- the sections in the file's order, and the file of its sections
 abbrev pub Sections : Type 0
-Sections = (ℕ × ℕ) × (List ClientRange × (List FileScope × (List FileLease × (List ℕ × List FileRelease))))
+Sections = (ℕ × ℕ) × (List ClientRange × (List FileScope × (List FileLease × (List ℕ × (List FileRelease × List FileHold)))))
 
 abbrev pub ofSections : Sections → File
-ofSections p = record { server = p .0 .0; clock = p .0 .1; tenants = p .1 .0; scopes = p .1 .1 .0; leases = p .1 .1 .1 .0; names = p .1 .1 .1 .1 .0; releases = p .1 .1 .1 .1 .1 }
+ofSections p = record {
+  server = p .0 .0;
+  clock = p .0 .1;
+  tenants = p .1 .0;
+  scopes = p .1 .1 .0;
+  leases = p .1 .1 .1 .0;
+  names = p .1 .1 .1 .1 .0;
+  releases = p .1 .1 .1 .1 .1 .0;
+  holds = p .1 .1 .1 .1 .1 .1;
+}
 
 abbrev pub toSections : File → Sections
-toSections f = ((f .server, f .clock), (f .tenants, (f .scopes, (f .leases, (f .names, f .releases)))))
+toSections f = ((f .server, f .clock), (f .tenants, (f .scopes, (f .leases, (f .names, (f .releases, f .holds))))))
 
--- after the scopes and the tenants: leases; document 02's names, "its count that of the scopes", for as many tenants; and its releases, "a last section"
-abbrev pub lastFormat : List FileScope → List ClientRange → Format (List FileLease × (List ℕ × List FileRelease))
-lastFormat cs ts = leasesFormat ⊗ verbatim (namesFormat (length cs) (length ts)) ⊗ releasesFormat
+-- after the scopes and the tenants: leases; document 02's names, "its count that of the scopes", for as many tenants; its releases; and its holds
+abbrev pub lastFormat : List FileScope → List ClientRange → Format (List FileLease × (List ℕ × (List FileRelease × List FileHold)))
+lastFormat cs ts = leasesFormat ⊗ verbatim (namesFormat (length cs) (length ts)) ⊗ releasesFormat ⊗ holdsFormat
 
--- server (its count is always 1), tenants, scopes, leases, names, releases
+-- server (its count is always 1), tenants, scopes, leases, names, releases, holds
 abbrev pub fileFormat : Format File
 fileFormat =
     viewed ofSections toSections
@@ -109,10 +138,10 @@ fileFormat =
 abbrev pub fileLimit : ℕ
 fileLimit = 32768
 
--- no sound book's file has more octets: 12 for the counts and the server, 8 tenants of 8, 4 scopes of 22, 128 leases of 113, 6,229 of names (a count, and
--- for each of 4 scopes 9 lists of a count and 4 names of 43), and 1,345 of releases (a count, and 32 of 42)
+-- no sound book's file has more octets: 13 for the counts and the server, 8 tenants of 8, 4 scopes of 22, 128 leases and holds together, of 113 and 117, 6,229
+-- of names (a count, and for each of 4 scopes 9 lists of a count and 4 names of 43), and 1,345 of releases (a count, and 32 of 42)
 abbrev pub longestFile : ℕ
-longestFile = 22202
+longestFile = 22715
 
 -- the file that octets make; bad is refusal 20: "a bad or missing names section is 20"
 unfoldable pub fileOf : List ℕ → Got File

@@ -5,17 +5,18 @@ use Prim.Native.Nat.{_+_, _-_, suc, zero, ℕ}
 use lib.Dec.{eqb, leb, ltb}
 use lib.ListN.{length, replicate, take}
 use Rattle.address_set.specs.AddressSet.{offsets, readOffsets}
+use Rattle.format.specs.Tenants.{filedAll, own}
 use Rattle.lists.specs.All.{allBy, allTo}
 use Rattle.lists.specs.Filter.{filterBy}
 use Rattle.lists.specs.Pick.{pick}
-use Rattle.state.specs.Book.{Book, leaseWith, leasesOf, rangesOf, scopesOf, tableOf, zeroScope}
+use Rattle.state.specs.Book.{Book, insertOf, isHold, isLease, lapsingAt, leaseWith, leasesOf, rangesOf, scopesOf, tableOf, zeroScope}
 use Rattle.state.specs.declared.ClientRange.{ClientRange}
 use Rattle.state.specs.declared.Lease.{Lease}
 use Rattle.state.specs.declared.LeaseTable.{LeaseTable}
 use Rattle.state.specs.declared.Scope.{Scope}
 use Rattle.state.specs.declared.State.{State}
 use Rattle.release_file.specs.Section.{filedMemory, releasesFitB}
-use Rattle.state_file.specs.File.{File, FileLease, FilePart, FileScope}
+use Rattle.state_file.specs.File.{File, FileHold, FileLease, FilePart, FileScope}
 
 -- l and then z, n in all
 unfoldable pub filled : {A : Type 0} → A → ℕ → List A → List A
@@ -53,6 +54,27 @@ unfoldable pub filedFrom : ℕ → List (List Lease) → List FileLease
 filedFrom t [] = []
 filedFrom t (l ∷ ls) = map (filedLease t) l ++ filedFrom (suc t) ls
 
+-- ---- holds (document 02, W-205): in the records among the leases, in the file apart
+-- a hold of the file as a record keeps it, and a record of tenant t that is one as it stands in the file
+unfoldable pub storedHold : FileHold → Lease
+storedHold x = lapsingAt (x .lapse) (stored (x .lease))
+
+unfoldable pub filedHold : ℕ → Lease → FileHold
+filedHold t l = record { lease = filedLease t l; lapse = l .lapse }
+
+abbrev pub holdTenant : FileHold → ℕ
+holdTenant x = x .lease .tenant
+
+-- each of the first list inserted among the second in its turn: "A house's records rise by identifier, leases and holds together"
+unfoldable pub insertAll : List Lease → List Lease → List Lease
+insertAll [] ls = ls
+insertAll (x ∷ hs) ls = insertAll hs (insertOf x ls)
+
+-- the records of n tenants from t on, tenant by tenant: its leases xs, and among them its holds ys
+unfoldable pub mergedFrom : ℕ → ℕ → List FileLease → List FileHold → List (List Lease)
+mergedFrom t zero xs ys = []
+mergedFrom t (suc n) xs ys = insertAll (map storedHold (own holdTenant t ys)) (map stored (ofTenant t xs)) ∷ mergedFrom (suc t) n xs ys
+
 -- ---- scopes
 unfoldable pub storedScope : FileScope → Scope
 storedScope c = record {
@@ -89,7 +111,7 @@ storedState f = record {
 
 -- the lease records of a file
 unfoldable pub storedTable : File → LeaseTable
-storedTable f = tableOf (tenantsFrom 1 8 (f .leases))
+storedTable f = tableOf (mergedFrom 1 8 (f .leases) (f .holds))
 
 -- the file of a book
 unfoldable pub filedBook : Book → File
@@ -98,9 +120,10 @@ filedBook b = record {
   clock = b .state .clock;
   tenants = rangesOf (b .state);
   scopes = map (filedScope (b .state .«tenant_count»)) (scopesOf (b .state));
-  leases = filedFrom 1 (leasesOf (b .table));
+  leases = filedFrom 1 (map (filterBy isLease) (leasesOf (b .table)));
   names = b .names;
   releases = filedMemory (b .memory);
+  holds = filedAll filedHold 1 (map (filterBy isHold) (leasesOf (b .table)));
 }
 
 -- ---- limits
@@ -117,13 +140,21 @@ storableB x =
     (pick (ltb 32 (length (x .id))) false
     (allBy isOffset (x .offsets))))
 
--- tenant t has at most 16 leases (rule 1)
-unfoldable pub fewOf : List FileLease → ℕ → Bool
-fewOf xs t = leb (length (ofTenant t xs)) 16
+-- what stands among the leases is no hold: one of type 1 breaks rule 7
+unfoldable pub leaseFitB : FileLease → Bool
+leaseFitB x = pick (eqb (x .kind) 1) false (storableB x)
 
--- the records can hold the leases
-unfoldable pub leasesFitB : List FileLease → Bool
-leasesFitB xs = pick (allBy storableB xs) (allTo (λ i. fewOf xs (i + 1)) 8) false
+-- what stands among the holds has type 1 (rule 13)
+unfoldable pub holdFitB : FileHold → Bool
+holdFitB x = pick (eqb (x .lease .kind) 1) (storableB (x .lease)) false
+
+-- tenant t has at most 16 leases and holds together (rule 1)
+unfoldable pub fewOf : List FileLease → List FileHold → ℕ → Bool
+fewOf xs ys t = leb (length (ofTenant t xs) + length (own holdTenant t ys)) 16
+
+-- the records can hold the leases and the holds
+unfoldable pub recordsFitB : List FileLease → List FileHold → Bool
+recordsFitB xs ys = pick (allBy leaseFitB xs) (pick (allBy holdFitB ys) (allTo (λ i. fewOf xs ys (i + 1)) 8) false) false
 
 -- so many tenants and scopes (rule 1)
 unfoldable pub countsFit : ℕ → ℕ → Bool
@@ -133,6 +164,6 @@ countsFit tenants scopes = pick (ltb 8 tenants) false (leb scopes 4)
 abbrev pub settingsFitB : File → Bool
 settingsFitB f = countsFit (length (f .tenants)) (length (f .scopes))
 
--- the records can hold the file: its settings, its leases and its releases
+-- the records can hold the file: its settings, its leases and holds, and its releases
 unfoldable pub fitsB : File → Bool
-fitsB f = pick (settingsFitB f) (pick (leasesFitB (f .leases)) (releasesFitB (f .releases)) false) false
+fitsB f = pick (settingsFitB f) (pick (recordsFitB (f .leases) (f .holds)) (releasesFitB (f .releases)) false) false

@@ -160,7 +160,7 @@ removeOf i ls = filterBy (other i) ls
 
 -- ---- the clock
 -- document 02, W-205: a record is a lease or a hold, and "a hold has type 1"
-abbrev pub isHold : Lease → Bool
+unfoldable pub isHold : Lease → Bool
 isHold l = eqb (l .kind) 1
 
 abbrev pub isLease : Lease → Bool
@@ -171,7 +171,7 @@ abbrev pub holdTime : ℕ
 holdTime = 30
 
 -- how long a record is live: a lease to its end, and a hold "is live until it lapses"
-abbrev pub until : Lease → ℕ
+unfoldable pub until : Lease → ℕ
 until l = pick (isHold l) (l .lapse) (l .end)
 
 -- document 01's live: a lease is live while its end is after the clock, a hold while its lapse is

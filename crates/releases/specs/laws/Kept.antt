@@ -23,7 +23,7 @@ use Rattle.state.specs.declared.Memory.{Memory}
 use Rattle.state.specs.declared.Release.{Release}
 use Rattle.state.specs.declared.TenantLeases.{TenantLeases}
 use Rattle.state.specs.declared.TenantReleases.{TenantReleases}
-use Rattle.state.specs.Book.{Book, differ, idOf, inUse, insertOf, insertedIn, laidOut, laidReleases, leaseAt, leaseWith, other, otherRelease, releaseId, releasesAt, remembered, removeOf, tenantAt, zeroLease, zeroRelease}
+use Rattle.state.specs.Book.{Book, differ, idOf, inUse, insertOf, insertedIn, isHold, laidOut, laidReleases, leaseAt, leaseWith, other, otherRelease, releaseId, releasesAt, remembered, removeOf, tenantAt, zeroLease, zeroRelease}
 use Rattle.state.specs.Edit.{applied, editedBook, editedIn, entering, forgetOf, givingWay, leaving, leftIn, noEdit, noted, notedIn, releaseOf, rememberOf}
 use Rattle.state.specs.laws.Edited.{applied-others, edited-none}
 use Rattle.state.specs.laws.Layout.{read-back, releases-back}
@@ -258,7 +258,7 @@ module _ (b : Book) (h : ℕ) (known : h < tenantsIn (b .state)) (there : h < le
       edited-kept (leaving o x c)
       (subst (λ (ls : List Lease). HoldsAt b h ls (laidReleases (rememberOf r q))) (sym (left-is o x c (tenantAt (b .table) h)))
       (laid-holds (tenantsIn (b .state)) c h rest (rememberOf r q) known
-      (remember-good c rest r q len pad refl (filter-passes (other (idOf o)) (ownLeases (b .table) h)) new fewer)))
+      (remember-good c rest r q len (and-parts (isHold o || eqb (o .lapse) 0) (zeroFrom (o .«id_len») (o .id)) pad .1) refl (filter-passes (other (idOf o)) (ownLeases (b .table) h)) new fewer)))
     where
       c : ℕ
       c = b .state .clock

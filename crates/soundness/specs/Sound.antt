@@ -176,7 +176,7 @@ unfoldable pub rule12 : State → LeaseTable → Bool
 rule12 s t = allTo (committedB s t) (scopesIn s)
 
 -- ---- 13. (document 02, W-205) "a hold is unsound unless it has type 1 and lapses after the clock, at most thirty seconds after it, and not after its period's
--- end"; what has type 1 is a hold
+-- end"; what has type 1 is a hold, and that what stands among a file's holds has it is `holdFitB` of state_file
 unfoldable pub lapseB : ℕ → Lease → Bool
 lapseB clock l = ltb clock (l .lapse) && (leb (l .lapse) (clock + holdTime) && leb (l .lapse) (l .end))
 
@@ -186,7 +186,7 @@ holdB clock l = pick (isHold l) (lapseB clock l) true
 unfoldable pub rule13 : State → LeaseTable → Bool
 rule13 s t = allBy (allBy (holdB (s .clock))) (leasesOf t)
 
--- ---- 19. a house's leases stand in the file's order; what is unused is zero: octets past an identifier's length, a lease's lapse, records, settings entries,
+-- ---- 19. "A house's records rise by identifier, leases and holds together" (W-205); what is unused is zero: octets past an identifier's length, a lease's lapse, records, settings entries,
 -- shares and limits past the last house
 unfoldable pub zeroFrom : ℕ → List ℕ → Bool
 zeroFrom n l = allBy (λ x. eqb x 0) (drop n l)

@@ -49,7 +49,7 @@ lapsingAt t l = record {
 abbrev pub zeroLease : Lease
 zeroLease = leaseWith 0 0 (replicate 32 0) 0 0 0 0 0
 
--- the leases that one tenant's records stand for
+-- the leases and holds that one tenant's records stand for
 abbrev pub inUse : TenantLeases → List Lease
 inUse t = take (t .count) (t .leases)
 
@@ -117,7 +117,7 @@ differ a b = not (sameOf (idOf a) (idOf b))
 unfoldable pub byIdentifier : Lease → Lease → Bool
 byIdentifier a b = eqb (orderOf (idOf a) (idOf b)) 0
 
--- records rise: the first comes before the second. Nothing else says how records are ordered; that it decides is `rising` in laws/Sorted.antt
+-- records rise: the first comes before the second. "A house's records rise by identifier, leases and holds together" (document 02, W-205). Nothing else says how records are ordered; that it decides is `rising` in laws/Sorted.antt
 abbrev pub ordered : Lease → Lease → Bool
 ordered = byIdentifier
 

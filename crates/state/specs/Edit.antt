@@ -17,7 +17,7 @@ use Rattle.state.specs.Book.{Book, changedTo, zeroLease, zeroRelease, in
 abbrev pub noEdit : Edit
 noEdit = record { leaves = false; old = zeroLease; enters = false; new = zeroLease; forgets = false; remembers = false; release = zeroRelease }
 
--- "A new lease on the identifier forgets it" (document 02, W-202)
+-- "A new lease on the identifier forgets it" (document 02, W-202), and a hold "forgets its identifier's release" (W-205)
 abbrev pub entering : Lease → Edit
 entering l = record { leaves = false; old = zeroLease; enters = true; new = l; forgets = true; remembers = false; release = zeroRelease }
 
@@ -33,7 +33,7 @@ leaving o x c = record { leaves = true; old = o; enters = false; new = zeroLease
 abbrev pub droppingFirst : Lease → Edit → Edit
 droppingFirst o e = record { leaves = true; old = o; enters = e .enters; new = e .new; forgets = e .forgets; remembers = e .remembers; release = e .release }
 
--- o gives way to l, which is no new lease
+-- o gives way to l of the same identifier, of which no release is remembered
 abbrev pub givingWay : Lease → Lease → Edit
 givingWay o l = record { leaves = true; old = o; enters = true; new = l; forgets = false; remembers = false; release = zeroRelease }
 

@@ -215,13 +215,21 @@ fn is_held_elsewhere(s: State, m: Fields, old: Lease, there: bool) -> bool
     false
 }
 
+// A DISCOVER or REQUEST for a lease.
+fn is_leased_already(m: Fields, old: Lease, there: bool) -> bool
+    ensures { λ r. ⌜ r ≡ (isNew m && isLeased old there) ⌝ }
+{
+    if is_new(m) {
+        return is_leased(old, there);
+    }
+    false
+}
+
 fn is_held_already(s: State, m: Fields, old: Lease, there: bool) -> bool
     ensures { λ r. ⌜ r ≡ heldAlready s m old there ⌝ }
 {
-    if is_new(m) {
-        if is_leased(old, there) {
-            return true;
-        }
+    if is_leased_already(m, old, there) {
+        return true;
     }
     is_held_elsewhere(s, m, old, there)
 }

@@ -20,8 +20,8 @@ use Rattle.allocation.specs.Own.{grantIn}
 use Rattle.decision.specs.declared.Proposal.{Proposal}
 use Rattle.decision.specs.declared.Recorded.{Recorded}
 use Rattle.decision.specs.declared.Decided.{Decided}
-use Rattle.decision.specs.Parts.{isNew, leaseIdIn, holdsOf, recordedOf, dropsHold, scopePlace, startOf, endOf, askAt, fitsRenewed, renewedBy}
-use Rattle.decision.specs.Decide.{judgedOf}
+use Rattle.decision.specs.Parts.{isNew, hasPeriod, leaseIdIn, holdsOf, recordedOf, isForHold, dropsHold, scopePlace, startOf, endOf, askAt, fitsRenewed, renewedBy}
+use Rattle.decision.specs.Decide.{plainOf, settledOf, repeatedOf, droppedFirst, judgedOf}
 
 -- is there a record of the identifier i, and the record (an unused one where there is none)
 unfoldable pub recordedIn : List ℕ → List Lease → Recorded
@@ -59,6 +59,10 @@ proposalIn s own held h m l = pick (isNew m) (newIn s own held h m) (renewedIn s
 -- the tenant's records without the hold that the message drops. `held` still has its addresses: they are of another scope than the one asked for
 unfoldable pub broughtIn : List Lease → Fields → Lease → Bool → List Lease
 broughtIn own m o there = pick (dropsHold m o there) (removeOf (leaseIdIn m) own) own
+
+-- the last three branches of `judgedOf`, those past errors 1 to 3
+unfoldable pub pastErrors : State → Proposal → Fields → Lease → Bool → Decided
+pastErrors s p m o there = pick (isForHold s m o there) (repeatedOf m o) (pick (hasPeriod m) (droppedFirst (dropsHold m o there) o (settledOf s m o p)) (plainOf s m o))
 
 unfoldable pub decideIn : State → List Lease → List Release → HeldTable → ℕ → Fields → Decided
 decideIn s own q held h m =

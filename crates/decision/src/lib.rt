@@ -9,7 +9,7 @@ ghost use lib.ListN.{take};
 ghost use Rattle.state.specs.Book.{inUse, remembered};
 ghost use Rattle.state.specs.Edit.{entering, leaving};
 ghost use Rattle.decision.specs.Parts.{withLease, plainReply, nakWith, discardWith, refusalOf, dropsHold, heldFrom};
-ghost use Rattle.decision.specs.Gather.{recordedIn, proposalIn, broughtIn, decideIn};
+ghost use Rattle.decision.specs.Gather.{recordedIn, proposalIn, broughtIn, pastErrors, decideIn};
 ghost use Rattle.decision.specs.Decide.{unchanged, changed, leasedOf, plainOf, settledOf, repeatedOf, droppedFirst, judgedOf};
 ghost use Rattle.decision.specs.declared.Reply.the-variants.{Offer, LeaseAck, ReleaseAck, InfoAck};
 use crate::proposals::brought;
@@ -268,9 +268,11 @@ fn drop_before(drops: bool, old: Lease, d: Decided) -> Decided
     ensures { λ r. ⌜ r ≡ droppedFirst drops old d ⌝ }
 {
     if drops {
+        let v = d.verdict;
+        let e = d.edit;
         return Decided {
-            verdict: d.verdict,
-            edit: state::drop_first(old, d.edit),
+            verdict: v,
+            edit: state::drop_first(old, e),
         };
     }
     d
@@ -293,6 +295,27 @@ fn lease(
     let d = settle(s, m, old, p);
     let drops = drops_hold(m, old, there);
     drop_before(drops, old, d)
+}
+
+// What a message that has passed errors 1, 2 and 3 draws.
+fn answer(
+    s: State,
+    own: TenantLeases,
+    held: HeldTable,
+    h: usize,
+    m: Fields,
+    old: Lease,
+    there: bool,
+) -> Decided
+    ensures { λ r. ⌜ r ≡ pastErrors s (proposalIn s (broughtIn (inUse own) m old there) held h m old) m old there ⌝ }
+{
+    if is_for_hold(s, m, old, there) {
+        return repeat(m, old);
+    }
+    if has_period(m) {
+        return lease(s, own, held, h, m, old, there);
+    }
+    plain(s, m, old)
 }
 
 fn judge(
@@ -322,13 +345,7 @@ fn judge(
     if error_3(m, old, there) {
         return refuse(m, 3);
     }
-    if is_for_hold(s, m, old, there) {
-        return repeat(m, old);
-    }
-    if has_period(m) {
-        return lease(s, own, held, h, m, old, there);
-    }
-    plain(s, m, old)
+    answer(s, own, held, h, m, old, there)
 }
 
 fn look_up(own: TenantLeases, id: [u8; 32], len: u8) -> Recorded

@@ -4,7 +4,6 @@ use mathlib.Core.Bool.{Bool, true, false, not, _&&_, _||_}
 use mathlib.Core.List.{List}
 use lib.Dec.{ltb, eqb}
 use lib.ListN.{length}
-use Rattle.lists.specs.Pick.{pick}
 use Rattle.lists.specs.laws.Both.{and-le, and-not-le}
 use Rattle.lists.specs.laws.Pick.{pick-no, pick-yes}
 use Rattle.address_set.specs.AddressSet.{offsets}
@@ -32,9 +31,9 @@ use native.Mathlib.Omega.{arith}
 use Rattle.state.specs.declared.Edit.{Edit}
 use Rattle.decision.specs.declared.Decided.{Decided}
 use Rattle.decision.specs.declared.Recorded.{Recorded}
-use Rattle.decision.specs.Parts.{defaultLease, longestLease, skew, isNew, hasPeriod, resends, releasedAgain, error1Of, error2Of, scopePlace, knowsScope, lacksScope, lacksCurrent, skewed, error3Of, wishedOr, startOf, lengthOf, endOf, askAt, leaseIdIn, holdsOf, recordedOf, fitsRenewed, renewedBy, leaseFrom, tooShort, tooLate, meets, isLeased, scopeNumber, sameScope, isForHold, holdMeets, dropsHold, heldFrom}
-use Rattle.decision.specs.Gather.{recordedIn, newBy, newAtIn, newIn, renewedToIn, renewedIn, proposalIn, broughtIn, decideIn}
-use Rattle.decision.specs.Decide.{unchanged, changed, leasedOf, plainOf, settledOf, repeatedOf, droppedFirst, judgedOf}
+use Rattle.decision.specs.Parts.{defaultLease, longestLease, skew, isNew, resends, releasedAgain, error1Of, error2Of, scopePlace, knowsScope, lacksScope, lacksCurrent, skewed, error3Of, wishedOr, startOf, lengthOf, endOf, askAt, leaseIdIn, holdsOf, recordedOf, fitsRenewed, renewedBy, leaseFrom, tooShort, tooLate, meets, isLeased, scopeNumber, sameScope, holdMeets, dropsHold, heldFrom, withLease}
+use Rattle.decision.specs.Gather.{recordedIn, newBy, newAtIn, newIn, renewedToIn, renewedIn, proposalIn, broughtIn, pastErrors, decideIn}
+use Rattle.decision.specs.Decide.{unchanged, changed, leasedOf, settledOf, droppedFirst, judgedOf}
 
 -- ---- the lease, and the verdicts
 -- the type number of each reply: OFFER, ACK and NAK; 0 where none is sent
@@ -181,8 +180,9 @@ edited-as {v = v} e p = p ∙ ap (λ (x : Edit). changed x v) e
 pub entered-as : {l l′ : Lease} {e : Edit} → l ≡ l′ → e ≡ entering l → e ≡ entering l′
 entered-as p q = q ∙ ap entering p
 
-pub way-as : {o l l′ : Lease} {e : Edit} → l ≡ l′ → e ≡ givingWay o l → e ≡ givingWay o l′
-way-as {o = o} p q = q ∙ ap (givingWay o) p
+-- o gives way to a lease that a call gave
+pub gave-way : {o l l′ : Lease} {e : Edit} {r : Decided} → l ≡ l′ → e ≡ givingWay o l → r ≡ changed e (withLease LeaseAck l) → r ≡ changed (givingWay o l′) (withLease LeaseAck l′)
+gave-way {o = o} {l = l} p q e = e ∙ ap (λ (x : Edit). changed x (withLease LeaseAck l)) q ∙ ap (λ (x : Lease). changed (givingWay o x) (withLease LeaseAck x)) p
 
 -- a decision that a hold's drop precedes
 pub drop-before-is : (o : Lease) (d : Decided) (e : Edit) (v : Verdict) → e ≡ droppingFirst o (d .edit) → v ≡ d .verdict → _≡_ {A = Decided} (record { verdict = v; edit = e }) (changed (droppingFirst o (d .edit)) (d .verdict))
@@ -198,11 +198,10 @@ pub lease-is : (s : State) (own rest : List Lease) (held : HeldTable) (h : ℕ) 
 lease-is s own rest held h m o there drops p d r a b c e f =
     f ∙ ap₂ (λ (x : Bool) (y : Decided). droppedFirst x o y) e (c ∙ ap (settledOf s m o) (b ∙ ap (λ (x : List Lease). proposalIn s x held h m o) a))
 
--- a message that has passed the tests before a hold
+-- a message that has passed errors 1 to 3
 pub passed-on : (s : State) (p : Proposal) (q : List Release) (m : Fields) (o : Lease) (there : Bool) (r : Decided) {x a e1 e2 e3 : Bool} → x ≡ resends m o → x ≡ false → a ≡ releasedAgain s q m → a ≡ false
-    → e1 ≡ error1Of s m o there → e1 ≡ false → e2 ≡ error2Of s m → e2 ≡ false → e3 ≡ error3Of m o there → e3 ≡ false
-    → r ≡ pick (isForHold s m o there) (repeatedOf m o) (pick (hasPeriod m) (droppedFirst (dropsHold m o there) o (settledOf s m o p)) (plainOf s m o)) → r ≡ judgedOf s p q m o there
-unfolding judgedOf
+    → e1 ≡ error1Of s m o there → e1 ≡ false → e2 ≡ error2Of s m → e2 ≡ false → e3 ≡ error3Of m o there → e3 ≡ false → r ≡ pastErrors s p m o there → r ≡ judgedOf s p q m o there
+unfolding judgedOf pastErrors
 passed-on s p q m o there r x0 x1 a0 a1 b0 b1 c0 c1 d0 d1 e = pick-no _ _ r x0 x1 (pick-no _ _ r a0 a1 (pick-no _ _ r b0 b1 (pick-no _ _ r c0 c1 (pick-no _ _ r d0 d1 e))))
 
 pub decide-is : (s : State) (own : List Lease) (q : List Release) (held : HeldTable) (h : ℕ) (m : Fields) (o : Recorded) (r : Decided) → o ≡ recordedIn (leaseIdIn m) own

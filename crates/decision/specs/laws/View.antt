@@ -35,7 +35,7 @@ use Rattle.decision.specs.declared.Proposal.{Proposal}
 use Rattle.decision.specs.declared.Recorded.{Recorded}
 use Rattle.decision.specs.declared.Decided.{Decided}
 use Rattle.decision.specs.declared.Reply.the-variants.{LeaseAck, ReleaseAck}
-use Rattle.decision.specs.Parts.{isNew, fitsNew, ownOf, leaseIdIn, holdsOf, recordedOf, scopePlace, startOf, endOf, askAt, newWith, newAt, newOf, othersBusy, fitsRenewed, renewedBy, renewedTo, renewedOf, proposalOf, resends, releasedAgain, error1Of, error2Of, error3Of, hasPeriod, isHeld, isForHold, sameScope, scopeNumber, dropsHold, broughtBy, withLease, plainReply, refusalOf}
+use Rattle.decision.specs.Parts.{isNew, fitsNew, ownOf, leaseIdIn, recordedOf, scopePlace, startOf, endOf, askAt, newWith, newAt, newOf, othersBusy, fitsRenewed, renewedBy, renewedTo, renewedOf, proposalOf, resends, releasedAgain, error1Of, error2Of, error3Of, hasPeriod, isHeld, isForHold, sameScope, scopeNumber, dropsHold, broughtBy, withLease, plainReply, refusalOf}
 use Rattle.decision.specs.Gather.{recordedIn, newBy, otherIn, newAtIn, newIn, renewedToIn, renewedIn, proposalIn, broughtIn, decideIn}
 use Rattle.decision.specs.Decide.{unchanged, plainOf, settledOf, repeatedOf, droppedFirst, judgedOf, decideOf}
 use Rattle.decision.specs.laws.Cases.{new-type, held-there, drops-some, for-hold-by, oldFor, thereFor, without}

@@ -17,7 +17,7 @@ use Rattle.message.specs.Values.{fieldsOf}
 use Rattle.message.specs.Walk.{walkOf}
 use Rattle.message.specs.declared.Stage.the-variants.{Done}
 use Rattle.reply.specs.declared.Terms.{Terms}
-use Rattle.reply.specs.Reply.{leastRoom, leaseAckOf}
+use Rattle.reply.specs.Reply.{leastRoom, leaseAckOf, offerOf}
 use Rattle.reply.specs.Ranges.{addressesIn}
 use Rattle.state.specs.declared.Lease.{Lease}
 use Rattle.state.specs.declared.LeaseTable.{LeaseTable}
@@ -71,13 +71,6 @@ tenantFor b c = tenantOf (stateAt b c) (c .client)
 abbrev pub ownFor : Book → Call → List Lease
 ownFor b c = ownOf (tableAt b c) (tenantFor b c)
 
--- the record of the datagram's identifier, an unused one where there is none; and that it is no hold
-abbrev pub recordFor : Book → Call → Lease
-recordFor b c = recordedOf (ownFor b c) (saysOf b c)
-
-abbrev pub NoHold : Book → Call → Type 0
-NoHold b c = isHeld (recordFor b c) (holdsOf (ownFor b c) (saysOf b c)) ≡ false
-
 -- what is remembered of its releases
 abbrev pub releasesFor : Book → Call → List Release
 releasesFor b c = remembered (releasesAt (b .memory) (tenantFor b c))
@@ -85,6 +78,13 @@ releasesFor b c = remembered (releasesAt (b .memory) (tenantFor b c))
 -- what the datagram says
 abbrev pub saysOf : Book → Call → Fields
 saysOf b c = fieldsOf (c .datagram) (stateAt b c .server) (readOf (c .datagram) .message)
+
+-- the record of the datagram's identifier, an unused one where there is none; and that it is no hold
+abbrev pub recordFor : Book → Call → Lease
+recordFor b c = recordedOf (ownFor b c) (saysOf b c)
+
+abbrev pub NoHold : Book → Call → Type 0
+NoHold b c = isHeld (recordFor b c) (holdsOf (ownFor b c) (saysOf b c)) ≡ false
 
 -- the scope's place, and the scope
 abbrev pub placeFor : Book → Call → ℕ
@@ -155,7 +155,7 @@ leaseFor b c = leaseOfType 3 b c
 abbrev pub holdFor : Book → Call → Lease
 holdFor b c = lapsingAt (min (stateAt b c .clock + holdTime) (endFor b c)) (leaseOfType 1 b c)
 
--- what the ACK says: its Ranges are those of the grant's addresses
+-- what the ACK, or the OFFER, says: its Ranges are those of the grant's addresses
 abbrev pub termsFor : Book → Call → Terms
 termsFor b c = record {
   length = endFor b c - startFor b c;
@@ -316,8 +316,15 @@ unfoldable pub OfferRule : Type 0
 OfferRule = (b : Book) (c : Call) → Discovers c → NoHold b c → OfferedAs b c (serveOf b c) (serveOf b (requested c))
 
 -- ---- the offer is held (document 02, W-205)
+-- the hold that the OFFER to d left, or that it repeated: the record of d's identifier afterwards
+abbrev pub holdLeft : Book → Call → Lease
+holdLeft b d = recordedOf (ownOf (serveOf b d .book .table) (tenantFor b d)) (saysOf b d)
+
 -- "An OFFER now leaves a hold" among the tenant's records, which "forgets its identifier's release"; nothing else changes
 pub record LeavesHold (b : Book) (c : Call) (a : Answer) : Type 0 where
+  -- what is offered is what is held
+  pub reply : a .reply ≡ offerOf (headOf (stateAt b c) (saysOf b c)) (termsFor b c)
+  pub left : holdLeft b c ≡ holdFor b c
   pub state : a .book .state ≡ stateAt b c
   pub others : (g : ℕ) → (g ≡ tenantFor b c → ⊥) → ownOf (a .book .table) g ≡ ownOf (tableAt b c) g
   pub own : ownOf (a .book .table) (tenantFor b c) ≡ insertOf (holdFor b c) (ownFor b c)
@@ -334,16 +341,12 @@ OfferTaken = (b : Book) (c : Call) → SoundBook b → Discovers c → NoHold b 
 unfoldable pub Elsewhere : State → ℕ → List ℕ → Call → Type 0
 Elsewhere s h i c = tenantOf s (c .client) ≡ h → leaseIdIn (fieldsOf (c .datagram) (s .server) (readOf (c .datagram) .message)) ≡ i → ⊥
 
--- the hold that the OFFER to d left, or that it repeated
-abbrev pub holdLeft : Book → Call → Lease
-holdLeft b d = recordedOf (ownOf (serveOf b d .book .table) (tenantFor b d)) (saysOf b d)
-
 -- r, on a book w: "the same message as a REQUEST by the same house", "within its thirty seconds"
 pub record TakesUp (b : Book) (d : Call) (w : Book) (r : Call) : Type 0 where
   pub message : r .datagram ≡ asRequest (d .datagram)
   pub house : tenantFor w r ≡ tenantFor b d
   pub room : leastRoom ≤ r .room
-  -- the hold is live: its lapse is that of `holdFor`
+  -- the hold is live: of a new one the lapse is thirty seconds after the OFFER, or the period's end if that is sooner (`LeavesHold`)
   pub soon : stateAt w r .clock < holdLeft b d .lapse
   -- its Current Time, where it names one, is not too far from the clock by now: not error 2
   pub current : error2Of (stateAt w r) (saysOf w r) ≡ false

@@ -8,6 +8,7 @@ pub mod Replies
 pub mod Walked
 pub mod Answers
 pub mod Bounded
+mod Alike
 pub mod Offers
 pub mod Opened
 pub mod Specimens

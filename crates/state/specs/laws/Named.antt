@@ -1,5 +1,5 @@
 -- Laws: of a tenant's records, those of one identifier: where one stands, and what dropping, inserting, removing and editing do to them.
-use Prim.Native.Nat.{ℕ, suc}
+use Prim.Native.Nat.{ℕ, suc, _≤_, _<_}
 use mathlib.Core.Path.{_≡_, refl, sym, ap, ap₂, _∙_}
 use mathlib.Core.Bool.{Bool, true, false, not}
 use mathlib.Core.List.{List, [], _∷_, _++_, append-nil}
@@ -8,18 +8,21 @@ use lib.Dec.{eqb, ltb}
 use lib.ListN.{length}
 use borrow.Author.Tests.{ltb-true, ltb-false, lt-ltb, le-ltb}
 use Rattle.lists.specs.Pick.{pick}
+use Rattle.lists.specs.All.{pairsBy}
 use Rattle.lists.specs.Place.{placeBy}
 use Rattle.lists.specs.Filter.{filterBy}
 use Rattle.lists.specs.Arranged.{insertIn}
 use Rattle.lists.specs.laws.Filter.{filter-append}
+use Rattle.lists.specs.laws.Reordered.{reordered-filter, reordered-length}
 use Rattle.identifier.specs.Order.{orderOf, sameOf}
 use Rattle.identifier.specs.laws.Order.{order-refl, same-refl, same-true}
 use Rattle.state.specs.declared.Lease.{Lease}
 use Rattle.state.specs.declared.TenantLeases.{TenantLeases}
 use Rattle.state.specs.declared.Edit.{Edit}
-use Rattle.state.specs.Book.{byIdentifier, idOf, inUse, insertOf, insertedIn, laidOut, leaseAt, live, liveOf, named, ordered, other, placeOf, removeOf}
+use Rattle.state.specs.Book.{byIdentifier, differ, idOf, inUse, insertOf, insertedIn, laidOut, leaseAt, live, liveOf, named, ordered, other, placeOf, removeOf}
 use Rattle.state.specs.Edit.{editedIn, leftIn}
 use Rattle.state.specs.laws.Layout.{read-back}
+use Rattle.state.specs.laws.Sorted.{named-at, taken-out}
 
 -- ---- two tests, one after the other
 -- where all that pass n fare alike by u
@@ -73,6 +76,13 @@ place-some i (x ∷ ls) = go (named i x) (place-some i ls)
     go true ih = lt-ltb 0 (suc (length ls)) (omega arith) ∙ sym (lt-ltb 0 (suc (length (filterBy (named i) ls))) (omega arith))
     go false ih = next-less (placeOf i ls) (length ls) ∙ ih
 
+pub none-named : (i : List ℕ) (ls : List Lease) → ltb (placeOf i ls) (length ls) ≡ false → filterBy (named i) ls ≡ []
+none-named i ls e = none (filterBy (named i) ls) (ltb-false 0 _ (sym (place-some i ls) ∙ e))
+  where
+    none : (l : List Lease) → length l ≤ 0 → l ≡ []
+    none [] h = refl
+    none (x ∷ l) h = absurd (omega arith)
+
 -- ---- dropping
 pub named-live : (clock : ℕ) (i : List ℕ) (ls : List Lease) → filterBy (named i) (liveOf clock ls) ≡ liveOf clock (filterBy (named i) ls)
 unfolding liveOf filterBy pick
@@ -108,6 +118,24 @@ removed-other i j ls n = named-removed i j ls ∙ ap (λ (b : Bool). pick (not b
 pub removed-own : (i : List ℕ) (ls : List Lease) → filterBy (named i) (removeOf i ls) ≡ []
 unfolding pick
 removed-own i ls = named-removed i i ls ∙ ap (λ (b : Bool). pick (not b) (filterBy (named i) ls) []) (same-refl i)
+
+-- where identifiers differ, a record that has a place is the only one of its identifier
+pub one-named : (i : List ℕ) (ls : List Lease) → pairsBy differ ls ≡ true → placeOf i ls < length ls → filterBy (named i) ls ≡ leaseAt ls (placeOf i ls) ∷ []
+unfolding filterBy pick
+one-named i ls apart here = alone (filterBy (named i) ls) (reordered-length (reordered-filter (named i) (taken-out i ls apart here)) ∙ ap length only) ∙ ap {B = List Lease} (λ (x : Lease). x ∷ []) (sym (place-first i ls))
+  where
+    alone : (l : List Lease) → length l ≡ 1 → l ≡ leaseAt l 0 ∷ []
+    alone [] e = absurd (omega arith)
+    alone (x ∷ []) e = refl
+    alone (x ∷ y ∷ l) e = absurd (omega arith)
+
+    x : Lease
+    x = leaseAt ls (placeOf i ls)
+
+    only : filterBy (named i) (x ∷ removeOf i ls) ≡ x ∷ []
+    only =
+        ap (λ (k : List ℕ). pick (sameOf k i) (x ∷ filterBy (named i) (removeOf i ls)) (filterBy (named i) (removeOf i ls))) (named-at i ls here)
+        ∙ ap₂ (λ (b : Bool) (r : List Lease). pick b (x ∷ r) r) (same-refl i) (removed-own i ls)
 
 -- ---- inserting
 module _ (i : List ℕ) (l : Lease) (ls : List Lease) where

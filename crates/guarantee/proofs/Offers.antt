@@ -1,7 +1,7 @@
 -- Proof of the OFFER rule: a DISCOVER for an identifier without a hold draws an OFFER just if the same datagram as a REQUEST gets a new grant.
 use Prim.Native.Nat.{ℕ}
 use mathlib.Core.Path.{_≡_, refl, sym, ap, _∙_, subst}
-use mathlib.Core.Bool.{Bool, true, false, not, _||_}
+use mathlib.Core.Bool.{Bool, true, false, not, _&&_, _||_}
 use mathlib.Core.List.{List}
 use mathlib.Core.Logic.{_⊎_, inl, inr, ⊎-elim}
 use native.Mathlib.Omega.{arith}
@@ -21,14 +21,15 @@ use Rattle.state.specs.Book.{Book, placeOf, releasesAt, remembered, zeroLease}
 use Rattle.releases.specs.Whole.{bookB}
 use Rattle.soundness.specs.Sound.{tenantsIn}
 use Rattle.decision.specs.declared.Decided.{Decided}
-use Rattle.decision.specs.Decide.{decideOf, judgedOf, leasedOf, settledOf}
-use Rattle.decision.specs.Parts.{discardWith, early1Of, error1Of, heldAlready, holdsOf, isNew, leaseIdIn, ownOf, recordedOf, refusalOf, releasedAgain, resends, hasPeriod, nakWith, withLease}
-use Rattle.decision.specs.laws.Ensured.{asOffer, offered-as-requested, sentAs}
-use Rattle.guarantee.specs.Statement.{OfferRule, Discovers, NewlyGranted, OfferedAs, asRequest, bookAt, ownFor, requested, saysOf, stateAt, tableAt, tenantFor}
+use Rattle.decision.specs.Decide.{decideOf, leasedOf, settledOf}
+use Rattle.decision.specs.Parts.{discardWith, early1Of, holdsOf, isHeld, isNew, leaseIdIn, ownOf, recordedOf, refusalOf, releasedAgain, resends, hasPeriod, nakWith, withLease}
+use Rattle.decision.specs.laws.Ensured.{asOffer, decide-free, judgedFree, offered-as-requested, sentAs}
+use Rattle.guarantee.specs.Statement.{NoHold, OfferRule, Discovers, NewlyGranted, OfferedAs, asRequest, bookAt, ownFor, requested, saysOf, stateAt, tableAt, tenantFor}
 use Rattle.decision.specs.declared.Reply.{Reply}
 use Rattle.decision.specs.declared.Reply.the-variants.{LeaseAck, Nak}
 use Rattle.decision.specs.declared.Verdict.{Verdict}
 use Rattle.guarantee.proofs.Alike.{Alike, both-numbers, both-say, wordsOf}
+use Rattle.guarantee.proofs.Reached.{taken}
 use Rattle.server.specs.Serve.{Answer, Call, answered, atClock, byReply, discarded, forServer, headOf, replyOf, serveOf, termsOf, withReading}
 
 recorded-same : (own : List Lease) (m : Fields) → recordedOf own m ≡ recordedOf own (sentAs 3 m)
@@ -52,15 +53,14 @@ resent-held own m e = go (ltb (placeOf (leaseIdIn m) own) (length own)) refl
         let n : _≡_ {A = ℕ} 0 1 = cc in
         absurd (omega arith)
 
-picked : (b : Bool) (x y : Decided) → b ≡ true → pick b x y .verdict ≡ x .verdict
-unfolding pick
-picked b x y e = ap (λ (t : Bool). pick t x y .verdict) e
+-- of an identifier without a hold
+abbrev Free : LeaseTable → ℕ → Fields → Type 0
+Free t h m = isHeld (recordedOf (ownOf t h) m) (holdsOf (ownOf t h) m) ≡ false
 
-discovered-held : (s : State) (t : LeaseTable) (q : List Release) (h : ℕ) (m : Fields) → resends (sentAs 3 m) (recordedOf (ownOf t h) m) ≡ true → decideOf s t q h (sentAs 1 m) .verdict ≡ discardWith 8
-unfolding decideOf judgedOf resends releasedAgain sentAs refusalOf pick error1Of heldAlready isNew holdsOf
-discovered-held s t q h m e =
-    picked (error1Of s (sentAs 1 m) (holdsOf (ownOf t h) m)) _ _
-    (or-right (early1Of s (sentAs 1 m)) (resent-held (ownOf t h) m e))
+discovered-held : (s : State) (t : LeaseTable) (q : List Release) (h : ℕ) (m : Fields) → Free t h m → resends (sentAs 3 m) (recordedOf (ownOf t h) m) ≡ true → decideOf s t q h (sentAs 1 m) .verdict ≡ discardWith 8
+unfolding judgedFree resends releasedAgain sentAs refusalOf pick isNew recordedOf holdsOf
+discovered-held s t q h m free e =
+    ap (λ (d : Decided). d .verdict) (decide-free s t q h (sentAs 1 m) free ∙ taken (early1Of s (sentAs 1 m) || (true && holdsOf (ownOf t h) m)) _ _ (or-right (early1Of s (sentAs 1 m)) (resent-held (ownOf t h) m e)))
 
 -- ---- a REQUEST draws an ACK with a lease, or a NAK
 Drawn : Verdict → Type 0
@@ -69,17 +69,17 @@ Drawn v = ((v .outcome ≡ 0) × (v .reply ≡ LeaseAck)) ⊎ (v .reply ≡ Nak)
 never : {A : Type 0} → true ≡ false → A
 never e = let z : _≡_ {A = ℕ} 0 1 = cc in absurd (omega arith)
 
-request-draws : (s : State) (t : LeaseTable) (q : List Release) (h : ℕ) (m : Fields) → Drawn (decideOf s t q h (sentAs 3 m) .verdict)
-unfolding decideOf judgedOf releasedAgain settledOf leasedOf withLease refusalOf nakWith sentAs hasPeriod isNew Drawn
-request-draws s t q h m =
-    pick-cases P _ _ _ (λ _. inl (refl, refl))
+request-draws : (s : State) (t : LeaseTable) (q : List Release) (h : ℕ) (m : Fields) → Free t h m → Drawn (decideOf s t q h (sentAs 3 m) .verdict)
+unfolding judgedFree releasedAgain settledOf leasedOf withLease refusalOf nakWith sentAs hasPeriod isNew Drawn recordedOf holdsOf
+request-draws s t q h m free = subst P (sym (decide-free s t q h (sentAs 3 m) free))
+    (pick-cases P _ _ _ (λ _. inl (refl, refl))
     (λ _. pick-cases P (releasedAgain s q (sentAs 3 m)) _ _ (λ e. never (sym e))
     (λ _. pick-cases P _ _ _ (λ _. nak 1)
     (λ _. pick-cases P _ _ _ (λ _. nak 2)
     (λ _. pick-cases P _ _ _ (λ _. nak 3)
     (λ _. pick-cases P _ _ _
     (λ _. pick-cases P _ _ _ (λ _. nak 0) (λ _. pick-cases P (eqb 3 1) _ _ (λ e. never (sym e)) (λ _. pick-cases P (eqb 3 3) _ _ (λ _. inl (refl, refl)) (λ e. never e))))
-    (λ e. never e))))))
+    (λ e. never e)))))))
   where
     P : Decided → Type 0
     P d = Drawn (d .verdict)
@@ -170,13 +170,18 @@ module _ (b : Book) (c : Call) where
             let y = n .type in
             omega arith)
 
-    decided : Pair discovered asked
+    -- the identifier has no hold
+    none-held : NoHold b c → Free t h m
+    unfolding recordedOf holdsOf sentAs
+    none-held free = ap (λ (f : Fields). isHeld (recordedOf (ownOf t h) f) (holdsOf (ownOf t h) f)) (sym (k .discover)) ∙ free
+
+    decided : NoHold b c → Pair discovered asked
     unfolding resent
-    decided = go resent refl
+    decided free = go resent refl
       where
         go : (r : Bool) → resent ≡ r → Pair discovered asked
-        go true e = kept-back (discovered-held s t q h m e) (λ n. never (sym e ∙ sym new-is ∙ n .new))
-        go false e = by-reply e (offered-as-requested s t q h m e) (request-draws s t q h m)
+        go true e = kept-back (discovered-held s t q h m (none-held free) e) (λ n. never (sym e ∙ sym new-is ∙ n .new))
+        go false e = by-reply e (offered-as-requested s t q h m e (none-held free)) (request-draws s t q h m (none-held free))
 
     -- test 7 is passed
     as-discover : forServer (bookAt b c) h (wordsOf s (c .datagram)) ≡ discovered
@@ -187,19 +192,19 @@ module _ (b : Book) (c : Call) where
     unfolding forServer pick sentAs
     as-request = ap (forServer (bookAt b c) h) (k .request) ∙ ap (λ (o : Bool). pick (not o) (discarded 7 (bookAt b c)) asked) (k .ours)
 
-    served : Pair (forServer (bookAt b c) h (wordsOf s (c .datagram))) (forServer (bookAt b c) h (wordsOf s (asRequest (c .datagram))))
-    served =
+    served : NoHold b c → Pair (forServer (bookAt b c) h (wordsOf s (c .datagram))) (forServer (bookAt b c) h (wordsOf s (asRequest (c .datagram))))
+    served free =
         subst (λ (x : Answer). Pair x (forServer (bookAt b c) h (wordsOf s (asRequest (c .datagram))))) (sym as-discover)
-        (subst (λ (y : Answer). Pair discovered y) (sym as-request) decided)
+        (subst (λ (y : Answer). Pair discovered y) (sym as-request) (decided free))
 
-  offered : Discovers c → Pair (serveOf b c) (serveOf b (requested c))
+  offered : Discovers c → NoHold b c → Pair (serveOf b c) (serveOf b (requested c))
   unfolding serveOf atClock withReading
-  offered v =
+  offered v free =
       both (bookB b) _ _ _ _ _ refl
       (λ _. both (ltb (c .room) leastRoom) _ _ _ _ _ refl (λ _. out 2 b (λ z. omega arith))
       (λ _. both (ltb h (tenantsIn s)) _ _ _ _ _ refl
       (λ _. both (eqb (readOf (c .datagram) .discard) 0) (eqb (readOf (asRequest (c .datagram)) .discard) 0) _ _ _ _ (ap (λ (n : ℕ). eqb n 0) same)
-      (λ e. served (both-say s (c .datagram) (v .type) (eqb-true _ _ e) (v .alone)))
+      (λ e. served (both-say s (c .datagram) (v .type) (eqb-true _ _ e) (v .alone)) free)
       (λ e. neither _ _ (eqb-false (readOf (c .datagram) .discard) 0 e) (λ z. eqb-false (readOf (c .datagram) .discard) 0 e (same ∙ z))))
       (λ _. out 3 (bookAt b c) (λ z. omega arith))))
       (λ _. out 1 b (λ z. omega arith))
@@ -212,4 +217,4 @@ module _ (b : Book) (c : Call) where
 
 pub offer-rule : OfferRule
 unfolding OfferRule Pair
-offer-rule b c v = offered b c v
+offer-rule b c v free = offered b c v free

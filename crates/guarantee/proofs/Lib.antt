@@ -15,5 +15,6 @@ mod Alike
 pub mod Offers
 mod Drawn
 pub mod Taken
+pub mod AtOnce
 pub mod Opened
 pub mod Specimens

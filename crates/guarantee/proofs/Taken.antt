@@ -113,7 +113,7 @@ module _ (b : Book) (d : Call) (v : SoundBook b) (discovers : Discovers d) (offe
   pub alike : Alike s (d .datagram)
   alike = both-say s (d .datagram) (discovers .type) (reached .read) (discovers .alone)
 
-  discover : m .kind ≡ 1
+  pub discover : m .kind ≡ 1
   unfolding sentAs
   discover = ap (λ (f : Fields). f .kind) (alike .discover)
 
@@ -129,29 +129,29 @@ module _ (b : Book) (d : Call) (v : SoundBook b) (discovers : Discovers d) (offe
   pub S : Sound (stateAt b d) (leasesOf (tableAt b d))
   S = sound-lists s t (book-sound (bookAt b d) (now .sound))
 
-  there : h < length (t .tenants)
+  pub there : h < length (t .tenants)
   there = let e = now .tenants in let k = reached .house in omega arith
 
   -- ---- a new grant
   module _ (f : Fresh (stateAt b d) (tableAt b d) (tenantFor b d) (saysOf b d) (decidedFor (bookAt b d) (tenantFor b d) (saysOf b d))) where
-    ours : knowsScope s m ≡ true
+    pub ours : knowsScope s m ≡ true
     unfolding isNew
     ours = passed s m (recordedOf (ownOf t h) m) (holdsOf (ownOf t h) m) (f .error1) .scope (ap (λ (k : ℕ). eqb k 1 || eqb k 3) discover)
 
-    good : badCounts m ≡ false
+    pub good : badCounts m ≡ false
     good = passed s m (recordedOf (ownOf t h) m) (holdsOf (ownOf t h) m) (f .error1) .counts
 
-    left : proposed.Left s t h m S (reached .house) ours good
+    pub left : proposed.Left s t h m S (reached .house) ours good
     left = proposed.leaves s t h m S (reached .house) ours good (f .error0)
 
-    offers : leaseFrom m (newOf s t h m) ≡ leaseOfType 1 b d
+    pub offers : leaseFrom m (newOf s t h m) ≡ leaseOfType 1 b d
     offers = proposed.recorded s t h m S (reached .house) ours good discover (left .fits)
 
     decided : D ≡ changed (entering (holdFor b d)) (withLease Offer (leaseOfType 1 b d))
     unfolding heldFrom
     decided = f .is ∙ ap (λ (l : Lease). changed (entering (heldFrom (s .clock) l)) (withLease Offer l)) offers
 
-    fresh-served : serveOf b d ≡ answered (bookAt b d) h m (changed (entering (holdFor b d)) (withLease Offer (leaseOfType 1 b d)))
+    pub fresh-served : serveOf b d ≡ answered (bookAt b d) h m (changed (entering (holdFor b d)) (withLease Offer (leaseOfType 1 b d)))
     fresh-served = served ∙ ap (answered (bookAt b d) h m) decided
 
     fresh-waits : Waits s m (holdFor b d)
@@ -165,7 +165,7 @@ module _ (b : Book) (d : Call) (v : SoundBook b) (discovers : Discovers d) (offe
       early = or-none (early1Of s m) _ (f .error1) .0;
     }
 
-    fresh-own : ownOf (serveOf b d .book .table) h ≡ insertOf (holdFor b d) (ownOf t h)
+    pub fresh-own : ownOf (serveOf b d .book .table) h ≡ insertOf (holdFor b d) (ownOf t h)
     fresh-own = ap (λ (a : Answer). ownOf (a .book .table) h) fresh-served ∙ entered t h (holdFor b d) there (left .left)
 
     fresh-has : Has h i (holdFor b d) (serveOf b d .book .table)
@@ -177,7 +177,7 @@ module _ (b : Book) (d : Call) (v : SoundBook b) (discovers : Discovers d) (offe
     unfolding replyOf withLease
     fresh-reply = ap (λ (a : Answer). a .reply) fresh-served
 
-    fresh-leaves : Leaves b d (holdFor b d)
+    pub fresh-leaves : Leaves b d (holdFor b d)
     fresh-leaves = record { waits = fresh-waits; has = fresh-has; reply = fresh-reply }
 
     -- what is remembered of the tenant, but for the identifier
@@ -221,13 +221,13 @@ module _ (b : Book) (d : Call) (v : SoundBook b) (discovers : Discovers d) (offe
   offer-leaves = ⊎-elim (λ f. (holdFor b d, fresh-leaves f)) (λ f. (recordedOf (ownOf t h) m, again-leaves f)) comes
 
   -- without a hold it is a new one
-  pub new-hold : NoHold b d → LeavesHold b d (serveOf b d)
+  pub is-fresh : NoHold b d → Fresh s t h m D
   unfolding isHeld
-  new-hold free = ⊎-elim leaves-hold (λ f. no (sym (and-both (f .there) (f .waits .hold)) ∙ free)) comes
+  is-fresh free = ⊎-elim (λ f. f) (λ f. no (sym (and-both (f .there) (f .waits .hold)) ∙ free)) comes
 
 pub offer-holds : OfferHolds
 unfolding OfferHolds
-offer-holds b c v discovers free offered = new-hold b c v discovers offered free
+offer-holds b c v discovers free offered = leaves-hold b c v discovers offered (is-fresh b c v discovers offered free)
 
 -- the tenant's records after one has given way to another of its identifier
 gave-way : (t : LeaseTable) (h : ℕ) (o l : Lease) → h < length (t .tenants) → length (removeOf (idOf o) (ownOf t h)) < 16 → idOf l ≡ idOf o → Has h (idOf o) l (applied (givingWay o l) h t)

@@ -12,11 +12,12 @@ use Rattle.lists.specs.Pick.{pick}
 use Rattle.lists.specs.All.{All, allBy}
 use Rattle.state.specs.Book.{Book, laidReleases, releaseId, remembered, tableOf, zeroScope, idOf, leasesOf}
 use Rattle.server.specs.Serve.{Call, serveOf, Answer}
-use Rattle.guarantee.specs.Statement.{Demand3, Elsewhere, Granted, GrantedAsOffered, NewRequest, OfferHeld, SoundBook, TakesUp, run, Discovers, Narrow, Offered, OfferRule}
+use Rattle.guarantee.specs.Statement.{Demand3, Elsewhere, Granted, GrantedAsOffered, NewRequest, NoHold, OfferHeld, SoundBook, TakesUp, run, saysOf, tenantFor, Discovers, Narrow, Offered, OfferRule}
 use Rattle.state.specs.declared.Lease.{Lease}
 use Rattle.state.specs.declared.Release.{Release}
 use Rattle.state.specs.declared.TenantReleases.{TenantReleases}
 use Rattle.state.specs.laws.Layout.{table-back}
+use Rattle.decision.specs.Parts.{leaseIdIn}
 use Rattle.decision.specs.laws.Kept.{own-is}
 use Rattle.guarantee.proofs.Granted.{demand3}
 use Rattle.guarantee.proofs.Offers.{offer-rule}
@@ -227,6 +228,9 @@ takesUp time least = house1 time (request 3 0x42 least 3 [])
 abbrev pub wantsAll : ℕ → ℕ → Call
 wantsAll time x = house2 time (request x (0x40 + x) 1 4 [])
 
+abbrev pub between : List Call
+between = wantsAll 1001 1 ∷ wantsAll 1029 2 ∷ []
+
 -- the hold, and what house 2 then gets at 1001: .3
 abbrev pub hold3 : List ℕ
 hold3 = hold 1 0x42 3 1000 4600 7 1030
@@ -304,7 +308,7 @@ table =
     ∷ discards (house2 1000 (header 1 1 ++ identifier 0x41 ++ scope ++ option 14 (seconds 0x0E 0x11) ++ end)) 8
     -- W-205: house 2, which asks for all, gets what is not held; the offer is taken up at 1029, from its own start, whatever house 2 has asked for
     ∷ answers (d3 ∷ []) (wantsAll 1001 1) (ackAt (seconds 0x03 0xE9) 1 0x41 (seconds 0x0E 0x10) (seconds 0x03 0xE9) 3 1) (hold3 ++ lease2)
-    ∷ answers (d3 ∷ wantsAll 1001 1 ∷ wantsAll 1029 2 ∷ []) (takesUp 1029 2) (ackAt (seconds 0x04 0x05) 3 0x42 (seconds 0x0E 0x10) (seconds 0x03 0xE8) 0 3) (lease 1 0x42 3 3 1000 4600 7 ++ lease2)
+    ∷ answers (d3 ∷ between) (takesUp 1029 2) (ackAt (seconds 0x04 0x05) 3 0x42 (seconds 0x0E 0x10) (seconds 0x03 0xE8) 0 3) (lease 1 0x42 3 3 1000 4600 7 ++ lease2)
     -- at 1030 the hold has lapsed, and the REQUEST is judged anew: from 1030, and on what house 2 has left
     ∷ answers (d3 ∷ wantsAll 1001 1 ∷ []) (takesUp 1030 2) (ackAt (seconds 0x04 0x06) 3 0x42 (seconds 0x0E 0x10) (seconds 0x04 0x06) 0 3) (lease 1 0x42 3 3 1030 4630 7 ++ lease2)
     ∷ answers (d3 ∷ wantsAll 1001 1 ∷ wantsAll 1030 2 ∷ []) (takesUp 1030 2) (ackAt (seconds 0x04 0x06) 3 0x42 (seconds 0x0E 0x10) (seconds 0x04 0x06) 1 2)
@@ -453,28 +457,36 @@ pub discovers : Discovers (house2 1000 (discover 1 4))
 unfolding computed
 discovers = record { type = refl; alone = refl }
 
+pub free : NoHold book (house2 1000 (discover 1 4))
+unfolding computed
+free = refl
+
 -- the REQUEST would get a new grant, so the OFFER is drawn
 pub offered : Offered (serveOf book (house2 1000 (discover 1 4)))
 unfolding OfferRule computed
-offered = offer-rule book (house2 1000 (discover 1 4)) discovers refl .offers (record { outcome = refl; type = refl; new = refl })
+offered = offer-rule book (house2 1000 (discover 1 4)) discovers free .offers (record { outcome = refl; type = refl; new = refl })
 
 -- ---- and those of the held offer: house 1 takes up at 1029 what it was offered at 1000, though house 2 asked for all of it in between
+pub discovers3 : Discovers d3
+unfolding computed
+discovers3 = record { type = refl; alone = refl }
+
 pub offered3 : Offered (serveOf book d3)
 unfolding computed
 offered3 = record { outcome = refl; type = refl }
 
-pub others : All (Elsewhere (book .state) 0 (0 ∷ 0x42 ∷ [])) (wantsAll 1001 1 ∷ wantsAll 1029 2 ∷ [])
+pub others : All (Elsewhere (book .state) (tenantFor book d3) (leaseIdIn (saysOf book d3))) between
 unfolding All Elsewhere computed
 others = (λ e. absurd (omega arith), (λ e. absurd (omega arith), tt))
 
-pub takes : TakesUp book d3 (run (serveOf book d3 .book) (wantsAll 1001 1 ∷ wantsAll 1029 2 ∷ [])) (takesUp 1029 2)
+pub takes : TakesUp book d3 (run (serveOf book d3 .book) between) (takesUp 1029 2)
 unfolding computed
 takes = record { message = refl; house = refl; room = leb-true _ _ refl; soon = ltb-true _ _ refl; current = refl }
 
-held : GrantedAsOffered book d3 (run (serveOf book d3 .book) (wantsAll 1001 1 ∷ wantsAll 1029 2 ∷ [])) (takesUp 1029 2) (serveOf book d3)
-    (serveOf (run (serveOf book d3 .book) (wantsAll 1001 1 ∷ wantsAll 1029 2 ∷ [])) (takesUp 1029 2))
+held : GrantedAsOffered book d3 (run (serveOf book d3 .book) between) (takesUp 1029 2) (serveOf book d3)
+    (serveOf (run (serveOf book d3 .book) between) (takesUp 1029 2))
 unfolding OfferHeld computed
-held = offer-held book sound d3 (record { type = refl; alone = refl }) offered3 (wantsAll 1001 1 ∷ wantsAll 1029 2 ∷ []) others (takesUp 1029 2) takes
+held = offer-held book sound d3 discovers3 offered3 between others (takesUp 1029 2) takes
 
 -- ---- W-201: a book with bad names is unsound, before the room is looked at
 abbrev badly : Book

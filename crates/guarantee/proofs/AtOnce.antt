@@ -1,4 +1,4 @@
--- Proof that an offer which is taken up at once is as if the REQUEST alone had been sent.
+-- Proof of the claim that an offer which is taken up at once is as if the REQUEST alone had been sent.
 use Prim.Native.Nat.{ℕ, _≤_, _<_, max}
 use mathlib.Core.Path.{_≡_, refl, sym, ap, ap₂, _∙_, subst}
 use mathlib.Core.Bool.{Bool, true, false, not, _&&_, _||_}

@@ -39,7 +39,7 @@ abbrev F : Lease → Type 0
 F l = l .addresses < 2 ^ 64
 
 -- ---- lists of leases
-inserted : (l : Lease) (ls : List Lease) → F l → All F ls → All F (insertOf l ls)
+pub inserted : (l : Lease) (ls : List Lease) → F l → All F ls → All F (insertOf l ls)
 unfolding insertOf insertIn All
 inserted l ls f h = all-join F (filterBy (λ x. ordered x l) ls) (l ∷ filterBy (λ x. not (ordered x l)) ls) (all-filter F (λ x. ordered x l) ls h) (f, all-filter F (λ x. not (ordered x l)) ls h)
 

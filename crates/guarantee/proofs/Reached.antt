@@ -1,4 +1,4 @@
--- Laws: a call reaches the decision just where tests 1 to 7 pass, and the same calls leave the settings as they are.
+-- Laws: a call reaches the decision just where tests 1 to 7 pass.
 use Prim.Native.Nat.{_≤_, _<_}
 use mathlib.Core.Path.{_≡_, ap, _∙_}
 use mathlib.Core.Bool.{Bool, true, false, not, _&&_}

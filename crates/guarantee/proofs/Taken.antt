@@ -1,4 +1,4 @@
--- Proof that an offer is held: an OFFER leaves a hold that waits for its message, and a REQUEST takes it up.
+-- Proof of the claim that an offer is held: an OFFER leaves a hold that waits for its message, and a REQUEST takes it up.
 use Prim.Native.Nat.{ℕ, _+_, _-_, _≤_, _<_, min}
 use mathlib.Core.Path.{_≡_, refl, sym, ap, ap₂, _∙_, subst}
 use mathlib.Core.Bool.{Bool, true, false, not, _&&_, _||_}

@@ -50,6 +50,7 @@ fn read_form(file: &[u8]) -> Option<Book> {
         leases,
         names,
         releases,
+        holds: Vec::new(),
     };
     let in_order = leases_in_file_order(&book.leases) && releases_in_file_order(&book.releases);
     (octets.is_empty() && in_order && names_are_good(&book)).then_some(book)

@@ -7,6 +7,7 @@
 pub mod book;
 pub mod file;
 pub mod grant;
+pub mod holds;
 pub mod message;
 pub mod names;
 pub mod octets;
@@ -18,6 +19,7 @@ pub mod server;
 pub mod sound;
 
 pub use book::{Book, House, Lease, Quota, Scope};
+pub use holds::Hold;
 pub use names::{Name, ScopeNames};
 pub use releases::Release;
 pub use server::serve;

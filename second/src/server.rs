@@ -232,8 +232,7 @@ fn new_lease(book: &Book, call: &Call) -> Result<Lease, u16> {
     let length = options.u32(code::LEASE_TIME).unwrap_or(DEFAULT_LEASE);
     let period = Period::wanted(start, length, book.clock);
     let (start, end) = times_given(&period, book.clock, &call.options)?;
-    let records = book.leases.iter().filter(|lease| lease.house == call.house);
-    if records.count() >= RECORDS_OF_A_HOUSE {
+    if book.records_of(call.house) >= RECORDS_OF_A_HOUSE {
         return Err(CANNOT_GRANT);
     }
     let (least, desired) = options.number();
@@ -312,7 +311,7 @@ fn renew(book: &mut Book, call: &Call) -> Result<Vec<u8>, u16> {
     Ok(octets)
 }
 
-/// Whether a period overlaps that of another lease on one of the addresses of the lease at this place.
+/// Whether a period overlaps that of another lease or hold on one of the addresses of the lease at this place.
 fn overlaps_another(book: &Book, place: usize, period: &Period) -> bool {
     let lease = &book.leases[place];
     lease.offsets.iter().any(|&offset| {

@@ -212,6 +212,7 @@ fn fullest_book() -> Book {
         leases,
         names: vec![names; 4],
         releases,
+        holds: vec![],
     }
 }
 

@@ -272,7 +272,7 @@ fn more_than_32_768_octets_are_20() {
     assert_eq!(read(&file_of(32_767)), Err(21));
     assert_eq!(read(&file_of(32_768)), Err(21));
     assert_eq!(read(&file_of(32_769)), Err(20));
-    // Just 32,768 are judged as usual: with an octet in excess, or without its last one to three sections, a file is 20.
+    // Just 32,768 are judged as usual: with an octet in excess, or without its last section or more, a file is 20.
     let mut excess = file_of(32_767);
     excess.push(0);
     assert_eq!(read(&excess), Err(20));

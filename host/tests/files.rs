@@ -122,6 +122,7 @@ fn longest() -> Campus {
         scopes: (0..4).map(pool).collect(),
         leases: (0..128).map(lease).collect(),
         releases: (0..32).map(release).collect(),
+        holds: vec![],
     }
 }
 

@@ -40,6 +40,7 @@ fn settings(houses: u32, scopes: u32, names: usize) -> Campus {
         scopes: (0..scopes).map(scope).collect(),
         leases: vec![],
         releases: releases.map(release).collect(),
+        holds: vec![],
     }
 }
 

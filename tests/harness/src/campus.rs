@@ -23,6 +23,7 @@ pub fn sound(random: &mut Random) -> Campus {
         scopes: pools(random, scope_count, house_count),
         leases: Vec::new(),
         releases: Vec::new(),
+        holds: Vec::new(),
     };
     lend(&mut campus, random);
     releases::remember(&mut campus, random);

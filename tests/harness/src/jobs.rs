@@ -177,6 +177,7 @@ fn settings() -> Campus {
             .collect(),
         leases: Vec::new(),
         releases: Vec::new(),
+        holds: Vec::new(),
     }
 }
 

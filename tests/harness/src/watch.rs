@@ -23,7 +23,7 @@ const SEEN: [(&str, &str); 9] = [
     ("names", "0, 1"),
     (
         "releases",
-        "remembered, sent again, a new lease forgets it, a fifth forgets the oldest",
+        "remembered, sent again, a new lease forgets it, an offer forgets it, a fifth forgets the oldest",
     ),
     (
         "bounds",

@@ -8,6 +8,7 @@ pub mod campus;
 pub mod case;
 pub mod compare;
 pub mod damage;
+pub mod damage_holds;
 pub mod holds;
 pub mod jobs;
 pub mod judged;

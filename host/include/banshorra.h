@@ -6,9 +6,8 @@
    of stack: give a thread that calls 256 KiB at least.
    The scopes' names, the releases that are remembered and the offers that are held are the campus file's last three sections, so no function
    is given any. A GETINFO whose option 5 names 9 is sent, for each scope, the name chosen by the client's house and the language that it asks
-   for, or none. A RELEASE that is one of the last four of its house and is sent again less than 300 seconds later draws its ACK again. What a
-   DISCOVER is offered is held for thirty seconds, or up to the offered period's end if that is sooner: a DISCOVER changes the file too, so keep
-   it after every reply.
+   for, or none. A RELEASE that is one of the last four of its house and is sent again less than 300 seconds later draws its ACK again. An OFFER
+   is held for thirty seconds at most, so that the file has to be kept after it as after an ACK.
    "Document 01" is the campus's paper, "document 02" that of its changes; numbers of more than one octet stand high octet first in files,
    datagrams and lists. */
 #ifndef BANSHORRA_H

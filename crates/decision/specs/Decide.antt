@@ -1,5 +1,5 @@
 -- Definitions: document 01's decision "after test 7, in the order written, within an error too", for a book whose clock is raised and whose ended
--- leases are dropped: s is its state, b its leases, q the releases that are remembered of the client's tenant h (document 02, W-202), m what the message
+-- leases and lapsed holds are dropped: s is its state, b its records, q the releases that are remembered of the client's tenant h (document 02, W-202), m what the message
 -- says. It answers a verdict and an edit of what the tenant has; the book afterwards is `editedBook` of it.
 use Prim.Native.Nat.{ℕ}
 use mathlib.Core.Bool.{Bool}

@@ -56,7 +56,8 @@ unfoldable pub proposalIn : State → List Lease → HeldTable → ℕ → Field
 proposalIn s own held h m l = pick (isNew m) (newIn s own held h m) (renewedIn s own m l)
 
 -- ---- the decision: document 01's judgement of that
--- the tenant's records without the hold that the message drops. `held` still has its addresses: they are of another scope than the one asked for
+-- the tenant's records without the hold that the message drops. `held` still has its addresses: they are of another scope than the one asked for, but where the
+-- hold is in the same scope, and there `judgedOf` does not look at what is asked for
 unfoldable pub broughtIn : List Lease → Fields → Lease → Bool → List Lease
 broughtIn own m o there = pick (dropsHold m o there) (removeOf (leaseIdIn m) own) own
 

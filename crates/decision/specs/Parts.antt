@@ -130,8 +130,7 @@ unfoldable pub heldAlready : State → Fields → Lease → Bool → Bool
 heldAlready s m o there = (isNew m && isLeased o there) || (eqb (m .kind) 1 && (isHeld o there && not (sameScope s m o)))
 
 -- "an option that isn't allowed; DISCOVER or REQUEST whose scope is missing or not ours; Lease Time 0; least 0 or above desired;
--- 6 or 15 without 11;" "a Maximum Start Time before Start Time is error 1, after the test for 11" (W-203); "DISCOVER or REQUEST with an identifier the house
--- holds"
+-- 6 or 15 without 11;" "a Maximum Start Time before Start Time is error 1, after the test for 11" (W-203); and `heldAlready`
 unfoldable pub error1Of : State → Fields → Lease → Bool → Bool
 error1Of s m o there = early1Of s m || heldAlready s m o there
 
@@ -190,7 +189,7 @@ newOf s b h m = newAt s b h m (scopePlace s (m .scope .value))
 abbrev pub updated : LeaseTable → ℕ → List Lease → LeaseTable
 updated b h ls = putAt b h (laidOut ls)
 
--- RENEW: the addresses that other leases use in the new period
+-- RENEW: the addresses that other leases and holds use in the new period
 unfoldable pub othersBusy : LeaseTable → ℕ → Fields → ℕ → ℕ → ℕ → ℕ
 othersBusy b h m scope from to = busyIn scope from to (leasesOf (updated b h (removeOf (leaseIdIn m) (ownOf b h))))
 
@@ -213,7 +212,7 @@ unfoldable pub proposalOf : State → LeaseTable → ℕ → Fields → Lease �
 proposalOf s b h m l = pick (isNew m) (newOf s b h m) (renewedOf s b h m l)
 
 -- ---- document 02, W-203: "After the cut to the longest lease, a length below Minimum Lease Time can't be given, nor a start after Maximum Start Time". Asked
--- of a start, raised to the clock, and a length
+-- of a start and a length: those of what is asked for, raised and cut, or a hold's own
 unfoldable pub tooShort : Fields → ℕ → Bool
 tooShort m length = m .times .shortest .there && ltb length (m .times .shortest .value)
 

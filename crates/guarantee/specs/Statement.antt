@@ -341,7 +341,7 @@ OfferTaken = (b : Book) (c : Call) → SoundBook b → Discovers c → NoHold b 
 unfoldable pub Elsewhere : State → ℕ → List ℕ → Call → Type 0
 Elsewhere s h i c = tenantOf s (c .client) ≡ h → leaseIdIn (fieldsOf (c .datagram) (s .server) (readOf (c .datagram) .message)) ≡ i → ⊥
 
--- r, on a book w: "the same message as a REQUEST by the same house", "within its thirty seconds"
+-- r, on a book w: the same message as a REQUEST, by the same house, before the hold lapses
 pub record TakesUp (b : Book) (d : Call) (w : Book) (r : Call) : Type 0 where
   pub message : r .datagram ≡ asRequest (d .datagram)
   pub house : tenantFor w r ≡ tenantFor b d
@@ -364,12 +364,13 @@ heldTerms b d w r = record {
 pub record GrantedAsOffered (b : Book) (d : Call) (w : Book) (r : Call) (offer a : Answer) : Type 0 where
   pub outcome : a .outcome ≡ 0
   pub reply : a .reply ≡ leaseAckOf (headOf (stateAt w r) (saysOf w r)) (heldTerms b d w r)
-  -- "just the addresses offered", as the Ranges of both replies name them
+  -- just the addresses offered, as the Ranges of both replies name them
   pub names : addressesIn (a .reply) ≡ addressesIn (offer .reply)
   -- and the lease is recorded with them
   pub lease : recordedOf (ownOf (a .book .table) (tenantFor b d)) (saysOf b d) ≡ turned (saysOf w r) (holdLeft b d)
 
--- Presentation's wish: whatever others sent since the OFFER, and the house itself for other identifiers, at whatever times
+-- "Presentation gets an OFFER, asks the editor, and finds the addresses gone" no more: whatever others sent since the OFFER, and the house itself for other
+-- identifiers, at whatever times. A DISCOVER sent again meanwhile repeats the offer: take d to be the last
 unfoldable pub OfferHeld : Type 0
 OfferHeld =
     (b : Book) → SoundBook b → (d : Call) → Discovers d → Offered (serveOf b d)

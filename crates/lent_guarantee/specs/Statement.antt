@@ -89,7 +89,7 @@ pub record LentAnswered (l : Lent) (c : Call) (a : LentAnswer) : Type 0 where
   -- "Discards 1 and 2 change nothing"
   pub untouched : a .outcome ≡ 1 → (a .ledger ≡ l .ledger) × (a .leases ≡ l .leases)
   pub untouched-too : a .outcome ≡ 2 → (a .ledger ≡ l .ledger) × (a .leases ≡ l .leases)
-  -- the others set the clock and drop ended leases; 3 to 8 do no more
+  -- the others set the clock and drop ended leases and lapsed holds; 3 to 8 do no more
   pub advances : 3 ≤ a .outcome → (a .ledger ≡ ledgerOf (bookAt (bookOf l) c)) × (a .leases ≡ recordsOf (bookAt (bookOf l) c .table))
   -- another number of records makes the book unsound
   pub other : (length (l .leases) ≡ 128 → ⊥) → a .outcome ≡ 1

@@ -88,10 +88,6 @@ pub held-there : (o : Lease) (there : Bool) → isHeld o there ≡ true → ther
 unfolding isHeld
 held-there o there e = and-parts there (isHold o) e .0
 
-pub held-hold : (o : Lease) (there : Bool) → isHeld o there ≡ true → isHold o ≡ true
-unfolding isHeld
-held-hold o there e = and-parts there (isHold o) e .1
-
 -- what error 0 leaves
 pub inside : (s : State) (m : Fields) (p : Proposal) → error0Of s m p ≡ false → (p .end ≤ 4294967295) × (p .fits ≡ true)
 unfolding error0Of

@@ -1,19 +1,18 @@
 -- Laws: plain facts that a sound book gives: of its counts, of a scope and of a lease.
 use Prim.Native.Nat.{ℕ, zero, suc, _≤_, _<_}
-use mathlib.Core.Path.{_≡_, refl}
-use mathlib.Core.Bool.{Bool, true, false, _&&_, _||_}
+use mathlib.Core.Path.{_≡_}
+use mathlib.Core.Bool.{Bool, true, _&&_}
 use mathlib.Core.List.{List, [], _∷_}
-use mathlib.Core.Logic.{_⊎_, inl, inr}
 use native.Mathlib.Omega.{arith}
-use lib.Dec.{ltb, leb, eqb}
+use lib.Dec.{ltb, leb}
 use lib.ListN.{length, getD}
-use borrow.Author.Tests.{leb-true, ltb-true, eqb-true}
+use borrow.Author.Tests.{leb-true, ltb-true}
 use Rattle.lists.specs.All.{allBy}
 use Rattle.lists.specs.laws.All.{all-head}
 use Rattle.lists.specs.laws.Both.{and-parts}
 use Rattle.state.specs.declared.Lease.{Lease}
 use Rattle.state.specs.declared.State.{State}
-use Rattle.state.specs.Book.{live, scopesOf}
+use Rattle.state.specs.Book.{scopesOf}
 use Rattle.soundness.specs.Sound.{oneTo, scopesIn, sizeB, idB, countsB, scopeKnown, offsetsB, kindB, periodB, leaseB, paddedB, holdB}
 use Rattle.soundness.specs.laws.Book.{leaseOk, Sound, settings-front}
 use Rattle.soundness.specs.laws.Added.{each-at}

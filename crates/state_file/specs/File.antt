@@ -1,16 +1,14 @@
 -- Definitions: the state file ("campus file" in documents 01 and 02): its values and its format, section by section. Its lists have any length: what
 -- the records cannot hold is still a file, and unsound. A tenant is document 01's house.
-use mathlib.Core.Bool.{Bool, false, true}
-use mathlib.Core.List.{List, []}
+use mathlib.Core.List.{List}
 use Prim.Native.Nat.{ℕ}
-use lib.Dec.{eqb, leb, ltb}
+use lib.Dec.{leb}
 use lib.ListN.{length}
-use Rattle.address_set.specs.AddressSet.{rises}
-use Rattle.identifier.specs.Order.{orderOf}
 use Rattle.lists.specs.Pick.{pick}
 use Rattle.state.specs.declared.ClientRange.{ClientRange}
-use Rattle.format.specs.Format.{Format, Got, _⊗_, _▷_, after, bad, closed, counted, number, octet, only, times, viewed}
-use Rattle.format.specs.Section.{sectionFormat, verbatim}
+use Rattle.format.specs.Format.{Format, Got, _⊗_, _▷_, after, bad, closed, counted, number, octet, times, viewed}
+use Rattle.format.specs.Section.{verbatim}
+use Rattle.lease_file.specs.Section.{FileHold, FileLease, holdsFormat, leasesFormat}
 use Rattle.names.specs.Names.{namesFormat}
 use Rattle.release_file.specs.Section.{FileRelease, releasesFormat}
 
@@ -25,21 +23,6 @@ pub record FileScope : Type 0 where
   pub ttl : ℕ
   pub parts : List FilePart
 
-pub record FileLease : Type 0 where
-  pub tenant : ℕ
-  pub scope : ℕ
-  pub id : List ℕ
-  pub kind : ℕ
-  pub xid : ℕ
-  pub start : ℕ
-  pub end : ℕ
-  pub offsets : List ℕ
-
--- document 02, W-205: a hold, "laid out .. as leases, the lapse time(4) last"
-pub record FileHold : Type 0 where
-  pub lease : FileLease
-  pub lapse : ℕ
-
 pub record File : Type 0 where
   pub server : ℕ
   pub clock : ℕ
@@ -53,17 +36,6 @@ pub record File : Type 0 where
   -- document 02, W-205
   pub holds : List FileHold
 
--- tenant t with identifier a is after tenant u with identifier b: by tenant, then by identifier
-unfoldable pub isAfter : ℕ → List ℕ → ℕ → List ℕ → Bool
-isAfter t a u b = pick (ltb t u) false (pick (ltb u t) true (eqb (orderOf a b) 2))
-
--- what of a lease the next is compared with, and whether a lease is out of order after that
-abbrev pub leaseKey : FileLease → ℕ × List ℕ
-leaseKey x = (x .tenant, x .id)
-
-abbrev pub leaseAfter : ℕ × List ℕ → FileLease → Bool
-leaseAfter k x = isAfter (k .0) (k .1) (x .tenant) (x .id)
-
 abbrev pub tenantFormat : Format ClientRange
 tenantFormat = viewed (λ p. record { low = p .0; high = p .1 }) (λ t. (t .low, t .high)) (number ⊗ number)
 
@@ -75,35 +47,6 @@ abbrev pub scopeFormat : ℕ → Format FileScope
 scopeFormat n =
     viewed (λ p. record { lowest = p .0; size = p .1 .0; ttl = p .1 .1 .0; parts = p .1 .1 .1 }) (λ s. (s .lowest, (s .size, (s .ttl, s .parts))))
     (number ⊗ octet ⊗ octet ⊗ times n partFormat)
-
--- the parts of a lease in the file's order, and the lease of its parts
-abbrev pub LeaseParts : Type 0
-LeaseParts = ℕ × (ℕ × (List ℕ × (ℕ × (ℕ × (ℕ × (ℕ × List ℕ))))))
-
-abbrev pub ofParts : LeaseParts → FileLease
-ofParts p = record { tenant = p .0; scope = p .1 .0; id = p .1 .1 .0; kind = p .1 .1 .1 .0; xid = p .1 .1 .1 .1 .0; start = p .1 .1 .1 .1 .1 .0; end = p .1 .1 .1 .1 .1 .1 .0; offsets = p .1 .1 .1 .1 .1 .1 .1 }
-
-abbrev pub toParts : FileLease → LeaseParts
-toParts l = (l .tenant, (l .scope, (l .id, (l .kind, (l .xid, (l .start, (l .end, l .offsets)))))))
-
-abbrev pub leaseFormat : Format FileLease
-leaseFormat = viewed ofParts toParts (octet ⊗ octet ⊗ counted octet ⊗ octet ⊗ number ⊗ number ⊗ number ⊗ only rises (counted octet))
-
-abbrev pub leasesFormat : Format (List FileLease)
-leasesFormat = sectionFormat leaseKey leaseAfter (0, []) leaseFormat
-
--- "a last section for holds, laid out and ordered as leases, the lapse time(4) last" (document 02, W-205)
-abbrev pub holdKey : FileHold → ℕ × List ℕ
-holdKey x = leaseKey (x .lease)
-
-abbrev pub holdAfter : ℕ × List ℕ → FileHold → Bool
-holdAfter k x = leaseAfter k (x .lease)
-
-abbrev pub holdFormat : Format FileHold
-holdFormat = viewed (λ p. record { lease = p .0; lapse = p .1 }) (λ x. (x .lease, x .lapse)) (leaseFormat ⊗ number)
-
-abbrev pub holdsFormat : Format (List FileHold)
-holdsFormat = sectionFormat holdKey holdAfter (0, []) holdFormat
 
 -- the sections in the file's order, and the file of its sections
 abbrev pub Sections : Type 0

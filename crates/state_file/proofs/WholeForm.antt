@@ -261,5 +261,3 @@ pub octets-bound : (n z : ℕ) → n < 256 → z < 600 → n * z < 200000
 octets-bound n z h g = let l : n * z ≤ 255 * 599 = mul-le-mul (let a : n ≤ 255 = omega arith in a) (let b : z ≤ 599 = omega arith in b) in omega arith
 
 pub ruleset forms = (form-long, form-short, form-tag, form-tenants, form-scopes, form-leases, form-first)
-
-pub ruleset lastForms = (form-names, form-releases, form-holds, form-over, form-right, first-inside)

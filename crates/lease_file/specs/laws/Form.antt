@@ -22,7 +22,7 @@ use Rattle.lists.specs.Pick.{pick}
 use Rattle.lists.specs.laws.Pick.{pick-lt, pick-not-lt}
 use Rattle.octets.specs.Octets.{at32, octets32}
 use Rattle.lease_file.specs.Place.{EntryEndsAt, SectionEndsAt, afterEntry, afterLease, entryAt, fileLeaseAt, tailOf}
-use Rattle.lease_file.specs.Section.{Entry, FileLease, entryAfter, entryFormat, entryKey, holdFormat, isAfter, leaseFormat, leaseIn, leaseKey, ofParts, toParts}
+use Rattle.lease_file.specs.Section.{Entry, FileLease, entryAfter, entryFormat, entryKey, isAfter, leaseFormat, leaseIn, leaseKey, ofParts, toParts}
 use Rattle.lease_file.specs.laws.Section.{hold-lawful, lease-lawful}
 
 -- what the octets of a lease say of its lengths, with n octets behind it
@@ -221,8 +221,3 @@ pub ruleset entryWalk = (entries-none, entries-start, entries-inside, lease-in, 
 pub tail-four : (holds : Bool) → holds ≡ true → tailOf holds ≡ 4
 unfolding tailOf pick
 tail-four holds e = ap tailOf e
-
-pub tail-most : (holds : Bool) → tailOf holds ≤ 4
-unfolding tailOf pick
-tail-most true = omega arith
-tail-most false = omega arith

@@ -5,12 +5,11 @@ use mathlib.Core.Path.{_∙_, _≡_, ap, ap₂, refl, sym}
 use Prim.Native.Nat.{_+_, _-_, _<_, _≤_, min, suc, zero, ℕ}
 use native.Mathlib.Omega.{arith}
 use lib.ListN.{drop, getD, length, length-map, replicate, set, take}
-use lib.Seq.{take-all}
 use borrow.Author.Tests.{leb-true}
 use Rattle.address_set.specs.AddressSet.{readOffsets}
 use Rattle.format.specs.Tenants.{apart, own}
 use Rattle.format.specs.laws.Entries.{kept-laid, tenant-end, tenant-start}
-use Rattle.lists.specs.All.{All, allBy, allTo}
+use Rattle.lists.specs.All.{allBy, allTo}
 use Rattle.lists.specs.Pick.{pick}
 use Rattle.lists.specs.Row.{laidRow}
 use Rattle.lists.specs.laws.All.{to-each}

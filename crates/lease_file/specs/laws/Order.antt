@@ -6,7 +6,7 @@ use mathlib.Core.Path.{_∙_, _≡_, ap, refl, sym}
 use Prim.Native.Nat.{_<_, _≤_, ℕ}
 use native.Mathlib.Omega.{arith}
 use lib.Dec.{eqb, ltb}
-use borrow.Author.Tests.{eq-eqb, eqb-false, eqb-true, ltb-false, ltb-true, ne-eqb, not-true}
+use borrow.Author.Tests.{eqb-false, eqb-true, ltb-false, ltb-true, ne-eqb, not-true}
 use Rattle.format.specs.Section.{orderedFrom}
 use Rattle.format.specs.Tenants.{own}
 use Rattle.format.specs.laws.Tenants.{Sorted, only-none}

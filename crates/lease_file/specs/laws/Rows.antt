@@ -1,10 +1,9 @@
 -- Laws: writing: the octets of an entry piece by piece, of a tenant's and of all entries, and how many there are.
-use mathlib.Core.Bool.{Bool, false, not, true}
+use mathlib.Core.Bool.{Bool, false, true}
 use mathlib.Core.List.{List, [], _++_, _∷_, append-assoc, append-nil, map, map-map}
-use mathlib.Core.Path.{_∙_, _≡_, ap, ap₂, refl, subst, sym}
+use mathlib.Core.Path.{_∙_, _≡_, ap, ap₂, refl, sym}
 use Prim.Native.Nat.{_+_, _<_, _≤_, min, suc, zero, ℕ}
 use native.Mathlib.Omega.{arith}
-use lib.Dec.{eqb}
 use lib.ListN.{getD, length, length-append, take}
 use lib.Seq.{take-all, take-suc}
 use Rattle.address_set.specs.AddressSet.{offsets}

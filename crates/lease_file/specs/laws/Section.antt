@@ -1,5 +1,4 @@
 -- Laws: the formats of both sections are lawful: what is read is what would be written, and what is written is read again.
-use mathlib.Core.Bool.{Bool, false, true}
 use mathlib.Core.List.{[]}
 use mathlib.Core.Path.{refl}
 use Rattle.address_set.specs.AddressSet.{rises}

@@ -1,6 +1,6 @@
 //! A call that is asked on a campus, by its octets alone: what releases, holds and the bounds of a period have due of it is read off this.
 
-use crate::{LONGEST_LEASE, SKEW};
+use crate::{DEFAULT_LEASE, LONGEST_LEASE, SKEW};
 use builder::*;
 
 /// A call whose client has a house and whose options are laid out.
@@ -123,10 +123,10 @@ impl<'a> Asked<'a> {
         }
     }
 
-    /// The wished length, cut, and start, raised, of a DISCOVER or REQUEST.
+    /// The start, raised, and the length, cut, that a DISCOVER or REQUEST wishes.
     pub fn wished(&self) -> (u32, u32) {
         let start = self.number(6).unwrap_or(self.clock).max(self.clock);
-        let length = self.number(1).unwrap_or(crate::DEFAULT_LEASE);
+        let length = self.number(1).unwrap_or(DEFAULT_LEASE);
         (start, length.min(LONGEST_LEASE))
     }
 

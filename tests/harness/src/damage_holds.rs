@@ -19,7 +19,7 @@ pub fn with_hold(
     ordered(campus)
 }
 
-/// A hold whose period, lapse or type is another, by the clock.
+/// The same for a change that goes by the clock.
 pub fn with_times(
     random: &mut Random,
     campus: Campus,
@@ -140,7 +140,7 @@ fn records_of(campus: &Campus, house: u8) -> (usize, usize) {
     (leases.count(), holds.count())
 }
 
-/// Turns leases of a house that end after the clock into holds, or holds into leases, so that it has this many leases and holds.
+/// Gives a house without holds more leases, and turns some into holds, so that it has this many of both.
 fn bring_to(
     random: &mut Random,
     campus: &mut Campus,
@@ -202,8 +202,8 @@ pub fn all_128(random: &mut Random, campus: Campus) -> Option<Vec<u8>> {
 }
 
 /// A hold on an address of a record like this, a second of which is in both periods.
-pub fn overlaps(random: &mut Random, mut campus: Campus, of_lease_: bool) -> Option<Vec<u8>> {
-    let other = match of_lease_ {
+pub fn overlaps(random: &mut Random, mut campus: Campus, is_lease: bool) -> Option<Vec<u8>> {
+    let other = match is_lease {
         true => campus.leases[place(random, &campus.leases)?].clone(),
         false => campus.holds[place(random, &campus.holds)?].lease.clone(),
     };
@@ -248,9 +248,9 @@ fn add(random: &mut Random, campus: &mut Campus, of: &Lease, period: (u32, u32))
 }
 
 /// An address of another house's lease or hold, at another time. Shares and limits are made to allow it.
-pub fn two_houses(random: &mut Random, mut campus: Campus, of_lease: bool) -> Option<Vec<u8>> {
+pub fn two_houses(random: &mut Random, mut campus: Campus, is_lease: bool) -> Option<Vec<u8>> {
     let hold = campus.holds[place(random, &campus.holds)?].clone();
-    let other = match of_lease {
+    let other = match is_lease {
         true => campus.leases[place(random, &campus.leases)?].clone(),
         false => campus.holds[place(random, &campus.holds)?].lease.clone(),
     };

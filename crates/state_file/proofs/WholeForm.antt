@@ -260,4 +260,4 @@ names-inside s k h u f = ends-in (ends-at u f) .1
 pub octets-bound : (n z : ℕ) → n < 256 → z < 600 → n * z < 200000
 octets-bound n z h g = let l : n * z ≤ 255 * 599 = mul-le-mul (let a : n ≤ 255 = omega arith in a) (let b : z ≤ 599 = omega arith in b) in omega arith
 
-pub ruleset forms = (form-long, form-short, form-tag, form-tenants, form-scopes, form-leases, form-first)
+pub ruleset forms = (form-long, form-short, form-tag, form-tenants, form-scopes)

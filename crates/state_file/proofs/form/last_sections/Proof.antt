@@ -1,4 +1,4 @@
--- `last_sections` meets its contract: by `lastForms`.
+-- `last_sections` meets its contract: the law of each section.
 use Rattle.state_file.proofs.WholeForm.{first-inside, form-holds, form-names, form-over, form-releases, form-right, names-inside}
 use borrow.Author.Needs.{needs}
 use Rattle.state_file.proofs.form.last_sections.Statement.{statement}

@@ -176,7 +176,7 @@ unfoldable pub rule12 : State → LeaseTable → Bool
 rule12 s t = allTo (committedB s t) (scopesIn s)
 
 -- ---- 13. (document 02, W-205) "a hold is unsound unless it has type 1 and lapses after the clock, at most thirty seconds after it, and not after its period's
--- end"; what has type 1 is a hold, and that what stands among a file's holds has it is `holdFitB` of state_file
+-- end"; what has type 1 is a hold, and that what stands among a file's holds has it is `holdFitB` of lease_file
 unfoldable pub lapseB : ℕ → Lease → Bool
 lapseB clock l = ltb clock (l .lapse) && (leb (l .lapse) (clock + holdTime) && leb (l .lapse) (l .end))
 

@@ -17,8 +17,8 @@ const fn address(a: u8, b: u8, c: u8, d: u8) -> u32 {
     Ipv4Addr::new(a, b, c, d).to_bits()
 }
 
-/// Two houses, two scopes, one lease, one release that is remembered. The small scope has names for the campus, of which the English one
-/// is the default, and house 2 has one of its own for it; the large one has no names.
+/// Two houses, two scopes, one lease, one release that is remembered, one offer that is held. The small scope has names for the campus, of
+/// which the English one is the default, and house 2 has one of its own for it; the large one has no names.
 fn campus() -> Vec<u8> {
     let scope = |lowest, size, ttl, parts: [(u8, u8); 2], names| Scope {
         lowest,
@@ -51,6 +51,18 @@ fn campus() -> Vec<u8> {
         transaction: 0x00C0_FFED,
         time: CLOCK - 120,
     };
+    let hold = Hold {
+        lease: Lease {
+            identifier: b"\0L2".to_vec(),
+            kind: DISCOVER,
+            transaction: 0x00C0_FFEF,
+            start: CLOCK - 10,
+            end: CLOCK + 3590,
+            offsets: vec![2],
+            ..lease.clone()
+        },
+        lapse: CLOCK + 20,
+    };
     Campus {
         server: SERVER,
         clock: CLOCK,
@@ -64,6 +76,7 @@ fn campus() -> Vec<u8> {
         ],
         leases: vec![lease],
         releases: vec![release],
+        holds: vec![hold],
     }
     .octets()
 }
@@ -73,12 +86,14 @@ fn campus() -> Vec<u8> {
 fn calls() -> Vec<(u32, u32, Vec<u8>, u16)> {
     let (one, two, stranger) = (address(10, 0, 1, 5), address(10, 0, 2, 200), address(192, 168, 7, 7));
     let (a, b, c): (&[u8], &[u8], &[u8]) = (b"\0A", b"\0B", b"\0C");
+    let (d, e): (&[u8], &[u8]) = (b"\0D", b"\0E");
     let message = |kind: u8, transaction: u32, of: &[u8], options: &[Coded]| {
         Message::new(kind, transaction, [&[identifier(of)], options].concat()).octets()
     };
     let requested = message(REQUEST, 3, a, &[server_identifier(SERVER), scope(SMALL), number(1, 2), lease_time(3600)]);
     let released = message(RELEASE, 7, a, &[]);
     let info = |transaction, options: &[Coded]| message(GETINFO, transaction, c, options);
+    let two_small = message(REQUEST, 33, d, &[scope(SMALL), number(2, 2)]);
     vec![
         // GETINFO asking for the scope list and the time: the default name
         (10, one, message(GETINFO, 1, a, &[option_request_list(&[9, 11])]), 512),
@@ -87,13 +102,27 @@ fn calls() -> Vec<(u32, u32, Vec<u8>, u16)> {
         (12, two, message(GETINFO, 22, a, &[option_request_list(&[9]), requested_language(b"de")]), 512),
         // a RELEASE of before the file was written, sent again
         (15, two, message(RELEASE, 0x00C0_FFED, b"\0L0", &[]), 512),
+        // a REQUEST of what was offered before the file was written: the hold becomes the lease, with its period
+        (19, two, message(REQUEST, 23, b"\0L2", &[scope(LARGE)]), 512),
         // DISCOVER, then a REQUEST of what was offered, and the same REQUEST again: a Resend
         (20, one, message(DISCOVER, 2, a, &[scope(SMALL), number(1, 2), lease_time(3600)]), 512),
         (21, one, requested.clone(), 512),
         (25, one, requested, 512),
+        // DISCOVER, and again: the offer that is held, until thirty seconds after the first
+        (40, one, message(DISCOVER, 31, e, &[scope(SMALL)]), 512),
+        (50, one, message(DISCOVER, 32, e, &[scope(SMALL), number(1, 2)]), 512),
+        // error 0: what is held isn't there for house 2; error 3: a hold is no lease
+        (55, two, two_small.clone(), 512),
+        (60, one, message(RENEW, 34, e, &[]), 512),
+        // a REQUEST in another scope drops the hold, although error 0 refuses it: nine are above the limit. So house 2 gets its two
+        (65, one, message(REQUEST, 35, e, &[scope(LARGE), number(9, 9)]), 512),
+        (66, two, two_small, 512),
+        // an offer that lapses before it is asked for: the REQUEST is judged as new, from its own time on
+        (70, one, message(DISCOVER, 36, e, &[scope(LARGE), number(3, 3)]), 512),
+        (100, one, message(REQUEST, 37, e, &[scope(LARGE), number(3, 3)]), 512),
         // RENEW for two hours, with Features
         (600, one, message(RENEW, 4, a, &[lease_time(7200), features([&[1], &[], &[]])]), 512),
-        // house 2 from an hour on: its own three addresses, which are free then, and one more
+        // house 2 from an hour on: its own four addresses, which are free then
         (700, two, message(REQUEST, 5, b, &[scope(LARGE), number(2, 4), start_time(CLOCK + 3600), current_time(CLOCK + 700)]), 512),
         // a call whose time is before the clock: the clock stays
         (650, two, message(GETINFO, 6, b, &[option_request_list(&[11])]), 512),
@@ -121,13 +150,15 @@ fn calls() -> Vec<(u32, u32, Vec<u8>, u16)> {
         (1000, one, info(17, &[features([&[], &[], &[1]])]), 512),
         // 7: a REQUEST to another server
         (1010, one, message(REQUEST, 18, c, &[server_identifier(SERVER + 1), scope(SMALL)]), 512),
-        // 8: a DISCOVER of an identifier that the house holds
+        // 8: a DISCOVER of an identifier that the house has a lease on
         (1020, two, message(DISCOVER, 19, b, &[scope(LARGE)]), 512),
         // the same RELEASE again: 299 seconds after it an ACK, 300 after it error 3
         (1199, one, released.clone(), 512),
         (1200, one, released, 512),
         // the lease of the file has ended: house 2 doesn't hold it any more
         (3000, two, message(RELEASE, 20, b"\0L1", &[]), 512),
+        // an offer that the file afterwards holds
+        (3010, one, message(DISCOVER, 38, c, &[scope(SMALL), lease_time(7200)]), 512),
     ]
 }
 

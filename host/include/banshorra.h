@@ -4,9 +4,10 @@
    own: all that passes from call to call is the campus file. Calls on different files may run at the same time.
    No pointer is NULL, not even with length 0. What a function writes overlaps nothing else that it is given. A call takes less than 128 KiB
    of stack: give a thread that calls 256 KiB at least.
-   The scopes' names and the releases that are remembered are the campus file's last two sections, so no function is given any. A GETINFO
-   whose option 5 names 9 is sent, for each scope, the name chosen by the client's house and the language that it asks for, or none. A RELEASE
-   that is one of the last four of its house and is sent again less than 300 seconds later draws its ACK again.
+   The scopes' names, the releases that are remembered and the offers that are held are the campus file's last three sections, so no function
+   is given any. A GETINFO whose option 5 names 9 is sent, for each scope, the name chosen by the client's house and the language that it asks
+   for, or none. A RELEASE that is one of the last four of its house and is sent again less than 300 seconds later draws its ACK again. An OFFER
+   is held for thirty seconds at most, so that the file has to be kept after it as after an ACK.
    "Document 01" is the campus's paper, "document 02" that of its changes; numbers of more than one octet stand high octet first in files,
    datagrams and lists. */
 #ifndef BANSHORRA_H

@@ -30,9 +30,27 @@ fn lease(house: u8, identifier: &[u8]) -> Lease {
     }
 }
 
+fn hold(house: u8, identifier: &[u8]) -> Hold {
+    Hold {
+        lease: Lease {
+            kind: DISCOVER,
+            ..lease(house, identifier)
+        },
+        lapse: 1001,
+    }
+}
+
+/// Two leases, and a hold after them.
+fn file_of_both() -> Vec<u8> {
+    let mut campus = campus_at(CLOCK, pool(), &[lease(1, b"ab"), lease(2, b"ab")]);
+    campus.holds = vec![hold(1, b"cd")];
+    campus.holds[0].lease.offsets = vec![2];
+    campus.octets()
+}
+
 #[test]
 fn an_accepted_file_keeps_its_octets() {
-    let file = file_at(CLOCK, &[lease(1, b"ab"), lease(2, b"ab")]);
+    let file = file_of_both();
     assert_eq!(refusal(&file), None);
     let mut campus = CampusFile::from_bytes(&file).expect("sound");
     assert_eq!(campus.as_bytes(), file);
@@ -44,7 +62,7 @@ fn an_accepted_file_keeps_its_octets() {
 
 #[test]
 fn a_file_cut_off_anywhere_is_20() {
-    let file = file_at(CLOCK, &[lease(1, b"ab"), lease(2, b"ab")]);
+    let file = file_of_both();
     for length in 0..file.len() {
         assert_eq!(refusal(&file[..length]), Some(Refusal::Form), "{length}");
     }
@@ -90,10 +108,10 @@ fn unsound_files_are_21() {
     assert_eq!(refusal(&wrong_house), Some(Refusal::Unsound));
 }
 
-/// 8 houses, 4 scopes, 128 leases with 32 octets of identifier and 64 addresses, four names of 8 and 32 octets in each list, 32 releases with 32
-/// octets of identifier: the longest file that has the limits' counts. Its form is right, and as each house has all addresses of a scope it is
-/// unsound.
-fn longest() -> Campus {
+/// 8 houses, 4 scopes, 128 holds with 32 octets of identifier and 64 addresses, four names of 8 and 32 octets in each list, 32 releases with 32
+/// octets of identifier: the longest file that has the limits' counts; or with leases in the place of the holds. Its form is right, and as each
+/// house has all addresses of a scope it is unsound.
+fn longest(is_held: bool) -> Campus {
     let name = Name::new(128, b"language", b"a name of the thirty-two octets.");
     let pool = |number: u32| Scope {
         lowest: POOL + (number << 8),
@@ -102,11 +120,17 @@ fn longest() -> Campus {
         parts: vec![(8, 64); 8],
         names: vec![vec![name.clone(); 4]; 9],
     };
-    let lease = |number: u8| Lease {
-        scope: number / 32 + 1,
-        offsets: (0..64).collect(),
-        ..lease(number / 16 + 1, &[number; 32])
+    let hold = |number: u8| {
+        let mut hold = hold(number / 16 + 1, &[number; 32]);
+        hold.lease.scope = number / 32 + 1;
+        hold.lease.offsets = (0..64).collect();
+        hold
     };
+    let lease = |number: u8| Lease {
+        kind: REQUEST,
+        ..hold(number).lease
+    };
+    let (leases, holds) = if is_held { (0, 128) } else { (128, 0) };
     let release = |number: u8| Release {
         house: number / 4 + 1,
         identifier: vec![200 + number; 32],
@@ -120,22 +144,26 @@ fn longest() -> Campus {
             .map(|house| (house << 8, (house << 8) + 255))
             .collect(),
         scopes: (0..4).map(pool).collect(),
-        leases: (0..128).map(lease).collect(),
+        leases: (0..leases).map(lease).collect(),
         releases: (0..32).map(release).collect(),
+        holds: (0..holds).map(hold).collect(),
     }
 }
 
 #[test]
 fn the_longest_file_fits_and_an_overlong_one_is_20() {
-    let mut campus = longest();
-    let mut file = campus.octets();
-    let sections = (campus.names().len(), campus.releases().len());
-    assert_eq!((file.len(), sections), (22_202, (6_229, 1_345)));
-    assert_eq!(refusal(&file), Some(Refusal::Unsound));
-    file.push(0);
-    assert_eq!(refusal(&file), Some(Refusal::Form));
+    for (is_held, length) in [(true, 22_715), (false, 22_203)] {
+        let campus = longest(is_held);
+        let mut file = campus.octets();
+        let sections = (campus.names().len(), campus.releases().len());
+        assert_eq!((file.len(), sections), (length, (6_229, 1_345)));
+        assert_eq!(refusal(&file), Some(Refusal::Unsound));
+        file.push(0);
+        assert_eq!(refusal(&file), Some(Refusal::Form));
+    }
     // Longer identifiers are unsound, and their file is of right form up to 32,768 octets.
-    let mut left = FILE_ROOM - 22_202;
+    let mut campus = longest(false);
+    let mut left = FILE_ROOM - 22_203;
     for lease in &mut campus.leases {
         let more = left.min(255 - 32);
         lease.identifier.resize(32 + more, 0);

@@ -143,7 +143,7 @@ fn bad_names_are_20() {
 #[test]
 fn a_section_that_is_missing_or_of_other_scopes_is_20() {
     let campus = campus_at(CLOCK, pool(), &[]);
-    let (front, names, releases) = (campus.front(), campus.names(), campus.releases());
+    let [front, names, releases, holds] = campus.sections();
     let mut none = campus.clone();
     none.scopes[0].names.clear();
     assert_eq!(none.names(), [1, 0, 0, 0]);
@@ -158,7 +158,7 @@ fn a_section_that_is_missing_or_of_other_scopes_is_20() {
         other_count(2),
         another.names(),
     ] {
-        let file = [&front[..], &section, &releases].concat();
+        let file = [&front[..], &section, &releases, &holds].concat();
         let refusal = CampusFile::from_bytes(&file).err();
         assert_eq!(refusal, Some(Refusal::Form), "{section:?}");
     }

@@ -116,9 +116,9 @@ fn an_option_that_isnt_allowed_is_no_matter() {
 fn a_new_lease_forgets_it_and_the_same_release_then_releases_it() {
     let remembered = [released(1, OF_1, 7, CLOCK), released(2, OF_1, 7, CLOCK)];
     let mut both = campus(&[], &remembered);
-    // An OFFER and a REQUEST that is refused forget nothing.
-    let discover = message(DISCOVER, 2, &[identifier(OF_1), scope(POOL)]);
-    assert_eq!(call(&mut both, HOUSE_1, CLOCK, &discover).0, 0);
+    // A DISCOVER and a REQUEST that are refused forget nothing.
+    let discover = message(DISCOVER, 2, &[identifier(OF_1), scope(POOL), number(4, 4)]);
+    assert_eq!(call(&mut both, HOUSE_1, CLOCK, &discover).0, 8);
     let refused = message(REQUEST, 3, &[identifier(OF_1), scope(POOL), number(4, 4)]);
     let answer = call(&mut both, HOUSE_1, CLOCK, &refused);
     assert_eq!(answer, (0, nak(3, OF_1, 0)));
@@ -229,8 +229,7 @@ fn a_section_out_of_order_or_of_another_length_is_20() {
     }
     // Times begin again with each house.
     assert_eq!(refusal(&[], &[of(1, b"aa", 2), of(2, b"bb", 1)]), None);
-    let campus = campus_at(CLOCK, pool(), &[]);
-    let front = [campus.front(), campus.names()].concat();
+    let [front, names, _, holds] = campus_at(CLOCK, pool(), &[]).sections();
     let one = of(1, b"aa", 1).octets();
     for (section, due) in [
         (vec![0], None),
@@ -242,7 +241,7 @@ fn a_section_out_of_order_or_of_another_length_is_20() {
         ([&[2], &one[..]].concat(), Some(Refusal::Form)),
         ([&[1], &one[..11]].concat(), Some(Refusal::Form)),
     ] {
-        let file = [&front[..], &section].concat();
+        let file = [&front[..], &names, &section, &holds].concat();
         assert_eq!(CampusFile::from_bytes(&file).err(), due, "{section:?}");
     }
 }

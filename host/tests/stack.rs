@@ -1,4 +1,4 @@
-//! The stack that the header asks of a thread is enough: for the longest files and for the deepest walk over names.
+//! The stack that the header asks of a thread is enough: for the longest files, for the deepest walk over names and for as many holds as there can be.
 
 mod common;
 
@@ -40,6 +40,7 @@ fn settings(houses: u32, scopes: u32, names: usize) -> Campus {
         scopes: (0..scopes).map(scope).collect(),
         leases: vec![],
         releases: releases.map(release).collect(),
+        holds: vec![],
     }
 }
 
@@ -100,5 +101,48 @@ fn a_full_campus_is_served() {
         assert_eq!(campus.replay(&calls, &mut answers).stopped, None);
         assert_eq!(campus.as_bytes(), remember(2));
         campus.board();
+    });
+}
+
+#[test]
+fn a_campus_of_holds_is_served() {
+    let mut full = settings(8, 4, 4);
+    // Sixteen of each house, one after the other on its half of a scope.
+    let hold = |house: u8, number: u8| Hold {
+        lease: Lease {
+            house: house + 1,
+            scope: house / 2 + 1,
+            identifier: vec![100 + number; 32],
+            kind: DISCOVER,
+            transaction: 9,
+            start: CLOCK + u32::from(number),
+            end: CLOCK + u32::from(number) + 1,
+            offsets: (house % 2 * 32..house % 2 * 32 + 32).collect(),
+        },
+        lapse: CLOCK + 1,
+    };
+    let holds = (0..8).flat_map(|house| (0..16).map(move |number| (house, number)));
+    full.holds = holds.map(|(house, number)| hold(house, number)).collect();
+    let parts = |scope: &mut Scope| scope.parts.fill((0, 32));
+    full.scopes.iter_mut().for_each(parts);
+    on_that_stack(move || {
+        let mut campus = CampusFile::from_bytes(&full.octets()).expect("sound");
+        campus.board();
+        // Refused: the house has no record left. Then the last of them is taken up.
+        let options = [identifier(b"ab"), scope(POOL + 256)];
+        let refused = message(DISCOVER, 1, &options);
+        assert_eq!(call(&mut campus, HOUSE_1, CLOCK, &refused).0, 8);
+        let last = [identifier(&[115; 32]), scope(POOL)];
+        let request = message(REQUEST, 1, &last);
+        assert_eq!(call(&mut campus, HOUSE_1, CLOCK, &request).1[1], ACK);
+        let held = full.holds.remove(15).lease;
+        full.leases.push(Lease {
+            kind: REQUEST,
+            transaction: 1,
+            ..held
+        });
+        assert_eq!(campus.as_bytes(), full.octets());
+        // A second later all others have lapsed.
+        assert_eq!(call(&mut campus, HOUSE_1, CLOCK + 1, &refused).0, 0);
     });
 }

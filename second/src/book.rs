@@ -1,5 +1,7 @@
-//! The book: the server's settings with the scopes' names, its clock, its leases and the remembered releases.
+//! The book: the server's settings with the scopes' names, its clock, its leases and holds and the remembered
+//! releases.
 
+use crate::holds::Hold;
 use crate::names::ScopeNames;
 use crate::period::Period;
 use crate::releases::Release;
@@ -9,7 +11,7 @@ pub const MOST_HOUSES: usize = 8;
 pub const MOST_SCOPES: usize = 4;
 /// Addresses in a scope, at most.
 pub const MOST_ADDRESSES: u8 = 64;
-/// Lease records of a house, over all scopes.
+/// Records of a house for leases and holds together, over all scopes.
 pub const RECORDS_OF_A_HOUSE: usize = 16;
 /// Length of an identifier.
 pub const SHORTEST_IDENTIFIER: usize = 2;
@@ -39,7 +41,8 @@ pub struct Scope {
 }
 
 /// A lease. House and scope count from 1; the offsets are those of its addresses in the scope, rising.
-/// `message_type` and `transaction` are those of the REQUEST or RENEW that it was last set by.
+/// `message_type` and `transaction` are those of the REQUEST or RENEW that it was last set by, or of the DISCOVER
+/// that its hold was set by.
 #[derive(Clone, Debug, PartialEq, Eq)]
 pub struct Lease {
     pub house: u8,
@@ -71,7 +74,7 @@ impl Lease {
     }
 }
 
-/// The book. Leases of all houses stand in one list, in the campus file's order.
+/// The book. Leases of all houses stand in one list, in the campus file's order; holds in another, in the same order.
 /// The names stand in the order of the scopes; they are settings, and no call changes them.
 /// The remembered releases of all houses stand in one list too, by house, oldest first.
 #[derive(Clone, Debug, PartialEq, Eq)]
@@ -83,6 +86,7 @@ pub struct Book {
     pub leases: Vec<Lease>,
     pub names: Vec<ScopeNames>,
     pub releases: Vec<Release>,
+    pub holds: Vec<Hold>,
 }
 
 /// How a house stands in a scope.
@@ -143,26 +147,52 @@ impl Book {
         self.leases.iter().filter(|lease| self.is_live(lease))
     }
 
-    /// The live leases on one address.
+    /// All leases and holds, live or not: each takes one of its house's records.
+    pub fn records(&self) -> impl Iterator<Item = &Lease> {
+        let held = self.holds.iter().map(|hold| &hold.lease);
+        self.leases.iter().chain(held)
+    }
+
+    /// The live leases and holds.
+    pub fn live_records(&self) -> impl Iterator<Item = &Lease> {
+        let held = self.holds.iter().filter(|hold| hold.is_live_at(self.clock));
+        self.live_leases().chain(held.map(|hold| &hold.lease))
+    }
+
+    /// The live leases and holds on one address: where addresses are counted, a hold is as a lease.
     pub fn leases_on(&self, scope: u8, offset: u8) -> Vec<&Lease> {
-        self.live_leases()
+        self.live_records()
             .filter(|lease| lease.has(scope, offset))
             .collect()
     }
 
-    /// Where the house's live lease with this identifier stands in the list, if the house holds it.
+    /// The leases and holds of a house, over all scopes.
+    pub fn records_of(&self, house: u8) -> usize {
+        self.records().filter(|lease| lease.house == house).count()
+    }
+
+    /// Where the house's live lease with this identifier stands in the list, if the house has one.
     pub fn position(&self, house: u8, identifier: &[u8]) -> Option<usize> {
         self.leases.iter().position(|lease| {
             self.is_live(lease) && lease.house == house && lease.identifier == identifier
         })
     }
 
-    /// The house's addresses in a scope, lowest first:
-    /// "An address is a house's if a live lease of the house has it."
+    /// Where the house's live hold with this identifier stands in the list, if the house has one.
+    pub fn hold_position(&self, house: u8, identifier: &[u8]) -> Option<usize> {
+        self.holds.iter().position(|hold| {
+            hold.is_live_at(self.clock)
+                && hold.lease.house == house
+                && hold.lease.identifier == identifier
+        })
+    }
+
+    /// The house's addresses in a scope, lowest first: "An address is a house's if a live lease of the house
+    /// has it", or a live hold.
     pub fn addresses_of(&self, house: u8, scope: u8) -> Vec<u8> {
         self.offsets(scope)
             .filter(|&offset| {
-                self.live_leases()
+                self.live_records()
                     .any(|lease| lease.house == house && lease.has(scope, offset))
             })
             .collect()
@@ -176,7 +206,7 @@ impl Book {
     }
 
     /// Share, limit and holding of every house in a scope, by house.
-    /// The holding is counted from the leases each time.
+    /// The holding is counted from the leases and holds each time.
     pub fn standings(&self, scope: u8) -> Vec<Standing> {
         let Some(settings) = self.scope(scope) else {
             return Vec::new();
@@ -192,11 +222,13 @@ impl Book {
             .collect()
     }
 
-    /// Sets the clock to the larger of itself and the given time, and drops the leases that end at or before it.
+    /// Sets the clock to the larger of itself and the given time, and drops the leases that end and the holds that
+    /// lapse at or before it.
     pub fn advance(&mut self, time: u32) {
         self.clock = self.clock.max(time);
         let clock = self.clock;
         self.leases.retain(|lease| lease.end > clock);
+        self.holds.retain(|hold| hold.is_live_at(clock));
     }
 
     /// Puts a lease in its place in the file's order.
@@ -208,9 +240,20 @@ impl Book {
             .unwrap_or(self.leases.len());
         self.leases.insert(place, lease);
     }
+
+    /// Puts a hold in its place in the file's order.
+    pub fn insert_hold(&mut self, hold: Hold) {
+        let place = self
+            .holds
+            .iter()
+            .position(|other| file_key(&other.lease) > file_key(&hold.lease))
+            .unwrap_or(self.holds.len());
+        self.holds.insert(place, hold);
+    }
 }
 
-/// What leases are ordered by in the campus file: the house, then the identifier octet by octet, a prefix first.
+/// What leases and holds are ordered by in the campus file: the house, then the identifier octet by octet,
+/// a prefix first.
 pub fn file_key(lease: &Lease) -> (u8, &[u8]) {
     (lease.house, &lease.identifier)
 }

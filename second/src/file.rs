@@ -1,6 +1,7 @@
 //! Reader and writer of the campus file.
 
 use crate::book::{Book, House, Lease, Quota, Scope};
+use crate::holds::{holds_in_file_order, Hold};
 use crate::names::{Name, ScopeNames};
 use crate::octets::Octets;
 use crate::releases::{releases_in_file_order, Release};
@@ -42,6 +43,7 @@ fn read_form(file: &[u8]) -> Option<Book> {
     let leases = section(&mut octets, read_lease)?;
     let names = section(&mut octets, |octets| read_scope_names(octets, houses.len()))?;
     let releases = section(&mut octets, read_release)?;
+    let holds = section(&mut octets, read_hold)?;
     let book = Book {
         server,
         clock,
@@ -50,8 +52,11 @@ fn read_form(file: &[u8]) -> Option<Book> {
         leases,
         names,
         releases,
+        holds,
     };
-    let in_order = leases_in_file_order(&book.leases) && releases_in_file_order(&book.releases);
+    let in_order = leases_in_file_order(&book.leases)
+        && releases_in_file_order(&book.releases)
+        && holds_in_file_order(&book.holds);
     (octets.is_empty() && in_order && names_are_good(&book)).then_some(book)
 }
 
@@ -131,6 +136,14 @@ fn read_release(octets: &mut Octets) -> Option<Release> {
     })
 }
 
+/// Laid out as a lease, the lapse time(4) last.
+fn read_hold(octets: &mut Octets) -> Option<Hold> {
+    Some(Hold {
+        lease: read_lease(octets)?,
+        lapse: octets.u32()?,
+    })
+}
+
 /// A one-octet length and then that many octets.
 fn counted_octets(octets: &mut Octets) -> Option<Vec<u8>> {
     let length = octets.u8()?;
@@ -176,6 +189,11 @@ fn file_of(book: &Book) -> Vec<u8> {
     file.push(book.releases.len() as u8);
     for release in &book.releases {
         write_release(&mut file, release);
+    }
+    file.push(book.holds.len() as u8);
+    for hold in &book.holds {
+        write_lease(&mut file, &hold.lease);
+        file.extend(hold.lapse.to_be_bytes());
     }
     file
 }

@@ -31,7 +31,7 @@ pub fn grant(
     Some(given)
 }
 
-/// The f: those of the house's addresses that have no lease overlapping the wanted period, lowest first.
+/// The f: those of the house's addresses that have no lease or hold overlapping the wanted period, lowest first.
 fn free_addresses(book: &Book, house: u8, scope: u8, period: &Period) -> Vec<u8> {
     let mut free = book.addresses_of(house, scope);
     free.retain(|&offset| {

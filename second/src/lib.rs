@@ -1,4 +1,4 @@
-//! An independent second MADCAP server library, written from documents 01 and 02 (as far as W-203) and the
+//! An independent second MADCAP server library, written from documents 01 and 02 (as far as W-205) and the
 //! MADCAP draft only (with the project's readings where the documents are open), and used for comparison.
 //! It is plain and slow on purpose: where the rules speak of addresses one by one, so does the code.
 
@@ -7,6 +7,7 @@
 pub mod book;
 pub mod file;
 pub mod grant;
+pub mod holds;
 pub mod message;
 pub mod names;
 pub mod octets;
@@ -18,6 +19,7 @@ pub mod server;
 pub mod sound;
 
 pub use book::{Book, House, Lease, Quota, Scope};
+pub use holds::Hold;
 pub use names::{Name, ScopeNames};
 pub use releases::Release;
 pub use server::serve;

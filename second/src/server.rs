@@ -2,6 +2,7 @@
 
 use crate::book::{file_key, Book, Lease, RECORDS_OF_A_HOUSE};
 use crate::grant::grant;
+use crate::holds::Hold;
 use crate::message::{code, Header, Kind, Options, ACK, OFFER};
 use crate::period::{Period, DEFAULT_LEASE};
 use crate::releases::{forget, remember, Release};
@@ -125,7 +126,19 @@ impl Call<'_> {
         book.scope_at(self.options.u32(code::SCOPE)?)
     }
 
-    /// OFFER or ACK with a lease.
+    /// The house's hold with the message's identifier.
+    fn hold<'a>(&self, book: &'a Book) -> Option<&'a Hold> {
+        let place = book.hold_position(self.house, self.options.identifier)?;
+        book.holds.get(place)
+    }
+
+    /// Whether there is such a hold, and in another scope than the message's.
+    fn has_hold_elsewhere(&self, book: &Book) -> bool {
+        self.hold(book)
+            .is_some_and(|hold| Some(hold.lease.scope) != self.scope(book))
+    }
+
+    /// OFFER or ACK with a lease or hold.
     fn lease_reply(&self, message_type: u8, book: &Book, lease: &Lease) -> Vec<u8> {
         reply::of_lease(message_type, book, &self.header, &self.options, lease)
     }
@@ -194,15 +207,18 @@ fn is_bad_request(book: &Book, call: &Call) -> bool {
     let lacks_current_time = (options.has(code::START_TIME) || options.has(code::MAXIMUM_START))
         && !options.has(code::CURRENT_TIME);
     let latest_start_is_before_start = is_latest_start_before_start(options);
-    let identifier_is_held =
+    let identifier_is_leased =
         call.takes_new_addresses() && book.position(call.house, options.identifier).is_some();
+    let offer_is_held_elsewhere =
+        call.header.kind == Kind::Discover && call.has_hold_elsewhere(book);
     a_code_is_not_allowed
         || scope_is_not_ours
         || lease_time_is_0
         || number_is_wrong
         || lacks_current_time
         || latest_start_is_before_start
-        || identifier_is_held
+        || identifier_is_leased
+        || offer_is_held_elsewhere
 }
 
 /// A Maximum Start Time before Start Time, both as they were sent.
@@ -223,7 +239,28 @@ fn clocks_apart(book: &Book, call: &Call) -> bool {
         .is_some_and(|time| time.abs_diff(book.clock) > SKEW)
 }
 
-/// The lease that a new grant would make now, as DISCOVER and REQUEST both need it.
+/// What DISCOVER and REQUEST both are given: the held offer as it stands, or a new grant where nothing is held.
+/// A hold in another scope has drawn error 1 or is dropped already.
+fn given(book: &Book, call: &Call) -> Result<Lease, u16> {
+    match call.hold(book) {
+        Some(hold) => held_lease(hold, call),
+        None => new_lease(book, call),
+    }
+}
+
+/// A held offer's period and addresses; error 0 "if these are fewer than its least or W-203 forbids the period".
+/// Nothing else of the message is asked.
+fn held_lease(hold: &Hold, call: &Call) -> Result<Lease, u16> {
+    let lease = &hold.lease;
+    let (least, _) = call.options.number();
+    let are_fewer = lease.offsets.len() < usize::from(least);
+    if are_fewer || !minimum_and_latest_start_are_met(&lease.period(), &call.options) {
+        return Err(CANNOT_GRANT);
+    }
+    Ok(lease.clone())
+}
+
+/// The lease or hold that a new grant would make now, with the message's type and transaction id.
 fn new_lease(book: &Book, call: &Call) -> Result<Lease, u16> {
     // A scope that isn't ours has drawn error 1 already.
     let scope = call.scope(book).ok_or(BAD_REQUEST)?;
@@ -232,8 +269,7 @@ fn new_lease(book: &Book, call: &Call) -> Result<Lease, u16> {
     let length = options.u32(code::LEASE_TIME).unwrap_or(DEFAULT_LEASE);
     let period = Period::wanted(start, length, book.clock);
     let (start, end) = times_given(&period, book.clock, &call.options)?;
-    let records = book.leases.iter().filter(|lease| lease.house == call.house);
-    if records.count() >= RECORDS_OF_A_HOUSE {
+    if book.records_of(call.house) >= RECORDS_OF_A_HOUSE {
         return Err(CANNOT_GRANT);
     }
     let (least, desired) = options.number();
@@ -242,7 +278,7 @@ fn new_lease(book: &Book, call: &Call) -> Result<Lease, u16> {
         house: call.house,
         scope,
         identifier: options.identifier.to_vec(),
-        message_type: Kind::Request.number(),
+        message_type: call.header.kind.number(),
         transaction: call.header.transaction,
         start,
         end,
@@ -272,22 +308,45 @@ fn minimum_and_latest_start_are_met(period: &Period, options: &Options) -> bool 
     minimum_is_met && latest_start_is_met
 }
 
-/// DISCOVER changes nothing; the OFFER shows what a REQUEST would get now.
-fn discover(book: &Book, call: &Call) -> Result<Vec<u8>, u16> {
-    let lease = new_lease(book, call)?;
-    Ok(call.lease_reply(OFFER, book, &lease))
+/// DISCOVER leaves a hold of what it is offered, which forgets its identifier's release; where there is a hold, it
+/// repeats the held offer and leaves the hold unchanged.
+fn discover(book: &mut Book, call: &Call) -> Result<Vec<u8>, u16> {
+    let offered = given(book, call)?;
+    let octets = call.lease_reply(OFFER, book, &offered);
+    if call.hold(book).is_none() {
+        forget(&mut book.releases, offered.house, &offered.identifier);
+        book.insert_hold(Hold::of_offer(offered, book.clock));
+    }
+    Ok(octets)
 }
 
 /// REQUEST records the lease with its type and transaction id. A new lease on an identifier forgets its release.
+/// A hold turns into the lease; one in another scope is dropped first, and the drop stands if the REQUEST is refused.
 fn request(book: &mut Book, call: &Call) -> Result<Vec<u8>, u16> {
-    let lease = new_lease(book, call)?;
+    if call.has_hold_elsewhere(book) {
+        drop_hold(book, call);
+    }
+    let lease = Lease {
+        message_type: call.header.kind.number(),
+        transaction: call.header.transaction,
+        ..given(book, call)?
+    };
+    drop_hold(book, call);
     let octets = call.lease_reply(ACK, book, &lease);
     forget(&mut book.releases, lease.house, &lease.identifier);
     book.insert(lease);
     Ok(octets)
 }
 
-/// RENEW keeps the addresses and sets period, type and id. Error 3 if the house doesn't hold the identifier.
+/// Takes the message's hold out of the book, if there is one.
+fn drop_hold(book: &mut Book, call: &Call) {
+    if let Some(place) = book.hold_position(call.house, call.options.identifier) {
+        book.holds.remove(place);
+    }
+}
+
+/// RENEW keeps the addresses and sets period, type and id. Error 3 if the house has no lease on the identifier;
+/// a hold is none.
 fn renew(book: &mut Book, call: &Call) -> Result<Vec<u8>, u16> {
     let place = book
         .position(call.house, call.options.identifier)
@@ -312,7 +371,7 @@ fn renew(book: &mut Book, call: &Call) -> Result<Vec<u8>, u16> {
     Ok(octets)
 }
 
-/// Whether a period overlaps that of another lease on one of the addresses of the lease at this place.
+/// Whether a period overlaps that of another lease or hold on one of the addresses of the lease at this place.
 fn overlaps_another(book: &Book, place: usize, period: &Period) -> bool {
     let lease = &book.leases[place];
     lease.offsets.iter().any(|&offset| {
@@ -322,7 +381,7 @@ fn overlaps_another(book: &Book, place: usize, period: &Period) -> bool {
     })
 }
 
-/// RELEASE removes the lease and is remembered. Error 3 if the house doesn't hold the identifier.
+/// RELEASE removes the lease and is remembered. Error 3 if the house has no lease on the identifier; a hold is none.
 fn release(book: &mut Book, call: &Call) -> Result<Vec<u8>, u16> {
     let place = book
         .position(call.house, call.options.identifier)

@@ -1,9 +1,10 @@
-//! The sound book, rule by rule.
+//! The sound book, rule by rule. "Lease" reads "lease or hold" in the rules, but for the type.
 
 use crate::book::{
     file_key, Book, Lease, LONGEST_IDENTIFIER, MOST_ADDRESSES, MOST_HOUSES, MOST_SCOPES,
     RECORDS_OF_A_HOUSE, SHORTEST_IDENTIFIER,
 };
+use crate::holds::holds_in_file_order;
 use crate::message::Kind;
 use crate::releases::{releases_in_file_order, Release, RELEASES_OF_A_HOUSE};
 use std::collections::BTreeSet;
@@ -19,8 +20,11 @@ pub fn sound(book: &Book) -> bool {
         && pools_multicast_and_disjoint(book)
         && ttls_not_zero(book)
         && shares_and_limits_fit(book)
-        && book.leases.iter().all(|lease| lease_is_sound(book, lease))
+        && book.records().all(|record| record_is_sound(book, record))
+        && leases_have_sound_types(book)
+        && holds_have_sound_types_and_lapses(book)
         && leases_in_file_order(&book.leases)
+        && holds_in_file_order(&book.holds)
         && identifiers_differ(book)
         && records_suffice(book)
         && no_address_has_two_houses(book)
@@ -86,19 +90,33 @@ fn shares_and_limits_fit(book: &Book) -> bool {
     })
 }
 
-/// What is asked of each lease by itself.
-fn lease_is_sound(book: &Book, lease: &Lease) -> bool {
-    let Some(scope) = book.scope(lease.scope) else {
+/// What is asked of each lease and of each hold by itself, the type aside.
+fn record_is_sound(book: &Book, record: &Lease) -> bool {
+    let Some(scope) = book.scope(record.scope) else {
         return false;
     };
-    book.house(lease.house).is_some()
-        && (SHORTEST_IDENTIFIER..=LONGEST_IDENTIFIER).contains(&lease.identifier.len())
-        && [Kind::Request.number(), Kind::Renew.number()].contains(&lease.message_type)
-        && lease.start < lease.end
-        && lease.end > book.clock
-        && !lease.offsets.is_empty()
-        && lease.offsets.iter().all(|&offset| offset < scope.size)
-        && offsets_rise(&lease.offsets)
+    book.house(record.house).is_some()
+        && (SHORTEST_IDENTIFIER..=LONGEST_IDENTIFIER).contains(&record.identifier.len())
+        && record.start < record.end
+        && record.end > book.clock
+        && !record.offsets.is_empty()
+        && record.offsets.iter().all(|&offset| offset < scope.size)
+        && offsets_rise(&record.offsets)
+}
+
+/// A lease has type 3 or 4.
+fn leases_have_sound_types(book: &Book) -> bool {
+    let types = [Kind::Request.number(), Kind::Renew.number()];
+    book.leases
+        .iter()
+        .all(|lease| types.contains(&lease.message_type))
+}
+
+/// A hold has type 1 and a lapse near enough.
+fn holds_have_sound_types_and_lapses(book: &Book) -> bool {
+    book.holds
+        .iter()
+        .all(|hold| hold.has_sound_type_and_lapse(book.clock))
 }
 
 /// Each offset is above the one before.
@@ -113,21 +131,19 @@ pub fn leases_in_file_order(leases: &[Lease]) -> bool {
         .all(|pair| file_key(&pair[0]) <= file_key(&pair[1]))
 }
 
-/// Identifiers differ within a house.
+/// Identifiers differ within a house, those of leases and holds together.
 fn identifiers_differ(book: &Book) -> bool {
     let mut seen = BTreeSet::new();
-    book.leases.iter().all(|lease| seen.insert(file_key(lease)))
+    book.records().all(|record| seen.insert(file_key(record)))
 }
 
-/// At most sixteen leases to a house, over all scopes.
+/// At most sixteen leases and holds together to a house, over all scopes.
 fn records_suffice(book: &Book) -> bool {
-    book.house_numbers().all(|house| {
-        let leases = book.leases.iter().filter(|lease| lease.house == house);
-        leases.count() <= RECORDS_OF_A_HOUSE
-    })
+    book.house_numbers()
+        .all(|house| book.records_of(house) <= RECORDS_OF_A_HOUSE)
 }
 
-/// Whether a rule holds of the leases on each address of each scope.
+/// Whether a rule is kept by the leases and holds on each address of each scope.
 fn on_every_address(book: &Book, rule: impl Fn(&[&Lease]) -> bool) -> bool {
     book.scope_numbers().all(|scope| {
         book.offsets(scope)
@@ -141,7 +157,7 @@ fn no_address_has_two_houses(book: &Book) -> bool {
     })
 }
 
-/// Leases on one address don't overlap.
+/// Leases and holds on one address don't overlap.
 fn no_leases_overlap(book: &Book) -> bool {
     on_every_address(book, |leases| {
         leases.iter().enumerate().all(|(place, lease)| {
@@ -192,15 +208,14 @@ fn releases_are_sound(book: &Book) -> bool {
         && released_identifiers_differ(book)
 }
 
-/// What is asked of each release by itself and beside the leases: a known house, an identifier neither too short
-/// nor too long and not on a lease of the house, and a time that is not after the clock.
+/// What is asked of each release by itself and beside the leases and holds: a known house, an identifier neither
+/// too short nor too long and not on a lease or hold of the house, and a time that is not after the clock.
 fn release_is_sound(book: &Book, release: &Release) -> bool {
     book.house(release.house).is_some()
         && (SHORTEST_IDENTIFIER..=LONGEST_IDENTIFIER).contains(&release.identifier.len())
         && book
-            .leases
-            .iter()
-            .all(|lease| !release.is_of(lease.house, &lease.identifier))
+            .records()
+            .all(|record| !release.is_of(record.house, &record.identifier))
         && release.time <= book.clock
 }
 

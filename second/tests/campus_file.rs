@@ -5,7 +5,7 @@ mod common;
 use common::*;
 use second::file::{read, write, LONGEST_FILE};
 use second::programs::{board, replay};
-use second::{Book, House, Name, Quota, Scope, ScopeNames};
+use second::{Book, Hold, House, Name, Quota, Scope, ScopeNames};
 
 /// The specimens' book.
 const EMPTY: &str = "01 0A010101 000003E8
@@ -13,10 +13,11 @@ const EMPTY: &str = "01 0A010101 000003E8
     01 EFC00000 04 0F 02 03 01 04
     00
     01 00 00 00
+    00
     00";
-/// The last two sections of the specimens' book, which has no names and no release: one scope, and three empty
-/// lists; no release.
-const NO_NAMES_NO_RELEASE: &str = "01 00 00 00 00";
+/// The last three sections of the specimens' book, which has no names, no release and no hold: one scope, and three
+/// empty lists; no release; no hold.
+const NOTHING_ELSE: &str = "01 00 00 00 00 00";
 /// The same after P1 and P3.
 const AFTER_P3: &str = "01 0A010101 000003E8
     02 0A010000 0A0100FF 0A020000 0A0200FF
@@ -25,14 +26,15 @@ const AFTER_P3: &str = "01 0A010101 000003E8
     01 01 02 00A3 03 00000003 000003E8 000007D0 02 02 03
     02 01 02 00B2 03 00000001 000003E8 000011F8 02 00 01
     01 00 00 00
+    00
     00";
 
 /// The specimens' settings with the leases that the hex gives, count and all.
 fn with_leases(leases: &str) -> Vec<u8> {
     let mut file = hex(EMPTY);
-    file.truncate(file.len() - hex(NO_NAMES_NO_RELEASE).len() - 1);
+    file.truncate(file.len() - hex(NOTHING_ELSE).len() - 1);
     file.extend(hex(leases));
-    file.extend(hex(NO_NAMES_NO_RELEASE));
+    file.extend(hex(NOTHING_ELSE));
     file
 }
 
@@ -132,18 +134,18 @@ fn counts_past_the_limits_are_21_where_the_layout_fits() {
         + &"00 00".repeat(9)
         + "00 01"
         + &"00".repeat(10)
-        + "00";
+        + "00 00";
     assert_eq!(read(&hex(&nine_houses)), Err(21));
     assert_eq!(read(&hex(&nine_houses[..nine_houses.len() - 2])), Err(20));
-    let no_house = "01 0A010101 000003E8 00 01 EFC00000 04 0F 00 01 00 00";
+    let no_house = "01 0A010101 000003E8 00 01 EFC00000 04 0F 00 01 00 00 00";
     assert_eq!(read(&hex(no_house)), Err(21));
-    let no_scope = "01 0A010101 000003E8 01 0A010000 0A0100FF 00 00 00 00";
+    let no_scope = "01 0A010101 000003E8 01 0A010000 0A0100FF 00 00 00 00 00";
     assert_eq!(read(&hex(no_scope)), Err(21));
     let five_scopes = "01 0A010101 000003E8 01 0A010000 0A0100FF 05".to_string()
         + &"EFC00000 04 0F 00 00".repeat(5)
         + "00 05"
         + &"00 00".repeat(5)
-        + "00";
+        + "00 00";
     assert_eq!(read(&hex(&five_scopes)), Err(21));
     let long_identifier =
         "01 01 01 FF".to_string() + &"41".repeat(255) + "03 00000001 000003E8 000007D0 01 00";
@@ -212,18 +214,38 @@ fn fullest_book() -> Book {
         leases,
         names: vec![names; 4],
         releases,
+        holds: vec![],
     }
+}
+
+/// The same with every lease a hold that lapses at its period's end.
+fn fullest_book_of_holds() -> Book {
+    let mut book = fullest_book();
+    for mut lease in std::mem::take(&mut book.leases) {
+        lease.message_type = 1;
+        let lapse = lease.end;
+        book.holds.push(Hold { lease, lapse });
+    }
+    book
 }
 
 #[test]
 fn the_longest_file_of_a_sound_book() {
-    let book = fullest_book();
-    let mut room = vec![7; LONGEST_FILE];
-    let length = write(&book, &mut room).expect("a length");
     let names = 1 + 4 * 9 * (1 + 4 * 43);
-    assert_eq!(length, 164 + 128 * 81 + names + 1 + 32 * 42);
-    assert_eq!(read(&room[..length]), Ok(book));
-    assert!(room[length..].iter().all(|&octet| octet == 7));
+    let releases = 1 + 32 * 42;
+    let with_leases = 163 + (1 + 128 * 81) + names + releases + 1;
+    let with_holds = 163 + 1 + names + releases + (1 + 128 * 85);
+    assert_eq!(with_holds, 18_619);
+    for (book, expected) in [
+        (fullest_book(), with_leases),
+        (fullest_book_of_holds(), with_holds),
+    ] {
+        let mut room = vec![7; LONGEST_FILE];
+        let length = write(&book, &mut room).expect("a length");
+        assert_eq!(length, expected);
+        assert_eq!(read(&room[..length]), Ok(book));
+        assert!(room[length..].iter().all(|&octet| octet == 7));
+    }
 }
 
 /// A file of right form with 62 leases of 527 octets and a last one that makes up its length.
@@ -250,11 +272,11 @@ fn more_than_32_768_octets_are_20() {
     assert_eq!(read(&file_of(32_767)), Err(21));
     assert_eq!(read(&file_of(32_768)), Err(21));
     assert_eq!(read(&file_of(32_769)), Err(20));
-    // Just 32,768 are judged as usual: with an octet in excess, or without its last section or two, a file is 20.
+    // Just 32,768 are judged as usual: with an octet in excess, or without its last section or more, a file is 20.
     let mut excess = file_of(32_767);
     excess.push(0);
     assert_eq!(read(&excess), Err(20));
-    for left_out in [1, 5] {
+    for left_out in [1, 2, 6] {
         let mut cut = file_of(32_768 + left_out);
         cut.truncate(32_768);
         assert_eq!(read(&cut), Err(20));
@@ -315,7 +337,7 @@ const P12_LINE: &str = "0 0006000101020304000200060001\
 #[test]
 fn replay_texts() {
     let empty_line = "book 010a010101000003e8020a0100000a0100ff0a0200000a0200ff\
-        01efc00000040f02030104000100000000\n";
+        01efc00000040f0203010400010000000000\n";
     let file = hex(EMPTY);
     assert_eq!(replay(&replay_input(&file, "")), empty_line);
     assert_eq!(

@@ -461,13 +461,22 @@ fn offer_shows_what_a_request_would_get() {
         call(&mut book, CLIENT_1, 1000, &discover),
         (0, offer.clone())
     );
-    assert_eq!(book, specimen_book());
+    // It leaves a hold of that, with its transaction id, and nothing else.
+    let mut expected = specimen_book();
+    expected.holds = vec![hold(1, ID, (1000, 4600), &[0, 1, 2], 1030)];
+    expected.holds[0].lease.transaction = 0x21;
+    assert_eq!(book, expected);
     let mut as_request = discover;
     as_request[1] = 3;
     let mut ack = offer;
     ack[1] = 5;
-    assert_eq!(call(&mut book, CLIENT_1, 1000, &as_request), (0, ack));
-    assert_eq!(book.leases.len(), 1);
+    let mut without_a_hold = specimen_book();
+    for book in [&mut book, &mut without_a_hold] {
+        let answer = call(book, CLIENT_1, 1000, &as_request);
+        assert_eq!(answer, (0, ack.clone()));
+    }
+    assert_eq!((book.leases.len(), book.holds.len()), (1, 0));
+    assert_eq!(book, without_a_hold);
 }
 
 #[test]

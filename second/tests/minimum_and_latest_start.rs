@@ -50,7 +50,7 @@ fn given(book: &mut Book, time: u32, message: &[u8]) -> Result<(u32, u64), u16> 
 }
 
 /// A REQUEST in the specimens' book with these options and Current Time.
-/// The same as a DISCOVER draws an OFFER of that period, or discard 8, and leaves the book.
+/// The same as a DISCOVER draws an OFFER of that period and leaves a hold of it, or draws discard 8 and leaves none.
 fn requested_at(time: u32, more: &[Seconds]) -> Result<(u32, u64), u16> {
     let options = [more, &[(11, time)]].concat();
     let mut book = specimen_book();
@@ -69,7 +69,12 @@ fn requested_at(time: u32, more: &[Seconds]) -> Result<(u32, u64), u16> {
         }
         Err(_) => assert_eq!((outcome, offer), (8, vec![])),
     }
-    assert!(book.leases.is_empty());
+    let held = book
+        .holds
+        .first()
+        .map(|hold| (hold.lease.start, u64::from(hold.lease.end)));
+    assert_eq!(answer.ok(), held);
+    assert!(book.leases.is_empty() && sound(&book));
     answer
 }
 

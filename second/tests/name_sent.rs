@@ -477,7 +477,8 @@ fn no_call_changes_the_names() {
     let section = hex("01 02 80 02 656E 01 41 00 02 6465 01 42
         01 00 02 6465 01 42
         01 80 02 656E 01 41
-        01 01 02 0041 00000006 000003EE");
+        01 01 02 0041 00000006 000003EE
+        00");
     assert!(room[..length].ends_with(&section));
     assert_eq!(read(&room[..length]), Ok(book));
 }

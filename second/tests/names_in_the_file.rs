@@ -29,9 +29,9 @@ const TWO_SCOPES: &str = "01 0A010101 000003E8
 const EN: &str = "00 02 656E 01 41";
 const DE: &str = "80 02 6465 02 4243";
 
-/// What the reader makes of settings with a names' section. No release follows.
+/// What the reader makes of settings with a names' section. No release and no hold follow.
 fn named(settings: &str, names: &str) -> Result<Book, u8> {
-    read(&hex(&format!("{settings} {names} 00")))
+    read(&hex(&format!("{settings} {names} 00 00")))
 }
 
 /// The refusal of the specimens' settings with a names' section, 0 for none.
@@ -79,7 +79,10 @@ fn the_section_stands_after_the_leases_and_by_scope() {
     // Written back octet for octet.
     let mut room = vec![7; LONGEST_FILE];
     let length = write(&book, &mut room).expect("a length");
-    assert_eq!(room[..length], hex(&format!("{TWO_SCOPES} {section} 00")));
+    assert_eq!(
+        room[..length],
+        hex(&format!("{TWO_SCOPES} {section} 00 00"))
+    );
     assert!(room[length..].iter().all(|&octet| octet == 7));
     // 23 goes by the length with the names.
     assert_eq!(write(&book, &mut room[..length]), Ok(length));
@@ -89,14 +92,14 @@ fn the_section_stands_after_the_leases_and_by_scope() {
     // Names before the leases, or after the releases, are no names: the sections have an order.
     let (settings, leases) = TWO_SCOPES.rsplit_once('\n').expect("two lines");
     assert_eq!(named(settings, &format!("{section} {leases}")), Err(20));
-    let names_last = hex(&format!("{TWO_SCOPES} 00 {section}"));
+    let names_last = hex(&format!("{TWO_SCOPES} 00 00 {section}"));
     assert_eq!(read(&names_last), Err(20));
 }
 
 #[test]
 fn every_cut_and_every_excess_is_20() {
     let section = format!("02  02 {EN} {DE} 00 01 {DE}  00 01 {EN} 02 {EN} {EN}");
-    let file = hex(&format!("{TWO_SCOPES} {section} 00"));
+    let file = hex(&format!("{TWO_SCOPES} {section} 00 00"));
     assert!(read(&file).is_ok());
     for length in 0..file.len() {
         assert_eq!(read(&file[..length]), Err(20), "cut to {length}");
@@ -261,7 +264,7 @@ fn names_go_by_the_house_and_scope_counts_as_written() {
 
 #[test]
 fn the_programs_and_the_names() {
-    let file = hex(&format!("{SETTINGS} 01 01 {EN} 00 01 {DE} 00"));
+    let file = hex(&format!("{SETTINGS} 01 01 {EN} 00 01 {DE} 00 00"));
     let text = "scope house share limit holds\n239.192.0.0 1 2 3 0\n239.192.0.0 2 1 4 0\n";
     assert_eq!(board(&file), text);
     let mut input = (file.len() as u16).to_be_bytes().to_vec();

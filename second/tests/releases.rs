@@ -147,7 +147,7 @@ fn no_other_type_is_a_resent_release() {
     let renew = datagram(4, 6, &[(3, ID)]);
     assert_eq!(error(&mut book, CLIENT_1, 1000, &renew), 3);
     let discover = datagram(1, 6, &[(3, ID), (4, SCOPE)]);
-    let (outcome, reply) = call(&mut book, CLIENT_1, 1000, &discover);
+    let (outcome, reply) = call(&mut book.clone(), CLIENT_1, 1000, &discover);
     assert_eq!((outcome, reply[1]), (0, 2));
     let getinfo = datagram(8, 6, &[(3, ID), (7, &[0; 4])]);
     assert_eq!(call(&mut book, CLIENT_1, 1000, &getinfo).0, 8);
@@ -259,14 +259,14 @@ fn what_is_no_new_lease_forgets_nothing() {
         error(&mut book, CLIENT_1, 1000, &datagram(4, 9, &[(3, ID)])),
         3
     );
-    // A DISCOVER, and REQUESTs that are refused: errors 1, 2 and 0, and discard 7.
-    let discover = datagram(1, 9, &[(3, ID), (4, SCOPE)]);
-    assert_eq!(call(&mut book, CLIENT_1, 1000, &discover).0, 0);
+    // REQUESTs and DISCOVERs that are refused: errors 1, 2 and 0, and discard 7.
     let refused: [(u16, &[u8], u16); 3] =
         [(5, &[0; 2], 1), (11, &[0xFF; 4], 2), (7, &[0, 9, 0, 9], 0)];
     for (code, value, expected) in refused {
         let message = datagram(3, 9, &[(3, ID), (4, SCOPE), (code, value)]);
         assert_eq!(error(&mut book, CLIENT_1, 1000, &message), expected);
+        let discover = datagram(1, 9, &[(3, ID), (4, SCOPE), (code, value)]);
+        assert_eq!(call(&mut book, CLIENT_1, 1000, &discover).0, 8);
     }
     let elsewhere = datagram(3, 9, &[(2, &[0; 6]), (3, ID), (4, SCOPE)]);
     assert_eq!(call(&mut book, CLIENT_1, 1000, &elsewhere).0, 7);

@@ -16,9 +16,9 @@ const SETTINGS: &str = "01 0A010101 000003E8
 /// The transaction id and the time of most releases here: 9, at 1000.
 const AT_1000: &str = "00000009 000003E8";
 
-/// What the reader makes of settings with a releases' section.
+/// What the reader makes of settings with a releases' section. No hold follows.
 fn remembering(settings: &str, releases: &str) -> Result<Book, u8> {
-    read(&hex(&format!("{settings} {releases}")))
+    read(&hex(&format!("{settings} {releases} 00")))
 }
 
 /// The refusal of a releases' section, 0 for none.
@@ -46,7 +46,7 @@ fn refusal_of_order(houses_and_times: &[(u8, u32)]) -> u8 {
 }
 
 #[test]
-fn the_section_stands_last_by_house_oldest_first() {
+fn the_section_stands_after_the_names_by_house_oldest_first() {
     let section = "03
         01 02 0042 01020304 00000000
         01 03 004100 FFFFFFFF 000003E8
@@ -62,7 +62,7 @@ fn the_section_stands_last_by_house_oldest_first() {
     // Written back octet for octet.
     let mut room = vec![7; LONGEST_FILE];
     let length = write(&book, &mut room).expect("a length");
-    assert_eq!(room[..length], hex(&format!("{SETTINGS} {section}")));
+    assert_eq!(room[..length], hex(&format!("{SETTINGS} {section} 00")));
     assert!(room[length..].iter().all(|&octet| octet == 7));
     // 23 goes by the length with the releases.
     assert_eq!(write(&book, &mut room[..length]), Ok(length));
@@ -80,7 +80,7 @@ fn the_section_stands_last_by_house_oldest_first() {
 #[test]
 fn every_cut_and_every_excess_is_20() {
     let file = hex(&format!(
-        "{SETTINGS} 02 01 02 0042 {AT_1000} 02 03 004200 {AT_1000}"
+        "{SETTINGS} 02 01 02 0042 {AT_1000} 02 03 004200 {AT_1000} 00"
     ));
     assert!(read(&file).is_ok());
     for length in 0..file.len() {
@@ -240,7 +240,7 @@ fn a_house_past_the_eighth_is_21_with_its_release() {
 #[test]
 fn the_programs_and_the_releases() {
     let section = format!("01 01 02 0042 {AT_1000}");
-    let file = hex(&format!("{SETTINGS} {section}"));
+    let file = hex(&format!("{SETTINGS} {section} 00"));
     let text = "scope house share limit holds\n239.192.0.0 1 2 3 1\n239.192.0.0 2 1 4 0\n";
     assert_eq!(board(&file), text);
     let mut input = (file.len() as u16).to_be_bytes().to_vec();
@@ -254,7 +254,7 @@ fn the_programs_and_the_releases() {
     let at_1299 = book_line.replacen("000003e8", "00000513", 1);
     assert_eq!(replay(&input), format!("0 {ack}\n{at_1299}"));
     // Times after the clock, and a section cut off.
-    let late = hex(&format!("{SETTINGS} 01 01 02 0042 00000009 000003E9"));
+    let late = hex(&format!("{SETTINGS} 01 01 02 0042 00000009 000003E9 00"));
     assert_eq!(board(&late), "refused 21\n");
     assert_eq!(board(&file[..file.len() - 1]), "refused 20\n");
 }

@@ -4,7 +4,7 @@ mod common;
 
 use common::*;
 use second::file::{read, write, LONGEST_FILE};
-use second::{serve, sound, Book, House, Name, Quota, Scope, ScopeNames};
+use second::{serve, sound, Book, Hold, House, Name, Quota, Scope, ScopeNames};
 
 /// The specimens' book with a change.
 fn changed(change: impl FnOnce(&mut Book)) -> Book {
@@ -540,4 +540,164 @@ fn releases_stand_by_house_oldest_first() {
     refused(in_order(&[(1, 1000), (2, 1000), (1, 1000)]));
     refused(in_order(&[(1, 1000), (1, 999)]));
     refused(in_order(&[(1, 0), (2, 1), (2, 0)]));
+}
+
+/// The specimens' book with one hold of house 1 on .0 from 1000 to 2000 that lapses at 1030, and this change.
+fn with_hold(change: impl FnOnce(&mut Hold)) -> impl FnOnce(&mut Book) {
+    move |book| {
+        let mut hold = hold(1, &[0, 1], (1000, 2000), &[0], 1030);
+        change(&mut hold);
+        book.holds = vec![hold];
+    }
+}
+
+#[test]
+fn holds_have_type_1() {
+    accepted(with_hold(|_| ()));
+    for message_type in [0, 2, 3, 4, 255] {
+        refused(with_hold(|hold| hold.lease.message_type = message_type));
+    }
+}
+
+#[test]
+fn holds_lapse_after_the_clock_and_at_most_thirty_seconds_after_it() {
+    for lapse in [1001, 1029, 1030] {
+        accepted(with_hold(|hold| hold.lapse = lapse));
+    }
+    for lapse in [0, 999, 1000, 1031, u32::MAX] {
+        refused(with_hold(|hold| hold.lapse = lapse));
+    }
+    // No sum wraps at the clock's end.
+    for (clock, is_sound) in [(u32::MAX - 1, true), (u32::MAX, false)] {
+        let at_the_end = |book: &mut Book| {
+            book.clock = clock;
+            book.holds = vec![hold(1, &[0, 1], (1000, u32::MAX), &[0], u32::MAX)];
+        };
+        if is_sound {
+            accepted(at_the_end);
+        } else {
+            refused(at_the_end);
+        }
+    }
+}
+
+#[test]
+fn holds_lapse_not_after_their_end() {
+    accepted(with_hold(|hold| hold.lease.end = 1030));
+    refused(with_hold(|hold| hold.lease.end = 1029));
+}
+
+#[test]
+fn what_is_asked_of_a_lease_is_asked_of_a_hold() {
+    refused(with_hold(|hold| hold.lease.house = 3));
+    refused(with_hold(|hold| hold.lease.scope = 0));
+    refused(with_hold(|hold| hold.lease.identifier = vec![1]));
+    refused(with_hold(|hold| hold.lease.identifier = vec![1; 33]));
+    refused(with_hold(|hold| hold.lease.start = 2000));
+    refused(with_hold(|hold| hold.lease.offsets = vec![]));
+    refused(with_hold(|hold| hold.lease.offsets = vec![4]));
+    refused(with_hold(|hold| hold.lease.offsets = vec![1, 0]));
+    refused(with_hold(|hold| hold.lease.offsets = vec![1, 1]));
+    // Its period may be of the past or of next year.
+    accepted(with_hold(|hold| hold.lease.start = 0));
+    accepted(with_hold(|hold| hold.lease.end = u32::MAX));
+    accepted(with_hold(|hold| {
+        (hold.lease.start, hold.lease.end) = (u32::MAX - 1, u32::MAX);
+    }));
+}
+
+#[test]
+fn sixteen_leases_and_holds_together_to_a_house() {
+    let records = |leases: u8, holds: u8| {
+        move |book: &mut Book| {
+            for number in 0..leases + holds {
+                let start = 1000 + u32::from(number);
+                let period = (start, start + 1);
+                if number < leases {
+                    let lease = lease(1, &[0, number], period.0, period.1, &[0]);
+                    book.leases.push(lease);
+                } else {
+                    book.holds.push(hold(1, &[0, number], period, &[0], 1001));
+                }
+            }
+        }
+    };
+    for leases in [0, 1, 15, 16] {
+        accepted(records(leases, 16 - leases));
+        refused(records(leases, 17 - leases));
+    }
+}
+
+/// A book with a lease of house 1 from 1000 to 2000 on .0 and .1, and this hold.
+fn beside_a_lease(hold: Hold) -> impl FnOnce(&mut Book) {
+    move |book| {
+        book.leases = vec![lease(1, &[0, 1], 1000, 2000, &[0, 1])];
+        book.holds = vec![hold];
+    }
+}
+
+#[test]
+fn identifiers_of_leases_and_holds_differ_within_a_house() {
+    refused(beside_a_lease(hold(1, &[0, 1], (1000, 2000), &[2], 1030)));
+    accepted(beside_a_lease(hold(1, &[0, 2], (1000, 2000), &[2], 1030)));
+    accepted(beside_a_lease(hold(2, &[0, 1], (1000, 2000), &[2], 1030)));
+    refused(|book| {
+        book.holds = vec![
+            hold(1, &[0, 1], (1000, 2000), &[0], 1030),
+            hold(1, &[0, 1], (1000, 2000), &[1], 1030),
+        ];
+    });
+}
+
+#[test]
+fn holds_stand_in_the_files_order_by_themselves() {
+    let two = |first: (u8, &'static [u8]), second: (u8, &'static [u8])| {
+        move |book: &mut Book| {
+            book.holds = vec![
+                hold(first.0, first.1, (1000, 2000), &[0], 1030),
+                hold(second.0, second.1, (1000, 2000), &[1], 1030),
+            ];
+        }
+    };
+    accepted(two((1, &[0, 1]), (1, &[0, 1, 0])));
+    refused(two((1, &[0, 1, 0]), (1, &[0, 1])));
+    accepted(two((1, &[0, 2]), (2, &[0, 1])));
+    refused(two((2, &[0, 1]), (1, &[0, 2])));
+    accepted(beside_a_lease(hold(1, &[0, 0], (1000, 2000), &[2], 1030)));
+}
+
+#[test]
+fn holds_keep_houses_overlap_limits_and_shares() {
+    // On the lease's .1 before it ends, and as it ends; and another house's.
+    refused(beside_a_lease(hold(1, &[0, 2], (1999, 3000), &[1], 1030)));
+    accepted(beside_a_lease(hold(1, &[0, 2], (2000, 3000), &[1], 1030)));
+    refused(beside_a_lease(hold(2, &[0, 2], (2000, 3000), &[1], 1030)));
+    // House 1's limit is 3.
+    accepted(beside_a_lease(hold(1, &[0, 2], (1000, 3000), &[2], 1030)));
+    refused(beside_a_lease(hold(
+        1,
+        &[0, 2],
+        (1000, 3000),
+        &[2, 3],
+        1030,
+    )));
+    // Size 4 less house 1's share of 2.
+    accepted(with_hold(|held| {
+        *held = hold(2, &[0, 1], (1000, 2000), &[0, 1], 1030)
+    }));
+    refused(with_hold(|held| {
+        *held = hold(2, &[0, 1], (1000, 2000), &[0, 1, 2], 1030)
+    }));
+}
+
+#[test]
+fn no_release_on_a_hold_of_the_house() {
+    let held_by = |house| {
+        move |book: &mut Book| {
+            book.holds = vec![hold(house, &[0, 1], (1000, 2000), &[0], 1030)];
+            book.releases = vec![release(1, &[0, 1], 1, 1000)];
+        }
+    };
+    refused(held_by(1));
+    accepted(held_by(2));
 }

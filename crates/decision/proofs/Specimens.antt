@@ -1,5 +1,5 @@
--- Specimens: document 01's specimens P1 to P9 and those of skew, with Resend, RELEASE and DISCOVER, a RELEASE sent again (document 02, W-202), and
--- minimum lease and latest start (W-203), by computation: one table of cases.
+-- Specimens: document 01's specimens P1 to P9 and those of skew, with Resend, RELEASE and DISCOVER, a RELEASE sent again (document 02, W-202),
+-- minimum lease and latest start (W-203), and holds (W-205), by computation: one table of cases.
 use mathlib.Core.Path.{_≡_, refl}
 use mathlib.Core.List.{List, [], _∷_, _++_}
 use mathlib.Core.Bool.{Bool, true, false, not, _&&_}
@@ -18,15 +18,15 @@ use Rattle.message.specs.declared.Wish.{Wish}
 use Rattle.message.specs.declared.Fields.{Fields}
 use Rattle.message.specs.declared.Language.{Language}
 use Rattle.state.specs.declared.State.{State}
-use Rattle.state.specs.Book.{Book, changedTo, laidReleases, releasesAt, remembered, byIdentifier, zeroScope, laidOut, tableOf, insertOf, removeOf, liveOf, dropped, unionAll, addressesOf, overlaps, usedIn, withHeld, committed, insertedIn}
+use Rattle.state.specs.Book.{Book, changedTo, withClock, laidReleases, releasesAt, remembered, byIdentifier, zeroScope, laidOut, tableOf, insertOf, removeOf, liveOf, dropped, isHold, until, unionAll, addressesOf, overlaps, usedIn, withHeld, committed, insertedIn}
 use Rattle.allocation.specs.Rule.{takenOf, busyIn, allowed, grantOf, suffices, grantTo}
 use Rattle.state.specs.Edit.{leftIn, editedIn, applied, rememberOf, forgetOf, notedIn, noted, editedBook}
 use Rattle.releases.specs.Again.{isAgain, anyAgain}
 use Rattle.decision.specs.declared.Decided.{Decided}
 use Rattle.decision.specs.declared.Verdict.{Verdict}
-use Rattle.decision.specs.Parts.{heldAlready, isNew, hasPeriod, holdsOf, recordedOf, resends, releasedAgain, scopePlace, knowsScope, lacksScope, zeroLength, badCounts, lacksCurrent, early1Of, error1Of, skewed, error2Of, error3Of, wishedOr, startOf, lengthOf, endOf, askAt, fitsNew, newWith, newAt, newOf, othersBusy, fitsRenewed, renewedTo, renewedOf, proposalOf, error0Of, leaseFrom, withLease, plainReply, nakWith, discardWith, refusalOf, latestFirst, tooShort, tooLate, meets}
+use Rattle.decision.specs.Parts.{heldAlready, isNew, hasPeriod, holdsOf, recordedOf, resends, releasedAgain, scopePlace, knowsScope, lacksScope, zeroLength, badCounts, lacksCurrent, early1Of, error1Of, skewed, error2Of, error3Of, wishedOr, startOf, lengthOf, endOf, askAt, fitsNew, newWith, newAt, newOf, othersBusy, fitsRenewed, renewedTo, renewedOf, proposalOf, error0Of, leaseFrom, withLease, plainReply, nakWith, discardWith, refusalOf, latestFirst, tooShort, tooLate, meets, isLeased, isHeld, sameScope, isForHold, holdMeets, turned, dropsHold, broughtBy, heldFrom}
 use Rattle.decision.specs.laws.Code.{replyType}
-use Rattle.decision.specs.Decide.{leasedOf, plainOf, settledOf, judgedOf, decideOf}
+use Rattle.decision.specs.Decide.{leasedOf, plainOf, settledOf, repeatedOf, droppedFirst, judgedOf, decideOf}
 
 -- scope 239.192.0.0, size 4; tenant 1 reserve 2 limit 3; tenant 2 reserve 1 limit 4
 settings : ℕ → State
@@ -162,7 +162,7 @@ renewing5 start latest = bounded absent (given latest) (call 0 1000 4 3 4 1 1 0 
 
 -- the book that a call finds, and what is decided on it
 now : Book → Call → Book
-now b c = changedTo b (settings (c .time)) (dropped (c .time) (b .table)) (b .memory)
+now b c = changedTo b (withClock (b .state) (c .time)) (dropped (c .time) (b .table)) (b .memory)
 
 decided : Book → Call → Decided
 decided b c = decideOf (b .state) (b .table) (remembered (releasesAt (b .memory) (c .tenant))) (c .tenant) (c .fields)
@@ -171,10 +171,11 @@ run : Book → List Call → Book
 run b [] = b
 run b (c ∷ cs) = run (editedBook (decided (now b c) c .edit) (c .tenant) (now b c)) cs
 
-empty : Book
-empty = record { state = settings 0; table = tableOf (replicate 8 []); memory = record { releases = replicate 8 (laidReleases []) }; names = [] }
+empty : State → Book
+empty s = record { state = s; table = tableOf (replicate 8 []); memory = record { releases = replicate 8 (laidReleases []) }; names = [] }
 
 record Case : Type 0 where
+  settings-of : State
   before : List Call
   last : Call
   outcome : ℕ
@@ -184,18 +185,63 @@ record Case : Type 0 where
 
 holds : Case → Bool
 holds c =
-    let v : Verdict = decided (now (run empty (c .before)) (c .last)) (c .last) .verdict in
+    let v : Verdict = decided (now (run (empty (c .settings-of)) (c .before)) (c .last)) (c .last) .verdict in
     eqb (v .outcome) (c .outcome) && (eqb (replyType (v .reply)) (c .reply) && (eqb (v .error) (c .error) && eqb (v .addresses) (c .addresses)))
 
 allHold : List Case → Bool
 allHold [] = true
 allHold (c ∷ cs) = holds c && allHold cs
 
+-- in one scope: an ACK, a NAK, an OFFER, discard 8
 ack : List Call → Call → ℕ → Case
-ack before last addresses = record { before = before; last = last; outcome = 0; reply = 5; error = 0; addresses = addresses }
+ack before last addresses = record { settings-of = settings 0; before = before; last = last; outcome = 0; reply = 5; error = 0; addresses = addresses }
 
 nak : List Call → Call → ℕ → Case
-nak before last error = record { before = before; last = last; outcome = 0; reply = 6; error = error; addresses = 0 }
+nak before last error = record { settings-of = settings 0; before = before; last = last; outcome = 0; reply = 6; error = error; addresses = 0 }
+
+offer : List Call → Call → ℕ → Case
+offer before last addresses = record { settings-of = settings 0; before = before; last = last; outcome = 0; reply = 2; error = 0; addresses = addresses }
+
+unheard : List Call → Call → Case
+unheard before last = record { settings-of = settings 0; before = before; last = last; outcome = 8; reply = 0; error = 0; addresses = 0 }
+
+-- the same in two: a second, 239.193.0.0, size 2, of which either house may have both
+twoScopes : State
+twoScopes = record {
+  server = 167837953;
+  clock = 0;
+  «tenant_count» = 2;
+  tenants = record { low = 1; high = 9 } ∷ record { low = 10; high = 19 } ∷ replicate 6 (record { low = 0; high = 0 });
+  «scope_count» = 2;
+  scopes =
+      record { lowest = 4022337536; size = 4; ttl = 1; reserve = 2 ∷ 1 ∷ replicate 6 0; limit = 3 ∷ 4 ∷ replicate 6 0 }
+      ∷ record { lowest = 4022403072; size = 2; ttl = 1; reserve = replicate 8 0; limit = 2 ∷ 2 ∷ replicate 6 0 }
+      ∷ replicate 2 zeroScope;
+}
+
+inTwo : Case → Case
+inTwo c = record { settings-of = twoScopes; before = c .before; last = c .last; outcome = c .outcome; reply = c .reply; error = c .error; addresses = c .addresses }
+
+-- the same call for the second scope
+second : Call → Call
+second c = record {
+  tenant = c .tenant;
+  time = c .time;
+  fields = record {
+    kind = c .fields .kind;
+    xid = c .fields .xid;
+    id = c .fields .id;
+    allowed = c .fields .allowed;
+    scope = given 4022403072;
+    counts = c .fields .counts;
+    times = c .fields .times;
+    features = c .fields .features;
+    ours = c .fields .ours;
+    «list_asked» = c .fields .«list_asked»;
+    «time_asked» = c .fields .«time_asked»;
+    language = c .fields .language;
+  };
+}
 
 p1 : Call
 p1 = call 1 1000 3 1 1 1 4 0 0 0
@@ -217,6 +263,16 @@ turn k = call 1 (1000 + k) 3 k k 1 1 0 0 0 ∷ call 1 (1000 + k) 7 k k 1 1 0 0 0
 five : List Call
 five = turn 1 ++ turn 2 ++ turn 3 ++ turn 4 ++ turn 5
 
+-- W-205: house 1 is offered .0, .1 and .2 for a Lease Time from 1000; asks for them, by least and desired; house 2 asks for all that it can have
+held : ℕ → Call
+held len = call 0 1000 1 2 2 2 3 len 0 0
+
+wants : ℕ → ℕ → ℕ → Call
+wants time least desired = call 0 time 3 2 9 least desired 0 0 0
+
+other : ℕ → Call
+other time = call 1 time 3 1 1 1 4 0 0 0
+
 table : List Case
 table =
     -- P1: .0 and .1; P2: error 0
@@ -234,8 +290,8 @@ table =
     -- Resend; a held identifier; RELEASE and REQUEST again; DISCOVER, and one that draws an error; GETINFO
     ∷ ack (p1 ∷ p3 ∷ []) p3 12 ∷ nak (p1 ∷ p3 ∷ []) (call 0 1000 3 2 7 2 3 1000 0 0) 1
     ∷ ack (p1 ∷ call 1 1000 7 1 9 1 1 0 0 0 ∷ []) (call 1 1000 3 1 1 1 4 0 0 0) 3
-    ∷ record { before = p1 ∷ []; last = call 0 1000 1 2 2 2 3 0 0 0; outcome = 0; reply = 2; error = 0; addresses = 12 }
-    ∷ record { before = p1 ∷ []; last = call 0 1000 1 2 2 3 3 0 0 0; outcome = 8; reply = 0; error = 0; addresses = 0 }
+    ∷ offer (p1 ∷ []) (call 0 1000 1 2 2 2 3 0 0 0) 12
+    ∷ unheard (p1 ∷ []) (call 0 1000 1 2 2 3 3 0 0 0)
     ∷ ack [] (call 0 1000 8 2 2 1 1 0 0 0) 0
     -- error 1, a test each: an option that isn't allowed, no scope, another's scope, Lease Time 0, least 0, least above desired, 15 and 6 without 11; and none of them
     ∷ nak [] (asks false ours 1 1 absent false) 1
@@ -310,16 +366,45 @@ table =
     ∷ ack (p1 ∷ p3 ∷ p5 ∷ []) (bounded (given 604801) (given 1999) p5) 12
     ∷ ack (p1 ∷ p3 ∷ renewing3 0 absent absent ∷ []) (renewing3 0 (given 604801) (given 0)) 12
     -- a DISCOVER draws the OFFER, or discard 8 for each of the three
-    ∷ record { before = []; last = bounded (given 3600) (given 1000) (call 1 1000 1 1 1 1 1 0 0 1000); outcome = 0; reply = 2; error = 0; addresses = 1 }
-    ∷ record { before = []; last = bounded (given 3601) (given 1000) (call 1 1000 1 1 1 1 1 0 0 1000); outcome = 8; reply = 0; error = 0; addresses = 0 }
-    ∷ record { before = []; last = bounded (given 3600) (given 999) (call 1 1000 1 1 1 1 1 0 0 1000); outcome = 8; reply = 0; error = 0; addresses = 0 }
-    ∷ record { before = []; last = bounded absent (given 1999) (call 1 1000 1 1 1 1 1 0 2000 1000); outcome = 8; reply = 0; error = 0; addresses = 0 }
+    ∷ offer [] (bounded (given 3600) (given 1000) (call 1 1000 1 1 1 1 1 0 0 1000)) 1
+    ∷ unheard [] (bounded (given 3601) (given 1000) (call 1 1000 1 1 1 1 1 0 0 1000))
+    ∷ unheard [] (bounded (given 3600) (given 999) (call 1 1000 1 1 1 1 1 0 0 1000))
+    ∷ unheard [] (bounded absent (given 1999) (call 1 1000 1 1 1 1 1 0 2000 1000))
     -- a REQUEST that is refused so forgets no release
     ∷ ack (p3 ∷ released 1500 ∷ bounded (given 604801) absent (call 0 1500 3 2 8 1 1 0 0 0) ∷ []) (released 1510) 0
+    -- H1: an offer, and the REQUEST, which gets all that is held, also where it desires less; asked again it is a Resend, and a DISCOVER then is error 1
+    ∷ offer [] (held 1000) 7 ∷ ack (held 1000 ∷ []) (wants 1029 2 3) 7 ∷ ack (held 1000 ∷ []) (wants 1000 1 1) 7
+    ∷ ack (held 1000 ∷ wants 1029 2 3 ∷ []) (wants 1500 2 3) 7 ∷ unheard (held 1000 ∷ wants 1029 2 3 ∷ []) (call 0 1030 1 2 2 2 3 0 0 0)
+    -- H2: another house between gets what is not held, and the REQUEST what was offered
+    ∷ ack (held 1000 ∷ []) (other 1001) 8 ∷ ack (held 1000 ∷ other 1001 ∷ []) (wants 1029 2 3) 7
+    -- H3: it lapses after thirty seconds, or at its period's end, and the REQUEST is then new
+    ∷ ack (held 1000 ∷ []) (other 1029) 8 ∷ ack (held 1000 ∷ []) (other 1030) 3 ∷ ack (held 1000 ∷ other 1030 ∷ []) (wants 1030 2 3) 12
+    ∷ ack (held 10 ∷ []) (other 1009) 8 ∷ ack (held 10 ∷ []) (other 1010) 3
+    -- H4: a REQUEST for another scope drops it, where it is granted and where it is refused, but not by errors 1 and 2; a DISCOVER for another scope is error 1
+    ∷ inTwo (ack (held 1000 ∷ []) (second (wants 1001 1 2)) 3) ∷ inTwo (ack (held 1000 ∷ second (wants 1001 1 2) ∷ []) (other 1001) 3)
+    ∷ inTwo (nak (held 1000 ∷ []) (second (wants 1001 3 3)) 0) ∷ inTwo (ack (held 1000 ∷ second (wants 1001 3 3) ∷ []) (other 1001) 3)
+    ∷ inTwo (nak (held 1000 ∷ []) (second (wants 1001 0 3)) 1) ∷ inTwo (ack (held 1000 ∷ second (wants 1001 0 3) ∷ []) (other 1001) 8)
+    ∷ inTwo (nak (held 1000 ∷ []) (second (call 0 1001 3 2 9 1 1 0 0 9000)) 2) ∷ inTwo (ack (held 1000 ∷ second (call 0 1001 3 2 9 1 1 0 0 9000) ∷ []) (other 1001) 8)
+    ∷ inTwo (unheard (held 1000 ∷ []) (second (held 1000))) ∷ inTwo (ack (held 1000 ∷ second (held 1000) ∷ []) (wants 1001 2 3) 7)
+    -- H5: least above what is held, a length and a start that it does not have: error 0, and the hold is kept
+    ∷ nak (held 1000 ∷ []) (wants 1001 4 4) 0 ∷ unheard (held 1000 ∷ []) (call 0 1001 1 2 3 4 4 0 0 0) ∷ ack (held 1000 ∷ wants 1001 4 4 ∷ []) (wants 1002 3 3) 7
+    ∷ nak (held 1000 ∷ []) (bounded (given 1001) absent (wants 1001 1 1)) 0 ∷ ack (held 1000 ∷ []) (bounded (given 1000) absent (wants 1001 1 1)) 7
+    ∷ nak (held 1000 ∷ []) (bounded absent (given 999) (call 0 1001 3 2 9 1 1 0 0 1001)) 0 ∷ ack (held 1000 ∷ []) (bounded absent (given 1000) (call 0 1001 3 2 9 1 1 0 0 1001)) 7
+    -- H6: the offer again, whatever Start Time says, and it does not last longer for that
+    ∷ offer (held 1000 ∷ []) (call 0 1020 1 2 3 1 1 0 9999999 1020) 7 ∷ ack (held 1000 ∷ call 0 1020 1 2 3 1 1 0 0 0 ∷ []) (other 1029) 8
+    ∷ ack (held 1000 ∷ call 0 1020 1 2 3 1 1 0 0 0 ∷ []) (other 1030) 3
+    -- H7: RENEW and RELEASE of a hold are error 3, and the hold stays
+    ∷ nak (held 1000 ∷ []) (call 0 1001 4 2 4 1 1 0 0 0) 3 ∷ nak (held 1000 ∷ []) (call 0 1001 7 2 5 1 1 0 0 0) 3
+    ∷ ack (held 1000 ∷ call 0 1001 4 2 4 1 1 0 0 0 ∷ call 0 1001 7 2 5 1 1 0 0 0 ∷ []) (wants 1029 2 3) 7
+    -- H8: it forgets its identifier's release, which does not come back; an offer that isn't given forgets nothing
+    ∷ nak (p3 ∷ released 1500 ∷ call 0 1500 1 2 8 1 1 0 0 0 ∷ []) (released 1530) 3 ∷ ack (p3 ∷ released 1500 ∷ call 0 1500 1 2 8 4 4 0 0 0 ∷ []) (released 1530) 0
+    -- H9: P7 with a hold for P5's lease: a RENEW that overlaps it
+    ∷ nak (p1 ∷ p3 ∷ call 0 1000 1 3 3 2 2 0 2000 1000 ∷ []) (call 0 1000 4 2 4 1 1 1001 0 0) 0
+    ∷ ack (p1 ∷ p3 ∷ call 0 1000 1 3 3 2 2 0 2000 1000 ∷ []) (call 0 1000 4 2 4 1 1 1000 0 0) 12
     ∷ []
 
 specimens : allHold table ≡ true
-unfolding settings wish call now decided run empty replyType holds allHold ack nak p1 p3 p5 released turn five table pick filterBy isIn placeBy sumTo largest orderOf sameOf bit offsetsFrom setOf differenceOf upTo laidOut tableOf insertOf insertIn byIdentifier removeOf liveOf dropped unionAll addressesOf overlaps usedIn takenOf busyIn withHeld committed allowed grantOf suffices isNew hasPeriod holdsOf recordedOf resends scopePlace knowsScope lacksScope zeroLength badCounts lacksCurrent error1Of skewed error2Of error3Of wishedOr startOf lengthOf endOf askAt fitsNew newWith newAt newOf othersBusy fitsRenewed renewedTo renewedOf proposalOf error0Of leaseFrom withLease plainReply nakWith discardWith refusalOf leasedOf plainOf settledOf judgedOf decideOf insertedIn leftIn editedIn applied grantTo early1Of heldAlready laidReleases rememberOf forgetOf notedIn noted isAgain anyAgain releasedAgain latestFirst tooShort tooLate meets
+unfolding settings wish call now decided run empty replyType holds allHold ack nak offer unheard twoScopes inTwo second held wants other p1 p3 p5 released turn five table pick filterBy isIn placeBy sumTo largest orderOf sameOf bit offsetsFrom setOf differenceOf upTo laidOut tableOf insertOf insertIn byIdentifier removeOf liveOf dropped unionAll addressesOf overlaps usedIn takenOf busyIn withHeld committed allowed grantOf suffices isNew hasPeriod holdsOf recordedOf resends scopePlace knowsScope lacksScope zeroLength badCounts lacksCurrent error1Of skewed error2Of error3Of wishedOr startOf lengthOf endOf askAt fitsNew newWith newAt newOf othersBusy fitsRenewed renewedTo renewedOf proposalOf error0Of leaseFrom withLease plainReply nakWith discardWith refusalOf leasedOf plainOf settledOf judgedOf decideOf insertedIn leftIn editedIn applied grantTo early1Of heldAlready laidReleases rememberOf forgetOf notedIn noted isAgain anyAgain releasedAgain latestFirst tooShort tooLate meets isLeased isHeld isForHold dropsHold broughtBy droppedFirst until isHold sameScope holdMeets repeatedOf turned heldFrom
 specimens = refl
 
 -- W-203: Maximum Start Time before Start Time ends the matter before the identifier is looked for; equal it does not

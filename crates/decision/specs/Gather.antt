@@ -20,10 +20,10 @@ use Rattle.allocation.specs.Own.{grantIn}
 use Rattle.decision.specs.declared.Proposal.{Proposal}
 use Rattle.decision.specs.declared.Recorded.{Recorded}
 use Rattle.decision.specs.declared.Decided.{Decided}
-use Rattle.decision.specs.Parts.{isNew, leaseIdIn, holdsOf, recordedOf, scopePlace, startOf, endOf, askAt, fitsRenewed, renewedBy}
-use Rattle.decision.specs.Decide.{judgedOf}
+use Rattle.decision.specs.Parts.{isNew, hasPeriod, leaseIdIn, holdsOf, recordedOf, isForHold, dropsHold, scopePlace, startOf, endOf, askAt, fitsRenewed, renewedBy}
+use Rattle.decision.specs.Decide.{plainOf, settledOf, repeatedOf, droppedFirst, judgedOf}
 
--- is the identifier i held, and its lease (an unused record where it is not)
+-- is there a record of the identifier i, and the record (an unused one where there is none)
 unfoldable pub recordedIn : List ℕ → List Lease → Recorded
 recordedIn i own = record { found = ltb (placeOf i own) (length own); lease = leaseAt own (placeOf i own) }
 
@@ -56,7 +56,17 @@ unfoldable pub proposalIn : State → List Lease → HeldTable → ℕ → Field
 proposalIn s own held h m l = pick (isNew m) (newIn s own held h m) (renewedIn s own m l)
 
 -- ---- the decision: document 01's judgement of that
+-- the tenant's records without the hold that the message drops. `held` still has its addresses: they are of another scope than the one asked for, but where the
+-- hold is in the same scope, and there `judgedOf` does not look at what is asked for
+unfoldable pub broughtIn : List Lease → Fields → Lease → Bool → List Lease
+broughtIn own m o there = pick (dropsHold m o there) (removeOf (leaseIdIn m) own) own
+
+-- the last three branches of `judgedOf`, those past errors 1 to 3
+unfoldable pub pastErrors : State → Proposal → Fields → Lease → Bool → Decided
+pastErrors s p m o there = pick (isForHold s m o there) (repeatedOf m o) (pick (hasPeriod m) (droppedFirst (dropsHold m o there) o (settledOf s m o p)) (plainOf s m o))
+
 unfoldable pub decideIn : State → List Lease → List Release → HeldTable → ℕ → Fields → Decided
 decideIn s own q held h m =
     let o : Lease = recordedOf own m in
-    judgedOf s (proposalIn s own held h m o) q m o (holdsOf own m)
+    let there : Bool = holdsOf own m in
+    judgedOf s (proposalIn s (broughtIn own m o there) held h m o) q m o there

@@ -2,11 +2,12 @@
 use Prim.Native.Nat.{ℕ, _+_, _-_, min, max}
 use mathlib.Core.Bool.{Bool, not, _&&_, _||_}
 use mathlib.Core.List.{List}
-use lib.Dec.{ltb, eqb}
+use lib.Dec.{leb, ltb, eqb}
 use lib.Bits.{bitAnd}
 use lib.ListN.{take, length}
 use Rattle.lists.specs.Pick.{pick}
 use Rattle.lists.specs.Place.{placeBy}
+use Rattle.address_set.specs.AddressSet.{offsets}
 use Rattle.message.specs.declared.Wish.{Wish}
 use Rattle.message.specs.declared.Fields.{Fields}
 use Rattle.state.specs.declared.Lease.{Lease}
@@ -14,7 +15,7 @@ use Rattle.state.specs.declared.LeaseTable.{LeaseTable}
 use Rattle.state.specs.declared.Release.{Release}
 use Rattle.state.specs.declared.Scope.{Scope}
 use Rattle.state.specs.declared.State.{State}
-use Rattle.state.specs.Book.{inUse, laidOut, leaseWith, leasesOf, tenantAt, putAt, placeOf, leaseAt, removeOf, scopesOf, scopeAt}
+use Rattle.state.specs.Book.{holdTime, inUse, isHold, laidOut, lapsingAt, leaseWith, leasesOf, tenantAt, putAt, placeOf, leaseAt, removeOf, scopesOf, scopeAt}
 use Rattle.soundness.specs.Sound.{tenantsIn, scopesIn}
 use Rattle.releases.specs.Again.{anyAgain}
 use Rattle.allocation.specs.declared.Ask.{Ask}
@@ -58,12 +59,19 @@ ownOf b h = inUse (tenantAt b h)
 abbrev pub leaseIdIn : Fields → List ℕ
 leaseIdIn m = take (m .id .len) (m .id .octets)
 
--- is the identifier held, and its lease (an unused record where it is not)
+-- is there a record of the identifier, and the record (an unused one where there is none)
 unfoldable pub holdsOf : List Lease → Fields → Bool
 holdsOf own m = ltb (placeOf (leaseIdIn m) own) (length own)
 
 unfoldable pub recordedOf : List Lease → Fields → Lease
 recordedOf own m = leaseAt own (placeOf (leaseIdIn m) own)
+
+-- document 02, W-205: o, the record of the identifier where there is one, is a lease, or it is a hold
+unfoldable pub isLeased : Lease → Bool → Bool
+isLeased o there = there && not (isHold o)
+
+unfoldable pub isHeld : Lease → Bool → Bool
+isHeld o there = there && isHold o
 
 -- ---- Resend
 unfoldable pub resends : Fields → Lease → Bool
@@ -81,6 +89,14 @@ lowestIs lowest c = eqb (c .lowest) lowest
 
 unfoldable pub scopePlace : State → ℕ → ℕ
 scopePlace s lowest = placeBy (lowestIs lowest) (scopesOf s)
+
+-- a scope's number: its place, counted from 1
+abbrev pub scopeNumber : ℕ → ℕ
+scopeNumber k = min k 4 + 1
+
+-- a record in the scope that the message names
+unfoldable pub sameScope : State → Fields → Lease → Bool
+sameScope s m o = eqb (o .scope) (scopeNumber (scopePlace s (m .scope .value)))
 
 unfoldable pub knowsScope : State → Fields → Bool
 knowsScope s m = m .scope .there && ltb (scopePlace s (m .scope .value)) (scopesIn s)
@@ -109,15 +125,14 @@ latestFirst m = m .times .start .there && (m .times .latest .there && ltb (m .ti
 unfoldable pub early1Of : State → Fields → Bool
 early1Of s m = not (m .allowed) || (lacksScope s m || (zeroLength m || (badCounts m || (lacksCurrent m || latestFirst m))))
 
--- "DISCOVER or REQUEST with an identifier the house holds"
-unfoldable pub heldAlready : Fields → Bool → Bool
-heldAlready m held = isNew m && held
+-- "DISCOVER or REQUEST with an identifier the house holds": "now about leases, and about a DISCOVER for a hold in another scope" (W-205)
+unfoldable pub heldAlready : State → Fields → Lease → Bool → Bool
+heldAlready s m o there = (isNew m && isLeased o there) || (eqb (m .kind) 1 && (isHeld o there && not (sameScope s m o)))
 
 -- "an option that isn't allowed; DISCOVER or REQUEST whose scope is missing or not ours; Lease Time 0; least 0 or above desired;
--- 6 or 15 without 11;" "a Maximum Start Time before Start Time is error 1, after the test for 11" (W-203); "DISCOVER or REQUEST with an identifier the house
--- holds"
-unfoldable pub error1Of : State → Fields → Bool → Bool
-error1Of s m held = early1Of s m || heldAlready m held
+-- 6 or 15 without 11;" "a Maximum Start Time before Start Time is error 1, after the test for 11" (W-203); and `heldAlready`
+unfoldable pub error1Of : State → Fields → Lease → Bool → Bool
+error1Of s m o there = early1Of s m || heldAlready s m o there
 
 -- ---- error 2: "Current Time and clock more than 1,800 apart"
 unfoldable pub skewed : ℕ → ℕ → Bool
@@ -126,9 +141,9 @@ skewed a b = ltb skew ((a - b) + (b - a))
 unfoldable pub error2Of : State → Fields → Bool
 error2Of s m = m .times .current .there && skewed (m .times .current .value) (s .clock)
 
--- ---- error 3: "RENEW or RELEASE of an identifier the house doesn't hold"
-unfoldable pub error3Of : Fields → Bool → Bool
-error3Of m held = (eqb (m .kind) 4 || eqb (m .kind) 7) && not held
+-- ---- error 3: "RENEW or RELEASE of an identifier the house doesn't hold"; "RENEW and RELEASE for a hold draw error 3" (W-205)
+unfoldable pub error3Of : Fields → Lease → Bool → Bool
+error3Of m o there = (eqb (m .kind) 4 || eqb (m .kind) 7) && not (isLeased o there)
 
 -- ---- the period
 -- an option's value, or else d
@@ -150,7 +165,7 @@ endOf m from l = from + lengthOf m (l .end - l .start)
 -- DISCOVER and REQUEST: in the scope at place k
 unfoldable pub askAt : State → ℕ → Fields → ℕ → Ask
 askAt s h m k = record {
-  scope = min k 4 + 1;
+  scope = scopeNumber k;
   tenant = h;
   from = startOf m (s .clock) (s .clock);
   to = startOf m (s .clock) (s .clock) + lengthOf m defaultLease;
@@ -174,7 +189,7 @@ newOf s b h m = newAt s b h m (scopePlace s (m .scope .value))
 abbrev pub updated : LeaseTable → ℕ → List Lease → LeaseTable
 updated b h ls = putAt b h (laidOut ls)
 
--- RENEW: the addresses that other leases use in the new period
+-- RENEW: the addresses that other leases and holds use in the new period
 unfoldable pub othersBusy : LeaseTable → ℕ → Fields → ℕ → ℕ → ℕ → ℕ
 othersBusy b h m scope from to = busyIn scope from to (leasesOf (updated b h (removeOf (leaseIdIn m) (ownOf b h))))
 
@@ -197,7 +212,7 @@ unfoldable pub proposalOf : State → LeaseTable → ℕ → Fields → Lease �
 proposalOf s b h m l = pick (isNew m) (newOf s b h m) (renewedOf s b h m l)
 
 -- ---- document 02, W-203: "After the cut to the longest lease, a length below Minimum Lease Time can't be given, nor a start after Maximum Start Time". Asked
--- of a start, raised to the clock, and a length
+-- of a start and a length: those of what is asked for, raised and cut, or a hold's own
 unfoldable pub tooShort : Fields → ℕ → Bool
 tooShort m length = m .times .shortest .there && ltb length (m .times .shortest .value)
 
@@ -211,6 +226,32 @@ meets m start length = not (tooShort m length) && not (tooLate m start)
 -- ---- error 0: "start after clock plus horizon; end above 4,294,967,295; .."; W-203's two, of which "both are error 0"; and the test of its type
 unfoldable pub error0Of : State → Fields → Proposal → Bool
 error0Of s m p = ltb (s .clock + horizon) (p .start) || (ltb 4294967295 (p .end) || (not (meets m (p .start) (p .end - p .start)) || not (p .fits)))
+
+-- ---- document 02, W-205: a message for a hold
+-- a DISCOVER or REQUEST "for a hold in the same scope"
+unfoldable pub isForHold : State → Fields → Lease → Bool → Bool
+isForHold s m o there = isNew m && (isHeld o there && sameScope s m o)
+
+-- not "error 0, the hold kept, if these are fewer than its least or W-203 forbids the period": its addresses and its period
+unfoldable pub holdMeets : Fields → Lease → Bool
+holdMeets m o = leb (m .counts .least) (length (offsets (o .addresses))) && meets m (o .start) (o .end - o .start)
+
+-- "a REQUEST turns the hold into the lease with its period and addresses": type 3 and the REQUEST's transaction id
+unfoldable pub turned : Fields → Lease → Lease
+turned m o = leaseWith (o .scope) (o .«id_len») (o .id) 3 (m .xid) (o .start) (o .end) (o .addresses)
+
+-- "a REQUEST for another scope first drops the hold": asked where the hold is in another scope
+unfoldable pub dropsHold : Fields → Lease → Bool → Bool
+dropsHold m o there = eqb (m .kind) 3 && isHeld o there
+
+-- the book that such a REQUEST "brings to the grant rule": without the hold
+unfoldable pub broughtBy : LeaseTable → ℕ → Fields → Lease → Bool → LeaseTable
+broughtBy b h m o there = pick (dropsHold m o there) (updated b h (removeOf (leaseIdIn m) (ownOf b h))) b
+
+-- "An OFFER now leaves a hold: addresses and period as a lease has them, lapsing when the clock reaches thirty seconds after it, or the period's end if that is
+-- sooner". l is what is offered, with the DISCOVER's type and transaction id
+unfoldable pub heldFrom : ℕ → Lease → Lease
+heldFrom clock l = lapsingAt (min (clock + holdTime) (l .end)) l
 
 -- ---- the lease, and the verdicts
 

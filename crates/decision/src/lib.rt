@@ -1,4 +1,4 @@
-// The decision after tests 1 to 7: Resend, a RELEASE sent again, errors 1, 2, 3, 0 and what the message asks for, with what it does to the tenant's leases and to what
+// The decision after tests 1 to 7: Resend, a RELEASE sent again, errors 1, 2, 3, a hold, error 0 and what the message asks for, with what it does to the tenant's leases and to what
 // is remembered of it.
 mod numbers;
 mod proposals;
@@ -7,18 +7,24 @@ mod tests;
 ghost use mathlib.Core.Path.{_≡_};
 ghost use lib.ListN.{take};
 ghost use Rattle.state.specs.Book.{inUse, remembered};
-ghost use Rattle.state.specs.Edit.{leaving};
-ghost use Rattle.decision.specs.Parts.{withLease, plainReply, nakWith, discardWith, refusalOf};
-ghost use Rattle.decision.specs.Gather.{recordedIn, proposalIn, decideIn};
-ghost use Rattle.decision.specs.Decide.{unchanged, changed, leasedOf, plainOf, settledOf, judgedOf};
+ghost use Rattle.state.specs.Edit.{entering, leaving};
+ghost use Rattle.decision.specs.Parts.{withLease, plainReply, nakWith, discardWith, refusalOf, dropsHold, heldFrom};
+ghost use Rattle.decision.specs.Gather.{recordedIn, proposalIn, broughtIn, pastErrors, decideIn};
+ghost use Rattle.decision.specs.Decide.{unchanged, changed, leasedOf, plainOf, settledOf, repeatedOf, droppedFirst, judgedOf};
 ghost use Rattle.decision.specs.declared.Reply.the-variants.{Offer, LeaseAck, ReleaseAck, InfoAck};
+use crate::proposals::brought;
+use crate::proposals::hold_from;
 use crate::proposals::lease_from;
 use crate::proposals::propose;
+use crate::proposals::turn;
+use crate::tests::drops_hold;
 use crate::tests::error_0;
 use crate::tests::error_1;
 use crate::tests::error_2;
 use crate::tests::error_3;
 use crate::tests::has_period;
+use crate::tests::hold_meets;
+use crate::tests::is_for_hold;
 use crate::tests::is_released_again;
 use crate::tests::is_resend;
 use message::Fields;
@@ -66,7 +72,7 @@ pub struct Proposal {
     pub addresses: u64,
 }
 
-// Whether a tenant holds an identifier, and its lease, an unused record where it holds none.
+// Whether a tenant has a record of an identifier, a lease or a hold, and the record, an unused one where it has none.
 struct Recorded {
     found: bool,
     lease: Lease,
@@ -158,7 +164,19 @@ fn refuse(m: Fields, error: u8) -> Decided
     unchanged_by(v)
 }
 
-fn offer(l: Lease) -> Decided
+// The OFFER of a lease, which is held.
+fn offer(s: State, l: Lease) -> Decided
+    ensures { λ r. ⌜ r ≡ changed (entering (heldFrom (s .clock) l)) (withLease Offer l) ⌝ }
+{
+    let hold = hold_from(s.clock, l);
+    Decided {
+        verdict: with_lease(Reply::Offer, l),
+        edit: state::enter(hold),
+    }
+}
+
+// The OFFER of what is held already.
+fn offer_again(l: Lease) -> Decided
     ensures { λ r. ⌜ r ≡ unchanged (withLease Offer l) ⌝ }
 {
     let v = with_lease(Reply::Offer, l);
@@ -200,11 +218,11 @@ fn inform() -> Decided
     unchanged_by(v)
 }
 
-fn leased(m: Fields, old: Lease, l: Lease) -> Decided
-    ensures { λ r. ⌜ r ≡ leasedOf m old l ⌝ }
+fn leased(s: State, m: Fields, old: Lease, l: Lease) -> Decided
+    ensures { λ r. ⌜ r ≡ leasedOf s m old l ⌝ }
 {
     if m.kind == MessageType::DISCOVER {
-        return offer(l);
+        return offer(s, l);
     }
     if m.kind == MessageType::REQUEST {
         return acknowledge(state::enter(l), l);
@@ -228,15 +246,76 @@ fn settle(s: State, m: Fields, old: Lease, p: Proposal) -> Decided
         return refuse(m, 0);
     }
     let l = lease_from(m, p);
-    leased(m, old, l)
+    leased(s, m, old, l)
 }
 
-// Error 0, or a lease.
-fn lease(s: State, own: TenantLeases, held: HeldTable, h: usize, m: Fields, old: Lease) -> Decided
-    ensures { λ r. ⌜ r ≡ settledOf s m old (proposalIn s (inUse own) held h m old) ⌝ }
+// What a DISCOVER or REQUEST makes of a hold in the same scope.
+fn repeat(m: Fields, old: Lease) -> Decided
+    ensures { λ r. ⌜ r ≡ repeatedOf m old ⌝ }
 {
-    let p = propose(s, own, held, h, m, old);
-    settle(s, m, old, p)
+    if hold_meets(m, old) {
+        if m.kind == MessageType::DISCOVER {
+            return offer_again(old);
+        }
+        let l = turn(m, old);
+        return acknowledge(state::give_way(old, l), l);
+    }
+    refuse(m, 0)
+}
+
+// A decision before which a hold is dropped, also where it is a refusal.
+fn drop_before(drops: bool, old: Lease, d: Decided) -> Decided
+    ensures { λ r. ⌜ r ≡ droppedFirst drops old d ⌝ }
+{
+    if drops {
+        let v = d.verdict;
+        let e = d.edit;
+        return Decided {
+            verdict: v,
+            edit: state::drop_first(old, e),
+        };
+    }
+    d
+}
+
+// Error 0, or a lease, once a hold in another scope is dropped.
+fn lease(
+    s: State,
+    own: TenantLeases,
+    held: HeldTable,
+    h: usize,
+    m: Fields,
+    old: Lease,
+    there: bool,
+) -> Decided
+    ensures { λ r. ⌜ r ≡ droppedFirst (dropsHold m old there) old (settledOf s m old (proposalIn s (broughtIn (inUse own) m old there) held h m old)) ⌝ }
+{
+    let rest = brought(own, m, old, there);
+    let p = propose(s, rest, held, h, m, old);
+    let d = settle(s, m, old, p);
+    let drops = drops_hold(m, old, there);
+    drop_before(drops, old, d)
+}
+
+// What a message that has passed errors 1, 2 and 3 draws.
+fn answer(
+    s: State,
+    own: TenantLeases,
+    held: HeldTable,
+    h: usize,
+    m: Fields,
+    old: Lease,
+    there: bool,
+) -> Decided
+    ensures { λ r. ⌜ r ≡ pastErrors s (proposalIn s (broughtIn (inUse own) m old there) held h m old) m old there ⌝ }
+{
+    if is_for_hold(s, m, old, there) {
+        return repeat(m, old);
+    }
+    if has_period(m) {
+        return lease(s, own, held, h, m, old, there);
+    }
+    plain(s, m, old)
 }
 
 fn judge(
@@ -247,9 +326,9 @@ fn judge(
     h: usize,
     m: Fields,
     old: Lease,
-    found: bool,
+    there: bool,
 ) -> Decided
-    ensures { λ r. ⌜ r ≡ judgedOf s (proposalIn s (inUse own) held h m old) (remembered q) m old found ⌝ }
+    ensures { λ r. ⌜ r ≡ judgedOf s (proposalIn s (broughtIn (inUse own) m old there) held h m old) (remembered q) m old there ⌝ }
 {
     if is_resend(m, old) {
         return acknowledge(state::no_edit(), old);
@@ -257,19 +336,16 @@ fn judge(
     if is_released_again(s, q, m) {
         return acknowledge_again();
     }
-    if error_1(s, m, found) {
+    if error_1(s, m, old, there) {
         return refuse(m, 1);
     }
     if error_2(s, m) {
         return refuse(m, 2);
     }
-    if error_3(m, found) {
+    if error_3(m, old, there) {
         return refuse(m, 3);
     }
-    if has_period(m) {
-        return lease(s, own, held, h, m, old);
-    }
-    plain(s, m, old)
+    answer(s, own, held, h, m, old, there)
 }
 
 fn look_up(own: TenantLeases, id: [u8; 32], len: u8) -> Recorded

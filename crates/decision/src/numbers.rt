@@ -3,6 +3,8 @@ ghost use mathlib.Core.Path.{_≡_};
 ghost use mathlib.Core.Bool.{not, _&&_, _||_};
 ghost use Prim.Native.Nat.{_+_, min};
 ghost use lib.Dec.{ltb};
+ghost use Rattle.state.specs.Book.{holdTime};
+use state::HOLD_TIME;
 
 // Document 01's "Numbers we buy by", in seconds: how far Current Time may be from the clock, the length of a lease that names none, the longest
 // lease, and how long after the clock a lease may start.
@@ -21,6 +23,17 @@ pub fn cut_end(end: u64) -> u32
         return end as u32;
     }
     4294967295
+}
+
+// When a hold lapses: thirty seconds after the clock, or at the period's end if that is sooner.
+pub fn lapse_of(clock: u32, end: u32) -> u32
+    ensures { λ r. ⌜ r ≡ min (clock + holdTime) end ⌝ }
+{
+    let lapse = (clock as u64) + HOLD_TIME;
+    if lapse < (end as u64) {
+        return lapse as u32;
+    }
+    end
 }
 
 // A scope's number: its place, counted from 1.

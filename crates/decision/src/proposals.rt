@@ -5,19 +5,22 @@ ghost use lib.Dec.{ltb};
 ghost use lib.ListN.{take};
 ghost use Rattle.state.specs.Book.{inUse, addedIf, removeOf, busyOf};
 ghost use Rattle.allocation.specs.Rule.{suffices};
-ghost use Rattle.decision.specs.Parts.{wishedOr, startOf, lengthOf, endOf, askAt, fitsRenewed, leaseFrom};
-ghost use Rattle.decision.specs.Gather.{newBy, otherIn, newAtIn, newIn, renewedToIn, renewedIn, proposalIn};
+ghost use Rattle.decision.specs.Parts.{wishedOr, startOf, lengthOf, endOf, askAt, fitsRenewed, leaseFrom, turned, heldFrom};
+ghost use Rattle.decision.specs.Gather.{newBy, otherIn, newAtIn, newIn, renewedToIn, renewedIn, proposalIn, broughtIn};
 use crate::Proposal;
 use crate::numbers::DEFAULT_LEASE;
 use crate::numbers::LONGEST_LEASE;
 use crate::numbers::below_and;
 use crate::numbers::cut_end;
+use crate::numbers::lapse_of;
 use crate::numbers::number_of;
+use crate::tests::drops_hold;
 use crate::tests::is_new;
 use crate::tests::scope_place;
 use allocation::Ask;
 use allocation::Grant;
 use message::Fields;
+use message::MessageType;
 use message::Wish;
 use soundness::HeldTable;
 use state::Lease;
@@ -211,5 +214,38 @@ pub fn lease_from(m: Fields, p: Proposal) -> Lease
         start: p.start,
         end: end,
         addresses: p.addresses,
+        lapse: 0,
     }
+}
+
+// The lease that a hold becomes.
+pub fn turn(m: Fields, old: Lease) -> Lease
+    ensures { λ r. ⌜ r ≡ turned m old ⌝ }
+{
+    let mut now = old;
+    now.kind = MessageType::REQUEST;
+    now.xid = m.xid;
+    now.lapse = 0;
+    now
+}
+
+// The hold that an offer leaves.
+pub fn hold_from(clock: u32, l: Lease) -> Lease
+    ensures { λ r. ⌜ r ≡ heldFrom clock l ⌝ }
+{
+    let mut now = l;
+    now.lapse = lapse_of(clock, l.end);
+    now
+}
+
+// The records of the tenant that a message brings to the grant rule: without the hold that it drops.
+pub fn brought(own: TenantLeases, m: Fields, old: Lease, there: bool) -> TenantLeases
+    ensures { λ r. ⌜ inUse r ≡ broughtIn (inUse own) m old there ⌝ }
+{
+    if drops_hold(m, old, there) {
+        let i = m.id;
+        let octets = i.octets;
+        return state::remove(own, octets, i.len);
+    }
+    own
 }

@@ -1,9 +1,9 @@
-// Document 01's tests after test 7: Resend and errors 1, 2, 3 and 0.
+// Document 01's tests after test 7: Resend and errors 1, 2, 3 and 0; document 02's of a hold.
 ghost use mathlib.Core.Path.{_≡_};
 ghost use mathlib.Core.Bool.{not, _&&_, _||_};
 ghost use lib.Dec.{eqb};
 ghost use Rattle.state.specs.Book.{remembered};
-ghost use Rattle.decision.specs.Parts.{isNew, hasPeriod, resends, releasedAgain, lowestIs, scopePlace, knowsScope, lacksScope, zeroLength, badCounts, lacksCurrent, early1Of, heldAlready, error1Of, skewed, error2Of, error3Of, error0Of, latestFirst, tooShort, tooLate, meets};
+ghost use Rattle.decision.specs.Parts.{isNew, hasPeriod, resends, releasedAgain, lowestIs, scopePlace, knowsScope, lacksScope, zeroLength, badCounts, lacksCurrent, early1Of, isLeased, isHeld, sameScope, heldAlready, error1Of, skewed, error2Of, error3Of, error0Of, latestFirst, tooShort, tooLate, meets, isForHold, holdMeets, dropsHold};
 ghost use Prim.Native.Nat.{_-_};
 use crate::Proposal;
 use crate::numbers::HORIZON;
@@ -11,6 +11,7 @@ use crate::numbers::SKEW;
 use crate::numbers::and_below;
 use crate::numbers::and_not;
 use crate::numbers::either;
+use crate::numbers::number_of;
 use message::Fields;
 use message::MessageType;
 use state::Lease;
@@ -177,13 +178,60 @@ fn is_forbidden(m: Fields) -> bool
     !m.allowed
 }
 
-pub fn is_held_already(m: Fields, held: bool) -> bool
-    ensures { λ r. ⌜ r ≡ heldAlready m held ⌝ }
+// Whether the record of an identifier, where there is one, is a lease.
+fn is_leased(old: Lease, there: bool) -> bool
+    ensures { λ r. ⌜ r ≡ isLeased old there ⌝ }
 {
-    if is_new(m) {
-        return held;
+    and_not(there, state::is_hold(old))
+}
+
+// Whether it is a hold.
+fn is_held(old: Lease, there: bool) -> bool
+    ensures { λ r. ⌜ r ≡ isHeld old there ⌝ }
+{
+    if there {
+        return state::is_hold(old);
     }
     false
+}
+
+fn same_scope(s: State, m: Fields, old: Lease) -> bool
+    ensures { λ r. ⌜ r ≡ sameScope s m old ⌝ }
+{
+    let w = m.scope;
+    let k = scope_place(s, w.value);
+    old.scope == number_of(k)
+}
+
+// A DISCOVER for a hold in another scope.
+fn is_held_elsewhere(s: State, m: Fields, old: Lease, there: bool) -> bool
+    ensures { λ r. ⌜ r ≡ (eqb (m .kind) 1 && (isHeld old there && not (sameScope s m old))) ⌝ }
+{
+    if m.kind == MessageType::DISCOVER {
+        if is_held(old, there) {
+            return !same_scope(s, m, old);
+        }
+    }
+    false
+}
+
+// A DISCOVER or REQUEST for a lease.
+fn is_leased_already(m: Fields, old: Lease, there: bool) -> bool
+    ensures { λ r. ⌜ r ≡ (isNew m && isLeased old there) ⌝ }
+{
+    if is_new(m) {
+        return is_leased(old, there);
+    }
+    false
+}
+
+fn is_held_already(s: State, m: Fields, old: Lease, there: bool) -> bool
+    ensures { λ r. ⌜ r ≡ heldAlready s m old there ⌝ }
+{
+    if is_leased_already(m, old, there) {
+        return true;
+    }
+    is_held_elsewhere(s, m, old, there)
 }
 
 // What of error 1 does not ask for the identifier's lease.
@@ -208,13 +256,13 @@ pub fn early_1(s: State, m: Fields) -> bool
     latest_first(m)
 }
 
-pub fn error_1(s: State, m: Fields, held: bool) -> bool
-    ensures { λ r. ⌜ r ≡ error1Of s m held ⌝ }
+pub fn error_1(s: State, m: Fields, old: Lease, there: bool) -> bool
+    ensures { λ r. ⌜ r ≡ error1Of s m old there ⌝ }
 {
     if early_1(s, m) {
         return true;
     }
-    is_held_already(m, held)
+    is_held_already(s, m, old, there)
 }
 
 fn is_skewed(a: u32, b: u32) -> bool
@@ -237,11 +285,46 @@ pub fn error_2(s: State, m: Fields) -> bool
     false
 }
 
-pub fn error_3(m: Fields, held: bool) -> bool
-    ensures { λ r. ⌜ r ≡ error3Of m held ⌝ }
+pub fn error_3(m: Fields, old: Lease, there: bool) -> bool
+    ensures { λ r. ⌜ r ≡ error3Of m old there ⌝ }
 {
     let needs = needs_lease(m);
-    and_not(needs, held)
+    let leased = is_leased(old, there);
+    and_not(needs, leased)
+}
+
+// Whether a DISCOVER or REQUEST is for a hold in the same scope.
+pub fn is_for_hold(s: State, m: Fields, old: Lease, there: bool) -> bool
+    ensures { λ r. ⌜ r ≡ isForHold s m old there ⌝ }
+{
+    if is_new(m) {
+        if is_held(old, there) {
+            return same_scope(s, m, old);
+        }
+    }
+    false
+}
+
+// Whether a REQUEST drops a hold, that in another scope.
+pub fn drops_hold(m: Fields, old: Lease, there: bool) -> bool
+    ensures { λ r. ⌜ r ≡ dropsHold m old there ⌝ }
+{
+    if m.kind == MessageType::REQUEST {
+        return is_held(old, there);
+    }
+    false
+}
+
+// Whether a hold has the addresses and the period that the message takes.
+pub fn hold_meets(m: Fields, old: Lease) -> bool
+    ensures { λ r. ⌜ r ≡ holdMeets m old ⌝ }
+{
+    let c = m.counts;
+    if (c.least as u32) <= address_set::count(old.addresses) {
+        let n = arithmetic::monus(old.end, old.start);
+        return meets_wishes(m, old.start, n as u64);
+    }
+    false
 }
 
 // Whether a length is below the least that the message takes.

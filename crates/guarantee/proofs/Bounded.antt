@@ -4,7 +4,7 @@ use mathlib.Core.Path.{sym, subst}
 use mathlib.Core.Bool.{Bool, true, false, not}
 use mathlib.Core.List.{List, [], _∷_}
 use native.Mathlib.Omega.{arith}
-use lib.ListN.{getD, length, set}
+use lib.ListN.{getD, length}
 use lib.Dec.{ltb}
 use Rattle.lists.specs.Pick.{pick}
 use Rattle.lists.specs.All.{All}
@@ -26,11 +26,12 @@ use Rattle.allocation.specs.declared.Grant.{Grant}
 use Rattle.allocation.specs.Rule.{grantTo}
 use Rattle.state.specs.laws.Layout.{read-back}
 use Rattle.decision.specs.declared.Decided.{Decided}
-use Rattle.decision.specs.declared.Proposal.{Proposal}
-use Rattle.decision.specs.Parts.{isNew, leaseFrom, newAt, newOf, newWith, ownOf, proposalOf, recordedOf, renewedOf, renewedTo}
-use Rattle.decision.specs.Decide.{decideOf, judgedOf, leasedOf, plainOf, settledOf}
+use Rattle.decision.specs.laws.Cases.{decided-by, newFor, oldFor, without}
+use Rattle.decision.specs.Parts.{heldFrom, leaseFrom, newAt, newOf, newWith, ownOf, recordedOf, renewedOf, renewedTo, turned}
+use Rattle.decision.specs.Decide.{decideOf}
 use Rattle.server.specs.Serve.{Answer, Call, atClock, forServer, serveOf, withReading}
 use Rattle.guarantee.specs.Statement.{Narrow, StaysNarrow, bookAt, run}
+use Rattle.guarantee.proofs.Held.{set-either}
 use Rattle.guarantee.proofs.Ranges.{all-join, grant-small}
 use Rattle.guarantee.proofs.Walked.{all-filter, now-narrow}
 
@@ -38,20 +39,13 @@ abbrev F : Lease → Type 0
 F l = l .addresses < 2 ^ 64
 
 -- ---- lists of leases
-inserted : (l : Lease) (ls : List Lease) → F l → All F ls → All F (insertOf l ls)
+pub inserted : (l : Lease) (ls : List Lease) → F l → All F ls → All F (insertOf l ls)
 unfolding insertOf insertIn All
 inserted l ls f h = all-join F (filterBy (λ x. ordered x l) ls) (l ∷ filterBy (λ x. not (ordered x l)) ls) (all-filter F (λ x. ordered x l) ls h) (f, all-filter F (λ x. not (ordered x l)) ls h)
 
 removed : (i : List ℕ) (ls : List Lease) → All F ls → All F (removeOf i ls)
 unfolding removeOf
 removed i ls h = all-filter F _ ls h
-
-set-either : (P : TenantLeases → Type 0) (l : List TenantLeases) (i : ℕ) (v : TenantLeases) (c : ℕ) (d : TenantLeases) → P v → P (getD l c d) → P (getD (set l i v) c d)
-set-either P [] i v c d p q = q
-set-either P (x ∷ l) zero v zero d p q = p
-set-either P (x ∷ l) zero v (suc c) d p q = q
-set-either P (x ∷ l) (suc i) v zero d p q = q
-set-either P (x ∷ l) (suc i) v (suc c) d p q = set-either P l i v c d p q
 
 -- ---- an edit of a tenant's records
 left : (e : Edit) (t : TenantLeases) → All F (inUse t) → All F (inUse (leftIn e t))
@@ -93,10 +87,10 @@ grant-to-small : (c : Scope) (n : ℕ) (t : List (List Lease)) (a : Ask) → gra
 unfolding grantTo
 grant-to-small c n t a = pick-cases (λ (g : Grant). g .addresses < 2 ^ 64) (ltb (a .tenant) (min n 8)) _ _ (λ _. grant-small c (min n 8) t a) (λ _. omega arith)
 
-proposed : (s : State) (t : LeaseTable) (h : ℕ) (m : Fields) → All F (ownOf t h) → F (leaseFrom m (proposalOf s t h m (recordedOf (ownOf t h) m)))
-unfolding leaseFrom proposalOf newOf newAt newWith renewedOf renewedTo recordedOf
-proposed s t h m own =
-    pick-cases (λ (p : Proposal). p .addresses < 2 ^ 64) (isNew m) _ _ (λ _. grant-to-small _ _ _ _) (λ _. at-or-zero (ownOf t h) _ own)
+-- a new one, by any table
+new-small : (s : State) (t : LeaseTable) (h : ℕ) (m : Fields) → F (newFor s t h m)
+unfolding leaseFrom newOf newAt newWith
+new-small s t h m = grant-to-small _ _ _ _
 
 -- ---- the decision: what enters
 module _ (s : State) (t : LeaseTable) (h : ℕ) (m : Fields) (n : (g : ℕ) → All F (ownOf t g)) where
@@ -106,17 +100,26 @@ module _ (s : State) (t : LeaseTable) (h : ℕ) (m : Fields) (n : (g : ℕ) → 
   none : F zeroLease
   none = omega arith
 
-  either : (p : Bool) (x y : Decided) → P x → P y → P (pick p x y)
-  unfolding pick
-  either true x y a b = a
-  either false x y a b = b
+  mine : F (oldFor t h m)
+  unfolding recordedOf
+  mine = at-or-zero (ownOf t h) _ (n h)
 
   enters : (q : List Release) → P (decideOf s t q h m)
-  unfolding decideOf judgedOf settledOf leasedOf plainOf P
-  enters q =
-      either _ _ _ none (either _ _ _ none (either _ _ _ none (either _ _ _ none (either _ _ _ none (either _ _ _
-      (either _ _ _ none (either _ _ _ none (either _ _ _ (proposed s t h m (n h)) (proposed s t h m (n h)))))
-      (either _ _ _ none none))))))
+  unfolding P leaseFrom renewedOf renewedTo turned heldFrom
+  enters q = decided-by s t h m P (record {
+    resent = λ _. none;
+    again = none;
+    refused = λ _. none;
+    repeated = λ _ _. none;
+    taken = λ _ _. mine;
+    offered = λ _ _ _ _. new-small s t h m;
+    requested = λ _ _ _ _. new-small s t h m;
+    dropped = λ _ _. none;
+    moved = λ _ _ _ _. new-small s (without t h m) h m;
+    renewed = λ _ _ _ _. mine;
+    released = λ _ _. none;
+    informed = none;
+  }) q
 
   decided : (q : List Release) (g : ℕ) → All F (ownOf (applied (decideOf s t q h m .edit) h t) g)
   unfolding P

@@ -65,15 +65,24 @@ refused m e = go (eqb (m .kind) 1) (eqb (m .kind) 8)
     go false true = eight
     go false false = replied _ refl
 
+-- a REQUEST that is refused draws a NAK, also where it has dropped a hold
+nak : (m : Fields) (e : ℕ) (x : Edit) → m .kind ≡ 3 → Judged (changed x (refusalOf m e))
+unfolding refusalOf nakWith pick
+nak m e x k = replied _ (ap (λ (n : ℕ). pick (eqb n 1) (discardWith 8) (pick (eqb n 8) (discardWith 8) (nakWith e)) .outcome) k)
+
 decided : (s : State) (t : LeaseTable) (q : List Release) (h : ℕ) (m : Fields) → Judged (decideOf s t q h m)
 decided s t q h m = decided-by s t h m Judged (record {
-  resent = λ e. leased LeaseAck _ _;
+  resent = λ _. leased LeaseAck _ _;
   again = plain ReleaseAck _;
   refused = refused m;
-  offered = λ k ok e. leased Offer _ _;
-  requested = λ k ok e. leased LeaseAck _ _;
-  renewed = λ k ok held e. leased LeaseAck _ _;
-  released = λ k held. plain ReleaseAck _;
+  repeated = λ _ _. leased Offer _ _;
+  taken = λ _ _. leased LeaseAck _ _;
+  offered = λ _ _ _ _. leased Offer _ _;
+  requested = λ _ _ _ _. leased LeaseAck _ _;
+  dropped = λ k _. nak m 0 _ k;
+  moved = λ _ _ _ _. leased LeaseAck _ _;
+  renewed = λ _ _ _ _. leased LeaseAck _ _;
+  released = λ _ _. plain ReleaseAck _;
   informed = plain InfoAck _;
 }) q
 

@@ -1,240 +1,153 @@
 -- Proof of demand 3: a new REQUEST within the unused reserve is granted on every sound book, and so after any list of calls.
-use Prim.Native.Nat.{ℕ, _+_, _-_, _≤_, _<_, min}
+use Prim.Native.Nat.{ℕ, _≤_, _<_}
 use mathlib.Core.Path.{_≡_, refl, ap, ap₂, _∙_}
 use mathlib.Core.Bool.{Bool, true, false, not, _&&_, _||_}
-use mathlib.Core.List.{List, []}
+use mathlib.Core.List.{List}
 use native.Mathlib.Omega.{arith}
-use lib.Dec.{ltb, eqb}
+use lib.Dec.{eqb}
 use lib.ListN.{length}
-use lib.Seq.{getD-set-same}
-use borrow.Author.Tests.{eq-eqb, eqb-false, lt-ltb, le-ltb, ltb-true, ltb-false, le-leb}
 use Rattle.lists.specs.Pick.{pick}
-use Rattle.lists.specs.laws.Both.{and-both, and-parts}
 use Rattle.address_set.specs.AddressSet.{offsets}
 use Rattle.message.specs.declared.Fields.{Fields}
-use Rattle.message.specs.Read.{readOf}
-use Rattle.reply.specs.Reply.{leastRoom, leaseAckOf}
+use Rattle.reply.specs.Reply.{leaseAckOf}
 use Rattle.reply.specs.Ranges.{addressesIn}
 use Rattle.state.specs.declared.Lease.{Lease}
 use Rattle.state.specs.declared.LeaseTable.{LeaseTable}
 use Rattle.state.specs.declared.Release.{Release}
 use Rattle.state.specs.declared.State.{State}
-use Rattle.state.specs.Book.{Book, advanced, idOf, inUse, insertOf, laidOut, laidReleases, leaseWith, leasesOf, putReleases, releasesAt, remembered, removeOf, scopeAt}
+use Rattle.state.specs.Book.{Book, advanced, idOf, inUse, insertOf, laidReleases, leasesOf, putReleases, releasesAt, remembered, removeOf}
 use Rattle.state.specs.Edit.{entering, forgetOf, noted, notedIn}
-use Rattle.state.specs.laws.Edited.{applied-entering, applied-others}
-use Rattle.state.specs.laws.Layout.{read-back}
-use Rattle.releases.specs.Whole.{bookB}
+use Rattle.state.specs.laws.Edited.{applied-others}
 use Rattle.releases.specs.laws.Whole.{advanced-names, book-sound}
-use Rattle.soundness.specs.Sound.{scopesIn, tenantsIn}
+use Rattle.soundness.specs.Sound.{tenantsIn}
 use Rattle.soundness.specs.laws.Book.{Sound, sound-lists}
-use Rattle.allocation.specs.declared.Ask.{Ask}
-use Rattle.allocation.specs.declared.Grant.{Grant}
-use Rattle.allocation.specs.Rule.{grantOf, suffices, unusedReserve}
-use Rattle.allocation.specs.laws.Granted.{grant-exists, guaranteed}
 use Rattle.decision.specs.declared.Decided.{Decided}
 use Rattle.decision.specs.declared.Reply.the-variants.{LeaseAck}
 use Rattle.releases.specs.Again.{anyAgain}
-use Rattle.decision.specs.laws.Cases.{Passed, passed, new-known, or-none}
-use Rattle.decision.specs.Parts.{horizon, defaultLease, askAt, badCounts, error0Of, error1Of, error2Of, error3Of, fitsNew, hasPeriod, holdsOf, isNew, knowsScope, leaseFrom, leaseIdIn, lengthOf, newOf, newWith, ownOf, proposalOf, recordedOf, releasedAgain, resends, scopePlace, startOf, withLease, meets}
-use Rattle.decision.specs.Decide.{changed, decideOf, judgedOf, leasedOf, settledOf}
-use Rattle.server.specs.Serve.{Answer, Call, answered, atClock, forServer, headOf, replyOf, serveOf, withReading}
-use Rattle.guarantee.specs.Statement.{Demand3, Granted, NewRequest, SoundBook, askFor, bookAt, grantFor, leaseFor, placeFor, releasesFor, run, saysOf, scopeFor, stateAt, tableAt, tenantFor, termsFor}
-use Rattle.guarantee.proofs.Inserted.{others-stay}
-use Rattle.guarantee.proofs.Ranges.{ack-names, grant-small, named-head, offsets-some, pool-fits}
+use Rattle.decision.specs.laws.Cases.{Passed, new-type, nothing-there, or-none, passed}
+use Rattle.decision.specs.laws.Ensured.{decide-free, judgedFree}
+use Rattle.decision.specs.Parts.{early1Of, heldAlready, isHeld, badCounts, error0Of, error1Of, error2Of, hasPeriod, holdsOf, isNew, knowsScope, leaseFrom, leaseIdIn, newOf, ownOf, proposalOf, recordedOf, releasedAgain, resends, withLease}
+use Rattle.decision.specs.Decide.{changed, decideOf, leasedOf, settledOf}
+use Rattle.server.specs.Serve.{Answer, Call, answered, headOf, replyOf, serveOf}
+use Rattle.guarantee.specs.Statement.{Demand3, Granted, NewRequest, SoundBook, bookAt, grantFor, leaseFor, placeFor, releasesFor, run, saysOf, stateAt, tableAt, tenantFor, termsFor}
+use Rattle.guarantee.proofs.Inserted.{entered, others-stay}
+use Rattle.guarantee.proofs.Proposed as proposed
+use Rattle.guarantee.proofs.Reached.{decided-there, not-taken, taken}
+use Rattle.guarantee.proofs.Ranges.{ack-names, named-head, pool-fits}
 use Rattle.guarantee.proofs.Kept.{now-sound, run-sound, within-limits}
 
--- ---- tests that go one way
-taken : {A : Type 0} (t : Bool) (x y : A) → t ≡ true → pick t x y ≡ x
-unfolding pick
-taken t x y e = ap (λ (b : Bool). pick b x y) e
-
-not-taken : {A : Type 0} (t : Bool) (x y : A) → t ≡ false → pick t x y ≡ y
-unfolding pick
-not-taken t x y e = ap (λ (b : Bool). pick b x y) e
-
-none-or : {a b : Bool} → a ≡ false → b ≡ false → (a || b) ≡ false
-none-or {a} {b} p q = ap (λ (x : Bool). x || b) p ∙ q
-
--- ---- a REQUEST that passes the checks before error 0, for a tenant h of a sound book
+-- ---- a REQUEST that passes the checks before error 0, for a tenant h of a sound book, whose identifier has no hold
 module _ (s : State) (t : LeaseTable) (h : ℕ) (m : Fields) (v : Sound s (leasesOf t)) (known : h < tenantsIn s) (request : m .kind ≡ 3)
-    (new : resends m (recordedOf (ownOf t h) m) ≡ false) (error1 : error1Of s m (holdsOf (ownOf t h) m) ≡ false) (error2 : error2Of s m ≡ false) where
+    (new : resends m (recordedOf (ownOf t h) m) ≡ false) (free : isHeld (recordedOf (ownOf t h) m) (holdsOf (ownOf t h) m) ≡ false)
+    (error1 : error1Of s m (recordedOf (ownOf t h) m) (holdsOf (ownOf t h) m) ≡ false) (error2 : error2Of s m ≡ false) where
+  abbrev O : Lease
+  O = recordedOf (ownOf t h) m
+
+  abbrev T : Bool
+  T = holdsOf (ownOf t h) m
+
   is-new : isNew m ≡ true
-  unfolding isNew
-  is-new = ap (λ (x : ℕ). eqb x 1 || eqb x 3) request
+  is-new = new-type m request refl
 
   -- what error 1 leaves: the scope is ours, least is not 0 and at most desired, and the identifier is not held
-  left : Passed s m (holdsOf (ownOf t h) m)
-  left = passed s m (holdsOf (ownOf t h) m) error1
+  left : Passed s m O T
+  left = passed s m O T error1
 
-  pub here : scopePlace s (m .scope .value) < scopesIn s
-  unfolding knowsScope
-  here =
-      ltb-true (scopePlace s (m .scope .value)) (scopesIn s)
-      (and-parts (m .scope .there) (ltb (scopePlace s (m .scope .value)) (scopesIn s)) (left .scope is-new) .1)
+  pub ours : knowsScope s m ≡ true
+  ours = left .scope is-new
 
-  counts : (0 < m .counts .least) × (m .counts .least ≤ m .counts .desired)
-  unfolding badCounts
-  counts =
-      let p = or-none (eqb (m .counts .least) 0) (ltb (m .counts .desired) (m .counts .least)) (left .counts) in
-      let q = eqb-false (m .counts .least) 0 (p .0) in
-      (omega arith, ltb-false (m .counts .desired) (m .counts .least) (p .1))
+  pub good : badCounts m ≡ false
+  good = left .counts
 
-  pub not-held : holdsOf (ownOf t h) m ≡ false
-  not-held = left .new is-new
+  pub not-held : T ≡ false
+  not-held = nothing-there O T (left .new is-new) free
 
-  -- what is asked for
-  abbrev A : Ask
-  A = record {
-    scope = scopePlace s (m .scope .value) + 1;
-    tenant = h;
-    from = startOf m (s .clock) (s .clock);
-    to = startOf m (s .clock) (s .clock) + lengthOf m defaultLease;
-    desired = m .counts .desired;
-  }
+  no-error1 : (early1Of s m || (isNew m && T)) ≡ false
+  unfolding error1Of
+  no-error1 = ap₂ (λ (x y : Bool). x || (isNew m && y)) (or-none (early1Of s m) (heldAlready s m O T) error1 .0) not-held ∙ ap (λ (x : Bool). x && false) is-new
 
-  asked : askAt s h m (scopePlace s (m .scope .value)) ≡ A
-  unfolding askAt
-  asked =
-      ap {B = Ask} (λ (k : ℕ). record {
-        scope = k;
-        tenant = h;
-        from = startOf m (s .clock) (s .clock);
-        to = startOf m (s .clock) (s .clock) + lengthOf m defaultLease;
-        desired = m .counts .desired;
-      }) (let p = here in let e : min (scopePlace s (m .scope .value)) 4 + 1 ≡ scopePlace s (m .scope .value) + 1 = omega arith in e)
+  -- a REQUEST is no RELEASE sent again
+  no-again : (q : List Release) → releasedAgain s q m ≡ false
+  unfolding releasedAgain
+  no-again q = ap (λ (k : ℕ). eqb k 7 && anyAgain (s .clock) (leaseIdIn m) (m .xid) q) request
 
-  abbrev U : ℕ
-  U = unusedReserve (scopeAt s (scopePlace s (m .scope .value))) (leasesOf t) A
+  has-period : hasPeriod m ≡ true
+  unfolding hasPeriod
+  has-period = ap (λ (b : Bool). b || eqb (m .kind) 4) is-new
 
-  abbrev G : Grant
-  G = grantOf (scopeAt s (scopePlace s (m .scope .value))) (tenantsIn s) (leasesOf t) A
+  proposal-is : proposalOf s t h m O ≡ newOf s t h m
+  unfolding proposalOf
+  proposal-is = taken (isNew m) _ _ is-new
 
-  pub enough : min (m .counts .desired) U ≤ G .number
-  enough = guaranteed s (leasesOf t) v (scopePlace s (m .scope .value)) here A refl known
-
-  proposed : newOf s t h m ≡ newWith t m A G
-  proposed =
-      new-known s t h m known
-      ∙ ap (λ (a : Ask). newWith t m a (grantOf (scopeAt s (scopePlace s (m .scope .value))) (tenantsIn s) (leasesOf t) a)) asked
-
-  -- the lease that it records
-  abbrev L : Lease
-  L = leaseWith (scopePlace s (m .scope .value) + 1) (m .id .len) (m .id .octets) 3 (m .xid)
-      (startOf m (s .clock) (s .clock)) (startOf m (s .clock) (s .clock) + lengthOf m defaultLease) (G .addresses)
-
-  -- ---- inside, with a record left and least at most the unused reserve
-  module _ (soon : startOf m (s .clock) (s .clock) ≤ s .clock + horizon) (fits : startOf m (s .clock) (s .clock) + lengthOf m defaultLease ≤ 4294967295)
-      (met : meets m (startOf m (s .clock) (s .clock)) (lengthOf m defaultLease) ≡ true) (left : length (ownOf t h) < 16) (least : m .counts .least ≤ U) where
-    suffice : m .counts .least ≤ G .number
-    suffice = let p = enough in let q = counts in omega arith
-
-    pub some : 1 ≤ G .number
-    some = let p = suffice in let q = counts in omega arith
-
-    pub exact : length (offsets (G .addresses)) ≡ G .number
-    exact = grant-exists s (leasesOf t) v (scopePlace s (m .scope .value)) here A refl known (let p = suffice in let q = counts in omega arith)
-
-    length-left : (startOf m (s .clock) (s .clock) + lengthOf m defaultLease) - startOf m (s .clock) (s .clock) ≡ lengthOf m defaultLease
-    length-left = omega arith
-
-    no-error : error0Of s m (newOf s t h m) ≡ false
-    unfolding error0Of newWith fitsNew suffices
-    no-error =
-        ap (error0Of s m) proposed
-        ∙ none-or (le-ltb (s .clock + horizon) (startOf m (s .clock) (s .clock)) soon)
-        (none-or (le-ltb 4294967295 (startOf m (s .clock) (s .clock) + lengthOf m defaultLease) fits)
-        (none-or (ap not (ap (meets m (startOf m (s .clock) (s .clock))) length-left ∙ met))
-        (ap not (and-both (lt-ltb (length (ownOf t h)) 16 left) (le-leb (m .counts .least) (G .number) suffice)))))
-
-    recorded : leaseFrom m (newOf s t h m) ≡ L
-    unfolding leaseFrom newWith
-    recorded =
-        ap (leaseFrom m) proposed
-        ∙ ap₂ (λ (kind end : ℕ). leaseWith (scopePlace s (m .scope .value) + 1) (m .id .len) (m .id .octets) kind (m .xid) (startOf m (s .clock) (s .clock)) end (G .addresses))
-        request
-        (let e : min (startOf m (s .clock) (s .clock) + lengthOf m defaultLease) 4294967295 ≡ startOf m (s .clock) (s .clock) + lengthOf m defaultLease = omega arith in e)
-
-    no-error3 : error3Of m (holdsOf (ownOf t h) m) ≡ false
-    unfolding error3Of
-    no-error3 = ap (λ (k : ℕ). (eqb k 4 || eqb k 7) && not (holdsOf (ownOf t h) m)) request
-
-    has-period : hasPeriod m ≡ true
-    unfolding hasPeriod
-    has-period = ap (λ (b : Bool). b || eqb (m .kind) 4) is-new
-
-    proposal-is : proposalOf s t h m (recordedOf (ownOf t h) m) ≡ newOf s t h m
-    unfolding proposalOf
-    proposal-is = taken (isNew m) _ _ is-new
-
-    -- a REQUEST is no RELEASE sent again
-    no-again : (q : List Release) → releasedAgain s q m ≡ false
-    unfolding releasedAgain
-    no-again q = ap (λ (k : ℕ). eqb k 7 && anyAgain (s .clock) (leaseIdIn m) (m .xid) q) request
-
-    pub decided : (q : List Release) → decideOf s t q h m ≡ changed (entering L) (withLease LeaseAck L)
-    unfolding decideOf judgedOf settledOf leasedOf
-    decided q =
-        not-taken (resends m (recordedOf (ownOf t h) m)) _ _ new
-        ∙ not-taken (releasedAgain s q m) _ _ (no-again q)
-        ∙ not-taken (error1Of s m (holdsOf (ownOf t h) m)) _ _ error1
-        ∙ not-taken (error2Of s m) _ _ error2
-        ∙ not-taken (error3Of m (holdsOf (ownOf t h) m)) _ _ no-error3
-        ∙ taken (hasPeriod m) _ _ has-period
-        ∙ ap (settledOf s m (recordedOf (ownOf t h) m)) proposal-is
-        ∙ not-taken (error0Of s m (newOf s t h m)) _ _ no-error
-        ∙ ap (leasedOf m (recordedOf (ownOf t h) m)) recorded
-        ∙ not-taken (eqb (m .kind) 1) _ _ (ap (λ (k : ℕ). eqb k 1) request)
-        ∙ taken (eqb (m .kind) 3) _ _ (ap (λ (k : ℕ). eqb k 3) request)
-
-    pub acknowledged : (names : List ℕ) → replyOf s names h m (withLease LeaseAck L) ≡ leaseAckOf (headOf s m) (record {
-      length = (startOf m (s .clock) (s .clock) + lengthOf m defaultLease) - startOf m (s .clock) (s .clock);
-      start = startOf m (s .clock) (s .clock);
-      scope = scopeAt s (scopePlace s (m .scope .value)) .lowest;
-      addresses = G .addresses;
-      clock = s .clock;
-    })
-    unfolding replyOf withLease
-    acknowledged names =
-        ap (λ (k : ℕ). leaseAckOf (headOf s m) (record {
-          length = (startOf m (s .clock) (s .clock) + lengthOf m defaultLease) - startOf m (s .clock) (s .clock);
-          start = startOf m (s .clock) (s .clock);
-          scope = scopeAt s k .lowest;
-          addresses = G .addresses;
-          clock = s .clock;
-        })) (let e : (scopePlace s (m .scope .value) + 1) - 1 ≡ scopePlace s (m .scope .value) = omega arith in e)
+  -- it is recorded where error 0 passes
+  pub decided : (q : List Release) (l : Lease) → error0Of s m (newOf s t h m) ≡ false → leaseFrom m (newOf s t h m) ≡ l → decideOf s t q h m ≡ changed (entering l) (withLease LeaseAck l)
+  unfolding judgedFree settledOf leasedOf
+  decided q l error0 recorded =
+      decide-free s t q h m free
+      ∙ not-taken (resends m O) _ _ new
+      ∙ not-taken (releasedAgain s q m) _ _ (no-again q)
+      ∙ not-taken (early1Of s m || (isNew m && T)) _ _ no-error1
+      ∙ not-taken (error2Of s m) _ _ error2
+      ∙ not-taken ((eqb (m .kind) 4 || eqb (m .kind) 7) && not T) _ _ (ap (λ (k : ℕ). (eqb k 4 || eqb k 7) && not T) request)
+      ∙ taken (hasPeriod m) _ _ has-period
+      ∙ ap (settledOf s m O) proposal-is
+      ∙ not-taken (error0Of s m (newOf s t h m)) _ _ error0
+      ∙ ap (leasedOf s m O) recorded
+      ∙ not-taken (eqb (m .kind) 1) _ _ (ap (λ (k : ℕ). eqb k 1) request)
+      ∙ taken (eqb (m .kind) 3) _ _ (ap (λ (k : ℕ). eqb k 3) request)
 
 -- ---- the call
 module _ (b : Book) (c : Call) (v : SoundBook b) (r : NewRequest b c) where
   S : Sound (stateAt b c) (leasesOf (tableAt b c))
   S = sound-lists (stateAt b c) (tableAt b c) (book-sound (bookAt b c) (now-sound b c v .sound))
 
+  scope-ours : knowsScope (stateAt b c) (saysOf b c) ≡ true
+  scope-ours = ours (stateAt b c) (tableAt b c) (tenantFor b c) (saysOf b c) S (r .house) (r .request) (r .new) (r .free) (r .error1) (r .error2)
+
+  counts-good : badCounts (saysOf b c) ≡ false
+  counts-good = good (stateAt b c) (tableAt b c) (tenantFor b c) (saysOf b c) S (r .house) (r .request) (r .new) (r .free) (r .error1) (r .error2)
+
+  no-error : error0Of (stateAt b c) (saysOf b c) (newOf (stateAt b c) (tableAt b c) (tenantFor b c) (saysOf b c)) ≡ false
+  no-error = proposed.no-error (stateAt b c) (tableAt b c) (tenantFor b c) (saysOf b c) S (r .house) scope-ours counts-good (r .soon) (r .fits) (r .met) (r .left) (r .least)
+
+  -- it is more than least, so that there is one
+  some : (saysOf b c .counts .least ≤ grantFor b c .number) × (1 ≤ grantFor b c .number)
+  some =
+      let p = proposed.enough (stateAt b c) (tableAt b c) (tenantFor b c) (saysOf b c) S (r .house) scope-ours counts-good in
+      let q = proposed.counts (stateAt b c) (tableAt b c) (tenantFor b c) (saysOf b c) S (r .house) scope-ours counts-good in
+      let e = r .least in
+      (omega arith, omega arith)
+
+  exact : length (offsets (grantFor b c .addresses)) ≡ grantFor b c .number
+  exact = proposed.exact (stateAt b c) (tableAt b c) (tenantFor b c) (saysOf b c) S (r .house) scope-ours counts-good (some .0)
+
   abbrev D : Decided
   D = changed (entering (leaseFor b c)) (withLease LeaseAck (leaseFor b c))
 
   served : serveOf b c ≡ answered (bookAt b c) (tenantFor b c) (saysOf b c) D
-  unfolding serveOf atClock withReading forServer
   served =
-      taken (bookB b) _ _ (v .sound)
-      ∙ not-taken (ltb (c .room) leastRoom) _ _ (le-ltb (c .room) leastRoom (r .room))
-      ∙ taken (ltb (tenantFor b c) (tenantsIn (stateAt b c))) _ _ (lt-ltb (tenantFor b c) (tenantsIn (stateAt b c)) (r .house))
-      ∙ taken (eqb (readOf (c .datagram) .discard) 0) _ _ (eq-eqb (readOf (c .datagram) .discard) 0 (r .read))
-      ∙ not-taken (eqb (saysOf b c .kind) 3 && not (saysOf b c .ours)) _ _ (ap₂ (λ (k : ℕ) (o : Bool). eqb k 3 && not o) (r .request) (r .ours))
+      decided-there b c (record {
+        sound = v .sound;
+        room = r .room;
+        house = r .house;
+        read = r .read;
+        ours = ap₂ (λ (k : ℕ) (o : Bool). eqb k 3 && not o) (r .request) (r .ours);
+      })
       ∙ ap (answered (bookAt b c) (tenantFor b c) (saysOf b c))
-      (decided (stateAt b c) (tableAt b c) (tenantFor b c) (saysOf b c) S (r .house) (r .request) (r .new) (r .error1) (r .error2) (r .soon) (r .fits) (r .met) (r .left) (r .least)
-      (remembered (releasesAt (bookAt b c .memory) (tenantFor b c))))
+      (decided (stateAt b c) (tableAt b c) (tenantFor b c) (saysOf b c) S (r .house) (r .request) (r .new) (r .free) (r .error1) (r .error2)
+      (remembered (releasesAt (bookAt b c .memory) (tenantFor b c))) (leaseFor b c) no-error
+      (proposed.recorded (stateAt b c) (tableAt b c) (tenantFor b c) (saysOf b c) S (r .house) scope-ours counts-good (r .request) (r .fits)))
 
-  there : tenantFor b c < length (tableAt b c .tenants)
-  there = let e = now-sound b c v .tenants in let h = r .house in omega arith
-
-  ls : List Lease
-  ls = insertOf (leaseFor b c) (ownOf (tableAt b c) (tenantFor b c))
-
-  after : ownOf (serveOf b c .book .table) (tenantFor b c) ≡ ls
-  unfolding ls
+  after : ownOf (serveOf b c .book .table) (tenantFor b c) ≡ insertOf (leaseFor b c) (ownOf (tableAt b c) (tenantFor b c))
   after =
       ap (λ (a : Answer). ownOf (a .book .table) (tenantFor b c)) served
-      ∙ ap (λ (t : LeaseTable). ownOf t (tenantFor b c)) (applied-entering (tableAt b c) (tenantFor b c) (leaseFor b c) (r .left))
-      ∙ ap inUse (getD-set-same (tableAt b c .tenants) (tenantFor b c) (laidOut ls) (laidOut []) there) ∙ read-back ls
+      ∙ entered (tableAt b c) (tenantFor b c) (leaseFor b c) (let e = now-sound b c v .tenants in let h = r .house in omega arith) (r .left)
+
+  acknowledged : serveOf b c .reply ≡ leaseAckOf (headOf (stateAt b c) (saysOf b c)) (termsFor b c)
+  unfolding replyOf withLease
+  acknowledged =
+      ap (λ (a : Answer). a .reply) served
+      ∙ ap (leaseAckOf (headOf (stateAt b c) (saysOf b c))) (proposed.told (stateAt b c) (tableAt b c) (tenantFor b c) (saysOf b c) S (r .house) scope-ours counts-good LeaseAck 3)
 
   -- what is remembered of the tenant, but for the identifier
   forgotten : noted (entering (leaseFor b c)) (tenantFor b c) (bookAt b c .memory) ≡ putReleases (b .memory) (tenantFor b c) (laidReleases (forgetOf (idOf (leaseFor b c)) (releasesFor b c)))
@@ -242,29 +155,17 @@ module _ (b : Book) (c : Call) (v : SoundBook b) (r : NewRequest b c) where
   forgotten = refl
 
   pub granted : Granted b c (serveOf b c)
-  unfolding ls withLease
+  unfolding withLease
   granted = record {
     outcome = ap (λ (a : Answer). a .outcome) served;
-    enough = enough (stateAt b c) (tableAt b c) (tenantFor b c) (saysOf b c) S (r .house) (r .request) (r .new) (r .error1) (r .error2);
-    exact =
-        exact (stateAt b c) (tableAt b c) (tenantFor b c) (saysOf b c) S (r .house) (r .request) (r .new) (r .error1) (r .error2) (r .soon) (r .fits) (r .met) (r .left) (r .least);
-    reply =
-        ap (λ (a : Answer). a .reply) served
-        ∙ acknowledged (stateAt b c) (tableAt b c) (tenantFor b c) (saysOf b c) S (r .house) (r .request) (r .new) (r .error1) (r .error2) (r .soon) (r .fits) (r .met) (r .left) (r .least) (bookAt b c .names);
+    enough = proposed.enough (stateAt b c) (tableAt b c) (tenantFor b c) (saysOf b c) S (r .house) scope-ours counts-good;
+    exact = exact;
+    reply = acknowledged;
     names =
-        ap (λ (a : Answer). addressesIn (a .reply)) served
-        ∙ ap addressesIn (acknowledged (stateAt b c) (tableAt b c) (tenantFor b c) (saysOf b c) S (r .house) (r .request) (r .new) (r .error1) (r .error2) (r .soon) (r .fits) (r .met) (r .left) (r .least) (bookAt b c .names))
-        ∙ ack-names (headOf (stateAt b c) (saysOf b c)) (termsFor b c)
-        (named-head (c .datagram) (stateAt b c) (r .read))
-        (offsets-some (grantFor b c .addresses)
-        (omega (
-          arith,
-          exact (stateAt b c) (tableAt b c) (tenantFor b c) (saysOf b c) S (r .house) (r .request) (r .new) (r .error1) (r .error2) (r .soon) (r .fits) (r .met) (r .left) (r .least),
-          some (stateAt b c) (tableAt b c) (tenantFor b c) (saysOf b c) S (r .house) (r .request) (r .new) (r .error1) (r .error2) (r .soon) (r .fits) (r .met) (r .left) (r .least),
-        )))
-        (grant-small (scopeFor b c) (tenantsIn (stateAt b c)) (leasesOf (tableAt b c)) (askFor b c))
+        ap addressesIn acknowledged
+        ∙ ack-names (headOf (stateAt b c) (saysOf b c)) (termsFor b c) (named-head (c .datagram) (stateAt b c) (r .read)) (let p = exact in let q = some .1 in omega arith)
         (pool-fits (stateAt b c) (leasesOf (tableAt b c)) S (placeFor b c)
-        (here (stateAt b c) (tableAt b c) (tenantFor b c) (saysOf b c) S (r .house) (r .request) (r .new) (r .error1) (r .error2)));
+        (proposed.here (stateAt b c) (tableAt b c) (tenantFor b c) (saysOf b c) S (r .house) scope-ours counts-good));
     state = ap (λ (a : Answer). a .book .state) served;
     titles = ap (λ (a : Answer). a .book .names) served ∙ advanced-names b (c .time);
     forgets = ap (λ (a : Answer). a .book .memory) served ∙ forgotten;
@@ -274,7 +175,7 @@ module _ (b : Book) (c : Call) (v : SoundBook b) (r : NewRequest b c) where
     unchanged =
         ap (removeOf (idOf (leaseFor b c))) after
         ∙ others-stay (stateAt b c) (tableAt b c) (tenantFor b c) (saysOf b c) (leaseFor b c) S refl
-        (not-held (stateAt b c) (tableAt b c) (tenantFor b c) (saysOf b c) S (r .house) (r .request) (r .new) (r .error1) (r .error2));
+        (not-held (stateAt b c) (tableAt b c) (tenantFor b c) (saysOf b c) S (r .house) (r .request) (r .new) (r .free) (r .error1) (r .error2));
   }
 
 pub demand3 : Demand3

@@ -2,9 +2,10 @@
 use mathlib.Core.Path.{_≡_, refl, sym, ap, _∙_}
 use mathlib.Core.Bool.{Bool, true, false, not}
 use mathlib.Core.List.{List, [], _∷_}
-use Prim.Native.Nat.{ℕ, suc, _≤_}
+use Prim.Native.Nat.{ℕ, suc, _≤_, _<_}
 use native.Mathlib.Omega.{arith}
 use lib.ListN.{length}
+use lib.Seq.{getD-set-same}
 use borrow.Author.Tests.{ltb-false}
 use Rattle.lists.specs.Pick.{pick}
 use Rattle.lists.specs.All.{allBy, pairsBy}
@@ -15,7 +16,10 @@ use Rattle.message.specs.declared.Fields.{Fields}
 use Rattle.state.specs.declared.Lease.{Lease}
 use Rattle.state.specs.declared.LeaseTable.{LeaseTable}
 use Rattle.state.specs.declared.State.{State}
-use Rattle.state.specs.Book.{differ, idOf, insertOf, leasesOf, named, ordered, other, placeOf, removeOf}
+use Rattle.state.specs.Book.{differ, idOf, inUse, insertOf, laidOut, leasesOf, named, ordered, other, placeOf, removeOf}
+use Rattle.state.specs.Edit.{applied, entering}
+use Rattle.state.specs.laws.Edited.{applied-entering}
+use Rattle.state.specs.laws.Layout.{read-back}
 use Rattle.soundness.specs.Sound.{compatible}
 use Rattle.soundness.specs.laws.Book.{Sound, pairOk}
 use Rattle.soundness.specs.laws.Added.{pairs-at, rises-at}
@@ -45,3 +49,9 @@ others-stay s t h m l v e held =
     (and-parts (pairsBy differ (ownOf t h)) (pairsBy compatible (ownOf t h))
     (sym (pairs-and differ compatible (ownOf t h)) ∙ ap (pairsBy pairOk) (own-is t h) ∙ pairs-at s (leasesOf t) v h) .0)
     (ap (pairsBy ordered) (own-is t h) ∙ rises-at s (leasesOf t) v h)
+
+-- the tenant's records after an insertion
+pub entered : (t : LeaseTable) (h : ℕ) (l : Lease) → h < length (t .tenants) → length (ownOf t h) < 16 → ownOf (applied (entering l) h t) h ≡ insertOf l (ownOf t h)
+entered t h l there few =
+    ap (λ (x : LeaseTable). ownOf x h) (applied-entering t h l few)
+    ∙ ap inUse (getD-set-same (t .tenants) h (laidOut (insertOf l (ownOf t h))) (laidOut []) there) ∙ read-back (insertOf l (ownOf t h))

@@ -36,7 +36,7 @@ unfolding advanced dropped tableOf
 advanced-eight b time =
     length-map (map (liveOf _) (leasesOf (b .table))) laidOut ∙ length-map (leasesOf (b .table)) (liveOf _) ∙ length-map (b .table .tenants) inUse
 
-advanced-laid : (b : Book) (time : ℕ) → advanced b time .table ≡ tableOf (leasesOf (advanced b time .table))
+pub advanced-laid : (b : Book) (time : ℕ) → advanced b time .table ≡ tableOf (leasesOf (advanced b time .table))
 unfolding advanced dropped
 advanced-laid b time = ap tableOf (sym (table-back (map (liveOf _) (leasesOf (b .table)))))
 

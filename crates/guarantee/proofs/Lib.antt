@@ -1,13 +1,20 @@
 pub mod Discards
+mod Reached
 pub mod Kept
 mod Inserted
 mod Ranges
+mod Proposed
 pub mod Granted
 mod Codes
 pub mod Replies
 pub mod Walked
 pub mod Answers
+mod Held
 pub mod Bounded
+mod Alike
 pub mod Offers
+mod Drawn
+pub mod Taken
+pub mod AtOnce
 pub mod Opened
 pub mod Specimens

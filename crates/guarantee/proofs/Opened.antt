@@ -14,7 +14,7 @@ use Rattle.message.specs.Walk.{exactlyFilled, layoutOk, stepOf, optionTaken, va
 use Rattle.message.specs.Read.{ended, headerOk, noneRequired, readOf, requiredEmpty}
 use Rattle.message.specs.Values.{allowedAt, codesFrom, fieldsOf, foundAt, namesServer, timesOf}
 use Rattle.reply.specs.Reply.{infoAckOf, leaseAckOf, messageOctets, nakOf, offerOf, optionsOctets, rangesOctets, releaseAckOf, scopesOctets}
-use Rattle.state.specs.Book.{addressesOf, advanced, byIdentifier, differ, dropped, insertOf, laidOut, liveOf, overlaps, raised, removeOf, insertedIn, laidReleases, tableOf, withHeld, committed, unionAll, usedIn}
+use Rattle.state.specs.Book.{addressesOf, advanced, byIdentifier, differ, dropped, insertOf, laidOut, liveOf, overlaps, raised, removeOf, insertedIn, isHold, laidReleases, tableOf, until, withHeld, committed, unionAll, usedIn}
 use Rattle.state.specs.Edit.{applied, editedIn, forgetOf, leftIn, noted, notedIn, rememberOf}
 use Rattle.format.specs.Format.{readOctet, readTimes, then, writeAll}
 use Rattle.format.specs.Place.{isWhole}
@@ -22,10 +22,10 @@ use Rattle.names.specs.Names.{chosenOf, defaultOf, firstBy, inLanguage, listsIn
 use Rattle.releases.specs.Again.{anyAgain, isAgain}
 use Rattle.releases.specs.Rules.{brokenMemory, brokenRelease, differs, fewB, filledB, firstRelease, houseB, laidB, lengthB, memoryB, notLeased, older, onceB, pastB, releaseRulesOf, rulesTo, unusedR}
 use Rattle.releases.specs.Whole.{bookB}
-use Rattle.soundness.specs.Sound.{apart, belowB, blankB, brokenOf, compatible, countsB, disjoint, oneTo, firstBroken, firstRule, firstLate, tenantsB, idB, kindB, layoutB, leaseB, limitB, limitsB, committedB, noneB, offsetsB, paddedB, periodB, poolB, poolsApart, rangeB, rangeZero, rangesApart, recordsB, rule1, rule10, rule11, rule12, rule19, rule2, rule3, rule4, rule5, rule6, rule7, rule8, rule9, rulesOf, scopeZero, settingsB, reserveB, reservesB, sizeB, soundB, tailB, ttlB, unusedB, zeroFrom}
+use Rattle.soundness.specs.Sound.{apart, belowB, blankB, brokenOf, compatible, countsB, disjoint, oneTo, firstBroken, firstRule, firstLate, holdB, tenantsB, idB, kindB, lapseB, layoutB, leaseB, limitB, limitsB, committedB, noneB, offsetsB, paddedB, periodB, poolB, poolsApart, rangeB, rangeZero, rangesApart, recordsB, rule1, rule10, rule11, rule12, rule13, rule19, rule2, rule3, rule4, rule5, rule6, rule7, rule8, rule9, rulesOf, scopeZero, settingsB, reserveB, reservesB, sizeB, soundB, tailB, ttlB, unusedB, zeroFrom}
 use Rattle.allocation.specs.Rule.{allowed, busyIn, grantOf, grantTo, suffices, takenOf}
-use Rattle.decision.specs.Parts.{askAt, badCounts, discardWith, endOf, early1Of, heldAlready, error0Of, error1Of, error2Of, error3Of, skewed, fitsNew, fitsRenewed, hasPeriod, holdsOf, isNew, knowsScope, lacksCurrent, lacksScope, leaseFrom, lengthOf, nakWith, newAt, newOf, newWith, othersBusy, plainReply, proposalOf, recordedOf, refusalOf, renewedOf, renewedTo, releasedAgain, resends, scopePlace, startOf, wishedOr, withLease, zeroLength, latestFirst, meets, tooLate, tooShort}
-use Rattle.decision.specs.Decide.{decideOf, judgedOf, leasedOf, plainOf, settledOf}
+use Rattle.decision.specs.Parts.{askAt, badCounts, broughtBy, discardWith, dropsHold, endOf, early1Of, heldAlready, error0Of, error1Of, error2Of, error3Of, skewed, fitsNew, fitsRenewed, hasPeriod, heldFrom, holdMeets, holdsOf, isForHold, isHeld, isLeased, isNew, knowsScope, lacksCurrent, lacksScope, leaseFrom, lengthOf, nakWith, newAt, newOf, newWith, othersBusy, plainReply, proposalOf, recordedOf, refusalOf, renewedOf, renewedTo, releasedAgain, resends, sameScope, scopePlace, startOf, turned, wishedOr, withLease, zeroLength, latestFirst, meets, tooLate, tooShort}
+use Rattle.decision.specs.Decide.{decideOf, droppedFirst, judgedOf, leasedOf, plainOf, repeatedOf, settledOf}
 use Rattle.server.specs.Serve.{atClock, forServer, hasClient, replyOf, serveOf, tenantOf, withReading}
 use Rattle.guarantee.specs.Statement.{run}
 
@@ -61,12 +61,12 @@ replies-open = tt
 
 -- the book
 unfoldable pub book-open : Unit {0}
-unfolding laidOut tableOf laidReleases byIdentifier insertOf removeOf insertedIn leftIn editedIn applied rememberOf forgetOf notedIn noted liveOf raised dropped advanced unionAll addressesOf overlaps usedIn differ
+unfolding isHold until laidOut tableOf laidReleases byIdentifier insertOf removeOf insertedIn leftIn editedIn applied rememberOf forgetOf notedIn noted liveOf raised dropped advanced unionAll addressesOf overlaps usedIn differ
 book-open = tt
 
 -- "Sound"
 unfoldable pub sound-open : Unit {0}
-unfolding oneTo sizeB idB recordsB countsB rule1 belowB offsetsB rule2 rangeB rangesApart rule3 poolB poolsApart rule4 ttlB rule5 reserveB reservesB rule6 kindB periodB leaseB noneB tenantsB rule7 rule8 disjoint apart rule9 compatible rule10 limitB limitsB rule11 committedB rule12 zeroFrom paddedB blankB unusedB layoutB rangeZero tailB scopeZero settingsB rule19 rulesOf firstLate firstRule firstBroken brokenOf soundB
+unfolding oneTo sizeB idB recordsB countsB rule1 belowB offsetsB rule2 rangeB rangesApart rule3 poolB poolsApart rule4 ttlB rule5 reserveB reservesB rule6 kindB periodB leaseB noneB tenantsB rule7 rule8 disjoint apart rule9 compatible rule10 limitB limitsB rule11 committedB rule12 lapseB holdB rule13 zeroFrom paddedB blankB unusedB layoutB rangeZero tailB scopeZero settingsB rule19 rulesOf firstLate firstRule firstBroken brokenOf soundB
 sound-open = tt
 
 -- what is remembered
@@ -81,7 +81,7 @@ grant-open = tt
 
 -- the decision
 unfoldable pub decision-open : Unit {0}
-unfolding isNew hasPeriod holdsOf recordedOf resends releasedAgain scopePlace knowsScope lacksScope zeroLength badCounts lacksCurrent early1Of heldAlready error1Of skewed error2Of error3Of wishedOr startOf lengthOf endOf askAt fitsNew newWith newAt newOf othersBusy fitsRenewed renewedTo renewedOf proposalOf error0Of leaseFrom withLease plainReply nakWith discardWith refusalOf leasedOf plainOf settledOf judgedOf decideOf latestFirst tooShort tooLate meets
+unfolding isNew hasPeriod holdsOf recordedOf isLeased isHeld sameScope isForHold holdMeets turned dropsHold broughtBy heldFrom repeatedOf droppedFirst resends releasedAgain scopePlace knowsScope lacksScope zeroLength badCounts lacksCurrent early1Of heldAlready error1Of skewed error2Of error3Of wishedOr startOf lengthOf endOf askAt fitsNew newWith newAt newOf othersBusy fitsRenewed renewedTo renewedOf proposalOf error0Of leaseFrom withLease plainReply nakWith discardWith refusalOf leasedOf plainOf settledOf judgedOf decideOf latestFirst tooShort tooLate meets
 decision-open = tt
 
 -- the names for the scopes

@@ -1,4 +1,4 @@
--- Laws: the Ranges of an ACK name the addresses granted: what the octets of option 10 need of a sound book and of a datagram that was read.
+-- Laws: the Ranges of an ACK or an OFFER name the addresses of its lease: what the octets of option 10 need of a sound book and of a datagram that was read.
 use Prim.Native.Nat.{ℕ, zero, suc, _+_, _≤_, _<_, _^_}
 use mathlib.Core.Path.{_≡_, refl, sym, ap, _∙_}
 use mathlib.Core.Bool.{Bool, true, false}
@@ -11,14 +11,15 @@ use borrow.Author.Tests.{leb-true, ltb-true, ltb-false}
 use Rattle.lists.specs.All.{All, allBy}
 use Rattle.lists.specs.laws.All.{all-head}
 use Rattle.lists.specs.laws.Both.{and-parts}
-use Rattle.address_set.specs.AddressSet.{chosen, offsets}
+use Rattle.address_set.specs.AddressSet.{chosen, fewestRanges, offsets, setOf}
 use Rattle.address_set.specs.laws.Bits.{offsets-of-zero}
-use Rattle.address_set.specs.laws.Offsets.{offsets-small, setOf-small}
+use Rattle.address_set.specs.laws.Offsets.{offsets-setOf, offsets-small, rises-offsets, setOf-small}
 use Rattle.message.specs.Read.{readOf}
 use Rattle.message.specs.Values.{fieldsOf}
 use Rattle.reply.specs.declared.Head.{Head}
 use Rattle.reply.specs.declared.Terms.{Terms}
-use Rattle.reply.specs.Reply.{leaseAckOf}
+use Rattle.octets.specs.Octets.{octets32}
+use Rattle.reply.specs.Reply.{featuresOption, identifierOption, leaseAckOf, leaseOptions, messageOctets, offerOf, option, rangesOctets, serverOption}
 use Rattle.reply.specs.Ranges.{addressesIn}
 use Rattle.reply.proofs.ReadBack.{Named}
 use Rattle.reply.proofs.RangesBack.{addresses-back}
@@ -95,7 +96,27 @@ named-head d s e =
     let t = length-take n (fieldsOf d (s .server) (readOf d .message) .id .octets) in
     (omega arith, omega arith)
 
--- ---- the ACK
-pub ack-names : (h : Head) (t : Terms) → Named h → 0 < t .addresses → t .addresses < 2 ^ 64 → t .scope + 64 < 4294967296 → addressesIn (leaseAckOf h t) ≡ map (λ a. t .scope + a) (offsets (t .addresses))
+-- ---- the ACK and the OFFER, of any number that has at least one offset
+-- as of the 64 bits that the offsets are
+lease-names : (h : Head) (kind : ℕ) (t : Terms) → Named h → 1 ≤ length (offsets (t .addresses)) → t .scope + 64 < 4294967296
+    → addressesIn (messageOctets kind (h .xid) (leaseOptions h t)) ≡ map (λ a. t .scope + a) (offsets (t .addresses))
+lease-names h kind t n some fits =
+    ap (λ (l : List ℕ). addressesIn (messageOctets kind (h .xid)
+    (option 1 (octets32 (t .length)) ∷ serverOption h ∷ identifierOption h ∷ option 4 (octets32 (t .scope)) ∷ option 6 (octets32 (t .start)) ∷ option 10 (rangesOctets (t .scope) (fewestRanges l)) ∷ option 11 (octets32 (t .clock)) ∷ featuresOption h))) (sym back)
+    ∙ addresses-back h n kind (record { length = t .length; start = t .start; scope = t .scope; addresses = bits; clock = t .clock })
+    (offsets-some bits (let e : length (offsets bits) ≡ length (offsets (t .addresses)) = ap length back in omega arith)) (setOf-small 64 (offsets (t .addresses)) (offsets-small (t .addresses))) fits
+    ∙ ap (map (λ a. t .scope + a)) back
+  where
+    bits : ℕ
+    bits = setOf (offsets (t .addresses))
+
+    back : offsets bits ≡ offsets (t .addresses)
+    back = offsets-setOf (offsets (t .addresses)) (rises-offsets (t .addresses)) (offsets-small (t .addresses))
+
+pub ack-names : (h : Head) (t : Terms) → Named h → 1 ≤ length (offsets (t .addresses)) → t .scope + 64 < 4294967296 → addressesIn (leaseAckOf h t) ≡ map (λ a. t .scope + a) (offsets (t .addresses))
 unfolding leaseAckOf
-ack-names h t n some small fits = addresses-back h n 5 t some small fits
+ack-names h t n some fits = lease-names h 5 t n some fits
+
+pub offer-names : (h : Head) (t : Terms) → Named h → 1 ≤ length (offsets (t .addresses)) → t .scope + 64 < 4294967296 → addressesIn (offerOf h t) ≡ map (λ a. t .scope + a) (offsets (t .addresses))
+unfolding offerOf
+offer-names h t n some fits = lease-names h 2 t n some fits

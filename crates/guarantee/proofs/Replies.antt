@@ -57,14 +57,18 @@ refused m e = pick-cases Q (eqb (m .kind) 1) _ _ (λ _ z. absurd (omega arith)) 
 decided : (s : State) (t : LeaseTable) (q : List Release) (h : ℕ) (m : Fields) → P (decideOf s t q h m)
 unfolding withLease plainReply P Q Sends
 decided s t q h m = decided-by s t h m P (record {
-  resent = λ e z. tt;
-  again = λ z. tt;
+  resent = λ _ _. tt;
+  again = λ _. tt;
   refused = refused m;
-  offered = λ k ok e z. tt;
-  requested = λ k ok e z. tt;
-  renewed = λ k ok held e z. tt;
-  released = λ k held z. tt;
-  informed = λ z. tt;
+  repeated = λ _ _ _. tt;
+  taken = λ _ _ _. tt;
+  offered = λ _ _ _ _ _. tt;
+  requested = λ _ _ _ _ _. tt;
+  dropped = λ _ _. refused m 0;
+  moved = λ _ _ _ _ _. tt;
+  renewed = λ _ _ _ _ _. tt;
+  released = λ _ _ _. tt;
+  informed = λ _. tt;
 }) q
 
 -- ---- the octets of each reply

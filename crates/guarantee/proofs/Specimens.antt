@@ -1,25 +1,28 @@
 -- Specimens: document 01's specimens P1 to P12, those of skew and a few more, on whole datagrams, whole replies and the book afterwards, by computation: one table of
--- cases, one theorem; a second table of a RELEASE sent again (document 02, W-202); and the premises of the statements, met on the same book.
+-- cases, one theorem; offers held (document 02, W-205) among them; a second table of a RELEASE sent again (W-202); and the premises of the statements, met on the same book.
 use mathlib.Core.Path.{_≡_, refl, sym, ap, _∙_, subst}
 use mathlib.Core.List.{List, [], _∷_, _++_}
 use mathlib.Core.Bool.{Bool, true, false}
 use Prim.Native.Nat.{ℕ, zero, suc, _+_, _<_, _^_}
 use lib.ListN.{getD, length, replicate, set}
+use native.Mathlib.Omega.{arith}
 use lib.Dec.{eqb}
 use borrow.Author.Tests.{leb-true, ltb-true}
 use Rattle.lists.specs.Pick.{pick}
 use Rattle.lists.specs.All.{All, allBy}
 use Rattle.state.specs.Book.{Book, laidReleases, releaseId, remembered, tableOf, zeroScope, idOf, leasesOf}
 use Rattle.server.specs.Serve.{Call, serveOf, Answer}
-use Rattle.guarantee.specs.Statement.{Demand3, Granted, NewRequest, SoundBook, run, Discovers, Narrow, Offered, OfferRule}
+use Rattle.guarantee.specs.Statement.{Demand3, Elsewhere, Granted, GrantedAsOffered, NewRequest, NoHold, OfferHeld, SoundBook, TakesUp, run, saysOf, tenantFor, Discovers, Narrow, Offered, OfferRule}
 use Rattle.state.specs.declared.Lease.{Lease}
 use Rattle.state.specs.declared.Release.{Release}
 use Rattle.state.specs.declared.TenantReleases.{TenantReleases}
 use Rattle.state.specs.laws.Layout.{table-back}
+use Rattle.decision.specs.Parts.{leaseIdIn}
 use Rattle.decision.specs.laws.Kept.{own-is}
 use Rattle.guarantee.proofs.Granted.{demand3}
 use Rattle.guarantee.proofs.Offers.{offer-rule}
 use Rattle.guarantee.proofs.Opened.{computed}
+use Rattle.guarantee.proofs.Taken.{offer-held}
 
 -- names of a scope: "en", flagged 128, with the text A; "de" with the text B
 abbrev pub english : List ℕ
@@ -108,9 +111,9 @@ p3 = house1 1000 (request 3 0x42 2 3 (option 1 (seconds 0x03 0xE8)))
 abbrev pub p5 : Call
 p5 = house1 1000 (request 5 0x43 2 2 (option 6 (seconds 0x07 0xD0) ++ option 11 (seconds 0x03 0xE8)))
 
--- ---- the leases of a book, in numbers: house, scope, identifier length and octets, type, transaction id, start, end, set of offsets
+-- ---- the leases and holds of a book, in numbers: house, scope, identifier length and octets, type, transaction id, start, end, set of offsets, lapse
 abbrev pub row : ℕ → Lease → List ℕ
-row h l = h ∷ l .scope ∷ l .«id_len» ∷ idOf l ++ l .kind ∷ l .xid ∷ l .start ∷ l .end ∷ l .addresses ∷ []
+row h l = h ∷ l .scope ∷ l .«id_len» ∷ idOf l ++ l .kind ∷ l .xid ∷ l .start ∷ l .end ∷ l .addresses ∷ l .lapse ∷ []
 
 unfoldable pub rows : ℕ → List Lease → List ℕ
 rows h [] = []
@@ -120,9 +123,12 @@ unfoldable pub allRows : ℕ → List (List Lease) → List ℕ
 allRows h [] = []
 allRows h (ls ∷ more) = rows h ls ++ allRows (suc h) more
 
--- such a row in the one scope: house, identifier 00 i, type, transaction id 01 02 03 x, start, end, set of offsets
+-- such a row in the one scope: house, identifier 00 i, type, transaction id 01 02 03 x, start, end, set of offsets; a hold's, with its lapse
 abbrev pub lease : ℕ → ℕ → ℕ → ℕ → ℕ → ℕ → ℕ → List ℕ
-lease h i kind x from to set = h ∷ 1 ∷ 2 ∷ 0 ∷ i ∷ kind ∷ (0x01020300 + x) ∷ from ∷ to ∷ set ∷ []
+lease h i kind x from to set = h ∷ 1 ∷ 2 ∷ 0 ∷ i ∷ kind ∷ (0x01020300 + x) ∷ from ∷ to ∷ set ∷ 0 ∷ []
+
+abbrev pub hold : ℕ → ℕ → ℕ → ℕ → ℕ → ℕ → ℕ → List ℕ
+hold h i x from to set lapse = h ∷ 1 ∷ 2 ∷ 0 ∷ i ∷ 1 ∷ (0x01020300 + x) ∷ from ∷ to ∷ set ∷ lapse ∷ []
 
 -- .0 and .1 are the set 3, .2 and .3 the set 12
 abbrev pub lease1 : List ℕ
@@ -197,14 +203,40 @@ requestAt high low = request 1 0x41 1 4 (option 11 (seconds high low))
 abbrev pub renewAt : ℕ → ℕ → List ℕ
 renewAt high low = header 4 12 ++ identifier 0x41 ++ option 11 (seconds high low) ++ end
 
--- a DISCOVER as P1's REQUEST, with a least and a desired number, and the OFFER that it draws
+-- a DISCOVER: transaction id, identifier, least, desired, other options; one as P1's REQUEST, with a least and a desired number
+abbrev pub discoverAs : ℕ → ℕ → ℕ → ℕ → List ℕ → List ℕ
+discoverAs x i least desired more = header 1 x ++ identifier i ++ scope ++ option 7 (0 ∷ least ∷ 0 ∷ desired ∷ []) ++ more ++ end
+
 abbrev pub discover : ℕ → ℕ → List ℕ
-discover least desired = header 1 1 ++ identifier 0x41 ++ scope ++ option 7 (0 ∷ least ∷ 0 ∷ desired ∷ []) ++ end
+discover least desired = discoverAs 1 0x41 least desired []
+
+-- the OFFER, of 3,600 seconds: Current Time, transaction id, identifier, Start Time, offset and count of the one range
+abbrev pub offerAt : List ℕ → ℕ → ℕ → List ℕ → ℕ → ℕ → List ℕ
+offerAt now x i start offset count =
+    header 2 x ++ option 1 (seconds 0x0E 0x10) ++ server ++ identifier i ++ scope ++ option 6 start ++ option 10 (0xEF ∷ 0xC0 ∷ 0 ∷ offset ∷ 0 ∷ count ∷ []) ++ option 11 now ++ end
 
 abbrev pub offer : List ℕ
-offer =
-    header 2 1 ++ option 1 (seconds 0x0E 0x10) ++ server ++ identifier 0x41 ++ scope ++ option 6 (seconds 0x03 0xE8) ++ option 10 (0xEF ∷ 0xC0 ∷ 0 ∷ 0 ∷ 0 ∷ 2 ∷ [])
-    ++ option 11 (seconds 0x03 0xE8) ++ end
+offer = offerAt (seconds 0x03 0xE8) 1 0x41 (seconds 0x03 0xE8) 0 2
+
+-- document 02, W-205: house 1's DISCOVER at 1000, which is offered .0 to .2, and its REQUEST with a least number; house 2's REQUEST for all
+abbrev pub d3 : Call
+d3 = house1 1000 (discoverAs 3 0x42 2 3 [])
+
+abbrev pub takesUp : ℕ → ℕ → Call
+takesUp time least = house1 time (request 3 0x42 least 3 [])
+
+abbrev pub wantsAll : ℕ → ℕ → Call
+wantsAll time x = house2 time (request x (0x40 + x) 1 4 [])
+
+abbrev pub between : List Call
+between = wantsAll 1001 1 ∷ wantsAll 1029 2 ∷ []
+
+-- the hold, and what house 2 then gets at 1001: .3
+abbrev pub hold3 : List ℕ
+hold3 = hold 1 0x42 3 1000 4600 7 1030
+
+abbrev pub lease2 : List ℕ
+lease2 = lease 2 0x41 3 1 1001 4601 8
 
 -- document 02, W-203: P1's REQUEST with a Lease Time and a Minimum Lease Time of ten days; with a Maximum Start Time; RENEWs of P1's lease
 abbrev pub tenDays : List ℕ
@@ -245,9 +277,9 @@ table =
     ∷ answers [] (house2 1000 (requestAt 0x0A 0xF1)) (nak 1 0x41 2) []
     ∷ answers (p1 ∷ []) (house2 2800 (renewAt 0x03 0xE8)) (ackAt (seconds 0x0A 0xF0) 12 0x41 (seconds 0x0E 0x10) (seconds 0x0A 0xF0) 0 2) (lease 2 0x41 4 12 2800 6400 3)
     ∷ answers (p1 ∷ []) (house2 2800 (renewAt 0x03 0xE7)) (nak 12 0x41 2) lease1
-    -- a Resend: P1 again, at a later time, draws the ACK with the lease as it is; DISCOVER as P1 draws the OFFER, and the book is as it was
+    -- a Resend: P1 again, at a later time, draws the ACK with the lease as it is; DISCOVER as P1 draws the OFFER, and is held
     ∷ answers (p1 ∷ []) (house2 2000 (request 1 0x41 1 4 [])) (ackAt (seconds 0x07 0xD0) 1 0x41 (seconds 0x0E 0x10) (seconds 0x03 0xE8) 0 2) lease1
-    ∷ answers [] (house2 1000 (discover 1 4)) offer []
+    ∷ answers [] (house2 1000 (discover 1 4)) offer (hold 2 0x41 1 1000 4600 3 1030)
     -- discards: a room of 511 octets, at a later time, changes nothing; a stranger; a required feature; another server; a DISCOVER that draws an error
     ∷ record { before = p1 ∷ []; last = record { datagram = getinfo; client = 0x0A000105; time = 9000; room = 511 }; outcome = 2; reply = []; clock = 1000; leases = lease1 }
     ∷ discards (call 0x0A000305 1000 getinfo) 3
@@ -274,6 +306,25 @@ table =
     -- a Resend is acknowledged whatever 14 says; a DISCOVER that it forbids is discard 8
     ∷ answers (p1 ∷ []) (house2 2000 (request 1 0x41 1 4 (option 14 tenDays))) (ackAt (seconds 0x07 0xD0) 1 0x41 (seconds 0x0E 0x10) (seconds 0x03 0xE8) 0 2) lease1
     ∷ discards (house2 1000 (header 1 1 ++ identifier 0x41 ++ scope ++ option 14 (seconds 0x0E 0x11) ++ end)) 8
+    -- W-205: house 2, which asks for all, gets what is not held; the offer is taken up at 1029, from its own start, whatever house 2 has asked for
+    ∷ answers (d3 ∷ []) (wantsAll 1001 1) (ackAt (seconds 0x03 0xE9) 1 0x41 (seconds 0x0E 0x10) (seconds 0x03 0xE9) 3 1) (hold3 ++ lease2)
+    ∷ answers (d3 ∷ between) (takesUp 1029 2) (ackAt (seconds 0x04 0x05) 3 0x42 (seconds 0x0E 0x10) (seconds 0x03 0xE8) 0 3) (lease 1 0x42 3 3 1000 4600 7 ++ lease2)
+    -- at 1030 the hold has lapsed, and the REQUEST is judged anew: from 1030, and on what house 2 has left
+    ∷ answers (d3 ∷ wantsAll 1001 1 ∷ []) (takesUp 1030 2) (ackAt (seconds 0x04 0x06) 3 0x42 (seconds 0x0E 0x10) (seconds 0x04 0x06) 0 3) (lease 1 0x42 3 3 1030 4630 7 ++ lease2)
+    ∷ answers (d3 ∷ wantsAll 1001 1 ∷ wantsAll 1030 2 ∷ []) (takesUp 1030 2) (ackAt (seconds 0x04 0x06) 3 0x42 (seconds 0x0E 0x10) (seconds 0x04 0x06) 1 2)
+    (lease 1 0x42 3 3 1030 4630 6 ++ lease2 ++ lease 2 0x42 3 2 1030 4630 1)
+    ∷ answers (d3 ∷ wantsAll 1001 1 ∷ wantsAll 1030 2 ∷ []) (takesUp 1030 3) (nak 3 0x42 0) (lease2 ++ lease 2 0x42 3 2 1030 4630 1)
+    -- a DISCOVER repeats the offer under its own id and leaves the hold; more than is held is error 0, and a RENEW and a RELEASE of a hold are error 3
+    ∷ answers (d3 ∷ []) (house1 1010 (discoverAs 4 0x42 1 1 [])) (offerAt (seconds 0x03 0xF2) 4 0x42 (seconds 0x03 0xE8) 0 3) hold3
+    ∷ record { before = d3 ∷ []; last = house1 1010 (discoverAs 4 0x42 4 4 []); outcome = 8; reply = []; clock = 1010; leases = hold3 }
+    ∷ answers (d3 ∷ []) (house1 1010 (request 4 0x42 4 4 [])) (nak 4 0x42 0) hold3
+    ∷ answers (d3 ∷ []) (house1 1010 (request 4 0x42 1 1 (option 14 (seconds 0x0E 0x11)))) (nak 4 0x42 0) hold3
+    ∷ answers (d3 ∷ []) (house1 1010 (header 4 8 ++ identifier 0x42 ++ end)) (nak 8 0x42 3) hold3
+    ∷ answers (d3 ∷ []) (house1 1010 (header 7 8 ++ identifier 0x42 ++ end)) (nak 8 0x42 3) hold3
+    -- a short period's end lapses the hold sooner
+    ∷ answers [] (house1 1000 (discoverAs 3 0x42 3 3 (option 1 (seconds 0 29))))
+    (header 2 3 ++ option 1 (seconds 0 29) ++ server ++ identifier 0x42 ++ scope ++ option 6 (seconds 0x03 0xE8) ++ option 10 (0xEF ∷ 0xC0 ∷ 0 ∷ 0 ∷ 0 ∷ 3 ∷ []) ++ option 11 (seconds 0x03 0xE8) ++ end)
+    (hold 1 0x42 3 1000 1029 7 1029)
     ∷ []
 
 pub specimens : allBy holds table ≡ true
@@ -348,6 +399,10 @@ releaseTable =
     -- a new lease on the identifier forgets it; then the old RELEASE's octets release the new lease
     ∷ then (answers released anew (ackAt (seconds 0x05 0xDC) 10 0x42 (seconds 0x0E 0x10) (seconds 0x05 0xDC) 2 1) (lease 1 0x42 3 10 1500 5100 4 ++ lease1)) []
     ∷ then (answers (released ++ anew ∷ []) (r3 1501) (releaseAck 9 0x42) lease1) (noted 1 0x42 9 1501)
+    -- W-205: and so does an OFFER, whose hold lapses without bringing it back; one that is not given forgets nothing
+    ∷ then (answers released (house1 1500 (discoverAs 10 0x42 1 1 [])) (offerAt (seconds 0x05 0xDC) 10 0x42 (seconds 0x05 0xDC) 2 1) (hold 1 0x42 10 1500 5100 4 1530 ++ lease1)) []
+    ∷ then (answers (released ++ house1 1500 (discoverAs 10 0x42 1 1 []) ∷ []) (r3 1530) (nak 9 0x42 3) lease1) []
+    ∷ then (record { before = released; last = house1 1500 (discoverAs 10 0x42 3 3 []); outcome = 8; reply = []; clock = 1500; leases = lease1 }) (noted 1 0x42 9 1500)
     -- a fifth release forgets the oldest
     ∷ then (answers (turn 1 ++ turn 2 ++ turn 3 ++ turn 4 ++ house2 1000 (request 5 5 1 1 []) ∷ []) (house2 1000 (release 5 5)) (releaseAck 5 5) []) (noted 2 2 2 1000 ++ noted 2 3 3 1000 ++ noted 2 4 4 1000 ++ noted 2 5 5 1000)
     ∷ then (answers (turn 1 ++ turn 2 ++ turn 3 ++ turn 4 ++ turn 5) (house2 1000 (release 1 1)) (nak 1 1 3) []) (noted 2 2 2 1000 ++ noted 2 3 3 1000 ++ noted 2 4 4 1000 ++ noted 2 5 5 1000)
@@ -374,6 +429,7 @@ new = record {
   request = refl;
   ours = refl;
   new = refl;
+  free = refl;
   error1 = refl;
   error2 = refl;
   soon = leb-true _ _ refl;
@@ -401,10 +457,36 @@ pub discovers : Discovers (house2 1000 (discover 1 4))
 unfolding computed
 discovers = record { type = refl; alone = refl }
 
+pub free : NoHold book (house2 1000 (discover 1 4))
+unfolding computed
+free = refl
+
 -- the REQUEST would get a new grant, so the OFFER is drawn
 pub offered : Offered (serveOf book (house2 1000 (discover 1 4)))
 unfolding OfferRule computed
-offered = offer-rule book (house2 1000 (discover 1 4)) discovers .offers (record { outcome = refl; type = refl; new = refl })
+offered = offer-rule book (house2 1000 (discover 1 4)) discovers free .offers (record { outcome = refl; type = refl; new = refl })
+
+-- ---- and those of the held offer: house 1 takes up at 1029 what it was offered at 1000, though house 2 asked for all of it in between
+pub discovers3 : Discovers d3
+unfolding computed
+discovers3 = record { type = refl; alone = refl }
+
+pub offered3 : Offered (serveOf book d3)
+unfolding computed
+offered3 = record { outcome = refl; type = refl }
+
+pub others : All (Elsewhere (book .state) (tenantFor book d3) (leaseIdIn (saysOf book d3))) between
+unfolding All Elsewhere computed
+others = (λ e. absurd (omega arith), (λ e. absurd (omega arith), tt))
+
+pub takes : TakesUp book d3 (run (serveOf book d3 .book) between) (takesUp 1029 2)
+unfolding computed
+takes = record { message = refl; house = refl; room = leb-true _ _ refl; soon = ltb-true _ _ refl; current = refl }
+
+held : GrantedAsOffered book d3 (run (serveOf book d3 .book) between) (takesUp 1029 2) (serveOf book d3)
+    (serveOf (run (serveOf book d3 .book) between) (takesUp 1029 2))
+unfolding OfferHeld computed
+held = offer-held book sound d3 discovers3 offered3 between others (takesUp 1029 2) takes
 
 -- ---- W-201: a book with bad names is unsound, before the room is looked at
 abbrev badly : Book

@@ -4,12 +4,11 @@ use mathlib.Core.Path.{_≡_, refl, sym, ap, _∙_, subst}
 use mathlib.Core.Bool.{Bool, true, false, _&&_, _||_}
 use mathlib.Core.List.{List, [], _∷_}
 use native.Mathlib.Omega.{arith}
-use lib.Dec.{ltb, leb, eqb}
-use lib.ListN.{length, getD, length-take, List·getD-eq-default}
-use borrow.Author.Tests.{eqb-true, eqb-false, leb-true, ltb-true, ltb-false}
+use lib.Dec.{ltb, eqb}
+use lib.ListN.{length, getD, set, length-take, List·getD-eq-default}
+use borrow.Author.Tests.{eqb-true, eqb-false, ltb-true, ltb-false}
 use Rattle.lists.specs.Pick.{pick}
 use Rattle.lists.specs.All.{All}
-use Rattle.lists.specs.laws.Both.{and-parts}
 use Rattle.lists.specs.Filter.{filterBy}
 use Rattle.message.specs.declared.Fields.{Fields}
 use Rattle.message.specs.laws.Placed.{pick-cases}
@@ -20,27 +19,25 @@ use Rattle.state.specs.declared.Lease.{Lease}
 use Rattle.state.specs.declared.LeaseTable.{LeaseTable}
 use Rattle.state.specs.declared.Release.{Release}
 use Rattle.state.specs.declared.State.{State}
-use Rattle.state.specs.Book.{Book, advanced, leasesOf, liveOf, placeOf, releasesAt, remembered, scopeAt, zeroLease}
+use Rattle.state.specs.Book.{Book, advanced, leasesOf, liveOf, placeOf, releasesAt, remembered, removeOf, zeroLease}
 use Rattle.releases.specs.Whole.{bookB}
 use Rattle.releases.specs.laws.Whole.{book-sound}
-use Rattle.soundness.specs.Sound.{scopesIn, tenantsIn}
+use Rattle.soundness.specs.Sound.{tenantsIn}
 use Rattle.soundness.specs.laws.Book.{Sound, sound-lists}
 use Rattle.soundness.specs.laws.Facts.{lease-at-facts}
-use Rattle.soundness.specs.laws.Kept.{advanced-sound}
-use Rattle.allocation.specs.Rule.{grantOf, suffices}
-use Rattle.allocation.specs.laws.Granted.{grant-exists}
+use Rattle.soundness.specs.laws.Kept.{advanced-sound, sound-removed}
 use Rattle.decision.specs.declared.Decided.{Decided}
-use Rattle.decision.specs.declared.Proposal.{Proposal}
 use Rattle.decision.specs.declared.Reply.{Reply}
 use Rattle.decision.specs.declared.Reply.the-variants.{Nothing, Offer, LeaseAck, ReleaseAck, InfoAck, Nak}
 use Rattle.decision.specs.declared.Verdict.{Verdict}
-use Rattle.decision.specs.laws.Kept.{own-is}
-use Rattle.decision.specs.laws.Cases.{Passed, decided-by, inside, new-known, new-type, no, or-none}
-use Rattle.decision.specs.Parts.{askAt, badCounts, discardWith, error0Of, fitsNew, holdsOf, isNew, knowsScope, leaseFrom, nakWith, leaseIdIn, newOf, newWith, ownOf, plainReply, recordedOf, refusalOf, renewedOf, renewedTo, resends, scopePlace, withLease}
+use Rattle.decision.specs.laws.Kept.{own-is, updated-leases}
+use Rattle.decision.specs.laws.Cases.{decided-by, held-there, leased-there, new-type, no, oldFor, thereFor, without}
+use Rattle.decision.specs.Parts.{badCounts, discardWith, error0Of, holdsOf, knowsScope, leaseFrom, nakWith, leaseIdIn, newOf, ownOf, plainReply, recordedOf, refusalOf, renewedOf, renewedTo, resends, turned, withLease}
 use Rattle.decision.specs.Decide.{decideOf}
 use Rattle.server.specs.Serve.{Answer, Call, answered, atClock, byReply, decidedFor, discarded, forServer, headOf, infoOf, replyOf, serveOf, tenantOf, termsOf, withReading}
 use Rattle.guarantee.specs.Statement.{Narrow, ReadAs, bookAt}
 use Rattle.guarantee.proofs.Codes.{info-found, lease-found, nak-found, offer-found, read-as, release-found}
+use Rattle.guarantee.proofs.Proposed as proposed
 use Rattle.guarantee.proofs.Ranges.{grant-small, named-head, offsets-some}
 use Rattle.guarantee.proofs.Replies.{own-dropped}
 
@@ -85,6 +82,17 @@ no-resend m = go (eqb 0 (m .kind)) refl
     go true e = ap (λ (k : ℕ). (eqb k 3 || eqb k 4) && (eqb 0 k && eqb 0 (m .xid))) (sym (eqb-true 0 (m .kind) e))
     go false e = ap (λ (b : Bool). (eqb (m .kind) 3 || eqb (m .kind) 4) && (b && eqb 0 (m .xid))) e ∙ none (eqb (m .kind) 3 || eqb (m .kind) 4)
 
+-- the lease that a new message would get
+new-sized : (s : State) (t : LeaseTable) (h : ℕ) (m : Fields) → Sound s (leasesOf t) → h < tenantsIn s → knowsScope s m ≡ true → badCounts m ≡ false → error0Of s m (newOf s t h m) ≡ false
+    → Sized (newOf s t h m .addresses)
+unfolding Sized
+new-sized s t h m v known ours good e =
+    let l = proposed.leaves s t h m v known ours good e in
+    let n = proposed.exact s t h m v known ours good (l .least) in
+    let c = proposed.counts s t h m v known ours good .0 in
+    let k = l .least in
+    subst Sized (sym (proposed.given s t h m v known ours good)) (offsets-some _ (omega arith), grant-small _ _ _ _)
+
 module _ (s : State) (t : LeaseTable) (h : ℕ) (m : Fields) (v : Sound s (leasesOf t)) (known : h < tenantsIn s) (narrow : All (λ l. l .addresses < 2 ^ 64) (ownOf t h)) where
   -- the lease that is held
   held-sized : placeOf (leaseIdIn m) (ownOf t h) < length (ownOf t h) → Sized (recordedOf (ownOf t h) m .addresses)
@@ -100,6 +108,12 @@ module _ (s : State) (t : LeaseTable) (h : ℕ) (m : Fields) (v : Sound s (lease
   unfolding holdsOf
   is-held e = held-sized (ltb-true (placeOf (leaseIdIn m) (ownOf t h)) (length (ownOf t h)) e)
 
+  -- the book without it is sound
+  without-sound : Sound s (leasesOf (without t h m))
+  without-sound =
+      subst (Sound s) (sym (updated-leases t h (removeOf (leaseIdIn m) (ownOf t h)) ∙ ap (λ (x : List Lease). set (leasesOf t) h (removeOf (leaseIdIn m) x)) (own-is t h)))
+      (sound-removed s (leasesOf t) h (leaseIdIn m) v)
+
   resent : resends m (recordedOf (ownOf t h) m) ≡ true → Sized (recordedOf (ownOf t h) m .addresses)
   unfolding recordedOf
   resent e = go (ltb (placeOf (leaseIdIn m) (ownOf t h)) (length (ownOf t h))) refl
@@ -110,36 +124,21 @@ module _ (s : State) (t : LeaseTable) (h : ℕ) (m : Fields) (v : Sound s (lease
           let z : recordedOf (ownOf t h) m ≡ zeroLease = List·getD-eq-default (ownOf t h) zeroLease {n = placeOf (leaseIdIn m) (ownOf t h)} (ltb-false (placeOf (leaseIdIn m) (ownOf t h)) (length (ownOf t h)) p) in
           no (sym e ∙ ap (resends m) z ∙ no-resend m)
 
-  -- the lease that a new message would get
-  abbrev N : Proposal
-  N = newWith t m (askAt s h m (scopePlace s (m .scope .value))) (grantOf (scopeAt s (scopePlace s (m .scope .value))) (tenantsIn s) (leasesOf t) (askAt s h m (scopePlace s (m .scope .value))))
-
-  grant-sized : isNew m ≡ true → Passed s m (holdsOf (ownOf t h) m) → error0Of s m N ≡ false → Sized (N .addresses)
-  unfolding newWith fitsNew suffices Sized knowsScope askAt badCounts
-  grant-sized n left e =
-      let here = ltb-true (scopePlace s (m .scope .value)) (scopesIn s) (and-parts (m .scope .there) (ltb (scopePlace s (m .scope .value)) (scopesIn s)) (left .scope n) .1) in
-      let g = and-parts (ltb (length (ownOf t h)) 16) (leb (m .counts .least) (grantOf (scopeAt s (scopePlace s (m .scope .value))) (tenantsIn s) (leasesOf t) (askAt s h m (scopePlace s (m .scope .value))) .number)) (inside s m N e .1) in
-      let k = leb-true (m .counts .least) (grantOf (scopeAt s (scopePlace s (m .scope .value))) (tenantsIn s) (leasesOf t) (askAt s h m (scopePlace s (m .scope .value))) .number) (g .1) in
-      let o = eqb-false (m .counts .least) 0 (or-none (eqb (m .counts .least) 0) (ltb (m .counts .desired) (m .counts .least)) (left .counts) .0) in
-      let x = grant-exists s (leasesOf t) v (scopePlace s (m .scope .value)) here (askAt s h m (scopePlace s (m .scope .value))) (omega arith) known (omega arith) in (
-        offsets-some (grantOf (scopeAt s (scopePlace s (m .scope .value))) (tenantsIn s) (leasesOf t) (askAt s h m (scopePlace s (m .scope .value))) .addresses) (omega arith),
-        grant-small (scopeAt s (scopePlace s (m .scope .value))) (tenantsIn s) (leasesOf t) (askAt s h m (scopePlace s (m .scope .value))),
-      )
-
-  new-sized : isNew m ≡ true → Passed s m (holdsOf (ownOf t h) m) → error0Of s m (newOf s t h m) ≡ false → Sized (newOf s t h m .addresses)
-  new-sized n left e = let q = new-known s t h m known in subst (λ (p : Proposal). Sized (p .addresses)) (sym q) (grant-sized n left (sym (ap (error0Of s m) q) ∙ e))
-
   decided : (q : List Release) → P (decideOf s t q h m)
-  unfolding withLease leaseFrom plainReply renewedOf renewedTo P Q Leases
+  unfolding withLease leaseFrom plainReply renewedOf renewedTo turned P Q Leases
   decided q = decided-by s t h m P (record {
-    resent = λ e z. resent e;
-    again = λ z. tt;
+    resent = λ e _. resent e;
+    again = λ _. tt;
     refused = refused m;
-    offered = λ k ok e z. new-sized (new-type m k refl) ok e;
-    requested = λ k ok e z. new-sized (new-type m k refl) ok e;
-    renewed = λ k ok held e z. is-held held;
-    released = λ k held z. tt;
-    informed = λ z. tt;
+    repeated = λ _ f _. is-held (held-there (oldFor t h m) (thereFor t h m) f);
+    taken = λ _ f _. is-held (held-there (oldFor t h m) (thereFor t h m) f);
+    offered = λ k ok _ e _. new-sized s t h m v known (ok .scope (new-type m k refl)) (ok .counts) e;
+    requested = λ k ok _ e _. new-sized s t h m v known (ok .scope (new-type m k refl)) (ok .counts) e;
+    dropped = λ _ _. refused m 0;
+    moved = λ k ok _ e _. new-sized s (without t h m) h m without-sound known (ok .scope (new-type m k refl)) (ok .counts) e;
+    renewed = λ _ _ f _ _. is-held (leased-there (oldFor t h m) (thereFor t h m) f);
+    released = λ _ _ _. tt;
+    informed = λ _. tt;
   }) q
 
 -- ---- the octets

@@ -1,6 +1,7 @@
--- Statement: what the server guarantees: demand 3 as a single claim about any list of server calls, demand 1 about each call, and the OFFER rule. The buyer's
--- sentences, and those of document 01's "Demand 3 in detail", are quoted beside what says them. A house is a tenant here, its share a
--- reserve; tenants count from 0, a lease's scope from 1.
+-- Statement: what the server guarantees: demand 3 as a single claim about any list of server calls, demand 1 about each call, the OFFER rule, and that an offer is
+-- held. The buyer's sentences, and those of document 01's "Demand 3 in detail", are quoted beside what says them; '"lease" in demands 1 and 3 .. reads "lease or
+-- hold"' (document 02, W-205), so that each sentence on leases is one on records. A house is a tenant here, its share a reserve; tenants count from 0, a
+-- lease's scope from 1.
 use Prim.Native.Nat.{ℕ, _+_, _-_, _≤_, _<_, min, _^_}
 use mathlib.Core.Path.{_≡_}
 use mathlib.Core.Bool.{true, false, not}
@@ -16,21 +17,21 @@ use Rattle.message.specs.Values.{fieldsOf}
 use Rattle.message.specs.Walk.{walkOf}
 use Rattle.message.specs.declared.Stage.the-variants.{Done}
 use Rattle.reply.specs.declared.Terms.{Terms}
-use Rattle.reply.specs.Reply.{leastRoom, leaseAckOf}
+use Rattle.reply.specs.Reply.{leastRoom, leaseAckOf, offerOf}
 use Rattle.reply.specs.Ranges.{addressesIn}
 use Rattle.state.specs.declared.Lease.{Lease}
 use Rattle.state.specs.declared.LeaseTable.{LeaseTable}
 use Rattle.state.specs.declared.Scope.{Scope}
 use Rattle.state.specs.declared.State.{State}
 use Rattle.state.specs.declared.Release.{Release}
-use Rattle.state.specs.Book.{Book, advanced, idOf, insertOf, laidReleases, leaseWith, leasesOf, liveOf, named, putReleases, releasesAt, remembered, removeOf, scopeAt, limitAt}
+use Rattle.state.specs.Book.{Book, advanced, holdTime, idOf, insertOf, laidReleases, lapsingAt, leaseWith, leasesOf, liveOf, named, putReleases, releasesAt, remembered, removeOf, scopeAt, limitAt}
 use Rattle.state.specs.Edit.{forgetOf}
 use Rattle.releases.specs.Whole.{bookB, memoryGood, namesGood}
 use Rattle.soundness.specs.Sound.{holding, tenantsIn}
 use Rattle.allocation.specs.declared.Ask.{Ask}
 use Rattle.allocation.specs.declared.Grant.{Grant}
 use Rattle.allocation.specs.Rule.{grantOf, unusedReserve}
-use Rattle.decision.specs.Parts.{horizon, defaultLease, error1Of, error2Of, holdsOf, lengthOf, meets, ownOf, recordedOf, resends, scopePlace, startOf}
+use Rattle.decision.specs.Parts.{horizon, defaultLease, error1Of, error2Of, holdsOf, isHeld, leaseIdIn, lengthOf, meets, ownOf, recordedOf, resends, scopePlace, startOf, turned}
 use Rattle.server.specs.Serve.{Answer, Call, headOf, serveOf, tenantOf}
 
 -- ---- the list of calls: "any number of server calls, or none: DISCOVER, REQUEST, RENEW, RELEASE, GETINFO and any other octets, from any address, with any
@@ -78,6 +79,13 @@ releasesFor b c = remembered (releasesAt (b .memory) (tenantFor b c))
 abbrev pub saysOf : Book → Call → Fields
 saysOf b c = fieldsOf (c .datagram) (stateAt b c .server) (readOf (c .datagram) .message)
 
+-- the record of the datagram's identifier, an unused one where there is none; and that it is no hold
+abbrev pub recordFor : Book → Call → Lease
+recordFor b c = recordedOf (ownFor b c) (saysOf b c)
+
+abbrev pub NoHold : Book → Call → Type 0
+NoHold b c = isHeld (recordFor b c) (holdsOf (ownFor b c) (saysOf b c)) ≡ false
+
 -- the scope's place, and the scope
 abbrev pub placeFor : Book → Call → ℕ
 placeFor b c = scopePlace (stateAt b c) (saysOf b c .scope .value)
@@ -117,26 +125,37 @@ pub record NewRequest (b : Book) (c : Call) : Type 0 where
   pub request : saysOf b c .kind ≡ 3
   pub ours : saysOf b c .ours ≡ true
   -- "A REQUEST is new if it is no Resend"
-  pub new : resends (saysOf b c) (recordedOf (ownFor b c) (saysOf b c)) ≡ false
+  pub new : resends (saysOf b c) (recordFor b c) ≡ false
+  -- "The next REQUEST in demand 3 is one whose identifier has no hold" (document 02, W-205)
+  pub free : NoHold b c
   -- not errors 1 and 2; error 3 is about RENEW and RELEASE
-  pub error1 : error1Of (stateAt b c) (saysOf b c) (holdsOf (ownFor b c) (saysOf b c)) ≡ false
+  pub error1 : error1Of (stateAt b c) (saysOf b c) (recordFor b c) (holdsOf (ownFor b c) (saysOf b c)) ≡ false
   pub error2 : error2Of (stateAt b c) (saysOf b c) ≡ false
   -- "Inside means start at most clock plus horizon, end at most 4,294,967,295"
   pub soon : startFor b c ≤ stateAt b c .clock + horizon
   pub fits : endFor b c ≤ 4294967295
   -- "and its minimum and latest start can be met" (document 02, W-203)
   pub met : meets (saysOf b c) (startFor b c) (lengthOf (saysOf b c) defaultLease) ≡ true
-  -- of the house's 16 lease records one is left
+  -- of the house's 16 records, in which its holds stand too, one is left
   pub left : length (ownFor b c) < 16
   -- "If the least number it accepts is no more than its house's unused share"
   pub least : saysOf b c .counts .least ≤ unusedFor b c
 
 -- ---- "Granted with k means"
--- "the lease that REQUEST records, of that house, identifier, scope and period, on just these addresses", with its type and transaction id
-abbrev pub leaseFor : Book → Call → Lease
-leaseFor b c = leaseWith (placeFor b c + 1) (saysOf b c .id .len) (saysOf b c .id .octets) 3 (saysOf b c .xid) (startFor b c) (endFor b c) (grantFor b c .addresses)
+-- "of that house, identifier, scope and period, on just these addresses", with a type and the transaction id
+abbrev pub leaseOfType : ℕ → Book → Call → Lease
+leaseOfType kind b c = leaseWith (placeFor b c + 1) (saysOf b c .id .len) (saysOf b c .id .octets) kind (saysOf b c .xid) (startFor b c) (endFor b c) (grantFor b c .addresses)
 
--- what the ACK says: its Ranges are those of the grant's addresses
+-- "the lease that REQUEST records": "what it is granted is a lease, not a hold" (document 02, W-205)
+abbrev pub leaseFor : Book → Call → Lease
+leaseFor b c = leaseOfType 3 b c
+
+-- the hold that an OFFER leaves: "addresses and period as a lease has them, lapsing when the clock reaches thirty seconds after it, or the period's end if that is
+-- sooner", with "type 1 and its DISCOVER's transaction id" (document 02, W-205)
+abbrev pub holdFor : Book → Call → Lease
+holdFor b c = lapsingAt (min (stateAt b c .clock + holdTime) (endFor b c)) (leaseOfType 1 b c)
+
+-- what the ACK, or the OFFER, says: its Ranges are those of the grant's addresses
 abbrev pub termsFor : Book → Call → Terms
 termsFor b c = record {
   length = endFor b c - startFor b c;
@@ -158,7 +177,7 @@ pub record Granted (b : Book) (c : Call) (a : Answer) : Type 0 where
   -- "whose Ranges name just these k addresses": option 10, decoded from the reply's octets, names the scope's lowest address + offset for each address
   -- granted, and no other (a sound pool never wraps)
   pub names : addressesIn (a .reply) ≡ map (λ o. scopeFor b c .lowest + o) (offsets (grantFor b c .addresses))
-  -- "the book afterwards has every other live lease unchanged": settings and clock, the other tenants' leases
+  -- "the book afterwards has every other live lease unchanged", and every hold: settings and clock, the other tenants' leases
   pub state : a .book .state ≡ stateAt b c
   pub others : (g : ℕ) → (g ≡ tenantFor b c → ⊥) → ownOf (a .book .table) g ≡ ownOf (tableAt b c) g
   -- and the names for the scopes (document 02, W-201)
@@ -261,7 +280,7 @@ unfoldable pub StaysNarrow : Type 0
 StaysNarrow = (b : Book) → Narrow b → (cs : List Call) → Narrow (run b cs)
 
 -- ---- the OFFER rule: a DISCOVER "without option 2 draws an OFFER exactly if the same message sent as a REQUEST would get a new grant now, with
--- that period and those ranges"
+-- that period and those ranges"; document 02, W-205: "its OFFER rule is for identifiers without a hold"
 -- a DISCOVER without option 2
 pub record Discovers (c : Call) : Type 0 where
   pub type : getD (c .datagram) 1 0 ≡ 1
@@ -283,7 +302,7 @@ pub record Offered (a : Answer) : Type 0 where
 pub record NewlyGranted (b : Book) (c : Call) (a : Answer) : Type 0 where
   pub outcome : a .outcome ≡ 0
   pub type : getD (a .reply) 1 0 ≡ 5
-  pub new : resends (saysOf b c) (recordedOf (ownFor b c) (saysOf b c)) ≡ false
+  pub new : resends (saysOf b c) (recordFor b c) ≡ false
 
 -- of the answers to a DISCOVER and to the same message sent as a REQUEST
 pub record OfferedAs (b : Book) (c : Call) (discover request : Answer) : Type 0 where
@@ -294,4 +313,67 @@ pub record OfferedAs (b : Book) (c : Call) (discover request : Answer) : Type 0 
   pub same : Offered discover → discover .reply ≡ set (request .reply) 1 2
 
 unfoldable pub OfferRule : Type 0
-OfferRule = (b : Book) (c : Call) → Discovers c → OfferedAs b c (serveOf b c) (serveOf b (requested c))
+OfferRule = (b : Book) (c : Call) → Discovers c → NoHold b c → OfferedAs b c (serveOf b c) (serveOf b (requested c))
+
+-- ---- the offer is held (document 02, W-205)
+-- the hold that the OFFER to d left, or that it repeated: the record of d's identifier afterwards
+abbrev pub holdLeft : Book → Call → Lease
+holdLeft b d = recordedOf (ownOf (serveOf b d .book .table) (tenantFor b d)) (saysOf b d)
+
+-- "An OFFER now leaves a hold" among the tenant's records, which "forgets its identifier's release"; nothing else changes
+pub record LeavesHold (b : Book) (c : Call) (a : Answer) : Type 0 where
+  -- what is offered is what is held
+  pub reply : a .reply ≡ offerOf (headOf (stateAt b c) (saysOf b c)) (termsFor b c)
+  pub left : holdLeft b c ≡ holdFor b c
+  pub state : a .book .state ≡ stateAt b c
+  pub others : (g : ℕ) → (g ≡ tenantFor b c → ⊥) → ownOf (a .book .table) g ≡ ownOf (tableAt b c) g
+  pub own : ownOf (a .book .table) (tenantFor b c) ≡ insertOf (holdFor b c) (ownFor b c)
+  pub forgets : a .book .memory ≡ putReleases (b .memory) (tenantFor b c) (laidReleases (forgetOf (idOf (holdFor b c)) (releasesFor b c)))
+
+unfoldable pub OfferHolds : Type 0
+OfferHolds = (b : Book) (c : Call) → SoundBook b → Discovers c → NoHold b c → Offered (serveOf b c) → LeavesHold b c (serveOf b c)
+
+-- taken up at once, it is as if the REQUEST alone had been sent: the same answer and the same book
+unfoldable pub OfferTaken : Type 0
+OfferTaken = (b : Book) (c : Call) → SoundBook b → Discovers c → NoHold b c → Offered (serveOf b c) → serveOf (serveOf b c .book) (requested c) ≡ serveOf b (requested c)
+
+-- a call that is not about tenant h's identifier i: by another house, or for another identifier. Calls leave the settings s as they are
+unfoldable pub Elsewhere : State → ℕ → List ℕ → Call → Type 0
+Elsewhere s h i c = tenantOf s (c .client) ≡ h → leaseIdIn (fieldsOf (c .datagram) (s .server) (readOf (c .datagram) .message)) ≡ i → ⊥
+
+-- r, on a book w: the same message as a REQUEST, by the same house, before the hold lapses
+pub record TakesUp (b : Book) (d : Call) (w : Book) (r : Call) : Type 0 where
+  pub message : r .datagram ≡ asRequest (d .datagram)
+  pub house : tenantFor w r ≡ tenantFor b d
+  pub room : leastRoom ≤ r .room
+  -- the hold is live: of a new one the lapse is thirty seconds after the OFFER, or the period's end if that is sooner (`LeavesHold`)
+  pub soon : stateAt w r .clock < holdLeft b d .lapse
+  -- its Current Time, where it names one, is not too far from the clock by now: not error 2
+  pub current : error2Of (stateAt w r) (saysOf w r) ≡ false
+
+-- what the ACK says: the held period and addresses
+abbrev pub heldTerms : Book → Call → Book → Call → Terms
+heldTerms b d w r = record {
+  length = holdLeft b d .end - holdLeft b d .start;
+  start = holdLeft b d .start;
+  scope = scopeFor b d .lowest;
+  addresses = holdLeft b d .addresses;
+  clock = stateAt w r .clock;
+}
+
+pub record GrantedAsOffered (b : Book) (d : Call) (w : Book) (r : Call) (offer a : Answer) : Type 0 where
+  pub outcome : a .outcome ≡ 0
+  pub reply : a .reply ≡ leaseAckOf (headOf (stateAt w r) (saysOf w r)) (heldTerms b d w r)
+  -- just the addresses offered, as the Ranges of both replies name them
+  pub names : addressesIn (a .reply) ≡ addressesIn (offer .reply)
+  -- and the lease is recorded with them
+  pub lease : recordedOf (ownOf (a .book .table) (tenantFor b d)) (saysOf b d) ≡ turned (saysOf w r) (holdLeft b d)
+
+-- "Presentation gets an OFFER, asks the editor, and finds the addresses gone" no more: whatever others sent since the OFFER, and the house itself for other
+-- identifiers, at whatever times. A DISCOVER sent again meanwhile repeats the offer: take d to be the last
+unfoldable pub OfferHeld : Type 0
+OfferHeld =
+    (b : Book) → SoundBook b → (d : Call) → Discovers d → Offered (serveOf b d)
+    → (cs : List Call) → All (Elsewhere (b .state) (tenantFor b d) (leaseIdIn (saysOf b d))) cs
+    → (r : Call) → TakesUp b d (run (serveOf b d .book) cs) r
+    → GrantedAsOffered b d (run (serveOf b d .book) cs) r (serveOf b d) (serveOf (run (serveOf b d .book) cs) r)

@@ -1,4 +1,4 @@
--- Laws: an accepted file's leases have addresses within 64 bits, calls keep them so, and so every reply is read back.
+-- Laws: an accepted file's leases and holds have addresses within 64 bits, calls keep them so, and so every reply is read back.
 use Prim.Native.Nat.{ℕ, zero, suc, _<_, _^_}
 use mathlib.Core.Path.{_≡_, refl, sym, ap, _∙_, subst}
 use mathlib.Core.Bool.{Bool, true, false}
@@ -9,6 +9,7 @@ use borrow.Author.Tests.{ltb-true}
 use Rattle.lists.specs.Pick.{pick}
 use Rattle.lists.specs.All.{All}
 use Rattle.lists.specs.Filter.{filterBy}
+use Rattle.lists.specs.laws.All.{all-any, all-mapped}
 use Rattle.address_set.specs.AddressSet.{readOffsets}
 use Rattle.address_set.specs.laws.Offsets.{setOf-small}
 use Rattle.message.specs.laws.Placed.{pick-cases}
@@ -20,11 +21,14 @@ use Rattle.state.specs.laws.Layout.{table-back}
 use Rattle.decision.specs.laws.Kept.{own-is}
 use Rattle.decision.specs.Parts.{ownOf}
 use Rattle.guarantee.specs.Statement.{Narrow, StaysNarrow}
-use Rattle.guarantee.proofs.Bounded.{stays-narrow}
+use Rattle.guarantee.proofs.Bounded.{inserted, stays-narrow}
 use Rattle.state_file.specs.declared.Loaded.{Loaded}
-use Rattle.state_file.specs.File.{File, FileLease, fileOf}
+use Rattle.lease_file.specs.Section.{FileHold, FileLease}
+use Rattle.lease_file.specs.Records.{holdTenant, insertAll, leaseTenant, mergedFrom, stored, storedHold}
+use Rattle.state_file.specs.File.{File, fileOf}
 use Rattle.format.specs.Format.{Got, bad, got}
-use Rattle.state_file.specs.Records.{fitsB, ofTenant, stored, storedTable, tenantsFrom}
+use Rattle.format.specs.Tenants.{own}
+use Rattle.state_file.specs.Records.{fitsB, storedTable}
 use Rattle.state_file.specs.StateFile.{accepted, loadedGot, judged, loaded, readFile, refused, zeroTable}
 use Rattle.records.specs.laws.Files.{file-back}
 use Rattle.records.specs.Lent.{LentReading, readLent}
@@ -37,7 +41,7 @@ use Rattle.lent_guarantee.proofs.Written.{file-sound}
 abbrev F : Lease → Type 0
 F l = l .addresses < 2 ^ 64
 
--- ---- a file's leases: octets that are no offsets add nothing
+-- ---- a file's leases and holds: octets that are no offsets add nothing
 below : (l : List ℕ) → All (λ a. a < 64) (filterBy (λ a. ltb a 64) l)
 unfolding All filterBy pick
 below [] = tt
@@ -47,16 +51,26 @@ below (x ∷ l) = go (ltb x 64) refl (below l)
     go true e r = (ltb-true x 64 e, r)
     go false e r = r
 
-all-stored : (xs : List FileLease) → All F (map stored xs)
-unfolding All stored readOffsets
-all-stored [] = tt
-all-stored (x ∷ xs) = (setOf-small 64 (filterBy (λ a. ltb a 64) (x .offsets)) (below (x .offsets)), all-stored xs)
+one-stored : (x : FileLease) → F (stored x)
+unfolding stored readOffsets
+one-stored x = setOf-small 64 (filterBy (λ a. ltb a 64) (x .offsets)) (below (x .offsets))
 
-each-tenant : (t n : ℕ) (xs : List FileLease) (g : ℕ) → All F (getD (tenantsFrom t n xs) g [])
-unfolding All tenantsFrom
-each-tenant t zero xs g = tt
-each-tenant t (suc n) xs zero = all-stored (ofTenant t xs)
-each-tenant t (suc n) xs (suc g) = each-tenant (suc t) n xs g
+one-held : (x : FileHold) → F (storedHold x)
+unfolding storedHold
+one-held x = one-stored (x .lease)
+
+insert-all : (hs ls : List Lease) → All F hs → All F ls → All F (insertAll hs ls)
+unfolding insertAll All
+insert-all [] ls p q = q
+insert-all (x ∷ hs) ls p q = inserted x (insertAll hs ls) (p .0) (insert-all hs ls (p .1) q)
+
+each-tenant : (t n : ℕ) (xs : List FileLease) (ys : List FileHold) (g : ℕ) → All F (getD (mergedFrom t n xs ys) g [])
+unfolding All mergedFrom
+each-tenant t zero xs ys g = tt
+each-tenant t (suc n) xs ys zero =
+    insert-all (map storedHold (own holdTenant t ys)) (map stored (own leaseTenant t xs)) (all-mapped F storedHold (own holdTenant t ys) (all-any (λ x. F (storedHold x)) one-held (own holdTenant t ys)))
+    (all-mapped F stored (own leaseTenant t xs) (all-any (λ x. F (stored x)) one-stored (own leaseTenant t xs)))
+each-tenant t (suc n) xs ys (suc g) = each-tenant (suc t) n xs ys g
 
 of-lists : (ll : List (List Lease)) (g : ℕ) → All F (getD ll g []) → All F (ownOf (tableOf ll) g)
 of-lists ll g h = subst (All F) (sym (own-is (tableOf ll) g ∙ ap (λ (l : List (List Lease)). getD l g []) (table-back ll))) h
@@ -79,7 +93,7 @@ read-narrow f g = go (fileOf f)
 
     go : (x : Got File) → P (loadedGot x)
     go bad = zeros
-    go (got x r) = pick-cases P (fitsB x) _ _ (λ _. pick-cases P _ _ _ (λ _. of-lists (tenantsFrom 1 8 (x .leases)) g (each-tenant 1 8 (x .leases) g)) (λ _. zeros)) (λ _. zeros)
+    go (got x r) = pick-cases P (fitsB x) _ _ (λ _. pick-cases P _ _ _ (λ _. of-lists (mergedFrom 1 8 (x .leases) (x .holds)) g (each-tenant 1 8 (x .leases) (x .holds) g)) (λ _. zeros)) (λ _. zeros)
 
 -- ---- read into lent records, and after any calls
 file-narrow : (f : List ℕ) (k : Ledger) (ls : List Lease) → readLent f k ls .refusal ≡ 0 → Narrow (bookOf (afterFile f k ls))

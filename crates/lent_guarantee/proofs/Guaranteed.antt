@@ -12,15 +12,16 @@ use Rattle.state.specs.declared.Lease.{Lease}
 use Rattle.state.specs.declared.Ledger.{Ledger}
 use Rattle.releases.specs.Whole.{bookB}
 use Rattle.server.specs.Serve.{Answer, Call, serveOf}
-use Rattle.guarantee.specs.Statement.{Answered, Demand3, Granted, IsReply, NewRequest, OfferedAs, OfferRule, ReadAs, SoundBook, WithinLimits, liveUnder, requested, run}
+use Rattle.guarantee.specs.Statement.{Answered, Demand3, Granted, GrantedAsOffered, IsReply, NewRequest, Offered, OfferedAs, OfferHeld, OfferRule, ReadAs, TakesUp, SoundBook, WithinLimits, liveUnder, requested, run}
 use Rattle.guarantee.proofs.Answers.{call-answered}
 use Rattle.guarantee.proofs.Granted.{demand3}
 use Rattle.guarantee.proofs.Kept.{call-sound}
 use Rattle.guarantee.proofs.Offers.{offer-rule}
+use Rattle.guarantee.proofs.Taken.{offer-held}
 use Rattle.records.specs.Records.{recordsOf, tableFrom}
 use Rattle.records.specs.Lent.{ledgerOf, lentAnswer, LentAnswer, serveWith}
 use Rattle.records.specs.laws.Steps.{off-whole}
-use Rattle.lent_guarantee.specs.Statement.{answerOf, bookOf, Lent, LentAnswered, LentDemand1, LentDemand3, LentOfferRule, runLent, served, SoundLent}
+use Rattle.lent_guarantee.specs.Statement.{answerOf, bookOf, Lent, LentAnswered, LentDemand1, LentDemand3, LentOfferHeld, LentOfferRule, runLent, served, SoundLent}
 use Rattle.lent_guarantee.proofs.Same.{at-whole, kept-back, same, sound-book, still-whole}
 
 -- ---- the list of calls
@@ -138,7 +139,21 @@ lent-demand1 l c = call-lent l c
 -- ---- the OFFER rule
 pub lent-offer-rule : LentOfferRule
 unfolding LentOfferRule OfferRule
-lent-offer-rule l c long v =
+lent-offer-rule l c long v free =
     let at : (d : Call) → answerOf (l .names) (served l d) ≡ serveOf (bookOf l) d = λ d. same (l .ledger) (l .leases) (l .names) d long in
     subst (λ (a : Answer). OfferedAs (bookOf l) c a (answerOf (l .names) (served l (requested c)))) (sym (at c))
-    (subst (λ (a : Answer). OfferedAs (bookOf l) c (serveOf (bookOf l) c) a) (sym (at (requested c))) (offer-rule (bookOf l) c v))
+    (subst (λ (a : Answer). OfferedAs (bookOf l) c (serveOf (bookOf l) c) a) (sym (at (requested c))) (offer-rule (bookOf l) c v free))
+
+-- ---- the held offer
+pub lent-offer-held : LentOfferHeld
+unfolding LentOfferHeld OfferHeld run
+lent-offer-held l v d discovers offered cs away r u =
+    let w : Lent = runLent l (d ∷ cs) in
+    let e = run-lent l (d ∷ cs) v in
+    let first : answerOf (l .names) (served l d) ≡ serveOf (bookOf l) d = same (l .ledger) (l .leases) (l .names) d (v .whole) in
+    let last : answerOf (w .names) (served w r) ≡ serveOf (bookOf w) r = same (w .ledger) (w .leases) (w .names) r (e .0 .whole) in
+    let b : SoundBook (bookOf l) = sound-book (l .ledger) (l .leases) (l .names) d (v .whole) (v .eight) (v .sound) in
+    subst (λ (a : Answer). GrantedAsOffered (bookOf l) d (bookOf w) r a (answerOf (w .names) (served w r))) (sym first)
+    (subst (λ (a : Answer). GrantedAsOffered (bookOf l) d (bookOf w) r (serveOf (bookOf l) d) a) (sym last)
+    (subst (λ (y : Book). TakesUp (bookOf l) d y r → GrantedAsOffered (bookOf l) d y r (serveOf (bookOf l) d) (serveOf y r)) (sym (e .1))
+    (offer-held (bookOf l) b d discovers (subst Offered first offered) cs away r) u))

@@ -5,17 +5,18 @@ use mathlib.Core.Bool.{Bool, true, false}
 use mathlib.Core.List.{List, [], _∷_}
 use lib.ListN.{replicate}
 use Rattle.lists.specs.Pick.{pick}
-use Rattle.lists.specs.All.{allBy}
+use Rattle.lists.specs.All.{All, allBy}
 use Rattle.state.specs.Book.{Book, zeroLease}
 use Rattle.releases.specs.Whole.{bookB}
 use Rattle.server.specs.Serve.{Answer, Call, serveOf}
-use Rattle.guarantee.specs.Statement.{Granted, Narrow, NewRequest, Offered, OfferedAs, requested, run}
+use Rattle.decision.specs.Parts.{leaseIdIn}
+use Rattle.guarantee.specs.Statement.{Elsewhere, Granted, GrantedAsOffered, Narrow, NewRequest, NoHold, Offered, OfferedAs, TakesUp, requested, run, saysOf, tenantFor}
 use Rattle.guarantee.proofs.Opened.{computed}
-use Rattle.guarantee.proofs.Specimens.{Case, ReleaseCase, agrees, book, discover, discovers, holds, house2, keeps, narrow, new, offered, p1, p3, release-specimens, releaseTable, remembers, sound, specimens, table}
+use Rattle.guarantee.proofs.Specimens.{Case, ReleaseCase, agrees, between, book, d3, discover, discovers, discovers3, free, holds, house2, keeps, narrow, new, offered, offered3, others, p1, p3, release-specimens, releaseTable, remembers, sound, specimens, table, takes, takesUp}
 use Rattle.records.specs.Lent.{ledgerOf}
 use Rattle.records.specs.Records.{rows, tableFrom, tenantFrom}
-use Rattle.lent_guarantee.specs.Statement.{answerOf, bookOf, Lent, LentDemand3, LentOfferRule, runLent, served, SoundLent}
-use Rattle.lent_guarantee.proofs.Guaranteed.{lent-demand3, lent-offer-rule, run-lent}
+use Rattle.lent_guarantee.specs.Statement.{answerOf, bookOf, Lent, LentDemand3, LentOfferHeld, LentOfferRule, runLent, served, SoundLent}
+use Rattle.lent_guarantee.proofs.Guaranteed.{lent-demand3, lent-offer-held, lent-offer-rule, run-lent}
 use Rattle.lent_guarantee.proofs.Same.{same}
 
 -- the specimens' book, lent as 128 unused records
@@ -78,7 +79,16 @@ asks = house2 1000 (discover 1 4)
 
 offer-met : OfferedAs (bookOf campus) asks (answerOf (campus .names) (served campus asks)) (answerOf (campus .names) (served campus (requested asks)))
 unfolding LentOfferRule campus
-offer-met = lent-offer-rule campus asks refl discovers
+offer-met = lent-offer-rule campus asks refl discovers (subst (λ (b : Book). NoHold b asks) (sym same-book) free)
 
 lent-offered : Offered (answerOf (campus .names) (served campus asks))
 lent-offered = subst Offered (sym (same (campus .ledger) (campus .leases) (campus .names) asks (met .whole) ∙ ap (λ (b : Book). serveOf b asks) same-book)) offered
+
+-- ---- the held offer, taken up at its last second
+lent-held : GrantedAsOffered (bookOf campus) d3 (bookOf (runLent campus (d3 ∷ between))) (takesUp 1029 2) (answerOf (campus .names) (served campus d3))
+    (answerOf (runLent campus (d3 ∷ between) .names) (served (runLent campus (d3 ∷ between)) (takesUp 1029 2)))
+unfolding LentOfferHeld run campus
+lent-held = lent-offer-held campus met d3 discovers3
+    (subst Offered (sym (same (campus .ledger) (campus .leases) (campus .names) d3 (met .whole) ∙ ap (λ (b : Book). serveOf b d3) same-book)) offered3)
+    between (subst (λ (b : Book). All (Elsewhere (b .state) (tenantFor b d3) (leaseIdIn (saysOf b d3))) between) (sym same-book) others)
+    (takesUp 1029 2) (subst (λ (b : Book). TakesUp (bookOf campus) d3 b (takesUp 1029 2)) (sym (run-same (d3 ∷ between))) (subst (λ (b : Book). TakesUp b d3 (run book (d3 ∷ between)) (takesUp 1029 2)) (sym same-book) takes))

@@ -5,13 +5,15 @@ use mathlib.Core.Path.{_≡_}
 use mathlib.Core.Bool.{true, false}
 use mathlib.Core.List.{List, [], _∷_, _++_}
 use lib.ListN.{drop, length, take}
+use Rattle.lists.specs.All.{All}
 use Rattle.state_file.specs.File.{longestFile}
 use Rattle.state.specs.Book.{Book}
 use Rattle.state.specs.declared.Lease.{Lease}
 use Rattle.state.specs.declared.Ledger.{Ledger}
 use Rattle.releases.specs.Whole.{bookB, memoryGood, namesGood}
 use Rattle.server.specs.Serve.{Answer, Call, serveOf}
-use Rattle.guarantee.specs.Statement.{Discovers, Granted, IsReply, Narrow, NewRequest, OfferedAs, ReadAs, WithinLimits, bookAt, liveUnder, requested}
+use Rattle.guarantee.specs.Statement.{Discovers, Elsewhere, Granted, GrantedAsOffered, IsReply, Narrow, NewRequest, NoHold, Offered, OfferedAs, ReadAs, TakesUp, WithinLimits, bookAt, liveUnder, requested, saysOf, tenantFor}
+use Rattle.decision.specs.Parts.{leaseIdIn}
 use Rattle.format.specs.Format.{Octets}
 use Rattle.state_file.specs.declared.Written.{Written}
 use Rattle.state_file.specs.StateFile.{namesOf}
@@ -87,7 +89,7 @@ pub record LentAnswered (l : Lent) (c : Call) (a : LentAnswer) : Type 0 where
   -- "Discards 1 and 2 change nothing"
   pub untouched : a .outcome ≡ 1 → (a .ledger ≡ l .ledger) × (a .leases ≡ l .leases)
   pub untouched-too : a .outcome ≡ 2 → (a .ledger ≡ l .ledger) × (a .leases ≡ l .leases)
-  -- the others set the clock and drop ended leases; 3 to 8 do no more
+  -- the others set the clock and drop ended leases and lapsed holds; 3 to 8 do no more
   pub advances : 3 ≤ a .outcome → (a .ledger ≡ ledgerOf (bookAt (bookOf l) c)) × (a .leases ≡ recordsOf (bookAt (bookOf l) c .table))
   -- another number of records makes the book unsound
   pub other : (length (l .leases) ≡ 128 → ⊥) → a .outcome ≡ 1
@@ -101,8 +103,17 @@ LentDemand1 = (l : Lent) (c : Call) → LentAnswered l c (served l c)
 -- ---- the OFFER rule, on any ledger, any 128 records and any names
 unfoldable pub LentOfferRule : Type 0
 LentOfferRule =
-    (l : Lent) (c : Call) → length (l .leases) ≡ 128 → Discovers c
+    (l : Lent) (c : Call) → length (l .leases) ≡ 128 → Discovers c → NoHold (bookOf l) c
     → OfferedAs (bookOf l) c (answerOf (l .names) (served l c)) (answerOf (l .names) (served l (requested c)))
+
+-- ---- the offer is held (document 02, W-205), its sentences in guarantee's statement: d draws an OFFER, and r is "the same message as a REQUEST by the same house",
+-- "within its thirty seconds", whatever other houses sent in between, and the house itself for other identifiers
+unfoldable pub LentOfferHeld : Type 0
+LentOfferHeld =
+    (l : Lent) → SoundLent l → (d : Call) → Discovers d → Offered (answerOf (l .names) (served l d))
+    → (cs : List Call) → All (Elsewhere (l .ledger .state) (tenantFor (bookOf l) d) (leaseIdIn (saysOf (bookOf l) d))) cs
+    → (r : Call) → TakesUp (bookOf l) d (bookOf (runLent l (d ∷ cs))) r
+    → GrantedAsOffered (bookOf l) d (bookOf (runLent l (d ∷ cs))) r (answerOf (l .names) (served l d)) (answerOf (runLent l (d ∷ cs) .names) (served (runLent l (d ∷ cs)) r))
 
 -- ---- the file: the ledger and the records that it is read into, with the names that stand in it
 abbrev pub afterFile : List ℕ → Ledger → List Lease → Lent

@@ -12,7 +12,7 @@ use Rattle.lists.specs.Place.{placeBy}
 use Rattle.identifier.specs.Order.{orderOf, sameOf}
 use Rattle.state.specs.declared.Lease.{Lease}
 use Rattle.state.specs.declared.Ledger.{Ledger}
-use Rattle.state.specs.Book.{byIdentifier, insertOf, laidOut, leaseWith, removeOf, zeroLease}
+use Rattle.state.specs.Book.{byIdentifier, insertOf, isHold, laidOut, leaseWith, removeOf, zeroLease}
 use Rattle.soundness.specs.Sound.{blankB, layoutB, paddedB, unusedB, zeroFrom}
 use Rattle.server.specs.Serve.{Call}
 use Rattle.records.specs.declared.Found.the-variants.{Absent, At}
@@ -94,14 +94,14 @@ write-127 g names room = refl
 
 -- a lease after an unused record
 gap : layoutB (tenantFrom (lease 1 ∷ zeroLease ∷ lease 3 ∷ unused 13)) ≡ false
-unfolding lease unused layoutB tenantFrom placeBy pick unusedB blankB zeroFrom allBy pairsBy paddedB
+unfolding lease unused layoutB tenantFrom placeBy pick unusedB blankB zeroFrom allBy pairsBy isHold paddedB
 gap = refl
 
 -- leases out of order
 disorder : layoutB (tenantFrom (lease 3 ∷ lease 1 ∷ unused 14)) ≡ false
-unfolding lease unused layoutB tenantFrom placeBy pick unusedB blankB zeroFrom allBy pairsBy byIdentifier orderOf paddedB
+unfolding lease unused layoutB tenantFrom placeBy pick unusedB blankB zeroFrom allBy pairsBy byIdentifier orderOf isHold paddedB
 disorder = refl
 
 rise : layoutB (tenantFrom (lease 1 ∷ lease 3 ∷ unused 14)) ≡ true
-unfolding lease unused layoutB tenantFrom placeBy pick unusedB blankB zeroFrom allBy pairsBy byIdentifier orderOf paddedB
+unfolding lease unused layoutB tenantFrom placeBy pick unusedB blankB zeroFrom allBy pairsBy byIdentifier orderOf isHold paddedB
 rise = refl

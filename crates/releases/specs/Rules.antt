@@ -29,11 +29,11 @@ fewB q = leb (q .count) 4
 unfoldable pub lengthB : Release → Bool
 lengthB r = idLengthB (r .«id_len»)
 
--- ---- 17. an identifier "repeated in the house or on its lease"
+-- ---- 17. an identifier "repeated in the house or on its lease", which reads "lease or hold" (W-205)
 unfoldable pub differs : Release → Release → Bool
 differs a b = otherRelease (releaseId b) a
 
--- on none of the leases ls
+-- on none of the records ls
 unfoldable pub notLeased : List Lease → Release → Bool
 notLeased ls r = allBy (other (releaseId r)) ls
 

@@ -15,9 +15,9 @@ use Rattle.state.specs.declared.Lease.{Lease}
 use Rattle.state.specs.declared.State.{State}
 use Rattle.state.specs.declared.ClientRange.{ClientRange}
 use Rattle.state.specs.declared.Scope.{Scope}
-use Rattle.state.specs.Book.{leaseWith, byIdentifier, differ, laidOut, tableOf, unionAll, addressesOf, overlaps, zeroScope, committed}
+use Rattle.state.specs.Book.{isHold, lapsingAt, leaseWith, byIdentifier, differ, laidOut, tableOf, unionAll, addressesOf, overlaps, zeroScope, committed}
 use Rattle.soundness.specs.declared.Rules.{Rules}
-use Rattle.soundness.specs.Sound.{oneTo, sizeB, idB, recordsB, countsB, rule1, belowB, offsetsB, rule2, rangeB, rangesApart, rule3, poolB, poolsApart, rule4, ttlB, rule5, reserveB, reservesB, rule6, kindB, periodB, leaseB, noneB, tenantsB, rule7, rule8, disjoint, apart, rule9, compatible, rule10, limitB, limitsB, rule11, committedB, rule12, zeroFrom, paddedB, blankB, unusedB, layoutB, rangeZero, tailB, scopeZero, settingsB, rulesOf, firstLate, firstRule, firstBroken, brokenOf, rule19}
+use Rattle.soundness.specs.Sound.{oneTo, sizeB, idB, recordsB, countsB, rule1, belowB, offsetsB, rule2, rangeB, rangesApart, rule3, poolB, poolsApart, rule4, ttlB, rule5, reserveB, reservesB, rule6, kindB, periodB, leaseB, noneB, tenantsB, rule7, rule8, disjoint, apart, rule9, compatible, rule10, limitB, limitsB, rule11, committedB, rule12, lapseB, holdB, rule13, zeroFrom, paddedB, blankB, unusedB, layoutB, rangeZero, tailB, scopeZero, settingsB, rulesOf, firstLate, firstRule, firstBroken, brokenOf, rule19}
 
 -- the specimens' scope 239.192.0.0 and two houses, with what a case changes: the number of houses, the second house's lowest client,
 -- the scope's lowest address and TTL, and the first house's share
@@ -83,6 +83,10 @@ paired scopes second = settingsOf 2 (range 1 9) (range 10 19) noRange scopes poo
 abbrev leaseOf : ℕ → ℕ → ℕ → ℕ → ℕ → ℕ → ℕ → Lease
 leaseOf scope len past kind start end addresses = leaseWith scope len (0 ∷ 1 ∷ past ∷ replicate 29 0) kind 7 start end addresses
 
+-- a hold, of type 1, by its lapse, its end and its addresses
+abbrev hold : ℕ → ℕ → ℕ → ℕ → Lease
+hold i lapse end addresses = lapsingAt lapse (leaseWith 1 2 (0 ∷ i ∷ replicate 30 0) 1 7 1000 end addresses)
+
 record Case : Type 0 where
   state : State
   first : List Lease
@@ -141,6 +145,26 @@ cases =
     ∷ case plain (leaseOf 1 2 0 5 1000 2000 1 ∷ []) [] [] 7
     ∷ case plain (leaseOf 1 2 0 3 2000 2000 1 ∷ []) [] [] 7
     ∷ case plain (leaseOf 1 2 0 3 1000 2000 0 ∷ []) [] [] 7
+    -- document 02, W-205. Sound: a hold that lapses one second after the clock, and thirty; at its end; a lease and a hold, a hold that starts in a week
+    ∷ case plain (hold 1 1001 4600 1 ∷ hold 2 1030 4600 2 ∷ []) [] [] 0
+    ∷ case plain (hold 1 1010 1010 1 ∷ []) [] [] 0
+    ∷ case plain (lease 1 1000 2000 1 ∷ hold 2 1030 4600 2 ∷ []) [] [] 0
+    ∷ case plain (lapsingAt 1030 (leaseWith 1 2 (0 ∷ 1 ∷ replicate 30 0) 1 7 605800 609400 1) ∷ []) [] [] 0
+    -- its addresses count as a lease's do: offsets, identifiers, owners, periods, limits and the sum
+    ∷ case plain (hold 1 1030 4600 16 ∷ []) [] [] 2
+    ∷ case plain (hold 1 1030 4600 0 ∷ []) [] [] 7
+    ∷ case plain (lease 1 1000 2000 1 ∷ hold 1 1030 4600 2 ∷ []) [] [] 8
+    ∷ case plain (lease 1 1000 2000 1 ∷ []) (hold 1 1030 4600 1 ∷ []) [] 9
+    ∷ case plain (lease 1 1000 2000 1 ∷ hold 2 1030 4600 1 ∷ []) [] [] 10
+    ∷ case plain (lease 1 1000 2000 3 ∷ hold 2 1030 4600 12 ∷ []) [] [] 11
+    ∷ case plain [] (lease 1 1000 2000 3 ∷ hold 2 1030 4600 4 ∷ []) [] 12
+    ∷ case plain (replicate 17 (hold 1 1030 4600 1)) [] [] 1
+    -- 13: a lapse at the clock, at clock + 31, after the end, none; 19: a lease with one
+    ∷ case plain (hold 1 1000 4600 1 ∷ []) [] [] 13
+    ∷ case plain (hold 1 1031 4600 1 ∷ []) [] [] 13
+    ∷ case plain (hold 1 1011 1010 1 ∷ []) [] [] 13
+    ∷ case plain (hold 1 0 4600 1 ∷ []) [] [] 13
+    ∷ case plain (lapsingAt 1030 (lease 1 1000 2000 1) ∷ []) [] [] 19
     -- 19: an octet past the identifier's length, a client range past the last house, a scope past the last, a share past the last house
     ∷ case plain (leaseOf 1 2 9 3 1000 2000 1 ∷ []) [] [] 19
     ∷ case (ranged (range 1 9) (range 10 19) (range 20 29)) [] [] [] 19
@@ -149,7 +173,7 @@ cases =
     ∷ []
 
 all-hold : allBy holds cases ≡ true
-unfolding settings plain lease elsewhere short case holds cases pick allBy pairsBy allTo filterBy sumTo orderOf sameOf bit offsetsFrom laidOut tableOf byIdentifier unionAll addressesOf overlaps oneTo sizeB idB recordsB countsB rule1 belowB offsetsB rule2 rangeB rangesApart rule3 poolB poolsApart rule4 ttlB rule5 reserveB reservesB rule6 kindB periodB leaseB noneB tenantsB rule7 differ rule8 disjoint apart rule9 compatible rule10 limitB limitsB rule11 committed committedB rule12 zeroFrom paddedB blankB unusedB layoutB rangeZero tailB scopeZero settingsB rule19 rulesOf firstLate firstRule firstBroken brokenOf
+unfolding settings plain lease elsewhere short case holds cases pick allBy pairsBy allTo filterBy sumTo orderOf sameOf bit offsetsFrom laidOut tableOf byIdentifier unionAll addressesOf overlaps oneTo sizeB idB recordsB countsB rule1 belowB offsetsB rule2 rangeB rangesApart rule3 poolB poolsApart rule4 ttlB rule5 reserveB reservesB rule6 kindB periodB leaseB noneB tenantsB rule7 differ rule8 disjoint apart rule9 compatible rule10 limitB limitsB rule11 committed committedB rule12 isHold lapseB holdB rule13 zeroFrom paddedB blankB unusedB layoutB rangeZero tailB scopeZero settingsB rule19 rulesOf firstLate firstRule firstBroken brokenOf
 all-hold = refl
 
 -- ---- the layout comes last of all rules, and no file can break it
@@ -168,6 +192,7 @@ only commitments layout = record {
   periods = true;
   holdings = true;
   commitments = commitments;
+  holds = true;
   layout = layout;
 }
 

@@ -12,7 +12,7 @@ use Rattle.state.specs.declared.TenantLeases.{TenantLeases}
 use Rattle.state.specs.declared.LeaseTable.{LeaseTable}
 use Rattle.state.specs.declared.Scope.{Scope}
 use Rattle.state.specs.declared.State.{State}
-use Rattle.state.specs.Book.{differ, ordered, inUse, leasesOf, inScope, heldOf, addedIf, scopeAt, limitAt, committedSum}
+use Rattle.state.specs.Book.{differ, ordered, until, inUse, leasesOf, inScope, heldOf, addedIf, scopeAt, limitAt, committedSum}
 use Rattle.soundness.specs.declared.ScopeRules.{ScopeRules}
 use Rattle.soundness.specs.declared.TenantRules.{TenantRules}
 use Rattle.soundness.specs.declared.TableRules.{TableRules}
@@ -24,7 +24,7 @@ use Rattle.soundness.specs.declared.Gathered.{Gathered}
 use Rattle.soundness.specs.declared.Checked.{Checked}
 use Rattle.soundness.specs.declared.Pass.{Pass}
 use Rattle.soundness.specs.declared.HeldTable.{HeldTable}
-use Rattle.soundness.specs.Sound.{tenantsIn, scopesIn, sizeB, countsB, idB, recordsB, offsetsB, rule3, poolB, rule4, ttlB, rule5, reservesB, rule6, leaseB, disjoint, compatible, layoutB, paddedB, tailB, settingsB, firstBroken, oneTo, unusedB}
+use Rattle.soundness.specs.Sound.{tenantsIn, scopesIn, sizeB, countsB, idB, recordsB, offsetsB, rule3, poolB, rule4, ttlB, rule5, reservesB, rule6, leaseB, holdB, disjoint, compatible, layoutB, paddedB, tailB, settingsB, firstBroken, oneTo, unusedB}
 
 -- ---- scopes
 unfoldable pub scopeRulesOf : ℕ → Scope → ScopeRules
@@ -42,6 +42,7 @@ tenantRulesOf s t = record {
   records = recordsB t;
   offsets = allBy (offsetsB s) (inUse t);
   leases = allBy (leaseB s) (inUse t);
+  holds = allBy (holdB (s .clock)) (inUse t);
   identifiers = pairsBy differ (inUse t);
   periods = pairsBy compatible (inUse t);
   layout = layoutB t;
@@ -52,6 +53,7 @@ tenantsAll s b = record {
   records = allBy recordsB (b .tenants);
   offsets = allBy (allBy (offsetsB s)) (leasesOf b);
   leases = allBy (allBy (leaseB s)) (leasesOf b);
+  holds = allBy (allBy (holdB (s .clock))) (leasesOf b);
   identifiers = allBy (pairsBy differ) (leasesOf b);
   periods = allBy (pairsBy compatible) (leasesOf b);
   layout = allBy layoutB (b .tenants);
@@ -62,6 +64,7 @@ bothTenants a x = record {
   records = a .records && x .records;
   offsets = a .offsets && x .offsets;
   leases = a .leases && x .leases;
+  holds = a .holds && x .holds;
   identifiers = a .identifiers && x .identifiers;
   periods = a .periods && x .periods;
   layout = a .layout && x .layout;
@@ -71,10 +74,10 @@ bothTenants a x = record {
 abbrev pub noHeld : Held
 noHeld = record { sets = []; count = 0; «first_end» = 0 }
 
--- the earliest end; of no lease, the largest that an end can be
+-- the earliest end, of a hold its lapse; of no record, the largest that an end can be
 unfoldable pub firstEnd : List Lease → ℕ
 firstEnd [] = 4294967295
-firstEnd (l ∷ ls) = min (l .end) (firstEnd ls)
+firstEnd (l ∷ ls) = min (until l) (firstEnd ls)
 
 unfoldable pub heldSets : TenantLeases → Held
 heldSets t = record {
@@ -94,7 +97,7 @@ unfoldable pub addedSets : Held → Lease → Held
 addedSets h l = record {
   sets = addedIf (inScope 1) (setAt h 0) l ∷ addedIf (inScope 2) (setAt h 1) l ∷ addedIf (inScope 3) (setAt h 2) l ∷ addedIf (inScope 4) (setAt h 3) l ∷ [];
   count = h .count;
-  «first_end» = min (h .«first_end») (l .end);
+  «first_end» = min (h .«first_end») (until l);
 }
 
 -- ---- one tenant's rules and sets, gathered together
@@ -113,6 +116,7 @@ addedLease s g l = record {
   ids = g .ids && idB l;
   offsets = g .offsets && offsetsB s l;
   leases = g .leases && leaseB s l;
+  holds = g .holds && holdB (s .clock) l;
   padded = g .padded && paddedB l;
   held = addedSets (g .held) l;
   apart = g .apart && freshIn (g .held) l;
@@ -122,13 +126,14 @@ abbrev pub emptySets : ℕ → Held
 emptySets n = record { sets = 0 ∷ 0 ∷ 0 ∷ 0 ∷ []; count = n; «first_end» = 4294967295 }
 
 unfoldable pub noneGathered : ℕ → Gathered
-noneGathered n = record { ids = true; offsets = true; leases = true; padded = true; held = emptySets n; apart = true }
+noneGathered n = record { ids = true; offsets = true; leases = true; holds = true; padded = true; held = emptySets n; apart = true }
 
 unfoldable pub gatheredOf : State → TenantLeases → Gathered
 gatheredOf s t = record {
   ids = allBy idB (inUse t);
   offsets = allBy (offsetsB s) (inUse t);
   leases = allBy (leaseB s) (inUse t);
+  holds = allBy (holdB (s .clock)) (inUse t);
   padded = allBy paddedB (inUse t);
   held = heldSets t;
   apart = freshAll (emptySets (t .count)) (inUse t);
@@ -190,7 +195,7 @@ poolsOf s = poolIn s 0 ∷ poolIn s 1 ∷ poolIn s 2 ∷ poolIn s 3 ∷ []
 
 -- of no tenant
 abbrev pub noRules : TenantRules
-noRules = record { records = true; offsets = true; leases = true; identifiers = true; periods = true; layout = true }
+noRules = record { records = true; offsets = true; leases = true; holds = true; identifiers = true; periods = true; layout = true }
 
 abbrev pub noSets : List Held
 noSets = replicate 8 (record { sets = replicate 4 0; count = 0; «first_end» = 4294967295 })
@@ -216,6 +221,7 @@ joinedRules a b c = record {
   periods = b .periods;
   holdings = c .holdings;
   commitments = c .commitments;
+  holds = b .holds;
   layout = a .unused && b .layout;
 }
 

@@ -1,5 +1,6 @@
--- Definitions: document 01's "Sound", rule by rule in its order, numbered by its semicolons. Rule 19 is the layout of "How it is to be built"; 13 is
--- kept for document 02's holds, and 14 to 18 are Rules.antt of `releases`, whose `bookB` is the whole.
+-- Definitions: document 01's "Sound", rule by rule in its order, numbered by its semicolons; '"lease" .. in soundness reads "lease or hold"' (document 02,
+-- W-205), so that each rule on leases is one on records. Rule 13 is W-205's on holds, 19 the layout of "How it is to be built"; 14 to 18 are Rules.antt of
+-- `releases`, whose `bookB` is the whole.
 -- A house is a tenant here, its share a reserve; tenants count from 0, scopes from 1.
 use Prim.Native.Nat.{ℕ, _+_, _-_, min}
 use mathlib.Core.Bool.{Bool, true, _&&_, _||_}
@@ -17,7 +18,7 @@ use Rattle.state.specs.declared.LeaseTable.{LeaseTable}
 use Rattle.state.specs.declared.ClientRange.{ClientRange}
 use Rattle.state.specs.declared.Scope.{Scope}
 use Rattle.state.specs.declared.State.{State}
-use Rattle.state.specs.Book.{inUse, leasesOf, differ, ordered, live, overlaps, inScope, heldOf, rangesOf, scopesOf, scopeAt, reserveAt, limitAt, heldAt, committedSum}
+use Rattle.state.specs.Book.{inUse, leasesOf, differ, ordered, holdTime, isHold, overlaps, inScope, heldOf, rangesOf, scopesOf, scopeAt, reserveAt, limitAt, heldAt, committedSum}
 use Rattle.soundness.specs.declared.Rules.{Rules}
 
 -- from 1 to most
@@ -106,12 +107,13 @@ unfoldable pub rule6 : State → Bool
 rule6 s = allBy (reservesB (tenantsIn s)) (scopesOf s)
 
 -- ---- 7. each lease names a known house and scope, has type 3 or 4, start before end, end after the clock and an address
+-- "a hold has type 1" (document 02, W-205): a record of another type is a lease, and must have a lease's
 unfoldable pub kindB : Lease → Bool
-kindB l = eqb (l .kind) 3 || eqb (l .kind) 4
+kindB l = isHold l || (eqb (l .kind) 3 || eqb (l .kind) 4)
 
 -- start before end, end after the clock, and an address
 unfoldable pub periodB : ℕ → Lease → Bool
-periodB clock l = ltb (l .start) (l .end) && (live clock l && ltb 0 (l .addresses))
+periodB clock l = ltb (l .start) (l .end) && (ltb clock (l .end) && ltb 0 (l .addresses))
 
 unfoldable pub leaseB : State → Lease → Bool
 leaseB s l = scopeKnown s l && (kindB l && periodB (s .clock) l)
@@ -173,16 +175,27 @@ committedB s t k = leb (committedSum (scopeAt s k) (tenantsIn s) (holding t (k +
 unfoldable pub rule12 : State → LeaseTable → Bool
 rule12 s t = allTo (committedB s t) (scopesIn s)
 
--- ---- 19. a house's leases stand in the file's order; what is unused is zero: octets past an identifier's length, records, settings entries,
+-- ---- 13. (document 02, W-205) "a hold is unsound unless it has type 1 and lapses after the clock, at most thirty seconds after it, and not after its period's
+-- end"; what has type 1 is a hold, and that what stands among a file's holds has it is `holdFitB` of lease_file
+unfoldable pub lapseB : ℕ → Lease → Bool
+lapseB clock l = ltb clock (l .lapse) && (leb (l .lapse) (clock + holdTime) && leb (l .lapse) (l .end))
+
+unfoldable pub holdB : ℕ → Lease → Bool
+holdB clock l = pick (isHold l) (lapseB clock l) true
+
+unfoldable pub rule13 : State → LeaseTable → Bool
+rule13 s t = allBy (allBy (holdB (s .clock))) (leasesOf t)
+
+-- ---- 19. "A house's records rise by identifier, leases and holds together" (W-205); what is unused is zero: octets past an identifier's length, a lease's lapse, records, settings entries,
 -- shares and limits past the last house
 unfoldable pub zeroFrom : ℕ → List ℕ → Bool
 zeroFrom n l = allBy (λ x. eqb x 0) (drop n l)
 
 unfoldable pub paddedB : Lease → Bool
-paddedB l = zeroFrom (l .«id_len») (l .id)
+paddedB l = (isHold l || eqb (l .lapse) 0) && zeroFrom (l .«id_len») (l .id)
 
 unfoldable pub blankB : Lease → Bool
-blankB l = (eqb (l .scope) 0 && (eqb (l .«id_len») 0 && (eqb (l .kind) 0 && eqb (l .xid) 0)))
+blankB l = (eqb (l .scope) 0 && (eqb (l .«id_len») 0 && (eqb (l .kind) 0 && (eqb (l .xid) 0 && eqb (l .lapse) 0))))
 
 unfoldable pub unusedB : Lease → Bool
 unusedB l = blankB l && (eqb (l .start) 0 && (eqb (l .end) 0 && (eqb (l .addresses) 0 && zeroFrom 0 (l .id))))
@@ -220,14 +233,16 @@ rulesOf s t = record {
   periods = rule10 t;
   holdings = rule11 s t;
   commitments = rule12 s t;
+  holds = rule13 s t;
   layout = rule19 s t;
 }
 
--- of rules 7 to 12, the number of the first that is broken, or 0
+-- of rules 7 to 13, the number of the first that is broken, or 0
 unfoldable pub firstLate : Rules → ℕ
-firstLate r = pick (r .leases) (pick (r .identifiers) (pick (r .owners) (pick (r .periods) (pick (r .holdings) (pick (r .commitments) 0 12) 11) 10) 9) 8) 7
+firstLate r = pick (r .leases) (pick (r .identifiers) (pick (r .owners) (pick (r .periods) (pick (r .holdings) (pick (r .commitments) (pick (r .holds) 0 13) 12) 11) 10) 9) 8) 7
 
--- "first broken rule(1). Rules 1 to 12 are document 01's 'Sound' by semicolons" (document 02, W-212): of the rules that a file can break, or 0
+-- "first broken rule(1). Rules 1 to 12 are document 01's 'Sound' by semicolons .., 13 a hold's type and lapse" (document 02, W-212): of the rules that a file can
+-- break, or 0
 unfoldable pub firstRule : Rules → ℕ
 firstRule r = pick (r .limits) (pick (r .offsets) (pick (r .ranges) (pick (r .pools) (pick (r .ttls) (pick (r .reserves) (firstLate r) 6) 5) 4) 3) 2) 1
 

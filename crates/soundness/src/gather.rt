@@ -7,6 +7,7 @@ use crate::Gathered;
 use crate::Held;
 use crate::Pass;
 use crate::holdings::add_sets;
+use crate::leases::hold_ok;
 use crate::leases::id_ok;
 use crate::leases::lease_ok;
 use crate::leases::offsets_ok;
@@ -39,6 +40,7 @@ fn add_lease(s: State, pools: [u64; 4], g: Gathered, l: Lease) -> Gathered
     let id = id_ok(l);
     let offset = offsets_ok(s, pools, l);
     let lease = lease_ok(s, l);
+    let hold = hold_ok(s.clock, l);
     let pad = padded_ok(l);
     let free = is_fresh(h, l);
     let held = add_sets(h, l);
@@ -46,6 +48,7 @@ fn add_lease(s: State, pools: [u64; 4], g: Gathered, l: Lease) -> Gathered
         ids: both(g.ids, id),
         offsets: both(g.offsets, offset),
         leases: both(g.leases, lease),
+        holds: both(g.holds, hold),
         padded: both(g.padded, pad),
         held: held,
         apart: both(g.apart, free),
@@ -64,6 +67,7 @@ fn no_lease_yet(count: usize) -> Gathered
         ids: true,
         offsets: true,
         leases: true,
+        holds: true,
         padded: true,
         held: none,
         apart: true,

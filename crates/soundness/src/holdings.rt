@@ -25,10 +25,11 @@ pub fn add_sets(h: Held, l: Lease) -> Held
     let b = state::add_held(h.sets[1], l, 2);
     let c = state::add_held(h.sets[2], l, 3);
     let d = state::add_held(h.sets[3], l, 4);
+    let until = state::until_of(l);
     Held {
         sets: [a, b, c, d],
         count: h.count,
-        first_end: arithmetic::smaller(h.first_end, l.end),
+        first_end: arithmetic::smaller(h.first_end, until),
     }
 }
 

@@ -23,7 +23,7 @@ use state::LeaseTable;
 use state::State;
 use state::TenantLeases;
 
-// Document 01's rules 1 to 12 and the layout, each true where it holds. Of `offsets` a lease in an unknown scope is left to `leases`; of
+// Document 01's rules 1 to 12, document 02's on holds and the layout, each true where it holds. Of `offsets` a lease in an unknown scope is left to `leases`; of
 // `periods` two tenants on one address are left to `owners`.
 pub struct Rules {
     pub limits: bool,
@@ -38,6 +38,7 @@ pub struct Rules {
     pub periods: bool,
     pub holdings: bool,
     pub commitments: bool,
+    pub holds: bool,
     pub layout: bool,
 }
 
@@ -55,6 +56,7 @@ pub struct TenantRules {
     pub records: bool,
     pub offsets: bool,
     pub leases: bool,
+    pub holds: bool,
     pub identifiers: bool,
     pub periods: bool,
     pub layout: bool,
@@ -90,7 +92,8 @@ struct HoldingRules {
     commitments: bool,
 }
 
-// A tenant's addresses, scope by scope, its number of records, and the earliest end of its leases: 4,294,967,295 where it has none.
+// A tenant's addresses, scope by scope, its number of records, and the earliest end of its leases or lapse of its holds:
+// 4,294,967,295 where it has none.
 pub struct Held {
     pub sets: [u64; 4],
     pub count: usize,
@@ -102,6 +105,7 @@ struct Gathered {
     ids: bool,
     offsets: bool,
     leases: bool,
+    holds: bool,
     padded: bool,
     held: Held,
     apart: bool,
@@ -162,6 +166,7 @@ pub fn no_tenants() -> TableRules
         records: true,
         offsets: true,
         leases: true,
+        holds: true,
         identifiers: true,
         periods: true,
         layout: true,
@@ -242,6 +247,7 @@ fn join_rules(a: SettingsRules, b: TenantRules, c: HoldingRules) -> Rules
         periods: b.periods,
         holdings: c.holdings,
         commitments: c.commitments,
+        holds: b.holds,
         layout: layout,
     }
 }
@@ -265,7 +271,7 @@ pub fn check_rules(s: State, table: LeaseTable) -> Rules
     rules_from(s, c)
 }
 
-// Of rules 7 to 12 the number of the first that is broken, or 0.
+// Of rules 7 to 13 the number of the first that is broken, or 0.
 fn first_late(r: Rules) -> u8
     ensures { λ x. ⌜ x ≡ firstLate r ⌝ }
 {
@@ -287,10 +293,13 @@ fn first_late(r: Rules) -> u8
     if !r.commitments {
         return 12;
     }
+    if !r.holds {
+        return 13;
+    }
     0
 }
 
-// Of rules 1 to 12, those that a file can break, the number of the first that is broken, or 0.
+// Of rules 1 to 13, those that a file can break, the number of the first that is broken, or 0.
 pub fn first_rule(r: Rules) -> u8
     ensures { λ x. ⌜ x ≡ firstRule r ⌝ }
 {

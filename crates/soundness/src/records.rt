@@ -10,7 +10,9 @@ fn is_blank(l: Lease) -> bool
     if l.scope == 0 {
         if l.id_len == 0 {
             if l.kind == 0 {
-                return l.xid == 0;
+                if l.xid == 0 {
+                    return l.lapse == 0;
+                }
             }
         }
     }

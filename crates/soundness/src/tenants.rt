@@ -146,6 +146,7 @@ pub fn check_tenant(s: State, pools: [u64; 4], t: TenantLeases) -> Checked
         records: record,
         offsets: g.offsets,
         leases: g.leases,
+        holds: g.holds,
         identifiers: identifier,
         periods: period,
         layout: layout,
@@ -162,6 +163,7 @@ pub fn and_tenants(a: TenantRules, x: TenantRules) -> TenantRules
     let record = both(a.records, x.records);
     let offset = both(a.offsets, x.offsets);
     let lease = both(a.leases, x.leases);
+    let hold = both(a.holds, x.holds);
     let identifier = both(a.identifiers, x.identifiers);
     let period = both(a.periods, x.periods);
     let layout = both(a.layout, x.layout);
@@ -169,6 +171,7 @@ pub fn and_tenants(a: TenantRules, x: TenantRules) -> TenantRules
         records: record,
         offsets: offset,
         leases: lease,
+        holds: hold,
         identifiers: identifier,
         periods: period,
         layout: layout,

@@ -27,15 +27,29 @@ use Rattle.state.specs.declared.State.{State}
 
 -- ---- records and lists
 -- a lease from its scope, the length and octets of its identifier, its type, transaction id, start, end and addresses: every definition, law and specimen
--- makes a lease by it. A further field of a lease touches this line
+-- makes a lease by it. A further field of a lease touches this line. A lease does not lapse: its lapse is 0
 abbrev pub leaseWith : ℕ → ℕ → List ℕ → ℕ → ℕ → ℕ → ℕ → ℕ → Lease
-leaseWith scope len id kind xid start end addresses = record { scope = scope; «id_len» = len; id = id; kind = kind; xid = xid; start = start; end = end; addresses = addresses }
+leaseWith scope len id kind xid start end addresses = record { scope = scope; «id_len» = len; id = id; kind = kind; xid = xid; start = start; end = end; addresses = addresses; lapse = 0 }
+
+-- the record l, but that it lapses at a time
+abbrev pub lapsingAt : ℕ → Lease → Lease
+lapsingAt t l = record {
+  scope = l .scope;
+  «id_len» = l .«id_len»;
+  id = l .id;
+  kind = l .kind;
+  xid = l .xid;
+  start = l .start;
+  end = l .end;
+  addresses = l .addresses;
+  lapse = t;
+}
 
 -- the unused record
 abbrev pub zeroLease : Lease
 zeroLease = leaseWith 0 0 (replicate 32 0) 0 0 0 0 0
 
--- the leases that one tenant's records stand for
+-- the leases and holds that one tenant's records stand for
 abbrev pub inUse : TenantLeases → List Lease
 inUse t = take (t .count) (t .leases)
 
@@ -103,7 +117,7 @@ differ a b = not (sameOf (idOf a) (idOf b))
 unfoldable pub byIdentifier : Lease → Lease → Bool
 byIdentifier a b = eqb (orderOf (idOf a) (idOf b)) 0
 
--- records rise: the first comes before the second. Nothing else says how records are ordered; that it decides is `rising` in laws/Sorted.antt
+-- records rise: the first comes before the second. "A house's records rise by identifier, leases and holds together" (document 02, W-205). Nothing else says how records are ordered; that it decides is `rising` in laws/Sorted.antt
 abbrev pub ordered : Lease → Lease → Bool
 ordered = byIdentifier
 
@@ -145,9 +159,24 @@ unfoldable pub removeOf : List ℕ → List Lease → List Lease
 removeOf i ls = filterBy (other i) ls
 
 -- ---- the clock
--- document 01's live: a lease is live while its end is after the clock
+-- document 02, W-205: a record is a lease or a hold, and "a hold has type 1"
+unfoldable pub isHold : Lease → Bool
+isHold l = eqb (l .kind) 1
+
+abbrev pub isLease : Lease → Bool
+isLease l = not (isHold l)
+
+-- how long an offer is held: "thirty seconds"
+abbrev pub holdTime : ℕ
+holdTime = 30
+
+-- how long a record is live: a lease to its end, and a hold "is live until it lapses"
+unfoldable pub until : Lease → ℕ
+until l = pick (isHold l) (l .lapse) (l .end)
+
+-- document 01's live: a lease is live while its end is after the clock, a hold while its lapse is
 abbrev pub live : ℕ → Lease → Bool
-live clock l = ltb clock (l .end)
+live clock l = ltb clock (until l)
 
 unfoldable pub liveOf : ℕ → List Lease → List Lease
 liveOf clock ls = filterBy (live clock) ls
@@ -163,11 +192,12 @@ raised s time = withClock s (max (s .clock) time)
 abbrev pub raisedIn : Ledger → ℕ → Ledger
 raisedIn g time = record { state = raised (g .state) time; memory = g .memory }
 
--- the leases that are live at a clock
+-- the leases and holds that are live at a clock
 unfoldable pub dropped : ℕ → LeaseTable → LeaseTable
 dropped clock t = tableOf (map (liveOf clock) (leasesOf t))
 
--- what every call but discards 1 and 2 does first: the clock is raised, and the ended leases are dropped; what is remembered stays, however old
+-- what every call but discards 1 and 2 does first: the clock is raised, and the ended leases and lapsed holds are dropped; what is remembered stays, however
+-- old
 unfoldable pub advanced : Book → ℕ → Book
 advanced b time = changedTo b (raised (b .state) time) (dropped (max (b .state .clock) time) (b .table)) (b .memory)
 

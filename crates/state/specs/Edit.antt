@@ -17,7 +17,7 @@ use Rattle.state.specs.Book.{Book, changedTo, zeroLease, zeroRelease, in
 abbrev pub noEdit : Edit
 noEdit = record { leaves = false; old = zeroLease; enters = false; new = zeroLease; forgets = false; remembers = false; release = zeroRelease }
 
--- "A new lease on the identifier forgets it" (document 02, W-202)
+-- "A new lease on the identifier forgets it" (document 02, W-202), and a hold "forgets its identifier's release" (W-205)
 abbrev pub entering : Lease → Edit
 entering l = record { leaves = false; old = zeroLease; enters = true; new = l; forgets = true; remembers = false; release = zeroRelease }
 
@@ -28,7 +28,12 @@ releaseOf o x c = record { «id_len» = o .«id_len»; id = o .id; xid = x; time
 abbrev pub leaving : Lease → ℕ → ℕ → Edit
 leaving o x c = record { leaves = true; old = o; enters = false; new = zeroLease; forgets = false; remembers = true; release = releaseOf o x c }
 
--- o gives way to l, which is no new lease
+-- "first drops the hold" (document 02, W-205): o leaves before what e does, in which nothing else leaves. Nothing is remembered of a hold, and the release that it
+-- forgot does not come back
+abbrev pub droppingFirst : Lease → Edit → Edit
+droppingFirst o e = record { leaves = true; old = o; enters = e .enters; new = e .new; forgets = e .forgets; remembers = e .remembers; release = e .release }
+
+-- o gives way to l of the same identifier, of which no release is remembered
 abbrev pub givingWay : Lease → Lease → Edit
 givingWay o l = record { leaves = true; old = o; enters = true; new = l; forgets = false; remembers = false; release = zeroRelease }
 

@@ -9,18 +9,19 @@ use Rattle.address_set.specs.AddressSet.{bit, offsetsFrom, readOffsets, risesFr
 use Rattle.identifier.specs.Order.{orderOf, sameOf}
 use Rattle.lists.specs.All.{allBy, allTo, pairsBy}
 use Rattle.lists.specs.Filter.{filterBy, isIn}
+use Rattle.lists.specs.Arranged.{insertIn}
 use Rattle.lists.specs.Pick.{pick}
 use Rattle.lists.specs.Row.{laidRow}
 use Rattle.lists.specs.Sums.{sumTo}
 use Rattle.octets.specs.Octets.{octets32}
-use Rattle.soundness.specs.Sound.{apart, belowB, blankB, brokenOf, compatible, countsB, disjoint, oneTo, firstBroken, firstRule, firstLate, tenantsB, idB, kindB, layoutB, leaseB, limitB, limitsB, committedB, noneB, offsetsB, paddedB, periodB, poolB, poolsApart, rangeB, rangeZero, rangesApart, recordsB, rule1, rule10, rule11, rule12, rule2, rule3, rule4, rule5, rule6, rule7, rule8, rule9, rulesOf, scopeZero, settingsB, reserveB, reservesB, sizeB, soundB, tailB, ttlB, unusedB, zeroFrom, rule19}
-use Rattle.state.specs.Book.{Book, byIdentifier, differ, addressesOf, laidOut, laidReleases, leaseWith, overlaps, tableOf, unionAll, zeroRelease, zeroScope, committed}
+use Rattle.soundness.specs.Sound.{apart, belowB, blankB, brokenOf, compatible, countsB, disjoint, holdB, lapseB, oneTo, firstBroken, firstRule, firstLate, tenantsB, idB, kindB, layoutB, leaseB, limitB, limitsB, committedB, noneB, offsetsB, paddedB, periodB, poolB, poolsApart, rangeB, rangeZero, rangesApart, recordsB, rule1, rule10, rule11, rule12, rule13, rule2, rule3, rule4, rule5, rule6, rule7, rule8, rule9, rulesOf, scopeZero, settingsB, reserveB, reservesB, sizeB, soundB, tailB, ttlB, unusedB, zeroFrom, rule19}
+use Rattle.state.specs.Book.{Book, byIdentifier, differ, addressesOf, insertOf, isHold, laidOut, laidReleases, lapsingAt, leaseWith, overlaps, tableOf, unionAll, zeroRelease, zeroScope, committed}
 use Rattle.state.specs.declared.Lease.{Lease}
 use Rattle.state.specs.declared.LeaseTable.{LeaseTable}
 use Rattle.state.specs.declared.Memory.{Memory}
 use Rattle.state.specs.declared.Release.{Release}
 use Rattle.state.specs.declared.State.{State}
-use Rattle.state_file.specs.File.{File, fileOf, isAfter}
+use Rattle.state_file.specs.File.{File, fileOf}
 use Rattle.format.specs.Place.{isWhole}
 use Rattle.format.specs.Section.{orderedFrom}
 use Rattle.names.specs.Names.{namesB, sizesOk}
@@ -29,7 +30,9 @@ use Rattle.format.specs.Tenants as entries
 use Rattle.releases.specs.Rules.{brokenMemory, brokenRelease, differs, fewB, filledB, firstRelease, houseB, laidB, lengthB, memoryB, notLeased, older, onceB, pastB, releaseRulesOf, rulesTo, unusedR}
 use Rattle.releases.specs.Whole.{bookB}
 use Rattle.format.specs.Format.{Got, bad, closed, got, readNumber, readOctet, readTimes, then, writeAll}
-use Rattle.state_file.specs.Records.{countsFit, fewOf, filled, fitsB, leasesFitB, storableB, stored, storedScope, storedState, storedTable, tenantsFrom, zeroRange, filedBook, filedFrom, filedLease, filedScope, pairUp}
+use Rattle.state_file.specs.Records.{countsFit, filled, fitsB, storedScope, storedState, storedTable, zeroRange, filedBook, filedScope, pairUp}
+use Rattle.lease_file.specs.Records.{fewOf, filedHold, filedHolds, filedLease, filedLeases, holdFitB, insertAll, leaseFitB, mergedFrom, recordsFitB, storableB, stored, storedHold}
+use Rattle.lease_file.specs.Section.{isAfter}
 use Rattle.state_file.specs.StateFile.{accepted, loadedGot, judged, loaded, namesGot, namesOf, readFile, refused, octetsOf, roomAfter, writtenOf, zeroMemory, zeroState, zeroTable}
 
 -- ---- files
@@ -62,9 +65,9 @@ settings = server 1000 ++ tenants ++ pool 4 (2 ∷ 3 ∷ 1 ∷ 4 ∷ [])
 unnamed : ℕ → ℕ → List ℕ
 unnamed k h = k ∷ replicate (k * (h + 1)) 0
 
--- what follows the leases where there are no names and no releases
+-- what follows the leases where there are no names, no releases and no holds
 bare : ℕ → ℕ → List ℕ
-bare k h = unnamed k h ++ 0 ∷ []
+bare k h = unnamed k h ++ 0 ∷ 0 ∷ []
 
 none : List ℕ
 none = bare 1 2
@@ -72,9 +75,9 @@ none = bare 1 2
 name : ℕ → List ℕ → List ℕ → List ℕ
 name flags tag text = flags ∷ length tag ∷ tag ++ length text ∷ text
 
--- the settings with a campus list of names, no lease, no tenant's own names and no release
+-- the settings with a campus list of names, no lease, no tenant's own names, no release and no hold
 named : List ℕ → List ℕ
-named campus = settings ++ 0 ∷ 1 ∷ campus ++ 0 ∷ 0 ∷ 0 ∷ []
+named campus = settings ++ 0 ∷ 1 ∷ campus ++ 0 ∷ 0 ∷ 0 ∷ 0 ∷ []
 
 en : List ℕ
 en = 101 ∷ 110 ∷ []
@@ -96,9 +99,24 @@ ab = 0 ∷ 65 ∷ 0 ∷ []
 release : ℕ → List ℕ → ℕ → ℕ → List ℕ
 release tenant id xid time = tenant ∷ length id ∷ id ++ octets32 xid ++ octets32 time
 
--- the settings with these releases, so many by their count, no lease and no names
+-- the settings with these releases, so many by their count, no lease and no names; and no hold behind them
+released : ℕ → List ℕ → List ℕ
+released n entries = settings ++ 0 ∷ unnamed 1 2 ++ n ∷ entries
+
 remembering : ℕ → List ℕ → List ℕ
-remembering n entries = settings ++ 0 ∷ unnamed 1 2 ++ n ∷ entries
+remembering n entries = released n entries ++ 0 ∷ []
+
+-- a hold on the first scope from 1000 on
+hold : ℕ → List ℕ → ℕ → List ℕ → ℕ → List ℕ
+hold t id end offs lapse = lease t 1 id 1 1000 end offs ++ octets32 lapse
+
+-- one that lapses after thirty seconds
+held : ℕ → List ℕ → List ℕ → List ℕ
+held t id offs = hold t id 4600 offs 1030
+
+-- the settings with these leases and holds, so many by their counts, no names and no releases
+holding : ℕ → List ℕ → ℕ → List ℕ → List ℕ
+holding n leases m holds = settings ++ n ∷ leases ++ unnamed 1 2 ++ 0 ∷ m ∷ holds
 
 -- the same n times
 again : ℕ → List ℕ → List ℕ
@@ -110,7 +128,7 @@ row : ℕ → ℕ → List ℕ
 row zero k = []
 row (suc n) k = lease 1 1 (0 ∷ k ∷ []) 4 (1000 + k) (1001 + k) (0 ∷ []) ++ row n (suc k)
 
--- 32,548 octets and those of one more identifier
+-- 32,549 octets and those of one more identifier
 long : ℕ → List ℕ
 long n = settings ++ 120 ∷ plain 1 (replicate n 7) (0 ∷ []) ++ again 119 (plain 1 (replicate 255 7) (0 ∷ [])) ++ none
 
@@ -122,7 +140,7 @@ four-released t time = go 4
     go zero = []
     go (suc n) = release t (replicate 31 8 ++ n ∷ []) n time ++ go n
 
--- ---- the largest sound file: eight tenants, four scopes of 64, each half of one with sixteen leases on it, nine lists of four names a scope, and four
+-- ---- the largest sound file: eight tenants, four scopes of 64, each half of one with sixteen holds on it, nine lists of four names a scope, and four
 -- releases of each tenant
 eight : ℕ → ℕ → List ℕ
 eight zero k = []
@@ -138,15 +156,15 @@ upFrom (suc n) k = k ∷ upFrom n (suc k)
 
 sixteen : ℕ → ℕ → List ℕ → ℕ → List ℕ
 sixteen t s offs zero = []
-sixteen t s offs (suc n) = lease t s (replicate 31 7 ++ (16 - suc n) ∷ []) 3 (16 - suc n) (17 - suc n) offs ++ sixteen t s offs n
+sixteen t s offs (suc n) = lease t s (replicate 31 7 ++ (16 - suc n) ∷ []) 1 (16 - suc n) (17 - suc n) offs ++ octets32 1 ++ sixteen t s offs n
 
 largest : List ℕ
 largest =
-    server 0 ++ 8 ∷ eight 8 1 ++ 4 ∷ four 4 0 ++ 128 ∷
-    sixteen 1 1 (upFrom 32 0) 16 ++ sixteen 2 1 (upFrom 32 32) 16 ++ sixteen 3 2 (upFrom 32 0) 16 ++ sixteen 4 2 (upFrom 32 32) 16
-    ++ sixteen 5 3 (upFrom 32 0) 16 ++ sixteen 6 3 (upFrom 32 32) 16 ++ sixteen 7 4 (upFrom 32 0) 16 ++ sixteen 8 4 (upFrom 32 32) 16
-    ++ 4 ∷ again 36 (4 ∷ again 4 (name 128 (replicate 8 97) (replicate 32 98)))
+    server 0 ++ 8 ∷ eight 8 1 ++ 4 ∷ four 4 0 ++ 0 ∷
+    4 ∷ again 36 (4 ∷ again 4 (name 128 (replicate 8 97) (replicate 32 98)))
     ++ 32 ∷ four-released 1 0 ++ four-released 2 0 ++ four-released 3 0 ++ four-released 4 0 ++ four-released 5 0 ++ four-released 6 0 ++ four-released 7 0 ++ four-released 8 0
+    ++ 128 ∷ sixteen 1 1 (upFrom 32 0) 16 ++ sixteen 2 1 (upFrom 32 32) 16 ++ sixteen 3 2 (upFrom 32 0) 16 ++ sixteen 4 2 (upFrom 32 32) 16
+    ++ sixteen 5 3 (upFrom 32 0) 16 ++ sixteen 6 3 (upFrom 32 32) 16 ++ sixteen 7 4 (upFrom 32 0) 16 ++ sixteen 8 4 (upFrom 32 32) 16
 
 -- ---- the table
 record Case : Type 0 where
@@ -186,7 +204,16 @@ sound =
     ∷ record { octets = remembering 4 (release 1 a 5 0 ++ release 1 b 5 1000 ++ release 1 ab 6 1000 ++ release 2 a 5 999); answer = 0; rule = 0 }
     -- four of one tenant, with an identifier of 32 octets; one that another tenant has on a lease
     ∷ record { octets = remembering 4 (four-released 1 900); answer = 0; rule = 0 }
-    ∷ record { octets = settings ++ 1 ∷ plain 1 a (0 ∷ []) ++ unnamed 1 2 ++ 1 ∷ release 2 a 5 1000; answer = 0; rule = 0 }
+    ∷ record { octets = settings ++ 1 ∷ plain 1 a (0 ∷ []) ++ unnamed 1 2 ++ 1 ∷ release 2 a 5 1000 ++ 0 ∷ []; answer = 0; rule = 0 }
+    -- document 02, W-205: a hold by itself that lapses a second after the clock, thirty seconds after it, and at its end; a lease and a hold of one tenant,
+    -- either before the other, and of two; fifteen leases and a hold; an identifier that another tenant has on a lease
+    ∷ record { octets = holding 0 [] 1 (hold 1 a 4600 (0 ∷ []) 1001); answer = 0; rule = 0 }
+    ∷ record { octets = holding 0 [] 1 (held 1 a (0 ∷ [])); answer = 0; rule = 0 }
+    ∷ record { octets = holding 0 [] 1 (hold 1 a 1010 (0 ∷ []) 1010); answer = 0; rule = 0 }
+    ∷ record { octets = holding 1 (plain 1 a (0 ∷ [])) 1 (held 1 b (1 ∷ [])); answer = 0; rule = 0 }
+    ∷ record { octets = holding 1 (plain 1 b (0 ∷ [])) 1 (held 1 a (1 ∷ [])); answer = 0; rule = 0 }
+    ∷ record { octets = holding 1 (plain 2 a (0 ∷ [])) 1 (held 1 a (1 ∷ [])); answer = 0; rule = 0 }
+    ∷ record { octets = holding 15 (row 15 0) 1 (held 1 a (1 ∷ [])); answer = 0; rule = 0 }
     ∷ []
 
 -- wrong form
@@ -232,16 +259,16 @@ form =
     ∷ record { octets = named (1 ∷ name 0 en (replicate 33 97)); answer = 20; rule = 0 }
     ∷ record { octets = named (5 ∷ again 5 (name 0 en en)); answer = 20; rule = 0 }
     -- a bad name comes before an unsound lease; nine tenants have ten lists, and nine are too few
-    ∷ record { octets = settings ++ 1 ∷ plain 3 a (0 ∷ []) ++ 1 ∷ 1 ∷ name 1 en en ++ 0 ∷ 0 ∷ 0 ∷ []; answer = 20; rule = 0 }
+    ∷ record { octets = settings ++ 1 ∷ plain 3 a (0 ∷ []) ++ 1 ∷ 1 ∷ name 1 en en ++ 0 ∷ 0 ∷ 0 ∷ 0 ∷ []; answer = 20; rule = 0 }
     ∷ record { octets = server 1000 ++ 9 ∷ eight 9 1 ++ pool 4 (again 9 (0 ∷ 0 ∷ [])) ++ 0 ∷ bare 1 8; answer = 20; rule = 0 }
     -- the releases are missing, and cut off: in front of an entry and in each of its parts
     ∷ record { octets = settings ++ 0 ∷ unnamed 1 2; answer = 20; rule = 0 }
-    ∷ record { octets = remembering 1 []; answer = 20; rule = 0 }
-    ∷ record { octets = remembering 1 (1 ∷ []); answer = 20; rule = 0 }
-    ∷ record { octets = remembering 1 (1 ∷ 3 ∷ a); answer = 20; rule = 0 }
-    ∷ record { octets = remembering 1 (1 ∷ 2 ∷ a ++ 1 ∷ 2 ∷ 3 ∷ []); answer = 20; rule = 0 }
-    ∷ record { octets = remembering 1 (1 ∷ 2 ∷ a ++ octets32 5 ++ 0 ∷ 0 ∷ 0 ∷ []); answer = 20; rule = 0 }
-    ∷ record { octets = remembering 2 (release 1 a 5 900); answer = 20; rule = 0 }
+    ∷ record { octets = released 1 []; answer = 20; rule = 0 }
+    ∷ record { octets = released 1 (1 ∷ []); answer = 20; rule = 0 }
+    ∷ record { octets = released 1 (1 ∷ 3 ∷ a); answer = 20; rule = 0 }
+    ∷ record { octets = released 1 (1 ∷ 2 ∷ a ++ 1 ∷ 2 ∷ 3 ∷ []); answer = 20; rule = 0 }
+    ∷ record { octets = released 1 (1 ∷ 2 ∷ a ++ octets32 5 ++ 0 ∷ 0 ∷ 0 ∷ []); answer = 20; rule = 0 }
+    ∷ record { octets = released 2 (release 1 a 5 900); answer = 20; rule = 0 }
     -- octets left over
     ∷ record { octets = remembering 0 (release 1 a 5 900); answer = 20; rule = 0 }
     ∷ record { octets = remembering 1 (release 1 a 5 900 ++ 0 ∷ []); answer = 20; rule = 0 }
@@ -252,14 +279,27 @@ form =
     ∷ record { octets = remembering 2 (release 200 a 5 900 ++ release 0 b 5 900); answer = 20; rule = 0 }
     ∷ record { octets = remembering 2 (release 200 a 5 900 ++ release 200 b 5 899); answer = 20; rule = 0 }
     -- releases in a wrong order come before an unsound lease, and a bad name before an unsound release
-    ∷ record { octets = settings ++ 1 ∷ plain 3 a (0 ∷ []) ++ unnamed 1 2 ++ 2 ∷ release 1 a 5 900 ++ release 1 b 5 899; answer = 20; rule = 0 }
-    ∷ record { octets = settings ++ 0 ∷ 1 ∷ 1 ∷ name 1 en en ++ 0 ∷ 0 ∷ 1 ∷ release 3 a 5 900; answer = 20; rule = 0 }
+    ∷ record { octets = settings ++ 1 ∷ plain 3 a (0 ∷ []) ++ unnamed 1 2 ++ 2 ∷ release 1 a 5 900 ++ release 1 b 5 899 ++ 0 ∷ []; answer = 20; rule = 0 }
+    ∷ record { octets = settings ++ 0 ∷ 1 ∷ 1 ∷ name 1 en en ++ 0 ∷ 0 ∷ 1 ∷ release 3 a 5 900 ++ 0 ∷ []; answer = 20; rule = 0 }
+    -- document 02, W-205: the holds are missing, and cut off: in front of one and in its lapse, which a lease has not
+    ∷ record { octets = released 0 []; answer = 20; rule = 0 }
+    ∷ record { octets = holding 0 [] 1 []; answer = 20; rule = 0 }
+    ∷ record { octets = holding 0 [] 1 (lease 1 1 a 1 1000 4600 (0 ∷ [])); answer = 20; rule = 0 }
+    ∷ record { octets = holding 0 [] 1 (lease 1 1 a 1 1000 4600 (0 ∷ []) ++ 0 ∷ 0 ∷ 4 ∷ []); answer = 20; rule = 0 }
+    ∷ record { octets = holding 1 (held 1 a (0 ∷ [])) 0 []; answer = 20; rule = 0 }
+    -- octets left over, offsets that don't rise, holds that fall by tenant and by identifier
+    ∷ record { octets = holding 0 [] 1 (held 1 a (0 ∷ []) ++ 0 ∷ []); answer = 20; rule = 0 }
+    ∷ record { octets = holding 0 [] 1 (held 1 a (1 ∷ 0 ∷ [])); answer = 20; rule = 0 }
+    ∷ record { octets = holding 0 [] 2 (held 2 a (0 ∷ []) ++ held 1 b (1 ∷ [])); answer = 20; rule = 0 }
+    ∷ record { octets = holding 0 [] 2 (held 1 b (0 ∷ []) ++ held 1 a (1 ∷ [])); answer = 20; rule = 0 }
+    -- holds in a wrong order come before a lease of type 1
+    ∷ record { octets = holding 1 (lease 1 1 a 1 1000 4600 (0 ∷ [])) 2 (held 1 b (0 ∷ []) ++ held 1 a (1 ∷ [])); answer = 20; rule = 0 }
     -- 32,769 octets, and 32,768
-    ∷ record { octets = long 221; answer = 20; rule = 0 }
-    ∷ record { octets = long 220; answer = 21; rule = 0 }
+    ∷ record { octets = long 220; answer = 20; rule = 0 }
+    ∷ record { octets = long 219; answer = 21; rule = 0 }
     ∷ []
 
--- unsound, by the rules of document 01 and those of document 02 on releases
+-- unsound, by the rules of document 01 and those of document 02 on releases and holds
 unsound : List Case
 unsound =
     -- 1. no tenant, nine, no scope, five, sizes 0 and 65, identifiers of no octet, of 1 and of 33, 17 leases, 129 of them
@@ -330,17 +370,38 @@ unsound =
     ∷ record { octets = remembering 2 (release 1 a 5 900 ++ release 1 a 5 900); answer = 21; rule = 17 }
     ∷ record { octets = remembering 2 (release 2 a 5 900 ++ release 2 a 6 901); answer = 21; rule = 17 }
     ∷ record { octets = remembering 3 (release 1 a 5 900 ++ release 1 b 6 900 ++ release 1 a 7 900); answer = 21; rule = 17 }
-    ∷ record { octets = settings ++ 1 ∷ plain 2 a (0 ∷ []) ++ unnamed 1 2 ++ 1 ∷ release 2 a 5 900; answer = 21; rule = 17 }
+    ∷ record { octets = settings ++ 1 ∷ plain 2 a (0 ∷ []) ++ unnamed 1 2 ++ 1 ∷ release 2 a 5 900 ++ 0 ∷ []; answer = 21; rule = 17 }
     -- 18. a time after the clock
     ∷ record { octets = remembering 1 (release 1 a 5 1001); answer = 21; rule = 18 }
     ∷ record { octets = remembering 1 (release 1 a 5 4294967295); answer = 21; rule = 18 }
+    -- W-205: among the leases one of type 1, and among the holds of 3, 4 and 0, sound but for that
+    ∷ record { octets = holding 1 (lease 1 1 a 1 1000 4600 (0 ∷ [])) 0 []; answer = 21; rule = 0 }
+    ∷ record { octets = holding 0 [] 1 (lease 1 1 a 3 1000 4600 (0 ∷ []) ++ octets32 1030); answer = 21; rule = 0 }
+    ∷ record { octets = holding 0 [] 1 (lease 1 1 a 4 1000 4600 (0 ∷ []) ++ octets32 1030); answer = 21; rule = 0 }
+    ∷ record { octets = holding 0 [] 1 (lease 1 1 a 0 1000 4600 (0 ∷ []) ++ octets32 0); answer = 21; rule = 0 }
+    -- 13. a lapse at the clock, thirty-one seconds after it, and after the end
+    ∷ record { octets = holding 0 [] 1 (hold 1 a 4600 (0 ∷ []) 1000); answer = 21; rule = 13 }
+    ∷ record { octets = holding 0 [] 1 (hold 1 a 4600 (0 ∷ []) 1031); answer = 21; rule = 13 }
+    ∷ record { octets = holding 0 [] 1 (hold 1 a 1010 (0 ∷ []) 1011); answer = 21; rule = 13 }
+    -- a hold of an unknown tenant, with an identifier of 33 octets, with an offset past 63, and as the seventeenth
+    ∷ record { octets = holding 0 [] 1 (held 0 a (0 ∷ [])); answer = 21; rule = 0 }
+    ∷ record { octets = holding 0 [] 1 (held 3 a (0 ∷ [])); answer = 21; rule = 7 }
+    ∷ record { octets = holding 0 [] 1 (held 9 a (0 ∷ [])); answer = 21; rule = 0 }
+    ∷ record { octets = holding 0 [] 1 (held 1 (replicate 33 7) (0 ∷ [])); answer = 21; rule = 0 }
+    ∷ record { octets = holding 0 [] 1 (held 1 a (64 ∷ [])); answer = 21; rule = 0 }
+    ∷ record { octets = holding 16 (row 16 0) 1 (held 1 a (1 ∷ [])); answer = 21; rule = 0 }
+    -- an identifier on two holds and on a lease and a hold, an address with two tenants and twice with one
+    ∷ record { octets = holding 0 [] 2 (held 1 a (0 ∷ []) ++ held 1 a (1 ∷ [])); answer = 21; rule = 8 }
+    ∷ record { octets = holding 1 (plain 1 a (0 ∷ [])) 1 (held 1 a (1 ∷ [])); answer = 21; rule = 8 }
+    ∷ record { octets = holding 1 (plain 2 a (0 ∷ [])) 1 (held 1 b (0 ∷ [])); answer = 21; rule = 9 }
+    ∷ record { octets = holding 1 (plain 1 a (0 ∷ [])) 1 (held 1 b (0 ∷ [])); answer = 21; rule = 10 }
     -- of two the first; a lease's before a release's
     ∷ record { octets = remembering 1 (release 3 [] 5 1001); answer = 21; rule = 14 }
-    ∷ record { octets = settings ++ 1 ∷ lease 1 1 a 3 900 1000 (0 ∷ []) ++ unnamed 1 2 ++ 1 ∷ release 3 a 5 900; answer = 21; rule = 7 }
+    ∷ record { octets = settings ++ 1 ∷ lease 1 1 a 3 900 1000 (0 ∷ []) ++ unnamed 1 2 ++ 1 ∷ release 3 a 5 900 ++ 0 ∷ []; answer = 21; rule = 7 }
     ∷ []
 
 answers : allHold (sound ++ form ++ unsound) ≡ true
-unfolding allHold ruleOf long largest sound form unsound server range scope lease tenants pool settings unnamed none name named en plain a b ab again row eight four upFrom sixteen pick allBy pairsBy allTo filterBy isIn sumTo bit offsetsFrom setOf readOffsets risesFrom orderOf sameOf laidOut tableOf byIdentifier unionAll addressesOf overlaps oneTo sizeB idB recordsB countsB rule1 belowB offsetsB rule2 rangeB rangesApart rule3 poolB poolsApart rule4 ttlB rule5 reserveB reservesB rule6 kindB periodB leaseB noneB tenantsB rule7 differ rule8 disjoint apart rule9 compatible rule10 limitB limitsB rule11 committed committedB rule12 zeroFrom paddedB blankB unusedB layoutB rangeZero tailB scopeZero settingsB rulesOf firstLate firstRule firstBroken brokenOf soundB then closed readOctet readNumber readTimes isAfter orderedFrom fileOf filled stored tenantsFrom storedScope storedState storedTable storableB fewOf leasesFitB countsFit fitsB refused accepted judged loaded loadedGot readFile rule19 sizesOk broken bare release remembering four-released brokenMemory brokenRelease firstRelease releaseRulesOf rulesTo houseB fewB lengthB differs notLeased onceB pastB older filledB unusedR laidB memoryB laidReleases storedRelease storedMemory entries.apart keepableB fewFor releasesFitB
+unfolding allHold ruleOf long largest sound form unsound server range scope lease tenants pool settings unnamed none name named en plain a b ab again row eight four upFrom sixteen pick allBy pairsBy allTo filterBy isIn sumTo bit offsetsFrom setOf readOffsets risesFrom orderOf sameOf laidOut tableOf byIdentifier unionAll addressesOf overlaps oneTo sizeB idB recordsB countsB rule1 belowB offsetsB rule2 rangeB rangesApart rule3 poolB poolsApart rule4 ttlB rule5 reserveB reservesB rule6 kindB periodB leaseB noneB tenantsB rule7 differ rule8 disjoint apart rule9 compatible rule10 limitB limitsB rule11 committed committedB rule12 lapseB holdB rule13 zeroFrom paddedB blankB unusedB layoutB rangeZero tailB scopeZero settingsB rulesOf firstLate firstRule firstBroken brokenOf soundB then closed readOctet readNumber readTimes isAfter orderedFrom fileOf filled stored storedHold insertIn insertOf insertAll mergedFrom isHold storedScope storedState storedTable storableB leaseFitB holdFitB fewOf recordsFitB countsFit fitsB refused accepted judged loaded loadedGot readFile rule19 sizesOk broken bare release released remembering hold held holding four-released brokenMemory brokenRelease firstRelease releaseRulesOf rulesTo houseB fewB lengthB differs notLeased onceB pastB older filledB unusedR laidB memoryB laidReleases storedRelease storedMemory entries.apart keepableB fewFor releasesFitB
 answers = refl
 
 -- ---- the book that a file gives, and what the writer answers to it
@@ -348,9 +409,12 @@ answers = refl
 specimenNames : List ℕ
 specimenNames = 1 ∷ 1 ∷ name 128 en (83 ∷ 116 ∷ 117 ∷ 100 ∷ 105 ∷ 111 ∷ []) ++ 1 ∷ name 0 (100 ∷ 101 ∷ []) (83 ∷ 101 ∷ 110 ∷ []) ++ 0 ∷ []
 
--- the specimen after P3: tenant 2 has .0 and .1 until 4600, tenant 1 has .2 and .3 until 2000; and a release of each is remembered
+-- the specimen after P3: tenant 2 has .0 and .1 until 4600, tenant 1 has .2 and .3 until 2000; a release of each is remembered; and .2 is held for tenant 1 from
+-- 2000 on, under an identifier before its lease's
 specimen : List ℕ
-specimen = settings ++ 2 ∷ lease 1 1 b 3 1000 2000 (2 ∷ 3 ∷ []) ++ plain 2 a (0 ∷ 1 ∷ []) ++ specimenNames ++ 2 ∷ release 1 a 5 900 ++ release 2 b 6 800
+specimen =
+    settings ++ 2 ∷ lease 1 1 b 3 1000 2000 (2 ∷ 3 ∷ []) ++ plain 2 a (0 ∷ 1 ∷ []) ++ specimenNames ++ 2 ∷ release 1 a 5 900 ++ release 2 b 6 800
+    ++ 1 ∷ lease 1 1 ab 1 2000 3000 (2 ∷ []) ++ octets32 1030
 
 specimenState : State
 specimenState = record {
@@ -365,8 +429,15 @@ specimenState = record {
 specimenLease : List ℕ → ℕ → ℕ → Lease
 specimenLease id end addresses = leaseWith 1 2 (id ++ replicate 30 0) 3 16909060 1000 end addresses
 
+specimenHold : ℕ → Lease
+specimenHold lapse = lapsingAt lapse (leaseWith 1 3 (ab ++ replicate 29 0) 1 16909060 2000 3000 4)
+
+-- with these records of tenant 1
+tableWith : List Lease → LeaseTable
+tableWith l = tableOf (l ∷ (specimenLease a 4600 3 ∷ []) ∷ replicate 6 [])
+
 specimenTable : LeaseTable
-specimenTable = tableOf ((specimenLease b 2000 12 ∷ []) ∷ (specimenLease a 4600 3 ∷ []) ∷ replicate 6 [])
+specimenTable = tableWith (specimenHold 1030 ∷ specimenLease b 2000 12 ∷ [])
 
 -- with the first two octets as its identifier
 specimenRelease : List ℕ → ℕ → ℕ → Release
@@ -380,7 +451,7 @@ specimenMemory : Memory
 specimenMemory = memoryWith (specimenRelease a 5 900 ∷ [])
 
 read-specimen : (readFile specimen ≡ accepted specimenState specimenTable specimenMemory) × (namesOf specimen ≡ specimenNames) × (namesOf (specimen ++ 0 ∷ []) ≡ [])
-unfolding specimen specimenNames specimenState specimenLease specimenTable server range scope lease tenants pool settings unnamed name en plain a b pick allBy pairsBy allTo filterBy isIn sumTo bit offsetsFrom setOf readOffsets risesFrom orderOf sameOf laidOut tableOf byIdentifier unionAll addressesOf overlaps oneTo sizeB idB recordsB countsB rule1 belowB offsetsB rule2 rangeB rangesApart rule3 poolB poolsApart rule4 ttlB rule5 reserveB reservesB rule6 kindB periodB leaseB noneB tenantsB rule7 differ rule8 disjoint apart rule9 compatible rule10 limitB limitsB rule11 committedB rule12 zeroFrom paddedB blankB unusedB layoutB rangeZero tailB scopeZero settingsB rule19 rulesOf firstLate firstRule firstBroken brokenOf soundB then closed readOctet readNumber readTimes isAfter orderedFrom fileOf filled stored tenantsFrom storedScope storedState storedTable storableB fewOf leasesFitB countsFit fitsB refused accepted judged loaded loadedGot readFile committed namesOf namesGot sizesOk bare release specimenRelease memoryWith specimenMemory brokenMemory brokenRelease firstRelease releaseRulesOf rulesTo houseB fewB lengthB differs notLeased onceB pastB older filledB unusedR laidB memoryB laidReleases storedRelease storedMemory entries.apart keepableB fewFor releasesFitB
+unfolding specimen specimenNames specimenState specimenLease specimenHold tableWith specimenTable server range scope lease tenants pool settings unnamed name en plain a b ab pick allBy pairsBy allTo filterBy isIn sumTo bit offsetsFrom setOf readOffsets risesFrom orderOf sameOf laidOut tableOf byIdentifier unionAll addressesOf overlaps oneTo sizeB idB recordsB countsB rule1 belowB offsetsB rule2 rangeB rangesApart rule3 poolB poolsApart rule4 ttlB rule5 reserveB reservesB rule6 kindB periodB leaseB noneB tenantsB rule7 differ rule8 disjoint apart rule9 compatible rule10 limitB limitsB rule11 committedB rule12 lapseB holdB rule13 zeroFrom paddedB blankB unusedB layoutB rangeZero tailB scopeZero settingsB rule19 rulesOf firstLate firstRule firstBroken brokenOf soundB then closed readOctet readNumber readTimes isAfter orderedFrom fileOf filled stored storedHold insertIn insertOf insertAll mergedFrom isHold storedScope storedState storedTable storableB leaseFitB holdFitB fewOf recordsFitB countsFit fitsB refused accepted judged loaded loadedGot readFile committed namesOf namesGot sizesOk bare release specimenRelease memoryWith specimenMemory brokenMemory brokenRelease firstRelease releaseRulesOf rulesTo houseB fewB lengthB differs notLeased onceB pastB older filledB unusedR laidB memoryB laidReleases storedRelease storedMemory entries.apart keepableB fewFor releasesFitB
 read-specimen = (refl, refl, refl)
 
 -- the book with these names, or others; and with another memory
@@ -393,25 +464,29 @@ bookOf memory = record { state = specimenState; table = specimenTable; memory = 
 zeroBook : Book
 zeroBook = record { state = zeroState; table = zeroTable; memory = zeroMemory; names = 0 ∷ [] }
 
+-- the book with other records of tenant 1
+bookOn : List Lease → Book
+bookOn l = record { state = specimenState; table = tableWith l; memory = specimenMemory; names = specimenNames }
+
 -- tenant 1's entries, so many in use
 countedAs : ℕ → List Release → Memory
 countedAs n l = record { releases = record { releases = l; count = n } ∷ replicate 7 (laidReleases []) }
 
 -- an exact room suffices, one octet less does not, and an unsound book and bad names come before too little room
 write-specimen : (octetsOf (bookWith specimenNames) ≡ specimen)
-    × (writtenOf (bookWith specimenNames) 128 ≡ record { refusal = 0; length = 128 })
-    × (writtenOf (bookWith specimenNames) 127 ≡ record { refusal = 23; length = 0 })
+    × (writtenOf (bookWith specimenNames) 154 ≡ record { refusal = 0; length = 154 })
+    × (writtenOf (bookWith specimenNames) 153 ≡ record { refusal = 23; length = 0 })
     × (writtenOf zeroBook 0 ≡ record { refusal = 22; length = 0 })
-    × (roomAfter (bookWith specimenNames) (replicate 130 9) ≡ specimen ++ 9 ∷ 9 ∷ [])
-    × (roomAfter (bookWith specimenNames) (replicate 127 9) ≡ replicate 127 9)
+    × (roomAfter (bookWith specimenNames) (replicate 156 9) ≡ specimen ++ 9 ∷ 9 ∷ [])
+    × (roomAfter (bookWith specimenNames) (replicate 153 9) ≡ replicate 153 9)
     × (roomAfter zeroBook (9 ∷ []) ≡ 9 ∷ [])
     -- none at all, an octet more, no count of the scopes, flags 1
-    × (writtenOf (bookWith []) 128 ≡ record { refusal = 22; length = 0 })
+    × (writtenOf (bookWith []) 154 ≡ record { refusal = 22; length = 0 })
     × (writtenOf (bookWith (specimenNames ++ 0 ∷ [])) 0 ≡ record { refusal = 22; length = 0 })
-    × (writtenOf (bookWith (unnamed 2 2)) 128 ≡ record { refusal = 22; length = 0 })
-    × (writtenOf (bookWith (1 ∷ 1 ∷ name 1 en en ++ 0 ∷ 0 ∷ [])) 128 ≡ record { refusal = 22; length = 0 })
-    × (roomAfter (bookWith []) (replicate 130 9) ≡ replicate 130 9)
-unfolding specimen specimenNames specimenState specimenLease specimenTable server range scope lease tenants pool settings unnamed name en plain a b pick allBy pairsBy allTo filterBy isIn sumTo bit offsetsFrom setOf readOffsets risesFrom orderOf sameOf laidOut tableOf byIdentifier unionAll addressesOf overlaps oneTo sizeB idB recordsB countsB rule1 belowB offsetsB rule2 rangeB rangesApart rule3 poolB poolsApart rule4 ttlB rule5 reserveB reservesB rule6 kindB periodB leaseB noneB tenantsB rule7 differ rule8 disjoint apart rule9 compatible rule10 limitB limitsB rule11 committedB rule12 zeroFrom paddedB blankB unusedB layoutB rangeZero tailB scopeZero settingsB rule19 rulesOf firstLate firstRule firstBroken brokenOf soundB then closed readOctet readNumber readTimes isAfter orderedFrom fileOf filled stored tenantsFrom storedScope storedState storedTable storableB fewOf leasesFitB countsFit fitsB refused accepted judged loaded loadedGot readFile zeroTable octetsOf writtenOf roomAfter filedBook filedFrom filedScope pairUp filedLease writeAll committed bookWith zeroBook bookB namesB isWhole sizesOk bare release specimenRelease memoryWith specimenMemory brokenMemory brokenRelease firstRelease releaseRulesOf rulesTo houseB fewB lengthB differs notLeased onceB pastB older filledB unusedR laidB memoryB laidReleases storedRelease storedMemory entries.apart keepableB fewFor releasesFitB entries.filedAll filedRelease filedMemory
+    × (writtenOf (bookWith (unnamed 2 2)) 154 ≡ record { refusal = 22; length = 0 })
+    × (writtenOf (bookWith (1 ∷ 1 ∷ name 1 en en ++ 0 ∷ 0 ∷ [])) 154 ≡ record { refusal = 22; length = 0 })
+    × (roomAfter (bookWith []) (replicate 156 9) ≡ replicate 156 9)
+unfolding specimen specimenNames specimenState specimenLease specimenHold tableWith specimenTable server range scope lease tenants pool settings unnamed name en plain a b ab pick allBy pairsBy allTo filterBy isIn sumTo bit offsetsFrom setOf readOffsets risesFrom orderOf sameOf laidOut tableOf byIdentifier unionAll addressesOf overlaps oneTo sizeB idB recordsB countsB rule1 belowB offsetsB rule2 rangeB rangesApart rule3 poolB poolsApart rule4 ttlB rule5 reserveB reservesB rule6 kindB periodB leaseB noneB tenantsB rule7 differ rule8 disjoint apart rule9 compatible rule10 limitB limitsB rule11 committedB rule12 lapseB holdB rule13 zeroFrom paddedB blankB unusedB layoutB rangeZero tailB scopeZero settingsB rule19 rulesOf firstLate firstRule firstBroken brokenOf soundB then closed readOctet readNumber readTimes isAfter orderedFrom fileOf filled stored storedHold insertIn insertOf insertAll mergedFrom isHold storedScope storedState storedTable storableB leaseFitB holdFitB fewOf recordsFitB countsFit fitsB refused accepted judged loaded loadedGot readFile zeroTable octetsOf writtenOf roomAfter filedBook filedLeases filedHolds filedScope pairUp filedLease filedHold writeAll committed bookWith zeroBook bookB namesB isWhole sizesOk bare release specimenRelease memoryWith specimenMemory brokenMemory brokenRelease firstRelease releaseRulesOf rulesTo houseB fewB lengthB differs notLeased onceB pastB older filledB unusedR laidB memoryB laidReleases storedRelease storedMemory entries.apart keepableB fewFor releasesFitB entries.filedAll filedRelease filedMemory
 write-specimen = (refl, refl, refl, refl, refl, refl, refl, refl, refl, refl, refl, refl)
 
 c : List ℕ
@@ -419,15 +494,26 @@ c = 0 ∷ 67 ∷ []
 
 -- releases that are lent: none of tenant 1 and two of one time are written; a time after the clock, times that fall, an identifier on a lease, an octet past
 -- an identifier, an entry in use of which nothing is set, an unused one that is not zero, and five of four are 22
-lent-releases : (writtenOf (bookOf (memoryWith [])) 116 ≡ record { refusal = 0; length = 116 })
-    × (writtenOf (bookOf (memoryWith (specimenRelease a 5 900 ∷ specimenRelease c 5 900 ∷ []))) 140 ≡ record { refusal = 0; length = 140 })
+lent-releases : (writtenOf (bookOf (memoryWith [])) 142 ≡ record { refusal = 0; length = 142 })
+    × (writtenOf (bookOf (memoryWith (specimenRelease a 5 900 ∷ specimenRelease c 5 900 ∷ []))) 166 ≡ record { refusal = 0; length = 166 })
     × (writtenOf (bookOf (memoryWith (specimenRelease a 5 1001 ∷ []))) 0 ≡ record { refusal = 22; length = 0 })
-    × (writtenOf (bookOf (memoryWith (specimenRelease a 5 900 ∷ specimenRelease c 5 899 ∷ []))) 140 ≡ record { refusal = 22; length = 0 })
-    × (writtenOf (bookOf (memoryWith (specimenRelease b 5 900 ∷ []))) 128 ≡ record { refusal = 22; length = 0 })
-    × (writtenOf (bookOf (memoryWith (specimenRelease (0 ∷ 65 ∷ 1 ∷ []) 5 900 ∷ []))) 128 ≡ record { refusal = 22; length = 0 })
-    × (writtenOf (bookOf (countedAs 1 (replicate 4 zeroRelease))) 128 ≡ record { refusal = 22; length = 0 })
-    × (writtenOf (bookOf (countedAs 0 (specimenRelease a 5 900 ∷ replicate 3 zeroRelease))) 128 ≡ record { refusal = 22; length = 0 })
-    × (writtenOf (bookOf (countedAs 5 (replicate 4 zeroRelease))) 128 ≡ record { refusal = 22; length = 0 })
-    × (roomAfter (bookOf (countedAs 5 (replicate 4 zeroRelease))) (replicate 130 9) ≡ replicate 130 9)
-unfolding c specimen specimenNames specimenState specimenLease specimenTable server range scope lease tenants pool settings unnamed name en plain a b pick allBy pairsBy allTo filterBy isIn sumTo bit offsetsFrom setOf readOffsets risesFrom orderOf sameOf laidOut tableOf byIdentifier unionAll addressesOf overlaps oneTo sizeB idB recordsB countsB rule1 belowB offsetsB rule2 rangeB rangesApart rule3 poolB poolsApart rule4 ttlB rule5 reserveB reservesB rule6 kindB periodB leaseB noneB tenantsB rule7 differ rule8 disjoint apart rule9 compatible rule10 limitB limitsB rule11 committedB rule12 zeroFrom paddedB blankB unusedB layoutB rangeZero tailB scopeZero settingsB rule19 rulesOf firstLate firstRule firstBroken brokenOf soundB then closed readOctet readNumber readTimes isAfter orderedFrom fileOf filled stored tenantsFrom storedScope storedState storedTable storableB fewOf leasesFitB countsFit fitsB refused accepted judged loaded loadedGot readFile zeroTable octetsOf writtenOf roomAfter filedBook filedFrom filedScope pairUp filedLease writeAll committed bookOf countedAs zeroBook bookB namesB isWhole sizesOk bare release specimenRelease memoryWith specimenMemory brokenMemory brokenRelease firstRelease releaseRulesOf rulesTo houseB fewB lengthB differs notLeased onceB pastB older filledB unusedR laidB memoryB laidReleases storedRelease storedMemory entries.apart keepableB fewFor releasesFitB entries.filedAll filedRelease filedMemory
+    × (writtenOf (bookOf (memoryWith (specimenRelease a 5 900 ∷ specimenRelease c 5 899 ∷ []))) 166 ≡ record { refusal = 22; length = 0 })
+    × (writtenOf (bookOf (memoryWith (specimenRelease b 5 900 ∷ []))) 154 ≡ record { refusal = 22; length = 0 })
+    × (writtenOf (bookOf (memoryWith (specimenRelease (0 ∷ 65 ∷ 1 ∷ []) 5 900 ∷ []))) 154 ≡ record { refusal = 22; length = 0 })
+    × (writtenOf (bookOf (countedAs 1 (replicate 4 zeroRelease))) 154 ≡ record { refusal = 22; length = 0 })
+    × (writtenOf (bookOf (countedAs 0 (specimenRelease a 5 900 ∷ replicate 3 zeroRelease))) 154 ≡ record { refusal = 22; length = 0 })
+    × (writtenOf (bookOf (countedAs 5 (replicate 4 zeroRelease))) 154 ≡ record { refusal = 22; length = 0 })
+    × (roomAfter (bookOf (countedAs 5 (replicate 4 zeroRelease))) (replicate 156 9) ≡ replicate 156 9)
+unfolding c specimen specimenNames specimenState specimenLease specimenHold tableWith specimenTable server range scope lease tenants pool settings unnamed name en plain a b ab pick allBy pairsBy allTo filterBy isIn sumTo bit offsetsFrom setOf readOffsets risesFrom orderOf sameOf laidOut tableOf byIdentifier unionAll addressesOf overlaps oneTo sizeB idB recordsB countsB rule1 belowB offsetsB rule2 rangeB rangesApart rule3 poolB poolsApart rule4 ttlB rule5 reserveB reservesB rule6 kindB periodB leaseB noneB tenantsB rule7 differ rule8 disjoint apart rule9 compatible rule10 limitB limitsB rule11 committedB rule12 lapseB holdB rule13 zeroFrom paddedB blankB unusedB layoutB rangeZero tailB scopeZero settingsB rule19 rulesOf firstLate firstRule firstBroken brokenOf soundB then closed readOctet readNumber readTimes isAfter orderedFrom fileOf filled stored storedHold insertIn insertOf insertAll mergedFrom isHold storedScope storedState storedTable storableB leaseFitB holdFitB fewOf recordsFitB countsFit fitsB refused accepted judged loaded loadedGot readFile zeroTable octetsOf writtenOf roomAfter filedBook filedLeases filedHolds filedScope pairUp filedLease filedHold writeAll committed bookOf countedAs zeroBook bookB namesB isWhole sizesOk bare release specimenRelease memoryWith specimenMemory brokenMemory brokenRelease firstRelease releaseRulesOf rulesTo houseB fewB lengthB differs notLeased onceB pastB older filledB unusedR laidB memoryB laidReleases storedRelease storedMemory entries.apart keepableB fewFor releasesFitB entries.filedAll filedRelease filedMemory
 lent-releases = (refl, refl, refl, refl, refl, refl, refl, refl, refl, refl)
+
+-- holds that are lent: none, one alone and one behind the lease are written; a lapse at the clock, one after thirty-one seconds, one of a lease, and a hold in
+-- front of one with a lower identifier are 22
+lent-holds : (writtenOf (bookOn (specimenLease b 2000 12 ∷ [])) 129 ≡ record { refusal = 0; length = 129 })
+    × (octetsOf (bookOn (specimenHold 1001 ∷ [])) ≡ settings ++ 1 ∷ plain 2 a (0 ∷ 1 ∷ []) ++ specimenNames ++ 2 ∷ release 1 a 5 900 ++ release 2 b 6 800 ++ 1 ∷ lease 1 1 ab 1 2000 3000 (2 ∷ []) ++ octets32 1001)
+    × (writtenOf (bookOn (specimenHold 1000 ∷ specimenLease b 2000 12 ∷ [])) 154 ≡ record { refusal = 22; length = 0 })
+    × (writtenOf (bookOn (specimenHold 1031 ∷ specimenLease b 2000 12 ∷ [])) 154 ≡ record { refusal = 22; length = 0 })
+    × (writtenOf (bookOn (specimenHold 1030 ∷ lapsingAt 1030 (specimenLease b 2000 12) ∷ [])) 154 ≡ record { refusal = 22; length = 0 })
+    × (writtenOf (bookOn (specimenLease b 2000 12 ∷ specimenHold 1030 ∷ [])) 154 ≡ record { refusal = 22; length = 0 })
+unfolding specimen specimenNames specimenState specimenLease specimenHold tableWith specimenTable server range scope lease tenants pool settings unnamed name en plain a b ab pick allBy pairsBy allTo filterBy isIn sumTo bit offsetsFrom setOf readOffsets risesFrom orderOf sameOf laidOut tableOf byIdentifier unionAll addressesOf overlaps oneTo sizeB idB recordsB countsB rule1 belowB offsetsB rule2 rangeB rangesApart rule3 poolB poolsApart rule4 ttlB rule5 reserveB reservesB rule6 kindB periodB leaseB noneB tenantsB rule7 differ rule8 disjoint apart rule9 compatible rule10 limitB limitsB rule11 committedB rule12 lapseB holdB rule13 zeroFrom paddedB blankB unusedB layoutB rangeZero tailB scopeZero settingsB rule19 rulesOf firstLate firstRule firstBroken brokenOf soundB then closed readOctet readNumber readTimes isAfter orderedFrom fileOf filled stored storedHold insertIn insertOf insertAll mergedFrom isHold storedScope storedState storedTable storableB leaseFitB holdFitB fewOf recordsFitB countsFit fitsB refused accepted judged loaded loadedGot readFile zeroTable octetsOf writtenOf roomAfter filedBook filedLeases filedHolds filedScope pairUp filedLease filedHold writeAll committed bookOn bookB namesB isWhole sizesOk bare release specimenRelease memoryWith specimenMemory brokenMemory brokenRelease firstRelease releaseRulesOf rulesTo houseB fewB lengthB differs notLeased onceB pastB older filledB unusedR laidB memoryB laidReleases storedRelease storedMemory entries.apart keepableB fewFor releasesFitB entries.filedAll filedRelease filedMemory
+lent-holds = (refl, refl, refl, refl, refl, refl)

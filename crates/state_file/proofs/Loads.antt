@@ -4,15 +4,14 @@ use mathlib.Core.List.{List, [], map}
 use mathlib.Core.Path.{_∙_, _≡_, ap, ap₂, subst, sym}
 use Prim.Native.Nat.{_*_, _+_, _-_, _<_, _≤_, ℕ}
 use native.Mathlib.Omega.{arith}
-use lib.ListN.{drop, getD, length, length-drop, replicate, take}
-use lib.Seq.{length-take-le}
+use lib.ListN.{drop, getD, length, replicate, take}
 use borrow.Author.Tests.{leb-true, ltb-false}
 use Rattle.format.specs.Place.{row}
-use Rattle.format.specs.Section.{InRow, Inside}
-use Rattle.format.specs.laws.Entries.{row-facts}
 use Rattle.format.specs.laws.Fixed.{walk-length}
-use Rattle.lists.specs.All.{allBy, allTo}
+use Rattle.lease_file.specs.Place.{entriesIn}
+use Rattle.lease_file.specs.Records.{mergedFrom, recordsFitB}
 use Rattle.lists.specs.Pick.{pick}
+use Rattle.lists.specs.laws.Pick.{both, neither}
 use Rattle.octets.specs.Octets.{at32}
 use Rattle.release_file.specs.Place.{releasesIn}
 use Rattle.release_file.specs.Section.{releasesFitB, storedMemory}
@@ -26,10 +25,8 @@ use Rattle.state.specs.declared.Scope.{Scope}
 use Rattle.state.specs.declared.State.{State}
 use Rattle.state.specs.declared.TenantLeases.{TenantLeases}
 use Rattle.state.specs.declared.TenantReleases.{TenantReleases}
-use Rattle.state_file.proofs.Fill.{eight-laid}
-use Rattle.lists.specs.laws.Pick.{both, neither}
-use Rattle.state_file.specs.Place.{AllStorable, Formed, FormedBy, LeasesIn, SettingsIn, StorableAt, fileAt, keptAll, fileLeaseAt, leasesAt, nextAt, rangeAt, fileScopeAt, scopesIn, sectionAt, stateAt, tenantCount}
-use Rattle.state_file.specs.Records.{countsFit, fewOf, filled, fitsB, leasesFitB, settingsFitB, storableB, storedScope, storedState, storedTable, tenantsFrom, zeroRange}
+use Rattle.state_file.specs.Place.{Formed, FormedBy, SettingsIn, fileAt, fileScopeAt, rangeAt, scopesIn, stateAt, tenantCount}
+use Rattle.state_file.specs.Records.{countsFit, filled, fitsB, settingsFitB, storedScope, storedState, storedTable, zeroRange}
 use Rattle.state_file.specs.StateFile.{accepted, loadedGot, judged, loaded, namesGot, namesOf, readFile, refused, zeroLedger, zeroMemory, zeroState, zeroTable}
 use Rattle.state_file.specs.declared.Layout.{Layout}
 use Rattle.state_file.specs.declared.Layout.the-variants.{Right, Wrong}
@@ -47,26 +44,26 @@ module _ (s : List ℕ) (p : Places) where
   counts-same = ap₂ countsFit (walk-length rangeAt _ (tenantCount s) s 10) (walk-length (fileScopeAt (tenantCount s)) _ (getD s (p .scopes) 0) s (p .scopes + 1))
 
   module _ {q : Bool} (e : q ≡ countsFit (getD s 9 0) (getD s (p .scopes) 0)) where
-    counts-tested : (c : Bool) → q ≡ c → pick c (pick (leasesFitB (sectionAt s (p .leases))) (releasesFitB (releasesIn s (p .releases))) false) false ≡ fitsB (fileAt s p)
+    counts-tested : (c : Bool) → q ≡ c → pick c (pick (recordsFitB (entriesIn false s (p .leases)) (entriesIn true s (p .holds))) (releasesFitB (releasesIn s (p .releases))) false) false ≡ fitsB (fileAt s p)
     unfolding fitsB fileAt pick
-    counts-tested c t = ap (λ (x : Bool). pick x (pick (leasesFitB (sectionAt s (p .leases))) (releasesFitB (releasesIn s (p .releases))) false) false) (sym t ∙ e ∙ sym counts-same)
+    counts-tested c t = ap (λ (x : Bool). pick x (pick (recordsFitB (entriesIn false s (p .leases)) (entriesIn true s (p .holds))) (releasesFitB (releasesIn s (p .releases))) false) false) (sym t ∙ e ∙ sym counts-same)
 
     pub fits-not : q ≡ false → false ≡ fitsB (fileAt s p)
     unfolding pick
     fits-not t = counts-tested false t
 
-    module _ {l : Bool} (el : l ≡ leasesFitB (sectionAt s (p .leases))) (t : q ≡ true) where
-      leases-tested : (c : Bool) → l ≡ c → pick c (releasesFitB (releasesIn s (p .releases))) false ≡ fitsB (fileAt s p)
+    module _ {l : Bool} (el : l ≡ recordsFitB (entriesIn false s (p .leases)) (entriesIn true s (p .holds))) (t : q ≡ true) where
+      records-tested : (c : Bool) → l ≡ c → pick c (releasesFitB (releasesIn s (p .releases))) false ≡ fitsB (fileAt s p)
       unfolding pick
-      leases-tested c u = ap (λ (x : Bool). pick x (releasesFitB (releasesIn s (p .releases))) false) (sym u ∙ el) ∙ counts-tested true t
+      records-tested c u = ap (λ (x : Bool). pick x (releasesFitB (releasesIn s (p .releases))) false) (sym u ∙ el) ∙ counts-tested true t
 
-      pub fits-leases : l ≡ false → false ≡ fitsB (fileAt s p)
+      pub fits-records : l ≡ false → false ≡ fitsB (fileAt s p)
       unfolding pick
-      fits-leases u = leases-tested false u
+      fits-records u = records-tested false u
 
       pub fits-yes : (r : Bool) → l ≡ true → r ≡ releasesFitB (releasesIn s (p .releases)) → r ≡ fitsB (fileAt s p)
       unfolding pick
-      fits-yes r u w = w ∙ leases-tested true u
+      fits-yes r u w = w ∙ records-tested true u
 
   -- what the test of a file with the form says of its parts
   module _ (v : Formed s p) where
@@ -80,60 +77,17 @@ module _ (s : List ℕ) (p : Places) where
           let c = counts-few _ _ (sym counts-same ∙ both _ _ (sym e ∙ t) .0) in
           record { tenants = v .tenants; few = c .0; four = c .1; room = let h = v .records .start in let z = v .sizes in omega arith }
 
-      pub formed-leases : leasesFitB (sectionAt s (p .leases)) ≡ true
+      pub formed-records : recordsFitB (entriesIn false s (p .leases)) (entriesIn true s (p .holds)) ≡ true
       unfolding fitsB fileAt
-      formed-leases = both _ _ (both _ _ (sym e ∙ t) .1) .0
+      formed-records = both _ _ (both _ _ (sym e ∙ t) .1) .0
 
       pub formed-releases : releasesFitB (releasesIn s (p .releases)) ≡ true
       unfolding fitsB fileAt
       formed-releases = both _ _ (both _ _ (sym e ∙ t) .1) .1
 
-pub ruleset limitsFit = (fits-yes, fits-leases, fits-not, formed-counts)
+pub ruleset limitsFit = (fits-yes, fits-records, fits-not, formed-counts)
 
-pub ruleset fileParts = (formed-settings, formed-leases, formed-releases)
-
--- ---- a record of the file that a record of the book can hold
-storable-held : (s : List ℕ) (at : ℕ) → Inside nextAt s at → storableB (fileLeaseAt s at) ≡ true → StorableAt s at
-unfolding storableB fileLeaseAt
-storable-held s at v e =
-    let a = neither _ _ e in
-    let b = neither _ _ (a .1) in
-    let p = neither _ _ (b .1) in
-    let h = ltb-false 32 (length (take (getD s (at + 2) 0) (drop (at + 3) s))) (p .0) in
-    let l = length-take-le (getD s (at + 2) 0) (drop (at + 3) s) (let d = length-drop (at + 3) s in let r = v .room in omega arith) in
-    record { from = ltb-false (getD s at 0) 1 (a .0); to = ltb-false 8 (getD s at 0) (b .0); ids = omega arith; room = v .room }
-
-held-row : (k : ℕ) (s : List ℕ) (at : ℕ) → InRow nextAt s at k → allBy storableB (leasesAt s at k) ≡ true → AllStorable s at k
-held-row k s at v e = row-facts storableB StorableAt fileLeaseAt nextAt storable-held k s at v e
-
-module _ {s : List ℕ} {at count : ℕ} (v : LeasesIn s at) (ec : count ≡ getD s at 0) where
-  pub leases-in : InRow nextAt s (at + 1) count
-  leases-in = subst (λ (n : ℕ). InRow nextAt s (at + 1) n) (sym ec) (v .each)
-
-  leases-same : leasesAt s (at + 1) count ≡ sectionAt s at
-  leases-same = ap (leasesAt s (at + 1)) ec
-
-  pub leases-stored : {a : Bool} → a ≡ allBy storableB (leasesAt s (at + 1) count) → a ≡ true → AllStorable s (at + 1) count
-  leases-stored p q = held-row count s (at + 1) leases-in (sym p ∙ q)
-
-  pub leases-yes : (a r : Bool) → a ≡ allBy storableB (leasesAt s (at + 1) count) → a ≡ true → r ≡ allTo (λ i. fewOf (leasesAt s (at + 1) count) (i + 1)) 8 → r ≡ leasesFitB (sectionAt s at)
-  unfolding leasesFitB pick
-  leases-yes a r p q t =
-      t ∙ ap (λ (b : Bool). pick b (allTo (λ i. fewOf (leasesAt s (at + 1) count) (i + 1)) 8) false) (sym q ∙ p)
-      ∙ ap leasesFitB leases-same
-
-  pub leases-not : (a : Bool) → a ≡ allBy storableB (leasesAt s (at + 1) count) → a ≡ false → false ≡ leasesFitB (sectionAt s at)
-  unfolding leasesFitB pick
-  leases-not a p q = ap (λ (b : Bool). pick b (allTo (λ i. fewOf (leasesAt s (at + 1) count) (i + 1)) 8) false) (sym q ∙ p) ∙ ap leasesFitB leases-same
-
-  module _ (e : leasesFitB (sectionAt s at) ≡ true) where
-    pub leases-held : AllStorable s (at + 1) count
-    unfolding leasesFitB
-    leases-held = held-row count s (at + 1) leases-in (ap (allBy storableB) leases-same ∙ both _ _ e .0)
-
-    pub table-is : (ts : List TenantLeases) → ts ≡ keptAll (leasesAt s (at + 1) count) → record { tenants = ts } ≡ tableOf (tenantsFrom 1 8 (sectionAt s at))
-    unfolding tableOf leasesFitB
-    table-is ts p = ap {B = LeaseTable} (λ (l : List TenantLeases). record { tenants = l }) (p ∙ ap keptAll leases-same ∙ eight-laid _ (both _ _ e .1))
+pub ruleset fileParts = (formed-settings, formed-records, formed-releases)
 
 -- ---- settings
 module _ {s : List ℕ} {at : ℕ} (v : SettingsIn s at) where
@@ -206,14 +160,14 @@ module _ (s : State) (b : LeaseTable) (m : Memory) (q : Bool) (e : q ≡ soundB 
     judged-memory r u p = p ∙ memory-judged false u
 
 module _ (s : List ℕ) (p : Places) {q : Bool} (e : q ≡ fitsB (fileAt s p)) where
-  loaded-tested : (c : Bool) → q ≡ c → pick c (judged (stateAt s (p .scopes)) (tableOf (tenantsFrom 1 8 (sectionAt s (p .leases)))) (storedMemory (releasesIn s (p .releases)))) (refused 21) ≡ loaded (fileAt s p)
+  loaded-tested : (c : Bool) → q ≡ c → pick c (judged (stateAt s (p .scopes)) (tableOf (mergedFrom 1 8 (entriesIn false s (p .leases)) (entriesIn true s (p .holds)))) (storedMemory (releasesIn s (p .releases)))) (refused 21) ≡ loaded (fileAt s p)
   unfolding loaded storedState storedTable fileAt
-  loaded-tested c t = ap (λ (x : Bool). pick x (judged (stateAt s (p .scopes)) (tableOf (tenantsFrom 1 8 (sectionAt s (p .leases)))) (storedMemory (releasesIn s (p .releases)))) (refused 21)) (sym t ∙ e)
+  loaded-tested c t = ap (λ (x : Bool). pick x (judged (stateAt s (p .scopes)) (tableOf (mergedFrom 1 8 (entriesIn false s (p .leases)) (entriesIn true s (p .holds)))) (storedMemory (releasesIn s (p .releases)))) (refused 21)) (sym t ∙ e)
 
-  pub loaded-yes : (x : State) (y : LeaseTable) (m : Memory) (r : Loaded) → q ≡ true → x ≡ stateAt s (p .scopes) → y ≡ tableOf (tenantsFrom 1 8 (sectionAt s (p .leases)))
+  pub loaded-yes : (x : State) (y : LeaseTable) (m : Memory) (r : Loaded) → q ≡ true → x ≡ stateAt s (p .scopes) → y ≡ tableOf (mergedFrom 1 8 (entriesIn false s (p .leases)) (entriesIn true s (p .holds)))
       → m ≡ storedMemory (releasesIn s (p .releases)) → r ≡ judged x y m → r ≡ loaded (fileAt s p)
   unfolding pick
-  loaded-yes x y m r t ex ey em er = er ∙ ap₂ (λ (a : State) (b : LeaseTable). judged a b m) ex ey ∙ ap (judged (stateAt s (p .scopes)) (tableOf (tenantsFrom 1 8 (sectionAt s (p .leases))))) em ∙ loaded-tested true t
+  loaded-yes x y m r t ex ey em er = er ∙ ap₂ (λ (a : State) (b : LeaseTable). judged a b m) ex ey ∙ ap (judged (stateAt s (p .scopes)) (tableOf (mergedFrom 1 8 (entriesIn false s (p .leases)) (entriesIn true s (p .holds))))) em ∙ loaded-tested true t
 
   pub loaded-not : (r : Loaded) → q ≡ false → r ≡ refused 21 → r ≡ loaded (fileAt s p)
   unfolding pick
@@ -237,7 +191,7 @@ module _ (s : List ℕ) {l : Layout} (v : FormedBy s l) where
   names-from e = layout-right e .names
 
   pub names-in : {p : Places} → l ≡ Right p → p .releases ≤ length s
-  names-in e = let v = layout-right e in let h = v .last .start in omega arith
+  names-in e = let v = layout-right e in let h = v .memory .start in omega arith
 
   pub names-yes : {p : Places} (r : List ℕ) → l ≡ Right p → r ≡ take (p .releases - p .names) (drop (p .names) s) → r ≡ namesOf s
   unfolding namesOf namesGot fileAt

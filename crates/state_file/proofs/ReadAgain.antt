@@ -2,43 +2,22 @@
 use mathlib.Core.Bool.{true}
 use mathlib.Core.List.{List, [], _++_, _∷_, map}
 use mathlib.Core.Path.{_∙_, _≡_, ap, ap₂, refl, sym}
-use Prim.Native.Nat.{_+_, _-_, _<_, _≤_, ℕ}
+use Prim.Native.Nat.{_-_, ℕ}
 use native.Mathlib.Omega.{arith}
 use lib.ListN.{length, length-map, replicate, take}
 use lib.Seq.{take-append-seam}
-use borrow.Author.Tests.{ltb-false}
-use Rattle.lists.specs.All.{All, allBy}
-use Rattle.lists.specs.laws.All.{all-facts, two-facts}
-use Rattle.lists.specs.laws.Pick.{both, neither}
+use Rattle.lists.specs.All.{All}
+use Rattle.lists.specs.laws.Pick.{both}
+use Rattle.lease_file.specs.Records.{filedHolds, filedLeases, recordsFitB}
+use Rattle.lease_file.specs.Section.{FileHold, FileLease}
+use Rattle.lease_file.specs.laws.Table.{holds-again, leases-again}
 use Rattle.release_file.specs.Section.{FileRelease, filedMemory, storedMemory}
 use Rattle.release_file.specs.laws.Memory.{memory-again}
-use Rattle.state.specs.Book.{leasesOf, rangesOf, scopesOf, zeroScope}
-use Rattle.state.specs.laws.Layout.{table-back}
+use Rattle.state.specs.Book.{rangesOf, scopesOf, zeroScope}
 use Rattle.state.specs.declared.ClientRange.{ClientRange}
-use Rattle.state_file.specs.File.{File, FileLease, FilePart, FileScope, fileFormat, leaseFormat, scopeFormat}
-use Rattle.state_file.specs.laws.Records.{StorableAt, filled-take}
-use Rattle.state_file.specs.Records.{filedBook, filedFrom, filedScope, filled, fitsB, isOffset, leasesFitB, pairUp, storableB, storedScope, storedState, storedTable, tenantsFrom, zeroRange}
-use Rattle.state_file.specs.laws.Tenants.{leases-again}
-
--- what a lease needs to be stored
-record Fits (x : FileLease) : Type 0 where
-  from : 1 ≤ x .tenant
-  to : x .tenant < 9
-  short : length (x .id) ≤ 32
-  low : allBy isOffset (x .offsets) ≡ true
-
-fits-of : (x : FileLease) → storableB x ≡ true → Fits x
-unfolding storableB
-fits-of x e =
-    let a = neither _ _ e in
-    let b = neither _ _ (a .1) in
-    let c = neither _ _ (b .1) in
-    let p = ltb-false (x .tenant) 1 (a .0) in
-    let q = ltb-false 8 (x .tenant) (b .0) in
-    record { from = p; to = omega arith; short = ltb-false 32 (length (x .id)) (c .0); low = c .1 }
-
-storable-of : (x : FileLease) → Fits x → leaseFormat .ok x → StorableAt x
-storable-of x v h = record { short = v .short; rising = h .1 .1 .1 .1 .1 .1 .1 .1; low = v .low }
+use Rattle.state_file.specs.File.{File, FilePart, FileScope, fileFormat, scopeFormat}
+use Rattle.state_file.specs.laws.Records.{filled-take}
+use Rattle.state_file.specs.Records.{filedBook, filedScope, filled, fitsB, pairUp, storedScope, storedState, storedTable, zeroRange}
 
 -- ---- scopes
 pair-append : (a b x y : List ℕ) → length a ≡ length b → pairUp (a ++ x) (b ++ y) ≡ pairUp a b ++ pairUp x y
@@ -73,25 +52,21 @@ scopes-again n (c ∷ l) h = ap₂ {C = List FileScope} (λ (x : FileScope) (r :
 
 -- ---- the file
 module _ (f : File) (h : fileFormat .ok f) (e : fitsB f ≡ true) where
-  leases-fit : allBy storableB (f .leases) ≡ true
-  unfolding fitsB leasesFitB
-  leases-fit = both _ _ (both _ _ (both _ _ e .1) .0) .0
-
   releases-filed : filedMemory (storedMemory (f .releases)) ≡ f .releases
   unfolding fitsB
-  releases-filed = memory-again (f .releases) (h .1 .1 .1 .1 .1 .1) (both _ _ (both _ _ e .1) .1)
+  releases-filed = memory-again (f .releases) (h .1 .1 .1 .1 .1 .0 .1) (both _ _ (both _ _ e .1) .1)
 
-  leases-facts : All Fits (f .leases)
-  leases-facts = all-facts storableB Fits (f .leases) fits-of leases-fit
+  records-fit : recordsFitB (f .leases) (f .holds) ≡ true
+  unfolding fitsB
+  records-fit = both _ _ (both _ _ e .1) .0
 
-  leases-filed : filedFrom 1 (leasesOf (storedTable f)) ≡ f .leases
+  leases-filed : filedLeases (storedTable f) ≡ f .leases
   unfolding storedTable
-  leases-filed =
-      ap (filedFrom 1) (table-back (tenantsFrom 1 8 (f .leases)))
-      ∙ leases-again 8 (f .leases) (h .1 .1 .1 .0 .1)
-      (two-facts Fits Fits (λ x. 1 ≤ x .tenant) (f .leases) (λ x v w. v .from) leases-facts leases-facts)
-      (two-facts Fits Fits (λ x. x .tenant < 1 + 8) (f .leases) (λ x v w. v .to) leases-facts leases-facts)
-      (two-facts Fits (leaseFormat .ok) StorableAt (f .leases) storable-of leases-facts (h .1 .1 .1 .0 .0 .1))
+  leases-filed = leases-again (f .leases) (f .holds) (h .1 .1 .1 .0) (h .1 .1 .1 .1 .1 .1) records-fit
+
+  holds-filed : filedHolds (storedTable f) ≡ f .holds
+  unfolding storedTable
+  holds-filed = holds-again (f .leases) (f .holds) (h .1 .1 .1 .0) (h .1 .1 .1 .1 .1 .1) records-fit
 
   ranges-filed : rangesOf (storedState f) ≡ f .tenants
   unfolding storedState
@@ -106,8 +81,9 @@ module _ (f : File) (h : fileFormat .ok f) (e : fitsB f ≡ true) where
   pub book-again : filedBook (record { state = storedState f; table = storedTable f; memory = storedMemory (f .releases); names = f .names }) ≡ f
   unfolding filedBook storedState
   book-again =
-      ap₂ (λ (ts : List ClientRange) (cs : List FileScope). make ts cs (filedFrom 1 (leasesOf (storedTable f))) (filedMemory (storedMemory (f .releases)))) ranges-filed scopes-filed
-      ∙ ap₂ (make (f .tenants) (f .scopes)) leases-filed releases-filed
+      ap₂ (λ (ts : List ClientRange) (cs : List FileScope). make ts cs (filedLeases (storedTable f)) (filedMemory (storedMemory (f .releases))) (filedHolds (storedTable f))) ranges-filed scopes-filed
+      ∙ ap₂ (λ (ls : List FileLease) (rs : List FileRelease). make (f .tenants) (f .scopes) ls rs (filedHolds (storedTable f))) leases-filed releases-filed
+      ∙ ap (make (f .tenants) (f .scopes) (f .leases) (f .releases)) holds-filed
     where
-      make : List ClientRange → List FileScope → List FileLease → List FileRelease → File
-      make ts cs ls rs = record { server = f .server; clock = f .clock; tenants = ts; scopes = cs; leases = ls; names = f .names; releases = rs }
+      make : List ClientRange → List FileScope → List FileLease → List FileRelease → List FileHold → File
+      make ts cs ls rs hs = record { server = f .server; clock = f .clock; tenants = ts; scopes = cs; leases = ls; names = f .names; releases = rs; holds = hs }

@@ -6,37 +6,16 @@ use native.Mathlib.Omega.{arith}
 use lib.ListN.{getD, length, take}
 use Rattle.octets.specs.laws.Octets.{wrote-as}
 use Rattle.octets.specs.Octets.{Wrote}
-use Rattle.state.specs.laws.Layout.{noLease, noScope}
-use Rattle.state.specs.Book.{noLeases}
+use Rattle.state.specs.laws.Layout.{noScope}
 use Rattle.state.specs.declared.ClientRange.{ClientRange}
-use Rattle.state.specs.declared.Lease.{Lease}
 use Rattle.state.specs.declared.Scope.{Scope}
-use Rattle.state.specs.declared.TenantLeases.{TenantLeases}
-use Rattle.state_file.specs.File.{FilePart, leaseFormat, scopeFormat, tenantFormat}
-use Rattle.state_file.specs.Records.{filedLease, filedScope, pairUp, zeroRange}
+use Rattle.state_file.specs.File.{FilePart, scopeFormat, tenantFormat}
+use Rattle.state_file.specs.Records.{filedScope, pairUp, zeroRange}
 use Rattle.format.specs.Rows.{writeFrom}
 use Rattle.format.specs.laws.Rows.{RowInv, row-end, row-next, row-room, row-start, rows}
-use Rattle.state_file.specs.Rows.{leaseOctets, partRow, rangeRow, scopeRow, tenantOctets, tenantRow}
+use Rattle.state_file.specs.Rows.{partRow, rangeRow, scopeRow}
 
 -- the same for each kind of row, where the search meets the octets and not their name
-module _ (t : ℕ) {ls : List Lease} {m c n : ℕ} {r₀ : List ℕ} {at : ℕ} {buffer : List ℕ} {to i : ℕ} (v : RowInv (leaseOctets t) noLease ls m c n r₀ at buffer to i) where
-  pub lease-room : i < n → to + length (leaseFormat .write (filedLease t (getD ls i noLease))) ≤ length buffer
-  unfolding leaseOctets
-  lease-room h = row-room v h
-
-  pub lease-next : {r₁ : List ℕ} {k : ℕ} → i < n → Wrote buffer to (leaseFormat .write (filedLease t (getD ls i noLease))) r₁ k → length r₁ ≡ length buffer → RowInv (leaseOctets t) noLease ls m c n r₀ at r₁ k (i + 1)
-  unfolding leaseOctets
-  lease-next h p q = row-next v h p q
-
-module _ {hs : List TenantLeases} {m c n : ℕ} {r₀ : List ℕ} {at : ℕ} {buffer : List ℕ} {to i : ℕ} (v : RowInv tenantRow noLeases hs m c n r₀ at buffer to i) where
-  pub tenant-room : i < n → to + length (tenantOctets (i + 1) (getD hs i noLeases)) ≤ length buffer
-  unfolding tenantRow
-  tenant-room h = row-room v h
-
-  pub tenant-next : {r₁ : List ℕ} {k : ℕ} → i < n → Wrote buffer to (tenantOctets (i + 1) (getD hs i noLeases)) r₁ k → length r₁ ≡ length buffer → RowInv tenantRow noLeases hs m c n r₀ at r₁ k (i + 1)
-  unfolding tenantRow
-  tenant-next h p q = row-next v h p q
-
 module _ {rs : List ClientRange} {m c n : ℕ} {r₀ : List ℕ} {at : ℕ} {buffer : List ℕ} {to i : ℕ} (v : RowInv rangeRow zeroRange rs m c n r₀ at buffer to i) where
   pub range-room : i < n → to + 8 ≤ length buffer
   unfolding rangeRow
@@ -99,10 +78,6 @@ module _ {a b : List ℕ} {c n : ℕ} {r₀ : List ℕ} {at : ℕ} {buffer : Lis
 
   pub pair-end : n ≤ i → Wrote r₀ at (writeFrom partRow 0 (take c (pairUp a b))) buffer to
   pair-end h = row-end (v .row) h
-
-pub ruleset leaseRows = (lease-room, lease-next, rows)
-
-pub ruleset tenantRows = (tenant-room, tenant-next, rows)
 
 pub ruleset rangeRows = (range-room, range-next, rows)
 

@@ -1,24 +1,21 @@
 -- Laws: a sound book's file is one that the records can hold, and its records are the book's.
-use mathlib.Core.Bool.{Bool, _&&_, false, true}
+use mathlib.Core.Bool.{Bool, _&&_, _||_, false, true}
 use mathlib.Core.List.{List, [], _∷_, append-nil, map}
 use mathlib.Core.Path.{_∙_, _≡_, ap, ap₂, refl, subst, sym}
-use Prim.Native.Nat.{_*_, _+_, _-_, _<_, _≤_, min, suc, zero, ℕ}
+use Prim.Native.Nat.{_-_, _<_, _≤_, min, suc, zero, ℕ}
 use native.Mathlib.Omega.{arith}
-use lib.Dec.{eqb, leb, ltb}
-use lib.ListN.{List·getD-map, drop, getD, length, length-drop, length-map, replicate, take}
+use lib.Dec.{eqb, leb}
+use lib.ListN.{drop, length, length-drop, length-map, replicate, take}
 use lib.Seq.{length-take-le}
-use borrow.Author.Tests.{eqb-true, le-leb, le-ltb, leb-true, lt-ltb, ne-eqb}
-use Rattle.address_set.specs.AddressSet.{offsets}
-use Rattle.address_set.specs.laws.Bits.{length-offsets}
-use Rattle.address_set.specs.laws.Offsets.{offsets-small, rises-offsets}
+use borrow.Author.Tests.{eqb-true, le-leb, le-ltb, leb-true}
 use Rattle.format.specs.Format.{Got, Octets, bad, got}
 use Rattle.format.specs.Place.{isWhole}
 use Rattle.format.specs.Section.{verbatim}
-use Rattle.format.specs.Tenants.{apart}
-use Rattle.format.specs.laws.Tenants.{apart-at, filed-each, filed-most, filed-ordered}
-use Rattle.identifier.specs.Order.{orderOf}
-use Rattle.lists.specs.All.{All, allBy, allTo, pairsBy}
-use Rattle.lists.specs.laws.All.{all-cons, all-drop, all-facts, all-head, all-mapped, all-take, all-tests, each-to, one-fact, two-facts}
+use Rattle.lease_file.specs.Records.{filedHolds, filedLeases, recordsFitB}
+use Rattle.lease_file.specs.laws.Table.{NeatTenant, OctetLease, holds-ok, leases-ok, table-again, table-fits}
+use Rattle.lease_file.specs.laws.Records.{Neat}
+use Rattle.lists.specs.All.{All, allBy, pairsBy}
+use Rattle.lists.specs.laws.All.{all-drop, all-facts, all-head, all-mapped, all-take, one-fact, two-facts}
 use Rattle.lists.specs.laws.Both.{and-parts}
 use Rattle.lists.specs.Pick.{pick}
 use Rattle.names.specs.Names.{Name, namesB, namesFormat}
@@ -27,7 +24,7 @@ use Rattle.release_file.specs.Section.{filedMemory, releasesFitB, storedMemory}
 use Rattle.releases.specs.Rules.{memoryB}
 use Rattle.soundness.specs.laws.Book.{AllRules, rules-of}
 use Rattle.soundness.specs.Sound.{blankB, countsB, oneTo, idB, layoutB, paddedB, rangeZero, recordsB, rule1, rule19, rulesOf, scopeZero, settingsB, sizeB, soundB, tailB, unusedB, zeroFrom}
-use Rattle.state.specs.Book.{byIdentifier, idOf, inUse, laidOut, leaseWith, leasesOf, ordered, rangesOf, scopesOf, tableOf, zeroLease, zeroScope}
+use Rattle.state.specs.Book.{inUse, isHold, laidOut, lapsingAt, leaseWith, ordered, rangesOf, scopesOf, zeroLease, zeroScope}
 use Rattle.state.specs.declared.ClientRange.{ClientRange}
 use Rattle.state.specs.declared.Lease.{Lease}
 use Rattle.state.specs.declared.LeaseTable.{LeaseTable}
@@ -38,18 +35,10 @@ use Rattle.state.specs.declared.TenantLeases.{TenantLeases}
 use Rattle.state_file.proofs.Remembered.{memory-held, memory-same, memory-written}
 use Rattle.state_file.proofs.RowLaws.{pair-length}
 use Rattle.state_file.proofs.Zeros.{zero-tail, zero-whole}
-use Rattle.state_file.specs.File.{File, FileLease, fileFormat, isAfter, leaseAfter, leaseFormat, leaseKey, partFormat, scopeFormat, tenantFormat}
-use Rattle.state_file.specs.laws.Records.{Neat, filled-back}
-use Rattle.state_file.specs.Records.{countsFit, fewOf, filedLease, filedBook, filedFrom, filedScope, filled, fitsB, isOffset, leasesFitB, ofTenant, pairUp, storableB, stored, storedScope, storedState, storedTable, tenantsFrom, zeroRange}
-use Rattle.state_file.specs.laws.File.{leasesFrom}
-use Rattle.state_file.specs.laws.Tenants.{filed-all, leases-back, tenants-apart}
-use Rattle.state_file.specs.Place.{leaseTenant}
+use Rattle.state_file.specs.File.{File, fileFormat, partFormat, scopeFormat, tenantFormat}
+use Rattle.state_file.specs.laws.Records.{filled-back}
+use Rattle.state_file.specs.Records.{countsFit, filedBook, filedScope, filled, fitsB, pairUp, storedScope, storedState, storedTable, zeroRange}
 use Rattle.state_file.specs.Typed.{Typed, TypedLease, TypedRange, TypedScope, TypedTenant}
-
-all-weak : (m n : ℕ) (l : List ℕ) → m ≤ n → All (λ x. x < m) l → All (λ x. x < n) l
-unfolding All
-all-weak m n [] h a = tt
-all-weak m n (x ∷ l) h a = (let g = a .0 in omega arith, all-weak m n l h (a .1))
 
 -- ---- what is unused is zero
 range-zero : (r : ClientRange) → rangeZero r ≡ true → r ≡ zeroRange
@@ -97,18 +86,21 @@ lease-zero l v e =
     let b = and-parts _ _ (p .0) in
     let b1 = and-parts _ _ (b .1) in
     let b2 = and-parts _ _ (b1 .1) in
+    let b3 = and-parts _ _ (b2 .1) in
     let q = and-parts _ _ (p .1) in
     let q1 = and-parts _ _ (q .1) in
     let q2 = and-parts _ _ (q1 .1) in
     let e1 : l .scope ≡ 0 = eqb-true _ _ (b .0) in
     let e2 : l .«id_len» ≡ 0 = eqb-true _ _ (b1 .0) in
     let e3 : l .kind ≡ 0 = eqb-true _ _ (b2 .0) in
-    let e4 : l .xid ≡ 0 = eqb-true _ _ (b2 .1) in
+    let e4 : l .xid ≡ 0 = eqb-true _ _ (b3 .0) in
+    let e9 : l .lapse ≡ 0 = eqb-true _ _ (b3 .1) in
     let e5 : l .start ≡ 0 = eqb-true _ _ (q .0) in
     let e6 : l .end ≡ 0 = eqb-true _ _ (q1 .0) in
     let e7 : l .addresses ≡ 0 = eqb-true _ _ (q2 .0) in
     let e8 : l .id ≡ replicate 32 0 = zero-whole 32 (l .id) v (q2 .1) in
-    ap₂ (λ (x y : ℕ). leaseWith x y (l .id) (l .kind) (l .xid) (l .start) (l .end) (l .addresses)) e1 e2
+    ap (λ (x : ℕ). lapsingAt x l) e9
+    ∙ ap₂ (λ (x y : ℕ). leaseWith x y (l .id) (l .kind) (l .xid) (l .start) (l .end) (l .addresses)) e1 e2
     ∙ ap₂ (λ (x : List ℕ) (y : ℕ). leaseWith 0 0 x y (l .xid) (l .start) (l .end) (l .addresses)) e8 e3
     ∙ ap₂ (λ (x y : ℕ). leaseWith 0 0 (replicate 32 0) 0 x y (l .end) (l .addresses)) e4 e5
     ∙ ap₂ (leaseWith 0 0 (replicate 32 0) 0 0 0) e6 e7
@@ -162,129 +154,37 @@ module _ (t : TenantLeases) (v : Good t) where
       ∙ ap (λ (k : ℕ). replicate k zeroLease) (length-drop (t .count) (t .leases) ∙ ap (λ (k : ℕ). k - t .count) (v .typed .long))))
       good-length
 
--- a lease in use
-record Fine (l : Lease) : Type 0 where
-  typed : TypedLease l
-  most : l .«id_len» ≤ 32
-  padded : paddedB l ≡ true
-
+-- a record in use
 id-most : (l : Lease) → idB l ≡ true → l .«id_len» ≤ 32
 unfolding idB
 id-most l e = leb-true _ _ (and-parts (leb 2 (l .«id_len»)) (leb (l .«id_len») 32) e .1)
 
-good-fine : (t : TenantLeases) → Good t → All Fine (inUse t)
-good-fine t v =
-    two-facts (λ l. (TypedLease l) × (l .«id_len» ≤ 32)) (λ l. paddedB l ≡ true) Fine (inUse t) (λ l p q. record { typed = p .0; most = p .1; padded = q })
-    (two-facts TypedLease (λ l. l .«id_len» ≤ 32) (λ l. (TypedLease l) × (l .«id_len» ≤ 32)) (inUse t) (λ l p q. (p, q)) (good-typed t v)
-    (all-facts idB (λ l. l .«id_len» ≤ 32) (inUse t) id-most (good-ids t v)))
-    (all-facts paddedB (λ l. paddedB l ≡ true) (inUse t) (λ l p. p) (good-padded t v))
+lapse-none : (l : Lease) → isHold l || eqb (l .lapse) 0 ≡ true → isHold l ≡ false → l .lapse ≡ 0
+lapse-none l e h = eqb-true (l .lapse) 0 (sym (ap (λ (b : Bool). b || eqb (l .lapse) 0) h) ∙ e)
 
-id-length : (l : Lease) → Fine l → length (take (l .«id_len») (l .id)) ≡ l .«id_len»
-id-length l v = length-take-le (l .«id_len») (l .id) (let m = v .most in omega (arith, v .typed .long))
-
-fine-neat : (l : Lease) → Fine l → Neat l
+neat-of : (l : Lease) → TypedLease l → l .«id_len» ≤ 32 → paddedB l ≡ true → Neat l
 unfolding paddedB
-fine-neat l v = record { long = id-length l v; zeros = zero-tail (l .«id_len») 32 (l .id) (v .typed .long) (v .padded); bits = v .typed .addresses }
+neat-of l w m e =
+    let p = and-parts (isHold l || eqb (l .lapse) 0) (zeroFrom (l .«id_len») (l .id)) e in
+    record { long = length-take-le (l .«id_len») (l .id) (omega (arith, w .long)); most = m; zeros = zero-tail (l .«id_len») 32 (l .id) (w .long) (p .1); bits = w .addresses; lapse = lapse-none l (p .0) }
 
-fine-ok : (t : ℕ) (l : Lease) → t < 256 → Fine l → leaseFormat .ok (filedLease t l)
-unfolding filedLease
-fine-ok t l h v =
-    let w = v .typed in
-    let n = id-length l v in
-    let m = v .most in
-    let k = length-offsets (l .addresses) in (
-      h,
-      (
-        w .scope,
-        (
-          (let g : length (take (l .«id_len») (l .id)) < 256 = omega arith in g, all-take (λ x. x < 256) (l .«id_len») (l .id) (w .id)),
-          (
-            w .kind,
-            (
-              w .xid,
-              (
-                w .start,
-                (
-                  w .end,
-                  ((let g : length (offsets (l .addresses)) < 256 = omega arith in g, all-weak 64 256 (offsets (l .addresses)) (omega arith) (offsets-small (l .addresses))), rises-offsets (l .addresses)),
-                ),
-              ),
-            ),
-          ),
-        ),
-      ),
-    )
+good-neat : (t : TenantLeases) → Good t → NeatTenant t
+good-neat t v = record {
+  few = let a = good-length t v in let b = good-count t v in omega arith;
+  rising = good-order t v;
+  each = two-facts (λ l. (TypedLease l) × (l .«id_len» ≤ 32)) (λ l. paddedB l ≡ true) Neat (inUse t) (λ l p q. neat-of l (p .0) (p .1) q)
+      (two-facts TypedLease (λ l. l .«id_len» ≤ 32) (λ l. (TypedLease l) × (l .«id_len» ≤ 32)) (inUse t) (λ l p q. (p, q)) (good-typed t v)
+      (all-facts idB (λ l. l .«id_len» ≤ 32) (inUse t) id-most (good-ids t v)))
+      (all-facts paddedB (λ l. paddedB l ≡ true) (inUse t) (λ l p. p) (good-padded t v));
+  laid = good-laid t v;
+}
 
-offsets-below : (l : List ℕ) → All (λ x. x < 64) l → allBy isOffset l ≡ true
-unfolding All allBy
-offsets-below [] e = refl
-offsets-below (x ∷ l) e = all-cons isOffset x l (lt-ltb x 64 (e .0)) (offsets-below l (e .1))
+good-octets : (t : TenantLeases) → Good t → All OctetLease (inUse t)
+good-octets t v = one-fact TypedLease OctetLease (inUse t) (λ l w. record { scope = w .scope; id = w .id; kind = w .kind; xid = w .xid; start = w .start; end = w .end; lapse = w .lapse }) (good-typed t v)
 
 passes : (b c : Bool) → b ≡ false → c ≡ true → pick b false c ≡ true
 unfolding pick
 passes b c e p = ap (λ (x : Bool). pick x false c) e ∙ p
-
-fine-storable : (t : ℕ) (l : Lease) → 1 ≤ t → t ≤ 8 → Fine l → storableB (filedLease t l) ≡ true
-unfolding storableB filedLease
-fine-storable t l h g v =
-    let n = id-length l v in let m = v .most in
-    passes _ _ (le-ltb t 1 h) (passes _ _ (le-ltb 8 t g) (passes _ _ (le-ltb 32 (length (take (l .«id_len») (l .id))) (omega arith)) (offsets-below (offsets (l .addresses)) (offsets-small (l .addresses)))))
-
--- ---- all tenants: what holds of each of its leases, in the records and in the file
-leases-each : (P : Lease → Type 0) → ((l : Lease) → Fine l → P l) → (ts : List TenantLeases) → All Good ts → All (All P) (map inUse ts)
-leases-each P f ts v = all-mapped (All P) inUse ts (one-fact Good (λ t. All P (inUse t)) ts (λ t g. one-fact Fine P (inUse t) f (good-fine t g)) v)
-
-filed-fine : (P : FileLease → Type 0) (high : ℕ) → ((t : ℕ) (l : Lease) → 1 ≤ t → t < high → Fine l → P (filedLease t l)) → (ts : List TenantLeases) → 1 + length ts ≤ high → All Good ts
-    → All P (filedFrom 1 (map inUse ts))
-filed-fine P high f ts h v =
-    subst (All P) (sym (filed-all 1 (map inUse ts)))
-    (filed-each filedLease P Fine 1 high f 1 (map inUse ts) (omega arith) (let e = length-map ts inUse in omega arith) (leases-each Fine (λ l p. p) ts v))
-
-leases-ok : (ts : List TenantLeases) → 1 + length ts ≤ 256 → All Good ts → All (leaseFormat .ok) (filedFrom 1 (map inUse ts))
-leases-ok ts h v = filed-fine (leaseFormat .ok) 256 (λ t l low high p. fine-ok t l high p) ts h v
-
-leases-storable : (ts : List TenantLeases) → 1 + length ts ≤ 9 → All Good ts → allBy storableB (filedFrom 1 (map inUse ts)) ≡ true
-leases-storable ts h v =
-    all-tests storableB (λ x. storableB x ≡ true) (filedFrom 1 (map inUse ts)) (λ x p. p)
-    (filed-fine (λ x. storableB x ≡ true) 9 (λ t l low high p. fine-storable t l low (omega arith) p) ts h v)
-
-leases-laid : (ts : List TenantLeases) → All Good ts → map laidOut (map inUse ts) ≡ ts
-unfolding All
-leases-laid [] v = refl
-leases-laid (x ∷ ts) v = ap₂ {C = List TenantLeases} (λ (y : TenantLeases) (r : List TenantLeases). y ∷ r) (good-laid x (v .0)) (leases-laid ts (v .1))
-
--- ---- the order of the file from that of each tenant's identifiers
-
-next-not : (x y : Lease) → ordered x y ≡ true → eqb (orderOf (idOf x) (idOf y)) 2 ≡ false
-unfolding byIdentifier
-next-not x y e = let z : orderOf (idOf x) (idOf y) ≡ 0 = eqb-true _ _ e in ne-eqb _ _ (λ (q : orderOf (idOf x) (idOf y) ≡ 2). absurd (omega arith))
-
-after-same : (t : ℕ) (a b : List ℕ) → eqb (orderOf a b) 2 ≡ false → isAfter t a t b ≡ false
-unfolding isAfter pick
-after-same t a b e = ap (λ (c : Bool). pick c false (pick c true (eqb (orderOf a b) 2))) (le-ltb t t (omega arith)) ∙ e
-
-after-less : (u t : ℕ) (a b : List ℕ) → u < t → isAfter u a t b ≡ false
-unfolding isAfter pick
-after-less u t a b h = ap (λ (c : Bool). pick c false (pick (ltb t u) true (eqb (orderOf a b) 2))) (lt-ltb u t h)
-
-leases-ordered : (ts : List TenantLeases) → All Good ts → leasesFrom 0 [] (filedFrom 1 (map inUse ts)) ≡ true
-unfolding filedLease
-leases-ordered ts v =
-    ap (leasesFrom 0 []) (filed-all 1 (map inUse ts))
-    ∙ filed-ordered filedLease leaseKey leaseAfter (λ k t. k .0 < t) ordered (λ k t y h. after-less (k .0) t (k .1) (idOf y) h)
-    (λ t x y e. after-same t (idOf x) (idOf y) (next-not x y e)) (λ t y. omega arith) (λ k t h. omega arith) (0, []) 1 (map inUse ts) (omega arith)
-    (all-mapped (λ l. pairsBy ordered l ≡ true) inUse ts (one-fact Good (λ t. pairsBy ordered (inUse t) ≡ true) ts good-order v))
-
--- ---- how many leases
-each-few : (ts : List TenantLeases) → All Good ts → All (λ l. length l ≤ 16) (map inUse ts)
-each-few ts v = all-mapped (λ l. length l ≤ 16) inUse ts (one-fact Good (λ t. length (inUse t) ≤ 16) ts (λ t g. let a = good-length t g in let b = good-count t g in omega arith) v)
-
-leases-many : (ts : List TenantLeases) → All Good ts → length (filedFrom 1 (map inUse ts)) ≤ length ts * 16
-leases-many ts v =
-    let f = ap length (filed-all 1 (map inUse ts)) in
-    let m = filed-most filedLease 16 1 (map inUse ts) (each-few ts v) in
-    let e = length-map ts inUse in
-    omega arith
 
 -- ---- scopes
 firsts : (n : ℕ) (a b : List ℕ) → length a ≡ length b → map (λ p. p .reserve) (take n (pairUp a b)) ≡ take n a
@@ -332,17 +232,6 @@ unfolding filedScope
 scope-ok n k c h e v =
     let l = pair-length 8 (c .reserve) (c .limit) (v .reserves) (v .limits) in
     (v .lowest, (v .size, (v .ttl, (length-take-le n (pairUp (c .reserve) (c .limit)) (omega arith) ∙ sym e, all-take (partFormat .ok) n (pairUp (c .reserve) (c .limit)) (parts-ok (c .reserve) (c .limit) (v .reserve) (v .limit))))))
-
--- ---- tenant by tenant
-tenant-at : (i : ℕ) (xs : List FileLease) → i < 8 → getD (tenantsFrom 1 8 xs) i [] ≡ map stored (ofTenant (i + 1) xs)
-tenant-at i xs h =
-    ap (λ (ls : List (List Lease)). getD ls i []) (tenants-apart 1 8 xs) ∙ List·getD-map (map stored) (apart leaseTenant 1 8 xs) i [] ∙ ap (map stored) (apart-at leaseTenant 8 1 i xs h)
-
-leases-few : (i : ℕ) (ls : List (List Lease)) → All (λ l. length l ≤ 16) ls → length (getD ls i []) ≤ 16
-unfolding All
-leases-few i [] v = omega arith
-leases-few zero (l ∷ ls) v = v .0
-leases-few (suc i) (l ∷ ls) v = leases-few i ls (v .1)
 
 picked : (b : Bool) (c : Bool) → b ≡ true → pick true b c ≡ true
 unfolding pick
@@ -402,14 +291,16 @@ module _ (s : State) (b : LeaseTable) (m : Memory) (v : Typed s b m) (e : soundB
   scopes-many : length (scopesOf s) ≡ s .«scope_count»
   scopes-many = length-take-le (s .«scope_count») (s .scopes) (let h = scopes-few in omega (arith, v .four))
 
-  -- its file has octets, few enough
-  leases-total : length (filedFrom 1 (leasesOf b)) ≤ 128
-  leases-total = let k = leases-many (b .tenants) good in omega (arith, v .tenants)
+  neat : All NeatTenant (b .tenants)
+  neat = one-fact Good NeatTenant (b .tenants) good-neat good
 
+  octets : All (λ t. All OctetLease (inUse t)) (b .tenants)
+  octets = one-fact Good (λ t. All OctetLease (inUse t)) (b .tenants) good-octets good
+
+  -- its file has octets
   pub book-ok : Octets names → namesB (s .«scope_count») (s .«tenant_count») names ≡ true → fileFormat .ok filed
   unfolding filedBook
   book-ok o good-names =
-      let t = leases-total in
       let n = tenants-few in let k = scopes-few in
       let a = ranges-many in let c = scopes-many in
       let d = length-map (scopesOf s) (filedScope (s .«tenant_count»)) in (
@@ -419,8 +310,8 @@ module _ (s : State) (b : LeaseTable) (m : Memory) (v : Typed s b m) (e : soundB
           (
             (let g : length (map (filedScope (s .«tenant_count»)) (scopesOf s)) < 256 = omega arith in g, scopes-ok),
             (
-              ((let g : length (filedFrom 1 (leasesOf b)) < 256 = omega arith in g, leases-ok (b .tenants) (omega (arith, v .tenants)) good), leases-ordered (b .tenants) good),
-              (names-ok (s .«scope_count») (s .«tenant_count») _ _ names (sym (d ∙ c)) (sym a) o good-names, memory-written s b m w (v .memory) (v .releases)),
+              leases-ok b (v .tenants) neat octets,
+              (names-ok (s .«scope_count») (s .«tenant_count») _ _ names (sym (d ∙ c)) (sym a) o good-names, (memory-written s b m w (v .memory) (v .releases), holds-ok b (v .tenants) neat octets)),
             ),
           ),
         ),
@@ -435,40 +326,20 @@ module _ (s : State) (b : LeaseTable) (m : Memory) (v : Typed s b m) (e : soundB
           (all-take TypedScope (s .«scope_count») (s .scopes) (v .scopes)))
 
   -- the records can hold it
-  leases-same : tenantsFrom 1 8 (filedFrom 1 (leasesOf b)) ≡ leasesOf b
-  leases-same =
-      ap (λ (n : ℕ). tenantsFrom 1 n (filedFrom 1 (leasesOf b))) (sym (length-map (b .tenants) inUse ∙ v .tenants))
-      ∙ leases-back (leasesOf b) (leases-each Neat fine-neat (b .tenants) good)
-
-  tenant-few : (i : ℕ) → i < 8 → fewOf (filedFrom 1 (leasesOf b)) (i + 1) ≡ true
-  unfolding fewOf
-  tenant-few i h =
-      let xs : List FileLease = filedFrom 1 (leasesOf b) in
-      let p : length (ofTenant (i + 1) (filedFrom 1 (leasesOf b))) ≡ length (getD (leasesOf b) i []) =
-      sym (length-map (ofTenant (i + 1) (filedFrom 1 (leasesOf b))) stored) ∙ ap length (sym (tenant-at i (filedFrom 1 (leasesOf b)) h) ∙ ap (λ (l : List (List Lease)). getD l i []) leases-same) in
-      let q = leases-few i (leasesOf b) (each-few (b .tenants) good) in
-      le-leb _ _ (let g : length (ofTenant (i + 1) (filedFrom 1 (leasesOf b))) ≤ 16 = omega arith in g)
-
   pub book-fits : fitsB (filed) ≡ true
-  unfolding fitsB filedBook leasesFitB countsFit
+  unfolding fitsB filedBook countsFit
   book-fits =
       let n = tenants-few in let k = scopes-few in
       let a = ranges-many in let c = scopes-many in
       let d = length-map (scopesOf s) (filedScope (s .«tenant_count»)) in
-      ap (λ (x : Bool). pick x (pick (leasesFitB (filedFrom 1 (leasesOf b))) (releasesFitB (filedMemory m)) false) false)
+      ap (λ (x : Bool). pick x (pick (recordsFitB (filedLeases b) (filedHolds b)) (releasesFitB (filedMemory m)) false) false)
       (passes _ _ (le-ltb 8 (length (rangesOf s)) (omega arith)) (le-leb (length (map (filedScope (s .«tenant_count»)) (scopesOf s))) 4 (omega arith)))
-      ∙ picked _ _ (ap (λ (x : Bool). pick x (releasesFitB (filedMemory m)) false)
-      (ap (λ (x : Bool). pick x (allTo (λ i. fewOf (filedFrom 1 (leasesOf b)) (i + 1)) 8) false) (leases-storable (b .tenants) (omega (arith, v .tenants)) good)
-      ∙ every-few)
-      ∙ picked _ _ (memory-held s b m w (v .memory) (v .releases)))
-    where
-      every-few : pick true (allTo (λ i. fewOf (filedFrom 1 (leasesOf b)) (i + 1)) 8) false ≡ true
-      every-few = picked _ _ (each-to (λ i. fewOf (filedFrom 1 (leasesOf b)) (i + 1)) 8 tenant-few)
+      ∙ picked _ _ (ap (λ (x : Bool). pick x (releasesFitB (filedMemory m)) false) (table-fits b (v .tenants) neat) ∙ picked _ _ (memory-held s b m w (v .memory) (v .releases)))
 
   -- and hold what the book holds
   pub table-same : storedTable (filed) ≡ b
-  unfolding storedTable filedBook tableOf
-  table-same = ap {B = LeaseTable} (λ (l : List TenantLeases). record { tenants = l }) (ap (map laidOut) leases-same ∙ leases-laid (b .tenants) good)
+  unfolding storedTable filedBook
+  table-same = table-again b (v .tenants) neat
 
   pub releases-same : storedMemory (filed .releases) ≡ m
   unfolding filedBook

@@ -1,93 +1,37 @@
--- Laws: writing: the octets of a lease and of the settings piece by piece.
+-- Laws: writing: the octets of the settings and of the whole file piece by piece.
 use mathlib.Core.Bool.{Bool, _&&_, false, true}
 use mathlib.Core.List.{List, [], _++_, _∷_, append-assoc, map}
-use mathlib.Core.Path.{_∙_, _≡_, ap, ap₂, refl, subst, sym}
+use mathlib.Core.Path.{_∙_, _≡_, ap, ap₂, refl, sym}
 use Prim.Native.Nat.{_*_, _+_, _<_, _≤_, min, suc, ℕ}
 use native.Mathlib.Omega.{arith}
-use denote.Ref.{now}
 use lib.Dec.{ltb}
-use lib.ListN.{drop, getD, length, length-append, length-map, length-take, take}
+use lib.ListN.{drop, length, length-append, length-map, length-take, take}
 use lib.Seq.{take-all}
 use borrow.Author.Tests.{le-ltb, lt-ltb}
-use Rattle.address_set.specs.AddressSet.{offsets}
-use Rattle.address_set.specs.laws.Bits.{length-offsets}
-use Rattle.lists.specs.laws.Part.{cut-take}
+use Rattle.format.specs.Format.{writeAll}
+use Rattle.format.specs.Rows.{writeFrom}
+use Rattle.format.specs.laws.Rows.{row-all}
+use Rattle.lease_file.specs.Records.{tableOctets}
+use Rattle.lease_file.specs.laws.Table.{holds-octets, leases-octets}
 use Rattle.lists.specs.Pick.{pick}
-use Rattle.lists.specs.laws.Sums.{sum-same}
-use Rattle.lists.specs.Sums.{sumTo}
 use Rattle.octets.specs.laws.Octets.{wrote-joined, wrote-whole, wrote-as}
 use Rattle.octets.specs.Octets.{Wrote, octets32}
 use Rattle.release_file.specs.Section.{memoryOctets}
 use Rattle.releases.specs.Whole.{bookB, memoryGood, namesGood}
 use Rattle.soundness.specs.Sound.{soundB}
-use Rattle.state.specs.Book.{Book, inUse, leasesOf, noLeases, rangesOf, scopesOf}
+use Rattle.state.specs.Book.{Book, rangesOf, scopesOf}
 use Rattle.state.specs.declared.ClientRange.{ClientRange}
-use Rattle.state.specs.declared.Lease.{Lease}
 use Rattle.state.specs.declared.LeaseTable.{LeaseTable}
 use Rattle.state.specs.declared.Memory.{Memory}
 use Rattle.state.specs.declared.Scope.{Scope}
 use Rattle.state.specs.declared.State.{State}
-use Rattle.state.specs.declared.TenantLeases.{TenantLeases}
 use Rattle.state_file.proofs.RowLaws.{pair-length}
-use Rattle.state_file.specs.File.{FilePart, leaseFormat, partFormat, scopeFormat, tenantFormat}
-use Rattle.format.specs.laws.Format.{plain}
-use Rattle.format.specs.Format.{writeAll}
-use Rattle.format.specs.Rows.{writeFrom}
-use Rattle.format.specs.laws.Rows.{row-all, row-same, row-sum, tenants-octets}
-use Rattle.format.specs.laws.Tenants.{filed-sum}
-use Rattle.state_file.specs.laws.Tenants.{filed-all}
-use Rattle.state_file.specs.Records.{filedLease, filedBook, filedFrom, filedScope, pairUp}
-use Rattle.state_file.specs.Rows.{leaseOctets, leaseTotal, partOctets, partRow, fileRangeOctets, rangeRow, fileScopeOctets, scopeRow, sectionOctets, tableOctets, tenantOctets, tenantRow}
+use Rattle.state_file.specs.File.{FilePart, partFormat, scopeFormat, tenantFormat}
+use Rattle.state_file.specs.Records.{filedBook, filedScope, pairUp}
+use Rattle.state_file.specs.Rows.{fileRangeOctets, fileScopeOctets, partOctets, partRow, rangeRow, scopeRow, sectionOctets}
 use Rattle.state_file.specs.StateFile.{octetsOf, roomAfter, writtenOf}
 use Rattle.state_file.specs.declared.Written.{Written}
 
--- ---- a lease
-
-pub id-length : (n x : ℕ) (id : List ℕ) → length id ≡ 32 → n ≡ min x 32 → n ≡ length (take x id)
-id-length n x id e h = h ∙ ap (min x) (sym e) ∙ sym (length-take x id)
-
-pub head-wrote : {r₀ r₁ r₂ r₃ r₄ : List ℕ} {at a b c d t s n : ℕ} (x : ℕ) (id : List ℕ) → length id ≡ 32 → n ≡ min x 32 → at ≤ length r₀ → Wrote r₀ at (t ∷ []) r₁ a → Wrote r₁ a (s ∷ []) r₂ b → Wrote r₂ b (n ∷ []) r₃ c
-    → Wrote r₃ c (take n id) r₄ d → Wrote r₀ at (t ∷ s ∷ length (take x id) ∷ take x id) r₄ d
-head-wrote {r₀} {r₁} {r₂} {r₃} {r₄} {at} {a} {b} {c} {d} {t} {s} {n} x id l m h p q w z =
-    wrote-joined h (wrote-joined h (wrote-joined h p q) (subst (λ (j : ℕ). Wrote r₂ b (j ∷ []) r₃ c) (id-length n x id l m) w))
-    (subst (λ (j : List ℕ). Wrote r₃ c j r₄ d) (ap (λ (j : ℕ). take j id) m ∙ cut-take 32 x id l) z)
-
-pub middle-wrote : {r₀ r₁ r₂ r₃ r₄ : List ℕ} {at a b c d k : ℕ} (x s e : ℕ) → at ≤ length r₀ → Wrote r₀ at (k ∷ []) r₁ a → Wrote r₁ a (octets32 x) r₂ b → Wrote r₂ b (octets32 s) r₃ c → Wrote r₃ c (octets32 e) r₄ d
-    → Wrote r₀ at (k ∷ octets32 x ++ octets32 s ++ octets32 e) r₄ d
-middle-wrote x s e h p q w z = wrote-joined h (wrote-joined h (wrote-joined h p q) w) z
-
-pub addresses-wrote : {r₀ r₁ r₂ : List ℕ} {at a b n : ℕ} (m : ℕ) → at ≤ length r₀ → n ≡ length (offsets m) → Wrote r₀ at (n ∷ []) r₁ a → Wrote r₁ a (offsets m) r₂ b
-    → Wrote r₀ at (length (offsets m) ∷ offsets m) r₂ b
-addresses-wrote {r₀} {r₁} {r₂} {at} {a} m h e p q = wrote-joined h (subst (λ (n : ℕ). Wrote r₀ at (n ∷ []) r₁ a) e p) q
-
-lease-octets : (t : ℕ) (l : Lease) → leaseFormat .write (filedLease t l)
-    ≡ (t ∷ l .scope ∷ length (take (l .«id_len») (l .id)) ∷ take (l .«id_len») (l .id)) ++ (l .kind ∷ octets32 (l .xid) ++ octets32 (l .start) ++ octets32 (l .end)) ++ (length (offsets (l .addresses)) ∷ offsets (l .addresses))
-unfolding filedLease
-lease-octets t l =
-    ap₂ build (plain id) (plain offs)
-    ∙ sym (append-assoc (t ∷ l .scope ∷ length id ∷ id) (l .kind ∷ octets32 (l .xid) ++ octets32 (l .start) ++ octets32 (l .end)) (length offs ∷ offs))
-  where
-    id : List ℕ
-    id = take (l .«id_len») (l .id)
-
-    offs : List ℕ
-    offs = offsets (l .addresses)
-
-    build : List ℕ → List ℕ → List ℕ
-    build i o = t ∷ l .scope ∷ length id ∷ (i ++ (l .kind ∷ octets32 (l .xid) ++ octets32 (l .start) ++ octets32 (l .end) ++ (length offs ∷ o)))
-
--- how many there are
-pub lease-size : (t : ℕ) (l : Lease) → length (leaseFormat .write (filedLease t l)) ≡ length (take (l .«id_len») (l .id)) + 17 + length (offsets (l .addresses))
-lease-size t l = ap length (lease-octets t l) ∙ simp length-append (omega arith)
-
-pub lease-wrote : {r₀ r₁ r₂ r₃ : List ℕ} {at a b c : ℕ} (t : ℕ) (l : Lease) → at ≤ length r₀
-    → Wrote r₀ at (t ∷ l .scope ∷ length (take (l .«id_len») (l .id)) ∷ take (l .«id_len») (l .id)) r₁ a
-    → Wrote r₁ a (l .kind ∷ octets32 (l .xid) ++ octets32 (l .start) ++ octets32 (l .end)) r₂ b
-    → Wrote r₂ b (length (offsets (l .addresses)) ∷ offsets (l .addresses)) r₃ c
-    → Wrote r₀ at (leaseFormat .write (filedLease t l)) r₃ c
-lease-wrote {r₀} {r₁} {r₂} {r₃} {at} {a} {b} {c} t l h p q w = subst (λ (o : List ℕ). Wrote r₀ at o r₃ c) (sym (lease-octets t l)) (wrote-joined h (wrote-joined h p q) w)
-
--- the list that is lent and its length
 -- ---- settings
 pub part-wrote : {r₀ r₁ r₂ : List ℕ} {at a b x y : ℕ} → at ≤ length r₀ → Wrote r₀ at (x ∷ []) r₁ a → Wrote r₁ a (y ∷ []) r₂ b → Wrote r₀ at (x ∷ y ∷ []) r₂ b
 part-wrote h p q = wrote-joined h p q
@@ -125,25 +69,6 @@ pub server-wrote : {r₀ r₁ r₂ r₃ : List ℕ} {a b c : ℕ} (x y : ℕ) �
 server-wrote x y p q w = wrote-joined (omega arith) (wrote-joined (omega arith) p q) w
 
 -- ---- lengths
--- a lease has as many octets whoever's it is
-pub lease-length : (t : ℕ) (l : Lease) (n k r : ℕ) → length (l .id) ≡ 32 → n ≡ min (l .«id_len») 32 → k ≡ length (offsets (l .addresses)) → r ≡ n + 17 + k → (r ≡ length (leaseFormat .write (filedLease t l))) × (r ≤ 113)
-lease-length t l n k r e p q z =
-    let a = id-length n (l .«id_len») (l .id) e p in
-    let b = lease-size t l in
-    let c = length-offsets (l .addresses) in
-    (omega arith, omega arith)
-
-tenant-any : (t k : ℕ) (l : List Lease) → length (writeFrom (leaseOctets t) k l) ≡ length (writeFrom (leaseOctets 0) k l)
-unfolding leaseOctets
-tenant-any t k l = row-same (leaseOctets t) (leaseOctets 0) (λ i x. lease-size t x ∙ sym (lease-size 0 x)) k l
-
-pub table-length : (b : LeaseTable) (sum : ℕ) → length (b .tenants) ≡ 8 → sum ≡ sumTo (λ i. length (tenantOctets 0 (getD (b .tenants) i noLeases))) 8 → sum ≡ length (tableOctets b)
-unfolding tenantRow
-table-length b sum e p =
-    p ∙ sum-same (λ i. length (tenantOctets 0 (getD (b .tenants) i noLeases))) (λ i. length (tenantRow i (getD (b .tenants) i noLeases))) 8 (λ i h. sym (tenant-any (i + 1) 0 (inUse (getD (b .tenants) i noLeases))))
-    ∙ row-sum tenantRow noLeases (b .tenants) 8 8 8 _ e refl refl
-    ∙ ap (λ (x : List TenantLeases). length (writeFrom tenantRow 0 x)) (take-all 8 (b .tenants) (omega arith))
-
 pub ranges-length : (k : ℕ) (l : List ClientRange) → length (writeFrom rangeRow k l) ≡ length l * 8
 unfolding writeFrom rangeRow
 ranges-length k [] = refl
@@ -153,13 +78,6 @@ pub scope-length : (c : Scope) (h n : ℕ) → length (c .reserve) ≡ 8 → len
 scope-length c h n p q e = (sym (scope-size h n c p q e), omega arith)
 
 -- ---- the sections as they are written
-table-octets : (hs : List TenantLeases) → writeAll (leaseFormat .write) (filedFrom 1 (map inUse hs)) ≡ writeFrom tenantRow 0 hs
-unfolding leaseOctets tenantRow
-table-octets hs = ap (writeAll (leaseFormat .write)) (filed-all 1 (map inUse hs)) ∙ tenants-octets (leaseFormat .write) filedLease inUse 0 hs
-
-lease-total : (b : LeaseTable) → length (b .tenants) ≡ 8 → length (filedFrom 1 (leasesOf b)) ≡ leaseTotal b
-lease-total b e = ap length (filed-all 1 (leasesOf b)) ∙ filed-sum filedLease inUse noLeases 8 1 (b .tenants) e
-
 scopes-octets : (n h k : ℕ) (l : List Scope) → writeAll (scopeFormat n .write) (map (filedScope h) l) ≡ writeFrom (scopeRow h) k l
 unfolding writeFrom writeAll scopeRow
 scopes-octets n h k [] = refl
@@ -170,22 +88,23 @@ unfolding writeFrom writeAll rangeRow
 ranges-octets k [] = refl
 ranges-octets k (r ∷ l) = ap (λ (x : List ℕ). tenantFormat .write r ++ x) (ranges-octets (suc k) l)
 
-six : (a b c d e f : List ℕ) → a ++ (b ++ (c ++ (d ++ (e ++ f)))) ≡ ((((a ++ b) ++ c) ++ d) ++ e) ++ f
-six a b c d e f =
-    sym (append-assoc (((a ++ b) ++ c) ++ d) e f ∙ append-assoc ((a ++ b) ++ c) d (e ++ f) ∙ append-assoc (a ++ b) c (d ++ (e ++ f)) ∙ append-assoc a b (c ++ (d ++ (e ++ f))))
+seven : (a b c d e f g : List ℕ) → a ++ (b ++ (c ++ (d ++ (e ++ (f ++ g))))) ≡ (((((a ++ b) ++ c) ++ d) ++ e) ++ f) ++ g
+seven a b c d e f g =
+    sym (append-assoc ((((a ++ b) ++ c) ++ d) ++ e) f g ∙ append-assoc (((a ++ b) ++ c) ++ d) e (f ++ g) ∙ append-assoc ((a ++ b) ++ c) d (e ++ (f ++ g)) ∙ append-assoc (a ++ b) c (d ++ (e ++ (f ++ g)))
+    ∙ append-assoc a b (c ++ (d ++ (e ++ (f ++ g)))))
 
 -- ---- the sections before the names
-pub sections-length : (s : State) (b : LeaseTable) → length (sectionOctets s b) ≡ 12 + length (fileRangeOctets s) + length (fileScopeOctets s) + length (tableOctets b)
+pub sections-length : (s : State) (b : LeaseTable) → length (sectionOctets s b) ≡ 11 + length (fileRangeOctets s) + length (fileScopeOctets s) + length (tableOctets false b)
 unfolding sectionOctets
 sections-length s b = simp length-append (omega arith)
 
 pub sections-wrote : (s : State) (b : LeaseTable) {r₀ r₁ r₂ r₃ r₄ : List ℕ} {a c d f : ℕ} → Wrote r₀ 0 (1 ∷ octets32 (s .server) ++ octets32 (s .clock)) r₁ a → Wrote r₁ a (length (rangesOf s) ∷ fileRangeOctets s) r₂ c
-    → Wrote r₂ c (length (scopesOf s) ∷ fileScopeOctets s) r₃ d → Wrote r₃ d (leaseTotal b ∷ tableOctets b) r₄ f → Wrote r₀ 0 (sectionOctets s b) r₄ f
+    → Wrote r₂ c (length (scopesOf s) ∷ fileScopeOctets s) r₃ d → Wrote r₃ d (tableOctets false b) r₄ f → Wrote r₀ 0 (sectionOctets s b) r₄ f
 unfolding sectionOctets
 sections-wrote s b p q w z = wrote-joined (omega arith) (wrote-joined (omega arith) (wrote-joined (omega arith) p q) w) z
 
-pub size-is : (s : State) (b : LeaseTable) (h x y r : ℕ) → length (s .tenants) ≡ 8 → h ≡ min (s .«tenant_count») 8 → (x ≡ length (fileScopeOctets s)) × (x ≤ 88) → (y ≡ length (tableOctets b)) × (y ≤ 14464)
-    → r ≡ 12 + h * 8 + x + y → (r ≡ length (sectionOctets s b)) × (r ≤ 14628)
+pub size-is : (s : State) (b : LeaseTable) (h x y r : ℕ) → length (s .tenants) ≡ 8 → h ≡ min (s .«tenant_count») 8 → (x ≡ length (fileScopeOctets s)) × (x ≤ 88) → (y ≡ length (tableOctets false b)) × (y ≤ 14977)
+    → r ≡ 11 + h * 8 + x + y → (r ≡ length (sectionOctets s b)) × (r ≤ 15140)
 size-is s b h x y r l p q w z =
     let f = sections-length s b in
     let k = ranges-length 0 (rangesOf s) in
@@ -197,38 +116,49 @@ size-is s b h x y r l p q w z =
     (omega arith, omega arith)
 
 -- ---- the whole file
-module _ (s : State) (b : LeaseTable) (m : Memory) (names : List ℕ) (e : length (b .tenants) ≡ 8) where
-  file-octets : octetsOf (record { state = s; table = b; memory = m; names = names }) ≡ (sectionOctets s b ++ names) ++ memoryOctets m
+module _ (s : State) (b : LeaseTable) (m : Memory) (names : List ℕ) where
+  file-octets : octetsOf (record { state = s; table = b; memory = m; names = names }) ≡ ((sectionOctets s b ++ names) ++ memoryOctets m) ++ tableOctets true b
   unfolding octetsOf filedBook sectionOctets memoryOctets
   file-octets =
       ap₂ {C = List ℕ} (λ (x y : List ℕ). server ++ ((length (rangesOf s) ∷ x) ++ y)) (ranges-octets 0 (rangesOf s))
       (ap₂ {C = List ℕ} (λ (x y : List ℕ). x ++ y)
       (ap₂ {C = List ℕ} (λ (n : ℕ) (x : List ℕ). n ∷ x) (length-map (scopesOf s) (filedScope (s .«tenant_count»))) (scopes-octets (length (rangesOf s)) (s .«tenant_count») 0 (scopesOf s)))
-      (ap₂ {C = List ℕ} (λ (n : ℕ) (x : List ℕ). (n ∷ x) ++ (names ++ memoryOctets m)) (lease-total b e) (table-octets (b .tenants))))
-      ∙ six server (length (rangesOf s) ∷ fileRangeOctets s) (length (scopesOf s) ∷ fileScopeOctets s) (leaseTotal b ∷ tableOctets b) names (memoryOctets m)
+      (ap₂ {C = List ℕ} (λ (x y : List ℕ). x ++ (names ++ (memoryOctets m ++ y))) (leases-octets b) (holds-octets b)))
+      ∙ seven server (length (rangesOf s) ∷ fileRangeOctets s) (length (scopesOf s) ∷ fileScopeOctets s) (tableOctets false b) names (memoryOctets m) (tableOctets true b)
     where
       server : List ℕ
       server = 1 ∷ octets32 (s .server) ++ octets32 (s .clock)
 
-  pub file-length : length (octetsOf (record { state = s; table = b; memory = m; names = names })) ≡ length (sectionOctets s b) + length names + length (memoryOctets m)
-  file-length = ap length file-octets ∙ length-append (sectionOctets s b ++ names) (memoryOctets m) ∙ ap (λ (k : ℕ). k + length (memoryOctets m)) (length-append (sectionOctets s b) names)
+  pub file-length : length (octetsOf (record { state = s; table = b; memory = m; names = names })) ≡ length (sectionOctets s b) + length names + length (memoryOctets m) + length (tableOctets true b)
+  file-length =
+      ap length file-octets ∙ length-append ((sectionOctets s b ++ names) ++ memoryOctets m) (tableOctets true b)
+      ∙ ap (λ (k : ℕ). k + length (tableOctets true b)) (length-append (sectionOctets s b ++ names) (memoryOctets m) ∙ ap (λ (k : ℕ). k + length (memoryOctets m)) (length-append (sectionOctets s b) names))
 
-  pub file-sum : (n k : ℕ) → n ≡ length (sectionOctets s b) → k ≡ length (memoryOctets m) → n + length names + k ≡ length (octetsOf (record { state = s; table = b; memory = m; names = names }))
-  file-sum n k p q = ap₂ (λ (x y : ℕ). x + length names + y) p q ∙ sym file-length
+  pub file-sum : (n k j : ℕ) → n ≡ length (sectionOctets s b) → k ≡ length (memoryOctets m) → j ≡ length (tableOctets true b)
+      → n + length names + k + j ≡ length (octetsOf (record { state = s; table = b; memory = m; names = names }))
+  file-sum n k j p q w = let f = file-length in let e : n + length names + k + j ≡ length (octetsOf (record { state = s; table = b; memory = m; names = names })) = omega arith in e
 
-  -- the room that is left for what is remembered
-  pub file-rest : {r₀ r₁ r₂ : List ℕ} {a c n : ℕ} → length (octetsOf (record { state = s; table = b; memory = m; names = names })) ≤ length r₀ → Wrote r₀ 0 (sectionOctets s b) r₁ a
-      → n ≡ length names → Wrote r₁ a (take n names) r₂ c → length r₂ ≡ length r₀ → c + length (memoryOctets m) ≤ length r₂
-  file-rest {n = n} h p l q e =
-      let f = file-length in
-      let x = p .next in
-      let y = q .next in
-      let z = ap length (take-all n names (omega arith)) in
-      omega arith
+  -- the room that is left for what is remembered, and for the holds
+  module _ {r₀ r₁ r₂ : List ℕ} {a c n : ℕ} (h : length (octetsOf (record { state = s; table = b; memory = m; names = names })) ≤ length r₀) (p : Wrote r₀ 0 (sectionOctets s b) r₁ a)
+      (l : n ≡ length names) (q : Wrote r₁ a (take n names) r₂ c) where
+    names-next : c ≡ length (sectionOctets s b) + length names
+    names-next =
+        let x = p .next in
+        let y = q .next in
+        let z = ap length (take-all n names (omega arith)) in
+        let e : c ≡ length (sectionOctets s b) + length names = omega arith in
+        e
 
-  pub file-wrote : {r₀ r₁ r₂ r₃ : List ℕ} {a c d n : ℕ} → Wrote r₀ 0 (sectionOctets s b) r₁ a → n ≡ length names → Wrote r₁ a (take n names) r₂ c → Wrote r₂ c (memoryOctets m) r₃ d
-      → Wrote r₀ 0 (octetsOf (record { state = s; table = b; memory = m; names = names })) r₃ d
-  file-wrote {n = n} p l q w = wrote-as (sym file-octets) (wrote-joined (omega arith) (wrote-joined (omega arith) p (wrote-as (take-all n names (omega arith)) q)) w)
+    pub file-rest : length r₂ ≡ length r₀ → c + length (memoryOctets m) ≤ length r₂
+    file-rest e = let f = file-length in let x = names-next in omega arith
+
+    pub file-last : {r₃ : List ℕ} {d : ℕ} → Wrote r₂ c (memoryOctets m) r₃ d → length r₃ ≡ length r₀ → d + length (tableOctets true b) ≤ length r₃
+    file-last w e = let f = file-length in let x = names-next in let y = w .next in omega arith
+
+  pub file-wrote : {r₀ r₁ r₂ r₃ r₄ : List ℕ} {a c d f n : ℕ} → Wrote r₀ 0 (sectionOctets s b) r₁ a → n ≡ length names → Wrote r₁ a (take n names) r₂ c → Wrote r₂ c (memoryOctets m) r₃ d → Wrote r₃ d (tableOctets true b) r₄ f
+      → Wrote r₀ 0 (octetsOf (record { state = s; table = b; memory = m; names = names })) r₄ f
+  file-wrote {n = n} p l q w z =
+      wrote-as (sym file-octets) (wrote-joined (omega arith) (wrote-joined (omega arith) (wrote-joined (omega arith) p (wrote-as (take-all n names (omega arith)) q)) w) z)
 
 -- ---- the answers
 module _ (b : Book) (q : Bool) (e : q ≡ soundB (b .state) (b .table)) where

@@ -1,16 +1,14 @@
 -- Definitions: the state file ("campus file" in documents 01 and 02): its values and its format, section by section. Its lists have any length: what
 -- the records cannot hold is still a file, and unsound. A tenant is document 01's house.
-use mathlib.Core.Bool.{Bool, false, true}
-use mathlib.Core.List.{List, []}
+use mathlib.Core.List.{List}
 use Prim.Native.Nat.{ℕ}
-use lib.Dec.{eqb, leb, ltb}
+use lib.Dec.{leb}
 use lib.ListN.{length}
-use Rattle.address_set.specs.AddressSet.{rises}
-use Rattle.identifier.specs.Order.{orderOf}
 use Rattle.lists.specs.Pick.{pick}
 use Rattle.state.specs.declared.ClientRange.{ClientRange}
-use Rattle.format.specs.Format.{Format, Got, _⊗_, _▷_, after, bad, closed, counted, number, octet, only, times, viewed}
-use Rattle.format.specs.Section.{sectionFormat, verbatim}
+use Rattle.format.specs.Format.{Format, Got, _⊗_, _▷_, after, bad, closed, counted, number, octet, times, viewed}
+use Rattle.format.specs.Section.{verbatim}
+use Rattle.lease_file.specs.Section.{FileHold, FileLease, holdsFormat, leasesFormat}
 use Rattle.names.specs.Names.{namesFormat}
 use Rattle.release_file.specs.Section.{FileRelease, releasesFormat}
 
@@ -25,16 +23,6 @@ pub record FileScope : Type 0 where
   pub ttl : ℕ
   pub parts : List FilePart
 
-pub record FileLease : Type 0 where
-  pub tenant : ℕ
-  pub scope : ℕ
-  pub id : List ℕ
-  pub kind : ℕ
-  pub xid : ℕ
-  pub start : ℕ
-  pub end : ℕ
-  pub offsets : List ℕ
-
 pub record File : Type 0 where
   pub server : ℕ
   pub clock : ℕ
@@ -45,17 +33,8 @@ pub record File : Type 0 where
   pub names : List ℕ
   -- document 02, W-202
   pub releases : List FileRelease
-
--- tenant t with identifier a is after tenant u with identifier b: by tenant, then by identifier
-unfoldable pub isAfter : ℕ → List ℕ → ℕ → List ℕ → Bool
-isAfter t a u b = pick (ltb t u) false (pick (ltb u t) true (eqb (orderOf a b) 2))
-
--- what of a lease the next is compared with, and whether a lease is out of order after that
-abbrev pub leaseKey : FileLease → ℕ × List ℕ
-leaseKey x = (x .tenant, x .id)
-
-abbrev pub leaseAfter : ℕ × List ℕ → FileLease → Bool
-leaseAfter k x = isAfter (k .0) (k .1) (x .tenant) (x .id)
+  -- document 02, W-205
+  pub holds : List FileHold
 
 abbrev pub tenantFormat : Format ClientRange
 tenantFormat = viewed (λ p. record { low = p .0; high = p .1 }) (λ t. (t .low, t .high)) (number ⊗ number)
@@ -69,37 +48,30 @@ scopeFormat n =
     viewed (λ p. record { lowest = p .0; size = p .1 .0; ttl = p .1 .1 .0; parts = p .1 .1 .1 }) (λ s. (s .lowest, (s .size, (s .ttl, s .parts))))
     (number ⊗ octet ⊗ octet ⊗ times n partFormat)
 
--- the parts of a lease in the file's order, and the lease of its parts
-abbrev pub LeaseParts : Type 0
-LeaseParts = ℕ × (ℕ × (List ℕ × (ℕ × (ℕ × (ℕ × (ℕ × List ℕ))))))
-
-abbrev pub ofParts : LeaseParts → FileLease
-ofParts p = record { tenant = p .0; scope = p .1 .0; id = p .1 .1 .0; kind = p .1 .1 .1 .0; xid = p .1 .1 .1 .1 .0; start = p .1 .1 .1 .1 .1 .0; end = p .1 .1 .1 .1 .1 .1 .0; offsets = p .1 .1 .1 .1 .1 .1 .1 }
-
-abbrev pub toParts : FileLease → LeaseParts
-toParts l = (l .tenant, (l .scope, (l .id, (l .kind, (l .xid, (l .start, (l .end, l .offsets)))))))
-
-abbrev pub leaseFormat : Format FileLease
-leaseFormat = viewed ofParts toParts (octet ⊗ octet ⊗ counted octet ⊗ octet ⊗ number ⊗ number ⊗ number ⊗ only rises (counted octet))
-
-abbrev pub leasesFormat : Format (List FileLease)
-leasesFormat = sectionFormat leaseKey leaseAfter (0, []) leaseFormat
-
 -- the sections in the file's order, and the file of its sections
 abbrev pub Sections : Type 0
-Sections = (ℕ × ℕ) × (List ClientRange × (List FileScope × (List FileLease × (List ℕ × List FileRelease))))
+Sections = (ℕ × ℕ) × (List ClientRange × (List FileScope × (List FileLease × (List ℕ × (List FileRelease × List FileHold)))))
 
 abbrev pub ofSections : Sections → File
-ofSections p = record { server = p .0 .0; clock = p .0 .1; tenants = p .1 .0; scopes = p .1 .1 .0; leases = p .1 .1 .1 .0; names = p .1 .1 .1 .1 .0; releases = p .1 .1 .1 .1 .1 }
+ofSections p = record {
+  server = p .0 .0;
+  clock = p .0 .1;
+  tenants = p .1 .0;
+  scopes = p .1 .1 .0;
+  leases = p .1 .1 .1 .0;
+  names = p .1 .1 .1 .1 .0;
+  releases = p .1 .1 .1 .1 .1 .0;
+  holds = p .1 .1 .1 .1 .1 .1;
+}
 
 abbrev pub toSections : File → Sections
-toSections f = ((f .server, f .clock), (f .tenants, (f .scopes, (f .leases, (f .names, f .releases)))))
+toSections f = ((f .server, f .clock), (f .tenants, (f .scopes, (f .leases, (f .names, (f .releases, f .holds))))))
 
--- after the scopes and the tenants: leases; document 02's names, "its count that of the scopes", for as many tenants; and its releases, "a last section"
-abbrev pub lastFormat : List FileScope → List ClientRange → Format (List FileLease × (List ℕ × List FileRelease))
-lastFormat cs ts = leasesFormat ⊗ verbatim (namesFormat (length cs) (length ts)) ⊗ releasesFormat
+-- after the scopes and the tenants: leases; document 02's names, "its count that of the scopes", for as many tenants; its releases; and its holds
+abbrev pub lastFormat : List FileScope → List ClientRange → Format (List FileLease × (List ℕ × (List FileRelease × List FileHold)))
+lastFormat cs ts = leasesFormat ⊗ verbatim (namesFormat (length cs) (length ts)) ⊗ releasesFormat ⊗ holdsFormat
 
--- server (its count is always 1), tenants, scopes, leases, names, releases
+-- server (its count is always 1), tenants, scopes, leases, names, releases, holds
 abbrev pub fileFormat : Format File
 fileFormat =
     viewed ofSections toSections
@@ -109,10 +81,10 @@ fileFormat =
 abbrev pub fileLimit : ℕ
 fileLimit = 32768
 
--- no sound book's file has more octets: 12 for the counts and the server, 8 tenants of 8, 4 scopes of 22, 128 leases of 113, 6,229 of names (a count, and
--- for each of 4 scopes 9 lists of a count and 4 names of 43), and 1,345 of releases (a count, and 32 of 42)
+-- no sound book's file has more octets: 13 for the counts and the server, 8 tenants of 8, 4 scopes of 22, 128 leases and holds together, of 113 and 117, 6,229
+-- of names (a count, and for each of 4 scopes 9 lists of a count and 4 names of 43), and 1,345 of releases (a count, and 32 of 42)
 abbrev pub longestFile : ℕ
-longestFile = 22202
+longestFile = 22715
 
 -- the file that octets make; bad is refusal 20: "a bad or missing names section is 20"
 unfoldable pub fileOf : List ℕ → Got File

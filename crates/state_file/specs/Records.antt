@@ -1,57 +1,22 @@
 -- Definitions: how the file's values stand in the book's records, and the book's in the file.
 use mathlib.Core.Bool.{Bool, false}
 use mathlib.Core.List.{List, [], _++_, _∷_, map}
-use Prim.Native.Nat.{_+_, _-_, suc, zero, ℕ}
-use lib.Dec.{eqb, leb, ltb}
+use Prim.Native.Nat.{_-_, ℕ}
+use lib.Dec.{leb, ltb}
 use lib.ListN.{length, replicate, take}
-use Rattle.address_set.specs.AddressSet.{offsets, readOffsets}
-use Rattle.lists.specs.All.{allBy, allTo}
-use Rattle.lists.specs.Filter.{filterBy}
 use Rattle.lists.specs.Pick.{pick}
-use Rattle.state.specs.Book.{Book, leaseWith, leasesOf, rangesOf, scopesOf, tableOf, zeroScope}
+use Rattle.state.specs.Book.{Book, rangesOf, scopesOf, tableOf, zeroScope}
 use Rattle.state.specs.declared.ClientRange.{ClientRange}
-use Rattle.state.specs.declared.Lease.{Lease}
 use Rattle.state.specs.declared.LeaseTable.{LeaseTable}
 use Rattle.state.specs.declared.Scope.{Scope}
 use Rattle.state.specs.declared.State.{State}
+use Rattle.lease_file.specs.Records.{filedHolds, filedLeases, mergedFrom, recordsFitB}
 use Rattle.release_file.specs.Section.{filedMemory, releasesFitB}
-use Rattle.state_file.specs.File.{File, FileLease, FilePart, FileScope}
+use Rattle.state_file.specs.File.{File, FilePart, FileScope}
 
 -- l and then z, n in all
 unfoldable pub filled : {A : Type 0} → A → ℕ → List A → List A
 filled z n l = l ++ replicate (n - length l) z
-
--- ---- leases
--- a lease of the file as a record keeps it
-unfoldable pub stored : FileLease → Lease
-stored x = leaseWith (x .scope) (length (x .id)) (filled 0 32 (x .id)) (x .kind) (x .xid) (x .start) (x .end) (readOffsets (x .offsets))
-
--- a record of tenant t as it stands in the file
-unfoldable pub filedLease : ℕ → Lease → FileLease
-filedLease t l = record {
-  tenant = t;
-  scope = l .scope;
-  id = take (l .«id_len») (l .id);
-  kind = l .kind;
-  xid = l .xid;
-  start = l .start;
-  end = l .end;
-  offsets = offsets (l .addresses);
-}
-
--- tenant t's leases
-abbrev pub ofTenant : ℕ → List FileLease → List FileLease
-ofTenant t xs = filterBy (λ x. eqb (x .tenant) t) xs
-
--- the leases of n tenants from t on, tenant by tenant
-unfoldable pub tenantsFrom : ℕ → ℕ → List FileLease → List (List Lease)
-tenantsFrom t zero xs = []
-tenantsFrom t (suc n) xs = map stored (ofTenant t xs) ∷ tenantsFrom (suc t) n xs
-
--- the leases of the tenants from t on, in the file's order
-unfoldable pub filedFrom : ℕ → List (List Lease) → List FileLease
-filedFrom t [] = []
-filedFrom t (l ∷ ls) = map (filedLease t) l ++ filedFrom (suc t) ls
 
 -- ---- scopes
 unfoldable pub storedScope : FileScope → Scope
@@ -89,7 +54,7 @@ storedState f = record {
 
 -- the lease records of a file
 unfoldable pub storedTable : File → LeaseTable
-storedTable f = tableOf (tenantsFrom 1 8 (f .leases))
+storedTable f = tableOf (mergedFrom 1 8 (f .leases) (f .holds))
 
 -- the file of a book
 unfoldable pub filedBook : Book → File
@@ -98,33 +63,13 @@ filedBook b = record {
   clock = b .state .clock;
   tenants = rangesOf (b .state);
   scopes = map (filedScope (b .state .«tenant_count»)) (scopesOf (b .state));
-  leases = filedFrom 1 (leasesOf (b .table));
+  leases = filedLeases (b .table);
   names = b .names;
   releases = filedMemory (b .memory);
+  holds = filedHolds (b .table);
 }
 
 -- ---- limits
--- an offset that a set of addresses can have
-abbrev pub isOffset : ℕ → Bool
-isOffset a = ltb a 64
-
--- a lease that a record can hold: of one of eight tenants (rule 7), with an identifier of at most 32 octets (rule 1) and offsets below 64 (rule 2);
--- rules of document 01's "Sound" by their place
-unfoldable pub storableB : FileLease → Bool
-storableB x =
-    pick (ltb (x .tenant) 1) false
-    (pick (ltb 8 (x .tenant)) false
-    (pick (ltb 32 (length (x .id))) false
-    (allBy isOffset (x .offsets))))
-
--- tenant t has at most 16 leases (rule 1)
-unfoldable pub fewOf : List FileLease → ℕ → Bool
-fewOf xs t = leb (length (ofTenant t xs)) 16
-
--- the records can hold the leases
-unfoldable pub leasesFitB : List FileLease → Bool
-leasesFitB xs = pick (allBy storableB xs) (allTo (λ i. fewOf xs (i + 1)) 8) false
-
 -- so many tenants and scopes (rule 1)
 unfoldable pub countsFit : ℕ → ℕ → Bool
 countsFit tenants scopes = pick (ltb 8 tenants) false (leb scopes 4)
@@ -133,6 +78,6 @@ countsFit tenants scopes = pick (ltb 8 tenants) false (leb scopes 4)
 abbrev pub settingsFitB : File → Bool
 settingsFitB f = countsFit (length (f .tenants)) (length (f .scopes))
 
--- the records can hold the file: its settings, its leases and its releases
+-- the records can hold the file: its settings, its leases and holds, and its releases
 unfoldable pub fitsB : File → Bool
-fitsB f = pick (settingsFitB f) (pick (leasesFitB (f .leases)) (releasesFitB (f .releases)) false) false
+fitsB f = pick (settingsFitB f) (pick (recordsFitB (f .leases) (f .holds)) (releasesFitB (f .releases)) false) false

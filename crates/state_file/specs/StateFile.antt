@@ -1,5 +1,5 @@
--- Definitions: what the reader and the writer of the state file answer: document 01, "Campus file and sound book"; document 02, W-201 and W-202, for the names
--- and the releases.
+-- Definitions: what the reader and the writer of the state file answer: document 01, "Campus file and sound book"; document 02, W-201, W-202 and W-205, for the
+-- names, the releases and the holds.
 use mathlib.Core.Bool.{_&&_}
 use mathlib.Core.List.{List, [], _++_}
 use Prim.Native.Nat.{ℕ}

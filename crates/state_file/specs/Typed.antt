@@ -22,6 +22,7 @@ pub record TypedLease (l : Lease) : Type 0 where
   pub start : l .start < 4294967296
   pub end : l .end < 4294967296
   pub addresses : l .addresses < 2 ^ 64
+  pub lapse : l .lapse < 4294967296
 
 pub record TypedTenant (t : TenantLeases) : Type 0 where
   pub long : length (t .leases) ≡ 16

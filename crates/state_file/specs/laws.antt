@@ -1,4 +1,3 @@
 pub mod File
 pub mod Local
 pub mod Records
-pub mod Tenants

@@ -45,6 +45,7 @@ pub struct Places {
     pub leases: usize,
     pub names: usize,
     pub releases: usize,
+    pub holds: usize,
 }
 
 // What the form of octets is: a file's, with its places, or none.

@@ -1,30 +1,24 @@
-// The book of a file whose form is right: the settings, then the leases, tenant by tenant, then soundness.
-ghost use mathlib.Core.Bool.{true};
+// The book of a file whose form is right: the settings, then the leases and holds, then the releases, then soundness.
 ghost use mathlib.Core.List.{map};
 ghost use mathlib.Core.Path.{_≡_};
 ghost use Prim.Native.Nat.{_*_, _+_, _≤_};
-ghost use lib.ListN.{drop, getD, length, take};
-ghost use Rattle.address_set.specs.AddressSet.{readOffsets};
+ghost use lib.ListN.{getD, length};
 ghost use Rattle.format.specs.Place.{row};
-ghost use Rattle.state.specs.Book.{tableOf, zeroScope};
-ghost use Rattle.state_file.specs.Place.{AllStorable, Formed, LeasesIn, SettingsIn, StorableAt, fileAt, keptAll, fileLeaseAt, leasesAt, rangeAt, fileScopeAt, sectionAt, stateAt};
-ghost use Rattle.state_file.specs.Records.{filled, leasesFitB, stored, storedScope, tenantsFrom, zeroRange};
+ghost use Rattle.state.specs.Book.{zeroScope};
+ghost use Rattle.state_file.specs.Place.{Formed, SettingsIn, fileAt, fileScopeAt, rangeAt, stateAt};
+ghost use Rattle.state_file.specs.Records.{filled, storedScope, zeroRange};
 ghost use Rattle.state_file.specs.StateFile.{judged, loaded, refused};
 use crate::Loaded;
 use crate::Places;
 use crate::form::wide;
 use crate::limits::fits;
-use crate::limits::lease_next;
-use crate::limits::tenant_place;
 use crate::no_memory;
 use crate::no_state;
 use state::ClientRange;
-use state::Lease;
 use state::LeaseTable;
 use state::Memory;
 use state::Scope;
 use state::State;
-use state::TenantLeases;
 
 pub fn load(s: &[u8], places: Places) -> Loaded
     requires { ⌜ Formed (now s) places ⌝ }
@@ -32,7 +26,7 @@ pub fn load(s: &[u8], places: Places) -> Loaded
 {
     if fits(s, places) {
         let state = state_at(s, places.scopes);
-        let table = table_at(s, places.leases);
+        let table = lease_file::load(s, places.leases, places.holds);
         let memory = release_file::load(s, places.releases);
         return judge(state, table, memory);
     }
@@ -167,64 +161,4 @@ fn column_at(s: &[u8], at: usize, n: usize) -> [u8; 8]
         i += 1;
     }
     out
-}
-
-// The leases, whose section starts at `at`.
-fn table_at(s: &[u8], at: usize) -> LeaseTable
-    requires { ⌜ LeasesIn (now s) at × (leasesFitB (sectionAt (now s) at) ≡ true) ⌝ }
-    ensures { λ r. ⌜ r ≡ tableOf (tenantsFrom 1 8 (sectionAt (now (s .entry)) at)) ⌝ }
-{
-    let count = wide(s[at]);
-    let tenants = all_leases(s, at + 1, count);
-    LeaseTable { tenants }
-}
-
-// The leases of the eight tenants among `count` records that start at `from`.
-fn all_leases(s: &[u8], from: usize, count: usize) -> [TenantLeases; 8]
-    requires { ⌜ AllStorable (now s) from count ⌝ }
-    ensures { λ r. ⌜ r ≡ keptAll (leasesAt (now (s .entry)) from count) ⌝ }
-{
-    let z = state::no_leases();
-    let mut out = [z; 8];
-    let mut here = from;
-    let mut i: usize = 0;
-    while i < count {
-        let t = tenant_place(s, here);
-        let h = out[t];
-        let g = state::push(h, lease_at(s, here));
-        out[t] = g;
-        here = lease_next(s, here);
-        i += 1;
-    }
-    out
-}
-
-// The lease whose record starts at `at`.
-fn lease_at(s: &[u8], at: usize) -> Lease
-    requires { ⌜ StorableAt (now s) at ⌝ }
-    ensures { λ r. ⌜ r ≡ stored (fileLeaseAt (now (s .entry)) at) ⌝ }
-{
-    let n = wide(s[at + 2]);
-    let k = wide(s[at + (n + 16)]);
-    let id = octets::read_run(s, at + 3, n);
-    let addresses = set_at(s, at + (n + 17), k);
-    Lease {
-        scope: s[at + 1],
-        id_len: s[at + 2],
-        id,
-        kind: s[at + (n + 3)],
-        xid: octets::read_u32(s, at + (n + 4)),
-        start: octets::read_u32(s, at + (n + 8)),
-        end: octets::read_u32(s, at + (n + 12)),
-        addresses,
-    }
-}
-
-// The set of the k offsets from `at` on.
-fn set_at(s: &[u8], at: usize, k: usize) -> u64
-    requires { ⌜ at + k ≤ length (now s) ⌝ }
-    ensures { λ r. ⌜ r ≡ readOffsets (take k (drop at (now (s .entry)))) ⌝ }
-{
-    let end = at + k;
-    address_set::from_offsets(&s[at..end])
 }

@@ -44,6 +44,7 @@ pub fn campus_at(clock: u32, pool: Scope, leases: &[Lease]) -> Campus {
         scopes: vec![pool],
         leases: leases.to_vec(),
         releases: vec![],
+        holds: vec![],
     }
 }
 

@@ -1,7 +1,7 @@
 //! What the tests share: hex, the specimens' book and calls with a watched room.
 #![allow(dead_code)]
 
-use second::{serve, Book, House, Lease, Quota, Release, Scope, ScopeNames};
+use second::{serve, Book, Hold, House, Lease, Quota, Release, Scope, ScopeNames};
 
 pub const CLIENT_1: u32 = 0x0A01_0005;
 pub const CLIENT_2: u32 = 0x0A02_0005;
@@ -22,7 +22,7 @@ pub fn hex(text: &str) -> Vec<u8> {
 }
 
 /// Scope 239.192.0.0, size 4; house 1 share 2 limit 3; house 2 share 1 limit 4; clock 1000; server 10.1.1.1.
-/// No names, and no release remembered.
+/// No names, no release remembered and nothing held.
 pub fn specimen_book() -> Book {
     Book {
         server: 0x0A01_0101,
@@ -46,6 +46,7 @@ pub fn specimen_book() -> Book {
         leases: vec![],
         names: vec![ScopeNames::none(2)],
         releases: vec![],
+        holds: vec![],
     }
 }
 
@@ -60,6 +61,13 @@ pub fn lease(house: u8, identifier: &[u8], start: u32, end: u32, offsets: &[u8])
         end,
         offsets: offsets.to_vec(),
     }
+}
+
+/// A hold of type 1 with the transaction id 1.
+pub fn hold(house: u8, identifier: &[u8], period: (u32, u32), offsets: &[u8], lapse: u32) -> Hold {
+    let mut lease = lease(house, identifier, period.0, period.1, offsets);
+    lease.message_type = 1;
+    Hold { lease, lapse }
 }
 
 pub fn release(house: u8, identifier: &[u8], transaction: u32, time: u32) -> Release {

@@ -55,6 +55,40 @@ pub struct Lease {
     pub offsets: Vec<u8>,
 }
 
+impl Lease {
+    /// House(1), scope(1), identifier length(1), the identifier, type(1), transaction id(4), start(4), end(4), address count(1), offsets.
+    pub fn octets(&self) -> Vec<u8> {
+        let mut octets = vec![self.house, self.scope, self.identifier.len() as u8];
+        octets.extend(&self.identifier);
+        octets.push(self.kind);
+        for number in [self.transaction, self.start, self.end] {
+            octets.extend(number.to_be_bytes());
+        }
+        octets.push(self.offsets.len() as u8);
+        octets.extend(&self.offsets);
+        octets
+    }
+
+    /// What leases are ordered by, and holds by themselves.
+    pub fn key(&self) -> (u8, &[u8]) {
+        (self.house, &self.identifier)
+    }
+}
+
+/// An offer that is held: addresses and period as a lease has them, and the time at which it lapses.
+#[derive(Clone, Debug, PartialEq, Eq)]
+pub struct Hold {
+    pub lease: Lease,
+    pub lapse: u32,
+}
+
+impl Hold {
+    /// As a lease, and the lapse(4).
+    pub fn octets(&self) -> Vec<u8> {
+        [&self.lease.octets()[..], &self.lapse.to_be_bytes()].concat()
+    }
+}
+
 /// A release that is remembered.
 #[derive(Clone, Debug, PartialEq, Eq)]
 pub struct Release {
@@ -85,30 +119,49 @@ pub struct Campus {
     pub scopes: Vec<Scope>,
     pub leases: Vec<Lease>,
     pub releases: Vec<Release>,
+    pub holds: Vec<Hold>,
 }
 
 impl Campus {
-    /// Puts leases and releases in the file's order. Releases of a house at one time stay in theirs.
+    /// The leases, and what the holds have as leases do: each takes one of its house's records.
+    pub fn records(&self) -> impl Iterator<Item = &Lease> {
+        let held = self.holds.iter().map(|hold| &hold.lease);
+        self.leases.iter().chain(held)
+    }
+
+    /// Puts leases, releases and holds in the file's order. Releases of a house at one time stay in theirs.
     pub fn sort(&mut self) {
-        self.leases
-            .sort_by(|a, b| (a.house, &a.identifier).cmp(&(b.house, &b.identifier)));
+        self.leases.sort_by(|a, b| a.key().cmp(&b.key()));
         self.releases
             .sort_by_key(|release| (release.house, release.time));
+        self.holds.sort_by(|a, b| a.lease.key().cmp(&b.lease.key()));
     }
 
-    /// The campus file: six sections, each after its count.
+    /// The campus file: seven sections, each after its count.
     pub fn octets(&self) -> Vec<u8> {
-        [self.front(), self.names(), self.releases()].concat()
+        self.sections().concat()
     }
 
-    /// The last section: the releases that are remembered.
+    /// The sections up to the leases as one, then the names, the releases, the holds.
+    pub fn sections(&self) -> [Vec<u8>; 4] {
+        [self.front(), self.names(), self.releases(), self.holds()]
+    }
+
+    /// The last section: the offers that are held.
+    pub fn holds(&self) -> Vec<u8> {
+        let mut section = vec![self.holds.len() as u8];
+        section.extend(self.holds.iter().flat_map(Hold::octets));
+        section
+    }
+
+    /// The section before it: the releases that are remembered.
     pub fn releases(&self) -> Vec<u8> {
         let mut section = vec![self.releases.len() as u8];
         section.extend(self.releases.iter().flat_map(Release::octets));
         section
     }
 
-    /// The section before it: for each scope 1 + houses lists of names, each after its count.
+    /// The section before that: for each scope 1 + houses lists of names, each after its count.
     pub fn names(&self) -> Vec<u8> {
         let mut section = vec![self.scopes.len() as u8];
         for scope in &self.scopes {
@@ -138,16 +191,7 @@ impl Campus {
             file.extend(scope.parts.iter().flat_map(|part| [part.0, part.1]));
         }
         file.push(self.leases.len() as u8);
-        for lease in &self.leases {
-            file.extend([lease.house, lease.scope, lease.identifier.len() as u8]);
-            file.extend(&lease.identifier);
-            file.push(lease.kind);
-            for number in [lease.transaction, lease.start, lease.end] {
-                file.extend(number.to_be_bytes());
-            }
-            file.push(lease.offsets.len() as u8);
-            file.extend(&lease.offsets);
-        }
+        file.extend(self.leases.iter().flat_map(Lease::octets));
         file
     }
 }

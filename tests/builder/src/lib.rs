@@ -5,7 +5,7 @@ mod campus;
 mod message;
 mod read;
 
-pub use campus::{Campus, Lease, Name, Release, Scope};
+pub use campus::{Campus, Hold, Lease, Name, Release, Scope};
 pub use message::*;
 
 use std::borrow::Cow;

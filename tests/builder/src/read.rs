@@ -1,6 +1,6 @@
 //! Campus files read back, by their layout alone.
 
-use crate::campus::{Campus, Lease, Name, Release, Scope};
+use crate::campus::{Campus, Hold, Lease, Name, Release, Scope};
 
 /// The octets that are left.
 struct Octets<'a>(&'a [u8]);
@@ -63,6 +63,7 @@ impl Campus {
             scope.names = names;
         }
         let releases = octets.list(release)?;
+        let holds = octets.list(hold)?;
         octets.0.is_empty().then_some(Campus {
             server,
             clock,
@@ -70,6 +71,7 @@ impl Campus {
             scopes,
             leases,
             releases,
+            holds,
         })
     }
 }
@@ -111,5 +113,12 @@ fn release(octets: &mut Octets) -> Option<Release> {
         identifier: octets.counted()?,
         transaction: octets.u32()?,
         time: octets.u32()?,
+    })
+}
+
+fn hold(octets: &mut Octets) -> Option<Hold> {
+    Some(Hold {
+        lease: lease(octets)?,
+        lapse: octets.u32()?,
     })
 }

@@ -1,8 +1,9 @@
 //! Minimum Lease Time and Maximum Start Time: values of both around every edge, and what is due of a call that has one of them, with why it is.
-//! What is due follows from the answer to the same call without both: they may refuse, and change nothing else.
+//! What is due follows from the answer to the same call without both: they may refuse, and change nothing else. What they do to an offer that is
+//! held is counted in `judged`.
 
+use crate::asked::{number_of, Asked};
 use crate::random::Random;
-use crate::releases::Asked;
 use crate::{DEFAULT_LEASE, LAST_TIME, LONGEST_LEASE, SKEW};
 use builder::*;
 
@@ -76,6 +77,8 @@ struct Bounded {
     /// The house's lease on the identifier: start, length, and whether this sends its message again.
     old: Option<(u32, u32)>,
     is_resend: bool,
+    /// Whether the period is that of a hold on the identifier.
+    is_held: bool,
     /// Start and length that are given without both, or the error of a NAK.
     given: Option<(u32, u32)>,
     error: Option<u32>,
@@ -83,8 +86,8 @@ struct Bounded {
 
 impl Bounded {
     fn new(asked: &Asked, plain: &[u8]) -> Bounded {
-        let sent = |code| number_of(asked.datagram, code);
-        let lease = asked.lease().filter(|_| asked.holds());
+        let sent = |code| asked.number(code);
+        let lease = asked.lease().filter(|_| asked.is_leased());
         Bounded {
             kind: asked.kind,
             clock: asked.clock,
@@ -95,6 +98,7 @@ impl Bounded {
             latest: sent(15),
             old: lease.map(|lease| (lease.start, lease.end - lease.start)),
             is_resend: asked.is_resend(),
+            is_held: asked.hold().is_some(),
             given: number_of(plain, 6).zip(number_of(plain, 1)),
             error: value_of(plain, 16).map(|value| value[1].into()),
         }
@@ -385,17 +389,12 @@ pub fn due(campus: &Campus, call: &Call, outcome: u8, plain: &[u8]) -> Option<Du
         Some(_) if bounded.kind == DISCOVER => (8, Vec::new()),
         Some(_) => (0, asked.reply(refused)),
     };
-    let seen = rows(bounded.kind).into_iter().filter(|row| row.1(&bounded));
+    let seen = rows(bounded.kind).into_iter();
+    let seen = seen.filter(|row| !bounded.is_held && row.1(&bounded));
     Some(Due {
         outcome,
         reply,
         short,
         why: seen.map(|row| name(bounded.kind, row)).collect(),
     })
-}
-
-/// The value of an option of four octets.
-fn number_of(datagram: &[u8], code: u16) -> Option<u32> {
-    let value = value_of(datagram, code)?.try_into().ok()?;
-    Some(u32::from_be_bytes(value))
 }

@@ -2,12 +2,13 @@
 
 use crate::bounds;
 use crate::campus::{beside, identifier};
+use crate::holds::{Offer, HOLD_TIME};
 use crate::message;
 use crate::names;
 use crate::random::Random;
 use crate::releases::{self, MOST_RELEASES, RESEND_TIME};
 use crate::{DEFAULT_LEASE, HORIZON, LAST_TIME, LONGEST_LEASE, SKEW};
-use builder::{number, requested_language, Call, Campus, Lease, Message, Release};
+use builder::{number, requested_language, value_of, Call, Campus, Lease, Message, Release};
 use builder::{DISCOVER, GETINFO, RELEASE, RENEW, REQUEST};
 
 /// What a client may refer to: a lease of the file, or one that it has asked for.
@@ -26,7 +27,9 @@ struct Talk<'a> {
     known: Vec<Known>,
     /// Releases of the file, and what was asked to be released since.
     released: Vec<Release>,
-    /// Starts and ends of periods.
+    /// Holds of the file, and what was asked to be offered since.
+    offers: Vec<Offer>,
+    /// Starts and ends of periods, and when holds lapse.
     times: Vec<u32>,
     calls: Vec<Call<'static>>,
     /// The damage that comes next.
@@ -40,6 +43,7 @@ pub fn list(random: &mut Random, campus: &Campus, count: usize, turn: usize) -> 
         clock: campus.clock,
         known: Vec::new(),
         released: campus.releases.clone(),
+        offers: Vec::new(),
         times: Vec::new(),
         calls: Vec::new(),
         damage: turn,
@@ -53,6 +57,11 @@ pub fn list(random: &mut Random, campus: &Campus, count: usize, turn: usize) -> 
             transaction: lease.transaction,
         });
     }
+    for hold in &campus.holds {
+        let Lease { start, end, .. } = hold.lease;
+        talk.times.extend([start, end, hold.lapse]);
+        talk.offers.push(Offer::of_hold(campus, hold));
+    }
     for _ in 0..count {
         let call = talk.call(random);
         talk.calls.push(call);
@@ -63,9 +72,11 @@ pub fn list(random: &mut Random, campus: &Campus, count: usize, turn: usize) -> 
 impl Talk<'_> {
     fn call(&mut self, random: &mut Random) -> Call<'static> {
         let again = self.known_release(random);
-        let time = match &again {
-            Some(release) => self.time_after(random, release),
-            None => self.time(random),
+        let offer = self.known_offer(random).filter(|_| again.is_none());
+        let time = match (&again, &offer) {
+            (Some(release), _) => self.time_after(random, release),
+            (_, Some(offer)) => offer.time(random, self.clock),
+            _ => self.time(random),
         };
         let room = if random.chance(4) {
             random.pick(&[0, 1, 100, 511, 511])
@@ -75,32 +86,11 @@ impl Talk<'_> {
         if room >= 512 {
             self.clock = self.clock.max(time);
         }
-        if let Some(release) = again {
-            let house = usize::from(release.house) - 1;
-            let house = Some(house).filter(|_| !random.chance(10));
-            return Call {
-                time,
-                client: self.client(random, house),
-                room,
-                datagram: releases::sent_again(random, &release).octets().into(),
-            };
-        }
-        if !self.calls.is_empty() && random.chance(12) {
-            // The same datagram again, from the same client or from another.
-            let mut call = random.pick(&self.calls);
-            if random.chance(15) {
-                call.client = self.client(random, None);
-            }
-            return Call { time, room, ..call };
-        }
-        let (house, message) = self.message(random);
-        let client = self.client(random, Some(house));
-        let datagram = if random.chance(16) {
-            self.damage += 1;
-            let (_, damage) = message::DAMAGES[self.damage % message::DAMAGES.len()];
-            damage(random, message)
-        } else {
-            message.octets()
+        let (client, datagram) = match (again, offer) {
+            (Some(release), _) => self.release_again(random, &release),
+            (_, Some(offer)) => self.come_back(random, &offer),
+            _ if !self.calls.is_empty() && random.chance(12) => self.same_again(random),
+            _ => self.anew(random),
         };
         Call {
             time,
@@ -108,6 +98,44 @@ impl Talk<'_> {
             room,
             datagram: datagram.into(),
         }
+    }
+
+    /// A RELEASE that may be remembered: where it comes from, and its octets.
+    fn release_again(&self, random: &mut Random, release: &Release) -> (u32, Vec<u8>) {
+        let house = usize::from(release.house) - 1;
+        let house = Some(house).filter(|_| !random.chance(10));
+        let client = self.client(random, house);
+        (client, releases::sent_again(random, release).octets())
+    }
+
+    /// A message of one that may have an offer.
+    fn come_back(&mut self, random: &mut Random, offer: &Offer) -> (u32, Vec<u8>) {
+        let message = offer.come_back(random, self.campus, self.clock);
+        self.keep(offer.house, &message);
+        let house = Some(offer.house).filter(|_| !random.chance(4));
+        (self.client(random, house), message.octets())
+    }
+
+    /// The same datagram again, from the same client or from another.
+    fn same_again(&self, random: &mut Random) -> (u32, Vec<u8>) {
+        let call = random.pick(&self.calls);
+        let client = match random.chance(15) {
+            true => self.client(random, None),
+            false => call.client,
+        };
+        (client, call.datagram.into_owned())
+    }
+
+    /// Another message, which may be damaged.
+    fn anew(&mut self, random: &mut Random) -> (u32, Vec<u8>) {
+        let (house, message) = self.message(random);
+        let client = self.client(random, Some(house));
+        if !random.chance(16) {
+            return (client, message.octets());
+        }
+        self.damage += 1;
+        let (_, damage) = message::DAMAGES[self.damage % message::DAMAGES.len()];
+        (client, damage(random, message))
     }
 
     /// A release to send again, at times: often the last.
@@ -122,6 +150,21 @@ impl Talk<'_> {
                 let mut older = self.released.iter().rev().filter(of_house);
                 older.nth(MOST_RELEASES).cloned()
             }
+            3 => {
+                // One that an offer since has made forgotten.
+                let is_offered = |r: &&Release| self.offers.iter().any(|offer| offer.is_of(r));
+                self.released.iter().rev().find(is_offered).cloned()
+            }
+            _ => None,
+        }
+    }
+
+    /// An offer to come back to, at times: often the last.
+    fn known_offer(&self, random: &mut Random) -> Option<Offer> {
+        let last = self.offers.last()?;
+        match random.below(24) {
+            0..=2 => Some(last.clone()),
+            3 | 4 => Some(random.pick(&self.offers)),
             _ => None,
         }
     }
@@ -195,8 +238,8 @@ impl Talk<'_> {
     /// A message, and the house that it is meant to come from.
     fn message(&mut self, random: &mut Random) -> (usize, Message) {
         let kind = random.pick(&[
-            DISCOVER, DISCOVER, REQUEST, REQUEST, REQUEST, REQUEST, REQUEST, RENEW, RENEW, RENEW,
-            RELEASE, RELEASE, GETINFO, GETINFO,
+            DISCOVER, DISCOVER, DISCOVER, REQUEST, REQUEST, REQUEST, REQUEST, REQUEST, RENEW,
+            RENEW, RENEW, RELEASE, RELEASE, GETINFO, GETINFO,
         ]);
         let wants_known = if matches!(kind, RENEW | RELEASE) {
             85
@@ -275,22 +318,39 @@ impl Talk<'_> {
             }
         }
         random.shuffle(&mut message.options);
-        if kind == RELEASE {
-            self.released.push(Release {
+        self.keep(house, &message);
+        (house, message)
+    }
+
+    /// Keeps in mind what a message may have brought about.
+    fn keep(&mut self, house: usize, message: &Message) {
+        let (kind, transaction) = (message.kind, message.transaction);
+        let octets = message.octets();
+        let Some(identifier) = value_of(&octets, 3).map(<[u8]>::to_vec) else {
+            return;
+        };
+        match kind {
+            RELEASE => self.released.push(Release {
                 house: house as u8 + 1,
-                identifier: ident,
+                identifier,
                 transaction,
                 time: self.clock,
-            });
-        } else if matches!(kind, REQUEST | RENEW) {
-            self.known.push(Known {
+            }),
+            REQUEST | RENEW => self.known.push(Known {
                 house,
-                identifier: ident,
+                identifier,
                 kind,
                 transaction,
-            });
+            }),
+            DISCOVER => {
+                let is_held = |offer: &Offer| offer.is_held(house, &identifier, self.clock);
+                let offer = Offer::of_discover(house, message, self.clock);
+                let offer = offer.filter(|_| !self.offers.iter().any(is_held));
+                self.times.extend(offer.as_ref().map(|offer| offer.lapse));
+                self.offers.extend(offer);
+            }
+            _ => {}
         }
-        (house, message)
     }
 
     /// Server Identifier: mostly ours.
@@ -396,6 +456,7 @@ impl Talk<'_> {
                 7..=10 => self
                     .edge(random)
                     .map_or(1_000, |edge| edge.saturating_sub(start)),
+                11 => random.pick(&[HOLD_TIME - 1, HOLD_TIME, HOLD_TIME, HOLD_TIME + 1]),
                 _ => random.pick(&[2, 100, 1_000, DEFAULT_LEASE, 86_400]),
             };
             message.put_u32(1, length);

@@ -1,5 +1,6 @@
 //! Sound campuses of every shape; they rest on neither implementation.
 
+use crate::holds;
 use crate::names;
 use crate::random::Random;
 use crate::releases;
@@ -9,7 +10,7 @@ use builder::{Campus, Lease, Release, Scope};
 /// The multicast addresses that pools lie in.
 pub const LOWEST_POOL: u32 = 0xE000_0000;
 pub const HIGHEST_POOL: u32 = 0xEFFF_FFFF;
-/// Lease records of a house.
+/// Records of a house, for leases and holds together.
 pub const RECORDS: usize = 16;
 
 /// A sound campus.
@@ -23,6 +24,7 @@ pub fn sound(random: &mut Random) -> Campus {
         scopes: pools(random, scope_count, house_count),
         leases: Vec::new(),
         releases: Vec::new(),
+        holds: Vec::new(),
     };
     lend(&mut campus, random);
     releases::remember(&mut campus, random);
@@ -30,12 +32,13 @@ pub fn sound(random: &mut Random) -> Campus {
     campus
 }
 
-/// Gives every house addresses within its limit and the scope's sum, and leases on them.
+/// Gives every house addresses within its limit and the scope's sum, and leases and holds on them.
 fn lend(campus: &mut Campus, random: &mut Random) {
     let fullness = random.pick(&[0, 1, 2, 2, 3, 3]);
     if fullness == 0 {
         return;
     }
+    let held = random.pick(&[0, 0, 10, 30, 30, 100]);
     let scopes = campus.scopes.iter();
     let own: Vec<Vec<Vec<u8>>> = scopes.map(|scope| own_addresses(scope, random)).collect();
     let mut until = vec![[0_u32; 64]; campus.scopes.len()];
@@ -62,12 +65,17 @@ fn lend(campus: &mut Campus, random: &mut Random) {
                 until[scope][usize::from(offset)] = end;
             }
             let lease = new_lease(campus, random, house, scope, (start, end), offsets);
-            campus.leases.push(lease);
+            if random.chance(held) {
+                let hold = holds::of_lease(campus, random, lease);
+                campus.holds.push(hold);
+            } else {
+                campus.leases.push(lease);
+            }
         }
     }
 }
 
-/// For one scope, the addresses that each house may hold leases on.
+/// For one scope, the addresses that each house may have leases and holds on.
 fn own_addresses(scope: &Scope, random: &mut Random) -> Vec<Vec<u8>> {
     let (size, parts) = (scope.size, &scope.parts);
     let mut sum: usize = parts.iter().map(|part| usize::from(part.0)).sum();
@@ -141,28 +149,36 @@ pub fn new_lease(
     }
 }
 
-/// An identifier on which a house has neither a lease nor a release; another house may have one.
+/// An identifier on which a house has neither a lease nor a hold nor a release; another house may have one.
 pub fn fresh_identifier(campus: &Campus, random: &mut Random, house: u8) -> Vec<u8> {
+    let records: Vec<&Lease> = campus.records().collect();
     loop {
-        let identifier = match (campus.leases.last(), campus.releases.last()) {
-            (Some(lease), _) if random.chance(30) => beside(random, &lease.identifier),
-            (Some(_), _) if random.chance(10) => random.pick(&campus.leases).identifier,
+        let identifier = match (records.last(), campus.releases.last()) {
+            (Some(last), _) if random.chance(30) => beside(random, &last.identifier),
+            (Some(_), _) if random.chance(10) => random.pick(&records).identifier.clone(),
             (_, Some(_)) if random.chance(20) => random.pick(&campus.releases).identifier,
             _ => identifier(random),
         };
-        let leased = |lease: &Lease| lease.house == house && lease.identifier == identifier;
-        let released =
-            |release: &Release| (release.house, &release.identifier) == (house, &identifier);
-        if !campus.leases.iter().any(leased) && !campus.releases.iter().any(released) {
+        if is_fresh(campus, house, &identifier) {
             return identifier;
         }
     }
 }
 
-/// How many addresses of a scope a house's leases have; house and scope from 1.
+/// Whether a house has neither a lease nor a hold nor a release on an identifier.
+pub fn is_fresh(campus: &Campus, house: u8, identifier: &[u8]) -> bool {
+    let released =
+        |release: &Release| (release.house, &release.identifier[..]) == (house, identifier);
+    let recorded = campus
+        .records()
+        .any(|lease| lease.key() == (house, identifier));
+    !recorded && !campus.releases.iter().any(released)
+}
+
+/// How many addresses of a scope a house's leases and holds have; house and scope from 1.
 pub fn holding(campus: &Campus, house: u8, scope: u8) -> usize {
     let mut held = [false; 256];
-    for lease in &campus.leases {
+    for lease in campus.records() {
         if lease.house == house && lease.scope == scope {
             lease
                 .offsets
@@ -187,6 +203,7 @@ fn clock(random: &mut Random) -> u32 {
         LAST_TIME - HORIZON,
         LAST_TIME - LONGEST_LEASE,
         LAST_TIME - 3_600,
+        LAST_TIME - 20,
         LAST_TIME - 1,
         LAST_TIME,
         random.clone().u32(),

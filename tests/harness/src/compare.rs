@@ -1,7 +1,10 @@
 //! One case, run by both implementations in this process and compared octet for octet.
 
 use crate::bounds;
+use crate::campus::holding;
 use crate::case::Case;
+use crate::holds;
+use crate::judged;
 use crate::lent::{Held, Lender};
 use crate::names;
 use crate::releases::Past;
@@ -9,6 +12,7 @@ use crate::tally::Tally;
 use crate::LONGEST_FILE;
 use banshorra_host::{ANSWER_ROOM, BOARD_ROOM};
 use builder::{value_of, Call, Campus, ACK, GETINFO};
+use std::net::Ipv4Addr;
 use std::panic::{catch_unwind, AssertUnwindSafe};
 
 /// Refusals of the C interface.
@@ -140,7 +144,7 @@ fn choice(case: &Case) -> usize {
 }
 
 /// Counts what the case has shown, and sees that each scope list is the one that is due by what the case was made of, and what is remembered
-/// of releases, and answered to options 14 and 15, what is due by the file before each call.
+/// of releases, and held of offers, and answered to options 14 and 15, what is due by the file before each call.
 fn count(case: &Case, expected: &Expected, tally: &mut Tally) -> Result<(), Difference> {
     if expected.refusal != 0 {
         tally.code(expected.refusal);
@@ -148,8 +152,11 @@ fn count(case: &Case, expected: &Expected, tally: &mut Tally) -> Result<(), Diff
     if let Some(place) = case.meant {
         tally.damaged(place, expected.refusal);
     }
-    let (mut past, mut before) = (Past::default(), Campus::read(&case.file));
-    let mut file = &case.file;
+    if let Some(campus) = &case.campus {
+        boarded(campus, expected, tally)?;
+    }
+    let (mut past, mut judged_past) = (Past::default(), judged::Past::default());
+    let (mut before, mut file) = (Campus::read(&case.file), &case.file);
     for answer in &expected.answers {
         let Some(call) = Call::read(&case.calls[answer.place..]) else {
             continue;
@@ -158,6 +165,10 @@ fn count(case: &Case, expected: &Expected, tally: &mut Tally) -> Result<(), Diff
         if let (Some(before), Some(after)) = (&before, &after) {
             released(&mut past, before, after, &call, answer, tally)?;
             bounded(file, before, &call, answer, tally)?;
+            held_offers(before, after, &call, answer)?;
+            weighed(before, &call, answer, tally)?;
+            let why = judged_past.why(before, &call, answer.outcome, &answer.reply);
+            why.into_iter().for_each(|why| tally.held(why));
         }
         (before, file) = (after, &answer.file);
         tally.call(&call.datagram, answer.outcome, &answer.reply);
@@ -184,7 +195,7 @@ fn released(
     tally: &mut Tally,
 ) -> Result<(), Difference> {
     let due = match answer.outcome {
-        0 => past.due(before, call, &answer.reply),
+        0 | 8 => past.due(before, call, &answer.reply),
         _ => None,
     };
     let releases = due.as_ref().map_or(&before.releases, |due| &due.releases);
@@ -216,11 +227,7 @@ fn bounded(
     let Some(plain) = bounds::plain(call).filter(|_| judged) else {
         return Ok(());
     };
-    let (outcome, reply) = caught(|| {
-        let mut book = second::file::read(file).expect("the book before the call");
-        let room = plain.room.into();
-        second::server::answer(&mut book, &plain.datagram, plain.client, plain.time, room)
-    })?;
+    let (outcome, reply, _) = second_on(file, &plain)?;
     let Some(due) = bounds::due(before, call, outcome, &reply) else {
         return Ok(());
     };
@@ -229,6 +236,97 @@ fn bounded(
         return Err(format!("by 14 and 15 {due} is due, not {reply}"));
     }
     due.why.into_iter().for_each(|why| tally.bounded(why));
+    Ok(())
+}
+
+/// What the second program answers to one call on a file, and the file afterwards.
+fn second_on(file: &[u8], call: &Call) -> Result<(u8, Vec<u8>, Vec<u8>), Difference> {
+    caught(|| {
+        let mut book = second::file::read(file).expect("the book before the call");
+        let room = call.room.into();
+        let (outcome, reply) =
+            second::server::answer(&mut book, &call.datagram, call.client, call.time, room);
+        let mut file = vec![0; LONGEST_FILE];
+        let length = second::file::write(&book, &mut file).unwrap_or(0);
+        file.truncate(length);
+        (outcome, reply, file)
+    })
+}
+
+/// What is held after a call, and the answer where a hold decides it: what is due by the campus before it.
+fn held_offers(
+    before: &Campus,
+    after: &Campus,
+    call: &Call,
+    answer: &Answer,
+) -> Result<(), Difference> {
+    let due = holds::due(before, call, answer.outcome, &answer.reply);
+    if after.holds != due.holds {
+        let (found, holds) = (&after.holds, due.holds);
+        return Err(format!("{holds:?} is due to be held, not {found:?}"));
+    }
+    match due.answer {
+        Some(due) => drawn("by the hold", &due, answer),
+        None => Ok(()),
+    }
+}
+
+/// Whether a call drew outcome and reply that are due.
+fn drawn(why: &str, due: &(u8, Vec<u8>), answer: &Answer) -> Result<(), Difference> {
+    if (due.0, &due.1) == (answer.outcome, &answer.reply) {
+        return Ok(());
+    }
+    let (due, found) = ((due.0, hex(&due.1)), (answer.outcome, hex(&answer.reply)));
+    Err(format!("{why} {due:?} is due, not {found:?}"))
+}
+
+/// What has to draw the same draws it; and what others' holds have done to the call.
+fn weighed(
+    before: &Campus,
+    call: &Call,
+    answer: &Answer,
+    tally: &mut Tally,
+) -> Result<(), Difference> {
+    if let Some((other, alike)) = holds::alike(before, call) {
+        let (outcome, reply, file) = second_on(&other.octets(), &alike)?;
+        let due = holds::of_alike(before, call, (outcome, reply));
+        drawn("by what has to draw the same", &due, answer)?;
+        let drops = alike.datagram == call.datagram;
+        if drops && outcome == 0 && file != answer.file {
+            return Err("a hold that was dropped has changed something".into());
+        }
+        tally.held(if drops {
+            judged::SAME_AS_NEW
+        } else {
+            judged::SAME_AS_REQUEST
+        });
+    }
+    if let (Some(other), 0 | 8) = (judged::without_others(before, call), answer.outcome) {
+        let (_, without, _) = second_on(&other.octets(), call)?;
+        let why = judged::weighed(before, call, &answer.reply, &without);
+        why.into_iter().for_each(|why| tally.held(why));
+    }
+    Ok(())
+}
+
+/// The board's lines, counted from leases and holds.
+fn boarded(campus: &Campus, expected: &Expected, tally: &mut Tally) -> Result<(), Difference> {
+    let mut due = "scope house share limit holds\n".to_string();
+    let mut unheld = campus.clone();
+    unheld.holds.clear();
+    for (scope, number) in campus.scopes.iter().zip(1..) {
+        for ((share, limit), house) in scope.parts.iter().zip(1..) {
+            let lowest = Ipv4Addr::from(scope.lowest);
+            let holds = holding(campus, house, number);
+            due += &format!("{lowest} {house} {share} {limit} {holds}\n");
+            if holds > holding(&unheld, house, number) {
+                tally.held(judged::ON_BOARD);
+            }
+        }
+    }
+    if due != expected.board {
+        return Err(format!("another board is due than {}", expected.board));
+    }
     Ok(())
 }
 

@@ -1,15 +1,22 @@
 //! Campus files with one thing wrong: each part of each rule of a sound book (21), and each rule of form (20). And a few that are nearly wrong,
 //! which are accepted.
 
-use crate::campus::{holding, new_lease, sound, HIGHEST_POOL, LOWEST_POOL, RECORDS};
+use crate::campus::{holding, is_fresh, new_lease, sound, HIGHEST_POOL, LOWEST_POOL, RECORDS};
+use crate::damage_holds as held;
+use crate::holds::{lapse, of_lease, HOLD_TIME};
 use crate::names::{self, LONGEST_TAG, LONGEST_TEXT, MOST_NAMES};
 use crate::random::Random;
 use crate::releases::{new_release, MOST_RELEASES};
-use crate::{LAST_TIME, LONGEST_FILE};
-use builder::{Campus, Lease, Name, Release, Scope};
+use crate::{LAST_TIME, LONGEST_FILE, LONGEST_LEASE};
+use builder::{Campus, Hold, Lease, Name, Release, Scope};
 
-/// The longest file that counts, sizes and lengths within their limits allow, of which the names have 6,229 octets and the releases 1,345.
-const LONGEST_LAYOUT: usize = 22_202;
+/// The longest file that counts, sizes and lengths within their limits allow, of which the names have 6,229 octets and the releases 1,345: all
+/// of its records are holds. Four octets less for each that is a lease.
+const LONGEST_LAYOUT: usize = 22_715;
+/// Places in `Campus::sections`.
+pub const NAMES: usize = 1;
+pub const RELEASES: usize = 2;
+pub const HOLDS: usize = 3;
 
 /// A damage: what it breaks, the refusal that it has to draw (0 where it breaks nothing), and how it is done. `None` where a campus has nothing
 /// to break.
@@ -76,7 +83,20 @@ pub const DAMAGES: &[Damage] = &[
     unsound("a lease has an address", no_address),
     unsound("identifiers differ within a house", equal_identifiers),
     unsound("no address has two houses", two_houses),
-    unsound("no address has two houses, 22,202 octets", longest_file),
+    unsound(
+        "no address has two houses, 22,203 octets",
+        |random, campus| {
+            let full = full_layout(random, &campus, false, false).octets();
+            (full.len() == LONGEST_LAYOUT - 4 * 128).then_some(full)
+        },
+    ),
+    unsound(
+        "no address has two houses, 22,715 octets",
+        |random, campus| {
+            let full = full_layout(random, &campus, true, false).octets();
+            (full.len() == LONGEST_LAYOUT).then_some(full)
+        },
+    ),
     unsound("identifier lengths, 32,768 octets", |random, campus| {
         grown_layout(random, &campus, LONGEST_FILE)
     }),
@@ -178,19 +198,19 @@ pub const DAMAGES: &[Damage] = &[
     malformed("equal offsets", equal_offsets),
     malformed("falling offsets", falling_offsets),
     malformed("names: no section", |_, campus| {
-        Some([campus.front(), campus.releases()].concat())
+        with_section(&campus, NAMES, Vec::clear)
     }),
-    malformed("names: no section, and no releases", |_, campus| {
+    malformed("names: no section, and none after it", |_, campus| {
         Some(campus.front())
     }),
     malformed("names: cut inside", names_cut),
     malformed("names: cut off after 255 scopes, 40 houses", deep_cut),
     malformed("names: an octet more", names_excess),
     malformed("names: count one more than the scopes", |_, campus| {
-        with_section(&campus, |section| section[0] += 1)
+        with_section(&campus, NAMES, |section| section[0] += 1)
     }),
     malformed("names: count one less than the scopes", |_, campus| {
-        with_section(&campus, |section| section[0] -= 1)
+        with_section(&campus, NAMES, |section| section[0] -= 1)
     }),
     malformed("names: a scope more, layout right", a_scope_more),
     malformed("names: a scope fewer, layout right", a_scope_fewer),
@@ -207,23 +227,27 @@ pub const DAMAGES: &[Damage] = &[
     malformed("names: a text of 33 octets or more", long_text),
     malformed("names: five in a list or more", many_names),
     malformed("releases: no section", |_, campus| {
+        with_section(&campus, RELEASES, Vec::clear)
+    }),
+    malformed("releases: no section, and no holds", |_, campus| {
         Some([campus.front(), campus.names()].concat())
     }),
     malformed("releases: cut inside", releases_cut),
     malformed("releases: count one more", |_, campus| {
-        with_releases(&campus, |section| section[0] += 1)
+        with_section(&campus, RELEASES, |section| section[0] += 1)
     }),
     malformed("releases: count 255", |_, campus| {
-        with_releases(&campus, |section| section[0] = 255)
+        with_section(&campus, RELEASES, |section| section[0] = 255)
     }),
     malformed("releases: count one less", |_, campus| {
         (!campus.releases.is_empty()).then_some(())?;
-        with_releases(&campus, |section| section[0] -= 1)
+        with_section(&campus, RELEASES, |section| section[0] -= 1)
     }),
     malformed("releases: octets after them", releases_excess),
     malformed("releases: the section before the names", |_, campus| {
         (!campus.releases.is_empty()).then_some(())?;
-        Some([campus.front(), campus.releases(), campus.names()].concat())
+        let [front, names, releases, holds] = campus.sections();
+        Some([front, releases, names, holds].concat())
     }),
     malformed("releases: houses fall", release_houses_fall),
     malformed("releases: unknown houses fall", unknown_release_houses_fall),
@@ -241,9 +265,253 @@ pub const DAMAGES: &[Damage] = &[
                 .max()?
                 .checked_sub(1)?;
             campus.leases.clear();
+            campus.holds.clear();
             release_times_fall(random, campus)
         },
     ),
+    unsound("leases: type 1", held::lease_of_type_1),
+    unsound("holds: type 3", |random, campus| {
+        held::of_type(random, campus, &[3])
+    }),
+    unsound("holds: type 4", |random, campus| {
+        held::of_type(random, campus, &[4])
+    }),
+    unsound("holds: another type", |random, campus| {
+        held::of_type(random, campus, &[0, 2, 5, 6, 7, 8, 255])
+    }),
+    unsound("holds: lapses at the clock", |random, campus| {
+        held::with_times(random, campus, |clock, hold| {
+            hold.lapse = clock;
+            Some(())
+        })
+    }),
+    unsound("holds: lapses before the clock", |random, campus| {
+        let ago = random.pick(&[1, 1, 30]);
+        held::with_times(random, campus, |clock, hold| {
+            hold.lapse = clock.checked_sub(ago)?;
+            Some(())
+        })
+    }),
+    unsound("holds: lapses at 0", |random, campus| {
+        held::with_times(random, campus, |_, hold| {
+            hold.lapse = 0;
+            Some(())
+        })
+    }),
+    unsound("holds: lapses 31 s after the clock", |random, campus| {
+        held::lapses_late(random, campus, 1)
+    }),
+    unsound("holds: lapses later than that", |random, campus| {
+        let seconds = random.pick(&[2, 226, 3_570]);
+        held::lapses_late(random, campus, seconds)
+    }),
+    unsound("holds: lapses after its end", held::lapses_after_its_end),
+    unsound(
+        "holds: ends at the clock or before",
+        held::ends_at_the_clock,
+    ),
+    unsound("holds: starts at its end or later", |random, campus| {
+        let more = random.pick(&[0, 0, 1]);
+        held::with_times(random, campus, |_, hold| {
+            hold.lease.start = hold.lease.end.checked_add(more)?;
+            Some(())
+        })
+    }),
+    unsound("holds: house 0", |random, campus| {
+        held::of_house(random, campus, 0)
+    }),
+    unsound("holds: a house past the last", |random, campus| {
+        let next = campus.houses.len() as u8 + 1;
+        held::of_house(random, campus, next)
+    }),
+    unsound("holds: house 200", |random, campus| {
+        held::of_house(random, campus, 200)
+    }),
+    unsound("holds: scope 0", |random, campus| {
+        held::of_scope(random, campus, 0)
+    }),
+    unsound("holds: a scope past the last", |random, campus| {
+        let next = campus.scopes.len() as u8 + random.pick(&[1, 1, 200]);
+        held::of_scope(random, campus, next)
+    }),
+    unsound("holds: an identifier of 0 octets", |random, campus| {
+        held::with_identifier(random, campus, 0)
+    }),
+    unsound("holds: an identifier of 1 octet", |random, campus| {
+        held::with_identifier(random, campus, 1)
+    }),
+    unsound("holds: an identifier of 33 octets", |random, campus| {
+        held::with_identifier(random, campus, 33)
+    }),
+    unsound("holds: an identifier of 255 octets", |random, campus| {
+        held::with_identifier(random, campus, 255)
+    }),
+    unsound("holds: no address", |random, campus| {
+        held::with_hold(random, campus, |_, _, hold| {
+            hold.lease.offsets.clear();
+            Some(())
+        })
+    }),
+    unsound("holds: more than 64 addresses", |random, campus| {
+        held::with_hold(random, campus, |random, _, hold| {
+            hold.lease.offsets = (0..random.pick(&[65, 66, 255])).collect();
+            Some(())
+        })
+    }),
+    unsound(
+        "holds: offsets below the scope's size",
+        held::offset_at_size,
+    ),
+    unsound("holds: an identifier twice", |random, campus| {
+        held::on_a_hold(random, campus, true)
+    }),
+    unsound(
+        "holds: an identifier that the house has a lease on",
+        |random, campus| held::on_a_lease(random, campus, true),
+    ),
+    unsound(
+        "holds: an identifier that the house remembers",
+        |random, campus| held::on_a_release(random, campus, true),
+    ),
+    unsound("holds: 17 of a house", |random, campus| {
+        held::many(random, campus, 0, RECORDS + 1)
+    }),
+    unsound("holds: 16 leases and a hold", |random, campus| {
+        held::many(random, campus, RECORDS, 1)
+    }),
+    unsound("holds: a lease and 16 holds", |random, campus| {
+        held::many(random, campus, 1, RECORDS)
+    }),
+    unsound("holds: 17 records or more, of both", |random, campus| {
+        let count = RECORDS + random.pick(&[1, 1, 2, 16]);
+        held::many_of_both(random, campus, count)
+    }),
+    unsound("holds: more than 128 records", held::more_than_128),
+    unsound("holds: on a lease's address and time", |random, campus| {
+        held::overlaps(random, campus, true)
+    }),
+    unsound("holds: two on one address and time", |random, campus| {
+        held::overlaps(random, campus, false)
+    }),
+    unsound(
+        "holds: on an address of another house's lease",
+        |random, campus| held::two_houses(random, campus, true),
+    ),
+    unsound(
+        "holds: on an address of another house's hold",
+        |random, campus| held::two_houses(random, campus, false),
+    ),
+    unsound("holds: the holding above its limit", held::above_the_limit),
+    unsound(
+        "holds: the sum of larger-of-holding-and-share above the size",
+        held::above_the_size,
+    ),
+    unsound(
+        "identifier lengths of holds, 32,768 octets",
+        |random, campus| {
+            let full = full_layout(random, &campus, true, false);
+            grown(full, LONGEST_FILE)
+        },
+    ),
+    accepted("holds: lapses 30 s after the clock", |random, campus| {
+        held::with_times(random, campus, |clock, hold| {
+            hold.lapse = lapse(clock, hold.lease.end);
+            (hold.lapse - clock == HOLD_TIME).then_some(())
+        })
+    }),
+    accepted(
+        "holds: lapses a second after the clock",
+        |random, campus| {
+            held::with_times(random, campus, |clock, hold| {
+                hold.lapse = clock + 1;
+                Some(())
+            })
+        },
+    ),
+    accepted("holds: lapses at its end", |random, campus| {
+        held::with_times(random, campus, |clock, hold| {
+            hold.lapse = lapse(clock, hold.lease.end);
+            (hold.lapse == hold.lease.end).then_some(())
+        })
+    }),
+    accepted("holds: longer than the longest lease", |_, campus| {
+        let mut holds = campus.holds.iter();
+        let is_long = |hold: &Hold| hold.lease.end - hold.lease.start > LONGEST_LEASE;
+        holds.any(is_long).then(|| campus.octets())
+    }),
+    accepted("holds: for a period to come", |_, campus| {
+        let mut holds = campus.holds.iter();
+        let is_to_come = |hold: &Hold| hold.lease.start > hold.lapse;
+        holds.any(is_to_come).then(|| campus.octets())
+    }),
+    accepted(
+        "holds: an identifier that another house holds",
+        |random, campus| held::on_a_hold(random, campus, false),
+    ),
+    accepted(
+        "holds: an identifier that another house has a lease on",
+        |random, campus| held::on_a_lease(random, campus, false),
+    ),
+    accepted(
+        "holds: an identifier that another house remembers",
+        |random, campus| held::on_a_release(random, campus, false),
+    ),
+    accepted(
+        "holds: begins as a lease on its address ends",
+        held::touches,
+    ),
+    accepted("holds: none", |_, mut campus| {
+        campus.holds.clear();
+        Some(campus.octets())
+    }),
+    accepted("holds: 16 of a house", |random, campus| {
+        held::many(random, campus, 0, RECORDS)
+    }),
+    accepted("holds: 16 records of a house, of both", |random, campus| {
+        held::many_of_both(random, campus, RECORDS)
+    }),
+    accepted("holds: 128", held::all_128),
+    malformed("holds: no section", |_, campus| {
+        with_section(&campus, HOLDS, Vec::clear)
+    }),
+    malformed("holds: cut inside", |random, campus| {
+        held::cut(random, campus, usize::MAX)
+    }),
+    malformed("holds: the last lapse cut or missing", |random, campus| {
+        held::cut(random, campus, 4)
+    }),
+    malformed("holds: laid out as leases", held::laid_out_as_leases),
+    malformed("holds: count one more", |_, campus| {
+        with_section(&campus, HOLDS, |section| section[0] += 1)
+    }),
+    malformed("holds: count 255", |_, campus| {
+        with_section(&campus, HOLDS, |section| section[0] = 255)
+    }),
+    malformed("holds: count one less", |_, campus| {
+        (!campus.holds.is_empty()).then_some(())?;
+        with_section(&campus, HOLDS, |section| section[0] -= 1)
+    }),
+    malformed("holds: octets after them", held::excess),
+    malformed("holds: the section before the releases", |_, campus| {
+        held::moved(campus, [0, NAMES, HOLDS, RELEASES])
+    }),
+    malformed("holds: the section before the names", |_, campus| {
+        held::moved(campus, [0, HOLDS, NAMES, RELEASES])
+    }),
+    malformed("holds: houses fall", |random, campus| {
+        held::swapped(random, campus, |one, other| one.house < other.house)
+    }),
+    malformed("holds: unknown houses fall", held::unknown_houses_fall),
+    malformed("holds: identifiers fall", |random, campus| {
+        let is_meant = |one: &Lease, other: &Lease| {
+            one.house == other.house && one.identifier < other.identifier
+        };
+        held::swapped(random, campus, is_meant)
+    }),
+    malformed("holds: a prefix last", held::prefix_last),
+    malformed("holds: equal offsets", held::equal_offsets),
+    malformed("holds: falling offsets", held::falling_offsets),
+    malformed("holds of wrong form and unsound", held::form_and_unsound),
 ];
 
 impl Damage {
@@ -257,12 +525,12 @@ impl Damage {
 }
 
 /// A place in a list, if there is one.
-fn place<T>(random: &mut Random, list: &[T]) -> Option<usize> {
+pub fn place<T>(random: &mut Random, list: &[T]) -> Option<usize> {
     (!list.is_empty()).then(|| random.below(list.len()))
 }
 
-/// The file of a campus whose leases are put in order first; not one that is too long.
-fn ordered(mut campus: Campus) -> Option<Vec<u8>> {
+/// The file of a campus whose leases, releases and holds are put in order first; not one that is too long.
+pub fn ordered(mut campus: Campus) -> Option<Vec<u8>> {
     campus.sort();
     let file = campus.octets();
     (file.len() <= LONGEST_FILE).then_some(file)
@@ -283,6 +551,7 @@ fn no_house(_: &mut Random, mut campus: Campus) -> Option<Vec<u8>> {
     campus.houses.clear();
     campus.leases.clear();
     campus.releases.clear();
+    campus.holds.clear();
     campus
         .scopes
         .iter_mut()
@@ -305,6 +574,7 @@ fn many_houses(random: &mut Random, mut campus: Campus) -> Option<Vec<u8>> {
 fn no_scope(_: &mut Random, mut campus: Campus) -> Option<Vec<u8>> {
     campus.scopes.clear();
     campus.leases.clear();
+    campus.holds.clear();
     ordered(campus)
 }
 
@@ -338,11 +608,12 @@ fn very_many_lists(mut campus: Campus) -> Vec<u8> {
     campus.scopes = (0..255).map(|n| spare_scope(n, 40)).collect();
     campus.leases.clear();
     campus.releases.clear();
+    campus.holds.clear();
     campus.octets()
 }
 
 /// Brings a house to so many leases, on an address that it has, each touching the one before.
-fn lengthen(random: &mut Random, campus: &mut Campus, house: u8, count: usize) -> Option<()> {
+pub fn lengthen(random: &mut Random, campus: &mut Campus, house: u8, count: usize) -> Option<()> {
     let first = campus
         .leases
         .iter()
@@ -350,12 +621,8 @@ fn lengthen(random: &mut Random, campus: &mut Campus, house: u8, count: usize) -
         .clone();
     let offset = first.offsets[0];
     let on_it = |lease: &&Lease| lease.scope == first.scope && lease.offsets.contains(&offset);
-    let mut start = campus
-        .leases
-        .iter()
-        .filter(on_it)
-        .map(|lease| lease.end)
-        .max()?;
+    let ends = campus.records().filter(on_it).map(|lease| lease.end);
+    let mut start = ends.max()?;
     let mut have = campus
         .leases
         .iter()
@@ -412,9 +679,7 @@ fn many_addresses(random: &mut Random, mut campus: Campus) -> Option<Vec<u8>> {
 
 fn size_0(random: &mut Random, mut campus: Campus) -> Option<Vec<u8>> {
     let scope = random.below(campus.scopes.len());
-    campus
-        .leases
-        .retain(|lease| usize::from(lease.scope) != scope + 1);
+    retain(&mut campus, |lease| usize::from(lease.scope) != scope + 1);
     campus.scopes[scope].size = 0;
     campus.scopes[scope].parts.fill((0, 0));
     ordered(campus)
@@ -522,7 +787,7 @@ fn share_above_limit(random: &mut Random, mut campus: Campus) -> Option<Vec<u8>>
     let (share, _) = campus.scopes[scope].parts[house];
     let limit = share.checked_sub(1)?;
     campus.scopes[scope].parts[house].1 = random.pick(&[limit, 0]);
-    campus.leases.retain(|lease| {
+    retain(&mut campus, |lease| {
         (usize::from(lease.house), usize::from(lease.scope)) != (house + 1, scope + 1)
     });
     ordered(campus)
@@ -569,7 +834,7 @@ fn unknown_scope(random: &mut Random, mut campus: Campus) -> Option<Vec<u8>> {
 
 fn wrong_type(random: &mut Random, mut campus: Campus) -> Option<Vec<u8>> {
     let lease = place(random, &campus.leases)?;
-    campus.leases[lease].kind = random.pick(&[0, 1, 2, 5, 6, 7, 8, 255]);
+    campus.leases[lease].kind = random.pick(&[0, 2, 5, 6, 7, 8, 255]);
     ordered(campus)
 }
 
@@ -611,7 +876,7 @@ fn two_houses(random: &mut Random, mut campus: Campus) -> Option<Vec<u8>> {
     (one.house != other.house && one.scope == other.scope).then_some(())?;
     (one.end <= other.start || other.end <= one.start).then_some(())?;
     let stays = |lease: &Lease| lease.scope != one.scope || *lease == one || *lease == other;
-    campus.leases.retain(stays);
+    retain(&mut campus, stays);
     let place = campus.leases.iter().position(|lease| *lease == one)?;
     let lease = &mut campus.leases[place];
     lease.offsets.push(random.pick(&other.offsets));
@@ -623,8 +888,15 @@ fn two_houses(random: &mut Random, mut campus: Campus) -> Option<Vec<u8>> {
     ordered(campus)
 }
 
-/// A file of the longest layout that counts, sizes and identifier lengths allow. Its addresses have two houses.
-fn full_layout(random: &mut Random, campus: &Campus) -> Campus {
+/// Keeps only leases and holds like these.
+fn retain(campus: &mut Campus, stays: impl Fn(&Lease) -> bool) {
+    campus.leases.retain(&stays);
+    campus.holds.retain(|hold| stays(&hold.lease));
+}
+
+/// A campus of 128 leases or holds. Sixty-four addresses each make it the longest layout that counts, sizes and identifier lengths allow, and
+/// unsound: its addresses have two houses. With half of them it is sound.
+pub fn full_layout(random: &mut Random, campus: &Campus, is_held: bool, is_sound: bool) -> Campus {
     let mut full = campus.clone();
     full.clock = 1_000;
     full.houses = (0..8).map(|n| (n, n)).collect();
@@ -633,13 +905,22 @@ fn full_layout(random: &mut Random, campus: &Campus) -> Campus {
         scope.names = names::full_lists(8);
     }
     full.leases.clear();
+    full.holds.clear();
+    full.releases.clear();
     for house in 0..8 {
         for number in 0..16_u32 {
             let period = (1_000 + number, 1_001 + number);
-            let mut lease = new_lease(&full, random, house, house / 2, period, (0..64).collect());
+            let half = house as u8 % 2 * 32;
+            let offsets = if is_sound { half..half + 32 } else { 0..64 };
+            let offsets = offsets.collect();
+            let mut lease = new_lease(&full, random, house, house / 2, period, offsets);
             lease.identifier.resize(31, 0);
             lease.identifier.push(number as u8);
-            full.leases.push(lease);
+            if is_held {
+                full.holds.push(of_lease(&full, random, lease));
+            } else {
+                full.leases.push(lease);
+            }
         }
     }
     four_each(random, &mut full);
@@ -652,16 +933,17 @@ fn full_layout(random: &mut Random, campus: &Campus) -> Campus {
     full
 }
 
-fn longest_file(random: &mut Random, campus: Campus) -> Option<Vec<u8>> {
-    let full = full_layout(random, &campus).octets();
-    (full.len() == LONGEST_LAYOUT).then_some(full)
+/// A file of this length with its layout right: the longest layout of leases, with longer identifiers.
+fn grown_layout(random: &mut Random, campus: &Campus, length: usize) -> Option<Vec<u8>> {
+    let full = full_layout(random, campus, false, false);
+    grown(full, length)
 }
 
-/// A file of this length with its layout right: the longest layout with longer identifiers.
-fn grown_layout(random: &mut Random, campus: &Campus, length: usize) -> Option<Vec<u8>> {
-    let mut full = full_layout(random, campus);
+/// The file of a campus, brought to this length by longer identifiers.
+fn grown(mut full: Campus, length: usize) -> Option<Vec<u8>> {
     let mut left = length.checked_sub(full.octets().len())?;
-    for lease in &mut full.leases {
+    let held = full.holds.iter_mut().map(|hold| &mut hold.lease);
+    for lease in full.leases.iter_mut().chain(held) {
         let more = left.min(255 - lease.identifier.len());
         lease.identifier.resize(lease.identifier.len() + more, 7);
         left -= more;
@@ -681,8 +963,8 @@ fn leases_overlap(random: &mut Random, mut campus: Campus) -> Option<Vec<u8>> {
         ..
     } = campus.leases[lease];
     let offset = random.pick(offsets);
-    let leases = campus.leases.iter().filter(|lease| lease.house == house);
-    (leases.count() < RECORDS).then_some(())?;
+    let records = campus.records().filter(|lease| lease.house == house);
+    (records.count() < RECORDS).then_some(())?;
     let period = match random.below(4) {
         0 => (start, end),
         1 => (start.checked_sub(1)?, start + 1),
@@ -739,14 +1021,15 @@ fn cut(random: &mut Random, campus: Campus) -> Option<Vec<u8>> {
     Some(file)
 }
 
-/// Cut after the server, the houses, the scopes, the leases or the names.
+/// Cut after the server, the houses, the scopes, the leases, the names or the releases.
 fn cut_at_count(random: &mut Random, campus: Campus) -> Option<Vec<u8>> {
     let mut file = campus.octets();
     let houses = 10 + 8 * campus.houses.len();
     let scopes = houses + 1 + campus.scopes.len() * (6 + 2 * campus.houses.len());
     let leases = campus.front().len();
     let names = leases + campus.names().len();
-    file.truncate(random.pick(&[1, 9, houses, scopes, leases, names]));
+    let releases = names + campus.releases().len();
+    file.truncate(random.pick(&[1, 9, houses, scopes, leases, names, releases]));
     Some(file)
 }
 
@@ -843,11 +1126,15 @@ fn falling_offsets(random: &mut Random, mut campus: Campus) -> Option<Vec<u8>> {
 
 // ---- names
 
-/// The file with its names section changed.
-fn with_section(campus: &Campus, change: impl FnOnce(&mut Vec<u8>)) -> Option<Vec<u8>> {
-    let mut section = campus.names();
-    change(&mut section);
-    Some([campus.front(), section, campus.releases()].concat())
+/// The file with its section at this place changed.
+pub fn with_section(
+    campus: &Campus,
+    place: usize,
+    change: impl FnOnce(&mut Vec<u8>),
+) -> Option<Vec<u8>> {
+    let mut sections = campus.sections();
+    change(&mut sections[place]);
+    Some(sections.concat())
 }
 
 /// The file with a name changed.
@@ -872,8 +1159,8 @@ fn names_cut(random: &mut Random, campus: Campus) -> Option<Vec<u8>> {
 
 fn deep_cut(random: &mut Random, campus: Campus) -> Option<Vec<u8>> {
     let mut file = very_many_lists(campus);
-    // The count of no releases, and before it the last list of names.
-    file.pop();
+    // The counts of no holds and no releases, and before them the last list of names.
+    file.truncate(file.len() - 2);
     if random.chance(50) {
         file.pop();
     } else {
@@ -883,7 +1170,7 @@ fn deep_cut(random: &mut Random, campus: Campus) -> Option<Vec<u8>> {
 }
 
 fn names_excess(random: &mut Random, campus: Campus) -> Option<Vec<u8>> {
-    with_section(&campus, |section| {
+    with_section(&campus, NAMES, |section| {
         section.push(random.pick(&[0, 0, 128, 255]))
     })
 }
@@ -891,18 +1178,18 @@ fn names_excess(random: &mut Random, campus: Campus) -> Option<Vec<u8>> {
 fn a_scope_more(random: &mut Random, campus: Campus) -> Option<Vec<u8>> {
     let mut other = campus.clone();
     other.scopes.push(random.pick(&campus.scopes));
-    Some([campus.front(), other.names(), campus.releases()].concat())
+    with_section(&campus, NAMES, |section| *section = other.names())
 }
 
 fn a_scope_fewer(random: &mut Random, campus: Campus) -> Option<Vec<u8>> {
     let mut other = campus.clone();
     other.scopes.remove(random.below(campus.scopes.len()));
-    Some([campus.front(), other.names(), campus.releases()].concat())
+    with_section(&campus, NAMES, |section| *section = other.names())
 }
 
 /// One list more than the houses and the campus have: in the first scope or in the last.
 fn a_list_more(random: &mut Random, campus: Campus) -> Option<Vec<u8>> {
-    with_section(&campus, |section| {
+    with_section(&campus, NAMES, |section| {
         let place = random.pick(&[1, section.len()]);
         section.insert(place, 0);
     })
@@ -911,7 +1198,7 @@ fn a_list_more(random: &mut Random, campus: Campus) -> Option<Vec<u8>> {
 /// A scope whose campus list isn't there.
 fn a_list_fewer(_: &mut Random, campus: Campus) -> Option<Vec<u8>> {
     campus.scopes[0].names_of(0).is_empty().then_some(())?;
-    with_section(&campus, |section| section.drain(1..2).for_each(drop))
+    with_section(&campus, NAMES, |section| section.drain(1..2).for_each(drop))
 }
 
 fn wrong_flags(random: &mut Random, campus: Campus) -> Option<Vec<u8>> {
@@ -944,13 +1231,6 @@ fn many_names(random: &mut Random, mut campus: Campus) -> Option<Vec<u8>> {
 }
 
 // ---- releases
-
-/// The file with its last section changed.
-fn with_releases(campus: &Campus, change: impl FnOnce(&mut Vec<u8>)) -> Option<Vec<u8>> {
-    let mut section = campus.releases();
-    change(&mut section);
-    Some([campus.front(), campus.names(), section].concat())
-}
 
 /// The file with a release changed, and the releases put in order again.
 fn with_release(
@@ -1026,14 +1306,8 @@ fn on_a_lease(
     let (lease, house) = (campus.leases[lease].clone(), campus.releases[release].house);
     let identifier = lease.identifier;
     is_meant(house, lease.house).then_some(())?;
-    let leases = campus.leases.iter();
-    let mut leased = leases.map(|lease| (lease.house, &lease.identifier));
-    let releases = campus.releases.iter();
-    let mut released = releases.map(|release| (release.house, &release.identifier));
-    // Another house's identifier is neither on a lease nor on a release of this one.
-    let is_free = !leased.any(|of| of == (house, &identifier));
-    let is_free = is_free && !released.any(|of| of == (house, &identifier));
-    (is_free || house == lease.house).then_some(())?;
+    // Another house's identifier is neither on a lease or hold nor on a release of this one.
+    (house == lease.house || is_fresh(&campus, house, &identifier)).then_some(())?;
     campus.releases[release].identifier = identifier;
     Some(campus.octets())
 }
@@ -1045,10 +1319,8 @@ fn of_two_houses(random: &mut Random, mut campus: Campus) -> Option<Vec<u8>> {
         campus.releases[b].house,
         campus.releases[a].identifier.clone(),
     );
-    (campus.releases[a].house != house).then_some(())?;
-    let leased = |lease: &Lease| (lease.house, &lease.identifier) == (house, &identifier);
-    let released = |other: &Release| (other.house, &other.identifier) == (house, &identifier);
-    (!campus.leases.iter().any(leased) && !campus.releases.iter().any(released)).then_some(())?;
+    let is_free = is_fresh(&campus, house, &identifier);
+    (campus.releases[a].house != house && is_free).then_some(())?;
     campus.releases[b].identifier = identifier;
     Some(campus.octets())
 }
@@ -1076,11 +1348,14 @@ fn times_of_houses(_: &mut Random, campus: Campus) -> Option<Vec<u8>> {
 }
 
 /// The file ends inside of the releases.
-fn releases_cut(random: &mut Random, campus: Campus) -> Option<Vec<u8>> {
+fn releases_cut(random: &mut Random, mut campus: Campus) -> Option<Vec<u8>> {
     (!campus.releases.is_empty()).then_some(())?;
-    with_releases(&campus, |section| {
-        section.truncate(random.between(1, section.len() - 1))
-    })
+    campus.holds.clear();
+    let mut file = campus.octets();
+    let more = campus.releases().len();
+    // The count of no holds, and up to all of the releases but their count.
+    file.truncate(file.len() - 1 - random.between(1, more - 1));
+    Some(file)
 }
 
 fn releases_excess(random: &mut Random, campus: Campus) -> Option<Vec<u8>> {
@@ -1088,7 +1363,7 @@ fn releases_excess(random: &mut Random, campus: Campus) -> Option<Vec<u8>> {
         Some(last) if random.chance(30) => last.octets(),
         _ => vec![random.pick(&[0, 0, 1, 255]); random.pick(&[1, 1, 2, 12])],
     };
-    with_releases(&campus, |section| section.extend(more))
+    with_section(&campus, RELEASES, |section| section.extend(more))
 }
 
 fn release_houses_fall(random: &mut Random, mut campus: Campus) -> Option<Vec<u8>> {
@@ -1121,7 +1396,7 @@ fn release_times_fall(random: &mut Random, mut campus: Campus) -> Option<Vec<u8>
 // ---- form and soundness
 
 /// Breaks a rule of soundness, but none of form.
-fn unsettle(random: &mut Random, campus: &mut Campus) {
+pub fn unsettle(random: &mut Random, campus: &mut Campus) {
     match random.below(3) {
         0 => campus.scopes[0].ttl = 0,
         1 => campus.houses[0] = (1, 0),
@@ -1156,9 +1431,15 @@ fn releases_and_unsound(random: &mut Random, mut campus: Campus) -> Option<Vec<u
 pub fn scrambled(random: &mut Random, campus: &Campus) -> Vec<u8> {
     let mut file = campus.octets();
     let before_names = campus.front().len();
-    let before_releases = file.len() - campus.releases().len();
+    let before_holds = file.len() - campus.holds().len();
+    let before_releases = before_holds - campus.releases().len();
     for _ in 0..random.pick(&[1, 1, 1, 2, 5]) {
-        let parts = [0..before_names, 0..file.len(), before_releases..file.len()];
+        let parts = [
+            0..before_names,
+            0..file.len(),
+            before_releases..before_holds,
+            before_holds..file.len(),
+        ];
         let part = random.pick(&parts);
         let place = random.between(part.start, part.end - 1);
         file[place] = match random.below(4) {

@@ -1,5 +1,6 @@
 //! Work to measure: campus files with a number of leases, and lists of calls that leave the book as it was.
 
+use crate::holds::HOLD_TIME;
 use crate::names::full_lists;
 use crate::random::Random;
 use crate::releases::MOST_RELEASES;
@@ -21,16 +22,18 @@ pub enum Work {
     Replay(Vec<u8>, usize),
 }
 
-/// What the file's last two sections hold.
+/// What the file's last sections have.
 #[derive(Clone, Copy, PartialEq, Eq, Debug)]
 pub enum Filled {
-    /// No names, and a release or two.
+    /// No names, a release or two, and a hold where the calls need one.
     Little = 0,
     /// The longest names section.
     Names = 1,
     /// Four releases of each house.
     Releases = 2,
     Both = 3,
+    /// And all of the records are holds.
+    All = 7,
 }
 
 pub struct Job {
@@ -39,16 +42,32 @@ pub struct Job {
     pub filled: Filled,
     pub file: Vec<u8>,
     pub work: Work,
-    /// Outcome and, for a reply, its type, that each of its calls has to draw; none for the mixed list.
-    draws: Option<Draws>,
+    /// None for the mixed list.
+    due: Option<Due>,
 }
 
+/// What a list has to come to.
+struct Due {
+    /// What its calls draw, in turn.
+    draws: &'static [Draws],
+    /// The file afterwards.
+    file: Vec<u8>,
+}
+
+/// An outcome and, for a reply, its type.
 type Draws = (u8, u8);
 const OFFERED: Draws = (0, 2);
 const ACKNOWLEDGED: Draws = (0, 5);
 const REFUSED: Draws = (0, 6);
 const BAD_HEADER: Draws = (4, 0);
 const SILENT: Draws = (8, 0);
+/// Calls, what they draw in turn, and their name.
+type Turn = (&'static str, &'static [Draws], Vec<Call<'static>>);
+/// A call that does no more than every call does, and the empty list; and both on a file with a hold.
+const DISCARDED: &str = "other octets, discarded";
+const DISCARDED_HELD: &str = "other octets, discarded, one hold";
+pub const EMPTY: &str = "empty list";
+const EMPTY_HELD: &str = "empty list, one hold";
 
 #[derive(Clone, Copy, PartialEq, Eq, Debug)]
 pub enum Side {
@@ -100,24 +119,25 @@ impl Job {
         }
     }
 
-    /// Whether the second program gives what the job is there for, and leaves the file as it was.
+    /// Whether the second program gives what the job is there for, and leaves the file that is due.
     pub fn is_as_meant(&self) -> bool {
         let (mut file, mut answers) = self.rooms();
         bench_measured(Side::Plain, self, &mut file, &mut answers);
-        let Some((outcome, kind)) = self.draws else {
+        let Some(due) = &self.due else {
             return true;
         };
         let mut place = 0;
-        (0..self.count()).all(|_| {
+        let mut draws = due.draws.iter().cycle().take(self.count());
+        draws.all(|due| {
             let length = usize::from(u16::from_be_bytes([answers[place + 1], answers[place + 2]]));
             let drawn = (
                 answers[place],
                 if length > 0 { answers[place + 4] } else { 0 },
             );
             place += 3 + length;
-            drawn == (outcome, kind)
-        }) && file.starts_with(&self.file)
-            && second::file::read(&self.file).is_ok()
+            drawn == *due
+        }) && file.starts_with(&due.file)
+            && second::file::read(&due.file).is_ok()
     }
 
     /// The file's buffer and room for the answers.
@@ -177,6 +197,7 @@ fn settings() -> Campus {
             .collect(),
         leases: Vec::new(),
         releases: Vec::new(),
+        holds: Vec::new(),
     }
 }
 
@@ -210,7 +231,7 @@ fn with_full_names(mut campus: Campus) -> Campus {
     campus
 }
 
-/// The fullest sound file: 128 leases, identifiers of 32 octets, 32 addresses each, sixteen periods one after the other, the longest
+/// The fullest sound file of leases: 128, identifiers of 32 octets, 32 addresses each, sixteen periods one after the other, the longest
 /// names section, and four releases of each house, with identifiers of 32 octets.
 fn full_campus() -> Campus {
     let mut campus = with_full_releases(with_full_names(settings()));
@@ -239,6 +260,21 @@ fn full_campus() -> Campus {
             });
         }
     }
+    campus
+}
+
+/// The same with a hold in the place of each lease: no sound file is longer.
+fn held_campus() -> Campus {
+    let mut campus = full_campus();
+    let leases = std::mem::take(&mut campus.leases);
+    let hold = |lease: Lease| Hold {
+        lapse: CLOCK + HOLD_TIME,
+        lease: Lease {
+            kind: DISCOVER,
+            ..lease
+        },
+    };
+    campus.holds = leases.into_iter().map(hold).collect();
     campus
 }
 
@@ -294,8 +330,9 @@ fn information_in(language: &[u8]) -> Message {
 }
 
 /// A REQUEST and a RELEASE of house 1 in turn, which leave the book as it was. Its first lease has the lowest addresses, so a REQUEST after its
-/// RELEASE brings back the same lease and forgets the release; where the house's last release is remembered, the REQUEST comes first.
-fn in_turn(campus: &Campus) -> Vec<Call<'static>> {
+/// RELEASE brings back the same lease and forgets the release; where the house's last release is remembered, the REQUEST comes first. Or with a
+/// DISCOVER before the REQUEST, which then takes up what is held.
+fn in_turn(campus: &Campus, is_held: bool) -> Vec<Call<'static>> {
     let last = gone(1, MOST_RELEASES);
     let is_remembered = campus.releases.contains(&last);
     let of = if is_remembered {
@@ -303,108 +340,153 @@ fn in_turn(campus: &Campus) -> Vec<Call<'static>> {
     } else {
         name(1, 0)
     };
+    let discover = call(1, CLOCK, &asking(DISCOVER, 4, &of, 1, 2, 2, CLOCK));
     let request = call(1, CLOCK, &asking(REQUEST, 2, &of, 1, 2, 2, CLOCK));
     let released = call(1, CLOCK, &release(2, &of));
-    if is_remembered {
-        vec![request, released]
-    } else {
-        vec![released, request]
+    let mut calls = vec![discover, request];
+    if !is_held {
+        calls.remove(0);
+    }
+    calls.insert(if is_remembered { calls.len() } else { 0 }, released);
+    calls
+}
+
+/// House 1's DISCOVER of two addresses, at a time.
+fn discover(time: u32) -> Call<'static> {
+    call(1, time, &asking(DISCOVER, 3, b"new", 4, 1, 2, time))
+}
+
+/// Octets that are no message.
+fn other_octets() -> Call<'static> {
+    Call {
+        time: CLOCK,
+        client: 0x0A00_0005,
+        room: 512,
+        datagram: vec![0; 40].into(),
+    }
+}
+
+/// The campus after that DISCOVER at its clock, by the second program: with a hold.
+fn held(campus: &Campus) -> Option<Campus> {
+    let mut book = second::file::read(&campus.octets()).ok()?;
+    let call = discover(CLOCK);
+    second::server::answer(&mut book, &call.datagram, call.client, call.time, 512);
+    let mut file = vec![0; LONGEST_FILE];
+    let length = second::file::write(&book, &mut file).ok()?;
+    Campus::read(&file[..length])
+}
+
+/// The same some seconds later, and its hold of then.
+fn later(mut campus: Campus, seconds: u32) -> Campus {
+    campus.clock += seconds;
+    for hold in &mut campus.holds {
+        hold.lease.start += seconds;
+        hold.lease.end += seconds;
+        hold.lapse += seconds;
+    }
+    campus
+}
+
+/// What is sent in turn and draws replies and an OFFER between them: it depends on where the turn begins.
+fn draws_in_turn(calls: &[Call]) -> &'static [Draws] {
+    match calls.iter().position(|call| call.datagram[1] == DISCOVER) {
+        Some(0) => &[OFFERED, ACKNOWLEDGED, ACKNOWLEDGED],
+        _ => &[ACKNOWLEDGED, OFFERED, ACKNOWLEDGED],
     }
 }
 
 /// The calls to measure on a campus: a name, what they draw, and calls that are sent in turn and leave the book as it was.
-fn turns(campus: &Campus) -> Vec<(&'static str, Draws, Vec<Call<'static>>)> {
+fn turns(campus: &Campus) -> Vec<Turn> {
     let at = |house: u8, message: Message| call(house, CLOCK, &message);
-    let mut turns = vec![
-        (
-            "DISCOVER, offered",
-            OFFERED,
-            vec![at(1, asking(DISCOVER, 3, b"new", 4, 1, 2, CLOCK))],
-        ),
+    let three = in_turn(campus, true);
+    let mut turns: Vec<Turn> = vec![
         (
             "DISCOVER, refused (grant)",
-            SILENT,
+            &[SILENT],
             vec![at(1, asking(DISCOVER, 3, b"new", 1, 40, 40, CLOCK))],
         ),
         (
             "REQUEST and RELEASE in turn, granted",
-            ACKNOWLEDGED,
-            in_turn(campus),
+            &[ACKNOWLEDGED],
+            in_turn(campus, false),
+        ),
+        (
+            "DISCOVER, REQUEST and RELEASE in turn, granted",
+            draws_in_turn(&three),
+            three,
         ),
         (
             "REQUEST, refused (grant)",
-            REFUSED,
+            &[REFUSED],
             vec![at(1, asking(REQUEST, 3, b"new", 1, 40, 40, CLOCK))],
         ),
         (
             "RENEW, refused (not held)",
-            REFUSED,
+            &[REFUSED],
             vec![at(3, renewal(5, b"none", DEFAULT_LEASE, CLOCK))],
         ),
         (
             "RELEASE, refused (not held)",
-            REFUSED,
+            &[REFUSED],
             vec![at(3, release(5, b"none"))],
         ),
         (
             "RELEASE, sent again",
-            ACKNOWLEDGED,
+            &[ACKNOWLEDGED],
             vec![at(6, release(2, &gone(6, MOST_RELEASES).identifier))],
         ),
         (
             "GETINFO, answered",
-            ACKNOWLEDGED,
+            &[ACKNOWLEDGED],
             vec![at(5, information(5))],
         ),
         (
             "GETINFO, with a language",
-            ACKNOWLEDGED,
+            &[ACKNOWLEDGED],
             vec![at(5, information_in(&full_lists(0)[0][3].tag))],
         ),
         (
             "GETINFO, refused (option)",
-            SILENT,
+            &[SILENT],
             vec![at(5, information(4))],
         ),
-        (
-            "other octets, discarded",
-            BAD_HEADER,
-            vec![Call {
-                time: CLOCK,
-                client: 0x0A00_0005,
-                room: 512,
-                datagram: vec![0; 40].into(),
-            }],
-        ),
+        (DISCARDED, &[BAD_HEADER], vec![other_octets()]),
     ];
     if !campus.leases.is_empty() {
-        let held = name(3, 0);
-        turns.extend([
-            (
-                "REQUEST, sent again",
-                ACKNOWLEDGED,
-                vec![at(4, asking(REQUEST, 2, &name(4, 0), 1, 2, 2, CLOCK))],
-            ),
-            (
-                "RENEW, granted",
-                ACKNOWLEDGED,
-                vec![
-                    at(3, renewal(1, &held, DEFAULT_LEASE, CLOCK)),
-                    at(3, renewal(2, &held, DEFAULT_LEASE, CLOCK)),
-                ],
-            ),
-            (
-                "RENEW, refused (overlap)",
-                REFUSED,
-                vec![at(2, renewal(5, &name(2, 0), DEFAULT_LEASE + 1, CLOCK))],
-            ),
-        ]);
+        turns.extend(turns_of_leases());
     }
     turns
 }
 
-/// A list of so many calls, the same few in turn.
+/// Those for which there have to be leases.
+fn turns_of_leases() -> [Turn; 3] {
+    let at = |house: u8, message: Message| call(house, CLOCK, &message);
+    let leased = name(3, 0);
+    [
+        (
+            "REQUEST, sent again",
+            &[ACKNOWLEDGED],
+            vec![at(4, asking(REQUEST, 2, &name(4, 0), 1, 2, 2, CLOCK))],
+        ),
+        (
+            "RENEW, granted",
+            &[ACKNOWLEDGED],
+            vec![
+                at(3, renewal(1, &leased, DEFAULT_LEASE, CLOCK)),
+                at(3, renewal(2, &leased, DEFAULT_LEASE, CLOCK)),
+            ],
+        ),
+        (
+            "RENEW, refused (overlap)",
+            &[REFUSED],
+            vec![at(2, renewal(5, &name(2, 0), DEFAULT_LEASE + 1, CLOCK))],
+        ),
+    ]
+}
+
+/// A list of so many calls, the same few in turn; fewer where the last turn wouldn't be whole.
 fn repeated(calls: &[Call], count: usize) -> Work {
+    let count = count - count % calls.len().max(1);
     let list = calls
         .iter()
         .cycle()
@@ -414,7 +496,8 @@ fn repeated(calls: &[Call], count: usize) -> Work {
     Work::Replay(list, count)
 }
 
-/// A mixed list: every message type from every house, a second between calls, leases granted, renewed, released and ended.
+/// A mixed list: every message type from every house, a second between calls, offers held, taken up, dropped and lapsed, leases granted,
+/// renewed, released and ended.
 fn mixed(count: usize) -> Work {
     let mut random = Random::new("mixed", 0);
     let mut list = Vec::new();
@@ -441,94 +524,130 @@ fn mixed(count: usize) -> Work {
     Work::Replay(list, count)
 }
 
-/// Every job: calls in lists of `count`, after an empty list on each file; then whole files and the mixed list.
-pub fn jobs(count: usize, mixed_count: usize) -> Vec<Job> {
-    let mut jobs = Vec::new();
-    let empty = |leases: usize, file: &[u8]| Job {
-        name: "empty list",
-        leases,
-        filled: Filled::Little,
-        file: file.to_vec(),
-        work: repeated(&[], 0),
-        draws: Some(ACKNOWLEDGED),
-    };
-    // With sixteen leases a house gets no further, so house 1 has one less where the grant rule is to be measured.
-    let mut one_less = campus(128);
-    one_less.leases.remove(15);
-    let one_less = one_less.octets();
-    jobs.push(empty(127, &one_less));
-    for leases in LEASES {
-        let campus = campus(leases);
-        let file = campus.octets();
-        jobs.push(empty(leases, &file));
-        for (name, draws, calls) in turns(&campus) {
-            let job = |leases: usize, file: &[u8]| Job {
-                name,
-                leases,
-                filled: Filled::Little,
-                file: file.to_vec(),
-                work: repeated(&calls, count),
-                draws: Some(draws),
-            };
-            let grants = draws == OFFERED || name.ends_with("(grant)");
-            jobs.push(job(
-                leases,
-                if grants && leases == 128 {
-                    &one_less
-                } else {
-                    &file
-                },
-            ));
-            if draws == BAD_HEADER && leases == 128 {
-                jobs.push(job(127, &one_less));
-            }
+/// A campus with so many leases, and jobs on its file.
+struct Bench {
+    campus: Campus,
+    leases: usize,
+    filled: Filled,
+}
+
+impl Bench {
+    fn job(&self, name: &'static str, work: Work, draws: &'static [Draws]) -> Job {
+        let file = self.campus.octets();
+        Job {
+            name,
+            leases: self.leases,
+            filled: self.filled,
+            file: file.clone(),
+            work,
+            due: Some(Due { draws, file }),
         }
+    }
+
+    fn empty(&self, name: &'static str) -> Job {
+        self.job(name, repeated(&[], 0), &[])
+    }
+
+    fn turn(&self, (name, draws, calls): Turn, count: usize) -> Job {
+        self.job(name, repeated(&calls, count), draws)
+    }
+
+    fn mixed(&self, count: usize) -> Job {
+        Job {
+            due: None,
+            ..self.job("mixed list", mixed(count), &[])
+        }
+    }
+
+    /// The same with a house 1 that gets further: with sixteen leases it doesn't, so it has one less where the grant rule is to be measured.
+    fn freer(&self) -> Bench {
+        let mut campus = self.campus.clone();
+        if self.leases == 128 {
+            campus.leases.remove(15);
+        }
+        Bench { campus, ..*self }
+    }
+
+    /// Lists of `count` calls, after an empty list on each file.
+    fn lists(&self, count: usize) -> Vec<Job> {
+        let freer = self.freer();
+        let mut jobs = freer.held_lists(count);
+        jobs.push(self.empty(EMPTY));
+        let is_full = self.leases == 128;
+        for turn in turns(&self.campus) {
+            let grants = turn.0.ends_with("(grant)");
+            let bench = if grants && is_full { &freer } else { self };
+            jobs.push(bench.turn(turn, count));
+        }
+        if is_full {
+            let less = Bench {
+                leases: 127,
+                ..freer
+            };
+            jobs.push(less.empty(EMPTY));
+            let discarded = (DISCARDED, &[BAD_HEADER][..], vec![other_octets()]);
+            jobs.push(less.turn(discarded, count));
+        }
+        jobs
+    }
+
+    /// A DISCOVER on a file with a hold: either at each lapse, so that it is offered anew each time and the last leaves a hold like the one before
+    /// the first; or while the offer is held.
+    fn held_lists(&self, count: usize) -> Vec<Job> {
+        let Some(campus) = held(&self.campus) else {
+            return Vec::new();
+        };
+        let held = Bench { campus, ..*self };
+        let seconds = |calls: usize| HOLD_TIME * calls as u32;
+        let calls: Vec<Call> = (1..=count)
+            .map(|number| discover(CLOCK + seconds(number)))
+            .collect();
+        let mut offered = held.turn(("DISCOVER, offered", &[OFFERED], calls), count);
+        offered.due = Some(Due {
+            draws: &[OFFERED],
+            file: later(held.campus.clone(), seconds(count)).octets(),
+        });
+        let repeats = ("DISCOVER, repeated", &[OFFERED][..], vec![discover(CLOCK)]);
+        let discarded = (DISCARDED_HELD, &[BAD_HEADER][..], vec![other_octets()]);
+        vec![
+            held.empty(EMPTY_HELD),
+            held.turn(discarded, count),
+            offered,
+            held.turn(repeats, count),
+        ]
+    }
+
+    /// A full file, read, and read and written.
+    fn whole(&self) -> [Job; 2] {
+        [
+            self.job("full file, read", Work::Check, &[]),
+            self.empty("full file, read and written"),
+        ]
+    }
+}
+
+/// Every job: calls in lists of `count`, after an empty list on each file; then whole files and the mixed list. At one number of leases also with a
+/// full section of names or of releases: what they cost a call, and what they cost one that has nothing to do with them.
+pub fn jobs(count: usize, mixed_count: usize) -> Vec<Job> {
+    let bench = |campus, leases, filled| Bench {
+        campus,
+        leases,
+        filled,
+    };
+    let mut jobs = Vec::new();
+    for leases in LEASES {
+        jobs.extend(bench(campus(leases), leases, Filled::Little).lists(count));
     }
     let named = with_full_names(campus(FILLED_LEASES));
     let released = with_full_releases(campus(FILLED_LEASES));
-    jobs.extend(filled_jobs(&named, Filled::Names, count, mixed_count));
-    jobs.extend(filled_jobs(&released, Filled::Releases, count, mixed_count));
-    let full = full_campus().octets();
-    let read = Job {
-        name: "full file, read",
-        leases: 128,
-        filled: Filled::Both,
-        file: full.clone(),
-        work: Work::Check,
-        draws: Some(ACKNOWLEDGED),
-    };
-    let written = Job {
-        name: "full file, read and written",
-        filled: Filled::Both,
-        ..empty(128, &full)
-    };
-    let mixed = Job {
-        name: "mixed list",
-        leases: FILLED_LEASES,
-        filled: Filled::Little,
-        file: campus(FILLED_LEASES).octets(),
-        work: mixed(mixed_count),
-        draws: None,
-    };
-    jobs.extend([read, written, mixed]);
+    for (campus, filled) in [(named, Filled::Names), (released, Filled::Releases)] {
+        let bench = bench(campus, FILLED_LEASES, filled);
+        jobs.extend(bench.lists(count));
+        jobs.push(bench.mixed(mixed_count));
+    }
+    jobs.extend(bench(full_campus(), 128, Filled::Both).whole());
+    jobs.extend(bench(held_campus(), 0, Filled::All).whole());
+    let little = bench(campus(FILLED_LEASES), FILLED_LEASES, Filled::Little);
+    jobs.push(little.mixed(mixed_count));
     jobs
-}
-
-/// The same calls and the mixed list on a file with a full section of names or of releases, at one number of leases: what they cost a call,
-/// and what they cost one that has nothing to do with them.
-fn filled_jobs(campus: &Campus, filled: Filled, count: usize, mixed_count: usize) -> Vec<Job> {
-    let file = campus.octets();
-    let job = |name, work, draws| Job {
-        name,
-        leases: FILLED_LEASES,
-        filled,
-        file: file.clone(),
-        work,
-        draws,
-    };
-    let empty = job("empty list", repeated(&[], 0), Some(ACKNOWLEDGED));
-    let calls = turns(campus).into_iter();
-    let calls = calls.map(|(name, draws, calls)| job(name, repeated(&calls, count), Some(draws)));
-    let mixed = job("mixed list", mixed(mixed_count), None);
-    [empty].into_iter().chain(calls).chain([mixed]).collect()
 }

@@ -1,13 +1,17 @@
 //! What compares the proved library with the second program, and measures both: cases made from a seed, both
 //! implementations in one process, every octet compared. And what tries the library by itself, each call watched.
 
+pub mod asked;
 pub mod bounds;
 pub mod calls;
 pub mod campus;
 pub mod case;
 pub mod compare;
 pub mod damage;
+pub mod damage_holds;
+pub mod holds;
 pub mod jobs;
+pub mod judged;
 pub mod lent;
 pub mod message;
 pub mod names;

@@ -1,6 +1,7 @@
 //! Releases that are remembered: those of a campus, RELEASEs to send again, and what is due of a call, with why it is. What is due is read off the
 //! campus before the call, so that every branch is counted where the reply alone wouldn't show it.
 
+use crate::asked::Asked;
 use crate::campus::fresh_identifier;
 use crate::message;
 use crate::random::Random;
@@ -68,7 +69,7 @@ pub fn sent_again(random: &mut Random, release: &Release) -> Message {
 }
 
 /// What has to occur in a default run.
-pub const COUNTED: [&str; 29] = [
+pub const COUNTED: [&str; 35] = [
     AGAIN,
     AT_ONCE,
     AFTER_299,
@@ -95,15 +96,22 @@ pub const COUNTED: [&str; 29] = [
     NEW_LEASE_ANOTHERS,
     OLD_OCTETS,
     OFFERED,
+    OFFERED_EARLIER,
+    OFFERED_LATE,
+    OFFERED_ANOTHERS,
+    NOT_OFFERED,
+    STILL_HELD,
+    NOT_HELD,
     REFUSED,
     RENEWED,
     STAYS,
 ];
-/// These four are seen by the fuzz run too.
+/// These five are seen by the fuzz run too.
 pub const AGAIN: &str = "sent again";
 pub const REMEMBERED: &str = "remembered";
 pub const FIFTH: &str = "a fifth forgets the oldest";
 pub const NEW_LEASE: &str = "a new lease forgets it";
+pub const OFFERED: &str = "an offer forgets it";
 const AT_ONCE: &str = "sent again at its own clock";
 const AFTER_299: &str = "sent again after 299 s";
 const AFTER_300: &str = "sent again after 300 s: error 3";
@@ -125,12 +133,28 @@ const NEW_LEASE_EARLIER: &str = "a new lease forgets one that isn't the youngest
 const NEW_LEASE_LATE: &str = "a new lease forgets one of 300 s ago or more";
 const NEW_LEASE_ANOTHERS: &str = "a new lease leaves another house's of the same identifier";
 const OLD_OCTETS: &str = "after a new lease the old RELEASE releases it";
-const OFFERED: &str = "an OFFER forgets nothing";
+const OFFERED_EARLIER: &str = "an offer forgets one that isn't the youngest";
+const OFFERED_LATE: &str = "an offer forgets one of 300 s ago or more";
+const OFFERED_ANOTHERS: &str = "an offer leaves another house's of the same identifier";
+const NOT_OFFERED: &str = "a refused DISCOVER forgets nothing";
+const STILL_HELD: &str = "sent again while the offer that forgot it is held: error 3";
+const NOT_HELD: &str = "sent again after the offer that forgot it: error 3";
 const REFUSED: &str = "a refused REQUEST forgets nothing";
 const RENEWED: &str = "a RENEW of its identifier: error 3";
 const STAYS: &str = "one of 300 s ago or more stays";
 
-/// What is due of a call that drew a reply.
+/// What forgets a release, and in the same order what else may be said of it: it isn't the youngest; it is of 300 s ago or more; another
+/// house's stays.
+type Forgets = [&'static str; 4];
+const BY_LEASE: Forgets = [
+    NEW_LEASE,
+    NEW_LEASE_EARLIER,
+    NEW_LEASE_LATE,
+    NEW_LEASE_ANOTHERS,
+];
+const BY_OFFER: Forgets = [OFFERED, OFFERED_EARLIER, OFFERED_LATE, OFFERED_ANOTHERS];
+
+/// What is due of a call that drew a reply, or an error that it doesn't hear of.
 pub struct Due {
     /// What is remembered afterwards.
     pub releases: Vec<Release>,
@@ -145,35 +169,10 @@ pub struct Due {
 pub struct Past {
     pushed_out: Vec<Release>,
     leased_again: Vec<Release>,
-}
-
-/// A call on a campus, as far as it matters here and for the bounds of a period.
-pub struct Asked<'a> {
-    campus: &'a Campus,
-    pub clock: u32,
-    house: u8,
-    pub kind: u8,
-    transaction: u32,
-    identifier: &'a [u8],
-    pub datagram: &'a [u8],
+    offered_again: Vec<Release>,
 }
 
 impl<'a> Asked<'a> {
-    /// Of a call that drew a reply, so that its client has a house and its options are laid out.
-    pub fn new(campus: &'a Campus, call: &'a Call) -> Option<Asked<'a>> {
-        let datagram = &call.datagram[..];
-        let inside = |range: &(u32, u32)| range.0 <= call.client && call.client <= range.1;
-        Some(Asked {
-            campus,
-            clock: campus.clock.max(call.time),
-            house: campus.houses.iter().position(inside)? as u8 + 1,
-            kind: *datagram.get(1)?,
-            transaction: u32::from_be_bytes(datagram.get(4..8)?.try_into().ok()?),
-            identifier: value_of(datagram, 3)?,
-            datagram,
-        })
-    }
-
     fn is_of(&self, release: &Release) -> bool {
         release.house == self.house && release.identifier == self.identifier
     }
@@ -210,47 +209,10 @@ impl<'a> Asked<'a> {
     fn is_young(&self, release: &Release) -> bool {
         self.ago(release) < RESEND_TIME
     }
-
-    /// The house's lease on the identifier, ended or not.
-    pub fn lease(&self) -> Option<&'a Lease> {
-        let mut leases = self.campus.leases.iter();
-        leases.find(|lease| lease.house == self.house && lease.identifier == self.identifier)
-    }
-
-    pub fn holds(&self) -> bool {
-        self.lease().is_some_and(|lease| lease.end > self.clock)
-    }
-
-    /// Whether the lease records this message: a REQUEST or RENEW sent again.
-    pub fn is_resend(&self) -> bool {
-        let sent = (self.kind, self.transaction);
-        let records = |lease: &Lease| (lease.kind, lease.transaction) == sent;
-        self.holds() && self.lease().is_some_and(records)
-    }
-
-    /// A RELEASE has options 3 and 12 only; codes above 16 are stepped over.
-    fn has_forbidden(&self) -> bool {
-        let mut codes = (1..=16).filter(|code| ![3, 12].contains(code));
-        codes.any(|code| value_of(self.datagram, code).is_some())
-    }
-
-    /// The ACK to a RELEASE, or the NAK with an error.
-    pub fn reply(&self, refused: Option<u16>) -> Vec<u8> {
-        let kind = if refused.is_some() { NAK } else { ACK };
-        let mut options = vec![
-            server_identifier(self.campus.server),
-            identifier(self.identifier),
-        ];
-        if value_of(self.datagram, 12).is_some() {
-            options.push(features([&[]; 3]));
-        }
-        options.extend(refused.map(error));
-        Message::new(kind, self.transaction, options).octets()
-    }
 }
 
 impl Past {
-    /// What is due of a call on a campus, which drew a reply. `None` for one that can't have drawn it.
+    /// What is due of a call on a campus, which drew a reply or discard 8. `None` for one that can't have drawn it.
     pub fn due(&mut self, campus: &Campus, call: &Call, reply: &[u8]) -> Option<Due> {
         let asked = Asked::new(campus, call)?;
         let mut due = Due {
@@ -260,10 +222,15 @@ impl Past {
         };
         match asked.kind {
             RELEASE => self.release(&asked, &mut due),
-            REQUEST if reply.get(1) == Some(&ACK) => self.request(&asked, &mut due),
-            DISCOVER if asked.own().is_some() && reply.get(1) == Some(&OFFER) => {
-                due.why.push(OFFERED)
+            REQUEST if reply.get(1) == Some(&ACK) => {
+                let forgotten = forget(&asked, &mut due, BY_LEASE);
+                self.leased_again.extend(forgotten);
             }
+            DISCOVER if reply.get(1) == Some(&OFFER) => {
+                let forgotten = forget(&asked, &mut due, BY_OFFER);
+                self.offered_again.extend(forgotten);
+            }
+            DISCOVER if asked.own().is_some() => due.why.push(NOT_OFFERED),
             REQUEST if asked.own().is_some() => due.why.push(REFUSED),
             RENEW if asked.own().is_some() => due.why.push(RENEWED),
             _ => {}
@@ -286,7 +253,7 @@ impl Past {
                 due.why.extend(sent.map(|_| FORBIDDEN_LATE));
                 Some(1)
             }
-            _ if asked.holds() => {
+            _ if asked.is_leased() => {
                 self.remember(asked, due);
                 None
             }
@@ -308,6 +275,9 @@ impl Past {
         let another_id = sent.is_none() && own.is_some_and(is_known);
         let anothers =
             own.is_none() && another.is_some_and(|other| same_id(other) && is_known(other));
+        let mut offered = self.offered_again.iter();
+        let offered = offered.any(|release| asked.has_sent(release) && is_known(release));
+        let is_held = asked.hold().is_some();
         let after = |seconds: u32| sent.is_some_and(|sent| asked.ago(sent) == seconds);
         let mut see = |what: &'static str, holds: bool| due.why.extend(holds.then_some(what));
         see(AFTER_300, after(RESEND_TIME));
@@ -317,6 +287,8 @@ impl Past {
         see(NOT_KNOWN, own.is_none() && another.is_none());
         see(ENDED, asked.lease().is_some());
         see(PUSHED_OUT, pushed_out);
+        see(STILL_HELD, offered && is_held);
+        see(NOT_HELD, offered && !is_held);
     }
 
     /// The youngest of its house; a fifth forgets the oldest.
@@ -331,7 +303,8 @@ impl Past {
         see(FIFTH, places.len() == MOST_RELEASES);
         see(SAME_CLOCK, at_its_clock);
         see(BESIDE_ANOTHERS, asked.anothers().is_some());
-        see(OLD_OCTETS, self.leased_again.iter().any(was_sent));
+        let mut forgotten = self.leased_again.iter().chain(&self.offered_again);
+        see(OLD_OCTETS, forgotten.any(was_sent));
         let release = Release {
             house: asked.house,
             identifier: asked.identifier.to_vec(),
@@ -343,24 +316,23 @@ impl Past {
             self.pushed_out.push(due.releases.remove(places.start));
         }
     }
+}
 
-    /// An ACK to a REQUEST: a new lease forgets the release of its identifier.
-    fn request(&mut self, asked: &Asked, due: &mut Due) {
-        let Some(place) = due.releases.iter().position(|release| asked.is_of(release)) else {
-            let is_new = !asked.holds() && asked.anothers().is_some();
-            due.why.extend(is_new.then_some(NEW_LEASE_ANOTHERS));
-            return;
-        };
-        let release = due.releases.remove(place);
-        let next = due.releases.get(place);
-        let earlier = next.is_some_and(|next| next.house == asked.house);
-        due.why.push(NEW_LEASE);
-        due.why.extend(earlier.then_some(NEW_LEASE_EARLIER));
-        due.why
-            .extend((!asked.is_young(&release)).then_some(NEW_LEASE_LATE));
-        due.why.extend(asked.anothers().map(|_| NEW_LEASE_ANOTHERS));
-        self.leased_again.push(release);
-    }
+/// An OFFER, or an ACK to a REQUEST: a new hold or lease forgets the release of its identifier. One that is sent again, and a lease that a hold
+/// becomes, find none.
+fn forget(asked: &Asked, due: &mut Due, [by, earlier, late, anothers]: Forgets) -> Option<Release> {
+    let mut places = due.releases.iter();
+    let place = places.position(|release| asked.is_of(release));
+    let is_new = !asked.is_leased() && asked.hold().is_none();
+    let another = is_new.then(|| asked.anothers()).flatten();
+    due.why.extend(another.map(|_| anothers));
+    let release = due.releases.remove(place?);
+    let next = due.releases.get(place?);
+    let mut see = |what: &'static str, holds: bool| due.why.extend(holds.then_some(what));
+    see(by, true);
+    see(earlier, next.is_some_and(|next| next.house == asked.house));
+    see(late, !asked.is_young(&release));
+    Some(release)
 }
 
 /// A RELEASE that is known: nothing changes.

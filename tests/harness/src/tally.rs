@@ -2,6 +2,7 @@
 
 use crate::bounds;
 use crate::damage::DAMAGES;
+use crate::judged;
 use crate::names;
 use crate::releases;
 use std::collections::BTreeMap;
@@ -71,6 +72,10 @@ fn bounded_for(why: String) -> String {
     format!("bounds: {why}")
 }
 
+fn held_for(why: String) -> String {
+    format!("hold: {why}")
+}
+
 impl Tally {
     fn add(&mut self, name: String) {
         *self.counts.entry(name).or_default() += 1;
@@ -111,6 +116,11 @@ impl Tally {
         self.add(bounded_for(why));
     }
 
+    /// What was judged of an offer that is held.
+    pub fn held(&mut self, why: impl Into<String>) {
+        self.add(held_for(why.into()));
+    }
+
     /// A file that was damaged on purpose, and what it drew.
     pub fn damaged(&mut self, place: usize, refusal: u8) {
         if refusal == DAMAGES[place].refusal {
@@ -129,6 +139,7 @@ impl Tally {
         names.extend(names::COUNTED.map(named_for));
         names.extend(releases::COUNTED.map(released_for));
         names.extend(bounds::counted().into_iter().map(bounded_for));
+        names.extend(judged::counted().into_iter().map(held_for));
         names.extend((0..DAMAGES.len()).map(damage_name));
         names
     }

@@ -3,6 +3,7 @@
 //! that a replay is its single serves. What isn't so is a panic.
 
 use crate::bounds;
+use crate::holds;
 use crate::lent::{Held, Lender};
 use crate::releases::Past;
 use banshorra_host::{ANSWER_ROOM, BOARD_ROOM, FILE_ROOM, REPLY_ROOM};
@@ -13,7 +14,7 @@ use std::collections::BTreeMap;
 pub const EXACT: Lender = Lender { around: 0 };
 
 /// What a run of some length has to see.
-const SEEN: [(&str, &str); 9] = [
+const SEEN: [(&str, &str); 10] = [
     ("check", "0, 20, 21"),
     ("board", "lines, refused 20, refused 21, no room"),
     ("serve", "0, 2, 3, 4, 5, 6, 7, 8, 20, 21, 23, 28"),
@@ -23,11 +24,15 @@ const SEEN: [(&str, &str); 9] = [
     ("names", "0, 1"),
     (
         "releases",
-        "remembered, sent again, a new lease forgets it, a fifth forgets the oldest",
+        "remembered, sent again, a new lease forgets it, an offer forgets it, a fifth forgets the oldest",
     ),
     (
         "bounds",
         "met, below the minimum, after the latest, latest before start, resent",
+    ),
+    (
+        "holds",
+        "held, repeated, turned, dropped, kept, lapsed",
     ),
 ];
 
@@ -54,6 +59,19 @@ fn campus(file: &[u8]) -> Campus {
     campus
 }
 
+/// What has to draw the same as a call draws it, and leaves the same file where both are one call.
+fn see_alike(before: &Campus, after: &[u8], call: &Call, answer: &(u8, Vec<u8>)) {
+    let Some((other, alike)) = holds::alike(before, call) else {
+        return;
+    };
+    let file = other.octets();
+    let mut held = EXACT.hold(&file, FILE_ROOM, file.len());
+    let drawn = EXACT.serve(&mut held, &alike, 0x3C);
+    let is_same_file = drawn.0 != 0 || alike.datagram != call.datagram || held.file() == after;
+    let same = holds::of_alike(before, call, drawn) == *answer && is_same_file;
+    assert!(same, "what has to draw the same draws something else");
+}
+
 /// How often each number was returned, and each reply and error seen.
 #[derive(Default)]
 pub struct Watch(BTreeMap<(&'static str, String), u64>);
@@ -63,7 +81,7 @@ impl Watch {
         *self.0.entry((what, of.to_string())).or_default() += 1;
     }
 
-    /// A line for each function, for replies, errors, names, releases and bounds; and how many of those that have to occur never did.
+    /// A line for each function, for replies, errors, names, releases, bounds and holds; and how many of those that have to occur never did.
     pub fn lines(&self) -> (Vec<String>, usize) {
         let (mut lines, mut missing) = (vec![], 0);
         for (what, names) in SEEN {
@@ -125,8 +143,11 @@ impl Watch {
 
     /// A serve, and again with other octets past the file and in the reply room: nothing may differ.
     pub fn serve(&mut self, held: &mut Held, call: &Call) -> (u8, Vec<u8>) {
-        let mut other = held.with_other_octets();
+        let (mut other, before) = (held.with_other_octets(), held.file().to_vec());
         let answer = self.serve_once(held, call, 0x3C);
+        if answer.0 <= 8 && answer.0 != 2 {
+            see_alike(&campus(&before), held.file(), call, &answer);
+        }
         let again = self.serve_once(&mut other, call, 0xE7);
         assert!(again == answer, "the answer depends on octets outside");
         let same = other.length() == held.length() && other.file() == held.file();
@@ -154,7 +175,9 @@ impl Watch {
         }
         if due == 0 && number != 2 {
             self.see_file(&before, held, call.time);
-            self.see_releases(&campus(&before), &campus(held.file()), call, &reply);
+            let (before, after) = (campus(&before), campus(held.file()));
+            self.see_releases(&before, &after, call, &reply);
+            self.see_holds(&before, &after, call, (number, &reply));
         }
         if let (Some(plain), 0 | 8) = (plain, number) {
             self.see_bounds(&campus(&before), call, (number, &reply), plain);
@@ -236,6 +259,25 @@ impl Watch {
             due.why
                 .into_iter()
                 .for_each(|why| self.count("releases", why));
+        }
+    }
+
+    /// What a call leaves of holds, and its answer where a hold decides it.
+    fn see_holds(
+        &mut self,
+        before: &Campus,
+        after: &Campus,
+        call: &Call,
+        (number, reply): (u8, &[u8]),
+    ) {
+        let due = holds::due(before, call, number, reply);
+        assert!(after.holds == due.holds, "other holds are due");
+        let same = due
+            .answer
+            .is_none_or(|(outcome, due)| outcome == number && due == reply);
+        assert!(same, "by the hold another answer is due");
+        if !due.short.is_empty() {
+            self.count("holds", due.short);
         }
     }
 

@@ -23,7 +23,7 @@ use Rattle.state.specs.declared.Lease.{Lease}
 use Rattle.state.specs.declared.State.{State}
 use Rattle.state.specs.Book.{unionAll, addressesOf, inScope, usedIn, overlaps, heldOf, heldCount, busyOf, idOf, other, insertOf, scopeAt, reserveAt, limitAt, heldAt, withHeld, committed, committedSum}
 use Rattle.state.specs.laws.Sets.{adds, addresses-cons, insert-addresses}
-use Rattle.soundness.specs.Sound.{tenantsIn, scopesIn, idB, scopeKnown, belowB, offsetsB, kindB, periodB, leaseB, paddedB, disjoint, apartIn, apart, compatible}
+use Rattle.soundness.specs.Sound.{tenantsIn, scopesIn, idB, scopeKnown, belowB, offsetsB, kindB, periodB, leaseB, paddedB, holdB, disjoint, apartIn, apart, compatible}
 use Rattle.soundness.specs.laws.Book.{leaseOk, Sound}
 use Rattle.soundness.specs.laws.Kept.{sum-less}
 use Rattle.soundness.specs.laws.Added.{compatible-turn, each-at, owners-at, apart-inserted, sound-inserted}
@@ -97,14 +97,14 @@ one-below : (s : State) (k : ℕ) → k < scopesIn s → (y : Lease) → leaseOk
 unfolding leaseOk offsetsB leaseB pick
 one-below s k here y e a h g = go (eqb (y .scope) (k + 1)) refl
   where
-    P : ((idB y && offsetsB s y) ≡ true) × ((leaseB s y && paddedB y) ≡ true)
-    P = and-parts (idB y && offsetsB s y) (leaseB s y && paddedB y) e
+    P : ((idB y && offsetsB s y) ≡ true) × ((leaseB s y && (paddedB y && holdB (s .clock) y)) ≡ true)
+    P = and-parts (idB y && offsetsB s y) (leaseB s y && (paddedB y && holdB (s .clock) y)) e
 
     O : offsetsB s y ≡ true
     O = and-parts (idB y) (offsetsB s y) (P .0) .1
 
     K : scopeKnown s y ≡ true
-    K = and-parts (scopeKnown s y) (kindB y && periodB (s .clock) y) (and-parts (leaseB s y) (paddedB y) (P .1) .0) .0
+    K = and-parts (scopeKnown s y) (kindB y && periodB (s .clock) y) (and-parts (leaseB s y) (paddedB y && holdB (s .clock) y) (P .1) .0) .0
 
     below : belowB (scopeAt s (y .scope - 1) .size) (y .addresses) ≡ true
     below = sym (ap (λ (b : Bool). pick b (belowB (scopeAt s (y .scope - 1) .size) (y .addresses)) true) K) ∙ O

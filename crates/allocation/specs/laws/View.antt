@@ -154,25 +154,30 @@ module _ {s : State} {t : LeaseTable} {h : ℕ} {own : TenantLeases} {held : Hel
   view-sets k =
       ap (λ (x : HeldTable). map (setIn k) (x .tenants)) (w .holdings) ∙ sets-are s k (t .tenants) (scopes-few s (leasesOf t) view-sound) (view-sound .each)
 
--- the tenant's addresses that are free in a period
-pub view-free : (a : Ask) {s : State} {t : LeaseTable} {own : TenantLeases} {held : HeldTable} (w : View s t (a .tenant) own held) → freeIn (setsIn (a .scope) held) (inUse own) a ≡ freeOf (leasesOf t) a
-unfolding freeIn
-view-free a {s} {t} {own} {held} w =
-    let ls : List (List Lease) = leasesOf t in
-    let h : ℕ = a .tenant in
-    let k : ℕ = a .scope in
-    let x : List Lease = getD ls h [] in
-    ap₂ differenceOf (ap (λ (m : List ℕ). getD m h 0) (view-sets w k) ∙ held-read k ls h) (ap (busyOf k (a .from) (a .to)) (view-own w))
-    ∙ difference-agrees (heldOf k x) (busyOf k (a .from) (a .to) x) (busyIn k (a .from) (a .to) ls)
-    (λ b. sym (busy-own s ls (view-sound w) h k (a .from) (a .to) (heldOf k x) x (view-there w) (λ b. omega arith) b)
-    ∙ ap (λ (l : List (List Lease)). min (bit (heldOf k x) b) (bit (busyIn k (a .from) (a .to) l) b)) (set-getD ls h []))
-
 -- ---- the grant
+-- of any sound leases: by the tenant's own, and by what all tenants hold in the scope asked for
+module _ (c : Scope) (n : ℕ) (a : Ask) {s : State} (ls : List (List Lease)) (v : Sound s ls) (there : a .tenant < length ls) (own : List Lease) (held : HeldTable)
+    (mine : own ≡ getD ls (a .tenant) []) (sets : setsIn (a .scope) held ≡ map (heldOf (a .scope)) ls) where
+  -- the tenant's addresses that are free in the period
+  free-by : freeIn (setsIn (a .scope) held) own a ≡ freeOf ls a
+  unfolding freeIn
+  free-by =
+      let h : ℕ = a .tenant in
+      let k : ℕ = a .scope in
+      let x : List Lease = getD ls h [] in
+      ap₂ differenceOf (ap (λ (m : List ℕ). getD m h 0) sets ∙ held-read k ls h) (ap (busyOf k (a .from) (a .to)) mine)
+      ∙ difference-agrees (heldOf k x) (busyOf k (a .from) (a .to) x) (busyIn k (a .from) (a .to) ls)
+      (λ b. sym (busy-own s ls v h k (a .from) (a .to) (heldOf k x) x there (λ b. omega arith) b)
+      ∙ ap (λ (l : List (List Lease)). min (bit (heldOf k x) b) (bit (busyIn k (a .from) (a .to) l) b)) (set-getD ls h []))
+
+  pub grant-by-lists : grantIn own held c n a ≡ grantTo c n ls a
+  unfolding grantIn grantTo pick
+  grant-by-lists = go (ltb (a .tenant) (min n 8)) refl
+    where
+      go : (b : Bool) → ltb (a .tenant) (min n 8) ≡ b
+          → _≡_ {A = Grant} (pick b (grantKnown own held c (min n 8) a) (record { number = 0; addresses = 0 })) (pick b (grantOf c (min n 8) ls a) (record { number = 0; addresses = 0 }))
+      go true e = grant-by own held c (min n 8) ls a (ltb-true (a .tenant) (min n 8) e) sets free-by
+      go false e = refl
+
 pub grant-in : (c : Scope) (n : ℕ) (a : Ask) {s : State} {t : LeaseTable} {own : TenantLeases} {held : HeldTable} → View s t (a .tenant) own held → grantIn (inUse own) held c n a ≡ grantTo c n (leasesOf t) a
-unfolding grantIn grantTo pick
-grant-in c n a {s} {t} {own} {held} w = go (ltb (a .tenant) (min n 8)) refl
-  where
-    go : (b : Bool) → ltb (a .tenant) (min n 8) ≡ b
-        → _≡_ {A = Grant} (pick b (grantKnown (inUse own) held c (min n 8) a) (record { number = 0; addresses = 0 })) (pick b (grantOf c (min n 8) (leasesOf t) a) (record { number = 0; addresses = 0 }))
-    go true e = grant-by (inUse own) held c (min n 8) (leasesOf t) a (ltb-true (a .tenant) (min n 8) e) (view-sets w (a .scope)) (view-free a w)
-    go false e = refl
+grant-in c n a {s} {t} {own} {held} w = grant-by-lists c n a (leasesOf t) (view-sound w) (view-there w) (inUse own) held (view-own w) (view-sets w (a .scope))

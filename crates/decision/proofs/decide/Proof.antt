@@ -8,6 +8,6 @@ pub decide-spec : {M : Type 1} → statement M
 decide-spec =
     tie.close
     (tie.spec
-    (λ c κs. search needs)  -- src/lib.rt:315:9 look-up-requires
-    (λ c κs. search needs)  -- src/lib.rt:317:5 judge-requires
-    (λ c. search (decide-is, needs)))  -- src/lib.rt:303:1 returns
+    (λ c κs. search needs)  -- src/lib.rt:387:9 look-up-requires
+    (λ c κs. search needs)  -- src/lib.rt:389:5 judge-requires
+    (λ c. search (decide-is, needs)))  -- src/lib.rt:375:1 returns

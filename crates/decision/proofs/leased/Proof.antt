@@ -11,11 +11,11 @@ unfolding leasedOf
 leased-spec =
     tie.close
     (tie.spec
-    (λ c κs. search needs)
-    (λ c. search (picks, needs))
-    (λ c κs. search needs)
-    (λ c κs. search needs)
-    (λ c. search (picks, edited-as, needs))
-    (λ c κs. search needs)
-    (λ c κs. search needs)
-    (λ c. search (picks, edited-as, needs)))
+    (λ c κs. search needs)  -- src/lib.rt:225:9 offer-requires
+    (λ c. search (picks, needs))  -- src/lib.rt:225:9 returns
+    (λ c κs. search needs)  -- src/lib.rt:228:28 enter-requires
+    (λ c κs. search needs)  -- src/lib.rt:228:9 acknowledge-requires
+    (λ c. search (picks, edited-as, needs))  -- src/lib.rt:228:9 returns-2
+    (λ c κs. search needs)  -- src/lib.rt:230:17 give-way-requires
+    (λ c κs. search needs)  -- src/lib.rt:230:5 acknowledge-requires-2
+    (λ c. search (picks, edited-as, needs)))  -- src/lib.rt:221:1 returns-3

@@ -4,13 +4,17 @@ use mathlib.Core.Bool.{Bool, true, false, not, _&&_, _||_}
 use mathlib.Core.List.{List}
 use lib.Dec.{ltb, eqb}
 use lib.ListN.{length}
-use Rattle.lists.specs.Pick.{pick}
-use Rattle.lists.specs.laws.Pick.{pick-no}
+use Rattle.lists.specs.laws.Both.{and-le, and-not-le}
+use Rattle.lists.specs.laws.Pick.{pick-no, pick-yes}
+use Rattle.address_set.specs.AddressSet.{offsets}
 use Rattle.message.specs.declared.Fields.{Fields}
-use Rattle.state.specs.Book.{leaseWith, removeOf, busyOf, scopeAt}
+use Rattle.state.specs.Book.{busyOf, holdTime, inUse, isHold, laidOut, lapsingAt, leaseWith, removeOf, scopeAt}
+use Rattle.state.specs.Edit.{droppingFirst, entering, givingWay}
+use Rattle.state.specs.laws.Layout.{read-back}
 use Rattle.state.specs.declared.Lease.{Lease}
 use Rattle.state.specs.declared.Release.{Release}
 use Rattle.state.specs.declared.Scope.{Scope}
+use Rattle.state.specs.declared.TenantLeases.{TenantLeases}
 use Rattle.state.specs.declared.State.{State}
 use Rattle.soundness.specs.declared.HeldTable.{HeldTable}
 use Rattle.soundness.specs.Sound.{tenantsIn}
@@ -22,14 +26,14 @@ use Rattle.decision.specs.declared.Proposal.{Proposal}
 use Rattle.decision.specs.declared.Verdict.{Verdict}
 use Rattle.decision.specs.declared.Reply.{Reply}
 use Rattle.decision.specs.declared.Reply.the-variants.{Nothing, Offer, LeaseAck, ReleaseAck, InfoAck, Nak}
-use mathlib.Core.Path.{_≡_, sym, ap, ap₂, _∙_}
+use mathlib.Core.Path.{_≡_, refl, sym, ap, ap₂, _∙_}
 use native.Mathlib.Omega.{arith}
 use Rattle.state.specs.declared.Edit.{Edit}
 use Rattle.decision.specs.declared.Decided.{Decided}
 use Rattle.decision.specs.declared.Recorded.{Recorded}
-use Rattle.decision.specs.Parts.{defaultLease, longestLease, skew, isNew, hasPeriod, resends, releasedAgain, error1Of, error2Of, scopePlace, knowsScope, lacksScope, lacksCurrent, skewed, error3Of, wishedOr, startOf, lengthOf, endOf, askAt, leaseIdIn, holdsOf, recordedOf, fitsRenewed, renewedBy, leaseFrom, tooShort, tooLate, meets}
-use Rattle.decision.specs.Gather.{recordedIn, newBy, newAtIn, newIn, renewedToIn, renewedIn, proposalIn, decideIn}
-use Rattle.decision.specs.Decide.{unchanged, changed, leasedOf, plainOf, settledOf, judgedOf}
+use Rattle.decision.specs.Parts.{defaultLease, longestLease, skew, isNew, resends, releasedAgain, error1Of, error2Of, scopePlace, knowsScope, lacksScope, lacksCurrent, skewed, error3Of, wishedOr, startOf, lengthOf, endOf, askAt, leaseIdIn, holdsOf, recordedOf, fitsRenewed, renewedBy, leaseFrom, tooShort, tooLate, meets, isLeased, scopeNumber, sameScope, holdMeets, dropsHold, heldFrom, withLease}
+use Rattle.decision.specs.Gather.{recordedIn, newBy, newAtIn, newIn, renewedToIn, renewedIn, proposalIn, broughtIn, pastErrors, decideIn}
+use Rattle.decision.specs.Decide.{unchanged, changed, leasedOf, settledOf, droppedFirst, judgedOf}
 
 -- ---- the lease, and the verdicts
 -- the type number of each reply: OFFER, ACK and NAK; 0 where none is sent
@@ -74,9 +78,30 @@ pub unmet-is : (m : Fields) (start length n : ℕ) (a r : Bool) → n ≡ length
 unfolding meets
 unmet-is m start length n a r p q e = e ∙ ap not (q ∙ ap (meets m start) p)
 
-pub error3-is : (m : Fields) (held a r : Bool) → a ≡ (eqb (m .kind) 4 || eqb (m .kind) 7) → r ≡ (a && not held) → r ≡ error3Of m held
+pub error3-is : (m : Fields) (o : Lease) (there a b r : Bool) → a ≡ (eqb (m .kind) 4 || eqb (m .kind) 7) → b ≡ isLeased o there → r ≡ (a && not b) → r ≡ error3Of m o there
 unfolding error3Of
-error3-is m held a r p e = e ∙ ap (λ (x : Bool). x && not held) p
+error3-is m o there a b r p q e = e ∙ ap₂ (λ (x y : Bool). x && not y) p q
+
+-- ---- tests of a hold
+pub leased-test : (o : Lease) (there b r : Bool) → b ≡ isHold o → r ≡ (there && not b) → r ≡ isLeased o there
+unfolding isLeased
+leased-test o there b r p e = e ∙ ap (λ (x : Bool). there && not x) p
+
+pub same-scope-is : (s : State) (m : Fields) (o : Lease) (k n : ℕ) → k ≡ scopePlace s (m .scope .value) → n ≡ min k 4 + 1 → eqb (o .scope) n ≡ sameScope s m o
+unfolding sameScope
+same-scope-is s m o k n p q = ap (eqb (o .scope)) (q ∙ ap scopeNumber p)
+
+pub not-got : {q t : Bool} → q ≡ t → not q ≡ not t
+not-got e = ap not e
+
+-- the number of addresses and the length as calls gave them
+pub hold-meets-is : (m : Fields) (o : Lease) (n k : ℕ) (r : Bool) → n ≡ length (offsets (o .addresses)) → m .counts .least ≤ n → k ≡ o .end - o .start → r ≡ meets m (o .start) k → r ≡ holdMeets m o
+unfolding holdMeets
+hold-meets-is m o n k r a f p e = and-le _ r (m .counts .least) (length (offsets (o .addresses))) (omega arith) (e ∙ ap (meets m (o .start)) p)
+
+pub hold-lacks : (m : Fields) (o : Lease) (n : ℕ) → n ≡ length (offsets (o .addresses)) → n < m .counts .least → false ≡ holdMeets m o
+unfolding holdMeets
+hold-lacks m o n a f = and-not-le _ false (m .counts .least) (length (offsets (o .addresses))) (omega arith) refl
 
 -- ---- periods
 pub start-is : (m : Fields) (clock old w r : ℕ) → w ≡ wishedOr (m .times .start) old → r ≡ max clock w → r ≡ startOf m clock old
@@ -128,6 +153,20 @@ pub lease-from-is : (m : Fields) (p : Proposal) (e : ℕ) → e ≡ min (p .end)
 unfolding leaseFrom
 lease-from-is m p e q = cc
 
+pub hold-from-is : (clock : ℕ) (l : Lease) (t : ℕ) → t ≡ min (clock + holdTime) (l .end) → lapsingAt t l ≡ heldFrom clock l
+unfolding heldFrom
+hold-from-is clock l t e = ap (λ (x : ℕ). lapsingAt x l) e
+
+-- the records that are left, and those that stay
+pub brought-less : (own : TenantLeases) (m : Fields) (o : Lease) (there q : Bool) (r : TenantLeases) → q ≡ dropsHold m o there → q ≡ true → r ≡ laidOut (removeOf (leaseIdIn m) (inUse own))
+    → inUse r ≡ broughtIn (inUse own) m o there
+unfolding broughtIn
+brought-less own m o there q r e y p = pick-yes _ _ (inUse r) e y (ap inUse p ∙ read-back (removeOf (leaseIdIn m) (inUse own)))
+
+pub brought-all : (own : TenantLeases) (m : Fields) (o : Lease) (there q : Bool) → q ≡ dropsHold m o there → q ≡ false → inUse own ≡ broughtIn (inUse own) m o there
+unfolding broughtIn
+brought-all own m o there q e n = pick-no _ _ (inUse own) e n refl
+
 -- ---- decisions
 pub changed-is : {e e′ : Edit} {v w : Verdict} → e ≡ e′ → v ≡ w → _≡_ {A = Decided} (record { verdict = v; edit = e }) (changed e′ w)
 changed-is p q = cc
@@ -138,20 +177,34 @@ unchanged-is e p = p ∙ ap unchanged e
 pub edited-as : {e e′ : Edit} {v : Verdict} {r : Decided} → e ≡ e′ → r ≡ changed e v → r ≡ changed e′ v
 edited-as {v = v} e p = p ∙ ap (λ (x : Edit). changed x v) e
 
-pub leased-is : (m : Fields) (o l l′ : Lease) (r : Decided) → l ≡ l′ → r ≡ leasedOf m o l → r ≡ leasedOf m o l′
-leased-is m o l l′ r e p = p ∙ ap (leasedOf m o) e
+pub entered-as : {l l′ : Lease} {e : Edit} → l ≡ l′ → e ≡ entering l → e ≡ entering l′
+entered-as p q = q ∙ ap entering p
 
-pub settled-is : (s : State) (m : Fields) (o : Lease) (p p′ : Proposal) (r : Decided) → p ≡ p′ → r ≡ settledOf s m o p → r ≡ settledOf s m o p′
-settled-is s m o p p′ r e f = f ∙ ap (settledOf s m o) e
+-- o gives way to a lease that a call gave
+pub gave-way : {o l l′ : Lease} {e : Edit} {r : Decided} → l ≡ l′ → e ≡ givingWay o l → r ≡ changed e (withLease LeaseAck l) → r ≡ changed (givingWay o l′) (withLease LeaseAck l′)
+gave-way {o = o} {l = l} p q e = e ∙ ap (λ (x : Edit). changed x (withLease LeaseAck l)) q ∙ ap (λ (x : Lease). changed (givingWay o x) (withLease LeaseAck x)) p
 
--- a message that has passed the tests before error 0
-pub passed-on : (s : State) (p : Proposal) (q : List Release) (m : Fields) (o : Lease) (found : Bool) (r : Decided) {x a e1 e2 e3 : Bool} → x ≡ resends m o → x ≡ false → a ≡ releasedAgain s q m → a ≡ false
-    → e1 ≡ error1Of s m found → e1 ≡ false → e2 ≡ error2Of s m → e2 ≡ false → e3 ≡ error3Of m found → e3 ≡ false
-    → r ≡ pick (hasPeriod m) (settledOf s m o p) (plainOf s m o) → r ≡ judgedOf s p q m o found
-unfolding judgedOf
-passed-on s p q m o found r x0 x1 a0 a1 b0 b1 c0 c1 d0 d1 e = pick-no _ _ r x0 x1 (pick-no _ _ r a0 a1 (pick-no _ _ r b0 b1 (pick-no _ _ r c0 c1 (pick-no _ _ r d0 d1 e))))
+-- a decision that a hold's drop precedes
+pub drop-before-is : (o : Lease) (d : Decided) (e : Edit) (v : Verdict) → e ≡ droppingFirst o (d .edit) → v ≡ d .verdict → _≡_ {A = Decided} (record { verdict = v; edit = e }) (changed (droppingFirst o (d .edit)) (d .verdict))
+drop-before-is o d e v p q = cc
+
+pub leased-is : (s : State) (m : Fields) (o l l′ : Lease) (r : Decided) → l ≡ l′ → r ≡ leasedOf s m o l → r ≡ leasedOf s m o l′
+leased-is s m o l l′ r e p = p ∙ ap (leasedOf s m o) e
+
+-- what is asked for, on the records that the message brings to the grant rule
+pub lease-is : (s : State) (own rest : List Lease) (held : HeldTable) (h : ℕ) (m : Fields) (o : Lease) (there drops : Bool) (p : Proposal) (d r : Decided)
+    → rest ≡ broughtIn own m o there → p ≡ proposalIn s rest held h m o → d ≡ settledOf s m o p → drops ≡ dropsHold m o there → r ≡ droppedFirst drops o d
+    → r ≡ droppedFirst (dropsHold m o there) o (settledOf s m o (proposalIn s (broughtIn own m o there) held h m o))
+lease-is s own rest held h m o there drops p d r a b c e f =
+    f ∙ ap₂ (λ (x : Bool) (y : Decided). droppedFirst x o y) e (c ∙ ap (settledOf s m o) (b ∙ ap (λ (x : List Lease). proposalIn s x held h m o) a))
+
+-- a message that has passed errors 1 to 3
+pub passed-on : (s : State) (p : Proposal) (q : List Release) (m : Fields) (o : Lease) (there : Bool) (r : Decided) {x a e1 e2 e3 : Bool} → x ≡ resends m o → x ≡ false → a ≡ releasedAgain s q m → a ≡ false
+    → e1 ≡ error1Of s m o there → e1 ≡ false → e2 ≡ error2Of s m → e2 ≡ false → e3 ≡ error3Of m o there → e3 ≡ false → r ≡ pastErrors s p m o there → r ≡ judgedOf s p q m o there
+unfolding judgedOf pastErrors
+passed-on s p q m o there r x0 x1 a0 a1 b0 b1 c0 c1 d0 d1 e = pick-no _ _ r x0 x1 (pick-no _ _ r a0 a1 (pick-no _ _ r b0 b1 (pick-no _ _ r c0 c1 (pick-no _ _ r d0 d1 e))))
 
 pub decide-is : (s : State) (own : List Lease) (q : List Release) (held : HeldTable) (h : ℕ) (m : Fields) (o : Recorded) (r : Decided) → o ≡ recordedIn (leaseIdIn m) own
-    → r ≡ judgedOf s (proposalIn s own held h m (o .lease)) q m (o .lease) (o .found) → r ≡ decideIn s own q held h m
+    → r ≡ judgedOf s (proposalIn s (broughtIn own m (o .lease) (o .found)) held h m (o .lease)) q m (o .lease) (o .found) → r ≡ decideIn s own q held h m
 unfolding decideIn recordedOf holdsOf recordedIn
-decide-is s own q held h m o r p e = e ∙ ap (λ (x : Recorded). judgedOf s (proposalIn s own held h m (x .lease)) q m (x .lease) (x .found)) p
+decide-is s own q held h m o r p e = e ∙ ap (λ (x : Recorded). judgedOf s (proposalIn s (broughtIn own m (x .lease) (x .found)) held h m (x .lease)) q m (x .lease) (x .found)) p

@@ -83,7 +83,7 @@ unfolding perTenant
 per-length f zero t = refl
 per-length f (suc n) t = ap suc (per-length f n (suc t))
 
-per-get : {B : Type 0} (f : ℕ → B) (n t i : ℕ) (d : B) → i < n → getD (perTenant f t n) i d ≡ f (i + t)
+pub per-get : {B : Type 0} (f : ℕ → B) (n t i : ℕ) (d : B) → i < n → getD (perTenant f t n) i d ≡ f (i + t)
 unfolding perTenant
 per-get f zero t i d h = absurd (omega arith)
 per-get f (suc n) t zero d h = ap f (let e : t ≡ 0 + t = omega arith in e)

@@ -14,7 +14,7 @@ use Rattle.lists.specs.laws.Sums.{sum-one-more}
 use Rattle.lists.specs.Sums.{sumTo}
 use Rattle.octets.specs.laws.Octets.{wrote-joined, wrote-as, wrote-none}
 use Rattle.octets.specs.Octets.{Wrote}
-use Rattle.format.specs.Format.{octet, writeAll}
+use Rattle.format.specs.Format.{writeAll}
 use Rattle.format.specs.Rows.{writeFrom}
 use Rattle.format.specs.Tenants.{filedAll}
 
@@ -194,12 +194,6 @@ write-most w P most f (x ∷ l) h =
 
 pub all-most : {A : Type 0} (w : A → List ℕ) (most : ℕ) → ((x : A) → length (w x) ≤ most) → (l : List A) → length (writeAll w l) ≤ length l * most
 all-most {A} w most f l = write-most w (λ _. Unit {0}) most (λ x h. f x) l (all-any (λ (_ : A). Unit {0}) (λ x. tt) l)
-
--- octets one by one
-pub octets-many : (l : List ℕ) → length (writeAll (octet .write) l) ≡ length l
-unfolding writeAll
-octets-many [] = refl
-octets-many (x ∷ l) = let ih = octets-many l in omega arith
 
 -- a count in front
 pub count-is : {A : Type 0} (m c n : ℕ) (l : List A) → length l ≡ m → n ≡ min c m → n ≡ length (take c l)

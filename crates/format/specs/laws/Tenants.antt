@@ -32,7 +32,7 @@ module _ {A : Type 0} (key : A → ℕ) where
   sorted-from t u [] h s = tt
   sorted-from t u (x ∷ l) h s = (let g = s .0 in omega arith, s .1)
 
-  only-none : (t u : ℕ) (l : List A) → t < u → Sorted key u l → own key t l ≡ []
+  pub only-none : (t u : ℕ) (l : List A) → t < u → Sorted key u l → own key t l ≡ []
   unfolding Sorted filterBy pick
   only-none t u [] h s = refl
   only-none t u (x ∷ l) h s =

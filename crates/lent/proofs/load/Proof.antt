@@ -134,7 +134,7 @@ module _ {M : Type 1} (𝓤 : URA M) (H : Heap 𝓤) (A : Atoms 𝓤) (W : Given
           -- [the local's row; the slice's row; _4; _7; room for _8, _9, _10, _11, _12, _13; _3; _1; …]
           assigns ! (bin ! (load ! (from ! (stop !)) (look ! 2 refl)) (lit ! tt) mul-fits) (from ! (stop !)) (init ! 4 refl (tt, mul-fits)) $
           assigns ! (bin ! (load ! (from ! (fld ! refl (stop !))) (look-in ! 11 (sub ! 0 refl (whole !)))) (load ! (from ! (stop !)) (look ! 4 refl)) tt) (from ! (stop !)) (init ! 5 refl (tt, tt)) $
-          rewrite ! 5 (λ (p : ℕ). ‵ (fat fullShare tyPtr l₉ 0 (vptr b p))) (sym (place-is 56 o i)) refl $
+          rewrite ! 5 (λ (p : ℕ). ‵ (fat fullShare tyPtr l₉ 0 (vptr b p))) (sym (place-is 64 o i)) refl $
           move ! (1 ∷ []) $ elem-out ! R.the-row (Is R.the-row) (shows 𝓤 H A R.the-row) (LL.vals R.the-type R′.the-laws) (LL.tells R.the-type R′.the-laws) q′ ys i zeroLease b o in-source (λ is.
           -- [leases[i]; what it owns; the slice's others; the local's row; _4; _7; _8; _9; _10; _11; _12; _13; _3; _1; …]
           assigns ! (of-opd ! (load ! (from ! (hop ! (look ! 7 refl) (stop !))) (look-raw ! 0 refl))) (from ! (stop !)) (init ! 8 refl (LL.lawful R.the-type R′.the-laws 𝓤 H A W .typed l _ is .0)) $
@@ -143,7 +143,7 @@ module _ {M : Type 1} (𝓤 : URA M) (H : Heap 𝓤) (A : Atoms 𝓤) (W : Given
           assigns ! (bin ! (load ! (from ! (stop !)) (look ! 2 refl)) (lit ! tt) mul-fits) (from ! (stop !)) (init ! 7 refl (tt, mul-fits)) $
           assigns ! (addr ! (from ! (fld ! refl (stop !)))) (from ! (stop !)) (init ! 8 refl (tt, tt)) $
           assigns ! (bin ! (load ! (from ! (stop !)) (look ! 8 refl)) (load ! (from ! (stop !)) (look ! 7 refl)) tt) (from ! (stop !)) (init ! 9 refl (tt, tt)) $
-          rewrite ! 9 (λ (p : ℕ). ‵ (fat fullShare tyPtr l₁₃ 0 (vptr l₂ p))) (sym (place-is 56 0 i)) refl $
+          rewrite ! 9 (λ (p : ℕ). ‵ (fat fullShare tyPtr l₁₃ 0 (vptr l₂ p))) (sym (place-is 64 0 i)) refl $
           move ! (1 ∷ []) $ elem-out ! R.the-row (Is R.the-row) (shows 𝓤 H A R.the-row) (LL.vals R.the-type R′.the-laws) (LL.tells R.the-type R′.the-laws) fullShare (copied d i) i zeroLease l₂ 0 in-local (λ _.
           -- [now.leases[i]; what it owns; the local's others; the slice's row; _4; _7; _8; _9; _10; _11; _12; _13; …]
           assigns ! (of-opd ! (load ! (from ! (stop !)) (look ! 8 refl))) (from ! (hop ! (look ! 11 refl) (stop !))) (store-raw ! 0 refl (LL.lawful R.the-type R′.the-laws 𝓤 H A W .typed l _ is .0)) $
@@ -161,7 +161,7 @@ module _ {M : Type 1} (𝓤 : URA M) (H : Heap 𝓤) (A : Atoms 𝓤) (W : Given
           in-local : i < length (copied d i)
           in-local = subst (λ (m : ℕ). i < m) (sym (copy-long (keeps i (omega arith)) ∙ long)) (omega (arith, small, within))
 
-          mul-fits : Fits w64 (i * 56)
+          mul-fits : Fits w64 (i * 64)
           mul-fits = record { fits = omega (arith, room .1, small) }
 
           next-fits : Fits w64 (i + 1)

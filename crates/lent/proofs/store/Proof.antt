@@ -127,7 +127,7 @@ module _ {M : Type 1} (𝓤 : URA M) (H : Heap 𝓤) (A : Atoms 𝓤) (W : Given
           assigns ! (bin ! (load ! (from ! (stop !)) (look ! 3 refl)) (lit ! tt) mul-fits) (from ! (stop !)) (init ! 5 refl (tt, mul-fits)) $
           assigns ! (addr ! (from ! (fld ! refl (stop !)))) (from ! (stop !)) (init ! 6 refl (tt, tt)) $
           assigns ! (bin ! (load ! (from ! (stop !)) (look ! 6 refl)) (load ! (from ! (stop !)) (look ! 5 refl)) tt) (from ! (stop !)) (init ! 7 refl (tt, tt)) $
-          rewrite ! 7 (λ (p : ℕ). ‵ (fat fullShare tyPtr l₁₀ 0 (vptr l₃ p))) (sym (place-is 56 0 i)) refl $
+          rewrite ! 7 (λ (p : ℕ). ‵ (fat fullShare tyPtr l₁₀ 0 (vptr l₃ p))) (sym (place-is 64 0 i)) refl $
           move ! (1 ∷ []) $ elem-out ! T.the-row (Is T.the-row) (shows 𝓤 H A T.the-row) (LL.vals T.the-type T′.the-laws) (LL.tells T.the-type T′.the-laws) fullShare all i zeroLease l₃ 0 within-all (λ is.
           -- [the local's record i; what it owns; the others; the slice's records; the way back to the local; _5; _7; _8; _9; _10; room for _11, _12, _13; _1; _4; …]
           assigns ! (of-opd ! (load ! (from ! (hop ! (look ! 9 refl) (stop !))) (look-raw ! 0 refl))) (from ! (stop !)) (init ! 10 refl (LL.lawful T.the-type T′.the-laws 𝓤 H A W .typed (getD all i zeroLease) _ is .0)) $
@@ -135,7 +135,7 @@ module _ {M : Type 1} (𝓤 : URA M) (H : Heap 𝓤) (A : Atoms 𝓤) (W : Given
           -- [the local's records; the slice's records; the way back to the local; _5; _7; _8; _9; _10; _11; room for _12, _13; _1; _4; …]
           assigns ! (bin ! (load ! (from ! (stop !)) (look ! 3 refl)) (lit ! tt) mul-fits) (from ! (stop !)) (init ! 9 refl (tt, mul-fits)) $
           assigns ! (bin ! (load ! (from ! (fld ! refl (stop !))) (look-in ! 11 (sub ! 0 refl (whole !)))) (load ! (from ! (stop !)) (look ! 9 refl)) tt) (from ! (stop !)) (init ! 10 refl (tt, tt)) $
-          rewrite ! 10 (λ (p : ℕ). ‵ (fat fullShare tyPtr l₁₃ 0 (vptr b p))) (sym (place-is 56 o i)) refl $
+          rewrite ! 10 (λ (p : ℕ). ‵ (fat fullShare tyPtr l₁₃ 0 (vptr b p))) (sym (place-is 64 o i)) refl $
           move ! (1 ∷ []) $ elem-out ! T.the-row (Is T.the-row) (shows 𝓤 H A T.the-row) (LL.vals T.the-type T′.the-laws) (LL.tells T.the-type T′.the-laws) fullShare (over ys all i) i zeroLease b o within-over (λ _.
           -- [the slice's record i; what it owns; the others; the local's records; the way back to the local; _5; _7; _8; _9; _10; _11; _12; _13; _1; _4; …]
           assigns ! (of-opd ! (load ! (from ! (stop !)) (look ! 10 refl))) (from ! (hop ! (look ! 12 refl) (stop !))) (store-raw ! 0 refl (LL.lawful T.the-type T′.the-laws 𝓤 H A W .typed (getD all i zeroLease) _ is .0)) $
@@ -152,7 +152,7 @@ module _ {M : Type 1} (𝓤 : URA M) (H : Heap 𝓤) (A : Atoms 𝓤) (W : Given
           within-over : i < length (over ys all i)
           within-over = subst (λ (k : ℕ). i < k) (sym (over-length ys all long i (omega (arith, small)))) (omega (arith, small, min-le-left n 128))
 
-          mul-fits : Fits w64 (i * 56)
+          mul-fits : Fits w64 (i * 64)
           mul-fits = record { fits = omega (arith, small, min-le-right n 128) }
 
           next-fits : Fits w64 (i + 1)

@@ -18,7 +18,7 @@ use Rattle.state.specs.declared.LeaseTable.{LeaseTable}
 use Rattle.state.specs.declared.State.{State}
 use Rattle.state.specs.declared.TenantLeases.{TenantLeases}
 use Rattle.state.specs.Book.{laidOut, leasesOf, tableOf, zeroLease}
-use Rattle.soundness.specs.Sound.{blankB, idB, leaseB, offsetsB, paddedB, soundB, unusedB, zeroFrom}
+use Rattle.soundness.specs.Sound.{blankB, holdB, idB, leaseB, offsetsB, paddedB, soundB, unusedB, zeroFrom}
 use Rattle.soundness.specs.laws.Book.{fewLeases, leaseOk, sound-lists}
 use Rattle.records.specs.Records.{recordsOf, rows, rowsOf, tableFrom, tenantFrom}
 
@@ -43,8 +43,8 @@ used l e = go (eqb (l .scope) 0)
     no : eqb (l .«id_len») 0 ≡ false
     no = let a = leb-true 2 (l .«id_len») (and-parts (leb 2 (l .«id_len»)) (leb (l .«id_len») 32) e .0) in ne-eqb (l .«id_len») 0 (λ (z : l .«id_len» ≡ 0). absurd (omega arith))
 
-    go : (t : Bool) → ((t && (eqb (l .«id_len») 0 && (eqb (l .kind) 0 && eqb (l .xid) 0))) && (eqb (l .start) 0 && (eqb (l .end) 0 && (eqb (l .addresses) 0 && zeroFrom 0 (l .id))))) ≡ false
-    go true = ap (λ (t : Bool). (t && (eqb (l .kind) 0 && eqb (l .xid) 0)) && (eqb (l .start) 0 && (eqb (l .end) 0 && (eqb (l .addresses) 0 && zeroFrom 0 (l .id))))) no
+    go : (t : Bool) → ((t && (eqb (l .«id_len») 0 && (eqb (l .kind) 0 && (eqb (l .xid) 0 && eqb (l .lapse) 0)))) && (eqb (l .start) 0 && (eqb (l .end) 0 && (eqb (l .addresses) 0 && zeroFrom 0 (l .id))))) ≡ false
+    go true = ap (λ (t : Bool). (t && (eqb (l .kind) 0 && (eqb (l .xid) 0 && eqb (l .lapse) 0))) && (eqb (l .start) 0 && (eqb (l .end) 0 && (eqb (l .addresses) 0 && zeroFrom 0 (l .id))))) no
     go false = refl
 
 -- so that the first unused record comes after the leases
@@ -87,7 +87,7 @@ rows-long (p ∷ ll) f =
 
 lease-id : (s : State) (l : Lease) → leaseOk s l ≡ true → idB l ≡ true
 unfolding leaseOk
-lease-id s l e = and-parts (idB l) (offsetsB s l) (and-parts (idB l && offsetsB s l) (leaseB s l && paddedB l) e .0) .0
+lease-id s l e = and-parts (idB l) (offsetsB s l) (and-parts (idB l && offsetsB s l) (leaseB s l && (paddedB l && holdB (s .clock) l)) e .0) .0
 
 ids-of : (s : State) (p : List Lease) → allBy (leaseOk s) p ≡ true → allBy idB p ≡ true
 unfolding allBy

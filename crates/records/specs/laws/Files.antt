@@ -21,9 +21,11 @@ use Rattle.state.specs.laws.Layout.{table-back as lists-back}
 use Rattle.releases.specs.Rules.{memoryB}
 use Rattle.soundness.specs.Sound.{blankB, soundB, unusedB, zeroFrom}
 use Rattle.state_file.specs.declared.Loaded.{Loaded}
-use Rattle.state_file.specs.File.{File, FileLease, fileOf}
+use Rattle.state_file.specs.File.{File, fileOf}
 use Rattle.format.specs.Format.{Got, bad, got}
-use Rattle.state_file.specs.Records.{fitsB, storedState, storedTable, tenantsFrom}
+use Rattle.lease_file.specs.Records.{mergedFrom}
+use Rattle.lease_file.specs.Section.{FileHold, FileLease}
+use Rattle.state_file.specs.Records.{fitsB, storedState, storedTable}
 use Rattle.state_file.specs.StateFile.{accepted, loadedGot, judged, loaded, readFile, refused, zeroLedger, zeroMemory, zeroState, zeroTable}
 use Rattle.records.specs.laws.Back.{lent-table-back, table-long}
 use Rattle.records.specs.Lent.{LentReading, readLent, readWith, untouched, is128}
@@ -41,10 +43,10 @@ of-lists : (n : ℕ) (s : State) (ll : List (List Lease)) (m : Memory) → lengt
     → Whole (record { refusal = n; state = s; table = tableOf ll; memory = m })
 of-lists n s ll m e v z = record { laid = ap tableOf (sym (lists-back ll)); eight = ap length (lists-back ll) ∙ e; sound = v; empty = z }
 
-from-length : (t n : ℕ) (xs : List FileLease) → length (tenantsFrom t n xs) ≡ n
-unfolding tenantsFrom
-from-length t zero xs = refl
-from-length t (suc n) xs = ap suc (from-length (suc t) n xs)
+from-length : (t n : ℕ) (xs : List FileLease) (ys : List FileHold) → length (mergedFrom t n xs ys) ≡ n
+unfolding mergedFrom
+from-length t zero xs ys = refl
+from-length t (suc n) xs ys = ap suc (from-length (suc t) n xs ys)
 
 none : (n : ℕ) → (n ≡ 0 → ⊥) → Whole (refused n)
 unfolding refused zeroTable
@@ -54,10 +56,10 @@ judged-whole : (f : File) (m : Memory) → Whole (judged (storedState f) (stored
 unfolding judged storedTable accepted
 judged-whole f m =
     pick-cases Whole (soundB (storedState f) (tableOf lists) && memoryB (storedState f) (tableOf lists) m) _ _
-    (λ y. of-lists 0 (storedState f) lists m (from-length 1 8 (f .leases)) (λ _. and-parts _ _ y .0) (λ z. absurd (z refl))) (λ _. none 21 (λ e. absurd (omega arith)))
+    (λ y. of-lists 0 (storedState f) lists m (from-length 1 8 (f .leases) (f .holds)) (λ _. and-parts _ _ y .0) (λ z. absurd (z refl))) (λ _. none 21 (λ e. absurd (omega arith)))
   where
     lists : List (List Lease)
-    lists = tenantsFrom 1 8 (f .leases)
+    lists = mergedFrom 1 8 (f .leases) (f .holds)
 
 file-whole : (s : List ℕ) → Whole (readFile s)
 unfolding readFile loadedGot loaded

@@ -23,8 +23,8 @@ use Rattle.state.specs.declared.Memory.{Memory}
 use Rattle.state.specs.declared.Release.{Release}
 use Rattle.state.specs.declared.TenantLeases.{TenantLeases}
 use Rattle.state.specs.declared.TenantReleases.{TenantReleases}
-use Rattle.state.specs.Book.{Book, differ, idOf, inUse, insertOf, insertedIn, laidOut, laidReleases, leaseAt, leaseWith, other, otherRelease, releaseId, releasesAt, remembered, removeOf, tenantAt, zeroLease, zeroRelease}
-use Rattle.state.specs.Edit.{applied, editedBook, editedIn, entering, forgetOf, givingWay, leaving, leftIn, noEdit, noted, notedIn, releaseOf, rememberOf}
+use Rattle.state.specs.Book.{Book, differ, idOf, inUse, insertOf, insertedIn, isHold, laidOut, laidReleases, leaseAt, leaseWith, other, otherRelease, releaseId, releasesAt, remembered, removeOf, tenantAt, zeroLease, zeroRelease}
+use Rattle.state.specs.Edit.{applied, droppingFirst, editedBook, editedIn, entering, forgetOf, givingWay, leaving, leftIn, noEdit, noted, notedIn, releaseOf, rememberOf}
 use Rattle.state.specs.laws.Edited.{applied-others, edited-none}
 use Rattle.state.specs.laws.Layout.{read-back, releases-back}
 use Rattle.state.specs.laws.Sorted.{differ-turn, insert-same}
@@ -234,17 +234,38 @@ module _ (b : Book) (h : ℕ) (known : h < tenantsIn (b .state)) (there : h < le
   own-good : Good (b .state .clock) (ownLeases (b .table) h) (remembered (releasesAt (b .memory) h))
   own-good = good-of (tenantsIn (b .state)) (b .state .clock) h (ownLeases (b .table) h) (releasesAt (b .memory) h) own
 
-  -- a new lease, which forgets its identifier
-  pub entering-kept : (l : Lease) → memoryGood (editedBook (entering l) h b) ≡ true
+  -- a new record, which forgets its identifier; one that stood before may have left
+  forgetting-kept : (leaves : Bool) (o l : Lease)
+      → memoryGood (editedBook (record { leaves = leaves; old = o; enters = true; new = l; forgets = true; remembers = false; release = zeroRelease }) h b) ≡ true
   unfolding notedIn pick notLeased
-  entering-kept l =
-      edited-kept (entering l)
+  forgetting-kept leaves o l =
+      edited-kept e
       (laid-holds (tenantsIn (b .state)) (b .state .clock) h after (forgetOf (idOf l) (remembered (releasesAt (b .memory) h))) known
       (forget-good (b .state .clock) (ownLeases (b .table) h) after (idOf l) (remembered (releasesAt (b .memory) h))
-      (λ r p q. edited-all (other (releaseId r)) (entering l) (tenantAt (b .table) h) (sym (turned r l) ∙ p) q) own-good))
+      (λ r p q. edited-all (other (releaseId r)) e (tenantAt (b .table) h) (sym (turned r l) ∙ p) q) own-good))
     where
+      e : Edit
+      e = record { leaves = leaves; old = o; enters = true; new = l; forgets = true; remembers = false; release = zeroRelease }
+
       after : List Lease
-      after = inUse (editedIn (entering l) (tenantAt (b .table) h))
+      after = inUse (editedIn e (tenantAt (b .table) h))
+
+  pub entering-kept : (l : Lease) → memoryGood (editedBook (entering l) h b) ≡ true
+  entering-kept l = forgetting-kept false zeroLease l
+
+  -- the same after a hold is dropped
+  pub dropping-entering-kept : (o l : Lease) → memoryGood (editedBook (droppingFirst o (entering l)) h b) ≡ true
+  dropping-entering-kept o l = forgetting-kept true o l
+
+  -- a hold is dropped, and nothing else
+  pub dropping-kept : (o : Lease) → memoryGood (editedBook (droppingFirst o noEdit) h b) ≡ true
+  unfolding editedIn leftIn notedIn pick notLeased removeOf
+  dropping-kept o =
+      edited-kept (droppingFirst o noEdit)
+      (subst (λ (ls : List Lease). HoldsAt b h ls (releasesAt (b .memory) h)) (sym (left-is o 0 0 (tenantAt (b .table) h)))
+      (leased-holds (tenantsIn (b .state)) (b .state .clock) h (ownLeases (b .table) h) (removeOf (idOf o) (ownLeases (b .table) h)) (releasesAt (b .memory) h)
+      (all-both (notLeased (ownLeases (b .table) h)) (notLeased (ownLeases (b .table) h)) (notLeased (removeOf (idOf o) (ownLeases (b .table) h))) (remembered (releasesAt (b .memory) h))
+      (λ a p p′. filter-all (other (releaseId a)) (other (idOf o)) (ownLeases (b .table) h) p) (own-good .free) (own-good .free)) own))
 
   -- what holds of all of the tenant's leases holds of one that stands among them
   stands : (o : Lease) (k : ℕ) → o ≡ leaseAt (inUse (tenantAt (b .table) h)) k → k < length (inUse (tenantAt (b .table) h)) → (u : Lease → Bool) → allBy u (ownLeases (b .table) h) ≡ true → u o ≡ true
@@ -258,7 +279,7 @@ module _ (b : Book) (h : ℕ) (known : h < tenantsIn (b .state)) (there : h < le
       edited-kept (leaving o x c)
       (subst (λ (ls : List Lease). HoldsAt b h ls (laidReleases (rememberOf r q))) (sym (left-is o x c (tenantAt (b .table) h)))
       (laid-holds (tenantsIn (b .state)) c h rest (rememberOf r q) known
-      (remember-good c rest r q len pad refl (filter-passes (other (idOf o)) (ownLeases (b .table) h)) new fewer)))
+      (remember-good c rest r q len (and-parts (isHold o || eqb (o .lapse) 0) (zeroFrom (o .«id_len») (o .id)) pad .1) refl (filter-passes (other (idOf o)) (ownLeases (b .table) h)) new fewer)))
     where
       c : ℕ
       c = b .state .clock

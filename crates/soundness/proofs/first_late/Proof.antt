@@ -17,4 +17,5 @@ first-late-spec =
     (λ c. search (tests, not-true, not-false, needs) depth 24)
     (λ c. search (tests, not-true, not-false, needs) depth 24)
     (λ c. search (tests, not-true, not-false, needs) depth 24)
+    (λ c. search (tests, not-true, not-false, needs) depth 24)
     (λ c. search (tests, not-true, not-false, needs) depth 24))

@@ -18,7 +18,7 @@ use Rattle.state.specs.declared.LeaseTable.{LeaseTable}
 use Rattle.state.specs.declared.State.{State}
 use Rattle.state.specs.Book.{leasesOf, differ, inScope, overlaps, heldOf, scopesOf}
 use Rattle.state.specs.laws.Sets.{adds, addresses-cons}
-use Rattle.soundness.specs.Sound.{oneTo, countsB, sizeB, scopeKnown, leaseB, idB, offsetsB, paddedB, kindB, periodB, disjoint, apartIn, apart, compatible, soundB}
+use Rattle.soundness.specs.Sound.{oneTo, countsB, sizeB, scopeKnown, leaseB, idB, offsetsB, paddedB, kindB, periodB, disjoint, apartIn, apart, compatible, soundB, holdB}
 use Rattle.soundness.specs.laws.Book.{leaseOk, Sound, pairs-is, settings-front, sound-lists}
 use Rattle.soundness.specs.laws.Kept.{disjoint-less}
 use Rattle.soundness.specs.Across.{joinAll}
@@ -117,7 +117,7 @@ compatible-all (l ∷ ls) p q r =
 scope-known : (s : State) (l : Lease) → countsB s ≡ true → leaseOk s l ≡ true → scopeB l ≡ true
 unfolding leaseOk leaseB countsB scopeB oneTo
 scope-known s l c e =
-    let p = and-parts (leaseB s l) (paddedB l) (and-parts (idB l && offsetsB s l) (leaseB s l && paddedB l) e .1) .0 in
+    let p = and-parts (leaseB s l) (paddedB l && holdB (s .clock) l) (and-parts (idB l && offsetsB s l) (leaseB s l && (paddedB l && holdB (s .clock) l)) e .1) .0 in
     let q = and-parts (scopeKnown s l) (kindB l && periodB (s .clock) l) p .0 in
     let r = and-parts (leb 1 (l .scope)) (leb (l .scope) (s .«scope_count»)) q in
     let f = and-parts (oneTo 8 (s .«tenant_count»)) (oneTo 4 (s .«scope_count») && allBy sizeB (scopesOf s)) c .1 in

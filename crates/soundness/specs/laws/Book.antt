@@ -19,7 +19,7 @@ use Rattle.state.specs.declared.State.{State}
 use Rattle.state.specs.Book.{differ, zeroLease, inUse, laidOut, leasesOf, tableOf, ordered, scopeAt, limitAt, heldAt, committedSum}
 use Rattle.state.specs.laws.Layout.{read-back, table-back}
 use Rattle.soundness.specs.declared.Rules.{Rules}
-use Rattle.soundness.specs.Sound.{tenantsIn, scopesIn, idB, recordsB, countsB, rule1, offsetsB, rule2, rule3, rule4, rule5, rule6, leaseB, noneB, tenantsB, rule7, rule8, apart, rule9, compatible, rule10, limitB, limitsB, rule11, committedB, rule12, zeroFrom, paddedB, blankB, unusedB, layoutB, settingsB, rulesOf, firstLate, firstRule, firstBroken, brokenOf, soundB, rule19}
+use Rattle.soundness.specs.Sound.{tenantsIn, scopesIn, idB, recordsB, countsB, rule1, offsetsB, rule2, rule3, rule4, rule5, rule6, leaseB, noneB, tenantsB, rule7, rule8, apart, rule9, compatible, rule10, limitB, limitsB, rule11, committedB, rule12, zeroFrom, paddedB, blankB, unusedB, layoutB, settingsB, rulesOf, firstLate, firstRule, firstBroken, brokenOf, soundB, rule19, holdB, rule13}
 use Rattle.soundness.specs.laws.Code.{drop-map, first-none}
 
 -- ---- the facts
@@ -27,9 +27,9 @@ use Rattle.soundness.specs.laws.Code.{drop-map, first-none}
 unfoldable pub settingsOk : State → Bool
 settingsOk s = (countsB s && (rule3 s && rule4 s)) && (rule5 s && (rule6 s && settingsB s))
 
--- every rule on one lease: 1, 2, 7 and 19
+-- every rule on one lease or hold: 1, 2, 7, 13 and 19
 unfoldable pub leaseOk : State → Lease → Bool
-leaseOk s l = (idB l && offsetsB s l) && (leaseB s l && paddedB l)
+leaseOk s l = (idB l && offsetsB s l) && (leaseB s l && (paddedB l && holdB (s .clock) l))
 
 -- every rule on two leases of a tenant that does not go by their order: 8 and 10
 unfoldable pub pairOk : Lease → Lease → Bool
@@ -66,6 +66,7 @@ pub record AllRules (r : Rules) : Type 0 where
   pub periods : r .periods ≡ true
   pub holdings : r .holdings ≡ true
   pub commitments : r .commitments ≡ true
+  pub holds : r .holds ≡ true
   pub layout : r .layout ≡ true
 
 peel : (b : Bool) (x n : ℕ) → 0 < n → pick b x n ≡ 0 → (b ≡ true) × (x ≡ 0)
@@ -97,6 +98,7 @@ none-broken r e =
     let k = peel (r .periods) _ 10 (omega arith) (j .1) in
     let l = peel (r .holdings) _ 11 (omega arith) (k .1) in
     let m = peel (r .commitments) _ 12 (omega arith) (l .1) in
+    let o = peel (r .holds) _ 13 (omega arith) (m .1) in
     record {
       limits = a .0;
       offsets = b .0;
@@ -110,6 +112,7 @@ none-broken r e =
       periods = k .0;
       holdings = l .0;
       commitments = m .0;
+      holds = o .0;
       layout = n .1;
     }
 
@@ -121,7 +124,7 @@ rules-hold : (r : Rules) → AllRules r → firstRule r ≡ 0
 unfolding firstRule firstLate
 rules-hold r a =
     wrap 1 (a .limits) (wrap 2 (a .offsets) (wrap 3 (a .ranges) (wrap 4 (a .pools) (wrap 5 (a .ttls) (wrap 6 (a .reserves)
-    (wrap 7 (a .leases) (wrap 8 (a .identifiers) (wrap 9 (a .owners) (wrap 10 (a .periods) (wrap 11 (a .holdings) (wrap 12 (a .commitments) refl)))))))))))
+    (wrap 7 (a .leases) (wrap 8 (a .identifiers) (wrap 9 (a .owners) (wrap 10 (a .periods) (wrap 11 (a .holdings) (wrap 12 (a .commitments) (wrap 13 (a .holds) refl))))))))))))
 
 all-hold : (r : Rules) → AllRules r → firstBroken r ≡ 0
 all-hold r a = sym (first-none r (sym (rules-hold r a)) refl (a .layout))
@@ -169,11 +172,12 @@ all-all : {A : Type 0} (t u : A → Bool) (ls : List (List A)) → allBy (allBy 
 all-all t u ls = all-same (allBy (λ x. t x && u x)) (λ l. allBy t l && allBy u l) ls (all-and t u) ∙ all-and (allBy t) (allBy u) ls
 
 each-is : (s : State) (ls : List (List Lease)) → allBy (allBy (leaseOk s)) ls
-    ≡ ((allBy (allBy idB) ls && allBy (allBy (offsetsB s)) ls) && (allBy (allBy (leaseB s)) ls && allBy (allBy paddedB) ls))
+    ≡ ((allBy (allBy idB) ls && allBy (allBy (offsetsB s)) ls) && (allBy (allBy (leaseB s)) ls && (allBy (allBy paddedB) ls && allBy (allBy (holdB (s .clock))) ls)))
 unfolding leaseOk
 each-is s ls =
-    all-all (λ l. idB l && offsetsB s l) (λ l. leaseB s l && paddedB l) ls
-    ∙ ap₂ (λ (a b : Bool). a && b) (all-all idB (offsetsB s) ls) (all-all (leaseB s) paddedB ls)
+    all-all (λ l. idB l && offsetsB s l) (λ l. leaseB s l && (paddedB l && holdB (s .clock) l)) ls
+    ∙ ap₂ (λ (a b : Bool). a && b) (all-all idB (offsetsB s) ls)
+    (all-all (leaseB s) (λ l. paddedB l && holdB (s .clock) l) ls ∙ ap (λ (a : Bool). allBy (allBy (leaseB s)) ls && a) (all-all paddedB (holdB (s .clock)) ls))
 
 pub pairs-is : (ls : List (List Lease)) → allBy (pairsBy pairOk) ls ≡ (allBy (pairsBy differ) ls && allBy (pairsBy compatible) ls)
 unfolding pairOk
@@ -220,11 +224,11 @@ module _ (s : State) (t : LeaseTable) (a : AllRules (rulesOf s t)) where
   settings-from = and-both (and-both (counted .0) (and-both (a .ranges) (a .pools))) (and-both (a .ttls) (and-both (a .reserves) (laid .0)))
 
   pub lists-of : Sound s (leasesOf t)
-  unfolding rulesOf rule2 rule8 rule9 rule10 rule11 limitsB limitB rule12 committedB
+  unfolding rulesOf rule2 rule8 rule9 rule10 rule11 limitsB limitB rule12 committedB rule13
   lists-of = record {
     settings = settings-from;
     few = few-from;
-    each = each-is s (leasesOf t) ∙ and-both (and-both ids-from (a .offsets)) (and-both (known .1) padded-from);
+    each = each-is s (leasesOf t) ∙ and-both (and-both ids-from (a .offsets)) (and-both (known .1) (and-both padded-from (a .holds)));
     pairs = pairs-is (leasesOf t) ∙ and-both (a .identifiers) (a .periods);
     rises = ordered-from;
     tenants = tenants-from;
@@ -246,7 +250,7 @@ module _ (s : State) (ls : List (List Lease)) (v : Sound s ls) where
   unfolding settingsOk
   settings-back = and-parts (rule5 s) (rule6 s && settingsB s) (and-parts (countsB s && (rule3 s && rule4 s)) (rule5 s && (rule6 s && settingsB s)) (v .settings) .1)
 
-  each-parts : ((allBy (allBy idB) ls && allBy (allBy (offsetsB s)) ls) ≡ true) × ((allBy (allBy (leaseB s)) ls && allBy (allBy paddedB) ls) ≡ true)
+  each-parts : ((allBy (allBy idB) ls && allBy (allBy (offsetsB s)) ls) ≡ true) × ((allBy (allBy (leaseB s)) ls && (allBy (allBy paddedB) ls && allBy (allBy (holdB (s .clock))) ls)) ≡ true)
   each-parts = and-parts _ _ (sym (each-is s ls) ∙ v .each)
 
   pair-parts : (allBy (pairsBy differ) ls ≡ true) × (allBy (pairsBy compatible) ls ≡ true)
@@ -259,10 +263,10 @@ module _ (s : State) (ls : List (List Lease)) (v : Sound s ls) where
   offsets-to = and-parts (allBy (allBy idB) ls) (allBy (allBy (offsetsB s)) ls) (each-parts .0) .1
 
   leases-to : allBy (allBy (leaseB s)) ls ≡ true
-  leases-to = and-parts (allBy (allBy (leaseB s)) ls) (allBy (allBy paddedB) ls) (each-parts .1) .0
+  leases-to = and-parts (allBy (allBy (leaseB s)) ls) (allBy (allBy paddedB) ls && allBy (allBy (holdB (s .clock))) ls) (each-parts .1) .0
 
-  padded-to : allBy (allBy paddedB) ls ≡ true
-  padded-to = and-parts (allBy (allBy (leaseB s)) ls) (allBy (allBy paddedB) ls) (each-parts .1) .1
+  marks-to : (allBy (allBy paddedB) ls ≡ true) × (allBy (allBy (holdB (s .clock))) ls ≡ true)
+  marks-to = and-parts _ _ (and-parts (allBy (allBy (leaseB s)) ls) (allBy (allBy paddedB) ls && allBy (allBy (holdB (s .clock))) ls) (each-parts .1) .1)
 
   back : leasesOf (tableOf ls) ≡ ls
   back = table-back ls
@@ -277,14 +281,14 @@ module _ (s : State) (ls : List (List Lease)) (v : Sound s ls) where
   unfolding tableOf
   layout-to =
       all-map layoutB laidOut ls ∙ all-same (λ l. layoutB (laidOut l)) (λ l. pairsBy ordered l && allBy paddedB l) ls layout-laid ∙ all-and (pairsBy ordered) (allBy paddedB) ls
-      ∙ and-both (v .rises) padded-to
+      ∙ and-both (v .rises) (marks-to .0)
 
   tenants-to : tenantsB s (tableOf ls) ≡ true
   unfolding tenantsB tableOf noneB laidOut
   tenants-to = ap (allBy noneB) (drop-map laidOut (tenantsIn s) ls) ∙ all-map noneB laidOut (drop (tenantsIn s) ls) ∙ v .tenants
 
   pub rules-to : AllRules (rulesOf s (tableOf ls))
-  unfolding rulesOf rule1 rule2 rule7 rule8 rule9 rule10 rule11 limitsB limitB rule12 committedB rule19
+  unfolding rulesOf rule1 rule2 rule7 rule8 rule9 rule10 rule11 limitsB limitB rule12 committedB rule13 rule19
   rules-to = record {
     limits = and-both (settings-front .0) records-to;
     offsets = ap (allBy (allBy (offsetsB s))) back ∙ offsets-to;
@@ -300,6 +304,7 @@ module _ (s : State) (ls : List (List Lease)) (v : Sound s ls) where
         ap (λ (x : List (List Lease)). leb (heldAt x (k + 1) g) (limitAt (scopeAt s k) g)) back ∙ le-leb _ _ (v .holdings k g p q)));
     commitments = each-to (committedB s (tableOf ls)) (scopesIn s) (λ k p.
         ap (λ (x : List (List Lease)). leb (committedSum (scopeAt s k) (tenantsIn s) (heldAt x (k + 1))) (scopeAt s k .size)) back ∙ le-leb _ _ (v .commitments k p));
+    holds = ap (allBy (allBy (holdB (s .clock)))) back ∙ marks-to .1;
     layout = and-both (and-parts (rule6 s) (settingsB s) (settings-back .1) .1) layout-to;
   }
 

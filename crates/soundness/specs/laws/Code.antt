@@ -12,7 +12,7 @@ use Rattle.state.specs.declared.LeaseTable.{LeaseTable}
 use Rattle.state.specs.declared.Scope.{Scope}
 use Rattle.state.specs.declared.ClientRange.{ClientRange}
 use Rattle.state.specs.declared.State.{State}
-use Rattle.state.specs.Book.{differ, inUse, inScope, heldOf, addedIf, scopeAt, limitAt, committedSum, byIdentifier, idOf, ordered, scopesOf, addressesOf, unionAll, reserveAt, committed}
+use Rattle.state.specs.Book.{differ, inUse, inScope, heldOf, addedIf, scopeAt, limitAt, committedSum, byIdentifier, idOf, ordered, scopesOf, addressesOf, unionAll, reserveAt, committed, until}
 use Rattle.soundness.specs.declared.ScopeRules.{ScopeRules}
 use Rattle.soundness.specs.declared.TenantRules.{TenantRules}
 use Rattle.soundness.specs.declared.TableRules.{TableRules}
@@ -22,7 +22,7 @@ use Rattle.soundness.specs.declared.HoldingRules.{HoldingRules}
 use Rattle.soundness.specs.declared.LoadRules.{LoadRules}
 use Rattle.soundness.specs.declared.Held.{Held}
 use Rattle.soundness.specs.declared.HeldTable.{HeldTable}
-use Rattle.soundness.specs.Sound.{tenantsIn, scopesIn, sizeB, countsB, idB, recordsB, offsetsB, rule3, poolB, rule4, ttlB, rule5, reservesB, rule6, leaseB, tenantsB, rule9, compatible, rule11, rule12, layoutB, paddedB, tailB, settingsB, oneTo, zeroFrom, belowB, scopeOf, unusedB, rule1, rule2, poolsApart, rule7, rule8, rule10, rangeZero, scopeZero, rulesOf, firstRule, firstBroken, brokenOf, soundB, noneB, apart, holding, limitB, limitsB, committedB, rule19}
+use Rattle.soundness.specs.Sound.{tenantsIn, scopesIn, sizeB, countsB, idB, recordsB, offsetsB, rule3, poolB, rule4, ttlB, rule5, reservesB, rule6, leaseB, tenantsB, rule9, compatible, rule11, rule12, layoutB, paddedB, tailB, settingsB, oneTo, zeroFrom, belowB, scopeOf, unusedB, rule1, rule2, poolsApart, rule7, rule8, rule10, rangeZero, scopeZero, rulesOf, firstRule, firstBroken, brokenOf, soundB, noneB, apart, holding, limitB, limitsB, committedB, rule19, holdB, rule13}
 use mathlib.Core.Path.{_≡_, refl, sym, ap, ap₂, _∙_, subst}
 use native.Mathlib.Omega.{arith}
 use lib.Bits.{bitOr, or-add-and, and-le-r, and-le-l, or-zero-r}
@@ -54,6 +54,7 @@ andTenants s a t = record {
   records = a .records && recordsB t;
   offsets = a .offsets && allBy (offsetsB s) (inUse t);
   leases = a .leases && allBy (leaseB s) (inUse t);
+  holds = a .holds && allBy (holdB (s .clock)) (inUse t);
   identifiers = a .identifiers && pairsBy differ (inUse t);
   periods = a .periods && pairsBy compatible (inUse t);
   layout = a .layout && layoutB t;
@@ -216,9 +217,10 @@ pub rise-differ : (l : List Lease) {r : Bool} → r ≡ pairsBy ordered l → r 
 rise-differ l e h = sym (pairs-imply ordered differ l apart-names (sym e ∙ h))
 
 -- ---- tenants
-six : {p p′ q q′ u u′ r r′ t t′ v v′ : Bool} → p ≡ p′ → q ≡ q′ → u ≡ u′ → r ≡ r′ → t ≡ t′ → v ≡ v′
-    → _≡_ {A = TenantRules} (record { records = p; offsets = q; leases = u; identifiers = r; periods = t; layout = v }) (record { records = p′; offsets = q′; leases = u′; identifiers = r′; periods = t′; layout = v′ })
-six a b c d e f = cc
+seven : {p p′ q q′ u u′ w w′ r r′ t t′ v v′ : Bool} → p ≡ p′ → q ≡ q′ → u ≡ u′ → w ≡ w′ → r ≡ r′ → t ≡ t′ → v ≡ v′
+    → _≡_ {A = TenantRules} (record { records = p; offsets = q; leases = u; holds = w; identifiers = r; periods = t; layout = v })
+    (record { records = p′; offsets = q′; leases = u′; holds = w′; identifiers = r′; periods = t′; layout = v′ })
+seven a b c d e f g = cc
 
 module _ (s : State) where
   abbrev offsetsT : TenantLeases → Bool
@@ -226,6 +228,9 @@ module _ (s : State) where
 
   abbrev leasesT : TenantLeases → Bool
   leasesT t = allBy (leaseB s) (inUse t)
+
+  abbrev holdsT : TenantLeases → Bool
+  holdsT t = allBy (holdB (s .clock)) (inUse t)
 
 abbrev differT : TenantLeases → Bool
 differT t = pairsBy differ (inUse t)
@@ -238,70 +243,74 @@ tenants-from : (s : State) (a : TenantRules) (l : List TenantLeases) → fold (a
       records = a .records && allBy recordsB l;
       offsets = a .offsets && allBy (offsetsT s) l;
       leases = a .leases && allBy (leasesT s) l;
+      holds = a .holds && allBy (holdsT s) l;
       identifiers = a .identifiers && allBy differT l;
       periods = a .periods && allBy compatibleT l;
       layout = a .layout && allBy layoutB l;
     }
 unfolding andTenants allBy
-tenants-from s a [] = sym (six (and-true-r (a .records)) (and-true-r (a .offsets)) (and-true-r (a .leases)) (and-true-r (a .identifiers)) (and-true-r (a .periods)) (and-true-r (a .layout)))
+tenants-from s a [] = sym (seven (and-true-r (a .records)) (and-true-r (a .offsets)) (and-true-r (a .leases)) (and-true-r (a .holds)) (and-true-r (a .identifiers)) (and-true-r (a .periods)) (and-true-r (a .layout)))
 tenants-from s a (t ∷ l) =
     tenants-from s (andTenants s a t) l
-    ∙ six (and-more (a .records) (recordsB t) (allBy recordsB l)) (and-more (a .offsets) (offsetsT s t) (allBy (offsetsT s) l)) (and-more (a .leases) (leasesT s t) (allBy (leasesT s) l))
+    ∙ seven (and-more (a .records) (recordsB t) (allBy recordsB l)) (and-more (a .offsets) (offsetsT s t) (allBy (offsetsT s) l)) (and-more (a .leases) (leasesT s t) (allBy (leasesT s) l))
+    (and-more (a .holds) (holdsT s t) (allBy (holdsT s) l))
     (and-more (a .identifiers) (differT t) (allBy differT l)) (and-more (a .periods) (compatibleT t) (allBy compatibleT l)) (and-more (a .layout) (layoutB t) (allBy layoutB l))
 
 pub tenants-are : (s : State) (b : LeaseTable)
-    → fold (andTenants s) (record { records = true; offsets = true; leases = true; identifiers = true; periods = true; layout = true }) (b .tenants) ≡ tenantsAll s b
+    → fold (andTenants s) (record { records = true; offsets = true; leases = true; holds = true; identifiers = true; periods = true; layout = true }) (b .tenants) ≡ tenantsAll s b
 unfolding tenantsAll
 tenants-are s b =
     tenants-from s _ (b .tenants)
-    ∙ six refl (sym (all-map (allBy (offsetsB s)) inUse (b .tenants))) (sym (all-map (allBy (leaseB s)) inUse (b .tenants))) (sym (all-map (pairsBy differ) inUse (b .tenants)))
+    ∙ seven refl (sym (all-map (allBy (offsetsB s)) inUse (b .tenants))) (sym (all-map (allBy (leaseB s)) inUse (b .tenants))) (sym (all-map (allBy (holdB (s .clock))) inUse (b .tenants)))
+    (sym (all-map (pairsBy differ) inUse (b .tenants)))
     (sym (all-map (pairsBy compatible) inUse (b .tenants))) refl
 
-pub tenant-is : (s : State) (t : TenantLeases) {rising ids padded p q u r v w : Bool} → ids ≡ allBy idB (inUse t) → padded ≡ allBy paddedB (inUse t) → rising ≡ pairsBy ordered (inUse t)
-    → p ≡ (leb (t .count) 16 && ids) → q ≡ allBy (offsetsB s) (inUse t) → u ≡ allBy (leaseB s) (inUse t) → r ≡ pairsBy differ (inUse t) → v ≡ pairsBy compatible (inUse t)
+pub tenant-is : (s : State) (t : TenantLeases) {rising ids padded p q u x r v w : Bool} → ids ≡ allBy idB (inUse t) → padded ≡ allBy paddedB (inUse t) → rising ≡ pairsBy ordered (inUse t)
+    → p ≡ (leb (t .count) 16 && ids) → q ≡ allBy (offsetsB s) (inUse t) → u ≡ allBy (leaseB s) (inUse t) → x ≡ allBy (holdB (s .clock)) (inUse t)
+    → r ≡ pairsBy differ (inUse t) → v ≡ pairsBy compatible (inUse t)
     → w ≡ (rising && (padded && allBy unusedB (drop (t .count) (t .leases))))
-    → _≡_ {A = TenantRules} (record { records = p; offsets = q; leases = u; identifiers = r; periods = v; layout = w }) (tenantRulesOf s t)
+    → _≡_ {A = TenantRules} (record { records = p; offsets = q; leases = u; holds = x; identifiers = r; periods = v; layout = w }) (tenantRulesOf s t)
 unfolding tenantRulesOf recordsB layoutB
-tenant-is s t ei ep er p q u r v w =
-    six (p ∙ ap (λ (x : Bool). leb (t .count) 16 && x) ei) q u r v (w ∙ ap₂ (λ (x y : Bool). x && (y && allBy unusedB (drop (t .count) (t .leases)))) er ep)
+tenant-is s t ei ep er p q u x r v w =
+    seven (p ∙ ap (λ (x : Bool). leb (t .count) 16 && x) ei) q u x r v (w ∙ ap₂ (λ (x y : Bool). x && (y && allBy unusedB (drop (t .count) (t .leases)))) er ep)
 
-pub tenant-both : (a x : TenantRules) {p q u r v w : Bool}
-    → p ≡ (a .records && x .records) → q ≡ (a .offsets && x .offsets) → u ≡ (a .leases && x .leases) → r ≡ (a .identifiers && x .identifiers) → v ≡ (a .periods && x .periods)
+pub tenant-both : (a x : TenantRules) {p q u y r v w : Bool}
+    → p ≡ (a .records && x .records) → q ≡ (a .offsets && x .offsets) → u ≡ (a .leases && x .leases) → y ≡ (a .holds && x .holds) → r ≡ (a .identifiers && x .identifiers) → v ≡ (a .periods && x .periods)
     → w ≡ (a .layout && x .layout)
-    → _≡_ {A = TenantRules} (record { records = p; offsets = q; leases = u; identifiers = r; periods = v; layout = w }) (bothTenants a x)
+    → _≡_ {A = TenantRules} (record { records = p; offsets = q; leases = u; holds = y; identifiers = r; periods = v; layout = w }) (bothTenants a x)
 unfolding bothTenants
-tenant-both a x f g h i j k = six f g h i j k
+tenant-both a x f g h i j k l = seven f g h i j k l
 
 pub tenant-and : (s : State) (a x r : TenantRules) (t : TenantLeases) → x ≡ tenantRulesOf s t → r ≡ bothTenants a x → r ≡ andTenants s a t
 unfolding andTenants bothTenants tenantRulesOf
 tenant-and s a x r t e p = p ∙ ap (bothTenants a) e
 
 -- ---- address sets
-pub sets-added : (h : Held) (l : Lease) {a b c d e : ℕ} → a ≡ addedIf (inScope 1) (getD (h .sets) 0 0) l → b ≡ addedIf (inScope 2) (getD (h .sets) 1 0) l
-    → c ≡ addedIf (inScope 3) (getD (h .sets) 2 0) l → d ≡ addedIf (inScope 4) (getD (h .sets) 3 0) l → e ≡ min (h .«first_end») (l .end)
+pub sets-added : (h : Held) (l : Lease) {a b c d e u : ℕ} → a ≡ addedIf (inScope 1) (getD (h .sets) 0 0) l → b ≡ addedIf (inScope 2) (getD (h .sets) 1 0) l
+    → c ≡ addedIf (inScope 3) (getD (h .sets) 2 0) l → d ≡ addedIf (inScope 4) (getD (h .sets) 3 0) l → u ≡ until l → e ≡ min (h .«first_end») u
     → _≡_ {A = Held} (record { sets = a ∷ b ∷ c ∷ d ∷ []; count = h .count; «first_end» = e }) (addedSets h l)
 unfolding addedSets
-sets-added h l p q r u v = cc
+sets-added h l p q r s u v = cc
 
 sets-from : (n a b c d e : ℕ) (l : List Lease) → fold addedSets (record { sets = a ∷ b ∷ c ∷ d ∷ []; count = n; «first_end» = e }) l
     ≡ record {
       sets = fold (addedIf (inScope 1)) a l ∷ fold (addedIf (inScope 2)) b l ∷ fold (addedIf (inScope 3)) c l ∷ fold (addedIf (inScope 4)) d l ∷ [];
       count = n;
-      «first_end» = fold (λ x y. min x (y .end)) e l;
+      «first_end» = fold (λ x y. min x (until y)) e l;
     }
 unfolding addedSets
 sets-from n a b c d e [] = refl
-sets-from n a b c d e (x ∷ l) = sets-from n (addedIf (inScope 1) a x) (addedIf (inScope 2) b x) (addedIf (inScope 3) c x) (addedIf (inScope 4) d x) (min e (x .end)) l
+sets-from n a b c d e (x ∷ l) = sets-from n (addedIf (inScope 1) a x) (addedIf (inScope 2) b x) (addedIf (inScope 3) c x) (addedIf (inScope 4) d x) (min e (until x)) l
 
 end-least : (l : List Lease) → firstEnd l ≤ 4294967295
 unfolding firstEnd
 end-least [] = omega arith
 end-least (x ∷ l) = let h = end-least l in omega arith
 
-ends-from : (e : ℕ) (l : List Lease) → e ≤ 4294967295 → fold (λ x y. min x (y .end)) e l ≡ min e (firstEnd l)
+ends-from : (e : ℕ) (l : List Lease) → e ≤ 4294967295 → fold (λ x y. min x (until y)) e l ≡ min e (firstEnd l)
 unfolding firstEnd
 ends-from e [] h = omega arith
-ends-from e (x ∷ l) h = ends-from (min e (x .end)) l (omega arith) ∙ (let q : min (min e (x .end)) (firstEnd l) ≡ min e (min (x .end) (firstEnd l)) = omega arith in q)
+ends-from e (x ∷ l) h = ends-from (min e (until x)) l (omega arith) ∙ (let q : min (min e (until x)) (firstEnd l) ≡ min e (min (until x) (firstEnd l)) = omega arith in q)
 
 pub held-are : (t : TenantLeases) → fold addedSets (record { sets = 0 ∷ 0 ∷ 0 ∷ 0 ∷ []; count = t .count; «first_end» = 4294967295 }) (inUse t) ≡ heldSets t
 unfolding heldSets
@@ -309,7 +318,7 @@ held-are t =
     sets-from (t .count) 0 0 0 0 4294967295 (inUse t)
     ∙ cc (added-is (inScope 1) (inUse t), added-is (inScope 2) (inUse t), added-is (inScope 3) (inUse t), added-is (inScope 4) (inUse t), end-is)
   where
-    end-is : fold (λ x y. min x (y .end)) 4294967295 (inUse t) ≡ firstEnd (inUse t)
+    end-is : fold (λ x y. min x (until y)) 4294967295 (inUse t) ≡ firstEnd (inUse t)
     end-is = ends-from 4294967295 (inUse t) (omega arith) ∙ (let h = end-least (inUse t) in let q : min 4294967295 (firstEnd (inUse t)) ≡ firstEnd (inUse t) = omega arith in q)
 
 pub holdings-are : (b : LeaseTable) (h : HeldTable) → h .tenants ≡ map heldSets (b .tenants) → h ≡ holdingsOf b
@@ -477,13 +486,14 @@ pub joined-is : (a : SettingsRules) (b : TenantRules) (c : HoldingRules) {limit 
       periods = b .periods;
       holdings = c .holdings;
       commitments = c .commitments;
+      holds = b .holds;
       layout = layout;
     }) (joinedRules a b c)
 unfolding joinedRules
 joined-is a b c p q r = cc
 
 joined-all : (s : State) (t : LeaseTable) → joinedRules (settingsRulesOf s) (tenantsAll s t) (holdingRulesOf s t) ≡ rulesOf s t
-unfolding joinedRules rulesOf settingsRulesOf tenantsAll holdingRulesOf rule1 rule2 rule7 rule8 rule10 rule19
+unfolding joinedRules rulesOf settingsRulesOf tenantsAll holdingRulesOf rule1 rule2 rule7 rule8 rule10 rule13 rule19
 joined-all s t = refl
 
 pub rules-are : (s : State) (t : LeaseTable) (a : SettingsRules) (b : TableRules) (c : HoldingRules) {r : Rules}

@@ -1,20 +1,19 @@
 -- Laws: plain facts that a sound book gives: of its counts, of a scope and of a lease.
 use Prim.Native.Nat.{ℕ, zero, suc, _≤_, _<_}
-use mathlib.Core.Path.{_≡_, refl}
-use mathlib.Core.Bool.{Bool, true, false, _&&_, _||_}
+use mathlib.Core.Path.{_≡_}
+use mathlib.Core.Bool.{Bool, true, _&&_}
 use mathlib.Core.List.{List, [], _∷_}
-use mathlib.Core.Logic.{_⊎_, inl, inr}
 use native.Mathlib.Omega.{arith}
-use lib.Dec.{ltb, leb, eqb}
+use lib.Dec.{ltb, leb}
 use lib.ListN.{length, getD}
-use borrow.Author.Tests.{leb-true, ltb-true, eqb-true}
+use borrow.Author.Tests.{leb-true, ltb-true}
 use Rattle.lists.specs.All.{allBy}
 use Rattle.lists.specs.laws.All.{all-head}
 use Rattle.lists.specs.laws.Both.{and-parts}
 use Rattle.state.specs.declared.Lease.{Lease}
 use Rattle.state.specs.declared.State.{State}
-use Rattle.state.specs.Book.{live, scopesOf}
-use Rattle.soundness.specs.Sound.{oneTo, scopesIn, sizeB, idB, countsB, scopeKnown, offsetsB, kindB, periodB, leaseB, paddedB}
+use Rattle.state.specs.Book.{scopesOf}
+use Rattle.soundness.specs.Sound.{oneTo, scopesIn, sizeB, idB, countsB, scopeKnown, offsetsB, kindB, periodB, leaseB, paddedB, holdB}
 use Rattle.soundness.specs.laws.Book.{leaseOk, Sound, settings-front}
 use Rattle.soundness.specs.laws.Added.{each-at}
 
@@ -46,43 +45,39 @@ pub record LeaseFacts (s : State) (l : Lease) : Type 0 where
   pub id-few : l .«id_len» ≤ 32
   pub scope-some : 1 ≤ l .scope
   pub scope-known : l .scope ≤ s .«scope_count»
-  pub kind : (l .kind ≡ 3) ⊎ (l .kind ≡ 4)
+  pub kind : kindB l ≡ true
   pub period : l .start < l .end
   pub alive : s .clock < l .end
   pub addresses : 0 < l .addresses
   pub offsets : offsetsB s l ≡ true
   pub padded : paddedB l ≡ true
-
-kinds : (a b : ℕ) → (eqb a 3 || eqb b 4) ≡ true → (a ≡ 3) ⊎ (b ≡ 4)
-kinds a b h = go (eqb a 3) refl h
-  where
-    go : (c : Bool) → eqb a 3 ≡ c → (c || eqb b 4) ≡ true → (a ≡ 3) ⊎ (b ≡ 4)
-    go true e h = inl (eqb-true a 3 e)
-    go false e h = inr (eqb-true b 4 h)
+  pub hold : holdB (s .clock) l ≡ true
 
 pub lease-facts : (s : State) (l : Lease) → leaseOk s l ≡ true → LeaseFacts s l
 unfolding leaseOk idB leaseB oneTo kindB periodB
 lease-facts s l e =
-    let p = and-parts (idB l && offsetsB s l) (leaseB s l && paddedB l) e in
+    let p = and-parts (idB l && offsetsB s l) (leaseB s l && (paddedB l && holdB (s .clock) l)) e in
     let i = and-parts (idB l) (offsetsB s l) (p .0) in
     let j = and-parts (leb 2 (l .«id_len»)) (leb (l .«id_len») 32) (i .0) in
-    let q = and-parts (leaseB s l) (paddedB l) (p .1) in
+    let q = and-parts (leaseB s l) (paddedB l && holdB (s .clock) l) (p .1) in
+    let d = and-parts (paddedB l) (holdB (s .clock) l) (q .1) in
     let r = and-parts (scopeKnown s l) (kindB l && periodB (s .clock) l) (q .0) in
     let c = and-parts (leb 1 (l .scope)) (leb (l .scope) (s .«scope_count»)) (r .0) in
     let k = and-parts (kindB l) (periodB (s .clock) l) (r .1) in
-    let t = and-parts (ltb (l .start) (l .end)) (live (s .clock) l && ltb 0 (l .addresses)) (k .1) in
-    let a = and-parts (live (s .clock) l) (ltb 0 (l .addresses)) (t .1) in
+    let t = and-parts (ltb (l .start) (l .end)) (ltb (s .clock) (l .end) && ltb 0 (l .addresses)) (k .1) in
+    let a = and-parts (ltb (s .clock) (l .end)) (ltb 0 (l .addresses)) (t .1) in
     record {
       id-some = leb-true 2 (l .«id_len») (j .0);
       id-few = leb-true (l .«id_len») 32 (j .1);
       scope-some = leb-true 1 (l .scope) (c .0);
       scope-known = leb-true (l .scope) (s .«scope_count») (c .1);
-      kind = kinds (l .kind) (l .kind) (k .0);
+      kind = k .0;
       period = ltb-true (l .start) (l .end) (t .0);
       alive = ltb-true (s .clock) (l .end) (a .0);
       addresses = ltb-true 0 (l .addresses) (a .1);
       offsets = i .1;
-      padded = q .1;
+      padded = d .0;
+      hold = d .1;
     }
 
 -- the lease at a place of a tenant's

@@ -29,7 +29,7 @@ use Rattle.soundness.specs.declared.TenantRules.{TenantRules}
 use Rattle.soundness.specs.declared.Gathered.{Gathered}
 use Rattle.soundness.specs.declared.Checked.{Checked}
 use Rattle.soundness.specs.declared.Pass.{Pass}
-use Rattle.soundness.specs.Sound.{oneTo, disjoint, compatible, belowB, scopeOf, idB, offsetsB, leaseB, paddedB, unusedB}
+use Rattle.soundness.specs.Sound.{oneTo, disjoint, compatible, belowB, scopeOf, idB, offsetsB, leaseB, paddedB, unusedB, holdB}
 use Rattle.soundness.specs.Parts.{setAt, poolIn, poolsOf, addedSets, freshIn, freshAll, emptySets, addedLease, noneGathered, gatheredOf, Passed, checkedOf}
 use Rattle.soundness.specs.laws.Code.{and-assoc, and-true-r, and-more, rise-start, pool-is, held-are, tenant-is}
 use Rattle.soundness.specs.laws.Kept.{disjoint-less}
@@ -108,9 +108,10 @@ pub fresh-compatible : (h : Held) (ls : List Lease) {r : Bool} → r ≡ freshAl
 fresh-compatible h ls e y = sym (fresh-parts h ls (sym e ∙ y) .1)
 
 -- ---- the loop
-gathered-same : {a a′ b b′ c c′ d d′ e e′ : Bool} {h h′ : Held} → a ≡ a′ → b ≡ b′ → c ≡ c′ → d ≡ d′ → h ≡ h′ → e ≡ e′
-    → _≡_ {A = Gathered} (record { ids = a; offsets = b; leases = c; padded = d; held = h; apart = e }) (record { ids = a′; offsets = b′; leases = c′; padded = d′; held = h′; apart = e′ })
-gathered-same p q r u v w = cc
+gathered-same : {a a′ b b′ c c′ o o′ d d′ e e′ : Bool} {h h′ : Held} → a ≡ a′ → b ≡ b′ → c ≡ c′ → o ≡ o′ → d ≡ d′ → h ≡ h′ → e ≡ e′
+    → _≡_ {A = Gathered} (record { ids = a; offsets = b; leases = c; holds = o; padded = d; held = h; apart = e })
+    (record { ids = a′; offsets = b′; leases = c′; holds = o′; padded = d′; held = h′; apart = e′ })
+gathered-same p q r t u v w = cc
 
 gathered-from : (s : State) (g : Gathered) (ls : List Lease)
     → fold (addedLease s) g ls
@@ -118,25 +119,27 @@ gathered-from : (s : State) (g : Gathered) (ls : List Lease)
       ids = g .ids && allBy idB ls;
       offsets = g .offsets && allBy (offsetsB s) ls;
       leases = g .leases && allBy (leaseB s) ls;
+      holds = g .holds && allBy (holdB (s .clock)) ls;
       padded = g .padded && allBy paddedB ls;
       held = fold addedSets (g .held) ls;
       apart = g .apart && freshAll (g .held) ls;
     }
 unfolding addedLease freshAll allBy
-gathered-from s g [] = sym (gathered-same (and-true-r (g .ids)) (and-true-r (g .offsets)) (and-true-r (g .leases)) (and-true-r (g .padded)) refl (and-true-r (g .apart)))
+gathered-from s g [] = sym (gathered-same (and-true-r (g .ids)) (and-true-r (g .offsets)) (and-true-r (g .leases)) (and-true-r (g .holds)) (and-true-r (g .padded)) refl (and-true-r (g .apart)))
 gathered-from s g (l ∷ ls) =
     gathered-from s (addedLease s g l) ls
     ∙ gathered-same (and-more (g .ids) (idB l) (allBy idB ls)) (and-more (g .offsets) (offsetsB s l) (allBy (offsetsB s) ls)) (and-more (g .leases) (leaseB s l) (allBy (leaseB s) ls))
+    (and-more (g .holds) (holdB (s .clock) l) (allBy (holdB (s .clock)) ls))
     (and-more (g .padded) (paddedB l) (allBy paddedB ls)) refl (and-assoc (g .apart) (freshIn (g .held) l) (freshAll (addedSets (g .held) l) ls))
 
-pub none-gathered : (n : ℕ) → _≡_ {A = Gathered} (record { ids = true; offsets = true; leases = true; padded = true; held = emptySets n; apart = true }) (noneGathered n)
+pub none-gathered : (n : ℕ) → _≡_ {A = Gathered} (record { ids = true; offsets = true; leases = true; holds = true; padded = true; held = emptySets n; apart = true }) (noneGathered n)
 unfolding noneGathered
 none-gathered n = refl
 
 pub gathered-are : (s : State) (t : TenantLeases) → fold (addedLease s) (noneGathered (t .count)) (inUse t) ≡ gatheredOf s t
 unfolding gatheredOf noneGathered
 gathered-are s t =
-    gathered-from s _ (inUse t) ∙ gathered-same refl refl refl refl (held-are t) refl
+    gathered-from s _ (inUse t) ∙ gathered-same refl refl refl refl refl (held-are t) refl
 
 -- ---- the turns of the code
 pub past-sets : (sets : List ℕ) (k : ℕ) → length sets ≡ 4 → 4 ≤ k → 0 ≡ getD sets k 0
@@ -161,13 +164,13 @@ unfolding freshIn
 fresh-is h l k m ek em ea eb er =
     er ∙ ap₂ (λ (x y : Bool). x && y) eb (ea ∙ ap (λ (x : ℕ). disjoint x (l .addresses)) (em ∙ ap (λ (x : ℕ). getD (h .sets) x 0) ek))
 
-pub lease-added : (s : State) (g : Gathered) (l : Lease) {a b c d e f i o u p : Bool} {h : Held}
-    → i ≡ idB l → o ≡ offsetsB s l → u ≡ leaseB s l → p ≡ paddedB l → f ≡ freshIn (g .held) l → h ≡ addedSets (g .held) l
-    → a ≡ (g .ids && i) → b ≡ (g .offsets && o) → c ≡ (g .leases && u) → d ≡ (g .padded && p) → e ≡ (g .apart && f)
-    → _≡_ {A = Gathered} (record { ids = a; offsets = b; leases = c; padded = d; held = h; apart = e }) (addedLease s g l)
+pub lease-added : (s : State) (g : Gathered) (l : Lease) {a b c k d e f i o u w p : Bool} {h : Held}
+    → i ≡ idB l → o ≡ offsetsB s l → u ≡ leaseB s l → w ≡ holdB (s .clock) l → p ≡ paddedB l → f ≡ freshIn (g .held) l → h ≡ addedSets (g .held) l
+    → a ≡ (g .ids && i) → b ≡ (g .offsets && o) → c ≡ (g .leases && u) → k ≡ (g .holds && w) → d ≡ (g .padded && p) → e ≡ (g .apart && f)
+    → _≡_ {A = Gathered} (record { ids = a; offsets = b; leases = c; holds = k; padded = d; held = h; apart = e }) (addedLease s g l)
 unfolding addedLease
-lease-added s g l ei eo eu ep ef eh a b c d e =
-    gathered-same (a ∙ ap (λ (x : Bool). g .ids && x) ei) (b ∙ ap (λ (x : Bool). g .offsets && x) eo) (c ∙ ap (λ (x : Bool). g .leases && x) eu) (d ∙ ap (λ (x : Bool). g .padded && x) ep) eh
+lease-added s g l ei eo eu ew ep ef eh a b c k d e =
+    gathered-same (a ∙ ap (λ (x : Bool). g .ids && x) ei) (b ∙ ap (λ (x : Bool). g .offsets && x) eo) (c ∙ ap (λ (x : Bool). g .leases && x) eu) (k ∙ ap (λ (x : Bool). g .holds && x) ew) (d ∙ ap (λ (x : Bool). g .padded && x) ep) eh
     (e ∙ ap (λ (x : Bool). g .apart && x) ef)
 
 -- ---- identifiers whose first eight octets rise
@@ -233,12 +236,12 @@ gathered-apart s t p v = ap (λ (x : Gathered). x .apart) (v .gathers)
 pub tenant-checked : (s : State) (t : TenantLeases) (o : Pass) {rising p r v u w : Bool} → Passed s t o → rising ≡ pairsBy ordered (inUse t)
     → p ≡ (leb (t .count) 16 && o .gathered .ids) → r ≡ pairsBy differ (inUse t) → v ≡ pairsBy compatible (inUse t)
     → u ≡ (o .gathered .padded && o .unused) → w ≡ (rising && u)
-    → _≡_ {A = Checked} (record { rules = record { records = p; offsets = o .gathered .offsets; leases = o .gathered .leases; identifiers = r; periods = v; layout = w }; held = o .gathered .held })
+    → _≡_ {A = Checked} (record { rules = record { records = p; offsets = o .gathered .offsets; leases = o .gathered .leases; holds = o .gathered .holds; identifiers = r; periods = v; layout = w }; held = o .gathered .held })
     (checkedOf s t)
 unfolding checkedOf gatheredOf
 tenant-checked s t o {rising = rising} y er p r v u w =
     let e = y .gathers in
     ap₂ {C = Checked} (λ (a : TenantRules) (b : Held). record { rules = a; held = b })
-    (tenant-is s t (ap (λ (x : Gathered). x .ids) e) (ap (λ (x : Gathered). x .padded) e) er p (ap (λ (x : Gathered). x .offsets) e) (ap (λ (x : Gathered). x .leases) e) r v
+    (tenant-is s t (ap (λ (x : Gathered). x .ids) e) (ap (λ (x : Gathered). x .padded) e) er p (ap (λ (x : Gathered). x .offsets) e) (ap (λ (x : Gathered). x .leases) e) (ap (λ (x : Gathered). x .holds) e) r v
     (w ∙ ap (λ (x : Bool). rising && x) (u ∙ ap (λ (x : Bool). o .gathered .padded && x) (y .rest))))
     (ap (λ (x : Gathered). x .held) e)

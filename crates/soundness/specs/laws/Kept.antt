@@ -1,17 +1,18 @@
 -- Laws: what keeps a book sound: leases only go.
 use Prim.Native.Nat.{ℕ, zero, suc, _+_, _≤_, _<_, min, max}
 use mathlib.Core.Path.{_≡_, refl, sym, ap, _∙_, subst}
-use mathlib.Core.Bool.{Bool, true, _&&_}
+use mathlib.Core.Bool.{Bool, true, false, _&&_}
 use mathlib.Core.List.{List, [], _∷_, map, append-nil, Permᴰ·refl}
 use native.Mathlib.Omega.{arith}
 use native.Mathlib.Nat.{le-trans}
-use lib.Dec.{ltb}
+use lib.Dec.{leb, ltb}
 use lib.Bits.{bitAnd, bitOr}
 use lib.ListN.{length, drop, getD, set}
-use borrow.Author.Tests.{eq-eqb, eqb-true, le-leb, leb-true}
+use borrow.Author.Tests.{eq-eqb, eqb-true, le-leb, leb-true, lt-ltb, ltb-true}
 use Rattle.lists.specs.All.{allBy, pairsBy}
 use Rattle.lists.specs.laws.All.{all-head, all-cons, all-both, pairs-head, pairs-cons}
 use Rattle.lists.specs.laws.Both.{and-parts, and-both}
+use Rattle.lists.specs.Pick.{pick}
 use Rattle.lists.specs.Filter.{filterBy}
 use Rattle.lists.specs.laws.Filter.{filter-all, filter-pairs, filter-passes}
 use Rattle.lists.specs.laws.Reordered.{Reordered}
@@ -21,9 +22,9 @@ use Rattle.address_set.specs.AddressSet.{bit, keep, offsetsFrom, offsets}
 use Rattle.address_set.specs.laws.Bits.{bit-or, bit-and, bit-eq, bit-of-zero}
 use Rattle.state.specs.declared.Lease.{Lease}
 use Rattle.state.specs.declared.State.{State}
-use Rattle.state.specs.Book.{Book, leasesOf, ordered, other, removeOf, live, liveOf, withClock, raised, dropped, advanced, heldOf, heldCount, inScope, scopeAt, heldAt, committed}
+use Rattle.state.specs.Book.{Book, leasesOf, ordered, other, removeOf, live, liveOf, withClock, raised, dropped, advanced, heldOf, heldCount, inScope, scopeAt, heldAt, committed, holdTime, isHold, until}
 use Rattle.state.specs.laws.Sets.{addresses-append, addresses-reordered}
-use Rattle.soundness.specs.Sound.{tenantsIn, idB, offsetsB, scopeKnown, kindB, periodB, leaseB, paddedB, disjoint, apartIn, apart, countsB, rule3, rule4, rule5, rule6, settingsB, soundB}
+use Rattle.soundness.specs.Sound.{tenantsIn, idB, offsetsB, scopeKnown, kindB, periodB, leaseB, paddedB, disjoint, apartIn, apart, countsB, rule3, rule4, rule5, rule6, settingsB, soundB, holdB, lapseB}
 use Rattle.soundness.specs.laws.Book.{settingsOk, leaseOk, pairOk, fewLeases, noLeasesB, Sound, sound-lists, lists-sound}
 use Rattle.soundness.specs.laws.Added.{pair-turn}
 
@@ -153,25 +154,42 @@ sound-shrunk s c ls ls′ v w rises each = record {
     none-some x y d h = let a = eqb-true (length x) 0 h in let b = part-length x y d in eq-eqb (length y) 0 (omega arith)
 
 -- ---- the clock is raised and the ended leases are dropped
-lease-later : (s : State) (c : ℕ) (l : Lease) → live c l ≡ true → leaseOk s l ≡ true → leaseOk (withClock s c) l ≡ true
+-- a record that is live at a later clock ends after it, and a hold's lapse is as near as it was, or nearer
+ends-later : (a c : ℕ) (l : Lease) → a ≤ c → live c l ≡ true → ltb a (l .end) ≡ true → holdB a l ≡ true → (ltb c (l .end) ≡ true) × (holdB c l ≡ true)
+unfolding until holdB lapseB pick
+ends-later a c l n h e k = go (isHold l) h k
+  where
+    go : (b : Bool) → ltb c (pick b (l .lapse) (l .end)) ≡ true → pick b (lapseB a l) true ≡ true → (ltb c (l .end) ≡ true) × (pick b (lapseB c l) true ≡ true)
+    go false p q = (p, refl)
+    go true p q =
+        let u = and-parts (ltb a (l .lapse)) (leb (l .lapse) (a + holdTime) && leb (l .lapse) (l .end)) q in
+        let w = and-parts (leb (l .lapse) (a + holdTime)) (leb (l .lapse) (l .end)) (u .1) in
+        let x = ltb-true c (l .lapse) p in
+        let y = leb-true (l .lapse) (a + holdTime) (w .0) in
+        let z = leb-true (l .lapse) (l .end) (w .1) in
+        (lt-ltb c (l .end) (omega arith), and-both p (and-both (le-leb (l .lapse) (c + holdTime) (omega arith)) (w .1)))
+
+lease-later : (s : State) (c : ℕ) (l : Lease) → s .clock ≤ c → live c l ≡ true → leaseOk s l ≡ true → leaseOk (withClock s c) l ≡ true
 unfolding leaseOk leaseB periodB offsetsB
-lease-later s c l h e =
-    let p = and-parts (idB l && offsetsB s l) (leaseB s l && paddedB l) e in
-    let q = and-parts (leaseB s l) (paddedB l) (p .1) in
+lease-later s c l n h e =
+    let p = and-parts (idB l && offsetsB s l) (leaseB s l && (paddedB l && holdB (s .clock) l)) e in
+    let q = and-parts (leaseB s l) (paddedB l && holdB (s .clock) l) (p .1) in
+    let d = and-parts (paddedB l) (holdB (s .clock) l) (q .1) in
     let r = and-parts (scopeKnown s l) (kindB l && periodB (s .clock) l) (q .0) in
     let k = and-parts (kindB l) (periodB (s .clock) l) (r .1) in
-    let t = and-parts (ltb (l .start) (l .end)) (live (s .clock) l && ltb 0 (l .addresses)) (k .1) in
-    let o = and-parts (live (s .clock) l) (ltb 0 (l .addresses)) (t .1) in
-    and-both (p .0) (and-both (and-both (r .0) (and-both (k .0) (and-both (t .0) (and-both h (o .1))))) (q .1))
+    let t = and-parts (ltb (l .start) (l .end)) (ltb (s .clock) (l .end) && ltb 0 (l .addresses)) (k .1) in
+    let o = and-parts (ltb (s .clock) (l .end)) (ltb 0 (l .addresses)) (t .1) in
+    let f = ends-later (s .clock) c l n h (o .0) (d .1) in
+    and-both (p .0) (and-both (and-both (r .0) (and-both (k .0) (and-both (t .0) (and-both (f .0) (o .1))))) (and-both (d .0) (f .1)))
 
-live-each : (s : State) (c : ℕ) (ls : List (List Lease)) → allBy (allBy (leaseOk s)) ls ≡ true → allBy (allBy (leaseOk (withClock s c))) (map (liveOf c) ls) ≡ true
+live-each : (s : State) (c : ℕ) (ls : List (List Lease)) → s .clock ≤ c → allBy (allBy (leaseOk s)) ls ≡ true → allBy (allBy (leaseOk (withClock s c))) (map (liveOf c) ls) ≡ true
 unfolding liveOf allBy
-live-each s c [] h = refl
-live-each s c (l ∷ ls) h =
+live-each s c [] n h = refl
+live-each s c (l ∷ ls) n h =
     let p = all-head (allBy (leaseOk s)) l ls h in
     all-cons (allBy (leaseOk (withClock s c))) (liveOf c l) (map (liveOf c) ls)
-    (all-both (live c) (leaseOk s) (leaseOk (withClock s c)) (filterBy (live c) l) (lease-later s c) (filter-passes (live c) l) (filter-all (leaseOk s) (live c) l (p .0)))
-    (live-each s c ls (p .1))
+    (all-both (live c) (leaseOk s) (leaseOk (withClock s c)) (filterBy (live c) l) (λ x. lease-later s c x n) (filter-passes (live c) l) (filter-all (leaseOk s) (live c) l (p .0)))
+    (live-each s c ls n (p .1))
 
 live-shrunk : (c : ℕ) (ls : List (List Lease)) → Shrunk ls (map (liveOf c) ls)
 unfolding Shrunk liveOf
@@ -185,15 +203,15 @@ live-rises c (l ∷ ls) h =
     let p = all-head (pairsBy ordered) l ls h in
     all-cons (pairsBy ordered) (liveOf c l) (map (liveOf c) ls) (filter-pairs ordered (live c) l (p .0)) (live-rises c ls (p .1))
 
-pub sound-advanced : (s : State) (c : ℕ) (ls : List (List Lease)) → Sound s ls → Sound (withClock s c) (map (liveOf c) ls)
-sound-advanced s c ls v = sound-shrunk s c ls (map (liveOf c) ls) v (live-shrunk c ls) (live-rises c ls (v .rises)) (live-each s c ls (v .each))
+pub sound-advanced : (s : State) (c : ℕ) (ls : List (List Lease)) → s .clock ≤ c → Sound s ls → Sound (withClock s c) (map (liveOf c) ls)
+sound-advanced s c ls n v = sound-shrunk s c ls (map (liveOf c) ls) v (live-shrunk c ls) (live-rises c ls (v .rises)) (live-each s c ls n (v .each))
 
 -- so `advance` keeps a book sound
 pub advanced-sound : (b : Book) (time : ℕ) → soundB (b .state) (b .table) ≡ true → soundB (advanced b time .state) (advanced b time .table) ≡ true
 unfolding advanced raised dropped
 advanced-sound b time e =
     let c : ℕ = max (b .state .clock) time in
-    lists-sound (withClock (b .state) c) (map (liveOf c) (leasesOf (b .table))) (sound-advanced (b .state) c (leasesOf (b .table)) (sound-lists (b .state) (b .table) e))
+    lists-sound (withClock (b .state) c) (map (liveOf c) (leasesOf (b .table))) (sound-advanced (b .state) c (leasesOf (b .table)) (omega arith) (sound-lists (b .state) (b .table) e))
 
 -- ---- one tenant's leases are fewer
 all-part : (l : List Lease) → Part l l

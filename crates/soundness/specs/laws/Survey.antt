@@ -18,7 +18,7 @@ use Rattle.state.specs.declared.TenantLeases.{TenantLeases}
 use Rattle.state.specs.declared.LeaseTable.{LeaseTable}
 use Rattle.state.specs.declared.Scope.{Scope}
 use Rattle.state.specs.declared.State.{State}
-use Rattle.state.specs.Book.{live, liveOf, noLeases, tenantAt, laidOut, scopeAt}
+use Rattle.state.specs.Book.{live, liveOf, noLeases, tenantAt, laidOut, scopeAt, until}
 use Rattle.soundness.specs.declared.Held.{Held}
 use Rattle.soundness.specs.declared.Checked.{Checked}
 use Rattle.soundness.specs.declared.Rules.{Rules}
@@ -87,7 +87,7 @@ held-at b h e p =
 all-live : (clock : ℕ) (ls : List Lease) → clock < firstEnd ls → allBy (live clock) ls ≡ true
 unfolding firstEnd allBy
 all-live clock [] h = refl
-all-live clock (l ∷ ls) h = all-cons (live clock) l ls (lt-ltb clock (l .end) (omega arith)) (all-live clock ls (omega arith))
+all-live clock (l ∷ ls) h = all-cons (live clock) l ls (lt-ltb clock (until l) (omega arith)) (all-live clock ls (omega arith))
 
 pub none-ended : (clock : ℕ) (ls : List Lease) → clock < firstEnd ls → liveOf clock ls ≡ ls
 unfolding liveOf

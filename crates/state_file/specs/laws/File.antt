@@ -7,20 +7,15 @@ use native.Mathlib.Omega.{arith}
 use lib.Dec.{leb}
 use lib.ListN.{length}
 use borrow.Author.Tests.{le-leb, leb-true}
-use Rattle.address_set.specs.AddressSet.{rises}
 use Rattle.lists.specs.Pick.{pick}
+use Rattle.lease_file.specs.laws.Section.{holds-lawful, leases-lawful}
 use Rattle.names.specs.laws.Names.{names-lawful}
 use Rattle.release_file.specs.laws.Section.{releases-lawful}
 use Rattle.state.specs.declared.ClientRange.{ClientRange}
-use Rattle.state_file.specs.File.{File, FileLease, FileScope, fileFormat, fileLimit, fileOf, lastFormat, leaseAfter, leaseFormat, leaseKey, partFormat, scopeFormat, tenantFormat}
-use Rattle.format.specs.Format.{bad, closed, counted, got, octet, Octets}
-use Rattle.format.specs.Section.{orderedFrom}
-use Rattle.format.specs.laws.Format.{Lawful, after-lawful, both-lawful, counted-lawful, number-lawful, octet-lawful, only-lawful, then-lawful, times-lawful, viewed-lawful, whole-reads, whole-written}
+use Rattle.state_file.specs.File.{File, FileScope, fileFormat, fileLimit, fileOf, lastFormat, partFormat, scopeFormat, tenantFormat}
+use Rattle.format.specs.Format.{bad, closed, got, Octets}
+use Rattle.format.specs.laws.Format.{Lawful, after-lawful, both-lawful, counted-lawful, number-lawful, octet-lawful, then-lawful, times-lawful, viewed-lawful, whole-reads, whole-written}
 use Rattle.format.specs.laws.Section.{verbatim-lawful}
-
--- tenant t with identifier a comes first, and none is after the next
-abbrev pub leasesFrom : ℕ → List ℕ → List FileLease → Bool
-leasesFrom t a = orderedFrom leaseKey leaseAfter (t, a)
 
 pub tenant-lawful : Lawful tenantFormat
 tenant-lawful = viewed-lawful (both-lawful number-lawful number-lawful) _ _ (λ x. refl) (λ y. refl)
@@ -31,18 +26,9 @@ part-lawful = viewed-lawful (both-lawful octet-lawful octet-lawful) _ _ (λ x. r
 pub scope-lawful : (n : ℕ) → Lawful (scopeFormat n)
 scope-lawful n = viewed-lawful (both-lawful number-lawful (both-lawful octet-lawful (both-lawful octet-lawful (times-lawful part-lawful n)))) _ _ (λ x. refl) (λ y. refl)
 
-octets-lawful : Lawful (counted octet)
-octets-lawful = counted-lawful octet-lawful
-
-pub lease-lawful : Lawful leaseFormat
-lease-lawful =
-    viewed-lawful
-    (both-lawful octet-lawful (both-lawful octet-lawful (both-lawful octets-lawful (both-lawful octet-lawful
-    (both-lawful number-lawful (both-lawful number-lawful (both-lawful number-lawful (only-lawful octets-lawful rises)))))))) _ _ (λ x. refl) (λ y. refl)
-
 last-lawful : (cs : List FileScope) (ts : List ClientRange) → Lawful (lastFormat cs ts)
 last-lawful cs ts =
-    both-lawful (only-lawful (counted-lawful lease-lawful) (leasesFrom 0 [])) (both-lawful (verbatim-lawful (names-lawful (length cs) (length ts))) releases-lawful)
+    both-lawful leases-lawful (both-lawful (verbatim-lawful (names-lawful (length cs) (length ts))) (both-lawful releases-lawful holds-lawful))
 
 pub file-lawful : Lawful fileFormat
 file-lawful =

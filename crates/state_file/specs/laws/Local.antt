@@ -12,10 +12,11 @@ use Rattle.format.specs.Format.{Format, Got, _⊗_, _▷_, after, bad, closed, 
 use Rattle.format.specs.Place.{isWhole}
 use Rattle.format.specs.Section.{verbatim}
 use Rattle.format.specs.laws.Format.{closed-got, then-got, then-with}
+use Rattle.lease_file.specs.Section.{FileHold, FileLease, holdsFormat, leasesFormat}
 use Rattle.names.specs.Names.{fewNames, listFormat, nameFormat, nameOk, namesB, namesFormat, valueOr}
 use Rattle.release_file.specs.Section.{FileRelease, releasesFormat}
 use Rattle.state.specs.declared.ClientRange.{ClientRange}
-use Rattle.state_file.specs.File.{File, FileLease, FileScope, Sections, fileFormat, lastFormat, leasesFormat, ofSections, scopeFormat, tenantFormat}
+use Rattle.state_file.specs.File.{File, FileScope, Sections, fileFormat, lastFormat, ofSections, scopeFormat, tenantFormat}
 
 -- the octets that are taken, and that they alone give the value, whatever follows
 pub record Front {A : Type 0} (f : Format A) (s : List ℕ) (x : A) (r : List ℕ) : Type 0 where
@@ -180,13 +181,13 @@ pair-got {A} {B} f g s p r e =
 pub file-names : (s : List ℕ) (f : File) (r : List ℕ) → closed (fileFormat .read s) ≡ got f r → namesB (length (f .scopes)) (length (f .tenants)) (f .names) ≡ true
 file-names s f r e = go (then-got (body .read s) _ f [] (closed-got (fileFormat .read s) f r e))
   where
-    afterScopes : List ClientRange → List FileScope → Format (List FileLease × (List ℕ × List FileRelease))
+    afterScopes : List ClientRange → List FileScope → Format (List FileLease × (List ℕ × (List FileRelease × List FileHold)))
     afterScopes ts cs = lastFormat cs ts
 
-    afterTenants : List ClientRange → Format (List FileScope × (List FileLease × (List ℕ × List FileRelease)))
+    afterTenants : List ClientRange → Format (List FileScope × (List FileLease × (List ℕ × (List FileRelease × List FileHold))))
     afterTenants ts = counted (scopeFormat (length ts)) ▷ afterScopes ts
 
-    rest : Format (List ClientRange × (List FileScope × (List FileLease × (List ℕ × List FileRelease))))
+    rest : Format (List ClientRange × (List FileScope × (List FileLease × (List ℕ × (List FileRelease × List FileHold)))))
     rest = counted tenantFormat ▷ afterTenants
 
     server : Format (ℕ × ℕ)
@@ -203,8 +204,8 @@ file-names s f r e = go (then-got (body .read s) _ f [] (closed-got (fileFormat 
         let (t1, a1, e1) = pair-got server (λ _. rest) s x t ex in
         let (t2, a2, e2) = pair-got (counted tenantFormat) afterTenants t1 (x .1) t e1 in
         let (t3, a3, e3) = pair-got (counted (scopeFormat (length (x .1 .0)))) (afterScopes (x .1 .0)) t2 (x .1 .1) t e2 in
-        let (t4, a4, e4) = pair-got leasesFormat (λ _. names x ⊗ releasesFormat) t3 (x .1 .1 .1) t e3 in
-        let (t5, a5, e5) = pair-got (names x) (λ _. releasesFormat) t4 (x .1 .1 .1 .1) t e4 in
+        let (t4, a4, e4) = pair-got leasesFormat (λ _. names x ⊗ releasesFormat ⊗ holdsFormat) t3 (x .1 .1 .1) t e3 in
+        let (t5, a5, e5) = pair-got (names x) (λ _. releasesFormat ⊗ holdsFormat) t4 (x .1 .1 .1 .1) t e4 in
         names-kept (length (x .1 .1 .0)) (length (x .1 .0)) t4 (x .1 .1 .1 .1 .0) t5 a5
 
     go : ((x : Sections) × (t : List ℕ) × (body .read s ≡ got x t) × (got (ofSections x) t ≡ got f [])) → namesB (length (f .scopes)) (length (f .tenants)) (f .names) ≡ true

@@ -1,12 +1,12 @@
 //! Measures the proved library and the second program at the same work. `bench/run` calls it.
 //!
 //!   bench sizes CALLS MIXED          a line for each job: name, leases, which of its last sections are full (0 none, 1 names, 2 releases, 3
-//!                                    both), calls in its list, octets of its file, the place of the job with an empty list on the same
-//!                                    file, or -1
+//!                                    both, 7 holds too), calls in its list, octets of its file, the place of the job with an empty list on
+//!                                    the same file, or -1
 //!   bench once SIDE CALLS MIXED      does every job once, for counting instructions; SIDE is proved or plain
 //!   bench time RUNS CALLS MIXED      a line for each job and side: name, leases, side, median of the nanoseconds of so many runs
 
-use harness::jobs::{bench_measured, jobs, Job, Side};
+use harness::jobs::{bench_measured, jobs, Job, Side, EMPTY};
 use std::process::ExitCode;
 use std::time::Instant;
 
@@ -30,7 +30,7 @@ fn main() -> ExitCode {
                 }
                 let empty = jobs
                     .iter()
-                    .position(|other| other.name == "empty list" && other.file == job.file);
+                    .position(|other| other.name.starts_with(EMPTY) && other.file == job.file);
                 let empty = empty.map_or(-1, |place| place as i64);
                 println!(
                     "{}\t{}\t{}\t{}\t{}\t{empty}",

@@ -6,7 +6,7 @@ use banshorra_host::{ANSWER_ROOM, BOARD_ROOM, FILE_ROOM};
 use builder::{Call, Campus};
 use harness::calls;
 use harness::campus::sound;
-use harness::damage::{battered, DAMAGES};
+use harness::damage::{battered, DAMAGES, HOLDS, NAMES, RELEASES};
 use harness::random::Random;
 use harness::watch::{Watch, EXACT};
 use std::process::ExitCode;
@@ -122,7 +122,7 @@ fn refusals(random: &mut Random, watch: &mut Watch, campus: &Campus) {
 /// Any octets, damaged by a rule or octet by octet, padded, or sound.
 fn any_file(random: &mut Random, campus: &Campus) -> Vec<u8> {
     let mut file = campus.octets();
-    match random.below(8) {
+    match random.below(9) {
         0 => {
             let length = random.pick(&[0, 1, 9, 40, 300, 15_000, FILE_ROOM, FILE_ROOM + 1, 40_000]);
             file = random.low_octets(length, 60, 4);
@@ -146,17 +146,12 @@ fn any_file(random: &mut Random, campus: &Campus) -> Vec<u8> {
             file.resize(length.max(file.len()), 0);
         }
         4 => {}
-        5 => {
-            // The names alone.
-            let mut names = campus.names();
-            battered(random, &mut names);
-            file = [campus.front(), names, campus.releases()].concat();
-        }
-        6 => {
-            // The releases alone.
-            let mut releases = campus.releases();
-            battered(random, &mut releases);
-            file = [campus.front(), campus.names(), releases].concat();
+        5..=7 => {
+            // One of the last sections alone.
+            let mut sections = campus.sections();
+            let place = random.pick(&[NAMES, RELEASES, HOLDS]);
+            battered(random, &mut sections[place]);
+            file = sections.concat();
         }
         _ => battered(random, &mut file),
     }

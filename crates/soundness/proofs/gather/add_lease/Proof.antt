@@ -11,12 +11,14 @@ add-lease-spec =
     (λ c κs. search needs)  -- src/gather.rt:39:9 id-ok-requires
     (λ c κs. search needs)  -- src/gather.rt:40:9 offsets-ok-requires
     (λ c κs. search needs)  -- src/gather.rt:41:9 lease-ok-requires
-    (λ c κs. search needs)  -- src/gather.rt:42:9 padded-ok-requires
+    (λ c κs. search needs)  -- src/gather.rt:42:9 hold-ok-requires
+    (λ c κs. search needs)  -- src/gather.rt:43:9 padded-ok-requires
     (λ c κs. search needs)  -- src/gather.rt:43:9 is-fresh-requires
     (λ c κs. search needs)  -- src/gather.rt:44:9 add-sets-requires
     (λ c κs. search needs)  -- src/gather.rt:46:14 both-requires
     (λ c κs. search needs)  -- src/gather.rt:47:18 both-requires-2
     (λ c κs. search needs)  -- src/gather.rt:48:17 both-requires-3
-    (λ c κs. search needs)  -- src/gather.rt:49:17 both-requires-4
-    (λ c κs. search needs)  -- src/gather.rt:51:16 both-requires-5
+    (λ c κs. search needs)  -- src/gather.rt:51:16 both-requires-4
+    (λ c κs. search needs)  -- src/gather.rt:52:17 both-requires-5
+    (λ c κs. search needs)  -- src/gather.rt:51:16 both-requires-6
     (λ c. search (lease-added, needs)))  -- src/gather.rt:34:1 returns

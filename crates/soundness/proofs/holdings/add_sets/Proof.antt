@@ -16,5 +16,6 @@ add-sets-spec =
     (λ c κs. search needs)  -- src/holdings.rt:22:9 add-held-requires-3
     (λ c. search needs)  -- src/holdings.rt:23:29 element-copy-out-add-held-4
     (λ c κs. search needs)  -- src/holdings.rt:23:9 add-held-requires-4
-    (λ c κs. search needs)  -- src/holdings.rt:27:20 smaller-requires
+    (λ c κs. search needs)  -- src/holdings.rt:28:17 until-of-requires
+    (λ c κs. search needs)  -- src/holdings.rt:32:20 smaller-requires
     (λ c. search (sets-added, needs)))  -- src/holdings.rt:17:1 returns

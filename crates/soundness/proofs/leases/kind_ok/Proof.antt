@@ -1,5 +1,5 @@
--- `leases::kind_ok` meets its contract: by ors.
-use Rattle.lists.specs.laws.Both.{ors}
+-- `leases::kind_ok` meets its contract: by joins and ors.
+use Rattle.lists.specs.laws.Both.{joins, ors}
 use Rattle.soundness.specs.Sound.{kindB}
 use borrow.Author.Needs.{needs}
 use Rattle.soundness.proofs.leases.kind_ok.Statement.{statement}
@@ -10,5 +10,7 @@ unfolding kindB
 kind-ok-spec =
     tie.close
     (tie.spec
-    (λ c. search (ors, needs))
-    (λ c. search (ors, needs)))
+    (λ c κs. search needs)
+    (λ c. search (joins, ors, needs))
+    (λ c. search (joins, ors, needs))
+    (λ c. search (joins, ors, needs)))

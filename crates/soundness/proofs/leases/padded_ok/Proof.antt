@@ -1,4 +1,5 @@
--- `leases::padded_ok` meets its contract: by its definition.
+-- `leases::padded_ok` meets its contract: by joins.
+use Rattle.lists.specs.laws.Both.{joins}
 use Rattle.soundness.specs.Sound.{paddedB}
 use borrow.Author.Needs.{needs}
 use Rattle.soundness.proofs.leases.padded_ok.Statement.{statement}
@@ -9,6 +10,8 @@ unfolding paddedB
 padded-ok-spec =
     tie.close
     (tie.spec
-    (λ c. search needs)
     (λ c κs. search needs)
-    (λ c. search needs))
+    (λ c. search (joins, needs))
+    (λ c κs. search needs)
+    (λ c. search (joins, needs))
+    (λ c. search (joins, needs)))

@@ -13,4 +13,5 @@ is-blank-spec =
     (λ c. search (ands, needs))
     (λ c. search (ands, needs))
     (λ c. search (ands, needs))
+    (λ c. search (ands, needs))
     (λ c. search (ands, needs)))

@@ -14,4 +14,5 @@ and-tenants-spec =
     (λ c κs. search needs)
     (λ c κs. search needs)
     (λ c κs. search needs)
+    (λ c κs. search needs)
     (λ c. search (tenant-both, needs)))

@@ -1,0 +1,11 @@
+pub mod Section
+pub mod Form
+pub mod Walk
+pub mod Order
+pub mod Merge
+pub mod Records
+pub mod Limits
+pub mod Load
+pub mod Sets
+pub mod Rows
+pub mod Table

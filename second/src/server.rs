@@ -80,7 +80,7 @@ fn reply_or_discard(
     book.advance(time);
     let house = book.house_of_client(client).ok_or(NO_HOUSE)?;
     let header = Header::read(datagram).ok_or(BAD_HEADER)?;
-    let options = Options::read(datagram).ok_or(BAD_OPTIONS)?;
+    let options = Options::read(datagram).map_err(|_| BAD_OPTIONS)?;
     if options.requires_a_feature() {
         return Err(FEATURE_REQUIRED);
     }

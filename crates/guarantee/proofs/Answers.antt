@@ -23,6 +23,8 @@ call-answered b c =
       untouched = v .untouched;
       untouched-too = v .untouched-too;
       advances = v .advances;
+      carries = v .carries;
+      carries-none = v .carries-none;
     }
 
 pub demand1 : Demand1

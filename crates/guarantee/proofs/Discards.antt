@@ -34,7 +34,7 @@ use Rattle.decision.specs.declared.Reply.the-variants.{Nothing, Offer, LeaseAck
 use Rattle.decision.specs.Parts.{discardWith, nakWith, plainReply, refusalOf, withLease}
 use Rattle.decision.specs.laws.Cases.{decided-by}
 use Rattle.decision.specs.Decide.{changed, decideOf, unchanged}
-use Rattle.server.specs.Serve.{Answer, Call, answered, atClock, byReply, discarded, forServer, replyOf, serveOf, tenantOf, withReading}
+use Rattle.server.specs.Serve.{Answer, Call, answered, atClock, byReply, discarded, discardedAt, forServer, replyOf, serveOf, tenantOf, withReading}
 use Rattle.guarantee.specs.Statement.{bookAt}
 
 -- ---- the decision: outcome 0, or discard 8 with nothing changed
@@ -86,23 +86,20 @@ decided s t q h m = decided-by s t h m Judged (record {
   informed = plain InfoAck _;
 }) q
 
--- ---- the reader's discards are 4, 5 and 6
-Numbered : ℕ → Type 0
-Numbered n = (n ≡ 0 → ⊥) → (3 ≤ n) × (n ≤ 8)
+-- ---- the reader's discards are 4, 5 and 6; with 4 and 6 goes no offset
+Numbered : Reading → Type 0
+Numbered r = (r .discard ≡ 0 → ⊥) → (3 ≤ r .discard) × (r .discard ≤ 8) × ((r .discard ≡ 5 → ⊥) → r .fault ≡ 0)
 
-read-number : (s : List ℕ) → Numbered (readOf s .discard)
+read-number : (s : List ℕ) → Numbered (readOf s)
 unfolding Numbered readOf ended
-read-number s = pick-cases P (headerOk s) _ _ (λ _. at-stage (walkOf s .stage)) (λ _. λ n. (omega arith, omega arith))
+read-number s = pick-cases Numbered (headerOk s) _ _ (λ _. at-stage (walkOf s .stage)) (λ _. λ n. (omega arith, omega arith, λ _. refl))
   where
-    P : Reading → Type 0
-    P r = Numbered (r .discard)
-
-    at-stage : (g : Stage) → P (byStage g (ended s (walkOf s .places)) (read.noMessage 5 (walkOf s .at)))
-    at-stage Walking = λ n. (omega arith, omega arith)
+    at-stage : (g : Stage) → Numbered (byStage g (ended s (walkOf s .places)) (read.noMessage 5 (walkOf s .at)))
+    at-stage Walking = λ n. (omega arith, omega arith, λ m. absurd (m refl))
     at-stage Done =
-        pick-cases P (eqb (getD (walkOf s .places) 3 0) 0) _ _ (λ _. λ n. (omega arith, omega arith)) (λ _.
-        pick-cases P (noneRequired s (walkOf s .places)) _ _ (λ _. λ n. absurd (n refl)) (λ _. λ n. (omega arith, omega arith)))
-    at-stage Broken = λ n. (omega arith, omega arith)
+        pick-cases Numbered (eqb (getD (walkOf s .places) 3 0) 0) _ _ (λ _. λ n. (omega arith, omega arith, λ m. absurd (m refl))) (λ _.
+        pick-cases Numbered (noneRequired s (walkOf s .places)) _ _ (λ _. λ n. absurd (n refl)) (λ _. λ n. (omega arith, omega arith, λ _. refl)))
+    at-stage Broken = λ n. (omega arith, omega arith, λ m. absurd (m refl))
 
 -- ---- the call
 pub record Tested (b : Book) (c : Call) (a : Answer) : Type 0 where
@@ -111,6 +108,8 @@ pub record Tested (b : Book) (c : Call) (a : Answer) : Type 0 where
   pub untouched : a .outcome ≡ 1 → a .book ≡ b
   pub untouched-too : a .outcome ≡ 2 → a .book ≡ b
   pub advances : 3 ≤ a .outcome → a .book ≡ bookAt b c
+  pub carries : a .outcome ≡ 5 → a .offset ≡ readOf (c .datagram) .fault
+  pub carries-none : (a .outcome ≡ 5 → ⊥) → a .offset ≡ 0
   pub names : a .book .names ≡ b .names
 
 module _ (b : Book) (c : Call) where
@@ -121,16 +120,20 @@ module _ (b : Book) (c : Call) where
     untouched = λ e. refl;
     untouched-too = λ e. refl;
     advances = λ h. absurd (omega arith);
+    carries = λ e. absurd (omega arith);
+    carries-none = λ z. refl;
     names = refl;
   }
 
-  late : (n : ℕ) → 3 ≤ n → n ≤ 8 → Tested b c (discarded n (bookAt b c))
-  late n p q = record {
+  late : (n o : ℕ) → 3 ≤ n → n ≤ 8 → (n ≡ 5 → o ≡ readOf (c .datagram) .fault) → ((n ≡ 5 → ⊥) → o ≡ 0) → Tested b c (discardedAt n o (bookAt b c))
+  late n o p q at none = record {
     outcome = q;
     silent = λ z. refl;
     untouched = λ e. absurd (omega arith);
     untouched-too = λ e. absurd (omega arith);
     advances = λ h. refl;
+    carries = at;
+    carries-none = none;
     names = advanced-names b (c .time);
   }
 
@@ -143,6 +146,8 @@ module _ (b : Book) (c : Call) where
     untouched-too = λ e. absurd (let r = j .rest (λ z. omega arith) .0 in omega arith);
     advances = λ n.
         ap (λ (e : Edit). editedBook e h (bookAt b c)) (j .rest (λ z. omega arith) .1 .1) ∙ edited-none (bookAt b c) h;
+    carries = λ e. absurd (let r = j .rest (λ z. omega arith) .0 in omega arith);
+    carries-none = λ z. refl;
     names = advanced-names b (c .time);
   }
 
@@ -152,19 +157,19 @@ module _ (b : Book) (c : Call) where
   for-server : (h : ℕ) (m : Fields) → Tested b c (forServer (bookAt b c) h m)
   unfolding forServer P
   for-server h m =
-      pick-cases P (eqb (m .kind) 3 && not (m .ours)) _ _ (λ _. late 7 (omega arith) (omega arith))
+      pick-cases P (eqb (m .kind) 3 && not (m .ours)) _ _ (λ _. late 7 0 (omega arith) (omega arith) (λ e. absurd (omega arith)) (λ _. refl))
       (λ _. served h m _ (decided (bookAt b c .state) (bookAt b c .table) (remembered (releasesAt (bookAt b c .memory) h)) h m))
 
   with-reading : (h : ℕ) → Tested b c (withReading (bookAt b c) h (c .datagram) (readOf (c .datagram)))
   unfolding withReading P Numbered
   with-reading h =
       pick-cases P (eqb (readOf (c .datagram) .discard) 0) _ _ (λ _. for-server h _)
-      (λ e. let n = read-number (c .datagram) (eqb-false (readOf (c .datagram) .discard) 0 e) in late (readOf (c .datagram) .discard) (n .0) (n .1))
+      (λ e. let n = read-number (c .datagram) (eqb-false (readOf (c .datagram) .discard) 0 e) in late (readOf (c .datagram) .discard) (readOf (c .datagram) .fault) (n .0) (n .1) (λ _. refl) (n .2))
 
   at-clock : Tested b c (atClock (bookAt b c) (c .client) (c .datagram))
   unfolding atClock P
   at-clock =
-      pick-cases P (ltb (tenantOf (bookAt b c .state) (c .client)) (tenantsIn (bookAt b c .state))) _ _ (λ _. with-reading _) (λ _. late 3 (omega arith) (omega arith))
+      pick-cases P (ltb (tenantOf (bookAt b c .state) (c .client)) (tenantsIn (bookAt b c .state))) _ _ (λ _. with-reading _) (λ _. late 3 0 (omega arith) (omega arith) (λ e. absurd (omega arith)) (λ _. refl))
 
   pub call-tested : Tested b c (serveOf b c)
   unfolding serveOf P

@@ -265,6 +265,10 @@ pub record Answered (b : Book) (c : Call) (a : Answer) : Type 0 where
   pub untouched-too : a .outcome ≡ 2 → a .book ≡ b
   -- "All other calls first set the book's clock .. and drop leases ..; 3 to 8 do no more"
   pub advances : 3 ≤ a .outcome → a .book ≡ bookAt b c
+  -- document 02, W-206, of the offset that the reader of options reports (which it is: `fault` and `first` of `message_laws`): "Discard 5 carries it"
+  pub carries : a .outcome ≡ 5 → a .offset ≡ readOf (c .datagram) .fault
+  -- "every other outcome 0"
+  pub carries-none : (a .outcome ≡ 5 → ⊥) → a .offset ≡ 0
 
 -- "For every datagram, clock, book and reply room". "It faults on none and checks all it is handed": the call is proved safe and to end, and asks for nothing
 -- (`lent::serve` has no `requires`)

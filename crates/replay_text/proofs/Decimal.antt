@@ -1,9 +1,7 @@
 -- Laws: the digits of a number, arm by arm.
-use mathlib.Core.Path.{_≡_, refl}
+use mathlib.Core.Path.{refl}
 use mathlib.Core.List.{List, [], _∷_}
 use Prim.Native.Nat.{ℕ, _/_, _≤_, _<_}
-use lib.Dec.{ltb}
-use Rattle.lists.specs.Pick.{pick}
 use Rattle.lists.specs.laws.Pick.{pick-lt, pick-not-lt}
 use Rattle.octets.specs.Octets.{Wrote}
 use Rattle.octets.specs.laws.Octets.{wrote-as}

@@ -25,6 +25,7 @@ call-answered b c =
       advances = v .advances;
       carries = v .carries;
       carries-none = v .carries-none;
+      inside = v .inside;
     }
 
 pub demand1 : Demand1

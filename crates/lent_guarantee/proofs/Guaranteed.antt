@@ -11,6 +11,7 @@ use Rattle.state.specs.Book.{Book}
 use Rattle.state.specs.declared.Lease.{Lease}
 use Rattle.state.specs.declared.Ledger.{Ledger}
 use Rattle.releases.specs.Whole.{bookB}
+use Rattle.message.specs.Read.{longestDatagram}
 use Rattle.server.specs.Serve.{Answer, Call, serveOf}
 use Rattle.guarantee.specs.Statement.{Answered, Demand3, Granted, GrantedAsOffered, IsReply, NewRequest, Offered, OfferedAs, OfferHeld, OfferRule, ReadAs, TakesUp, SoundBook, WithinLimits, liveUnder, requested, run}
 use Rattle.guarantee.proofs.Answers.{call-answered}
@@ -88,6 +89,7 @@ module _ (l : Lent) (c : Call) where
     advances = λ h. absurd (omega arith);
     carries = λ e. absurd (omega arith);
     carries-none = λ _. refl;
+    inside = (omega arith, omega arith);
     other = λ _. refl;
     bad-names = λ _. refl;
     bad-releases = λ _. refl;
@@ -109,6 +111,7 @@ module _ (l : Lent) (c : Call) where
     );
     carries = λ e. sym place ∙ v .carries (number ∙ e);
     carries-none = λ z. sym place ∙ v .carries-none (λ e. z (sym number ∙ e));
+    inside = subst (λ (k : ℕ). (k ≤ length (c .datagram)) × (k ≤ longestDatagram)) place (v .inside);
     other = λ no. absurd (no long);
     bad-names = λ e. sym number ∙ v .bad-names e;
     bad-releases = λ e. sym number ∙ v .bad-releases e;

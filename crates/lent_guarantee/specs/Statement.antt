@@ -11,7 +11,7 @@ use Rattle.state.specs.Book.{Book}
 use Rattle.state.specs.declared.Lease.{Lease}
 use Rattle.state.specs.declared.Ledger.{Ledger}
 use Rattle.releases.specs.Whole.{bookB, memoryGood, namesGood}
-use Rattle.message.specs.Read.{readOf}
+use Rattle.message.specs.Read.{longestDatagram, readOf}
 use Rattle.server.specs.Serve.{Answer, Call, serveOf}
 use Rattle.guarantee.specs.Statement.{Discovers, Elsewhere, Granted, GrantedAsOffered, IsReply, Narrow, NewRequest, NoHold, Offered, OfferedAs, ReadAs, TakesUp, WithinLimits, bookAt, liveUnder, requested, saysOf, tenantFor}
 use Rattle.decision.specs.Parts.{leaseIdIn}
@@ -95,6 +95,7 @@ pub record LentAnswered (l : Lent) (c : Call) (a : LentAnswer) : Type 0 where
   -- "Discard 5 carries" the offset that the reader of options reports, "every other outcome 0" (document 02, W-206)
   pub carries : a .outcome ≡ 5 → a .offset ≡ readOf (c .datagram) .fault
   pub carries-none : (a .outcome ≡ 5 → ⊥) → a .offset ≡ 0
+  pub inside : (a .offset ≤ length (c .datagram)) × (a .offset ≤ longestDatagram)
   -- another number of records makes the book unsound
   pub other : (length (l .leases) ≡ 128 → ⊥) → a .outcome ≡ 1
   -- and so do bad names and bad releases (document 02, W-201 and W-202)

@@ -29,6 +29,8 @@ pub type Difference = String;
 /// What the second program makes of one call.
 pub struct Answer {
     pub outcome: u8,
+    /// Where the datagram went wrong, with discard 5; else 0.
+    pub offset: usize,
     pub reply: Vec<u8>,
     /// The campus file afterwards; empty if the book can't be written.
     pub file: Vec<u8>,
@@ -57,13 +59,14 @@ fn second(case: &Case) -> Expected {
     let mut room = vec![0; LONGEST_FILE];
     while let (Some(book), Some(call)) = (&mut book, Call::read(&case.calls[end..])) {
         let room_length = call.room.into();
-        let (outcome, reply) =
+        let (outcome, offset, reply) =
             second::server::answer(book, &call.datagram, call.client, call.time, room_length);
         // A book that can't be written is a difference from any file; what the call answered is compared before it.
         let written = second::file::write(book, &mut room);
         let file = room[..written.unwrap_or(0)].to_vec();
         answers.push(Answer {
             outcome,
+            offset,
             reply,
             file,
             place: end,
@@ -244,7 +247,7 @@ fn second_on(file: &[u8], call: &Call) -> Result<(u8, Vec<u8>, Vec<u8>), Differe
     caught(|| {
         let mut book = second::file::read(file).expect("the book before the call");
         let room = call.room.into();
-        let (outcome, reply) =
+        let (outcome, _, reply) =
             second::server::answer(&mut book, &call.datagram, call.client, call.time, room);
         let mut file = vec![0; LONGEST_FILE];
         let length = second::file::write(&book, &mut file).unwrap_or(0);
@@ -371,8 +374,9 @@ fn serve(case: &Case, expected: &Expected, choice: usize) {
     for (number, answer) in expected.answers.iter().enumerate() {
         let what = format!("serve, call {}", number + 1);
         let call = Call::read(&case.calls[answer.place..]).expect("an answered call's record");
-        let (outcome, reply) = LENDER.serve(&mut held, &call, 0);
+        let (outcome, offset, reply) = LENDER.serve(&mut held, &call, 0);
         same(&what, outcome, answer.outcome);
+        same(&format!("{what}: offset"), offset, answer.offset);
         same_octets(&format!("{what}: reply"), &reply, &answer.reply);
         same_octets(&format!("{what}: file"), held.file(), &answer.file);
     }
@@ -399,6 +403,7 @@ fn replayed<'a>(case: &'a Case, expected: &'a Expected, answers_room: usize) -> 
             };
         }
         answers.push(answer.outcome);
+        answers.extend((answer.offset as u16).to_be_bytes());
         answers.extend((answer.reply.len() as u16).to_be_bytes());
         answers.extend(&answer.reply);
         file = &answer.file;
@@ -426,7 +431,7 @@ fn replay(case: &Case, expected: &Expected, choice: usize, tally: &mut Tally) {
     if count > 0 {
         let up_to = |calls: usize| -> usize {
             let answers = expected.answers[..calls].iter();
-            answers.map(|answer| 3 + answer.reply.len()).sum()
+            answers.map(|answer| 5 + answer.reply.len()).sum()
         };
         rooms.push(up_to(count - 1) + ANSWER_ROOM);
         rooms.push(up_to(choice / 16 % count) + ANSWER_ROOM - 1);
@@ -456,7 +461,7 @@ fn lent_rooms(case: &Case, tally: &mut Tally) {
     ] {
         let what = format!("{refusal} in a file room of {room}");
         let mut held = LENDER.hold(front, room, length);
-        let (outcome, _) = LENDER.serve(&mut held, &call(&case.calls), 0);
+        let (outcome, ..) = LENDER.serve(&mut held, &call(&case.calls), 0);
         same(&format!("serve, {what}"), outcome, refusal);
         let replayed = LENDER.replay(&mut held, &case.calls, 600);
         same(&format!("replay, {what}"), replayed, (refusal, 0, vec![]));

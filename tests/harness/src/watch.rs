@@ -66,9 +66,9 @@ fn see_alike(before: &Campus, after: &[u8], call: &Call, answer: &(u8, Vec<u8>))
     };
     let file = other.octets();
     let mut held = EXACT.hold(&file, FILE_ROOM, file.len());
-    let drawn = EXACT.serve(&mut held, &alike, 0x3C);
-    let is_same_file = drawn.0 != 0 || alike.datagram != call.datagram || held.file() == after;
-    let same = holds::of_alike(before, call, drawn) == *answer && is_same_file;
+    let (outcome, _, reply) = EXACT.serve(&mut held, &alike, 0x3C);
+    let is_same_file = outcome != 0 || alike.datagram != call.datagram || held.file() == after;
+    let same = holds::of_alike(before, call, (outcome, reply)) == *answer && is_same_file;
     assert!(same, "what has to draw the same draws something else");
 }
 
@@ -142,11 +142,12 @@ impl Watch {
     }
 
     /// A serve, and again with other octets past the file and in the reply room: nothing may differ.
-    pub fn serve(&mut self, held: &mut Held, call: &Call) -> (u8, Vec<u8>) {
+    pub fn serve(&mut self, held: &mut Held, call: &Call) -> (u8, usize, Vec<u8>) {
         let (mut other, before) = (held.with_other_octets(), held.file().to_vec());
         let answer = self.serve_once(held, call, 0x3C);
         if answer.0 <= 8 && answer.0 != 2 {
-            see_alike(&campus(&before), held.file(), call, &answer);
+            let drawn = (answer.0, answer.2.clone());
+            see_alike(&campus(&before), held.file(), call, &drawn);
         }
         let again = self.serve_once(&mut other, call, 0xE7);
         assert!(again == answer, "the answer depends on octets outside");
@@ -155,11 +156,11 @@ impl Watch {
         answer
     }
 
-    fn serve_once(&mut self, held: &mut Held, call: &Call, salt: u8) -> (u8, Vec<u8>) {
+    fn serve_once(&mut self, held: &mut Held, call: &Call, salt: u8) -> (u8, usize, Vec<u8>) {
         let (due, before) = (self.refusal_due(held), held.file().to_vec());
         let plain = bounds::plain(call).filter(|_| due == 0);
         let plain = plain.map(|plain| EXACT.serve(&mut held.clone(), &plain, salt));
-        let (number, reply) = EXACT.serve(held, call, salt);
+        let (number, offset, reply) = EXACT.serve(held, call, salt);
         self.count("serve", number);
         let right = match due {
             0 => {
@@ -179,10 +180,10 @@ impl Watch {
             self.see_releases(&before, &after, call, &reply);
             self.see_holds(&before, &after, call, (number, &reply));
         }
-        if let (Some(plain), 0 | 8) = (plain, number) {
-            self.see_bounds(&campus(&before), call, (number, &reply), plain);
+        if let (Some((outcome, _, plain)), 0 | 8) = (plain, number) {
+            self.see_bounds(&campus(&before), call, (number, &reply), (outcome, plain));
         }
-        (number, reply)
+        (number, offset, reply)
     }
 
     fn see_reply(&mut self, call: &Call, reply: &[u8]) {
@@ -306,8 +307,9 @@ impl Watch {
                 Some(_) if room - answers.len() < ANSWER_ROOM => due = 27,
                 Some(mut call) => {
                     call.room = call.room.min(REPLY_ROOM as u16);
-                    let (outcome, reply) = self.serve(&mut by_one, &call);
+                    let (outcome, offset, reply) = self.serve(&mut by_one, &call);
                     answers.push(outcome);
+                    answers.extend((offset as u16).to_be_bytes());
                     answers.extend((reply.len() as u16).to_be_bytes());
                     answers.extend(reply);
                     used += call.length();

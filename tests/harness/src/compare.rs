@@ -3,6 +3,7 @@
 use crate::bounds;
 use crate::campus::holding;
 use crate::case::Case;
+use crate::fault;
 use crate::holds;
 use crate::judged;
 use crate::lent::{Held, Lender};
@@ -146,8 +147,8 @@ fn choice(case: &Case) -> usize {
     }) >> 3
 }
 
-/// Counts what the case has shown, and sees that each scope list is the one that is due by what the case was made of, and what is remembered
-/// of releases, and held of offers, and answered to options 14 and 15, what is due by the file before each call.
+/// Counts what the case has shown, and sees that each scope list is the one that is due by what the case was made of, what is remembered
+/// of releases, held of offers, and answered to options 14 and 15, what is due by the file before each call, and the offset by the datagram.
 fn count(case: &Case, expected: &Expected, tally: &mut Tally) -> Result<(), Difference> {
     if expected.refusal != 0 {
         tally.code(expected.refusal);
@@ -164,6 +165,7 @@ fn count(case: &Case, expected: &Expected, tally: &mut Tally) -> Result<(), Diff
         let Some(call) = Call::read(&case.calls[answer.place..]) else {
             continue;
         };
+        faulted(&call, answer, tally)?;
         let after = Campus::read(&answer.file);
         if let (Some(before), Some(after)) = (&before, &after) {
             released(&mut past, before, after, &call, answer, tally)?;
@@ -185,6 +187,13 @@ fn count(case: &Case, expected: &Expected, tally: &mut Tally) -> Result<(), Diff
             }
         }
     }
+    Ok(())
+}
+
+/// Where a datagram went wrong: what is due by its octets.
+fn faulted(call: &Call, answer: &Answer, tally: &mut Tally) -> Result<(), Difference> {
+    let found = fault::due(call, answer.outcome, answer.offset)?;
+    found.iter().for_each(|fault| tally.fault(fault.cause));
     Ok(())
 }
 

@@ -9,6 +9,7 @@ pub mod case;
 pub mod compare;
 pub mod damage;
 pub mod damage_holds;
+pub mod fault;
 pub mod holds;
 pub mod jobs;
 pub mod judged;

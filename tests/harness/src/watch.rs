@@ -3,6 +3,7 @@
 //! that a replay is its single serves. What isn't so is a panic.
 
 use crate::bounds;
+use crate::fault;
 use crate::holds;
 use crate::lent::{Held, Lender};
 use crate::releases::Past;
@@ -14,7 +15,7 @@ use std::collections::BTreeMap;
 pub const EXACT: Lender = Lender { around: 0 };
 
 /// What a run of some length has to see.
-const SEEN: [(&str, &str); 10] = [
+const SEEN: [(&str, &str); 11] = [
     ("check", "0, 20, 21"),
     ("board", "lines, refused 20, refused 21, no room"),
     ("serve", "0, 2, 3, 4, 5, 6, 7, 8, 20, 21, 23, 28"),
@@ -33,6 +34,11 @@ const SEEN: [(&str, &str); 10] = [
     (
         "holds",
         "held, repeated, turned, dropped, kept, lapsed",
+    ),
+    (
+        "faults",
+        "an option past the end, one to three octets left over, wrong length of a known option, option 12 wrongly filled, a repeat, \
+         End not last, End with a length, two Ends, no End, no option 3",
     ),
 ];
 
@@ -81,7 +87,7 @@ impl Watch {
         *self.0.entry((what, of.to_string())).or_default() += 1;
     }
 
-    /// A line for each function, for replies, errors, names, releases, bounds and holds; and how many of those that have to occur never did.
+    /// A line for each function, for replies, errors, names, releases, bounds, holds, faults; and how many that have to occur never did.
     pub fn lines(&self) -> (Vec<String>, usize) {
         let (mut lines, mut missing) = (vec![], 0);
         for (what, names) in SEEN {
@@ -169,6 +175,10 @@ impl Watch {
             _ => number == due,
         };
         assert!(right, "serve returned {number}, {due} is due");
+        let fault = fault::due(call, number, offset).unwrap_or_else(|why| panic!("{why}"));
+        fault
+            .iter()
+            .for_each(|fault| self.count("faults", fault.cause.name()));
         if number == 0 {
             self.see_reply(call, &reply);
             let list = value_of(&reply, 9).unwrap_or(&[0]);

@@ -165,7 +165,7 @@ fn count(case: &Case, expected: &Expected, tally: &mut Tally) -> Result<(), Diff
         let Some(call) = Call::read(&case.calls[answer.place..]) else {
             continue;
         };
-        faulted(&call, answer, tally)?;
+        faulted(case, &call, answer, tally)?;
         let after = Campus::read(&answer.file);
         if let (Some(before), Some(after)) = (&before, &after) {
             released(&mut past, before, after, &call, answer, tally)?;
@@ -190,10 +190,19 @@ fn count(case: &Case, expected: &Expected, tally: &mut Tally) -> Result<(), Diff
     Ok(())
 }
 
-/// Where a datagram went wrong: what is due by its octets.
-fn faulted(call: &Call, answer: &Answer, tally: &mut Tally) -> Result<(), Difference> {
+/// Where a datagram went wrong: what is due by its octets and, where it was broken on purpose, by how that was done.
+fn faulted(case: &Case, call: &Call, answer: &Answer, tally: &mut Tally) -> Result<(), Difference> {
     let found = fault::due(call, answer.outcome, answer.offset)?;
     found.iter().for_each(|fault| tally.fault(fault.cause));
+    let broken = case.broken.get(&*call.datagram);
+    match (broken, answer.outcome) {
+        (None, _) | (_, 2 | 3) => {}
+        (Some(fault), 5) if fault.offset == answer.offset => tally.broken(fault.cause),
+        (Some(fault), outcome) => {
+            let found = (outcome, answer.offset);
+            return Err(format!("it was broken as {fault:?}, and drew {found:?}"));
+        }
+    }
     Ok(())
 }
 

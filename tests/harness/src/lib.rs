@@ -3,6 +3,7 @@
 
 pub mod asked;
 pub mod bounds;
+pub mod broken;
 pub mod calls;
 pub mod campus;
 pub mod case;

@@ -4,7 +4,7 @@
 //!
 //! CLIENT is an IPv4 address, 10.0.1.5 if it is left out. `campus.c` is the same in C.
 
-use banshorra_host::{CampusFile, REPLY_ROOM};
+use banshorra_host::{CampusFile, Discard, Outcome, REPLY_ROOM};
 use std::net::Ipv4Addr;
 use std::process::ExitCode;
 
@@ -43,6 +43,9 @@ fn main() -> ExitCode {
     let mut reply = [0; REPLY_ROOM];
     let outcome = campus.serve(GETINFO, client, 0, &mut reply);
     println!("outcome {}", outcome.number());
+    if let Outcome::Discard(Discard::Options { offset }) = outcome {
+        println!("wrong at octet {offset}");
+    }
     if let Some(reply) = outcome.reply() {
         let hex: String = reply.iter().map(|octet| format!("{octet:02x}")).collect();
         println!("reply {hex}");

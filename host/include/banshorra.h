@@ -23,7 +23,7 @@ extern "C" {
 #define BANSHORRA_FILE_ROOM 32768 /* the longest campus file, and the least buffer for one that is served */
 #define BANSHORRA_REPLY_ROOM 512  /* the least reply buffer; no reply is longer */
 #define BANSHORRA_BOARD_ROOM 1100 /* the least buffer for the board's text */
-#define BANSHORRA_ANSWER_ROOM 515 /* what a replay needs free before it answers a call */
+#define BANSHORRA_ANSWER_ROOM 517 /* what a replay needs free before it answers a call */
 
 /* Outcomes of a call (document 01's table). The first that holds counts. */
 enum {
@@ -44,7 +44,7 @@ enum {
     BANSHORRA_UNSOUND = 21,         /* campus file: well formed, but not sound */
     BANSHORRA_SHORT_FILE_ROOM = 23, /* the file's buffer is below 32,768 octets */
     BANSHORRA_CUT_OFF = 24,         /* a call's record is cut off */
-    BANSHORRA_SHORT_ANSWERS = 27,   /* fewer than 515 octets are left for the next answer */
+    BANSHORRA_SHORT_ANSWERS = 27,   /* fewer than 517 octets are left for the next answer */
     BANSHORRA_FILE_LENGTH = 28      /* the file's length is above its buffer's */
 };
 
@@ -59,14 +59,16 @@ size_t banshorra_board(const uint8_t *file, size_t file_length, uint8_t *text, s
    client: the IPv4 address it came from, as a number (10.0.1.5 is 0x0A000105). time: now, in whole seconds since 1970.
    Returns the outcome, 0 to 8. The reply stands in `reply` and its length in *reply_length, which is 0 for a discard; the file afterwards
    stands in the buffer and its length in *file_length. Octets past the reply and past the file are untouched.
-   Or a refusal, tested in the order 23, 28, 20, 21, which changes nothing but *reply_length, which is 0. */
+   With discard 5 *fault_offset is the octet of the datagram, counted from 0, at which the first option stands that breaks a rule (of a repeat the
+   later; one to three octets left over count as one), or datagram_length where End or option 3 is missing. It is 0 with every other number.
+   Or a refusal, tested in the order 23, 28, 20, 21, which changes nothing but *reply_length and *fault_offset, which are 0. */
 uint8_t banshorra_serve(uint8_t *file, size_t file_room, size_t *file_length, const uint8_t *datagram, size_t datagram_length,
-                        uint32_t client, uint32_t time, uint8_t *reply, size_t reply_room, size_t *reply_length);
+                        uint32_t client, uint32_t time, uint8_t *reply, size_t reply_room, size_t *reply_length, size_t *fault_offset);
 
 /* Serves a list of calls, one after the other, with the file read once and written once.
    A call is time(4), client address(4), reply room length(2), datagram length(2), the datagram; a reply room length above 512 counts as 512.
-   An answer is outcome(1), reply length(2), the reply.
-   Returns 0 where all calls are answered; 24 where the next call's record is cut off, or else 27 where fewer than 515 octets are left for the
+   An answer is outcome(1), the offset that it carries as above(2), reply length(2), the reply.
+   Returns 0 where all calls are answered; 24 where the next call's record is cut off, or else 27 where fewer than 517 octets are left for the
    next answer. In all three *calls_used octets of the calls are answered, *answers_filled octets of answers filled, octets past them untouched,
    and the file afterwards stands in the buffer; after 27 go on from there with another buffer.
    Or a refusal of the file, 23, 28, 20, 21 as above, which changes nothing but *calls_used and *answers_filled, which are 0. */

@@ -32,7 +32,7 @@ pub fn serve<'r>(
     time: u32,
     reply: &'r mut [u8],
 ) -> Result<Outcome<'r>, Refusal> {
-    let (client, mut length) = (u32::from(client), 0);
+    let (client, mut length, mut offset) = (u32::from(client), 0, 0);
     let number = library::serve(
         file,
         file_length,
@@ -41,8 +41,9 @@ pub fn serve<'r>(
         time,
         reply,
         &mut length,
+        &mut offset,
     );
-    Outcome::of_number(number, &reply[..length]).ok_or_else(|| refusal(number))
+    Outcome::of_number(number, offset, &reply[..length]).ok_or_else(|| refusal(number))
 }
 
 /// How far a list of calls was answered.

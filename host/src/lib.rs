@@ -23,7 +23,7 @@
 //!                 std::fs::rename("campus.new", "campus.bin")?;
 //!                 socket.send_to(octets, from)?;
 //!             }
-//!             Outcome::Discard(why) => eprintln!("{from}: {why}"),
+//!             Outcome::Discard(why) => eprintln!("{from}: {}", why.in_words(&datagram[..length])),
 //!         }
 //!     }
 //! }
@@ -35,6 +35,7 @@
 #![warn(missing_docs)]
 
 mod campus_file;
+mod fault;
 pub mod lent;
 #[allow(unsafe_code)]
 pub mod library;
@@ -42,6 +43,7 @@ mod numbers;
 mod records;
 
 pub use campus_file::CampusFile;
+pub use fault::Fault;
 pub use lent::Replayed;
 pub use numbers::{Discard, Outcome, Refusal};
 pub use records::{answers, Answers, Call};
@@ -52,5 +54,5 @@ pub const FILE_ROOM: usize = 32_768;
 pub const REPLY_ROOM: usize = 512;
 /// The least buffer for the board's text.
 pub const BOARD_ROOM: usize = 1_100;
-/// What a replay needs free before it answers a call: outcome(1), reply length(2) and the longest reply.
-pub const ANSWER_ROOM: usize = 3 + REPLY_ROOM;
+/// What a replay needs free before it answers a call: outcome(1), offset(2), reply length(2) and the longest reply.
+pub const ANSWER_ROOM: usize = 5 + REPLY_ROOM;

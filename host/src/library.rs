@@ -35,6 +35,7 @@ extern "C" {
         reply: *mut u8,
         reply_room: usize,
         reply_length: *mut usize,
+        fault_offset: *mut usize,
     ) -> u8;
     /// A list of calls.
     pub fn banshorra_replay(
@@ -71,8 +72,9 @@ pub fn serve(
     time: u32,
     reply: &mut [u8],
     reply_length: &mut usize,
+    fault_offset: &mut usize,
 ) -> u8 {
-    // SAFETY: as above; `file`, `file_length`, `reply` and `reply_length` are written, and each is lent as `&mut`.
+    // SAFETY: as above; `file`, `reply`, the two lengths and the offset are written, and each is lent as `&mut`.
     unsafe {
         banshorra_serve(
             file.as_mut_ptr(),
@@ -85,6 +87,7 @@ pub fn serve(
             reply.as_mut_ptr(),
             reply.len(),
             reply_length,
+            fault_offset,
         )
     }
 }

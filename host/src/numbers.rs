@@ -1,5 +1,6 @@
 //! The numbers that the library returns.
 
+use crate::fault::Fault;
 use std::fmt;
 
 /// What became of a datagram.
@@ -20,6 +21,15 @@ impl<'r> Outcome<'r> {
         }
     }
 
+    /// With discard 5 the octet of the datagram at which the first option stands that breaks a rule, or the datagram's length where End or
+    /// option 3 is missing; 0 with every other outcome.
+    pub fn offset(&self) -> usize {
+        match self {
+            Outcome::Discard(Discard::Options { offset }) => *offset,
+            _ => 0,
+        }
+    }
+
     /// The reply's octets.
     pub fn reply(&self) -> Option<&'r [u8]> {
         match self {
@@ -28,56 +38,78 @@ impl<'r> Outcome<'r> {
         }
     }
 
-    /// The outcome of a number and a reply's octets. `None` for a number above 8.
-    pub(crate) fn of_number(number: u8, reply: &'r [u8]) -> Option<Self> {
+    /// The outcome of a number, the offset that it carries and a reply's octets. `None` for a number above 8.
+    pub(crate) fn of_number(number: u8, offset: usize, reply: &'r [u8]) -> Option<Self> {
         match number {
             0 => Some(Outcome::Reply(reply)),
-            _ => Discard::of_number(number).map(Outcome::Discard),
+            _ => Discard::of_number(number, offset).map(Outcome::Discard),
         }
     }
 }
 
 /// Why a datagram is discarded: the first that holds.
 #[derive(Clone, Copy, Debug, PartialEq, Eq, Hash)]
-#[repr(u8)]
 pub enum Discard {
-    /// The book is unsound. Never of a campus file, which is refused then.
-    Unsound = 1,
-    /// The reply buffer is below 512 octets.
-    ReplyRoom = 2,
-    /// The client's address is in no house.
-    NoHouse = 3,
-    /// The datagram's length, version, family or type.
-    Header = 4,
-    /// The options break the layout, length, repeat, End or Lease Identifier rules.
-    Options = 5,
-    /// A feature is required. None is supported.
-    Feature = 6,
-    /// A REQUEST to another server.
-    OtherServer = 7,
-    /// A DISCOVER or GETINFO that draws an error, which they don't hear of.
-    Error = 8,
+    /// 1: the book is unsound. Never of a campus file, which is refused then.
+    Unsound,
+    /// 2: the reply buffer is below 512 octets.
+    ReplyRoom,
+    /// 3: the client's address is in no house.
+    NoHouse,
+    /// 4: the datagram's length, version, family or type.
+    Header,
+    /// 5: the options break the layout, length, repeat, End or Lease Identifier rules.
+    Options {
+        /// The octet of the datagram at which the first of them stands that does (of a repeat the later; one to three octets left over count
+        /// as one), or the datagram's length where End or option 3 is missing.
+        offset: usize,
+    },
+    /// 6: a feature is required. None is supported.
+    Feature,
+    /// 7: a REQUEST to another server.
+    OtherServer,
+    /// 8: a DISCOVER or GETINFO that draws an error, which they don't hear of.
+    Error,
 }
 
 impl Discard {
-    const ALL: [Discard; 8] = [
-        Discard::Unsound,
-        Discard::ReplyRoom,
-        Discard::NoHouse,
-        Discard::Header,
-        Discard::Options,
-        Discard::Feature,
-        Discard::OtherServer,
-        Discard::Error,
-    ];
-
     /// Document 01's number.
     pub fn number(self) -> u8 {
-        self as u8
+        match self {
+            Discard::Unsound => 1,
+            Discard::ReplyRoom => 2,
+            Discard::NoHouse => 3,
+            Discard::Header => 4,
+            Discard::Options { .. } => 5,
+            Discard::Feature => 6,
+            Discard::OtherServer => 7,
+            Discard::Error => 8,
+        }
     }
 
-    fn of_number(number: u8) -> Option<Self> {
-        Self::ALL.into_iter().find(|why| why.number() == number)
+    fn of_number(number: u8, offset: usize) -> Option<Self> {
+        Some(match number {
+            1 => Discard::Unsound,
+            2 => Discard::ReplyRoom,
+            3 => Discard::NoHouse,
+            4 => Discard::Header,
+            5 => Discard::Options { offset },
+            6 => Discard::Feature,
+            7 => Discard::OtherServer,
+            8 => Discard::Error,
+            _ => return None,
+        })
+    }
+
+    /// The discard in words, with what is wrong in the datagram that drew it: `discard 5 at octet 23: option 6 has length 3, not 4`.
+    pub fn in_words(&self, datagram: &[u8]) -> String {
+        match self {
+            Discard::Options { offset } => match Fault::at(datagram, *offset) {
+                Some(fault) => format!("discard 5 at octet {offset}: {fault}"),
+                None => self.to_string(),
+            },
+            _ => self.to_string(),
+        }
     }
 }
 
@@ -88,7 +120,9 @@ impl fmt::Display for Discard {
             Discard::ReplyRoom => "reply room below 512",
             Discard::NoHouse => "client address in no house",
             Discard::Header => "datagram length, version, family or type",
-            Discard::Options => "options break a rule",
+            Discard::Options { offset } => {
+                return write!(f, "discard 5 at octet {offset}: options break a rule")
+            }
             Discard::Feature => "a feature is required",
             Discard::OtherServer => "for another server",
             Discard::Error => "DISCOVER or GETINFO that draws an error",
@@ -109,7 +143,7 @@ pub enum Refusal {
     FileRoom = 23,
     /// A call's record is cut off.
     CutOff = 24,
-    /// Fewer than 515 octets are left for the next answer.
+    /// Fewer than 517 octets are left for the next answer.
     AnswersRoom = 27,
     /// The file's length is above its buffer's.
     FileLength = 28,

@@ -135,7 +135,7 @@ fn a_discard_leaves_the_reply_room() {
     for (client, length, discard) in [
         (STRANGER, 18, Discard::NoHouse),
         (HOUSE_1, 11, Discard::Header),
-        (HOUSE_1, 17, Discard::Options),
+        (HOUSE_1, 17, Discard::Options { offset: 14 }),
         (HOUSE_1, 0, Discard::Header),
     ] {
         let datagram = &getinfo()[..length];

@@ -32,7 +32,7 @@ fn the_header_and_the_crate_agree() {
         ("NO_REPLY_ROOM", Discard::ReplyRoom),
         ("NO_HOUSE", Discard::NoHouse),
         ("BAD_HEADER", Discard::Header),
-        ("BAD_OPTIONS", Discard::Options),
+        ("BAD_OPTIONS", Discard::Options { offset: 0 }),
         ("FEATURE", Discard::Feature),
         ("OTHER_SERVER", Discard::OtherServer),
         ("ERROR", Discard::Error),

@@ -32,8 +32,9 @@ fn single(campus: &mut CampusFile, call: &Call) -> Vec<u8> {
     let mut room = vec![0; call.room.into()];
     let outcome = campus.serve(&call.datagram, call.client.into(), call.time, &mut room);
     let reply = outcome.reply().unwrap_or(&[]);
+    let offset = (outcome.offset() as u16).to_be_bytes();
     let length = (reply.len() as u16).to_be_bytes();
-    [&[outcome.number()][..], &length, reply].concat()
+    [&[outcome.number()][..], &offset, &length, reply].concat()
 }
 
 #[test]
@@ -64,6 +65,9 @@ fn the_sample_morning_goes_as_the_program_prints_it() {
         printed += &outcome.number().to_string();
         if let Some(reply) = outcome.reply() {
             printed += &format!(" {}", hex(reply));
+        }
+        if outcome.number() == 5 {
+            printed += &format!(" @{}", outcome.offset());
         }
         printed += "\n";
     }
@@ -106,7 +110,7 @@ fn a_record_cut_off_is_24_and_those_before_it_stand() {
 #[test]
 fn too_little_room_for_the_first_answer_is_27_and_changes_nothing() {
     let (campus, calls) = morning();
-    for room in [0, 1, 3, ANSWER_ROOM - 1] {
+    for room in [0, 1, 5, ANSWER_ROOM - 1] {
         let mut tried = campus.clone();
         let mut filled = pattern(room);
         let replayed = tried.replay(calls, &mut filled);

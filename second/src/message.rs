@@ -114,33 +114,35 @@ pub struct Options<'a> {
 }
 
 impl<'a> Options<'a> {
-    /// Walks over the options of a datagram; `None` if they break the layout, length, repeat, End or option 3 rules.
-    pub fn read(datagram: &'a [u8]) -> Option<Options<'a>> {
-        let mut octets = Octets::new(datagram.get(HEADER..)?);
+    /// Walks over the options of a datagram. `Err` if they break the layout, length, repeat, End or option 3 rules:
+    /// the offset in the datagram of the first option that breaks one, of a repeat the later; one to three octets
+    /// left over count as an option. Where End or option 3 is missing and no option is at fault it is the
+    /// datagram's length.
+    pub fn read(datagram: &'a [u8]) -> Result<Options<'a>, usize> {
+        let mut octets = Octets::new(datagram.get(HEADER..).unwrap_or_default());
         let mut by_code = BTreeMap::new();
-        loop {
-            // Without End the walk runs out of octets.
-            let (code, value) = read_option(&mut octets)?;
-            if !length_fits(code, value) {
-                return None;
+        let mut has_end = false;
+        while !octets.is_empty() {
+            let offset = datagram.len() - octets.left();
+            let (code, value) = read_option(&mut octets).ok_or(offset)?;
+            let keeps_its_place = match code {
+                // End is the last four octets of the datagram.
+                code::END => octets.is_empty(),
+                1..=code::LAST_KNOWN => by_code.insert(code, value).is_none(),
+                _ => true,
+            };
+            if !keeps_its_place || !length_fits(code, value) {
+                return Err(offset);
             }
-            if code == code::END {
-                break;
-            }
-            let is_known = code <= code::LAST_KNOWN;
-            if is_known && by_code.insert(code, value).is_some() {
-                return None;
-            }
+            has_end = code == code::END;
         }
-        // End is the last four octets of the datagram.
-        if !octets.is_empty() {
-            return None;
+        match by_code.get(&code::LEASE_IDENTIFIER) {
+            Some(&identifier) if has_end => Ok(Options {
+                identifier,
+                by_code,
+            }),
+            _ => Err(datagram.len()),
         }
-        let identifier = by_code.get(&code::LEASE_IDENTIFIER).copied()?;
-        Some(Options {
-            identifier,
-            by_code,
-        })
     }
 
     pub fn codes(&self) -> impl Iterator<Item = u16> + '_ {

@@ -15,6 +15,11 @@ impl<'a> Octets<'a> {
         self.rest.is_empty()
     }
 
+    /// How many octets are left.
+    pub fn left(&self) -> usize {
+        self.rest.len()
+    }
+
     pub fn take(&mut self, count: usize) -> Option<&'a [u8]> {
         if count > self.rest.len() {
             return None;

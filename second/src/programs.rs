@@ -3,7 +3,7 @@
 use crate::book::Book;
 use crate::file;
 use crate::octets::{hex, Octets};
-use crate::server::{serve, REPLY};
+use crate::server::{serve, BAD_OPTIONS, REPLY};
 use std::net::Ipv4Addr;
 
 /// The input of `replay` is cut off.
@@ -75,14 +75,15 @@ fn octets_with_length<'a>(octets: &mut Octets<'a>) -> Option<&'a [u8]> {
     octets.take(usize::from(length))
 }
 
-/// The outcome and, for a reply, its octets.
+/// The outcome and, for a reply, its octets, for a discard 5 where the options went wrong.
 fn call_line(book: &mut Book, record: &Record) -> String {
     let mut room = vec![0; usize::from(record.room_length)];
-    let (outcome, length) = serve(book, record.datagram, record.client, record.time, &mut room);
-    if outcome == REPLY {
-        format!("{outcome} {}\n", hex(&room[..length]))
-    } else {
-        format!("{outcome}\n")
+    let (outcome, offset, length) =
+        serve(book, record.datagram, record.client, record.time, &mut room);
+    match outcome {
+        REPLY => format!("{outcome} {}\n", hex(&room[..length])),
+        BAD_OPTIONS => format!("{outcome} @{offset}\n"),
+        _ => format!("{outcome}\n"),
     }
 }
 

@@ -31,35 +31,58 @@ const BAD_REQUEST: u16 = 1;
 const CLOCKS_APART: u16 = 2;
 const NOT_HELD: u16 = 3;
 
-/// Serves one datagram. Gives the outcome and the length of the reply, which stands in the front of the room;
-/// the rest of the room is left as it was, and a discard leaves all of it.
+/// Serves one datagram. Gives the outcome, its offset and the length of the reply, which stands in the front of the
+/// room; the rest of the room is left as it was, and a discard leaves all of it. The offset is where in the datagram
+/// the options went wrong: discard 5 carries it, every other outcome 0.
 pub fn serve(
     book: &mut Book,
     datagram: &[u8],
     client: u32,
     time: u32,
     room: &mut [u8],
-) -> (u8, usize) {
-    let (outcome, octets) = answer(book, datagram, client, time, room.len());
+) -> (u8, usize, usize) {
+    let (outcome, offset, octets) = answer(book, datagram, client, time, room.len());
     match room.get_mut(..octets.len()) {
         Some(front) => front.copy_from_slice(&octets),
         // No reply comes near 512 octets, so this isn't reached.
-        None => return (NO_ROOM, 0),
+        None => return (NO_ROOM, 0, 0),
     }
-    (outcome, octets.len())
+    (outcome, offset, octets.len())
 }
 
-/// The same with the reply as octets of its own: the outcome, and the reply, which is empty for a discard.
+/// The same with the reply as octets of its own: the outcome, its offset, and the reply, which is empty for a discard.
 pub fn answer(
     book: &mut Book,
     datagram: &[u8],
     client: u32,
     time: u32,
     room_length: usize,
-) -> (u8, Vec<u8>) {
+) -> (u8, usize, Vec<u8>) {
     match reply_or_discard(book, datagram, client, time, room_length) {
-        Ok(octets) => (REPLY, octets),
-        Err(discard) => (discard, Vec::new()),
+        Ok(octets) => (REPLY, 0, octets),
+        Err(discard) => (discard.outcome, discard.offset, Vec::new()),
+    }
+}
+
+/// A discard's number and offset.
+struct Discard {
+    outcome: u8,
+    offset: usize,
+}
+
+impl Discard {
+    fn of_options(offset: usize) -> Discard {
+        Discard {
+            outcome: BAD_OPTIONS,
+            offset,
+        }
+    }
+}
+
+/// "Discard 5 carries it, every other outcome 0": a number by itself has no offset.
+impl From<u8> for Discard {
+    fn from(outcome: u8) -> Discard {
+        Discard { outcome, offset: 0 }
     }
 }
 
@@ -70,22 +93,22 @@ fn reply_or_discard(
     client: u32,
     time: u32,
     room_length: usize,
-) -> Result<Vec<u8>, u8> {
+) -> Result<Vec<u8>, Discard> {
     if !sound(book) {
-        return Err(BOOK_UNSOUND);
+        return Err(BOOK_UNSOUND.into());
     }
     if room_length < SHORTEST_ROOM {
-        return Err(NO_ROOM);
+        return Err(NO_ROOM.into());
     }
     book.advance(time);
     let house = book.house_of_client(client).ok_or(NO_HOUSE)?;
     let header = Header::read(datagram).ok_or(BAD_HEADER)?;
-    let options = Options::read(datagram).ok_or(BAD_OPTIONS)?;
+    let options = Options::read(datagram).map_err(Discard::of_options)?;
     if options.requires_a_feature() {
-        return Err(FEATURE_REQUIRED);
+        return Err(FEATURE_REQUIRED.into());
     }
     if names_another_server(book, &header, &options) {
-        return Err(OTHER_SERVER);
+        return Err(OTHER_SERVER.into());
     }
     let call = Call {
         house,
@@ -95,7 +118,7 @@ fn reply_or_discard(
     match reply_or_error(book, &call) {
         Ok(octets) => Ok(octets),
         Err(error) => match header.kind {
-            Kind::Discover | Kind::GetInfo => Err(SILENT_ERROR),
+            Kind::Discover | Kind::GetInfo => Err(SILENT_ERROR.into()),
             _ => Ok(reply::of_error(error, book, &call.header, &call.options)),
         },
     }

@@ -187,7 +187,10 @@ fn a_hold_lapses_when_the_clock_reaches_thirty_seconds() {
         assert!(book.holds.is_empty());
     }
     let mut book = offered();
-    assert_eq!(serve(&mut book, &[], STRANGER, 9999, &mut [0; 511]), (2, 0));
+    assert_eq!(
+        serve(&mut book, &[], STRANGER, 9999, &mut [0; 511]),
+        (2, 0, 0)
+    );
     let mut unsound = book.clone();
     unsound.scopes[0].ttl = 0;
     assert_eq!(call(&mut unsound, STRANGER, 9999, &[]).0, 1);

@@ -1,5 +1,5 @@
 -- Laws: what the functions on one record of a list of calls are proved by: the numbers in it, why it is not answered, and its answer in a buffer.
-use mathlib.Core.Path.{_≡_, refl, sym, ap, _∙_, subst}
+use mathlib.Core.Path.{_≡_, refl, sym, ap, ap₂, _∙_, subst}
 use mathlib.Core.Bool.{Bool, true, false}
 use mathlib.Core.List.{List, [], _∷_, _++_, append-assoc}
 use Prim.Native.Nat.{ℕ, _+_, _-_, _%_, _≤_, _<_, min}
@@ -136,30 +136,38 @@ module _ (b : List ℕ) (n k : ℕ) (x : List ℕ) {ys : List ℕ} (e : ys ≡ x
       d : List ℕ
       d = drop n b
 
--- the answer: the reply, then its outcome and its length before it
+-- the low 16 bits of a number have its octets
+low16 : (v : ℕ) → octets16 (v % 65536) ≡ octets16 v
+low16 v = ap₂ (λ (x y : ℕ). x ∷ y ∷ []) (omega arith) (omega arith)
+
+-- the answer: the reply, then its outcome, its offset and its length before it
 module _ (g : Ledger) (ls : List Lease) (names d : List ℕ) (client time room : ℕ) (b : List ℕ) (to : ℕ) where
   abbrev width : ℕ
-  width = to + 3 + room - (to + 3)
+  width = to + 5 + room - (to + 5)
 
   abbrev lent : List ℕ
-  lent = partOf b (to + 3) width
+  lent = partOf b (to + 5) width
 
   abbrev callWith : ℕ → Call
   callWith k = record { datagram = d; client = client; time = time; room = k }
 
-  pub answered : {ys x y : List ℕ} {m n : ℕ} {r : OwnedCall} → (to + answerRoom ≤ length b) × (room ≤ leastRoom) → ServesOwned (serveLent g ls names (callWith (length lent))) lent ys r → length ys ≡ length lent
-      → Wrote (withPart b (to + 3) width ys) to (r .outcome .outcome ∷ []) x m → Wrote x (to + 1) (octets16 (r .outcome .length % 65536)) y n → Answers (serveLent g ls names (callWith room)) b to y r
-  answered {ys} {x} {y} {r = r} h v l p q = subst (λ (k : ℕ). Answers (serveLent g ls names (callWith k)) b to y r) full (record {
+  pub answered : {ys x y z : List ℕ} {k m n : ℕ} {r : OwnedCall} → (to + answerRoom ≤ length b) × (room ≤ leastRoom) → ServesOwned (serveLent g ls names (callWith (length lent))) lent ys r → length ys ≡ length lent
+      → Wrote (withPart b (to + 5) width ys) to (r .outcome .outcome ∷ []) x k → Wrote x (to + 1) (octets16 (r .outcome .offset % 65536)) y m → Wrote y (to + 3) (octets16 (r .outcome .length % 65536)) z n
+      → Answers (serveLent g ls names (callWith room)) b to z r
+  answered {ys} {x} {y} {z} {r = r} h v l p q s = subst (λ (k : ℕ). Answers (serveLent g ls names (callWith k)) b to z r) full (record {
     size = v .tells .size;
     ledger = v .ledger;
     leases = v .leases;
     buffer =
-        q .buffer ∙ ap (λ (z : List ℕ). put z (to + 1) (octets16 (o .length % 65536))) (p .buffer)
-        ∙ ap (λ (z : List ℕ). put (put z to (o .outcome ∷ [])) (to + 1) (octets16 (o .length % 65536))) (part-put b (to + 3) width (a .reply) (v .tells .buffer) l)
-        ∙ put-put (put b (to + 3) (a .reply)) to (o .outcome ∷ []) (octets16 (o .length % 65536)) (let e = put-length b (to + 3) (a .reply) in omega arith)
-        ∙ put-under b to (o .outcome ∷ octets16 (o .length % 65536)) (a .reply) (omega arith)
-        ∙ ap (λ (j : ℕ). put b to (j ∷ octets16 (o .length % 65536) ++ a .reply)) (v .tells .outcome)
-        ∙ ap (λ (j : ℕ). put b to (a .outcome ∷ octets16 j ++ a .reply)) (small ∙ v .tells .size);
+        s .buffer ∙ ap (λ (w : List ℕ). put w (to + 3) size) (q .buffer)
+        ∙ ap (λ (w : List ℕ). put (put w (to + 1) place) (to + 3) size) (p .buffer)
+        ∙ ap (λ (w : List ℕ). put (put (put w to (o .outcome ∷ [])) (to + 1) place) (to + 3) size) (part-put b (to + 5) width (a .reply) (v .tells .buffer) l)
+        ∙ ap (λ (w : List ℕ). put w (to + 3) size) (put-put (put b (to + 5) (a .reply)) to (o .outcome ∷ []) place (let e = put-length b (to + 5) (a .reply) in omega arith))
+        ∙ put-put (put b (to + 5) (a .reply)) to (o .outcome ∷ place) size (let e = put-length b (to + 5) (a .reply) in omega arith)
+        ∙ put-under b to (o .outcome ∷ place ++ size) (a .reply) (omega arith)
+        ∙ ap (λ (j : ℕ). put b to (j ∷ place ++ size ++ a .reply)) (v .tells .outcome)
+        ∙ ap (λ (w : List ℕ). put b to (a .outcome ∷ w ++ size ++ a .reply)) (low16 (o .offset) ∙ ap octets16 (v .tells .offset))
+        ∙ ap (λ (w : List ℕ). put b to (a .outcome ∷ octets16 (a .offset) ++ w ++ a .reply)) (low16 (o .length) ∙ ap octets16 (v .tells .size));
   })
     where
       o : Outcome
@@ -168,11 +176,14 @@ module _ (g : Ledger) (ls : List Lease) (names d : List ℕ) (client time room :
       a : LentAnswer
       a = serveLent g ls names (callWith (length lent))
 
-      full : length lent ≡ room
-      full = let e = length-drop (to + 3) b in length-take-le width (drop (to + 3) b) (omega arith) ∙ (let q : to + 3 + room - (to + 3) ≡ room = omega arith in q)
+      place : List ℕ
+      place = octets16 (o .offset % 65536)
 
-      small : o .length % 65536 ≡ o .length
-      small = let f = full in let i = reply-inside b (to + 3) width (a .reply) (v .tells .buffer) l in let z = v .tells .size in omega arith
+      size : List ℕ
+      size = octets16 (o .length % 65536)
+
+      full : length lent ≡ room
+      full = let e = length-drop (to + 5) b in length-take-le width (drop (to + 5) b) (omega arith) ∙ (let q : to + 5 + room - (to + 5) ≡ room = omega arith in q)
 
 -- ---- the call of a record
 module _ (cs : List ℕ) (at : ℕ) where

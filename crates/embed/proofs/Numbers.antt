@@ -82,7 +82,7 @@ record Stopped (names : List ℕ) (r : Worked) : Type 0 where
 
 stop-few : (cs : List ℕ) (room : ℕ) → isIn (stopIn cs room) (0 ∷ 24 ∷ 27 ∷ []) ≡ true
 unfolding stopIn isIn pick
-stop-few cs room = go (cutOff cs) (ltb room 515)
+stop-few cs room = go (cutOff cs) (ltb room 517)
   where
     go : (p q : Bool) → isIn (pick p 24 (pick q 27 0)) (0 ∷ 24 ∷ 27 ∷ []) ≡ true
     go true q = refl

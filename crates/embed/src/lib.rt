@@ -14,8 +14,8 @@ use owned::OwnedCall;
 use owned::OwnedFile;
 use state_file::Written;
 
-// What an answer in a list may take: outcome(1), reply length(2) and the longest reply.
-const ANSWER_ROOM: usize = 3 + reply::LEAST_ROOM;
+// What an answer in a list may take: outcome(1), offset(2), reply length(2) and the longest reply.
+const ANSWER_ROOM: usize = 5 + reply::LEAST_ROOM;
 
 // The longest names of an accepted file.
 const NAMES_ROOM: usize = 6229;
@@ -144,11 +144,12 @@ fn answer_call(
         datagram,
         client,
         time,
-        &mut answers[to + 3..to + 3 + room],
+        &mut answers[to + 5..to + 5 + room],
     );
     let told = r.outcome;
     octets::put_u8(answers, to, told.outcome);
-    octets::put_u16(answers, to + 1, (told.length % 65536) as u16);
+    octets::put_u16(answers, to + 1, (told.offset % 65536) as u16);
+    octets::put_u16(answers, to + 3, (told.length % 65536) as u16);
     r
 }
 
@@ -210,7 +211,7 @@ fn replay(start: Owned, names: &[u8], calls: &[u8], answers: &mut [u8]) -> Progr
         let told = r.outcome;
         o = r.owned;
         at = at + record_size(calls, at);
-        to = to + 3 + told.length;
+        to = to + 5 + told.length;
     }
     Progress {
         number: 0,
@@ -240,9 +241,10 @@ pub extern "C" fn banshorra_board(file: &[u8], text: &mut [u8]) -> usize
     board_text::write_board(file, text)
 }
 
-// One call on the campus file in a buffer: the outcome, 0 to 8, with the reply and its length, and the file and its length afterwards. 23 where the
-// buffer has fewer than 32,768 octets, 28 where `file_length` is past its end, then 20 or 21 where the file is refused: these change nothing but
-// the reply's length, which is 0.
+// One call on the campus file in a buffer: the outcome, 0 to 8, with the reply and its length, and the file and its length afterwards. With discard 5
+// `fault_offset` is where in the datagram the first option stands that breaks a rule, or the datagram's length where End or option 3 is missing; it
+// is 0 with every other number. 23 where the buffer has fewer than 32,768 octets, 28 where `file_length` is past its end, then 20 or 21 where the
+// file is refused: these change nothing but the reply's length and the offset, which are 0.
 #[no_mangle]
 pub extern "C" fn banshorra_serve(
     file: &mut [u8],
@@ -252,8 +254,9 @@ pub extern "C" fn banshorra_serve(
     time: u32,
     reply: &mut [u8],
     reply_length: &mut usize,
+    fault_offset: &mut usize,
 ) -> u8
-    ensures { λ r. ⌜ ServesFile (serveFile (now (file .entry)) (now («file_length» .entry)) (record { datagram = now (datagram .entry); client = client; time = time; room = length (now (reply .entry)) })) (now (file .exit)) (now («file_length» .exit)) (now (reply .entry)) (now (reply .exit)) (record { outcome = r; length = now («reply_length» .exit) }) ⌝ }
+    ensures { λ r. ⌜ ServesFile (serveFile (now (file .entry)) (now («file_length» .entry)) (record { datagram = now (datagram .entry); client = client; time = time; room = length (now (reply .entry)) })) (now (file .exit)) (now («file_length» .exit)) (now (reply .entry)) (now (reply .exit)) (record { outcome = r; length = now («reply_length» .exit); offset = now («fault_offset» .exit) }) ⌝ }
 {
     let n = *file_length;
     let f = open_in(file, n);
@@ -268,15 +271,17 @@ pub extern "C" fn banshorra_serve(
         let w = owned::write(b, &kept[..k], file);
         *file_length = length_after(w, n);
         *reply_length = told.length;
+        *fault_offset = told.offset;
         return number_after(w, told.outcome);
     }
     *reply_length = 0;
+    *fault_offset = 0;
     refusal
 }
 
 // A list of calls on the campus file in a buffer, in the records that `replay` reads; the file is read once and written once. Each answer is
-// outcome(1), reply length(2) and the reply. `used` is how many octets of the calls are answered, `filled` how many of the answers there are.
-// 0 where all are answered, 24 where a record is cut off, 27 where fewer than 515 octets are left for the next answer; those before it stand, and
+// outcome(1), the offset that it carries(2), reply length(2) and the reply. `used` is how many octets of the calls are answered, `filled` how many of the answers there are.
+// 0 where all are answered, 24 where a record is cut off, 27 where fewer than 517 octets are left for the next answer; those before it stand, and
 // the file is written. 20, 21, 23 and 28 of the file as above, with `used` and `filled` 0.
 #[no_mangle]
 pub extern "C" fn banshorra_replay(

@@ -23,6 +23,9 @@ call-answered b c =
       untouched = v .untouched;
       untouched-too = v .untouched-too;
       advances = v .advances;
+      carries = v .carries;
+      carries-none = v .carries-none;
+      inside = v .inside;
     }
 
 pub demand1 : Demand1

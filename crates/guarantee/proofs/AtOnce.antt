@@ -242,7 +242,7 @@ module _ (b : Book) (c : Call) (v : SoundBook b) (discovers : Discovers c) (free
       let there = taken.there b c v discovers offered in
       let few = taken.left b c v discovers offered f .left in
       ap (λ (y : Book). serveOf y (requested c)) book-is ∙ after
-      ∙ ap₂ (λ (x : LeaseTable) (y : Memory). record { outcome = withLease LeaseAck L .outcome; reply = replyOf s (bookAt b c .names) h r (withLease LeaseAck L); book = changedTo (bookAt b c) s x y })
+      ∙ ap₂ (λ (x : LeaseTable) (y : Memory). record { outcome = withLease LeaseAck L .outcome; offset = 0; reply = replyOf s (bookAt b c .names) h r (withLease LeaseAck L); book = changedTo (bookAt b c) s x y })
       (same-table s t h H L there few same-id gone) (same-memory s t h H L there few same-id gone (bookAt b c .memory))
       ∙ sym alone
 

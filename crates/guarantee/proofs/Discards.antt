@@ -1,11 +1,11 @@
 -- Proof of demand 1: whichever way the tests go, a call has one of the outcomes 0 to 8, and a discard changes no more than the clock and the ended leases.
-use Prim.Native.Nat.{ℕ, _≤_}
+use Prim.Native.Nat.{ℕ, zero, suc, _≤_}
 use mathlib.Core.Path.{_≡_, refl, ap, _∙_}
 use mathlib.Core.Bool.{Bool, true, false, not, _&&_}
 use mathlib.Core.List.{List, []}
 use native.Mathlib.Omega.{arith}
 use lib.Dec.{ltb, eqb}
-use lib.ListN.{getD}
+use lib.ListN.{getD, length}
 use borrow.Author.Tests.{eqb-false}
 use Rattle.reply.specs.Reply.{leastRoom}
 use Rattle.lists.specs.Pick.{pick}
@@ -13,10 +13,12 @@ use Rattle.message.specs.declared.Fields.{Fields}
 use Rattle.message.specs.declared.Reading.{Reading}
 use Rattle.message.specs.declared.Stage.{Stage}
 use Rattle.message.specs.declared.Stage.the-variants.{Walking, Done, Broken}
-use Rattle.message.specs.laws.Placed.{pick-cases}
-use Rattle.message.specs.Read.{byStage, ended, headerOk, noneRequired, readOf}
+use Rattle.message.specs.declared.Walk.{Walk}
+use Rattle.message.specs.Placed.{GoodPlaces}
+use Rattle.message.specs.laws.Placed.{header-long, header-short, none-good, pick-cases, step-onto}
+use Rattle.message.specs.Read.{byStage, ended, headerOk, longestDatagram, noneRequired, readOf}
 use Rattle.message.specs.Read as read
-use Rattle.message.specs.Walk.{walkOf}
+use Rattle.message.specs.Walk.{onward, start, stepOf, walkFrom, walkOf}
 use Rattle.state.specs.Book.{Book, advanced, releasesAt, remembered}
 use Rattle.state.specs.declared.Edit.{Edit}
 use Rattle.state.specs.declared.Lease.{Lease}
@@ -34,7 +36,7 @@ use Rattle.decision.specs.declared.Reply.the-variants.{Nothing, Offer, LeaseAck
 use Rattle.decision.specs.Parts.{discardWith, nakWith, plainReply, refusalOf, withLease}
 use Rattle.decision.specs.laws.Cases.{decided-by}
 use Rattle.decision.specs.Decide.{changed, decideOf, unchanged}
-use Rattle.server.specs.Serve.{Answer, Call, answered, atClock, byReply, discarded, forServer, replyOf, serveOf, tenantOf, withReading}
+use Rattle.server.specs.Serve.{Answer, Call, answered, atClock, byReply, discarded, discardedAt, forServer, replyOf, serveOf, tenantOf, withReading}
 use Rattle.guarantee.specs.Statement.{bookAt}
 
 -- ---- the decision: outcome 0, or discard 8 with nothing changed
@@ -86,23 +88,50 @@ decided s t q h m = decided-by s t h m Judged (record {
   informed = plain InfoAck _;
 }) q
 
--- ---- the reader's discards are 4, 5 and 6
-Numbered : ℕ → Type 0
-Numbered n = (n ≡ 0 → ⊥) → (3 ≤ n) × (n ≤ 8)
+-- ---- the reader's discards are 4, 5 and 6; with 4 and 6 goes no offset
+Numbered : Reading → Type 0
+Numbered r = (r .discard ≡ 0 → ⊥) → (3 ≤ r .discard) × (r .discard ≤ 8) × ((r .discard ≡ 5 → ⊥) → r .fault ≡ 0)
 
-read-number : (s : List ℕ) → Numbered (readOf s .discard)
+read-number : (s : List ℕ) → Numbered (readOf s)
 unfolding Numbered readOf ended
-read-number s = pick-cases P (headerOk s) _ _ (λ _. at-stage (walkOf s .stage)) (λ _. λ n. (omega arith, omega arith))
+read-number s = pick-cases Numbered (headerOk s) _ _ (λ _. at-stage (walkOf s .stage)) (λ _. λ n. (omega arith, omega arith, λ _. refl))
+  where
+    at-stage : (g : Stage) → Numbered (byStage g (ended s (walkOf s .places)) (read.noMessage 5 (walkOf s .at)))
+    at-stage Walking = λ n. (omega arith, omega arith, λ m. absurd (m refl))
+    at-stage Done =
+        pick-cases Numbered (eqb (getD (walkOf s .places) 3 0) 0) _ _ (λ _. λ n. (omega arith, omega arith, λ m. absurd (m refl))) (λ _.
+        pick-cases Numbered (noneRequired s (walkOf s .places)) _ _ (λ _. λ n. absurd (n refl)) (λ _. λ n. (omega arith, omega arith, λ _. refl)))
+    at-stage Broken = λ n. (omega arith, omega arith, λ m. absurd (m refl))
+
+-- ---- the reader's offset lies in the datagram
+Inside : List ℕ → ℕ → Type 0
+Inside s o = (o ≤ length s) × (o ≤ longestDatagram)
+
+from-inside : (k : ℕ) (s : List ℕ) (w : Walk) → w .at ≤ length s → GoodPlaces s (w .places) → walkFrom k s w .at ≤ length s
+unfolding walkFrom
+from-inside zero s w h g = h
+from-inside (suc k) s w h g = let o = step-onto s w h g in go (w .stage) (from-inside k s (stepOf s w) (o .within) (o .good))
+  where
+    go : (t : Stage) → walkFrom k s (stepOf s w) .at ≤ length s → onward t w (walkFrom k s (stepOf s w)) .at ≤ length s
+    go Walking r = r
+    go Done r = h
+    go Broken r = h
+
+read-inside : (s : List ℕ) → Inside s (readOf s .fault)
+unfolding Inside readOf ended walkOf
+read-inside s =
+    pick-cases P (headerOk s) _ _ (λ e. at-stage (walkOf s .stage) (header-short s e) (let h = header-long s e in from-inside (length s) s start (omega arith) (none-good s)))
+    (λ _. (omega arith, omega arith))
   where
     P : Reading → Type 0
-    P r = Numbered (r .discard)
+    P r = Inside s (r .fault)
 
-    at-stage : (g : Stage) → P (byStage g (ended s (walkOf s .places)) (read.noMessage 5 (walkOf s .at)))
-    at-stage Walking = λ n. (omega arith, omega arith)
-    at-stage Done =
-        pick-cases P (eqb (getD (walkOf s .places) 3 0) 0) _ _ (λ _. λ n. (omega arith, omega arith)) (λ _.
-        pick-cases P (noneRequired s (walkOf s .places)) _ _ (λ _. λ n. absurd (n refl)) (λ _. λ n. (omega arith, omega arith)))
-    at-stage Broken = λ n. (omega arith, omega arith)
+    at-stage : (t : Stage) → length s ≤ longestDatagram → walkOf s .at ≤ length s → P (byStage t (ended s (walkOf s .places)) (read.noMessage 5 (walkOf s .at)))
+    at-stage Walking l h = (h, omega arith)
+    at-stage Done l h =
+        pick-cases P (eqb (getD (walkOf s .places) 3 0) 0) _ _ (λ _. (omega arith, l)) (λ _.
+        pick-cases P (noneRequired s (walkOf s .places)) _ _ (λ _. (omega arith, omega arith)) (λ _. (omega arith, omega arith)))
+    at-stage Broken l h = (h, omega arith)
 
 -- ---- the call
 pub record Tested (b : Book) (c : Call) (a : Answer) : Type 0 where
@@ -111,6 +140,9 @@ pub record Tested (b : Book) (c : Call) (a : Answer) : Type 0 where
   pub untouched : a .outcome ≡ 1 → a .book ≡ b
   pub untouched-too : a .outcome ≡ 2 → a .book ≡ b
   pub advances : 3 ≤ a .outcome → a .book ≡ bookAt b c
+  pub carries : a .outcome ≡ 5 → a .offset ≡ readOf (c .datagram) .fault
+  pub carries-none : (a .outcome ≡ 5 → ⊥) → a .offset ≡ 0
+  pub inside : (a .offset ≤ length (c .datagram)) × (a .offset ≤ longestDatagram)
   pub names : a .book .names ≡ b .names
 
 module _ (b : Book) (c : Call) where
@@ -121,18 +153,29 @@ module _ (b : Book) (c : Call) where
     untouched = λ e. refl;
     untouched-too = λ e. refl;
     advances = λ h. absurd (omega arith);
+    carries = λ e. absurd (omega arith);
+    carries-none = λ z. refl;
+    inside = (omega arith, omega arith);
     names = refl;
   }
 
-  late : (n : ℕ) → 3 ≤ n → n ≤ 8 → Tested b c (discarded n (bookAt b c))
-  late n p q = record {
+  late : (n o : ℕ) → 3 ≤ n → n ≤ 8 → (n ≡ 5 → o ≡ readOf (c .datagram) .fault) → ((n ≡ 5 → ⊥) → o ≡ 0) → Inside (c .datagram) o → Tested b c (discardedAt n o (bookAt b c))
+  unfolding Inside
+  late n o p q at none within = record {
     outcome = q;
     silent = λ z. refl;
     untouched = λ e. absurd (omega arith);
     untouched-too = λ e. absurd (omega arith);
     advances = λ h. refl;
+    carries = at;
+    carries-none = none;
+    inside = within;
     names = advanced-names b (c .time);
   }
+
+  out : (n : ℕ) → 3 ≤ n → n ≤ 8 → (n ≡ 5 → ⊥) → Tested b c (discarded n (bookAt b c))
+  unfolding Inside
+  out n p q z = late n 0 p q (λ e. absurd (z e)) (λ _. refl) (omega arith, omega arith)
 
   served : (h : ℕ) (m : Fields) (d : Decided) → Judged d → Tested b c (answered (bookAt b c) h m d)
   unfolding replyOf
@@ -143,6 +186,9 @@ module _ (b : Book) (c : Call) where
     untouched-too = λ e. absurd (let r = j .rest (λ z. omega arith) .0 in omega arith);
     advances = λ n.
         ap (λ (e : Edit). editedBook e h (bookAt b c)) (j .rest (λ z. omega arith) .1 .1) ∙ edited-none (bookAt b c) h;
+    carries = λ e. absurd (let r = j .rest (λ z. omega arith) .0 in omega arith);
+    carries-none = λ z. refl;
+    inside = (omega arith, omega arith);
     names = advanced-names b (c .time);
   }
 
@@ -152,19 +198,19 @@ module _ (b : Book) (c : Call) where
   for-server : (h : ℕ) (m : Fields) → Tested b c (forServer (bookAt b c) h m)
   unfolding forServer P
   for-server h m =
-      pick-cases P (eqb (m .kind) 3 && not (m .ours)) _ _ (λ _. late 7 (omega arith) (omega arith))
+      pick-cases P (eqb (m .kind) 3 && not (m .ours)) _ _ (λ _. out 7 (omega arith) (omega arith) (λ e. omega arith))
       (λ _. served h m _ (decided (bookAt b c .state) (bookAt b c .table) (remembered (releasesAt (bookAt b c .memory) h)) h m))
 
   with-reading : (h : ℕ) → Tested b c (withReading (bookAt b c) h (c .datagram) (readOf (c .datagram)))
   unfolding withReading P Numbered
   with-reading h =
       pick-cases P (eqb (readOf (c .datagram) .discard) 0) _ _ (λ _. for-server h _)
-      (λ e. let n = read-number (c .datagram) (eqb-false (readOf (c .datagram) .discard) 0 e) in late (readOf (c .datagram) .discard) (n .0) (n .1))
+      (λ e. let n = read-number (c .datagram) (eqb-false (readOf (c .datagram) .discard) 0 e) in late (readOf (c .datagram) .discard) (readOf (c .datagram) .fault) (n .0) (n .1) (λ _. refl) (n .2) (read-inside (c .datagram)))
 
   at-clock : Tested b c (atClock (bookAt b c) (c .client) (c .datagram))
   unfolding atClock P
   at-clock =
-      pick-cases P (ltb (tenantOf (bookAt b c .state) (c .client)) (tenantsIn (bookAt b c .state))) _ _ (λ _. with-reading _) (λ _. late 3 (omega arith) (omega arith))
+      pick-cases P (ltb (tenantOf (bookAt b c .state) (c .client)) (tenantsIn (bookAt b c .state))) _ _ (λ _. with-reading _) (λ _. out 3 (omega arith) (omega arith) (λ e. omega arith))
 
   pub call-tested : Tested b c (serveOf b c)
   unfolding serveOf P

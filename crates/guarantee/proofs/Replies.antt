@@ -31,7 +31,7 @@ use Rattle.decision.specs.laws.Reads.{read-array}
 use Rattle.decision.specs.Parts.{discardWith, nakWith, ownOf, plainReply, refusalOf, withLease}
 use Rattle.decision.specs.laws.Cases.{decided-by}
 use Rattle.decision.specs.Decide.{decideOf}
-use Rattle.server.specs.Serve.{Answer, Call, answered, atClock, byReply, decidedFor, discarded, forServer, headOf, infoOf, replyOf, serveOf, tenantOf, termsOf, withReading}
+use Rattle.server.specs.Serve.{Answer, Call, answered, atClock, byReply, decidedFor, discardedAt, forServer, headOf, infoOf, replyOf, serveOf, tenantOf, termsOf, withReading}
 use Rattle.guarantee.specs.Statement.{IsReply, bookAt, liveUnder}
 use Rattle.guarantee.proofs.Discards.{Tested, call-tested}
 
@@ -90,9 +90,9 @@ module _ (b : Book) (c : Call) where
   R : Answer → Type 0
   R a = a .outcome ≡ 0 → IsReply (a .reply)
 
-  none : (n : ℕ) (x : Book) → 1 ≤ n → R (discarded n x)
+  none : (n o : ℕ) (x : Book) → 1 ≤ n → R (discardedAt n o x)
   unfolding R
-  none n x h z = absurd (omega arith)
+  none n o x h z = absurd (omega arith)
 
   sent : (h : ℕ) (m : Fields) → length (m .id .octets) ≡ 32 → R (answered (bookAt b c) h m (decidedFor (bookAt b c) h m))
   unfolding R replyOf P Q
@@ -104,14 +104,14 @@ module _ (b : Book) (c : Call) where
   unfolding serveOf atClock withReading forServer
   call-replies =
       pick-cases R (bookB b) _ _
-      (λ _. pick-cases R (ltb (c .room) leastRoom) _ _ (λ _. none 2 b (omega arith))
+      (λ _. pick-cases R (ltb (c .room) leastRoom) _ _ (λ _. none 2 0 b (omega arith))
       (λ _. pick-cases R (ltb (tenantOf (bookAt b c .state) (c .client)) (tenantsIn (bookAt b c .state))) _ _
       (λ _. pick-cases R (eqb (readOf (c .datagram) .discard) 0) _ _
-      (λ e. pick-cases R _ _ _ (λ _. none 7 (bookAt b c) (omega arith))
+      (λ e. pick-cases R _ _ _ (λ _. none 7 0 (bookAt b c) (omega arith))
       (λ _. sent _ _ (read-array (c .datagram) (bookAt b c .state .server) (eqb-true (readOf (c .datagram) .discard) 0 e))))
-      (λ e. none (readOf (c .datagram) .discard) (bookAt b c) (let n = eqb-false (readOf (c .datagram) .discard) 0 e in some-number (readOf (c .datagram) .discard) n)))
-      (λ _. none 3 (bookAt b c) (omega arith))))
-      (λ _. none 1 b (omega arith))
+      (λ e. none (readOf (c .datagram) .discard) (readOf (c .datagram) .fault) (bookAt b c) (let n = eqb-false (readOf (c .datagram) .discard) 0 e in some-number (readOf (c .datagram) .discard) n)))
+      (λ _. none 3 0 (bookAt b c) (omega arith))))
+      (λ _. none 1 0 b (omega arith))
     where
       some-number : (n : ℕ) → (n ≡ 0 → ⊥) → 1 ≤ n
       some-number zero h = absurd (h refl)

@@ -508,3 +508,26 @@ remembering h len time = record {
 remembered-badly : (serveOf (remembering 2 2 1000) p1 .outcome ≡ 1) × (serveOf (remembering 1 2 1001) p1 .outcome ≡ 1) × (serveOf (remembering 1 1 1000) p1 .outcome ≡ 1) × (serveOf (remembering 1 2 1000) p1 .outcome ≡ 0)
 unfolding computed
 remembered-badly = (refl, refl, refl, refl)
+
+-- ---- W-206: the outcome of a call on the book, and the offset that it carries
+told : List Call → List ℕ
+told [] = []
+told (c ∷ cs) = serveOf book c .outcome ∷ serveOf book c .offset ∷ told cs
+
+-- with discard 5 the octet of the first option that breaks a rule: option 6 of three octets, an identifier sent again; where none does, the datagram's length:
+-- P11, without an identifier. A stranger, P10, a required feature, another server, a DISCOVER that draws an error, a NAK and an ACK carry 0
+carried : told
+    (house1 1000 (header 3 1 ++ identifier 0x41 ++ option 17 (replicate 5 9) ++ option 6 (0 ∷ 0 ∷ 9 ∷ []) ++ end)
+    ∷ house1 1000 (header 3 1 ++ identifier 0x41 ++ identifier 0x41 ++ end)
+    ∷ house1 1000 (header 3 11 ++ end)
+    ∷ call 0x0A000305 1000 (header 3 11 ++ end)
+    ∷ house1 1000 (header 3 10 ++ 0 ∷ 3 ∷ 0 ∷ [])
+    ∷ house1 1000 (header 8 9 ++ identifier 0x50 ++ option 12 (0 ∷ 0 ∷ 0 ∷ 0 ∷ 0 ∷ 1 ∷ 0 ∷ 7 ∷ []) ++ end)
+    ∷ house2 1000 (request 1 0x41 1 4 (option 2 (0 ∷ 1 ∷ 0x0A ∷ 1 ∷ 1 ∷ 2 ∷ [])))
+    ∷ house2 1000 (discover 3 4)
+    ∷ house2 1000 (request 1 0x41 3 4 [])
+    ∷ p1
+    ∷ [])
+    ≡ (5 ∷ 23 ∷ 5 ∷ 14 ∷ 5 ∷ 12 ∷ 3 ∷ 0 ∷ 4 ∷ 0 ∷ 6 ∷ 0 ∷ 7 ∷ 0 ∷ 8 ∷ 0 ∷ 0 ∷ 0 ∷ 0 ∷ 0 ∷ [])
+unfolding computed told
+carried = refl

@@ -34,7 +34,7 @@ use Rattle.decision.specs.laws.Kept.{own-is, updated-leases}
 use Rattle.decision.specs.laws.Cases.{decided-by, held-there, leased-there, new-type, no, oldFor, thereFor, without}
 use Rattle.decision.specs.Parts.{badCounts, discardWith, error0Of, holdsOf, knowsScope, leaseFrom, nakWith, leaseIdIn, newOf, ownOf, plainReply, recordedOf, refusalOf, renewedOf, renewedTo, resends, turned, withLease}
 use Rattle.decision.specs.Decide.{decideOf}
-use Rattle.server.specs.Serve.{Answer, Call, answered, atClock, byReply, decidedFor, discarded, forServer, headOf, infoOf, replyOf, serveOf, tenantOf, termsOf, withReading}
+use Rattle.server.specs.Serve.{Answer, Call, answered, atClock, byReply, decidedFor, discardedAt, forServer, headOf, infoOf, replyOf, serveOf, tenantOf, termsOf, withReading}
 use Rattle.guarantee.specs.Statement.{Narrow, ReadAs, bookAt}
 use Rattle.guarantee.proofs.Codes.{info-found, lease-found, nak-found, offer-found, read-as, release-found}
 use Rattle.guarantee.proofs.Proposed as proposed
@@ -170,9 +170,9 @@ module _ (b : Book) (c : Call) (narrow : Narrow b) where
   unfolding advanced liveOf Narrow
   now-narrow g = subst (λ (x : List Lease). All (λ l. l .addresses < 2 ^ 64) x) (sym (own-dropped _ (b .table) g)) (all-filter (λ l. l .addresses < 2 ^ 64) _ (ownOf (b .table) g) (narrow g))
 
-  none : (n : ℕ) (x : Book) → 1 ≤ n → R (discarded n x)
+  none : (n o : ℕ) (x : Book) → 1 ≤ n → R (discardedAt n o x)
   unfolding R
-  none n x h z = absurd (omega arith)
+  none n o x h z = absurd (omega arith)
 
   some-number : (n : ℕ) → (n ≡ 0 → ⊥) → 1 ≤ n
   some-number zero h = absurd (h refl)
@@ -188,14 +188,14 @@ module _ (b : Book) (c : Call) (narrow : Narrow b) where
   unfolding serveOf atClock withReading forServer
   call-read =
       pick-cases R (bookB b) _ _
-      (λ v. pick-cases R (ltb (c .room) leastRoom) _ _ (λ _. none 2 b (omega arith))
+      (λ v. pick-cases R (ltb (c .room) leastRoom) _ _ (λ _. none 2 0 b (omega arith))
       (λ _. pick-cases R (ltb (tenantOf (bookAt b c .state) (c .client)) (tenantsIn (bookAt b c .state))) _ _
       (λ known. pick-cases R (eqb (readOf (c .datagram) .discard) 0) _ _
-      (λ e. pick-cases R _ _ _ (λ _. none 7 (bookAt b c) (omega arith))
+      (λ e. pick-cases R _ _ _ (λ _. none 7 0 (bookAt b c) (omega arith))
       (λ _. sent v _ _ (ltb-true _ _ known) (named-head (c .datagram) (bookAt b c .state) (eqb-true (readOf (c .datagram) .discard) 0 e))))
-      (λ e. none (readOf (c .datagram) .discard) (bookAt b c) (some-number (readOf (c .datagram) .discard) (eqb-false (readOf (c .datagram) .discard) 0 e))))
-      (λ _. none 3 (bookAt b c) (omega arith))))
-      (λ _. none 1 b (omega arith))
+      (λ e. none (readOf (c .datagram) .discard) (readOf (c .datagram) .fault) (bookAt b c) (some-number (readOf (c .datagram) .discard) (eqb-false (readOf (c .datagram) .discard) 0 e))))
+      (λ _. none 3 0 (bookAt b c) (omega arith))))
+      (λ _. none 1 0 b (omega arith))
 
 pub read-back : (b : Book) (c : Call) → Narrow b → serveOf b c .outcome ≡ 0 → ReadAs (serveOf b c .reply)
 unfolding R

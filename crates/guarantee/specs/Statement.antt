@@ -12,7 +12,7 @@ use Rattle.lists.specs.All.{All}
 use Rattle.lists.specs.Filter.{filterBy, isIn}
 use Rattle.address_set.specs.AddressSet.{offsets}
 use Rattle.message.specs.declared.Fields.{Fields}
-use Rattle.message.specs.Read.{readOf}
+use Rattle.message.specs.Read.{longestDatagram, readOf}
 use Rattle.message.specs.Values.{fieldsOf}
 use Rattle.message.specs.Walk.{walkOf}
 use Rattle.message.specs.declared.Stage.the-variants.{Done}
@@ -265,6 +265,12 @@ pub record Answered (b : Book) (c : Call) (a : Answer) : Type 0 where
   pub untouched-too : a .outcome ≡ 2 → a .book ≡ b
   -- "All other calls first set the book's clock .. and drop leases ..; 3 to 8 do no more"
   pub advances : 3 ≤ a .outcome → a .book ≡ bookAt b c
+  -- document 02, W-206, of the offset that the reader of options reports (which it is: `FaultsRight` of `message_laws`): "Discard 5 carries it"
+  pub carries : a .outcome ≡ 5 → a .offset ≡ readOf (c .datagram) .fault
+  -- "every other outcome 0"
+  pub carries-none : (a .outcome ≡ 5 → ⊥) → a .offset ≡ 0
+  -- so it is "the offset in the datagram", or its length, and fits wherever a datagram's length does
+  pub inside : (a .offset ≤ length (c .datagram)) × (a .offset ≤ longestDatagram)
 
 -- "For every datagram, clock, book and reply room". "It faults on none and checks all it is handed": the call is proved safe and to end, and asks for nothing
 -- (`lent::serve` has no `requires`)

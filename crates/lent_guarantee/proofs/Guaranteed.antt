@@ -11,6 +11,7 @@ use Rattle.state.specs.Book.{Book}
 use Rattle.state.specs.declared.Lease.{Lease}
 use Rattle.state.specs.declared.Ledger.{Ledger}
 use Rattle.releases.specs.Whole.{bookB}
+use Rattle.message.specs.Read.{longestDatagram}
 use Rattle.server.specs.Serve.{Answer, Call, serveOf}
 use Rattle.guarantee.specs.Statement.{Answered, Demand3, Granted, GrantedAsOffered, IsReply, NewRequest, Offered, OfferedAs, OfferHeld, OfferRule, ReadAs, TakesUp, SoundBook, WithinLimits, liveUnder, requested, run}
 use Rattle.guarantee.proofs.Answers.{call-answered}
@@ -72,11 +73,11 @@ module _ (l : Lent) (c : Call) where
   abbrev ls : List Lease
   ls = l .leases
 
-  out : (length ls ≡ 128 → ⊥) → served l c ≡ record { outcome = 1; reply = []; ledger = k; leases = ls }
+  out : (length ls ≡ 128 → ⊥) → served l c ≡ record { outcome = 1; offset = 0; reply = []; ledger = k; leases = ls }
   unfolding serveWith
-  out e = sym (off-whole (lentAnswer (serveOf (bookOf l) c)) (record { outcome = 1; reply = []; ledger = k; leases = ls }) e)
+  out e = sym (off-whole (lentAnswer (serveOf (bookOf l) c)) (record { outcome = 1; offset = 0; reply = []; ledger = k; leases = ls }) e)
 
-  other-answered : (length ls ≡ 128 → ⊥) → LentAnswered l c (record { outcome = 1; reply = []; ledger = k; leases = ls })
+  other-answered : (length ls ≡ 128 → ⊥) → LentAnswered l c (record { outcome = 1; offset = 0; reply = []; ledger = k; leases = ls })
   other-answered e = record {
     outcome = omega arith;
     reply = λ z. absurd (omega arith);
@@ -86,6 +87,9 @@ module _ (l : Lent) (c : Call) where
     untouched = λ _. (refl, refl);
     untouched-too = λ _. (refl, refl);
     advances = λ h. absurd (omega arith);
+    carries = λ e. absurd (omega arith);
+    carries-none = λ _. refl;
+    inside = (omega arith, omega arith);
     other = λ _. refl;
     bad-names = λ _. refl;
     bad-releases = λ _. refl;
@@ -105,6 +109,9 @@ module _ (l : Lent) (c : Call) where
       ap (λ (a : LentAnswer). a .ledger) (at-whole k ls (l .names) c long) ∙ ap ledgerOf e,
       ap (λ (a : LentAnswer). a .leases) (at-whole k ls (l .names) c long) ∙ ap (λ (b : Book). recordsOf (b .table)) e,
     );
+    carries = λ e. sym place ∙ v .carries (number ∙ e);
+    carries-none = λ z. sym place ∙ v .carries-none (λ e. z (sym number ∙ e));
+    inside = subst (λ (k : ℕ). (k ≤ length (c .datagram)) × (k ≤ longestDatagram)) place (v .inside);
     other = λ no. absurd (no long);
     bad-names = λ e. sym number ∙ v .bad-names e;
     bad-releases = λ e. sym number ∙ v .bad-releases e;
@@ -118,6 +125,9 @@ module _ (l : Lent) (c : Call) where
 
       number : serveOf (bookOf l) c .outcome ≡ served l c .outcome
       number = ap (λ (a : Answer). a .outcome) back
+
+      place : serveOf (bookOf l) c .offset ≡ served l c .offset
+      place = ap (λ (a : Answer). a .offset) back
 
       still : serveOf (bookOf l) c .book ≡ bookOf l → (served l c .ledger ≡ k) × (served l c .leases ≡ ls)
       still e = (

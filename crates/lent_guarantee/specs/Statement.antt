@@ -11,6 +11,7 @@ use Rattle.state.specs.Book.{Book}
 use Rattle.state.specs.declared.Lease.{Lease}
 use Rattle.state.specs.declared.Ledger.{Ledger}
 use Rattle.releases.specs.Whole.{bookB, memoryGood, namesGood}
+use Rattle.message.specs.Read.{longestDatagram, readOf}
 use Rattle.server.specs.Serve.{Answer, Call, serveOf}
 use Rattle.guarantee.specs.Statement.{Discovers, Elsewhere, Granted, GrantedAsOffered, IsReply, Narrow, NewRequest, NoHold, Offered, OfferedAs, ReadAs, TakesUp, WithinLimits, bookAt, liveUnder, requested, saysOf, tenantFor}
 use Rattle.decision.specs.Parts.{leaseIdIn}
@@ -43,7 +44,7 @@ lentRoom l room = roomLent (l .ledger) (l .leases) (l .names) room
 
 -- an answer with the book that its ledger, its records and the names are
 abbrev pub answerOf : List ℕ → LentAnswer → Answer
-answerOf names a = record { outcome = a .outcome; reply = a .reply; book = bookFrom (a .ledger) (a .leases) names }
+answerOf names a = record { outcome = a .outcome; offset = a .offset; reply = a .reply; book = bookFrom (a .ledger) (a .leases) names }
 
 -- ---- the list of calls: each gets the ledger and the records as the call before left them, and the same names
 unfoldable pub runLent : Lent → List Call → Lent
@@ -91,6 +92,10 @@ pub record LentAnswered (l : Lent) (c : Call) (a : LentAnswer) : Type 0 where
   pub untouched-too : a .outcome ≡ 2 → (a .ledger ≡ l .ledger) × (a .leases ≡ l .leases)
   -- the others set the clock and drop ended leases and lapsed holds; 3 to 8 do no more
   pub advances : 3 ≤ a .outcome → (a .ledger ≡ ledgerOf (bookAt (bookOf l) c)) × (a .leases ≡ recordsOf (bookAt (bookOf l) c .table))
+  -- "Discard 5 carries" the offset that the reader of options reports, "every other outcome 0" (document 02, W-206)
+  pub carries : a .outcome ≡ 5 → a .offset ≡ readOf (c .datagram) .fault
+  pub carries-none : (a .outcome ≡ 5 → ⊥) → a .offset ≡ 0
+  pub inside : (a .offset ≤ length (c .datagram)) × (a .offset ≤ longestDatagram)
   -- another number of records makes the book unsound
   pub other : (length (l .leases) ≡ 128 → ⊥) → a .outcome ≡ 1
   -- and so do bad names and bad releases (document 02, W-201 and W-202)

@@ -41,21 +41,22 @@ ledgerOf b = record { state = b .state; memory = b .memory }
 -- ---- the call
 pub record LentAnswer : Type 0 where
   pub outcome : ℕ
+  pub offset : ℕ
   pub reply : List ℕ
   pub ledger : Ledger
   pub leases : List Lease
 
 -- what of it the caller is told
 abbrev pub lentSaid : LentAnswer → Said
-lentSaid a = record { outcome = a .outcome; reply = a .reply }
+lentSaid a = record { outcome = a .outcome; offset = a .offset; reply = a .reply }
 
 -- an answer with its book as ledger and records
 abbrev pub lentAnswer : Answer → LentAnswer
-lentAnswer a = record { outcome = a .outcome; reply = a .reply; ledger = ledgerOf (a .book); leases = recordsOf (a .book .table) }
+lentAnswer a = record { outcome = a .outcome; offset = a .offset; reply = a .reply; ledger = ledgerOf (a .book); leases = recordsOf (a .book .table) }
 
 -- on records of a slice that has n; discard 1 changes nothing
 unfoldable pub serveWith : ℕ → Ledger → List Lease → List ℕ → Call → LentAnswer
-serveWith n g ls names c = pick (is128 n) (lentAnswer (serveOf (bookFrom g ls names) c)) (record { outcome = 1; reply = []; ledger = g; leases = ls })
+serveWith n g ls names c = pick (is128 n) (lentAnswer (serveOf (bookFrom g ls names) c)) (record { outcome = 1; offset = 0; reply = []; ledger = g; leases = ls })
 
 abbrev pub serveLent : Ledger → List Lease → List ℕ → Call → LentAnswer
 serveLent g ls names c = serveWith (length ls) g ls names c

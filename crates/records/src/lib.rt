@@ -271,12 +271,13 @@ fn drop_ended(records: Records, held: HeldTable, clock: u32) -> Dropped
 // ---- the entry points
 
 fn discard(n: u8, clock: u32, memory: Memory, records: Records) -> ServedRecords
-    ensures { λ r. ⌜ r ≡ record { outcome = record { outcome = n; length = 0 }; clock = clock; memory = memory; records = records } ⌝ }
+    ensures { λ r. ⌜ r ≡ record { outcome = record { outcome = n; length = 0; offset = 0 }; clock = clock; memory = memory; records = records } ⌝ }
 {
     ServedRecords {
         outcome: Outcome {
             outcome: n,
             length: 0,
+            offset: 0,
         },
         clock: clock,
         memory: memory,

@@ -1,5 +1,5 @@
--- Definitions: what `replay` prints: a line for each call, the outcome's number and, for a reply, a blank and its octets in lower-case hex; at the end
--- `book`, a blank and the hex of the campus file; or `refused`, a blank and a number.
+-- Definitions: what `replay` prints: a line for each call, the outcome's number and, for a reply, a blank and its octets in lower-case hex; after discard 5
+-- a blank, `@` and the offset that it carries (document 02, W-206); at the end `book`, a blank and the hex of the campus file; or `refused`, a blank and a number.
 use Prim.Native.Nat.{ℕ, _+_, _/_, _%_}
 use mathlib.Core.List.{List, [], _∷_, _++_}
 use lib.Dec.{ltb, eqb}
@@ -14,9 +14,24 @@ unfoldable pub hexOf : List ℕ → List ℕ
 hexOf [] = []
 hexOf (x ∷ xs) = hexDigit (x / 16) ∷ hexDigit (x % 16) ∷ hexOf xs
 
+-- a last digit
+abbrev pub digit : ℕ → ℕ
+digit n = 48 + n % 10
+
+-- a number below 10,000 in decimal digits: a datagram with options has at most 1,472 octets
+unfoldable pub decimal : ℕ → List ℕ
+decimal n =
+    pick (ltb n 10) (digit n ∷ [])
+    (pick (ltb n 100) (digit (n / 10) ∷ digit n ∷ [])
+    (pick (ltb n 1000) (digit (n / 100) ∷ digit (n / 10) ∷ digit n ∷ []) (digit (n / 1000) ∷ digit (n / 100) ∷ digit (n / 10) ∷ digit n ∷ [])))
+
+-- "5 @" and the offset
+unfoldable pub faultLine : ℕ → List ℕ
+faultLine offset = 53 ∷ 32 ∷ 64 ∷ decimal offset ++ 10 ∷ []
+
 -- outcomes have one digit
-abbrev pub callLine : ℕ → List ℕ → List ℕ
-callLine outcome reply = pick (eqb outcome 0) (48 ∷ 32 ∷ hexOf reply ++ 10 ∷ []) ((48 + outcome % 10) ∷ 10 ∷ [])
+abbrev pub callLine : ℕ → ℕ → List ℕ → List ℕ
+callLine outcome offset reply = pick (eqb outcome 0) (48 ∷ 32 ∷ hexOf reply ++ 10 ∷ []) (pick (eqb outcome 5) (faultLine offset) (digit outcome ∷ 10 ∷ []))
 
 -- "book" and a blank
 abbrev pub bookLine : List ℕ → List ℕ

@@ -1,10 +1,10 @@
 // The lines that `replay` prints, written into a lent buffer.
 ghost use mathlib.Core.Path.{_≡_};
 ghost use mathlib.Core.List.{[], _∷_};
-ghost use Prim.Native.Nat.{_+_, _*_, _≤_, _<_};
+ghost use Prim.Native.Nat.{_+_, _*_, _/_, _≤_, _<_};
 ghost use lib.ListN.{length, take};
 ghost use Rattle.octets.specs.Octets.{Wrote};
-ghost use Rattle.replay_text.specs.Replay.{hexDigit, hexOf, callLine, bookLine, refusedLine};
+ghost use Rattle.replay_text.specs.Replay.{hexDigit, hexOf, digit, decimal, faultLine, callLine, bookLine, refusedLine};
 
 fn hex_digit(d: u8) -> u8
     requires { ⌜ d < 16 ⌝ }
@@ -38,16 +38,72 @@ fn put_hex(out: &mut [u8], at: usize, s: &[u8], n: usize) -> usize
     to
 }
 
+// The last digit of a number.
+fn put_digit(out: &mut [u8], at: usize, n: usize) -> usize
+    requires { ⌜ at + 1 ≤ length (now out) ⌝ }
+    ensures { λ r. ⌜ Wrote (now (out .entry)) at (digit n ∷ []) (now (out .exit)) r ⌝ }
+{
+    octets::put_u8(out, at, 48 + (n % 10) as u8)
+}
+
+// The last two.
+fn put_two(out: &mut [u8], at: usize, n: usize) -> usize
+    requires { ⌜ at + 2 ≤ length (now out) ⌝ }
+    ensures { λ r. ⌜ Wrote (now (out .entry)) at (digit (n / 10) ∷ digit n ∷ []) (now (out .exit)) r ⌝ }
+{
+    let a = put_digit(out, at, n / 10);
+    put_digit(out, a, n)
+}
+
+// The last three.
+fn put_three(out: &mut [u8], at: usize, n: usize) -> usize
+    requires { ⌜ at + 3 ≤ length (now out) ⌝ }
+    ensures { λ r. ⌜ Wrote (now (out .entry)) at (digit (n / 100) ∷ digit (n / 10) ∷ digit n ∷ []) (now (out .exit)) r ⌝ }
+{
+    let a = put_digit(out, at, n / 100);
+    put_two(out, a, n)
+}
+
+fn put_decimal(out: &mut [u8], at: usize, n: usize) -> usize
+    requires { ⌜ at + 4 ≤ length (now out) ⌝ }
+    ensures { λ r. ⌜ (Wrote (now (out .entry)) at (decimal n) (now (out .exit)) r) × (r ≤ at + 4) ⌝ }
+{
+    if n < 10 {
+        return put_digit(out, at, n);
+    }
+    if n < 100 {
+        return put_two(out, at, n);
+    }
+    if n < 1000 {
+        return put_three(out, at, n);
+    }
+    let a = put_digit(out, at, n / 1000);
+    put_three(out, a, n)
+}
+
+// The line of a discard 5.
+fn write_fault_line(out: &mut [u8], offset: usize) -> usize
+    requires { ⌜ 8 ≤ length (now out) ⌝ }
+    ensures { λ r. ⌜ Wrote (now (out .entry)) 0 (faultLine offset) (now (out .exit)) r ⌝ }
+{
+    let a = octets::put_run(out, 0, &[53, 32, 64], 3);
+    let b = put_decimal(out, a, offset);
+    octets::put_u8(out, b, 10)
+}
+
 // The line of a call whose reply is the first n octets of a slice.
-pub fn write_call_line(out: &mut [u8], outcome: u8, reply: &[u8], n: usize) -> usize
-    requires { ⌜ (2 * n + 3 ≤ length (now out)) × (n ≤ length (now reply)) ⌝ }
-    ensures { λ r. ⌜ Wrote (now (out .entry)) 0 (callLine outcome (take n (now (reply .entry)))) (now (out .exit)) r ⌝ }
+pub fn write_call_line(out: &mut [u8], outcome: u8, offset: usize, reply: &[u8], n: usize) -> usize
+    requires { ⌜ (2 * n + 8 ≤ length (now out)) × (n ≤ length (now reply)) ⌝ }
+    ensures { λ r. ⌜ Wrote (now (out .entry)) 0 (callLine outcome offset (take n (now (reply .entry)))) (now (out .exit)) r ⌝ }
 {
     if outcome == 0 {
         let a = octets::put_u8(out, 0, 48);
         let b = octets::put_u8(out, a, 32);
         let c = put_hex(out, b, reply, n);
         return octets::put_u8(out, c, 10);
+    }
+    if outcome == 5 {
+        return write_fault_line(out, offset);
     }
     let a = octets::put_u8(out, 0, 48 + outcome % 10);
     octets::put_u8(out, a, 10)

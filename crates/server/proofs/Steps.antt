@@ -36,7 +36,7 @@ use Rattle.decision.specs.Decide.{decideOf}
 use Rattle.decision.specs.Gather.{decideIn}
 use Rattle.decision.specs.laws.View.{decide-in}
 use Rattle.server.specs.declared.Served.{Served}
-use Rattle.server.specs.Serve.{Answer, discarded, termsOf, entryOf, infoOf, byReply, replyOf, bookOf, answered, decidedFor, forServer, withReading, Serves}
+use Rattle.server.specs.Serve.{Answer, discarded, discardedAt, termsOf, entryOf, infoOf, byReply, replyOf, bookOf, answered, decidedFor, forServer, withReading, Serves}
 
 -- ---- the reply
 pub terms-is : (s : State) (v : Verdict) (n : ℕ) (c : Scope) (k : ℕ) → n ≡ v .end - v .start → k ≡ v .scope - 1 → c ≡ scopeAt s k
@@ -69,13 +69,13 @@ pub replied-none : (b : List ℕ) → Replied b [] b 0
 replied-none b = record { size = refl; buffer = refl }
 
 -- ---- answers
-pub discard-is : (n : ℕ) {e : Edit} → e ≡ noEdit → _≡_ {A = Served} (record { outcome = record { outcome = n; length = 0 }; edit = e }) (record { outcome = record { outcome = n; length = 0 }; edit = noEdit })
-discard-is n p = ap {B = Served} (λ (e : Edit). record { outcome = record { outcome = n; length = 0 }; edit = e }) p
+pub discard-is : (n o : ℕ) {e : Edit} → e ≡ noEdit → _≡_ {A = Served} (record { outcome = record { outcome = n; length = 0; offset = o }; edit = e }) (record { outcome = record { outcome = n; length = 0; offset = o }; edit = noEdit })
+discard-is n o p = ap {B = Served} (λ (e : Edit). record { outcome = record { outcome = n; length = 0; offset = o }; edit = e }) p
 
 -- a discard edits nothing
-pub serves-discard : (n : ℕ) (b : Book) (h : ℕ) (buffer : List ℕ) (r : Served) → r ≡ record { outcome = record { outcome = n; length = 0 }; edit = noEdit } → Serves (discarded n b) b h buffer buffer r
-serves-discard n b h buffer r e = record {
-  tells = record { outcome = ap (λ (x : Served). x .outcome .outcome) e; size = ap (λ (x : Served). x .outcome .length) e; buffer = refl };
+pub serves-discard : (n o : ℕ) (b : Book) (h : ℕ) (buffer : List ℕ) (r : Served) → r ≡ record { outcome = record { outcome = n; length = 0; offset = o }; edit = noEdit } → Serves (discardedAt n o b) b h buffer buffer r
+serves-discard n o b h buffer r e = record {
+  tells = record { outcome = ap (λ (x : Served). x .outcome .outcome) e; offset = ap (λ (x : Served). x .outcome .offset) e; size = ap (λ (x : Served). x .outcome .length) e; buffer = refl };
   book = sym (ap (λ (x : Served). editedBook (x .edit) h b) e ∙ edited-none b h);
 }
 
@@ -85,11 +85,11 @@ serves-as {b = b} {h} {x} {y} {r} e s = subst (λ (z : Answer). Serves z b h x y
 -- of the book the code has the tenant's records and what all tenants hold; of the tenant's releases, the entries q
 pub serves-decided : (s : State) (t : LeaseTable) (k : Memory) (names : List ℕ) (q : TenantReleases) (h : ℕ) (m : Fields) (d : Decided) (n : ℕ) {own : TenantLeases} {held : HeldTable} {x y : List ℕ}
     → View s t h own held → d ≡ decideIn s (inUse own) (remembered q) held h m → q ≡ releasesAt k h → Replied x (replyOf s names h m (d .verdict)) y n
-    → Serves (answered (bookOf s t k names) h m (decidedFor (bookOf s t k names) h m)) (bookOf s t k names) h x y (record { outcome = record { outcome = d .verdict .outcome; length = n }; edit = d .edit })
+    → Serves (answered (bookOf s t k names) h m (decidedFor (bookOf s t k names) h m)) (bookOf s t k names) h x y (record { outcome = record { outcome = d .verdict .outcome; length = n; offset = 0 }; edit = d .edit })
 serves-decided s t k names q h m d n {x = x} {y} v e f w =
-    subst (λ (z : Decided). Serves (answered (bookOf s t k names) h m z) (bookOf s t k names) h x y (record { outcome = record { outcome = d .verdict .outcome; length = n }; edit = d .edit }))
+    subst (λ (z : Decided). Serves (answered (bookOf s t k names) h m z) (bookOf s t k names) h x y (record { outcome = record { outcome = d .verdict .outcome; length = n; offset = 0 }; edit = d .edit }))
     (e ∙ decide-in v m (remembered q) ∙ ap (λ (z : TenantReleases). decideOf s t (remembered z) h m) f)
-    (record { tells = record { outcome = refl; size = w .size; buffer = w .buffer }; book = refl })
+    (record { tells = record { outcome = refl; offset = refl; size = w .size; buffer = w .buffer }; book = refl })
 
 -- ---- test 7
 abbrev told : Book → ℕ → Fields → Answer
@@ -121,11 +121,11 @@ module _ (s : List ℕ) (r : Reading) (e : r ≡ readOf s) where
     unfolding withReading pick
     reading-taken f z q w =
         subst (λ (q : Reading). Serves (withReading b h s q) b h x y v) e
-        (serves-as (sym (ap (λ (t : Bool). pick t (forServer b h (fieldsOf s (b .state .server) (r .message))) (discarded (r .discard) b)) (eq-eqb (r .discard) 0 z)))
+        (serves-as (sym (ap (λ (t : Bool). pick t (forServer b h (fieldsOf s (b .state .server) (r .message))) (discardedAt (r .discard) (r .fault) b)) (eq-eqb (r .discard) 0 z)))
         (serves-as (ap (forServer b h) q) w))
 
-    pub reading-discarded : (r .discard ≡ 0 → ⊥) → Serves (discarded (r .discard) b) b h x y v → Serves (withReading b h s (readOf s)) b h x y v
+    pub reading-discarded : (r .discard ≡ 0 → ⊥) → Serves (discardedAt (r .discard) (r .fault) b) b h x y v → Serves (withReading b h s (readOf s)) b h x y v
     unfolding withReading pick
     reading-discarded z w =
         subst (λ (q : Reading). Serves (withReading b h s q) b h x y v) e
-        (serves-as (sym (ap (λ (t : Bool). pick t (forServer b h (fieldsOf s (b .state .server) (r .message))) (discarded (r .discard) b)) (ne-eqb (r .discard) 0 z))) w)
+        (serves-as (sym (ap (λ (t : Bool). pick t (forServer b h (fieldsOf s (b .state .server) (r .message))) (discardedAt (r .discard) (r .fault) b)) (ne-eqb (r .discard) 0 z))) w)

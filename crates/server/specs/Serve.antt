@@ -45,26 +45,32 @@ pub record Call : Type 0 where
   pub time : ℕ
   pub room : ℕ
 
--- outcome 0 is a reply; a discard has no octets
+-- outcome 0 is a reply; a discard has no octets. "Discard 5 carries" the offset that the reader of options reports, "every other outcome 0" (document 02, W-206)
 pub record Answer : Type 0 where
   pub outcome : ℕ
+  pub offset : ℕ
   pub reply : List ℕ
   pub book : Book
 
--- what of it the caller is told: the outcome's number and the reply's octets
+-- what of it the caller is told: the outcome's number, the offset that goes with it and the reply's octets
 pub record Said : Type 0 where
   pub outcome : ℕ
+  pub offset : ℕ
   pub reply : List ℕ
 
 abbrev pub said : Answer → Said
-said a = record { outcome = a .outcome; reply = a .reply }
+said a = record { outcome = a .outcome; offset = a .offset; reply = a .reply }
 
 -- the book of a state, a table, what is remembered and the names that are lent with them
 abbrev pub bookOf : State → LeaseTable → Memory → List ℕ → Book
 bookOf s t m names = record { state = s; table = t; memory = m; names = names }
 
+-- a discard that carries an offset, and one that carries 0
+abbrev pub discardedAt : ℕ → ℕ → Book → Answer
+discardedAt n offset b = record { outcome = n; offset = offset; reply = []; book = b }
+
 abbrev pub discarded : ℕ → Book → Answer
-discarded n b = record { outcome = n; reply = []; book = b }
+discarded n b = discardedAt n 0 b
 
 -- ---- the reply that a verdict asks for
 abbrev pub headOf : State → Fields → Head
@@ -106,6 +112,7 @@ replyOf s names h m v = byReply s names h m v (v .reply)
 abbrev pub answered : Book → ℕ → Fields → Decided → Answer
 answered b h m d = record {
   outcome = d .verdict .outcome;
+  offset = 0;
   reply = replyOf (b .state) (b .names) h m (d .verdict);
   book = editedBook (d .edit) h b;
 }
@@ -120,9 +127,9 @@ forServer b h m =
     pick (eqb (m .kind) 3 && not (m .ours)) (discarded 7 b)
     (answered b h m (decidedFor b h m))
 
--- tests 4, 5 and 6, by the reader
+-- tests 4, 5 and 6, by the reader, whose offset is 0 with 4 and 6
 unfoldable pub withReading : Book → ℕ → List ℕ → Reading → Answer
-withReading b h s r = pick (eqb (r .discard) 0) (forServer b h (fieldsOf s (b .state .server) (r .message))) (discarded (r .discard) b)
+withReading b h s r = pick (eqb (r .discard) 0) (forServer b h (fieldsOf s (b .state .server) (r .message))) (discardedAt (r .discard) (r .fault) b)
 
 -- both ends of a client range belong to it
 unfoldable pub hasClient : ℕ → ClientRange → Bool
@@ -145,9 +152,10 @@ serveOf b c =
     (discarded 1 b)
 
 -- ---- what a function promises
--- what the caller is told: the outcome, the reply's length, and every octet of the reply buffer
+-- what the caller is told: the outcome, its offset, the reply's length, and every octet of the reply buffer
 pub record Tells (a : Said) (before after : List ℕ) (r : Outcome) : Type 0 where
   pub outcome : r .outcome ≡ a .outcome
+  pub offset : r .offset ≡ a .offset
   pub size : r .length ≡ length (a .reply)
   pub buffer : after ≡ a .reply ++ drop (length (a .reply)) before
 

@@ -23,10 +23,12 @@ use state::State;
 use state::TenantLeases;
 use state::TenantReleases;
 
-// What the caller is told of a call: the outcome's number and the reply's length.
+// What the caller is told of a call: the outcome's number, the reply's length, and with discard 5 where in the datagram the first option stands
+// that breaks a rule; 0 with every other outcome.
 pub struct Outcome {
     pub outcome: u8,
     pub length: usize,
+    pub offset: usize,
 }
 
 // The same with what the call does to what the client's tenant has.
@@ -110,13 +112,14 @@ fn write_reply(s: State, names: &[u8], h: usize, m: Fields, v: Verdict, reply: &
 
 // ---- the tests
 
-fn discard(n: u8) -> Served
-    ensures { λ r. ⌜ r ≡ record { outcome = record { outcome = n; length = 0 }; edit = noEdit } ⌝ }
+fn discard(n: u8, offset: usize) -> Served
+    ensures { λ r. ⌜ r ≡ record { outcome = record { outcome = n; length = 0; offset = offset }; edit = noEdit } ⌝ }
 {
     Served {
         outcome: Outcome {
             outcome: n,
             length: 0,
+            offset: offset,
         },
         edit: state::no_edit(),
     }
@@ -144,6 +147,7 @@ fn decided(
         outcome: Outcome {
             outcome: v.outcome,
             length: n,
+            offset: 0,
         },
         edit: e,
     }
@@ -167,7 +171,7 @@ fn for_server(
         if m.ours {
             return decided(s, names, own, q, held, h, m, reply);
         }
-        return discard(7);
+        return discard(7, 0);
     }
     decided(s, names, own, q, held, h, m, reply)
 }
@@ -192,7 +196,7 @@ pub fn on_tenant(
         let f = m.fields(datagram, s.server);
         return for_server(s, names, own, q, held, h, f, reply);
     }
-    discard(r.discard)
+    discard(r.discard, r.fault)
 }
 
 fn has_client(client: u32, r: ClientRange) -> bool

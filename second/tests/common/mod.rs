@@ -92,16 +92,34 @@ pub fn datagram(message_type: u8, transaction: u32, options: &[(u16, &[u8])]) ->
     octets
 }
 
-/// Serves in a room of 600 octets of a pattern, and sees to it that nothing past the reply is touched.
+/// Serves in a room of 600 octets of a pattern, and sees to it that nothing past the reply is touched and that
+/// discard 5 alone has an offset, which is never inside the header.
 pub fn call(book: &mut Book, client: u32, time: u32, datagram: &[u8]) -> (u8, Vec<u8>) {
+    let (outcome, offset, reply) = call_with_offset(book, client, time, datagram);
+    let offsets = if outcome == 5 {
+        8..=datagram.len()
+    } else {
+        0..=0
+    };
+    assert!(offsets.contains(&offset), "{outcome} @{offset}");
+    (outcome, reply)
+}
+
+/// The same with the offset, whatever it is.
+pub fn call_with_offset(
+    book: &mut Book,
+    client: u32,
+    time: u32,
+    datagram: &[u8],
+) -> (u8, usize, Vec<u8>) {
     let pattern: Vec<u8> = (0..600u32)
         .map(|place| (place % 251) as u8 ^ 0xA5)
         .collect();
     let mut room = pattern.clone();
-    let (outcome, length) = serve(book, datagram, client, time, &mut room);
+    let (outcome, offset, length) = serve(book, datagram, client, time, &mut room);
     assert_eq!(room[length..], pattern[length..], "octets past the reply");
     assert_eq!(outcome == 0, length > 0);
-    (outcome, room[..length].to_vec())
+    (outcome, offset, room[..length].to_vec())
 }
 
 /// The error of a NAK.

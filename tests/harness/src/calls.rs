@@ -1,6 +1,7 @@
 //! Lists of calls: what clients of the houses send, mostly what draws a reply, and all the edges.
 
 use crate::bounds;
+use crate::broken::{broken, Broken, BREAKS};
 use crate::campus::{beside, identifier};
 use crate::holds::{Offer, HOLD_TIME};
 use crate::message;
@@ -34,10 +35,18 @@ struct Talk<'a> {
     calls: Vec<Call<'static>>,
     /// The damage that comes next.
     damage: usize,
+    /// What was broken at a place that is known.
+    broken: Broken,
+}
+
+/// Calls, and what is known of those that were broken.
+pub struct List {
+    pub calls: Vec<Call<'static>>,
+    pub broken: Broken,
 }
 
 /// A list of calls on a campus. `turn` says where in the list of damages to begin.
-pub fn list(random: &mut Random, campus: &Campus, count: usize, turn: usize) -> Vec<Call<'static>> {
+pub fn list(random: &mut Random, campus: &Campus, count: usize, turn: usize) -> List {
     let mut talk = Talk {
         campus,
         clock: campus.clock,
@@ -47,6 +56,7 @@ pub fn list(random: &mut Random, campus: &Campus, count: usize, turn: usize) -> 
         times: Vec::new(),
         calls: Vec::new(),
         damage: turn,
+        broken: Broken::new(),
     };
     for lease in &campus.leases {
         talk.times.extend([lease.start, lease.end]);
@@ -66,7 +76,10 @@ pub fn list(random: &mut Random, campus: &Campus, count: usize, turn: usize) -> 
         let call = talk.call(random);
         talk.calls.push(call);
     }
-    talk.calls
+    List {
+        calls: talk.calls,
+        broken: talk.broken,
+    }
 }
 
 impl Talk<'_> {
@@ -134,8 +147,20 @@ impl Talk<'_> {
             return (client, message.octets());
         }
         self.damage += 1;
-        let (_, damage) = message::DAMAGES[self.damage % message::DAMAGES.len()];
-        (client, damage(random, message))
+        let place = self.damage % (message::DAMAGES.len() + BREAKS.len());
+        let datagram = match message::DAMAGES.get(place) {
+            Some((_, damage)) => damage(random, message),
+            None => self.broken(random, message, place - message::DAMAGES.len()),
+        };
+        (client, datagram)
+    }
+
+    /// A message with a fault in its options, which is kept in mind.
+    fn broken(&mut self, random: &mut Random, message: Message, place: usize) -> Vec<u8> {
+        let (datagram, fault) = broken(random, message, place);
+        self.broken
+            .extend(fault.map(|fault| (datagram.clone(), fault)));
+        datagram
     }
 
     /// A release to send again, at times: often the last.

@@ -1,6 +1,7 @@
 //! A case: a campus file and a list of calls, made from a seed and a number, or read from a file that was kept.
 
-use crate::calls;
+use crate::broken::Broken;
+use crate::calls::{self, List};
 use crate::campus::sound;
 use crate::damage::{self, DAMAGES};
 use crate::random::Random;
@@ -17,6 +18,8 @@ pub struct Case {
     pub meant: Meant,
     /// What the file is made of, if it is that of a sound campus.
     pub campus: Option<Campus>,
+    /// Its datagrams that were broken at a place that is known.
+    pub broken: Broken,
 }
 
 impl Case {
@@ -29,12 +32,13 @@ impl Case {
             if let Some(file) = DAMAGES[place].file(&mut random) {
                 let campus = sound(&mut random);
                 let count = random.below(3);
-                let calls = records(&mut random, &campus, count, number as usize);
+                let (calls, broken) = records(&mut random, &campus, count, number as usize);
                 return Case {
                     file,
                     calls,
                     meant: Some(place),
                     campus: None,
+                    broken,
                 };
             }
         }
@@ -46,7 +50,7 @@ impl Case {
             campus.octets()
         };
         let count = random.pick(&[0, 1, 2, 5, 10, 20, 20, 40]);
-        let mut calls = records(&mut random, &campus, count, number as usize * 7);
+        let (mut calls, broken) = records(&mut random, &campus, count, number as usize * 7);
         if random.chance(5) {
             calls.truncate(random.below(calls.len() + 1));
         }
@@ -55,6 +59,7 @@ impl Case {
             calls,
             meant: None,
             campus: (!is_scrambled).then_some(campus),
+            broken,
         }
     }
 
@@ -74,13 +79,13 @@ impl Case {
             calls: octets[2 + length..].to_vec(),
             meant: None,
             campus: None,
+            broken: Broken::new(),
         })
     }
 }
 
-fn records(random: &mut Random, campus: &Campus, count: usize, turn: usize) -> Vec<u8> {
-    calls::list(random, campus, count, turn)
-        .iter()
-        .flat_map(builder::Call::record)
-        .collect()
+fn records(random: &mut Random, campus: &Campus, count: usize, turn: usize) -> (Vec<u8>, Broken) {
+    let List { calls, broken } = calls::list(random, campus, count, turn);
+    let records = calls.iter().flat_map(builder::Call::record);
+    (records.collect(), broken)
 }

@@ -3,6 +3,7 @@
 use crate::bounds;
 use crate::campus::holding;
 use crate::case::Case;
+use crate::fault;
 use crate::holds;
 use crate::judged;
 use crate::lent::{Held, Lender};
@@ -29,6 +30,8 @@ pub type Difference = String;
 /// What the second program makes of one call.
 pub struct Answer {
     pub outcome: u8,
+    /// Where the datagram went wrong, with discard 5; else 0.
+    pub offset: usize,
     pub reply: Vec<u8>,
     /// The campus file afterwards; empty if the book can't be written.
     pub file: Vec<u8>,
@@ -57,13 +60,14 @@ fn second(case: &Case) -> Expected {
     let mut room = vec![0; LONGEST_FILE];
     while let (Some(book), Some(call)) = (&mut book, Call::read(&case.calls[end..])) {
         let room_length = call.room.into();
-        let (outcome, reply) =
+        let (outcome, offset, reply) =
             second::server::answer(book, &call.datagram, call.client, call.time, room_length);
         // A book that can't be written is a difference from any file; what the call answered is compared before it.
         let written = second::file::write(book, &mut room);
         let file = room[..written.unwrap_or(0)].to_vec();
         answers.push(Answer {
             outcome,
+            offset,
             reply,
             file,
             place: end,
@@ -143,8 +147,8 @@ fn choice(case: &Case) -> usize {
     }) >> 3
 }
 
-/// Counts what the case has shown, and sees that each scope list is the one that is due by what the case was made of, and what is remembered
-/// of releases, and held of offers, and answered to options 14 and 15, what is due by the file before each call.
+/// Counts what the case has shown, and sees that each scope list is the one that is due by what the case was made of, what is remembered
+/// of releases, held of offers, and answered to options 14 and 15, what is due by the file before each call, and the offset by the datagram.
 fn count(case: &Case, expected: &Expected, tally: &mut Tally) -> Result<(), Difference> {
     if expected.refusal != 0 {
         tally.code(expected.refusal);
@@ -161,6 +165,7 @@ fn count(case: &Case, expected: &Expected, tally: &mut Tally) -> Result<(), Diff
         let Some(call) = Call::read(&case.calls[answer.place..]) else {
             continue;
         };
+        faulted(case, &call, answer, tally)?;
         let after = Campus::read(&answer.file);
         if let (Some(before), Some(after)) = (&before, &after) {
             released(&mut past, before, after, &call, answer, tally)?;
@@ -180,6 +185,22 @@ fn count(case: &Case, expected: &Expected, tally: &mut Tally) -> Result<(), Diff
                 let reply = hex(&answer.reply);
                 return Err(format!("another scope list is due than in {reply}"));
             }
+        }
+    }
+    Ok(())
+}
+
+/// Where a datagram went wrong: what is due by its octets and, where it was broken on purpose, by how that was done.
+fn faulted(case: &Case, call: &Call, answer: &Answer, tally: &mut Tally) -> Result<(), Difference> {
+    let found = fault::due(call, answer.outcome, answer.offset)?;
+    found.iter().for_each(|fault| tally.fault(fault.cause));
+    let broken = case.broken.get(&*call.datagram);
+    match (broken, answer.outcome) {
+        (None, _) | (_, 2 | 3) => {}
+        (Some(fault), 5) if fault.offset == answer.offset => tally.broken(fault.cause),
+        (Some(fault), outcome) => {
+            let found = (outcome, answer.offset);
+            return Err(format!("it was broken as {fault:?}, and drew {found:?}"));
         }
     }
     Ok(())
@@ -244,7 +265,7 @@ fn second_on(file: &[u8], call: &Call) -> Result<(u8, Vec<u8>, Vec<u8>), Differe
     caught(|| {
         let mut book = second::file::read(file).expect("the book before the call");
         let room = call.room.into();
-        let (outcome, reply) =
+        let (outcome, _, reply) =
             second::server::answer(&mut book, &call.datagram, call.client, call.time, room);
         let mut file = vec![0; LONGEST_FILE];
         let length = second::file::write(&book, &mut file).unwrap_or(0);
@@ -371,8 +392,9 @@ fn serve(case: &Case, expected: &Expected, choice: usize) {
     for (number, answer) in expected.answers.iter().enumerate() {
         let what = format!("serve, call {}", number + 1);
         let call = Call::read(&case.calls[answer.place..]).expect("an answered call's record");
-        let (outcome, reply) = LENDER.serve(&mut held, &call, 0);
+        let (outcome, offset, reply) = LENDER.serve(&mut held, &call, 0);
         same(&what, outcome, answer.outcome);
+        same(&format!("{what}: offset"), offset, answer.offset);
         same_octets(&format!("{what}: reply"), &reply, &answer.reply);
         same_octets(&format!("{what}: file"), held.file(), &answer.file);
     }
@@ -399,6 +421,7 @@ fn replayed<'a>(case: &'a Case, expected: &'a Expected, answers_room: usize) -> 
             };
         }
         answers.push(answer.outcome);
+        answers.extend((answer.offset as u16).to_be_bytes());
         answers.extend((answer.reply.len() as u16).to_be_bytes());
         answers.extend(&answer.reply);
         file = &answer.file;
@@ -426,7 +449,7 @@ fn replay(case: &Case, expected: &Expected, choice: usize, tally: &mut Tally) {
     if count > 0 {
         let up_to = |calls: usize| -> usize {
             let answers = expected.answers[..calls].iter();
-            answers.map(|answer| 3 + answer.reply.len()).sum()
+            answers.map(|answer| 5 + answer.reply.len()).sum()
         };
         rooms.push(up_to(count - 1) + ANSWER_ROOM);
         rooms.push(up_to(choice / 16 % count) + ANSWER_ROOM - 1);
@@ -456,7 +479,7 @@ fn lent_rooms(case: &Case, tally: &mut Tally) {
     ] {
         let what = format!("{refusal} in a file room of {room}");
         let mut held = LENDER.hold(front, room, length);
-        let (outcome, _) = LENDER.serve(&mut held, &call(&case.calls), 0);
+        let (outcome, ..) = LENDER.serve(&mut held, &call(&case.calls), 0);
         same(&format!("serve, {what}"), outcome, refusal);
         let replayed = LENDER.replay(&mut held, &case.calls, 600);
         same(&format!("replay, {what}"), replayed, (refusal, 0, vec![]));

@@ -15,6 +15,9 @@ pub const LEASES: [usize; 4] = [0, 16, 64, 128];
 /// The number at which they are measured with full sections of names and of releases too, and the mixed list.
 const FILLED_LEASES: usize = 64;
 
+/// What stands before a reply in a list of answers: outcome(1), offset(2), reply length(2).
+const ANSWER_HEAD: usize = 5;
+
 /// What is done with a file.
 pub enum Work {
     Check,
@@ -98,13 +101,15 @@ fn plain_replay(file: &mut [u8], length: usize, calls: &[u8], answers: &mut [u8]
     };
     let (mut used, mut filled) = (0, 0);
     while let Some(call) = Call::read(&calls[used..]) {
-        let room = usize::from(call.room).min(answers.len() - filled - 3);
-        let reply = &mut answers[filled + 3..filled + 3 + room];
-        let (outcome, length) =
-            second::serve(&mut book, &call.datagram, call.client, call.time, reply);
-        answers[filled] = outcome;
-        answers[filled + 1..filled + 3].copy_from_slice(&(length as u16).to_be_bytes());
-        filled += 3 + length;
+        let (head, room) = answers[filled..].split_at_mut(ANSWER_HEAD);
+        let length = room.len().min(call.room.into());
+        let room = &mut room[..length];
+        let (outcome, offset, length) =
+            second::serve(&mut book, &call.datagram, call.client, call.time, room);
+        head[0] = outcome;
+        head[1..3].copy_from_slice(&(offset as u16).to_be_bytes());
+        head[3..].copy_from_slice(&(length as u16).to_be_bytes());
+        filled += ANSWER_HEAD + length;
         used += call.length();
     }
     let length = second::file::write(&book, file).unwrap_or(0);
@@ -129,12 +134,10 @@ impl Job {
         let mut place = 0;
         let mut draws = due.draws.iter().cycle().take(self.count());
         draws.all(|due| {
-            let length = usize::from(u16::from_be_bytes([answers[place + 1], answers[place + 2]]));
-            let drawn = (
-                answers[place],
-                if length > 0 { answers[place + 4] } else { 0 },
-            );
-            place += 3 + length;
+            let (head, reply) = answers[place..].split_at(ANSWER_HEAD);
+            let length = usize::from(u16::from_be_bytes([head[3], head[4]]));
+            let drawn = (head[0], if length > 0 { reply[1] } else { 0 });
+            place += ANSWER_HEAD + length;
             drawn == *due
         }) && file.starts_with(&due.file)
             && second::file::read(&due.file).is_ok()

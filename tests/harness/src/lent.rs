@@ -130,11 +130,11 @@ impl Lender {
         text.part()[..filled].to_vec()
     }
 
-    /// One call, in a reply room that is painted with `salt`: its number and reply. A refusal and discard 2 change nothing.
-    pub fn serve(self, held: &mut Held, call: &Call, salt: u8) -> (u8, Vec<u8>) {
+    /// One call, in a reply room that is painted with `salt`: its number, offset and reply. A refusal and discard 2 change nothing.
+    pub fn serve(self, held: &mut Held, call: &Call, salt: u8) -> (u8, usize, Vec<u8>) {
         let (stood, before) = (held.clone(), self.painted(call.room.into(), salt));
         let (mut datagram, mut reply) = (self.copy(&call.datagram), before.clone());
-        let mut length = Box::new(usize::MAX);
+        let (mut length, mut offset) = (Box::new(usize::MAX), Box::new(usize::MAX));
         // SAFETY: as above.
         let number = unsafe {
             banshorra_serve(
@@ -148,6 +148,7 @@ impl Lender {
                 reply.at(),
                 call.room.into(),
                 &mut *length,
+                &mut *offset,
             )
         };
         let same = datagram == self.copy(&call.datagram);
@@ -165,8 +166,17 @@ impl Lender {
             number == 0 || *length == 0,
             "a reply of {length} octets with {number}"
         );
+        assert!(
+            number == 5 || *offset == 0,
+            "an offset of {offset} with {number}"
+        );
+        assert!(
+            *offset <= call.datagram.len(),
+            "an offset of {offset} in {} octets",
+            call.datagram.len()
+        );
         held.see(&stood, number == 2 || number > 8);
-        (number, reply.part()[..*length].to_vec())
+        (number, *offset, reply.part()[..*length].to_vec())
     }
 
     /// A list of calls: its number, the octets of calls used, the answers. Where none is used nothing changes.

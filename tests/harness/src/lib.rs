@@ -3,12 +3,14 @@
 
 pub mod asked;
 pub mod bounds;
+pub mod broken;
 pub mod calls;
 pub mod campus;
 pub mod case;
 pub mod compare;
 pub mod damage;
 pub mod damage_holds;
+pub mod fault;
 pub mod holds;
 pub mod jobs;
 pub mod judged;

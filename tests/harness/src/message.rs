@@ -35,7 +35,7 @@ pub fn features(random: &mut Random, required: usize) -> Vec<u8> {
 }
 
 /// Value lengths that break an option's rule, or for option 12 values that aren't filled exactly.
-fn unfit_value(random: &mut Random, code: u16) -> Vec<u8> {
+pub fn unfit_value(random: &mut Random, code: u16) -> Vec<u8> {
     let lengths: &[usize] = match code {
         0 => &[1, 2, 4],
         2 => &[0, 4, 5, 7, 17, 19],
@@ -52,7 +52,7 @@ fn unfit_value(random: &mut Random, code: u16) -> Vec<u8> {
 }
 
 /// Option 12 badly filled: too short for three counts, an octet more or less, or one of the lists too long.
-fn unfit_features(random: &mut Random) -> Vec<u8> {
+pub fn unfit_features(random: &mut Random) -> Vec<u8> {
     match random.below(7) {
         0 => vec![0; random.below(6)],
         1 => vec![0; 7],

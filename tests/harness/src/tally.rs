@@ -2,6 +2,7 @@
 
 use crate::bounds;
 use crate::damage::DAMAGES;
+use crate::fault::{Cause, CAUSES};
 use crate::judged;
 use crate::names;
 use crate::releases;
@@ -76,6 +77,14 @@ fn held_for(why: String) -> String {
     format!("hold: {why}")
 }
 
+fn fault_name(cause: Cause) -> String {
+    format!("discard 5 for: {}", cause.name())
+}
+
+fn broken_name(cause: Cause) -> String {
+    format!("discard 5 where it was broken: {}", cause.name())
+}
+
 impl Tally {
     fn add(&mut self, name: String) {
         *self.counts.entry(name).or_default() += 1;
@@ -121,6 +130,16 @@ impl Tally {
         self.add(held_for(why.into()));
     }
 
+    /// The first fault of a datagram that drew discard 5.
+    pub fn fault(&mut self, cause: Cause) {
+        self.add(fault_name(cause));
+    }
+
+    /// A datagram that was broken at a known place, and drew discard 5 with that offset.
+    pub fn broken(&mut self, cause: Cause) {
+        self.add(broken_name(cause));
+    }
+
     /// A file that was damaged on purpose, and what it drew.
     pub fn damaged(&mut self, place: usize, refusal: u8) {
         if refusal == DAMAGES[place].refusal {
@@ -136,6 +155,8 @@ impl Tally {
         names.extend(REPLIES.map(|(sent, reply)| reply_name(sent, reply)));
         names.extend((0..4).map(|error| format!("error {error}")));
         names.extend(CODES.map(|(code, _)| code_name(code)));
+        names.extend(CAUSES.map(fault_name));
+        names.extend(CAUSES.map(broken_name));
         names.extend(names::COUNTED.map(named_for));
         names.extend(releases::COUNTED.map(released_for));
         names.extend(bounds::counted().into_iter().map(bounded_for));

@@ -3,6 +3,7 @@
 //! that a replay is its single serves. What isn't so is a panic.
 
 use crate::bounds;
+use crate::fault;
 use crate::holds;
 use crate::lent::{Held, Lender};
 use crate::releases::Past;
@@ -14,7 +15,7 @@ use std::collections::BTreeMap;
 pub const EXACT: Lender = Lender { around: 0 };
 
 /// What a run of some length has to see.
-const SEEN: [(&str, &str); 10] = [
+const SEEN: [(&str, &str); 11] = [
     ("check", "0, 20, 21"),
     ("board", "lines, refused 20, refused 21, no room"),
     ("serve", "0, 2, 3, 4, 5, 6, 7, 8, 20, 21, 23, 28"),
@@ -33,6 +34,11 @@ const SEEN: [(&str, &str); 10] = [
     (
         "holds",
         "held, repeated, turned, dropped, kept, lapsed",
+    ),
+    (
+        "faults",
+        "an option past the end, one to three octets left over, wrong length of a known option, option 12 wrongly filled, a repeat, \
+         End not last, End with a length, two Ends, no End, no option 3",
     ),
 ];
 
@@ -66,9 +72,9 @@ fn see_alike(before: &Campus, after: &[u8], call: &Call, answer: &(u8, Vec<u8>))
     };
     let file = other.octets();
     let mut held = EXACT.hold(&file, FILE_ROOM, file.len());
-    let drawn = EXACT.serve(&mut held, &alike, 0x3C);
-    let is_same_file = drawn.0 != 0 || alike.datagram != call.datagram || held.file() == after;
-    let same = holds::of_alike(before, call, drawn) == *answer && is_same_file;
+    let (outcome, _, reply) = EXACT.serve(&mut held, &alike, 0x3C);
+    let is_same_file = outcome != 0 || alike.datagram != call.datagram || held.file() == after;
+    let same = holds::of_alike(before, call, (outcome, reply)) == *answer && is_same_file;
     assert!(same, "what has to draw the same draws something else");
 }
 
@@ -81,7 +87,7 @@ impl Watch {
         *self.0.entry((what, of.to_string())).or_default() += 1;
     }
 
-    /// A line for each function, for replies, errors, names, releases, bounds and holds; and how many of those that have to occur never did.
+    /// A line for each function, for replies, errors, names, releases, bounds, holds, faults; and how many that have to occur never did.
     pub fn lines(&self) -> (Vec<String>, usize) {
         let (mut lines, mut missing) = (vec![], 0);
         for (what, names) in SEEN {
@@ -142,11 +148,12 @@ impl Watch {
     }
 
     /// A serve, and again with other octets past the file and in the reply room: nothing may differ.
-    pub fn serve(&mut self, held: &mut Held, call: &Call) -> (u8, Vec<u8>) {
+    pub fn serve(&mut self, held: &mut Held, call: &Call) -> (u8, usize, Vec<u8>) {
         let (mut other, before) = (held.with_other_octets(), held.file().to_vec());
         let answer = self.serve_once(held, call, 0x3C);
         if answer.0 <= 8 && answer.0 != 2 {
-            see_alike(&campus(&before), held.file(), call, &answer);
+            let drawn = (answer.0, answer.2.clone());
+            see_alike(&campus(&before), held.file(), call, &drawn);
         }
         let again = self.serve_once(&mut other, call, 0xE7);
         assert!(again == answer, "the answer depends on octets outside");
@@ -155,11 +162,11 @@ impl Watch {
         answer
     }
 
-    fn serve_once(&mut self, held: &mut Held, call: &Call, salt: u8) -> (u8, Vec<u8>) {
+    fn serve_once(&mut self, held: &mut Held, call: &Call, salt: u8) -> (u8, usize, Vec<u8>) {
         let (due, before) = (self.refusal_due(held), held.file().to_vec());
         let plain = bounds::plain(call).filter(|_| due == 0);
         let plain = plain.map(|plain| EXACT.serve(&mut held.clone(), &plain, salt));
-        let (number, reply) = EXACT.serve(held, call, salt);
+        let (number, offset, reply) = EXACT.serve(held, call, salt);
         self.count("serve", number);
         let right = match due {
             0 => {
@@ -168,6 +175,10 @@ impl Watch {
             _ => number == due,
         };
         assert!(right, "serve returned {number}, {due} is due");
+        let fault = fault::due(call, number, offset).unwrap_or_else(|why| panic!("{why}"));
+        fault
+            .iter()
+            .for_each(|fault| self.count("faults", fault.cause.name()));
         if number == 0 {
             self.see_reply(call, &reply);
             let list = value_of(&reply, 9).unwrap_or(&[0]);
@@ -179,10 +190,10 @@ impl Watch {
             self.see_releases(&before, &after, call, &reply);
             self.see_holds(&before, &after, call, (number, &reply));
         }
-        if let (Some(plain), 0 | 8) = (plain, number) {
-            self.see_bounds(&campus(&before), call, (number, &reply), plain);
+        if let (Some((outcome, _, plain)), 0 | 8) = (plain, number) {
+            self.see_bounds(&campus(&before), call, (number, &reply), (outcome, plain));
         }
-        (number, reply)
+        (number, offset, reply)
     }
 
     fn see_reply(&mut self, call: &Call, reply: &[u8]) {
@@ -306,8 +317,9 @@ impl Watch {
                 Some(_) if room - answers.len() < ANSWER_ROOM => due = 27,
                 Some(mut call) => {
                     call.room = call.room.min(REPLY_ROOM as u16);
-                    let (outcome, reply) = self.serve(&mut by_one, &call);
+                    let (outcome, offset, reply) = self.serve(&mut by_one, &call);
                     answers.push(outcome);
+                    answers.extend((offset as u16).to_be_bytes());
                     answers.extend((reply.len() as u16).to_be_bytes());
                     answers.extend(reply);
                     used += call.length();

@@ -52,14 +52,14 @@ serves-as {x = x} {y} {r} e v = subst (λ (z : LentAnswer). ServesRecords z x y 
 
 -- a discard gives back what it got
 abbrev none : ℕ → Ledger → List Lease → LentAnswer
-none k g ls = record { outcome = k; reply = []; ledger = g; leases = ls }
+none k g ls = record { outcome = k; offset = 0; reply = []; ledger = g; leases = ls }
 
 abbrev Discards : ℕ → Ledger → Records → ServedRecords → Type 0
-Discards k g m r = r ≡ record { outcome = record { outcome = k; length = 0 }; clock = g .state .clock; memory = g .memory; records = m }
+Discards k g m r = r ≡ record { outcome = record { outcome = k; length = 0; offset = 0 }; clock = g .state .clock; memory = g .memory; records = m }
 
 stays : (k : ℕ) (g : Ledger) (ls : List Lease) {m : Records} {x : List ℕ} {r : ServedRecords} → m .leases ≡ ls → length ls ≡ 128 → Discards k g m r → ServesRecords (none k g ls) x x r
 stays k g ls a q e = record {
-  tells = record { outcome = ap (λ (z : ServedRecords). z .outcome .outcome) e; size = ap (λ (z : ServedRecords). z .outcome .length) e; buffer = refl };
+  tells = record { outcome = ap (λ (z : ServedRecords). z .outcome .outcome) e; offset = ap (λ (z : ServedRecords). z .outcome .offset) e; size = ap (λ (z : ServedRecords). z .outcome .length) e; buffer = refl };
   clock = ap (λ (z : ServedRecords). z .clock) e;
   memory = ap (λ (z : ServedRecords). z .memory) e;
   leases = ap (λ (z : ServedRecords). z .records .leases) e ∙ a;

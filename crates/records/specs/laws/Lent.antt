@@ -145,17 +145,17 @@ pub lent-clock : (n : ℕ) (g : Ledger) (ls : List Lease) (names : List ℕ) (c 
 unfolding serveWith Raises pick
 lent-clock n g ls names c = go (is128 n)
   where
-    go : (t : Bool) → Raises (g .state) (pick t (lentAnswer (serveOf (bookFrom g ls names) c)) (record { outcome = 1; reply = []; ledger = g; leases = ls }) .ledger .state)
+    go : (t : Bool) → Raises (g .state) (pick t (lentAnswer (serveOf (bookFrom g ls names) c)) (record { outcome = 1; offset = 0; reply = []; ledger = g; leases = ls }) .ledger .state)
     go true = clock-only (bookFrom g ls names) c
     go false = raised-self (g .state)
 
 -- each part of its answer
 module _ (g : Ledger) (ls : List Lease) (names : List ℕ) (c : Call) where
-  off : (k : ℕ) (m : List Lease) → is128 k ≡ false → serveWith k g m names c ≡ record { outcome = 1; reply = []; ledger = g; leases = m }
+  off : (k : ℕ) (m : List Lease) → is128 k ≡ false → serveWith k g m names c ≡ record { outcome = 1; offset = 0; reply = []; ledger = g; leases = m }
   unfolding serveWith pick
-  off k m o = ap (λ (t : Bool). pick t (lentAnswer (serveOf (bookFrom g m names) c)) (record { outcome = 1; reply = []; ledger = g; leases = m })) o
+  off k m o = ap (λ (t : Bool). pick t (lentAnswer (serveOf (bookFrom g m names) c)) (record { outcome = 1; offset = 0; reply = []; ledger = g; leases = m })) o
 
-  part : {A : Type 0} (f : LentAnswer → A) → ((m m' : List Lease) → f (record { outcome = 1; reply = []; ledger = g; leases = m }) ≡ f (record { outcome = 1; reply = []; ledger = g; leases = m' }))
+  part : {A : Type 0} (f : LentAnswer → A) → ((m m' : List Lease) → f (record { outcome = 1; offset = 0; reply = []; ledger = g; leases = m }) ≡ f (record { outcome = 1; offset = 0; reply = []; ledger = g; leases = m' }))
       → {all : List Lease} {r : A} → all ≡ first128 ls → r ≡ f (serveWith (length ls) g all names c) → r ≡ f (serveLent g ls names c)
   part f same = told-lent (λ k m. f (serveWith k g m names c)) (λ k m m' o. ap f (off k m o) ∙ same m m' ∙ sym (ap f (off k m' o))) ls
 

@@ -12,7 +12,15 @@ returns c = let at-put-u83 = c .before .before in let at-put-hex = at-put-u83 .b
 
 returns-2 : tie.Need-returns-2
 unfolding pick
-returns-2 c = let at-put-u85 = c .before .before in let at-put-u84 = at-put-u85 .before .before .before .before in let at-if1 = at-put-u84 .before .before in rw (ne-eqb _ _ (at-if1 .if1 .left)) (wrote-joined (search needs) (at-put-u84 .put-u84 .ensures) (at-put-u85 .put-u85 .ensures))
+returns-2 c = let at-line = c .before .before in let at-if2 = at-line .before .before in rw (ne-eqb _ _ (at-if2 .before .if1 .left)) (rw (eq-eqb _ _ (at-if2 .if2 .taken)) (at-line .write-fault-line .ensures))
+
+returns-3 : tie.Need-returns-3
+unfolding pick
+returns-3 c =
+    let at-put-u85 = c .before .before in
+    let at-put-u84 = at-put-u85 .before .before .before .before in
+    let at-if2 = at-put-u84 .before .before in
+    rw (ne-eqb _ _ (at-if2 .before .if1 .left)) (rw (ne-eqb _ _ (at-if2 .if2 .left)) (wrote-joined (search needs) (at-put-u84 .put-u84 .ensures) (at-put-u85 .put-u85 .ensures)))
 
 pub write-call-line-spec : {M : Type 1} → statement M
 write-call-line-spec =
@@ -24,8 +32,11 @@ write-call-line-spec =
     (λ c κs. search needs)
     (λ c. search needs)
     returns
+    (λ c κs. search needs)
+    (λ c. search needs)
+    returns-2
     (λ c. search needs)
     (λ c κs. search needs)
     (λ c κs. search needs)
     (λ c. search needs)
-    returns-2)
+    returns-3)

@@ -14,7 +14,7 @@ returns : tie.Need-returns
 returns c t k v f = let at-for-server = c .before .before in let at-fields = at-for-server .before .before in let at-if1 = at-fields .before .before in let at-read = at-if1 .before .before in reading-taken _ _ (at-read .read .ensures) _ _ _ (at-if1 .if1 .taken) (at-fields .fields .ensures) (at-for-server .for-server .ensures t k v f)
 
 returns-2 : tie.Need-returns-2
-returns-2 c t k v f = let at-discard = c in let at-if1 = at-discard .before in let at-read = at-if1 .before .before in reading-discarded _ _ (at-read .read .ensures) _ _ (at-if1 .if1 .left) (serves-discard _ _ _ _ _ (at-discard .discard .ensures))
+returns-2 c t k v f = let at-discard = c in let at-if1 = at-discard .before in let at-read = at-if1 .before .before in reading-discarded _ _ (at-read .read .ensures) _ _ (at-if1 .if1 .left) (serves-discard _ _ _ _ _ _ (at-discard .discard .ensures))
 
 pub on-tenant-spec : {M : Type 1} → statement M
 on-tenant-spec =

@@ -120,7 +120,12 @@ fn run_kept(name: &str) -> ExitCode {
                     call.room,
                     hex(&call.datagram)
                 );
-                println!("  second: {} {}", answer.outcome, hex(&answer.reply));
+                println!(
+                    "  second: {} @{} {}",
+                    answer.outcome,
+                    answer.offset,
+                    hex(&answer.reply)
+                );
                 place += call.length();
             }
         }

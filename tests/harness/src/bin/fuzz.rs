@@ -161,7 +161,7 @@ fn any_file(random: &mut Random, campus: &Campus) -> Vec<u8> {
 /// What clients send, of which some is damaged octet by octet, some is any octets, as many as there can be, and some has other rooms.
 fn any_calls(random: &mut Random, campus: &Campus, count: usize) -> Vec<Call<'static>> {
     let turn = random.below(1_000);
-    let mut calls = calls::list(random, campus, count, turn);
+    let mut calls = calls::list(random, campus, count, turn).calls;
     for call in &mut calls {
         if random.chance(12) {
             battered(random, call.datagram.to_mut());

@@ -42,7 +42,7 @@ run b [] = b
 run b (c ∷ cs) = run (serveOf b c .book) cs
 
 -- ---- books
--- "Sound", its names and its releases too (document 02, W-201 and W-202), with the eight tenants' records and releases that every book has
+-- "Sound", its names, its releases and its board too (document 02, W-201, W-202 and W-207), with the eight tenants' records and releases that every book has
 pub record SoundBook (b : Book) : Type 0 where
   pub tenants : length (b .table .tenants) ≡ 8
   pub memory : length (b .memory .releases) ≡ 8
@@ -183,7 +183,9 @@ pub record Granted (b : Book) (c : Call) (a : Answer) : Type 0 where
   -- and the names for the scopes (document 02, W-201)
   pub titles : a .book .names ≡ b .names
   -- "A new lease on the identifier forgets it" (document 02, W-202): no other release is forgotten, and no new one is remembered
-  pub forgets : a .book .memory ≡ putReleases (b .memory) (tenantFor b c) (laidReleases (forgetOf (idOf (leaseFor b c)) (releasesFor b c)))
+  pub forgets : a .book .memory .releases ≡ putReleases (b .memory) (tenantFor b c) (laidReleases (forgetOf (idOf (leaseFor b c)) (releasesFor b c))) .releases
+  -- and the board is what these leases say (document 02, W-207)
+  pub board : a .book .memory .board ≡ boardOf (leasesOf (a .book .table))
   -- "and the lease that REQUEST records": it now stands among the tenant's own
   pub own : ownOf (a .book .table) (tenantFor b c) ≡ insertOf (leaseFor b c) (ownFor b c)
   -- and without it they are as they were
@@ -259,6 +261,8 @@ pub record Answered (b : Book) (c : Call) (a : Answer) : Type 0 where
   -- bad names and bad releases make the book unsound (document 02, W-201 and W-202): "bad names lent 1", "lent, both are 1"; and no call changes the names
   pub bad-names : namesGood b ≡ false → a .outcome ≡ 1
   pub bad-releases : memoryGood b ≡ false → a .outcome ≡ 1
+  -- "a book whose board disagrees is unsound, 1" (W-207)
+  pub bad-board : boardGood b ≡ false → a .outcome ≡ 1
   pub names : a .book .names ≡ b .names
   -- "Discards 1 and 2 change nothing"
   pub untouched : a .outcome ≡ 1 → a .book ≡ b
@@ -276,6 +280,53 @@ pub record Answered (b : Book) (c : Call) (a : Answer) : Type 0 where
 -- (`lent::serve` has no `requires`)
 unfoldable pub Demand1 : Type 0
 Demand1 = (b : Book) (c : Call) → Answered b c (serveOf b c)
+
+-- ---- the occupancy board (document 02, W-207)
+-- a tenant's lease or hold that a call takes out of the book or puts into it
+pub record Move : Type 0 where
+  pub tenant : ℕ
+  pub lease : Lease
+
+-- those of tenant g
+abbrev pub movesOf : ℕ → List Lease → List Move
+movesOf g ls = map (λ l. record { tenant = g; lease = l }) ls
+
+-- what the drop takes out: of the first n tenants
+unfoldable pub dropsTo : ℕ → LeaseTable → ℕ → List Move
+dropsTo clock t zero = []
+dropsTo clock t (suc n) = dropsTo clock t n ++ movesOf n (endedOf clock (ownOf t n))
+
+-- what the decision takes out and puts in
+unfoldable pub editMoves : ℕ → Edit → List Move
+editMoves h e = pick (e .leaves) (movesOf h (e .old ∷ [])) [] ++ pick (e .enters) (movesOf h (e .new ∷ [])) []
+
+-- the decision on a call that comes so far, and no edit where it does not
+abbrev pub editFor : Book → Call → Edit
+editFor b c = decidedFor (bookAt b c) (tenantFor b c) (saysOf b c) .edit
+
+-- all that a call can move
+unfoldable pub movesFor : Book → Call → List Move
+movesFor b c = dropsTo (stateAt b c .clock) (b .table) 8 ++ editMoves (tenantFor b c) (editFor b c)
+
+-- a move that is not of an address of a scope, or not of a tenant's leases in a scope
+abbrev pub offAddress : ℕ → ℕ → Move → Bool
+offAddress s a m = not (isOn s a (m .lease))
+
+abbrev pub offTenant : ℕ → ℕ → Move → Bool
+offTenant s g m = not (inScope s (m .lease) && eqb (m .tenant) g)
+
+-- what of the board stays: "A lease added or removed may alter only the entries of its addresses and its house's holding in its scope". Scope k + 1
+pub record BoardKept (b : Book) (c : Call) (a : Answer) : Type 0 where
+  pub entries : (k x : ℕ) → x < 64 → allBy (offAddress (k + 1) x) (movesFor b c) ≡ true → entryAt (scopeIn (a .book .memory .board) k) x ≡ entryAt (scopeIn (b .memory .board) k) x
+  pub holdings : (k g : ℕ) → allBy (offTenant (k + 1) g) (movesFor b c) ≡ true → heldIn (scopeIn (a .book .memory .board) k) g ≡ heldIn (scopeIn (b .memory .board) k) g
+
+-- "After any call on a sound book it equals what the leases say": after any list of them
+unfoldable pub BoardAgrees : Type 0
+BoardAgrees = (b : Book) → SoundBook b → (cs : List Call) → run b cs .memory .board ≡ boardOf (leasesOf (run b cs .table))
+
+-- and whatever the book, no other entry and no other holding is altered
+unfoldable pub BoardStays : Type 0
+BoardStays = (b : Book) (c : Call) → BoardKept b c (serveOf b c)
 
 -- the names pass on unchanged through every list of calls
 unfoldable pub NamesStay : Type 0
@@ -334,7 +385,8 @@ pub record LeavesHold (b : Book) (c : Call) (a : Answer) : Type 0 where
   pub state : a .book .state ≡ stateAt b c
   pub others : (g : ℕ) → (g ≡ tenantFor b c → ⊥) → ownOf (a .book .table) g ≡ ownOf (tableAt b c) g
   pub own : ownOf (a .book .table) (tenantFor b c) ≡ insertOf (holdFor b c) (ownFor b c)
-  pub forgets : a .book .memory ≡ putReleases (b .memory) (tenantFor b c) (laidReleases (forgetOf (idOf (holdFor b c)) (releasesFor b c)))
+  pub forgets : a .book .memory .releases ≡ putReleases (b .memory) (tenantFor b c) (laidReleases (forgetOf (idOf (holdFor b c)) (releasesFor b c))) .releases
+  pub board : a .book .memory .board ≡ boardOf (leasesOf (a .book .table))
 
 unfoldable pub OfferHolds : Type 0
 OfferHolds = (b : Book) (c : Call) → SoundBook b → Discovers c → NoHold b c → Offered (serveOf b c) → LeavesHold b c (serveOf b c)

@@ -50,7 +50,7 @@ releaseTenant x = x .tenant
 
 -- tenant by tenant, from 1 to 8
 unfoldable pub storedMemory : List FileRelease → Memory
-storedMemory xs = record { releases = map laidReleases (map (map storedRelease) (apart releaseTenant 1 8 xs)) }
+storedMemory xs = record { releases = map laidReleases (map (map storedRelease) (apart releaseTenant 1 8 xs)); board = noBoard }
 
 unfoldable pub filedMemory : Memory → List FileRelease
 filedMemory m = filedAll filedRelease 1 (map remembered (m .releases))

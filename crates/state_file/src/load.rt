@@ -38,11 +38,14 @@ fn judge(state: State, table: LeaseTable, memory: Memory) -> Loaded
 {
     if soundness::sound(state, table) {
         if releases::sound(state, table, memory) {
+            let board = agreement::build(table);
+            let mut now = memory;
+            now.board = board;
             return Loaded {
                 refusal: 0,
                 state,
                 table,
-                memory,
+                memory: now,
             };
         }
     }

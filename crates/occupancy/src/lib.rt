@@ -1,11 +1,13 @@
 // The occupancy board by value (document 02, W-207): for each scope and each of its addresses the owning tenant, or none, and the number of leases on it,
 // and for each tenant in the scope its holding. A lease added or removed alters only the entries of its addresses and its tenant's holding.
 ghost use mathlib.Core.Path.{_≡_};
-ghost use Prim.Native.Nat.{ℕ, _+_, _-_, _<_, min};
+ghost use Prim.Native.Nat.{_+_, _-_, _<_, min};
+ghost use lib.Dec.{eqb};
 ghost use Rattle.lists.specs.Fold.{fold};
+ghost use Rattle.lists.specs.Same.{sameBy};
 ghost use Rattle.address_set.specs.AddressSet.{offsets};
-ghost use Rattle.occupancy.specs.Laws.{Splits};
-ghost use Rattle.occupancy.specs.Board.{moreOn, lessOn, grown, shrunk, laidOn, liftedOff, addedTo, takenFrom};
+ghost use Rattle.occupancy.specs.Split.{Splits};
+ghost use Rattle.occupancy.specs.Board.{noBoard, moreOn, lessOn, grown, shrunk, laidOn, liftedOff, addedTo, takenFrom, sameEntry, sameScope, sameBoard};
 use address_set::Range;
 
 // An address: its owner, a tenant counted from 1, or 0 for none, and the number of leases on it.

@@ -1,0 +1,4 @@
+pub mod Loop
+pub mod Entries
+pub mod Stays
+pub mod Same

@@ -2,11 +2,13 @@
 -- addresses and its house's holding in its scope". A house is a tenant here; tenants count from 0, but for an entry's owner, which counts from 1; scopes count
 -- from 1, addresses are offsets.
 use Prim.Native.Nat.{ℕ, _+_, _-_, min}
-use mathlib.Core.Bool.{Bool, _&&_}
+use mathlib.Core.Bool.{Bool, false, _&&_}
+use mathlib.Core.Path.{_≡_}
 use mathlib.Core.List.{[]}
 use lib.Dec.{ltb, leb, eqb}
 use lib.ListN.{getD, set, replicate}
 use Rattle.lists.specs.Pick.{pick}
+use Rattle.lists.specs.Filter.{isIn}
 use Rattle.lists.specs.Fold.{fold}
 use Rattle.lists.specs.Same.{sameBy}
 use Rattle.address_set.specs.AddressSet.{offsets}
@@ -77,6 +79,11 @@ addedTo b g s m = alteredBy (laidOn g) b g s m
 
 abbrev pub takenFrom : Board → ℕ → ℕ → ℕ → Board
 takenFrom b g s m = alteredBy (liftedOff g) b g s m
+
+-- "A lease added or removed may alter only the entries of its addresses and its house's holding in its scope": r is b but for these. Places count from 0
+pub record AltersOnly (b : Board) (g s m : ℕ) (r : Board) : Type 0 where
+  pub entries : (k a : ℕ) → (s ≡ k + 1 → isIn a (offsets m) ≡ false) → entryAt (scopeIn r k) a ≡ entryAt (scopeIn b k) a
+  pub holdings : (k i : ℕ) → (s ≡ k + 1 → i ≡ g → ⊥) → heldIn (scopeIn r k) i ≡ heldIn (scopeIn b k) i
 
 -- ---- two boards are the same
 unfoldable pub sameEntry : Entry → Entry → Bool

@@ -5,3 +5,4 @@ pub mod Sorted
 pub mod Named
 pub mod Said
 pub mod Board
+pub mod Unmoved

@@ -15,7 +15,7 @@ use Rattle.address_set.specs.AddressSet.{offsets}
 use Rattle.occupancy.specs.declared.Entry.{Entry}
 use Rattle.occupancy.specs.declared.ScopeBoard.{ScopeBoard}
 use Rattle.occupancy.specs.declared.Board.{Board}
-use Rattle.occupancy.specs.Board.{noScope, entryAt, heldIn, scopeIn, onOffset, alteredBy}
+use Rattle.occupancy.specs.Board.{noScope, entryAt, heldIn, scopeIn, moreOn, lessOn, grown, shrunk, onOffset, alteredBy, addedTo, takenFrom, AltersOnly}
 use Rattle.occupancy.specs.laws.Entries.{on-there, fold-others}
 
 -- what is read of the element at place k, where one element is set that reads the same
@@ -57,3 +57,10 @@ module _ (e : Entry → Entry) (d : ℕ → ℕ → ℕ) (b : Board) (g s m k : 
 
   pub altered-held : (i : ℕ) → (s ≡ k + 1 → i ≡ g → ⊥) → heldIn (scopeIn (alteredBy (onOffset e d g) b g s m) k) i ≡ heldIn (scopeIn b k) i
   altered-held i h = stays (λ v. heldIn v i) (λ r. fold-others e d g (offsets m) (scopeIn b (s - 1)) i (h r))
+
+-- so of the two functions that alter a board
+pub adds-only : (b : Board) (g s m : ℕ) → AltersOnly b g s m (addedTo b g s m)
+adds-only b g s m = record { entries = λ k a h. altered-entry (moreOn g) grown b g s m k a h; holdings = λ k i h. altered-held (moreOn g) grown b g s m k i h }
+
+pub takes-only : (b : Board) (g s m : ℕ) → AltersOnly b g s m (takenFrom b g s m)
+takes-only b g s m = record { entries = λ k a h. altered-entry lessOn shrunk b g s m k a h; holdings = λ k i h. altered-held lessOn shrunk b g s m k i h }

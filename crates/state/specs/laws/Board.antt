@@ -35,7 +35,7 @@ module _ (ts : List (List Lease)) (s : ℕ) where
   unfolding scopeSaid
   entries-long = each-long (entrySaid ts s) 64
 
-  entry-said : (a : ℕ) → a < 64 → entryAt (scopeSaid ts s) a ≡ entrySaid ts s a
+  pub entry-said : (a : ℕ) → a < 64 → entryAt (scopeSaid ts s) a ≡ entrySaid ts s a
   unfolding scopeSaid
   entry-said a h = each-at (entrySaid ts s) 64 a noEntry h
 
@@ -43,7 +43,7 @@ module _ (ts : List (List Lease)) (s : ℕ) where
   unfolding scopeSaid
   held-long = length-map ts (heldCount s)
 
-  held-said : (g : ℕ) → g < length ts → heldIn (scopeSaid ts s) g ≡ heldCount s (getD ts g [])
+  pub held-said : (g : ℕ) → g < length ts → heldIn (scopeSaid ts s) g ≡ heldCount s (getD ts g [])
   unfolding scopeSaid
   held-said g h = map-at (heldCount s) ts g [] 0 h
 

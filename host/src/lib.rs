@@ -29,6 +29,8 @@
 //! }
 //! ```
 //!
+//! [`CampusFile::occupancy`] says who has which address, for those who poll it.
+//!
 //! [`lent`] has the same calls on buffers of the caller's. The numbers are those of documents 01 and 02 and of `include/banshorra.h`.
 
 #![deny(unsafe_code)]
@@ -40,12 +42,14 @@ pub mod lent;
 #[allow(unsafe_code)]
 pub mod library;
 mod numbers;
+mod occupancy;
 mod records;
 
 pub use campus_file::CampusFile;
 pub use fault::Fault;
 pub use lent::Replayed;
 pub use numbers::{Discard, Outcome, Refusal};
+pub use occupancy::Occupancy;
 pub use records::{answers, Answers, Call};
 
 /// The longest campus file, and the least buffer for a file that is served.

@@ -17,10 +17,11 @@ use Rattle.state.specs.declared.Release.{Release}
 use Rattle.state.specs.declared.State.{State}
 use Rattle.state.specs.declared.TenantReleases.{TenantReleases}
 use Rattle.state.specs.Book.{Book, advanced, dropped, inUse, laidOut, leasesOf, live, liveOf, other, raised, releaseId, releasesAt, remembered, tableOf, withClock}
+use Rattle.state.specs.Board.{boardOf}
 use Rattle.state.specs.laws.Layout.{read-back}
 use Rattle.soundness.specs.Sound.{soundB, tenantsIn}
 use Rattle.soundness.specs.laws.Kept.{advanced-sound}
-use Rattle.agreement.specs.laws.Agrees.{advanced-agrees}
+use Rattle.agreement.specs.laws.Agrees.{advanced-agrees, agrees-is}
 use Rattle.releases.specs.Rules.{differs, ownLeases, notLeased, onceB, pastB, rulesAt}
 use Rattle.releases.specs.Whole.{boardGood, bookB, memoryGood, namesGood}
 use Rattle.releases.specs.laws.Tenants.{Holds, each-memory, memory-each}
@@ -68,6 +69,14 @@ module _ (b : Book) where
   pub both-book : soundB (b .state) (b .table) ≡ true → memoryGood b ≡ true → boardGood b ≡ true → namesGood b ≡ true → bookB b ≡ true
   unfolding bookB
   both-book v m g w = and-both v (and-both m (and-both g w))
+
+  -- its board is what its leases say
+  pub book-board : bookB b ≡ true → b .memory .board ≡ boardOf (leasesOf (b .table))
+  book-board v = agrees-is (b .table) (b .memory .board) (book-agrees v)
+
+-- so of the same leases there is one board
+pub same-board : (a b : Book) → bookB a ≡ true → bookB b ≡ true → a .table ≡ b .table → a .memory .board ≡ b .memory .board
+same-board a b v w e = book-board a v ∙ ap (λ (t : LeaseTable). boardOf (leasesOf t)) e ∙ sym (book-board b w)
 
 -- ---- the clock is raised and the ended leases are dropped
 pub advanced-names : (b : Book) (time : ℕ) → advanced b time .names ≡ b .names

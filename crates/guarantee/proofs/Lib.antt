@@ -9,6 +9,7 @@ mod Codes
 pub mod Replies
 pub mod Walked
 pub mod Answers
+pub mod Board
 mod Held
 pub mod Bounded
 mod Alike

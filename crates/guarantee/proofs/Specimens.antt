@@ -1,5 +1,5 @@
 -- Specimens: document 01's specimens P1 to P12, those of skew and a few more, on whole datagrams, whole replies and the book afterwards, by computation: one table of
--- cases, one theorem; offers held (document 02, W-205) among them; a second table of a RELEASE sent again (W-202); and the premises of the statements, met on the same book.
+-- cases, one theorem; offers held (document 02, W-205) among them; a second table of a RELEASE sent again (W-202); a third of the board (W-207); and the premises of the statements, met on the same book.
 use mathlib.Core.Path.{_≡_, refl, sym, ap, _∙_, subst}
 use mathlib.Core.List.{List, [], _∷_, _++_}
 use mathlib.Core.Bool.{Bool, true, false}
@@ -10,15 +10,18 @@ use lib.Dec.{eqb}
 use borrow.Author.Tests.{leb-true, ltb-true}
 use Rattle.lists.specs.Pick.{pick}
 use Rattle.lists.specs.All.{All, allBy}
+use Rattle.occupancy.specs.declared.Board.{Board}
+use Rattle.occupancy.specs.Board.{addedTo, entryAt, heldIn, noBoard, scopeIn}
 use Rattle.state.specs.Book.{Book, laidReleases, releaseId, remembered, tableOf, zeroScope, idOf, leasesOf}
 use Rattle.server.specs.Serve.{Call, serveOf, Answer}
-use Rattle.guarantee.specs.Statement.{Demand3, Elsewhere, Granted, GrantedAsOffered, NewRequest, NoHold, OfferHeld, SoundBook, TakesUp, run, saysOf, tenantFor, Discovers, Narrow, Offered, OfferRule}
+use Rattle.guarantee.specs.Statement.{BoardStays, Demand3, Elsewhere, Granted, GrantedAsOffered, NewRequest, NoHold, OfferHeld, SoundBook, TakesUp, dropsTo, editMoves, movesFor, run, saysOf, tenantFor, Discovers, Narrow, Offered, OfferRule}
 use Rattle.state.specs.declared.Lease.{Lease}
 use Rattle.state.specs.declared.Release.{Release}
 use Rattle.state.specs.declared.TenantReleases.{TenantReleases}
 use Rattle.state.specs.laws.Layout.{table-back}
 use Rattle.decision.specs.Parts.{leaseIdIn}
 use Rattle.decision.specs.laws.Kept.{own-is}
+use Rattle.guarantee.proofs.Board.{board-stays}
 use Rattle.guarantee.proofs.Granted.{demand3}
 use Rattle.guarantee.proofs.Offers.{offer-rule}
 use Rattle.guarantee.proofs.Opened.{computed}
@@ -44,7 +47,7 @@ book = record {
     scopes = record { lowest = 0xEFC00000; size = 4; ttl = 15; reserve = 2 ∷ 1 ∷ replicate 6 0; limit = 3 ∷ 4 ∷ replicate 6 0 } ∷ replicate 3 zeroScope;
   };
   table = tableOf (replicate 8 []);
-  memory = record { releases = replicate 8 (laidReleases []) };
+  memory = record { releases = replicate 8 (laidReleases []); board = noBoard };
   names = 1 ∷ 1 ∷ english ++ 1 ∷ german ++ 0 ∷ [];
 }
 
@@ -501,13 +504,86 @@ abbrev remembering : ℕ → ℕ → ℕ → Book
 remembering h len time = record {
   state = book .state;
   table = book .table;
-  memory = record { releases = set (replicate 8 (laidReleases [])) h (laidReleases (record { «id_len» = len; id = 0 ∷ replicate 31 0; xid = 1; time = time } ∷ [])) };
+  memory = record { releases = set (replicate 8 (laidReleases [])) h (laidReleases (record { «id_len» = len; id = 0 ∷ replicate 31 0; xid = 1; time = time } ∷ [])); board = noBoard };
   names = book .names;
 }
 
 remembered-badly : (serveOf (remembering 2 2 1000) p1 .outcome ≡ 1) × (serveOf (remembering 1 2 1001) p1 .outcome ≡ 1) × (serveOf (remembering 1 1 1000) p1 .outcome ≡ 1) × (serveOf (remembering 1 2 1000) p1 .outcome ≡ 0)
 unfolding computed
 remembered-badly = (refl, refl, refl, refl)
+
+-- ---- W-207: the board
+-- what it says of the one scope, in numbers: owner and number of leases of each of the four addresses, then the houses' holdings
+abbrev pub address : Board → ℕ → List ℕ
+address b a = entryAt (scopeIn b 0) a .owner ∷ entryAt (scopeIn b 0) a .count ∷ []
+
+abbrev pub boardRow : Board → List ℕ
+boardRow b = address b 0 ++ address b 1 ++ address b 2 ++ address b 3 ++ heldIn (scopeIn b 0) 0 ∷ heldIn (scopeIn b 0) 1 ∷ []
+
+-- such a row: two addresses of one owner and as many leases, the other two, the holdings
+abbrev pub shown : ℕ → ℕ → ℕ → ℕ → ℕ → ℕ → List ℕ
+shown h n g m a b = h ∷ n ∷ h ∷ n ∷ g ∷ m ∷ g ∷ m ∷ a ∷ b ∷ []
+
+-- some calls, and the board afterwards
+pub record BoardCase : Type 0 where
+  pub calls : List Call
+  pub board : List ℕ
+
+abbrev pub leave : List Call → List ℕ → BoardCase
+leave calls board = record { calls = calls; board = board }
+
+unfoldable pub showsOn : BoardCase → Board → Bool
+showsOn c b = same (boardRow b) (c .board)
+
+unfoldable pub shows : BoardCase → Bool
+shows c = showsOn c (run book (c .calls) .memory .board)
+
+unfoldable pub boardTable : List BoardCase
+boardTable =
+    leave [] (shown 0 0 0 0 0 0)
+    -- P1's lease is house 2's, P3's house 1's; P5's, at a later time, is on the addresses of P3's: two leases, one owner, and two addresses held
+    ∷ leave (p1 ∷ []) (shown 2 1 0 0 0 2)
+    ∷ leave (p1 ∷ p3 ∷ []) (shown 2 1 1 1 2 2)
+    ∷ leave (p1 ∷ p3 ∷ p5 ∷ []) (shown 2 1 1 2 2 2)
+    -- the drop: P3's has ended at 2000, P1's at 4600, P5's at 5600
+    ∷ leave (p1 ∷ p3 ∷ p5 ∷ house2 1999 getinfo ∷ []) (shown 2 1 1 2 2 2)
+    ∷ leave (p1 ∷ p3 ∷ p5 ∷ house2 2000 getinfo ∷ []) (shown 2 1 1 1 2 2)
+    ∷ leave (p1 ∷ p3 ∷ p5 ∷ house2 2000 getinfo ∷ house2 4600 getinfo ∷ []) (shown 0 0 1 1 2 0)
+    ∷ leave (p1 ∷ p3 ∷ p5 ∷ house2 5600 getinfo ∷ []) (shown 0 0 0 0 0 0)
+    -- an offer is held as a lease is, also while its REQUEST turns it into one; its RELEASE, and the lapse of a hold, leave nothing
+    ∷ leave (d3 ∷ []) (1 ∷ 1 ∷ 1 ∷ 1 ∷ 1 ∷ 1 ∷ 0 ∷ 0 ∷ 3 ∷ 0 ∷ [])
+    ∷ leave (d3 ∷ takesUp 1029 2 ∷ []) (1 ∷ 1 ∷ 1 ∷ 1 ∷ 1 ∷ 1 ∷ 0 ∷ 0 ∷ 3 ∷ 0 ∷ [])
+    ∷ leave (d3 ∷ takesUp 1029 2 ∷ r3 1030 ∷ []) (shown 0 0 0 0 0 0)
+    ∷ leave (d3 ∷ house2 1030 getinfo ∷ []) (shown 0 0 0 0 0 0)
+    -- a RENEW, a NAK and a discard move nothing
+    ∷ leave (p1 ∷ house2 2800 (renewAt 0x03 0xE8) ∷ []) (shown 2 1 0 0 0 2)
+    ∷ leave (p1 ∷ house1 1000 (request 4 0x42 3 3 []) ∷ []) (shown 2 1 0 0 0 2)
+    ∷ leave (p1 ∷ record { datagram = getinfo; client = 0x0A000105; time = 9000; room = 511 } ∷ []) (shown 2 1 0 0 0 2)
+    ∷ []
+
+pub board-specimens : allBy shows boardTable ≡ true
+unfolding computed boardTable same showsOn shows
+board-specimens = refl
+
+-- P3 after P1 meets the premises of what a call leaves of the board: it moves nothing of .0, nor of house 2
+board-met : (entryAt (scopeIn (serveOf (run book (p1 ∷ [])) p3 .book .memory .board) 0) 0 ≡ entryAt (scopeIn (run book (p1 ∷ []) .memory .board) 0) 0)
+    × (heldIn (scopeIn (serveOf (run book (p1 ∷ [])) p3 .book .memory .board) 0) 1 ≡ heldIn (scopeIn (run book (p1 ∷ []) .memory .board) 0) 1)
+unfolding BoardStays computed dropsTo editMoves movesFor
+board-met = let k = board-stays (run book (p1 ∷ [])) p3 in (k .entries 0 0 (ltb-true _ _ refl) refl, k .holdings 0 1 refl)
+
+-- a book whose board disagrees is unsound: with a lease that the book does not have, in the scope, past its size or in no scope of the book, before the room is
+-- looked at; and without one that it has
+abbrev boarded : Book → Board → Book
+boarded b x = record { state = b .state; table = b .table; memory = record { releases = b .memory .releases; board = x }; names = b .names }
+
+short : Call
+short = record { datagram = getinfo; client = 0x0A000105; time = 1000; room = 511 }
+
+boarded-badly : (serveOf (boarded book (addedTo noBoard 0 1 1)) short .outcome ∷ serveOf (boarded book (addedTo noBoard 0 1 16)) p1 .outcome ∷ serveOf (boarded book (addedTo noBoard 1 2 1)) p1 .outcome
+    ∷ serveOf (boarded (run book (p1 ∷ [])) noBoard) p3 .outcome ∷ serveOf (boarded book noBoard) p1 .outcome ∷ [])
+    ≡ 1 ∷ 1 ∷ 1 ∷ 1 ∷ 0 ∷ []
+unfolding computed short
+boarded-badly = refl
 
 -- ---- W-206: the outcome of a call on the book, and the offset that it carries
 told : List Call → List ℕ

@@ -1,145 +1,105 @@
--- Proof of what is claimed of the occupancy board (document 02, W-207): after any list of calls it is what the leases say, and a call alters no more of it than the
--- entries and holdings of what it moves.
-use Prim.Native.Nat.{ℕ, zero, suc, _+_, _<_}
+-- Proof of what is claimed of the occupancy board (document 02, W-207): after any list of calls it is what the leases say; so a call alters no entry whose leases
+-- stay and no holding whose tenant's leases in the scope stay, and past sizes and scopes there is nothing.
+use Prim.Native.Nat.{ℕ, zero, suc, _+_, _≤_, _<_, min}
 use mathlib.Core.Path.{_≡_, refl, sym, ap, ap₂, _∙_}
-use mathlib.Core.Bool.{Bool, true, false, not, _&&_}
-use mathlib.Core.List.{List, [], _∷_, _++_, map}
+use mathlib.Core.Bool.{Bool, true, false}
+use mathlib.Core.List.{List, [], _∷_}
+use native.Mathlib.Omega.{arith}
 use lib.Dec.{eqb, ltb}
-use borrow.Author.Tests.{eq-eqb}
+use lib.Bits.{bitOr, or-zero-l}
+use lib.ListN.{length, getD, length-map}
+use borrow.Author.Tests.{ltb-true, ltb-false, ne-eqb}
 use Rattle.lists.specs.Pick.{pick}
 use Rattle.lists.specs.All.{allBy}
-use Rattle.lists.specs.Filter.{isIn}
-use Rattle.lists.specs.Fold.{fold}
-use Rattle.lists.specs.laws.All.{all-cons, all-head}
+use Rattle.lists.specs.Filter.{filterBy}
+use Rattle.lists.specs.laws.All.{all-head}
 use Rattle.address_set.specs.AddressSet.{bit, offsets}
-use Rattle.address_set.specs.laws.Offsets.{in-bit}
+use Rattle.address_set.specs.laws.Bits.{bit-of-zero, offsets-of-zero}
 use Rattle.occupancy.specs.declared.Board.{Board}
-use Rattle.occupancy.specs.declared.Entry.{Entry}
-use Rattle.occupancy.specs.Board.{entryAt, grown, heldIn, lessOn, moreOn, scopeIn, shrunk}
-use Rattle.occupancy.specs.laws.Stays.{altered-entry, altered-held}
-use Rattle.message.specs.declared.Fields.{Fields}
-use Rattle.message.specs.laws.Placed.{pick-cases}
-use Rattle.message.specs.Read.{readOf}
-use Rattle.reply.specs.Reply.{leastRoom}
-use Rattle.state.specs.declared.Edit.{Edit}
+use Rattle.occupancy.specs.Board.{entryAt, heldIn, scopeIn}
 use Rattle.state.specs.declared.Lease.{Lease}
-use Rattle.state.specs.declared.LeaseTable.{LeaseTable}
-use Rattle.state.specs.Book.{Book, advanced, clearedTo, endedOf, inScope, raised, withLease, withoutLease}
-use Rattle.state.specs.Board.{isOn}
-use Rattle.state.specs.Edit.{boardEdited, boardLeft, noted}
-use Rattle.releases.specs.Whole.{bookB}
-use Rattle.releases.specs.laws.Whole.{book-board}
-use Rattle.soundness.specs.Sound.{tenantsIn}
+use Rattle.state.specs.declared.State.{State}
+use Rattle.state.specs.Book.{Book, addressesOf, heldOf, inScope, inUse, leasesOf, scopeAt, unionAll}
+use Rattle.state.specs.Board.{boardOf, isOn}
+use Rattle.state.specs.laws.Sets.{adds, addresses-cons}
+use Rattle.state.specs.laws.Unmoved.{board-entry, board-held, entry-none, entry-unmoved, held-unmoved}
+use Rattle.releases.specs.laws.Whole.{book-board, book-sound}
+use Rattle.soundness.specs.Sound.{scopesIn}
+use Rattle.soundness.specs.laws.Added.{each-at}
+use Rattle.soundness.specs.laws.Book.{Sound, leaseOk, sound-lists}
+use Rattle.soundness.specs.laws.Facts.{lease-facts}
+use Rattle.allocation.specs.laws.Kept.{held-below}
 use Rattle.decision.specs.Parts.{ownOf}
-use Rattle.decision.specs.laws.Cases.{no}
-use Rattle.server.specs.Serve.{Answer, Call, atClock, forServer, serveOf, tenantOf, withReading}
-use Rattle.guarantee.specs.Statement.{BoardAgrees, BoardKept, BoardStays, Move, bookAt, dropsTo, editFor, editMoves, movesFor, movesOf, offAddress, offTenant, run, saysOf, stateAt, tenantFor}
-use Rattle.guarantee.proofs.Kept.{run-sound}
+use Rattle.decision.specs.laws.Kept.{own-is}
+use Rattle.server.specs.Serve.{Call, serveOf}
+use Rattle.guarantee.specs.Statement.{BoardAgrees, BoardStays, BoardZero, SoundBook, run}
+use Rattle.guarantee.proofs.Kept.{call-sound, counts-few, run-sound}
 
 -- ---- after any list of calls
 pub board-agrees : BoardAgrees
 unfolding BoardAgrees
 board-agrees b v cs = book-board (run b cs) (run-sound b cs v .sound)
 
--- ---- what of the board a call leaves as it was: r is read of it, and no move for which u holds alters r
-all-parts : {A : Type 0} (t : A → Bool) (x y : List A) → allBy t (x ++ y) ≡ true → (allBy t x ≡ true) × (allBy t y ≡ true)
-unfolding allBy
-all-parts t [] y h = (refl, h)
-all-parts t (a ∷ x) y h = let p = all-head t a (x ++ y) h in let q = all-parts t x y (p .1) in (all-cons t a x (p .0) (q .0), q .1)
+-- ---- one call
+long : (b : Book) → SoundBook b → length (leasesOf (b .table)) ≡ 8
+long b v = length-map (b .table .tenants) inUse ∙ v .tenants
 
-record Steady {R : Type 0} (r : Board → R) (u : Move → Bool) : Type 0 where
-  gains : (b : Board) (g : ℕ) (l : Lease) → u (record { tenant = g; lease = l }) ≡ true → r (withLease g b l) ≡ r b
-  loses : (b : Board) (g : ℕ) (l : Lease) → u (record { tenant = g; lease = l }) ≡ true → r (withoutLease g b l) ≡ r b
-
-module _ {R : Type 0} (r : Board → R) (u : Move → Bool) (v : Steady r u) where
-  -- the drop of some of a tenant's leases, of those of the first n tenants, and an edit
-  ended-stays : (g : ℕ) (ls : List Lease) (b : Board) → allBy u (movesOf g ls) ≡ true → r (fold (withoutLease g) b ls) ≡ r b
-  ended-stays g [] b h = refl
-  ended-stays g (l ∷ ls) b h =
-      let p = all-head u (record { tenant = g; lease = l }) (movesOf g ls) h in
-      ended-stays g ls (withoutLease g b l) (p .1) ∙ v .loses b g l (p .0)
-
-  cleared-stays : (clock : ℕ) (t : LeaseTable) (b : Board) (n : ℕ) → allBy u (dropsTo clock t n) ≡ true → r (clearedTo clock t b n) ≡ r b
-  unfolding dropsTo clearedTo
-  cleared-stays clock t b zero h = refl
-  cleared-stays clock t b (suc n) h =
-      let p = all-parts u (dropsTo clock t n) (movesOf n (endedOf clock (ownOf t n))) h in
-      ended-stays n (endedOf clock (ownOf t n)) (clearedTo clock t b n) (p .1) ∙ cleared-stays clock t b n (p .0)
-
-  left-stays : (h : ℕ) (e : Edit) (b : Board) → allBy u (pick (e .leaves) (movesOf h (e .old ∷ [])) []) ≡ true → r (boardLeft e h b) ≡ r b
-  unfolding boardLeft pick
-  left-stays h e b = go (e .leaves)
-    where
-      go : (x : Bool) → allBy u (pick x (movesOf h (e .old ∷ [])) []) ≡ true → r (pick x (withoutLease h b (e .old)) b) ≡ r b
-      go true p = v .loses b h (e .old) (all-head u (record { tenant = h; lease = e .old }) [] p .0)
-      go false p = refl
-
-  edited-stays : (h : ℕ) (e : Edit) (b : Board) → allBy u (editMoves h e) ≡ true → r (boardEdited e h b) ≡ r b
-  unfolding editMoves boardEdited pick
-  edited-stays h e b p =
-      let q = all-parts u (pick (e .leaves) (movesOf h (e .old ∷ [])) []) (pick (e .enters) (movesOf h (e .new ∷ [])) []) p in
-      go (e .enters) (q .1) ∙ left-stays h e b (q .0)
-    where
-      go : (x : Bool) → allBy u (pick x (movesOf h (e .new ∷ [])) []) ≡ true → r (pick x (withLease h (boardLeft e h b) (e .new)) (boardLeft e h b)) ≡ r (boardLeft e h b)
-      go true q = v .gains (boardLeft e h b) h (e .new) (all-head u (record { tenant = h; lease = e .new }) [] q .0)
-      go false q = refl
-
-  -- the call: it changes nothing, drops what has ended, or edits a tenant's records then
-  module _ (b : Book) (c : Call) (none : allBy u (movesFor b c) ≡ true) where
-    Stays : Answer → Type 0
-    Stays a = r (a .book .memory .board) ≡ r (b .memory .board)
-
-    apart : (allBy u (dropsTo (stateAt b c .clock) (b .table) 8) ≡ true) × (allBy u (editMoves (tenantFor b c) (editFor b c)) ≡ true)
-    unfolding movesFor
-    apart = all-parts u (dropsTo (stateAt b c .clock) (b .table) 8) (editMoves (tenantFor b c) (editFor b c)) none
-
-    now-stays : r (bookAt b c .memory .board) ≡ r (b .memory .board)
-    unfolding advanced raised
-    now-stays = cleared-stays (stateAt b c .clock) (b .table) (b .memory .board) 8 (apart .0)
-
-    decided-stays : r (noted (editFor b c) (tenantFor b c) (bookAt b c .memory) .board) ≡ r (b .memory .board)
-    unfolding noted
-    decided-stays = edited-stays (tenantFor b c) (editFor b c) (bookAt b c .memory .board) (apart .1) ∙ now-stays
-
-    call-stays : r (serveOf b c .book .memory .board) ≡ r (b .memory .board)
-    unfolding serveOf atClock withReading forServer Stays
-    call-stays =
-        pick-cases Stays (bookB b) _ _
-        (λ _. pick-cases Stays (ltb (c .room) leastRoom) _ _ (λ _. refl)
-        (λ _. pick-cases Stays (ltb (tenantOf (bookAt b c .state) (c .client)) (tenantsIn (bookAt b c .state))) _ _
-        (λ _. pick-cases Stays (eqb (readOf (c .datagram) .discard) 0) _ _ (λ _. pick-cases Stays _ _ _ (λ _. now-stays) (λ _. decided-stays)) (λ _. now-stays)) (λ _. now-stays))) (λ _. refl)
-
--- ---- the entry of an address, and a holding
-not-both : (x y : Bool) → not (x && y) ≡ true → x ≡ true → y ≡ false
-not-both x true h e = sym h ∙ ap (λ (z : Bool). not (z && true)) e
-not-both x false h e = refl
-
-module _ (k x : ℕ) (small : x < 64) where
-  off : (l : Lease) → not (isOn (k + 1) x l) ≡ true → l .scope ≡ k + 1 → isIn x (offsets (l .addresses)) ≡ false
-  unfolding isOn
-  off l h e = in-bit (l .addresses) x small ∙ not-both (eqb (l .scope) (k + 1)) (eqb (bit (l .addresses) x) 1) h (eq-eqb (l .scope) (k + 1) e)
-
-  steady-entry : Steady (λ b. entryAt (scopeIn b k) x) (offAddress (k + 1) x)
-  unfolding withLease withoutLease
-  steady-entry = record {
-    gains = λ b g l h. altered-entry (moreOn g) grown b g (l .scope) (l .addresses) k x (off l h);
-    loses = λ b g l h. altered-entry lessOn shrunk b g (l .scope) (l .addresses) k x (off l h);
-  }
-
-module _ (k i : ℕ) where
-  other : (g : ℕ) (l : Lease) → not (inScope (k + 1) l && eqb g i) ≡ true → l .scope ≡ k + 1 → i ≡ g → ⊥
-  other g l h e f = no (sym (eq-eqb g i (sym f)) ∙ not-both (eqb (l .scope) (k + 1)) (eqb g i) h (eq-eqb (l .scope) (k + 1) e))
-
-  steady-held : Steady (λ b. heldIn (scopeIn b k) i) (offTenant (k + 1) i)
-  unfolding withLease withoutLease
-  steady-held = record {
-    gains = λ b g l h. altered-held (moreOn g) grown b g (l .scope) (l .addresses) k i (other g l h);
-    loses = λ b g l h. altered-held lessOn shrunk b g (l .scope) (l .addresses) k i (other g l h);
-  }
+-- what is told of a tenant's records goes for the leases that they stand for
+by-own : (u : Lease → Bool) (b w : Book) (g : ℕ) → filterBy u (ownOf (w .table) g) ≡ filterBy u (ownOf (b .table) g) → filterBy u (getD (leasesOf (w .table)) g []) ≡ filterBy u (getD (leasesOf (b .table)) g [])
+by-own u b w g e = ap (filterBy u) (sym (own-is (w .table) g)) ∙ e ∙ ap (filterBy u) (own-is (b .table) g)
 
 pub board-stays : BoardStays
 unfolding BoardStays
-board-stays b c = record {
-  entries = λ k x small none. call-stays (λ w. entryAt (scopeIn w k) x) (offAddress (k + 1) x) (steady-entry k x small) b c none;
-  holdings = λ k g none. call-stays (λ w. heldIn (scopeIn w k) g) (offTenant (k + 1) g) (steady-held k g) b c none;
-}
+board-stays b v c =
+    let w : Book = serveOf b c .book in
+    let u : SoundBook w = call-sound b c v in
+    let p : b .memory .board ≡ boardOf (leasesOf (b .table)) = book-board b (v .sound) in
+    let q : w .memory .board ≡ boardOf (leasesOf (w .table)) = book-board w (u .sound) in
+    record {
+      entries = λ k x here low f.
+          ap (λ (z : Board). entryAt (scopeIn z k) x) q ∙ board-entry (leasesOf (w .table)) k x here low
+          ∙ entry-unmoved (k + 1) x (leasesOf (w .table)) (leasesOf (b .table)) (long w u ∙ sym (long b v)) (λ g. by-own (isOn (k + 1) x) b w g (f g))
+          ∙ sym (board-entry (leasesOf (b .table)) k x here low) ∙ sym (ap (λ (z : Board). entryAt (scopeIn z k) x) p);
+      holdings = λ k g here known f.
+          let m = long w u in
+          let n = long b v in
+          ap (λ (z : Board). heldIn (scopeIn z k) g) q ∙ board-held (leasesOf (w .table)) k g here (omega arith)
+          ∙ held-unmoved (k + 1) (getD (leasesOf (w .table)) g []) (getD (leasesOf (b .table)) g []) (by-own (inScope (k + 1)) b w g f)
+          ∙ sym (board-held (leasesOf (b .table)) k g here (omega arith)) ∙ sym (ap (λ (z : Board). heldIn (scopeIn z k) g) p);
+    }
+
+-- ---- past a scope's size, and past the last scope
+-- no lease is in a scope past the last
+none-past : (s : State) (k : ℕ) → s .«scope_count» ≤ k → (x : List Lease) → allBy (leaseOk s) x ≡ true → heldOf (k + 1) x ≡ 0
+unfolding addressesOf filterBy unionAll pick
+none-past s k h [] e = refl
+none-past s k h (l ∷ x) e =
+    let p = all-head (leaseOk s) l x e in
+    let f = lease-facts s l (p .0) in
+    let known = f .scope-known in
+    let z : adds (inScope (k + 1)) l ≡ 0 = ap (λ (b : Bool). pick b (l .addresses) 0) (ne-eqb (l .scope) (k + 1) (λ q. absurd (omega arith))) in
+    addresses-cons (inScope (k + 1)) l x ∙ ap₂ bitOr z (none-past s k h x (p .1)) ∙ or-zero-l 0
+
+pub board-zero : BoardZero
+unfolding BoardZero
+board-zero b v =
+    let s : State = b .state in
+    let ts : List (List Lease) = leasesOf (b .table) in
+    let sound : Sound s ts = sound-lists s (b .table) (book-sound b (v .sound)) in
+    let p : b .memory .board ≡ boardOf ts = book-board b (v .sound) in
+    record {
+      entries = λ k x here low past.
+          ap (λ (z : Board). entryAt (scopeIn z k) x) p ∙ board-entry ts k x here low
+          ∙ entry-none (k + 1) x ts (λ g. nobody s ts sound k x here low past g (ltb k (s .«scope_count»)) refl);
+      holdings = λ k g here known past.
+          let n = long b v in
+          ap (λ (z : Board). heldIn (scopeIn z k) g) p ∙ board-held ts k g here (omega arith)
+          ∙ ap length (ap offsets (none-past s k past (getD ts g []) (each-at s ts sound g)) ∙ offsets-of-zero 0 64);
+    }
+  where
+    nobody : (s : State) (ts : List (List Lease)) → Sound s ts → (k x : ℕ) → k < 4 → x < 64 → scopeAt s k .size ≤ x → (g : ℕ) (t : Bool) → ltb k (s .«scope_count») ≡ t → bit (heldOf (k + 1) (getD ts g [])) x ≡ 0
+    nobody s ts sound k x here low past g true e =
+        let m = ltb-true k (s .«scope_count») e in
+        held-below s k (omega arith) (getD ts g []) (each-at s ts sound g) x low past
+    nobody s ts sound k x here low past g false e =
+        ap (λ (z : ℕ). bit z x) (none-past s k (ltb-false k (s .«scope_count») e) (getD ts g []) (each-at s ts sound g)) ∙ bit-of-zero x

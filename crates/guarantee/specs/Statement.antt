@@ -1,5 +1,5 @@
--- Statement: what the server guarantees: demand 3 as a single claim about any list of server calls, demand 1 about each call, the OFFER rule, and that an offer is
--- held. The buyer's sentences, and those of document 01's "Demand 3 in detail", are quoted beside what says them; '"lease" in demands 1 and 3 .. reads "lease or
+-- Statement: what the server guarantees: demand 3 as a single claim about any list of server calls, demand 1 about each call, the OFFER rule, that an offer is
+-- held, and the occupancy board. The buyer's sentences, and those of document 01's "Demand 3 in detail", are quoted beside what says them; '"lease" in demands 1 and 3 .. reads "lease or
 -- hold"' (document 02, W-205), so that each sentence on leases is one on records. A house is a tenant here, its share a reserve; tenants count from 0, a
 -- lease's scope from 1.
 use Prim.Native.Nat.{ℕ, zero, suc, _+_, _-_, _≤_, _<_, min, _^_}
@@ -12,7 +12,7 @@ use Rattle.lists.specs.Pick.{pick}
 use Rattle.lists.specs.All.{All, allBy}
 use Rattle.lists.specs.Filter.{filterBy, isIn}
 use Rattle.address_set.specs.AddressSet.{offsets}
-use Rattle.occupancy.specs.Board.{entryAt, heldIn, scopeIn}
+use Rattle.occupancy.specs.Board.{entryAt, heldIn, noEntry, scopeIn}
 use Rattle.message.specs.declared.Fields.{Fields}
 use Rattle.message.specs.Read.{longestDatagram, readOf}
 use Rattle.message.specs.Values.{fieldsOf}
@@ -286,51 +286,30 @@ unfoldable pub Demand1 : Type 0
 Demand1 = (b : Book) (c : Call) → Answered b c (serveOf b c)
 
 -- ---- the occupancy board (document 02, W-207)
--- a tenant's lease or hold that a call takes out of the book or puts into it
-pub record Move : Type 0 where
-  pub tenant : ℕ
-  pub lease : Lease
-
--- those of tenant g
-abbrev pub movesOf : ℕ → List Lease → List Move
-movesOf g ls = map (λ l. record { tenant = g; lease = l }) ls
-
--- what the drop takes out: of the first n tenants
-unfoldable pub dropsTo : ℕ → LeaseTable → ℕ → List Move
-dropsTo clock t zero = []
-dropsTo clock t (suc n) = dropsTo clock t n ++ movesOf n (endedOf clock (ownOf t n))
-
--- what the decision takes out and puts in
-unfoldable pub editMoves : ℕ → Edit → List Move
-editMoves h e = pick (e .leaves) (movesOf h (e .old ∷ [])) [] ++ pick (e .enters) (movesOf h (e .new ∷ [])) []
-
--- the decision on a call that comes so far, and no edit where it does not
-abbrev pub editFor : Book → Call → Edit
-editFor b c = decidedFor (bookAt b c) (tenantFor b c) (saysOf b c) .edit
-
--- all that a call can move
-unfoldable pub movesFor : Book → Call → List Move
-movesFor b c = dropsTo (stateAt b c .clock) (b .table) 8 ++ editMoves (tenantFor b c) (editFor b c)
-
--- a move that is not of an address of a scope, or not of a tenant's leases in a scope
-abbrev pub offAddress : ℕ → ℕ → Move → Bool
-offAddress s a m = not (isOn s a (m .lease))
-
-abbrev pub offTenant : ℕ → ℕ → Move → Bool
-offTenant s g m = not (inScope s (m .lease) && eqb (m .tenant) g)
-
--- what of the board stays: "A lease added or removed may alter only the entries of its addresses and its house's holding in its scope". Scope k + 1
-pub record BoardKept (b : Book) (c : Call) (a : Answer) : Type 0 where
-  pub entries : (k x : ℕ) → x < 64 → allBy (offAddress (k + 1) x) (movesFor b c) ≡ true → entryAt (scopeIn (a .book .memory .board) k) x ≡ entryAt (scopeIn (b .memory .board) k) x
-  pub holdings : (k g : ℕ) → allBy (offTenant (k + 1) g) (movesFor b c) ≡ true → heldIn (scopeIn (a .book .memory .board) k) g ≡ heldIn (scopeIn (b .memory .board) k) g
-
 -- "After any call on a sound book it equals what the leases say": after any list of them
 unfoldable pub BoardAgrees : Type 0
 BoardAgrees = (b : Book) → SoundBook b → (cs : List Call) → run b cs .memory .board ≡ boardOf (leasesOf (run b cs .table))
 
--- and whatever the book, no other entry and no other holding is altered
+-- "A lease added or removed may alter only the entries of its addresses and its house's holding in its scope": of scope k + 1
+pub record BoardKept (b : Book) (a : Answer) : Type 0 where
+  -- an offset on which no house's lease was added or removed keeps its entry
+  pub entries : (k x : ℕ) → k < 4 → x < 64 → ((g : ℕ) → filterBy (isOn (k + 1) x) (ownOf (a .book .table) g) ≡ filterBy (isOn (k + 1) x) (ownOf (b .table) g))
+      → entryAt (scopeIn (a .book .memory .board) k) x ≡ entryAt (scopeIn (b .memory .board) k) x
+  -- and a house of which none was in the scope keeps its holding there
+  pub holdings : (k g : ℕ) → k < 4 → g < 8 → filterBy (inScope (k + 1)) (ownOf (a .book .table) g) ≡ filterBy (inScope (k + 1)) (ownOf (b .table) g)
+      → heldIn (scopeIn (a .book .memory .board) k) g ≡ heldIn (scopeIn (b .memory .board) k) g
+
+-- of one lease, on any board, it is `AltersOnly` of `occupancy`
 unfoldable pub BoardStays : Type 0
-BoardStays = (b : Book) (c : Call) → BoardKept b c (serveOf b c)
+BoardStays = (b : Book) → SoundBook b → (c : Call) → BoardKept b (serveOf b c)
+
+-- what is past a scope's size, and past the last scope, whose size is 0, has no owner and no lease, and nothing is held there
+pub record ZeroPast (b : Book) : Type 0 where
+  pub entries : (k x : ℕ) → k < 4 → x < 64 → scopeAt (b .state) k .size ≤ x → entryAt (scopeIn (b .memory .board) k) x ≡ noEntry
+  pub holdings : (k g : ℕ) → k < 4 → g < 8 → b .state .«scope_count» ≤ k → heldIn (scopeIn (b .memory .board) k) g ≡ 0
+
+unfoldable pub BoardZero : Type 0
+BoardZero = (b : Book) → SoundBook b → ZeroPast b
 
 -- the names pass on unchanged through every list of calls
 unfoldable pub NamesStay : Type 0

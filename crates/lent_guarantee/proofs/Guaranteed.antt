@@ -150,13 +150,6 @@ module _ (l : Lent) (c : Call) where
   pub call-lent : LentAnswered l c (served l c)
   call-lent = by-number (LentAnswered l c) whole-answered other-answered
 
-  -- ---- the board
-  pub lent-kept : BoardKept (bookOf l) c (answerOf (l .names) (served l c))
-  unfolding BoardStays
-  lent-kept =
-      by-number (λ a. BoardKept (bookOf l) c (answerOf (l .names) a)) (λ long. subst (BoardKept (bookOf l) c) (sym (same k ls (l .names) c long)) (board-stays (bookOf l) c))
-      (λ _. record { entries = λ k x small none. refl; holdings = λ k g none. refl })
-
 pub lent-demand1 : LentDemand1
 unfolding LentDemand1
 lent-demand1 l c = call-lent l c
@@ -167,8 +160,10 @@ unfolding LentBoardAgrees
 lent-board-agrees l v cs = let r = run-lent l cs v in book-board (bookOf (runLent l cs)) (r .0 .sound)
 
 pub lent-board-stays : LentBoardStays
-unfolding LentBoardStays
-lent-board-stays l c = lent-kept l c
+unfolding LentBoardStays BoardStays
+lent-board-stays l v c =
+    subst (BoardKept (bookOf l)) (sym (same (l .ledger) (l .leases) (l .names) c (v .whole)))
+    (board-stays (bookOf l) (sound-book (l .ledger) (l .leases) (l .names) c (v .whole) (v .eight) (v .sound)) c)
 
 -- ---- the OFFER rule
 pub lent-offer-rule : LentOfferRule

@@ -112,9 +112,9 @@ LentDemand1 = (l : Lent) (c : Call) → LentAnswered l c (served l c)
 unfoldable pub LentBoardAgrees : Type 0
 LentBoardAgrees = (l : Lent) → SoundLent l → (cs : List Call) → runLent l cs .ledger .memory .board ≡ boardOf (leasesOf (tableFrom (runLent l cs .leases)))
 
--- and a call alters no more of it than the entries and holdings of what it moves, on any ledger, any number of records and any names
+-- and a call alters no more of it than the entries and holdings of what it adds and removes
 unfoldable pub LentBoardStays : Type 0
-LentBoardStays = (l : Lent) (c : Call) → BoardKept (bookOf l) c (answerOf (l .names) (served l c))
+LentBoardStays = (l : Lent) → SoundLent l → (c : Call) → BoardKept (bookOf l) (answerOf (l .names) (served l c))
 
 -- ---- the OFFER rule, on any ledger, any 128 records and any names
 unfoldable pub LentOfferRule : Type 0

@@ -40,12 +40,15 @@ zeroLedger = record { state = zeroState; memory = zeroMemory }
 unfoldable pub refused : ℕ → Loaded
 refused n = record { refusal = n; state = zeroState; table = zeroTable; memory = zeroMemory }
 
--- a file has no board: that of an accepted one is what its leases say (document 02, W-207)
 unfoldable pub accepted : State → LeaseTable → Memory → Loaded
-accepted s b m = record { refusal = 0; state = s; table = b; memory = record { releases = m .releases; board = boardOf (leasesOf b) } }
+accepted s b m = record { refusal = 0; state = s; table = b; memory = m }
+
+-- a file has no board: that of an accepted one is what its leases say (document 02, W-207)
+abbrev pub withBoard : LeaseTable → Memory → Memory
+withBoard b m = record { releases = m .releases; board = boardOf (leasesOf b) }
 
 unfoldable pub judged : State → LeaseTable → Memory → Loaded
-judged s b m = pick (soundB s b && memoryB s b m) (accepted s b m) (refused 21)
+judged s b m = pick (soundB s b && memoryB s b m) (accepted s b (withBoard b m)) (refused 21)
 
 -- 21 is an unsound file: one that the records cannot hold, or whose records or releases are unsound
 unfoldable pub loaded : File → Loaded

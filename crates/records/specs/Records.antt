@@ -8,10 +8,11 @@ use mathlib.Core.List.{List, [], _∷_, _++_, map}
 use lib.ListN.{length, replicate, take, drop}
 use lib.Seq.{paste}
 use Rattle.lists.specs.Place.{placeBy}
+use Rattle.occupancy.specs.declared.Board.{Board}
 use Rattle.state.specs.declared.Lease.{Lease}
 use Rattle.state.specs.declared.TenantLeases.{TenantLeases}
 use Rattle.state.specs.declared.LeaseTable.{LeaseTable}
-use Rattle.state.specs.Book.{dropped, zeroLease}
+use Rattle.state.specs.Book.{cleared, dropped, zeroLease}
 use Rattle.soundness.specs.declared.Held.{Held}
 use Rattle.soundness.specs.Sound.{unusedB}
 use Rattle.soundness.specs.Parts.{holdingsOf}

@@ -12,7 +12,9 @@ ghost use Rattle.soundness.specs.Sound.{unusedB};
 ghost use Rattle.names.specs.Names.{namesB};
 ghost use Rattle.soundness.specs.Parts.{holdingsOf, soundFrom, tableRulesOf};
 ghost use Rattle.releases.specs.Rules.{brokenRelease, releaseRulesOf};
+ghost use Rattle.occupancy.specs.Board.{sameBoard};
 ghost use Rattle.state.specs.Book.{leasesOf, tableOf, tenantAt, zeroLease};
+ghost use Rattle.state.specs.Board.{builtOf};
 ghost use Rattle.server.specs.Serve.{atClock};
 ghost use Rattle.state_file.specs.StateFile.{readFile};
 ghost use Rattle.records.specs.Records.{Drops, endsAfter, putRow, recordsOf, tableFrom, tenantFrom};
@@ -409,8 +411,9 @@ pub fn serve(
     let d = drop_ended(records, held, board, s.clock);
     let left = d.records;
     let sets = d.held;
+    let cleared = d.board;
     let mut now = memory;
-    now.board = d.board;
+    now.board = cleared;
     at_clock(s, now, left, sets, names, client, datagram, reply)
 }
 

@@ -7,7 +7,7 @@ ghost use Rattle.lists.specs.Fold.{fold};
 ghost use Rattle.lists.specs.Same.{sameBy};
 ghost use Rattle.address_set.specs.AddressSet.{offsets};
 ghost use Rattle.occupancy.specs.Split.{Splits};
-ghost use Rattle.occupancy.specs.Board.{noBoard, moreOn, lessOn, grown, shrunk, laidOn, liftedOff, addedTo, takenFrom, sameEntry, sameScope, sameBoard};
+ghost use Rattle.occupancy.specs.Board.{noBoard, moreOn, lessOn, grown, shrunk, laidOn, liftedOff, addedTo, takenFrom, scopeIn, entryAt, heldIn, sameEntry, sameScope, sameBoard};
 use address_set::Range;
 
 // An address: its owner, a tenant counted from 1, or 0 for none, and the number of leases on it.
@@ -263,4 +263,47 @@ pub fn same(a: Board, b: Board) -> bool
         }
     }
     true
+}
+
+// ---- polling
+
+// What stands on an address of a scope, counted from 0; no owner and no lease where there is none.
+fn entry_in(v: ScopeBoard, a: usize) -> Entry
+    ensures { λ r. ⌜ r ≡ entryAt v a ⌝ }
+{
+    if a < 64 {
+        return v.entries[a];
+    }
+    Entry { owner: 0, count: 0 }
+}
+
+// How many addresses of a scope tenant g, counted from 0, holds.
+fn held_in(v: ScopeBoard, g: usize) -> u8
+    ensures { λ r. ⌜ r ≡ heldIn v g ⌝ }
+{
+    if g < 8 {
+        return v.held[g];
+    }
+    0
+}
+
+// The same of scope k, counted from 0; of no scope nothing stands there.
+pub fn entry_at(b: Board, k: usize, a: usize) -> Entry
+    ensures { λ r. ⌜ r ≡ entryAt (scopeIn b k) a ⌝ }
+{
+    if k < 4 {
+        let v = b.scopes[k];
+        return entry_in(v, a);
+    }
+    Entry { owner: 0, count: 0 }
+}
+
+pub fn holding_at(b: Board, k: usize, g: usize) -> u8
+    ensures { λ r. ⌜ r ≡ heldIn (scopeIn b k) g ⌝ }
+{
+    if k < 4 {
+        let v = b.scopes[k];
+        return held_in(v, g);
+    }
+    0
 }

@@ -1,4 +1,4 @@
-// The product's entry points: the ledger, document 01's record of clock and settings with what is remembered, lent by `&mut` and updated where it
+// The product's entry points: the ledger, document 01's record of clock and settings with what is remembered and the board, lent by `&mut` and updated where it
 // stands, and its lease records lent as a slice. Each is a few whole values and calls; but for the copying loops of `load` and `store`, every decision is made by value in `records`
 // and below. Their proofs are walks by hand.
 ghost use mathlib.Core.Path.{_≡_};
@@ -57,7 +57,8 @@ pub fn find(leases: &[Lease], h: usize, id: [u8; 32], len: u8) -> Found
 }
 
 // One lease more among those of tenant h, in the order of identifiers; its records past its first unused one become unused. Where no record is
-// left, for no tenant, and of another number of records than 128 nothing changes.
+// left, for no tenant, and of another number of records than 128 nothing changes. The board is not altered: whoever changes records by hand does that by
+// `agreement::add`, else the book is unsound.
 pub fn insert(leases: &mut [Lease], h: usize, l: Lease)
     ensures { λ _. ⌜ now (leases .exit) ≡ insertLent h l (now (leases .entry)) ⌝ }
 {
@@ -67,7 +68,7 @@ pub fn insert(leases: &mut [Lease], h: usize, l: Lease)
 }
 
 // The lease of an identifier goes from among those of tenant h; its records past its first unused one become unused. For no tenant, and of
-// another number of records than 128, nothing changes.
+// another number of records than 128, nothing changes. The board is not altered (`agreement::take`).
 pub fn remove(leases: &mut [Lease], h: usize, id: [u8; 32], len: u8)
     ensures { λ _. ⌜ now (leases .exit) ≡ removeLent h (take len id) (now (leases .entry)) ⌝ }
 {
@@ -76,7 +77,8 @@ pub fn remove(leases: &mut [Lease], h: usize, id: [u8; 32], len: u8)
     store(leases, x);
 }
 
-// The call, with the names of the scopes lent. Another number of records than 128 is discard 1, and so are names that are not good for the settings.
+// The call, with the names of the scopes lent. Another number of records than 128 is discard 1, and so are names that are not good for the settings and
+// a board that disagrees with the leases.
 pub fn serve(
     datagram: &[u8],
     client: u32,
@@ -111,7 +113,7 @@ pub fn read(file: &[u8], ledger: &mut Ledger, leases: &mut [Lease]) -> u8
 }
 
 // Writes a state file from the lent ledger, records and names: its length, or refusal 22 and then 23, which write nothing. Another number of records
-// than 128 is 22, and so are names that are not good for the settings.
+// than 128 is 22, and so are names that are not good for the settings and a board that disagrees with the leases.
 pub fn write(ledger: &Ledger, leases: &[Lease], names: &[u8], room: &mut [u8]) -> Written
     ensures answer { λ r. ⌜ r ≡ writtenLent (now (ledger .entry)) (now (leases .entry)) (now (names .entry)) (length (now (room .entry))) ⌝ }
     ensures octets { λ r. ⌜ now (room .exit) ≡ roomLent (now (ledger .entry)) (now (leases .entry)) (now (names .entry)) (now (room .entry)) ⌝ }

@@ -17,7 +17,7 @@ use Rattle.occupancy.specs.declared.ScopeBoard.{ScopeBoard}
 use Rattle.occupancy.specs.declared.Board.{Board}
 
 -- ---- boards
--- "the owning house, or none, and the number of leases": none
+-- "the owning house, or none, and the number of leases": no owner and no lease
 abbrev pub noEntry : Entry
 noEntry = record { owner = 0; count = 0 }
 
@@ -27,7 +27,7 @@ emptyScope = record { entries = replicate 64 noEntry; held = replicate 8 0 }
 abbrev pub noBoard : Board
 noBoard = record { scopes = replicate 4 emptyScope }
 
--- what stands at a place, and for a place that there is not
+-- what stands at a place, counted from 0; past the last, nothing
 abbrev pub noScope : ScopeBoard
 noScope = record { entries = []; held = [] }
 

@@ -111,7 +111,7 @@ fn split(set: u64) -> Lowest
 }
 
 // One lease more on each offset of a set.
-pub fn lay(v: ScopeBoard, g: usize, set: u64) -> ScopeBoard
+fn lay(v: ScopeBoard, g: usize, set: u64) -> ScopeBoard
     requires { ⌜ g < 8 ⌝ }
     ensures { λ r. ⌜ r ≡ fold (laidOn g) v (offsets set) ⌝ }
 {

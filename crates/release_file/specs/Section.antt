@@ -50,6 +50,7 @@ abbrev pub releaseTenant : FileRelease → ℕ
 releaseTenant x = x .tenant
 
 -- tenant by tenant, from 1 to 8; a section says nothing of the board
+-- a file has no board: an empty one, until the reader makes it (`accepted` of state_file)
 unfoldable pub storedMemory : List FileRelease → Memory
 storedMemory xs = record { releases = map laidReleases (map (map storedRelease) (apart releaseTenant 1 8 xs)); board = noBoard }
 

@@ -19,7 +19,7 @@ use Rattle.state.specs.declared.Lease.{Lease}
 use Rattle.state.specs.declared.LeaseTable.{LeaseTable}
 use Rattle.state.specs.Book.{heldOf, heldCount, inScope, inUse, tenantAt, withLease}
 
--- "the owning house, or none": the first tenant that has offset a of scope s, counted from i, or 0
+-- "the owning house, or none": the number of the first tenant that has offset a of scope s, tenants numbered from i; 0 for none
 unfoldable pub ownerFrom : ℕ → ℕ → ℕ → List (List Lease) → ℕ
 ownerFrom i s a [] = 0
 ownerFrom i s a (x ∷ ts) = pick (eqb (bit (heldOf s x) a) 1) i (ownerFrom (suc i) s a ts)

@@ -1,5 +1,5 @@
 -- Definitions: lease records and the lists of leases that they stand for; document 01's book, a `State`, its settings and clock, with a `LeaseTable`, what
--- is remembered of releases and the names for the scopes.
+-- is remembered of releases with the occupancy board, and the names for the scopes.
 use Prim.Native.Nat.{ℕ, zero, suc, _+_, max}
 use mathlib.Core.Bool.{Bool, not, _&&_}
 use mathlib.Core.List.{List, [], _∷_, map}

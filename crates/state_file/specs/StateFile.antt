@@ -75,7 +75,7 @@ namesOf s = namesGot (fileOf s)
 unfoldable pub octetsOf : Book → List ℕ
 octetsOf b = fileFormat .write (filedBook b)
 
--- 22 is an unsound book, bad names, releases and a board that are lent among them, and 23 too little room, of which there are n octets
+-- 22 is an unsound book: bad names, bad releases and a board that disagrees, lent, make one too; and 23 too little room, of which there are n octets
 unfoldable pub writtenOf : Book → ℕ → Written
 writtenOf b n =
     pick (bookB b)

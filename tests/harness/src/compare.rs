@@ -190,17 +190,7 @@ fn count(case: &Case, expected: &Expected, tally: &mut Tally) -> Result<(), Diff
             weighed(before, &call, answer, tally)?;
             let why = judged_past.why(before, &call, answer.outcome, &answer.reply);
             why.into_iter().for_each(|why| tally.held(why));
-            let board = Board(answer.occupancy.clone());
-            occupied(after, &board, tally)?;
-            let seen = occupancy::Seen {
-                call: &call,
-                outcome: answer.outcome,
-                reply: &answer.reply,
-                before: (before, &stood),
-                after: (after, &board),
-            };
-            seen.why().into_iter().for_each(|why| tally.occupied(why));
-            stood = board;
+            stood = altered((before, &stood), after, &call, answer, tally)?;
         }
         (before, file) = (after, &answer.file);
         tally.call(&call.datagram, answer.outcome, &answer.reply);
@@ -388,6 +378,27 @@ fn occupied(campus: &Campus, board: &Board, tally: &mut Tally) -> Result<(), Dif
     let why = occupancy::of_board(campus, board);
     why.into_iter().for_each(|why| tally.occupied(why));
     Ok(())
+}
+
+/// The occupancy board that a call leaves; and what the call has done to the one before it.
+fn altered(
+    before: (&Campus, &Board),
+    after: &Campus,
+    call: &Call,
+    answer: &Answer,
+    tally: &mut Tally,
+) -> Result<Board, Difference> {
+    let board = Board(answer.occupancy.clone());
+    occupied(after, &board, tally)?;
+    let seen = occupancy::Seen {
+        call,
+        outcome: answer.outcome,
+        reply: &answer.reply,
+        before,
+        after: (after, &board),
+    };
+    seen.why().into_iter().for_each(|why| tally.occupied(why));
+    Ok(board)
 }
 
 /// The text in a room that is exactly large enough by its rule, or larger; nothing where it is smaller.

@@ -10,11 +10,11 @@ use Rattle.lists.specs.Same.{sameBy}
 use Rattle.address_set.specs.AddressSet.{bit, offsetsFrom, upTo}
 use Rattle.occupancy.specs.declared.Board.{Board}
 use Rattle.occupancy.specs.declared.Entry.{Entry}
-use Rattle.occupancy.specs.Board.{alteredBy, entryAt, grown, lessOn, moreOn, onOffset, sameBoard, sameEntry, sameScope, scopeIn, shrunk}
+use Rattle.occupancy.specs.Board.{alteredBy, entryAt, grown, lessOn, moreOn, onOffset, sameBoard, sameEntry, sameScopeBoard, scopeBoardAt, shrunk}
 use Rattle.state.specs.declared.Lease.{Lease}
 use Rattle.state.specs.declared.LeaseTable.{LeaseTable}
-use Rattle.state.specs.Book.{addressesOf, cleared, clearedTo, dropped, endedOf, isHold, laidOut, lapsingAt, leaseWith, leasesOf, liveOf, tableOf, unionAll, until, withLease, withoutLease}
-use Rattle.state.specs.Board.{boardOf, builtOf, builtTo, countIn, countOn, entrySaid, isOn, ownerFrom, scopeSaid}
+use Rattle.state.specs.Book.{addressesOf, cleared, clearedTo, dropped, endedOf, isHold, laidOut, lapsingAt, leaseWith, leasesOf, liveOf, tableOf, unionAll, until, boardWith, boardWithout}
+use Rattle.state.specs.Board.{boardOf, builtOf, builtTo, countIn, countOn, entryBy, isOn, ownerFrom, scopeBy}
 use Rattle.state.specs.Edit.{boardEdited, boardLeft, givingWay, leaving}
 use Rattle.agreement.specs.Agrees.{agreesB}
 
@@ -46,7 +46,7 @@ abbrev entry : ℕ → ℕ → Entry
 entry owner count = record { owner = owner; count = count }
 
 shown : Board → ℕ → List Entry
-shown b k = entryAt (scopeIn b k) 0 ∷ entryAt (scopeIn b k) 1 ∷ entryAt (scopeIn b k) 2 ∷ entryAt (scopeIn b k) 5 ∷ []
+shown b k = entryAt (scopeBoardAt b k) 0 ∷ entryAt (scopeBoardAt b k) 1 ∷ entryAt (scopeBoardAt b k) 2 ∷ entryAt (scopeBoardAt b k) 5 ∷ []
 
 holdings : Board → List (List ℕ)
 holdings b = map (λ v. take 3 (v .held)) (b .scopes)
@@ -54,11 +54,11 @@ holdings b = map (λ v. take 3 (v .held)) (b .scopes)
 -- two leases on one address count two and are one address held
 says : (shown board 0 ∷ shown board 1 ∷ shown board 2 ∷ [])
     ≡ (entry 1 1 ∷ entry 1 2 ∷ entry 0 0 ∷ entry 2 1 ∷ []) ∷ (entry 2 1 ∷ entry 0 0 ∷ entry 0 0 ∷ entry 0 0 ∷ []) ∷ (entry 0 0 ∷ entry 0 0 ∷ entry 0 0 ∷ entry 0 0 ∷ []) ∷ []
-unfolding table board shown tableOf laidOut boardOf scopeSaid entrySaid ownerFrom countOn countIn isOn addressesOf unionAll filterBy upTo offsetsFrom bit pick
+unfolding table board shown tableOf laidOut boardOf scopeBy entryBy ownerFrom countOn countIn isOn addressesOf unionAll filterBy upTo offsetsFrom bit pick
 says = refl
 
 holding : holdings board ≡ (2 ∷ 1 ∷ 0 ∷ []) ∷ (0 ∷ 1 ∷ 0 ∷ []) ∷ (0 ∷ 0 ∷ 0 ∷ []) ∷ (0 ∷ 0 ∷ 0 ∷ []) ∷ []
-unfolding table board holdings tableOf laidOut boardOf scopeSaid entrySaid ownerFrom countOn countIn isOn addressesOf unionAll filterBy upTo offsetsFrom bit pick
+unfolding table board holdings tableOf laidOut boardOf scopeBy entryBy ownerFrom countOn countIn isOn addressesOf unionAll filterBy upTo offsetsFrom bit pick
 holding = refl
 
 -- ---- at 100 the first tenant's first lease has ended and the hold has lapsed
@@ -66,19 +66,19 @@ after : Board
 after = cleared 100 table board
 
 dropped-says : (shown after 0 ∷ shown after 1 ∷ []) ≡ (entry 0 0 ∷ entry 1 1 ∷ entry 0 0 ∷ entry 2 1 ∷ []) ∷ (entry 0 0 ∷ entry 0 0 ∷ entry 0 0 ∷ entry 0 0 ∷ []) ∷ []
-unfolding table board after shown tableOf laidOut boardOf scopeSaid entrySaid ownerFrom countOn countIn isOn addressesOf unionAll filterBy upTo offsetsFrom bit pick clearedTo endedOf until isHold withoutLease alteredBy onOffset lessOn shrunk
+unfolding table board after shown tableOf laidOut boardOf scopeBy entryBy ownerFrom countOn countIn isOn addressesOf unionAll filterBy upTo offsetsFrom bit pick clearedTo endedOf until isHold boardWithout alteredBy onOffset lessOn shrunk
 dropped-says = refl
 
 dropped-holding : holdings after ≡ (1 ∷ 1 ∷ 0 ∷ []) ∷ (0 ∷ 0 ∷ 0 ∷ []) ∷ (0 ∷ 0 ∷ 0 ∷ []) ∷ (0 ∷ 0 ∷ 0 ∷ []) ∷ []
-unfolding table board after holdings tableOf laidOut boardOf scopeSaid entrySaid ownerFrom countOn countIn isOn addressesOf unionAll filterBy upTo offsetsFrom bit pick clearedTo endedOf until isHold withoutLease alteredBy onOffset lessOn shrunk
+unfolding table board after holdings tableOf laidOut boardOf scopeBy entryBy ownerFrom countOn countIn isOn addressesOf unionAll filterBy upTo offsetsFrom bit pick clearedTo endedOf until isHold boardWithout alteredBy onOffset lessOn shrunk
 dropped-holding = refl
 
 -- ---- which boards agree: the one that is built, and the one that is left after the drop with what it leaves; not one with a lease more, nor the one from before the drop
-agree : (agreesB table (builtOf table) ∷ agreesB (dropped 100 table) after ∷ agreesB table (withLease 0 board early) ∷ agreesB (dropped 100 table) board ∷ []) ≡ true ∷ true ∷ false ∷ false ∷ []
-unfolding table board after agreesB sameBoard sameScope sameEntry sameBy tableOf laidOut dropped liveOf boardOf scopeSaid entrySaid ownerFrom countOn countIn isOn addressesOf unionAll filterBy upTo offsetsFrom bit pick builtTo clearedTo endedOf until isHold withLease withoutLease alteredBy onOffset moreOn lessOn grown shrunk
+agree : (agreesB table (builtOf table) ∷ agreesB (dropped 100 table) after ∷ agreesB table (boardWith 0 board early) ∷ agreesB (dropped 100 table) board ∷ []) ≡ true ∷ true ∷ false ∷ false ∷ []
+unfolding table board after agreesB sameBoard sameScopeBoard sameEntry sameBy tableOf laidOut dropped liveOf boardOf scopeBy entryBy ownerFrom countOn countIn isOn addressesOf unionAll filterBy upTo offsetsFrom bit pick builtTo clearedTo endedOf until isHold boardWith boardWithout alteredBy onOffset moreOn lessOn grown shrunk
 agree = refl
 
 -- ---- a release takes the lease off, and a renewal leaves the board as it is
 edits : (shown (boardEdited (leaving early 9 50) 0 board) 0 ∷ shown (boardEdited (givingWay early (lease 1 1 0 900 3)) 0 board) 0 ∷ []) ≡ (entry 0 0 ∷ entry 1 1 ∷ entry 0 0 ∷ entry 2 1 ∷ []) ∷ shown board 0 ∷ []
-unfolding table board shown tableOf laidOut boardOf scopeSaid entrySaid ownerFrom countOn countIn isOn addressesOf unionAll filterBy upTo offsetsFrom bit pick boardEdited boardLeft withLease withoutLease alteredBy onOffset moreOn lessOn grown shrunk
+unfolding table board shown tableOf laidOut boardOf scopeBy entryBy ownerFrom countOn countIn isOn addressesOf unionAll filterBy upTo offsetsFrom bit pick boardEdited boardLeft boardWith boardWithout alteredBy onOffset moreOn lessOn grown shrunk
 edits = refl

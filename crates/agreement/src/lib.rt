@@ -2,7 +2,7 @@
 // and the board that leases make, with which a book's own is compared.
 ghost use mathlib.Core.Path.{_≡_};
 ghost use Rattle.lists.specs.Fold.{fold};
-ghost use Rattle.state.specs.Book.{endedOf, inUse, withLease, withoutLease};
+ghost use Rattle.state.specs.Book.{endedOf, inUse, boardWith, boardWithout};
 ghost use Rattle.state.specs.Edit.{boardEdited, boardLeft};
 ghost use Rattle.state.specs.Board.{builtOf};
 ghost use Rattle.occupancy.specs.Board.{sameBoard};
@@ -16,14 +16,14 @@ use state::TenantLeases;
 
 // The board with a lease of tenant h, counted from 0, more.
 pub fn add(b: Board, h: usize, l: Lease) -> Board
-    ensures { λ r. ⌜ r ≡ withLease h b l ⌝ }
+    ensures { λ r. ⌜ r ≡ boardWith h b l ⌝ }
 {
     occupancy::add(b, h, l.scope, l.addresses)
 }
 
 // And one less.
 pub fn take(b: Board, h: usize, l: Lease) -> Board
-    ensures { λ r. ⌜ r ≡ withoutLease h b l ⌝ }
+    ensures { λ r. ⌜ r ≡ boardWithout h b l ⌝ }
 {
     occupancy::take(b, h, l.scope, l.addresses)
 }
@@ -32,7 +32,7 @@ pub fn take(b: Board, h: usize, l: Lease) -> Board
 
 // A tenant's leases and holds that are not live at a clock are taken off.
 pub fn clear(b: Board, h: usize, t: TenantLeases, clock: u32) -> Board
-    ensures { λ r. ⌜ r ≡ fold (withoutLease h) b (endedOf clock (inUse t)) ⌝ }
+    ensures { λ r. ⌜ r ≡ fold (boardWithout h) b (endedOf clock (inUse t)) ⌝ }
 {
     let mut now = b;
     let n = state::cut16(t.count);
@@ -73,7 +73,7 @@ pub fn edited(b: Board, h: usize, e: Edit) -> Board
 
 // The board with all leases of one tenant more.
 pub fn add_tenant(b: Board, h: usize, t: TenantLeases) -> Board
-    ensures { λ r. ⌜ r ≡ fold (withLease h) b (inUse t) ⌝ }
+    ensures { λ r. ⌜ r ≡ fold (boardWith h) b (inUse t) ⌝ }
 {
     let mut now = b;
     let n = state::cut16(t.count);

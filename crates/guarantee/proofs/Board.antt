@@ -16,7 +16,7 @@ use Rattle.lists.specs.laws.All.{all-head}
 use Rattle.address_set.specs.AddressSet.{bit, offsets}
 use Rattle.address_set.specs.laws.Bits.{bit-of-zero, offsets-of-zero}
 use Rattle.occupancy.specs.declared.Board.{Board}
-use Rattle.occupancy.specs.Board.{entryAt, heldIn, scopeIn}
+use Rattle.occupancy.specs.Board.{entryAt, heldIn, scopeBoardAt}
 use Rattle.state.specs.declared.Lease.{Lease}
 use Rattle.state.specs.declared.State.{State}
 use Rattle.state.specs.Book.{Book, addressesOf, heldOf, inScope, inUse, leasesOf, scopeAt, unionAll}
@@ -57,15 +57,15 @@ board-stays b v c =
     let q : w .memory .board ≡ boardOf (leasesOf (w .table)) = book-board w (u .sound) in
     record {
       entries = λ k x here low f.
-          ap (λ (z : Board). entryAt (scopeIn z k) x) q ∙ board-entry (leasesOf (w .table)) k x here low
+          ap (λ (z : Board). entryAt (scopeBoardAt z k) x) q ∙ board-entry (leasesOf (w .table)) k x here low
           ∙ entry-unmoved (k + 1) x (leasesOf (w .table)) (leasesOf (b .table)) (long w u ∙ sym (long b v)) (λ g. by-own (isOn (k + 1) x) b w g (f g))
-          ∙ sym (board-entry (leasesOf (b .table)) k x here low) ∙ sym (ap (λ (z : Board). entryAt (scopeIn z k) x) p);
+          ∙ sym (board-entry (leasesOf (b .table)) k x here low) ∙ sym (ap (λ (z : Board). entryAt (scopeBoardAt z k) x) p);
       holdings = λ k g here known f.
           let m = long w u in
           let n = long b v in
-          ap (λ (z : Board). heldIn (scopeIn z k) g) q ∙ board-held (leasesOf (w .table)) k g here (omega arith)
+          ap (λ (z : Board). heldIn (scopeBoardAt z k) g) q ∙ board-held (leasesOf (w .table)) k g here (omega arith)
           ∙ held-unmoved (k + 1) (getD (leasesOf (w .table)) g []) (getD (leasesOf (b .table)) g []) (by-own (inScope (k + 1)) b w g f)
-          ∙ sym (board-held (leasesOf (b .table)) k g here (omega arith)) ∙ sym (ap (λ (z : Board). heldIn (scopeIn z k) g) p);
+          ∙ sym (board-held (leasesOf (b .table)) k g here (omega arith)) ∙ sym (ap (λ (z : Board). heldIn (scopeBoardAt z k) g) p);
     }
 
 -- ---- past a scope's size, and past the last scope
@@ -89,11 +89,11 @@ board-zero b v =
     let p : b .memory .board ≡ boardOf ts = book-board b (v .sound) in
     record {
       entries = λ k x here low past.
-          ap (λ (z : Board). entryAt (scopeIn z k) x) p ∙ board-entry ts k x here low
+          ap (λ (z : Board). entryAt (scopeBoardAt z k) x) p ∙ board-entry ts k x here low
           ∙ entry-none (k + 1) x ts (λ g. nobody s ts sound k x here low past g (ltb k (s .«scope_count»)) refl);
       holdings = λ k g here known past.
           let n = long b v in
-          ap (λ (z : Board). heldIn (scopeIn z k) g) p ∙ board-held ts k g here (omega arith)
+          ap (λ (z : Board). heldIn (scopeBoardAt z k) g) p ∙ board-held ts k g here (omega arith)
           ∙ ap length (ap offsets (none-past s k past (getD ts g []) (each-at s ts sound g)) ∙ offsets-of-zero 0 64);
     }
   where

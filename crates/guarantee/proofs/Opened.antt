@@ -10,14 +10,14 @@ use Rattle.lists.specs.Arranged.{insertIn}
 use Rattle.octets.specs.Octets.{at16, at32}
 use Rattle.identifier.specs.Order.{orderOf, sameOf}
 use Rattle.address_set.specs.AddressSet.{bit, differenceOf, joined, offsetsFrom, fewestRanges, setOf, upTo}
-use Rattle.occupancy.specs.Board.{alteredBy, grown, lessOn, moreOn, onOffset, sameBoard, sameEntry, sameScope, shrunk}
+use Rattle.occupancy.specs.Board.{alteredBy, grown, lessOn, moreOn, onOffset, sameBoard, sameEntry, sameScopeBoard, shrunk}
 use Rattle.message.specs.Codes.{allowedIn, allows, lengthOk}
 use Rattle.message.specs.Walk.{exactlyFilled, layoutOk, stepOf, optionTaken, valueOk, walkFrom, walkOf}
 use Rattle.message.specs.Read.{ended, headerOk, noneRequired, readOf, requiredEmpty}
 use Rattle.message.specs.Values.{allowedAt, codesFrom, fieldsOf, foundAt, namesServer, timesOf}
 use Rattle.reply.specs.Reply.{infoAckOf, leaseAckOf, messageOctets, nakOf, offerOf, optionsOctets, rangesOctets, releaseAckOf, scopesOctets}
-use Rattle.state.specs.Book.{addressesOf, advanced, byIdentifier, clearedTo, differ, dropped, endedOf, insertOf, laidOut, liveOf, overlaps, raised, removeOf, insertedIn, isHold, laidReleases, tableOf, until, withHeld, committed, unionAll, usedIn, withLease, withoutLease}
-use Rattle.state.specs.Board.{boardOf, countIn, countOn, entrySaid, isOn, ownerFrom, scopeSaid}
+use Rattle.state.specs.Book.{addressesOf, advanced, byIdentifier, clearedTo, differ, dropped, endedOf, insertOf, laidOut, liveOf, overlaps, raised, removeOf, insertedIn, isHold, laidReleases, tableOf, until, withHeld, committed, unionAll, usedIn, boardWith, boardWithout}
+use Rattle.state.specs.Board.{boardOf, countIn, countOn, entryBy, isOn, ownerFrom, scopeBy}
 use Rattle.state.specs.Edit.{applied, boardEdited, boardLeft, editedIn, forgetOf, leftIn, noted, notedIn, rememberOf}
 use Rattle.format.specs.Format.{readOctet, readTimes, then, writeAll}
 use Rattle.format.specs.Place.{isWhole}
@@ -76,7 +76,7 @@ sound-open = tt
 
 -- the occupancy board
 unfoldable pub board-open : Unit {0}
-unfolding sameBy moreOn lessOn grown shrunk onOffset alteredBy sameEntry sameScope sameBoard ownerFrom isOn countIn countOn entrySaid scopeSaid boardOf withLease withoutLease endedOf clearedTo boardLeft boardEdited agreesB
+unfolding sameBy moreOn lessOn grown shrunk onOffset alteredBy sameEntry sameScopeBoard sameBoard ownerFrom isOn countIn countOn entryBy scopeBy boardOf boardWith boardWithout endedOf clearedTo boardLeft boardEdited agreesB
 board-open = tt
 
 -- what is remembered

@@ -11,7 +11,7 @@ use borrow.Author.Tests.{leb-true, ltb-true}
 use Rattle.lists.specs.Pick.{pick}
 use Rattle.lists.specs.All.{All, allBy}
 use Rattle.occupancy.specs.declared.Board.{Board}
-use Rattle.occupancy.specs.Board.{addedTo, entryAt, heldIn, noBoard, scopeIn}
+use Rattle.occupancy.specs.Board.{addedTo, entryAt, heldIn, noBoard, scopeBoardAt}
 use Rattle.state.specs.Book.{Book, laidReleases, releaseId, remembered, tableOf, zeroScope, idOf, leasesOf}
 use Rattle.server.specs.Serve.{Call, serveOf, Answer}
 use Rattle.guarantee.specs.Statement.{BoardStays, Demand3, Elsewhere, Granted, GrantedAsOffered, NewRequest, NoHold, OfferHeld, SoundBook, TakesUp, dropsTo, editMoves, movesFor, run, saysOf, tenantFor, Discovers, Narrow, Offered, OfferRule}
@@ -515,10 +515,10 @@ remembered-badly = (refl, refl, refl, refl)
 -- ---- W-207: the board
 -- what it says of the one scope, in numbers: owner and number of leases of each of the four addresses, then the houses' holdings
 abbrev pub address : Board → ℕ → List ℕ
-address b a = entryAt (scopeIn b 0) a .owner ∷ entryAt (scopeIn b 0) a .count ∷ []
+address b a = entryAt (scopeBoardAt b 0) a .owner ∷ entryAt (scopeBoardAt b 0) a .count ∷ []
 
 abbrev pub boardRow : Board → List ℕ
-boardRow b = address b 0 ++ address b 1 ++ address b 2 ++ address b 3 ++ heldIn (scopeIn b 0) 0 ∷ heldIn (scopeIn b 0) 1 ∷ []
+boardRow b = address b 0 ++ address b 1 ++ address b 2 ++ address b 3 ++ heldIn (scopeBoardAt b 0) 0 ∷ heldIn (scopeBoardAt b 0) 1 ∷ []
 
 -- such a row: two addresses of one owner and as many leases, the other two, the holdings
 abbrev pub shown : ℕ → ℕ → ℕ → ℕ → ℕ → ℕ → List ℕ
@@ -566,8 +566,8 @@ unfolding computed boardTable same showsOn shows
 board-specimens = refl
 
 -- P3 after P1 meets the premises of what a call leaves of the board: it moves nothing of .0, nor of house 2
-board-met : (entryAt (scopeIn (serveOf (run book (p1 ∷ [])) p3 .book .memory .board) 0) 0 ≡ entryAt (scopeIn (run book (p1 ∷ []) .memory .board) 0) 0)
-    × (heldIn (scopeIn (serveOf (run book (p1 ∷ [])) p3 .book .memory .board) 0) 1 ≡ heldIn (scopeIn (run book (p1 ∷ []) .memory .board) 0) 1)
+board-met : (entryAt (scopeBoardAt (serveOf (run book (p1 ∷ [])) p3 .book .memory .board) 0) 0 ≡ entryAt (scopeBoardAt (run book (p1 ∷ []) .memory .board) 0) 0)
+    × (heldIn (scopeBoardAt (serveOf (run book (p1 ∷ [])) p3 .book .memory .board) 0) 1 ≡ heldIn (scopeBoardAt (run book (p1 ∷ []) .memory .board) 0) 1)
 unfolding BoardStays computed dropsTo editMoves movesFor
 board-met = let k = board-stays (run book (p1 ∷ [])) p3 in (k .entries 0 0 (ltb-true _ _ refl) refl, k .holdings 0 1 refl)
 

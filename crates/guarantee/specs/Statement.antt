@@ -12,7 +12,7 @@ use Rattle.lists.specs.Pick.{pick}
 use Rattle.lists.specs.All.{All, allBy}
 use Rattle.lists.specs.Filter.{filterBy, isIn}
 use Rattle.address_set.specs.AddressSet.{offsets}
-use Rattle.occupancy.specs.Board.{entryAt, heldIn, noEntry, scopeIn}
+use Rattle.occupancy.specs.Board.{entryAt, heldIn, noEntry, scopeBoardAt}
 use Rattle.message.specs.declared.Fields.{Fields}
 use Rattle.message.specs.Read.{longestDatagram, readOf}
 use Rattle.message.specs.Values.{fieldsOf}
@@ -294,10 +294,10 @@ BoardAgrees = (b : Book) → SoundBook b → (cs : List Call) → run b cs .memo
 pub record BoardKept (b : Book) (a : Answer) : Type 0 where
   -- an offset on which no house's lease was added or removed keeps its entry
   pub entries : (k x : ℕ) → k < 4 → x < 64 → ((g : ℕ) → filterBy (isOn (k + 1) x) (ownOf (a .book .table) g) ≡ filterBy (isOn (k + 1) x) (ownOf (b .table) g))
-      → entryAt (scopeIn (a .book .memory .board) k) x ≡ entryAt (scopeIn (b .memory .board) k) x
+      → entryAt (scopeBoardAt (a .book .memory .board) k) x ≡ entryAt (scopeBoardAt (b .memory .board) k) x
   -- and a house of which none was in the scope keeps its holding there
   pub holdings : (k g : ℕ) → k < 4 → g < 8 → filterBy (inScope (k + 1)) (ownOf (a .book .table) g) ≡ filterBy (inScope (k + 1)) (ownOf (b .table) g)
-      → heldIn (scopeIn (a .book .memory .board) k) g ≡ heldIn (scopeIn (b .memory .board) k) g
+      → heldIn (scopeBoardAt (a .book .memory .board) k) g ≡ heldIn (scopeBoardAt (b .memory .board) k) g
 
 -- of one lease, on any board, it is `AltersOnly` of `occupancy`
 unfoldable pub BoardStays : Type 0
@@ -305,8 +305,8 @@ BoardStays = (b : Book) → SoundBook b → (c : Call) → BoardKept b (serveOf 
 
 -- what is past a scope's size, and past the last scope, whose size is 0, has no owner and no lease, and nothing is held there
 pub record ZeroPast (b : Book) : Type 0 where
-  pub entries : (k x : ℕ) → k < 4 → x < 64 → scopeAt (b .state) k .size ≤ x → entryAt (scopeIn (b .memory .board) k) x ≡ noEntry
-  pub holdings : (k g : ℕ) → k < 4 → g < 8 → b .state .«scope_count» ≤ k → heldIn (scopeIn (b .memory .board) k) g ≡ 0
+  pub entries : (k x : ℕ) → k < 4 → x < 64 → scopeAt (b .state) k .size ≤ x → entryAt (scopeBoardAt (b .memory .board) k) x ≡ noEntry
+  pub holdings : (k g : ℕ) → k < 4 → g < 8 → b .state .«scope_count» ≤ k → heldIn (scopeBoardAt (b .memory .board) k) g ≡ 0
 
 unfoldable pub BoardZero : Type 0
 BoardZero = (b : Book) → SoundBook b → ZeroPast b

@@ -7,7 +7,7 @@ use Rattle.lists.specs.Pick.{pick}
 use Rattle.lists.specs.Same.{sameBy}
 use Rattle.address_set.specs.AddressSet.{bit, offsetsFrom}
 use Rattle.occupancy.specs.declared.Board.{Board}
-use Rattle.occupancy.specs.Board.{noBoard, entryAt, heldIn, scopeIn, moreOn, lessOn, grown, shrunk, onOffset, alteredBy, addedTo, takenFrom, sameEntry, sameScope, sameBoard}
+use Rattle.occupancy.specs.Board.{noBoard, entryAt, heldIn, scopeBoardAt, moreOn, lessOn, grown, shrunk, onOffset, alteredBy, addedTo, takenFrom, sameEntry, sameScopeBoard, sameBoard}
 
 -- the second tenant, in the third scope: offset 5 is set 32, offsets 4 and 5 are set 48
 abbrev one : Board
@@ -18,11 +18,11 @@ two = addedTo one 1 3 48
 
 -- owner and number of leases of some offsets of a scope, counted from 0
 abbrev entries : Board → ℕ → List ℕ → List (List ℕ)
-entries b k at = map (λ a. entryAt (scopeIn b k) a .owner ∷ entryAt (scopeIn b k) a .count ∷ []) at
+entries b k at = map (λ a. entryAt (scopeBoardAt b k) a .owner ∷ entryAt (scopeBoardAt b k) a .count ∷ []) at
 
 -- what the first three tenants hold there
 abbrev holdings : Board → ℕ → List ℕ
-holdings b k = map (heldIn (scopeIn b k)) (0 ∷ 1 ∷ 2 ∷ [])
+holdings b k = map (heldIn (scopeBoardAt b k)) (0 ∷ 1 ∷ 2 ∷ [])
 
 -- the owner counts from 1, and the offsets on both sides have none
 first : entries one 2 (4 ∷ 5 ∷ 6 ∷ []) ≡ (0 ∷ 0 ∷ []) ∷ (2 ∷ 1 ∷ []) ∷ (0 ∷ 0 ∷ []) ∷ []
@@ -77,12 +77,12 @@ unfolding alteredBy onOffset moreOn grown offsetsFrom bit pick
 ends = refl
 
 -- the last tenant and the last scope are known; a scope before the first or past the last alters nothing, nor does a tenant past the last
-last : map (λ g. heldIn (scopeIn (addedTo noBoard g 4 1) 3) g) (7 ∷ 8 ∷ []) ≡ 1 ∷ 0 ∷ []
+last : map (λ g. heldIn (scopeBoardAt (addedTo noBoard g 4 1) 3) g) (7 ∷ 8 ∷ []) ≡ 1 ∷ 0 ∷ []
 unfolding alteredBy onOffset moreOn grown offsetsFrom bit pick
 last = refl
 
 unknown : map (λ s. sameBoard (addedTo noBoard 7 s 1) noBoard) (0 ∷ 1 ∷ 4 ∷ 5 ∷ []) ≡ true ∷ false ∷ false ∷ true ∷ []
-unfolding alteredBy onOffset moreOn grown offsetsFrom bit pick sameBoard sameScope sameEntry sameBy
+unfolding alteredBy onOffset moreOn grown offsetsFrom bit pick sameBoard sameScopeBoard sameEntry sameBy
 unknown = refl
 
 no-tenant : addedTo noBoard 8 4 1 ≡ noBoard

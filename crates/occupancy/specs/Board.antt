@@ -21,15 +21,15 @@ use Rattle.occupancy.specs.declared.Board.{Board}
 abbrev pub noEntry : Entry
 noEntry = record { owner = 0; count = 0 }
 
-abbrev pub emptyScope : ScopeBoard
-emptyScope = record { entries = replicate 64 noEntry; held = replicate 8 0 }
+abbrev pub emptyScopeBoard : ScopeBoard
+emptyScopeBoard = record { entries = replicate 64 noEntry; held = replicate 8 0 }
 
 abbrev pub noBoard : Board
-noBoard = record { scopes = replicate 4 emptyScope }
+noBoard = record { scopes = replicate 4 emptyScopeBoard }
 
 -- what stands at a place, counted from 0; past the last, nothing
-abbrev pub noScope : ScopeBoard
-noScope = record { entries = []; held = [] }
+abbrev pub noScopeBoard : ScopeBoard
+noScopeBoard = record { entries = []; held = [] }
 
 abbrev pub entryAt : ScopeBoard → ℕ → Entry
 entryAt v a = getD (v .entries) a noEntry
@@ -37,8 +37,8 @@ entryAt v a = getD (v .entries) a noEntry
 abbrev pub heldIn : ScopeBoard → ℕ → ℕ
 heldIn v g = getD (v .held) g 0
 
-abbrev pub scopeIn : Board → ℕ → ScopeBoard
-scopeIn b k = getD (b .scopes) k noScope
+abbrev pub scopeBoardAt : Board → ℕ → ScopeBoard
+scopeBoardAt b k = getD (b .scopes) k noScopeBoard
 
 -- ---- one lease of tenant g more or less on an offset: counts end at 255, so that every board has an answer
 unfoldable pub moreOn : ℕ → Entry → Entry
@@ -71,7 +71,7 @@ alteredBy f b g s m =
     pick (ltb 0 s)
     (pick (ltb (s - 1) 4)
     (pick (ltb g 8)
-    (record { scopes = set (b .scopes) (s - 1) (fold f (scopeIn b (s - 1)) (offsets m)) })
+    (record { scopes = set (b .scopes) (s - 1) (fold f (scopeBoardAt b (s - 1)) (offsets m)) })
     b) b) b
 
 abbrev pub addedTo : Board → ℕ → ℕ → ℕ → Board
@@ -82,15 +82,15 @@ takenFrom b g s m = alteredBy (liftedOff g) b g s m
 
 -- "A lease added or removed may alter only the entries of its addresses and its house's holding in its scope": r is b but for these. Places count from 0
 pub record AltersOnly (b : Board) (g s m : ℕ) (r : Board) : Type 0 where
-  pub entries : (k a : ℕ) → (s ≡ k + 1 → isIn a (offsets m) ≡ false) → entryAt (scopeIn r k) a ≡ entryAt (scopeIn b k) a
-  pub holdings : (k i : ℕ) → (s ≡ k + 1 → i ≡ g → ⊥) → heldIn (scopeIn r k) i ≡ heldIn (scopeIn b k) i
+  pub entries : (k a : ℕ) → (s ≡ k + 1 → isIn a (offsets m) ≡ false) → entryAt (scopeBoardAt r k) a ≡ entryAt (scopeBoardAt b k) a
+  pub holdings : (k i : ℕ) → (s ≡ k + 1 → i ≡ g → ⊥) → heldIn (scopeBoardAt r k) i ≡ heldIn (scopeBoardAt b k) i
 
 -- ---- two boards are the same
 unfoldable pub sameEntry : Entry → Entry → Bool
 sameEntry a b = eqb (a .owner) (b .owner) && eqb (a .count) (b .count)
 
-unfoldable pub sameScope : ScopeBoard → ScopeBoard → Bool
-sameScope v w = sameBy sameEntry (v .entries) (w .entries) && sameBy eqb (v .held) (w .held)
+unfoldable pub sameScopeBoard : ScopeBoard → ScopeBoard → Bool
+sameScopeBoard v w = sameBy sameEntry (v .entries) (w .entries) && sameBy eqb (v .held) (w .held)
 
 unfoldable pub sameBoard : Board → Board → Bool
-sameBoard a b = sameBy sameScope (a .scopes) (b .scopes)
+sameBoard a b = sameBy sameScopeBoard (a .scopes) (b .scopes)

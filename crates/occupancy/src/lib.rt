@@ -7,7 +7,7 @@ ghost use Rattle.lists.specs.Fold.{fold};
 ghost use Rattle.lists.specs.Same.{sameBy};
 ghost use Rattle.address_set.specs.AddressSet.{offsets};
 ghost use Rattle.occupancy.specs.Split.{Splits};
-ghost use Rattle.occupancy.specs.Board.{noBoard, moreOn, lessOn, grown, shrunk, laidOn, liftedOff, addedTo, takenFrom, scopeIn, entryAt, heldIn, sameEntry, sameScope, sameBoard};
+ghost use Rattle.occupancy.specs.Board.{noBoard, moreOn, lessOn, grown, shrunk, laidOn, liftedOff, addedTo, takenFrom, scopeBoardAt, entryAt, heldIn, sameEntry, sameScopeBoard, sameBoard};
 use address_set::Range;
 
 // An address: its owner, a tenant counted from 1, or 0 for none, and the number of leases on it.
@@ -241,7 +241,7 @@ fn same_held(a: ScopeBoard, b: ScopeBoard) -> bool
 }
 
 fn same_scope(a: ScopeBoard, b: ScopeBoard) -> bool
-    ensures { λ r. ⌜ r ≡ sameScope a b ⌝ }
+    ensures { λ r. ⌜ r ≡ sameScopeBoard a b ⌝ }
 {
     if same_entries(a, b) {
         return same_held(a, b);
@@ -289,7 +289,7 @@ fn held_in(v: ScopeBoard, g: usize) -> u8
 
 // The same of scope k, counted from 0; of no scope nothing stands there.
 pub fn entry_at(b: Board, k: usize, a: usize) -> Entry
-    ensures { λ r. ⌜ r ≡ entryAt (scopeIn b k) a ⌝ }
+    ensures { λ r. ⌜ r ≡ entryAt (scopeBoardAt b k) a ⌝ }
 {
     if k < 4 {
         let v = b.scopes[k];
@@ -299,7 +299,7 @@ pub fn entry_at(b: Board, k: usize, a: usize) -> Entry
 }
 
 pub fn holding_at(b: Board, k: usize, g: usize) -> u8
-    ensures { λ r. ⌜ r ≡ heldIn (scopeIn b k) g ⌝ }
+    ensures { λ r. ⌜ r ≡ heldIn (scopeBoardAt b k) g ⌝ }
 {
     if k < 4 {
         let v = b.scopes[k];

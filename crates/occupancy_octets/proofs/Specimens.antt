@@ -3,7 +3,7 @@ use mathlib.Core.List.{[], _++_, _∷_}
 use mathlib.Core.Path.{_≡_, refl}
 use lib.ListN.{replicate}
 use Rattle.format.specs.Format.{writeAll}
-use Rattle.occupancy.specs.Board.{emptyScope, noBoard, noEntry}
+use Rattle.occupancy.specs.Board.{emptyScopeBoard, noBoard, noEntry}
 use Rattle.occupancy.specs.declared.Board.{Board}
 use Rattle.occupancy_octets.specs.Octets.{boardOctets, boardSize, entryOctets, scopeOctets}
 
@@ -14,11 +14,11 @@ none = refl
 -- in the second scope tenant 3 has two leases on offset 1, and tenant 8 one on offset 63; nobody has any in the others
 two : Board
 two = record {
-  scopes = emptyScope ∷ record {
+  scopes = emptyScopeBoard ∷ record {
     entries = noEntry ∷ record { owner = 3; count = 2 } ∷ replicate 61 noEntry ++ record { owner = 8; count = 1 } ∷ [];
     held = 0 ∷ 0 ∷ 1 ∷ 0 ∷ 0 ∷ 0 ∷ 0 ∷ 1 ∷ [];
   }
-      ∷ emptyScope ∷ emptyScope ∷ [];
+      ∷ emptyScopeBoard ∷ emptyScopeBoard ∷ [];
 }
 
 two-octets : boardOctets two ≡ replicate 136 0 ++ (0 ∷ 0 ∷ 3 ∷ 2 ∷ replicate 122 0) ++ (8 ∷ 1 ∷ 0 ∷ 0 ∷ 1 ∷ 0 ∷ 0 ∷ 0 ∷ 0 ∷ 1 ∷ []) ++ replicate 272 0

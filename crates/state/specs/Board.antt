@@ -17,7 +17,7 @@ use Rattle.occupancy.specs.declared.Board.{Board}
 use Rattle.occupancy.specs.Board.{noBoard}
 use Rattle.state.specs.declared.Lease.{Lease}
 use Rattle.state.specs.declared.LeaseTable.{LeaseTable}
-use Rattle.state.specs.Book.{heldOf, heldCount, inScope, inUse, tenantAt, withLease}
+use Rattle.state.specs.Book.{heldOf, heldCount, inScope, inUse, tenantAt, boardWith}
 
 -- "the owning house, or none": the number of the first tenant that has offset a of scope s, tenants numbered from i; 0 for none
 unfoldable pub ownerFrom : ℕ → ℕ → ℕ → List (List Lease) → ℕ
@@ -35,20 +35,20 @@ unfoldable pub countOn : ℕ → ℕ → List (List Lease) → ℕ
 countOn s a [] = 0
 countOn s a (x ∷ ts) = countIn s a x + countOn s a ts
 
-unfoldable pub entrySaid : List (List Lease) → ℕ → ℕ → Entry
-entrySaid ts s a = record { owner = ownerFrom 1 s a ts; count = countOn s a ts }
+unfoldable pub entryBy : List (List Lease) → ℕ → ℕ → Entry
+entryBy ts s a = record { owner = ownerFrom 1 s a ts; count = countOn s a ts }
 
-unfoldable pub scopeSaid : List (List Lease) → ℕ → ScopeBoard
-scopeSaid ts s = record { entries = map (entrySaid ts s) (upTo 64); held = map (heldCount s) ts }
+unfoldable pub scopeBy : List (List Lease) → ℕ → ScopeBoard
+scopeBy ts s = record { entries = map (entryBy ts s) (upTo 64); held = map (heldCount s) ts }
 
 unfoldable pub boardOf : List (List Lease) → Board
-boardOf ts = record { scopes = map (scopeSaid ts) (1 ∷ 2 ∷ 3 ∷ 4 ∷ []) }
+boardOf ts = record { scopes = map (scopeBy ts) (1 ∷ 2 ∷ 3 ∷ 4 ∷ []) }
 
 -- ---- the same, made by adding one lease after the other to an empty board: those of the first k tenants. In a sound book it is what the leases say
 -- (`built-is` of agreement)
 unfoldable pub builtTo : LeaseTable → ℕ → Board
 builtTo t zero = noBoard
-builtTo t (suc k) = fold (withLease k) (builtTo t k) (inUse (tenantAt t k))
+builtTo t (suc k) = fold (boardWith k) (builtTo t k) (inUse (tenantAt t k))
 
 abbrev pub builtOf : LeaseTable → Board
 builtOf t = builtTo t 8

@@ -201,11 +201,11 @@ dropped clock t = tableOf (map (liveOf clock) (leasesOf t))
 
 -- ---- the occupancy board (document 02, W-207): "A lease added or removed may alter only the entries of its addresses and its house's holding in its scope"
 -- (`addedTo`, `takenFrom`); "holds count as leases". Tenant h, counted from 0, has one record more, or one less
-unfoldable pub withLease : ℕ → Board → Lease → Board
-withLease h b l = addedTo b h (l .scope) (l .addresses)
+unfoldable pub boardWith : ℕ → Board → Lease → Board
+boardWith h b l = addedTo b h (l .scope) (l .addresses)
 
-unfoldable pub withoutLease : ℕ → Board → Lease → Board
-withoutLease h b l = takenFrom b h (l .scope) (l .addresses)
+unfoldable pub boardWithout : ℕ → Board → Lease → Board
+boardWithout h b l = takenFrom b h (l .scope) (l .addresses)
 
 -- the leases and holds that are not live at a clock
 unfoldable pub endedOf : ℕ → List Lease → List Lease
@@ -214,7 +214,7 @@ endedOf clock ls = filterBy (λ l. not (live clock l)) ls
 -- they are taken off the board, one after the other: those of the first k tenants
 unfoldable pub clearedTo : ℕ → LeaseTable → Board → ℕ → Board
 clearedTo clock t b zero = b
-clearedTo clock t b (suc k) = fold (withoutLease k) (clearedTo clock t b k) (endedOf clock (inUse (tenantAt t k)))
+clearedTo clock t b (suc k) = fold (boardWithout k) (clearedTo clock t b k) (endedOf clock (inUse (tenantAt t k)))
 
 abbrev pub cleared : ℕ → LeaseTable → Board → Board
 cleared clock t b = clearedTo clock t b 8

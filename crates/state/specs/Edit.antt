@@ -13,7 +13,7 @@ use Rattle.state.specs.declared.Release.{Release}
 use Rattle.state.specs.declared.TenantReleases.{TenantReleases}
 use Rattle.state.specs.declared.Memory.{Memory}
 use Rattle.state.specs.declared.Edit.{Edit}
-use Rattle.state.specs.Book.{Book, changedTo, zeroLease, zeroRelease, inUse, laidOut, tenantAt, putAt, idOf, insertedIn, removeOf, remembered, laidReleases, releasesAt, otherRelease, withLease, withoutLease}
+use Rattle.state.specs.Book.{Book, changedTo, zeroLease, zeroRelease, inUse, laidOut, tenantAt, putAt, idOf, insertedIn, removeOf, remembered, laidReleases, releasesAt, otherRelease, boardWith, boardWithout}
 
 abbrev pub noEdit : Edit
 noEdit = record { leaves = false; old = zeroLease; enters = false; new = zeroLease; forgets = false; remembers = false; release = zeroRelease }
@@ -68,11 +68,11 @@ notedIn e q =
 
 -- ---- the board (document 02, W-207): what leaves is taken off it
 unfoldable pub boardLeft : Edit → ℕ → Board → Board
-boardLeft e h b = pick (e .leaves) (withoutLease h b (e .old)) b
+boardLeft e h b = pick (e .leaves) (boardWithout h b (e .old)) b
 
 -- and what enters is added
 unfoldable pub boardEdited : Edit → ℕ → Board → Board
-boardEdited e h b = pick (e .enters) (withLease h (boardLeft e h b) (e .new)) (boardLeft e h b)
+boardEdited e h b = pick (e .enters) (boardWith h (boardLeft e h b) (e .new)) (boardLeft e h b)
 
 -- the memory, with the releases of the tenant at place h and the board so changed: the only way in which a call changes it, but for the drop
 unfoldable pub noted : Edit → ℕ → Memory → Memory

@@ -1,11 +1,11 @@
 -- `add` meets its contract: a lease of its scope and addresses.
-use Rattle.state.specs.Book.{withLease}
+use Rattle.state.specs.Book.{boardWith}
 use borrow.Author.Needs.{needs}
 use Rattle.agreement.proofs.add.Statement.{statement}
 use Rattle.agreement.proofs.add.Tie as tie
 
 pub add-spec : {M : Type 1} → statement M
-unfolding withLease
+unfolding boardWith
 add-spec =
     tie.close
     (tie.spec

@@ -2,14 +2,14 @@
 use Prim.Native.Nat.{_-_}
 use Rattle.lists.specs.Fold.{fold}
 use Rattle.lists.specs.laws.Part.{PartInv, parts}
-use Rattle.state.specs.Book.{inUse, withLease}
+use Rattle.state.specs.Book.{inUse, boardWith}
 use Rattle.state.specs.laws.Layout.{noLease}
 use borrow.Author.Needs.{needs}
 use Rattle.agreement.proofs.add_tenant.Statement.{statement}
 use Rattle.agreement.proofs.add_tenant.Tie as tie
 
 abbrev Inv-loop : tie.InvT-loop
-Inv-loop h t now₀ n i₀ now i = PartInv (withLease h) noLease (t .leases) n (fold (withLease h) now₀ (inUse t)) now i
+Inv-loop h t now₀ n i₀ now i = PartInv (boardWith h) noLease (t .leases) n (fold (boardWith h) now₀ (inUse t)) now i
 
 abbrev μ-loop : tie.MeasureT-loop
 μ-loop h t now₀ n i₀ now i = n - i

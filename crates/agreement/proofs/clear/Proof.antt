@@ -3,14 +3,14 @@ use Prim.Native.Nat.{_-_}
 use Rattle.agreement.specs.laws.Code.{clears, unlessLive}
 use Rattle.lists.specs.Fold.{fold}
 use Rattle.lists.specs.laws.Part.{PartInv, parts}
-use Rattle.state.specs.Book.{endedOf, inUse, withoutLease}
+use Rattle.state.specs.Book.{endedOf, inUse, boardWithout}
 use Rattle.state.specs.laws.Layout.{noLease}
 use borrow.Author.Needs.{needs}
 use Rattle.agreement.proofs.clear.Statement.{statement}
 use Rattle.agreement.proofs.clear.Tie as tie
 
 abbrev Inv-loop : tie.InvT-loop
-Inv-loop h clock t now₀ n i₀ now i = PartInv (unlessLive h clock) noLease (t .leases) n (fold (withoutLease h) now₀ (endedOf clock (inUse t))) now i
+Inv-loop h clock t now₀ n i₀ now i = PartInv (unlessLive h clock) noLease (t .leases) n (fold (boardWithout h) now₀ (endedOf clock (inUse t))) now i
 
 abbrev μ-loop : tie.MeasureT-loop
 μ-loop h clock t now₀ n i₀ now i = n - i

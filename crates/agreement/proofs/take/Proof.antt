@@ -1,11 +1,11 @@
 -- `take` meets its contract: a lease of its scope and addresses.
-use Rattle.state.specs.Book.{withoutLease}
+use Rattle.state.specs.Book.{boardWithout}
 use borrow.Author.Needs.{needs}
 use Rattle.agreement.proofs.take.Statement.{statement}
 use Rattle.agreement.proofs.take.Tie as tie
 
 pub take-spec : {M : Type 1} → statement M
-unfolding withoutLease
+unfolding boardWithout
 take-spec =
     tie.close
     (tie.spec

@@ -19,7 +19,7 @@ use Rattle.state.specs.declared.Lease.{Lease}
 use Rattle.state.specs.declared.LeaseTable.{LeaseTable}
 use Rattle.state.specs.declared.State.{State}
 use Rattle.state.specs.declared.TenantLeases.{TenantLeases}
-use Rattle.state.specs.Book.{Book, advanced, clearedTo, dropped, idOf, insertOf, insertedIn, inUse, laidOut, leasesOf, liveOf, removeOf, tableOf, tenantAt, withLease, withoutLease}
+use Rattle.state.specs.Book.{Book, advanced, clearedTo, dropped, idOf, insertOf, insertedIn, inUse, laidOut, leasesOf, liveOf, removeOf, tableOf, tenantAt, boardWith, boardWithout}
 use Rattle.state.specs.Board.{boardOf, builtOf}
 use Rattle.state.specs.Edit.{applied, boardEdited, boardLeft, editedIn, leftIn}
 use Rattle.state.specs.laws.Layout.{read-back, table-back}
@@ -99,9 +99,9 @@ module _ (s : State) (t : LeaseTable) (h : ℕ) (e : Edit) (v : Sound s (leasesO
   unfolding boardLeft leftIn pick
   left-is = go (e .leaves) refl
     where
-      go : (c : Bool) → e .leaves ≡ c → pick c (withoutLease h (boardOf ts) (e .old)) (boardOf ts) ≡ boardOf (set ts h (inUse (pick c (laidOut (removeOf (idOf (e .old)) own)) (tenantAt t h))))
+      go : (c : Bool) → e .leaves ≡ c → pick c (boardWithout h (boardOf ts) (e .old)) (boardOf ts) ≡ boardOf (set ts h (inUse (pick c (laidOut (removeOf (idOf (e .old)) own)) (tenantAt t h))))
       go true q =
-          ap (λ (x : List (List Lease)). withoutLease h (boardOf x) (e .old)) (sym before-is)
+          ap (λ (x : List (List Lease)). boardWithout h (boardOf x) (e .old)) (sym before-is)
           ∙ sym (one-less s ts v ts (same-within ts) h listed eighth (e .old) (removeOf (idOf (e .old)) own) own (subst (λ (x : List Lease). Part (getD ts h []) x) (sym (at-tenant t h)) (all-part (getD ts h []))) (fits .old q))
           ∙ ap (λ (x : List Lease). boardOf (set ts h x)) (sym (read-back (removeOf (idOf (e .old)) own)))
       go false q = ap boardOf (sym before-is)
@@ -133,9 +133,9 @@ module _ (s : State) (t : LeaseTable) (h : ℕ) (e : Edit) (v : Sound s (leasesO
       own-now : Part (getD now h []) end
       own-now = subst (λ (x : List Lease). Part (getD now h []) x) (getD-set-same ts h end [] listed) (all-part (getD now h []))
 
-      go : (c : Bool) → e .enters ≡ c → pick c (withLease h (boardLeft e h (boardOf ts)) (e .new)) (boardLeft e h (boardOf ts)) ≡ boardOf (set ts h end)
+      go : (c : Bool) → e .enters ≡ c → pick c (boardWith h (boardLeft e h (boardOf ts)) (e .new)) (boardLeft e h (boardOf ts)) ≡ boardOf (set ts h end)
       go true q =
-          ap (λ (x : Board). withLease h x (e .new)) (left-is ∙ ap boardOf (sym (set-set ts h end rest)))
+          ap (λ (x : Board). boardWith h x (e .new)) (left-is ∙ ap boardOf (sym (set-set ts h end rest)))
           ∙ sym (one-more s now sound-end now (same-within now) h there-now eighth (e .new) rest end own-now (subst (λ (x : List Lease). Reordered x (e .new ∷ rest)) (sym (entered q)) (insert-same (e .new) rest)))
           ∙ ap boardOf (set-set ts h end end)
       go false q = left-is ∙ ap (λ (x : List Lease). boardOf (set ts h x)) (sym (stayed q))

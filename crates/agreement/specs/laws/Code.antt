@@ -19,38 +19,38 @@ use Rattle.state.specs.declared.Edit.{Edit}
 use Rattle.state.specs.declared.Lease.{Lease}
 use Rattle.state.specs.declared.LeaseTable.{LeaseTable}
 use Rattle.state.specs.declared.TenantLeases.{TenantLeases}
-use Rattle.state.specs.Book.{endedOf, inUse, laidOut, live, withLease, withoutLease}
+use Rattle.state.specs.Book.{endedOf, inUse, laidOut, live, boardWith, boardWithout}
 use Rattle.state.specs.Board.{builtOf, builtTo}
 use Rattle.state.specs.Edit.{boardEdited, boardLeft}
 
 -- ---- an edit
-pub edited-board : (e : Edit) (h : ℕ) (b rest r : Board) → rest ≡ boardLeft e h b → r ≡ pick (e .enters) (withLease h rest (e .new)) rest → r ≡ boardEdited e h b
+pub edited-board : (e : Edit) (h : ℕ) (b rest r : Board) → rest ≡ boardLeft e h b → r ≡ pick (e .enters) (boardWith h rest (e .new)) rest → r ≡ boardEdited e h b
 unfolding boardEdited
-edited-board e h b rest r p q = q ∙ ap (λ (x : Board). pick (e .enters) (withLease h x (e .new)) x) p
+edited-board e h b rest r p q = q ∙ ap (λ (x : Board). pick (e .enters) (boardWith h x (e .new)) x) p
 
 -- ---- one tenant's records
 -- one turn: a record that is not live is taken off
 unfoldable pub unlessLive : ℕ → ℕ → Board → Lease → Board
-unlessLive h clock b l = pick (live clock l) b (withoutLease h b l)
+unlessLive h clock b l = pick (live clock l) b (boardWithout h b l)
 
-pub ended-off : (h clock : ℕ) (b : Board) (ls : List Lease) → fold (unlessLive h clock) b ls ≡ fold (withoutLease h) b (endedOf clock ls)
+pub ended-off : (h clock : ℕ) (b : Board) (ls : List Lease) → fold (unlessLive h clock) b ls ≡ fold (boardWithout h) b (endedOf clock ls)
 unfolding unlessLive endedOf filterBy pick
 ended-off h clock b [] = refl
 ended-off h clock b (l ∷ ls) = go (live clock l) (λ x. ended-off h clock x ls)
   where
-    go : (c : Bool) → ((x : Board) → fold (unlessLive h clock) x ls ≡ fold (withoutLease h) x (endedOf clock ls))
-        → fold (unlessLive h clock) (pick c b (withoutLease h b l)) ls ≡ fold (withoutLease h) b (pick (not c) (l ∷ endedOf clock ls) (endedOf clock ls))
+    go : (c : Bool) → ((x : Board) → fold (unlessLive h clock) x ls ≡ fold (boardWithout h) x (endedOf clock ls))
+        → fold (unlessLive h clock) (pick c b (boardWithout h b l)) ls ≡ fold (boardWithout h) b (pick (not c) (l ∷ endedOf clock ls) (endedOf clock ls))
     go true ih = ih b
-    go false ih = ih (withoutLease h b l)
+    go false ih = ih (boardWithout h b l)
 
 module _ (h clock : ℕ) (b : Board) (l : Lease) where
   pub still-live : {q : Bool} → q ≡ live clock l → not q ≡ false → b ≡ unlessLive h clock b l
   unfolding unlessLive
-  still-live {q} e y = pick-yes b (withoutLease h b l) b e (not-false q y) refl
+  still-live {q} e y = pick-yes b (boardWithout h b l) b e (not-false q y) refl
 
-  pub live-no-more : {q : Bool} {r : Board} → q ≡ live clock l → not q ≡ true → r ≡ withoutLease h b l → r ≡ unlessLive h clock b l
+  pub live-no-more : {q : Bool} {r : Board} → q ≡ live clock l → not q ≡ true → r ≡ boardWithout h b l → r ≡ unlessLive h clock b l
   unfolding unlessLive
-  live-no-more {q} {r} e n p = pick-no b (withoutLease h b l) r e (not-true q n) p
+  live-no-more {q} {r} e n p = pick-no b (boardWithout h b l) r e (not-true q n) p
 
 pub ruleset clears = (ended-off, still-live, live-no-more)
 
@@ -65,12 +65,12 @@ built-start e = record { within = omega arith; whole = e }
 
 module _ {t : LeaseTable} {now : Board} {h : ℕ} (v : BuiltInv t now h) where
   -- d is what the code's element is past the end
-  pub built-next : (d : TenantLeases) {r : Board} → length (t .tenants) ≡ 8 → h < 8 → r ≡ fold (withLease h) now (inUse (getD (t .tenants) h d)) → BuiltInv t r (h + 1)
+  pub built-next : (d : TenantLeases) {r : Board} → length (t .tenants) ≡ 8 → h < 8 → r ≡ fold (boardWith h) now (inUse (getD (t .tenants) h d)) → BuiltInv t r (h + 1)
   unfolding builtTo
   built-next d e p q = record {
     within = omega arith;
     whole =
-        q ∙ ap₂ (λ (b : Board) (x : TenantLeases). fold (withLease h) b (inUse x)) (v .whole) (at-in (t .tenants) 8 h d (laidOut []) e p)
+        q ∙ ap₂ (λ (b : Board) (x : TenantLeases). fold (boardWith h) b (inUse x)) (v .whole) (at-in (t .tenants) 8 h d (laidOut []) e p)
         ∙ sym (ap (builtTo t) (add-one h));
   }
 

@@ -19,7 +19,7 @@ use Rattle.address_set.specs.laws.Bits.{bit-le, bit-and, bit-of-zero}
 use Rattle.occupancy.specs.declared.Board.{Board}
 use Rattle.state.specs.declared.Lease.{Lease}
 use Rattle.state.specs.declared.State.{State}
-use Rattle.state.specs.Book.{heldOf, inScope, withLease, withoutLease}
+use Rattle.state.specs.Book.{heldOf, inScope, boardWith, boardWithout}
 use Rattle.state.specs.Board.{boardOf}
 use Rattle.state.specs.laws.Board.{board-gained, board-lost}
 use Rattle.state.specs.laws.Sets.{adds}
@@ -97,11 +97,11 @@ module _ (s : State) (ts : List (List Lease)) (v : Sound s ts) (now : List (List
     same : Reordered y (l ∷ getD (set now h x) h [])
     same = subst (λ (z : List Lease). Reordered y (l ∷ z)) (sym at) d
 
-    pub one-more : boardOf (set now h y) ≡ withLease h (boardOf (set now h x)) l
+    pub one-more : boardOf (set now h y) ≡ boardWith h (boardOf (set now h x)) l
     one-more = ap boardOf (sym (set-set now h x y)) ∙ board-gained l h (set now h x) y in-set known scope-some scope-known same few alone
 
-    pub one-less : boardOf (set now h x) ≡ withoutLease h (boardOf (set now h y)) l
-    one-less = board-lost l h (set now h x) y in-set known scope-some scope-known same few alone ∙ ap (λ (z : List (List Lease)). withoutLease h (boardOf z) l) (set-set now h x y)
+    pub one-less : boardOf (set now h x) ≡ boardWithout h (boardOf (set now h y)) l
+    one-less = board-lost l h (set now h x) y in-set known scope-some scope-known same few alone ∙ ap (λ (z : List (List Lease)). boardWithout h (boardOf z) l) (set-set now h x y)
 
   -- ---- a run of leases
   -- the order of a tenant's leases is nothing to the board
@@ -111,14 +111,14 @@ module _ (s : State) (ts : List (List Lease)) (v : Sound s ts) (now : List (List
   turned-board (l ∷ x) y p d =
       one-more l x (l ∷ x) p (Permᴰ·refl (l ∷ x)) ∙ sym (one-more l x y (part-front y [] p (List·Permᴰ·trans d (Permᴰ·symm (Permᴰ·append-nil y)))) (Permᴰ·symm d))
 
-  pub run-less : (e x y : List Lease) → Part (getD ts h []) x → Reordered x (e ++ y) → fold (withoutLease h) (boardOf (set now h x)) e ≡ boardOf (set now h y)
+  pub run-less : (e x y : List Lease) → Part (getD ts h []) x → Reordered x (e ++ y) → fold (boardWithout h) (boardOf (set now h x)) e ≡ boardOf (set now h y)
   run-less [] x y p d = turned-board x y p d
   run-less (l ∷ e) x y p d =
-      ap (λ (b : Board). fold (withoutLease h) b e) (sym (one-less l (e ++ y) x p d)) ∙ run-less e (e ++ y) y (part-behind (l ∷ []) (e ++ y) p d) (Permᴰ·refl (e ++ y))
+      ap (λ (b : Board). fold (boardWithout h) b e) (sym (one-less l (e ++ y) x p d)) ∙ run-less e (e ++ y) y (part-behind (l ∷ []) (e ++ y) p d) (Permᴰ·refl (e ++ y))
 
-  pub run-more : (e x y : List Lease) → Part (getD ts h []) x → Reordered x (e ++ y) → fold (withLease h) (boardOf (set now h y)) e ≡ boardOf (set now h x)
+  pub run-more : (e x y : List Lease) → Part (getD ts h []) x → Reordered x (e ++ y) → fold (boardWith h) (boardOf (set now h y)) e ≡ boardOf (set now h x)
   run-more [] x y p d = sym (turned-board x y p d)
   run-more (l ∷ e) x y p d =
       let f : Part (getD ts h []) (l ∷ y) = part-front (l ∷ y) e p (List·Permᴰ·trans d (List·Permᴰ·cons refl (turned e y))) in
-      ap (λ (b : Board). fold (withLease h) b e) (sym (one-more l y (l ∷ y) f (Permᴰ·refl (l ∷ y))))
+      ap (λ (b : Board). fold (boardWith h) b e) (sym (one-more l y (l ∷ y) f (Permᴰ·refl (l ∷ y))))
       ∙ run-more e x (l ∷ y) p (List·Permᴰ·trans d (Permᴰ·symm (Permᴰ·middle l e y)))

@@ -17,7 +17,7 @@ use Rattle.occupancy.specs.declared.Board.{Board}
 use Rattle.state.specs.declared.Lease.{Lease}
 use Rattle.state.specs.declared.LeaseTable.{LeaseTable}
 use Rattle.state.specs.declared.State.{State}
-use Rattle.state.specs.Book.{clearedTo, endedOf, inUse, laidOut, leasesOf, live, liveOf, tenantAt, withLease, withoutLease}
+use Rattle.state.specs.Book.{clearedTo, endedOf, inUse, laidOut, leasesOf, live, liveOf, tenantAt, boardWith, boardWithout}
 use Rattle.state.specs.Board.{boardOf, builtTo}
 use Rattle.state.specs.laws.Board.{empty-board}
 use Rattle.state.specs.laws.Layout.{read-back}
@@ -117,7 +117,7 @@ module _ (s : State) (t : LeaseTable) (v : Sound s (leasesOf t)) where
     unfolding endedOf liveOf
     apart-ended x = List·Permᴰ·trans (Permᴰ·symm (split-reordered (live clock) x)) (turned (liveOf clock x) (endedOf clock x))
 
-    cleared-step : (k : ℕ) → k < 8 → fold (withoutLease k) (boardOf (swept (leasesOf t) kept k)) (endedOf clock (getD (leasesOf t) k [])) ≡ boardOf (swept (leasesOf t) kept (suc k))
+    cleared-step : (k : ℕ) → k < 8 → fold (boardWithout k) (boardOf (swept (leasesOf t) kept k)) (endedOf clock (getD (leasesOf t) k [])) ≡ boardOf (swept (leasesOf t) kept (suc k))
     unfolding swept endedOf filterBy
     cleared-step k p = go (ltb k (length (swept (leasesOf t) kept k))) refl
       where
@@ -130,23 +130,23 @@ module _ (s : State) (t : LeaseTable) (v : Sound s (leasesOf t)) where
         as-was : getD now k [] ≡ own
         as-was = swept-rest (leasesOf t) kept k k (omega arith)
 
-        go : (b : Bool) → ltb k (length now) ≡ b → fold (withoutLease k) (boardOf now) (endedOf clock own) ≡ boardOf (set now k (kept k))
+        go : (b : Bool) → ltb k (length now) ≡ b → fold (boardWithout k) (boardOf now) (endedOf clock own) ≡ boardOf (set now k (kept k))
         go true e =
-            ap (λ (x : List (List Lease)). fold (withoutLease k) (boardOf x) (endedOf clock own)) (sym (set-getD now k []) ∙ ap (λ (x : List Lease). set now k x) as-was)
+            ap (λ (x : List (List Lease)). fold (boardWithout k) (boardOf x) (endedOf clock own)) (sym (set-getD now k []) ∙ ap (λ (x : List Lease). set now k x) as-was)
             ∙ run-less s (leasesOf t) v now (within k) k (ltb-true k (length now) e) p (endedOf clock own) own (kept k) (all-part own) (apart-ended own)
         go false e =
             let q = ltb-false k (length now) e in
             let none : own ≡ [] = sym as-was ∙ List·getD-eq-default now [] q in
-            ap (λ (x : List Lease). fold (withoutLease k) (boardOf now) (endedOf clock x)) none ∙ nothing ∙ ap boardOf (sym (set-out now k (kept k) q))
+            ap (λ (x : List Lease). fold (boardWithout k) (boardOf now) (endedOf clock x)) none ∙ nothing ∙ ap boardOf (sym (set-out now k (kept k) q))
           where
-            nothing : fold (withoutLease k) (boardOf now) (endedOf clock []) ≡ boardOf now
+            nothing : fold (boardWithout k) (boardOf now) (endedOf clock []) ≡ boardOf now
             nothing = refl
 
     pub cleared-is : (k : ℕ) → k ≤ 8 → clearedTo clock t (boardOf (leasesOf t)) k ≡ boardOf (swept (leasesOf t) kept k)
     unfolding clearedTo swept
     cleared-is zero p = refl
     cleared-is (suc k) p =
-        ap₂ (λ (b : Board) (x : List Lease). fold (withoutLease k) b (endedOf clock x)) (cleared-is k (omega arith)) (at-tenant t k) ∙ cleared-step k (omega arith)
+        ap₂ (λ (b : Board) (x : List Lease). fold (boardWithout k) b (endedOf clock x)) (cleared-is k (omega arith)) (at-tenant t k) ∙ cleared-step k (omega arith)
 
     pub cleared-all : clearedTo clock t (boardOf (leasesOf t)) 8 ≡ boardOf (map (liveOf clock) (leasesOf t))
     unfolding liveOf filterBy
@@ -179,10 +179,10 @@ module _ (s : State) (t : LeaseTable) (v : Sound s (leasesOf t)) where
         swept-within none own (leasesOf t) (λ g. subst (λ (x : List Lease). Part (getD (leasesOf t) g []) x) (sym (no-leases 8 g)) (none-part (getD (leasesOf t) g [])))
         (λ g. all-part (getD (leasesOf t) g [])) k
 
-    built-step : (k : ℕ) → k < 8 → fold (withLease k) (boardOf (swept none own k)) (own k) ≡ boardOf (swept none own (suc k))
+    built-step : (k : ℕ) → k < 8 → fold (boardWith k) (boardOf (swept none own k)) (own k) ≡ boardOf (swept none own (suc k))
     unfolding swept
     built-step k p =
-        ap (λ (x : List (List Lease)). fold (withLease k) (boardOf x) (own k)) (sym (set-getD now k []) ∙ ap (λ (x : List Lease). set now k x) (swept-rest none own k k (omega arith) ∙ no-leases 8 k))
+        ap (λ (x : List (List Lease)). fold (boardWith k) (boardOf x) (own k)) (sym (set-getD now k []) ∙ ap (λ (x : List Lease). set now k x) (swept-rest none own k k (omega arith) ∙ no-leases 8 k))
         ∙ run-more s (leasesOf t) v now (partly k) k there p (own k) (own k) [] (all-part (own k)) (Permᴰ·symm (Permᴰ·append-nil (own k)))
       where
         now : List (List Lease)
@@ -194,7 +194,7 @@ module _ (s : State) (t : LeaseTable) (v : Sound s (leasesOf t)) where
     built-is-to : (k : ℕ) → k ≤ 8 → builtTo t k ≡ boardOf (swept none own k)
     unfolding builtTo swept
     built-is-to zero p = sym empty-board
-    built-is-to (suc k) p = ap₂ (λ (b : Board) (x : List Lease). fold (withLease k) b x) (built-is-to k (omega arith)) (at-tenant t k) ∙ built-step k (omega arith)
+    built-is-to (suc k) p = ap₂ (λ (b : Board) (x : List Lease). fold (boardWith k) b x) (built-is-to k (omega arith)) (at-tenant t k) ∙ built-step k (omega arith)
 
     pub built-all : builtTo t 8 ≡ boardOf (leasesOf t)
     built-all =

@@ -1,14 +1,14 @@
 -- `same` meets its contract: a loop over two arrays.
 use Prim.Native.Nat.{_-_}
 use Rattle.lists.specs.laws.Same.{SameInv, same-next, sames}
-use Rattle.occupancy.specs.Board.{noScope, sameBoard, sameScope}
+use Rattle.occupancy.specs.Board.{noScopeBoard, sameBoard, sameScopeBoard}
 use borrow.Author.Needs.{needs}
 use borrow.Author.Tests.{not-false}
 use Rattle.occupancy.proofs.same.Statement.{statement}
 use Rattle.occupancy.proofs.same.Tie as tie
 
 abbrev Inv-loop : tie.InvT-loop
-Inv-loop a b k₀ k = SameInv sameScope noScope (a .scopes) (b .scopes) 4 k
+Inv-loop a b k₀ k = SameInv sameScopeBoard noScopeBoard (a .scopes) (b .scopes) 4 k
 
 abbrev μ-loop : tie.MeasureT-loop
 μ-loop a b k₀ k = 4 - k

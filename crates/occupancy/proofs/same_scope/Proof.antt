@@ -1,12 +1,12 @@
 -- `same_scope` meets its contract: by its tests.
 use Rattle.lists.specs.laws.Both.{joins}
-use Rattle.occupancy.specs.Board.{sameScope}
+use Rattle.occupancy.specs.Board.{sameScopeBoard}
 use borrow.Author.Needs.{needs}
 use Rattle.occupancy.proofs.same_scope.Statement.{statement}
 use Rattle.occupancy.proofs.same_scope.Tie as tie
 
 pub same-scope-spec : {M : Type 1} → statement M
-unfolding sameScope
+unfolding sameScopeBoard
 same-scope-spec =
     tie.close
     (tie.spec

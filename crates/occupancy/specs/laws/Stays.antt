@@ -15,7 +15,7 @@ use Rattle.address_set.specs.AddressSet.{offsets}
 use Rattle.occupancy.specs.declared.Entry.{Entry}
 use Rattle.occupancy.specs.declared.ScopeBoard.{ScopeBoard}
 use Rattle.occupancy.specs.declared.Board.{Board}
-use Rattle.occupancy.specs.Board.{noScope, entryAt, heldIn, scopeIn, moreOn, lessOn, grown, shrunk, onOffset, alteredBy, addedTo, takenFrom, AltersOnly}
+use Rattle.occupancy.specs.Board.{noScopeBoard, entryAt, heldIn, scopeBoardAt, moreOn, lessOn, grown, shrunk, onOffset, alteredBy, addedTo, takenFrom, AltersOnly}
 use Rattle.occupancy.specs.laws.Entries.{on-there, fold-others}
 
 -- what is read of the element at place k, where one element is set that reads the same
@@ -40,23 +40,23 @@ fold-stays e d g a (x ∷ xs) v h = go (eqb a x) refl h (fold-stays e d g a xs (
 
 -- a tenant's lease more or less in scope s, and the scope at place k, which counts from 0
 module _ (e : Entry → Entry) (d : ℕ → ℕ → ℕ) (b : Board) (g s m k : ℕ) where
-  stays : {B : Type 0} (q : ScopeBoard → B) → (s ≡ k + 1 → q (fold (onOffset e d g) (scopeIn b (s - 1)) (offsets m)) ≡ q (scopeIn b (s - 1)))
-      → q (scopeIn (alteredBy (onOffset e d g) b g s m) k) ≡ q (scopeIn b k)
+  stays : {B : Type 0} (q : ScopeBoard → B) → (s ≡ k + 1 → q (fold (onOffset e d g) (scopeBoardAt b (s - 1)) (offsets m)) ≡ q (scopeBoardAt b (s - 1)))
+      → q (scopeBoardAt (alteredBy (onOffset e d g) b g s m) k) ≡ q (scopeBoardAt b k)
   unfolding alteredBy pick
   stays {B} q h = go (ltb 0 s) refl (ltb (s - 1) 4) (ltb g 8)
     where
       go : (x : Bool) → ltb 0 s ≡ x → (y z : Bool)
-          → q (scopeIn (pick x (pick y (pick z (record { scopes = set (b .scopes) (s - 1) (fold (onOffset e d g) (scopeIn b (s - 1)) (offsets m)) }) b) b) b) k) ≡ q (scopeIn b k)
-      go true p true true = let l = ltb-true 0 s p in set-read q (b .scopes) (s - 1) k _ noScope (λ r. h (omega arith))
+          → q (scopeBoardAt (pick x (pick y (pick z (record { scopes = set (b .scopes) (s - 1) (fold (onOffset e d g) (scopeBoardAt b (s - 1)) (offsets m)) }) b) b) b) k) ≡ q (scopeBoardAt b k)
+      go true p true true = let l = ltb-true 0 s p in set-read q (b .scopes) (s - 1) k _ noScopeBoard (λ r. h (omega arith))
       go true p true false = refl
       go true p false z = refl
       go false p y z = refl
 
-  pub altered-entry : (a : ℕ) → (s ≡ k + 1 → isIn a (offsets m) ≡ false) → entryAt (scopeIn (alteredBy (onOffset e d g) b g s m) k) a ≡ entryAt (scopeIn b k) a
-  altered-entry a h = stays (λ v. entryAt v a) (λ r. fold-stays e d g a (offsets m) (scopeIn b (s - 1)) (h r))
+  pub altered-entry : (a : ℕ) → (s ≡ k + 1 → isIn a (offsets m) ≡ false) → entryAt (scopeBoardAt (alteredBy (onOffset e d g) b g s m) k) a ≡ entryAt (scopeBoardAt b k) a
+  altered-entry a h = stays (λ v. entryAt v a) (λ r. fold-stays e d g a (offsets m) (scopeBoardAt b (s - 1)) (h r))
 
-  pub altered-held : (i : ℕ) → (s ≡ k + 1 → i ≡ g → ⊥) → heldIn (scopeIn (alteredBy (onOffset e d g) b g s m) k) i ≡ heldIn (scopeIn b k) i
-  altered-held i h = stays (λ v. heldIn v i) (λ r. fold-others e d g (offsets m) (scopeIn b (s - 1)) i (h r))
+  pub altered-held : (i : ℕ) → (s ≡ k + 1 → i ≡ g → ⊥) → heldIn (scopeBoardAt (alteredBy (onOffset e d g) b g s m) k) i ≡ heldIn (scopeBoardAt b k) i
+  altered-held i h = stays (λ v. heldIn v i) (λ r. fold-others e d g (offsets m) (scopeBoardAt b (s - 1)) i (h r))
 
 -- so of the two functions that alter a board
 pub adds-only : (b : Board) (g s m : ℕ) → AltersOnly b g s m (addedTo b g s m)

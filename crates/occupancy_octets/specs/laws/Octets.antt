@@ -13,7 +13,7 @@ use Rattle.lists.specs.laws.All.{all-any}
 use Rattle.lists.specs.laws.Part.{unmapped}
 use Rattle.octets.specs.Octets.{Wrote}
 use Rattle.octets.specs.laws.Octets.{wrote-as, wrote-joined, wrote-none}
-use Rattle.occupancy.specs.Board.{noEntry, noScope}
+use Rattle.occupancy.specs.Board.{noEntry, noScopeBoard}
 use Rattle.occupancy.specs.declared.Board.{Board}
 use Rattle.occupancy.specs.declared.Entry.{Entry}
 use Rattle.occupancy.specs.declared.ScopeBoard.{ScopeBoard}
@@ -118,8 +118,8 @@ scope-wrote v e h p q =
     (wrote-joined h (p .0) w, omega (arith, w .next))
 
 pub scopes-next : {l : List ScopeBoard} {m : ℕ} {r₀ : List ℕ} {at : ℕ} {room : List ℕ} {to i : ℕ} → EvenInv scopeOctets 136 l m r₀ at room to i → {r₁ : List ℕ} {n : ℕ} → i < m
-    → Wrote room to (scopeOctets (getD l i noScope)) r₁ n × (n ≡ to + 136) → length r₁ ≡ length room → EvenInv scopeOctets 136 l m r₀ at r₁ n (i + 1)
-scopes-next v h p q = even-next v noScope h (p .0) (p .1) q
+    → Wrote room to (scopeOctets (getD l i noScopeBoard)) r₁ n × (n ≡ to + 136) → length r₁ ≡ length room → EvenInv scopeOctets 136 l m r₀ at r₁ n (i + 1)
+scopes-next v h p q = even-next v noScopeBoard h (p .0) (p .1) q
 
 pub scopes-done : (b : Board) {r₀ : List ℕ} {at : ℕ} {room : List ℕ} {to i : ℕ} → EvenInv scopeOctets 136 (b .scopes) 4 r₀ at room to i → 4 ≤ i → Wrote r₀ at (boardOctets b) room to
 unfolding boardOctets

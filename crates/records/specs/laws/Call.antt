@@ -22,7 +22,7 @@ use Rattle.state.specs.declared.Memory.{Memory}
 use Rattle.state.specs.declared.State.{State}
 use Rattle.state.specs.declared.TenantLeases.{TenantLeases}
 use Rattle.state.specs.declared.TenantReleases.{TenantReleases}
-use Rattle.state.specs.Book.{Book, advanced, cleared, dropped, idOf, inUse, insertedIn, laidOut, laidReleases, leasesOf, liveOf, putAt, raised, releasesAt, remembered, removeOf, tableOf, tenantAt, withLease, withoutLease}
+use Rattle.state.specs.Book.{Book, advanced, cleared, dropped, idOf, inUse, insertedIn, laidOut, laidReleases, leasesOf, liveOf, putAt, raised, releasesAt, remembered, removeOf, tableOf, tenantAt, boardWith, boardWithout}
 use Rattle.state.specs.Board.{builtOf}
 use Rattle.state.specs.Edit.{applied, boardEdited, boardLeft, editedIn, forgetOf, leftIn, noted, notedIn, rememberOf}
 use Rattle.state.specs.laws.Layout.{advanced-is, table-back}
@@ -109,10 +109,10 @@ unnoted e h m a b p q = ap₂ {C = Memory} (λ (x : List TenantReleases) (y : Bo
         ∙ set-getD (m .releases) h (laidReleases [])
 
     board : boardEdited e h (m .board) ≡ m .board
-    board = ap₂ (λ (x y : Bool). pick y (withLease h (pick x gone (m .board)) (e .new)) (pick x gone (m .board))) a b
+    board = ap₂ (λ (x y : Bool). pick y (boardWith h (pick x gone (m .board)) (e .new)) (pick x gone (m .board))) a b
       where
         gone : Board
-        gone = withoutLease h (m .board) (e .old)
+        gone = boardWithout h (m .board) (e .old)
 
 -- ---- test 3
 -- what is remembered of tenant h, as the code reads it

@@ -26,7 +26,7 @@ use Rattle.state.specs.declared.Memory.{Memory}
 use Rattle.state.specs.declared.State.{State}
 use Rattle.state.specs.declared.TenantLeases.{TenantLeases}
 use Rattle.state.specs.declared.TenantReleases.{TenantReleases}
-use Rattle.state.specs.Book.{cleared, clearedTo, dropped, endedOf, inUse, laidOut, leasesOf, live, liveOf, noLeases, ordered, putAt, tableOf, tenantAt, withLease, withoutLease, zeroLease}
+use Rattle.state.specs.Book.{cleared, clearedTo, dropped, endedOf, inUse, laidOut, leasesOf, live, liveOf, noLeases, ordered, putAt, tableOf, tenantAt, boardWith, boardWithout, zeroLease}
 use Rattle.state.specs.Board.{builtOf, builtTo}
 use Rattle.lists.specs.laws.Row.{at-in}
 use Rattle.state.specs.laws.Layout.{dropped-is, endedIn, noLease, read-back}
@@ -120,11 +120,11 @@ pub built-first : (t : LeaseTable) {b : Board} → b ≡ noBoard → b ≡ built
 unfolding builtTo
 built-first t e = e
 
-pub built-row : (ls : List Lease) {b r : Board} {h : ℕ} {t : TenantLeases} → b ≡ builtTo (tableFrom ls) h → h < 8 → t ≡ tenantFrom (getD (rows 8 ls) h []) → r ≡ fold (withLease h) b (inUse t)
+pub built-row : (ls : List Lease) {b r : Board} {h : ℕ} {t : TenantLeases} → b ≡ builtTo (tableFrom ls) h → h < 8 → t ≡ tenantFrom (getD (rows 8 ls) h []) → r ≡ fold (boardWith h) b (inUse t)
     → r ≡ builtTo (tableFrom ls) (h + 1)
 unfolding builtTo
 built-row ls {h = h} v p q e =
-    e ∙ ap₂ (λ (x : Board) (y : TenantLeases). fold (withLease h) x (inUse y)) v (row-own ls p q) ∙ ap (builtTo (tableFrom ls)) (sym (add-one h))
+    e ∙ ap₂ (λ (x : Board) (y : TenantLeases). fold (boardWith h) x (inUse y)) v (row-own ls p q) ∙ ap (builtTo (tableFrom ls)) (sym (add-one h))
 
 pub built-whole : {s : State} {b : LeaseTable} {c : TableRules} {x : Board} {h : ℕ} → SurveyInv s b c h → x ≡ builtTo b h → 8 ≤ h → x ≡ builtOf b
 built-whole {b = b} {h = h} v e p = e ∙ ap (builtTo b) (let q = v .folded .within in let d : h ≡ 8 = omega arith in d)
@@ -195,7 +195,7 @@ none-gone clock ls p = no-length (endedOf clock ls) (let a = filter-both (live c
 
 clear-none : (clock : ℕ) (b : LeaseTable) (x : Board) (h : ℕ) → clock < firstEnd (inUse (tenantAt b h)) → clearedTo clock b x (suc h) ≡ clearedTo clock b x h
 unfolding clearedTo
-clear-none clock b x h p = ap (fold (withoutLease h) (clearedTo clock b x h)) (none-gone clock (inUse (tenantAt b h)) p)
+clear-none clock b x h p = ap (fold (boardWithout h) (clearedTo clock b x h)) (none-gone clock (inUse (tenantAt b h)) p)
 
 laid-at : (b : LeaseTable) (h : ℕ) → b ≡ tableOf (leasesOf b) → tenantAt b h ≡ laidOut (getD (leasesOf b) h [])
 unfolding tableOf
@@ -254,7 +254,7 @@ module _ {clock : ℕ} {b : LeaseTable} {x : Board} {now : List Lease} {held : L
 
   -- its leases that ended go
   pub drop-ended : {t left : TenantLeases} {r : List Lease} {g : Held} {z : Board} → h < 8 → t ≡ tenantAt b h → left ≡ laidOut (liveOf clock (inUse t)) → length (left .leases) ≡ 16
-      → (r ≡ putRow now h (left .leases)) × (length r ≡ 128) → g ≡ heldSets left → z ≡ fold (withoutLease h) y (endedOf clock (inUse t)) → DropInv clock b x r (set held h g) z (h + 1)
+      → (r ≡ putRow now h (left .leases)) × (length r ≡ 128) → g ≡ heldSets left → z ≡ fold (boardWithout h) y (endedOf clock (inUse t)) → DropInv clock b x r (set held h g) z (h + 1)
   unfolding clearedTo
   drop-ended {t} {left} p e q z w u d = record {
     tenants = set (v .tenants) h left;
@@ -262,7 +262,7 @@ module _ {clock : ℕ} {b : LeaseTable} {x : Board} {now : List Lease} {held : L
     sixteen = all-set Sixteen (v .tenants) h left (v .sixteen) z;
     records = w .0 ∙ ap (λ (x : List Lease). putRow x h (left .leases)) (v .records) ∙ put-rows (v .tenants) h left (v .sixteen) (let k = long in omega arith);
     sets = ap₂ {C = List Held} (λ (x : List Held) (y : Held). set x h y) (v .sets) u ∙ map-set heldSets (v .tenants) h left;
-    board = d ∙ ap₂ (λ (k : Board) (l : TenantLeases). fold (withoutLease h) k (endedOf clock (inUse l))) (v .board) e ∙ ap (clearedTo clock b x) (sym (add-one h));
+    board = d ∙ ap₂ (λ (k : Board) (l : TenantLeases). fold (boardWithout h) k (endedOf clock (inUse l))) (v .board) e ∙ ap (clearedTo clock b x) (sym (add-one h));
     size = w .1;
     laid = v .laid;
   }

@@ -20,31 +20,31 @@ use Rattle.address_set.specs.laws.Offsets.{rises-offsets, offsets-small, in-bit
 use Rattle.occupancy.specs.declared.Entry.{Entry}
 use Rattle.occupancy.specs.declared.ScopeBoard.{ScopeBoard}
 use Rattle.occupancy.specs.declared.Board.{Board}
-use Rattle.occupancy.specs.Board.{noEntry, noBoard, moreOn, grown, entryAt, heldIn, scopeIn, laidOn, liftedOff, alteredBy}
+use Rattle.occupancy.specs.Board.{noEntry, noBoard, moreOn, grown, entryAt, heldIn, scopeBoardAt, laidOn, liftedOff, alteredBy}
 use Rattle.occupancy.specs.laws.Loop.{altered-in}
 use Rattle.occupancy.specs.laws.Entries.{numberIn, fold-entries, fold-others, fold-long, laid-held, lifted-laid, Free}
 use Rattle.state.specs.declared.Lease.{Lease}
-use Rattle.state.specs.Book.{heldOf, heldCount, inScope, addressesOf, unionAll, withLease, withoutLease}
-use Rattle.state.specs.Board.{countIn, countOn, ownerFrom, entrySaid, scopeSaid, boardOf}
+use Rattle.state.specs.Book.{heldOf, heldCount, inScope, addressesOf, unionAll, boardWith, boardWithout}
+use Rattle.state.specs.Board.{countIn, countOn, ownerFrom, entryBy, scopeBy, boardOf}
 use Rattle.state.specs.laws.Sets.{adds}
 use Rattle.state.specs.laws.Said.{count-few, none-on, some-on, Only, owner-none, owner-mine, own-count, held-with, count-with, owner-stays, owner-with}
 
 -- ---- what is said of a scope, by places
 module _ (ts : List (List Lease)) (s : ℕ) where
-  entries-long : length (scopeSaid ts s .entries) ≡ 64
-  unfolding scopeSaid
-  entries-long = each-long (entrySaid ts s) 64
+  entries-long : length (scopeBy ts s .entries) ≡ 64
+  unfolding scopeBy
+  entries-long = each-long (entryBy ts s) 64
 
-  pub entry-said : (a : ℕ) → a < 64 → entryAt (scopeSaid ts s) a ≡ entrySaid ts s a
-  unfolding scopeSaid
-  entry-said a h = each-at (entrySaid ts s) 64 a noEntry h
+  pub entry-said : (a : ℕ) → a < 64 → entryAt (scopeBy ts s) a ≡ entryBy ts s a
+  unfolding scopeBy
+  entry-said a h = each-at (entryBy ts s) 64 a noEntry h
 
-  held-long : length (scopeSaid ts s .held) ≡ length ts
-  unfolding scopeSaid
+  held-long : length (scopeBy ts s .held) ≡ length ts
+  unfolding scopeBy
   held-long = length-map ts (heldCount s)
 
-  pub held-said : (g : ℕ) → g < length ts → heldIn (scopeSaid ts s) g ≡ heldCount s (getD ts g [])
-  unfolding scopeSaid
+  pub held-said : (g : ℕ) → g < length ts → heldIn (scopeBy ts s) g ≡ heldCount s (getD ts g [])
+  unfolding scopeBy
   held-said g h = map-at (heldCount s) ts g [] 0 h
 
 -- ---- one scope, with a lease l of tenant h more, among its own in whichever order
@@ -58,7 +58,7 @@ module _ (l : Lease) (h : ℕ) (ts : List (List Lease)) (y : List Lease) (there 
   own = heldOf s (getD ts h [])
 
   abbrev was : ScopeBoard
-  was = scopeSaid ts s
+  was = scopeBy ts s
 
   clear : (a : ℕ) → bit laid a ≡ 1 → Only s a h ts
   clear a o g n = let p = apart g n a in omega arith
@@ -70,11 +70,11 @@ module _ (l : Lease) (h : ℕ) (ts : List (List Lease)) (y : List Lease) (there 
   few-on : (a : ℕ) → bit laid a ≡ 1 → countOn s a ts ≤ 16
   few-on a o = let c = mine a o in let n = count-few s a (getD ts h []) in omega arith
 
-  entry-with : (a : ℕ) → a < 64 → entrySaid (set ts h y) s a ≡ pick (isIn a (offsets laid)) (moreOn h (entrySaid ts s a)) (entrySaid ts s a)
-  unfolding entrySaid moreOn pick
-  entry-with a small = go (eqb (bit laid a) 1) refl ∙ sym (ap (λ (b : Bool). pick b (moreOn h (entrySaid ts s a)) (entrySaid ts s a)) (in-bit laid a small))
+  entry-with : (a : ℕ) → a < 64 → entryBy (set ts h y) s a ≡ pick (isIn a (offsets laid)) (moreOn h (entryBy ts s a)) (entryBy ts s a)
+  unfolding entryBy moreOn pick
+  entry-with a small = go (eqb (bit laid a) 1) refl ∙ sym (ap (λ (b : Bool). pick b (moreOn h (entryBy ts s a)) (entryBy ts s a)) (in-bit laid a small))
     where
-      go : (b : Bool) → eqb (bit laid a) 1 ≡ b → entrySaid (set ts h y) s a ≡ pick b (moreOn h (entrySaid ts s a)) (entrySaid ts s a)
+      go : (b : Bool) → eqb (bit laid a) 1 ≡ b → entryBy (set ts h y) s a ≡ pick b (moreOn h (entryBy ts s a)) (entryBy ts s a)
       go true e =
           let o = eqb-true (bit laid a) 1 e in
           ap₂ {C = Entry} (λ (o n : ℕ). record { owner = o; count = n }) (owner-with l h ts y there r s a o (clear a o))
@@ -86,7 +86,7 @@ module _ (l : Lease) (h : ℕ) (ts : List (List Lease)) (y : List Lease) (there 
 
   -- the addresses of the lease without a lease are those that the tenant does not have
   fresh-is : (a : ℕ) → a < 64 → bit laid a ≡ 1 → eqb (entryAt was a .count) 0 ≡ eqb (bit own a) 0
-  unfolding entrySaid
+  unfolding entryBy
   fresh-is a small o = ap (λ (e : Entry). eqb (e .count) 0) (entry-said ts s a small) ∙ ap (λ (n : ℕ). eqb n 0) (mine a o) ∙ go (eqb (bit own a) 0) refl
     where
       go : (b : Bool) → eqb (bit own a) 0 ≡ b → eqb (countIn s a (getD ts h [])) 0 ≡ b
@@ -127,27 +127,27 @@ module _ (l : Lease) (h : ℕ) (ts : List (List Lease)) (y : List Lease) (there 
   inside : h < length (was .held)
   inside = let u = held-long ts s in omega arith
 
-  scope-gained : scopeSaid (set ts h y) s ≡ fold (laidOn h) was (offsets laid)
+  scope-gained : scopeBy (set ts h y) s ≡ fold (laidOn h) was (offsets laid)
   scope-gained =
       let n = fold-long (moreOn h) grown h (offsets laid) was in
       ap₂ {C = ScopeBoard} (λ (e : List Entry) (n : List ℕ). record { entries = e; held = n })
       (ext-getD noEntry _ _ (entries-long (set ts h y) s ∙ sym (n .0 ∙ entries-long ts s)) (λ a q. let p = entries-long (set ts h y) s in entries a (omega arith)))
       (ext-getD 0 _ _ (helds-long ∙ sym (n .1 ∙ held-long ts s)) (λ g q. let p = helds-long in helds g (eqb g h) refl (omega arith)))
     where
-      helds-long : length (scopeSaid (set ts h y) s .held) ≡ length ts
+      helds-long : length (scopeBy (set ts h y) s .held) ≡ length ts
       helds-long = held-long (set ts h y) s ∙ length-set ts h y
 
-      entries : (a : ℕ) → a < 64 → entryAt (scopeSaid (set ts h y) s) a ≡ entryAt (fold (laidOn h) was (offsets laid)) a
+      entries : (a : ℕ) → a < 64 → entryAt (scopeBy (set ts h y) s) a ≡ entryAt (fold (laidOn h) was (offsets laid)) a
       entries a small =
           entry-said (set ts h y) s a small ∙ entry-with a small
           ∙ sym (fold-entries (moreOn h) grown h (offsets laid) 0 was (rises-offsets laid) (offsets-small laid) (entries-long ts s) a
           ∙ ap (λ (e : Entry). pick (isIn a (offsets laid)) (moreOn h e) e) (entry-said ts s a small))
 
-      helds : (g : ℕ) (b : Bool) → eqb g h ≡ b → g < length ts → heldIn (scopeSaid (set ts h y) s) g ≡ heldIn (fold (laidOn h) was (offsets laid)) g
+      helds : (g : ℕ) (b : Bool) → eqb g h ≡ b → g < length ts → heldIn (scopeBy (set ts h y) s) g ≡ heldIn (fold (laidOn h) was (offsets laid)) g
       helds g true e q =
           let z : g ≡ h = eqb-true g h e in
           let n = length-set ts h y in
-          ap (heldIn (scopeSaid (set ts h y) s)) z ∙ held-said (set ts h y) s h (omega arith) ∙ ap (heldCount s) (getD-set-same ts h y [] there) ∙ held-more
+          ap (heldIn (scopeBy (set ts h y) s)) z ∙ held-said (set ts h y) s h (omega arith) ∙ ap (heldCount s) (getD-set-same ts h y [] there) ∙ held-more
           ∙ sym (laid-held h (offsets laid) 0 was (rises-offsets laid) inside held-fits) ∙ ap (heldIn (fold (laidOn h) was (offsets laid))) (sym z)
       helds g false e q =
           let n = length-set ts h y in
@@ -156,7 +156,7 @@ module _ (l : Lease) (h : ℕ) (ts : List (List Lease)) (y : List Lease) (there 
 
   -- ---- and the lease less
   free-at : (a : ℕ) → a < 64 → bit laid a ≡ 1 → Free h (entryAt was a)
-  unfolding entrySaid
+  unfolding entryBy
   free-at a small o =
       let e = entry-said ts s a small in
       let c : entryAt was a .count ≡ countOn s a ts = ap (λ (x : Entry). x .count) e in
@@ -179,7 +179,7 @@ module _ (l : Lease) (h : ℕ) (ts : List (List Lease)) (y : List Lease) (there 
           go (suc zero) p q = p
           go (suc (suc b)) p q = absurd (omega arith)
 
-  scope-lost : scopeSaid ts s ≡ fold (liftedOff h) (scopeSaid (set ts h y) s) (offsets laid)
+  scope-lost : scopeBy ts s ≡ fold (liftedOff h) (scopeBy (set ts h y) s) (offsets laid)
   scope-lost =
       sym (ap (λ (v : ScopeBoard). fold (liftedOff h) v (offsets laid)) scope-gained
       ∙ lifted-laid h (offsets laid) 0 was (rises-offsets laid) (offsets-small laid) (entries-long ts s) inside
@@ -188,13 +188,13 @@ module _ (l : Lease) (h : ℕ) (ts : List (List Lease)) (y : List Lease) (there 
 -- ---- the board
 -- scope s, counted from 1, is said so, and no other otherwise than before
 said-altered : (f : ScopeBoard → ℕ → ScopeBoard) (us ts : List (List Lease)) (h s m : ℕ) → h < 8 → 0 < s → s ≤ 4
-    → scopeSaid ts s ≡ fold f (scopeSaid us s) (offsets m) → ((k : ℕ) → (s ≡ k → ⊥) → scopeSaid ts k ≡ scopeSaid us k) → boardOf ts ≡ alteredBy f (boardOf us) h s m
+    → scopeBy ts s ≡ fold f (scopeBy us s) (offsets m) → ((k : ℕ) → (s ≡ k → ⊥) → scopeBy ts k ≡ scopeBy us k) → boardOf ts ≡ alteredBy f (boardOf us) h s m
 unfolding boardOf
 said-altered f us ts h s m known some most here others =
     ap {B = Board} (λ (l : List ScopeBoard). record { scopes = l }) (go s some most here others)
-    ∙ altered-in f (boardOf us) h s m (scopeSaid us s) (fold f (scopeSaid us s) (offsets m)) (at s some most) refl some (omega arith) known
+    ∙ altered-in f (boardOf us) h s m (scopeBy us s) (fold f (scopeBy us s) (offsets m)) (at s some most) refl some (omega arith) known
   where
-    at : (s : ℕ) → 0 < s → s ≤ 4 → scopeSaid us s ≡ scopeIn (boardOf us) (s - 1)
+    at : (s : ℕ) → 0 < s → s ≤ 4 → scopeBy us s ≡ scopeBoardAt (boardOf us) (s - 1)
     at zero p q = absurd (omega arith)
     at (suc zero) p q = refl
     at (suc (suc zero)) p q = refl
@@ -205,11 +205,11 @@ said-altered f us ts h s m known some most here others =
     four : {a b c d a′ b′ c′ d′ : ScopeBoard} → a ≡ a′ → b ≡ b′ → c ≡ c′ → d ≡ d′ → _≡_ {A = List ScopeBoard} (a ∷ b ∷ c ∷ d ∷ []) (a′ ∷ b′ ∷ c′ ∷ d′ ∷ [])
     four p q r s = cc
 
-    other : (s k : ℕ) → eqb s k ≡ false → ((k : ℕ) → (s ≡ k → ⊥) → scopeSaid ts k ≡ scopeSaid us k) → scopeSaid ts k ≡ scopeSaid us k
+    other : (s k : ℕ) → eqb s k ≡ false → ((k : ℕ) → (s ≡ k → ⊥) → scopeBy ts k ≡ scopeBy us k) → scopeBy ts k ≡ scopeBy us k
     other s k e f = f k (eqb-false s k e)
 
-    go : (s : ℕ) → 0 < s → s ≤ 4 → scopeSaid ts s ≡ fold f (scopeSaid us s) (offsets m) → ((k : ℕ) → (s ≡ k → ⊥) → scopeSaid ts k ≡ scopeSaid us k)
-        → boardOf ts .scopes ≡ set (boardOf us .scopes) (s - 1) (fold f (scopeSaid us s) (offsets m))
+    go : (s : ℕ) → 0 < s → s ≤ 4 → scopeBy ts s ≡ fold f (scopeBy us s) (offsets m) → ((k : ℕ) → (s ≡ k → ⊥) → scopeBy ts k ≡ scopeBy us k)
+        → boardOf ts .scopes ≡ set (boardOf us .scopes) (s - 1) (fold f (scopeBy us s) (offsets m))
     go zero p q e o = absurd (omega arith)
     go (suc zero) p q e o = four e (other 1 2 refl o) (other 1 3 refl o) (other 1 4 refl o)
     go (suc (suc zero)) p q e o = four (other 2 1 refl o) e (other 2 3 refl o) (other 2 4 refl o)
@@ -241,27 +241,27 @@ module _ (l : Lease) (h : ℕ) (ts : List (List Lease)) (y : List Lease) (there 
           omega arith
       go false e = let z = bit-of-zero a in let q = bit-le (heldOf s (getD ts g [])) a in omega arith
 
-  gained : (s : ℕ) → scopeSaid (set ts h y) s ≡ fold (laidOn h) (scopeSaid ts s) (offsets (adds (inScope s) l))
+  gained : (s : ℕ) → scopeBy (set ts h y) s ≡ fold (laidOn h) (scopeBy ts s) (offsets (adds (inScope s) l))
   gained s = scope-gained l h ts y there r few s (apart-in s)
 
-  pub board-gained : boardOf (set ts h y) ≡ withLease h (boardOf ts) l
-  unfolding withLease
+  pub board-gained : boardOf (set ts h y) ≡ boardWith h (boardOf ts) l
+  unfolding boardWith
   board-gained =
       said-altered (laidOn h) ts (set ts h y) h (l .scope) (l .addresses) known some most
-      (gained (l .scope) ∙ ap (λ (m : ℕ). fold (laidOn h) (scopeSaid ts (l .scope)) (offsets m)) (adds-in l))
-      (λ k n. gained k ∙ ap (fold (laidOn h) (scopeSaid ts k)) (adds-out l k n))
+      (gained (l .scope) ∙ ap (λ (m : ℕ). fold (laidOn h) (scopeBy ts (l .scope)) (offsets m)) (adds-in l))
+      (λ k n. gained k ∙ ap (fold (laidOn h) (scopeBy ts k)) (adds-out l k n))
 
-  lost : (s : ℕ) → scopeSaid ts s ≡ fold (liftedOff h) (scopeSaid (set ts h y) s) (offsets (adds (inScope s) l))
+  lost : (s : ℕ) → scopeBy ts s ≡ fold (liftedOff h) (scopeBy (set ts h y) s) (offsets (adds (inScope s) l))
   lost s = scope-lost l h ts y there r few s (apart-in s)
 
-  pub board-lost : boardOf ts ≡ withoutLease h (boardOf (set ts h y)) l
-  unfolding withoutLease
+  pub board-lost : boardOf ts ≡ boardWithout h (boardOf (set ts h y)) l
+  unfolding boardWithout
   board-lost =
       said-altered (liftedOff h) (set ts h y) ts h (l .scope) (l .addresses) known some most
-      (lost (l .scope) ∙ ap (λ (m : ℕ). fold (liftedOff h) (scopeSaid (set ts h y) (l .scope)) (offsets m)) (adds-in l))
-      (λ k n. lost k ∙ ap (fold (liftedOff h) (scopeSaid (set ts h y) k)) (adds-out l k n))
+      (lost (l .scope) ∙ ap (λ (m : ℕ). fold (liftedOff h) (scopeBy (set ts h y) (l .scope)) (offsets m)) (adds-in l))
+      (λ k n. lost k ∙ ap (fold (liftedOff h) (scopeBy (set ts h y) k)) (adds-out l k n))
 
 -- no lease, an empty board
 pub empty-board : boardOf (replicate 8 []) ≡ noBoard
-unfolding boardOf scopeSaid entrySaid ownerFrom countOn countIn addressesOf unionAll filterBy upTo offsetsFrom bit pick
+unfolding boardOf scopeBy entryBy ownerFrom countOn countIn addressesOf unionAll filterBy upTo offsetsFrom bit pick
 empty-board = refl

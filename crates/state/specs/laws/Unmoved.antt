@@ -14,10 +14,10 @@ use Rattle.address_set.specs.AddressSet.{bit, offsets}
 use Rattle.address_set.specs.laws.Bits.{bit-le}
 use Rattle.occupancy.specs.declared.Entry.{Entry}
 use Rattle.occupancy.specs.declared.ScopeBoard.{ScopeBoard}
-use Rattle.occupancy.specs.Board.{noEntry, entryAt, heldIn, scopeIn}
+use Rattle.occupancy.specs.Board.{noEntry, entryAt, heldIn, scopeBoardAt}
 use Rattle.state.specs.declared.Lease.{Lease}
 use Rattle.state.specs.Book.{addressesOf, heldOf, heldCount, inScope, unionAll}
-use Rattle.state.specs.Board.{isOn, countIn, countOn, ownerFrom, entrySaid, scopeSaid, boardOf}
+use Rattle.state.specs.Board.{isOn, countIn, countOn, ownerFrom, entryBy, scopeBy, boardOf}
 use Rattle.state.specs.laws.Board.{entry-said, held-said}
 use Rattle.state.specs.laws.Said.{none-on, owner-none, some-on}
 
@@ -53,15 +53,15 @@ module _ (s a : ℕ) where
   none-number (x ∷ ts) f = let p = none-on s a x (f 0) in let q = none-number ts (λ g. f (suc g)) in omega arith
 
   -- an offset whose leases stay
-  pub entry-unmoved : (ts us : List (List Lease)) → length ts ≡ length us → ((g : ℕ) → filterBy (isOn s a) (getD ts g []) ≡ filterBy (isOn s a) (getD us g [])) → entrySaid ts s a ≡ entrySaid us s a
-  unfolding entrySaid countIn
+  pub entry-unmoved : (ts us : List (List Lease)) → length ts ≡ length us → ((g : ℕ) → filterBy (isOn s a) (getD ts g []) ≡ filterBy (isOn s a) (getD us g [])) → entryBy ts s a ≡ entryBy us s a
+  unfolding entryBy countIn
   entry-unmoved ts us n f =
       let c : (g : ℕ) → countIn s a (getD ts g []) ≡ countIn s a (getD us g []) = λ g. ap length (f g) in
       ap₂ {C = Entry} (λ (o k : ℕ). record { owner = o; count = k }) (same-owner 1 ts us n c) (same-number ts us n c)
 
   -- one that no tenant has
-  pub entry-none : (ts : List (List Lease)) → ((g : ℕ) → bit (heldOf s (getD ts g [])) a ≡ 0) → entrySaid ts s a ≡ noEntry
-  unfolding entrySaid
+  pub entry-none : (ts : List (List Lease)) → ((g : ℕ) → bit (heldOf s (getD ts g [])) a ≡ 0) → entryBy ts s a ≡ noEntry
+  unfolding entryBy
   entry-none ts f = ap₂ {C = Entry} (λ (o k : ℕ). record { owner = o; count = k }) (owner-none s a ts f) (none-number ts f)
 
 -- a tenant whose leases in the scope stay
@@ -70,7 +70,7 @@ unfolding addressesOf
 held-unmoved s x y e = ap (λ (ls : List Lease). length (offsets (unionAll (map (λ l. l .addresses) ls)))) e
 
 -- ---- what stands at a place of the board that the leases say
-board-scope : (ts : List (List Lease)) (k : ℕ) → k < 4 → scopeIn (boardOf ts) k ≡ scopeSaid ts (k + 1)
+board-scope : (ts : List (List Lease)) (k : ℕ) → k < 4 → scopeBoardAt (boardOf ts) k ≡ scopeBy ts (k + 1)
 unfolding boardOf
 board-scope ts zero h = refl
 board-scope ts (suc zero) h = refl
@@ -78,8 +78,8 @@ board-scope ts (suc (suc zero)) h = refl
 board-scope ts (suc (suc (suc zero))) h = refl
 board-scope ts (suc (suc (suc (suc k)))) h = absurd (omega arith)
 
-pub board-entry : (ts : List (List Lease)) (k a : ℕ) → k < 4 → a < 64 → entryAt (scopeIn (boardOf ts) k) a ≡ entrySaid ts (k + 1) a
+pub board-entry : (ts : List (List Lease)) (k a : ℕ) → k < 4 → a < 64 → entryAt (scopeBoardAt (boardOf ts) k) a ≡ entryBy ts (k + 1) a
 board-entry ts k a p q = ap (λ (v : ScopeBoard). entryAt v a) (board-scope ts k p) ∙ entry-said ts (k + 1) a q
 
-pub board-held : (ts : List (List Lease)) (k g : ℕ) → k < 4 → g < length ts → heldIn (scopeIn (boardOf ts) k) g ≡ heldCount (k + 1) (getD ts g [])
+pub board-held : (ts : List (List Lease)) (k g : ℕ) → k < 4 → g < length ts → heldIn (scopeBoardAt (boardOf ts) k) g ≡ heldCount (k + 1) (getD ts g [])
 board-held ts k g p q = ap (λ (v : ScopeBoard). heldIn v g) (board-scope ts k p) ∙ held-said ts (k + 1) g q

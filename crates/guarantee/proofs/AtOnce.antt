@@ -65,17 +65,22 @@ all-alive s (l ∷ ls) h =
     ap₂ {C = List (List Lease)} (λ (x : List Lease) (y : List (List Lease)). x ∷ y)
     (filter-none-out (live (s .clock)) l (all-both (leaseOk s) (leaseOk s) (live (s .clock)) l (λ x a _. alive s x a) (p .0) (p .0))) (all-alive s ls (p .1))
 
--- so the call that follows at the same time finds it as it is
+still-table : (w : Book) (time : ℕ) → SoundBook w → w .table ≡ tableOf (leasesOf (w .table)) → time ≤ w .state .clock → advanced w time .table ≡ w .table
+unfolding advanced dropped
+still-table w time v laid e =
+    let k : max (w .state .clock) time ≡ w .state .clock = omega arith in
+    ap (λ (c : ℕ). tableOf (map (liveOf c) (leasesOf (w .table)))) k
+    ∙ ap tableOf (all-alive (w .state) (leasesOf (w .table)) (sound-lists (w .state) (w .table) (book-sound w (v .sound)) .each)) ∙ sym laid
+
+-- so the call that follows at the same time finds it as it is, its board too, which is that of the same leases
 advanced-still : (w : Book) (time : ℕ) → SoundBook w → w .table ≡ tableOf (leasesOf (w .table)) → time ≤ w .state .clock → advanced w time ≡ w
-unfolding advanced raised dropped
+unfolding advanced raised
 advanced-still w time v laid e =
     let k : max (w .state .clock) time ≡ w .state .clock = omega arith in
-    let t : advanced w time .table ≡ w .table =
-    ap (λ (c : ℕ). tableOf (map (liveOf c) (leasesOf (w .table)))) k
-    ∙ ap tableOf (all-alive (w .state) (leasesOf (w .table)) (sound-lists (w .state) (w .table) (book-sound w (v .sound)) .each)) ∙ sym laid in
-    let x : advanced w time .memory .board ≡ w .memory .board = same-board (advanced w time) w (advanced-book w time (v .sound)) (v .sound) t in
+    let t = still-table w time v laid e in
     ap (λ (c : ℕ). changedTo w (withClock (w .state) c) (advanced w time .table) (advanced w time .memory)) k
-    ∙ ap₂ (λ (y : LeaseTable) (z : Board). changedTo w (w .state) y (record { releases = w .memory .releases; board = z })) t x
+    ∙ ap₂ (λ (y : LeaseTable) (z : Board). changedTo w (w .state) y (record { releases = w .memory .releases; board = z })) t
+    (same-board (advanced w time) w (advanced-book w time (v .sound)) (v .sound) t)
 
 -- the clock is not before the time of the call that has raised it
 now-late : (b : Book) (c : Call) → c .time ≤ stateAt b c .clock

@@ -1,11 +1,11 @@
 -- Proof of what is claimed of the occupancy board (document 02, W-207): after any list of calls it is what the leases say; so a call alters no entry whose leases
 -- stay and no holding whose tenant's leases in the scope stay, and past sizes and scopes there is nothing.
-use Prim.Native.Nat.{ℕ, zero, suc, _+_, _≤_, _<_, min}
+use Prim.Native.Nat.{ℕ, _+_, _≤_, _<_}
 use mathlib.Core.Path.{_≡_, refl, sym, ap, ap₂, _∙_}
 use mathlib.Core.Bool.{Bool, true, false}
 use mathlib.Core.List.{List, [], _∷_}
 use native.Mathlib.Omega.{arith}
-use lib.Dec.{eqb, ltb}
+use lib.Dec.{ltb}
 use lib.Bits.{bitOr, or-zero-l}
 use lib.ListN.{length, getD, length-map}
 use borrow.Author.Tests.{ltb-true, ltb-false, ne-eqb}
@@ -24,16 +24,15 @@ use Rattle.state.specs.Board.{boardOf, isOn}
 use Rattle.state.specs.laws.Sets.{adds, addresses-cons}
 use Rattle.state.specs.laws.Unmoved.{board-entry, board-held, entry-none, entry-unmoved, held-unmoved}
 use Rattle.releases.specs.laws.Whole.{book-board, book-sound}
-use Rattle.soundness.specs.Sound.{scopesIn}
 use Rattle.soundness.specs.laws.Added.{each-at}
 use Rattle.soundness.specs.laws.Book.{Sound, leaseOk, sound-lists}
 use Rattle.soundness.specs.laws.Facts.{lease-facts}
 use Rattle.allocation.specs.laws.Kept.{held-below}
 use Rattle.decision.specs.Parts.{ownOf}
 use Rattle.decision.specs.laws.Kept.{own-is}
-use Rattle.server.specs.Serve.{Call, serveOf}
+use Rattle.server.specs.Serve.{serveOf}
 use Rattle.guarantee.specs.Statement.{BoardAgrees, BoardStays, BoardZero, SoundBook, run}
-use Rattle.guarantee.proofs.Kept.{call-sound, counts-few, run-sound}
+use Rattle.guarantee.proofs.Kept.{call-sound, run-sound}
 
 -- ---- after any list of calls
 pub board-agrees : BoardAgrees

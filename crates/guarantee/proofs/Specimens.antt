@@ -14,7 +14,7 @@ use Rattle.occupancy.specs.declared.Board.{Board}
 use Rattle.occupancy.specs.Board.{addedTo, entryAt, heldIn, noBoard, scopeBoardAt}
 use Rattle.state.specs.Book.{Book, laidReleases, releaseId, remembered, tableOf, zeroScope, idOf, leasesOf}
 use Rattle.server.specs.Serve.{Call, serveOf, Answer}
-use Rattle.guarantee.specs.Statement.{BoardStays, Demand3, Elsewhere, Granted, GrantedAsOffered, NewRequest, NoHold, OfferHeld, SoundBook, TakesUp, dropsTo, editMoves, movesFor, run, saysOf, tenantFor, Discovers, Narrow, Offered, OfferRule}
+use Rattle.guarantee.specs.Statement.{BoardStays, Demand3, Elsewhere, Granted, GrantedAsOffered, NewRequest, NoHold, OfferHeld, SoundBook, TakesUp, run, saysOf, tenantFor, Discovers, Narrow, Offered, OfferRule}
 use Rattle.state.specs.declared.Lease.{Lease}
 use Rattle.state.specs.declared.Release.{Release}
 use Rattle.state.specs.declared.TenantReleases.{TenantReleases}
@@ -23,6 +23,7 @@ use Rattle.decision.specs.Parts.{leaseIdIn}
 use Rattle.decision.specs.laws.Kept.{own-is}
 use Rattle.guarantee.proofs.Board.{board-stays}
 use Rattle.guarantee.proofs.Granted.{demand3}
+use Rattle.guarantee.proofs.Kept.{run-sound}
 use Rattle.guarantee.proofs.Offers.{offer-rule}
 use Rattle.guarantee.proofs.Opened.{computed}
 use Rattle.guarantee.proofs.Taken.{offer-held}
@@ -565,11 +566,10 @@ pub board-specimens : allBy shows boardTable ≡ true
 unfolding computed boardTable same showsOn shows
 board-specimens = refl
 
--- P3 after P1 meets the premises of what a call leaves of the board: it moves nothing of .0, nor of house 2
-board-met : (entryAt (scopeBoardAt (serveOf (run book (p1 ∷ [])) p3 .book .memory .board) 0) 0 ≡ entryAt (scopeBoardAt (run book (p1 ∷ []) .memory .board) 0) 0)
-    × (heldIn (scopeBoardAt (serveOf (run book (p1 ∷ [])) p3 .book .memory .board) 0) 1 ≡ heldIn (scopeBoardAt (run book (p1 ∷ []) .memory .board) 0) 1)
-unfolding BoardStays computed dropsTo editMoves movesFor
-board-met = let k = board-stays (run book (p1 ∷ [])) p3 in (k .entries 0 0 (ltb-true _ _ refl) refl, k .holdings 0 1 refl)
+-- P3 after P1 meets the premises of what a call leaves of the board: it moves nothing of house 2
+board-met : heldIn (scopeBoardAt (serveOf (run book (p1 ∷ [])) p3 .book .memory .board) 0) 1 ≡ heldIn (scopeBoardAt (run book (p1 ∷ []) .memory .board) 0) 1
+unfolding BoardStays computed
+board-met = board-stays (run book (p1 ∷ [])) (run-sound book (p1 ∷ []) sound) p3 .holdings 0 1 (ltb-true _ _ refl) (ltb-true _ _ refl) refl
 
 -- a book whose board disagrees is unsound: with a lease that the book does not have, in the scope, past its size or in no scope of the book, before the room is
 -- looked at; and without one that it has

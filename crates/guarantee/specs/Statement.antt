@@ -2,14 +2,13 @@
 -- held, and the occupancy board. The buyer's sentences, and those of document 01's "Demand 3 in detail", are quoted beside what says them; '"lease" in demands 1 and 3 .. reads "lease or
 -- hold"' (document 02, W-205), so that each sentence on leases is one on records. A house is a tenant here, its share a reserve; tenants count from 0, a
 -- lease's scope from 1.
-use Prim.Native.Nat.{ℕ, zero, suc, _+_, _-_, _≤_, _<_, min, _^_}
+use Prim.Native.Nat.{ℕ, _+_, _-_, _≤_, _<_, min, _^_}
 use mathlib.Core.Path.{_≡_}
-use mathlib.Core.Bool.{Bool, true, false, not, _&&_}
-use mathlib.Core.List.{List, [], _∷_, _++_, map}
+use mathlib.Core.Bool.{true, false, not}
+use mathlib.Core.List.{List, [], _∷_, map}
 use lib.Dec.{eqb}
 use lib.ListN.{getD, length, set}
-use Rattle.lists.specs.Pick.{pick}
-use Rattle.lists.specs.All.{All, allBy}
+use Rattle.lists.specs.All.{All}
 use Rattle.lists.specs.Filter.{filterBy, isIn}
 use Rattle.address_set.specs.AddressSet.{offsets}
 use Rattle.occupancy.specs.Board.{entryAt, heldIn, noEntry, scopeBoardAt}
@@ -21,13 +20,12 @@ use Rattle.message.specs.declared.Stage.the-variants.{Done}
 use Rattle.reply.specs.declared.Terms.{Terms}
 use Rattle.reply.specs.Reply.{leastRoom, leaseAckOf, offerOf}
 use Rattle.reply.specs.Ranges.{addressesIn}
-use Rattle.state.specs.declared.Edit.{Edit}
 use Rattle.state.specs.declared.Lease.{Lease}
 use Rattle.state.specs.declared.LeaseTable.{LeaseTable}
 use Rattle.state.specs.declared.Scope.{Scope}
 use Rattle.state.specs.declared.State.{State}
 use Rattle.state.specs.declared.Release.{Release}
-use Rattle.state.specs.Book.{Book, advanced, endedOf, holdTime, idOf, inScope, insertOf, laidReleases, lapsingAt, leaseWith, leasesOf, liveOf, named, putReleases, releasesAt, remembered, removeOf, scopeAt, limitAt}
+use Rattle.state.specs.Book.{Book, advanced, holdTime, idOf, inScope, insertOf, laidReleases, lapsingAt, leaseWith, leasesOf, liveOf, named, putReleases, releasesAt, remembered, removeOf, scopeAt, limitAt}
 use Rattle.state.specs.Edit.{forgetOf}
 use Rattle.state.specs.Board.{boardOf, isOn}
 use Rattle.releases.specs.Whole.{boardGood, bookB, memoryGood, namesGood}
@@ -36,7 +34,7 @@ use Rattle.allocation.specs.declared.Ask.{Ask}
 use Rattle.allocation.specs.declared.Grant.{Grant}
 use Rattle.allocation.specs.Rule.{grantOf, unusedReserve}
 use Rattle.decision.specs.Parts.{horizon, defaultLease, error1Of, error2Of, holdsOf, isHeld, leaseIdIn, lengthOf, meets, ownOf, recordedOf, resends, scopePlace, startOf, turned}
-use Rattle.server.specs.Serve.{Answer, Call, decidedFor, headOf, serveOf, tenantOf}
+use Rattle.server.specs.Serve.{Answer, Call, headOf, serveOf, tenantOf}
 
 -- ---- the list of calls: "any number of server calls, or none: DISCOVER, REQUEST, RENEW, RELEASE, GETINFO and any other octets, from any address, with any
 -- time and room" (`Call`)

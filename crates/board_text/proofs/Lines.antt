@@ -13,7 +13,7 @@ use borrow.Author.Tests.{eq-eqb, le-ltb, lt-ltb, ne-eqb}
 use Rattle.board_text.proofs.Shown.{lines-same}
 use Rattle.board_text.specs.Board.{Line, bookLines, decimal, dotted, field, headerLine, lengthIn, lineOn, linesOn, linesTo, refusedLine, roomWithText, scopeOn, textOf}
 use Rattle.lists.specs.Pick.{pick}
-use Rattle.occupancy.specs.Board.{heldIn, scopeIn}
+use Rattle.occupancy.specs.Board.{heldIn, scopeBoardAt}
 use Rattle.occupancy.specs.declared.Board.{Board}
 use Rattle.octets.specs.laws.Octets.{wrote-joined, wrote-whole, whole-length, wrote-as, wrote-none}
 use Rattle.octets.specs.Octets.{Wrote}
@@ -67,7 +67,7 @@ pub line-wrote : {r₀ r₁ r₂ r₃ r₄ r₅ r₆ : List ℕ} {at a b c d e f
     → Line r₃ c (field l) r₄ d 4 → Line r₄ d (field n) r₅ e 4 → Line r₅ e (10 ∷ []) r₆ f 1 → Line r₀ at (dotted x ++ field g ++ field r ++ field l ++ field n ++ 10 ∷ []) r₆ f 32
 line-wrote x g r l n h p q u v w z = line-as (simp append-assoc) (omega arith) (line-join h (line-join h (line-join h (line-join h (line-join h p q) u) v) w) z)
 
-pub tenant-wrote : {r₀ r₁ : List ℕ} {at f : ℕ} (s : State) (b : Board) (k g : ℕ) (c : Scope) (n : ℕ) → c ≡ scopeAt s k → n ≡ heldIn (scopeIn b k) g
+pub tenant-wrote : {r₀ r₁ : List ℕ} {at f : ℕ} (s : State) (b : Board) (k g : ℕ) (c : Scope) (n : ℕ) → c ≡ scopeAt s k → n ≡ heldIn (scopeBoardAt b k) g
     → Line r₀ at (dotted (c .lowest) ++ field (g + 1) ++ field (getD (c .reserve) g 0) ++ field (getD (c .limit) g 0) ++ field n ++ 10 ∷ []) r₁ f 32 → Line r₀ at (lineOn s b k g) r₁ f 32
 unfolding lineOn
 tenant-wrote s b k g c n e p w =

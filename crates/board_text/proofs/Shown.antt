@@ -7,10 +7,10 @@ use lib.ListN.{getD, List·getD-map}
 use Rattle.address_set.specs.AddressSet.{bit, offsetsFrom}
 use Rattle.board_text.specs.Board.{bookLines, dotted, field, line, lineOn, linesOn, linesTo, scopeLines, scopeOn}
 use Rattle.lists.specs.Filter.{filterBy}
-use Rattle.occupancy.specs.Board.{heldIn, scopeIn}
+use Rattle.occupancy.specs.Board.{heldIn, scopeBoardAt}
 use Rattle.occupancy.specs.declared.Board.{Board}
 use Rattle.soundness.specs.Sound.{scopesIn, tenantsIn}
-use Rattle.state.specs.Board.{boardOf, scopeSaid}
+use Rattle.state.specs.Board.{boardOf, scopeBy}
 use Rattle.state.specs.Book.{addressesOf, heldCount, inUse, laidOut, leasesOf, limitAt, reserveAt, scopeAt, tenantAt, unionAll}
 use Rattle.state.specs.declared.LeaseTable.{LeaseTable}
 use Rattle.state.specs.declared.State.{State}
@@ -21,8 +21,8 @@ module _ (t : LeaseTable) (g : ℕ) where
   unfolding addressesOf filterBy unionAll offsetsFrom bit laidOut
   tenant-held s = List·getD-map (heldCount s) (leasesOf t) g [] ∙ ap (heldCount s) (List·getD-map inUse (t .tenants) g (laidOut []))
 
-  held-said : (k : ℕ) → k < 4 → heldIn (scopeIn (boardOf (leasesOf t)) k) g ≡ heldCount (k + 1) (inUse (tenantAt t g))
-  unfolding boardOf scopeSaid
+  held-said : (k : ℕ) → k < 4 → heldIn (scopeBoardAt (boardOf (leasesOf t)) k) g ≡ heldCount (k + 1) (inUse (tenantAt t g))
+  unfolding boardOf scopeBy
   held-said zero h = tenant-held 1
   held-said (suc zero) h = tenant-held 2
   held-said (suc (suc zero)) h = tenant-held 3

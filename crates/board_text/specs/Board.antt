@@ -4,7 +4,7 @@ use Prim.Native.Nat.{_%_, _+_, _/_, _≤_, suc, zero, ℕ}
 use lib.Dec.{eqb, ltb}
 use lib.ListN.{drop, length}
 use Rattle.lists.specs.Pick.{pick}
-use Rattle.occupancy.specs.Board.{heldIn, scopeIn}
+use Rattle.occupancy.specs.Board.{heldIn, scopeBoardAt}
 use Rattle.occupancy.specs.declared.Board.{Board}
 use Rattle.octets.specs.Octets.{Wrote}
 use Rattle.soundness.specs.Sound.{scopesIn, tenantsIn}
@@ -59,7 +59,7 @@ bookLines s b = linesTo (scopeLines s b) (scopesIn s)
 unfoldable pub lineOn : State → Board → ℕ → ℕ → List ℕ
 lineOn s b k g =
     dotted (scopeAt s k .lowest) ++ field (g + 1) ++ field (reserveAt (scopeAt s k) g) ++ field (limitAt (scopeAt s k) g)
-    ++ field (heldIn (scopeIn b k) g) ++ 10 ∷ []
+    ++ field (heldIn (scopeBoardAt b k) g) ++ 10 ∷ []
 
 unfoldable pub scopeOn : State → Board → ℕ → List ℕ
 scopeOn s b k = linesTo (lineOn s b k) (tenantsIn s)

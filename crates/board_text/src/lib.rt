@@ -4,7 +4,7 @@ ghost use mathlib.Core.Path.{_≡_};
 ghost use Prim.Native.Nat.{_%_, _+_, _/_, _<_, _≤_};
 ghost use lib.ListN.{length};
 ghost use Rattle.board_text.specs.Board.{Line, decimal, dotted, field, headerLine, lengthIn, lineOn, linesOn, refusedLine, roomWithText, scopeOn};
-ghost use Rattle.occupancy.specs.Board.{heldIn, scopeIn};
+ghost use Rattle.occupancy.specs.Board.{heldIn, scopeBoardAt};
 ghost use Rattle.octets.specs.Octets.{Wrote};
 ghost use Rattle.state_file.specs.StateFile.{readFile};
 use occupancy::Board;
@@ -91,7 +91,7 @@ fn put_line(buffer: &mut [u8], at: usize, a: u32, g: u8, reserve: u8, limit: u8,
 // How many addresses tenant g + 1 has in scope k + 1.
 fn held(board: Board, k: usize, g: usize) -> u8
     requires { ⌜ (k < 4) × (g < 8) ⌝ }
-    ensures { λ r. ⌜ r ≡ heldIn (scopeIn board k) g ⌝ }
+    ensures { λ r. ⌜ r ≡ heldIn (scopeBoardAt board k) g ⌝ }
 {
     let v = board.scopes[k];
     v.held[g]

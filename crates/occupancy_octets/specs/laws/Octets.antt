@@ -17,7 +17,7 @@ use Rattle.occupancy.specs.Board.{noEntry, noScopeBoard}
 use Rattle.occupancy.specs.declared.Board.{Board}
 use Rattle.occupancy.specs.declared.Entry.{Entry}
 use Rattle.occupancy.specs.declared.ScopeBoard.{ScopeBoard}
-use Rattle.occupancy_octets.specs.Octets.{boardOctets, boardSize, entryOctets, scopeOctets}
+use Rattle.occupancy_octets.specs.Octets.{ScopeLong, boardOctets, boardSize, entryOctets, scopeOctets}
 
 -- ---- how many octets
 -- values of so many octets each
@@ -39,11 +39,6 @@ pub entries-size : (v : ScopeBoard) → length (v .entries) ≡ 64 → length (w
 entries-size v e =
     write-each entryOctets (λ _. Unit {0}) 2 (λ x h. entry-size x) (v .entries) (all-any (λ (_ : Entry). Unit {0}) (λ x. tt) (v .entries))
     ∙ ap (λ (n : ℕ). n * 2) e
-
--- the arrays of a scope, which are so long by their types
-pub record ScopeLong (v : ScopeBoard) : Type 0 where
-  pub entries : length (v .entries) ≡ 64
-  pub held : length (v .held) ≡ 8
 
 scope-size : (v : ScopeBoard) → ScopeLong v → length (scopeOctets v) ≡ 136
 unfolding scopeOctets

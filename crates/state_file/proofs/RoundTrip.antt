@@ -126,7 +126,11 @@ read-sound s e = go (fileOf s) refl e
     go bad p e = absurd (omega arith)
     go (got f r) p e = kept f (fitsB f) (soundB (storedState f) (storedTable f) && memoryB (storedState f) (storedTable f) (releasesIn f)) refl (names-good s f r p) e
 
--- so its names have no more octets than four scopes' and eight houses' can
+-- so its board is what its leases say
+pub read-board : (s : List ℕ) → readFile s .refusal ≡ 0 → readFile s .memory .board ≡ boardOf (leasesOf (readFile s .table))
+read-board s e = agrees-is (readFile s .table) (readFile s .memory .board) (book-agrees (with (readFile s .state) (readFile s .table) (readFile s .memory) (namesOf s)) (read-sound s e))
+
+-- and its names have no more octets than four scopes' and eight houses' can
 pub names-short : (s : List ℕ) → readFile s .refusal ≡ 0 → length (namesOf s) ≤ 6229
 names-short s e = names-few (record { state = readFile s .state; table = readFile s .table; memory = readFile s .memory; names = namesOf s }) (read-sound s e)
 

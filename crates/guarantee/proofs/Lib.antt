@@ -17,5 +17,3 @@ pub mod Offers
 mod Drawn
 pub mod Taken
 pub mod AtOnce
-pub mod Opened
-pub mod Specimens

@@ -11,8 +11,8 @@ use Rattle.releases.specs.Whole.{bookB}
 use Rattle.server.specs.Serve.{Answer, Call, serveOf}
 use Rattle.decision.specs.Parts.{leaseIdIn}
 use Rattle.guarantee.specs.Statement.{Elsewhere, Granted, GrantedAsOffered, Narrow, NewRequest, NoHold, Offered, OfferedAs, TakesUp, requested, run, saysOf, tenantFor}
-use Rattle.guarantee.proofs.Opened.{computed}
-use Rattle.guarantee.proofs.Specimens.{BoardCase, Case, ReleaseCase, agrees, between, board-specimens, boardTable, book, d3, discover, discovers, discovers3, free, holds, house2, keeps, narrow, new, offered, offered3, others, p1, p3, release-specimens, releaseTable, remembers, shows, showsOn, sound, specimens, table, takes, takesUp}
+use Rattle.guarantee_specimens.proofs.Opened.{computed}
+use Rattle.guarantee_specimens.proofs.Specimens.{BoardCase, Case, ReleaseCase, agrees, between, board-specimens, boardTable, book, d3, discover, discovers, discovers3, free, holds, house2, keeps, narrow, new, offered, offered3, others, p1, p3, release-specimens, releaseTable, remembers, shows, showsOn, sound, specimens, table, takes, takesUp}
 use Rattle.records.specs.Lent.{ledgerOf}
 use Rattle.records.specs.Records.{rows, tableFrom, tenantFrom}
 use Rattle.lent_guarantee.specs.Statement.{answerOf, bookOf, Lent, LentDemand3, LentOfferHeld, LentOfferRule, runLent, served, SoundLent}

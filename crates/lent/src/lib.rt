@@ -3,9 +3,11 @@
 // and below. Their proofs are walks by hand.
 ghost use mathlib.Core.Path.{_≡_};
 ghost use lib.ListN.{length, take};
+ghost use Rattle.occupancy.specs.Board.{scopeIn, entryAt, heldIn};
 ghost use Rattle.state.specs.Book.{raisedIn};
 ghost use Rattle.records.specs.Records.{first128, covered};
 ghost use Rattle.records.specs.Lent.{serveLent, ServesLent, readLent, ReadsLent, writtenLent, roomLent, findLent, insertLent, removeLent};
+use occupancy::Entry;
 use records::Found;
 use records::Records;
 use server::Outcome;
@@ -75,6 +77,23 @@ pub fn remove(leases: &mut [Lease], h: usize, id: [u8; 32], len: u8)
     let all = load(leases);
     let x = records::remove(all, leases.len(), h, id, len);
     store(leases, x);
+}
+
+// What the occupancy board has on address a of scope k, both counted from 0, without the records: no owner and no lease where there is no such
+// scope or address.
+pub fn entry(ledger: &Ledger, k: usize, a: usize) -> Entry
+    ensures { λ r. ⌜ r ≡ entryAt (scopeIn (now (ledger .entry) .memory .board) k) a ⌝ }
+{
+    let b = ledger.memory.board;
+    occupancy::entry_at(b, k, a)
+}
+
+// How many addresses of scope k tenant g, both counted from 0, holds by the board; none where there is no such scope or tenant.
+pub fn holding(ledger: &Ledger, k: usize, g: usize) -> u8
+    ensures { λ r. ⌜ r ≡ heldIn (scopeIn (now (ledger .entry) .memory .board) k) g ⌝ }
+{
+    let b = ledger.memory.board;
+    occupancy::holding_at(b, k, g)
 }
 
 // The call, with the names of the scopes lent. Another number of records than 128 is discard 1, and so are names that are not good for the settings and

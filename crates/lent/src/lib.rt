@@ -3,7 +3,7 @@
 // and below. Their proofs are walks by hand.
 ghost use mathlib.Core.Path.{_≡_};
 ghost use lib.ListN.{length, take};
-ghost use Rattle.occupancy.specs.Board.{scopeIn, entryAt, heldIn};
+ghost use Rattle.occupancy.specs.Board.{scopeBoardAt, entryAt, heldIn};
 ghost use Rattle.state.specs.Book.{raisedIn};
 ghost use Rattle.records.specs.Records.{first128, covered};
 ghost use Rattle.records.specs.Lent.{serveLent, ServesLent, readLent, ReadsLent, writtenLent, roomLent, findLent, insertLent, removeLent};
@@ -82,7 +82,7 @@ pub fn remove(leases: &mut [Lease], h: usize, id: [u8; 32], len: u8)
 // What the occupancy board has on address a of scope k, both counted from 0, without the records: no owner and no lease where there is no such
 // scope or address.
 pub fn entry(ledger: &Ledger, k: usize, a: usize) -> Entry
-    ensures { λ r. ⌜ r ≡ entryAt (scopeIn (now (ledger .entry) .memory .board) k) a ⌝ }
+    ensures { λ r. ⌜ r ≡ entryAt (scopeBoardAt (now (ledger .entry) .memory .board) k) a ⌝ }
 {
     let b = ledger.memory.board;
     occupancy::entry_at(b, k, a)
@@ -90,7 +90,7 @@ pub fn entry(ledger: &Ledger, k: usize, a: usize) -> Entry
 
 // How many addresses of scope k tenant g, both counted from 0, holds by the board; none where there is no such scope or tenant.
 pub fn holding(ledger: &Ledger, k: usize, g: usize) -> u8
-    ensures { λ r. ⌜ r ≡ heldIn (scopeIn (now (ledger .entry) .memory .board) k) g ⌝ }
+    ensures { λ r. ⌜ r ≡ heldIn (scopeBoardAt (now (ledger .entry) .memory .board) k) g ⌝ }
 {
     let b = ledger.memory.board;
     occupancy::holding_at(b, k, g)

@@ -5,7 +5,7 @@ use denote.Struct.Laws as LL
 use Rattle.state.specs.declared.Ledger.{Ledger}
 use Rattle.occupancy.specs.declared.Board.{Board}
 use Rattle.occupancy.specs.declared.Entry.{Entry}
-use Rattle.occupancy.specs.Board.{entryAt, scopeIn}
+use Rattle.occupancy.specs.Board.{entryAt, scopeBoardAt}
 use Rattle.state.proofs.Ledger as T
 use Rattle.occupancy.proofs.Board as B
 use Rattle.occupancy.proofs.Board.Laws as B′
@@ -29,8 +29,8 @@ module _ {M : Type 1} (𝓤 : URA M) (H : Heap 𝓤) (A : Atoms 𝓤) (mem : Mem
   abbrev At : Contract 𝓤
   At = tripleOf 𝓤 H A at′.signature (at′.spec 𝓤 H A mem run)
 
-  of-at : (b : Board) (k a : ℕ) (r : Entry) → ent 𝓤 (ensured 𝓤 H A at′.ended (at′.clauses 𝓤 H A mem run) tt (b, (k, (a, tt))) tt r) (fact 𝓤 (r ≡ entryAt (scopeIn b k) a))
-  of-at b k a r = exE 𝓤 _ (λ ws. snd∗ 𝓤 (sem 𝓤 H A (lasts at′.ended tt (b, (k, (a, tt))) ws)) (fact 𝓤 (r ≡ entryAt (scopeIn b k) a)))
+  of-at : (b : Board) (k a : ℕ) (r : Entry) → ent 𝓤 (ensured 𝓤 H A at′.ended (at′.clauses 𝓤 H A mem run) tt (b, (k, (a, tt))) tt r) (fact 𝓤 (r ≡ entryAt (scopeBoardAt b k) a))
+  of-at b k a r = exE 𝓤 _ (λ ws. snd∗ 𝓤 (sem 𝓤 H A (lasts at′.ended tt (b, (k, (a, tt))) ws)) (fact 𝓤 (r ≡ entryAt (scopeBoardAt b k) a)))
 
 -- the ledger h at (b, o); k is the number of a scope, and a that of an address
 module _ {M : Type 1} (𝓤 : URA M) (H : Heap 𝓤) (A : Atoms 𝓤) (W : Given 𝓤 H A) (mem : Memory → SProp 𝓤) (run : Routine → Fun 𝓤) (κ : Lft) (q : Share) (b o : ℕ) (γ : GName) (h : Ledger) (k a : ℕ)
@@ -48,7 +48,7 @@ module _ {M : Type 1} (𝓤 : URA M) (H : Heap 𝓤) (A : Atoms 𝓤) (W : Given
   Post = walkOf 𝓤 H A f.ended stayed (f.clauses 𝓤 H A mem run) .post (((κ, tt), (q, tt), tt, x, vals), tt)
 
   -- the answer r at the machine value w
-  exits : (r : Entry) (w : Val) → Is Z.the-row r (w ∷ []) → r ≡ entryAt (scopeIn (h .memory .board) k) a → ent 𝓤 (⋆ 𝓤 H A (‵ (flft κ q) ∷ [])) (Post w)
+  exits : (r : Entry) (w : Val) → Is Z.the-row r (w ∷ []) → r ≡ entryAt (scopeBoardAt (h .memory .board) k) a → ent 𝓤 (⋆ 𝓤 H A (‵ (flft κ q) ∷ [])) (Post w)
   exits r w is e =
       qed W (‵ (flft κ q) ∷ []) ∵
       suffices ! _ (ends-at 𝓤 H A f.ended stayed (f.clauses 𝓤 H A mem run) W (((κ, tt), (q, tt), tt, x, vals), tt) w r (tt, (tt, (tt, tt))) (tt, (tt, (tt, tt)))) $ says ! e $
@@ -80,7 +80,7 @@ module _ {M : Type 1} (𝓤 : URA M) (H : Heap 𝓤) (A : Atoms 𝓤) (W : Given
         use0 W (raw (At 𝓤 H A mem run .pre to-at)) (goes-at (board-is h is-h)) $
         calls-at ! fm (At 𝓤 H A mem run) known to-at (and-then ! (load ! (from ! (stop !)) (look ! 2 refl)) (and-then ! (load ! (from ! (stop !)) (look ! 6 refl)) (and-then ! (load ! (from ! (stop !)) (look ! 4 refl)) (no-more !)))) (λ w.
         use1 W (later (some (λ (r : Entry). (‵ ftrue ⊛ ‵ (Z.the-row .own r (w ∷ []))) ⊛ raw (ensured 𝓤 H A at′.ended (at′.clauses 𝓤 H A mem run) tt (h .memory .board, (k, (a, tt))) tt r)))) (id⊢ 𝓤 _) $ await ! tt $ pick ! (λ r.
-        split ! $ move ! (1 ∷ []) $ use1 W (raw (fact 𝓤 (r ≡ entryAt (scopeIn (h .memory .board) k) a))) (of-at 𝓤 H A mem run (h .memory .board) k a r) $ heard ! (r ≡ entryAt (scopeIn (h .memory .board) k) a) (λ e. split ! $ drop ! $
+        split ! $ move ! (1 ∷ []) $ use1 W (raw (fact 𝓤 (r ≡ entryAt (scopeBoardAt (h .memory .board) k) a))) (of-at 𝓤 H A mem run (h .memory .board) k a r) $ heard ! (r ≡ entryAt (scopeBoardAt (h .memory .board) k) a) (λ e. split ! $ drop ! $
         peeks ! Z.the-row (Is Z.the-row) (shows 𝓤 H A Z.the-row) r (w ∷ []) (λ is. drop ! $
         land ! (from ! (stop !)) (init ! 9 refl (LL.lawful Z.the-type Z′.the-laws 𝓤 H A W .typed r _ is .0)) $ returns ! (look ! 9 refl) $
         forget ! 1 refl $ forget ! 3 refl $ forget ! 5 refl $ forget ! 7 refl $ forget ! 9 refl $

@@ -4,7 +4,7 @@ use Rattle.lent.proofs.Walk.{stands, _≡_, refl, ℕ, _<_, _^_, [], _�
 use denote.Struct.Laws as LL
 use Rattle.state.specs.declared.Ledger.{Ledger}
 use Rattle.occupancy.specs.declared.Board.{Board}
-use Rattle.occupancy.specs.Board.{heldIn, scopeIn}
+use Rattle.occupancy.specs.Board.{heldIn, scopeBoardAt}
 use Rattle.state.proofs.Ledger as T
 use Rattle.occupancy.proofs.Board as B
 use Rattle.occupancy.proofs.Board.Laws as B′
@@ -26,8 +26,8 @@ module _ {M : Type 1} (𝓤 : URA M) (H : Heap 𝓤) (A : Atoms 𝓤) (mem : Mem
   abbrev At : Contract 𝓤
   At = tripleOf 𝓤 H A at′.signature (at′.spec 𝓤 H A mem run)
 
-  of-at : (b : Board) (k a : ℕ) (r : ℕ) → ent 𝓤 (ensured 𝓤 H A at′.ended (at′.clauses 𝓤 H A mem run) tt (b, (k, (a, tt))) tt r) (fact 𝓤 (r ≡ heldIn (scopeIn b k) a))
-  of-at b k a r = exE 𝓤 _ (λ ws. snd∗ 𝓤 (sem 𝓤 H A (lasts at′.ended tt (b, (k, (a, tt))) ws)) (fact 𝓤 (r ≡ heldIn (scopeIn b k) a)))
+  of-at : (b : Board) (k a : ℕ) (r : ℕ) → ent 𝓤 (ensured 𝓤 H A at′.ended (at′.clauses 𝓤 H A mem run) tt (b, (k, (a, tt))) tt r) (fact 𝓤 (r ≡ heldIn (scopeBoardAt b k) a))
+  of-at b k a r = exE 𝓤 _ (λ ws. snd∗ 𝓤 (sem 𝓤 H A (lasts at′.ended tt (b, (k, (a, tt))) ws)) (fact 𝓤 (r ≡ heldIn (scopeBoardAt b k) a)))
 
 -- the ledger h at (b, o); k is the number of a scope, and a that of a tenant
 module _ {M : Type 1} (𝓤 : URA M) (H : Heap 𝓤) (A : Atoms 𝓤) (W : Given 𝓤 H A) (mem : Memory → SProp 𝓤) (run : Routine → Fun 𝓤) (κ : Lft) (q : Share) (b o : ℕ) (γ : GName) (h : Ledger) (k a : ℕ)
@@ -45,7 +45,7 @@ module _ {M : Type 1} (𝓤 : URA M) (H : Heap 𝓤) (A : Atoms 𝓤) (W : Given
   Post = walkOf 𝓤 H A f.ended stayed (f.clauses 𝓤 H A mem run) .post (((κ, tt), (q, tt), tt, x, vals), tt)
 
   -- the answer r at the machine value w
-  exits : (r : ℕ) (w : Val) → Is u8 r (w ∷ []) → r ≡ heldIn (scopeIn (h .memory .board) k) a → ent 𝓤 (⋆ 𝓤 H A (‵ (flft κ q) ∷ [])) (Post w)
+  exits : (r : ℕ) (w : Val) → Is u8 r (w ∷ []) → r ≡ heldIn (scopeBoardAt (h .memory .board) k) a → ent 𝓤 (⋆ 𝓤 H A (‵ (flft κ q) ∷ [])) (Post w)
   exits r w is e =
       qed W (‵ (flft κ q) ∷ []) ∵
       suffices ! _ (ends-at 𝓤 H A f.ended stayed (f.clauses 𝓤 H A mem run) W (((κ, tt), (q, tt), tt, x, vals), tt) w r (tt, (tt, (tt, tt))) (tt, (tt, (tt, tt)))) $ says ! e $
@@ -77,7 +77,7 @@ module _ {M : Type 1} (𝓤 : URA M) (H : Heap 𝓤) (A : Atoms 𝓤) (W : Given
         use0 W (raw (At 𝓤 H A mem run .pre to-at)) (goes-at (board-is h is-h)) $
         calls-at ! fm (At 𝓤 H A mem run) known to-at (and-then ! (load ! (from ! (stop !)) (look ! 2 refl)) (and-then ! (load ! (from ! (stop !)) (look ! 6 refl)) (and-then ! (load ! (from ! (stop !)) (look ! 4 refl)) (no-more !)))) (λ w.
         use1 W (later (some (λ (r : ℕ). (‵ ftrue ⊛ ‵ (u8 .own r (w ∷ []))) ⊛ raw (ensured 𝓤 H A at′.ended (at′.clauses 𝓤 H A mem run) tt (h .memory .board, (k, (a, tt))) tt r)))) (id⊢ 𝓤 _) $ await ! tt $ pick ! (λ r.
-        split ! $ move ! (1 ∷ []) $ use1 W (raw (fact 𝓤 (r ≡ heldIn (scopeIn (h .memory .board) k) a))) (of-at 𝓤 H A mem run (h .memory .board) k a r) $ heard ! (r ≡ heldIn (scopeIn (h .memory .board) k) a) (λ e. split ! $ drop ! $
+        split ! $ move ! (1 ∷ []) $ use1 W (raw (fact 𝓤 (r ≡ heldIn (scopeBoardAt (h .memory .board) k) a))) (of-at 𝓤 H A mem run (h .memory .board) k a r) $ heard ! (r ≡ heldIn (scopeBoardAt (h .memory .board) k) a) (λ e. split ! $ drop ! $
         peeks ! u8 (Is u8) (shows 𝓤 H A u8) r (w ∷ []) (λ is. drop ! $
         land ! (from ! (stop !)) (init ! 9 refl (uint-lawful 𝓤 H A W w8 .typed r _ is .0)) $ returns ! (look ! 9 refl) $
         forget ! 1 refl $ forget ! 3 refl $ forget ! 5 refl $ forget ! 7 refl $ forget ! 9 refl $

@@ -20,10 +20,11 @@
 extern "C" {
 #endif
 
-#define BANSHORRA_FILE_ROOM 32768 /* the longest campus file, and the least buffer for one that is served */
-#define BANSHORRA_REPLY_ROOM 512  /* the least reply buffer; no reply is longer */
-#define BANSHORRA_BOARD_ROOM 1100 /* the least buffer for the board's text */
-#define BANSHORRA_ANSWER_ROOM 517 /* what a replay needs free before it answers a call */
+#define BANSHORRA_FILE_ROOM 32768    /* the longest campus file, and the least buffer for one that is served */
+#define BANSHORRA_REPLY_ROOM 512     /* the least reply buffer; no reply is longer */
+#define BANSHORRA_BOARD_ROOM 1100    /* the least buffer for the board's text */
+#define BANSHORRA_ANSWER_ROOM 517    /* what a replay needs free before it answers a call */
+#define BANSHORRA_OCCUPANCY_ROOM 544 /* the occupancy board, and the least buffer for it */
 
 /* Outcomes of a call (document 01's table). The first that holds counts. */
 enum {
@@ -42,7 +43,7 @@ enum {
 enum {
     BANSHORRA_WRONG_FORM = 20,      /* campus file: layout, order, names, excess octets, or above 32,768 octets */
     BANSHORRA_UNSOUND = 21,         /* campus file: well formed, but not sound */
-    BANSHORRA_SHORT_FILE_ROOM = 23, /* the file's buffer is below 32,768 octets */
+    BANSHORRA_SHORT_FILE_ROOM = 23, /* the file's buffer is below 32,768 octets, or the occupancy board's below 544 */
     BANSHORRA_CUT_OFF = 24,         /* a call's record is cut off */
     BANSHORRA_SHORT_ANSWERS = 27,   /* fewer than 517 octets are left for the next answer */
     BANSHORRA_FILE_LENGTH = 28      /* the file's length is above its buffer's */
@@ -54,6 +55,15 @@ uint8_t banshorra_check(const uint8_t *file, size_t file_length);
 /* The text that the program `board` prints for a campus file, `refused 20` and `refused 21` too: it stands in `text`, without a closing
    NUL, octets past it untouched. Returns its length; 0, and nothing written, where text_room is below 1,100. */
 size_t banshorra_board(const uint8_t *file, size_t file_length, uint8_t *text, size_t text_room);
+
+/* The occupancy board of a campus file: who has each address, by how many leases and holds, and what each house holds. It is 544 octets, in the
+   order of the file's scopes, always four of them: for each of 64 offsets the owning house(1; from 1, 0 for none) and the number of leases and
+   holds on the address(1), whatever their periods; then the holdings of eight houses(1 each). What the campus hasn't is 0: scopes, offsets from a
+   scope's size on, houses. Octet 136 * (scope - 1) + 2 * offset is an owner, the next its count; 136 * (scope - 1) + 128 + (house - 1) is a holding.
+   What has ended or lapsed by the file's clock is gone from it; that clock moves with calls alone.
+   Returns 0; or 20 or 21 for a refused file, and then 23 where board_room is below 544. A refusal writes nothing; octets past the 544th are
+   untouched. */
+uint8_t banshorra_occupancy(const uint8_t *file, size_t file_length, uint8_t *board, size_t board_room);
 
 /* Serves one datagram on the campus file in the first *file_length octets of a buffer of file_room octets.
    client: the IPv4 address it came from, as a number (10.0.1.5 is 0x0A000105). time: now, in whole seconds since 1970.

@@ -2,6 +2,7 @@
 
 use crate::lent::{self, Replayed};
 use crate::numbers::{Outcome, Refusal};
+use crate::occupancy::Occupancy;
 use crate::{BOARD_ROOM, FILE_ROOM};
 use std::fmt;
 use std::net::Ipv4Addr;
@@ -62,6 +63,12 @@ impl CampusFile {
         let mut text = [0; BOARD_ROOM];
         let text = lent::board(self.as_bytes(), &mut text);
         text.expect("the room is enough").to_owned()
+    }
+
+    /// Who has which address, and what each house holds. It is as of the file's clock, which calls alone raise: to have it as of now, serve
+    /// first. A call with no octets will do, which is discarded and drops what has ended.
+    pub fn occupancy(&self) -> Occupancy {
+        lent::occupancy(self.as_bytes()).expect("an accepted file stays accepted")
     }
 }
 

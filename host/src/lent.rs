@@ -3,6 +3,8 @@
 
 use crate::library;
 use crate::numbers::{Outcome, Refusal};
+use crate::occupancy::Occupancy;
+use crate::OCCUPANCY_ROOM;
 use std::net::Ipv4Addr;
 
 /// Whether a campus file is accepted; refusal 20 or 21.
@@ -19,6 +21,15 @@ pub fn board<'t>(file: &[u8], text: &'t mut [u8]) -> Option<&'t str> {
     match library::board(file, text) {
         0 => None,
         length => Some(std::str::from_utf8(&text[..length]).expect("the board is ASCII")),
+    }
+}
+
+/// Who has which address of a campus file, as of its clock; refusal 20 or 21.
+pub fn occupancy(file: &[u8]) -> Result<Occupancy, Refusal> {
+    let mut board = [0; OCCUPANCY_ROOM];
+    match library::occupancy(file, &mut board) {
+        0 => Ok(Occupancy::of_octets(board)),
+        number => Err(refusal(number)),
     }
 }
 

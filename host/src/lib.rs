@@ -29,6 +29,8 @@
 //! }
 //! ```
 //!
+//! [`CampusFile::occupancy`] says who has which address, for those who poll it.
+//!
 //! [`lent`] has the same calls on buffers of the caller's. The numbers are those of documents 01 and 02 and of `include/banshorra.h`.
 
 #![deny(unsafe_code)]
@@ -40,12 +42,14 @@ pub mod lent;
 #[allow(unsafe_code)]
 pub mod library;
 mod numbers;
+mod occupancy;
 mod records;
 
 pub use campus_file::CampusFile;
 pub use fault::Fault;
 pub use lent::Replayed;
 pub use numbers::{Discard, Outcome, Refusal};
+pub use occupancy::Occupancy;
 pub use records::{answers, Answers, Call};
 
 /// The longest campus file, and the least buffer for a file that is served.
@@ -56,3 +60,6 @@ pub const REPLY_ROOM: usize = 512;
 pub const BOARD_ROOM: usize = 1_100;
 /// What a replay needs free before it answers a call: outcome(1), offset(2), reply length(2) and the longest reply.
 pub const ANSWER_ROOM: usize = 5 + REPLY_ROOM;
+/// The octets of the occupancy board, and the least buffer for it: for each of four scopes the owner(1) and the count(1) of 64 addresses and
+/// the holdings(1) of eight houses.
+pub const OCCUPANCY_ROOM: usize = 4 * (2 * 64 + 8);

@@ -1,4 +1,4 @@
-//! The static library's four functions as safe ones on slices, with its own numbers, as `include/banshorra.h` has them. All unsafe code of
+//! The static library's five functions as safe ones on slices, with its own numbers, as `include/banshorra.h` has them. All unsafe code of
 //! the crate is here; [`lent`](crate::lent) has the same calls with the numbers read.
 //!
 //! Why each call is sound:
@@ -23,6 +23,13 @@ extern "C" {
         text: *mut u8,
         text_room: usize,
     ) -> usize;
+    /// The occupancy board.
+    pub fn banshorra_occupancy(
+        file: *const u8,
+        file_length: usize,
+        board: *mut u8,
+        board_room: usize,
+    ) -> u8;
     /// One call.
     pub fn banshorra_serve(
         file: *mut u8,
@@ -61,6 +68,12 @@ pub fn check(file: &[u8]) -> u8 {
 pub fn board(file: &[u8], text: &mut [u8]) -> usize {
     // SAFETY: as above; `text` alone is written.
     unsafe { banshorra_board(file.as_ptr(), file.len(), text.as_mut_ptr(), text.len()) }
+}
+
+/// 0, and the occupancy board in the front of `board`; 20 or 21 for a refused file, and then 23 where the room is below 544 octets.
+pub fn occupancy(file: &[u8], board: &mut [u8]) -> u8 {
+    // SAFETY: as above; `board` alone is written.
+    unsafe { banshorra_occupancy(file.as_ptr(), file.len(), board.as_mut_ptr(), board.len()) }
 }
 
 /// One call on the campus file in the first `file_length` octets of `file`: its outcome or refusal.

@@ -2,8 +2,8 @@
 
 mod common;
 
-use banshorra_host::{lent, Discard, Outcome, Refusal, Replayed};
-use banshorra_host::{BOARD_ROOM, FILE_ROOM, REPLY_ROOM};
+use banshorra_host::{lent, library, Discard, Outcome, Refusal, Replayed};
+use banshorra_host::{BOARD_ROOM, FILE_ROOM, OCCUPANCY_ROOM, REPLY_ROOM};
 use common::*;
 
 fn getinfo() -> Vec<u8> {
@@ -170,5 +170,42 @@ fn a_short_buffer_has_no_board() {
         let mut least = pattern(BOARD_ROOM);
         lent::board(&file, &mut least).expect("a text");
         assert_eq!(least[..length], text[..length]);
+    }
+}
+
+#[test]
+fn a_short_buffer_has_no_occupancy_board() {
+    let lease = Lease {
+        house: 2,
+        scope: 1,
+        identifier: b"ab".to_vec(),
+        kind: REQUEST,
+        transaction: 7,
+        start: 900,
+        end: 1500,
+        offsets: vec![1, 2],
+    };
+    let file = file_at(1000, &[lease]);
+    let mut unsound = file.clone();
+    unsound[32] = 0;
+    for room in [0, 1, OCCUPANCY_ROOM - 1] {
+        // A refused file is refused first.
+        for (file, number) in [(&file[..], 23), (&file[1..], 20), (&unsound, 21)] {
+            let mut board = pattern(room);
+            assert_eq!(library::occupancy(file, &mut board), number);
+            assert_eq!(board, pattern(room));
+        }
+    }
+    let due = lent::occupancy(&file).expect("sound");
+    for room in [OCCUPANCY_ROOM, OCCUPANCY_ROOM + 1, 2000] {
+        let mut board = pattern(room);
+        assert_eq!(library::occupancy(&file, &mut board), 0);
+        assert_eq!(board[..OCCUPANCY_ROOM], due.as_bytes()[..]);
+        assert_eq!(board[OCCUPANCY_ROOM..], pattern(room)[OCCUPANCY_ROOM..]);
+        for (file, number) in [(&file[1..], 20), (&unsound, 21)] {
+            let mut board = pattern(room);
+            assert_eq!(library::occupancy(file, &mut board), number);
+            assert_eq!(board, pattern(room));
+        }
     }
 }

@@ -8,6 +8,7 @@ use common::*;
 fn refusal(file: &[u8]) -> Option<Refusal> {
     let refusal = CampusFile::from_bytes(file).err();
     assert_eq!(lent::check(file).err(), refusal);
+    assert_eq!(lent::occupancy(file).err(), refusal);
     let mut text = [0; 1100];
     let text = lent::board(file, &mut text).expect("the room is enough");
     match refusal {

@@ -1,7 +1,7 @@
 //! The C header and the crate name the same numbers and functions.
 
 use banshorra_host::{Discard, Outcome, Refusal};
-use banshorra_host::{ANSWER_ROOM, BOARD_ROOM, FILE_ROOM, REPLY_ROOM};
+use banshorra_host::{ANSWER_ROOM, BOARD_ROOM, FILE_ROOM, OCCUPANCY_ROOM, REPLY_ROOM};
 
 const HEADER: &str = include_str!("../include/banshorra.h");
 
@@ -25,6 +25,7 @@ fn the_header_and_the_crate_agree() {
         ("REPLY_ROOM", REPLY_ROOM),
         ("BOARD_ROOM", BOARD_ROOM),
         ("ANSWER_ROOM", ANSWER_ROOM),
+        ("OCCUPANCY_ROOM", OCCUPANCY_ROOM),
         ("REPLY", usize::from(Outcome::Reply(&[]).number())),
     ];
     for (name, discard) in [

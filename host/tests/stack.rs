@@ -101,6 +101,7 @@ fn a_full_campus_is_served() {
         assert_eq!(campus.replay(&calls, &mut answers).stopped, None);
         assert_eq!(campus.as_bytes(), remember(2));
         campus.board();
+        campus.occupancy();
     });
 }
 
@@ -128,6 +129,7 @@ fn a_campus_of_holds_is_served() {
     on_that_stack(move || {
         let mut campus = CampusFile::from_bytes(&full.octets()).expect("sound");
         campus.board();
+        assert_eq!(campus.occupancy().entry(1, 0), (Some(1), 16));
         // Refused: the house has no record left. Then the last of them is taken up.
         let options = [identifier(b"ab"), scope(POOL + 256)];
         let refused = message(DISCOVER, 1, &options);

@@ -1,4 +1,4 @@
-//! An independent second MADCAP server library, written from documents 01 and 02 (as far as W-206) and the
+//! An independent second MADCAP server library, written from documents 01 and 02 (as far as W-207) and the
 //! MADCAP draft only (with the project's readings where the documents are open), and used for comparison.
 //! It is plain and slow on purpose: where the rules speak of addresses one by one, so does the code.
 
@@ -10,6 +10,7 @@ pub mod grant;
 pub mod holds;
 pub mod message;
 pub mod names;
+pub mod occupancy;
 pub mod octets;
 pub mod period;
 pub mod programs;

@@ -1,8 +1,8 @@
-//! `second replay` and `second board`: standard input in, text out.
+//! `second replay`, `second board` and `second occupancy`: standard input in, text out.
 
 #![forbid(unsafe_code)]
 
-use second::programs::{board, replay};
+use second::programs::{board, occupancy, replay};
 use std::io::{self, Read, Write};
 use std::process::ExitCode;
 
@@ -11,8 +11,9 @@ fn main() -> ExitCode {
     let program = match arguments.as_slice() {
         [name] if name == "replay" => replay,
         [name] if name == "board" => board,
+        [name] if name == "occupancy" => occupancy,
         _ => {
-            eprintln!("usage: second replay | second board");
+            eprintln!("usage: second replay | second board | second occupancy");
             return ExitCode::from(2);
         }
     };

@@ -1,7 +1,8 @@
-//! What the programs `replay` and `board` print for their standard input.
+//! What the programs `replay`, `board` and `occupancy` print for their standard input.
 
 use crate::book::Book;
 use crate::file;
+use crate::occupancy::scope_boards;
 use crate::octets::{hex, Octets};
 use crate::server::{serve, BAD_OPTIONS, REPLY};
 use std::net::Ipv4Addr;
@@ -30,6 +31,32 @@ pub fn board_text(book: &Book) -> String {
         }
     }
     text
+}
+
+/// A campus file: the occupancy board's text, or the file's refusal.
+pub fn occupancy(input: &[u8]) -> String {
+    match file::read(input) {
+        Ok(book) => occupancy_text(&book),
+        Err(refusal) => refused(refusal),
+    }
+}
+
+/// A header and, by scope then address: address, owning house or 0, leases and holds on it; then a header and, by
+/// scope then house: lowest address, house, holding.
+pub fn occupancy_text(book: &Book) -> String {
+    let mut addresses = String::from("address house leases\n");
+    let mut holdings = String::from("scope house holds\n");
+    for (board, scope) in scope_boards(book).iter().zip(&book.scopes) {
+        for (entry, number) in board.entries.iter().zip(scope.lowest..) {
+            let (address, owner) = (Ipv4Addr::from(number), entry.owner.unwrap_or(0));
+            addresses += &format!("{address} {owner} {}\n", entry.count);
+        }
+        let lowest = Ipv4Addr::from(scope.lowest);
+        for (house, holding) in book.house_numbers().zip(&board.holdings) {
+            holdings += &format!("{lowest} {house} {holding}\n");
+        }
+    }
+    addresses + &holdings
 }
 
 /// A campus file with its length and a list of calls: a line per call, then the book afterwards.

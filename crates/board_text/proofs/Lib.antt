@@ -1,2 +1,3 @@
 mod Opened
 mod Lines
+mod Shown

@@ -10,17 +10,19 @@ use denote.Ref.{now}
 use lib.Dec.{ltb}
 use lib.ListN.{drop, getD, length}
 use borrow.Author.Tests.{eq-eqb, le-ltb, lt-ltb, ne-eqb}
-use Rattle.address_set.specs.laws.Bits.{length-offsets}
-use Rattle.board_text.specs.Board.{Line, bookLines, decimal, dotted, field, headerLine, lengthIn, line, linesTo, refusedLine, roomWithText, scopeLines, textOf}
+use Rattle.board_text.proofs.Shown.{lines-same}
+use Rattle.board_text.specs.Board.{Line, bookLines, decimal, dotted, field, headerLine, lengthIn, lineOn, linesOn, linesTo, refusedLine, roomWithText, scopeOn, textOf}
 use Rattle.lists.specs.Pick.{pick}
+use Rattle.occupancy.specs.Board.{heldIn, scopeBoardAt}
+use Rattle.occupancy.specs.declared.Board.{Board}
 use Rattle.octets.specs.laws.Octets.{wrote-joined, wrote-whole, whole-length, wrote-as, wrote-none}
 use Rattle.octets.specs.Octets.{Wrote}
-use Rattle.state.specs.Book.{heldCount, heldOf, inUse, scopeAt, tenantAt}
-use Rattle.state.specs.declared.Lease.{Lease}
-use Rattle.state.specs.declared.LeaseTable.{LeaseTable}
+use Rattle.state.specs.Board.{boardOf}
+use Rattle.state.specs.Book.{leasesOf, scopeAt}
 use Rattle.state.specs.declared.Scope.{Scope}
 use Rattle.state.specs.declared.State.{State}
-use Rattle.state.specs.declared.TenantLeases.{TenantLeases}
+use Rattle.state_file.proofs.RoundTrip.{read-board}
+use Rattle.state_file.specs.StateFile.{readFile}
 use Rattle.state_file.specs.declared.Loaded.{Loaded}
 
 line-join : {r₀ r₁ r₂ xs ys : List ℕ} {a b c m n : ℕ} → a ≤ length r₀ → Line r₀ a xs r₁ b m → Line r₁ b ys r₂ c n → Line r₀ a (xs ++ ys) r₂ c (m + n)
@@ -65,9 +67,9 @@ pub line-wrote : {r₀ r₁ r₂ r₃ r₄ r₅ r₆ : List ℕ} {at a b c d e f
     → Line r₃ c (field l) r₄ d 4 → Line r₄ d (field n) r₅ e 4 → Line r₅ e (10 ∷ []) r₆ f 1 → Line r₀ at (dotted x ++ field g ++ field r ++ field l ++ field n ++ 10 ∷ []) r₆ f 32
 line-wrote x g r l n h p q u v w z = line-as (simp append-assoc) (omega arith) (line-join h (line-join h (line-join h (line-join h (line-join h p q) u) v) w) z)
 
-pub tenant-wrote : {r₀ r₁ : List ℕ} {at f : ℕ} (s : State) (b : LeaseTable) (k g : ℕ) (c : Scope) (n : ℕ) → c ≡ scopeAt s k → n ≡ heldCount (k + 1) (inUse (tenantAt b g))
-    → Line r₀ at (dotted (c .lowest) ++ field (g + 1) ++ field (getD (c .reserve) g 0) ++ field (getD (c .limit) g 0) ++ field n ++ 10 ∷ []) r₁ f 32 → Line r₀ at (line s b k g) r₁ f 32
-unfolding line
+pub tenant-wrote : {r₀ r₁ : List ℕ} {at f : ℕ} (s : State) (b : Board) (k g : ℕ) (c : Scope) (n : ℕ) → c ≡ scopeAt s k → n ≡ heldIn (scopeBoardAt b k) g
+    → Line r₀ at (dotted (c .lowest) ++ field (g + 1) ++ field (getD (c .reserve) g 0) ++ field (getD (c .limit) g 0) ++ field n ++ 10 ∷ []) r₁ f 32 → Line r₀ at (lineOn s b k g) r₁ f 32
+unfolding lineOn
 tenant-wrote s b k g c n e p w =
     line-as (ap₂ (λ (x : Scope) (y : ℕ). dotted (x .lowest) ++ field (g + 1) ++ field (getD (x .reserve) g 0) ++ field (getD (x .limit) g 0) ++ field y ++ 10 ∷ []) e p) (omega arith) w
 
@@ -108,19 +110,19 @@ module _ {f : ℕ → List ℕ} {most n : ℕ} {r₀ : List ℕ} {at : ℕ} {buf
   pub lines-end : n ≤ i → Wrote r₀ at (linesTo f n) buffer to
   lines-end h = wrote-as (ap (linesTo f) (let e : i ≡ n = omega (arith, v .within) in e)) (v .wrote)
 
-pub scope-done : {r₀ r₁ : List ℕ} {at to i n : ℕ} (s : State) (b : LeaseTable) (k : ℕ) → LinesInv (line s b k) 32 n r₀ at r₁ to i → n ≡ min (s .«tenant_count») 8 → n ≤ i → Line r₀ at (scopeLines s b k) r₁ to 256
-unfolding scopeLines
-scope-done s b k v e h = record { wrote = wrote-as (ap (linesTo (line s b k)) e) (lines-end v h); small = omega (arith, v .small, v .within) }
+pub scope-done : {r₀ r₁ : List ℕ} {at to i n : ℕ} (s : State) (b : Board) (k : ℕ) → LinesInv (lineOn s b k) 32 n r₀ at r₁ to i → n ≡ min (s .«tenant_count») 8 → n ≤ i → Line r₀ at (scopeOn s b k) r₁ to 256
+unfolding scopeOn
+scope-done s b k v e h = record { wrote = wrote-as (ap (linesTo (lineOn s b k)) e) (lines-end v h); small = omega (arith, v .small, v .within) }
 
-pub book-done : {r₀ r₁ : List ℕ} {at to i n : ℕ} (s : State) (b : LeaseTable) → LinesInv (scopeLines s b) 256 n r₀ at r₁ to i → n ≡ min (s .«scope_count») 4 → n ≤ i → Line r₀ at (bookLines s b) r₁ to 1024
-unfolding bookLines
-book-done s b v e h = record { wrote = wrote-as (ap (linesTo (scopeLines s b)) e) (lines-end v h); small = omega (arith, v .small, v .within) }
+pub book-done : {r₀ r₁ : List ℕ} {at to i n : ℕ} (s : State) (b : Board) → LinesInv (scopeOn s b) 256 n r₀ at r₁ to i → n ≡ min (s .«scope_count») 4 → n ≤ i → Line r₀ at (linesOn s b) r₁ to 1024
+unfolding linesOn
+book-done s b v e h = record { wrote = wrote-as (ap (linesTo (scopeOn s b)) e) (lines-end v h); small = omega (arith, v .small, v .within) }
 
 pub ruleset lineLoops = (lines-start, lines-room, lines-next, scope-done, book-done)
 
 -- ---- the whole
-pub board-wrote : {r₀ r₁ r₂ : List ℕ} {a b : ℕ} (s : State) (t : LeaseTable) → Wrote r₀ 0 headerLine r₁ a → Line r₁ a (bookLines s t) r₂ b 1024 → Wrote r₀ 0 (headerLine ++ bookLines s t) r₂ b
-board-wrote s t p q = wrote-joined (omega arith) p (q .wrote)
+pub board-wrote : {r₀ r₁ r₂ : List ℕ} {a c : ℕ} (s : State) (b : Board) → Wrote r₀ 0 headerLine r₁ a → Line r₁ a (linesOn s b) r₂ c 1024 → Wrote r₀ 0 (headerLine ++ linesOn s b) r₂ c
+board-wrote s b p q = wrote-joined (omega arith) p (q .wrote)
 
 pub refused-wrote : {r₀ r₁ r₂ r₃ : List ℕ} {a b c : ℕ} (n : ℕ) → Wrote r₀ 0 (114 ∷ 101 ∷ 102 ∷ 117 ∷ 115 ∷ 101 ∷ 100 ∷ []) r₁ a → Line r₁ a (field n) r₂ b 4 → Line r₂ b (10 ∷ []) r₃ c 1 → Wrote r₀ 0 (refusedLine n) r₃ c
 unfolding refusedLine
@@ -145,17 +147,13 @@ module _ (r : Loaded) (room : List ℕ) where
   unfolding textOf pick
   board-refused now k h e w = done now k h (wrote-as (sym (ap (λ (t : Bool). pick t (headerLine ++ bookLines (r .state) (r .table)) (refusedLine (r .refusal))) (ne-eqb (r .refusal) 0 e))) w)
 
--- what was read
-module _ (r q : Loaded) (room now : List ℕ) (k : ℕ) (e : r ≡ q) (h : 1100 ≤ length room) where
-  pub board-answer : r .refusal ≡ 0 → Wrote room 0 (headerLine ++ bookLines (r .state) (r .table)) now k → (k ≡ lengthIn q room) × (now ≡ roomWithText q room)
-  board-answer z w = subst (λ (x : Loaded). (k ≡ lengthIn x room) × (now ≡ roomWithText x room)) e (board-done r room now k h z w)
+-- what was read: an accepted file's board is what its leases say
+module _ (r : Loaded) (f room now : List ℕ) (k : ℕ) (e : r ≡ readFile f) (h : 1100 ≤ length room) where
+  pub board-answer : r .refusal ≡ 0 → Wrote room 0 (headerLine ++ linesOn (r .state) (r .memory .board)) now k → (k ≡ lengthIn (readFile f) room) × (now ≡ roomWithText (readFile f) room)
+  board-answer z w =
+      let says : r .memory .board ≡ boardOf (leasesOf (r .table)) = subst (λ (x : Loaded). x .memory .board ≡ boardOf (leasesOf (x .table))) (sym e) (read-board f (ap (λ (x : Loaded). x .refusal) (sym e) ∙ z)) in
+      subst (λ (x : Loaded). (k ≡ lengthIn x room) × (now ≡ roomWithText x room)) e
+      (board-done r room now k h z (wrote-as (ap (λ (x : List ℕ). headerLine ++ x) (lines-same (r .state) (r .table) (r .memory .board) says)) w))
 
-  pub refused-answer : (r .refusal ≡ 0 → ⊥) → Wrote room 0 (refusedLine (r .refusal)) now k → (k ≡ lengthIn q room) × (now ≡ roomWithText q room)
+  pub refused-answer : (r .refusal ≡ 0 → ⊥) → Wrote room 0 (refusedLine (r .refusal)) now k → (k ≡ lengthIn (readFile f) room) × (now ≡ roomWithText (readFile f) room)
   refused-answer z w = subst (λ (x : Loaded). (k ≡ lengthIn x room) × (now ≡ roomWithText x room)) e (board-refused r room now k h z w)
-
--- a tenant's holding fits an octet
-pub held-small : (s n : ℕ) (l : List Lease) → n ≡ heldCount s l → n ≤ 64
-held-small s n l e = let b = length-offsets (heldOf s l) in omega arith
-
-pub held-is : (s n g : ℕ) (b : LeaseTable) (t : TenantLeases) → t ≡ tenantAt b g → n ≡ heldCount s (inUse t) → n ≡ heldCount s (inUse (tenantAt b g))
-held-is s n g b t e p = p ∙ ap (λ (x : TenantLeases). heldCount s (inUse x)) e

@@ -4,6 +4,8 @@ use Prim.Native.Nat.{_%_, _+_, _/_, _≤_, suc, zero, ℕ}
 use lib.Dec.{eqb, ltb}
 use lib.ListN.{drop, length}
 use Rattle.lists.specs.Pick.{pick}
+use Rattle.occupancy.specs.Board.{heldIn, scopeBoardAt}
+use Rattle.occupancy.specs.declared.Board.{Board}
 use Rattle.octets.specs.Octets.{Wrote}
 use Rattle.soundness.specs.Sound.{scopesIn, tenantsIn}
 use Rattle.state.specs.Book.{heldCount, inUse, scopeAt, tenantAt, reserveAt, limitAt}
@@ -52,6 +54,18 @@ scopeLines s b k = linesTo (line s b k) (tenantsIn s)
 
 unfoldable pub bookLines : State → LeaseTable → List ℕ
 bookLines s b = linesTo (scopeLines s b) (scopesIn s)
+
+-- the same by what an occupancy board says that each tenant holds, as the code has it: in an accepted book these are the lines above (`lines-same`)
+unfoldable pub lineOn : State → Board → ℕ → ℕ → List ℕ
+lineOn s b k g =
+    dotted (scopeAt s k .lowest) ++ field (g + 1) ++ field (reserveAt (scopeAt s k) g) ++ field (limitAt (scopeAt s k) g)
+    ++ field (heldIn (scopeBoardAt b k) g) ++ 10 ∷ []
+
+unfoldable pub scopeOn : State → Board → ℕ → List ℕ
+scopeOn s b k = linesTo (lineOn s b k) (tenantsIn s)
+
+unfoldable pub linesOn : State → Board → List ℕ
+linesOn s b = linesTo (scopeOn s b) (scopesIn s)
 
 -- all that is printed for what the reader answers
 unfoldable pub textOf : Loaded → List ℕ

@@ -1,13 +1,13 @@
-// The text that `board` prints for a state file.
+// The text that `board` prints for a state file: what each tenant holds is read off the book's board.
 ghost use mathlib.Core.List.{[], _++_, _∷_};
 ghost use mathlib.Core.Path.{_≡_};
 ghost use Prim.Native.Nat.{_%_, _+_, _/_, _<_, _≤_};
 ghost use lib.ListN.{length};
-ghost use Rattle.board_text.specs.Board.{Line, bookLines, decimal, dotted, field, headerLine, lengthIn, line, refusedLine, roomWithText, scopeLines};
+ghost use Rattle.board_text.specs.Board.{Line, decimal, dotted, field, headerLine, lengthIn, lineOn, linesOn, refusedLine, roomWithText, scopeOn};
+ghost use Rattle.occupancy.specs.Board.{heldIn, scopeBoardAt};
 ghost use Rattle.octets.specs.Octets.{Wrote};
-ghost use Rattle.state.specs.Book.{heldCount, inUse, tenantAt};
 ghost use Rattle.state_file.specs.StateFile.{readFile};
-use state::LeaseTable;
+use occupancy::Board;
 use state::State;
 use state_file::Loaded;
 
@@ -89,27 +89,20 @@ fn put_line(buffer: &mut [u8], at: usize, a: u32, g: u8, reserve: u8, limit: u8,
 }
 
 // How many addresses tenant g + 1 has in scope k + 1.
-fn held(table: LeaseTable, k: usize, g: usize) -> u8
-    requires { ⌜ k < 4 ⌝ }
-    ensures { λ r. ⌜ r ≡ heldCount (k + 1) (inUse (tenantAt table g)) ⌝ }
+fn held(board: Board, k: usize, g: usize) -> u8
+    requires { ⌜ (k < 4) × (g < 8) ⌝ }
+    ensures { λ r. ⌜ r ≡ heldIn (scopeBoardAt board k) g ⌝ }
 {
-    let t = state::tenant_at(table, g);
-    state::held_count(t, (k + 1) as u8) as u8
+    let v = board.scopes[k];
+    v.held[g]
 }
 
-fn put_tenant(
-    buffer: &mut [u8],
-    at: usize,
-    state: State,
-    table: LeaseTable,
-    k: usize,
-    g: usize,
-) -> usize
+fn put_tenant(buffer: &mut [u8], at: usize, state: State, board: Board, k: usize, g: usize) -> usize
     requires { ⌜ (at + 32 ≤ length (now buffer)) × (k < 4) × (g < 8) ⌝ }
-    ensures { λ r. ⌜ Line (now (buffer .entry)) at (line state table k g) (now (buffer .exit)) r 32 ⌝ }
+    ensures { λ r. ⌜ Line (now (buffer .entry)) at (lineOn state board k g) (now (buffer .exit)) r 32 ⌝ }
 {
     let c = state::scope_at(state, k);
-    let n = held(table, k, g);
+    let n = held(board, k, g);
     put_line(
         buffer,
         at,
@@ -121,40 +114,40 @@ fn put_tenant(
     )
 }
 
-fn put_scope(buffer: &mut [u8], at: usize, state: State, table: LeaseTable, k: usize) -> usize
+fn put_scope(buffer: &mut [u8], at: usize, state: State, board: Board, k: usize) -> usize
     requires { ⌜ (at + 256 ≤ length (now buffer)) × (k < 4) ⌝ }
-    ensures { λ r. ⌜ Line (now (buffer .entry)) at (scopeLines state table k) (now (buffer .exit)) r 256 ⌝ }
+    ensures { λ r. ⌜ Line (now (buffer .entry)) at (scopeOn state board k) (now (buffer .exit)) r 256 ⌝ }
 {
     let n = arithmetic::cut8(state.tenant_count);
     let mut to = at;
     let mut g: usize = 0;
     while g < n {
-        to = put_tenant(buffer, to, state, table, k, g);
+        to = put_tenant(buffer, to, state, board, k, g);
         g += 1;
     }
     to
 }
 
-fn put_book(buffer: &mut [u8], at: usize, state: State, table: LeaseTable) -> usize
+fn put_book(buffer: &mut [u8], at: usize, state: State, board: Board) -> usize
     requires { ⌜ at + 1024 ≤ length (now buffer) ⌝ }
-    ensures { λ r. ⌜ Line (now (buffer .entry)) at (bookLines state table) (now (buffer .exit)) r 1024 ⌝ }
+    ensures { λ r. ⌜ Line (now (buffer .entry)) at (linesOn state board) (now (buffer .exit)) r 1024 ⌝ }
 {
     let n = arithmetic::cut4(state.scope_count);
     let mut to = at;
     let mut k: usize = 0;
     while k < n {
-        to = put_scope(buffer, to, state, table, k);
+        to = put_scope(buffer, to, state, board, k);
         k += 1;
     }
     to
 }
 
-fn put_board(buffer: &mut [u8], state: State, table: LeaseTable) -> usize
+fn put_board(buffer: &mut [u8], state: State, board: Board) -> usize
     requires { ⌜ 1100 ≤ length (now buffer) ⌝ }
-    ensures { λ r. ⌜ Wrote (now (buffer .entry)) 0 (headerLine ++ bookLines state table) (now (buffer .exit)) r ⌝ }
+    ensures { λ r. ⌜ Wrote (now (buffer .entry)) 0 (headerLine ++ linesOn state board) (now (buffer .exit)) r ⌝ }
 {
     let a = octets::put_run(buffer, 0, b"scope house share limit holds\n", 30);
-    put_book(buffer, a, state, table)
+    put_book(buffer, a, state, board)
 }
 
 fn put_refused(buffer: &mut [u8], n: u8) -> usize
@@ -197,8 +190,9 @@ pub fn write_board(file: &[u8], room: &mut [u8]) -> usize
     let n = r.refusal;
     if n == 0 {
         let state = r.state;
-        let table = r.table;
-        return put_board(room, state, table);
+        let memory = r.memory;
+        let board = memory.board;
+        return put_board(room, state, board);
     }
     put_refused(room, n)
 }

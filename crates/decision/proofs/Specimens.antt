@@ -17,6 +17,7 @@ use Rattle.address_set.specs.AddressSet.{bit, offsetsFrom, setOf, differenceOf,
 use Rattle.message.specs.declared.Wish.{Wish}
 use Rattle.message.specs.declared.Fields.{Fields}
 use Rattle.message.specs.declared.Language.{Language}
+use Rattle.occupancy.specs.Board.{noBoard}
 use Rattle.state.specs.declared.State.{State}
 use Rattle.state.specs.Book.{Book, changedTo, withClock, laidReleases, releasesAt, remembered, byIdentifier, zeroScope, laidOut, tableOf, insertOf, removeOf, liveOf, dropped, isHold, until, unionAll, addressesOf, overlaps, usedIn, withHeld, committed, insertedIn}
 use Rattle.allocation.specs.Rule.{takenOf, busyIn, allowed, grantOf, suffices, grantTo}
@@ -172,7 +173,7 @@ run b [] = b
 run b (c ∷ cs) = run (editedBook (decided (now b c) c .edit) (c .tenant) (now b c)) cs
 
 empty : State → Book
-empty s = record { state = s; table = tableOf (replicate 8 []); memory = record { releases = replicate 8 (laidReleases []) }; names = [] }
+empty s = record { state = s; table = tableOf (replicate 8 []); memory = record { releases = replicate 8 (laidReleases []); board = noBoard }; names = [] }
 
 record Case : Type 0 where
   settings-of : State

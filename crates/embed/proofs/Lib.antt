@@ -1,4 +1,5 @@
 mod Files
 mod Answered
 mod Replayed
+mod Occupancy
 pub mod Numbers

@@ -1,3 +1,4 @@
 pub mod Embed
+pub mod Occupancy
 pub mod Promises
 pub mod Statement

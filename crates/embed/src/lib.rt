@@ -8,6 +8,7 @@ ghost use Rattle.state_file.specs.StateFile.{readFile};
 ghost use Rattle.records.specs.Lent.{serveLent};
 ghost use Rattle.reply.specs.Reply.{leastRoom};
 ghost use Rattle.embed.specs.Embed.{answerRoom, largestNames, numberAfter, lengthAfter, serveFile, replayFile, replayed, stopIn, callIn, recordSize};
+ghost use Rattle.embed.specs.Occupancy.{boardNumber, roomWithBoard};
 ghost use Rattle.embed.specs.Promises.{Keeps, Opened, ServesFile, Answers, Replays, ReplaysFile};
 use owned::Owned;
 use owned::OwnedCall;
@@ -19,6 +20,9 @@ const ANSWER_ROOM: usize = 5 + reply::LEAST_ROOM;
 
 // The longest names of an accepted file.
 const NAMES_ROOM: usize = 6229;
+
+// The octets of an occupancy board.
+const BOARD_ROOM: usize = 544;
 
 // How far a list of calls came: 0 or why it stopped, the octets of calls used, the octets of answers filled, and the book afterwards.
 struct Progress {
@@ -239,6 +243,28 @@ pub extern "C" fn banshorra_board(file: &[u8], text: &mut [u8]) -> usize
     ensures octets { λ r. ⌜ now (text .exit) ≡ roomWithText (readFile (now (file .entry))) (now (text .entry)) ⌝ }
 {
     board_text::write_board(file, text)
+}
+
+// The occupancy board of a campus file, for polling: 0, and 544 octets at the front of `board`; scope by scope, for each of 64 addresses the owner(1),
+// a house from 1 on or 0 for none, and the number of leases on it(1), then what each of eight houses holds(1). 20 or 21 where the file is refused,
+// then 23 where `board` has fewer than 544 octets: these write nothing.
+#[no_mangle]
+pub extern "C" fn banshorra_occupancy(file: &[u8], board: &mut [u8]) -> u8
+    ensures number { λ r. ⌜ r ≡ boardNumber (readFile (now (file .entry))) (length (now (board .entry))) ⌝ }
+    ensures octets { λ r. ⌜ now (board .exit) ≡ roomWithBoard (readFile (now (file .entry))) (now (board .entry)) ⌝ }
+{
+    let f = state_file::read(file);
+    let refusal = f.refusal;
+    if refusal == 0 {
+        if board.len() < BOARD_ROOM {
+            return 23;
+        }
+        let m = f.memory;
+        let b = m.board;
+        occupancy_octets::put(board, 0, b);
+        return 0;
+    }
+    refusal
 }
 
 // One call on the campus file in a buffer: the outcome, 0 to 8, with the reply and its length, and the file and its length afterwards. With discard 5

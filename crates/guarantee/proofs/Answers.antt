@@ -1,6 +1,6 @@
 -- Laws: demand 1, put together: what the tests leave, the reply, its reading, and the leases.
 use Rattle.guarantee.specs.Statement.{Answered, Demand1, NamesStay, run}
-use Rattle.guarantee.proofs.Discards.{Tested, call-tested, names-refused, releases-refused}
+use Rattle.guarantee.proofs.Discards.{Tested, board-refused, call-tested, names-refused, releases-refused}
 use Rattle.guarantee.proofs.Replies.{leases-stay, replied}
 use Rattle.guarantee.proofs.Walked.{read-back}
 use mathlib.Core.List.{List, [], _∷_}
@@ -19,6 +19,7 @@ call-answered b c =
       leases = leases-stay b c;
       bad-names = names-refused b c;
       bad-releases = releases-refused b c;
+      bad-board = board-refused b c;
       names = v .names;
       untouched = v .untouched;
       untouched-too = v .untouched-too;

@@ -13,6 +13,7 @@ use Rattle.lists.specs.All.{allBy}
 use Rattle.lists.specs.laws.All.{all-both, all-head}
 use Rattle.lists.specs.laws.Both.{and-parts}
 use Rattle.lists.specs.laws.Filter.{filter-none-out}
+use Rattle.occupancy.specs.declared.Board.{Board}
 use Rattle.message.specs.declared.Fields.{Fields}
 use Rattle.message.specs.Read.{readOf}
 use Rattle.message.specs.Values.{fieldsOf}
@@ -25,7 +26,7 @@ use Rattle.state.specs.declared.TenantReleases.{TenantReleases}
 use Rattle.state.specs.Book.{Book, advanced, changedTo, dropped, idOf, insertOf, isHold, laidOut, laidReleases, leasesOf, live, liveOf, putAt, putReleases, raised, releasesAt, remembered, removeOf, tableOf, until, withClock}
 use Rattle.state.specs.Edit.{applied, editedBook, entering, forgetOf, givingWay, noted, notedIn}
 use Rattle.state.specs.laws.Edited.{applied-entering, applied-laid, applied-way}
-use Rattle.releases.specs.laws.Whole.{book-sound}
+use Rattle.releases.specs.laws.Whole.{advanced-book, book-sound, same-board}
 use Rattle.soundness.specs.Sound.{holdB, lapseB}
 use Rattle.soundness.specs.laws.Book.{leaseOk, sound-lists}
 use Rattle.soundness.specs.laws.Facts.{lease-facts}
@@ -64,14 +65,22 @@ all-alive s (l ∷ ls) h =
     ap₂ {C = List (List Lease)} (λ (x : List Lease) (y : List (List Lease)). x ∷ y)
     (filter-none-out (live (s .clock)) l (all-both (leaseOk s) (leaseOk s) (live (s .clock)) l (λ x a _. alive s x a) (p .0) (p .0))) (all-alive s ls (p .1))
 
--- so the call that follows at the same time finds it as it is
+still-table : (w : Book) (time : ℕ) → SoundBook w → w .table ≡ tableOf (leasesOf (w .table)) → time ≤ w .state .clock → advanced w time .table ≡ w .table
+unfolding advanced dropped
+still-table w time v laid e =
+    let k : max (w .state .clock) time ≡ w .state .clock = omega arith in
+    ap (λ (c : ℕ). tableOf (map (liveOf c) (leasesOf (w .table)))) k
+    ∙ ap tableOf (all-alive (w .state) (leasesOf (w .table)) (sound-lists (w .state) (w .table) (book-sound w (v .sound)) .each)) ∙ sym laid
+
+-- so the call that follows at the same time finds it as it is, its board too, which is that of the same leases
 advanced-still : (w : Book) (time : ℕ) → SoundBook w → w .table ≡ tableOf (leasesOf (w .table)) → time ≤ w .state .clock → advanced w time ≡ w
-unfolding advanced raised dropped
+unfolding advanced raised
 advanced-still w time v laid e =
     let k : max (w .state .clock) time ≡ w .state .clock = omega arith in
-    ap (λ (c : ℕ). changedTo w (withClock (w .state) c) (tableOf (map (liveOf c) (leasesOf (w .table)))) (w .memory)) k
-    ∙ ap (λ (t : LeaseTable). changedTo w (w .state) t (w .memory))
-    (ap tableOf (all-alive (w .state) (leasesOf (w .table)) (sound-lists (w .state) (w .table) (book-sound w (v .sound)) .each)) ∙ sym laid)
+    let t = still-table w time v laid e in
+    ap (λ (c : ℕ). changedTo w (withClock (w .state) c) (advanced w time .table) (advanced w time .memory)) k
+    ∙ ap₂ (λ (y : LeaseTable) (z : Board). changedTo w (w .state) y (record { releases = w .memory .releases; board = z })) t
+    (same-board (advanced w time) w (advanced-book w time (v .sound)) (v .sound) t)
 
 -- the clock is not before the time of the call that has raised it
 now-late : (b : Book) (c : Call) → c .time ≤ stateAt b c .clock
@@ -91,11 +100,11 @@ module _ (s : State) (t : LeaseTable) (g : ℕ) (o l : Lease) (there : g < lengt
       ∙ ap {B = LeaseTable} (λ (x : List TenantLeases). record { tenants = x }) (set-set (t .tenants) g (laidOut (insertOf o (ownOf t g))) (laidOut (insertOf l (ownOf t g))))
       ∙ sym (applied-entering t g l few)
 
-  same-memory : (m : Memory) → noted (givingWay o l) g (noted (entering o) g m) ≡ noted (entering l) g m
+  same-memory : (m : Memory) → noted (givingWay o l) g (noted (entering o) g m) .board ≡ noted (entering l) g m .board → noted (givingWay o l) g (noted (entering o) g m) ≡ noted (entering l) g m
   unfolding noted notedIn pick
-  same-memory m =
-      ap {B = Memory} (λ (x : List TenantReleases). record { releases = x }) (set-getD (noted (entering o) g m .releases) g (laidReleases []))
-      ∙ ap (λ (i : List ℕ). putReleases m g (laidReleases (forgetOf i (remembered (releasesAt m g))))) (sym same)
+  same-memory m e =
+      ap₂ {C = Memory} (λ (x : List TenantReleases) (y : Board). record { releases = x; board = y })
+      (set-getD (noted (entering o) g m .releases) g (laidReleases []) ∙ ap (λ (i : List ℕ). putReleases m g (laidReleases (forgetOf i (remembered (releasesAt m g)))) .releases) (sym same)) e
 
 -- ---- one message, as a DISCOVER and as a REQUEST
 module _ (s : State) (t : LeaseTable) (g : ℕ) (m : Fields) where
@@ -237,13 +246,24 @@ module _ (b : Book) (c : Call) (v : SoundBook b) (discovers : Discovers c) (free
   unfolding turned
   same-id = refl
 
+  table-too : applied (givingWay H L) h (w .table) ≡ applied (entering L) h t
+  table-too = same-table s t h H L (taken.there b c v discovers offered) (taken.left b c v discovers offered f .left) same-id gone
+
+  -- both books are sound, and of the same leases there is one board
+  board-too : noted (givingWay H L) h (w .memory) .board ≡ noted (entering L) h (bookAt b c .memory) .board
+  board-too =
+      ap (λ (a : Answer). a .book .memory .board) (sym after)
+      ∙ same-board (serveOf w (requested c) .book) (serveOf b (requested c) .book) (call-sound w (requested c) w-sound .sound) (call-sound b (requested c) v .sound)
+      (ap (λ (a : Answer). a .book .table) after ∙ table-too ∙ ap (λ (a : Answer). a .book .table) (sym alone))
+      ∙ ap (λ (a : Answer). a .book .memory .board) alone
+
   taken-at-once : serveOf (serveOf b c .book) (requested c) ≡ serveOf b (requested c)
   taken-at-once =
       let there = taken.there b c v discovers offered in
       let few = taken.left b c v discovers offered f .left in
       ap (λ (y : Book). serveOf y (requested c)) book-is ∙ after
       ∙ ap₂ (λ (x : LeaseTable) (y : Memory). record { outcome = withLease LeaseAck L .outcome; offset = 0; reply = replyOf s (bookAt b c .names) h r (withLease LeaseAck L); book = changedTo (bookAt b c) s x y })
-      (same-table s t h H L there few same-id gone) (same-memory s t h H L there few same-id gone (bookAt b c .memory))
+      table-too (same-memory s t h H L there few same-id gone (bookAt b c .memory) board-too)
       ∙ sym alone
 
 pub offer-taken : OfferTaken

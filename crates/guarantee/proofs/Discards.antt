@@ -27,8 +27,8 @@ use Rattle.state.specs.declared.Release.{Release}
 use Rattle.state.specs.declared.State.{State}
 use Rattle.state.specs.Edit.{editedBook, noEdit}
 use Rattle.state.specs.laws.Edited.{edited-none}
-use Rattle.releases.specs.Whole.{bookB, memoryGood, namesGood}
-use Rattle.releases.specs.laws.Whole.{advanced-names, bad-book, bad-memory}
+use Rattle.releases.specs.Whole.{boardGood, bookB, memoryGood, namesGood}
+use Rattle.releases.specs.laws.Whole.{advanced-names, bad-board, bad-book, bad-memory}
 use Rattle.soundness.specs.Sound.{tenantsIn}
 use Rattle.decision.specs.declared.Decided.{Decided}
 use Rattle.decision.specs.declared.Reply.{Reply}
@@ -218,7 +218,7 @@ module _ (b : Book) (c : Call) where
       pick-cases P (bookB b) _ _
       (λ _. pick-cases P (ltb (c .room) leastRoom) _ _ (λ _. early 2 (omega arith) (omega arith)) (λ _. at-clock)) (λ _. early 1 (omega arith) (omega arith))
 
--- ---- bad names are discard 1, and so are bad releases
+-- ---- bad names are discard 1, and so are bad releases and a bad board
 unsound-refused : (b : Book) (c : Call) → bookB b ≡ false → serveOf b c .outcome ≡ 1
 unfolding serveOf pick
 unsound-refused b c e = ap {A = Bool} (λ (x : Bool). pick x (pick (ltb (c .room) leastRoom) (discarded 2 b) (atClock (advanced b (c .time)) (c .client) (c .datagram))) (discarded 1 b) .outcome) e
@@ -228,3 +228,6 @@ names-refused b c e = unsound-refused b c (bad-book b e)
 
 pub releases-refused : (b : Book) (c : Call) → memoryGood b ≡ false → serveOf b c .outcome ≡ 1
 releases-refused b c e = unsound-refused b c (bad-memory b e)
+
+pub board-refused : (b : Book) (c : Call) → boardGood b ≡ false → serveOf b c .outcome ≡ 1
+board-refused b c e = unsound-refused b c (bad-board b e)

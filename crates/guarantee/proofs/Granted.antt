@@ -18,7 +18,7 @@ use Rattle.state.specs.declared.State.{State}
 use Rattle.state.specs.Book.{Book, advanced, idOf, inUse, insertOf, laidReleases, leasesOf, putReleases, releasesAt, remembered, removeOf}
 use Rattle.state.specs.Edit.{entering, forgetOf, noted, notedIn}
 use Rattle.state.specs.laws.Edited.{applied-others}
-use Rattle.releases.specs.laws.Whole.{advanced-names, book-sound}
+use Rattle.releases.specs.laws.Whole.{advanced-names, book-board, book-sound}
 use Rattle.soundness.specs.Sound.{tenantsIn}
 use Rattle.soundness.specs.laws.Book.{Sound, sound-lists}
 use Rattle.decision.specs.declared.Decided.{Decided}
@@ -34,7 +34,7 @@ use Rattle.guarantee.proofs.Inserted.{entered, others-stay}
 use Rattle.guarantee.proofs.Proposed as proposed
 use Rattle.guarantee.proofs.Reached.{decided-there, not-taken, taken}
 use Rattle.guarantee.proofs.Ranges.{ack-names, named-head, pool-fits}
-use Rattle.guarantee.proofs.Kept.{now-sound, run-sound, within-limits}
+use Rattle.guarantee.proofs.Kept.{call-sound, now-sound, run-sound, within-limits}
 
 -- ---- a REQUEST that passes the checks before error 0, for a tenant h of a sound book, whose identifier has no hold
 module _ (s : State) (t : LeaseTable) (h : ℕ) (m : Fields) (v : Sound s (leasesOf t)) (known : h < tenantsIn s) (request : m .kind ≡ 3)
@@ -150,7 +150,8 @@ module _ (b : Book) (c : Call) (v : SoundBook b) (r : NewRequest b c) where
       ∙ ap (leaseAckOf (headOf (stateAt b c) (saysOf b c))) (proposed.told (stateAt b c) (tableAt b c) (tenantFor b c) (saysOf b c) S (r .house) scope-ours counts-good LeaseAck 3)
 
   -- what is remembered of the tenant, but for the identifier
-  forgotten : noted (entering (leaseFor b c)) (tenantFor b c) (bookAt b c .memory) ≡ putReleases (b .memory) (tenantFor b c) (laidReleases (forgetOf (idOf (leaseFor b c)) (releasesFor b c)))
+  forgotten : noted (entering (leaseFor b c)) (tenantFor b c) (bookAt b c .memory) .releases
+      ≡ putReleases (b .memory) (tenantFor b c) (laidReleases (forgetOf (idOf (leaseFor b c)) (releasesFor b c))) .releases
   unfolding noted notedIn pick advanced
   forgotten = refl
 
@@ -168,7 +169,8 @@ module _ (b : Book) (c : Call) (v : SoundBook b) (r : NewRequest b c) where
         (proposed.here (stateAt b c) (tableAt b c) (tenantFor b c) (saysOf b c) S (r .house) scope-ours counts-good));
     state = ap (λ (a : Answer). a .book .state) served;
     titles = ap (λ (a : Answer). a .book .names) served ∙ advanced-names b (c .time);
-    forgets = ap (λ (a : Answer). a .book .memory) served ∙ forgotten;
+    forgets = ap (λ (a : Answer). a .book .memory .releases) served ∙ forgotten;
+    board = book-board (serveOf b c .book) (call-sound b c v .sound);
     others = λ g n.
         ap (λ (a : Answer). ownOf (a .book .table) g) served ∙ ap inUse (applied-others (entering (leaseFor b c)) (tenantFor b c) g (tableAt b c) n);
     own = after;

@@ -1,5 +1,5 @@
--- Laws: any list of calls keeps a sound book sound: a call raises the clock and drops ended leases, and a decision keeps the leases sound and what is
--- remembered.
+-- Laws: any list of calls keeps a sound book sound: a call raises the clock and drops ended leases, and a decision keeps the leases sound, what is
+-- remembered and the board.
 use Prim.Native.Nat.{ℕ, _≤_, _<_}
 use mathlib.Core.Path.{_≡_, refl, sym, ap, _∙_}
 use mathlib.Core.Bool.{_&&_}
@@ -20,12 +20,13 @@ use Rattle.state.specs.Book.{Book, advanced, dropped, inUse, laidOut, leasesOf,
 use Rattle.state.specs.laws.Edited.{applied-count}
 use Rattle.state.specs.laws.Layout.{table-back}
 use Rattle.releases.specs.Whole.{bookB}
-use Rattle.releases.specs.laws.Whole.{advanced-book, book-named, book-remembers, book-sound, both-book}
+use Rattle.releases.specs.laws.Whole.{advanced-book, book-agrees, book-named, book-remembers, book-sound, both-book}
 use Rattle.releases.specs.laws.Kept.{noted-count}
 use Rattle.soundness.specs.Sound.{oneTo, countsB, rule3, rule4, rule5, rule6, settingsB, sizeB, tenantsIn}
 use Rattle.soundness.specs.laws.Book.{Sound, settingsOk, sound-lists}
 use Rattle.decision.specs.laws.Kept.{GoodId, decision-sound}
 use Rattle.decision.specs.laws.Remembered.{decision-remembers}
+use Rattle.decision.specs.laws.Board.{decision-agrees}
 use Rattle.decision.specs.laws.Reads.{read-id}
 use Rattle.server.specs.Serve.{Answer, Call, answered, atClock, decidedFor, forServer, serveOf, tenantOf, withReading}
 use Rattle.guarantee.specs.Statement.{SoundBook, WithinLimits, bookAt, run}
@@ -62,6 +63,8 @@ module _ (b : Book) (c : Call) (v : SoundBook b) where
         (decision-sound (bookAt b c .state) (bookAt b c .table) (remembered (releasesAt (bookAt b c .memory) h)) h m (book-sound (bookAt b c) (now-sound .sound)) (advanced-laid b (c .time)) known (let e = now-sound .tenants in omega arith) good)
         (decision-remembers (bookAt b c) h m (book-sound (bookAt b c) (now-sound .sound)) (book-remembers (bookAt b c) (now-sound .sound)) (now-sound .memory) known
         (let e = now-sound .tenants in omega arith) (remembered (releasesAt (bookAt b c .memory) h)))
+        (decision-agrees (bookAt b c) h m (book-sound (bookAt b c) (now-sound .sound)) (book-agrees (bookAt b c) (now-sound .sound)) known (let e = now-sound .tenants in omega arith) good
+        (remembered (releasesAt (bookAt b c .memory) h)))
         (book-named (bookAt b c) (now-sound .sound));
   }
 

@@ -9,6 +9,7 @@ mod Codes
 pub mod Replies
 pub mod Walked
 pub mod Answers
+pub mod Board
 mod Held
 pub mod Bounded
 mod Alike
@@ -16,5 +17,3 @@ pub mod Offers
 mod Drawn
 pub mod Taken
 pub mod AtOnce
-pub mod Opened
-pub mod Specimens

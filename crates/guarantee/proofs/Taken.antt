@@ -30,7 +30,7 @@ use Rattle.state.specs.Edit.{applied, entering, forgetOf, givingWay, noted, not
 use Rattle.state.specs.laws.Edited.{applied-none, applied-others, applied-way}
 use Rattle.state.specs.laws.Layout.{read-back, removed-fewer}
 use Rattle.state.specs.laws.Named.{inserted-own, none-named, one-named, place-first, place-some, removed-own}
-use Rattle.releases.specs.laws.Whole.{book-sound}
+use Rattle.releases.specs.laws.Whole.{book-board, book-sound}
 use Rattle.soundness.specs.Sound.{compatible, scopesIn, tenantsIn}
 use Rattle.soundness.specs.laws.Book.{Sound, pairOk, sound-lists}
 use Rattle.soundness.specs.laws.Added.{few-at, pairs-at}
@@ -181,7 +181,7 @@ module _ (b : Book) (d : Call) (v : SoundBook b) (discovers : Discovers d) (offe
     fresh-leaves = record { waits = fresh-waits; has = fresh-has; reply = fresh-reply }
 
     -- what is remembered of the tenant, but for the identifier
-    forgotten : noted (entering (holdFor b d)) h (bookAt b d .memory) ≡ putReleases (b .memory) h (laidReleases (forgetOf (idOf (holdFor b d)) (releasesFor b d)))
+    forgotten : noted (entering (holdFor b d)) h (bookAt b d .memory) .releases ≡ putReleases (b .memory) h (laidReleases (forgetOf (idOf (holdFor b d)) (releasesFor b d))) .releases
     unfolding noted notedIn pick advanced
     forgotten = refl
 
@@ -193,7 +193,8 @@ module _ (b : Book) (d : Call) (v : SoundBook b) (discovers : Discovers d) (offe
       state = ap (λ (a : Answer). a .book .state) fresh-served;
       others = λ g n. ap (λ (a : Answer). ownOf (a .book .table) g) fresh-served ∙ ap inUse (applied-others (entering (holdFor b d)) h g t n);
       own = fresh-own;
-      forgets = ap (λ (a : Answer). a .book .memory) fresh-served ∙ forgotten;
+      forgets = ap (λ (a : Answer). a .book .memory .releases) fresh-served ∙ forgotten;
+      board = book-board (serveOf b d .book) (call-sound b d v .sound);
     }
 
   -- ---- the hold

@@ -1,5 +1,5 @@
--- Statement: what the server guarantees: demand 3 as a single claim about any list of server calls, demand 1 about each call, the OFFER rule, and that an offer is
--- held. The buyer's sentences, and those of document 01's "Demand 3 in detail", are quoted beside what says them; '"lease" in demands 1 and 3 .. reads "lease or
+-- Statement: what the server guarantees: demand 3 as a single claim about any list of server calls, demand 1 about each call, the OFFER rule, that an offer is
+-- held, and the occupancy board. The buyer's sentences, and those of document 01's "Demand 3 in detail", are quoted beside what says them; '"lease" in demands 1 and 3 .. reads "lease or
 -- hold"' (document 02, W-205), so that each sentence on leases is one on records. A house is a tenant here, its share a reserve; tenants count from 0, a
 -- lease's scope from 1.
 use Prim.Native.Nat.{ℕ, _+_, _-_, _≤_, _<_, min, _^_}
@@ -11,6 +11,7 @@ use lib.ListN.{getD, length, set}
 use Rattle.lists.specs.All.{All}
 use Rattle.lists.specs.Filter.{filterBy, isIn}
 use Rattle.address_set.specs.AddressSet.{offsets}
+use Rattle.occupancy.specs.Board.{entryAt, heldIn, noEntry, scopeBoardAt}
 use Rattle.message.specs.declared.Fields.{Fields}
 use Rattle.message.specs.Read.{longestDatagram, readOf}
 use Rattle.message.specs.Values.{fieldsOf}
@@ -24,9 +25,10 @@ use Rattle.state.specs.declared.LeaseTable.{LeaseTable}
 use Rattle.state.specs.declared.Scope.{Scope}
 use Rattle.state.specs.declared.State.{State}
 use Rattle.state.specs.declared.Release.{Release}
-use Rattle.state.specs.Book.{Book, advanced, holdTime, idOf, insertOf, laidReleases, lapsingAt, leaseWith, leasesOf, liveOf, named, putReleases, releasesAt, remembered, removeOf, scopeAt, limitAt}
+use Rattle.state.specs.Book.{Book, advanced, holdTime, idOf, inScope, insertOf, laidReleases, lapsingAt, leaseWith, leasesOf, liveOf, named, putReleases, releasesAt, remembered, removeOf, scopeAt, limitAt}
 use Rattle.state.specs.Edit.{forgetOf}
-use Rattle.releases.specs.Whole.{bookB, memoryGood, namesGood}
+use Rattle.state.specs.Board.{boardOf, isOn}
+use Rattle.releases.specs.Whole.{boardGood, bookB, memoryGood, namesGood}
 use Rattle.soundness.specs.Sound.{holding, tenantsIn}
 use Rattle.allocation.specs.declared.Ask.{Ask}
 use Rattle.allocation.specs.declared.Grant.{Grant}
@@ -42,7 +44,7 @@ run b [] = b
 run b (c ∷ cs) = run (serveOf b c .book) cs
 
 -- ---- books
--- "Sound", its names and its releases too (document 02, W-201 and W-202), with the eight tenants' records and releases that every book has
+-- "Sound", its names, its releases and its board too (document 02, W-201, W-202 and W-207), with the eight tenants' records and releases that every book has
 pub record SoundBook (b : Book) : Type 0 where
   pub tenants : length (b .table .tenants) ≡ 8
   pub memory : length (b .memory .releases) ≡ 8
@@ -183,7 +185,9 @@ pub record Granted (b : Book) (c : Call) (a : Answer) : Type 0 where
   -- and the names for the scopes (document 02, W-201)
   pub titles : a .book .names ≡ b .names
   -- "A new lease on the identifier forgets it" (document 02, W-202): no other release is forgotten, and no new one is remembered
-  pub forgets : a .book .memory ≡ putReleases (b .memory) (tenantFor b c) (laidReleases (forgetOf (idOf (leaseFor b c)) (releasesFor b c)))
+  pub forgets : a .book .memory .releases ≡ putReleases (b .memory) (tenantFor b c) (laidReleases (forgetOf (idOf (leaseFor b c)) (releasesFor b c))) .releases
+  -- and the board is what these leases say (document 02, W-207)
+  pub board : a .book .memory .board ≡ boardOf (leasesOf (a .book .table))
   -- "and the lease that REQUEST records": it now stands among the tenant's own
   pub own : ownOf (a .book .table) (tenantFor b c) ≡ insertOf (leaseFor b c) (ownFor b c)
   -- and without it they are as they were
@@ -259,6 +263,8 @@ pub record Answered (b : Book) (c : Call) (a : Answer) : Type 0 where
   -- bad names and bad releases make the book unsound (document 02, W-201 and W-202): "bad names lent 1", "lent, both are 1"; and no call changes the names
   pub bad-names : namesGood b ≡ false → a .outcome ≡ 1
   pub bad-releases : memoryGood b ≡ false → a .outcome ≡ 1
+  -- "a book whose board disagrees is unsound, 1" (W-207)
+  pub bad-board : boardGood b ≡ false → a .outcome ≡ 1
   pub names : a .book .names ≡ b .names
   -- "Discards 1 and 2 change nothing"
   pub untouched : a .outcome ≡ 1 → a .book ≡ b
@@ -276,6 +282,32 @@ pub record Answered (b : Book) (c : Call) (a : Answer) : Type 0 where
 -- (`lent::serve` has no `requires`)
 unfoldable pub Demand1 : Type 0
 Demand1 = (b : Book) (c : Call) → Answered b c (serveOf b c)
+
+-- ---- the occupancy board (document 02, W-207)
+-- "After any call on a sound book it equals what the leases say": after any list of them
+unfoldable pub BoardAgrees : Type 0
+BoardAgrees = (b : Book) → SoundBook b → (cs : List Call) → run b cs .memory .board ≡ boardOf (leasesOf (run b cs .table))
+
+-- "A lease added or removed may alter only the entries of its addresses and its house's holding in its scope": of scope k + 1
+pub record BoardKept (b : Book) (a : Answer) : Type 0 where
+  -- an offset on which no house's lease was added or removed keeps its entry
+  pub entries : (k x : ℕ) → k < 4 → x < 64 → ((g : ℕ) → filterBy (isOn (k + 1) x) (ownOf (a .book .table) g) ≡ filterBy (isOn (k + 1) x) (ownOf (b .table) g))
+      → entryAt (scopeBoardAt (a .book .memory .board) k) x ≡ entryAt (scopeBoardAt (b .memory .board) k) x
+  -- and a house of which none was in the scope keeps its holding there
+  pub holdings : (k g : ℕ) → k < 4 → g < 8 → filterBy (inScope (k + 1)) (ownOf (a .book .table) g) ≡ filterBy (inScope (k + 1)) (ownOf (b .table) g)
+      → heldIn (scopeBoardAt (a .book .memory .board) k) g ≡ heldIn (scopeBoardAt (b .memory .board) k) g
+
+-- of one lease, on any board, it is `AltersOnly` of `occupancy`
+unfoldable pub BoardStays : Type 0
+BoardStays = (b : Book) → SoundBook b → (c : Call) → BoardKept b (serveOf b c)
+
+-- what is past a scope's size, and past the last scope, whose size is 0, has no owner and no lease, and nothing is held there
+pub record ZeroPast (b : Book) : Type 0 where
+  pub entries : (k x : ℕ) → k < 4 → x < 64 → scopeAt (b .state) k .size ≤ x → entryAt (scopeBoardAt (b .memory .board) k) x ≡ noEntry
+  pub holdings : (k g : ℕ) → k < 4 → g < 8 → b .state .«scope_count» ≤ k → heldIn (scopeBoardAt (b .memory .board) k) g ≡ 0
+
+unfoldable pub BoardZero : Type 0
+BoardZero = (b : Book) → SoundBook b → ZeroPast b
 
 -- the names pass on unchanged through every list of calls
 unfoldable pub NamesStay : Type 0
@@ -334,7 +366,8 @@ pub record LeavesHold (b : Book) (c : Call) (a : Answer) : Type 0 where
   pub state : a .book .state ≡ stateAt b c
   pub others : (g : ℕ) → (g ≡ tenantFor b c → ⊥) → ownOf (a .book .table) g ≡ ownOf (tableAt b c) g
   pub own : ownOf (a .book .table) (tenantFor b c) ≡ insertOf (holdFor b c) (ownFor b c)
-  pub forgets : a .book .memory ≡ putReleases (b .memory) (tenantFor b c) (laidReleases (forgetOf (idOf (holdFor b c)) (releasesFor b c)))
+  pub forgets : a .book .memory .releases ≡ putReleases (b .memory) (tenantFor b c) (laidReleases (forgetOf (idOf (holdFor b c)) (releasesFor b c))) .releases
+  pub board : a .book .memory .board ≡ boardOf (leasesOf (a .book .table))
 
 unfoldable pub OfferHolds : Type 0
 OfferHolds = (b : Book) (c : Call) → SoundBook b → Discovers c → NoHold b c → Offered (serveOf b c) → LeavesHold b c (serveOf b c)

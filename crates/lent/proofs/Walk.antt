@@ -2,6 +2,8 @@
 --     stands       a walk of a function's MIR, for all that its contract binds outside, is the function's theorem, where what the walk has of each parameter at exit gives what the contract says of it
 --     counts       a loop of n turns, where At i is what holds after i of them
 --     says-both    a goal that ends in two clauses, P ∗ (⌜φ⌝ ∗ ⌜ψ⌝): φ and ψ are shown, and P is left
+--     tyOf, after, holds, bare, idle    what a part of a long walk is stated by
+--     ends1, ends4    at the end, locals are forgotten and freed
 -- Assumes `Given`.
 pub use mathlib.Core.Path.{_≡_, refl, ap, sym, _∙_, subst}
 pub use Prim.Native.Nat.{ℕ, _<_, _^_, max, zero, suc, _+_, _*_, _≤_, min}
@@ -20,7 +22,7 @@ pub use ghost.Atoms.{Atoms, sem}
 pub use contract.Monad.{Fun, fact}
 pub use contract.Running.{givenOf, tables}
 unfoldable pub use contract.Running.{tablesOf}
-pub use types.Kit.{Given, ‵, raw, _⊛_, some, later, _$_, _∵_, !, qed, by, move, keep, drop, use0, use1, split, join, pick, rewrite, fsplit, fsplit3, fjoin, fjoin3, feqI, suffices, frame, await, done, Item, anyQ, atRet, ⋆, use3, feqL, use2, Step, step, prop, split3, group, updating, now as at-once, show, Post, Seq, lands, runs, Goal, Soaks, fpick, fpack}
+pub use types.Kit.{Given, ‵, raw, _⊛_, some, later, _$_, _∵_, !, qed, by, move, keep, drop, use0, use1, split, join, pick, rewrite, fsplit, fsplit3, fjoin, fjoin3, feqI, suffices, frame, await, done, Item, anyQ, atRet, ⋆, use3, feqL, use2, Step, step, prop, split3, group, updating, now as at-once, show, Post, Seq, lands, runs, Goal, Go, Soaks, fpick, fpack}
 pub use types.Run.{look, init, forget, stop, hop, fld, from, load, unit-lit, of-opd, and-then, no-more, assigns, land, returns, enter, alloc1, alloc0, params1, pass1, pass0, free1, free0, look-raw, store, store-raw, lit, bin, addr, assigns-last, stays, leaves-loop, exec, Opds}
 pub use types.Part.{whole, sub, look-in, store-in, agg}
 pub use sound.WpLaws.{FmC, fmOf, WpFn-mono}
@@ -68,9 +70,10 @@ pub use denote.Struct.Parts.{shapeOf, PartsBack}
 pub use denote.Struct.Pick.{record-field-out, record-field-back}
 pub use denote.Struct.Recorded.{Recorded}
 pub use denote.Struct.Struct.{Struct, layout, struct-lawful, struct-makes}
-use mir.Syntax.{Fn, Body, loop}
+use mir.Syntax.{Fn, Body, loop, skip, assign, block, cond, switch, exit, return, Local, local}
 use prog.Wp.{Closed}
 use prog.Routine.{Name}
+use types.Kit.{frees}
 use sound.Laws.{Laws}
 use denote.Triple.Clauses.{Ended, Clauses, closing}
 
@@ -107,3 +110,54 @@ module _ {M : Type 1} (𝓤 : URA M) (H : Heap 𝓤) (L : Laws 𝓤 H) (𝓣 : T
 
 pub says-both : {M : Type 1} {𝓤 : URA M} {H : Heap 𝓤} {A : Atoms 𝓤} {K : Type 0} {W : Given 𝓤 H A} {Γ : List (Item 𝓤)} → K → {φ ψ : Type 0} {P : SProp 𝓤} → φ → ψ → Step K W Γ (prop P) Γ (prop (sep 𝓤 P (sep 𝓤 (fact 𝓤 φ) (fact 𝓤 ψ))))
 says-both {𝓤 = 𝓤} t {φ} {ψ} {P} x y = step (λ s. record { prf = via 𝓤 (sep 𝓤 (sep 𝓤 P (fact 𝓤 φ)) (fact 𝓤 ψ)) ((says t y $ says t x $ s) .prf) (assoc∗ 𝓤 P (fact 𝓤 φ) (fact 𝓤 ψ)) })
+
+-- ---- a long walk in parts: each is a declaration of its own, since the check of one may take only so many steps
+-- the type of a function's local, and what is left of a body after n statements
+abbrev pub tyOf : List Local → ℕ → Ty
+tyOf [] n = tyUnit
+tyOf (local τ h ∷ ls) zero = τ
+tyOf (local τ h ∷ ls) (suc n) = tyOf ls n
+
+abbrev next : Body → Body
+next skip = skip
+next (seq a b) = b
+next (assign p v) = skip
+next (block b) = skip
+next (loop b) = skip
+next (cond c a b) = skip
+next (switch c a) = skip
+next (exit n) = skip
+next return = skip
+next (call f xs d) = skip
+
+abbrev pub after : ℕ → Body → Body
+after zero b = b
+after (suc n) b = after n (next b)
+
+-- a local in the context, with what lets it be freed: it holds a value, or is room
+module _ {M : Type 1} {𝓤 : URA M} where
+  abbrev pub holds : Ty → ℕ → Val → List (Item 𝓤) → List (Item 𝓤)
+  holds τ b v Γ = ‵ (fat fullShare τ b 0 v) ∷ ‵ (fdies τ b) ∷ Γ
+
+  abbrev pub bare : Ty → ℕ → List (Item 𝓤) → List (Item 𝓤)
+  bare τ b Γ = ‵ (froom τ b 0) ∷ ‵ (fdies τ b) ∷ Γ
+
+-- a local that is not used any more: its type, where it stands and what it holds. A part of a walk takes these as variables, since each of its steps repeats the types of all locals, spelled out
+abbrev pub Idle : Type 0
+Idle = Ty × ℕ × Val
+
+abbrev pub spot : Idle → Ty × ℕ
+spot u = (u .0, u .1)
+
+abbrev pub idle : {M : Type 1} {𝓤 : URA M} → Idle → List (Item 𝓤) → List (Item 𝓤)
+idle u Γ = holds (u .0) (u .1) (u .2) Γ
+
+-- a local, or four, at the head of the context: what it holds is forgotten, and it is freed
+module _ {M : Type 1} {𝓤 : URA M} {H : Heap 𝓤} {A : Atoms 𝓤} {K : Type 0} {W : Given 𝓤 H A} {Γ : List (Item 𝓤)} where
+  pub ends1 : K → {τ : Ty} {b : ℕ} {v : Val} {E : Env 𝓤 H} {g : Goal 𝓤 H} → Step K W Γ (frees E g) (holds τ b v Γ) (frees ((τ, b) ∷ E) g)
+  ends1 t = step (λ s. forget t 0 refl $ free1 t $ s)
+
+module _ {M : Type 1} {𝓤 : URA M} {H : Heap 𝓤} {A : Atoms 𝓤} {K : Type 0} {W : Given 𝓤 H A} {Γ : List (Item 𝓤)} where
+  pub ends4 : K → {τ₀ τ₁ τ₂ τ₃ : Ty} {b₀ b₁ b₂ b₃ : ℕ} {v₀ v₁ v₂ v₃ : Val} {E : Env 𝓤 H} {g : Goal 𝓤 H}
+      → Step K W Γ (frees E g) (holds τ₀ b₀ v₀ (holds τ₁ b₁ v₁ (holds τ₂ b₂ v₂ (holds τ₃ b₃ v₃ Γ)))) (frees ((τ₀, b₀) ∷ (τ₁, b₁) ∷ (τ₂, b₂) ∷ (τ₃, b₃) ∷ E) g)
+  ends4 t = step (λ s. ends1 t $ ends1 t $ ends1 t $ ends1 t $ s)

@@ -1,11 +1,13 @@
-// The product's entry points: the ledger, document 01's record of clock and settings with what is remembered, lent by `&mut` and updated where it
+// The product's entry points: the ledger, document 01's record of clock and settings with what is remembered and the board, lent by `&mut` and updated where it
 // stands, and its lease records lent as a slice. Each is a few whole values and calls; but for the copying loops of `load` and `store`, every decision is made by value in `records`
 // and below. Their proofs are walks by hand.
 ghost use mathlib.Core.Path.{_≡_};
 ghost use lib.ListN.{length, take};
+ghost use Rattle.occupancy.specs.Board.{scopeBoardAt, entryAt, heldIn};
 ghost use Rattle.state.specs.Book.{raisedIn};
 ghost use Rattle.records.specs.Records.{first128, covered};
 ghost use Rattle.records.specs.Lent.{serveLent, ServesLent, readLent, ReadsLent, writtenLent, roomLent, findLent, insertLent, removeLent};
+use occupancy::Entry;
 use records::Found;
 use records::Records;
 use server::Outcome;
@@ -57,7 +59,8 @@ pub fn find(leases: &[Lease], h: usize, id: [u8; 32], len: u8) -> Found
 }
 
 // One lease more among those of tenant h, in the order of identifiers; its records past its first unused one become unused. Where no record is
-// left, for no tenant, and of another number of records than 128 nothing changes.
+// left, for no tenant, and of another number of records than 128 nothing changes. The board is not altered: whoever changes records by hand does that by
+// `agreement::add`, else the book is unsound.
 pub fn insert(leases: &mut [Lease], h: usize, l: Lease)
     ensures { λ _. ⌜ now (leases .exit) ≡ insertLent h l (now (leases .entry)) ⌝ }
 {
@@ -67,7 +70,7 @@ pub fn insert(leases: &mut [Lease], h: usize, l: Lease)
 }
 
 // The lease of an identifier goes from among those of tenant h; its records past its first unused one become unused. For no tenant, and of
-// another number of records than 128, nothing changes.
+// another number of records than 128, nothing changes. The board is not altered (`agreement::take`).
 pub fn remove(leases: &mut [Lease], h: usize, id: [u8; 32], len: u8)
     ensures { λ _. ⌜ now (leases .exit) ≡ removeLent h (take len id) (now (leases .entry)) ⌝ }
 {
@@ -76,7 +79,25 @@ pub fn remove(leases: &mut [Lease], h: usize, id: [u8; 32], len: u8)
     store(leases, x);
 }
 
-// The call, with the names of the scopes lent. Another number of records than 128 is discard 1, and so are names that are not good for the settings.
+// What the occupancy board has on address a of scope k, both counted from 0, without the records: no owner and no lease where there is no such
+// scope or address.
+pub fn entry(ledger: &Ledger, k: usize, a: usize) -> Entry
+    ensures { λ r. ⌜ r ≡ entryAt (scopeBoardAt (now (ledger .entry) .memory .board) k) a ⌝ }
+{
+    let b = ledger.memory.board;
+    occupancy::entry_at(b, k, a)
+}
+
+// How many addresses of scope k tenant g, both counted from 0, holds by the board; none where there is no such scope or tenant.
+pub fn holding(ledger: &Ledger, k: usize, g: usize) -> u8
+    ensures { λ r. ⌜ r ≡ heldIn (scopeBoardAt (now (ledger .entry) .memory .board) k) g ⌝ }
+{
+    let b = ledger.memory.board;
+    occupancy::holding_at(b, k, g)
+}
+
+// The call, with the names of the scopes lent. Another number of records than 128 is discard 1, and so are names that are not good for the settings and
+// a board that disagrees with the leases.
 pub fn serve(
     datagram: &[u8],
     client: u32,
@@ -111,7 +132,7 @@ pub fn read(file: &[u8], ledger: &mut Ledger, leases: &mut [Lease]) -> u8
 }
 
 // Writes a state file from the lent ledger, records and names: its length, or refusal 22 and then 23, which write nothing. Another number of records
-// than 128 is 22, and so are names that are not good for the settings.
+// than 128 is 22, and so are names that are not good for the settings and a board that disagrees with the leases.
 pub fn write(ledger: &Ledger, leases: &[Lease], names: &[u8], room: &mut [u8]) -> Written
     ensures answer { λ r. ⌜ r ≡ writtenLent (now (ledger .entry)) (now (leases .entry)) (now (names .entry)) (length (now (room .entry))) ⌝ }
     ensures octets { λ r. ⌜ now (room .exit) ≡ roomLent (now (ledger .entry)) (now (leases .entry)) (now (names .entry)) (now (room .entry)) ⌝ }

@@ -11,10 +11,12 @@ use Rattle.state.specs.Book.{Book}
 use Rattle.state.specs.declared.Lease.{Lease}
 use Rattle.state.specs.declared.Ledger.{Ledger}
 use Rattle.releases.specs.Whole.{bookB}
+use Rattle.releases.specs.laws.Whole.{book-board}
 use Rattle.message.specs.Read.{longestDatagram}
 use Rattle.server.specs.Serve.{Answer, Call, serveOf}
-use Rattle.guarantee.specs.Statement.{Answered, Demand3, Granted, GrantedAsOffered, IsReply, NewRequest, Offered, OfferedAs, OfferHeld, OfferRule, ReadAs, TakesUp, SoundBook, WithinLimits, liveUnder, requested, run}
+use Rattle.guarantee.specs.Statement.{Answered, BoardKept, BoardStays, Demand3, Granted, GrantedAsOffered, IsReply, NewRequest, Offered, OfferedAs, OfferHeld, OfferRule, ReadAs, TakesUp, SoundBook, WithinLimits, liveUnder, requested, run}
 use Rattle.guarantee.proofs.Answers.{call-answered}
+use Rattle.guarantee.proofs.Board.{board-stays}
 use Rattle.guarantee.proofs.Granted.{demand3}
 use Rattle.guarantee.proofs.Kept.{call-sound}
 use Rattle.guarantee.proofs.Offers.{offer-rule}
@@ -22,7 +24,7 @@ use Rattle.guarantee.proofs.Taken.{offer-held}
 use Rattle.records.specs.Records.{recordsOf, tableFrom}
 use Rattle.records.specs.Lent.{ledgerOf, lentAnswer, LentAnswer, serveWith}
 use Rattle.records.specs.laws.Steps.{off-whole}
-use Rattle.lent_guarantee.specs.Statement.{answerOf, bookOf, Lent, LentAnswered, LentDemand1, LentDemand3, LentOfferHeld, LentOfferRule, runLent, served, SoundLent}
+use Rattle.lent_guarantee.specs.Statement.{answerOf, bookOf, Lent, LentAnswered, LentBoardAgrees, LentBoardStays, LentDemand1, LentDemand3, LentOfferHeld, LentOfferRule, runLent, served, SoundLent}
 use Rattle.lent_guarantee.proofs.Same.{at-whole, kept-back, same, sound-book, still-whole}
 
 -- ---- the list of calls
@@ -93,6 +95,7 @@ module _ (l : Lent) (c : Call) where
     other = λ _. refl;
     bad-names = λ _. refl;
     bad-releases = λ _. refl;
+    bad-board = λ _. refl;
   }
 
   whole-answered : length ls ≡ 128 → LentAnswered l c (served l c)
@@ -115,6 +118,7 @@ module _ (l : Lent) (c : Call) where
     other = λ no. absurd (no long);
     bad-names = λ e. sym number ∙ v .bad-names e;
     bad-releases = λ e. sym number ∙ v .bad-releases e;
+    bad-board = λ e. sym number ∙ v .bad-board e;
   }
     where
       v : Answered (bookOf l) c (serveOf (bookOf l) c)
@@ -135,16 +139,31 @@ module _ (l : Lent) (c : Call) where
         ap (λ (a : LentAnswer). a .leases) (at-whole k ls (l .names) c long) ∙ kept-back k ls (l .names) c long (serveOf (bookOf l) c .book .table) (ap (λ (b : Book). b .table) e),
       )
 
-  pub call-lent : LentAnswered l c (served l c)
-  call-lent = by-number (eqb (length ls) 128) refl
+  -- by the number of records
+  by-number : (P : LentAnswer → Type 0) → (length ls ≡ 128 → P (served l c)) → ((length ls ≡ 128 → ⊥) → P (record { outcome = 1; offset = 0; reply = []; ledger = k; leases = ls })) → P (served l c)
+  by-number P f g = go (eqb (length ls) 128) refl
     where
-      by-number : (t : Bool) → eqb (length ls) 128 ≡ t → LentAnswered l c (served l c)
-      by-number true e = whole-answered (eqb-true _ _ e)
-      by-number false e = subst (LentAnswered l c) (sym (out (eqb-false _ _ e))) (other-answered (eqb-false _ _ e))
+      go : (t : Bool) → eqb (length ls) 128 ≡ t → P (served l c)
+      go true e = f (eqb-true _ _ e)
+      go false e = subst P (sym (out (eqb-false _ _ e))) (g (eqb-false _ _ e))
+
+  pub call-lent : LentAnswered l c (served l c)
+  call-lent = by-number (LentAnswered l c) whole-answered other-answered
 
 pub lent-demand1 : LentDemand1
 unfolding LentDemand1
 lent-demand1 l c = call-lent l c
+
+-- ---- the board
+pub lent-board-agrees : LentBoardAgrees
+unfolding LentBoardAgrees
+lent-board-agrees l v cs = let r = run-lent l cs v in book-board (bookOf (runLent l cs)) (r .0 .sound)
+
+pub lent-board-stays : LentBoardStays
+unfolding LentBoardStays BoardStays
+lent-board-stays l v c =
+    subst (BoardKept (bookOf l)) (sym (same (l .ledger) (l .leases) (l .names) c (v .whole)))
+    (board-stays (bookOf l) (sound-book (l .ledger) (l .leases) (l .names) c (v .whole) (v .eight) (v .sound)) c)
 
 -- ---- the OFFER rule
 pub lent-offer-rule : LentOfferRule

@@ -1,4 +1,4 @@
--- Specimens: document 01's specimens and a RELEASE sent again (document 02, W-202) through the lent call, over the tables of guarantee's; and the premises of the lent statements, met by the same book, lent as 128
+-- Specimens: document 01's specimens, a RELEASE sent again (document 02, W-202) and the board (W-207) through the lent call, over the tables of guarantee's; and the premises of the lent statements, met by the same book, lent as 128
 -- records.
 use mathlib.Core.Path.{_≡_, refl, sym, ap, _∙_, subst}
 use mathlib.Core.Bool.{Bool, true, false}
@@ -11,8 +11,8 @@ use Rattle.releases.specs.Whole.{bookB}
 use Rattle.server.specs.Serve.{Answer, Call, serveOf}
 use Rattle.decision.specs.Parts.{leaseIdIn}
 use Rattle.guarantee.specs.Statement.{Elsewhere, Granted, GrantedAsOffered, Narrow, NewRequest, NoHold, Offered, OfferedAs, TakesUp, requested, run, saysOf, tenantFor}
-use Rattle.guarantee.proofs.Opened.{computed}
-use Rattle.guarantee.proofs.Specimens.{Case, ReleaseCase, agrees, between, book, d3, discover, discovers, discovers3, free, holds, house2, keeps, narrow, new, offered, offered3, others, p1, p3, release-specimens, releaseTable, remembers, sound, specimens, table, takes, takesUp}
+use Rattle.guarantee_specimens.proofs.Opened.{computed}
+use Rattle.guarantee_specimens.proofs.Specimens.{BoardCase, Case, ReleaseCase, agrees, between, board-specimens, boardTable, book, d3, discover, discovers, discovers3, free, holds, house2, keeps, narrow, new, offered, offered3, others, p1, p3, release-specimens, releaseTable, remembers, shows, showsOn, sound, specimens, table, takes, takesUp}
 use Rattle.records.specs.Lent.{ledgerOf}
 use Rattle.records.specs.Records.{rows, tableFrom, tenantFrom}
 use Rattle.lent_guarantee.specs.Statement.{answerOf, bookOf, Lent, LentDemand3, LentOfferHeld, LentOfferRule, runLent, served, SoundLent}
@@ -64,6 +64,14 @@ lent-keeps c = remembers c (lent-answer (c .case .before) (c .case .last))
 lent-release-specimens : allBy lent-keeps releaseTable ≡ true
 unfolding lent-keeps keeps
 lent-release-specimens = all-same lent-keeps keeps releaseTable (λ c. ap (remembers c) (as-served (c .case .before) (c .case .last))) ∙ release-specimens
+
+-- ---- the board
+lent-shows : BoardCase → Bool
+lent-shows c = showsOn c (runLent campus (c .calls) .ledger .memory .board)
+
+lent-board-specimens : allBy lent-shows boardTable ≡ true
+unfolding lent-shows shows
+lent-board-specimens = all-same lent-shows shows boardTable (λ c. ap (λ (b : Book). showsOn c (b .memory .board)) (run-same (c .calls))) ∙ board-specimens
 
 -- ---- demand 3: P3 after P1
 granted : Granted (bookOf (runLent campus (p1 ∷ []))) p3 (answerOf (runLent campus (p1 ∷ []) .names) (served (runLent campus (p1 ∷ [])) p3))

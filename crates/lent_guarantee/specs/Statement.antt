@@ -7,13 +7,14 @@ use mathlib.Core.List.{List, [], _∷_, _++_}
 use lib.ListN.{drop, length, take}
 use Rattle.lists.specs.All.{All}
 use Rattle.state_file.specs.File.{longestFile}
-use Rattle.state.specs.Book.{Book}
+use Rattle.state.specs.Book.{Book, leasesOf}
+use Rattle.state.specs.Board.{boardOf}
 use Rattle.state.specs.declared.Lease.{Lease}
 use Rattle.state.specs.declared.Ledger.{Ledger}
-use Rattle.releases.specs.Whole.{bookB, memoryGood, namesGood}
+use Rattle.releases.specs.Whole.{boardGood, bookB, memoryGood, namesGood}
 use Rattle.message.specs.Read.{longestDatagram, readOf}
 use Rattle.server.specs.Serve.{Answer, Call, serveOf}
-use Rattle.guarantee.specs.Statement.{Discovers, Elsewhere, Granted, GrantedAsOffered, IsReply, Narrow, NewRequest, NoHold, Offered, OfferedAs, ReadAs, TakesUp, WithinLimits, bookAt, liveUnder, requested, saysOf, tenantFor}
+use Rattle.guarantee.specs.Statement.{BoardKept, Discovers, Elsewhere, Granted, GrantedAsOffered, IsReply, Narrow, NewRequest, NoHold, Offered, OfferedAs, ReadAs, TakesUp, WithinLimits, bookAt, liveUnder, requested, saysOf, tenantFor}
 use Rattle.decision.specs.Parts.{leaseIdIn}
 use Rattle.format.specs.Format.{Octets}
 use Rattle.state_file.specs.declared.Written.{Written}
@@ -22,7 +23,7 @@ use Rattle.state_file.specs.Typed.{Typed}
 use Rattle.records.specs.Records.{recordsOf, tableFrom}
 use Rattle.records.specs.Lent.{bookFrom, ledgerOf, LentAnswer, readLent, roomLent, serveLent, writtenLent}
 
--- a ledger (clock, settings and what is remembered), records and names, as their caller holds them; the names are lent to be read only
+-- a ledger (clock, settings, what is remembered and the board), records and names, as their caller holds them; the names are lent to be read only
 pub record Lent : Type 0 where
   pub ledger : Ledger
   pub leases : List Lease
@@ -101,9 +102,19 @@ pub record LentAnswered (l : Lent) (c : Call) (a : LentAnswer) : Type 0 where
   -- and so do bad names and bad releases (document 02, W-201 and W-202)
   pub bad-names : namesGood (bookOf l) ≡ false → a .outcome ≡ 1
   pub bad-releases : memoryGood (bookOf l) ≡ false → a .outcome ≡ 1
+  -- "a book whose board disagrees is unsound, 1" (W-207)
+  pub bad-board : boardGood (bookOf l) ≡ false → a .outcome ≡ 1
 
 unfoldable pub LentDemand1 : Type 0
 LentDemand1 = (l : Lent) (c : Call) → LentAnswered l c (served l c)
+
+-- ---- the occupancy board (document 02, W-207): "After any call on a sound book it equals what the leases say"
+unfoldable pub LentBoardAgrees : Type 0
+LentBoardAgrees = (l : Lent) → SoundLent l → (cs : List Call) → runLent l cs .ledger .memory .board ≡ boardOf (leasesOf (tableFrom (runLent l cs .leases)))
+
+-- and a call alters no more of it than the entries and holdings of what it adds and removes
+unfoldable pub LentBoardStays : Type 0
+LentBoardStays = (l : Lent) → SoundLent l → (c : Call) → BoardKept (bookOf l) (answerOf (l .names) (served l c))
 
 -- ---- the OFFER rule, on any ledger, any 128 records and any names
 unfoldable pub LentOfferRule : Type 0

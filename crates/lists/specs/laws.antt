@@ -15,3 +15,4 @@ pub mod Arranged
 pub mod Row
 pub mod Some
 pub mod Pad
+pub mod Same

@@ -6,10 +6,13 @@
 --     lends-mut        the cells of the two locals are lent as `&mut`, each for a lifetime of its own: the two tokens, the two references, and `OutMut`, which brings the cells back
 --     backs-mut        the tokens, what says the last values, and `OutMut` give the cells at those values
 --     lends-shr, backs-shr     the same as `&`, with `OutShr`: the cells come back as they were
+--     whole1, whole2, rec, own         values and types that are put together of parts.        records-parts, owned-parts, typed-part, typed-whole     the machine values of a `Records` and of an `Owned` are such values
 -- A step has its items at the head of the context, in this order, and the rest of the context is as it was.
 -- Assumes `Given`.
-use Rattle.lent.proofs.Walk.{_≡_, refl, sym, _∙_, subst, ℕ, arith, List, [], _∷_, map, length, length-map, URA, fullShare, erased, tyArray, Val, WT, hasTy, vptr, Lft, GName, Fml, feq, fsep, fat, flft, fres, flent, Heap, Atoms, Given, Item, Goal, Soaks, Seq, Step, step, ‵, _⊛_, some, later, _$_, move, drop, use1, use3, split, pick, rewrite, fsplit, fjoin, fpick, fpack, feqI, await, cells, Arr, arr-parts, lft-new, lft-end, lent-back, RattleType, Is, shows, cellAt, partAt, shares, partOf, Array, array-makes, array-apart, array-whole, row, whole-in, whole-out, lends-ref, ref-back, lends-slice, slice-back, lends-shr-slice, RefT, MutRef, ShrRef, sliceVal, MutSlice, ShrSlice, Room, finally, owned, facts, field, shape, spelt, struct-makes}
+use Rattle.lent.proofs.Walk.{Ty, _≡_, refl, sym, _∙_, subst, ℕ, arith, List, [], _∷_, map, length, length-map, URA, fullShare, erased, tyArray, Val, WT, hasTy, vptr, Lft, GName, Fml, feq, fsep, fat, flft, fres, flent, Heap, Atoms, Given, Item, Goal, Soaks, Seq, Step, step, ‵, _⊛_, some, later, _$_, move, drop, use1, use3, split, pick, rewrite, fsplit, fjoin, fpick, fpack, feqI, await, cells, Arr, arr-parts, lft-new, lft-end, lent-back, RattleType, Is, shows, cellAt, partAt, shares, partOf, Array, array-makes, array-apart, array-whole, row, whole-in, whole-out, lends-ref, ref-back, lends-slice, slice-back, lends-shr-slice, RefT, MutRef, ShrRef, sliceVal, MutSlice, ShrSlice, Room, finally, owned, facts, field, shape, spelt, struct-makes}
 use lib.Dec.{T as Holds}
+use mir.Syntax.{Sym, tyStruct, tcons, tnil}
+use mir.Val.{vstruct, vcons, vnil}
 use types.SemTy.{Body}
 use denote.Memory.{mem}
 use denote.Lend.{Held, lends-shr as lends-shr-ref}
@@ -102,6 +105,37 @@ module _ {M : Type 1} (𝓤 : URA M) (H : Heap 𝓤) (A : Atoms 𝓤) (W : Given
 
   pub typed-owned : (o : Owned) → IsOwned o → Holds (hasTy O′.mir (word-owned o)) × WT (word-owned o)
   typed-owned o is = LL.lawful O.the-type O′.the-laws 𝓤 H A W .typed o _ is .0
+
+-- ---- a struct that is put together of one value or of two, and that a value has a type
+abbrev pub whole1 : Val → Val
+whole1 v = vstruct (vcons v vnil)
+
+abbrev pub whole2 : Val → Val → Val
+whole2 v w = vstruct (vcons v (vcons w vnil))
+
+-- the types of a `Records` and of an `Owned`, of those of their parts
+abbrev pub rec : Sym → Ty → Ty
+rec ν a = tyStruct ν (tcons a tnil)
+
+abbrev pub own : Sym → Sym → Ty → Ty → Ty
+own ν ν′ l a = tyStruct ν (tcons l (tcons (rec ν′ a) tnil))
+
+abbrev pub Fits : Ty → Val → Type 0
+Fits τ v = Holds (hasTy τ v) × WT v
+
+-- the machine values of a `Records` and of an `Owned` are put together of those of their parts: compared here, once
+pub records-parts : (r : Records) → word-records r ≡ whole1 (word-leases (r .leases))
+records-parts r = refl
+
+pub owned-parts : (o : Owned) → word-owned o ≡ whole2 (word-ledger (o .ledger)) (whole1 (word-leases (o .records .leases)))
+owned-parts o = refl
+
+module _ {M : Type 1} (𝓤 : URA M) (H : Heap 𝓤) (A : Atoms 𝓤) (W : Given 𝓤 H A) where
+  pub typed-part : (ys : List Lease) → IsLeases ys → Fits N′.mir (whole1 (word-leases ys))
+  typed-part ys is = subst (Fits N′.mir) (records-parts (to-records ys)) (typed-records 𝓤 H A W (to-records ys) (is-records ys is))
+
+  pub typed-whole : (h : Ledger) (ys : List Lease) → IsLedger h → IsLeases ys → Fits O′.mir (whole2 (word-ledger h) (whole1 (word-leases ys)))
+  typed-whole h ys is-h is-ys = subst (Fits O′.mir) (owned-parts (to-owned h ys)) (typed-owned 𝓤 H A W (to-owned h ys) (is-owned h ys is-h is-ys))
 
 -- ---- the references to the local b
 abbrev pub ref-ledger : ℕ → GName → Ledger → RefT Ledger

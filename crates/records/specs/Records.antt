@@ -8,10 +8,11 @@ use mathlib.Core.List.{List, [], _∷_, _++_, map}
 use lib.ListN.{length, replicate, take, drop}
 use lib.Seq.{paste}
 use Rattle.lists.specs.Place.{placeBy}
+use Rattle.occupancy.specs.declared.Board.{Board}
 use Rattle.state.specs.declared.Lease.{Lease}
 use Rattle.state.specs.declared.TenantLeases.{TenantLeases}
 use Rattle.state.specs.declared.LeaseTable.{LeaseTable}
-use Rattle.state.specs.Book.{dropped, zeroLease}
+use Rattle.state.specs.Book.{cleared, dropped, zeroLease}
 use Rattle.soundness.specs.declared.Held.{Held}
 use Rattle.soundness.specs.Sound.{unusedB}
 use Rattle.soundness.specs.Parts.{holdingsOf}
@@ -48,11 +49,12 @@ putRow ls h r = take (16 * h) ls ++ r ++ drop (16 * h + 16) ls
 abbrev pub endsAfter : ℕ → Held → Bool
 endsAfter clock x = ltb clock (x .«first_end»)
 
--- what a function promises that drops the leases which end at or before a clock: the records, and what is held afterwards
-pub record Drops (clock : ℕ) (ls : List Lease) (r : Dropped) : Type 0 where
+-- what a function promises that drops the leases which end at or before a clock: the records, what is held afterwards, and the board
+pub record Drops (clock : ℕ) (ls : List Lease) (b : Board) (r : Dropped) : Type 0 where
   pub records : r .records .leases ≡ recordsOf (dropped clock (tableFrom ls))
   pub long : length (r .records .leases) ≡ 128
   pub holdings : r .held ≡ holdingsOf (dropped clock (tableFrom ls))
+  pub board : r .board ≡ cleared clock (tableFrom ls) b
 
 -- ---- between a lent slice of any length and 128 records by value
 -- what is taken from a slice: its first records, then unused ones

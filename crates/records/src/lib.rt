@@ -12,11 +12,14 @@ ghost use Rattle.soundness.specs.Sound.{unusedB};
 ghost use Rattle.names.specs.Names.{namesB};
 ghost use Rattle.soundness.specs.Parts.{holdingsOf, soundFrom, tableRulesOf};
 ghost use Rattle.releases.specs.Rules.{brokenRelease, releaseRulesOf};
+ghost use Rattle.occupancy.specs.Board.{sameBoard};
 ghost use Rattle.state.specs.Book.{leasesOf, tableOf, tenantAt, zeroLease};
+ghost use Rattle.state.specs.Board.{builtOf};
 ghost use Rattle.server.specs.Serve.{atClock};
 ghost use Rattle.state_file.specs.StateFile.{readFile};
 ghost use Rattle.records.specs.Records.{Drops, endsAfter, putRow, recordsOf, tableFrom, tenantFrom};
 ghost use Rattle.records.specs.Lent.{Gathered, bookFrom, lentAnswer, serveWith, ServesRecords, readWith, Reads, writtenWith, roomWith, foundAmong, findWith, insertWith, removeWith};
+use occupancy::Board;
 use releases::ReleaseRules;
 use server::Outcome;
 use soundness::Held;
@@ -43,16 +46,19 @@ pub struct ServedRecords {
     pub records: Records,
 }
 
-// What one pass over the records gathers: which rules they keep and what all tenants hold, and which rules what is remembered keeps.
+// What one pass over the records gathers: which rules they keep and what all tenants hold, which rules what is remembered keeps, and the board that the
+// leases make.
 struct Surveyed {
     rules: TableRules,
     releases: ReleaseRules,
+    built: Board,
 }
 
-// Records after a drop, and what their tenants hold.
+// Records after a drop, what their tenants hold, and the board.
 struct Dropped {
     records: Records,
     held: HeldTable,
+    board: Board,
 }
 
 // Where a tenant has a lease with an identifier: at a place among its records, counted from 0.
@@ -189,16 +195,17 @@ fn put_row(records: Records, h: usize, t: TenantLeases) -> Records
     now
 }
 
-// Which rules each tenant's records and releases keep, and what all tenants hold, row by row: one pass for both, since a function of
-// its own for the releases would copy the records.
+// Which rules each tenant's records and releases keep, what all tenants hold, and the board that the leases make, row by row: one pass for all, since a
+// function of its own for each would copy the records.
 fn survey(s: State, memory: Memory, records: Records) -> Surveyed
-    ensures { λ r. ⌜ (r .rules ≡ tableRulesOf s (tableFrom (records .leases))) × (r .releases ≡ releaseRulesOf s (tableFrom (records .leases)) memory) ⌝ }
+    ensures { λ r. ⌜ (r .rules ≡ tableRulesOf s (tableFrom (records .leases))) × (r .releases ≡ releaseRulesOf s (tableFrom (records .leases)) memory) × (r .built ≡ builtOf (tableFrom (records .leases))) ⌝ }
 {
     let l = state::no_lease();
     let pools = soundness::pools_of(s);
     let n = arithmetic::cut8(s.tenant_count);
     let mut now = soundness::no_tenants();
     let mut all = releases::no_tenants();
+    let mut built = occupancy::no_board();
     let mut h: usize = 0;
     while h < 8 {
         let mut row = [l; 16];
@@ -211,11 +218,13 @@ fn survey(s: State, memory: Memory, records: Records) -> Surveyed
         now = soundness::add_tenant(s, pools, now, h, t);
         let q = memory.releases[h];
         all = releases::add_tenant(all, n, s.clock, h, t, q);
+        built = agreement::add_tenant(built, h, t);
         h += 1;
     }
     Surveyed {
         rules: now,
         releases: all,
+        built: built,
     }
 }
 
@@ -242,13 +251,14 @@ fn none_ended(held: HeldTable, clock: u32) -> bool
     true
 }
 
-// The leases that end at or before a clock go, tenant by tenant; the records of a tenant that has none stay as they are.
-fn drop_ended(records: Records, held: HeldTable, clock: u32) -> Dropped
+// The leases that end at or before a clock go, tenant by tenant, and are taken off the board; the records of a tenant that has none stay as they are.
+fn drop_ended(records: Records, held: HeldTable, board: Board, clock: u32) -> Dropped
     requires { ⌜ (tableFrom (records .leases) ≡ tableOf (leasesOf (tableFrom (records .leases)))) × (held ≡ holdingsOf (tableFrom (records .leases))) ⌝ }
-    ensures { λ r. ⌜ Drops clock (records .leases) r ⌝ }
+    ensures { λ r. ⌜ Drops clock (records .leases) board r ⌝ }
 {
     let mut now = records;
     let mut sets = held;
+    let mut cleared = board;
     let mut h: usize = 0;
     while h < 8 {
         let x = held.tenants[h];
@@ -260,11 +270,13 @@ fn drop_ended(records: Records, held: HeldTable, clock: u32) -> Dropped
             now = put_row(now, at, left);
             let g = soundness::held_sets(left);
             sets.tenants[at] = g;
+            cleared = agreement::clear(cleared, at, t, clock);
         }
     }
     Dropped {
         records: now,
         held: sets,
+        board: cleared,
     }
 }
 
@@ -328,6 +340,9 @@ fn at_clock(
             let mut noted = memory;
             let x = releases::note(q, e);
             noted.releases[h] = x;
+            let board = memory.board;
+            let b = agreement::edited(board, h, e);
+            noted.board = b;
             return ServedRecords {
                 outcome: o,
                 clock: s.clock,
@@ -345,15 +360,18 @@ fn at_clock(
     discard(3, s.clock, memory, records)
 }
 
-// Test 1: every rule holds, of what is remembered too, and the names are good for the settings.
-fn is_sound(s: State, c: Surveyed, names: &[u8]) -> bool
-    ensures { λ r. ⌜ r ≡ (soundFrom s (c .rules) && (eqb (brokenRelease (c .releases)) 0 && namesB (s .«scope_count») (s .«tenant_count») (now (names .entry)))) ⌝ }
+// Test 1: every rule holds, of what is remembered and of the board too, and the names are good for the settings.
+fn is_sound(s: State, board: Board, c: Surveyed, names: &[u8]) -> bool
+    ensures { λ r. ⌜ r ≡ (soundFrom s (c .rules) && (eqb (brokenRelease (c .releases)) 0 && (sameBoard board (c .built) && namesB (s .«scope_count») (s .«tenant_count») (now (names .entry))))) ⌝ }
 {
     let a = c.rules;
     let x = c.releases;
+    let made = c.built;
     if soundness::sound_from(s, a) {
         if releases::first_broken(x) == 0 {
-            return names::good(names, s.scope_count, s.tenant_count);
+            if occupancy::same(board, made) {
+                return names::good(names, s.scope_count, s.tenant_count);
+            }
         }
     }
     false
@@ -378,7 +396,8 @@ pub fn serve(
         return discard(1, state.clock, memory, records);
     }
     let c = survey(state, memory, records);
-    if !is_sound(state, c, names) {
+    let board = memory.board;
+    if !is_sound(state, board, c, names) {
         return discard(1, state.clock, memory, records);
     }
     if reply.len() < reply::LEAST_ROOM {
@@ -389,10 +408,13 @@ pub fn serve(
     if none_ended(held, s.clock) {
         return at_clock(s, memory, records, held, names, client, datagram, reply);
     }
-    let d = drop_ended(records, held, s.clock);
+    let d = drop_ended(records, held, board, s.clock);
     let left = d.records;
     let sets = d.held;
-    at_clock(s, memory, left, sets, names, client, datagram, reply)
+    let cleared = d.board;
+    let mut now = memory;
+    now.board = cleared;
+    at_clock(s, now, left, sets, names, client, datagram, reply)
 }
 
 fn untouched(refusal: u8, ledger: Ledger, records: Records) -> ReadRecords

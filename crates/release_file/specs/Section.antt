@@ -11,6 +11,7 @@ use Rattle.lists.specs.Row.{laidRow}
 use Rattle.format.specs.Format.{Format, _⊗_, counted, number, octet, viewed}
 use Rattle.format.specs.Section.{sectionFormat}
 use Rattle.format.specs.Tenants.{apart, filedAll, own}
+use Rattle.occupancy.specs.Board.{noBoard}
 use Rattle.state.specs.declared.Memory.{Memory}
 use Rattle.state.specs.declared.Release.{Release}
 use Rattle.state.specs.Book.{laidReleases, remembered}
@@ -48,9 +49,10 @@ filedRelease t r = record { tenant = t; id = take (r .«id_len») (r .id); xid =
 abbrev pub releaseTenant : FileRelease → ℕ
 releaseTenant x = x .tenant
 
--- tenant by tenant, from 1 to 8
+-- tenant by tenant, from 1 to 8; a section says nothing of the board
+-- a file has no board: an empty one, until the reader makes it (`accepted` of state_file)
 unfoldable pub storedMemory : List FileRelease → Memory
-storedMemory xs = record { releases = map laidReleases (map (map storedRelease) (apart releaseTenant 1 8 xs)) }
+storedMemory xs = record { releases = map laidReleases (map (map storedRelease) (apart releaseTenant 1 8 xs)); board = noBoard }
 
 unfoldable pub filedMemory : Memory → List FileRelease
 filedMemory m = filedAll filedRelease 1 (map remembered (m .releases))

@@ -54,7 +54,8 @@ pub fn load(s: &[u8], at: usize) -> Memory
 {
     let count = wide(s[at]);
     let releases = all_releases(s, at + 1, count);
-    Memory { releases }
+    let board = occupancy::no_board();
+    Memory { releases, board }
 }
 
 // How many octets the section of a memory has.

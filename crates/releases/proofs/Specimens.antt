@@ -10,6 +10,7 @@ use Rattle.lists.specs.All.{allBy, pairsBy, allTo}
 use Rattle.lists.specs.Filter.{filterBy}
 use Rattle.lists.specs.Place.{placeBy}
 use Rattle.identifier.specs.Order.{orderOf, sameOf}
+use Rattle.occupancy.specs.Board.{noBoard}
 use Rattle.state.specs.declared.Lease.{Lease}
 use Rattle.state.specs.declared.Edit.{Edit}
 use Rattle.state.specs.declared.Release.{Release}
@@ -126,7 +127,7 @@ abbrev counted : ℕ → Release → Release → TenantReleases
 counted n a b = record { releases = a ∷ b ∷ zeroRelease ∷ zeroRelease ∷ []; count = n }
 
 brokenIn : Case → ℕ
-brokenIn c = brokenMemory settings (tableOf (c .leases ∷ replicate 7 [])) (record { releases = c .first ∷ c .second ∷ c .third ∷ replicate 5 none })
+brokenIn c = brokenMemory settings (tableOf (c .leases ∷ replicate 7 [])) (record { releases = c .first ∷ c .second ∷ c .third ∷ replicate 5 none; board = noBoard })
 
 holds : Case → Bool
 holds c = eqb (brokenIn c) (c .broken)

@@ -144,7 +144,7 @@ unfoldable pub atClock : Book → ℕ → List ℕ → Answer
 atClock b client s =
     pick (ltb (tenantOf (b .state) client) (tenantsIn (b .state))) (withReading b (tenantOf (b .state) client) s (readOf s)) (discarded 3 b)
 
--- test 1: "book unsound", for its names and its releases too (document 02, W-201 and W-202). Tests 1 and 2 change nothing; "all other calls first set the book's clock .. and drop leases that end at or before it", and lapsed holds (W-205)
+-- test 1: "book unsound", for its names, its releases and its board too (document 02, W-201, W-202 and W-207). Tests 1 and 2 change nothing; "all other calls first set the book's clock .. and drop leases that end at or before it", and lapsed holds (W-205)
 unfoldable pub serveOf : Book → Call → Answer
 serveOf b c =
     pick (bookB b)

@@ -1,6 +1,6 @@
 -- Definitions: document 01's "Sound", rule by rule in its order, numbered by its semicolons; '"lease" .. in soundness reads "lease or hold"' (document 02,
 -- W-205), so that each rule on leases is one on records. Rule 13 is W-205's on holds, 19 the layout of "How it is to be built"; 14 to 18 are Rules.antt of
--- `releases`, whose `bookB` is the whole.
+-- `releases`, whose `bookB` is the whole, and 20 is Agrees.antt of `agreement`.
 -- A house is a tenant here, its share a reserve; tenants count from 0, scopes from 1.
 use Prim.Native.Nat.{ℕ, _+_, _-_, min}
 use mathlib.Core.Bool.{Bool, true, _&&_, _||_}

@@ -1,6 +1,6 @@
 -- Definitions: lease records and the lists of leases that they stand for; document 01's book, a `State`, its settings and clock, with a `LeaseTable`, what
--- is remembered of releases and the names for the scopes.
-use Prim.Native.Nat.{ℕ, _+_, max}
+-- is remembered of releases with the occupancy board, and the names for the scopes.
+use Prim.Native.Nat.{ℕ, zero, suc, _+_, max}
 use mathlib.Core.Bool.{Bool, not, _&&_}
 use mathlib.Core.List.{List, [], _∷_, map}
 use lib.Dec.{eqb, ltb}
@@ -8,12 +8,15 @@ use lib.Bits.{bitOr}
 use lib.ListN.{length, replicate, set, take, getD}
 use Rattle.lists.specs.Pick.{pick}
 use Rattle.lists.specs.Filter.{filterBy}
+use Rattle.lists.specs.Fold.{fold}
 use Rattle.lists.specs.Place.{placeBy}
 use Rattle.lists.specs.Sums.{sumTo}
 use Rattle.lists.specs.Arranged.{insertIn}
 use Rattle.lists.specs.Row.{laidRow, keepRow}
 use Rattle.identifier.specs.Order.{orderOf, sameOf}
 use Rattle.address_set.specs.AddressSet.{offsets}
+use Rattle.occupancy.specs.declared.Board.{Board}
+use Rattle.occupancy.specs.Board.{addedTo, takenFrom}
 use Rattle.state.specs.declared.Lease.{Lease}
 use Rattle.state.specs.declared.TenantLeases.{TenantLeases}
 use Rattle.state.specs.declared.LeaseTable.{LeaseTable}
@@ -89,7 +92,7 @@ abbrev pub releasesAt : Memory → ℕ → TenantReleases
 releasesAt m h = getD (m .releases) h (laidReleases [])
 
 abbrev pub putReleases : Memory → ℕ → TenantReleases → Memory
-putReleases m h q = record { releases = set (m .releases) h q }
+putReleases m h q = record { releases = set (m .releases) h q; board = m .board }
 
 -- the identifier that was released
 abbrev pub releaseId : Release → List ℕ
@@ -196,10 +199,32 @@ raisedIn g time = record { state = raised (g .state) time; memory = g .memory }
 unfoldable pub dropped : ℕ → LeaseTable → LeaseTable
 dropped clock t = tableOf (map (liveOf clock) (leasesOf t))
 
--- what every call but discards 1 and 2 does first: the clock is raised, and the ended leases and lapsed holds are dropped; what is remembered stays, however
--- old
+-- ---- the occupancy board (document 02, W-207): "A lease added or removed may alter only the entries of its addresses and its house's holding in its scope"
+-- (`addedTo`, `takenFrom`); "holds count as leases". Tenant h, counted from 0, has one record more, or one less
+unfoldable pub boardWith : ℕ → Board → Lease → Board
+boardWith h b l = addedTo b h (l .scope) (l .addresses)
+
+unfoldable pub boardWithout : ℕ → Board → Lease → Board
+boardWithout h b l = takenFrom b h (l .scope) (l .addresses)
+
+-- the leases and holds that are not live at a clock
+unfoldable pub endedOf : ℕ → List Lease → List Lease
+endedOf clock ls = filterBy (λ l. not (live clock l)) ls
+
+-- they are taken off the board, one after the other: those of the first k tenants
+unfoldable pub clearedTo : ℕ → LeaseTable → Board → ℕ → Board
+clearedTo clock t b zero = b
+clearedTo clock t b (suc k) = fold (boardWithout k) (clearedTo clock t b k) (endedOf clock (inUse (tenantAt t k)))
+
+abbrev pub cleared : ℕ → LeaseTable → Board → Board
+cleared clock t b = clearedTo clock t b 8
+
+-- what every call but discards 1 and 2 does first: the clock is raised, and the ended leases and lapsed holds are dropped, from the board too; the releases
+-- that are remembered stay, however old
 unfoldable pub advanced : Book → ℕ → Book
-advanced b time = changedTo b (raised (b .state) time) (dropped (max (b .state .clock) time) (b .table)) (b .memory)
+advanced b time =
+    changedTo b (raised (b .state) time) (dropped (max (b .state .clock) time) (b .table))
+    (record { releases = b .memory .releases; board = cleared (max (b .state .clock) time) (b .table) (b .memory .board) })
 
 -- ---- address sets
 unfoldable pub unionAll : List ℕ → ℕ

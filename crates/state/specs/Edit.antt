@@ -2,9 +2,10 @@
 use Prim.Native.Nat.{ℕ, _-_}
 use mathlib.Core.Bool.{true, false}
 use mathlib.Core.List.{List, [], _∷_, _++_}
-use lib.ListN.{drop, length}
+use lib.ListN.{drop, length, set}
 use Rattle.lists.specs.Pick.{pick}
 use Rattle.lists.specs.Filter.{filterBy}
+use Rattle.occupancy.specs.declared.Board.{Board}
 use Rattle.state.specs.declared.Lease.{Lease}
 use Rattle.state.specs.declared.TenantLeases.{TenantLeases}
 use Rattle.state.specs.declared.LeaseTable.{LeaseTable}
@@ -12,7 +13,7 @@ use Rattle.state.specs.declared.Release.{Release}
 use Rattle.state.specs.declared.TenantReleases.{TenantReleases}
 use Rattle.state.specs.declared.Memory.{Memory}
 use Rattle.state.specs.declared.Edit.{Edit}
-use Rattle.state.specs.Book.{Book, changedTo, zeroLease, zeroRelease, inUse, laidOut, tenantAt, putAt, idOf, insertedIn, removeOf, remembered, laidReleases, releasesAt, putReleases, otherRelease}
+use Rattle.state.specs.Book.{Book, changedTo, zeroLease, zeroRelease, inUse, laidOut, tenantAt, putAt, idOf, insertedIn, removeOf, remembered, laidReleases, releasesAt, otherRelease, boardWith, boardWithout}
 
 abbrev pub noEdit : Edit
 noEdit = record { leaves = false; old = zeroLease; enters = false; new = zeroLease; forgets = false; remembers = false; release = zeroRelease }
@@ -65,9 +66,17 @@ notedIn e q =
     pick (e .remembers) (laidReleases (rememberOf (e .release) (remembered q)))
     (pick (e .forgets) (laidReleases (forgetOf (idOf (e .new)) (remembered q))) q)
 
--- the memory, with the entries of the tenant at place h so changed: the only way in which a call changes it
+-- ---- the board (document 02, W-207): what leaves is taken off it
+unfoldable pub boardLeft : Edit → ℕ → Board → Board
+boardLeft e h b = pick (e .leaves) (boardWithout h b (e .old)) b
+
+-- and what enters is added
+unfoldable pub boardEdited : Edit → ℕ → Board → Board
+boardEdited e h b = pick (e .enters) (boardWith h (boardLeft e h b) (e .new)) (boardLeft e h b)
+
+-- the memory, with the releases of the tenant at place h and the board so changed: the only way in which a call changes it, but for the drop
 unfoldable pub noted : Edit → ℕ → Memory → Memory
-noted e h m = putReleases m h (notedIn e (releasesAt m h))
+noted e h m = record { releases = set (m .releases) h (notedIn e (releasesAt m h)); board = boardEdited e h (m .board) }
 
 -- ---- the book
 abbrev pub editedBook : Edit → ℕ → Book → Book

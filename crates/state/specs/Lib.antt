@@ -1,3 +1,4 @@
 pub mod Book
 pub mod Edit
+pub mod Board
 pub mod laws

@@ -4,8 +4,9 @@ use mathlib.Core.List.{List, [], _++_, _∷_}
 use mathlib.Core.Path.{_≡_, refl}
 use Prim.Native.Nat.{_*_, _+_, _-_, suc, zero, ℕ}
 use lib.Dec.{eqb}
-use lib.ListN.{length, replicate}
-use Rattle.address_set.specs.AddressSet.{bit, offsetsFrom, readOffsets, risesFrom, setOf}
+use lib.ListN.{length, replicate, take}
+use Rattle.address_set.specs.AddressSet.{bit, offsetsFrom, readOffsets, risesFrom, setOf, upTo}
+use Rattle.agreement.specs.Agrees.{agreesB}
 use Rattle.identifier.specs.Order.{orderOf, sameOf}
 use Rattle.lists.specs.All.{allBy, allTo, pairsBy}
 use Rattle.lists.specs.Filter.{filterBy, isIn}
@@ -13,8 +14,13 @@ use Rattle.lists.specs.Arranged.{insertIn}
 use Rattle.lists.specs.Pick.{pick}
 use Rattle.lists.specs.Row.{laidRow}
 use Rattle.lists.specs.Sums.{sumTo}
+use Rattle.occupancy.specs.Board.{emptyScopeBoard, noEntry, noBoard, sameBoard, sameEntry, sameScopeBoard}
+use Rattle.lists.specs.Same.{sameBy}
+use Rattle.occupancy.specs.declared.Board.{Board}
+use Rattle.occupancy.specs.declared.Entry.{Entry}
 use Rattle.octets.specs.Octets.{octets32}
 use Rattle.soundness.specs.Sound.{apart, belowB, blankB, brokenOf, compatible, countsB, disjoint, holdB, lapseB, oneTo, firstBroken, firstRule, firstLate, tenantsB, idB, kindB, layoutB, leaseB, limitB, limitsB, committedB, noneB, offsetsB, paddedB, periodB, poolB, poolsApart, rangeB, rangeZero, rangesApart, recordsB, rule1, rule10, rule11, rule12, rule13, rule2, rule3, rule4, rule5, rule6, rule7, rule8, rule9, rulesOf, scopeZero, settingsB, reserveB, reservesB, sizeB, soundB, tailB, ttlB, unusedB, zeroFrom, rule19}
+use Rattle.state.specs.Board.{boardOf, countIn, countOn, entryBy, isOn, ownerFrom, scopeBy}
 use Rattle.state.specs.Book.{Book, byIdentifier, differ, addressesOf, insertOf, isHold, laidOut, laidReleases, lapsingAt, leaseWith, overlaps, tableOf, unionAll, zeroRelease, zeroScope, committed}
 use Rattle.state.specs.declared.Lease.{Lease}
 use Rattle.state.specs.declared.LeaseTable.{LeaseTable}
@@ -33,7 +39,7 @@ use Rattle.format.specs.Format.{Got, bad, closed, got, readNumber, readOctet, r
 use Rattle.state_file.specs.Records.{countsFit, filled, fitsB, storedScope, storedState, storedTable, zeroRange, filedBook, filedScope, pairUp}
 use Rattle.lease_file.specs.Records.{fewOf, filedHold, filedHolds, filedLease, filedLeases, holdFitB, insertAll, leaseFitB, mergedFrom, recordsFitB, storableB, stored, storedHold}
 use Rattle.lease_file.specs.Section.{isAfter}
-use Rattle.state_file.specs.StateFile.{accepted, loadedGot, judged, loaded, namesGot, namesOf, readFile, refused, octetsOf, roomAfter, writtenOf, zeroMemory, zeroState, zeroTable}
+use Rattle.state_file.specs.StateFile.{accepted, loadedGot, judged, loaded, namesGot, namesOf, readFile, refused, octetsOf, roomAfter, withBoard, writtenOf, zeroMemory, zeroState, zeroTable}
 
 -- ---- files
 -- 10.1.1.1, and the clock
@@ -443,15 +449,25 @@ specimenTable = tableWith (specimenHold 1030 ∷ specimenLease b 2000 12 ∷ [])
 specimenRelease : List ℕ → ℕ → ℕ → Release
 specimenRelease id xid time = record { «id_len» = 2; id = laidRow 0 32 id; xid = xid; time = time }
 
--- the memory with these of tenant 1
+-- the first four addresses of the first scope, and what its first two tenants hold
+boardWith : List Entry → List ℕ → Board
+boardWith entries held = record { scopes = record { entries = entries ++ replicate 60 noEntry; held = held ++ replicate 6 0 } ∷ replicate 3 emptyScopeBoard }
+
+entry : ℕ → ℕ → Entry
+entry owner count = record { owner = owner; count = count }
+
+specimenBoard : Board
+specimenBoard = boardWith (entry 2 1 ∷ entry 2 1 ∷ entry 1 2 ∷ entry 1 1 ∷ []) (2 ∷ 2 ∷ [])
+
+-- the memory with these releases of tenant 1
 memoryWith : List Release → Memory
-memoryWith l = record { releases = laidReleases l ∷ laidReleases (specimenRelease b 6 800 ∷ []) ∷ replicate 6 (laidReleases []) }
+memoryWith l = record { releases = laidReleases l ∷ laidReleases (specimenRelease b 6 800 ∷ []) ∷ replicate 6 (laidReleases []); board = specimenBoard }
 
 specimenMemory : Memory
 specimenMemory = memoryWith (specimenRelease a 5 900 ∷ [])
 
 read-specimen : (readFile specimen ≡ accepted specimenState specimenTable specimenMemory) × (namesOf specimen ≡ specimenNames) × (namesOf (specimen ++ 0 ∷ []) ≡ [])
-unfolding specimen specimenNames specimenState specimenLease specimenHold tableWith specimenTable server range scope lease tenants pool settings unnamed name en plain a b ab pick allBy pairsBy allTo filterBy isIn sumTo bit offsetsFrom setOf readOffsets risesFrom orderOf sameOf laidOut tableOf byIdentifier unionAll addressesOf overlaps oneTo sizeB idB recordsB countsB rule1 belowB offsetsB rule2 rangeB rangesApart rule3 poolB poolsApart rule4 ttlB rule5 reserveB reservesB rule6 kindB periodB leaseB noneB tenantsB rule7 differ rule8 disjoint apart rule9 compatible rule10 limitB limitsB rule11 committedB rule12 lapseB holdB rule13 zeroFrom paddedB blankB unusedB layoutB rangeZero tailB scopeZero settingsB rule19 rulesOf firstLate firstRule firstBroken brokenOf soundB then closed readOctet readNumber readTimes isAfter orderedFrom fileOf filled stored storedHold insertIn insertOf insertAll mergedFrom isHold storedScope storedState storedTable storableB leaseFitB holdFitB fewOf recordsFitB countsFit fitsB refused accepted judged loaded loadedGot readFile committed namesOf namesGot sizesOk bare release specimenRelease memoryWith specimenMemory brokenMemory brokenRelease firstRelease releaseRulesOf rulesTo houseB fewB lengthB differs notLeased onceB pastB older filledB unusedR laidB memoryB laidReleases storedRelease storedMemory entries.apart keepableB fewFor releasesFitB
+unfolding specimen specimenNames specimenState specimenLease specimenHold tableWith specimenTable server range scope lease tenants pool settings unnamed name en plain a b ab pick allBy pairsBy allTo filterBy isIn sumTo bit offsetsFrom setOf readOffsets risesFrom orderOf sameOf laidOut tableOf byIdentifier unionAll addressesOf overlaps oneTo sizeB idB recordsB countsB rule1 belowB offsetsB rule2 rangeB rangesApart rule3 poolB poolsApart rule4 ttlB rule5 reserveB reservesB rule6 kindB periodB leaseB noneB tenantsB rule7 differ rule8 disjoint apart rule9 compatible rule10 limitB limitsB rule11 committedB rule12 lapseB holdB rule13 zeroFrom paddedB blankB unusedB layoutB rangeZero tailB scopeZero settingsB rule19 rulesOf firstLate firstRule firstBroken brokenOf soundB then closed readOctet readNumber readTimes isAfter orderedFrom fileOf filled stored storedHold insertIn insertOf insertAll mergedFrom isHold storedScope storedState storedTable storableB leaseFitB holdFitB fewOf recordsFitB countsFit fitsB refused accepted judged loaded loadedGot readFile committed namesOf namesGot sizesOk bare release specimenRelease memoryWith specimenMemory brokenMemory brokenRelease firstRelease releaseRulesOf rulesTo houseB fewB lengthB differs notLeased onceB pastB older filledB unusedR laidB memoryB laidReleases storedRelease storedMemory entries.apart keepableB fewFor releasesFitB boardOf scopeBy entryBy ownerFrom countOn countIn isOn upTo specimenBoard boardWith entry
 read-specimen = (refl, refl, refl)
 
 -- the book with these names, or others; and with another memory
@@ -464,13 +480,17 @@ bookOf memory = record { state = specimenState; table = specimenTable; memory = 
 zeroBook : Book
 zeroBook = record { state = zeroState; table = zeroTable; memory = zeroMemory; names = 0 ∷ [] }
 
--- the book with other records of tenant 1
+-- the book with other records of tenant 1, and the board that they give
 bookOn : List Lease → Book
-bookOn l = record { state = specimenState; table = tableWith l; memory = specimenMemory; names = specimenNames }
+bookOn l = record { state = specimenState; table = tableWith l; memory = withBoard (tableWith l) specimenMemory; names = specimenNames }
+
+-- the book with another board
+bookBy : Board → Book
+bookBy board = bookOf (record { releases = specimenMemory .releases; board = board })
 
 -- tenant 1's entries, so many in use
 countedAs : ℕ → List Release → Memory
-countedAs n l = record { releases = record { releases = l; count = n } ∷ replicate 7 (laidReleases []) }
+countedAs n l = record { releases = record { releases = l; count = n } ∷ replicate 7 (laidReleases []); board = specimenBoard }
 
 -- an exact room suffices, one octet less does not, and an unsound book and bad names come before too little room
 write-specimen : (octetsOf (bookWith specimenNames) ≡ specimen)
@@ -486,7 +506,7 @@ write-specimen : (octetsOf (bookWith specimenNames) ≡ specimen)
     × (writtenOf (bookWith (unnamed 2 2)) 154 ≡ record { refusal = 22; length = 0 })
     × (writtenOf (bookWith (1 ∷ 1 ∷ name 1 en en ++ 0 ∷ 0 ∷ [])) 154 ≡ record { refusal = 22; length = 0 })
     × (roomAfter (bookWith []) (replicate 156 9) ≡ replicate 156 9)
-unfolding specimen specimenNames specimenState specimenLease specimenHold tableWith specimenTable server range scope lease tenants pool settings unnamed name en plain a b ab pick allBy pairsBy allTo filterBy isIn sumTo bit offsetsFrom setOf readOffsets risesFrom orderOf sameOf laidOut tableOf byIdentifier unionAll addressesOf overlaps oneTo sizeB idB recordsB countsB rule1 belowB offsetsB rule2 rangeB rangesApart rule3 poolB poolsApart rule4 ttlB rule5 reserveB reservesB rule6 kindB periodB leaseB noneB tenantsB rule7 differ rule8 disjoint apart rule9 compatible rule10 limitB limitsB rule11 committedB rule12 lapseB holdB rule13 zeroFrom paddedB blankB unusedB layoutB rangeZero tailB scopeZero settingsB rule19 rulesOf firstLate firstRule firstBroken brokenOf soundB then closed readOctet readNumber readTimes isAfter orderedFrom fileOf filled stored storedHold insertIn insertOf insertAll mergedFrom isHold storedScope storedState storedTable storableB leaseFitB holdFitB fewOf recordsFitB countsFit fitsB refused accepted judged loaded loadedGot readFile zeroTable octetsOf writtenOf roomAfter filedBook filedLeases filedHolds filedScope pairUp filedLease filedHold writeAll committed bookWith zeroBook bookB namesB isWhole sizesOk bare release specimenRelease memoryWith specimenMemory brokenMemory brokenRelease firstRelease releaseRulesOf rulesTo houseB fewB lengthB differs notLeased onceB pastB older filledB unusedR laidB memoryB laidReleases storedRelease storedMemory entries.apart keepableB fewFor releasesFitB entries.filedAll filedRelease filedMemory
+unfolding specimen specimenNames specimenState specimenLease specimenHold tableWith specimenTable server range scope lease tenants pool settings unnamed name en plain a b ab pick allBy pairsBy allTo filterBy isIn sumTo bit offsetsFrom setOf readOffsets risesFrom orderOf sameOf laidOut tableOf byIdentifier unionAll addressesOf overlaps oneTo sizeB idB recordsB countsB rule1 belowB offsetsB rule2 rangeB rangesApart rule3 poolB poolsApart rule4 ttlB rule5 reserveB reservesB rule6 kindB periodB leaseB noneB tenantsB rule7 differ rule8 disjoint apart rule9 compatible rule10 limitB limitsB rule11 committedB rule12 lapseB holdB rule13 zeroFrom paddedB blankB unusedB layoutB rangeZero tailB scopeZero settingsB rule19 rulesOf firstLate firstRule firstBroken brokenOf soundB then closed readOctet readNumber readTimes isAfter orderedFrom fileOf filled stored storedHold insertIn insertOf insertAll mergedFrom isHold storedScope storedState storedTable storableB leaseFitB holdFitB fewOf recordsFitB countsFit fitsB refused accepted judged loaded loadedGot readFile zeroTable octetsOf writtenOf roomAfter filedBook filedLeases filedHolds filedScope pairUp filedLease filedHold writeAll committed bookWith zeroBook bookB namesB isWhole sizesOk bare release specimenRelease memoryWith specimenMemory brokenMemory brokenRelease firstRelease releaseRulesOf rulesTo houseB fewB lengthB differs notLeased onceB pastB older filledB unusedR laidB memoryB laidReleases storedRelease storedMemory entries.apart keepableB fewFor releasesFitB entries.filedAll filedRelease filedMemory boardOf scopeBy entryBy ownerFrom countOn countIn isOn upTo specimenBoard boardWith entry agreesB sameBoard sameScopeBoard sameEntry sameBy
 write-specimen = (refl, refl, refl, refl, refl, refl, refl, refl, refl, refl, refl, refl)
 
 c : List ℕ
@@ -504,7 +524,7 @@ lent-releases : (writtenOf (bookOf (memoryWith [])) 142 ≡ record { refusal = 0
     × (writtenOf (bookOf (countedAs 0 (specimenRelease a 5 900 ∷ replicate 3 zeroRelease))) 154 ≡ record { refusal = 22; length = 0 })
     × (writtenOf (bookOf (countedAs 5 (replicate 4 zeroRelease))) 154 ≡ record { refusal = 22; length = 0 })
     × (roomAfter (bookOf (countedAs 5 (replicate 4 zeroRelease))) (replicate 156 9) ≡ replicate 156 9)
-unfolding c specimen specimenNames specimenState specimenLease specimenHold tableWith specimenTable server range scope lease tenants pool settings unnamed name en plain a b ab pick allBy pairsBy allTo filterBy isIn sumTo bit offsetsFrom setOf readOffsets risesFrom orderOf sameOf laidOut tableOf byIdentifier unionAll addressesOf overlaps oneTo sizeB idB recordsB countsB rule1 belowB offsetsB rule2 rangeB rangesApart rule3 poolB poolsApart rule4 ttlB rule5 reserveB reservesB rule6 kindB periodB leaseB noneB tenantsB rule7 differ rule8 disjoint apart rule9 compatible rule10 limitB limitsB rule11 committedB rule12 lapseB holdB rule13 zeroFrom paddedB blankB unusedB layoutB rangeZero tailB scopeZero settingsB rule19 rulesOf firstLate firstRule firstBroken brokenOf soundB then closed readOctet readNumber readTimes isAfter orderedFrom fileOf filled stored storedHold insertIn insertOf insertAll mergedFrom isHold storedScope storedState storedTable storableB leaseFitB holdFitB fewOf recordsFitB countsFit fitsB refused accepted judged loaded loadedGot readFile zeroTable octetsOf writtenOf roomAfter filedBook filedLeases filedHolds filedScope pairUp filedLease filedHold writeAll committed bookOf countedAs zeroBook bookB namesB isWhole sizesOk bare release specimenRelease memoryWith specimenMemory brokenMemory brokenRelease firstRelease releaseRulesOf rulesTo houseB fewB lengthB differs notLeased onceB pastB older filledB unusedR laidB memoryB laidReleases storedRelease storedMemory entries.apart keepableB fewFor releasesFitB entries.filedAll filedRelease filedMemory
+unfolding c specimen specimenNames specimenState specimenLease specimenHold tableWith specimenTable server range scope lease tenants pool settings unnamed name en plain a b ab pick allBy pairsBy allTo filterBy isIn sumTo bit offsetsFrom setOf readOffsets risesFrom orderOf sameOf laidOut tableOf byIdentifier unionAll addressesOf overlaps oneTo sizeB idB recordsB countsB rule1 belowB offsetsB rule2 rangeB rangesApart rule3 poolB poolsApart rule4 ttlB rule5 reserveB reservesB rule6 kindB periodB leaseB noneB tenantsB rule7 differ rule8 disjoint apart rule9 compatible rule10 limitB limitsB rule11 committedB rule12 lapseB holdB rule13 zeroFrom paddedB blankB unusedB layoutB rangeZero tailB scopeZero settingsB rule19 rulesOf firstLate firstRule firstBroken brokenOf soundB then closed readOctet readNumber readTimes isAfter orderedFrom fileOf filled stored storedHold insertIn insertOf insertAll mergedFrom isHold storedScope storedState storedTable storableB leaseFitB holdFitB fewOf recordsFitB countsFit fitsB refused accepted judged loaded loadedGot readFile zeroTable octetsOf writtenOf roomAfter filedBook filedLeases filedHolds filedScope pairUp filedLease filedHold writeAll committed bookOf countedAs zeroBook bookB namesB isWhole sizesOk bare release specimenRelease memoryWith specimenMemory brokenMemory brokenRelease firstRelease releaseRulesOf rulesTo houseB fewB lengthB differs notLeased onceB pastB older filledB unusedR laidB memoryB laidReleases storedRelease storedMemory entries.apart keepableB fewFor releasesFitB entries.filedAll filedRelease filedMemory boardOf scopeBy entryBy ownerFrom countOn countIn isOn upTo specimenBoard boardWith entry agreesB sameBoard sameScopeBoard sameEntry sameBy
 lent-releases = (refl, refl, refl, refl, refl, refl, refl, refl, refl, refl)
 
 -- holds that are lent: none, one alone and one behind the lease are written; a lapse at the clock, one after thirty-one seconds, one of a lease, and a hold in
@@ -515,5 +535,16 @@ lent-holds : (writtenOf (bookOn (specimenLease b 2000 12 ∷ [])) 129 ≡ record
     × (writtenOf (bookOn (specimenHold 1031 ∷ specimenLease b 2000 12 ∷ [])) 154 ≡ record { refusal = 22; length = 0 })
     × (writtenOf (bookOn (specimenHold 1030 ∷ lapsingAt 1030 (specimenLease b 2000 12) ∷ [])) 154 ≡ record { refusal = 22; length = 0 })
     × (writtenOf (bookOn (specimenLease b 2000 12 ∷ specimenHold 1030 ∷ [])) 154 ≡ record { refusal = 22; length = 0 })
-unfolding specimen specimenNames specimenState specimenLease specimenHold tableWith specimenTable server range scope lease tenants pool settings unnamed name en plain a b ab pick allBy pairsBy allTo filterBy isIn sumTo bit offsetsFrom setOf readOffsets risesFrom orderOf sameOf laidOut tableOf byIdentifier unionAll addressesOf overlaps oneTo sizeB idB recordsB countsB rule1 belowB offsetsB rule2 rangeB rangesApart rule3 poolB poolsApart rule4 ttlB rule5 reserveB reservesB rule6 kindB periodB leaseB noneB tenantsB rule7 differ rule8 disjoint apart rule9 compatible rule10 limitB limitsB rule11 committedB rule12 lapseB holdB rule13 zeroFrom paddedB blankB unusedB layoutB rangeZero tailB scopeZero settingsB rule19 rulesOf firstLate firstRule firstBroken brokenOf soundB then closed readOctet readNumber readTimes isAfter orderedFrom fileOf filled stored storedHold insertIn insertOf insertAll mergedFrom isHold storedScope storedState storedTable storableB leaseFitB holdFitB fewOf recordsFitB countsFit fitsB refused accepted judged loaded loadedGot readFile zeroTable octetsOf writtenOf roomAfter filedBook filedLeases filedHolds filedScope pairUp filedLease filedHold writeAll committed bookOn bookB namesB isWhole sizesOk bare release specimenRelease memoryWith specimenMemory brokenMemory brokenRelease firstRelease releaseRulesOf rulesTo houseB fewB lengthB differs notLeased onceB pastB older filledB unusedR laidB memoryB laidReleases storedRelease storedMemory entries.apart keepableB fewFor releasesFitB entries.filedAll filedRelease filedMemory
+unfolding specimen specimenNames specimenState specimenLease specimenHold tableWith specimenTable server range scope lease tenants pool settings unnamed name en plain a b ab pick allBy pairsBy allTo filterBy isIn sumTo bit offsetsFrom setOf readOffsets risesFrom orderOf sameOf laidOut tableOf byIdentifier unionAll addressesOf overlaps oneTo sizeB idB recordsB countsB rule1 belowB offsetsB rule2 rangeB rangesApart rule3 poolB poolsApart rule4 ttlB rule5 reserveB reservesB rule6 kindB periodB leaseB noneB tenantsB rule7 differ rule8 disjoint apart rule9 compatible rule10 limitB limitsB rule11 committedB rule12 lapseB holdB rule13 zeroFrom paddedB blankB unusedB layoutB rangeZero tailB scopeZero settingsB rule19 rulesOf firstLate firstRule firstBroken brokenOf soundB then closed readOctet readNumber readTimes isAfter orderedFrom fileOf filled stored storedHold insertIn insertOf insertAll mergedFrom isHold storedScope storedState storedTable storableB leaseFitB holdFitB fewOf recordsFitB countsFit fitsB refused accepted judged loaded loadedGot readFile zeroTable octetsOf writtenOf roomAfter filedBook filedLeases filedHolds filedScope pairUp filedLease filedHold writeAll committed bookOn bookB namesB isWhole sizesOk bare release specimenRelease memoryWith specimenMemory brokenMemory brokenRelease firstRelease releaseRulesOf rulesTo houseB fewB lengthB differs notLeased onceB pastB older filledB unusedR laidB memoryB laidReleases storedRelease storedMemory entries.apart keepableB fewFor releasesFitB entries.filedAll filedRelease filedMemory boardOf scopeBy entryBy ownerFrom countOn countIn isOn upTo specimenBoard boardWith entry agreesB sameBoard sameScopeBoard sameEntry sameBy
 lent-holds = (refl, refl, refl, refl, refl, refl)
+
+-- boards that are lent: one without a lease, another owner, count and holding, and the same a scope further are 22, before too little room
+lent-boards : (writtenOf (bookBy specimenBoard) 154 ≡ record { refusal = 0; length = 154 })
+    × (writtenOf (bookBy noBoard) 0 ≡ record { refusal = 22; length = 0 })
+    × (writtenOf (bookBy (boardWith (entry 1 1 ∷ entry 2 1 ∷ entry 1 2 ∷ entry 1 1 ∷ []) (2 ∷ 2 ∷ []))) 154 ≡ record { refusal = 22; length = 0 })
+    × (writtenOf (bookBy (boardWith (entry 2 1 ∷ entry 2 1 ∷ entry 1 1 ∷ entry 1 1 ∷ []) (2 ∷ 2 ∷ []))) 154 ≡ record { refusal = 22; length = 0 })
+    × (writtenOf (bookBy (boardWith (entry 2 1 ∷ entry 2 1 ∷ entry 1 2 ∷ entry 1 1 ∷ []) (3 ∷ 2 ∷ []))) 154 ≡ record { refusal = 22; length = 0 })
+    × (writtenOf (bookBy (record { scopes = take 4 (emptyScopeBoard ∷ specimenBoard .scopes) })) 154 ≡ record { refusal = 22; length = 0 })
+    × (roomAfter (bookBy noBoard) (replicate 156 9) ≡ replicate 156 9)
+unfolding specimen specimenNames specimenState specimenLease specimenHold tableWith specimenTable server range scope lease tenants pool settings unnamed name en plain a b ab pick allBy pairsBy allTo filterBy isIn sumTo bit offsetsFrom setOf readOffsets risesFrom orderOf sameOf laidOut tableOf byIdentifier unionAll addressesOf overlaps oneTo sizeB idB recordsB countsB rule1 belowB offsetsB rule2 rangeB rangesApart rule3 poolB poolsApart rule4 ttlB rule5 reserveB reservesB rule6 kindB periodB leaseB noneB tenantsB rule7 differ rule8 disjoint apart rule9 compatible rule10 limitB limitsB rule11 committedB rule12 lapseB holdB rule13 zeroFrom paddedB blankB unusedB layoutB rangeZero tailB scopeZero settingsB rule19 rulesOf firstLate firstRule firstBroken brokenOf soundB then closed readOctet readNumber readTimes isAfter orderedFrom fileOf filled stored storedHold insertIn insertOf insertAll mergedFrom isHold storedScope storedState storedTable storableB leaseFitB holdFitB fewOf recordsFitB countsFit fitsB refused accepted judged loaded loadedGot readFile zeroTable octetsOf writtenOf roomAfter filedBook filedLeases filedHolds filedScope pairUp filedLease filedHold writeAll committed bookBy bookOf bookB namesB isWhole sizesOk bare release specimenRelease memoryWith specimenMemory brokenMemory brokenRelease firstRelease releaseRulesOf rulesTo houseB fewB lengthB differs notLeased onceB pastB older filledB unusedR laidB memoryB laidReleases storedRelease storedMemory entries.apart keepableB fewFor releasesFitB entries.filedAll filedRelease filedMemory boardOf scopeBy entryBy ownerFrom countOn countIn isOn upTo specimenBoard boardWith entry agreesB sameBoard sameScopeBoard sameEntry sameBy
+lent-boards = (refl, refl, refl, refl, refl, refl, refl)

@@ -8,15 +8,20 @@ use lib.ListN.{drop, getD, length, replicate, take}
 use borrow.Author.Tests.{leb-true, ltb-false}
 use Rattle.format.specs.Place.{row}
 use Rattle.format.specs.laws.Fixed.{walk-length}
+use Rattle.agreement.specs.laws.Agrees.{built-is}
 use Rattle.lease_file.specs.Place.{entriesIn}
 use Rattle.lease_file.specs.Records.{mergedFrom, recordsFitB}
 use Rattle.lists.specs.Pick.{pick}
 use Rattle.lists.specs.laws.Pick.{both, neither}
+use Rattle.occupancy.specs.Board.{noBoard}
+use Rattle.occupancy.specs.declared.Board.{Board}
 use Rattle.octets.specs.Octets.{at32}
 use Rattle.release_file.specs.Place.{releasesIn}
 use Rattle.release_file.specs.Section.{releasesFitB, storedMemory}
 use Rattle.releases.specs.Rules.{memoryB}
 use Rattle.soundness.specs.Sound.{soundB}
+use Rattle.soundness.specs.laws.Book.{sound-lists}
+use Rattle.state.specs.Board.{builtOf}
 use Rattle.state.specs.Book.{laidOut, laidReleases, tableOf, zeroScope}
 use Rattle.state.specs.declared.ClientRange.{ClientRange}
 use Rattle.state.specs.declared.LeaseTable.{LeaseTable}
@@ -27,7 +32,7 @@ use Rattle.state.specs.declared.TenantLeases.{TenantLeases}
 use Rattle.state.specs.declared.TenantReleases.{TenantReleases}
 use Rattle.state_file.specs.Place.{Formed, FormedBy, SettingsIn, fileAt, fileScopeAt, rangeAt, scopesIn, stateAt, tenantCount}
 use Rattle.state_file.specs.Records.{countsFit, filled, fitsB, settingsFitB, storedScope, storedState, storedTable, zeroRange}
-use Rattle.state_file.specs.StateFile.{accepted, loadedGot, judged, loaded, namesGot, namesOf, readFile, refused, zeroLedger, zeroMemory, zeroState, zeroTable}
+use Rattle.state_file.specs.StateFile.{accepted, loadedGot, judged, loaded, namesGot, namesOf, readFile, refused, zeroLedger, withBoard, zeroMemory, zeroState, zeroTable}
 use Rattle.state_file.specs.declared.Layout.{Layout}
 use Rattle.state_file.specs.declared.Layout.the-variants.{Right, Wrong}
 use Rattle.state_file.specs.declared.Loaded.{Loaded}
@@ -127,8 +132,8 @@ pub no-state-is : (x : ClientRange) (y : Scope) → x ≡ zeroRange → y ≡ ze
     → record { server = 0; clock = 0; «tenant_count» = 0; tenants = replicate 8 x; «scope_count» = 0; scopes = replicate 4 y } ≡ zeroState
 no-state-is x y ex ey = cc
 
-pub no-memory-is : (q : TenantReleases) → q ≡ laidReleases [] → record { releases = replicate 8 q } ≡ zeroMemory
-no-memory-is q e = cc
+pub no-memory-is : (q : TenantReleases) (b : Board) → q ≡ laidReleases [] → b ≡ noBoard → record { releases = replicate 8 q; board = b } ≡ zeroMemory
+no-memory-is q b e p = cc
 
 pub no-ledger-is : (s : State) (m : Memory) → s ≡ zeroState → m ≡ zeroMemory → record { state = s; memory = m } ≡ zeroLedger
 no-ledger-is s m es em = cc
@@ -139,21 +144,24 @@ unfolding refused zeroTable tableOf
 refused-is n s z m es ez em = cc
 
 module _ (s : State) (b : LeaseTable) (m : Memory) (q : Bool) (e : q ≡ soundB s b) where
-  book-judged : (c : Bool) → q ≡ c → pick (c && memoryB s b m) (accepted s b m) (refused 21) ≡ judged s b m
+  book-judged : (c : Bool) → q ≡ c → pick (c && memoryB s b m) (accepted s b (withBoard b m)) (refused 21) ≡ judged s b m
   unfolding judged
-  book-judged c t = ap (λ (x : Bool). pick (x && memoryB s b m) (accepted s b m) (refused 21)) (sym t ∙ e)
+  book-judged c t = ap (λ (x : Bool). pick (x && memoryB s b m) (accepted s b (withBoard b m)) (refused 21)) (sym t ∙ e)
 
   pub judged-not : (r : Loaded) → q ≡ false → r ≡ refused 21 → r ≡ judged s b m
   unfolding pick
   judged-not r t p = p ∙ book-judged false t
 
   module _ (w : Bool) (f : w ≡ memoryB s b m) (t : q ≡ true) where
-    memory-judged : (c : Bool) → w ≡ c → pick c (accepted s b m) (refused 21) ≡ judged s b m
-    memory-judged c u = ap (λ (x : Bool). pick x (accepted s b m) (refused 21)) (sym u ∙ f) ∙ book-judged true t
+    memory-judged : (c : Bool) → w ≡ c → pick c (accepted s b (withBoard b m)) (refused 21) ≡ judged s b m
+    memory-judged c u = ap (λ (x : Bool). pick x (accepted s b (withBoard b m)) (refused 21)) (sym u ∙ f) ∙ book-judged true t
 
-    pub judged-yes : w ≡ true → record { refusal = 0; state = s; table = b; memory = m } ≡ judged s b m
+    -- the board that the leases of a sound book make is what they say
+    pub judged-yes : (x : Board) → w ≡ true → length (b .tenants) ≡ 8 → x ≡ builtOf b → record { refusal = 0; state = s; table = b; memory = record { releases = m .releases; board = x } } ≡ judged s b m
     unfolding accepted pick
-    judged-yes u = memory-judged true u
+    judged-yes x u l p =
+        ap (λ (y : Board). accepted s b (record { releases = m .releases; board = y })) (p ∙ built-is s b l (sound-lists s b (sym e ∙ t)))
+        ∙ memory-judged true u
 
     pub judged-memory : (r : Loaded) → w ≡ false → r ≡ refused 21 → r ≡ judged s b m
     unfolding pick

@@ -18,6 +18,7 @@ use Rattle.state.specs.declared.ClientRange.{ClientRange}
 use Rattle.state_file.specs.File.{File, FilePart, FileScope, fileFormat, scopeFormat}
 use Rattle.state_file.specs.laws.Records.{filled-take}
 use Rattle.state_file.specs.Records.{filedBook, filedScope, filled, fitsB, pairUp, storedScope, storedState, storedTable, zeroRange}
+use Rattle.state_file.specs.StateFile.{withBoard}
 
 -- ---- scopes
 pair-append : (a b x y : List ℕ) → length a ≡ length b → pairUp (a ++ x) (b ++ y) ≡ pairUp a b ++ pairUp x y
@@ -52,8 +53,8 @@ scopes-again n (c ∷ l) h = ap₂ {C = List FileScope} (λ (x : FileScope) (r :
 
 -- ---- the file
 module _ (f : File) (h : fileFormat .ok f) (e : fitsB f ≡ true) where
-  releases-filed : filedMemory (storedMemory (f .releases)) ≡ f .releases
-  unfolding fitsB
+  releases-filed : filedMemory (withBoard (storedTable f) (storedMemory (f .releases))) ≡ f .releases
+  unfolding fitsB filedMemory
   releases-filed = memory-again (f .releases) (h .1 .1 .1 .1 .1 .0 .1) (both _ _ (both _ _ e .1) .1)
 
   records-fit : recordsFitB (f .leases) (f .holds) ≡ true
@@ -78,10 +79,10 @@ module _ (f : File) (h : fileFormat .ok f) (e : fitsB f ≡ true) where
       ap (map (filedScope (length (f .tenants)))) (ap (λ (k : ℕ). take k (filled zeroScope 4 (map storedScope (f .scopes)))) (sym (length-map (f .scopes) storedScope)) ∙ filled-take zeroScope 4 (map storedScope (f .scopes)))
       ∙ scopes-again (length (f .tenants)) (f .scopes) (h .1 .1 .0 .1)
 
-  pub book-again : filedBook (record { state = storedState f; table = storedTable f; memory = storedMemory (f .releases); names = f .names }) ≡ f
+  pub book-again : filedBook (record { state = storedState f; table = storedTable f; memory = withBoard (storedTable f) (storedMemory (f .releases)); names = f .names }) ≡ f
   unfolding filedBook storedState
   book-again =
-      ap₂ (λ (ts : List ClientRange) (cs : List FileScope). make ts cs (filedLeases (storedTable f)) (filedMemory (storedMemory (f .releases))) (filedHolds (storedTable f))) ranges-filed scopes-filed
+      ap₂ (λ (ts : List ClientRange) (cs : List FileScope). make ts cs (filedLeases (storedTable f)) (filedMemory (withBoard (storedTable f) (storedMemory (f .releases)))) (filedHolds (storedTable f))) ranges-filed scopes-filed
       ∙ ap₂ (λ (ls : List FileLease) (rs : List FileRelease). make (f .tenants) (f .scopes) ls rs (filedHolds (storedTable f))) leases-filed releases-filed
       ∙ ap (make (f .tenants) (f .scopes) (f .leases) (f .releases)) holds-filed
     where

@@ -1,4 +1,4 @@
--- Laws: what a sound memory says of its section of the file: the section can be written and held, it gives the memory back, and how long it is at most.
+-- Laws: what a sound memory says of its section of the file: the section can be written and held, it gives the releases back, and how long it is at most.
 use mathlib.Core.Bool.{_&&_, true}
 use mathlib.Core.List.{List, [], _∷_}
 use mathlib.Core.Path.{_∙_, _≡_, ap, ap₂, refl}
@@ -109,7 +109,7 @@ module _ (s : State) (t : LeaseTable) (m : Memory) (w : memoryB s t m ≡ true) 
     neat : All NeatReleases (m .releases)
     neat = two-facts TypedReleases Kept NeatReleases (m .releases) kept-neat v (kept (omega arith))
 
-    pub memory-same : storedMemory (filedMemory m) ≡ m
+    pub memory-same : storedMemory (filedMemory m) .releases ≡ m .releases
     memory-same = memory-back m eight neat
 
     pub memory-held : releasesFitB (filedMemory m) ≡ true

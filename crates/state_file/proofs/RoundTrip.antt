@@ -9,19 +9,23 @@ use lib.Dec.{leb, ltb}
 use lib.ListN.{drop, length, take}
 use lib.Seq.{take-append-seam}
 use borrow.Author.Tests.{le-ltb}
+use Rattle.agreement.specs.laws.Agrees.{agrees-is, is-agrees}
 use Rattle.format.specs.Format.{Got, Octets, bad, closed, got}
 use Rattle.lists.specs.laws.Both.{and-both, and-parts}
 use Rattle.lists.specs.Pick.{pick}
 use Rattle.names.specs.Names.{namesB}
+use Rattle.occupancy.specs.declared.Board.{Board}
 use Rattle.release_file.specs.Section.{storedMemory}
-use Rattle.releases.specs.Rules.{memoryB}
+use Rattle.releases.specs.Rules.{brokenMemory, memoryB, releaseRulesOf, rulesTo}
 use Rattle.releases.specs.Whole.{bookB}
 use Rattle.soundness.specs.Sound.{soundB}
-use Rattle.releases.specs.laws.Whole.{book-named, book-remembers, book-sound, both-book}
-use Rattle.state.specs.Book.{Book}
+use Rattle.releases.specs.laws.Whole.{book-agrees, book-named, book-remembers, book-sound, both-book}
+use Rattle.state.specs.Board.{boardOf}
+use Rattle.state.specs.Book.{Book, leasesOf}
 use Rattle.state.specs.declared.LeaseTable.{LeaseTable}
 use Rattle.state.specs.declared.Memory.{Memory}
 use Rattle.state.specs.declared.State.{State}
+use Rattle.state.specs.declared.TenantReleases.{TenantReleases}
 use Rattle.state_file.proofs.ReadAgain.{book-again}
 use Rattle.state_file.proofs.Short.{names-few, sound-short}
 use Rattle.state_file.proofs.WriteAgain.{book-fits, book-ok, releases-same, state-same, table-same}
@@ -29,7 +33,7 @@ use Rattle.state_file.specs.File.{File, fileFormat, fileLimit, fileOf, l
 use Rattle.state_file.specs.laws.File.{file-reads, file-written}
 use Rattle.state_file.specs.laws.Local.{file-names}
 use Rattle.state_file.specs.Records.{filedBook, fitsB, storedState, storedTable}
-use Rattle.state_file.specs.StateFile.{accepted, judged, loaded, loadedGot, namesGot, namesOf, octetsOf, readFile, refused, roomAfter, writtenOf}
+use Rattle.state_file.specs.StateFile.{accepted, judged, loaded, loadedGot, namesGot, namesOf, octetsOf, readFile, refused, roomAfter, withBoard, writtenOf}
 use Rattle.state_file.specs.Typed.{Typed}
 use Rattle.state_file.specs.declared.Loaded.{Loaded}
 use Rattle.state_file.specs.declared.Written.{Written}
@@ -38,28 +42,45 @@ use Rattle.state_file.specs.declared.Written.{Written}
 abbrev with : State → LeaseTable → Memory → List ℕ → Book
 with s b m names = record { state = s; table = b; memory = m; names = names }
 
--- the memory of a file
+-- the releases of a file, and with them its memory
+abbrev releasesIn : File → Memory
+releasesIn f = storedMemory (f .releases)
+
 abbrev memoryIn : File → Memory
-memoryIn f = storedMemory (f .releases)
+memoryIn f = withBoard (storedTable f) (releasesIn f)
+
+-- ---- the board
+-- the rules on what is remembered, and the verdict on a file, know the releases alone
+rules-alone : (s : State) (t : LeaseTable) (m : Memory) (x : Board) → memoryB s t (record { releases = m .releases; board = x }) ≡ memoryB s t m
+unfolding memoryB brokenMemory releaseRulesOf rulesTo
+rules-alone s t m x = refl
+
+judged-alone : (s : State) (t : LeaseTable) (m n : Memory) → m .releases ≡ n .releases → judged s t m ≡ judged s t n
+unfolding judged memoryB brokenMemory releaseRulesOf rulesTo
+judged-alone s t m n e = ap (λ (l : List TenantReleases). judged s t (record { releases = l; board = n .board })) e
+
+-- the board of a sound book is the one that its file is given
+board-same : (b : Book) → bookB b ≡ true → withBoard (b .table) (b .memory) ≡ b .memory
+board-same b e = ap {B = Memory} (λ (x : Board). record { releases = b .memory .releases; board = x }) (sym (agrees-is (b .table) (b .memory .board) (book-agrees b e)))
 
 -- an accepted answer is a sound file's
 refused-not : {A : Type 0} (n : ℕ) (s : State) (b : LeaseTable) (m : Memory) → 0 < n → refused n ≡ accepted s b m → A
 unfolding refused accepted
 refused-not n s b m h e = let z : n ≡ 0 = ap (λ (r : Loaded). r .refusal) e in absurd (omega arith)
 
-judged-is : (s t : State) (b c : LeaseTable) (m n : Memory) → judged s b m ≡ accepted t c n → (soundB s b && memoryB s b m ≡ true) × (s ≡ t) × (b ≡ c) × (m ≡ n)
+judged-is : (s t : State) (b c : LeaseTable) (m n : Memory) → judged s b m ≡ accepted t c n → (soundB s b && memoryB s b m ≡ true) × (s ≡ t) × (b ≡ c) × (withBoard b m ≡ n)
 unfolding judged pick accepted
 judged-is s t b c m n e = go (soundB s b && memoryB s b m) refl e
   where
-    go : (q : Bool) → soundB s b && memoryB s b m ≡ q → pick q (accepted s b m) (refused 21) ≡ accepted t c n → (q ≡ true) × (s ≡ t) × (b ≡ c) × (m ≡ n)
+    go : (q : Bool) → soundB s b && memoryB s b m ≡ q → pick q (accepted s b (withBoard b m)) (refused 21) ≡ accepted t c n → (q ≡ true) × (s ≡ t) × (b ≡ c) × (withBoard b m ≡ n)
     go true p e = (refl, ap (λ (r : Loaded). r .state) e, ap (λ (r : Loaded). r .table) e, ap (λ (r : Loaded). r .memory) e)
     go false p e = refused-not 21 t c n (omega arith) e
 
-loaded-is : (f : File) (t : State) (c : LeaseTable) (n : Memory) → loaded f ≡ accepted t c n → (fitsB f ≡ true) × (judged (storedState f) (storedTable f) (memoryIn f) ≡ accepted t c n)
+loaded-is : (f : File) (t : State) (c : LeaseTable) (n : Memory) → loaded f ≡ accepted t c n → (fitsB f ≡ true) × (judged (storedState f) (storedTable f) (releasesIn f) ≡ accepted t c n)
 unfolding loaded pick
 loaded-is f t c n e = go (fitsB f) refl e
   where
-    go : (q : Bool) → fitsB f ≡ q → pick q (judged (storedState f) (storedTable f) (memoryIn f)) (refused 21) ≡ accepted t c n → (q ≡ true) × (judged (storedState f) (storedTable f) (memoryIn f) ≡ accepted t c n)
+    go : (q : Bool) → fitsB f ≡ q → pick q (judged (storedState f) (storedTable f) (releasesIn f)) (refused 21) ≡ accepted t c n → (q ≡ true) × (judged (storedState f) (storedTable f) (releasesIn f) ≡ accepted t c n)
     go true p e = (refl, e)
     go false p e = refused-not 21 t c n (omega arith) e
 
@@ -94,18 +115,22 @@ pub read-sound : (s : List ℕ) → readFile s .refusal ≡ 0 → bookB (record 
 unfolding readFile loadedGot loaded judged accepted refused pick namesOf namesGot
 read-sound s e = go (fileOf s) refl e
   where
-    kept : (f : File) (p q : Bool) → soundB (storedState f) (storedTable f) && memoryB (storedState f) (storedTable f) (memoryIn f) ≡ q
+    kept : (f : File) (p q : Bool) → soundB (storedState f) (storedTable f) && memoryB (storedState f) (storedTable f) (releasesIn f) ≡ q
         → namesB (storedState f .«scope_count») (storedState f .«tenant_count») (f .names) ≡ true
         → answer f p q .refusal ≡ 0 → bookB (with (answer f p q .state) (answer f p q .table) (answer f p q .memory) (f .names)) ≡ true
-    kept f true true v w e = let (a, b) = and-parts _ _ v in both-book (with (storedState f) (storedTable f) (memoryIn f) (f .names)) a b w
+    kept f true true v w e = let (a, b) = and-parts _ _ v in both-book (with (storedState f) (storedTable f) (memoryIn f) (f .names)) a (rules-alone (storedState f) (storedTable f) (releasesIn f) _ ∙ b) (is-agrees (storedTable f) _ refl) w
     kept f true false v w e = absurd (omega arith)
     kept f false q v w e = absurd (omega arith)
 
     go : (g : Got File) → fileOf s ≡ g → loadedGot g .refusal ≡ 0 → bookB (with (loadedGot g .state) (loadedGot g .table) (loadedGot g .memory) (namesGot g)) ≡ true
     go bad p e = absurd (omega arith)
-    go (got f r) p e = kept f (fitsB f) (soundB (storedState f) (storedTable f) && memoryB (storedState f) (storedTable f) (memoryIn f)) refl (names-good s f r p) e
+    go (got f r) p e = kept f (fitsB f) (soundB (storedState f) (storedTable f) && memoryB (storedState f) (storedTable f) (releasesIn f)) refl (names-good s f r p) e
 
--- so its names have no more octets than four scopes' and eight houses' can
+-- so its board is what its leases say
+pub read-board : (s : List ℕ) → readFile s .refusal ≡ 0 → readFile s .memory .board ≡ boardOf (leasesOf (readFile s .table))
+read-board s e = agrees-is (readFile s .table) (readFile s .memory .board) (book-agrees (with (readFile s .state) (readFile s .table) (readFile s .memory) (namesOf s)) (read-sound s e))
+
+-- and its names have no more octets than four scopes' and eight houses' can
 pub names-short : (s : List ℕ) → readFile s .refusal ≡ 0 → length (namesOf s) ≤ 6229
 names-short s e = names-few (record { state = readFile s .state; table = readFile s .table; memory = readFile s .memory; names = namesOf s }) (read-sound s e)
 
@@ -119,11 +144,12 @@ read-write s st tb m o e = go (fileOf s) refl e
     go bad p e = refused-not 20 st tb m (omega arith) e
     go (got f r) p e =
         let (fit, j) = loaded-is f st tb m e in
-        let (good, es, eb, em) = judged-is (storedState f) st (storedTable f) tb (memoryIn f) m j in
-        let (sound, remembers) = and-parts (soundB (storedState f) (storedTable f)) (memoryB (storedState f) (storedTable f) (memoryIn f)) good in
+        let (good, es, eb, em) = judged-is (storedState f) st (storedTable f) tb (releasesIn f) m j in
+        let (sound, remembers) = and-parts (soundB (storedState f) (storedTable f)) (memoryB (storedState f) (storedTable f) (releasesIn f)) good in
         let (ok, w, short) = file-reads s f o (file-whole s f r p .0) in (
           both-book (with st tb m (f .names)) (sym (ap₂ soundB es eb) ∙ sound)
-              (sym (ap₂ (λ (x : State) (y : LeaseTable). memoryB x y (memoryIn f)) es eb ∙ ap (memoryB st tb) em) ∙ remembers)
+              (sym (ap₂ (λ (x : State) (y : LeaseTable). memoryB x y (memoryIn f)) es eb ∙ ap (memoryB st tb) em) ∙ rules-alone (storedState f) (storedTable f) (releasesIn f) _ ∙ remembers)
+              (is-agrees tb (m .board) (sym (ap (λ (x : Memory). x .board) em) ∙ ap (λ (x : LeaseTable). boardOf (leasesOf x)) eb))
               (subst (λ (x : State). namesB (x .«scope_count») (x .«tenant_count») (f .names) ≡ true) es (names-good s f r p)),
           again f st tb m es eb em ok fit ∙ sym w,
         )
@@ -159,10 +185,10 @@ module _ (b : Book) (v : Typed (b .state) (b .table) (b .memory)) (o : Octets (b
       let q = book-sound b e in
       let w = book-remembers b e in (
         ap loadedGot (file-is e)
-            ∙ ap (λ (x : Bool). pick x (judged (storedState (filedBook b)) (storedTable (filedBook b)) (memoryIn (filedBook b))) (refused 21)) (book-fits (b .state) (b .table) (b .memory) v q w (b .names))
-            ∙ ap₂ (λ (x : State) (y : LeaseTable). judged x y (memoryIn (filedBook b))) (state-same (b .state) (b .table) (b .memory) v q w (b .names)) (table-same (b .state) (b .table) (b .memory) v q w (b .names))
-            ∙ ap (judged (b .state) (b .table)) (releases-same (b .state) (b .table) (b .memory) v q w (b .names))
-            ∙ ap (λ (x : Bool). pick x (accepted (b .state) (b .table) (b .memory)) (refused 21)) (and-both q w),
+            ∙ ap (λ (x : Bool). pick x (judged (storedState (filedBook b)) (storedTable (filedBook b)) (releasesIn (filedBook b))) (refused 21)) (book-fits (b .state) (b .table) (b .memory) v q w (b .names))
+            ∙ ap₂ (λ (x : State) (y : LeaseTable). judged x y (releasesIn (filedBook b))) (state-same (b .state) (b .table) (b .memory) v q w (b .names)) (table-same (b .state) (b .table) (b .memory) v q w (b .names))
+            ∙ judged-alone (b .state) (b .table) (releasesIn (filedBook b)) (b .memory) (releases-same (b .state) (b .table) (b .memory) v q w (b .names))
+            ∙ ap₂ (λ (x : Bool) (m : Memory). pick x (accepted (b .state) (b .table) m) (refused 21)) (and-both q w) (board-same b e),
         ap namesGot (file-is e),
       )
 

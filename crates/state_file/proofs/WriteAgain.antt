@@ -341,7 +341,7 @@ module _ (s : State) (b : LeaseTable) (m : Memory) (v : Typed s b m) (e : soundB
   unfolding storedTable filedBook
   table-same = table-again b (v .tenants) neat
 
-  pub releases-same : storedMemory (filed .releases) ≡ m
+  pub releases-same : storedMemory (filed .releases) .releases ≡ m .releases
   unfolding filedBook
   releases-same = memory-same s b m w (v .memory) (v .releases)
 

@@ -8,17 +8,20 @@ use lib.Dec.{ltb}
 use lib.ListN.{drop, length, length-append, length-map, length-take, take}
 use lib.Seq.{take-all}
 use borrow.Author.Tests.{le-ltb, lt-ltb}
+use Rattle.agreement.specs.laws.Agrees.{made-agrees}
 use Rattle.format.specs.Format.{writeAll}
 use Rattle.format.specs.Rows.{writeFrom}
 use Rattle.format.specs.laws.Rows.{row-all}
 use Rattle.lease_file.specs.Records.{tableOctets}
 use Rattle.lease_file.specs.laws.Table.{holds-octets, leases-octets}
 use Rattle.lists.specs.Pick.{pick}
+use Rattle.occupancy.specs.Board.{sameBoard}
 use Rattle.octets.specs.laws.Octets.{wrote-joined, wrote-whole, wrote-as}
 use Rattle.octets.specs.Octets.{Wrote, octets32}
 use Rattle.release_file.specs.Section.{memoryOctets}
-use Rattle.releases.specs.Whole.{bookB, memoryGood, namesGood}
+use Rattle.releases.specs.Whole.{boardGood, bookB, memoryGood, namesGood}
 use Rattle.soundness.specs.Sound.{soundB}
+use Rattle.state.specs.Board.{builtOf}
 use Rattle.state.specs.Book.{Book, rangesOf, scopesOf}
 use Rattle.state.specs.declared.ClientRange.{ClientRange}
 use Rattle.state.specs.declared.LeaseTable.{LeaseTable}
@@ -162,22 +165,30 @@ module _ (s : State) (b : LeaseTable) (m : Memory) (names : List ℕ) where
 
 -- ---- the answers
 module _ (b : Book) (q : Bool) (e : q ≡ soundB (b .state) (b .table)) where
-  sound-tested : (c : Bool) → q ≡ c → (c && (memoryGood b && namesGood b)) ≡ bookB b
+  sound-tested : (c : Bool) → q ≡ c → (c && (memoryGood b && (boardGood b && namesGood b))) ≡ bookB b
   unfolding bookB
-  sound-tested c t = ap (λ (x : Bool). x && (memoryGood b && namesGood b)) (sym t ∙ e)
+  sound-tested c t = ap (λ (x : Bool). x && (memoryGood b && (boardGood b && namesGood b))) (sym t ∙ e)
 
   pub book-not : q ≡ false → false ≡ bookB b
   book-not t = sound-tested false t
 
   module _ (w : Bool) (f : w ≡ memoryGood b) (t : q ≡ true) where
-    memory-tested : (c : Bool) → w ≡ c → (c && namesGood b) ≡ bookB b
-    memory-tested c u = ap (λ (x : Bool). x && namesGood b) (sym u ∙ f) ∙ sound-tested true t
+    memory-tested : (c : Bool) → w ≡ c → (c && (boardGood b && namesGood b)) ≡ bookB b
+    memory-tested c u = ap (λ (x : Bool). x && (boardGood b && namesGood b)) (sym u ∙ f) ∙ sound-tested true t
 
     pub book-memory : w ≡ false → false ≡ bookB b
     book-memory u = memory-tested false u
 
-    pub book-yes : (r : Bool) → w ≡ true → r ≡ namesGood b → r ≡ bookB b
-    book-yes r u p = p ∙ memory-tested true u
+    -- the board is compared with the one that the leases make
+    module _ (v : Bool) (l : length (b .table .tenants) ≡ 8) (g : v ≡ sameBoard (b .memory .board) (builtOf (b .table))) (u : w ≡ true) where
+      board-tested : (c : Bool) → v ≡ c → (c && namesGood b) ≡ bookB b
+      board-tested c z = ap (λ (x : Bool). x && namesGood b) (sym z ∙ g ∙ made-agrees (b .state) (b .table) (b .memory .board) l (sym e ∙ t)) ∙ memory-tested true u
+
+      pub book-board : v ≡ false → false ≡ bookB b
+      book-board z = board-tested false z
+
+      pub book-yes : (r : Bool) → v ≡ true → r ≡ namesGood b → r ≡ bookB b
+      book-yes r z p = p ∙ board-tested true z
 
 module _ (b : Book) (q : Bool) (e : q ≡ bookB b) where
   pub write-unsound : (room : List ℕ) → q ≡ false → (_≡_ {A = Written} (record { refusal = 22; length = 0 }) (writtenOf b (length room))) × (room ≡ roomAfter b room)

@@ -10,7 +10,9 @@ use Rattle.releases.specs.Whole.{bookB}
 use Rattle.soundness.specs.Sound.{soundB}
 use Rattle.releases.specs.Rules.{memoryB}
 use Rattle.release_file.specs.Section.{storedMemory}
-use Rattle.state.specs.Book.{Book, laidReleases, tableOf, zeroScope}
+use Rattle.occupancy.specs.Board.{noBoard}
+use Rattle.state.specs.Book.{Book, laidReleases, leasesOf, tableOf, zeroScope}
+use Rattle.state.specs.Board.{boardOf}
 use Rattle.state.specs.declared.LeaseTable.{LeaseTable}
 use Rattle.state.specs.declared.Ledger.{Ledger}
 use Rattle.state.specs.declared.Memory.{Memory}
@@ -28,7 +30,7 @@ unfoldable pub zeroTable : LeaseTable
 zeroTable = tableOf (replicate 8 [])
 
 abbrev pub zeroMemory : Memory
-zeroMemory = record { releases = replicate 8 (laidReleases []) }
+zeroMemory = record { releases = replicate 8 (laidReleases []); board = noBoard }
 
 abbrev pub zeroLedger : Ledger
 zeroLedger = record { state = zeroState; memory = zeroMemory }
@@ -41,8 +43,12 @@ refused n = record { refusal = n; state = zeroState; table = zeroTable; memory =
 unfoldable pub accepted : State → LeaseTable → Memory → Loaded
 accepted s b m = record { refusal = 0; state = s; table = b; memory = m }
 
+-- a file has no board: that of an accepted one is what its leases say (document 02, W-207)
+abbrev pub withBoard : LeaseTable → Memory → Memory
+withBoard b m = record { releases = m .releases; board = boardOf (leasesOf b) }
+
 unfoldable pub judged : State → LeaseTable → Memory → Loaded
-judged s b m = pick (soundB s b && memoryB s b m) (accepted s b m) (refused 21)
+judged s b m = pick (soundB s b && memoryB s b m) (accepted s b (withBoard b m)) (refused 21)
 
 -- 21 is an unsound file: one that the records cannot hold, or whose records or releases are unsound
 unfoldable pub loaded : File → Loaded
@@ -69,7 +75,7 @@ namesOf s = namesGot (fileOf s)
 unfoldable pub octetsOf : Book → List ℕ
 octetsOf b = fileFormat .write (filedBook b)
 
--- 22 is an unsound book, bad names and releases that are lent among them, and 23 too little room, of which there are n octets
+-- 22 is an unsound book: bad names, bad releases and a board that disagrees, lent, make one too; and 23 too little room, of which there are n octets
 unfoldable pub writtenOf : Book → ℕ → Written
 writtenOf b n =
     pick (bookB b)

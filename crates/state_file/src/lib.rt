@@ -109,13 +109,16 @@ pub fn write(
     }
 }
 
-// Whether a book is sound, what it remembers too, and its names are good.
+// Whether a book is sound, what it remembers and its board too, and its names are good.
 fn sound_book(state: State, table: LeaseTable, memory: Memory, names: &[u8]) -> bool
     ensures { λ r. ⌜ r ≡ bookB (record { state = state; table = table; memory = memory; names = now (names .entry) }) ⌝ }
 {
     if soundness::sound(state, table) {
         if releases::sound(state, table, memory) {
-            return names::good(names, state.scope_count, state.tenant_count);
+            let board = memory.board;
+            if agreement::agrees(table, board) {
+                return names::good(names, state.scope_count, state.tenant_count);
+            }
         }
     }
     false
@@ -126,8 +129,10 @@ pub fn no_memory() -> Memory
     ensures { λ r. ⌜ r ≡ zeroMemory ⌝ }
 {
     let none = state::no_releases();
+    let board = occupancy::no_board();
     Memory {
         releases: [none; 8],
+        board: board,
     }
 }
 

@@ -1,4 +1,4 @@
-// The book of a file whose form is right: the settings, then the leases and holds, then the releases, then soundness.
+// The book of a file whose form is right: the settings, then the leases and holds, then the releases, then soundness, and then the board.
 ghost use mathlib.Core.List.{map};
 ghost use mathlib.Core.Path.{_≡_};
 ghost use Prim.Native.Nat.{_*_, _+_, _≤_};
@@ -38,11 +38,14 @@ fn judge(state: State, table: LeaseTable, memory: Memory) -> Loaded
 {
     if soundness::sound(state, table) {
         if releases::sound(state, table, memory) {
+            let board = agreement::build(table);
+            let mut now = memory;
+            now.board = board;
             return Loaded {
                 refusal: 0,
                 state,
                 table,
-                memory,
+                memory: now,
             };
         }
     }

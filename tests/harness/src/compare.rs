@@ -8,16 +8,19 @@ use crate::holds;
 use crate::judged;
 use crate::lent::{Held, Lender};
 use crate::names;
+use crate::occupancy::{self, Board};
 use crate::releases::Past;
 use crate::tally::Tally;
 use crate::LONGEST_FILE;
-use banshorra_host::{ANSWER_ROOM, BOARD_ROOM};
+use banshorra_host::{ANSWER_ROOM, BOARD_ROOM, OCCUPANCY_ROOM};
 use builder::{value_of, Call, Campus, ACK, GETINFO};
+use second::occupancy::board_octets;
+use std::cmp::Ordering;
 use std::net::Ipv4Addr;
 use std::panic::{catch_unwind, AssertUnwindSafe};
 
 /// Refusals of the C interface.
-const FILE_ROOM_SHORT: u8 = 23;
+const ROOM_SHORT: u8 = 23;
 const CUT_OFF: u8 = 24;
 const ANSWERS_FULL: u8 = 27;
 const LENGTH_PAST: u8 = 28;
@@ -35,6 +38,8 @@ pub struct Answer {
     pub reply: Vec<u8>,
     /// The campus file afterwards; empty if the book can't be written.
     pub file: Vec<u8>,
+    /// The occupancy board afterwards.
+    occupancy: Vec<u8>,
     /// Where its record begins in the list.
     place: usize,
 }
@@ -44,6 +49,8 @@ pub struct Expected {
     /// 0, or the refusal of the file.
     pub refusal: u8,
     board: String,
+    /// Empty if the file is refused.
+    occupancy: Vec<u8>,
     pub answers: Vec<Answer>,
     /// Where the answered records end in the list; a cut-off one follows, or nothing.
     end: usize,
@@ -55,6 +62,7 @@ fn second(case: &Case) -> Expected {
         Ok(book) => (Some(book), 0),
         Err(refusal) => (None, refusal),
     };
+    let occupancy = book.as_ref().map_or(Vec::new(), board_octets);
     let mut answers = Vec::new();
     let mut end = 0;
     let mut room = vec![0; LONGEST_FILE];
@@ -70,6 +78,7 @@ fn second(case: &Case) -> Expected {
             offset,
             reply,
             file,
+            occupancy: board_octets(book),
             place: end,
         });
         end += call.length();
@@ -80,6 +89,7 @@ fn second(case: &Case) -> Expected {
     Expected {
         refusal,
         board,
+        occupancy,
         answers,
         end,
     }
@@ -131,6 +141,7 @@ pub fn compare(case: &Case, tally: &mut Tally) -> Result<(), Difference> {
     caught(|| {
         same("check", LENDER.check(&case.file), expected.refusal);
         board(case, &expected, choice);
+        occupancy(case, &expected, choice, tally);
         serve(case, &expected, choice);
         replay(case, &expected, choice, tally);
         if choice.is_multiple_of(4) {
@@ -148,7 +159,8 @@ fn choice(case: &Case) -> usize {
 }
 
 /// Counts what the case has shown, and sees that each scope list is the one that is due by what the case was made of, what is remembered
-/// of releases, held of offers, and answered to options 14 and 15, what is due by the file before each call, and the offset by the datagram.
+/// of releases, held of offers, and answered to options 14 and 15, what is due by the file before each call, the offset by the datagram, and
+/// each occupancy board by its file.
 fn count(case: &Case, expected: &Expected, tally: &mut Tally) -> Result<(), Difference> {
     if expected.refusal != 0 {
         tally.code(expected.refusal);
@@ -161,6 +173,10 @@ fn count(case: &Case, expected: &Expected, tally: &mut Tally) -> Result<(), Diff
     }
     let (mut past, mut judged_past) = (Past::default(), judged::Past::default());
     let (mut before, mut file) = (Campus::read(&case.file), &case.file);
+    let mut stood = Board(expected.occupancy.clone());
+    if let (Some(campus), 0) = (&before, expected.refusal) {
+        occupied(campus, &stood, tally)?;
+    }
     for answer in &expected.answers {
         let Some(call) = Call::read(&case.calls[answer.place..]) else {
             continue;
@@ -174,6 +190,7 @@ fn count(case: &Case, expected: &Expected, tally: &mut Tally) -> Result<(), Diff
             weighed(before, &call, answer, tally)?;
             let why = judged_past.why(before, &call, answer.outcome, &answer.reply);
             why.into_iter().for_each(|why| tally.held(why));
+            stood = altered((before, &stood), after, &call, answer, tally)?;
         }
         (before, file) = (after, &answer.file);
         tally.call(&call.datagram, answer.outcome, &answer.reply);
@@ -351,6 +368,39 @@ fn boarded(campus: &Campus, expected: &Expected, tally: &mut Tally) -> Result<()
     Ok(())
 }
 
+/// An occupancy board: what is due by the leases and holds of its file.
+fn occupied(campus: &Campus, board: &Board, tally: &mut Tally) -> Result<(), Difference> {
+    let due = Board::of(campus);
+    if due != *board {
+        let (due, found) = (hex(&due.0), hex(&board.0));
+        return Err(format!("the occupancy board {due} is due, not {found}"));
+    }
+    let why = occupancy::of_board(campus, board);
+    why.into_iter().for_each(|why| tally.occupied(why));
+    Ok(())
+}
+
+/// The occupancy board that a call leaves; and what the call has done to the one before it.
+fn altered(
+    before: (&Campus, &Board),
+    after: &Campus,
+    call: &Call,
+    answer: &Answer,
+    tally: &mut Tally,
+) -> Result<Board, Difference> {
+    let board = Board(answer.occupancy.clone());
+    occupied(after, &board, tally)?;
+    let seen = occupancy::Seen {
+        call,
+        outcome: answer.outcome,
+        reply: &answer.reply,
+        before,
+        after: (after, &board),
+    };
+    seen.why().into_iter().for_each(|why| tally.occupied(why));
+    Ok(board)
+}
+
 /// The text in a room that is exactly large enough by its rule, or larger; nothing where it is smaller.
 fn board(case: &Case, expected: &Expected, choice: usize) {
     let text = LENDER.board(&case.file, BOARD_ROOM + [0, 0, 1, 900][choice % 4]);
@@ -358,6 +408,31 @@ fn board(case: &Case, expected: &Expected, choice: usize) {
     if choice % 8 == 1 {
         let text = LENDER.board(&case.file, [0, 11, BOARD_ROOM - 1][choice / 8 % 3]);
         same_octets("board in a short room", &text, &[]);
+    }
+}
+
+/// The occupancy board of the case's file, in a room that is just large enough or larger, and in one that is too short.
+fn occupancy(case: &Case, expected: &Expected, choice: usize, tally: &mut Tally) {
+    let short = [0, 1, 300, OCCUPANCY_ROOM - 1][choice / 4 % 4];
+    for room in [OCCUPANCY_ROOM + [0, 0, 1, 900][choice % 4], short] {
+        let (number, why) = match (expected.refusal, room.cmp(&OCCUPANCY_ROOM)) {
+            (0, Ordering::Less) => (ROOM_SHORT, Some(occupancy::SHORT)),
+            (0, Ordering::Equal) => (0, None),
+            (0, Ordering::Greater) => (0, Some(occupancy::LONGER)),
+            (refusal, Ordering::Less) => (refusal, Some(occupancy::REFUSED_SHORT)),
+            (20, _) => (20, Some(occupancy::REFUSED_20)),
+            (refusal, _) => (refusal, Some(occupancy::REFUSED_21)),
+        };
+        let what = format!("occupancy in {room}");
+        let found = LENDER.occupancy(&case.file, room, choice as u8);
+        let due = if number == 0 {
+            &expected.occupancy[..]
+        } else {
+            &[]
+        };
+        same(&what, found.0, number);
+        same_octets(&what, &found.1, due);
+        why.into_iter().for_each(|why| tally.occupied(why));
     }
 }
 
@@ -397,6 +472,9 @@ fn serve(case: &Case, expected: &Expected, choice: usize) {
         same(&format!("{what}: offset"), offset, answer.offset);
         same_octets(&format!("{what}: reply"), &reply, &answer.reply);
         same_octets(&format!("{what}: file"), held.file(), &answer.file);
+        let board = LENDER.occupancy(held.file(), OCCUPANCY_ROOM, choice as u8);
+        same(&format!("{what}: occupancy"), board.0, 0);
+        same_octets(&format!("{what}: occupancy"), &board.1, &answer.occupancy);
     }
 }
 
@@ -473,8 +551,8 @@ fn replay(case: &Case, expected: &Expected, choice: usize, tally: &mut Tally) {
 fn lent_rooms(case: &Case, tally: &mut Tally) {
     let front = &case.file[..case.file.len().min(600)];
     for (room, length, refusal) in [
-        (LONGEST_FILE - 1, front.len(), FILE_ROOM_SHORT),
-        (600, 20_000, FILE_ROOM_SHORT),
+        (LONGEST_FILE - 1, front.len(), ROOM_SHORT),
+        (600, 20_000, ROOM_SHORT),
         (LONGEST_FILE, LONGEST_FILE + 1, LENGTH_PAST),
     ] {
         let what = format!("{refusal} in a file room of {room}");

@@ -2,6 +2,7 @@
 //! changed, and what was written lies within its room. What isn't so is a panic.
 
 use banshorra_host::library::*;
+use banshorra_host::OCCUPANCY_ROOM;
 use builder::Call;
 
 /// A buffer that is lent: on the heap, and just as long as the library is told, so that valgrind sees any octet outside; or with so many
@@ -128,6 +129,22 @@ impl Lender {
             "board wrote past its text"
         );
         text.part()[..filled].to_vec()
+    }
+
+    /// The occupancy board, in a room that is painted with `salt`: its number and the board. A refusal writes nothing.
+    pub fn occupancy(self, file: &[u8], room: usize, salt: u8) -> (u8, Vec<u8>) {
+        let (mut lent, before) = (self.copy(file), self.painted(room, salt));
+        let mut board = before.clone();
+        // SAFETY: as above.
+        let number = unsafe { banshorra_occupancy(lent.at(), file.len(), board.at(), room) };
+        assert!(lent == self.copy(file), "occupancy changed the file");
+        let filled = if number == 0 { OCCUPANCY_ROOM } else { 0 };
+        assert!(filled <= room, "occupancy filled {filled} of {room}");
+        assert!(
+            board.differs_in_first(filled, &before),
+            "occupancy wrote past its board, or with {number}"
+        );
+        (number, board.part()[..filled].to_vec())
     }
 
     /// One call, in a reply room that is painted with `salt`: its number, offset and reply. A refusal and discard 2 change nothing.

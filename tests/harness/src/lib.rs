@@ -17,6 +17,7 @@ pub mod judged;
 pub mod lent;
 pub mod message;
 pub mod names;
+pub mod occupancy;
 pub mod random;
 pub mod releases;
 pub mod tally;

@@ -5,6 +5,7 @@ use crate::damage::DAMAGES;
 use crate::fault::{Cause, CAUSES};
 use crate::judged;
 use crate::names;
+use crate::occupancy;
 use crate::releases;
 use std::collections::BTreeMap;
 
@@ -77,6 +78,10 @@ fn held_for(why: String) -> String {
     format!("hold: {why}")
 }
 
+fn occupied_for(why: &str) -> String {
+    format!("occupancy: {why}")
+}
+
 fn fault_name(cause: Cause) -> String {
     format!("discard 5 for: {}", cause.name())
 }
@@ -130,6 +135,11 @@ impl Tally {
         self.add(held_for(why.into()));
     }
 
+    /// What was seen of an occupancy board.
+    pub fn occupied(&mut self, why: &str) {
+        self.add(occupied_for(why));
+    }
+
     /// The first fault of a datagram that drew discard 5.
     pub fn fault(&mut self, cause: Cause) {
         self.add(fault_name(cause));
@@ -161,6 +171,7 @@ impl Tally {
         names.extend(releases::COUNTED.map(released_for));
         names.extend(bounds::counted().into_iter().map(bounded_for));
         names.extend(judged::counted().into_iter().map(held_for));
+        names.extend(occupancy::counted().into_iter().map(occupied_for));
         names.extend((0..DAMAGES.len()).map(damage_name));
         names
     }

@@ -6,8 +6,9 @@ use crate::bounds;
 use crate::fault;
 use crate::holds;
 use crate::lent::{Held, Lender};
+use crate::occupancy::Board;
 use crate::releases::Past;
-use banshorra_host::{ANSWER_ROOM, BOARD_ROOM, FILE_ROOM, REPLY_ROOM};
+use banshorra_host::{ANSWER_ROOM, BOARD_ROOM, FILE_ROOM, OCCUPANCY_ROOM, REPLY_ROOM};
 use builder::{value_of, Call, Campus, ACK, NAK, OFFER};
 use std::collections::BTreeMap;
 
@@ -15,9 +16,10 @@ use std::collections::BTreeMap;
 pub const EXACT: Lender = Lender { around: 0 };
 
 /// What a run of some length has to see.
-const SEEN: [(&str, &str); 11] = [
+const SEEN: [(&str, &str); 12] = [
     ("check", "0, 20, 21"),
     ("board", "lines, refused 20, refused 21, no room"),
+    ("occupancy", "0, 20, 21, 23"),
     ("serve", "0, 2, 3, 4, 5, 6, 7, 8, 20, 21, 23, 28"),
     ("replay", "0, 20, 21, 23, 24, 27, 28"),
     ("replies", "OFFER, ACK, NAK"),
@@ -91,7 +93,7 @@ impl Watch {
     pub fn lines(&self) -> (Vec<String>, usize) {
         let (mut lines, mut missing) = (vec![], 0);
         for (what, names) in SEEN {
-            let mut line = format!("{what:8}");
+            let mut line = format!("{what:9}");
             for name in names.split(", ") {
                 let count = self.0.get(&(what, name.to_string())).unwrap_or(&0);
                 missing += usize::from(*count == 0);
@@ -136,6 +138,26 @@ impl Watch {
             let length = text.len() > header.len() && text.len() <= BOARD_ROOM;
             assert!(lines && length, "board's header, end or length");
         }
+    }
+
+    /// The occupancy board, and again in a room of other octets: what the file's leases and holds say, or the refusal that is due.
+    pub fn occupancy(&mut self, file: &[u8], room: usize) {
+        let due = match self.check(file) {
+            0 if room < OCCUPANCY_ROOM => 23,
+            refusal => refusal,
+        };
+        let (number, board) = EXACT.occupancy(file, room, 0x5A);
+        self.count("occupancy", number);
+        assert_eq!(number, due, "occupancy's number, and the one that is due");
+        if number == 0 {
+            let same = board == Board::of(&campus(file)).0;
+            assert!(same, "the board isn't what the leases and holds say");
+        }
+        let again = EXACT.occupancy(file, room, 0xE7);
+        assert!(
+            again == (number, board),
+            "the board depends on octets outside"
+        );
     }
 
     /// The refusal that is due, in its order; 0 for none.

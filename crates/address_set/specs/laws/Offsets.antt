@@ -1,20 +1,23 @@
 -- Laws: sets and lists of offsets: the one gives the other back, and the bit forms of what the functions promise by lists.
 use mathlib.Core.Path.{_≡_, refl, sym, ap, ap₂, _∙_, subst}
 use mathlib.Core.Bool.{Bool, true, false, not}
-use mathlib.Core.List.{List, [], _∷_}
+use mathlib.Core.List.{List, [], _∷_, _++_, map}
 use Prim.Native.Nat.{ℕ, zero, suc, _+_, _-_, _*_, _%_, _^_, _≤_, _<_, min, max}
 use native.Mathlib.Omega.{arith}
 use native.Mathlib.Nat.{one-mul, pow-suc, lt-of-lt-of-le, div-eq-of-lt}
 use lib.Dec.{ltb, eqb}
 use lib.Bits.{bitAnd, bitOr, or-lt, or-zero-r, or-zero-l, or-shifted-r}
+use lib.ListN.{length, getD, length-append, length-map, List·getD-append}
+use lib.Seq.{getD-at}
 use lib.Pow.{pow-pos, pow-lt, pow-mono, shl-exact}
-use borrow.Author.Tests.{ltb-true, ltb-false, lt-ltb, le-ltb, eq-eqb, eqb-true, eqb-false}
+use borrow.Author.Tests.{ltb-true, ltb-false, lt-ltb, le-ltb, eq-eqb, ne-eqb, eqb-true, eqb-false}
 use Rattle.lists.specs.Pick.{pick}
 use Rattle.lists.specs.Fold.{fold}
 use Rattle.lists.specs.All.{All, allBy}
 use Rattle.lists.specs.laws.All.{all-head, all-cons, all-both}
 use Rattle.lists.specs.Filter.{filterBy, isIn}
-use Rattle.lists.specs.laws.Filter.{in-filter}
+use Rattle.lists.specs.laws.Each.{map-at}
+use Rattle.lists.specs.laws.Filter.{in-filter, in-fact}
 use Rattle.address_set.specs.AddressSet.{bit, keep, offsetsFrom, offsets, setOf, differenceOf, upTo, readOffsets, withOffset, risesFrom, rises}
 use Rattle.address_set.specs.laws.Bits.{without, bit-le, bit-or, bit-without, bit-of-zero, bit-ext, bit-eq, bit-pow-same, bit-pow-other, offsets-cong, offsets-of-zero, setOf-append, or-assoc, and-not}
 
@@ -165,6 +168,28 @@ bit-setOf a (x ∷ l) = bit-or (2 ^ x) (setOf l) a ∙ go (eqb a x) refl (bit-se
 pub bit-in : (m a : ℕ) → m < 2 ^ 64 → bit m a ≡ pick (isIn a (offsets m)) 1 0
 bit-in m a h = ap (λ (x : ℕ). bit x a) (sym (setOf-offsets m h)) ∙ bit-setOf a (offsets m)
 
+-- an offset below 64 is in the list where its bit is 1
+pub in-bit : (m a : ℕ) → a < 64 → isIn a (offsets m) ≡ eqb (bit m a) 1
+unfolding pick
+in-bit m a h = go (isIn a (offsets m)) (sym (setOf-bit m 0 64 a (omega arith) (omega arith)) ∙ bit-setOf a (offsets m))
+  where
+    go : (b : Bool) → bit m a ≡ pick b 1 0 → b ≡ eqb (bit m a) 1
+    go true e = sym (eq-eqb (bit m a) 1 e)
+    go false e = sym (ne-eqb (bit m a) 1 (λ z. absurd (omega arith)))
+
+-- and no other is
+pub in-small : (m a : ℕ) → isIn a (offsets m) ≡ true → a < 64
+in-small m a e = in-fact (λ x. x < 64) (offsets m) a (offsets-small m) e
+
+-- nor one below those that rise
+pub rises-out : (m a : ℕ) (l : List ℕ) → a < m → risesFrom m l ≡ true → isIn a l ≡ false
+unfolding pick
+rises-out m a l h r = go (isIn a l) (sym (none-below m l r a h) ∙ bit-setOf a l)
+  where
+    go : (b : Bool) → _≡_ {A = ℕ} 0 (pick b 1 0) → b ≡ false
+    go true e = absurd (omega arith)
+    go false e = refl
+
 -- no bit from k on in a number of k bits
 pub bit-past : (k m a : ℕ) → m < 2 ^ k → k ≤ a → bit m a ≡ 0
 unfolding bit
@@ -232,6 +257,29 @@ upTo-ones (suc n) =
     setOf-append (upTo n) (n ∷ []) ∙ ap₂ bitOr (upTo-ones n) (or-zero-r (2 ^ n) ∙ sym (one-mul (2 ^ n)))
     ∙ or-shifted-r 1 n (2 ^ n - 1) (let p = pow-pos n in omega arith)
     ∙ (let p = pow-pos n in let e = pow-suc 2 n in omega arith)
+
+-- they stand in their places
+upTo-long : (n : ℕ) → length (upTo n) ≡ n
+unfolding upTo
+upTo-long zero = refl
+upTo-long (suc n) = length-append (upTo n) (n ∷ []) ∙ (let e = upTo-long n in omega arith)
+
+upTo-at : (n a d : ℕ) → a < n → getD (upTo n) a d ≡ a
+unfolding upTo
+upTo-at zero a d h = absurd (omega arith)
+upTo-at (suc n) a d h = go (ltb a n) refl (upTo-at n a d)
+  where
+    go : (b : Bool) → ltb a n ≡ b → (a < n → getD (upTo n) a d ≡ a) → getD (upTo n ++ n ∷ []) a d ≡ a
+    go true e ih = let q = ltb-true a n e in let p = upTo-long n in List·getD-append (upTo n) (n ∷ []) d a (omega arith) ∙ ih q
+    go false e ih = let q = ltb-false a n e in let z : n ≡ a = omega arith in getD-at (upTo n) n [] d a (upTo-long n ∙ z) ∙ z
+
+-- what is made of each, one after the other
+module _ {A : Type 0} (f : ℕ → A) (n : ℕ) where
+  pub each-long : length (map f (upTo n)) ≡ n
+  each-long = length-map (upTo n) f ∙ upTo-long n
+
+  pub each-at : (a : ℕ) (d : A) → a < n → getD (map f (upTo n)) a d ≡ f a
+  each-at a d h = map-at f (upTo n) a 0 d (let e = upTo-long n in omega arith) ∙ ap f (upTo-at n a 0 h)
 
 pub below-ones : (n r : ℕ) → n < 64 → r ≡ 2 ^ n - 1 → r ≡ setOf (upTo (min n 64))
 below-ones n r h e = e ∙ sym (upTo-ones n) ∙ ap (λ (x : ℕ). setOf (upTo x)) (let q : n ≡ min n 64 = omega arith in q)

@@ -5,6 +5,7 @@ use mathlib.Core.List.{List, [], _∷_}
 use Prim.Native.Nat.{ℕ, zero, suc, _+_, _-_, _*_, _/_, _%_, _^_, _≤_, _<_}
 use native.Mathlib.Omega.{arith}
 use native.Mathlib.Nat.{lt-of-le-of-lt, mod-eq-of-lt}
+use native.Mathlib.Numerals.{add-one}
 use lib.Dec.{ltb, leb, eqb}
 use lib.Bits.{shifted-half, shifted-even}
 use lib.Count.{trailingZeros, under, trailing-le}
@@ -67,6 +68,19 @@ high-same m e a h =
 
 pub high-le : (m e : ℕ) → high m e ≤ m
 high-le m e = let s = split m e in omega arith
+
+-- less than m, where a bit below e was
+high-less : (m e a : ℕ) → a < e → bit m a ≡ 1 → high m e < m
+high-less m e a h o = go (ltb (high m e) m) refl
+  where
+    go : (b : Bool) → ltb (high m e) m ≡ b → high m e < m
+    go true t = ltb-true (high m e) m t
+    go false t =
+        let l = ltb-false (high m e) m t in
+        let y = high-le m e in
+        let z : high m e ≡ m = omega arith in
+        let w : bit m a ≡ 0 = ap (λ (n : ℕ). bit n a) (sym z) ∙ high-low m e a h in
+        absurd (omega arith)
 
 -- behind a range stand the bits from its end on
 pub behind-high : (m : ℕ) (r : Range) (e : ℕ) → m < 2 ^ 64 → e ≡ r .first + r .count → high m e ≡ behind m r
@@ -254,6 +268,9 @@ module _ {m : ℕ} {r : Range} (h : m < 2 ^ 64) (p : 0 < m) (e : r ≡ firstRang
   at : RangeAt m (r .first) (r .count)
   at = subst (λ (x : Range). RangeAt m (x .first) (x .count)) (sym (e ∙ sym (first-some m h p))) (first-range-at m h p)
 
+  first-one : bit m (r .first) ≡ 1
+  first-one = ap (bit m) (let z : r .first ≡ r .first + 0 = omega arith in z) ∙ at .ones 0 (at .some)
+
   pub range-count : r .count ≤ 64
   range-count = let f = at .fits in omega arith
 
@@ -265,21 +282,29 @@ module _ {m : ℕ} {r : Range} (h : m < 2 ^ 64) (p : 0 < m) (e : r ≡ firstRang
 
   -- the rest is smaller
   pub ranges-less : {m′ : ℕ} → m′ ≡ behind m r → m′ < m
-  ranges-less {m′} q = go (ltb m′ m) refl
-    where
-      here : bit m (r .first + 0) ≡ 1
-      here = at .ones 0 (at .some)
+  ranges-less q = subst (λ (x : ℕ). x < m) (behind-high m r (r .first + r .count) h refl ∙ sym q) (high-less m (r .first + r .count) (r .first) (let s = at .some in omega arith) first-one)
 
-      go : (b : Bool) → ltb m′ m ≡ b → m′ < m
-      go true t = ltb-true m′ m t
-      go false t =
-          let l = ltb-false m′ m t in
-          let x : high m (r .first + r .count) ≡ m′ = behind-high m r (r .first + r .count) h refl ∙ sym q in
-          let y = high-le m (r .first + r .count) in
-          let z : m′ ≡ m = omega arith in
-          let s = at .some in
-          let w : bit m (r .first + 0) ≡ 0 = ap (λ (n : ℕ). bit n (r .first + 0)) (sym (x ∙ z)) ∙ high-low m (r .first + r .count) (r .first + 0) (omega arith) in
-          absurd (omega (arith, here))
+  -- ---- the same for a loop over the offsets, one by one: the lowest, and those of the rest
+  pub range-first : r .first < 64
+  range-first = let s = at .some in let f = at .fits in omega arith
+
+  one-high : {m′ : ℕ} → m′ ≡ behind m (record { first = r .first; count = 1 }) → high m (r .first + 1) ≡ m′
+  one-high q = behind-high m (record { first = r .first; count = 1 }) (r .first + 1) h refl ∙ sym q
+
+  pub offset-next : {m′ : ℕ} → m′ ≡ behind m (record { first = r .first; count = 1 }) → offsets m ≡ r .first ∷ offsets m′
+  unfolding offsetsFrom
+  offset-next {m′} q =
+      let f = range-first in
+      let z : 64 ≡ r .first + suc (64 - (r .first + 1)) = omega arith in
+      ap (offsetsFrom m 0) z
+      ∙ skip m 0 (r .first) (suc (64 - (r .first + 1))) (λ a g l. at .below a (omega arith))
+      ∙ ap (λ (x : ℕ). offsetsFrom m x (suc (64 - (r .first + 1)))) (let w : 0 + r .first ≡ r .first = omega arith in w)
+      ∙ ap (λ (x : ℕ). keep x (r .first) (offsetsFrom m (suc (r .first)) (64 - (r .first + 1)))) first-one
+      ∙ ap {B = List ℕ} (λ (l : List ℕ). r .first ∷ l)
+      (ap (λ (x : ℕ). offsetsFrom m x (64 - (r .first + 1))) (sym (add-one (r .first))) ∙ offsets-high m (r .first + 1) (omega arith) ∙ ap offsets (one-high q))
+
+  pub offset-less : {m′ : ℕ} → m′ ≡ behind m (record { first = r .first; count = 1 }) → m′ < m
+  offset-less q = subst (λ (x : ℕ). x < m) (one-high q) (high-less m (r .first + 1) (r .first) (omega arith) first-one)
 
 -- a set has at most 64 ranges
 joined-few : (x : ℕ) (l : List Range) → length (joined x l) ≤ suc (length l)

@@ -115,7 +115,7 @@ one-below s k here y e a h g = go (eqb (y .scope) (k + 1)) refl
         below-bit (scopeAt s k .size) (y .addresses) a (ap (λ (j : ℕ). belowB (scopeAt s j .size) (y .addresses)) (sym z) ∙ below) h g
     go false q = bit-of-zero a
 
-held-below : (s : State) (k : ℕ) → k < scopesIn s → (x : List Lease) → allBy (leaseOk s) x ≡ true → (a : ℕ) → a < 64 → scopeAt s k .size ≤ a → bit (heldOf (k + 1) x) a ≡ 0
+pub held-below : (s : State) (k : ℕ) → k < scopesIn s → (x : List Lease) → allBy (leaseOk s) x ≡ true → (a : ℕ) → a < 64 → scopeAt s k .size ≤ a → bit (heldOf (k + 1) x) a ≡ 0
 unfolding addressesOf filterBy unionAll
 held-below s k here [] e a h g = bit-of-zero a
 held-below s k here (y ∷ x) e a h g =

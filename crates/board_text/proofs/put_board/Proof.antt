@@ -9,7 +9,7 @@ put-book-requires : tie.Need-put-book-requires
 put-book-requires c κs = omega (arith, c .before .before .before .put-run .ensures .next)
 
 returns : tie.Need-returns
-returns c = board-wrote (c .before .before .before .before .before .before .before .before .before .before .args .state) (c .before .before .before .before .before .before .before .before .before .before .args .table) (c .before .before .before .before .before .before .put-run .ensures) (c .before .before .put-book .ensures)
+returns c = board-wrote (c .before .before .before .before .before .before .before .before .before .before .args .state) (c .before .before .before .before .before .before .before .before .before .before .args .board) (c .before .before .before .before .before .before .put-run .ensures) (c .before .before .put-book .ensures)
 
 pub put-board-spec : {M : Type 1} → statement M
 put-board-spec =

@@ -3,15 +3,15 @@ use Prim.Native.Nat.{_-_}
 use native.Mathlib.Omega.{arith}
 use borrow.Author.Needs.{needs}
 use Rattle.board_text.proofs.Lines.{LinesInv, lineLoops, lines-start}
-use Rattle.board_text.specs.Board.{scopeLines}
+use Rattle.board_text.specs.Board.{scopeOn}
 use Rattle.board_text.proofs.put_book.Statement.{statement}
 use Rattle.board_text.proofs.put_book.Tie as tie
 
 abbrev Inv-loop : tie.InvT-loop
-Inv-loop buffer₀ at state table n to₀ k₀ buffer to k = LinesInv (scopeLines state table) 256 n buffer₀ at buffer to k
+Inv-loop buffer₀ at state board n to₀ k₀ buffer to k = LinesInv (scopeOn state board) 256 n buffer₀ at buffer to k
 
 abbrev μ-loop : tie.MeasureT-loop
-μ-loop buffer₀ at state table n to₀ k₀ buffer to k = n - k
+μ-loop buffer₀ at state board n to₀ k₀ buffer to k = n - k
 
 loop-holds : tie.Need-loop-holds Inv-loop μ-loop
 loop-holds c = lines-start (omega (arith, c .cut4 .ensures))

@@ -3,15 +3,15 @@ use Prim.Native.Nat.{_-_}
 use native.Mathlib.Omega.{arith}
 use borrow.Author.Needs.{needs}
 use Rattle.board_text.proofs.Lines.{LinesInv, lineLoops, lines-start}
-use Rattle.board_text.specs.Board.{line}
+use Rattle.board_text.specs.Board.{lineOn}
 use Rattle.board_text.proofs.put_scope.Statement.{statement}
 use Rattle.board_text.proofs.put_scope.Tie as tie
 
 abbrev Inv-loop : tie.InvT-loop
-Inv-loop buffer₀ at state table k n to₀ g₀ buffer to g = LinesInv (line state table k) 32 n buffer₀ at buffer to g
+Inv-loop buffer₀ at state board k n to₀ g₀ buffer to g = LinesInv (lineOn state board k) 32 n buffer₀ at buffer to g
 
 abbrev μ-loop : tie.MeasureT-loop
-μ-loop buffer₀ at state table k n to₀ g₀ buffer to g = n - g
+μ-loop buffer₀ at state board k n to₀ g₀ buffer to g = n - g
 
 loop-holds : tie.Need-loop-holds Inv-loop μ-loop
 loop-holds c = lines-start (omega (arith, c .cut8 .ensures))

@@ -8,7 +8,7 @@ returns : tie.Need-returns
 returns c = board-none _ _ (c .if1 .taken)
 
 returns-2 : tie.Need-returns-2
-returns-2 c = board-answer _ _ _ _ _ (c .before .before .before .before .before .before .before .read-book .ensures) (c .before .before .before .before .before .before .before .before .if1 .left) (c .before .before .before .before .before .before .if2 .taken) (c .before .before .put-board .ensures)
+returns-2 c = board-answer _ _ _ _ _ (c .before .before .before .before .before .before .before .before .read-book .ensures) (c .before .before .before .before .before .before .before .before .before .if1 .left) (c .before .before .before .before .before .before .before .if2 .taken) (c .before .before .put-board .ensures)
 
 returns-3 : tie.Need-returns-3
 returns-3 c = refused-answer _ _ _ _ _ (c .before .before .before .before .before .read-book .ensures) (c .before .before .before .before .before .before .if1 .left) (c .before .before .before .before .if2 .left) (c .before .before .put-refused .ensures)

@@ -170,6 +170,18 @@ module _ (s : State) (b : LeaseTable) (h : ℕ) (m : Fields) (held : holdsOf (ow
       let p = pairs-head pairOk o rest (sym (reordered-pairs pairOk pair-turn (held-out v)) ∙ own-pairs v) .0 in
       and-parts (allBy (differ o) rest) (allBy (compatible o) rest) (sym (all-and (differ o) (compatible o) rest) ∙ p) .1
 
+  -- the others leave room for one
+  pub held-room : Sound s (leasesOf b) → length (removeOf (idOf (recordedOf (ownOf b h) m)) (ownOf b h)) < 16
+  held-room v =
+      let few : length (ownOf b h) ≤ 16 = subst (λ (x : List Lease). length x ≤ 16) (sym (own-is b h)) (few-at s (leasesOf b) v h) in
+      let fewer = removed-fewer (leaseIdIn m) (ownOf b h) held-at in
+      subst (λ (i : List ℕ). length (removeOf i (ownOf b h)) < 16) (sym held-named) (let k : length (removeOf (leaseIdIn m) (ownOf b h)) < 16 = omega arith in k)
+
+-- and so do the records to which a new one is granted
+pub new-room : (s : State) (t : LeaseTable) (h : ℕ) (m : Fields) → error0Of s m (newOf s t h m) ≡ false → length (ownOf t h) < 16
+unfolding newOf newAt newWith fitsNew askAt
+new-room s t h m e = ltb-true (length (ownOf t h)) 16 (and-parts (ltb (length (ownOf t h)) 16) _ (inside s m (newOf s t h m) e .1) .0)
+
 -- ---- the leases afterwards, by the tenant's own
 module _ (s : State) (b : LeaseTable) (h : ℕ) (there : h < length (b .tenants)) where
   there-too : h < length (leasesOf b)
@@ -476,22 +488,11 @@ module _ (s : State) (b : LeaseTable) (h : ℕ) (m : Fields) (v : Sound s (lease
   none : Sound s (leasesOf (applied noEdit h b))
   none = becomes b (applied-none b h) v
 
-  fits-new : (t : LeaseTable) → error0Of s m (newOf s t h m) ≡ false → length (ownOf t h) < 16
-  unfolding newOf newAt newWith fitsNew askAt
-  fits-new t e = ltb-true (length (ownOf t h)) 16 (and-parts (ltb (length (ownOf t h)) 16) _ (inside s m (newOf s t h m) e .1) .0)
-
-  fits-old : thereFor b h m ≡ true → (idOf (oldFor b h m) ≡ leaseIdIn m) × (length (removeOf (idOf (oldFor b h m)) (ownOf b h)) < 16)
-  fits-old held =
-      let e : idOf (oldFor b h m) ≡ leaseIdIn m = held-named s b h m held in
-      let oneTo : length (ownOf b h) ≤ 16 = subst (λ (x : List Lease). length x ≤ 16) (sym (own-is b h)) (few-at s (leasesOf b) v h) in
-      let fewer = removed-fewer (leaseIdIn m) (ownOf b h) (held-at s b h m held) in
-      (e, subst (λ (i : List ℕ). length (removeOf i (ownOf b h)) < 16) (sym e) (let k : length (removeOf (leaseIdIn m) (ownOf b h)) < 16 = omega arith in k))
-
   -- the record gives way to l
   way : (l : Lease) → thereFor b h m ≡ true → Sound s (leasesOf (updated b h (insertOf l (removeOf (leaseIdIn m) (ownOf b h))))) → Sound s (leasesOf (applied (givingWay (oldFor b h m) l) h b))
   way l held w =
       becomes (updated b h (insertOf l (removeOf (leaseIdIn m) (ownOf b h))))
-      (applied-way b h (oldFor b h m) l (fits-old held .1) ∙ ap (λ (i : List ℕ). updated b h (insertOf l (removeOf i (ownOf b h)))) (fits-old held .0)) w
+      (applied-way b h (oldFor b h m) l (held-room s b h m held v) ∙ ap (λ (i : List ℕ). updated b h (insertOf l (removeOf i (ownOf b h)))) (held-named s b h m held)) w
 
   pub decided-sound : (q : List Release) → Sound s (leasesOf (applied (decideOf s b q h m .edit) h b))
   unfolding Keeps
@@ -502,10 +503,10 @@ module _ (s : State) (b : LeaseTable) (h : ℕ) (m : Fields) (v : Sound s (lease
     repeated = λ k held. none;
     taken = λ k held. let t = held-there (oldFor b h m) (thereFor b h m) held in way (turned m (oldFor b h m)) t (turn-sound s b h m v known there t);
     offered = λ k ok free e.
-        becomes (updated b h (insertOf (heldFrom (s .clock) (newFor s b h m)) (ownOf b h))) (applied-entering b h (heldFrom (s .clock) (newFor s b h m)) (fits-new b e))
+        becomes (updated b h (insertOf (heldFrom (s .clock) (newFor s b h m)) (ownOf b h))) (applied-entering b h (heldFrom (s .clock) (newFor s b h m)) (new-room s b h m e))
         (offer-sound s b h m v known there good ok free e k);
     requested = λ k ok free e.
-        becomes (updated b h (insertOf (newFor s b h m) (ownOf b h))) (applied-entering b h (newFor s b h m) (fits-new b e)) (request-sound s b h m v known there good ok free e k);
+        becomes (updated b h (insertOf (newFor s b h m) (ownOf b h))) (applied-entering b h (newFor s b h m) (new-room s b h m e)) (request-sound s b h m v known there good ok free e k);
     dropped = λ k held. becomes (updated b h (removeOf (idOf (oldFor b h m)) (ownOf b h))) (applied-dropping b h (oldFor b h m)) (release-sound s b h there (idOf (oldFor b h m)) v);
     moved = λ k ok held e.
         subst (λ (x : LeaseTable). Sound s (leasesOf x)) (sym (applied-moving b h (oldFor b h m) (newFor s (without b h m) h m)))

@@ -1,13 +1,16 @@
 -- `lent::read` meets its contract: a walk of its MIR, by hand. The ledger's borrow is opened and the ledger copied out; `load` gives the records of the slice by value; `records::read` gets the file and both.
 -- The ledger that came back is stored as a whole, and the borrow is closed at it; the records that came back go to `store`. Of each callee the proof knows only that it meets its contract.
--- Nothing is kept of the `&` of the file, which `records::read` gets at its own lifetime and share.
-use Rattle.lent.proofs.Walk.{stands, _≡_, refl, ap, ℕ, _<_, _^_, [], _∷_, List, length, URA, fullShare, named, w8, w64, Val, vint, vptr, SProp, ent, sep, emp, via, fst∗, snd∗, exE, id⊢, Lft, Share, GName, ftrue, flft, fat, Memory, Routine, Heap, Calls, Loops, WpFn, Atoms, sem, Fun, fact, givenOf, tables, tablesOf, Given, ‵, raw, _⊛_, some, later, ⋆, _$_, _∵_, !, qed, by, move, keep, drop, use1, use2, split, join, pick, rewrite, fsplit, fjoin, suffices, frame, await, done, look, look-raw, init, store-raw, forget, stop, hop, fld, from, load, of-opd, addr, and-then, no-more, assigns, land, returns, enter, alloc1, alloc0, params1, pass1, pass0, free1, free0, whole, sub, look-in, agg, FmC, owns, Is, shows, uint-makes, nothing-lawful, usize, u8, RefT, MutRef, ptr-vals, mut-tells, slice-vals, shr-slice-tells, mut-slice-tells, MutSlice, ShrSlice, Room, only, owned, peeks, heard, nothing, plain, shrSliceOf, Contract, Triple, calls-at, onEntry, tripleOf, cited, says, Stays, stay-dropped, stay-ref, stay-slice, walkOf, AllGo, goes-dropped, goes-ref, goes-slice, Walks, ends-at, walked, ensured, lasts, yes}
+-- Nothing is kept of the `&` of the file, which `records::read` gets at its own lifetime and share. The walk has two parts: `store-on` begins where the ledger is stored.
+use Rattle.lent.proofs.Walk.{stands, tyOf, after, holds, bare, Idle, spot, idle, Go, Seq, Item, Ty, runs, atRet, _≡_, refl, ap, ℕ, _<_, _^_, [], _∷_, List, length, URA, fullShare, named, w8, w64, Val, vint, vptr, SProp, ent, sep, emp, via, fst∗, snd∗, exE, id⊢, Lft, Share, GName, ftrue, flft, fat, Memory, Routine, Heap, Calls, Loops, WpFn, Atoms, sem, Fun, fact, givenOf, tables, tablesOf, Given, ‵, raw, _⊛_, some, later, ⋆, _$_, _∵_, !, qed, by, move, keep, drop, use1, use2, split, join, pick, rewrite, fsplit, fjoin, suffices, frame, await, done, look, look-raw, init, store-raw, stop, hop, fld, from, load, of-opd, addr, and-then, no-more, assigns, land, returns, enter, alloc1, alloc0, params1, pass1, pass0, ends1, ends4, free0, whole, sub, look-in, agg, FmC, owns, Is, shows, uint-makes, nothing-lawful, usize, u8, RefT, MutRef, ptr-vals, mut-tells, slice-vals, shr-slice-tells, mut-slice-tells, MutSlice, ShrSlice, Room, only, owned, peeks, heard, nothing, plain, shrSliceOf, Contract, Triple, calls-at, onEntry, tripleOf, cited, says, Stays, stay-dropped, stay-ref, stay-slice, walkOf, AllGo, goes-dropped, goes-ref, goes-slice, Walks, ends-at, walked, ensured, lasts, yes}
+use mir.Syntax.{Sym, tyStruct, tcons, tnil}
+use mir.Val.{vstruct, vcons, vnil}
 use denote.Struct.Laws as LL
 use Rattle.state.specs.declared.Lease.{Lease}
 use Rattle.state.specs.declared.Ledger.{Ledger}
 use Rattle.state_file.specs.StateFile.{readFile}
 use Rattle.records.specs.declared.Records.{Records}
 use Rattle.records.specs.declared.ReadRecords.{ReadRecords}
+use Rattle.records.specs.Records.{covered}
 use Rattle.records.specs.Lent.{readWith, readLent, Reads, ReadsLent}
 use Rattle.records.specs.laws.Lent.{read-lent}
 use Rattle.state.proofs.Lease as R
@@ -33,6 +36,17 @@ use Rattle.lent.proofs.read.Key.{name as #lent·read}
 use Rattle.lent.proofs.read as f
 use Rattle.lent.proofs.read.Statement as stated
 use Rattle.lent.proofs.read.Code as code
+
+abbrev ty : ℕ → Ty
+ty n = tyOf (code.function .locals) n
+
+-- the type of what `records::read` gives back, of a refusal, a ledger and records; and the locals
+abbrev given : Sym → Ty → Ty → Ty
+given ν g r = tyStruct ν (tcons (ty 0) (tcons g (tcons r tnil)))
+
+abbrev env : ℕ → ℕ → ℕ → ℕ → ℕ → ℕ → Idle → Idle → Idle → Idle → Idle → Idle → Idle → Ty → List (Ty × ℕ)
+env l₀ l₃ l₆ l₁₀ l₁₁ l₁₂ u₁ u₂ u₄ u₅ u₇ u₈ u₉ τ =
+    (ty 0, l₀) ∷ spot u₁ ∷ spot u₂ ∷ (ty 3, l₃) ∷ spot u₄ ∷ spot u₅ ∷ (τ, l₆) ∷ spot u₇ ∷ spot u₈ ∷ spot u₉ ∷ (ty 10, l₁₀) ∷ (ty 11, l₁₁) ∷ (ty 12, l₁₂) ∷ []
 
 abbrev stayed : Stays (f.ended .signature .params) (f.ended .kept)
 stayed = (stay-dropped (shrSliceOf (0 ∷ []) tt (plain (λ _. u8))) yes, (stay-ref (1 ∷ []) tt (plain (λ _. T.the-row)), (stay-slice (2 ∷ []) tt (plain (λ _. R.the-row)), tt)))
@@ -102,6 +116,26 @@ module _ {M : Type 1} (𝓤 : URA M) (H : Heap 𝓤) (A : Atoms 𝓤) (W : Given
   parts r w is = LL.owed Z.the-type Z′.the-laws r (w ∷ []) is
 
   module _ (C : Calls 𝓤 H) (Λ : Loops 𝓤 H) (fm : FmC 𝓤 H (W .laws) C) (known-load : Triple 𝓤 (C #lent·load) (Load 𝓤 H A mem run)) (known-read : Triple 𝓤 (C #records·read) (Read 𝓤 H A mem run)) (known-store : Triple 𝓤 (C #lent·store) (Store 𝓤 H A mem run)) where
+    -- from where the ledger that came back is stored: the records r that came back go to `store`. X is the ledger's borrow, Q what the function has to end in
+    store-on : (l₀ l₃ l₆ l₁₀ l₁₁ l₁₂ : ℕ) (u₁ u₂ u₄ u₅ u₇ u₈ u₉ : Idle) (ν : Sym) (τg τr : Ty) (g x : Val) (X : Item 𝓤) (Q : Val → SProp 𝓤) (r : Records) (n : ℕ) → n < 2 ^ 8 → Is N.the-row r (x ∷ []) → Room R.the-row (length ys)
+        → ((zs : List Lease) → length zs ≡ length ys → zs ≡ covered ys (r .leases)
+        → ent 𝓤 (⋆ 𝓤 H A (‵ (flft κ₀ q₀) ∷ ‵ (flft κ₁ q₁) ∷ ‵ (flft κ₂ q₂) ∷ X ∷ ‵ (Mut κ₂ b₂ o₂ γ₂ (length ys) zs) ∷ [])) (Q (vint w8 n)))
+        → Seq (Go {0}) W (X ∷ ‵ (flft κ₁ q₁) ∷ ‵ (flft κ₀ q₀) ∷ ‵ (Mut κ₂ b₂ o₂ γ₂ (length ys) ys) ∷ ‵ (flft κ₂ q₂)
+        ∷ bare (ty 12) l₁₂ (bare (ty 11) l₁₁ (bare (ty 10) l₁₀ (idle u₉ (idle u₈ (idle u₇ (holds (given ν τg τr) l₆ (vstruct (vcons (vint w8 n) (vcons g (vcons x vnil))))
+        (idle u₅ (idle u₄ (holds (ty 3) l₃ s₂ (idle u₂ (idle u₁ (bare (ty 0) l₀ [])))))))))))))
+        (runs C Λ (env l₀ l₃ l₆ l₁₀ l₁₁ l₁₂ u₁ u₂ u₄ u₅ u₇ u₈ u₉ (given ν τg τr)) (after 7 (code.function .body)) (atRet (env l₀ l₃ l₆ l₁₀ l₁₁ l₁₂ u₁ u₂ u₄ u₅ u₇ u₈ u₉ (given ν τg τr)) Q))
+    store-on l₀ l₃ l₆ l₁₀ l₁₁ l₁₂ u₁ u₂ u₄ u₅ u₇ u₈ u₉ ν τg τr g x X Q r n fits is room₂ end =
+        -- [the ledger's borrow; [κ₁]; [κ₀]; the slice; [κ₂]; _12; …; _0; …]
+        assigns ! (addr ! (from ! (fld ! refl (hop ! (look-in ! 23 (sub ! 0 refl (whole !))) (stop !))))) (from ! (stop !)) (init ! 7 refl (tt, tt)) $
+        assigns ! (agg ! (and-then ! (load ! (from ! (stop !)) (look ! 7 refl)) (and-then ! (load ! (from ! (fld ! refl (stop !))) (look-in ! 23 (sub ! 1 refl (whole !)))) (no-more !)))) (from ! (stop !)) (init ! 5 refl (tt, (tt, (record { fits = room₂ .0 }, tt)))) $
+        move ! (3 ∷ 4 ∷ []) $ stores ! mem run κ₂ q₂ b₂ o₂ γ₂ ys r x fm known-store room₂ is
+        (λ ν δ. and-then ! (load ! (from ! (stop !)) (look ! 5 refl)) (and-then ! (load ! (from ! (fld ! refl (stop !))) (look-in ! 17 (sub ! 2 refl (whole !)))) (no-more !))) (λ w₃ zs is₃ len e₃.
+        -- [the slice; [κ₂]; the ledger's borrow; [κ₁]; [κ₀]; _12; …; _0; …]
+        land ! (from ! (stop !)) (init ! 9 refl (nothing-lawful 𝓤 H A W .typed tt _ is₃ .0)) $
+        assigns ! (of-opd ! (load ! (from ! (fld ! refl (stop !))) (look-in ! 17 (sub ! 0 refl (whole !))))) (from ! (stop !)) (init ! 29 refl (tt, record { fits = fits })) $ returns ! (look ! 29 refl) $
+        move ! (29 ∷ 30 ∷ 27 ∷ 28 ∷ 25 ∷ 26 ∷ 23 ∷ 24 ∷ 21 ∷ 22 ∷ 19 ∷ 20 ∷ 17 ∷ 18 ∷ 15 ∷ 16 ∷ 13 ∷ 14 ∷ 11 ∷ 12 ∷ 9 ∷ 10 ∷ 7 ∷ 8 ∷ 5 ∷ 6 ∷ []) $ ends4 ! $ ends4 ! $ ends4 ! $ ends1 ! $ free0 ! $
+        keep ! (4 ∷ 3 ∷ 1 ∷ 2 ∷ 0 ∷ []) $ by ! (end zs len e₃))
+
     walk : Room u8 (length os) → Room R.the-row (length ys) → ent 𝓤 (onEntry 𝓤 H A f.signature (κ₀, (κ₁, (κ₂, tt))) (q₀, (q₁, (q₂, tt))) a vals) (WpFn 𝓤 H C Λ code.function (s₀ ∷ vptr b₁ o₁ ∷ s₂ ∷ []) Post)
     walk room₀ room₂ =
         qed W ((‵ (flft κ₀ q₀) ⊛ ‵ (flft κ₁ q₁) ⊛ ‵ (flft κ₂ q₂) ⊛ ‵ ftrue) ∷ ‵ (owns (ShrSlice (named 0) κ₀ u8 ∷ MutRef (named 1) κ₁ T.the-row ∷ MutSlice (named 2) κ₂ R.the-row ∷ []) a vals) ∷ []) ∵
@@ -133,18 +167,8 @@ module _ {M : Type 1} (𝓤 : URA M) (H : Heap 𝓤) (A : Atoms 𝓤) (W : Given
         -- the ledger that came back is stored, and the borrow is closed at it
         assigns ! (of-opd ! (load ! (from ! (fld ! refl (stop !))) (look-in ! 19 (sub ! 1 refl (whole !))))) (from ! (hop ! (look ! 27 refl) (stop !))) (store-raw ! 3 refl (LL.lawful T.the-type T′.the-laws 𝓤 H A W .typed (r₂ .ledger) _ (parts r₂ w₂ is₂ .1 .0) .0)) $
         move ! (3 ∷ 4 ∷ 5 ∷ 6 ∷ []) $ closes-ledger ! tt κ₁ q₁ b₁ o₁ γ₁ h (r₂ .ledger) (parts r₂ w₂ is₂ .1 .0) $
-        -- [the ledger's borrow; [κ₁]; [κ₀]; the slice; [κ₂]; _12; …; _0; …]: the records that came back go to `store`
-        assigns ! (addr ! (from ! (fld ! refl (hop ! (look-in ! 23 (sub ! 0 refl (whole !))) (stop !))))) (from ! (stop !)) (init ! 7 refl (tt, tt)) $
-        assigns ! (agg ! (and-then ! (load ! (from ! (stop !)) (look ! 7 refl)) (and-then ! (load ! (from ! (fld ! refl (stop !))) (look-in ! 23 (sub ! 1 refl (whole !)))) (no-more !)))) (from ! (stop !)) (init ! 5 refl (tt, (tt, (record { fits = room₂ .0 }, tt)))) $
-        move ! (3 ∷ 4 ∷ []) $ stores ! mem run κ₂ q₂ b₂ o₂ γ₂ ys (r₂ .records) (LL.val N.the-type N′.the-laws (r₂ .records)) fm known-store room₂ (parts r₂ w₂ is₂ .1 .1 .0)
-        (λ ν δ. and-then ! (load ! (from ! (stop !)) (look ! 5 refl)) (and-then ! (load ! (from ! (fld ! refl (stop !))) (look-in ! 17 (sub ! 2 refl (whole !)))) (no-more !))) (λ w₃ zs is₃ len e₃.
-        -- [the slice; [κ₂]; the ledger's borrow; [κ₁]; [κ₀]; _12; …; _0; …]
-        land ! (from ! (stop !)) (init ! 9 refl (nothing-lawful 𝓤 H A W .typed tt _ is₃ .0)) $
-        assigns ! (of-opd ! (load ! (from ! (fld ! refl (stop !))) (look-in ! 17 (sub ! 0 refl (whole !))))) (from ! (stop !)) (init ! 29 refl (tt, record { fits = parts r₂ w₂ is₂ .0 .1 })) $ returns ! (look ! 29 refl) $
-        forget ! 5 refl $ forget ! 7 refl $ forget ! 9 refl $ forget ! 11 refl $ forget ! 13 refl $ forget ! 15 refl $ forget ! 17 refl $ forget ! 19 refl $ forget ! 21 refl $ forget ! 23 refl $ forget ! 25 refl $ forget ! 27 refl $ forget ! 29 refl $
-        move ! (29 ∷ 30 ∷ []) $ free1 ! $ move ! (27 ∷ 28 ∷ []) $ free1 ! $ move ! (25 ∷ 26 ∷ []) $ free1 ! $ move ! (23 ∷ 24 ∷ []) $ free1 ! $ move ! (21 ∷ 22 ∷ []) $ free1 ! $ move ! (19 ∷ 20 ∷ []) $ free1 ! $ move ! (17 ∷ 18 ∷ []) $ free1 ! $
-        move ! (15 ∷ 16 ∷ []) $ free1 ! $ move ! (13 ∷ 14 ∷ []) $ free1 ! $ move ! (11 ∷ 12 ∷ []) $ free1 ! $ move ! (9 ∷ 10 ∷ []) $ free1 ! $ move ! (7 ∷ 8 ∷ []) $ free1 ! $ move ! (5 ∷ 6 ∷ []) $ free1 ! $ free0 ! $
-        keep ! (4 ∷ 3 ∷ 1 ∷ 2 ∷ 0 ∷ []) $ by ! (exits (r₂ .refusal) (r₂ .ledger) zs (parts r₂ w₂ is₂ .0 .1) (read-lent (readFile os) h ys e₁ e₂ refl e₃ refl) len)))))))))))))))))))))
+        store-on l₀ l₃ l₆ l₁₀ l₁₁ l₁₂ (_, l₁, _) (_, l₂, _) (_, l₄, _) (_, l₅, _) (_, l₇, _) (_, l₈, _) (_, l₉, _) _ _ _ _ _ _ Post (r₂ .records) (r₂ .refusal) (parts r₂ w₂ is₂ .0 .1) (parts r₂ w₂ is₂ .1 .1 .0) room₂
+        (λ zs len e₃. exits (r₂ .refusal) (r₂ .ledger) zs (parts r₂ w₂ is₂ .0 .1) (read-lent (readFile os) h ys e₁ e₂ refl e₃ refl) len))))))))))))))))))))
 
 module _ {M : Type 1} (𝓤 : URA M) (H : Heap 𝓤) (A : Atoms 𝓤) (W : Given 𝓤 H A) (mem : Memory → SProp 𝓤) (run : Routine → Fun 𝓤) where
   walks : (C : Calls 𝓤 H) (Λ : Loops 𝓤 H) → FmC 𝓤 H (W .laws) C → Triple 𝓤 (C #lent·load) (Load 𝓤 H A mem run) → Triple 𝓤 (C #records·read) (Read 𝓤 H A mem run) → Triple 𝓤 (C #lent·store) (Store 𝓤 H A mem run)

@@ -1,7 +1,10 @@
 -- `lent::serve` meets its contract: a walk of its MIR, by hand. The ledger's borrow is opened, the ledger copied out, and the borrow closed as it was; `load` gives the records of the slice by value; `records::serve` gets both with the datagram and the reply buffer.
 -- The memory that came back is stored in the ledger, whose borrow then goes to `advance` with the clock that came back, and the slice to `store` with the records that came back. Of each callee the proof knows only that it meets its contract.
 -- The reply buffer and the ledger are passed on at their own lifetimes, shares and ghost names, so what the callees say of their last values is said of these (`gave-slice`, `gave-ref`). Nothing is kept of the `&` of the datagram.
-use Rattle.lent.proofs.Walk.{stands, _≡_, refl, ap, ℕ, _<_, _^_, [], _∷_, List, length, URA, fullShare, named, w32, w64, Val, vint, vptr, SProp, ent, emp, via, fst∗, id⊢, Lft, Share, GName, Fml, ftrue, flft, fres, fat, Memory, Routine, Heap, Calls, Loops, WpFn, Atoms, Fun, fact, givenOf, tables, tablesOf, Given, ‵, raw, _⊛_, some, later, ⋆, _$_, _∵_, !, qed, by, move, keep, drop, use1, group, split, join, pick, rewrite, fsplit, fjoin, feqL, suffices, frame, await, done, look, look-raw, init, store, forget, stop, hop, fld, from, load, of-opd, addr, and-then, no-more, assigns, land, returns, enter, alloc1, alloc0, params1, pass1, pass0, free1, free0, whole, sub, look-in, store-in, agg, FmC, owns, Is, shows, cellAt, uint-makes, uint-vals, uint-tells, nothing-lawful, usize, u8, u32, RefT, MutRef, ptr-vals, mut-tells, slice-vals, shr-slice-tells, mut-slice-tells, MutSlice, ShrSlice, Room, finally, only, owned, peeks, heard, nothing, plain, shrSliceOf, Contract, Triple, calls-at, onEntry, tripleOf, cited, says, Stays, stay-dropped, stay-slice, gave-ref, gave-slice, walkOf, AllGo, goes-dropped, goes-slice, goes-gave-ref, goes-gave-slice, Walks, ends-at, walked, ensured, lasts, yes}
+-- The walk has two parts: `keep-on` begins where `records::serve` has given back its answer.
+use Rattle.lent.proofs.Walk.{stands, tyOf, after, holds, bare, Idle, spot, idle, ends4, Go, Seq, Item, Ty, runs, atRet, _≡_, refl, ap, ℕ, _<_, _^_, [], _∷_, List, length, URA, fullShare, named, w32, w64, Val, vint, vptr, SProp, ent, emp, via, fst∗, id⊢, Lft, Share, GName, Fml, ftrue, flft, fres, fat, Memory, Routine, Heap, Calls, Loops, WpFn, Atoms, Fun, fact, givenOf, tables, tablesOf, Given, ‵, raw, _⊛_, some, later, ⋆, _$_, _∵_, !, qed, by, move, keep, drop, use1, group, split, join, pick, rewrite, fsplit, fjoin, feqL, suffices, frame, await, done, look, look-raw, init, store, stop, hop, fld, from, load, of-opd, addr, and-then, no-more, assigns, land, returns, enter, alloc1, alloc0, params1, pass1, pass0, free0, whole, sub, look-in, agg, FmC, owns, Is, shows, uint-makes, uint-vals, uint-tells, nothing-lawful, usize, u8, u32, RefT, MutRef, ptr-vals, mut-tells, slice-vals, shr-slice-tells, mut-slice-tells, MutSlice, ShrSlice, Room, finally, only, owned, peeks, heard, nothing, plain, shrSliceOf, Contract, Triple, calls-at, onEntry, tripleOf, cited, says, Stays, stay-dropped, stay-slice, gave-ref, gave-slice, walkOf, AllGo, goes-dropped, goes-slice, goes-gave-ref, goes-gave-slice, Walks, ends-at, walked, ensured, lasts, yes}
+use mir.Syntax.{Sym, tyStruct, tcons, tnil}
+use mir.Val.{vstruct, vcons, vnil}
 use denote.Struct.Laws as LL
 use Rattle.state.specs.declared.Lease.{Lease}
 use Rattle.state.specs.declared.Ledger.{Ledger}
@@ -9,6 +12,8 @@ use Rattle.server.specs.Serve.{Call}
 use Rattle.server.specs.declared.Outcome.{Outcome}
 use Rattle.records.specs.declared.Records.{Records}
 use Rattle.records.specs.declared.ServedRecords.{ServedRecords}
+use Rattle.state.specs.Book.{raisedIn}
+use Rattle.records.specs.Records.{covered}
 use Rattle.records.specs.Lent.{serveWith, serveLent, ServesRecords, ServesLent}
 use Rattle.records.specs.laws.Lent.{served-lent}
 use Rattle.state.proofs.Lease as R
@@ -27,7 +32,7 @@ use Rattle.records.proofs.serve.Symbol as serve-def
 use Rattle.records.proofs.serve.Symbol.{name as #records·serve}
 use Rattle.records.proofs.serve.Met as serve-thm
 use Rattle.lent.proofs.Slices.{Load, Store, Mut, ref, word, loads, stores}
-use Rattle.lent.proofs.Ledgers.{Advance, ref-ledger, word-ledger, opens-ledger, closes-ledger, advances}
+use Rattle.lent.proofs.Ledgers.{Advance, Held, ref-ledger, word-ledger, with-memory, opens-ledger, closes-ledger, stores-memory, advances}
 use Rattle.lent.proofs.advance.Symbol as advance-def
 use Rattle.lent.proofs.advance.Symbol.{name as #lent·advance}
 use Rattle.lent.proofs.advance.Met as advance-thm
@@ -41,6 +46,17 @@ use Rattle.lent.proofs.serve.Key.{name as #lent·serve}
 use Rattle.lent.proofs.serve as f
 use Rattle.lent.proofs.serve.Statement as stated
 use Rattle.lent.proofs.serve.Code as code
+
+abbrev ty : ℕ → Ty
+ty n = tyOf (code.function .locals) n
+
+-- the type of what `records::serve` gives back, of an outcome, a clock, a memory and records; and the locals
+abbrev given : Sym → Ty → Ty → Ty → Ty
+given ν c m r = tyStruct ν (tcons (ty 0) (tcons c (tcons m (tcons r tnil))))
+
+abbrev env : ℕ → ℕ → ℕ → ℕ → ℕ → ℕ → ℕ → ℕ → Idle → Idle → Idle → Idle → Idle → Idle → Idle → Idle → Idle → Idle → Idle → Idle → Ty → List (Ty × ℕ)
+env l₀ l₄ l₅ l₁₀ l₁₆ l₁₇ l₁₈ l₁₉ u₁ u₂ u₃ u₆ u₇ u₈ u₉ u₁₁ u₁₂ u₁₃ u₁₄ u₁₅ τ =
+    (ty 0, l₀) ∷ spot u₁ ∷ spot u₂ ∷ spot u₃ ∷ (ty 4, l₄) ∷ (ty 5, l₅) ∷ spot u₆ ∷ spot u₇ ∷ spot u₈ ∷ spot u₉ ∷ (τ, l₁₀) ∷ spot u₁₁ ∷ spot u₁₂ ∷ spot u₁₃ ∷ spot u₁₄ ∷ spot u₁₅ ∷ (ty 16, l₁₆) ∷ (ty 17, l₁₇) ∷ (ty 18, l₁₈) ∷ (ty 19, l₁₉) ∷ []
 
 abbrev stayed : Stays (f.ended .signature .params) (f.ended .kept)
 stayed = (
@@ -148,15 +164,37 @@ module _ {M : Type 1} (𝓤 : URA M) (H : Heap 𝓤) (A : Atoms 𝓤) (W : Given
   parts : (r : ServedRecords) (w : Val) → Is Z.the-row r (w ∷ []) → Parts r
   parts r w is = LL.owed Z.the-type Z′.the-laws r (w ∷ []) is
 
-  -- the ledger with the memory that came back
-  abbrev with-memory : ServedRecords → Ledger
-  with-memory r = record { state = h .state; memory = r .memory }
-
-  made : (r : ServedRecords) → Is T.the-row h (word-ledger h ∷ []) → Is Y.the-row (r .memory) (LL.vals Y.the-type Y′.the-laws (r .memory)) → Is T.the-row (with-memory r) (word-ledger (with-memory r) ∷ [])
-  made r was is = LL.owes T.the-type T′.the-laws (with-memory r) (LL.owed T.the-type T′.the-laws h (word-ledger h ∷ []) was .0, (is, tt))
-
   module _ (C : Calls 𝓤 H) (Λ : Loops 𝓤 H) (fm : FmC 𝓤 H (W .laws) C) (known-load : Triple 𝓤 (C #lent·load) (Load 𝓤 H A mem run)) (known-serve : Triple 𝓤 (C #records·serve) (Serve 𝓤 H A mem run))
       (known-advance : Triple 𝓤 (C #lent·advance) (Advance 𝓤 H A mem run)) (known-store : Triple 𝓤 (C #lent·store) (Store 𝓤 H A mem run)) where
+    -- once `records::serve` has given back z: its memory is stored in the ledger, whose borrow goes to `advance`, its records go to `store`, and its outcome is handed on whole. X says the last octets of the reply buffer, and Q is what the function has
+    -- to end in
+    keep-on : (l₀ l₄ l₅ l₁₀ l₁₆ l₁₇ l₁₈ l₁₉ : ℕ) (u₁ u₂ u₃ u₆ u₇ u₈ u₉ u₁₁ u₁₂ u₁₃ u₁₄ u₁₅ : Idle) (ν : Sym) (τc τm τr : Ty) (x : Val) (X : Item 𝓤) (Q : Val → SProp 𝓤) (z : ServedRecords)
+        → Is O.the-row (z .outcome) (LL.vals O.the-type O′.the-laws (z .outcome)) → z .clock < 2 ^ 32 → Is Y.the-row (z .memory) (LL.vals Y.the-type Y′.the-laws (z .memory)) → Is N.the-row (z .records) (x ∷ []) → Room R.the-row (length ys)
+        → ((h′ : Ledger) (zs : List Lease) → h′ ≡ raisedIn (with-memory h (z .memory)) (z .clock) → length zs ≡ length ys → zs ≡ covered ys (z .records .leases)
+        → ent 𝓤 (⋆ 𝓤 H A (‵ (flft κ₀ q₀) ∷ ‵ (flft κ₁ q₁) ∷ ‵ (flft κ₂ q₂) ∷ ‵ (flft κ₃ q₃) ∷ ‵ (flft κ₄ q₄) ∷ ‵ (fres γ₁ (T.the-row .coded .code h′)) ∷ ‵ (Mut κ₂ b₂ o₂ γ₂ (length ys) zs) ∷ X ∷ [])) (Q (LL.val O.the-type O′.the-laws (z .outcome))))
+        → Seq (Go {0}) W (‵ (flft κ₄ q₄) ∷ ‵ (flft κ₀ q₀) ∷ ‵ (flft κ₃ q₃) ∷ X ∷ ‵ (Mut κ₂ b₂ o₂ γ₂ (length ys) ys) ∷ ‵ (flft κ₂ q₂) ∷ ‵ (Held κ₁ b₁ o₁ γ₁ h) ∷ ‵ (flft κ₁ q₁)
+        ∷ bare (ty 19) l₁₉ (bare (ty 18) l₁₈ (bare (ty 17) l₁₇ (bare (ty 16) l₁₆ (idle u₁₅ (idle u₁₄ (idle u₁₃ (idle u₁₂ (idle u₁₁ (holds (given ν τc τm τr) l₁₀ (vstruct (vcons (LL.val O.the-type O′.the-laws (z .outcome)) (vcons (vint w32 (z .clock)) (vcons (LL.val Y.the-type Y′.the-laws (z .memory)) (vcons x vnil)))))
+        (idle u₉ (idle u₈ (idle u₇ (idle u₆ (holds (ty 5) l₅ s₂ (holds (ty 4) l₄ (vptr b₁ o₁) (idle u₃ (idle u₂ (idle u₁ (bare (ty 0) l₀ []))))))))))))))))))))
+        (runs C Λ (env l₀ l₄ l₅ l₁₀ l₁₆ l₁₇ l₁₈ l₁₉ u₁ u₂ u₃ u₆ u₇ u₈ u₉ u₁₁ u₁₂ u₁₃ u₁₄ u₁₅ (given ν τc τm τr)) (after 8 (code.function .body)) (atRet (env l₀ l₄ l₅ l₁₀ l₁₆ l₁₇ l₁₈ l₁₉ u₁ u₂ u₃ u₆ u₇ u₈ u₉ u₁₁ u₁₂ u₁₃ u₁₄ u₁₅ (given ν τc τm τr)) Q))
+    keep-on l₀ l₄ l₅ l₁₀ l₁₆ l₁₇ l₁₈ l₁₉ u₁ u₂ u₃ u₆ u₇ u₈ u₉ u₁₁ u₁₂ u₁₃ u₁₄ u₁₅ ν τc τm τr x X Q z is-o fits is-m is-r room₂ end =
+        -- [[κ₄]; [κ₀]; [κ₃]; the last octets; the slice; [κ₂]; the ledger's borrow; [κ₁]; _19; …; _0; …]
+        move ! (6 ∷ 7 ∷ []) $ stores-memory ! κ₁ q₁ b₁ o₁ γ₁ h (z .memory) is-m (look ! 40 refl) (load ! (from ! (fld ! refl (stop !))) (look-in ! 28 (sub ! 2 refl (whole !)))) $
+        -- [the ledger's borrow; [κ₁]; [κ₄]; [κ₀]; [κ₃]; the last octets; the slice; [κ₂]; _19; …; _0; …]: it goes to `advance` with the clock that came back
+        assigns ! (addr ! (from ! (hop ! (look ! 38 refl) (stop !)))) (from ! (stop !)) (init ! 12 refl (tt, tt)) $
+        advances ! mem run κ₁ q₁ b₁ o₁ γ₁ (with-memory h (z .memory)) (z .clock) fits fm known-advance (and-then ! (load ! (from ! (stop !)) (look ! 11 refl)) (and-then ! (load ! (from ! (fld ! refl (stop !))) (look-in ! 25 (sub ! 1 refl (whole !)))) (no-more !))) (λ w₃ h′ is₃ e₃.
+        -- [what says the last ledger; [κ₁]; [κ₄]; [κ₀]; [κ₃]; the last octets; the slice; [κ₂]; _19; …; _0; …]
+        land ! (from ! (stop !)) (init ! 14 refl (nothing-lawful 𝓤 H A W .typed tt _ is₃ .0)) $
+        -- the slice goes to `store` with the records that came back
+        assigns ! (addr ! (from ! (fld ! refl (hop ! (look-in ! 36 (sub ! 0 refl (whole !))) (stop !))))) (from ! (stop !)) (init ! 10 refl (tt, tt)) $
+        assigns ! (agg ! (and-then ! (load ! (from ! (stop !)) (look ! 10 refl)) (and-then ! (load ! (from ! (fld ! refl (stop !))) (look-in ! 36 (sub ! 1 refl (whole !)))) (no-more !)))) (from ! (stop !)) (init ! 8 refl (tt, (tt, (record { fits = room₂ .0 }, tt)))) $
+        move ! (6 ∷ 7 ∷ []) $ stores ! mem run κ₂ q₂ b₂ o₂ γ₂ ys (z .records) x fm known-store room₂ is-r
+        (λ ν δ. and-then ! (load ! (from ! (stop !)) (look ! 8 refl)) (and-then ! (load ! (from ! (fld ! refl (stop !))) (look-in ! 26 (sub ! 3 refl (whole !)))) (no-more !))) (λ w₄ zs is₄ len e₄.
+        -- [the slice; [κ₂]; what says the last ledger; [κ₁]; [κ₄]; [κ₀]; [κ₃]; the last octets; _19; …; _0; …]: the outcome is handed on whole
+        land ! (from ! (stop !)) (store ! 14 refl (nothing-lawful 𝓤 H A W .typed tt _ is₄ .0)) $
+        assigns ! (of-opd ! (load ! (from ! (fld ! refl (stop !))) (look-in ! 26 (sub ! 0 refl (whole !))))) (from ! (stop !)) (init ! 46 refl (LL.lawful O.the-type O′.the-laws 𝓤 H A W .typed (z .outcome) _ is-o .0)) $ returns ! (look ! 46 refl) $
+        move ! (46 ∷ 47 ∷ 44 ∷ 45 ∷ 42 ∷ 43 ∷ 40 ∷ 41 ∷ 38 ∷ 39 ∷ 36 ∷ 37 ∷ 34 ∷ 35 ∷ 32 ∷ 33 ∷ 30 ∷ 31 ∷ 28 ∷ 29 ∷ 26 ∷ 27 ∷ 24 ∷ 25 ∷ 22 ∷ 23 ∷ 20 ∷ 21 ∷ 18 ∷ 19 ∷ 16 ∷ 17 ∷ 14 ∷ 15 ∷ 12 ∷ 13 ∷ 10 ∷ 11 ∷ 8 ∷ 9 ∷ []) $ ends4 ! $ ends4 ! $ ends4 ! $ ends4 ! $ ends4 ! $ free0 ! $
+        keep ! (5 ∷ 3 ∷ 1 ∷ 6 ∷ 4 ∷ 2 ∷ 0 ∷ 7 ∷ []) $ by ! (end h′ zs e₃ len e₄)))
+
     walk : Room u8 (length os) → Room R.the-row (length ys) → Room u8 (length names) → Room u8 (length ns)
         → ent 𝓤 (onEntry 𝓤 H A f.signature (κ₀, (κ₁, (κ₂, (κ₃, (κ₄, tt))))) (q₀, (q₁, (q₂, (q₃, (q₄, tt))))) a vals) (WpFn 𝓤 H C Λ code.function (s₀ ∷ vint w32 m ∷ vint w32 n ∷ vptr b₁ o₁ ∷ s₂ ∷ s₃ ∷ s₄ ∷ []) Post)
     walk room₀ room₂ room₃ room₄ =
@@ -196,32 +234,8 @@ module _ {M : Type 1} (𝓤 : URA M) (H : Heap 𝓤) (A : Atoms 𝓤) (W : Given
         -- [[κ₄]; [κ₀]; [κ₃]; the last octets; the slice; [κ₂]; the ledger's borrow; [κ₁]; _19; …; _0; …]
         land ! (from ! (stop !)) (init ! 26 refl (LL.lawful Z.the-type Z′.the-laws 𝓤 H A W .typed r₂ _ is₂ .0)) $
         rewrite ! 26 (λ (u : Val). ‵ (fat fullShare Z′.mir l₁₀ 0 u)) (ap only (LL.tells Z.the-type Z′.the-laws r₂ _ is₂)) refl $
-        -- the memory that came back is stored in the ledger
-        move ! (6 ∷ 7 ∷ []) $ opens-ledger ! tt κ₁ q₁ b₁ o₁ γ₁ h (λ is-h₂.
-        -- [the ledger's cell; the open borrow; obs; auth; [κ₄]; [κ₀]; [κ₃]; the last octets; the slice; [κ₂]; _19; …; _0; …]: the cell is at its type's raw form, in which a field that is a struct has no name
-        use1 W (‵ (fat fullShare T′.mir b₁ o₁ (word-ledger h))) (W .laws .raw-at fullShare T′.mir b₁ o₁ (word-ledger h)) $
-        assigns ! (of-opd ! (load ! (from ! (fld ! refl (stop !))) (look-in ! 28 (sub ! 2 refl (whole !))))) (from ! (hop ! (look ! 40 refl) (fld ! refl (stop !)))) (store-in ! 0 (sub ! 1 refl (whole !)) (LL.lawful Y.the-type Y′.the-laws 𝓤 H A W .typed (r₂ .memory) _ (parts r₂ w₂ is₂ .1 .1 .0) .0)) $
-        use1 W (‵ (cellAt fullShare (T.the-row .mir) (word-ledger (with-memory r₂) ∷ []) b₁ o₁)) (W .laws .at-raw fullShare T′.mir b₁ o₁ (word-ledger (with-memory r₂))) $
-        closes-ledger ! tt κ₁ q₁ b₁ o₁ γ₁ h (with-memory r₂) (made r₂ is-h₂ (parts r₂ w₂ is₂ .1 .1 .0)) $
-        -- [the ledger's borrow; [κ₁]; [κ₄]; [κ₀]; [κ₃]; the last octets; the slice; [κ₂]; _19; …; _0; …]: it goes to `advance` with the clock that came back
-        assigns ! (addr ! (from ! (hop ! (look ! 38 refl) (stop !)))) (from ! (stop !)) (init ! 12 refl (tt, tt)) $
-        advances ! mem run κ₁ q₁ b₁ o₁ γ₁ (with-memory r₂) (r₂ .clock) (parts r₂ w₂ is₂ .1 .0 .1) fm known-advance (and-then ! (load ! (from ! (stop !)) (look ! 11 refl)) (and-then ! (load ! (from ! (fld ! refl (stop !))) (look-in ! 25 (sub ! 1 refl (whole !)))) (no-more !))) (λ w₃ h′ is₃ e₃.
-        -- [what says the last ledger; [κ₁]; [κ₄]; [κ₀]; [κ₃]; the last octets; the slice; [κ₂]; _19; …; _0; …]
-        land ! (from ! (stop !)) (init ! 14 refl (nothing-lawful 𝓤 H A W .typed tt _ is₃ .0)) $
-        -- the slice goes to `store` with the records that came back
-        assigns ! (addr ! (from ! (fld ! refl (hop ! (look-in ! 36 (sub ! 0 refl (whole !))) (stop !))))) (from ! (stop !)) (init ! 10 refl (tt, tt)) $
-        assigns ! (agg ! (and-then ! (load ! (from ! (stop !)) (look ! 10 refl)) (and-then ! (load ! (from ! (fld ! refl (stop !))) (look-in ! 36 (sub ! 1 refl (whole !)))) (no-more !)))) (from ! (stop !)) (init ! 8 refl (tt, (tt, (record { fits = room₂ .0 }, tt)))) $
-        move ! (6 ∷ 7 ∷ []) $ stores ! mem run κ₂ q₂ b₂ o₂ γ₂ ys (r₂ .records) (LL.val N.the-type N′.the-laws (r₂ .records)) fm known-store room₂ (parts r₂ w₂ is₂ .1 .1 .1 .0)
-        (λ ν δ. and-then ! (load ! (from ! (stop !)) (look ! 8 refl)) (and-then ! (load ! (from ! (fld ! refl (stop !))) (look-in ! 26 (sub ! 3 refl (whole !)))) (no-more !))) (λ w₄ zs is₄ len e₄.
-        -- [the slice; [κ₂]; what says the last ledger; [κ₁]; [κ₄]; [κ₀]; [κ₃]; the last octets; _19; …; _0; …]: the outcome is handed on whole
-        land ! (from ! (stop !)) (store ! 14 refl (nothing-lawful 𝓤 H A W .typed tt _ is₄ .0)) $
-        assigns ! (of-opd ! (load ! (from ! (fld ! refl (stop !))) (look-in ! 26 (sub ! 0 refl (whole !))))) (from ! (stop !)) (init ! 46 refl (LL.lawful O.the-type O′.the-laws 𝓤 H A W .typed (r₂ .outcome) _ (parts r₂ w₂ is₂ .0) .0)) $ returns ! (look ! 46 refl) $
-        forget ! 8 refl $ forget ! 10 refl $ forget ! 12 refl $ forget ! 14 refl $ forget ! 16 refl $ forget ! 18 refl $ forget ! 20 refl $ forget ! 22 refl $ forget ! 24 refl $ forget ! 26 refl $ forget ! 28 refl $ forget ! 30 refl $
-        forget ! 32 refl $ forget ! 34 refl $ forget ! 36 refl $ forget ! 38 refl $ forget ! 40 refl $ forget ! 42 refl $ forget ! 44 refl $ forget ! 46 refl $
-        move ! (46 ∷ 47 ∷ []) $ free1 ! $ move ! (44 ∷ 45 ∷ []) $ free1 ! $ move ! (42 ∷ 43 ∷ []) $ free1 ! $ move ! (40 ∷ 41 ∷ []) $ free1 ! $ move ! (38 ∷ 39 ∷ []) $ free1 ! $ move ! (36 ∷ 37 ∷ []) $ free1 ! $ move ! (34 ∷ 35 ∷ []) $ free1 ! $
-        move ! (32 ∷ 33 ∷ []) $ free1 ! $ move ! (30 ∷ 31 ∷ []) $ free1 ! $ move ! (28 ∷ 29 ∷ []) $ free1 ! $ move ! (26 ∷ 27 ∷ []) $ free1 ! $ move ! (24 ∷ 25 ∷ []) $ free1 ! $ move ! (22 ∷ 23 ∷ []) $ free1 ! $ move ! (20 ∷ 21 ∷ []) $ free1 ! $
-        move ! (18 ∷ 19 ∷ []) $ free1 ! $ move ! (16 ∷ 17 ∷ []) $ free1 ! $ move ! (14 ∷ 15 ∷ []) $ free1 ! $ move ! (12 ∷ 13 ∷ []) $ free1 ! $ move ! (10 ∷ 11 ∷ []) $ free1 ! $ move ! (8 ∷ 9 ∷ []) $ free1 ! $ free0 ! $
-        keep ! (5 ∷ 3 ∷ 1 ∷ 6 ∷ 4 ∷ 2 ∷ 0 ∷ 7 ∷ []) $ by ! (exits (r₂ .outcome) h′ zs (us .1 .1 .1 .1 .1 .1 .1 .0) (parts r₂ w₂ is₂ .0) (served-lent h ys names c e₁ e₂ e₃ e₄ refl) len len₂))))))))))))))))))))))))))))))))
+        keep-on l₀ l₄ l₅ l₁₀ l₁₆ l₁₇ l₁₈ l₁₉ (_, l₁, _) (_, l₂, _) (_, l₃, _) (_, l₆, _) (_, l₇, _) (_, l₈, _) (_, l₉, _) (_, l₁₁, _) (_, l₁₂, _) (_, l₁₃, _) (_, l₁₄, _) (_, l₁₅, _) _ _ _ _ _ _ Post r₂ (parts r₂ w₂ is₂ .0) (parts r₂ w₂ is₂ .1 .0 .1) (parts r₂ w₂ is₂ .1 .1 .0) (parts r₂ w₂ is₂ .1 .1 .1 .0) room₂
+        (λ h′ zs e₃ len e₄. exits (r₂ .outcome) h′ zs (us .1 .1 .1 .1 .1 .1 .1 .0) (parts r₂ w₂ is₂ .0) (served-lent h ys names c e₁ e₂ e₃ e₄ refl) len len₂)))))))))))))))))))))))))))))
 
 module _ {M : Type 1} (𝓤 : URA M) (H : Heap 𝓤) (A : Atoms 𝓤) (W : Given 𝓤 H A) (mem : Memory → SProp 𝓤) (run : Routine → Fun 𝓤) where
   walks : (C : Calls 𝓤 H) (Λ : Loops 𝓤 H) → FmC 𝓤 H (W .laws) C → Triple 𝓤 (C #lent·load) (Load 𝓤 H A mem run) → Triple 𝓤 (C #records·serve) (Serve 𝓤 H A mem run) → Triple 𝓤 (C #lent·advance) (Advance 𝓤 H A mem run) → Triple 𝓤 (C #lent·store) (Store 𝓤 H A mem run)

@@ -17,6 +17,12 @@ pub map-back : {A B : Type 0} (f : A → B) (g : B → A) → ((x : A) → g (f 
 map-back f g h [] = refl
 map-back {A} {B} f g h (x ∷ l) = ap₂ {C = List A} (λ (y : A) (r : List A). y ∷ r) (h x) (map-back f g h l)
 
+-- the image of the element at a place
+pub map-at : {A B : Type 0} (f : A → B) (l : List A) (i : ℕ) (d : A) (e : B) → i < length l → getD (map f l) i e ≡ f (getD l i d)
+map-at f [] i d e h = absurd (omega arith)
+map-at f (x ∷ l) zero d e h = refl
+map-at f (x ∷ l) (suc i) d e h = map-at f l i d e (omega arith)
+
 pub map-set : {A B : Type 0} (f : A → B) (l : List A) (i : ℕ) (x : A) → set (map f l) i (f x) ≡ map f (set l i x)
 map-set f [] i x = refl
 map-set f (y ∷ l) zero x = refl

@@ -1,14 +1,14 @@
 -- Laws: of the elements that pass a test, and of the numbers of a list.
-use mathlib.Core.Path.{_≡_, refl, sym, ap, _∙_}
+use mathlib.Core.Path.{_≡_, refl, sym, ap, _∙_, subst}
 use mathlib.Core.Bool.{Bool, not, true, false}
 use mathlib.Core.List.{List, [], _∷_, _++_}
 use Prim.Native.Nat.{ℕ, suc, _+_, _≤_, _<_}
 use native.Mathlib.Omega.{arith}
 use lib.ListN.{length}
 use lib.Dec.{eqb}
-use borrow.Author.Tests.{eqb-true}
+use borrow.Author.Tests.{eqb-true, eq-eqb}
 use Rattle.lists.specs.Pick.{pick}
-use Rattle.lists.specs.All.{allBy, pairsBy}
+use Rattle.lists.specs.All.{All, allBy, pairsBy}
 use Rattle.lists.specs.laws.All.{all-head, all-cons, pairs-head, pairs-cons}
 use Rattle.lists.specs.Filter.{filterBy, isIn}
 use Rattle.lists.specs.Place.{placeBy}
@@ -121,3 +121,22 @@ in-append a (z ∷ x) y = go (eqb a z) (in-append a x y)
     go : (c : Bool) → isIn a (x ++ y) ≡ pick (isIn a x) true (isIn a y) → pick c true (isIn a (x ++ y)) ≡ pick (pick c true (isIn a x)) true (isIn a y)
     go true ih = refl
     go false ih = ih
+
+-- what holds of all holds of each number in the list, and the other way round
+pub in-fact : (P : ℕ → Type 0) (l : List ℕ) (a : ℕ) → All P l → isIn a l ≡ true → P a
+unfolding All isIn pick
+in-fact P [] a h e = absurd (let z : _≡_ {A = ℕ} 0 1 = cc in omega arith)
+in-fact P (x ∷ l) a h e = go (eqb a x) refl e (in-fact P l a (h .1))
+  where
+    go : (c : Bool) → eqb a x ≡ c → pick c true (isIn a l) ≡ true → (isIn a l ≡ true → P a) → P a
+    go true q e ih = subst P (sym (eqb-true a x q)) (h .0)
+    go false q e ih = ih e
+
+pub facts-in : (P : ℕ → Type 0) (l : List ℕ) → ((x : ℕ) → isIn x l ≡ true → P x) → All P l
+unfolding All isIn pick
+facts-in P [] f = tt
+facts-in P (x ∷ l) f = (f x (ap (λ (c : Bool). pick c true (isIn x l)) (eq-eqb x x refl)), facts-in P l (λ y e. f y (also y (eqb y x) e)))
+  where
+    also : (y : ℕ) (c : Bool) → isIn y l ≡ true → pick c true (isIn y l) ≡ true
+    also y true e = refl
+    also y false e = e

@@ -1,7 +1,10 @@
 -- `owned::read` meets its contract: a walk of its MIR, by hand. The ledger and the lease records are copied into locals, which are lent as `&mut` to `lent::read`; they come back at the values that it left there,
 -- and the result is put together of these. Of `lent::read` the proof knows only that it meets its contract. Nothing is kept of the `&` of the file, which `lent::read` gets at its own lifetime and share.
-use Rattle.lent.proofs.Walk.{stands, refl, _∙_, ℕ, [], _∷_, List, length, URA, fullShare, named, w8, Val, vint, vptr, SProp, ent, emp, via, fst∗, id⊢, Lft, Share, GName, Fml, ftrue, flft, Memory, Routine, Heap, Calls, Loops, WpFn, Atoms, Fun, fact, givenOf, tables, tablesOf, Given, ‵, raw, _⊛_, some, later, ⋆, _$_, _∵_, !, qed, by, move, keep, drop, group, use1, split, join, pick, rewrite, fsplit, fjoin, feqL, suffices, frame, await, done, look, init, forget, stop, fld, from, load, lit, of-opd, addr, and-then, no-more, assigns, land, returns, enter, alloc1, alloc0, params1, pass1, pass0, free1, free0, whole, sub, look-in, agg, FmC, owns, Is, shows, cellAt, uint-lawful, u8, RefT, sliceVal, slice-vals, shr-slice-tells, ShrSlice, Room, owned, facts, heard, nothing, plain, shrSliceOf, Contract, Triple, calls-at, onEntry, tripleOf, cited, says, Stays, stay-dropped, walkOf, AllGo, goes-dropped, Walks, ends-at, walked, ensured, lasts, yes}
+use Rattle.lent.proofs.Walk.{stands, _≡_, subst, fat, after, bare, Idle, spot, idle, ends1, ends4, Go, Seq, Ty, runs, atRet, refl, _∙_, ℕ, [], _∷_, List, length, URA, fullShare, named, w8, Val, vint, vptr, SProp, ent, emp, via, fst∗, id⊢, Lft, Share, GName, Fml, ftrue, flft, Memory, Routine, Heap, Calls, Loops, WpFn, Atoms, Fun, fact, givenOf, tables, tablesOf, Given, ‵, raw, _⊛_, some, later, ⋆, _$_, _∵_, !, qed, by, move, keep, drop, group, use1, split, join, pick, rewrite, fsplit, fjoin, feqL, suffices, frame, await, done, look, init, stop, fld, from, load, lit, of-opd, addr, and-then, no-more, assigns, land, returns, enter, alloc1, alloc0, params1, pass1, pass0, free0, whole, sub, look-in, agg, FmC, owns, Is, shows, cellAt, uint-lawful, u8, RefT, sliceVal, slice-vals, shr-slice-tells, ShrSlice, Room, owned, facts, heard, nothing, plain, shrSliceOf, Contract, Triple, calls-at, onEntry, tripleOf, cited, says, Stays, stay-dropped, walkOf, AllGo, goes-dropped, Walks, ends-at, walked, ensured, lasts, yes, tyOf, holds, Item, Env, Goal}
+use mir.Syntax.{Sym, tyArray}
 use denote.Struct.Laws as LL
+use Rattle.state.proofs.Lease.Laws as L′
+use Rattle.state.proofs.Ledger.Laws as T′
 use Rattle.state.specs.declared.Lease.{Lease}
 use Rattle.state.specs.declared.Ledger.{Ledger}
 use Rattle.records.specs.Lent.{readLent, ReadsLent}
@@ -15,11 +18,14 @@ use Rattle.owned.proofs.Owned as O
 use Rattle.owned.proofs.Owned.Laws as O′
 use Rattle.owned.proofs.OwnedFile as Z
 use Rattle.owned.proofs.OwnedFile.Laws as Z′
-use Rattle.owned.proofs.Lends.{IsLedger, IsLeases, IsOwned, word-owned, its-ledger, its-records, its-leases, to-records, to-owned, is-records, is-owned, typed-owned, typed-ledger, typed-records, typed-leases, long, room, ref-ledger, ref-leases, word-slice, MutLedger, MutLeases, lends-mut, backs-mut}
+use Rattle.owned.proofs.Lends.{Fits, whole1, whole2, owned-parts, typed-part, typed-whole, word-ledger, word-leases, IsLedger, IsLeases, IsOwned, word-owned, its-ledger, its-leases, to-owned, is-owned, typed-owned, typed-ledger, typed-leases, long, room, ref-ledger, ref-leases, word-slice, MutLedger, MutLeases, lends-mut, backs-mut, own, rec}
 use Rattle.owned.proofs.read.Key.{name as #owned·read}
 use Rattle.owned.proofs.read as f
 use Rattle.owned.proofs.read.Statement as stated
 use Rattle.owned.proofs.read.Code as code
+
+abbrev ty : ℕ → Ty
+ty n = tyOf (code.function .locals) n
 
 abbrev stayed : Stays (f.ended .signature .params) (f.ended .kept)
 stayed = (stay-dropped (shrSliceOf (0 ∷ []) tt (plain (λ _. u8))) yes, (stay-dropped (plain (λ _. O.the-row)) yes, tt))
@@ -75,6 +81,19 @@ module _ {M : Type 1} (𝓤 : URA M) (H : Heap 𝓤) (A : Atoms 𝓤) (W : Given
       nothing ! $ nothing ! $ fjoin ! $ nothing ! $ fjoin ! $
       owned ! Z.the-row (Is Z.the-row) (LL.makes Z.the-type Z′.the-plain 𝓤 H A) (file n h′ zs) _ is $ move ! (1 ∷ 0 ∷ []) $ done !
 
+  -- the same of the result as it is put together
+  abbrev put : ℕ → Ledger → List Lease → Val
+  put n h′ zs = whole2 (vint w8 n) (whole2 (word-ledger h′) (whole1 (word-leases zs)))
+
+  file-parts : (n : ℕ) (h′ : Ledger) (zs : List Lease) → word-file n h′ zs ≡ put n h′ zs
+  file-parts n h′ zs = refl
+
+  typed-file : (n : ℕ) (h′ : Ledger) (zs : List Lease) → Is u8 n (vint w8 n ∷ []) → IsLedger h′ → IsLeases zs → Fits Z′.mir (put n h′ zs)
+  typed-file n h′ zs is-n is-h is-zs = subst (Fits Z′.mir) (file-parts n h′ zs) (LL.lawful Z.the-type Z′.the-laws 𝓤 H A W .typed (file n h′ zs) _ (is-file n h′ zs is-n is-h is-zs) .0)
+
+  exits-file : (n : ℕ) (h′ : Ledger) (zs : List Lease) → Is u8 n (vint w8 n ∷ []) → IsLedger h′ → IsLeases zs → ReadsLent (readLent os h ys) h′ zs n → ent 𝓤 (A .lft κ q) (Post (put n h′ zs))
+  exits-file n h′ zs is-n is-h is-zs e = subst (λ (w : Val). ent 𝓤 (A .lft κ q) (Post w)) (file-parts n h′ zs) (exits n h′ zs (is-file n h′ zs is-n is-h is-zs) e)
+
   -- the call of `lent::read`, with the ledger in the local c lent for ν and the leases in the local d lent for μ
   module _ (ν μ c d : ℕ) (γ₁ γ₂ : GName) where
     abbrev to-args : RefT (List ℕ) × (RefT Ledger × (RefT (List Lease) × Unit {0}))
@@ -96,24 +115,44 @@ module _ {M : Type 1} (𝓤 : URA M) (H : Heap 𝓤) (A : Atoms 𝓤) (W : Given
     Left ws = lasts read′.ended (κ, (ν ∷ [], (μ ∷ [], tt))) to-args ws
 
   module _ (C : Calls 𝓤 H) (Λ : Loops 𝓤 H) (fm : FmC 𝓤 H (W .laws) C) (known : Triple 𝓤 (C #lent·read) (Read 𝓤 H A mem run)) where
-    walk : Room u8 (length os) → IsOwned o → ent 𝓤 (onEntry 𝓤 H A f.signature (κ, tt) (q, tt) a vals) (WpFn 𝓤 H C Λ code.function (s ∷ word-owned o ∷ []) Post)
-    walk fits is =
-        qed W ((‵ (flft κ q) ⊛ ‵ ftrue) ∷ ‵ (owns (ShrSlice (named 0) κ u8 ∷ O.the-row ∷ []) a vals) ∷ []) ∵
-        split ! $ move ! (2 ∷ []) $ fsplit ! $ keep ! (0 ∷ 2 ∷ []) $
-        -- [the file; [κ]]
-        enter ! C Λ code.function (s ∷ word-owned o ∷ []) _ $
-        alloc1 ! (λ l₀. alloc1 ! (λ l₁. alloc1 ! (λ l₂. alloc1 ! (λ l₃. alloc1 ! (λ l₄. alloc1 ! (λ l₅. alloc1 ! (λ l₆. alloc1 ! (λ l₇. alloc1 ! (λ l₈. alloc1 ! (λ l₉. alloc1 ! (λ l₁₀. alloc1 ! (λ l₁₁. alloc1 ! (λ l₁₂. alloc1 ! (λ l₁₃. alloc0 ! $ params1 ! $
-        pass1 ! (init ! 24 refl (tt, (tt, (record { fits = fits .0 }, tt)))) $ pass1 ! (init ! 22 refl (typed-owned 𝓤 H A W o is)) $ pass0 ! $
-        -- [_13; …; _12; …; _11; …; _10; …; _9; …; _8; …; _7; …; _6; …; _5; …; _4; …; _3; …; _2; …; _1; …; room for _0; …; the file; [κ]]: the ledger and the lease records are copied
-        assigns ! (of-opd ! (load ! (from ! (fld ! refl (stop !))) (look-in ! 22 (sub ! 0 refl (whole !))))) (from ! (stop !)) (init ! 20 refl (typed-ledger 𝓤 H A W h (its-ledger o is))) $
-        assigns ! (of-opd ! (load ! (from ! (fld ! refl (stop !))) (look-in ! 22 (sub ! 1 refl (whole !))))) (from ! (stop !)) (init ! 18 refl (typed-records 𝓤 H A W (o .records) (its-records o is))) $
-        assigns ! (of-opd ! (load ! (from ! (fld ! refl (stop !))) (look-in ! 18 (sub ! 0 refl (whole !))))) (from ! (stop !)) (init ! 16 refl (typed-leases 𝓤 H A W ys (its-leases o is))) $
+    -- The parts of the walk. The locals are variables in them, since each step repeats the types of all, spelled out: of u type, place and value, of p type and place
+    -- what is left after n statements, with the locals E, to end in Q
+    abbrev going : ℕ → Env 𝓤 H → (Val → SProp 𝓤) → Goal 𝓤 H
+    going n E Q = runs C Λ E (after n (code.function .body)) (atRet E Q)
+
+    -- once the ledger is back in _3 and the leases in _5: the result is put together of them and of the refusal in _6. Q is what the function has to end in
+    file-on : (u₁ u₂ u₃ u₄ u₅ u₆ u₇ u₈ u₉ : Idle) (p₀ p₁₀ p₁₁ p₁₂ p₁₃ : Ty × ℕ) (Q : Val → SProp 𝓤) → Fits (p₁₀ .0) (u₃ .2) → Fits (p₁₁ .0) (u₅ .2) → Fits (p₁₂ .0) (whole1 (u₅ .2)) → Fits (p₁₃ .0) (whole2 (u₃ .2) (whole1 (u₅ .2)))
+        → Fits (p₀ .0) (whole2 (u₆ .2) (whole2 (u₃ .2) (whole1 (u₅ .2)))) → ent 𝓤 (A .lft κ q) (Q (whole2 (u₆ .2) (whole2 (u₃ .2) (whole1 (u₅ .2)))))
+        → Seq (Go {0}) W (‵ (flft κ q) ∷ bare (p₁₃ .0) (p₁₃ .1) (bare (p₁₂ .0) (p₁₂ .1) (bare (p₁₁ .0) (p₁₁ .1) (bare (p₁₀ .0) (p₁₀ .1) (idle u₉ (idle u₈ (idle u₇ (idle u₆ (idle u₅ (idle u₄ (idle u₃ (idle u₂ (idle u₁ (bare (p₀ .0) (p₀ .1) [])))))))))))))) (going 7 (p₀ ∷ spot u₁ ∷ spot u₂ ∷ spot u₃ ∷ spot u₄ ∷ spot u₅ ∷ spot u₆ ∷ spot u₇ ∷ spot u₈ ∷ spot u₉ ∷ p₁₀ ∷ p₁₁ ∷ p₁₂ ∷ p₁₃ ∷ []) Q)
+    file-on u₁ u₂ u₃ u₄ u₅ u₆ u₇ u₈ u₉ p₀ p₁₀ p₁₁ p₁₂ p₁₃ Q t₁₀ t₁₁ t₁₂ t₁₃ t₀ end =
+        -- [[κ]; _13; …; _0; …]
+        assigns ! (of-opd ! (load ! (from ! (stop !)) (look ! 21 refl))) (from ! (stop !)) (init ! 7 refl t₁₀) $ assigns ! (of-opd ! (load ! (from ! (stop !)) (look ! 17 refl))) (from ! (stop !)) (init ! 5 refl t₁₁) $
+        assigns ! (agg ! (and-then ! (load ! (from ! (stop !)) (look ! 5 refl)) (no-more !))) (from ! (stop !)) (init ! 3 refl t₁₂) $
+        assigns ! (agg ! (and-then ! (load ! (from ! (stop !)) (look ! 7 refl)) (and-then ! (load ! (from ! (stop !)) (look ! 3 refl)) (no-more !)))) (from ! (stop !)) (init ! 1 refl t₁₃) $
+        assigns ! (agg ! (and-then ! (load ! (from ! (stop !)) (look ! 15 refl)) (and-then ! (load ! (from ! (stop !)) (look ! 1 refl)) (no-more !)))) (from ! (stop !)) (init ! 27 refl t₀) $ returns ! (look ! 27 refl) $
+        move ! (27 ∷ 28 ∷ 25 ∷ 26 ∷ 23 ∷ 24 ∷ 21 ∷ 22 ∷ 19 ∷ 20 ∷ 17 ∷ 18 ∷ 15 ∷ 16 ∷ 13 ∷ 14 ∷ 11 ∷ 12 ∷ 9 ∷ 10 ∷ 7 ∷ 8 ∷ 5 ∷ 6 ∷ 3 ∷ 4 ∷ 1 ∷ 2 ∷ []) $ ends4 ! $ ends4 ! $ ends4 ! $ ends1 ! $ ends1 ! $ free0 ! $ by ! end
+
+    -- the ledger g and the lease records x of the `Owned` are copied into locals, and references to them are made. The context after the locals is Γ
+    copies-on : (u₁ : Idle) (p₀ p₃ p₅ p₆ p₇ p₈ p₉ p₁₀ p₁₁ p₁₂ p₁₃ : Ty × ℕ) (l₂ l₄ : ℕ) (ν ν′ : Sym) (τL τA : Ty) (g x : Val) (Γ : List (Item 𝓤)) (Q : Val → SProp 𝓤) → Fits (p₃ .0) g → Fits (rec ν′ τA) (whole1 x) → Fits (p₅ .0) x → Fits (p₇ .0) (vptr (p₃ .1) 0) → Fits (p₈ .0) (vptr (p₅ .1) 0) → Fits (p₉ .0) (word-slice (p₅ .1))
+        → Seq (Go {0}) W (bare (p₁₃ .0) (p₁₃ .1) (bare (p₁₂ .0) (p₁₂ .1) (bare (p₁₁ .0) (p₁₁ .1) (bare (p₁₀ .0) (p₁₀ .1) (holds (p₉ .0) (p₉ .1) (word-slice (p₅ .1)) (holds (p₈ .0) (p₈ .1) (vptr (p₅ .1) 0) (holds (p₇ .0) (p₇ .1) (vptr (p₃ .1) 0) (bare (p₆ .0) (p₆ .1) (holds (p₅ .0) (p₅ .1) x (holds (rec ν′ τA) l₄ (whole1 x) (holds (p₃ .0) (p₃ .1) g (holds (own ν ν′ τL τA) l₂ (whole2 g (whole1 x)) (idle u₁ (bare (p₀ .0) (p₀ .1) Γ)))))))))))))) (going 6 (p₀ ∷ spot u₁ ∷ (own ν ν′ τL τA, l₂) ∷ p₃ ∷ (rec ν′ τA, l₄) ∷ p₅ ∷ p₆ ∷ p₇ ∷ p₈ ∷ p₉ ∷ p₁₀ ∷ p₁₁ ∷ p₁₂ ∷ p₁₃ ∷ []) Q)
+        → Seq (Go {0}) W (bare (p₁₃ .0) (p₁₃ .1) (bare (p₁₂ .0) (p₁₂ .1) (bare (p₁₁ .0) (p₁₁ .1) (bare (p₁₀ .0) (p₁₀ .1) (bare (p₉ .0) (p₉ .1) (bare (p₈ .0) (p₈ .1) (bare (p₇ .0) (p₇ .1) (bare (p₆ .0) (p₆ .1) (bare (p₅ .0) (p₅ .1) (bare (rec ν′ τA) l₄ (bare (p₃ .0) (p₃ .1) (holds (own ν ν′ τL τA) l₂ (whole2 g (whole1 x)) (idle u₁ (bare (p₀ .0) (p₀ .1) Γ)))))))))))))) (going 0 (p₀ ∷ spot u₁ ∷ (own ν ν′ τL τA, l₂) ∷ p₃ ∷ (rec ν′ τA, l₄) ∷ p₅ ∷ p₆ ∷ p₇ ∷ p₈ ∷ p₉ ∷ p₁₀ ∷ p₁₁ ∷ p₁₂ ∷ p₁₃ ∷ []) Q)
+    copies-on u₁ p₀ p₃ p₅ p₆ p₇ p₈ p₉ p₁₀ p₁₁ p₁₂ p₁₃ l₂ l₄ ν ν′ τL τA g x Γ Q tl tr ta tp tq ts then =
+        -- [_13; …; _0; …; Γ]
+        assigns ! (of-opd ! (load ! (from ! (fld ! refl (stop !))) (look-in ! 22 (sub ! 0 refl (whole !))))) (from ! (stop !)) (init ! 20 refl tl) $ assigns ! (of-opd ! (load ! (from ! (fld ! refl (stop !))) (look-in ! 22 (sub ! 1 refl (whole !))))) (from ! (stop !)) (init ! 18 refl tr) $
+        assigns ! (of-opd ! (load ! (from ! (fld ! refl (stop !))) (look-in ! 18 (sub ! 0 refl (whole !))))) (from ! (stop !)) (init ! 16 refl ta) $
         -- the references
-        assigns ! (addr ! (from ! (stop !))) (from ! (stop !)) (init ! 12 refl (tt, tt)) $
-        assigns ! (addr ! (from ! (stop !))) (from ! (stop !)) (init ! 10 refl (tt, tt)) $
-        assigns ! (agg ! (and-then ! (load ! (from ! (stop !)) (look ! 10 refl)) (and-then ! (lit ! tt) (no-more !)))) (from ! (stop !)) (init ! 8 refl (tt, (tt, (record { fits = room .0 }, tt)))) $
+        assigns ! (addr ! (from ! (stop !))) (from ! (stop !)) (init ! 12 refl tp) $ assigns ! (addr ! (from ! (stop !))) (from ! (stop !)) (init ! 10 refl tq) $
+        assigns ! (agg ! (and-then ! (load ! (from ! (stop !)) (look ! 10 refl)) (and-then ! (lit ! tt) (no-more !)))) (from ! (stop !)) (init ! 8 refl ts) $
+        then
+
+    -- the two locals are lent for the call, and come back
+    lend-on : (u₂ u₄ u₈ : Idle) (p₀ p₁ p₇ p₉ p₁₀ p₁₁ p₁₂ p₁₃ : Ty × ℕ) (l₃ l₅ l₆ : ℕ) (Q : Val → SProp 𝓤) → IsLedger h → IsLeases ys → ((h′ : Ledger) → IsLedger h′ → Fits (p₁₀ .0) (word-ledger h′)) → ((zs : List Lease) → IsLeases zs → Fits (p₁₁ .0) (word-leases zs)) → ((zs : List Lease) → IsLeases zs → Fits (p₁₂ .0) (whole1 (word-leases zs)))
+        → ((h′ : Ledger) (zs : List Lease) → IsLedger h′ → IsLeases zs → Fits (p₁₃ .0) (whole2 (word-ledger h′) (whole1 (word-leases zs)))) → ((n : ℕ) (h′ : Ledger) (zs : List Lease) → Is u8 n (vint w8 n ∷ []) → IsLedger h′ → IsLeases zs → Fits (p₀ .0) (put n h′ zs))
+        → ((n : ℕ) (h′ : Ledger) (zs : List Lease) → Is u8 n (vint w8 n ∷ []) → IsLedger h′ → IsLeases zs → ReadsLent (readLent os h ys) h′ zs n → ent 𝓤 (A .lft κ q) (Q (put n h′ zs)))
+        → Seq (Go {0}) W (bare (p₁₃ .0) (p₁₃ .1) (bare (p₁₂ .0) (p₁₂ .1) (bare (p₁₁ .0) (p₁₁ .1) (bare (p₁₀ .0) (p₁₀ .1) (holds (p₉ .0) (p₉ .1) (word-slice l₅) (idle u₈ (holds (p₇ .0) (p₇ .1) (vptr l₃ 0) (bare (ty 6) l₆ (holds (tyArray L′.mir 128) l₅ (word-leases ys) (idle u₄ (holds T′.mir l₃ (word-ledger h) (idle u₂ (holds (p₁ .0) (p₁ .1) s (bare (p₀ .0) (p₀ .1) (‵ (ShrSlice (named 0) κ u8 .own x (s ∷ [])) ∷ ‵ (flft κ q) ∷ []))))))))))))))) (going 6 (p₀ ∷ p₁ ∷ spot u₂ ∷ (T′.mir, l₃) ∷ spot u₄ ∷ (tyArray L′.mir 128, l₅) ∷ (ty 6, l₆) ∷ p₇ ∷ spot u₈ ∷ p₉ ∷ p₁₀ ∷ p₁₁ ∷ p₁₂ ∷ p₁₃ ∷ []) Q)
+    lend-on u₂ u₄ u₈ p₀ p₁ p₇ p₉ p₁₀ p₁₁ p₁₂ p₁₃ l₃ l₅ l₆ Q is-g is-x t₁₀ t₁₁ t₁₂ t₁₃ t₀ end =
         -- the locals are lent, and go to `lent::read` with the file
-        move ! (20 ∷ 16 ∷ []) $ lends-mut ! tt l₃ l₅ h ys (its-ledger o is) (its-leases o is) (λ ν μ γ₁ γ₂.
+        move ! (20 ∷ 16 ∷ []) $ lends-mut ! tt l₃ l₅ h ys is-g is-x (λ ν μ γ₁ γ₂.
         -- [[ν]; [μ]; the `&mut Ledger`; the `&mut [Lease]`; what brings _3 and _5 back; _13; …; _12; …; _11; …; _10; …; _9; …; _8; …; _7; …; _6; …; (_5) …; _4; …; (_3) …; _2; …; _1; …; room for _0; …; the file; [κ]]
         move ! (32 ∷ 0 ∷ 1 ∷ 31 ∷ 2 ∷ 3 ∷ []) $ group ! 6 $ use1 W (raw (Read 𝓤 H A mem run .pre (to-read ν μ l₃ l₅ γ₁ γ₂))) (goes-read ν μ l₃ l₅ γ₁ γ₂) $
         -- [the `pre`; what brings _3 and _5 back; _13; …; _12; …; _11; …; _10; …; _9; …; _8; …; _7; …; _6; …; (_5) …; _4; …; (_3) …; _2; …; _1; …; room for _0; …]
@@ -127,19 +166,22 @@ module _ {M : Type 1} (𝓤 : URA M) (H : Heap 𝓤) (A : Atoms 𝓤) (W : Given
         move ! (3 ∷ []) $ split ! $ move ! (1 ∷ []) $ facts ! u8 (Is u8) (shows 𝓤 H A u8) n (w ∷ []) (λ is-n. split ! $ move ! (1 ∷ []) $ split ! $ move ! (1 ∷ []) $ split ! $
         -- [[μ]; true; [ν]; [κ]; the last leases; true; the last ledger; what brings _3 and _5 back; _13; …]
         land ! (from ! (stop !)) (init ! 22 refl (uint-lawful 𝓤 H A W w8 .typed n _ is-n .0)) $ rewrite ! 22 (λ (us : List Val). ‵ (cellAt fullShare (u8 .mir) us l₆ 0)) (is-n .0) refl $
-        move ! (2 ∷ 0 ∷ 6 ∷ 4 ∷ 7 ∷ []) $ backs-mut ! tt ν μ l₃ l₅ γ₁ γ₂ (ws .1 .0) (ws .1 .1 .0) (len ∙ long ys (its-leases o is)) (λ is-h is-zs.
-        -- [_3; _5; true; [κ]; true; _13; …; _12; …; _11; …; _10; …; _9; …; _8; …; _7; …; _6; …; (_5) …; _4; …; (_3) …; _2; …; _1; …; room for _0; …]: the result is put together
-        assigns ! (of-opd ! (load ! (from ! (stop !)) (look ! 0 refl))) (from ! (stop !)) (init ! 11 refl (typed-ledger 𝓤 H A W (ws .1 .0) is-h)) $
-        assigns ! (of-opd ! (load ! (from ! (stop !)) (look ! 1 refl))) (from ! (stop !)) (init ! 9 refl (typed-leases 𝓤 H A W (ws .1 .1 .0) is-zs)) $
-        assigns ! (agg ! (and-then ! (load ! (from ! (stop !)) (look ! 9 refl)) (no-more !))) (from ! (stop !)) (init ! 7 refl (typed-records 𝓤 H A W (to-records (ws .1 .1 .0)) (is-records (ws .1 .1 .0) is-zs))) $
-        assigns ! (agg ! (and-then ! (load ! (from ! (stop !)) (look ! 11 refl)) (and-then ! (load ! (from ! (stop !)) (look ! 7 refl)) (no-more !)))) (from ! (stop !)) (init ! 5 refl (typed-owned 𝓤 H A W (to-owned (ws .1 .0) (ws .1 .1 .0)) (is-owned (ws .1 .0) (ws .1 .1 .0) is-h is-zs))) $
-        assigns ! (agg ! (and-then ! (load ! (from ! (stop !)) (look ! 19 refl)) (and-then ! (load ! (from ! (stop !)) (look ! 5 refl)) (no-more !)))) (from ! (stop !)) (init ! 29 refl (LL.lawful Z.the-type Z′.the-laws 𝓤 H A W .typed (file n (ws .1 .0) (ws .1 .1 .0)) _ (is-file n (ws .1 .0) (ws .1 .1 .0) (refl, is-n .1) is-h is-zs) .0)) $
-        returns ! (look ! 29 refl) $
-        forget ! 0 refl $ forget ! 1 refl $ forget ! 5 refl $ forget ! 7 refl $ forget ! 9 refl $ forget ! 11 refl $ forget ! 13 refl $ forget ! 15 refl $ forget ! 17 refl $ forget ! 19 refl $ forget ! 22 refl $ forget ! 25 refl $ forget ! 27 refl $ forget ! 29 refl $
-        move ! (29 ∷ 30 ∷ []) $ free1 ! $ move ! (27 ∷ 28 ∷ []) $ free1 ! $ move ! (25 ∷ 26 ∷ []) $ free1 ! $ move ! (0 ∷ 24 ∷ []) $ free1 ! $ move ! (21 ∷ 22 ∷ []) $ free1 ! $ move ! (0 ∷ 20 ∷ []) $ free1 ! $
-        -- [true; [κ]; true; _13; …; _12; …; _11; …; _10; …; _9; …; _8; …; _7; …; _6; …]
-        move ! (17 ∷ 18 ∷ []) $ free1 ! $ move ! (15 ∷ 16 ∷ []) $ free1 ! $ move ! (13 ∷ 14 ∷ []) $ free1 ! $ move ! (11 ∷ 12 ∷ []) $ free1 ! $ move ! (9 ∷ 10 ∷ []) $ free1 ! $ move ! (7 ∷ 8 ∷ []) $ free1 ! $ move ! (5 ∷ 6 ∷ []) $ free1 ! $ move ! (3 ∷ 4 ∷ []) $ free1 ! $ free0 ! $
-        keep ! (1 ∷ []) $ by ! (exits n (ws .1 .0) (ws .1 .1 .0) (is-file n (ws .1 .0) (ws .1 .1 .0) (refl, is-n .1) is-h is-zs) e)))))))))))))))))))))))
+        move ! (2 ∷ 0 ∷ 6 ∷ 4 ∷ 7 ∷ []) $ backs-mut ! tt ν μ l₃ l₅ γ₁ γ₂ (ws .1 .0) (ws .1 .1 .0) (len ∙ long ys is-x) (λ is-h is-zs.
+        -- [_3; _5; true; [κ]; true; _13; …; _12; …; _11; …; _10; …; _9; …; _8; …; _7; …; _6; …; (_5) …; _4; …; (_3) …; _2; …; _1; …; room for _0; …]
+        keep ! (3 ∷ 5 ∷ 6 ∷ 7 ∷ 8 ∷ 9 ∷ 10 ∷ 11 ∷ 12 ∷ 13 ∷ 14 ∷ 15 ∷ 16 ∷ 17 ∷ 18 ∷ 19 ∷ 20 ∷ 1 ∷ 21 ∷ 22 ∷ 23 ∷ 0 ∷ 24 ∷ 25 ∷ 26 ∷ 27 ∷ 28 ∷ 29 ∷ 30 ∷ []) $ file-on (_, _, _) (_, _, _) (_, _, _) (_, _, _) (_, _, _) (_, _, _) (_, _, _) (_, _, _) (_, _, _) (_, _) (_, _) (_, _) (_, _) (_, _) Q (t₁₀ (ws .1 .0) is-h) (t₁₁ (ws .1 .1 .0) is-zs) (t₁₂ (ws .1 .1 .0) is-zs) (t₁₃ (ws .1 .0) (ws .1 .1 .0) is-h is-zs) (t₀ n (ws .1 .0) (ws .1 .1 .0) (refl, is-n .1) is-h is-zs) (end n (ws .1 .0) (ws .1 .1 .0) (refl, is-n .1) is-h is-zs e)))))))))
+
+    walk : Room u8 (length os) → IsOwned o → ent 𝓤 (onEntry 𝓤 H A f.signature (κ, tt) (q, tt) a vals) (WpFn 𝓤 H C Λ code.function (s ∷ word-owned o ∷ []) Post)
+    walk fits is =
+        qed W ((‵ (flft κ q) ⊛ ‵ ftrue) ∷ ‵ (owns (ShrSlice (named 0) κ u8 ∷ O.the-row ∷ []) a vals) ∷ []) ∵
+        split ! $ move ! (2 ∷ []) $ fsplit ! $ keep ! (0 ∷ 2 ∷ []) $
+        -- [the file; [κ]]
+        enter ! C Λ code.function (s ∷ word-owned o ∷ []) _ $
+        alloc1 ! (λ l₀. alloc1 ! (λ l₁. alloc1 ! (λ l₂. alloc1 ! (λ l₃. alloc1 ! (λ l₄. alloc1 ! (λ l₅. alloc1 ! (λ l₆. alloc1 ! (λ l₇. alloc1 ! (λ l₈. alloc1 ! (λ l₉. alloc1 ! (λ l₁₀. alloc1 ! (λ l₁₁. alloc1 ! (λ l₁₂. alloc1 ! (λ l₁₃. alloc0 ! $ params1 ! $
+        pass1 ! (init ! 24 refl (tt, (tt, (record { fits = fits .0 }, tt)))) $ pass1 ! (init ! 22 refl (typed-owned 𝓤 H A W o is)) $ pass0 ! $
+        -- [_13; …; _12; …; _11; …; _10; …; _9; …; _8; …; _7; …; _6; …; _5; …; _4; …; _3; …; _2; …; _1; …; room for _0; …; the file; [κ]]: the ledger and the lease records are copied
+        rewrite ! 22 (λ (u : Val). ‵ (fat fullShare O′.mir l₂ 0 u)) (owned-parts o) refl $
+        copies-on (_, l₁, _) (_, l₀) (_, l₃) (_, l₅) (_, l₆) (_, l₇) (_, l₈) (_, l₉) (_, l₁₀) (_, l₁₁) (_, l₁₂) (_, l₁₃) l₂ l₄ _ _ _ _ (word-ledger h) (word-leases ys) _ Post (typed-ledger 𝓤 H A W h (its-ledger o is)) (typed-part 𝓤 H A W ys (its-leases o is)) (typed-leases 𝓤 H A W ys (its-leases o is)) (tt, tt) (tt, tt) (tt, (tt, (record { fits = room .0 }, tt)))
+        (lend-on (_, l₂, _) (_, l₄, _) (_, l₈, _) (_, l₀) (_, l₁) (_, l₇) (_, l₉) (_, l₁₀) (_, l₁₁) (_, l₁₂) (_, l₁₃) l₃ l₅ l₆ Post (its-ledger o is) (its-leases o is) (typed-ledger 𝓤 H A W) (typed-leases 𝓤 H A W) (typed-part 𝓤 H A W) (typed-whole 𝓤 H A W) typed-file exits-file)))))))))))))))
 
 module _ {M : Type 1} (𝓤 : URA M) (H : Heap 𝓤) (A : Atoms 𝓤) (W : Given 𝓤 H A) (mem : Memory → SProp 𝓤) (run : Routine → Fun 𝓤) where
   walks : (C : Calls 𝓤 H) (Λ : Loops 𝓤 H) → FmC 𝓤 H (W .laws) C → Triple 𝓤 (C #lent·read) (Read 𝓤 H A mem run) → Walks 𝓤 H A f.ended stayed (WpFn 𝓤 H C Λ code.function) (f.clauses 𝓤 H A mem run)

@@ -1,8 +1,11 @@
 -- `owned::serve` meets its contract: a walk of its MIR, by hand. The ledger and the lease records are copied into locals, which are lent as `&mut` to `lent::serve`; they come back at the values that it left there,
 -- and the result is put together of these and of the outcome. Of `lent::serve` the proof knows only that it meets its contract.
 -- The reply buffer is passed on at its own lifetime, share and ghost name, so what `lent::serve` says of the last octets is said of the buffer's (`gave-slice`). Nothing is kept of the `&` of the datagram.
-use Rattle.lent.proofs.Walk.{stands, _≡_, refl, _∙_, ap, ℕ, _<_, _^_, [], _∷_, List, length, URA, fullShare, named, w32, Val, vint, vptr, SProp, ent, emp, via, fst∗, id⊢, Lft, Share, GName, Fml, ftrue, flft, fat, Memory, Routine, Heap, Calls, Loops, WpFn, Atoms, Fun, fact, givenOf, tables, tablesOf, Given, ‵, raw, _⊛_, some, later, ⋆, _$_, _∵_, !, qed, by, move, keep, drop, group, use1, split, join, pick, rewrite, fsplit, fjoin, feqL, suffices, frame, await, done, look, init, forget, stop, hop, fld, from, load, lit, of-opd, addr, and-then, no-more, assigns, land, returns, enter, alloc1, alloc0, params1, pass1, pass0, free1, free0, whole, sub, look-in, agg, FmC, owns, Is, shows, uint-vals, uint-tells, uint-makes, u8, u32, RefT, sliceVal, slice-vals, shr-slice-tells, mut-slice-tells, MutSlice, ShrSlice, Room, finally, only, owned, facts, heard, nothing, plain, shrSliceOf, Contract, Triple, calls-at, onEntry, tripleOf, cited, says, Stays, stay-dropped, gave-slice, walkOf, AllGo, goes-dropped, goes-gave-slice, Walks, ends-at, walked, ensured, lasts, yes}
+use Rattle.lent.proofs.Walk.{stands, subst, after, bare, Idle, spot, idle, ends4, Go, Seq, Item, Ty, runs, atRet, _≡_, refl, _∙_, ap, ℕ, _<_, _^_, [], _∷_, List, length, URA, fullShare, named, w32, Val, vint, vptr, SProp, ent, emp, via, fst∗, id⊢, Lft, Share, GName, Fml, ftrue, flft, fat, Memory, Routine, Heap, Calls, Loops, WpFn, Atoms, Fun, fact, givenOf, tables, tablesOf, Given, ‵, raw, _⊛_, some, later, ⋆, _$_, _∵_, !, qed, by, move, keep, drop, group, use1, split, join, pick, rewrite, fsplit, fjoin, feqL, suffices, frame, await, done, look, init, stop, hop, fld, from, load, lit, of-opd, addr, and-then, no-more, assigns, land, returns, enter, alloc1, alloc0, params1, pass1, pass0, free0, whole, sub, look-in, agg, FmC, owns, Is, shows, uint-vals, uint-tells, uint-makes, u8, u32, RefT, sliceVal, slice-vals, shr-slice-tells, mut-slice-tells, MutSlice, ShrSlice, Room, finally, only, owned, facts, heard, nothing, plain, shrSliceOf, Contract, Triple, calls-at, onEntry, tripleOf, cited, says, Stays, stay-dropped, gave-slice, walkOf, AllGo, goes-dropped, goes-gave-slice, Walks, ends-at, walked, ensured, lasts, yes, tyOf, holds, Env, Goal}
+use mir.Syntax.{Sym, tyArray}
 use denote.Struct.Laws as LL
+use Rattle.state.proofs.Lease.Laws as L′
+use Rattle.state.proofs.Ledger.Laws as T′
 use Rattle.state.specs.declared.Lease.{Lease}
 use Rattle.state.specs.declared.Ledger.{Ledger}
 use Rattle.server.specs.Serve.{Call}
@@ -20,11 +23,14 @@ use Rattle.owned.proofs.Owned as O
 use Rattle.owned.proofs.Owned.Laws as O′
 use Rattle.owned.proofs.OwnedCall as Z
 use Rattle.owned.proofs.OwnedCall.Laws as Z′
-use Rattle.owned.proofs.Lends.{IsLedger, IsLeases, IsOwned, word-owned, its-ledger, its-records, its-leases, to-records, to-owned, is-records, is-owned, typed-owned, typed-ledger, typed-records, typed-leases, long, room, ref-ledger, ref-leases, word-slice, MutLedger, MutLeases, lends-mut, backs-mut}
+use Rattle.owned.proofs.Lends.{Fits, whole1, whole2, owned-parts, typed-part, typed-whole, word-ledger, word-leases, IsLedger, IsLeases, IsOwned, word-owned, its-ledger, its-leases, to-owned, is-owned, typed-owned, typed-ledger, typed-leases, long, room, ref-ledger, ref-leases, word-slice, MutLedger, MutLeases, lends-mut, backs-mut, own, rec}
 use Rattle.owned.proofs.serve.Key.{name as #owned·serve}
 use Rattle.owned.proofs.serve as f
 use Rattle.owned.proofs.serve.Statement as stated
 use Rattle.owned.proofs.serve.Code as code
+
+abbrev ty : ℕ → Ty
+ty n = tyOf (code.function .locals) n
 
 abbrev stayed : Stays (f.ended .signature .params) (f.ended .kept)
 stayed = (
@@ -105,6 +111,21 @@ module _ {M : Type 1} (𝓤 : URA M) (H : Heap 𝓤) (A : Atoms 𝓤) (W : Given
       nothing ! $ move ! (1 ∷ 0 ∷ []) $ fjoin ! $ nothing ! $ fjoin ! $ nothing ! $ fjoin ! $ nothing ! $ fjoin ! $ nothing ! $ fjoin ! $ nothing ! $ fjoin ! $
       owned ! Z.the-row (Is Z.the-row) (LL.makes Z.the-type Z′.the-plain 𝓤 H A) (served r h′ zs) _ is $ move ! (1 ∷ 0 ∷ []) $ done !
 
+  -- the same of the result as it is put together
+  abbrev put : Outcome → Ledger → List Lease → Val
+  put r h′ zs = whole2 (LL.val U.the-type U′.the-laws r) (whole2 (word-ledger h′) (whole1 (word-leases zs)))
+
+  served-parts : (r : Outcome) (h′ : Ledger) (zs : List Lease) → word-served r h′ zs ≡ put r h′ zs
+  served-parts r h′ zs = refl
+
+  typed-served : (r : Outcome) (w : Val) (h′ : Ledger) (zs : List Lease) → Is U.the-row r (w ∷ []) → IsLedger h′ → IsLeases zs → Fits Z′.mir (put r h′ zs)
+  typed-served r w h′ zs is-r is-h is-zs = subst (Fits Z′.mir) (served-parts r h′ zs) (LL.lawful Z.the-type Z′.the-laws 𝓤 H A W .typed (served r h′ zs) _ (is-served r w h′ zs is-r is-h is-zs) .0)
+
+  exits-served : (r : Outcome) (w : Val) (h′ : Ledger) (zs : List Lease) (us : List ℕ) → Is U.the-row r (w ∷ []) → IsLedger h′ → IsLeases zs → ServesLent (serveLent h ys names c) h′ zs ns us r → length us ≡ length ns
+      → ent 𝓤 (⋆ 𝓤 H A (‵ (flft κ₀ q₀) ∷ ‵ (flft κ₁ q₁) ∷ ‵ (flft κ₂ q₂) ∷ ‵ (finally u8 γ₂ us) ∷ [])) (Post (put r h′ zs))
+  exits-served r w h′ zs us is-r is-h is-zs e len =
+      subst (λ (v : Val). ent 𝓤 (⋆ 𝓤 H A (‵ (flft κ₀ q₀) ∷ ‵ (flft κ₁ q₁) ∷ ‵ (flft κ₂ q₂) ∷ ‵ (finally u8 γ₂ us) ∷ [])) (Post v)) (served-parts r h′ zs) (exits r h′ zs us (is-served r w h′ zs is-r is-h is-zs) e len)
+
   -- the call of `lent::serve`, with the ledger in the local i lent for ν and the leases in the local j lent for μ
   module _ (ν μ i j : ℕ) (γ δ : GName) where
     abbrev to-args : RefT (List ℕ) × (ℕ × (ℕ × (RefT Ledger × (RefT (List Lease) × (RefT (List ℕ) × (RefT (List ℕ) × Unit {0}))))))
@@ -131,28 +152,48 @@ module _ {M : Type 1} (𝓤 : URA M) (H : Heap 𝓤) (A : Atoms 𝓤) (W : Given
   Says r h′ zs us = ServesLent (serveLent h ys names c) h′ zs ns us r
 
   module _ (C : Calls 𝓤 H) (Λ : Loops 𝓤 H) (fm : FmC 𝓤 H (W .laws) C) (known : Triple 𝓤 (C #lent·serve) (Serve 𝓤 H A mem run)) where
-    walk : IsOwned o → Room u8 (length names) → Room u8 (length os) → Room u8 (length ns) → ent 𝓤 (onEntry 𝓤 H A f.signature (κ₀, (κ₁, (κ₂, tt))) (q₀, (q₁, (q₂, tt))) a vals) (WpFn 𝓤 H C Λ code.function (word-owned o ∷ s₀ ∷ s₁ ∷ vint w32 m ∷ vint w32 n ∷ s₂ ∷ []) Post)
-    walk is fits₀ fits₁ fits₂ =
-        qed W ((‵ (flft κ₀ q₀) ⊛ ‵ (flft κ₁ q₁) ⊛ ‵ (flft κ₂ q₂) ⊛ ‵ ftrue) ∷ ‵ (owns (O.the-row ∷ ShrSlice (named 0) κ₀ u8 ∷ ShrSlice (named 1) κ₁ u8 ∷ u32 ∷ u32 ∷ MutSlice (named 2) κ₂ u8 ∷ []) a vals) ∷ []) ∵
-        split ! $ move ! (1 ∷ []) $ split ! $ move ! (1 ∷ []) $ split ! $ move ! (4 ∷ []) $ fsplit ! $ drop ! $ fsplit ! $ move ! (1 ∷ []) $ fsplit ! $ move ! (1 ∷ []) $ fsplit ! $ drop ! $ fsplit ! $ drop ! $ fsplit ! $ keep ! (3 ∷ 7 ∷ 2 ∷ 6 ∷ 0 ∷ 4 ∷ []) $
-        -- [the names; [κ₀]; the datagram; [κ₁]; the reply buffer; [κ₂]]
-        enter ! C Λ code.function (word-owned o ∷ s₀ ∷ s₁ ∷ vint w32 m ∷ vint w32 n ∷ s₂ ∷ []) _ $
-        alloc1 ! (λ l₀. alloc1 ! (λ l₁. alloc1 ! (λ l₂. alloc1 ! (λ l₃. alloc1 ! (λ l₄. alloc1 ! (λ l₅. alloc1 ! (λ l₆. alloc1 ! (λ l₇. alloc1 ! (λ l₈. alloc1 ! (λ l₉. alloc1 ! (λ l₁₀. alloc1 ! (λ l₁₁. alloc1 ! (λ l₁₂. alloc1 ! (λ l₁₃.
-        alloc1 ! (λ l₁₄. alloc1 ! (λ l₁₅. alloc1 ! (λ l₁₆. alloc1 ! (λ l₁₇. alloc1 ! (λ l₁₈. alloc1 ! (λ l₁₉. alloc0 ! $ params1 ! $
-        pass1 ! (init ! 36 refl (typed-owned 𝓤 H A W o is)) $ pass1 ! (init ! 34 refl (tt, (tt, (record { fits = fits₀ .0 }, tt)))) $ pass1 ! (init ! 32 refl (tt, (tt, (record { fits = fits₁ .0 }, tt)))) $
-        pass1 ! (init ! 30 refl (tt, record { fits = m-fits })) $ pass1 ! (init ! 28 refl (tt, record { fits = n-fits })) $ pass1 ! (init ! 26 refl (tt, (tt, (record { fits = fits₂ .0 }, tt)))) $ pass0 ! $
-        -- [_19; …; _18; …; …; _1; …; room for _0; …; the names; [κ₀]; the datagram; [κ₁]; the reply buffer; [κ₂]]: the ledger and the lease records are copied
-        assigns ! (of-opd ! (load ! (from ! (fld ! refl (stop !))) (look-in ! 36 (sub ! 0 refl (whole !))))) (from ! (stop !)) (init ! 24 refl (typed-ledger 𝓤 H A W h (its-ledger o is))) $
-        assigns ! (of-opd ! (load ! (from ! (fld ! refl (stop !))) (look-in ! 36 (sub ! 1 refl (whole !))))) (from ! (stop !)) (init ! 22 refl (typed-records 𝓤 H A W (o .records) (its-records o is))) $
-        assigns ! (of-opd ! (load ! (from ! (fld ! refl (stop !))) (look-in ! 22 (sub ! 0 refl (whole !))))) (from ! (stop !)) (init ! 20 refl (typed-leases 𝓤 H A W ys (its-leases o is))) $
+    -- The parts of the walk. The locals are variables in them, since each step repeats the types of all, spelled out: of u type, place and value, of p type and place
+    -- what is left after n statements, with the locals E, to end in Q
+    abbrev going : ℕ → Env 𝓤 H → (Val → SProp 𝓤) → Goal 𝓤 H
+    going n E Q = runs C Λ E (after n (code.function .body)) (atRet E Q)
+
+    -- once the ledger is back in _7 and the leases in _9: the result is put together of them and of the outcome in _10. X says the last octets of the reply buffer, and Q is what the function has to end in
+    call-on : (u₁ u₂ u₃ u₄ u₅ u₆ u₇ u₈ u₉ u₁₀ u₁₁ u₁₂ u₁₃ u₁₄ u₁₅ : Idle) (p₀ p₁₆ p₁₇ p₁₈ p₁₉ : Ty × ℕ) (X : Item 𝓤) (Q : Val → SProp 𝓤) → Fits (p₁₆ .0) (u₇ .2) → Fits (p₁₇ .0) (u₉ .2) → Fits (p₁₈ .0) (whole1 (u₉ .2)) → Fits (p₁₉ .0) (whole2 (u₇ .2) (whole1 (u₉ .2)))
+        → Fits (p₀ .0) (whole2 (u₁₀ .2) (whole2 (u₇ .2) (whole1 (u₉ .2)))) → ent 𝓤 (⋆ 𝓤 H A (‵ (flft κ₀ q₀) ∷ ‵ (flft κ₁ q₁) ∷ ‵ (flft κ₂ q₂) ∷ X ∷ [])) (Q (whole2 (u₁₀ .2) (whole2 (u₇ .2) (whole1 (u₉ .2)))))
+        → Seq (Go {0}) W (‵ (flft κ₀ q₀) ∷ ‵ (flft κ₁ q₁) ∷ ‵ (flft κ₂ q₂) ∷ X ∷ bare (p₁₉ .0) (p₁₉ .1) (bare (p₁₈ .0) (p₁₈ .1) (bare (p₁₇ .0) (p₁₇ .1) (bare (p₁₆ .0) (p₁₆ .1) (idle u₁₅ (idle u₁₄ (idle u₁₃ (idle u₁₂ (idle u₁₁ (idle u₁₀ (idle u₉ (idle u₈ (idle u₇ (idle u₆ (idle u₅ (idle u₄ (idle u₃ (idle u₂ (idle u₁ (bare (p₀ .0) (p₀ .1) []))))))))))))))))))))
+        (going 9 (p₀ ∷ spot u₁ ∷ spot u₂ ∷ spot u₃ ∷ spot u₄ ∷ spot u₅ ∷ spot u₆ ∷ spot u₇ ∷ spot u₈ ∷ spot u₉ ∷ spot u₁₀ ∷ spot u₁₁ ∷ spot u₁₂ ∷ spot u₁₃ ∷ spot u₁₄ ∷ spot u₁₅ ∷ p₁₆ ∷ p₁₇ ∷ p₁₈ ∷ p₁₉ ∷ []) Q)
+    call-on u₁ u₂ u₃ u₄ u₅ u₆ u₇ u₈ u₉ u₁₀ u₁₁ u₁₂ u₁₃ u₁₄ u₁₅ p₀ p₁₆ p₁₇ p₁₈ p₁₉ X Q t₁₆ t₁₇ t₁₈ t₁₉ t₀ end =
+        -- [[κ₀]; [κ₁]; [κ₂]; the last octets; _19; …; _0; …]
+        assigns ! (of-opd ! (load ! (from ! (stop !)) (look ! 28 refl))) (from ! (stop !)) (init ! 10 refl t₁₆) $ assigns ! (of-opd ! (load ! (from ! (stop !)) (look ! 24 refl))) (from ! (stop !)) (init ! 8 refl t₁₇) $
+        assigns ! (agg ! (and-then ! (load ! (from ! (stop !)) (look ! 8 refl)) (no-more !))) (from ! (stop !)) (init ! 6 refl t₁₈) $
+        assigns ! (agg ! (and-then ! (load ! (from ! (stop !)) (look ! 10 refl)) (and-then ! (load ! (from ! (stop !)) (look ! 6 refl)) (no-more !)))) (from ! (stop !)) (init ! 4 refl t₁₉) $
+        assigns ! (agg ! (and-then ! (load ! (from ! (stop !)) (look ! 22 refl)) (and-then ! (load ! (from ! (stop !)) (look ! 4 refl)) (no-more !)))) (from ! (stop !)) (init ! 42 refl t₀) $ returns ! (look ! 42 refl) $
+        move ! (42 ∷ 43 ∷ 40 ∷ 41 ∷ 38 ∷ 39 ∷ 36 ∷ 37 ∷ 34 ∷ 35 ∷ 32 ∷ 33 ∷ 30 ∷ 31 ∷ 28 ∷ 29 ∷ 26 ∷ 27 ∷ 24 ∷ 25 ∷ 22 ∷ 23 ∷ 20 ∷ 21 ∷ 18 ∷ 19 ∷ 16 ∷ 17 ∷ 14 ∷ 15 ∷ 12 ∷ 13 ∷ 10 ∷ 11 ∷ 8 ∷ 9 ∷ 6 ∷ 7 ∷ 4 ∷ 5 ∷ []) $ ends4 ! $ ends4 ! $ ends4 ! $ ends4 ! $ ends4 ! $ free0 ! $ by ! end
+
+    -- the ledger g and the lease records x of the `Owned` are copied into locals, and references to them are made. The context after the locals is Γ
+    copies-on : (u₂ u₃ u₄ u₅ : Idle) (p₀ p₇ p₉ p₁₀ p₁₁ p₁₂ p₁₃ p₁₄ p₁₅ p₁₆ p₁₇ p₁₈ p₁₉ : Ty × ℕ) (l₁ l₆ l₈ : ℕ) (ν ν′ : Sym) (τL τA : Ty) (g x : Val) (Γ : List (Item 𝓤)) (Q : Val → SProp 𝓤) → Fits (p₇ .0) g → Fits (rec ν′ τA) (whole1 x) → Fits (p₉ .0) x → Fits (p₁₁ .0) (vptr (p₇ .1) 0) → Fits (p₁₂ .0) (vptr (p₉ .1) 0) → Fits (p₁₃ .0) (word-slice (p₉ .1)) → Fits (p₁₄ .0) (vptr b₂ i₂) → Fits (p₁₅ .0) s₂
+        → Seq (Go {0}) W (bare (p₁₉ .0) (p₁₉ .1) (bare (p₁₈ .0) (p₁₈ .1) (bare (p₁₇ .0) (p₁₇ .1) (bare (p₁₆ .0) (p₁₆ .1) (holds (p₁₅ .0) (p₁₅ .1) s₂ (holds (p₁₄ .0) (p₁₄ .1) (vptr b₂ i₂) (holds (p₁₃ .0) (p₁₃ .1) (word-slice (p₉ .1)) (holds (p₁₂ .0) (p₁₂ .1) (vptr (p₉ .1) 0) (holds (p₁₁ .0) (p₁₁ .1) (vptr (p₇ .1) 0) (bare (p₁₀ .0) (p₁₀ .1) (holds (p₉ .0) (p₉ .1) x (holds (rec ν′ τA) l₈ (whole1 x) (holds (p₇ .0) (p₇ .1) g (holds (ty 6) l₆ s₂ (idle u₅ (idle u₄ (idle u₃ (idle u₂ (holds (own ν ν′ τL τA) l₁ (whole2 g (whole1 x)) (bare (p₀ .0) (p₀ .1) Γ)))))))))))))))))))) (going 8 (p₀ ∷ (own ν ν′ τL τA, l₁) ∷ spot u₂ ∷ spot u₃ ∷ spot u₄ ∷ spot u₅ ∷ (ty 6, l₆) ∷ p₇ ∷ (rec ν′ τA, l₈) ∷ p₉ ∷ p₁₀ ∷ p₁₁ ∷ p₁₂ ∷ p₁₃ ∷ p₁₄ ∷ p₁₅ ∷ p₁₆ ∷ p₁₇ ∷ p₁₈ ∷ p₁₉ ∷ []) Q)
+        → Seq (Go {0}) W (bare (p₁₉ .0) (p₁₉ .1) (bare (p₁₈ .0) (p₁₈ .1) (bare (p₁₇ .0) (p₁₇ .1) (bare (p₁₆ .0) (p₁₆ .1) (bare (p₁₅ .0) (p₁₅ .1) (bare (p₁₄ .0) (p₁₄ .1) (bare (p₁₃ .0) (p₁₃ .1) (bare (p₁₂ .0) (p₁₂ .1) (bare (p₁₁ .0) (p₁₁ .1) (bare (p₁₀ .0) (p₁₀ .1) (bare (p₉ .0) (p₉ .1) (bare (rec ν′ τA) l₈ (bare (p₇ .0) (p₇ .1) (holds (ty 6) l₆ s₂ (idle u₅ (idle u₄ (idle u₃ (idle u₂ (holds (own ν ν′ τL τA) l₁ (whole2 g (whole1 x)) (bare (p₀ .0) (p₀ .1) Γ)))))))))))))))))))) (going 0 (p₀ ∷ (own ν ν′ τL τA, l₁) ∷ spot u₂ ∷ spot u₃ ∷ spot u₄ ∷ spot u₅ ∷ (ty 6, l₆) ∷ p₇ ∷ (rec ν′ τA, l₈) ∷ p₉ ∷ p₁₀ ∷ p₁₁ ∷ p₁₂ ∷ p₁₃ ∷ p₁₄ ∷ p₁₅ ∷ p₁₆ ∷ p₁₇ ∷ p₁₈ ∷ p₁₉ ∷ []) Q)
+    copies-on u₂ u₃ u₄ u₅ p₀ p₇ p₉ p₁₀ p₁₁ p₁₂ p₁₃ p₁₄ p₁₅ p₁₆ p₁₇ p₁₈ p₁₉ l₁ l₆ l₈ ν ν′ τL τA g x Γ Q tl tr ta tp tq ts tv tw then =
+        -- [_19; …; _0; …; Γ]
+        assigns ! (of-opd ! (load ! (from ! (fld ! refl (stop !))) (look-in ! 36 (sub ! 0 refl (whole !))))) (from ! (stop !)) (init ! 24 refl tl) $ assigns ! (of-opd ! (load ! (from ! (fld ! refl (stop !))) (look-in ! 36 (sub ! 1 refl (whole !))))) (from ! (stop !)) (init ! 22 refl tr) $
+        assigns ! (of-opd ! (load ! (from ! (fld ! refl (stop !))) (look-in ! 22 (sub ! 0 refl (whole !))))) (from ! (stop !)) (init ! 20 refl ta) $
         -- the references
-        assigns ! (addr ! (from ! (stop !))) (from ! (stop !)) (init ! 16 refl (tt, tt)) $
-        assigns ! (addr ! (from ! (stop !))) (from ! (stop !)) (init ! 14 refl (tt, tt)) $
-        assigns ! (agg ! (and-then ! (load ! (from ! (stop !)) (look ! 14 refl)) (and-then ! (lit ! tt) (no-more !)))) (from ! (stop !)) (init ! 12 refl (tt, (tt, (record { fits = room .0 }, tt)))) $
-        assigns ! (addr ! (from ! (fld ! refl (hop ! (look-in ! 26 (sub ! 0 refl (whole !))) (stop !))))) (from ! (stop !)) (init ! 10 refl (tt, tt)) $
-        assigns ! (agg ! (and-then ! (load ! (from ! (stop !)) (look ! 10 refl)) (and-then ! (load ! (from ! (fld ! refl (stop !))) (look-in ! 26 (sub ! 1 refl (whole !)))) (no-more !)))) (from ! (stop !)) (init ! 8 refl (tt, (tt, (record { fits = fits₂ .0 }, tt)))) $
+        assigns ! (addr ! (from ! (stop !))) (from ! (stop !)) (init ! 16 refl tp) $ assigns ! (addr ! (from ! (stop !))) (from ! (stop !)) (init ! 14 refl tq) $
+        assigns ! (agg ! (and-then ! (load ! (from ! (stop !)) (look ! 14 refl)) (and-then ! (lit ! tt) (no-more !)))) (from ! (stop !)) (init ! 12 refl ts) $
+        assigns ! (addr ! (from ! (fld ! refl (hop ! (look-in ! 26 (sub ! 0 refl (whole !))) (stop !))))) (from ! (stop !)) (init ! 10 refl tv) $
+        assigns ! (agg ! (and-then ! (load ! (from ! (stop !)) (look ! 10 refl)) (and-then ! (load ! (from ! (fld ! refl (stop !))) (look-in ! 26 (sub ! 1 refl (whole !)))) (no-more !)))) (from ! (stop !)) (init ! 8 refl tw) $
+        then
+
+    -- the two locals are lent for the call, and come back
+    lend-on : (u₁ u₆ u₈ u₁₂ u₁₄ : Idle) (p₀ p₂ p₃ p₄ p₅ p₁₁ p₁₃ p₁₅ p₁₆ p₁₇ p₁₈ p₁₉ : Ty × ℕ) (l₇ l₉ l₁₀ : ℕ) (Q : Val → SProp 𝓤) → IsLedger h → IsLeases ys → ((h′ : Ledger) → IsLedger h′ → Fits (p₁₆ .0) (word-ledger h′)) → ((zs : List Lease) → IsLeases zs → Fits (p₁₇ .0) (word-leases zs)) → ((zs : List Lease) → IsLeases zs → Fits (p₁₈ .0) (whole1 (word-leases zs)))
+        → ((h′ : Ledger) (zs : List Lease) → IsLedger h′ → IsLeases zs → Fits (p₁₉ .0) (whole2 (word-ledger h′) (whole1 (word-leases zs)))) → ((r : Outcome) (w : Val) (h′ : Ledger) (zs : List Lease) → Is U.the-row r (w ∷ []) → IsLedger h′ → IsLeases zs → Fits (p₀ .0) (put r h′ zs))
+        → ((r : Outcome) (w : Val) (h′ : Ledger) (zs : List Lease) (us : List ℕ) → Is U.the-row r (w ∷ []) → IsLedger h′ → IsLeases zs → Says r h′ zs us → length us ≡ length ns
+        → ent 𝓤 (⋆ 𝓤 H A (‵ (flft κ₀ q₀) ∷ ‵ (flft κ₁ q₁) ∷ ‵ (flft κ₂ q₂) ∷ ‵ (finally u8 γ₂ us) ∷ [])) (Q (put r h′ zs)))
+        → Seq (Go {0}) W (bare (p₁₉ .0) (p₁₉ .1) (bare (p₁₈ .0) (p₁₈ .1) (bare (p₁₇ .0) (p₁₇ .1) (bare (p₁₆ .0) (p₁₆ .1) (holds (p₁₅ .0) (p₁₅ .1) s₂ (idle u₁₄ (holds (p₁₃ .0) (p₁₃ .1) (word-slice l₉) (idle u₁₂ (holds (p₁₁ .0) (p₁₁ .1) (vptr l₇ 0) (bare (ty 10) l₁₀ (holds (tyArray L′.mir 128) l₉ (word-leases ys) (idle u₈ (holds T′.mir l₇ (word-ledger h) (idle u₆ (holds (p₅ .0) (p₅ .1) (vint w32 n) (holds (p₄ .0) (p₄ .1) (vint w32 m) (holds (p₃ .0) (p₃ .1) s₁ (holds (p₂ .0) (p₂ .1) s₀ (idle u₁ (bare (p₀ .0) (p₀ .1) (‵ (ShrSlice (named 0) κ₀ u8 .own x₀ (s₀ ∷ [])) ∷ ‵ (flft κ₀ q₀) ∷ ‵ (ShrSlice (named 1) κ₁ u8 .own x₁ (s₁ ∷ [])) ∷ ‵ (flft κ₁ q₁) ∷ ‵ (MutSlice (named 2) κ₂ u8 .own x₂ (s₂ ∷ [])) ∷ ‵ (flft κ₂ q₂) ∷ []))))))))))))))))))))) (going 8 (p₀ ∷ spot u₁ ∷ p₂ ∷ p₃ ∷ p₄ ∷ p₅ ∷ spot u₆ ∷ (T′.mir, l₇) ∷ spot u₈ ∷ (tyArray L′.mir 128, l₉) ∷ (ty 10, l₁₀) ∷ p₁₁ ∷ spot u₁₂ ∷ p₁₃ ∷ spot u₁₄ ∷ p₁₅ ∷ p₁₆ ∷ p₁₇ ∷ p₁₈ ∷ p₁₉ ∷ []) Q)
+    lend-on u₁ u₆ u₈ u₁₂ u₁₄ p₀ p₂ p₃ p₄ p₅ p₁₁ p₁₃ p₁₅ p₁₆ p₁₇ p₁₈ p₁₉ l₇ l₉ l₁₀ Q is-g is-x t₁₆ t₁₇ t₁₈ t₁₉ t₀ end =
         -- the locals are lent, and go to `lent::serve` with the datagram, the client, the time, the names and the reply buffer
-        move ! (24 ∷ 20 ∷ []) $ lends-mut ! tt l₇ l₉ h ys (its-ledger o is) (its-leases o is) (λ ν μ γ δ.
+        move ! (24 ∷ 20 ∷ []) $ lends-mut ! tt l₇ l₉ h ys is-g is-x (λ ν μ γ δ.
         -- [[ν]; [μ]; the `&mut Ledger`; the `&mut [Lease]`; what brings _7 and _9 back; _19; …; …; _10; …; (_9) …; _8; …; (_7) …; _6; …; …; _1; …; room for _0; …; the names; [κ₀]; the datagram; [κ₁]; the reply buffer; [κ₂]]
         move ! (46 ∷ 0 ∷ 1 ∷ 44 ∷ 48 ∷ 45 ∷ 2 ∷ 3 ∷ 43 ∷ 47 ∷ []) $ group ! 10 $ use1 W (raw (Serve 𝓤 H A mem run .pre (to-serve ν μ l₇ l₉ γ δ))) (goes-serve ν μ l₇ l₉ γ δ) $
         -- [the `pre`; what brings _7 and _9 back; _19; …; …; _10; …; (_9) …; _8; …; (_7) …; _6; …; …; _1; …; room for _0; …]
@@ -168,22 +209,24 @@ module _ {M : Type 1} (𝓤 : URA M) (H : Heap 𝓤) (A : Atoms 𝓤) (W : Given
         move ! (4 ∷ []) $ split ! $ move ! (1 ∷ []) $ facts ! U.the-row (Is U.the-row) (shows 𝓤 H A U.the-row) r (w ∷ []) (λ is-r. split ! $ move ! (1 ∷ []) $ split ! $ move ! (1 ∷ []) $ split ! $ move ! (1 ∷ []) $ split ! $ move ! (1 ∷ []) $ split ! $
         -- [[κ₂]; true; [κ₀]; [μ]; [ν]; [κ₁]; the last octets; true; the last leases; the last ledger; what brings _7 and _9 back; _19; …]
         land ! (from ! (stop !)) (init ! 29 refl (LL.lawful U.the-type U′.the-laws 𝓤 H A W .typed r _ is-r .0)) $ rewrite ! 29 (λ (u : Val). ‵ (fat fullShare U′.mir l₁₀ 0 u)) (ap only (LL.tells U.the-type U′.the-laws r _ is-r)) refl $
-        move ! (4 ∷ 3 ∷ 9 ∷ 8 ∷ 10 ∷ []) $ backs-mut ! tt ν μ l₇ l₉ γ δ (ws .1 .1 .1 .0) (ws .1 .1 .1 .1 .0) (len ∙ long ys (its-leases o is)) (λ is-h is-zs.
-        -- [_7; _9; [κ₂]; true; [κ₀]; [κ₁]; the last octets; true; _19; …; …; _10; …; (_9) …; _8; …; (_7) …; _6; …; …; _1; …; room for _0; …]: the result is put together
-        assigns ! (of-opd ! (load ! (from ! (stop !)) (look ! 0 refl))) (from ! (stop !)) (init ! 14 refl (typed-ledger 𝓤 H A W (ws .1 .1 .1 .0) is-h)) $
-        assigns ! (of-opd ! (load ! (from ! (stop !)) (look ! 1 refl))) (from ! (stop !)) (init ! 12 refl (typed-leases 𝓤 H A W (ws .1 .1 .1 .1 .0) is-zs)) $
-        assigns ! (agg ! (and-then ! (load ! (from ! (stop !)) (look ! 12 refl)) (no-more !))) (from ! (stop !)) (init ! 10 refl (typed-records 𝓤 H A W (to-records (ws .1 .1 .1 .1 .0)) (is-records (ws .1 .1 .1 .1 .0) is-zs))) $
-        assigns ! (agg ! (and-then ! (load ! (from ! (stop !)) (look ! 14 refl)) (and-then ! (load ! (from ! (stop !)) (look ! 10 refl)) (no-more !)))) (from ! (stop !)) (init ! 8 refl (typed-owned 𝓤 H A W (to-owned (ws .1 .1 .1 .0) (ws .1 .1 .1 .1 .0)) (is-owned (ws .1 .1 .1 .0) (ws .1 .1 .1 .1 .0) is-h is-zs))) $
-        assigns ! (agg ! (and-then ! (load ! (from ! (stop !)) (look ! 26 refl)) (and-then ! (load ! (from ! (stop !)) (look ! 8 refl)) (no-more !)))) (from ! (stop !))
-        (init ! 44 refl (LL.lawful Z.the-type Z′.the-laws 𝓤 H A W .typed (served r (ws .1 .1 .1 .0) (ws .1 .1 .1 .1 .0)) _ (is-served r w (ws .1 .1 .1 .0) (ws .1 .1 .1 .1 .0) is-r is-h is-zs) .0)) $ returns ! (look ! 44 refl) $
-        forget ! 0 refl $ forget ! 1 refl $ forget ! 8 refl $ forget ! 10 refl $ forget ! 12 refl $ forget ! 14 refl $ forget ! 16 refl $ forget ! 18 refl $ forget ! 20 refl $ forget ! 22 refl $ forget ! 24 refl $ forget ! 26 refl $
-        forget ! 29 refl $ forget ! 32 refl $ forget ! 34 refl $ forget ! 36 refl $ forget ! 38 refl $ forget ! 40 refl $ forget ! 42 refl $ forget ! 44 refl $
-        move ! (44 ∷ 45 ∷ []) $ free1 ! $ move ! (42 ∷ 43 ∷ []) $ free1 ! $ move ! (40 ∷ 41 ∷ []) $ free1 ! $ move ! (38 ∷ 39 ∷ []) $ free1 ! $ move ! (36 ∷ 37 ∷ []) $ free1 ! $ move ! (34 ∷ 35 ∷ []) $ free1 ! $ move ! (32 ∷ 33 ∷ []) $ free1 ! $
-        move ! (0 ∷ 31 ∷ []) $ free1 ! $ move ! (28 ∷ 29 ∷ []) $ free1 ! $ move ! (0 ∷ 27 ∷ []) $ free1 ! $
-        -- [[κ₂]; true; [κ₀]; [κ₁]; the last octets; true; _19; …; _18; …; …; _10; …]
-        move ! (24 ∷ 25 ∷ []) $ free1 ! $ move ! (22 ∷ 23 ∷ []) $ free1 ! $ move ! (20 ∷ 21 ∷ []) $ free1 ! $ move ! (18 ∷ 19 ∷ []) $ free1 ! $ move ! (16 ∷ 17 ∷ []) $ free1 ! $ move ! (14 ∷ 15 ∷ []) $ free1 ! $ move ! (12 ∷ 13 ∷ []) $ free1 ! $
-        move ! (10 ∷ 11 ∷ []) $ free1 ! $ move ! (8 ∷ 9 ∷ []) $ free1 ! $ move ! (6 ∷ 7 ∷ []) $ free1 ! $ free0 ! $
-        keep ! (2 ∷ 3 ∷ 0 ∷ 4 ∷ []) $ by ! (exits r (ws .1 .1 .1 .0) (ws .1 .1 .1 .1 .0) (ws .1 .1 .1 .1 .1 .1 .0) (is-served r w (ws .1 .1 .1 .0) (ws .1 .1 .1 .1 .0) is-r is-h is-zs) e len′))))))))))))))))))))))))))))))
+        move ! (4 ∷ 3 ∷ 9 ∷ 8 ∷ 10 ∷ []) $ backs-mut ! tt ν μ l₇ l₉ γ δ (ws .1 .1 .1 .0) (ws .1 .1 .1 .1 .0) (len ∙ long ys is-x) (λ is-h is-zs.
+        -- [_7; _9; [κ₂]; true; [κ₀]; [κ₁]; the last octets; true; _19; …; …; _10; …; (_9) …; _8; …; (_7) …; _6; …; …; _1; …; room for _0; …]
+        keep ! (4 ∷ 5 ∷ 2 ∷ 6 ∷ 8 ∷ 9 ∷ 10 ∷ 11 ∷ 12 ∷ 13 ∷ 14 ∷ 15 ∷ 16 ∷ 17 ∷ 18 ∷ 19 ∷ 20 ∷ 21 ∷ 22 ∷ 23 ∷ 24 ∷ 25 ∷ 26 ∷ 27 ∷ 1 ∷ 28 ∷ 29 ∷ 30 ∷ 0 ∷ 31 ∷ 32 ∷ 33 ∷ 34 ∷ 35 ∷ 36 ∷ 37 ∷ 38 ∷ 39 ∷ 40 ∷ 41 ∷ 42 ∷ 43 ∷ 44 ∷ 45 ∷ []) $ call-on (_, _, _) (_, _, _) (_, _, _) (_, _, _) (_, _, _) (_, _, _) (_, _, _) (_, _, _) (_, _, _) (_, _, _) (_, _, _) (_, _, _) (_, _, _) (_, _, _) (_, _, _) (_, _) (_, _) (_, _) (_, _) (_, _) _ Q (t₁₆ (ws .1 .1 .1 .0) is-h) (t₁₇ (ws .1 .1 .1 .1 .0) is-zs) (t₁₈ (ws .1 .1 .1 .1 .0) is-zs) (t₁₉ (ws .1 .1 .1 .0) (ws .1 .1 .1 .1 .0) is-h is-zs) (t₀ r w (ws .1 .1 .1 .0) (ws .1 .1 .1 .1 .0) is-r is-h is-zs) (end r w (ws .1 .1 .1 .0) (ws .1 .1 .1 .1 .0) (ws .1 .1 .1 .1 .1 .1 .0) is-r is-h is-zs e len′))))))))))
+
+    walk : IsOwned o → Room u8 (length names) → Room u8 (length os) → Room u8 (length ns) → ent 𝓤 (onEntry 𝓤 H A f.signature (κ₀, (κ₁, (κ₂, tt))) (q₀, (q₁, (q₂, tt))) a vals) (WpFn 𝓤 H C Λ code.function (word-owned o ∷ s₀ ∷ s₁ ∷ vint w32 m ∷ vint w32 n ∷ s₂ ∷ []) Post)
+    walk is fits₀ fits₁ fits₂ =
+        qed W ((‵ (flft κ₀ q₀) ⊛ ‵ (flft κ₁ q₁) ⊛ ‵ (flft κ₂ q₂) ⊛ ‵ ftrue) ∷ ‵ (owns (O.the-row ∷ ShrSlice (named 0) κ₀ u8 ∷ ShrSlice (named 1) κ₁ u8 ∷ u32 ∷ u32 ∷ MutSlice (named 2) κ₂ u8 ∷ []) a vals) ∷ []) ∵
+        split ! $ move ! (1 ∷ []) $ split ! $ move ! (1 ∷ []) $ split ! $ move ! (4 ∷ []) $ fsplit ! $ drop ! $ fsplit ! $ move ! (1 ∷ []) $ fsplit ! $ move ! (1 ∷ []) $ fsplit ! $ drop ! $ fsplit ! $ drop ! $ fsplit ! $ keep ! (3 ∷ 7 ∷ 2 ∷ 6 ∷ 0 ∷ 4 ∷ []) $
+        -- [the names; [κ₀]; the datagram; [κ₁]; the reply buffer; [κ₂]]
+        enter ! C Λ code.function (word-owned o ∷ s₀ ∷ s₁ ∷ vint w32 m ∷ vint w32 n ∷ s₂ ∷ []) _ $
+        alloc1 ! (λ l₀. alloc1 ! (λ l₁. alloc1 ! (λ l₂. alloc1 ! (λ l₃. alloc1 ! (λ l₄. alloc1 ! (λ l₅. alloc1 ! (λ l₆. alloc1 ! (λ l₇. alloc1 ! (λ l₈. alloc1 ! (λ l₉. alloc1 ! (λ l₁₀. alloc1 ! (λ l₁₁. alloc1 ! (λ l₁₂. alloc1 ! (λ l₁₃.
+        alloc1 ! (λ l₁₄. alloc1 ! (λ l₁₅. alloc1 ! (λ l₁₆. alloc1 ! (λ l₁₇. alloc1 ! (λ l₁₈. alloc1 ! (λ l₁₉. alloc0 ! $ params1 ! $
+        pass1 ! (init ! 36 refl (typed-owned 𝓤 H A W o is)) $ pass1 ! (init ! 34 refl (tt, (tt, (record { fits = fits₀ .0 }, tt)))) $ pass1 ! (init ! 32 refl (tt, (tt, (record { fits = fits₁ .0 }, tt)))) $
+        pass1 ! (init ! 30 refl (tt, record { fits = m-fits })) $ pass1 ! (init ! 28 refl (tt, record { fits = n-fits })) $ pass1 ! (init ! 26 refl (tt, (tt, (record { fits = fits₂ .0 }, tt)))) $ pass0 ! $
+        -- [_19; …; _18; …; …; _1; …; room for _0; …; the names; [κ₀]; the datagram; [κ₁]; the reply buffer; [κ₂]]: the ledger and the lease records are copied
+        rewrite ! 36 (λ (u : Val). ‵ (fat fullShare O′.mir l₁ 0 u)) (owned-parts o) refl $
+        copies-on (_, l₂, _) (_, l₃, _) (_, l₄, _) (_, l₅, _) (_, l₀) (_, l₇) (_, l₉) (_, l₁₀) (_, l₁₁) (_, l₁₂) (_, l₁₃) (_, l₁₄) (_, l₁₅) (_, l₁₆) (_, l₁₇) (_, l₁₈) (_, l₁₉) l₁ l₆ l₈ _ _ _ _ (word-ledger h) (word-leases ys) _ Post (typed-ledger 𝓤 H A W h (its-ledger o is)) (typed-part 𝓤 H A W ys (its-leases o is)) (typed-leases 𝓤 H A W ys (its-leases o is)) (tt, tt) (tt, tt) (tt, (tt, (record { fits = room .0 }, tt))) (tt, tt) (tt, (tt, (record { fits = fits₂ .0 }, tt)))
+        (lend-on (_, l₁, _) (_, l₆, _) (_, l₈, _) (_, l₁₂, _) (_, l₁₄, _) (_, l₀) (_, l₂) (_, l₃) (_, l₄) (_, l₅) (_, l₁₁) (_, l₁₃) (_, l₁₅) (_, l₁₆) (_, l₁₇) (_, l₁₈) (_, l₁₉) l₇ l₉ l₁₀ Post (its-ledger o is) (its-leases o is) (typed-ledger 𝓤 H A W) (typed-leases 𝓤 H A W) (typed-part 𝓤 H A W) (typed-whole 𝓤 H A W) typed-served exits-served)))))))))))))))))))))
 
 module _ {M : Type 1} (𝓤 : URA M) (H : Heap 𝓤) (A : Atoms 𝓤) (W : Given 𝓤 H A) (mem : Memory → SProp 𝓤) (run : Routine → Fun 𝓤) where
   walks : (C : Calls 𝓤 H) (Λ : Loops 𝓤 H) → FmC 𝓤 H (W .laws) C → Triple 𝓤 (C #lent·serve) (Serve 𝓤 H A mem run) → Walks 𝓤 H A f.ended stayed (WpFn 𝓤 H C Λ code.function) (f.clauses 𝓤 H A mem run)

@@ -18,7 +18,7 @@ on-tenant-requires c κs =
 -- `t2` is `memory`, which the code copies under another name
 returns : tie.Need-returns
 returns c =
-    let at-on = c .before .before .before .before .before .before .before .before .before in
+    let at-on = c .before .before .before .before .before .before .before .before .before .before .before in
     let at-row = at-on .before .before .before in
     let at-tenant = at-row .before .before .before in
     let start = at-tenant .before .before .before .before in
@@ -26,7 +26,7 @@ returns c =
     let known = at-row .before .if1 .taken in
     at-edited _ _ _ _ _ (records-size (start .args .records) _ (start .good .1 .1 .0)) (at-tenant .tenant-of .ensures) cut known
     (start .pre .1) (at-row .row .ensures) (own-releases (start .args .t2) (start .args .s) noReleases (memory-size (start .args .t2) _ (start .good .1 .0)) cut known) (at-on .on-tenant .ensures)
-    (c .before .before .edited .ensures) (c .before .put-row .ensures) (c .note .ensures)
+    (c .before .before .before .before .edited .ensures) (c .before .before .before .put-row .ensures) (c .before .before .note .ensures) (c .edited2 .ensures)
 
 returns-2 : tie.Need-returns-2
 returns-2 c =
@@ -63,6 +63,7 @@ at-clock-spec =
     (λ c κs. search needs)
     (λ c. search (unmapped, needs))
     (λ c. search (unmapped, needs))
+    (λ c κs. search needs)
     (λ c. search needs)
     returns
     (λ c. search needs)

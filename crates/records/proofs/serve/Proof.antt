@@ -15,7 +15,7 @@ returns c = let at-if1 = c .before in let start = at-if1 .before .before .before
 returns-2 : tie.Need-returns-2
 returns-2 c =
     let at-sound = c .before .before in
-    let at-survey = at-sound .before in
+    let at-survey = at-sound .before .before in
     let at-if1 = at-survey .before in
     let start = at-if1 .before .before .before .before .before .before in
     serve-unsound _ (start .args .ledger) _ _ _ (at-if1 .if1 .left) (at-survey .survey .ensures) (at-sound .is-sound .ensures) (not-true _ (c .before .if2 .taken)) refl (records-size (start .args .records) _ (start .good .1 .0)) (c .discard2 .ensures)
@@ -24,7 +24,7 @@ returns-2 c =
 returns-3 : tie.Need-returns-3
 returns-3 c =
     let at-sound = c .before .before .before in
-    let at-survey = at-sound .before in
+    let at-survey = at-sound .before .before in
     let at-if1 = at-survey .before in
     let start = at-if1 .before .before .before .before .before .before in
     serve-short _ (start .args .ledger) _ _ _ (at-if1 .if1 .left) (at-survey .survey .ensures) (at-sound .is-sound .ensures) (not-false _ (c .before .before .if2 .left)) (c .before .if3 .taken) refl (records-size (start .args .records) _ (start .good .1 .0)) (c .discard3 .ensures)
@@ -34,7 +34,7 @@ at-clock-requires : tie.Need-at-clock-requires
 at-clock-requires c κs =
     let at-raise = c .before .before .before .before in
     let at-sound = at-raise .before .before .before in
-    let at-survey = at-sound .before in
+    let at-survey = at-sound .before .before in
     let start = at-survey .before .before .before .before .before .before .before in
     let size = records-size (start .args .records) _ (start .good .1 .0) in
     let long = records-long (start .args .records) _ (start .good .1 .0) in
@@ -44,7 +44,7 @@ returns-4 : tie.Need-returns-4
 returns-4 c =
     let at-raise = c .before .before .before .before .before .before .before in
     let at-sound = at-raise .before .before .before in
-    let at-survey = at-sound .before in
+    let at-survey = at-sound .before .before in
     let start = at-survey .before .before .before .before .before .before .before in
     let size = records-size (start .args .records) _ (start .good .1 .0) in
     let long = records-long (start .args .records) _ (start .good .1 .0) in
@@ -56,7 +56,7 @@ drop-ended-requires : tie.Need-drop-ended-requires
 drop-ended-requires c κs =
     let at-raise = c .before .before .before in
     let at-sound = at-raise .before .before .before in
-    let at-survey = at-sound .before in
+    let at-survey = at-sound .before .before in
     let start = at-survey .before .before .before .before .before .before .before in
     let size = records-size (start .args .records) _ (start .good .1 .0) in
     let long = records-long (start .args .records) _ (start .good .1 .0) in
@@ -64,24 +64,24 @@ drop-ended-requires c κs =
 
 at-clock-requires-2 : tie.Need-at-clock-requires-2
 at-clock-requires-2 c κs =
-    let at-raise = c .before .before .before .before .before .before .before in
+    let at-raise = c .before .before .before .before .before .before .before .before in
     let at-sound = at-raise .before .before .before in
-    let at-survey = at-sound .before in
+    let at-survey = at-sound .before .before in
     let start = at-survey .before .before .before .before .before .before .before in
     let size = records-size (start .args .records) _ (start .good .1 .0) in
     let long = records-long (start .args .records) _ (start .good .1 .0) in
-    (at-raise .before .if3 .left, left-gathered (start .args .ledger) _ _ _ (at-raise .raise .ensures) size long (at-survey .survey .ensures) (at-sound .is-sound .ensures) (not-false _ (at-raise .before .before .if2 .left)) (c .before .before .before .drop-ended .ensures))
+    (at-raise .before .if3 .left, left-gathered (start .args .ledger) _ _ _ (at-raise .raise .ensures) size long (at-survey .survey .ensures) (at-sound .is-sound .ensures) (not-false _ (at-raise .before .before .if2 .left)) (c .before .before .before .before .drop-ended .ensures))
 
 returns-5 : tie.Need-returns-5
 returns-5 c =
-    let at-raise = c .before .before .before .before .before .before .before .before .before .before in
+    let at-raise = c .before .before .before .before .before .before .before .before .before .before .before in
     let at-sound = at-raise .before .before .before in
-    let at-survey = at-sound .before in
+    let at-survey = at-sound .before .before in
     let start = at-survey .before .before .before .before .before .before .before in
     let size = records-size (start .args .records) _ (start .good .1 .0) in
     let long = records-long (start .args .records) _ (start .good .1 .0) in
     serve-on _ (start .args .ledger) _ _ _ (at-survey .before .if1 .left) (at-survey .survey .ensures) (at-sound .is-sound .ensures) (not-false _ (at-raise .before .before .if2 .left)) (at-raise .before .if3 .left)
-    (left-book (start .args .ledger) _ _ _ (at-raise .raise .ensures) size long (at-survey .survey .ensures) (at-sound .is-sound .ensures) (not-false _ (at-raise .before .before .if2 .left)) (c .before .before .before .before .before .before .drop-ended .ensures)) (c .before .before .at-clock2 .ensures)
+    (left-book (start .args .ledger) _ _ _ (at-raise .raise .ensures) size long (at-survey .survey .ensures) (at-sound .is-sound .ensures) (not-false _ (at-raise .before .before .if2 .left)) (c .before .before .before .before .before .before .before .drop-ended .ensures)) (c .before .before .at-clock2 .ensures)
 
 pub serve-spec : {M : Type 1} → statement M
 serve-spec =

@@ -1,17 +1,19 @@
--- Laws: the call on 128 records by value: tests 1 to 3, the drop, and the edit of the records and the releases of the client's tenant.
+-- Laws: the call on 128 records by value: tests 1 to 3, the drop, and the edit of the records and the releases of the client's tenant and of the board.
 use mathlib.Core.Path.{_≡_, refl, sym, ap, ap₂, _∙_, subst}
 use mathlib.Core.Bool.{Bool, true, false, _&&_, _||_, true≢false}
 use mathlib.Core.List.{List, [], map}
 use Prim.Native.Nat.{ℕ, _≤_, _<_}
 use native.Mathlib.Omega.{arith}
 use lib.Dec.{eqb}
-use lib.ListN.{length, getD, length-map}
+use lib.ListN.{length, getD, length-map, set}
 use lib.Seq.{set-getD}
 use Rattle.lists.specs.Pick.{pick}
 use Rattle.lists.specs.laws.Row.{at-in}
 use Rattle.lists.specs.All.{All, allBy}
 use Rattle.message.specs.Read.{readOf}
 use Rattle.reply.specs.Reply.{leastRoom}
+use Rattle.occupancy.specs.declared.Board.{Board}
+use Rattle.occupancy.specs.Board.{sameBoard}
 use Rattle.state.specs.declared.Edit.{Edit}
 use Rattle.state.specs.declared.Lease.{Lease}
 use Rattle.state.specs.declared.LeaseTable.{LeaseTable}
@@ -20,10 +22,13 @@ use Rattle.state.specs.declared.Memory.{Memory}
 use Rattle.state.specs.declared.State.{State}
 use Rattle.state.specs.declared.TenantLeases.{TenantLeases}
 use Rattle.state.specs.declared.TenantReleases.{TenantReleases}
-use Rattle.state.specs.Book.{Book, advanced, dropped, idOf, inUse, insertedIn, laidOut, laidReleases, leasesOf, liveOf, putAt, putReleases, raised, releasesAt, remembered, removeOf, tableOf, tenantAt}
-use Rattle.state.specs.Edit.{applied, editedIn, forgetOf, leftIn, noted, notedIn, rememberOf}
+use Rattle.state.specs.Book.{Book, advanced, cleared, dropped, idOf, inUse, insertedIn, laidOut, laidReleases, leasesOf, liveOf, putAt, raised, releasesAt, remembered, removeOf, tableOf, tenantAt, boardWith, boardWithout}
+use Rattle.state.specs.Board.{builtOf}
+use Rattle.state.specs.Edit.{applied, boardEdited, boardLeft, editedIn, forgetOf, leftIn, noted, notedIn, rememberOf}
 use Rattle.state.specs.laws.Layout.{advanced-is, table-back}
 use Rattle.soundness.specs.declared.HeldTable.{HeldTable}
+use Rattle.agreement.specs.Agrees.{agreesB}
+use Rattle.agreement.specs.laws.Agrees.{made-agrees}
 use Rattle.names.specs.Names.{namesB}
 use Rattle.releases.specs.Whole.{bookB}
 use Rattle.releases.specs.laws.Whole.{advanced-book, book-named, book-sound}
@@ -43,7 +48,7 @@ use Rattle.records.specs.declared.Surveyed.{Surveyed}
 use Rattle.records.specs.Records.{Drops, endsAfter, putRow, recordsOf, tableFrom}
 use Rattle.records.specs.Lent.{Gathered, LentAnswer, ServesRecords, bookFrom, lentAnswer, serveWith}
 use Rattle.records.specs.laws.Back.{lent-table-back, records-back}
-use Rattle.records.specs.laws.Rows.{Long, drop-idle, put-row-is, sound-laid}
+use Rattle.records.specs.laws.Rows.{Long, clear-idle, drop-idle, put-row-is, sound-laid}
 use Rattle.records.specs.laws.Steps.{off-whole, on-whole}
 use Rattle.records.specs.laws.Table.{table-eight}
 
@@ -91,14 +96,23 @@ idle e h b p q =
     gone : TenantLeases
     gone = laidOut (removeOf (idOf (e .old)) (inUse own))
 
-unnoted : (e : Edit) (h : ℕ) (m : Memory) → e .forgets ≡ false → e .remembers ≡ false → noted e h m ≡ m
-unfolding noted notedIn pick
-unnoted e h m p q =
-    ap₂ (λ (x y : Bool). putReleases m h (pick y (laidReleases (rememberOf (e .release) (remembered own))) (pick x (laidReleases (forgetOf (idOf (e .new)) (remembered own))) own))) p q
-    ∙ ap {B = Memory} (λ (x : List TenantReleases). record { releases = x }) (set-getD (m .releases) h (laidReleases []))
+unnoted : (e : Edit) (h : ℕ) (m : Memory) → e .leaves ≡ false → e .enters ≡ false → e .forgets ≡ false → e .remembers ≡ false → noted e h m ≡ m
+unfolding noted notedIn boardEdited boardLeft pick
+unnoted e h m a b p q = ap₂ {C = Memory} (λ (x : List TenantReleases) (y : Board). record { releases = x; board = y }) releases board
   where
     own : TenantReleases
     own = releasesAt m h
+
+    releases : set (m .releases) h (notedIn e own) ≡ m .releases
+    releases =
+        ap₂ (λ (x y : Bool). set (m .releases) h (pick y (laidReleases (rememberOf (e .release) (remembered own))) (pick x (laidReleases (forgetOf (idOf (e .new)) (remembered own))) own))) p q
+        ∙ set-getD (m .releases) h (laidReleases [])
+
+    board : boardEdited e h (m .board) ≡ m .board
+    board = ap₂ (λ (x y : Bool). pick y (boardWith h (pick x gone (m .board)) (e .new)) (pick x gone (m .board))) a b
+      where
+        gone : Board
+        gone = boardWithout h (m .board) (e .old)
 
 -- ---- test 3
 -- what is remembered of tenant h, as the code reads it
@@ -128,11 +142,13 @@ module _ (g : Ledger) (ls : List Lease) (names : List ℕ) (client : ℕ) (d : L
       long = c;
     })
 
-    pub at-edited : {t : TenantLeases} {i : TenantReleases} {z : Records} → t ≡ editedIn (r .edit) own → (z .leases ≡ putRow ls h (t .leases)) × (length (z .leases) ≡ 128) → i ≡ notedIn (r .edit) q
-        → ServesRecords (lentAnswer (atClock (bookFrom g ls names) client d)) x y (record { outcome = r .outcome; clock = g .state .clock; memory = putReleases (g .memory) h i; records = z })
+    pub at-edited : {t : TenantLeases} {i : TenantReleases} {j : Board} {z : Records} → t ≡ editedIn (r .edit) own → (z .leases ≡ putRow ls h (t .leases)) × (length (z .leases) ≡ 128)
+        → i ≡ notedIn (r .edit) q → j ≡ boardEdited (r .edit) h (g .memory .board)
+        → ServesRecords (lentAnswer (atClock (bookFrom g ls names) client d)) x y
+        (record { outcome = r .outcome; clock = g .state .clock; memory = record { releases = set (g .memory .releases) h i; board = j }; records = z })
     unfolding applied noted
-    at-edited {t} a b c =
-        edits (ap (putReleases (g .memory) h) (c ∙ ap (notedIn (r .edit)) u))
+    at-edited {t} a b c k =
+        edits (ap₂ {C = Memory} (λ (i : TenantReleases) (j : Board). record { releases = set (g .memory .releases) h i; board = j }) (c ∙ ap (notedIn (r .edit)) u) k)
         (b .0 ∙ put-row-is ls h t size (omega (arith, f, p)) ∙ ap (λ (k : TenantLeases). recordsOf (putAt (tableFrom ls) h k)) (a ∙ ap (editedIn (r .edit)) o)) (b .1)
 
     pub at-same : {z : Records} {t : Bool} → t ≡ (r .edit .leaves || (r .edit .enters || (r .edit .forgets || r .edit .remembers))) → t ≡ false → z .leases ≡ ls
@@ -141,34 +157,49 @@ module _ (g : Ledger) (ls : List Lease) (names : List ℕ) (client : ℕ) (d : L
         let j = or-none (r .edit .leaves) (r .edit .enters || (r .edit .forgets || r .edit .remembers)) (sym a ∙ b) in
         let k = or-none (r .edit .enters) (r .edit .forgets || r .edit .remembers) (j .1) in
         let i = or-none (r .edit .forgets) (r .edit .remembers) (k .1) in
-        edits (sym (unnoted (r .edit) h (g .memory) (i .0) (i .1)))
+        edits (sym (unnoted (r .edit) h (g .memory) (j .0) (k .0) (i .0) (i .1)))
         (c ∙ sym (records-back ls size) ∙ ap recordsOf (sym (idle (r .edit) h (tableFrom ls) (j .0) (k .0)))) (ap length c ∙ size)
 
 -- ---- the drop
 -- what the survey promises, and what test 1 tests of it
 abbrev Surveys : Ledger → List Lease → Surveyed → Type 0
-Surveys g ls c = (c .rules ≡ tableRulesOf (g .state) (tableFrom ls)) × (c .releases ≡ releaseRulesOf (g .state) (tableFrom ls) (g .memory))
+Surveys g ls c =
+    (c .rules ≡ tableRulesOf (g .state) (tableFrom ls)) × (c .releases ≡ releaseRulesOf (g .state) (tableFrom ls) (g .memory)) × (c .built ≡ builtOf (tableFrom ls))
 
 abbrev Tested : Ledger → List ℕ → Surveyed → Bool
-Tested g names c = soundFrom (g .state) (c .rules) && (eqb (brokenRelease (c .releases)) 0 && namesB (g .state .«scope_count») (g .state .«tenant_count») names)
+Tested g names c =
+    soundFrom (g .state) (c .rules)
+    && (eqb (brokenRelease (c .releases)) 0 && (sameBoard (g .memory .board) (c .built) && namesB (g .state .«scope_count») (g .state .«tenant_count») names))
+
+-- the board is asked about where the rules hold
+and-where : (a : Bool) {x y : Bool} → (a ≡ true → x ≡ y) → (a && x) ≡ (a && y)
+and-where true e = e refl
+and-where false e = refl
 
 tested : (g : Ledger) (ls : List Lease) (names : List ℕ) (c : Surveyed) {t : Bool} → Surveys g ls c → t ≡ Tested g names c → t ≡ bookB (bookFrom g ls names)
 unfolding bookB memoryB brokenMemory
 tested g ls names c v w =
-    w ∙ ap₂ (λ (x y : Bool). x && (y && namesB (g .state .«scope_count») (g .state .«tenant_count») names)) (sound-from (g .state) (tableFrom ls) (c .rules) (v .0))
+    w ∙ ap₂ (λ (x y : Bool). x && (y && (sameBoard (g .memory .board) (c .built) && good))) (sound-from (g .state) (tableFrom ls) (c .rules) (v .0))
     (ap (λ (x : ReleaseRules). eqb (brokenRelease x) 0) (v .1))
+    ∙ and-where (soundB (g .state) (tableFrom ls)) (λ p. ap (λ (x : Bool). memoryB (g .state) (tableFrom ls) (g .memory) && (x && good)) (agrees p))
+  where
+    good : Bool
+    good = namesB (g .state .«scope_count») (g .state .«tenant_count») names
+
+    agrees : soundB (g .state) (tableFrom ls) ≡ true → sameBoard (g .memory .board) (c .built) ≡ agreesB (tableFrom ls) (g .memory .board)
+    agrees p = ap (sameBoard (g .memory .board)) (v .2) ∙ made-agrees (g .state) (tableFrom ls) (g .memory .board) (table-eight ls) p
 
 module _ (g : Ledger) (ls : List Lease) (names : List ℕ) (time : ℕ) {s′ : State} (e : s′ ≡ raised (g .state) time) where
-  -- the ledger then
-  abbrev then : Ledger
-  then = record { state = s′; memory = g .memory }
+  -- the ledger then, with a board
+  abbrev then : Board → Ledger
+  then x = record { state = s′; memory = record { releases = g .memory .releases; board = x } }
 
-  -- records that stand for the advanced book
-  module _ (ls′ : List Lease) (p : tableFrom ls′ ≡ dropped (s′ .clock) (tableFrom ls)) where
-    advanced-now : bookFrom then ls′ names ≡ advanced (bookFrom g ls names) time
-    advanced-now = advanced-is (bookFrom g ls names) time s′ (tableFrom ls′) e p
+  -- records and a board that stand for the advanced book
+  module _ (ls′ : List Lease) (x : Board) (p : tableFrom ls′ ≡ dropped (s′ .clock) (tableFrom ls)) (o : x ≡ cleared (s′ .clock) (tableFrom ls) (g .memory .board)) where
+    advanced-now : bookFrom (then x) ls′ names ≡ advanced (bookFrom g ls names) time
+    advanced-now = advanced-is (bookFrom g ls names) time s′ (tableFrom ls′) x e p o
 
-    advanced-gathered : {held : HeldTable} → bookB (bookFrom g ls names) ≡ true → held ≡ holdingsOf (tableFrom ls′) → Gathered then ls′ names held
+    advanced-gathered : {held : HeldTable} → bookB (bookFrom g ls names) ≡ true → held ≡ holdingsOf (tableFrom ls′) → Gathered (then x) ls′ names held
     advanced-gathered q h = record { sound = subst (λ (b : Book). bookB b ≡ true) (sym advanced-now) (advanced-book (bookFrom g ls names) time q); holdings = h }
 
   -- where none ended, the records themselves
@@ -183,21 +214,28 @@ module _ (g : Ledger) (ls : List Lease) (names : List ℕ) (time : ℕ) {s′ : 
     laid = sound-laid (g .state) ls size long sound
 
     module _ {n : Bool} (a : n ≡ allBy (endsAfter (s′ .clock)) (c .rules .held .tenants)) (b : n ≡ true) where
+      lives : allBy (endsAfter (s′ .clock)) (holdingsOf (tableFrom ls) .tenants) ≡ true
+      lives = ap (λ (x : HeldTable). allBy (endsAfter (s′ .clock)) (x .tenants)) (sym (held-from (g .state) (tableFrom ls) (c .rules) (v .0))) ∙ sym a ∙ b
+
       same : tableFrom ls ≡ dropped (s′ .clock) (tableFrom ls)
-      same = drop-idle (s′ .clock) (tableFrom ls) laid (ap (λ (x : HeldTable). allBy (endsAfter (s′ .clock)) (x .tenants)) (sym (held-from (g .state) (tableFrom ls) (c .rules) (v .0))) ∙ sym a ∙ b)
+      same = drop-idle (s′ .clock) (tableFrom ls) laid lives
 
-      pub idle-gathered : Gathered then ls names (c .rules .held)
-      idle-gathered = advanced-gathered ls same whole (held-from (g .state) (tableFrom ls) (c .rules) (v .0))
+      same-board : g .memory .board ≡ cleared (s′ .clock) (tableFrom ls) (g .memory .board)
+      same-board = clear-idle (s′ .clock) (tableFrom ls) (g .memory .board) (table-eight ls) lives
 
-      pub idle-book : bookFrom then ls names ≡ advanced (bookFrom g ls names) time
-      idle-book = advanced-now ls same
+      pub idle-gathered : Gathered (then (g .memory .board)) ls names (c .rules .held)
+      idle-gathered = advanced-gathered ls (g .memory .board) same same-board whole (held-from (g .state) (tableFrom ls) (c .rules) (v .0))
+
+      pub idle-book : bookFrom (then (g .memory .board)) ls names ≡ advanced (bookFrom g ls names) time
+      idle-book = advanced-now ls (g .memory .board) same same-board
 
     pub drop-ready : (tableFrom ls ≡ tableOf (leasesOf (tableFrom ls))) × (c .rules .held ≡ holdingsOf (tableFrom ls))
     drop-ready = (laid, held-from (g .state) (tableFrom ls) (c .rules) (v .0))
 
-    module _ {d : Dropped} (u : Drops (s′ .clock) ls d) where
+    module _ {d : Dropped} (u : Drops (s′ .clock) ls (g .memory .board) d) where
       live : soundB s′ (dropped (s′ .clock) (tableFrom ls)) ≡ true
-      live = subst (λ (z : Book). soundB (z .state) (z .table) ≡ true) (sym (advanced-is (bookFrom g ls names) time s′ (dropped (s′ .clock) (tableFrom ls)) e refl)) (advanced-sound (bookFrom g ls names) time sound)
+      live = subst (λ (z : Book). soundB (z .state) (z .table) ≡ true) (sym (advanced-is (bookFrom g ls names) time s′ (dropped (s′ .clock) (tableFrom ls)) (cleared (s′ .clock) (tableFrom ls) (g .memory .board)) e refl refl))
+          (advanced-sound (bookFrom g ls names) time sound)
 
       left : tableFrom (d .records .leases) ≡ dropped (s′ .clock) (tableFrom ls)
       unfolding dropped
@@ -207,11 +245,11 @@ module _ (g : Ledger) (ls : List Lease) (names : List ℕ) (time : ℕ) {s′ : 
           (ap length (table-back (map (liveOf (s′ .clock)) (leasesOf (tableFrom ls)))) ∙ length-map (leasesOf (tableFrom ls)) (liveOf (s′ .clock)) ∙ length-map (tableFrom ls .tenants) inUse ∙ table-eight ls)
           (ap tableOf (sym (table-back (map (liveOf (s′ .clock)) (leasesOf (tableFrom ls)))))) live
 
-      pub left-gathered : Gathered then (d .records .leases) names (d .held)
-      left-gathered = advanced-gathered (d .records .leases) left whole (u .holdings ∙ ap holdingsOf (sym left))
+      pub left-gathered : Gathered (then (d .board)) (d .records .leases) names (d .held)
+      left-gathered = advanced-gathered (d .records .leases) (d .board) left (u .board) whole (u .holdings ∙ ap holdingsOf (sym left))
 
-      pub left-book : bookFrom then (d .records .leases) names ≡ advanced (bookFrom g ls names) time
-      left-book = advanced-now (d .records .leases) left
+      pub left-book : bookFrom (then (d .board)) (d .records .leases) names ≡ advanced (bookFrom g ls names) time
+      left-book = advanced-now (d .records .leases) (d .board) left (u .board)
 
 -- ---- tests 1 and 2
 module _ (n : ℕ) (g : Ledger) (ls : List Lease) (names : List ℕ) (c : Call) where

@@ -56,7 +56,7 @@ judged-whole : (f : File) (m : Memory) → Whole (judged (storedState f) (stored
 unfolding judged storedTable accepted
 judged-whole f m =
     pick-cases Whole (soundB (storedState f) (tableOf lists) && memoryB (storedState f) (tableOf lists) m) _ _
-    (λ y. of-lists 0 (storedState f) lists m (from-length 1 8 (f .leases) (f .holds)) (λ _. and-parts _ _ y .0) (λ z. absurd (z refl))) (λ _. none 21 (λ e. absurd (omega arith)))
+    (λ y. of-lists 0 (storedState f) lists _ (from-length 1 8 (f .leases) (f .holds)) (λ _. and-parts _ _ y .0) (λ z. absurd (z refl))) (λ _. none 21 (λ e. absurd (omega arith)))
   where
     lists : List (List Lease)
     lists = mergedFrom 1 8 (f .leases) (f .holds)

@@ -1,9 +1,11 @@
--- Laws: one tenant's records among the 128: put back, surveyed, and left as they are by the drop where no lease has ended.
+-- Laws: one tenant's records among the 128: put back, surveyed with the board that they make, and left as they are by the drop where no lease has ended, the
+-- board too.
 use mathlib.Core.Path.{_≡_, refl, sym, ap, ap₂, _∙_, subst}
 use mathlib.Core.Bool.{Bool, true, false, _&&_}
 use mathlib.Core.List.{List, [], _∷_, _++_, map, append-assoc}
 use Prim.Native.Nat.{ℕ, zero, suc, _+_, _-_, _*_, _≤_, _<_}
 use native.Mathlib.Omega.{arith}
+use native.Mathlib.Numerals.{add-one}
 use lib.ListN.{length, replicate, take, drop, getD, set, length-append, length-drop, length-map, length-take, take-append-drop, List·getD-map}
 use lib.Seq.{take-append-add, drop-append-add, drop-at, drop-cons, getD-at, length-take-le, set-getD}
 use borrow.Author.Tests.{ltb-true}
@@ -13,14 +15,19 @@ use Rattle.lists.specs.laws.All.{AllInv, all-head, all-rest, all-drop, all-take
 use Rattle.lists.specs.laws.Both.{and-parts}
 use Rattle.lists.specs.laws.Copy.{CopyInv, copy-start, copy-next, copy-long, copy-paste}
 use Rattle.lists.specs.laws.Each.{EachInv, each-start, each-next, each-end, map-set}
+use Rattle.lists.specs.laws.Filter.{filter-both}
+use Rattle.lists.specs.Fold.{fold}
 use Rattle.lists.specs.Place.{placeBy}
+use Rattle.occupancy.specs.declared.Board.{Board}
+use Rattle.occupancy.specs.Board.{noBoard}
 use Rattle.state.specs.declared.Lease.{Lease}
 use Rattle.state.specs.declared.LeaseTable.{LeaseTable}
 use Rattle.state.specs.declared.Memory.{Memory}
 use Rattle.state.specs.declared.State.{State}
 use Rattle.state.specs.declared.TenantLeases.{TenantLeases}
 use Rattle.state.specs.declared.TenantReleases.{TenantReleases}
-use Rattle.state.specs.Book.{dropped, inUse, laidOut, leasesOf, liveOf, noLeases, ordered, putAt, tableOf, tenantAt, zeroLease}
+use Rattle.state.specs.Book.{cleared, clearedTo, dropped, endedOf, inUse, laidOut, leasesOf, live, liveOf, noLeases, ordered, putAt, tableOf, tenantAt, boardWith, boardWithout, zeroLease}
+use Rattle.state.specs.Board.{builtOf, builtTo}
 use Rattle.lists.specs.laws.Row.{at-in}
 use Rattle.state.specs.laws.Layout.{dropped-is, endedIn, noLease, read-back}
 use Rattle.soundness.specs.declared.Held.{Held}
@@ -108,6 +115,20 @@ pub memory-row : {s : State} (ls : List Lease) {m : Memory} {n : ℕ} {all r : R
 memory-row ls {m} {h = h} {t} d v e p q u =
     memory-next v t d e p (λ n clock. ap (λ (x : TenantLeases). rulesAt n clock h (inUse x) (getD (m .releases) h d)) (row-own ls p q)) u
 
+-- ---- the board that the leases make, in the same loop
+pub built-first : (t : LeaseTable) {b : Board} → b ≡ noBoard → b ≡ builtTo t 0
+unfolding builtTo
+built-first t e = e
+
+pub built-row : (ls : List Lease) {b r : Board} {h : ℕ} {t : TenantLeases} → b ≡ builtTo (tableFrom ls) h → h < 8 → t ≡ tenantFrom (getD (rows 8 ls) h []) → r ≡ fold (boardWith h) b (inUse t)
+    → r ≡ builtTo (tableFrom ls) (h + 1)
+unfolding builtTo
+built-row ls {h = h} v p q e =
+    e ∙ ap₂ (λ (x : Board) (y : TenantLeases). fold (boardWith h) x (inUse y)) v (row-own ls p q) ∙ ap (builtTo (tableFrom ls)) (sym (add-one h))
+
+pub built-whole : {s : State} {b : LeaseTable} {c : TableRules} {x : Board} {h : ℕ} → SurveyInv s b c h → x ≡ builtTo b h → 8 ≤ h → x ≡ builtOf b
+built-whole {b = b} {h = h} v e p = e ∙ ap (builtTo b) (let q = v .folded .within in let d : h ≡ 8 = omega arith in d)
+
 -- ---- a sound book's records only lay out its leases
 place-within : {A : Type 0} (t : A → Bool) (l : List A) → placeBy t l ≤ length l
 unfolding placeBy pick
@@ -163,6 +184,19 @@ ended-start clock e = all-rest (omega arith) e
 kept : (clock : ℕ) (t : TenantLeases) → t ≡ laidOut (inUse t) → clock < firstEnd (inUse t) → endedIn clock t ≡ t
 kept clock t e p = ap laidOut (none-ended clock (inUse t) p) ∙ sym e
 
+-- and nothing of them is taken off the board
+no-length : {A : Type 0} (l : List A) → length l ≡ 0 → l ≡ []
+no-length [] e = refl
+no-length (x ∷ l) e = absurd (omega arith)
+
+none-gone : (clock : ℕ) (ls : List Lease) → clock < firstEnd ls → endedOf clock ls ≡ []
+unfolding endedOf liveOf
+none-gone clock ls p = no-length (endedOf clock ls) (let a = filter-both (live clock) ls in let b = ap length (none-ended clock ls p) in omega arith)
+
+clear-none : (clock : ℕ) (b : LeaseTable) (x : Board) (h : ℕ) → clock < firstEnd (inUse (tenantAt b h)) → clearedTo clock b x (suc h) ≡ clearedTo clock b x h
+unfolding clearedTo
+clear-none clock b x h p = ap (fold (boardWithout h) (clearedTo clock b x h)) (none-gone clock (inUse (tenantAt b h)) p)
+
 laid-at : (b : LeaseTable) (h : ℕ) → b ≡ tableOf (leasesOf b) → tenantAt b h ≡ laidOut (getD (leasesOf b) h [])
 unfolding tableOf
 laid-at b h e = ap (λ (x : LeaseTable). tenantAt x h) e ∙ List·getD-map laidOut (leasesOf b) h []
@@ -173,24 +207,26 @@ laid-own b h t e v =
     p ∙ ap laidOut (sym (read-back (getD (leasesOf b) h []))) ∙ ap (λ (x : TenantLeases). laidOut (inUse x)) (sym p)
 
 -- with h tenants done
-pub record DropInv (clock : ℕ) (b : LeaseTable) (now : List Lease) (held : List Held) (h : ℕ) : Type 0 where
+pub record DropInv (clock : ℕ) (b : LeaseTable) (x : Board) (now : List Lease) (held : List Held) (y : Board) (h : ℕ) : Type 0 where
   pub tenants : List TenantLeases
   pub each : EachInv (endedIn clock) noLeases (b .tenants) 8 tenants h
   pub sixteen : All Sixteen tenants
   pub records : now ≡ rowsOf tenants
   pub sets : held ≡ map heldSets tenants
+  pub board : y ≡ clearedTo clock b x h
   pub size : length now ≡ 128
   pub laid : b ≡ tableOf (leasesOf b)
 
-pub drop-start : {clock : ℕ} {ls : List Lease} {held : HeldTable} → length ls ≡ 128 → tableFrom ls ≡ tableOf (leasesOf (tableFrom ls)) → held ≡ holdingsOf (tableFrom ls)
-    → DropInv clock (tableFrom ls) ls (held .tenants) 0
-unfolding tableFrom holdingsOf
+pub drop-start : {clock : ℕ} {ls : List Lease} {held : HeldTable} {x : Board} → length ls ≡ 128 → tableFrom ls ≡ tableOf (leasesOf (tableFrom ls)) → held ≡ holdingsOf (tableFrom ls)
+    → DropInv clock (tableFrom ls) x ls (held .tenants) x 0
+unfolding tableFrom holdingsOf clearedTo
 drop-start {ls = ls} e v q = record {
   tenants = map tenantFrom (rows 8 ls);
   each = each-start (length-map (rows 8 ls) tenantFrom ∙ rows-length 8 ls);
   sixteen = rows-sixteen 8 ls e;
   records = sym (rows-back 8 ls e);
   sets = ap (λ (x : HeldTable). x .tenants) q;
+  board = refl;
   size = e;
   laid = v;
 }
@@ -201,7 +237,7 @@ all-set P [] i x v p = v
 all-set P (y ∷ l) zero x v p = (p, v .1)
 all-set P (y ∷ l) (suc i) x v p = (v .0, all-set P l i x (v .1) p)
 
-module _ {clock : ℕ} {b : LeaseTable} {now : List Lease} {held : List Held} {h : ℕ} (v : DropInv clock b now held h) where
+module _ {clock : ℕ} {b : LeaseTable} {x : Board} {now : List Lease} {held : List Held} {y : Board} {h : ℕ} (v : DropInv clock b x now held y h) where
   long : length (v .tenants) ≡ 8
   long = ap length (v .each .whole) ∙ length-append (map (endedIn clock) (take h (b .tenants))) (drop h (b .tenants))
       ∙ (let a = length-map (take h (b .tenants)) (endedIn clock) in let c = length-take h (b .tenants) in let d = length-drop h (b .tenants) in let e = v .each .long in let f = v .each .within in omega arith)
@@ -217,27 +253,31 @@ module _ {clock : ℕ} {b : LeaseTable} {now : List Lease} {held : List Held} {h
       (length-map (take h (b .tenants)) (endedIn clock) ∙ length-take-le h (b .tenants) (let e = v .each .long in omega arith))
 
   -- its leases that ended go
-  pub drop-ended : {t left : TenantLeases} {r : List Lease} {g : Held} → h < 8 → t ≡ tenantAt b h → left ≡ laidOut (liveOf clock (inUse t)) → length (left .leases) ≡ 16
-      → (r ≡ putRow now h (left .leases)) × (length r ≡ 128) → g ≡ heldSets left → DropInv clock b r (set held h g) (h + 1)
-  drop-ended {t} {left} p e q z w u = record {
+  pub drop-ended : {t left : TenantLeases} {r : List Lease} {g : Held} {z : Board} → h < 8 → t ≡ tenantAt b h → left ≡ laidOut (liveOf clock (inUse t)) → length (left .leases) ≡ 16
+      → (r ≡ putRow now h (left .leases)) × (length r ≡ 128) → g ≡ heldSets left → z ≡ fold (boardWithout h) y (endedOf clock (inUse t)) → DropInv clock b x r (set held h g) z (h + 1)
+  unfolding clearedTo
+  drop-ended {t} {left} p e q z w u d = record {
     tenants = set (v .tenants) h left;
     each = each-next (v .each) p (q ∙ ap (endedIn clock) (own p e));
     sixteen = all-set Sixteen (v .tenants) h left (v .sixteen) z;
     records = w .0 ∙ ap (λ (x : List Lease). putRow x h (left .leases)) (v .records) ∙ put-rows (v .tenants) h left (v .sixteen) (let k = long in omega arith);
     sets = ap₂ {C = List Held} (λ (x : List Held) (y : Held). set x h y) (v .sets) u ∙ map-set heldSets (v .tenants) h left;
+    board = d ∙ ap₂ (λ (k : Board) (l : TenantLeases). fold (boardWithout h) k (endedOf clock (inUse l))) (v .board) e ∙ ap (clearedTo clock b x) (sym (add-one h));
     size = w .1;
     laid = v .laid;
   }
 
   -- none ended
-  pub drop-none : {all : HeldTable} {x : Held} {q : Bool} → h < 8 → all ≡ holdingsOf b → x ≡ getD (all .tenants) h noHeld → q ≡ endsAfter clock x → q ≡ true → DropInv clock b now held (h + 1)
+  pub drop-none : {all : HeldTable} {g : Held} {q : Bool} → h < 8 → all ≡ holdingsOf b → g ≡ getD (all .tenants) h noHeld → q ≡ endsAfter clock g → q ≡ true
+      → DropInv clock b x now held y (h + 1)
   unfolding heldSets
-  drop-none {x = x} p a e q y = record {
+  drop-none {g = g} p a e q w = record {
     tenants = v .tenants;
     each = subst (λ (l : List TenantLeases). EachInv (endedIn clock) noLeases (b .tenants) 8 l (h + 1)) same (each-next (v .each) p (sym (kept clock t laid-t before)));
     sixteen = v .sixteen;
     records = v .records;
     sets = v .sets;
+    board = v .board ∙ sym (clear-none clock b x h first) ∙ ap (clearedTo clock b x) (sym (add-one h));
     size = v .size;
     laid = v .laid;
   }
@@ -251,9 +291,11 @@ module _ {clock : ℕ} {b : LeaseTable} {now : List Lease} {held : List Held} {h
       laid-t : t ≡ laidOut (inUse t)
       laid-t = laid-own b h t at (v .laid)
 
+      first : clock < firstEnd (inUse (tenantAt b h))
+      first = subst (λ (z : Held). clock < z .«first_end») (e ∙ ap (λ (z : HeldTable). getD (z .tenants) h noHeld) a ∙ held-at b h (v .each .long) p) (ltb-true clock (g .«first_end») (sym q ∙ w))
+
       before : clock < firstEnd (inUse t)
-      before = subst (λ (z : TenantLeases). clock < firstEnd (inUse z)) (sym at)
-          (subst (λ (z : Held). clock < z .«first_end») (e ∙ ap (λ (z : HeldTable). getD (z .tenants) h noHeld) a ∙ held-at b h (v .each .long) p) (ltb-true clock (x .«first_end») (sym q ∙ y)))
+      before = subst (λ (z : TenantLeases). clock < firstEnd (inUse z)) (sym at) first
 
       same : set (v .tenants) h t ≡ v .tenants
       same = ap (set (v .tenants) h) (sym (still p)) ∙ set-getD (v .tenants) h noLeases
@@ -261,12 +303,14 @@ module _ {clock : ℕ} {b : LeaseTable} {now : List Lease} {held : List Held} {h
   pub drop-within : h ≤ 8
   drop-within = v .each .within
 
-pub drop-end : {clock : ℕ} {ls : List Lease} {all : Records} {sets : HeldTable} {h : ℕ} → DropInv clock (tableFrom ls) (all .leases) (sets .tenants) h → 8 ≤ h → Drops clock ls (record { records = all; held = sets })
+pub drop-end : {clock : ℕ} {ls : List Lease} {x : Board} {all : Records} {sets : HeldTable} {y : Board} {h : ℕ} → DropInv clock (tableFrom ls) x (all .leases) (sets .tenants) y h → 8 ≤ h
+    → Drops clock ls x (record { records = all; held = sets; board = y })
 unfolding recordsOf holdingsOf
-drop-end {clock} {ls} v p = record {
+drop-end {clock} {ls} {x} {h = h} v p = record {
   records = v .records ∙ ap (λ (x : LeaseTable). rowsOf (x .tenants)) done;
   long = v .size;
   holdings = ap {B = HeldTable} (λ (x : List Held). record { tenants = x }) (v .sets ∙ ap (λ (x : LeaseTable). map heldSets (x .tenants)) done);
+  board = v .board ∙ ap (clearedTo clock (tableFrom ls) x) (let q = v .each .within in let e : h ≡ 8 = omega arith in e);
 }
   where
     done : record { tenants = v .tenants } ≡ dropped clock (tableFrom ls)
@@ -286,3 +330,22 @@ drop-idle clock b e q =
         let d = all-head (endsAfter clock) (heldSets (laidOut l)) (map heldSets (map laidOut ll)) p in
         ap₂ {C = List TenantLeases} (λ (x : TenantLeases) (y : List TenantLeases). x ∷ y)
         (sym (kept clock (laidOut l) (ap laidOut (sym (read-back l))) (ltb-true clock (firstEnd (inUse (laidOut l))) (d .0)))) (go ll (d .1))
+
+-- nor is anything taken off the board
+all-at : {A : Type 0} (t : A → Bool) (l : List A) (i : ℕ) (d : A) → allBy t l ≡ true → i < length l → t (getD l i d) ≡ true
+all-at t [] i d v p = absurd (omega arith)
+all-at t (x ∷ l) zero d v p = all-head t x l v .0
+all-at t (x ∷ l) (suc i) d v p = all-at t l i d (all-head t x l v .1) (omega arith)
+
+pub clear-idle : (clock : ℕ) (b : LeaseTable) (x : Board) → length (b .tenants) ≡ 8 → allBy (endsAfter clock) (holdingsOf b .tenants) ≡ true → x ≡ cleared clock b x
+unfolding clearedTo holdingsOf heldSets
+clear-idle clock b x e v = go 8 (omega arith)
+  where
+    first : (h : ℕ) → h < 8 → clock < firstEnd (inUse (tenantAt b h))
+    first h p =
+        ltb-true clock (firstEnd (inUse (tenantAt b h)))
+        (ap (endsAfter clock) (sym (held-at b h e p)) ∙ all-at (endsAfter clock) (holdingsOf b .tenants) h noHeld v (let n = length-map (b .tenants) heldSets in omega arith))
+
+    go : (k : ℕ) → k ≤ 8 → x ≡ clearedTo clock b x k
+    go zero p = refl
+    go (suc k) p = go k (omega arith) ∙ sym (clear-none clock b x k (first k (omega arith)))

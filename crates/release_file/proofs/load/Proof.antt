@@ -12,4 +12,5 @@ load-spec =
     (λ c κs. search needs)  -- src/lib.rt:55:9 wide-requires
     (λ c. search needs)  -- src/lib.rt:56:36 add-all-releases
     (λ c κs. search (releases-held, needs))  -- src/lib.rt:56:9 all-releases-requires
+    (λ c κs. search needs)  -- src/lib.rt:57:9 no-board-requires
     (λ c. search (memory-is, needs)))  -- src/lib.rt:51:1 returns

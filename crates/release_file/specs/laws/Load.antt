@@ -1,7 +1,7 @@
 -- Laws: reading a section into a memory: a release into an entry, and the entries tenant by tenant.
 use mathlib.Core.Bool.{true}
 use mathlib.Core.List.{List, []}
-use mathlib.Core.Path.{_∙_, _≡_, ap, refl, sym}
+use mathlib.Core.Path.{_∙_, _≡_, ap, ap₂, refl, sym}
 use Prim.Native.Nat.{_+_, _-_, _<_, _≤_, ℕ}
 use native.Mathlib.Omega.{arith}
 use lib.ListN.{drop, getD, length, replicate, set, take}
@@ -13,6 +13,8 @@ use Rattle.lists.specs.laws.All.{to-each}
 use Rattle.lists.specs.laws.Pick.{both}
 use Rattle.octets.specs.Octets.{at32}
 use Rattle.octets.specs.laws.Run.{part-length}
+use Rattle.occupancy.specs.Board.{noBoard}
+use Rattle.occupancy.specs.declared.Board.{Board}
 use Rattle.release_file.specs.Place.{AllKeepable, KeepableAt, ReleasesIn, afterRelease, fileReleaseAt, keptAll, releasesFrom, releasesIn}
 use Rattle.release_file.specs.Section.{FileRelease, fewFor, keepableB, releasesFitB, storedMemory, storedRelease, releaseTenant}
 use Rattle.release_file.specs.laws.Limits.{release-turn, releases-kept, releases-same, tenantLoop}
@@ -58,10 +60,10 @@ module _ {s : List ℕ} {at count : ℕ} (v : ReleasesIn s at) (ec : count ≡ g
   unfolding releasesFitB
   releases-held = releases-kept v ec refl (ap (λ (xs : List FileRelease). allBy keepableB xs) (releases-same v ec) ∙ both _ _ e .0)
 
-  pub memory-is : (qs : List TenantReleases) → qs ≡ keptAll (releasesFrom s (at + 1) count) → _≡_ {A = Memory} (record { releases = qs }) (storedMemory (releasesIn s at))
+  pub memory-is : (qs : List TenantReleases) (b : Board) → qs ≡ keptAll (releasesFrom s (at + 1) count) → b ≡ noBoard → _≡_ {A = Memory} (record { releases = qs; board = b }) (storedMemory (releasesIn s at))
   unfolding storedMemory releasesFitB keptAll fewFor
-  memory-is qs p =
+  memory-is qs b p q =
       let xs : List FileRelease = releasesIn s at in
-      ap {B = Memory} (λ (l : List TenantReleases). record { releases = l })
+      ap₂ {C = Memory} (λ (l : List TenantReleases) (c : Board). record { releases = l; board = c })
       (p ∙ ap keptAll (releases-same v ec)
-      ∙ kept-laid releaseTenant storedRelease 4 laidReleases pushedRelease push-release-laid 8 1 xs (λ i g. leb-true _ 4 (to-each (λ i. fewFor xs (i + 1)) 8 (both _ _ e .1) i g)))
+      ∙ kept-laid releaseTenant storedRelease 4 laidReleases pushedRelease push-release-laid 8 1 xs (λ i g. leb-true _ 4 (to-each (λ i. fewFor xs (i + 1)) 8 (both _ _ e .1) i g))) q

@@ -1,4 +1,4 @@
--- Laws: a section read and written again, and a memory written and read again: each gives the other back. What is written has the section's format, and a
+-- Laws: a section read and written again, and a memory's releases written and read again: each gives the other back. What is written has the section's format, and a
 -- memory can hold it.
 use mathlib.Core.Bool.{Bool, _&&_, _||_, false, true}
 use mathlib.Core.List.{List, [], _∷_, map}
@@ -132,9 +132,9 @@ module _ (m : Memory) (eight : length (m .releases) ≡ 8) (v : All NeatReleases
       ap (λ (k : ℕ). map (map storedRelease) (apart releaseTenant 1 k (filedAll filedRelease 1 rows))) (sym many)
       ∙ entries-back releaseTenant storedRelease filedRelease NeatRelease (λ t y. refl) stored-filed 1 rows neat
 
-  pub memory-back : storedMemory (filedMemory m) ≡ m
+  pub memory-back : storedMemory (filedMemory m) .releases ≡ m .releases
   unfolding storedMemory rows
-  memory-back = ap {B = Memory} (λ (l : List TenantReleases). record { releases = l }) (ap (map laidReleases) apart-back ∙ laid-all (m .releases) v)
+  memory-back = ap (map laidReleases) apart-back ∙ laid-all (m .releases) v
 
   -- ---- a memory can hold its own section
   own-row : (i : ℕ) → i < 8 → length (own releaseTenant (i + 1) (filedMemory m)) ≡ length (getD rows i [])

@@ -17,11 +17,13 @@ use Rattle.state.specs.declared.Release.{Release}
 use Rattle.state.specs.declared.State.{State}
 use Rattle.state.specs.declared.TenantReleases.{TenantReleases}
 use Rattle.state.specs.Book.{Book, advanced, dropped, inUse, laidOut, leasesOf, live, liveOf, other, raised, releaseId, releasesAt, remembered, tableOf, withClock}
+use Rattle.state.specs.Board.{boardOf}
 use Rattle.state.specs.laws.Layout.{read-back}
 use Rattle.soundness.specs.Sound.{soundB, tenantsIn}
 use Rattle.soundness.specs.laws.Kept.{advanced-sound}
+use Rattle.agreement.specs.laws.Agrees.{advanced-agrees, agrees-is}
 use Rattle.releases.specs.Rules.{differs, ownLeases, notLeased, onceB, pastB, rulesAt}
-use Rattle.releases.specs.Whole.{bookB, memoryGood, namesGood}
+use Rattle.releases.specs.Whole.{boardGood, bookB, memoryGood, namesGood}
 use Rattle.releases.specs.laws.Tenants.{Holds, each-memory, memory-each}
 
 with-false : (x : Bool) → (x && false) ≡ false
@@ -31,31 +33,50 @@ with-false false = refl
 module _ (b : Book) where
   pub book-sound : bookB b ≡ true → soundB (b .state) (b .table) ≡ true
   unfolding bookB
-  book-sound v = and-parts (soundB (b .state) (b .table)) (memoryGood b && namesGood b) v .0
+  book-sound v = and-parts (soundB (b .state) (b .table)) (memoryGood b && (boardGood b && namesGood b)) v .0
 
-  rest : bookB b ≡ true → (memoryGood b && namesGood b) ≡ true
+  kept : bookB b ≡ true → (memoryGood b && (boardGood b && namesGood b)) ≡ true
   unfolding bookB
-  rest v = and-parts (soundB (b .state) (b .table)) (memoryGood b && namesGood b) v .1
+  kept v = and-parts (soundB (b .state) (b .table)) (memoryGood b && (boardGood b && namesGood b)) v .1
 
   pub book-remembers : bookB b ≡ true → memoryGood b ≡ true
-  book-remembers v = and-parts (memoryGood b) (namesGood b) (rest v) .0
+  book-remembers v = and-parts (memoryGood b) (boardGood b && namesGood b) (kept v) .0
+
+  rest : bookB b ≡ true → (boardGood b && namesGood b) ≡ true
+  rest v = and-parts (memoryGood b) (boardGood b && namesGood b) (kept v) .1
+
+  pub book-agrees : bookB b ≡ true → boardGood b ≡ true
+  book-agrees v = and-parts (boardGood b) (namesGood b) (rest v) .0
 
   pub book-named : bookB b ≡ true → namesGood b ≡ true
-  book-named v = and-parts (memoryGood b) (namesGood b) (rest v) .1
+  book-named v = and-parts (boardGood b) (namesGood b) (rest v) .1
+
+  -- one bad part makes a bad book
+  bad-rest : (memoryGood b && (boardGood b && namesGood b)) ≡ false → bookB b ≡ false
+  unfolding bookB
+  bad-rest e = ap (λ (x : Bool). soundB (b .state) (b .table) && x) e ∙ with-false (soundB (b .state) (b .table))
 
   pub bad-book : namesGood b ≡ false → bookB b ≡ false
-  unfolding bookB
   bad-book e =
-      ap (λ (x : Bool). soundB (b .state) (b .table) && (memoryGood b && x)) e ∙ ap (λ (x : Bool). soundB (b .state) (b .table) && x) (with-false (memoryGood b))
-      ∙ with-false (soundB (b .state) (b .table))
+      bad-rest (ap (λ (x : Bool). memoryGood b && (boardGood b && x)) e ∙ ap (λ (x : Bool). memoryGood b && x) (with-false (boardGood b)) ∙ with-false (memoryGood b))
 
   pub bad-memory : memoryGood b ≡ false → bookB b ≡ false
-  unfolding bookB
-  bad-memory e = ap (λ (x : Bool). soundB (b .state) (b .table) && (x && namesGood b)) e ∙ with-false (soundB (b .state) (b .table))
+  bad-memory e = bad-rest (ap (λ (x : Bool). x && (boardGood b && namesGood b)) e)
 
-  pub both-book : soundB (b .state) (b .table) ≡ true → memoryGood b ≡ true → namesGood b ≡ true → bookB b ≡ true
+  pub bad-board : boardGood b ≡ false → bookB b ≡ false
+  bad-board e = bad-rest (ap (λ (x : Bool). memoryGood b && (x && namesGood b)) e ∙ with-false (memoryGood b))
+
+  pub both-book : soundB (b .state) (b .table) ≡ true → memoryGood b ≡ true → boardGood b ≡ true → namesGood b ≡ true → bookB b ≡ true
   unfolding bookB
-  both-book v m w = and-both v (and-both m w)
+  both-book v m g w = and-both v (and-both m (and-both g w))
+
+  -- its board is what its leases say
+  pub book-board : bookB b ≡ true → b .memory .board ≡ boardOf (leasesOf (b .table))
+  book-board v = agrees-is (b .table) (b .memory .board) (book-agrees v)
+
+-- so of the same leases there is one board
+pub same-board : (a b : Book) → bookB a ≡ true → bookB b ≡ true → a .table ≡ b .table → a .memory .board ≡ b .memory .board
+same-board a b v w e = book-board a v ∙ ap (λ (t : LeaseTable). boardOf (leasesOf t)) e ∙ sym (book-board b w)
 
 -- ---- the clock is raised and the ended leases are dropped
 pub advanced-names : (b : Book) (time : ℕ) → advanced b time .names ≡ b .names
@@ -101,10 +122,11 @@ unfolding advanced raised
 advanced-memory b time e =
     let s : State = b .state in
     let c : ℕ = max (s .clock) time in
-    each-memory (withClock s c) (dropped c (b .table)) (b .memory) (λ h p.
+    each-memory (withClock s c) (dropped c (b .table)) (advanced b time .memory) (λ h p.
     subst (λ (ls : List Lease). Holds (rulesAt (tenantsIn s) c h ls (releasesAt (b .memory) h))) (sym (leases-dropped c (b .table) h))
     (later (tenantsIn s) (s .clock) c h (ownLeases (b .table) h) (releasesAt (b .memory) h) (omega arith) (memory-each s (b .table) (b .memory) e h p)))
 
 pub advanced-book : (b : Book) (time : ℕ) → bookB b ≡ true → bookB (advanced b time) ≡ true
 advanced-book b time v =
-    both-book (advanced b time) (advanced-sound b time (book-sound b v)) (advanced-memory b time (book-remembers b v)) (advanced-named b time (book-named b v))
+    both-book (advanced b time) (advanced-sound b time (book-sound b v)) (advanced-memory b time (book-remembers b v))
+    (advanced-agrees b time (book-sound b v) (book-agrees b v)) (advanced-named b time (book-named b v))

@@ -27,7 +27,7 @@ use Rattle.soundness.specs.Across.{joinAll}
 unfoldable pub scopeB : Lease → Bool
 scopeB l = oneTo 4 (l .scope)
 
-apart-at : (x y : List Lease) → apart x y ≡ true → (k : ℕ) → 1 ≤ k → k ≤ 4 → apartIn k x y ≡ true
+pub apart-at : (x y : List Lease) → apart x y ≡ true → (k : ℕ) → 1 ≤ k → k ≤ 4 → apartIn k x y ≡ true
 unfolding apart
 apart-at x y e zero p q = absurd (omega arith)
 apart-at x y e (suc zero) p q = and-parts (apartIn 1 x y) (apartIn 2 x y && (apartIn 3 x y && apartIn 4 x y)) e .0
@@ -39,7 +39,7 @@ apart-at x y e (suc (suc (suc (suc zero)))) p q =
 apart-at x y e (suc (suc (suc (suc (suc k))))) p q = absurd (omega arith)
 
 -- the first lease, and the rest, have no more than the list
-head-less : (k : ℕ) (a : Lease) (x : List Lease) (n : ℕ) → bit (adds (inScope k) a) n ≤ bit (heldOf k (a ∷ x)) n
+pub head-less : (k : ℕ) (a : Lease) (x : List Lease) (n : ℕ) → bit (adds (inScope k) a) n ≤ bit (heldOf k (a ∷ x)) n
 head-less k a x n =
     let e : bit (heldOf k (a ∷ x)) n ≡ bit (bitOr (adds (inScope k) a) (heldOf k x)) n = ap (λ (m : ℕ). bit m n) (addresses-cons (inScope k) a x) in
     let q = bit-or (adds (inScope k) a) (heldOf k x) n in omega arith

@@ -61,7 +61,7 @@ Shrunk [] (y ∷ ys) = ⊥
 Shrunk (x ∷ xs) [] = ⊥
 Shrunk (x ∷ xs) (y ∷ ys) = Part x y × Shrunk xs ys
 
-held-less : (s : ℕ) (x y : List Lease) → Part x y → (a : ℕ) → bit (heldOf s y) a ≤ bit (heldOf s x) a
+pub held-less : (s : ℕ) (x y : List Lease) → Part x y → (a : ℕ) → bit (heldOf s y) a ≤ bit (heldOf s x) a
 held-less s x y (z, d) a =
     let q = bit-or (heldOf s y) (heldOf s z) a in
     let r : bit (heldOf s x) a ≡ bit (bitOr (heldOf s y) (heldOf s z)) a = ap (λ (m : ℕ). bit m a) (addresses-reordered (inScope s) d ∙ addresses-append (inScope s) y z) in
@@ -214,7 +214,7 @@ advanced-sound b time e =
     lists-sound (withClock (b .state) c) (map (liveOf c) (leasesOf (b .table))) (sound-advanced (b .state) c (leasesOf (b .table)) (omega arith) (sound-lists (b .state) (b .table) e))
 
 -- ---- one tenant's leases are fewer
-all-part : (l : List Lease) → Part l l
+pub all-part : (l : List Lease) → Part l l
 all-part l = ([], subst (λ (x : List Lease). Reordered l x) (sym (append-nil l)) (Permᴰ·refl l))
 
 same-shrunk : (ls : List (List Lease)) → Shrunk ls ls

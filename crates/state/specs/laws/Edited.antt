@@ -17,7 +17,7 @@ use Rattle.state.specs.declared.TenantReleases.{TenantReleases}
 use Rattle.state.specs.declared.Memory.{Memory}
 use Rattle.state.specs.declared.Edit.{Edit}
 use Rattle.state.specs.Book.{Book, laidReleases, inUse, laidOut, leasesOf, tableOf, tenantAt, putAt, idOf, insertOf, insertedIn, removeOf}
-use Rattle.state.specs.Edit.{noEdit, entering, leaving, givingWay, leftIn, editedIn, applied, notedIn, noted, editedBook}
+use Rattle.state.specs.Edit.{noEdit, entering, leaving, givingWay, leftIn, editedIn, applied, notedIn, boardLeft, boardEdited, noted, editedBook}
 use Rattle.state.specs.laws.Layout.{read-back, put-laid}
 
 -- ---- between the code and the definition
@@ -54,8 +54,8 @@ module _ (b : LeaseTable) (h : ℕ) where
 
 -- ---- what is remembered, and the book, after no edit
 pub noted-none : (m : Memory) (h : ℕ) → noted noEdit h m ≡ m
-unfolding noted notedIn pick
-noted-none m h = ap {B = Memory} (λ (x : List TenantReleases). record { releases = x }) (set-getD (m .releases) h (laidReleases []))
+unfolding noted notedIn boardEdited boardLeft pick
+noted-none m h = ap {B = Memory} (λ (x : List TenantReleases). record { releases = x; board = m .board }) (set-getD (m .releases) h (laidReleases []))
 
 pub edited-none : (b : Book) (h : ℕ) → editedBook noEdit h b ≡ b
 edited-none b h = ap₂ (λ (t : LeaseTable) (m : Memory). record { state = b .state; table = t; memory = m; names = b .names }) (applied-none (b .table) h) (noted-none (b .memory) h)

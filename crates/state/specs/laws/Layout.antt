@@ -8,6 +8,7 @@ use Rattle.lists.specs.Filter.{filterBy}
 use Rattle.lists.specs.Pick.{pick}
 use Rattle.lists.specs.Row.{laidRow}
 use Rattle.identifier.specs.Order.{orderOf}
+use Rattle.occupancy.specs.declared.Board.{Board}
 use Rattle.state.specs.declared.Lease.{Lease}
 use Rattle.state.specs.declared.TenantLeases.{TenantLeases}
 use Rattle.state.specs.declared.LeaseTable.{LeaseTable}
@@ -22,7 +23,7 @@ use Rattle.lists.specs.Fold.{fold}
 use Rattle.lists.specs.laws.Filter.{filter-fewer}
 use Rattle.lists.specs.laws.Each.{map-set, map-back}
 use Rattle.lists.specs.laws.Row.{row-back, row-push, row-filtered, row-insert, row-length, row-in, row-out}
-use Rattle.state.specs.Book.{Book, advanced, changedTo, leaseWith, zeroLease, inUse, laidOut, pushed, keptIf, idOf, byIdentifier, ordered, before, notBefore, named, other, insertOf, insertedIn, removeOf, placeOf, liveOf, leaseAt, tableOf, leasesOf, putAt, raised, dropped, withClock, laidReleases, pushedRelease, remembered, zeroRelease}
+use Rattle.state.specs.Book.{Book, advanced, changedTo, leaseWith, zeroLease, inUse, laidOut, pushed, keptIf, idOf, byIdentifier, ordered, before, notBefore, named, other, insertOf, insertedIn, removeOf, placeOf, liveOf, leaseAt, tableOf, leasesOf, putAt, raised, dropped, cleared, withClock, laidReleases, pushedRelease, remembered, zeroRelease}
 
 -- ---- one turn of the loops below
 -- what an element is past the end of an array
@@ -153,6 +154,10 @@ pub raised-not : (s : State) (time : ℕ) → time ≤ s .clock → s ≡ raised
 unfolding raised
 raised-not s time h = ap (withClock s) (let e : s .clock ≡ max (s .clock) time = omega arith in e)
 
-pub advanced-is : (b : Book) (time : ℕ) (s : State) (t : LeaseTable) → s ≡ raised (b .state) time → t ≡ dropped (s .clock) (b .table) → changedTo b s t (b .memory) ≡ advanced b time
+pub advanced-is : (b : Book) (time : ℕ) (s : State) (t : LeaseTable) (w : Board) → s ≡ raised (b .state) time → t ≡ dropped (s .clock) (b .table)
+    → w ≡ cleared (s .clock) (b .table) (b .memory .board) → changedTo b s t (record { releases = b .memory .releases; board = w }) ≡ advanced b time
 unfolding advanced raised
-advanced-is b time s t p q = ap₂ (λ (x : State) (y : LeaseTable). changedTo b x y (b .memory)) p (q ∙ ap (λ (x : State). dropped (x .clock) (b .table)) p)
+advanced-is b time s t w p q r =
+    ap (λ (x : Board). changedTo b s t (record { releases = b .memory .releases; board = x })) r
+    ∙ ap (λ (x : LeaseTable). changedTo b s x (record { releases = b .memory .releases; board = cleared (s .clock) (b .table) (b .memory .board) })) q
+    ∙ ap (λ (x : State). changedTo b x (dropped (x .clock) (b .table)) (record { releases = b .memory .releases; board = cleared (x .clock) (b .table) (b .memory .board) })) p

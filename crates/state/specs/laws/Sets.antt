@@ -3,8 +3,6 @@ use mathlib.Core.Path.{_≡_, refl, sym, ap, _∙_}
 use mathlib.Core.List.{List, [], _∷_, _++_, map}
 use mathlib.Core.Bool.{Bool, true, false, _&&_}
 use Prim.Native.Nat.{ℕ}
-use lib.ListN.{length}
-use Rattle.address_set.specs.AddressSet.{offsets}
 use lib.Bits.{bitOr, or-comm, or-zero-r, or-zero-l}
 use borrow.Author.Tests.{eq-eqb, ne-eqb}
 use Rattle.lists.specs.Pick.{pick}
@@ -13,7 +11,7 @@ use Rattle.lists.specs.Filter.{filterBy}
 use Rattle.lists.specs.laws.Reordered.{Reordered, gather, gather-same}
 use Rattle.address_set.specs.laws.Bits.{or-assoc}
 use Rattle.state.specs.declared.Lease.{Lease}
-use Rattle.state.specs.Book.{unionAll, addressesOf, inScope, overlaps, usedIn, heldOf, heldCount, addedIf, insertOf}
+use Rattle.state.specs.Book.{unionAll, addressesOf, inScope, overlaps, usedIn, addedIf, insertOf}
 use Rattle.state.specs.laws.Sorted.{insert-same}
 
 -- what one lease adds
@@ -99,6 +97,3 @@ module _ (s sum : ℕ) (l : Lease) where
     pub busy-out : (l .scope ≡ s → ⊥) → sum ≡ addedIf (usedIn s from to) sum l
     unfolding usedIn
     busy-out e = add-no (usedIn s from to) sum l (ap (λ (b : Bool). b && overlaps from to l) (ne-eqb _ _ e))
-
-pub held-count-is : (s : ℕ) (ls : List Lease) {m r : ℕ} → r ≡ length (offsets m) → m ≡ heldOf s ls → r ≡ heldCount s ls
-held-count-is s ls e p = e ∙ ap (λ (x : ℕ). length (offsets x)) p

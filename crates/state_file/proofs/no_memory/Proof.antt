@@ -8,5 +8,6 @@ pub no-memory-spec : {M : Type 1} → statement M
 no-memory-spec =
     tie.close
     (tie.spec
-    (λ c κs. search needs)  -- src/lib.rt:121:9 no-releases-requires
-    (λ c. search (no-memory-is, needs)))  -- src/lib.rt:118:1 returns
+    (λ c κs. search needs)  -- src/lib.rt:131:9 no-releases-requires
+    (λ c κs. search needs)  -- src/lib.rt:132:9 no-board-requires
+    (λ c. search (no-memory-is, needs)))  -- src/lib.rt:128:1 returns

@@ -2,7 +2,7 @@
 //! is seen of each call. Case i is that of seed SEED + i, so that `fuzz 1 N` is the case of seed N again; the file PROGRESS has the seed of
 //! the case that runs.
 
-use banshorra_host::{ANSWER_ROOM, BOARD_ROOM, FILE_ROOM};
+use banshorra_host::{ANSWER_ROOM, BOARD_ROOM, FILE_ROOM, OCCUPANCY_ROOM};
 use builder::{Call, Campus};
 use harness::calls;
 use harness::campus::sound;
@@ -33,7 +33,7 @@ fn main() -> ExitCode {
         return ExitCode::FAILURE;
     }
     print!("{cases} cases, seeds {first} to {}:", first + cases - 1);
-    for function in ["check", "board", "serve", "replay"] {
+    for function in ["check", "board", "occupancy", "serve", "replay"] {
         print!(" {} {function},", watch.calls(function));
     }
     println!(" 0 errors");
@@ -43,7 +43,8 @@ fn main() -> ExitCode {
 fn run(random: &mut Random, watch: &mut Watch) {
     let campus = sound(random);
     match random.below(100) {
-        0..25 => watch.board(&any_file(random, &campus), text_room(random)),
+        0..15 => watch.board(&any_file(random, &campus), text_room(random)),
+        15..25 => watch.occupancy(&any_file(random, &campus), occupancy_room(random)),
         25..60 => serves(random, watch, &campus),
         60..75 => {
             let file = campus.octets();
@@ -74,6 +75,11 @@ fn text_room(random: &mut Random) -> usize {
     room(random, BOARD_ROOM, &edges, 2_500)
 }
 
+fn occupancy_room(random: &mut Random) -> usize {
+    let edges = [0, 1, OCCUPANCY_ROOM - 1, OCCUPANCY_ROOM + 1];
+    room(random, OCCUPANCY_ROOM, &edges, 1_200)
+}
+
 /// Calls one by one on a sound file.
 fn serves(random: &mut Random, watch: &mut Watch, campus: &Campus) {
     let file = campus.octets();
@@ -82,6 +88,7 @@ fn serves(random: &mut Random, watch: &mut Watch, campus: &Campus) {
     let count = random.between(1, 8);
     for call in any_calls(random, campus, count) {
         watch.serve(&mut held, &call);
+        watch.occupancy(held.file(), occupancy_room(random));
     }
     if random.chance(20) {
         watch.board(held.file(), text_room(random));

@@ -1,0 +1,4 @@
+pub mod Steps
+pub mod Tenants
+pub mod Agrees
+pub mod Code

@@ -1,0 +1,5 @@
+pub mod Loop
+pub mod Entries
+pub mod Stays
+pub mod Same
+pub mod Polled

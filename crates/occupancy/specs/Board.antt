@@ -65,6 +65,10 @@ laidOn g = onOffset (moreOn g) grown g
 abbrev pub liftedOff : ℕ → ScopeBoard → ℕ → ScopeBoard
 liftedOff g = onOffset lessOn shrunk g
 
+-- the place, counted from 0, of the scope that a lease of tenant g in scope s alters; 4 or more where there is no such scope or no such tenant
+unfoldable pub placeIn : ℕ → ℕ → ℕ
+placeIn g s = pick (ltb g 8) (pick (ltb 0 s) (s - 1) 4) 4
+
 -- ---- a lease of tenant g more or less, on the set m of scope s's offsets; of no scope, or no tenant, nothing alters
 unfoldable pub alteredBy : (ScopeBoard → ℕ → ScopeBoard) → Board → ℕ → ℕ → ℕ → Board
 alteredBy f b g s m =

@@ -7,7 +7,7 @@ ghost use Rattle.lists.specs.Fold.{fold};
 ghost use Rattle.lists.specs.Same.{sameBy};
 ghost use Rattle.address_set.specs.AddressSet.{offsets};
 ghost use Rattle.occupancy.specs.Split.{Splits};
-ghost use Rattle.occupancy.specs.Board.{noBoard, moreOn, lessOn, grown, shrunk, laidOn, liftedOff, addedTo, takenFrom, scopeBoardAt, entryAt, heldIn, sameEntry, sameScopeBoard, sameBoard};
+ghost use Rattle.occupancy.specs.Board.{noBoard, moreOn, lessOn, grown, shrunk, laidOn, liftedOff, addedTo, takenFrom, placeIn, scopeBoardAt, entryAt, heldIn, sameEntry, sameScopeBoard, sameBoard};
 use address_set::Range;
 
 // An address: its owner, a tenant counted from 1, or 0 for none, and the number of leases on it.
@@ -111,7 +111,7 @@ fn split(set: u64) -> Lowest
 }
 
 // One lease more on each offset of a set.
-fn lay(v: ScopeBoard, g: usize, set: u64) -> ScopeBoard
+pub fn lay(v: ScopeBoard, g: usize, set: u64) -> ScopeBoard
     requires { ⌜ g < 8 ⌝ }
     ensures { λ r. ⌜ r ≡ fold (laidOn g) v (offsets set) ⌝ }
 {
@@ -149,21 +149,29 @@ fn lift(v: ScopeBoard, g: usize, set: u64) -> ScopeBoard
     now
 }
 
+// The place of a scope, counted from 0, that a lease of tenant g alters; 4 or more where there is no such scope or no such tenant.
+pub fn place(g: usize, scope: u8) -> usize
+    ensures { λ r. ⌜ r ≡ placeIn g scope ⌝ }
+{
+    if g < 8 {
+        if 0 < scope {
+            return (scope - 1) as usize;
+        }
+    }
+    4
+}
+
 // The board with a lease of tenant g, counted from 0, more, on a set of offsets of a scope, counted from 1. No scope, or no tenant, alters nothing.
 pub fn add(b: Board, g: usize, scope: u8, set: u64) -> Board
     ensures { λ r. ⌜ r ≡ addedTo b g scope set ⌝ }
 {
-    if 0 < scope {
-        let k = (scope - 1) as usize;
-        if k < 4 {
-            if g < 8 {
-                let v = b.scopes[k];
-                let x = lay(v, g, set);
-                let mut now = b;
-                now.scopes[k] = x;
-                return now;
-            }
-        }
+    let k = place(g, scope);
+    if k < 4 {
+        let v = b.scopes[k];
+        let x = lay(v, g, set);
+        let mut now = b;
+        now.scopes[k] = x;
+        return now;
     }
     b
 }
@@ -172,17 +180,13 @@ pub fn add(b: Board, g: usize, scope: u8, set: u64) -> Board
 pub fn take(b: Board, g: usize, scope: u8, set: u64) -> Board
     ensures { λ r. ⌜ r ≡ takenFrom b g scope set ⌝ }
 {
-    if 0 < scope {
-        let k = (scope - 1) as usize;
-        if k < 4 {
-            if g < 8 {
-                let v = b.scopes[k];
-                let x = lift(v, g, set);
-                let mut now = b;
-                now.scopes[k] = x;
-                return now;
-            }
-        }
+    let k = place(g, scope);
+    if k < 4 {
+        let v = b.scopes[k];
+        let x = lift(v, g, set);
+        let mut now = b;
+        now.scopes[k] = x;
+        return now;
     }
     b
 }

@@ -21,7 +21,7 @@ use Rattle.occupancy.specs.declared.Entry.{Entry}
 use Rattle.occupancy.specs.declared.ScopeBoard.{ScopeBoard}
 use Rattle.occupancy.specs.declared.Board.{Board}
 use Rattle.occupancy.specs.Board.{noEntry, noBoard, moreOn, grown, entryAt, heldIn, scopeBoardAt, laidOn, liftedOff, alteredBy}
-use Rattle.occupancy.specs.laws.Loop.{altered-in}
+use Rattle.occupancy.specs.laws.Loop.{altered-in, place-scope}
 use Rattle.occupancy.specs.laws.Entries.{numberIn, fold-entries, fold-others, fold-long, laid-held, lifted-laid, Free}
 use Rattle.state.specs.declared.Lease.{Lease}
 use Rattle.state.specs.Book.{heldOf, heldCount, inScope, addressesOf, unionAll, boardWith, boardWithout}
@@ -192,7 +192,7 @@ said-altered : (f : ScopeBoard → ℕ → ScopeBoard) (us ts : List (List Lease
 unfolding boardOf
 said-altered f us ts h s m known some most here others =
     ap {B = Board} (λ (l : List ScopeBoard). record { scopes = l }) (go s some most here others)
-    ∙ altered-in f (boardOf us) h s m (scopeBy us s) (fold f (scopeBy us s) (offsets m)) (at s some most) refl some (omega arith) known
+    ∙ altered-in (s - 1) h s (place-scope h s known some) f (boardOf us) m (scopeBy us s) (fold f (scopeBy us s) (offsets m)) (at s some most) refl (omega arith)
   where
     at : (s : ℕ) → 0 < s → s ≤ 4 → scopeBy us s ≡ scopeBoardAt (boardOf us) (s - 1)
     at zero p q = absurd (omega arith)

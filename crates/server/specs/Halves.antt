@@ -1,7 +1,7 @@
 -- Definitions: the call in two halves (document 02, W-208): "the first gives the verdict and the book afterwards, the second writes the reply from these". That
 -- the old call, `serveOf`, is made of them "after its own tests 1 and 2" is `ServeHalves` in Statement.antt.
 use Prim.Native.Nat.{ℕ, min}
-use mathlib.Core.Bool.{Bool, not, _&&_}
+use mathlib.Core.Bool.{Bool, true, false, not, _&&_}
 use mathlib.Core.List.{List, [], _∷_}
 use mathlib.Core.Path.{_≡_}
 use lib.Dec.{ltb, eqb}
@@ -35,7 +35,7 @@ use Rattle.decision.specs.declared.Verdict.{Verdict}
 use Rattle.decision.specs.Parts.{discardWith}
 use Rattle.server.specs.declared.Judged.{Judged}
 use Rattle.server.specs.declared.Ruling.{Ruling}
-use Rattle.server.specs.Serve.{Said, bookOf, decidedFor, entryOf, tenantOf, termsOf}
+use Rattle.server.specs.Serve.{Answer, Said, bookOf, decidedFor, entryOf, tenantOf, termsOf}
 
 -- ---- the verdict: the decision's, with what a reply needs of the message and of the client, and the offset that goes with discard 5 (W-206)
 abbrev pub rulingOn : ℕ → Fields → Verdict → Ruling
@@ -157,6 +157,10 @@ repliedBy r s names =
 unfoldable pub writeOf : Ruling → State → List ℕ → ℕ → Said
 writeOf r s names room =
     pick (ltb room leastRoom) (silent 2 0) (pick (eqb (r .verdict .outcome) 0) (repliedBy r s names) (silent (min (r .verdict .outcome) 8) (r .offset)))
+
+-- ---- the old call is the two together: the book afterwards is the first half's, what is told the second's
+abbrev pub both : Judgement → Said → Answer
+both j w = record { outcome = w .outcome; offset = w .offset; reply = w .reply; book = j .book }
 
 -- ---- what a function promises
 -- the verdict, and the book b with what tenant h has edited

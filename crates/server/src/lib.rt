@@ -119,12 +119,18 @@ fn info_of(s: State, r: Ruling) -> Info
     }
 }
 
+fn wide(n: u8) -> usize
+    ensures { λ r. ⌜ r ≡ n ⌝ }
+{
+    n as usize
+}
+
 // Whether the names are good for the settings, and the verdict's tenant is one of these.
 fn can_send(s: State, names: &[u8], tenant: usize) -> bool
     ensures { λ x. ⌜ x ≡ (namesB (s .«scope_count») (s .«tenant_count») (now (names .entry)) && ltb tenant (s .«tenant_count»)) ⌝ }
 {
     if names::good(names, s.scope_count, s.tenant_count) {
-        return tenant < (s.tenant_count as usize);
+        return tenant < wide(s.tenant_count);
     }
     false
 }
@@ -165,7 +171,11 @@ fn write_reply(s: State, names: &[u8], r: Ruling, reply: &mut [u8]) -> Outcome
         Reply::LeaseAck => told(0, reply::write_lease_ack(reply, head, terms_of(s, v)), 0),
         Reply::ReleaseAck => told(0, reply::write_release_ack(reply, head), 0),
         Reply::InfoAck => write_info(s, names, r, reply),
-        Reply::Nak => told(0, reply::write_nak(reply, head, arithmetic::wide16(v.error)), 0),
+        Reply::Nak => told(
+            0,
+            reply::write_nak(reply, head, arithmetic::wide16(v.error)),
+            0,
+        ),
     }
 }
 

@@ -1,29 +1,17 @@
--- `on_tenant` meets its contract: by tests 4 to 6.
-use Rattle.server.proofs.Steps.{reading-discarded, reading-good, reading-short, reading-taken, serves-discard}
+-- `on_tenant` meets its contract: the two halves, one after the other.
+use Rattle.server.proofs.Steps.{serves-halves}
 use borrow.Author.Needs.{needs}
 use Rattle.server.proofs.on_tenant.Statement.{statement}
 use Rattle.server.proofs.on_tenant.Tie as tie
 
-fields-requires : tie.Need-fields-requires
-fields-requires c κs =
-    let at-if1 = c .before in
-    let at-read = at-if1 .before .before in
-    (reading-good _ _ (at-read .read .ensures), reading-short _ _ (at-read .read .ensures) (at-if1 .if1 .taken))
-
 returns : tie.Need-returns
-returns c t k v f = let at-for-server = c .before .before in let at-fields = at-for-server .before .before in let at-if1 = at-fields .before .before in let at-read = at-if1 .before .before in reading-taken _ _ (at-read .read .ensures) _ _ _ (at-if1 .if1 .taken) (at-fields .fields .ensures) (at-for-server .for-server .ensures t k v f)
-
-returns-2 : tie.Need-returns-2
-returns-2 c t k v f = let at-discard = c in let at-if1 = at-discard .before in let at-read = at-if1 .before .before in reading-discarded _ _ (at-read .read .ensures) _ _ (at-if1 .if1 .left) (serves-discard _ _ _ _ _ _ (at-discard .discard .ensures))
+returns c t k v f = let at-write = c .before .before in let at-judge = at-write .before .before .before .before in let start = at-judge .before .before .before .before in serves-halves _ _ _ _ (start .pre .1 .0) (start .pre .1 .1) (start .pre .0) (at-judge .judge-tenant .ensures t k _ v f) (at-write .write .ensures)
 
 pub on-tenant-spec : {M : Type 1} → statement M
 on-tenant-spec =
     tie.close
     (tie.spec
     (λ c κs. search needs)
-    fields-requires
     (λ c κs. search needs)
     (λ c. search needs)
-    returns
-    (λ c κs. search needs)
-    returns-2)
+    returns)

@@ -1,0 +1,123 @@
+-- Laws: the statements on the two halves of a call hold.
+use Prim.Native.Nat.{ℕ, _+_, _-_, _≤_}
+use mathlib.Core.Path.{_≡_, refl, sym, ap, _∙_}
+use mathlib.Core.Bool.{Bool, true, not, _&&_}
+use mathlib.Core.List.{List, _++_}
+use native.Mathlib.Omega.{arith}
+use lib.Dec.{ltb, eqb}
+use lib.ListN.{drop, length}
+use lib.Seq.{drop-append-add, drop-drop}
+use borrow.Author.Tests.{eqb-false, ltb-false}
+use Rattle.lists.specs.Pick.{pick}
+use Rattle.message.specs.laws.Placed.{pick-cases}
+use Rattle.message.specs.Read.{readOf}
+use Rattle.message.specs.declared.Fields.{Fields}
+use Rattle.reply.proofs.Short.{info-ack-short, lease-ack-short, nak-short, offer-short, release-ack-short}
+use Rattle.reply.specs.Reply.{leastRoom}
+use Rattle.state.specs.declared.State.{State}
+use Rattle.state.specs.Book.{Book, advanced, releasesAt, remembered}
+use Rattle.releases.specs.Whole.{bookB}
+use Rattle.releases.specs.laws.Whole.{advanced-named, advanced-names, book-named}
+use Rattle.soundness.specs.Sound.{tenantsIn}
+use Rattle.decision.specs.declared.Reply.{Reply}
+use Rattle.decision.specs.declared.Reply.the-variants.{Nothing, Offer, LeaseAck, ReleaseAck, InfoAck, Nak}
+use Rattle.decision.specs.Parts.{discardWith}
+use Rattle.server.specs.declared.Ruling.{Ruling}
+use Rattle.server.specs.Serve.{Answer, Call, Said, atClock, decidedFor, serveOf, tenantOf, termsOf}
+use Rattle.server.specs.Halves.{Judgement, both, headIn, infoIn, judgeClock, judgeOf, judgeReading, judgeServer, judgedAt, repliedBy, ruledBy, ruledReply, sendable, shows, writeOf}
+use Rattle.server.specs.Statement.{LeavesRest, NeverShort, ServeHalves, WritesDiscard, WritesShort, WritesWithin, inHalves, judgedFor}
+use Rattle.server.specs.laws.Outcomes.{Numbered, concluded, read-number}
+use Rattle.server.specs.laws.Halves.{halves-clock, pick-same, written-discard, written-short}
+
+-- ---- the old call
+sound-judged : (b : Book) (c : Call) → bookB b ≡ true → judgedFor b c ≡ judgeClock (advanced b (c .time)) (c .client) (c .datagram)
+unfolding judgeOf pick
+sound-judged b c v = ap (λ (t : Bool). pick t (judgeClock (advanced b (c .time)) (c .client) (c .datagram)) (judgedAt 1 0 b)) v
+
+pub serve-halves : ServeHalves
+unfolding ServeHalves serveOf
+serve-halves b c = pick-same (bookB b) (λ v. pick-same (ltb (c .room) leastRoom) (λ _. refl) (λ e. after v (ltb-false (c .room) leastRoom e))) (λ _. refl)
+  where
+    a : Book
+    a = advanced b (c .time)
+
+    j : Judgement
+    j = judgeClock a (c .client) (c .datagram)
+
+    on : List ℕ → Judgement → Answer
+    on names j = both j (writeOf (j .ruling) (j .book .state) names (c .room))
+
+    after : bookB b ≡ true → leastRoom ≤ c .room → atClock a (c .client) (c .datagram) ≡ inHalves b c
+    after v g =
+        halves-clock a (c .client) (c .datagram) (advanced-named b (c .time) (book-named b v)) (c .room) g
+        ∙ ap (λ (names : List ℕ). on names j) (advanced-names b (c .time))
+        ∙ ap (on (b .names)) (sym (sound-judged b c v))
+
+-- ---- the first half
+pub never-short : NeverShort
+unfolding NeverShort judgeOf judgeClock judgeReading judgeServer discardWith Numbered
+never-short b client time s =
+    pick-cases P (bookB b) _ _
+    (λ _. pick-cases P (ltb h (tenantsIn (a .state))) _ _
+    (λ _. pick-cases P (eqb (readOf s .discard) 0) _ _ (λ _. pick-cases P _ _ _ (λ _. λ e. omega arith) (λ _. decided _))
+    (λ e. let n = read-number s (eqb-false (readOf s .discard) 0 e) .0 in λ (z : readOf s .discard ≡ 2). omega arith))
+    (λ _. λ e. omega arith)) (λ _. λ e. omega arith)
+  where
+    a : Book
+    a = advanced b time
+
+    h : ℕ
+    h = tenantOf (a .state) client
+
+    P : Judgement → Type 0
+    P j = j .ruling .verdict .outcome ≡ 2 → ⊥
+
+    decided : (m : Fields) → decidedFor a h m .verdict .outcome ≡ 2 → ⊥
+    decided m e = let n = concluded (a .state) (a .table) (remembered (releasesAt (a .memory) h)) h m .rest (λ z. omega arith) .0 in omega arith
+
+-- ---- the second half
+pub writes-short : WritesShort
+unfolding WritesShort
+writes-short r s names room g = sym (written-short r s names room g)
+
+pub writes-discard : WritesDiscard
+unfolding WritesDiscard
+writes-discard r s names room g z l = sym (written-discard r s names room g z l)
+
+-- whatever the verdict asks for; infoIn lists four scopes of every state
+ruled-short : (r : Ruling) (s : State) (names : List ℕ) → length (r .id .octets) ≡ 32 → (k : Reply) → length (ruledBy s names r k) ≤ leastRoom
+ruled-short r s names e Nothing = omega arith
+ruled-short r s names e Offer = offer-short (headIn s r) e (termsOf s (r .verdict))
+ruled-short r s names e LeaseAck = lease-ack-short (headIn s r) e (termsOf s (r .verdict))
+ruled-short r s names e ReleaseAck = release-ack-short (headIn s r) e
+ruled-short r s names e InfoAck = info-ack-short (headIn s r) e (infoIn s r) names refl
+ruled-short r s names e Nak = nak-short (headIn s r) e (r .verdict .error)
+
+within : (r : Ruling) → length (r .id .octets) ≡ 32 → (s : State) (names : List ℕ) (room : ℕ) → (writeOf r s names room .outcome ≤ 8) × (length (writeOf r s names room .reply) ≤ leastRoom)
+unfolding writeOf repliedBy ruledReply
+within r e s names room =
+    pick-cases P (ltb room leastRoom) _ _ (λ _. (omega arith, omega arith))
+    (λ _. pick-cases P (eqb (r .verdict .outcome) 0) _ _
+    (λ _. pick-cases P (shows (r .verdict .reply) && not (sendable s names r)) _ _ (λ _. (omega arith, omega arith)) (λ _. (omega arith, ruled-short r s names e (r .verdict .reply))))
+    (λ _. (omega arith, omega arith)))
+  where
+    P : Said → Type 0
+    P w = (w .outcome ≤ 8) × (length (w .reply) ≤ leastRoom)
+
+pub writes-within : WritesWithin
+unfolding WritesWithin
+writes-within r e s names room = within r e s names room
+
+pub leaves-rest : LeavesRest
+unfolding LeavesRest
+leaves-rest r e s names before after room x t =
+    let reply : List ℕ = writeOf r s names room .reply in
+    let n : ℕ = length reply in
+    let k : ℕ = leastRoom - n in
+    let short : n ≤ leastRoom = within r e s names room .1 in
+    let whole : n + k ≡ leastRoom = omega arith in
+    ap (drop leastRoom) (t .buffer)
+    ∙ ap (λ (i : ℕ). drop i (reply ++ drop n before)) (sym whole)
+    ∙ drop-append-add reply (drop n before) k
+    ∙ drop-drop k n before
+    ∙ ap (λ (i : ℕ). drop i before) whole

@@ -16,12 +16,15 @@ use Rattle.releases.specs.Whole.{bookB}
 use Rattle.soundness.specs.Parts.{holdingsOf}
 use Rattle.decision.specs.Parts.{ownOf}
 use Rattle.server.specs.declared.Outcome.{Outcome}
+use Rattle.server.specs.declared.Ruling.{Ruling}
 use Rattle.server.specs.Serve.{Answer, Call, Said, Tells, bookOf, serveOf}
+use Rattle.server.specs.Halves.{Judgement, discardRuling, judgeOf}
 use Rattle.state_file.specs.declared.Loaded.{Loaded}
 use Rattle.state_file.specs.declared.Written.{Written}
 use Rattle.state_file.specs.StateFile.{readFile, roomAfter, writtenOf}
 use Rattle.records.specs.declared.Found.{Found}
 use Rattle.records.specs.declared.Found.the-variants.{Absent, At}
+use Rattle.records.specs.declared.JudgedRecords.{JudgedRecords}
 use Rattle.records.specs.declared.ReadRecords.{ReadRecords}
 use Rattle.records.specs.declared.ServedRecords.{ServedRecords}
 use Rattle.records.specs.Records.{recordsOf, tableFrom}
@@ -77,6 +80,38 @@ pub record ServesRecords (a : LentAnswer) (before after : List ℕ) (r : ServedR
 -- what the call promises: what is told, the ledger and every lease record
 pub record ServesLent (a : LentAnswer) (g : Ledger) (ls : List Lease) (before after : List ℕ) (r : Outcome) : Type 0 where
   pub tells : Tells (lentSaid a) before after r
+  pub ledger : g ≡ a .ledger
+  pub leases : ls ≡ a .leases
+
+-- ---- the call in two halves (document 02, W-208)
+-- what the first gives: the verdict, and the book afterwards as ledger and records
+pub record LentJudgement : Type 0 where
+  pub ruling : Ruling
+  pub ledger : Ledger
+  pub leases : List Lease
+
+abbrev pub lentJudgement : Judgement → LentJudgement
+lentJudgement j = record { ruling = j .ruling; ledger = ledgerOf (j .book); leases = recordsOf (j .book .table) }
+
+-- on records of a slice that has n, on a datagram s; discard 1 changes nothing, and there is no room to test
+unfoldable pub judgeWith : ℕ → Ledger → List Lease → List ℕ → ℕ → ℕ → List ℕ → LentJudgement
+judgeWith n g ls names client time s =
+    pick (is128 n) (lentJudgement (judgeOf (bookFrom g ls names) client time s)) (record { ruling = discardRuling 1 0; ledger = g; leases = ls })
+
+abbrev pub judgeLent : Ledger → List Lease → List ℕ → ℕ → ℕ → List ℕ → LentJudgement
+judgeLent g ls names client time s = judgeWith (length ls) g ls names client time s
+
+-- what a function on 128 records by value promises: the verdict, the clock, what is remembered and every record
+pub record JudgesRecords (a : LentJudgement) (r : JudgedRecords) : Type 0 where
+  pub ruling : r .ruling ≡ a .ruling
+  pub clock : r .clock ≡ a .ledger .state .clock
+  pub memory : r .memory ≡ a .ledger .memory
+  pub leases : r .records .leases ≡ a .leases
+  pub long : length (r .records .leases) ≡ 128
+
+-- what the first half promises: the verdict, the ledger and every lease record. The second is `writeOf`, of any verdict and any ledger's state
+pub record JudgesLent (a : LentJudgement) (g : Ledger) (ls : List Lease) (r : Ruling) : Type 0 where
+  pub ruling : r ≡ a .ruling
   pub ledger : g ≡ a .ledger
   pub leases : ls ≡ a .leases
 

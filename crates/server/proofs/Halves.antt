@@ -1,14 +1,13 @@
 -- Laws: the statements on the two halves of a call hold.
 use Prim.Native.Nat.{ℕ, _+_, _-_, _≤_}
 use mathlib.Core.Path.{_≡_, refl, sym, ap, _∙_}
-use mathlib.Core.Bool.{Bool, true, not, _&&_}
+use mathlib.Core.Bool.{true, not, _&&_}
 use mathlib.Core.List.{List, _++_}
 use native.Mathlib.Omega.{arith}
 use lib.Dec.{ltb, eqb}
 use lib.ListN.{drop, length}
 use lib.Seq.{drop-append-add, drop-drop}
 use borrow.Author.Tests.{eqb-false, ltb-false}
-use Rattle.lists.specs.Pick.{pick}
 use Rattle.message.specs.laws.Placed.{pick-cases}
 use Rattle.message.specs.Read.{readOf}
 use Rattle.message.specs.declared.Fields.{Fields}
@@ -23,17 +22,14 @@ use Rattle.decision.specs.declared.Reply.{Reply}
 use Rattle.decision.specs.declared.Reply.the-variants.{Nothing, Offer, LeaseAck, ReleaseAck, InfoAck, Nak}
 use Rattle.decision.specs.Parts.{discardWith}
 use Rattle.server.specs.declared.Ruling.{Ruling}
-use Rattle.server.specs.Serve.{Answer, Call, Said, atClock, decidedFor, serveOf, tenantOf, termsOf}
-use Rattle.server.specs.Halves.{Judgement, both, headIn, infoIn, judgeClock, judgeOf, judgeReading, judgeServer, judgedAt, repliedBy, ruledBy, ruledReply, sendable, shows, writeOf}
-use Rattle.server.specs.Statement.{LeavesRest, NeverShort, ServeHalves, WritesDiscard, WritesShort, WritesWithin, inHalves, judgedFor}
+use Rattle.server.specs.Serve.{Answer, Said, atClock, decidedFor, serveOf, tenantOf, termsOf}
+use Rattle.server.specs.Halves.{Judgement, both, headIn, infoIn, judgeClock, judgeOf, judgeReading, judgeServer, repliedBy, ruledBy, ruledReply, sendable, shows, writeOf}
+use Rattle.server.specs.Statement.{LeavesRest, NeverShort, ServeHalves, WritesDiscard, WritesShort, WritesWithin, inHalves}
 use Rattle.server.specs.laws.Outcomes.{Numbered, concluded, read-number}
+use Rattle.server.specs.laws.Tests.{judge-sound}
 use Rattle.server.specs.laws.Halves.{halves-clock, pick-same, written-discard, written-short}
 
 -- ---- the old call
-sound-judged : (b : Book) (c : Call) → bookB b ≡ true → judgedFor b c ≡ judgeClock (advanced b (c .time)) (c .client) (c .datagram)
-unfolding judgeOf pick
-sound-judged b c v = ap (λ (t : Bool). pick t (judgeClock (advanced b (c .time)) (c .client) (c .datagram)) (judgedAt 1 0 b)) v
-
 pub serve-halves : ServeHalves
 unfolding ServeHalves serveOf
 serve-halves b c = pick-same (bookB b) (λ v. pick-same (ltb (c .room) leastRoom) (λ _. refl) (λ e. after v (ltb-false (c .room) leastRoom e))) (λ _. refl)
@@ -51,7 +47,7 @@ serve-halves b c = pick-same (bookB b) (λ v. pick-same (ltb (c .room) leastRoom
     after v g =
         halves-clock a (c .client) (c .datagram) (advanced-named b (c .time) (book-named b v)) (c .room) g
         ∙ ap (λ (names : List ℕ). on names j) (advanced-names b (c .time))
-        ∙ ap (on (b .names)) (sym (sound-judged b c v))
+        ∙ ap (on (b .names)) (judge-sound b (c .client) (c .time) (c .datagram) v)
 
 -- ---- the first half
 pub never-short : NeverShort

@@ -1,4 +1,4 @@
--- Laws: between the code of the call and its definition: tests 4 to 7 one after the other, the reply by the verdict, and the two together.
+-- Laws: between the code of the call and its definition: tests 4 to 7 one after the other, and the reply by the verdict.
 use mathlib.Core.Path.{_≡_, refl, sym, ap, ap₂, _∙_, subst}
 use mathlib.Core.List.{List, [], _∷_}
 use mathlib.Core.Bool.{Bool, true, false, not, _&&_}
@@ -45,10 +45,10 @@ use Rattle.decision.specs.laws.View.{decide-in}
 use Rattle.server.specs.declared.Judged.{Judged}
 use Rattle.server.specs.declared.Outcome.{Outcome}
 use Rattle.server.specs.declared.Ruling.{Ruling}
-use Rattle.server.specs.Serve.{Answer, Said, Serves, Tells, bookOf, decidedFor, entryOf, termsOf, withReading}
+use Rattle.server.specs.Serve.{Said, Tells, bookOf, decidedFor, entryOf, termsOf}
 use Rattle.server.specs.Halves.{Judgement, Judges, discardRuling, infoIn, headIn, infoWith, judgeReading, judgeServer, judgedAt, judgedBy, noIdentifier, noLanguage, repliedBy, ruledBy, rulingOn, sendable, shows, silent, writeOf}
 use Rattle.server.specs.laws.Told.{tells-as}
-use Rattle.server.specs.laws.Halves.{halves-reading, replied-info, replied-plain, written-other, written-reply, written-short}
+use Rattle.server.specs.laws.Halves.{replied-info, replied-plain, written-other, written-reply, written-short}
 
 -- ---- the reply
 pub terms-is : (s : State) (v : Verdict) (n : ℕ) (c : Scope) (k : ℕ) → n ≡ v .end - v .start → k ≡ v .scope - 1 → c ≡ scopeAt s k
@@ -183,12 +183,3 @@ module _ (s : List ℕ) (r : Reading) (e : r ≡ readOf s) where
     reading-discarded z w =
         subst (λ (q : Reading). Judges (judgeReading b h s q) b h v) e
         (judges-as (sym (ap (λ (t : Bool). pick t (judgeServer b h (fieldsOf s (b .state .server) (r .message))) (judgedAt (r .discard) (r .fault) b)) (ne-eqb (r .discard) 0 z))) w)
-
--- ---- the two halves, one after the other
-pub serves-halves : (b : Book) (h : ℕ) (s : List ℕ) (j : Judged) {before after : List ℕ} {o : Outcome} → namesB (b .state .«scope_count») (b .state .«tenant_count») (b .names) ≡ true → h < b .state .«tenant_count»
-    → leastRoom ≤ length before → Judges (judgeReading b h s (readOf s)) b h j → Tells (writeOf (j .ruling) (b .state) (b .names) (length before)) before after o
-    → Serves (withReading b h s (readOf s)) b h before after (record { outcome = o; edit = j .edit })
-serves-halves b h s j {before} {after} {o} named known enough v w =
-    let t = tells-as (ap (λ (r : Ruling). writeOf r (b .state) (b .names) (length before)) (v .ruling)) w in
-    subst (λ (a : Answer). Serves a b h before after (record { outcome = o; edit = j .edit })) (sym (halves-reading b h s named known (length before) enough))
-    (record { tells = record { outcome = t .outcome; offset = t .offset; size = t .size; buffer = t .buffer }; book = v .book })

@@ -9,7 +9,7 @@ ghost use Rattle.message.specs.Read.{readOf};
 ghost use Rattle.names.specs.Names.{namesB};
 ghost use Rattle.reply.specs.Reply.{leastRoom};
 ghost use Rattle.state.specs.Edit.{noEdit};
-ghost use Rattle.server.specs.Serve.{decidedFor, termsOf, entryOf, withReading, hasClient, tenantOf, NamesFor, ServesTenant, Tells};
+ghost use Rattle.server.specs.Serve.{decidedFor, termsOf, entryOf, hasClient, tenantOf, Tells};
 ghost use Rattle.server.specs.Halves.{rulingOn, discardRuling, noIdentifier, noLanguage, judgedBy, judgeServer, judgeReading, headIn, infoIn, infoWith, repliedBy, writeOf, JudgesTenant};
 use decision::Reply;
 use decision::Verdict;
@@ -35,12 +35,6 @@ pub struct Outcome {
     pub outcome: u8,
     pub length: usize,
     pub offset: usize,
-}
-
-// The same with what the call does to what the client's tenant has.
-pub struct Served {
-    pub outcome: Outcome,
-    pub edit: Edit,
 }
 
 // A verdict as a caller can keep it: the decision's, the offset that goes with discard 5, and what a reply needs of the client and of its message.
@@ -326,30 +320,6 @@ pub fn judge_tenant(
         return for_server(s, own, q, held, h, f);
     }
     untouched(r.discard, r.fault)
-}
-
-// Tests 4 to 7 and what follows, made of the two halves.
-pub fn on_tenant(
-    s: State,
-    names: &[u8],
-    own: TenantLeases,
-    q: TenantReleases,
-    held: HeldTable,
-    h: usize,
-    datagram: &[u8],
-    reply: &mut [u8],
-) -> Served
-    requires { ⌜ (leastRoom ≤ length (now reply)) × NamesFor s h (now names) ⌝ }
-    ensures { λ r. ⌜ ServesTenant s (now (names .entry)) own q held h (λ b. withReading b h (now (datagram .entry)) (readOf (now (datagram .entry)))) (now (reply .entry)) (now (reply .exit)) r ⌝ }
-{
-    let j = judge_tenant(s, own, q, held, h, datagram);
-    let r = j.ruling;
-    let e = j.edit;
-    let o = write(r, s, names, reply);
-    Served {
-        outcome: o,
-        edit: e,
-    }
 }
 
 fn has_client(client: u32, r: ClientRange) -> bool

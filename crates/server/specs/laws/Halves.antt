@@ -146,11 +146,6 @@ module _ (b : Book) (h : ℕ) (room : ℕ) (enough : leastRoom ≤ room) where
         pick-through (joined (b .state) (b .names) room) (eqb (readOf s .discard) 0) _ _ (λ _. server-told (fieldsOf s (b .state .server) (readOf s .message)))
         (λ e. let z = eqb-false (readOf s .discard) 0 e in discard-told (readOf s .discard) (readOf s .fault) z (read-number s z .1))
 
-pub halves-reading : (b : Book) (h : ℕ) (s : List ℕ) → namesB (b .state .«scope_count») (b .state .«tenant_count») (b .names) ≡ true → h < b .state .«tenant_count» → (room : ℕ) → leastRoom ≤ room
-    → withReading b h s (readOf s) ≡ both (judgeReading b h s (readOf s)) (writeOf (judgeReading b h s (readOf s) .ruling) (b .state) (b .names) room)
-unfolding joined
-halves-reading b h s named known room enough = reading-told b h room enough named known s
-
 -- ---- from test 3 on: no half changes the state, so that the second may be given the book afterwards
 reading-state : (b : Book) (h : ℕ) (s : List ℕ) → judgeReading b h s (readOf s) .book .state ≡ b .state
 unfolding judgeReading judgeServer
@@ -165,7 +160,7 @@ unfolding atClock judgeClock joined
 halves-clock b client s named room enough =
     pick-through on (ltb h (tenantsIn (b .state))) j (judgedAt 3 0 b)
     (λ e.
-    halves-reading b h s named (let g = ltb-true h (tenantsIn (b .state)) e in omega arith) room enough
+    reading-told b h room enough named (let g = ltb-true h (tenantsIn (b .state)) e in omega arith) s
     ∙ ap (λ (x : State). both j (writeOf (j .ruling) x (b .names) room)) (sym (reading-state b h s)))
     (λ _. discard-told b h room enough 3 0 (λ e. omega arith) (omega arith))
   where

@@ -1,13 +1,14 @@
 -- Laws: the statements on the two halves of a call hold.
 use Prim.Native.Nat.{ℕ, _+_, _-_, _≤_}
 use mathlib.Core.Path.{_≡_, refl, sym, ap, _∙_}
-use mathlib.Core.Bool.{true, not, _&&_}
+use mathlib.Core.Bool.{Bool, true, false, not, _&&_}
 use mathlib.Core.List.{List, _++_}
 use native.Mathlib.Omega.{arith}
 use lib.Dec.{ltb, eqb}
 use lib.ListN.{drop, length}
 use lib.Seq.{drop-append-add, drop-drop}
-use borrow.Author.Tests.{eqb-false, ltb-false}
+use borrow.Author.Tests.{eqb-false, le-ltb, ltb-false}
+use Rattle.lists.specs.Pick.{pick}
 use Rattle.message.specs.laws.Placed.{pick-cases}
 use Rattle.message.specs.Read.{readOf}
 use Rattle.message.specs.declared.Fields.{Fields}
@@ -22,11 +23,11 @@ use Rattle.decision.specs.declared.Reply.{Reply}
 use Rattle.decision.specs.declared.Reply.the-variants.{Nothing, Offer, LeaseAck, ReleaseAck, InfoAck, Nak}
 use Rattle.decision.specs.Parts.{discardWith}
 use Rattle.server.specs.declared.Ruling.{Ruling}
-use Rattle.server.specs.Serve.{Answer, Said, atClock, decidedFor, serveOf, tenantOf, termsOf}
-use Rattle.server.specs.Halves.{Judgement, both, headIn, infoIn, judgeClock, judgeOf, judgeReading, judgeServer, repliedBy, ruledBy, ruledReply, sendable, shows, writeOf}
+use Rattle.server.specs.Serve.{Answer, Call, discarded, Said, atClock, decidedFor, serveOf, tenantOf, termsOf}
+use Rattle.server.specs.Halves.{Judgement, both, discardRuling, judgedAt, headIn, infoIn, judgeClock, judgeOf, judgeReading, judgeServer, repliedBy, ruledBy, ruledReply, sendable, shows, writeOf}
 use Rattle.server.specs.Statement.{LeavesRest, NeverShort, ServeHalves, WritesDiscard, WritesShort, WritesWithin, inHalves}
 use Rattle.server.specs.laws.Outcomes.{Numbered, concluded, read-number}
-use Rattle.server.specs.laws.Tests.{judge-sound}
+use Rattle.server.specs.laws.Tests.{judge-sound, judge-unsound}
 use Rattle.server.specs.laws.Halves.{halves-clock, pick-same, written-discard, written-short}
 
 -- ---- the old call
@@ -48,6 +49,21 @@ serve-halves b c = pick-same (bookB b) (λ v. pick-same (ltb (c .room) leastRoom
         halves-clock a (c .client) (c .datagram) (advanced-named b (c .time) (book-named b v)) (c .room) g
         ∙ ap (λ (names : List ℕ). on names j) (advanced-names b (c .time))
         ∙ ap (on (b .names)) (judge-sound b (c .client) (c .time) (c .datagram) v)
+
+-- in room enough, on any book: of an unsound one the second half tells discard 1 as well
+pub enough-halves : (b : Book) (c : Call) → leastRoom ≤ c .room → serveOf b c ≡ inHalves b c
+unfolding ServeHalves pick discardWith
+enough-halves b c g =
+    serve-halves b c ∙ ap (λ (t : Bool). pick (bookB b) (pick t (discarded 2 b) (inHalves b c)) (discarded 1 b)) (le-ltb (c .room) leastRoom g) ∙ go (bookB b) refl
+  where
+    told : Judgement → Answer
+    told j = both j (writeOf (j .ruling) (j .book .state) (b .names) (c .room))
+
+    go : (t : Bool) → bookB b ≡ t → pick t (inHalves b c) (discarded 1 b) ≡ inHalves b c
+    go true e = refl
+    go false e =
+        ap (both (judgedAt 1 0 b)) (written-discard (discardRuling 1 0) (b .state) (b .names) (c .room) g (λ z. omega arith) (omega arith))
+        ∙ ap told (judge-unsound b (c .client) (c .time) (c .datagram) e)
 
 -- ---- the first half
 pub never-short : NeverShort

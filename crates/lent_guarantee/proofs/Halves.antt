@@ -53,18 +53,17 @@ lent-halves l c = go (eqb (length (l .leases)) 128) refl
     go false e = refl
 
 -- ---- the first half: the book afterwards is that of a call in a room of 512
+abbrev roomy : Call → Call
+roomy c = record { datagram = c .datagram; client = c .client; time = c .time; room = leastRoom }
+
+judged-book : (l : Lent) (c : Call) → length (l .leases) ≡ 128 → bookFrom (judged l c .ledger) (judged l c .leases) (l .names) ≡ judgedFor (bookOf l) c .book
+judged-book l c long =
+    sym (ap (λ (a : LentAnswer). bookFrom (a .ledger) (a .leases) (l .names)) (lent-joined (length (l .leases)) (l .ledger) (l .leases) (l .names) (roomy c) (omega arith)))
+    ∙ ap (λ (a : Answer). a .book) (same (l .ledger) (l .leases) (l .names) (roomy c) long ∙ enough-halves (bookOf l) (roomy c) (omega arith))
+
 pub same-judge : SameJudge
 unfolding SameJudge
-same-judge l c long = ap₂ {C = Judgement} (λ (r : Ruling) (b : Book). record { ruling = r; book = b }) (ap (λ (j : LentJudgement). j .ruling) (judged-whole l c long)) after
-  where
-    call : Call
-    call = record { datagram = c .datagram; client = c .client; time = c .time; room = leastRoom }
-
-    after : bookFrom (judged l c .ledger) (judged l c .leases) (l .names) ≡ judgedFor (bookOf l) c .book
-    unfolding call
-    after =
-        sym (ap (λ (a : LentAnswer). bookFrom (a .ledger) (a .leases) (l .names)) (lent-joined (length (l .leases)) (l .ledger) (l .leases) (l .names) call (omega arith)))
-        ∙ ap (λ (a : Answer). a .book) (same (l .ledger) (l .leases) (l .names) call long ∙ enough-halves (bookOf l) call (omega arith))
+same-judge l c long = ap₂ {C = Judgement} (λ (r : Ruling) (b : Book). record { ruling = r; book = b }) (ap (λ (j : LentJudgement). j .ruling) (judged-whole l c long)) (judged-book l c long)
 
 pub lent-never-short : LentNeverShort
 unfolding LentNeverShort NeverShort judgeWith discardWith

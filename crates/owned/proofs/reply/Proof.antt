@@ -11,8 +11,8 @@ use Rattle.state.proofs.Ledger as T
 use Rattle.state.proofs.Ledger.Laws as T′
 use Rattle.server.proofs.Outcome as Z
 use Rattle.server.proofs.Outcome.Laws as Z′
-use Rattle.server.proofs.Ruling as V
-use Rattle.server.proofs.Ruling.Laws as V′
+use Rattle.server.proofs.Ruling as U
+use Rattle.server.proofs.Ruling.Laws as U′
 use Rattle.lent.proofs.reply as reply′
 use Rattle.lent.proofs.reply.Symbol as reply-def
 use Rattle.lent.proofs.reply.Symbol.{name as #lent·reply}
@@ -27,7 +27,7 @@ abbrev ty : ℕ → Ty
 ty n = tyOf (code.function .locals) n
 
 abbrev stayed : Stays (f.ended .signature .params) (f.ended .kept)
-stayed = (stay-dropped (plain (λ _. T.the-row)) yes, (stay-dropped (plain (λ _. V.the-row)) yes, (stay-dropped (shrSliceOf (0 ∷ []) tt (plain (λ _. u8))) yes, (gave-slice (1 ∷ []) tt (plain (λ _. u8)), tt))))
+stayed = (stay-dropped (plain (λ _. T.the-row)) yes, (stay-dropped (plain (λ _. U.the-row)) yes, (stay-dropped (shrSliceOf (0 ∷ []) tt (plain (λ _. u8))) yes, (gave-slice (1 ∷ []) tt (plain (λ _. u8)), tt))))
 
 module _ {M : Type 1} (𝓤 : URA M) (H : Heap 𝓤) (A : Atoms 𝓤) (mem : Memory → SProp 𝓤) (run : Routine → Fun 𝓤) where
   -- the contract of `lent::reply`
@@ -36,7 +36,7 @@ module _ {M : Type 1} (𝓤 : URA M) (H : Heap 𝓤) (A : Atoms 𝓤) (mem : Mem
 
 -- the names are 0 and the room 1; the verdict is p
 module _ {M : Type 1} (𝓤 : URA M) (H : Heap 𝓤) (A : Atoms 𝓤) (W : Given 𝓤 H A) (mem : Memory → SProp 𝓤) (run : Routine → Fun 𝓤) (κ₀ κ₁ : Lft) (q₀ q₁ : Share)
-    (h : Ledger) (p : Ruling) (b₀ i₀ : ℕ) (γ₀ : GName) (names : List ℕ) (b₁ i₁ : ℕ) (γ₁ : GName) (os : List ℕ) (is-h : IsLedger h) (is-p : Is V.the-row p (LL.vals V.the-type V′.the-laws p)) where
+    (h : Ledger) (p : Ruling) (b₀ i₀ : ℕ) (γ₀ : GName) (names : List ℕ) (b₁ i₁ : ℕ) (γ₁ : GName) (os : List ℕ) (is-h : IsLedger h) (is-p : Is U.the-row p (LL.vals U.the-type U′.the-laws p)) where
   abbrev x₀ : RefT (List ℕ)
   x₀ = record { ptr = (b₀, i₀); name = γ₀; now = names }
 
@@ -50,7 +50,7 @@ module _ {M : Type 1} (𝓤 : URA M) (H : Heap 𝓤) (A : Atoms 𝓤) (W : Given
   s₁ = sliceVal (b₁, i₁) (length os)
 
   abbrev v : Val
-  v = LL.val V.the-type V′.the-laws p
+  v = LL.val U.the-type U′.the-laws p
 
   abbrev Arg : Type 0
   Arg = Ledger × (Ruling × (RefT (List ℕ) × (RefT (List ℕ) × Unit {0})))
@@ -92,7 +92,7 @@ module _ {M : Type 1} (𝓤 : URA M) (H : Heap 𝓤) (A : Atoms 𝓤) (W : Given
         (Reply 𝓤 H A mem run .pre to-reply)
     goes-reply =
         qed W (‵ (flft (ν ∷ []) fullShare) ∷ ‵ (flft κ₀ q₀) ∷ ‵ (flft κ₁ q₁) ∷ ‵ (ShrLedger (ν ∷ []) c γ h) ∷ ‵ (ShrSlice (named 0) κ₀ u8 .own x₀ (s₀ ∷ [])) ∷ ‵ (MutSlice (named 1) κ₁ u8 .own x₁ (s₁ ∷ [])) ∷ []) ∵
-        nothing ! $ move ! (6 ∷ 0 ∷ []) $ fjoin ! $ move ! (5 ∷ 0 ∷ []) $ fjoin ! $ move ! (4 ∷ 0 ∷ []) $ fjoin ! $ owned ! V.the-row (Is V.the-row) (LL.makes V.the-type V′.the-plain 𝓤 H A) p _ is-p $ fjoin ! $
+        nothing ! $ move ! (6 ∷ 0 ∷ []) $ fjoin ! $ move ! (5 ∷ 0 ∷ []) $ fjoin ! $ move ! (4 ∷ 0 ∷ []) $ fjoin ! $ owned ! U.the-row (Is U.the-row) (LL.makes U.the-type U′.the-plain 𝓤 H A) p _ is-p $ fjoin ! $
         nothing ! $ move ! (4 ∷ 0 ∷ []) $ join ! $ move ! (3 ∷ 0 ∷ []) $ join ! $ move ! (2 ∷ 0 ∷ []) $ join ! $ join ! $ nothing ! $ move ! (1 ∷ 0 ∷ []) $ done !
 
     -- what it leaves behind, beside the tokens and the result
@@ -100,7 +100,7 @@ module _ {M : Type 1} (𝓤 : URA M) (H : Heap 𝓤) (A : Atoms 𝓤) (W : Given
     Left us = lasts reply′.ended (ν ∷ [], (κ₀, (κ₁, tt))) to-args us
 
   module _ (C : Calls 𝓤 H) (Λ : Loops 𝓤 H) (fm : FmC 𝓤 H (W .laws) C) (known : Triple 𝓤 (C #lent·reply) (Reply 𝓤 H A mem run)) where
-    -- the ledger in _1 is lent for the call, and comes back. Of u type, place and value are variables, of p′ type and place, and Q is what the function has to end in
+    -- the ledger in _1 is lent for the call, and comes back. Of u type, place and value are variables, of p₂ to p₇ type and place, and Q is what the function has to end in
     lend-on : (u₄ u₆ : Idle) (p₂ p₃ p₅ p₇ : Ty × ℕ) (l₀ l₁ : ℕ) (Q : Val → SProp 𝓤)
         → ((r : Outcome) (w : Val) (us : List ℕ) → Is Z.the-row r (w ∷ []) → Told us r → length us ≡ length os → ent 𝓤 (⋆ 𝓤 H A (‵ (flft κ₀ q₀) ∷ ‵ (flft κ₁ q₁) ∷ ‵ (finally u8 γ₁ us) ∷ [])) (Q w))
         → Seq (Go {0}) W (holds (p₇ .0) (p₇ .1) s₁ (idle u₆ (holds (p₅ .0) (p₅ .1) (vptr l₁ 0) (idle u₄ (holds (p₃ .0) (p₃ .1) s₀ (holds (p₂ .0) (p₂ .1) v (holds T′.mir l₁ (word-ledger h) (bare (ty 0) l₀ (‵ (ShrSlice (named 0) κ₀ u8 .own x₀ (s₀ ∷ [])) ∷ ‵ (flft κ₀ q₀) ∷ ‵ (MutSlice (named 1) κ₁ u8 .own x₁ (s₁ ∷ [])) ∷ ‵ (flft κ₁ q₁) ∷ [])))))))))
@@ -127,12 +127,12 @@ module _ {M : Type 1} (𝓤 : URA M) (H : Heap 𝓤) (A : Atoms 𝓤) (W : Given
 
     walk : Room u8 (length names) → Room u8 (length os) → ent 𝓤 (onEntry 𝓤 H A f.signature (κ₀, (κ₁, tt)) (q₀, (q₁, tt)) a vals) (WpFn 𝓤 H C Λ code.function (word-ledger h ∷ v ∷ s₀ ∷ s₁ ∷ []) Post)
     walk fits₀ fits₁ =
-        qed W ((‵ (flft κ₀ q₀) ⊛ ‵ (flft κ₁ q₁) ⊛ ‵ ftrue) ∷ ‵ (owns (T.the-row ∷ V.the-row ∷ ShrSlice (named 0) κ₀ u8 ∷ MutSlice (named 1) κ₁ u8 ∷ []) a vals) ∷ []) ∵
+        qed W ((‵ (flft κ₀ q₀) ⊛ ‵ (flft κ₁ q₁) ⊛ ‵ ftrue) ∷ ‵ (owns (T.the-row ∷ U.the-row ∷ ShrSlice (named 0) κ₀ u8 ∷ MutSlice (named 1) κ₁ u8 ∷ []) a vals) ∷ []) ∵
         split ! $ move ! (1 ∷ []) $ split ! $ move ! (3 ∷ []) $ fsplit ! $ drop ! $ fsplit ! $ drop ! $ fsplit ! $ move ! (1 ∷ []) $ fsplit ! $ keep ! (2 ∷ 5 ∷ 0 ∷ 3 ∷ []) $
         -- [the names; [κ₀]; the room; [κ₁]]
         enter ! C Λ code.function (word-ledger h ∷ v ∷ s₀ ∷ s₁ ∷ []) _ $
         alloc1 ! (λ l₀. alloc1 ! (λ l₁. alloc1 ! (λ l₂. alloc1 ! (λ l₃. alloc1 ! (λ l₄. alloc1 ! (λ l₅. alloc1 ! (λ l₆. alloc1 ! (λ l₇. alloc0 ! $ params1 ! $
-        pass1 ! (init ! 12 refl (typed-ledger 𝓤 H A W h is-h)) $ pass1 ! (init ! 10 refl (LL.lawful V.the-type V′.the-laws 𝓤 H A W .typed p _ is-p .0)) $ pass1 ! (init ! 8 refl (tt, (tt, (record { fits = fits₀ .0 }, tt)))) $ pass1 ! (init ! 6 refl (tt, (tt, (record { fits = fits₁ .0 }, tt)))) $ pass0 ! $
+        pass1 ! (init ! 12 refl (typed-ledger 𝓤 H A W h is-h)) $ pass1 ! (init ! 10 refl (LL.lawful U.the-type U′.the-laws 𝓤 H A W .typed p _ is-p .0)) $ pass1 ! (init ! 8 refl (tt, (tt, (record { fits = fits₀ .0 }, tt)))) $ pass1 ! (init ! 6 refl (tt, (tt, (record { fits = fits₁ .0 }, tt)))) $ pass0 ! $
         -- [_7; …; _1; …; room for _0; …; the names; [κ₀]; the room; [κ₁]]: the references are made
         assigns ! (addr ! (from ! (stop !))) (from ! (stop !)) (init ! 4 refl (tt, tt)) $
         assigns ! (addr ! (from ! (fld ! refl (hop ! (look-in ! 6 (sub ! 0 refl (whole !))) (stop !))))) (from ! (stop !)) (init ! 2 refl (tt, tt)) $
@@ -142,12 +142,12 @@ module _ {M : Type 1} (𝓤 : URA M) (H : Heap 𝓤) (A : Atoms 𝓤) (W : Given
 module _ {M : Type 1} (𝓤 : URA M) (H : Heap 𝓤) (A : Atoms 𝓤) (W : Given 𝓤 H A) (mem : Memory → SProp 𝓤) (run : Routine → Fun 𝓤) where
   walks : (C : Calls 𝓤 H) (Λ : Loops 𝓤 H) → FmC 𝓤 H (W .laws) C → Triple 𝓤 (C #lent·reply) (Reply 𝓤 H A mem run) → Walks 𝓤 H A f.ended stayed (WpFn 𝓤 H C Λ code.function) (f.clauses 𝓤 H A mem run)
   walks C Λ fm known = walked 𝓤 H A f.ended stayed (f.clauses 𝓤 H A mem run) (WpFn 𝓤 H C Λ code.function)
-      (λ κs. (LL.vals T.the-type T′.the-laws, (LL.vals V.the-type V′.the-laws, (slice-vals, (slice-vals, tt))))) (λ κs. (LL.tells T.the-type T′.the-laws, (LL.tells V.the-type V′.the-laws, (shr-slice-tells (named 0) (κs .0) u8, (mut-slice-tells (named 1) (κs .1 .0) u8, tt)))))
+      (λ κs. (LL.vals T.the-type T′.the-laws, (LL.vals U.the-type U′.the-laws, (slice-vals, (slice-vals, tt))))) (λ κs. (LL.tells T.the-type T′.the-laws, (LL.tells U.the-type U′.the-laws, (shr-slice-tells (named 0) (κs .0) u8, (mut-slice-tells (named 1) (κs .1 .0) u8, tt)))))
       (λ κs qs bounds a g are. via 𝓤 _ (fst∗ 𝓤 _ (emp 𝓤)) (walk 𝓤 H A W mem run (κs .0) (κs .1 .0) (qs .0) (qs .1 .0)
       (a .0) (a .1 .0) (a .1 .1 .0 .ptr .0) (a .1 .1 .0 .ptr .1) (a .1 .1 .0 .name) (a .1 .1 .0 .now) (a .1 .1 .1 .0 .ptr .0) (a .1 .1 .1 .0 .ptr .1) (a .1 .1 .1 .0 .name) (a .1 .1 .1 .0 .now) (are .0) (are .1 .0) C Λ fm known (are .1 .1 .0 .0 .1) (are .1 .1 .1 .0 .0 .1)))
 
   goes : AllGo 𝓤 H A W 2 (f.signature .params) (f.ended .kept) stayed
-  goes = (goes-dropped 𝓤 H A W 2 (plain (λ _. T.the-row)) yes (λ κs x f. refl), (goes-dropped 𝓤 H A W 2 (plain (λ _. V.the-row)) yes (λ κs x f. refl), (goes-dropped 𝓤 H A W 2 (shrSliceOf (0 ∷ []) tt (plain (λ _. u8))) yes (λ κs x f. refl), (goes-gave-slice 𝓤 H A W 2 1 tt (plain (λ _. u8)), tt))))
+  goes = (goes-dropped 𝓤 H A W 2 (plain (λ _. T.the-row)) yes (λ κs x f. refl), (goes-dropped 𝓤 H A W 2 (plain (λ _. U.the-row)) yes (λ κs x f. refl), (goes-dropped 𝓤 H A W 2 (shrSliceOf (0 ∷ []) tt (plain (λ _. u8))) yes (λ κs x f. refl), (goes-gave-slice 𝓤 H A W 2 1 tt (plain (λ _. u8)), tt))))
 
 pub reply-spec : {M : Type 1} → stated.statement M
 unfolding code.routine tablesOf

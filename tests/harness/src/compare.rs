@@ -58,7 +58,8 @@ struct Halves {
 }
 
 impl Halves {
-    fn new(book: &second::Book, call: &Call) -> Halves {
+    /// The halves, but for the file of the book that the first of them left; and that book.
+    fn new(book: &second::Book, call: &Call) -> (Halves, second::Book) {
         let mut judged = book.clone();
         let verdict = second::judge(&mut judged, &call.datagram, call.client, call.time);
         let mut rooms = vec![SHORTEST_ROOM, SHORTEST_ROOM - 1, call.room.into()];
@@ -71,16 +72,21 @@ impl Halves {
             reply.truncate(filled);
             (length, (outcome, offset, reply))
         });
-        let written = written.collect();
-        let mut file = vec![0; LONGEST_FILE];
-        let length = second::file::write(&judged, &mut file).unwrap_or(0);
-        file.truncate(length);
-        Halves {
+        let halves = Halves {
+            written: written.collect(),
             verdict,
-            file,
-            written,
-        }
+            file: Vec::new(),
+        };
+        (halves, judged)
     }
+}
+
+/// The campus file of a book; empty if it can't be written.
+fn file_of(book: &second::Book) -> Vec<u8> {
+    let mut file = vec![0; LONGEST_FILE];
+    let length = second::file::write(book, &mut file).unwrap_or(0);
+    file.truncate(length);
+    file
 }
 
 /// What the second program makes of a case.
@@ -104,14 +110,19 @@ fn second(case: &Case) -> Expected {
     let occupancy = book.as_ref().map_or(Vec::new(), board_octets);
     let mut answers = Vec::new();
     let mut end = 0;
-    let mut room = vec![0; LONGEST_FILE];
     while let (Some(book), Some(call)) = (&mut book, Call::read(&case.calls[end..])) {
-        let (room_length, halves) = (call.room.into(), Halves::new(book, &call));
+        let (room_length, (mut halves, judged)) = (call.room.into(), Halves::new(book, &call));
         let (outcome, offset, reply) =
             second::server::answer(book, &call.datagram, call.client, call.time, room_length);
         // A book that can't be written is a difference from any file; what the call answered is compared before it.
-        let written = second::file::write(book, &mut room);
-        let file = room[..written.unwrap_or(0)].to_vec();
+        let file = file_of(book);
+        let is_written = !file.is_empty();
+        // As a rule both are one book, which is written once.
+        halves.file = if judged == *book {
+            file.clone()
+        } else {
+            file_of(&judged)
+        };
         answers.push(Answer {
             outcome,
             offset,
@@ -122,7 +133,7 @@ fn second(case: &Case) -> Expected {
             halves,
         });
         end += call.length();
-        if written.is_err() {
+        if !is_written {
             break;
         }
     }
@@ -325,10 +336,7 @@ fn second_on(file: &[u8], call: &Call) -> Result<(u8, Vec<u8>, Vec<u8>), Differe
         let room = call.room.into();
         let (outcome, _, reply) =
             second::server::answer(&mut book, &call.datagram, call.client, call.time, room);
-        let mut file = vec![0; LONGEST_FILE];
-        let length = second::file::write(&book, &mut file).unwrap_or(0);
-        file.truncate(length);
-        (outcome, reply, file)
+        (outcome, reply, file_of(&book))
     })
 }
 

@@ -104,7 +104,7 @@ uint8_t banshorra_serve(uint8_t *file, size_t file_room, size_t *file_length, co
         7  transaction id(4)
        11  start(4) and
        15  end(4) of an OFFER or a lease
-       19  its addresses(8): bit a of the number for the scope's lowest address and a
+       19  its addresses(8): bit a of the number stands for the scope's lowest address plus a
        27  whether the client sent option 12(1; 0 or 1)
        28  whether option 5 names 9, the scope list(1), and
        29  11, the time(1)

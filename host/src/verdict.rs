@@ -38,7 +38,7 @@ pub struct Given {
     pub start: u32,
     /// When it ends, which is no longer in it.
     pub end: u32,
-    /// The addresses: bit a is set for the scope's lowest address and a.
+    /// The addresses: bit a stands for the scope's lowest address plus a.
     pub addresses: u64,
 }
 

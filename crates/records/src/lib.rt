@@ -449,8 +449,8 @@ fn short_room(ledger: Ledger, records: Records, n: usize, names: &[u8]) -> Serve
     discard(1, state.clock, memory, records)
 }
 
-// The call on the records of a slice that has n: tests 1 and 2 where the room is short, else the two halves, one after the other, so that soundness is
-// tested once.
+// The call on the records of a slice that has n: its own tests 1 and 2 where the room is short. In room enough test 2 has passed, and test 1 is the first
+// half's, whose discard 1 the second tells, so that soundness is tested once.
 pub fn serve(
     ledger: Ledger,
     records: Records,

@@ -23,9 +23,9 @@ use Rattle.decision.specs.declared.Reply.{Reply}
 use Rattle.decision.specs.declared.Reply.the-variants.{Nothing, Offer, LeaseAck, ReleaseAck, InfoAck, Nak}
 use Rattle.decision.specs.Parts.{discardWith}
 use Rattle.server.specs.declared.Ruling.{Ruling}
-use Rattle.server.specs.Serve.{Answer, Call, discarded, Said, atClock, decidedFor, serveOf, tenantOf, termsOf}
+use Rattle.server.specs.Serve.{Answer, Call, discarded, Said, atClock, decidedFor, forServer, serveOf, tenantOf, termsOf, withReading}
 use Rattle.server.specs.Halves.{Judgement, both, discardRuling, judgedAt, headIn, infoIn, judgeClock, judgeOf, judgeReading, judgeServer, repliedBy, ruledBy, ruledReply, sendable, shows, writeOf}
-use Rattle.server.specs.Statement.{LeavesRest, NeverShort, ServeHalves, WritesDiscard, WritesShort, WritesWithin, inHalves}
+use Rattle.server.specs.Statement.{JudgesNumbered, LeavesRest, NeverShort, ServeHalves, VerdictTold, WritesDiscard, WritesShort, WritesWithin, inHalves}
 use Rattle.server.specs.laws.Outcomes.{Numbered, concluded, read-number}
 use Rattle.server.specs.laws.Tests.{judge-sound, judge-unsound}
 use Rattle.server.specs.laws.Halves.{halves-clock, pick-same, written-discard, written-short}
@@ -66,6 +66,48 @@ enough-halves b c g =
         ∙ ap told (judge-unsound b (c .client) (c .time) (c .datagram) e)
 
 -- ---- the first half
+Told : Answer → Judgement → Type 0
+Told a j = (a .outcome ≡ j .ruling .verdict .outcome) × ((a .offset ≡ j .ruling .offset) × (a .book ≡ j .book))
+
+told-by : {a a′ : Answer} {j j′ : Judgement} (t : Bool) → Told a j → Told a′ j′ → Told (pick t a a′) (pick t j j′)
+unfolding pick
+told-by true p q = p
+told-by false p q = q
+
+pub verdict-told : VerdictTold
+unfolding VerdictTold Told serveOf judgeOf atClock judgeClock withReading judgeReading forServer judgeServer discardWith pick
+verdict-told b c g = told-by (bookB b) (rw (le-ltb (c .room) leastRoom g) at-clock) (refl, (refl, refl))
+  where
+    a : Book
+    a = advanced b (c .time)
+
+    h : ℕ
+    h = tenantOf (a .state) (c .client)
+
+    for-server : (m : Fields) → Told (forServer a h m) (judgeServer a h m)
+    for-server m = told-by (eqb (m .kind) 3 && not (m .ours)) (refl, (refl, refl)) (refl, (refl, refl))
+
+    at-clock : Told (atClock a (c .client) (c .datagram)) (judgeClock a (c .client) (c .datagram))
+    at-clock = told-by (ltb h (tenantsIn (a .state))) (told-by (eqb (readOf (c .datagram) .discard) 0) (for-server _) (refl, (refl, refl))) (refl, (refl, refl))
+
+pub judges-numbered : JudgesNumbered
+unfolding JudgesNumbered judgeOf judgeClock judgeReading judgeServer discardWith Numbered
+judges-numbered b client time s =
+    pick-cases P (bookB b) _ _
+    (λ _. pick-cases P (ltb h (tenantsIn (a .state))) _ _
+    (λ _. pick-cases P (eqb (readOf s .discard) 0) _ _ (λ _. pick-cases P _ _ _ (λ _. omega arith) (λ _. concluded (a .state) (a .table) (remembered (releasesAt (a .memory) h)) h _ .few))
+    (λ e. read-number s (eqb-false (readOf s .discard) 0 e) .1))
+    (λ _. omega arith)) (λ _. omega arith)
+  where
+    a : Book
+    a = advanced b time
+
+    h : ℕ
+    h = tenantOf (a .state) client
+
+    P : Judgement → Type 0
+    P j = j .ruling .verdict .outcome ≤ 8
+
 pub never-short : NeverShort
 unfolding NeverShort judgeOf judgeClock judgeReading judgeServer discardWith Numbered
 never-short b client time s =

@@ -51,7 +51,7 @@ rulingOn h m v = record {
   language = m .language;
 }
 
--- a discard's
+-- that of discards 1 to 7: the client and its message are left out, and the zeros say nothing of them; discard 8 and a NAK have them
 abbrev pub noIdentifier : Identifier
 noIdentifier = record { octets = replicate 32 0; len = 0 }
 

@@ -27,6 +27,16 @@ inHalves b c = both (judgedFor b c) (writeOf (judgedFor b c .ruling) (judgedFor 
 unfoldable pub ServeHalves : Type 0
 ServeHalves = (b : Book) (c : Call) → serveOf b c ≡ pick (bookB b) (pick (ltb (c .room) leastRoom) (discarded 2 b) (inHalves b c)) (discarded 1 b)
 
+-- "the first gives the verdict and the book afterwards": in room enough the call tells the verdict's number and offset, and leaves that book
+unfoldable pub VerdictTold : Type 0
+VerdictTold =
+    (b : Book) (c : Call) → leastRoom ≤ c .room
+    → (serveOf b c .outcome ≡ judgedFor b c .ruling .verdict .outcome) × ((serveOf b c .offset ≡ judgedFor b c .ruling .offset) × (serveOf b c .book ≡ judgedFor b c .book))
+
+-- its number is one of the table's
+unfoldable pub JudgesNumbered : Type 0
+JudgesNumbered = (b : Book) (client time : ℕ) (s : List ℕ) → judgeOf b client time s .ruling .verdict .outcome ≤ 8
+
 -- "The first never gives discard 2"
 unfoldable pub NeverShort : Type 0
 NeverShort = (b : Book) (client time : ℕ) (s : List ℕ) → judgeOf b client time s .ruling .verdict .outcome ≡ 2 → ⊥

@@ -91,7 +91,8 @@ pub fn judge(o: Owned, names: &[u8], datagram: &[u8], client: u32, time: u32) ->
 pub fn reply(ledger: Ledger, ruling: Ruling, names: &[u8], room: &mut [u8]) -> Outcome
     ensures { λ r. ⌜ Tells (writeOf ruling (ledger .state) (now (names .entry)) (length (now (room .entry)))) (now (room .entry)) (now (room .exit)) r ⌝ }
 {
-    lent::reply(ruling, &ledger, names, room)
+    let g = ledger;
+    lent::reply(ruling, &g, names, room)
 }
 
 // Reads a state file over a book; refusals 20 and 21 leave it as it was.

@@ -1,6 +1,6 @@
--- `owned::reply` meets its contract: a walk of its MIR, by hand. The ledger is lent as `&` to `lent::reply`, and comes back as it was. Of `lent::reply` the proof knows only that it meets its contract.
+-- `owned::reply` meets its contract: a walk of its MIR, by hand. The ledger is copied into a local, which is lent as `&` to `lent::reply`, and comes back as it was. Of `lent::reply` the proof knows only that it meets its contract.
 -- The room is passed on at its own lifetime, share and ghost name, so what `lent::reply` says of the last octets is said of the room's (`gave-slice`).
-use Rattle.lent.proofs.Walk.{stands, Idle, spot, idle, ends4, Go, Seq, Ty, runs, atRet, shrSliceOf, ShrSlice, shr-slice-tells, _≡_, refl, ℕ, [], _∷_, List, length, URA, fullShare, named, Val, vptr, SProp, ent, emp, via, fst∗, id⊢, Lft, Share, GName, Fml, ftrue, flft, Memory, Routine, Heap, Calls, Loops, WpFn, Atoms, Fun, fact, givenOf, tables, tablesOf, Given, ‵, raw, _⊛_, some, later, ⋆, _$_, _∵_, !, qed, by, move, keep, drop, group, use1, split, join, pick, fsplit, fjoin, feqL, suffices, frame, await, done, look, init, stop, hop, fld, from, load, addr, and-then, no-more, assigns, land, returns, enter, alloc1, alloc0, params1, pass1, pass0, free0, whole, sub, look-in, agg, FmC, owns, Is, shows, u8, RefT, sliceVal, slice-vals, mut-slice-tells, MutSlice, Room, finally, owned, facts, heard, nothing, plain, Contract, Triple, calls-at, onEntry, tripleOf, cited, says, Stays, stay-dropped, gave-slice, walkOf, AllGo, goes-dropped, goes-gave-slice, Walks, ends-at, walked, ensured, lasts, yes, tyOf, after, holds, bare}
+use Rattle.lent.proofs.Walk.{stands, Idle, spot, idle, ends1, ends4, Go, Seq, Ty, runs, atRet, shrSliceOf, ShrSlice, shr-slice-tells, _≡_, refl, ℕ, [], _∷_, List, length, URA, fullShare, named, Val, vptr, SProp, ent, emp, via, fst∗, id⊢, Lft, Share, GName, Fml, ftrue, flft, Memory, Routine, Heap, Calls, Loops, WpFn, Atoms, Fun, fact, givenOf, tables, tablesOf, Given, ‵, raw, _⊛_, some, later, ⋆, _$_, _∵_, !, qed, by, move, keep, drop, group, use1, split, join, pick, fsplit, fjoin, feqL, suffices, frame, await, done, look, init, stop, hop, fld, from, load, of-opd, addr, and-then, no-more, assigns, land, returns, enter, alloc1, alloc0, params1, pass1, pass0, free0, whole, sub, look-in, agg, FmC, owns, Is, shows, u8, RefT, sliceVal, slice-vals, mut-slice-tells, MutSlice, Room, finally, owned, facts, heard, nothing, plain, Contract, Triple, calls-at, onEntry, tripleOf, cited, says, Stays, stay-dropped, gave-slice, walkOf, AllGo, goes-dropped, goes-gave-slice, Walks, ends-at, walked, ensured, lasts, yes, tyOf, after, holds, bare}
 use denote.Struct.Laws as LL
 use Rattle.state.specs.declared.Ledger.{Ledger}
 use Rattle.server.specs.declared.Outcome.{Outcome}
@@ -100,29 +100,29 @@ module _ {M : Type 1} (𝓤 : URA M) (H : Heap 𝓤) (A : Atoms 𝓤) (W : Given
     Left us = lasts reply′.ended (ν ∷ [], (κ₀, (κ₁, tt))) to-args us
 
   module _ (C : Calls 𝓤 H) (Λ : Loops 𝓤 H) (fm : FmC 𝓤 H (W .laws) C) (known : Triple 𝓤 (C #lent·reply) (Reply 𝓤 H A mem run)) where
-    -- the ledger in _1 is lent for the call, and comes back. Of u type, place and value are variables, of p₂ to p₇ type and place, and Q is what the function has to end in
-    lend-on : (u₄ u₆ : Idle) (p₂ p₃ p₅ p₇ : Ty × ℕ) (l₀ l₁ : ℕ) (Q : Val → SProp 𝓤)
+    -- the ledger in _5 is lent for the call, and comes back. Of u type, place and value are variables, of p₂ to p₈ type and place, and Q is what the function has to end in
+    lend-on : (u₁ u₄ u₇ : Idle) (p₂ p₃ p₆ p₈ : Ty × ℕ) (l₀ l₅ : ℕ) (Q : Val → SProp 𝓤)
         → ((r : Outcome) (w : Val) (us : List ℕ) → Is Z.the-row r (w ∷ []) → Told us r → length us ≡ length os → ent 𝓤 (⋆ 𝓤 H A (‵ (flft κ₀ q₀) ∷ ‵ (flft κ₁ q₁) ∷ ‵ (finally u8 γ₁ us) ∷ [])) (Q w))
-        → Seq (Go {0}) W (holds (p₇ .0) (p₇ .1) s₁ (idle u₆ (holds (p₅ .0) (p₅ .1) (vptr l₁ 0) (idle u₄ (holds (p₃ .0) (p₃ .1) s₀ (holds (p₂ .0) (p₂ .1) v (holds T′.mir l₁ (word-ledger h) (bare (ty 0) l₀ (‵ (ShrSlice (named 0) κ₀ u8 .own x₀ (s₀ ∷ [])) ∷ ‵ (flft κ₀ q₀) ∷ ‵ (MutSlice (named 1) κ₁ u8 .own x₁ (s₁ ∷ [])) ∷ ‵ (flft κ₁ q₁) ∷ [])))))))))
-        (runs C Λ ((ty 0, l₀) ∷ (T′.mir, l₁) ∷ p₂ ∷ p₃ ∷ spot u₄ ∷ p₅ ∷ spot u₆ ∷ p₇ ∷ []) (after 3 (code.function .body)) (atRet ((ty 0, l₀) ∷ (T′.mir, l₁) ∷ p₂ ∷ p₃ ∷ spot u₄ ∷ p₅ ∷ spot u₆ ∷ p₇ ∷ []) Q))
-    lend-on u₄ u₆ p₂ p₃ p₅ p₇ l₀ l₁ Q end =
-        -- [_7; …; _1; …; room for _0; …; the names; [κ₀]; the room; [κ₁]]
-        move ! (12 ∷ []) $ lends-ledger ! tt l₁ h is-h (λ ν γ.
-        -- [[ν]; the `&Ledger`; what brings _1 back; _7; …; (_1) …; room for _0; …; the names; [κ₀]; the room; [κ₁]]
-        move ! (0 ∷ 19 ∷ 21 ∷ 1 ∷ 18 ∷ 20 ∷ []) $ group ! 6 $ use1 W (raw (Reply 𝓤 H A mem run .pre (to-reply ν l₁ γ))) (goes-reply ν l₁ γ) $
-        -- [the `pre`; what brings _1 back; _7; …; (_1) …; room for _0; …]
-        calls-at ! fm (Reply 𝓤 H A mem run) known (to-reply ν l₁ γ) (and-then ! (load ! (from ! (stop !)) (look ! 12 refl)) (and-then ! (load ! (from ! (stop !)) (look ! 6 refl)) (and-then ! (load ! (from ! (stop !)) (look ! 10 refl)) (and-then ! (load ! (from ! (stop !)) (look ! 2 refl)) (no-more !))))) (λ w.
-        use1 W (later (some (λ (r : Outcome). ((‵ (flft (ν ∷ []) fullShare) ⊛ ‵ (flft κ₀ q₀) ⊛ ‵ (flft κ₁ q₁) ⊛ ‵ ftrue) ⊛ ‵ (Z.the-row .own r (w ∷ []))) ⊛ raw (ensured 𝓤 H A reply′.ended (reply′.clauses 𝓤 H A mem run) (ν ∷ [], (κ₀, (κ₁, tt))) (to-args ν l₁ γ) tt r)))) (id⊢ 𝓤 _) $ await ! tt $ pick ! (λ r.
-        split ! $ move ! (1 ∷ []) $ use1 W (some (λ (us : Unit {0} × (Unit {0} × (Unit {0} × (List ℕ × Unit {0})))). ‵ (Left ν l₁ γ us) ⊛ raw (fact 𝓤 (Told (us .1 .1 .1 .0) r)))) (id⊢ 𝓤 _) $ pick ! (λ us.
+        → Seq (Go {0}) W (holds (p₈ .0) (p₈ .1) s₁ (idle u₇ (holds (p₆ .0) (p₆ .1) (vptr l₅ 0) (holds T′.mir l₅ (word-ledger h) (idle u₄ (holds (p₃ .0) (p₃ .1) s₀ (holds (p₂ .0) (p₂ .1) v (idle u₁ (bare (ty 0) l₀ (‵ (ShrSlice (named 0) κ₀ u8 .own x₀ (s₀ ∷ [])) ∷ ‵ (flft κ₀ q₀) ∷ ‵ (MutSlice (named 1) κ₁ u8 .own x₁ (s₁ ∷ [])) ∷ ‵ (flft κ₁ q₁) ∷ []))))))))))
+        (runs C Λ ((ty 0, l₀) ∷ spot u₁ ∷ p₂ ∷ p₃ ∷ spot u₄ ∷ (T′.mir, l₅) ∷ p₆ ∷ spot u₇ ∷ p₈ ∷ []) (after 4 (code.function .body)) (atRet ((ty 0, l₀) ∷ spot u₁ ∷ p₂ ∷ p₃ ∷ spot u₄ ∷ (T′.mir, l₅) ∷ p₆ ∷ spot u₇ ∷ p₈ ∷ []) Q))
+    lend-on u₁ u₄ u₇ p₂ p₃ p₆ p₈ l₀ l₅ Q end =
+        -- [_8; …; _1; …; room for _0; …; the names; [κ₀]; the room; [κ₁]]
+        move ! (6 ∷ []) $ lends-ledger ! tt l₅ h is-h (λ ν γ.
+        -- [[ν]; the `&Ledger`; what brings _5 back; _8; …; (_5) …; …; room for _0; …; the names; [κ₀]; the room; [κ₁]]
+        move ! (0 ∷ 21 ∷ 23 ∷ 1 ∷ 20 ∷ 22 ∷ []) $ group ! 6 $ use1 W (raw (Reply 𝓤 H A mem run .pre (to-reply ν l₅ γ))) (goes-reply ν l₅ γ) $
+        -- [the `pre`; what brings _5 back; _8; …; (_5) …; …; room for _0; …]
+        calls-at ! fm (Reply 𝓤 H A mem run) known (to-reply ν l₅ γ) (and-then ! (load ! (from ! (stop !)) (look ! 13 refl)) (and-then ! (load ! (from ! (stop !)) (look ! 6 refl)) (and-then ! (load ! (from ! (stop !)) (look ! 11 refl)) (and-then ! (load ! (from ! (stop !)) (look ! 2 refl)) (no-more !))))) (λ w.
+        use1 W (later (some (λ (r : Outcome). ((‵ (flft (ν ∷ []) fullShare) ⊛ ‵ (flft κ₀ q₀) ⊛ ‵ (flft κ₁ q₁) ⊛ ‵ ftrue) ⊛ ‵ (Z.the-row .own r (w ∷ []))) ⊛ raw (ensured 𝓤 H A reply′.ended (reply′.clauses 𝓤 H A mem run) (ν ∷ [], (κ₀, (κ₁, tt))) (to-args ν l₅ γ) tt r)))) (id⊢ 𝓤 _) $ await ! tt $ pick ! (λ r.
+        split ! $ move ! (1 ∷ []) $ use1 W (some (λ (us : Unit {0} × (Unit {0} × (Unit {0} × (List ℕ × Unit {0})))). ‵ (Left ν l₅ γ us) ⊛ raw (fact 𝓤 (Told (us .1 .1 .1 .0) r)))) (id⊢ 𝓤 _) $ pick ! (λ us.
         split ! $ move ! (1 ∷ []) $ heard ! (Told (us .1 .1 .1 .0) r) (λ e.
-        -- [what it leaves of its parameters; the tokens and the result; what brings _1 back; _7; …]
+        -- [what it leaves of its parameters; the tokens and the result; what brings _5 back; _8; …]
         fsplit ! $ drop ! $ fsplit ! $ drop ! $ fsplit ! $ drop ! $ fsplit ! $ fsplit ! $ move ! (1 ∷ []) $ feqL ! (λ len.
-        -- [the last octets; true; the tokens and the result; what brings _1 back; _7; …]
+        -- [the last octets; true; the tokens and the result; what brings _5 back; _8; …]
         move ! (2 ∷ []) $ split ! $ move ! (1 ∷ []) $ facts ! Z.the-row (Is Z.the-row) (shows 𝓤 H A Z.the-row) r (w ∷ []) (λ is-r. split ! $ move ! (1 ∷ []) $ split ! $ move ! (1 ∷ []) $ split ! $
-        -- [[κ₁]; true; [κ₀]; [ν]; the last octets; true; what brings _1 back; _7; …]
-        land ! (from ! (stop !)) (init ! 20 refl (LL.lawful Z.the-type Z′.the-laws 𝓤 H A W .typed r _ is-r .0)) $ move ! (3 ∷ 6 ∷ []) $ backs-ledger ! tt ν l₁ h $
-        -- [_1; [κ₁]; true; [κ₀]; the last octets; true; _7; …; (_1) …; _0; …]
-        returns ! (look ! 19 refl) $ move ! (19 ∷ 20 ∷ 0 ∷ 18 ∷ 16 ∷ 17 ∷ 14 ∷ 15 ∷ 12 ∷ 13 ∷ 10 ∷ 11 ∷ 8 ∷ 9 ∷ 6 ∷ 7 ∷ []) $ ends4 ! $ ends4 ! $ free0 ! $
+        -- [[κ₁]; true; [κ₀]; [ν]; the last octets; true; what brings _5 back; _8; …]
+        land ! (from ! (stop !)) (init ! 22 refl (LL.lawful Z.the-type Z′.the-laws 𝓤 H A W .typed r _ is-r .0)) $ move ! (3 ∷ 6 ∷ []) $ backs-ledger ! tt ν l₅ h $
+        -- [_5; [κ₁]; true; [κ₀]; the last octets; true; _8; …; (_5) …; …; _0; …]
+        returns ! (look ! 21 refl) $ move ! (21 ∷ 22 ∷ 19 ∷ 20 ∷ 17 ∷ 18 ∷ 15 ∷ 16 ∷ 13 ∷ 14 ∷ 0 ∷ 12 ∷ 10 ∷ 11 ∷ 8 ∷ 9 ∷ 6 ∷ 7 ∷ []) $ ends4 ! $ ends4 ! $ ends1 ! $ free0 ! $
         keep ! (2 ∷ 0 ∷ 3 ∷ []) $ by ! (end r w (us .1 .1 .1 .0) is-r e len))))))))
 
     walk : Room u8 (length names) → Room u8 (length os) → ent 𝓤 (onEntry 𝓤 H A f.signature (κ₀, (κ₁, tt)) (q₀, (q₁, tt)) a vals) (WpFn 𝓤 H C Λ code.function (word-ledger h ∷ v ∷ s₀ ∷ s₁ ∷ []) Post)
@@ -131,13 +131,14 @@ module _ {M : Type 1} (𝓤 : URA M) (H : Heap 𝓤) (A : Atoms 𝓤) (W : Given
         split ! $ move ! (1 ∷ []) $ split ! $ move ! (3 ∷ []) $ fsplit ! $ drop ! $ fsplit ! $ drop ! $ fsplit ! $ move ! (1 ∷ []) $ fsplit ! $ keep ! (2 ∷ 5 ∷ 0 ∷ 3 ∷ []) $
         -- [the names; [κ₀]; the room; [κ₁]]
         enter ! C Λ code.function (word-ledger h ∷ v ∷ s₀ ∷ s₁ ∷ []) _ $
-        alloc1 ! (λ l₀. alloc1 ! (λ l₁. alloc1 ! (λ l₂. alloc1 ! (λ l₃. alloc1 ! (λ l₄. alloc1 ! (λ l₅. alloc1 ! (λ l₆. alloc1 ! (λ l₇. alloc0 ! $ params1 ! $
-        pass1 ! (init ! 12 refl (typed-ledger 𝓤 H A W h is-h)) $ pass1 ! (init ! 10 refl (LL.lawful U.the-type U′.the-laws 𝓤 H A W .typed p _ is-p .0)) $ pass1 ! (init ! 8 refl (tt, (tt, (record { fits = fits₀ .0 }, tt)))) $ pass1 ! (init ! 6 refl (tt, (tt, (record { fits = fits₁ .0 }, tt)))) $ pass0 ! $
-        -- [_7; …; _1; …; room for _0; …; the names; [κ₀]; the room; [κ₁]]: the references are made
+        alloc1 ! (λ l₀. alloc1 ! (λ l₁. alloc1 ! (λ l₂. alloc1 ! (λ l₃. alloc1 ! (λ l₄. alloc1 ! (λ l₅. alloc1 ! (λ l₆. alloc1 ! (λ l₇. alloc1 ! (λ l₈. alloc0 ! $ params1 ! $
+        pass1 ! (init ! 14 refl (typed-ledger 𝓤 H A W h is-h)) $ pass1 ! (init ! 12 refl (LL.lawful U.the-type U′.the-laws 𝓤 H A W .typed p _ is-p .0)) $ pass1 ! (init ! 10 refl (tt, (tt, (record { fits = fits₀ .0 }, tt)))) $ pass1 ! (init ! 8 refl (tt, (tt, (record { fits = fits₁ .0 }, tt)))) $ pass0 ! $
+        -- [_8; …; _1; …; room for _0; …; the names; [κ₀]; the room; [κ₁]]: the ledger is copied, and the references are made
+        assigns ! (of-opd ! (load ! (from ! (stop !)) (look ! 14 refl))) (from ! (stop !)) (init ! 6 refl (typed-ledger 𝓤 H A W h is-h)) $
         assigns ! (addr ! (from ! (stop !))) (from ! (stop !)) (init ! 4 refl (tt, tt)) $
-        assigns ! (addr ! (from ! (fld ! refl (hop ! (look-in ! 6 (sub ! 0 refl (whole !))) (stop !))))) (from ! (stop !)) (init ! 2 refl (tt, tt)) $
-        assigns ! (agg ! (and-then ! (load ! (from ! (stop !)) (look ! 2 refl)) (and-then ! (load ! (from ! (fld ! refl (stop !))) (look-in ! 6 (sub ! 1 refl (whole !)))) (no-more !)))) (from ! (stop !)) (init ! 0 refl (tt, (tt, (record { fits = fits₁ .0 }, tt)))) $
-        lend-on (_, l₄, _) (_, l₆, _) (_, l₂) (_, l₃) (_, l₅) (_, l₇) l₀ l₁ Post exits))))))))
+        assigns ! (addr ! (from ! (fld ! refl (hop ! (look-in ! 8 (sub ! 0 refl (whole !))) (stop !))))) (from ! (stop !)) (init ! 2 refl (tt, tt)) $
+        assigns ! (agg ! (and-then ! (load ! (from ! (stop !)) (look ! 2 refl)) (and-then ! (load ! (from ! (fld ! refl (stop !))) (look-in ! 8 (sub ! 1 refl (whole !)))) (no-more !)))) (from ! (stop !)) (init ! 0 refl (tt, (tt, (record { fits = fits₁ .0 }, tt)))) $
+        lend-on (_, l₁, _) (_, l₄, _) (_, l₇, _) (_, l₂) (_, l₃) (_, l₆) (_, l₈) l₀ l₅ Post exits)))))))))
 
 module _ {M : Type 1} (𝓤 : URA M) (H : Heap 𝓤) (A : Atoms 𝓤) (W : Given 𝓤 H A) (mem : Memory → SProp 𝓤) (run : Routine → Fun 𝓤) where
   walks : (C : Calls 𝓤 H) (Λ : Loops 𝓤 H) → FmC 𝓤 H (W .laws) C → Triple 𝓤 (C #lent·reply) (Reply 𝓤 H A mem run) → Walks 𝓤 H A f.ended stayed (WpFn 𝓤 H C Λ code.function) (f.clauses 𝓤 H A mem run)

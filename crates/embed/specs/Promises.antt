@@ -51,6 +51,12 @@ pub record ServesFile (a : Filed) (b : List ℕ) (n : ℕ) (before after : List 
   pub tells : Tells (filedSaid a) before after r
   pub files : Files a b n
 
+-- of the first half the number, the file, and every octet of the verdict's room, which a refusal leaves as it was
+pub record JudgesFile (a : Filed) (b : List ℕ) (n : ℕ) (before after : List ℕ) (r : ℕ) : Type 0 where
+  pub number : r ≡ a .number
+  pub verdict : after ≡ a .out ++ drop (length (a .out)) before
+  pub files : Files a b n
+
 -- the number, the octets of calls used, those of answers filled with every octet of their room, and the file
 pub record ReplaysFile (a : Filed) (b : List ℕ) (n u : ℕ) (before after : List ℕ) (k r : ℕ) : Type 0 where
   pub number : r ≡ a .number

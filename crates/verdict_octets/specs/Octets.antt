@@ -104,14 +104,21 @@ rulingIn s = record {
   language = languageIn s;
 }
 
--- ---- what the octets have room for: an offset and a length of two octets, a tenant of one; and what the types of the others say
-pub record Holds (r : Ruling) : Type 0 where
-  pub offset : r .offset < 65536
-  pub tenant : r .tenant < 256
+-- ---- of which verdicts that is the same verdict again: those with the numbers and arrays of their types, as all that code has,
+pub record TypedRuling (r : Ruling) : Type 0 where
   pub xid : r .xid < 4294967296
   pub start : r .verdict .start < 4294967296
   pub end : r .verdict .end < 4294967296
   pub addresses : r .verdict .addresses < 18446744073709551616
-  pub language : r .language .len < 65536
   pub tag : length (r .language .octets) ≡ 8
   pub identifier : length (r .id .octets) ≡ 32
+
+-- whose offset and language length are below 65,536 and whose tenant is below 256, as the first half's are
+pub record Holds (r : Ruling) : Type 0 where
+  pub offset : r .offset < 65536
+  pub tenant : r .tenant < 256
+  pub language : r .language .len < 65536
+
+-- "read back it is the same verdict"
+unfoldable pub ReadBack : Type 0
+ReadBack = (r : Ruling) → TypedRuling r → Holds r → rulingIn (verdictOctets r) ≡ r

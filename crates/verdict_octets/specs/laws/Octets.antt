@@ -19,7 +19,7 @@ use Rattle.decision.specs.declared.Reply.{Reply}
 use Rattle.decision.specs.declared.Reply.the-variants.{InfoAck, LeaseAck, Nak, Nothing, Offer, ReleaseAck}
 use Rattle.decision.specs.declared.Verdict.{Verdict}
 use Rattle.server.specs.declared.Ruling.{Ruling}
-use Rattle.verdict_octets.specs.Octets.{Holds, askedOctets, flagOf, identifierIn, identifierOctets, isSet, languageIn, languageOctets, numberOctets, outcomeOctets, placeOctets, replyFor, replyNumber, rulingIn, run, setAt, verdictIn, verdictOctets, verdictSize}
+use Rattle.verdict_octets.specs.Octets.{Holds, ReadBack, TypedRuling, askedOctets, flagOf, identifierIn, identifierOctets, isSet, languageIn, languageOctets, numberOctets, outcomeOctets, placeOctets, replyFor, replyNumber, rulingIn, run, setAt, verdictIn, verdictOctets, verdictSize}
 
 -- ---- written
 pub flag-set : (b : Bool) → b ≡ true → 1 ≡ flagOf b
@@ -170,32 +170,31 @@ low32 v =
     λ i. be32 (a i) (b i) (c i) (d i) in
     whole ∙ read-back32 (v % 4294967296) (omega arith)
 
-module _ (r : Ruling) (h : Holds r) where
+module _ (r : Ruling) (t : TypedRuling r) where
   set-back : setAt (verdictOctets r) 19 ≡ r .verdict .addresses
   unfolding setAt at32 verdictOctets outcomeOctets placeOctets numberOctets askedOctets languageOctets identifierOctets
   set-back =
       let a = r .verdict .addresses in
-      let g : a / 4294967296 < 4294967296 = omega (arith, h .addresses) in
+      let g : a / 4294967296 < 4294967296 = omega (arith, t .addresses) in
       ap₂ (λ (x y : ℕ). x * 4294967296 + y) (read-back32 (a / 4294967296) g) (low32 a) ∙ (let z : a / 4294967296 * 4294967296 + a % 4294967296 ≡ a = omega arith in z)
 
   tag-back : run (verdictOctets r) 33 8 ≡ r .language .octets
   unfolding verdictOctets outcomeOctets placeOctets numberOctets askedOctets languageOctets identifierOctets
-  tag-back = take-at (r .language .octets) (r .id .len ∷ r .id .octets) 8 (h .tag)
+  tag-back = take-at (r .language .octets) (r .id .len ∷ r .id .octets) 8 (t .tag)
 
   length-back : getD (verdictOctets r) 41 0 ≡ r .id .len
   unfolding verdictOctets outcomeOctets placeOctets numberOctets askedOctets languageOctets identifierOctets
-  length-back = getD-at (r .language .octets) (r .id .len) (r .id .octets) 0 8 (h .tag)
+  length-back = getD-at (r .language .octets) (r .id .len) (r .id .octets) 0 8 (t .tag)
 
   identifier-back : run (verdictOctets r) 42 32 ≡ r .id .octets
   unfolding verdictOctets outcomeOctets placeOctets numberOctets askedOctets languageOctets identifierOctets
   identifier-back =
-      ap (take 32) (ap (λ (k : ℕ). drop (k + 1) (r .language .octets ++ (r .id .len ∷ r .id .octets))) (sym (h .tag)) ∙ drop-append-add (r .language .octets) (r .id .len ∷ r .id .octets) 1)
-      ∙ take-all 32 (r .id .octets) (omega (arith, h .identifier))
+      ap (take 32) (ap (λ (k : ℕ). drop (k + 1) (r .language .octets ++ (r .id .len ∷ r .id .octets))) (sym (t .tag)) ∙ drop-append-add (r .language .octets) (r .id .len ∷ r .id .octets) 1)
+      ∙ take-all 32 (r .id .octets) (omega (arith, t .identifier))
 
-  -- "read back it is the same verdict"
-  pub verdict-back : rulingIn (verdictOctets r) ≡ r
+  same-back : Holds r → rulingIn (verdictOctets r) ≡ r
   unfolding rulingIn at16 at32 verdictOctets outcomeOctets placeOctets numberOctets askedOctets languageOctets identifierOctets
-  verdict-back =
+  same-back h =
       let tenant : r .tenant % 256 ≡ r .tenant = omega (arith, h .tenant) in
       λ i. record {
         verdict = record {
@@ -203,16 +202,20 @@ module _ (r : Ruling) (h : Holds r) where
           reply = reply-back (r .verdict .reply) i;
           error = r .verdict .error;
           scope = r .verdict .scope;
-          start = read-back32 (r .verdict .start) (h .start) i;
-          end = read-back32 (r .verdict .end) (h .end) i;
+          start = read-back32 (r .verdict .start) (t .start) i;
+          end = read-back32 (r .verdict .end) (t .end) i;
           addresses = set-back i;
         };
         offset = read-back16 (r .offset) (h .offset) i;
         tenant = tenant i;
-        xid = read-back32 (r .xid) (h .xid) i;
+        xid = read-back32 (r .xid) (t .xid) i;
         id = record { octets = identifier-back i; len = length-back i };
         features = flag-back (r .features) i;
         «list_asked» = flag-back (r .«list_asked») i;
         «time_asked» = flag-back (r .«time_asked») i;
         language = record { asked = flag-back (r .language .asked) i; len = read-back16 (r .language .len) (h .language) i; octets = tag-back i };
       }
+
+pub verdict-back : ReadBack
+unfolding ReadBack
+verdict-back r t h = same-back r t h

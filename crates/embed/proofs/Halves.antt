@@ -1,5 +1,5 @@
 -- Proof of `FileHalves`: the two halves of a call on a file, the second on what the first left, are the call.
-use Prim.Native.Nat.{ℕ, _≤_, _<_}
+use Prim.Native.Nat.{ℕ, _≤_}
 use mathlib.Core.Path.{_≡_, refl, sym, ap, ap₂, _∙_}
 use mathlib.Core.Bool.{Bool, true, false}
 use mathlib.Core.List.{List}
@@ -11,8 +11,6 @@ use Rattle.lists.specs.laws.Pick.{pick-eq, pick-not-lt}
 use Rattle.reply.specs.Reply.{leastRoom}
 use Rattle.format.specs.Format.{Octets}
 use Rattle.message.specs.Read.{longestDatagram}
-use Rattle.state.specs.declared.Lease.{Lease}
-use Rattle.state.specs.declared.Ledger.{Ledger}
 use Rattle.state.specs.declared.State.{State}
 use Rattle.state.specs.Book.{zeroLease}
 use Rattle.server.specs.declared.Ruling.{Ruling}
@@ -20,12 +18,12 @@ use Rattle.server.specs.Serve.{Call, Said}
 use Rattle.server.specs.Halves.{writeOf}
 use Rattle.server.specs.Statement.{WritesDiscard}
 use Rattle.server.proofs.Halves.{writes-discard}
-use Rattle.verdict_octets.specs.Octets.{Holds, ReadBack, rulingIn, TypedRuling, verdictOctets}
+use Rattle.verdict_octets.specs.Octets.{Holds, ReadBack, TypedRuling, verdictOctets}
 use Rattle.verdict_octets.specs.laws.Octets.{verdict-back}
 use Rattle.state_file.specs.StateFile.{namesOf, readFile, zeroLedger}
 use Rattle.state_file.specs.Typed.{Typed}
 use Rattle.records.specs.Records.{tableFrom}
-use Rattle.records.specs.Lent.{judgeLent, LentAnswer, lentBoth, LentJudgement, LentReading, lentSaid, readLent, roomLent, serveLent, writtenLent}
+use Rattle.records.specs.Lent.{judgeLent, LentAnswer, lentBoth, LentJudgement, LentReading, readLent, roomLent, serveLent, writtenLent}
 use Rattle.records.specs.laws.Call.{lent-joined}
 use Rattle.lent_guarantee.specs.Statement.{Lent, LentDemand1, LentWriteRead}
 use Rattle.lent_guarantee.proofs.Guaranteed.{lent-demand1}
@@ -34,7 +32,7 @@ use Rattle.lent_guarantee.proofs.Written.{lent-write-read}
 use Rattle.embed.specs.Embed.{called, Filed, filed, ledgerIn, leasesIn, namesIn, refusalIn, serveFile}
 use Rattle.embed.specs.Halves.{judged, judgeFile, replyFile}
 use Rattle.embed.specs.Promises.{filedSaid}
-use Rattle.embed.specs.Statement.{FileHalves, firstHalf, InHalves, judgedIn, JudgedNumbers, Numbered, ServedNumbers}
+use Rattle.embed.specs.Statement.{FileHalves, firstHalf, judgedIn, JudgedNumbers, Numbered, ServedNumbers}
 use Rattle.embed.proofs.Judged.{lent-within}
 use Rattle.embed.proofs.Numbers.{filed-at, judged-numbers, served-numbers}
 

@@ -1,7 +1,6 @@
 -- Laws: what the first half's verdict is bounded by: the outcome, the tenant, the language's length; and with outcome 0 goes no offset.
 use Prim.Native.Nat.{ℕ, _+_, _≤_, _<_}
 use mathlib.Core.Path.{_≡_, refl}
-use mathlib.Core.Bool.{true}
 use mathlib.Core.List.{List}
 use native.Mathlib.Omega.{arith}
 use lib.Dec.{eqb, ltb}
@@ -14,7 +13,7 @@ use Rattle.message.specs.declared.Found.{Found}
 use Rattle.message.specs.declared.Found.the-variants.{Absent, At}
 use Rattle.message.specs.laws.Placed.{pick-cases}
 use Rattle.message.specs.Read.{readOf}
-use Rattle.message.specs.Values.{fieldsOf, languageOf}
+use Rattle.message.specs.Values.{fieldsOf, findOf, languageOf}
 use Rattle.message.specs.Walk.{lengthAt}
 use Rattle.state.specs.declared.Lease.{Lease}
 use Rattle.state.specs.declared.Ledger.{Ledger}
@@ -57,7 +56,7 @@ module _ (b : Book) (h : ℕ) (s : List ℕ) where
   on-reading : h < 8 → mine (judgeReading b h s (readOf s))
   unfolding judgeReading fieldsOf Numbered
   on-reading g =
-      pick-cases mine (eqb (readOf s .discard) 0) _ _ (λ _. on-server (fieldsOf s (b .state .server) (readOf s .message)) g (λ o. language-small s _ o))
+      pick-cases mine (eqb (readOf s .discard) 0) _ _ (λ _. on-server (fieldsOf s (b .state .server) (readOf s .message)) g (λ o. language-small s (findOf (readOf s .message .places) 8) o))
       (λ e. let z = eqb-false (readOf s .discard) 0 e in dismissed s (readOf s .discard) (readOf s .fault) z (read-number s z .1))
 
 judged-within : (b : Book) (client time : ℕ) (s : List ℕ) → Within s (judgeOf b client time s .ruling)

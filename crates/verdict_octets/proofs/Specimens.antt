@@ -10,7 +10,7 @@ use Rattle.decision.specs.Parts.{discardWith}
 use Rattle.decision.specs.declared.Reply.the-variants.{InfoAck, Nothing, Offer}
 use Rattle.server.specs.Halves.{discardRuling}
 use Rattle.server.specs.declared.Ruling.{Ruling}
-use Rattle.verdict_octets.specs.Octets.{askedOctets, flagOf, identifierOctets, languageOctets, numberOctets, outcomeOctets, placeOctets, replyFor, rulingIn, setAt, verdictOctets, verdictSize}
+use Rattle.verdict_octets.specs.Octets.{askedOctets, flagOf, identifierOctets, languageOctets, numberOctets, outcomeOctets, placeOctets, replyFor, rulingIn, setAt, verdictOctets}
 
 -- discard 5 at octet 23
 discard-octets : verdictOctets (discardRuling 5 23) ≡ (5 ∷ 0 ∷ 0 ∷ 0 ∷ 0 ∷ 23 ∷ []) ++ replicate 68 0
@@ -64,17 +64,17 @@ unfolding verdictOctets outcomeOctets placeOctets numberOctets askedOctets langu
 info-octets = refl
 
 -- octets that no verdict has: a reply's number of 255 is none, and a flag of 255 is true
-made-up : rulingIn (replicate verdictSize 255)
+made-up : rulingIn (replicate 74 255)
     ≡ record {
-  verdict = record { outcome = 255; reply = Nothing; error = 255; scope = 255; start = 4294967295; end = 4294967295; addresses = 18446744073709551615 };
-  offset = 65535;
-  tenant = 255;
-  xid = 4294967295;
-  id = record { octets = replicate 32 255; len = 255 };
-  features = true;
-  «list_asked» = true;
-  «time_asked» = true;
-  language = record { asked = true; len = 65535; octets = replicate 8 255 };
-}
+      verdict = record { outcome = 255; reply = Nothing; error = 255; scope = 255; start = 4294967295; end = 4294967295; addresses = 18446744073709551615 };
+      offset = 65535;
+      tenant = 255;
+      xid = 4294967295;
+      id = record { octets = replicate 32 255; len = 255 };
+      features = true;
+      «list_asked» = true;
+      «time_asked» = true;
+      language = record { asked = true; len = 65535; octets = replicate 8 255 };
+    }
 unfolding rulingIn setAt at16 at32 replyFor pick
 made-up = refl

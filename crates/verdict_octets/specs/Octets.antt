@@ -3,7 +3,7 @@
 -- offset that goes with discard 5 (2), 6 house(1, its place counted from 0), 7 transaction id(4), 11 start(4), 15 end(4), 19 addresses(8, the set as a
 -- number: bit a for the scope's address a), 27 features(1), 28 list asked(1), 29 time asked(1), 30 language asked(1), 31 language length(2), 33 language
 -- octets(8), 41 identifier length(1), 42 identifier octets(32). A house is a tenant here.
-use mathlib.Core.Bool.{Bool, false, not, true}
+use mathlib.Core.Bool.{Bool, not}
 use mathlib.Core.List.{List, [], _++_, _∷_}
 use mathlib.Core.Path.{_≡_}
 use Prim.Native.Nat.{_%_, _*_, _+_, _/_, _<_, ℕ}
@@ -17,10 +17,6 @@ use Rattle.decision.specs.declared.Reply.{Reply}
 use Rattle.decision.specs.declared.Reply.the-variants.{InfoAck, LeaseAck, Nak, Nothing, Offer, ReleaseAck}
 use Rattle.decision.specs.declared.Verdict.{Verdict}
 use Rattle.server.specs.declared.Ruling.{Ruling}
-
--- as many as these are (`verdict-size`)
-abbrev pub verdictSize : ℕ
-verdictSize = 74
 
 -- ---- written
 abbrev pub replyNumber : Reply → ℕ

@@ -1,11 +1,10 @@
 -- Laws: the octets of a verdict, part by part as they are written; a verdict has 74; and read back they are that verdict.
-use mathlib.Core.Bool.{Bool, false, not, true}
+use mathlib.Core.Bool.{Bool, false, true}
 use mathlib.Core.List.{List, [], _++_, _∷_, append-nil}
 use mathlib.Core.Path.{_∙_, _≡_, ap, ap₂, refl, sym}
 use Prim.Native.Nat.{_%_, _*_, _+_, _-_, _/_, _<_, _≤_, ℕ}
 use native.Mathlib.Omega.{arith}
-use lib.Dec.{eqb}
-use lib.ListN.{drop, getD, length, length-append, length-drop, replicate, take}
+use lib.ListN.{drop, getD, length, replicate, take}
 use lib.Seq.{drop-append-add, drop-length, getD-at, take-all, take-at}
 use Rattle.lists.specs.Pick.{pick}
 use Rattle.lists.specs.Row.{laidRow}
@@ -19,7 +18,7 @@ use Rattle.decision.specs.declared.Reply.{Reply}
 use Rattle.decision.specs.declared.Reply.the-variants.{InfoAck, LeaseAck, Nak, Nothing, Offer, ReleaseAck}
 use Rattle.decision.specs.declared.Verdict.{Verdict}
 use Rattle.server.specs.declared.Ruling.{Ruling}
-use Rattle.verdict_octets.specs.Octets.{Holds, ReadBack, TypedRuling, askedOctets, flagOf, identifierIn, identifierOctets, isSet, languageIn, languageOctets, numberOctets, outcomeOctets, placeOctets, replyFor, replyNumber, rulingIn, run, setAt, verdictIn, verdictOctets, verdictSize}
+use Rattle.verdict_octets.specs.Octets.{Holds, ReadBack, TypedRuling, askedOctets, flagOf, identifierIn, identifierOctets, isSet, languageIn, languageOctets, numberOctets, outcomeOctets, placeOctets, replyFor, replyNumber, rulingIn, run, setAt, verdictIn, verdictOctets}
 
 -- ---- written
 pub flag-set : (b : Bool) → b ≡ true → 1 ≡ flagOf b
@@ -78,7 +77,7 @@ pub identifier-wrote : {r₀ r₁ r₂ : List ℕ} {at a n : ℕ} (i : Identifie
 unfolding identifierOctets
 identifier-wrote i g h p q = let w = wrote-joined h p (wrote-as (take-all 32 (i .octets) (omega arith)) q) in (w, omega (arith, w .next))
 
-pub verdict-wrote : {r₀ r₁ r₂ r₃ r₄ r₅ r₆ : List ℕ} {a b c d e n : ℕ} (r : Ruling) → length r₀ ≡ verdictSize
+pub verdict-wrote : {r₀ r₁ r₂ r₃ r₄ r₅ r₆ : List ℕ} {a b c d e n : ℕ} (r : Ruling) → length r₀ ≡ 74
     → Wrote r₀ 0 (outcomeOctets (r .verdict)) r₁ a × (a ≡ 0 + 4) → Wrote r₁ a (placeOctets (r .offset) (r .tenant)) r₂ b × (b ≡ a + 3) → Wrote r₂ b (numberOctets (r .xid) (r .verdict)) r₃ c × (c ≡ b + 20)
     → Wrote r₃ c (askedOctets r) r₄ d × (d ≡ c + 3) → Wrote r₄ d (languageOctets (r .language)) r₅ e × (e ≡ d + 11) → Wrote r₅ e (identifierOctets (r .id)) r₆ n × (n ≡ e + 33) → r₆ ≡ verdictOctets r
 unfolding verdictOctets

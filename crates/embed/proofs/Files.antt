@@ -204,9 +204,9 @@ module _ (b : List ℕ) (n : ℕ) {f : OwnedFile} (o : Opened b n f) where
     pub file-judged : {kept : List ℕ} {i : ℕ} {before after b' : List ℕ} {m k : ℕ} {j : OwnedJudged} {w : Written} → f .refusal ≡ 0 → Keeps b n kept i
         → JudgesOwned (judgeLent (f .owned .ledger) (f .owned .records .leases) (take i kept) client time d) j
         → w ≡ writtenLent (j .owned .ledger) (j .owned .records .leases) (take i kept) (length b) → b' ≡ roomLent (j .owned .ledger) (j .owned .records .leases) (take i kept) b
-        → length after ≡ length before → after ≡ verdictOctets (j .ruling) → m ≡ lengthAfter w n → k ≡ numberAfter w (j .ruling .verdict .outcome) → JudgesFile (judgeFile b n client time d) b' m before after k
+        → length before ≡ 74 → length after ≡ 74 → after ≡ verdictOctets (j .ruling) → m ≡ lengthAfter w n → k ≡ numberAfter w (j .ruling .verdict .outcome) → JudgesFile (judgeFile b n client time d) b' m before after k
     unfolding judgeFile
-    file-judged {before = before} {after} {j = j} z g v′ p q l a i h =
+    file-judged {before = before} {after} {j = j} z g v′ p q l l′ a i h =
         let e = names-are g z in
         let v : JudgesOwned (judgeLent (f .owned .ledger) (f .owned .records .leases) (namesIn b n) client time d) j =
         subst (λ (x : List ℕ). JudgesOwned (judgeLent (f .owned .ledger) (f .owned .records .leases) x client time d) j) e v′ in
@@ -215,7 +215,7 @@ module _ (b : List ℕ) (n : ℕ) {f : OwnedFile} (o : Opened b n f) where
           number = told-yes half z (v .ledger) (v .leases) u h (ap (λ (x : Ruling). x .verdict .outcome) (v .ruling));
           verdict =
               a ∙ sym (append-nil (verdictOctets (j .ruling)))
-              ∙ ap (λ (x : List ℕ). verdictOctets (j .ruling) ++ x) (sym (drop-length before) ∙ ap (λ (x : ℕ). drop x before) (sym (sym (ap length a) ∙ l)))
+              ∙ ap (λ (x : List ℕ). verdictOctets (j .ruling) ++ x) (sym (drop-length before) ∙ ap (λ (x : ℕ). drop x before) (l ∙ sym l′ ∙ ap length a))
               ∙ ap (λ (x : Ruling). verdictOctets x ++ drop (length (verdictOctets x)) before) (v .ruling)
               ∙ ap (λ (x : Filed). x .out ++ drop (length (x .out)) before) (yes half z);
           files = files-yes half z (v .ledger) (v .leases) u (q ∙ ap (λ (x : List ℕ). roomLent (j .owned .ledger) (j .owned .records .leases) x b) e) i;

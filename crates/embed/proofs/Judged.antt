@@ -14,7 +14,6 @@ use Rattle.message.specs.declared.Found.the-variants.{Absent, At}
 use Rattle.message.specs.laws.Placed.{pick-cases}
 use Rattle.message.specs.Read.{readOf}
 use Rattle.message.specs.Values.{fieldsOf, findOf, languageOf}
-use Rattle.message.specs.Walk.{lengthAt}
 use Rattle.state.specs.declared.Lease.{Lease}
 use Rattle.state.specs.declared.Ledger.{Ledger}
 use Rattle.state.specs.Book.{advanced, Book, releasesAt, remembered}
@@ -39,7 +38,7 @@ dismissed s k o z h = record { few = h; none = λ e. absurd (z e); tenant = omeg
 
 -- a length of two octets
 language-small : (s : List ℕ) (f : Found) → Octets s → languageOf s f .len < 65536
-unfolding lengthAt at16
+unfolding at16
 language-small s (At at) o = let a = o (at + 2) in let b = o (at + 2 + 1) in omega arith
 language-small s Absent o = omega arith
 

@@ -1,25 +1,38 @@
--- `banshorra_judge` meets its contract: the file is read, the datagram is judged, the file is written again; a refused file changes nothing.
+-- `banshorra_judge` meets its contract: the file is read, the datagram is judged, the file is written again; a refused file changes nothing. The search does not come
+-- to `file-judged` by itself: its premises are named here, in the order of the code.
 use Rattle.embed.proofs.Files.{file-judged, file-unjudged, kept-length}
 use borrow.Author.Needs.{needs}
 use Rattle.embed.proofs.banshorra_judge.Statement.{statement}
 use Rattle.embed.proofs.banshorra_judge.Tie as tie
 
+returns : tie.Need-returns
+returns c =
+    let put = c .before .before .before in
+    let write = put .before .before .before .before in
+    let judge = write .before .before .before .before .before in
+    let keep = judge .before .before .before in
+    let test = keep .before .before .before in
+    let open = test .before in
+    let a = open .before .before .before .before .before .args in
+    file-judged _ _ (open .open-in .ensures) (a .client) (a .time) (a .datagram .now) (test .if1 .taken) (keep .keep-names .ensures) (judge .judge .ensures) (write .write .ensures .0) (write .write .ensures .1)
+    (search needs) (search needs) (put .put .ensures) (c .before .before .length-after .ensures) (c .number-after .ensures)
+
 pub banshorra-judge-spec : {M : Type 1} → statement M
 banshorra-judge-spec =
     tie.close
     (tie.spec
-    (λ c κs. search needs)  -- src/lib.rt:353:9 open-in-requires
-    (λ c κs. search needs)  -- src/lib.rt:357:13 keep-names-requires
-    (λ c. search needs)  -- src/lib.rt:359:33 array-share-prefix-kept
-    (λ c. search (kept-length, needs))  -- src/lib.rt:359:33 slice-aggregate-judge
-    (λ c κs. search needs)  -- src/lib.rt:359:13 judge-requires
-    (λ c. search needs)  -- src/lib.rt:362:33 array-share-prefix-kept-2
-    (λ c. search (kept-length, needs))  -- src/lib.rt:362:33 slice-aggregate-write
-    (λ c κs. search needs)  -- src/lib.rt:362:13 write-requires
-    (λ c κs. search needs)  -- src/lib.rt:363:9 put-requires
-    (λ c κs. search needs)  -- src/lib.rt:364:24 length-after-requires
-    (λ c κs. search needs)  -- src/lib.rt:366:9 number-after-requires
-    (λ c. search needs)  -- src/lib.rt:366:9 same-length
-    (λ c. search (file-judged, needs))  -- src/lib.rt:366:9 returns
-    (λ c. search needs)  -- src/lib.rt:341:1 same-length-2
-    (λ c. search (file-unjudged, needs)))  -- src/lib.rt:341:1 returns-2
+    (λ c κs. search needs)
+    (λ c κs. search needs)
+    (λ c. search needs)
+    (λ c. search (kept-length, needs))
+    (λ c κs. search needs)
+    (λ c. search needs)
+    (λ c. search (kept-length, needs))
+    (λ c κs. search needs)
+    (λ c κs. search needs)
+    (λ c κs. search needs)
+    (λ c κs. search needs)
+    (λ c. search needs)
+    returns
+    (λ c. search needs)
+    (λ c. search (file-unjudged, needs)))

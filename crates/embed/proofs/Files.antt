@@ -2,13 +2,13 @@
 -- of calls, from what the calls below gave.
 use mathlib.Core.Path.{_≡_, refl, sym, ap, _∙_, subst}
 use mathlib.Core.Bool.{Bool, true, false}
-use mathlib.Core.List.{List, _++_, append-nil}
+use mathlib.Core.List.{List, _++_}
 use Prim.Native.Nat.{ℕ, _+_, _≤_, _<_, min}
 use native.Mathlib.Nat.{zero-add}
 use native.Mathlib.Omega.{arith}
 use lib.Dec.{ltb}
 use lib.ListN.{drop, length, take}
-use lib.Seq.{drop-length, length-take-le, take-all, take-at}
+use lib.Seq.{length-take-le, take-all, take-at}
 use borrow.Author.Tests.{ltb-false, ltb-true}
 use Rattle.lists.specs.Pick.{pick}
 use Rattle.lists.specs.laws.Pick.{pick-eq, pick-lt, pick-not-eq, pick-not-lt}
@@ -17,7 +17,7 @@ use Rattle.state.specs.declared.Lease.{Lease}
 use Rattle.state.specs.declared.Ledger.{Ledger}
 use Rattle.server.specs.declared.Ruling.{Ruling}
 use Rattle.server.specs.Serve.{Call}
-use Rattle.verdict_octets.specs.Octets.{verdictOctets}
+use Rattle.verdict_octets.specs.Octets.{outcomeOctets, verdictOctets}
 use Rattle.state_file.specs.declared.Written.{Written}
 use Rattle.state_file.specs.StateFile.{readFile}
 use Rattle.state_file.proofs.RoundTrip.{names-short}
@@ -31,7 +31,7 @@ use Rattle.embed.specs.declared.Progress.{Progress}
 use Rattle.embed.proofs.Answered.{put-length}
 use Rattle.embed.specs.Embed.{called, filed, Filed, kept as unchanged, largestFile, largestNames, ledgerIn, lengthAfter, namesIn, numberAfter, onFile, refusalIn, replayed, replayFile, serveFile, Worked}
 use Rattle.embed.specs.Halves.{judged, judgeFile}
-use Rattle.embed.specs.Promises.{Files, JudgesFile, Keeps, Opened, Replays, ReplaysFile, ServesFile}
+use Rattle.embed.specs.Promises.{Files, handedOut, JudgesFile, Keeps, Opened, Replays, ReplaysFile, ServesFile}
 
 -- ---- a file read over a book that is all zero
 pub opened-refusal : (f : List ℕ) {r : OwnedFile} → ReadsOwned (readBlank f) r → r .refusal ≡ readFile f .refusal
@@ -113,6 +113,11 @@ kept-within g = g .within
 
 pub kept-length : {b kept : List ℕ} {n k : ℕ} → Keeps b n kept k → k ≡ length (take k kept)
 kept-length {kept = kept} {k = k} g = first-length kept k (g .within)
+
+-- ---- a verdict's octets, of which there is always one
+verdict-out : (r : Ruling) (before : List ℕ) → handedOut (verdictOctets r) before ≡ verdictOctets r
+unfolding handedOut verdictOctets outcomeOctets
+verdict-out r before = refl
 
 -- ---- the call and the list of calls
 module _ (b : List ℕ) (n : ℕ) {f : OwnedFile} (o : Opened b n f) where
@@ -204,9 +209,9 @@ module _ (b : List ℕ) (n : ℕ) {f : OwnedFile} (o : Opened b n f) where
     pub file-judged : {kept : List ℕ} {i : ℕ} {before after b' : List ℕ} {m k : ℕ} {j : OwnedJudged} {w : Written} → f .refusal ≡ 0 → Keeps b n kept i
         → JudgesOwned (judgeLent (f .owned .ledger) (f .owned .records .leases) (take i kept) client time d) j
         → w ≡ writtenLent (j .owned .ledger) (j .owned .records .leases) (take i kept) (length b) → b' ≡ roomLent (j .owned .ledger) (j .owned .records .leases) (take i kept) b
-        → length before ≡ 74 → length after ≡ 74 → after ≡ verdictOctets (j .ruling) → m ≡ lengthAfter w n → k ≡ numberAfter w (j .ruling .verdict .outcome) → JudgesFile (judgeFile b n client time d) b' m before after k
+        → after ≡ verdictOctets (j .ruling) → m ≡ lengthAfter w n → k ≡ numberAfter w (j .ruling .verdict .outcome) → JudgesFile (judgeFile b n client time d) b' m before after k
     unfolding judgeFile
-    file-judged {before = before} {after} {j = j} z g v′ p q l l′ a i h =
+    file-judged {before = before} {after} {j = j} z g v′ p q a i h =
         let e = names-are g z in
         let v : JudgesOwned (judgeLent (f .owned .ledger) (f .owned .records .leases) (namesIn b n) client time d) j =
         subst (λ (x : List ℕ). JudgesOwned (judgeLent (f .owned .ledger) (f .owned .records .leases) x client time d) j) e v′ in
@@ -214,16 +219,13 @@ module _ (b : List ℕ) (n : ℕ) {f : OwnedFile} (o : Opened b n f) where
         record {
           number = told-yes half z (v .ledger) (v .leases) u h (ap (λ (x : Ruling). x .verdict .outcome) (v .ruling));
           verdict =
-              a ∙ sym (append-nil (verdictOctets (j .ruling)))
-              ∙ ap (λ (x : List ℕ). verdictOctets (j .ruling) ++ x) (sym (drop-length before) ∙ ap (λ (x : ℕ). drop x before) (l ∙ sym l′ ∙ ap length a))
-              ∙ ap (λ (x : Ruling). verdictOctets x ++ drop (length (verdictOctets x)) before) (v .ruling)
-              ∙ ap (λ (x : Filed). x .out ++ drop (length (x .out)) before) (yes half z);
+              a ∙ sym (verdict-out (j .ruling) before) ∙ ap (λ (x : Ruling). handedOut (verdictOctets x) before) (v .ruling) ∙ ap (λ (x : Filed). handedOut (x .out) before) (yes half z);
           files = files-yes half z (v .ledger) (v .leases) u (q ∙ ap (λ (x : List ℕ). roomLent (j .owned .ledger) (j .owned .records .leases) x b) e) i;
         }
 
     pub file-unjudged : {before : List ℕ} → (f .refusal ≡ 0 → ⊥) → JudgesFile (judgeFile b n client time d) b n before before (f .refusal)
-    unfolding judgeFile
-    file-unjudged {before} z = record { number = told-no half z; verdict = ap (λ (x : Filed). x .out ++ drop (length (x .out)) before) (no half z); files = files-no half z }
+    unfolding judgeFile handedOut
+    file-unjudged {before} z = record { number = told-no half z; verdict = ap (λ (x : Filed). handedOut (x .out) before) (no half z); files = files-no half z }
 
   module _ (cs : List ℕ) (room : ℕ) where
     abbrev all : Ledger → List Lease → Worked

@@ -15,7 +15,7 @@ returns c =
     let read = test .before in
     let a = read .before .before .before .before .before .args in
     file-judged _ _ (read .open-in .ensures) (a .client) (a .time) (a .datagram .now) (test .if1 .taken) (keep .keep-names .ensures) (judge .judge .ensures) (write .write .ensures .0) (write .write .ensures .1)
-    (search needs) (search needs) (put .put .ensures) (c .before .before .length-after .ensures) (c .number-after .ensures)
+    (put .put .ensures) (c .before .before .length-after .ensures) (c .number-after .ensures)
 
 pub banshorra-judge-spec : {M : Type 1} → statement M
 banshorra-judge-spec =

@@ -11,6 +11,7 @@ use borrow.Author.Tests.{eqb-false, le-ltb, ltb-false}
 use Rattle.lists.specs.Pick.{pick}
 use Rattle.message.specs.laws.Placed.{pick-cases}
 use Rattle.message.specs.Read.{readOf}
+use Rattle.message.specs.Values.{fieldsOf}
 use Rattle.message.specs.declared.Fields.{Fields}
 use Rattle.reply.proofs.Short.{info-ack-short, lease-ack-short, nak-short, offer-short, release-ack-short}
 use Rattle.reply.specs.Reply.{leastRoom}
@@ -66,17 +67,17 @@ enough-halves b c g =
         ∙ ap told (judge-unsound b (c .client) (c .time) (c .datagram) e)
 
 -- ---- the first half
-Told : Answer → Judgement → Type 0
+abbrev Told : Answer → Judgement → Type 0
 Told a j = (a .outcome ≡ j .ruling .verdict .outcome) × ((a .offset ≡ j .ruling .offset) × (a .book ≡ j .book))
 
-told-by : {a a′ : Answer} {j j′ : Judgement} (t : Bool) → Told a j → Told a′ j′ → Told (pick t a a′) (pick t j j′)
+told-by : (t : Bool) (a a′ : Answer) (j j′ : Judgement) → Told a j → Told a′ j′ → Told (pick t a a′) (pick t j j′)
 unfolding pick
-told-by true p q = p
-told-by false p q = q
+told-by true a a′ j j′ p q = p
+told-by false a a′ j j′ p q = q
 
 pub verdict-told : VerdictTold
-unfolding VerdictTold Told serveOf judgeOf atClock judgeClock withReading judgeReading forServer judgeServer discardWith pick
-verdict-told b c g = told-by (bookB b) (rw (le-ltb (c .room) leastRoom g) at-clock) (refl, (refl, refl))
+unfolding VerdictTold serveOf judgeOf atClock judgeClock withReading judgeReading forServer judgeServer discardWith pick
+verdict-told b c g = told-by (bookB b) _ _ _ _ (rw (le-ltb (c .room) leastRoom g) at-clock) (refl, (refl, refl))
   where
     a : Book
     a = advanced b (c .time)
@@ -85,10 +86,12 @@ verdict-told b c g = told-by (bookB b) (rw (le-ltb (c .room) leastRoom g) at-clo
     h = tenantOf (a .state) (c .client)
 
     for-server : (m : Fields) → Told (forServer a h m) (judgeServer a h m)
-    for-server m = told-by (eqb (m .kind) 3 && not (m .ours)) (refl, (refl, refl)) (refl, (refl, refl))
+    for-server m = told-by (eqb (m .kind) 3 && not (m .ours)) _ _ _ _ (refl, (refl, refl)) (refl, (refl, refl))
 
     at-clock : Told (atClock a (c .client) (c .datagram)) (judgeClock a (c .client) (c .datagram))
-    at-clock = told-by (ltb h (tenantsIn (a .state))) (told-by (eqb (readOf (c .datagram) .discard) 0) (for-server _) (refl, (refl, refl))) (refl, (refl, refl))
+    at-clock =
+        told-by (ltb h (tenantsIn (a .state))) _ _ _ _
+        (told-by (eqb (readOf (c .datagram) .discard) 0) _ _ _ _ (for-server (fieldsOf (c .datagram) (a .state .server) (readOf (c .datagram) .message))) (refl, (refl, refl))) (refl, (refl, refl))
 
 pub judges-numbered : JudgesNumbered
 unfolding JudgesNumbered judgeOf judgeClock judgeReading judgeServer discardWith Numbered

@@ -25,6 +25,7 @@ extern "C" {
 #define BANSHORRA_BOARD_ROOM 1100    /* the least buffer for the board's text */
 #define BANSHORRA_ANSWER_ROOM 517    /* what a replay needs free before it answers a call */
 #define BANSHORRA_OCCUPANCY_ROOM 544 /* the occupancy board, and the least buffer for it */
+#define BANSHORRA_VERDICT_SIZE 74    /* a verdict */
 
 /* Outcomes of a call (document 01's table). The first that holds counts. */
 enum {
@@ -47,6 +48,16 @@ enum {
     BANSHORRA_CUT_OFF = 24,         /* a call's record is cut off */
     BANSHORRA_SHORT_ANSWERS = 27,   /* fewer than 517 octets are left for the next answer */
     BANSHORRA_FILE_LENGTH = 28      /* the file's length is above its buffer's */
+};
+
+/* What a verdict's reply is. */
+enum {
+    BANSHORRA_NOTHING = 0,     /* none: a discard */
+    BANSHORRA_OFFER = 1,       /* an OFFER */
+    BANSHORRA_LEASE_ACK = 2,   /* the ACK to a REQUEST or RENEW, with the lease */
+    BANSHORRA_RELEASE_ACK = 3, /* the ACK to a RELEASE */
+    BANSHORRA_INFO_ACK = 4,    /* the ACK to a GETINFO */
+    BANSHORRA_NAK = 5          /* a NAK */
 };
 
 /* Whether a campus file is accepted: 0, or refusal 20 or 21. */
@@ -74,6 +85,47 @@ uint8_t banshorra_occupancy(const uint8_t *file, size_t file_length, uint8_t *bo
    Or a refusal, tested in the order 23, 28, 20, 21, which changes nothing but *reply_length and *fault_offset, which are 0. */
 uint8_t banshorra_serve(uint8_t *file, size_t file_room, size_t *file_length, const uint8_t *datagram, size_t datagram_length,
                         uint32_t client, uint32_t time, uint8_t *reply, size_t reply_room, size_t *reply_length, size_t *fault_offset);
+
+/* banshorra_serve in two halves, for those who want to know what becomes of a datagram and have no reply room to lend: the first decides, the
+   second writes the reply from what the first has given. With a reply room of 512 octets or more the two do what banshorra_serve does.
+
+   The first half: judges one datagram on the campus file in the first *file_length octets of a buffer of file_room octets, as banshorra_serve
+   does. Returns the outcome, 0 to 8, but never 1 or 2; the verdict stands in `verdict`, and the file afterwards in the buffer and its length in
+   *file_length. Who only looks on lends a copy of the file.
+   Or a refusal, 23, 28, 20, 21 as above, which changes nothing, the verdict neither.
+
+   A verdict is BANSHORRA_VERDICT_SIZE octets, numbers high octet first:
+        0  outcome(1), which is also returned
+        1  what the reply is(1), as above; other numbers count as none
+        2  a NAK's error(1)
+        3  scope(1), counted from 1, of an OFFER or a lease
+        4  with discard 5 the octet of the datagram(2) that *fault_offset has above; else 0
+        6  the client's house(1), counted from 0, of a message that gets a reply
+        7  transaction id(4)
+       11  start(4) and
+       15  end(4) of an OFFER or a lease
+       19  its addresses(8): bit a of the number stands for the scope's lowest address plus a
+       27  whether the client sent option 12(1; 0 or 1)
+       28  whether option 5 names 9, the scope list(1), and
+       29  11, the time(1)
+       30  whether there is option 8, a language(1),
+       31  its length(2) and
+       33  its octets(8), the first ones of a longer one, which no name has
+       41  the Lease Identifier's length(1) and
+       42  its octets(32)
+   Octets past a length are 0. What a reply doesn't need is of no account: of a NAK the scope, for instance. A discard has 0 in all but outcome and
+   offset, except that 8 has what the message said: transaction id, options 12, 5 and 8, identifier. */
+uint8_t banshorra_judge(uint8_t *file, size_t file_room, size_t *file_length, const uint8_t *datagram, size_t datagram_length,
+                        uint32_t client, uint32_t time, uint8_t verdict[BANSHORRA_VERDICT_SIZE]);
+
+/* The second half: writes the reply to a verdict, from the campus file as the first half left it. Returns, tested in this order: 2 where
+   reply_room is below 512, also for a discard; 20 or 21 for a refused file; a discard's number, with *fault_offset as above; or 0, and the reply
+   stands in `reply` and its length in *reply_length. Both numbers are 0 with whatever else is returned, and then nothing is written. Octets past
+   the reply are untouched.
+   For octets that banshorra_judge did not give, or did not give with this file, the answer may be anything: an outcome 0 to 8, with a reply of at
+   most 512 octets that may be no message, and with any offset up to 65,535. No octet past the 512th is touched even so. */
+uint8_t banshorra_reply(const uint8_t *file, size_t file_length, const uint8_t verdict[BANSHORRA_VERDICT_SIZE], uint8_t *reply,
+                        size_t reply_room, size_t *reply_length, size_t *fault_offset);
 
 /* Serves a list of calls, one after the other, with the file read once and written once.
    A call is time(4), client address(4), reply room length(2), datagram length(2), the datagram; a reply room length above 512 counts as 512.

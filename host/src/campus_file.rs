@@ -3,6 +3,7 @@
 use crate::lent::{self, Replayed};
 use crate::numbers::{Outcome, Refusal};
 use crate::occupancy::Occupancy;
+use crate::verdict::Verdict;
 use crate::{BOARD_ROOM, FILE_ROOM};
 use std::fmt;
 use std::net::Ipv4Addr;
@@ -50,6 +51,26 @@ impl CampusFile {
             reply,
         )
         .expect("an accepted file stays accepted")
+    }
+
+    /// The first half of [`serve`](Self::serve): what becomes of a datagram, without a reply buffer. The file is left as a call leaves it; who only
+    /// looks on judges on a clone.
+    pub fn judge(&mut self, datagram: &[u8], client: Ipv4Addr, time: u32) -> Verdict {
+        lent::judge(
+            &mut self.buffer[..],
+            &mut self.length,
+            datagram,
+            client,
+            time,
+        )
+        .expect("an accepted file stays accepted")
+    }
+
+    /// The second half: the reply to a verdict, from the file as [`judge`](Self::judge) left it. It stands in the front of `reply`, which has at
+    /// least [`REPLY_ROOM`](crate::REPLY_ROOM) octets (else discard 2, of a discard too); octets past it are left as they were. A discard
+    /// comes back as it is. After another call, or for a verdict of another file, the outcome may be any.
+    pub fn reply<'r>(&self, verdict: &Verdict, reply: &'r mut [u8]) -> Outcome<'r> {
+        lent::reply(self.as_bytes(), verdict, reply).expect("an accepted file stays accepted")
     }
 
     /// Serves a list of calls one after the other; see [`lent::replay`]. It stops at a record that is cut off (24) or where fewer than

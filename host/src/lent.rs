@@ -4,7 +4,8 @@
 use crate::library;
 use crate::numbers::{Outcome, Refusal};
 use crate::occupancy::Occupancy;
-use crate::OCCUPANCY_ROOM;
+use crate::verdict::Verdict;
+use crate::{OCCUPANCY_ROOM, VERDICT_SIZE};
 use std::net::Ipv4Addr;
 
 /// Whether a campus file is accepted; refusal 20 or 21.
@@ -54,6 +55,35 @@ pub fn serve<'r>(
         &mut length,
         &mut offset,
     );
+    Outcome::of_number(number, offset, &reply[..length]).ok_or_else(|| refusal(number))
+}
+
+/// The first half of [`serve`]: what becomes of a datagram, without a reply room; the file is as a call leaves it. A refusal (23 before 28
+/// before 20 before 21) changes nothing.
+pub fn judge(
+    file: &mut [u8],
+    file_length: &mut usize,
+    datagram: &[u8],
+    client: Ipv4Addr,
+    time: u32,
+) -> Result<Verdict, Refusal> {
+    let (client, mut verdict) = (u32::from(client), [0; VERDICT_SIZE]);
+    match library::judge(file, file_length, datagram, client, time, &mut verdict) {
+        0..=8 => Ok(Verdict::from_bytes(verdict)),
+        number => Err(refusal(number)),
+    }
+}
+
+/// The second half of [`serve`]: the reply to a verdict, from the file that [`judge`] left with it. It stands in the front of `reply`, and octets
+/// past it are left as they were. A reply buffer below [`REPLY_ROOM`](crate::REPLY_ROOM) octets is discard 2, whatever the verdict; then comes
+/// the refusal of a file, 20 or 21. For a verdict and a file that don't belong together the outcome may be any.
+pub fn reply<'r>(
+    file: &[u8],
+    verdict: &Verdict,
+    reply: &'r mut [u8],
+) -> Result<Outcome<'r>, Refusal> {
+    let (mut length, mut offset) = (0, 0);
+    let number = library::reply(file, verdict.as_bytes(), reply, &mut length, &mut offset);
     Outcome::of_number(number, offset, &reply[..length]).ok_or_else(|| refusal(number))
 }
 

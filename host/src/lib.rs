@@ -29,6 +29,9 @@
 //! }
 //! ```
 //!
+//! [`CampusFile::judge`] and [`CampusFile::reply`] are the two halves of a call, for those who want to know what becomes of a datagram and have no
+//! reply to send: the first gives a [`Verdict`], the second writes the reply from it.
+//!
 //! [`CampusFile::occupancy`] says who has which address, for those who poll it.
 //!
 //! [`lent`] has the same calls on buffers of the caller's. The numbers are those of documents 01 and 02 and of `include/banshorra.h`.
@@ -44,6 +47,7 @@ pub mod library;
 mod numbers;
 mod occupancy;
 mod records;
+mod verdict;
 
 pub use campus_file::CampusFile;
 pub use fault::Fault;
@@ -51,6 +55,7 @@ pub use lent::Replayed;
 pub use numbers::{Discard, Outcome, Refusal};
 pub use occupancy::Occupancy;
 pub use records::{answers, Answers, Call};
+pub use verdict::{Asked, Given, Ruling, Verdict};
 
 /// The longest campus file, and the least buffer for a file that is served.
 pub const FILE_ROOM: usize = 32_768;
@@ -63,3 +68,5 @@ pub const ANSWER_ROOM: usize = 5 + REPLY_ROOM;
 /// The octets of the occupancy board, and the least buffer for it: for each of four scopes the owner(1) and the count(1) of 64 addresses and
 /// the holdings(1) of eight houses.
 pub const OCCUPANCY_ROOM: usize = 4 * (2 * 64 + 8);
+/// The octets of a verdict.
+pub const VERDICT_SIZE: usize = 74;

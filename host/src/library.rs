@@ -1,4 +1,4 @@
-//! The static library's five functions as safe ones on slices, with its own numbers, as `include/banshorra.h` has them. All unsafe code of
+//! The static library's seven functions as safe ones on slices, with its own numbers, as `include/banshorra.h` has them. All unsafe code of
 //! the crate is here; [`lent`](crate::lent) has the same calls with the numbers read.
 //!
 //! Why each call is sound:
@@ -11,6 +11,8 @@
 //! - It neither unwinds nor exits.
 //!
 //! `build.rs` links the library.
+
+use crate::VERDICT_SIZE;
 
 // The library's own functions, for what has to lend it pointers; `include/banshorra.h` says what each asks for and gives.
 extern "C" {
@@ -39,6 +41,27 @@ extern "C" {
         datagram_length: usize,
         client: u32,
         time: u32,
+        reply: *mut u8,
+        reply_room: usize,
+        reply_length: *mut usize,
+        fault_offset: *mut usize,
+    ) -> u8;
+    /// The first half of a call.
+    pub fn banshorra_judge(
+        file: *mut u8,
+        file_room: usize,
+        file_length: *mut usize,
+        datagram: *const u8,
+        datagram_length: usize,
+        client: u32,
+        time: u32,
+        verdict: *mut u8,
+    ) -> u8;
+    /// The second half of a call.
+    pub fn banshorra_reply(
+        file: *const u8,
+        file_length: usize,
+        verdict: *const u8,
         reply: *mut u8,
         reply_room: usize,
         reply_length: *mut usize,
@@ -97,6 +120,56 @@ pub fn serve(
             datagram.len(),
             client,
             time,
+            reply.as_mut_ptr(),
+            reply.len(),
+            reply_length,
+            fault_offset,
+        )
+    }
+}
+
+/// The first half of a call on the campus file in the first `file_length` octets of `file`: its outcome, which the verdict has too, or its
+/// refusal.
+pub fn judge(
+    file: &mut [u8],
+    file_length: &mut usize,
+    datagram: &[u8],
+    client: u32,
+    time: u32,
+    verdict: &mut [u8; VERDICT_SIZE],
+) -> u8 {
+    // SAFETY: as above, and the verdict is as long as the library takes it to be; `file`, its length and `verdict` are written, and each is lent
+    // as `&mut`.
+    unsafe {
+        banshorra_judge(
+            file.as_mut_ptr(),
+            file.len(),
+            file_length,
+            datagram.as_ptr(),
+            datagram.len(),
+            client,
+            time,
+            verdict.as_mut_ptr(),
+        )
+    }
+}
+
+/// The second half of a call, from a verdict and the campus file that the first half left with it: its outcome or refusal. Of other octets and
+/// another file it may be any outcome, within the room all the same.
+pub fn reply(
+    file: &[u8],
+    verdict: &[u8; VERDICT_SIZE],
+    reply: &mut [u8],
+    reply_length: &mut usize,
+    fault_offset: &mut usize,
+) -> u8 {
+    // SAFETY: as above, and the verdict is as long as the library takes it to be; `reply`, its length and the offset are written, and each is
+    // lent as `&mut`.
+    unsafe {
+        banshorra_reply(
+            file.as_ptr(),
+            file.len(),
+            verdict.as_ptr(),
             reply.as_mut_ptr(),
             reply.len(),
             reply_length,

@@ -87,7 +87,7 @@ impl Discard {
         }
     }
 
-    fn of_number(number: u8, offset: usize) -> Option<Self> {
+    pub(crate) fn of_number(number: u8, offset: usize) -> Option<Self> {
         Some(match number {
             1 => Discard::Unsound,
             2 => Discard::ReplyRoom,

@@ -1,7 +1,9 @@
 //! The C header and the crate name the same numbers and functions.
 
-use banshorra_host::{Discard, Outcome, Refusal};
-use banshorra_host::{ANSWER_ROOM, BOARD_ROOM, FILE_ROOM, OCCUPANCY_ROOM, REPLY_ROOM};
+use banshorra_host::{Discard, Outcome, Refusal, Ruling, Verdict};
+use banshorra_host::{
+    ANSWER_ROOM, BOARD_ROOM, FILE_ROOM, OCCUPANCY_ROOM, REPLY_ROOM, VERDICT_SIZE,
+};
 
 const HEADER: &str = include_str!("../include/banshorra.h");
 
@@ -26,6 +28,7 @@ fn the_header_and_the_crate_agree() {
         ("BOARD_ROOM", BOARD_ROOM),
         ("ANSWER_ROOM", ANSWER_ROOM),
         ("OCCUPANCY_ROOM", OCCUPANCY_ROOM),
+        ("VERDICT_SIZE", VERDICT_SIZE),
         ("REPLY", usize::from(Outcome::Reply(&[]).number())),
     ];
     for (name, discard) in [
@@ -50,7 +53,22 @@ fn the_header_and_the_crate_agree() {
     ] {
         expected.push((name, refusal.number().into()));
     }
+    expected.extend((0..).map(reply_name).zip(0..).take(6));
     assert_eq!(named(), expected);
+}
+
+/// The header's name for what a verdict says that its reply is.
+fn reply_name(reply: u8) -> &'static str {
+    let mut octets = [0; VERDICT_SIZE];
+    octets[1] = reply;
+    match Verdict::from_bytes(octets).ruling() {
+        None => "NOTHING",
+        Some(Ruling::Offer(_)) => "OFFER",
+        Some(Ruling::Lease(_)) => "LEASE_ACK",
+        Some(Ruling::Released) => "RELEASE_ACK",
+        Some(Ruling::Info(_)) => "INFO_ACK",
+        Some(Ruling::Nak { .. }) => "NAK",
+    }
 }
 
 /// C's types in Rust's words.
@@ -63,9 +81,13 @@ const KINDS: [(&str, &str); 6] = [
     ("size_t ", "usize"),
 ];
 
-/// Of `const uint8_t *file`: `file` and `*const u8`.
-fn in_rust(declared: &str) -> (&str, &str) {
-    let kind = |(c, rust)| Some((declared.trim().strip_prefix(c)?, rust));
+/// Of `const uint8_t *file`: `file` and `*const u8`. An array that is lent, `const uint8_t verdict[BANSHORRA_VERDICT_SIZE]`, is a pointer.
+fn in_rust(declared: &str) -> (String, &str) {
+    let declared = match declared.trim().strip_suffix("[BANSHORRA_VERDICT_SIZE]") {
+        Some(array) => array.replace("uint8_t ", "uint8_t *"),
+        None => declared.trim().to_owned(),
+    };
+    let kind = |(c, rust)| Some((declared.strip_prefix(c)?.to_owned(), rust));
     KINDS.into_iter().find_map(kind).expect("a type and a name")
 }
 

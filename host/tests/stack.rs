@@ -87,7 +87,12 @@ fn a_full_campus_is_served() {
             (RELEASE, &options[..1]),
         ] {
             let datagram = message(kind, u32::from(kind), options);
+            // In two halves, and whole.
+            let mut halves = campus.clone();
+            let verdict = halves.judge(&datagram, HOUSE_1, CLOCK);
+            assert_eq!(halves.reply(&verdict, &mut [0; 512]).number(), 0);
             assert_eq!(call(&mut campus, HOUSE_1, CLOCK, &datagram).0, 0);
+            assert_eq!(halves, campus);
             let call = banshorra_host::Call {
                 time: CLOCK,
                 client: HOUSE_2,

@@ -1,4 +1,4 @@
-//! An independent second MADCAP server library, written from documents 01 and 02 (as far as W-207) and the
+//! An independent second MADCAP server library, written from documents 01 and 02 (as far as W-208) and the
 //! MADCAP draft only (with the project's readings where the documents are open), and used for comparison.
 //! It is plain and slow on purpose: where the rules speak of addresses one by one, so does the code.
 
@@ -18,10 +18,13 @@ pub mod releases;
 pub mod reply;
 pub mod server;
 pub mod sound;
+pub mod verdict;
 
 pub use book::{Book, House, Lease, Quota, Scope};
 pub use holds::Hold;
 pub use names::{Name, ScopeNames};
 pub use releases::Release;
-pub use server::serve;
+pub use reply::write;
+pub use server::{judge, serve};
 pub use sound::sound;
+pub use verdict::Verdict;

@@ -1,8 +1,45 @@
-//! The replies, octet by octet.
+//! The second half of a call: the reply to a verdict, octet by octet.
 
-use crate::book::{Book, Lease};
-use crate::message::{code, Header, Options, ACK, FAMILY, NAK, VERSION};
+use crate::book::Book;
+use crate::message::{code, ACK, FAMILY, NAK, OFFER, VERSION};
+use crate::server::{NO_ROOM, REPLY};
+use crate::verdict::{Answer, Asked, Given, Ruling, Verdict};
 use std::collections::BTreeMap;
+
+/// The shortest reply room. No reply is longer.
+pub const SHORTEST_ROOM: usize = 512;
+
+/// The second half of a call: writes the reply to a verdict from the book that the first half left with it. Gives the
+/// outcome, its offset and the length of the reply, which stands in the front of the room; the rest of the room is left
+/// as it was. "Writing into room below 512 is 2, tested first; writing a discard returns it; neither writes."
+pub fn write(book: &Book, verdict: &Verdict, room: &mut [u8]) -> (u8, usize, usize) {
+    let Some(room) = room.get_mut(..SHORTEST_ROOM) else {
+        return (NO_ROOM, 0, 0);
+    };
+    let ruling = match verdict {
+        Verdict::Reply(ruling) => ruling,
+        Verdict::Discard(discard) => return (discard.outcome, discard.offset, 0),
+    };
+    let octets = reply(book, ruling);
+    // No reply that the first half rules comes near 512 octets. A verdict that it didn't give may be of any length.
+    let Some(front) = room.get_mut(..octets.len()) else {
+        return (NO_ROOM, 0, 0);
+    };
+    front.copy_from_slice(&octets);
+    (REPLY, 0, octets.len())
+}
+
+/// The reply's octets.
+fn reply(book: &Book, ruling: &Ruling) -> Vec<u8> {
+    match &ruling.answer {
+        Answer::Offer(given) => of_lease(OFFER, book, ruling, given),
+        Answer::Lease(given) => of_lease(ACK, book, ruling, given),
+        // ACK to RELEASE: 2, 3.
+        Answer::Released => Reply::new(ACK, book, ruling).octets(),
+        Answer::Info(asked) => of_getinfo(book, ruling, asked),
+        Answer::Error(error) => of_error(*error, book, ruling),
+    }
+}
 
 /// A reply under way. Its options come out in rising order of code.
 struct Reply {
@@ -14,15 +51,15 @@ struct Reply {
 impl Reply {
     /// What every reply has: the transaction id echoed, options 2 and 3,
     /// and 12 with three zero counts if the client sent 12.
-    fn new(message_type: u8, book: &Book, header: &Header, asked: &Options) -> Reply {
+    fn new(message_type: u8, book: &Book, ruling: &Ruling) -> Reply {
         let mut reply = Reply {
             message_type,
-            transaction: header.transaction,
+            transaction: ruling.transaction,
             options: BTreeMap::new(),
         };
         reply.put(code::SERVER_IDENTIFIER, server_identifier(book));
-        reply.put(code::LEASE_IDENTIFIER, asked.identifier);
-        if asked.has(code::FEATURES) {
+        reply.put(code::LEASE_IDENTIFIER, &ruling.identifier[..]);
+        if ruling.has_features {
             reply.put(code::FEATURES, [0; 6]);
         }
         reply
@@ -55,45 +92,34 @@ pub fn server_identifier(book: &Book) -> Vec<u8> {
 }
 
 /// OFFER and the ACK to REQUEST and RENEW: 1 (length), 2, 3, 4, 6, 10, 11.
-pub fn of_lease(
-    message_type: u8,
-    book: &Book,
-    header: &Header,
-    asked: &Options,
-    lease: &Lease,
-) -> Vec<u8> {
-    let lowest = book.scope(lease.scope).map_or(0, |scope| scope.lowest);
-    let mut reply = Reply::new(message_type, book, header, asked);
-    reply.put(code::LEASE_TIME, lease.length().to_be_bytes());
+fn of_lease(message_type: u8, book: &Book, ruling: &Ruling, given: &Given) -> Vec<u8> {
+    let lowest = book.scope(given.scope).map_or(0, |scope| scope.lowest);
+    let mut reply = Reply::new(message_type, book, ruling);
+    reply.put(code::LEASE_TIME, given.length().to_be_bytes());
     reply.put(code::SCOPE, lowest.to_be_bytes());
-    reply.put(code::START_TIME, lease.start.to_be_bytes());
-    reply.put(code::RANGES, ranges_value(lowest, &lease.offsets));
+    reply.put(code::START_TIME, given.start.to_be_bytes());
+    reply.put(code::RANGES, ranges_value(lowest, &given.offsets));
     reply.put(code::CURRENT_TIME, book.clock.to_be_bytes());
     reply.octets()
 }
 
-/// ACK to RELEASE: 2, 3.
-pub fn of_release(book: &Book, header: &Header, asked: &Options) -> Vec<u8> {
-    Reply::new(ACK, book, header, asked).octets()
-}
-
-/// ACK to GETINFO: 2, 3, and 9 and 11 if option 5 names them. The names in 9 are those for this house
+/// ACK to GETINFO: 2, 3, and 9 and 11 if option 5 names them. The names in 9 are those for the client's house
 /// and for the language of option 8.
-pub fn of_getinfo(book: &Book, house: u8, header: &Header, asked: &Options) -> Vec<u8> {
-    let mut reply = Reply::new(ACK, book, header, asked);
-    if asked.asks_for(code::SCOPE_LIST) {
-        let language = asked.value(code::REQUESTED_LANGUAGE);
-        reply.put(code::SCOPE_LIST, scope_list(book, house, language));
+fn of_getinfo(book: &Book, ruling: &Ruling, asked: &Asked) -> Vec<u8> {
+    let mut reply = Reply::new(ACK, book, ruling);
+    if asked.scope_list {
+        let language = asked.language.as_deref();
+        reply.put(code::SCOPE_LIST, scope_list(book, ruling.house, language));
     }
-    if asked.asks_for(code::CURRENT_TIME) {
+    if asked.current_time {
         reply.put(code::CURRENT_TIME, book.clock.to_be_bytes());
     }
     reply.octets()
 }
 
 /// NAK: 2, 3, 16.
-pub fn of_error(error: u16, book: &Book, header: &Header, asked: &Options) -> Vec<u8> {
-    let mut reply = Reply::new(NAK, book, header, asked);
+fn of_error(error: u16, book: &Book, ruling: &Ruling) -> Vec<u8> {
+    let mut reply = Reply::new(NAK, book, ruling);
     reply.put(code::ERROR, error.to_be_bytes());
     reply.octets()
 }

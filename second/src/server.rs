@@ -1,16 +1,16 @@
-//! The server: one datagram in, a reply or a discard out.
+//! The server: one datagram in, a reply or a discard out. Here are the first half, which decides and changes the book,
+//! and the whole call; the second half, which writes the reply, is in `reply`.
 
 use crate::book::{file_key, Book, Lease, RECORDS_OF_A_HOUSE};
 use crate::grant::grant;
 use crate::holds::Hold;
-use crate::message::{code, Header, Kind, Options, ACK, OFFER};
+use crate::message::{code, Header, Kind, Options};
 use crate::period::{Period, DEFAULT_LEASE};
 use crate::releases::{forget, remember, Release};
-use crate::reply;
+use crate::reply::{self, write, SHORTEST_ROOM};
 use crate::sound::sound;
+use crate::verdict::{Answer, Asked, Discard, Given, Ruling, Verdict};
 
-/// The shortest reply room.
-pub const SHORTEST_ROOM: usize = 512;
 /// The largest difference of clocks, in seconds.
 pub const SKEW: u32 = 1_800;
 
@@ -34,6 +34,7 @@ const NOT_HELD: u16 = 3;
 /// Serves one datagram. Gives the outcome, its offset and the length of the reply, which stands in the front of the
 /// room; the rest of the room is left as it was, and a discard leaves all of it. The offset is where in the datagram
 /// the options went wrong: discard 5 carries it, every other outcome 0.
+/// Tests 1 and 2 are its own, so that both leave the book; it is made of the two halves after them.
 pub fn serve(
     book: &mut Book,
     datagram: &[u8],
@@ -41,13 +42,14 @@ pub fn serve(
     time: u32,
     room: &mut [u8],
 ) -> (u8, usize, usize) {
-    let (outcome, offset, octets) = answer(book, datagram, client, time, room.len());
-    match room.get_mut(..octets.len()) {
-        Some(front) => front.copy_from_slice(&octets),
-        // No reply comes near 512 octets, so this isn't reached.
-        None => return (NO_ROOM, 0, 0),
+    if !sound(book) {
+        return (BOOK_UNSOUND, 0, 0);
     }
-    (outcome, offset, octets.len())
+    if room.len() < SHORTEST_ROOM {
+        return (NO_ROOM, 0, 0);
+    }
+    let verdict = judge_sound(book, datagram, client, time);
+    write(book, &verdict, room)
 }
 
 /// The same with the reply as octets of its own: the outcome, its offset, and the reply, which is empty for a discard.
@@ -58,52 +60,40 @@ pub fn answer(
     time: u32,
     room_length: usize,
 ) -> (u8, usize, Vec<u8>) {
-    match reply_or_discard(book, datagram, client, time, room_length) {
-        Ok(octets) => (REPLY, 0, octets),
-        Err(discard) => (discard.outcome, discard.offset, Vec::new()),
+    let mut room = vec![0; room_length];
+    let (outcome, offset, length) = serve(book, datagram, client, time, &mut room);
+    room.truncate(length);
+    (outcome, offset, room)
+}
+
+/// The first half of a call: the verdict, and in `book` the book afterwards. It has no reply room, so that test 2 isn't
+/// made. An unsound book is 1 and left as it was.
+pub fn judge(book: &mut Book, datagram: &[u8], client: u32, time: u32) -> Verdict {
+    if !sound(book) {
+        return Verdict::Discard(BOOK_UNSOUND.into());
+    }
+    judge_sound(book, datagram, client, time)
+}
+
+/// The same once the book is known to be sound.
+fn judge_sound(book: &mut Book, datagram: &[u8], client: u32, time: u32) -> Verdict {
+    match ruling_or_discard(book, datagram, client, time) {
+        Ok(ruling) => Verdict::Reply(ruling),
+        Err(discard) => Verdict::Discard(discard),
     }
 }
 
-/// A discard's number and offset.
-struct Discard {
-    outcome: u8,
-    offset: usize,
-}
-
-impl Discard {
-    fn of_options(offset: usize) -> Discard {
-        Discard {
-            outcome: BAD_OPTIONS,
-            offset,
-        }
-    }
-}
-
-/// "Discard 5 carries it, every other outcome 0": a number by itself has no offset.
-impl From<u8> for Discard {
-    fn from(outcome: u8) -> Discard {
-        Discard { outcome, offset: 0 }
-    }
-}
-
-/// The tests 1 to 8, in the order of the table.
-fn reply_or_discard(
+/// The tests 3 to 8, in the order of the table, after the clock is raised.
+fn ruling_or_discard(
     book: &mut Book,
     datagram: &[u8],
     client: u32,
     time: u32,
-    room_length: usize,
-) -> Result<Vec<u8>, Discard> {
-    if !sound(book) {
-        return Err(BOOK_UNSOUND.into());
-    }
-    if room_length < SHORTEST_ROOM {
-        return Err(NO_ROOM.into());
-    }
+) -> Result<Ruling, Discard> {
     book.advance(time);
     let house = book.house_of_client(client).ok_or(NO_HOUSE)?;
     let header = Header::read(datagram).ok_or(BAD_HEADER)?;
-    let options = Options::read(datagram).map_err(Discard::of_options)?;
+    let options = Options::read(datagram).map_err(of_options)?;
     if options.requires_a_feature() {
         return Err(FEATURE_REQUIRED.into());
     }
@@ -115,12 +105,19 @@ fn reply_or_discard(
         header,
         options,
     };
-    match reply_or_error(book, &call) {
-        Ok(octets) => Ok(octets),
+    match answer_or_error(book, &call) {
+        Ok(answer) => Ok(call.ruling(answer)),
         Err(error) => match header.kind {
             Kind::Discover | Kind::GetInfo => Err(SILENT_ERROR.into()),
-            _ => Ok(reply::of_error(error, book, &call.header, &call.options)),
+            _ => Ok(call.ruling(Answer::Error(error))),
         },
+    }
+}
+
+fn of_options(offset: usize) -> Discard {
+    Discard {
+        outcome: BAD_OPTIONS,
+        offset,
     }
 }
 
@@ -161,19 +158,35 @@ impl Call<'_> {
             .is_some_and(|hold| Some(hold.lease.scope) != self.scope(book))
     }
 
-    /// OFFER or ACK with a lease or hold.
-    fn lease_reply(&self, message_type: u8, book: &Book, lease: &Lease) -> Vec<u8> {
-        reply::of_lease(message_type, book, &self.header, &self.options, lease)
+    /// An answer with what the reply repeats of the message.
+    fn ruling(&self, answer: Answer) -> Ruling {
+        Ruling {
+            house: self.house,
+            transaction: self.header.transaction,
+            identifier: self.options.identifier.to_vec(),
+            has_features: self.options.has(code::FEATURES),
+            answer,
+        }
+    }
+
+    /// What a GETINFO asks for.
+    fn asked(&self) -> Asked {
+        let language = self.options.value(code::REQUESTED_LANGUAGE);
+        Asked {
+            scope_list: self.options.asks_for(code::SCOPE_LIST),
+            current_time: self.options.asks_for(code::CURRENT_TIME),
+            language: language.map(<[u8]>::to_vec),
+        }
     }
 }
 
 /// Resend, of a RELEASE too, then the errors 1, 2 and 3, then what the message asks, which may draw error 0.
-fn reply_or_error(book: &mut Book, call: &Call) -> Result<Vec<u8>, u16> {
+fn answer_or_error(book: &mut Book, call: &Call) -> Result<Answer, u16> {
     if let Some(lease) = resent(book, call) {
-        return Ok(call.lease_reply(ACK, book, lease));
+        return Ok(Answer::Lease(Given::of(lease)));
     }
     if is_release_sent_again(book, call) {
-        return Ok(reply::of_release(book, &call.header, &call.options));
+        return Ok(Answer::Released);
     }
     if is_bad_request(book, call) {
         return Err(BAD_REQUEST);
@@ -186,12 +199,7 @@ fn reply_or_error(book: &mut Book, call: &Call) -> Result<Vec<u8>, u16> {
         Kind::Request => request(book, call),
         Kind::Renew => renew(book, call),
         Kind::Release => release(book, call),
-        Kind::GetInfo => Ok(reply::of_getinfo(
-            book,
-            call.house,
-            &call.header,
-            &call.options,
-        )),
+        Kind::GetInfo => Ok(Answer::Info(call.asked())),
     }
 }
 
@@ -333,19 +341,19 @@ fn minimum_and_latest_start_are_met(period: &Period, options: &Options) -> bool 
 
 /// DISCOVER leaves a hold of what it is offered, which forgets its identifier's release; where there is a hold, it
 /// repeats the held offer and leaves the hold unchanged.
-fn discover(book: &mut Book, call: &Call) -> Result<Vec<u8>, u16> {
+fn discover(book: &mut Book, call: &Call) -> Result<Answer, u16> {
     let offered = given(book, call)?;
-    let octets = call.lease_reply(OFFER, book, &offered);
+    let offer = Given::of(&offered);
     if call.hold(book).is_none() {
         forget(&mut book.releases, offered.house, &offered.identifier);
         book.insert_hold(Hold::of_offer(offered, book.clock));
     }
-    Ok(octets)
+    Ok(Answer::Offer(offer))
 }
 
 /// REQUEST records the lease with its type and transaction id. A new lease on an identifier forgets its release.
 /// A hold turns into the lease; one in another scope is dropped first, and the drop stands if the REQUEST is refused.
-fn request(book: &mut Book, call: &Call) -> Result<Vec<u8>, u16> {
+fn request(book: &mut Book, call: &Call) -> Result<Answer, u16> {
     if call.has_hold_elsewhere(book) {
         drop_hold(book, call);
     }
@@ -355,10 +363,10 @@ fn request(book: &mut Book, call: &Call) -> Result<Vec<u8>, u16> {
         ..given(book, call)?
     };
     drop_hold(book, call);
-    let octets = call.lease_reply(ACK, book, &lease);
+    let granted = Given::of(&lease);
     forget(&mut book.releases, lease.house, &lease.identifier);
     book.insert(lease);
-    Ok(octets)
+    Ok(Answer::Lease(granted))
 }
 
 /// Takes the message's hold out of the book, if there is one.
@@ -370,7 +378,7 @@ fn drop_hold(book: &mut Book, call: &Call) {
 
 /// RENEW keeps the addresses and sets period, type and id. Error 3 if the house has no lease on the identifier;
 /// a hold is none.
-fn renew(book: &mut Book, call: &Call) -> Result<Vec<u8>, u16> {
+fn renew(book: &mut Book, call: &Call) -> Result<Answer, u16> {
     let place = book
         .position(call.house, call.options.identifier)
         .ok_or(NOT_HELD)?;
@@ -389,9 +397,9 @@ fn renew(book: &mut Book, call: &Call) -> Result<Vec<u8>, u16> {
         end,
         ..old.clone()
     };
-    let octets = call.lease_reply(ACK, book, &lease);
+    let renewed = Given::of(&lease);
     book.leases[place] = lease;
-    Ok(octets)
+    Ok(Answer::Lease(renewed))
 }
 
 /// Whether a period overlaps that of another lease or hold on one of the addresses of the lease at this place.
@@ -405,7 +413,7 @@ fn overlaps_another(book: &Book, place: usize, period: &Period) -> bool {
 }
 
 /// RELEASE removes the lease and is remembered. Error 3 if the house has no lease on the identifier; a hold is none.
-fn release(book: &mut Book, call: &Call) -> Result<Vec<u8>, u16> {
+fn release(book: &mut Book, call: &Call) -> Result<Answer, u16> {
     let place = book
         .position(call.house, call.options.identifier)
         .ok_or(NOT_HELD)?;
@@ -417,5 +425,5 @@ fn release(book: &mut Book, call: &Call) -> Result<Vec<u8>, u16> {
         time: book.clock,
     };
     remember(&mut book.releases, release);
-    Ok(reply::of_release(book, &call.header, &call.options))
+    Ok(Answer::Released)
 }

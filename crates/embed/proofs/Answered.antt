@@ -1,5 +1,5 @@
 -- Laws: what the functions on one record of a list of calls are proved by: the numbers in it, why it is not answered, and its answer in a buffer.
-use mathlib.Core.Path.{_≡_, refl, sym, ap, ap₂, _∙_, subst}
+use mathlib.Core.Path.{_≡_, refl, sym, ap, _∙_, subst}
 use mathlib.Core.Bool.{Bool, true, false}
 use mathlib.Core.List.{List, [], _∷_, _++_, append-assoc}
 use Prim.Native.Nat.{ℕ, _+_, _-_, _%_, _≤_, _<_, min}
@@ -18,6 +18,7 @@ use Rattle.state.specs.declared.Lease.{Lease}
 use Rattle.state.specs.declared.Ledger.{Ledger}
 use Rattle.server.specs.declared.Outcome.{Outcome}
 use Rattle.server.specs.Serve.{Call}
+use Rattle.verdict_octets.specs.laws.Octets.{low16}
 use Rattle.records.specs.Lent.{LentAnswer, serveLent}
 use Rattle.owned.specs.declared.OwnedCall.{OwnedCall}
 use Rattle.owned.specs.Owned.{ServesOwned}
@@ -135,10 +136,6 @@ module _ (b : List ℕ) (n k : ℕ) (x : List ℕ) {ys : List ℕ} (e : ys ≡ x
     where
       d : List ℕ
       d = drop n b
-
--- the low 16 bits of a number have its octets
-low16 : (v : ℕ) → octets16 (v % 65536) ≡ octets16 v
-low16 v = ap₂ (λ (x y : ℕ). x ∷ y ∷ []) (omega arith) (omega arith)
 
 -- the answer: the reply, then its outcome, its offset and its length before it
 module _ (g : Ledger) (ls : List Lease) (names d : List ℕ) (client time room : ℕ) (b : List ℕ) (to : ℕ) where

@@ -15,19 +15,23 @@ use Rattle.lists.specs.laws.Pick.{pick-eq, pick-lt, pick-not-eq, pick-not-lt}
 use Rattle.octets.specs.Octets.{put, Wrote}
 use Rattle.state.specs.declared.Lease.{Lease}
 use Rattle.state.specs.declared.Ledger.{Ledger}
+use Rattle.server.specs.declared.Ruling.{Ruling}
 use Rattle.server.specs.Serve.{Call}
+use Rattle.verdict_octets.specs.Octets.{outcomeOctets, verdictOctets}
 use Rattle.state_file.specs.declared.Written.{Written}
 use Rattle.state_file.specs.StateFile.{readFile}
 use Rattle.state_file.proofs.RoundTrip.{names-short}
 use Rattle.records.specs.laws.Files.{blank-accepted, blank-refusal, readBlank}
-use Rattle.records.specs.Lent.{LentReading, roomLent, serveLent, writtenLent}
+use Rattle.records.specs.Lent.{judgeLent, LentReading, roomLent, serveLent, writtenLent}
 use Rattle.owned.specs.declared.OwnedCall.{OwnedCall}
 use Rattle.owned.specs.declared.OwnedFile.{OwnedFile}
-use Rattle.owned.specs.Owned.{ReadsOwned, ServesOwned}
+use Rattle.owned.specs.declared.OwnedJudged.{OwnedJudged}
+use Rattle.owned.specs.Owned.{JudgesOwned, ReadsOwned, ServesOwned}
 use Rattle.embed.specs.declared.Progress.{Progress}
 use Rattle.embed.proofs.Answered.{put-length}
 use Rattle.embed.specs.Embed.{called, filed, Filed, kept as unchanged, largestFile, largestNames, ledgerIn, lengthAfter, namesIn, numberAfter, onFile, refusalIn, replayed, replayFile, serveFile, Worked}
-use Rattle.embed.specs.Promises.{Files, Keeps, Opened, Replays, ReplaysFile, ServesFile}
+use Rattle.embed.specs.Halves.{judged, judgeFile}
+use Rattle.embed.specs.Promises.{Files, handedOut, JudgesFile, Keeps, Opened, Replays, ReplaysFile, ServesFile}
 
 -- ---- a file read over a book that is all zero
 pub opened-refusal : (f : List ℕ) {r : OwnedFile} → ReadsOwned (readBlank f) r → r .refusal ≡ readFile f .refusal
@@ -110,6 +114,11 @@ kept-within g = g .within
 pub kept-length : {b kept : List ℕ} {n k : ℕ} → Keeps b n kept k → k ≡ length (take k kept)
 kept-length {kept = kept} {k = k} g = first-length kept k (g .within)
 
+-- ---- a verdict's octets, of which there is always one
+verdict-out : (r : Ruling) (before : List ℕ) → handedOut (verdictOctets r) before ≡ verdictOctets r
+unfolding handedOut verdictOctets outcomeOctets
+verdict-out r before = refl
+
 -- ---- the call and the list of calls
 module _ (b : List ℕ) (n : ℕ) {f : OwnedFile} (o : Opened b n f) where
   zero-in : f .refusal ≡ 0 → refusalIn b n ≡ 0
@@ -191,6 +200,32 @@ module _ (b : List ℕ) (n : ℕ) {f : OwnedFile} (o : Opened b n f) where
       };
       files = files-no one z;
     }
+
+  -- the first half
+  module _ (client time : ℕ) (d : List ℕ) where
+    abbrev half : Ledger → List Lease → Worked
+    half g ls = judged (judgeLent g ls (namesIn b n) client time d)
+
+    pub file-judged : {kept : List ℕ} {i : ℕ} {before after b' : List ℕ} {m k : ℕ} {j : OwnedJudged} {w : Written} → f .refusal ≡ 0 → Keeps b n kept i
+        → JudgesOwned (judgeLent (f .owned .ledger) (f .owned .records .leases) (take i kept) client time d) j
+        → w ≡ writtenLent (j .owned .ledger) (j .owned .records .leases) (take i kept) (length b) → b' ≡ roomLent (j .owned .ledger) (j .owned .records .leases) (take i kept) b
+        → after ≡ verdictOctets (j .ruling) → m ≡ lengthAfter w n → k ≡ numberAfter w (j .ruling .verdict .outcome) → JudgesFile (judgeFile b n client time d) b' m before after k
+    unfolding judgeFile
+    file-judged {before = before} {after} {j = j} z g v′ p q a i h =
+        let e = names-are g z in
+        let v : JudgesOwned (judgeLent (f .owned .ledger) (f .owned .records .leases) (namesIn b n) client time d) j =
+        subst (λ (x : List ℕ). JudgesOwned (judgeLent (f .owned .ledger) (f .owned .records .leases) x client time d) j) e v′ in
+        let u = p ∙ ap (λ (x : List ℕ). writtenLent (j .owned .ledger) (j .owned .records .leases) x (length b)) e in
+        record {
+          number = told-yes half z (v .ledger) (v .leases) u h (ap (λ (x : Ruling). x .verdict .outcome) (v .ruling));
+          verdict =
+              a ∙ sym (verdict-out (j .ruling) before) ∙ ap (λ (x : Ruling). handedOut (verdictOctets x) before) (v .ruling) ∙ ap (λ (x : Filed). handedOut (x .out) before) (yes half z);
+          files = files-yes half z (v .ledger) (v .leases) u (q ∙ ap (λ (x : List ℕ). roomLent (j .owned .ledger) (j .owned .records .leases) x b) e) i;
+        }
+
+    pub file-unjudged : {before : List ℕ} → (f .refusal ≡ 0 → ⊥) → JudgesFile (judgeFile b n client time d) b n before before (f .refusal)
+    unfolding judgeFile handedOut
+    file-unjudged {before} z = record { number = told-no half z; verdict = ap (λ (x : Filed). handedOut (x .out) before) (no half z); files = files-no half z }
 
   module _ (cs : List ℕ) (room : ℕ) where
     abbrev all : Ledger → List Lease → Worked

@@ -1,4 +1,5 @@
--- Laws: after a served call, or a list of calls, the writer refuses nothing: the ledger and records stay sound, and the buffer has room for the largest file.
+-- Laws: after a served call, its first half, or a list of calls, the writer refuses nothing: the ledger and records stay sound, and the buffer has room for the
+-- largest file. And the two halves are the call.
 use Prim.Native.Nat.{ℕ, zero, suc, _-_, _≤_}
 use mathlib.Core.Path.{_≡_, refl, sym, ap, _∙_, subst}
 use mathlib.Core.Bool.{Bool, true, false}
@@ -15,13 +16,18 @@ use Rattle.server.specs.Serve.{Call}
 use Rattle.state_file.specs.declared.Written.{Written}
 use Rattle.state_file.specs.StateFile.{zeroLedger}
 use Rattle.records.specs.laws.Files.{blank-accepted, blank-refusal}
-use Rattle.records.specs.Lent.{LentReading, serveLent, writtenLent}
-use Rattle.lent_guarantee.specs.Statement.{Lent, LentDemand1, SoundLent}
+use Rattle.records.specs.Lent.{judgeLent, LentAnswer, LentJudgement, LentReading, serveLent, writtenLent}
+use Rattle.reply.specs.Reply.{leastRoom}
+use Rattle.lent_guarantee.specs.Statement.{Lent, LentDemand1, LentNeverShort, SoundLent}
 use Rattle.lent_guarantee.proofs.Guaranteed.{lent-demand1, next, next-sound}
+use Rattle.lent_guarantee.proofs.Halves.{lent-never-short}
 use Rattle.lent_guarantee.proofs.Written.{file-sound, sound-written}
+use Rattle.records.specs.laws.Call.{lent-joined}
 use Rattle.embed.specs.Embed.{answerBefore, answerOctets, called, callIn, cutOff, filed, Filed, kept, ledgerIn, leasesIn, lengthAfter, namesIn, numberAfter, onFile, recordSize, refusalIn, replayed, replayFile, serveFile, stopIn, stopped, Worked}
 use Rattle.embed.proofs.Files.{accepted-parts}
-use Rattle.embed.specs.Statement.{Numbered, ReplayedNumbers, ServedNumbers}
+use Rattle.embed.proofs.Judged.{lent-within}
+use Rattle.embed.specs.Halves.{judged, judgeFile}
+use Rattle.embed.specs.Statement.{firstHalf, JudgedNumber, judgedIn, JudgedNumbers, Numbered, ReplayedNumbers, ServedNumbers}
 
 lent : Ledger → List Lease → List ℕ → Lent
 lent g ls names = record { ledger = g; leases = ls; names = names }
@@ -53,16 +59,16 @@ module _ (b : List ℕ) (n : ℕ) (work : Ledger → List Lease → Worked) (e :
   abbrev done : Worked
   done = work (ledgerIn b n) (leasesIn b n)
 
-  at : onFile b n work ≡ filed b n done
+  pub filed-at : onFile b n work ≡ filed b n done
   unfolding onFile pick
-  at = ap (λ (k : ℕ). pick (eqb k 0) (filed b n done) (kept b n)) e
+  filed-at = ap (λ (k : ℕ). pick (eqb k 0) (filed b n done) (kept b n)) e
 
   numbered : SoundLent (lent (done .ledger) (done .leases) (namesIn b n)) → Numbered b n (onFile b n work) done
   unfolding lent
   numbered v = record {
-    number = ap (λ (x : Filed). x .number) at ∙ told (writtenLent (done .ledger) (done .leases) (namesIn b n) (length b)) (done .number) written;
+    number = ap (λ (x : Filed). x .number) filed-at ∙ told (writtenLent (done .ledger) (done .leases) (namesIn b n) (length b)) (done .number) written;
     written = written;
-    long = ap (λ (x : Filed). x .length) at ∙ told-length (writtenLent (done .ledger) (done .leases) (namesIn b n) (length b)) n written;
+    long = ap (λ (x : Filed). x .length) filed-at ∙ told-length (writtenLent (done .ledger) (done .leases) (namesIn b n) (length b)) n written;
   }
     where
       written : writtenLent (done .ledger) (done .leases) (namesIn b n) (length b) .refusal ≡ 0
@@ -108,3 +114,34 @@ replayed-numbers b n cs room e =
     let ends = replays (length cs) (ledgerIn b n) (leasesIn b n) (namesIn b n) cs room (book-sound b n e) in
     let w : Numbered b n (replayFile b n cs room) (replayed (length cs) (ledgerIn b n) (leasesIn b n) (namesIn b n) cs room) = numbered b n (λ g ls. replayed (length cs) g ls (namesIn b n) cs room) e (ends .sound) in
     record { numbered = w; few = ap (λ (k : ℕ). isIn k (0 ∷ 24 ∷ 27 ∷ [])) (w .number) ∙ ends .few }
+
+-- ---- the call in two halves
+-- the call in room for a reply
+enough : Call → Call
+enough c = record { datagram = c .datagram; client = c .client; time = c .time; room = leastRoom }
+
+module _ (b : List ℕ) (n : ℕ) (c : Call) (e : refusalIn b n ≡ 0) where
+  abbrev first : LentJudgement
+  first = judgedIn b n c
+
+  judged-sound : SoundLent (lent (first .ledger) (first .leases) (namesIn b n))
+  unfolding lent enough
+  judged-sound =
+      subst (λ (a : LentAnswer). SoundLent (lent (a .ledger) (a .leases) (namesIn b n)))
+      (lent-joined (length (leasesIn b n)) (ledgerIn b n) (leasesIn b n) (namesIn b n) (enough c) (omega arith))
+      (step (ledgerIn b n) (leasesIn b n) (namesIn b n) (enough c) (book-sound b n e))
+
+  judged-number : JudgedNumber b n c
+  unfolding judgeFile LentNeverShort lent
+  judged-number = record {
+    numbered = w;
+    few = subst (λ (k : ℕ). k ≤ 8) (sym (w .number)) (lent-within (ledgerIn b n) (leasesIn b n) (namesIn b n) (c .client) (c .time) (c .datagram) .few);
+    never-short = λ z. lent-never-short (lent (ledgerIn b n) (leasesIn b n) (namesIn b n)) c (sym (w .number) ∙ z);
+  }
+    where
+      w : Numbered b n (firstHalf b n c) (judged first)
+      w = numbered b n (λ g ls. judged (judgeLent g ls (namesIn b n) (c .client) (c .time) (c .datagram))) e judged-sound
+
+pub judged-numbers : JudgedNumbers
+unfolding JudgedNumbers
+judged-numbers b n c e = judged-number b n c e

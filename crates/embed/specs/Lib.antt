@@ -1,4 +1,5 @@
 pub mod Embed
+pub mod Halves
 pub mod Occupancy
 pub mod Promises
 pub mod Statement

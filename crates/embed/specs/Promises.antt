@@ -1,7 +1,7 @@
 -- Definitions: what each function promises of its answer and of what was lent to it.
 use Prim.Native.Nat.{ℕ, _≤_}
 use mathlib.Core.Path.{_≡_}
-use mathlib.Core.List.{List, _++_}
+use mathlib.Core.List.{List, [], _∷_, _++_}
 use lib.ListN.{drop, length, take}
 use Rattle.octets.specs.Octets.{put}
 use Rattle.server.specs.declared.Outcome.{Outcome}
@@ -49,6 +49,17 @@ filedSaid a = record { outcome = a .number; offset = a .offset; reply = a .out }
 
 pub record ServesFile (a : Filed) (b : List ℕ) (n : ℕ) (before after : List ℕ) (r : Outcome) : Type 0 where
   pub tells : Tells (filedSaid a) before after r
+  pub files : Files a b n
+
+-- a room of their size with octets that are handed out, or with what stood there where there are none
+unfoldable pub handedOut : List ℕ → List ℕ → List ℕ
+handedOut [] before = before
+handedOut (x ∷ xs) before = x ∷ xs
+
+-- of the first half the number, the file, and every octet of the verdict's room, which a refusal leaves as it was
+pub record JudgesFile (a : Filed) (b : List ℕ) (n : ℕ) (before after : List ℕ) (r : ℕ) : Type 0 where
+  pub number : r ≡ a .number
+  pub verdict : after ≡ handedOut (a .out) before
   pub files : Files a b n
 
 -- the number, the octets of calls used, those of answers filled with every octet of their room, and the file

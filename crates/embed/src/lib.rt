@@ -1,5 +1,6 @@
-// The functions that a host program in C or Rust links: numbers and octets only. For `banshorra_serve` and `banshorra_replay` a campus file is
-// held in a buffer of the caller's, of at least 32,768 octets; `file_length` is the number of its octets, before and after.
+// The functions that a host program in C or Rust links: numbers and octets only. For `banshorra_serve`, `banshorra_judge` and
+// `banshorra_replay` a campus file is held in a buffer of the caller's, of at least 32,768 octets; `file_length` is the number of its octets, before and
+// after.
 ghost use mathlib.Core.Path.{_≡_};
 ghost use Prim.Native.Nat.{_+_, _≤_, min};
 ghost use lib.ListN.{drop, length};
@@ -8,11 +9,15 @@ ghost use Rattle.state_file.specs.StateFile.{readFile};
 ghost use Rattle.records.specs.Lent.{serveLent};
 ghost use Rattle.reply.specs.Reply.{leastRoom};
 ghost use Rattle.embed.specs.Embed.{answerRoom, largestNames, numberAfter, lengthAfter, serveFile, replayFile, replayed, stopIn, callIn, recordSize};
+ghost use Rattle.server.specs.Serve.{Tells};
+ghost use Rattle.embed.specs.Halves.{judgeFile, replyFile};
 ghost use Rattle.embed.specs.Occupancy.{boardNumber, roomWithBoard};
-ghost use Rattle.embed.specs.Promises.{Keeps, Opened, ServesFile, Answers, Replays, ReplaysFile};
+ghost use Rattle.embed.specs.Promises.{Keeps, Opened, ServesFile, JudgesFile, Answers, Replays, ReplaysFile};
 use owned::Owned;
 use owned::OwnedCall;
 use owned::OwnedFile;
+use server::Outcome;
+use state::Ledger;
 use state_file::Written;
 
 // What an answer in a list may take: outcome(1), offset(2), reply length(2) and the longest reply.
@@ -96,6 +101,41 @@ fn length_after(w: Written, n: usize) -> usize
         return w.length;
     }
     n
+}
+
+// ---- the second half of a call
+
+fn silent(number: u8) -> Outcome
+    ensures { λ r. ⌜ r ≡ record { outcome = number; length = 0; offset = 0 } ⌝ }
+{
+    Outcome {
+        outcome: number,
+        length: 0,
+        offset: 0,
+    }
+}
+
+// The reply of a verdict and of the file that came with it, written into a room.
+fn write_verdict(file: &[u8], verdict: &[u8; 74], room: &mut [u8]) -> Outcome
+    ensures { λ r. ⌜ Tells (replyFile (now (file .entry)) (now (verdict .entry)) (length (now (room .entry)))) (now (room .entry)) (now (room .exit)) r ⌝ }
+{
+    if room.len() < reply::LEAST_ROOM {
+        return silent(2);
+    }
+    let f = state_file::read(file);
+    let refusal = f.refusal;
+    if refusal == 0 {
+        let s = f.state;
+        let m = f.memory;
+        let g = Ledger {
+            state: s,
+            memory: m,
+        };
+        let r = verdict_octets::take(verdict);
+        let names = state_file::names(file);
+        return owned::reply(g, r, names, room);
+    }
+    silent(refusal)
 }
 
 // ---- a list of calls
@@ -303,6 +343,57 @@ pub extern "C" fn banshorra_serve(
     *reply_length = 0;
     *fault_offset = 0;
     refusal
+}
+
+// The first half of a call on the campus file in a buffer, for monitoring: the verdict's outcome, 0 to 8 and never 2, its 74 octets in `verdict` (the layout
+// is that of `verdict_octets`), and the file and its length afterwards. 23, 28, 20 and 21 of the file as above, which change nothing.
+#[no_mangle]
+pub extern "C" fn banshorra_judge(
+    file: &mut [u8],
+    file_length: &mut usize,
+    datagram: &[u8],
+    client: u32,
+    time: u32,
+    verdict: &mut [u8; 74],
+) -> u8
+    ensures { λ r. ⌜ JudgesFile (judgeFile (now (file .entry)) (now («file_length» .entry)) client time (now (datagram .entry))) (now (file .exit)) (now («file_length» .exit)) (now (verdict .entry)) (now (verdict .exit)) r ⌝ }
+{
+    let n = *file_length;
+    let f = open_in(file, n);
+    let refusal = f.refusal;
+    if refusal == 0 {
+        let mut kept = [0u8; NAMES_ROOM];
+        let k = keep_names(&mut kept, file, n);
+        let o = f.owned;
+        let j = owned::judge(o, &kept[..k], datagram, client, time);
+        let ruling = j.ruling;
+        let b = j.owned;
+        let w = owned::write(b, &kept[..k], file);
+        verdict_octets::put(verdict, ruling);
+        *file_length = length_after(w, n);
+        let v = ruling.verdict;
+        return number_after(w, v.outcome);
+    }
+    refusal
+}
+
+// The second half: the reply of a verdict that `banshorra_judge` gave, and of the campus file that it left; the number is the outcome, 0 to 8, with the
+// reply, its length, and with discard 5 the offset, as `banshorra_serve` tells them. 2 where the room has fewer than 512 octets, tested first; then 20 or 21
+// where the file is refused. Any 74 octets may be lent as a verdict and any file with them: no octet past the reply's length changes, or past the 512th.
+#[no_mangle]
+pub extern "C" fn banshorra_reply(
+    file: &[u8],
+    verdict: &[u8; 74],
+    reply: &mut [u8],
+    reply_length: &mut usize,
+    fault_offset: &mut usize,
+) -> u8
+    ensures { λ r. ⌜ Tells (replyFile (now (file .entry)) (now (verdict .entry)) (length (now (reply .entry)))) (now (reply .entry)) (now (reply .exit)) (record { outcome = r; length = now («reply_length» .exit); offset = now («fault_offset» .exit) }) ⌝ }
+{
+    let told = write_verdict(file, verdict, reply);
+    *reply_length = told.length;
+    *fault_offset = told.offset;
+    told.outcome
 }
 
 // A list of calls on the campus file in a buffer, in the records that `replay` reads; the file is read once and written once. Each answer is

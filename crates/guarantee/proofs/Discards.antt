@@ -1,7 +1,7 @@
 -- Proof of demand 1: whichever way the tests go, a call has one of the outcomes 0 to 8, and a discard changes no more than the clock and the ended leases.
 use Prim.Native.Nat.{ℕ, zero, suc, _≤_}
 use mathlib.Core.Path.{_≡_, refl, ap, _∙_}
-use mathlib.Core.Bool.{Bool, true, false, not, _&&_}
+use mathlib.Core.Bool.{Bool, false, not, _&&_}
 use mathlib.Core.List.{List, []}
 use native.Mathlib.Omega.{arith}
 use lib.Dec.{ltb, eqb}
@@ -21,87 +21,15 @@ use Rattle.message.specs.Read as read
 use Rattle.message.specs.Walk.{onward, start, stepOf, walkFrom, walkOf}
 use Rattle.state.specs.Book.{Book, advanced, releasesAt, remembered}
 use Rattle.state.specs.declared.Edit.{Edit}
-use Rattle.state.specs.declared.Lease.{Lease}
-use Rattle.state.specs.declared.LeaseTable.{LeaseTable}
-use Rattle.state.specs.declared.Release.{Release}
-use Rattle.state.specs.declared.State.{State}
-use Rattle.state.specs.Edit.{editedBook, noEdit}
+use Rattle.state.specs.Edit.{editedBook}
 use Rattle.state.specs.laws.Edited.{edited-none}
 use Rattle.releases.specs.Whole.{boardGood, bookB, memoryGood, namesGood}
 use Rattle.releases.specs.laws.Whole.{advanced-names, bad-board, bad-book, bad-memory}
 use Rattle.soundness.specs.Sound.{tenantsIn}
 use Rattle.decision.specs.declared.Decided.{Decided}
-use Rattle.decision.specs.declared.Reply.{Reply}
-use Rattle.decision.specs.declared.Reply.the-variants.{Nothing, Offer, LeaseAck, ReleaseAck, InfoAck}
-use Rattle.decision.specs.Parts.{discardWith, nakWith, plainReply, refusalOf, withLease}
-use Rattle.decision.specs.laws.Cases.{decided-by}
-use Rattle.decision.specs.Decide.{changed, decideOf, unchanged}
 use Rattle.server.specs.Serve.{Answer, Call, answered, atClock, byReply, discarded, discardedAt, forServer, replyOf, serveOf, tenantOf, withReading}
+use Rattle.server.specs.laws.Outcomes.{Concluded, Numbered, concluded, read-number}
 use Rattle.guarantee.specs.Statement.{bookAt}
-
--- ---- the decision: outcome 0, or discard 8 with nothing changed
-record Judged (d : Decided) : Type 0 where
-  few : d .verdict .outcome ≤ 8
-  rest : (d .verdict .outcome ≡ 0 → ⊥) → (d .verdict .outcome ≡ 8) × ((d .verdict .reply ≡ Nothing) × (d .edit ≡ noEdit))
-
-replied : (d : Decided) → d .verdict .outcome ≡ 0 → Judged d
-replied d e = record { few = omega arith; rest = λ n. absurd (n e) }
-
-leased : (r : Reply) (l : Lease) (e : Edit) → Judged (changed e (withLease r l))
-unfolding withLease
-leased r l e = replied _ refl
-
-plain : (r : Reply) (e : Edit) → Judged (changed e (plainReply r))
-unfolding plainReply
-plain r e = replied _ refl
-
-refused : (m : Fields) (e : ℕ) → Judged (unchanged (refusalOf m e))
-unfolding refusalOf discardWith nakWith pick
-refused m e = go (eqb (m .kind) 1) (eqb (m .kind) 8)
-  where
-    eight : Judged (unchanged (discardWith 8))
-    eight = record { few = omega arith; rest = λ n. (refl, (refl, refl)) }
-
-    go : (p q : Bool) → Judged (unchanged (pick p (discardWith 8) (pick q (discardWith 8) (nakWith e))))
-    go true q = eight
-    go false true = eight
-    go false false = replied _ refl
-
--- a REQUEST that is refused draws a NAK, also where it has dropped a hold
-nak : (m : Fields) (e : ℕ) (x : Edit) → m .kind ≡ 3 → Judged (changed x (refusalOf m e))
-unfolding refusalOf nakWith pick
-nak m e x k = replied _ (ap (λ (n : ℕ). pick (eqb n 1) (discardWith 8) (pick (eqb n 8) (discardWith 8) (nakWith e)) .outcome) k)
-
-decided : (s : State) (t : LeaseTable) (q : List Release) (h : ℕ) (m : Fields) → Judged (decideOf s t q h m)
-decided s t q h m = decided-by s t h m Judged (record {
-  resent = λ _. leased LeaseAck _ _;
-  again = plain ReleaseAck _;
-  refused = refused m;
-  repeated = λ _ _. leased Offer _ _;
-  taken = λ _ _. leased LeaseAck _ _;
-  offered = λ _ _ _ _. leased Offer _ _;
-  requested = λ _ _ _ _. leased LeaseAck _ _;
-  dropped = λ k _. nak m 0 _ k;
-  moved = λ _ _ _ _. leased LeaseAck _ _;
-  renewed = λ _ _ _ _. leased LeaseAck _ _;
-  released = λ _ _. plain ReleaseAck _;
-  informed = plain InfoAck _;
-}) q
-
--- ---- the reader's discards are 4, 5 and 6; with 4 and 6 goes no offset
-Numbered : Reading → Type 0
-Numbered r = (r .discard ≡ 0 → ⊥) → (3 ≤ r .discard) × (r .discard ≤ 8) × ((r .discard ≡ 5 → ⊥) → r .fault ≡ 0)
-
-read-number : (s : List ℕ) → Numbered (readOf s)
-unfolding Numbered readOf ended
-read-number s = pick-cases Numbered (headerOk s) _ _ (λ _. at-stage (walkOf s .stage)) (λ _. λ n. (omega arith, omega arith, λ _. refl))
-  where
-    at-stage : (g : Stage) → Numbered (byStage g (ended s (walkOf s .places)) (read.noMessage 5 (walkOf s .at)))
-    at-stage Walking = λ n. (omega arith, omega arith, λ m. absurd (m refl))
-    at-stage Done =
-        pick-cases Numbered (eqb (getD (walkOf s .places) 3 0) 0) _ _ (λ _. λ n. (omega arith, omega arith, λ m. absurd (m refl))) (λ _.
-        pick-cases Numbered (noneRequired s (walkOf s .places)) _ _ (λ _. λ n. absurd (n refl)) (λ _. λ n. (omega arith, omega arith, λ _. refl)))
-    at-stage Broken = λ n. (omega arith, omega arith, λ m. absurd (m refl))
 
 -- ---- the reader's offset lies in the datagram
 Inside : List ℕ → ℕ → Type 0
@@ -177,7 +105,7 @@ module _ (b : Book) (c : Call) where
   unfolding Inside
   out n p q z = late n 0 p q (λ e. absurd (z e)) (λ _. refl) (omega arith, omega arith)
 
-  served : (h : ℕ) (m : Fields) (d : Decided) → Judged d → Tested b c (answered (bookAt b c) h m d)
+  served : (h : ℕ) (m : Fields) (d : Decided) → Concluded d → Tested b c (answered (bookAt b c) h m d)
   unfolding replyOf
   served h m d j = record {
     outcome = j .few;
@@ -199,7 +127,7 @@ module _ (b : Book) (c : Call) where
   unfolding forServer P
   for-server h m =
       pick-cases P (eqb (m .kind) 3 && not (m .ours)) _ _ (λ _. out 7 (omega arith) (omega arith) (λ e. omega arith))
-      (λ _. served h m _ (decided (bookAt b c .state) (bookAt b c .table) (remembered (releasesAt (bookAt b c .memory) h)) h m))
+      (λ _. served h m _ (concluded (bookAt b c .state) (bookAt b c .table) (remembered (releasesAt (bookAt b c .memory) h)) h m))
 
   with-reading : (h : ℕ) → Tested b c (withReading (bookAt b c) h (c .datagram) (readOf (c .datagram)))
   unfolding withReading P Numbered

@@ -2,7 +2,7 @@
 --     Seen, Held       what owning a `&κ Ledger` and a `&κ mut Ledger` is
 --     looks-ledger      a `&` and a share of its lifetime's token give a share of the ledger's cell, which holds the ledger's machine value, and one item to shut it with
 --     shuts-ledger      those two give back the token; the `&` is let go
---     looks-board, shuts-board     the same, with the cell at the form in which a field that is a struct has a name, so that the board can be copied out
+--     looks-parts, shuts-parts     the same, with the cell at the form in which a field that is a struct has a name, so that the board or the state can be copied out
 --     opens-ledger      a `&mut` and a share of its lifetime's token give the ledger's cell, which holds the ledger's machine value, and three items to close it with
 --     closes-ledger     the cell with the machine value of a ledger h′, and those items, give back the `&mut` at h′ and the token
 --     stores-memory    a statement that stores a memory m in the ledger h of a `&mut`, which then stands at `with-memory h m`. The ledger's value is compared here, where the rest of the context is a variable
@@ -21,6 +21,8 @@ use Rattle.occupancy.proofs.Board as B
 use Rattle.occupancy.proofs.Board.Laws as B′
 use Rattle.state.proofs.Memory as Y
 use Rattle.state.proofs.Memory.Laws as Y′
+use Rattle.state.proofs.State as S
+use Rattle.state.proofs.State.Laws as S′
 use Rattle.state.proofs.Ledger as T
 use Rattle.state.proofs.Ledger.Laws as T′
 use Rattle.lent.proofs.advance as advance′
@@ -47,6 +49,13 @@ word-board h = LL.val B.the-type B′.the-laws (h .memory .board)
 pub board-is : (h : Ledger) → Is T.the-row h (word-ledger h ∷ []) → Is B.the-row (h .memory .board) (word-board h ∷ [])
 board-is h was = LL.owed Y.the-type Y′.the-laws (h .memory) _ (LL.owed T.the-type T′.the-laws h _ was .1 .0) .1 .0
 
+-- and of the state
+abbrev pub word-state : Ledger → Val
+word-state h = LL.val S.the-type S′.the-laws (h .state)
+
+pub state-is : (h : Ledger) → Is T.the-row h (word-ledger h ∷ []) → Is S.the-row (h .state) (word-state h ∷ [])
+state-is h was = LL.owed T.the-type T′.the-laws h _ was .0
+
 module _ {M : Type 1} {𝓤 : URA M} {H : Heap 𝓤} {A : Atoms 𝓤} {K : Type 0} {W : Given 𝓤 H A} {Γ : List (Item 𝓤)} {G : Goal 𝓤 H} where
   pub looks-ledger : K → Soaks G → (κ : Lft) (q : Share) (b o : ℕ) (γ : GName) (h : Ledger)
       → ((q′ : Share) → Is T.the-row h (word-ledger h ∷ []) → Seq K W (‵ (cellAt q′ (T.the-row .mir) (word-ledger h ∷ []) b o) ∷ ‵ (fobor κ q (partAt T.the-row q′ h b o)) ∷ Γ) G)
@@ -63,14 +72,14 @@ module _ {M : Type 1} {𝓤 : URA M} {H : Heap 𝓤} {A : Atoms 𝓤} {K : Type 
       owned t T.the-row (Is T.the-row) (LL.makes T.the-type T′.the-plain 𝓤 H A) h (word-ledger h ∷ []) is $ move t (1 ∷ 0 ∷ []) $ shuts t z T.the-row q′ h (word-ledger h ∷ []) b o $ s)
 
   -- the same, with the cell at the form in which a field that is a struct has a name
-  pub looks-board : K → Soaks G → (κ : Lft) (q : Share) (b o : ℕ) (γ : GName) (h : Ledger)
+  pub looks-parts : K → Soaks G → (κ : Lft) (q : Share) (b o : ℕ) (γ : GName) (h : Ledger)
       → ((q′ : Share) → Is T.the-row h (word-ledger h ∷ []) → Seq K W (‵ (fat q′ T′.mir b o (word-ledger h)) ∷ ‵ (fobor κ q (partAt T.the-row q′ h b o)) ∷ Γ) G)
       → Seq K W (‵ (Seen κ b o γ h) ∷ ‵ (flft κ q) ∷ Γ) G
-  looks-board t z κ q b o γ h k = looks-ledger t z κ q b o γ h (λ q′ is. use1 W (‵ (fat q′ T′.mir b o (word-ledger h))) (W .laws .raw-at q′ T′.mir b o (word-ledger h)) $ k q′ is)
+  looks-parts t z κ q b o γ h k = looks-ledger t z κ q b o γ h (λ q′ is. use1 W (‵ (fat q′ T′.mir b o (word-ledger h))) (W .laws .raw-at q′ T′.mir b o (word-ledger h)) $ k q′ is)
 
-  pub shuts-board : K → Soaks G → (κ : Lft) (q q′ : Share) (b o : ℕ) (h : Ledger) → Is T.the-row h (word-ledger h ∷ [])
+  pub shuts-parts : K → Soaks G → (κ : Lft) (q q′ : Share) (b o : ℕ) (h : Ledger) → Is T.the-row h (word-ledger h ∷ [])
       → Step K W (‵ (flft κ q) ∷ Γ) G (‵ (fat q′ T′.mir b o (word-ledger h)) ∷ ‵ (fobor κ q (partAt T.the-row q′ h b o)) ∷ Γ) G
-  shuts-board t z κ q q′ b o h is = step (λ s.
+  shuts-parts t z κ q q′ b o h is = step (λ s.
       use1 W (‵ (cellAt q′ (T.the-row .mir) (word-ledger h ∷ []) b o)) (W .laws .at-raw q′ T′.mir b o (word-ledger h)) $ shuts-ledger t z κ q q′ b o h is $ s)
 
   pub opens-ledger : K → Soaks G → (κ : Lft) (q : Share) (b o : ℕ) (γ : GName) (h : Ledger)

@@ -5,12 +5,15 @@ ghost use mathlib.Core.Path.{_≡_};
 ghost use lib.ListN.{length, take};
 ghost use Rattle.occupancy.specs.Board.{scopeBoardAt, entryAt, heldIn};
 ghost use Rattle.state.specs.Book.{raisedIn};
+ghost use Rattle.server.specs.Serve.{Tells};
+ghost use Rattle.server.specs.Halves.{writeOf};
 ghost use Rattle.records.specs.Records.{first128, covered};
-ghost use Rattle.records.specs.Lent.{serveLent, ServesLent, readLent, ReadsLent, writtenLent, roomLent, findLent, insertLent, removeLent};
+ghost use Rattle.records.specs.Lent.{serveLent, ServesLent, judgeLent, JudgesLent, readLent, ReadsLent, writtenLent, roomLent, findLent, insertLent, removeLent};
 use occupancy::Entry;
 use records::Found;
 use records::Records;
 use server::Outcome;
+use server::Ruling;
 use state::Lease;
 use state::Ledger;
 use state_file::Written;
@@ -116,6 +119,36 @@ pub fn serve(
     advance(ledger, r.clock);
     store(leases, r.records);
     r.outcome
+}
+
+// Document 02's first half: the verdict on a datagram, without room for a reply; the ledger and the records become those of the book afterwards. Discard 1 as
+// in the call, and never 2.
+pub fn judge(
+    datagram: &[u8],
+    client: u32,
+    time: u32,
+    ledger: &mut Ledger,
+    leases: &mut [Lease],
+    names: &[u8],
+) -> Ruling
+    ensures { λ r. ⌜ JudgesLent (judgeLent (now (ledger .entry)) (now (leases .entry)) (now (names .entry)) client time (now (datagram .entry))) (now (ledger .exit)) (now (leases .exit)) r ⌝ }
+{
+    let g = *ledger;
+    let all = load(leases);
+    let r = records::judge(g, all, leases.len(), names, datagram, client, time);
+    ledger.memory = r.memory;
+    advance(ledger, r.clock);
+    store(leases, r.records);
+    r.ruling
+}
+
+// The second half: the reply of a verdict, written with the ledger that the first left and the same names. Room below 512 is 2, then a discard is told as it
+// is; neither writes.
+pub fn reply(ruling: Ruling, ledger: &Ledger, names: &[u8], room: &mut [u8]) -> Outcome
+    ensures { λ r. ⌜ Tells (writeOf ruling (now (ledger .entry) .state) (now (names .entry)) (length (now (room .entry)))) (now (room .entry)) (now (room .exit)) r ⌝ }
+{
+    let s = ledger.state;
+    server::write(ruling, s, names, room)
 }
 
 // Reads a state file into the lent ledger and records: 0, or refusal 20 and then 21, which leave both as they were. Another number of records

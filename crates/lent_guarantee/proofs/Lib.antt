@@ -1,4 +1,5 @@
 pub mod Same
+pub mod Halves
 pub mod Guaranteed
 pub mod RoundTrip
 pub mod Written

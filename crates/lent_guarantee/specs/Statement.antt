@@ -2,9 +2,11 @@
 -- and written of them. `serveLent` is what `lent::serve` is proved to meet.
 use Prim.Native.Nat.{ℕ, _≤_}
 use mathlib.Core.Path.{_≡_}
-use mathlib.Core.Bool.{true, false}
+use mathlib.Core.Bool.{true, false, _&&_}
 use mathlib.Core.List.{List, [], _∷_, _++_}
+use lib.Dec.{ltb}
 use lib.ListN.{drop, length, take}
+use Rattle.lists.specs.Pick.{pick}
 use Rattle.lists.specs.All.{All}
 use Rattle.state_file.specs.File.{longestFile}
 use Rattle.state.specs.Book.{Book, leasesOf}
@@ -13,7 +15,12 @@ use Rattle.state.specs.declared.Lease.{Lease}
 use Rattle.state.specs.declared.Ledger.{Ledger}
 use Rattle.releases.specs.Whole.{boardGood, bookB, memoryGood, namesGood}
 use Rattle.message.specs.Read.{longestDatagram, readOf}
-use Rattle.server.specs.Serve.{Answer, Call, serveOf}
+use Rattle.reply.specs.Reply.{leastRoom}
+use Rattle.server.specs.declared.Outcome.{Outcome}
+use Rattle.server.specs.declared.Ruling.{Ruling}
+use Rattle.server.specs.Serve.{Answer, Call, Tells, serveOf}
+use Rattle.server.specs.Halves.{Judgement, writeOf}
+use Rattle.server.specs.Statement.{judgedFor}
 use Rattle.guarantee.specs.Statement.{BoardKept, Discovers, Elsewhere, Granted, GrantedAsOffered, IsReply, Narrow, NewRequest, NoHold, Offered, OfferedAs, ReadAs, TakesUp, WithinLimits, bookAt, liveUnder, requested, saysOf, tenantFor}
 use Rattle.decision.specs.Parts.{leaseIdIn}
 use Rattle.format.specs.Format.{Octets}
@@ -21,7 +28,7 @@ use Rattle.state_file.specs.declared.Written.{Written}
 use Rattle.state_file.specs.StateFile.{namesOf}
 use Rattle.state_file.specs.Typed.{Typed}
 use Rattle.records.specs.Records.{recordsOf, tableFrom}
-use Rattle.records.specs.Lent.{bookFrom, ledgerOf, LentAnswer, readLent, roomLent, serveLent, writtenLent}
+use Rattle.records.specs.Lent.{bookFrom, is128, judgeLent, ledgerOf, lentBoth, LentAnswer, LentJudgement, readLent, roomLent, serveLent, writtenLent}
 
 -- a ledger (clock, settings, what is remembered and the board), records and names, as their caller holds them; the names are lent to be read only
 pub record Lent : Type 0 where
@@ -61,6 +68,44 @@ pub record SoundLent (l : Lent) : Type 0 where
 -- ---- the lent call is the call: on any ledger, any 128 records and any names, sound or not
 unfoldable pub SameCall : Type 0
 SameCall = (l : Lent) (c : Call) → length (l .leases) ≡ 128 → answerOf (l .names) (served l c) ≡ serveOf (bookOf l) c
+
+-- ---- the call in two halves (document 02, W-208): "the first gives the verdict and the book afterwards, the second writes the reply from these"
+-- the first (`lent::judge`) on them, of a call's datagram, address and time
+abbrev pub judged : Lent → Call → LentJudgement
+judged l c = judgeLent (l .ledger) (l .leases) (l .names) (c .client) (c .time) (c .datagram)
+
+-- and the second (`lent::reply`) after it, on the verdict, the ledger afterwards and the names that were lent to both
+abbrev pub lentInHalves : Lent → Call → LentAnswer
+lentInHalves l c = lentBoth (judged l c) (writeOf (judged l c .ruling) (judged l c .ledger .state) (l .names) (c .room))
+
+abbrev pub discardedLent : ℕ → Lent → LentAnswer
+discardedLent n l = record { outcome = n; offset = 0; reply = []; ledger = l .ledger; leases = l .leases }
+
+-- "The old call stays, made of the two after its own tests 1 and 2", the number of records being part of test 1
+unfoldable pub LentHalves : Type 0
+LentHalves =
+    (l : Lent) (c : Call)
+    → served l c ≡ pick (is128 (length (l .leases)) && bookB (bookOf l)) (pick (ltb (c .room) leastRoom) (discardedLent 2 l) (lentInHalves l c)) (discardedLent 1 l)
+
+-- the verdict with the book that its ledger, its records and the names are
+abbrev pub judgementOf : List ℕ → LentJudgement → Judgement
+judgementOf names j = record { ruling = j .ruling; book = bookFrom (j .ledger) (j .leases) names }
+
+-- the lent first half is the first half: on any ledger, any 128 records and any names, sound or not
+unfoldable pub SameJudge : Type 0
+SameJudge = (l : Lent) (c : Call) → length (l .leases) ≡ 128 → judgementOf (l .names) (judged l c) ≡ judgedFor (bookOf l) c
+
+-- "The first never gives discard 2"
+unfoldable pub LentNeverShort : Type 0
+LentNeverShort = (l : Lent) (c : Call) → judged l c .ruling .verdict .outcome ≡ 2 → ⊥
+
+-- "For a verdict and book that the first didn't give together the second may answer anything, without a fault" (`lent::reply` has no `requires`) "or an octet past the
+-- 512th": of whatever verdict and ledger, names and room, its outcome is one of the numbers, and every octet past the 512th is as it was. Of the verdict there is asked only that its
+-- identifier is the array of 32 octets that its type has
+unfoldable pub LentWritesWithin : Type 0
+LentWritesWithin =
+    (r : Ruling) → length (r .id .octets) ≡ 32 → (g : Ledger) (names before after : List ℕ) (x : Outcome) → Tells (writeOf r (g .state) names (length before)) before after x
+    → (x .outcome ≤ 8) × (drop leastRoom after ≡ drop leastRoom before)
 
 -- ---- demand 3, its sentences in guarantee's statement
 -- of the ledger and records after a list of calls

@@ -6,6 +6,7 @@
 --     lends-mut        the cells of the two locals are lent as `&mut`, each for a lifetime of its own: the two tokens, the two references, and `OutMut`, which brings the cells back
 --     backs-mut        the tokens, what says the last values, and `OutMut` give the cells at those values
 --     lends-shr, backs-shr     the same as `&`, with `OutShr`: the cells come back as they were
+--     lends-ledger, backs-ledger       the same of a ledger alone, with `OutLedger`
 --     whole1, whole2, rec, own         values and types that are put together of parts.        records-parts, owned-parts, typed-part, typed-whole     the machine values of a `Records` and of an `Owned` are such values
 -- A step has its items at the head of the context, in this order, and the rest of the context is as it was.
 -- Assumes `Given`.
@@ -200,6 +201,23 @@ module _ {M : Type 1} {𝓤 : URA M} {H : Heap 𝓤} {A : Atoms 𝓤} {K : Type 
       fpick t (λ vs. fsplit t $ spelt t Row (Is Row) (shows 𝓤 H A Row) (λ xs. N′.the-laws .0 .val xs ∷ []) (N′.the-laws .0 .tells) fullShare (tuples ys) vs b 0 $ move t (1 ∷ []) $
       facts t Row (Is Row) (shows 𝓤 H A Row) (tuples ys) (word-leases ys ∷ []) (λ is.
       use1 W (‵ (fat fullShare (tyArray L′.mir 128) b 0 (word-leases ys))) (W .laws .raw-at fullShare (tyArray L′.mir 128) b 0 (word-leases ys)) $ k is))
+
+-- what is kept while the ledger in the local b is out as a `&`
+abbrev pub OutLedger : ℕ → ℕ → Ledger → Fml
+OutLedger ν b h = flent (ν ∷ []) (partAt T.the-row fullShare h b 0)
+
+module _ {M : Type 1} {𝓤 : URA M} {H : Heap 𝓤} {A : Atoms 𝓤} {K : Type 0} {W : Given 𝓤 H A} {Γ : List (Item 𝓤)} {G : Goal 𝓤 H} where
+  -- ---- a ledger alone, as `&`
+  pub lends-ledger : K → Soaks G → (b : ℕ) (h : Ledger) → IsLedger h
+      → ((ν : ℕ) (γ : GName) → Seq K W (‵ (flft (ν ∷ []) fullShare) ∷ ‵ (ShrLedger (ν ∷ []) b γ h) ∷ ‵ (OutLedger ν b h) ∷ Γ) G) → Seq K W (‵ (fat fullShare T′.mir b 0 (word-ledger h)) ∷ Γ) G
+  lends-ledger t z b h is k =
+      lft-new t z (λ ν. move t (1 ∷ []) $ ledger-in t h b is $
+      use1 W (later (some (λ (γ : GName). ‵ (ShrLedger (ν ∷ []) b γ h) ⊛ ‵ (OutLedger ν b h)))) (lends-shr-ref 𝓤 H A W T.the-row erased (ν ∷ []) fullShare h b 0) $ await t z $ pick t (λ γ. split t $
+      -- [the ledger's reference; the lender's part; [ν]]
+      move t (2 ∷ []) $ k ν γ))
+
+  pub backs-ledger : K → Soaks G → (ν b : ℕ) (h : Ledger) → Step K W (‵ (fat fullShare T′.mir b 0 (word-ledger h)) ∷ Γ) G (‵ (flft (ν ∷ []) fullShare) ∷ ‵ (OutLedger ν b h) ∷ Γ) G
+  backs-ledger t z ν b h = step (λ s. lft-end t z $ lent-back t z $ ledger-out t h b (λ _. s))
 
 module _ {M : Type 1} {𝓤 : URA M} {H : Heap 𝓤} {A : Atoms 𝓤} {K : Type 0} {W : Given 𝓤 H A} {Γ : List (Item 𝓤)} {G : Goal 𝓤 H} where
   -- ---- as `&mut`

@@ -4,10 +4,13 @@ ghost use mathlib.Core.Path.{_≡_};
 ghost use lib.ListN.{length, replicate};
 ghost use Rattle.state.specs.Book.{zeroLease};
 ghost use Rattle.state_file.specs.StateFile.{zeroLedger};
-ghost use Rattle.records.specs.Lent.{serveLent, readLent, writtenLent, roomLent};
-ghost use Rattle.owned.specs.Owned.{ServesOwned, ReadsOwned};
+ghost use Rattle.server.specs.Serve.{Tells};
+ghost use Rattle.server.specs.Halves.{writeOf};
+ghost use Rattle.records.specs.Lent.{serveLent, judgeLent, readLent, writtenLent, roomLent};
+ghost use Rattle.owned.specs.Owned.{ServesOwned, JudgesOwned, ReadsOwned};
 use records::Records;
 use server::Outcome;
+use server::Ruling;
 use state::Ledger;
 use state_file::Written;
 
@@ -20,6 +23,12 @@ pub struct Owned {
 // A call's outcome and the book afterwards.
 pub struct OwnedCall {
     pub outcome: Outcome,
+    pub owned: Owned,
+}
+
+// The verdict of a call's first half, and the book afterwards.
+pub struct OwnedJudged {
+    pub ruling: Ruling,
     pub owned: Owned,
 }
 
@@ -59,6 +68,31 @@ pub fn serve(
             records: Records { leases: leases },
         },
     }
+}
+
+// Document 02's first half: the verdict on a datagram, with the names of the scopes lent.
+pub fn judge(o: Owned, names: &[u8], datagram: &[u8], client: u32, time: u32) -> OwnedJudged
+    ensures { λ r. ⌜ JudgesOwned (judgeLent (o .ledger) (o .records .leases) (now (names .entry)) client time (now (datagram .entry))) r ⌝ }
+{
+    let mut ledger = o.ledger;
+    let records = o.records;
+    let mut leases = records.leases;
+    let r = lent::judge(datagram, client, time, &mut ledger, &mut leases, names);
+    OwnedJudged {
+        ruling: r,
+        owned: Owned {
+            ledger: ledger,
+            records: Records { leases: leases },
+        },
+    }
+}
+
+// The second half: the reply of a verdict and of the ledger that came with it. It asks for no records.
+pub fn reply(ledger: Ledger, ruling: Ruling, names: &[u8], room: &mut [u8]) -> Outcome
+    ensures { λ r. ⌜ Tells (writeOf ruling (ledger .state) (now (names .entry)) (length (now (room .entry)))) (now (room .entry)) (now (room .exit)) r ⌝ }
+{
+    let g = ledger;
+    lent::reply(ruling, &g, names, room)
 }
 
 // Reads a state file over a book; refusals 20 and 21 leave it as it was.

@@ -15,9 +15,10 @@ use Rattle.state.specs.declared.Ledger.{Ledger}
 use Rattle.state.specs.Book.{byIdentifier, insertOf, isHold, laidOut, leaseWith, removeOf, zeroLease}
 use Rattle.soundness.specs.Sound.{blankB, layoutB, paddedB, unusedB, zeroFrom}
 use Rattle.server.specs.Serve.{Call}
+use Rattle.server.specs.Halves.{discardRuling}
 use Rattle.records.specs.declared.Found.the-variants.{Absent, At}
 use Rattle.records.specs.Records.{recordsOf, rows, rowsOf, tableFrom, tenantFrom}
-use Rattle.records.specs.Lent.{findLent, findWith, foundAmong, insertLent, insertWith, removeLent, removeWith, serveLent, serveWith, is128, writtenLent, writtenWith}
+use Rattle.records.specs.Lent.{findLent, findWith, foundAmong, insertLent, insertWith, judgeLent, judgeWith, removeLent, removeWith, serveLent, serveWith, is128, writtenLent, writtenWith}
 
 -- a lease by the last octet of its identifier
 lease : ℕ → Lease
@@ -87,6 +88,11 @@ serve-127 g names c = refl
 serve-129 : (g : Ledger) (names : List ℕ) (c : Call) → serveLent g (unused 129) names c .outcome ≡ 1
 unfolding unused serveWith is128 pick
 serve-129 g names c = refl
+
+-- and so of the first half, which leaves the records as they were
+judge-127 : (g : Ledger) (names : List ℕ) (client time : ℕ) (d : List ℕ) → judgeLent g (unused 127) names client time d ≡ record { ruling = discardRuling 1 0; ledger = g; leases = unused 127 }
+unfolding unused judgeWith is128 pick
+judge-127 g names client time d = refl
 
 write-127 : (g : Ledger) (names : List ℕ) (room : ℕ) → writtenLent g (unused 127) names room .refusal ≡ 22
 unfolding unused writtenWith is128 pick

@@ -2,12 +2,11 @@
 // of records that the lent slice has comes with them.
 ghost use mathlib.Core.Bool.{_&&_, _||_};
 ghost use mathlib.Core.Path.{_≡_};
-ghost use Prim.Native.Nat.{_≤_, _<_, min};
+ghost use Prim.Native.Nat.{_<_, min};
 ghost use lib.Dec.{eqb};
 ghost use lib.ListN.{length, replicate, take};
 ghost use Rattle.lists.specs.All.{allBy};
 ghost use Rattle.lists.specs.Place.{placeBy};
-ghost use Rattle.reply.specs.Reply.{leastRoom};
 ghost use Rattle.soundness.specs.Sound.{unusedB};
 ghost use Rattle.names.specs.Names.{namesB};
 ghost use Rattle.soundness.specs.Parts.{holdingsOf, soundFrom, tableRulesOf};
@@ -15,13 +14,14 @@ ghost use Rattle.releases.specs.Rules.{brokenRelease, releaseRulesOf};
 ghost use Rattle.occupancy.specs.Board.{sameBoard};
 ghost use Rattle.state.specs.Book.{leasesOf, tableOf, tenantAt, zeroLease};
 ghost use Rattle.state.specs.Board.{builtOf};
-ghost use Rattle.server.specs.Serve.{atClock};
+ghost use Rattle.server.specs.Halves.{discardRuling};
 ghost use Rattle.state_file.specs.StateFile.{readFile};
 ghost use Rattle.records.specs.Records.{Drops, endsAfter, putRow, recordsOf, tableFrom, tenantFrom};
-ghost use Rattle.records.specs.Lent.{Gathered, bookFrom, lentAnswer, serveWith, ServesRecords, readWith, Reads, writtenWith, roomWith, foundAmong, findWith, insertWith, removeWith};
+ghost use Rattle.records.specs.Lent.{Gathered, JudgesClock, judgeWith, JudgesRecords, ServesShort, serveWith, ServesRecords, readWith, Reads, writtenWith, roomWith, foundAmong, findWith, insertWith, removeWith};
 use occupancy::Board;
 use releases::ReleaseRules;
 use server::Outcome;
+use server::Ruling;
 use soundness::Held;
 use soundness::HeldTable;
 use soundness::TableRules;
@@ -41,6 +41,14 @@ pub struct Records {
 // What the caller is told of a call, with the clock, what is remembered and the records afterwards.
 pub struct ServedRecords {
     pub outcome: Outcome,
+    pub clock: u32,
+    pub memory: Memory,
+    pub records: Records,
+}
+
+// The verdict of a call's first half, with the clock, what is remembered and the records afterwards.
+pub struct JudgedRecords {
+    pub ruling: Ruling,
     pub clock: u32,
     pub memory: Memory,
     pub records: Records,
@@ -297,6 +305,18 @@ fn discard(n: u8, clock: u32, memory: Memory, records: Records) -> ServedRecords
     }
 }
 
+// A discard as a verdict.
+fn dismiss(n: u8, clock: u32, memory: Memory, records: Records) -> JudgedRecords
+    ensures { λ r. ⌜ r ≡ record { ruling = discardRuling n 0; clock = clock; memory = memory; records = records } ⌝ }
+{
+    JudgedRecords {
+        ruling: server::discard(n, 0),
+        clock: clock,
+        memory: memory,
+        records: records,
+    }
+}
+
 // Whether an edit changes anything.
 fn is_edit(e: Edit) -> bool
     ensures { λ r. ⌜ r ≡ (e .leaves || (e .enters || (e .forgets || e .remembers))) ⌝ }
@@ -313,27 +333,26 @@ fn is_edit(e: Edit) -> bool
     e.remembers
 }
 
-// Test 3 and what follows, after the drop: the client's tenant, whose records and releases alone are edited, and only where something changes.
+// Test 3 and what follows, after the drop: the client's tenant, whose records and releases alone are edited, and only where something changes. The names are
+// no matter any more: none go into a verdict.
 fn at_clock(
     s: State,
     memory: Memory,
     records: Records,
     held: HeldTable,
-    names: &[u8],
     client: u32,
     datagram: &[u8],
-    reply: &mut [u8],
-) -> ServedRecords
-    requires { ⌜ (leastRoom ≤ length (now reply)) × Gathered (record { state = s; memory = memory }) (records .leases) (now names) held ⌝ }
-    ensures { λ r. ⌜ ServesRecords (lentAnswer (atClock (bookFrom (record { state = s; memory = memory }) (records .leases) (now (names .entry))) client (now (datagram .entry)))) (now (reply .entry)) (now (reply .exit)) r ⌝ }
+) -> JudgedRecords
+    requires { ⌜ Gathered s (records .leases) held ⌝ }
+    ensures { λ r. ⌜ JudgesClock s memory (records .leases) client (now (datagram .entry)) r ⌝ }
 {
     let h = server::tenant_of(s, client);
     if h < arithmetic::cut8(s.tenant_count) {
         let own = row(records, h);
         let q = memory.releases[h];
-        let r = server::on_tenant(s, names, own, q, held, h, datagram, reply);
-        let o = r.outcome;
-        let e = r.edit;
+        let j = server::judge_tenant(s, own, q, held, h, datagram);
+        let r = j.ruling;
+        let e = j.edit;
         if is_edit(e) {
             let t = state::edited(own, e);
             let now = put_row(records, h, t);
@@ -343,21 +362,21 @@ fn at_clock(
             let board = memory.board;
             let b = agreement::edited(board, h, e);
             noted.board = b;
-            return ServedRecords {
-                outcome: o,
+            return JudgedRecords {
+                ruling: r,
                 clock: s.clock,
                 memory: noted,
                 records: now,
             };
         }
-        return ServedRecords {
-            outcome: o,
+        return JudgedRecords {
+            ruling: r,
             clock: s.clock,
             memory: memory,
             records: records,
         };
     }
-    discard(3, s.clock, memory, records)
+    dismiss(3, s.clock, memory, records)
 }
 
 // Test 1: every rule holds, of what is remembered and of the board too, and the names are good for the settings.
@@ -377,7 +396,61 @@ fn is_sound(s: State, board: Board, c: Surveyed, names: &[u8]) -> bool
     false
 }
 
-// The call on the records of a slice that has n: tests 1 and 2; then the clock is raised, and ended leases are dropped where there are any.
+// Document 02's first half on the records of a slice that has n: test 1; then the clock is raised, and ended leases are dropped where there are any.
+pub fn judge(
+    ledger: Ledger,
+    records: Records,
+    n: usize,
+    names: &[u8],
+    datagram: &[u8],
+    client: u32,
+    time: u32,
+) -> JudgedRecords
+    ensures { λ r. ⌜ JudgesRecords (judgeWith n ledger (records .leases) (now (names .entry)) client time (now (datagram .entry))) r ⌝ }
+{
+    let state = ledger.state;
+    let memory = ledger.memory;
+    if n != 128 {
+        return dismiss(1, state.clock, memory, records);
+    }
+    let c = survey(state, memory, records);
+    let board = memory.board;
+    if !is_sound(state, board, c, names) {
+        return dismiss(1, state.clock, memory, records);
+    }
+    let s = state::raise(state, time);
+    let held = c.rules.held;
+    if none_ended(held, s.clock) {
+        return at_clock(s, memory, records, held, client, datagram);
+    }
+    let d = drop_ended(records, held, board, s.clock);
+    let left = d.records;
+    let sets = d.held;
+    let cleared = d.board;
+    let mut now = memory;
+    now.board = cleared;
+    at_clock(s, now, left, sets, client, datagram)
+}
+
+// Tests 1 and 2 of a call that has no room for a reply: 1 before 2.
+fn short_room(ledger: Ledger, records: Records, n: usize, names: &[u8]) -> ServedRecords
+    ensures { λ r. ⌜ ServesShort n ledger (records .leases) (now (names .entry)) r ⌝ }
+{
+    let state = ledger.state;
+    let memory = ledger.memory;
+    if n != 128 {
+        return discard(1, state.clock, memory, records);
+    }
+    let c = survey(state, memory, records);
+    let board = memory.board;
+    if is_sound(state, board, c, names) {
+        return discard(2, state.clock, memory, records);
+    }
+    discard(1, state.clock, memory, records)
+}
+
+// The call on the records of a slice that has n: its own tests 1 and 2 where the room is short. In room enough test 2 has passed, and test 1 is the first
+// half's, whose discard 1 the second tells, so that soundness is tested once.
 pub fn serve(
     ledger: Ledger,
     records: Records,
@@ -390,31 +463,22 @@ pub fn serve(
 ) -> ServedRecords
     ensures { λ r. ⌜ ServesRecords (serveWith n ledger (records .leases) (now (names .entry)) (record { datagram = now (datagram .entry); client = client; time = time; room = length (now (reply .entry)) })) (now (reply .entry)) (now (reply .exit)) r ⌝ }
 {
-    let state = ledger.state;
-    let memory = ledger.memory;
-    if n != 128 {
-        return discard(1, state.clock, memory, records);
-    }
-    let c = survey(state, memory, records);
-    let board = memory.board;
-    if !is_sound(state, board, c, names) {
-        return discard(1, state.clock, memory, records);
-    }
     if reply.len() < reply::LEAST_ROOM {
-        return discard(2, state.clock, memory, records);
+        return short_room(ledger, records, n, names);
     }
-    let s = state::raise(state, time);
-    let held = c.rules.held;
-    if none_ended(held, s.clock) {
-        return at_clock(s, memory, records, held, names, client, datagram, reply);
+    let state = ledger.state;
+    let j = judge(ledger, records, n, names, datagram, client, time);
+    let r = j.ruling;
+    let s = state::raise(state, j.clock);
+    let o = server::write(r, s, names, reply);
+    let memory = j.memory;
+    let left = j.records;
+    ServedRecords {
+        outcome: o,
+        clock: j.clock,
+        memory: memory,
+        records: left,
     }
-    let d = drop_ended(records, held, board, s.clock);
-    let left = d.records;
-    let sets = d.held;
-    let cleared = d.board;
-    let mut now = memory;
-    now.board = cleared;
-    at_clock(s, now, left, sets, names, client, datagram, reply)
 }
 
 fn untouched(refusal: u8, ledger: Ledger, records: Records) -> ReadRecords

@@ -1,7 +1,7 @@
 -- Definitions: a server call (document 01, "Outcomes, tested in this order" and "Replies"): a datagram, the client's address, the time, a book and the
 -- length of the lent reply room give an outcome, a reply's octets and the book afterwards.
-use Prim.Native.Nat.{ℕ, _-_, _<_}
-use mathlib.Core.Bool.{Bool, true, not, _&&_}
+use Prim.Native.Nat.{ℕ, _-_}
+use mathlib.Core.Bool.{Bool, not, _&&_}
 use mathlib.Core.List.{List, [], _∷_, _++_}
 use mathlib.Core.Path.{_≡_}
 use lib.Dec.{ltb, leb, eqb}
@@ -12,7 +12,6 @@ use Rattle.message.specs.declared.Fields.{Fields}
 use Rattle.message.specs.declared.Reading.{Reading}
 use Rattle.message.specs.Read.{readOf}
 use Rattle.message.specs.Values.{fieldsOf}
-use Rattle.names.specs.Names.{namesB}
 use Rattle.reply.specs.declared.Head.{Head}
 use Rattle.reply.specs.declared.Terms.{Terms}
 use Rattle.reply.specs.declared.Info.{Info}
@@ -23,21 +22,16 @@ use Rattle.state.specs.declared.LeaseTable.{LeaseTable}
 use Rattle.state.specs.declared.Memory.{Memory}
 use Rattle.state.specs.declared.Scope.{Scope}
 use Rattle.state.specs.declared.State.{State}
-use Rattle.state.specs.declared.TenantLeases.{TenantLeases}
-use Rattle.state.specs.declared.TenantReleases.{TenantReleases}
 use Rattle.state.specs.Book.{Book, advanced, rangesOf, releasesAt, remembered, scopeAt}
 use Rattle.state.specs.Edit.{editedBook}
-use Rattle.soundness.specs.declared.HeldTable.{HeldTable}
 use Rattle.releases.specs.Whole.{bookB}
 use Rattle.soundness.specs.Sound.{tenantsIn}
-use Rattle.soundness.specs.View.{View}
 use Rattle.decision.specs.declared.Decided.{Decided}
 use Rattle.decision.specs.declared.Reply.{Reply}
 use Rattle.decision.specs.declared.Reply.the-variants.{Nothing, Offer, LeaseAck, ReleaseAck, InfoAck, Nak}
 use Rattle.decision.specs.declared.Verdict.{Verdict}
 use Rattle.decision.specs.Decide.{decideOf}
 use Rattle.server.specs.declared.Outcome.{Outcome}
-use Rattle.server.specs.declared.Served.{Served}
 
 pub record Call : Type 0 where
   pub datagram : List ℕ
@@ -57,9 +51,6 @@ pub record Said : Type 0 where
   pub outcome : ℕ
   pub offset : ℕ
   pub reply : List ℕ
-
-abbrev pub said : Answer → Said
-said a = record { outcome = a .outcome; offset = a .offset; reply = a .reply }
 
 -- the book of a state, a table, what is remembered and the names that are lent with them
 abbrev pub bookOf : State → LeaseTable → Memory → List ℕ → Book
@@ -158,17 +149,3 @@ pub record Tells (a : Said) (before after : List ℕ) (r : Outcome) : Type 0 whe
   pub offset : r .offset ≡ a .offset
   pub size : r .length ≡ length (a .reply)
   pub buffer : after ≡ a .reply ++ drop (length (a .reply)) before
-
--- and the book b with what tenant h has edited
-pub record Serves (a : Answer) (b : Book) (h : ℕ) (before after : List ℕ) (r : Served) : Type 0 where
-  pub tells : Tells (said a) before after (r .outcome)
-  pub book : a .book ≡ editedBook (r .edit) h b
-
--- what tests 1 and 3 have shown when a datagram is read: the names are a section for the settings' scopes and tenants, and h is one of these
-abbrev pub NamesFor : State → ℕ → List ℕ → Type 0
-NamesFor s h names = (namesB (s .«scope_count») (s .«tenant_count») names ≡ true) × (h < s .«tenant_count»)
-
--- whatever book it is of which the state, the names, the records of tenant h, what is remembered of it and what all tenants hold are at hand
-abbrev pub ServesTenant : State → List ℕ → TenantLeases → TenantReleases → HeldTable → ℕ → (Book → Answer) → List ℕ → List ℕ → Served → Type 0
-ServesTenant s names own q held h answer before after r =
-    (t : LeaseTable) (m : Memory) → View s t h own held → q ≡ releasesAt m h → Serves (answer (bookOf s t m names)) (bookOf s t m names) h before after r

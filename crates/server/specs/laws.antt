@@ -1,2 +1,4 @@
 pub mod Told
 pub mod Tests
+pub mod Outcomes
+pub mod Halves

@@ -1,25 +1,28 @@
 //! One case, run by both implementations in this process and compared octet for octet.
 
 use crate::bounds;
-use crate::campus::holding;
+use crate::campus::{holding, sound};
 use crate::case::Case;
 use crate::fault;
+use crate::halves;
 use crate::holds;
 use crate::judged;
-use crate::lent::{Held, Lender};
+use crate::lent::{Held, Lender, Octets, Written};
 use crate::names;
 use crate::occupancy::{self, Board};
+use crate::random::Random;
 use crate::releases::Past;
 use crate::tally::Tally;
-use crate::LONGEST_FILE;
-use banshorra_host::{ANSWER_ROOM, BOARD_ROOM, OCCUPANCY_ROOM};
+use crate::{LONGEST_FILE, SHORTEST_ROOM};
+use banshorra_host::{ANSWER_ROOM, BOARD_ROOM, OCCUPANCY_ROOM, VERDICT_SIZE};
 use builder::{value_of, Call, Campus, ACK, GETINFO};
 use second::occupancy::board_octets;
 use std::cmp::Ordering;
 use std::net::Ipv4Addr;
 use std::panic::{catch_unwind, AssertUnwindSafe};
 
-/// Refusals of the C interface.
+/// Refusals of the C interface, and the discard for a short reply room.
+const NO_ROOM: u8 = 2;
 const ROOM_SHORT: u8 = 23;
 const CUT_OFF: u8 = 24;
 const ANSWERS_FULL: u8 = 27;
@@ -42,6 +45,48 @@ pub struct Answer {
     occupancy: Vec<u8>,
     /// Where its record begins in the list.
     place: usize,
+    halves: Halves,
+}
+
+/// What the second program makes of the same call in two halves.
+struct Halves {
+    verdict: second::Verdict,
+    /// The campus file after the first half; empty if the book can't be written.
+    file: Vec<u8>,
+    /// What the second half gives in a room that is just large enough, in one that is too short, and in the call's if it is another.
+    written: Vec<(usize, Written)>,
+}
+
+impl Halves {
+    /// The halves, but for the file of the book that the first of them left; and that book.
+    fn new(book: &second::Book, call: &Call) -> (Halves, second::Book) {
+        let mut judged = book.clone();
+        let verdict = second::judge(&mut judged, &call.datagram, call.client, call.time);
+        let mut rooms = vec![SHORTEST_ROOM, SHORTEST_ROOM - 1, call.room.into()];
+        if rooms[..2].contains(&rooms[2]) {
+            rooms.pop();
+        }
+        let written = rooms.into_iter().map(|length| {
+            let mut reply = vec![0; length];
+            let (outcome, offset, filled) = second::write(&judged, &verdict, &mut reply);
+            reply.truncate(filled);
+            (length, (outcome, offset, reply))
+        });
+        let halves = Halves {
+            written: written.collect(),
+            verdict,
+            file: Vec::new(),
+        };
+        (halves, judged)
+    }
+}
+
+/// The campus file of a book; empty if it can't be written.
+fn file_of(book: &second::Book) -> Vec<u8> {
+    let mut file = vec![0; LONGEST_FILE];
+    let length = second::file::write(book, &mut file).unwrap_or(0);
+    file.truncate(length);
+    file
 }
 
 /// What the second program makes of a case.
@@ -65,14 +110,19 @@ fn second(case: &Case) -> Expected {
     let occupancy = book.as_ref().map_or(Vec::new(), board_octets);
     let mut answers = Vec::new();
     let mut end = 0;
-    let mut room = vec![0; LONGEST_FILE];
     while let (Some(book), Some(call)) = (&mut book, Call::read(&case.calls[end..])) {
-        let room_length = call.room.into();
+        let (room_length, (mut halves, judged)) = (call.room.into(), Halves::new(book, &call));
         let (outcome, offset, reply) =
             second::server::answer(book, &call.datagram, call.client, call.time, room_length);
         // A book that can't be written is a difference from any file; what the call answered is compared before it.
-        let written = second::file::write(book, &mut room);
-        let file = room[..written.unwrap_or(0)].to_vec();
+        let file = file_of(book);
+        let is_written = !file.is_empty();
+        // As a rule both are one book, which is written once.
+        halves.file = if judged == *book {
+            file.clone()
+        } else {
+            file_of(&judged)
+        };
         answers.push(Answer {
             outcome,
             offset,
@@ -80,9 +130,10 @@ fn second(case: &Case) -> Expected {
             file,
             occupancy: board_octets(book),
             place: end,
+            halves,
         });
         end += call.length();
-        if written.is_err() {
+        if !is_written {
             break;
         }
     }
@@ -144,6 +195,7 @@ pub fn compare(case: &Case, tally: &mut Tally) -> Result<(), Difference> {
         occupancy(case, &expected, choice, tally);
         serve(case, &expected, choice);
         replay(case, &expected, choice, tally);
+        halves(case, &expected, choice, tally);
         if choice.is_multiple_of(4) {
             lent_rooms(case, tally);
         }
@@ -284,10 +336,7 @@ fn second_on(file: &[u8], call: &Call) -> Result<(u8, Vec<u8>, Vec<u8>), Differe
         let room = call.room.into();
         let (outcome, _, reply) =
             second::server::answer(&mut book, &call.datagram, call.client, call.time, room);
-        let mut file = vec![0; LONGEST_FILE];
-        let length = second::file::write(&book, &mut file).unwrap_or(0);
-        file.truncate(length);
-        (outcome, reply, file)
+        (outcome, reply, file_of(&book))
     })
 }
 
@@ -559,8 +608,189 @@ fn lent_rooms(case: &Case, tally: &mut Tally) {
         let mut held = LENDER.hold(front, room, length);
         let (outcome, ..) = LENDER.serve(&mut held, &call(&case.calls), 0);
         same(&format!("serve, {what}"), outcome, refusal);
+        let (outcome, _) = LENDER.judge(&mut held, &call(&case.calls), 0);
+        same(&format!("judge, {what}"), outcome, refusal);
+        tally.halved(match refusal {
+            ROOM_SHORT => halves::FIRST_23,
+            _ => halves::FIRST_28,
+        });
         let replayed = LENDER.replay(&mut held, &case.calls, 600);
         same(&format!("replay, {what}"), replayed, (refusal, 0, vec![]));
         tally.code(refusal);
+    }
+}
+
+/// Each call in two halves, on the file that the call before left; then the list, verdict by verdict, and verdicts that are made up.
+fn halves(case: &Case, expected: &Expected, choice: usize, tally: &mut Tally) {
+    if expected.refusal != 0 {
+        return refused_halves(case, expected, choice, tally);
+    }
+    let mut file = &case.file;
+    let mut verdicts = Vec::new();
+    for (number, answer) in expected.answers.iter().enumerate() {
+        let call = Call::read(&case.calls[answer.place..]).expect("an answered call's record");
+        let what = format!("halves, call {}", number + 1);
+        let verdict = half_by_half(&what, file, &call, answer, choice, tally);
+        verdicts.push((verdict, &answer.halves.file));
+        file = &answer.file;
+    }
+    if choice.is_multiple_of(4) {
+        listed_halves(case, expected, choice, tally);
+    }
+    made_up(&verdicts, choice, tally);
+}
+
+/// One call: the verdict, the file afterwards, and what is written in each room, by both; what the whole call gives; and what the verdict has to
+/// say by the octets of these.
+fn half_by_half(
+    what: &str,
+    file: &[u8],
+    call: &Call,
+    answer: &Answer,
+    choice: usize,
+    tally: &mut Tally,
+) -> Octets {
+    let room = LONGEST_FILE + [0, 0, 1, 5_000][choice / 4 % 4];
+    let before = LENDER.hold(file, room, file.len());
+    let mut held = before.clone();
+    let (outcome, verdict) = LENDER.judge(&mut held, call, choice as u8);
+    let due = &answer.halves;
+    let of_second = halves::of_second(&due.verdict);
+    same(&format!("{what}: judge"), &[outcome][..], &of_second[0].1);
+    same_octets(&format!("{what}: judge's file"), held.file(), &due.file);
+    let missed = halves::missed(&of_second, &verdict);
+    same(&format!("{what}: verdict {}", hex(&verdict)), None, missed);
+    replies(what, held.file(), &verdict, due, tally);
+    let (_, ample) = &due.written[0];
+    whole_call(what, before, held.file(), call, answer, ample);
+    let campus = Campus::read(file).expect("an accepted file has its layout");
+    let fields = halves::due(&campus, call, outcome, ample.1, &ample.2);
+    if let Some(field) = halves::missed(&fields, &verdict) {
+        panic!("{what}: {field:?} is due in the verdict {}", hex(&verdict));
+    }
+    let why = halves::why(&campus, call, &verdict, &ample.2);
+    why.into_iter().for_each(|why| tally.halved(why));
+    verdict
+}
+
+/// What is written in each room; in a short one nothing, whatever the verdict.
+fn replies(what: &str, file: &[u8], verdict: &Octets, due: &Halves, tally: &mut Tally) {
+    for (room, due) in &due.written {
+        let what = format!("{what}: reply in {room}");
+        let written = LENDER.reply(file, verdict, *room, *room as u8);
+        same(&what, &written, due);
+        if *room < SHORTEST_ROOM {
+            same(&what, written.0, NO_ROOM);
+            tally.halved(match verdict[0] {
+                0 => halves::SHORT_REPLY,
+                _ => halves::SHORT_DISCARD,
+            });
+        }
+    }
+}
+
+/// In a room that is large enough the whole call gives what the halves give. Where the call's own is, `serve` has compared it.
+fn whole_call(
+    what: &str,
+    mut held: Held,
+    file: &[u8],
+    call: &Call,
+    answer: &Answer,
+    halves: &Written,
+) {
+    let mut whole = (answer.outcome, answer.offset, answer.reply.clone());
+    let mut whole_file = &answer.file[..];
+    if usize::from(call.room) < SHORTEST_ROOM {
+        let mut ample = call.clone();
+        ample.room = SHORTEST_ROOM as u16;
+        whole = LENDER.serve(&mut held, &ample, 0);
+        whole_file = held.file();
+    }
+    same(&format!("{what}: the whole call"), &whole, halves);
+    same_octets(&format!("{what}: the whole call's file"), whole_file, file);
+}
+
+/// A refused file has no verdict, and no reply to one; in a short room not even a refusal.
+fn refused_halves(case: &Case, expected: &Expected, choice: usize, tally: &mut Tally) {
+    let call = Call::read(&case.calls).unwrap_or(call(&[]));
+    let mut held = held(case, choice);
+    same(
+        "judge",
+        LENDER.judge(&mut held, &call, 0).0,
+        expected.refusal,
+    );
+    let mut random = Random::new("refused", choice as u64);
+    let mut discard = [0; VERDICT_SIZE];
+    discard[0] = 3;
+    for verdict in [discard, halves::any_octets(&mut random)] {
+        let nothing = |number| (number, 0, vec![]);
+        for (room, number) in [
+            (SHORTEST_ROOM, expected.refusal),
+            (SHORTEST_ROOM - 1, NO_ROOM),
+        ] {
+            let written = LENDER.reply_to_any(&case.file, &verdict, room, choice as u8);
+            same(&format!("reply in {room}"), written, nothing(number));
+        }
+    }
+    let (first, second) = match expected.refusal {
+        20 => (halves::FIRST_20, halves::SECOND_20),
+        _ => (halves::FIRST_21, halves::SECOND_21),
+    };
+    [first, second, halves::SHORT_REFUSED]
+        .into_iter()
+        .for_each(|why| tally.halved(why));
+}
+
+/// The list as a whole, in rooms that are large enough, beside its calls verdict by verdict.
+fn listed_halves(case: &Case, expected: &Expected, choice: usize, tally: &mut Tally) {
+    let (mut list, mut answers) = (Vec::new(), Vec::new());
+    let mut by_one = held(case, choice);
+    for answer in &expected.answers {
+        let mut call = Call::read(&case.calls[answer.place..]).expect("an answered call's record");
+        call.room = SHORTEST_ROOM as u16;
+        list.extend(call.record());
+        let (_, verdict) = LENDER.judge(&mut by_one, &call, 0);
+        let (outcome, offset, reply) =
+            LENDER.reply(by_one.file(), &verdict, SHORTEST_ROOM, choice as u8);
+        answers.push(outcome);
+        answers.extend((offset as u16).to_be_bytes());
+        answers.extend((reply.len() as u16).to_be_bytes());
+        answers.extend(reply);
+    }
+    let mut whole = held(case, choice / 2);
+    let room = ANSWER_ROOM * (expected.answers.len() + 1);
+    let (code, used, replayed) = LENDER.replay(&mut whole, &list, room);
+    same("replay beside verdicts", (code, used), (0, list.len()));
+    same_octets("replay beside verdicts: answers", &replayed, &answers);
+    same_octets("replay beside verdicts: file", whole.file(), by_one.file());
+    if !expected.answers.is_empty() {
+        tally.halved(halves::IN_A_LIST);
+    }
+}
+
+/// Verdicts that the first half didn't give with the file: some outcome, and no octet past the 512th.
+fn made_up(verdicts: &[(Octets, &Vec<u8>)], choice: usize, tally: &mut Tally) {
+    let Some((verdict, file)) = verdicts.get(choice % verdicts.len().max(1)) else {
+        return;
+    };
+    let mut random = Random::new("made up", choice as u64);
+    let another = sound(&mut random).octets();
+    for (made, file, verdict) in [
+        (halves::RANDOM, *file, halves::any_octets(&mut random)),
+        (
+            halves::CHANGED,
+            *file,
+            halves::changed(&mut random, verdict),
+        ),
+        (
+            halves::CHANGED,
+            *file,
+            halves::changed(&mut random, verdict),
+        ),
+        (halves::ANOTHERS, &another, *verdict),
+    ] {
+        let room = SHORTEST_ROOM + random.pick(&[0, 1, 900]);
+        let (number, ..) = LENDER.reply_to_any(file, &verdict, room, choice as u8);
+        tally.halved(halves::drew(made, number));
     }
 }

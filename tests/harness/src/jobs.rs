@@ -4,8 +4,8 @@ use crate::holds::HOLD_TIME;
 use crate::names::full_lists;
 use crate::random::Random;
 use crate::releases::MOST_RELEASES;
-use crate::{DEFAULT_LEASE, LONGEST_FILE};
-use banshorra_host::{library, ANSWER_ROOM};
+use crate::{DEFAULT_LEASE, LONGEST_FILE, SHORTEST_ROOM};
+use banshorra_host::{library, ANSWER_ROOM, VERDICT_SIZE};
 use builder::*;
 
 const CLOCK: u32 = 1_700_000_000;
@@ -23,6 +23,16 @@ pub enum Work {
     Check,
     /// A list of calls, read once and written once; so many calls.
     Replay(Vec<u8>, usize),
+    /// One call by itself: whole, its first half, its second half.
+    Serve(Call<'static>),
+    Judge(Call<'static>),
+    Reply(Box<Judged>),
+}
+
+/// A verdict as each side has it, of the same call on the same file.
+pub struct Judged {
+    proved: [u8; VERDICT_SIZE],
+    plain: second::Verdict,
 }
 
 /// What the file's last sections have.
@@ -82,16 +92,88 @@ pub enum Side {
 #[no_mangle]
 #[inline(never)]
 pub fn bench_measured(side: Side, job: &Job, file: &mut [u8], answers: &mut [u8]) -> usize {
-    match (side, &job.work) {
-        (Side::Proved, Work::Check) => usize::from(library::check(&job.file)),
-        (Side::Plain, Work::Check) => second::file::read(&job.file).map_or_else(usize::from, |_| 0),
-        (Side::Proved, Work::Replay(calls, _)) => {
-            let (mut length, mut used, mut filled) = (job.file.len(), 0, 0);
-            library::replay(file, &mut length, calls, &mut used, answers, &mut filled);
-            length + used + filled
-        }
-        (Side::Plain, Work::Replay(calls, _)) => plain_replay(file, job.file.len(), calls, answers),
+    match side {
+        Side::Proved => proved(job, file, answers),
+        Side::Plain => plain(job, file, answers),
     }
+}
+
+fn proved(job: &Job, file: &mut [u8], answers: &mut [u8]) -> usize {
+    let (mut length, mut used, mut filled) = (job.file.len(), 0, 0);
+    let number = match &job.work {
+        Work::Check => return usize::from(library::check(&job.file)),
+        Work::Replay(calls, _) => {
+            library::replay(file, &mut length, calls, &mut used, answers, &mut filled)
+        }
+        Work::Serve(call) => {
+            let (datagram, reply) = (&call.datagram, &mut answers[..SHORTEST_ROOM]);
+            let (client, time) = (call.client, call.time);
+            library::serve(
+                file,
+                &mut length,
+                datagram,
+                client,
+                time,
+                reply,
+                &mut filled,
+                &mut used,
+            )
+        }
+        Work::Judge(call) => {
+            let (datagram, mut verdict) = (&call.datagram, [0; VERDICT_SIZE]);
+            let (client, time) = (call.client, call.time);
+            library::judge(file, &mut length, datagram, client, time, &mut verdict)
+        }
+        Work::Reply(judged) => {
+            let (verdict, reply) = (&judged.proved, &mut answers[..SHORTEST_ROOM]);
+            library::reply(&job.file, verdict, reply, &mut filled, &mut used)
+        }
+    };
+    usize::from(number) + length + used + filled
+}
+
+fn plain(job: &Job, file: &mut [u8], answers: &mut [u8]) -> usize {
+    let (length, told) = (job.file.len(), |(outcome, offset, filled): (u8, _, _)| {
+        usize::from(outcome) + offset + filled
+    });
+    let read = second::file::read;
+    match &job.work {
+        Work::Check => read(&job.file).map_or_else(usize::from, |_| 0),
+        Work::Replay(calls, _) => plain_replay(file, length, calls, answers),
+        Work::Serve(call) => plain_call(file, length, |book| {
+            let reply = &mut answers[..SHORTEST_ROOM];
+            told(second::serve(
+                book,
+                &call.datagram,
+                call.client,
+                call.time,
+                reply,
+            ))
+        }),
+        Work::Judge(call) => plain_call(file, length, |book| {
+            match second::judge(book, &call.datagram, call.client, call.time) {
+                second::Verdict::Reply(_) => 0,
+                second::Verdict::Discard(discard) => discard.outcome.into(),
+            }
+        }),
+        Work::Reply(judged) => read(&job.file).map_or_else(usize::from, |book| {
+            let reply = &mut answers[..SHORTEST_ROOM];
+            length + told(second::write(&book, &judged.plain, reply))
+        }),
+    }
+}
+
+/// Reads the file, has a call made on its book, writes the file.
+fn plain_call(
+    file: &mut [u8],
+    length: usize,
+    call: impl FnOnce(&mut second::Book) -> usize,
+) -> usize {
+    let Ok(mut book) = second::file::read(&file[..length]) else {
+        return 0;
+    };
+    let told = call(&mut book);
+    told + second::file::write(&book, file).unwrap_or(0)
 }
 
 /// What `banshorra_replay` does, by the second program: reads the file, applies the list, writes the file.
@@ -119,8 +201,8 @@ fn plain_replay(file: &mut [u8], length: usize, calls: &[u8], answers: &mut [u8]
 impl Job {
     pub fn count(&self) -> usize {
         match self.work {
-            Work::Check => 0,
             Work::Replay(_, count) => count,
+            _ => 0,
         }
     }
 
@@ -620,6 +702,39 @@ impl Bench {
         ]
     }
 
+    /// A DISCOVER that is offered by itself, with the file read and written: whole, and each of its halves.
+    fn one_call(&self) -> Vec<Job> {
+        let (call, file) = (discover(CLOCK), self.campus.octets());
+        let (mut after, mut length) = (vec![0; LONGEST_FILE], file.len());
+        after[..length].copy_from_slice(&file);
+        let mut proved = [0; VERDICT_SIZE];
+        let (datagram, client) = (&call.datagram, call.client);
+        library::judge(
+            &mut after,
+            &mut length,
+            datagram,
+            client,
+            CLOCK,
+            &mut proved,
+        );
+        after.truncate(length);
+        let Ok(mut book) = second::file::read(&file) else {
+            return Vec::new();
+        };
+        let plain = second::judge(&mut book, datagram, client, CLOCK);
+        let judged = Box::new(Judged { proved, plain });
+        let job = |name, work, file| Job {
+            file,
+            due: None,
+            ..self.job(name, work, &[])
+        };
+        vec![
+            job("one call, whole", Work::Serve(call.clone()), file.clone()),
+            job("one call, first half", Work::Judge(call), file),
+            job("one call, second half", Work::Reply(judged), after),
+        ]
+    }
+
     /// A full file, read, and read and written.
     fn whole(&self) -> [Job; 2] {
         [
@@ -629,7 +744,7 @@ impl Bench {
     }
 }
 
-/// Every job: calls in lists of `count`, after an empty list on each file; then whole files and the mixed list. At one number of leases also with a
+/// Every job: calls in lists of `count`, after an empty list on each file; then whole files, one call and its halves, and the mixed list. At one number of leases also with a
 /// full section of names or of releases: what they cost a call, and what they cost one that has nothing to do with them.
 pub fn jobs(count: usize, mixed_count: usize) -> Vec<Job> {
     let bench = |campus, leases, filled| Bench {
@@ -651,6 +766,7 @@ pub fn jobs(count: usize, mixed_count: usize) -> Vec<Job> {
     jobs.extend(bench(full_campus(), 128, Filled::Both).whole());
     jobs.extend(bench(held_campus(), 0, Filled::All).whole());
     let little = bench(campus(FILLED_LEASES), FILLED_LEASES, Filled::Little);
+    jobs.extend(little.one_call());
     jobs.push(little.mixed(mixed_count));
     jobs
 }

@@ -2,7 +2,7 @@
 //! changed, and what was written lies within its room. What isn't so is a panic.
 
 use banshorra_host::library::*;
-use banshorra_host::OCCUPANCY_ROOM;
+use banshorra_host::{OCCUPANCY_ROOM, REPLY_ROOM, VERDICT_SIZE};
 use builder::Call;
 
 /// A buffer that is lent: on the heap, and just as long as the library is told, so that valgrind sees any octet outside; or with so many
@@ -72,6 +72,11 @@ impl Held {
         other
     }
 }
+
+/// A verdict.
+pub type Octets = [u8; VERDICT_SIZE];
+/// Number, offset and reply.
+pub type Written = (u8, usize, Vec<u8>);
 
 /// Lends buffers with so many octets around them.
 #[derive(Clone, Copy)]
@@ -193,6 +198,103 @@ impl Lender {
             call.datagram.len()
         );
         held.see(&stood, number == 2 || number > 8);
+        (number, *offset, reply.part()[..*length].to_vec())
+    }
+
+    /// The first half of a call: its number, and the verdict in octets that were painted with `salt`. A refusal changes nothing.
+    pub fn judge(self, held: &mut Held, call: &Call, salt: u8) -> (u8, Octets) {
+        let (stood, before) = (held.clone(), self.painted(VERDICT_SIZE, salt));
+        let (mut datagram, mut verdict) = (self.copy(&call.datagram), before.clone());
+        // SAFETY: as above.
+        let number = unsafe {
+            banshorra_judge(
+                held.room.at(),
+                held.room(),
+                &mut *held.length,
+                datagram.at(),
+                call.datagram.len(),
+                call.client,
+                call.time,
+                verdict.at(),
+            )
+        };
+        let same = datagram == self.copy(&call.datagram);
+        assert!(same, "judge changed the datagram");
+        let written = if number > 8 { 0 } else { VERDICT_SIZE };
+        assert!(
+            verdict.differs_in_first(written, &before),
+            "judge wrote past its verdict, or with {number}"
+        );
+        let octets: Octets = verdict.part().try_into().expect("a verdict's octets");
+        assert!(
+            number > 8 || octets[0] == number,
+            "judge returned {number} for a verdict of {}",
+            octets[0]
+        );
+        assert!(number != 1 && number != 2, "judge returned {number}");
+        held.see(&stood, number > 8);
+        (number, octets)
+    }
+
+    /// The second half, in a reply room that is painted with `salt`: its number, offset and reply, for a verdict that the first half gave with
+    /// this file.
+    pub fn reply(self, file: &[u8], verdict: &Octets, room: usize, salt: u8) -> Written {
+        let (number, offset, reply) = self.written(file, verdict, (room, salt), |_, length| length);
+        let length = reply.len();
+        assert!(
+            number == 0 || length == 0,
+            "a reply of {length} octets with {number}"
+        );
+        assert!(
+            number == 5 || offset == 0,
+            "an offset of {offset} with {number}"
+        );
+        (number, offset, reply)
+    }
+
+    /// The same for any octets and any file: the outcome and the first 512 octets may be any.
+    pub fn reply_to_any(self, file: &[u8], verdict: &Octets, room: usize, salt: u8) -> Written {
+        let touched = |number, _| match number {
+            0..=8 if room >= REPLY_ROOM => REPLY_ROOM,
+            _ => 0,
+        };
+        self.written(file, verdict, (room, salt), touched)
+    }
+
+    /// What the second half gives, where it touches the first octets of its room alone, so many by number and length.
+    fn written(
+        self,
+        file: &[u8],
+        verdict: &Octets,
+        (room, salt): (usize, u8),
+        touched: impl Fn(u8, usize) -> usize,
+    ) -> Written {
+        let (mut lent, mut told) = (self.copy(file), self.copy(verdict));
+        let before = self.painted(room, salt);
+        let mut reply = before.clone();
+        let (mut length, mut offset) = (Box::new(usize::MAX), Box::new(usize::MAX));
+        // SAFETY: as above.
+        let number = unsafe {
+            banshorra_reply(
+                lent.at(),
+                file.len(),
+                told.at(),
+                reply.at(),
+                room,
+                &mut *length,
+                &mut *offset,
+            )
+        };
+        let same = lent == self.copy(file) && told == self.copy(verdict);
+        assert!(same, "reply changed the file or the verdict");
+        assert!(
+            *length <= room.min(REPLY_ROOM),
+            "a reply of {length} octets in {room}"
+        );
+        assert!(
+            reply.differs_in_first(touched(number, *length), &before),
+            "reply wrote past its reply or the 512th octet, or with {number}"
+        );
         (number, *offset, reply.part()[..*length].to_vec())
     }
 

@@ -11,6 +11,7 @@ pub mod compare;
 pub mod damage;
 pub mod damage_holds;
 pub mod fault;
+pub mod halves;
 pub mod holds;
 pub mod jobs;
 pub mod judged;

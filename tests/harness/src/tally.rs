@@ -3,6 +3,7 @@
 use crate::bounds;
 use crate::damage::DAMAGES;
 use crate::fault::{Cause, CAUSES};
+use crate::halves;
 use crate::judged;
 use crate::names;
 use crate::occupancy;
@@ -82,6 +83,10 @@ fn occupied_for(why: &str) -> String {
     format!("occupancy: {why}")
 }
 
+fn halved_for(why: String) -> String {
+    format!("halves: {why}")
+}
+
 fn fault_name(cause: Cause) -> String {
     format!("discard 5 for: {}", cause.name())
 }
@@ -140,6 +145,11 @@ impl Tally {
         self.add(occupied_for(why));
     }
 
+    /// What was seen of a call in two halves.
+    pub fn halved(&mut self, why: impl Into<String>) {
+        self.add(halved_for(why.into()));
+    }
+
     /// The first fault of a datagram that drew discard 5.
     pub fn fault(&mut self, cause: Cause) {
         self.add(fault_name(cause));
@@ -172,6 +182,7 @@ impl Tally {
         names.extend(bounds::counted().into_iter().map(bounded_for));
         names.extend(judged::counted().into_iter().map(held_for));
         names.extend(occupancy::counted().into_iter().map(occupied_for));
+        names.extend(halves::counted().into_iter().map(halved_for));
         names.extend((0..DAMAGES.len()).map(damage_name));
         names
     }

@@ -1,12 +1,15 @@
 //! What is seen of each call besides what holds of memory (`lent`), without another implementation: that every number is one that banshorra.h
-//! names for that input, that a reply and the file afterwards have their form, that an answer depends on no octet outside of its input, and
-//! that a replay is its single serves. What isn't so is a panic.
+//! names for that input, that a reply and the file afterwards have their form, that an answer depends on no octet outside of its input, that
+//! a serve is its two halves, and that a replay is its single serves. What isn't so is a panic.
 
 use crate::bounds;
+use crate::campus::sound;
 use crate::fault;
+use crate::halves;
 use crate::holds;
-use crate::lent::{Held, Lender};
+use crate::lent::{Held, Lender, Octets};
 use crate::occupancy::Board;
+use crate::random::Random;
 use crate::releases::Past;
 use banshorra_host::{ANSWER_ROOM, BOARD_ROOM, FILE_ROOM, OCCUPANCY_ROOM, REPLY_ROOM};
 use builder::{value_of, Call, Campus, ACK, NAK, OFFER};
@@ -16,11 +19,14 @@ use std::collections::BTreeMap;
 pub const EXACT: Lender = Lender { around: 0 };
 
 /// What a run of some length has to see.
-const SEEN: [(&str, &str); 12] = [
+const SEEN: [(&str, &str); 15] = [
     ("check", "0, 20, 21"),
     ("board", "lines, refused 20, refused 21, no room"),
     ("occupancy", "0, 20, 21, 23"),
     ("serve", "0, 2, 3, 4, 5, 6, 7, 8, 20, 21, 23, 28"),
+    ("judge", "0, 3, 4, 5, 6, 7, 8, 20, 21, 23, 28"),
+    ("reply", "0, 2, 3, 4, 5, 6, 7, 8, 20, 21"),
+    ("made up", "any octets, one field changed, another campus's"),
     ("replay", "0, 20, 21, 23, 24, 27, 28"),
     ("replies", "OFFER, ACK, NAK"),
     ("errors", "0, 1, 2, 3"),
@@ -89,7 +95,7 @@ impl Watch {
         *self.0.entry((what, of.to_string())).or_default() += 1;
     }
 
-    /// A line for each function, for replies, errors, names, releases, bounds, holds, faults; and how many that have to occur never did.
+    /// A line for each function, for made-up verdicts, replies, errors, names, releases, bounds, holds, faults; and how many that have to occur never did.
     pub fn lines(&self) -> (Vec<String>, usize) {
         let (mut lines, mut missing) = (vec![], 0);
         for (what, names) in SEEN {
@@ -326,6 +332,89 @@ impl Watch {
             let same = due.outcome == number && due.reply == reply;
             assert!(same, "another answer to options 14 and 15 is due");
             self.count("bounds", due.short);
+        }
+    }
+
+    /// A call in two halves, and again with other octets outside: what the whole call gives in a room that is large enough. The file stays.
+    pub fn halves(&mut self, held: &Held, call: &Call, random: &mut Random) {
+        let (due, mut judged) = (self.refusal_due(held), held.clone());
+        let (number, verdict) = EXACT.judge(&mut judged, call, 0x3C);
+        self.count("judge", number);
+        let right = match due {
+            0 => number <= 8,
+            _ => number == due,
+        };
+        assert!(right, "judge returned {number}, {due} is due");
+        if due != 0 {
+            return self.refused_reply(held.file(), call.room.into(), random);
+        }
+        let mut other = held.with_other_octets();
+        let again = EXACT.judge(&mut other, call, 0xE7);
+        let same = again == (number, verdict) && other.file() == judged.file();
+        assert!(same, "the verdict or its file depends on octets outside");
+        self.replies(held, &judged, call, &verdict);
+        self.made_up(judged.file(), &verdict, random);
+    }
+
+    /// What is written from a verdict, and what it has to say by that.
+    fn replies(&mut self, before: &Held, judged: &Held, call: &Call, verdict: &Octets) {
+        let (mut whole, mut ample) = (before.clone(), call.clone());
+        ample.room = call.room.max(REPLY_ROOM as u16);
+        let served = EXACT.serve(&mut whole, &ample, 0x3C);
+        let same = whole.length() == judged.length() && whole.file() == judged.file();
+        assert!(same, "the file isn't that of the whole call");
+        let written = EXACT.reply(judged.file(), verdict, ample.room.into(), 0x3C);
+        self.count("reply", written.0);
+        assert!(written == served, "the halves aren't the whole call");
+        let again = EXACT.reply(judged.file(), verdict, ample.room.into(), 0xE7);
+        assert!(again == written, "the reply depends on octets outside");
+        if call.room < ample.room {
+            let short = EXACT.reply(judged.file(), verdict, call.room.into(), 0x3C);
+            self.count("reply", short.0);
+            assert_eq!(short, (2, 0, vec![]), "reply in a short room");
+        }
+        let (outcome, offset, reply) = served;
+        let due = halves::due(&campus(before.file()), call, outcome, offset, &reply);
+        let missed = halves::missed(&due, verdict);
+        assert_eq!(missed, None, "another verdict is due");
+    }
+
+    /// Any verdict with a file that may be refused: the room is tested first, then the file.
+    fn refused_reply(&mut self, file: &[u8], room: usize, random: &mut Random) {
+        let verdict = halves::any_octets(random);
+        let due = match self.check(file) {
+            _ if room < REPLY_ROOM => Some(2),
+            0 => None,
+            refusal => Some(refusal),
+        };
+        let (number, offset, reply) = EXACT.reply_to_any(file, &verdict, room, 0x3C);
+        self.count("reply", number);
+        let right = due.map_or(number <= 8, |due| number == due);
+        assert!(right, "reply returned {number}, {due:?} is due");
+        let nothing = (offset, reply.len()) == (0, 0);
+        assert!(nothing || due.is_none(), "a reply or offset with {number}");
+    }
+
+    /// Verdicts that the first half didn't give, or not with this file: some outcome, within 512 octets.
+    fn made_up(&mut self, file: &[u8], verdict: &Octets, random: &mut Random) {
+        let another = sound(random).octets();
+        for (made, file, verdict) in [
+            (halves::RANDOM, file, halves::any_octets(random)),
+            (halves::CHANGED, file, halves::changed(random, verdict)),
+            (halves::ANOTHERS, &another, *verdict),
+        ] {
+            let room = random.pick(&[
+                0,
+                REPLY_ROOM - 1,
+                REPLY_ROOM,
+                REPLY_ROOM,
+                REPLY_ROOM + 1,
+                900,
+            ]);
+            let (number, ..) = EXACT.reply_to_any(file, &verdict, room, 0x3C);
+            let right = number <= 8 && (number == 2 || room >= REPLY_ROOM);
+            assert!(right, "reply returned {number} in {room} octets");
+            self.count("made up", made);
         }
     }
 

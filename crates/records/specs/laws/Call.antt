@@ -31,23 +31,32 @@ use Rattle.agreement.specs.Agrees.{agreesB}
 use Rattle.agreement.specs.laws.Agrees.{made-agrees}
 use Rattle.names.specs.Names.{namesB}
 use Rattle.releases.specs.Whole.{bookB}
-use Rattle.releases.specs.laws.Whole.{advanced-book, book-named, book-sound}
+use Rattle.releases.specs.laws.Whole.{book-sound}
 use Rattle.releases.specs.declared.ReleaseRules.{ReleaseRules}
 use Rattle.releases.specs.Rules.{brokenMemory, brokenRelease, memoryB, releaseRulesOf}
 use Rattle.soundness.specs.Sound.{soundB, tenantsIn}
 use Rattle.soundness.specs.Parts.{holdingsOf, soundFrom, tableRulesOf}
 use Rattle.soundness.specs.laws.Kept.{advanced-sound}
 use Rattle.soundness.specs.laws.Survey.{held-from, sound-from}
-use Rattle.server.specs.declared.Served.{Served}
-use Rattle.server.specs.Serve.{Call, NamesFor, Serves, ServesTenant, atClock, discarded, serveOf, tenantOf, withReading}
-use Rattle.server.specs.laws.Tests.{call-served, call-short, call-unsound, client-known, client-unknown}
+use Rattle.decision.specs.Parts.{discardWith}
+use Rattle.server.specs.declared.Judged.{Judged}
+use Rattle.server.specs.declared.Outcome.{Outcome}
+use Rattle.server.specs.declared.Ruling.{Ruling}
+use Rattle.server.specs.Serve.{Call, Tells, discarded, serveOf, tenantOf}
+use Rattle.server.specs.Halves.{Judges, JudgesTenant, discardRuling, judgeClock, judgeOf, judgeReading, judgedAt, writeOf}
+use Rattle.server.specs.laws.Halves.{written-discard}
+use Rattle.server.specs.laws.Tests.{call-short, call-unsound, client-known, client-unknown, judge-sound, judge-unsound}
+use Rattle.server.specs.laws.Told.{tells-as}
+use Rattle.server.proofs.Halves.{enough-halves}
 use Rattle.records.specs.declared.Dropped.{Dropped}
+use Rattle.records.specs.declared.JudgedRecords.{JudgedRecords}
 use Rattle.records.specs.declared.Records.{Records}
 use Rattle.records.specs.declared.ServedRecords.{ServedRecords}
 use Rattle.records.specs.declared.Surveyed.{Surveyed}
 use Rattle.records.specs.Records.{Drops, endsAfter, putRow, recordsOf, tableFrom}
-use Rattle.records.specs.Lent.{Gathered, LentAnswer, ServesRecords, bookFrom, lentAnswer, serveWith}
+use Rattle.records.specs.Lent.{Gathered, JudgesRecords, LentAnswer, LentJudgement, ServesRecords, bookFrom, is128, judgeWith, lentAnswer, lentBoth, lentJudgement, serveWith}
 use Rattle.records.specs.laws.Back.{lent-table-back, records-back}
+use Rattle.records.specs.laws.Lent.{lent-clock}
 use Rattle.records.specs.laws.Rows.{Long, clear-idle, drop-idle, put-row-is, sound-laid}
 use Rattle.records.specs.laws.Steps.{off-whole, on-whole}
 use Rattle.records.specs.laws.Table.{table-eight}
@@ -74,9 +83,31 @@ stays k g ls a q e = record {
 discarded-is : (k : ℕ) (g : Ledger) (ls : List Lease) (names : List ℕ) → length ls ≡ 128 → none k g ls ≡ lentAnswer (discarded k (bookFrom g ls names))
 discarded-is k g ls names q = ap (none k g) (sym (records-back ls q))
 
--- the names and the tenant that `on_tenant` asks for
-pub names-for : (g : Ledger) (ls : List Lease) (names : List ℕ) {held : HeldTable} {h n : ℕ} → Gathered g ls names held → n ≡ tenantsIn (g .state) → h < n → NamesFor (g .state) h names
-names-for g ls names w f p = (book-named (bookFrom g ls names) (w .sound), omega arith)
+-- and so as a verdict
+judges-as : {a b : LentJudgement} {r : JudgedRecords} → a ≡ b → JudgesRecords a r → JudgesRecords b r
+judges-as {r = r} e v = subst (λ (z : LentJudgement). JudgesRecords z r) e v
+
+abbrev unjudged : ℕ → Ledger → List Lease → LentJudgement
+unjudged k g ls = record { ruling = discardRuling k 0; ledger = g; leases = ls }
+
+abbrev Dismisses : ℕ → Ledger → Records → JudgedRecords → Type 0
+Dismisses k g m r = r ≡ record { ruling = discardRuling k 0; clock = g .state .clock; memory = g .memory; records = m }
+
+pub dismiss-is : (k : ℕ) (m : Memory) (z : Records) {clock : ℕ} {x : Ruling} → x ≡ discardRuling k 0
+    → _≡_ {A = JudgedRecords} (record { ruling = x; clock = clock; memory = m; records = z }) (record { ruling = discardRuling k 0; clock = clock; memory = m; records = z })
+dismiss-is k m z {clock = clock} e = ap {B = JudgedRecords} (λ (x : Ruling). record { ruling = x; clock = clock; memory = m; records = z }) e
+
+dismissed : (k : ℕ) (g : Ledger) (ls : List Lease) {m : Records} {r : JudgedRecords} → m .leases ≡ ls → length ls ≡ 128 → Dismisses k g m r → JudgesRecords (unjudged k g ls) r
+dismissed k g ls a q e = record {
+  ruling = ap (λ (z : JudgedRecords). z .ruling) e;
+  clock = ap (λ (z : JudgedRecords). z .clock) e;
+  memory = ap (λ (z : JudgedRecords). z .memory) e;
+  leases = ap (λ (z : JudgedRecords). z .records .leases) e ∙ a;
+  long = ap (λ (z : JudgedRecords). length (z .records .leases)) e ∙ ap length a ∙ q;
+}
+
+dismissed-is : (k : ℕ) (g : Ledger) (ls : List Lease) (names : List ℕ) → length ls ≡ 128 → unjudged k g ls ≡ lentJudgement (judgedAt k 0 (bookFrom g ls names))
+dismissed-is k g ls names q = ap (unjudged k g) (sym (records-back ls q))
 
 -- ---- an edit by which nothing leaves, enters, is forgotten or remembered
 or-none : (a b : Bool) → (a || b) ≡ false → (a ≡ false) × (b ≡ false)
@@ -119,40 +150,37 @@ unnoted e h m a b p q = ap₂ {C = Memory} (λ (x : List TenantReleases) (y : Bo
 pub own-releases : (m : Memory) (s : State) (d : TenantReleases) {h n : ℕ} → length (m .releases) ≡ 8 → n ≡ tenantsIn s → h < n → getD (m .releases) h d ≡ releasesAt m h
 own-releases m s d {h} e f p = at-in (m .releases) 8 h d (laidReleases []) e (omega arith)
 
-module _ (g : Ledger) (ls : List Lease) (names : List ℕ) (client : ℕ) (d : List ℕ) (size : length ls ≡ 128) {h n : ℕ} (e : h ≡ tenantOf (g .state) client) (f : n ≡ tenantsIn (g .state)) where
-  pub at-unknown : {m : Records} {x : List ℕ} {r : ServedRecords} → n ≤ h → m .leases ≡ ls → Discards 3 g m r → ServesRecords (lentAnswer (atClock (bookFrom g ls names) client d)) x x r
-  at-unknown p a v = serves-as (discarded-is 3 g ls names size ∙ ap lentAnswer (client-unknown (bookFrom g ls names) client d h n e f p)) (stays 3 g ls a size v)
+module _ (g : Ledger) (ls : List Lease) (client : ℕ) (d : List ℕ) (size : length ls ≡ 128) {h n : ℕ} (e : h ≡ tenantOf (g .state) client) (f : n ≡ tenantsIn (g .state)) where
+  pub at-unknown : {m : Records} {r : JudgedRecords} → n ≤ h → m .leases ≡ ls → Dismisses 3 g m r → (names : List ℕ) → JudgesRecords (lentJudgement (judgeClock (bookFrom g ls names) client d)) r
+  at-unknown p a v names = judges-as (dismissed-is 3 g ls names size ∙ ap lentJudgement (client-unknown (bookFrom g ls names) client d h n e f p)) (dismissed 3 g ls a size v)
 
-  module _ {own : TenantLeases} {q : TenantReleases} {held : HeldTable} {x y : List ℕ} {r : Served} (p : h < n) (w : Gathered g ls names held) (o : own ≡ tenantAt (tableFrom ls) h)
-      (u : q ≡ releasesAt (g .memory) h) (v : ServesTenant (g .state) names own q held h (λ b. withReading b h d (readOf d)) x y r) where
-    served : Serves (withReading (bookFrom g ls names) h d (readOf d)) (bookFrom g ls names) h x y r
-    served = v (tableFrom ls) (g .memory) (record { sound = book-sound (bookFrom g ls names) (w .sound); eight = table-eight ls; known = omega arith; records = o; holdings = w .holdings }) u
-
-    at : withReading (bookFrom g ls names) h d (readOf d) ≡ atClock (bookFrom g ls names) client d
-    at = client-known (bookFrom g ls names) client d h n e f p
+  module _ {own : TenantLeases} {q : TenantReleases} {held : HeldTable} {r : Judged} (p : h < n) (w : Gathered (g .state) ls held) (o : own ≡ tenantAt (tableFrom ls) h)
+      (u : q ≡ releasesAt (g .memory) h) (v : JudgesTenant (g .state) own q held h (λ b. judgeReading b h d (readOf d)) r) where
+    judged : (names : List ℕ) → Judges (judgeReading (bookFrom g ls names) h d (readOf d)) (bookFrom g ls names) h r
+    judged names = v (tableFrom ls) (g .memory) names (record { sound = w .sound; eight = table-eight ls; known = omega arith; records = o; holdings = w .holdings }) u
 
     -- with what the edit leaves
     edits : {m : Memory} {z : Records} → m ≡ noted (r .edit) h (g .memory) → z .leases ≡ recordsOf (applied (r .edit) h (tableFrom ls)) → length (z .leases) ≡ 128
-        → ServesRecords (lentAnswer (atClock (bookFrom g ls names) client d)) x y (record { outcome = r .outcome; clock = g .state .clock; memory = m; records = z })
-    edits a b c = serves-as (ap lentAnswer at) (record {
-      tells = served .tells;
-      clock = sym (ap (λ (z : Book). z .state .clock) (served .book));
-      memory = a ∙ sym (ap (λ (z : Book). z .memory) (served .book));
-      leases = b ∙ sym (ap (λ (z : Book). recordsOf (z .table)) (served .book));
+        → (names : List ℕ) → JudgesRecords (lentJudgement (judgeClock (bookFrom g ls names) client d)) (record { ruling = r .ruling; clock = g .state .clock; memory = m; records = z })
+    edits a b c names = judges-as (ap lentJudgement (client-known (bookFrom g ls names) client d h n e f p)) (record {
+      ruling = judged names .ruling;
+      clock = sym (ap (λ (z : Book). z .state .clock) (judged names .book));
+      memory = a ∙ sym (ap (λ (z : Book). z .memory) (judged names .book));
+      leases = b ∙ sym (ap (λ (z : Book). recordsOf (z .table)) (judged names .book));
       long = c;
     })
 
     pub at-edited : {t : TenantLeases} {i : TenantReleases} {j : Board} {z : Records} → t ≡ editedIn (r .edit) own → (z .leases ≡ putRow ls h (t .leases)) × (length (z .leases) ≡ 128)
         → i ≡ notedIn (r .edit) q → j ≡ boardEdited (r .edit) h (g .memory .board)
-        → ServesRecords (lentAnswer (atClock (bookFrom g ls names) client d)) x y
-        (record { outcome = r .outcome; clock = g .state .clock; memory = record { releases = set (g .memory .releases) h i; board = j }; records = z })
+        → (names : List ℕ) → JudgesRecords (lentJudgement (judgeClock (bookFrom g ls names) client d))
+        (record { ruling = r .ruling; clock = g .state .clock; memory = record { releases = set (g .memory .releases) h i; board = j }; records = z })
     unfolding applied noted
     at-edited {t} a b c k =
         edits (ap₂ {C = Memory} (λ (i : TenantReleases) (j : Board). record { releases = set (g .memory .releases) h i; board = j }) (c ∙ ap (notedIn (r .edit)) u) k)
         (b .0 ∙ put-row-is ls h t size (omega (arith, f, p)) ∙ ap (λ (k : TenantLeases). recordsOf (putAt (tableFrom ls) h k)) (a ∙ ap (editedIn (r .edit)) o)) (b .1)
 
     pub at-same : {z : Records} {t : Bool} → t ≡ (r .edit .leaves || (r .edit .enters || (r .edit .forgets || r .edit .remembers))) → t ≡ false → z .leases ≡ ls
-        → ServesRecords (lentAnswer (atClock (bookFrom g ls names) client d)) x y (record { outcome = r .outcome; clock = g .state .clock; memory = g .memory; records = z })
+        → (names : List ℕ) → JudgesRecords (lentJudgement (judgeClock (bookFrom g ls names) client d)) (record { ruling = r .ruling; clock = g .state .clock; memory = g .memory; records = z })
     at-same a b c =
         let j = or-none (r .edit .leaves) (r .edit .enters || (r .edit .forgets || r .edit .remembers)) (sym a ∙ b) in
         let k = or-none (r .edit .enters) (r .edit .forgets || r .edit .remembers) (j .1) in
@@ -199,8 +227,8 @@ module _ (g : Ledger) (ls : List Lease) (names : List ℕ) (time : ℕ) {s′ : 
     advanced-now : bookFrom (then x) ls′ names ≡ advanced (bookFrom g ls names) time
     advanced-now = advanced-is (bookFrom g ls names) time s′ (tableFrom ls′) x e p o
 
-    advanced-gathered : {held : HeldTable} → bookB (bookFrom g ls names) ≡ true → held ≡ holdingsOf (tableFrom ls′) → Gathered (then x) ls′ names held
-    advanced-gathered q h = record { sound = subst (λ (b : Book). bookB b ≡ true) (sym advanced-now) (advanced-book (bookFrom g ls names) time q); holdings = h }
+    advanced-gathered : {held : HeldTable} → soundB (g .state) (tableFrom ls) ≡ true → held ≡ holdingsOf (tableFrom ls′) → Gathered s′ ls′ held
+    advanced-gathered q h = record { sound = subst (λ (b : Book). soundB (b .state) (b .table) ≡ true) (sym advanced-now) (advanced-sound (bookFrom g ls names) time q); holdings = h }
 
   -- where none ended, the records themselves
   module _ {c : Surveyed} {q : Bool} (size : length ls ≡ 128) (long : All Long ls) (v : Surveys g ls c) (w : q ≡ Tested g names c) (y : q ≡ true) where
@@ -223,8 +251,8 @@ module _ (g : Ledger) (ls : List Lease) (names : List ℕ) (time : ℕ) {s′ : 
       same-board : g .memory .board ≡ cleared (s′ .clock) (tableFrom ls) (g .memory .board)
       same-board = clear-idle (s′ .clock) (tableFrom ls) (g .memory .board) (table-eight ls) lives
 
-      pub idle-gathered : Gathered (then (g .memory .board)) ls names (c .rules .held)
-      idle-gathered = advanced-gathered ls (g .memory .board) same same-board whole (held-from (g .state) (tableFrom ls) (c .rules) (v .0))
+      pub idle-gathered : Gathered s′ ls (c .rules .held)
+      idle-gathered = advanced-gathered ls (g .memory .board) same same-board sound (held-from (g .state) (tableFrom ls) (c .rules) (v .0))
 
       pub idle-book : bookFrom (then (g .memory .board)) ls names ≡ advanced (bookFrom g ls names) time
       idle-book = advanced-now ls (g .memory .board) same same-board
@@ -245,8 +273,8 @@ module _ (g : Ledger) (ls : List Lease) (names : List ℕ) (time : ℕ) {s′ : 
           (ap length (table-back (map (liveOf (s′ .clock)) (leasesOf (tableFrom ls)))) ∙ length-map (leasesOf (tableFrom ls)) (liveOf (s′ .clock)) ∙ length-map (tableFrom ls .tenants) inUse ∙ table-eight ls)
           (ap tableOf (sym (table-back (map (liveOf (s′ .clock)) (leasesOf (tableFrom ls)))))) live
 
-      pub left-gathered : Gathered (then (d .board)) (d .records .leases) names (d .held)
-      left-gathered = advanced-gathered (d .records .leases) (d .board) left (u .board) whole (u .holdings ∙ ap holdingsOf (sym left))
+      pub left-gathered : Gathered s′ (d .records .leases) (d .held)
+      left-gathered = advanced-gathered (d .records .leases) (d .board) left (u .board) sound (u .holdings ∙ ap holdingsOf (sym left))
 
       pub left-book : bookFrom (then (d .board)) (d .records .leases) names ≡ advanced (bookFrom g ls names) time
       left-book = advanced-now (d .records .leases) (d .board) left (u .board)
@@ -262,17 +290,54 @@ module _ (n : ℕ) (g : Ledger) (ls : List Lease) (names : List ℕ) (c : Call) 
   serve-out e a q v = serves-as (off-whole (lentAnswer (serveOf (bookFrom g ls names) c)) (none 1 g ls) e) (stays 1 g ls a q v)
 
   module _ {k : Surveyed} {t : Bool} (e : n ≡ 128) (p : Surveys g ls k) (w : t ≡ Tested g names k) where
-    is-sound : t ≡ bookB (bookFrom g ls names)
-    is-sound = tested g ls names k p w
-
     pub serve-unsound : {m : Records} {x : List ℕ} {r : ServedRecords} → t ≡ false → m .leases ≡ ls → length ls ≡ 128 → Discards 1 g m r → ServesRecords (serveWith n g ls names c) x x r
-    serve-unsound f a q v = serves-as (discarded-is 1 g ls names q ∙ ap lentAnswer (call-unsound (bookFrom g ls names) c (sym is-sound ∙ f)) ∙ on e) (stays 1 g ls a q v)
+    serve-unsound f a q v = serves-as (discarded-is 1 g ls names q ∙ ap lentAnswer (call-unsound (bookFrom g ls names) c (sym (tested g ls names k p w) ∙ f)) ∙ on e) (stays 1 g ls a q v)
 
     pub serve-short : {m : Records} {x : List ℕ} {r : ServedRecords} → t ≡ true → c .room < leastRoom → m .leases ≡ ls → length ls ≡ 128 → Discards 2 g m r
         → ServesRecords (serveWith n g ls names c) x x r
-    serve-short f h a q v = serves-as (discarded-is 2 g ls names q ∙ ap lentAnswer (call-short (bookFrom g ls names) c (sym is-sound ∙ f) h) ∙ on e) (stays 2 g ls a q v)
+    serve-short f h a q v = serves-as (discarded-is 2 g ls names q ∙ ap lentAnswer (call-short (bookFrom g ls names) c (sym (tested g ls names k p w) ∙ f) h) ∙ on e) (stays 2 g ls a q v)
 
-    pub serve-on : {b : Book} {x y : List ℕ} {r : ServedRecords} → t ≡ true → leastRoom ≤ c .room → b ≡ advanced (bookFrom g ls names) (c .time)
-        → ServesRecords (lentAnswer (atClock b (c .client) (c .datagram))) x y r → ServesRecords (serveWith n g ls names c) x y r
-    serve-on f h i v =
-        serves-as (ap (λ (z : Book). lentAnswer (atClock z (c .client) (c .datagram))) i ∙ ap lentAnswer (call-served (bookFrom g ls names) c (sym is-sound ∙ f) h) ∙ on e) v
+-- test 1 of the first half
+module _ (n : ℕ) (g : Ledger) (ls : List Lease) (names : List ℕ) (client time : ℕ) (d : List ℕ) where
+  on-judged : n ≡ 128 → lentJudgement (judgeOf (bookFrom g ls names) client time d) ≡ judgeWith n g ls names client time d
+  unfolding judgeWith
+  on-judged e = on-whole (lentJudgement (judgeOf (bookFrom g ls names) client time d)) (unjudged 1 g ls) e
+
+  pub judge-out : {m : Records} {r : JudgedRecords} → (n ≡ 128 → ⊥) → m .leases ≡ ls → length ls ≡ 128 → Dismisses 1 g m r → JudgesRecords (judgeWith n g ls names client time d) r
+  unfolding judgeWith
+  judge-out e a q v = judges-as (off-whole (lentJudgement (judgeOf (bookFrom g ls names) client time d)) (unjudged 1 g ls) e) (dismissed 1 g ls a q v)
+
+  module _ {k : Surveyed} {t : Bool} (e : n ≡ 128) (p : Surveys g ls k) (w : t ≡ Tested g names k) where
+    pub judge-dismissed : {m : Records} {r : JudgedRecords} → t ≡ false → m .leases ≡ ls → length ls ≡ 128 → Dismisses 1 g m r → JudgesRecords (judgeWith n g ls names client time d) r
+    judge-dismissed f a q v =
+        judges-as (dismissed-is 1 g ls names q ∙ ap lentJudgement (judge-unsound (bookFrom g ls names) client time d (sym (tested g ls names k p w) ∙ f)) ∙ on-judged e) (dismissed 1 g ls a q v)
+
+    pub judge-on : {b : Book} {r : JudgedRecords} → t ≡ true → b ≡ advanced (bookFrom g ls names) time → JudgesRecords (lentJudgement (judgeClock b client d)) r
+        → JudgesRecords (judgeWith n g ls names client time d) r
+    judge-on f i v =
+        judges-as (ap (λ (z : Book). lentJudgement (judgeClock z client d)) i ∙ ap lentJudgement (judge-sound (bookFrom g ls names) client time d (sym (tested g ls names k p w) ∙ f)) ∙ on-judged e) v
+
+-- ---- the call is its two halves
+module _ (n : ℕ) (g : Ledger) (ls : List Lease) (names : List ℕ) (c : Call) (enough : leastRoom ≤ c .room) where
+  abbrev first : LentJudgement
+  first = judgeWith n g ls names (c .client) (c .time) (c .datagram)
+
+  joined : LentJudgement → LentAnswer
+  joined j = lentBoth j (writeOf (j .ruling) (j .ledger .state) names (c .room))
+
+  -- in room enough, on any number of records
+  pub lent-joined : serveWith n g ls names c ≡ lentBoth first (writeOf (first .ruling) (first .ledger .state) names (c .room))
+  unfolding serveWith judgeWith pick joined discardWith
+  lent-joined = go (is128 n)
+    where
+      go : (t : Bool) → pick t (lentAnswer (serveOf (bookFrom g ls names) c)) (none 1 g ls) ≡ joined (pick t (lentJudgement (judgeOf (bookFrom g ls names) (c .client) (c .time) (c .datagram))) (unjudged 1 g ls))
+      go true = ap lentAnswer (enough-halves (bookFrom g ls names) c enough)
+      go false = ap (lentBoth (unjudged 1 g ls)) (written-discard (discardRuling 1 0) (g .state) names (c .room) enough (λ z. omega arith) (omega arith))
+
+  pub serve-joined : {j : JudgedRecords} {s : State} {x y : List ℕ} {o : Outcome} → JudgesRecords first j → s ≡ raised (g .state) (j .clock) → Tells (writeOf (j .ruling) s names (c .room)) x y o
+      → ServesRecords (serveWith n g ls names c) x y (record { outcome = o; clock = j .clock; memory = j .memory; records = j .records })
+  serve-joined v p w =
+      let e = p ∙ ap (raised (g .state)) (v .clock) ∙ sym (lent-clock n g ls names (c .client) (c .time) (c .datagram)) in
+      let t = tells-as (ap₂ (λ (r : Ruling) (s : State). writeOf r s names (c .room)) (v .ruling) e) w in
+      serves-as (sym lent-joined)
+      (record { tells = record { outcome = t .outcome; offset = t .offset; size = t .size; buffer = t .buffer }; clock = v .clock; memory = v .memory; leases = v .leases; long = v .long })

@@ -33,7 +33,15 @@ fn main() -> ExitCode {
         return ExitCode::FAILURE;
     }
     print!("{cases} cases, seeds {first} to {}:", first + cases - 1);
-    for function in ["check", "board", "occupancy", "serve", "replay"] {
+    for function in [
+        "check",
+        "board",
+        "occupancy",
+        "serve",
+        "judge",
+        "reply",
+        "replay",
+    ] {
         print!(" {} {function},", watch.calls(function));
     }
     println!(" 0 errors");
@@ -87,6 +95,7 @@ fn serves(random: &mut Random, watch: &mut Watch, campus: &Campus) {
     let mut held = EXACT.hold(&file, file_room(random), file.len());
     let count = random.between(1, 8);
     for call in any_calls(random, campus, count) {
+        watch.halves(&held, &call, random);
         watch.serve(&mut held, &call);
         watch.occupancy(held.file(), occupancy_room(random));
     }
@@ -119,7 +128,9 @@ fn refusals(random: &mut Random, watch: &mut Watch, campus: &Campus) {
     }
     let mut held = EXACT.hold(&file, space, length);
     if random.chance(60) {
-        watch.serve(&mut held, &any_calls(random, campus, 1)[0]);
+        let calls = any_calls(random, campus, 1);
+        watch.halves(&held, &calls[0], random);
+        watch.serve(&mut held, &calls[0]);
     } else {
         let answers_room = random.pick(&[0, ANSWER_ROOM, 8 * ANSWER_ROOM]);
         watch.replay(&mut held, &any_list(random, campus), answers_room);

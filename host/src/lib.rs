@@ -39,6 +39,7 @@
 #![deny(unsafe_code)]
 #![warn(missing_docs)]
 
+pub mod campus;
 mod campus_file;
 mod fault;
 pub mod lent;
@@ -46,7 +47,11 @@ pub mod lent;
 pub mod library;
 mod numbers;
 mod occupancy;
+pub mod quoted;
 mod records;
+mod rules;
+pub mod text;
+pub mod utc;
 mod verdict;
 
 pub use campus_file::CampusFile;
@@ -55,6 +60,7 @@ pub use lent::Replayed;
 pub use numbers::{Discard, Outcome, Refusal};
 pub use occupancy::Occupancy;
 pub use records::{answers, Answers, Call};
+pub use rules::Broken;
 pub use verdict::{Asked, Given, Ruling, Verdict};
 
 /// The longest campus file, and the least buffer for a file that is served.

@@ -11,6 +11,10 @@
 //! - It neither unwinds nor exits.
 //!
 //! `build.rs` links the library.
+//!
+//! Besides the library one function of libc stands here, `signal`, since std has none of the kind: see [`note_signals`].
+
+use std::sync::atomic::{AtomicI32, Ordering};
 
 use crate::VERDICT_SIZE;
 
@@ -200,5 +204,44 @@ pub fn replay(
             answers.len(),
             answers_filled,
         )
+    }
+}
+
+extern "C" {
+    fn signal(number: i32, handler: usize) -> usize;
+}
+
+/// What `signal` takes for "ignore".
+const IGNORE: usize = 1;
+const HANG_UP: i32 = 1;
+const INTERRUPT: i32 = 2;
+const TERMINATE: i32 = 15;
+const FILE_TOO_LARGE: i32 = 25;
+
+static NOTED: AtomicI32 = AtomicI32::new(0);
+
+extern "C" fn note(number: i32) {
+    NOTED.store(number, Ordering::Relaxed);
+}
+
+/// From now on SIGHUP, SIGINT and SIGTERM don't end the program but are noted, and a write past the limit of a file's size is an error, not the end.
+pub fn note_signals() {
+    // SAFETY: `signal` takes a signal's number and either "ignore" or the address of a function of an int, which `note` is. It does what may be done at
+    // any instant, a store to an atomic number.
+    unsafe {
+        for number in [HANG_UP, INTERRUPT, TERMINATE] {
+            signal(number, note as *const () as usize);
+        }
+        signal(FILE_TOO_LARGE, IGNORE);
+    }
+}
+
+/// The signal that was noted last.
+pub fn noted_signal() -> Option<&'static str> {
+    match NOTED.load(Ordering::Relaxed) {
+        HANG_UP => Some("SIGHUP"),
+        INTERRUPT => Some("SIGINT"),
+        TERMINATE => Some("SIGTERM"),
+        _ => None,
     }
 }

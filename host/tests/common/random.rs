@@ -1,4 +1,5 @@
 //! Numbers from a seed, for tests that have to be the same each time.
+#![allow(dead_code)]
 
 pub struct Random(u64);
 

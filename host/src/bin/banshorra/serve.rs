@@ -1,0 +1,357 @@
+//! The host: datagrams from a socket through the library, and nothing answered from a book that is not on disk.
+
+use crate::args::{Args, Command, Failure};
+use crate::files::{contents, refused};
+use crate::log::{Form, Log, Told};
+use crate::store::Store;
+use banshorra_host::campus::Campus;
+use banshorra_host::library::{note_signals, noted_signal};
+use banshorra_host::{answers, utc, Call, CampusFile, Outcome, ANSWER_ROOM, REPLY_ROOM};
+use std::io::{self, ErrorKind};
+use std::net::{Ipv4Addr, SocketAddr, SocketAddrV4, UdpSocket};
+use std::path::Path;
+use std::time::{Duration, SystemTime, UNIX_EPOCH};
+
+pub const COMMAND: Command = Command {
+    name: "serve",
+    help: "\
+banshorra serve FILE [--listen ADDRESS:PORT] [--group ADDRESS [--interface ADDRESS]] [--quiet] [--json] [--no-flush]
+
+Serves the campus file: MADCAP over UDP. What changes is on disk before anybody hears of it, and the file is whole at every instant: the new one is written
+as FILE.new, flushed, renamed over FILE, and the folder flushed. FILE.lock keeps a second host from it. Each call is a line on standard output.
+It ends cleanly on SIGTERM, SIGINT and SIGHUP; killed, it has lost nothing that it acknowledged.
+
+  --listen ADDRESS:PORT   where to listen; 0.0.0.0:2535 if not given (port 0: any that is free; the first line says which)
+  --group ADDRESS         also hear what is sent to this multicast group, as clients do who look for a server
+  --interface ADDRESS     the own address on the network to join the group on
+  --quiet                 no line for a call; still what the host does and what fails
+  --json                  lines as JSON
+  --no-flush              don't wait for the disk. A power failure may then lose what was acknowledged: for measuring alone
+",
+    flags: &["quiet", "json", "no-flush"],
+    valued: &["listen", "group", "interface"],
+    run: serve,
+};
+
+/// MADCAP's port.
+pub const PORT: u16 = 2535;
+/// As many calls as are answered at once, at most.
+const BATCH: usize = 512;
+/// So much of a datagram is kept. No longer one than 1,472 octets is served, so that more of it would tell nothing.
+const KEPT: usize = 2048;
+/// How long nothing may come before the host looks whether it is to end.
+const LOOK: Duration = Duration::from_millis(200);
+
+/// Now, in whole seconds since 1970.
+pub fn now() -> u32 {
+    let since = SystemTime::now().duration_since(UNIX_EPOCH);
+    since.map_or(0, |since| {
+        u32::try_from(since.as_secs()).unwrap_or(u32::MAX)
+    })
+}
+
+fn serve(args: &Args) -> Result<(), Failure> {
+    let name = args.word("FILE")?;
+    let listen = args.socket("listen", Ipv4Addr::UNSPECIFIED, PORT)?;
+    let (group, interface) = (args.address("group")?, args.address("interface")?);
+    if interface.is_some() && group.is_none() {
+        return args.usage("--interface goes with --group");
+    }
+    let form = match (args.has("quiet"), args.has("json")) {
+        (true, json) => Form::Quiet { json },
+        (false, true) => Form::Json,
+        (false, false) => Form::Words,
+    };
+    let mut store = Store::take(Path::new(name), !args.has("no-flush"))?;
+    let file = store.read()?;
+    let campus = CampusFile::from_bytes(&file).map_err(|refusal| refused(name, &file, refusal))?;
+    let settings =
+        Campus::from_octets(&file).map_err(|fault| Failure::Refused(fault.to_string()))?;
+    let socket = open(listen, group, interface)?;
+    note_signals();
+    let mut host = Host {
+        campus,
+        settings,
+        store,
+        socket,
+        log: Log::new(form),
+        arrived: vec![],
+        calls: vec![],
+        answers: vec![0; BATCH * ANSWER_ROOM],
+        room: vec![0; 65_536],
+        count: Count::default(),
+        was_behind: false,
+    };
+    host.run();
+    Ok(())
+}
+
+fn open(
+    listen: SocketAddrV4,
+    group: Option<Ipv4Addr>,
+    interface: Option<Ipv4Addr>,
+) -> Result<UdpSocket, Failure> {
+    let failed =
+        |what: String| move |error: io::Error| Failure::Machine(format!("{what}: {error}"));
+    let socket = UdpSocket::bind(listen).map_err(failed(format!("listening on {listen}")))?;
+    socket
+        .set_read_timeout(Some(LOOK))
+        .map_err(failed("the socket".to_owned()))?;
+    if let Some(group) = group {
+        if !group.is_multicast() {
+            return Err(Failure::Usage(format!(
+                "--group {group}: no multicast address, which are 224.0.0.0 to 239.255.255.255"
+            )));
+        }
+        let interface = interface.unwrap_or(Ipv4Addr::UNSPECIFIED);
+        let joined = socket.join_multicast_v4(&group, &interface);
+        joined.map_err(failed(format!("joining {group} on {interface}")))?;
+    }
+    Ok(socket)
+}
+
+/// A datagram that waits for its answer.
+struct Arrived {
+    time: u32,
+    from: SocketAddrV4,
+    /// As it came.
+    length: usize,
+    /// Where what is kept of it stands in the list of calls.
+    start: usize,
+    end: usize,
+}
+
+/// What has been done so far.
+#[derive(Default)]
+struct Count {
+    calls: u64,
+    replies: u64,
+    discards: u64,
+    unanswered: u64,
+    lists: u64,
+    writes: u64,
+}
+
+struct Host {
+    campus: CampusFile,
+    /// Server, houses and scopes, which no call changes.
+    settings: Campus,
+    store: Store,
+    socket: UdpSocket,
+    log: Log,
+    arrived: Vec<Arrived>,
+    calls: Vec<u8>,
+    answers: Vec<u8>,
+    room: Vec<u8>,
+    count: Count,
+    /// Whether the machine's clock was behind the book's when last seen.
+    was_behind: bool,
+}
+
+impl Host {
+    fn run(&mut self) {
+        let listens = self.socket.local_addr();
+        let listens = listens.map_or_else(|error| error.to_string(), |listens| listens.to_string());
+        let (path, book) = (
+            self.store.path().display().to_string(),
+            contents(&self.settings),
+        );
+        self.log.event(
+            now(),
+            "listening on",
+            &format!("{listens}, serving {path}: {book}"),
+        );
+        self.look_at_clock(now());
+        let signal = loop {
+            if let Some(signal) = noted_signal() {
+                break signal;
+            }
+            if self.gather() {
+                self.answer();
+            }
+        };
+        let Count {
+            calls,
+            replies,
+            discards,
+            unanswered,
+            lists,
+            writes,
+        } = self.count;
+        let what = format!(
+            "by {signal}; {calls} calls: {replies} answered, {discards} discarded, {unanswered} not answered; {lists} lists, {writes} writes"
+        );
+        self.log.event(now(), "ended", &what);
+    }
+
+    /// Waits for a datagram and takes those that wait behind it; whether there is one.
+    fn gather(&mut self) -> bool {
+        self.arrived.clear();
+        self.calls.clear();
+        if !self.receive() {
+            return false;
+        }
+        if self.socket.set_nonblocking(true).is_ok() {
+            while self.arrived.len() < BATCH && self.receive() {}
+            let _ = self.socket.set_nonblocking(false);
+        }
+        true
+    }
+
+    /// Takes a datagram; false if none came.
+    fn receive(&mut self) -> bool {
+        match self.socket.recv_from(&mut self.room) {
+            Ok((length, SocketAddr::V4(from))) => {
+                let (time, datagram) = (now(), &self.room[..length.min(KEPT)]);
+                let call = Call {
+                    time,
+                    client: *from.ip(),
+                    reply_room: REPLY_ROOM as u16,
+                    datagram,
+                };
+                call.append_to(&mut self.calls);
+                let (end, start) = (self.calls.len(), self.calls.len() - datagram.len());
+                self.arrived.push(Arrived {
+                    time,
+                    from,
+                    length,
+                    start,
+                    end,
+                });
+                true
+            }
+            // An IPv4 socket hears of no others.
+            Ok((_, SocketAddr::V6(_))) => false,
+            Err(error)
+                if matches!(
+                    error.kind(),
+                    ErrorKind::WouldBlock | ErrorKind::TimedOut | ErrorKind::Interrupted
+                ) =>
+            {
+                false
+            }
+            Err(error) => {
+                self.log
+                    .event(now(), "fault", &format!("receiving: {error}"));
+                std::thread::sleep(LOOK);
+                false
+            }
+        }
+    }
+
+    /// Serves what has come as one list, puts the book on disk, and sends the replies. If the disk fails, the old book goes on and nobody is answered.
+    fn answer(&mut self) {
+        let before = self.campus.clone();
+        let replayed = self.campus.replay(&self.calls, &mut self.answers);
+        let filled = &self.answers[..replayed.answers_filled];
+        let outcomes: Vec<Outcome> = answers(filled).collect();
+        let mut fault = None;
+        if let Some(refusal) = replayed.stopped {
+            fault = Some(refusal.to_string());
+        } else if outcomes.iter().any(|outcome| outcome.reply().is_some()) {
+            match self.store.keep(self.campus.as_bytes()) {
+                Ok(written) => self.count.writes += u64::from(written),
+                Err(error) => {
+                    fault = Some(format!("the campus file could not be written: {error}"))
+                }
+            }
+        }
+        if let Some(fault) = &fault {
+            self.campus = before.clone();
+            let path = self.store.path().display().to_string();
+            self.log.event(
+                now(),
+                "fault",
+                &format!(
+                    "{path}: {fault}; {} calls are not answered, the old book goes on",
+                    outcomes.len()
+                ),
+            );
+        }
+        self.count.lists += 1;
+        tell(
+            &mut self.log,
+            &mut self.count,
+            &self.socket,
+            &Answered {
+                settings: &self.settings,
+                before: &before,
+                arrived: &self.arrived,
+                calls: &self.calls,
+                outcomes: &outcomes,
+                fault: fault.as_deref(),
+            },
+        );
+        if let Some(time) = self.arrived.last().map(|last| last.time) {
+            self.look_at_clock(time);
+        }
+    }
+
+    /// Says when the machine's clock falls behind the book's, which then stands until it is reached.
+    fn look_at_clock(&mut self, time: u32) {
+        let clock = clock_of(&self.campus);
+        let is_behind = clock > time.saturating_add(1);
+        if is_behind && !self.was_behind {
+            let (ours, book) = (utc::in_words(time), utc::in_words(clock));
+            let what = format!("the machine's clock says {ours}, the book's {book}: calls count as of the book's until it is reached");
+            self.log.event(time, "clock", &what);
+        }
+        self.was_behind = is_behind;
+    }
+}
+
+/// The clock of a campus file, which stands behind the server's count and address.
+fn clock_of(campus: &CampusFile) -> u32 {
+    let octets = campus.as_bytes();
+    u32::from_be_bytes([5, 6, 7, 8].map(|at| octets[at]))
+}
+
+/// A list of calls and what came of it.
+struct Answered<'a> {
+    settings: &'a Campus,
+    before: &'a CampusFile,
+    arrived: &'a [Arrived],
+    calls: &'a [u8],
+    outcomes: &'a [Outcome<'a>],
+    fault: Option<&'a str>,
+}
+
+/// Sends the replies, then tells the calls.
+fn tell(log: &mut Log, count: &mut Count, socket: &UdpSocket, list: &Answered) {
+    let mut failed = vec![None; list.outcomes.len()];
+    for ((arrived, outcome), failed) in list.arrived.iter().zip(list.outcomes).zip(&mut failed) {
+        count.calls += 1;
+        match (outcome, list.fault) {
+            (Outcome::Discard(_), _) => count.discards += 1,
+            (Outcome::Reply(_), Some(fault)) => *failed = Some(fault.to_owned()),
+            (Outcome::Reply(reply), None) => match socket.send_to(reply, arrived.from) {
+                Ok(_) => count.replies += 1,
+                Err(error) => *failed = Some(format!("it could not be sent: {error}")),
+            },
+        }
+        count.unanswered += u64::from(failed.is_some());
+    }
+    if !log.tells_calls() {
+        return;
+    }
+    // The book before a call is known where the list has one call.
+    let book = match list.arrived {
+        [_] => Campus::from_octets(list.before.as_bytes()).ok(),
+        _ => None,
+    };
+    let mut clock = clock_of(list.before);
+    for ((arrived, outcome), failed) in list.arrived.iter().zip(list.outcomes).zip(&failed) {
+        clock = clock.max(arrived.time);
+        let told = Told {
+            time: arrived.time,
+            clock,
+            from: arrived.from,
+            length: arrived.length,
+            datagram: &list.calls[arrived.start..arrived.end],
+            outcome: *outcome,
+            unsent: failed.as_deref(),
+        };
+        log.call(list.settings, book.as_ref(), &told);
+    }
+    log.flush();
+}

@@ -1,0 +1,465 @@
+//! The host on real sockets of the loopback range: all messages from eight houses at once, resends, faults of disk and clock, and its end.
+
+#[path = "common/random.rs"]
+mod random;
+#[path = "common/running.rs"]
+mod running;
+
+use banshorra_host::message::{
+    Message, ACK, DISCOVER, GETINFO, NAK, OFFER, RELEASE, RENEW, REQUEST,
+};
+use banshorra_host::utc;
+use random::Random;
+use running::*;
+use std::fs;
+use std::net::UdpSocket;
+use std::os::unix::fs::PermissionsExt;
+use std::process::{Command, Stdio};
+use std::thread;
+use std::time::Duration;
+
+/// A house's morning, by one of its clients: every message, and what was not heard sent again. Gives the calls.
+fn morning(client: &Client, house: u8, number: u8) -> usize {
+    let id = [0, house, number];
+    let xid = u32::from_be_bytes([1, house, number, 0]);
+    let scope = in_scope(SCOPE + 256 * u32::from(number % 4));
+    let ask = |datagram: &[u8]| client.ask(datagram);
+    let info = ask(&message(
+        GETINFO,
+        xid,
+        &id,
+        &[(5, vec![0, 9, 0, 11]), (8, b"de".to_vec())],
+    ));
+    assert_eq!(Message(&info).kind(), ACK);
+    assert_eq!(Message(&info).value(9).expect("the scopes")[0], 4);
+    let discover = ask(&message(DISCOVER, xid + 1, &id, &[scope.clone()]));
+    assert_eq!(Message(&discover).kind(), OFFER);
+    let request = message(REQUEST, xid + 2, &id, &[scope.clone()]);
+    let granted = ask(&request);
+    assert_eq!(Message(&granted).kind(), ACK);
+    assert_eq!(Message(&granted).ranges(), Message(&discover).ranges());
+    let again = ask(&request);
+    for code in [1, 4, 6, 10] {
+        assert_eq!(Message(&again).value(code), Message(&granted).value(code));
+    }
+    let other = ask(&message(REQUEST, xid + 3, &id, &[scope]));
+    assert_eq!(Message(&other).error(), Some(1));
+    let renewed = ask(&message(
+        RENEW,
+        xid + 4,
+        &id,
+        &[(1, 7200u32.to_be_bytes().to_vec())],
+    ));
+    assert_eq!(Message(&renewed).number(1), Some(7200));
+    let release = message(RELEASE, xid + 5, &id, &[]);
+    for _ in 0..2 {
+        assert_eq!(Message(&ask(&release)).kind(), ACK);
+    }
+    let gone = ask(&message(RENEW, xid + 6, &id, &[]));
+    assert_eq!(
+        (Message(&gone).kind(), Message(&gone).error()),
+        (NAK, Some(3))
+    );
+    9
+}
+
+#[test]
+fn all_messages_from_eight_houses_at_once() {
+    let folder = Folder::new("houses");
+    let file = folder.campus();
+    let host = Running::start(&file, &[]);
+    let clients = (1..=8).flat_map(|house| (0..3).map(move |number| (house, number)));
+    let clients: Vec<_> = clients
+        .map(|(house, number)| {
+            let client = Client::new(house, host.server);
+            thread::spawn(move || morning(&client, house, number))
+        })
+        .collect();
+    let calls: usize = clients
+        .into_iter()
+        .map(|client| client.join().expect("a good morning"))
+        .sum();
+    let campus = on_disk(&file);
+    assert_eq!((campus.leases.len(), campus.holds.len()), (0, 0));
+    assert_eq!(campus.releases.len(), 24);
+    let (status, log) = host.end();
+    assert!(status.success());
+    let told = log
+        .iter()
+        .filter(|line| line.contains(" house ") && line.contains(" xid 0x"));
+    assert_eq!(told.count(), calls);
+    let last = log.last().expect("a last line");
+    assert!(
+        last.contains(&format!(
+            "ended: by SIGTERM; {calls} calls: {calls} answered, 0 discarded"
+        )),
+        "{last}"
+    );
+}
+
+#[test]
+fn each_call_is_a_line_in_words() {
+    let folder = Folder::new("words");
+    let mut host = Running::start(&folder.campus(), &[]);
+    let client = Client::new(3, host.server);
+    let (start, id) = (now(), b"truck");
+    let reply = client.ask(&message(
+        REQUEST,
+        7,
+        id,
+        &[in_scope(SCOPE), (1, vec![0, 0, 0, 60])],
+    ));
+    let granted = Message(&reply).number(6).expect("a start");
+    assert!((start..start + 20).contains(&granted));
+    let (from, to) = (utc::in_words(granted), utc::in_words(granted + 60));
+    let line = host.line("xid 0x00000007");
+    let words = format!("REQUEST id \"truck\" scope 239.192.1.0 for 60 s xid 0x00000007: ACK 239.192.1.0 from {from} to {to}");
+    assert!(
+        line.contains(" house 3 127.0.3.9:") && line.ends_with(&words),
+        "{line}"
+    );
+    let damaged = message(RELEASE, 8, id, &[(6, vec![0; 3])]);
+    client.send(&damaged);
+    let line = host.line("xid 0x00000008");
+    assert!(
+        line.ends_with(": discard 5 at octet 17, option 6 has length 3, not 4"),
+        "{line}"
+    );
+    client.ask(&message(RENEW, 9, b"other", &[]));
+    let line = host.line("xid 0x00000009");
+    assert!(
+        line.ends_with(": NAK, error 3, house 3 has no lease with that identifier"),
+        "{line}"
+    );
+    Client::new(99, host.server).send(&message(GETINFO, 10, id, &[]));
+    let line = host.line("xid 0x0000000a");
+    assert!(line.contains(" no house 127.0.99.9:"), "{line}");
+    assert!(
+        line.ends_with(": discard 3, the client's address is in no house"),
+        "{line}"
+    );
+    client.send(b"hello");
+    assert!(host
+        .line("5 octets")
+        .ends_with(": discard 4, 5 octets, below 12"));
+}
+
+#[test]
+fn lines_as_json() {
+    let folder = Folder::new("json");
+    let mut host = Running::start(&folder.campus(), &["--json"]);
+    let client = Client::new(1, host.server);
+    client.ask(&message(REQUEST, 7, b"\"\\\x01", &[in_scope(SCOPE)]));
+    let line = host.line("\"xid\":\"0x00000007\"");
+    for part in [
+        "\"house\":1,\"client\":\"127.0.1.9:",
+        "\"asked\":\"REQUEST\"",
+        "\"id\":\"225c01\"",
+        "\"scope\":\"239.192.1.0\",\"outcome\":0,\"answer\":\"ACK\",\"addresses\":\"239.192.1.0\",\"from\":\"2",
+    ] {
+        assert!(line.contains(part), "{line}");
+    }
+    client.send(b"x");
+    let (_, log) = host.end();
+    for line in &log {
+        assert!(
+            line.starts_with("{\"time\":\"2") && line.ends_with('}'),
+            "{line}"
+        );
+        assert_eq!(line.matches('"').count() % 2, 0, "{line}");
+    }
+    assert_eq!(log.len(), 4);
+}
+
+#[test]
+fn quiet_says_only_what_the_host_does() {
+    let folder = Folder::new("quiet");
+    let host = Running::start(&folder.campus(), &["--quiet"]);
+    Client::new(1, host.server).ask(&message(GETINFO, 7, b"id", &[]));
+    let (_, log) = host.end();
+    assert_eq!(log.len(), 2, "{log:#?}");
+}
+
+#[test]
+fn any_octets_of_any_length() {
+    let folder = Folder::new("octets");
+    let file = folder.campus();
+    let host = Running::start(&file, &[]);
+    let (client, stranger) = (
+        Client::new(2, host.server),
+        UdpSocket::bind("127.0.0.1:0").expect("a socket"),
+    );
+    let mut random = Random::new(5);
+    let lengths = (0..1500)
+        .step_by(13)
+        .chain([1471, 1472, 1473, 2047, 2048, 2049, 9000, 65_507]);
+    let lengths: Vec<usize> = lengths.collect();
+    let mut calls = 0;
+    for (length, number) in lengths.iter().zip(1..) {
+        let mut octets: Vec<u8> = (0..*length).map(|_| random.octet()).collect();
+        // Half of them get past the header.
+        if random.one_in(2) && *length > 8 {
+            octets[..4].copy_from_slice(&[0, random.pick(&[1, 3, 4, 7, 8]), 0, 1]);
+        }
+        client.send(&octets);
+        stranger.send_to(&octets, host.server).expect("sent");
+        calls += 2;
+        // Not to overrun the socket's buffer.
+        if number % 10 == 0 {
+            client.ask(&message(GETINFO, number, b"id", &[]));
+            calls += 1;
+        }
+    }
+    client.ask(&message(GETINFO, 0, b"id", &[]));
+    calls += 1;
+    let (status, log) = host.end();
+    assert!(status.success());
+    let last = log.last().expect("a last line");
+    assert!(last.contains(&format!("{calls} calls")), "{last}");
+    on_disk(&file);
+}
+
+#[test]
+fn a_second_host_is_refused() {
+    let folder = Folder::new("second");
+    let file = folder.campus();
+    let mut host = Running::start(&file, &[]);
+    // By another name, too.
+    let link = folder.path("link.bin");
+    std::os::unix::fs::symlink(&file, &link).expect("a link");
+    let text = folder.path("campus.txt");
+    fs::copy(format!("{SAMPLES}loopback.txt"), &text).expect("a text");
+    let name = |path: &std::path::Path| path.to_str().expect("a name").to_owned();
+    for words in [
+        vec![
+            "serve".to_owned(),
+            name(&file),
+            "--listen=127.0.0.1:0".to_owned(),
+        ],
+        vec![
+            "serve".to_owned(),
+            name(&link),
+            "--listen=127.0.0.1:0".to_owned(),
+        ],
+        vec!["file".to_owned(), name(&text), name(&file)],
+    ] {
+        let words: Vec<&str> = words.iter().map(String::as_str).collect();
+        let output = run(&words);
+        let said = String::from_utf8_lossy(&output.stderr).into_owned();
+        assert_eq!(output.status.code(), Some(3), "{said}");
+        let process = host.child.id();
+        assert!(
+            said.contains(&format!(
+                "another host has this campus file (process {process})"
+            )),
+            "{said}"
+        );
+    }
+    // Killed, it leaves no lock behind. What is served by the link stays where it is.
+    host.child.kill().expect("killed");
+    host.child.wait().expect("ended");
+    let host = Running::start(&link, &[]);
+    Client::new(1, host.server).ask(&message(REQUEST, 1, b"id", &[in_scope(SCOPE)]));
+    assert_eq!(on_disk(&file).leases.len(), 1);
+    assert!(fs::symlink_metadata(&link).expect("the link").is_symlink());
+}
+
+#[test]
+fn every_signal_to_end_ends_it() {
+    for name in ["TERM", "INT", "HUP"] {
+        let folder = Folder::new(name);
+        let file = folder.campus();
+        let mut host = Running::start(&file, &[]);
+        Client::new(1, host.server).ask(&message(REQUEST, 1, b"id", &[in_scope(SCOPE)]));
+        host.signal(name);
+        let status = host.child.wait().expect("it ends");
+        assert_eq!(status.code(), Some(0));
+        assert!(host
+            .line("ended")
+            .contains(&format!("by SIG{name}; 1 calls: 1 answered")));
+        assert_eq!(on_disk(&file).leases.len(), 1);
+        assert!(!folder.path("campus.bin.new").exists());
+    }
+}
+
+#[test]
+fn a_folder_that_cannot_be_written() {
+    let folder = Folder::new("unwritable");
+    let file = folder.campus();
+    let mut host = Running::start(&file, &[]);
+    let client = Client::new(1, host.server);
+    client.ask(&message(REQUEST, 1, b"first", &[in_scope(SCOPE)]));
+    let before = fs::read(&file).expect("the file");
+    // What stands in the new file's place can be neither opened nor removed as one.
+    let blocked = folder.path("campus.bin.new");
+    fs::create_dir(&blocked).expect("a folder");
+    client.send(&message(REQUEST, 2, b"second", &[in_scope(SCOPE)]));
+    assert!(host.line("fault").contains("could not be written"));
+    assert!(host
+        .line("xid 0x00000002")
+        .contains("not answered, the campus file could not be written"));
+    assert_eq!(client.hear(Duration::from_millis(200)), None);
+    assert_eq!(fs::read(&file).expect("the file"), before);
+    fs::remove_dir(&blocked).expect("removed");
+    // The old book went on: the call that was not answered has left nothing.
+    let reply = client.ask(&message(RENEW, 3, b"second", &[]));
+    assert_eq!(Message(&reply).error(), Some(3));
+    let reply = client.ask(&message(REQUEST, 2, b"second", &[in_scope(SCOPE)]));
+    assert_eq!(Message(&reply).kind(), ACK);
+    assert_eq!(on_disk(&file).leases.len(), 2);
+}
+
+#[test]
+fn a_full_disk() {
+    let folder = Folder::new("full");
+    let (file, mut campus) = (folder.path("campus.bin"), loopback());
+    for scope in &mut campus.scopes {
+        let names = scope.names[0].clone();
+        scope.names.fill(names);
+    }
+    let before = campus.to_octets();
+    assert!(before.len() > 1024);
+    fs::write(&file, &before).expect("a campus file");
+    // A file may have one block, of 512 or 1,024 octets, as on a disk that has no more.
+    let mut command = Command::new("sh");
+    command
+        .args([
+            "-c",
+            "ulimit -f 1; exec \"$0\" serve \"$1\" --listen 127.0.0.1:0",
+            PROGRAM,
+        ])
+        .arg(&file);
+    let mut host = Running::of(command);
+    let client = Client::new(1, host.server);
+    for xid in 1..4 {
+        client.send(&message(REQUEST, xid, b"id", &[in_scope(SCOPE)]));
+        assert!(host
+            .line("fault")
+            .contains("could not be written: File too large"));
+    }
+    assert_eq!(client.hear(Duration::from_millis(200)), None);
+    client.send(b"hello");
+    host.line("discard 4");
+    let (status, log) = host.end();
+    assert!(status.success());
+    assert!(log
+        .last()
+        .expect("a line")
+        .contains("0 answered, 1 discarded, 3 not answered"));
+    assert_eq!(fs::read(&file).expect("the file"), before);
+    assert!(!folder.path("campus.bin.new").exists());
+}
+
+#[test]
+fn a_clock_set_back() {
+    let folder = Folder::new("clock");
+    let (file, mut campus) = (folder.path("campus.bin"), loopback());
+    campus.clock = now() + 100_000;
+    fs::write(&file, campus.to_octets()).expect("a campus file");
+    let mut host = Running::start(&file, &[]);
+    let line = host.line("clock: ");
+    let clock = utc::in_words(campus.clock);
+    assert!(
+        line.contains(&format!(
+            "the book's {clock}: calls count as of the book's until it is reached"
+        )),
+        "{line}"
+    );
+    let client = Client::new(1, host.server);
+    let reply = client.ask(&message(REQUEST, 1, b"id", &[in_scope(SCOPE)]));
+    assert_eq!(Message(&reply).number(11), Some(campus.clock));
+    assert_eq!(Message(&reply).number(6), Some(campus.clock));
+    assert_eq!(on_disk(&file).clock, campus.clock);
+}
+
+#[test]
+fn a_refused_file() {
+    let folder = Folder::new("refused");
+    let (file, mut campus) = (folder.path("campus.bin"), loopback());
+    campus.scopes[1].ttl = 0;
+    let cases: [(Vec<u8>, &[&str]); 3] = [
+        (
+            campus.to_octets(),
+            &[
+                "refused 21: the campus file is unsound",
+                "rule 5: scope 2 has TTL 0",
+                "Edit the settings",
+            ],
+        ),
+        (
+            vec![1, 2, 3],
+            &[
+                "refused 20: the campus file's form is wrong",
+                "octet 3: the file ends within the server's address",
+            ],
+        ),
+        (
+            vec![1; 40_000],
+            &[
+                "refused 20",
+                "octet 32768: a campus file has at most 32,768 octets",
+            ],
+        ),
+    ];
+    for (octets, words) in cases {
+        fs::write(&file, &octets).expect("a file");
+        let output = run(&[
+            "serve",
+            file.to_str().expect("a name"),
+            "--listen",
+            "127.0.0.1:0",
+        ]);
+        let said = String::from_utf8_lossy(&output.stderr).into_owned();
+        assert_eq!(output.status.code(), Some(1), "{said}");
+        for words in words {
+            assert!(said.contains(words), "{said}");
+        }
+        assert_eq!(fs::read(&file).expect("the file"), octets);
+    }
+    let output = run(&["serve", folder.path("none.bin").to_str().expect("a name")]);
+    assert_eq!(output.status.code(), Some(3));
+    assert!(String::from_utf8_lossy(&output.stderr).contains("No such file"));
+}
+
+#[test]
+fn a_file_keeps_its_mode() {
+    let folder = Folder::new("mode");
+    let file = folder.campus();
+    fs::set_permissions(&file, fs::Permissions::from_mode(0o640)).expect("a mode");
+    let host = Running::start(&file, &[]);
+    Client::new(1, host.server).ask(&message(REQUEST, 1, b"id", &[in_scope(SCOPE)]));
+    let mode = fs::metadata(&file).expect("the file").permissions().mode();
+    assert_eq!(mode & 0o777, 0o640);
+}
+
+#[test]
+fn the_board_while_it_runs() {
+    let folder = Folder::new("watch");
+    let file = folder.campus();
+    let host = Running::start(&file, &[]);
+    let mut command = Command::new(PROGRAM);
+    command
+        .arg("board")
+        .arg(&file)
+        .args(["--watch", "--every", "0.02", "--at-clock"]);
+    let mut watch = command
+        .stdout(Stdio::piped())
+        .spawn()
+        .expect("the board starts");
+    Client::new(5, host.server).ask(&message(
+        REQUEST,
+        1,
+        b"id",
+        &[in_scope(SCOPE), (7, vec![0, 2, 0, 2])],
+    ));
+    let out = std::io::BufReader::new(watch.stdout.take().expect("piped"));
+    let held = std::io::BufRead::lines(out)
+        .map_while(Result::ok)
+        .find(|line| line.ends_with("##====.........."));
+    assert_eq!(
+        held.as_deref(),
+        Some("      5      6     16      2  ##====..........")
+    );
+    watch.kill().expect("killed");
+    watch.wait().expect("ended");
+}

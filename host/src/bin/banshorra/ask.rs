@@ -57,18 +57,11 @@ fn ask(args: &Args) -> Result<(), Failure> {
         }
     };
     let server = args.socket("server", Ipv4Addr::LOCALHOST, PORT)?;
-    let identifier = match args.identifier("id")? {
-        Some(identifier) => identifier,
-        None => {
-            // Type 0, a random number.
-            let identifier = [&[0][..], &random::<16>()?].concat();
-            print(&format!(
-                "the identifier is {}\n",
-                quoted::identifier(&identifier)
-            ))?;
-            identifier
-        }
-    };
+    let given = args.identifier("id")?;
+    let is_given = given.is_some();
+    // Type 0, a random number.
+    let random_one = || Ok([&[0][..], &random::<16>()?].concat());
+    let identifier = given.map_or_else(random_one, Ok)?;
     let xid = args.read_as("xid", "a transaction id in hex", |value| {
         u32::from_str_radix(value.trim_start_matches("0x"), 16).ok()
     })?;
@@ -92,6 +85,10 @@ fn ask(args: &Args) -> Result<(), Failure> {
         tries: args.number("tries")?.unwrap_or(4),
         is_hex: args.has("hex"),
     };
+    if !is_given {
+        let identifier = quoted::identifier(&identifier);
+        print(&format!("the identifier is {identifier}\n"))?;
+    }
     asked.send()
 }
 

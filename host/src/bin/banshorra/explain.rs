@@ -6,9 +6,9 @@ use crate::pcap;
 use crate::print;
 use crate::serve::{now, PORT};
 use crate::store;
-use banshorra_host::campus::Campus;
+use banshorra_host::campus::{Campus, Scope};
 use banshorra_host::message::Message;
-use banshorra_host::{quoted, utc, Bench, CampusFile, Outcome, REPLY_ROOM};
+use banshorra_host::{quoted, utc, Bench, CampusFile, Discard, Outcome, REPLY_ROOM};
 use std::fmt::Write;
 use std::io::Read;
 use std::net::Ipv4Addr;
@@ -95,7 +95,8 @@ fn one(args: &Args, campus: Option<&mut CampusFile>, heard: &Heard) -> String {
     let message = Message(&heard.datagram);
     let mut text = String::new();
     if !args.has("short") {
-        let _ = writeln!(text, "{}{message}", heard.of);
+        let fault = wrong(&heard.datagram).filter(|_| heard.is_call);
+        let _ = writeln!(text, "{}{}", heard.of, pointed(&message, fault));
     }
     if args.has("hex") {
         let _ = writeln!(text, "  octets {}", quoted::hex(&heard.datagram));
@@ -103,8 +104,6 @@ fn one(args: &Args, campus: Option<&mut CampusFile>, heard: &Heard) -> String {
     let Some(campus) = campus.filter(|_| heard.is_call) else {
         if args.has("short") {
             let _ = writeln!(text, "{}{}", heard.of, message.in_short());
-        } else if let Some(fault) = wrong(&heard.datagram).filter(|_| heard.is_call) {
-            let _ = writeln!(text, "  {fault}");
         }
         return text;
     };
@@ -160,31 +159,54 @@ fn short(message: &Message) -> String {
     }
 }
 
-/// What test 4 or 5 finds in a datagram, where no campus is asked: the library serves it on a campus with a house of all addresses.
-fn wrong(datagram: &[u8]) -> Option<String> {
+/// A datagram in words; what tests 4 to 6 find in it stands behind the option that is wrong, or in a line of its own.
+fn pointed(message: &Message, fault: Option<Discard>) -> String {
+    let mut words = message.to_string();
+    let Some(fault) = fault else {
+        return words;
+    };
+    let what = match fault {
+        Discard::Header => format!("discard 4: {}", message.header_fault().unwrap_or_default()),
+        _ => fault.in_words(message.0),
+    };
+    let Discard::Options { offset } = fault else {
+        return format!("{words}\n  {what}");
+    };
+    let start = format!("\n  {offset:>5}  ");
+    match words.find(&start) {
+        Some(at) => {
+            let line = at + 1;
+            let end = words[line..]
+                .find('\n')
+                .map_or(words.len(), |length| line + length);
+            words.insert_str(end, &format!("   <-- {what}"));
+        }
+        None => words += &format!("{start}<-- {what}"),
+    }
+    words
+}
+
+/// What tests 4 to 6 find in a datagram: the library serves it on a campus with one house of all addresses.
+fn wrong(datagram: &[u8]) -> Option<Discard> {
+    let scope = Scope {
+        lowest: 0xE000_0000,
+        size: 1,
+        ttl: 1,
+        parts: vec![(0, 0)],
+        names: vec![vec![]; 2],
+    };
     let every = Campus {
         server: 0,
         clock: 0,
         houses: vec![(0, u32::MAX)],
-        scopes: vec![banshorra_host::campus::Scope {
-            lowest: 0xE000_0000,
-            size: 1,
-            ttl: 1,
-            parts: vec![(0, 0)],
-            names: vec![vec![]; 2],
-        }],
+        scopes: vec![scope],
         leases: vec![],
         releases: vec![],
         holds: vec![],
     };
-    let mut campus = CampusFile::from_bytes(&every.to_octets()).ok()?;
+    let mut campus = CampusFile::from_bytes(&every.to_octets()).expect("a sound campus");
     match campus.serve(datagram, Ipv4Addr::UNSPECIFIED, 0, &mut [0; REPLY_ROOM]) {
-        Outcome::Discard(discard) if discard.number() == 4 => {
-            Some(format!("discard 4: {}", Message(datagram).header_fault()?))
-        }
-        Outcome::Discard(discard) if matches!(discard.number(), 5 | 6) => {
-            Some(discard.in_words(datagram))
-        }
+        Outcome::Discard(discard) if (4..=6).contains(&discard.number()) => Some(discard),
         _ => None,
     }
 }

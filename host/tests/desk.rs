@@ -1,0 +1,641 @@
+//! What the desk runs beside the host: files and texts, datagrams in words, a client, a load; and how each fails.
+
+#[path = "common/running.rs"]
+mod running;
+
+use banshorra_host::campus::Campus;
+use banshorra_host::message::{draft, Message, ACK, RELEASE, REQUEST};
+use banshorra_host::quoted::hex;
+use running::*;
+use std::fs;
+use std::io::{ErrorKind, Write};
+use std::net::UdpSocket;
+use std::process::{Command, Output, Stdio};
+
+/// What it printed, on either way, and its status.
+fn said(output: &Output) -> (String, String, i32) {
+    let text = |octets: &[u8]| String::from_utf8(octets.to_vec()).expect("a text");
+    let status = output.status.code().expect("no signal");
+    (text(&output.stdout), text(&output.stderr), status)
+}
+
+fn sample(name: &str) -> String {
+    format!("{SAMPLES}{name}")
+}
+
+#[test]
+fn help_of_every_command() {
+    let (help, _, status) = said(&run(&["--help"]));
+    assert_eq!(status, 0);
+    let lines = help
+        .lines()
+        .filter_map(|line| line.strip_prefix("  banshorra "));
+    let commands: Vec<&str> = lines
+        .filter_map(|line| line.split(' ').next())
+        .filter(|word| *word != "COMMAND")
+        .collect();
+    assert_eq!(
+        commands,
+        ["serve", "board", "check", "text", "file", "explain", "ask", "load"]
+    );
+    for command in commands {
+        let (help, _, status) = said(&run(&[command, "--help"]));
+        assert_eq!(status, 0);
+        assert!(help.starts_with(&format!("banshorra {command} ")), "{help}");
+    }
+}
+
+#[test]
+fn wrong_usage_is_2_and_says_what_is_wrong() {
+    for (words, what) in [
+        (&["frobnicate"][..], "there is no command `frobnicate`"),
+        (&["serve"], "FILE is missing"),
+        (&["serve", "a", "b"], "`b` is one word too many"),
+        (&["serve", "a", "--listen"], "--listen lacks its value"),
+        (
+            &["serve", "a", "--listen", "here"],
+            "--listen takes an IPv4 address and a port",
+        ),
+        (&["serve", "a", "--quiet=1"], "--quiet takes no value"),
+        (
+            &["serve", "a", "--quiet", "--quiet"],
+            "--quiet is there twice",
+        ),
+        (&["serve", "a", "--loud"], "there is no option --loud"),
+        (
+            &["serve", "a", "--interface", "127.0.0.1"],
+            "--interface goes with --group",
+        ),
+        (&["board", "a", "--every", "1"], "--every goes with --watch"),
+        (&["explain"], "one of HEX"),
+        (&["ask", "beg"], "not `beg`"),
+        (
+            &["ask", "renew", "--start", "tomorrow"],
+            "--start takes a time in UTC",
+        ),
+        (&["load", "a", "b"], "`b` is one word too many"),
+    ] {
+        let (out, error, status) = said(&run(words));
+        assert_eq!((out.as_str(), status), ("", 2), "{error}");
+        assert!(error.contains(what), "{error}");
+    }
+}
+
+#[test]
+fn a_reader_that_goes_is_no_fault() {
+    let (reader, writer) = std::io::pipe().expect("a pipe");
+    drop(reader);
+    let mut command = Command::new(PROGRAM);
+    command
+        .args(["text", &sample("campus.bin")])
+        .stdout(writer)
+        .stderr(Stdio::piped());
+    let (_, error, status) = said(
+        &command
+            .spawn()
+            .and_then(|child| child.wait_with_output())
+            .expect("it runs"),
+    );
+    assert_eq!((error.as_str(), status), ("", 0));
+}
+
+#[test]
+fn files_and_texts() {
+    let folder = Folder::new("desk-files");
+    let (text, file) = (folder.path("campus.txt"), folder.path("campus.bin"));
+    let name = |path: &std::path::Path| path.to_str().expect("a name").to_owned();
+    let (text_name, file_name) = (name(&text), name(&file));
+    let (words, _, status) = said(&run(&["text", &sample("campus.bin")]));
+    assert_eq!(
+        (words.as_bytes(), status),
+        (&fs::read(sample("campus.txt")).expect("a sample")[..], 0)
+    );
+    fs::write(&text, &words).expect("a text");
+    assert_eq!(
+        said(&run(&["file", &text_name, &file_name])),
+        (String::new(), String::new(), 0)
+    );
+    let campus = fs::read(sample("campus.bin")).expect("a sample");
+    assert_eq!(fs::read(&file).expect("a file"), campus);
+    assert_eq!(run(&["file", &text_name]).stdout, campus);
+    let accepted = "accepted; 2 houses, 2 scopes, 1 lease, 1 hold, 1 release; the clock is 2023-11-14T22:13:20Z\n";
+    assert_eq!(
+        said(&run(&["check", &file_name])),
+        (format!("{file_name}: {accepted}"), String::new(), 0)
+    );
+    // An unsound one only where that is wanted; then it can be looked at again.
+    let unsound = words.replace("size 16", "size 3");
+    fs::write(&text, &unsound).expect("a text");
+    let (_, error, status) = said(&run(&["file", &text_name, &file_name]));
+    assert_eq!(status, 1);
+    let rule = "refused 21: the campus file is unsound\n  rule 2: lease 1 (house 2, \"\\x00L1\") has offset 3 in scope 2, whose size is 3\n";
+    assert!(error.contains(rule), "{error}");
+    assert_eq!(fs::read(&file).expect("a file"), campus);
+    assert_eq!(
+        said(&run(&["file", &text_name, &file_name, "--unsound"])).2,
+        0
+    );
+    let (_, error, status) = said(&run(&["check", &file_name]));
+    assert_eq!(status, 1);
+    assert!(error.contains(rule), "{error}");
+    assert_eq!(said(&run(&["text", &file_name])).0, unsound);
+    // A text with a fault.
+    fs::write(&text, words.replace("ttl 31", "tll 31")).expect("a text");
+    let (_, error, status) = said(&run(&["file", &text_name, &file_name]));
+    assert_eq!(
+        (error, status),
+        (
+            format!("{text_name}: line 15, column 32: expected `ttl`, found `tll`\n"),
+            1
+        )
+    );
+}
+
+#[test]
+fn text_from_standard_input() {
+    let mut command = Command::new(PROGRAM);
+    command
+        .args(["file", "-"])
+        .stdin(Stdio::piped())
+        .stdout(Stdio::piped());
+    let mut child = command.spawn().expect("it starts");
+    let text = fs::read(sample("campus.txt")).expect("a sample");
+    child
+        .stdin
+        .take()
+        .expect("piped")
+        .write_all(&text)
+        .expect("written");
+    let output = child.wait_with_output().expect("it ends");
+    assert_eq!(
+        output.stdout,
+        fs::read(sample("campus.bin")).expect("a sample")
+    );
+}
+
+#[test]
+fn the_board() {
+    let (board, _, status) = said(&run(&["board", &sample("campus.bin"), "--at-clock"]));
+    assert_eq!(status, 0);
+    let expected = "\
+Server 10.1.1.1, as of 2023-11-14T22:13:20Z
+
+Scope 1 Small stage: 239.192.0.0-3, TTL 15; 0 of 4 held
+  house  share  limit  holds
+      1      2      3      0  ==.
+      2      1      4      0  =...
+
+Scope 2: 239.192.1.0-15, TTL 31; 4 of 16 held
+  house  share  limit  holds
+      1      4      8      0  ====....
+      2      4     12      4  ####........
+";
+    assert_eq!(board, expected);
+    // Now, the sample's lease has ended long ago.
+    let (board, ..) = said(&run(&["board", &sample("campus.bin")]));
+    assert!(
+        board.contains("Scope 2: 239.192.1.0-15, TTL 31; 0 of 16 held"),
+        "{board}"
+    );
+    let (board, ..) = said(&run(&[
+        "board",
+        &sample("campus.bin"),
+        "--at-clock",
+        "--plain",
+    ]));
+    assert!(
+        board.starts_with("scope house share limit holds\n239.192.0.0 1 2 3 0\n"),
+        "{board}"
+    );
+}
+
+#[test]
+fn datagrams_in_words() {
+    let release = hex(&draft(RELEASE, 0x0102_0304, &[(3, vec![0, 0x41])]));
+    let (words, _, status) = said(&run(&["explain", &release[..10], &release[10..]]));
+    let expected = "RELEASE, transaction 0x01020304, 18 octets\n      8  option 3, Lease Identifier: \"\\x00A\"\n     14  End\n";
+    assert_eq!((words.as_str(), status), (expected, 0));
+    let damaged = hex(&draft(REQUEST, 1, &[(3, vec![0, 0x41]), (6, vec![0; 3])]));
+    let (words, ..) = said(&run(&["explain", &damaged]));
+    assert!(words.contains("\n     14  option 6, Start Time: 000000   <-- discard 5 at octet 14: option 6 has length 3, not 4\n"), "{words}");
+    let (words, ..) = said(&run(&["explain", &hex(&draft(REQUEST, 1, &[]))]));
+    assert!(
+        words.ends_with("\n     12  <-- discard 5 at octet 12: option 3 is missing\n"),
+        "{words}"
+    );
+    let (words, ..) = said(&run(&["explain", "0009"]));
+    assert_eq!(words, "2 octets: 0009\n  discard 4: 2 octets, below 12\n");
+    let (_, error, status) = said(&run(&["explain", "0g"]));
+    assert_eq!(
+        (error.as_str(), status),
+        ("datagram 1: hex digits in pairs are wanted, not `0g`\n", 1)
+    );
+}
+
+#[test]
+fn datagrams_served_on_a_campus() {
+    let request = hex(&draft(
+        REQUEST,
+        1,
+        &[
+            (3, vec![0, 0x41]),
+            in_scope(0xEFC0_0000),
+            (7, vec![0, 4, 0, 4]),
+        ],
+    ));
+    let campus = sample("campus.bin");
+    let words = [
+        "explain",
+        &request,
+        "--campus",
+        &campus,
+        "--from",
+        "10.0.1.7",
+        "--at",
+        "2023-11-14T22:13:21Z",
+    ];
+    let (words, _, status) = said(&run(&words));
+    let why = "  -> NAK, error 0, house 1 holds 0 of its limit 3 in 239.192.0.0; with the shares of the others it can have 3 in that period, below 4\n";
+    assert!(status == 0 && words.contains(why), "{words}");
+}
+
+/// An Ethernet frame with a UDP datagram, as a capture has it at a time.
+fn frame(time: u32, from: ([u8; 4], u16), to: ([u8; 4], u16), payload: &[u8]) -> Vec<u8> {
+    let udp = 8 + payload.len() as u16;
+    let mut ip = vec![0x45, 0];
+    ip.extend((20 + udp).to_be_bytes());
+    ip.extend([0, 0, 0, 0, 64, 17, 0, 0]);
+    ip.extend(from.0);
+    ip.extend(to.0);
+    for number in [from.1, to.1, udp, 0] {
+        ip.extend(number.to_be_bytes());
+    }
+    ip.extend(payload);
+    let mut octets = vec![];
+    for number in [time, 0, 14 + ip.len() as u32, 14 + ip.len() as u32] {
+        octets.extend(number.to_le_bytes());
+    }
+    octets.extend([0; 12]);
+    octets.extend([8, 0]);
+    octets.extend(ip);
+    octets
+}
+
+#[test]
+fn a_capture() {
+    let folder = Folder::new("desk-pcap");
+    let (client, server) = (([10, 0, 1, 7], 40_000), ([10, 1, 1, 1], 2535));
+    let mut capture = vec![0xD4, 0xC3, 0xB2, 0xA1, 2, 0, 4, 0];
+    capture.extend([0; 12]);
+    capture.extend([1, 0, 0, 0]);
+    let request = draft(REQUEST, 5, &[(3, vec![0, 0x41]), in_scope(0xEFC0_0000)]);
+    capture.extend(frame(1_700_000_001, client, server, &request));
+    capture.extend(frame(
+        1_700_000_001,
+        client,
+        ([10, 1, 1, 1], 53),
+        b"no MADCAP",
+    ));
+    capture.extend(frame(
+        1_700_000_002,
+        server,
+        client,
+        &draft(ACK, 5, &[(3, vec![0, 0x41])]),
+    ));
+    let path = folder.path("calls.pcap");
+    fs::write(&path, &capture).expect("a capture");
+    let name = path.to_str().expect("a name");
+    let (words, _, status) = said(&run(&[
+        "explain",
+        "--pcap",
+        name,
+        "--campus",
+        &sample("campus.bin"),
+    ]));
+    assert_eq!(status, 0);
+    let begins = "2023-11-14T22:13:21Z 10.0.1.7:40000 to 10.1.1.1:2535: REQUEST, transaction 0x00000005, 26 octets\n";
+    assert!(words.starts_with(begins), "{words}");
+    assert!(
+        words.contains("  -> ACK 239.192.0.0 from 2023-11-14T22:13:21Z to 2023-11-14T23:13:21Z\n"),
+        "{words}"
+    );
+    assert!(
+        words.contains(
+            "\n2023-11-14T22:13:22Z 10.1.1.1:2535 to 10.0.1.7:40000: ACK, transaction 0x00000005"
+        ),
+        "{words}"
+    );
+    assert!(!words.contains(":53:"), "{words}");
+    for (octets, what) in [
+        (&capture[..20], "fewer than 24 octets"),
+        (&capture[..90], "cut off in the packet at octet 24"),
+        (
+            &b"this is a text and no capture file"[..],
+            "it begins otherwise",
+        ),
+        (
+            &[
+                0x0A, 0x0D, 0x0D, 0x0A, 0, 0, 0, 0, 0, 0, 0, 0, 0, 0, 0, 0, 0, 0, 0, 0, 0, 0, 0, 0,
+            ][..],
+            "editcap",
+        ),
+    ] {
+        fs::write(&path, octets).expect("a capture");
+        let (_, error, status) = said(&run(&["explain", "--pcap", name]));
+        assert!(status == 1 && error.contains(what), "{error}");
+    }
+}
+
+#[test]
+fn a_morning_in_words_and_the_file_afterwards() {
+    let folder = Folder::new("desk-morning");
+    let kept = folder.path("kept.bin");
+    let name = kept.to_str().expect("a name");
+    let (words, _, status) = said(&run(&[
+        "explain",
+        "--calls",
+        &sample("morning.bin"),
+        "--short",
+        "--keep",
+        name,
+    ]));
+    assert_eq!(status, 0);
+    assert!(
+        words
+            .starts_with("2023-11-14T22:13:30Z house 1 GETINFO id \"\\x00A\"\n    ACK, 2 scopes\n"),
+        "{words}"
+    );
+    // `replay` prints the same campus file afterwards, in hex.
+    let printed = fs::read_to_string(sample("morning.out")).expect("a sample");
+    let book = printed
+        .lines()
+        .rev()
+        .find_map(|line| line.strip_prefix("book "))
+        .expect("a book");
+    assert_eq!(hex(&fs::read(&kept).expect("the file")), book);
+    // A line of its own for what each drew, with the discards' numbers.
+    let drawn: Vec<&str> = words
+        .lines()
+        .filter_map(|line| line.strip_prefix("    "))
+        .collect();
+    let outcomes: Vec<&str> = printed
+        .lines()
+        .filter(|line| !line.starts_with("book "))
+        .collect();
+    assert_eq!(drawn.len(), outcomes.len());
+    for (drawn, outcome) in drawn.iter().zip(&outcomes) {
+        let number = outcome.split(' ').next().expect("a number");
+        assert_eq!(
+            drawn.starts_with("discard "),
+            number != "0",
+            "{drawn} {outcome}"
+        );
+        assert!(
+            number == "0" || drawn.starts_with(&format!("discard {number}")),
+            "{drawn} {outcome}"
+        );
+    }
+}
+
+#[test]
+fn a_client_for_the_desk() {
+    let folder = Folder::new("desk-ask");
+    let host = Running::start(&folder.campus(), &["--quiet"]);
+    let server = host.server.to_string();
+    let ask = |words: &[&str]| {
+        let common = ["--server", &server, "--wait", "10", "--tries", "1"];
+        said(&run(&[&["ask"], words, &common].concat()))
+    };
+    let (words, _, status) = ask(&[
+        "discover",
+        "--from",
+        "127.0.2.7",
+        "--id",
+        "truck",
+        "--scope",
+        "239.192.1.0",
+        "--number",
+        "1-3",
+    ]);
+    assert!(
+        status == 0 && words.contains("ms: OFFER, ") && words.contains("Ranges: 239.192.1.0-2\n"),
+        "{words}"
+    );
+    let request = [
+        "request",
+        "--from",
+        "127.0.2.7",
+        "--id",
+        "truck",
+        "--scope",
+        "239.192.1.0",
+        "--xid",
+        "0x77",
+    ];
+    let (words, _, status) = ask(&request);
+    assert!(
+        status == 0 && words.contains("ms: ACK, transaction 0x00000077"),
+        "{words}"
+    );
+    assert_eq!(ask(&request).2, 0);
+    let (words, error, status) = ask(&[
+        "request",
+        "--from",
+        "127.0.2.7",
+        "--id",
+        "truck",
+        "--scope",
+        "239.192.1.0",
+    ]);
+    assert!(
+        words.contains("option 16, Error: 1, the request is invalid"),
+        "{words}"
+    );
+    assert_eq!(
+        (error.as_str(), status),
+        ("refused: error 1, the request is invalid\n", 1)
+    );
+    assert_eq!(
+        ask(&[
+            "renew",
+            "--from",
+            "127.0.2.7",
+            "--id",
+            "0x747275636b",
+            "--lease",
+            "60"
+        ])
+        .2,
+        0
+    );
+    let (words, _, status) = ask(&["getinfo", "--from", "127.0.2.7", "--language", "de"]);
+    assert!(
+        status == 0 && words.contains("\"B\u{fc}hne\" (de)"),
+        "{words}"
+    );
+    assert!(words.starts_with("the identifier is 0x00"), "{words}");
+    assert_eq!(
+        ask(&["release", "--from", "127.0.2.7", "--id", "truck"]).2,
+        0
+    );
+}
+
+#[test]
+fn it_sends_again_what_is_not_answered() {
+    let server = UdpSocket::bind("127.0.0.1:0").expect("a socket");
+    server
+        .set_read_timeout(Some(PATIENCE))
+        .expect("a time limit");
+    let name = server.local_addr().expect("an address").to_string();
+    let mut command = Command::new(PROGRAM);
+    command.args([
+        "ask", "release", "--server", &name, "--id", "truck", "--wait", "0.1", "--tries", "4",
+    ]);
+    let child = command.stdout(Stdio::piped()).spawn().expect("it starts");
+    let (mut room, mut heard) = ([0; 2048], vec![]);
+    for _ in 0..3 {
+        let (length, from) = server.recv_from(&mut room).expect("a message");
+        heard.push((room[..length].to_vec(), from));
+    }
+    assert!(heard.windows(2).all(|two| two[0] == two[1]));
+    let (asked, from) = &heard[0];
+    let xid = Message(asked).transaction().expect("an id");
+    // Only the answer to what was asked counts.
+    server
+        .send_to(&draft(ACK, xid ^ 1, &[(3, b"truck".to_vec())]), from)
+        .expect("sent");
+    server
+        .send_to(&draft(ACK, xid, &[(3, b"other".to_vec())]), from)
+        .expect("sent");
+    server.send_to(b"noise", from).expect("sent");
+    server
+        .send_to(&draft(ACK, xid, &[(3, b"truck".to_vec())]), from)
+        .expect("sent");
+    let (words, _, status) = said(&child.wait_with_output().expect("it ends"));
+    assert_eq!(status, 0);
+    assert_eq!(words.matches("sending it again").count(), 2, "{words}");
+    assert!(
+        words.contains(
+            "no answer within 0.1 s; sending it again\nno answer within 0.2 s; sending it again\n"
+        ),
+        "{words}"
+    );
+    let nobody = [
+        "ask", "discover", "--server", &name, "--id", "truck", "--wait", "0.05", "--tries", "2",
+    ];
+    let (_, error, status) = said(&run(&nobody));
+    assert!(status == 4 && error.contains("no answer from"), "{error}");
+    drop(server);
+}
+
+#[test]
+fn a_host_in_a_group() {
+    let folder = Folder::new("desk-group");
+    let mut command = Command::new(PROGRAM);
+    command.arg("serve").arg(folder.campus());
+    // A client's address of the loopback range can't send to a group on every machine.
+    let probe = UdpSocket::bind("127.0.2.7:0").expect("a socket");
+    if let Err(error) = probe.send_to(b"", "239.255.255.254:9") {
+        assert_eq!(error.kind(), ErrorKind::NetworkUnreachable);
+        println!("not tried: {error}");
+        return;
+    }
+    let free = UdpSocket::bind("0.0.0.0:0")
+        .and_then(|socket| socket.local_addr())
+        .expect("a port")
+        .port();
+    command.args([
+        "--listen",
+        &format!("0.0.0.0:{free}"),
+        "--group",
+        "239.255.255.254",
+        "--interface",
+        "127.0.0.1",
+        "--quiet",
+    ]);
+    let mut child = command.stdout(Stdio::piped()).spawn().expect("it starts");
+    let server = format!("239.255.255.254:{free}");
+    let ask = [
+        "ask",
+        "getinfo",
+        "--server",
+        &server,
+        "--from",
+        "127.0.2.7",
+        "--id",
+        "truck",
+        "--wait",
+        "0.5",
+        "--tries",
+        "6",
+    ];
+    let (words, error, status) = said(&run(&ask));
+    child.kill().expect("killed");
+    child.wait().expect("ended");
+    assert!(
+        status == 0 && words.contains("Multicast Scope List: 239.192.1.0-63"),
+        "{words}{error}"
+    );
+}
+
+#[test]
+fn a_load() {
+    let folder = Folder::new("desk-load");
+    let file = folder.campus();
+    let host = Running::start(&file, &["--quiet"]);
+    let (name, server) = (file.to_str().expect("a name"), host.server.to_string());
+    let words = [
+        "load",
+        name,
+        "--server",
+        &server,
+        "--seconds",
+        "0.5",
+        "--clients",
+        "2",
+        "--mix",
+        "all",
+        "--patience",
+        "20000",
+    ];
+    let (words, error, status) = said(&run(&words));
+    assert_eq!(status, 0, "{error}");
+    let number = |label: &str| {
+        let rest = words.split(label).nth(1).expect(label).trim_start();
+        rest.split(' ')
+            .next()
+            .and_then(|word| word.parse::<u64>().ok())
+            .expect("a number")
+    };
+    assert!(number("exchanges ") > 0, "{words}");
+    assert!(words.contains(" 0 of them NAK, 0 lost\n"), "{words}");
+    let campus = on_disk(&file);
+    assert_eq!((campus.leases.len(), campus.holds.len()), (0, 0));
+    drop(host);
+    let nobody = [
+        "load",
+        name,
+        "--server",
+        &server,
+        "--seconds",
+        "0.05",
+        "--patience",
+        "10",
+    ];
+    assert_eq!(said(&run(&nobody)).2, 4);
+    let foreign = ["load", &sample("campus.bin"), "--seconds", "0.05"];
+    let (_, error, status) = said(&run(&foreign));
+    assert!(
+        status == 3 && error.contains("each house's own addresses"),
+        "{error}"
+    );
+}
+
+#[test]
+fn the_samples_texts_are_sound() {
+    for name in ["campus.txt", "loopback.txt"] {
+        let text = fs::read_to_string(sample(name)).expect("a sample");
+        let campus: Campus = banshorra_host::text::read(&text).expect(name);
+        assert_eq!(banshorra_host::lent::check(&campus.to_octets()), Ok(()));
+    }
+}

@@ -632,6 +632,20 @@ fn a_load() {
 }
 
 #[test]
+fn the_campus_of_the_operators_page_is_sound() {
+    let page = fs::read_to_string(format!("{SAMPLES}../docs/OPERATING.md")).expect("the page");
+    let lines = page
+        .lines()
+        .skip_while(|line| !line.starts_with("    server "));
+    let block: Vec<&str> = lines
+        .take_while(|line| line.is_empty() || line.starts_with("    "))
+        .collect();
+    let campus = banshorra_host::text::read(&block.join("\n")).expect("a campus");
+    assert_eq!((campus.houses.len(), campus.scopes.len()), (2, 1));
+    assert_eq!(banshorra_host::lent::check(&campus.to_octets()), Ok(()));
+}
+
+#[test]
 fn the_samples_texts_are_sound() {
     for name in ["campus.txt", "loopback.txt"] {
         let text = fs::read_to_string(sample(name)).expect("a sample");

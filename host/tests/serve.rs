@@ -13,7 +13,7 @@ use random::Random;
 use running::*;
 use std::fs;
 use std::net::UdpSocket;
-use std::os::unix::fs::PermissionsExt;
+use std::os::unix::fs::{MetadataExt, PermissionsExt};
 use std::process::{Command, Stdio};
 use std::thread;
 use std::time::Duration;
@@ -422,14 +422,22 @@ fn a_refused_file() {
 }
 
 #[test]
-fn a_file_keeps_its_mode() {
+fn a_file_keeps_its_mode_and_owner() {
     let folder = Folder::new("mode");
     let file = folder.campus();
     fs::set_permissions(&file, fs::Permissions::from_mode(0o640)).expect("a mode");
+    // Root may give it away; for everybody else it is their own.
+    let is_given = std::os::unix::fs::chown(&file, Some(65_534), Some(65_534)).is_ok();
+    let before = fs::metadata(&file).expect("the file");
+    assert_eq!(before.uid() == 65_534, is_given);
     let host = Running::start(&file, &[]);
     Client::new(1, host.server).ask(&message(REQUEST, 1, b"id", &[in_scope(SCOPE)]));
-    let mode = fs::metadata(&file).expect("the file").permissions().mode();
-    assert_eq!(mode & 0o777, 0o640);
+    let after = fs::metadata(&file).expect("the file");
+    assert_ne!(after.ino(), before.ino());
+    assert_eq!(
+        (after.mode() & 0o777, after.uid(), after.gid()),
+        (0o640, before.uid(), before.gid())
+    );
 }
 
 #[test]

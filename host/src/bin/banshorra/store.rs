@@ -2,8 +2,9 @@
 
 use crate::args::Failure;
 use banshorra_host::FILE_ROOM;
-use std::fs::{self, File, OpenOptions, Permissions, TryLockError};
+use std::fs::{self, File, Metadata, OpenOptions, TryLockError};
 use std::io::{self, Read, Write};
+use std::os::unix::fs::{fchown, MetadataExt};
 use std::path::{Path, PathBuf};
 
 /// Reads a campus file; of one that is too long only so much that it is refused.
@@ -25,7 +26,8 @@ pub struct Store {
     path: PathBuf,
     new: PathBuf,
     folder: File,
-    mode: Option<Permissions>,
+    /// What the file was at first: whoever writes it, it stays its owner's and as open to others as it was.
+    was: Option<Metadata>,
     flush: bool,
     /// The octets that are known to be on disk.
     on_disk: Option<Vec<u8>>,
@@ -45,13 +47,13 @@ impl Store {
         let parent = path.parent().expect("a file is in a folder");
         let folder = File::open(parent).map_err(|error| failed(parent, error))?;
         let lock = lock(&path)?;
-        let mode = fs::metadata(&path).ok().map(|found| found.permissions());
+        let was = fs::metadata(&path).ok();
         let (new, on_disk) = (with(&path, ".new"), None);
         Ok(Store {
             path,
             new,
             folder,
-            mode,
+            was,
             flush,
             on_disk,
             _lock: lock,
@@ -94,8 +96,13 @@ impl Store {
             other => other,
         }?;
         file.write_all(octets)?;
-        if let Some(mode) = &self.mode {
-            file.set_permissions(mode.clone())?;
+        if let Some(was) = &self.was {
+            let is = file.metadata()?;
+            if (is.uid(), is.gid()) != (was.uid(), was.gid()) {
+                // Only root can, and only root needs to.
+                let _ = fchown(&file, Some(was.uid()), Some(was.gid()));
+            }
+            file.set_permissions(was.permissions())?;
         }
         if self.flush {
             file.sync_all()?;
@@ -141,9 +148,12 @@ fn lock(path: &Path) -> Result<File, Failure> {
     let beside = with(path, ".lock");
     let mut options = OpenOptions::new();
     options.read(true).write(true).create(true).truncate(false);
-    let mut file = options
-        .open(&beside)
-        .map_err(|error| failed(&beside, error))?;
+    let opened = match options.open(&beside) {
+        // One that somebody else made can be locked as well.
+        Err(error) if error.kind() == io::ErrorKind::PermissionDenied => File::open(&beside),
+        other => other,
+    };
+    let mut file = opened.map_err(|error| failed(&beside, error))?;
     match file.try_lock() {
         Ok(()) => {
             let number = format!("{}\n", std::process::id());

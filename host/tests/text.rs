@@ -53,7 +53,7 @@ fn damaged_files() {
     let whole = sample("campus.bin");
     let mut random = Random::new(1);
     let mut seen = [0; 21];
-    for _ in 0..10_000 {
+    for _ in 0..6_000 {
         let mut file = whole.clone();
         for _ in 0..1 + random.below(2) {
             let at = random.below(file.len());
@@ -214,7 +214,7 @@ fn campus(random: &mut Random) -> Campus {
 fn files_of_right_form_break_every_rule() {
     let mut random = Random::new(2);
     let mut seen = [0; 21];
-    for _ in 0..3_000 {
+    for _ in 0..2_000 {
         seen[usize::from(agrees(&campus(&mut random).to_octets()))] += 1;
     }
     assert_eq!(seen[20], 0);

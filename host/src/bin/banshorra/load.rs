@@ -8,6 +8,7 @@ use banshorra_host::campus::{Campus, Scope};
 use banshorra_host::message::{self, Message};
 use banshorra_host::message::{DISCOVER, GETINFO, NAK, RELEASE, RENEW, REQUEST};
 use banshorra_host::CampusFile;
+use std::collections::HashMap;
 use std::net::{Ipv4Addr, SocketAddrV4, UdpSocket};
 use std::thread;
 use std::time::{Duration, Instant};
@@ -19,7 +20,7 @@ banshorra load FILE [--server ADDRESS:PORT] [--houses N] [--clients N] [--mix ex
 
 Puts a server under load from clients of the campus's houses, each sending from an address of its house (so try it with a campus whose houses are ranges of
 127.0.0.0/8, as samples/loopback.txt). FILE is the campus file that it serves; only houses and scopes are read from it. A client in turn sends DISCOVER,
-REQUEST and RELEASE; an exchange is DISCOVER, OFFER, REQUEST, ACK. It says exchanges a second, what went unanswered, and response times.
+REQUEST and RELEASE, and with the RELEASE the next DISCOVER; an exchange is DISCOVER, OFFER, REQUEST, ACK. It says exchanges a second, what went unanswered, and response times.
 
   --server ADDRESS:PORT    the server; 127.0.0.1:2535 if not given
   --houses N               only the first N houses
@@ -153,21 +154,28 @@ fn report(seen: &[Seen], seconds: f64) -> Result<(), Failure> {
     }
 }
 
-/// A client in its turn.
-struct Client {
-    identifier: Vec<u8>,
-    scope: u32,
-    /// The place in the turn of the message that waits for its answer; `None` between turns.
-    at: Option<usize>,
+/// A message that waits for its answer.
+struct Waiting {
+    client: usize,
+    /// Its place in the turn.
+    at: usize,
     datagram: Vec<u8>,
-    sent: Instant,
     first_sent: Instant,
+    sent: Instant,
+}
+
+/// A client: whether it is in a turn, and how many it has begun.
+#[derive(Clone, Default)]
+struct Client {
+    is_busy: bool,
+    turns: u32,
 }
 
 struct House {
     plan: Plan,
     socket: UdpSocket,
     clients: Vec<Client>,
+    waiting: HashMap<u32, Waiting>,
     seen: Seen,
     /// Counts messages, for transaction ids.
     number: u32,
@@ -175,51 +183,42 @@ struct House {
 
 impl House {
     fn new(plan: Plan, socket: UdpSocket) -> House {
-        let client = |number: usize| Client {
-            identifier: format!("\0load-{}-{number}", std::process::id()).into_bytes(),
-            scope: plan.scopes[number % plan.scopes.len()].lowest,
-            at: None,
-            datagram: vec![],
-            sent: Instant::now(),
-            first_sent: Instant::now(),
-        };
-        let clients = (0..plan.clients).map(client).collect();
-        let (seen, number) = (Seen::default(), 0);
         House {
+            clients: vec![Client::default(); plan.clients],
+            waiting: HashMap::new(),
+            seen: Seen::default(),
+            number: 0,
             plan,
             socket,
-            clients,
-            seen,
-            number,
         }
     }
 
     fn run(mut self) -> Seen {
         let began = Instant::now();
-        let (end, last) = (
-            began + self.plan.seconds,
-            began + self.plan.seconds + 2 * self.plan.patience,
-        );
-        let mut next = began;
+        let (end, patience) = (began + self.plan.seconds, self.plan.patience);
+        let (last, mut next, mut looked) = (end + 2 * patience, began, began);
         let _ = self.socket.set_read_timeout(Some(Duration::from_millis(2)));
         loop {
             let now = Instant::now();
             let is_over = now >= end;
-            if is_over && (now >= last || self.clients.iter().all(|client| client.at.is_none())) {
+            if is_over && (now >= last || self.waiting.is_empty()) {
                 return self.seen;
             }
             if !is_over {
                 self.begin(now, &mut next);
             }
             self.hear(is_over);
-            self.resend();
+            if now >= looked + patience / 4 {
+                looked = now;
+                self.resend();
+            }
         }
     }
 
     /// Begins the turns that are due.
     fn begin(&mut self, now: Instant, next: &mut Instant) {
-        for number in 0..self.clients.len() {
-            if self.clients[number].at.is_some() {
+        for client in 0..self.clients.len() {
+            if self.clients[client].is_busy {
                 continue;
             }
             if let Some(pace) = self.plan.pace {
@@ -228,29 +227,42 @@ impl House {
                 }
                 *next += pace;
             }
-            self.send(number, 0);
+            self.clients[client].is_busy = true;
+            self.clients[client].turns += 1;
+            self.send(client, 0);
         }
     }
 
-    fn send(&mut self, number: usize, at: usize) {
+    /// Two identifiers in turn: one is given back while the other is asked for. As clients' random ones do, they differ from the front on.
+    fn identifier(&self, client: usize) -> Vec<u8> {
+        let (process, turn) = (std::process::id(), self.clients[client].turns % 2);
+        format!("\0{client:x}{turn}-load-{process}").into_bytes()
+    }
+
+    fn send(&mut self, client: usize, at: usize) {
         self.number = self.number.wrapping_add(1);
-        let (kind, client) = (self.plan.turn[at], &mut self.clients[number]);
-        let mut options = vec![(3, client.identifier.clone())];
+        let (transaction, kind) = (self.number, self.plan.turn[at]);
+        let scope = &self.plan.scopes[client % self.plan.scopes.len()];
+        let mut options = vec![(3, self.identifier(client))];
         match kind {
-            DISCOVER | REQUEST => options.push((4, client.scope.to_be_bytes().to_vec())),
+            DISCOVER | REQUEST => options.push((4, scope.lowest.to_be_bytes().to_vec())),
             GETINFO => options.push((5, vec![0, 9])),
             _ => {}
         }
-        let transaction = self.number << 8 | number as u32;
-        client.datagram = message::draft(kind, transaction, &options);
-        client.at = Some(at);
-        client.first_sent = Instant::now();
-        client.sent = client.first_sent;
+        let (datagram, now) = (message::draft(kind, transaction, &options), Instant::now());
         self.seen.sent += 1;
         // What could not be sent is as lost as what did not arrive.
-        let _ = self
-            .socket
-            .send_to(&self.clients[number].datagram, self.plan.server);
+        let _ = self.socket.send_to(&datagram, self.plan.server);
+        self.waiting.insert(
+            transaction,
+            Waiting {
+                client,
+                at,
+                datagram,
+                first_sent: now,
+                sent: now,
+            },
+        );
     }
 
     /// Hears what has come, and goes on with the clients that it is for.
@@ -262,36 +274,38 @@ impl House {
                 return;
             };
             let reply = Message(&room[..length]);
-            let Some(number) = reply
+            let answered = reply
                 .transaction()
-                .map(|transaction| (transaction & 255) as usize)
-            else {
-                continue;
-            };
-            let Some(client) = self.clients.get(number) else {
-                continue;
-            };
-            let Some(at) = client
-                .at
-                .filter(|_| Message(&client.datagram).transaction() == reply.transaction())
-            else {
-                continue;
-            };
-            let took = client.first_sent.elapsed().as_micros();
-            self.seen
-                .times
-                .push(u32::try_from(took).unwrap_or(u32::MAX));
-            self.seen.answered += 1;
-            let is_refused = reply.kind() == NAK;
-            self.seen.refused += u64::from(is_refused);
-            self.seen.exchanges +=
-                u64::from(self.plan.turn[at] == REQUEST && !is_refused && !is_over);
-            match at + 1 < self.plan.turn.len() && !is_refused {
-                true => self.send(number, at + 1),
-                false => self.clients[number].at = None,
+                .and_then(|transaction| self.waiting.remove(&transaction));
+            if let Some(asked) = answered {
+                self.go_on(&asked, reply.kind() == NAK, is_over);
             }
-            if self.plan.pace.is_none() && !is_over && self.clients[number].at.is_none() {
-                self.send(number, 0);
+        }
+    }
+
+    /// The next message of a turn. What ends it, the RELEASE, is not waited for: as fast as it goes, the next turn begins with it.
+    fn go_on(&mut self, asked: &Waiting, is_refused: bool, is_over: bool) {
+        let took = asked.first_sent.elapsed().as_micros();
+        self.seen
+            .times
+            .push(u32::try_from(took).unwrap_or(u32::MAX));
+        self.seen.answered += 1;
+        self.seen.refused += u64::from(is_refused);
+        let (client, last) = (asked.client, self.plan.turn.len() - 1);
+        self.seen.exchanges +=
+            u64::from(self.plan.turn[asked.at] == REQUEST && !is_refused && !is_over);
+        if asked.at == last {
+            return;
+        }
+        if !is_refused {
+            self.send(client, asked.at + 1);
+        }
+        if is_refused || asked.at + 1 == last {
+            self.clients[client].is_busy = false;
+            if !is_over && self.plan.pace.is_none() {
+                self.clients[client].is_busy = true;
+                self.clients[client].turns += 1;
+                self.send(client, 0);
             }
         }
     }
@@ -299,12 +313,12 @@ impl House {
     /// Sends again what was not answered in time.
     fn resend(&mut self) {
         let (now, patience) = (Instant::now(), self.plan.patience);
-        for client in &mut self.clients {
-            if client.at.is_some() && now >= client.sent + patience {
-                client.sent = now;
+        for waiting in self.waiting.values_mut() {
+            if now >= waiting.sent + patience {
+                waiting.sent = now;
                 self.seen.lost += 1;
                 self.seen.sent += 1;
-                let _ = self.socket.send_to(&client.datagram, self.plan.server);
+                let _ = self.socket.send_to(&waiting.datagram, self.plan.server);
             }
         }
     }

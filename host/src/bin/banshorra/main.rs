@@ -7,6 +7,7 @@ mod ask;
 mod board;
 mod explain;
 mod files;
+mod inbox;
 mod load;
 mod log;
 mod pcap;

@@ -2,13 +2,14 @@
 
 use crate::args::{Args, Command, Failure};
 use crate::files::{contents, refused};
+use crate::inbox::{self, Arrived, Inbox, List};
 use crate::log::{Form, Log, Told};
 use crate::store::Store;
 use banshorra_host::campus::Campus;
 use banshorra_host::library::{note_signals, noted_signal};
-use banshorra_host::{answers, utc, Call, CampusFile, Outcome, ANSWER_ROOM, REPLY_ROOM};
-use std::io::{self, ErrorKind};
-use std::net::{Ipv4Addr, SocketAddr, SocketAddrV4, UdpSocket};
+use banshorra_host::{answers, utc, CampusFile, Outcome, ANSWER_ROOM};
+use std::io;
+use std::net::{Ipv4Addr, SocketAddrV4, UdpSocket};
 use std::path::Path;
 use std::time::{Duration, SystemTime, UNIX_EPOCH};
 
@@ -35,10 +36,6 @@ It ends cleanly on SIGTERM, SIGINT and SIGHUP; killed, it has lost nothing that 
 
 /// MADCAP's port.
 pub const PORT: u16 = 2535;
-/// As many calls as are answered at once, at most.
-const BATCH: usize = 512;
-/// So much of a datagram is kept. No longer one than 1,472 octets is served, so that more of it would tell nothing.
-const KEPT: usize = 2048;
 /// How long nothing may come before the host looks whether it is to end.
 const LOOK: Duration = Duration::from_millis(200);
 
@@ -68,17 +65,18 @@ fn serve(args: &Args) -> Result<(), Failure> {
     let settings =
         Campus::from_octets(&file).map_err(|fault| Failure::Refused(fault.to_string()))?;
     let socket = open(listen, group, interface)?;
+    let hears = socket.try_clone();
+    let hears = hears.map_err(|error| Failure::Machine(format!("the socket: {error}")))?;
     note_signals();
     let mut host = Host {
         campus,
         settings,
         store,
         socket,
+        inbox: Inbox::open(hears),
         log: Log::new(form),
-        arrived: vec![],
-        calls: vec![],
-        answers: vec![0; BATCH * ANSWER_ROOM],
-        room: vec![0; 65_536],
+        list: List::default(),
+        answers: vec![0; inbox::MOST * ANSWER_ROOM],
         count: Count::default(),
         was_behind: false,
     };
@@ -94,9 +92,6 @@ fn open(
     let failed =
         |what: String| move |error: io::Error| Failure::Machine(format!("{what}: {error}"));
     let socket = UdpSocket::bind(listen).map_err(failed(format!("listening on {listen}")))?;
-    socket
-        .set_read_timeout(Some(LOOK))
-        .map_err(failed("the socket".to_owned()))?;
     if let Some(group) = group {
         if !group.is_multicast() {
             return Err(Failure::Usage(format!(
@@ -108,17 +103,6 @@ fn open(
         joined.map_err(failed(format!("joining {group} on {interface}")))?;
     }
     Ok(socket)
-}
-
-/// A datagram that waits for its answer.
-struct Arrived {
-    time: u32,
-    from: SocketAddrV4,
-    /// As it came.
-    length: usize,
-    /// Where what is kept of it stands in the list of calls.
-    start: usize,
-    end: usize,
 }
 
 /// What has been done so far.
@@ -138,11 +122,10 @@ struct Host {
     settings: Campus,
     store: Store,
     socket: UdpSocket,
+    inbox: Inbox,
     log: Log,
-    arrived: Vec<Arrived>,
-    calls: Vec<u8>,
+    list: List,
     answers: Vec<u8>,
-    room: Vec<u8>,
     count: Count,
     /// Whether the machine's clock was behind the book's when last seen.
     was_behind: bool,
@@ -163,11 +146,11 @@ impl Host {
         );
         self.look_at_clock(now());
         let signal = loop {
+            self.inbox.take(&mut self.list, LOOK);
+            self.answer();
+            // What had come before the signal is answered.
             if let Some(signal) = noted_signal() {
                 break signal;
-            }
-            if self.gather() {
-                self.answer();
             }
         };
         let Count {
@@ -184,65 +167,30 @@ impl Host {
         self.log.event(now(), "ended", &what);
     }
 
-    /// Waits for a datagram and takes those that wait behind it; whether there is one.
-    fn gather(&mut self) -> bool {
-        self.arrived.clear();
-        self.calls.clear();
-        if !self.receive() {
-            return false;
+    /// Answers what has come, and says what went wrong on the way.
+    fn answer(&mut self) {
+        for fault in std::mem::take(&mut self.list.faults) {
+            self.log
+                .event(now(), "fault", &format!("receiving: {fault}"));
         }
-        if self.socket.set_nonblocking(true).is_ok() {
-            while self.arrived.len() < BATCH && self.receive() {}
-            let _ = self.socket.set_nonblocking(false);
+        if self.list.dropped > 0 {
+            let what = format!(
+                "{} datagrams came while {} waited",
+                self.list.dropped,
+                inbox::MOST
+            );
+            self.log.event(now(), "dropped", &what);
         }
-        true
-    }
-
-    /// Takes a datagram; false if none came.
-    fn receive(&mut self) -> bool {
-        match self.socket.recv_from(&mut self.room) {
-            Ok((length, SocketAddr::V4(from))) => {
-                let (time, datagram) = (now(), &self.room[..length.min(KEPT)]);
-                let call = Call {
-                    time,
-                    client: *from.ip(),
-                    reply_room: REPLY_ROOM as u16,
-                    datagram,
-                };
-                call.append_to(&mut self.calls);
-                let (end, start) = (self.calls.len(), self.calls.len() - datagram.len());
-                self.arrived.push(Arrived {
-                    time,
-                    from,
-                    length,
-                    start,
-                    end,
-                });
-                true
-            }
-            // An IPv4 socket hears of no others.
-            Ok((_, SocketAddr::V6(_))) => false,
-            Err(error)
-                if matches!(
-                    error.kind(),
-                    ErrorKind::WouldBlock | ErrorKind::TimedOut | ErrorKind::Interrupted
-                ) =>
-            {
-                false
-            }
-            Err(error) => {
-                self.log
-                    .event(now(), "fault", &format!("receiving: {error}"));
-                std::thread::sleep(LOOK);
-                false
-            }
+        if !self.list.arrived.is_empty() {
+            self.serve();
         }
+        self.list.clear();
     }
 
     /// Serves what has come as one list, puts the book on disk, and sends the replies. If the disk fails, the old book goes on and nobody is answered.
-    fn answer(&mut self) {
+    fn serve(&mut self) {
         let before = self.campus.clone();
-        let replayed = self.campus.replay(&self.calls, &mut self.answers);
+        let replayed = self.campus.replay(&self.list.calls, &mut self.answers);
         let filled = &self.answers[..replayed.answers_filled];
         let outcomes: Vec<Outcome> = answers(filled).collect();
         let mut fault = None;
@@ -276,13 +224,13 @@ impl Host {
             &Answered {
                 settings: &self.settings,
                 before: &before,
-                arrived: &self.arrived,
-                calls: &self.calls,
+                arrived: &self.list.arrived,
+                calls: &self.list.calls,
                 outcomes: &outcomes,
                 fault: fault.as_deref(),
             },
         );
-        if let Some(time) = self.arrived.last().map(|last| last.time) {
+        if let Some(time) = self.list.arrived.last().map(|last| last.time) {
             self.look_at_clock(time);
         }
     }

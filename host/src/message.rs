@@ -1,6 +1,6 @@
 //! MADCAP datagrams in words, option by option. Any octets have words; what is wrong with them is [`Fault`](crate::Fault)'s to say.
 
-use crate::quoted::{hex, identifier, quoted};
+use crate::quoted::{self, hex, identifier, quoted};
 use crate::text::range;
 use crate::utc;
 use std::fmt;
@@ -333,7 +333,10 @@ fn value_in_words(code: u16, value: &[u8]) -> Option<String> {
         }
         8 => Some(quoted(value)),
         9 => scopes(value),
-        10 => (value.len() % 6 == 0).then(|| words_of(&ranges(value))),
+        10 => value
+            .len()
+            .is_multiple_of(6)
+            .then(|| words_of(&ranges(value))),
         12 => features(value),
         16 => {
             let (&[a, b], _) = value.split_first_chunk()?;
@@ -381,10 +384,10 @@ fn scopes(value: &[u8]) -> Option<String> {
         rest = behind;
         for _ in 0..head[9] {
             let (&[_, tag], behind) = rest.split_first_chunk()?;
-            let (tag, behind) = behind.split_at_checked(tag.into())?;
+            let (language, behind) = behind.split_at_checked(tag.into())?;
             let (&length, behind) = behind.split_first()?;
             let (name, behind) = behind.split_at_checked(length.into())?;
-            scope += &format!(" {} ({})", quoted(name), String::from_utf8_lossy(tag));
+            scope += &format!(" {} ({})", quoted(name), quoted::tag(language));
             rest = behind;
         }
         words.push(scope);

@@ -29,6 +29,16 @@ pub fn identifier(octets: &[u8]) -> String {
     format!("0x{}", hex(octets))
 }
 
+/// A language's tag: as it is where it looks like one, else quoted. `0x` begins octets in hex.
+pub fn tag(octets: &[u8]) -> String {
+    let is_bare = |octet: &u8| octet.is_ascii_alphanumeric() || *octet == b'-';
+    let is_word = octets.iter().all(is_bare) && !octets.is_empty() && !octets.starts_with(b"0x");
+    match is_word {
+        true => String::from_utf8_lossy(octets).into_owned(),
+        false => quoted(octets),
+    }
+}
+
 /// Octets in hex, two digits each.
 pub fn hex(octets: &[u8]) -> String {
     octets.iter().map(|octet| format!("{octet:02x}")).collect()
@@ -78,7 +88,7 @@ fn is_readable(character: char) -> bool {
 
 #[cfg(test)]
 mod tests {
-    use super::{from_hex, hex, identifier, quoted};
+    use super::{from_hex, hex, identifier, quoted, tag};
 
     #[test]
     fn texts() {
@@ -97,6 +107,14 @@ mod tests {
         assert_eq!(identifier(b"\0L1"), r#""\x00L1""#);
         assert_eq!(identifier(b"\0\x01\x02"), "0x000102");
         assert_eq!(identifier(b""), r#""""#);
+    }
+
+    #[test]
+    fn tags() {
+        assert_eq!(tag(b"de-CH"), "de-CH");
+        assert_eq!(tag(b"0x12"), "\"0x12\"");
+        assert_eq!(tag(b"\x1b[2J"), r#""\x1b[2J""#);
+        assert_eq!(tag(b""), r#""""#);
     }
 
     #[test]

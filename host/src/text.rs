@@ -22,7 +22,7 @@ mod read;
 pub use read::{read, TextFault};
 
 use crate::campus::{Campus, Lease, Name, Scope};
-use crate::quoted::{identifier, quoted};
+use crate::quoted::{identifier, quoted, tag};
 use crate::utc;
 use std::fmt::Write;
 use std::net::Ipv4Addr;
@@ -102,14 +102,8 @@ fn write_scope(text: &mut String, number: usize, scope: &Scope) {
 }
 
 fn name_words(name: &Name) -> String {
-    let is_bare = |octet: &u8| octet.is_ascii_alphanumeric() || *octet == b'-';
-    // `0x` begins octets in hex.
-    let tag = match name.tag.iter().all(is_bare) && !name.tag.starts_with(b"0x") {
-        true => String::from_utf8_lossy(&name.tag).into_owned(),
-        false => quoted(&name.tag),
-    };
     let default = if name.default { " default" } else { "" };
-    format!("name {tag} {}{default}", quoted(&name.text))
+    format!("name {} {}{default}", tag(&name.tag), quoted(&name.text))
 }
 
 /// What a lease says up to its period, and its addresses.

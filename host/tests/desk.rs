@@ -1,11 +1,14 @@
 //! What the desk runs beside the host: files and texts, datagrams in words, a client, a load; and how each fails.
 
+#[path = "common/random.rs"]
+mod random;
 #[path = "common/running.rs"]
 mod running;
 
 use banshorra_host::campus::Campus;
 use banshorra_host::message::{draft, Message, ACK, RELEASE, REQUEST};
 use banshorra_host::quoted::hex;
+use random::Random;
 use running::*;
 use std::fs;
 use std::io::{ErrorKind, Write};
@@ -180,7 +183,7 @@ fn the_board() {
     let expected = "\
 Server 10.1.1.1, as of 2023-11-14T22:13:20Z
 
-Scope 1 Small stage: 239.192.0.0-3, TTL 15; 0 of 4 held
+Scope 1 \"Small stage\": 239.192.0.0-3, TTL 15; 0 of 4 held
   house  share  limit  holds
       1      2      3      0  ==.
       2      1      4      0  =...
@@ -326,6 +329,18 @@ fn a_capture() {
         "{words}"
     );
     assert!(!words.contains(":53:"), "{words}");
+    // Damaged ones are refused or said in words; none is a fault of the program.
+    let mut random = Random::new(11);
+    for _ in 0..60 {
+        let mut damaged = capture.clone();
+        for _ in 0..1 + random.below(6) {
+            let at = random.below(damaged.len());
+            damaged[at] = random.octet();
+        }
+        fs::write(&path, &damaged).expect("a capture");
+        let (_, error, status) = said(&run(&["explain", "--pcap", name]));
+        assert!(status <= 1, "{error}");
+    }
     for (octets, what) in [
         (&capture[..20], "fewer than 24 octets"),
         (&capture[..90], "cut off in the packet at octet 24"),
@@ -489,7 +504,7 @@ fn it_sends_again_what_is_not_answered() {
     let name = server.local_addr().expect("an address").to_string();
     let mut command = Command::new(PROGRAM);
     command.args([
-        "ask", "release", "--server", &name, "--id", "truck", "--wait", "0.1", "--tries", "4",
+        "ask", "release", "--server", &name, "--id", "truck", "--wait", "0.1", "--tries", "9",
     ]);
     let child = command.stdout(Stdio::piped()).spawn().expect("it starts");
     let (mut room, mut heard) = ([0; 2048], vec![]);
@@ -513,7 +528,6 @@ fn it_sends_again_what_is_not_answered() {
         .expect("sent");
     let (words, _, status) = said(&child.wait_with_output().expect("it ends"));
     assert_eq!(status, 0);
-    assert_eq!(words.matches("sending it again").count(), 2, "{words}");
     assert!(
         words.contains(
             "no answer within 0.1 s; sending it again\nno answer within 0.2 s; sending it again\n"

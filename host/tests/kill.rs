@@ -11,10 +11,10 @@ use random::Random;
 use running::*;
 use std::collections::HashMap;
 use std::net::SocketAddr;
-use std::sync::atomic::{AtomicBool, Ordering};
+use std::sync::atomic::{AtomicBool, AtomicUsize, Ordering};
 use std::sync::Arc;
 use std::thread;
-use std::time::Duration;
+use std::time::{Duration, Instant};
 
 const KILLS: usize = 100;
 
@@ -51,7 +51,7 @@ impl House {
     }
 
     /// Asks for leases, renews and releases them until the server is gone.
-    fn work(&mut self, server: SocketAddr, is_over: &AtomicBool) {
+    fn work(&mut self, server: SocketAddr, is_over: &AtomicBool, heard: &AtomicUsize) {
         let client = Client::new(self.number, server);
         while !is_over.load(Ordering::Relaxed) {
             let datagram = match self.open.take() {
@@ -73,7 +73,10 @@ impl House {
                 }
             };
             match reply {
-                Some(reply) => self.note(&datagram, &reply, id),
+                Some(reply) => {
+                    self.note(&datagram, &reply, id);
+                    heard.fetch_add(1, Ordering::Relaxed);
+                }
                 None => self.open = Some(datagram),
             }
         }
@@ -154,15 +157,21 @@ fn a_hundred_kills() {
         };
         let mut host = Running::start(&file, options);
         let (server, is_over) = (host.server, Arc::new(AtomicBool::new(false)));
+        let heard = Arc::new(AtomicUsize::new(0));
         let working = houses.into_iter().map(|mut house| {
-            let is_over = is_over.clone();
+            let (is_over, heard) = (is_over.clone(), heard.clone());
             thread::spawn(move || {
-                house.work(server, &is_over);
+                house.work(server, &is_over, &heard);
                 house
             })
         });
         let working: Vec<_> = working.collect();
-        thread::sleep(Duration::from_micros(random.below(60_000) as u64));
+        // After some answers and then at any instant, so that a slow machine is killed at work as well.
+        let (answers, late) = (random.below(12), Instant::now() + Duration::from_secs(2));
+        while heard.load(Ordering::Relaxed) < answers && Instant::now() < late {
+            thread::sleep(Duration::from_micros(200));
+        }
+        thread::sleep(Duration::from_micros(random.below(20_000) as u64));
         host.child.kill().expect("killed");
         host.child.wait().expect("ended");
         is_over.store(true, Ordering::Relaxed);

@@ -460,14 +460,14 @@ fn the_board_while_it_runs() {
         b"id",
         &[in_scope(SCOPE), (7, vec![0, 2, 0, 2])],
     ));
-    let out = std::io::BufReader::new(watch.stdout.take().expect("piped"));
-    let held = std::io::BufRead::lines(out)
-        .map_while(Result::ok)
-        .find(|line| line.ends_with("##====.........."));
+    let lines = lines_of(watch.stdout.take().expect("piped"));
+    let shows = |line: &String| line.ends_with("##====..........");
+    let mut lines = std::iter::from_fn(|| lines.recv_timeout(PATIENCE).ok());
+    let held = lines.find(shows);
+    watch.kill().expect("killed");
+    watch.wait().expect("ended");
     assert_eq!(
         held.as_deref(),
         Some("      5      6     16      2  ##====..........")
     );
-    watch.kill().expect("killed");
-    watch.wait().expect("ended");
 }

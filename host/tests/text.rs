@@ -134,7 +134,7 @@ fn name(random: &mut Random) -> Name {
 }
 
 fn scope(random: &mut Random, at: u32, houses: usize) -> Scope {
-    let part = |random: &mut Random| (random.below(4) as u8, 4 + random.below(5) as u8);
+    let part = |random: &mut Random| (random.below(5) as u8, 4 + random.below(5) as u8);
     Scope {
         lowest: if random.one_in(30) { u32::MAX - 3 } else { at },
         size: if random.one_in(30) { random.octet() } else { 8 },
@@ -233,6 +233,38 @@ fn people_may_write_in_any_order() {
     let turned = format!("\t{front}\n  {}   # the end", lines.join("\r\n"));
     assert_ne!(turned, words);
     assert_eq!(text::read(&turned), text::read(&words));
+}
+
+#[test]
+fn damaged_texts_are_told_or_make_a_file_of_right_form() {
+    let words = String::from_utf8(sample("campus.txt")).expect("a text");
+    let whole: Vec<char> = words.chars().collect();
+    let signs: Vec<char> = "\"\\#-+.x0195\n \t:Za\u{fc}\u{0}".chars().collect();
+    let mut random = Random::new(4);
+    let mut read = 0;
+    for _ in 0..4_000 {
+        let mut text = whole.clone();
+        for _ in 0..1 + random.below(2) {
+            let at = random.below(text.len());
+            match random.below(3) {
+                0 => drop(text.remove(at)),
+                1 => text.insert(at, random.pick(&signs)),
+                _ => text[at] = random.pick(&signs),
+            }
+        }
+        let text: String = text.into_iter().collect();
+        match text::read(&text) {
+            Ok(campus) => {
+                assert_eq!(Campus::from_octets(&campus.to_octets()), Ok(campus));
+                read += 1;
+            }
+            Err(fault) => {
+                let line = text.lines().nth(fault.line - 1).unwrap_or("");
+                assert!(fault.column <= line.chars().count() + 1, "{fault}");
+            }
+        }
+    }
+    assert!((400..3_600).contains(&read), "{read} of 4,000 were read");
 }
 
 /// A line of the sample replaced by another: what is said of it.

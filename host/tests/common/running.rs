@@ -5,7 +5,7 @@ use banshorra_host::campus::Campus;
 use banshorra_host::message::{draft, Message};
 use banshorra_host::text;
 use std::fs;
-use std::io::{BufRead, BufReader};
+use std::io::{BufRead, BufReader, Read};
 use std::net::{SocketAddr, UdpSocket};
 use std::path::{Path, PathBuf};
 use std::process::{Child, Command, ExitStatus, Output, Stdio};
@@ -69,6 +69,19 @@ pub fn run(words: &[&str]) -> Output {
         .expect("the program runs")
 }
 
+/// The lines that a program prints, as they come.
+pub fn lines_of(out: impl Read + Send + 'static) -> Receiver<String> {
+    let (send, lines) = mpsc::channel();
+    std::thread::spawn(move || {
+        for line in BufReader::new(out).lines().map_while(Result::ok) {
+            if send.send(line).is_err() {
+                return;
+            }
+        }
+    });
+    lines
+}
+
 /// A host on a campus file, which is killed with the test.
 pub struct Running {
     pub child: Child,
@@ -93,14 +106,7 @@ impl Running {
         command.stdin(Stdio::null()).stdout(Stdio::piped());
         let mut child = command.spawn().expect("the host starts");
         let out = child.stdout.take().expect("piped");
-        let (send, lines) = mpsc::channel();
-        std::thread::spawn(move || {
-            for line in BufReader::new(out).lines().map_while(Result::ok) {
-                if send.send(line).is_err() {
-                    return;
-                }
-            }
-        });
+        let lines = lines_of(out);
         let server = SocketAddr::from(([127, 0, 0, 1], 0));
         let log = vec![];
         let mut host = Running {

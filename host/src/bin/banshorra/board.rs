@@ -5,7 +5,7 @@ use crate::files::{read, refused};
 use crate::print;
 use crate::serve::now;
 use banshorra_host::campus::{Campus, Scope};
-use banshorra_host::{text, utc, CampusFile, Occupancy, REPLY_ROOM};
+use banshorra_host::{quoted, text, utc, CampusFile, Occupancy, REPLY_ROOM};
 use std::fmt::Write;
 use std::io::IsTerminal;
 use std::net::Ipv4Addr;
@@ -96,7 +96,7 @@ fn scope_table(text: &mut String, scope: &Scope, number: u8, occupancy: &Occupan
     );
     let name = scope
         .name()
-        .map(|name| format!(" {}", String::from_utf8_lossy(&name.text)));
+        .map(|name| format!(" {}", quoted::quoted(&name.text)));
     let (name, size, ttl) = (name.unwrap_or_default(), scope.size, scope.ttl);
     let _ = writeln!(
         text,

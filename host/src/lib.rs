@@ -34,6 +34,9 @@
 //!
 //! [`CampusFile::occupancy`] says who has which address, for those who poll it.
 //!
+//! Words for people, which decide nothing: [`campus`] has a file as a value and [`text`] as a text that can be edited, [`Broken`] which rule an unsound one breaks,
+//! [`message`] datagrams option by option, [`Case`] why a call draws what it draws. The program `banshorra` is made of these.
+//!
 //! [`lent`] has the same calls on buffers of the caller's. The numbers are those of documents 01 and 02 and of `include/banshorra.h`.
 
 #![deny(unsafe_code)]
@@ -61,7 +64,7 @@ pub use fault::Fault;
 pub use lent::Replayed;
 pub use numbers::{Discard, Outcome, Refusal};
 pub use occupancy::Occupancy;
-pub use reason::{Bench, Reason};
+pub use reason::{Case, Reason};
 pub use records::{answers, Answers, Call};
 pub use rules::Broken;
 pub use verdict::{Asked, Given, Ruling, Verdict};

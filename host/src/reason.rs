@@ -15,7 +15,7 @@ const RECORDS: usize = 16;
 
 /// What a call is judged by.
 #[derive(Clone, Copy)]
-pub struct Bench<'a> {
+pub struct Case<'a> {
     /// Server, houses and scopes, which no call changes.
     pub settings: &'a Campus,
     /// The book before the call, where it is known.
@@ -35,35 +35,27 @@ pub struct Reason {
     pub what: String,
 }
 
-impl Bench<'_> {
+impl Case<'_> {
     /// Why a datagram draws an outcome; `None` where there is nothing to say beyond the reply.
     pub fn why(&self, datagram: &[u8], outcome: Outcome) -> Option<String> {
         let message = Message(datagram);
+        let words = |words: &str| Some(words.to_owned());
         match outcome {
             Outcome::Reply(reply) if Message(reply).kind() == NAK => {
                 let error = Message(reply).error().unwrap_or(0);
-                let reason = self
-                    .reason(datagram)
-                    .filter(|reason| u16::from(reason.error) == error);
-                let otherwise = || self.otherwise(message.kind(), error).to_owned();
-                Some(reason.map_or_else(otherwise, |reason| reason.what))
+                Some(self.refused(datagram, error))
             }
             Outcome::Reply(_) => self.again(&message),
             Outcome::Discard(Discard::Header) => message.header_fault(),
-            Outcome::Discard(Discard::NoHouse) => {
-                Some("the client's address is in no house".to_owned())
-            }
+            Outcome::Discard(Discard::NoHouse) => words("the client's address is in no house"),
             Outcome::Discard(Discard::Feature) => {
-                Some("it requires a feature, and none is supported".to_owned())
+                words("it requires a feature, and none is supported")
             }
             Outcome::Discard(Discard::OtherServer) => {
                 let server = Ipv4Addr::from(self.settings.server);
                 Some(format!("it is for another server than {server}"))
             }
-            Outcome::Discard(Discard::Error) => Some(match self.reason(datagram) {
-                Some(Reason { error, what }) => format!("error {error}: {what}"),
-                None => self.otherwise(message.kind(), 0).to_owned(),
-            }),
+            Outcome::Discard(Discard::Error) => Some(self.silent(datagram)),
             Outcome::Discard(why) => {
                 let words = why.in_words(datagram);
                 Some(
@@ -75,6 +67,29 @@ impl Bench<'_> {
         }
     }
 
+    /// Why a NAK has its error. Where the cause isn't seen from here, the words for all that are left.
+    fn refused(&self, datagram: &[u8], error: u16) -> String {
+        let reason = self
+            .reason(datagram)
+            .filter(|reason| u16::from(reason.error) == error);
+        let otherwise = match (Message(datagram).kind(), error) {
+            (REQUEST, 0) => "no record is left for the house, or its limit, the others' shares and the period leave too few addresses",
+            (REQUEST, 1) => "the house has a lease with that identifier already",
+            (RENEW, 0) => "the new period overlaps another lease on one of its addresses, or Minimum Lease Time or Maximum Start Time can't be met",
+            _ => error_name(error),
+        };
+        reason.map_or_else(|| otherwise.to_owned(), |reason| reason.what)
+    }
+
+    /// Why a DISCOVER or GETINFO draws an error, which the library doesn't tell: without the book only the first tests of error 1 are sure.
+    fn silent(&self, datagram: &[u8]) -> String {
+        match self.reason(datagram) {
+            Some(Reason { error, what }) if error == 1 || self.book.is_some() => format!("error {error}: {what}"),
+            Some(Reason { what, .. }) => format!("{what}, or the house has that identifier already"),
+            None => "no record is left for the house, or its limit, the others' shares and the period leave too few addresses, or it has that identifier already".to_owned(),
+        }
+    }
+
     /// The first error that a datagram past discard 7 draws, as far as it can be told: without a book nothing is told of leases and holds.
     pub fn reason(&self, datagram: &[u8]) -> Option<Reason> {
         let message = Message(datagram);
@@ -83,18 +98,6 @@ impl Bench<'_> {
             .or_else(|| of(2, self.skewed(&message)))
             .or_else(|| of(3, self.unknown(&message)))
             .or_else(|| of(0, self.not_to_be_met(&message)))
-    }
-
-    /// The words for an error whose cause isn't seen from here.
-    fn otherwise(&self, kind: u8, error: u16) -> &'static str {
-        match (kind, error) {
-            (DISCOVER | REQUEST, 0) => {
-                "no record is left for the house, or its limit, the others' shares or the period leave too few addresses, or it has the identifier already"
-            }
-            (RENEW, 0) => "the new period overlaps another lease on one of its addresses",
-            (DISCOVER | REQUEST, 1) => "the house has a lease with that identifier already",
-            _ => error_name(error),
-        }
     }
 
     fn house(&self) -> u8 {

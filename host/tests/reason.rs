@@ -5,7 +5,7 @@ mod random;
 
 use banshorra_host::campus::Campus;
 use banshorra_host::message;
-use banshorra_host::{Bench, CampusFile, Discard, Outcome, REPLY_ROOM};
+use banshorra_host::{CampusFile, Case, Discard, Outcome, REPLY_ROOM};
 use builder::*;
 use random::Random;
 use std::net::Ipv4Addr;
@@ -27,15 +27,25 @@ fn explained(
     let book = Campus::from_octets(campus.as_bytes()).expect("of right form");
     let mut room = [0; REPLY_ROOM];
     let outcome = campus.serve(datagram, Ipv4Addr::from(client), time, &mut room);
-    let bench = Bench {
+    let case = Case {
         settings: &book,
         book: Some(&book),
         clock: book.clock.max(time),
         client,
     };
-    let why = bench.why(datagram, outcome);
-    let reason = bench.reason(datagram);
+    let why = case.why(datagram, outcome);
+    let reason = case.reason(datagram);
     let what = format!("{why:?} {reason:?} {}", message::Message(datagram));
+    // Without the book less is said, and what is said of error 1 is the same.
+    let blind = Case { book: None, ..case };
+    let guess = blind.reason(datagram);
+    if guess.as_ref().is_some_and(|guess| guess.error == 1) {
+        assert_eq!(guess, reason, "{what}");
+    }
+    assert!(
+        blind.why(datagram, outcome).is_some() || outcome.reply().is_some(),
+        "{what}"
+    );
     match outcome {
         Outcome::Reply(reply) => match message::Message(reply).error() {
             Some(error) => assert_eq!(

@@ -265,6 +265,21 @@ fn a_second_host_is_refused() {
 }
 
 #[test]
+fn a_port_that_is_taken() {
+    let folder = Folder::new("port");
+    let socket = UdpSocket::bind("127.0.0.1:0").expect("a socket");
+    let taken = socket.local_addr().expect("an address").to_string();
+    let file = folder.campus();
+    let output = run(&["serve", file.to_str().expect("a name"), "--listen", &taken]);
+    let said = String::from_utf8_lossy(&output.stderr).into_owned();
+    assert_eq!(output.status.code(), Some(3), "{said}");
+    assert!(
+        said.contains(&format!("listening on {taken}: Address already in use")),
+        "{said}"
+    );
+}
+
+#[test]
 fn every_signal_to_end_ends_it() {
     for name in ["TERM", "INT", "HUP"] {
         let folder = Folder::new(name);

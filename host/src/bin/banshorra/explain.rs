@@ -8,7 +8,7 @@ use crate::serve::{now, PORT};
 use crate::store;
 use banshorra_host::campus::{Campus, Scope};
 use banshorra_host::message::Message;
-use banshorra_host::{quoted, utc, Bench, CampusFile, Discard, Outcome, REPLY_ROOM};
+use banshorra_host::{quoted, utc, CampusFile, Case, Discard, Outcome, REPLY_ROOM};
 use std::fmt::Write;
 use std::io::Read;
 use std::net::Ipv4Addr;
@@ -113,13 +113,13 @@ fn one(args: &Args, campus: Option<&mut CampusFile>, heard: &Heard) -> String {
     let mut room = vec![0; heard.room];
     let outcome = campus.serve(&heard.datagram, heard.client, heard.time, &mut room);
     let client = u32::from(heard.client);
-    let bench = Bench {
+    let case = Case {
         settings: &book,
         book: Some(&book),
         clock: book.clock.max(heard.time),
         client,
     };
-    let why = bench.why(&heard.datagram, outcome);
+    let why = case.why(&heard.datagram, outcome);
     let came = match outcome {
         Outcome::Reply(reply) => Message(reply).reply_in_short(),
         Outcome::Discard(discard) if discard.number() == 5 => {

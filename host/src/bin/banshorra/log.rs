@@ -2,7 +2,7 @@
 
 use banshorra_host::campus::Campus;
 use banshorra_host::message::{self, Message};
-use banshorra_host::{quoted, utc, Bench, Outcome};
+use banshorra_host::{quoted, utc, Case, Outcome};
 use std::fmt::Write as _;
 use std::io::Write as _;
 use std::net::SocketAddrV4;
@@ -73,14 +73,14 @@ impl Log {
 
     /// A call; `book` is the book before it, where that is known.
     pub fn call(&mut self, settings: &Campus, book: Option<&Campus>, told: &Told) {
-        let bench = Bench {
+        let case = Case {
             settings,
             book,
             clock: told.clock,
             client: (*told.from.ip()).into(),
         };
-        let why = bench.why(told.datagram, told.outcome);
-        let house = settings.house_of(bench.client);
+        let why = case.why(told.datagram, told.outcome);
+        let house = settings.house_of(case.client);
         if self.second.0 != told.time {
             self.second = (told.time, utc::in_words(told.time));
         }

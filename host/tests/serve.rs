@@ -291,10 +291,61 @@ fn every_signal_to_end_ends_it() {
         assert_eq!(status.code(), Some(0));
         assert!(host
             .line("ended")
-            .contains(&format!("by SIG{name}; 1 calls: 1 answered")));
+            .contains(&format!("by SIG{name}; 1 call: 1 answered")));
         assert_eq!(on_disk(&file).leases.len(), 1);
         assert!(!folder.path("campus.bin.new").exists());
     }
+}
+
+/// Ends a host by the number in its lock, where it is another's child.
+struct EndedByLock(std::path::PathBuf);
+
+impl Drop for EndedByLock {
+    fn drop(&mut self) {
+        let number = fs::read_to_string(&self.0).unwrap_or_default();
+        let _ = Command::new("kill")
+            .args(["-s", "TERM", number.trim()])
+            .status();
+    }
+}
+
+#[test]
+fn on_disk_before_the_reply() {
+    let folder = Folder::new("order");
+    let (file, trace) = (folder.campus(), folder.path("trace.txt"));
+    let mut traced = Command::new("strace");
+    let is_there = traced
+        .args(["-o", "/dev/null", "true"])
+        .stderr(Stdio::null())
+        .status();
+    if !is_there.is_ok_and(|status| status.success()) {
+        println!("not tried: strace doesn't run here");
+        return;
+    }
+    let mut command = Command::new("strace");
+    command.arg("-f").arg("-o").arg(&trace).args([
+        "-e",
+        "trace=fsync,rename,sendto",
+        PROGRAM,
+        "serve",
+    ]);
+    command.arg(&file).args(["--listen", "127.0.0.1:0"]);
+    let mut host = Running::of(command);
+    let lock = EndedByLock(folder.path("campus.bin.lock"));
+    Client::new(1, host.server).ask(&message(REQUEST, 1, b"id", &[in_scope(SCOPE)]));
+    drop(lock);
+    host.line("ended");
+    host.child.wait().expect("it ends");
+    let trace = fs::read_to_string(&trace).expect("a trace");
+    let calls = trace
+        .lines()
+        .filter_map(|line| line.split_once(' ')?.1.trim_start().split_once('('));
+    let calls: Vec<&str> = calls
+        .map(|(name, _)| name)
+        .filter(|name| ["fsync", "rename", "sendto"].contains(name))
+        .collect();
+    // The new file, its name, the folder; then the client hears.
+    assert_eq!(calls, ["fsync", "rename", "fsync", "sendto"], "{trace}");
 }
 
 #[test]

@@ -159,7 +159,11 @@ impl Asked {
         let socket = UdpSocket::bind(self.from)
             .map_err(failed(format!("sending from {}", self.from.ip())))?;
         let (server, message) = (self.server, Message(&self.datagram));
-        print(&format!("{} to {server}: {message}\n", self.from.ip()))?;
+        let from = match self.from.ip().is_unspecified() {
+            true => String::new(),
+            false => format!("{} ", self.from.ip()),
+        };
+        print(&format!("{from}to {server}: {message}\n"))?;
         if self.is_hex {
             print(&format!("  octets {}\n", quoted::hex(&self.datagram)))?;
         }

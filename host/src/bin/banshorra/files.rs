@@ -73,12 +73,16 @@ pub fn refused(name: &str, file: &[u8], refusal: Refusal) -> Failure {
     Failure::Refused(format!("{name}: {refusal}\n  {what}\n  {todo}"))
 }
 
-/// What is in a campus file, in a line.
-pub fn contents(campus: &Campus) -> String {
-    let count = |number: usize, what: &str| match number {
+/// A number of things in words.
+pub fn count(number: usize, what: &str) -> String {
+    match number {
         1 => format!("1 {what}"),
         _ => format!("{number} {what}s"),
-    };
+    }
+}
+
+/// What is in a campus file, in a line.
+pub fn contents(campus: &Campus) -> String {
     [
         count(campus.houses.len(), "house"),
         count(campus.scopes.len(), "scope"),

@@ -1,7 +1,7 @@
 //! The host: datagrams from a socket through the library, and nothing answered from a book that is not on disk.
 
 use crate::args::{Args, Command, Failure};
-use crate::files::{contents, refused};
+use crate::files::{contents, count, refused};
 use crate::inbox::{self, Arrived, Inbox, List};
 use crate::log::{Form, Log, Told};
 use crate::store::Store;
@@ -108,12 +108,12 @@ fn open(
 /// What has been done so far.
 #[derive(Default)]
 struct Count {
-    calls: u64,
-    replies: u64,
-    discards: u64,
-    unanswered: u64,
-    lists: u64,
-    writes: u64,
+    calls: usize,
+    replies: usize,
+    discards: usize,
+    unanswered: usize,
+    lists: usize,
+    writes: usize,
 }
 
 struct Host {
@@ -162,7 +162,10 @@ impl Host {
             writes,
         } = self.count;
         let what = format!(
-            "by {signal}; {calls} calls: {replies} answered, {discards} discarded, {unanswered} not answered; {lists} lists, {writes} writes"
+            "by {signal}; {}: {replies} answered, {discards} discarded, {unanswered} not answered; {}, {}",
+            count(calls, "call"),
+            count(lists, "list"),
+            count(writes, "write")
         );
         self.log.event(now(), "ended", &what);
     }
@@ -198,7 +201,7 @@ impl Host {
             fault = Some(refusal.to_string());
         } else if outcomes.iter().any(|outcome| outcome.reply().is_some()) {
             match self.store.keep(self.campus.as_bytes()) {
-                Ok(written) => self.count.writes += u64::from(written),
+                Ok(written) => self.count.writes += usize::from(written),
                 Err(error) => {
                     fault = Some(format!("the campus file could not be written: {error}"))
                 }
@@ -211,8 +214,8 @@ impl Host {
                 now(),
                 "fault",
                 &format!(
-                    "{path}: {fault}; {} calls are not answered, the old book goes on",
-                    outcomes.len()
+                    "{path}: {fault}; {} not answered, the old book goes on",
+                    count(outcomes.len(), "call")
                 ),
             );
         }
@@ -277,7 +280,7 @@ fn tell(log: &mut Log, count: &mut Count, socket: &UdpSocket, list: &Answered) {
                 Err(error) => *failed = Some(format!("it could not be sent: {error}")),
             },
         }
-        count.unanswered += u64::from(failed.is_some());
+        count.unanswered += usize::from(failed.is_some());
     }
     if !log.tells_calls() {
         return;

@@ -220,6 +220,40 @@ fn any_octets_of_any_length() {
 }
 
 #[test]
+fn what_the_system_drops_is_told() {
+    let folder = Folder::new("lost");
+    let mut host = Running::start(&folder.campus(), &["--quiet"]);
+    let client = Client::new(1, host.server);
+    client.ask(&message(GETINFO, 0, b"id", &[]));
+    // More than a socket's buffer has room for, while nobody takes them.
+    host.signal("STOP");
+    let room = fs::read_to_string("/proc/sys/net/core/rmem_default").expect("its size");
+    let calls = room.trim().parse::<u32>().expect("a number") / 500 + 1_000;
+    for xid in 1..=calls {
+        client.send(&message(RELEASE, xid, b"id", &[]));
+    }
+    host.signal("CONT");
+    let line = host.line("lost: ");
+    let number = |line: &str, before: &str, after: &str| {
+        let rest = line.split(before).nth(1).expect("its words");
+        rest.split(after)
+            .next()
+            .and_then(|word| word.parse::<u32>().ok())
+            .expect("a number")
+    };
+    let mut lost = number(&line, "lost: ", " datagrams");
+    let (_, log) = host.end();
+    for more in log
+        .iter()
+        .filter(|other| other.contains(" lost: ") && **other != line)
+    {
+        lost += number(more, "lost: ", " datagrams");
+    }
+    let heard = number(log.last().expect("a line"), "SIGTERM; ", " calls");
+    assert_eq!(lost + heard, calls + 1, "{log:#?}");
+}
+
+#[test]
 fn a_second_host_is_refused() {
     let folder = Folder::new("second");
     let file = folder.campus();

@@ -5,6 +5,7 @@ use crate::serve::now;
 use banshorra_host::{Call, REPLY_ROOM};
 use std::io::ErrorKind;
 use std::net::{SocketAddr, SocketAddrV4, UdpSocket};
+use std::os::fd::AsRawFd;
 use std::sync::{Arc, Condvar, Mutex, MutexGuard, PoisonError};
 use std::thread;
 use std::time::Duration;
@@ -100,6 +101,42 @@ impl Inbox {
             .wait_timeout_while(waits, within, |waits| waits.is_empty());
         let (mut waits, _) = waited.unwrap_or_else(PoisonError::into_inner);
         std::mem::swap(&mut *waits, list);
+    }
+}
+
+/// How many datagrams the system has dropped before a socket, as its buffer was full: the last column of /proc/net/udp.
+pub struct Lost {
+    /// The socket's own number, which its line has.
+    number: String,
+    seen: u64,
+}
+
+impl Lost {
+    pub fn of(socket: &UdpSocket) -> Lost {
+        let link = std::fs::read_link(format!("/proc/self/fd/{}", socket.as_raw_fd()));
+        let link = link.map_or_else(
+            |_| String::new(),
+            |link| link.to_string_lossy().into_owned(),
+        );
+        let number = link
+            .trim_start_matches("socket:[")
+            .trim_end_matches(']')
+            .to_owned();
+        Lost { number, seen: 0 }
+    }
+
+    /// How many more than when last looked; none where the system doesn't tell.
+    pub fn more(&mut self) -> u64 {
+        let table = std::fs::read_to_string("/proc/net/udp").unwrap_or_default();
+        let mut lines = table
+            .lines()
+            .map(|line| line.split_whitespace().collect::<Vec<_>>());
+        let own = lines.find(|words| words.get(9) == Some(&&self.number[..]));
+        let lost = own.and_then(|words| words.last()?.parse().ok());
+        let lost = lost.unwrap_or(self.seen);
+        let more = lost.saturating_sub(self.seen);
+        self.seen = lost;
+        more
     }
 }
 

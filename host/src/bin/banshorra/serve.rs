@@ -2,7 +2,7 @@
 
 use crate::args::{Args, Command, Failure};
 use crate::files::{contents, count, refused};
-use crate::inbox::{self, Arrived, Inbox, List};
+use crate::inbox::{self, Arrived, Inbox, List, Lost};
 use crate::log::{Form, Log, Told};
 use crate::store::Store;
 use banshorra_host::campus::Campus;
@@ -11,7 +11,7 @@ use banshorra_host::{answers, utc, CampusFile, Outcome, ANSWER_ROOM};
 use std::io;
 use std::net::{Ipv4Addr, SocketAddrV4, UdpSocket};
 use std::path::Path;
-use std::time::{Duration, SystemTime, UNIX_EPOCH};
+use std::time::{Duration, Instant, SystemTime, UNIX_EPOCH};
 
 pub const COMMAND: Command = Command {
     name: "serve",
@@ -69,6 +69,8 @@ fn serve(args: &Args) -> Result<(), Failure> {
     let hears = hears.map_err(|error| Failure::Machine(format!("the socket: {error}")))?;
     note_signals();
     let mut host = Host {
+        lost: Lost::of(&socket),
+        looked: Instant::now(),
         campus,
         settings,
         store,
@@ -117,6 +119,9 @@ struct Count {
 }
 
 struct Host {
+    /// What the system dropped before the socket, and when that was looked at.
+    lost: Lost,
+    looked: Instant,
     campus: CampusFile,
     /// Server, houses and scopes, which no call changes.
     settings: Campus,
@@ -149,7 +154,11 @@ impl Host {
             self.inbox.take(&mut self.list, LOOK);
             self.answer();
             // What had come before the signal is answered.
-            if let Some(signal) = noted_signal() {
+            let signal = noted_signal();
+            if signal.is_some() || self.looked.elapsed() >= Duration::from_secs(1) {
+                self.look_at_lost();
+            }
+            if let Some(signal) = signal {
                 break signal;
             }
         };
@@ -235,6 +244,16 @@ impl Host {
         );
         if let Some(time) = self.list.arrived.last().map(|last| last.time) {
             self.look_at_clock(time);
+        }
+    }
+
+    /// Says what was lost before the host could take it.
+    fn look_at_lost(&mut self) {
+        self.looked = Instant::now();
+        let lost = self.lost.more();
+        if lost > 0 {
+            let what = format!("{lost} datagrams, as the socket's buffer was full; the system's net.core.rmem_default sets its size");
+            self.log.event(now(), "lost", &what);
         }
     }
 

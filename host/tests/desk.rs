@@ -6,7 +6,7 @@ mod random;
 mod running;
 
 use banshorra_host::campus::Campus;
-use banshorra_host::message::{draft, Message, ACK, RELEASE, REQUEST};
+use banshorra_host::message::{draft, Message, ACK, GETINFO, RELEASE, REQUEST};
 use banshorra_host::quoted::hex;
 use random::Random;
 use running::*;
@@ -68,6 +68,10 @@ fn wrong_usage_is_2_and_says_what_is_wrong() {
         (
             &["serve", "a", "--interface", "127.0.0.1"],
             "--interface goes with --group",
+        ),
+        (
+            &["serve", "a", "--group", "10.0.0.1"],
+            "--group takes a multicast address, not 10.0.0.1",
         ),
         (&["board", "a", "--every", "1"], "--every goes with --watch"),
         (&["explain"], "one of HEX"),
@@ -545,8 +549,6 @@ fn it_sends_again_what_is_not_answered() {
 #[test]
 fn a_host_in_a_group() {
     let folder = Folder::new("desk-group");
-    let mut command = Command::new(PROGRAM);
-    command.arg("serve").arg(folder.campus());
     // A client's address of the loopback range can't send to a group on every machine.
     let probe = UdpSocket::bind("127.0.2.7:0").expect("a socket");
     if let Err(error) = probe.send_to(b"", "239.255.255.254:9") {
@@ -554,21 +556,9 @@ fn a_host_in_a_group() {
         println!("not tried: {error}");
         return;
     }
-    let free = UdpSocket::bind("0.0.0.0:0")
-        .and_then(|socket| socket.local_addr())
-        .expect("a port")
-        .port();
-    command.args([
-        "--listen",
-        &format!("0.0.0.0:{free}"),
-        "--group",
-        "239.255.255.254",
-        "--interface",
-        "127.0.0.1",
-        "--quiet",
-    ]);
-    let mut child = command.stdout(Stdio::piped()).spawn().expect("it starts");
-    let server = format!("239.255.255.254:{free}");
+    let options = ["--group", "239.255.255.254", "--interface", "127.0.0.1"];
+    let host = Running::start(&folder.campus(), &options);
+    let server = format!("239.255.255.254:{}", host.server.port());
     let ask = [
         "ask",
         "getinfo",
@@ -579,17 +569,21 @@ fn a_host_in_a_group() {
         "--id",
         "truck",
         "--wait",
-        "0.5",
+        "2",
         "--tries",
-        "6",
+        "4",
     ];
     let (words, error, status) = said(&run(&ask));
-    child.kill().expect("killed");
-    child.wait().expect("ended");
     assert!(
         status == 0 && words.contains("Multicast Scope List: 239.192.1.0-63"),
         "{words}{error}"
     );
+    // The answer comes from the host's own address, and who asks that address is answered too.
+    assert!(
+        words.contains(&format!("answer from {} after", host.server)),
+        "{words}"
+    );
+    Client::new(2, host.server).ask(&message(GETINFO, 1, b"id", &[]));
 }
 
 #[test]

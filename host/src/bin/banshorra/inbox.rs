@@ -81,15 +81,17 @@ struct Shared {
     has_come: Condvar,
 }
 
-/// The list that waits. The thread that fills it ends with the process.
+/// The list that waits. The threads that fill it, one a socket, end with the process.
 pub struct Inbox(Arc<Shared>);
 
 impl Inbox {
-    pub fn open(socket: UdpSocket) -> Inbox {
+    pub fn open(sockets: Vec<UdpSocket>) -> Inbox {
         let shared = Arc::new(Shared::default());
-        let inbox = Inbox(shared.clone());
-        thread::spawn(move || receive(&socket, &shared));
-        inbox
+        for socket in sockets {
+            let shared = shared.clone();
+            thread::spawn(move || receive(&socket, &shared));
+        }
+        Inbox(shared)
     }
 
     /// Puts what waits into an empty list, or waits for it for a time. The other way round the empty list is what is filled next.

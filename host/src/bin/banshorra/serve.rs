@@ -54,6 +54,9 @@ fn serve(args: &Args) -> Result<(), Failure> {
     if interface.is_some() && group.is_none() {
         return args.usage("--interface goes with --group");
     }
+    if let Some(group) = group.filter(|group| !group.is_multicast()) {
+        return args.usage(&format!("--group takes a multicast address, not {group}"));
+    }
     let form = match (args.has("quiet"), args.has("json")) {
         (true, json) => Form::Quiet { json },
         (false, true) => Form::Json,
@@ -64,18 +67,18 @@ fn serve(args: &Args) -> Result<(), Failure> {
     let campus = CampusFile::from_bytes(&file).map_err(|refusal| refused(name, &file, refusal))?;
     let settings =
         Campus::from_octets(&file).map_err(|fault| Failure::Refused(fault.to_string()))?;
-    let socket = open(listen, group, interface)?;
-    let hears = socket.try_clone();
-    let hears = hears.map_err(|error| Failure::Machine(format!("the socket: {error}")))?;
+    let sockets = open(listen, group, interface)?;
+    let socket = sockets[0].try_clone();
+    let socket = socket.map_err(|error| Failure::Machine(format!("the socket: {error}")))?;
     note_signals();
     let mut host = Host {
-        lost: Lost::of(&socket),
+        lost: sockets.iter().map(Lost::of).collect(),
         looked: Instant::now(),
         campus,
         settings,
         store,
         socket,
-        inbox: Inbox::open(hears),
+        inbox: Inbox::open(sockets),
         log: Log::new(form),
         list: List::default(),
         answers: vec![0; inbox::MOST * ANSWER_ROOM],
@@ -86,25 +89,38 @@ fn serve(args: &Args) -> Result<(), Failure> {
     Ok(())
 }
 
+/// The sockets: the first is the one that answers. One on all addresses hears a group as well; beside one on a single address the group has its own.
 fn open(
     listen: SocketAddrV4,
     group: Option<Ipv4Addr>,
     interface: Option<Ipv4Addr>,
-) -> Result<UdpSocket, Failure> {
+) -> Result<Vec<UdpSocket>, Failure> {
     let failed =
         |what: String| move |error: io::Error| Failure::Machine(format!("{what}: {error}"));
-    let socket = UdpSocket::bind(listen).map_err(failed(format!("listening on {listen}")))?;
-    if let Some(group) = group {
-        if !group.is_multicast() {
-            return Err(Failure::Usage(format!(
-                "--group {group}: no multicast address, which are 224.0.0.0 to 239.255.255.255"
-            )));
-        }
-        let interface = interface.unwrap_or(Ipv4Addr::UNSPECIFIED);
+    let bind = |address: SocketAddrV4| {
+        UdpSocket::bind(address).map_err(failed(format!("listening on {address}")))
+    };
+    let mut sockets = vec![bind(listen)?];
+    let Some(group) = group else {
+        return Ok(sockets);
+    };
+    let interface = interface.unwrap_or(Ipv4Addr::UNSPECIFIED);
+    let join = |socket: &UdpSocket| {
         let joined = socket.join_multicast_v4(&group, &interface);
-        joined.map_err(failed(format!("joining {group} on {interface}")))?;
+        joined.map_err(failed(format!("joining {group} on {interface}")))
+    };
+    if listen.ip().is_unspecified() {
+        join(&sockets[0])?;
+        return Ok(sockets);
     }
-    Ok(socket)
+    let port = sockets[0]
+        .local_addr()
+        .map_err(failed("the socket".to_owned()))?
+        .port();
+    let of_group = bind(SocketAddrV4::new(group, port))?;
+    join(&of_group)?;
+    sockets.push(of_group);
+    Ok(sockets)
 }
 
 /// What has been done so far.
@@ -119,8 +135,8 @@ struct Count {
 }
 
 struct Host {
-    /// What the system dropped before the socket, and when that was looked at.
-    lost: Lost,
+    /// What the system dropped before each socket, and when that was looked at.
+    lost: Vec<Lost>,
     looked: Instant,
     campus: CampusFile,
     /// Server, houses and scopes, which no call changes.
@@ -250,7 +266,7 @@ impl Host {
     /// Says what was lost before the host could take it.
     fn look_at_lost(&mut self) {
         self.looked = Instant::now();
-        let lost = self.lost.more();
+        let lost: u64 = self.lost.iter_mut().map(Lost::more).sum();
         if lost > 0 {
             let what = format!("{lost} datagrams, as the socket's buffer was full; the system's net.core.rmem_default sets its size");
             self.log.event(now(), "lost", &what);

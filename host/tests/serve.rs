@@ -5,6 +5,7 @@ mod random;
 #[path = "common/running.rs"]
 mod running;
 
+use banshorra_host::campus::Campus;
 use banshorra_host::message::{
     Message, ACK, DISCOVER, GETINFO, NAK, OFFER, RELEASE, RENEW, REQUEST,
 };
@@ -346,7 +347,13 @@ impl Drop for EndedByLock {
 #[test]
 fn on_disk_before_the_reply() {
     let folder = Folder::new("order");
-    let (file, trace) = (folder.campus(), folder.path("trace.txt"));
+    let (file, trace) = (folder.path("campus.bin"), folder.path("trace.txt"));
+    // A clock ahead of the machine's, so that time alone changes nothing.
+    let campus = Campus {
+        clock: now() + 100_000,
+        ..loopback()
+    };
+    fs::write(&file, campus.to_octets()).expect("a campus file");
     let mut traced = Command::new("strace");
     let is_there = traced
         .args(["-o", "/dev/null", "true"])
@@ -366,7 +373,10 @@ fn on_disk_before_the_reply() {
     command.arg(&file).args(["--listen", "127.0.0.1:0"]);
     let mut host = Running::of(command);
     let lock = EndedByLock(folder.path("campus.bin.lock"));
-    Client::new(1, host.server).ask(&message(REQUEST, 1, b"id", &[in_scope(SCOPE)]));
+    let client = Client::new(1, host.server);
+    client.ask(&message(GETINFO, 1, b"id", &[]));
+    client.ask(&message(GETINFO, 2, b"id", &[]));
+    client.ask(&message(REQUEST, 3, b"id", &[in_scope(SCOPE)]));
     drop(lock);
     host.line("ended");
     host.child.wait().expect("it ends");
@@ -378,8 +388,13 @@ fn on_disk_before_the_reply() {
         .map(|(name, _)| name)
         .filter(|name| ["fsync", "rename", "sendto"].contains(name))
         .collect();
-    // The new file, its name, the folder; then the client hears.
-    assert_eq!(calls, ["fsync", "rename", "fsync", "sendto"], "{trace}");
+    // The new file, its name, the folder; then the client hears. That the file as it was found is on disk nobody knows; once it is, it isn't written again.
+    let written = ["fsync", "rename", "fsync", "sendto"];
+    assert_eq!(
+        calls,
+        [&written[..], &["sendto"], &written].concat(),
+        "{trace}"
+    );
 }
 
 #[test]
@@ -519,6 +534,7 @@ fn a_refused_file() {
     let output = run(&["serve", folder.path("none.bin").to_str().expect("a name")]);
     assert_eq!(output.status.code(), Some(3));
     assert!(String::from_utf8_lossy(&output.stderr).contains("No such file"));
+    assert!(!folder.path("none.bin.lock").exists());
 }
 
 #[test]

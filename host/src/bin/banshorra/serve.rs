@@ -4,7 +4,7 @@ use crate::args::{Args, Command, Failure};
 use crate::files::{contents, count, refused};
 use crate::inbox::{self, Arrived, Inbox, List, Lost};
 use crate::log::{Form, Log, Told};
-use crate::store::Store;
+use crate::store::{failed, Store};
 use banshorra_host::campus::Campus;
 use banshorra_host::library::{note_signals, noted_signal};
 use banshorra_host::{answers, utc, CampusFile, Outcome, ANSWER_ROOM};
@@ -62,7 +62,10 @@ fn serve(args: &Args) -> Result<(), Failure> {
         (false, true) => Form::Json,
         (false, false) => Form::Words,
     };
-    let mut store = Store::take(Path::new(name), !args.has("no-flush"))?;
+    let path = Path::new(name);
+    // No lock is left beside a file that isn't there.
+    std::fs::metadata(path).map_err(|error| failed(path, error))?;
+    let store = Store::take(path, !args.has("no-flush"))?;
     let file = store.read()?;
     let campus = CampusFile::from_bytes(&file).map_err(|refusal| refused(name, &file, refusal))?;
     let settings =

@@ -64,10 +64,9 @@ impl Store {
         &self.path
     }
 
-    pub fn read(&mut self) -> Result<Vec<u8>, Failure> {
-        let octets = read(&self.path).map_err(|error| failed(&self.path, error))?;
-        self.on_disk = Some(octets.clone());
-        Ok(octets)
+    /// The file's octets. They count as not on disk yet: a host that was killed before may have renamed the file and not flushed the folder.
+    pub fn read(&self) -> Result<Vec<u8>, Failure> {
+        read(&self.path).map_err(|error| failed(&self.path, error))
     }
 
     /// Has these octets on disk when it returns; an error leaves a whole file there, the old one or this. Gives whether it had to write.

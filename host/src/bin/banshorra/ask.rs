@@ -86,8 +86,9 @@ fn ask(args: &Args) -> Result<(), Failure> {
         is_hex: args.has("hex"),
     };
     if !is_given {
-        let identifier = quoted::identifier(&identifier);
-        print(&format!("the identifier is {identifier}\n"))?;
+        // As --id takes it, whatever it looks like.
+        let identifier = quoted::hex(&identifier);
+        print(&format!("the identifier is 0x{identifier}\n"))?;
     }
     asked.send()
 }

@@ -12,8 +12,8 @@ use Rattle.lists.specs.Place.{placeBy}
 use Rattle.identifier.specs.Order.{orderOf, sameOf}
 use Rattle.state.specs.declared.Lease.{Lease}
 use Rattle.state.specs.declared.Ledger.{Ledger}
-use Rattle.state.specs.Book.{byIdentifier, insertOf, isHold, laidOut, leaseWith, removeOf, zeroLease}
-use Rattle.soundness.specs.Sound.{blankB, layoutB, paddedB, unusedB, zeroFrom}
+use Rattle.state.specs.Book.{byIdentifier, isHold, laidOut, leaseWith, removeOf, zeroLease, byEnding, until}
+use Rattle.soundness.specs.Sound.{blankB, layoutB, paddedB, unusedB, zeroFrom, layoutBy}
 use Rattle.server.specs.Serve.{Call}
 use Rattle.server.specs.Halves.{discardRuling}
 use Rattle.records.specs.declared.Found.the-variants.{Absent, At}
@@ -33,7 +33,7 @@ ours p n = unused 16 ++ p ++ unused n
 
 -- in the order of identifiers, the later ones move down
 insert-between : insertLent 1 (lease 2) (ours (lease 1 ∷ lease 3 ∷ []) 110) ≡ ours (lease 1 ∷ lease 2 ∷ lease 3 ∷ []) 109
-unfolding lease unused ours insertWith is128 pick tableFrom rows tenantFrom placeBy unusedB blankB zeroFrom allBy insertOf insertIn byIdentifier filterBy orderOf laidOut recordsOf rowsOf
+unfolding lease unused ours insertWith is128 pick tableFrom rows tenantFrom placeBy unusedB blankB zeroFrom allBy insertIn byIdentifier filterBy orderOf laidOut recordsOf rowsOf byEnding until isHold
 insert-between = refl
 
 -- no gap is left
@@ -100,14 +100,14 @@ write-127 g names room = refl
 
 -- a lease after an unused record
 gap : layoutB (tenantFrom (lease 1 ∷ zeroLease ∷ lease 3 ∷ unused 13)) ≡ false
-unfolding lease unused layoutB tenantFrom placeBy pick unusedB blankB zeroFrom allBy pairsBy isHold paddedB
+unfolding lease unused layoutBy tenantFrom placeBy pick unusedB blankB zeroFrom allBy pairsBy isHold paddedB
 gap = refl
 
 -- leases out of order
 disorder : layoutB (tenantFrom (lease 3 ∷ lease 1 ∷ unused 14)) ≡ false
-unfolding lease unused layoutB tenantFrom placeBy pick unusedB blankB zeroFrom allBy pairsBy byIdentifier orderOf isHold paddedB
+unfolding lease unused layoutBy tenantFrom placeBy pick unusedB blankB zeroFrom allBy pairsBy byIdentifier orderOf isHold paddedB byEnding until
 disorder = refl
 
 rise : layoutB (tenantFrom (lease 1 ∷ lease 3 ∷ unused 14)) ≡ true
-unfolding lease unused layoutB tenantFrom placeBy pick unusedB blankB zeroFrom allBy pairsBy byIdentifier orderOf isHold paddedB
+unfolding lease unused layoutBy tenantFrom placeBy pick unusedB blankB zeroFrom allBy pairsBy byIdentifier orderOf isHold paddedB byEnding until
 rise = refl

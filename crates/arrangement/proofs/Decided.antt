@@ -13,7 +13,8 @@ use Rattle.lists.specs.Filter.{filterBy}
 use Rattle.lists.specs.Down.{largest}
 use Rattle.lists.specs.laws.Down.{largest-same}
 use Rattle.lists.specs.laws.Each.{map-set}
-use Rattle.lists.specs.laws.Reordered.{Reordered, reordered-alone, reordered-filter, reordered-length}
+use Rattle.lists.specs.Reordered.{Reordered}
+use Rattle.lists.specs.laws.Reordered.{reordered-alone, reordered-filter, reordered-length}
 use Rattle.lists.specs.Sums.{sumTo}
 use Rattle.lists.specs.laws.Sums.{sum-same}
 use Rattle.address_set.specs.AddressSet.{chosen, differenceOf, offsets, setOf}

@@ -9,7 +9,8 @@ use lib.Dec.{eqb}
 use lib.ListN.{length, getD, set}
 use Rattle.lists.specs.Pick.{pick}
 use Rattle.lists.specs.All.{allBy}
-use Rattle.lists.specs.laws.Reordered.{Reordered, reordered-all, reordered-filter, reordered-length}
+use Rattle.lists.specs.Reordered.{Reordered}
+use Rattle.lists.specs.laws.Reordered.{reordered-all, reordered-filter, reordered-length}
 use Rattle.address_set.specs.AddressSet.{bit, offsets, upTo}
 use Rattle.occupancy.specs.declared.Board.{Board}
 use Rattle.occupancy.specs.declared.Entry.{Entry}

@@ -15,7 +15,8 @@ use Rattle.lists.specs.laws.All.{all-same}
 use Rattle.lists.specs.laws.Arranged.{Ordering, insert-reordered}
 use Rattle.lists.specs.laws.Both.{and-both, and-parts}
 use Rattle.lists.specs.laws.Each.{map-set}
-use Rattle.lists.specs.laws.Reordered.{Reordered, reordered-all, reordered-filter, reordered-length}
+use Rattle.lists.specs.Reordered.{Reordered}
+use Rattle.lists.specs.laws.Reordered.{reordered-all, reordered-filter, reordered-length}
 use Rattle.occupancy.specs.declared.Board.{Board}
 use Rattle.message.specs.declared.Fields.{Fields}
 use Rattle.message.specs.Read.{readOf}

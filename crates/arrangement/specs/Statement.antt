@@ -5,7 +5,7 @@ use mathlib.Core.Bool.{true}
 use mathlib.Core.List.{List}
 use mathlib.Core.Path.{_≡_}
 use lib.ListN.{length}
-use Rattle.lists.specs.laws.Reordered.{Reordered}
+use Rattle.lists.specs.Reordered.{Reordered}
 use Rattle.state.specs.Book.{Book, Order, byEnding, byIdentifier}
 use Rattle.decision.specs.Parts.{ownOf}
 use Rattle.server.specs.Serve.{Answer, Call}

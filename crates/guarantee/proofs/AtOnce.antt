@@ -24,7 +24,8 @@ use Rattle.state.specs.declared.State.{State}
 use Rattle.state.specs.declared.TenantLeases.{TenantLeases}
 use Rattle.state.specs.declared.TenantReleases.{TenantReleases}
 use Rattle.state.specs.Book.{Book, ordered, advanced, changedTo, dropped, idOf, insertOf, isHold, laidOut, laidReleases, leasesOf, live, liveOf, putAt, putReleases, raised, releasesAt, remembered, removeOf, tableOf, until, withClock}
-use Rattle.state.specs.Edit.{applied, editedBook, entering, forgetOf, givingWay, noted, notedIn}
+use Rattle.state.specs.laws.Edit.{applied}
+use Rattle.state.specs.Edit.{editedBook, entering, forgetOf, givingWay, noted, notedIn}
 use Rattle.state.specs.laws.Edited.{applied-entering, applied-laid, applied-way}
 use Rattle.releases.specs.laws.Whole.{advanced-book, book-sound, same-board}
 use Rattle.soundness.specs.Sound.{holdB, lapseB}

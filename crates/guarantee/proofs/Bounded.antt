@@ -20,7 +20,8 @@ use Rattle.state.specs.declared.TenantLeases.{TenantLeases}
 use Rattle.state.specs.declared.Scope.{Scope}
 use Rattle.state.specs.declared.Edit.{Edit}
 use Rattle.state.specs.Book.{Book, idOf, inUse, insertOf, insertedIn, laidOut, ordered, removeOf, tenantAt, zeroLease, insertedBy}
-use Rattle.state.specs.Edit.{applied, editedIn, leftIn, appliedBy, editedBy}
+use Rattle.state.specs.laws.Edit.{applied}
+use Rattle.state.specs.Edit.{editedIn, leftIn, appliedBy, editedBy}
 use Rattle.allocation.specs.declared.Ask.{Ask}
 use Rattle.allocation.specs.declared.Grant.{Grant}
 use Rattle.allocation.specs.Rule.{grantTo}

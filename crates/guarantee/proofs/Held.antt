@@ -25,7 +25,8 @@ use Rattle.state.specs.declared.Release.{Release}
 use Rattle.state.specs.declared.State.{State}
 use Rattle.state.specs.declared.TenantLeases.{TenantLeases}
 use Rattle.state.specs.Book.{Book, advanced, dropped, idOf, inUse, laidOut, liveOf, named, raised, tenantAt, until, withClock}
-use Rattle.state.specs.Edit.{applied, editedIn, noEdit, appliedBy}
+use Rattle.state.specs.laws.Edit.{applied}
+use Rattle.state.specs.Edit.{editedIn, noEdit, appliedBy}
 use Rattle.state.specs.laws.Edited.{applied-others}
 use Rattle.state.specs.laws.Named.{edited-other, named-live}
 use Rattle.decision.specs.declared.Decided.{Decided}

@@ -17,7 +17,8 @@ use Rattle.state.specs.declared.Lease.{Lease}
 use Rattle.state.specs.declared.LeaseTable.{LeaseTable}
 use Rattle.state.specs.declared.State.{State}
 use Rattle.state.specs.Book.{differ, idOf, inUse, insertOf, laidOut, leasesOf, named, ordered, other, placeOf, removeOf}
-use Rattle.state.specs.Edit.{applied, entering}
+use Rattle.state.specs.laws.Edit.{applied}
+use Rattle.state.specs.Edit.{entering}
 use Rattle.state.specs.laws.Edited.{applied-entering}
 use Rattle.state.specs.laws.Layout.{read-back}
 use Rattle.soundness.specs.Sound.{compatible, soundB}

@@ -26,7 +26,8 @@ use Rattle.state.specs.declared.Release.{Release}
 use Rattle.state.specs.declared.State.{State}
 use Rattle.state.specs.declared.TenantLeases.{TenantLeases}
 use Rattle.state.specs.Book.{Book, advanced, differ, idOf, inUse, insertOf, isHold, laidOut, laidReleases, leaseAt, leasesOf, named, ordered, placeOf, putReleases, raised, releasesAt, remembered, removeOf, scopeAt, until, withClock, zeroLease}
-use Rattle.state.specs.Edit.{applied, entering, forgetOf, givingWay, noted, notedIn}
+use Rattle.state.specs.laws.Edit.{applied}
+use Rattle.state.specs.Edit.{entering, forgetOf, givingWay, noted, notedIn}
 use Rattle.state.specs.laws.Edited.{applied-none, applied-others, applied-way}
 use Rattle.state.specs.laws.Layout.{read-back, removed-fewer}
 use Rattle.state.specs.laws.Named.{inserted-own, none-named, one-named, place-first, place-some, removed-own}

@@ -54,9 +54,6 @@ editedIn e t = editedBy ordered e t
 unfoldable pub appliedBy : Order → Edit → ℕ → LeaseTable → LeaseTable
 appliedBy o e h b = putAt b h (editedBy o e (tenantAt b h))
 
-abbrev pub applied : Edit → ℕ → LeaseTable → LeaseTable
-applied e h b = appliedBy ordered e h b
-
 -- ---- what is remembered
 -- the last four: "a fifth release forgets the oldest"
 unfoldable pub rememberOf : Release → List Release → List Release

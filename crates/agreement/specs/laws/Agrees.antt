@@ -9,7 +9,7 @@ use lib.Seq.{getD-set-same, set-getD, set-set}
 use borrow.Author.Tests.{lt-ltb}
 use Rattle.lists.specs.Pick.{pick}
 use Rattle.lists.specs.laws.Each.{map-set}
-use Rattle.lists.specs.laws.Reordered.{Reordered}
+use Rattle.lists.specs.Reordered.{Reordered}
 use Rattle.lists.specs.laws.Some.{Part}
 use Rattle.occupancy.specs.declared.Board.{Board}
 use Rattle.occupancy.specs.Board.{sameBoard}
@@ -21,7 +21,8 @@ use Rattle.state.specs.declared.State.{State}
 use Rattle.state.specs.declared.TenantLeases.{TenantLeases}
 use Rattle.state.specs.Book.{Book, advanced, clearedTo, dropped, idOf, insertOf, insertedIn, inUse, laidOut, leasesOf, liveOf, removeOf, tableOf, tenantAt, boardWith, boardWithout, insertedBy}
 use Rattle.state.specs.Board.{boardOf, builtOf}
-use Rattle.state.specs.Edit.{applied, boardEdited, boardLeft, editedIn, leftIn, appliedBy, editedBy}
+use Rattle.state.specs.laws.Edit.{applied}
+use Rattle.state.specs.Edit.{boardEdited, boardLeft, editedIn, leftIn, appliedBy, editedBy}
 use Rattle.state.specs.laws.Layout.{read-back, table-back}
 use Rattle.state.specs.laws.Sorted.{insert-same}
 use Rattle.soundness.specs.Sound.{soundB, tenantsIn}

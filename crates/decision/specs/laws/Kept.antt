@@ -15,7 +15,8 @@ use Rattle.lists.specs.All.{allBy, pairsBy}
 use Rattle.lists.specs.laws.All.{all-head, all-cons, all-same, pairs-head}
 use Rattle.lists.specs.laws.Both.{all-and, and-parts, and-both, pairs-and}
 use Rattle.lists.specs.laws.Filter.{filter-passes}
-use Rattle.lists.specs.laws.Reordered.{Reordered, reordered-pairs}
+use Rattle.lists.specs.Reordered.{Reordered}
+use Rattle.lists.specs.laws.Reordered.{reordered-pairs}
 use Rattle.lists.specs.Place.{placeBy}
 use Rattle.lists.specs.laws.Each.{map-set}
 use Rattle.identifier.specs.Order.{sameOf}
@@ -27,7 +28,8 @@ use Rattle.state.specs.declared.Release.{Release}
 use Rattle.state.specs.declared.State.{State}
 use Rattle.state.specs.declared.TenantLeases.{TenantLeases}
 use Rattle.state.specs.Book.{inUse, laidOut, leasesOf, ordered, tableOf, idOf, differ, other, placeOf, leaseAt, zeroLease, holdTime, isHold, lapsingAt, overlaps, busyOf, insertOf, removeOf, scopeAt}
-use Rattle.state.specs.Edit.{noEdit, entering, droppingFirst, givingWay, leftIn, applied, appliedBy, editedBy}
+use Rattle.state.specs.Edit.{noEdit, entering, droppingFirst, givingWay, leftIn, appliedBy, editedBy}
+use Rattle.state.specs.laws.Edit.{applied}
 use Rattle.state.specs.laws.Edited.{applied-none, applied-entering, applied-leaving, applied-way, applied-laid}
 use Rattle.state.specs.laws.Sorted.{named-at, rising, taken-out}
 use Rattle.state.specs.laws.Layout.{read-back, removed-fewer}

@@ -24,7 +24,8 @@ use Rattle.state.specs.declared.TenantLeases.{TenantLeases}
 use Rattle.state.specs.declared.TenantReleases.{TenantReleases}
 use Rattle.state.specs.Book.{Book, advanced, cleared, dropped, idOf, inUse, insertedIn, laidOut, laidReleases, leasesOf, liveOf, ordered, putAt, raised, releasesAt, remembered, removeOf, tableOf, tenantAt, boardWith, boardWithout}
 use Rattle.state.specs.Board.{builtOf}
-use Rattle.state.specs.Edit.{applied, boardEdited, boardLeft, editedIn, forgetOf, leftIn, noted, notedIn, rememberOf, appliedBy, editedBy}
+use Rattle.state.specs.laws.Edit.{applied}
+use Rattle.state.specs.Edit.{boardEdited, boardLeft, editedIn, forgetOf, leftIn, noted, notedIn, rememberOf, appliedBy, editedBy}
 use Rattle.state.specs.laws.Layout.{advanced-is, table-back}
 use Rattle.soundness.specs.laws.Book.{sound-rises}
 use Rattle.soundness.specs.declared.HeldTable.{HeldTable}

@@ -24,7 +24,8 @@ use Rattle.state.specs.declared.Release.{Release}
 use Rattle.state.specs.declared.TenantLeases.{TenantLeases}
 use Rattle.state.specs.declared.TenantReleases.{TenantReleases}
 use Rattle.state.specs.Book.{Book, differ, idOf, inUse, insertOf, insertedIn, isHold, laidOut, laidReleases, leaseAt, leaseWith, other, otherRelease, releaseId, releasesAt, remembered, removeOf, tenantAt, zeroLease, zeroRelease, insertedBy}
-use Rattle.state.specs.Edit.{applied, droppingFirst, editedBook, editedIn, entering, forgetOf, givingWay, leaving, leftIn, noEdit, noted, notedIn, releaseOf, rememberOf, appliedBy, editedBy}
+use Rattle.state.specs.laws.Edit.{applied}
+use Rattle.state.specs.Edit.{droppingFirst, editedBook, editedIn, entering, forgetOf, givingWay, leaving, leftIn, noEdit, noted, notedIn, releaseOf, rememberOf, appliedBy, editedBy}
 use Rattle.state.specs.laws.Edited.{applied-others, edited-none}
 use Rattle.state.specs.laws.Layout.{read-back, releases-back}
 use Rattle.state.specs.laws.Sorted.{differ-turn, insert-same}

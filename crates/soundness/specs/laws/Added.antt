@@ -22,7 +22,8 @@ use Rattle.state.specs.Book.{Order, idOf, differ, other, placeOf, leaseAt, inse
 use Rattle.state.specs.laws.Sets.{adds, addresses-cons, addresses-reordered, insert-addresses}
 use Rattle.address_set.specs.AddressSet.{offsets}
 use Rattle.state.specs.laws.Sorted.{differ-turn, insert-same, others-differ, taken-out}
-use Rattle.lists.specs.laws.Reordered.{Reordered, reordered-length, reordered-all, reordered-pairs}
+use Rattle.lists.specs.Reordered.{Reordered}
+use Rattle.lists.specs.laws.Reordered.{reordered-length, reordered-all, reordered-pairs}
 use Rattle.address_set.specs.laws.Bits.{and-or}
 use Rattle.soundness.specs.Sound.{tenantsIn, scopesIn, disjoint, apartIn, apart, compatible}
 use Rattle.soundness.specs.laws.Book.{leaseOk, pairOk, fewLeases, noLeasesB, Sound}

@@ -15,7 +15,7 @@ use Rattle.lists.specs.laws.Both.{and-parts, and-both}
 use Rattle.lists.specs.Pick.{pick}
 use Rattle.lists.specs.Filter.{filterBy}
 use Rattle.lists.specs.laws.Filter.{filter-all, filter-pairs, filter-passes}
-use Rattle.lists.specs.laws.Reordered.{Reordered}
+use Rattle.lists.specs.Reordered.{Reordered}
 use Rattle.lists.specs.laws.Some.{Part, part-all, part-pairs, part-length, filter-part}
 use Rattle.lists.specs.Sums.{sumTo}
 use Rattle.address_set.specs.AddressSet.{bit, keep, offsetsFrom, offsets}

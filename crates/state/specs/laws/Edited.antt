@@ -18,7 +18,8 @@ use Rattle.state.specs.declared.TenantReleases.{TenantReleases}
 use Rattle.state.specs.declared.Memory.{Memory}
 use Rattle.state.specs.declared.Edit.{Edit}
 use Rattle.state.specs.Book.{Book, Order, laidReleases, inUse, laidOut, leasesOf, tableOf, tenantAt, putAt, idOf, insertOf, insertedIn, removeOf, insertedBy}
-use Rattle.state.specs.Edit.{noEdit, entering, leaving, givingWay, leftIn, editedIn, applied, notedIn, boardLeft, boardEdited, noted, editedBook, appliedBy, editedBy}
+use Rattle.state.specs.Edit.{noEdit, entering, leaving, givingWay, leftIn, editedIn, notedIn, boardLeft, boardEdited, noted, editedBook, appliedBy, editedBy}
+use Rattle.state.specs.laws.Edit.{applied}
 use Rattle.state.specs.laws.Layout.{read-back, put-laid}
 
 -- ---- between the code and the definition

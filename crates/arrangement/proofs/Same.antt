@@ -44,7 +44,7 @@ use Rattle.agreement.specs.laws.Tenants.{at-tenant}
 use Rattle.releases.specs.Rules.{differs, memoryB, notLeased, onceB, ownLeases, rulesAt}
 use Rattle.releases.specs.Whole.{boardGood, bookB, memoryGood, namesGood}
 use Rattle.releases.specs.laws.Tenants.{Holds, each-memory, memory-each}
-use Rattle.releases.specs.laws.Whole.{book-board, book-named, book-remembers, book-sound}
+use Rattle.releases.specs.laws.Whole.{book-board, book-sound}
 use Rattle.decision.specs.declared.Decided.{Decided}
 use Rattle.decision.specs.Parts.{ownOf}
 use Rattle.server.specs.Serve.{Answer, Call, Said, answered, atClock, decidedFor, discarded, discardedAt, forServer, said, serveOf, tenantOf, withReading}
@@ -65,7 +65,7 @@ unfolding runBy run
 run-ordered b [] = refl
 run-ordered b (c ∷ cs) = ap (λ (a : Answer). runBy ordered (a .book) cs) (serve-ordered b c) ∙ run-ordered (serveOf b c .book) cs
 
-book-ordered : (b : Book) → SoundBy ordered b → SoundBook b
+pub book-ordered : (b : Book) → SoundBy ordered b → SoundBook b
 unfolding bookBy bookB
 book-ordered b v = record { tenants = v .tenants; memory = v .memory; sound = v .sound }
 
@@ -74,7 +74,7 @@ unfolding bookBy bookB
 ordered-book b v = record { tenants = v .tenants; memory = v .memory; sound = v .sound }
 
 -- ---- the book with another table
-abbrev twin : Book → LeaseTable → Book
+abbrev pub twin : Book → LeaseTable → Book
 twin y t = changedTo y (y .state) t (y .memory)
 
 -- ---- an edit of the same records in another order
@@ -124,21 +124,58 @@ memory-same s t u m v e = each-memory s u m (λ h p. keep h (memory-each s t m e
     keep : (h : ℕ) → Holds (rulesAt (tenantsIn s) (s .clock) h (ownLeases t h) (releasesAt m h)) → Holds (rulesAt (tenantsIn s) (s .clock) h (ownLeases u h) (releasesAt m h))
     keep h w = record { houses = w .houses; few = w .few; lengths = w .lengths; once = sym (off h) ∙ w .once; times = w .times; layout = w .layout }
 
--- ---- so the book with such a table is sound by the order, where its records rise by it
-module _ (o : Order) (y : Book) (t : LeaseTable) (v : SoundBook y) (eight : length (t .tenants) ≡ 8) (laid : t ≡ tableOf (leasesOf t)) (same : Same (leasesOf (y .table)) (leasesOf t)) where
-  twin-lists : Sound (y .state) (leasesOf t)
-  twin-lists = sound-same (y .state) (leasesOf (y .table)) (leasesOf t) same (sound-lists (y .state) (y .table) (book-sound y (v .sound)))
+-- ---- the parts of a book that is sound by an order
+module _ (o : Order) (y : Book) (v : SoundBy o y) where
+  halves : (soundBy o (y .state) (y .table) ≡ true) × ((memoryGood y && (boardGood y && namesGood y)) ≡ true)
+  unfolding bookBy
+  halves = and-parts (soundBy o (y .state) (y .table)) (memoryGood y && (boardGood y && namesGood y)) (v .sound)
 
-  twin-sound : allBy (pairsBy o) (leasesOf t) ≡ true → SoundBy o (twin y t)
+  besides : (memoryGood y ≡ true) × ((boardGood y && namesGood y) ≡ true)
+  besides = and-parts (memoryGood y) (boardGood y && namesGood y) (halves .1)
+
+  pub sound-part : soundBy o (y .state) (y .table) ≡ true
+  sound-part = halves .0
+
+  memory-part : memoryGood y ≡ true
+  memory-part = besides .0
+
+  board-part : boardGood y ≡ true
+  board-part = and-parts (boardGood y) (namesGood y) (besides .1) .0
+
+  names-part : namesGood y ≡ true
+  names-part = and-parts (boardGood y) (namesGood y) (besides .1) .1
+
+-- ---- so the book with such a table is sound by another order, where its records rise by it
+module _ (p o : Order) (y : Book) (t : LeaseTable) (v : SoundBy p y) (eight : length (t .tenants) ≡ 8) (laid : t ≡ tableOf (leasesOf t)) (same : Same (leasesOf (y .table)) (leasesOf t)) where
+  twin-lists : Sound (y .state) (leasesOf t)
+  twin-lists = sound-same (y .state) (leasesOf (y .table)) (leasesOf t) same (lists-by p (y .state) (y .table) (sound-part p y v))
+
+  pub twin-sound : allBy (pairsBy o) (leasesOf t) ≡ true → SoundBy o (twin y t)
   unfolding bookBy
   twin-sound rises = record {
     tenants = eight;
     memory = v .memory;
     sound =
         and-both (ap (soundBy o (y .state)) laid ∙ by-lists o (y .state) (leasesOf t) twin-lists rises)
-        (and-both (memory-same (y .state) (y .table) t (y .memory) same (book-remembers y (v .sound)))
-        (and-both (is-agrees t (y .memory .board) (book-board y (v .sound) ∙ board-same (leasesOf (y .table)) (leasesOf t) same)) (book-named y (v .sound))));
+        (and-both (memory-same (y .state) (y .table) t (y .memory) same (memory-part p y v))
+        (and-both (is-agrees t (y .memory .board) (agrees-is (y .table) (y .memory .board) (board-part p y v) ∙ board-same (leasesOf (y .table)) (leasesOf t) same)) (names-part p y v)));
   }
+
+pub twin-alike : (y : Book) (t : LeaseTable) → Same (leasesOf t) (leasesOf (y .table)) → Alike (twin y t) y
+twin-alike y t w = record { state = refl; names = refl; memory = refl; records = own-same t (y .table) w }
+
+-- ---- two books equal but for the order
+module _ (o : Order) (x y : Book) (old : SoundBy o x) (new : SoundBook y) (a : Alike x y) where
+  pub lists-alike : Same (leasesOf (x .table)) (leasesOf (y .table))
+  lists-alike =
+      at-same (leasesOf (x .table)) (leasesOf (y .table)) (length-map (x .table .tenants) inUse ∙ old .tenants ∙ sym (length-map (y .table .tenants) inUse ∙ new .tenants))
+      (λ g. subst (λ (l : List Lease). Reordered l (getD (leasesOf (y .table)) g [])) (at-tenant (x .table) g) (subst (λ (l : List Lease). Reordered (ownOf (x .table) g) l) (at-tenant (y .table) g) (a .records g)))
+
+  -- x is y with its own table
+  pub is-twin : x ≡ twin y (x .table)
+  is-twin =
+      ap₂ (λ (s : State) (m : Memory). record { state = s; table = x .table; memory = m; names = x .names }) (a .state) (a .memory)
+      ∙ ap (λ (n : List ℕ). record { state = y .state; table = x .table; memory = y .memory; names = n }) (a .names)
 
 -- ---- two answers
 record Leaf (o : Order) (a b : Answer) : Type 0 where
@@ -158,9 +195,6 @@ both-pick P true x x′ y y′ f g = f refl
 both-pick P false x x′ y y′ f g = g refl
 
 module _ (o : Order) (decides : Ordering differ o) where
-  twin-alike : (y : Book) (t : LeaseTable) → Same (leasesOf t) (leasesOf (y .table)) → Alike (twin y t) y
-  twin-alike y t w = record { state = refl; names = refl; memory = refl; records = own-same t (y .table) w }
-
   -- ---- after the drop
   module _ (y : Book) (v : SoundBook y) (t : LeaseTable) (eight : length (t .tenants) ≡ 8) (laid : t ≡ tableOf (leasesOf t)) (w : Same (leasesOf t) (leasesOf (y .table)))
       (rises : allBy (pairsBy o) (leasesOf t) ≡ true) where
@@ -168,7 +202,7 @@ module _ (o : Order) (decides : Ordering differ o) where
     back = same-symm (leasesOf t) (leasesOf (y .table)) w
 
     kept : (n f : ℕ) → Leaf o (discardedAt n f (twin y t)) (discardedAt n f y)
-    kept n f = record { outcome = refl; offset = refl; reply = refl; alike = twin-alike y t w; sound = λ u. twin-sound o y t u eight laid back rises }
+    kept n f = record { outcome = refl; offset = refl; reply = refl; alike = twin-alike y t w; sound = λ u. twin-sound ordered o y t (ordered-book y u) eight laid back rises }
 
     -- the book after an edit e of tenant h
     module _ (h : ℕ) (there : h < length (t .tenants)) (e : Edit) where
@@ -183,8 +217,9 @@ module _ (o : Order) (decides : Ordering differ o) where
       edited-sound u =
           let s = same-symm (leasesOf (appliedBy o e h t)) (leasesOf (appliedBy ordered e h (y .table))) same-after in
           let l = applied-laid o e h t laid in
-          twin-sound o (editedBookBy ordered e h y) (appliedBy o e h t) u eight-after l s
-          (applied-rises o decides e (y .state) t h there rises (twin-lists o (editedBookBy ordered e h y) (appliedBy o e h t) u eight-after l s))
+          let q = ordered-book (editedBookBy ordered e h y) u in
+          twin-sound ordered o (editedBookBy ordered e h y) (appliedBy o e h t) q eight-after l s
+          (applied-rises o decides e (y .state) t h there rises (twin-lists ordered o (editedBookBy ordered e h y) (appliedBy o e h t) q eight-after l s))
 
     decided : (h : ℕ) (m : Fields) → h < length (t .tenants) → Leaf o (answeredBy o (twin y t) h m (decidedFor (twin y t) h m)) (answered y h m (decidedFor y h m))
     decided h m there =
@@ -215,26 +250,8 @@ module _ (o : Order) (decides : Ordering differ o) where
 
   -- ---- the call
   module _ (x y : Book) (old : SoundBy o x) (new : SoundBook y) (a : Alike x y) where
-    parts : (soundBy o (x .state) (x .table) ≡ true) × ((memoryGood x && (boardGood x && namesGood x)) ≡ true)
-    unfolding bookBy
-    parts = and-parts (soundBy o (x .state) (x .table)) (memoryGood x && (boardGood x && namesGood x)) (old .sound)
-
-    agrees : boardGood x ≡ true
-    agrees = and-parts (boardGood x) (namesGood x) (and-parts (memoryGood x) (boardGood x && namesGood x) (parts .1) .1) .0
-
-    lists : Same (leasesOf (x .table)) (leasesOf (y .table))
-    lists =
-        at-same (leasesOf (x .table)) (leasesOf (y .table)) (length-map (x .table .tenants) inUse ∙ old .tenants ∙ sym (length-map (y .table .tenants) inUse ∙ new .tenants))
-        (λ g. subst (λ (l : List Lease). Reordered l (getD (leasesOf (y .table)) g [])) (at-tenant (x .table) g) (subst (λ (l : List Lease). Reordered (ownOf (x .table) g) l) (at-tenant (y .table) g) (a .records g)))
-
     x-sound : Sound (x .state) (leasesOf (x .table))
-    x-sound = lists-by o (x .state) (x .table) (parts .0)
-
-    -- x is y with its own table
-    is-twin : x ≡ twin y (x .table)
-    is-twin =
-        ap₂ (λ (s : State) (m : Memory). record { state = s; table = x .table; memory = m; names = x .names }) (a .state) (a .memory)
-        ∙ ap (λ (n : List ℕ). record { state = y .state; table = x .table; memory = y .memory; names = n }) (a .names)
+    x-sound = lists-by o (x .state) (x .table) (sound-part o x old)
 
     module _ (c : Call) where
       abbrev clock : ℕ
@@ -251,12 +268,12 @@ module _ (o : Order) (decides : Ordering differ o) where
       same-now : Same (leasesOf (advanced (twin y (x .table)) (c .time) .table)) (leasesOf (advanced y (c .time) .table))
       same-now =
           subst (λ (l : List (List Lease)). Same l (leasesOf (advanced y (c .time) .table))) (sym lists-then)
-          (subst (λ (l : List (List Lease)). Same (map (liveOf clock) (leasesOf (x .table))) l) (sym lists-now) (same-live clock (leasesOf (x .table)) (leasesOf (y .table)) lists))
+          (subst (λ (l : List (List Lease)). Same (map (liveOf clock) (leasesOf (x .table))) l) (sym lists-now) (same-live clock (leasesOf (x .table)) (leasesOf (y .table)) (lists-alike o x y old new a)))
 
       -- both boards are what the same leases say
       boards : advanced (twin y (x .table)) (c .time) .memory .board ≡ advanced y (c .time) .memory .board
       boards =
-          agrees-is (advanced (twin y (x .table)) (c .time) .table) _ (advanced-agrees (twin y (x .table)) (c .time) (subst (λ (s : State). Sound s (leasesOf (x .table))) (a .state) x-sound) (subst (λ (m : Memory). agreesB (x .table) (m .board) ≡ true) (a .memory) agrees))
+          agrees-is (advanced (twin y (x .table)) (c .time) .table) _ (advanced-agrees (twin y (x .table)) (c .time) (subst (λ (s : State). Sound s (leasesOf (x .table))) (a .state) x-sound) (subst (λ (m : Memory). agreesB (x .table) (m .board) ≡ true) (a .memory) (board-part o x old)))
           ∙ board-same (leasesOf (advanced (twin y (x .table)) (c .time) .table)) (leasesOf (advanced y (c .time) .table)) same-now
           ∙ sym (book-board (advanced y (c .time)) (now-sound y c new .sound))
 
@@ -269,7 +286,7 @@ module _ (o : Order) (decides : Ordering differ o) where
       eight-then = length-map (map (liveOf clock) (leasesOf (x .table))) laidOut ∙ length-map (leasesOf (x .table)) (liveOf clock) ∙ length-map (x .table .tenants) inUse ∙ old .tenants
 
       rises-then : allBy (pairsBy o) (leasesOf (advanced (twin y (x .table)) (c .time) .table)) ≡ true
-      rises-then = ap (allBy (pairsBy o)) lists-then ∙ live-rises o clock (leasesOf (x .table)) (rises-by o (x .state) (x .table) (parts .0))
+      rises-then = ap (allBy (pairsBy o)) lists-then ∙ live-rises o clock (leasesOf (x .table)) (rises-by o (x .state) (x .table) (sound-part o x old))
 
       served : Leaf o (atClockBy o (advanced (twin y (x .table)) (c .time)) (c .client) (c .datagram)) (atClock (advanced y (c .time)) (c .client) (c .datagram))
       served =
@@ -284,7 +301,7 @@ module _ (o : Order) (decides : Ordering differ o) where
           (sym (yes (bookBy o x) (pick (ltb (c .room) leastRoom) (discarded 2 x) (atClockBy o (advanced x (c .time)) (c .client) (c .datagram))) (discarded 1 x) (old .sound)))
           (both-pick (Leaf o) (ltb (c .room) leastRoom) _ _ _ _
           (λ _. record { outcome = refl; offset = refl; reply = refl; alike = a; sound = λ _. old })
-          (λ _. subst (λ (b : Book). Leaf o (atClockBy o (advanced b (c .time)) (c .client) (c .datagram)) (atClock (advanced y (c .time)) (c .client) (c .datagram))) (sym is-twin) served)))
+          (λ _. subst (λ (b : Book). Leaf o (atClockBy o (advanced b (c .time)) (c .client) (c .datagram)) (atClock (advanced y (c .time)) (c .client) (c .datagram))) (sym (is-twin o x y old new a)) served)))
 
 -- ---- the theorem
 pub same-service : SameService

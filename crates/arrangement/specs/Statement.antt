@@ -2,13 +2,15 @@
 -- every datagram, address, time and room, and again such books". The old arrangement keeps records by identifier, the new by ending.
 use Prim.Native.Nat.{ℕ}
 use mathlib.Core.Bool.{true}
-use mathlib.Core.List.{List}
+use mathlib.Core.List.{List, map}
 use mathlib.Core.Path.{_≡_}
 use lib.ListN.{length}
+use Rattle.lists.specs.Arranged.{arranged}
 use Rattle.lists.specs.Reordered.{Reordered}
-use Rattle.state.specs.Book.{Book, Order, byEnding, byIdentifier}
+use Rattle.state.specs.Book.{Book, Order, byEnding, byIdentifier, changedTo, leasesOf, tableOf}
 use Rattle.decision.specs.Parts.{ownOf}
-use Rattle.server.specs.Serve.{Answer, Call}
+use Rattle.server.specs.Serve.{Answer, Call, serveOf}
+use Rattle.state_file.specs.StateFile.{octetsAs, octetsOf}
 use Rattle.arrangement.specs.Arrangement.{bookBy, runBy, serveBy, toldBy}
 
 -- a sound book by an order, with the eight tenants' records and releases that every book has
@@ -29,6 +31,23 @@ pub record Pair (x y : Book) : Type 0 where
   pub old : SoundBy byIdentifier x
   pub new : SoundBy byEnding y
   pub alike : Alike x y
+
+-- the book with each tenant's records arranged by an order
+abbrev pub arrangedBook : Order → Book → Book
+arrangedBook o b = changedTo b (b .state) (tableOf (map (arranged o) (leasesOf (b .table)))) (b .memory)
+
+-- every sound book, of the new arrangement and of the old, is one of such a pair
+pub record EveryBook (b : Book) : Type 0 where
+  pub old : SoundBy byEnding b → Pair (arrangedBook byIdentifier b) b
+  pub new : SoundBy byIdentifier b → Pair b (arrangedBook byEnding b)
+
+-- "The campus file keeps its own order": both have one file, that of the old book's records as they stand
+unfoldable pub SameFile : Type 0
+SameFile = (x y : Book) → Pair x y → octetsAs x ≡ octetsOf y
+
+-- by ending it is the call of the library
+unfoldable pub NewIsTheCall : Type 0
+NewIsTheCall = (b : Book) (c : Call) → serveBy byEnding b c ≡ serveOf b c
 
 -- "the same outcome", its offset too, "and reply", "and again such books"
 pub record SameAnswer (x y : Answer) : Type 0 where

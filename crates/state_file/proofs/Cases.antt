@@ -98,6 +98,9 @@ a = 0 ∷ 65 ∷ []
 b : List ℕ
 b = 0 ∷ 66 ∷ []
 
+c : List ℕ
+c = 0 ∷ 67 ∷ []
+
 -- a with an octet more
 ab : List ℕ
 ab = 0 ∷ 65 ∷ 0 ∷ []
@@ -466,9 +469,21 @@ memoryWith l = record { releases = laidReleases l ∷ laidReleases (specimenRele
 specimenMemory : Memory
 specimenMemory = memoryWith (specimenRelease a 5 900 ∷ [])
 
+-- document 02, W-209: tenant 1 has a until 4600, b until 2000, and c held until 1030. The file has them by identifier, the records by ending
+unlike : List ℕ
+unlike = holding 2 (lease 1 1 a 3 1000 4600 (0 ∷ []) ++ lease 1 1 b 3 1000 2000 (1 ∷ [])) 1 (held 1 c (2 ∷ []))
+
+unlikeHold : Lease
+unlikeHold = lapsingAt 1030 (leaseWith 1 2 (c ++ replicate 30 0) 1 16909060 1000 4600 4)
+
+-- the book with these records of tenant 1, no names and no releases
+unlikeBook : List Lease → Book
+unlikeBook l = let t = tableOf (l ∷ replicate 7 []) in record { state = specimenState; table = t; memory = withBoard t zeroMemory; names = unnamed 1 2 }
+
 read-specimen : (readFile specimen ≡ accepted specimenState specimenTable specimenMemory) × (namesOf specimen ≡ specimenNames) × (namesOf (specimen ++ 0 ∷ []) ≡ [])
-unfolding specimen specimenNames specimenState specimenLease specimenHold tableWith specimenTable server range scope lease tenants pool settings unnamed name en plain a b ab pick allBy pairsBy allTo filterBy isIn sumTo bit offsetsFrom setOf readOffsets risesFrom orderOf sameOf laidOut tableOf byIdentifier unionAll addressesOf overlaps oneTo sizeB idB recordsB countsB rule1 belowB offsetsB rule2 rangeB rangesApart rule3 poolB poolsApart rule4 ttlB rule5 reserveB reservesB rule6 kindB periodB leaseB noneB tenantsB rule7 differ rule8 disjoint apart rule9 compatible rule10 limitB limitsB rule11 committedB rule12 lapseB holdB rule13 zeroFrom paddedB blankB unusedB layoutBy rangeZero tailB scopeZero settingsB rule19By rulesBy firstLate firstRule firstBroken brokenBy soundBy then closed readOctet readNumber readTimes isAfter orderedFrom fileOf filled stored storedHold insertIn arranged mergedFrom isHold storedScope storedState storedTable storableB leaseFitB holdFitB fewOf recordsFitB countsFit fitsB refused accepted judged loaded loadedGot readFile committed namesOf namesGot sizesOk bare release specimenRelease memoryWith specimenMemory brokenMemory brokenRelease firstRelease releaseRulesOf rulesTo houseB fewB lengthB differs notLeased onceB pastB older filledB unusedR laidB memoryB laidReleases storedRelease storedMemory entries.apart keepableB fewFor releasesFitB boardOf scopeBy entryBy ownerFrom countOn countIn isOn upTo specimenBoard boardWith entry byEnding until
-read-specimen = (refl, refl, refl)
+    × (readFile unlike ≡ (let x = unlikeBook (unlikeHold ∷ specimenLease b 2000 2 ∷ specimenLease a 4600 1 ∷ []) in accepted (x .state) (x .table) (x .memory)))
+unfolding unlike unlikeHold unlikeBook c holding held hold specimen specimenNames specimenState specimenLease specimenHold tableWith specimenTable server range scope lease tenants pool settings unnamed name en plain a b ab pick allBy pairsBy allTo filterBy isIn sumTo bit offsetsFrom setOf readOffsets risesFrom orderOf sameOf laidOut tableOf byIdentifier unionAll addressesOf overlaps oneTo sizeB idB recordsB countsB rule1 belowB offsetsB rule2 rangeB rangesApart rule3 poolB poolsApart rule4 ttlB rule5 reserveB reservesB rule6 kindB periodB leaseB noneB tenantsB rule7 differ rule8 disjoint apart rule9 compatible rule10 limitB limitsB rule11 committedB rule12 lapseB holdB rule13 zeroFrom paddedB blankB unusedB layoutBy rangeZero tailB scopeZero settingsB rule19By rulesBy firstLate firstRule firstBroken brokenBy soundBy then closed readOctet readNumber readTimes isAfter orderedFrom fileOf filled stored storedHold insertIn arranged mergedFrom isHold storedScope storedState storedTable storableB leaseFitB holdFitB fewOf recordsFitB countsFit fitsB refused accepted judged loaded loadedGot readFile committed namesOf namesGot sizesOk bare release specimenRelease memoryWith specimenMemory brokenMemory brokenRelease firstRelease releaseRulesOf rulesTo houseB fewB lengthB differs notLeased onceB pastB older filledB unusedR laidB memoryB laidReleases storedRelease storedMemory entries.apart keepableB fewFor releasesFitB boardOf scopeBy entryBy ownerFrom countOn countIn isOn upTo specimenBoard boardWith entry byEnding until
+read-specimen = (refl, refl, refl, refl)
 
 -- the book with these names, or others; and with another memory
 bookWith : List ℕ → Book
@@ -506,11 +521,12 @@ write-specimen : (octetsOf (bookWith specimenNames) ≡ specimen)
     × (writtenOf (bookWith (unnamed 2 2)) 154 ≡ record { refusal = 22; length = 0 })
     × (writtenOf (bookWith (1 ∷ 1 ∷ name 1 en en ++ 0 ∷ 0 ∷ [])) 154 ≡ record { refusal = 22; length = 0 })
     × (roomAfter (bookWith []) (replicate 156 9) ≡ replicate 156 9)
-unfolding specimen specimenNames specimenState specimenLease specimenHold tableWith specimenTable server range scope lease tenants pool settings unnamed name en plain a b ab pick allBy pairsBy allTo filterBy isIn sumTo bit offsetsFrom setOf readOffsets risesFrom orderOf sameOf laidOut tableOf byIdentifier unionAll addressesOf overlaps oneTo sizeB idB recordsB countsB rule1 belowB offsetsB rule2 rangeB rangesApart rule3 poolB poolsApart rule4 ttlB rule5 reserveB reservesB rule6 kindB periodB leaseB noneB tenantsB rule7 differ rule8 disjoint apart rule9 compatible rule10 limitB limitsB rule11 committedB rule12 lapseB holdB rule13 zeroFrom paddedB blankB unusedB layoutBy rangeZero tailB scopeZero settingsB rule19By rulesBy firstLate firstRule firstBroken brokenBy soundBy then closed readOctet readNumber readTimes isAfter orderedFrom fileOf filled stored storedHold insertIn arranged mergedFrom isHold storedScope storedState storedTable storableB leaseFitB holdFitB fewOf recordsFitB countsFit fitsB refused accepted judged loaded loadedGot readFile zeroTable octetsOf writtenOf roomAfter filedBook filedLeases filedHolds filedScope pairUp filedLease filedHold writeAll committed bookWith zeroBook bookB namesB isWhole sizesOk bare release specimenRelease memoryWith specimenMemory brokenMemory brokenRelease firstRelease releaseRulesOf rulesTo houseB fewB lengthB differs notLeased onceB pastB older filledB unusedR laidB memoryB laidReleases storedRelease storedMemory entries.apart keepableB fewFor releasesFitB entries.filedAll filedRelease filedMemory boardOf scopeBy entryBy ownerFrom countOn countIn isOn upTo specimenBoard boardWith entry agreesB sameBoard sameScopeBoard sameEntry sameBy byEnding until filedAs inFileOrder
-write-specimen = (refl, refl, refl, refl, refl, refl, refl, refl, refl, refl, refl, refl)
-
-c : List ℕ
-c = 0 ∷ 67 ∷ []
+    -- by ending; in the file's order
+    × (octetsOf (unlikeBook (unlikeHold ∷ specimenLease b 2000 2 ∷ specimenLease a 4600 1 ∷ [])) ≡ unlike)
+    × (writtenOf (unlikeBook (unlikeHold ∷ specimenLease b 2000 2 ∷ specimenLease a 4600 1 ∷ [])) 200 .refusal ≡ 0)
+    × (writtenOf (unlikeBook (specimenLease a 4600 1 ∷ specimenLease b 2000 2 ∷ unlikeHold ∷ [])) 200 .refusal ≡ 22)
+unfolding unlike unlikeHold unlikeBook c holding held hold specimen specimenNames specimenState specimenLease specimenHold tableWith specimenTable server range scope lease tenants pool settings unnamed name en plain a b ab pick allBy pairsBy allTo filterBy isIn sumTo bit offsetsFrom setOf readOffsets risesFrom orderOf sameOf laidOut tableOf byIdentifier unionAll addressesOf overlaps oneTo sizeB idB recordsB countsB rule1 belowB offsetsB rule2 rangeB rangesApart rule3 poolB poolsApart rule4 ttlB rule5 reserveB reservesB rule6 kindB periodB leaseB noneB tenantsB rule7 differ rule8 disjoint apart rule9 compatible rule10 limitB limitsB rule11 committedB rule12 lapseB holdB rule13 zeroFrom paddedB blankB unusedB layoutBy rangeZero tailB scopeZero settingsB rule19By rulesBy firstLate firstRule firstBroken brokenBy soundBy then closed readOctet readNumber readTimes isAfter orderedFrom fileOf filled stored storedHold insertIn arranged mergedFrom isHold storedScope storedState storedTable storableB leaseFitB holdFitB fewOf recordsFitB countsFit fitsB refused accepted judged loaded loadedGot readFile zeroTable octetsOf writtenOf roomAfter filedBook filedLeases filedHolds filedScope pairUp filedLease filedHold writeAll committed bookWith zeroBook bookB namesB isWhole sizesOk bare release specimenRelease memoryWith specimenMemory brokenMemory brokenRelease firstRelease releaseRulesOf rulesTo houseB fewB lengthB differs notLeased onceB pastB older filledB unusedR laidB memoryB laidReleases storedRelease storedMemory entries.apart keepableB fewFor releasesFitB entries.filedAll filedRelease filedMemory boardOf scopeBy entryBy ownerFrom countOn countIn isOn upTo specimenBoard boardWith entry agreesB sameBoard sameScopeBoard sameEntry sameBy byEnding until filedAs inFileOrder
+write-specimen = (refl, refl, refl, refl, refl, refl, refl, refl, refl, refl, refl, refl, refl, refl, refl)
 
 -- releases that are lent: none of tenant 1 and two of one time are written; a time after the clock, times that fall, an identifier on a lease, an octet past
 -- an identifier, an entry in use of which nothing is set, an unused one that is not zero, and five of four are 22

@@ -206,7 +206,7 @@ raised s time = withClock s (max (s .clock) time)
 abbrev pub raisedIn : Ledger → ℕ → Ledger
 raisedIn g time = record { state = raised (g .state) time; memory = g .memory }
 
--- how many have ended in front: "Dropping ended leases should take from the front" (W-209). By ending they are all that have ended (laws/Ending.antt)
+-- how many have ended in front: "Dropping ended leases should take from the front" (W-209). By ending they are all that have ended (laws/Sorted.antt)
 unfoldable pub endedFront : ℕ → List Lease → ℕ
 endedFront clock ls = placeBy (live clock) ls
 

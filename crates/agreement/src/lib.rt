@@ -2,7 +2,9 @@
 // and the board that leases make, with which a book's own is compared.
 ghost use mathlib.Core.Path.{_≡_};
 ghost use Rattle.lists.specs.Fold.{fold};
-ghost use Rattle.state.specs.Book.{endedOf, inUse, boardWith, boardWithout};
+ghost use Prim.Native.Nat.{min};
+ghost use lib.ListN.{take};
+ghost use Rattle.state.specs.Book.{inUse, boardWith, boardWithout};
 ghost use Rattle.state.specs.Edit.{boardEdited, boardLeft};
 ghost use Rattle.state.specs.Board.{builtOf};
 ghost use Rattle.occupancy.specs.Board.{sameBoard};
@@ -30,19 +32,26 @@ pub fn take(b: Board, h: usize, l: Lease) -> Board
 
 // ---- what a call does
 
-// A tenant's leases and holds that are not live at a clock are taken off.
-pub fn clear(b: Board, h: usize, t: TenantLeases, clock: u32) -> Board
-    ensures { λ r. ⌜ r ≡ fold (boardWithout h) b (endedOf clock (inUse t)) ⌝ }
+fn fewer(n: usize, most: usize) -> usize
+    ensures { λ r. ⌜ r ≡ min n most ⌝ }
+{
+    if n < most {
+        return n;
+    }
+    most
+}
+
+// A tenant's first n records are taken off: those that have ended stand in front.
+pub fn clear(b: Board, h: usize, t: TenantLeases, n: usize) -> Board
+    ensures { λ r. ⌜ r ≡ fold (boardWithout h) b (take n (inUse t)) ⌝ }
 {
     let mut now = b;
-    let n = state::cut16(t.count);
+    let many = fewer(n, state::cut16(t.count));
     let mut i: usize = 0;
-    while i < n {
+    while i < many {
         let l = t.leases[i];
         i += 1;
-        if !state::is_live(l, clock) {
-            now = take(now, h, l);
-        }
+        now = take(now, h, l);
     }
     now
 }

@@ -19,9 +19,9 @@ use Rattle.message.specs.declared.Fields.{Fields}
 use Rattle.message.specs.declared.Language.{Language}
 use Rattle.occupancy.specs.Board.{noBoard}
 use Rattle.state.specs.declared.State.{State}
-use Rattle.state.specs.Book.{Book, changedTo, withClock, laidReleases, releasesAt, remembered, byIdentifier, zeroScope, laidOut, tableOf, insertOf, removeOf, liveOf, dropped, isHold, until, unionAll, addressesOf, overlaps, usedIn, withHeld, committed, insertedIn}
+use Rattle.state.specs.Book.{Book, changedTo, withClock, laidReleases, releasesAt, remembered, byIdentifier, zeroScope, laidOut, tableOf, removeOf, liveOf, dropped, isHold, until, unionAll, addressesOf, overlaps, usedIn, withHeld, committed, insertedBy, byEnding}
 use Rattle.allocation.specs.Rule.{takenOf, busyIn, allowed, grantOf, suffices, grantTo}
-use Rattle.state.specs.Edit.{leftIn, editedIn, applied, rememberOf, forgetOf, notedIn, noted, editedBook}
+use Rattle.state.specs.Edit.{leftIn, rememberOf, forgetOf, notedIn, noted, editedBook, appliedBy, editedBy}
 use Rattle.releases.specs.Again.{isAgain, anyAgain}
 use Rattle.decision.specs.declared.Decided.{Decided}
 use Rattle.decision.specs.declared.Verdict.{Verdict}
@@ -405,7 +405,7 @@ table =
     ∷ []
 
 specimens : allHold table ≡ true
-unfolding settings wish call now decided run empty replyType holds allHold ack nak offer unheard twoScopes inTwo second held wants other p1 p3 p5 released turn five table pick filterBy isIn placeBy sumTo largest orderOf sameOf bit offsetsFrom setOf differenceOf upTo laidOut tableOf insertOf insertIn byIdentifier removeOf liveOf dropped unionAll addressesOf overlaps usedIn takenOf busyIn withHeld committed allowed grantOf suffices isNew hasPeriod holdsOf recordedOf resends scopePlace knowsScope lacksScope zeroLength badCounts lacksCurrent error1Of skewed error2Of error3Of wishedOr startOf lengthOf endOf askAt fitsNew newWith newAt newOf othersBusy fitsRenewed renewedTo renewedOf proposalOf error0Of leaseFrom withLease plainReply nakWith discardWith refusalOf leasedOf plainOf settledOf judgedOf decideOf insertedIn leftIn editedIn applied grantTo early1Of heldAlready laidReleases rememberOf forgetOf notedIn noted isAgain anyAgain releasedAgain latestFirst tooShort tooLate meets isLeased isHeld isForHold dropsHold broughtBy droppedFirst until isHold sameScope holdMeets repeatedOf turned heldFrom
+unfolding settings wish call now decided run empty replyType holds allHold ack nak offer unheard twoScopes inTwo second held wants other p1 p3 p5 released turn five table pick filterBy isIn placeBy sumTo largest orderOf sameOf bit offsetsFrom setOf differenceOf upTo laidOut tableOf insertIn byIdentifier removeOf liveOf dropped unionAll addressesOf overlaps usedIn takenOf busyIn withHeld committed allowed grantOf suffices isNew hasPeriod holdsOf recordedOf resends scopePlace knowsScope lacksScope zeroLength badCounts lacksCurrent error1Of skewed error2Of error3Of wishedOr startOf lengthOf endOf askAt fitsNew newWith newAt newOf othersBusy fitsRenewed renewedTo renewedOf proposalOf error0Of leaseFrom withLease plainReply nakWith discardWith refusalOf leasedOf plainOf settledOf judgedOf decideOf insertedBy leftIn editedBy appliedBy grantTo early1Of heldAlready laidReleases rememberOf forgetOf notedIn noted isAgain anyAgain releasedAgain latestFirst tooShort tooLate meets isLeased isHeld isForHold dropsHold broughtBy droppedFirst until isHold sameScope holdMeets repeatedOf turned heldFrom byEnding
 specimens = refl
 
 -- W-203: Maximum Start Time before Start Time ends the matter before the identifier is looked for; equal it does not

@@ -23,8 +23,9 @@ use Rattle.state.specs.declared.Memory.{Memory}
 use Rattle.state.specs.declared.State.{State}
 use Rattle.state.specs.declared.TenantLeases.{TenantLeases}
 use Rattle.state.specs.declared.TenantReleases.{TenantReleases}
-use Rattle.state.specs.Book.{Book, advanced, changedTo, dropped, idOf, insertOf, isHold, laidOut, laidReleases, leasesOf, live, liveOf, putAt, putReleases, raised, releasesAt, remembered, removeOf, tableOf, until, withClock}
-use Rattle.state.specs.Edit.{applied, editedBook, entering, forgetOf, givingWay, noted, notedIn}
+use Rattle.state.specs.Book.{Book, ordered, advanced, changedTo, dropped, idOf, insertOf, isHold, laidOut, laidReleases, leasesOf, live, liveOf, putAt, putReleases, raised, releasesAt, remembered, removeOf, tableOf, until, withClock}
+use Rattle.state.specs.laws.Edit.{applied}
+use Rattle.state.specs.Edit.{editedBook, entering, forgetOf, givingWay, noted, notedIn}
 use Rattle.state.specs.laws.Edited.{applied-entering, applied-laid, applied-way}
 use Rattle.releases.specs.laws.Whole.{advanced-book, book-sound, same-board}
 use Rattle.soundness.specs.Sound.{holdB, lapseB}
@@ -217,7 +218,7 @@ module _ (b : Book) (c : Call) (v : SoundBook b) (discovers : Discovers c) (free
   w-sound = subst SoundBook book-is (call-sound b c v)
 
   still : bookAt w (requested c) ≡ w
-  still = advanced-still w (c .time) w-sound (applied-laid (entering H) h t (advanced-laid b (c .time))) (now-late b c)
+  still = advanced-still w (c .time) w-sound (applied-laid ordered (entering H) h t (advanced-laid b (c .time))) (now-late b c)
 
   has : Has h (leaseIdIn m) H (w .table)
   has = subst (λ (y : Book). Has h (leaseIdIn m) H (y .table)) book-is (taken.fresh-leaves b c v discovers offered f .has)
@@ -240,7 +241,7 @@ module _ (b : Book) (c : Call) (v : SoundBook b) (discovers : Discovers c) (free
       ∙ ap (λ (y : Book). answered y (tenantOf (y .state) (c .client)) (says y) (changed (givingWay H (turned (says y) H)) (withLease LeaseAck (turned (says y) H)))) still
 
   gone : removeOf (idOf H) (insertOf H (ownOf t h)) ≡ ownOf t h
-  gone = others-stay s t h m H (taken.S b c v discovers offered) refl (f .none)
+  gone = others-stay s t h m H (book-sound (bookAt b c) (taken.now b c v discovers offered .sound)) refl (f .none)
 
   same-id : idOf L ≡ idOf H
   unfolding turned

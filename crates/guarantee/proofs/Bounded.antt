@@ -19,8 +19,9 @@ use Rattle.state.specs.declared.State.{State}
 use Rattle.state.specs.declared.TenantLeases.{TenantLeases}
 use Rattle.state.specs.declared.Scope.{Scope}
 use Rattle.state.specs.declared.Edit.{Edit}
-use Rattle.state.specs.Book.{Book, idOf, inUse, insertOf, insertedIn, laidOut, ordered, removeOf, tenantAt, zeroLease}
-use Rattle.state.specs.Edit.{applied, editedIn, leftIn}
+use Rattle.state.specs.Book.{Book, idOf, inUse, insertOf, insertedIn, laidOut, ordered, removeOf, tenantAt, zeroLease, insertedBy}
+use Rattle.state.specs.laws.Edit.{applied}
+use Rattle.state.specs.Edit.{editedIn, leftIn, appliedBy, editedBy}
 use Rattle.allocation.specs.declared.Ask.{Ask}
 use Rattle.allocation.specs.declared.Grant.{Grant}
 use Rattle.allocation.specs.Rule.{grantTo}
@@ -40,7 +41,7 @@ F l = l .addresses < 2 ^ 64
 
 -- ---- lists of leases
 pub inserted : (l : Lease) (ls : List Lease) → F l → All F ls → All F (insertOf l ls)
-unfolding insertOf insertIn All
+unfolding insertIn All
 inserted l ls f h = all-join F (filterBy (λ x. ordered x l) ls) (l ∷ filterBy (λ x. not (ordered x l)) ls) (all-filter F (λ x. ordered x l) ls h) (f, all-filter F (λ x. not (ordered x l)) ls h)
 
 removed : (i : List ℕ) (ls : List Lease) → All F ls → All F (removeOf i ls)
@@ -57,7 +58,7 @@ left e t h = leave (e .leaves)
     leave false = h
 
 entered : (l : Lease) (t : TenantLeases) → F l → All F (inUse t) → All F (inUse (insertedIn l t))
-unfolding insertedIn pick
+unfolding insertedBy pick
 entered l t f h = enter (ltb (length (inUse t)) 16)
   where
     enter : (c : Bool) → All F (inUse (pick c (laidOut (insertOf l (inUse t))) t))
@@ -65,7 +66,7 @@ entered l t f h = enter (ltb (length (inUse t)) 16)
     enter false = h
 
 edited : (e : Edit) (t : TenantLeases) → F (e .new) → All F (inUse t) → All F (inUse (editedIn e t))
-unfolding editedIn pick
+unfolding editedBy pick
 edited e t f h = go (e .enters)
   where
     go : (c : Bool) → All F (inUse (pick c (insertedIn (e .new) (leftIn e t)) (leftIn e t)))
@@ -73,7 +74,7 @@ edited e t f h = go (e .enters)
     go false = left e t h
 
 put : (e : Edit) (t : LeaseTable) (h g : ℕ) → F (e .new) → All F (ownOf t h) → All F (ownOf t g) → All F (ownOf (applied e h t) g)
-unfolding applied
+unfolding appliedBy
 put e t h g f own old = set-either (λ x. All F (inUse x)) (t .tenants) h (editedIn e (tenantAt t h)) g (laidOut []) (edited e (tenantAt t h) f own) old
 
 -- ---- the lease that a message is given

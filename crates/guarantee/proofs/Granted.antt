@@ -176,7 +176,7 @@ module _ (b : Book) (c : Call) (v : SoundBook b) (r : NewRequest b c) where
     own = after;
     unchanged =
         ap (removeOf (idOf (leaseFor b c))) after
-        ∙ others-stay (stateAt b c) (tableAt b c) (tenantFor b c) (saysOf b c) (leaseFor b c) S refl
+        ∙ others-stay (stateAt b c) (tableAt b c) (tenantFor b c) (saysOf b c) (leaseFor b c) (book-sound (bookAt b c) (now-sound b c v .sound)) refl
         (not-held (stateAt b c) (tableAt b c) (tenantFor b c) (saysOf b c) S (r .house) (r .request) (r .new) (r .free) (r .error1) (r .error2));
   }
 

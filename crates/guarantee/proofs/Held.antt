@@ -25,7 +25,8 @@ use Rattle.state.specs.declared.Release.{Release}
 use Rattle.state.specs.declared.State.{State}
 use Rattle.state.specs.declared.TenantLeases.{TenantLeases}
 use Rattle.state.specs.Book.{Book, advanced, dropped, idOf, inUse, laidOut, liveOf, named, raised, tenantAt, until, withClock}
-use Rattle.state.specs.Edit.{applied, editedIn, noEdit}
+use Rattle.state.specs.laws.Edit.{applied}
+use Rattle.state.specs.Edit.{editedIn, noEdit, appliedBy}
 use Rattle.state.specs.laws.Edited.{applied-others}
 use Rattle.state.specs.laws.Named.{edited-other, named-live}
 use Rattle.decision.specs.declared.Decided.{Decided}
@@ -134,14 +135,14 @@ module _ (h : ℕ) (i : List ℕ) (o : Lease) where
   now-has b time z e = live-has (max (b .state .clock) time) (b .table) z e
 
   edited-has : (e : Edit) (g : ℕ) (m : Fields) (t : LeaseTable) → AboutIt m e → (g ≡ h → leaseIdIn m ≡ i → ⊥) → Has h i o t → Has h i o (applied e g t)
-  unfolding applied AboutIt
+  unfolding appliedBy AboutIt
   edited-has e g m t about away has = go (eqb g h) refl
     where
       go : (b : Bool) → eqb g h ≡ b → Has h i o (applied e g t)
       go true f =
           let n : leaseIdIn m ≡ i → ⊥ = away (eqb-true g h f) in
           set-either (λ (x : TenantLeases). filterBy (named i) (inUse x) ≡ o ∷ []) (t .tenants) g (editedIn e (tenantAt t g)) h (laidOut [])
-          (edited-other e i (tenantAt t g) (λ y p. n (sym (about .0 y) ∙ p)) (λ y p. n (sym (about .1 y) ∙ p)) ∙ ap (λ (k : ℕ). filterBy (named i) (ownOf t k)) (eqb-true g h f) ∙ has) has
+          (edited-other e i (tenantAt t g) o (λ y p. n (sym (about .0 y) ∙ p)) (λ y p. n (sym (about .1 y) ∙ p)) (ap (λ (k : ℕ). filterBy (named i) (ownOf t k)) (eqb-true g h f) ∙ has)) has
       go false f = ap (λ (x : TenantLeases). filterBy (named i) (inUse x)) (applied-others e g h t (λ p. eqb-false g h f (sym p))) ∙ has
 
   -- ---- one call elsewhere

@@ -17,11 +17,12 @@ use Rattle.state.specs.declared.Lease.{Lease}
 use Rattle.state.specs.declared.LeaseTable.{LeaseTable}
 use Rattle.state.specs.declared.State.{State}
 use Rattle.state.specs.Book.{differ, idOf, inUse, insertOf, laidOut, leasesOf, named, ordered, other, placeOf, removeOf}
-use Rattle.state.specs.Edit.{applied, entering}
+use Rattle.state.specs.laws.Edit.{applied}
+use Rattle.state.specs.Edit.{entering}
 use Rattle.state.specs.laws.Edited.{applied-entering}
 use Rattle.state.specs.laws.Layout.{read-back}
-use Rattle.soundness.specs.Sound.{compatible}
-use Rattle.soundness.specs.laws.Book.{Sound, pairOk}
+use Rattle.soundness.specs.Sound.{compatible, soundB}
+use Rattle.soundness.specs.laws.Book.{pairOk, sound-lists, sound-rises}
 use Rattle.soundness.specs.laws.Added.{pairs-at, rises-at}
 use Rattle.decision.specs.Parts.{holdsOf, ownOf}
 use Rattle.decision.specs.Parts as parts
@@ -39,7 +40,7 @@ place-none {A} t (x ∷ l) h = go (t x) refl h (place-none t l)
     go false e h ih = all-cons (λ x. not (t x)) x l (ap not e) (ih (omega arith))
 
 -- so where the tenant of a sound book does not hold the identifier, its leases but for the new one stay
-pub others-stay : (s : State) (t : LeaseTable) (h : ℕ) (m : Fields) (l : Lease) → Sound s (leasesOf t) → idOf l ≡ parts.leaseIdIn m → holdsOf (ownOf t h) m ≡ false
+pub others-stay : (s : State) (t : LeaseTable) (h : ℕ) (m : Fields) (l : Lease) → soundB s t ≡ true → idOf l ≡ parts.leaseIdIn m → holdsOf (ownOf t h) m ≡ false
     → removeOf (idOf l) (insertOf l (ownOf t h)) ≡ ownOf t h
 unfolding holdsOf pairOk
 others-stay s t h m l v e held =
@@ -47,8 +48,8 @@ others-stay s t h m l v e held =
     (ap (λ (i : List ℕ). allBy (other i) (ownOf t h)) e
     ∙ place-none (named (parts.leaseIdIn m)) (ownOf t h) (ltb-false (placeOf (parts.leaseIdIn m) (ownOf t h)) (length (ownOf t h)) held))
     (and-parts (pairsBy differ (ownOf t h)) (pairsBy compatible (ownOf t h))
-    (sym (pairs-and differ compatible (ownOf t h)) ∙ ap (pairsBy pairOk) (own-is t h) ∙ pairs-at s (leasesOf t) v h) .0)
-    (ap (pairsBy ordered) (own-is t h) ∙ rises-at s (leasesOf t) v h)
+    (sym (pairs-and differ compatible (ownOf t h)) ∙ ap (pairsBy pairOk) (own-is t h) ∙ pairs-at s (leasesOf t) (sound-lists s t v) h) .0)
+    (ap (pairsBy ordered) (own-is t h) ∙ rises-at ordered (leasesOf t) h (sound-rises s t v))
 
 -- the tenant's records after an insertion
 pub entered : (t : LeaseTable) (h : ℕ) (l : Lease) → h < length (t .tenants) → length (ownOf t h) < 16 → ownOf (applied (entering l) h t) h ≡ insertOf l (ownOf t h)

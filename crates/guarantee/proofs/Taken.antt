@@ -2,7 +2,7 @@
 use Prim.Native.Nat.{ℕ, _+_, _-_, _≤_, _<_, min}
 use mathlib.Core.Path.{_≡_, refl, sym, ap, ap₂, _∙_, subst}
 use mathlib.Core.Bool.{Bool, true, false, not, _&&_, _||_}
-use mathlib.Core.List.{List, [], _∷_}
+use mathlib.Core.List.{List, []}
 use mathlib.Core.Logic.{_⊎_, ⊎-elim}
 use native.Mathlib.Omega.{arith}
 use lib.Dec.{eqb, leb, ltb}
@@ -25,8 +25,9 @@ use Rattle.state.specs.declared.LeaseTable.{LeaseTable}
 use Rattle.state.specs.declared.Release.{Release}
 use Rattle.state.specs.declared.State.{State}
 use Rattle.state.specs.declared.TenantLeases.{TenantLeases}
-use Rattle.state.specs.Book.{Book, advanced, differ, idOf, inUse, insertOf, isHold, laidOut, laidReleases, leaseAt, leasesOf, named, placeOf, putReleases, raised, releasesAt, remembered, removeOf, scopeAt, until, withClock, zeroLease}
-use Rattle.state.specs.Edit.{applied, entering, forgetOf, givingWay, noted, notedIn}
+use Rattle.state.specs.Book.{Book, advanced, differ, idOf, inUse, insertOf, isHold, laidOut, laidReleases, leaseAt, leasesOf, named, ordered, placeOf, putReleases, raised, releasesAt, remembered, removeOf, scopeAt, until, withClock, zeroLease}
+use Rattle.state.specs.laws.Edit.{applied}
+use Rattle.state.specs.Edit.{entering, forgetOf, givingWay, noted, notedIn}
 use Rattle.state.specs.laws.Edited.{applied-none, applied-others, applied-way}
 use Rattle.state.specs.laws.Layout.{read-back, removed-fewer}
 use Rattle.state.specs.laws.Named.{inserted-own, none-named, one-named, place-first, place-some, removed-own}
@@ -171,7 +172,7 @@ module _ (b : Book) (d : Call) (v : SoundBook b) (discovers : Discovers d) (offe
     fresh-has : Has h i (holdFor b d) (serveOf b d .book .table)
     unfolding holdsOf
     fresh-has =
-        ap (filterBy (named i)) fresh-own ∙ inserted-own (holdFor b d) (ownOf t h) ∙ ap {B = List Lease} (λ (l : List Lease). holdFor b d ∷ l) (none-named i (ownOf t h) (f .none))
+        ap (filterBy (named i)) fresh-own ∙ inserted-own ordered (holdFor b d) (ownOf t h) (none-named i (ownOf t h) (f .none))
 
     fresh-reply : serveOf b d .reply ≡ offerOf (headOf s m) (termsOf s (withLease Offer (holdFor b d)))
     unfolding replyOf withLease
@@ -235,8 +236,8 @@ gave-way : (t : LeaseTable) (h : ℕ) (o l : Lease) → h < length (t .tenants) 
 gave-way t h o l there few e =
     ap (λ (x : LeaseTable). filterBy (named (idOf o)) (ownOf x h)) (applied-way t h o l few)
     ∙ ap (λ (x : TenantLeases). filterBy (named (idOf o)) (inUse x)) (getD-set-same (t .tenants) h (laidOut rest) (laidOut []) there) ∙ ap (filterBy (named (idOf o))) (read-back rest)
-    ∙ ap (λ (j : List ℕ). filterBy (named j) rest) (sym e) ∙ inserted-own l (removeOf (idOf o) (ownOf t h))
-    ∙ ap {B = List Lease} (λ (x : List Lease). l ∷ x) (ap (λ (j : List ℕ). filterBy (named j) (removeOf (idOf o) (ownOf t h))) e ∙ removed-own (idOf o) (ownOf t h))
+    ∙ ap (λ (j : List ℕ). filterBy (named j) rest) (sym e) ∙ inserted-own ordered l (removeOf (idOf o) (ownOf t h))
+    (ap (λ (j : List ℕ). filterBy (named j) (removeOf (idOf o) (ownOf t h))) e ∙ removed-own (idOf o) (ownOf t h))
   where
     rest : List Lease
     rest = insertOf l (removeOf (idOf o) (ownOf t h))

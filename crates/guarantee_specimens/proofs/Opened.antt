@@ -16,9 +16,9 @@ use Rattle.message.specs.Walk.{exactlyFilled, layoutOk, stepOf, optionTaken, va
 use Rattle.message.specs.Read.{ended, headerOk, noneRequired, readOf, requiredEmpty}
 use Rattle.message.specs.Values.{allowedAt, codesFrom, fieldsOf, foundAt, namesServer, timesOf}
 use Rattle.reply.specs.Reply.{infoAckOf, leaseAckOf, messageOctets, nakOf, offerOf, optionsOctets, rangesOctets, releaseAckOf, scopesOctets}
-use Rattle.state.specs.Book.{addressesOf, advanced, byIdentifier, clearedTo, differ, dropped, endedOf, insertOf, laidOut, liveOf, overlaps, raised, removeOf, insertedIn, isHold, laidReleases, tableOf, until, withHeld, committed, unionAll, usedIn, boardWith, boardWithout}
+use Rattle.state.specs.Book.{addressesOf, advanced, byIdentifier, clearedTo, differ, dropped, endedOf, laidOut, liveOf, overlaps, raised, removeOf, isHold, laidReleases, tableOf, until, withHeld, committed, unionAll, usedIn, boardWith, boardWithout, insertedBy, byEnding}
 use Rattle.state.specs.Board.{boardOf, countIn, countOn, entryBy, isOn, ownerFrom, scopeBy}
-use Rattle.state.specs.Edit.{applied, boardEdited, boardLeft, editedIn, forgetOf, leftIn, noted, notedIn, rememberOf}
+use Rattle.state.specs.Edit.{boardEdited, boardLeft, forgetOf, leftIn, noted, notedIn, rememberOf, appliedBy, editedBy}
 use Rattle.format.specs.Format.{readOctet, readTimes, then, writeAll}
 use Rattle.format.specs.Place.{isWhole}
 use Rattle.names.specs.Names.{chosenOf, defaultOf, firstBy, inLanguage, listsIn, matchOf, namesB, orElse, same, sentFor, sizesOk, valueOr}
@@ -26,7 +26,7 @@ use Rattle.agreement.specs.Agrees.{agreesB}
 use Rattle.releases.specs.Again.{anyAgain, isAgain}
 use Rattle.releases.specs.Rules.{brokenMemory, brokenRelease, differs, fewB, filledB, firstRelease, houseB, laidB, lengthB, memoryB, notLeased, older, onceB, pastB, releaseRulesOf, rulesTo, unusedR}
 use Rattle.releases.specs.Whole.{bookB}
-use Rattle.soundness.specs.Sound.{apart, belowB, blankB, brokenOf, compatible, countsB, disjoint, oneTo, firstBroken, firstRule, firstLate, holdB, tenantsB, idB, kindB, lapseB, layoutB, leaseB, limitB, limitsB, committedB, noneB, offsetsB, paddedB, periodB, poolB, poolsApart, rangeB, rangeZero, rangesApart, recordsB, rule1, rule10, rule11, rule12, rule13, rule19, rule2, rule3, rule4, rule5, rule6, rule7, rule8, rule9, rulesOf, scopeZero, settingsB, reserveB, reservesB, sizeB, soundB, tailB, ttlB, unusedB, zeroFrom}
+use Rattle.soundness.specs.Sound.{apart, belowB, blankB, compatible, countsB, disjoint, oneTo, firstBroken, firstRule, firstLate, holdB, tenantsB, idB, kindB, lapseB, leaseB, limitB, limitsB, committedB, noneB, offsetsB, paddedB, periodB, poolB, poolsApart, rangeB, rangeZero, rangesApart, recordsB, rule1, rule10, rule11, rule12, rule13, rule2, rule3, rule4, rule5, rule6, rule7, rule8, rule9, scopeZero, settingsB, reserveB, reservesB, sizeB, tailB, ttlB, unusedB, zeroFrom, brokenBy, layoutBy, rule19By, rulesBy, soundBy}
 use Rattle.allocation.specs.Rule.{allowed, busyIn, grantOf, grantTo, suffices, takenOf}
 use Rattle.decision.specs.Parts.{askAt, badCounts, broughtBy, discardWith, dropsHold, endOf, early1Of, heldAlready, error0Of, error1Of, error2Of, error3Of, skewed, fitsNew, fitsRenewed, hasPeriod, heldFrom, holdMeets, holdsOf, isForHold, isHeld, isLeased, isNew, knowsScope, lacksCurrent, lacksScope, leaseFrom, lengthOf, nakWith, newAt, newOf, newWith, othersBusy, plainReply, proposalOf, recordedOf, refusalOf, renewedOf, renewedTo, releasedAgain, resends, scopePlace, startOf, turned, wishedOr, zeroLength, latestFirst, meets, tooLate, tooShort}
 use Rattle.decision.specs.Parts as parts
@@ -66,12 +66,12 @@ replies-open = tt
 
 -- the book
 unfoldable pub book-open : Unit {0}
-unfolding isHold until laidOut tableOf laidReleases byIdentifier insertOf removeOf insertedIn leftIn editedIn applied rememberOf forgetOf notedIn noted liveOf raised dropped advanced unionAll addressesOf overlaps usedIn differ
+unfolding isHold until laidOut tableOf laidReleases byIdentifier removeOf insertedBy leftIn editedBy appliedBy rememberOf forgetOf notedIn noted liveOf raised dropped advanced unionAll addressesOf overlaps usedIn differ byEnding
 book-open = tt
 
 -- "Sound"
 unfoldable pub sound-open : Unit {0}
-unfolding oneTo sizeB idB recordsB countsB rule1 belowB offsetsB rule2 rangeB rangesApart rule3 poolB poolsApart rule4 ttlB rule5 reserveB reservesB rule6 kindB periodB leaseB noneB tenantsB rule7 rule8 disjoint apart rule9 compatible rule10 limitB limitsB rule11 committedB rule12 lapseB holdB rule13 zeroFrom paddedB blankB unusedB layoutB rangeZero tailB scopeZero settingsB rule19 rulesOf firstLate firstRule firstBroken brokenOf soundB
+unfolding oneTo sizeB idB recordsB countsB rule1 belowB offsetsB rule2 rangeB rangesApart rule3 poolB poolsApart rule4 ttlB rule5 reserveB reservesB rule6 kindB periodB leaseB noneB tenantsB rule7 rule8 disjoint apart rule9 compatible rule10 limitB limitsB rule11 committedB rule12 lapseB holdB rule13 zeroFrom paddedB blankB unusedB layoutBy rangeZero tailB scopeZero settingsB rule19By rulesBy firstLate firstRule firstBroken brokenBy soundBy
 sound-open = tt
 
 -- the occupancy board

@@ -1,6 +1,6 @@
 -- Definitions: between the file's leases and holds and the book's records, and whether the records can hold them. A tenant is document 01's house.
 use mathlib.Core.Bool.{Bool, false, true}
-use mathlib.Core.List.{List, [], _∷_, map}
+use mathlib.Core.List.{List, [], _∷_, _++_, map}
 use Prim.Native.Nat.{_+_, suc, zero, ℕ}
 use lib.Dec.{eqb, leb, ltb}
 use lib.ListN.{length, take}
@@ -10,7 +10,8 @@ use Rattle.lists.specs.All.{allBy, allTo}
 use Rattle.lists.specs.Filter.{filterBy}
 use Rattle.lists.specs.Pick.{pick}
 use Rattle.lists.specs.Row.{laidRow}
-use Rattle.state.specs.Book.{insertOf, isHold, isLease, lapsingAt, leaseWith, leasesOf}
+use Rattle.lists.specs.Arranged.{arranged}
+use Rattle.state.specs.Book.{byIdentifier, isHold, isLease, lapsingAt, leaseWith, leasesOf, ordered, tableOf}
 use Rattle.state.specs.declared.Lease.{Lease}
 use Rattle.state.specs.declared.LeaseTable.{LeaseTable}
 use Rattle.lease_file.specs.Section.{Entry, FileHold, FileLease, entriesFormat}
@@ -47,17 +48,16 @@ filedHold t l = record { lease = filedLease t l; lapse = l .lapse }
 abbrev pub holdTenant : FileHold → ℕ
 holdTenant x = x .lease .tenant
 
--- each of the first list, from the last on, inserted among the second: "A house's records rise by identifier, leases and holds together"
-unfoldable pub insertAll : List Lease → List Lease → List Lease
-insertAll [] ls = ls
-insertAll (x ∷ hs) ls = insertOf x (insertAll hs ls)
-
--- the records of n tenants from t on, tenant by tenant: its leases xs, and among them its holds ys
+-- the records of n tenants from t on, tenant by tenant: its leases xs and its holds ys together, in the order of records
 unfoldable pub mergedFrom : ℕ → ℕ → List FileLease → List FileHold → List (List Lease)
 mergedFrom t zero xs ys = []
-mergedFrom t (suc n) xs ys = insertAll (map storedHold (own holdTenant t ys)) (map stored (own leaseTenant t xs)) ∷ mergedFrom (suc t) n xs ys
+mergedFrom t (suc n) xs ys = arranged ordered (map storedHold (own holdTenant t ys) ++ map stored (own leaseTenant t xs)) ∷ mergedFrom (suc t) n xs ys
 
--- the leases of the records, in the file's order, and the holds
+-- "The campus file keeps its own order" (document 02, W-209): each tenant's records by identifier
+unfoldable pub inFileOrder : LeaseTable → LeaseTable
+inFileOrder b = tableOf (map (arranged byIdentifier) (leasesOf b))
+
+-- the leases of the records, as they stand, and the holds
 unfoldable pub filedLeases : LeaseTable → List FileLease
 filedLeases b = filedAll filedLease 1 (map (filterBy isLease) (leasesOf b))
 

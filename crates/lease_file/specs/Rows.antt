@@ -9,7 +9,7 @@ use Rattle.lists.specs.Filter.{filterBy}
 use Rattle.lists.specs.Pick.{pick}
 use Rattle.lists.specs.Sums.{sumTo}
 use Rattle.octets.specs.Octets.{octets32}
-use Rattle.state.specs.Book.{inUse, insertedIn, noLeases}
+use Rattle.state.specs.Book.{Order, inUse, insertedBy, laidOut, noLeases, ordered}
 use Rattle.state.specs.declared.Lease.{Lease}
 use Rattle.state.specs.declared.LeaseTable.{LeaseTable}
 use Rattle.state.specs.declared.TenantLeases.{TenantLeases}
@@ -44,10 +44,15 @@ kindCount holds h = length (filterBy (ofKind holds) (inUse h))
 abbrev pub tableTotal : Bool → LeaseTable → ℕ
 tableTotal holds b = sumTo (λ i. kindCount holds (getD (b .tenants) i noLeases)) 8
 
--- ---- reading: a tenant's holds among its leases
-unfoldable pub mergedIn : List Lease → TenantLeases → TenantLeases
-mergedIn [] t = t
-mergedIn (x ∷ hs) t = insertedIn x (mergedIn hs t)
+-- ---- reading: a tenant's leases and holds together
+-- each of the first list, from the last on, inserted among the records
+unfoldable pub mergedBy : Order → List Lease → TenantLeases → TenantLeases
+mergedBy o [] t = t
+mergedBy o (x ∷ hs) t = insertedBy o x (mergedBy o hs t)
+
+-- holds hs and leases ls
+unfoldable pub mergedIn : List Lease → List Lease → TenantLeases
+mergedIn hs ls = mergedBy ordered hs (mergedBy ordered ls (laidOut []))
 
 unfoldable pub paired : {A : Type 0} → List A → List A → List (A × A)
 paired [] ys = []
@@ -55,4 +60,4 @@ paired (x ∷ xs) [] = []
 paired (x ∷ xs) (y ∷ ys) = (x, y) ∷ paired xs ys
 
 abbrev pub mergedAll : List TenantLeases → List TenantLeases → List TenantLeases
-mergedAll a b = map (λ p. mergedIn (inUse (p .1)) (p .0)) (paired a b)
+mergedAll a b = map (λ p. mergedIn (inUse (p .1)) (inUse (p .0))) (paired a b)

@@ -2,6 +2,7 @@
 // them. A hold stands in the file as a lease does, with its lapse behind it, so that each function goes over either section: `holds` says which.
 mod form;
 mod limits;
+mod order;
 mod reader;
 mod sizes;
 mod writer;
@@ -13,13 +14,14 @@ ghost use lib.ListN.{length};
 ghost use Rattle.octets.specs.Octets.{Wrote};
 ghost use Rattle.state.specs.Book.{tableOf};
 ghost use Rattle.lease_file.specs.Place.{EntriesIn, SectionEndsAt, entriesIn};
-ghost use Rattle.lease_file.specs.Records.{mergedFrom, recordsFitB, tableOctets};
+ghost use Rattle.lease_file.specs.Records.{inFileOrder, mergedFrom, recordsFitB, tableOctets};
 use crate::form::entry_end;
 use crate::form::is_after;
 use crate::form::wide;
 use crate::limits::all_few;
 use crate::limits::all_fit;
 use crate::limits::tally;
+use crate::order::by_identifier;
 use crate::reader::all_records;
 use crate::reader::merge_all;
 use crate::sizes::rows_size;
@@ -84,6 +86,21 @@ pub fn load(s: &[u8], leases: usize, holds: usize) -> LeaseTable
     LeaseTable { tenants }
 }
 
+// The records in the order of the file: each tenant's by identifier.
+pub fn in_file_order(table: LeaseTable) -> LeaseTable
+    ensures { λ r. ⌜ r ≡ inFileOrder table ⌝ }
+{
+    let mut now = table;
+    let mut h: usize = 0;
+    while h < 8 {
+        let t = table.tenants[h];
+        let x = by_identifier(t);
+        now.tenants[h] = x;
+        h += 1;
+    }
+    now
+}
+
 // How many octets a section of the table has.
 pub fn size(table: LeaseTable, holds: bool) -> usize
     ensures { λ r. ⌜ (r ≡ length (tableOctets holds table)) × (r ≤ 14977) ⌝ }
@@ -91,7 +108,7 @@ pub fn size(table: LeaseTable, holds: bool) -> usize
     1 + rows_size(table, holds)
 }
 
-// A section of the table, written from `at` on.
+// A section of the table, written from `at` on, each tenant's records as they stand.
 pub fn put(buffer: &mut [u8], at: usize, table: LeaseTable, holds: bool) -> usize
     requires { ⌜ at + length (tableOctets holds table) ≤ length (now buffer) ⌝ }
     ensures { λ r. ⌜ Wrote (now (buffer .entry)) at (tableOctets holds table) (now (buffer .exit)) r ⌝ }

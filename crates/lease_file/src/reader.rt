@@ -12,6 +12,7 @@ ghost use Rattle.lease_file.specs.Rows.{mergedAll, mergedIn};
 use crate::form::wide;
 use crate::limits::entry_next;
 use crate::limits::tenant_place;
+use crate::order::insert_all;
 use state::Lease;
 use state::TenantLeases;
 
@@ -79,7 +80,7 @@ fn set_at(s: &[u8], at: usize, k: usize) -> u64
     address_set::from_offsets(&s[at..end])
 }
 
-// Each tenant's holds among its leases.
+// Each tenant's leases and holds together, in the order of records.
 pub fn merge_all(leases: [TenantLeases; 8], holds: [TenantLeases; 8]) -> [TenantLeases; 8]
     ensures { λ r. ⌜ r ≡ mergedAll leases holds ⌝ }
 {
@@ -95,16 +96,10 @@ pub fn merge_all(leases: [TenantLeases; 8], holds: [TenantLeases; 8]) -> [Tenant
     out
 }
 
-// The records of t with those of h inserted among them, from the last on.
 fn merge(t: TenantLeases, h: TenantLeases) -> TenantLeases
-    ensures { λ r. ⌜ r ≡ mergedIn (inUse h) t ⌝ }
+    ensures { λ r. ⌜ r ≡ mergedIn (inUse h) (inUse t) ⌝ }
 {
-    let mut now = t;
-    let mut i = state::cut16(h.count);
-    while 0 < i {
-        i -= 1;
-        let l = h.leases[i];
-        now = state::insert(now, l);
-    }
-    now
+    let none = state::no_leases();
+    let a = insert_all(none, t, true);
+    insert_all(a, h, true)
 }

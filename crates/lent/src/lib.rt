@@ -61,8 +61,8 @@ pub fn find(leases: &[Lease], h: usize, id: [u8; 32], len: u8) -> Found
     records::find(all, leases.len(), h, id, len)
 }
 
-// One lease more among those of tenant h, in the order of identifiers; its records past its first unused one become unused. Where no record is
-// left, for no tenant, and of another number of records than 128 nothing changes. The board is not altered: whoever changes records by hand does that by
+// One lease more among those of tenant h, in order of ending; its records past its first unused one become unused. Where no record is left, for
+// no tenant, and of another number of records than 128 nothing changes. The board is not altered: whoever changes records by hand does that by
 // `agreement::add`, else the book is unsound.
 pub fn insert(leases: &mut [Lease], h: usize, l: Lease)
     ensures { λ _. ⌜ now (leases .exit) ≡ insertLent h l (now (leases .entry)) ⌝ }

@@ -2,29 +2,30 @@
 use Prim.Native.Nat.{ℕ, zero, suc, _<_, _^_}
 use mathlib.Core.Path.{_≡_, refl, sym, ap, _∙_, subst}
 use mathlib.Core.Bool.{Bool, true, false}
-use mathlib.Core.List.{List, [], _∷_, map}
+use mathlib.Core.List.{List, [], _∷_, _++_, map}
 use lib.Dec.{ltb}
 use lib.ListN.{getD, replicate}
 use borrow.Author.Tests.{ltb-true}
 use Rattle.lists.specs.Pick.{pick}
 use Rattle.lists.specs.All.{All}
 use Rattle.lists.specs.Filter.{filterBy}
-use Rattle.lists.specs.laws.All.{all-any, all-mapped}
+use Rattle.lists.specs.laws.All.{all-any, all-joined, all-mapped}
 use Rattle.address_set.specs.AddressSet.{readOffsets}
 use Rattle.address_set.specs.laws.Offsets.{setOf-small}
 use Rattle.message.specs.laws.Placed.{pick-cases}
 use Rattle.state.specs.declared.Lease.{Lease}
 use Rattle.state.specs.declared.LeaseTable.{LeaseTable}
 use Rattle.state.specs.declared.Ledger.{Ledger}
-use Rattle.state.specs.Book.{tableOf}
+use Rattle.state.specs.Book.{ordered, tableOf}
+use Rattle.lease_file.specs.laws.Merge.{arranged-each}
 use Rattle.state.specs.laws.Layout.{table-back}
 use Rattle.decision.specs.laws.Kept.{own-is}
 use Rattle.decision.specs.Parts.{ownOf}
 use Rattle.guarantee.specs.Statement.{Narrow, StaysNarrow}
-use Rattle.guarantee.proofs.Bounded.{inserted, stays-narrow}
+use Rattle.guarantee.proofs.Bounded.{stays-narrow}
 use Rattle.state_file.specs.declared.Loaded.{Loaded}
 use Rattle.lease_file.specs.Section.{FileHold, FileLease}
-use Rattle.lease_file.specs.Records.{holdTenant, insertAll, leaseTenant, mergedFrom, stored, storedHold}
+use Rattle.lease_file.specs.Records.{holdTenant, leaseTenant, mergedFrom, stored, storedHold}
 use Rattle.state_file.specs.File.{File, fileOf}
 use Rattle.format.specs.Format.{Got, bad, got}
 use Rattle.format.specs.Tenants.{own}
@@ -59,17 +60,13 @@ one-held : (x : FileHold) → F (storedHold x)
 unfolding storedHold
 one-held x = one-stored (x .lease)
 
-insert-all : (hs ls : List Lease) → All F hs → All F ls → All F (insertAll hs ls)
-unfolding insertAll All
-insert-all [] ls p q = q
-insert-all (x ∷ hs) ls p q = inserted x (insertAll hs ls) (p .0) (insert-all hs ls (p .1) q)
-
 each-tenant : (t n : ℕ) (xs : List FileLease) (ys : List FileHold) (g : ℕ) → All F (getD (mergedFrom t n xs ys) g [])
 unfolding All mergedFrom
 each-tenant t zero xs ys g = tt
 each-tenant t (suc n) xs ys zero =
-    insert-all (map storedHold (own holdTenant t ys)) (map stored (own leaseTenant t xs)) (all-mapped F storedHold (own holdTenant t ys) (all-any (λ x. F (storedHold x)) one-held (own holdTenant t ys)))
-    (all-mapped F stored (own leaseTenant t xs) (all-any (λ x. F (stored x)) one-stored (own leaseTenant t xs)))
+    arranged-each F ordered (map storedHold (own holdTenant t ys) ++ map stored (own leaseTenant t xs))
+    (all-joined F (map storedHold (own holdTenant t ys)) (map stored (own leaseTenant t xs)) (all-mapped F storedHold (own holdTenant t ys) (all-any (λ x. F (storedHold x)) one-held (own holdTenant t ys)))
+    (all-mapped F stored (own leaseTenant t xs) (all-any (λ x. F (stored x)) one-stored (own leaseTenant t xs))))
 each-tenant t (suc n) xs ys (suc g) = each-tenant (suc t) n xs ys g
 
 of-lists : (ll : List (List Lease)) (g : ℕ) → All F (getD ll g []) → All F (ownOf (tableOf ll) g)

@@ -15,7 +15,7 @@ use Rattle.message.specs.Read.{readOf}
 use Rattle.state.specs.declared.Lease.{Lease}
 use Rattle.state.specs.declared.LeaseTable.{LeaseTable}
 use Rattle.state.specs.declared.Ledger.{Ledger}
-use Rattle.state.specs.Book.{Book, advanced, dropped, inUse, laidOut, leasesOf, liveOf, releasesAt, remembered, tableOf}
+use Rattle.state.specs.Book.{Book, ordered, advanced, dropped, inUse, laidOut, leasesOf, liveOf, releasesAt, remembered, tableOf}
 use Rattle.state.specs.laws.Edited.{applied-count, applied-laid}
 use Rattle.state.specs.laws.Layout.{table-back as lists-back}
 use Rattle.releases.specs.Whole.{bookB}
@@ -65,7 +65,7 @@ module _ (b : Book) (c : Call) (eight : length (b .table .tenants) ≡ 8) where
       record {
         tenants = applied-count e h (now .table) ∙ v .tenants;
         sound = decision-sound (now .state) (now .table) (remembered (releasesAt (now .memory) h)) h m (v .sound) (v .laid) known (let k = v .tenants in omega arith) good;
-        laid = applied-laid e h (now .table) (v .laid);
+        laid = applied-laid ordered e h (now .table) (v .laid);
       }
 
   Kind : Answer → Type 0

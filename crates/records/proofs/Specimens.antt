@@ -12,17 +12,20 @@ use Rattle.lists.specs.Place.{placeBy}
 use Rattle.identifier.specs.Order.{orderOf, sameOf}
 use Rattle.state.specs.declared.Lease.{Lease}
 use Rattle.state.specs.declared.Ledger.{Ledger}
-use Rattle.state.specs.Book.{byIdentifier, insertOf, isHold, laidOut, leaseWith, removeOf, zeroLease}
-use Rattle.soundness.specs.Sound.{blankB, layoutB, paddedB, unusedB, zeroFrom}
+use Rattle.state.specs.Book.{byIdentifier, isHold, laidOut, leaseWith, removeOf, zeroLease, byEnding, until}
+use Rattle.soundness.specs.Sound.{blankB, layoutB, paddedB, unusedB, zeroFrom, layoutBy}
 use Rattle.server.specs.Serve.{Call}
 use Rattle.server.specs.Halves.{discardRuling}
 use Rattle.records.specs.declared.Found.the-variants.{Absent, At}
 use Rattle.records.specs.Records.{recordsOf, rows, rowsOf, tableFrom, tenantFrom}
 use Rattle.records.specs.Lent.{findLent, findWith, foundAmong, insertLent, insertWith, judgeLent, judgeWith, removeLent, removeWith, serveLent, serveWith, is128, writtenLent, writtenWith}
 
--- a lease by the last octet of its identifier
-lease : ℕ → Lease
-lease i = leaseWith 1 2 (0 ∷ i ∷ replicate 30 0) 3 7 1000 2000 1
+-- a lease by the last octet of its identifier and its end
+ending : ℕ → ℕ → Lease
+ending i end = leaseWith 1 2 (0 ∷ i ∷ replicate 30 0) 3 7 1000 end 1
+
+abbrev lease : ℕ → Lease
+lease i = ending i 2000
 
 unused : ℕ → List Lease
 unused n = replicate n zeroLease
@@ -31,40 +34,44 @@ unused n = replicate n zeroLease
 ours : List Lease → ℕ → List Lease
 ours p n = unused 16 ++ p ++ unused n
 
--- in the order of identifiers, the later ones move down
+-- by end whatever the identifier, and ties in the order of identifiers; the later ones move down
+insert-by-end : insertLent 1 (ending 2 2001) (ours (lease 3 ∷ ending 1 2002 ∷ []) 110) ≡ ours (lease 3 ∷ ending 2 2001 ∷ ending 1 2002 ∷ []) 109
+unfolding ending unused ours insertWith is128 pick tableFrom rows tenantFrom placeBy unusedB blankB zeroFrom allBy insertIn byIdentifier filterBy orderOf laidOut recordsOf rowsOf byEnding until isHold
+insert-by-end = refl
+
 insert-between : insertLent 1 (lease 2) (ours (lease 1 ∷ lease 3 ∷ []) 110) ≡ ours (lease 1 ∷ lease 2 ∷ lease 3 ∷ []) 109
-unfolding lease unused ours insertWith is128 pick tableFrom rows tenantFrom placeBy unusedB blankB zeroFrom allBy insertOf insertIn byIdentifier filterBy orderOf laidOut recordsOf rowsOf
+unfolding ending unused ours insertWith is128 pick tableFrom rows tenantFrom placeBy unusedB blankB zeroFrom allBy insertIn byIdentifier filterBy orderOf laidOut recordsOf rowsOf byEnding until isHold
 insert-between = refl
 
 -- no gap is left
 remove-first : removeLent 1 (0 ∷ 1 ∷ []) (ours (lease 1 ∷ lease 3 ∷ []) 110) ≡ ours (lease 3 ∷ []) 111
-unfolding lease unused ours removeWith is128 pick tableFrom rows tenantFrom placeBy unusedB blankB zeroFrom allBy removeOf filterBy orderOf sameOf laidOut recordsOf rowsOf
+unfolding ending unused ours removeWith is128 pick tableFrom rows tenantFrom placeBy unusedB blankB zeroFrom allBy removeOf filterBy orderOf sameOf laidOut recordsOf rowsOf
 remove-first = refl
 
 -- at a place, the first too
 find-second : findLent 1 (0 ∷ 3 ∷ []) (ours (lease 1 ∷ lease 3 ∷ []) 110) ≡ At 1
-unfolding lease unused ours findWith foundAmong is128 pick tableFrom rows tenantFrom placeBy unusedB blankB zeroFrom allBy orderOf sameOf
+unfolding ending unused ours findWith foundAmong is128 pick tableFrom rows tenantFrom placeBy unusedB blankB zeroFrom allBy orderOf sameOf
 find-second = refl
 
 find-first : findLent 1 (0 ∷ 1 ∷ []) (ours (lease 1 ∷ lease 3 ∷ []) 110) ≡ At 0
-unfolding lease unused ours findWith foundAmong is128 pick tableFrom rows tenantFrom placeBy unusedB blankB zeroFrom allBy orderOf sameOf
+unfolding ending unused ours findWith foundAmong is128 pick tableFrom rows tenantFrom placeBy unusedB blankB zeroFrom allBy orderOf sameOf
 find-first = refl
 
 -- another identifier, another house, a ninth house, 127 records
 find-other : findLent 1 (0 ∷ 2 ∷ []) (ours (lease 1 ∷ lease 3 ∷ []) 110) ≡ Absent
-unfolding lease unused ours findWith foundAmong is128 pick tableFrom rows tenantFrom placeBy unusedB blankB zeroFrom allBy orderOf sameOf
+unfolding ending unused ours findWith foundAmong is128 pick tableFrom rows tenantFrom placeBy unusedB blankB zeroFrom allBy orderOf sameOf
 find-other = refl
 
 find-none : findLent 0 (0 ∷ 3 ∷ []) (ours (lease 1 ∷ lease 3 ∷ []) 110) ≡ Absent
-unfolding lease unused ours findWith foundAmong is128 pick tableFrom rows tenantFrom placeBy unusedB blankB zeroFrom allBy orderOf sameOf
+unfolding ending unused ours findWith foundAmong is128 pick tableFrom rows tenantFrom placeBy unusedB blankB zeroFrom allBy orderOf sameOf
 find-none = refl
 
 find-ninth : findLent 8 (0 ∷ 3 ∷ []) (ours (lease 1 ∷ lease 3 ∷ []) 110) ≡ Absent
-unfolding lease unused ours findWith foundAmong is128 pick tableFrom rows tenantFrom placeBy unusedB blankB zeroFrom allBy orderOf sameOf laidOut
+unfolding ending unused ours findWith foundAmong is128 pick tableFrom rows tenantFrom placeBy unusedB blankB zeroFrom allBy orderOf sameOf laidOut
 find-ninth = refl
 
 find-127 : findLent 1 (0 ∷ 3 ∷ []) (ours (lease 1 ∷ lease 3 ∷ []) 109) ≡ Absent
-unfolding lease unused ours findWith is128 pick
+unfolding ending unused ours findWith is128 pick
 find-127 = refl
 
 -- a ninth house, a house whose sixteen records are used, 127 records: nothing changes
@@ -73,7 +80,7 @@ unfolding unused insertWith is128 pick
 ninth = refl
 
 full : insertLent 1 (lease 0) (ours (replicate 16 (lease 3)) 96) ≡ ours (replicate 16 (lease 3)) 96
-unfolding lease unused ours insertWith is128 pick tableFrom rows tenantFrom placeBy unusedB blankB zeroFrom allBy
+unfolding ending unused ours insertWith is128 pick tableFrom rows tenantFrom placeBy unusedB blankB zeroFrom allBy
 full = refl
 
 short : insertLent 1 (lease 2) (unused 127) ≡ unused 127
@@ -100,14 +107,14 @@ write-127 g names room = refl
 
 -- a lease after an unused record
 gap : layoutB (tenantFrom (lease 1 ∷ zeroLease ∷ lease 3 ∷ unused 13)) ≡ false
-unfolding lease unused layoutB tenantFrom placeBy pick unusedB blankB zeroFrom allBy pairsBy isHold paddedB
+unfolding ending unused layoutBy tenantFrom placeBy pick unusedB blankB zeroFrom allBy pairsBy isHold paddedB
 gap = refl
 
 -- leases out of order
 disorder : layoutB (tenantFrom (lease 3 ∷ lease 1 ∷ unused 14)) ≡ false
-unfolding lease unused layoutB tenantFrom placeBy pick unusedB blankB zeroFrom allBy pairsBy byIdentifier orderOf isHold paddedB
+unfolding ending unused layoutBy tenantFrom placeBy pick unusedB blankB zeroFrom allBy pairsBy byIdentifier orderOf isHold paddedB byEnding until
 disorder = refl
 
 rise : layoutB (tenantFrom (lease 1 ∷ lease 3 ∷ unused 14)) ≡ true
-unfolding lease unused layoutB tenantFrom placeBy pick unusedB blankB zeroFrom allBy pairsBy byIdentifier orderOf isHold paddedB
+unfolding ending unused layoutBy tenantFrom placeBy pick unusedB blankB zeroFrom allBy pairsBy byIdentifier orderOf isHold paddedB byEnding until
 rise = refl

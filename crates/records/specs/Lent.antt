@@ -191,8 +191,8 @@ foundAmong n at = pick (ltb at n) (At at) Absent
 unfoldable pub findWith : ℕ → ℕ → List ℕ → List Lease → Found
 findWith n h i ls = pick (is128 n) (foundAmong (length (ownOf (tableFrom ls) h)) (placeOf i (ownOf (tableFrom ls) h))) Absent
 
--- one lease more, after those before it in the order of identifiers and ahead of the others, those of the same identifier too; a tenant whose sixteen
--- records are used, no tenant, and another number of records keep what they have
+-- one lease more, after those before it in the order of records and ahead of the others, those of the same end and identifier too; a tenant whose
+-- sixteen records are used, no tenant, and another number of records keep what they have
 unfoldable pub insertWith : ℕ → ℕ → Lease → List Lease → List Lease
 insertWith n h l ls =
     pick (is128 n) (pick (ltb h 8) (pick (ltb (length (ownOf (tableFrom ls) h)) 16) (withOwn (tableFrom ls) h (insertOf l (ownOf (tableFrom ls) h))) ls) ls) ls

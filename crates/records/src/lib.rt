@@ -1,18 +1,18 @@
 // The lent lease records by value, and what each entry point does with them: 128 in a row, sixteen to a tenant, tenant by tenant. The number
 // of records that the lent slice has comes with them.
-ghost use mathlib.Core.Bool.{_&&_, _||_};
+ghost use mathlib.Core.Bool.{_&&_, _||_, true};
 ghost use mathlib.Core.Path.{_≡_};
 ghost use Prim.Native.Nat.{_<_, min};
 ghost use lib.Dec.{eqb};
 ghost use lib.ListN.{length, replicate, take};
-ghost use Rattle.lists.specs.All.{allBy};
+ghost use Rattle.lists.specs.All.{allBy, pairsBy};
 ghost use Rattle.lists.specs.Place.{placeBy};
 ghost use Rattle.soundness.specs.Sound.{unusedB};
 ghost use Rattle.names.specs.Names.{namesB};
 ghost use Rattle.soundness.specs.Parts.{holdingsOf, soundFrom, tableRulesOf};
 ghost use Rattle.releases.specs.Rules.{brokenRelease, releaseRulesOf};
 ghost use Rattle.occupancy.specs.Board.{sameBoard};
-ghost use Rattle.state.specs.Book.{leasesOf, tableOf, tenantAt, zeroLease};
+ghost use Rattle.state.specs.Book.{leasesOf, ordered, tableOf, tenantAt, zeroLease};
 ghost use Rattle.state.specs.Board.{builtOf};
 ghost use Rattle.server.specs.Halves.{discardRuling};
 ghost use Rattle.state_file.specs.StateFile.{readFile};
@@ -259,9 +259,9 @@ fn none_ended(held: HeldTable, clock: u32) -> bool
     true
 }
 
-// The leases that end at or before a clock go, tenant by tenant, and are taken off the board; the records of a tenant that has none stay as they are.
+// The leases that end at or before a clock go from the front of each tenant's records, and are taken off the board; the records of a tenant that has none stay as they are.
 fn drop_ended(records: Records, held: HeldTable, board: Board, clock: u32) -> Dropped
-    requires { ⌜ (tableFrom (records .leases) ≡ tableOf (leasesOf (tableFrom (records .leases)))) × (held ≡ holdingsOf (tableFrom (records .leases))) ⌝ }
+    requires { ⌜ (tableFrom (records .leases) ≡ tableOf (leasesOf (tableFrom (records .leases)))) × (held ≡ holdingsOf (tableFrom (records .leases))) × (allBy (pairsBy ordered) (leasesOf (tableFrom (records .leases))) ≡ true) ⌝ }
     ensures { λ r. ⌜ Drops clock (records .leases) board r ⌝ }
 {
     let mut now = records;
@@ -274,11 +274,12 @@ fn drop_ended(records: Records, held: HeldTable, board: Board, clock: u32) -> Dr
         h += 1;
         if !ends_after(x, clock) {
             let t = row(records, at);
-            let left = state::live_leases(t, clock);
+            let n = state::ended_count(t, clock);
+            let left = state::rest_from(t, n);
             now = put_row(now, at, left);
             let g = soundness::held_sets(left);
             sets.tenants[at] = g;
-            cleared = agreement::clear(cleared, at, t, clock);
+            cleared = agreement::clear(cleared, at, t, n);
         }
     }
     Dropped {

@@ -15,9 +15,9 @@ use Rattle.state.specs.declared.Lease.{Lease}
 use Rattle.state.specs.declared.State.{State}
 use Rattle.state.specs.declared.ClientRange.{ClientRange}
 use Rattle.state.specs.declared.Scope.{Scope}
-use Rattle.state.specs.Book.{isHold, lapsingAt, leaseWith, byIdentifier, differ, laidOut, tableOf, unionAll, addressesOf, overlaps, zeroScope, committed}
+use Rattle.state.specs.Book.{isHold, lapsingAt, leaseWith, byIdentifier, differ, laidOut, tableOf, unionAll, addressesOf, overlaps, zeroScope, committed, byEnding, until}
 use Rattle.soundness.specs.declared.Rules.{Rules}
-use Rattle.soundness.specs.Sound.{oneTo, sizeB, idB, recordsB, countsB, rule1, belowB, offsetsB, rule2, rangeB, rangesApart, rule3, poolB, poolsApart, rule4, ttlB, rule5, reserveB, reservesB, rule6, kindB, periodB, leaseB, noneB, tenantsB, rule7, rule8, disjoint, apart, rule9, compatible, rule10, limitB, limitsB, rule11, committedB, rule12, lapseB, holdB, rule13, zeroFrom, paddedB, blankB, unusedB, layoutB, rangeZero, tailB, scopeZero, settingsB, rulesOf, firstLate, firstRule, firstBroken, brokenOf, rule19}
+use Rattle.soundness.specs.Sound.{oneTo, sizeB, idB, recordsB, countsB, rule1, belowB, offsetsB, rule2, rangeB, rangesApart, rule3, poolB, poolsApart, rule4, ttlB, rule5, reserveB, reservesB, rule6, kindB, periodB, leaseB, noneB, tenantsB, rule7, rule8, disjoint, apart, rule9, compatible, rule10, limitB, limitsB, rule11, committedB, rule12, lapseB, holdB, rule13, zeroFrom, paddedB, blankB, unusedB, rangeZero, tailB, scopeZero, settingsB, firstLate, firstRule, firstBroken, brokenOf, brokenBy, layoutBy, rule19By, rulesBy}
 
 -- the specimens' scope 239.192.0.0 and two houses, with what a case changes: the number of houses, the second house's lowest client,
 -- the scope's lowest address and TTL, and the first house's share
@@ -148,7 +148,7 @@ cases =
     -- document 02, W-205. Sound: a hold that lapses one second after the clock, and thirty; at its end; a lease and a hold, a hold that starts in a week
     ∷ case plain (hold 1 1001 4600 1 ∷ hold 2 1030 4600 2 ∷ []) [] [] 0
     ∷ case plain (hold 1 1010 1010 1 ∷ []) [] [] 0
-    ∷ case plain (lease 1 1000 2000 1 ∷ hold 2 1030 4600 2 ∷ []) [] [] 0
+    ∷ case plain (hold 2 1030 4600 2 ∷ lease 1 1000 2000 1 ∷ []) [] [] 0
     ∷ case plain (lapsingAt 1030 (leaseWith 1 2 (0 ∷ 1 ∷ replicate 30 0) 1 7 605800 609400 1) ∷ []) [] [] 0
     -- its addresses count as a lease's do: offsets, identifiers, owners, periods, limits and the sum
     ∷ case plain (hold 1 1030 4600 16 ∷ []) [] [] 2
@@ -165,6 +165,14 @@ cases =
     ∷ case plain (hold 1 1011 1010 1 ∷ []) [] [] 13
     ∷ case plain (hold 1 0 4600 1 ∷ []) [] [] 13
     ∷ case plain (lapsingAt 1030 (lease 1 1000 2000 1) ∷ []) [] [] 19
+    -- document 02, W-209. Sound: by end whatever the identifier, a hold by its lapse, ties by identifier, a prefix first; 19: each the other way
+    ∷ case plain (lease 2 1000 2000 1 ∷ lease 1 1000 2001 2 ∷ []) [] [] 0
+    ∷ case plain (hold 1 1029 4600 1 ∷ lease 2 1000 1030 2 ∷ hold 3 1030 1100 4 ∷ []) [] [] 0
+    ∷ case plain (leaseOf 1 2 0 3 1000 2000 1 ∷ leaseOf 1 3 0 3 1000 2000 2 ∷ lease 2 1000 2000 4 ∷ []) [] [] 0
+    ∷ case plain (lease 1 1000 2001 2 ∷ lease 2 1000 2000 1 ∷ []) [] [] 19
+    ∷ case plain (lease 1 1000 2000 1 ∷ hold 2 1030 4600 2 ∷ []) [] [] 19
+    ∷ case plain (hold 3 1030 1100 4 ∷ lease 2 1000 1030 2 ∷ []) [] [] 19
+    ∷ case plain (leaseOf 1 3 0 3 1000 2000 2 ∷ leaseOf 1 2 0 3 1000 2000 1 ∷ []) [] [] 19
     -- 19: an octet past the identifier's length, a client range past the last house, a scope past the last, a share past the last house
     ∷ case plain (leaseOf 1 2 9 3 1000 2000 1 ∷ []) [] [] 19
     ∷ case (ranged (range 1 9) (range 10 19) (range 20 29)) [] [] [] 19
@@ -173,7 +181,7 @@ cases =
     ∷ []
 
 all-hold : allBy holds cases ≡ true
-unfolding settings plain lease elsewhere short case holds cases pick allBy pairsBy allTo filterBy sumTo orderOf sameOf bit offsetsFrom laidOut tableOf byIdentifier unionAll addressesOf overlaps oneTo sizeB idB recordsB countsB rule1 belowB offsetsB rule2 rangeB rangesApart rule3 poolB poolsApart rule4 ttlB rule5 reserveB reservesB rule6 kindB periodB leaseB noneB tenantsB rule7 differ rule8 disjoint apart rule9 compatible rule10 limitB limitsB rule11 committed committedB rule12 isHold lapseB holdB rule13 zeroFrom paddedB blankB unusedB layoutB rangeZero tailB scopeZero settingsB rule19 rulesOf firstLate firstRule firstBroken brokenOf
+unfolding settings plain lease elsewhere short case holds cases pick allBy pairsBy allTo filterBy sumTo orderOf sameOf bit offsetsFrom laidOut tableOf byIdentifier unionAll addressesOf overlaps oneTo sizeB idB recordsB countsB rule1 belowB offsetsB rule2 rangeB rangesApart rule3 poolB poolsApart rule4 ttlB rule5 reserveB reservesB rule6 kindB periodB leaseB noneB tenantsB rule7 differ rule8 disjoint apart rule9 compatible rule10 limitB limitsB rule11 committed committedB rule12 isHold lapseB holdB rule13 zeroFrom paddedB blankB unusedB layoutBy rangeZero tailB scopeZero settingsB rule19By rulesBy firstLate firstRule firstBroken brokenBy byEnding until
 all-hold = refl
 
 -- ---- the layout comes last of all rules, and no file can break it

@@ -1,18 +1,20 @@
 -- Definitions: the rules as the code gathers them: scope by scope, tenant by tenant, and from the address sets of all tenants.
 use Prim.Native.Nat.{ℕ, _-_, min}
-use mathlib.Core.Bool.{Bool, true, _&&_}
+use mathlib.Core.Bool.{Bool, true, not, _&&_}
 use mathlib.Core.List.{List, [], _∷_, map}
 use mathlib.Core.Path.{_≡_}
 use lib.Dec.{leb, eqb}
-use lib.ListN.{length, drop, getD, replicate, set}
+use lib.ListN.{length, drop, take, getD, replicate, set}
 use Rattle.lists.specs.All.{allBy, pairsBy, allTo}
+use Rattle.lists.specs.Pick.{pick}
+use Rattle.identifier.specs.Order.{numberFrom}
 use Rattle.address_set.specs.AddressSet.{offsets, setOf, upTo}
 use Rattle.state.specs.declared.Lease.{Lease}
 use Rattle.state.specs.declared.TenantLeases.{TenantLeases}
 use Rattle.state.specs.declared.LeaseTable.{LeaseTable}
 use Rattle.state.specs.declared.Scope.{Scope}
 use Rattle.state.specs.declared.State.{State}
-use Rattle.state.specs.Book.{differ, ordered, until, inUse, leasesOf, inScope, heldOf, addedIf, scopeAt, limitAt, committedSum}
+use Rattle.state.specs.Book.{differ, idOf, ordered, until, inUse, leasesOf, inScope, heldOf, addedIf, scopeAt, limitAt, committedSum}
 use Rattle.soundness.specs.declared.ScopeRules.{ScopeRules}
 use Rattle.soundness.specs.declared.TenantRules.{TenantRules}
 use Rattle.soundness.specs.declared.TableRules.{TableRules}
@@ -139,11 +141,18 @@ gatheredOf s t = record {
   apart = freshAll (emptySets (t .count)) (inUse t);
 }
 
--- what one pass over a tenant's records gives: where `swift`, the first eight octets of its identifiers rise
+-- what one pass over a tenant's records gives: where `swift`, their ends rise
 pub record Passed (s : State) (t : TenantLeases) (p : Pass) : Type 0 where
   pub gathers : p .gathered ≡ gatheredOf s t
   pub rises : p .swift ≡ true → true ≡ pairsBy ordered (inUse t)
   pub rest : p .unused ≡ allBy unusedB (drop (t .count) (t .leases))
+
+-- the first eight octets of an identifier as one number, 0 of a shorter one, by which most differ
+unfoldable pub wordOf : Lease → ℕ
+wordOf l = pick (leb 8 (length (idOf l))) (numberFrom 0 (take 8 (idOf l))) 0
+
+unfoldable pub unlike : ℕ → ℕ → Bool
+unlike x y = not (eqb x y)
 
 unfoldable pub checkedOf : State → TenantLeases → Checked
 checkedOf s t = record { rules = tenantRulesOf s t; held = heldSets t }

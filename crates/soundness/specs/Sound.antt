@@ -18,7 +18,7 @@ use Rattle.state.specs.declared.LeaseTable.{LeaseTable}
 use Rattle.state.specs.declared.ClientRange.{ClientRange}
 use Rattle.state.specs.declared.Scope.{Scope}
 use Rattle.state.specs.declared.State.{State}
-use Rattle.state.specs.Book.{inUse, leasesOf, differ, ordered, holdTime, isHold, overlaps, inScope, heldOf, rangesOf, scopesOf, scopeAt, reserveAt, limitAt, heldAt, committedSum}
+use Rattle.state.specs.Book.{Order, inUse, leasesOf, differ, ordered, holdTime, isHold, overlaps, inScope, heldOf, rangesOf, scopesOf, scopeAt, reserveAt, limitAt, heldAt, committedSum}
 use Rattle.soundness.specs.declared.Rules.{Rules}
 
 -- from 1 to most
@@ -186,7 +186,7 @@ holdB clock l = pick (isHold l) (lapseB clock l) true
 unfoldable pub rule13 : State → LeaseTable → Bool
 rule13 s t = allBy (allBy (holdB (s .clock))) (leasesOf t)
 
--- ---- 19. "A house's records rise by identifier, leases and holds together" (W-205); what is unused is zero: octets past an identifier's length, a lease's lapse, records, settings entries,
+-- ---- 19. "Each house's records are kept by end (a hold's by lapse), ties by identifier" and "records out of order are unsound" (W-209); what is unused is zero: octets past an identifier's length, a lease's lapse, records, settings entries,
 -- shares and limits past the last house
 unfoldable pub zeroFrom : ℕ → List ℕ → Bool
 zeroFrom n l = allBy (λ x. eqb x 0) (drop n l)
@@ -200,8 +200,12 @@ blankB l = (eqb (l .scope) 0 && (eqb (l .«id_len») 0 && (eqb (l .kind) 0 && (e
 unfoldable pub unusedB : Lease → Bool
 unusedB l = blankB l && (eqb (l .start) 0 && (eqb (l .end) 0 && (eqb (l .addresses) 0 && zeroFrom 0 (l .id))))
 
-unfoldable pub layoutB : TenantLeases → Bool
-layoutB t = pairsBy ordered (inUse t) && (allBy paddedB (inUse t) && allBy unusedB (drop (t .count) (t .leases)))
+-- by any order, as all that rests on it below: the order of records before W-209 is another (Arrangement.antt of `arrangement`)
+unfoldable pub layoutBy : Order → TenantLeases → Bool
+layoutBy o t = pairsBy o (inUse t) && (allBy paddedB (inUse t) && allBy unusedB (drop (t .count) (t .leases)))
+
+abbrev pub layoutB : TenantLeases → Bool
+layoutB t = layoutBy ordered t
 
 unfoldable pub rangeZero : ClientRange → Bool
 rangeZero r = eqb (r .low) 0 && eqb (r .high) 0
@@ -215,12 +219,12 @@ scopeZero c = eqb (c .lowest) 0 && (eqb (c .size) 0 && (eqb (c .ttl) 0 && tailB 
 unfoldable pub settingsB : State → Bool
 settingsB s = allBy rangeZero (drop (tenantsIn s) (s .tenants)) && (allBy scopeZero (drop (scopesIn s) (s .scopes)) && allBy (tailB (tenantsIn s)) (scopesOf s))
 
-unfoldable pub rule19 : State → LeaseTable → Bool
-rule19 s t = settingsB s && allBy layoutB (t .tenants)
+unfoldable pub rule19By : Order → State → LeaseTable → Bool
+rule19By o s t = settingsB s && allBy (layoutBy o) (t .tenants)
 
 -- ---- all of them
-unfoldable pub rulesOf : State → LeaseTable → Rules
-rulesOf s t = record {
+unfoldable pub rulesBy : Order → State → LeaseTable → Rules
+rulesBy o s t = record {
   limits = rule1 s t;
   offsets = rule2 s t;
   ranges = rule3 s;
@@ -234,8 +238,11 @@ rulesOf s t = record {
   holdings = rule11 s t;
   commitments = rule12 s t;
   holds = rule13 s t;
-  layout = rule19 s t;
+  layout = rule19By o s t;
 }
+
+abbrev pub rulesOf : State → LeaseTable → Rules
+rulesOf s t = rulesBy ordered s t
 
 -- of rules 7 to 13, the number of the first that is broken, or 0
 unfoldable pub firstLate : Rules → ℕ
@@ -250,8 +257,14 @@ firstRule r = pick (r .limits) (pick (r .offsets) (pick (r .ranges) (pick (r .po
 unfoldable pub firstBroken : Rules → ℕ
 firstBroken r = pick (eqb (firstRule r) 0) (pick (r .layout) 0 19) (firstRule r)
 
-unfoldable pub brokenOf : State → LeaseTable → ℕ
-brokenOf s t = firstBroken (rulesOf s t)
+unfoldable pub brokenBy : Order → State → LeaseTable → ℕ
+brokenBy o s t = firstBroken (rulesBy o s t)
 
-unfoldable pub soundB : State → LeaseTable → Bool
-soundB s t = eqb (brokenOf s t) 0
+abbrev pub brokenOf : State → LeaseTable → ℕ
+brokenOf s t = brokenBy ordered s t
+
+unfoldable pub soundBy : Order → State → LeaseTable → Bool
+soundBy o s t = eqb (brokenBy o s t) 0
+
+abbrev pub soundB : State → LeaseTable → Bool
+soundB s t = soundBy ordered s t

@@ -6,3 +6,4 @@ pub mod Kept
 pub mod Added
 pub mod Facts
 pub mod Across
+pub mod Rises

@@ -74,20 +74,13 @@ fn no_lease_yet(count: usize) -> Gathered
     }
 }
 
-// Whether the first eight octets say that a lease comes before another.
+// Whether the ends alone, of a hold the lapse, say that a lease comes before another.
 fn is_swift(a: Lease, b: Lease) -> bool
     ensures { λ r. ⌜ (r ≡ true → ordered a b ≡ true) ⌝ }
 {
-    if 8 <= a.id_len {
-        if 8 <= b.id_len {
-            let i = a.id;
-            let j = b.id;
-            let x = identifier::word(i, 0);
-            let y = identifier::word(j, 0);
-            return x < y;
-        }
-    }
-    false
+    let x = state::until_of(a);
+    let y = state::until_of(b);
+    x < y
 }
 
 // All loops over a tenant's records are here, so that they are copied once.

@@ -111,7 +111,7 @@ struct Gathered {
     apart: bool,
 }
 
-// What one pass over a tenant's records gives; `swift` where the first eight octets of its identifiers rise.
+// What one pass over a tenant's records gives; `swift` where their ends rise.
 struct Pass {
     gathered: Gathered,
     swift: bool,

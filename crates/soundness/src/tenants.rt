@@ -1,10 +1,12 @@
 // The rules on one tenant's leases: 8, 10 and the order.
 ghost use mathlib.Core.Path.{_≡_};
 ghost use mathlib.Core.Bool.{true};
+ghost use mathlib.Core.List.{map};
+ghost use lib.ListN.{take};
 ghost use Rattle.lists.specs.All.{pairsBy};
 ghost use Rattle.state.specs.Book.{differ, inUse, ordered};
 ghost use Rattle.soundness.specs.Sound.{compatible};
-ghost use Rattle.soundness.specs.Parts.{poolsOf, emptySets, freshAll, checkedOf, bothTenants};
+ghost use Rattle.soundness.specs.Parts.{poolsOf, emptySets, freshAll, checkedOf, bothTenants, unlike, wordOf};
 use crate::Checked;
 use crate::TenantRules;
 use crate::gather::pass;
@@ -75,12 +77,64 @@ fn all_differ(t: TenantLeases) -> bool
     true
 }
 
-// What rises differs, so that only leases out of order are compared pair by pair.
-fn ids_differ(t: TenantLeases, rising: bool) -> bool
-    requires { ⌜ rising ≡ pairsBy ordered (inUse t) ⌝ }
+// The first eight octets of an identifier as one number; 0 of a shorter one.
+fn word_of(l: Lease) -> u64
+    ensures { λ r. ⌜ r ≡ wordOf l ⌝ }
+{
+    if 8 <= l.id_len {
+        let i = l.id;
+        return identifier::word(i, 0);
+    }
+    0
+}
+
+fn words_of(t: TenantLeases) -> [u64; 16]
+    ensures { λ r. ⌜ r ≡ map wordOf (t .leases) ⌝ }
+{
+    let mut words = [0u64; 16];
+    let mut i: usize = 0;
+    while i < 16 {
+        let l = t.leases[i];
+        words[i] = word_of(l);
+        i += 1;
+    }
+    words
+}
+
+fn words_differ(words: [u64; 16], count: usize) -> bool
+    ensures { λ r. ⌜ r ≡ pairsBy unlike (take count words) ⌝ }
+{
+    let n = state::cut16(count);
+    let mut i: usize = 0;
+    let mut j: usize = 1;
+    while i < n {
+        if j < n {
+            let a = words[i];
+            let b = words[j];
+            j += 1;
+            if !is_unlike(a, b) {
+                return false;
+            }
+        } else {
+            i += 1;
+            j = i + 1;
+        }
+    }
+    true
+}
+
+fn is_unlike(a: u64, b: u64) -> bool
+    ensures { λ r. ⌜ r ≡ unlike a b ⌝ }
+{
+    a != b
+}
+
+// Identifiers differ where their first octets do, so that only others are compared whole, pair by pair.
+fn ids_differ(t: TenantLeases) -> bool
     ensures { λ r. ⌜ r ≡ pairsBy differ (inUse t) ⌝ }
 {
-    if rising {
+    let words = words_of(t);
+    if words_differ(words, t.count) {
         return true;
     }
     all_differ(t)
@@ -108,7 +162,7 @@ fn all_compatible(t: TenantLeases) -> bool
     true
 }
 
-// Only where the first eight octets do not rise are whole identifiers compared.
+// Only where ends are the same are identifiers compared.
 fn rises(t: TenantLeases, swift: bool) -> bool
     requires { ⌜ (swift ≡ true → true ≡ pairsBy ordered (inUse t)) ⌝ }
     ensures { λ r. ⌜ r ≡ pairsBy ordered (inUse t) ⌝ }
@@ -139,7 +193,7 @@ pub fn check_tenant(s: State, pools: [u64; 4], t: TenantLeases) -> Checked
     let held = g.held;
     let rising = rises(t, p.swift);
     let record = both(t.count <= 16, g.ids);
-    let identifier = ids_differ(t, rising);
+    let identifier = ids_differ(t);
     let period = periods_ok(t, g.apart);
     let layout = both(rising, both(g.padded, p.unused));
     let rules = TenantRules {

@@ -1,7 +1,7 @@
 -- Definitions: lease records and the lists of leases that they stand for; document 01's book, a `State`, its settings and clock, with a `LeaseTable`, what
 -- is remembered of releases with the occupancy board, and the names for the scopes.
 use Prim.Native.Nat.{ℕ, zero, suc, _+_, max}
-use mathlib.Core.Bool.{Bool, not, _&&_}
+use mathlib.Core.Bool.{Bool, true, false, not, _&&_}
 use mathlib.Core.List.{List, [], _∷_, map}
 use lib.Dec.{eqb, ltb}
 use lib.Bits.{bitOr}
@@ -110,6 +110,22 @@ pub record Book : Type 0 where
 abbrev pub changedTo : Book → State → LeaseTable → Memory → Book
 changedTo b s t m = record { state = s; table = t; memory = m; names = b .names }
 
+-- ---- leases and holds
+-- document 02, W-205: a record is a lease or a hold, and "a hold has type 1"
+unfoldable pub isHold : Lease → Bool
+isHold l = eqb (l .kind) 1
+
+abbrev pub isLease : Lease → Bool
+isLease l = not (isHold l)
+
+-- how long an offer is held: "thirty seconds"
+abbrev pub holdTime : ℕ
+holdTime = 30
+
+-- how long a record is live: a lease to its end, and a hold "is live until it lapses"
+unfoldable pub until : Lease → ℕ
+until l = pick (isHold l) (l .lapse) (l .end)
+
 -- ---- identifiers, and the order of a tenant's records
 abbrev pub idOf : Lease → List ℕ
 idOf l = take (l .«id_len») (l .id)
@@ -117,19 +133,26 @@ idOf l = take (l .«id_len») (l .id)
 unfoldable pub differ : Lease → Lease → Bool
 differ a b = not (sameOf (idOf a) (idOf b))
 
-unfoldable pub byIdentifier : Lease → Lease → Bool
+-- an order: the first comes before the second
+abbrev pub Order : Type 0
+Order = Lease → Lease → Bool
+
+-- by identifier, octet by octet, a prefix first: the order of the campus file, and that of records before document 02's W-209
+unfoldable pub byIdentifier : Order
 byIdentifier a b = eqb (orderOf (idOf a) (idOf b)) 0
 
--- records rise: the first comes before the second. "A house's records rise by identifier, leases and holds together" (document 02, W-205). Nothing else says how records are ordered; that it decides is `rising` in laws/Sorted.antt
-abbrev pub ordered : Lease → Lease → Bool
-ordered = byIdentifier
+-- "by end (a hold's by lapse), ties by identifier" (W-209)
+unfoldable pub byEnding : Order
+byEnding a b = pick (ltb (until a) (until b)) true (pick (ltb (until b) (until a)) false (byIdentifier a b))
 
--- x comes before l, or does not
-abbrev pub before : Lease → Lease → Bool
-before l x = ordered x l
+-- "Each house's records are kept by end" (W-209). Nothing else says how records are ordered; that it decides is `rising` in laws/Sorted.antt
+abbrev pub ordered : Order
+ordered = byEnding
 
-abbrev pub notBefore : Lease → Lease → Bool
-notBefore l x = not (ordered x l)
+-- by ending, or by identifier
+unfoldable pub orderFor : Bool → Order
+orderFor true = byEnding
+orderFor false = byIdentifier
 
 abbrev pub named : List ℕ → Lease → Bool
 named i l = sameOf (idOf l) i
@@ -151,32 +174,20 @@ abbrev pub leaseAt : List Lease → ℕ → Lease
 leaseAt ls at = getD ls at zeroLease
 
 -- those before it, the lease, and the others
-unfoldable pub insertOf : Lease → List Lease → List Lease
+abbrev pub insertOf : Lease → List Lease → List Lease
 insertOf l ls = insertIn ordered l ls
 
--- the same of a tenant's records, where one is left; full records stay as they are
-unfoldable pub insertedIn : Lease → TenantLeases → TenantLeases
-insertedIn l t = pick (ltb (length (inUse t)) 16) (laidOut (insertOf l (inUse t))) t
+-- the same of a tenant's records, where one is left, by any order; full records stay as they are
+unfoldable pub insertedBy : Order → Lease → TenantLeases → TenantLeases
+insertedBy o l t = pick (ltb (length (inUse t)) 16) (laidOut (insertIn o l (inUse t))) t
+
+abbrev pub insertedIn : Lease → TenantLeases → TenantLeases
+insertedIn l t = insertedBy ordered l t
 
 unfoldable pub removeOf : List ℕ → List Lease → List Lease
 removeOf i ls = filterBy (other i) ls
 
 -- ---- the clock
--- document 02, W-205: a record is a lease or a hold, and "a hold has type 1"
-unfoldable pub isHold : Lease → Bool
-isHold l = eqb (l .kind) 1
-
-abbrev pub isLease : Lease → Bool
-isLease l = not (isHold l)
-
--- how long an offer is held: "thirty seconds"
-abbrev pub holdTime : ℕ
-holdTime = 30
-
--- how long a record is live: a lease to its end, and a hold "is live until it lapses"
-unfoldable pub until : Lease → ℕ
-until l = pick (isHold l) (l .lapse) (l .end)
-
 -- document 01's live: a lease is live while its end is after the clock, a hold while its lapse is
 abbrev pub live : ℕ → Lease → Bool
 live clock l = ltb clock (until l)
@@ -194,6 +205,10 @@ raised s time = withClock s (max (s .clock) time)
 -- the same where clock and settings stand in a ledger
 abbrev pub raisedIn : Ledger → ℕ → Ledger
 raisedIn g time = record { state = raised (g .state) time; memory = g .memory }
+
+-- how many have ended in front: "Dropping ended leases should take from the front" (W-209). By ending they are all that have ended (laws/Sorted.antt)
+unfoldable pub endedFront : ℕ → List Lease → ℕ
+endedFront clock ls = placeBy (live clock) ls
 
 -- the leases and holds that are live at a clock
 unfoldable pub dropped : ℕ → LeaseTable → LeaseTable

@@ -13,7 +13,7 @@ use Rattle.state.specs.declared.Release.{Release}
 use Rattle.state.specs.declared.TenantReleases.{TenantReleases}
 use Rattle.state.specs.declared.Memory.{Memory}
 use Rattle.state.specs.declared.Edit.{Edit}
-use Rattle.state.specs.Book.{Book, changedTo, zeroLease, zeroRelease, inUse, laidOut, tenantAt, putAt, idOf, insertedIn, removeOf, remembered, laidReleases, releasesAt, otherRelease, boardWith, boardWithout}
+use Rattle.state.specs.Book.{Book, Order, changedTo, zeroLease, zeroRelease, inUse, laidOut, tenantAt, putAt, idOf, insertedBy, ordered, removeOf, remembered, laidReleases, releasesAt, otherRelease, boardWith, boardWithout}
 
 abbrev pub noEdit : Edit
 noEdit = record { leaves = false; old = zeroLease; enters = false; new = zeroLease; forgets = false; remembers = false; release = zeroRelease }
@@ -43,13 +43,16 @@ givingWay o l = record { leaves = true; old = o; enters = true; new = l; forgets
 unfoldable pub leftIn : Edit → TenantLeases → TenantLeases
 leftIn e t = pick (e .leaves) (laidOut (removeOf (idOf (e .old)) (inUse t))) t
 
--- and the new one enters
-unfoldable pub editedIn : Edit → TenantLeases → TenantLeases
-editedIn e t = pick (e .enters) (insertedIn (e .new) (leftIn e t)) (leftIn e t)
+-- and the new one enters, by any order
+unfoldable pub editedBy : Order → Edit → TenantLeases → TenantLeases
+editedBy o e t = pick (e .enters) (insertedBy o (e .new) (leftIn e t)) (leftIn e t)
+
+abbrev pub editedIn : Edit → TenantLeases → TenantLeases
+editedIn e t = editedBy ordered e t
 
 -- the table, with the records of the tenant at place h edited: the only way in which a call changes a lease that is live
-unfoldable pub applied : Edit → ℕ → LeaseTable → LeaseTable
-applied e h b = putAt b h (editedIn e (tenantAt b h))
+unfoldable pub appliedBy : Order → Edit → ℕ → LeaseTable → LeaseTable
+appliedBy o e h b = putAt b h (editedBy o e (tenantAt b h))
 
 -- ---- what is remembered
 -- the last four: "a fifth release forgets the oldest"
@@ -79,5 +82,8 @@ unfoldable pub noted : Edit → ℕ → Memory → Memory
 noted e h m = record { releases = set (m .releases) h (notedIn e (releasesAt m h)); board = boardEdited e h (m .board) }
 
 -- ---- the book
+abbrev pub editedBookBy : Order → Edit → ℕ → Book → Book
+editedBookBy o e h b = changedTo b (b .state) (appliedBy o e h (b .table)) (noted e h (b .memory))
+
 abbrev pub editedBook : Edit → ℕ → Book → Book
-editedBook e h b = changedTo b (b .state) (applied e h (b .table)) (noted e h (b .memory))
+editedBook e h b = editedBookBy ordered e h b

@@ -1,3 +1,4 @@
+pub mod Edit
 pub mod Layout
 pub mod Edited
 pub mod Sets

@@ -10,7 +10,7 @@ use Rattle.agreement.specs.Agrees.{agreesB}
 use Rattle.identifier.specs.Order.{orderOf, sameOf}
 use Rattle.lists.specs.All.{allBy, allTo, pairsBy}
 use Rattle.lists.specs.Filter.{filterBy, isIn}
-use Rattle.lists.specs.Arranged.{insertIn}
+use Rattle.lists.specs.Arranged.{arranged, insertIn}
 use Rattle.lists.specs.Pick.{pick}
 use Rattle.lists.specs.Row.{laidRow}
 use Rattle.lists.specs.Sums.{sumTo}
@@ -19,9 +19,9 @@ use Rattle.lists.specs.Same.{sameBy}
 use Rattle.occupancy.specs.declared.Board.{Board}
 use Rattle.occupancy.specs.declared.Entry.{Entry}
 use Rattle.octets.specs.Octets.{octets32}
-use Rattle.soundness.specs.Sound.{apart, belowB, blankB, brokenOf, compatible, countsB, disjoint, holdB, lapseB, oneTo, firstBroken, firstRule, firstLate, tenantsB, idB, kindB, layoutB, leaseB, limitB, limitsB, committedB, noneB, offsetsB, paddedB, periodB, poolB, poolsApart, rangeB, rangeZero, rangesApart, recordsB, rule1, rule10, rule11, rule12, rule13, rule2, rule3, rule4, rule5, rule6, rule7, rule8, rule9, rulesOf, scopeZero, settingsB, reserveB, reservesB, sizeB, soundB, tailB, ttlB, unusedB, zeroFrom, rule19}
+use Rattle.soundness.specs.Sound.{apart, belowB, blankB, brokenOf, compatible, countsB, disjoint, holdB, lapseB, oneTo, firstBroken, firstRule, firstLate, tenantsB, idB, kindB, leaseB, limitB, limitsB, committedB, noneB, offsetsB, paddedB, periodB, poolB, poolsApart, rangeB, rangeZero, rangesApart, recordsB, rule1, rule10, rule11, rule12, rule13, rule2, rule3, rule4, rule5, rule6, rule7, rule8, rule9, scopeZero, settingsB, reserveB, reservesB, sizeB, tailB, ttlB, unusedB, zeroFrom, brokenBy, layoutBy, rule19By, rulesBy, soundBy}
 use Rattle.state.specs.Board.{boardOf, countIn, countOn, entryBy, isOn, ownerFrom, scopeBy}
-use Rattle.state.specs.Book.{Book, byIdentifier, differ, addressesOf, insertOf, isHold, laidOut, laidReleases, lapsingAt, leaseWith, overlaps, tableOf, unionAll, zeroRelease, zeroScope, committed}
+use Rattle.state.specs.Book.{Book, byIdentifier, differ, addressesOf, isHold, laidOut, laidReleases, lapsingAt, leaseWith, overlaps, tableOf, unionAll, zeroRelease, zeroScope, committed, byEnding, until}
 use Rattle.state.specs.declared.Lease.{Lease}
 use Rattle.state.specs.declared.LeaseTable.{LeaseTable}
 use Rattle.state.specs.declared.Memory.{Memory}
@@ -36,8 +36,8 @@ use Rattle.format.specs.Tenants as entries
 use Rattle.releases.specs.Rules.{brokenMemory, brokenRelease, differs, fewB, filledB, firstRelease, houseB, laidB, lengthB, memoryB, notLeased, older, onceB, pastB, releaseRulesOf, rulesTo, unusedR}
 use Rattle.releases.specs.Whole.{bookB}
 use Rattle.format.specs.Format.{Got, bad, closed, got, readNumber, readOctet, readTimes, then, writeAll}
-use Rattle.state_file.specs.Records.{countsFit, filled, fitsB, storedScope, storedState, storedTable, zeroRange, filedBook, filedScope, pairUp}
-use Rattle.lease_file.specs.Records.{fewOf, filedHold, filedHolds, filedLease, filedLeases, holdFitB, insertAll, leaseFitB, mergedFrom, recordsFitB, storableB, stored, storedHold}
+use Rattle.state_file.specs.Records.{filedAs, countsFit, filled, fitsB, storedScope, storedState, storedTable, zeroRange, filedBook, filedScope, pairUp}
+use Rattle.lease_file.specs.Records.{fewOf, filedHold, filedHolds, filedLease, filedLeases, holdFitB, inFileOrder, leaseFitB, mergedFrom, recordsFitB, storableB, stored, storedHold}
 use Rattle.lease_file.specs.Section.{isAfter}
 use Rattle.state_file.specs.StateFile.{accepted, loadedGot, judged, loaded, namesGot, namesOf, readFile, refused, octetsOf, roomAfter, withBoard, writtenOf, zeroMemory, zeroState, zeroTable}
 
@@ -97,6 +97,9 @@ a = 0 ∷ 65 ∷ []
 
 b : List ℕ
 b = 0 ∷ 66 ∷ []
+
+c : List ℕ
+c = 0 ∷ 67 ∷ []
 
 -- a with an octet more
 ab : List ℕ
@@ -407,7 +410,7 @@ unsound =
     ∷ []
 
 answers : allHold (sound ++ form ++ unsound) ≡ true
-unfolding allHold ruleOf long largest sound form unsound server range scope lease tenants pool settings unnamed none name named en plain a b ab again row eight four upFrom sixteen pick allBy pairsBy allTo filterBy isIn sumTo bit offsetsFrom setOf readOffsets risesFrom orderOf sameOf laidOut tableOf byIdentifier unionAll addressesOf overlaps oneTo sizeB idB recordsB countsB rule1 belowB offsetsB rule2 rangeB rangesApart rule3 poolB poolsApart rule4 ttlB rule5 reserveB reservesB rule6 kindB periodB leaseB noneB tenantsB rule7 differ rule8 disjoint apart rule9 compatible rule10 limitB limitsB rule11 committed committedB rule12 lapseB holdB rule13 zeroFrom paddedB blankB unusedB layoutB rangeZero tailB scopeZero settingsB rulesOf firstLate firstRule firstBroken brokenOf soundB then closed readOctet readNumber readTimes isAfter orderedFrom fileOf filled stored storedHold insertIn insertOf insertAll mergedFrom isHold storedScope storedState storedTable storableB leaseFitB holdFitB fewOf recordsFitB countsFit fitsB refused accepted judged loaded loadedGot readFile rule19 sizesOk broken bare release released remembering hold held holding four-released brokenMemory brokenRelease firstRelease releaseRulesOf rulesTo houseB fewB lengthB differs notLeased onceB pastB older filledB unusedR laidB memoryB laidReleases storedRelease storedMemory entries.apart keepableB fewFor releasesFitB
+unfolding allHold ruleOf long largest sound form unsound server range scope lease tenants pool settings unnamed none name named en plain a b ab again row eight four upFrom sixteen pick allBy pairsBy allTo filterBy isIn sumTo bit offsetsFrom setOf readOffsets risesFrom orderOf sameOf laidOut tableOf byIdentifier unionAll addressesOf overlaps oneTo sizeB idB recordsB countsB rule1 belowB offsetsB rule2 rangeB rangesApart rule3 poolB poolsApart rule4 ttlB rule5 reserveB reservesB rule6 kindB periodB leaseB noneB tenantsB rule7 differ rule8 disjoint apart rule9 compatible rule10 limitB limitsB rule11 committed committedB rule12 lapseB holdB rule13 zeroFrom paddedB blankB unusedB layoutBy rangeZero tailB scopeZero settingsB rulesBy firstLate firstRule firstBroken brokenBy soundBy then closed readOctet readNumber readTimes isAfter orderedFrom fileOf filled stored storedHold insertIn arranged mergedFrom isHold storedScope storedState storedTable storableB leaseFitB holdFitB fewOf recordsFitB countsFit fitsB refused accepted judged loaded loadedGot readFile rule19By sizesOk broken bare release released remembering hold held holding four-released brokenMemory brokenRelease firstRelease releaseRulesOf rulesTo houseB fewB lengthB differs notLeased onceB pastB older filledB unusedR laidB memoryB laidReleases storedRelease storedMemory entries.apart keepableB fewFor releasesFitB byEnding until
 answers = refl
 
 -- ---- the book that a file gives, and what the writer answers to it
@@ -466,9 +469,21 @@ memoryWith l = record { releases = laidReleases l ∷ laidReleases (specimenRele
 specimenMemory : Memory
 specimenMemory = memoryWith (specimenRelease a 5 900 ∷ [])
 
+-- document 02, W-209: tenant 1 has a until 4600, b until 2000, and c held until 1030. The file has them by identifier, the records by ending
+unlike : List ℕ
+unlike = holding 2 (lease 1 1 a 3 1000 4600 (0 ∷ []) ++ lease 1 1 b 3 1000 2000 (1 ∷ [])) 1 (held 1 c (2 ∷ []))
+
+unlikeHold : Lease
+unlikeHold = lapsingAt 1030 (leaseWith 1 2 (c ++ replicate 30 0) 1 16909060 1000 4600 4)
+
+-- the book with these records of tenant 1, no names and no releases
+unlikeBook : List Lease → Book
+unlikeBook l = let t = tableOf (l ∷ replicate 7 []) in record { state = specimenState; table = t; memory = withBoard t zeroMemory; names = unnamed 1 2 }
+
 read-specimen : (readFile specimen ≡ accepted specimenState specimenTable specimenMemory) × (namesOf specimen ≡ specimenNames) × (namesOf (specimen ++ 0 ∷ []) ≡ [])
-unfolding specimen specimenNames specimenState specimenLease specimenHold tableWith specimenTable server range scope lease tenants pool settings unnamed name en plain a b ab pick allBy pairsBy allTo filterBy isIn sumTo bit offsetsFrom setOf readOffsets risesFrom orderOf sameOf laidOut tableOf byIdentifier unionAll addressesOf overlaps oneTo sizeB idB recordsB countsB rule1 belowB offsetsB rule2 rangeB rangesApart rule3 poolB poolsApart rule4 ttlB rule5 reserveB reservesB rule6 kindB periodB leaseB noneB tenantsB rule7 differ rule8 disjoint apart rule9 compatible rule10 limitB limitsB rule11 committedB rule12 lapseB holdB rule13 zeroFrom paddedB blankB unusedB layoutB rangeZero tailB scopeZero settingsB rule19 rulesOf firstLate firstRule firstBroken brokenOf soundB then closed readOctet readNumber readTimes isAfter orderedFrom fileOf filled stored storedHold insertIn insertOf insertAll mergedFrom isHold storedScope storedState storedTable storableB leaseFitB holdFitB fewOf recordsFitB countsFit fitsB refused accepted judged loaded loadedGot readFile committed namesOf namesGot sizesOk bare release specimenRelease memoryWith specimenMemory brokenMemory brokenRelease firstRelease releaseRulesOf rulesTo houseB fewB lengthB differs notLeased onceB pastB older filledB unusedR laidB memoryB laidReleases storedRelease storedMemory entries.apart keepableB fewFor releasesFitB boardOf scopeBy entryBy ownerFrom countOn countIn isOn upTo specimenBoard boardWith entry
-read-specimen = (refl, refl, refl)
+    × (readFile unlike ≡ (let x = unlikeBook (unlikeHold ∷ specimenLease b 2000 2 ∷ specimenLease a 4600 1 ∷ []) in accepted (x .state) (x .table) (x .memory)))
+unfolding unlike unlikeHold unlikeBook c holding held hold specimen specimenNames specimenState specimenLease specimenHold tableWith specimenTable server range scope lease tenants pool settings unnamed name en plain a b ab pick allBy pairsBy allTo filterBy isIn sumTo bit offsetsFrom setOf readOffsets risesFrom orderOf sameOf laidOut tableOf byIdentifier unionAll addressesOf overlaps oneTo sizeB idB recordsB countsB rule1 belowB offsetsB rule2 rangeB rangesApart rule3 poolB poolsApart rule4 ttlB rule5 reserveB reservesB rule6 kindB periodB leaseB noneB tenantsB rule7 differ rule8 disjoint apart rule9 compatible rule10 limitB limitsB rule11 committedB rule12 lapseB holdB rule13 zeroFrom paddedB blankB unusedB layoutBy rangeZero tailB scopeZero settingsB rule19By rulesBy firstLate firstRule firstBroken brokenBy soundBy then closed readOctet readNumber readTimes isAfter orderedFrom fileOf filled stored storedHold insertIn arranged mergedFrom isHold storedScope storedState storedTable storableB leaseFitB holdFitB fewOf recordsFitB countsFit fitsB refused accepted judged loaded loadedGot readFile committed namesOf namesGot sizesOk bare release specimenRelease memoryWith specimenMemory brokenMemory brokenRelease firstRelease releaseRulesOf rulesTo houseB fewB lengthB differs notLeased onceB pastB older filledB unusedR laidB memoryB laidReleases storedRelease storedMemory entries.apart keepableB fewFor releasesFitB boardOf scopeBy entryBy ownerFrom countOn countIn isOn upTo specimenBoard boardWith entry byEnding until
+read-specimen = (refl, refl, refl, refl)
 
 -- the book with these names, or others; and with another memory
 bookWith : List ℕ → Book
@@ -506,11 +521,12 @@ write-specimen : (octetsOf (bookWith specimenNames) ≡ specimen)
     × (writtenOf (bookWith (unnamed 2 2)) 154 ≡ record { refusal = 22; length = 0 })
     × (writtenOf (bookWith (1 ∷ 1 ∷ name 1 en en ++ 0 ∷ 0 ∷ [])) 154 ≡ record { refusal = 22; length = 0 })
     × (roomAfter (bookWith []) (replicate 156 9) ≡ replicate 156 9)
-unfolding specimen specimenNames specimenState specimenLease specimenHold tableWith specimenTable server range scope lease tenants pool settings unnamed name en plain a b ab pick allBy pairsBy allTo filterBy isIn sumTo bit offsetsFrom setOf readOffsets risesFrom orderOf sameOf laidOut tableOf byIdentifier unionAll addressesOf overlaps oneTo sizeB idB recordsB countsB rule1 belowB offsetsB rule2 rangeB rangesApart rule3 poolB poolsApart rule4 ttlB rule5 reserveB reservesB rule6 kindB periodB leaseB noneB tenantsB rule7 differ rule8 disjoint apart rule9 compatible rule10 limitB limitsB rule11 committedB rule12 lapseB holdB rule13 zeroFrom paddedB blankB unusedB layoutB rangeZero tailB scopeZero settingsB rule19 rulesOf firstLate firstRule firstBroken brokenOf soundB then closed readOctet readNumber readTimes isAfter orderedFrom fileOf filled stored storedHold insertIn insertOf insertAll mergedFrom isHold storedScope storedState storedTable storableB leaseFitB holdFitB fewOf recordsFitB countsFit fitsB refused accepted judged loaded loadedGot readFile zeroTable octetsOf writtenOf roomAfter filedBook filedLeases filedHolds filedScope pairUp filedLease filedHold writeAll committed bookWith zeroBook bookB namesB isWhole sizesOk bare release specimenRelease memoryWith specimenMemory brokenMemory brokenRelease firstRelease releaseRulesOf rulesTo houseB fewB lengthB differs notLeased onceB pastB older filledB unusedR laidB memoryB laidReleases storedRelease storedMemory entries.apart keepableB fewFor releasesFitB entries.filedAll filedRelease filedMemory boardOf scopeBy entryBy ownerFrom countOn countIn isOn upTo specimenBoard boardWith entry agreesB sameBoard sameScopeBoard sameEntry sameBy
-write-specimen = (refl, refl, refl, refl, refl, refl, refl, refl, refl, refl, refl, refl)
-
-c : List ℕ
-c = 0 ∷ 67 ∷ []
+    -- by ending; in the file's order
+    × (octetsOf (unlikeBook (unlikeHold ∷ specimenLease b 2000 2 ∷ specimenLease a 4600 1 ∷ [])) ≡ unlike)
+    × (writtenOf (unlikeBook (unlikeHold ∷ specimenLease b 2000 2 ∷ specimenLease a 4600 1 ∷ [])) 200 .refusal ≡ 0)
+    × (writtenOf (unlikeBook (specimenLease a 4600 1 ∷ specimenLease b 2000 2 ∷ unlikeHold ∷ [])) 200 .refusal ≡ 22)
+unfolding unlike unlikeHold unlikeBook c holding held hold specimen specimenNames specimenState specimenLease specimenHold tableWith specimenTable server range scope lease tenants pool settings unnamed name en plain a b ab pick allBy pairsBy allTo filterBy isIn sumTo bit offsetsFrom setOf readOffsets risesFrom orderOf sameOf laidOut tableOf byIdentifier unionAll addressesOf overlaps oneTo sizeB idB recordsB countsB rule1 belowB offsetsB rule2 rangeB rangesApart rule3 poolB poolsApart rule4 ttlB rule5 reserveB reservesB rule6 kindB periodB leaseB noneB tenantsB rule7 differ rule8 disjoint apart rule9 compatible rule10 limitB limitsB rule11 committedB rule12 lapseB holdB rule13 zeroFrom paddedB blankB unusedB layoutBy rangeZero tailB scopeZero settingsB rule19By rulesBy firstLate firstRule firstBroken brokenBy soundBy then closed readOctet readNumber readTimes isAfter orderedFrom fileOf filled stored storedHold insertIn arranged mergedFrom isHold storedScope storedState storedTable storableB leaseFitB holdFitB fewOf recordsFitB countsFit fitsB refused accepted judged loaded loadedGot readFile zeroTable octetsOf writtenOf roomAfter filedBook filedLeases filedHolds filedScope pairUp filedLease filedHold writeAll committed bookWith zeroBook bookB namesB isWhole sizesOk bare release specimenRelease memoryWith specimenMemory brokenMemory brokenRelease firstRelease releaseRulesOf rulesTo houseB fewB lengthB differs notLeased onceB pastB older filledB unusedR laidB memoryB laidReleases storedRelease storedMemory entries.apart keepableB fewFor releasesFitB entries.filedAll filedRelease filedMemory boardOf scopeBy entryBy ownerFrom countOn countIn isOn upTo specimenBoard boardWith entry agreesB sameBoard sameScopeBoard sameEntry sameBy byEnding until filedAs inFileOrder
+write-specimen = (refl, refl, refl, refl, refl, refl, refl, refl, refl, refl, refl, refl, refl, refl, refl)
 
 -- releases that are lent: none of tenant 1 and two of one time are written; a time after the clock, times that fall, an identifier on a lease, an octet past
 -- an identifier, an entry in use of which nothing is set, an unused one that is not zero, and five of four are 22
@@ -524,18 +540,18 @@ lent-releases : (writtenOf (bookOf (memoryWith [])) 142 ≡ record { refusal = 0
     × (writtenOf (bookOf (countedAs 0 (specimenRelease a 5 900 ∷ replicate 3 zeroRelease))) 154 ≡ record { refusal = 22; length = 0 })
     × (writtenOf (bookOf (countedAs 5 (replicate 4 zeroRelease))) 154 ≡ record { refusal = 22; length = 0 })
     × (roomAfter (bookOf (countedAs 5 (replicate 4 zeroRelease))) (replicate 156 9) ≡ replicate 156 9)
-unfolding c specimen specimenNames specimenState specimenLease specimenHold tableWith specimenTable server range scope lease tenants pool settings unnamed name en plain a b ab pick allBy pairsBy allTo filterBy isIn sumTo bit offsetsFrom setOf readOffsets risesFrom orderOf sameOf laidOut tableOf byIdentifier unionAll addressesOf overlaps oneTo sizeB idB recordsB countsB rule1 belowB offsetsB rule2 rangeB rangesApart rule3 poolB poolsApart rule4 ttlB rule5 reserveB reservesB rule6 kindB periodB leaseB noneB tenantsB rule7 differ rule8 disjoint apart rule9 compatible rule10 limitB limitsB rule11 committedB rule12 lapseB holdB rule13 zeroFrom paddedB blankB unusedB layoutB rangeZero tailB scopeZero settingsB rule19 rulesOf firstLate firstRule firstBroken brokenOf soundB then closed readOctet readNumber readTimes isAfter orderedFrom fileOf filled stored storedHold insertIn insertOf insertAll mergedFrom isHold storedScope storedState storedTable storableB leaseFitB holdFitB fewOf recordsFitB countsFit fitsB refused accepted judged loaded loadedGot readFile zeroTable octetsOf writtenOf roomAfter filedBook filedLeases filedHolds filedScope pairUp filedLease filedHold writeAll committed bookOf countedAs zeroBook bookB namesB isWhole sizesOk bare release specimenRelease memoryWith specimenMemory brokenMemory brokenRelease firstRelease releaseRulesOf rulesTo houseB fewB lengthB differs notLeased onceB pastB older filledB unusedR laidB memoryB laidReleases storedRelease storedMemory entries.apart keepableB fewFor releasesFitB entries.filedAll filedRelease filedMemory boardOf scopeBy entryBy ownerFrom countOn countIn isOn upTo specimenBoard boardWith entry agreesB sameBoard sameScopeBoard sameEntry sameBy
+unfolding c specimen specimenNames specimenState specimenLease specimenHold tableWith specimenTable server range scope lease tenants pool settings unnamed name en plain a b ab pick allBy pairsBy allTo filterBy isIn sumTo bit offsetsFrom setOf readOffsets risesFrom orderOf sameOf laidOut tableOf byIdentifier unionAll addressesOf overlaps oneTo sizeB idB recordsB countsB rule1 belowB offsetsB rule2 rangeB rangesApart rule3 poolB poolsApart rule4 ttlB rule5 reserveB reservesB rule6 kindB periodB leaseB noneB tenantsB rule7 differ rule8 disjoint apart rule9 compatible rule10 limitB limitsB rule11 committedB rule12 lapseB holdB rule13 zeroFrom paddedB blankB unusedB layoutBy rangeZero tailB scopeZero settingsB rule19By rulesBy firstLate firstRule firstBroken brokenBy soundBy then closed readOctet readNumber readTimes isAfter orderedFrom fileOf filled stored storedHold insertIn arranged mergedFrom isHold storedScope storedState storedTable storableB leaseFitB holdFitB fewOf recordsFitB countsFit fitsB refused accepted judged loaded loadedGot readFile zeroTable octetsOf writtenOf roomAfter filedBook filedLeases filedHolds filedScope pairUp filedLease filedHold writeAll committed bookOf countedAs zeroBook bookB namesB isWhole sizesOk bare release specimenRelease memoryWith specimenMemory brokenMemory brokenRelease firstRelease releaseRulesOf rulesTo houseB fewB lengthB differs notLeased onceB pastB older filledB unusedR laidB memoryB laidReleases storedRelease storedMemory entries.apart keepableB fewFor releasesFitB entries.filedAll filedRelease filedMemory boardOf scopeBy entryBy ownerFrom countOn countIn isOn upTo specimenBoard boardWith entry agreesB sameBoard sameScopeBoard sameEntry sameBy byEnding until filedAs inFileOrder
 lent-releases = (refl, refl, refl, refl, refl, refl, refl, refl, refl, refl)
 
--- holds that are lent: none, one alone and one behind the lease are written; a lapse at the clock, one after thirty-one seconds, one of a lease, and a hold in
--- front of one with a lower identifier are 22
+-- holds that are lent: none, one alone and one behind the lease are written; a lapse at the clock, one after thirty-one seconds, one of a lease, and a lease in
+-- front of a hold that lapses before its end are 22
 lent-holds : (writtenOf (bookOn (specimenLease b 2000 12 ∷ [])) 129 ≡ record { refusal = 0; length = 129 })
     × (octetsOf (bookOn (specimenHold 1001 ∷ [])) ≡ settings ++ 1 ∷ plain 2 a (0 ∷ 1 ∷ []) ++ specimenNames ++ 2 ∷ release 1 a 5 900 ++ release 2 b 6 800 ++ 1 ∷ lease 1 1 ab 1 2000 3000 (2 ∷ []) ++ octets32 1001)
     × (writtenOf (bookOn (specimenHold 1000 ∷ specimenLease b 2000 12 ∷ [])) 154 ≡ record { refusal = 22; length = 0 })
     × (writtenOf (bookOn (specimenHold 1031 ∷ specimenLease b 2000 12 ∷ [])) 154 ≡ record { refusal = 22; length = 0 })
     × (writtenOf (bookOn (specimenHold 1030 ∷ lapsingAt 1030 (specimenLease b 2000 12) ∷ [])) 154 ≡ record { refusal = 22; length = 0 })
     × (writtenOf (bookOn (specimenLease b 2000 12 ∷ specimenHold 1030 ∷ [])) 154 ≡ record { refusal = 22; length = 0 })
-unfolding specimen specimenNames specimenState specimenLease specimenHold tableWith specimenTable server range scope lease tenants pool settings unnamed name en plain a b ab pick allBy pairsBy allTo filterBy isIn sumTo bit offsetsFrom setOf readOffsets risesFrom orderOf sameOf laidOut tableOf byIdentifier unionAll addressesOf overlaps oneTo sizeB idB recordsB countsB rule1 belowB offsetsB rule2 rangeB rangesApart rule3 poolB poolsApart rule4 ttlB rule5 reserveB reservesB rule6 kindB periodB leaseB noneB tenantsB rule7 differ rule8 disjoint apart rule9 compatible rule10 limitB limitsB rule11 committedB rule12 lapseB holdB rule13 zeroFrom paddedB blankB unusedB layoutB rangeZero tailB scopeZero settingsB rule19 rulesOf firstLate firstRule firstBroken brokenOf soundB then closed readOctet readNumber readTimes isAfter orderedFrom fileOf filled stored storedHold insertIn insertOf insertAll mergedFrom isHold storedScope storedState storedTable storableB leaseFitB holdFitB fewOf recordsFitB countsFit fitsB refused accepted judged loaded loadedGot readFile zeroTable octetsOf writtenOf roomAfter filedBook filedLeases filedHolds filedScope pairUp filedLease filedHold writeAll committed bookOn bookB namesB isWhole sizesOk bare release specimenRelease memoryWith specimenMemory brokenMemory brokenRelease firstRelease releaseRulesOf rulesTo houseB fewB lengthB differs notLeased onceB pastB older filledB unusedR laidB memoryB laidReleases storedRelease storedMemory entries.apart keepableB fewFor releasesFitB entries.filedAll filedRelease filedMemory boardOf scopeBy entryBy ownerFrom countOn countIn isOn upTo specimenBoard boardWith entry agreesB sameBoard sameScopeBoard sameEntry sameBy
+unfolding specimen specimenNames specimenState specimenLease specimenHold tableWith specimenTable server range scope lease tenants pool settings unnamed name en plain a b ab pick allBy pairsBy allTo filterBy isIn sumTo bit offsetsFrom setOf readOffsets risesFrom orderOf sameOf laidOut tableOf byIdentifier unionAll addressesOf overlaps oneTo sizeB idB recordsB countsB rule1 belowB offsetsB rule2 rangeB rangesApart rule3 poolB poolsApart rule4 ttlB rule5 reserveB reservesB rule6 kindB periodB leaseB noneB tenantsB rule7 differ rule8 disjoint apart rule9 compatible rule10 limitB limitsB rule11 committedB rule12 lapseB holdB rule13 zeroFrom paddedB blankB unusedB layoutBy rangeZero tailB scopeZero settingsB rule19By rulesBy firstLate firstRule firstBroken brokenBy soundBy then closed readOctet readNumber readTimes isAfter orderedFrom fileOf filled stored storedHold insertIn arranged mergedFrom isHold storedScope storedState storedTable storableB leaseFitB holdFitB fewOf recordsFitB countsFit fitsB refused accepted judged loaded loadedGot readFile zeroTable octetsOf writtenOf roomAfter filedBook filedLeases filedHolds filedScope pairUp filedLease filedHold writeAll committed bookOn bookB namesB isWhole sizesOk bare release specimenRelease memoryWith specimenMemory brokenMemory brokenRelease firstRelease releaseRulesOf rulesTo houseB fewB lengthB differs notLeased onceB pastB older filledB unusedR laidB memoryB laidReleases storedRelease storedMemory entries.apart keepableB fewFor releasesFitB entries.filedAll filedRelease filedMemory boardOf scopeBy entryBy ownerFrom countOn countIn isOn upTo specimenBoard boardWith entry agreesB sameBoard sameScopeBoard sameEntry sameBy byEnding until filedAs inFileOrder
 lent-holds = (refl, refl, refl, refl, refl, refl)
 
 -- boards that are lent: one without a lease, another owner, count and holding, and the same a scope further are 22, before too little room
@@ -546,5 +562,5 @@ lent-boards : (writtenOf (bookBy specimenBoard) 154 ≡ record { refusal = 0; le
     × (writtenOf (bookBy (boardWith (entry 2 1 ∷ entry 2 1 ∷ entry 1 2 ∷ entry 1 1 ∷ []) (3 ∷ 2 ∷ []))) 154 ≡ record { refusal = 22; length = 0 })
     × (writtenOf (bookBy (record { scopes = take 4 (emptyScopeBoard ∷ specimenBoard .scopes) })) 154 ≡ record { refusal = 22; length = 0 })
     × (roomAfter (bookBy noBoard) (replicate 156 9) ≡ replicate 156 9)
-unfolding specimen specimenNames specimenState specimenLease specimenHold tableWith specimenTable server range scope lease tenants pool settings unnamed name en plain a b ab pick allBy pairsBy allTo filterBy isIn sumTo bit offsetsFrom setOf readOffsets risesFrom orderOf sameOf laidOut tableOf byIdentifier unionAll addressesOf overlaps oneTo sizeB idB recordsB countsB rule1 belowB offsetsB rule2 rangeB rangesApart rule3 poolB poolsApart rule4 ttlB rule5 reserveB reservesB rule6 kindB periodB leaseB noneB tenantsB rule7 differ rule8 disjoint apart rule9 compatible rule10 limitB limitsB rule11 committedB rule12 lapseB holdB rule13 zeroFrom paddedB blankB unusedB layoutB rangeZero tailB scopeZero settingsB rule19 rulesOf firstLate firstRule firstBroken brokenOf soundB then closed readOctet readNumber readTimes isAfter orderedFrom fileOf filled stored storedHold insertIn insertOf insertAll mergedFrom isHold storedScope storedState storedTable storableB leaseFitB holdFitB fewOf recordsFitB countsFit fitsB refused accepted judged loaded loadedGot readFile zeroTable octetsOf writtenOf roomAfter filedBook filedLeases filedHolds filedScope pairUp filedLease filedHold writeAll committed bookBy bookOf bookB namesB isWhole sizesOk bare release specimenRelease memoryWith specimenMemory brokenMemory brokenRelease firstRelease releaseRulesOf rulesTo houseB fewB lengthB differs notLeased onceB pastB older filledB unusedR laidB memoryB laidReleases storedRelease storedMemory entries.apart keepableB fewFor releasesFitB entries.filedAll filedRelease filedMemory boardOf scopeBy entryBy ownerFrom countOn countIn isOn upTo specimenBoard boardWith entry agreesB sameBoard sameScopeBoard sameEntry sameBy
+unfolding specimen specimenNames specimenState specimenLease specimenHold tableWith specimenTable server range scope lease tenants pool settings unnamed name en plain a b ab pick allBy pairsBy allTo filterBy isIn sumTo bit offsetsFrom setOf readOffsets risesFrom orderOf sameOf laidOut tableOf byIdentifier unionAll addressesOf overlaps oneTo sizeB idB recordsB countsB rule1 belowB offsetsB rule2 rangeB rangesApart rule3 poolB poolsApart rule4 ttlB rule5 reserveB reservesB rule6 kindB periodB leaseB noneB tenantsB rule7 differ rule8 disjoint apart rule9 compatible rule10 limitB limitsB rule11 committedB rule12 lapseB holdB rule13 zeroFrom paddedB blankB unusedB layoutBy rangeZero tailB scopeZero settingsB rule19By rulesBy firstLate firstRule firstBroken brokenBy soundBy then closed readOctet readNumber readTimes isAfter orderedFrom fileOf filled stored storedHold insertIn arranged mergedFrom isHold storedScope storedState storedTable storableB leaseFitB holdFitB fewOf recordsFitB countsFit fitsB refused accepted judged loaded loadedGot readFile zeroTable octetsOf writtenOf roomAfter filedBook filedLeases filedHolds filedScope pairUp filedLease filedHold writeAll committed bookBy bookOf bookB namesB isWhole sizesOk bare release specimenRelease memoryWith specimenMemory brokenMemory brokenRelease firstRelease releaseRulesOf rulesTo houseB fewB lengthB differs notLeased onceB pastB older filledB unusedR laidB memoryB laidReleases storedRelease storedMemory entries.apart keepableB fewFor releasesFitB entries.filedAll filedRelease filedMemory boardOf scopeBy entryBy ownerFrom countOn countIn isOn upTo specimenBoard boardWith entry agreesB sameBoard sameScopeBoard sameEntry sameBy byEnding until filedAs inFileOrder
 lent-boards = (refl, refl, refl, refl, refl, refl, refl)

@@ -6,18 +6,19 @@ use Prim.Native.Nat.{_-_, ℕ}
 use native.Mathlib.Omega.{arith}
 use lib.ListN.{length, length-map, replicate, take}
 use lib.Seq.{take-append-seam}
-use Rattle.lists.specs.All.{All}
+use Rattle.lists.specs.All.{All, allBy, pairsBy}
 use Rattle.lists.specs.laws.Pick.{both}
-use Rattle.lease_file.specs.Records.{filedHolds, filedLeases, recordsFitB}
+use Rattle.lease_file.specs.Records.{filedHolds, filedLeases, inFileOrder, mergedFrom, recordsFitB}
 use Rattle.lease_file.specs.Section.{FileHold, FileLease}
 use Rattle.lease_file.specs.laws.Table.{holds-again, leases-again}
 use Rattle.release_file.specs.Section.{FileRelease, filedMemory, storedMemory}
 use Rattle.release_file.specs.laws.Memory.{memory-again}
-use Rattle.state.specs.Book.{rangesOf, scopesOf, zeroScope}
+use Rattle.state.specs.Book.{differ, leasesOf, rangesOf, scopesOf, zeroScope}
+use Rattle.state.specs.laws.Layout.{table-back}
 use Rattle.state.specs.declared.ClientRange.{ClientRange}
 use Rattle.state_file.specs.File.{File, FilePart, FileScope, fileFormat, scopeFormat}
 use Rattle.state_file.specs.laws.Records.{filled-take}
-use Rattle.state_file.specs.Records.{filedBook, filedScope, filled, fitsB, pairUp, storedScope, storedState, storedTable, zeroRange}
+use Rattle.state_file.specs.Records.{filedAs, filedBook, filedScope, filled, fitsB, pairUp, storedScope, storedState, storedTable, zeroRange}
 use Rattle.state_file.specs.StateFile.{withBoard}
 
 -- ---- scopes
@@ -61,13 +62,19 @@ module _ (f : File) (h : fileFormat .ok f) (e : fitsB f ≡ true) where
   unfolding fitsB
   records-fit = both _ _ (both _ _ e .1) .0
 
-  leases-filed : filedLeases (storedTable f) ≡ f .leases
-  unfolding storedTable
-  leases-filed = leases-again (f .leases) (f .holds) (h .1 .1 .1 .0) (h .1 .1 .1 .1 .1 .1) records-fit
+  -- where identifiers differ, as they do in a sound book
+  module _ (d : allBy (pairsBy differ) (leasesOf (storedTable f)) ≡ true) where
+    apart-ids : allBy (pairsBy differ) (mergedFrom 1 8 (f .leases) (f .holds)) ≡ true
+    unfolding storedTable
+    apart-ids = ap (allBy (pairsBy differ)) (sym (table-back (mergedFrom 1 8 (f .leases) (f .holds)))) ∙ d
 
-  holds-filed : filedHolds (storedTable f) ≡ f .holds
-  unfolding storedTable
-  holds-filed = holds-again (f .leases) (f .holds) (h .1 .1 .1 .0) (h .1 .1 .1 .1 .1 .1) records-fit
+    leases-filed : filedLeases (inFileOrder (storedTable f)) ≡ f .leases
+    unfolding storedTable
+    leases-filed = leases-again (f .leases) (f .holds) (h .1 .1 .1 .0) (h .1 .1 .1 .1 .1 .1) records-fit apart-ids
+
+    holds-filed : filedHolds (inFileOrder (storedTable f)) ≡ f .holds
+    unfolding storedTable
+    holds-filed = holds-again (f .leases) (f .holds) (h .1 .1 .1 .0) (h .1 .1 .1 .1 .1 .1) records-fit apart-ids
 
   ranges-filed : rangesOf (storedState f) ≡ f .tenants
   unfolding storedState
@@ -79,12 +86,12 @@ module _ (f : File) (h : fileFormat .ok f) (e : fitsB f ≡ true) where
       ap (map (filedScope (length (f .tenants)))) (ap (λ (k : ℕ). take k (filled zeroScope 4 (map storedScope (f .scopes)))) (sym (length-map (f .scopes) storedScope)) ∙ filled-take zeroScope 4 (map storedScope (f .scopes)))
       ∙ scopes-again (length (f .tenants)) (f .scopes) (h .1 .1 .0 .1)
 
-  pub book-again : filedBook (record { state = storedState f; table = storedTable f; memory = withBoard (storedTable f) (storedMemory (f .releases)); names = f .names }) ≡ f
-  unfolding filedBook storedState
-  book-again =
-      ap₂ (λ (ts : List ClientRange) (cs : List FileScope). make ts cs (filedLeases (storedTable f)) (filedMemory (withBoard (storedTable f) (storedMemory (f .releases)))) (filedHolds (storedTable f))) ranges-filed scopes-filed
-      ∙ ap₂ (λ (ls : List FileLease) (rs : List FileRelease). make (f .tenants) (f .scopes) ls rs (filedHolds (storedTable f))) leases-filed releases-filed
-      ∙ ap (make (f .tenants) (f .scopes) (f .leases) (f .releases)) holds-filed
+  pub book-again : allBy (pairsBy differ) (leasesOf (storedTable f)) ≡ true → filedBook (record { state = storedState f; table = storedTable f; memory = withBoard (storedTable f) (storedMemory (f .releases)); names = f .names }) ≡ f
+  unfolding filedBook filedAs storedState
+  book-again d =
+      ap₂ (λ (ts : List ClientRange) (cs : List FileScope). make ts cs (filedLeases (inFileOrder (storedTable f))) (filedMemory (withBoard (storedTable f) (storedMemory (f .releases)))) (filedHolds (inFileOrder (storedTable f)))) ranges-filed scopes-filed
+      ∙ ap₂ (λ (ls : List FileLease) (rs : List FileRelease). make (f .tenants) (f .scopes) ls rs (filedHolds (inFileOrder (storedTable f)))) (leases-filed d) releases-filed
+      ∙ ap (make (f .tenants) (f .scopes) (f .leases) (f .releases)) (holds-filed d)
     where
       make : List ClientRange → List FileScope → List FileLease → List FileRelease → List FileHold → File
       make ts cs ls rs hs = record { server = f .server; clock = f .clock; tenants = ts; scopes = cs; leases = ls; names = f .names; releases = rs; holds = hs }

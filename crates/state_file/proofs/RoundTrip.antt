@@ -18,7 +18,8 @@ use Rattle.occupancy.specs.declared.Board.{Board}
 use Rattle.release_file.specs.Section.{storedMemory}
 use Rattle.releases.specs.Rules.{brokenMemory, memoryB, releaseRulesOf, rulesTo}
 use Rattle.releases.specs.Whole.{bookB}
-use Rattle.soundness.specs.Sound.{soundB}
+use Rattle.soundness.specs.Sound.{rule8, rulesBy, soundB}
+use Rattle.soundness.specs.laws.Book.{rules-of}
 use Rattle.releases.specs.laws.Whole.{book-agrees, book-named, book-remembers, book-sound, both-book}
 use Rattle.state.specs.Board.{boardOf}
 use Rattle.state.specs.Book.{Book, leasesOf}
@@ -32,7 +33,7 @@ use Rattle.state_file.proofs.WriteAgain.{book-fits, book-ok, releases-s
 use Rattle.state_file.specs.File.{File, fileFormat, fileLimit, fileOf, longestFile}
 use Rattle.state_file.specs.laws.File.{file-reads, file-written}
 use Rattle.state_file.specs.laws.Local.{file-names}
-use Rattle.state_file.specs.Records.{filedBook, fitsB, storedState, storedTable}
+use Rattle.state_file.specs.Records.{filedAs, filedBook, fitsB, storedState, storedTable}
 use Rattle.state_file.specs.StateFile.{accepted, judged, loaded, loadedGot, namesGot, namesOf, octetsOf, readFile, refused, roomAfter, withBoard, writtenOf}
 use Rattle.state_file.specs.Typed.{Typed}
 use Rattle.state_file.specs.declared.Loaded.{Loaded}
@@ -100,11 +101,11 @@ names-good : (s : List ℕ) (f : File) (r : List ℕ) → fileOf s ≡ got f r �
 unfolding storedState
 names-good s f r e = file-names s f [] (file-whole s f r e .1)
 
-again : (f : File) (st : State) (tb : LeaseTable) (m : Memory) → storedState f ≡ st → storedTable f ≡ tb → memoryIn f ≡ m → fileFormat .ok f → fitsB f ≡ true → octetsOf (with st tb m (f .names)) ≡ fileFormat .write f
-unfolding octetsOf
-again f st tb m es eb em ok fit =
+again : (f : File) (st : State) (tb : LeaseTable) (m : Memory) → storedState f ≡ st → storedTable f ≡ tb → memoryIn f ≡ m → fileFormat .ok f → fitsB f ≡ true → soundB (storedState f) (storedTable f) ≡ true → octetsOf (with st tb m (f .names)) ≡ fileFormat .write f
+unfolding octetsOf rulesBy rule8
+again f st tb m es eb em ok fit sound =
     ap₂ (λ (x : State) (y : LeaseTable). fileFormat .write (filedBook (with x y m (f .names)))) (sym es) (sym eb)
-    ∙ ap (λ (x : Memory). fileFormat .write (filedBook (with (storedState f) (storedTable f) x (f .names)))) (sym em) ∙ ap (fileFormat .write) (book-again f ok fit)
+    ∙ ap (λ (x : Memory). fileFormat .write (filedBook (with (storedState f) (storedTable f) x (f .names)))) (sym em) ∙ ap (fileFormat .write) (book-again f ok fit (rules-of (storedState f) (storedTable f) sound .identifiers))
 
 -- what is answered to a file that the records can hold, and that is sound, or not
 abbrev answer : File → Bool → Bool → Loaded
@@ -151,7 +152,7 @@ read-write s st tb m o e = go (fileOf s) refl e
               (sym (ap₂ (λ (x : State) (y : LeaseTable). memoryB x y (memoryIn f)) es eb ∙ ap (memoryB st tb) em) ∙ rules-alone (storedState f) (storedTable f) (releasesIn f) _ ∙ remembers)
               (is-agrees tb (m .board) (sym (ap (λ (x : Memory). x .board) em) ∙ ap (λ (x : LeaseTable). boardOf (leasesOf x)) eb))
               (subst (λ (x : State). namesB (x .«scope_count») (x .«tenant_count») (f .names) ≡ true) es (names-good s f r p)),
-          again f st tb m es eb em ok fit ∙ sym w,
+          again f st tb m es eb em ok fit sound ∙ sym w,
         )
 
 -- so the writer gives them back, in any room that they fit
@@ -180,7 +181,7 @@ module _ (b : Book) (v : Typed (b .state) (b .table) (b .memory)) (o : Octets (b
       (let k : length (octetsOf b) ≤ longestFile = sound-short b (let t = v .tenants in omega arith) (let t = v .memory in omega arith) e in omega arith)
 
   pub write-read : bookB b ≡ true → (readFile (octetsOf b) ≡ accepted (b .state) (b .table) (b .memory)) × (namesOf (octetsOf b) ≡ b .names)
-  unfolding readFile loadedGot loaded judged namesOf namesGot filedBook pick
+  unfolding readFile loadedGot loaded judged namesOf namesGot filedBook filedAs pick
   write-read e =
       let q = book-sound b e in
       let w = book-remembers b e in (

@@ -11,11 +11,16 @@ use borrow.Author.Tests.{eqb-true, le-leb, le-ltb, leb-true}
 use Rattle.format.specs.Format.{Got, Octets, bad, got}
 use Rattle.format.specs.Place.{isWhole}
 use Rattle.format.specs.Section.{verbatim}
-use Rattle.lease_file.specs.Records.{filedHolds, filedLeases, recordsFitB}
+use Rattle.lease_file.specs.Records.{filedHolds, filedLeases, inFileOrder, recordsFitB}
+use Rattle.lease_file.specs.laws.Merge.{arranged-each, arranged-length, order-back}
+use Rattle.lists.specs.Arranged.{arranged}
+use Rattle.lists.specs.laws.Arranged.{arranged-sorted}
+use Rattle.state.specs.laws.Layout.{read-back, table-back}
+use Rattle.state.specs.laws.Sorted.{by-identifier}
 use Rattle.lease_file.specs.laws.Table.{NeatTenant, OctetLease, holds-ok, leases-ok, table-again, table-fits}
 use Rattle.lease_file.specs.laws.Records.{Neat}
 use Rattle.lists.specs.All.{All, allBy, pairsBy}
-use Rattle.lists.specs.laws.All.{all-drop, all-facts, all-head, all-mapped, all-take, one-fact, two-facts}
+use Rattle.lists.specs.laws.All.{all-drop, all-facts, all-head, all-map, all-mapped, all-take, one-fact, two-facts}
 use Rattle.lists.specs.laws.Both.{and-parts}
 use Rattle.lists.specs.Pick.{pick}
 use Rattle.names.specs.Names.{Name, namesB, namesFormat}
@@ -23,8 +28,8 @@ use Rattle.names.specs.laws.Names.{names-lawful}
 use Rattle.release_file.specs.Section.{filedMemory, releasesFitB, storedMemory}
 use Rattle.releases.specs.Rules.{memoryB}
 use Rattle.soundness.specs.laws.Book.{AllRules, rules-of}
-use Rattle.soundness.specs.Sound.{blankB, countsB, oneTo, idB, layoutB, paddedB, rangeZero, recordsB, rule1, rule19, rulesOf, scopeZero, settingsB, sizeB, soundB, tailB, unusedB, zeroFrom}
-use Rattle.state.specs.Book.{inUse, isHold, laidOut, lapsingAt, leaseWith, ordered, rangesOf, scopesOf, zeroLease, zeroScope}
+use Rattle.soundness.specs.Sound.{blankB, countsB, oneTo, idB, layoutB, paddedB, rangeZero, recordsB, rule1, rule8, rulesOf, scopeZero, settingsB, sizeB, soundB, tailB, unusedB, zeroFrom, layoutBy, rule19By, rulesBy}
+use Rattle.state.specs.Book.{byIdentifier, differ, tableOf, inUse, isHold, laidOut, lapsingAt, leaseWith, ordered, rangesOf, scopesOf, zeroLease, zeroScope}
 use Rattle.state.specs.declared.ClientRange.{ClientRange}
 use Rattle.state.specs.declared.Lease.{Lease}
 use Rattle.state.specs.declared.LeaseTable.{LeaseTable}
@@ -37,7 +42,7 @@ use Rattle.state_file.proofs.RowLaws.{pair-length}
 use Rattle.state_file.proofs.Zeros.{zero-tail, zero-whole}
 use Rattle.state_file.specs.File.{File, fileFormat, partFormat, scopeFormat, tenantFormat}
 use Rattle.state_file.specs.laws.Records.{filled-back}
-use Rattle.state_file.specs.Records.{countsFit, filedBook, filedScope, filled, fitsB, pairUp, storedScope, storedState, storedTable, zeroRange}
+use Rattle.state_file.specs.Records.{countsFit, filedAs, filedBook, filedScope, filled, fitsB, pairUp, storedScope, storedState, storedTable, zeroRange}
 use Rattle.state_file.specs.Typed.{Typed, TypedLease, TypedRange, TypedScope, TypedTenant}
 
 -- ---- what is unused is zero
@@ -116,6 +121,7 @@ leases-zero P long (x ∷ l) v e =
 record Good (t : TenantLeases) : Type 0 where
   typed : TypedTenant t
   records : recordsB t ≡ true
+  apart : pairsBy differ (inUse t) ≡ true
   layout : layoutB t ≡ true
 
 module _ (t : TenantLeases) (v : Good t) where
@@ -131,15 +137,15 @@ module _ (t : TenantLeases) (v : Good t) where
   good-ids = and-parts (leb (t .count) 16) (allBy idB (inUse t)) (v .records) .1
 
   good-order : pairsBy ordered (inUse t) ≡ true
-  unfolding layoutB
+  unfolding layoutBy
   good-order = and-parts (pairsBy ordered (inUse t)) (allBy paddedB (inUse t) && allBy unusedB (drop (t .count) (t .leases))) (v .layout) .0
 
   good-padded : allBy paddedB (inUse t) ≡ true
-  unfolding layoutB
+  unfolding layoutBy
   good-padded = and-parts (allBy paddedB (inUse t)) (allBy unusedB (drop (t .count) (t .leases))) (and-parts (pairsBy ordered (inUse t)) (allBy paddedB (inUse t) && allBy unusedB (drop (t .count) (t .leases))) (v .layout) .1) .0
 
   good-unused : allBy unusedB (drop (t .count) (t .leases)) ≡ true
-  unfolding layoutB
+  unfolding layoutBy
   good-unused = and-parts (allBy paddedB (inUse t)) (allBy unusedB (drop (t .count) (t .leases))) (and-parts (pairsBy ordered (inUse t)) (allBy paddedB (inUse t) && allBy unusedB (drop (t .count) (t .leases))) (v .layout) .1) .1
 
   good-typed : All TypedLease (inUse t)
@@ -168,19 +174,34 @@ neat-of l w m e =
     let p = and-parts (isHold l || eqb (l .lapse) 0) (zeroFrom (l .«id_len») (l .id)) e in
     record { long = length-take-le (l .«id_len») (l .id) (omega (arith, w .long)); most = m; zeros = zero-tail (l .«id_len») 32 (l .id) (w .long) (p .1); bits = w .addresses; lapse = lapse-none l (p .0) }
 
-good-neat : (t : TenantLeases) → Good t → NeatTenant t
+-- in the order of the file
+good-neat : (t : TenantLeases) → Good t → NeatTenant (laidOut (arranged byIdentifier (inUse t)))
 good-neat t v = record {
-  few = let a = good-length t v in let b = good-count t v in omega arith;
-  rising = good-order t v;
-  each = two-facts (λ l. (TypedLease l) × (l .«id_len» ≤ 32)) (λ l. paddedB l ≡ true) Neat (inUse t) (λ l p q. neat-of l (p .0) (p .1) q)
-      (two-facts TypedLease (λ l. l .«id_len» ≤ 32) (λ l. (TypedLease l) × (l .«id_len» ≤ 32)) (inUse t) (λ l p q. (p, q)) (good-typed t v)
-      (all-facts idB (λ l. l .«id_len» ≤ 32) (inUse t) id-most (good-ids t v)))
-      (all-facts paddedB (λ l. paddedB l ≡ true) (inUse t) (λ l p. p) (good-padded t v));
-  laid = good-laid t v;
+  few = let x = ap length back in let y = arranged-length byIdentifier (inUse t) in let a = good-length t v in let b = good-count t v in omega arith;
+  rising = ap (pairsBy byIdentifier) back ∙ arranged-sorted differ byIdentifier by-identifier (inUse t) (v .apart);
+  each = subst (All Neat) (sym back) (arranged-each Neat byIdentifier (inUse t) each);
+  laid = ap laidOut back;
 }
+  where
+    back : inUse (laidOut (arranged byIdentifier (inUse t))) ≡ arranged byIdentifier (inUse t)
+    back = read-back (arranged byIdentifier (inUse t))
 
-good-octets : (t : TenantLeases) → Good t → All OctetLease (inUse t)
-good-octets t v = one-fact TypedLease OctetLease (inUse t) (λ l w. record { scope = w .scope; id = w .id; kind = w .kind; xid = w .xid; start = w .start; end = w .end; lapse = w .lapse }) (good-typed t v)
+    each : All Neat (inUse t)
+    each = two-facts (λ l. (TypedLease l) × (l .«id_len» ≤ 32)) (λ l. paddedB l ≡ true) Neat (inUse t) (λ l p q. neat-of l (p .0) (p .1) q)
+        (two-facts TypedLease (λ l. l .«id_len» ≤ 32) (λ l. (TypedLease l) × (l .«id_len» ≤ 32)) (inUse t) (λ l p q. (p, q)) (good-typed t v)
+        (all-facts idB (λ l. l .«id_len» ≤ 32) (inUse t) id-most (good-ids t v)))
+        (all-facts paddedB (λ l. paddedB l ≡ true) (inUse t) (λ l p. p) (good-padded t v))
+
+good-octets : (t : TenantLeases) → Good t → All OctetLease (inUse (laidOut (arranged byIdentifier (inUse t))))
+good-octets t v = subst (All OctetLease) (sym (read-back (arranged byIdentifier (inUse t)))) (arranged-each OctetLease byIdentifier (inUse t) (one-fact TypedLease OctetLease (inUse t) (λ l w. record { scope = w .scope; id = w .id; kind = w .kind; xid = w .xid; start = w .start; end = w .end; lapse = w .lapse }) (good-typed t v)))
+
+-- and back in the order of records
+order-again : (ts : List TenantLeases) → All Good ts → map laidOut (map (arranged ordered) (map (arranged byIdentifier) (map inUse ts))) ≡ ts
+unfolding All
+order-again [] v = refl
+order-again (t ∷ ts) v =
+    ap₂ {C = List TenantLeases} (λ (x : TenantLeases) (r : List TenantLeases). x ∷ r)
+    (ap laidOut (order-back (inUse t) (v .0 .apart) (good-order t (v .0))) ∙ good-laid t (v .0)) (order-again ts (v .1))
 
 passes : (b c : Bool) → b ≡ false → c ≡ true → pick b false c ≡ true
 unfolding pick
@@ -257,11 +278,11 @@ module _ (s : State) (b : LeaseTable) (m : Memory) (v : Typed s b m) (e : soundB
   rules = rules-of s b e
 
   counted-both : (countsB s ≡ true) × (allBy recordsB (b .tenants) ≡ true)
-  unfolding rulesOf rule1
+  unfolding rulesBy rule1
   counted-both = and-parts (countsB s) (allBy recordsB (b .tenants)) (rules .limits)
 
   laid-both : (settingsB s ≡ true) × (allBy layoutB (b .tenants) ≡ true)
-  unfolding rulesOf rule19
+  unfolding rulesBy rule19By
   laid-both = and-parts (settingsB s) (allBy layoutB (b .tenants)) (rules .layout)
 
   few-most : (most n : ℕ) → oneTo most n ≡ true → n ≤ most
@@ -278,12 +299,18 @@ module _ (s : State) (b : LeaseTable) (m : Memory) (v : Typed s b m) (e : soundB
       few-most 4 (s .«scope_count»)
       (and-parts (oneTo 4 (s .«scope_count»)) (allBy sizeB (scopesOf s)) (and-parts (oneTo 8 (s .«tenant_count»)) (oneTo 4 (s .«scope_count») && allBy sizeB (scopesOf s)) (counted-both .0) .1) .0)
 
+  differ-both : allBy (λ t. pairsBy differ (inUse t)) (b .tenants) ≡ true
+  unfolding rulesBy rule8
+  differ-both = sym (all-map (pairsBy differ) inUse (b .tenants)) ∙ rules .identifiers
+
   good : All Good (b .tenants)
   good =
-      two-facts (λ t. (TypedTenant t) × (recordsB t ≡ true)) (λ t. layoutB t ≡ true) Good (b .tenants) (λ t p q. record { typed = p .0; records = p .1; layout = q })
+      two-facts (λ t. (TypedTenant t) × (recordsB t ≡ true)) (λ t. (pairsBy differ (inUse t) ≡ true) × (layoutB t ≡ true)) Good (b .tenants) (λ t p q. record { typed = p .0; records = p .1; apart = q .0; layout = q .1 })
       (two-facts TypedTenant (λ t. recordsB t ≡ true) (λ t. (TypedTenant t) × (recordsB t ≡ true)) (b .tenants) (λ t p q. (p, q)) (v .leases)
       (all-facts recordsB (λ t. recordsB t ≡ true) (b .tenants) (λ t p. p) (counted-both .1)))
-      (all-facts layoutB (λ t. layoutB t ≡ true) (b .tenants) (λ t p. p) (laid-both .1))
+      (two-facts (λ t. pairsBy differ (inUse t) ≡ true) (λ t. layoutB t ≡ true) (λ t. (pairsBy differ (inUse t) ≡ true) × (layoutB t ≡ true)) (b .tenants) (λ t p q. (p, q))
+      (all-facts (λ t. pairsBy differ (inUse t)) (λ t. pairsBy differ (inUse t) ≡ true) (b .tenants) (λ t p. p) differ-both)
+      (all-facts layoutB (λ t. layoutB t ≡ true) (b .tenants) (λ t p. p) (laid-both .1)))
 
   ranges-many : length (rangesOf s) ≡ s .«tenant_count»
   ranges-many = length-take-le (s .«tenant_count») (s .tenants) (let h = tenants-few in omega (arith, v .eight))
@@ -291,15 +318,26 @@ module _ (s : State) (b : LeaseTable) (m : Memory) (v : Typed s b m) (e : soundB
   scopes-many : length (scopesOf s) ≡ s .«scope_count»
   scopes-many = length-take-le (s .«scope_count») (s .scopes) (let h = scopes-few in omega (arith, v .four))
 
-  neat : All NeatTenant (b .tenants)
-  neat = one-fact Good NeatTenant (b .tenants) good-neat good
+  -- the records in the order of the file
+  ordered-each : (P : TenantLeases → Type 0) → ((t : TenantLeases) → Good t → P (laidOut (arranged byIdentifier (inUse t)))) → All P (inFileOrder b .tenants)
+  unfolding inFileOrder tableOf
+  ordered-each P f =
+      all-mapped P laidOut (map (arranged byIdentifier) (map inUse (b .tenants)))
+      (all-mapped (λ l. P (laidOut l)) (arranged byIdentifier) (map inUse (b .tenants)) (all-mapped (λ l. P (laidOut (arranged byIdentifier l))) inUse (b .tenants) (one-fact Good (λ t. P (laidOut (arranged byIdentifier (inUse t)))) (b .tenants) f good)))
 
-  octets : All (λ t. All OctetLease (inUse t)) (b .tenants)
-  octets = one-fact Good (λ t. All OctetLease (inUse t)) (b .tenants) good-octets good
+  eight : length (inFileOrder b .tenants) ≡ 8
+  unfolding inFileOrder tableOf
+  eight = length-map (map (arranged byIdentifier) (map inUse (b .tenants))) laidOut ∙ length-map (map inUse (b .tenants)) (arranged byIdentifier) ∙ length-map (b .tenants) inUse ∙ v .tenants
+
+  neat : All NeatTenant (inFileOrder b .tenants)
+  neat = ordered-each NeatTenant good-neat
+
+  octets : All (λ t. All OctetLease (inUse t)) (inFileOrder b .tenants)
+  octets = ordered-each (λ t. All OctetLease (inUse t)) good-octets
 
   -- its file has octets
   pub book-ok : Octets names → namesB (s .«scope_count») (s .«tenant_count») names ≡ true → fileFormat .ok filed
-  unfolding filedBook
+  unfolding filedBook filedAs
   book-ok o good-names =
       let n = tenants-few in let k = scopes-few in
       let a = ranges-many in let c = scopes-many in
@@ -310,8 +348,8 @@ module _ (s : State) (b : LeaseTable) (m : Memory) (v : Typed s b m) (e : soundB
           (
             (let g : length (map (filedScope (s .«tenant_count»)) (scopesOf s)) < 256 = omega arith in g, scopes-ok),
             (
-              leases-ok b (v .tenants) neat octets,
-              (names-ok (s .«scope_count») (s .«tenant_count») _ _ names (sym (d ∙ c)) (sym a) o good-names, (memory-written s b m w (v .memory) (v .releases), holds-ok b (v .tenants) neat octets)),
+              leases-ok (inFileOrder b) eight neat octets,
+              (names-ok (s .«scope_count») (s .«tenant_count») _ _ names (sym (d ∙ c)) (sym a) o good-names, (memory-written s b m w (v .memory) (v .releases), holds-ok (inFileOrder b) eight neat octets)),
             ),
           ),
         ),
@@ -327,22 +365,25 @@ module _ (s : State) (b : LeaseTable) (m : Memory) (v : Typed s b m) (e : soundB
 
   -- the records can hold it
   pub book-fits : fitsB (filed) ≡ true
-  unfolding fitsB filedBook countsFit
+  unfolding fitsB filedBook filedAs countsFit
   book-fits =
       let n = tenants-few in let k = scopes-few in
       let a = ranges-many in let c = scopes-many in
       let d = length-map (scopesOf s) (filedScope (s .«tenant_count»)) in
-      ap (λ (x : Bool). pick x (pick (recordsFitB (filedLeases b) (filedHolds b)) (releasesFitB (filedMemory m)) false) false)
+      ap (λ (x : Bool). pick x (pick (recordsFitB (filedLeases (inFileOrder b)) (filedHolds (inFileOrder b))) (releasesFitB (filedMemory m)) false) false)
       (passes _ _ (le-ltb 8 (length (rangesOf s)) (omega arith)) (le-leb (length (map (filedScope (s .«tenant_count»)) (scopesOf s))) 4 (omega arith)))
-      ∙ picked _ _ (ap (λ (x : Bool). pick x (releasesFitB (filedMemory m)) false) (table-fits b (v .tenants) neat) ∙ picked _ _ (memory-held s b m w (v .memory) (v .releases)))
+      ∙ picked _ _ (ap (λ (x : Bool). pick x (releasesFitB (filedMemory m)) false) (table-fits (inFileOrder b) eight neat) ∙ picked _ _ (memory-held s b m w (v .memory) (v .releases)))
 
   -- and hold what the book holds
   pub table-same : storedTable (filed) ≡ b
-  unfolding storedTable filedBook
-  table-same = table-again b (v .tenants) neat
+  unfolding storedTable filedBook filedAs inFileOrder tableOf
+  table-same =
+      table-again (inFileOrder b) eight neat
+      ∙ ap (λ (l : List (List Lease)). tableOf (map (arranged ordered) l)) (table-back (map (arranged byIdentifier) (map inUse (b .tenants))))
+      ∙ ap {B = LeaseTable} (λ (l : List TenantLeases). record { tenants = l }) (order-again (b .tenants) good)
 
   pub releases-same : storedMemory (filed .releases) .releases ≡ m .releases
-  unfolding filedBook
+  unfolding filedBook filedAs
   releases-same = memory-same s b m w (v .memory) (v .releases)
 
   cut-tenants : min (s .«tenant_count») 8 ≡ s .«tenant_count»
@@ -371,7 +412,7 @@ module _ (s : State) (b : LeaseTable) (m : Memory) (v : Typed s b m) (e : soundB
       ∙ ap (λ (k : ℕ). replicate k zeroScope) (length-drop (s .«scope_count») (s .scopes) ∙ ap (λ (k : ℕ). k - s .«scope_count») (v .four)))
 
   pub state-same : storedState (filed) ≡ s
-  unfolding storedState filedBook
+  unfolding storedState filedBook filedAs
   state-same =
       ap₂ (λ (n m : ℕ). make n (filled zeroRange 8 (rangesOf s)) m (filled zeroScope 4 (map storedScope (map (filedScope (s .«tenant_count»)) (scopesOf s))))) ranges-many (length-map (scopesOf s) (filedScope (s .«tenant_count»)) ∙ scopes-many)
       ∙ ap₂ (λ (ts : List ClientRange) (cs : List Scope). make (s .«tenant_count») ts (s .«scope_count») cs) ranges-same scopes-same

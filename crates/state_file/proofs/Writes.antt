@@ -12,7 +12,7 @@ use Rattle.agreement.specs.laws.Agrees.{made-agrees}
 use Rattle.format.specs.Format.{writeAll}
 use Rattle.format.specs.Rows.{writeFrom}
 use Rattle.format.specs.laws.Rows.{row-all}
-use Rattle.lease_file.specs.Records.{tableOctets}
+use Rattle.lease_file.specs.Records.{inFileOrder, tableOctets}
 use Rattle.lease_file.specs.laws.Table.{holds-octets, leases-octets}
 use Rattle.lists.specs.Pick.{pick}
 use Rattle.occupancy.specs.Board.{sameBoard}
@@ -30,9 +30,9 @@ use Rattle.state.specs.declared.Scope.{Scope}
 use Rattle.state.specs.declared.State.{State}
 use Rattle.state_file.proofs.RowLaws.{pair-length}
 use Rattle.state_file.specs.File.{FilePart, partFormat, scopeFormat, tenantFormat}
-use Rattle.state_file.specs.Records.{filedBook, filedScope, pairUp}
+use Rattle.state_file.specs.Records.{filedAs, filedBook, filedScope, pairUp}
 use Rattle.state_file.specs.Rows.{fileRangeOctets, fileScopeOctets, partOctets, partRow, rangeRow, scopeRow, sectionOctets}
-use Rattle.state_file.specs.StateFile.{octetsOf, roomAfter, writtenOf}
+use Rattle.state_file.specs.StateFile.{octetsAs, octetsOf, roomAfter, writtenOf}
 use Rattle.state_file.specs.declared.Written.{Written}
 
 -- ---- settings
@@ -120,8 +120,8 @@ size-is s b h x y r l p q w z =
 
 -- ---- the whole file
 module _ (s : State) (b : LeaseTable) (m : Memory) (names : List ℕ) where
-  file-octets : octetsOf (record { state = s; table = b; memory = m; names = names }) ≡ ((sectionOctets s b ++ names) ++ memoryOctets m) ++ tableOctets true b
-  unfolding octetsOf filedBook sectionOctets memoryOctets
+  file-octets : octetsAs (record { state = s; table = b; memory = m; names = names }) ≡ ((sectionOctets s b ++ names) ++ memoryOctets m) ++ tableOctets true b
+  unfolding octetsAs filedAs sectionOctets memoryOctets
   file-octets =
       ap₂ {C = List ℕ} (λ (x y : List ℕ). server ++ ((length (rangesOf s) ∷ x) ++ y)) (ranges-octets 0 (rangesOf s))
       (ap₂ {C = List ℕ} (λ (x y : List ℕ). x ++ y)
@@ -132,17 +132,17 @@ module _ (s : State) (b : LeaseTable) (m : Memory) (names : List ℕ) where
       server : List ℕ
       server = 1 ∷ octets32 (s .server) ++ octets32 (s .clock)
 
-  pub file-length : length (octetsOf (record { state = s; table = b; memory = m; names = names })) ≡ length (sectionOctets s b) + length names + length (memoryOctets m) + length (tableOctets true b)
+  pub file-length : length (octetsAs (record { state = s; table = b; memory = m; names = names })) ≡ length (sectionOctets s b) + length names + length (memoryOctets m) + length (tableOctets true b)
   file-length =
       ap length file-octets ∙ length-append ((sectionOctets s b ++ names) ++ memoryOctets m) (tableOctets true b)
       ∙ ap (λ (k : ℕ). k + length (tableOctets true b)) (length-append (sectionOctets s b ++ names) (memoryOctets m) ∙ ap (λ (k : ℕ). k + length (memoryOctets m)) (length-append (sectionOctets s b) names))
 
   pub file-sum : (n k j : ℕ) → n ≡ length (sectionOctets s b) → k ≡ length (memoryOctets m) → j ≡ length (tableOctets true b)
-      → n + length names + k + j ≡ length (octetsOf (record { state = s; table = b; memory = m; names = names }))
-  file-sum n k j p q w = let f = file-length in let e : n + length names + k + j ≡ length (octetsOf (record { state = s; table = b; memory = m; names = names })) = omega arith in e
+      → n + length names + k + j ≡ length (octetsAs (record { state = s; table = b; memory = m; names = names }))
+  file-sum n k j p q w = let f = file-length in let e : n + length names + k + j ≡ length (octetsAs (record { state = s; table = b; memory = m; names = names })) = omega arith in e
 
   -- the room that is left for what is remembered, and for the holds
-  module _ {r₀ r₁ r₂ : List ℕ} {a c n : ℕ} (h : length (octetsOf (record { state = s; table = b; memory = m; names = names })) ≤ length r₀) (p : Wrote r₀ 0 (sectionOctets s b) r₁ a)
+  module _ {r₀ r₁ r₂ : List ℕ} {a c n : ℕ} (h : length (octetsAs (record { state = s; table = b; memory = m; names = names })) ≤ length r₀) (p : Wrote r₀ 0 (sectionOctets s b) r₁ a)
       (l : n ≡ length names) (q : Wrote r₁ a (take n names) r₂ c) where
     names-next : c ≡ length (sectionOctets s b) + length names
     names-next =
@@ -159,7 +159,7 @@ module _ (s : State) (b : LeaseTable) (m : Memory) (names : List ℕ) where
     file-last w e = let f = file-length in let x = names-next in let y = w .next in omega arith
 
   pub file-wrote : {r₀ r₁ r₂ r₃ r₄ : List ℕ} {a c d f n : ℕ} → Wrote r₀ 0 (sectionOctets s b) r₁ a → n ≡ length names → Wrote r₁ a (take n names) r₂ c → Wrote r₂ c (memoryOctets m) r₃ d → Wrote r₃ d (tableOctets true b) r₄ f
-      → Wrote r₀ 0 (octetsOf (record { state = s; table = b; memory = m; names = names })) r₄ f
+      → Wrote r₀ 0 (octetsAs (record { state = s; table = b; memory = m; names = names })) r₄ f
   file-wrote {n = n} p l q w z =
       wrote-as (sym file-octets) (wrote-joined (omega arith) (wrote-joined (omega arith) (wrote-joined (omega arith) p (wrote-as (take-all n names (omega arith)) q)) w) z)
 
@@ -199,21 +199,32 @@ module _ (b : Book) (q : Bool) (e : q ≡ bookB b) where
         sym (ap (λ (x : Bool). pick x (pick (ltb (length room) (length (octetsOf b))) room (octetsOf b ++ drop (length (octetsOf b)) room)) room) p),
       )
 
-  module _ (n : ℕ) (room : List ℕ) (t : q ≡ true) (l : n ≡ length (octetsOf b)) where
+  module _ (n : ℕ) (room : List ℕ) (t : q ≡ true) {x : LeaseTable} (order : x ≡ inFileOrder (b .table)) (size : n ≡ length (octetsAs (record { state = b .state; table = x; memory = b .memory; names = b .names }))) where
+    -- the records were put into the order of the file
+    abbrev As : LeaseTable → List ℕ
+    As y = octetsAs (record { state = b .state; table = y; memory = b .memory; names = b .names })
+
+    filed : As x ≡ octetsOf b
+    unfolding octetsAs octetsOf filedBook
+    filed = ap As order
+
+    l : n ≡ length (octetsOf b)
+    l = size ∙ ap length filed
+
     pub write-short : length room < n → (_≡_ {A = Written} (record { refusal = 23; length = 0 }) (writtenOf b (length room))) × (room ≡ roomAfter b room)
     unfolding writtenOf roomAfter pick
     write-short h =
         let p : bookB b ≡ true = sym e ∙ t in
-        let k : ltb (length room) (length (octetsOf b)) ≡ true = lt-ltb _ _ (let g : length room < length (octetsOf b) = omega arith in g) in (
+        let k : ltb (length room) (length (octetsOf b)) ≡ true = lt-ltb _ _ (let c = l in let g : length room < length (octetsOf b) = omega arith in g) in (
           sym (ap₂ (λ (x y : Bool). pick x (pick y (record { refusal = 23; length = 0 }) (record { refusal = 0; length = length (octetsOf b) })) (record { refusal = 22; length = 0 })) p k),
           sym (ap₂ (λ (x y : Bool). pick x (pick y room (octetsOf b ++ drop (length (octetsOf b)) room)) room) p k),
         )
 
-    pub write-done : (now : List ℕ) (f : ℕ) → n ≤ length room → Wrote room 0 (octetsOf b) now f → (_≡_ {A = Written} (record { refusal = 0; length = n }) (writtenOf b (length room))) × (now ≡ roomAfter b room)
+    pub write-done : (now : List ℕ) (f : ℕ) → n ≤ length room → Wrote room 0 (octetsAs (record { state = b .state; table = x; memory = b .memory; names = b .names })) now f → (_≡_ {A = Written} (record { refusal = 0; length = n }) (writtenOf b (length room))) × (now ≡ roomAfter b room)
     unfolding writtenOf roomAfter pick
     write-done now f h w =
         let p : bookB b ≡ true = sym e ∙ t in
-        let k : ltb (length room) (length (octetsOf b)) ≡ false = le-ltb _ _ (let g : length (octetsOf b) ≤ length room = omega arith in g) in (
+        let k : ltb (length room) (length (octetsOf b)) ≡ false = le-ltb _ _ (let c = l in let g : length (octetsOf b) ≤ length room = omega arith in g) in (
           ap {B = Written} (λ (x : ℕ). record { refusal = 0; length = x }) l ∙ sym (ap₂ (λ (x y : Bool). pick x (pick y (record { refusal = 23; length = 0 }) (record { refusal = 0; length = length (octetsOf b) })) (record { refusal = 22; length = 0 })) p k),
-          wrote-whole w ∙ sym (ap₂ (λ (x y : Bool). pick x (pick y room (octetsOf b ++ drop (length (octetsOf b)) room)) room) p k),
+          wrote-whole (wrote-as filed w) ∙ sym (ap₂ (λ (x y : Bool). pick x (pick y room (octetsOf b ++ drop (length (octetsOf b)) room)) room) p k),
         )

@@ -5,12 +5,12 @@ use Prim.Native.Nat.{_-_, ℕ}
 use lib.Dec.{leb, ltb}
 use lib.ListN.{length, replicate, take}
 use Rattle.lists.specs.Pick.{pick}
-use Rattle.state.specs.Book.{Book, rangesOf, scopesOf, tableOf, zeroScope}
+use Rattle.state.specs.Book.{Book, changedTo, rangesOf, scopesOf, tableOf, zeroScope}
 use Rattle.state.specs.declared.ClientRange.{ClientRange}
 use Rattle.state.specs.declared.LeaseTable.{LeaseTable}
 use Rattle.state.specs.declared.Scope.{Scope}
 use Rattle.state.specs.declared.State.{State}
-use Rattle.lease_file.specs.Records.{filedHolds, filedLeases, mergedFrom, recordsFitB}
+use Rattle.lease_file.specs.Records.{filedHolds, filedLeases, inFileOrder, mergedFrom, recordsFitB}
 use Rattle.release_file.specs.Section.{filedMemory, releasesFitB}
 use Rattle.state_file.specs.File.{File, FilePart, FileScope}
 
@@ -56,9 +56,9 @@ storedState f = record {
 unfoldable pub storedTable : File → LeaseTable
 storedTable f = tableOf (mergedFrom 1 8 (f .leases) (f .holds))
 
--- the file of a book
-unfoldable pub filedBook : Book → File
-filedBook b = record {
+-- the file of a book, each tenant's records as they stand
+unfoldable pub filedAs : Book → File
+filedAs b = record {
   server = b .state .server;
   clock = b .state .clock;
   tenants = rangesOf (b .state);
@@ -68,6 +68,14 @@ filedBook b = record {
   releases = filedMemory (b .memory);
   holds = filedHolds (b .table);
 }
+
+-- the book with each tenant's records in the order of the file
+abbrev pub inOrder : Book → Book
+inOrder b = changedTo b (b .state) (inFileOrder (b .table)) (b .memory)
+
+-- the file of a book: "The campus file keeps its own order" (document 02, W-209)
+unfoldable pub filedBook : Book → File
+filedBook b = filedAs (inOrder b)
 
 -- ---- limits
 -- so many tenants and scopes (rule 1)

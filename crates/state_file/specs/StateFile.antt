@@ -19,7 +19,7 @@ use Rattle.state.specs.declared.Memory.{Memory}
 use Rattle.state.specs.declared.State.{State}
 use Rattle.state_file.specs.File.{File, fileFormat, fileOf}
 use Rattle.format.specs.Format.{Got, bad, got}
-use Rattle.state_file.specs.Records.{filedBook, fitsB, storedState, storedTable, zeroRange}
+use Rattle.state_file.specs.Records.{filedAs, filedBook, fitsB, storedState, storedTable, zeroRange}
 use Rattle.state_file.specs.declared.Loaded.{Loaded}
 use Rattle.state_file.specs.declared.Written.{Written}
 
@@ -71,6 +71,10 @@ unfoldable pub namesOf : List ℕ → List ℕ
 namesOf s = namesGot (fileOf s)
 
 -- ---- the writer
+-- the octets of a book's file, each tenant's records as they stand
+unfoldable pub octetsAs : Book → List ℕ
+octetsAs b = fileFormat .write (filedAs b)
+
 -- the octets of a book's file
 unfoldable pub octetsOf : Book → List ℕ
 octetsOf b = fileFormat .write (filedBook b)

@@ -90,14 +90,15 @@ pub fn write(
     ensures octets { λ r. ⌜ now (room .exit) ≡ roomAfter (record { state = state; table = table; memory = memory; names = now (names .entry) }) (now (room .entry)) ⌝ }
 {
     if sound_book(state, table, memory, names) {
-        let n = file_size(state, table, memory, names);
+        let filed = lease_file::in_file_order(table);
+        let n = file_size(state, filed, memory, names);
         if room.len() < n {
             return Written {
                 refusal: 23,
                 length: 0,
             };
         }
-        put_file(room, state, table, memory, names);
+        put_file(room, state, filed, memory, names);
         return Written {
             refusal: 0,
             length: n,

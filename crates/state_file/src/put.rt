@@ -7,7 +7,7 @@ ghost use Rattle.state.specs.Book.{rangesOf, scopesOf};
 ghost use Rattle.state_file.specs.File.{scopeFormat, tenantFormat};
 ghost use Rattle.state_file.specs.Records.{filedScope};
 ghost use Rattle.state_file.specs.Rows.{fileRangeOctets, fileScopeOctets, partOctets, sectionOctets};
-ghost use Rattle.state_file.specs.StateFile.{octetsOf};
+ghost use Rattle.state_file.specs.StateFile.{octetsAs};
 use state::ClientRange;
 use state::LeaseTable;
 use state::Memory;
@@ -21,8 +21,8 @@ pub fn put_file(
     memory: Memory,
     names: &[u8],
 ) -> usize
-    requires { ⌜ length (octetsOf (record { state = state; table = table; memory = memory; names = now names })) ≤ length (now buffer) ⌝ }
-    ensures { λ r. ⌜ Wrote (now (buffer .entry)) 0 (octetsOf (record { state = state; table = table; memory = memory; names = now (names .entry) })) (now (buffer .exit)) r ⌝ }
+    requires { ⌜ length (octetsAs (record { state = state; table = table; memory = memory; names = now names })) ≤ length (now buffer) ⌝ }
+    ensures { λ r. ⌜ Wrote (now (buffer .entry)) 0 (octetsAs (record { state = state; table = table; memory = memory; names = now (names .entry) })) (now (buffer .exit)) r ⌝ }
 {
     let a = put_sections(buffer, state, table);
     let b = octets::put_run(buffer, a, names, names.len());

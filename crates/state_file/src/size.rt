@@ -5,14 +5,14 @@ ghost use lib.ListN.{length};
 ghost use Rattle.state_file.specs.File.{scopeFormat};
 ghost use Rattle.state_file.specs.Records.{filedScope};
 ghost use Rattle.state_file.specs.Rows.{fileScopeOctets, sectionOctets};
-ghost use Rattle.state_file.specs.StateFile.{octetsOf};
+ghost use Rattle.state_file.specs.StateFile.{octetsAs};
 use state::LeaseTable;
 use state::Memory;
 use state::Scope;
 use state::State;
 
 pub fn file_size(state: State, table: LeaseTable, memory: Memory, names: &[u8]) -> usize
-    ensures { λ r. ⌜ r ≡ length (octetsOf (record { state = state; table = table; memory = memory; names = now (names .entry) })) ⌝ }
+    ensures { λ r. ⌜ r ≡ length (octetsAs (record { state = state; table = table; memory = memory; names = now (names .entry) })) ⌝ }
 {
     sections_size(state, table)
         + names.len()

@@ -3,6 +3,7 @@
 use crate::bounds;
 use crate::campus::{holding, sound};
 use crate::case::Case;
+use crate::ending;
 use crate::fault;
 use crate::halves;
 use crate::holds;
@@ -243,6 +244,8 @@ fn count(case: &Case, expected: &Expected, tally: &mut Tally) -> Result<(), Diff
             let why = judged_past.why(before, &call, answer.outcome, &answer.reply);
             why.into_iter().for_each(|why| tally.held(why));
             stood = altered((before, &stood), after, &call, answer, tally)?;
+            let why = ending::why(before, after);
+            why.into_iter().for_each(|why| tally.ordered(why));
         }
         (before, file) = (after, &answer.file);
         tally.call(&call.datagram, answer.outcome, &answer.reply);

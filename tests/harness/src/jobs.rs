@@ -443,8 +443,12 @@ fn discover(time: u32) -> Call<'static> {
 
 /// Octets that are no message.
 fn other_octets() -> Call<'static> {
+    other_octets_at(CLOCK)
+}
+
+fn other_octets_at(time: u32) -> Call<'static> {
     Call {
-        time: CLOCK,
+        time,
         client: 0x0A00_0005,
         room: 512,
         datagram: vec![0; 40].into(),
@@ -735,6 +739,19 @@ impl Bench {
         ]
     }
 
+    /// What the clock does by itself: a discarded call at which no lease has ended, and one at which all have but house 2's second, with the file
+    /// read and written.
+    fn endings(&self) -> [Job; 2] {
+        let serve = |name, time| Job {
+            due: None,
+            ..self.job(name, Work::Serve(other_octets_at(time)), &[])
+        };
+        [
+            serve("clock, no lease ends", CLOCK),
+            serve("clock, all leases but one end", CLOCK + DEFAULT_LEASE),
+        ]
+    }
+
     /// A full file, read, and read and written.
     fn whole(&self) -> [Job; 2] {
         [
@@ -767,6 +784,7 @@ pub fn jobs(count: usize, mixed_count: usize) -> Vec<Job> {
     jobs.extend(bench(held_campus(), 0, Filled::All).whole());
     let little = bench(campus(FILLED_LEASES), FILLED_LEASES, Filled::Little);
     jobs.extend(little.one_call());
+    jobs.extend(bench(campus(128), 128, Filled::Little).endings());
     jobs.push(little.mixed(mixed_count));
     jobs
 }

@@ -10,6 +10,7 @@ pub mod case;
 pub mod compare;
 pub mod damage;
 pub mod damage_holds;
+pub mod ending;
 pub mod fault;
 pub mod halves;
 pub mod holds;

@@ -2,6 +2,7 @@
 
 use crate::bounds;
 use crate::damage::DAMAGES;
+use crate::ending;
 use crate::fault::{Cause, CAUSES};
 use crate::halves;
 use crate::judged;
@@ -83,6 +84,10 @@ fn occupied_for(why: &str) -> String {
     format!("occupancy: {why}")
 }
 
+fn ordered_for(why: String) -> String {
+    format!("order: {why}")
+}
+
 fn halved_for(why: String) -> String {
     format!("halves: {why}")
 }
@@ -145,6 +150,11 @@ impl Tally {
         self.add(occupied_for(why));
     }
 
+    /// How a house's records stood by their ending, and what moved.
+    pub fn ordered(&mut self, why: String) {
+        self.add(ordered_for(why));
+    }
+
     /// What was seen of a call in two halves.
     pub fn halved(&mut self, why: impl Into<String>) {
         self.add(halved_for(why.into()));
@@ -182,6 +192,7 @@ impl Tally {
         names.extend(bounds::counted().into_iter().map(bounded_for));
         names.extend(judged::counted().into_iter().map(held_for));
         names.extend(occupancy::counted().into_iter().map(occupied_for));
+        names.extend(ending::counted().into_iter().map(ordered_for));
         names.extend(halves::counted().into_iter().map(halved_for));
         names.extend((0..DAMAGES.len()).map(damage_name));
         names

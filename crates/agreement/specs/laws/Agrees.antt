@@ -9,7 +9,7 @@ use lib.Seq.{getD-set-same, set-getD, set-set}
 use borrow.Author.Tests.{lt-ltb}
 use Rattle.lists.specs.Pick.{pick}
 use Rattle.lists.specs.laws.Each.{map-set}
-use Rattle.lists.specs.laws.Reordered.{Reordered}
+use Rattle.lists.specs.Reordered.{Reordered}
 use Rattle.lists.specs.laws.Some.{Part}
 use Rattle.occupancy.specs.declared.Board.{Board}
 use Rattle.occupancy.specs.Board.{sameBoard}
@@ -19,9 +19,10 @@ use Rattle.state.specs.declared.Lease.{Lease}
 use Rattle.state.specs.declared.LeaseTable.{LeaseTable}
 use Rattle.state.specs.declared.State.{State}
 use Rattle.state.specs.declared.TenantLeases.{TenantLeases}
-use Rattle.state.specs.Book.{Book, advanced, clearedTo, dropped, idOf, insertOf, insertedIn, inUse, laidOut, leasesOf, liveOf, removeOf, tableOf, tenantAt, boardWith, boardWithout}
+use Rattle.state.specs.Book.{Book, advanced, clearedTo, dropped, idOf, insertOf, insertedIn, inUse, laidOut, leasesOf, liveOf, removeOf, tableOf, tenantAt, boardWith, boardWithout, insertedBy}
 use Rattle.state.specs.Board.{boardOf, builtOf}
-use Rattle.state.specs.Edit.{applied, boardEdited, boardLeft, editedIn, leftIn}
+use Rattle.state.specs.laws.Edit.{applied}
+use Rattle.state.specs.Edit.{boardEdited, boardLeft, editedIn, leftIn, appliedBy, editedBy}
 use Rattle.state.specs.laws.Layout.{read-back, table-back}
 use Rattle.state.specs.laws.Sorted.{insert-same}
 use Rattle.soundness.specs.Sound.{soundB, tenantsIn}
@@ -50,7 +51,7 @@ unfolding agreesB
 made-agrees s t b e v = ap (sameBoard b) (built-is s t e (sound-lists s t v))
 
 -- ---- the drop
-pub advanced-agrees : (b : Book) (time : ℕ) → soundB (b .state) (b .table) ≡ true → agreesB (b .table) (b .memory .board) ≡ true
+pub advanced-agrees : (b : Book) (time : ℕ) → Sound (b .state) (leasesOf (b .table)) → agreesB (b .table) (b .memory .board) ≡ true
     → agreesB (advanced b time .table) (advanced b time .memory .board) ≡ true
 unfolding advanced dropped
 advanced-agrees b time v e =
@@ -58,7 +59,7 @@ advanced-agrees b time v e =
     let ts : List (List Lease) = leasesOf (b .table) in
     is-agrees (tableOf (map (liveOf c) ts)) (clearedTo c (b .table) (b .memory .board) 8)
     (ap (λ (x : Board). clearedTo c (b .table) x 8) (agrees-is (b .table) (b .memory .board) e)
-    ∙ cleared-all (b .state) (b .table) (sound-lists (b .state) (b .table) v) c ∙ ap boardOf (sym (table-back (map (liveOf c) ts))))
+    ∙ cleared-all (b .state) (b .table) v c ∙ ap boardOf (sym (table-back (map (liveOf c) ts))))
 
 -- ---- an edit
 -- one that fits the records that it is made to: what leaves is there, and what enters has room
@@ -89,7 +90,7 @@ module _ (s : State) (t : LeaseTable) (h : ℕ) (e : Edit) (v : Sound s (leasesO
   before-is = ap (λ (x : List Lease). set ts h x) (at-tenant t h) ∙ set-getD ts h []
 
   after-is : leasesOf (applied e h t) ≡ set ts h end
-  unfolding applied
+  unfolding appliedBy
   after-is = sym (map-set inUse (t .tenants) h (editedIn e (tenantAt t h)))
 
   same-within : (w : List (List Lease)) → Within w w
@@ -110,14 +111,14 @@ module _ (s : State) (t : LeaseTable) (h : ℕ) (e : Edit) (v : Sound s (leasesO
   sound-end = subst (λ (x : List (List Lease)). Sound s x) after-is after
 
   entered : e .enters ≡ true → end ≡ insertOf (e .new) rest
-  unfolding editedIn insertedIn pick
+  unfolding editedBy insertedBy pick
   entered q =
       ap (λ (c : Bool). inUse (pick c (insertedIn (e .new) (leftIn e (tenantAt t h))) (leftIn e (tenantAt t h)))) q
       ∙ ap (λ (c : Bool). inUse (pick c (laidOut (insertOf (e .new) rest)) (leftIn e (tenantAt t h)))) (lt-ltb (length rest) 16 (fits .room q))
       ∙ read-back (insertOf (e .new) rest)
 
   stayed : e .enters ≡ false → end ≡ rest
-  unfolding editedIn pick
+  unfolding editedBy pick
   stayed q = ap (λ (c : Bool). inUse (pick c (insertedIn (e .new) (leftIn e (tenantAt t h))) (leftIn e (tenantAt t h)))) q
 
   edited-is : boardEdited e h (boardOf ts) ≡ boardOf (set ts h end)

@@ -1,17 +1,17 @@
--- Laws: between the code and the definitions: an edit, the loop over a tenant's records that takes the ended ones off, and the loop over the tenants.
-use Prim.Native.Nat.{ℕ, _+_, _≤_, _<_}
+-- Laws: between the code and the definitions: an edit, the loop that takes a tenant's first records off, and the loop over the tenants.
+use Prim.Native.Nat.{ℕ, _+_, _≤_, _<_, min}
 use mathlib.Core.Path.{_≡_, refl, sym, ap, ap₂, _∙_}
-use mathlib.Core.Bool.{Bool, true, false, not}
-use mathlib.Core.List.{List, [], _∷_}
+use mathlib.Core.Bool.{Bool, true, false}
+use mathlib.Core.List.{List, []}
 use native.Mathlib.Omega.{arith}
 use native.Mathlib.Numerals.{add-one}
-use lib.ListN.{length, getD}
-use borrow.Author.Tests.{not-true, not-false}
+use lib.Dec.{leb}
+use lib.ListN.{length, getD, take, length-take}
+use lib.Seq.{take-all, take-take}
+use borrow.Author.Tests.{leb-true, leb-false}
 use Rattle.lists.specs.Pick.{pick}
 use Rattle.lists.specs.Fold.{fold}
-use Rattle.lists.specs.Filter.{filterBy}
-use Rattle.lists.specs.laws.Part.{unmapped}
-use Rattle.lists.specs.laws.Pick.{pick-yes, pick-no}
+use Rattle.lists.specs.laws.Part.{PartInv, part-start, unmapped}
 use Rattle.lists.specs.laws.Row.{at-in}
 use Rattle.occupancy.specs.declared.Board.{Board}
 use Rattle.occupancy.specs.Board.{noBoard, sameBoard}
@@ -19,7 +19,8 @@ use Rattle.state.specs.declared.Edit.{Edit}
 use Rattle.state.specs.declared.Lease.{Lease}
 use Rattle.state.specs.declared.LeaseTable.{LeaseTable}
 use Rattle.state.specs.declared.TenantLeases.{TenantLeases}
-use Rattle.state.specs.Book.{endedOf, inUse, laidOut, live, boardWith, boardWithout}
+use Rattle.state.specs.Book.{inUse, laidOut, boardWith, boardWithout}
+use Rattle.state.specs.laws.Layout.{noLease}
 use Rattle.state.specs.Board.{builtOf, builtTo}
 use Rattle.state.specs.Edit.{boardEdited, boardLeft}
 
@@ -28,31 +29,16 @@ pub edited-board : (e : Edit) (h : ℕ) (b rest r : Board) → rest ≡ boardLef
 unfolding boardEdited
 edited-board e h b rest r p q = q ∙ ap (λ (x : Board). pick (e .enters) (boardWith h x (e .new)) x) p
 
--- ---- one tenant's records
--- one turn: a record that is not live is taken off
-unfoldable pub unlessLive : ℕ → ℕ → Board → Lease → Board
-unlessLive h clock b l = pick (live clock l) b (boardWithout h b l)
-
-pub ended-off : (h clock : ℕ) (b : Board) (ls : List Lease) → fold (unlessLive h clock) b ls ≡ fold (boardWithout h) b (endedOf clock ls)
-unfolding unlessLive endedOf filterBy pick
-ended-off h clock b [] = refl
-ended-off h clock b (l ∷ ls) = go (live clock l) (λ x. ended-off h clock x ls)
+-- ---- one tenant's first records
+take-both : (n c : ℕ) (l : List Lease) → take n (take c l) ≡ take (min n c) l
+take-both n c l = go (leb n c) refl
   where
-    go : (c : Bool) → ((x : Board) → fold (unlessLive h clock) x ls ≡ fold (boardWithout h) x (endedOf clock ls))
-        → fold (unlessLive h clock) (pick c b (boardWithout h b l)) ls ≡ fold (boardWithout h) b (pick (not c) (l ∷ endedOf clock ls) (endedOf clock ls))
-    go true ih = ih b
-    go false ih = ih (boardWithout h b l)
+    go : (b : Bool) → leb n c ≡ b → take n (take c l) ≡ take (min n c) l
+    go true e = let h = leb-true n c e in take-take n c l h ∙ ap (λ (k : ℕ). take k l) (let q : n ≡ min n c = omega arith in q)
+    go false e = let h = leb-false n c e in let a = length-take c l in take-all n (take c l) (omega arith) ∙ ap (λ (k : ℕ). take k l) (let q : c ≡ min n c = omega arith in q)
 
-module _ (h clock : ℕ) (b : Board) (l : Lease) where
-  pub still-live : {q : Bool} → q ≡ live clock l → not q ≡ false → b ≡ unlessLive h clock b l
-  unfolding unlessLive
-  still-live {q} e y = pick-yes b (boardWithout h b l) b e (not-false q y) refl
-
-  pub live-no-more : {q : Bool} {r : Board} → q ≡ live clock l → not q ≡ true → r ≡ boardWithout h b l → r ≡ unlessLive h clock b l
-  unfolding unlessLive
-  live-no-more {q} {r} e n p = pick-no b (boardWithout h b l) r e (not-true q n) p
-
-pub ruleset clears = (ended-off, still-live, live-no-more)
+pub clear-start : (h : ℕ) {l : List Lease} {m k : ℕ} {r : Board} (n c : ℕ) → k ≡ min c 16 → m ≡ min n k → length l ≡ 16 → PartInv (boardWithout h) noLease l m (fold (boardWithout h) r (take n (take c l))) r 0
+clear-start h {l} {r = r} n c ek em g = part-start (min n c) 16 (omega arith) g (ap (fold (boardWithout h) r) (sym (take-both n c l)))
 
 -- ---- all tenants
 pub record BuiltInv (t : LeaseTable) (now : Board) (h : ℕ) : Type 0 where

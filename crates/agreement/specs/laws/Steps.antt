@@ -12,7 +12,8 @@ use borrow.Author.Tests.{eq-eqb, eqb-true}
 use Rattle.lists.specs.Pick.{pick}
 use Rattle.lists.specs.Fold.{fold}
 use Rattle.lists.specs.laws.All.{all-head}
-use Rattle.lists.specs.laws.Reordered.{Reordered, reordered-length, reordered-all}
+use Rattle.lists.specs.Reordered.{Reordered}
+use Rattle.lists.specs.laws.Reordered.{reordered-length, reordered-all}
 use Rattle.lists.specs.laws.Some.{Part, part-all, part-length}
 use Rattle.address_set.specs.AddressSet.{bit}
 use Rattle.address_set.specs.laws.Bits.{bit-le, bit-and, bit-of-zero}

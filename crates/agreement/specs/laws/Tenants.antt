@@ -10,7 +10,7 @@ use lib.Seq.{getD-set-same, getD-set-other, set-getD, set-out, ext-getD, getD-dr
 use borrow.Author.Tests.{eqb-true, eqb-false, ltb-true, ltb-false}
 use Rattle.lists.specs.Fold.{fold}
 use Rattle.lists.specs.Filter.{filterBy}
-use Rattle.lists.specs.laws.Reordered.{Reordered}
+use Rattle.lists.specs.Reordered.{Reordered}
 use Rattle.lists.specs.laws.Arranged.{split-reordered}
 use Rattle.lists.specs.laws.Some.{Part, filter-part}
 use Rattle.occupancy.specs.declared.Board.{Board}

@@ -15,7 +15,8 @@ use Rattle.lists.specs.All.{allBy, pairsBy}
 use Rattle.lists.specs.laws.All.{all-head, all-cons, all-same, pairs-head}
 use Rattle.lists.specs.laws.Both.{all-and, and-parts, and-both, pairs-and}
 use Rattle.lists.specs.laws.Filter.{filter-passes}
-use Rattle.lists.specs.laws.Reordered.{Reordered, reordered-pairs}
+use Rattle.lists.specs.Reordered.{Reordered}
+use Rattle.lists.specs.laws.Reordered.{reordered-pairs}
 use Rattle.lists.specs.Place.{placeBy}
 use Rattle.lists.specs.laws.Each.{map-set}
 use Rattle.identifier.specs.Order.{sameOf}
@@ -26,13 +27,15 @@ use Rattle.state.specs.declared.LeaseTable.{LeaseTable}
 use Rattle.state.specs.declared.Release.{Release}
 use Rattle.state.specs.declared.State.{State}
 use Rattle.state.specs.declared.TenantLeases.{TenantLeases}
-use Rattle.state.specs.Book.{inUse, laidOut, leasesOf, tableOf, idOf, differ, other, placeOf, leaseAt, zeroLease, holdTime, isHold, lapsingAt, overlaps, busyOf, insertOf, removeOf, scopeAt}
-use Rattle.state.specs.Edit.{noEdit, entering, droppingFirst, givingWay, leftIn, editedIn, applied}
+use Rattle.state.specs.Book.{inUse, laidOut, leasesOf, ordered, tableOf, idOf, differ, other, placeOf, leaseAt, zeroLease, holdTime, isHold, lapsingAt, overlaps, busyOf, insertOf, removeOf, scopeAt}
+use Rattle.state.specs.Edit.{noEdit, entering, droppingFirst, givingWay, leftIn, appliedBy, editedBy}
+use Rattle.state.specs.laws.Edit.{applied}
 use Rattle.state.specs.laws.Edited.{applied-none, applied-entering, applied-leaving, applied-way, applied-laid}
-use Rattle.state.specs.laws.Sorted.{named-at, taken-out}
+use Rattle.state.specs.laws.Sorted.{named-at, rising, taken-out}
 use Rattle.state.specs.laws.Layout.{read-back, removed-fewer}
 use Rattle.soundness.specs.Sound.{oneTo, tenantsIn, scopesIn, idB, scopeKnown, belowB, offsetsB, kindB, periodB, leaseB, paddedB, lapseB, holdB, disjoint, compatible, zeroFrom, soundB}
-use Rattle.soundness.specs.laws.Book.{leaseOk, pairOk, Sound, sound-lists, lists-sound}
+use Rattle.soundness.specs.laws.Book.{leaseOk, pairOk, Sound, sound-lists, sound-rises, lists-sound}
+use Rattle.soundness.specs.laws.Rises.{applied-rises}
 use Rattle.soundness.specs.laws.Facts.{LeaseFacts, lease-facts}
 use Rattle.soundness.specs.laws.Kept.{sound-removed}
 use Rattle.soundness.specs.laws.Added.{each-at, few-at, pair-turn, pairs-at, sound-renewed}
@@ -469,11 +472,11 @@ module _ (s : State) (b : LeaseTable) (h : ℕ) (m : Fields) (v : Sound s (lease
 
 -- ---- the table after a hold is dropped, and where a lease is recorded then
 pub applied-dropping : (b : LeaseTable) (h : ℕ) (o : Lease) → applied (droppingFirst o noEdit) h b ≡ updated b h (removeOf (idOf o) (ownOf b h))
-unfolding applied editedIn leftIn pick
+unfolding appliedBy editedBy leftIn pick
 applied-dropping b h o = refl
 
 pub applied-moving : (b : LeaseTable) (h : ℕ) (o l : Lease) → applied (droppingFirst o (entering l)) h b ≡ applied (givingWay o l) h b
-unfolding applied editedIn leftIn
+unfolding appliedBy editedBy leftIn
 applied-moving b h o l = refl
 
 -- ---- the records after a decision on a sound book are sound again
@@ -520,5 +523,8 @@ module _ (s : State) (b : LeaseTable) (h : ℕ) (m : Fields) (v : Sound s (lease
 pub decision-sound : (s : State) (b : LeaseTable) (q : List Release) (h : ℕ) (m : Fields) → soundB s b ≡ true → b ≡ tableOf (leasesOf b) → h < tenantsIn s → h < length (b .tenants) → GoodId m
     → soundB s (applied (decideOf s b q h m .edit) h b) ≡ true
 decision-sound s b q h m e laid known there good =
-    ap (soundB s) (applied-laid (decideOf s b q h m .edit) h b laid)
-    ∙ lists-sound s (leasesOf (applied (decideOf s b q h m .edit) h b)) (decided-sound s b h m (sound-lists s b e) known there good q)
+    ap (soundB s) (applied-laid ordered (decideOf s b q h m .edit) h b laid)
+    ∙ lists-sound s (leasesOf (applied (decideOf s b q h m .edit) h b)) now (applied-rises ordered rising (decideOf s b q h m .edit) s b h there (sound-rises s b e) now)
+  where
+    now : Sound s (leasesOf (applied (decideOf s b q h m .edit) h b))
+    now = decided-sound s b h m (sound-lists s b e) known there good q

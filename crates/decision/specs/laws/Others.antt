@@ -6,7 +6,8 @@ use Rattle.lists.specs.Pick.{pick}
 use Rattle.lists.specs.All.{allBy, pairsBy}
 use Rattle.lists.specs.Filter.{filterBy}
 use Rattle.lists.specs.laws.Filter.{filter-pairs, filter-none-out}
-use Rattle.lists.specs.laws.Reordered.{Reordered, reordered-filter}
+use Rattle.lists.specs.Reordered.{Reordered}
+use Rattle.lists.specs.laws.Reordered.{reordered-filter}
 use Rattle.lists.specs.laws.Arranged.{sorted-unique}
 use Rattle.identifier.specs.laws.Order.{same-refl}
 use Rattle.state.specs.declared.Lease.{Lease}

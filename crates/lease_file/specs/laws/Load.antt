@@ -1,10 +1,10 @@
 -- Laws: reading the sections into records: an entry into a record, the records tenant by tenant, and the holds among the leases.
 use mathlib.Core.Bool.{Bool, false, true}
-use mathlib.Core.List.{List, [], _∷_, map}
+use mathlib.Core.List.{List, [], _∷_, _++_, append-nil, map, map-map}
 use mathlib.Core.Path.{_∙_, _≡_, ap, ap₂, refl, sym}
 use Prim.Native.Nat.{_+_, _-_, _<_, _≤_, min, suc, zero, ℕ}
 use native.Mathlib.Omega.{arith}
-use lib.ListN.{drop, getD, length, length-map, replicate, set, take}
+use lib.ListN.{drop, getD, length, length-map, length-take, replicate, set, take}
 use borrow.Author.Tests.{leb-true}
 use Rattle.address_set.specs.AddressSet.{readOffsets}
 use Rattle.format.specs.Tenants.{apart, own}
@@ -18,14 +18,15 @@ use Rattle.lists.specs.laws.Part.{cut-take, unmapped}
 use Rattle.lists.specs.laws.Pick.{both, pick-lt}
 use Rattle.octets.specs.Octets.{at32}
 use Rattle.octets.specs.laws.Run.{part-length}
-use Rattle.state.specs.Book.{inUse, insertOf, insertedIn, laidOut, lapsingAt, leaseWith, noLeases, pushed, tableOf}
+use Rattle.lists.specs.Arranged.{arranged, insertIn}
+use Rattle.state.specs.Book.{Order, byIdentifier, inUse, insertedBy, laidOut, lapsingAt, leaseWith, noLeases, orderFor, ordered, pushed, tableOf}
 use Rattle.state.specs.declared.Lease.{Lease}
 use Rattle.state.specs.declared.LeaseTable.{LeaseTable}
 use Rattle.state.specs.declared.TenantLeases.{TenantLeases}
 use Rattle.state.specs.laws.Layout.{noLease, push-laid, read-back}
 use Rattle.lease_file.specs.Place.{EntriesFit, EntriesIn, StorableAt, afterEntry, afterLease, entriesIn, entryAt, fileLeaseAt, keptAll, tailOf}
-use Rattle.lease_file.specs.Records.{entryFitB, fewOf, holdTenant, insertAll, leaseTenant, mergedFrom, recordsFitB, stored, storedEntry, storedHold}
-use Rattle.lease_file.specs.Rows.{mergedAll, mergedIn, paired}
+use Rattle.lease_file.specs.Records.{entryFitB, fewOf, holdTenant, inFileOrder, leaseTenant, mergedFrom, recordsFitB, stored, storedEntry, storedHold}
+use Rattle.lease_file.specs.Rows.{mergedAll, mergedBy, mergedIn, paired}
 use Rattle.lease_file.specs.Section.{Entry, FileHold, FileLease, entryTenant, leaseIn}
 use Rattle.lease_file.specs.laws.Form.{next-at}
 use Rattle.lease_file.specs.laws.Limits.{EntryInv, entries-fit, entry-turn, tenantLoop}
@@ -88,36 +89,67 @@ module _ {holds : Bool} {s : List ℕ} {at count : ℕ} {out : List TenantLeases
 
 pub ruleset fills = (fill-start, fill-next, fill-end, tenantLoop)
 
--- ---- holds among leases: the loop, from the last hold on
+-- ---- records inserted among others: the loop, from the last on
 -- the last of the first i
-merged-last : (hs : List Lease) (d : Lease) (t : TenantLeases) (i : ℕ) → i < length hs → mergedIn (take (suc i) hs) t ≡ mergedIn (take i hs) (insertedIn (getD hs i d) t)
-unfolding mergedIn
-merged-last [] d t i h = absurd (omega arith)
-merged-last (x ∷ hs) d t zero h = refl
-merged-last (x ∷ hs) d t (suc i) h = ap (insertedIn x) (merged-last hs d t i (omega arith))
+merged-last : (o : Order) (hs : List Lease) (d : Lease) (t : TenantLeases) (i : ℕ) → i < length hs → mergedBy o (take (suc i) hs) t ≡ mergedBy o (take i hs) (insertedBy o (getD hs i d) t)
+unfolding mergedBy
+merged-last o [] d t i h = absurd (omega arith)
+merged-last o (x ∷ hs) d t zero h = refl
+merged-last o (x ∷ hs) d t (suc i) h = ap (insertedBy o x) (merged-last o hs d t i (omega arith))
 
-pub record MergeInv (t h now : TenantLeases) (i : ℕ) : Type 0 where
+pub record MergeInv (o : Order) (t h now : TenantLeases) (i : ℕ) : Type 0 where
   pub long : length (h .leases) ≡ 16
   pub within : i ≤ 16
-  pub whole : mergedIn (take i (h .leases)) now ≡ mergedIn (inUse h) t
+  pub whole : mergedBy o (take i (h .leases)) now ≡ mergedBy o (inUse h) t
 
-pub merge-start : {t h : TenantLeases} {n : ℕ} → length (h .leases) ≡ 16 → n ≡ min (h .count) 16 → MergeInv t h t n
-merge-start {t} {h} e p = record { long = e; within = omega arith; whole = ap (λ (l : List Lease). mergedIn l t) (ap (λ (k : ℕ). take k (h .leases)) p ∙ cut-take 16 (h .count) (h .leases) e) }
+pub merge-start : {o : Order} {t h : TenantLeases} {n : ℕ} → length (h .leases) ≡ 16 → n ≡ min (h .count) 16 → MergeInv o t h t n
+merge-start {o} {t} {h} e p = record { long = e; within = omega arith; whole = ap (λ (l : List Lease). mergedBy o l t) (ap (λ (k : ℕ). take k (h .leases)) p ∙ cut-take 16 (h .count) (h .leases) e) }
 
-module _ {t h now : TenantLeases} {i : ℕ} (v : MergeInv t h now i) where
-  pub merge-next : (r : TenantLeases) → 0 < i → r ≡ insertedIn (getD (h .leases) (i - 1) noLease) now → MergeInv t h r (i - 1)
+module _ {o : Order} {t h now : TenantLeases} {i : ℕ} (v : MergeInv o t h now i) where
+  pub merge-next : (r : TenantLeases) → 0 < i → r ≡ insertedBy o (getD (h .leases) (i - 1) noLease) now → MergeInv o t h r (i - 1)
   merge-next r g e = record {
     long = v .long;
     within = let w = v .within in omega arith;
-    whole = ap (mergedIn (take (i - 1) (h .leases))) e ∙ sym (merged-last (h .leases) noLease now (i - 1) (let w = v .within in let l = v .long in omega arith))
-        ∙ ap (λ (k : ℕ). mergedIn (take k (h .leases)) now) (let q : suc (i - 1) ≡ i = omega arith in q) ∙ v .whole;
+    whole = ap (mergedBy o (take (i - 1) (h .leases))) e ∙ sym (merged-last o (h .leases) noLease now (i - 1) (let w = v .within in let l = v .long in omega arith))
+        ∙ ap (λ (k : ℕ). mergedBy o (take k (h .leases)) now) (let q : suc (i - 1) ≡ i = omega arith in q) ∙ v .whole;
   }
 
-  pub merge-end : i ≤ 0 → now ≡ mergedIn (inUse h) t
-  unfolding mergedIn
-  merge-end g = sym (ap (λ (k : ℕ). mergedIn (take k (h .leases)) now) (let q : i ≡ 0 = omega arith in q)) ∙ v .whole
+  pub merge-end : i ≤ 0 → now ≡ mergedBy o (inUse h) t
+  unfolding mergedBy
+  merge-end g = sym (ap (λ (k : ℕ). mergedBy o (take k (h .leases)) now) (let q : i ≡ 0 = omega arith in q)) ∙ v .whole
 
 pub ruleset merges = (merge-start, merge-next, merge-end, unmapped)
+
+-- as lists: among records that are arranged
+merged-laid : (o : Order) (hs ls : List Lease) → length hs + length ls ≤ 16 → mergedBy o hs (laidOut (arranged o ls)) ≡ laidOut (arranged o (hs ++ ls))
+unfolding mergedBy arranged insertedBy
+merged-laid o [] ls h = refl
+merged-laid o (x ∷ hs) ls h =
+    let w : length (inUse (laidOut (arranged o (hs ++ ls)))) < 16 = (let a = ap length (read-back (arranged o (hs ++ ls))) in let b = merged-length o hs ls in omega arith) in
+    ap (insertedBy o x) (merged-laid o hs ls (omega arith))
+    ∙ sym (pick-lt (laidOut (insertIn o x (inUse (laidOut (arranged o (hs ++ ls)))))) (laidOut (arranged o (hs ++ ls))) (laidOut (insertIn o x (arranged o (hs ++ ls)))) _ 16 w
+    (ap (λ (l : List Lease). laidOut (insertIn o x l)) (sym (read-back (arranged o (hs ++ ls))))))
+
+-- among none
+merged-none : (o : Order) (l : List Lease) → length l ≤ 16 → mergedBy o l (laidOut []) ≡ laidOut (arranged o l)
+unfolding arranged
+merged-none o l h = merged-laid o l [] (omega arith) ∙ ap (λ (x : List Lease). laidOut (arranged o x)) (append-nil l)
+
+pub merged-is : (t h : TenantLeases) {z a r : TenantLeases} → z ≡ laidOut [] → a ≡ mergedBy (orderFor true) (inUse t) z → r ≡ mergedBy (orderFor true) (inUse h) a → r ≡ mergedIn (inUse h) (inUse t)
+unfolding mergedIn orderFor
+merged-is t h ez ea er = er ∙ ap (mergedBy ordered (inUse h)) (ea ∙ ap (mergedBy ordered (inUse t)) ez)
+
+pub named-is : (t : TenantLeases) {z r : TenantLeases} → length (t .leases) ≡ 16 → z ≡ laidOut [] → r ≡ mergedBy (orderFor false) (inUse t) z → r ≡ laidOut (arranged byIdentifier (inUse t))
+unfolding orderFor
+named-is t e ez er =
+    er ∙ ap (mergedBy byIdentifier (inUse t)) ez ∙ merged-none byIdentifier (inUse t) (let a = length-take (t .count) (t .leases) in omega arith)
+
+-- all tenants' in the order of the file
+pub filed-order : (b now : LeaseTable) → now .tenants ≡ map (λ t. laidOut (arranged byIdentifier (inUse t))) (b .tenants) → now ≡ inFileOrder b
+unfolding inFileOrder tableOf
+filed-order b now e =
+    ap {B = LeaseTable} (λ (l : List TenantLeases). record { tenants = l })
+    (e ∙ sym (ap (map laidOut) (map-map (arranged byIdentifier) inUse (b .tenants)) ∙ map-map laidOut (λ t. arranged byIdentifier (inUse t)) (b .tenants)))
 
 -- ---- of each tenant
 paired-length : {A : Type 0} (n : ℕ) (a b : List A) → length a ≡ n → length b ≡ n → length (paired a b) ≡ n
@@ -137,17 +169,17 @@ paired-get d (suc i) (x ∷ a) (y ∷ b) h e = paired-get d i a b (omega arith) 
 pub record MergeAllInv (leases holds now : List TenantLeases) (i : ℕ) : Type 0 where
   pub long : length leases ≡ 8
   pub many : length holds ≡ 8
-  pub inv : BuildInv (λ p. mergedIn (inUse (p .1)) (p .0)) (noLeases, noLeases) (paired leases holds) leases 8 now i
+  pub inv : BuildInv (λ p. mergedIn (inUse (p .1)) (inUse (p .0))) (noLeases, noLeases) (paired leases holds) leases 8 now i
 
 pub merges-start : {leases holds : List TenantLeases} → length leases ≡ 8 → length holds ≡ 8 → MergeAllInv leases holds leases 0
 merges-start {leases} {holds} p q = record { long = p; many = q; inv = build-start (paired-length 8 leases holds p q) p }
 
 module _ {leases holds now : List TenantLeases} {i : ℕ} (v : MergeAllInv leases holds now i) where
-  pub merges-next : (x : TenantLeases) → i < 8 → x ≡ mergedIn (inUse (getD holds i noLeases)) (getD leases i noLeases) → MergeAllInv leases holds (set now i x) (i + 1)
+  pub merges-next : (x : TenantLeases) → i < 8 → x ≡ mergedIn (inUse (getD holds i noLeases)) (inUse (getD leases i noLeases)) → MergeAllInv leases holds (set now i x) (i + 1)
   merges-next x h e = record {
     long = v .long;
     many = v .many;
-    inv = each-next (v .inv) h (e ∙ sym (ap (λ (p : TenantLeases × TenantLeases). mergedIn (inUse (p .1)) (p .0)) (paired-get noLeases i leases holds (let l = v .long in omega arith) (v .long ∙ sym (v .many)))));
+    inv = each-next (v .inv) h (e ∙ sym (ap (λ (p : TenantLeases × TenantLeases). mergedIn (inUse (p .1)) (inUse (p .0))) (paired-get noLeases i leases holds (let l = v .long in omega arith) (v .long ∙ sym (v .many)))));
   }
 
   pub merges-end : 8 ≤ i → now ≡ mergedAll leases holds
@@ -156,25 +188,17 @@ module _ {leases holds now : List TenantLeases} {i : ℕ} (v : MergeAllInv lease
 pub ruleset tenantMerges = (merges-start, merges-next, merges-end, unmapped)
 
 -- as lists
-merged-laid : (hs ls : List Lease) → length hs + length ls ≤ 16 → mergedIn hs (laidOut ls) ≡ laidOut (insertAll hs ls)
-unfolding mergedIn insertAll insertedIn
-merged-laid [] ls h = refl
-merged-laid (x ∷ hs) ls h =
-    let w : length (inUse (laidOut (insertAll hs ls))) < 16 = (let a = ap length (read-back (insertAll hs ls)) in let b = merged-length hs ls in omega arith) in
-    ap (insertedIn x) (merged-laid hs ls (omega arith))
-    ∙ sym (pick-lt (laidOut (insertOf x (inUse (laidOut (insertAll hs ls))))) (laidOut (insertAll hs ls)) (laidOut (insertOf x (insertAll hs ls))) _ 16 w (ap (λ (l : List Lease). laidOut (insertOf x l)) (sym (read-back (insertAll hs ls)))))
-
 abbrev pub insertEach : List (List Lease) → List (List Lease) → List (List Lease)
-insertEach ls hs = map (λ p. insertAll (p .1) (p .0)) (paired ls hs)
+insertEach ls hs = map (λ p. arranged ordered (p .1 ++ p .0)) (paired ls hs)
 
 pub merged-pairs : (n t : ℕ) (xs : List FileLease) (ys : List FileHold) → mergedFrom t n xs ys ≡ insertEach (map (map stored) (apart leaseTenant t n xs)) (map (map storedHold) (apart holdTenant t n ys))
 unfolding mergedFrom apart paired
 merged-pairs zero t xs ys = refl
-merged-pairs (suc n) t xs ys = ap {B = List (List Lease)} (λ (l : List (List Lease)). insertAll (map storedHold (own holdTenant t ys)) (map stored (own leaseTenant t xs)) ∷ l) (merged-pairs n (suc t) xs ys)
+merged-pairs (suc n) t xs ys = ap {B = List (List Lease)} (λ (l : List (List Lease)). arranged ordered (map storedHold (own holdTenant t ys) ++ map stored (own leaseTenant t xs)) ∷ l) (merged-pairs n (suc t) xs ys)
 
 laid-pairs : (n t : ℕ) (xs : List FileLease) (ys : List FileHold) → ((i : ℕ) → i < n → length (own leaseTenant (i + t) xs) + length (own holdTenant (i + t) ys) ≤ 16)
     → mergedAll (map laidOut (map (map stored) (apart leaseTenant t n xs))) (map laidOut (map (map storedHold) (apart holdTenant t n ys))) ≡ map laidOut (mergedFrom t n xs ys)
-unfolding mergedFrom apart paired
+unfolding mergedFrom mergedIn apart paired
 laid-pairs zero t xs ys h = refl
 laid-pairs (suc n) t xs ys h =
     let L : List Lease = map stored (own leaseTenant t xs) in
@@ -186,7 +210,9 @@ laid-pairs (suc n) t xs ys h =
     let c = length-map (own leaseTenant t xs) stored in
     let d = length-map (own holdTenant t ys) storedHold in
     ap₂ {C = List TenantLeases} (λ (x : TenantLeases) (l : List TenantLeases). x ∷ l)
-    (ap (λ (l : List Lease). mergedIn l (laidOut (map stored (own leaseTenant t xs)))) (read-back (map storedHold (own holdTenant t ys))) ∙ merged-laid (map storedHold (own holdTenant t ys)) (map stored (own leaseTenant t xs)) (omega arith))
+    (ap₂ (λ (x y : List Lease). mergedBy ordered x (mergedBy ordered y (laidOut []))) (read-back (map storedHold (own holdTenant t ys))) (read-back (map stored (own leaseTenant t xs)))
+    ∙ ap (mergedBy ordered (map storedHold (own holdTenant t ys))) (merged-none ordered (map stored (own leaseTenant t xs)) (omega arith))
+    ∙ merged-laid ordered (map storedHold (own holdTenant t ys)) (map stored (own leaseTenant t xs)) (omega arith))
     (laid-pairs n (suc t) xs ys (λ i k.
     let e : suc i + t ≡ i + suc t = omega arith in
     let u = ap (λ (k : ℕ). length (own leaseTenant k xs)) e in

@@ -1,7 +1,7 @@
 -- Laws: both sections read and written again, and the records written and read again: each gives the other back. What is written has the sections' formats,
 -- the records can hold it, and it has no more octets than 128 records together.
 use mathlib.Core.Bool.{Bool, false, not, true}
-use mathlib.Core.List.{List, [], _∷_, map}
+use mathlib.Core.List.{List, [], _∷_, _++_, map}
 use mathlib.Core.Path.{_∙_, _≡_, ap, ap₂, refl, subst, sym}
 use Prim.Native.Nat.{_*_, _+_, _<_, _≤_, suc, zero, ℕ}
 use native.Mathlib.Omega.{arith}
@@ -19,18 +19,19 @@ use Rattle.identifier.specs.Order.{orderOf}
 use Rattle.lists.specs.All.{All, allBy, allTo, pairsBy}
 use Rattle.lists.specs.Filter.{filterBy}
 use Rattle.lists.specs.Pick.{pick}
-use Rattle.lists.specs.laws.All.{all-facts, all-map, all-mapped, all-take, all-tests, each-to, one-fact, pairs-map, pairs-same, two-facts}
+use Rattle.lists.specs.laws.All.{all-facts, all-head, all-map, all-mapped, all-take, all-tests, each-to, one-fact, pairs-map, pairs-same, two-facts}
 use Rattle.lists.specs.laws.Filter.{filter-all, filter-both, filter-length, filter-pairs}
-use Rattle.state.specs.Book.{byIdentifier, idOf, inUse, isHold, isLease, laidOut, leasesOf, ordered, tableOf}
+use Rattle.lists.specs.Arranged.{arranged}
+use Rattle.state.specs.Book.{byIdentifier, differ, idOf, inUse, isHold, isLease, laidOut, leasesOf, ordered, tableOf}
 use Rattle.state.specs.declared.Lease.{Lease}
 use Rattle.state.specs.declared.LeaseTable.{LeaseTable}
 use Rattle.state.specs.declared.TenantLeases.{TenantLeases}
 use Rattle.state.specs.laws.Layout.{table-back}
-use Rattle.lease_file.specs.Records.{entryFitB, fewOf, filedEntry, filedHold, filedHolds, filedIn, filedLease, filedLeases, holdFitB, holdTenant, leaseFitB, leaseTenant, mergedFrom, ofKind, recordsFitB, storableB, stored, storedEntry, storedHold, tableOctets}
+use Rattle.lease_file.specs.Records.{entryFitB, fewOf, filedEntry, filedHold, filedHolds, filedIn, filedLease, filedLeases, holdFitB, holdTenant, inFileOrder, leaseFitB, leaseTenant, mergedFrom, ofKind, recordsFitB, storableB, stored, storedEntry, storedHold, tableOctets}
 use Rattle.lease_file.specs.Rows.{lapseOctets, paired}
 use Rattle.lease_file.specs.Section.{Entry, FileHold, FileLease, entriesFormat, entryAfter, entryFormat, entryKey, entryTenant, holdsFormat, isAfter, leaseFormat, leaseIn, leasesFormat}
 use Rattle.lease_file.specs.laws.Load.{fits-parts, insertEach, merged-pairs}
-use Rattle.lease_file.specs.laws.Merge.{merged-holds, merged-leases, merged-split, rises}
+use Rattle.lease_file.specs.laws.Merge.{differ-back, differ-front, arranged-differ, merged-holds, merged-leases, merged-split, named-apart, risen, rises}
 use Rattle.lease_file.specs.laws.Order.{notFirst, order-sorted, own-rises}
 use Rattle.lease_file.specs.laws.Records.{Neat, Storable, all-offsets, entry-again, entry-back, entry-id, entry-kind, entry-storable}
 use Rattle.lease_file.specs.laws.Rows.{entry-long, lease-size}
@@ -60,6 +61,11 @@ module _ (holds : Bool) (xs : List (Entry holds)) (o : entriesFormat holds .ok x
       ∙ filter-all (λ x. ofKind holds (storedEntry holds x)) (λ x. eqb (entryTenant holds x) t) xs
       (all-tests (λ x. ofKind holds (storedEntry holds x)) (λ x. entryFitB holds x ≡ true) xs (entry-kind holds) (all-facts (entryFitB holds) (λ x. entryFitB holds x ≡ true) xs (λ x p. p) e))
 
+-- the lists of a table in the order of the file
+pub filed-lists : (ls : List (List Lease)) → leasesOf (inFileOrder (tableOf ls)) ≡ map (arranged byIdentifier) ls
+unfolding inFileOrder
+filed-lists ls = table-back (map (arranged byIdentifier) (leasesOf (tableOf ls))) ∙ ap (map (arranged byIdentifier)) (table-back ls)
+
 -- both sections put together, and taken apart by kind
 module _ (xs : List FileLease) (ys : List FileHold) (ox : leasesFormat .ok xs) (oy : holdsFormat .ok ys) (e : recordsFitB xs ys ≡ true) where
   ok-false : entriesFormat false .ok xs
@@ -70,41 +76,65 @@ module _ (xs : List FileLease) (ys : List FileHold) (ox : leasesFormat .ok xs) (
   unfolding entryFormat leaseIn
   ok-true = oy
 
-  lease-rows : (n t : ℕ) → map (filterBy isLease) (mergedFrom t n xs ys) ≡ map (map stored) (apart leaseTenant t n xs)
-  unfolding mergedFrom apart storedEntry leaseIn ofKind
-  lease-rows zero t = refl
-  lease-rows (suc n) t =
-      ap₂ {C = List (List Lease)} (λ (l : List Lease) (r : List (List Lease)). l ∷ r)
-      (merged-leases (map storedHold (own holdTenant t ys)) (map stored (own leaseTenant t xs)) (own-risen false xs ok-false (fits-parts xs ys e .0) t)
-      (own-kind true ys ok-true (fits-parts xs ys e .1) t) (own-kind false xs ok-false (fits-parts xs ys e .0) t))
-      (lease-rows n (suc t))
+  module _ (t : ℕ) (d : pairsBy differ (arranged ordered (map storedHold (own holdTenant t ys) ++ map stored (own leaseTenant t xs))) ≡ true) where
+    abbrev H : List Lease
+    H = map storedHold (own holdTenant t ys)
 
-  hold-rows : (n t : ℕ) → map (filterBy isHold) (mergedFrom t n xs ys) ≡ map (map storedHold) (apart holdTenant t n ys)
-  unfolding mergedFrom apart storedEntry leaseIn ofKind
-  hold-rows zero t = refl
-  hold-rows (suc n) t =
-      ap₂ {C = List (List Lease)} (λ (l : List Lease) (r : List (List Lease)). l ∷ r)
-      (merged-holds (map storedHold (own holdTenant t ys)) (map stored (own leaseTenant t xs)) (own-risen false xs ok-false (fits-parts xs ys e .0) t)
-      (own-kind true ys ok-true (fits-parts xs ys e .1) t) (own-kind false xs ok-false (fits-parts xs ys e .0) t) (own-risen true ys ok-true (fits-parts xs ys e .1) t))
-      (hold-rows n (suc t))
+    abbrev L : List Lease
+    L = map stored (own leaseTenant t xs)
 
-  pub leases-again : filedLeases (tableOf (mergedFrom 1 8 xs ys)) ≡ xs
-  unfolding filedLeases storedEntry filedEntry leaseIn
-  leases-again =
-      ap (λ (l : List (List Lease)). filedAll filedLease 1 (map (filterBy isLease) l)) (table-back (mergedFrom 1 8 xs ys)) ∙ ap (filedAll filedLease 1) (lease-rows 8 1)
-      ∙ section-again false xs ok-false (fits-parts xs ys e .0)
+    apart-ids : pairsBy differ (H ++ L) ≡ true
+    apart-ids = sym (arranged-differ ordered (H ++ L)) ∙ d
 
-  pub holds-again : filedHolds (tableOf (mergedFrom 1 8 xs ys)) ≡ ys
-  unfolding filedHolds storedEntry filedEntry leaseIn
-  holds-again =
-      ap (λ (l : List (List Lease)). filedAll filedHold 1 (map (filterBy isHold) l)) (table-back (mergedFrom 1 8 xs ys)) ∙ ap (filedAll filedHold 1) (hold-rows 8 1)
-      ∙ section-again true ys ok-true (fits-parts xs ys e .1)
+    holds-kind : allBy isHold H ≡ true
+    unfolding storedEntry leaseIn ofKind
+    holds-kind = own-kind true ys ok-true (fits-parts xs ys e .1) t
+
+    leases-kind : allBy isLease L ≡ true
+    unfolding storedEntry leaseIn ofKind
+    leases-kind = own-kind false xs ok-false (fits-parts xs ys e .0) t
+
+    own-leases : filterBy isLease (arranged byIdentifier (arranged ordered (H ++ L))) ≡ L
+    unfolding storedEntry leaseIn
+    own-leases = merged-leases H L apart-ids holds-kind leases-kind (risen L (own-risen false xs ok-false (fits-parts xs ys e .0) t) (differ-back H L apart-ids))
+
+    own-holds : filterBy isHold (arranged byIdentifier (arranged ordered (H ++ L))) ≡ H
+    unfolding storedEntry leaseIn
+    own-holds = merged-holds H L apart-ids holds-kind leases-kind (risen H (own-risen true ys ok-true (fits-parts xs ys e .1) t) (differ-front H L apart-ids))
+
+  lease-rows : (n t : ℕ) → allBy (pairsBy differ) (mergedFrom t n xs ys) ≡ true → map (filterBy isLease) (map (arranged byIdentifier) (mergedFrom t n xs ys)) ≡ map (map stored) (apart leaseTenant t n xs)
+  unfolding mergedFrom apart
+  lease-rows zero t d = refl
+  lease-rows (suc n) t d =
+      let p = all-head (pairsBy differ) _ (mergedFrom (suc t) n xs ys) d in
+      ap₂ {C = List (List Lease)} (λ (l : List Lease) (r : List (List Lease)). l ∷ r) (own-leases t (p .0)) (lease-rows n (suc t) (p .1))
+
+  hold-rows : (n t : ℕ) → allBy (pairsBy differ) (mergedFrom t n xs ys) ≡ true → map (filterBy isHold) (map (arranged byIdentifier) (mergedFrom t n xs ys)) ≡ map (map storedHold) (apart holdTenant t n ys)
+  unfolding mergedFrom apart
+  hold-rows zero t d = refl
+  hold-rows (suc n) t d =
+      let p = all-head (pairsBy differ) _ (mergedFrom (suc t) n xs ys) d in
+      ap₂ {C = List (List Lease)} (λ (l : List Lease) (r : List (List Lease)). l ∷ r) (own-holds t (p .0)) (hold-rows n (suc t) (p .1))
+
+  -- in the order of the file; identifiers differ in a sound book (rule 8)
+  module _ (d : allBy (pairsBy differ) (mergedFrom 1 8 xs ys) ≡ true) where
+    pub leases-again : filedLeases (inFileOrder (tableOf (mergedFrom 1 8 xs ys))) ≡ xs
+    unfolding filedLeases storedEntry filedEntry leaseIn
+    leases-again =
+        ap (λ (l : List (List Lease)). filedAll filedLease 1 (map (filterBy isLease) l)) (filed-lists (mergedFrom 1 8 xs ys)) ∙ ap (filedAll filedLease 1) (lease-rows 8 1 d)
+        ∙ section-again false xs ok-false (fits-parts xs ys e .0)
+
+    pub holds-again : filedHolds (inFileOrder (tableOf (mergedFrom 1 8 xs ys))) ≡ ys
+    unfolding filedHolds storedEntry filedEntry leaseIn
+    holds-again =
+        ap (λ (l : List (List Lease)). filedAll filedHold 1 (map (filterBy isHold) l)) (filed-lists (mergedFrom 1 8 xs ys)) ∙ ap (filedAll filedHold 1) (hold-rows 8 1 d)
+        ∙ section-again true ys ok-true (fits-parts xs ys e .1)
 
 -- ---- written and read again
--- a tenant's records, of which those in use are neat and rise, and the others zero
+-- a tenant's records in the order of the file, of which those in use are neat and rise by identifier, and the others zero
 pub record NeatTenant (t : TenantLeases) : Type 0 where
   pub few : length (inUse t) ≤ 16
-  pub rising : pairsBy ordered (inUse t) ≡ true
+  pub rising : pairsBy byIdentifier (inUse t) ≡ true
   pub each : All Neat (inUse t)
   pub laid : laidOut (inUse t) ≡ t
 
@@ -128,15 +158,10 @@ kept-facts t P (x ∷ l) v = go (t x) refl (kept-facts t P l (v .1))
     go true e r = ((v .0, e), r)
     go false e r = r
 
-split-each : (ls : List (List Lease)) → All (λ l. pairsBy ordered l ≡ true) ls → insertEach (map (filterBy isLease) ls) (map (filterBy isHold) ls) ≡ ls
+split-each : (ls : List (List Lease)) → All (λ l. pairsBy byIdentifier l ≡ true) ls → insertEach (map (filterBy isLease) ls) (map (filterBy isHold) ls) ≡ map (arranged ordered) ls
 unfolding All paired
 split-each [] v = refl
-split-each (l ∷ ls) v = ap₂ {C = List (List Lease)} (λ (x : List Lease) (r : List (List Lease)). x ∷ r) (merged-split l (v .0)) (split-each ls (v .1))
-
-laid-each : (ts : List TenantLeases) → All NeatTenant ts → map laidOut (map inUse ts) ≡ ts
-unfolding All
-laid-each [] v = refl
-laid-each (t ∷ ts) v = ap₂ {C = List TenantLeases} (λ (x : TenantLeases) (r : List TenantLeases). x ∷ r) (v .0 .laid) (laid-each ts (v .1))
+split-each (l ∷ ls) v = ap₂ {C = List (List Lease)} (λ (x : List Lease) (r : List (List Lease)). x ∷ r) (merged-split l (named-apart l (v .0))) (split-each ls (v .1))
 
 rows-long : {A B : Type 0} (f : A → B) (i : ℕ) (ls : List (List A)) → length (getD ls i []) ≡ length (getD (map (map f) ls) i [])
 rows-long f i [] = refl
@@ -201,7 +226,7 @@ after-less : (u t : ℕ) (a b : List ℕ) → u < t → isAfter u a t b ≡ fals
 unfolding isAfter pick
 after-less u t a b h = ap (λ (c : Bool). pick c false (pick (ltb t u) true (eqb (orderOf a b) 2))) (lt-ltb u t h)
 
-after-same : (t : ℕ) (x y : Lease) → ordered x y ≡ true → isAfter t (idOf x) t (idOf y) ≡ false
+after-same : (t : ℕ) (x y : Lease) → byIdentifier x y ≡ true → isAfter t (idOf x) t (idOf y) ≡ false
 unfolding isAfter pick byIdentifier
 after-same t x y e =
     let z : orderOf (idOf x) (idOf y) ≡ 0 = eqb-true _ _ e in
@@ -210,7 +235,7 @@ after-same t x y e =
 after-later : (holds : Bool) (k : ℕ × List ℕ) (t : ℕ) (l : Lease) → k .0 < t → entryAfter holds k (filedEntry holds t l) ≡ false
 after-later holds k t l h = ap (λ (u : ℕ). isAfter (k .0) (k .1) u (leaseIn holds (filedEntry holds t l) .id)) (filed-tenant holds t l) ∙ after-less (k .0) t (k .1) (leaseIn holds (filedEntry holds t l) .id) h
 
-after-next : (holds : Bool) (t : ℕ) (x y : Lease) → ordered x y ≡ true → entryAfter holds (entryKey holds (filedEntry holds t x)) (filedEntry holds t y) ≡ false
+after-next : (holds : Bool) (t : ℕ) (x y : Lease) → byIdentifier x y ≡ true → entryAfter holds (entryKey holds (filedEntry holds t x)) (filedEntry holds t y) ≡ false
 unfolding filedEntry filedHold filedLease leaseIn
 after-next true t x y e = after-same t x y e
 after-next false t x y e = after-same t x y e
@@ -248,13 +273,11 @@ module _ (b : LeaseTable) (eight : length (b .tenants) ≡ 8) (v : All NeatTenan
   unfolding storedEntry leaseIn filedIn ofKind
   hold-rows-back = apart-back true
 
-  pub table-again : tableOf (mergedFrom 1 8 (filedLeases b) (filedHolds b)) ≡ b
-  unfolding tableOf
+  -- they are read in the order of records
+  pub table-again : tableOf (mergedFrom 1 8 (filedLeases b) (filedHolds b)) ≡ tableOf (map (arranged ordered) (leasesOf b))
   table-again =
-      ap {B = LeaseTable} (λ (l : List TenantLeases). record { tenants = l })
-      (ap (map laidOut) (merged-pairs 8 1 (filedLeases b) (filedHolds b) ∙ ap₂ insertEach lease-rows-back hold-rows-back
-      ∙ split-each (leasesOf b) (all-mapped (λ l. pairsBy ordered l ≡ true) inUse (b .tenants) (one-fact NeatTenant (λ t. pairsBy ordered (inUse t) ≡ true) (b .tenants) (λ t p. p .rising) v)))
-      ∙ laid-each (b .tenants) v)
+      ap tableOf (merged-pairs 8 1 (filedLeases b) (filedHolds b) ∙ ap₂ insertEach lease-rows-back hold-rows-back
+      ∙ split-each (leasesOf b) (all-mapped (λ l. pairsBy byIdentifier l ≡ true) inUse (b .tenants) (one-fact NeatTenant (λ t. pairsBy byIdentifier (inUse t) ≡ true) (b .tenants) (λ t p. p .rising) v)))
 
   -- ---- the records can hold what is written of them
   own-long : (i : ℕ) → i < 8 → length (own leaseTenant (i + 1) (filedLeases b)) + length (own holdTenant (i + 1) (filedHolds b)) ≡ length (getD (leasesOf b) i [])
@@ -295,9 +318,9 @@ module _ (b : LeaseTable) (eight : length (b .tenants) ≡ 8) (v : All NeatTenan
 
     section-ordered : (holds : Bool) → orderedFrom (entryKey holds) (entryAfter holds) (0, []) (filedAll (filedEntry holds) 1 (rowsOf holds (b .tenants))) ≡ true
     section-ordered holds =
-        filed-ordered (filedEntry holds) (entryKey holds) (entryAfter holds) (λ k t. k .0 < t) ordered (after-later holds) (after-next holds)
+        filed-ordered (filedEntry holds) (entryKey holds) (entryAfter holds) (λ k t. k .0 < t) byIdentifier (after-later holds) (after-next holds)
         (λ t y. let e = filed-tenant holds t y in omega arith) (λ k t h. omega arith) (0, []) 1 (rowsOf holds (b .tenants)) (omega arith)
-        (rows-each holds NeatTenant (λ l. pairsBy ordered l ≡ true) (b .tenants) (λ t p. filter-pairs ordered (ofKind holds) (inUse t) (p .rising)) v)
+        (rows-each holds NeatTenant (λ l. pairsBy byIdentifier l ≡ true) (b .tenants) (λ t p. filter-pairs byIdentifier (ofKind holds) (inUse t) (p .rising)) v)
 
     section-ok : (holds : Bool) → entriesFormat holds .ok (filedIn holds b)
     section-ok holds =

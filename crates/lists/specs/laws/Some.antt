@@ -8,7 +8,8 @@ use lib.ListN.{length, length-append}
 use Rattle.lists.specs.All.{allBy, pairsBy}
 use Rattle.lists.specs.laws.All.{all-head, all-cons, pairs-head, pairs-cons}
 use Rattle.lists.specs.Filter.{filterBy}
-use Rattle.lists.specs.laws.Reordered.{Reordered, reordered-all, reordered-pairs, reordered-length}
+use Rattle.lists.specs.Reordered.{Reordered}
+use Rattle.lists.specs.laws.Reordered.{reordered-all, reordered-pairs, reordered-length}
 use Rattle.lists.specs.laws.Arranged.{split-reordered}
 
 -- y is x without z

@@ -26,7 +26,8 @@ drop-ended-spec =
     (λ c. search (drops, not-true, not-false, unmapped, needs))  -- src/lib.rt:266:9 add-h
     (λ c κs. search (drops, needs))  -- src/lib.rt:267:13 ends-after-requires
     (λ c κs. search (drops, not-true, not-false, unmapped, needs))  -- src/lib.rt:268:17 row-requires
-    (λ c κs. search (drops, needs))  -- src/lib.rt:269:17 live-leases-requires
+    (λ c κs. search (drops, needs))  -- src/lib.rt:269:21 ended-count-requires
+    (λ c κs. search (drops, needs))  -- src/lib.rt:270:24 rest-from-requires
     (λ c κs. search (drops, not-true, not-false, unmapped, needs))  -- src/lib.rt:270:13 put-row-requires
     (λ c κs. search (drops, needs))  -- src/lib.rt:271:17 held-sets-requires
     (λ c. search (drops, not-true, not-false, unmapped, needs))  -- src/lib.rt:272:13 mul-g

@@ -9,7 +9,7 @@ use lib.ListN.{length, getD, length-map, set}
 use lib.Seq.{set-getD}
 use Rattle.lists.specs.Pick.{pick}
 use Rattle.lists.specs.laws.Row.{at-in}
-use Rattle.lists.specs.All.{All, allBy}
+use Rattle.lists.specs.All.{All, allBy, pairsBy}
 use Rattle.message.specs.Read.{readOf}
 use Rattle.reply.specs.Reply.{leastRoom}
 use Rattle.occupancy.specs.declared.Board.{Board}
@@ -22,10 +22,12 @@ use Rattle.state.specs.declared.Memory.{Memory}
 use Rattle.state.specs.declared.State.{State}
 use Rattle.state.specs.declared.TenantLeases.{TenantLeases}
 use Rattle.state.specs.declared.TenantReleases.{TenantReleases}
-use Rattle.state.specs.Book.{Book, advanced, cleared, dropped, idOf, inUse, insertedIn, laidOut, laidReleases, leasesOf, liveOf, putAt, raised, releasesAt, remembered, removeOf, tableOf, tenantAt, boardWith, boardWithout}
+use Rattle.state.specs.Book.{Book, advanced, cleared, dropped, idOf, inUse, insertedIn, laidOut, laidReleases, leasesOf, liveOf, ordered, putAt, raised, releasesAt, remembered, removeOf, tableOf, tenantAt, boardWith, boardWithout}
 use Rattle.state.specs.Board.{builtOf}
-use Rattle.state.specs.Edit.{applied, boardEdited, boardLeft, editedIn, forgetOf, leftIn, noted, notedIn, rememberOf}
+use Rattle.state.specs.laws.Edit.{applied}
+use Rattle.state.specs.Edit.{boardEdited, boardLeft, editedIn, forgetOf, leftIn, noted, notedIn, rememberOf, appliedBy, editedBy}
 use Rattle.state.specs.laws.Layout.{advanced-is, table-back}
+use Rattle.soundness.specs.laws.Book.{sound-rises}
 use Rattle.soundness.specs.declared.HeldTable.{HeldTable}
 use Rattle.agreement.specs.Agrees.{agreesB}
 use Rattle.agreement.specs.laws.Agrees.{made-agrees}
@@ -116,7 +118,7 @@ or-none false true e = absurd (true≢false e)
 or-none false false e = (refl, refl)
 
 idle : (e : Edit) (h : ℕ) (b : LeaseTable) → e .leaves ≡ false → e .enters ≡ false → applied e h b ≡ b
-unfolding applied editedIn leftIn pick
+unfolding appliedBy editedBy leftIn pick
 idle e h b p q =
     ap₂ (λ (x y : Bool). putAt b h (pick y (insertedIn (e .new) (pick x gone own)) (pick x gone own))) p q
     ∙ ap {B = LeaseTable} (λ (x : List TenantLeases). record { tenants = x }) (set-getD (b .tenants) h (laidOut []))
@@ -174,7 +176,7 @@ module _ (g : Ledger) (ls : List Lease) (client : ℕ) (d : List ℕ) (size : le
         → i ≡ notedIn (r .edit) q → j ≡ boardEdited (r .edit) h (g .memory .board)
         → (names : List ℕ) → JudgesRecords (lentJudgement (judgeClock (bookFrom g ls names) client d))
         (record { ruling = r .ruling; clock = g .state .clock; memory = record { releases = set (g .memory .releases) h i; board = j }; records = z })
-    unfolding applied noted
+    unfolding appliedBy noted
     at-edited {t} a b c k =
         edits (ap₂ {C = Memory} (λ (i : TenantReleases) (j : Board). record { releases = set (g .memory .releases) h i; board = j }) (c ∙ ap (notedIn (r .edit)) u) k)
         (b .0 ∙ put-row-is ls h t size (omega (arith, f, p)) ∙ ap (λ (k : TenantLeases). recordsOf (putAt (tableFrom ls) h k)) (a ∙ ap (editedIn (r .edit)) o)) (b .1)
@@ -257,8 +259,8 @@ module _ (g : Ledger) (ls : List Lease) (names : List ℕ) (time : ℕ) {s′ : 
       pub idle-book : bookFrom (then (g .memory .board)) ls names ≡ advanced (bookFrom g ls names) time
       idle-book = advanced-now ls (g .memory .board) same same-board
 
-    pub drop-ready : (tableFrom ls ≡ tableOf (leasesOf (tableFrom ls))) × (c .rules .held ≡ holdingsOf (tableFrom ls))
-    drop-ready = (laid, held-from (g .state) (tableFrom ls) (c .rules) (v .0))
+    pub drop-ready : (tableFrom ls ≡ tableOf (leasesOf (tableFrom ls))) × (c .rules .held ≡ holdingsOf (tableFrom ls)) × (allBy (pairsBy ordered) (leasesOf (tableFrom ls)) ≡ true)
+    drop-ready = (laid, held-from (g .state) (tableFrom ls) (c .rules) (v .0), sound-rises (g .state) (tableFrom ls) sound)
 
     module _ {d : Dropped} (u : Drops (s′ .clock) ls (g .memory .board) d) where
       live : soundB s′ (dropped (s′ .clock) (tableFrom ls)) ≡ true

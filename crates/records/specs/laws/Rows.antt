@@ -26,14 +26,17 @@ use Rattle.state.specs.declared.Memory.{Memory}
 use Rattle.state.specs.declared.State.{State}
 use Rattle.state.specs.declared.TenantLeases.{TenantLeases}
 use Rattle.state.specs.declared.TenantReleases.{TenantReleases}
-use Rattle.state.specs.Book.{cleared, clearedTo, dropped, endedOf, inUse, laidOut, leasesOf, live, liveOf, noLeases, ordered, putAt, tableOf, tenantAt, boardWith, boardWithout, zeroLease}
+use Rattle.state.specs.Book.{cleared, clearedTo, dropped, endedFront, endedOf, inUse, laidOut, leasesOf, live, liveOf, noLeases, ordered, putAt, tableOf, tenantAt, boardWith, boardWithout, zeroLease}
 use Rattle.state.specs.Board.{builtOf, builtTo}
 use Rattle.lists.specs.laws.Row.{at-in}
 use Rattle.state.specs.laws.Layout.{dropped-is, endedIn, noLease, read-back}
+use Rattle.state.specs.laws.Sorted.{front-ended, rest-live}
+use Rattle.agreement.specs.laws.Tenants.{at-tenant}
+use Rattle.soundness.specs.laws.Added.{rises-at}
 use Rattle.soundness.specs.declared.Held.{Held}
 use Rattle.soundness.specs.declared.HeldTable.{HeldTable}
 use Rattle.soundness.specs.declared.TableRules.{TableRules}
-use Rattle.soundness.specs.Sound.{layoutB, paddedB, rule19, rulesOf, settingsB, soundB, unusedB}
+use Rattle.soundness.specs.Sound.{layoutB, paddedB, settingsB, soundB, unusedB, layoutBy, rule19By, rulesBy}
 use Rattle.soundness.specs.Parts.{addedTenant, firstEnd, heldSets, holdingsOf, noHeld, noTenants}
 use Rattle.soundness.specs.laws.Book.{rules-of}
 use Rattle.releases.specs.declared.ReleaseRules.{ReleaseRules}
@@ -143,7 +146,7 @@ abbrev pub Long : Lease → Type 0
 Long l = length (l .id) ≡ 32
 
 row-laid : (r : List Lease) → length r ≡ 16 → All Long r → layoutB (tenantFrom r) ≡ true → laidOut (inUse (tenantFrom r)) ≡ tenantFrom r
-unfolding laidOut tenantFrom layoutB
+unfolding laidOut tenantFrom layoutBy
 row-laid r e v q =
     ap₂ {C = TenantLeases} (λ (l : List Lease) (n : ℕ). record { leases = l; count = n }) whole count
   where
@@ -171,7 +174,7 @@ rows-laid (suc n) ls e v q =
     (rows-laid n (drop 16 ls) (length-drop 16 ls ∙ (let c : length ls - 16 ≡ 16 * n = omega arith in c)) (all-drop Long 16 ls v) (p .1))
 
 pub sound-laid : (s : State) (ls : List Lease) → length ls ≡ 128 → All Long ls → soundB s (tableFrom ls) ≡ true → tableFrom ls ≡ tableOf (leasesOf (tableFrom ls))
-unfolding tableFrom tableOf rulesOf rule19
+unfolding tableFrom tableOf rulesBy rule19By
 sound-laid s ls e v q =
     ap {B = LeaseTable} (λ (x : List TenantLeases). record { tenants = x })
     (rows-laid 8 ls e v (and-parts (settingsB s) (allBy layoutB (map tenantFrom (rows 8 ls))) (rules-of s (tableFrom ls) q .layout) .1))
@@ -216,11 +219,12 @@ pub record DropInv (clock : ℕ) (b : LeaseTable) (x : Board) (now : List Lease)
   pub board : y ≡ clearedTo clock b x h
   pub size : length now ≡ 128
   pub laid : b ≡ tableOf (leasesOf b)
+  pub rises : allBy (pairsBy ordered) (leasesOf b) ≡ true
 
-pub drop-start : {clock : ℕ} {ls : List Lease} {held : HeldTable} {x : Board} → length ls ≡ 128 → tableFrom ls ≡ tableOf (leasesOf (tableFrom ls)) → held ≡ holdingsOf (tableFrom ls)
+pub drop-start : {clock : ℕ} {ls : List Lease} {held : HeldTable} {x : Board} → length ls ≡ 128 → tableFrom ls ≡ tableOf (leasesOf (tableFrom ls)) → held ≡ holdingsOf (tableFrom ls) → allBy (pairsBy ordered) (leasesOf (tableFrom ls)) ≡ true
     → DropInv clock (tableFrom ls) x ls (held .tenants) x 0
 unfolding tableFrom holdingsOf clearedTo
-drop-start {ls = ls} e v q = record {
+drop-start {ls = ls} e v q rises = record {
   tenants = map tenantFrom (rows 8 ls);
   each = each-start (length-map (rows 8 ls) tenantFrom ∙ rows-length 8 ls);
   sixteen = rows-sixteen 8 ls e;
@@ -229,6 +233,7 @@ drop-start {ls = ls} e v q = record {
   board = refl;
   size = e;
   laid = v;
+  rises = rises;
 }
 
 all-set : {A : Type 0} (P : A → Type 0) (l : List A) (i : ℕ) (x : A) → All P l → P x → All P (set l i x)
@@ -253,19 +258,26 @@ module _ {clock : ℕ} {b : LeaseTable} {x : Board} {now : List Lease} {held : L
       (length-map (take h (b .tenants)) (endedIn clock) ∙ length-take-le h (b .tenants) (let e = v .each .long in omega arith))
 
   -- its leases that ended go
-  pub drop-ended : {t left : TenantLeases} {r : List Lease} {g : Held} {z : Board} → h < 8 → t ≡ tenantAt b h → left ≡ laidOut (liveOf clock (inUse t)) → length (left .leases) ≡ 16
-      → (r ≡ putRow now h (left .leases)) × (length r ≡ 128) → g ≡ heldSets left → z ≡ fold (boardWithout h) y (endedOf clock (inUse t)) → DropInv clock b x r (set held h g) z (h + 1)
+  own-rises : {t : TenantLeases} → t ≡ tenantAt b h → pairsBy ordered (inUse t) ≡ true
+  own-rises e = ap (λ (l : TenantLeases). pairsBy ordered (inUse l)) e ∙ ap (pairsBy ordered) (at-tenant b h) ∙ rises-at ordered (leasesOf b) h (v .rises)
+
+  pub drop-ended : {t left : TenantLeases} {n : ℕ} {r : List Lease} {g : Held} {z : Board} → h < 8 → t ≡ tenantAt b h → n ≡ endedFront clock (inUse t) → left ≡ laidOut (drop n (inUse t)) → length (left .leases) ≡ 16
+      → (r ≡ putRow now h (left .leases)) × (length r ≡ 128) → g ≡ heldSets left → z ≡ fold (boardWithout h) y (take n (inUse t)) → DropInv clock b x r (set held h g) z (h + 1)
   unfolding clearedTo
-  drop-ended {t} {left} p e q z w u d = record {
-    tenants = set (v .tenants) h left;
-    each = each-next (v .each) p (q ∙ ap (endedIn clock) (own p e));
-    sixteen = all-set Sixteen (v .tenants) h left (v .sixteen) z;
-    records = w .0 ∙ ap (λ (x : List Lease). putRow x h (left .leases)) (v .records) ∙ put-rows (v .tenants) h left (v .sixteen) (let k = long in omega arith);
-    sets = ap₂ {C = List Held} (λ (x : List Held) (y : Held). set x h y) (v .sets) u ∙ map-set heldSets (v .tenants) h left;
-    board = d ∙ ap₂ (λ (k : Board) (l : TenantLeases). fold (boardWithout h) k (endedOf clock (inUse l))) (v .board) e ∙ ap (clearedTo clock b x) (sym (add-one h));
-    size = w .1;
-    laid = v .laid;
-  }
+  drop-ended {t} {left} {n} {z = k} p e en el z w u ed =
+      let q : left ≡ laidOut (liveOf clock (inUse t)) = el ∙ ap (λ (i : ℕ). laidOut (drop i (inUse t))) en ∙ ap laidOut (rest-live clock (inUse t) (own-rises e)) in
+      let d : k ≡ fold (boardWithout h) y (endedOf clock (inUse t)) = ed ∙ ap (λ (i : ℕ). fold (boardWithout h) y (take i (inUse t))) en ∙ ap (fold (boardWithout h) y) (front-ended clock (inUse t) (own-rises e)) in
+      record {
+        tenants = set (v .tenants) h left;
+        each = each-next (v .each) p (q ∙ ap (endedIn clock) (own p e));
+        sixteen = all-set Sixteen (v .tenants) h left (v .sixteen) z;
+        records = w .0 ∙ ap (λ (x : List Lease). putRow x h (left .leases)) (v .records) ∙ put-rows (v .tenants) h left (v .sixteen) (let k = long in omega arith);
+        sets = ap₂ {C = List Held} (λ (x : List Held) (y : Held). set x h y) (v .sets) u ∙ map-set heldSets (v .tenants) h left;
+        board = d ∙ ap₂ (λ (k : Board) (l : TenantLeases). fold (boardWithout h) k (endedOf clock (inUse l))) (v .board) e ∙ ap (clearedTo clock b x) (sym (add-one h));
+        size = w .1;
+        laid = v .laid;
+        rises = v .rises;
+      }
 
   -- none ended
   pub drop-none : {all : HeldTable} {g : Held} {q : Bool} → h < 8 → all ≡ holdingsOf b → g ≡ getD (all .tenants) h noHeld → q ≡ endsAfter clock g → q ≡ true
@@ -280,6 +292,7 @@ module _ {clock : ℕ} {b : LeaseTable} {x : Board} {now : List Lease} {held : L
     board = v .board ∙ sym (clear-none clock b x h first) ∙ ap (clearedTo clock b x) (sym (add-one h));
     size = v .size;
     laid = v .laid;
+    rises = v .rises;
   }
     where
       t : TenantLeases

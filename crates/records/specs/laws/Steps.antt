@@ -13,7 +13,7 @@ use Rattle.state.specs.declared.Lease.{Lease}
 use Rattle.state.specs.declared.LeaseTable.{LeaseTable}
 use Rattle.state.specs.declared.Ledger.{Ledger}
 use Rattle.state.specs.declared.TenantLeases.{TenantLeases}
-use Rattle.state.specs.Book.{inUse, insertOf, insertedIn, laidOut, placeOf, putAt, removeOf, tenantAt}
+use Rattle.state.specs.Book.{inUse, insertOf, insertedIn, laidOut, placeOf, putAt, removeOf, tenantAt, insertedBy}
 use Rattle.lists.specs.laws.Row.{at-out}
 use Rattle.decision.specs.Parts.{ownOf}
 use Rattle.state_file.specs.declared.Loaded.{Loaded}
@@ -79,7 +79,7 @@ module _ (n h : ℕ) (ls : List Lease) where
   module _ (l : Lease) where
     pub insert-in : {own x : TenantLeases} {k : ℕ} {m : List Lease} → n ≡ 128 → h < 8 → length ls ≡ 128 → own ≡ tenantAt (tableFrom ls) h → k ≡ length (inUse own) → k < 16
         → x ≡ insertedIn l own → m ≡ putRow ls h (x .leases) → m ≡ insertWith n h l ls
-    unfolding insertWith insertedIn pick
+    unfolding insertWith insertedBy pick
     insert-in {own = own} e f z b c g d j =
         put-in (insertOf l) z f b (d ∙ ap (λ (t : Bool). pick t (laidOut (insertOf l (inUse own))) own) (lt-ltb _ 16 (subst-lt c g))) j
         ∙ sym (ap (λ (t : Bool). pick t (inserted l) ls) (lt-ltb _ 16 (subst-lt (c ∙ ap (λ (y : TenantLeases). length (inUse y)) b) g)))

@@ -23,8 +23,9 @@ use Rattle.state.specs.declared.Memory.{Memory}
 use Rattle.state.specs.declared.Release.{Release}
 use Rattle.state.specs.declared.TenantLeases.{TenantLeases}
 use Rattle.state.specs.declared.TenantReleases.{TenantReleases}
-use Rattle.state.specs.Book.{Book, differ, idOf, inUse, insertOf, insertedIn, isHold, laidOut, laidReleases, leaseAt, leaseWith, other, otherRelease, releaseId, releasesAt, remembered, removeOf, tenantAt, zeroLease, zeroRelease}
-use Rattle.state.specs.Edit.{applied, droppingFirst, editedBook, editedIn, entering, forgetOf, givingWay, leaving, leftIn, noEdit, noted, notedIn, releaseOf, rememberOf}
+use Rattle.state.specs.Book.{Book, differ, idOf, inUse, insertOf, insertedIn, isHold, laidOut, laidReleases, leaseAt, leaseWith, other, otherRelease, releaseId, releasesAt, remembered, removeOf, tenantAt, zeroLease, zeroRelease, insertedBy}
+use Rattle.state.specs.laws.Edit.{applied}
+use Rattle.state.specs.Edit.{droppingFirst, editedBook, editedIn, entering, forgetOf, givingWay, leaving, leftIn, noEdit, noted, notedIn, releaseOf, rememberOf, appliedBy, editedBy}
 use Rattle.state.specs.laws.Edited.{applied-others, edited-none}
 use Rattle.state.specs.laws.Layout.{read-back, releases-back}
 use Rattle.state.specs.laws.Sorted.{differ-turn, insert-same}
@@ -47,7 +48,7 @@ unfolding noted
 noted-own e h m p = getD-set-same (m .releases) h (notedIn e (releasesAt m h)) (laidReleases []) p
 
 applied-own : (e : Edit) (h : ℕ) (t : LeaseTable) → h < length (t .tenants) → tenantAt (applied e h t) h ≡ editedIn e (tenantAt t h)
-unfolding applied
+unfolding appliedBy
 applied-own e h t p = getD-set-same (t .tenants) h (editedIn e (tenantAt t h)) (laidOut []) p
 
 -- ---- lists
@@ -184,7 +185,7 @@ remember-good clock ls r q len fill now free new v =
 
 -- ---- the leases after an edit: those that were there, and the new one
 edited-all : (u : Lease → Bool) (e : Edit) (t : TenantLeases) → u (e .new) ≡ true → allBy u (inUse t) ≡ true → allBy u (inUse (editedIn e t)) ≡ true
-unfolding editedIn leftIn insertedIn pick removeOf
+unfolding editedBy leftIn insertedBy pick removeOf
 edited-all u e t new h = enter (e .enters) (pick (e .leaves) (laidOut (removeOf (idOf (e .old)) (inUse t))) t) (leave (e .leaves))
   where
     laid : (l : List Lease) → allBy u l ≡ true → allBy u (inUse (laidOut l)) ≡ true
@@ -203,7 +204,7 @@ edited-all u e t new h = enter (e .enters) (pick (e .leaves) (laidOut (removeOf 
     enter false x p = p
 
 left-is : (o : Lease) (x c : ℕ) (t : TenantLeases) → inUse (editedIn (leaving o x c) t) ≡ removeOf (idOf o) (inUse t)
-unfolding editedIn leftIn pick
+unfolding editedBy leftIn pick
 left-is o x c t = read-back (removeOf (idOf o) (inUse t))
 
 -- ---- the book
@@ -259,7 +260,7 @@ module _ (b : Book) (h : ℕ) (known : h < tenantsIn (b .state)) (there : h < le
 
   -- a hold is dropped, and nothing else
   pub dropping-kept : (o : Lease) → memoryGood (editedBook (droppingFirst o noEdit) h b) ≡ true
-  unfolding editedIn leftIn notedIn pick notLeased removeOf
+  unfolding editedBy leftIn notedIn pick notLeased removeOf
   dropping-kept o =
       edited-kept (droppingFirst o noEdit)
       (subst (λ (ls : List Lease). HoldsAt b h ls (releasesAt (b .memory) h)) (sym (left-is o 0 0 (tenantAt (b .table) h)))

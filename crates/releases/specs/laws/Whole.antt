@@ -20,6 +20,7 @@ use Rattle.state.specs.Book.{Book, advanced, dropped, inUse, laidOut, leasesOf,
 use Rattle.state.specs.Board.{boardOf}
 use Rattle.state.specs.laws.Layout.{read-back}
 use Rattle.soundness.specs.Sound.{soundB, tenantsIn}
+use Rattle.soundness.specs.laws.Book.{sound-lists}
 use Rattle.soundness.specs.laws.Kept.{advanced-sound}
 use Rattle.agreement.specs.laws.Agrees.{advanced-agrees, agrees-is}
 use Rattle.releases.specs.Rules.{differs, ownLeases, notLeased, onceB, pastB, rulesAt}
@@ -129,4 +130,4 @@ advanced-memory b time e =
 pub advanced-book : (b : Book) (time : ℕ) → bookB b ≡ true → bookB (advanced b time) ≡ true
 advanced-book b time v =
     both-book (advanced b time) (advanced-sound b time (book-sound b v)) (advanced-memory b time (book-remembers b v))
-    (advanced-agrees b time (book-sound b v) (book-agrees b v)) (advanced-named b time (book-named b v))
+    (advanced-agrees b time (sound-lists (b .state) (b .table) (book-sound b v)) (book-agrees b v)) (advanced-named b time (book-named b v))

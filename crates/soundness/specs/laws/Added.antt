@@ -18,17 +18,18 @@ use Rattle.lists.specs.laws.Filter.{filter-all, filter-pairs, filter-passes}
 use Rattle.lists.specs.laws.Sums.{sum-same}
 use Rattle.state.specs.declared.Lease.{Lease}
 use Rattle.state.specs.declared.State.{State}
-use Rattle.state.specs.Book.{idOf, differ, ordered, other, placeOf, leaseAt, insertOf, removeOf, addressesOf, unionAll, overlaps, inScope, heldOf, heldCount, scopeAt, reserveAt, limitAt, heldAt, committed, committedSum}
+use Rattle.state.specs.Book.{Order, idOf, differ, other, placeOf, leaseAt, insertOf, removeOf, addressesOf, unionAll, overlaps, inScope, heldOf, heldCount, scopeAt, reserveAt, limitAt, heldAt, committed, committedSum}
 use Rattle.state.specs.laws.Sets.{adds, addresses-cons, addresses-reordered, insert-addresses}
 use Rattle.address_set.specs.AddressSet.{offsets}
-use Rattle.state.specs.laws.Sorted.{differ-turn, insert-same, insert-rises, others-differ, taken-out}
-use Rattle.lists.specs.laws.Reordered.{Reordered, reordered-length, reordered-all, reordered-pairs}
+use Rattle.state.specs.laws.Sorted.{differ-turn, insert-same, others-differ, taken-out}
+use Rattle.lists.specs.Reordered.{Reordered}
+use Rattle.lists.specs.laws.Reordered.{reordered-length, reordered-all, reordered-pairs}
 use Rattle.address_set.specs.laws.Bits.{and-or}
 use Rattle.soundness.specs.Sound.{tenantsIn, scopesIn, disjoint, apartIn, apart, compatible}
 use Rattle.soundness.specs.laws.Book.{leaseOk, pairOk, fewLeases, noLeasesB, Sound}
 
 -- ---- lists with one element changed
-all-set : {A : Type 0} (t : A → Bool) (l : List A) (h : ℕ) (x : A) → t x ≡ true → allBy t l ≡ true → allBy t (set l h x) ≡ true
+pub all-set : {A : Type 0} (t : A → Bool) (l : List A) (h : ℕ) (x : A) → t x ≡ true → allBy t l ≡ true → allBy t (set l h x) ≡ true
 all-set t [] h x p q = q
 all-set t (y ∷ l) zero x p q = all-cons t x l p (all-head t y l q .1)
 all-set t (y ∷ l) (suc h) x p q = let r = all-head t y l q in all-cons t y (set l h x) (r .0) (all-set t l h x p (r .1))
@@ -102,12 +103,12 @@ module _ (s : State) (ls : List (List Lease)) (v : Sound s ls) (h : ℕ) where
   unfolding pairsBy
   pairs-at = sound-at (pairsBy pairOk) ls h refl (v .pairs)
 
-  pub rises-at : pairsBy ordered (getD ls h []) ≡ true
-  unfolding pairsBy
-  rises-at = sound-at (pairsBy ordered) ls h refl (v .rises)
-
   pub few-at : length (getD ls h []) ≤ 16
   few-at = leb-true _ _ (sound-at fewLeases ls h refl (v .few))
+
+pub rises-at : (o : Order) (ls : List (List Lease)) (h : ℕ) → allBy (pairsBy o) ls ≡ true → pairsBy o (getD ls h []) ≡ true
+unfolding pairsBy
+rises-at o ls h rises = sound-at (pairsBy o) ls h refl rises
 
 -- two tenants of a sound book have no address in common
 apart-none : (x : List Lease) → apart x [] ≡ true
@@ -129,17 +130,16 @@ owners-at s ls v h g n = pairs-two ls h g n (v .owners)
 
 -- ---- one tenant's leases give way to others
 pub sound-put : (s : State) (ls : List (List Lease)) (h : ℕ) (x : List Lease) → Sound s ls → h < tenantsIn s → h < length ls
-    → fewLeases x ≡ true → allBy (leaseOk s) x ≡ true → pairsBy pairOk x ≡ true → pairsBy ordered x ≡ true
+    → fewLeases x ≡ true → allBy (leaseOk s) x ≡ true → pairsBy pairOk x ≡ true
     → ((g : ℕ) → (g ≡ h → ⊥) → apart x (getD ls g []) ≡ true)
     → ((k : ℕ) → k < scopesIn s → heldCount (k + 1) x ≤ limitAt (scopeAt s k) h)
     → ((k : ℕ) → k < scopesIn s → committedSum (scopeAt s k) (tenantsIn s) (heldAt (set ls h x) (k + 1)) ≤ scopeAt s k .size)
     → Sound s (set ls h x)
-sound-put s ls h x v known there few each pairs rises owners holdings commitments = record {
+sound-put s ls h x v known there few each pairs owners holdings commitments = record {
   settings = v .settings;
   few = all-set fewLeases ls h x few (v .few);
   each = all-set (allBy (leaseOk s)) ls h x each (v .each);
   pairs = all-set (pairsBy pairOk) ls h x pairs (v .pairs);
-  rises = all-set (pairsBy ordered) ls h x rises (v .rises);
   tenants = ap (allBy noLeasesB) (drop-set ls (tenantsIn s) h x known) ∙ v .tenants;
   owners = pairs-set apart apart-turn [] ls h x owners (v .owners);
   holdings = λ k g p q. at k g p q (eqb g h) refl;
@@ -175,19 +175,19 @@ apart-inserted l x y e f =
 
 -- a lease that a tenant gains, wherever it stands among the others
 pub sound-gained : (s : State) (ls : List (List Lease)) (h : ℕ) (l : Lease) (y : List Lease) → Sound s ls → h < tenantsIn s → h < length ls
-    → Reordered y (l ∷ getD ls h []) → pairsBy ordered y ≡ true
+    → Reordered y (l ∷ getD ls h [])
     → length (getD ls h []) < 16 → leaseOk s l ≡ true → allBy (other (idOf l)) (getD ls h []) ≡ true → allBy (compatible l) (getD ls h []) ≡ true
     → ((g : ℕ) → (g ≡ h → ⊥) → apart y (getD ls g []) ≡ true)
     → ((k : ℕ) → k < scopesIn s → heldCount (k + 1) y ≤ limitAt (scopeAt s k) h)
     → ((k : ℕ) → k < scopesIn s → committedSum (scopeAt s k) (tenantsIn s) (heldAt (set ls h y) (k + 1)) ≤ scopeAt s k .size)
     → Sound s (set ls h y)
 unfolding pairOk
-sound-gained s ls h l y v known there d rises room lease-ok new compatible-ok owners holdings commitments =
+sound-gained s ls h l y v known there d room lease-ok new compatible-ok owners holdings commitments =
     let x : List Lease = getD ls h [] in
     sound-put s ls h y v known there (le-leb (length y) 16 (let e = reordered-length d in omega arith))
     (reordered-all (leaseOk s) d ∙ all-cons (leaseOk s) l x lease-ok (each-at s ls v h))
     (reordered-pairs pairOk pair-turn d ∙ pairs-cons pairOk l x (all-and (differ l) (compatible l) x ∙ and-both (sym (others-differ l x) ∙ new) compatible-ok) (pairs-at s ls v h))
-    rises owners holdings commitments
+    owners holdings commitments
 
 -- a grant, in its place
 pub sound-inserted : (s : State) (ls : List (List Lease)) (h : ℕ) (l : Lease) → Sound s ls → h < tenantsIn s → h < length ls
@@ -197,7 +197,7 @@ pub sound-inserted : (s : State) (ls : List (List Lease)) (h : ℕ) (l : Lease) 
     → ((k : ℕ) → k < scopesIn s → committedSum (scopeAt s k) (tenantsIn s) (heldAt (set ls h (insertOf l (getD ls h []))) (k + 1)) ≤ scopeAt s k .size)
     → Sound s (set ls h (insertOf l (getD ls h [])))
 sound-inserted s ls h l v known there room lease-ok new compatible-ok =
-    sound-gained s ls h l (insertOf l (getD ls h [])) v known there (insert-same l (getD ls h [])) (insert-rises l (getD ls h []) new (rises-at s ls v h)) room lease-ok new compatible-ok
+    sound-gained s ls h l (insertOf l (getD ls h [])) v known there (insert-same l (getD ls h [])) room lease-ok new compatible-ok
 
 -- ---- a renewed lease: one of the same scope and addresses takes its place
 module _ (s : State) (ls : List (List Lease)) (h : ℕ) (i : List ℕ) (l : Lease) (v : Sound s ls) (known : h < tenantsIn s) (there : h < length ls)
@@ -256,10 +256,6 @@ module _ (s : State) (ls : List (List Lease)) (h : ℕ) (i : List ℕ) (l : Leas
   unfolding removeOf
   rest-pairs = filter-pairs pairOk (other i) own (pairs-at s ls v h)
 
-  rest-rises : pairsBy ordered rest ≡ true
-  unfolding removeOf
-  rest-rises = filter-pairs ordered (other i) own (rises-at s ls v h)
-
   new-pairs : allBy (compatible l) rest ≡ true → allBy (pairOk l) rest ≡ true
   unfolding pairOk
   new-pairs c = all-and (differ l) (compatible l) rest ∙ and-both (sym (others-differ l rest) ∙ others) c
@@ -271,7 +267,6 @@ module _ (s : State) (ls : List (List Lease)) (h : ℕ) (i : List ℕ) (l : Leas
       (le-leb (length new) 16 (let a = reordered-length out in let b = reordered-length (insert-same l rest) in let d = few-at s ls v h in omega arith))
       (reordered-all (leaseOk s) (insert-same l rest) ∙ all-cons (leaseOk s) l rest ok rest-each)
       (reordered-pairs pairOk pair-turn (insert-same l rest) ∙ pairs-cons pairOk l rest (new-pairs c) rest-pairs)
-      (insert-rises l rest others rest-rises)
       (λ g n. renewed-apart (getD ls g []) ∙ owners-at s ls v h g n)
       (λ k q. subst (λ (m : ℕ). length (offsets m) ≤ limitAt (scopeAt s k) h) (sym (renewed-held (k + 1))) (v .holdings k h q known))
       (λ k q. subst (λ (m : ℕ). m ≤ scopeAt s k .size)

@@ -16,10 +16,10 @@ use Rattle.lists.specs.laws.Both.{and-parts, and-both, all-and, pairs-and}
 use Rattle.state.specs.declared.Lease.{Lease}
 use Rattle.state.specs.declared.LeaseTable.{LeaseTable}
 use Rattle.state.specs.declared.State.{State}
-use Rattle.state.specs.Book.{differ, zeroLease, inUse, laidOut, leasesOf, tableOf, ordered, scopeAt, limitAt, heldAt, committedSum}
+use Rattle.state.specs.Book.{Order, differ, zeroLease, inUse, laidOut, leasesOf, tableOf, ordered, scopeAt, limitAt, heldAt, committedSum}
 use Rattle.state.specs.laws.Layout.{read-back, table-back}
 use Rattle.soundness.specs.declared.Rules.{Rules}
-use Rattle.soundness.specs.Sound.{tenantsIn, scopesIn, idB, recordsB, countsB, rule1, offsetsB, rule2, rule3, rule4, rule5, rule6, leaseB, noneB, tenantsB, rule7, rule8, apart, rule9, compatible, rule10, limitB, limitsB, rule11, committedB, rule12, zeroFrom, paddedB, blankB, unusedB, layoutB, settingsB, rulesOf, firstLate, firstRule, firstBroken, brokenOf, soundB, rule19, holdB, rule13}
+use Rattle.soundness.specs.Sound.{tenantsIn, scopesIn, idB, recordsB, countsB, rule1, offsetsB, rule2, rule3, rule4, rule5, rule6, leaseB, noneB, tenantsB, rule7, rule8, apart, rule9, compatible, rule10, limitB, limitsB, rule11, committedB, rule12, zeroFrom, paddedB, blankB, unusedB, settingsB, rulesOf, firstLate, firstRule, firstBroken, soundB, holdB, rule13, brokenBy, layoutBy, rule19By, rulesBy, soundBy}
 use Rattle.soundness.specs.laws.Code.{drop-map, first-none}
 
 -- ---- the facts
@@ -41,12 +41,12 @@ fewLeases l = leb (length l) 16
 abbrev pub noLeasesB : List Lease → Bool
 noLeasesB l = eqb (length l) 0
 
+-- all but the order of the records
 pub record Sound (s : State) (ls : List (List Lease)) : Type 0 where
   pub settings : settingsOk s ≡ true
   pub few : allBy fewLeases ls ≡ true
   pub each : allBy (allBy (leaseOk s)) ls ≡ true
   pub pairs : allBy (pairsBy pairOk) ls ≡ true
-  pub rises : allBy (pairsBy ordered) ls ≡ true
   pub tenants : allBy noLeasesB (drop (tenantsIn s) ls) ≡ true
   pub owners : pairsBy apart ls ≡ true
   pub holdings : (k g : ℕ) → k < scopesIn s → g < tenantsIn s → heldAt ls (k + 1) g ≤ limitAt (scopeAt s k) g
@@ -129,13 +129,16 @@ rules-hold r a =
 all-hold : (r : Rules) → AllRules r → firstBroken r ≡ 0
 all-hold r a = sym (first-none r (sym (rules-hold r a)) refl (a .layout))
 
-pub rules-of : (s : State) (t : LeaseTable) → soundB s t ≡ true → AllRules (rulesOf s t)
-unfolding soundB brokenOf
-rules-of s t e = none-broken (rulesOf s t) (eqb-true _ _ e)
+rules-by : (o : Order) (s : State) (t : LeaseTable) → soundBy o s t ≡ true → AllRules (rulesBy o s t)
+unfolding soundBy brokenBy
+rules-by o s t e = none-broken (rulesBy o s t) (eqb-true _ _ e)
 
-pub of-rules : (s : State) (t : LeaseTable) → AllRules (rulesOf s t) → soundB s t ≡ true
-unfolding soundB brokenOf
-of-rules s t a = eq-eqb _ _ (all-hold (rulesOf s t) a)
+by-rules : (o : Order) (s : State) (t : LeaseTable) → AllRules (rulesBy o s t) → soundBy o s t ≡ true
+unfolding soundBy brokenBy
+by-rules o s t a = eq-eqb _ _ (all-hold (rulesBy o s t) a)
+
+pub rules-of : (s : State) (t : LeaseTable) → soundB s t ≡ true → AllRules (rulesOf s t)
+rules-of s t e = rules-by ordered s t e
 
 -- ---- laid out records
 unused-zeros : (k : ℕ) → allBy unusedB (replicate k zeroLease) ≡ true
@@ -150,12 +153,12 @@ records-laid : (l : List Lease) → recordsB (laidOut l) ≡ (fewLeases l && all
 unfolding recordsB laidOut
 records-laid l = ap (λ (x : List Lease). leb (length l) 16 && allBy idB x) (read-back l)
 
-layout-laid : (l : List Lease) → layoutB (laidOut l) ≡ (pairsBy ordered l && allBy paddedB l)
-unfolding layoutB laidOut
-layout-laid l =
-    ap (λ (x : List Lease). pairsBy ordered x && (allBy paddedB x && allBy unusedB (drop (length l) (l ++ replicate (16 - length l) zeroLease)))) (read-back l)
-    ∙ ap (λ (b : Bool). pairsBy ordered l && (allBy paddedB l && b)) (ap (allBy unusedB) (drop-at l (replicate (16 - length l) zeroLease) (length l) refl) ∙ unused-zeros (16 - length l))
-    ∙ ap (λ (b : Bool). pairsBy ordered l && b) (true-r (allBy paddedB l))
+layout-laid : (o : Order) (l : List Lease) → layoutBy o (laidOut l) ≡ (pairsBy o l && allBy paddedB l)
+unfolding layoutBy laidOut
+layout-laid o l =
+    ap (λ (x : List Lease). pairsBy o x && (allBy paddedB x && allBy unusedB (drop (length l) (l ++ replicate (16 - length l) zeroLease)))) (read-back l)
+    ∙ ap (λ (b : Bool). pairsBy o l && (allBy paddedB l && b)) (ap (allBy unusedB) (drop-at l (replicate (16 - length l) zeroLease) (length l) refl) ∙ unused-zeros (16 - length l))
+    ∙ ap (λ (b : Bool). pairsBy o l && b) (true-r (allBy paddedB l))
   where
     true-r : (b : Bool) → (b && true) ≡ b
     true-r true = refl
@@ -184,17 +187,17 @@ unfolding pairOk
 pairs-is ls = all-same (pairsBy (λ a b. differ a b && compatible a b)) (λ l. pairsBy differ l && pairsBy compatible l) ls (pairs-and differ compatible) ∙ all-and (pairsBy differ) (pairsBy compatible) ls
 
 -- ---- a sound book has sound lists
-module _ (s : State) (t : LeaseTable) (a : AllRules (rulesOf s t)) where
+module _ (o : Order) (s : State) (t : LeaseTable) (a : AllRules (rulesBy o s t)) where
   counted : (countsB s ≡ true) × (allBy recordsB (t .tenants) ≡ true)
-  unfolding rulesOf rule1
+  unfolding rulesBy rule1
   counted = and-parts _ _ (a .limits)
 
   known : (tenantsB s t ≡ true) × (allBy (allBy (leaseB s)) (leasesOf t) ≡ true)
-  unfolding rulesOf rule7
+  unfolding rulesBy rule7
   known = and-parts _ _ (a .leases)
 
-  laid : (settingsB s ≡ true) × (allBy layoutB (t .tenants) ≡ true)
-  unfolding rulesOf rule19
+  laid : (settingsB s ≡ true) × (allBy (layoutBy o) (t .tenants) ≡ true)
+  unfolding rulesBy rule19By
   laid = and-parts _ _ (a .layout)
 
   few-from : allBy fewLeases (leasesOf t) ≡ true
@@ -205,13 +208,13 @@ module _ (s : State) (t : LeaseTable) (a : AllRules (rulesOf s t)) where
   unfolding recordsB
   ids-from = through recordsB (allBy idB) inUse (t .tenants) (λ x p. and-parts (leb (x .count) 16) (allBy idB (inUse x)) p .1) (counted .1)
 
-  ordered-from : allBy (pairsBy ordered) (leasesOf t) ≡ true
-  unfolding layoutB
-  ordered-from = through layoutB (pairsBy ordered) inUse (t .tenants) (λ x p. and-parts (pairsBy ordered (inUse x)) _ p .0) (laid .1)
+  ordered-from : allBy (pairsBy o) (leasesOf t) ≡ true
+  unfolding layoutBy
+  ordered-from = through (layoutBy o) (pairsBy o) inUse (t .tenants) (λ x p. and-parts (pairsBy o (inUse x)) _ p .0) (laid .1)
 
   padded-from : allBy (allBy paddedB) (leasesOf t) ≡ true
-  unfolding layoutB
-  padded-from = through layoutB (allBy paddedB) inUse (t .tenants) (λ x p. and-parts (allBy paddedB (inUse x)) _ (and-parts (pairsBy ordered (inUse x)) _ p .1) .0) (laid .1)
+  unfolding layoutBy
+  padded-from = through (layoutBy o) (allBy paddedB) inUse (t .tenants) (λ x p. and-parts (allBy paddedB (inUse x)) _ (and-parts (pairsBy o (inUse x)) _ p .1) .0) (laid .1)
 
   tenants-from : allBy noLeasesB (drop (tenantsIn s) (leasesOf t)) ≡ true
   unfolding tenantsB noneB
@@ -220,25 +223,34 @@ module _ (s : State) (t : LeaseTable) (a : AllRules (rulesOf s t)) where
       ∙ through noneB noLeasesB inUse (drop (tenantsIn s) (t .tenants)) (λ x p. let h = eqb-true (x .count) 0 p in eq-eqb (length (inUse x)) 0 (let k = length-take (x .count) (x .leases) in omega arith)) (known .0)
 
   settings-from : settingsOk s ≡ true
-  unfolding rulesOf settingsOk
+  unfolding rulesBy settingsOk
   settings-from = and-both (and-both (counted .0) (and-both (a .ranges) (a .pools))) (and-both (a .ttls) (and-both (a .reserves) (laid .0)))
 
-  pub lists-of : Sound s (leasesOf t)
-  unfolding rulesOf rule2 rule8 rule9 rule10 rule11 limitsB limitB rule12 committedB rule13
+  lists-of : Sound s (leasesOf t)
+  unfolding rulesBy rule2 rule8 rule9 rule10 rule11 limitsB limitB rule12 committedB rule13
   lists-of = record {
     settings = settings-from;
     few = few-from;
     each = each-is s (leasesOf t) ∙ and-both (and-both ids-from (a .offsets)) (and-both (known .1) (and-both padded-from (a .holds)));
     pairs = pairs-is (leasesOf t) ∙ and-both (a .identifiers) (a .periods);
-    rises = ordered-from;
     tenants = tenants-from;
     owners = a .owners;
     holdings = λ k g p q. leb-true _ _ (to-each (limitB t (scopeAt s k) (k + 1)) (tenantsIn s) (to-each (limitsB s t) (scopesIn s) (a .holdings) k p) g q);
     commitments = λ k p. leb-true _ _ (to-each (committedB s t) (scopesIn s) (a .commitments) k p);
   }
 
+pub lists-by : (o : Order) (s : State) (t : LeaseTable) → soundBy o s t ≡ true → Sound s (leasesOf t)
+lists-by o s t e = lists-of o s t (rules-by o s t e)
+
+-- and its records rise
+pub rises-by : (o : Order) (s : State) (t : LeaseTable) → soundBy o s t ≡ true → allBy (pairsBy o) (leasesOf t) ≡ true
+rises-by o s t e = ordered-from o s t (rules-by o s t e)
+
 pub sound-lists : (s : State) (t : LeaseTable) → soundB s t ≡ true → Sound s (leasesOf t)
-sound-lists s t e = lists-of s t (rules-of s t e)
+sound-lists s t e = lists-by ordered s t e
+
+pub sound-rises : (s : State) (t : LeaseTable) → soundB s t ≡ true → allBy (pairsBy ordered) (leasesOf t) ≡ true
+sound-rises s t e = rises-by ordered s t e
 
 -- ---- sound lists, laid out, are a sound book
 module _ (s : State) (ls : List (List Lease)) (v : Sound s ls) where
@@ -277,19 +289,19 @@ module _ (s : State) (ls : List (List Lease)) (v : Sound s ls) where
       all-map recordsB laidOut ls ∙ all-same (λ l. recordsB (laidOut l)) (λ l. fewLeases l && allBy idB l) ls records-laid ∙ all-and fewLeases (allBy idB) ls
       ∙ and-both (v .few) ids-to
 
-  layout-to : allBy layoutB (tableOf ls .tenants) ≡ true
+  layout-to : (o : Order) → allBy (pairsBy o) ls ≡ true → allBy (layoutBy o) (tableOf ls .tenants) ≡ true
   unfolding tableOf
-  layout-to =
-      all-map layoutB laidOut ls ∙ all-same (λ l. layoutB (laidOut l)) (λ l. pairsBy ordered l && allBy paddedB l) ls layout-laid ∙ all-and (pairsBy ordered) (allBy paddedB) ls
-      ∙ and-both (v .rises) (marks-to .0)
+  layout-to o rises =
+      all-map (layoutBy o) laidOut ls ∙ all-same (λ l. layoutBy o (laidOut l)) (λ l. pairsBy o l && allBy paddedB l) ls (layout-laid o) ∙ all-and (pairsBy o) (allBy paddedB) ls
+      ∙ and-both rises (marks-to .0)
 
   tenants-to : tenantsB s (tableOf ls) ≡ true
   unfolding tenantsB tableOf noneB laidOut
   tenants-to = ap (allBy noneB) (drop-map laidOut (tenantsIn s) ls) ∙ all-map noneB laidOut (drop (tenantsIn s) ls) ∙ v .tenants
 
-  pub rules-to : AllRules (rulesOf s (tableOf ls))
-  unfolding rulesOf rule1 rule2 rule7 rule8 rule9 rule10 rule11 limitsB limitB rule12 committedB rule13 rule19
-  rules-to = record {
+  rules-to : (o : Order) → allBy (pairsBy o) ls ≡ true → AllRules (rulesBy o s (tableOf ls))
+  unfolding rulesBy rule1 rule2 rule7 rule8 rule9 rule10 rule11 limitsB limitB rule12 committedB rule13 rule19By
+  rules-to o rises = record {
     limits = and-both (settings-front .0) records-to;
     offsets = ap (allBy (allBy (offsetsB s))) back ∙ offsets-to;
     ranges = and-parts (rule3 s) (rule4 s) (settings-front .1) .0;
@@ -305,8 +317,11 @@ module _ (s : State) (ls : List (List Lease)) (v : Sound s ls) where
     commitments = each-to (committedB s (tableOf ls)) (scopesIn s) (λ k p.
         ap (λ (x : List (List Lease)). leb (committedSum (scopeAt s k) (tenantsIn s) (heldAt x (k + 1))) (scopeAt s k .size)) back ∙ le-leb _ _ (v .commitments k p));
     holds = ap (allBy (allBy (holdB (s .clock)))) back ∙ marks-to .1;
-    layout = and-both (and-parts (rule6 s) (settingsB s) (settings-back .1) .1) layout-to;
+    layout = and-both (and-parts (rule6 s) (settingsB s) (settings-back .1) .1) (layout-to o rises);
   }
 
-pub lists-sound : (s : State) (ls : List (List Lease)) → Sound s ls → soundB s (tableOf ls) ≡ true
-lists-sound s ls v = of-rules s (tableOf ls) (rules-to s ls v)
+pub by-lists : (o : Order) (s : State) (ls : List (List Lease)) → Sound s ls → allBy (pairsBy o) ls ≡ true → soundBy o s (tableOf ls) ≡ true
+by-lists o s ls v rises = by-rules o s (tableOf ls) (rules-to s ls v o rises)
+
+pub lists-sound : (s : State) (ls : List (List Lease)) → Sound s ls → allBy (pairsBy ordered) ls ≡ true → soundB s (tableOf ls) ≡ true
+lists-sound s ls v rises = by-lists ordered s ls v rises

@@ -3,7 +3,7 @@ use Prim.Native.Nat.{ℕ, zero, suc, _+_, _-_, _^_, _≤_, _<_, min, max}
 use mathlib.Core.Bool.{Bool, _&&_, true, false, not}
 use mathlib.Core.List.{List, [], _∷_, map}
 use lib.Dec.{leb, eqb, ltb}
-use lib.ListN.{length, drop, getD, take, drop-of-length-le}
+use lib.ListN.{length, drop, getD, take, drop-of-length-le, length-take}
 use Rattle.lists.specs.All.{allBy, pairsBy, allTo}
 use Rattle.address_set.specs.AddressSet.{offsets, setOf, upTo}
 use Rattle.state.specs.declared.Lease.{Lease}
@@ -12,7 +12,7 @@ use Rattle.state.specs.declared.LeaseTable.{LeaseTable}
 use Rattle.state.specs.declared.Scope.{Scope}
 use Rattle.state.specs.declared.ClientRange.{ClientRange}
 use Rattle.state.specs.declared.State.{State}
-use Rattle.state.specs.Book.{differ, inUse, inScope, heldOf, addedIf, scopeAt, limitAt, committedSum, byIdentifier, idOf, ordered, scopesOf, addressesOf, unionAll, reserveAt, committed, until}
+use Rattle.state.specs.Book.{differ, inUse, inScope, heldOf, addedIf, scopeAt, limitAt, committedSum, idOf, ordered, scopesOf, addressesOf, unionAll, reserveAt, committed, until}
 use Rattle.soundness.specs.declared.ScopeRules.{ScopeRules}
 use Rattle.soundness.specs.declared.TenantRules.{TenantRules}
 use Rattle.soundness.specs.declared.TableRules.{TableRules}
@@ -22,11 +22,11 @@ use Rattle.soundness.specs.declared.HoldingRules.{HoldingRules}
 use Rattle.soundness.specs.declared.LoadRules.{LoadRules}
 use Rattle.soundness.specs.declared.Held.{Held}
 use Rattle.soundness.specs.declared.HeldTable.{HeldTable}
-use Rattle.soundness.specs.Sound.{tenantsIn, scopesIn, sizeB, countsB, idB, recordsB, offsetsB, rule3, poolB, rule4, ttlB, rule5, reservesB, rule6, leaseB, tenantsB, rule9, compatible, rule11, rule12, layoutB, paddedB, tailB, settingsB, oneTo, zeroFrom, belowB, scopeOf, unusedB, rule1, rule2, poolsApart, rule7, rule8, rule10, rangeZero, scopeZero, rulesOf, firstRule, firstBroken, brokenOf, soundB, noneB, apart, holding, limitB, limitsB, committedB, rule19, holdB, rule13}
+use Rattle.soundness.specs.Sound.{tenantsIn, scopesIn, sizeB, countsB, idB, recordsB, offsetsB, rule3, poolB, rule4, ttlB, rule5, reservesB, rule6, leaseB, tenantsB, rule9, compatible, rule11, rule12, layoutB, paddedB, tailB, settingsB, oneTo, zeroFrom, belowB, scopeOf, unusedB, rule1, rule2, poolsApart, rule7, rule8, rule10, rangeZero, scopeZero, rulesOf, firstRule, firstBroken, brokenOf, soundB, noneB, apart, holding, limitB, limitsB, committedB, holdB, rule13, brokenBy, layoutBy, rule19By, rulesBy, soundBy}
 use mathlib.Core.Path.{_≡_, refl, sym, ap, ap₂, _∙_, subst}
 use native.Mathlib.Omega.{arith}
 use lib.Bits.{bitOr, or-add-and, and-le-r, and-le-l, or-zero-r}
-use lib.Seq.{drop-cons}
+use lib.Seq.{drop-cons, take-take}
 use native.Mathlib.Numerals.{add-one}
 use lib.Pow.{pow-pos, pow-mono}
 use borrow.Author.Tests.{eq-eqb, ne-eqb, eqb-true, eqb-false, lt-ltb, ltb-true, ltb-false, le-leb, lt-leb, leb-true, leb-false, not-false, not-true}
@@ -37,12 +37,13 @@ use Rattle.lists.specs.laws.All.{to-same, all-map, pairs-map, pairs-same, all-b
 use Rattle.lists.specs.Filter.{filterBy}
 use Rattle.state.specs.laws.Sets.{added-is}
 use Rattle.state.specs.laws.Sorted.{rising}
-use Rattle.identifier.specs.Order.{orderOf, sameOf}
+use Rattle.identifier.specs.Order.{numberFrom, Octets, sameOf}
+use Rattle.identifier.specs.laws.Order.{same-true}
 use Rattle.address_set.specs.laws.Bits.{length-offsets}
 use Rattle.address_set.specs.laws.Offsets.{upTo-ones, below-bits}
 use Rattle.lists.specs.laws.Next.{NextInv, next-start, next-is-pairs}
 use Rattle.lists.specs.laws.Sums.{sum-same}
-use Rattle.soundness.specs.Parts.{scopeRulesOf, andScopes, scopesAll, tenantRulesOf, bothTenants, addedSets, noneH, holdingRulesIn, tableRulesOf, joinedRules, tenantsAll, noHeld, heldSets, holdingsOf, setAt, apartSets, sizeIn, countIn, limitIn, limitsIn, committedIn, settingsRulesOf, firstEnd}
+use Rattle.soundness.specs.Parts.{scopeRulesOf, andScopes, scopesAll, tenantRulesOf, bothTenants, addedSets, noneH, holdingRulesIn, tableRulesOf, joinedRules, tenantsAll, noHeld, heldSets, holdingsOf, setAt, apartSets, sizeIn, countIn, limitIn, limitsIn, committedIn, settingsRulesOf, firstEnd, unlike, wordOf}
 
 abbrev pub noRange : ClientRange
 noRange = record { low = 0; high = 0 }
@@ -201,10 +202,17 @@ differ-yes a b e n = ap not (sym n ∙ e)
 pub rise-start : {d : Lease} {l : List Lease} {n : ℕ} (x k : ℕ) → n ≡ min x k → length l ≡ k → NextInv ordered d l n (pairsBy ordered (take x l)) 0
 rise-start {d = d} {l = l} {n = n} x k e g = subst (λ (w : Bool). NextInv ordered d l n w 0) (next-is-pairs ordered (rising .trans) (take x l)) (next-start x k e g)
 
--- what rises differs
-apart-names : (a b : Lease) → ordered a b ≡ true → differ a b ≡ true
-unfolding byIdentifier differ sameOf
-apart-names a b p = let z = eqb-true (orderOf (idOf a) (idOf b)) 0 p in ap not (ne-eqb (orderOf (idOf a) (idOf b)) 1 (λ e. absurd (omega arith)))
+-- identifiers whose first octets differ
+unlike-differ : (a b : Lease) → unlike (wordOf a) (wordOf b) ≡ true → differ a b ≡ true
+unfolding unlike wordOf differ
+unlike-differ a b p = go (sameOf (idOf a) (idOf b)) refl
+  where
+    word : List ℕ → ℕ
+    word i = pick (leb 8 (length i)) (numberFrom 0 (take 8 i)) 0
+
+    go : (c : Bool) → sameOf (idOf a) (idOf b) ≡ c → not c ≡ true
+    go true e = absurd (eqb-false (word (idOf a)) (word (idOf b)) (not-true _ p) (ap word (same-true (idOf a) (idOf b) e)))
+    go false e = refl
 
 pairs-imply : {A : Type 0} (t u : A → A → Bool) (l : List A) → ((x y : A) → t x y ≡ true → u x y ≡ true) → pairsBy t l ≡ true → pairsBy u l ≡ true
 unfolding pairsBy
@@ -213,8 +221,31 @@ pairs-imply t u (x ∷ l) f h =
     let p = pairs-head t x l h in
     pairs-cons u x l (all-both (t x) (t x) (u x) l (λ y a b. f x y a) (p .0) (p .0)) (pairs-imply t u l f (p .1))
 
-pub rise-differ : (l : List Lease) {r : Bool} → r ≡ pairsBy ordered l → r ≡ true → true ≡ pairsBy differ l
-rise-differ l e h = sym (pairs-imply ordered differ l apart-names (sym e ∙ h))
+take-map : {A B : Type 0} (f : A → B) (n : ℕ) (l : List A) → take n (map f l) ≡ map f (take n l)
+take-map f zero l = refl
+take-map f (suc n) [] = refl
+take-map {B = B} f (suc n) (x ∷ l) = ap {B = List B} (λ (r : List B). f x ∷ r) (take-map f n l)
+
+pub words-differ : (t : TenantLeases) {w : List ℕ} {r : Bool} → w ≡ map wordOf (t .leases) → r ≡ pairsBy unlike (take (t .count) w) → r ≡ true → true ≡ pairsBy differ (inUse t)
+words-differ t {w} {r} e p h =
+    sym (pairs-imply (λ a b. unlike (wordOf a) (wordOf b)) differ (inUse t) unlike-differ
+    (sym (pairs-map unlike wordOf (inUse t)) ∙ ap (pairsBy unlike) (sym (ap (take (t .count)) e ∙ take-map wordOf (t .count) (t .leases))) ∙ sym p ∙ h))
+
+pub word-long : (l : Lease) {x : ℕ} → 8 ≤ l .«id_len» → length (l .id) ≡ 32 → (x ≡ numberFrom 0 (take 8 (drop 0 (l .id)))) × Octets (take 8 (drop 0 (l .id))) → x ≡ wordOf l
+unfolding wordOf pick
+word-long l h n e =
+    let k = length-take (l .«id_len») (l .id) in
+    e .0 ∙ ap (numberFrom 0) (sym (take-take 8 (l .«id_len») (l .id) h)) ∙ sym (ap (λ (b : Bool). pick b (numberFrom 0 (take 8 (idOf l))) 0) (le-leb 8 (length (idOf l)) (omega arith)))
+
+pub word-short : (l : Lease) → l .«id_len» < 8 → 0 ≡ wordOf l
+unfolding wordOf pick
+word-short l h =
+    let k = length-take (l .«id_len») (l .id) in
+    sym (ap (λ (b : Bool). pick b (numberFrom 0 (take 8 (idOf l))) 0) (lt-leb 8 (length (idOf l)) (omega arith)))
+
+pub unlike-is : (a b : ℕ) → not (eqb a b) ≡ unlike a b
+unfolding unlike
+unlike-is a b = refl
 
 -- ---- tenants
 seven : {p p′ q q′ u u′ w w′ r r′ t t′ v v′ : Bool} → p ≡ p′ → q ≡ q′ → u ≡ u′ → w ≡ w′ → r ≡ r′ → t ≡ t′ → v ≡ v′
@@ -270,7 +301,7 @@ pub tenant-is : (s : State) (t : TenantLeases) {rising ids padded p q u x r v w 
     → r ≡ pairsBy differ (inUse t) → v ≡ pairsBy compatible (inUse t)
     → w ≡ (rising && (padded && allBy unusedB (drop (t .count) (t .leases))))
     → _≡_ {A = TenantRules} (record { records = p; offsets = q; leases = u; holds = x; identifiers = r; periods = v; layout = w }) (tenantRulesOf s t)
-unfolding tenantRulesOf recordsB layoutB
+unfolding tenantRulesOf recordsB layoutBy
 tenant-is s t ei ep er p q u x r v w =
     seven (p ∙ ap (λ (x : Bool). leb (t .count) 16 && x) ei) q u x r v (w ∙ ap₂ (λ (x y : Bool). x && (y && allBy unusedB (drop (t .count) (t .leases)))) er ep)
 
@@ -493,7 +524,7 @@ unfolding joinedRules
 joined-is a b c p q r = cc
 
 joined-all : (s : State) (t : LeaseTable) → joinedRules (settingsRulesOf s) (tenantsAll s t) (holdingRulesOf s t) ≡ rulesOf s t
-unfolding joinedRules rulesOf settingsRulesOf tenantsAll holdingRulesOf rule1 rule2 rule7 rule8 rule10 rule13 rule19
+unfolding joinedRules rulesBy settingsRulesOf tenantsAll holdingRulesOf rule1 rule2 rule7 rule8 rule10 rule13 rule19By
 joined-all s t = refl
 
 pub rules-are : (s : State) (t : LeaseTable) (a : SettingsRules) (b : TableRules) (c : HoldingRules) {r : Rules}
@@ -520,9 +551,9 @@ module _ (r : Rules) {n : ℕ} (e : n ≡ firstRule r) where
 pub ruleset firsts = (first-file, first-layout, first-none, not-true, not-false)
 
 pub broken-is : (s : State) (t : LeaseTable) (r : Rules) {x : ℕ} → r ≡ rulesOf s t → x ≡ firstBroken r → x ≡ brokenOf s t
-unfolding brokenOf
+unfolding brokenBy
 broken-is s t r e p = p ∙ ap firstBroken e
 
 pub sound-is : (s : State) (t : LeaseTable) {x : ℕ} → x ≡ brokenOf s t → eqb x 0 ≡ soundB s t
-unfolding soundB
+unfolding soundBy
 sound-is s t e = ap (λ (x : ℕ). eqb x 0) e

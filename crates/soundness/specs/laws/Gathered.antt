@@ -7,23 +7,22 @@ use native.Mathlib.Omega.{arith}
 use lib.Dec.{leb, ltb}
 use lib.Bits.{bitOr}
 use lib.ListN.{length, take, drop, getD, List·getD-eq-default, drop-of-length-le}
-use borrow.Author.Tests.{eq-eqb, ltb-true, leb-true, leb-false}
+use borrow.Author.Tests.{ltb-true, leb-true, leb-false}
 use Rattle.lists.specs.Pick.{pick}
 use Rattle.lists.specs.Fold.{fold}
 use Rattle.lists.specs.All.{allBy, pairsBy}
 use Rattle.lists.specs.laws.All.{all-cons, all-both, pairs-cons}
 use Rattle.lists.specs.laws.Next.{NextInv, next-next, next-end}
 use Rattle.lists.specs.laws.Both.{and-parts, and-both}
-use Rattle.identifier.specs.Order.{orderOf, numberFrom, Octets}
-use Rattle.identifier.specs.laws.Word.{word-less}
 use Rattle.address_set.specs.AddressSet.{bit, setOf, upTo}
 use Rattle.address_set.specs.laws.Bits.{bit-or}
 use Rattle.state.specs.declared.Lease.{Lease}
 use Rattle.state.specs.declared.TenantLeases.{TenantLeases}
 use Rattle.state.specs.declared.Scope.{Scope}
 use Rattle.state.specs.declared.State.{State}
-use Rattle.state.specs.Book.{differ, inUse, inScope, overlaps, addedIf, ordered, byIdentifier, idOf, scopeAt, zeroScope}
+use Rattle.state.specs.Book.{differ, inUse, inScope, overlaps, addedIf, ordered, scopeAt, until, zeroScope}
 use Rattle.state.specs.laws.Layout.{noLease}
+use Rattle.state.specs.laws.Sorted.{early}
 use Rattle.soundness.specs.declared.Held.{Held}
 use Rattle.soundness.specs.declared.TenantRules.{TenantRules}
 use Rattle.soundness.specs.declared.Gathered.{Gathered}
@@ -173,16 +172,9 @@ lease-added s g l ei eo eu ew ep ef eh a b c k d e =
     gathered-same (a ∙ ap (λ (x : Bool). g .ids && x) ei) (b ∙ ap (λ (x : Bool). g .offsets && x) eo) (c ∙ ap (λ (x : Bool). g .leases && x) eu) (k ∙ ap (λ (x : Bool). g .holds && x) ew) (d ∙ ap (λ (x : Bool). g .padded && x) ep) eh
     (e ∙ ap (λ (x : Bool). g .apart && x) ef)
 
--- ---- identifiers whose first eight octets rise
-pub swift-yes : (a b : Lease) {x y : ℕ} → 8 ≤ a .«id_len» → 8 ≤ b .«id_len» → length (a .id) ≡ 32 → length (b .id) ≡ 32
-    → x ≡ numberFrom 0 (take 8 (drop 0 (a .id))) → y ≡ numberFrom 0 (take 8 (drop 0 (b .id))) → Octets (take 8 (drop 0 (a .id))) → Octets (take 8 (drop 0 (b .id)))
-    → ltb x y ≡ true → ordered a b ≡ true
-unfolding byIdentifier
-swift-yes a b {x = x} {y = y} h g la lb ex ey oa ob e =
-    eq-eqb (orderOf (idOf a) (idOf b)) 0 (sym (word-less (a .id) (b .id) (a .«id_len») (b .«id_len») refl refl (omega arith) (omega arith) la lb ex ey oa ob (ltb-true x y e)))
-
-pub no-claim : {P : Type 0} → false ≡ true → P
-no-claim e = absurd (let z : _≡_ {A = ℕ} 0 1 = cc in omega arith)
+-- ---- ends that rise
+pub swift-yes : (a b : Lease) {x y : ℕ} → x ≡ until a → y ≡ until b → ltb x y ≡ true → ordered a b ≡ true
+swift-yes a b {x = x} {y = y} ex ey e = early a b (let h = ltb-true x y e in omega arith)
 
 pub claimed : (r w : Bool) → r ≡ true → (r ≡ true → true ≡ w) → true ≡ w
 claimed r w e f = f e

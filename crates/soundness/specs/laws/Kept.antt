@@ -15,17 +15,17 @@ use Rattle.lists.specs.laws.Both.{and-parts, and-both}
 use Rattle.lists.specs.Pick.{pick}
 use Rattle.lists.specs.Filter.{filterBy}
 use Rattle.lists.specs.laws.Filter.{filter-all, filter-pairs, filter-passes}
-use Rattle.lists.specs.laws.Reordered.{Reordered}
+use Rattle.lists.specs.Reordered.{Reordered}
 use Rattle.lists.specs.laws.Some.{Part, part-all, part-pairs, part-length, filter-part}
 use Rattle.lists.specs.Sums.{sumTo}
 use Rattle.address_set.specs.AddressSet.{bit, keep, offsetsFrom, offsets}
 use Rattle.address_set.specs.laws.Bits.{bit-or, bit-and, bit-eq, bit-of-zero}
 use Rattle.state.specs.declared.Lease.{Lease}
 use Rattle.state.specs.declared.State.{State}
-use Rattle.state.specs.Book.{Book, leasesOf, ordered, other, removeOf, live, liveOf, withClock, raised, dropped, advanced, heldOf, heldCount, inScope, scopeAt, heldAt, committed, holdTime, isHold, until}
+use Rattle.state.specs.Book.{Book, Order, leasesOf, ordered, other, removeOf, live, liveOf, withClock, raised, dropped, advanced, heldOf, heldCount, inScope, scopeAt, heldAt, committed, holdTime, isHold, until}
 use Rattle.state.specs.laws.Sets.{addresses-append, addresses-reordered}
-use Rattle.soundness.specs.Sound.{tenantsIn, idB, offsetsB, scopeKnown, kindB, periodB, leaseB, paddedB, disjoint, apartIn, apart, countsB, rule3, rule4, rule5, rule6, settingsB, soundB, holdB, lapseB}
-use Rattle.soundness.specs.laws.Book.{settingsOk, leaseOk, pairOk, fewLeases, noLeasesB, Sound, sound-lists, lists-sound}
+use Rattle.soundness.specs.Sound.{tenantsIn, idB, offsetsB, scopeKnown, kindB, periodB, leaseB, paddedB, disjoint, apartIn, apart, countsB, rule3, rule4, rule5, rule6, settingsB, soundB, soundBy, holdB, lapseB}
+use Rattle.soundness.specs.laws.Book.{settingsOk, leaseOk, pairOk, fewLeases, noLeasesB, Sound, by-lists, lists-by, rises-by}
 use Rattle.soundness.specs.laws.Added.{pair-turn}
 
 -- ---- fewer addresses
@@ -130,14 +130,13 @@ unfolding settingsOk countsB rule3 rule4 rule5 rule6 settingsB
 clockless s c = refl
 
 -- ---- the book stays sound, with any clock at which its leases are sound
-pub sound-shrunk : (s : State) (c : ℕ) (ls ls′ : List (List Lease)) → Sound s ls → Shrunk ls ls′ → allBy (pairsBy ordered) ls′ ≡ true → allBy (allBy (leaseOk (withClock s c))) ls′ ≡ true → Sound (withClock s c) ls′
+pub sound-shrunk : (s : State) (c : ℕ) (ls ls′ : List (List Lease)) → Sound s ls → Shrunk ls ls′ → allBy (allBy (leaseOk (withClock s c))) ls′ ≡ true → Sound (withClock s c) ls′
 unfolding committed
-sound-shrunk s c ls ls′ v w rises each = record {
+sound-shrunk s c ls ls′ v w each = record {
   settings = same ∙ v .settings;
   few = all-shrunk fewLeases few-some ls ls′ w (v .few);
   each = each;
   pairs = all-shrunk (pairsBy pairOk) (part-pairs pairOk pair-turn) ls ls′ w (v .pairs);
-  rises = rises;
   tenants = all-shrunk noLeasesB none-some (drop (tenantsIn s) ls) (drop (tenantsIn s) ls′) (drop-shrunk (tenantsIn s) ls ls′ w) (v .tenants);
   owners = owners-shrunk ls ls′ w (v .owners);
   holdings = λ k g p q. le-trans (counts-shrunk (k + 1) ls ls′ w g) (v .holdings k g p q);
@@ -196,22 +195,27 @@ unfolding Shrunk liveOf
 live-shrunk c [] = tt
 live-shrunk c (l ∷ ls) = (filter-part (live c) l, live-shrunk c ls)
 
-live-rises : (c : ℕ) (ls : List (List Lease)) → allBy (pairsBy ordered) ls ≡ true → allBy (pairsBy ordered) (map (liveOf c) ls) ≡ true
+-- and records go on rising, by whichever order
+pub live-rises : (o : Order) (c : ℕ) (ls : List (List Lease)) → allBy (pairsBy o) ls ≡ true → allBy (pairsBy o) (map (liveOf c) ls) ≡ true
 unfolding liveOf
-live-rises c [] h = h
-live-rises c (l ∷ ls) h =
-    let p = all-head (pairsBy ordered) l ls h in
-    all-cons (pairsBy ordered) (liveOf c l) (map (liveOf c) ls) (filter-pairs ordered (live c) l (p .0)) (live-rises c ls (p .1))
+live-rises o c [] h = h
+live-rises o c (l ∷ ls) h =
+    let p = all-head (pairsBy o) l ls h in
+    all-cons (pairsBy o) (liveOf c l) (map (liveOf c) ls) (filter-pairs o (live c) l (p .0)) (live-rises o c ls (p .1))
 
 pub sound-advanced : (s : State) (c : ℕ) (ls : List (List Lease)) → s .clock ≤ c → Sound s ls → Sound (withClock s c) (map (liveOf c) ls)
-sound-advanced s c ls n v = sound-shrunk s c ls (map (liveOf c) ls) v (live-shrunk c ls) (live-rises c ls (v .rises)) (live-each s c ls n (v .each))
+sound-advanced s c ls n v = sound-shrunk s c ls (map (liveOf c) ls) v (live-shrunk c ls) (live-each s c ls n (v .each))
 
 -- so `advance` keeps a book sound
-pub advanced-sound : (b : Book) (time : ℕ) → soundB (b .state) (b .table) ≡ true → soundB (advanced b time .state) (advanced b time .table) ≡ true
+pub advanced-by : (o : Order) (b : Book) (time : ℕ) → soundBy o (b .state) (b .table) ≡ true → soundBy o (advanced b time .state) (advanced b time .table) ≡ true
 unfolding advanced raised dropped
-advanced-sound b time e =
+advanced-by o b time e =
     let c : ℕ = max (b .state .clock) time in
-    lists-sound (withClock (b .state) c) (map (liveOf c) (leasesOf (b .table))) (sound-advanced (b .state) c (leasesOf (b .table)) (omega arith) (sound-lists (b .state) (b .table) e))
+    by-lists o (withClock (b .state) c) (map (liveOf c) (leasesOf (b .table))) (sound-advanced (b .state) c (leasesOf (b .table)) (omega arith) (lists-by o (b .state) (b .table) e))
+    (live-rises o c (leasesOf (b .table)) (rises-by o (b .state) (b .table) e))
+
+pub advanced-sound : (b : Book) (time : ℕ) → soundB (b .state) (b .table) ≡ true → soundB (advanced b time .state) (advanced b time .table) ≡ true
+advanced-sound b time e = advanced-by ordered b time e
 
 -- ---- one tenant's leases are fewer
 pub all-part : (l : List Lease) → Part l l
@@ -228,12 +232,6 @@ set-shrunk [] h u = tt
 set-shrunk (l ∷ ls) zero u = (filter-part u l, same-shrunk ls)
 set-shrunk (l ∷ ls) (suc h) u = (all-part l, set-shrunk ls h u)
 
-set-rises : (ls : List (List Lease)) (h : ℕ) (u : Lease → Bool) → allBy (pairsBy ordered) ls ≡ true → allBy (pairsBy ordered) (set ls h (filterBy u (getD ls h []))) ≡ true
-set-rises [] h u p = p
-set-rises (l ∷ ls) zero u p = let q = all-head (pairsBy ordered) l ls p in all-cons (pairsBy ordered) (filterBy u l) ls (filter-pairs ordered u l (q .0)) (q .1)
-set-rises (l ∷ ls) (suc h) u p =
-    let q = all-head (pairsBy ordered) l ls p in all-cons (pairsBy ordered) l (set ls h (filterBy u (getD ls h []))) (q .0) (set-rises ls h u (q .1))
-
 each-shrunk : (s : State) (xs ys : List (List Lease)) → Shrunk xs ys → allBy (allBy (leaseOk s)) xs ≡ true → allBy (allBy (leaseOk s)) ys ≡ true
 each-shrunk s xs ys w = all-shrunk (allBy (leaseOk s)) (part-all (leaseOk s)) xs ys w
 
@@ -242,4 +240,4 @@ pub sound-removed : (s : State) (ls : List (List Lease)) (h : ℕ) (i : List ℕ
 unfolding removeOf
 sound-removed s ls h i v =
     let w = set-shrunk ls h (other i) in
-    sound-shrunk s (s .clock) ls (set ls h (filterBy (other i) (getD ls h []))) v w (set-rises ls h (other i) (v .rises)) (each-shrunk s ls (set ls h (filterBy (other i) (getD ls h []))) w (v .each))
+    sound-shrunk s (s .clock) ls (set ls h (filterBy (other i) (getD ls h []))) v w (each-shrunk s ls (set ls h (filterBy (other i) (getD ls h []))) w (v .each))

@@ -26,7 +26,7 @@ use Rattle.soundness.specs.declared.TableRules.{TableRules}
 use Rattle.soundness.specs.declared.TenantRules.{TenantRules}
 use Rattle.soundness.specs.declared.SettingsRules.{SettingsRules}
 use Rattle.soundness.specs.declared.HoldingRules.{HoldingRules}
-use Rattle.soundness.specs.Sound.{rulesOf, firstBroken, brokenOf, soundB}
+use Rattle.soundness.specs.Sound.{rulesOf, firstBroken, soundB, brokenBy, soundBy}
 use Rattle.soundness.specs.Parts.{noHeld, noRules, noSets, firstEnd, poolIn, poolsOf, rulesFrom, heldSets, holdingsOf, holdingRulesIn, tenantsAll, tenantRulesOf, bothTenants, tableRulesOf, settingsRulesOf, joinedRules, noTenants, addedTenant, checkedOf, soundFrom}
 use Rattle.soundness.specs.laws.Code.{andTenants, tenants-are, tenant-and, table-is, rules-are}
 
@@ -68,7 +68,7 @@ pub ruleset surveys = (survey-start, survey-next, survey-end)
 
 -- ---- whether a book is sound, from what the loop gathered
 pub sound-from : (s : State) (t : LeaseTable) (c : TableRules) → c ≡ tableRulesOf s t → soundFrom s c ≡ soundB s t
-unfolding soundFrom soundB brokenOf rulesFrom
+unfolding soundFrom soundBy brokenBy rulesFrom
 sound-from s t c e = ap (λ (x : Rules). eqb (firstBroken x) 0) (rules-are s t (settingsRulesOf s) c (holdingRulesIn s (c .held)) refl e refl refl)
 
 -- what the loop gathered of what tenants hold

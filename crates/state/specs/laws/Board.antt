@@ -13,7 +13,7 @@ use Rattle.lists.specs.Pick.{pick}
 use Rattle.lists.specs.Fold.{fold}
 use Rattle.lists.specs.Filter.{isIn, filterBy}
 use Rattle.lists.specs.laws.Each.{map-at}
-use Rattle.lists.specs.laws.Reordered.{Reordered}
+use Rattle.lists.specs.Reordered.{Reordered}
 use Rattle.address_set.specs.AddressSet.{bit, keep, offsets, offsetsFrom, upTo}
 use Rattle.address_set.specs.laws.Bits.{bit-le, bit-or, bit-of-zero, length-offsets, offsets-of-zero}
 use Rattle.address_set.specs.laws.Offsets.{rises-offsets, offsets-small, in-bit, in-small, each-long, each-at}

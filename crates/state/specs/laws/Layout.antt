@@ -1,9 +1,9 @@
 -- Laws: between records and lists.
 use Prim.Native.Nat.{ℕ, _+_, max, _≤_, _<_, min}
 use mathlib.Core.Bool.{Bool, not, true, false}
-use mathlib.Core.List.{List, [], _∷_, _++_, map, map-map}
+use mathlib.Core.List.{List, [], _∷_, _++_, append-assoc, append-nil, map, map-map}
 use lib.Dec.{eqb, ltb}
-use lib.ListN.{length, replicate, set, take, getD, length-append}
+use lib.ListN.{length, replicate, set, take, drop, getD, length-append, length-drop, length-take}
 use Rattle.lists.specs.Filter.{filterBy}
 use Rattle.lists.specs.Pick.{pick}
 use Rattle.lists.specs.Row.{laidRow}
@@ -20,10 +20,13 @@ use mathlib.Core.Path.{_≡_, refl, sym, ap, ap₂, _∙_}
 use native.Mathlib.Omega.{arith}
 use Rattle.lists.specs.laws.Pick.{pick-lt, pick-not-lt, pick-yes, pick-no}
 use Rattle.lists.specs.Fold.{fold}
+use Rattle.lists.specs.Arranged.{insertIn}
+use Rattle.lists.specs.laws.Part.{cut-take, part-ended, part-head}
+use Rattle.state.specs.laws.Sorted.{early, late, tied}
 use Rattle.lists.specs.laws.Filter.{filter-fewer}
 use Rattle.lists.specs.laws.Each.{map-set, map-back}
 use Rattle.lists.specs.laws.Row.{row-back, row-push, row-filtered, row-insert, row-length, row-in, row-out}
-use Rattle.state.specs.Book.{Book, advanced, changedTo, leaseWith, zeroLease, inUse, laidOut, pushed, keptIf, idOf, byIdentifier, ordered, before, notBefore, named, other, insertOf, insertedIn, removeOf, placeOf, liveOf, leaseAt, tableOf, leasesOf, putAt, raised, dropped, cleared, withClock, laidReleases, pushedRelease, remembered, zeroRelease}
+use Rattle.state.specs.Book.{Book, advanced, changedTo, leaseWith, zeroLease, inUse, laidOut, pushed, keptIf, idOf, Order, byIdentifier, ordered, orderFor, until, named, other, insertedIn, removeOf, placeOf, liveOf, leaseAt, tableOf, leasesOf, putAt, raised, dropped, cleared, withClock, laidReleases, pushedRelease, remembered, zeroRelease, insertedBy}
 
 -- ---- one turn of the loops below
 -- what an element is past the end of an array
@@ -81,25 +84,89 @@ pub ruleset turns = (kept-in, kept-full, kept-out)
 pub other-is : (i : List ℕ) (l : Lease) {q : Bool} → q ≡ named i l → not q ≡ other i l
 other-is i l e = ap not e
 
-pub before-is : (a b : Lease) (o : ℕ) → o ≡ orderOf (idOf a) (idOf b) → eqb o 0 ≡ ordered a b
+-- ---- the order of two records
+pub named-before-is : (a b : Lease) (o : ℕ) → o ≡ orderOf (idOf a) (idOf b) → eqb o 0 ≡ byIdentifier a b
 unfolding byIdentifier
-before-is a b o e = ap (λ (x : ℕ). eqb x 0) e
+named-before-is a b o e = ap (λ (x : ℕ). eqb x 0) e
 
-pub not-before-is : (l x : Lease) {q : Bool} → q ≡ ordered x l → not q ≡ notBefore l x
-not-before-is l x e = ap not e
+module _ (a b : Lease) {x y : ℕ} (ex : x ≡ until a) (ey : y ≡ until b) where
+  pub before-early : x < y → true ≡ ordered a b
+  before-early h = sym (early a b (omega arith))
+
+  pub before-late : y < x → false ≡ ordered a b
+  before-late h = sym (late a b (omega arith))
+
+  pub before-tied : {r : Bool} → y ≤ x → x ≤ y → r ≡ byIdentifier a b → r ≡ ordered a b
+  before-tied h g e = e ∙ sym (tied a b (omega arith))
+
+pub ruleset befores = (before-early, before-late, before-tied)
+
+module _ (a b : Lease) (ending : Bool) {q : Bool} where
+  pub comes-ending : ending ≡ true → q ≡ ordered a b → q ≡ orderFor ending a b
+  unfolding orderFor
+  comes-ending e p = p ∙ ap (λ (c : Bool). orderFor c a b) (sym e)
+
+  pub comes-named : ending ≡ false → q ≡ byIdentifier a b → q ≡ orderFor ending a b
+  unfolding orderFor
+  comes-named e p = p ∙ ap (λ (c : Bool). orderFor c a b) (sym e)
+
+  pub comes-not : q ≡ orderFor ending a b → not q ≡ not (orderFor ending a b)
+  comes-not p = ap not p
 
 -- ---- insertion
-pub inserted-in : (t : TenantLeases) (l : Lease) {n : ℕ} {a b c r : TenantLeases} → n ≡ length (inUse t) → n < 16 → a ≡ laidOut [] → b ≡ fold (keptIf (before l)) a (inUse t) → c ≡ pushed b l
-    → r ≡ fold (keptIf (notBefore l)) c (inUse t) → r ≡ insertedIn l t
-unfolding insertedIn insertOf keptIf
-inserted-in t l {n} {a} {b} {c} {r} k h ea eb ec er =
-    let short : length (inUse t) < 16 = omega arith in
-    let p : r ≡ fold (keptIf (notBefore l)) (pushed (fold (keptIf (before l)) (laidOut []) (inUse t)) l) (inUse t) = cc in
-    pick-lt (laidOut (insertOf l (inUse t))) t r (length (inUse t)) 16 short (p ∙ row-insert 16 laidOut pushed push-laid ordered l (inUse t) short)
+module _ (o : Order) (t : TenantLeases) (l : Lease) {n : ℕ} (k : n ≡ length (inUse t)) where
+  pub inserted-in : {a b c r : TenantLeases} → n < 16 → a ≡ laidOut [] → b ≡ fold (keptIf (λ x. o x l)) a (inUse t) → c ≡ pushed b l
+      → r ≡ fold (keptIf (λ x. not (o x l))) c (inUse t) → r ≡ insertedBy o l t
+  unfolding insertedBy keptIf
+  inserted-in {a} {b} {c} {r} h ea eb ec er =
+      let short : length (inUse t) < 16 = omega arith in
+      let p : r ≡ fold (keptIf (λ x. not (o x l))) (pushed (fold (keptIf (λ x. o x l)) (laidOut []) (inUse t)) l) (inUse t) = cc in
+      pick-lt (laidOut (insertIn o l (inUse t))) t r (length (inUse t)) 16 short (p ∙ row-insert 16 laidOut pushed push-laid o l (inUse t) short)
 
-pub inserted-full : (t : TenantLeases) (l : Lease) {n : ℕ} → n ≡ length (inUse t) → 16 ≤ n → t ≡ insertedIn l t
-unfolding insertedIn
-inserted-full t l k h = pick-not-lt (laidOut (insertOf l (inUse t))) t t (length (inUse t)) 16 (omega arith) refl
+  pub inserted-full : 16 ≤ n → t ≡ insertedBy o l t
+  unfolding insertedBy
+  inserted-full h = pick-not-lt (laidOut (insertIn o l (inUse t))) t t (length (inUse t)) 16 (omega arith) refl
+
+pub inserted-ending : (l : Lease) (t : TenantLeases) {r : TenantLeases} → r ≡ insertedBy (orderFor true) l t → r ≡ insertedIn l t
+unfolding orderFor
+inserted-ending l t e = e
+
+-- ---- from a place on
+pub record RestInv (l : List Lease) (n : ℕ) (w now : TenantLeases) (i : ℕ) : Type 0 where
+  pub long : n ≤ length l
+  pub done : List Lease
+  pub laid : now ≡ laidOut done
+  pub whole : laidOut (done ++ drop i (take n l)) ≡ w
+  pub room : length done + length (drop i (take n l)) ≤ 16
+
+pub rest-start : {l : List Lease} {n : ℕ} {now : TenantLeases} (x i : ℕ) → n ≡ min x 16 → length l ≡ 16 → now ≡ laidOut [] → RestInv l n (laidOut (drop i (take x l))) now i
+rest-start {l} {n} x i e g p = record {
+  long = omega arith;
+  done = [];
+  laid = p;
+  whole = ap (λ (k : ℕ). laidOut (drop i (take k l))) e ∙ ap (λ (z : List Lease). laidOut (drop i z)) (cut-take 16 x l g);
+  room = let a = length-drop i (take n l) in let b = length-take n l in omega arith;
+}
+
+module _ {l : List Lease} {n : ℕ} {w now : TenantLeases} {i : ℕ} (v : RestInv l n w now i) where
+  pub rest-next : {r : TenantLeases} → i < n → r ≡ pushed now (getD l i noLease) → RestInv l n w r (i + 1)
+  rest-next {r} h e =
+      let q = part-head noLease l n i (v .long) h in
+      let a = ap length q in
+      let m = length-append (v .done) (getD l i noLease ∷ []) in
+      let o = v .room in
+      record {
+        long = v .long;
+        done = v .done ++ getD l i noLease ∷ [];
+        laid = e ∙ ap (λ (z : TenantLeases). pushed z (getD l i noLease)) (v .laid) ∙ push-laid (v .done) (getD l i noLease) (omega arith);
+        whole = ap laidOut (append-assoc (v .done) (getD l i noLease ∷ []) (drop (i + 1) (take n l)) ∙ ap (λ (z : List Lease). v .done ++ z) (sym q)) ∙ v .whole;
+        room = omega arith;
+      }
+
+  pub rest-end : n ≤ i → now ≡ w
+  rest-end h = v .laid ∙ ap laidOut (sym (append-nil (v .done)) ∙ ap (λ (z : List Lease). v .done ++ z) (sym (part-ended l n i (v .long) h))) ∙ v .whole
+
+pub ruleset rests = (rest-start, rest-next, rest-end)
 
 pub empty-is : (l : Lease) → l ≡ zeroLease → _≡_ {A = TenantLeases} (record { leases = replicate 16 l; count = 0 }) (laidOut [])
 unfolding laidOut

@@ -2,9 +2,9 @@
 use Prim.Native.Nat.{ℕ, suc, _≤_, _<_}
 use mathlib.Core.Path.{_≡_, refl, sym, ap, ap₂, _∙_}
 use mathlib.Core.Bool.{Bool, true, false, not}
-use mathlib.Core.List.{List, [], _∷_, _++_, append-nil}
+use mathlib.Core.List.{List, [], _∷_}
 use native.Mathlib.Omega.{arith}
-use lib.Dec.{eqb, ltb}
+use lib.Dec.{ltb}
 use lib.ListN.{length}
 use borrow.Author.Tests.{ltb-true, ltb-false, lt-ltb, le-ltb}
 use Rattle.lists.specs.Pick.{pick}
@@ -12,15 +12,15 @@ use Rattle.lists.specs.All.{pairsBy}
 use Rattle.lists.specs.Place.{placeBy}
 use Rattle.lists.specs.Filter.{filterBy}
 use Rattle.lists.specs.Arranged.{insertIn}
-use Rattle.lists.specs.laws.Filter.{filter-append}
-use Rattle.lists.specs.laws.Reordered.{reordered-filter, reordered-length}
-use Rattle.identifier.specs.Order.{orderOf, sameOf}
-use Rattle.identifier.specs.laws.Order.{order-refl, same-refl, same-true}
+use Rattle.lists.specs.laws.Reordered.{reordered-alone, reordered-filter, reordered-length}
+use Rattle.lists.specs.laws.Arranged.{insert-reordered}
+use Rattle.identifier.specs.Order.{sameOf}
+use Rattle.identifier.specs.laws.Order.{same-refl, same-true}
 use Rattle.state.specs.declared.Lease.{Lease}
 use Rattle.state.specs.declared.TenantLeases.{TenantLeases}
 use Rattle.state.specs.declared.Edit.{Edit}
-use Rattle.state.specs.Book.{byIdentifier, differ, idOf, inUse, insertOf, insertedIn, laidOut, leaseAt, live, liveOf, named, ordered, other, placeOf, removeOf}
-use Rattle.state.specs.Edit.{editedIn, leftIn}
+use Rattle.state.specs.Book.{Order, differ, idOf, inUse, insertOf, insertedIn, laidOut, leaseAt, live, liveOf, named, ordered, other, placeOf, removeOf, insertedBy}
+use Rattle.state.specs.Edit.{editedIn, leftIn, editedBy}
 use Rattle.state.specs.laws.Layout.{read-back}
 use Rattle.state.specs.laws.Sorted.{named-at, taken-out}
 
@@ -137,46 +137,25 @@ one-named i ls apart here = alone (filterBy (named i) ls) (reordered-length (reo
         ap (λ (k : List ℕ). pick (sameOf k i) (x ∷ filterBy (named i) (removeOf i ls)) (filterBy (named i) (removeOf i ls))) (named-at i ls here)
         ∙ ap₂ (λ (b : Bool) (r : List Lease). pick b (x ∷ r) r) (same-refl i) (removed-own i ls)
 
--- ---- inserting
-module _ (i : List ℕ) (l : Lease) (ls : List Lease) where
-  -- do the records of the identifier come before l
-  first : Bool
-  first = eqb (orderOf i (idOf l)) 0
+-- ---- inserting, by any order
+pub inserted-other : (o : Order) (i : List ℕ) (l : Lease) (ls : List Lease) (x : Lease) → (idOf l ≡ i → ⊥) → filterBy (named i) ls ≡ x ∷ [] → filterBy (named i) (insertIn o l ls) ≡ x ∷ []
+unfolding filterBy pick
+inserted-other o i l ls x n e =
+    reordered-alone (reordered-filter (named i) (insert-reordered o l ls)) x
+    (ap (λ (b : Bool). pick b (l ∷ filterBy (named i) ls) (filterBy (named i) ls)) (not-same (idOf l) i (λ e. n (sym e))) ∙ e)
 
-  abbrev mine : List Lease
-  mine = filterBy (named i) ls
-
-  split : filterBy (named i) (insertOf l ls) ≡ pick first mine [] ++ pick (named i l) (l ∷ pick (not first) mine []) (pick (not first) mine [])
-  unfolding insertOf insertIn byIdentifier first filterBy
-  split =
-      filter-append (named i) (filterBy (λ x. ordered x l) ls) (l ∷ filterBy (λ x. not (ordered x l)) ls)
-      ∙ ap₂ (λ (r q : List Lease). r ++ pick (named i l) (l ∷ q) q)
-      (under (named i) (λ x. ordered x l) first (λ x e. ap (λ (k : List ℕ). eqb (orderOf k (idOf l)) 0) (same-true (idOf x) i e)) ls)
-      (under (named i) (λ x. not (ordered x l)) (not first) (λ x e. ap (λ (k : List ℕ). not (eqb (orderOf k (idOf l)) 0)) (same-true (idOf x) i e)) ls)
-
-  pub inserted-other : (idOf l ≡ i → ⊥) → filterBy (named i) (insertOf l ls) ≡ mine
-  unfolding pick
-  inserted-other n = split ∙ ap (λ (b : Bool). pick first mine [] ++ pick b (l ∷ pick (not first) mine []) (pick (not first) mine [])) (not-same (idOf l) i (λ e. n (sym e))) ∙ go first
-    where
-      go : (c : Bool) → pick c mine [] ++ pick (not c) mine [] ≡ mine
-      go true = append-nil mine
-      go false = refl
-
-pub inserted-own : (l : Lease) (ls : List Lease) → filterBy (named (idOf l)) (insertOf l ls) ≡ l ∷ filterBy (named (idOf l)) ls
-unfolding first pick
-inserted-own l ls =
-    let i : List ℕ = idOf l in
-    let m : List Lease = filterBy (named (idOf l)) ls in
-    split i l ls
-    ∙ ap (λ (n : ℕ). pick (eqb n 0) m [] ++ pick (named i l) (l ∷ pick (not (eqb n 0)) m []) (pick (not (eqb n 0)) m [])) (order-refl i)
-    ∙ ap (λ (b : Bool). pick b (l ∷ m) m) (same-refl i)
+pub inserted-own : (o : Order) (l : Lease) (ls : List Lease) → filterBy (named (idOf l)) ls ≡ [] → filterBy (named (idOf l)) (insertIn o l ls) ≡ l ∷ []
+unfolding filterBy pick
+inserted-own o l ls e =
+    reordered-alone (reordered-filter (named (idOf l)) (insert-reordered o l ls)) l
+    (ap₂ (λ (b : Bool) (r : List Lease). pick b (l ∷ r) r) (same-refl (idOf l)) e)
 
 -- ---- an edit
--- of records of other identifiers leaves those of this one as they are
-pub edited-other : (e : Edit) (i : List ℕ) (t : TenantLeases) → (e .leaves ≡ true → idOf (e .old) ≡ i → ⊥) → (e .enters ≡ true → idOf (e .new) ≡ i → ⊥)
-    → filterBy (named i) (inUse (editedIn e t)) ≡ filterBy (named i) (inUse t)
-unfolding editedIn leftIn insertedIn pick
-edited-other e i t p q = enter (e .enters) refl ∙ leave (e .leaves) refl
+-- of records of other identifiers leaves the one of this as it is
+pub edited-other : (e : Edit) (i : List ℕ) (t : TenantLeases) (o : Lease) → (e .leaves ≡ true → idOf (e .old) ≡ i → ⊥) → (e .enters ≡ true → idOf (e .new) ≡ i → ⊥)
+    → filterBy (named i) (inUse t) ≡ o ∷ [] → filterBy (named i) (inUse (editedIn e t)) ≡ o ∷ []
+unfolding editedBy leftIn insertedBy pick
+edited-other e i t o p q has = enter (e .enters) refl
   where
     u : TenantLeases
     u = pick (e .leaves) (laidOut (removeOf (idOf (e .old)) (inUse t))) t
@@ -185,10 +164,13 @@ edited-other e i t p q = enter (e .enters) refl ∙ leave (e .leaves) refl
     leave true f = ap (filterBy (named i)) (read-back (removeOf (idOf (e .old)) (inUse t))) ∙ removed-other i (idOf (e .old)) (inUse t) (p f)
     leave false f = refl
 
-    inserted : (c : Bool) → e .enters ≡ true → filterBy (named i) (inUse (pick c (laidOut (insertOf (e .new) (inUse u))) u)) ≡ filterBy (named i) (inUse u)
-    inserted true f = ap (filterBy (named i)) (read-back (insertOf (e .new) (inUse u))) ∙ inserted-other i (e .new) (inUse u) (q f)
-    inserted false f = refl
+    left : filterBy (named i) (inUse u) ≡ o ∷ []
+    left = leave (e .leaves) refl ∙ has
 
-    enter : (c : Bool) → e .enters ≡ c → filterBy (named i) (inUse (pick c (insertedIn (e .new) u) u)) ≡ filterBy (named i) (inUse u)
+    inserted : (c : Bool) → e .enters ≡ true → filterBy (named i) (inUse (pick c (laidOut (insertOf (e .new) (inUse u))) u)) ≡ o ∷ []
+    inserted true f = ap (filterBy (named i)) (read-back (insertOf (e .new) (inUse u))) ∙ inserted-other ordered i (e .new) (inUse u) o (q f) left
+    inserted false f = left
+
+    enter : (c : Bool) → e .enters ≡ c → filterBy (named i) (inUse (pick c (insertedIn (e .new) u) u)) ≡ o ∷ []
     enter true f = inserted (ltb (length (inUse u)) 16) f
-    enter false f = refl
+    enter false f = left

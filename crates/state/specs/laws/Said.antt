@@ -12,7 +12,8 @@ use borrow.Author.Tests.{eq-eqb, ne-eqb}
 use Rattle.lists.specs.Pick.{pick}
 use Rattle.lists.specs.Filter.{filterBy}
 use Rattle.lists.specs.laws.Filter.{filter-length}
-use Rattle.lists.specs.laws.Reordered.{Reordered, reordered-length, reordered-filter}
+use Rattle.lists.specs.Reordered.{Reordered}
+use Rattle.lists.specs.laws.Reordered.{reordered-length, reordered-filter}
 use Rattle.address_set.specs.AddressSet.{bit}
 use Rattle.address_set.specs.laws.Bits.{bit-le, bit-or, bit-of-zero}
 use Rattle.state.specs.declared.Lease.{Lease}

@@ -8,7 +8,8 @@ use borrow.Author.Tests.{eq-eqb, ne-eqb}
 use Rattle.lists.specs.Pick.{pick}
 use Rattle.lists.specs.Fold.{fold}
 use Rattle.lists.specs.Filter.{filterBy}
-use Rattle.lists.specs.laws.Reordered.{Reordered, gather, gather-same}
+use Rattle.lists.specs.Reordered.{Reordered}
+use Rattle.lists.specs.laws.Reordered.{gather, gather-same}
 use Rattle.address_set.specs.laws.Bits.{or-assoc}
 use Rattle.state.specs.declared.Lease.{Lease}
 use Rattle.state.specs.Book.{unionAll, addressesOf, inScope, overlaps, usedIn, addedIf, insertOf}

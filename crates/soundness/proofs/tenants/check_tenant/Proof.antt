@@ -8,11 +8,11 @@ pub check-tenant-spec : {M : Type 1} → statement M
 check-tenant-spec =
     tie.close
     (tie.spec
-    (λ c κs. search needs)  -- src/tenants.rt:137:9 pass-requires
-    (λ c κs. search needs)  -- src/tenants.rt:140:9 rises-requires
-    (λ c κs. search needs)  -- src/tenants.rt:141:9 both-requires
-    (λ c κs. search needs)  -- src/tenants.rt:142:9 ids-differ-requires
-    (λ c κs. search (gathered-apart, tenant-checked, needs))  -- src/tenants.rt:143:9 periods-ok-requires
-    (λ c κs. search needs)  -- src/tenants.rt:144:31 both-requires-2
-    (λ c κs. search needs)  -- src/tenants.rt:144:9 both-requires-3
-    (λ c. search (gathered-apart, tenant-checked, needs)))  -- src/tenants.rt:133:1 returns
+    (λ c κs. search needs)  -- src/tenants.rt:191:9 pass-requires
+    (λ c κs. search needs)  -- src/tenants.rt:194:9 rises-requires
+    (λ c κs. search needs)  -- src/tenants.rt:195:9 both-requires
+    (λ c κs. search needs)  -- src/tenants.rt:196:9 ids-differ-requires
+    (λ c κs. search (gathered-apart, tenant-checked, needs))  -- src/tenants.rt:197:9 periods-ok-requires
+    (λ c κs. search needs)  -- src/tenants.rt:198:31 both-requires-2
+    (λ c κs. search needs)  -- src/tenants.rt:198:9 both-requires-3
+    (λ c. search (gathered-apart, tenant-checked, needs)))  -- src/tenants.rt:187:1 returns

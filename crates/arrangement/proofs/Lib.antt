@@ -1,0 +1,4 @@
+pub mod Lists
+pub mod Decided
+pub mod Same
+pub mod Every

@@ -106,15 +106,15 @@ impl Inbox {
     }
 }
 
-/// How many datagrams the system has dropped before a socket, as its buffer was full: the last column of /proc/net/udp.
-pub struct Lost {
+/// What the system tells of a socket in /proc/net/udp: how many datagrams it has dropped before it, as its buffer was full, and whether one waits there.
+pub struct Buffer {
     /// The socket's own number, which its line has.
     number: String,
     seen: u64,
 }
 
-impl Lost {
-    pub fn of(socket: &UdpSocket) -> Lost {
+impl Buffer {
+    pub fn of(socket: &UdpSocket) -> Buffer {
         let link = std::fs::read_link(format!("/proc/self/fd/{}", socket.as_raw_fd()));
         let link = link.map_or_else(
             |_| String::new(),
@@ -124,21 +124,37 @@ impl Lost {
             .trim_start_matches("socket:[")
             .trim_end_matches(']')
             .to_owned();
-        Lost { number, seen: 0 }
+        Buffer { number, seen: 0 }
     }
 
-    /// How many more than when last looked; none where the system doesn't tell.
-    pub fn more(&mut self) -> u64 {
+    /// The words of its line; none where the system doesn't tell.
+    fn words(&self) -> Vec<String> {
         let table = std::fs::read_to_string("/proc/net/udp").unwrap_or_default();
-        let mut lines = table
-            .lines()
-            .map(|line| line.split_whitespace().collect::<Vec<_>>());
-        let own = lines.find(|words| words.get(9) == Some(&&self.number[..]));
-        let lost = own.and_then(|words| words.last()?.parse().ok());
+        let mut lines = table.lines().map(|line| {
+            line.split_whitespace()
+                .map(String::from)
+                .collect::<Vec<_>>()
+        });
+        lines
+            .find(|words| words.get(9) == Some(&self.number))
+            .unwrap_or_default()
+    }
+
+    /// How many more were dropped than when last looked: the last column.
+    pub fn more_lost(&mut self) -> u64 {
+        let words = self.words();
+        let lost = words.last().and_then(|word| word.parse().ok());
         let lost = lost.unwrap_or(self.seen);
         let more = lost.saturating_sub(self.seen);
         self.seen = lost;
         more
+    }
+
+    /// Whether a datagram waits in it: the fifth column has the octets to send and those that were received.
+    pub fn is_filled(&self) -> bool {
+        let words = self.words();
+        let received = words.get(4).and_then(|word| word.split(':').nth(1));
+        received.is_some_and(|octets| octets.contains(|digit| digit != '0'))
     }
 }
 

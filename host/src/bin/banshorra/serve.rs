@@ -2,7 +2,7 @@
 
 use crate::args::{Args, Command, Failure};
 use crate::files::{contents, count, refused};
-use crate::inbox::{self, Arrived, Inbox, List, Lost};
+use crate::inbox::{self, Arrived, Buffer, Inbox, List};
 use crate::log::{Form, Log, Told};
 use crate::store::{failed, Store};
 use banshorra_host::campus::Campus;
@@ -38,6 +38,8 @@ It ends cleanly on SIGTERM, SIGINT and SIGHUP; killed, it has lost nothing that 
 pub const PORT: u16 = 2535;
 /// How long nothing may come before the host looks whether it is to end.
 const LOOK: Duration = Duration::from_millis(200);
+/// After a signal the host goes on for so long at most, while datagrams come.
+const LAST: Duration = Duration::from_secs(2);
 
 /// Now, in whole seconds since 1970.
 pub fn now() -> u32 {
@@ -75,7 +77,7 @@ fn serve(args: &Args) -> Result<(), Failure> {
     let socket = socket.map_err(|error| Failure::Machine(format!("the socket: {error}")))?;
     note_signals();
     let mut host = Host {
-        lost: sockets.iter().map(Lost::of).collect(),
+        buffers: sockets.iter().map(Buffer::of).collect(),
         looked: Instant::now(),
         campus,
         settings,
@@ -139,7 +141,7 @@ struct Count {
 
 struct Host {
     /// What the system dropped before each socket, and when that was looked at.
-    lost: Vec<Lost>,
+    buffers: Vec<Buffer>,
     looked: Instant,
     campus: CampusFile,
     /// Server, houses and scopes, which no call changes.
@@ -169,18 +171,7 @@ impl Host {
             &format!("{listens}, serving {path}: {book}"),
         );
         self.look_at_clock(now());
-        let signal = loop {
-            self.inbox.take(&mut self.list, LOOK);
-            self.answer();
-            // What had come before the signal is answered.
-            let signal = noted_signal();
-            if signal.is_some() || self.looked.elapsed() >= Duration::from_secs(1) {
-                self.look_at_lost();
-            }
-            if let Some(signal) = signal {
-                break signal;
-            }
-        };
+        let signal = self.answer_until_ended();
         let Count {
             calls,
             replies,
@@ -196,6 +187,29 @@ impl Host {
             count(writes, "write")
         );
         self.log.event(now(), "ended", &what);
+    }
+
+    /// Answers what comes until a signal has been noted and what had come before it is answered: twice nothing came for a while, and nothing waits in a socket. What
+    /// goes on coming keeps the host for no longer than `LAST`.
+    fn answer_until_ended(&mut self) -> &'static str {
+        let (mut noted, mut quiet) = (None, 0);
+        loop {
+            let signal = noted_signal();
+            self.inbox.take(&mut self.list, LOOK);
+            let has_come = !self.list.is_empty();
+            self.answer();
+            if signal.is_some() || self.looked.elapsed() >= Duration::from_secs(1) {
+                self.look_at_lost();
+            }
+            if let Some(signal) = signal {
+                let since = noted.get_or_insert_with(Instant::now);
+                let waits = has_come || self.buffers.iter().any(Buffer::is_filled);
+                quiet = if waits { 0 } else { quiet + 1 };
+                if quiet == 2 || since.elapsed() >= LAST {
+                    return signal;
+                }
+            }
+        }
     }
 
     /// Answers what has come, and says what went wrong on the way.
@@ -269,7 +283,7 @@ impl Host {
     /// Says what was lost before the host could take it.
     fn look_at_lost(&mut self) {
         self.looked = Instant::now();
-        let lost: u64 = self.lost.iter_mut().map(Lost::more).sum();
+        let lost: u64 = self.buffers.iter_mut().map(Buffer::more_lost).sum();
         if lost > 0 {
             let what = format!("{lost} datagrams, as the socket's buffer was full; the system's net.core.rmem_default sets its size");
             self.log.event(now(), "lost", &what);

@@ -1,11 +1,11 @@
--- `tests::is_recorded_type` meets its contract: its tests in order.
+-- `tests::asks_resend` meets its contract: its tests in order.
 use Rattle.lists.specs.laws.Both.{ors}
 use borrow.Author.Needs.{needs}
-use Rattle.decision.proofs.tests.is_recorded_type.Statement.{statement}
-use Rattle.decision.proofs.tests.is_recorded_type.Tie as tie
+use Rattle.decision.proofs.tests.asks_resend.Statement.{statement}
+use Rattle.decision.proofs.tests.asks_resend.Tie as tie
 
-pub is-recorded-type-spec : {M : Type 1} → statement M
-is-recorded-type-spec =
+pub asks-resend-spec : {M : Type 1} → statement M
+asks-resend-spec =
     tie.close
     (tie.spec
     (λ c. search (ors, needs))

@@ -277,6 +277,10 @@ pub record Answered (b : Book) (c : Call) (a : Answer) : Type 0 where
   pub carries-none : (a .outcome ≡ 5 → ⊥) → a .offset ≡ 0
   -- so it is "the offset in the datagram", or its length, and fits wherever a datagram's length does
   pub inside : (a .offset ≤ length (c .datagram)) × (a .offset ≤ longestDatagram)
+  -- document 02, W-210: the count is "the sum over its lookups", of which there are at most two, each of "at most 16" records
+  pub few-read : a .count ≤ 32
+  -- and no test before the decision makes one: discards 1 to 7 count nothing
+  pub none-read : 1 ≤ a .outcome → a .outcome ≤ 7 → a .count ≡ 0
 
 -- "For every datagram, clock, book and reply room". "It faults on none and checks all it is handed": the call is proved safe and to end, and asks for nothing
 -- (`lent::serve` has no `requires`)

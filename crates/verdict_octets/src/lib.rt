@@ -98,7 +98,7 @@ fn put_identifier(room: &mut [u8], at: usize, i: Identifier) -> usize
 }
 
 // A verdict, in a room of its size.
-pub fn put(room: &mut [u8; 74], r: Ruling)
+pub fn put(room: &mut [u8; 75], r: Ruling)
     ensures { λ _. ⌜ now (room .exit) ≡ verdictOctets r ⌝ }
 {
     let v = r.verdict;
@@ -109,7 +109,8 @@ pub fn put(room: &mut [u8; 74], r: Ruling)
     let c = put_numbers(room, b, r.xid, v);
     let d = put_asked(room, c, r);
     let e = put_language(room, d, l);
-    put_identifier(room, e, i);
+    let f = put_identifier(room, e, i);
+    octets::put_u8(room, f, (r.count % 256) as u8);
 }
 
 // ---- read back
@@ -162,7 +163,7 @@ fn wide8(n: u8) -> usize
 }
 
 // The set that eight octets are.
-fn set_at(s: &[u8; 74]) -> u64
+fn set_at(s: &[u8; 75]) -> u64
     ensures { λ r. ⌜ r ≡ setAt (now (s .entry)) 19 ⌝ }
 {
     let high = octets::read_u32(s, 19);
@@ -170,7 +171,7 @@ fn set_at(s: &[u8; 74]) -> u64
     wide(high) * 4294967296 + wide(low)
 }
 
-fn verdict_in(s: &[u8; 74]) -> Verdict
+fn verdict_in(s: &[u8; 75]) -> Verdict
     ensures { λ r. ⌜ r ≡ verdictIn (now (s .entry)) ⌝ }
 {
     Verdict {
@@ -198,7 +199,7 @@ fn run_of_8(s: &[u8], at: usize) -> [u8; 8]
     out
 }
 
-fn language_in(s: &[u8; 74]) -> Language
+fn language_in(s: &[u8; 75]) -> Language
     ensures { λ r. ⌜ r ≡ languageIn (now (s .entry)) ⌝ }
 {
     let kept = run_of_8(s, 33);
@@ -209,7 +210,7 @@ fn language_in(s: &[u8; 74]) -> Language
     }
 }
 
-fn identifier_in(s: &[u8; 74]) -> Identifier
+fn identifier_in(s: &[u8; 75]) -> Identifier
     ensures { λ r. ⌜ r ≡ identifierIn (now (s .entry)) ⌝ }
 {
     let kept = octets::read_run(s, 42, 32);
@@ -219,8 +220,8 @@ fn identifier_in(s: &[u8; 74]) -> Identifier
     }
 }
 
-// The verdict that 74 octets are, whatever they are.
-pub fn take(s: &[u8; 74]) -> Ruling
+// The verdict that 75 octets are, whatever they are.
+pub fn take(s: &[u8; 75]) -> Ruling
     ensures { λ r. ⌜ r ≡ rulingIn (now (s .entry)) ⌝ }
 {
     let v = verdict_in(s);
@@ -229,6 +230,7 @@ pub fn take(s: &[u8; 74]) -> Ruling
     Ruling {
         verdict: v,
         offset: wide16(octets::read_u16(s, 4)),
+        count: wide8(s[74]),
         tenant: wide8(s[6]),
         xid: octets::read_u32(s, 7),
         id: i,

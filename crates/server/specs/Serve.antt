@@ -57,9 +57,6 @@ pub record Said : Type 0 where
   pub count : ℕ
   pub reply : List ℕ
 
-abbrev pub said : Answer → Said
-said a = record { outcome = a .outcome; offset = a .offset; count = a .count; reply = a .reply }
-
 -- the book of a state, a table, what is remembered and the names that are lent with them
 abbrev pub bookOf : State → LeaseTable → Memory → List ℕ → Book
 bookOf s t m names = record { state = s; table = t; memory = m; names = names }

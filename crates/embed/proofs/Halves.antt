@@ -69,7 +69,7 @@ module _ (b : List ℕ) (n : ℕ) (c : Call) (e : refusalIn b n ≡ 0) (h : leas
   holds : Octets (c .datagram) → Holds (first .ruling)
   holds o =
       let w = lent-within (ledgerIn b n) (leasesIn b n) (namesIn b n) (c .client) (c .time) (c .datagram) in
-      record { offset = let q = offset-small in omega arith; tenant = let q = w .tenant in omega arith; language = w .language o }
+      record { offset = let q = offset-small in omega arith; count = let q = count-small in omega arith; tenant = let q = w .tenant in omega arith; language = w .language o }
 
   -- ---- the file that the first half leaves is its book
   first-is : firstHalf b n c ≡ filed b n (judged first)
@@ -118,7 +118,8 @@ module _ (b : List ℕ) (n : ℕ) (c : Call) (e : refusalIn b n ≡ 0) (h : leas
         let p : said .outcome ≡ serveFile b n c .number = sym (ap (λ (a : LentAnswer). a .outcome) joined) ∙ sym (served-numbers b n c e .numbered .number) in
         let q : said .offset ≡ serveFile b n c .offset = sym (ap (λ (a : LentAnswer). a .offset) joined) ∙ sym (ap (λ (x : Filed). x .offset) whole-is) in
         let u : said .reply ≡ serveFile b n c .out = sym (ap (λ (a : LentAnswer). a .reply) joined) ∙ sym (ap (λ (x : Filed). x .out) whole-is) in
-        λ i. record { outcome = p i; offset = q i; reply = u i }
+        let k : said .count ≡ serveFile b n c .count = sym (ap (λ (a : LentAnswer). a .count) joined) ∙ sym (ap (λ (x : Filed). x .count) whole-is) in
+        λ i. record { outcome = p i; offset = q i; count = k i; reply = u i }
 
 pub file-halves : FileHalves
 unfolding FileHalves file

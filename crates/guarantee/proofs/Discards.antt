@@ -71,6 +71,8 @@ pub record Tested (b : Book) (c : Call) (a : Answer) : Type 0 where
   pub carries : a .outcome ≡ 5 → a .offset ≡ readOf (c .datagram) .fault
   pub carries-none : (a .outcome ≡ 5 → ⊥) → a .offset ≡ 0
   pub inside : (a .offset ≤ length (c .datagram)) × (a .offset ≤ longestDatagram)
+  pub few-read : a .count ≤ 32
+  pub none-read : 1 ≤ a .outcome → a .outcome ≤ 7 → a .count ≡ 0
   pub names : a .book .names ≡ b .names
 
 module _ (b : Book) (c : Call) where
@@ -84,6 +86,8 @@ module _ (b : Book) (c : Call) where
     carries = λ e. absurd (omega arith);
     carries-none = λ z. refl;
     inside = (omega arith, omega arith);
+    few-read = omega arith;
+    none-read = λ _ _. refl;
     names = refl;
   }
 
@@ -98,6 +102,8 @@ module _ (b : Book) (c : Call) where
     carries = at;
     carries-none = none;
     inside = within;
+    few-read = omega arith;
+    none-read = λ _ _. refl;
     names = advanced-names b (c .time);
   }
 
@@ -105,9 +111,10 @@ module _ (b : Book) (c : Call) where
   unfolding Inside
   out n p q z = late n 0 p q (λ e. absurd (z e)) (λ _. refl) (omega arith, omega arith)
 
-  served : (h : ℕ) (m : Fields) (d : Decided) → Concluded d → Tested b c (answered (bookAt b c) h m d)
+  -- fewer than 33 records are read: a sound book has at most sixteen of a house
+  served : bookB b ≡ true → (h : ℕ) (m : Fields) (d : Decided) → Concluded d → Tested b c (answered (bookAt b c) h m d)
   unfolding replyOf
-  served h m d j = record {
+  served sound h m d j = record {
     outcome = j .few;
     silent = λ z. ap (byReply (bookAt b c .state) (bookAt b c .names) h m (d .verdict)) (j .rest z .1 .0);
     untouched = λ e. absurd (let r = j .rest (λ z. omega arith) .0 in omega arith);
@@ -117,34 +124,36 @@ module _ (b : Book) (c : Call) where
     carries = λ e. absurd (let r = j .rest (λ z. omega arith) .0 in omega arith);
     carries-none = λ z. refl;
     inside = (omega arith, omega arith);
+    few-read = count-few (bookAt b c .state) (ownOf (bookAt b c .table) h) (remembered (releasesAt (bookAt b c .memory) h)) m (now-few b c sound h);
+    none-read = λ p q. absurd (let r = j .rest (λ z. omega arith) .0 in omega arith);
     names = advanced-names b (c .time);
   }
 
   P : Answer → Type 0
   P a = Tested b c a
 
-  for-server : (h : ℕ) (m : Fields) → Tested b c (forServer (bookAt b c) h m)
+  for-server : bookB b ≡ true → (h : ℕ) (m : Fields) → Tested b c (forServer (bookAt b c) h m)
   unfolding forServer P
-  for-server h m =
+  for-server sound h m =
       pick-cases P (eqb (m .kind) 3 && not (m .ours)) _ _ (λ _. out 7 (omega arith) (omega arith) (λ e. omega arith))
-      (λ _. served h m _ (concluded (bookAt b c .state) (bookAt b c .table) (remembered (releasesAt (bookAt b c .memory) h)) h m))
+      (λ _. served sound h m _ (concluded (bookAt b c .state) (bookAt b c .table) (remembered (releasesAt (bookAt b c .memory) h)) h m))
 
-  with-reading : (h : ℕ) → Tested b c (withReading (bookAt b c) h (c .datagram) (readOf (c .datagram)))
+  with-reading : bookB b ≡ true → (h : ℕ) → Tested b c (withReading (bookAt b c) h (c .datagram) (readOf (c .datagram)))
   unfolding withReading P Numbered
-  with-reading h =
-      pick-cases P (eqb (readOf (c .datagram) .discard) 0) _ _ (λ _. for-server h _)
+  with-reading sound h =
+      pick-cases P (eqb (readOf (c .datagram) .discard) 0) _ _ (λ _. for-server sound h _)
       (λ e. let n = read-number (c .datagram) (eqb-false (readOf (c .datagram) .discard) 0 e) in late (readOf (c .datagram) .discard) (readOf (c .datagram) .fault) (n .0) (n .1) (λ _. refl) (n .2) (read-inside (c .datagram)))
 
-  at-clock : Tested b c (atClock (bookAt b c) (c .client) (c .datagram))
+  at-clock : bookB b ≡ true → Tested b c (atClock (bookAt b c) (c .client) (c .datagram))
   unfolding atClock P
-  at-clock =
-      pick-cases P (ltb (tenantOf (bookAt b c .state) (c .client)) (tenantsIn (bookAt b c .state))) _ _ (λ _. with-reading _) (λ _. out 3 (omega arith) (omega arith) (λ e. omega arith))
+  at-clock sound =
+      pick-cases P (ltb (tenantOf (bookAt b c .state) (c .client)) (tenantsIn (bookAt b c .state))) _ _ (λ _. with-reading sound _) (λ _. out 3 (omega arith) (omega arith) (λ e. omega arith))
 
   pub call-tested : Tested b c (serveOf b c)
   unfolding serveOf P
   call-tested =
       pick-cases P (bookB b) _ _
-      (λ _. pick-cases P (ltb (c .room) leastRoom) _ _ (λ _. early 2 (omega arith) (omega arith)) (λ _. at-clock)) (λ _. early 1 (omega arith) (omega arith))
+      (λ sound. pick-cases P (ltb (c .room) leastRoom) _ _ (λ _. early 2 (omega arith) (omega arith)) (λ _. at-clock sound)) (λ _. early 1 (omega arith) (omega arith))
 
 -- ---- bad names are discard 1, and so are bad releases and a bad board
 unsound-refused : (b : Book) (c : Call) → bookB b ≡ false → serveOf b c .outcome ≡ 1

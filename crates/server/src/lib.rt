@@ -163,18 +163,27 @@ fn write_reply(s: State, names: &[u8], r: Ruling, reply: &mut [u8]) -> Outcome
     let head = head_of(s, r);
     let v = r.verdict;
     let kind = v.reply;
-    let n = r.count;
     match kind {
-        Reply::Nothing => told(0, 0, 0, n),
-        Reply::Offer => told(0, reply::write_offer(reply, head, terms_of(s, v)), 0, n),
-        Reply::LeaseAck => told(0, reply::write_lease_ack(reply, head, terms_of(s, v)), 0, n),
-        Reply::ReleaseAck => told(0, reply::write_release_ack(reply, head), 0, n),
+        Reply::Nothing => told(0, 0, 0, r.count),
+        Reply::Offer => told(
+            0,
+            reply::write_offer(reply, head, terms_of(s, v)),
+            0,
+            r.count,
+        ),
+        Reply::LeaseAck => told(
+            0,
+            reply::write_lease_ack(reply, head, terms_of(s, v)),
+            0,
+            r.count,
+        ),
+        Reply::ReleaseAck => told(0, reply::write_release_ack(reply, head), 0, r.count),
         Reply::InfoAck => write_info(s, names, r, reply),
         Reply::Nak => told(
             0,
             reply::write_nak(reply, head, arithmetic::wide16(v.error)),
             0,
-            n,
+            r.count,
         ),
     }
 }

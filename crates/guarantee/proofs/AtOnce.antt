@@ -37,7 +37,7 @@ use Rattle.decision.specs.Decide.{changed}
 use Rattle.decision.specs.laws.Cases.{or-none}
 use Rattle.decision.specs.laws.Ensured.{sentAs}
 use Rattle.decision.specs.laws.Kept.{held-good}
-use Rattle.server.specs.Serve.{Answer, Call, answered, decidedFor, replyOf, serveOf, tenantOf}
+use Rattle.server.specs.Serve.{Answer, Call, answered, decidedFor, serveOf, tenantOf}
 use Rattle.guarantee.specs.Statement.{AnswersAlike, Discovers, NoHold, Offered, OfferRule, OfferTaken, SoundBook, asRequest, bookAt, holdFor, requested, saysOf, stateAt, tableAt, tenantFor}
 use Rattle.guarantee.proofs.Alike.{Alike, both-numbers}
 use Rattle.guarantee.proofs.Drawn.{Fresh}

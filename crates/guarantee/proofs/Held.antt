@@ -36,7 +36,7 @@ use Rattle.decision.specs.laws.Cases.{decided-by, held-there, leased-there, no,
 use Rattle.decision.specs.laws.Kept.{held-named}
 use Rattle.server.specs.Serve.{Answer, Call, atClock, forServer, serveOf, tenantOf, withReading}
 use Rattle.guarantee.specs.Statement.{Elsewhere, bookAt, run, saysOf, stateAt, tenantFor}
-use Rattle.guarantee.proofs.Replies.{own-dropped}
+use Rattle.guarantee.proofs.Discards.{own-dropped}
 
 -- ---- calls leave the settings as they are, and the clock never falls
 -- x has the settings s, with a clock of its own

@@ -5,6 +5,7 @@ mod proposals;
 mod tests;
 
 ghost use mathlib.Core.Path.{_≡_};
+ghost use Prim.Native.Nat.{_≤_};
 ghost use lib.ListN.{take};
 ghost use Rattle.state.specs.Book.{inUse, remembered};
 ghost use Rattle.state.specs.Edit.{entering, leaving};
@@ -386,7 +387,7 @@ fn not_asked() -> Recorded
 
 // The lookup of the message's identifier, made where a test asks for it.
 fn look_up_if(asks: bool, own: TenantLeases, m: Fields) -> Recorded
-    ensures { λ r. ⌜ r ≡ lookedUp asks (inUse own) m ⌝ }
+    ensures { λ r. ⌜ (r ≡ lookedUp asks (inUse own) m) × (r .compared ≤ 16) ⌝ }
 {
     if asks {
         let i = m.id;
@@ -417,7 +418,7 @@ pub fn decide(
     h: usize,
     m: Fields,
 ) -> Counted
-    ensures { λ r. ⌜ (r .decided ≡ decideIn s (inUse own) (remembered q) held h m) × (r .count ≡ countOf s (inUse own) (remembered q) m) ⌝ }
+    ensures { λ r. ⌜ r ≡ record { decided = decideIn s (inUse own) (remembered q) held h m; count = countOf s (inUse own) (remembered q) m } ⌝ }
 {
     let first = look_up_if(asks_resend(m), own, m);
     let sent = first.lease;

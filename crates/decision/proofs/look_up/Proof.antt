@@ -1,5 +1,6 @@
 -- `look_up` meets its contract: the record at the place that is found, or none.
 use Rattle.decision.specs.laws.View.{absent-is, found-is}
+use Rattle.lists.specs.laws.Part.{unmapped}
 use borrow.Author.Needs.{needs}
 use Rattle.decision.proofs.look_up.Statement.{statement}
 use Rattle.decision.proofs.look_up.Tie as tie
@@ -10,8 +11,8 @@ look-up-spec =
     (tie.spec
     (λ c κs. search needs)
     (λ c κs. search needs)
-    (λ c. search (found-is, absent-is, needs))
-    (λ c. search (found-is, absent-is, needs))
-    (λ c. search (found-is, needs))
+    (λ c. search needs)
+    (λ c. search (unmapped, needs))
+    (λ c. search (found-is, unmapped, needs))
     (λ c κs. search needs)
-    (λ c. search (absent-is, needs)))
+    (λ c. search (absent-is, unmapped, needs)))

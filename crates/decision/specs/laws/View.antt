@@ -4,7 +4,7 @@ use mathlib.Core.Path.{_≡_, refl, sym, ap, ap₂, _∙_, subst}
 use mathlib.Core.Bool.{Bool, true, false, not, _&&_}
 use mathlib.Core.List.{List, [], _∷_, map}
 use native.Mathlib.Omega.{arith}
-use lib.Dec.{eqb}
+use lib.Dec.{eqb, ltb}
 use lib.Bits.{bitAnd, bitOr, or-zero-l}
 use lib.ListN.{length, getD, set, length-map, length-set}
 use lib.Seq.{set-getD}
@@ -22,7 +22,7 @@ use Rattle.state.specs.declared.TenantLeases.{TenantLeases}
 use Rattle.state.specs.declared.LeaseTable.{LeaseTable}
 use Rattle.state.specs.declared.Release.{Release}
 use Rattle.state.specs.declared.State.{State}
-use Rattle.state.specs.Book.{inUse, laidOut, tenantAt, leasesOf, named, other, placeOf, leaseAt, zeroLease, removeOf, unionAll, addressesOf, inScope, overlaps, usedIn, heldOf, busyOf, scopeAt, addedIf}
+use Rattle.state.specs.Book.{inUse, laidOut, tenantAt, leasesOf, named, other, placeOf, lookupOf, leaseAt, zeroLease, removeOf, unionAll, addressesOf, inScope, overlaps, usedIn, heldOf, busyOf, scopeAt, addedIf}
 use Rattle.state.specs.laws.Layout.{noLease, length-in-use, lease-in, lease-out}
 use Rattle.state.specs.laws.Sets.{adds, addresses-cons, addresses-reordered, added-is, add-yes, add-no}
 use Rattle.soundness.specs.declared.HeldTable.{HeldTable}

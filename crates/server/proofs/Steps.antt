@@ -34,6 +34,7 @@ use Rattle.state.specs.Edit.{editedBook, noEdit}
 use Rattle.state.specs.laws.Edited.{edited-none}
 use Rattle.soundness.specs.declared.HeldTable.{HeldTable}
 use Rattle.soundness.specs.View.{View}
+use Rattle.decision.specs.declared.Counted.{Counted}
 use Rattle.decision.specs.declared.Decided.{Decided}
 use Rattle.decision.specs.declared.Reply.{Reply}
 use Rattle.decision.specs.declared.Reply.the-variants.{Nothing, InfoAck}
@@ -138,14 +139,14 @@ judges-as : {a a′ : Judgement} {b : Book} {h : ℕ} {r : Judged} → a ≡ a�
 judges-as {b = b} {h} {r} e v = subst (λ (z : Judgement). Judges z b h r) e v
 
 -- of the book the code has the tenant's records and what all tenants hold; of the tenant's releases, the entries q
-pub judges-decided : (s : State) (t : LeaseTable) (k : Memory) (names : List ℕ) (q : TenantReleases) (h : ℕ) (m : Fields) (d : Decided) (n : ℕ) {own : TenantLeases} {held : HeldTable} {r : Ruling}
-    → View s t h own held → d ≡ decideIn s (inUse own) (remembered q) held h m → n ≡ countOf s (inUse own) (remembered q) m → q ≡ releasesAt k h → r ≡ rulingOn h m n (d .verdict)
-    → Judges (judgedBy (bookOf s t k names) h m (decidedFor (bookOf s t k names) h m)) (bookOf s t k names) h (record { ruling = r; edit = d .edit })
-judges-decided s t k names q h m d n {r = r} v e g f w =
-    subst (λ (z : Decided). Judges (judgedBy (bookOf s t k names) h m z) (bookOf s t k names) h (record { ruling = r; edit = d .edit }))
-    (e ∙ decide-in v m (remembered q) ∙ ap (λ (z : TenantReleases). decideOf s t (remembered z) h m) f)
+pub judges-decided : (s : State) (t : LeaseTable) (k : Memory) (names : List ℕ) (q : TenantReleases) (h : ℕ) (m : Fields) (x : Counted) {own : TenantLeases} {held : HeldTable} {r : Ruling}
+    → View s t h own held → x ≡ record { decided = decideIn s (inUse own) (remembered q) held h m; count = countOf s (inUse own) (remembered q) m } → q ≡ releasesAt k h → r ≡ rulingOn h m (x .count) (x .decided .verdict)
+    → Judges (judgedBy (bookOf s t k names) h m (decidedFor (bookOf s t k names) h m)) (bookOf s t k names) h (record { ruling = r; edit = x .decided .edit })
+judges-decided s t k names q h m x {r = r} v e f w =
+    subst (λ (z : Decided). Judges (judgedBy (bookOf s t k names) h m z) (bookOf s t k names) h (record { ruling = r; edit = x .decided .edit }))
+    (ap (λ (y : Counted). y .decided) e ∙ decide-in v m (remembered q) ∙ ap (λ (z : TenantReleases). decideOf s t (remembered z) h m) f)
     (record {
-      ruling = w ∙ ap (λ (n : ℕ). rulingOn h m n (d .verdict)) (g ∙ ap (λ (x : TenantLeases). countOf s (inUse x) (remembered q) m) (v .records) ∙ ap (λ (z : TenantReleases). countOf s (ownOf t h) (remembered z) m) f);
+      ruling = w ∙ ap (λ (n : ℕ). rulingOn h m n (x .decided .verdict)) (ap (λ (y : Counted). y .count) e ∙ ap (λ (y : TenantLeases). countOf s (inUse y) (remembered q) m) (v .records) ∙ ap (λ (z : TenantReleases). countOf s (ownOf t h) (remembered z) m) f);
       book = refl;
     })
 

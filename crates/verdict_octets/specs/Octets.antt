@@ -49,9 +49,13 @@ languageOctets l = flagOf (l .asked) ∷ octets16 (l .len) ++ l .octets
 unfoldable pub identifierOctets : Identifier → List ℕ
 identifierOctets i = i .len ∷ i .octets
 
+-- document 02, W-210
+unfoldable pub lastOctets : Ruling → List ℕ
+lastOctets r = identifierOctets (r .id) ++ (r .count % 256 ∷ [])
+
 unfoldable pub verdictOctets : Ruling → List ℕ
 verdictOctets r =
-    outcomeOctets (r .verdict) ++ placeOctets (r .offset) (r .tenant) ++ numberOctets (r .xid) (r .verdict) ++ askedOctets r ++ languageOctets (r .language) ++ identifierOctets (r .id) ++ (r .count % 256 ∷ [])
+    outcomeOctets (r .verdict) ++ placeOctets (r .offset) (r .tenant) ++ numberOctets (r .xid) (r .verdict) ++ askedOctets r ++ languageOctets (r .language) ++ lastOctets r
 
 -- ---- read back
 -- another number than 1 to 5 is none

@@ -3,7 +3,7 @@ ghost use mathlib.Core.Path.{_≡_};
 ghost use Prim.Native.Nat.{_+_, _≤_};
 ghost use lib.ListN.{length};
 ghost use Rattle.octets.specs.Octets.{Wrote};
-ghost use Rattle.verdict_octets.specs.Octets.{askedOctets, flagOf, identifierIn, identifierOctets, isSet, languageIn, languageOctets, numberOctets, outcomeOctets, placeOctets, replyFor, replyNumber, rulingIn, run, setAt, verdictIn, verdictOctets};
+ghost use Rattle.verdict_octets.specs.Octets.{askedOctets, flagOf, identifierIn, identifierOctets, isSet, languageIn, languageOctets, lastOctets, numberOctets, outcomeOctets, placeOctets, replyFor, replyNumber, rulingIn, run, setAt, verdictIn, verdictOctets};
 use decision::Reply;
 use decision::Verdict;
 use message::Identifier;
@@ -97,20 +97,28 @@ fn put_identifier(room: &mut [u8], at: usize, i: Identifier) -> usize
     octets::put_run(room, a, &kept, 32)
 }
 
+// The identifier, and how many records were read.
+fn put_last(room: &mut [u8], at: usize, r: Ruling) -> usize
+    requires { ⌜ at + 34 ≤ length (now room) ⌝ }
+    ensures { λ n. ⌜ Wrote (now (room .entry)) at (lastOctets r) (now (room .exit)) n × (n ≡ at + 34) ⌝ }
+{
+    let i = r.id;
+    let a = put_identifier(room, at, i);
+    octets::put_u8(room, a, (r.count % 256) as u8)
+}
+
 // A verdict, in a room of its size.
 pub fn put(room: &mut [u8; 75], r: Ruling)
     ensures { λ _. ⌜ now (room .exit) ≡ verdictOctets r ⌝ }
 {
     let v = r.verdict;
     let l = r.language;
-    let i = r.id;
     let a = put_outcome(room, 0, v);
     let b = put_place(room, a, r.offset, r.tenant);
     let c = put_numbers(room, b, r.xid, v);
     let d = put_asked(room, c, r);
     let e = put_language(room, d, l);
-    let f = put_identifier(room, e, i);
-    octets::put_u8(room, f, (r.count % 256) as u8);
+    put_last(room, e, r);
 }
 
 // ---- read back

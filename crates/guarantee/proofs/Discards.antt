@@ -1,7 +1,7 @@
 -- Proof of demand 1: whichever way the tests go, a call has one of the outcomes 0 to 8, and a discard changes no more than the clock and the ended leases.
 use Prim.Native.Nat.{ℕ, zero, suc, _≤_, max}
 use mathlib.Core.Path.{_≡_, refl, sym, ap, _∙_, subst}
-use mathlib.Core.Bool.{Bool, false, not, _&&_}
+use mathlib.Core.Bool.{Bool, true, false, not, _&&_}
 use mathlib.Core.List.{List, [], _∷_, map}
 use native.Mathlib.Omega.{arith}
 use lib.Dec.{ltb, eqb}

@@ -6,7 +6,7 @@ mod common;
 use common::*;
 use second::reply::SHORTEST_ROOM;
 use second::verdict::{Answer, Asked, Discard, Given, Ruling};
-use second::{judge, serve, write, Book, Name, Verdict};
+use second::{judge, judge_and_count, serve, write, Book, Name, Verdict};
 
 const ID: &[u8] = &[0, 0x41];
 const SCOPE: &[u8] = &[0xEF, 0xC0, 0, 0];
@@ -185,10 +185,12 @@ fn the_call_is_made_of_the_two() {
         for room in [512, 513, 1500] {
             let (mut served, mut written) = (pattern(room), pattern(room));
             let (mut copy, mut other) = (whole.clone(), halves.clone());
-            let told = serve(&mut copy, &datagram, client, time, &mut served);
-            let verdict = judge(&mut other, &datagram, client, time);
-            assert_eq!(verdict, due);
-            assert_eq!(write(&other, &verdict, &mut written), told);
+            let (outcome, offset, count, length) =
+                serve(&mut copy, &datagram, client, time, &mut served);
+            let told = judge_and_count(&mut other, &datagram, client, time);
+            assert_eq!(told, (due.clone(), count));
+            let written_length = write(&other, &told.0, &mut written);
+            assert_eq!(written_length, (outcome, offset, length));
             assert_eq!((written, other), (served, copy));
         }
         serve(&mut whole, &datagram, client, time, &mut [0; 512]);
@@ -267,7 +269,7 @@ fn the_old_call_makes_tests_1_and_2_itself() {
             lent.scopes[0].ttl = ttl;
             let (before, mut room) = (lent.clone(), pattern(length));
             let told = serve(&mut lent, &datagram, client, time, &mut room);
-            assert_eq!(told, (outcome, 0, 0));
+            assert_eq!(told, (outcome, 0, 0, 0));
             assert_eq!((lent, room), (before, pattern(length)));
         }
     }

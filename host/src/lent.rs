@@ -44,7 +44,7 @@ pub fn serve<'r>(
     time: u32,
     reply: &'r mut [u8],
 ) -> Result<Outcome<'r>, Refusal> {
-    let (client, mut length, mut offset) = (u32::from(client), 0, 0);
+    let (client, mut length, mut offset, mut count) = (u32::from(client), 0, 0, 0);
     let number = library::serve(
         file,
         file_length,
@@ -54,6 +54,7 @@ pub fn serve<'r>(
         reply,
         &mut length,
         &mut offset,
+        &mut count,
     );
     Outcome::of_number(number, offset, &reply[..length]).ok_or_else(|| refusal(number))
 }

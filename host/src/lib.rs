@@ -75,8 +75,8 @@ pub const FILE_ROOM: usize = 32_768;
 pub const REPLY_ROOM: usize = 512;
 /// The least buffer for the board's text.
 pub const BOARD_ROOM: usize = 1_100;
-/// What a replay needs free before it answers a call: outcome(1), offset(2), reply length(2) and the longest reply.
-pub const ANSWER_ROOM: usize = 5 + REPLY_ROOM;
+/// What a replay needs free before it answers a call: outcome(1), offset(2), count(1), reply length(2) and the longest reply.
+pub const ANSWER_ROOM: usize = 6 + REPLY_ROOM;
 /// The octets of the occupancy board, and the least buffer for it: for each of four scopes the owner(1) and the count(1) of 64 addresses and
 /// the holdings(1) of eight houses.
 pub const OCCUPANCY_ROOM: usize = 4 * (2 * 64 + 8);

@@ -49,6 +49,7 @@ extern "C" {
         reply_room: usize,
         reply_length: *mut usize,
         fault_offset: *mut usize,
+        count: *mut usize,
     ) -> u8;
     /// The first half of a call.
     pub fn banshorra_judge(
@@ -113,8 +114,9 @@ pub fn serve(
     reply: &mut [u8],
     reply_length: &mut usize,
     fault_offset: &mut usize,
+    count: &mut usize,
 ) -> u8 {
-    // SAFETY: as above; `file`, `reply`, the two lengths and the offset are written, and each is lent as `&mut`.
+    // SAFETY: as above; `file`, `reply`, the two lengths, the offset and the count are written, and each is lent as `&mut`.
     unsafe {
         banshorra_serve(
             file.as_mut_ptr(),
@@ -128,6 +130,7 @@ pub fn serve(
             reply.len(),
             reply_length,
             fault_offset,
+            count,
         )
     }
 }

@@ -143,7 +143,7 @@ pub enum Refusal {
     FileRoom = 23,
     /// A call's record is cut off.
     CutOff = 24,
-    /// Fewer than 517 octets are left for the next answer.
+    /// Fewer than 518 octets are left for the next answer.
     AnswersRoom = 27,
     /// The file's length is above its buffer's.
     FileLength = 28,

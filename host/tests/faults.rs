@@ -186,7 +186,7 @@ fn the_offset_is_0_with_every_other_number() {
         let (mut buffer, mut reply) = ([0; FILE_ROOM], [0; REPLY_ROOM]);
         buffer[..file.len()].copy_from_slice(&file);
         let mut file_length = file.len() - usize::from(number == 20);
-        let (mut reply_length, mut offset) = (99, 99);
+        let (mut reply_length, mut offset, mut count) = (99, 99, 99);
         let got = library::serve(
             &mut buffer,
             &mut file_length,
@@ -196,7 +196,9 @@ fn the_offset_is_0_with_every_other_number() {
             &mut reply[..room],
             &mut reply_length,
             &mut offset,
+            &mut count,
         );
         assert_eq!((got, offset), (number, if number == 5 { 14 } else { 0 }));
+        assert_eq!(count, 0);
     }
 }

@@ -5,6 +5,11 @@ use banshorra_host::library::*;
 use banshorra_host::{OCCUPANCY_ROOM, REPLY_ROOM, VERDICT_SIZE};
 use builder::Call;
 
+/// What a call gives: its number, offset, count and reply.
+pub type Served = (u8, usize, usize, Vec<u8>);
+/// Records that two lookups can compare.
+const MOST_READ: usize = 32;
+
 /// A buffer that is lent: on the heap, and just as long as the library is told, so that valgrind sees any octet outside; or with so many
 /// octets around it, to see those that are written.
 #[derive(Clone, PartialEq)]
@@ -152,11 +157,11 @@ impl Lender {
         (number, board.part()[..filled].to_vec())
     }
 
-    /// One call, in a reply room that is painted with `salt`: its number, offset and reply. A refusal and discard 2 change nothing.
-    pub fn serve(self, held: &mut Held, call: &Call, salt: u8) -> (u8, usize, Vec<u8>) {
+    /// One call, in a reply room that is painted with `salt`: its number, offset, count and reply. A refusal and discard 2 change nothing.
+    pub fn serve(self, held: &mut Held, call: &Call, salt: u8) -> Served {
         let (stood, before) = (held.clone(), self.painted(call.room.into(), salt));
         let (mut datagram, mut reply) = (self.copy(&call.datagram), before.clone());
-        let (mut length, mut offset) = (Box::new(usize::MAX), Box::new(usize::MAX));
+        let [mut length, mut offset, mut count] = [(); 3].map(|()| Box::new(usize::MAX));
         // SAFETY: as above.
         let number = unsafe {
             banshorra_serve(
@@ -171,6 +176,7 @@ impl Lender {
                 call.room.into(),
                 &mut *length,
                 &mut *offset,
+                &mut *count,
             )
         };
         let same = datagram == self.copy(&call.datagram);
@@ -197,8 +203,14 @@ impl Lender {
             "an offset of {offset} in {} octets",
             call.datagram.len()
         );
+        let most = if [0, 8].contains(&number) {
+            MOST_READ
+        } else {
+            0
+        };
+        assert!(*count <= most, "{count} records read with {number}");
         held.see(&stood, number == 2 || number > 8);
-        (number, *offset, reply.part()[..*length].to_vec())
+        (number, *offset, *count, reply.part()[..*length].to_vec())
     }
 
     /// The first half of a call: its number, and the verdict in octets that were painted with `salt`. A refusal changes nothing.

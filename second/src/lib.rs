@@ -26,6 +26,6 @@ pub use holds::Hold;
 pub use names::{Name, ScopeNames};
 pub use releases::Release;
 pub use reply::write;
-pub use server::{judge, judge_and_count, serve};
+pub use server::{judge, serve};
 pub use sound::sound;
 pub use verdict::Verdict;

@@ -50,9 +50,8 @@ pub fn serve(
     if room.len() < SHORTEST_ROOM {
         return (NO_ROOM, 0, 0, 0);
     }
-    let (verdict, count) = judge_sound(book, datagram, client, time);
-    let (outcome, offset, length) = write(book, &verdict, room);
-    (outcome, offset, count, length)
+    let verdict = judge_sound(book, datagram, client, time);
+    write(book, &verdict, room)
 }
 
 /// The same with the reply as octets of its own: the outcome, its offset and count, and the reply, which is empty for
@@ -73,28 +72,17 @@ pub fn answer(
 /// The first half of a call: the verdict, and in `book` the book afterwards. It has no reply room, so that test 2 isn't
 /// made. An unsound book is 1 and left as it was.
 pub fn judge(book: &mut Book, datagram: &[u8], client: u32, time: u32) -> Verdict {
-    judge_and_count(book, datagram, client, time).0
-}
-
-/// The same with the count.
-pub fn judge_and_count(
-    book: &mut Book,
-    datagram: &[u8],
-    client: u32,
-    time: u32,
-) -> (Verdict, usize) {
     if !sound(book) {
-        return (Verdict::Discard(BOOK_UNSOUND.into()), 0);
+        return Verdict::Discard(BOOK_UNSOUND.into());
     }
     judge_sound(book, datagram, client, time)
 }
 
 /// The same once the book is known to be sound.
-fn judge_sound(book: &mut Book, datagram: &[u8], client: u32, time: u32) -> (Verdict, usize) {
-    let mut count = 0;
-    match ruling_or_discard(book, datagram, client, time, &mut count) {
-        Ok(ruling) => (Verdict::Reply(ruling), count),
-        Err(discard) => (Verdict::Discard(discard), count),
+fn judge_sound(book: &mut Book, datagram: &[u8], client: u32, time: u32) -> Verdict {
+    match ruling_or_discard(book, datagram, client, time) {
+        Ok(ruling) => Verdict::Reply(ruling),
+        Err(discard) => Verdict::Discard(discard),
     }
 }
 
@@ -105,7 +93,6 @@ fn ruling_or_discard(
     datagram: &[u8],
     client: u32,
     time: u32,
-    count: &mut usize,
 ) -> Result<Ruling, Discard> {
     book.advance(time);
     let house = book.house_of_client(client).ok_or(NO_HOUSE)?;
@@ -122,19 +109,23 @@ fn ruling_or_discard(
         header,
         options,
     };
-    match answer_or_error(book, &call, count) {
-        Ok(answer) => Ok(call.ruling(answer)),
+    let mut count = 0;
+    match answer_or_error(book, &call, &mut count) {
+        Ok(answer) => Ok(call.ruling(answer, count)),
         Err(error) => match header.kind {
-            Kind::Discover | Kind::GetInfo => Err(SILENT_ERROR.into()),
-            _ => Ok(call.ruling(Answer::Error(error))),
+            Kind::Discover | Kind::GetInfo => Err(Discard {
+                count,
+                ..SILENT_ERROR.into()
+            }),
+            _ => Ok(call.ruling(Answer::Error(error), count)),
         },
     }
 }
 
 fn of_options(offset: usize) -> Discard {
     Discard {
-        outcome: BAD_OPTIONS,
         offset,
+        ..BAD_OPTIONS.into()
     }
 }
 
@@ -186,13 +177,14 @@ impl Call<'_> {
             .is_some_and(|hold| Some(hold.lease.scope) != self.scope(book))
     }
 
-    /// An answer with what the reply repeats of the message.
-    fn ruling(&self, answer: Answer) -> Ruling {
+    /// An answer with what the reply repeats of the message, and how many records were compared for it.
+    fn ruling(&self, answer: Answer, count: usize) -> Ruling {
         Ruling {
             house: self.house,
             transaction: self.header.transaction,
             identifier: self.options.identifier.to_vec(),
             has_features: self.options.has(code::FEATURES),
+            count,
             answer,
         }
     }

@@ -16,7 +16,7 @@
 //!         let (length, from) = socket.recv_from(&mut datagram)?;
 //!         let std::net::IpAddr::V4(client) = from.ip() else { continue };
 //!         let time = SystemTime::now().duration_since(UNIX_EPOCH)?.as_secs() as u32;
-//!         match campus.serve(&datagram[..length], client, time, &mut reply) {
+//!         match campus.serve(&datagram[..length], client, time, &mut reply).outcome {
 //!             Outcome::Reply(octets) => {
 //!                 // On disk before the client hears of it.
 //!                 std::fs::write("campus.new", campus.as_bytes())?;
@@ -62,7 +62,7 @@ mod verdict;
 pub use campus_file::CampusFile;
 pub use fault::Fault;
 pub use lent::Replayed;
-pub use numbers::{Discard, Outcome, Refusal};
+pub use numbers::{Answer, Discard, Outcome, Refusal};
 pub use occupancy::Occupancy;
 pub use reason::{Case, Reason};
 pub use records::{answers, Answers, Call};
@@ -81,4 +81,4 @@ pub const ANSWER_ROOM: usize = 6 + REPLY_ROOM;
 /// the holdings(1) of eight houses.
 pub const OCCUPANCY_ROOM: usize = 4 * (2 * 64 + 8);
 /// The octets of a verdict.
-pub const VERDICT_SIZE: usize = 74;
+pub const VERDICT_SIZE: usize = 75;

@@ -8,7 +8,10 @@ use common::*;
 /// The offset of a datagram's discard 5. Every other outcome carries 0.
 fn offset_of(datagram: &[u8]) -> Option<usize> {
     let mut reply = [0; REPLY_ROOM];
-    match specimen().serve(datagram, HOUSE_1, 1000, &mut reply) {
+    match specimen()
+        .serve(datagram, HOUSE_1, 1000, &mut reply)
+        .outcome
+    {
         Outcome::Discard(Discard::Options { offset }) => Some(offset),
         outcome => {
             assert_eq!(outcome.offset(), 0);
@@ -20,7 +23,10 @@ fn offset_of(datagram: &[u8]) -> Option<usize> {
 /// The line for the desk.
 fn line(datagram: &[u8]) -> String {
     let mut reply = [0; REPLY_ROOM];
-    match specimen().serve(datagram, HOUSE_1, 1000, &mut reply) {
+    match specimen()
+        .serve(datagram, HOUSE_1, 1000, &mut reply)
+        .outcome
+    {
         Outcome::Discard(why) => why.in_words(datagram),
         Outcome::Reply(_) => "a reply".to_owned(),
     }

@@ -9,7 +9,7 @@ use crate::fault;
 use crate::halves;
 use crate::holds;
 use crate::judged;
-use crate::lent::{Held, Lender, Octets, Written};
+use crate::lent::{Held, Lender, Octets, Served};
 use crate::names;
 use crate::occupancy::{self, Board};
 use crate::random::Random;
@@ -58,7 +58,7 @@ struct Halves {
     /// The campus file after the first half; empty if the book can't be written.
     file: Vec<u8>,
     /// What the second half gives in a room that is just large enough, in one that is too short, and in the call's if it is another.
-    written: Vec<(usize, Written)>,
+    written: Vec<(usize, Served)>,
 }
 
 impl Halves {
@@ -72,9 +72,9 @@ impl Halves {
         }
         let written = rooms.into_iter().map(|length| {
             let mut reply = vec![0; length];
-            let (outcome, offset, filled) = second::write(&judged, &verdict, &mut reply);
+            let (outcome, offset, count, filled) = second::write(&judged, &verdict, &mut reply);
             reply.truncate(filled);
-            (length, (outcome, offset, reply))
+            (length, (outcome, offset, count, reply))
         });
         let halves = Halves {
             written: written.collect(),
@@ -690,11 +690,11 @@ fn half_by_half(
     let (_, ample) = &due.written[0];
     whole_call(what, before, held.file(), call, answer, ample);
     let campus = Campus::read(file).expect("an accepted file has its layout");
-    let fields = halves::due(&campus, call, outcome, ample.1, &ample.2);
+    let fields = halves::due(&campus, call, ample);
     if let Some(field) = halves::missed(&fields, &verdict) {
         panic!("{what}: {field:?} is due in the verdict {}", hex(&verdict));
     }
-    let why = halves::why(&campus, call, &verdict, &ample.2);
+    let why = halves::why(&campus, call, &verdict, &ample.3);
     why.into_iter().for_each(|why| tally.halved(why));
     verdict
 }
@@ -722,15 +722,15 @@ fn whole_call(
     file: &[u8],
     call: &Call,
     answer: &Answer,
-    halves: &Written,
+    halves: &Served,
 ) {
-    let mut whole = (answer.outcome, answer.offset, answer.reply.clone());
+    let reply = answer.reply.clone();
+    let mut whole = (answer.outcome, answer.offset, answer.count, reply);
     let mut whole_file = &answer.file[..];
     if usize::from(call.room) < SHORTEST_ROOM {
         let mut ample = call.clone();
         ample.room = SHORTEST_ROOM as u16;
-        let (outcome, offset, _, reply) = LENDER.serve(&mut held, &ample, 0);
-        whole = (outcome, offset, reply);
+        whole = LENDER.serve(&mut held, &ample, 0);
         whole_file = held.file();
     }
     same(&format!("{what}: the whole call"), &whole, halves);
@@ -750,7 +750,7 @@ fn refused_halves(case: &Case, expected: &Expected, choice: usize, tally: &mut T
     let mut discard = [0; VERDICT_SIZE];
     discard[0] = 3;
     for verdict in [discard, halves::any_octets(&mut random)] {
-        let nothing = |number| (number, 0, vec![]);
+        let nothing = |number| (number, 0, 0, vec![]);
         for (room, number) in [
             (SHORTEST_ROOM, expected.refusal),
             (SHORTEST_ROOM - 1, NO_ROOM),
@@ -777,10 +777,11 @@ fn listed_halves(case: &Case, expected: &Expected, choice: usize, tally: &mut Ta
         call.room = SHORTEST_ROOM as u16;
         list.extend(call.record());
         let (_, verdict) = LENDER.judge(&mut by_one, &call, 0);
-        let (outcome, offset, reply) =
+        let (outcome, offset, count, reply) =
             LENDER.reply(by_one.file(), &verdict, SHORTEST_ROOM, choice as u8);
         answers.push(outcome);
         answers.extend((offset as u16).to_be_bytes());
+        answers.push(count as u8);
         answers.extend((reply.len() as u16).to_be_bytes());
         answers.extend(reply);
     }

@@ -127,25 +127,39 @@ fn proved(job: &Job, file: &mut [u8], answers: &mut [u8]) -> usize {
         }
         Work::Reply(judged) => {
             let (verdict, reply) = (&judged.proved, &mut answers[..SHORTEST_ROOM]);
-            library::reply(&job.file, verdict, reply, &mut filled, &mut used)
+            library::reply(
+                &job.file,
+                verdict,
+                reply,
+                &mut filled,
+                &mut used,
+                &mut count,
+            )
         }
     };
     usize::from(number) + length + used + filled + count
 }
 
 fn plain(job: &Job, file: &mut [u8], answers: &mut [u8]) -> usize {
-    let (length, told) = (job.file.len(), |(outcome, offset, filled): (u8, _, _)| {
-        usize::from(outcome) + offset + filled
-    });
+    let (length, told) = (
+        job.file.len(),
+        |(outcome, offset, count, filled): (u8, _, _, _)| {
+            usize::from(outcome) + offset + count + filled
+        },
+    );
     let read = second::file::read;
     match &job.work {
         Work::Check => read(&job.file).map_or_else(usize::from, |_| 0),
         Work::Replay(calls, _) => plain_replay(file, length, calls, answers),
         Work::Serve(call) => plain_call(file, length, |book| {
             let reply = &mut answers[..SHORTEST_ROOM];
-            let (outcome, offset, count, filled) =
-                second::serve(book, &call.datagram, call.client, call.time, reply);
-            told((outcome, offset, filled)) + count
+            told(second::serve(
+                book,
+                &call.datagram,
+                call.client,
+                call.time,
+                reply,
+            ))
         }),
         Work::Judge(call) => plain_call(file, length, |book| {
             match second::judge(book, &call.datagram, call.client, call.time) {

@@ -370,8 +370,7 @@ impl Watch {
     fn replies(&mut self, before: &Held, judged: &Held, call: &Call, verdict: &Octets) {
         let (mut whole, mut ample) = (before.clone(), call.clone());
         ample.room = call.room.max(REPLY_ROOM as u16);
-        let (outcome, offset, _, reply) = EXACT.serve(&mut whole, &ample, 0x3C);
-        let served = (outcome, offset, reply);
+        let served = EXACT.serve(&mut whole, &ample, 0x3C);
         let same = whole.length() == judged.length() && whole.file() == judged.file();
         assert!(same, "the file isn't that of the whole call");
         let written = EXACT.reply(judged.file(), verdict, ample.room.into(), 0x3C);
@@ -382,10 +381,9 @@ impl Watch {
         if call.room < ample.room {
             let short = EXACT.reply(judged.file(), verdict, call.room.into(), 0x3C);
             self.count("reply", short.0);
-            assert_eq!(short, (2, 0, vec![]), "reply in a short room");
+            assert_eq!(short, (2, 0, 0, vec![]), "reply in a short room");
         }
-        let (outcome, offset, reply) = served;
-        let due = halves::due(&campus(before.file()), call, outcome, offset, &reply);
+        let due = halves::due(&campus(before.file()), call, &served);
         let missed = halves::missed(&due, verdict);
         assert_eq!(missed, None, "another verdict is due");
     }
@@ -398,12 +396,15 @@ impl Watch {
             0 => None,
             refusal => Some(refusal),
         };
-        let (number, offset, reply) = EXACT.reply_to_any(file, &verdict, room, 0x3C);
+        let (number, offset, count, reply) = EXACT.reply_to_any(file, &verdict, room, 0x3C);
         self.count("reply", number);
         let right = due.map_or(number <= 8, |due| number == due);
         assert!(right, "reply returned {number}, {due:?} is due");
-        let nothing = (offset, reply.len()) == (0, 0);
-        assert!(nothing || due.is_none(), "a reply or offset with {number}");
+        let nothing = (offset, count, reply.len()) == (0, 0, 0);
+        assert!(
+            nothing || due.is_none(),
+            "a reply, offset or count with {number}"
+        );
     }
 
     /// Verdicts that the first half didn't give, or not with this file: some outcome, within 512 octets.

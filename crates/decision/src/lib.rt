@@ -68,7 +68,7 @@ pub struct Decided {
     pub edit: Edit,
 }
 
-// A decision, and how many of the tenant's records the lookups for it compared: what was read, as each lookup is made where a test asks for it.
+// A decision, and how many of the tenant's records its lookups compared: each is made where a test asks for it.
 pub struct Counted {
     pub decided: Decided,
     pub count: usize,

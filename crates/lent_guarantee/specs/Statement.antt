@@ -28,7 +28,7 @@ use Rattle.state_file.specs.declared.Written.{Written}
 use Rattle.state_file.specs.StateFile.{namesOf}
 use Rattle.state_file.specs.Typed.{Typed}
 use Rattle.records.specs.Records.{recordsOf, tableFrom}
-use Rattle.records.specs.Lent.{bookFrom, is128, judgeLent, ledgerOf, lentBoth, LentAnswer, LentJudgement, readLent, roomLent, serveLent, writtenLent}
+use Rattle.records.specs.Lent.{bookFrom, findLent, is128, judgeLent, ledgerOf, lentBoth, LentAnswer, LentJudgement, readLent, roomLent, serveLent, writtenLent}
 
 -- a ledger (clock, settings, what is remembered and the board), records and names, as their caller holds them; the names are lent to be read only
 pub record Lent : Type 0 where
@@ -178,6 +178,10 @@ LentOfferHeld =
     → (cs : List Call) → All (Elsewhere (l .ledger .state) (tenantFor (bookOf l) d) (leaseIdIn (saysOf (bookOf l) d))) cs
     → (r : Call) → TakesUp (bookOf l) d (bookOf (runLent l (d ∷ cs))) r
     → GrantedAsOffered (bookOf l) d (bookOf (runLent l (d ∷ cs))) r (answerOf (l .names) (served l d)) (answerOf (runLent l (d ∷ cs) .names) (served (runLent l (d ∷ cs)) r))
+
+-- ---- document 02, W-210: finding an identifier among lent records compares "at most 16"
+unfoldable pub FindsFew : Type 0
+FindsFew = (h : ℕ) (i : List ℕ) (ls : List Lease) → findLent h i ls .compared ≤ 16
 
 -- ---- the file: the ledger and the records that it is read into, with the names that stand in it
 abbrev pub afterFile : List ℕ → Ledger → List Lease → Lent

@@ -550,6 +550,7 @@ pub fn find(records: Records, n: usize, h: usize, id: [u8; 32], len: u8) -> Look
             let own = row(records, h);
             return state::find(own, id, len);
         }
+        return not_found();
     }
     not_found()
 }

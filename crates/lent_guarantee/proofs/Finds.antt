@@ -1,7 +1,6 @@
 -- Laws: a tenant of lent records has at most sixteen in use, so that a lookup among them compares at most sixteen.
 use Prim.Native.Nat.{ℕ, zero, suc, _≤_}
 use mathlib.Core.Bool.{Bool, true, false}
-use mathlib.Core.Path.{_≡_, refl}
 use mathlib.Core.List.{List, [], map}
 use native.Mathlib.Omega.{arith}
 use lib.ListN.{drop, getD, length, length-take, take}

@@ -2,8 +2,16 @@
 -- writes before the reply.
 use Rattle.embed.proofs.Answered.{answered}
 use borrow.Author.Needs.{needs}
+use native.Mathlib.Omega.{arith}
 use Rattle.embed.proofs.answer_call.Statement.{statement}
 use Rattle.embed.proofs.answer_call.Tie as tie
+
+-- what is required of the room lies further back than the search looks
+put-u16-requires-2 : tie.Need-put-u16-requires-2
+put-u16-requires-2 c κs =
+    let mid = c .before .before .before .before .before .before .before .before .before in
+    let back = mid .before .before .before .before .before .before .before .before .before in
+    omega (arith, back .before .before .before .before .before .before .pre .0)
 
 returns : tie.Need-returns
 returns c =
@@ -38,6 +46,6 @@ answer-call-spec =
     (λ c κs. search needs)
     (λ c. search needs)
     (λ c. search needs)
-    (λ c κs. search needs)
+    put-u16-requires-2
     (λ c. search needs)
     returns)

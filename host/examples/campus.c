@@ -19,7 +19,7 @@ int main(int count, char **words)
     static uint8_t file[BANSHORRA_FILE_ROOM + 1];
     static uint8_t text[BANSHORRA_BOARD_ROOM];
     uint8_t reply[BANSHORRA_REPLY_ROOM];
-    size_t file_length, reply_length, fault_offset;
+    size_t file_length, reply_length, fault_offset, count_read;
     struct in_addr client;
 
     if (count < 2 || count > 3 || inet_pton(AF_INET, count == 3 ? words[2] : "10.0.1.5", &client) != 1) {
@@ -38,7 +38,7 @@ int main(int count, char **words)
 
     /* A host passes time(NULL). 0 is before the file's clock, which stays, so that this prints the same every time. */
     uint8_t number = banshorra_serve(file, sizeof file, &file_length, getinfo, sizeof getinfo, ntohl(client.s_addr), 0, reply, sizeof reply,
-                                     &reply_length, &fault_offset);
+                                     &reply_length, &fault_offset, &count_read);
     if (number > BANSHORRA_ERROR)
         return 1; /* the file is refused, as the board has said */
     printf("outcome %u\n", number);

@@ -41,7 +41,7 @@ fn main() -> ExitCode {
 
     // A host passes the time of day. 0 is before the file's clock, which stays, so that this prints the same every time.
     let mut reply = [0; REPLY_ROOM];
-    let outcome = campus.serve(GETINFO, client, 0, &mut reply);
+    let outcome = campus.serve(GETINFO, client, 0, &mut reply).outcome;
     println!("outcome {}", outcome.number());
     if let Outcome::Discard(Discard::Options { offset }) = outcome {
         println!("wrong at octet {offset}");

@@ -23,9 +23,9 @@ extern "C" {
 #define BANSHORRA_FILE_ROOM 32768    /* the longest campus file, and the least buffer for one that is served */
 #define BANSHORRA_REPLY_ROOM 512     /* the least reply buffer; no reply is longer */
 #define BANSHORRA_BOARD_ROOM 1100    /* the least buffer for the board's text */
-#define BANSHORRA_ANSWER_ROOM 517    /* what a replay needs free before it answers a call */
+#define BANSHORRA_ANSWER_ROOM 518    /* what a replay needs free before it answers a call */
 #define BANSHORRA_OCCUPANCY_ROOM 544 /* the occupancy board, and the least buffer for it */
-#define BANSHORRA_VERDICT_SIZE 74    /* a verdict */
+#define BANSHORRA_VERDICT_SIZE 75    /* a verdict */
 
 /* Outcomes of a call (document 01's table). The first that holds counts. */
 enum {
@@ -46,7 +46,7 @@ enum {
     BANSHORRA_UNSOUND = 21,         /* campus file: well formed, but not sound */
     BANSHORRA_SHORT_FILE_ROOM = 23, /* the file's buffer is below 32,768 octets, or the occupancy board's below 544 */
     BANSHORRA_CUT_OFF = 24,         /* a call's record is cut off */
-    BANSHORRA_SHORT_ANSWERS = 27,   /* fewer than 517 octets are left for the next answer */
+    BANSHORRA_SHORT_ANSWERS = 27,   /* fewer than 518 octets are left for the next answer */
     BANSHORRA_FILE_LENGTH = 28      /* the file's length is above its buffer's */
 };
 
@@ -82,9 +82,13 @@ uint8_t banshorra_occupancy(const uint8_t *file, size_t file_length, uint8_t *bo
    stands in the buffer and its length in *file_length. Octets past the reply and past the file are untouched.
    With discard 5 *fault_offset is the octet of the datagram, counted from 0, at which the first option stands that breaks a rule (of a repeat the
    later; one to three octets left over count as one), or datagram_length where End or option 3 is missing. It is 0 with every other number.
-   Or a refusal, tested in the order 23, 28, 20, 21, which changes nothing but *reply_length and *fault_offset, which are 0. */
+   *count is how many of the house's records were compared to find the identifier: for each lookup the place of the match, counted from 1 in order of
+   ending, or else all of its leases and holds. There are at most two lookups of at most 16. It is 0 with discards 1 to 7, with a GETINFO and with a
+   RELEASE sent again.
+   Or a refusal, tested in the order 23, 28, 20, 21, which changes nothing but *reply_length, *fault_offset and *count, which are 0. */
 uint8_t banshorra_serve(uint8_t *file, size_t file_room, size_t *file_length, const uint8_t *datagram, size_t datagram_length,
-                        uint32_t client, uint32_t time, uint8_t *reply, size_t reply_room, size_t *reply_length, size_t *fault_offset);
+                        uint32_t client, uint32_t time, uint8_t *reply, size_t reply_room, size_t *reply_length, size_t *fault_offset,
+                        size_t *count);
 
 /* banshorra_serve in two halves, for those who want to know what becomes of a datagram and have no reply room to lend: the first decides, the
    second writes the reply from what the first has given. With a reply room of 512 octets or more the two do what banshorra_serve does.
@@ -113,24 +117,25 @@ uint8_t banshorra_serve(uint8_t *file, size_t file_room, size_t *file_length, co
        33  its octets(8), the first ones of a longer one, which no name has
        41  the Lease Identifier's length(1) and
        42  its octets(32)
+       74  how many records were compared(1), as *count above
    Octets past a length are 0. What a reply doesn't need is of no account: of a NAK the scope, for instance. A discard has 0 in all but outcome and
-   offset, except that 8 has what the message said: transaction id, options 12, 5 and 8, identifier. */
+   offset, except that 8 has what the message said, transaction id, options 12, 5 and 8, identifier, and its count. */
 uint8_t banshorra_judge(uint8_t *file, size_t file_room, size_t *file_length, const uint8_t *datagram, size_t datagram_length,
                         uint32_t client, uint32_t time, uint8_t verdict[BANSHORRA_VERDICT_SIZE]);
 
 /* The second half: writes the reply to a verdict, from the campus file as the first half left it. Returns, tested in this order: 2 where
-   reply_room is below 512, also for a discard; 20 or 21 for a refused file; a discard's number, with *fault_offset as above; or 0, and the reply
-   stands in `reply` and its length in *reply_length. Both numbers are 0 with whatever else is returned, and then nothing is written. Octets past
-   the reply are untouched.
+   reply_room is below 512, also for a discard; 20 or 21 for a refused file; a discard's number, with *fault_offset and *count as above; or 0, and the
+   reply stands in `reply`, its length in *reply_length and the verdict's count in *count. All three numbers are 0 with whatever else is returned, and
+   then nothing is written. Octets past the reply are untouched.
    For octets that banshorra_judge did not give, or did not give with this file, the answer may be anything: an outcome 0 to 8, with a reply of at
-   most 512 octets that may be no message, and with any offset up to 65,535. No octet past the 512th is touched even so. */
+   most 512 octets that may be no message, with any offset up to 65,535 and any count up to 255. No octet past the 512th is touched even so. */
 uint8_t banshorra_reply(const uint8_t *file, size_t file_length, const uint8_t verdict[BANSHORRA_VERDICT_SIZE], uint8_t *reply,
-                        size_t reply_room, size_t *reply_length, size_t *fault_offset);
+                        size_t reply_room, size_t *reply_length, size_t *fault_offset, size_t *count);
 
 /* Serves a list of calls, one after the other, with the file read once and written once.
    A call is time(4), client address(4), reply room length(2), datagram length(2), the datagram; a reply room length above 512 counts as 512.
-   An answer is outcome(1), the offset that it carries as above(2), reply length(2), the reply.
-   Returns 0 where all calls are answered; 24 where the next call's record is cut off, or else 27 where fewer than 517 octets are left for the
+   An answer is outcome(1), the offset that it carries(2) and the count(1) as above, reply length(2), the reply.
+   Returns 0 where all calls are answered; 24 where the next call's record is cut off, or else 27 where fewer than 518 octets are left for the
    next answer. In all three *calls_used octets of the calls are answered, *answers_filled octets of answers filled, octets past them untouched,
    and the file afterwards stands in the buffer; after 27 go on from there with another buffer.
    Or a refusal of the file, 23, 28, 20, 21 as above, which changes nothing but *calls_used and *answers_filled, which are 0. */

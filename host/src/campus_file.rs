@@ -1,7 +1,7 @@
 //! A campus file that is owned.
 
 use crate::lent::{self, Replayed};
-use crate::numbers::{Outcome, Refusal};
+use crate::numbers::{Answer, Refusal};
 use crate::occupancy::Occupancy;
 use crate::verdict::Verdict;
 use crate::{BOARD_ROOM, FILE_ROOM};
@@ -41,7 +41,7 @@ impl CampusFile {
         client: Ipv4Addr,
         time: u32,
         reply: &'r mut [u8],
-    ) -> Outcome<'r> {
+    ) -> Answer<'r> {
         lent::serve(
             &mut self.buffer[..],
             &mut self.length,
@@ -69,7 +69,7 @@ impl CampusFile {
     /// The second half: the reply to a verdict, from the file as [`judge`](Self::judge) left it. It stands in the front of `reply`, which has at
     /// least [`REPLY_ROOM`](crate::REPLY_ROOM) octets (else discard 2, of a discard too); octets past it are left as they were. A discard
     /// comes back as it is. After another call, or for a verdict of another file, the outcome may be any.
-    pub fn reply<'r>(&self, verdict: &Verdict, reply: &'r mut [u8]) -> Outcome<'r> {
+    pub fn reply<'r>(&self, verdict: &Verdict, reply: &'r mut [u8]) -> Answer<'r> {
         lent::reply(self.as_bytes(), verdict, reply).expect("an accepted file stays accepted")
     }
 

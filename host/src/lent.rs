@@ -2,7 +2,7 @@
 //! least [`FILE_ROOM`](crate::FILE_ROOM) octets; a call leaves the file afterwards there, and the octets past it as they were.
 
 use crate::library;
-use crate::numbers::{Outcome, Refusal};
+use crate::numbers::{Answer, Refusal};
 use crate::occupancy::Occupancy;
 use crate::verdict::Verdict;
 use crate::{OCCUPANCY_ROOM, VERDICT_SIZE};
@@ -43,8 +43,8 @@ pub fn serve<'r>(
     client: Ipv4Addr,
     time: u32,
     reply: &'r mut [u8],
-) -> Result<Outcome<'r>, Refusal> {
-    let (client, mut length, mut offset) = (u32::from(client), 0, 0);
+) -> Result<Answer<'r>, Refusal> {
+    let (client, mut length, mut offset, mut count) = (u32::from(client), 0, 0, 0);
     let number = library::serve(
         file,
         file_length,
@@ -54,8 +54,9 @@ pub fn serve<'r>(
         reply,
         &mut length,
         &mut offset,
+        &mut count,
     );
-    Outcome::of_number(number, offset, &reply[..length]).ok_or_else(|| refusal(number))
+    Answer::of_number(number, offset, count, &reply[..length]).ok_or_else(|| refusal(number))
 }
 
 /// The first half of [`serve`]: what becomes of a datagram, without a reply room; the file is as a call leaves it. A refusal (23 before 28
@@ -81,10 +82,17 @@ pub fn reply<'r>(
     file: &[u8],
     verdict: &Verdict,
     reply: &'r mut [u8],
-) -> Result<Outcome<'r>, Refusal> {
-    let (mut length, mut offset) = (0, 0);
-    let number = library::reply(file, verdict.as_bytes(), reply, &mut length, &mut offset);
-    Outcome::of_number(number, offset, &reply[..length]).ok_or_else(|| refusal(number))
+) -> Result<Answer<'r>, Refusal> {
+    let (mut length, mut offset, mut count) = (0, 0, 0);
+    let number = library::reply(
+        file,
+        verdict.as_bytes(),
+        reply,
+        &mut length,
+        &mut offset,
+        &mut count,
+    );
+    Answer::of_number(number, offset, count, &reply[..length]).ok_or_else(|| refusal(number))
 }
 
 /// How far a list of calls was answered.

@@ -16,7 +16,7 @@
 //!         let (length, from) = socket.recv_from(&mut datagram)?;
 //!         let std::net::IpAddr::V4(client) = from.ip() else { continue };
 //!         let time = SystemTime::now().duration_since(UNIX_EPOCH)?.as_secs() as u32;
-//!         match campus.serve(&datagram[..length], client, time, &mut reply) {
+//!         match campus.serve(&datagram[..length], client, time, &mut reply).outcome {
 //!             Outcome::Reply(octets) => {
 //!                 // On disk before the client hears of it.
 //!                 std::fs::write("campus.new", campus.as_bytes())?;
@@ -62,7 +62,7 @@ mod verdict;
 pub use campus_file::CampusFile;
 pub use fault::Fault;
 pub use lent::Replayed;
-pub use numbers::{Discard, Outcome, Refusal};
+pub use numbers::{Answer, Discard, Outcome, Refusal};
 pub use occupancy::Occupancy;
 pub use reason::{Case, Reason};
 pub use records::{answers, Answers, Call};
@@ -75,10 +75,10 @@ pub const FILE_ROOM: usize = 32_768;
 pub const REPLY_ROOM: usize = 512;
 /// The least buffer for the board's text.
 pub const BOARD_ROOM: usize = 1_100;
-/// What a replay needs free before it answers a call: outcome(1), offset(2), reply length(2) and the longest reply.
-pub const ANSWER_ROOM: usize = 5 + REPLY_ROOM;
+/// What a replay needs free before it answers a call: outcome(1), offset(2), count(1), reply length(2) and the longest reply.
+pub const ANSWER_ROOM: usize = 6 + REPLY_ROOM;
 /// The octets of the occupancy board, and the least buffer for it: for each of four scopes the owner(1) and the count(1) of 64 addresses and
 /// the holdings(1) of eight houses.
 pub const OCCUPANCY_ROOM: usize = 4 * (2 * 64 + 8);
 /// The octets of a verdict.
-pub const VERDICT_SIZE: usize = 74;
+pub const VERDICT_SIZE: usize = 75;

@@ -49,6 +49,7 @@ extern "C" {
         reply_room: usize,
         reply_length: *mut usize,
         fault_offset: *mut usize,
+        count: *mut usize,
     ) -> u8;
     /// The first half of a call.
     pub fn banshorra_judge(
@@ -70,6 +71,7 @@ extern "C" {
         reply_room: usize,
         reply_length: *mut usize,
         fault_offset: *mut usize,
+        count: *mut usize,
     ) -> u8;
     /// A list of calls.
     pub fn banshorra_replay(
@@ -113,8 +115,9 @@ pub fn serve(
     reply: &mut [u8],
     reply_length: &mut usize,
     fault_offset: &mut usize,
+    count: &mut usize,
 ) -> u8 {
-    // SAFETY: as above; `file`, `reply`, the two lengths and the offset are written, and each is lent as `&mut`.
+    // SAFETY: as above; `file`, `reply`, the two lengths, the offset and the count are written, and each is lent as `&mut`.
     unsafe {
         banshorra_serve(
             file.as_mut_ptr(),
@@ -128,6 +131,7 @@ pub fn serve(
             reply.len(),
             reply_length,
             fault_offset,
+            count,
         )
     }
 }
@@ -166,9 +170,10 @@ pub fn reply(
     reply: &mut [u8],
     reply_length: &mut usize,
     fault_offset: &mut usize,
+    count: &mut usize,
 ) -> u8 {
-    // SAFETY: as above, and the verdict is as long as the library takes it to be; `reply`, its length and the offset are written, and each is
-    // lent as `&mut`.
+    // SAFETY: as above, and the verdict is as long as the library takes it to be; `reply`, its length, the offset and the count are written, and
+    // each is lent as `&mut`.
     unsafe {
         banshorra_reply(
             file.as_ptr(),
@@ -178,6 +183,7 @@ pub fn reply(
             reply.len(),
             reply_length,
             fault_offset,
+            count,
         )
     }
 }

@@ -3,6 +3,16 @@
 use crate::fault::Fault;
 use std::fmt;
 
+/// What a call tells: what became of the datagram, and how much was read for it.
+#[derive(Clone, Copy, Debug, PartialEq, Eq)]
+pub struct Answer<'r> {
+    /// What became of it.
+    pub outcome: Outcome<'r>,
+    /// How many of the house's records were compared to find the identifier: for each lookup the place of the match, or else all of its leases and
+    /// holds. At most 32; 0 with discards 1 to 7.
+    pub count: usize,
+}
+
 /// What became of a datagram.
 #[derive(Clone, Copy, Debug, PartialEq, Eq)]
 pub enum Outcome<'r> {
@@ -37,13 +47,21 @@ impl<'r> Outcome<'r> {
             Outcome::Discard(_) => None,
         }
     }
+}
 
-    /// The outcome of a number, the offset that it carries and a reply's octets. `None` for a number above 8.
-    pub(crate) fn of_number(number: u8, offset: usize, reply: &'r [u8]) -> Option<Self> {
-        match number {
-            0 => Some(Outcome::Reply(reply)),
-            _ => Discard::of_number(number, offset).map(Outcome::Discard),
-        }
+impl<'r> Answer<'r> {
+    /// The answer of a number, the offset and the count that go with it and a reply's octets. `None` for a number above 8.
+    pub(crate) fn of_number(
+        number: u8,
+        offset: usize,
+        count: usize,
+        reply: &'r [u8],
+    ) -> Option<Self> {
+        let outcome = match number {
+            0 => Outcome::Reply(reply),
+            _ => Outcome::Discard(Discard::of_number(number, offset)?),
+        };
+        Some(Self { outcome, count })
     }
 }
 
@@ -143,7 +161,7 @@ pub enum Refusal {
     FileRoom = 23,
     /// A call's record is cut off.
     CutOff = 24,
-    /// Fewer than 517 octets are left for the next answer.
+    /// Fewer than 518 octets are left for the next answer.
     AnswersRoom = 27,
     /// The file's length is above its buffer's.
     FileLength = 28,

@@ -3,7 +3,7 @@
 use crate::campus::{Campus, Hold, Lease};
 use crate::message::{error_name, name, option_name, Message};
 use crate::message::{DISCOVER, GETINFO, NAK, RELEASE, RENEW, REQUEST};
-use crate::numbers::{Discard, Outcome};
+use crate::numbers::{Answer, Discard, Outcome};
 use crate::utc;
 use std::net::Ipv4Addr;
 
@@ -100,6 +100,27 @@ impl Case<'_> {
             .or_else(|| of(0, self.not_to_be_met(&message)))
     }
 
+    /// How often the identifier was looked up for a call (document 02, W-210): for the resend test of a REQUEST or RENEW, and where error 1 or 3 asks for it,
+    /// unless an earlier test has ended the matter. What was sent again is told by the book, or else by a count that isn't twice the same.
+    pub fn lookups(&self, datagram: &[u8], answer: Answer) -> usize {
+        let (message, count) = (Message(datagram), answer.count);
+        let error = match answer.outcome {
+            Outcome::Reply(reply) => Message(reply).error(),
+            Outcome::Discard(Discard::Error) => None,
+            Outcome::Discard(_) => return 0,
+        };
+        let is_recorded = matches!(message.kind(), REQUEST | RENEW);
+        let is_asked = match (message.kind(), error) {
+            (REQUEST | RENEW, None) => count % 2 == 0 && self.again(&message).is_none(),
+            (DISCOVER | REQUEST, _) => self.ill_put(&message).is_none(),
+            // What is found counts at least 1; of a RELEASE sent again nothing is looked for.
+            (RELEASE, None) => count > 0,
+            (RENEW | RELEASE, error) => !matches!(error, Some(1 | 2)),
+            _ => false,
+        };
+        usize::from(is_recorded) + usize::from(is_asked)
+    }
+
     fn house(&self) -> u8 {
         self.settings.house_of(self.client).unwrap_or(0)
     }
@@ -143,6 +164,11 @@ impl Case<'_> {
 
     /// Error 1.
     fn invalid(&self, message: &Message) -> Option<String> {
+        self.ill_put(message).or_else(|| self.taken(message))
+    }
+
+    /// Error 1 but for its last test, which asks for the identifier: by the message and the settings alone.
+    fn ill_put(&self, message: &Message) -> Option<String> {
         let kind = message.kind();
         let allowed: &[u16] = match kind {
             GETINFO => &[5, 8],
@@ -182,7 +208,7 @@ impl Case<'_> {
             }
             _ => {}
         }
-        self.times(message).or_else(|| self.taken(message))
+        self.times(message)
     }
 
     fn times(&self, message: &Message) -> Option<String> {

@@ -1,6 +1,6 @@
 //! The records of a replay: calls in, answers out. High octet first.
 
-use crate::numbers::Outcome;
+use crate::numbers::Answer;
 use std::net::Ipv4Addr;
 
 /// A call of a list.
@@ -31,7 +31,8 @@ impl Call<'_> {
     }
 }
 
-/// The outcomes in the octets that a replay filled, each outcome(1), the offset that it carries(2), reply length(2), the reply.
+/// The answers in the octets that a replay filled, each outcome(1), the offset that it carries(2), how many records were read(1), reply
+/// length(2), the reply.
 pub fn answers(filled: &[u8]) -> Answers<'_> {
     Answers { rest: filled }
 }
@@ -43,13 +44,18 @@ pub struct Answers<'a> {
 }
 
 impl<'a> Iterator for Answers<'a> {
-    type Item = Outcome<'a>;
+    type Item = Answer<'a>;
 
     /// Ends at the first octets that are no answer.
-    fn next(&mut self) -> Option<Outcome<'a>> {
-        let (&[number, a, b, c, d], rest) = self.rest.split_first_chunk()?;
+    fn next(&mut self) -> Option<Answer<'a>> {
+        let (&[number, a, b, count, c, d], rest) = self.rest.split_first_chunk()?;
         let (reply, rest) = rest.split_at_checked(u16::from_be_bytes([c, d]).into())?;
         self.rest = rest;
-        Outcome::of_number(number, u16::from_be_bytes([a, b]).into(), reply)
+        Answer::of_number(
+            number,
+            u16::from_be_bytes([a, b]).into(),
+            count.into(),
+            reply,
+        )
     }
 }

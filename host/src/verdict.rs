@@ -4,7 +4,7 @@ use crate::numbers::Discard;
 use crate::VERDICT_SIZE;
 use std::fmt;
 
-/// What became of a datagram, before a reply is written: the outcome, and what the reply is going to say. It is 74 octets, laid out as
+/// What became of a datagram, before a reply is written: the outcome, and what the reply is going to say. It is 75 octets, laid out as
 /// `include/banshorra.h` says, and needs no reply room.
 #[derive(Clone, Copy, PartialEq, Eq, Hash)]
 pub struct Verdict {
@@ -86,6 +86,7 @@ mod at {
     pub const TAG: usize = 33;
     pub const IDENTIFIER_LENGTH: usize = 41;
     pub const IDENTIFIER: usize = 42;
+    pub const COUNT: usize = 74;
 }
 
 impl Verdict {
@@ -141,6 +142,11 @@ impl Verdict {
         self.counted(at::IDENTIFIER, self.octets[at::IDENTIFIER_LENGTH].into())
     }
 
+    /// How many of the house's records were compared to find the identifier, as [`Answer::count`](crate::Answer::count) has it.
+    pub fn count(&self) -> usize {
+        self.octets[at::COUNT].into()
+    }
+
     /// Whether the client sent option 12, which the reply then has as well.
     pub fn features(&self) -> bool {
         self.octets[at::FEATURES] != 0
@@ -183,7 +189,7 @@ impl Verdict {
     fn counted(&self, at: usize, length: usize) -> &[u8] {
         let end = match at {
             at::TAG => at::IDENTIFIER_LENGTH,
-            _ => VERDICT_SIZE,
+            _ => at::COUNT,
         };
         &self.octets[at..end.min(at + length)]
     }

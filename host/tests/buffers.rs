@@ -2,7 +2,7 @@
 
 mod common;
 
-use banshorra_host::{lent, library, Discard, Outcome, Refusal, Replayed};
+use banshorra_host::{lent, library, Answer, Discard, Outcome, Refusal, Replayed};
 use banshorra_host::{BOARD_ROOM, FILE_ROOM, OCCUPANCY_ROOM, REPLY_ROOM};
 use common::*;
 
@@ -103,9 +103,9 @@ fn octets_past_the_file_and_the_reply_stay() {
         for (time, datagram) in [(1001, &request), (1500, &getinfo())] {
             let stood = file.clone();
             let mut reply = pattern(1000);
-            let outcome = lent::serve(&mut file, &mut length, datagram, HOUSE_1, time, &mut reply);
-            let Ok(Outcome::Reply(octets)) = outcome else {
-                panic!("{outcome:?}");
+            let answer = lent::serve(&mut file, &mut length, datagram, HOUSE_1, time, &mut reply);
+            let Ok(Outcome::Reply(octets)) = answer.map(|answer| answer.outcome) else {
+                panic!("{answer:?}");
             };
             let replied = octets.len();
             assert_eq!(reply[replied..], pattern(1000)[replied..]);
@@ -120,13 +120,17 @@ fn a_reply_room_below_512_is_discard_2_and_changes_nothing() {
     for room in [0, 1, REPLY_ROOM - 1] {
         let mut campus = specimen();
         let mut reply = pattern(room);
-        let outcome = campus.serve(&getinfo(), HOUSE_1, 5000, &mut reply);
-        assert_eq!(outcome, Outcome::Discard(Discard::ReplyRoom));
+        let answer = campus.serve(&getinfo(), HOUSE_1, 5000, &mut reply);
+        let short = Answer {
+            outcome: Outcome::Discard(Discard::ReplyRoom),
+            count: 0,
+        };
+        assert_eq!(answer, short);
         assert_eq!((reply, campus), (pattern(room), specimen()));
     }
     let mut reply = pattern(REPLY_ROOM);
-    let outcome = specimen().serve(&getinfo(), HOUSE_1, 5000, &mut reply);
-    assert_eq!(outcome.number(), 0);
+    let answer = specimen().serve(&getinfo(), HOUSE_1, 5000, &mut reply);
+    assert_eq!(answer.outcome.number(), 0);
 }
 
 #[test]

@@ -8,7 +8,10 @@ use common::*;
 /// The offset of a datagram's discard 5. Every other outcome carries 0.
 fn offset_of(datagram: &[u8]) -> Option<usize> {
     let mut reply = [0; REPLY_ROOM];
-    match specimen().serve(datagram, HOUSE_1, 1000, &mut reply) {
+    match specimen()
+        .serve(datagram, HOUSE_1, 1000, &mut reply)
+        .outcome
+    {
         Outcome::Discard(Discard::Options { offset }) => Some(offset),
         outcome => {
             assert_eq!(outcome.offset(), 0);
@@ -20,7 +23,10 @@ fn offset_of(datagram: &[u8]) -> Option<usize> {
 /// The line for the desk.
 fn line(datagram: &[u8]) -> String {
     let mut reply = [0; REPLY_ROOM];
-    match specimen().serve(datagram, HOUSE_1, 1000, &mut reply) {
+    match specimen()
+        .serve(datagram, HOUSE_1, 1000, &mut reply)
+        .outcome
+    {
         Outcome::Discard(why) => why.in_words(datagram),
         Outcome::Reply(_) => "a reply".to_owned(),
     }
@@ -186,7 +192,7 @@ fn the_offset_is_0_with_every_other_number() {
         let (mut buffer, mut reply) = ([0; FILE_ROOM], [0; REPLY_ROOM]);
         buffer[..file.len()].copy_from_slice(&file);
         let mut file_length = file.len() - usize::from(number == 20);
-        let (mut reply_length, mut offset) = (99, 99);
+        let (mut reply_length, mut offset, mut count) = (99, 99, 99);
         let got = library::serve(
             &mut buffer,
             &mut file_length,
@@ -196,7 +202,9 @@ fn the_offset_is_0_with_every_other_number() {
             &mut reply[..room],
             &mut reply_length,
             &mut offset,
+            &mut count,
         );
         assert_eq!((got, offset), (number, if number == 5 { 14 } else { 0 }));
+        assert_eq!(count, 0);
     }
 }

@@ -2,7 +2,9 @@
 
 mod common;
 
-use banshorra_host::{lent, library, Asked, CampusFile, Discard, Given, Outcome, Refusal, Ruling};
+use banshorra_host::{
+    lent, library, Answer, Asked, CampusFile, Discard, Given, Outcome, Refusal, Ruling,
+};
 use banshorra_host::{Verdict, FILE_ROOM, REPLY_ROOM, VERDICT_SIZE};
 use common::*;
 use std::net::Ipv4Addr;
@@ -65,29 +67,40 @@ fn judged() -> Vec<(Sent, Verdict, CampusFile)> {
     morning().into_iter().map(judge).collect()
 }
 
-/// Outcome, offset and reply in a room of so many octets, of which those past the reply have to stay.
-fn written(campus: &CampusFile, verdict: &Verdict, room: usize) -> (u8, usize, Vec<u8>) {
-    let mut reply = pattern(room);
-    let outcome = campus.reply(verdict, &mut reply);
-    let (number, offset) = (outcome.number(), outcome.offset());
-    let octets = outcome.reply().unwrap_or(&[]).to_vec();
-    assert_eq!(reply[..octets.len()], octets);
-    assert_eq!(reply[octets.len()..], pattern(room)[octets.len()..]);
-    (number, offset, octets)
+/// Outcome, offset, count and reply.
+type Told = (u8, usize, usize, Vec<u8>);
+
+fn told(answer: Answer) -> Told {
+    let (outcome, count) = (answer.outcome, answer.count);
+    let reply = outcome.reply().unwrap_or(&[]).to_vec();
+    (outcome.number(), outcome.offset(), count, reply)
 }
+
+/// What is told in a room of so many octets, of which those past the reply have to stay.
+fn written(campus: &CampusFile, verdict: &Verdict, room: usize) -> Told {
+    let mut reply = pattern(room);
+    let told = told(campus.reply(verdict, &mut reply));
+    let octets = &told.3;
+    assert_eq!(reply[..octets.len()], octets[..]);
+    assert_eq!(reply[octets.len()..], pattern(room)[octets.len()..]);
+    told
+}
+
+/// Discard 2.
+const SHORT: Answer = Answer {
+    outcome: Outcome::Discard(Discard::ReplyRoom),
+    count: 0,
+};
 
 #[test]
 fn the_two_do_what_the_call_does() {
     let mut whole = specimen();
     for ((client, time, datagram), verdict, halves) in judged() {
         let mut room = pattern(REPLY_ROOM + 90);
-        let outcome = whole.serve(&datagram, client, time, &mut room);
-        let (number, offset) = (outcome.number(), outcome.offset());
-        let reply = outcome.reply().unwrap_or(&[]).to_vec();
-        assert_eq!(verdict.number(), number);
+        let due = told(whole.serve(&datagram, client, time, &mut room));
+        assert_eq!((verdict.number(), verdict.count()), (due.0, due.2));
         for room in [REPLY_ROOM, REPLY_ROOM + 90, 1500] {
-            let told = written(&halves, &verdict, room);
-            assert_eq!(told, (number, offset, reply.clone()), "{verdict}");
+            assert_eq!(written(&halves, &verdict, room), due, "{verdict}");
         }
         assert_eq!(whole, halves);
     }
@@ -104,7 +117,7 @@ fn a_verdict_has_its_words() {
 fn a_short_reply_buffer_is_2_whatever_the_verdict() {
     for (_, verdict, campus) in judged() {
         for room in [0, 1, REPLY_ROOM - 1] {
-            assert_eq!(written(&campus, &verdict, room), (2, 0, vec![]));
+            assert_eq!(written(&campus, &verdict, room), (2, 0, 0, vec![]));
         }
     }
 }
@@ -114,8 +127,7 @@ fn the_first_half_changes_what_a_call_with_a_short_reply_buffer_does_not() {
     let ((client, time, datagram), _) = morning().swap_remove(0);
     let (mut short, mut halves) = (specimen(), specimen());
     let mut reply = [0; REPLY_ROOM - 1];
-    let outcome = short.serve(&datagram, client, time, &mut reply);
-    assert_eq!(outcome, Outcome::Discard(Discard::ReplyRoom));
+    assert_eq!(short.serve(&datagram, client, time, &mut reply), SHORT);
     assert_eq!(short, specimen());
     assert_eq!(halves.judge(&datagram, client, time).number(), 0);
     assert_ne!(halves, specimen());
@@ -138,14 +150,14 @@ fn the_second_half_tests_the_room_then_the_file_then_the_verdict() {
             let mut reply = pattern(700);
             assert_eq!(lent::reply(file, &verdict, &mut reply), Err(refusal));
             let short = lent::reply(file, &verdict, &mut reply[..REPLY_ROOM - 1]);
-            assert_eq!(short, Ok(Outcome::Discard(Discard::ReplyRoom)));
+            assert_eq!(short, Ok(SHORT));
             assert_eq!(reply, pattern(700));
         }
     }
 }
 
 #[test]
-fn lengths_and_offsets_are_0_but_with_their_number() {
+fn lengths_offsets_and_counts_are_0_but_with_their_number() {
     let mut cut = specimen_file();
     cut.pop();
     for (_, verdict, campus) in judged() {
@@ -155,7 +167,7 @@ fn lengths_and_offsets_are_0_but_with_their_number() {
             (file, REPLY_ROOM - 1, 2),
             (&cut, REPLY_ROOM, 20),
         ] {
-            let (mut length, mut offset) = (99, 99);
+            let (mut length, mut offset, mut count) = (99, 99, 99);
             let mut reply = vec![0; room];
             let told = library::reply(
                 file,
@@ -163,8 +175,11 @@ fn lengths_and_offsets_are_0_but_with_their_number() {
                 &mut reply,
                 &mut length,
                 &mut offset,
+                &mut count,
             );
             assert_eq!(told, number);
+            let is_told = number == verdict.number();
+            assert_eq!(count, if is_told { verdict.count() } else { 0 });
             assert_eq!(length > 0, number == 0);
             assert_eq!(offset, if number == 5 { 23 } else { 0 });
         }
@@ -272,7 +287,7 @@ fn a_language_that_is_too_long_is_told_from_its_first_octets() {
             requested_language(tag),
         ];
         let verdict = campus.judge(&message(GETINFO, 1, &options), HOUSE_1, 1000);
-        let reply = written(&campus, &verdict, REPLY_ROOM).2;
+        let reply = written(&campus, &verdict, REPLY_ROOM).3;
         let has = |name: &[u8]| reply.windows(name.len()).any(|part| part == name);
         replies.push((has(b"Stage"), has(b"Studio A")));
     }
@@ -302,7 +317,7 @@ fn a_made_up_verdict_is_some_outcome() {
                 let mut octets = *verdict.as_bytes();
                 octets[at] = octet;
                 let made_up = Verdict::from_bytes(octets);
-                let (number, _, reply) = written(&campus, &made_up, REPLY_ROOM + 90);
+                let (number, _, _, reply) = written(&campus, &made_up, REPLY_ROOM + 90);
                 assert!(number <= 8 && reply.len() <= REPLY_ROOM);
                 // It has words, whatever it says.
                 assert!(!made_up.to_string().is_empty());
@@ -310,7 +325,7 @@ fn a_made_up_verdict_is_some_outcome() {
             }
         }
         // Of another campus.
-        let (number, _, reply) = written(&specimen(), &verdict, REPLY_ROOM + 90);
+        let (number, _, _, reply) = written(&specimen(), &verdict, REPLY_ROOM + 90);
         assert!(number <= 8 && reply.len() <= REPLY_ROOM);
     }
 }
@@ -372,7 +387,7 @@ fn the_monitor_says_what_becomes_of_the_sample_calls() {
             others.push((outcome, said));
         }
     }
-    assert_eq!(others, [("0", "2")]);
+    assert_eq!(others, [("0", "2 #0")]);
 }
 
 #[test]

@@ -148,8 +148,8 @@ fn a_hold_counts_as_a_lease() {
     assert_eq!(first(&turned), held);
     // The board is as of the file's clock: by a call it lapses, and by discard 2 it doesn't.
     let mut short = [0; 511];
-    let outcome = campus.serve(&[], STRANGER, CLOCK + 30, &mut short);
-    assert_eq!((outcome.number(), first(&campus)), (2, held));
+    let answer = campus.serve(&[], STRANGER, CLOCK + 30, &mut short);
+    assert_eq!((answer.outcome.number(), first(&campus)), (2, held));
     pass(&mut campus, CLOCK + 29);
     assert_eq!(first(&campus), held);
     pass(&mut campus, CLOCK + 30);

@@ -17,7 +17,23 @@ fn sample() -> CampusFile {
     CampusFile::from_bytes(&file).expect("sound")
 }
 
-/// Serves a call and has it explained: that the error fits, and the words.
+/// How many records of the client's house a lookup compares: in order of ending the place of the match, or else all.
+fn compared(case: &Case, identifier: &[u8]) -> usize {
+    let book = case.book.expect("a book");
+    let house = book.house_of(case.client);
+    let leases = book.leases.iter().map(|lease| (lease.end, lease));
+    let holds = book.holds.iter().map(|hold| (hold.lapse, &hold.lease));
+    let mut records: Vec<_> = leases
+        .chain(holds)
+        .filter(|(ending, lease)| Some(lease.house) == house && *ending > case.clock)
+        .map(|(ending, lease)| (ending, &lease.identifier[..]))
+        .collect();
+    records.sort();
+    let place = records.iter().position(|record| record.1 == identifier);
+    place.map_or(records.len(), |place| place + 1)
+}
+
+/// Serves a call and has it explained: that the error fits, the words, and how often its identifier was looked up.
 fn explained(
     campus: &mut CampusFile,
     client: u32,
@@ -26,7 +42,8 @@ fn explained(
 ) -> (u8, Option<String>) {
     let book = Campus::from_octets(campus.as_bytes()).expect("of right form");
     let mut room = [0; REPLY_ROOM];
-    let outcome = campus.serve(datagram, Ipv4Addr::from(client), time, &mut room);
+    let answer = campus.serve(datagram, Ipv4Addr::from(client), time, &mut room);
+    let outcome = answer.outcome;
     let case = Case {
         settings: &book,
         book: Some(&book),
@@ -36,6 +53,11 @@ fn explained(
     let why = case.why(datagram, outcome);
     let reason = case.reason(datagram);
     let what = format!("{why:?} {reason:?} {}", message::Message(datagram));
+    let lookups = case.lookups(datagram, answer);
+    let compared = message::Message(datagram)
+        .value(3)
+        .map_or(0, |identifier| compared(&case, identifier));
+    assert_eq!(answer.count, lookups * compared, "{what}");
     // Without the book less is said, and what is said of error 1 is the same.
     let blind = Case { book: None, ..case };
     let guess = blind.reason(datagram);

@@ -30,11 +30,12 @@ fn calls_of(mut list: &[u8]) -> Vec<Call<'_>> {
 /// Serves a call by itself: its answer.
 fn single(campus: &mut CampusFile, call: &Call) -> Vec<u8> {
     let mut room = vec![0; call.room.into()];
-    let outcome = campus.serve(&call.datagram, call.client.into(), call.time, &mut room);
+    let answer = campus.serve(&call.datagram, call.client.into(), call.time, &mut room);
+    let (outcome, count) = (answer.outcome, answer.count as u8);
     let reply = outcome.reply().unwrap_or(&[]);
     let offset = (outcome.offset() as u16).to_be_bytes();
     let length = (reply.len() as u16).to_be_bytes();
-    [&[outcome.number()][..], &offset, &length, reply].concat()
+    [&[outcome.number()][..], &offset, &[count], &length, reply].concat()
 }
 
 #[test]
@@ -61,7 +62,8 @@ fn the_sample_morning_goes_as_the_program_prints_it() {
     let mut filled = vec![0; ROOM];
     let replayed = campus.replay(calls, &mut filled);
     let mut printed = String::new();
-    for outcome in answers(&filled[..replayed.answers_filled]) {
+    for answer in answers(&filled[..replayed.answers_filled]) {
+        let outcome = answer.outcome;
         printed += &outcome.number().to_string();
         if let Some(reply) = outcome.reply() {
             printed += &format!(" {}", hex(reply));
@@ -69,7 +71,7 @@ fn the_sample_morning_goes_as_the_program_prints_it() {
         if outcome.number() == 5 {
             printed += &format!(" @{}", outcome.offset());
         }
-        printed += "\n";
+        printed += &format!(" #{}\n", answer.count);
     }
     printed += &format!("book {}\n", hex(campus.as_bytes()));
     assert_eq!(printed.to_lowercase(), PRINTED.to_lowercase());
@@ -177,8 +179,8 @@ fn a_call_is_appended_as_a_record() {
         call.append_to(&mut calls);
         let replayed = campus.replay(&calls, &mut filled);
         assert_eq!(replayed.stopped, None);
-        let outcome = answers(&filled[..replayed.answers_filled]).next();
-        outcomes.push(outcome.map(|outcome| outcome.number() == number));
+        let answer = answers(&filled[..replayed.answers_filled]).next();
+        outcomes.push(answer.map(|answer| answer.outcome.number() == number));
     }
     assert_eq!(outcomes, [Some(true); 4]);
 }

@@ -146,6 +146,32 @@ fn each_call_is_a_line_in_words() {
 }
 
 #[test]
+fn its_last_line_says_what_was_read() {
+    let folder = Folder::new("read");
+    let host = Running::start(&folder.campus(), &["--quiet"]);
+    let client = Client::new(1, host.server);
+    let scope = in_scope(SCOPE);
+    // Two lookups where there is no record, and one that is not the lease's. The hold lapses first, so that the lease is the second: found twice, and once by the
+    // resend test alone.
+    client.ask(&message(REQUEST, 1, b"truck", &[scope.clone()]));
+    client.ask(&message(DISCOVER, 2, b"stage", &[scope.clone()]));
+    client.ask(&message(RENEW, 3, b"truck", &[]));
+    client.ask(&message(RENEW, 3, b"truck", &[]));
+    client.ask(&message(GETINFO, 4, b"truck", &[]));
+    // Found once, and then remembered.
+    client.ask(&message(RELEASE, 5, b"truck", &[]));
+    client.ask(&message(RELEASE, 5, b"truck", &[]));
+    client.send(b"x");
+    let (_, log) = host.end();
+    let last = log.last().expect("a last line");
+    assert!(
+        last.contains("; 8 calls: 7 answered, 1 discarded, ")
+            && last.ends_with("; 7 lookups, 9 records compared, at most 4 for a call"),
+        "{last}"
+    );
+}
+
+#[test]
 fn lines_as_json() {
     let folder = Folder::new("json");
     let mut host = Running::start(&folder.campus(), &["--json"]);
@@ -156,7 +182,7 @@ fn lines_as_json() {
         "\"house\":1,\"client\":\"127.0.1.9:",
         "\"asked\":\"REQUEST\"",
         "\"id\":\"225c01\"",
-        "\"scope\":\"239.192.1.0\",\"outcome\":0,\"answer\":\"ACK\",\"addresses\":\"239.192.1.0\",\"from\":\"2",
+        "\"scope\":\"239.192.1.0\",\"outcome\":0,\"compared\":0,\"answer\":\"ACK\",\"addresses\":\"239.192.1.0\",\"from\":\"2",
     ] {
         assert!(line.contains(part), "{line}");
     }

@@ -90,7 +90,7 @@ fn a_full_campus_is_served() {
             // In two halves, and whole.
             let mut halves = campus.clone();
             let verdict = halves.judge(&datagram, HOUSE_1, CLOCK);
-            assert_eq!(halves.reply(&verdict, &mut [0; 512]).number(), 0);
+            assert_eq!(halves.reply(&verdict, &mut [0; 512]).outcome.number(), 0);
             assert_eq!(call(&mut campus, HOUSE_1, CLOCK, &datagram).0, 0);
             assert_eq!(halves, campus);
             let call = banshorra_host::Call {

@@ -39,3 +39,13 @@ pub fn records_by_ending(book: &Book, house: u8) -> Vec<Record<'_>> {
     records.sort_by_key(Record::key);
     records
 }
+
+/// How many of the house's records a lookup by identifier compares: "the place of the match counted from 1, or else the
+/// number of its records in use, holds included".
+pub fn compared(book: &Book, house: u8, identifier: &[u8]) -> usize {
+    let records = records_by_ending(book, house);
+    let place = records
+        .iter()
+        .position(|record| record.lease.identifier == identifier);
+    place.map_or(records.len(), |place| place + 1)
+}

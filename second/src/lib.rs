@@ -1,4 +1,4 @@
-//! An independent second MADCAP server library, written from documents 01 and 02 (as far as W-209) and the
+//! An independent second MADCAP server library, written from documents 01 and 02 (as far as W-210) and the
 //! MADCAP draft only (with the project's readings where the documents are open), and used for comparison.
 //! It is plain and slow on purpose: where the rules speak of addresses one by one, so does the code.
 

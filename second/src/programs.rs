@@ -102,15 +102,15 @@ fn octets_with_length<'a>(octets: &mut Octets<'a>) -> Option<&'a [u8]> {
     octets.take(usize::from(length))
 }
 
-/// The outcome and, for a reply, its octets, for a discard 5 where the options went wrong.
+/// The outcome and, for a reply, its octets, for a discard 5 where the options went wrong; then the count.
 fn call_line(book: &mut Book, record: &Record) -> String {
     let mut room = vec![0; usize::from(record.room_length)];
-    let (outcome, offset, length) =
+    let (outcome, offset, count, length) =
         serve(book, record.datagram, record.client, record.time, &mut room);
     match outcome {
-        REPLY => format!("{outcome} {}\n", hex(&room[..length])),
-        BAD_OPTIONS => format!("{outcome} @{offset}\n"),
-        _ => format!("{outcome}\n"),
+        REPLY => format!("{outcome} {} #{count}\n", hex(&room[..length])),
+        BAD_OPTIONS => format!("{outcome} @{offset} #{count}\n"),
+        _ => format!("{outcome} #{count}\n"),
     }
 }
 

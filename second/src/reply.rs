@@ -10,23 +10,26 @@ use std::collections::BTreeMap;
 pub const SHORTEST_ROOM: usize = 512;
 
 /// The second half of a call: writes the reply to a verdict from the book that the first half left with it. Gives the
-/// outcome, its offset and the length of the reply, which stands in the front of the room; the rest of the room is left
-/// as it was. "Writing into room below 512 is 2, tested first; writing a discard returns it; neither writes."
-pub fn write(book: &Book, verdict: &Verdict, room: &mut [u8]) -> (u8, usize, usize) {
+/// outcome, its offset and count, and the length of the reply, which stands in the front of the room; the rest of the
+/// room is left as it was. "Writing into room below 512 is 2, tested first; writing a discard returns it; neither
+/// writes."
+pub fn write(book: &Book, verdict: &Verdict, room: &mut [u8]) -> (u8, usize, usize, usize) {
     let Some(room) = room.get_mut(..SHORTEST_ROOM) else {
-        return (NO_ROOM, 0, 0);
+        return (NO_ROOM, 0, 0, 0);
     };
     let ruling = match verdict {
         Verdict::Reply(ruling) => ruling,
-        Verdict::Discard(discard) => return (discard.outcome, discard.offset, 0),
+        Verdict::Discard(discard) => {
+            return (discard.outcome, discard.offset, discard.count, 0);
+        }
     };
     let octets = reply(book, ruling);
     // No reply that the first half rules comes near 512 octets. A verdict that it didn't give may be of any length.
     let Some(front) = room.get_mut(..octets.len()) else {
-        return (NO_ROOM, 0, 0);
+        return (NO_ROOM, 0, 0, 0);
     };
     front.copy_from_slice(&octets);
-    (REPLY, 0, octets.len())
+    (REPLY, 0, ruling.count, octets.len())
 }
 
 /// The reply's octets.

@@ -2,6 +2,7 @@
 //! and the whole call; the second half, which writes the reply, is in `reply`.
 
 use crate::book::{file_key, Book, Lease, RECORDS_OF_A_HOUSE};
+use crate::ending::compared;
 use crate::grant::grant;
 use crate::holds::Hold;
 use crate::message::{code, Header, Kind, Options};
@@ -31,9 +32,10 @@ const BAD_REQUEST: u16 = 1;
 const CLOCKS_APART: u16 = 2;
 const NOT_HELD: u16 = 3;
 
-/// Serves one datagram. Gives the outcome, its offset and the length of the reply, which stands in the front of the
-/// room; the rest of the room is left as it was, and a discard leaves all of it. The offset is where in the datagram
-/// the options went wrong: discard 5 carries it, every other outcome 0.
+/// Serves one datagram. Gives the outcome, its offset, its count and the length of the reply, which stands in the front
+/// of the room; the rest of the room is left as it was, and a discard leaves all of it. The offset is where in the
+/// datagram the options went wrong: discard 5 carries it, every other outcome 0. The count is how many records the
+/// lookups by identifier compared.
 /// Tests 1 and 2 are its own, so that both leave the book; it is made of the two halves after them.
 pub fn serve(
     book: &mut Book,
@@ -41,29 +43,30 @@ pub fn serve(
     client: u32,
     time: u32,
     room: &mut [u8],
-) -> (u8, usize, usize) {
+) -> (u8, usize, usize, usize) {
     if !sound(book) {
-        return (BOOK_UNSOUND, 0, 0);
+        return (BOOK_UNSOUND, 0, 0, 0);
     }
     if room.len() < SHORTEST_ROOM {
-        return (NO_ROOM, 0, 0);
+        return (NO_ROOM, 0, 0, 0);
     }
     let verdict = judge_sound(book, datagram, client, time);
     write(book, &verdict, room)
 }
 
-/// The same with the reply as octets of its own: the outcome, its offset, and the reply, which is empty for a discard.
+/// The same with the reply as octets of its own: the outcome, its offset and count, and the reply, which is empty for
+/// a discard.
 pub fn answer(
     book: &mut Book,
     datagram: &[u8],
     client: u32,
     time: u32,
     room_length: usize,
-) -> (u8, usize, Vec<u8>) {
+) -> (u8, usize, usize, Vec<u8>) {
     let mut room = vec![0; room_length];
-    let (outcome, offset, length) = serve(book, datagram, client, time, &mut room);
+    let (outcome, offset, count, length) = serve(book, datagram, client, time, &mut room);
     room.truncate(length);
-    (outcome, offset, room)
+    (outcome, offset, count, room)
 }
 
 /// The first half of a call: the verdict, and in `book` the book afterwards. It has no reply room, so that test 2 isn't
@@ -83,7 +86,8 @@ fn judge_sound(book: &mut Book, datagram: &[u8], client: u32, time: u32) -> Verd
     }
 }
 
-/// The tests 3 to 8, in the order of the table, after the clock is raised.
+/// The tests 3 to 8, in the order of the table, after the clock is raised. Nothing is looked up before test 8, so that
+/// the count of the others is 0.
 fn ruling_or_discard(
     book: &mut Book,
     datagram: &[u8],
@@ -105,19 +109,23 @@ fn ruling_or_discard(
         header,
         options,
     };
-    match answer_or_error(book, &call) {
-        Ok(answer) => Ok(call.ruling(answer)),
+    let mut count = 0;
+    match answer_or_error(book, &call, &mut count) {
+        Ok(answer) => Ok(call.ruling(answer, count)),
         Err(error) => match header.kind {
-            Kind::Discover | Kind::GetInfo => Err(SILENT_ERROR.into()),
-            _ => Ok(call.ruling(Answer::Error(error))),
+            Kind::Discover | Kind::GetInfo => Err(Discard {
+                count,
+                ..SILENT_ERROR.into()
+            }),
+            _ => Ok(call.ruling(Answer::Error(error), count)),
         },
     }
 }
 
 fn of_options(offset: usize) -> Discard {
     Discard {
-        outcome: BAD_OPTIONS,
         offset,
+        ..BAD_OPTIONS.into()
     }
 }
 
@@ -137,8 +145,19 @@ struct Call<'a> {
 }
 
 impl Call<'_> {
+    /// It has a resend test that goes by a lease.
+    fn may_be_resent(&self) -> bool {
+        matches!(self.header.kind, Kind::Request | Kind::Renew)
+    }
+
+    /// Error 1 asks for its identifier.
     fn takes_new_addresses(&self) -> bool {
         matches!(self.header.kind, Kind::Discover | Kind::Request)
+    }
+
+    /// Error 3 asks for its identifier.
+    fn needs_a_lease(&self) -> bool {
+        matches!(self.header.kind, Kind::Renew | Kind::Release)
     }
 
     /// The scope that option 4 names, if it is ours.
@@ -158,13 +177,14 @@ impl Call<'_> {
             .is_some_and(|hold| Some(hold.lease.scope) != self.scope(book))
     }
 
-    /// An answer with what the reply repeats of the message.
-    fn ruling(&self, answer: Answer) -> Ruling {
+    /// An answer with what the reply repeats of the message, and how many records were compared for it.
+    fn ruling(&self, answer: Answer, count: usize) -> Ruling {
         Ruling {
             house: self.house,
             transaction: self.header.transaction,
             identifier: self.options.identifier.to_vec(),
             has_features: self.options.has(code::FEATURES),
+            count,
             answer,
         }
     }
@@ -181,7 +201,12 @@ impl Call<'_> {
 }
 
 /// Resend, of a RELEASE too, then the errors 1, 2 and 3, then what the message asks, which may draw error 0.
-fn answer_or_error(book: &mut Book, call: &Call) -> Result<Answer, u16> {
+/// The count is "the sum over its lookups: one for the resend test of a REQUEST or RENEW, and one where error 1 or 3
+/// asks for the identifier, unless an earlier test has ended the matter". What is remembered of releases is no lookup.
+fn answer_or_error(book: &mut Book, call: &Call, count: &mut usize) -> Result<Answer, u16> {
+    if call.may_be_resent() {
+        *count += compared(book, call.house, call.options.identifier);
+    }
     if let Some(lease) = resent(book, call) {
         return Ok(Answer::Lease(Given::of(lease)));
     }
@@ -191,8 +216,17 @@ fn answer_or_error(book: &mut Book, call: &Call) -> Result<Answer, u16> {
     if is_bad_request(book, call) {
         return Err(BAD_REQUEST);
     }
+    if call.takes_new_addresses() {
+        *count += compared(book, call.house, call.options.identifier);
+    }
+    if is_identifier_taken(book, call) {
+        return Err(BAD_REQUEST);
+    }
     if clocks_apart(book, call) {
         return Err(CLOCKS_APART);
+    }
+    if call.needs_a_lease() {
+        *count += compared(book, call.house, call.options.identifier);
     }
     match call.header.kind {
         Kind::Discover => discover(book, call),
@@ -205,7 +239,7 @@ fn answer_or_error(book: &mut Book, call: &Call) -> Result<Answer, u16> {
 
 /// The lease that records the house, identifier, type and transaction id of a REQUEST or RENEW.
 fn resent<'a>(book: &'a Book, call: &Call) -> Option<&'a Lease> {
-    if !matches!(call.header.kind, Kind::Request | Kind::Renew) {
+    if !call.may_be_resent() {
         return None;
     }
     book.live_leases().find(|lease| {
@@ -227,7 +261,7 @@ fn is_release_sent_again(book: &Book, call: &Call) -> bool {
         })
 }
 
-/// Error 1.
+/// Error 1, as far as the message by itself and the scopes draw it: all of its tests but the last.
 fn is_bad_request(book: &Book, call: &Call) -> bool {
     let options = &call.options;
     let (least, desired) = options.number();
@@ -237,19 +271,20 @@ fn is_bad_request(book: &Book, call: &Call) -> bool {
     let number_is_wrong = least == 0 || least > desired;
     let lacks_current_time = (options.has(code::START_TIME) || options.has(code::MAXIMUM_START))
         && !options.has(code::CURRENT_TIME);
-    let latest_start_is_before_start = is_latest_start_before_start(options);
-    let identifier_is_leased =
-        call.takes_new_addresses() && book.position(call.house, options.identifier).is_some();
-    let offer_is_held_elsewhere =
-        call.header.kind == Kind::Discover && call.has_hold_elsewhere(book);
     a_code_is_not_allowed
         || scope_is_not_ours
         || lease_time_is_0
         || number_is_wrong
         || lacks_current_time
-        || latest_start_is_before_start
-        || identifier_is_leased
-        || offer_is_held_elsewhere
+        || is_latest_start_before_start(options)
+}
+
+/// The last test of error 1: a DISCOVER or REQUEST with an identifier that the house has a lease on, or a DISCOVER with
+/// one that it has a hold on in another scope.
+fn is_identifier_taken(book: &Book, call: &Call) -> bool {
+    let is_leased = book.position(call.house, call.options.identifier).is_some();
+    let is_held_elsewhere = call.header.kind == Kind::Discover && call.has_hold_elsewhere(book);
+    call.takes_new_addresses() && (is_leased || is_held_elsewhere)
 }
 
 /// A Maximum Start Time before Start Time, both as they were sent.

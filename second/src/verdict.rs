@@ -12,18 +12,24 @@ pub enum Verdict {
     Discard(Discard),
 }
 
-/// A discard's number and offset.
+/// A discard's number, offset and count.
 #[derive(Clone, Copy, Debug, PartialEq, Eq)]
 pub struct Discard {
     pub outcome: u8,
     /// Where in the datagram the options went wrong. Discard 5 carries it, every other outcome 0.
     pub offset: usize,
+    /// How many records the lookups by identifier compared. Discard 8 carries it, every other 0.
+    pub count: usize,
 }
 
-/// A number by itself has no offset.
+/// A number by itself has no offset and no count.
 impl From<u8> for Discard {
     fn from(outcome: u8) -> Discard {
-        Discard { outcome, offset: 0 }
+        Discard {
+            outcome,
+            offset: 0,
+            count: 0,
+        }
     }
 }
 
@@ -36,6 +42,8 @@ pub struct Ruling {
     pub identifier: Vec<u8>,
     /// Whether the client sent option 12.
     pub has_features: bool,
+    /// How many records the lookups by identifier compared.
+    pub count: usize,
     pub answer: Answer,
 }
 

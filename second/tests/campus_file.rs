@@ -332,7 +332,7 @@ fn replay_input(file: &[u8], records: &str) -> Vec<u8> {
 /// P12 from 10.1.0.5 at 1000 with a room of 512 octets.
 const P12: &str = "000003E8 0A010005 0200 0012 000700010102030400030002004100000000";
 const P12_LINE: &str = "0 0006000101020304000200060001\
-    0a01010100030002004100100002000300000000\n";
+    0a01010100030002004100100002000300000000 #0\n";
 
 #[test]
 fn replay_texts() {
@@ -347,7 +347,7 @@ fn replay_texts() {
     // A room below 512 comes before the stranger; the time is then not taken.
     assert_eq!(
         replay(&replay_input(&file, "FFFFFFFF 00000000 01FF 0000")),
-        format!("2\n{empty_line}")
+        format!("2 #0\n{empty_line}")
     );
     assert_eq!(replay(&replay_input(&[], P12)), "refused 20\n");
 }

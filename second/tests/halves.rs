@@ -57,26 +57,32 @@ fn morning() -> Vec<(u32, u32, Vec<u8>, Verdict)> {
             CLIENT_2,
             1010,
             discover,
-            ruled(2, 1, Answer::Offer(given(1000, 4600, &[0, 1]))),
+            counted(1, ruled(2, 1, Answer::Offer(given(1000, 4600, &[0, 1])))),
         ),
         (
             CLIENT_2,
             1020,
             request.clone(),
-            with_features(ruled(2, 2, Answer::Lease(given(1000, 4600, &[0, 1])))),
+            counted(
+                2,
+                with_features(ruled(2, 2, Answer::Lease(given(1000, 4600, &[0, 1])))),
+            ),
         ),
         // Sent again: the lease that is recorded.
         (
             CLIENT_2,
             1021,
             request,
-            with_features(ruled(2, 2, Answer::Lease(given(1000, 4600, &[0, 1])))),
+            counted(
+                1,
+                with_features(ruled(2, 2, Answer::Lease(given(1000, 4600, &[0, 1])))),
+            ),
         ),
         (
             CLIENT_2,
             1100,
             datagram(RENEW, 3, &[(3, ID), (1, &[0, 0, 0, 60])]),
-            ruled(2, 3, Answer::Lease(given(1100, 1160, &[0, 1]))),
+            counted(2, ruled(2, 3, Answer::Lease(given(1100, 1160, &[0, 1])))),
         ),
         (
             CLIENT_2,
@@ -145,8 +151,16 @@ fn ruled(house: u8, transaction: u32, answer: Answer) -> Verdict {
         transaction,
         identifier: ID.to_vec(),
         has_features: false,
+        count: 0,
         answer,
     })
+}
+
+fn counted(count: usize, verdict: Verdict) -> Verdict {
+    match verdict {
+        Verdict::Reply(ruling) => Verdict::Reply(Ruling { count, ..ruling }),
+        Verdict::Discard(discard) => Verdict::Discard(Discard { count, ..discard }),
+    }
 }
 
 fn with_features(verdict: Verdict) -> Verdict {
@@ -168,7 +182,10 @@ fn asked(scope_list: bool, current_time: bool, language: Option<&[u8]>) -> Answe
 }
 
 fn discarded(outcome: u8, offset: usize) -> Verdict {
-    Verdict::Discard(Discard { outcome, offset })
+    Verdict::Discard(Discard {
+        offset,
+        ..outcome.into()
+    })
 }
 
 /// Octets to see a write by.
@@ -233,21 +250,33 @@ fn writing_into_room_below_512_is_2_also_for_a_discard() {
         assert_eq!(verdict, due);
         for length in [0, 1, 40, SHORTEST_ROOM - 1] {
             let mut room = pattern(length);
-            assert_eq!(write(&judged, &verdict, &mut room), (2, 0, 0));
+            assert_eq!(write(&judged, &verdict, &mut room), (2, 0, 0, 0));
             assert_eq!(room, pattern(length));
         }
     }
     // Of an unsound book too: what is written is the verdict, and it has no room.
-    assert_eq!(write(&judged, &discarded(1, 0), &mut [0; 511]), (2, 0, 0));
+    assert_eq!(
+        write(&judged, &discarded(1, 0), &mut [0; 511]),
+        (2, 0, 0, 0)
+    );
 }
 
 #[test]
 fn writing_a_discard_returns_it_and_writes_nothing() {
-    for (outcome, offset) in [(1, 0), (3, 0), (4, 0), (5, 12), (5, 1472), (8, 0)] {
+    for (outcome, offset, count) in [
+        (1, 0, 0),
+        (3, 0, 0),
+        (4, 0, 0),
+        (5, 12, 0),
+        (5, 1472, 0),
+        (8, 0, 0),
+        (8, 0, 16),
+    ] {
         for length in [512, 1500] {
             let mut room = pattern(length);
-            let told = write(&book(), &discarded(outcome, offset), &mut room);
-            assert_eq!(told, (outcome, offset, 0));
+            let verdict = counted(count, discarded(outcome, offset));
+            let told = write(&book(), &verdict, &mut room);
+            assert_eq!(told, (outcome, offset, count, 0));
             assert_eq!(room, pattern(length));
         }
     }
@@ -267,7 +296,7 @@ fn the_old_call_makes_tests_1_and_2_itself() {
             lent.scopes[0].ttl = ttl;
             let (before, mut room) = (lent.clone(), pattern(length));
             let told = serve(&mut lent, &datagram, client, time, &mut room);
-            assert_eq!(told, (outcome, 0, 0));
+            assert_eq!(told, (outcome, 0, 0, 0));
             assert_eq!((lent, room), (before, pattern(length)));
         }
     }
@@ -280,11 +309,11 @@ fn the_reply_is_of_the_book_that_the_first_half_left() {
     let info = datagram(GETINFO, 4, &[(3, ID), (5, &[0, 11])]);
     let verdict = judge(&mut judged, &info, CLIENT_1, 1234);
     let mut room = [0; 512];
-    let (_, _, length) = write(&judged, &verdict, &mut room);
+    let (_, _, _, length) = write(&judged, &verdict, &mut room);
     let time = option_of(&room[..length], 11);
     assert_eq!(time, Some(1234_u32.to_be_bytes().to_vec()));
     judged.clock = 9999;
-    let (_, _, length) = write(&judged, &verdict, &mut room);
+    let (_, _, _, length) = write(&judged, &verdict, &mut room);
     let time = option_of(&room[..length], 11);
     assert_eq!(time, Some(9999_u32.to_be_bytes().to_vec()));
 }
@@ -322,10 +351,11 @@ fn a_verdict_that_the_first_half_did_not_give_is_written_within_512_octets_or_no
                 transaction: 7,
                 identifier: vec![1; length],
                 has_features: true,
+                count: 33,
                 answer: answer.clone(),
             });
             let mut room = pattern(3000);
-            let (outcome, offset, length) = write(&book(), &verdict, &mut room);
+            let (outcome, offset, _, length) = write(&book(), &verdict, &mut room);
             assert!(outcome <= 8 && offset == 0 && length <= 512);
             assert_eq!(room[length..], pattern(3000)[length..]);
         }

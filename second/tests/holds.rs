@@ -189,7 +189,7 @@ fn a_hold_lapses_when_the_clock_reaches_thirty_seconds() {
     let mut book = offered();
     assert_eq!(
         serve(&mut book, &[], STRANGER, 9999, &mut [0; 511]),
-        (2, 0, 0)
+        (2, 0, 0, 0)
     );
     let mut unsound = book.clone();
     unsound.scopes[0].ttl = 0;

@@ -317,8 +317,9 @@ fn the_programs_and_the_holds() {
         02 01 01 02 0041 03 00000001 000003E8 000007D0 01 00
            01 01 02 0042 03 0000000A 000003E8 000007D0 02 01 02
         01 00 00 00 00 00";
+    // The hold, which lapses before the lease ends, is found first, by the resend test and by error 1.
     let lines = format!(
-        "0 {}\nbook {}\n",
+        "0 {} #2\nbook {}\n",
         second::octets::hex(&ack),
         second::octets::hex(&hex(settings))
     );

@@ -28,12 +28,15 @@ fn seconds(value: u32) -> [u8; 4] {
 fn discards_in_the_tables_order() {
     let mut unsound = specimen_book();
     unsound.scopes[0].ttl = 0;
-    assert_eq!(serve(&mut unsound, &[], STRANGER, 9, &mut []), (1, 0, 0));
+    assert_eq!(serve(&mut unsound, &[], STRANGER, 9, &mut []), (1, 0, 0, 0));
     let mut book = specimen_book();
     book.leases = vec![lease(1, ID, 1000, 1500, &[0])];
     let before = book.clone();
     let mut room = [7; 511];
-    assert_eq!(serve(&mut book, &[], STRANGER, 1500, &mut room), (2, 0, 0));
+    assert_eq!(
+        serve(&mut book, &[], STRANGER, 1500, &mut room),
+        (2, 0, 0, 0)
+    );
     assert_eq!((&book, room), (&before, [7; 511]));
     // From test 3 on the clock is raised and ended leases are dropped.
     assert_eq!(call(&mut book, STRANGER, 1499, &[]).0, 3);

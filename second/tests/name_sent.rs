@@ -411,7 +411,7 @@ fn the_longest_replies() {
         assert_eq!(reply.len(), 293);
         let mut room = [7; 512];
         let answer = serve(&mut book, &asking(language), CLIENT_1, 1000, &mut room);
-        assert_eq!(answer, (0, 0, 293));
+        assert_eq!(answer, (0, 0, 0, 293));
         assert_eq!(room[..293], reply);
         assert_eq!(room[293..], [7; 219]);
         assert_eq!(
@@ -422,7 +422,7 @@ fn the_longest_replies() {
                 1000,
                 &mut room[..511]
             ),
-            (2, 0, 0)
+            (2, 0, 0, 0)
         );
     }
     // A lease of 32 single addresses: 296 octets.
@@ -491,7 +491,7 @@ fn bad_names_lent_come_before_the_other_tests() {
     // A small room, a stranger, no datagram; and a GETINFO that is all right, or doesn't ask for names.
     assert_eq!(
         serve(&mut book, &[], STRANGER, 5000, &mut [0; 511]),
-        (1, 0, 0)
+        (1, 0, 0, 0)
     );
     assert_eq!(call(&mut book, CLIENT_1, 5000, &getinfo(Some(b"en"))).0, 1);
     let plain = datagram(8, 1, &[(3, ID)]);

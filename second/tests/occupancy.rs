@@ -198,7 +198,7 @@ fn what_has_ended_is_dropped_before() {
     // Discard 2 drops nothing.
     let mut unchanged = book.clone();
     let no_room = serve(&mut unchanged, &[], STRANGER, 9000, &mut [0; 511]);
-    assert_eq!(no_room, (2, 0, 0));
+    assert_eq!(no_room, (2, 0, 0, 0));
     first_scope(&unchanged, both, &[1, 1]);
     // Every other call does, and then counts.
     let getinfo = message(GETINFO, 1, OTHER, 0, &[]);

@@ -176,7 +176,7 @@ fn in_the_place_of_the_resend_test() {
     assert_eq!(call(&mut unsound, CLIENT_1, 1000, &again).0, 1);
     assert_eq!(
         serve(&mut book, &again, CLIENT_1, 1000, &mut [0; 511]),
-        (2, 0, 0)
+        (2, 0, 0, 0)
     );
     assert_eq!(call(&mut book, STRANGER, 1000, &again).0, 3);
     assert_eq!(

@@ -252,7 +252,7 @@ fn the_programs_and_the_releases() {
     input.extend(hex(&format!("00000513 0A010005 0200 0012 {again}")));
     let ack = "00050001000000090002000600010a01010100030002004200000000";
     let at_1299 = book_line.replacen("000003e8", "00000513", 1);
-    assert_eq!(replay(&input), format!("0 {ack}\n{at_1299}"));
+    assert_eq!(replay(&input), format!("0 {ack} #0\n{at_1299}"));
     // Times after the clock, and a section cut off.
     let late = hex(&format!("{SETTINGS} 01 01 02 0042 00000009 000003E9 00"));
     assert_eq!(board(&late), "refused 21\n");

@@ -1,5 +1,6 @@
 //! Runs `second replay` over a folder of cases, named by the environment variable SECOND_VECTORS:
-//! every `N.bin` or `N.in` in it or below it is given on standard input, and `N.out` is what must come out.
+//! every `N.bin` or `N.in` in it or below it is given on standard input, and `N.out` is what must come out. Cases from
+//! before W-210 have no counts; they are compared without them.
 
 use std::fs;
 use std::io::Write;
@@ -38,6 +39,29 @@ fn replay(input: &[u8]) -> Vec<u8> {
     program.wait_with_output().expect("its output").stdout
 }
 
+/// The lines without the counts at their ends.
+fn without_counts(text: &str) -> String {
+    let line = |line: &str| line.split(" #").next().unwrap_or_default().to_string() + "\n";
+    text.lines().map(line).collect()
+}
+
+/// Whether what came out is what is expected.
+fn agrees(found: &[u8], expected: &[u8]) -> bool {
+    let text = String::from_utf8_lossy(found);
+    let is_older = !expected.windows(2).any(|pair| pair == b" #");
+    found == expected || is_older && without_counts(&text).as_bytes() == expected
+}
+
+#[test]
+fn counts_are_passed_over_in_older_cases_alone() {
+    let found = b"8 #2\n5 @12 #0\nbook 01\n";
+    assert!(agrees(found, found));
+    assert!(agrees(found, b"8\n5 @12\nbook 01\n"));
+    assert!(!agrees(found, b"8\n5 @13\nbook 01\n"));
+    assert!(!agrees(found, b"8 #2\n5 @12\nbook 01\n"));
+    assert!(!agrees(found, b"8 #3\n5 @12 #0\nbook 01\n"));
+}
+
 #[test]
 fn every_case_agrees() {
     let Some(folder) = std::env::var_os("SECOND_VECTORS") else {
@@ -51,7 +75,7 @@ fn every_case_agrees() {
         .filter(|case| {
             let input = fs::read(case).expect("the input");
             let expected = fs::read(case.with_extension("out")).expect("the expected output");
-            replay(&input) != expected
+            !agrees(&replay(&input), &expected)
         })
         .collect();
     assert!(disagreeing.is_empty(), "disagreeing: {disagreeing:?}");

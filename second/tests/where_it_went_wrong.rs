@@ -247,20 +247,20 @@ fn every_other_outcome_has_0() {
     unsound.scopes[0].ttl = 0;
     assert_eq!(
         serve(&mut unsound, &bad, CLIENT_1, 1000, &mut [0; 512]),
-        (1, 0, 0)
+        (1, 0, 0, 0)
     );
     let mut book = specimen_book();
     assert_eq!(
         serve(&mut book, &bad, CLIENT_1, 1000, &mut [0; 511]),
-        (2, 0, 0)
+        (2, 0, 0, 0)
     );
     assert_eq!(
         serve(&mut book, &bad, STRANGER, 1000, &mut [0; 512]),
-        (3, 0, 0)
+        (3, 0, 0, 0)
     );
     assert_eq!(
         serve(&mut book, &bad, CLIENT_1, 1000, &mut [0; 512]),
-        (5, 8, 0)
+        (5, 8, 0, 0)
     );
     for datagram in [
         message(2, "0001 0000 0000 0000"),
@@ -326,5 +326,8 @@ fn replay_prints_the_offset_of_discard_5_alone() {
     }
     let text = replay(&input);
     let lines: Vec<_> = text.lines().take(calls.len()).collect();
-    assert_eq!(lines, ["5 @14", "2", "3", "4", "5 @12", "8"]);
+    assert_eq!(
+        lines,
+        ["5 @14 #0", "2 #0", "3 #0", "4 #0", "5 @12 #0", "8 #0"]
+    );
 }

@@ -47,10 +47,10 @@ use Rattle.releases.specs.laws.Tenants.{Holds, each-memory, memory-each}
 use Rattle.releases.specs.laws.Whole.{book-board, book-sound}
 use Rattle.decision.specs.declared.Decided.{Decided}
 use Rattle.decision.specs.Parts.{ownOf}
-use Rattle.server.specs.Serve.{Answer, Call, Said, answered, atClock, decidedFor, discarded, discardedAt, forServer, said, serveOf, tenantOf, withReading}
+use Rattle.server.specs.Serve.{Answer, Call, answered, atClock, decidedFor, discarded, discardedAt, forServer, serveOf, tenantOf, withReading}
 use Rattle.guarantee.specs.Statement.{SoundBook, run}
 use Rattle.guarantee.proofs.Kept.{advanced-laid, call-sound, now-sound}
-use Rattle.arrangement.specs.Arrangement.{answeredBy, atClockBy, bookBy, forServerBy, runBy, serveBy, toldBy, withReadingBy}
+use Rattle.arrangement.specs.Arrangement.{Heard, answeredBy, atClockBy, bookBy, forServerBy, heard, runBy, serveBy, toldBy, withReadingBy}
 use Rattle.arrangement.specs.Statement.{Alike, Pair, SameAnswer, SameRuns, SameService, SoundBy}
 use Rattle.arrangement.proofs.Lists.{Same, at-same, board-same, same-live, same-set, same-symm, sound-same}
 use Rattle.arrangement.proofs.Decided.{decide-same, own-same}
@@ -318,10 +318,10 @@ unfolding toldBy SameService
 told-same x y p [] = refl
 told-same x y p (c ∷ cs) =
     let s = same-service x y p c in
-    let a : said (serveBy byIdentifier x c) ≡ said (serveBy byEnding y c) =
-    ap₂ (λ (n f : ℕ). record { outcome = n; offset = f; reply = serveBy byIdentifier x c .reply }) (s .outcome) (s .offset)
-    ∙ ap (λ (r : List ℕ). record { outcome = serveBy byEnding y c .outcome; offset = serveBy byEnding y c .offset; reply = r }) (s .reply) in
-    ap₂ {C = List Said} (λ (h : Said) (r : List Said). h ∷ r) a (told-same (serveBy byIdentifier x c .book) (serveBy byEnding y c .book) (s .books) cs)
+    let a : heard (serveBy byIdentifier x c) ≡ heard (serveBy byEnding y c) =
+    ap₂ {C = Heard} (λ (n f : ℕ). record { outcome = n; offset = f; reply = serveBy byIdentifier x c .reply }) (s .outcome) (s .offset)
+    ∙ ap {B = Heard} (λ (r : List ℕ). record { outcome = serveBy byEnding y c .outcome; offset = serveBy byEnding y c .offset; reply = r }) (s .reply) in
+    ap₂ {C = List Heard} (λ (h : Heard) (r : List Heard). h ∷ r) a (told-same (serveBy byIdentifier x c .book) (serveBy byEnding y c .book) (s .books) cs)
 
 run-same : (x y : Book) → Pair x y → (cs : List Call) → Pair (runBy byIdentifier x cs) (runBy byEnding y cs)
 unfolding runBy SameService

@@ -16,7 +16,7 @@ use Rattle.state.specs.Edit.{editedBookBy}
 use Rattle.soundness.specs.Sound.{soundBy, tenantsIn}
 use Rattle.releases.specs.Whole.{boardGood, memoryGood, namesGood}
 use Rattle.decision.specs.declared.Decided.{Decided}
-use Rattle.server.specs.Serve.{Answer, Call, Said, decidedFor, discarded, discardedAt, replyOf, said, tenantOf}
+use Rattle.server.specs.Serve.{Answer, Call, countFor, decidedFor, discarded, discardedAt, replyOf, tenantOf}
 
 -- ---- a sound book
 unfoldable pub bookBy : Order → Book → Bool
@@ -27,6 +27,7 @@ abbrev pub answeredBy : Order → Book → ℕ → Fields → Decided → Answer
 answeredBy o b h m d = record {
   outcome = d .verdict .outcome;
   offset = 0;
+  count = countFor b h m;
   reply = replyOf (b .state) (b .names) h m (d .verdict);
   book = editedBookBy o (d .edit) h b;
 }
@@ -49,11 +50,20 @@ serveBy o b c =
     (pick (ltb (c .room) leastRoom) (discarded 2 b) (atClockBy o (advanced b (c .time)) (c .client) (c .datagram)))
     (discarded 1 b)
 
+-- ---- what a caller is told but for the count, which goes by the order: "W-209's equality leaves it out" (W-210)
+pub record Heard : Type 0 where
+  pub outcome : ℕ
+  pub offset : ℕ
+  pub reply : List ℕ
+
+abbrev pub heard : Answer → Heard
+heard a = record { outcome = a .outcome; offset = a .offset; reply = a .reply }
+
 -- ---- a list of calls: the book afterwards, and what callers are told
 unfoldable pub runBy : Order → Book → List Call → Book
 runBy o b [] = b
 runBy o b (c ∷ cs) = runBy o (serveBy o b c .book) cs
 
-unfoldable pub toldBy : Order → Book → List Call → List Said
+unfoldable pub toldBy : Order → Book → List Call → List Heard
 toldBy o b [] = []
-toldBy o b (c ∷ cs) = said (serveBy o b c) ∷ toldBy o (serveBy o b c .book) cs
+toldBy o b (c ∷ cs) = heard (serveBy o b c) ∷ toldBy o (serveBy o b c .book) cs

@@ -49,7 +49,8 @@ SameFile = (x y : Book) → Pair x y → octetsAs x ≡ octetsOf y
 unfoldable pub NewIsTheCall : Type 0
 NewIsTheCall = (b : Book) (c : Call) → serveBy byEnding b c ≡ serveOf b c
 
--- "the same outcome", its offset too, "and reply", "and again such books"
+-- "the same outcome", its offset too, "and reply", "and again such books". Not the count of records that were read, which goes by the order: "W-209's equality leaves
+-- it out" (W-210)
 pub record SameAnswer (x y : Answer) : Type 0 where
   pub outcome : x .outcome ≡ y .outcome
   pub offset : x .offset ≡ y .offset

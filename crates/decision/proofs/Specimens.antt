@@ -1,5 +1,5 @@
 -- Specimens: document 01's specimens P1 to P9 and those of skew, with Resend, RELEASE and DISCOVER, a RELEASE sent again (document 02, W-202),
--- minimum lease and latest start (W-203), and holds (W-205), by computation: one table of cases.
+-- minimum lease and latest start (W-203), and holds (W-205), by computation: one table of cases; and how many records are compared (W-210).
 use mathlib.Core.Path.{_≡_, refl}
 use mathlib.Core.List.{List, [], _∷_, _++_}
 use mathlib.Core.Bool.{Bool, true, false, not, _&&_}
@@ -19,14 +19,15 @@ use Rattle.message.specs.declared.Fields.{Fields}
 use Rattle.message.specs.declared.Language.{Language}
 use Rattle.occupancy.specs.Board.{noBoard}
 use Rattle.state.specs.declared.State.{State}
-use Rattle.state.specs.Book.{Book, changedTo, withClock, laidReleases, releasesAt, remembered, byIdentifier, zeroScope, laidOut, tableOf, removeOf, liveOf, dropped, isHold, until, unionAll, addressesOf, overlaps, usedIn, withHeld, committed, insertedBy, byEnding}
+use Rattle.state.specs.Book.{Book, changedTo, withClock, laidReleases, releasesAt, remembered, byIdentifier, zeroScope, laidOut, tableOf, removeOf, liveOf, dropped, isHold, until, unionAll, addressesOf, overlaps, usedIn, withHeld, committed, insertedBy, byEnding, comparedOf}
 use Rattle.allocation.specs.Rule.{takenOf, busyIn, allowed, grantOf, suffices, grantTo}
 use Rattle.state.specs.Edit.{leftIn, rememberOf, forgetOf, notedIn, noted, editedBook, appliedBy, editedBy}
 use Rattle.releases.specs.Again.{isAgain, anyAgain}
 use Rattle.decision.specs.declared.Decided.{Decided}
 use Rattle.decision.specs.declared.Verdict.{Verdict}
-use Rattle.decision.specs.Parts.{heldAlready, isNew, hasPeriod, holdsOf, recordedOf, resends, releasedAgain, scopePlace, knowsScope, lacksScope, zeroLength, badCounts, lacksCurrent, early1Of, error1Of, skewed, error2Of, error3Of, wishedOr, startOf, lengthOf, endOf, askAt, fitsNew, newWith, newAt, newOf, othersBusy, fitsRenewed, renewedTo, renewedOf, proposalOf, error0Of, leaseFrom, withLease, plainReply, nakWith, discardWith, refusalOf, latestFirst, tooShort, tooLate, meets, isLeased, isHeld, sameScope, isForHold, holdMeets, turned, dropsHold, broughtBy, heldFrom}
+use Rattle.decision.specs.Parts.{heldAlready, isNew, hasPeriod, ownOf, holdsOf, recordedOf, resends, releasedAgain, scopePlace, knowsScope, lacksScope, zeroLength, badCounts, lacksCurrent, early1Of, error1Of, skewed, error2Of, error3Of, wishedOr, startOf, lengthOf, endOf, askAt, fitsNew, newWith, newAt, newOf, othersBusy, fitsRenewed, renewedTo, renewedOf, proposalOf, error0Of, leaseFrom, withLease, plainReply, nakWith, discardWith, refusalOf, latestFirst, tooShort, tooLate, meets, isLeased, isHeld, sameScope, isForHold, holdMeets, turned, dropsHold, broughtBy, heldFrom}
 use Rattle.decision.specs.laws.Code.{replyType}
+use Rattle.decision.specs.Count.{asksIdentifier, countOf, identifierCount, lookupCount}
 use Rattle.decision.specs.Decide.{leasedOf, plainOf, settledOf, repeatedOf, droppedFirst, judgedOf, decideOf}
 
 -- scope 239.192.0.0, size 4; tenant 1 reserve 2 limit 3; tenant 2 reserve 1 limit 4
@@ -412,6 +413,43 @@ specimens = refl
 late-early : (early1Of (settings 1000) (starting 2000 1000 1999 .fields) ≡ true) × (early1Of (settings 1000) (starting 2000 1000 2000 .fields) ≡ false)
 unfolding settings wish call pick placeBy isNew scopePlace knowsScope lacksScope zeroLength badCounts lacksCurrent latestFirst early1Of
 late-early = (refl, refl)
+
+-- ---- W-210: the records that the lookups for a call compare
+compared : List Call → Call → ℕ
+compared before last =
+    let b : Book = now (run (empty (settings 0)) before) last in
+    countOf (b .state) (ownOf (b .table) (last .tenant)) (remembered (releasesAt (b .memory) (last .tenant))) (last .fields)
+
+-- house 1 has P3's lease, which ends at 2000, and then P5's; or P3's, for one address, after a hold that lapses at 1030
+two : List Call
+two = p1 ∷ p3 ∷ p5 ∷ []
+
+holding : List Call
+holding = call 0 1000 3 2 2 1 1 1000 0 0 ∷ call 0 1000 1 3 3 1 1 0 0 0 ∷ []
+
+-- a REQUEST: of a house without records, another house's don't count; of an identifier that it has not, and that it has; Resend, of its first record and of its second
+counts-request : (compared [] p1 ≡ 0) × (compared (p3 ∷ []) p1 ≡ 0) × (compared two (call 0 1000 3 4 4 1 1 0 0 0) ≡ 4) × (compared two (call 0 1000 3 2 7 1 1 0 0 0) ≡ 2)
+    × (compared two (call 0 1000 3 3 7 1 1 0 0 0) ≡ 4) × (compared two p3 ≡ 1) × (compared two p5 ≡ 2)
+unfolding settings wish call now decided run empty p1 p3 p5 released pick filterBy isIn placeBy sumTo largest orderOf sameOf bit offsetsFrom setOf differenceOf upTo laidOut tableOf insertIn byIdentifier removeOf liveOf dropped unionAll addressesOf overlaps usedIn takenOf busyIn withHeld committed allowed grantOf suffices isNew hasPeriod holdsOf recordedOf resends scopePlace knowsScope lacksScope zeroLength badCounts lacksCurrent error1Of skewed error2Of error3Of wishedOr startOf lengthOf endOf askAt fitsNew newWith newAt newOf othersBusy fitsRenewed renewedTo renewedOf proposalOf error0Of leaseFrom withLease plainReply nakWith discardWith refusalOf leasedOf plainOf settledOf judgedOf decideOf insertedBy leftIn editedBy appliedBy grantTo early1Of heldAlready laidReleases rememberOf forgetOf notedIn noted isAgain anyAgain releasedAgain latestFirst tooShort tooLate meets isLeased isHeld isForHold dropsHold broughtBy droppedFirst until isHold sameScope holdMeets repeatedOf turned heldFrom byEnding comparedOf lookupCount asksIdentifier identifierCount countOf compared two
+counts-request = (refl, refl, refl, refl, refl, refl, refl)
+
+-- a DISCOVER; a RENEW, of its second record and of none; a RELEASE, of its first record, and sent again, when the house has one record left, and too late for that; a GETINFO
+counts-others : (compared two (call 0 1000 1 4 4 1 1 0 0 0) ≡ 2) × (compared two (call 0 1000 4 3 4 1 1 0 0 0) ≡ 4) × (compared two (call 0 1000 4 4 4 1 1 0 0 0) ≡ 4) × (compared two (released 1500) ≡ 1)
+    × (compared (two ++ released 1500 ∷ []) (released 1799) ≡ 0) × (compared (two ++ released 1500 ∷ []) (released 1800) ≡ 1) × (compared two (call 0 1000 8 2 2 1 1 0 0 0) ≡ 0)
+unfolding settings wish call now decided run empty p1 p3 p5 released pick filterBy isIn placeBy sumTo largest orderOf sameOf bit offsetsFrom setOf differenceOf upTo laidOut tableOf insertIn byIdentifier removeOf liveOf dropped unionAll addressesOf overlaps usedIn takenOf busyIn withHeld committed allowed grantOf suffices isNew hasPeriod holdsOf recordedOf resends scopePlace knowsScope lacksScope zeroLength badCounts lacksCurrent error1Of skewed error2Of error3Of wishedOr startOf lengthOf endOf askAt fitsNew newWith newAt newOf othersBusy fitsRenewed renewedTo renewedOf proposalOf error0Of leaseFrom withLease plainReply nakWith discardWith refusalOf leasedOf plainOf settledOf judgedOf decideOf insertedBy leftIn editedBy appliedBy grantTo early1Of heldAlready laidReleases rememberOf forgetOf notedIn noted isAgain anyAgain releasedAgain latestFirst tooShort tooLate meets isLeased isHeld isForHold dropsHold broughtBy droppedFirst until isHold sameScope holdMeets repeatedOf turned heldFrom byEnding comparedOf lookupCount asksIdentifier identifierCount countOf compared two
+counts-others = (refl, refl, refl, refl, refl, refl, refl)
+
+-- error 1's tests before the identifier's end the matter: REQUEST, RENEW, DISCOVER, RELEASE; error 2 comes after the identifier's test for a REQUEST and a DISCOVER, and before it for a RENEW and a RELEASE
+counts-ended : (compared two (forbidden (call 0 1000 3 4 4 1 1 0 0 0)) ≡ 2) × (compared two (forbidden (call 0 1000 4 3 4 1 1 0 0 0)) ≡ 2) × (compared two (forbidden (call 0 1000 1 4 4 1 1 0 0 0)) ≡ 0)
+    × (compared two (forbidden (released 1500)) ≡ 0) × (compared two (call 0 1000 3 4 4 1 1 0 0 9000) ≡ 4) × (compared two (call 0 1000 1 4 4 1 1 0 0 9000) ≡ 2) × (compared two (call 0 1000 4 3 4 1 1 0 0 9000) ≡ 2)
+    × (compared two (call 0 1000 7 3 4 1 1 0 0 9000) ≡ 0)
+unfolding settings wish call now decided run empty p1 p3 p5 released pick filterBy isIn placeBy sumTo largest orderOf sameOf bit offsetsFrom setOf differenceOf upTo laidOut tableOf insertIn byIdentifier removeOf liveOf dropped unionAll addressesOf overlaps usedIn takenOf busyIn withHeld committed allowed grantOf suffices isNew hasPeriod holdsOf recordedOf resends scopePlace knowsScope lacksScope zeroLength badCounts lacksCurrent error1Of skewed error2Of error3Of wishedOr startOf lengthOf endOf askAt fitsNew newWith newAt newOf othersBusy fitsRenewed renewedTo renewedOf proposalOf error0Of leaseFrom withLease plainReply nakWith discardWith refusalOf leasedOf plainOf settledOf judgedOf decideOf insertedBy leftIn editedBy appliedBy grantTo early1Of heldAlready laidReleases rememberOf forgetOf notedIn noted isAgain anyAgain releasedAgain latestFirst tooShort tooLate meets isLeased isHeld isForHold dropsHold broughtBy droppedFirst until isHold sameScope holdMeets repeatedOf turned heldFrom byEnding comparedOf lookupCount asksIdentifier identifierCount countOf compared two
+counts-ended = (refl, refl, refl, refl, refl, refl, refl, refl)
+
+-- a hold is found in its place, by its lapse, and costs nothing more to turn into a lease; the lease after it, until it lapses
+counts-held : (compared holding (call 0 1001 3 3 9 1 1 0 0 0) ≡ 2) × (compared holding (call 0 1029 3 2 2 1 1 1000 0 0) ≡ 2) × (compared holding (call 0 1030 3 2 2 1 1 1000 0 0) ≡ 1)
+unfolding settings wish call now decided run empty p1 p3 p5 released pick filterBy isIn placeBy sumTo largest orderOf sameOf bit offsetsFrom setOf differenceOf upTo laidOut tableOf insertIn byIdentifier removeOf liveOf dropped unionAll addressesOf overlaps usedIn takenOf busyIn withHeld committed allowed grantOf suffices isNew hasPeriod holdsOf recordedOf resends scopePlace knowsScope lacksScope zeroLength badCounts lacksCurrent error1Of skewed error2Of error3Of wishedOr startOf lengthOf endOf askAt fitsNew newWith newAt newOf othersBusy fitsRenewed renewedTo renewedOf proposalOf error0Of leaseFrom withLease plainReply nakWith discardWith refusalOf leasedOf plainOf settledOf judgedOf decideOf insertedBy leftIn editedBy appliedBy grantTo early1Of heldAlready laidReleases rememberOf forgetOf notedIn noted isAgain anyAgain releasedAgain latestFirst tooShort tooLate meets isLeased isHeld isForHold dropsHold broughtBy droppedFirst until isHold sameScope holdMeets repeatedOf turned heldFrom byEnding comparedOf lookupCount asksIdentifier identifierCount countOf compared holding
+counts-held = (refl, refl, refl)
 
 -- ---- periods
 -- start and length, from Lease Time and Start Time, the clock, and what stands for an absent one: the old start and length of a RENEW, the clock and 3,600 otherwise

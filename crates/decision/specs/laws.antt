@@ -7,3 +7,4 @@ pub mod Ensured
 pub mod Reads
 pub mod Others
 pub mod View
+pub mod Count

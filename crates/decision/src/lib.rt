@@ -5,26 +5,31 @@ mod proposals;
 mod tests;
 
 ghost use mathlib.Core.Path.{_≡_};
+ghost use Prim.Native.Nat.{_≤_};
 ghost use lib.ListN.{take};
 ghost use Rattle.state.specs.Book.{inUse, remembered};
 ghost use Rattle.state.specs.Edit.{entering, leaving};
 ghost use Rattle.decision.specs.Parts.{withLease, plainReply, nakWith, discardWith, refusalOf, dropsHold, heldFrom};
-ghost use Rattle.decision.specs.Gather.{recordedIn, proposalIn, broughtIn, pastErrors, decideIn};
-ghost use Rattle.decision.specs.Decide.{unchanged, changed, leasedOf, plainOf, settledOf, repeatedOf, droppedFirst, judgedOf};
+ghost use Rattle.decision.specs.Gather.{recordedIn, proposalIn, lookedUp, notAsked, broughtIn, pastErrors, pastEarly, decideIn};
+ghost use Rattle.decision.specs.Decide.{unchanged, changed, leasedOf, plainOf, settledOf, repeatedOf, droppedFirst};
+ghost use Rattle.decision.specs.Count.{countOf};
 ghost use Rattle.decision.specs.declared.Reply.the-variants.{Offer, LeaseAck, ReleaseAck, InfoAck};
 use crate::proposals::brought;
 use crate::proposals::hold_from;
 use crate::proposals::lease_from;
 use crate::proposals::propose;
 use crate::proposals::turn;
+use crate::tests::asks_identifier;
+use crate::tests::asks_resend;
 use crate::tests::drops_hold;
+use crate::tests::early_1;
 use crate::tests::error_0;
-use crate::tests::error_1;
 use crate::tests::error_2;
 use crate::tests::error_3;
 use crate::tests::has_period;
 use crate::tests::hold_meets;
 use crate::tests::is_for_hold;
+use crate::tests::is_held_already;
 use crate::tests::is_released_again;
 use crate::tests::is_resend;
 use message::Fields;
@@ -63,6 +68,12 @@ pub struct Decided {
     pub edit: Edit,
 }
 
+// A decision, and how many of the tenant's records its lookups compared: each is made where a test asks for it.
+pub struct Counted {
+    pub decided: Decided,
+    pub count: usize,
+}
+
 // What a lease would be, and whether it passes the test of error 0 that goes by its type.
 pub struct Proposal {
     pub fits: bool,
@@ -72,10 +83,11 @@ pub struct Proposal {
     pub addresses: u64,
 }
 
-// Whether a tenant has a record of an identifier, a lease or a hold, and the record, an unused one where it has none.
+// Whether a tenant has a record of an identifier, a lease or a hold, the record, an unused one where it has none, and how many were compared.
 struct Recorded {
     found: bool,
     lease: Lease,
+    compared: usize,
 }
 
 fn with_lease(reply: Reply, l: Lease) -> Verdict
@@ -318,25 +330,19 @@ fn answer(
     plain(s, m, old)
 }
 
+// From error 1's last test on, which is the first to ask whether the tenant has the identifier.
 fn judge(
     s: State,
     own: TenantLeases,
-    q: TenantReleases,
     held: HeldTable,
     h: usize,
     m: Fields,
     old: Lease,
     there: bool,
 ) -> Decided
-    ensures { λ r. ⌜ r ≡ judgedOf s (proposalIn s (broughtIn (inUse own) m old there) held h m old) (remembered q) m old there ⌝ }
+    ensures { λ r. ⌜ r ≡ pastEarly s (proposalIn s (broughtIn (inUse own) m old there) held h m old) m old there ⌝ }
 {
-    if is_resend(m, old) {
-        return acknowledge(state::no_edit(), old);
-    }
-    if is_released_again(s, q, m) {
-        return acknowledge_again();
-    }
-    if error_1(s, m, old, there) {
+    if is_held_already(s, m, old, there) {
         return refuse(m, 1);
     }
     if error_2(s, m) {
@@ -351,27 +357,59 @@ fn judge(
 fn look_up(own: TenantLeases, id: [u8; 32], len: u8) -> Recorded
     ensures { λ r. ⌜ r ≡ recordedIn (take len id) (inUse own) ⌝ }
 {
-    let n = state::cut16(own.count);
-    let mut i: usize = 0;
-    while i < n {
-        let l = own.leases[i];
-        if state::is_named(l, id, len) {
-            return Recorded {
-                found: true,
-                lease: l,
-            };
-        }
-        i += 1;
+    let x = state::find(own, id, len);
+    let at = x.place;
+    if at < state::cut16(own.count) {
+        let l = own.leases[at];
+        return Recorded {
+            found: true,
+            lease: l,
+            compared: x.compared,
+        };
     }
     Recorded {
         found: false,
         lease: state::no_lease(),
+        compared: x.compared,
+    }
+}
+
+// No lookup: nothing is found, and nothing was compared.
+fn not_asked() -> Recorded
+    ensures { λ r. ⌜ r ≡ notAsked ⌝ }
+{
+    Recorded {
+        found: false,
+        lease: state::no_lease(),
+        compared: 0,
+    }
+}
+
+// The lookup of the message's identifier, made where a test asks for it.
+fn look_up_if(asks: bool, own: TenantLeases, m: Fields) -> Recorded
+    ensures { λ r. ⌜ (r ≡ lookedUp asks (inUse own) m) × (r .compared ≤ 16) ⌝ }
+{
+    if asks {
+        let i = m.id;
+        let octets = i.octets;
+        return look_up(own, octets, i.len);
+    }
+    not_asked()
+}
+
+fn count_with(d: Decided, count: usize) -> Counted
+    ensures { λ r. ⌜ r ≡ record { decided = d; count = count } ⌝ }
+{
+    Counted {
+        decided: d,
+        count: count,
     }
 }
 
 // The verdict on a message of tenant h, counted from 0, and what it does to what the tenant has. `own` are the tenant's records, `q` what is
 // remembered of its releases, and `held` is what all tenants hold. Where they are that of a sound book, the answer is document 01's over the whole
-// book (`decide-in` in specs/laws/View.antt).
+// book (`decide-in` in specs/laws/View.antt). The count is of the records that were compared: each of the two lookups is made only where a test asks for it,
+// the second again, though it finds what the first did.
 pub fn decide(
     s: State,
     own: TenantLeases,
@@ -379,12 +417,23 @@ pub fn decide(
     held: HeldTable,
     h: usize,
     m: Fields,
-) -> Decided
-    ensures { λ r. ⌜ r ≡ decideIn s (inUse own) (remembered q) held h m ⌝ }
+) -> Counted
+    ensures { λ r. ⌜ r ≡ record { decided = decideIn s (inUse own) (remembered q) held h m; count = countOf s (inUse own) (remembered q) m } ⌝ }
 {
-    let i = m.id;
-    let octets = i.octets;
-    let r = look_up(own, octets, i.len);
-    let old = r.lease;
-    judge(s, own, q, held, h, m, old, r.found)
+    let first = look_up_if(asks_resend(m), own, m);
+    let sent = first.lease;
+    let before = first.compared;
+    if is_resend(m, sent) {
+        return count_with(acknowledge(state::no_edit(), sent), before);
+    }
+    if is_released_again(s, q, m) {
+        return count_with(acknowledge_again(), before);
+    }
+    if early_1(s, m) {
+        return count_with(refuse(m, 1), before);
+    }
+    let second = look_up_if(asks_identifier(s, m), own, m);
+    let old = second.lease;
+    let d = judge(s, own, held, h, m, old, second.found);
+    count_with(d, before + second.compared)
 }

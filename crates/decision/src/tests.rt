@@ -3,7 +3,8 @@ ghost use mathlib.Core.Path.{_≡_};
 ghost use mathlib.Core.Bool.{not, _&&_, _||_};
 ghost use lib.Dec.{eqb};
 ghost use Rattle.state.specs.Book.{remembered};
-ghost use Rattle.decision.specs.Parts.{isNew, hasPeriod, resends, releasedAgain, lowestIs, scopePlace, knowsScope, lacksScope, zeroLength, badCounts, lacksCurrent, early1Of, isLeased, isHeld, sameScope, heldAlready, error1Of, skewed, error2Of, error3Of, error0Of, latestFirst, tooShort, tooLate, meets, isForHold, holdMeets, dropsHold};
+ghost use Rattle.decision.specs.Parts.{isNew, hasPeriod, resends, releasedAgain, lowestIs, scopePlace, knowsScope, lacksScope, zeroLength, badCounts, lacksCurrent, early1Of, isLeased, isHeld, sameScope, heldAlready, skewed, error2Of, error3Of, error0Of, latestFirst, tooShort, tooLate, meets, isForHold, holdMeets, dropsHold};
+ghost use Rattle.decision.specs.Count.{asksResend, asksIdentifier};
 ghost use Prim.Native.Nat.{_-_};
 use crate::Proposal;
 use crate::numbers::HORIZON;
@@ -38,8 +39,9 @@ pub fn has_period(m: Fields) -> bool
     m.kind == MessageType::RENEW
 }
 
-fn is_recorded_type(m: Fields) -> bool
-    ensures { λ r. ⌜ r ≡ (eqb (m .kind) 3 || eqb (m .kind) 4) ⌝ }
+// Whether the resend test asks for the identifier's record: a REQUEST or RENEW.
+pub fn asks_resend(m: Fields) -> bool
+    ensures { λ r. ⌜ r ≡ asksResend m ⌝ }
 {
     if m.kind == MessageType::REQUEST {
         return true;
@@ -68,7 +70,7 @@ fn same_message(m: Fields, l: Lease) -> bool
 pub fn is_resend(m: Fields, l: Lease) -> bool
     ensures { λ r. ⌜ r ≡ resends m l ⌝ }
 {
-    if is_recorded_type(m) {
+    if asks_resend(m) {
         return same_message(m, l);
     }
     false
@@ -225,7 +227,8 @@ fn is_leased_already(m: Fields, old: Lease, there: bool) -> bool
     false
 }
 
-fn is_held_already(s: State, m: Fields, old: Lease, there: bool) -> bool
+// The last test of error 1, which asks for the identifier's record.
+pub fn is_held_already(s: State, m: Fields, old: Lease, there: bool) -> bool
     ensures { λ r. ⌜ r ≡ heldAlready s m old there ⌝ }
 {
     if is_leased_already(m, old, there) {
@@ -234,7 +237,7 @@ fn is_held_already(s: State, m: Fields, old: Lease, there: bool) -> bool
     is_held_elsewhere(s, m, old, there)
 }
 
-// What of error 1 does not ask for the identifier's lease.
+// What of error 1 does not ask for the identifier's record, and comes before it.
 pub fn early_1(s: State, m: Fields) -> bool
     ensures { λ r. ⌜ r ≡ early1Of s m ⌝ }
 {
@@ -256,15 +259,6 @@ pub fn early_1(s: State, m: Fields) -> bool
     latest_first(m)
 }
 
-pub fn error_1(s: State, m: Fields, old: Lease, there: bool) -> bool
-    ensures { λ r. ⌜ r ≡ error1Of s m old there ⌝ }
-{
-    if early_1(s, m) {
-        return true;
-    }
-    is_held_already(s, m, old, there)
-}
-
 fn is_skewed(a: u32, b: u32) -> bool
     ensures { λ r. ⌜ r ≡ skewed a b ⌝ }
 {
@@ -281,6 +275,20 @@ pub fn error_2(s: State, m: Fields) -> bool
     let w = t.current;
     if w.there {
         return is_skewed(w.value, s.clock);
+    }
+    false
+}
+
+// Whether error 1 or error 3 asks for the identifier's record: error 1 of a DISCOVER or REQUEST; error 3 of a RENEW or RELEASE, unless error 2 has ended the
+// matter before it.
+pub fn asks_identifier(s: State, m: Fields) -> bool
+    ensures { λ r. ⌜ r ≡ asksIdentifier s m ⌝ }
+{
+    if is_new(m) {
+        return true;
+    }
+    if needs_lease(m) {
+        return !error_2(s, m);
     }
     false
 }

@@ -137,34 +137,37 @@ module _ (b : List ℕ) (n k : ℕ) (x : List ℕ) {ys : List ℕ} (e : ys ≡ x
       d : List ℕ
       d = drop n b
 
--- the answer: the reply, then its outcome, its offset and its length before it
+-- the answer: the reply, then its outcome, its offset, its count and its length before it
 module _ (g : Ledger) (ls : List Lease) (names d : List ℕ) (client time room : ℕ) (b : List ℕ) (to : ℕ) where
   abbrev width : ℕ
-  width = to + 5 + room - (to + 5)
+  width = to + 6 + room - (to + 6)
 
   abbrev lent : List ℕ
-  lent = partOf b (to + 5) width
+  lent = partOf b (to + 6) width
 
   abbrev callWith : ℕ → Call
   callWith k = record { datagram = d; client = client; time = time; room = k }
 
-  pub answered : {ys x y z : List ℕ} {k m n : ℕ} {r : OwnedCall} → (to + answerRoom ≤ length b) × (room ≤ leastRoom) → ServesOwned (serveLent g ls names (callWith (length lent))) lent ys r → length ys ≡ length lent
-      → Wrote (withPart b (to + 5) width ys) to (r .outcome .outcome ∷ []) x k → Wrote x (to + 1) (octets16 (r .outcome .offset % 65536)) y m → Wrote y (to + 3) (octets16 (r .outcome .length % 65536)) z n
-      → Answers (serveLent g ls names (callWith room)) b to z r
-  answered {ys} {x} {y} {z} {r = r} h v l p q s = subst (λ (k : ℕ). Answers (serveLent g ls names (callWith k)) b to z r) full (record {
+  pub answered : {ys x y z u : List ℕ} {k m n j : ℕ} {r : OwnedCall} → (to + answerRoom ≤ length b) × (room ≤ leastRoom) → ServesOwned (serveLent g ls names (callWith (length lent))) lent ys r → length ys ≡ length lent
+      → Wrote (withPart b (to + 6) width ys) to (r .outcome .outcome ∷ []) x k → Wrote x (to + 1) (octets16 (r .outcome .offset % 65536)) y m → Wrote y (to + 3) (r .outcome .count % 256 ∷ []) z n
+      → Wrote z (to + 4) (octets16 (r .outcome .length % 65536)) u j → Answers (serveLent g ls names (callWith room)) b to u r
+  answered {ys} {x} {y} {z} {u} {r = r} h v l p q t s = subst (λ (k : ℕ). Answers (serveLent g ls names (callWith k)) b to u r) full (record {
     size = v .tells .size;
     ledger = v .ledger;
     leases = v .leases;
     buffer =
-        s .buffer ∙ ap (λ (w : List ℕ). put w (to + 3) size) (q .buffer)
-        ∙ ap (λ (w : List ℕ). put (put w (to + 1) place) (to + 3) size) (p .buffer)
-        ∙ ap (λ (w : List ℕ). put (put (put w to (o .outcome ∷ [])) (to + 1) place) (to + 3) size) (part-put b (to + 5) width (a .reply) (v .tells .buffer) l)
-        ∙ ap (λ (w : List ℕ). put w (to + 3) size) (put-put (put b (to + 5) (a .reply)) to (o .outcome ∷ []) place (let e = put-length b (to + 5) (a .reply) in omega arith))
-        ∙ put-put (put b (to + 5) (a .reply)) to (o .outcome ∷ place) size (let e = put-length b (to + 5) (a .reply) in omega arith)
-        ∙ put-under b to (o .outcome ∷ place ++ size) (a .reply) (omega arith)
-        ∙ ap (λ (j : ℕ). put b to (j ∷ place ++ size ++ a .reply)) (v .tells .outcome)
-        ∙ ap (λ (w : List ℕ). put b to (a .outcome ∷ w ++ size ++ a .reply)) (low16 (o .offset) ∙ ap octets16 (v .tells .offset))
-        ∙ ap (λ (w : List ℕ). put b to (a .outcome ∷ octets16 (a .offset) ++ w ++ a .reply)) (low16 (o .length) ∙ ap octets16 (v .tells .size));
+        s .buffer ∙ ap (λ (w : List ℕ). put w (to + 4) size) (t .buffer)
+        ∙ ap (λ (w : List ℕ). put (put w (to + 3) read) (to + 4) size) (q .buffer)
+        ∙ ap (λ (w : List ℕ). put (put (put w (to + 1) place) (to + 3) read) (to + 4) size) (p .buffer)
+        ∙ ap (λ (w : List ℕ). put (put (put (put w to (o .outcome ∷ [])) (to + 1) place) (to + 3) read) (to + 4) size) (part-put b (to + 6) width (a .reply) (v .tells .buffer) l)
+        ∙ ap (λ (w : List ℕ). put (put w (to + 3) read) (to + 4) size) (put-put with-reply to (o .outcome ∷ []) place reaches)
+        ∙ ap (λ (w : List ℕ). put w (to + 4) size) (put-put with-reply to (o .outcome ∷ place) read reaches)
+        ∙ put-put with-reply to (o .outcome ∷ place ++ read) size reaches
+        ∙ put-under b to (o .outcome ∷ place ++ read ++ size) (a .reply) (omega arith)
+        ∙ ap (λ (j : ℕ). put b to (j ∷ place ++ read ++ size ++ a .reply)) (v .tells .outcome)
+        ∙ ap (λ (w : List ℕ). put b to (a .outcome ∷ w ++ read ++ size ++ a .reply)) (low16 (o .offset) ∙ ap octets16 (v .tells .offset))
+        ∙ ap (λ (j : ℕ). put b to (a .outcome ∷ octets16 (a .offset) ++ (j % 256) ∷ size ++ a .reply)) (v .tells .count)
+        ∙ ap (λ (w : List ℕ). put b to (a .outcome ∷ octets16 (a .offset) ++ (a .count % 256) ∷ w ++ a .reply)) (low16 (o .length) ∙ ap octets16 (v .tells .size));
   })
     where
       o : Outcome
@@ -176,11 +179,20 @@ module _ (g : Ledger) (ls : List Lease) (names d : List ℕ) (client time room :
       place : List ℕ
       place = octets16 (o .offset % 65536)
 
+      read : List ℕ
+      read = o .count % 256 ∷ []
+
       size : List ℕ
       size = octets16 (o .length % 65536)
 
+      with-reply : List ℕ
+      with-reply = put b (to + 6) (a .reply)
+
+      reaches : to ≤ length with-reply
+      reaches = let e = put-length b (to + 6) (a .reply) in omega arith
+
       full : length lent ≡ room
-      full = let e = length-drop (to + 5) b in length-take-le width (drop (to + 5) b) (omega arith) ∙ (let q : to + 5 + room - (to + 5) ≡ room = omega arith in q)
+      full = let e = length-drop (to + 6) b in length-take-le width (drop (to + 6) b) (omega arith) ∙ (let q : to + 6 + room - (to + 6) ≡ room = omega arith in q)
 
 -- ---- the call of a record
 module _ (cs : List ℕ) (at : ℕ) where

@@ -172,7 +172,7 @@ module _ (b : List ℕ) (n : ℕ) {f : OwnedFile} (o : Opened b n f) where
     pub file-served : {kept : List ℕ} {i : ℕ} {before after b' : List ℕ} {m k : ℕ} {r : OwnedCall} {w : Written} → f .refusal ≡ 0 → Keeps b n kept i
         → ServesOwned (serveLent (f .owned .ledger) (f .owned .records .leases) (take i kept) c) before after r
         → w ≡ writtenLent (r .owned .ledger) (r .owned .records .leases) (take i kept) (length b) → b' ≡ roomLent (r .owned .ledger) (r .owned .records .leases) (take i kept) b
-        → m ≡ lengthAfter w n → k ≡ numberAfter w (r .outcome .outcome) → ServesFile (serveFile b n c) b' m before after (record { outcome = k; length = r .outcome .length; offset = r .outcome .offset })
+        → m ≡ lengthAfter w n → k ≡ numberAfter w (r .outcome .outcome) → ServesFile (serveFile b n c) b' m before after (record { outcome = k; length = r .outcome .length; offset = r .outcome .offset; count = r .outcome .count })
     unfolding serveFile
     file-served {before = before} {after} {r = r} z g v′ p q i j =
         let e = names-are g z in
@@ -183,18 +183,20 @@ module _ (b : List ℕ) (n : ℕ) {f : OwnedFile} (o : Opened b n f) where
           tells = record {
             outcome = told-yes one z (v .ledger) (v .leases) u j (v .tells .outcome);
             offset = v .tells .offset ∙ ap (λ (x : Filed). x .offset) (yes one z);
+            count = v .tells .count ∙ ap (λ (x : Filed). x .count) (yes one z);
             size = v .tells .size ∙ ap (λ (x : Filed). length (x .out)) (yes one z);
             buffer = v .tells .buffer ∙ ap (λ (x : Filed). x .out ++ drop (length (x .out)) before) (yes one z);
           };
           files = files-yes one z (v .ledger) (v .leases) u (q ∙ ap (λ (x : List ℕ). roomLent (r .owned .ledger) (r .owned .records .leases) x b) e) i;
         }
 
-    pub file-kept : {before : List ℕ} → (f .refusal ≡ 0 → ⊥) → ServesFile (serveFile b n c) b n before before (record { outcome = f .refusal; length = 0; offset = 0 })
+    pub file-kept : {before : List ℕ} → (f .refusal ≡ 0 → ⊥) → ServesFile (serveFile b n c) b n before before (record { outcome = f .refusal; length = 0; offset = 0; count = 0 })
     unfolding serveFile
     file-kept {before} z = record {
       tells = record {
         outcome = told-no one z;
         offset = ap (λ (x : Filed). x .offset) (no one z);
+        count = ap (λ (x : Filed). x .count) (no one z);
         size = ap (λ (x : Filed). length (x .out)) (no one z);
         buffer = ap (λ (x : Filed). x .out ++ drop (length (x .out)) before) (no one z);
       };

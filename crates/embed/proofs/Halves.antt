@@ -1,23 +1,19 @@
 -- Proof of `FileHalves`: the two halves of a call on a file, the second on what the first left, are the call.
 use Prim.Native.Nat.{ℕ, _≤_}
 use mathlib.Core.Path.{_≡_, refl, sym, ap, ap₂, _∙_}
-use mathlib.Core.Bool.{Bool, true, false}
 use mathlib.Core.List.{List}
 use native.Mathlib.Omega.{arith}
-use lib.Dec.{eqb}
 use lib.ListN.{length, replicate, take}
-use borrow.Author.Tests.{eqb-false, eqb-true}
 use Rattle.lists.specs.laws.Pick.{pick-eq, pick-not-lt}
 use Rattle.reply.specs.Reply.{leastRoom}
 use Rattle.format.specs.Format.{Octets}
-use Rattle.message.specs.Read.{longestDatagram}
 use Rattle.state.specs.declared.State.{State}
 use Rattle.state.specs.Book.{zeroLease}
 use Rattle.server.specs.declared.Ruling.{Ruling}
-use Rattle.server.specs.Serve.{Call, Said}
-use Rattle.server.specs.Halves.{writeOf}
-use Rattle.server.specs.Statement.{WritesDiscard}
-use Rattle.server.proofs.Halves.{writes-discard}
+use Rattle.server.specs.Serve.{Answer, Call, Said}
+use Rattle.server.specs.Halves.{Judgement, writeOf}
+use Rattle.server.specs.Statement.{VerdictTold}
+use Rattle.server.proofs.Halves.{verdict-told}
 use Rattle.verdict_octets.specs.Octets.{Holds, ReadBack, TypedRuling, verdictOctets}
 use Rattle.verdict_octets.specs.laws.Octets.{verdict-back}
 use Rattle.state_file.specs.StateFile.{namesOf, readFile, zeroLedger}
@@ -25,14 +21,18 @@ use Rattle.state_file.specs.Typed.{Typed}
 use Rattle.records.specs.Records.{tableFrom}
 use Rattle.records.specs.Lent.{judgeLent, LentAnswer, lentBoth, LentJudgement, LentReading, readLent, roomLent, serveLent, writtenLent}
 use Rattle.records.specs.laws.Call.{lent-joined}
-use Rattle.lent_guarantee.specs.Statement.{Lent, LentDemand1, LentWriteRead}
+use Rattle.records.specs.laws.Files.{file-long}
+use Rattle.lent_guarantee.specs.Statement.{bookOf, Lent, LentDemand1, LentWriteRead, SameCall, SameJudge}
 use Rattle.lent_guarantee.proofs.Guaranteed.{lent-demand1}
+use Rattle.lent_guarantee.proofs.Halves.{same-judge}
+use Rattle.lent_guarantee.proofs.Same.{same-call}
 use Rattle.lent_guarantee.proofs.RoundTrip.{read-whole}
 use Rattle.lent_guarantee.proofs.Written.{lent-write-read}
 use Rattle.embed.specs.Embed.{called, Filed, filed, ledgerIn, leasesIn, namesIn, refusalIn, serveFile}
 use Rattle.embed.specs.Halves.{judged, judgeFile, replyFile}
 use Rattle.embed.specs.Promises.{filedSaid}
 use Rattle.embed.specs.Statement.{FileHalves, firstHalf, judgedIn, JudgedNumbers, Numbered, ServedNumbers}
+use Rattle.embed.proofs.Files.{accepted-parts}
 use Rattle.embed.proofs.Judged.{lent-within}
 use Rattle.embed.proofs.Numbers.{filed-at, judged-numbers, served-numbers}
 
@@ -52,24 +52,32 @@ module _ (b : List ℕ) (n : ℕ) (c : Call) (e : refusalIn b n ≡ 0) (h : leas
   joined : whole ≡ lentBoth first said
   joined = lent-joined (length (leasesIn b n)) (ledgerIn b n) (leasesIn b n) (namesIn b n) c h
 
-  -- ---- the verdict's octets are the verdict
-  offset-small : first .ruling .offset ≤ longestDatagram
-  unfolding WritesDiscard LentDemand1
-  offset-small = go (eqb (first .ruling .verdict .outcome) 0) refl
-    where
-      go : (t : Bool) → eqb (first .ruling .verdict .outcome) 0 ≡ t → first .ruling .offset ≤ longestDatagram
-      go true z = let q = lent-within (ledgerIn b n) (leasesIn b n) (namesIn b n) (c .client) (c .time) (c .datagram) .none (eqb-true _ _ z) in omega arith
-      go false z =
-          let w = lent-within (ledgerIn b n) (leasesIn b n) (namesIn b n) (c .client) (c .time) (c .datagram) .few in
-          let p : whole .offset ≡ first .ruling .offset =
-          ap (λ (a : LentAnswer). a .offset) joined ∙ ap (λ (x : Said). x .offset) (writes-discard (first .ruling) (first .ledger .state) (namesIn b n) (c .room) h (eqb-false _ _ z) w) in
-          let q = lent-demand1 (record { ledger = ledgerIn b n; leases = leasesIn b n; names = namesIn b n }) c .inside .1 in
-          omega (arith, p, q)
+  -- ---- the verdict's octets are the verdict: its offset and its count are the call's, which are small
+  abbrev before : Lent
+  before = record { ledger = ledgerIn b n; leases = leasesIn b n; names = namesIn b n }
+
+  same-told : (whole .offset ≡ first .ruling .offset) × (whole .count ≡ first .ruling .count)
+  unfolding VerdictTold SameCall SameJudge
+  same-told =
+      let long = file-long (take n b) (accepted-parts b n e .2) in
+      let p = same-call before c long in
+      let q = verdict-told (bookOf before) c h in
+      let r = same-judge before c long in (
+        ap (λ (a : Answer). a .offset) p ∙ q .1 .0 ∙ sym (ap (λ (j : Judgement). j .ruling .offset) r),
+        ap (λ (a : Answer). a .count) p ∙ q .1 .1 .0 ∙ sym (ap (λ (j : Judgement). j .ruling .count) r),
+      )
 
   holds : Octets (c .datagram) → Holds (first .ruling)
+  unfolding LentDemand1
   holds o =
       let w = lent-within (ledgerIn b n) (leasesIn b n) (namesIn b n) (c .client) (c .time) (c .datagram) in
-      record { offset = let q = offset-small in omega arith; tenant = let q = w .tenant in omega arith; language = w .language o }
+      let d = lent-demand1 before c in
+      record {
+        offset = omega (arith, same-told .0, d .inside .1);
+        count = omega (arith, same-told .1, d .few-read);
+        tenant = let q = w .tenant in omega arith;
+        language = w .language o;
+      }
 
   -- ---- the file that the first half leaves is its book
   first-is : firstHalf b n c ≡ filed b n (judged first)
@@ -118,7 +126,8 @@ module _ (b : List ℕ) (n : ℕ) (c : Call) (e : refusalIn b n ≡ 0) (h : leas
         let p : said .outcome ≡ serveFile b n c .number = sym (ap (λ (a : LentAnswer). a .outcome) joined) ∙ sym (served-numbers b n c e .numbered .number) in
         let q : said .offset ≡ serveFile b n c .offset = sym (ap (λ (a : LentAnswer). a .offset) joined) ∙ sym (ap (λ (x : Filed). x .offset) whole-is) in
         let u : said .reply ≡ serveFile b n c .out = sym (ap (λ (a : LentAnswer). a .reply) joined) ∙ sym (ap (λ (x : Filed). x .out) whole-is) in
-        λ i. record { outcome = p i; offset = q i; reply = u i }
+        let k : said .count ≡ serveFile b n c .count = sym (ap (λ (a : LentAnswer). a .count) joined) ∙ sym (ap (λ (x : Filed). x .count) whole-is) in
+        λ i. record { outcome = p i; offset = q i; count = k i; reply = u i }
 
 pub file-halves : FileHalves
 unfolding FileHalves file

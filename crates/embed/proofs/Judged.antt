@@ -1,6 +1,5 @@
--- Laws: what the first half's verdict is bounded by: the outcome, the tenant, the language's length; and with outcome 0 goes no offset.
+-- Laws: what the first half's verdict is bounded by: the outcome, the tenant, the language's length.
 use Prim.Native.Nat.{ℕ, _+_, _≤_, _<_}
-use mathlib.Core.Path.{_≡_, refl}
 use mathlib.Core.List.{List}
 use native.Mathlib.Omega.{arith}
 use lib.Dec.{eqb, ltb}
@@ -28,13 +27,12 @@ use Rattle.records.specs.Lent.{bookFrom, is128, judgeLent, judgeWith, LentJudge
 
 pub record Within (s : List ℕ) (r : Ruling) : Type 0 where
   pub few : r .verdict .outcome ≤ 8
-  pub none : r .verdict .outcome ≡ 0 → r .offset ≡ 0
   pub tenant : r .tenant < 8
   pub language : Octets s → r .language .len < 65536
 
-dismissed : (s : List ℕ) (k o : ℕ) → (k ≡ 0 → ⊥) → k ≤ 8 → Within s (discardRuling k o)
+dismissed : (s : List ℕ) (k o : ℕ) → k ≤ 8 → Within s (discardRuling k o)
 unfolding discardWith
-dismissed s k o z h = record { few = h; none = λ e. absurd (z e); tenant = omega arith; language = λ _. omega arith }
+dismissed s k o h = record { few = h; tenant = omega arith; language = λ _. omega arith }
 
 -- a length of two octets
 language-small : (s : List ℕ) (f : Found) → Octets s → languageOf s f .len < 65536
@@ -49,14 +47,14 @@ module _ (b : Book) (h : ℕ) (s : List ℕ) where
   on-server : (m : Fields) → h < 8 → (Octets s → m .language .len < 65536) → mine (judgeServer b h m)
   unfolding judgeServer
   on-server m g l =
-      pick-cases mine _ _ (judgedBy b h m (decidedFor b h m)) (λ _. dismissed s 7 0 (λ z. omega arith) (omega arith))
-      (λ _. record { few = concluded (b .state) (b .table) (remembered (releasesAt (b .memory) h)) h m .few; none = λ _. refl; tenant = g; language = l })
+      pick-cases mine _ _ (judgedBy b h m (decidedFor b h m)) (λ _. dismissed s 7 0 (omega arith))
+      (λ _. record { few = concluded (b .state) (b .table) (remembered (releasesAt (b .memory) h)) h m .few; tenant = g; language = l })
 
   on-reading : h < 8 → mine (judgeReading b h s (readOf s))
   unfolding judgeReading fieldsOf Numbered
   on-reading g =
       pick-cases mine (eqb (readOf s .discard) 0) _ _ (λ _. on-server (fieldsOf s (b .state .server) (readOf s .message)) g (λ o. language-small s (findOf (readOf s .message .places) 8) o))
-      (λ e. let z = eqb-false (readOf s .discard) 0 e in dismissed s (readOf s .discard) (readOf s .fault) z (read-number s z .1))
+      (λ e. dismissed s (readOf s .discard) (readOf s .fault) (read-number s (eqb-false (readOf s .discard) 0 e) .1))
 
 judged-within : (b : Book) (client time : ℕ) (s : List ℕ) → Within s (judgeOf b client time s .ruling)
 unfolding judgeOf judgeClock
@@ -64,7 +62,7 @@ judged-within b client time s =
     pick-cases P (bookB b) _ _
     (λ _.
     pick-cases P (ltb h (tenantsIn (a .state))) _ _ (λ e. let g = ltb-true h (tenantsIn (a .state)) e in on-reading a h s (omega arith))
-    (λ _. dismissed s 3 0 (λ z. omega arith) (omega arith))) (λ _. dismissed s 1 0 (λ z. omega arith) (omega arith))
+    (λ _. dismissed s 3 0 (omega arith))) (λ _. dismissed s 1 0 (omega arith))
   where
     a : Book
     a = advanced b time
@@ -78,4 +76,4 @@ judged-within b client time s =
 pub lent-within : (g : Ledger) (ls : List Lease) (names : List ℕ) (client time : ℕ) (s : List ℕ) → Within s (judgeLent g ls names client time s .ruling)
 unfolding judgeWith
 lent-within g ls names client time s =
-    pick-cases (λ (j : LentJudgement). Within s (j .ruling)) (is128 (length ls)) _ _ (λ _. judged-within (bookFrom g ls names) client time s) (λ _. dismissed s 1 0 (λ z. omega arith) (omega arith))
+    pick-cases (λ (j : LentJudgement). Within s (j .ruling)) (is128 (length ls)) _ _ (λ _. judged-within (bookFrom g ls names) client time s) (λ _. dismissed s 1 0 (omega arith))

@@ -23,7 +23,7 @@ use Rattle.lent_guarantee.proofs.Guaranteed.{lent-demand1, next, next-sound}
 use Rattle.lent_guarantee.proofs.Halves.{lent-never-short}
 use Rattle.lent_guarantee.proofs.Written.{file-sound, sound-written}
 use Rattle.records.specs.laws.Call.{lent-joined}
-use Rattle.embed.specs.Embed.{answerBefore, answerOctets, called, callIn, cutOff, filed, Filed, kept, ledgerIn, leasesIn, lengthAfter, namesIn, numberAfter, onFile, recordSize, refusalIn, replayed, replayFile, serveFile, stopIn, stopped, Worked}
+use Rattle.embed.specs.Embed.{answerBefore, answerOctets, answerRoom, called, callIn, cutOff, filed, Filed, kept, ledgerIn, leasesIn, lengthAfter, namesIn, numberAfter, onFile, recordSize, refusalIn, replayed, replayFile, serveFile, stopIn, stopped, Worked}
 use Rattle.embed.proofs.Files.{accepted-parts}
 use Rattle.embed.proofs.Judged.{lent-within}
 use Rattle.embed.specs.Halves.{judged, judgeFile}
@@ -88,7 +88,7 @@ record Stopped (names : List ℕ) (r : Worked) : Type 0 where
 
 stop-few : (cs : List ℕ) (room : ℕ) → isIn (stopIn cs room) (0 ∷ 24 ∷ 27 ∷ []) ≡ true
 unfolding stopIn isIn pick
-stop-few cs room = go (cutOff cs) (ltb room 517)
+stop-few cs room = go (cutOff cs) (ltb room answerRoom)
   where
     go : (p q : Bool) → isIn (pick p 24 (pick q 27 0)) (0 ∷ 24 ∷ 27 ∷ []) ≡ true
     go true q = refl

@@ -74,7 +74,7 @@ module _ (names : List ℕ) where
   -- ---- what the loop keeps
   -- what is done, `at` octets of calls with the answers xs, before what the rest gives
   abbrev joined : ℕ → List ℕ → Worked → Worked
-  joined at xs r = record { number = r .number; offset = r .offset; ledger = r .ledger; leases = r .leases; used = at + r .used; out = xs ++ r .out }
+  joined at xs r = record { number = r .number; offset = r .offset; count = r .count; ledger = r .ledger; leases = r .leases; used = at + r .used; out = xs ++ r .out }
 
   -- With `at` octets of the calls cs done and `to` octets of answers in the buffer b, which was `before`: to go on from there gives w.
   pub record ReplayInv (cs before : List ℕ) (w : Worked) (g : Ledger) (ls : List Lease) (b : List ℕ) (at to : ℕ) : Type 0 where
@@ -92,7 +92,7 @@ module _ (names : List ℕ) where
     rest = refl;
     whole =
         ap (λ (k : ℕ). joined 0 [] (going g ls cs k)) (let q : length before - 0 ≡ length before = omega arith in q)
-        ∙ ap {B = Worked} (λ (k : ℕ). record { number = r .number; offset = r .offset; ledger = r .ledger; leases = r .leases; used = k; out = r .out }) (zero-add (r .used));
+        ∙ ap {B = Worked} (λ (k : ℕ). record { number = r .number; offset = r .offset; count = r .count; ledger = r .ledger; leases = r .leases; used = k; out = r .out }) (zero-add (r .used));
   }
     where
       r : Worked
@@ -116,11 +116,11 @@ module _ (names : List ℕ) where
       octets : List ℕ
       octets = answerOctets (firstAnswer g ls (drop at cs))
 
-      filled : to + 5 + r .outcome .length ≡ to + length octets
+      filled : to + 6 + r .outcome .length ≡ to + length octets
       unfolding octets
       filled = let q = a .size in omega arith
 
-      pub answer-inside : to + 5 + r .outcome .length ≤ length b
+      pub answer-inside : to + 6 + r .outcome .length ≤ length b
       unfolding octets
       answer-inside =
           let p = put-inside b to octets (let i = v .inside in let g = v .long in omega arith) (sym (ap length (a .buffer)) ∙ l) in
@@ -130,7 +130,7 @@ module _ (names : List ℕ) where
       head-length : length (take to b ++ octets) ≡ to + length octets
       head-length = length-append (take to b) octets ∙ ap (λ (n : ℕ). n + length octets) (length-take-le to b (let i = v .inside in let g = v .long in omega arith))
 
-      pub replay-next : {n : ℕ} → at < length cs → n ≡ recordSize (drop at cs) → ReplayInv cs before w (r .owned .ledger) (r .owned .records .leases) b' (at + n) (to + 5 + r .outcome .length)
+      pub replay-next : {n : ℕ} → at < length cs → n ≡ recordSize (drop at cs) → ReplayInv cs before w (r .owned .ledger) (r .owned .records .leases) b' (at + n) (to + 6 + r .outcome .length)
       unfolding octets put
       replay-next {n} h m = record {
         within = let i = record-inside in omega arith;
@@ -142,12 +142,12 @@ module _ (names : List ℕ) where
             ∙ sym (drop-drop (length octets) to b) ∙ ap (drop (length octets)) (v .rest) ∙ drop-drop (length octets) to before
             ∙ ap (λ (j : ℕ). drop j before) (sym filled);
         whole =
-            ap (λ (y : List ℕ). joined (at + n) y (going (r .owned .ledger) (r .owned .records .leases) (drop (at + n) cs) (length before - (to + 5 + r .outcome .length)))) taken
+            ap (λ (y : List ℕ). joined (at + n) y (going (r .owned .ledger) (r .owned .records .leases) (drop (at + n) cs) (length before - (to + 6 + r .outcome .length)))) taken
             ∙ ap (joined (at + n) (take to b ++ octets)) same
-            ∙ ap {B = Worked} (λ (j : ℕ). record { number = o .number; offset = o .offset; ledger = o .ledger; leases = o .leases; used = j; out = take to b ++ octets ++ o .out }) (
+            ∙ ap {B = Worked} (λ (j : ℕ). record { number = o .number; offset = o .offset; count = o .count; ledger = o .ledger; leases = o .leases; used = j; out = take to b ++ octets ++ o .out }) (
             add-assoc at n (o .used) ∙ ap (λ (j : ℕ). at + (j + o .used)) m
             )
-            ∙ ap {B = Worked} (λ (y : List ℕ). record { number = o .number; offset = o .offset; ledger = o .ledger; leases = o .leases; used = at + (recordSize c + o .used); out = y }) (append-assoc (take to b) octets (o .out))
+            ∙ ap {B = Worked} (λ (y : List ℕ). record { number = o .number; offset = o .offset; count = o .count; ledger = o .ledger; leases = o .leases; used = at + (recordSize c + o .used); out = y }) (append-assoc (take to b) octets (o .out))
             ∙ ap (joined at (take to b)) (sym (one-more g ls c (length before - to) (let q = length-drop at cs in omega arith) goes)) ∙ v .whole;
       }
         where
@@ -157,17 +157,17 @@ module _ (names : List ℕ) where
           o : Worked
           o = others (length (drop (recordSize c) c)) g ls c (length before - to)
 
-          taken : take (to + 5 + r .outcome .length) b' ≡ take to b ++ octets
+          taken : take (to + 6 + r .outcome .length) b' ≡ take to b ++ octets
           taken = ap (λ (j : ℕ). take j b') filled ∙ ap (take (to + length octets)) (a .buffer) ∙ take-at (take to b ++ octets) (drop (to + length octets) b) (to + length octets) head-length
 
-          same : going (r .owned .ledger) (r .owned .records .leases) (drop (at + n) cs) (length before - (to + 5 + r .outcome .length)) ≡ o
+          same : going (r .owned .ledger) (r .owned .records .leases) (drop (at + n) cs) (length before - (to + 6 + r .outcome .length)) ≡ o
           same =
-              ap (λ (x : Ledger). going x (r .owned .records .leases) (drop (at + n) cs) (length before - (to + 5 + r .outcome .length))) (a .ledger)
-              ∙ ap (λ (x : List Lease). going (firstAnswer g ls c .ledger) x (drop (at + n) cs) (length before - (to + 5 + r .outcome .length))) (a .leases)
-              ∙ ap (λ (x : List ℕ). going (firstAnswer g ls c .ledger) (firstAnswer g ls c .leases) x (length before - (to + 5 + r .outcome .length)))
+              ap (λ (x : Ledger). going x (r .owned .records .leases) (drop (at + n) cs) (length before - (to + 6 + r .outcome .length))) (a .ledger)
+              ∙ ap (λ (x : List Lease). going (firstAnswer g ls c .ledger) x (drop (at + n) cs) (length before - (to + 6 + r .outcome .length))) (a .leases)
+              ∙ ap (λ (x : List ℕ). going (firstAnswer g ls c .ledger) (firstAnswer g ls c .leases) x (length before - (to + 6 + r .outcome .length)))
               (ap (λ (j : ℕ). drop (at + j) cs) m ∙ sym (drop-drop (recordSize c) at cs))
               ∙ ap (going (firstAnswer g ls c .ledger) (firstAnswer g ls c .leases) (drop (recordSize c) c))
-              (let f = filled in let q : length before - (to + 5 + r .outcome .length) ≡ length before - to - length octets = omega arith in q)
+              (let f = filled in let q : length before - (to + 6 + r .outcome .length) ≡ length before - to - length octets = omega arith in q)
 
   -- the loop ends with what is done
   module _ {cs before : List ℕ} {w : Worked} {o : Owned} {b : List ℕ} {at to : ℕ} (v : ReplayInv cs before w (o .ledger) (o .records .leases) b at to) where

@@ -16,23 +16,23 @@ use Rattle.state_file.specs.StateFile.{namesOf, readFile}
 use Rattle.embed.specs.Halves.{replyFile}
 
 -- a number alone, and a room that is left as it was
-tells-silent : (k : ℕ) (room : List ℕ) {a : Said} {r : Outcome} → silent k 0 ≡ a → r ≡ record { outcome = k; length = 0; offset = 0 } → Tells a room room r
+tells-silent : (k : ℕ) (room : List ℕ) {a : Said} {r : Outcome} → silent k 0 0 ≡ a → r ≡ record { outcome = k; length = 0; offset = 0; count = 0 } → Tells a room room r
 tells-silent k room {r = r} e q =
     subst (λ (x : Said). Tells x room room r) e
-    (record { outcome = ap (λ (x : Outcome). x .outcome) q; offset = ap (λ (x : Outcome). x .offset) q; size = ap (λ (x : Outcome). x .length) q; buffer = refl })
+    (record { outcome = ap (λ (x : Outcome). x .outcome) q; offset = ap (λ (x : Outcome). x .offset) q; count = ap (λ (x : Outcome). x .count) q; size = ap (λ (x : Outcome). x .length) q; buffer = refl })
 
 module _ (f v room : List ℕ) where
-  pub reply-short : {r : Outcome} → length room < leastRoom → r ≡ record { outcome = 2; length = 0; offset = 0 } → Tells (replyFile f v (length room)) room room r
+  pub reply-short : {r : Outcome} → length room < leastRoom → r ≡ record { outcome = 2; length = 0; offset = 0; count = 0 } → Tells (replyFile f v (length room)) room room r
   unfolding replyFile
   reply-short h q = tells-silent 2 room (pick-lt _ _ _ (length room) leastRoom h refl) q
 
   module _ {l : Loaded} (h : leastRoom ≤ length room) (e : l ≡ readFile f) where
-    pub reply-refused : {k : ℕ} {r : Outcome} → (l .refusal ≡ 0 → ⊥) → k ≡ l .refusal → r ≡ record { outcome = k; length = 0; offset = 0 } → Tells (replyFile f v (length room)) room room r
+    pub reply-refused : {k : ℕ} {r : Outcome} → (l .refusal ≡ 0 → ⊥) → k ≡ l .refusal → r ≡ record { outcome = k; length = 0; offset = 0; count = 0 } → Tells (replyFile f v (length room)) room room r
     unfolding replyFile
     reply-refused {k} z g q =
         let at = g ∙ ap (λ (x : Loaded). x .refusal) e in
         tells-silent k room
-        (pick-not-lt _ _ _ (length room) leastRoom h (pick-not-eq _ _ _ (readFile f .refusal) 0 (λ p. z (ap (λ (x : Loaded). x .refusal) e ∙ p)) (ap (λ (x : ℕ). silent x 0) at))) q
+        (pick-not-lt _ _ _ (length room) leastRoom h (pick-not-eq _ _ _ (readFile f .refusal) 0 (λ p. z (ap (λ (x : Loaded). x .refusal) e ∙ p)) (ap (λ (x : ℕ). silent x 0 0) at))) q
 
     pub reply-written : {x : Ruling} {s : State} {names after : List ℕ} {r : Outcome} → l .refusal ≡ 0 → x ≡ rulingIn v → s ≡ l .state → names ≡ namesOf f → Tells (writeOf x s names (length room)) room after r
         → Tells (replyFile f v (length room)) room after r

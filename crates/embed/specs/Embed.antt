@@ -1,7 +1,7 @@
 -- Definitions: what the functions for a host program in C or Rust answer: numbers and octets only. A campus file is held in a buffer of the caller's.
 -- The buffer is tested first: 23, document 01's short room, below 32,768 octets; 28 a length past its end; then 20 and 21. Of a list of calls:
--- 24 a record that is cut off, then 27 fewer than 517 octets left for the next answer. Each number has one meaning.
-use Prim.Native.Nat.{ℕ, zero, suc, _+_, _-_, min}
+-- 24 a record that is cut off, then 27 fewer than 518 octets left for the next answer. Each number has one meaning.
+use Prim.Native.Nat.{ℕ, zero, suc, _+_, _-_, _%_, min}
 use mathlib.Core.Bool.{Bool, true}
 use mathlib.Core.List.{List, [], _∷_, _++_}
 use lib.Dec.{eqb, ltb}
@@ -51,11 +51,12 @@ unfoldable pub lengthAfter : Written → ℕ → ℕ
 lengthAfter w n = pick (eqb (w .refusal) 0) (w .length) n
 
 -- ---- work on a file's book: one call, or a list of calls
--- the number to tell and the offset that one call's carries (document 02, W-206), the ledger and the records afterwards, how many octets of calls are done,
+-- the number to tell, the offset that one call's carries (document 02, W-206) and the count of records read for it (W-210), the ledger and the records afterwards, how many octets of calls are done,
 -- and the octets to hand out: a reply, or answers
 pub record Worked : Type 0 where
   pub number : ℕ
   pub offset : ℕ
+  pub count : ℕ
   pub ledger : Ledger
   pub leases : List Lease
   pub used : ℕ
@@ -65,6 +66,7 @@ pub record Worked : Type 0 where
 pub record Filed : Type 0 where
   pub number : ℕ
   pub offset : ℕ
+  pub count : ℕ
   pub buffer : List ℕ
   pub length : ℕ
   pub used : ℕ
@@ -75,6 +77,7 @@ abbrev pub filed : List ℕ → ℕ → Worked → Filed
 filed b n r = record {
   number = numberAfter (writtenLent (r .ledger) (r .leases) (namesIn b n) (length b)) (r .number);
   offset = r .offset;
+  count = r .count;
   buffer = roomLent (r .ledger) (r .leases) (namesIn b n) b;
   length = lengthAfter (writtenLent (r .ledger) (r .leases) (namesIn b n) (length b)) n;
   used = r .used;
@@ -83,14 +86,14 @@ filed b n r = record {
 
 -- a refused file changes nothing
 abbrev pub kept : List ℕ → ℕ → Filed
-kept b n = record { number = refusalIn b n; offset = 0; buffer = b; length = n; used = 0; out = [] }
+kept b n = record { number = refusalIn b n; offset = 0; count = 0; buffer = b; length = n; used = 0; out = [] }
 
 unfoldable pub onFile : List ℕ → ℕ → (Ledger → List Lease → Worked) → Filed
 onFile b n work = pick (eqb (refusalIn b n) 0) (filed b n (work (ledgerIn b n) (leasesIn b n))) (kept b n)
 
 -- ---- one call
 abbrev pub called : LentAnswer → Worked
-called a = record { number = a .outcome; offset = a .offset; ledger = a .ledger; leases = a .leases; used = 0; out = a .reply }
+called a = record { number = a .outcome; offset = a .offset; count = a .count; ledger = a .ledger; leases = a .leases; used = 0; out = a .reply }
 
 unfoldable pub serveFile : List ℕ → ℕ → Call → Filed
 serveFile b n c = onFile b n (λ g ls. called (serveLent g ls (namesIn b n) c))
@@ -108,20 +111,20 @@ cutOff cs = pick (ltb (length cs) 12) true (ltb (length cs) (recordSize cs))
 abbrev pub callIn : List ℕ → Call
 callIn cs = record { datagram = take (at16 cs 10) (drop 12 cs); client = at32 cs 4; time = at32 cs 0; room = min (at16 cs 8) leastRoom }
 
--- an answer: outcome(1), the offset that it carries(2), reply length(2), the reply
+-- an answer: outcome(1), the offset that it carries(2), the count(1), which is at most 32, reply length(2), the reply
 abbrev pub answerOctets : LentAnswer → List ℕ
-answerOctets a = a .outcome ∷ octets16 (a .offset) ++ octets16 (length (a .reply)) ++ a .reply
+answerOctets a = a .outcome ∷ octets16 (a .offset) ++ (a .count % 256) ∷ octets16 (length (a .reply)) ++ a .reply
 
 -- room for any answer
 abbrev pub answerRoom : ℕ
-answerRoom = 5 + leastRoom
+answerRoom = 6 + leastRoom
 
 abbrev pub stopped : ℕ → Ledger → List Lease → Worked
-stopped k g ls = record { number = k; offset = 0; ledger = g; leases = ls; used = 0; out = [] }
+stopped k g ls = record { number = k; offset = 0; count = 0; ledger = g; leases = ls; used = 0; out = [] }
 
 -- the answer to the first record before those to the others
 abbrev pub answerBefore : List ℕ → LentAnswer → Worked → Worked
-answerBefore cs a r = record { number = r .number; offset = r .offset; ledger = r .ledger; leases = r .leases; used = recordSize cs + r .used; out = answerOctets a ++ r .out }
+answerBefore cs a r = record { number = r .number; offset = r .offset; count = r .count; ledger = r .ledger; leases = r .leases; used = recordSize cs + r .used; out = answerOctets a ++ r .out }
 
 -- why the first record is not answered, with so much room for answers left: 24, 27 or 0
 unfoldable pub stopIn : List ℕ → ℕ → ℕ

@@ -45,7 +45,7 @@ pub record Files (a : Filed) (b : List ℕ) (n : ℕ) : Type 0 where
 
 -- what of it the caller of one call is told
 abbrev pub filedSaid : Filed → Said
-filedSaid a = record { outcome = a .number; offset = a .offset; reply = a .out }
+filedSaid a = record { outcome = a .number; offset = a .offset; count = a .count; reply = a .out }
 
 pub record ServesFile (a : Filed) (b : List ℕ) (n : ℕ) (before after : List ℕ) (r : Outcome) : Type 0 where
   pub tells : Tells (filedSaid a) before after r

@@ -20,8 +20,8 @@ use server::Outcome;
 use state::Ledger;
 use state_file::Written;
 
-// What an answer in a list may take: outcome(1), offset(2), reply length(2) and the longest reply.
-const ANSWER_ROOM: usize = 5 + reply::LEAST_ROOM;
+// What an answer in a list may take: outcome(1), offset(2), count(1), reply length(2) and the longest reply.
+const ANSWER_ROOM: usize = 6 + reply::LEAST_ROOM;
 
 // The longest names of an accepted file.
 const NAMES_ROOM: usize = 6229;
@@ -106,17 +106,18 @@ fn length_after(w: Written, n: usize) -> usize
 // ---- the second half of a call
 
 fn silent(number: u8) -> Outcome
-    ensures { λ r. ⌜ r ≡ record { outcome = number; length = 0; offset = 0 } ⌝ }
+    ensures { λ r. ⌜ r ≡ record { outcome = number; length = 0; offset = 0; count = 0 } ⌝ }
 {
     Outcome {
         outcome: number,
         length: 0,
         offset: 0,
+        count: 0,
     }
 }
 
 // The reply of a verdict and of the file that came with it, written into a room.
-fn write_verdict(file: &[u8], verdict: &[u8; 74], room: &mut [u8]) -> Outcome
+fn write_verdict(file: &[u8], verdict: &[u8; 75], room: &mut [u8]) -> Outcome
     ensures { λ r. ⌜ Tells (replyFile (now (file .entry)) (now (verdict .entry)) (length (now (room .entry)))) (now (room .entry)) (now (room .exit)) r ⌝ }
 {
     if room.len() < reply::LEAST_ROOM {
@@ -188,12 +189,13 @@ fn answer_call(
         datagram,
         client,
         time,
-        &mut answers[to + 5..to + 5 + room],
+        &mut answers[to + 6..to + 6 + room],
     );
     let told = r.outcome;
     octets::put_u8(answers, to, told.outcome);
     octets::put_u16(answers, to + 1, (told.offset % 65536) as u16);
-    octets::put_u16(answers, to + 3, (told.length % 65536) as u16);
+    octets::put_u8(answers, to + 3, (told.count % 256) as u8);
+    octets::put_u16(answers, to + 4, (told.length % 65536) as u16);
     r
 }
 
@@ -255,7 +257,7 @@ fn replay(start: Owned, names: &[u8], calls: &[u8], answers: &mut [u8]) -> Progr
         let told = r.outcome;
         o = r.owned;
         at = at + record_size(calls, at);
-        to = to + 5 + told.length;
+        to = to + 6 + told.length;
     }
     Progress {
         number: 0,
@@ -309,8 +311,8 @@ pub extern "C" fn banshorra_occupancy(file: &[u8], board: &mut [u8]) -> u8
 
 // One call on the campus file in a buffer: the outcome, 0 to 8, with the reply and its length, and the file and its length afterwards. With discard 5
 // `fault_offset` is where in the datagram the first option stands that breaks a rule, or the datagram's length where End or option 3 is missing; it
-// is 0 with every other number. 23 where the buffer has fewer than 32,768 octets, 28 where `file_length` is past its end, then 20 or 21 where the
-// file is refused: these change nothing but the reply's length and the offset, which are 0.
+// is 0 with every other number. `count` is how many of the house's records were compared to find the identifier, at most 32. 23 where the buffer has fewer than 32,768 octets, 28 where `file_length` is past its end, then 20 or 21 where the
+// file is refused: these change nothing but the reply's length, the offset and the count, which are 0.
 #[no_mangle]
 pub extern "C" fn banshorra_serve(
     file: &mut [u8],
@@ -321,8 +323,9 @@ pub extern "C" fn banshorra_serve(
     reply: &mut [u8],
     reply_length: &mut usize,
     fault_offset: &mut usize,
+    count: &mut usize,
 ) -> u8
-    ensures { λ r. ⌜ ServesFile (serveFile (now (file .entry)) (now («file_length» .entry)) (record { datagram = now (datagram .entry); client = client; time = time; room = length (now (reply .entry)) })) (now (file .exit)) (now («file_length» .exit)) (now (reply .entry)) (now (reply .exit)) (record { outcome = r; length = now («reply_length» .exit); offset = now («fault_offset» .exit) }) ⌝ }
+    ensures { λ r. ⌜ ServesFile (serveFile (now (file .entry)) (now («file_length» .entry)) (record { datagram = now (datagram .entry); client = client; time = time; room = length (now (reply .entry)) })) (now (file .exit)) (now («file_length» .exit)) (now (reply .entry)) (now (reply .exit)) (record { outcome = r; length = now («reply_length» .exit); offset = now («fault_offset» .exit); count = now (count .exit) }) ⌝ }
 {
     let n = *file_length;
     let f = open_in(file, n);
@@ -338,14 +341,16 @@ pub extern "C" fn banshorra_serve(
         *file_length = length_after(w, n);
         *reply_length = told.length;
         *fault_offset = told.offset;
+        *count = told.count;
         return number_after(w, told.outcome);
     }
     *reply_length = 0;
     *fault_offset = 0;
+    *count = 0;
     refusal
 }
 
-// The first half of a call on the campus file in a buffer, for monitoring: the verdict's outcome, 0 to 8 and never 2, its 74 octets in `verdict` (the layout
+// The first half of a call on the campus file in a buffer, for monitoring: the verdict's outcome, 0 to 8 and never 2, its 75 octets in `verdict` (the layout
 // is that of `verdict_octets`), and the file and its length afterwards. 23, 28, 20 and 21 of the file as above, which change nothing.
 #[no_mangle]
 pub extern "C" fn banshorra_judge(
@@ -354,7 +359,7 @@ pub extern "C" fn banshorra_judge(
     datagram: &[u8],
     client: u32,
     time: u32,
-    verdict: &mut [u8; 74],
+    verdict: &mut [u8; 75],
 ) -> u8
     ensures { λ r. ⌜ JudgesFile (judgeFile (now (file .entry)) (now («file_length» .entry)) client time (now (datagram .entry))) (now (file .exit)) (now («file_length» .exit)) (now (verdict .entry)) (now (verdict .exit)) r ⌝ }
 {
@@ -378,27 +383,29 @@ pub extern "C" fn banshorra_judge(
 }
 
 // The second half: the reply of a verdict that `banshorra_judge` gave, and of the campus file that it left; the number is the outcome, 0 to 8, with the
-// reply, its length, and with discard 5 the offset, as `banshorra_serve` tells them. 2 where the room has fewer than 512 octets, tested first; then 20 or 21
-// where the file is refused. Any 74 octets may be lent as a verdict and any file with them: no octet past the reply's length changes, or past the 512th.
+// reply, its length, with discard 5 the offset, and the count that the verdict carries, as `banshorra_serve` tells them. 2 where the room has fewer than 512 octets, tested first; then 20 or 21
+// where the file is refused. Any 75 octets may be lent as a verdict and any file with them: no octet past the reply's length changes, or past the 512th.
 #[no_mangle]
 pub extern "C" fn banshorra_reply(
     file: &[u8],
-    verdict: &[u8; 74],
+    verdict: &[u8; 75],
     reply: &mut [u8],
     reply_length: &mut usize,
     fault_offset: &mut usize,
+    count: &mut usize,
 ) -> u8
-    ensures { λ r. ⌜ Tells (replyFile (now (file .entry)) (now (verdict .entry)) (length (now (reply .entry)))) (now (reply .entry)) (now (reply .exit)) (record { outcome = r; length = now («reply_length» .exit); offset = now («fault_offset» .exit) }) ⌝ }
+    ensures { λ r. ⌜ Tells (replyFile (now (file .entry)) (now (verdict .entry)) (length (now (reply .entry)))) (now (reply .entry)) (now (reply .exit)) (record { outcome = r; length = now («reply_length» .exit); offset = now («fault_offset» .exit); count = now (count .exit) }) ⌝ }
 {
     let told = write_verdict(file, verdict, reply);
     *reply_length = told.length;
     *fault_offset = told.offset;
+    *count = told.count;
     told.outcome
 }
 
 // A list of calls on the campus file in a buffer, in the records that `replay` reads; the file is read once and written once. Each answer is
-// outcome(1), the offset that it carries(2), reply length(2) and the reply. `used` is how many octets of the calls are answered, `filled` how many of the answers there are.
-// 0 where all are answered, 24 where a record is cut off, 27 where fewer than 517 octets are left for the next answer; those before it stand, and
+// outcome(1), the offset that it carries(2), how many records were read(1), reply length(2) and the reply. `used` is how many octets of the calls are answered, `filled` how many of the answers there are.
+// 0 where all are answered, 24 where a record is cut off, 27 where fewer than 518 octets are left for the next answer; those before it stand, and
 // the file is written. 20, 21, 23 and 28 of the file as above, with `used` and `filled` 0.
 #[no_mangle]
 pub extern "C" fn banshorra_replay(

@@ -27,6 +27,8 @@ call-answered b c =
       carries = v .carries;
       carries-none = v .carries-none;
       inside = v .inside;
+      few-read = v .few-read;
+      none-read = v .none-read;
     }
 
 pub demand1 : Demand1

@@ -37,8 +37,8 @@ use Rattle.decision.specs.Decide.{changed}
 use Rattle.decision.specs.laws.Cases.{or-none}
 use Rattle.decision.specs.laws.Ensured.{sentAs}
 use Rattle.decision.specs.laws.Kept.{held-good}
-use Rattle.server.specs.Serve.{Answer, Call, answered, decidedFor, replyOf, serveOf, tenantOf}
-use Rattle.guarantee.specs.Statement.{Discovers, NoHold, Offered, OfferRule, OfferTaken, SoundBook, asRequest, bookAt, holdFor, requested, saysOf, stateAt, tableAt, tenantFor}
+use Rattle.server.specs.Serve.{Answer, Call, answered, decidedFor, serveOf, tenantOf}
+use Rattle.guarantee.specs.Statement.{AnswersAlike, Discovers, NoHold, Offered, OfferRule, OfferTaken, SoundBook, asRequest, bookAt, holdFor, requested, saysOf, stateAt, tableAt, tenantFor}
 use Rattle.guarantee.proofs.Alike.{Alike, both-numbers}
 use Rattle.guarantee.proofs.Drawn.{Fresh}
 use Rattle.guarantee.proofs.Granted.{decided}
@@ -258,14 +258,22 @@ module _ (b : Book) (c : Call) (v : SoundBook b) (discovers : Discovers c) (free
       (ap (λ (a : Answer). a .book .table) after ∙ table-too ∙ ap (λ (a : Answer). a .book .table) (sym alone))
       ∙ ap (λ (a : Answer). a .book .memory .board) alone
 
-  taken-at-once : serveOf (serveOf b c .book) (requested c) ≡ serveOf b (requested c)
+  then : serveOf (serveOf b c .book) (requested c) ≡ answered w h r (changed (givingWay H L) (withLease LeaseAck L))
+  then = ap (λ (y : Book). serveOf y (requested c)) book-is ∙ after
+
+  taken-at-once : AnswersAlike (serveOf (serveOf b c .book) (requested c)) (serveOf b (requested c))
   taken-at-once =
       let there = taken.there b c v discovers offered in
       let few = taken.left b c v discovers offered f .left in
-      ap (λ (y : Book). serveOf y (requested c)) book-is ∙ after
-      ∙ ap₂ (λ (x : LeaseTable) (y : Memory). record { outcome = withLease LeaseAck L .outcome; offset = 0; reply = replyOf s (bookAt b c .names) h r (withLease LeaseAck L); book = changedTo (bookAt b c) s x y })
-      table-too (same-memory s t h H L there few same-id gone (bookAt b c .memory) board-too)
-      ∙ sym alone
+      record {
+        outcome = ap (λ (a : Answer). a .outcome) then ∙ sym (ap (λ (a : Answer). a .outcome) alone);
+        offset = ap (λ (a : Answer). a .offset) then ∙ sym (ap (λ (a : Answer). a .offset) alone);
+        reply = ap (λ (a : Answer). a .reply) then ∙ sym (ap (λ (a : Answer). a .reply) alone);
+        book =
+            ap (λ (a : Answer). a .book) then
+            ∙ ap₂ (λ (x : LeaseTable) (y : Memory). changedTo (bookAt b c) s x y) table-too (same-memory s t h H L there few same-id gone (bookAt b c .memory) board-too)
+            ∙ sym (ap (λ (a : Answer). a .book) alone);
+      }
 
 pub offer-taken : OfferTaken
 unfolding OfferTaken

@@ -1,8 +1,8 @@
 -- Proof of demand 1: whichever way the tests go, a call has one of the outcomes 0 to 8, and a discard changes no more than the clock and the ended leases.
-use Prim.Native.Nat.{ℕ, zero, suc, _≤_}
-use mathlib.Core.Path.{_≡_, refl, ap, _∙_}
-use mathlib.Core.Bool.{Bool, false, not, _&&_}
-use mathlib.Core.List.{List, []}
+use Prim.Native.Nat.{ℕ, zero, suc, _≤_, max}
+use mathlib.Core.Path.{_≡_, refl, sym, ap, _∙_, subst}
+use mathlib.Core.Bool.{Bool, true, false, not, _&&_}
+use mathlib.Core.List.{List, [], _∷_, map}
 use native.Mathlib.Omega.{arith}
 use lib.Dec.{ltb, eqb}
 use lib.ListN.{getD, length}
@@ -19,12 +19,22 @@ use Rattle.message.specs.laws.Placed.{header-long, header-short, none-good, pic
 use Rattle.message.specs.Read.{byStage, ended, headerOk, longestDatagram, noneRequired, readOf}
 use Rattle.message.specs.Read as read
 use Rattle.message.specs.Walk.{onward, start, stepOf, walkFrom, walkOf}
-use Rattle.state.specs.Book.{Book, advanced, releasesAt, remembered}
+use Rattle.state.specs.declared.Lease.{Lease}
+use Rattle.state.specs.declared.LeaseTable.{LeaseTable}
+use Rattle.state.specs.laws.Layout.{table-back}
+use Rattle.lists.specs.Filter.{filterBy}
+use Rattle.state.specs.Book.{Book, advanced, dropped, leasesOf, live, liveOf, releasesAt, remembered, tableOf}
+use Rattle.lists.specs.laws.Filter.{filter-length}
+use Rattle.soundness.specs.laws.Added.{few-at}
+use Rattle.soundness.specs.laws.Book.{sound-lists}
+use Rattle.decision.specs.Parts.{ownOf}
+use Rattle.decision.specs.laws.Count.{count-few}
+use Rattle.decision.specs.laws.Kept.{own-is}
 use Rattle.state.specs.declared.Edit.{Edit}
 use Rattle.state.specs.Edit.{editedBook}
 use Rattle.state.specs.laws.Edited.{edited-none}
 use Rattle.releases.specs.Whole.{boardGood, bookB, memoryGood, namesGood}
-use Rattle.releases.specs.laws.Whole.{advanced-names, bad-board, bad-book, bad-memory}
+use Rattle.releases.specs.laws.Whole.{advanced-names, bad-board, bad-book, bad-memory, book-sound}
 use Rattle.soundness.specs.Sound.{tenantsIn}
 use Rattle.decision.specs.declared.Decided.{Decided}
 use Rattle.server.specs.Serve.{Answer, Call, answered, atClock, byReply, discarded, discardedAt, forServer, replyOf, serveOf, tenantOf, withReading}
@@ -61,6 +71,20 @@ read-inside s =
         pick-cases P (noneRequired s (walkOf s .places)) _ _ (λ _. (omega arith, omega arith)) (λ _. (omega arith, omega arith)))
     at-stage Broken l h = (h, omega arith)
 
+-- ---- the drop
+getD-live : (k : ℕ) (l : List (List Lease)) (g : ℕ) → getD (map (liveOf k) l) g [] ≡ liveOf k (getD l g [])
+unfolding liveOf filterBy
+getD-live k [] g = refl
+getD-live k (x ∷ l) zero = refl
+getD-live k (x ∷ l) (suc g) = getD-live k l g
+
+pub own-dropped : (k : ℕ) (t : LeaseTable) (g : ℕ) → ownOf (dropped k t) g ≡ liveOf k (ownOf t g)
+unfolding dropped
+own-dropped k t g =
+    own-is (tableOf (map (liveOf k) (leasesOf t))) g
+    ∙ ap (λ (l : List (List Lease)). getD l g []) (table-back (map (liveOf k) (leasesOf t)))
+    ∙ getD-live k (leasesOf t) g ∙ ap (liveOf k) (sym (own-is t g))
+
 -- ---- the call
 pub record Tested (b : Book) (c : Call) (a : Answer) : Type 0 where
   pub outcome : a .outcome ≤ 8
@@ -71,6 +95,8 @@ pub record Tested (b : Book) (c : Call) (a : Answer) : Type 0 where
   pub carries : a .outcome ≡ 5 → a .offset ≡ readOf (c .datagram) .fault
   pub carries-none : (a .outcome ≡ 5 → ⊥) → a .offset ≡ 0
   pub inside : (a .offset ≤ length (c .datagram)) × (a .offset ≤ longestDatagram)
+  pub few-read : a .count ≤ 32
+  pub none-read : 1 ≤ a .outcome → a .outcome ≤ 7 → a .count ≡ 0
   pub names : a .book .names ≡ b .names
 
 module _ (b : Book) (c : Call) where
@@ -84,6 +110,8 @@ module _ (b : Book) (c : Call) where
     carries = λ e. absurd (omega arith);
     carries-none = λ z. refl;
     inside = (omega arith, omega arith);
+    few-read = omega arith;
+    none-read = λ _ _. refl;
     names = refl;
   }
 
@@ -98,6 +126,8 @@ module _ (b : Book) (c : Call) where
     carries = at;
     carries-none = none;
     inside = within;
+    few-read = omega arith;
+    none-read = λ _ _. refl;
     names = advanced-names b (c .time);
   }
 
@@ -105,9 +135,18 @@ module _ (b : Book) (c : Call) where
   unfolding Inside
   out n p q z = late n 0 p q (λ e. absurd (z e)) (λ _. refl) (omega arith, omega arith)
 
-  served : (h : ℕ) (m : Fields) (d : Decided) → Concluded d → Tested b c (answered (bookAt b c) h m d)
+  -- a sound book has at most sixteen records of a house, and the drop leaves no more
+  now-few : bookB b ≡ true → (h : ℕ) → length (ownOf (bookAt b c .table) h) ≤ 16
+  unfolding advanced liveOf
+  now-few sound h =
+      let few : length (ownOf (b .table) h) ≤ 16 = subst (λ (x : List Lease). length x ≤ 16) (sym (own-is (b .table) h)) (few-at (b .state) (leasesOf (b .table)) (sound-lists (b .state) (b .table) (book-sound b sound)) h) in
+      let less = filter-length (live (max (b .state .clock) (c .time))) (ownOf (b .table) h) in
+      let same = ap length (own-dropped (max (b .state .clock) (c .time)) (b .table) h) in
+      omega arith
+
+  served : bookB b ≡ true → (h : ℕ) (m : Fields) (d : Decided) → Concluded d → Tested b c (answered (bookAt b c) h m d)
   unfolding replyOf
-  served h m d j = record {
+  served sound h m d j = record {
     outcome = j .few;
     silent = λ z. ap (byReply (bookAt b c .state) (bookAt b c .names) h m (d .verdict)) (j .rest z .1 .0);
     untouched = λ e. absurd (let r = j .rest (λ z. omega arith) .0 in omega arith);
@@ -117,34 +156,36 @@ module _ (b : Book) (c : Call) where
     carries = λ e. absurd (let r = j .rest (λ z. omega arith) .0 in omega arith);
     carries-none = λ z. refl;
     inside = (omega arith, omega arith);
+    few-read = count-few (bookAt b c .state) (ownOf (bookAt b c .table) h) (remembered (releasesAt (bookAt b c .memory) h)) m (now-few sound h);
+    none-read = λ p q. absurd (let r = j .rest (λ z. omega arith) .0 in omega arith);
     names = advanced-names b (c .time);
   }
 
   P : Answer → Type 0
   P a = Tested b c a
 
-  for-server : (h : ℕ) (m : Fields) → Tested b c (forServer (bookAt b c) h m)
+  for-server : bookB b ≡ true → (h : ℕ) (m : Fields) → Tested b c (forServer (bookAt b c) h m)
   unfolding forServer P
-  for-server h m =
+  for-server sound h m =
       pick-cases P (eqb (m .kind) 3 && not (m .ours)) _ _ (λ _. out 7 (omega arith) (omega arith) (λ e. omega arith))
-      (λ _. served h m _ (concluded (bookAt b c .state) (bookAt b c .table) (remembered (releasesAt (bookAt b c .memory) h)) h m))
+      (λ _. served sound h m _ (concluded (bookAt b c .state) (bookAt b c .table) (remembered (releasesAt (bookAt b c .memory) h)) h m))
 
-  with-reading : (h : ℕ) → Tested b c (withReading (bookAt b c) h (c .datagram) (readOf (c .datagram)))
+  with-reading : bookB b ≡ true → (h : ℕ) → Tested b c (withReading (bookAt b c) h (c .datagram) (readOf (c .datagram)))
   unfolding withReading P Numbered
-  with-reading h =
-      pick-cases P (eqb (readOf (c .datagram) .discard) 0) _ _ (λ _. for-server h _)
+  with-reading sound h =
+      pick-cases P (eqb (readOf (c .datagram) .discard) 0) _ _ (λ _. for-server sound h _)
       (λ e. let n = read-number (c .datagram) (eqb-false (readOf (c .datagram) .discard) 0 e) in late (readOf (c .datagram) .discard) (readOf (c .datagram) .fault) (n .0) (n .1) (λ _. refl) (n .2) (read-inside (c .datagram)))
 
-  at-clock : Tested b c (atClock (bookAt b c) (c .client) (c .datagram))
+  at-clock : bookB b ≡ true → Tested b c (atClock (bookAt b c) (c .client) (c .datagram))
   unfolding atClock P
-  at-clock =
-      pick-cases P (ltb (tenantOf (bookAt b c .state) (c .client)) (tenantsIn (bookAt b c .state))) _ _ (λ _. with-reading _) (λ _. out 3 (omega arith) (omega arith) (λ e. omega arith))
+  at-clock sound =
+      pick-cases P (ltb (tenantOf (bookAt b c .state) (c .client)) (tenantsIn (bookAt b c .state))) _ _ (λ _. with-reading sound _) (λ _. out 3 (omega arith) (omega arith) (λ e. omega arith))
 
   pub call-tested : Tested b c (serveOf b c)
   unfolding serveOf P
   call-tested =
       pick-cases P (bookB b) _ _
-      (λ _. pick-cases P (ltb (c .room) leastRoom) _ _ (λ _. early 2 (omega arith) (omega arith)) (λ _. at-clock)) (λ _. early 1 (omega arith) (omega arith))
+      (λ sound. pick-cases P (ltb (c .room) leastRoom) _ _ (λ _. early 2 (omega arith) (omega arith)) (λ _. at-clock sound)) (λ _. early 1 (omega arith) (omega arith))
 
 -- ---- bad names are discard 1, and so are bad releases and a bad board
 unsound-refused : (b : Book) (c : Call) → bookB b ≡ false → serveOf b c .outcome ≡ 1

@@ -36,7 +36,7 @@ use Rattle.decision.specs.laws.Cases.{decided-by, held-there, leased-there, no,
 use Rattle.decision.specs.laws.Kept.{held-named}
 use Rattle.server.specs.Serve.{Answer, Call, atClock, forServer, serveOf, tenantOf, withReading}
 use Rattle.guarantee.specs.Statement.{Elsewhere, bookAt, run, saysOf, stateAt, tenantFor}
-use Rattle.guarantee.proofs.Replies.{own-dropped}
+use Rattle.guarantee.proofs.Discards.{own-dropped}
 
 -- ---- calls leave the settings as they are, and the clock never falls
 -- x has the settings s, with a clock of its own
@@ -60,7 +60,7 @@ module _ (s : State) (b : Book) (c : Call) where
   unfolding advanced
   now-set e = raised-set s (b .state) (c .time) e
 
-  now-later : SetAs s (b .state) → Later (record { outcome = 0; offset = 0; reply = []; book = bookAt b c })
+  now-later : SetAs s (b .state) → Later (record { outcome = 0; offset = 0; count = 0; reply = []; book = bookAt b c })
   unfolding advanced raised Later
   now-later e = (now-set e, omega arith)
 
@@ -159,7 +159,7 @@ module _ (h : ℕ) (i : List ℕ) (o : Lease) where
     call-has : Keeps (serveOf b c)
     unfolding serveOf atClock withReading forServer Keeps
     call-has =
-        let now : Keeps (record { outcome = 3; offset = 0; reply = []; book = bookAt b c }) = λ z. now-has b (c .time) z has in
+        let now : Keeps (record { outcome = 3; offset = 0; count = 0; reply = []; book = bookAt b c }) = λ z. now-has b (c .time) z has in
         pick-cases Keeps (bookB b) _ _
         (λ _. pick-cases Keeps (ltb (c .room) leastRoom) _ _ (λ _ z. has)
         (λ _. pick-cases Keeps (ltb (tenantFor b c) (tenantsIn (stateAt b c))) _ _

@@ -1,10 +1,10 @@
 -- Proof of demand 1, of the reply and of the leases: outcome 0 has a reply, and a discard leaves the live leases.
 use Prim.Native.Nat.{ℕ, zero, suc, _≤_, max}
 use mathlib.Core.Path.{_≡_, refl, sym, ap, _∙_, subst}
-use mathlib.Core.List.{List, [], _∷_, map}
+use mathlib.Core.List.{List, []}
 use native.Mathlib.Omega.{arith}
 use lib.Dec.{ltb, eqb}
-use lib.ListN.{length, getD, length-append}
+use lib.ListN.{length, length-append}
 use borrow.Author.Tests.{eqb-true, eqb-false}
 use Rattle.lists.specs.Pick.{pick}
 use Rattle.lists.specs.Filter.{filterBy, isIn}
@@ -18,22 +18,20 @@ use Rattle.state.specs.declared.Lease.{Lease}
 use Rattle.state.specs.declared.LeaseTable.{LeaseTable}
 use Rattle.state.specs.declared.Release.{Release}
 use Rattle.state.specs.declared.State.{State}
-use Rattle.state.specs.Book.{Book, advanced, dropped, leasesOf, live, liveOf, raised, releasesAt, remembered, tableOf}
-use Rattle.state.specs.laws.Layout.{table-back}
+use Rattle.state.specs.Book.{Book, advanced, live, liveOf, raised, releasesAt, remembered}
 use Rattle.releases.specs.Whole.{bookB}
 use Rattle.soundness.specs.Sound.{tenantsIn}
 use Rattle.decision.specs.declared.Decided.{Decided}
 use Rattle.decision.specs.declared.Reply.{Reply}
 use Rattle.decision.specs.declared.Reply.the-variants.{Nothing, Offer, LeaseAck, ReleaseAck, InfoAck, Nak}
 use Rattle.decision.specs.declared.Verdict.{Verdict}
-use Rattle.decision.specs.laws.Kept.{own-is}
 use Rattle.decision.specs.laws.Reads.{read-array}
 use Rattle.decision.specs.Parts.{discardWith, nakWith, ownOf, plainReply, refusalOf, withLease}
 use Rattle.decision.specs.laws.Cases.{decided-by}
 use Rattle.decision.specs.Decide.{decideOf}
 use Rattle.server.specs.Serve.{Answer, Call, answered, atClock, byReply, decidedFor, discardedAt, forServer, headOf, infoOf, replyOf, serveOf, tenantOf, termsOf, withReading}
 use Rattle.guarantee.specs.Statement.{IsReply, bookAt, liveUnder}
-use Rattle.guarantee.proofs.Discards.{Tested, call-tested}
+use Rattle.guarantee.proofs.Discards.{Tested, call-tested, own-dropped}
 
 -- ---- a verdict with outcome 0 sends something
 Sends : Reply → Type 0
@@ -125,19 +123,6 @@ replied b c = call-replies b c
 live-twice : (k : ℕ) (ls : List Lease) → liveOf k (liveOf k ls) ≡ liveOf k ls
 unfolding liveOf
 live-twice k ls = filter-none-out (live k) (filterBy (live k) ls) (filter-passes (live k) ls)
-
-getD-live : (k : ℕ) (l : List (List Lease)) (g : ℕ) → getD (map (liveOf k) l) g [] ≡ liveOf k (getD l g [])
-unfolding liveOf filterBy
-getD-live k [] g = refl
-getD-live k (x ∷ l) zero = refl
-getD-live k (x ∷ l) (suc g) = getD-live k l g
-
-pub own-dropped : (k : ℕ) (t : LeaseTable) (g : ℕ) → ownOf (dropped k t) g ≡ liveOf k (ownOf t g)
-unfolding dropped
-own-dropped k t g =
-    own-is (tableOf (map (liveOf k) (leasesOf t))) g
-    ∙ ap (λ (l : List (List Lease)). getD l g []) (table-back (map (liveOf k) (leasesOf t)))
-    ∙ getD-live k (leasesOf t) g ∙ ap (liveOf k) (sym (own-is t g))
 
 advanced-live : (b : Book) (time g : ℕ) → liveOf (advanced b time .state .clock) (ownOf (advanced b time .table) g) ≡ liveOf (advanced b time .state .clock) (ownOf (b .table) g)
 unfolding advanced raised

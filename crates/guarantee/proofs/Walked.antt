@@ -39,7 +39,7 @@ use Rattle.guarantee.specs.Statement.{Narrow, ReadAs, bookAt}
 use Rattle.guarantee.proofs.Codes.{info-found, lease-found, nak-found, offer-found, read-as, release-found}
 use Rattle.guarantee.proofs.Proposed as proposed
 use Rattle.guarantee.proofs.Ranges.{grant-small, named-head, offsets-some}
-use Rattle.guarantee.proofs.Replies.{own-dropped}
+use Rattle.guarantee.proofs.Discards.{own-dropped}
 
 -- ---- a verdict with a lease has some addresses, in 64 bits
 Sized : ℕ → Type 0

@@ -277,6 +277,10 @@ pub record Answered (b : Book) (c : Call) (a : Answer) : Type 0 where
   pub carries-none : (a .outcome ≡ 5 → ⊥) → a .offset ≡ 0
   -- so it is "the offset in the datagram", or its length, and fits wherever a datagram's length does
   pub inside : (a .offset ≤ length (c .datagram)) × (a .offset ≤ longestDatagram)
+  -- document 02, W-210: the count is "the sum over its lookups", of which there are at most two, each of "at most 16" records
+  pub few-read : a .count ≤ 32
+  -- and no test before the decision makes one: discards 1 to 7 count nothing
+  pub none-read : 1 ≤ a .outcome → a .outcome ≤ 7 → a .count ≡ 0
 
 -- "For every datagram, clock, book and reply room". "It faults on none and checks all it is handed": the call is proved safe and to end, and asks for nothing
 -- (`lent::serve` has no `requires`)
@@ -372,9 +376,16 @@ pub record LeavesHold (b : Book) (c : Call) (a : Answer) : Type 0 where
 unfoldable pub OfferHolds : Type 0
 OfferHolds = (b : Book) (c : Call) → SoundBook b → Discovers c → NoHold b c → Offered (serveOf b c) → LeavesHold b c (serveOf b c)
 
--- taken up at once, it is as if the REQUEST alone had been sent: the same answer and the same book
+-- taken up at once, it is as if the REQUEST alone had been sent: the same answer and the same book. Not the count of records that were read for it (W-210): the hold
+-- is found where without it every record is compared
+pub record AnswersAlike (x y : Answer) : Type 0 where
+  pub outcome : x .outcome ≡ y .outcome
+  pub offset : x .offset ≡ y .offset
+  pub reply : x .reply ≡ y .reply
+  pub book : x .book ≡ y .book
+
 unfoldable pub OfferTaken : Type 0
-OfferTaken = (b : Book) (c : Call) → SoundBook b → Discovers c → NoHold b c → Offered (serveOf b c) → serveOf (serveOf b c .book) (requested c) ≡ serveOf b (requested c)
+OfferTaken = (b : Book) (c : Call) → SoundBook b → Discovers c → NoHold b c → Offered (serveOf b c) → AnswersAlike (serveOf (serveOf b c .book) (requested c)) (serveOf b (requested c))
 
 -- a call that is not about tenant h's identifier i: by another house, or for another identifier. Calls leave the settings s as they are
 unfoldable pub Elsewhere : State → ℕ → List ℕ → Call → Type 0

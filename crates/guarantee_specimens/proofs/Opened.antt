@@ -16,7 +16,7 @@ use Rattle.message.specs.Walk.{exactlyFilled, layoutOk, stepOf, optionTaken, va
 use Rattle.message.specs.Read.{ended, headerOk, noneRequired, readOf, requiredEmpty}
 use Rattle.message.specs.Values.{allowedAt, codesFrom, fieldsOf, foundAt, namesServer, timesOf}
 use Rattle.reply.specs.Reply.{infoAckOf, leaseAckOf, messageOctets, nakOf, offerOf, optionsOctets, rangesOctets, releaseAckOf, scopesOctets}
-use Rattle.state.specs.Book.{addressesOf, advanced, byIdentifier, clearedTo, differ, dropped, endedOf, laidOut, liveOf, overlaps, raised, removeOf, isHold, laidReleases, tableOf, until, withHeld, committed, unionAll, usedIn, boardWith, boardWithout, insertedBy, byEnding}
+use Rattle.state.specs.Book.{addressesOf, advanced, byIdentifier, clearedTo, comparedOf, differ, dropped, endedOf, laidOut, liveOf, overlaps, raised, removeOf, isHold, laidReleases, tableOf, until, withHeld, committed, unionAll, usedIn, boardWith, boardWithout, insertedBy, byEnding}
 use Rattle.state.specs.Board.{boardOf, countIn, countOn, entryBy, isOn, ownerFrom, scopeBy}
 use Rattle.state.specs.Edit.{boardEdited, boardLeft, forgetOf, leftIn, noted, notedIn, rememberOf, appliedBy, editedBy}
 use Rattle.format.specs.Format.{readOctet, readTimes, then, writeAll}
@@ -30,6 +30,7 @@ use Rattle.soundness.specs.Sound.{apart, belowB, blankB, compatible, countsB, d
 use Rattle.allocation.specs.Rule.{allowed, busyIn, grantOf, grantTo, suffices, takenOf}
 use Rattle.decision.specs.Parts.{askAt, badCounts, broughtBy, discardWith, dropsHold, endOf, early1Of, heldAlready, error0Of, error1Of, error2Of, error3Of, skewed, fitsNew, fitsRenewed, hasPeriod, heldFrom, holdMeets, holdsOf, isForHold, isHeld, isLeased, isNew, knowsScope, lacksCurrent, lacksScope, leaseFrom, lengthOf, nakWith, newAt, newOf, newWith, othersBusy, plainReply, proposalOf, recordedOf, refusalOf, renewedOf, renewedTo, releasedAgain, resends, scopePlace, startOf, turned, wishedOr, zeroLength, latestFirst, meets, tooLate, tooShort}
 use Rattle.decision.specs.Parts as parts
+use Rattle.decision.specs.Count.{asksIdentifier, countOf, identifierCount, lookupCount}
 use Rattle.decision.specs.Decide.{decideOf, droppedFirst, judgedOf, leasedOf, plainOf, repeatedOf, settledOf}
 use Rattle.server.specs.Serve.{atClock, forServer, hasClient, replyOf, serveOf, tenantOf, withReading}
 use Rattle.guarantee.specs.Statement.{run}
@@ -66,7 +67,7 @@ replies-open = tt
 
 -- the book
 unfoldable pub book-open : Unit {0}
-unfolding isHold until laidOut tableOf laidReleases byIdentifier removeOf insertedBy leftIn editedBy appliedBy rememberOf forgetOf notedIn noted liveOf raised dropped advanced unionAll addressesOf overlaps usedIn differ byEnding
+unfolding isHold until laidOut tableOf laidReleases byIdentifier removeOf insertedBy leftIn editedBy appliedBy rememberOf forgetOf notedIn noted liveOf raised dropped advanced unionAll addressesOf overlaps usedIn differ byEnding comparedOf
 book-open = tt
 
 -- "Sound"
@@ -91,7 +92,7 @@ grant-open = tt
 
 -- the decision
 unfoldable pub decision-open : Unit {0}
-unfolding isNew hasPeriod holdsOf recordedOf isLeased isHeld parts.sameScope isForHold holdMeets turned dropsHold broughtBy heldFrom repeatedOf droppedFirst resends releasedAgain scopePlace knowsScope lacksScope zeroLength badCounts lacksCurrent early1Of heldAlready error1Of skewed error2Of error3Of wishedOr startOf lengthOf endOf askAt fitsNew newWith newAt newOf othersBusy fitsRenewed renewedTo renewedOf proposalOf error0Of leaseFrom parts.withLease plainReply nakWith discardWith refusalOf leasedOf plainOf settledOf judgedOf decideOf latestFirst tooShort tooLate meets
+unfolding isNew hasPeriod holdsOf recordedOf isLeased isHeld parts.sameScope isForHold holdMeets turned dropsHold broughtBy heldFrom repeatedOf droppedFirst resends releasedAgain scopePlace knowsScope lacksScope zeroLength badCounts lacksCurrent early1Of heldAlready error1Of skewed error2Of error3Of wishedOr startOf lengthOf endOf askAt fitsNew newWith newAt newOf othersBusy fitsRenewed renewedTo renewedOf proposalOf error0Of leaseFrom parts.withLease plainReply nakWith discardWith refusalOf leasedOf plainOf settledOf judgedOf decideOf latestFirst tooShort tooLate meets asksIdentifier lookupCount identifierCount countOf
 decision-open = tt
 
 -- the names for the scopes

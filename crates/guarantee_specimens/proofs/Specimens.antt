@@ -1,5 +1,5 @@
 -- Specimens: document 01's specimens P1 to P12, those of skew and a few more, on whole datagrams, whole replies and the book afterwards, by computation: one table of
--- cases, one theorem; offers held (document 02, W-205) among them; a second table of a RELEASE sent again (W-202); a third of the board (W-207); and the premises of the statements, met on the same book.
+-- cases, one theorem; offers held (document 02, W-205) among them; a second table of a RELEASE sent again (W-202); a third of the board (W-207); how many records were read (W-210); and the premises of the statements, met on the same book.
 use mathlib.Core.Path.{_≡_, refl, sym, ap, _∙_, subst}
 use mathlib.Core.List.{List, [], _∷_, _++_}
 use mathlib.Core.Bool.{Bool, true, false}
@@ -334,6 +334,27 @@ table =
 pub specimens : allBy holds table ≡ true
 unfolding computed table rows allRows same agrees holds
 specimens = refl
+
+-- ---- W-210: how many records were read for a call
+unfoldable pub readFor : List Call → Call → ℕ
+readFor before last = serveOf (run book before) last .count
+
+-- P1, by a house without records; P5, which is not found after P3; P5 again, the second of two; P8's RENEW, twice the first
+pub read-twice : (readFor [] p1 ≡ 0) × (readFor (p1 ∷ p3 ∷ []) p5 ≡ 2) × (readFor (p1 ∷ p3 ∷ p5 ∷ []) p5 ≡ 2)
+    × (readFor (p1 ∷ p3 ∷ p5 ∷ []) (house1 1000 (header 4 8 ++ option 1 (seconds 0x03 0xE8) ++ identifier 0x42 ++ end)) ≡ 2)
+unfolding computed readFor
+read-twice = (refl, refl, refl, refl)
+
+-- discard 8 has its count: a DISCOVER for more than is held; a GETINFO and a REQUEST to another server have none
+pub read-once : (readFor (d3 ∷ []) (house1 1010 (discoverAs 4 0x42 4 4 [])) ≡ 1) × (readFor (p1 ∷ []) (house2 1000 getinfo) ≡ 0)
+    × (readFor (p1 ∷ []) (house2 1000 (request 1 0x41 1 4 (option 2 (0 ∷ 1 ∷ 0x0A ∷ 1 ∷ 1 ∷ 2 ∷ [])))) ≡ 0)
+unfolding computed readFor
+read-once = (refl, refl, refl)
+
+-- an offer taken up at once finds the hold; the REQUEST alone finds nothing (`AnswersAlike` leaves the count out)
+pub read-held : (readFor (d3 ∷ []) (takesUp 1000 2) ≡ 2) × (readFor [] (takesUp 1000 2) ≡ 0)
+unfolding computed readFor
+read-held = (refl, refl)
 
 -- ---- W-202: a RELEASE sent again
 -- what a book remembers, in numbers: house, identifier length and octets, transaction id, time

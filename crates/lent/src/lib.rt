@@ -10,12 +10,12 @@ ghost use Rattle.server.specs.Halves.{writeOf};
 ghost use Rattle.records.specs.Records.{first128, covered};
 ghost use Rattle.records.specs.Lent.{serveLent, ServesLent, judgeLent, JudgesLent, readLent, ReadsLent, writtenLent, roomLent, findLent, insertLent, removeLent};
 use occupancy::Entry;
-use records::Found;
 use records::Records;
 use server::Outcome;
 use server::Ruling;
 use state::Lease;
 use state::Ledger;
+use state::Lookup;
 use state_file::Written;
 
 // Raises the clock where it stands.
@@ -52,9 +52,9 @@ pub fn store(leases: &mut [Lease], records: Records)
     }
 }
 
-// The place of an identifier among the records of tenant h, counted from 0. Absent where it has none, for no tenant, and of another number of
-// records than 128.
-pub fn find(leases: &[Lease], h: usize, id: [u8; 32], len: u8) -> Found
+// The place of an identifier among the records of tenant h, counted from 0, and how many of them were compared with it. Not found where it has none, and
+// none compared for no tenant and of another number of records than 128.
+pub fn find(leases: &[Lease], h: usize, id: [u8; 32], len: u8) -> Lookup
     ensures { λ r. ⌜ r ≡ findLent h (take len id) (now (leases .entry)) ⌝ }
 {
     let all = load(leases);

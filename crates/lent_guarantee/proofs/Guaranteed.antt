@@ -75,11 +75,11 @@ module _ (l : Lent) (c : Call) where
   abbrev ls : List Lease
   ls = l .leases
 
-  out : (length ls ≡ 128 → ⊥) → served l c ≡ record { outcome = 1; offset = 0; reply = []; ledger = k; leases = ls }
+  out : (length ls ≡ 128 → ⊥) → served l c ≡ record { outcome = 1; offset = 0; count = 0; reply = []; ledger = k; leases = ls }
   unfolding serveWith
-  out e = sym (off-whole (lentAnswer (serveOf (bookOf l) c)) (record { outcome = 1; offset = 0; reply = []; ledger = k; leases = ls }) e)
+  out e = sym (off-whole (lentAnswer (serveOf (bookOf l) c)) (record { outcome = 1; offset = 0; count = 0; reply = []; ledger = k; leases = ls }) e)
 
-  other-answered : (length ls ≡ 128 → ⊥) → LentAnswered l c (record { outcome = 1; offset = 0; reply = []; ledger = k; leases = ls })
+  other-answered : (length ls ≡ 128 → ⊥) → LentAnswered l c (record { outcome = 1; offset = 0; count = 0; reply = []; ledger = k; leases = ls })
   other-answered e = record {
     outcome = omega arith;
     reply = λ z. absurd (omega arith);
@@ -92,6 +92,8 @@ module _ (l : Lent) (c : Call) where
     carries = λ e. absurd (omega arith);
     carries-none = λ _. refl;
     inside = (omega arith, omega arith);
+    few-read = omega arith;
+    none-read = λ _ _. refl;
     other = λ _. refl;
     bad-names = λ _. refl;
     bad-releases = λ _. refl;
@@ -115,6 +117,8 @@ module _ (l : Lent) (c : Call) where
     carries = λ e. sym place ∙ v .carries (number ∙ e);
     carries-none = λ z. sym place ∙ v .carries-none (λ e. z (sym number ∙ e));
     inside = subst (λ (k : ℕ). (k ≤ length (c .datagram)) × (k ≤ longestDatagram)) place (v .inside);
+    few-read = subst (λ (a : Answer). a .count ≤ 32) back (v .few-read);
+    none-read = subst (λ (a : Answer). 1 ≤ a .outcome → a .outcome ≤ 7 → a .count ≡ 0) back (v .none-read);
     other = λ no. absurd (no long);
     bad-names = λ e. sym number ∙ v .bad-names e;
     bad-releases = λ e. sym number ∙ v .bad-releases e;
@@ -140,7 +144,7 @@ module _ (l : Lent) (c : Call) where
       )
 
   -- by the number of records
-  by-number : (P : LentAnswer → Type 0) → (length ls ≡ 128 → P (served l c)) → ((length ls ≡ 128 → ⊥) → P (record { outcome = 1; offset = 0; reply = []; ledger = k; leases = ls })) → P (served l c)
+  by-number : (P : LentAnswer → Type 0) → (length ls ≡ 128 → P (served l c)) → ((length ls ≡ 128 → ⊥) → P (record { outcome = 1; offset = 0; count = 0; reply = []; ledger = k; leases = ls })) → P (served l c)
   by-number P f g = go (eqb (length ls) 128) refl
     where
       go : (t : Bool) → eqb (length ls) 128 ≡ t → P (served l c)

@@ -31,7 +31,7 @@ module _ (l : Lent) (c : Call) (long : length (l .leases) ≡ 128) where
   judged-whole = sym (on-whole (lentJudgement (judgedFor (bookOf l) c)) (record { ruling = discardRuling 1 0; ledger = l .ledger; leases = l .leases }) long)
 
   still : (n : ℕ) → lentAnswer (discarded n (bookOf l)) ≡ discardedLent n l
-  still n = ap {B = LentAnswer} (λ ls. record { outcome = n; offset = 0; reply = []; ledger = l .ledger; leases = ls }) (kept-back (l .ledger) (l .leases) (l .names) c long (bookOf l .table) refl)
+  still n = ap {B = LentAnswer} (λ ls. record { outcome = n; offset = 0; count = 0; reply = []; ledger = l .ledger; leases = ls }) (kept-back (l .ledger) (l .leases) (l .names) c long (bookOf l .table) refl)
 
   joined : LentJudgement → LentAnswer
   joined j = lentBoth j (writeOf (j .ruling) (j .ledger .state) (l .names) (c .room))

@@ -4,4 +4,5 @@ pub mod Guaranteed
 pub mod RoundTrip
 pub mod Written
 pub mod FileReads
+pub mod Finds
 mod Specimens

@@ -112,14 +112,14 @@ module _ (g : Ledger) (ls : List Lease) (names : List ℕ) (c : Call) (long : le
 
   pub at-whole : serveLent g ls names c ≡ lentAnswer (serveOf before c)
   unfolding serveWith
-  at-whole = sym (on-whole (lentAnswer (serveOf before c)) (record { outcome = 1; offset = 0; reply = []; ledger = g; leases = ls }) long)
+  at-whole = sym (on-whole (lentAnswer (serveOf before c)) (record { outcome = 1; offset = 0; count = 0; reply = []; ledger = g; leases = ls }) long)
 
   pub still-whole : length (serveLent g ls names c .leases) ≡ 128
   still-whole = ap (λ (x : LentAnswer). length (x .leases)) at-whole ∙ long-after
 
   pub same : answerOf names (serveLent g ls names c) ≡ serveOf before c
   same = ap (answerOf names) at-whole
-      ∙ ap₂ {C = Answer} (λ (t : LeaseTable) (n : List ℕ). record { outcome = serveOf before c .outcome; offset = serveOf before c .offset; reply = serveOf before c .reply; book = bookOf (serveOf before c .book .state) t (serveOf before c .book .memory) n })
+      ∙ ap₂ {C = Answer} (λ (t : LeaseTable) (n : List ℕ). record { outcome = serveOf before c .outcome; offset = serveOf before c .offset; count = serveOf before c .count; reply = serveOf before c .reply; book = bookOf (serveOf before c .book .state) t (serveOf before c .book .memory) n })
       back (sym (call-tested before c .names))
 
 pub same-call : SameCall

@@ -28,7 +28,7 @@ use Rattle.state_file.specs.declared.Written.{Written}
 use Rattle.state_file.specs.StateFile.{namesOf}
 use Rattle.state_file.specs.Typed.{Typed}
 use Rattle.records.specs.Records.{recordsOf, tableFrom}
-use Rattle.records.specs.Lent.{bookFrom, is128, judgeLent, ledgerOf, lentBoth, LentAnswer, LentJudgement, readLent, roomLent, serveLent, writtenLent}
+use Rattle.records.specs.Lent.{bookFrom, findLent, is128, judgeLent, ledgerOf, lentBoth, LentAnswer, LentJudgement, readLent, roomLent, serveLent, writtenLent}
 
 -- a ledger (clock, settings, what is remembered and the board), records and names, as their caller holds them; the names are lent to be read only
 pub record Lent : Type 0 where
@@ -52,7 +52,7 @@ lentRoom l room = roomLent (l .ledger) (l .leases) (l .names) room
 
 -- an answer with the book that its ledger, its records and the names are
 abbrev pub answerOf : List ℕ → LentAnswer → Answer
-answerOf names a = record { outcome = a .outcome; offset = a .offset; reply = a .reply; book = bookFrom (a .ledger) (a .leases) names }
+answerOf names a = record { outcome = a .outcome; offset = a .offset; count = a .count; reply = a .reply; book = bookFrom (a .ledger) (a .leases) names }
 
 -- ---- the list of calls: each gets the ledger and the records as the call before left them, and the same names
 unfoldable pub runLent : Lent → List Call → Lent
@@ -79,7 +79,7 @@ abbrev pub lentInHalves : Lent → Call → LentAnswer
 lentInHalves l c = lentBoth (judged l c) (writeOf (judged l c .ruling) (judged l c .ledger .state) (l .names) (c .room))
 
 abbrev pub discardedLent : ℕ → Lent → LentAnswer
-discardedLent n l = record { outcome = n; offset = 0; reply = []; ledger = l .ledger; leases = l .leases }
+discardedLent n l = record { outcome = n; offset = 0; count = 0; reply = []; ledger = l .ledger; leases = l .leases }
 
 -- "The old call stays, made of the two after its own tests 1 and 2", the number of records being part of test 1
 unfoldable pub LentHalves : Type 0
@@ -142,6 +142,9 @@ pub record LentAnswered (l : Lent) (c : Call) (a : LentAnswer) : Type 0 where
   pub carries : a .outcome ≡ 5 → a .offset ≡ readOf (c .datagram) .fault
   pub carries-none : (a .outcome ≡ 5 → ⊥) → a .offset ≡ 0
   pub inside : (a .offset ≤ length (c .datagram)) × (a .offset ≤ longestDatagram)
+  -- the count of records that were read is at most 32, and 0 with discards 1 to 7 (W-210)
+  pub few-read : a .count ≤ 32
+  pub none-read : 1 ≤ a .outcome → a .outcome ≤ 7 → a .count ≡ 0
   -- another number of records makes the book unsound
   pub other : (length (l .leases) ≡ 128 → ⊥) → a .outcome ≡ 1
   -- and so do bad names and bad releases (document 02, W-201 and W-202)
@@ -175,6 +178,10 @@ LentOfferHeld =
     → (cs : List Call) → All (Elsewhere (l .ledger .state) (tenantFor (bookOf l) d) (leaseIdIn (saysOf (bookOf l) d))) cs
     → (r : Call) → TakesUp (bookOf l) d (bookOf (runLent l (d ∷ cs))) r
     → GrantedAsOffered (bookOf l) d (bookOf (runLent l (d ∷ cs))) r (answerOf (l .names) (served l d)) (answerOf (runLent l (d ∷ cs) .names) (served (runLent l (d ∷ cs)) r))
+
+-- ---- document 02, W-210: finding an identifier among lent records compares "at most 16"
+unfoldable pub FindsFew : Type 0
+FindsFew = (h : ℕ) (i : List ℕ) (ls : List Lease) → findLent h i ls .compared ≤ 16
 
 -- ---- the file: the ledger and the records that it is read into, with the names that stand in it
 abbrev pub afterFile : List ℕ → Ledger → List Lease → Lent

@@ -12,13 +12,12 @@ use Rattle.lists.specs.Place.{placeBy}
 use Rattle.identifier.specs.Order.{orderOf, sameOf}
 use Rattle.state.specs.declared.Lease.{Lease}
 use Rattle.state.specs.declared.Ledger.{Ledger}
-use Rattle.state.specs.Book.{byIdentifier, isHold, laidOut, leaseWith, removeOf, zeroLease, byEnding, until}
+use Rattle.state.specs.Book.{byIdentifier, comparedOf, isHold, laidOut, leaseWith, noLookup, removeOf, zeroLease, byEnding, until}
 use Rattle.soundness.specs.Sound.{blankB, layoutB, paddedB, unusedB, zeroFrom, layoutBy}
 use Rattle.server.specs.Serve.{Call}
 use Rattle.server.specs.Halves.{discardRuling}
-use Rattle.records.specs.declared.Found.the-variants.{Absent, At}
 use Rattle.records.specs.Records.{recordsOf, rows, rowsOf, tableFrom, tenantFrom}
-use Rattle.records.specs.Lent.{findLent, findWith, foundAmong, insertLent, insertWith, judgeLent, judgeWith, removeLent, removeWith, serveLent, serveWith, is128, writtenLent, writtenWith}
+use Rattle.records.specs.Lent.{findLent, findWith, insertLent, insertWith, judgeLent, judgeWith, removeLent, removeWith, serveLent, serveWith, is128, writtenLent, writtenWith}
 
 -- a lease by the last octet of its identifier and its end
 ending : ℕ → ℕ → Lease
@@ -49,28 +48,28 @@ unfolding ending unused ours removeWith is128 pick tableFrom rows tenantFrom pla
 remove-first = refl
 
 -- at a place, the first too
-find-second : findLent 1 (0 ∷ 3 ∷ []) (ours (lease 1 ∷ lease 3 ∷ []) 110) ≡ At 1
-unfolding ending unused ours findWith foundAmong is128 pick tableFrom rows tenantFrom placeBy unusedB blankB zeroFrom allBy orderOf sameOf
+find-second : findLent 1 (0 ∷ 3 ∷ []) (ours (lease 1 ∷ lease 3 ∷ []) 110) ≡ record { found = true; place = 1; compared = 2 }
+unfolding ending unused ours findWith comparedOf is128 pick tableFrom rows tenantFrom placeBy unusedB blankB zeroFrom allBy orderOf sameOf
 find-second = refl
 
-find-first : findLent 1 (0 ∷ 1 ∷ []) (ours (lease 1 ∷ lease 3 ∷ []) 110) ≡ At 0
-unfolding ending unused ours findWith foundAmong is128 pick tableFrom rows tenantFrom placeBy unusedB blankB zeroFrom allBy orderOf sameOf
+find-first : findLent 1 (0 ∷ 1 ∷ []) (ours (lease 1 ∷ lease 3 ∷ []) 110) ≡ record { found = true; place = 0; compared = 1 }
+unfolding ending unused ours findWith comparedOf is128 pick tableFrom rows tenantFrom placeBy unusedB blankB zeroFrom allBy orderOf sameOf
 find-first = refl
 
 -- another identifier, another house, a ninth house, 127 records
-find-other : findLent 1 (0 ∷ 2 ∷ []) (ours (lease 1 ∷ lease 3 ∷ []) 110) ≡ Absent
-unfolding ending unused ours findWith foundAmong is128 pick tableFrom rows tenantFrom placeBy unusedB blankB zeroFrom allBy orderOf sameOf
+find-other : findLent 1 (0 ∷ 2 ∷ []) (ours (lease 1 ∷ lease 3 ∷ []) 110) ≡ record { found = false; place = 2; compared = 2 }
+unfolding ending unused ours findWith comparedOf is128 pick tableFrom rows tenantFrom placeBy unusedB blankB zeroFrom allBy orderOf sameOf
 find-other = refl
 
-find-none : findLent 0 (0 ∷ 3 ∷ []) (ours (lease 1 ∷ lease 3 ∷ []) 110) ≡ Absent
-unfolding ending unused ours findWith foundAmong is128 pick tableFrom rows tenantFrom placeBy unusedB blankB zeroFrom allBy orderOf sameOf
+find-none : findLent 0 (0 ∷ 3 ∷ []) (ours (lease 1 ∷ lease 3 ∷ []) 110) ≡ noLookup
+unfolding ending unused ours findWith comparedOf is128 pick tableFrom rows tenantFrom placeBy unusedB blankB zeroFrom allBy orderOf sameOf
 find-none = refl
 
-find-ninth : findLent 8 (0 ∷ 3 ∷ []) (ours (lease 1 ∷ lease 3 ∷ []) 110) ≡ Absent
-unfolding ending unused ours findWith foundAmong is128 pick tableFrom rows tenantFrom placeBy unusedB blankB zeroFrom allBy orderOf sameOf laidOut
+find-ninth : findLent 8 (0 ∷ 3 ∷ []) (ours (lease 1 ∷ lease 3 ∷ []) 110) ≡ noLookup
+unfolding ending unused ours findWith comparedOf is128 pick tableFrom rows tenantFrom placeBy unusedB blankB zeroFrom allBy orderOf sameOf laidOut
 find-ninth = refl
 
-find-127 : findLent 1 (0 ∷ 3 ∷ []) (ours (lease 1 ∷ lease 3 ∷ []) 109) ≡ Absent
+find-127 : findLent 1 (0 ∷ 3 ∷ []) (ours (lease 1 ∷ lease 3 ∷ []) 109) ≡ noLookup
 unfolding ending unused ours findWith is128 pick
 find-127 = refl
 

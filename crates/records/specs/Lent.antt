@@ -11,9 +11,10 @@ use Rattle.reply.specs.Reply.{leastRoom}
 use Rattle.state.specs.declared.Lease.{Lease}
 use Rattle.state.specs.declared.LeaseTable.{LeaseTable}
 use Rattle.state.specs.declared.Ledger.{Ledger}
+use Rattle.state.specs.declared.Lookup.{Lookup}
 use Rattle.state.specs.declared.Memory.{Memory}
 use Rattle.state.specs.declared.State.{State}
-use Rattle.state.specs.Book.{Book, insertOf, laidOut, placeOf, putAt, removeOf}
+use Rattle.state.specs.Book.{Book, insertOf, laidOut, lookupOf, noLookup, putAt, removeOf}
 use Rattle.soundness.specs.declared.HeldTable.{HeldTable}
 use Rattle.soundness.specs.Sound.{soundB}
 use Rattle.soundness.specs.Parts.{holdingsOf}
@@ -25,8 +26,6 @@ use Rattle.server.specs.Halves.{Judgement, discardRuling, judgeClock, judgeOf}
 use Rattle.state_file.specs.declared.Loaded.{Loaded}
 use Rattle.state_file.specs.declared.Written.{Written}
 use Rattle.state_file.specs.StateFile.{readFile, roomAfter, writtenOf}
-use Rattle.records.specs.declared.Found.{Found}
-use Rattle.records.specs.declared.Found.the-variants.{Absent, At}
 use Rattle.records.specs.declared.JudgedRecords.{JudgedRecords}
 use Rattle.records.specs.declared.ReadRecords.{ReadRecords}
 use Rattle.records.specs.declared.ServedRecords.{ServedRecords}
@@ -48,21 +47,22 @@ ledgerOf b = record { state = b .state; memory = b .memory }
 pub record LentAnswer : Type 0 where
   pub outcome : ℕ
   pub offset : ℕ
+  pub count : ℕ
   pub reply : List ℕ
   pub ledger : Ledger
   pub leases : List Lease
 
 -- what of it the caller is told
 abbrev pub lentSaid : LentAnswer → Said
-lentSaid a = record { outcome = a .outcome; offset = a .offset; reply = a .reply }
+lentSaid a = record { outcome = a .outcome; offset = a .offset; count = a .count; reply = a .reply }
 
 -- an answer with its book as ledger and records
 abbrev pub lentAnswer : Answer → LentAnswer
-lentAnswer a = record { outcome = a .outcome; offset = a .offset; reply = a .reply; ledger = ledgerOf (a .book); leases = recordsOf (a .book .table) }
+lentAnswer a = record { outcome = a .outcome; offset = a .offset; count = a .count; reply = a .reply; ledger = ledgerOf (a .book); leases = recordsOf (a .book .table) }
 
 -- on records of a slice that has n; discard 1 changes nothing
 unfoldable pub serveWith : ℕ → Ledger → List Lease → List ℕ → Call → LentAnswer
-serveWith n g ls names c = pick (is128 n) (lentAnswer (serveOf (bookFrom g ls names) c)) (record { outcome = 1; offset = 0; reply = []; ledger = g; leases = ls })
+serveWith n g ls names c = pick (is128 n) (lentAnswer (serveOf (bookFrom g ls names) c)) (record { outcome = 1; offset = 0; count = 0; reply = []; ledger = g; leases = ls })
 
 abbrev pub serveLent : Ledger → List Lease → List ℕ → Call → LentAnswer
 serveLent g ls names c = serveWith (length ls) g ls names c
@@ -110,7 +110,7 @@ judgeLent g ls names client time s = judgeWith (length ls) g ls names client tim
 
 -- the first half's ledger and records, and what the second tells
 abbrev pub lentBoth : LentJudgement → Said → LentAnswer
-lentBoth j w = record { outcome = w .outcome; offset = w .offset; reply = w .reply; ledger = j .ledger; leases = j .leases }
+lentBoth j w = record { outcome = w .outcome; offset = w .offset; count = w .count; reply = w .reply; ledger = j .ledger; leases = j .leases }
 
 -- what a function on 128 records by value promises: the verdict, the clock, what is remembered and every record
 pub record JudgesRecords (a : LentJudgement) (r : JudgedRecords) : Type 0 where
@@ -182,14 +182,10 @@ roomLent g ls names room = roomWith (length ls) g ls names room
 abbrev pub withOwn : LeaseTable → ℕ → List Lease → List Lease
 withOwn t h p = recordsOf (putAt t h (laidOut p))
 
--- at a place below their number n, or absent
-unfoldable pub foundAmong : ℕ → ℕ → Found
-foundAmong n at = pick (ltb at n) (At at) Absent
-
--- where an identifier stands among the leases of a tenant, counted from 0: at the first with that identifier, or absent; so absent of no tenant, and
--- absent too of another number of records
-unfoldable pub findWith : ℕ → ℕ → List ℕ → List Lease → Found
-findWith n h i ls = pick (is128 n) (foundAmong (length (ownOf (tableFrom ls) h)) (placeOf i (ownOf (tableFrom ls) h))) Absent
+-- where an identifier stands among the leases of a tenant, counted from 0: at the first with that identifier, or not; and how many of the tenant's records were
+-- compared (document 02, W-210). So it is not found of no tenant, none compared, nor of another number of records
+unfoldable pub findWith : ℕ → ℕ → List ℕ → List Lease → Lookup
+findWith n h i ls = pick (is128 n) (lookupOf i (ownOf (tableFrom ls) h)) noLookup
 
 -- one lease more, after those before it in the order of records and ahead of the others, those of the same end and identifier too; a tenant whose
 -- sixteen records are used, no tenant, and another number of records keep what they have
@@ -202,7 +198,7 @@ insertWith n h l ls =
 unfoldable pub removeWith : ℕ → ℕ → List ℕ → List Lease → List Lease
 removeWith n h i ls = pick (is128 n) (pick (ltb h 8) (withOwn (tableFrom ls) h (removeOf i (ownOf (tableFrom ls) h))) ls) ls
 
-abbrev pub findLent : ℕ → List ℕ → List Lease → Found
+abbrev pub findLent : ℕ → List ℕ → List Lease → Lookup
 findLent h i ls = findWith (length ls) h i ls
 
 abbrev pub insertLent : ℕ → Lease → List Lease → List Lease

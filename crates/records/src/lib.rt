@@ -12,12 +12,12 @@ ghost use Rattle.names.specs.Names.{namesB};
 ghost use Rattle.soundness.specs.Parts.{holdingsOf, soundFrom, tableRulesOf};
 ghost use Rattle.releases.specs.Rules.{brokenRelease, releaseRulesOf};
 ghost use Rattle.occupancy.specs.Board.{sameBoard};
-ghost use Rattle.state.specs.Book.{leasesOf, ordered, tableOf, tenantAt, zeroLease};
+ghost use Rattle.state.specs.Book.{leasesOf, noLookup, ordered, tableOf, tenantAt, zeroLease};
 ghost use Rattle.state.specs.Board.{builtOf};
 ghost use Rattle.server.specs.Halves.{discardRuling};
 ghost use Rattle.state_file.specs.StateFile.{readFile};
 ghost use Rattle.records.specs.Records.{Drops, endsAfter, putRow, recordsOf, tableFrom, tenantFrom};
-ghost use Rattle.records.specs.Lent.{Gathered, JudgesClock, judgeWith, JudgesRecords, ServesShort, serveWith, ServesRecords, readWith, Reads, writtenWith, roomWith, foundAmong, findWith, insertWith, removeWith};
+ghost use Rattle.records.specs.Lent.{Gathered, JudgesClock, judgeWith, JudgesRecords, ServesShort, serveWith, ServesRecords, readWith, Reads, writtenWith, roomWith, findWith, insertWith, removeWith};
 use occupancy::Board;
 use releases::ReleaseRules;
 use server::Outcome;
@@ -29,6 +29,7 @@ use state::Edit;
 use state::Lease;
 use state::LeaseTable;
 use state::Ledger;
+use state::Lookup;
 use state::Memory;
 use state::State;
 use state::TenantLeases;
@@ -67,12 +68,6 @@ struct Dropped {
     records: Records,
     held: HeldTable,
     board: Board,
-}
-
-// Where a tenant has a lease with an identifier: at a place among its records, counted from 0.
-pub enum Found {
-    At(usize),
-    Absent,
 }
 
 // A refusal or 0, and the ledger and the records afterwards.
@@ -292,13 +287,14 @@ fn drop_ended(records: Records, held: HeldTable, board: Board, clock: u32) -> Dr
 // ---- the entry points
 
 fn discard(n: u8, clock: u32, memory: Memory, records: Records) -> ServedRecords
-    ensures { λ r. ⌜ r ≡ record { outcome = record { outcome = n; length = 0; offset = 0 }; clock = clock; memory = memory; records = records } ⌝ }
+    ensures { λ r. ⌜ r ≡ record { outcome = record { outcome = n; length = 0; offset = 0; count = 0 }; clock = clock; memory = memory; records = records } ⌝ }
 {
     ServedRecords {
         outcome: Outcome {
             outcome: n,
             length: 0,
             offset: 0,
+            count: 0,
         },
         clock: clock,
         memory: memory,
@@ -534,28 +530,29 @@ pub fn write(ledger: Ledger, records: Records, n: usize, names: &[u8], room: &mu
 
 // ---- one record of a tenant, counted from 0
 
-// A place among n leases; that of none is n.
-fn found_among(n: usize, at: usize) -> Found
-    ensures { λ r. ⌜ r ≡ foundAmong n at ⌝ }
+// What is found where no record is compared.
+fn not_found() -> Lookup
+    ensures { λ r. ⌜ r ≡ noLookup ⌝ }
 {
-    if at < n {
-        return Found::At(at);
+    Lookup {
+        found: false,
+        place: 0,
+        compared: 0,
     }
-    Found::Absent
 }
 
-// The place of an identifier among a tenant's records.
-pub fn find(records: Records, n: usize, h: usize, id: [u8; 32], len: u8) -> Found
+// The place of an identifier among a tenant's records, and how many of them were compared.
+pub fn find(records: Records, n: usize, h: usize, id: [u8; 32], len: u8) -> Lookup
     ensures { λ r. ⌜ r ≡ findWith n h (take len id) (records .leases) ⌝ }
 {
     if n == 128 {
         if h < 8 {
             let own = row(records, h);
-            let at = state::find(own, id, len);
-            return found_among(state::lease_count(own), at);
+            return state::find(own, id, len);
         }
+        return not_found();
     }
-    Found::Absent
+    not_found()
 }
 
 // One lease more, where a record of the tenant is left.

@@ -20,11 +20,11 @@ fn refuse(number: u8) {
 }
 
 // A reply is no longer than the least room and lies within its room (demand 1); one that did not would be told as 27, too little room for it.
-fn print_call(outcome: u8, offset: usize, room: &[u8], length: usize) {
-    let mut line = [0u8; 2 * reply::LEAST_ROOM + 8];
+fn print_call(outcome: u8, offset: usize, count: usize, room: &[u8], length: usize) {
+    let mut line = [0u8; 2 * reply::LEAST_ROOM + 14];
     if length <= reply::LEAST_ROOM {
         if length <= room.len() {
-            let n = replay_text::write_call_line(&mut line, outcome, offset, room, length);
+            let n = replay_text::write_call_line(&mut line, outcome, offset, count, room, length);
             print(&line, n);
             return;
         }
@@ -73,7 +73,7 @@ fn call(
         if size <= room.len() {
             let r = owned::serve(book, names, &datagram[..n], client, time, &mut room[..size]);
             let told = r.outcome;
-            print_call(told.outcome, told.offset, room, told.length);
+            print_call(told.outcome, told.offset, told.count, room, told.length);
             return r.owned;
         }
     }

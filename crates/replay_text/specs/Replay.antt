@@ -1,5 +1,5 @@
 -- Definitions: what `replay` prints: a line for each call, the outcome's number and, for a reply, a blank and its octets in lower-case hex; after discard 5
--- a blank, `@` and the offset that it carries (document 02, W-206); at the end `book`, a blank and the hex of the campus file; or `refused`, a blank and a number.
+-- a blank, `@` and the offset that it carries (document 02, W-206); each ends in a blank, `#` and the count of records that were read (W-210); at the end `book`, a blank and the hex of the campus file; or `refused`, a blank and a number.
 use Prim.Native.Nat.{ℕ, _+_, _/_, _%_}
 use mathlib.Core.List.{List, [], _∷_, _++_}
 use lib.Dec.{ltb, eqb}
@@ -25,13 +25,16 @@ decimal n =
     (pick (ltb n 100) (digit (n / 10) ∷ digit n ∷ [])
     (pick (ltb n 1000) (digit (n / 100) ∷ digit (n / 10) ∷ digit n ∷ []) (digit (n / 1000) ∷ digit (n / 100) ∷ digit (n / 10) ∷ digit n ∷ [])))
 
--- "5 @" and the offset
-unfoldable pub faultLine : ℕ → List ℕ
-faultLine offset = 53 ∷ 32 ∷ 64 ∷ decimal offset ++ 10 ∷ []
+-- the outcome: "0" and a blank before a reply, "5 @" and the offset, or the number alone; outcomes have one digit
+unfoldable pub outcomeText : ℕ → ℕ → List ℕ → List ℕ
+outcomeText outcome offset reply = pick (eqb outcome 0) (48 ∷ 32 ∷ hexOf reply) (pick (eqb outcome 5) (53 ∷ 32 ∷ 64 ∷ decimal offset) (digit outcome ∷ []))
 
--- outcomes have one digit
-abbrev pub callLine : ℕ → ℕ → List ℕ → List ℕ
-callLine outcome offset reply = pick (eqb outcome 0) (48 ∷ 32 ∷ hexOf reply ++ 10 ∷ []) (pick (eqb outcome 5) (faultLine offset) (digit outcome ∷ 10 ∷ []))
+-- " #" and the count, and the line's end
+unfoldable pub countText : ℕ → List ℕ
+countText count = 32 ∷ 35 ∷ decimal count ++ 10 ∷ []
+
+abbrev pub callLine : ℕ → ℕ → ℕ → List ℕ → List ℕ
+callLine outcome offset count reply = outcomeText outcome offset reply ++ countText count
 
 -- "book" and a blank
 abbrev pub bookLine : List ℕ → List ℕ

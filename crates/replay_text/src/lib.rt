@@ -4,7 +4,7 @@ ghost use mathlib.Core.List.{[], _∷_};
 ghost use Prim.Native.Nat.{_+_, _*_, _/_, _≤_, _<_};
 ghost use lib.ListN.{length, take};
 ghost use Rattle.octets.specs.Octets.{Wrote};
-ghost use Rattle.replay_text.specs.Replay.{hexDigit, hexOf, digit, decimal, faultLine, callLine, bookLine, refusedLine};
+ghost use Rattle.replay_text.specs.Replay.{hexDigit, hexOf, digit, decimal, outcomeText, countText, callLine, bookLine, refusedLine};
 
 fn hex_digit(d: u8) -> u8
     requires { ⌜ d < 16 ⌝ }
@@ -81,32 +81,47 @@ fn put_decimal(out: &mut [u8], at: usize, n: usize) -> usize
     put_three(out, a, n)
 }
 
-// The line of a discard 5.
-fn write_fault_line(out: &mut [u8], offset: usize) -> usize
-    requires { ⌜ 8 ≤ length (now out) ⌝ }
-    ensures { λ r. ⌜ Wrote (now (out .entry)) 0 (faultLine offset) (now (out .exit)) r ⌝ }
-{
-    let a = octets::put_run(out, 0, &[53, 32, 64], 3);
-    let b = put_decimal(out, a, offset);
-    octets::put_u8(out, b, 10)
-}
-
-// The line of a call whose reply is the first n octets of a slice.
-pub fn write_call_line(out: &mut [u8], outcome: u8, offset: usize, reply: &[u8], n: usize) -> usize
-    requires { ⌜ (2 * n + 8 ≤ length (now out)) × (n ≤ length (now reply)) ⌝ }
-    ensures { λ r. ⌜ Wrote (now (out .entry)) 0 (callLine outcome offset (take n (now (reply .entry)))) (now (out .exit)) r ⌝ }
+// The outcome of a call whose reply is the first n octets of a slice.
+fn put_outcome(out: &mut [u8], outcome: u8, offset: usize, reply: &[u8], n: usize) -> usize
+    requires { ⌜ (2 * n + 7 ≤ length (now out)) × (n ≤ length (now reply)) ⌝ }
+    ensures { λ r. ⌜ (Wrote (now (out .entry)) 0 (outcomeText outcome offset (take n (now (reply .entry)))) (now (out .exit)) r) × (r ≤ 2 * n + 7) ⌝ }
 {
     if outcome == 0 {
         let a = octets::put_u8(out, 0, 48);
         let b = octets::put_u8(out, a, 32);
-        let c = put_hex(out, b, reply, n);
-        return octets::put_u8(out, c, 10);
+        return put_hex(out, b, reply, n);
     }
     if outcome == 5 {
-        return write_fault_line(out, offset);
+        let a = octets::put_run(out, 0, &[53, 32, 64], 3);
+        return put_decimal(out, a, offset);
     }
-    let a = octets::put_u8(out, 0, 48 + outcome % 10);
-    octets::put_u8(out, a, 10)
+    octets::put_u8(out, 0, 48 + outcome % 10)
+}
+
+// The count, and the end of the line.
+fn put_count(out: &mut [u8], at: usize, count: usize) -> usize
+    requires { ⌜ at + 7 ≤ length (now out) ⌝ }
+    ensures { λ r. ⌜ Wrote (now (out .entry)) at (countText count) (now (out .exit)) r ⌝ }
+{
+    let a = octets::put_run(out, at, &[32, 35], 2);
+    let b = put_decimal(out, a, count);
+    octets::put_u8(out, b, 10)
+}
+
+// The line of a call whose reply is the first n octets of a slice.
+pub fn write_call_line(
+    out: &mut [u8],
+    outcome: u8,
+    offset: usize,
+    count: usize,
+    reply: &[u8],
+    n: usize,
+) -> usize
+    requires { ⌜ (2 * n + 14 ≤ length (now out)) × (n ≤ length (now reply)) ⌝ }
+    ensures { λ r. ⌜ Wrote (now (out .entry)) 0 (callLine outcome offset count (take n (now (reply .entry)))) (now (out .exit)) r ⌝ }
+{
+    let a = put_outcome(out, outcome, offset, reply, n);
+    put_count(out, a, count)
 }
 
 // The line of the campus file that is the first n octets of a slice.

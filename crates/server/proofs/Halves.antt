@@ -68,7 +68,7 @@ enough-halves b c g =
 
 -- ---- the first half
 abbrev Told : Answer → Judgement → Type 0
-Told a j = (a .outcome ≡ j .ruling .verdict .outcome) × ((a .offset ≡ j .ruling .offset) × (a .book ≡ j .book))
+Told a j = (a .outcome ≡ j .ruling .verdict .outcome) × ((a .offset ≡ j .ruling .offset) × ((a .count ≡ j .ruling .count) × (a .book ≡ j .book)))
 
 told-by : (t : Bool) (a a′ : Answer) (j j′ : Judgement) → Told a j → Told a′ j′ → Told (pick t a a′) (pick t j j′)
 unfolding pick
@@ -77,7 +77,7 @@ told-by false a a′ j j′ p q = q
 
 pub verdict-told : VerdictTold
 unfolding VerdictTold serveOf judgeOf atClock judgeClock withReading judgeReading forServer judgeServer discardWith pick
-verdict-told b c g = told-by (bookB b) _ _ _ _ (rw (le-ltb (c .room) leastRoom g) at-clock) (refl, (refl, refl))
+verdict-told b c g = told-by (bookB b) _ _ _ _ (rw (le-ltb (c .room) leastRoom g) at-clock) (refl, (refl, (refl, refl)))
   where
     a : Book
     a = advanced b (c .time)
@@ -86,12 +86,12 @@ verdict-told b c g = told-by (bookB b) _ _ _ _ (rw (le-ltb (c .room) leastRoom g
     h = tenantOf (a .state) (c .client)
 
     for-server : (m : Fields) → Told (forServer a h m) (judgeServer a h m)
-    for-server m = told-by (eqb (m .kind) 3 && not (m .ours)) _ _ _ _ (refl, (refl, refl)) (refl, (refl, refl))
+    for-server m = told-by (eqb (m .kind) 3 && not (m .ours)) _ _ _ _ (refl, (refl, (refl, refl))) (refl, (refl, (refl, refl)))
 
     at-clock : Told (atClock a (c .client) (c .datagram)) (judgeClock a (c .client) (c .datagram))
     at-clock =
         told-by (ltb h (tenantsIn (a .state))) _ _ _ _
-        (told-by (eqb (readOf (c .datagram) .discard) 0) _ _ _ _ (for-server (fieldsOf (c .datagram) (a .state .server) (readOf (c .datagram) .message))) (refl, (refl, refl))) (refl, (refl, refl))
+        (told-by (eqb (readOf (c .datagram) .discard) 0) _ _ _ _ (for-server (fieldsOf (c .datagram) (a .state .server) (readOf (c .datagram) .message))) (refl, (refl, (refl, refl)))) (refl, (refl, (refl, refl)))
 
 pub judges-numbered : JudgesNumbered
 unfolding JudgesNumbered judgeOf judgeClock judgeReading judgeServer discardWith Numbered

@@ -34,13 +34,15 @@ use Rattle.state.specs.Edit.{editedBook, noEdit}
 use Rattle.state.specs.laws.Edited.{edited-none}
 use Rattle.soundness.specs.declared.HeldTable.{HeldTable}
 use Rattle.soundness.specs.View.{View}
+use Rattle.decision.specs.declared.Counted.{Counted}
 use Rattle.decision.specs.declared.Decided.{Decided}
 use Rattle.decision.specs.declared.Reply.{Reply}
 use Rattle.decision.specs.declared.Reply.the-variants.{Nothing, InfoAck}
 use Rattle.decision.specs.declared.Verdict.{Verdict}
+use Rattle.decision.specs.Count.{countOf}
 use Rattle.decision.specs.Decide.{decideOf}
 use Rattle.decision.specs.Gather.{decideIn}
-use Rattle.decision.specs.Parts.{discardWith}
+use Rattle.decision.specs.Parts.{discardWith, ownOf}
 use Rattle.decision.specs.laws.View.{decide-in}
 use Rattle.server.specs.declared.Judged.{Judged}
 use Rattle.server.specs.declared.Outcome.{Outcome}
@@ -66,11 +68,11 @@ info-is s r {a} {b} {c} {d} x a′ y b′ z c′ w d′ =
     made p q u v = record { scopes = p ∷ q ∷ u ∷ v ∷ []; count = s .«scope_count»; «list_asked» = r .«list_asked»; clock = s .clock; «time_asked» = r .«time_asked»; tenants = s .«tenant_count»; tenant = r .tenant; language = r .language }
 
 -- ---- what is told
-pub tells-silent : (n o : ℕ) (buffer : List ℕ) {x : Outcome} → x ≡ record { outcome = n; length = 0; offset = o } → Tells (silent n o) buffer buffer x
-tells-silent n o buffer e = record { outcome = ap (λ (x : Outcome). x .outcome) e; offset = ap (λ (x : Outcome). x .offset) e; size = ap (λ (x : Outcome). x .length) e; buffer = refl }
+pub tells-silent : (n o k : ℕ) (buffer : List ℕ) {x : Outcome} → x ≡ record { outcome = n; length = 0; offset = o; count = k } → Tells (silent n o k) buffer buffer x
+tells-silent n o k buffer e = record { outcome = ap (λ (x : Outcome). x .outcome) e; offset = ap (λ (x : Outcome). x .offset) e; count = ap (λ (x : Outcome). x .count) e; size = ap (λ (x : Outcome). x .length) e; buffer = refl }
 
-tells-reply : (reply : List ℕ) {before after : List ℕ} {n : ℕ} {x : Outcome} → Replied before reply after n → x ≡ record { outcome = 0; length = n; offset = 0 } → Tells (record { outcome = 0; offset = 0; reply = reply }) before after x
-tells-reply reply w e = record { outcome = ap (λ (x : Outcome). x .outcome) e; offset = ap (λ (x : Outcome). x .offset) e; size = ap (λ (x : Outcome). x .length) e ∙ w .size; buffer = w .buffer }
+tells-reply : (reply : List ℕ) (k : ℕ) {before after : List ℕ} {n : ℕ} {x : Outcome} → Replied before reply after n → x ≡ record { outcome = 0; length = n; offset = 0; count = k } → Tells (record { outcome = 0; offset = 0; count = k; reply = reply }) before after x
+tells-reply reply k w e = record { outcome = ap (λ (x : Outcome). x .outcome) e; offset = ap (λ (x : Outcome). x .offset) e; count = ap (λ (x : Outcome). x .count) e; size = ap (λ (x : Outcome). x .length) e ∙ w .size; buffer = w .buffer }
 
 -- both tests, the second made on a number that was widened
 pub tests-known : (a : ℕ) {q t : Bool} {n w : ℕ} → q ≡ t → q ≡ true → w ≡ n → ltb a w ≡ (t && ltb a n)
@@ -84,23 +86,23 @@ module _ (r : Ruling) (s : State) (names : List ℕ) where
       subst (λ (i : Info). Sendable i names) (sym e) (v .0, ltb-true (r .tenant) (s .«tenant_count») (v .1))
 
   by-names : Bool → Said
-  by-names t = pick t (record { outcome = 0; offset = 0; reply = infoAckOf (headIn s r) (infoIn s r) names }) (silent 1 0)
+  by-names t = pick t (record { outcome = 0; offset = 0; count = r .count; reply = infoAckOf (headIn s r) (infoIn s r) names }) (silent 1 0 0)
 
   pub info-sent : {t : Bool} {before after : List ℕ} {n : ℕ} {x : Outcome} → t ≡ sendable s names r → t ≡ true → Replied before (infoAckOf (headIn s r) (infoIn s r) names) after n
-      → x ≡ record { outcome = 0; length = n; offset = 0 } → Tells (infoWith r s names) before after x
+      → x ≡ record { outcome = 0; length = n; offset = 0; count = r .count } → Tells (infoWith r s names) before after x
   unfolding infoWith by-names pick
-  info-sent p y w e = tells-as (sym (ap by-names (sym p ∙ y))) (tells-reply (infoAckOf (headIn s r) (infoIn s r) names) w e)
+  info-sent p y w e = tells-as (sym (ap by-names (sym p ∙ y))) (tells-reply (infoAckOf (headIn s r) (infoIn s r) names) (r .count) w e)
 
-  pub info-kept : {t : Bool} (buffer : List ℕ) {x : Outcome} → t ≡ sendable s names r → t ≡ false → x ≡ record { outcome = 1; length = 0; offset = 0 } → Tells (infoWith r s names) buffer buffer x
+  pub info-kept : {t : Bool} (buffer : List ℕ) {x : Outcome} → t ≡ sendable s names r → t ≡ false → x ≡ record { outcome = 1; length = 0; offset = 0; count = 0 } → Tells (infoWith r s names) buffer buffer x
   unfolding infoWith by-names pick
-  info-kept buffer p y e = tells-as (sym (ap by-names (sym p ∙ y))) (tells-silent 1 0 buffer e)
+  info-kept buffer p y e = tells-as (sym (ap by-names (sym p ∙ y))) (tells-silent 1 0 0 buffer e)
 
   -- the reply of a kind
   pub reply-as : (k : Reply) {before after : List ℕ} {n : ℕ} {x : Outcome} → r .verdict .reply ≡ k → shows k ≡ false → Replied before (ruledBy s names r k) after n
-      → x ≡ record { outcome = 0; length = n; offset = 0 } → Tells (repliedBy r s names) before after x
-  reply-as k e f w g = tells-as (sym (replied-plain r s names k e f)) (tells-reply (ruledBy s names r k) w g)
+      → x ≡ record { outcome = 0; length = n; offset = 0; count = r .count } → Tells (repliedBy r s names) before after x
+  reply-as k e f w g = tells-as (sym (replied-plain r s names k e f)) (tells-reply (ruledBy s names r k) (r .count) w g)
 
-  pub reply-none : (buffer : List ℕ) {x : Outcome} → r .verdict .reply ≡ Nothing → x ≡ record { outcome = 0; length = 0; offset = 0 } → Tells (repliedBy r s names) buffer buffer x
+  pub reply-none : (buffer : List ℕ) {x : Outcome} → r .verdict .reply ≡ Nothing → x ≡ record { outcome = 0; length = 0; offset = 0; count = r .count } → Tells (repliedBy r s names) buffer buffer x
   reply-none buffer e g = reply-as Nothing e refl (record { size = refl; buffer = refl }) g
 
   pub reply-info : {before after : List ℕ} {x : Outcome} → r .verdict .reply ≡ InfoAck → Tells (infoWith r s names) before after x → Tells (repliedBy r s names) before after x
@@ -108,23 +110,23 @@ module _ (r : Ruling) (s : State) (names : List ℕ) where
 
   -- room, then the discard's number, then the reply
   module _ (room : ℕ) where
-    pub write-short : (buffer : List ℕ) {x : Outcome} → room < leastRoom → x ≡ record { outcome = 2; length = 0; offset = 0 } → Tells (writeOf r s names room) buffer buffer x
-    write-short buffer g e = tells-as (written-short r s names room g) (tells-silent 2 0 buffer e)
+    pub write-short : (buffer : List ℕ) {x : Outcome} → room < leastRoom → x ≡ record { outcome = 2; length = 0; offset = 0; count = 0 } → Tells (writeOf r s names room) buffer buffer x
+    write-short buffer g e = tells-as (written-short r s names room g) (tells-silent 2 0 0 buffer e)
 
     pub write-replied : {before after : List ℕ} {x : Outcome} → leastRoom ≤ room → r .verdict .outcome ≡ 0 → Tells (repliedBy r s names) before after x → Tells (writeOf r s names room) before after x
     write-replied g z w = tells-as (written-reply r s names room g z) w
 
-    pub write-discard : (buffer : List ℕ) {n : ℕ} {x : Outcome} → leastRoom ≤ room → (r .verdict .outcome ≡ 0 → ⊥) → n ≡ min (r .verdict .outcome) 8 → x ≡ record { outcome = n; length = 0; offset = r .offset } → Tells (writeOf r s names room) buffer buffer x
+    pub write-discard : (buffer : List ℕ) {n : ℕ} {x : Outcome} → leastRoom ≤ room → (r .verdict .outcome ≡ 0 → ⊥) → n ≡ min (r .verdict .outcome) 8 → x ≡ record { outcome = n; length = 0; offset = r .offset; count = r .count } → Tells (writeOf r s names room) buffer buffer x
     write-discard buffer g z p e =
-        tells-as (written-other r s names room g z) (tells-silent (min (r .verdict .outcome) 8) (r .offset) buffer (e ∙ ap {B = Outcome} (λ (n : ℕ). record { outcome = n; length = 0; offset = r .offset }) p))
+        tells-as (written-other r s names room g z) (tells-silent (min (r .verdict .outcome) 8) (r .offset) (r .count) buffer (e ∙ ap {B = Outcome} (λ (n : ℕ). record { outcome = n; length = 0; offset = r .offset; count = r .count }) p))
 
 -- ---- verdicts
 pub discard-is : (n o : ℕ) {v : Verdict} {i : Identifier} {l : Language} → v ≡ discardWith n → i ≡ noIdentifier → l ≡ noLanguage
-    → _≡_ {A = Ruling} (record { verdict = v; offset = o; tenant = 0; xid = 0; id = i; features = false; «list_asked» = false; «time_asked» = false; language = l }) (discardRuling n o)
+    → _≡_ {A = Ruling} (record { verdict = v; offset = o; count = 0; tenant = 0; xid = 0; id = i; features = false; «list_asked» = false; «time_asked» = false; language = l }) (discardRuling n o)
 discard-is n o {v} {i} {l} p q w = ap₂ (λ (v : Verdict) (i : Identifier). made v i l) p q ∙ ap (made (discardWith n) noIdentifier) w
   where
     made : Verdict → Identifier → Language → Ruling
-    made v i l = record { verdict = v; offset = o; tenant = 0; xid = 0; id = i; features = false; «list_asked» = false; «time_asked» = false; language = l }
+    made v i l = record { verdict = v; offset = o; count = 0; tenant = 0; xid = 0; id = i; features = false; «list_asked» = false; «time_asked» = false; language = l }
 
 pub untouched-is : (n o : ℕ) {r : Ruling} {e : Edit} → r ≡ discardRuling n o → e ≡ noEdit → _≡_ {A = Judged} (record { ruling = r; edit = e }) (record { ruling = discardRuling n o; edit = noEdit })
 untouched-is n o p q = ap₂ {C = Judged} (λ (r : Ruling) (e : Edit). record { ruling = r; edit = e }) p q
@@ -137,13 +139,16 @@ judges-as : {a a′ : Judgement} {b : Book} {h : ℕ} {r : Judged} → a ≡ a�
 judges-as {b = b} {h} {r} e v = subst (λ (z : Judgement). Judges z b h r) e v
 
 -- of the book the code has the tenant's records and what all tenants hold; of the tenant's releases, the entries q
-pub judges-decided : (s : State) (t : LeaseTable) (k : Memory) (names : List ℕ) (q : TenantReleases) (h : ℕ) (m : Fields) (d : Decided) {own : TenantLeases} {held : HeldTable} {r : Ruling}
-    → View s t h own held → d ≡ decideIn s (inUse own) (remembered q) held h m → q ≡ releasesAt k h → r ≡ rulingOn h m (d .verdict)
-    → Judges (judgedBy (bookOf s t k names) h m (decidedFor (bookOf s t k names) h m)) (bookOf s t k names) h (record { ruling = r; edit = d .edit })
-judges-decided s t k names q h m d {r = r} v e f w =
-    subst (λ (z : Decided). Judges (judgedBy (bookOf s t k names) h m z) (bookOf s t k names) h (record { ruling = r; edit = d .edit }))
-    (e ∙ decide-in v m (remembered q) ∙ ap (λ (z : TenantReleases). decideOf s t (remembered z) h m) f)
-    (record { ruling = w; book = refl })
+pub judges-decided : (s : State) (t : LeaseTable) (k : Memory) (names : List ℕ) (q : TenantReleases) (h : ℕ) (m : Fields) (x : Counted) {own : TenantLeases} {held : HeldTable} {r : Ruling}
+    → View s t h own held → x ≡ record { decided = decideIn s (inUse own) (remembered q) held h m; count = countOf s (inUse own) (remembered q) m } → q ≡ releasesAt k h → r ≡ rulingOn h m (x .count) (x .decided .verdict)
+    → Judges (judgedBy (bookOf s t k names) h m (decidedFor (bookOf s t k names) h m)) (bookOf s t k names) h (record { ruling = r; edit = x .decided .edit })
+judges-decided s t k names q h m x {r = r} v e f w =
+    subst (λ (z : Decided). Judges (judgedBy (bookOf s t k names) h m z) (bookOf s t k names) h (record { ruling = r; edit = x .decided .edit }))
+    (ap (λ (y : Counted). y .decided) e ∙ decide-in v m (remembered q) ∙ ap (λ (z : TenantReleases). decideOf s t (remembered z) h m) f)
+    (record {
+      ruling = w ∙ ap (λ (n : ℕ). rulingOn h m n (x .decided .verdict)) (ap (λ (y : Counted). y .count) e ∙ ap (λ (y : TenantLeases). countOf s (inUse y) (remembered q) m) (v .records) ∙ ap (λ (z : TenantReleases). countOf s (ownOf t h) (remembered z) m) f);
+      book = refl;
+    })
 
 -- ---- test 7
 abbrev ruled : Book → ℕ → Fields → Judgement

@@ -35,13 +35,15 @@ use Rattle.decision.specs.declared.Verdict.{Verdict}
 use Rattle.decision.specs.Parts.{discardWith}
 use Rattle.server.specs.declared.Judged.{Judged}
 use Rattle.server.specs.declared.Ruling.{Ruling}
-use Rattle.server.specs.Serve.{Answer, Said, bookOf, decidedFor, entryOf, tenantOf, termsOf}
+use Rattle.server.specs.Serve.{Answer, Said, bookOf, countFor, decidedFor, entryOf, tenantOf, termsOf}
 
--- ---- the verdict: the decision's, with what a reply needs of the message and of the client, and the offset that goes with discard 5 (W-206)
-abbrev pub rulingOn : ℕ → Fields → Verdict → Ruling
-rulingOn h m v = record {
+-- ---- the verdict: the decision's, with what a reply needs of the message and of the client, the offset that goes with discard 5 (W-206), and the count of what was
+-- read for it (W-210), n, which the second half tells
+abbrev pub rulingOn : ℕ → Fields → ℕ → Verdict → Ruling
+rulingOn h m n v = record {
   verdict = v;
   offset = 0;
+  count = n;
   tenant = h;
   xid = m .xid;
   id = m .id;
@@ -62,6 +64,7 @@ abbrev pub discardRuling : ℕ → ℕ → Ruling
 discardRuling n offset = record {
   verdict = discardWith n;
   offset = offset;
+  count = 0;
   tenant = 0;
   xid = 0;
   id = noIdentifier;
@@ -81,7 +84,7 @@ judgedAt n offset b = record { ruling = discardRuling n offset; book = b }
 
 -- the decision, and the book with what the tenant has edited
 abbrev pub judgedBy : Book → ℕ → Fields → Decided → Judgement
-judgedBy b h m d = record { ruling = rulingOn h m (d .verdict); book = editedBook (d .edit) h b }
+judgedBy b h m d = record { ruling = rulingOn h m (countFor b h m) (d .verdict); book = editedBook (d .edit) h b }
 
 -- test 7
 unfoldable pub judgeServer : Book → ℕ → Fields → Judgement
@@ -141,26 +144,26 @@ shows ReleaseAck = false
 shows InfoAck = true
 shows Nak = false
 
-abbrev pub silent : ℕ → ℕ → Said
-silent n offset = record { outcome = n; offset = offset; reply = [] }
+abbrev pub silent : ℕ → ℕ → ℕ → Said
+silent n offset count = record { outcome = n; offset = offset; count = count; reply = [] }
 
 -- an ACK to GETINFO
 unfoldable pub infoWith : Ruling → State → List ℕ → Said
-infoWith r s names = pick (sendable s names r) (record { outcome = 0; offset = 0; reply = infoAckOf (headIn s r) (infoIn s r) names }) (silent 1 0)
+infoWith r s names = pick (sendable s names r) (record { outcome = 0; offset = 0; count = r .count; reply = infoAckOf (headIn s r) (infoIn s r) names }) (silent 1 0 0)
 
 -- a verdict of outcome 0
 unfoldable pub repliedBy : Ruling → State → List ℕ → Said
 repliedBy r s names =
-    pick (shows (r .verdict .reply) && not (sendable s names r)) (silent 1 0) (record { outcome = 0; offset = 0; reply = ruledReply s names r })
+    pick (shows (r .verdict .reply) && not (sendable s names r)) (silent 1 0 0) (record { outcome = 0; offset = 0; count = r .count; reply = ruledReply s names r })
 
--- "writing into room below 512 is 2, tested first; writing a discard returns it; neither writes". A made-up number above 8 is 8: there is no other outcome
+-- "writing into room below 512 is 2, tested first; writing a discard returns it", discard 8 with its count; "neither writes". A made-up number above 8 is 8: there is no other outcome
 unfoldable pub writeOf : Ruling → State → List ℕ → ℕ → Said
 writeOf r s names room =
-    pick (ltb room leastRoom) (silent 2 0) (pick (eqb (r .verdict .outcome) 0) (repliedBy r s names) (silent (min (r .verdict .outcome) 8) (r .offset)))
+    pick (ltb room leastRoom) (silent 2 0 0) (pick (eqb (r .verdict .outcome) 0) (repliedBy r s names) (silent (min (r .verdict .outcome) 8) (r .offset) (r .count)))
 
 -- ---- the old call is the two together: the book afterwards is the first half's, what is told the second's
 abbrev pub both : Judgement → Said → Answer
-both j w = record { outcome = w .outcome; offset = w .offset; reply = w .reply; book = j .book }
+both j w = record { outcome = w .outcome; offset = w .offset; count = w .count; reply = w .reply; book = j .book }
 
 -- ---- what a function promises
 -- the verdict, and the book b with what tenant h has edited

@@ -30,7 +30,9 @@ use Rattle.decision.specs.declared.Decided.{Decided}
 use Rattle.decision.specs.declared.Reply.{Reply}
 use Rattle.decision.specs.declared.Reply.the-variants.{Nothing, Offer, LeaseAck, ReleaseAck, InfoAck, Nak}
 use Rattle.decision.specs.declared.Verdict.{Verdict}
+use Rattle.decision.specs.Parts.{ownOf}
 use Rattle.decision.specs.Decide.{decideOf}
+use Rattle.decision.specs.Count.{countOf}
 use Rattle.server.specs.declared.Outcome.{Outcome}
 
 pub record Call : Type 0 where
@@ -39,29 +41,29 @@ pub record Call : Type 0 where
   pub time : ℕ
   pub room : ℕ
 
--- outcome 0 is a reply; a discard has no octets. "Discard 5 carries" the offset that the reader of options reports, "every other outcome 0" (document 02, W-206)
+-- outcome 0 is a reply; a discard has no octets. "Discard 5 carries" the offset that the reader of options reports, "every other outcome 0" (document 02, W-206).
+-- "A datagram's count, returned with its outcome" (W-210): how many of the house's records its lookups compared
 pub record Answer : Type 0 where
   pub outcome : ℕ
   pub offset : ℕ
+  pub count : ℕ
   pub reply : List ℕ
   pub book : Book
 
--- what of it the caller is told: the outcome's number, the offset that goes with it and the reply's octets
+-- what of it the caller is told: the outcome's number, the offset and the count that go with it, and the reply's octets
 pub record Said : Type 0 where
   pub outcome : ℕ
   pub offset : ℕ
+  pub count : ℕ
   pub reply : List ℕ
-
-abbrev pub said : Answer → Said
-said a = record { outcome = a .outcome; offset = a .offset; reply = a .reply }
 
 -- the book of a state, a table, what is remembered and the names that are lent with them
 abbrev pub bookOf : State → LeaseTable → Memory → List ℕ → Book
 bookOf s t m names = record { state = s; table = t; memory = m; names = names }
 
--- a discard that carries an offset, and one that carries 0
+-- a discard that carries an offset, and one that carries 0. These are discards 1 to 7: they come before any lookup
 abbrev pub discardedAt : ℕ → ℕ → Book → Answer
-discardedAt n offset b = record { outcome = n; offset = offset; reply = []; book = b }
+discardedAt n offset b = record { outcome = n; offset = offset; count = 0; reply = []; book = b }
 
 abbrev pub discarded : ℕ → Book → Answer
 discarded n b = discardedAt n 0 b
@@ -102,11 +104,16 @@ unfoldable pub replyOf : State → List ℕ → ℕ → Fields → Verdict → L
 replyOf s names h m v = byReply s names h m v (v .reply)
 
 -- ---- the tests
+-- the count of tenant h's message: by its leases and by what is remembered of it, as the decision
+abbrev pub countFor : Book → ℕ → Fields → ℕ
+countFor b h m = countOf (b .state) (ownOf (b .table) h) (remembered (releasesAt (b .memory) h)) m
+
 -- the reply that the verdict asks for, and the book with what the tenant has edited
 abbrev pub answered : Book → ℕ → Fields → Decided → Answer
 answered b h m d = record {
   outcome = d .verdict .outcome;
   offset = 0;
+  count = countFor b h m;
   reply = replyOf (b .state) (b .names) h m (d .verdict);
   book = editedBook (d .edit) h b;
 }
@@ -146,9 +153,10 @@ serveOf b c =
     (discarded 1 b)
 
 -- ---- what a function promises
--- what the caller is told: the outcome, its offset, the reply's length, and every octet of the reply buffer
+-- what the caller is told: the outcome, its offset, the count, the reply's length, and every octet of the reply buffer
 pub record Tells (a : Said) (before after : List ℕ) (r : Outcome) : Type 0 where
   pub outcome : r .outcome ≡ a .outcome
   pub offset : r .offset ≡ a .offset
+  pub count : r .count ≡ a .count
   pub size : r .length ≡ length (a .reply)
   pub buffer : after ≡ a .reply ++ drop (length (a .reply)) before

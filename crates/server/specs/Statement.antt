@@ -27,11 +27,12 @@ inHalves b c = both (judgedFor b c) (writeOf (judgedFor b c .ruling) (judgedFor 
 unfoldable pub ServeHalves : Type 0
 ServeHalves = (b : Book) (c : Call) → serveOf b c ≡ pick (bookB b) (pick (ltb (c .room) leastRoom) (discarded 2 b) (inHalves b c)) (discarded 1 b)
 
--- "the first gives the verdict and the book afterwards": in room enough the call tells the verdict's number and offset, and leaves that book
+-- "the first gives the verdict and the book afterwards": in room enough the call tells the verdict's number, offset and count, and leaves that book
 unfoldable pub VerdictTold : Type 0
 VerdictTold =
     (b : Book) (c : Call) → leastRoom ≤ c .room
-    → (serveOf b c .outcome ≡ judgedFor b c .ruling .verdict .outcome) × ((serveOf b c .offset ≡ judgedFor b c .ruling .offset) × (serveOf b c .book ≡ judgedFor b c .book))
+    → (serveOf b c .outcome ≡ judgedFor b c .ruling .verdict .outcome) × ((serveOf b c .offset ≡ judgedFor b c .ruling .offset)
+    × ((serveOf b c .count ≡ judgedFor b c .ruling .count) × (serveOf b c .book ≡ judgedFor b c .book)))
 
 -- its number is one of the table's
 unfoldable pub JudgesNumbered : Type 0
@@ -44,13 +45,13 @@ NeverShort = (b : Book) (client time : ℕ) (s : List ℕ) → judgeOf b client 
 -- ---- the second, of whatever verdict and book
 -- "writing into room below 512 is 2, tested first", and no octet is written
 unfoldable pub WritesShort : Type 0
-WritesShort = (r : Ruling) (s : State) (names : List ℕ) (room : ℕ) → room < leastRoom → writeOf r s names room ≡ silent 2 0
+WritesShort = (r : Ruling) (s : State) (names : List ℕ) (room : ℕ) → room < leastRoom → writeOf r s names room ≡ silent 2 0 0
 
--- "writing a discard returns it", with its offset; "neither writes"
+-- "writing a discard returns it", with its offset and its count; "neither writes"
 unfoldable pub WritesDiscard : Type 0
 WritesDiscard =
     (r : Ruling) (s : State) (names : List ℕ) (room : ℕ) → leastRoom ≤ room → (r .verdict .outcome ≡ 0 → ⊥) → r .verdict .outcome ≤ 8
-    → writeOf r s names room ≡ silent (r .verdict .outcome) (r .offset)
+    → writeOf r s names room ≡ silent (r .verdict .outcome) (r .offset) (r .count)
 
 -- "For a verdict and book that the first didn't give together the second may answer anything, without a fault" (`server::write` has no `requires`) "or an octet
 -- past the 512th". Of a verdict there is asked only that its identifier is the array of 32 octets that its type has

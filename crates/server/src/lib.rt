@@ -29,18 +29,21 @@ use state::State;
 use state::TenantLeases;
 use state::TenantReleases;
 
-// What the caller is told of a call: the outcome's number, the reply's length, and with discard 5 where in the datagram the first option stands
-// that breaks a rule; 0 with every other outcome.
+// What the caller is told of a call: the outcome's number, the reply's length, with discard 5 where in the datagram the first option stands that breaks a
+// rule, 0 with every other outcome, and how many of the tenant's records were compared to find the identifier.
 pub struct Outcome {
     pub outcome: u8,
     pub length: usize,
     pub offset: usize,
+    pub count: usize,
 }
 
-// A verdict as a caller can keep it: the decision's, the offset that goes with discard 5, and what a reply needs of the client and of its message.
+// A verdict as a caller can keep it: the decision's, the offset that goes with discard 5, how many records were compared for it, and what a reply needs of the
+// client and of its message.
 pub struct Ruling {
     pub verdict: Verdict,
     pub offset: usize,
+    pub count: usize,
     pub tenant: usize,
     pub xid: u32,
     pub id: Identifier,
@@ -129,13 +132,14 @@ fn can_send(s: State, names: &[u8], tenant: usize) -> bool
     false
 }
 
-fn told(n: u8, length: usize, offset: usize) -> Outcome
-    ensures { λ r. ⌜ r ≡ record { outcome = n; length = length; offset = offset } ⌝ }
+fn told(n: u8, length: usize, offset: usize, count: usize) -> Outcome
+    ensures { λ r. ⌜ r ≡ record { outcome = n; length = length; offset = offset; count = count } ⌝ }
 {
     Outcome {
         outcome: n,
         length: length,
         offset: offset,
+        count: count,
     }
 }
 
@@ -146,9 +150,9 @@ fn write_info(s: State, names: &[u8], r: Ruling, reply: &mut [u8]) -> Outcome
 {
     if can_send(s, names, r.tenant) {
         let n = reply::write_info_ack(reply, head_of(s, r), info_of(s, r), names);
-        return told(0, n, 0);
+        return told(0, n, 0, r.count);
     }
-    told(1, 0, 0)
+    told(1, 0, 0, 0)
 }
 
 // The reply that a verdict with outcome 0 asks for.
@@ -160,15 +164,26 @@ fn write_reply(s: State, names: &[u8], r: Ruling, reply: &mut [u8]) -> Outcome
     let v = r.verdict;
     let kind = v.reply;
     match kind {
-        Reply::Nothing => told(0, 0, 0),
-        Reply::Offer => told(0, reply::write_offer(reply, head, terms_of(s, v)), 0),
-        Reply::LeaseAck => told(0, reply::write_lease_ack(reply, head, terms_of(s, v)), 0),
-        Reply::ReleaseAck => told(0, reply::write_release_ack(reply, head), 0),
+        Reply::Nothing => told(0, 0, 0, r.count),
+        Reply::Offer => told(
+            0,
+            reply::write_offer(reply, head, terms_of(s, v)),
+            0,
+            r.count,
+        ),
+        Reply::LeaseAck => told(
+            0,
+            reply::write_lease_ack(reply, head, terms_of(s, v)),
+            0,
+            r.count,
+        ),
+        Reply::ReleaseAck => told(0, reply::write_release_ack(reply, head), 0, r.count),
         Reply::InfoAck => write_info(s, names, r, reply),
         Reply::Nak => told(
             0,
             reply::write_nak(reply, head, arithmetic::wide16(v.error)),
             0,
+            r.count,
         ),
     }
 }
@@ -188,13 +203,13 @@ pub fn write(r: Ruling, s: State, names: &[u8], reply: &mut [u8]) -> Outcome
     ensures { λ x. ⌜ Tells (writeOf r s (now (names .entry)) (length (now (reply .entry)))) (now (reply .entry)) (now (reply .exit)) x ⌝ }
 {
     if reply.len() < reply::LEAST_ROOM {
-        return told(2, 0, 0);
+        return told(2, 0, 0, 0);
     }
     let v = r.verdict;
     if v.outcome == 0 {
         return write_reply(s, names, r, reply);
     }
-    told(at_most_8(v.outcome), 0, r.offset)
+    told(at_most_8(v.outcome), 0, r.offset, r.count)
 }
 
 // ---- the tests
@@ -225,6 +240,7 @@ pub fn discard(n: u8, offset: usize) -> Ruling
     Ruling {
         verdict: decision::discard(n),
         offset: offset,
+        count: 0,
         tenant: 0,
         xid: 0,
         id: no_identifier(),
@@ -244,14 +260,15 @@ fn untouched(n: u8, offset: usize) -> Judged
     }
 }
 
-fn rule(h: usize, m: Fields, v: Verdict) -> Ruling
-    ensures { λ r. ⌜ r ≡ rulingOn h m v ⌝ }
+fn rule(h: usize, m: Fields, n: usize, v: Verdict) -> Ruling
+    ensures { λ r. ⌜ r ≡ rulingOn h m n v ⌝ }
 {
     let id = m.id;
     let language = m.language;
     Ruling {
         verdict: v,
         offset: 0,
+        count: n,
         tenant: h,
         xid: m.xid,
         id: id,
@@ -273,11 +290,12 @@ fn decided(
 ) -> Judged
     ensures { λ r. ⌜ JudgesTenant s own q held h (λ b. judgedBy b h m (decidedFor b h m)) r ⌝ }
 {
-    let d = decision::decide(s, own, q, held, h, m);
+    let c = decision::decide(s, own, q, held, h, m);
+    let d = c.decided;
     let v = d.verdict;
     let e = d.edit;
     Judged {
-        ruling: rule(h, m, v),
+        ruling: rule(h, m, c.count, v),
         edit: e,
     }
 }

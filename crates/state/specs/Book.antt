@@ -24,6 +24,7 @@ use Rattle.state.specs.declared.Release.{Release}
 use Rattle.state.specs.declared.TenantReleases.{TenantReleases}
 use Rattle.state.specs.declared.Memory.{Memory}
 use Rattle.state.specs.declared.Ledger.{Ledger}
+use Rattle.state.specs.declared.Lookup.{Lookup}
 use Rattle.state.specs.declared.ClientRange.{ClientRange}
 use Rattle.state.specs.declared.Scope.{Scope}
 use Rattle.state.specs.declared.State.{State}
@@ -168,6 +169,18 @@ otherRelease i r = not (sameOf (releaseId r) i)
 -- the place of an identifier among the leases; their number where it has none
 abbrev pub placeOf : List ℕ → List Lease → ℕ
 placeOf i ls = placeBy (named i) ls
+
+-- document 02, W-210: "Finding a lease or hold by identifier now also returns how many of the house's records it compared. It is the place of the match counted
+-- from 1, or else the number of its records in use, holds included". ls are a house's records in use, "at most 16"
+unfoldable pub comparedOf : List ℕ → List Lease → ℕ
+comparedOf i ls = pick (ltb (placeOf i ls) (length ls)) (placeOf i ls + 1) (length ls)
+
+abbrev pub lookupOf : List ℕ → List Lease → Lookup
+lookupOf i ls = record { found = ltb (placeOf i ls) (length ls); place = placeOf i ls; compared = comparedOf i ls }
+
+-- where there is no record to look at
+abbrev pub noLookup : Lookup
+noLookup = record { found = false; place = 0; compared = 0 }
 
 -- the lease at a place, or an unused record
 abbrev pub leaseAt : List Lease → ℕ → Lease

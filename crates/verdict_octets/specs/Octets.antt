@@ -2,7 +2,7 @@
 -- 0 outcome(1), 1 reply(1: 0 none, 1 OFFER, 2 ACK with a lease, 3 ACK to a RELEASE, 4 ACK to a GETINFO, 5 NAK), 2 a NAK's error(1), 3 scope(1, from 1), 4 the
 -- offset that goes with discard 5 (2), 6 house(1, its place counted from 0), 7 transaction id(4), 11 start(4), 15 end(4), 19 addresses(8, the set as a
 -- number: bit a for the scope's address a), 27 features(1), 28 list asked(1), 29 time asked(1), 30 language asked(1), 31 language length(2), 33 language
--- octets(8), 41 identifier length(1), 42 identifier octets(32). A house is a tenant here.
+-- octets(8), 41 identifier length(1), 42 identifier octets(32), 74 how many records were read for it (1, W-210). A house is a tenant here.
 use mathlib.Core.Bool.{Bool, not}
 use mathlib.Core.List.{List, [], _++_, _∷_}
 use mathlib.Core.Path.{_≡_}
@@ -49,9 +49,13 @@ languageOctets l = flagOf (l .asked) ∷ octets16 (l .len) ++ l .octets
 unfoldable pub identifierOctets : Identifier → List ℕ
 identifierOctets i = i .len ∷ i .octets
 
+-- document 02, W-210
+unfoldable pub lastOctets : Ruling → List ℕ
+lastOctets r = identifierOctets (r .id) ++ (r .count % 256 ∷ [])
+
 unfoldable pub verdictOctets : Ruling → List ℕ
 verdictOctets r =
-    outcomeOctets (r .verdict) ++ placeOctets (r .offset) (r .tenant) ++ numberOctets (r .xid) (r .verdict) ++ askedOctets r ++ languageOctets (r .language) ++ identifierOctets (r .id)
+    outcomeOctets (r .verdict) ++ placeOctets (r .offset) (r .tenant) ++ numberOctets (r .xid) (r .verdict) ++ askedOctets r ++ languageOctets (r .language) ++ lastOctets r
 
 -- ---- read back
 -- another number than 1 to 5 is none
@@ -91,6 +95,7 @@ unfoldable pub rulingIn : List ℕ → Ruling
 rulingIn s = record {
   verdict = verdictIn s;
   offset = at16 s 4;
+  count = getD s 74 0;
   tenant = getD s 6 0;
   xid = at32 s 7;
   id = identifierIn s;
@@ -109,9 +114,10 @@ pub record TypedRuling (r : Ruling) : Type 0 where
   pub tag : length (r .language .octets) ≡ 8
   pub identifier : length (r .id .octets) ≡ 32
 
--- whose offset and language length are below 65,536 and whose tenant is below 256, as the first half's are
+-- whose offset and language length are below 65,536 and whose tenant and count are below 256, as the first half's are
 pub record Holds (r : Ruling) : Type 0 where
   pub offset : r .offset < 65536
+  pub count : r .count < 256
   pub tenant : r .tenant < 256
   pub language : r .language .len < 65536
 

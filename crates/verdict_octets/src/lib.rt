@@ -3,7 +3,7 @@ ghost use mathlib.Core.Path.{_≡_};
 ghost use Prim.Native.Nat.{_+_, _≤_};
 ghost use lib.ListN.{length};
 ghost use Rattle.octets.specs.Octets.{Wrote};
-ghost use Rattle.verdict_octets.specs.Octets.{askedOctets, flagOf, identifierIn, identifierOctets, isSet, languageIn, languageOctets, numberOctets, outcomeOctets, placeOctets, replyFor, replyNumber, rulingIn, run, setAt, verdictIn, verdictOctets};
+ghost use Rattle.verdict_octets.specs.Octets.{askedOctets, flagOf, identifierIn, identifierOctets, isSet, languageIn, languageOctets, lastOctets, numberOctets, outcomeOctets, placeOctets, replyFor, replyNumber, rulingIn, run, setAt, verdictIn, verdictOctets};
 use decision::Reply;
 use decision::Verdict;
 use message::Identifier;
@@ -97,19 +97,28 @@ fn put_identifier(room: &mut [u8], at: usize, i: Identifier) -> usize
     octets::put_run(room, a, &kept, 32)
 }
 
+// The identifier, and how many records were read.
+fn put_last(room: &mut [u8], at: usize, r: Ruling) -> usize
+    requires { ⌜ at + 34 ≤ length (now room) ⌝ }
+    ensures { λ n. ⌜ Wrote (now (room .entry)) at (lastOctets r) (now (room .exit)) n × (n ≡ at + 34) ⌝ }
+{
+    let i = r.id;
+    let a = put_identifier(room, at, i);
+    octets::put_u8(room, a, (r.count % 256) as u8)
+}
+
 // A verdict, in a room of its size.
-pub fn put(room: &mut [u8; 74], r: Ruling)
+pub fn put(room: &mut [u8; 75], r: Ruling)
     ensures { λ _. ⌜ now (room .exit) ≡ verdictOctets r ⌝ }
 {
     let v = r.verdict;
     let l = r.language;
-    let i = r.id;
     let a = put_outcome(room, 0, v);
     let b = put_place(room, a, r.offset, r.tenant);
     let c = put_numbers(room, b, r.xid, v);
     let d = put_asked(room, c, r);
     let e = put_language(room, d, l);
-    put_identifier(room, e, i);
+    put_last(room, e, r);
 }
 
 // ---- read back
@@ -162,7 +171,7 @@ fn wide8(n: u8) -> usize
 }
 
 // The set that eight octets are.
-fn set_at(s: &[u8; 74]) -> u64
+fn set_at(s: &[u8; 75]) -> u64
     ensures { λ r. ⌜ r ≡ setAt (now (s .entry)) 19 ⌝ }
 {
     let high = octets::read_u32(s, 19);
@@ -170,7 +179,7 @@ fn set_at(s: &[u8; 74]) -> u64
     wide(high) * 4294967296 + wide(low)
 }
 
-fn verdict_in(s: &[u8; 74]) -> Verdict
+fn verdict_in(s: &[u8; 75]) -> Verdict
     ensures { λ r. ⌜ r ≡ verdictIn (now (s .entry)) ⌝ }
 {
     Verdict {
@@ -198,7 +207,7 @@ fn run_of_8(s: &[u8], at: usize) -> [u8; 8]
     out
 }
 
-fn language_in(s: &[u8; 74]) -> Language
+fn language_in(s: &[u8; 75]) -> Language
     ensures { λ r. ⌜ r ≡ languageIn (now (s .entry)) ⌝ }
 {
     let kept = run_of_8(s, 33);
@@ -209,7 +218,7 @@ fn language_in(s: &[u8; 74]) -> Language
     }
 }
 
-fn identifier_in(s: &[u8; 74]) -> Identifier
+fn identifier_in(s: &[u8; 75]) -> Identifier
     ensures { λ r. ⌜ r ≡ identifierIn (now (s .entry)) ⌝ }
 {
     let kept = octets::read_run(s, 42, 32);
@@ -219,8 +228,8 @@ fn identifier_in(s: &[u8; 74]) -> Identifier
     }
 }
 
-// The verdict that 74 octets are, whatever they are.
-pub fn take(s: &[u8; 74]) -> Ruling
+// The verdict that 75 octets are, whatever they are.
+pub fn take(s: &[u8; 75]) -> Ruling
     ensures { λ r. ⌜ r ≡ rulingIn (now (s .entry)) ⌝ }
 {
     let v = verdict_in(s);
@@ -229,6 +238,7 @@ pub fn take(s: &[u8; 74]) -> Ruling
     Ruling {
         verdict: v,
         offset: wide16(octets::read_u16(s, 4)),
+        count: wide8(s[74]),
         tenant: wide8(s[6]),
         xid: octets::read_u32(s, 7),
         id: i,

@@ -120,7 +120,7 @@ pub fn call(
     datagram: &[u8],
 ) -> (u8, Vec<u8>) {
     let mut room = pattern(600);
-    let outcome = campus.serve(datagram, client, time, &mut room);
+    let outcome = campus.serve(datagram, client, time, &mut room).outcome;
     let number = outcome.number();
     let reply = match outcome {
         Outcome::Reply(octets) => octets.to_vec(),

@@ -92,8 +92,8 @@ pub fn datagram(message_type: u8, transaction: u32, options: &[(u16, &[u8])]) ->
     octets
 }
 
-/// Serves in a room of 600 octets of a pattern, and sees to it that nothing past the reply is touched and that
-/// discard 5 alone has an offset, which is never inside the header.
+/// Serves in a room of 600 octets of a pattern, and sees to it that nothing past the reply is touched, that discard 5
+/// alone has an offset, which is never inside the header, and that discards 1 to 7 have looked nothing up.
 pub fn call(book: &mut Book, client: u32, time: u32, datagram: &[u8]) -> (u8, Vec<u8>) {
     let (outcome, offset, reply) = call_with_offset(book, client, time, datagram);
     let offsets = if outcome == 5 {
@@ -112,14 +112,27 @@ pub fn call_with_offset(
     time: u32,
     datagram: &[u8],
 ) -> (u8, usize, Vec<u8>) {
+    let (outcome, offset, _, reply) = call_with_count(book, client, time, datagram);
+    (outcome, offset, reply)
+}
+
+/// The same with the count too: at most that of two lookups in a full house.
+pub fn call_with_count(
+    book: &mut Book,
+    client: u32,
+    time: u32,
+    datagram: &[u8],
+) -> (u8, usize, usize, Vec<u8>) {
     let pattern: Vec<u8> = (0..600u32)
         .map(|place| (place % 251) as u8 ^ 0xA5)
         .collect();
     let mut room = pattern.clone();
-    let (outcome, offset, length) = serve(book, datagram, client, time, &mut room);
+    let (outcome, offset, count, length) = serve(book, datagram, client, time, &mut room);
     assert_eq!(room[length..], pattern[length..], "octets past the reply");
     assert_eq!(outcome == 0, length > 0);
-    (outcome, offset, room[..length].to_vec())
+    let most = if [0, 8].contains(&outcome) { 32 } else { 0 };
+    assert!(count <= most, "{outcome} #{count}");
+    (outcome, offset, count, room[..length].to_vec())
 }
 
 /// The error of a NAK.

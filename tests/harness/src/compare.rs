@@ -3,12 +3,13 @@
 use crate::bounds;
 use crate::campus::{holding, sound};
 use crate::case::Case;
+use crate::counts;
 use crate::ending;
 use crate::fault;
 use crate::halves;
 use crate::holds;
 use crate::judged;
-use crate::lent::{Held, Lender, Octets, Written};
+use crate::lent::{Held, Lender, Octets, Served};
 use crate::names;
 use crate::occupancy::{self, Board};
 use crate::random::Random;
@@ -39,6 +40,8 @@ pub struct Answer {
     pub outcome: u8,
     /// Where the datagram went wrong, with discard 5; else 0.
     pub offset: usize,
+    /// How many records were read.
+    pub count: usize,
     pub reply: Vec<u8>,
     /// The campus file afterwards; empty if the book can't be written.
     pub file: Vec<u8>,
@@ -55,7 +58,7 @@ struct Halves {
     /// The campus file after the first half; empty if the book can't be written.
     file: Vec<u8>,
     /// What the second half gives in a room that is just large enough, in one that is too short, and in the call's if it is another.
-    written: Vec<(usize, Written)>,
+    written: Vec<(usize, Served)>,
 }
 
 impl Halves {
@@ -69,9 +72,9 @@ impl Halves {
         }
         let written = rooms.into_iter().map(|length| {
             let mut reply = vec![0; length];
-            let (outcome, offset, filled) = second::write(&judged, &verdict, &mut reply);
+            let (outcome, offset, count, filled) = second::write(&judged, &verdict, &mut reply);
             reply.truncate(filled);
-            (length, (outcome, offset, reply))
+            (length, (outcome, offset, count, reply))
         });
         let halves = Halves {
             written: written.collect(),
@@ -113,7 +116,7 @@ fn second(case: &Case) -> Expected {
     let mut end = 0;
     while let (Some(book), Some(call)) = (&mut book, Call::read(&case.calls[end..])) {
         let (room_length, (mut halves, judged)) = (call.room.into(), Halves::new(book, &call));
-        let (outcome, offset, reply) =
+        let (outcome, offset, count, reply) =
             second::server::answer(book, &call.datagram, call.client, call.time, room_length);
         // A book that can't be written is a difference from any file; what the call answered is compared before it.
         let file = file_of(book);
@@ -127,6 +130,7 @@ fn second(case: &Case) -> Expected {
         answers.push(Answer {
             outcome,
             offset,
+            count,
             reply,
             file,
             occupancy: board_octets(book),
@@ -212,8 +216,8 @@ fn choice(case: &Case) -> usize {
 }
 
 /// Counts what the case has shown, and sees that each scope list is the one that is due by what the case was made of, what is remembered
-/// of releases, held of offers, and answered to options 14 and 15, what is due by the file before each call, the offset by the datagram, and
-/// each occupancy board by its file.
+/// of releases, held of offers, and answered to options 14 and 15, and the count, what is due by the file before each call, the offset by the
+/// datagram, and each occupancy board by its file.
 fn count(case: &Case, expected: &Expected, tally: &mut Tally) -> Result<(), Difference> {
     if expected.refusal != 0 {
         tally.code(expected.refusal);
@@ -241,6 +245,7 @@ fn count(case: &Case, expected: &Expected, tally: &mut Tally) -> Result<(), Diff
             bounded(file, before, &call, answer, tally)?;
             held_offers(before, after, &call, answer)?;
             weighed(before, &call, answer, tally)?;
+            read(before, &call, answer, tally)?;
             let why = judged_past.why(before, &call, answer.outcome, &answer.reply);
             why.into_iter().for_each(|why| tally.held(why));
             stood = altered((before, &stood), after, &call, answer, tally)?;
@@ -337,7 +342,7 @@ fn second_on(file: &[u8], call: &Call) -> Result<(u8, Vec<u8>, Vec<u8>), Differe
     caught(|| {
         let mut book = second::file::read(file).expect("the book before the call");
         let room = call.room.into();
-        let (outcome, _, reply) =
+        let (outcome, _, _, reply) =
             second::server::answer(&mut book, &call.datagram, call.client, call.time, room);
         (outcome, reply, file_of(&book))
     })
@@ -396,6 +401,22 @@ fn weighed(
         let why = judged::weighed(before, call, &answer.reply, &without);
         why.into_iter().for_each(|why| tally.held(why));
     }
+    Ok(())
+}
+
+/// How many records were read: what is due by the campus before the call.
+fn read(
+    before: &Campus,
+    call: &Call,
+    answer: &Answer,
+    tally: &mut Tally,
+) -> Result<(), Difference> {
+    let due = counts::Due::new(before, call, answer.outcome);
+    if due.count() != answer.count {
+        let (due, found) = (due.count(), answer.count);
+        return Err(format!("a count of {due} is due, not {found}"));
+    }
+    due.why().into_iter().for_each(|why| tally.read(why));
     Ok(())
 }
 
@@ -519,9 +540,10 @@ fn serve(case: &Case, expected: &Expected, choice: usize) {
     for (number, answer) in expected.answers.iter().enumerate() {
         let what = format!("serve, call {}", number + 1);
         let call = Call::read(&case.calls[answer.place..]).expect("an answered call's record");
-        let (outcome, offset, reply) = LENDER.serve(&mut held, &call, 0);
+        let (outcome, offset, count, reply) = LENDER.serve(&mut held, &call, 0);
         same(&what, outcome, answer.outcome);
         same(&format!("{what}: offset"), offset, answer.offset);
+        same(&format!("{what}: count"), count, answer.count);
         same_octets(&format!("{what}: reply"), &reply, &answer.reply);
         same_octets(&format!("{what}: file"), held.file(), &answer.file);
         let board = LENDER.occupancy(held.file(), OCCUPANCY_ROOM, choice as u8);
@@ -552,6 +574,7 @@ fn replayed<'a>(case: &'a Case, expected: &'a Expected, answers_room: usize) -> 
         }
         answers.push(answer.outcome);
         answers.extend((answer.offset as u16).to_be_bytes());
+        answers.push(answer.count as u8);
         answers.extend((answer.reply.len() as u16).to_be_bytes());
         answers.extend(&answer.reply);
         file = &answer.file;
@@ -579,7 +602,7 @@ fn replay(case: &Case, expected: &Expected, choice: usize, tally: &mut Tally) {
     if count > 0 {
         let up_to = |calls: usize| -> usize {
             let answers = expected.answers[..calls].iter();
-            answers.map(|answer| 5 + answer.reply.len()).sum()
+            answers.map(|answer| 6 + answer.reply.len()).sum()
         };
         rooms.push(up_to(count - 1) + ANSWER_ROOM);
         rooms.push(up_to(choice / 16 % count) + ANSWER_ROOM - 1);
@@ -667,11 +690,11 @@ fn half_by_half(
     let (_, ample) = &due.written[0];
     whole_call(what, before, held.file(), call, answer, ample);
     let campus = Campus::read(file).expect("an accepted file has its layout");
-    let fields = halves::due(&campus, call, outcome, ample.1, &ample.2);
+    let fields = halves::due(&campus, call, ample);
     if let Some(field) = halves::missed(&fields, &verdict) {
         panic!("{what}: {field:?} is due in the verdict {}", hex(&verdict));
     }
-    let why = halves::why(&campus, call, &verdict, &ample.2);
+    let why = halves::why(&campus, call, &verdict, &ample.3);
     why.into_iter().for_each(|why| tally.halved(why));
     verdict
 }
@@ -699,9 +722,10 @@ fn whole_call(
     file: &[u8],
     call: &Call,
     answer: &Answer,
-    halves: &Written,
+    halves: &Served,
 ) {
-    let mut whole = (answer.outcome, answer.offset, answer.reply.clone());
+    let reply = answer.reply.clone();
+    let mut whole = (answer.outcome, answer.offset, answer.count, reply);
     let mut whole_file = &answer.file[..];
     if usize::from(call.room) < SHORTEST_ROOM {
         let mut ample = call.clone();
@@ -726,7 +750,7 @@ fn refused_halves(case: &Case, expected: &Expected, choice: usize, tally: &mut T
     let mut discard = [0; VERDICT_SIZE];
     discard[0] = 3;
     for verdict in [discard, halves::any_octets(&mut random)] {
-        let nothing = |number| (number, 0, vec![]);
+        let nothing = |number| (number, 0, 0, vec![]);
         for (room, number) in [
             (SHORTEST_ROOM, expected.refusal),
             (SHORTEST_ROOM - 1, NO_ROOM),
@@ -753,10 +777,11 @@ fn listed_halves(case: &Case, expected: &Expected, choice: usize, tally: &mut Ta
         call.room = SHORTEST_ROOM as u16;
         list.extend(call.record());
         let (_, verdict) = LENDER.judge(&mut by_one, &call, 0);
-        let (outcome, offset, reply) =
+        let (outcome, offset, count, reply) =
             LENDER.reply(by_one.file(), &verdict, SHORTEST_ROOM, choice as u8);
         answers.push(outcome);
         answers.extend((offset as u16).to_be_bytes());
+        answers.push(count as u8);
         answers.extend((reply.len() as u16).to_be_bytes());
         answers.extend(reply);
     }

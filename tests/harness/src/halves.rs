@@ -2,7 +2,7 @@
 //! that the first half never gave. And what a default run has to meet of them.
 
 use crate::asked::{offsets_of, Asked};
-use crate::lent::Octets;
+use crate::lent::{Octets, Served};
 use crate::random::Random;
 use banshorra_host::VERDICT_SIZE;
 use builder::*;
@@ -16,14 +16,19 @@ const RELEASED: u8 = 3;
 const INFORMED: u8 = 4;
 const REFUSED: u8 = 5;
 
+/// Where a verdict says how many records were read.
+const COUNT: usize = 74;
+
 /// Fields of a verdict: where each begins, and its octets. What isn't among them is of no account.
 pub type Fields = Vec<(usize, Vec<u8>)>;
 
 /// What a verdict has to say by the campus before the call and what the call draws in a room that is large enough.
-pub fn due(campus: &Campus, call: &Call, outcome: u8, offset: usize, reply: &[u8]) -> Fields {
+pub fn due(campus: &Campus, call: &Call, told: &Served) -> Fields {
+    let (outcome, offset, count, reply) = (told.0, told.1, told.2, &told.3);
     let mut fields = vec![
         (0, vec![outcome]),
         (4, (offset as u16).to_be_bytes().into()),
+        (COUNT, vec![count as u8]),
     ];
     match Asked::new(campus, call) {
         Some(asked) if outcome == 0 => {
@@ -118,7 +123,11 @@ pub fn of_second(verdict: &Verdict) -> Fields {
     let ruling = match verdict {
         Verdict::Discard(discard) => {
             let offset = (discard.offset as u16).to_be_bytes();
-            return vec![(0, vec![discard.outcome]), (4, offset.into())];
+            return vec![
+                (0, vec![discard.outcome]),
+                (4, offset.into()),
+                (COUNT, vec![discard.count as u8]),
+            ];
         }
         Verdict::Reply(ruling) => ruling,
     };
@@ -144,6 +153,7 @@ pub fn of_second(verdict: &Verdict) -> Fields {
         (7, ruling.transaction.to_be_bytes().into()),
         (27, vec![ruling.has_features.into()]),
         identified(&ruling.identifier),
+        (COUNT, vec![ruling.count as u8]),
         (1, vec![kind]),
     ];
     fields.extend(rest);
@@ -174,6 +184,9 @@ const LONG_TAG: &str = "ACK to a GETINFO, a language of more than 8 octets";
 const RESENT: &str = "ACK with a lease, sent again";
 const LONGEST: &str = "an identifier of 32 octets";
 const LAST_ADDRESS: &str = "the 64th address";
+const READ: &str = "a reply for which records were read";
+const MOST_READ: &str = "a reply for which 32 records were read";
+const SILENT_READ: &str = "discard 8 for which records were read";
 const OF_REPLIES: [&str; 3] = ["OFFER", "ACK with a lease", "ACK to a RELEASE"];
 const DISCARDS: [u8; 6] = [3, 4, 5, 6, 7, 8];
 
@@ -188,6 +201,9 @@ pub fn counted() -> Vec<String> {
             RESENT,
             LONGEST,
             LAST_ADDRESS,
+            READ,
+            MOST_READ,
+            SILENT_READ,
         ]
         .map(String::from),
     );
@@ -214,8 +230,11 @@ pub fn counted() -> Vec<String> {
 
 /// What is to be counted of a verdict, by the call and the reply to it in a room that is large enough.
 pub fn why(campus: &Campus, call: &Call, verdict: &Octets, reply: &[u8]) -> Vec<String> {
+    let count = verdict[COUNT];
     if verdict[0] != 0 {
-        return vec![format!("discard {}", verdict[0])];
+        let mut why = vec![format!("discard {}", verdict[0])];
+        why.extend((count > 0).then(|| SILENT_READ.to_owned()));
+        return why;
     }
     let list = value_of(reply, 9);
     let longest = verdict[41] == 32;
@@ -238,6 +257,8 @@ pub fn why(campus: &Campus, call: &Call, verdict: &Octets, reply: &[u8]) -> Vec<
         (RESENT, resent && verdict[1] == LEASED),
         (LONGEST, longest),
         (LAST_ADDRESS, given && verdict[19] >= 0x80),
+        (READ, count > 0),
+        (MOST_READ, count == 32),
         (
             LONG_TAG,
             verdict[1] == INFORMED && list.is_some() && tag > 8,
@@ -266,7 +287,7 @@ pub fn drew(made: &str, number: u8) -> String {
 }
 
 /// Where fields begin, and their octets.
-const PLACES: [(usize, usize); 18] = [
+const PLACES: [(usize, usize); 19] = [
     (0, 1),
     (1, 1),
     (2, 1),
@@ -285,6 +306,7 @@ const PLACES: [(usize, usize); 18] = [
     (33, 8),
     (41, 1),
     (42, 32),
+    (COUNT, 1),
 ];
 
 /// Any octets, mostly with an outcome and a reply that there are.

@@ -15,8 +15,8 @@ pub const LEASES: [usize; 4] = [0, 16, 64, 128];
 /// The number at which they are measured with full sections of names and of releases too, and the mixed list.
 const FILLED_LEASES: usize = 64;
 
-/// What stands before a reply in a list of answers: outcome(1), offset(2), reply length(2).
-const ANSWER_HEAD: usize = 5;
+/// What stands before a reply in a list of answers: outcome(1), offset(2), count(1), reply length(2).
+const ANSWER_HEAD: usize = 6;
 
 /// What is done with a file.
 pub enum Work {
@@ -99,7 +99,7 @@ pub fn bench_measured(side: Side, job: &Job, file: &mut [u8], answers: &mut [u8]
 }
 
 fn proved(job: &Job, file: &mut [u8], answers: &mut [u8]) -> usize {
-    let (mut length, mut used, mut filled) = (job.file.len(), 0, 0);
+    let (mut length, mut used, mut filled, mut count) = (job.file.len(), 0, 0, 0);
     let number = match &job.work {
         Work::Check => return usize::from(library::check(&job.file)),
         Work::Replay(calls, _) => {
@@ -117,6 +117,7 @@ fn proved(job: &Job, file: &mut [u8], answers: &mut [u8]) -> usize {
                 reply,
                 &mut filled,
                 &mut used,
+                &mut count,
             )
         }
         Work::Judge(call) => {
@@ -126,16 +127,26 @@ fn proved(job: &Job, file: &mut [u8], answers: &mut [u8]) -> usize {
         }
         Work::Reply(judged) => {
             let (verdict, reply) = (&judged.proved, &mut answers[..SHORTEST_ROOM]);
-            library::reply(&job.file, verdict, reply, &mut filled, &mut used)
+            library::reply(
+                &job.file,
+                verdict,
+                reply,
+                &mut filled,
+                &mut used,
+                &mut count,
+            )
         }
     };
-    usize::from(number) + length + used + filled
+    usize::from(number) + length + used + filled + count
 }
 
 fn plain(job: &Job, file: &mut [u8], answers: &mut [u8]) -> usize {
-    let (length, told) = (job.file.len(), |(outcome, offset, filled): (u8, _, _)| {
-        usize::from(outcome) + offset + filled
-    });
+    let (length, told) = (
+        job.file.len(),
+        |(outcome, offset, count, filled): (u8, _, _, _)| {
+            usize::from(outcome) + offset + count + filled
+        },
+    );
     let read = second::file::read;
     match &job.work {
         Work::Check => read(&job.file).map_or_else(usize::from, |_| 0),
@@ -186,11 +197,12 @@ fn plain_replay(file: &mut [u8], length: usize, calls: &[u8], answers: &mut [u8]
         let (head, room) = answers[filled..].split_at_mut(ANSWER_HEAD);
         let length = room.len().min(call.room.into());
         let room = &mut room[..length];
-        let (outcome, offset, length) =
+        let (outcome, offset, count, length) =
             second::serve(&mut book, &call.datagram, call.client, call.time, room);
         head[0] = outcome;
         head[1..3].copy_from_slice(&(offset as u16).to_be_bytes());
-        head[3..].copy_from_slice(&(length as u16).to_be_bytes());
+        head[3] = count as u8;
+        head[4..].copy_from_slice(&(length as u16).to_be_bytes());
         filled += ANSWER_HEAD + length;
         used += call.length();
     }
@@ -217,7 +229,7 @@ impl Job {
         let mut draws = due.draws.iter().cycle().take(self.count());
         draws.all(|due| {
             let (head, reply) = answers[place..].split_at(ANSWER_HEAD);
-            let length = usize::from(u16::from_be_bytes([head[3], head[4]]));
+            let length = usize::from(u16::from_be_bytes([head[4], head[5]]));
             let drawn = (head[0], if length > 0 { reply[1] } else { 0 });
             place += ANSWER_HEAD + length;
             drawn == *due

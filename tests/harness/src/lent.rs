@@ -5,6 +5,20 @@ use banshorra_host::library::*;
 use banshorra_host::{OCCUPANCY_ROOM, REPLY_ROOM, VERDICT_SIZE};
 use builder::Call;
 
+/// What a call gives, or its second half: number, offset, count and reply.
+pub type Served = (u8, usize, usize, Vec<u8>);
+/// Records that two lookups can compare.
+const MOST_READ: usize = 32;
+
+/// The count that goes with a number.
+fn see_count(number: u8, count: usize) {
+    let most = match number {
+        0 | 8 => MOST_READ,
+        _ => 0,
+    };
+    assert!(count <= most, "{count} records read with {number}");
+}
+
 /// A buffer that is lent: on the heap, and just as long as the library is told, so that valgrind sees any octet outside; or with so many
 /// octets around it, to see those that are written.
 #[derive(Clone, PartialEq)]
@@ -75,8 +89,6 @@ impl Held {
 
 /// A verdict.
 pub type Octets = [u8; VERDICT_SIZE];
-/// Number, offset and reply.
-pub type Written = (u8, usize, Vec<u8>);
 
 /// Lends buffers with so many octets around them.
 #[derive(Clone, Copy)]
@@ -152,11 +164,11 @@ impl Lender {
         (number, board.part()[..filled].to_vec())
     }
 
-    /// One call, in a reply room that is painted with `salt`: its number, offset and reply. A refusal and discard 2 change nothing.
-    pub fn serve(self, held: &mut Held, call: &Call, salt: u8) -> (u8, usize, Vec<u8>) {
+    /// One call, in a reply room that is painted with `salt`: its number, offset, count and reply. A refusal and discard 2 change nothing.
+    pub fn serve(self, held: &mut Held, call: &Call, salt: u8) -> Served {
         let (stood, before) = (held.clone(), self.painted(call.room.into(), salt));
         let (mut datagram, mut reply) = (self.copy(&call.datagram), before.clone());
-        let (mut length, mut offset) = (Box::new(usize::MAX), Box::new(usize::MAX));
+        let [mut length, mut offset, mut count] = [(); 3].map(|()| Box::new(usize::MAX));
         // SAFETY: as above.
         let number = unsafe {
             banshorra_serve(
@@ -171,6 +183,7 @@ impl Lender {
                 call.room.into(),
                 &mut *length,
                 &mut *offset,
+                &mut *count,
             )
         };
         let same = datagram == self.copy(&call.datagram);
@@ -197,8 +210,9 @@ impl Lender {
             "an offset of {offset} in {} octets",
             call.datagram.len()
         );
+        see_count(number, *count);
         held.see(&stood, number == 2 || number > 8);
-        (number, *offset, reply.part()[..*length].to_vec())
+        (number, *offset, *count, reply.part()[..*length].to_vec())
     }
 
     /// The first half of a call: its number, and the verdict in octets that were painted with `salt`. A refusal changes nothing.
@@ -236,10 +250,10 @@ impl Lender {
         (number, octets)
     }
 
-    /// The second half, in a reply room that is painted with `salt`: its number, offset and reply, for a verdict that the first half gave with
-    /// this file.
-    pub fn reply(self, file: &[u8], verdict: &Octets, room: usize, salt: u8) -> Written {
-        let (number, offset, reply) = self.written(file, verdict, (room, salt), |_, length| length);
+    /// The second half, in a reply room that is painted with `salt`, for a verdict that the first half gave with this file.
+    pub fn reply(self, file: &[u8], verdict: &Octets, room: usize, salt: u8) -> Served {
+        let (number, offset, count, reply) =
+            self.written(file, verdict, (room, salt), |_, length| length);
         let length = reply.len();
         assert!(
             number == 0 || length == 0,
@@ -249,11 +263,12 @@ impl Lender {
             number == 5 || offset == 0,
             "an offset of {offset} with {number}"
         );
-        (number, offset, reply)
+        see_count(number, count);
+        (number, offset, count, reply)
     }
 
     /// The same for any octets and any file: the outcome and the first 512 octets may be any.
-    pub fn reply_to_any(self, file: &[u8], verdict: &Octets, room: usize, salt: u8) -> Written {
+    pub fn reply_to_any(self, file: &[u8], verdict: &Octets, room: usize, salt: u8) -> Served {
         let touched = |number, _| match number {
             0..=8 if room >= REPLY_ROOM => REPLY_ROOM,
             _ => 0,
@@ -268,11 +283,11 @@ impl Lender {
         verdict: &Octets,
         (room, salt): (usize, u8),
         touched: impl Fn(u8, usize) -> usize,
-    ) -> Written {
+    ) -> Served {
         let (mut lent, mut told) = (self.copy(file), self.copy(verdict));
         let before = self.painted(room, salt);
         let mut reply = before.clone();
-        let (mut length, mut offset) = (Box::new(usize::MAX), Box::new(usize::MAX));
+        let [mut length, mut offset, mut count] = [(); 3].map(|()| Box::new(usize::MAX));
         // SAFETY: as above.
         let number = unsafe {
             banshorra_reply(
@@ -283,6 +298,7 @@ impl Lender {
                 room,
                 &mut *length,
                 &mut *offset,
+                &mut *count,
             )
         };
         let same = lent == self.copy(file) && told == self.copy(verdict);
@@ -295,7 +311,7 @@ impl Lender {
             reply.differs_in_first(touched(number, *length), &before),
             "reply wrote past its reply or the 512th octet, or with {number}"
         );
-        (number, *offset, reply.part()[..*length].to_vec())
+        (number, *offset, *count, reply.part()[..*length].to_vec())
     }
 
     /// A list of calls: its number, the octets of calls used, the answers. Where none is used nothing changes.

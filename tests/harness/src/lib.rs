@@ -8,6 +8,7 @@ pub mod calls;
 pub mod campus;
 pub mod case;
 pub mod compare;
+pub mod counts;
 pub mod damage;
 pub mod damage_holds;
 pub mod ending;

@@ -1,6 +1,7 @@
 //! How often each outcome, error, refusal and rule occurred.
 
 use crate::bounds;
+use crate::counts;
 use crate::damage::DAMAGES;
 use crate::ending;
 use crate::fault::{Cause, CAUSES};
@@ -92,6 +93,10 @@ fn halved_for(why: String) -> String {
     format!("halves: {why}")
 }
 
+fn read_for(why: String) -> String {
+    format!("count: {why}")
+}
+
 fn fault_name(cause: Cause) -> String {
     format!("discard 5 for: {}", cause.name())
 }
@@ -160,6 +165,11 @@ impl Tally {
         self.add(halved_for(why.into()));
     }
 
+    /// What was seen of the records that were read.
+    pub fn read(&mut self, why: String) {
+        self.add(read_for(why));
+    }
+
     /// The first fault of a datagram that drew discard 5.
     pub fn fault(&mut self, cause: Cause) {
         self.add(fault_name(cause));
@@ -194,6 +204,7 @@ impl Tally {
         names.extend(occupancy::counted().into_iter().map(occupied_for));
         names.extend(ending::counted().into_iter().map(ordered_for));
         names.extend(halves::counted().into_iter().map(halved_for));
+        names.extend(counts::counted().into_iter().map(read_for));
         names.extend((0..DAMAGES.len()).map(damage_name));
         names
     }

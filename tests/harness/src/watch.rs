@@ -4,10 +4,11 @@
 
 use crate::bounds;
 use crate::campus::sound;
+use crate::counts;
 use crate::fault;
 use crate::halves;
 use crate::holds;
-use crate::lent::{Held, Lender, Octets};
+use crate::lent::{Held, Lender, Octets, Served};
 use crate::occupancy::Board;
 use crate::random::Random;
 use crate::releases::Past;
@@ -19,7 +20,7 @@ use std::collections::BTreeMap;
 pub const EXACT: Lender = Lender { around: 0 };
 
 /// What a run of some length has to see.
-const SEEN: [(&str, &str); 15] = [
+const SEEN: [(&str, &str); 16] = [
     ("check", "0, 20, 21"),
     ("board", "lines, refused 20, refused 21, no room"),
     ("occupancy", "0, 20, 21, 23"),
@@ -43,6 +44,7 @@ const SEEN: [(&str, &str); 15] = [
         "holds",
         "held, repeated, turned, dropped, kept, lapsed",
     ),
+    ("counts", "none, one lookup, two lookups"),
     (
         "faults",
         "an option past the end, one to three octets left over, wrong length of a known option, option 12 wrongly filled, a repeat, \
@@ -80,7 +82,7 @@ fn see_alike(before: &Campus, after: &[u8], call: &Call, answer: &(u8, Vec<u8>))
     };
     let file = other.octets();
     let mut held = EXACT.hold(&file, FILE_ROOM, file.len());
-    let (outcome, _, reply) = EXACT.serve(&mut held, &alike, 0x3C);
+    let (outcome, _, _, reply) = EXACT.serve(&mut held, &alike, 0x3C);
     let is_same_file = outcome != 0 || alike.datagram != call.datagram || held.file() == after;
     let same = holds::of_alike(before, call, (outcome, reply)) == *answer && is_same_file;
     assert!(same, "what has to draw the same draws something else");
@@ -176,11 +178,11 @@ impl Watch {
     }
 
     /// A serve, and again with other octets past the file and in the reply room: nothing may differ.
-    pub fn serve(&mut self, held: &mut Held, call: &Call) -> (u8, usize, Vec<u8>) {
+    pub fn serve(&mut self, held: &mut Held, call: &Call) -> Served {
         let (mut other, before) = (held.with_other_octets(), held.file().to_vec());
         let answer = self.serve_once(held, call, 0x3C);
         if answer.0 <= 8 && answer.0 != 2 {
-            let drawn = (answer.0, answer.2.clone());
+            let drawn = (answer.0, answer.3.clone());
             see_alike(&campus(&before), held.file(), call, &drawn);
         }
         let again = self.serve_once(&mut other, call, 0xE7);
@@ -190,11 +192,11 @@ impl Watch {
         answer
     }
 
-    fn serve_once(&mut self, held: &mut Held, call: &Call, salt: u8) -> (u8, usize, Vec<u8>) {
+    fn serve_once(&mut self, held: &mut Held, call: &Call, salt: u8) -> Served {
         let (due, before) = (self.refusal_due(held), held.file().to_vec());
         let plain = bounds::plain(call).filter(|_| due == 0);
         let plain = plain.map(|plain| EXACT.serve(&mut held.clone(), &plain, salt));
-        let (number, offset, reply) = EXACT.serve(held, call, salt);
+        let (number, offset, count, reply) = EXACT.serve(held, call, salt);
         self.count("serve", number);
         let right = match due {
             0 => {
@@ -217,11 +219,12 @@ impl Watch {
             let (before, after) = (campus(&before), campus(held.file()));
             self.see_releases(&before, &after, call, &reply);
             self.see_holds(&before, &after, call, (number, &reply));
+            self.see_count(&before, call, (number, count));
         }
-        if let (Some((outcome, _, plain)), 0 | 8) = (plain, number) {
+        if let (Some((outcome, _, _, plain)), 0 | 8) = (plain, number) {
             self.see_bounds(&campus(&before), call, (number, &reply), (outcome, plain));
         }
-        (number, offset, reply)
+        (number, offset, count, reply)
     }
 
     fn see_reply(&mut self, call: &Call, reply: &[u8]) {
@@ -320,6 +323,13 @@ impl Watch {
         }
     }
 
+    /// How many records were read.
+    fn see_count(&mut self, before: &Campus, call: &Call, (number, count): (u8, usize)) {
+        let due = counts::Due::new(before, call, number);
+        assert_eq!(count, due.count(), "the count, and the one that is due");
+        self.count("counts", due.short());
+    }
+
     /// The answer to a call with option 14 or 15 is that to the same without both, or a refusal that is due.
     fn see_bounds(
         &mut self,
@@ -371,10 +381,9 @@ impl Watch {
         if call.room < ample.room {
             let short = EXACT.reply(judged.file(), verdict, call.room.into(), 0x3C);
             self.count("reply", short.0);
-            assert_eq!(short, (2, 0, vec![]), "reply in a short room");
+            assert_eq!(short, (2, 0, 0, vec![]), "reply in a short room");
         }
-        let (outcome, offset, reply) = served;
-        let due = halves::due(&campus(before.file()), call, outcome, offset, &reply);
+        let due = halves::due(&campus(before.file()), call, &served);
         let missed = halves::missed(&due, verdict);
         assert_eq!(missed, None, "another verdict is due");
     }
@@ -387,12 +396,15 @@ impl Watch {
             0 => None,
             refusal => Some(refusal),
         };
-        let (number, offset, reply) = EXACT.reply_to_any(file, &verdict, room, 0x3C);
+        let (number, offset, count, reply) = EXACT.reply_to_any(file, &verdict, room, 0x3C);
         self.count("reply", number);
         let right = due.map_or(number <= 8, |due| number == due);
         assert!(right, "reply returned {number}, {due:?} is due");
-        let nothing = (offset, reply.len()) == (0, 0);
-        assert!(nothing || due.is_none(), "a reply or offset with {number}");
+        let nothing = (offset, count, reply.len()) == (0, 0, 0);
+        assert!(
+            nothing || due.is_none(),
+            "a reply, offset or count with {number}"
+        );
     }
 
     /// Verdicts that the first half didn't give, or not with this file: some outcome, within 512 octets.
@@ -428,9 +440,10 @@ impl Watch {
                 Some(_) if room - answers.len() < ANSWER_ROOM => due = 27,
                 Some(mut call) => {
                     call.room = call.room.min(REPLY_ROOM as u16);
-                    let (outcome, offset, reply) = self.serve(&mut by_one, &call);
+                    let (outcome, offset, count, reply) = self.serve(&mut by_one, &call);
                     answers.push(outcome);
                     answers.extend((offset as u16).to_be_bytes());
+                    answers.push(count as u8);
                     answers.extend((reply.len() as u16).to_be_bytes());
                     answers.extend(reply);
                     used += call.length();

@@ -12,7 +12,6 @@ use Rattle.state.specs.Book.{busyOf, holdTime, inUse, isHold, laidOut, lapsingA
 use Rattle.state.specs.Edit.{droppingFirst, entering, givingWay}
 use Rattle.state.specs.laws.Layout.{read-back}
 use Rattle.state.specs.declared.Lease.{Lease}
-use Rattle.state.specs.declared.Release.{Release}
 use Rattle.state.specs.declared.Scope.{Scope}
 use Rattle.state.specs.declared.TenantLeases.{TenantLeases}
 use Rattle.state.specs.declared.State.{State}
@@ -30,10 +29,9 @@ use mathlib.Core.Path.{_≡_, refl, sym, ap, ap₂, _∙_}
 use native.Mathlib.Omega.{arith}
 use Rattle.state.specs.declared.Edit.{Edit}
 use Rattle.decision.specs.declared.Decided.{Decided}
-use Rattle.decision.specs.declared.Recorded.{Recorded}
-use Rattle.decision.specs.Parts.{defaultLease, longestLease, skew, isNew, resends, releasedAgain, error1Of, error2Of, scopePlace, knowsScope, lacksScope, lacksCurrent, skewed, error3Of, wishedOr, startOf, lengthOf, endOf, askAt, leaseIdIn, holdsOf, recordedOf, fitsRenewed, renewedBy, leaseFrom, tooShort, tooLate, meets, isLeased, scopeNumber, sameScope, holdMeets, dropsHold, heldFrom, withLease}
-use Rattle.decision.specs.Gather.{recordedIn, newBy, newAtIn, newIn, renewedToIn, renewedIn, proposalIn, broughtIn, pastErrors, decideIn}
-use Rattle.decision.specs.Decide.{unchanged, changed, leasedOf, settledOf, droppedFirst, judgedOf}
+use Rattle.decision.specs.Parts.{defaultLease, longestLease, skew, isNew, scopePlace, knowsScope, lacksScope, lacksCurrent, skewed, error3Of, wishedOr, startOf, lengthOf, endOf, askAt, leaseIdIn, fitsRenewed, renewedBy, leaseFrom, tooShort, tooLate, meets, isLeased, scopeNumber, sameScope, holdMeets, dropsHold, heldFrom, withLease}
+use Rattle.decision.specs.Gather.{newBy, newAtIn, newIn, renewedToIn, renewedIn, proposalIn, broughtIn}
+use Rattle.decision.specs.Decide.{unchanged, changed, leasedOf, settledOf, droppedFirst}
 
 -- ---- the lease, and the verdicts
 -- the type number of each reply: OFFER, ACK and NAK; 0 where none is sent
@@ -197,14 +195,3 @@ pub lease-is : (s : State) (own rest : List Lease) (held : HeldTable) (h : ℕ) 
     → r ≡ droppedFirst (dropsHold m o there) o (settledOf s m o (proposalIn s (broughtIn own m o there) held h m o))
 lease-is s own rest held h m o there drops p d r a b c e f =
     f ∙ ap₂ (λ (x : Bool) (y : Decided). droppedFirst x o y) e (c ∙ ap (settledOf s m o) (b ∙ ap (λ (x : List Lease). proposalIn s x held h m o) a))
-
--- a message that has passed errors 1 to 3
-pub passed-on : (s : State) (p : Proposal) (q : List Release) (m : Fields) (o : Lease) (there : Bool) (r : Decided) {x a e1 e2 e3 : Bool} → x ≡ resends m o → x ≡ false → a ≡ releasedAgain s q m → a ≡ false
-    → e1 ≡ error1Of s m o there → e1 ≡ false → e2 ≡ error2Of s m → e2 ≡ false → e3 ≡ error3Of m o there → e3 ≡ false → r ≡ pastErrors s p m o there → r ≡ judgedOf s p q m o there
-unfolding judgedOf pastErrors
-passed-on s p q m o there r x0 x1 a0 a1 b0 b1 c0 c1 d0 d1 e = pick-no _ _ r x0 x1 (pick-no _ _ r a0 a1 (pick-no _ _ r b0 b1 (pick-no _ _ r c0 c1 (pick-no _ _ r d0 d1 e))))
-
-pub decide-is : (s : State) (own : List Lease) (q : List Release) (held : HeldTable) (h : ℕ) (m : Fields) (o : Recorded) (r : Decided) → o ≡ recordedIn (leaseIdIn m) own
-    → r ≡ judgedOf s (proposalIn s (broughtIn own m (o .lease) (o .found)) held h m (o .lease)) q m (o .lease) (o .found) → r ≡ decideIn s own q held h m
-unfolding decideIn recordedOf holdsOf recordedIn
-decide-is s own q held h m o r p e = e ∙ ap (λ (x : Recorded). judgedOf s (proposalIn s (broughtIn own m (x .lease) (x .found)) held h m (x .lease)) q m (x .lease) (x .found)) p

@@ -4,7 +4,7 @@ use mathlib.Core.Path.{_≡_, refl, sym, ap, ap₂, _∙_, subst}
 use mathlib.Core.Bool.{Bool, true, false, not, _&&_}
 use mathlib.Core.List.{List, [], _∷_, map}
 use native.Mathlib.Omega.{arith}
-use lib.Dec.{eqb}
+use lib.Dec.{eqb, ltb}
 use lib.Bits.{bitAnd, bitOr, or-zero-l}
 use lib.ListN.{length, getD, set, length-map, length-set}
 use lib.Seq.{set-getD}
@@ -17,11 +17,12 @@ use Rattle.address_set.specs.AddressSet.{bit}
 use Rattle.address_set.specs.laws.Bits.{bit-or, bit-and, bit-eq, bit-of-zero}
 use Rattle.message.specs.declared.Fields.{Fields}
 use Rattle.state.specs.declared.Lease.{Lease}
+use Rattle.state.specs.declared.Lookup.{Lookup}
 use Rattle.state.specs.declared.TenantLeases.{TenantLeases}
 use Rattle.state.specs.declared.LeaseTable.{LeaseTable}
 use Rattle.state.specs.declared.Release.{Release}
 use Rattle.state.specs.declared.State.{State}
-use Rattle.state.specs.Book.{inUse, laidOut, tenantAt, leasesOf, named, other, placeOf, leaseAt, zeroLease, removeOf, unionAll, addressesOf, inScope, overlaps, usedIn, heldOf, busyOf, scopeAt, addedIf}
+use Rattle.state.specs.Book.{inUse, laidOut, tenantAt, leasesOf, named, other, placeOf, lookupOf, leaseAt, zeroLease, removeOf, unionAll, addressesOf, inScope, overlaps, usedIn, heldOf, busyOf, scopeAt, addedIf}
 use Rattle.state.specs.laws.Layout.{noLease, length-in-use, lease-in, lease-out}
 use Rattle.state.specs.laws.Sets.{adds, addresses-cons, addresses-reordered, added-is, add-yes, add-no}
 use Rattle.soundness.specs.declared.HeldTable.{HeldTable}
@@ -123,22 +124,26 @@ module _ {s : State} {t : LeaseTable} {h : ℕ} {own : TenantLeases} {held : Hel
       ap (λ (x : ℕ). eqb x 0) (bit-eq (bitAnd (busyOf (l .scope) from to R) (l .addresses)) (bitAnd (othersBusy t h m (l .scope) from to) (l .addresses))
       (λ a. bit-and (busyOf (l .scope) from to R) (l .addresses) a ∙ (let p = own-busy a in omega arith) ∙ sym (bit-and (othersBusy t h m (l .scope) from to) (l .addresses) a)))
 
--- the loop that looks for an identifier
-pub found-is : (i : List ℕ) (own : TenantLeases) (n at : ℕ) → length (own .leases) ≡ 16 → n ≡ min (own .count) 16 → at < n → at ≡ placeOf i (inUse own)
-    → _≡_ {A = Recorded} (record { found = true; lease = getD (own .leases) at noLease }) (recordedIn i (inUse own))
+-- what is looked up
+pub found-is : (i : List ℕ) (own : TenantLeases) (n : ℕ) (x : Lookup) → length (own .leases) ≡ 16 → n ≡ min (own .count) 16 → x .place < n → x ≡ lookupOf i (inUse own)
+    → _≡_ {A = Recorded} (record { found = true; lease = getD (own .leases) (x .place) noLease; compared = x .compared }) (recordedIn i (inUse own))
 unfolding recordedIn
-found-is i own n at g e h p =
+found-is i own n x g e h q =
     let k = length-in-use own n g e in
-    ap₂ {C = Recorded} (λ (b : Bool) (x : Lease). record { found = b; lease = x }) (sym (lt-ltb (placeOf i (inUse own)) (length (inUse own)) (omega arith)))
-    (lease-in own n at g e h ∙ ap (leaseAt (inUse own)) p)
+    let p : x .place ≡ placeOf i (inUse own) = ap (λ (y : Lookup). y .place) q in
+    ap₂ {C = Recorded} (λ (b : Bool) (l : Lease). record { found = b; lease = l; compared = x .compared }) (sym (lt-ltb (placeOf i (inUse own)) (length (inUse own)) (omega arith)))
+    (lease-in own n (x .place) g e h ∙ ap (leaseAt (inUse own)) p)
+    ∙ ap {B = Recorded} (λ (y : Lookup). record { found = ltb (placeOf i (inUse own)) (length (inUse own)); lease = leaseAt (inUse own) (placeOf i (inUse own)); compared = y .compared }) q
 
-pub absent-is : (i : List ℕ) (own : TenantLeases) (n at : ℕ) (z : Lease) → length (own .leases) ≡ 16 → n ≡ min (own .count) 16 → n ≤ at → at ≡ placeOf i (inUse own) → z ≡ zeroLease
-    → _≡_ {A = Recorded} (record { found = false; lease = z }) (recordedIn i (inUse own))
+pub absent-is : (i : List ℕ) (own : TenantLeases) (n : ℕ) (x : Lookup) (z : Lease) → length (own .leases) ≡ 16 → n ≡ min (own .count) 16 → n ≤ x .place → x ≡ lookupOf i (inUse own) → z ≡ zeroLease
+    → _≡_ {A = Recorded} (record { found = false; lease = z; compared = x .compared }) (recordedIn i (inUse own))
 unfolding recordedIn
-absent-is i own n at z g e h p q =
+absent-is i own n x z g e h q r =
     let k = length-in-use own n g e in
-    ap₂ {C = Recorded} (λ (b : Bool) (x : Lease). record { found = b; lease = x }) (sym (le-ltb (placeOf i (inUse own)) (length (inUse own)) (omega arith)))
-    (lease-out own n at z g q e h ∙ ap (leaseAt (inUse own)) p)
+    let p : x .place ≡ placeOf i (inUse own) = ap (λ (y : Lookup). y .place) q in
+    ap₂ {C = Recorded} (λ (b : Bool) (l : Lease). record { found = b; lease = l; compared = x .compared }) (sym (le-ltb (placeOf i (inUse own)) (length (inUse own)) (omega arith)))
+    (lease-out own n (x .place) z g r e h ∙ ap (leaseAt (inUse own)) p)
+    ∙ ap {B = Recorded} (λ (y : Lookup). record { found = ltb (placeOf i (inUse own)) (length (inUse own)); lease = leaseAt (inUse own) (placeOf i (inUse own)); compared = y .compared }) q
 
 -- ---- what a call has of a book
 -- what a message for a hold in the same scope draws does not go by a proposal

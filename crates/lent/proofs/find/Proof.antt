@@ -2,15 +2,14 @@
 -- each callee the proof knows only that it meets its contract, and `found-lent` makes the function's clause of the two.
 use Rattle.lent.proofs.Walk.{stands, _≡_, refl, ℕ, _<_, _^_, [], _∷_, List, length, take, URA, named, w8, w64, Val, vint, SProp, ent, emp, via, fst∗, snd∗, exE, id⊢, Lft, Share, GName, ftrue, flft, Memory, Routine, Heap, Calls, Loops, WpFn, Atoms, sem, Fun, fact, givenOf, tables, tablesOf, Given, ‵, raw, _⊛_, some, later, ⋆, _$_, _∵_, !, qed, by, move, keep, drop, use0, use1, split, join, pick, fsplit, fjoin, suffices, frame, await, done, look, init, forget, stop, fld, from, load, of-opd, and-then, no-more, assigns, land, returns, enter, alloc1, alloc0, params1, pass1, pass0, free1, free0, whole, sub, look-in, FmC, owns, Is, shows, Array, array-vals, array-tells, array-makes, array-lawful, uint-makes, uint-vals, uint-tells, uint-lawful, u8, usize, ArrayOf, RefT, slice-vals, shr-slice-tells, ShrSlice, Room, owned, peeks, heard, nothing, plain, Contract, Triple, calls-at, onEntry, tripleOf, cited, says, Stays, stay-dropped, stay-none-slice, walkOf, AllGo, goes-dropped, goes-none-slice, Walks, ends-at, walked, ensured, lasts, yes}
 use denote.Struct.Laws as LL
-use denote.Enum.Laws as EL
 use Rattle.state.specs.declared.Lease.{Lease}
-use Rattle.records.specs.declared.Found.{Found}
+use Rattle.state.specs.declared.Lookup.{Lookup}
 use Rattle.records.specs.declared.Records.{Records}
 use Rattle.records.specs.Lent.{findWith, findLent}
 use Rattle.records.specs.laws.Lent.{found-lent}
 use Rattle.state.proofs.Lease as R
-use Rattle.records.proofs.Found as Z
-use Rattle.records.proofs.Found.Laws as Z′
+use Rattle.state.proofs.Lookup as Z
+use Rattle.state.proofs.Lookup.Laws as Z′
 use Rattle.records.proofs.Records as N
 use Rattle.records.proofs.Records.Laws as N′
 use Rattle.lent.proofs.Slices.{ref, word, Shr, Load, loads-on}
@@ -34,7 +33,7 @@ module _ {M : Type 1} (𝓤 : URA M) (H : Heap 𝓤) (A : Atoms 𝓤) (mem : Mem
   abbrev Find : Contract 𝓤
   Find = tripleOf 𝓤 H A find′.signature (find′.spec 𝓤 H A mem run)
 
-  of-find : (s : Records) (n h : ℕ) (i : List ℕ) (k : ℕ) (r : Found) → ent 𝓤 (ensured 𝓤 H A find′.ended (find′.clauses 𝓤 H A mem run) tt (s, (n, (h, (i, (k, tt))))) tt r) (fact 𝓤 (r ≡ findWith n h (take k i) (s .leases)))
+  of-find : (s : Records) (n h : ℕ) (i : List ℕ) (k : ℕ) (r : Lookup) → ent 𝓤 (ensured 𝓤 H A find′.ended (find′.clauses 𝓤 H A mem run) tt (s, (n, (h, (i, (k, tt))))) tt r) (fact 𝓤 (r ≡ findWith n h (take k i) (s .leases)))
   of-find s n h i k r = exE 𝓤 _ (λ ws. snd∗ 𝓤 (sem 𝓤 H A (lasts find′.ended tt (s, (n, (h, (i, (k, tt))))) ws)) (fact 𝓤 (r ≡ findWith n h (take k i) (s .leases))))
 
 -- i is the identifier's array at the machine value v, and k how many of its octets count
@@ -56,13 +55,13 @@ module _ {M : Type 1} (𝓤 : URA M) (H : Heap 𝓤) (A : Atoms 𝓤) (W : Given
   Post = walkOf 𝓤 H A f.ended stayed (f.clauses 𝓤 H A mem run) .post (((κ, tt), (q, tt), tt, a, vals), tt)
 
   -- the slice at exit, and the answer r at the machine value w
-  exits : (r : Found) (w : Val) → Is Z.the-row r (w ∷ []) → r ≡ findLent h (take k i) ys → ent 𝓤 (⋆ 𝓤 H A (‵ (Shr κ b o γ (length ys) ys) ∷ ‵ (flft κ q) ∷ [])) (Post w)
+  exits : (r : Lookup) (w : Val) → Is Z.the-row r (w ∷ []) → r ≡ findLent h (take k i) ys → ent 𝓤 (⋆ 𝓤 H A (‵ (Shr κ b o γ (length ys) ys) ∷ ‵ (flft κ q) ∷ [])) (Post w)
   exits r w is e =
       qed W (‵ (Shr κ b o γ (length ys) ys) ∷ ‵ (flft κ q) ∷ []) ∵
       suffices ! _ (ends-at 𝓤 H A f.ended stayed (f.clauses 𝓤 H A mem run) W (((κ, tt), (q, tt), tt, a, vals), tt) w r (tt, (tt, (tt, (tt, tt)))) (tt, (tt, (tt, (tt, tt))))) $ says ! e $
       nothing ! $ move ! (2 ∷ 0 ∷ []) $ join ! $ frame ! $
       nothing ! $ nothing ! $ fjoin ! $ nothing ! $ fjoin ! $ nothing ! $ fjoin ! $ move ! (1 ∷ 0 ∷ []) $ fjoin ! $
-      owned ! Z.the-row (Is Z.the-row) (EL.makes Z.the-type Z′.the-plain 𝓤 H A) r _ is $ move ! (1 ∷ 0 ∷ []) $ done !
+      owned ! Z.the-row (Is Z.the-row) (LL.makes Z.the-type Z′.the-plain 𝓤 H A) r _ is $ move ! (1 ∷ 0 ∷ []) $ done !
 
   -- what the triple by value binds outside, at the records r of the machine value w, and what makes its `pre`
   abbrev to-find : Records → Val → Find 𝓤 H A mem run .Ghost
@@ -91,10 +90,10 @@ module _ {M : Type 1} (𝓤 : URA M) (H : Heap 𝓤) (A : Atoms 𝓤) (W : Given
         use0 W (raw (Find 𝓤 H A mem run .pre (to-find r₁ w₁))) (goes-find r₁ w₁ is₁) $
         calls-at ! fm (Find 𝓤 H A mem run) known-find (to-find r₁ w₁)
         (and-then ! (load ! (from ! (stop !)) (look ! 5 refl)) (and-then ! (load ! (from ! (stop !)) (look ! 3 refl)) (and-then ! (load ! (from ! (stop !)) (look ! 11 refl)) (and-then ! (load ! (from ! (stop !)) (look ! 9 refl)) (and-then ! (load ! (from ! (stop !)) (look ! 7 refl)) (no-more !)))))) (λ w₂.
-        use1 W (later (some (λ (r : Found). (‵ ftrue ⊛ ‵ (Z.the-row .own r (w₂ ∷ []))) ⊛ raw (ensured 𝓤 H A find′.ended (find′.clauses 𝓤 H A mem run) tt (r₁, (length ys, (h, (i, (k, tt))))) tt r)))) (id⊢ 𝓤 _) $ await ! tt $ pick ! (λ r₂.
+        use1 W (later (some (λ (r : Lookup). (‵ ftrue ⊛ ‵ (Z.the-row .own r (w₂ ∷ []))) ⊛ raw (ensured 𝓤 H A find′.ended (find′.clauses 𝓤 H A mem run) tt (r₁, (length ys, (h, (i, (k, tt))))) tt r)))) (id⊢ 𝓤 _) $ await ! tt $ pick ! (λ r₂.
         split ! $ move ! (1 ∷ []) $ use1 W (raw (fact 𝓤 (r₂ ≡ findWith (length ys) h (take k i) (r₁ .leases)))) (of-find 𝓤 H A mem run r₁ (length ys) h i k r₂) $ heard ! (r₂ ≡ findWith (length ys) h (take k i) (r₁ .leases)) (λ e₂. split ! $ drop ! $
         peeks ! Z.the-row (Is Z.the-row) (shows 𝓤 H A Z.the-row) r₂ (w₂ ∷ []) (λ is₂. drop ! $
-        land ! (from ! (stop !)) (init ! 14 refl (EL.lawful Z.the-type Z′.the-laws 𝓤 H A W tt .typed r₂ _ is₂ .0)) $ returns ! (look ! 14 refl) $
+        land ! (from ! (stop !)) (init ! 14 refl (LL.lawful Z.the-type Z′.the-laws 𝓤 H A W .typed r₂ _ is₂ .0)) $ returns ! (look ! 14 refl) $
         forget ! 2 refl $ forget ! 4 refl $ forget ! 6 refl $ forget ! 8 refl $ forget ! 10 refl $ forget ! 12 refl $ forget ! 14 refl $
         move ! (14 ∷ 15 ∷ []) $ free1 ! $ move ! (12 ∷ 13 ∷ []) $ free1 ! $ move ! (10 ∷ 11 ∷ []) $ free1 ! $ move ! (8 ∷ 9 ∷ []) $ free1 ! $ move ! (6 ∷ 7 ∷ []) $ free1 ! $ move ! (4 ∷ 5 ∷ []) $ free1 ! $ move ! (2 ∷ 3 ∷ []) $ free1 ! $ free0 ! $
         by ! (exits r₂ w₂ is₂ (found-lent h (take k i) ys e₁ e₂))))))))))))))

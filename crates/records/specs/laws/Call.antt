@@ -68,14 +68,14 @@ serves-as {x = x} {y} {r} e v = subst (λ (z : LentAnswer). ServesRecords z x y 
 
 -- a discard gives back what it got
 abbrev none : ℕ → Ledger → List Lease → LentAnswer
-none k g ls = record { outcome = k; offset = 0; reply = []; ledger = g; leases = ls }
+none k g ls = record { outcome = k; offset = 0; count = 0; reply = []; ledger = g; leases = ls }
 
 abbrev Discards : ℕ → Ledger → Records → ServedRecords → Type 0
-Discards k g m r = r ≡ record { outcome = record { outcome = k; length = 0; offset = 0 }; clock = g .state .clock; memory = g .memory; records = m }
+Discards k g m r = r ≡ record { outcome = record { outcome = k; length = 0; offset = 0; count = 0 }; clock = g .state .clock; memory = g .memory; records = m }
 
 stays : (k : ℕ) (g : Ledger) (ls : List Lease) {m : Records} {x : List ℕ} {r : ServedRecords} → m .leases ≡ ls → length ls ≡ 128 → Discards k g m r → ServesRecords (none k g ls) x x r
 stays k g ls a q e = record {
-  tells = record { outcome = ap (λ (z : ServedRecords). z .outcome .outcome) e; offset = ap (λ (z : ServedRecords). z .outcome .offset) e; size = ap (λ (z : ServedRecords). z .outcome .length) e; buffer = refl };
+  tells = record { outcome = ap (λ (z : ServedRecords). z .outcome .outcome) e; offset = ap (λ (z : ServedRecords). z .outcome .offset) e; count = ap (λ (z : ServedRecords). z .outcome .count) e; size = ap (λ (z : ServedRecords). z .outcome .length) e; buffer = refl };
   clock = ap (λ (z : ServedRecords). z .clock) e;
   memory = ap (λ (z : ServedRecords). z .memory) e;
   leases = ap (λ (z : ServedRecords). z .records .leases) e ∙ a;
@@ -342,4 +342,4 @@ module _ (n : ℕ) (g : Ledger) (ls : List Lease) (names : List ℕ) (c : Call) 
       let e = p ∙ ap (raised (g .state)) (v .clock) ∙ sym (lent-clock n g ls names (c .client) (c .time) (c .datagram)) in
       let t = tells-as (ap₂ (λ (r : Ruling) (s : State). writeOf r s names (c .room)) (v .ruling) e) w in
       serves-as (sym lent-joined)
-      (record { tells = record { outcome = t .outcome; offset = t .offset; size = t .size; buffer = t .buffer }; clock = v .clock; memory = v .memory; leases = v .leases; long = v .long })
+      (record { tells = record { outcome = t .outcome; offset = t .offset; count = t .count; size = t .size; buffer = t .buffer }; clock = v .clock; memory = v .memory; leases = v .leases; long = v .long })

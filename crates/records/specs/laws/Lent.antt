@@ -13,9 +13,10 @@ use Rattle.reply.specs.Reply.{leastRoom}
 use Rattle.lists.specs.Pick.{pick}
 use Rattle.state.specs.declared.Lease.{Lease}
 use Rattle.state.specs.declared.Ledger.{Ledger}
+use Rattle.state.specs.declared.Lookup.{Lookup}
 use Rattle.state.specs.declared.Memory.{Memory}
 use Rattle.state.specs.declared.State.{State}
-use Rattle.state.specs.Book.{Book, advanced, insertOf, placeOf, raised, removeOf, withClock, zeroLease}
+use Rattle.state.specs.Book.{Book, advanced, insertOf, lookupOf, noLookup, raised, removeOf, withClock, zeroLease}
 use Rattle.decision.specs.Parts.{ownOf}
 use Rattle.message.specs.laws.Placed.{pick-cases}
 use Rattle.releases.specs.Whole.{bookB}
@@ -28,14 +29,12 @@ use Rattle.server.proofs.Halves.{serve-halves}
 use Rattle.server.specs.laws.Told.{tells-as}
 use Rattle.state_file.specs.declared.Loaded.{Loaded}
 use Rattle.state_file.specs.declared.Written.{Written}
-use Rattle.records.specs.declared.Found.{Found}
-use Rattle.records.specs.declared.Found.the-variants.{Absent}
 use Rattle.records.specs.declared.JudgedRecords.{JudgedRecords}
 use Rattle.records.specs.declared.ReadRecords.{ReadRecords}
 use Rattle.records.specs.declared.ServedRecords.{ServedRecords}
 use Rattle.state_file.specs.StateFile.{roomAfter, writtenOf}
 use Rattle.records.specs.Records.{recordsOf, tableFrom, first128, covered}
-use Rattle.records.specs.Lent.{bookFrom, lentAnswer, lentSaid, withOwn, is128, untouched, LentAnswer, LentJudgement, LentReading, lentJudgement, judgeWith, judgeLent, JudgesRecords, JudgesLent, serveWith, serveLent, ServesRecords, ServesLent, readWith, Reads, ReadsLent, writtenWith, writtenLent, roomWith, roomLent, foundAmong, findWith, findLent, insertWith, insertLent, removeWith, removeLent}
+use Rattle.records.specs.Lent.{bookFrom, lentAnswer, lentSaid, withOwn, is128, untouched, LentAnswer, LentJudgement, LentReading, lentJudgement, judgeWith, judgeLent, JudgesRecords, JudgesLent, serveWith, serveLent, ServesRecords, ServesLent, readWith, Reads, ReadsLent, writtenWith, writtenLent, roomWith, roomLent, findWith, findLent, insertWith, insertLent, removeWith, removeLent}
 
 -- ---- slices
 -- 128 records are all taken
@@ -97,9 +96,9 @@ unfolding pick
 told-pick {A} G k ls = told-lent (λ n m. pick (is128 n) (G m) k) (λ n m m' p. ap (λ (t : Bool). pick t (G m) k) p ∙ sym (ap (λ (t : Bool). pick t (G m') k) p)) ls
 
 -- ---- one record
-pub found-lent : (h : ℕ) (i : List ℕ) (ls : List Lease) {all : List Lease} {r : Found} → all ≡ first128 ls → r ≡ findWith (length ls) h i all → r ≡ findLent h i ls
+pub found-lent : (h : ℕ) (i : List ℕ) (ls : List Lease) {all : List Lease} {r : Lookup} → all ≡ first128 ls → r ≡ findWith (length ls) h i all → r ≡ findLent h i ls
 unfolding findWith
-found-lent h i ls = told-pick (λ m. foundAmong (length (ownOf (tableFrom m) h)) (placeOf i (ownOf (tableFrom m) h))) Absent ls
+found-lent h i ls = told-pick (λ m. lookupOf i (ownOf (tableFrom m) h)) noLookup ls
 
 pub inserted-lent : (h : ℕ) (l : Lease) (ls : List Lease) {all x zs : List Lease} → all ≡ first128 ls → x ≡ insertWith (length ls) h l all → length x ≡ 128 → zs ≡ covered ls x → zs ≡ insertLent h l ls
 unfolding insertWith
@@ -174,7 +173,7 @@ module _ (g : Ledger) (ls : List Lease) (names : List ℕ) where
 
   module _ (c : Call) where
     abbrev unserved : List Lease → LentAnswer
-    unserved m = record { outcome = 1; offset = 0; reply = []; ledger = g; leases = m }
+    unserved m = record { outcome = 1; offset = 0; count = 0; reply = []; ledger = g; leases = m }
 
     off : (k : ℕ) (m : List Lease) → is128 k ≡ false → serveWith k g m names c ≡ unserved m
     unfolding serveWith pick

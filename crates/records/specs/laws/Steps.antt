@@ -1,5 +1,5 @@
 -- Laws: what the functions on 128 records by value are proved by: each branch of a definition, from what the calls gave.
-use mathlib.Core.Path.{_≡_, refl, sym, ap, ap₂, _∙_}
+use mathlib.Core.Path.{_≡_, refl, sym, ap, _∙_}
 use mathlib.Core.Bool.{Bool, true, false}
 use mathlib.Core.List.{List, []}
 use Prim.Native.Nat.{ℕ, _≤_, _<_}
@@ -12,22 +12,21 @@ use Rattle.lists.specs.Place.{placeBy}
 use Rattle.state.specs.declared.Lease.{Lease}
 use Rattle.state.specs.declared.LeaseTable.{LeaseTable}
 use Rattle.state.specs.declared.Ledger.{Ledger}
+use Rattle.state.specs.declared.Lookup.{Lookup}
 use Rattle.state.specs.declared.TenantLeases.{TenantLeases}
-use Rattle.state.specs.Book.{inUse, insertOf, insertedIn, laidOut, placeOf, putAt, removeOf, tenantAt, insertedBy}
+use Rattle.state.specs.Book.{comparedOf, inUse, insertOf, insertedIn, laidOut, lookupOf, noLookup, putAt, removeOf, tenantAt, insertedBy}
 use Rattle.lists.specs.laws.Row.{at-out}
 use Rattle.decision.specs.Parts.{ownOf}
 use Rattle.state_file.specs.declared.Loaded.{Loaded}
 use Rattle.state_file.specs.declared.Written.{Written}
 use Rattle.state_file.specs.StateFile.{roomAfter, writtenOf}
-use Rattle.records.specs.declared.Found.{Found}
-use Rattle.records.specs.declared.Found.the-variants.{Absent}
 use Rattle.records.specs.declared.ReadRecords.{ReadRecords}
 use Rattle.records.specs.declared.Records.{Records}
 use Rattle.records.specs.Records.{putRow, recordsOf, tableFrom}
 use Rattle.records.specs.laws.Rows.{put-row-is}
 use Rattle.records.specs.laws.Table.{table-eight}
 use Rattle.server.specs.Serve.{bookOf}
-use Rattle.records.specs.Lent.{bookFrom, findWith, foundAmong, insertWith, LentReading, readWith, Reads, removeWith, roomWith, untouched, is128, withOwn, writtenWith}
+use Rattle.records.specs.Lent.{bookFrom, findWith, insertWith, LentReading, readWith, Reads, removeWith, roomWith, untouched, is128, withOwn, writtenWith}
 
 -- ---- a test on the number of records
 pub is-whole : {n : ℕ} → n ≡ 128 → is128 n ≡ true
@@ -49,23 +48,20 @@ module _ {A : Type 0} {n : ℕ} (x y : A) where
 
 -- ---- one record
 module _ (n h : ℕ) (ls : List Lease) where
-  pub find-in : (i : List ℕ) {own : TenantLeases} {at k : ℕ} {r : Found} → n ≡ 128 → own ≡ tenantAt (tableFrom ls) h → at ≡ placeOf i (inUse own) → k ≡ length (inUse own)
-      → r ≡ foundAmong k at → r ≡ findWith n h i ls
+  pub find-in : (i : List ℕ) {own : TenantLeases} {r : Lookup} → n ≡ 128 → own ≡ tenantAt (tableFrom ls) h → r ≡ lookupOf i (inUse own) → r ≡ findWith n h i ls
   unfolding findWith
-  find-in i e b c d f =
-      f ∙ ap₂ foundAmong d c ∙ ap (λ (x : TenantLeases). foundAmong (length (inUse x)) (placeOf i (inUse x))) b
-      ∙ on-whole (foundAmong (length (ownOf (tableFrom ls) h)) (placeOf i (ownOf (tableFrom ls) h))) Absent e
+  find-in i e b f = f ∙ ap (λ (x : TenantLeases). lookupOf i (inUse x)) b ∙ on-whole (lookupOf i (ownOf (tableFrom ls) h)) noLookup e
 
   -- no tenant has no lease
-  pub find-none : (i : List ℕ) → n ≡ 128 → 8 ≤ h → Absent ≡ findWith n h i ls
-  unfolding findWith foundAmong laidOut placeBy pick
-  find-none i e p =
-      ap (λ (x : TenantLeases). foundAmong (length (inUse x)) (placeOf i (inUse x))) (at-out (tableFrom ls .tenants) 8 h (laidOut []) (laidOut []) (table-eight ls) p refl)
-      ∙ on-whole (foundAmong (length (ownOf (tableFrom ls) h)) (placeOf i (ownOf (tableFrom ls) h))) Absent e
+  pub find-none : (i : List ℕ) {r : Lookup} → n ≡ 128 → 8 ≤ h → r ≡ noLookup → r ≡ findWith n h i ls
+  unfolding findWith comparedOf laidOut placeBy pick
+  find-none i e p f =
+      f ∙ ap (λ (x : TenantLeases). lookupOf i (inUse x)) (at-out (tableFrom ls .tenants) 8 h (laidOut []) (laidOut []) (table-eight ls) p refl)
+      ∙ on-whole (lookupOf i (ownOf (tableFrom ls) h)) noLookup e
 
-  pub find-out : (i : List ℕ) → (n ≡ 128 → ⊥) → Absent ≡ findWith n h i ls
+  pub find-out : (i : List ℕ) {r : Lookup} → (n ≡ 128 → ⊥) → r ≡ noLookup → r ≡ findWith n h i ls
   unfolding findWith
-  find-out i e = off-whole (foundAmong (length (ownOf (tableFrom ls) h)) (placeOf i (ownOf (tableFrom ls) h))) Absent e
+  find-out i e f = f ∙ off-whole (lookupOf i (ownOf (tableFrom ls) h)) noLookup e
 
   -- the tenant's records, put in place
   put-in : (p : List Lease → List Lease) {own x : TenantLeases} {m : List Lease} → length ls ≡ 128 → h < 8

@@ -5,7 +5,7 @@ use Rattle.server.proofs.decided.Statement.{statement}
 use Rattle.server.proofs.decided.Tie as tie
 
 returns : tie.Need-returns
-returns c t k names v f = judges-decided _ _ _ _ _ _ _ _ v (c .before .before .before .decide .ensures) f (c .rule .ensures)
+returns c t k names v f = judges-decided _ _ _ _ _ _ _ _ v (c .before .before .before .before .decide .ensures) f (c .rule .ensures)
 
 pub decided-spec : {M : Type 1} → statement M
 decided-spec =

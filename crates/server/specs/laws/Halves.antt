@@ -25,7 +25,7 @@ use Rattle.decision.specs.declared.Reply.the-variants.{Nothing, Offer, LeaseAck
 use Rattle.decision.specs.declared.Verdict.{Verdict}
 use Rattle.decision.specs.Parts.{discardWith}
 use Rattle.server.specs.declared.Ruling.{Ruling}
-use Rattle.server.specs.Serve.{Answer, Said, answered, atClock, byReply, decidedFor, discardedAt, forServer, replyOf, tenantOf, withReading}
+use Rattle.server.specs.Serve.{Answer, Said, answered, atClock, byReply, countFor, decidedFor, discardedAt, forServer, replyOf, tenantOf, withReading}
 use Rattle.server.specs.Halves.{Judgement, both, discardRuling, infoWith, judgeClock, judgeReading, judgeServer, judgedAt, judgedBy, repliedBy, ruledBy, ruledReply, rulingOn, sendable, shows, silent, writeOf}
 use Rattle.server.specs.laws.Outcomes.{Concluded, Numbered, concluded, read-number}
 
@@ -43,7 +43,7 @@ pick-through f false x y p q = q refl
 -- ---- the second half
 module _ (r : Ruling) (s : State) (names : List ℕ) (room : ℕ) where
   -- test by test
-  pub written-short : room < leastRoom → silent 2 0 ≡ writeOf r s names room
+  pub written-short : room < leastRoom → silent 2 0 0 ≡ writeOf r s names room
   unfolding writeOf
   written-short g = search picks
 
@@ -51,43 +51,43 @@ module _ (r : Ruling) (s : State) (names : List ℕ) (room : ℕ) where
   unfolding writeOf
   written-reply g z = search picks
 
-  pub written-other : leastRoom ≤ room → (r .verdict .outcome ≡ 0 → ⊥) → silent (min (r .verdict .outcome) 8) (r .offset) ≡ writeOf r s names room
+  pub written-other : leastRoom ≤ room → (r .verdict .outcome ≡ 0 → ⊥) → silent (min (r .verdict .outcome) 8) (r .offset) (r .count) ≡ writeOf r s names room
   unfolding writeOf
   written-other g z = search picks
 
-  pub written-discard : leastRoom ≤ room → (r .verdict .outcome ≡ 0 → ⊥) → r .verdict .outcome ≤ 8 → silent (r .verdict .outcome) (r .offset) ≡ writeOf r s names room
-  written-discard g z l = ap {B = Said} (λ (n : ℕ). silent n (r .offset)) (let e : r .verdict .outcome ≡ min (r .verdict .outcome) 8 = omega arith in e) ∙ written-other g z
+  pub written-discard : leastRoom ≤ room → (r .verdict .outcome ≡ 0 → ⊥) → r .verdict .outcome ≤ 8 → silent (r .verdict .outcome) (r .offset) (r .count) ≡ writeOf r s names room
+  written-discard g z l = ap {B = Said} (λ (n : ℕ). silent n (r .offset) (r .count)) (let e : r .verdict .outcome ≡ min (r .verdict .outcome) 8 = omega arith in e) ∙ written-other g z
 
 -- where the names can be shown, the reply is the verdict's
-replied-sendable : (r : Ruling) (s : State) (names : List ℕ) → sendable s names r ≡ true → repliedBy r s names ≡ record { outcome = 0; offset = 0; reply = ruledReply s names r }
+replied-sendable : (r : Ruling) (s : State) (names : List ℕ) → sendable s names r ≡ true → repliedBy r s names ≡ record { outcome = 0; offset = 0; count = r .count; reply = ruledReply s names r }
 unfolding repliedBy pick
-replied-sendable r s names e = ap (λ (t : Bool). pick (shows (r .verdict .reply) && not t) (silent 1 0) sent) e ∙ go (shows (r .verdict .reply))
+replied-sendable r s names e = ap (λ (t : Bool). pick (shows (r .verdict .reply) && not t) (silent 1 0 0) sent) e ∙ go (shows (r .verdict .reply))
   where
     sent : Said
-    sent = record { outcome = 0; offset = 0; reply = ruledReply s names r }
+    sent = record { outcome = 0; offset = 0; count = r .count; reply = ruledReply s names r }
 
-    go : (t : Bool) → pick (t && false) (silent 1 0) sent ≡ sent
+    go : (t : Bool) → pick (t && false) (silent 1 0 0) sent ≡ sent
     go true = refl
     go false = refl
 
 -- a reply that shows no names
-pub replied-plain : (r : Ruling) (s : State) (names : List ℕ) (k : Reply) → r .verdict .reply ≡ k → shows k ≡ false → repliedBy r s names ≡ record { outcome = 0; offset = 0; reply = ruledBy s names r k }
+pub replied-plain : (r : Ruling) (s : State) (names : List ℕ) (k : Reply) → r .verdict .reply ≡ k → shows k ≡ false → repliedBy r s names ≡ record { outcome = 0; offset = 0; count = r .count; reply = ruledBy s names r k }
 unfolding repliedBy ruledReply pick
 replied-plain r s names k e f =
-    ap (λ (k : Reply). pick (shows k && not (sendable s names r)) (silent 1 0) (sent k)) e ∙ ap (λ (t : Bool). pick (t && not (sendable s names r)) (silent 1 0) (sent k)) f
+    ap (λ (k : Reply). pick (shows k && not (sendable s names r)) (silent 1 0 0) (sent k)) e ∙ ap (λ (t : Bool). pick (t && not (sendable s names r)) (silent 1 0 0) (sent k)) f
   where
     sent : Reply → Said
-    sent k = record { outcome = 0; offset = 0; reply = ruledBy s names r k }
+    sent k = record { outcome = 0; offset = 0; count = r .count; reply = ruledBy s names r k }
 
 -- and the one that does
 pub replied-info : (r : Ruling) (s : State) (names : List ℕ) → r .verdict .reply ≡ InfoAck → repliedBy r s names ≡ infoWith r s names
 unfolding repliedBy ruledReply infoWith pick
-replied-info r s names e = ap (λ (k : Reply). pick (shows k && not (sendable s names r)) (silent 1 0) (sent k)) e ∙ go (sendable s names r)
+replied-info r s names e = ap (λ (k : Reply). pick (shows k && not (sendable s names r)) (silent 1 0 0) (sent k)) e ∙ go (sendable s names r)
   where
     sent : Reply → Said
-    sent k = record { outcome = 0; offset = 0; reply = ruledBy s names r k }
+    sent k = record { outcome = 0; offset = 0; count = r .count; reply = ruledBy s names r k }
 
-    go : (t : Bool) → pick (not t) (silent 1 0) (sent InfoAck) ≡ pick t (sent InfoAck) (silent 1 0)
+    go : (t : Bool) → pick (not t) (silent 1 0 0) (sent InfoAck) ≡ pick t (sent InfoAck) (silent 1 0 0)
     go true = refl
     go false = refl
 
@@ -95,13 +95,13 @@ replied-info r s names e = ap (λ (k : Reply). pick (shows k && not (sendable s 
 joined : State → List ℕ → ℕ → Judgement → Answer
 joined s names room j = both j (writeOf (j .ruling) s names room)
 
-ruled-as : (s : State) (names : List ℕ) (h : ℕ) (m : Fields) (v : Verdict) (k : Reply) → byReply s names h m v k ≡ ruledBy s names (rulingOn h m v) k
-ruled-as s names h m v Nothing = refl
-ruled-as s names h m v Offer = refl
-ruled-as s names h m v LeaseAck = refl
-ruled-as s names h m v ReleaseAck = refl
-ruled-as s names h m v InfoAck = refl
-ruled-as s names h m v Nak = refl
+ruled-as : (s : State) (names : List ℕ) (h : ℕ) (m : Fields) (n : ℕ) (v : Verdict) (k : Reply) → byReply s names h m v k ≡ ruledBy s names (rulingOn h m n v) k
+ruled-as s names h m n v Nothing = refl
+ruled-as s names h m n v Offer = refl
+ruled-as s names h m n v LeaseAck = refl
+ruled-as s names h m n v ReleaseAck = refl
+ruled-as s names h m n v InfoAck = refl
+ruled-as s names h m n v Nak = refl
 
 module _ (b : Book) (h : ℕ) (room : ℕ) (enough : leastRoom ≤ room) where
   -- a discard is told as it is
@@ -116,18 +116,18 @@ module _ (b : Book) (h : ℕ) (room : ℕ) (enough : leastRoom ≤ room) where
     decided-told m d c = go (eqb (d .verdict .outcome) 0) refl
       where
         r : Ruling
-        r = rulingOn h m (d .verdict)
+        r = rulingOn h m (countFor b h m) (d .verdict)
 
         told : ℕ → List ℕ → Answer
-        told n reply = record { outcome = n; offset = 0; reply = reply; book = editedBook (d .edit) h b }
+        told n reply = record { outcome = n; offset = 0; count = countFor b h m; reply = reply; book = editedBook (d .edit) h b }
 
         written : Said
-        written = writeOf (rulingOn h m (d .verdict)) (b .state) (b .names) room
+        written = writeOf (rulingOn h m (countFor b h m) (d .verdict)) (b .state) (b .names) room
 
         go : (t : Bool) → eqb (d .verdict .outcome) 0 ≡ t → answered b h m d ≡ both (judgedBy b h m d) written
         go true e =
             let z : d .verdict .outcome ≡ 0 = eqb-true (d .verdict .outcome) 0 e in
-            ap₂ told z (ruled-as (b .state) (b .names) h m (d .verdict) (d .verdict .reply))
+            ap₂ told z (ruled-as (b .state) (b .names) h m (countFor b h m) (d .verdict) (d .verdict .reply))
             ∙ ap (both (judgedBy b h m d)) (sym (replied-sendable r (b .state) (b .names) (and-both named (lt-ltb h (b .state .«tenant_count») known))) ∙ written-reply r (b .state) (b .names) room enough z)
         go false e =
             let z = eqb-false (d .verdict .outcome) 0 e in

@@ -10,7 +10,7 @@ use Rattle.verdict_octets.proofs.identifier_in.Tie as tie
 
 -- src/lib.rt:203:1
 returns : tie.Need-returns
-returns c = let g : length (now (c .before .before .before .args .s)) ≡ 74 = search needs in identifier-is (now (c .before .before .before .args .s)) (omega arith) (c .before .read-run .ensures)
+returns c = let g : length (now (c .before .before .before .args .s)) ≡ 75 = search needs in identifier-is (now (c .before .before .before .args .s)) (omega arith) (c .before .read-run .ensures)
 
 pub identifier-in-spec : {M : Type 1} → statement M
 identifier-in-spec =

@@ -1,10 +1,10 @@
--- Laws: the octets of a verdict, part by part as they are written; a verdict has 74; and read back they are that verdict.
+-- Laws: the octets of a verdict, part by part as they are written; a verdict has 75; and read back they are that verdict.
 use mathlib.Core.Bool.{Bool, false, true}
-use mathlib.Core.List.{List, [], _++_, _∷_, append-nil}
+use mathlib.Core.List.{List, [], _++_, _∷_, append-assoc, append-nil}
 use mathlib.Core.Path.{_∙_, _≡_, ap, ap₂, refl, sym}
 use Prim.Native.Nat.{_%_, _*_, _+_, _-_, _/_, _<_, _≤_, ℕ}
 use native.Mathlib.Omega.{arith}
-use lib.ListN.{drop, getD, length, replicate, take}
+use lib.ListN.{drop, getD, length, length-append, replicate, take}
 use lib.Seq.{drop-append-add, drop-length, getD-at, take-all, take-at}
 use Rattle.lists.specs.Pick.{pick}
 use Rattle.lists.specs.Row.{laidRow}
@@ -18,7 +18,7 @@ use Rattle.decision.specs.declared.Reply.{Reply}
 use Rattle.decision.specs.declared.Reply.the-variants.{InfoAck, LeaseAck, Nak, Nothing, Offer, ReleaseAck}
 use Rattle.decision.specs.declared.Verdict.{Verdict}
 use Rattle.server.specs.declared.Ruling.{Ruling}
-use Rattle.verdict_octets.specs.Octets.{Holds, ReadBack, TypedRuling, askedOctets, flagOf, identifierIn, identifierOctets, isSet, languageIn, languageOctets, numberOctets, outcomeOctets, placeOctets, replyFor, replyNumber, rulingIn, run, setAt, verdictIn, verdictOctets}
+use Rattle.verdict_octets.specs.Octets.{Holds, ReadBack, TypedRuling, askedOctets, flagOf, identifierIn, identifierOctets, isSet, languageIn, languageOctets, lastOctets, numberOctets, outcomeOctets, placeOctets, replyFor, replyNumber, rulingIn, run, setAt, verdictIn, verdictOctets}
 
 -- ---- written
 pub flag-set : (b : Bool) → b ≡ true → 1 ≡ flagOf b
@@ -77,9 +77,14 @@ pub identifier-wrote : {r₀ r₁ r₂ : List ℕ} {at a n : ℕ} (i : Identifie
 unfolding identifierOctets
 identifier-wrote i g h p q = let w = wrote-joined h p (wrote-as (take-all 32 (i .octets) (omega arith)) q) in (w, omega (arith, w .next))
 
-pub verdict-wrote : {r₀ r₁ r₂ r₃ r₄ r₅ r₆ : List ℕ} {a b c d e n : ℕ} (r : Ruling) → length r₀ ≡ 74
+pub last-wrote : {r₀ r₁ r₂ : List ℕ} {at a n : ℕ} (r : Ruling) → at ≤ length r₀ → Wrote r₀ at (identifierOctets (r .id)) r₁ a × (a ≡ at + 33) → Wrote r₁ a (r .count % 256 ∷ []) r₂ n
+    → Wrote r₀ at (lastOctets r) r₂ n × (n ≡ at + 34)
+unfolding lastOctets
+last-wrote r h p q = let w = wrote-joined h (p .0) q in (w, omega (arith, q .next, p .1))
+
+pub verdict-wrote : {r₀ r₁ r₂ r₃ r₄ r₅ r₆ : List ℕ} {a b c d e n : ℕ} (r : Ruling) → length r₀ ≡ 75
     → Wrote r₀ 0 (outcomeOctets (r .verdict)) r₁ a × (a ≡ 0 + 4) → Wrote r₁ a (placeOctets (r .offset) (r .tenant)) r₂ b × (b ≡ a + 3) → Wrote r₂ b (numberOctets (r .xid) (r .verdict)) r₃ c × (c ≡ b + 20)
-    → Wrote r₃ c (askedOctets r) r₄ d × (d ≡ c + 3) → Wrote r₄ d (languageOctets (r .language)) r₅ e × (e ≡ d + 11) → Wrote r₅ e (identifierOctets (r .id)) r₆ n × (n ≡ e + 33) → r₆ ≡ verdictOctets r
+    → Wrote r₃ c (askedOctets r) r₄ d × (d ≡ c + 3) → Wrote r₄ d (languageOctets (r .language)) r₅ e × (e ≡ d + 11) → Wrote r₅ e (lastOctets r) r₆ n × (n ≡ e + 34) → r₆ ≡ verdictOctets r
 unfolding verdictOctets
 verdict-wrote {r₀} r g p q s t u v =
     let h : 0 ≤ length r₀ = omega arith in
@@ -129,19 +134,19 @@ module _ (s : List ℕ) where
   run-full at n h e =
       e ∙ ap (λ (k : ℕ). run s at n ++ replicate k 0) (let l = part-length s at n h in let z : n - length (run s at n) ≡ 0 = omega arith in z) ∙ append-nil (run s at n)
 
-  pub identifier-is : {o : List ℕ} → 74 ≤ length s → o ≡ laidRow 0 32 (run s 42 32) → record { octets = o; len = getD s 41 0 } ≡ identifierIn s
+  pub identifier-is : {o : List ℕ} → 75 ≤ length s → o ≡ laidRow 0 32 (run s 42 32) → record { octets = o; len = getD s 41 0 } ≡ identifierIn s
   identifier-is h e = let p = run-full 42 32 (omega arith) e in λ i. record { octets = p i; len = getD s 41 0 }
 
   pub language-is : {b : Bool} {n : ℕ} {m : ℕ} {o : List ℕ} → o ≡ run s 33 8 → b ≡ isSet (getD s 30 0) → n ≡ at16 s 31 → m ≡ n → record { asked = b; len = m; octets = o } ≡ languageIn s
   language-is p q t u = let v = u ∙ t in λ i. record { asked = q i; len = v i; octets = p i }
 
-  pub ruling-is : {v : Verdict} {d : Identifier} {l : Language} {a o t x : ℕ} {f g h : Bool} → v ≡ verdictIn s → d ≡ identifierIn s → l ≡ languageIn s → a ≡ at16 s 4 → o ≡ a → t ≡ getD s 6 0 → x ≡ at32 s 7
+  pub ruling-is : {v : Verdict} {d : Identifier} {l : Language} {a o n t x : ℕ} {f g h : Bool} → v ≡ verdictIn s → d ≡ identifierIn s → l ≡ languageIn s → a ≡ at16 s 4 → o ≡ a → n ≡ getD s 74 0 → t ≡ getD s 6 0 → x ≡ at32 s 7
       → f ≡ isSet (getD s 27 0) → g ≡ isSet (getD s 28 0) → h ≡ isSet (getD s 29 0)
-      → record { verdict = v; offset = o; tenant = t; xid = x; id = d; features = f; «list_asked» = g; «time_asked» = h; language = l } ≡ rulingIn s
+      → record { verdict = v; offset = o; count = n; tenant = t; xid = x; id = d; features = f; «list_asked» = g; «time_asked» = h; language = l } ≡ rulingIn s
   unfolding rulingIn
-  ruling-is p q u a o t x f g h =
+  ruling-is p q u a o n t x f g h =
       let y = o ∙ a in
-      λ i. record { verdict = p i; offset = y i; tenant = t i; xid = x i; id = q i; features = f i; «list_asked» = g i; «time_asked» = h i; language = u i }
+      λ i. record { verdict = p i; offset = y i; count = n i; tenant = t i; xid = x i; id = q i; features = f i; «list_asked» = g i; «time_asked» = h i; language = u i }
 
 -- ---- read back
 reply-back : (k : Reply) → replyFor (replyNumber k) ≡ k
@@ -171,28 +176,44 @@ low32 v =
 
 module _ (r : Ruling) (t : TypedRuling r) where
   set-back : setAt (verdictOctets r) 19 ≡ r .verdict .addresses
-  unfolding setAt at32 verdictOctets outcomeOctets placeOctets numberOctets askedOctets languageOctets identifierOctets
+  unfolding setAt at32 verdictOctets outcomeOctets placeOctets numberOctets askedOctets languageOctets identifierOctets lastOctets
   set-back =
       let a = r .verdict .addresses in
       let g : a / 4294967296 < 4294967296 = omega (arith, t .addresses) in
       ap₂ (λ (x y : ℕ). x * 4294967296 + y) (read-back32 (a / 4294967296) g) (low32 a) ∙ (let z : a / 4294967296 * 4294967296 + a % 4294967296 ≡ a = omega arith in z)
 
-  tag-back : run (verdictOctets r) 33 8 ≡ r .language .octets
-  unfolding verdictOctets outcomeOctets placeOctets numberOctets askedOctets languageOctets identifierOctets
-  tag-back = take-at (r .language .octets) (r .id .len ∷ r .id .octets) 8 (t .tag)
+  -- from the language's octets on
+  abbrev L : List ℕ
+  L = r .language .octets
+
+  abbrev O : List ℕ
+  O = r .id .octets
+
+  abbrev C : List ℕ
+  C = r .count % 256 ∷ []
+
+  tag-back : run (verdictOctets r) 33 8 ≡ L
+  unfolding verdictOctets outcomeOctets placeOctets numberOctets askedOctets languageOctets identifierOctets lastOctets
+  tag-back = take-at L (r .id .len ∷ O ++ C) 8 (t .tag)
 
   length-back : getD (verdictOctets r) 41 0 ≡ r .id .len
-  unfolding verdictOctets outcomeOctets placeOctets numberOctets askedOctets languageOctets identifierOctets
-  length-back = getD-at (r .language .octets) (r .id .len) (r .id .octets) 0 8 (t .tag)
+  unfolding verdictOctets outcomeOctets placeOctets numberOctets askedOctets languageOctets identifierOctets lastOctets
+  length-back = getD-at L (r .id .len) (O ++ C) 0 8 (t .tag)
 
-  identifier-back : run (verdictOctets r) 42 32 ≡ r .id .octets
-  unfolding verdictOctets outcomeOctets placeOctets numberOctets askedOctets languageOctets identifierOctets
+  identifier-back : run (verdictOctets r) 42 32 ≡ O
+  unfolding verdictOctets outcomeOctets placeOctets numberOctets askedOctets languageOctets identifierOctets lastOctets
   identifier-back =
-      ap (take 32) (ap (λ (k : ℕ). drop (k + 1) (r .language .octets ++ (r .id .len ∷ r .id .octets))) (sym (t .tag)) ∙ drop-append-add (r .language .octets) (r .id .len ∷ r .id .octets) 1)
-      ∙ take-all 32 (r .id .octets) (omega (arith, t .identifier))
+      ap (take 32) (ap (λ (k : ℕ). drop (k + 1) (L ++ (r .id .len ∷ O ++ C))) (sym (t .tag)) ∙ drop-append-add L (r .id .len ∷ O ++ C) 1) ∙ take-at O C 32 (t .identifier)
+
+  count-back : r .count < 256 → getD (verdictOctets r) 74 0 ≡ r .count
+  unfolding verdictOctets outcomeOctets placeOctets numberOctets askedOctets languageOctets identifierOctets lastOctets
+  count-back h =
+      ap (λ (l : List ℕ). getD l 41 0) (sym (append-assoc L (r .id .len ∷ O) C))
+      ∙ getD-at (L ++ (r .id .len ∷ O)) (r .count % 256) [] 0 41 (let n = length-append L (r .id .len ∷ O) in omega (arith, t .tag, t .identifier))
+      ∙ (let z : r .count % 256 ≡ r .count = omega arith in z)
 
   same-back : Holds r → rulingIn (verdictOctets r) ≡ r
-  unfolding rulingIn at16 at32 verdictOctets outcomeOctets placeOctets numberOctets askedOctets languageOctets identifierOctets
+  unfolding rulingIn at16 at32 verdictOctets outcomeOctets placeOctets numberOctets askedOctets languageOctets identifierOctets lastOctets
   same-back h =
       let tenant : r .tenant % 256 ≡ r .tenant = omega (arith, h .tenant) in
       λ i. record {
@@ -206,6 +227,7 @@ module _ (r : Ruling) (t : TypedRuling r) where
           addresses = set-back i;
         };
         offset = read-back16 (r .offset) (h .offset) i;
+        count = count-back (h .count) i;
         tenant = tenant i;
         xid = read-back32 (r .xid) (t .xid) i;
         id = record { octets = identifier-back i; len = length-back i };

@@ -111,7 +111,8 @@ fn one(args: &Args, campus: Option<&mut CampusFile>, heard: &Heard) -> String {
         return text;
     };
     let mut room = vec![0; heard.room];
-    let outcome = campus.serve(&heard.datagram, heard.client, heard.time, &mut room);
+    let answer = campus.serve(&heard.datagram, heard.client, heard.time, &mut room);
+    let outcome = answer.outcome;
     let client = u32::from(heard.client);
     let case = Case {
         settings: &book,
@@ -205,7 +206,9 @@ fn wrong(datagram: &[u8]) -> Option<Discard> {
         holds: vec![],
     };
     let mut campus = CampusFile::from_bytes(&every.to_octets()).expect("a sound campus");
-    match campus.serve(datagram, Ipv4Addr::UNSPECIFIED, 0, &mut [0; REPLY_ROOM]) {
+    let mut room = [0; REPLY_ROOM];
+    let answer = campus.serve(datagram, Ipv4Addr::UNSPECIFIED, 0, &mut room);
+    match answer.outcome {
         Outcome::Discard(discard) if (4..=6).contains(&discard.number()) => Some(discard),
         _ => None,
     }

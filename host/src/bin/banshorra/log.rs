@@ -2,7 +2,7 @@
 
 use banshorra_host::campus::Campus;
 use banshorra_host::message::{self, Message};
-use banshorra_host::{quoted, utc, Case, Outcome};
+use banshorra_host::{quoted, utc, Answer, Case, Outcome};
 use std::fmt::Write as _;
 use std::io::Write as _;
 use std::net::SocketAddrV4;
@@ -27,7 +27,7 @@ pub struct Told<'a> {
     /// As it came, which may be longer than what is kept of it.
     pub length: usize,
     pub datagram: &'a [u8],
-    pub outcome: Outcome<'a>,
+    pub answer: Answer<'a>,
     /// Why a reply was not sent.
     pub unsent: Option<&'a str>,
 }
@@ -50,10 +50,6 @@ impl Log {
         }
     }
 
-    pub fn tells_calls(&self) -> bool {
-        !matches!(self.form, Form::Quiet { .. })
-    }
-
     /// Something that the host does, or that fails it.
     pub fn event(&mut self, time: u32, event: &str, what: &str) {
         let time = utc::in_words(time);
@@ -73,13 +69,16 @@ impl Log {
 
     /// A call; `book` is the book before it, where that is known.
     pub fn call(&mut self, settings: &Campus, book: Option<&Campus>, told: &Told) {
+        if matches!(self.form, Form::Quiet { .. }) {
+            return;
+        }
         let case = Case {
             settings,
             book,
             clock: told.clock,
             client: (*told.from.ip()).into(),
         };
-        let why = case.why(told.datagram, told.outcome);
+        let why = case.why(told.datagram, told.answer.outcome);
         let house = settings.house_of(case.client);
         if self.second.0 != told.time {
             self.second = (told.time, utc::in_words(told.time));
@@ -102,13 +101,14 @@ impl Log {
             Some(xid) => write!(lines, "{} xid 0x{xid:08x}: ", message.in_short()),
             None => write!(lines, "{} octets: ", told.length),
         };
-        let _ = match (told.outcome, told.unsent) {
+        let outcome = told.answer.outcome;
+        let _ = match (outcome, told.unsent) {
             (Outcome::Reply(reply), None) => write!(lines, "{}", Message(reply).reply_in_short()),
             (Outcome::Reply(_), Some(unsent)) => write!(lines, "not answered, {unsent}"),
             (Outcome::Discard(why), _) => write!(lines, "discard {}", why.number()),
         };
-        if told.outcome.number() == 5 {
-            let _ = write!(lines, " at octet {}", told.outcome.offset());
+        if outcome.number() == 5 {
+            let _ = write!(lines, " at octet {}", outcome.offset());
         }
         let _ = match why.filter(|_| told.unsent.is_none()) {
             Some(why) => writeln!(lines, ", {why}"),
@@ -138,12 +138,14 @@ impl Log {
         if let Some(scope) = message.number(4) {
             let _ = write!(lines, ",\"scope\":\"{}\"", std::net::Ipv4Addr::from(scope));
         }
-        let _ = write!(lines, ",\"outcome\":{}", told.outcome.number());
-        if let Some(reply) = told.outcome.reply().map(Message) {
+        let (outcome, compared) = (told.answer.outcome, told.answer.count);
+        let number = outcome.number();
+        let _ = write!(lines, ",\"outcome\":{number},\"compared\":{compared}");
+        if let Some(reply) = outcome.reply().map(Message) {
             reply_json(lines, &reply);
         }
-        if told.outcome.number() == 5 {
-            let _ = write!(lines, ",\"octet\":{}", told.outcome.offset());
+        if number == 5 {
+            let _ = write!(lines, ",\"octet\":{}", outcome.offset());
         }
         if let Some(unsent) = told.unsent {
             let _ = write!(lines, ",\"unsent\":{}", json(unsent));

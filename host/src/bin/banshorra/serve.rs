@@ -7,7 +7,7 @@ use crate::log::{Form, Log, Told};
 use crate::store::{failed, Store};
 use banshorra_host::campus::Campus;
 use banshorra_host::library::{note_signals, noted_signal};
-use banshorra_host::{answers, utc, CampusFile, Outcome, ANSWER_ROOM};
+use banshorra_host::{answers, utc, Answer, CampusFile, Case, Outcome, ANSWER_ROOM};
 use std::io;
 use std::net::{Ipv4Addr, SocketAddrV4, UdpSocket};
 use std::path::Path;
@@ -137,6 +137,19 @@ struct Count {
     unanswered: usize,
     lists: usize,
     writes: usize,
+    /// How often an identifier was looked up, how many records were compared for it, and the most for one call: what a box is sized by.
+    lookups: usize,
+    compared: usize,
+    most_compared: usize,
+}
+
+impl Count {
+    /// What was read for a call.
+    fn read(&mut self, lookups: usize, compared: usize) {
+        self.lookups += lookups;
+        self.compared += compared;
+        self.most_compared = self.most_compared.max(compared);
+    }
 }
 
 struct Host {
@@ -179,12 +192,17 @@ impl Host {
             unanswered,
             lists,
             writes,
+            lookups,
+            compared,
+            most_compared,
         } = self.count;
         let what = format!(
-            "by {signal}; {}: {replies} answered, {discards} discarded, {unanswered} not answered; {}, {}",
+            "by {signal}; {}: {replies} answered, {discards} discarded, {unanswered} not answered; {}, {}; {}, {} compared, at most {most_compared} for a call",
             count(calls, "call"),
             count(lists, "list"),
-            count(writes, "write")
+            count(writes, "write"),
+            count(lookups, "lookup"),
+            count(compared, "record")
         );
         self.log.event(now(), "ended", &what);
     }
@@ -237,11 +255,11 @@ impl Host {
         let before = self.campus.clone();
         let replayed = self.campus.replay(&self.list.calls, &mut self.answers);
         let filled = &self.answers[..replayed.answers_filled];
-        let outcomes: Vec<Outcome> = answers(filled).collect();
+        let told: Vec<Answer> = answers(filled).collect();
         let mut fault = None;
         if let Some(refusal) = replayed.stopped {
             fault = Some(refusal.to_string());
-        } else if outcomes.iter().any(|outcome| outcome.reply().is_some()) {
+        } else if told.iter().any(|told| told.outcome.reply().is_some()) {
             match self.store.keep(self.campus.as_bytes()) {
                 Ok(written) => self.count.writes += usize::from(written),
                 Err(error) => {
@@ -257,7 +275,7 @@ impl Host {
                 "fault",
                 &format!(
                     "{path}: {fault}; {} not answered, the old book goes on",
-                    count(outcomes.len(), "call")
+                    count(told.len(), "call")
                 ),
             );
         }
@@ -271,7 +289,7 @@ impl Host {
                 before: &before,
                 arrived: &self.list.arrived,
                 calls: &self.list.calls,
-                outcomes: &outcomes,
+                told: &told,
                 fault: fault.as_deref(),
             },
         );
@@ -315,16 +333,16 @@ struct Answered<'a> {
     before: &'a CampusFile,
     arrived: &'a [Arrived],
     calls: &'a [u8],
-    outcomes: &'a [Outcome<'a>],
+    told: &'a [Answer<'a>],
     fault: Option<&'a str>,
 }
 
 /// Sends the replies, then tells the calls.
 fn tell(log: &mut Log, count: &mut Count, socket: &UdpSocket, list: &Answered) {
-    let mut failed = vec![None; list.outcomes.len()];
-    for ((arrived, outcome), failed) in list.arrived.iter().zip(list.outcomes).zip(&mut failed) {
+    let mut failed = vec![None; list.told.len()];
+    for ((arrived, told), failed) in list.arrived.iter().zip(list.told).zip(&mut failed) {
         count.calls += 1;
-        match (outcome, list.fault) {
+        match (told.outcome, list.fault) {
             (Outcome::Discard(_), _) => count.discards += 1,
             (Outcome::Reply(_), Some(fault)) => *failed = Some(fault.to_owned()),
             (Outcome::Reply(reply), None) => match socket.send_to(reply, arrived.from) {
@@ -334,27 +352,31 @@ fn tell(log: &mut Log, count: &mut Count, socket: &UdpSocket, list: &Answered) {
         }
         count.unanswered += usize::from(failed.is_some());
     }
-    if !log.tells_calls() {
-        return;
-    }
+    let before = Campus::from_octets(list.before.as_bytes()).ok();
     // The book before a call is known where the list has one call.
-    let book = match list.arrived {
-        [_] => Campus::from_octets(list.before.as_bytes()).ok(),
-        _ => None,
-    };
+    let book = before.as_ref().filter(|_| list.arrived.len() == 1);
     let mut clock = clock_of(list.before);
-    for ((arrived, outcome), failed) in list.arrived.iter().zip(list.outcomes).zip(&failed) {
+    for ((arrived, told), failed) in list.arrived.iter().zip(list.told).zip(&failed) {
         clock = clock.max(arrived.time);
+        let datagram = &list.calls[arrived.start..arrived.end];
+        // Of a later call in a list it is the book before the list that tells what was sent again.
+        let case = Case {
+            settings: list.settings,
+            book: before.as_ref(),
+            clock,
+            client: (*arrived.from.ip()).into(),
+        };
+        count.read(case.lookups(datagram, *told), told.count);
         let told = Told {
             time: arrived.time,
             clock,
             from: arrived.from,
             length: arrived.length,
-            datagram: &list.calls[arrived.start..arrived.end],
-            outcome: *outcome,
+            datagram,
+            answer: *told,
             unsent: failed.as_deref(),
         };
-        log.call(list.settings, book.as_ref(), &told);
+        log.call(list.settings, book, &told);
     }
     log.flush();
 }

@@ -121,9 +121,10 @@ fn run_kept(name: &str) -> ExitCode {
                     hex(&call.datagram)
                 );
                 println!(
-                    "  second: {} @{} {}",
+                    "  second: {} @{} #{} {}",
                     answer.outcome,
                     answer.offset,
+                    answer.count,
                     hex(&answer.reply)
                 );
                 place += call.length();

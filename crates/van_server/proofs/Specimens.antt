@@ -1,0 +1,44 @@
+-- Specimens: settings that are refused and settings that are not, at their bounds; and what is printed for a few inputs.
+use Prim.Native.Nat.{ℕ}
+use mathlib.Core.Path.{_≡_, refl}
+use mathlib.Core.List.{List, [], _∷_, _++_}
+use Rattle.replay_text.specs.Replay.{refusedLine}
+use Rattle.van_server.specs.Van.{openOf, printedOf}
+
+-- server 10.1.1.1, clients 10.0.0.0 to 10.0.0.255, a pool of some size from 239.192.0.0 on
+abbrev settings : ℕ → ℕ → List ℕ
+settings size ttl = 10 ∷ 1 ∷ 1 ∷ 1 ∷ 10 ∷ 0 ∷ 0 ∷ 0 ∷ 10 ∷ 0 ∷ 0 ∷ 255 ∷ 239 ∷ 192 ∷ 0 ∷ 0 ∷ size ∷ ttl ∷ []
+
+opens-4 : openOf (settings 4 15) .refusal ≡ 0
+opens-4 = refl
+
+opens-64 : openOf (settings 64 255) .refusal ≡ 0
+opens-64 = refl
+
+refused-65 : openOf (settings 65 15) .refusal ≡ 21
+refused-65 = refl
+
+refused-0 : openOf (settings 0 15) .refusal ≡ 21
+refused-0 = refl
+
+refused-ttl : openOf (settings 4 0) .refusal ≡ 21
+refused-ttl = refl
+
+-- cut off: nothing at all, and 17 octets
+refused-none : printedOf [] ≡ refusedLine 24
+refused-none = refl
+
+refused-short : printedOf (10 ∷ 1 ∷ 1 ∷ 1 ∷ 10 ∷ 0 ∷ 0 ∷ 0 ∷ 10 ∷ 0 ∷ 0 ∷ 255 ∷ 239 ∷ 192 ∷ 0 ∷ 0 ∷ 4 ∷ []) ≡ refusedLine 24
+refused-short = refl
+
+-- unsound settings are refused whatever follows
+refused-all : printedOf (settings 65 15 ++ 1 ∷ 2 ∷ 3 ∷ []) ≡ refusedLine 21
+refused-all = refl
+
+-- no record, no line
+silent : printedOf (settings 4 15) ≡ []
+silent = refl
+
+-- a stranger's empty datagram is discard 3, the van's own discard 4; then a record whose head is cut off
+two-lines : printedOf (settings 4 15 ++ 0 ∷ 0 ∷ 0 ∷ 9 ∷ 10 ∷ 0 ∷ 1 ∷ 0 ∷ 0 ∷ 0 ∷ 0 ∷ 0 ∷ 0 ∷ 9 ∷ 10 ∷ 0 ∷ 0 ∷ 7 ∷ 0 ∷ 0 ∷ 0 ∷ []) ≡ 51 ∷ 10 ∷ 52 ∷ 10 ∷ refusedLine 24
+two-lines = refl

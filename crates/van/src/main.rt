@@ -3,6 +3,7 @@
 use libc::STDIN_FILENO;
 use libc::STDOUT_FILENO;
 use owned::Owned;
+use van_server::Turn;
 
 // The first n octets of a text, or all of it.
 fn print(text: &[u8], n: usize) {
@@ -19,83 +20,74 @@ fn refuse(number: u8) {
     print(&line, n);
 }
 
-// Reads n octets to the front of a buffer; false where the input is cut off before them.
-fn read_part(buffer: &mut [u8], n: usize) -> bool {
-    if n <= buffer.len() {
-        return io::read_full(STDIN_FILENO, &mut buffer[..n]) == n;
-    }
-    false
-}
-
-// Answers a record whose datagram is the first n octets of a buffer, which has 65,536.
-fn answer(book: Owned, head: [u8; 10], datagram: &[u8], n: usize) -> Owned {
-    let mut line = [0u8; van_server::LINE_ROOM];
-    if n <= datagram.len() {
-        let r = van_server::answer(book, head, &datagram[..n], &mut line);
-        print(&line, r.length);
-        return r.owned;
-    }
-    refuse(24);
-    book
-}
-
-// The book after a record, and whether there may be another.
-struct Turn {
-    go: bool,
-    book: Owned,
-}
-
-fn stop(book: Owned) -> Turn {
-    Turn {
-        go: false,
-        book: book,
-    }
-}
-
-fn take_turn(book: Owned, datagram: &mut [u8]) -> Turn {
-    let mut head = [0u8; 10];
-    let got = io::read_full(STDIN_FILENO, &mut head);
-    if got == 0 {
-        return stop(book);
-    }
-    let n = van_server::datagram_length(head);
-    if got == van_server::HEAD {
-        if read_part(datagram, n) {
-            return Turn {
-                go: true,
-                book: answer(book, head, datagram, n),
-            };
+// Reads a part of a buffer; how many octets there were for it.
+fn read_part(buffer: &mut [u8], from: usize, to: usize) -> usize {
+    if from <= to {
+        if to <= buffer.len() {
+            return io::read_full(STDIN_FILENO, &mut buffer[from..to]);
         }
     }
-    refuse(24);
-    stop(book)
+    0
+}
+
+// Reads a record to the front of a buffer; its length, or less where it is cut off.
+fn read_record(buffer: &mut [u8]) -> usize {
+    let got = read_part(buffer, 0, van_server::HEAD);
+    if got < van_server::HEAD {
+        return got;
+    }
+    let n = van_server::record_size(buffer);
+    if n <= van_server::HEAD {
+        return n;
+    }
+    if read_part(buffer, van_server::HEAD, n) == n - van_server::HEAD {
+        return n;
+    }
+    van_server::HEAD
+}
+
+// One record. It lies within the buffer, which has room for the longest; for one that did not nothing would be told.
+fn take_turn(book: Owned, buffer: &mut [u8]) -> Turn {
+    let mut line = [0u8; van_server::LINE_ROOM];
+    let n = read_record(buffer);
+    if n <= buffer.len() {
+        let t = van_server::turn(book, &buffer[..n], &mut line);
+        print(&line, t.length);
+        return t;
+    }
+    Turn {
+        go: false,
+        length: 0,
+        owned: book,
+    }
 }
 
 // Answers records until the input ends or is cut off. A proved loop has to end: its turns are counted down from a number that no run uses up.
 fn run(start: Owned) {
     let mut book = start;
-    let mut datagram = [0u8; 65536];
+    let mut buffer = [0u8; van_server::RECORD_ROOM];
     let mut turns = u64::MAX;
     while turns > 0 {
         turns -= 1;
-        let t = take_turn(book, &mut datagram);
+        let t = take_turn(book, &mut buffer);
         if !t.go {
             return;
         }
-        book = t.book;
+        book = t.owned;
     }
 }
 
 fn main() {
     let mut settings = [0u8; van_server::SETTINGS];
-    if read_part(&mut settings, van_server::SETTINGS) {
-        let r = van_server::open(&settings);
-        if r.refusal == 0 {
-            run(r.owned);
-            return;
-        }
-        refuse(r.refusal);
+    let n = read_part(&mut settings, 0, van_server::SETTINGS);
+    if n < van_server::SETTINGS {
+        refuse(24);
         return;
     }
-    refuse(24);
+    let r = van_server::open(&settings);
+    if r.refusal == 0 {
+        run(r.owned);
+        return;
+    }
+    refuse(r.refusal);
 }

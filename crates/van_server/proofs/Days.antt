@@ -1,77 +1,61 @@
--- Proof of `PrintsByRecord`, where the number of records that a day may have, its octets', is no limit; and of `PrintsCut` and `PrintsSettings`.
+-- Proof of `PrintsByRecord`, where the number of records that a day may have is no limit; and of `PrintsCut` and `PrintsSettings`.
 use Prim.Native.Nat.{ℕ, zero, suc, _≤_}
 use mathlib.Core.Path.{_≡_, refl, sym, ap, ap₂, _∙_}
-use mathlib.Core.Bool.{true, false, true≢false}
-use mathlib.Core.List.{List, [], _∷_, _++_}
+use mathlib.Core.List.{List, [], _++_}
 use native.Mathlib.Omega.{arith}
-use lib.Dec.{eqb}
+use lib.Dec.{eqb, ltb}
 use lib.ListN.{drop, length, length-drop}
 use lib.Seq.{drop-at, take-all, take-at}
-use borrow.Author.Tests.{eq-eqb, ne-eqb}
+use borrow.Author.Tests.{eq-eqb}
 use Rattle.lists.specs.Pick.{pick}
-use Rattle.lists.specs.laws.Pick.{pick-false, pick-lt, pick-true}
+use Rattle.lists.specs.laws.Pick.{pick-true}
+use Rattle.message.specs.laws.Placed.{pick-cases}
+use Rattle.state.specs.declared.Lease.{Lease}
+use Rattle.state.specs.declared.Ledger.{Ledger}
 use Rattle.records.specs.Lent.{LentReading}
-use Rattle.lent_guarantee.specs.Statement.{Lent, runLent, served}
 use Rattle.replay_text.specs.Replay.{refusedLine}
-use Rattle.van_server.specs.Statement.{ByRecord, PrintsByRecord, PrintsCut, PrintsSettings}
-use Rattle.van_server.specs.Van.{callIn, cutOff, dayOf, dayTo, headSize, lineOf, openOf, printedOf, recordSize, settingsSize, vanLent}
+use Rattle.van_server.specs.Statement.{PrintsByRecord, PrintsCut, PrintsSettings}
+use Rattle.van_server.specs.Van.{VanTurn, dayOf, dayTo, headSize, openOf, printedOf, recordSize, settingsSize, stops, turnOf}
 use Rattle.van_server.proofs.Opened.{cut}
 
--- the rest after one record, in at most k
-abbrev goesOn : ℕ → Lent → List ℕ → List ℕ
-goesOn k l i = lineOf (served l (callIn i)) ++ dayTo k (runLent l (callIn i ∷ [])) (drop (recordSize i) i)
+-- a record takes a head at least
+some : (i : List ℕ) → headSize ≤ recordSize i
+unfolding recordSize
+some i = pick-cases (λ (n : ℕ). headSize ≤ n) (ltb (length i) headSize) _ _ (λ _. omega arith) (λ _. omega arith)
 
-none-left : (k : ℕ) (l : Lent) (i : List ℕ) → length i ≡ 0 → dayTo k l i ≡ []
-unfolding dayTo
-none-left zero l i e = refl
-none-left (suc k) l i e = sym (pick-true _ _ _ _ (eq-eqb (length i) 0 e) refl)
+-- nothing is left: nothing is printed, and there is no further record
+ended : (g : Ledger) (ls : List Lease) (i : List ℕ) → length i ≡ 0 → stops [] g ls ≡ turnOf g ls i
+unfolding turnOf
+ended g ls i e = pick-true _ _ _ _ (eq-eqb (length i) 0 e) refl
+
+none-left : (k : ℕ) (g : Ledger) (ls : List Lease) (i : List ℕ) → length i ≡ 0 → dayTo k g ls i ≡ []
+unfolding dayTo pick
+none-left zero g ls i e = refl
+none-left (suc k) g ls i e = sym (ap (λ (t : VanTurn). t .line ++ pick (t .go) (dayTo k (t .ledger) (t .leases) (drop (recordSize i) i)) []) (ended g ls i e))
 
 -- from as many as there are octets on, any number gives the same
-same-day : (k n : ℕ) (l : Lent) (i : List ℕ) → length i ≤ k → length i ≤ n → dayTo k l i ≡ dayTo n l i
+same-day : (k n : ℕ) (g : Ledger) (ls : List Lease) (i : List ℕ) → length i ≤ k → length i ≤ n → dayTo k g ls i ≡ dayTo n g ls i
 unfolding dayTo
-same-day zero n l i p q = sym (none-left n l i (omega arith))
-same-day (suc k) zero l i p q = none-left (suc k) l i (omega arith)
-same-day (suc k) (suc n) l i p q =
+same-day zero n g ls i p q = sym (none-left n g ls i (omega arith))
+same-day (suc k) zero g ls i p q = none-left (suc k) g ls i (omega arith)
+same-day (suc k) (suc n) g ls i p q =
     let e = length-drop (recordSize i) i in
-    ap (λ (x : List ℕ). pick (eqb (length i) 0) [] (pick (cutOff i) (refusedLine 24) (lineOf (served l (callIn i)) ++ x)))
-    (same-day k n (runLent l (callIn i ∷ [])) (drop (recordSize i) i) (omega arith) (omega arith))
-
--- a whole record has a head, so that there is something
-cut-empty : (i : List ℕ) → length i ≡ 0 → true ≡ cutOff i
-unfolding cutOff
-cut-empty i e = pick-lt _ _ _ (length i) headSize (omega arith) refl
-
-module _ (l : Lent) (i : List ℕ) where
-  -- one record more than there are octets
-  one-more : dayOf l i ≡ pick (eqb (length i) 0) [] (pick (cutOff i) (refusedLine 24) (goesOn (length i) l i))
-  unfolding dayOf dayTo
-  one-more = same-day (length i) (suc (length i)) l i (omega arith) (omega arith)
-
-  rest : goesOn (length i) l i ≡ lineOf (served l (callIn i)) ++ dayOf (runLent l (callIn i ∷ [])) (drop (recordSize i) i)
-  unfolding dayOf
-  rest =
-      let e = length-drop (recordSize i) i in
-      ap (λ (x : List ℕ). lineOf (served l (callIn i)) ++ x)
-      (same-day (length i) (length (drop (recordSize i) i)) (runLent l (callIn i ∷ [])) (drop (recordSize i) i) (omega arith) (omega arith))
-
-  there : cutOff i ≡ false → length i ≡ 0 → ⊥
-  there f e = true≢false (cut-empty i e ∙ f)
-
-  by-record : ByRecord l i
-  by-record = record {
-    whole = λ f. one-more ∙ sym (pick-false _ _ _ _ (ne-eqb (length i) 0 (there f)) (pick-false _ _ _ _ f refl)) ∙ rest;
-    cut = λ t n. one-more ∙ sym (pick-false _ _ _ _ (ne-eqb (length i) 0 n) (pick-true _ _ _ _ t refl));
-    end = λ e. one-more ∙ sym (pick-true _ _ _ _ (eq-eqb (length i) 0 e) refl);
-  }
+    let h = some i in
+    ap (λ (x : List ℕ). turnOf g ls i .line ++ pick (turnOf g ls i .go) x [])
+    (same-day k n (turnOf g ls i .ledger) (turnOf g ls i .leases) (drop (recordSize i) i) (omega arith) (omega arith))
 
 pub prints-by-record : PrintsByRecord
-unfolding PrintsByRecord
-prints-by-record l i = by-record l i
+unfolding PrintsByRecord dayOf dayTo
+prints-by-record g ls i =
+    let e = length-drop (recordSize i) i in
+    let h = some i in
+    ap (λ (x : List ℕ). turnOf g ls i .line ++ pick (turnOf g ls i .go) x [])
+    (same-day (length i) (suc (length (drop (recordSize i) i))) (turnOf g ls i .ledger) (turnOf g ls i .leases) (drop (recordSize i) i) (omega arith) (omega arith))
 
 -- ---- the settings
 -- what is printed once they are read
 abbrev byReading : List ℕ → LentReading → List ℕ
-byReading i r = pick (eqb (r .refusal) 0) (dayOf (vanLent (r .ledger) (r .leases)) i) (refusedLine (r .refusal))
+byReading i r = pick (eqb (r .refusal) 0) (dayOf (r .ledger) (r .leases) i) (refusedLine (r .refusal))
 
 pub prints-cut : PrintsCut
 unfolding PrintsCut printedOf pick

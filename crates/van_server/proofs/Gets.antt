@@ -13,22 +13,19 @@ use Rattle.server.specs.Serve.{Call}
 use Rattle.guarantee.specs.Statement.{Granted, NewRequest, SoundBook, askFor, grantFor, placeFor, saysOf, scopeFor, stateAt, tableAt, tenantFor}
 use Rattle.guarantee.proofs.Granted.{S, place-known}
 use Rattle.guarantee.proofs.Held.{SetAs, now-set, run-later}
-use Rattle.lent_guarantee.specs.Statement.{Lent, LentDemand3, SoundLent, answerOf, bookOf, served}
+use Rattle.lent_guarantee.specs.Statement.{LentDemand3, SoundLent, answerOf, bookOf, served}
 use Rattle.lent_guarantee.proofs.Guaranteed.{lent-demand3, run-lent}
 use Rattle.lent_guarantee.proofs.Same.{sound-book}
-use Rattle.van_server.specs.Statement.{GetsAll, VanGets, openFor, vanAfter}
-use Rattle.van_server.specs.Van.{noRecords, openOf, vanLedger, vanLent, vanScope, vanState}
+use Rattle.van_server.specs.Statement.{GetsAll, VanGets, openFor, vanAfter, vanStart}
+use Rattle.van_server.specs.Van.{openOf, vanScope, vanState}
 use Rattle.van_server.proofs.Opened.{opened-sound}
 
 -- ---- the van's book, for settings that are not refused
 module _ (o : List ℕ) (opened : openOf o .refusal ≡ 0) where
-  abbrev start : Lent
-  start = vanLent (vanLedger o) noRecords
-
-  pub starts-sound : SoundLent (vanLent (vanLedger o) noRecords)
+  starts-sound : SoundLent (vanStart o)
   starts-sound = record { whole = length-replicate 128 zeroLease; eight = length-replicate 8 (laidReleases []); sound = opened-sound o opened }
 
-  starts-set : SetAs (vanState o) (bookOf start .state)
+  starts-set : SetAs (vanState o) (bookOf (vanStart o) .state)
   unfolding vanState
   starts-set = refl
 
@@ -38,7 +35,7 @@ module _ (o : List ℕ) (opened : openOf o .refusal ≡ 0) where
     b = bookOf (vanAfter o cs)
 
     still-sound : SoundLent (vanAfter o cs)
-    still-sound = run-lent start cs starts-sound .0
+    still-sound = run-lent (vanStart o) cs starts-sound .0
 
     v : SoundBook b
     v = sound-book (vanAfter o cs .ledger) (vanAfter o cs .leases) (vanAfter o cs .names) c (still-sound .whole) (still-sound .eight) (still-sound .sound)
@@ -47,7 +44,7 @@ module _ (o : List ℕ) (opened : openOf o .refusal ≡ 0) where
     then : SetAs (vanState o) (stateAt b c)
     then =
         now-set (vanState o) b c
-        (subst (λ (x : Book). SetAs (vanState o) (x .state)) (sym (run-lent start cs starts-sound .1)) (run-later (vanState o) (bookOf start) cs starts-set .0))
+        (subst (λ (x : Book). SetAs (vanState o) (x .state)) (sym (run-lent (vanStart o) cs starts-sound .1)) (run-later (vanState o) (bookOf (vanStart o)) cs starts-set .0))
 
     alone : tenantsIn (stateAt b c) ≡ 1
     unfolding vanState
@@ -81,7 +78,7 @@ module _ (o : List ℕ) (opened : openOf o .refusal ≡ 0) where
 
       granted : Granted b c (answerOf (vanAfter o cs .names) (served (vanAfter o cs) c))
       unfolding LentDemand3
-      granted = lent-demand3 start starts-sound cs .next c r
+      granted = lent-demand3 (vanStart o) starts-sound cs .next c r
 
       pub gets : GetsAll b c (answerOf (vanAfter o cs .names) (served (vanAfter o cs) c))
       gets = record {

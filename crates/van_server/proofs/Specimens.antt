@@ -42,3 +42,7 @@ silent = refl
 -- a stranger's empty datagram is discard 3, the van's own discard 4; then a record whose head is cut off
 two-lines : printedOf (settings 4 15 ++ 0 ∷ 0 ∷ 0 ∷ 9 ∷ 10 ∷ 0 ∷ 1 ∷ 0 ∷ 0 ∷ 0 ∷ 0 ∷ 0 ∷ 0 ∷ 9 ∷ 10 ∷ 0 ∷ 0 ∷ 7 ∷ 0 ∷ 0 ∷ 0 ∷ []) ≡ 51 ∷ 10 ∷ 52 ∷ 10 ∷ refusedLine 24
 two-lines = refl
+
+-- a datagram of which an octet is missing is not answered
+one-short : printedOf (settings 4 15 ++ 0 ∷ 0 ∷ 0 ∷ 9 ∷ 10 ∷ 0 ∷ 1 ∷ 0 ∷ 0 ∷ 0 ∷ 0 ∷ 0 ∷ 0 ∷ 9 ∷ 10 ∷ 0 ∷ 0 ∷ 7 ∷ 0 ∷ 2 ∷ 1 ∷ []) ≡ 51 ∷ 10 ∷ refusedLine 24
+one-short = refl

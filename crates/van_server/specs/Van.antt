@@ -1,8 +1,8 @@
 -- Definitions: the van's own server (document 02, W-211): its settings, the book that it starts from, the calls in its input, and what it prints. A house is a
 -- tenant here, its share a reserve.
-use Prim.Native.Nat.{ℕ, zero, suc, _+_}
+use Prim.Native.Nat.{ℕ, zero, suc, _+_, _-_}
 use mathlib.Core.Path.{_≡_}
-use mathlib.Core.Bool.{Bool, true}
+use mathlib.Core.Bool.{Bool, true, false}
 use mathlib.Core.List.{List, [], _∷_, _++_}
 use lib.Dec.{eqb, ltb}
 use lib.ListN.{drop, getD, length, replicate, take}
@@ -19,10 +19,9 @@ use Rattle.releases.specs.Whole.{bookB}
 use Rattle.server.specs.Serve.{Call}
 use Rattle.state_file.specs.Records.{zeroRange}
 use Rattle.state_file.specs.StateFile.{zeroLedger, zeroMemory}
-use Rattle.records.specs.Lent.{LentAnswer, LentReading, bookFrom, untouched}
-use Rattle.lent_guarantee.specs.Statement.{Lent, runLent, served}
+use Rattle.records.specs.Lent.{LentAnswer, LentReading, bookFrom, serveLent, untouched}
 use Rattle.replay_text.specs.Replay.{outcomeLine, refusedLine}
-use Rattle.van_server.specs.declared.Step.{Step}
+use Rattle.van_server.specs.declared.Turn.{Turn}
 
 -- ---- the settings: "server address, lowest and highest client address, lowest pool address, 4 octets each; size, TTL, 1 each"
 abbrev pub settingsSize : ℕ
@@ -64,10 +63,6 @@ noRecords = replicate 128 zeroLease
 abbrev pub vanNames : List ℕ
 vanNames = 1 ∷ 0 ∷ 0 ∷ []
 
--- a ledger and records, with the van's names
-abbrev pub vanLent : Ledger → List Lease → Lent
-vanLent g ls = record { ledger = g; leases = ls; names = vanNames }
-
 -- "`refused 21` for unsound settings; `refused 24` at cut-off settings", of which there is no book
 unfoldable pub openOf : List ℕ → LentReading
 openOf o =
@@ -78,48 +73,60 @@ openOf o =
 abbrev pub headSize : ℕ
 headSize = 10
 
--- of a record's head and its datagram. The room for the reply is no part of the input: it is enough
-abbrev pub callWith : List ℕ → List ℕ → Call
-callWith head d = record { datagram = d; client = at32 head 4; time = at32 head 0; room = leastRoom }
+-- how many octets the first record of some takes: a head and, once that is there, the datagram that it tells of
+unfoldable pub recordSize : List ℕ → ℕ
+recordSize i = pick (ltb (length i) headSize) headSize (headSize + at16 i 8)
 
--- the head of the first record of some octets, how many octets that record takes, and its call
-abbrev pub headIn : List ℕ → List ℕ
-headIn i = take headSize i
-
-abbrev pub recordSize : List ℕ → ℕ
-recordSize i = headSize + at16 (headIn i) 8
+-- the call of a record of n octets. The room for the reply is no part of the input: it is enough
+abbrev pub callTo : ℕ → List ℕ → Call
+callTo n i = record { datagram = take (n - headSize) (drop headSize i); client = at32 i 4; time = at32 i 0; room = leastRoom }
 
 abbrev pub callIn : List ℕ → Call
-callIn i = callWith (headIn i) (take (at16 (headIn i) 8) (drop headSize i))
-
--- "a cut-off record": in its head, or in its datagram
-unfoldable pub cutOff : List ℕ → Bool
-cutOff i = pick (ltb (length i) headSize) true (ltb (length i) (recordSize i))
+callIn i = callTo (recordSize i) i
 
 -- ---- what it prints: "a line for each: the outcome number and, for a reply, a blank and its octets in lower-case hex"
 abbrev pub lineOf : LentAnswer → List ℕ
 lineOf a = outcomeLine (a .outcome) (a .reply)
 
--- of a book and the octets that are still to come, at most k records: each call on the book as the one before left it; "`refused 24` at .. a cut-off record", "ending
--- the run"
-unfoldable pub dayTo : ℕ → Lent → List ℕ → List ℕ
-dayTo zero l i = []
-dayTo (suc k) l i =
-    pick (eqb (length i) 0) []
-    (pick (cutOff i) (refusedLine 24) (lineOf (served l (callIn i)) ++ dayTo k (runLent l (callIn i ∷ [])) (drop (recordSize i) i)))
+-- of one record: whether there may be another, what is printed, and the book afterwards
+pub record VanTurn : Type 0 where
+  pub go : Bool
+  pub line : List ℕ
+  pub ledger : Ledger
+  pub leases : List Lease
 
--- all records, of which each takes an octet at least
-unfoldable pub dayOf : Lent → List ℕ → List ℕ
-dayOf l i = dayTo (length i) l i
+abbrev pub goes : LentAnswer → VanTurn
+goes a = record { go = true; line = lineOf a; ledger = a .ledger; leases = a .leases }
 
--- of the whole input
+abbrev pub stops : List ℕ → Ledger → List Lease → VanTurn
+stops xs g ls = record { go = false; line = xs; ledger = g; leases = ls }
+
+-- on the octets that are still to come: none is the end; "`refused 24` at .. a cut-off record", in its head or in its datagram; else the call
+unfoldable pub turnOf : Ledger → List Lease → List ℕ → VanTurn
+turnOf g ls i =
+    pick (eqb (length i) 0) (stops [] g ls)
+    (pick (ltb (length i) (recordSize i)) (stops (refusedLine 24) g ls) (goes (serveLent g ls vanNames (callIn i))))
+
+-- of all records, at most k: each on the book as the one before left it
+unfoldable pub dayTo : ℕ → Ledger → List Lease → List ℕ → List ℕ
+dayTo zero g ls i = []
+dayTo (suc k) g ls i =
+    let t : VanTurn = turnOf g ls i in
+    t .line ++ pick (t .go) (dayTo k (t .ledger) (t .leases) (drop (recordSize i) i)) []
+
+-- each takes an octet at least, so that there are no more than octets
+unfoldable pub dayOf : Ledger → List Lease → List ℕ → List ℕ
+dayOf g ls i = dayTo (suc (length i)) g ls i
+
+-- of the whole input: the settings, and the records after them
 unfoldable pub printedOf : List ℕ → List ℕ
 printedOf i =
     let r : LentReading = openOf (take settingsSize i) in
-    pick (eqb (r .refusal) 0) (dayOf (vanLent (r .ledger) (r .leases)) (drop settingsSize i)) (refusedLine (r .refusal))
+    pick (eqb (r .refusal) 0) (dayOf (r .ledger) (r .leases) (drop settingsSize i)) (refusedLine (r .refusal))
 
 -- ---- what the function on one record promises: the line at the front of a buffer, the ledger and every lease record
-pub record Steps (a : LentAnswer) (before after : List ℕ) (r : Step) : Type 0 where
-  pub line : Wrote before 0 (lineOf a) after (r .length)
-  pub ledger : r .owned .ledger ≡ a .ledger
-  pub leases : r .owned .records .leases ≡ a .leases
+pub record Turns (t : VanTurn) (before after : List ℕ) (r : Turn) : Type 0 where
+  pub go : r .go ≡ t .go
+  pub line : Wrote before 0 (t .line) after (r .length)
+  pub ledger : r .owned .ledger ≡ t .ledger
+  pub leases : r .owned .records .leases ≡ t .leases

@@ -4,29 +4,33 @@ ghost use mathlib.Core.Bool.{_&&_};
 ghost use mathlib.Core.Path.{_≡_};
 ghost use Prim.Native.Nat.{_≤_};
 ghost use lib.ListN.{length, replicate};
-ghost use Rattle.octets.specs.Octets.{at16};
 ghost use Rattle.releases.specs.Whole.{bookB};
 ghost use Rattle.state.specs.Book.{zeroLease};
 ghost use Rattle.state_file.specs.StateFile.{zeroLedger};
 ghost use Rattle.records.specs.Lent.{bookFrom, is128, serveLent};
 ghost use Rattle.owned.specs.Owned.{ReadsOwned, ServesOwned};
-ghost use Rattle.van_server.specs.Van.{callWith, openOf, settingsSize, Steps, vanLedger, vanNames, vanScope};
+ghost use Rattle.van_server.specs.Van.{callTo, goes, headSize, openOf, recordSize, settingsSize, turnOf, Turns, vanLedger, vanNames, vanScope};
 use owned::Owned;
 use owned::OwnedCall;
 use owned::OwnedFile;
 use state::ClientRange;
 use state::Scope;
 
-// How many octets the settings have, and the head of a record: time, client address and the datagram's length.
+// How many octets the settings have.
 pub const SETTINGS: usize = 18;
 
+// The head of a record: time, client address and the datagram's length.
 pub const HEAD: usize = 10;
+
+// Room for the longest record.
+pub const RECORD_ROOM: usize = 65545;
 
 // Room for the line of any call: the outcome, a blank, two digits for each octet of a reply, and the end of the line.
 pub const LINE_ROOM: usize = 2 * reply::LEAST_ROOM + 8;
 
-// What is written of a record's answer, and the book afterwards.
-pub struct Step {
+// Whether there may be another record, how much was written for this one, and the book afterwards.
+pub struct Turn {
+    pub go: bool,
     pub length: usize,
     pub owned: Owned,
 }
@@ -112,25 +116,53 @@ pub fn serve(o: Owned, datagram: &[u8], client: u32, time: u32, reply: &mut [u8]
     owned::serve(o, &names, datagram, client, time, reply)
 }
 
-// How many octets the datagram after a head has.
-pub fn datagram_length(head: [u8; 10]) -> usize
-    ensures { λ r. ⌜ r ≡ at16 head 8 ⌝ }
+// How many octets the first record of some takes: a head and, once that is there, the datagram that it tells of.
+pub fn record_size(input: &[u8]) -> usize
+    ensures { λ r. ⌜ r ≡ recordSize (now (input .entry)) ⌝ }
 {
-    octets::read_u16(&head, 8) as usize
+    if input.len() < HEAD {
+        return HEAD;
+    }
+    HEAD + (octets::read_u16(input, 8) as usize)
 }
 
-// One record of the input, its head and its datagram: the line of its answer.
-pub fn answer(o: Owned, head: [u8; 10], datagram: &[u8], line: &mut [u8; LINE_ROOM]) -> Step
-    ensures { λ r. ⌜ Steps (serveLent (o .ledger) (o .records .leases) vanNames (callWith head (now (datagram .entry)))) (now (line .entry)) (now (line .exit)) r ⌝ }
+// The line of a whole record's call, and the book afterwards.
+fn answer(o: Owned, input: &[u8], n: usize, line: &mut [u8; LINE_ROOM]) -> Turn
+    requires { ⌜ (headSize ≤ n) × (n ≤ length (now input)) ⌝ }
+    ensures { λ r. ⌜ Turns (goes (serveLent (o .ledger) (o .records .leases) vanNames (callTo n (now (input .entry))))) (now (line .entry)) (now (line .exit)) r ⌝ }
 {
-    let time = octets::read_u32(&head, 0);
-    let client = octets::read_u32(&head, 4);
+    let time = octets::read_u32(input, 0);
+    let client = octets::read_u32(input, 4);
     let mut room = [0u8; reply::LEAST_ROOM];
-    let r = serve(o, datagram, client, time, &mut room);
+    let r = serve(o, &input[HEAD..n], client, time, &mut room);
     let told = r.outcome;
-    let n = replay_text::write_outcome_line(line, told.outcome, &room, told.length);
-    Step {
-        length: n,
+    let length = replay_text::write_outcome_line(line, told.outcome, &room, told.length);
+    Turn {
+        go: true,
+        length: length,
         owned: r.owned,
     }
+}
+
+// What the octets draw that were read for a record: its line; `refused 24` for a record that is cut off, and nothing where the input has ended, either of which is the last.
+pub fn turn(o: Owned, input: &[u8], line: &mut [u8; LINE_ROOM]) -> Turn
+    ensures { λ r. ⌜ Turns (turnOf (o .ledger) (o .records .leases) (now (input .entry))) (now (line .entry)) (now (line .exit)) r ⌝ }
+{
+    if input.len() == 0 {
+        return Turn {
+            go: false,
+            length: 0,
+            owned: o,
+        };
+    }
+    let n = record_size(input);
+    if input.len() < n {
+        let length = replay_text::write_refused_line(line, 24);
+        return Turn {
+            go: false,
+            length: length,
+            owned: o,
+        };
+    }
+    answer(o, input, n, line)
 }

@@ -3,18 +3,19 @@
 ghost use mathlib.Core.Bool.{_&&_};
 ghost use mathlib.Core.Path.{_≡_};
 ghost use Prim.Native.Nat.{_≤_};
-ghost use lib.ListN.{length, replicate};
+ghost use lib.ListN.{length};
 ghost use Rattle.releases.specs.Whole.{bookB};
-ghost use Rattle.state.specs.Book.{zeroLease};
-ghost use Rattle.state_file.specs.StateFile.{zeroLedger};
+ghost use Rattle.state_file.specs.StateFile.{zeroLedger, zeroState};
 ghost use Rattle.records.specs.Lent.{bookFrom, is128, serveLent};
 ghost use Rattle.owned.specs.Owned.{ReadsOwned, ServesOwned};
-ghost use Rattle.van_server.specs.Van.{callTo, goes, headSize, openOf, recordSize, settingsSize, turnOf, Turns, vanLedger, vanNames, vanScope};
+ghost use Rattle.van_server.specs.Van.{callTo, goes, headSize, noRecords, openOf, recordSize, settingsSize, turnOf, Turns, vanLedger, vanNames, vanScope, vanState};
 use owned::Owned;
 use owned::OwnedCall;
 use owned::OwnedFile;
 use state::ClientRange;
+use state::Ledger;
 use state::Scope;
+use state::State;
 
 // How many octets the settings have.
 pub const SETTINGS: usize = 18;
@@ -52,23 +53,41 @@ fn scope_of(settings: &[u8]) -> Scope
     }
 }
 
-// The settings in a book that is all zero: no lease, and clock 0.
-fn book_of(blank: Owned, settings: &[u8]) -> Owned
-    requires { ⌜ (settingsSize ≤ length (now settings)) × (blank .ledger ≡ zeroLedger) × (blank .records .leases ≡ replicate 128 zeroLease) ⌝ }
-    ensures { λ r. ⌜ (r .ledger ≡ vanLedger (now (settings .entry))) × (r .records .leases ≡ replicate 128 zeroLease) ⌝ }
+// The settings over a state that is all zero: one house and one scope, at clock 0.
+fn state_of(zero: State, settings: &[u8]) -> State
+    requires { ⌜ (settingsSize ≤ length (now settings)) × (zero ≡ zeroState) ⌝ }
+    ensures { λ r. ⌜ r ≡ vanState (now (settings .entry)) ⌝ }
 {
+    let low = octets::read_u32(settings, 4);
+    let high = octets::read_u32(settings, 8);
     let range = ClientRange {
-        low: octets::read_u32(settings, 4),
-        high: octets::read_u32(settings, 8),
+        low: low,
+        high: high,
     };
     let scope = scope_of(settings);
-    let mut o = blank;
-    o.ledger.state.server = octets::read_u32(settings, 0);
-    o.ledger.state.tenant_count = 1;
-    o.ledger.state.tenants[0] = range;
-    o.ledger.state.scope_count = 1;
-    o.ledger.state.scopes[0] = scope;
-    o
+    let mut s = zero;
+    s.server = octets::read_u32(settings, 0);
+    s.tenant_count = 1;
+    s.tenants[0] = range;
+    s.scope_count = 1;
+    s.scopes[0] = scope;
+    s
+}
+
+// And over a book that is all zero, which has no lease.
+fn book_of(blank: Owned, settings: &[u8]) -> Owned
+    requires { ⌜ (settingsSize ≤ length (now settings)) × (blank .ledger ≡ zeroLedger) × (blank .records .leases ≡ noRecords) ⌝ }
+    ensures { λ r. ⌜ (r .ledger ≡ vanLedger (now (settings .entry))) × (r .records .leases ≡ noRecords) ⌝ }
+{
+    let ledger = blank.ledger;
+    let state = state_of(ledger.state, settings);
+    Owned {
+        ledger: Ledger {
+            state: state,
+            memory: ledger.memory,
+        },
+        records: blank.records,
+    }
 }
 
 // Whether the server takes a book as sound: a call without room for a reply is discard 1 or 2, in that order, and changes nothing.

@@ -51,7 +51,7 @@ fn take_turn(book: Owned, buffer: &mut [u8]) -> Turn {
     let mut line = [0u8; van_server::LINE_ROOM];
     let n = read_record(buffer);
     if n <= buffer.len() {
-        let t = van_server::turn(book, &buffer[..n], &mut line);
+        let t = van_server::turn_of(book, &buffer[..n], &mut line);
         print(&line, t.length);
         return t;
     }

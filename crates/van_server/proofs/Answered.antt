@@ -1,15 +1,16 @@
--- Laws: what `turn` and `answer` are proved by: a reply fits the room and the line, the line is the call's, and which of the three turns it is.
-use Prim.Native.Nat.{ℕ, _≤_, _<_}
-use mathlib.Core.Path.{_≡_, refl, sym, ap₂, _∙_, subst}
+-- Laws: what the functions on one record are proved by: a reply fits the room and the line, the line is the call's, how long a record is, and which of the three turns it has.
+use Prim.Native.Nat.{ℕ, _+_, _-_, _*_, _≤_, _<_}
+use mathlib.Core.Path.{_≡_, refl, sym, ap, ap₂, _∙_, subst}
 use mathlib.Core.Bool.{Bool, true, false}
 use mathlib.Core.List.{List, []}
 use native.Mathlib.Omega.{arith}
-use lib.Dec.{eqb}
+use lib.Dec.{eqb, ltb}
 use lib.ListN.{drop, length, take}
 use lib.Seq.{take-at}
 use borrow.Author.Tests.{eqb-false, eqb-true, eq-eqb, le-ltb, lt-ltb, ne-eqb}
-use Rattle.lists.specs.laws.Pick.{pick-false, pick-true}
-use Rattle.octets.specs.Octets.{Wrote, put}
+use Rattle.lists.specs.laws.Pick.{pick-false, pick-lt, pick-not-lt, pick-true}
+use Rattle.octets.specs.Octets.{Wrote, at16, at32, put}
+use Rattle.message.specs.laws.Placed.{pick-cases}
 use Rattle.reply.specs.Reply.{leastRoom}
 use Rattle.state.specs.declared.Lease.{Lease}
 use Rattle.state.specs.declared.Ledger.{Ledger}
@@ -22,7 +23,7 @@ use Rattle.lent_guarantee.specs.Statement.{Lent, served}
 use Rattle.lent_guarantee.proofs.Guaranteed.{call-lent}
 use Rattle.replay_text.specs.Replay.{outcomeLine, refusedLine}
 use Rattle.van_server.specs.declared.Turn.{Turn}
-use Rattle.van_server.specs.Van.{Turns, VanTurn, callIn, goes, recordSize, turnOf, vanNames}
+use Rattle.van_server.specs.Van.{Turns, VanTurn, callIn, callTo, goes, headSize, recordSize, stops, turnOf, vanNames}
 
 -- no reply is longer than the least room (demand 1), and a discard has none
 reply-fits : (l : Lent) (c : Call) → length (served l c .reply) ≤ leastRoom
@@ -33,45 +34,89 @@ reply-fits l c = go (eqb (served l c .outcome) 0) refl
     go false e = subst (λ (x : List ℕ). length x ≤ leastRoom) (sym (call-lent l c .silent (eqb-false _ _ e))) (omega arith)
 
 module _ (g : Ledger) (ls : List Lease) (c : Call) {before after : List ℕ} {r : OwnedCall} (v : ServesOwned (serveLent g ls vanNames c) before after r) where
-  pub told-fits : r .outcome .length ≤ leastRoom
+  told-fits : r .outcome .length ≤ leastRoom
   told-fits = let e = v .tells .size in let p = reply-fits (record { ledger = g; leases = ls; names = vanNames }) c in omega arith
+
+  pub told-room : {m : ℕ} → leastRoom ≤ m → r .outcome .length ≤ m
+  told-room h = let p = told-fits in omega arith
+
+  pub told-line : {m : ℕ} → 2 * leastRoom + 8 ≤ m → 2 * r .outcome .length + 8 ≤ m
+  told-line h = let p = told-fits in omega arith
 
   told-reply : take (r .outcome .length) after ≡ serveLent g ls vanNames c .reply
   told-reply = ap₂ take (v .tells .size) (v .tells .buffer) ∙ take-at (serveLent g ls vanNames c .reply) (drop (length (serveLent g ls vanNames c .reply)) before) _ refl
 
-  pub answers : {line line′ : List ℕ} {n : ℕ} → Wrote line 0 (outcomeLine (r .outcome .outcome) (take (r .outcome .length) after)) line′ n
+  told : {line line′ : List ℕ} {n : ℕ} → Wrote line 0 (outcomeLine (r .outcome .outcome) (take (r .outcome .length) after)) line′ n
       → Turns (goes (serveLent g ls vanNames c)) line line′ (record { go = true; length = n; owned = r .owned })
-  answers {line} {line′} {n} w = record {
+  told {line} {line′} {n} w = record {
     go = refl;
     line = subst (λ (xs : List ℕ). Wrote line 0 xs line′ n) (ap₂ outcomeLine (v .tells .outcome) told-reply) w;
     ledger = v .ledger;
     leases = v .leases;
   }
 
+-- the numbers that were read and the part that was lent are the call of a record of n octets
+call-is : (i : List ℕ) (n : ℕ) {time client room : ℕ} → time ≡ at32 i 0 → client ≡ at32 i 4 → room ≡ leastRoom
+    → record { datagram = take (n - headSize) (drop headSize i); client = client; time = time; room = room } ≡ callTo n i
+call-is i n p q e = λ j. record { datagram = take (n - headSize) (drop headSize i); client = q j; time = p j; room = e j }
+
+module _ (g : Ledger) (ls : List Lease) (i : List ℕ) (n : ℕ) where
+  pub answers : {time client m : ℕ} {before after line line′ : List ℕ} {r : OwnedCall} → time ≡ at32 i 0 → client ≡ at32 i 4 → length before ≡ leastRoom
+      → ServesOwned (serveLent g ls vanNames (record { datagram = take (n - headSize) (drop headSize i); client = client; time = time; room = length before })) before after r
+      → Wrote line 0 (outcomeLine (r .outcome .outcome) (take (r .outcome .length) after)) line′ m
+      → Turns (goes (serveLent g ls vanNames (callTo n i))) line line′ (record { go = true; length = m; owned = r .owned })
+  answers {m = m} {line = line} {line′ = line′} {r = r} p q e v w =
+      subst (λ (c : Call). Turns (goes (serveLent g ls vanNames c)) line line′ (record { go = true; length = m; owned = r .owned })) (call-is i n p q e) (told g ls _ v w)
+
+-- ---- how long a record is
+module _ (i : List ℕ) where
+  pub size-cut : length i < headSize → headSize ≡ recordSize i
+  unfolding recordSize
+  size-cut h = pick-lt _ _ _ (length i) headSize h refl
+
+  pub size-told : {n : ℕ} → headSize ≤ length i → n ≡ at16 i 8 → headSize + n ≡ recordSize i
+  unfolding recordSize
+  size-told h e = pick-not-lt _ _ _ (length i) headSize h (ap (λ (k : ℕ). headSize + k) e)
+
+  -- a head at least
+  pub some : headSize ≤ recordSize i
+  unfolding recordSize
+  some = pick-cases (λ (n : ℕ). headSize ≤ n) (ltb (length i) headSize) _ _ (λ _. omega arith) (λ _. omega arith)
+
+  pub head-in : {n : ℕ} → n ≡ recordSize i → headSize ≤ n
+  head-in e = let h = some in omega arith
+
 -- ---- which turn it is
-module _ (o : Owned) (i : List ℕ) {line : List ℕ} where
-  abbrev T : VanTurn
-  T = turnOf (o .ledger) (o .records .leases) i
+-- nothing is written
+nothing : (line : List ℕ) → Wrote line 0 [] line 0
+unfolding put
+nothing line = record { next = refl; buffer = refl }
 
-  -- nothing is written
-  nothing : Wrote line 0 [] line 0
-  unfolding put
-  nothing = record { next = refl; buffer = refl }
-
-  pub turns-end : length i ≡ 0 → Turns T line line (record { go = false; length = 0; owned = o })
+module _ (g : Ledger) (ls : List Lease) (i : List ℕ) where
+  pub is-end : length i ≡ 0 → stops [] g ls ≡ turnOf g ls i
   unfolding turnOf
-  turns-end e =
-      subst (λ (t : VanTurn). Turns t line line (record { go = false; length = 0; owned = o })) (pick-true _ _ _ _ (eq-eqb (length i) 0 e) refl)
-      (record { go = refl; line = nothing; ledger = refl; leases = refl })
+  is-end e = pick-true _ _ _ _ (eq-eqb (length i) 0 e) refl
 
-  pub turns-cut : {line′ : List ℕ} {n : ℕ} → (length i ≡ 0 → ⊥) → length i < recordSize i → Wrote line 0 (refusedLine 24) line′ n → Turns T line line′ (record { go = false; length = n; owned = o })
+  is-cut : (length i ≡ 0 → ⊥) → length i < recordSize i → stops (refusedLine 24) g ls ≡ turnOf g ls i
   unfolding turnOf
-  turns-cut {line′} {n} e h w =
-      subst (λ (t : VanTurn). Turns t line line′ (record { go = false; length = n; owned = o }))
-      (pick-false _ _ _ _ (ne-eqb (length i) 0 e) (pick-true _ _ _ _ (lt-ltb (length i) (recordSize i) h) refl))
-      (record { go = refl; line = w; ledger = refl; leases = refl })
+  is-cut e h = pick-false _ _ _ _ (ne-eqb (length i) 0 e) (pick-true _ _ _ _ (lt-ltb (length i) (recordSize i) h) refl)
 
-  pub turns-whole : {line′ : List ℕ} {r : Turn} → (length i ≡ 0 → ⊥) → recordSize i ≤ length i → Turns (goes (serveLent (o .ledger) (o .records .leases) vanNames (callIn i))) line line′ r → Turns T line line′ r
+  is-whole : (length i ≡ 0 → ⊥) → recordSize i ≤ length i → goes (serveLent g ls vanNames (callIn i)) ≡ turnOf g ls i
   unfolding turnOf
-  turns-whole {line′} {r} e h w =
-      subst (λ (t : VanTurn). Turns t line line′ r) (pick-false _ _ _ _ (ne-eqb (length i) 0 e) (pick-false _ _ _ _ (le-ltb (length i) (recordSize i) h) refl)) w
+  is-whole e h = pick-false _ _ _ _ (ne-eqb (length i) 0 e) (pick-false _ _ _ _ (le-ltb (length i) (recordSize i) h) refl)
+
+  pub turns-end : {line : List ℕ} {x : Owned} → length i ≡ 0 → x .ledger ≡ g → x .records .leases ≡ ls → Turns (turnOf g ls i) line line (record { go = false; length = 0; owned = x })
+  turns-end {line} {x} e p q =
+      subst (λ (t : VanTurn). Turns t line line (record { go = false; length = 0; owned = x })) (is-end e) (record { go = refl; line = nothing line; ledger = p; leases = q })
+
+  pub turns-cut : {line line′ : List ℕ} {x : Owned} {n m : ℕ} → (length i ≡ 0 → ⊥) → n ≡ recordSize i → length i < n → Wrote line 0 (refusedLine 24) line′ m → x .ledger ≡ g → x .records .leases ≡ ls
+      → Turns (turnOf g ls i) line line′ (record { go = false; length = m; owned = x })
+  turns-cut {line} {line′} {x} {m = m} ne e h w p q =
+      subst (λ (t : VanTurn). Turns t line line′ (record { go = false; length = m; owned = x })) (is-cut ne (subst (λ (k : ℕ). length i < k) e h))
+      (record { go = refl; line = w; ledger = p; leases = q })
+
+  pub turns-whole : {line line′ : List ℕ} {r : Turn} {n : ℕ} → (length i ≡ 0 → ⊥) → n ≡ recordSize i → n ≤ length i → Turns (goes (serveLent g ls vanNames (callTo n i))) line line′ r
+      → Turns (turnOf g ls i) line line′ r
+  turns-whole {line} {line′} {r} ne e h w =
+      subst (λ (t : VanTurn). Turns t line line′ r)
+      (ap (λ (k : ℕ). goes (serveLent g ls vanNames (callTo k i))) e ∙ is-whole ne (subst (λ (k : ℕ). k ≤ length i) e h)) w

@@ -3,35 +3,24 @@ use Prim.Native.Nat.{ℕ, zero, suc, _≤_}
 use mathlib.Core.Path.{_≡_, refl, sym, ap, ap₂, _∙_}
 use mathlib.Core.List.{List, [], _++_}
 use native.Mathlib.Omega.{arith}
-use lib.Dec.{eqb, ltb}
+use lib.Dec.{eqb}
 use lib.ListN.{drop, length, length-drop}
 use lib.Seq.{drop-at, take-all, take-at}
-use borrow.Author.Tests.{eq-eqb}
 use Rattle.lists.specs.Pick.{pick}
-use Rattle.lists.specs.laws.Pick.{pick-true}
-use Rattle.message.specs.laws.Placed.{pick-cases}
 use Rattle.state.specs.declared.Lease.{Lease}
 use Rattle.state.specs.declared.Ledger.{Ledger}
 use Rattle.records.specs.Lent.{LentReading}
 use Rattle.replay_text.specs.Replay.{refusedLine}
 use Rattle.van_server.specs.Statement.{PrintsByRecord, PrintsCut, PrintsSettings}
-use Rattle.van_server.specs.Van.{VanTurn, dayOf, dayTo, headSize, openOf, printedOf, recordSize, settingsSize, stops, turnOf}
+use Rattle.van_server.specs.Van.{VanTurn, dayOf, dayTo, openOf, printedOf, recordSize, settingsSize, turnOf}
 use Rattle.van_server.proofs.Opened.{cut}
-
--- a record takes a head at least
-some : (i : List ℕ) → headSize ≤ recordSize i
-unfolding recordSize
-some i = pick-cases (λ (n : ℕ). headSize ≤ n) (ltb (length i) headSize) _ _ (λ _. omega arith) (λ _. omega arith)
+use Rattle.van_server.proofs.Answered.{is-end, some}
 
 -- nothing is left: nothing is printed, and there is no further record
-ended : (g : Ledger) (ls : List Lease) (i : List ℕ) → length i ≡ 0 → stops [] g ls ≡ turnOf g ls i
-unfolding turnOf
-ended g ls i e = pick-true _ _ _ _ (eq-eqb (length i) 0 e) refl
-
 none-left : (k : ℕ) (g : Ledger) (ls : List Lease) (i : List ℕ) → length i ≡ 0 → dayTo k g ls i ≡ []
 unfolding dayTo pick
 none-left zero g ls i e = refl
-none-left (suc k) g ls i e = sym (ap (λ (t : VanTurn). t .line ++ pick (t .go) (dayTo k (t .ledger) (t .leases) (drop (recordSize i) i)) []) (ended g ls i e))
+none-left (suc k) g ls i e = sym (ap (λ (t : VanTurn). t .line ++ pick (t .go) (dayTo k (t .ledger) (t .leases) (drop (recordSize i) i)) []) (is-end g ls i e))
 
 -- from as many as there are octets on, any number gives the same
 same-day : (k n : ℕ) (g : Ledger) (ls : List Lease) (i : List ℕ) → length i ≤ k → length i ≤ n → dayTo k g ls i ≡ dayTo n g ls i

@@ -1,7 +1,7 @@
 -- Proof of the van's theorem: demand 3 on its book, whose settings no call changes, and the law on one tenant alone.
 use Prim.Native.Nat.{ℕ, _+_, _≤_}
 use mathlib.Core.Path.{_≡_, refl, sym, ap, ap₂, _∙_, subst}
-use mathlib.Core.List.{List, map}
+use mathlib.Core.List.{List, [], map}
 use native.Mathlib.Omega.{arith}
 use lib.ListN.{length-replicate}
 use Rattle.address_set.specs.AddressSet.{offsets}

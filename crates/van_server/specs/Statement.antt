@@ -46,7 +46,7 @@ VanGets =
     → scopeFor (bookOf (vanAfter o cs)) c .size ≤ saysOf (bookOf (vanAfter o cs)) c .counts .desired
     → GetsAll (bookOf (vanAfter o cs)) c (answerOf (vanAfter o cs .names) (served (vanAfter o cs) c))
 
--- ---- what is printed goes record by record, as the program reads: of a book and the octets that are still to come, the turn of the first record (`van_server::turn`), and
+-- ---- what is printed goes record by record, as the program reads: of a book and the octets that are still to come, the turn of the first record (`van_server::turn_of`), and
 -- then, where it goes on, what is printed for the others on the book that it left
 unfoldable pub PrintsByRecord : Type 0
 PrintsByRecord =

@@ -80,13 +80,16 @@ fn book_of(blank: Owned, settings: &[u8]) -> Owned
     ensures { λ r. ⌜ (r .ledger ≡ vanLedger (now (settings .entry))) × (r .records .leases ≡ noRecords) ⌝ }
 {
     let ledger = blank.ledger;
-    let state = state_of(ledger.state, settings);
+    let zero = ledger.state;
+    let memory = ledger.memory;
+    let records = blank.records;
+    let state = state_of(zero, settings);
     Owned {
         ledger: Ledger {
             state: state,
-            memory: ledger.memory,
+            memory: memory,
         },
-        records: blank.records,
+        records: records,
     }
 }
 
@@ -155,16 +158,17 @@ fn answer(o: Owned, input: &[u8], n: usize, line: &mut [u8; LINE_ROOM]) -> Turn
     let mut room = [0u8; reply::LEAST_ROOM];
     let r = serve(o, &input[HEAD..n], client, time, &mut room);
     let told = r.outcome;
+    let book = r.owned;
     let length = replay_text::write_outcome_line(line, told.outcome, &room, told.length);
     Turn {
         go: true,
         length: length,
-        owned: r.owned,
+        owned: book,
     }
 }
 
 // What the octets draw that were read for a record: its line; `refused 24` for a record that is cut off, and nothing where the input has ended, either of which is the last.
-pub fn turn(o: Owned, input: &[u8], line: &mut [u8; LINE_ROOM]) -> Turn
+pub fn turn_of(o: Owned, input: &[u8], line: &mut [u8; LINE_ROOM]) -> Turn
     ensures { λ r. ⌜ Turns (turnOf (o .ledger) (o .records .leases) (now (input .entry))) (now (line .entry)) (now (line .exit)) r ⌝ }
 {
     if input.len() == 0 {

@@ -37,12 +37,6 @@ module _ (g : Ledger) (ls : List Lease) (c : Call) {before after : List ℕ} {r 
   told-fits : r .outcome .length ≤ leastRoom
   told-fits = let e = v .tells .size in let p = reply-fits (record { ledger = g; leases = ls; names = vanNames }) c in omega arith
 
-  pub told-room : {m : ℕ} → leastRoom ≤ m → r .outcome .length ≤ m
-  told-room h = let p = told-fits in omega arith
-
-  pub told-line : {m : ℕ} → 2 * leastRoom + 8 ≤ m → 2 * r .outcome .length + 8 ≤ m
-  told-line h = let p = told-fits in omega arith
-
   told-reply : take (r .outcome .length) after ≡ serveLent g ls vanNames c .reply
   told-reply = ap₂ take (v .tells .size) (v .tells .buffer) ∙ take-at (serveLent g ls vanNames c .reply) (drop (length (serveLent g ls vanNames c .reply)) before) _ refl
 
@@ -55,18 +49,33 @@ module _ (g : Ledger) (ls : List Lease) (c : Call) {before after : List ℕ} {r 
     leases = v .leases;
   }
 
--- the numbers that were read and the part that was lent are the call of a record of n octets
+-- ---- a call as it is made: of a record of n octets the part after its head, and the numbers that were read
+abbrev made : List ℕ → ℕ → ℕ → ℕ → ℕ → Call
+made i n time client room = record { datagram = take (n - headSize) (drop headSize i); client = client; time = time; room = room }
+
 call-is : (i : List ℕ) (n : ℕ) {time client room : ℕ} → time ≡ at32 i 0 → client ≡ at32 i 4 → room ≡ leastRoom
-    → record { datagram = take (n - headSize) (drop headSize i); client = client; time = time; room = room } ≡ callTo n i
-call-is i n p q e = λ j. record { datagram = take (n - headSize) (drop headSize i); client = q j; time = p j; room = e j }
+    → made i n time client room ≡ callTo n i
+call-is i n p q e = λ j. made i n (p j) (q j) (e j)
 
 module _ (g : Ledger) (ls : List Lease) (i : List ℕ) (n : ℕ) where
+  -- what was told fits the room and the line
+  pub fits-room : {time client m : ℕ} {before after : List ℕ} {r : OwnedCall} → time ≡ at32 i 0 → client ≡ at32 i 4
+      → ServesOwned (serveLent g ls vanNames (made i n time client (length before))) before after r
+      → leastRoom ≤ m → r .outcome .length ≤ m
+  fits-room {time} {client} {before = before} p q v h = let e = told-fits g ls (made i n time client (length before)) v in omega arith
+
+  pub fits-line : {time client m : ℕ} {before after : List ℕ} {r : OwnedCall} → time ≡ at32 i 0 → client ≡ at32 i 4
+      → ServesOwned (serveLent g ls vanNames (made i n time client (length before))) before after r
+      → 2 * leastRoom + 8 ≤ m → 2 * r .outcome .length + 8 ≤ m
+  fits-line {time} {client} {before = before} p q v h = let e = told-fits g ls (made i n time client (length before)) v in omega arith
+
+  -- and is the turn
   pub answers : {time client m : ℕ} {before after line line′ : List ℕ} {r : OwnedCall} → time ≡ at32 i 0 → client ≡ at32 i 4 → length before ≡ leastRoom
-      → ServesOwned (serveLent g ls vanNames (record { datagram = take (n - headSize) (drop headSize i); client = client; time = time; room = length before })) before after r
+      → ServesOwned (serveLent g ls vanNames (made i n time client (length before))) before after r
       → Wrote line 0 (outcomeLine (r .outcome .outcome) (take (r .outcome .length) after)) line′ m
       → Turns (goes (serveLent g ls vanNames (callTo n i))) line line′ (record { go = true; length = m; owned = r .owned })
-  answers {m = m} {line = line} {line′ = line′} {r = r} p q e v w =
-      subst (λ (c : Call). Turns (goes (serveLent g ls vanNames c)) line line′ (record { go = true; length = m; owned = r .owned })) (call-is i n p q e) (told g ls _ v w)
+  answers {time} {client} {m = m} {before = before} {line = line} {line′ = line′} {r = r} p q e v w =
+      subst (λ (c : Call). Turns (goes (serveLent g ls vanNames c)) line line′ (record { go = true; length = m; owned = r .owned })) (call-is i n p q e) (told g ls (made i n time client (length before)) v w)
 
 -- ---- how long a record is
 module _ (i : List ℕ) where

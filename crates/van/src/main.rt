@@ -14,6 +14,11 @@ fn print(text: &[u8], n: usize) {
     io::write_all(STDOUT_FILENO, text);
 }
 
+// The line of a record.
+fn print_line(line: [u8; van_server::LINE_ROOM], n: usize) {
+    print(&line, n);
+}
+
 fn refuse(number: u8) {
     let mut line = [0u8; 16];
     let n = replay_text::write_refused_line(&mut line, number);
@@ -52,7 +57,7 @@ fn take_turn(book: Owned, buffer: &mut [u8]) -> Turn {
     let n = read_record(buffer);
     if n <= buffer.len() {
         let t = van_server::turn_of(book, &buffer[..n], &mut line);
-        print(&line, t.length);
+        print_line(line, t.length);
         return t;
     }
     Turn {

@@ -48,7 +48,7 @@ module _ (g : Ledger) (ls : List Lease) (names : List ℕ) (c : Call) (h : c .ro
   b = bookFrom g ls names
 
   abbrev other : LentAnswer
-  other = record { outcome = 1; offset = 0; reply = []; ledger = g; leases = ls }
+  other = record { outcome = 1; offset = 0; count = 0; reply = []; ledger = g; leases = ls }
 
   told-sound : eqb (serveLent g ls names c .outcome) 2 ≡ (is128 (length ls) && bookB (bookFrom g ls names))
   unfolding serveWith serveOf pick

@@ -5,12 +5,12 @@ use mathlib.Core.List.{List, [], _∷_, _++_}
 use Rattle.guarantee_specimens.proofs.Opened.{computed}
 use Rattle.records.specs.Records.{recordsOf, rows, rowsOf, tableFrom, tenantFrom}
 use Rattle.records.specs.Lent.{is128, serveWith}
-use Rattle.replay_text.specs.Replay.{hexOf, outcomeLine, refusedLine}
+use Rattle.replay_text.specs.Replay.{hexOf, numberText, outcomeLine, refusedLine}
 use Rattle.van_server.specs.Van.{dayOf, dayTo, openOf, printedOf, recordSize, turnOf, vanScope, vanState}
 
 -- what a van's specimen computes with: the call, on lent records, and the van's own definitions
 unfoldable opened : Unit {0}
-unfolding computed is128 serveWith rows rowsOf tableFrom tenantFrom recordsOf vanScope vanState openOf recordSize turnOf dayTo dayOf printedOf outcomeLine hexOf
+unfolding computed is128 serveWith rows rowsOf tableFrom tenantFrom recordsOf vanScope vanState openOf recordSize turnOf dayTo dayOf printedOf numberText hexOf
 opened = tt
 
 -- server 10.1.1.1, clients 10.0.0.0 to 10.0.0.255, a pool of some size from 239.192.0.0 on

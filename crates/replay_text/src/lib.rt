@@ -96,7 +96,7 @@ fn put_number(out: &mut [u8], outcome: u8, reply: &[u8], n: usize) -> usize
 
 // The line of an outcome, without what a discard carries.
 pub fn write_outcome_line(out: &mut [u8], outcome: u8, reply: &[u8], n: usize) -> usize
-    requires { ⌜ (2 * n + 3 ≤ length (now out)) × (n ≤ length (now reply)) ⌝ }
+    requires { ⌜ (2 * n + 8 ≤ length (now out)) × (n ≤ length (now reply)) ⌝ }
     ensures { λ r. ⌜ Wrote (now (out .entry)) 0 (outcomeLine outcome (take n (now (reply .entry)))) (now (out .exit)) r ⌝ }
 {
     let a = put_number(out, outcome, reply, n);

@@ -1,5 +1,6 @@
 //! Writes campus.bin, a campus file, and morning.bin, the input of the program `replay`: the length of the campus file (2 octets), the
-//! file, and then each call as time (4), client address (4), length of the reply room (2), length of the datagram (2) and the datagram.
+//! file, and then each call as time (4), client address (4), length of the reply room (2), length of the datagram (2) and the datagram. Also
+//! van.bin, the input of the program `van`: its settings, and each call as time (4), client address (4), length (2) and the datagram.
 //!
 //!     cargo run --offline --manifest-path tests/builder/Cargo.toml --example samples
 
@@ -12,6 +13,8 @@ const CLOCK: u32 = 1_700_000_000;
 const SERVER: u32 = address(10, 1, 1, 1);
 const SMALL: u32 = address(239, 192, 0, 0);
 const LARGE: u32 = address(239, 192, 1, 0);
+const VAN: u32 = address(10, 1, 9, 1);
+const POOL: u32 = address(239, 195, 0, 0);
 
 const fn address(a: u8, b: u8, c: u8, d: u8) -> u32 {
     Ipv4Addr::new(a, b, c, d).to_bits()
@@ -177,14 +180,89 @@ fn morning() -> Vec<u8> {
     octets
 }
 
+/// The van's settings: server address, lowest and highest client address, lowest pool address, size and TTL.
+fn settings() -> Vec<u8> {
+    let addresses = [VAN, address(10, 0, 9, 0), address(10, 0, 9, 255), POOL];
+    [&addresses.map(u32::to_be_bytes).concat()[..], &[6, 15]].concat()
+}
+
+/// The van's day: when each datagram comes (seconds after the first), from where, the datagram.
+#[rustfmt::skip]
+fn datagrams() -> Vec<(u32, u32, Vec<u8>)> {
+    let (crew, stranger) = (address(10, 0, 9, 20), address(192, 168, 7, 7));
+    let (a, b, c): (&[u8], &[u8], &[u8]) = (b"\0A", b"\0B", b"\0C");
+    let (d, e): (&[u8], &[u8]) = (b"\0D", b"\0E");
+    let message = |kind: u8, transaction: u32, of: &[u8], options: &[Coded]| {
+        Message::new(kind, transaction, [&[identifier(of)], options].concat()).octets()
+    };
+    let six = message(REQUEST, 3, a, &[scope(POOL), number(1, 6), lease_time(3600)]);
+    let released = message(RELEASE, 6, a, &[]);
+    let info = |transaction, options: &[Coded]| message(GETINFO, transaction, e, options);
+    vec![
+        // GETINFO asking for the scope list and the time: the one scope, without names
+        (0, crew, message(GETINFO, 1, a, &[option_request_list(&[9, 11])])),
+        // DISCOVER of all six, the REQUEST of what was offered, and the same again: a Resend
+        (10, crew, message(DISCOVER, 2, a, &[scope(POOL), number(1, 6), lease_time(3600)])),
+        (20, crew, six.clone()),
+        (25, crew, six),
+        // from the second on at which they end: all six once more, where 64 are desired
+        (30, crew, message(REQUEST, 4, b, &[scope(POOL), number(1, 64), start_time(CLOCK + 3610), current_time(CLOCK + 30)])),
+        // error 0: none is left now
+        (40, crew, message(REQUEST, 5, c, &[scope(POOL), number(1, 6)])),
+        // RELEASE, and the same again, whose ACK was lost
+        (900, crew, released.clone()),
+        (905, crew, released),
+        // two of them, an offer of one, and then just the three that neither has, where nine are desired
+        (910, crew, message(REQUEST, 7, c, &[scope(POOL), number(1, 2), lease_time(600)])),
+        (920, crew, message(DISCOVER, 8, d, &[scope(POOL), number(1, 1), lease_time(1200)])),
+        (930, crew, message(REQUEST, 9, e, &[scope(POOL), number(1, 9), lease_time(1800)])),
+        // a time before the clock: the clock stays
+        (925, crew, message(GETINFO, 10, e, &[option_request_list(&[11])])),
+        // RENEW for a quarter of an hour; for two hours it is error 0, as the six are leased from an hour on
+        (1000, crew, message(RENEW, 11, c, &[lease_time(900)])),
+        (1010, crew, message(RENEW, 12, c, &[lease_time(7200)])),
+        // error 0: seven are above the size
+        (1020, crew, message(REQUEST, 13, d, &[scope(POOL), number(7, 9)])),
+        // 3: a stranger
+        (1030, stranger, info(14, &[])),
+        // 4: 11 octets
+        (1040, crew, info(15, &[])[..11].to_vec()),
+        // 5: damaged, the last two octets are gone
+        (1050, crew, info(16, &[])[..16].to_vec()),
+        // 6: a required feature
+        (1060, crew, info(17, &[features([&[], &[], &[1]])])),
+        // 7: a REQUEST to another server
+        (1070, crew, message(REQUEST, 18, d, &[server_identifier(VAN + 1), scope(POOL)])),
+        // 8: a DISCOVER of an identifier that has a lease
+        (1080, crew, message(DISCOVER, 19, c, &[scope(POOL)])),
+        // 4: an octet more than a datagram may have
+        (1090, crew, vec![0; 1473]),
+        // all leases have ended: all six
+        (8000, crew, message(REQUEST, 20, a, &[scope(POOL), number(6, 65)])),
+    ]
+}
+
+fn van() -> Vec<u8> {
+    let mut octets = settings();
+    for (after, client, datagram) in datagrams() {
+        octets.extend((CLOCK + after).to_be_bytes());
+        octets.extend(client.to_be_bytes());
+        octets.extend((datagram.len() as u16).to_be_bytes());
+        octets.extend(datagram);
+    }
+    octets
+}
+
 fn main() -> std::io::Result<()> {
     fs::write(format!("{FOLDER}/campus.bin"), campus())?;
-    fs::write(format!("{FOLDER}/morning.bin"), morning())
+    fs::write(format!("{FOLDER}/morning.bin"), morning())?;
+    fs::write(format!("{FOLDER}/van.bin"), van())
 }
 
 #[test]
 fn the_samples_are_as_this_writes_them() -> std::io::Result<()> {
     assert!(fs::read(format!("{FOLDER}/campus.bin"))? == campus());
     assert!(fs::read(format!("{FOLDER}/morning.bin"))? == morning());
+    assert!(fs::read(format!("{FOLDER}/van.bin"))? == van());
     Ok(())
 }

@@ -1,8 +1,9 @@
-//! `second replay`, `second board` and `second occupancy`: standard input in, text out.
+//! `second replay`, `second board`, `second occupancy` and `second van`: standard input in, text out.
 
 #![forbid(unsafe_code)]
 
 use second::programs::{board, occupancy, replay};
+use second::van::van;
 use std::io::{self, Read, Write};
 use std::process::ExitCode;
 
@@ -12,8 +13,9 @@ fn main() -> ExitCode {
         [name] if name == "replay" => replay,
         [name] if name == "board" => board,
         [name] if name == "occupancy" => occupancy,
+        [name] if name == "van" => van,
         _ => {
-            eprintln!("usage: second replay | second board | second occupancy");
+            eprintln!("usage: second replay | second board | second occupancy | second van");
             return ExitCode::from(2);
         }
     };

@@ -7,7 +7,7 @@ use crate::octets::{hex, Octets};
 use crate::server::{serve, BAD_OPTIONS, REPLY};
 use std::net::Ipv4Addr;
 
-/// The input of `replay` is cut off.
+/// The input of `replay` or `van` is cut off.
 pub const CUT_OFF: u8 = 24;
 
 /// A campus file: the board's text, or its refusal.
@@ -97,7 +97,7 @@ fn read_record<'a>(octets: &mut Octets<'a>) -> Option<Record<'a>> {
 }
 
 /// A length(2) and then that many octets.
-fn octets_with_length<'a>(octets: &mut Octets<'a>) -> Option<&'a [u8]> {
+pub fn octets_with_length<'a>(octets: &mut Octets<'a>) -> Option<&'a [u8]> {
     let length = octets.u16()?;
     octets.take(usize::from(length))
 }
@@ -123,6 +123,6 @@ fn book_line(book: &Book) -> String {
     }
 }
 
-fn refused(number: u8) -> String {
+pub fn refused(number: u8) -> String {
     format!("refused {number}\n")
 }

@@ -1,6 +1,6 @@
-//! Runs `second replay` over a folder of cases, named by the environment variable SECOND_VECTORS:
-//! every `N.bin` or `N.in` in it or below it is given on standard input, and `N.out` is what must come out. Cases from
-//! before W-210 have no counts; they are compared without them.
+//! Runs the programs over a folder of cases, named by the environment variable SECOND_VECTORS: every `N.bin` or `N.in` in
+//! it or below it is given on standard input, and `N.out` is what must come out. The cases in a folder `W-211` are
+//! `van`'s, all others `replay`'s. Cases from before W-210 have no counts; they are compared without them.
 
 use std::fs;
 use std::io::Write;
@@ -25,10 +25,19 @@ fn cases(folder: &Path) -> Vec<PathBuf> {
     found
 }
 
-/// What the program prints for an input.
-fn replay(input: &[u8]) -> Vec<u8> {
+/// The program that a case is for, by its folder.
+fn program_of(case: &Path) -> &'static str {
+    let folder = case.parent().and_then(Path::file_name);
+    match folder.and_then(|name| name.to_str()) {
+        Some("W-211") => "van",
+        _ => "replay",
+    }
+}
+
+/// What a program prints for an input.
+fn run(program: &str, input: &[u8]) -> Vec<u8> {
     let mut program = Command::new(env!("CARGO_BIN_EXE_second"))
-        .arg("replay")
+        .arg(program)
         .stdin(Stdio::piped())
         .stdout(Stdio::piped())
         .spawn()
@@ -75,7 +84,7 @@ fn every_case_agrees() {
         .filter(|case| {
             let input = fs::read(case).expect("the input");
             let expected = fs::read(case.with_extension("out")).expect("the expected output");
-            !agrees(&replay(&input), &expected)
+            !agrees(&run(program_of(case), &input), &expected)
         })
         .collect();
     assert!(disagreeing.is_empty(), "disagreeing: {disagreeing:?}");

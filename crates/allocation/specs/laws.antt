@@ -4,3 +4,4 @@ pub mod Sets
 pub mod Granted
 pub mod Kept
 pub mod View
+pub mod Single

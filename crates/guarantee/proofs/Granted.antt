@@ -19,7 +19,7 @@ use Rattle.state.specs.Book.{Book, advanced, idOf, inUse, insertOf, laidRelease
 use Rattle.state.specs.Edit.{entering, forgetOf, noted, notedIn}
 use Rattle.state.specs.laws.Edited.{applied-others}
 use Rattle.releases.specs.laws.Whole.{advanced-names, book-board, book-sound}
-use Rattle.soundness.specs.Sound.{tenantsIn}
+use Rattle.soundness.specs.Sound.{scopesIn, tenantsIn}
 use Rattle.soundness.specs.laws.Book.{Sound, sound-lists}
 use Rattle.decision.specs.declared.Decided.{Decided}
 use Rattle.decision.specs.declared.Reply.the-variants.{LeaseAck}
@@ -98,7 +98,7 @@ module _ (s : State) (t : LeaseTable) (h : ℕ) (m : Fields) (v : Sound s (lease
 
 -- ---- the call
 module _ (b : Book) (c : Call) (v : SoundBook b) (r : NewRequest b c) where
-  S : Sound (stateAt b c) (leasesOf (tableAt b c))
+  pub S : Sound (stateAt b c) (leasesOf (tableAt b c))
   S = sound-lists (stateAt b c) (tableAt b c) (book-sound (bookAt b c) (now-sound b c v .sound))
 
   scope-ours : knowsScope (stateAt b c) (saysOf b c) ≡ true
@@ -106,6 +106,10 @@ module _ (b : Book) (c : Call) (v : SoundBook b) (r : NewRequest b c) where
 
   counts-good : badCounts (saysOf b c) ≡ false
   counts-good = good (stateAt b c) (tableAt b c) (tenantFor b c) (saysOf b c) S (r .house) (r .request) (r .new) (r .free) (r .error1) (r .error2)
+
+  -- the scope is one of the settings'
+  pub place-known : placeFor b c < scopesIn (stateAt b c)
+  place-known = proposed.here (stateAt b c) (tableAt b c) (tenantFor b c) (saysOf b c) S (r .house) scope-ours counts-good
 
   no-error : error0Of (stateAt b c) (saysOf b c) (newOf (stateAt b c) (tableAt b c) (tenantFor b c) (saysOf b c)) ≡ false
   no-error = proposed.no-error (stateAt b c) (tableAt b c) (tenantFor b c) (saysOf b c) S (r .house) scope-ours counts-good (r .soon) (r .fits) (r .met) (r .left) (r .least)
@@ -165,8 +169,7 @@ module _ (b : Book) (c : Call) (v : SoundBook b) (r : NewRequest b c) where
     names =
         ap addressesIn acknowledged
         ∙ ack-names (headOf (stateAt b c) (saysOf b c)) (termsFor b c) (named-head (c .datagram) (stateAt b c) (r .read)) (let p = exact in let q = some .1 in omega arith)
-        (pool-fits (stateAt b c) (leasesOf (tableAt b c)) S (placeFor b c)
-        (proposed.here (stateAt b c) (tableAt b c) (tenantFor b c) (saysOf b c) S (r .house) scope-ours counts-good));
+        (pool-fits (stateAt b c) (leasesOf (tableAt b c)) S (placeFor b c) place-known);
     state = ap (λ (a : Answer). a .book .state) served;
     titles = ap (λ (a : Answer). a .book .names) served ∙ advanced-names b (c .time);
     forgets = ap (λ (a : Answer). a .book .memory .releases) served ∙ forgotten;

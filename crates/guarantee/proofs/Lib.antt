@@ -10,7 +10,7 @@ pub mod Replies
 pub mod Walked
 pub mod Answers
 pub mod Board
-mod Held
+pub mod Held
 pub mod Bounded
 mod Alike
 pub mod Offers

@@ -1,4 +1,4 @@
--- Definitions: what `replay` prints: a line for each call, the outcome's number and, for a reply, a blank and its octets in lower-case hex; after discard 5
+-- Definitions: what `replay` and `van` print: a line for each call, the outcome's number and, for a reply, a blank and its octets in lower-case hex; after discard 5
 -- a blank, `@` and the offset that it carries (document 02, W-206); each ends in a blank, `#` and the count of records that were read (W-210); at the end `book`, a blank and the hex of the campus file; or `refused`, a blank and a number.
 use Prim.Native.Nat.{ℕ, _+_, _/_, _%_}
 use mathlib.Core.List.{List, [], _∷_, _++_}
@@ -25,9 +25,17 @@ decimal n =
     (pick (ltb n 100) (digit (n / 10) ∷ digit n ∷ [])
     (pick (ltb n 1000) (digit (n / 100) ∷ digit (n / 10) ∷ digit n ∷ []) (digit (n / 1000) ∷ digit (n / 100) ∷ digit (n / 10) ∷ digit n ∷ [])))
 
--- the outcome: "0" and a blank before a reply, "5 @" and the offset, or the number alone; outcomes have one digit
+-- the outcome number and, for a reply, a blank and its octets; outcomes have one digit
+unfoldable pub numberText : ℕ → List ℕ → List ℕ
+numberText outcome reply = pick (eqb outcome 0) (48 ∷ 32 ∷ hexOf reply) (digit outcome ∷ [])
+
+-- the van's line (document 02, W-211)
+abbrev pub outcomeLine : ℕ → List ℕ → List ℕ
+outcomeLine outcome reply = numberText outcome reply ++ 10 ∷ []
+
+-- the campus's outcome: "5 @" and the offset, or as the van has it
 unfoldable pub outcomeText : ℕ → ℕ → List ℕ → List ℕ
-outcomeText outcome offset reply = pick (eqb outcome 0) (48 ∷ 32 ∷ hexOf reply) (pick (eqb outcome 5) (53 ∷ 32 ∷ 64 ∷ decimal offset) (digit outcome ∷ []))
+outcomeText outcome offset reply = pick (eqb outcome 5) (53 ∷ 32 ∷ 64 ∷ decimal offset) (numberText outcome reply)
 
 -- " #" and the count, and the line's end
 unfoldable pub countText : ℕ → List ℕ

@@ -1,10 +1,10 @@
-// The lines that `replay` prints, written into a lent buffer.
+// The lines that `replay` and `van` print, written into a lent buffer.
 ghost use mathlib.Core.Path.{_≡_};
 ghost use mathlib.Core.List.{[], _∷_};
 ghost use Prim.Native.Nat.{_+_, _*_, _/_, _≤_, _<_};
 ghost use lib.ListN.{length, take};
 ghost use Rattle.octets.specs.Octets.{Wrote};
-ghost use Rattle.replay_text.specs.Replay.{hexDigit, hexOf, digit, decimal, outcomeText, countText, callLine, bookLine, refusedLine};
+ghost use Rattle.replay_text.specs.Replay.{hexDigit, hexOf, digit, decimal, numberText, outcomeLine, outcomeText, countText, callLine, bookLine, refusedLine};
 
 fn hex_digit(d: u8) -> u8
     requires { ⌜ d < 16 ⌝ }
@@ -81,21 +81,38 @@ fn put_decimal(out: &mut [u8], at: usize, n: usize) -> usize
     put_three(out, a, n)
 }
 
-// The outcome of a call whose reply is the first n octets of a slice.
-fn put_outcome(out: &mut [u8], outcome: u8, offset: usize, reply: &[u8], n: usize) -> usize
-    requires { ⌜ (2 * n + 7 ≤ length (now out)) × (n ≤ length (now reply)) ⌝ }
-    ensures { λ r. ⌜ (Wrote (now (out .entry)) 0 (outcomeText outcome offset (take n (now (reply .entry)))) (now (out .exit)) r) × (r ≤ 2 * n + 7) ⌝ }
+// The number of an outcome whose reply is the first n octets of a slice and, for a reply, a blank and its octets.
+fn put_number(out: &mut [u8], outcome: u8, reply: &[u8], n: usize) -> usize
+    requires { ⌜ (2 * n + 2 ≤ length (now out)) × (n ≤ length (now reply)) ⌝ }
+    ensures { λ r. ⌜ (Wrote (now (out .entry)) 0 (numberText outcome (take n (now (reply .entry)))) (now (out .exit)) r) × (r ≤ 2 * n + 2) ⌝ }
 {
     if outcome == 0 {
         let a = octets::put_u8(out, 0, 48);
         let b = octets::put_u8(out, a, 32);
         return put_hex(out, b, reply, n);
     }
+    octets::put_u8(out, 0, 48 + outcome % 10)
+}
+
+// The line of an outcome, without what a discard carries.
+pub fn write_outcome_line(out: &mut [u8], outcome: u8, reply: &[u8], n: usize) -> usize
+    requires { ⌜ (2 * n + 8 ≤ length (now out)) × (n ≤ length (now reply)) ⌝ }
+    ensures { λ r. ⌜ Wrote (now (out .entry)) 0 (outcomeLine outcome (take n (now (reply .entry)))) (now (out .exit)) r ⌝ }
+{
+    let a = put_number(out, outcome, reply, n);
+    octets::put_u8(out, a, 10)
+}
+
+// The outcome of a call, with the offset that a discard 5 carries.
+fn put_outcome(out: &mut [u8], outcome: u8, offset: usize, reply: &[u8], n: usize) -> usize
+    requires { ⌜ (2 * n + 7 ≤ length (now out)) × (n ≤ length (now reply)) ⌝ }
+    ensures { λ r. ⌜ (Wrote (now (out .entry)) 0 (outcomeText outcome offset (take n (now (reply .entry)))) (now (out .exit)) r) × (r ≤ 2 * n + 7) ⌝ }
+{
     if outcome == 5 {
         let a = octets::put_run(out, 0, &[53, 32, 64], 3);
         return put_decimal(out, a, offset);
     }
-    octets::put_u8(out, 0, 48 + outcome % 10)
+    put_number(out, outcome, reply, n)
 }
 
 // The count, and the end of the line.

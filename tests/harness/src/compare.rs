@@ -152,7 +152,7 @@ fn second(case: &Case) -> Expected {
 }
 
 /// What panics is a difference like any other.
-fn caught<T>(work: impl FnOnce() -> T) -> Result<T, Difference> {
+pub fn caught<T>(work: impl FnOnce() -> T) -> Result<T, Difference> {
     catch_unwind(AssertUnwindSafe(work)).map_err(|panic| match panic.downcast::<String>() {
         Ok(text) => *text,
         Err(panic) => panic

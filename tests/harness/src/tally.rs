@@ -3,6 +3,7 @@
 use crate::bounds;
 use crate::counts;
 use crate::damage::DAMAGES;
+use crate::days;
 use crate::ending;
 use crate::fault::{Cause, CAUSES};
 use crate::halves;
@@ -41,6 +42,8 @@ const CODES: [(u8, &str); 7] = [
 pub struct Tally {
     counts: BTreeMap<String, u64>,
     pub calls: u64,
+    /// What has to occur because a program is there to be compared.
+    of_programs: Vec<String>,
 }
 
 fn outcome_name(outcome: u8) -> String {
@@ -95,6 +98,10 @@ fn halved_for(why: String) -> String {
 
 fn read_for(why: String) -> String {
     format!("count: {why}")
+}
+
+fn day_for(why: String) -> String {
+    format!("van: {why}")
 }
 
 fn fault_name(cause: Cause) -> String {
@@ -170,6 +177,17 @@ impl Tally {
         self.add(read_for(why));
     }
 
+    /// The program `van` is there: its days have to show all that they can.
+    pub fn expect_days(&mut self) {
+        self.of_programs
+            .extend(days::counted().into_iter().map(day_for));
+    }
+
+    /// What was seen of a day of the van.
+    pub fn day(&mut self, why: Vec<String>) {
+        why.into_iter().for_each(|why| self.add(day_for(why)));
+    }
+
     /// The first fault of a datagram that drew discard 5.
     pub fn fault(&mut self, cause: Cause) {
         self.add(fault_name(cause));
@@ -190,7 +208,7 @@ impl Tally {
     }
 
     /// What has to occur in a default run. An unsound file is refused as 21, so discard 1 can't occur.
-    fn expected() -> Vec<String> {
+    fn expected(&self) -> Vec<String> {
         let mut names: Vec<String> = [0, 2, 3, 4, 5, 6, 7, 8].map(outcome_name).to_vec();
         names.extend(REPLIES.map(|(sent, reply)| reply_name(sent, reply)));
         names.extend((0..4).map(|error| format!("error {error}")));
@@ -206,18 +224,19 @@ impl Tally {
         names.extend(halves::counted().into_iter().map(halved_for));
         names.extend(counts::counted().into_iter().map(read_for));
         names.extend((0..DAMAGES.len()).map(damage_name));
+        names.extend(self.of_programs.iter().cloned());
         names
     }
 
     pub fn never_occurred(&self) -> Vec<String> {
-        let mut names = Tally::expected();
+        let mut names = self.expected();
         names.retain(|name| !self.counts.contains_key(name));
         names
     }
 
     /// A line for each thing that occurred, or should have.
     pub fn lines(&self) -> Vec<String> {
-        let expected = Tally::expected();
+        let expected = self.expected();
         let others = self.counts.keys().filter(|name| !expected.contains(name));
         let mut lines = Vec::new();
         for name in expected.iter().chain(others) {

@@ -15,7 +15,7 @@ use Rattle.lists.specs.Pick.{pick}
 use Rattle.lists.specs.All.{All}
 use Rattle.lists.specs.Filter.{filterBy, isIn}
 use Rattle.address_set.specs.AddressSet.{bit, keep, offsetsFrom, offsets, setOf, lowestOf, differenceOf, chosen, upTo, risesFrom}
-use Rattle.address_set.specs.laws.Bits.{without, bit-le, bit-or, bit-and, bit-eq, bit-of-zero, bit-without, bit-pow-other, without-le, low-in, low-lt, low-size, size-union, ones-or-and, ones-offsets, chosen-is, length-offsets, offsets-of-zero, setOf-append}
+use Rattle.address_set.specs.laws.Bits.{without, bit-le, bit-or, bit-and, bit-eq, bit-of-zero, bit-without, bit-pow-same, bit-pow-other, without-le, low-in, low-lt, low-size, size-union, ones-or-and, ones-offsets, chosen-is, length-offsets, offsets-of-zero, setOf-append}
 use Rattle.address_set.specs.laws.Offsets.{offsets-setOf, rises-offsets, offsets-small, setOf-small, bit-setOf, bit-past, difference-without, upTo-ones}
 use Rattle.state.specs.Book.{unionAll}
 use Rattle.soundness.specs.laws.Kept.{count-less}
@@ -87,6 +87,22 @@ size-or x y =
     let w : size (low y) ≡ size y = ap length (low-same y) in
     omega arith
 
+-- of two sets that are apart the union has as many as both
+pub size-add : (x y : ℕ) → ((a : ℕ) → bit x a + bit y a ≤ 1) → size x + size y ≤ size (bitOr x y)
+size-add x y h =
+    let e : size (bitOr x y) ≡ size (bitOr (low x) (low y)) = ap length (same-offsets (bitOr x y) (bitOr (low x) (low y)) (or-low x y)) in
+    let n = size-union (low x) (low y) (low-small x) (low-small y) (bit-eq (bitAnd (low x) (low y)) 0 (λ a. bit-and (low x) (low y) a ∙ none a ∙ sym (bit-of-zero a))) in
+    let u : size (low x) ≡ size x = ap length (low-same x) in
+    let w : size (low y) ≡ size y = ap length (low-same y) in
+    omega arith
+  where
+    none : (a : ℕ) → min (bit (low x) a) (bit (low y) a) ≡ 0
+    none a = go (ltb a 64) refl
+      where
+        go : (b : Bool) → ltb a 64 ≡ b → min (bit (low x) a) (bit (low y) a) ≡ 0
+        go true e = let p = low-bit x a (ltb-true a 64 e) in let q = low-bit y a (ltb-true a 64 e) in let r = h a in omega arith
+        go false e = let p = low-past x a (ltb-false a 64 e) in omega arith
+
 pub size-zero : size 0 ≡ 0
 size-zero = ap length (offsets-of-zero 0 64)
 
@@ -104,10 +120,10 @@ difference-low m n =
 pub difference-small : (m n : ℕ) → differenceOf m n < 2 ^ 64
 difference-small m n = subst (λ (x : ℕ). x < 2 ^ 64) (sym (difference-low m n)) (lt-of-le-of-lt (without-le (low m) (low n)) (low-small m))
 
-difference-bit : (m n a : ℕ) → bit (differenceOf m n) a ≡ bit (low m) a - min (bit (low m) a) (bit (low n) a)
+pub difference-bit : (m n a : ℕ) → bit (differenceOf m n) a ≡ bit (low m) a - min (bit (low m) a) (bit (low n) a)
 difference-bit m n a = ap (λ (x : ℕ). bit x a) (difference-low m n) ∙ bit-without (low m) (low n) a
 
-by-64 : (a : ℕ) (P : ℕ → Type 0) → ((a : ℕ) → a < 64 → P a) → ((a : ℕ) → 64 ≤ a → P a) → P a
+pub by-64 : (a : ℕ) (P : ℕ → Type 0) → ((a : ℕ) → a < 64 → P a) → ((a : ℕ) → 64 ≤ a → P a) → P a
 by-64 a P f g = go (ltb a 64) refl
   where
     go : (b : Bool) → ltb a 64 ≡ b → P a
@@ -252,3 +268,22 @@ union-grows f d a z (x ∷ t) (suc g) = let o = bit-or (f x) (unionAll (map f t)
 
 pub in-union : {A : Type 0} (f : A → ℕ) (d : A) (a : ℕ) → f d ≡ 0 → (t : List A) (g : ℕ) → bit (f (getD t g d)) a ≤ bit (unionAll (map f t)) a
 in-union f d a z t g = union-grows f d a (ap (λ (x : ℕ). bit x a) z ∙ bit-of-zero a) t g
+
+last : (n : ℕ) → setOf (n ∷ []) ≡ 2 ^ n
+unfolding setOf
+last n = or-zero-r (2 ^ n)
+
+-- all offsets below n are there
+pub in-upTo : (n x : ℕ) → x < n → bit (setOf (upTo n)) x ≡ 1
+unfolding upTo
+in-upTo zero x h = absurd (omega arith)
+in-upTo (suc n) x h = ap (λ (m : ℕ). bit m x) (setOf-append (upTo n) (n ∷ [])) ∙ bit-or (setOf (upTo n)) (setOf (n ∷ [])) x ∙ go (eqb x n) refl (in-upTo n x)
+  where
+    one : setOf (n ∷ []) ≡ 2 ^ n
+    one = last n
+
+    go : (b : Bool) → eqb x n ≡ b → (x < n → bit (setOf (upTo n)) x ≡ 1) → max (bit (setOf (upTo n)) x) (bit (setOf (n ∷ [])) x) ≡ 1
+    go true e ih =
+        let z : bit (setOf (n ∷ [])) x ≡ 1 = ap₂ bit one (eqb-true x n e) ∙ bit-pow-same n in
+        let w = bit-le (setOf (upTo n)) x in omega arith
+    go false e ih = let z = eqb-false x n e in let p = ih (omega arith) in let w = bit-le (setOf (n ∷ [])) x in omega arith

@@ -11,48 +11,31 @@ use Rattle.replay_text.proofs.put_outcome.Tie as tie
 returns : tie.Need-returns
 unfolding outcomeText pick
 returns c =
-    let at-put-hex = c .before .before in
-    let at-put-u82 = at-put-hex .before .before .before .before in
-    let at-put-u8 = at-put-u82 .before .before .before .before in
-    let at-if1 = at-put-u8 .before .before in (
-      rw (eq-eqb _ _ (at-if1 .if1 .taken)) (wrote-joined (search needs) (wrote-joined (search needs) (at-put-u8 .put-u8 .ensures) (at-put-u82 .put-u82 .ensures)) (at-put-hex .put-hex .ensures .0)),
-      omega (arith, at-put-hex .put-hex .ensures .1, at-put-u82 .put-u82 .ensures .next, at-put-u8 .put-u8 .ensures .next),
+    let at-decimal = c .before .before in
+    let at-put-run = at-decimal .before .before .before .before in
+    let at-if1 = at-put-run .before .before .before in (
+      rw (eq-eqb _ _ (at-if1 .if1 .taken)) (wrote-joined (search needs) (at-put-run .put-run .ensures) (at-decimal .put-decimal .ensures .0)),
+      omega (arith, at-decimal .put-decimal .ensures .1, at-put-run .put-run .ensures .next),
     )
 
 returns-2 : tie.Need-returns-2
 unfolding outcomeText pick
 returns-2 c =
-    let at-decimal = c .before .before in
-    let at-put-run = at-decimal .before .before .before .before in
-    let at-if2 = at-put-run .before .before .before in (
-      rw (ne-eqb _ _ (at-if2 .before .if1 .left)) (rw (eq-eqb _ _ (at-if2 .if2 .taken)) (wrote-joined (search needs) (at-put-run .put-run .ensures) (at-decimal .put-decimal .ensures .0))),
-      omega (arith, at-decimal .put-decimal .ensures .1, at-put-run .put-run .ensures .next),
-    )
-
-returns-3 : tie.Need-returns-3
-unfolding outcomeText pick
-returns-3 c =
-    let at-put-u83 = c .before .before in
-    let at-if2 = at-put-u83 .before .before in (
-      rw (ne-eqb _ _ (at-if2 .before .if1 .left)) (rw (ne-eqb _ _ (at-if2 .if2 .left)) (at-put-u83 .put-u83 .ensures)),
-      omega (arith, at-put-u83 .put-u83 .ensures .next),
+    let at-number = c .before .before in
+    let at-if1 = at-number .before .before in (
+      rw (ne-eqb _ _ (at-if1 .if1 .left)) (at-number .put-number .ensures .0),
+      omega (arith, at-number .put-number .ensures .1),
     )
 
 pub put-outcome-spec : {M : Type 1} → statement M
 put-outcome-spec =
     tie.close
     (tie.spec
-    (λ c κs. search needs)
+    (λ c. search needs)
     (λ c κs. search needs)
     (λ c κs. search needs)
     (λ c. search needs)
     returns
-    (λ c. search needs)
-    (λ c κs. search needs)
     (λ c κs. search needs)
     (λ c. search needs)
-    returns-2
-    (λ c. search needs)
-    (λ c κs. search needs)
-    (λ c. search needs)
-    returns-3)
+    returns-2)

@@ -1,11 +1,15 @@
 //! `compare [CASES] [SEED]`: cases made from a seed, run by the proved library and the second program.
-//! `compare --first [CASES] [SEED]` stops at the first case that differs; `compare --case FILE` runs a kept case.
+//! `compare --first [CASES] [SEED]` stops at the first case that differs; `compare --case FILE` runs a kept case. Where the program `van` is
+//! there, days of the van are given to it and to the second program's.
 
 use builder::Call;
 use harness::case::Case;
 use harness::compare::{compare, expected, hex};
+use harness::days::Day;
+use harness::programs::Program;
 use harness::tally::Tally;
 use std::fs;
+use std::io;
 use std::path::PathBuf;
 use std::process::ExitCode;
 
@@ -14,6 +18,10 @@ const DEFAULT_CASES: u64 = 40_000;
 const DEFAULT_SEED: &str = "1";
 /// So many differences are shown; all are counted and kept.
 const SHOWN: u64 = 10;
+/// So many cases to a day of the van.
+const CASES_TO_A_DAY: u64 = 20;
+/// Holds the case under way, should the process be ended by a fault.
+const RUNNING: &str = "running.case";
 
 fn main() -> ExitCode {
     let mut arguments: Vec<String> = std::env::args().skip(1).collect();
@@ -48,52 +56,88 @@ fn usage() -> ExitCode {
     ExitCode::from(2)
 }
 
-/// Where cases that differ are kept, and the number of the case under way, should the process be ended by a fault.
+/// Where cases that differ are kept, and the case under way.
 fn kept_folder() -> PathBuf {
     PathBuf::from(concat!(env!("CARGO_MANIFEST_DIR"), "/../../target/compare"))
 }
 
-fn case_name(seed: &str, number: u64) -> String {
-    let plain = |c: char| if c.is_ascii_alphanumeric() { c } else { '_' };
-    format!(
-        "{}-{number}.case",
-        seed.chars().map(plain).collect::<String>()
-    )
+/// A run under way.
+struct Run<'a> {
+    seed: &'a str,
+    folder: PathBuf,
+    tally: Tally,
+    differ: u64,
+    van: Option<Program>,
 }
 
-fn run(cases: u64, seed: &str, first_only: bool, is_default: bool) -> std::io::Result<bool> {
-    let folder = kept_folder();
-    fs::create_dir_all(&folder)?;
-    let running = folder.join("running.case");
-    let mut tally = Tally::default();
-    let mut differ = 0;
-    let mut run = 0;
-    for number in 0..cases {
-        let case = Case::new(seed, number);
-        fs::write(&running, case.octets())?;
-        run += 1;
-        let Err(difference) = compare(&case, &mut tally) else {
-            continue;
+impl Run<'_> {
+    fn new(seed: &str) -> Run<'_> {
+        let mut run = Run {
+            seed,
+            folder: kept_folder(),
+            tally: Tally::default(),
+            differ: 0,
+            van: Program::find("van"),
         };
-        differ += 1;
-        let name = case_name(seed, number);
-        fs::write(folder.join(&name), case.octets())?;
-        if differ <= SHOWN {
+        if run.van.is_some() {
+            run.tally.expect_days();
+        }
+        run
+    }
+
+    /// The case of a number; and at times a day of the van.
+    fn case(&mut self, number: u64) -> io::Result<()> {
+        let case = Case::new(self.seed, number);
+        fs::write(self.folder.join(RUNNING), case.octets())?;
+        if let Err(difference) = compare(&case, &mut self.tally) {
+            self.keep(number, "case", &case.octets(), &difference)?;
+        }
+        let van = self.van.clone();
+        if let (Some(van), 0) = (van, number % CASES_TO_A_DAY) {
+            let day = Day::new(self.seed, number / CASES_TO_A_DAY);
+            match day.compare(&van) {
+                Ok(why) => self.tally.day(why),
+                Err(difference) => self.keep(number, "day", &day.input, &difference)?,
+            }
+        }
+        Ok(())
+    }
+
+    /// Keeps what differs, and says so.
+    fn keep(&mut self, number: u64, kind: &str, octets: &[u8], difference: &str) -> io::Result<()> {
+        self.differ += 1;
+        let plain = |c: char| if c.is_ascii_alphanumeric() { c } else { '_' };
+        let seed: String = self.seed.chars().map(plain).collect();
+        let name = format!("{seed}-{number}.{kind}");
+        fs::write(self.folder.join(&name), octets)?;
+        if self.differ <= SHOWN {
             println!("differs: case {number}, target/compare/{name}: {difference}");
         }
-        if first_only {
-            break;
-        }
+        Ok(())
+    }
+}
+
+fn run(cases: u64, seed: &str, first_only: bool, is_default: bool) -> io::Result<bool> {
+    let mut run = Run::new(seed);
+    fs::create_dir_all(&run.folder)?;
+    let mut number = 0;
+    while number < cases && !(first_only && run.differ > 0) {
+        run.case(number)?;
+        number += 1;
     }
     // A run of no cases hasn't made it.
-    let _ = fs::remove_file(&running);
+    let _ = fs::remove_file(run.folder.join(RUNNING));
+    let Run { tally, differ, .. } = &run;
     tally.lines().iter().for_each(|line| println!("{line}"));
     let never = tally.never_occurred();
     if !never.is_empty() {
         println!("never occurred: {}", never.join("; "));
     }
-    println!("{run} cases, {} calls, {differ} differ", tally.calls);
-    Ok(differ == 0 && (never.is_empty() || !is_default))
+    if run.van.is_none() {
+        println!("van isn't built, and no day is compared");
+    }
+    println!("{number} cases, {} calls, {differ} differ", tally.calls);
+    Ok(*differ == 0 && (never.is_empty() || !is_default))
 }
 
 /// A kept case: what the second program makes of each call, and the first difference.

@@ -1,0 +1,2 @@
+pub mod Van
+pub mod Statement

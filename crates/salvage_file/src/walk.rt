@@ -1,0 +1,103 @@
+// The walk: leases in file order, then holds, then releases, each judged with those kept before it.
+ghost use mathlib.Core.Bool.{true};
+ghost use mathlib.Core.Path.{_≡_};
+ghost use Rattle.lease_file.specs.Place.{EntriesIn, entriesIn};
+ghost use Rattle.release_file.specs.Place.{ReleasesIn, releasesIn};
+ghost use Rattle.state_file.specs.Place.{Formed, fileAt};
+ghost use Rattle.state_file.specs.StateFile.{zeroTable};
+ghost use Rattle.salvage_file.specs.Salvage.{settingsSound};
+ghost use Rattle.salvage_file.specs.Walk.{Keeps, WalksRecords, WalksReleases};
+use crate::Kept;
+use crate::Walked;
+use crate::WalkedReleases;
+use crate::rules::entry_rule;
+use crate::rules::release_rule;
+use crate::rules::with_entry;
+use crate::rules::with_release;
+use state::LeaseTable;
+use state::Memory;
+use state::State;
+use state_file::Places;
+
+// Records without a lease or hold.
+pub fn no_table() -> LeaseTable
+    ensures { λ r. ⌜ r ≡ zeroTable ⌝ }
+{
+    let none = state::no_leases();
+    LeaseTable { tenants: [none; 8] }
+}
+
+// The whole walk over a file whose settings are sound.
+pub fn walk(file: &[u8], places: Places) -> Kept
+    requires { ⌜ Formed (now file) places × (settingsSound (fileAt (now file) places) ≡ true) ⌝ }
+    ensures { λ r. ⌜ Keeps (fileAt (now (file .entry)) places) r ⌝ }
+{
+    let state = state_file::state_at(file, places.scopes);
+    let a = walk_records(file, places.leases, false, state, no_table());
+    let b = walk_records(file, places.holds, true, state, a.table);
+    let c = walk_releases(
+        file,
+        places.releases,
+        state,
+        b.table,
+        state_file::no_memory(),
+    );
+    Kept {
+        state,
+        table: b.table,
+        memory: c.memory,
+        leases: a.rules,
+        holds: b.rules,
+        releases: c.rules,
+    }
+}
+
+// Over the section of leases or holds that starts at `at`, after the records that were kept before.
+fn walk_records(s: &[u8], at: usize, holds: bool, state: State, before: LeaseTable) -> Walked
+    requires { ⌜ EntriesIn holds (now s) at ⌝ }
+    ensures { λ r. ⌜ WalksRecords holds state before (entriesIn holds (now (s .entry)) at) r ⌝ }
+{
+    let mut table = before;
+    let mut rules = [0u8; 255];
+    let count = s[at] as usize;
+    let mut here = at + 1;
+    let mut i: usize = 0;
+    while i < count {
+        let r = entry_rule(s, here, holds, state, table);
+        rules[i] = r;
+        if r == 0 {
+            table = with_entry(s, here, holds, table);
+        }
+        here = lease_file::entry_next(s, here, holds);
+        i += 1;
+    }
+    Walked { table, rules }
+}
+
+// Over the section of releases that starts at `at`, by the records that were kept.
+fn walk_releases(
+    s: &[u8],
+    at: usize,
+    state: State,
+    table: LeaseTable,
+    before: Memory,
+) -> WalkedReleases
+    requires { ⌜ ReleasesIn (now s) at ⌝ }
+    ensures { λ r. ⌜ WalksReleases state table before (releasesIn (now (s .entry)) at) r ⌝ }
+{
+    let mut memory = before;
+    let mut rules = [0u8; 255];
+    let count = s[at] as usize;
+    let mut here = at + 1;
+    let mut i: usize = 0;
+    while i < count {
+        let r = release_rule(s, here, state, table, memory);
+        rules[i] = r;
+        if r == 0 {
+            memory = with_release(s, here, memory);
+        }
+        here = release_file::release_next(s, here);
+        i += 1;
+    }
+    WalkedReleases { memory, rules }
+}

@@ -27,11 +27,11 @@ use Rattle.state_file.specs.StateFile.{octetsOf, zeroMemory, zeroTable}
 
 -- ---- those kept, with one more
 -- "A rule that needs an unknown house or scope is passed over": those that there are
-unfoldable pub tenantKnown : State → ℕ → Bool
-tenantKnown s t = oneTo (tenantsIn s) t
+unfoldable pub knownTenant : State → ℕ → Bool
+knownTenant s t = oneTo (tenantsIn s) t
 
-unfoldable pub scopeKnown : State → ℕ → Bool
-scopeKnown s c = oneTo (s .«scope_count») c
+unfoldable pub knownScope : State → ℕ → Bool
+knownScope s c = oneTo (s .«scope_count») c
 
 -- the records with one more of tenant t
 unfoldable pub withRecord : LeaseTable → ℕ → Lease → LeaseTable
@@ -49,23 +49,23 @@ withRelease m x = putReleases m (x .tenant - 1) (pushedRelease (releasesAt m (x 
 
 -- ---- "first broken rule(1). Rules 1 to 12 are document 01's "Sound" by semicolons (too many addresses break 2), 13 a hold's type and lapse"
 -- 1: the length of the identifier, and a record that is left to the house
-unfoldable pub limitsB : State → LeaseTable → FileLease → Bool
-limitsB s b x = idLengthB (length (x .id)) && pick (tenantKnown s (x .tenant)) (ltb (length (inUse (tenantAt b (x .tenant - 1)))) 16) true
+unfoldable pub limitsKept : State → LeaseTable → FileLease → Bool
+limitsKept s b x = idLengthB (length (x .id)) && pick (knownTenant s (x .tenant)) (ltb (length (inUse (tenantAt b (x .tenant - 1)))) 16) true
 
 -- 2: at most 64 addresses, and each below the size of the scope
-unfoldable pub offsetsB : State → FileLease → Bool
-offsetsB s x = leb (length (x .offsets)) 64 && pick (scopeKnown s (x .scope)) (allBy (λ a. ltb a (scopeAt s (x .scope - 1) .size)) (x .offsets)) true
+unfoldable pub offsetsKept : State → FileLease → Bool
+offsetsKept s x = leb (length (x .offsets)) 64 && pick (knownScope s (x .scope)) (allBy (λ a. ltb a (scopeAt s (x .scope - 1) .size)) (x .offsets)) true
 
 -- 7, as far as no record can hold what breaks it: a known house and scope, and a type that the section may have
-unfoldable pub namedB : State → FileLease → Bool → Bool
-namedB s x typed = tenantKnown s (x .tenant) && (scopeKnown s (x .scope) && typed)
+unfoldable pub namesKnown : State → FileLease → Bool → Bool
+namesKnown s x typed = knownTenant s (x .tenant) && (knownScope s (x .scope) && typed)
 
 -- the first rule, or 0, that records b break with x, which stands in them as l: 3 to 6 are the settings', and every other goes by the records with it
 unfoldable pub recordRule : State → LeaseTable → FileLease → Bool → Lease → ℕ
 recordRule s b x typed l =
-    pick (limitsB s b x)
-    (pick (offsetsB s x)
-    (pick (namedB s x typed) (firstRule (rulesOf s (withRecord b (x .tenant) l))) 7)
+    pick (limitsKept s b x)
+    (pick (offsetsKept s x)
+    (pick (namesKnown s x typed) (firstRule (rulesOf s (withRecord b (x .tenant) l))) 7)
     2)
     1
 
@@ -88,7 +88,7 @@ holdRule s b x = typeAfter (x .lease .kind) (recordRule s b (x .lease) true (typ
 -- go by what is remembered with it
 unfoldable pub releaseRule : State → LeaseTable → Memory → FileRelease → ℕ
 releaseRule s b m x =
-    pick (tenantKnown s (x .tenant))
+    pick (knownTenant s (x .tenant))
     (pick (ltb (releasesAt m (x .tenant - 1) .count) 4)
     (pick (idLengthB (length (x .id))) (firstRelease (releaseRulesOf s b (withRelease m x))) 16)
     15)
@@ -99,8 +99,8 @@ unfoldable pub keptWith : {A B : Type 0} → (B → A → ℕ) → (B → A → 
 keptWith rule add b x = pick (eqb (rule b x) 0) (add b x) b
 
 -- those kept
-abbrev pub keptOf : {A B : Type 0} → (B → A → ℕ) → (B → A → B) → B → List A → B
-keptOf rule add b xs = fold (keptWith rule add) b xs
+abbrev pub keptAfter : {A B : Type 0} → (B → A → ℕ) → (B → A → B) → B → List A → B
+keptAfter rule add b xs = fold (keptWith rule add) b xs
 
 -- the rule that each breaks; 0 of one that is kept
 unfoldable pub rulesIn : {A B : Type 0} → (B → A → ℕ) → (B → A → B) → B → List A → List ℕ
@@ -109,13 +109,13 @@ rulesIn rule add b (x ∷ xs) = rule b x ∷ rulesIn rule add (keptWith rule add
 
 -- ---- the file: leases, then holds, then releases
 abbrev pub leasesKept : File → LeaseTable
-leasesKept f = keptOf (leaseRule (storedState f)) withLease zeroTable (f .leases)
+leasesKept f = keptAfter (leaseRule (storedState f)) withLease zeroTable (f .leases)
 
 abbrev pub recordsKept : File → LeaseTable
-recordsKept f = keptOf (holdRule (storedState f)) withHold (leasesKept f) (f .holds)
+recordsKept f = keptAfter (holdRule (storedState f)) withHold (leasesKept f) (f .holds)
 
 abbrev pub releasesKept : File → Memory
-releasesKept f = keptOf (releaseRule (storedState f) (recordsKept f)) withRelease zeroMemory (f .releases)
+releasesKept f = keptAfter (releaseRule (storedState f) (recordsKept f)) withRelease zeroMemory (f .releases)
 
 abbrev pub leaseRules : File → List ℕ
 leaseRules f = rulesIn (leaseRule (storedState f)) withLease zeroTable (f .leases)

@@ -23,7 +23,7 @@ use Rattle.lease_file.specs.Section.{FileHold, FileLease}
 use Rattle.state_file.specs.File.{File, fileOf}
 use Rattle.state_file.specs.Records.{filedBook}
 use Rattle.state_file.specs.StateFile.{readFile}
-use Rattle.salvage_file.specs.Salvage.{Dropped, droppedFrom, holdRule, holdRules, keptBook, keptOf, leaseRule, leaseRules, releaseRule, releaseRules, rulesIn, salvageOf, settingsSound, tenantKnown, withHold, withLease, withRelease}
+use Rattle.salvage_file.specs.Salvage.{Dropped, droppedFrom, holdRule, holdRules, keptBook, keptAfter, leaseRule, leaseRules, releaseRule, releaseRules, rulesIn, salvageOf, settingsSound, knownTenant, withHold, withLease, withRelease}
 
 -- ---- "The file is always accepted"
 unfoldable pub AlwaysAccepted : Type 0
@@ -37,7 +37,7 @@ SoundUnchanged = (s : List ℕ) (n m : ℕ) → Octets s → readFile s .refusal
 -- each of a section is judged with those of it that were kept before, and with what was kept before the section
 unfoldable pub JudgedInTurn : Type 1
 JudgedInTurn = {A B : Type 0} (rule : B → A → ℕ) (add : B → A → B) (b : B) (before : List A) (x : A) (after : List A)
-    → getD (rulesIn rule add b (before ++ x ∷ after)) (length before) 0 ≡ rule (keptOf rule add b before) x
+    → getD (rulesIn rule add b (before ++ x ∷ after)) (length before) 0 ≡ rule (keptAfter rule add b before) x
 
 -- the list names, of a section in which the rules rs are broken, just those that break one, with their places and these rules
 pub record ListedIn (kind : ℕ) (rs : List ℕ) (d : Dropped) : Type 0 where
@@ -55,18 +55,18 @@ ListedRight = (kind : ℕ) (rs : List ℕ) → All (ListedIn kind rs) (droppedFr
 pub record FirstOfLease (s : State) (b : LeaseTable) (x : FileLease) : Type 0 where
   pub held : leaseFitB x ≡ true → length (inUse (tenantAt b (x .tenant - 1))) < 16 → leaseRule s b x ≡ firstRule (rulesOf s (withLease b x))
   pub other : leaseFitB x ≡ false → isIn (leaseRule s b x) (1 ∷ 2 ∷ 7 ∷ []) ≡ true
-  pub full : tenantKnown s (x .tenant) ≡ true → 16 ≤ length (inUse (tenantAt b (x .tenant - 1))) → leaseRule s b x ≡ 1
+  pub full : knownTenant s (x .tenant) ≡ true → 16 ≤ length (inUse (tenantAt b (x .tenant - 1))) → leaseRule s b x ≡ 1
 
 pub record FirstOfHold (s : State) (b : LeaseTable) (x : FileHold) : Type 0 where
   pub held : holdFitB x ≡ true → length (inUse (tenantAt b (x .lease .tenant - 1))) < 16 → holdRule s b x ≡ firstRule (rulesOf s (withHold b x))
   pub other : holdFitB x ≡ false → 0 < holdRule s b x
-  pub full : tenantKnown s (x .lease .tenant) ≡ true → 16 ≤ length (inUse (tenantAt b (x .lease .tenant - 1))) → holdRule s b x ≡ 1
+  pub full : knownTenant s (x .lease .tenant) ≡ true → 16 ≤ length (inUse (tenantAt b (x .lease .tenant - 1))) → holdRule s b x ≡ 1
 
 -- of W-202's five a release that the memory can hold, and a house's fifth
 pub record FirstOfRelease (s : State) (b : LeaseTable) (m : Memory) (x : FileRelease) : Type 0 where
   pub held : keepableB x ≡ true → releasesAt m (x .tenant - 1) .count < 4 → releaseRule s b m x ≡ firstRelease (releaseRulesOf s b (withRelease m x))
   pub other : keepableB x ≡ false → isIn (releaseRule s b m x) (14 ∷ 15 ∷ 16 ∷ []) ≡ true
-  pub full : tenantKnown s (x .tenant) ≡ true → 4 ≤ releasesAt m (x .tenant - 1) .count → releaseRule s b m x ≡ 15
+  pub full : knownTenant s (x .tenant) ≡ true → 4 ≤ releasesAt m (x .tenant - 1) .count → releaseRule s b m x ≡ 15
 
 -- of a sound book; a file's offsets rise
 unfoldable pub FirstBroken : Type 0

@@ -17,7 +17,7 @@ use Rattle.salvage_file.specs.declared.Kept.{Kept}
 use Rattle.salvage_file.specs.declared.Salvaged.{Salvaged}
 use Rattle.salvage_file.specs.declared.Walked.{Walked}
 use Rattle.salvage_file.specs.declared.WalkedReleases.{WalkedReleases}
-use Rattle.salvage_file.specs.Salvage.{Dropped, Salvage, droppedFrom, holdRule, holdRules, keptOf, leaseRule, leaseRules, recordsKept, releaseRule, releaseRules, releasesKept, rulesIn, withHold, withLease, withRelease}
+use Rattle.salvage_file.specs.Salvage.{Dropped, Salvage, droppedFrom, holdRule, holdRules, keptAfter, leaseRule, leaseRules, recordsKept, releaseRule, releaseRules, releasesKept, rulesIn, withHold, withLease, withRelease}
 
 -- ---- either section
 unfoldable pub entryRule : (holds : Bool) → State → LeaseTable → Entry holds → ℕ
@@ -38,14 +38,14 @@ droppedIn leases holds releases = droppedFrom 1 1 leases ++ droppedFrom 2 1 hold
 
 -- ---- what each walk gives
 pub record WalksRecords (holds : Bool) (s : State) (b : LeaseTable) (xs : List (Entry holds)) (r : Walked) : Type 0 where
-  pub table : r .table ≡ keptOf (entryRule holds s) (withEntry holds) b xs
+  pub table : r .table ≡ keptAfter (entryRule holds s) (withEntry holds) b xs
   pub rules : r .rules ≡ marked (rulesIn (entryRule holds s) (withEntry holds) b xs)
 
 pub record WalksReleases (s : State) (b : LeaseTable) (m : Memory) (xs : List FileRelease) (r : WalkedReleases) : Type 0 where
-  pub memory : r .memory ≡ keptOf (releaseRule s b) withRelease m xs
+  pub memory : r .memory ≡ keptAfter (releaseRule s b) withRelease m xs
   pub rules : r .rules ≡ marked (rulesIn (releaseRule s b) withRelease m xs)
 
-pub record Keeps (f : File) (r : Kept) : Type 0 where
+pub record WalksFile (f : File) (r : Kept) : Type 0 where
   pub state : r .state ≡ storedState f
   pub table : r .table ≡ recordsKept f
   pub memory : r .memory ≡ releasesKept f

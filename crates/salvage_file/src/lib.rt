@@ -10,7 +10,7 @@ ghost use mathlib.Core.Path.{_≡_};
 ghost use lib.ListN.{length};
 ghost use Rattle.state_file.specs.Place.{Formed, fileAt};
 ghost use Rattle.salvage_file.specs.Salvage.{salvageFile, salvageOf, settingsSound};
-ghost use Rattle.salvage_file.specs.Walk.{Keeps, Salvages};
+ghost use Rattle.salvage_file.specs.Walk.{WalksFile, Salvages};
 use crate::list::list_size;
 use crate::list::put_list;
 use crate::walk::no_table;
@@ -95,7 +95,7 @@ fn settings_sound(file: &[u8], places: Places) -> bool
 
 // Writes the file of those kept and the list of those dropped, or neither where a room is too short.
 fn write(file: &[u8], places: Places, kept: Kept, room: &mut [u8], list: &mut [u8]) -> Salvaged
-    requires { ⌜ Formed (now file) places × (settingsSound (fileAt (now file) places) ≡ true) × Keeps (fileAt (now file) places) kept ⌝ }
+    requires { ⌜ Formed (now file) places × (settingsSound (fileAt (now file) places) ≡ true) × WalksFile (fileAt (now file) places) kept ⌝ }
     ensures { λ r. ⌜ Salvages (salvageFile (fileAt (now (file .entry)) places) (length (now (room .entry))) (length (now (list .entry)))) (now (room .entry)) (now (list .entry)) (now (room .exit)) (now (list .exit)) r ⌝ }
 {
     let from = places.names;

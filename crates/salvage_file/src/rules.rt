@@ -11,7 +11,7 @@ ghost use Rattle.soundness.specs.Sound.{idLengthB};
 ghost use Rattle.lease_file.specs.Place.{StorableAt, afterEntry, afterLease, entryAt, fileLeaseAt};
 ghost use Rattle.lease_file.specs.Records.{storedEntry};
 ghost use Rattle.release_file.specs.Place.{KeepableAt, afterRelease, fileReleaseAt};
-ghost use Rattle.salvage_file.specs.Salvage.{limitsB, namedB, offsetsB, releaseRule, scopeKnown, tenantKnown, typeAfter, typedHold, withRecord, withRelease};
+ghost use Rattle.salvage_file.specs.Salvage.{limitsKept, namesKnown, offsetsKept, releaseRule, knownScope, knownTenant, typeAfter, typedHold, withRecord, withRelease};
 ghost use Rattle.salvage_file.specs.Walk.{entryRule, withEntry};
 use message::MessageType;
 use state::Lease;
@@ -29,7 +29,7 @@ fn wide(x: u8) -> usize
 
 // Whether there is a tenant of a number, which counts from 1.
 fn tenant_known(state: State, t: u8) -> bool
-    ensures { λ r. ⌜ r ≡ tenantKnown state t ⌝ }
+    ensures { λ r. ⌜ r ≡ knownTenant state t ⌝ }
 {
     if t < 1 {
         return false;
@@ -39,7 +39,7 @@ fn tenant_known(state: State, t: u8) -> bool
 
 // The same of a scope.
 fn scope_known(state: State, c: u8) -> bool
-    ensures { λ r. ⌜ r ≡ scopeKnown state c ⌝ }
+    ensures { λ r. ⌜ r ≡ knownScope state c ⌝ }
 {
     if c < 1 {
         return false;
@@ -62,7 +62,7 @@ fn id_length_ok(n: u8) -> bool
 // Rule 1 of the entry that starts at `at`: its identifier's length, and a record that is left to its tenant, where there is one of that number.
 fn limits_kept(s: &[u8], at: usize, state: State, table: LeaseTable) -> bool
     requires { ⌜ Inside afterLease (now s) at ⌝ }
-    ensures { λ r. ⌜ r ≡ limitsB state table (fileLeaseAt (now (s .entry)) at) ⌝ }
+    ensures { λ r. ⌜ r ≡ limitsKept state table (fileLeaseAt (now (s .entry)) at) ⌝ }
 {
     if !id_length_ok(s[at + 2]) {
         return false;
@@ -78,7 +78,7 @@ fn limits_kept(s: &[u8], at: usize, state: State, table: LeaseTable) -> bool
 // Rule 2: at most 64 addresses, each below the size of its scope, where there is one of that number.
 fn offsets_kept(s: &[u8], at: usize, state: State) -> bool
     requires { ⌜ Inside afterLease (now s) at ⌝ }
-    ensures { λ r. ⌜ r ≡ offsetsB state (fileLeaseAt (now (s .entry)) at) ⌝ }
+    ensures { λ r. ⌜ r ≡ offsetsKept state (fileLeaseAt (now (s .entry)) at) ⌝ }
 {
     let n = wide(s[at + 2]);
     let k = wide(s[at + (n + 16)]);
@@ -121,7 +121,7 @@ fn may_have(kind: u8, holds: bool) -> bool
 // Rule 7, as far as no record can hold what breaks it: a known tenant and scope, and a type that the section may have.
 fn is_named(s: &[u8], at: usize, holds: bool, state: State) -> bool
     requires { ⌜ Inside afterLease (now s) at ⌝ }
-    ensures { λ r. ⌜ r ≡ namedB state (fileLeaseAt (now (s .entry)) at) (pick holds true (not (eqb (fileLeaseAt (now (s .entry)) at .kind) 1))) ⌝ }
+    ensures { λ r. ⌜ r ≡ namesKnown state (fileLeaseAt (now (s .entry)) at) (pick holds true (not (eqb (fileLeaseAt (now (s .entry)) at .kind) 1))) ⌝ }
 {
     if tenant_known(state, s[at]) {
         if scope_known(state, s[at + 1]) {

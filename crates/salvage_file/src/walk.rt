@@ -6,7 +6,7 @@ ghost use Rattle.release_file.specs.Place.{ReleasesIn, releasesIn};
 ghost use Rattle.state_file.specs.Place.{Formed, fileAt};
 ghost use Rattle.state_file.specs.StateFile.{zeroTable};
 ghost use Rattle.salvage_file.specs.Salvage.{settingsSound};
-ghost use Rattle.salvage_file.specs.Walk.{Keeps, WalksRecords, WalksReleases};
+ghost use Rattle.salvage_file.specs.Walk.{WalksFile, WalksRecords, WalksReleases};
 use crate::Kept;
 use crate::Walked;
 use crate::WalkedReleases;
@@ -30,7 +30,7 @@ pub fn no_table() -> LeaseTable
 // The whole walk over a file whose settings are sound.
 pub fn walk(file: &[u8], places: Places) -> Kept
     requires { ⌜ Formed (now file) places × (settingsSound (fileAt (now file) places) ≡ true) ⌝ }
-    ensures { λ r. ⌜ Keeps (fileAt (now (file .entry)) places) r ⌝ }
+    ensures { λ r. ⌜ WalksFile (fileAt (now (file .entry)) places) r ⌝ }
 {
     let state = state_file::state_at(file, places.scopes);
     let a = walk_records(file, places.leases, false, state, no_table());

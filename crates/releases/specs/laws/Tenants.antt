@@ -142,9 +142,9 @@ module _ {s : State} {t : LeaseTable} {m : Memory} {n : ℕ} {all : ReleaseRules
 pub ruleset memories = (memory-start, memory-next, memory-whole, unmapped)
 
 -- whether none is broken
-pub memory-sound : {s : State} {t : LeaseTable} {m : Memory} {all : ReleaseRules} {x : ℕ} → all ≡ releaseRulesOf s t m → x ≡ brokenRelease all → eqb x 0 ≡ memoryB s t m
+pub memory-sound : (s : State) (t : LeaseTable) (m : Memory) {all : ReleaseRules} {x : ℕ} → all ≡ releaseRulesOf s t m → x ≡ brokenRelease all → eqb x 0 ≡ memoryB s t m
 unfolding memoryB brokenMemory
-memory-sound e p = ap (λ (x : ℕ). eqb x 0) (p ∙ ap brokenRelease e)
+memory-sound s t m e p = ap (λ (x : ℕ). eqb x 0) (p ∙ ap brokenRelease e)
 
 -- of a table that the code reads
 pub own-rules : (t : LeaseTable) (h : ℕ) (d : TenantLeases) (q : TenantReleases) → length (t .tenants) ≡ 8 → h < 8

@@ -58,7 +58,7 @@ struct Kept {
 pub fn salvage(file: &[u8], room: &mut [u8], list: &mut [u8]) -> Salvaged
     ensures { λ r. ⌜ Salvages (salvageOf (now (file .entry)) (length (now (room .entry))) (length (now (list .entry)))) (now (room .entry)) (now (list .entry)) (now (room .exit)) (now (list .exit)) r ⌝ }
 {
-    let layout = state_file::form(file);
+    let layout = state_file::form_of(file);
     let Layout::Right(places) = layout else {
         return refused(20);
     };
@@ -101,17 +101,23 @@ fn write(file: &[u8], places: Places, kept: Kept, room: &mut [u8], list: &mut [u
     let from = places.names;
     let end = places.releases;
     let names = &file[from..end];
-    let filed = lease_file::in_file_order(kept.table);
-    let n = state_file::file_size(kept.state, filed, kept.memory, names);
-    let m = list_size(kept.leases, kept.holds, kept.releases);
+    let state = kept.state;
+    let table = kept.table;
+    let memory = kept.memory;
+    let leases = kept.leases;
+    let holds = kept.holds;
+    let releases = kept.releases;
+    let filed = lease_file::in_file_order(table);
+    let n = state_file::file_size(state, filed, memory, names);
+    let m = list_size(leases, holds, releases);
     if room.len() < n {
         return refused(23);
     }
     if list.len() < m {
         return refused(23);
     }
-    state_file::put_file(room, kept.state, filed, kept.memory, names);
-    put_list(list, kept.leases, kept.holds, kept.releases);
+    state_file::put_file(room, state, filed, memory, names);
+    put_list(list, leases, holds, releases);
     Salvaged {
         refusal: 0,
         length: n,

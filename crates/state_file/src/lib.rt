@@ -7,7 +7,7 @@ mod load;
 mod put;
 mod size;
 
-pub use form::form;
+pub use form::form_of;
 pub use limits::counts_fit;
 pub use load::state_at;
 pub use put::put_file;
@@ -60,7 +60,7 @@ pub enum Layout {
 pub fn read(s: &[u8]) -> Loaded
     ensures { λ r. ⌜ r ≡ readFile (now (s .entry)) ⌝ }
 {
-    let layout = form(s);
+    let layout = form_of(s);
     let Layout::Right(places) = layout else {
         return refusal(20);
     };
@@ -71,7 +71,7 @@ pub fn read(s: &[u8]) -> Loaded
 pub fn names(file: &[u8]) -> &[u8]
     ensures { λ r. ⌜ now r ≡ namesOf (now (file .entry)) ⌝ }
 {
-    let layout = form(file);
+    let layout = form_of(file);
     let Layout::Right(places) = layout else {
         return &file[0..0];
     };

@@ -36,7 +36,7 @@ SoundUnchanged = (s : List ℕ) (n m : ℕ) → Octets s → readFile s .refusal
 -- ---- what is dropped would break the rule that is named, together with those kept before it
 -- each of a section is judged with those of it that were kept before, and with what was kept before the section
 unfoldable pub JudgedInTurn : Type 1
-JudgedInTurn = {A B : Type 0} (rule : B → A → ℕ) (add : B → A → B) (b : B) (before : List A) (x : A) (after : List A)
+JudgedInTurn = (A B : Type 0) (rule : B → A → ℕ) (add : B → A → B) (b : B) (before : List A) (x : A) (after : List A)
     → getD (rulesIn rule add b (before ++ x ∷ after)) (length before) 0 ≡ rule (keptAfter rule add b before) x
 
 -- the list names, of a section in which the rules rs are broken, just those that break one, with their places and these rules

@@ -1,10 +1,13 @@
 -- Definitions: the walk as the code does it: over leases or holds by one function, with the rules of a section's entries in an array of 255; and what the salvage
 -- promises of its answer and of both rooms.
 use mathlib.Core.Bool.{Bool, false, true}
-use mathlib.Core.List.{List, _++_}
+use mathlib.Core.List.{List, [], _++_, _∷_}
 use mathlib.Core.Path.{_≡_}
 use Prim.Native.Nat.{ℕ}
+use lib.Dec.{eqb, ltb}
 use lib.ListN.{drop, length}
+use Rattle.lists.specs.All.{allBy}
+use Rattle.lists.specs.Pick.{pick}
 use Rattle.lists.specs.Row.{laidRow}
 use Rattle.lease_file.specs.Section.{Entry}
 use Rattle.state.specs.declared.LeaseTable.{LeaseTable}
@@ -35,6 +38,21 @@ marked rs = laidRow 0 255 rs
 -- those dropped, from the arrays of the three sections, whose zeros past the last entry drop nothing
 abbrev pub droppedIn : List ℕ → List ℕ → List ℕ → List Dropped
 droppedIn leases holds releases = droppedFrom 1 1 leases ++ droppedFrom 2 1 holds ++ droppedFrom 3 1 releases
+
+-- the octets of an entry that breaks a rule, none of one that breaks none; and whether it counts
+unfoldable pub droppedAt : ℕ → ℕ → ℕ → List ℕ
+droppedAt kind place r = pick (eqb r 0) [] (kind ∷ place ∷ r ∷ [])
+
+unfoldable pub oneIf : ℕ → ℕ
+oneIf r = pick (eqb r 0) 0 1
+
+-- all below a bound
+unfoldable pub lowerThan : ℕ → List ℕ → Bool
+lowerThan bound xs = allBy (λ a. ltb a bound) xs
+
+-- what breaks no rule fits where it is kept
+pub record KeptWhole (P : Type 0) (r : ℕ) : Type 0 where
+  pub fits : r ≡ 0 → P
 
 -- ---- what each walk gives
 pub record WalksRecords (holds : Bool) (s : State) (b : LeaseTable) (xs : List (Entry holds)) (r : Walked) : Type 0 where

@@ -5,7 +5,7 @@ ghost use Prim.Native.Nat.{_+_, _≤_};
 ghost use lib.ListN.{length};
 ghost use Rattle.octets.specs.Octets.{Wrote};
 ghost use Rattle.salvage_file.specs.Salvage.{droppedFrom, droppedList, droppedOctets};
-ghost use Rattle.salvage_file.specs.Walk.{droppedIn};
+ghost use Rattle.salvage_file.specs.Walk.{droppedAt, droppedIn, oneIf};
 
 // How many octets the list has.
 pub fn list_size(leases: [u8; 255], holds: [u8; 255], releases: [u8; 255]) -> usize
@@ -28,12 +28,20 @@ fn broken_count(rules: [u8; 255]) -> usize
     let mut n: usize = 0;
     let mut i: usize = 0;
     while i < 255 {
-        if rules[i] != 0 {
-            n += 1;
-        }
+        n += one_if(rules[i]);
         i += 1;
     }
     n
+}
+
+// 1 for an entry that is dropped, 0 for one that is kept.
+fn one_if(rule: u8) -> usize
+    ensures { λ r. ⌜ (r ≡ oneIf rule) × (r ≤ 1) ⌝ }
+{
+    if rule == 0 {
+        return 0;
+    }
+    1
 }
 
 // Writes the list: the count, then leases, holds and releases.
@@ -56,12 +64,21 @@ fn put_dropped(list: &mut [u8], at: usize, kind: u8, rules: [u8; 255]) -> usize
     let mut to = at;
     let mut i: usize = 0;
     while i < 255 {
-        if rules[i] != 0 {
-            to = put_one(list, to, kind, (i + 1) as u8, rules[i]);
-        }
+        to = put_if(list, to, kind, (i + 1) as u8, rules[i]);
         i += 1;
     }
     to
+}
+
+// One entry, where it is dropped.
+fn put_if(list: &mut [u8], at: usize, kind: u8, place: u8, rule: u8) -> usize
+    requires { ⌜ at + length (droppedAt kind place rule) ≤ length (now list) ⌝ }
+    ensures { λ r. ⌜ Wrote (now (list .entry)) at (droppedAt kind place rule) (now (list .exit)) r ⌝ }
+{
+    if rule == 0 {
+        return at;
+    }
+    put_one(list, at, kind, place, rule)
 }
 
 fn put_one(list: &mut [u8], at: usize, kind: u8, place: u8, rule: u8) -> usize

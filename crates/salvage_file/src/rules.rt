@@ -1,28 +1,35 @@
 // The first rule that an entry breaks together with those kept so far, judged on its octets as far as no record can hold what breaks it, and then on the records with it.
 ghost use mathlib.Core.Bool.{not, true};
 ghost use mathlib.Core.Path.{_≡_};
-ghost use Prim.Native.Nat.{_+_, _<_, _≤_};
-ghost use lib.Dec.{eqb, ltb};
+ghost use Prim.Native.Nat.{_+_, _-_, _<_, _≤_};
+ghost use lib.Dec.{eqb};
 ghost use lib.ListN.{drop, length, take};
 ghost use Rattle.format.specs.Section.{Inside};
-ghost use Rattle.lists.specs.All.{allBy};
 ghost use Rattle.lists.specs.Pick.{pick};
 ghost use Rattle.soundness.specs.Sound.{idLengthB};
 ghost use Rattle.lease_file.specs.Place.{StorableAt, afterEntry, afterLease, entryAt, fileLeaseAt};
 ghost use Rattle.lease_file.specs.Records.{storedEntry};
 ghost use Rattle.release_file.specs.Place.{KeepableAt, afterRelease, fileReleaseAt};
 ghost use Rattle.salvage_file.specs.Salvage.{limitsKept, namesKnown, offsetsKept, releaseRule, knownScope, knownTenant, typeAfter, typedHold, withRecord, withRelease};
-ghost use Rattle.salvage_file.specs.Walk.{entryRule, withEntry};
+ghost use Rattle.salvage_file.specs.Walk.{KeptWhole, entryRule, lowerThan, withEntry};
 use message::MessageType;
 use state::Lease;
 use state::LeaseTable;
 use state::Memory;
 use state::State;
 
-fn wide(x: u8) -> usize
+pub fn wide(x: u8) -> usize
     ensures { λ r. ⌜ (r ≡ x) × (r < 256) ⌝ }
 {
     x as usize
+}
+
+// The place of a tenant among the eight.
+fn tenant_place(t: u8) -> usize
+    requires { ⌜ (1 ≤ t) × (t ≤ 8) ⌝ }
+    ensures { λ r. ⌜ (r ≡ t - 1) × (r < 8) ⌝ }
+{
+    wide(t) - 1
 }
 
 // ---- what is known
@@ -69,7 +76,8 @@ fn limits_kept(s: &[u8], at: usize, state: State, table: LeaseTable) -> bool
     }
     let t = s[at];
     if tenant_known(state, t) {
-        let own = table.tenants[arithmetic::place_of(t)];
+        let h = tenant_place(t);
+        let own = table.tenants[h];
         return state::lease_count(own) < 16;
     }
     true
@@ -96,7 +104,7 @@ fn offsets_kept(s: &[u8], at: usize, state: State) -> bool
 // Whether the k octets from `at` on are all below a bound.
 fn all_below(s: &[u8], at: usize, k: usize, bound: u8) -> bool
     requires { ⌜ at + k ≤ length (now s) ⌝ }
-    ensures { λ r. ⌜ r ≡ allBy (λ a. ltb a bound) (take k (drop at (now (s .entry)))) ⌝ }
+    ensures { λ r. ⌜ r ≡ lowerThan bound (take k (drop at (now (s .entry)))) ⌝ }
 {
     let mut i: usize = 0;
     while i < k {
@@ -123,13 +131,14 @@ fn is_named(s: &[u8], at: usize, holds: bool, state: State) -> bool
     requires { ⌜ Inside afterLease (now s) at ⌝ }
     ensures { λ r. ⌜ r ≡ namesKnown state (fileLeaseAt (now (s .entry)) at) (pick holds true (not (eqb (fileLeaseAt (now (s .entry)) at .kind) 1))) ⌝ }
 {
-    if tenant_known(state, s[at]) {
-        if scope_known(state, s[at + 1]) {
-            let n = wide(s[at + 2]);
-            return may_have(s[at + (n + 3)], holds);
-        }
+    if !tenant_known(state, s[at]) {
+        return false;
     }
-    false
+    if !scope_known(state, s[at + 1]) {
+        return false;
+    }
+    let n = wide(s[at + 2]);
+    may_have(s[at + (n + 3)], holds)
 }
 
 // The record of an entry as its rules go by it: one among the holds is a hold to all rules but the last.
@@ -137,9 +146,17 @@ fn judged_at(s: &[u8], at: usize, holds: bool) -> Lease
     requires { ⌜ StorableAt holds (now s) at ⌝ }
     ensures { λ r. ⌜ r ≡ pick holds (typedHold (storedEntry holds (entryAt holds (now (s .entry)) at))) (storedEntry holds (entryAt holds (now (s .entry)) at)) ⌝ }
 {
-    let mut l = lease_file::record_at(s, at, holds);
+    let l = lease_file::record_at(s, at, holds);
+    typed_hold(l, holds)
+}
+
+fn typed_hold(l: Lease, holds: bool) -> Lease
+    ensures { λ r. ⌜ r ≡ pick holds (typedHold l) l ⌝ }
+{
     if holds {
-        l.kind = MessageType::DISCOVER;
+        let mut now = l;
+        now.kind = MessageType::DISCOVER;
+        return now;
     }
     l
 }
@@ -149,7 +166,7 @@ fn with_record(table: LeaseTable, t: u8, l: Lease) -> LeaseTable
     requires { ⌜ (1 ≤ t) × (t ≤ 8) ⌝ }
     ensures { λ r. ⌜ r ≡ withRecord table t l ⌝ }
 {
-    let h = arithmetic::place_of(t);
+    let h = tenant_place(t);
     let own = table.tenants[h];
     let more = state::insert(own, l);
     let mut now = table;
@@ -161,14 +178,16 @@ fn with_record(table: LeaseTable, t: u8, l: Lease) -> LeaseTable
 fn type_after(kind: u8, r: u8, holds: bool) -> u8
     ensures { λ x. ⌜ x ≡ pick holds (typeAfter kind r) r ⌝ }
 {
-    if holds {
-        if r == 0 {
-            if kind != MessageType::DISCOVER {
-                return 13;
-            }
-        }
+    if !holds {
+        return r;
     }
-    r
+    if r != 0 {
+        return r;
+    }
+    if kind != MessageType::DISCOVER {
+        return 13;
+    }
+    0
 }
 
 // The first rule that the records break with the entry that starts at `at`, or 0.
@@ -187,12 +206,31 @@ pub fn entry_rule(s: &[u8], at: usize, holds: bool, state: State, table: LeaseTa
     }
     let l = judged_at(s, at, holds);
     let all = soundness::check_rules(state, with_record(table, s[at], l));
+    type_after(kind_at(s, at), soundness::first_rule(all), holds)
+}
+
+// The type of the entry that starts at `at`.
+fn kind_at(s: &[u8], at: usize) -> u8
+    requires { ⌜ Inside afterLease (now s) at ⌝ }
+    ensures { λ r. ⌜ r ≡ fileLeaseAt (now (s .entry)) at .kind ⌝ }
+{
     let n = wide(s[at + 2]);
-    type_after(s[at + (n + 3)], soundness::first_rule(all), holds)
+    s[at + (n + 3)]
+}
+
+// The records with the entry that starts at `at`, where it breaks no rule.
+pub fn keep_entry(s: &[u8], at: usize, holds: bool, rule: u8, table: LeaseTable) -> LeaseTable
+    requires { ⌜ KeptWhole (StorableAt holds (now s) at) rule ⌝ }
+    ensures { λ r. ⌜ r ≡ pick (eqb rule 0) (withEntry holds table (entryAt holds (now (s .entry)) at)) table ⌝ }
+{
+    if rule == 0 {
+        return with_entry(s, at, holds, table);
+    }
+    table
 }
 
 // The records with the entry that starts at `at`.
-pub fn with_entry(s: &[u8], at: usize, holds: bool, table: LeaseTable) -> LeaseTable
+fn with_entry(s: &[u8], at: usize, holds: bool, table: LeaseTable) -> LeaseTable
     requires { ⌜ StorableAt holds (now s) at ⌝ }
     ensures { λ r. ⌜ r ≡ withEntry holds table (entryAt holds (now (s .entry)) at) ⌝ }
 {
@@ -201,12 +239,23 @@ pub fn with_entry(s: &[u8], at: usize, holds: bool, table: LeaseTable) -> LeaseT
 
 // ---- releases
 
+// What is remembered with the release that starts at `at`, where it breaks no rule.
+pub fn keep_release(s: &[u8], at: usize, rule: u8, memory: Memory) -> Memory
+    requires { ⌜ KeptWhole (KeepableAt (now s) at) rule ⌝ }
+    ensures { λ r. ⌜ r ≡ pick (eqb rule 0) (withRelease memory (fileReleaseAt (now (s .entry)) at)) memory ⌝ }
+{
+    if rule == 0 {
+        return with_release(s, at, memory);
+    }
+    memory
+}
+
 // What is remembered with the release that starts at `at`.
-pub fn with_release(s: &[u8], at: usize, memory: Memory) -> Memory
+fn with_release(s: &[u8], at: usize, memory: Memory) -> Memory
     requires { ⌜ KeepableAt (now s) at ⌝ }
     ensures { λ r. ⌜ r ≡ withRelease memory (fileReleaseAt (now (s .entry)) at) ⌝ }
 {
-    let h = arithmetic::place_of(s[at]);
+    let h = tenant_place(s[at]);
     let q = memory.releases[h];
     let more = state::push_release(q, release_file::release_at(s, at));
     let mut now = memory;
@@ -223,7 +272,8 @@ pub fn release_rule(s: &[u8], at: usize, state: State, table: LeaseTable, memory
     if !tenant_known(state, t) {
         return 14;
     }
-    let q = memory.releases[arithmetic::place_of(t)];
+    let h = tenant_place(t);
+    let q = memory.releases[h];
     if 4 <= q.count {
         return 15;
     }

@@ -11,9 +11,10 @@ use crate::Kept;
 use crate::Walked;
 use crate::WalkedReleases;
 use crate::rules::entry_rule;
+use crate::rules::keep_entry;
+use crate::rules::keep_release;
 use crate::rules::release_rule;
-use crate::rules::with_entry;
-use crate::rules::with_release;
+use crate::rules::wide;
 use state::LeaseTable;
 use state::Memory;
 use state::State;
@@ -33,22 +34,24 @@ pub fn walk(file: &[u8], places: Places) -> Kept
     ensures { λ r. ⌜ WalksFile (fileAt (now (file .entry)) places) r ⌝ }
 {
     let state = state_file::state_at(file, places.scopes);
-    let a = walk_records(file, places.leases, false, state, no_table());
-    let b = walk_records(file, places.holds, true, state, a.table);
-    let c = walk_releases(
-        file,
-        places.releases,
-        state,
-        b.table,
-        state_file::no_memory(),
-    );
+    let none = no_table();
+    let a = walk_records(file, places.leases, false, state, none);
+    let first = a.table;
+    let leases = a.rules;
+    let b = walk_records(file, places.holds, true, state, first);
+    let table = b.table;
+    let holds = b.rules;
+    let nothing = state_file::no_memory();
+    let c = walk_releases(file, places.releases, state, table, nothing);
+    let memory = c.memory;
+    let releases = c.rules;
     Kept {
         state,
-        table: b.table,
-        memory: c.memory,
-        leases: a.rules,
-        holds: b.rules,
-        releases: c.rules,
+        table,
+        memory,
+        leases,
+        holds,
+        releases,
     }
 }
 
@@ -59,15 +62,13 @@ fn walk_records(s: &[u8], at: usize, holds: bool, state: State, before: LeaseTab
 {
     let mut table = before;
     let mut rules = [0u8; 255];
-    let count = s[at] as usize;
+    let count = wide(s[at]);
     let mut here = at + 1;
     let mut i: usize = 0;
     while i < count {
         let r = entry_rule(s, here, holds, state, table);
         rules[i] = r;
-        if r == 0 {
-            table = with_entry(s, here, holds, table);
-        }
+        table = keep_entry(s, here, holds, r, table);
         here = lease_file::entry_next(s, here, holds);
         i += 1;
     }
@@ -87,15 +88,13 @@ fn walk_releases(
 {
     let mut memory = before;
     let mut rules = [0u8; 255];
-    let count = s[at] as usize;
+    let count = wide(s[at]);
     let mut here = at + 1;
     let mut i: usize = 0;
     while i < count {
         let r = release_rule(s, here, state, table, memory);
         rules[i] = r;
-        if r == 0 {
-            memory = with_release(s, here, memory);
-        }
+        memory = keep_release(s, here, r, memory);
         here = release_file::release_next(s, here);
         i += 1;
     }

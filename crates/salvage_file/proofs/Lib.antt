@@ -1,0 +1,5 @@
+pub mod Listed
+mod Chosen
+mod Table
+mod Records
+mod Memory

@@ -28,8 +28,8 @@ module _ {A B : Type 0} (rule : B → A → ℕ) (add : B → A → B) (K : B �
           → K (keptAfter rule add b xs) (ks ++ keptOnes (rulesIn rule add b xs) xs)
           → K (fold (keptWith rule add) (pick t (add b x) b) xs)
           (ks ++ pick t (x ∷ keptOnes (rulesIn rule add (pick t (add b x) b) xs) xs) (keptOnes (rulesIn rule add (pick t (add b x) b) xs) xs))
-      go true e yes no = subst (K (keptAfter rule add (add b x) xs)) (append-assoc ks (x ∷ []) (keptOnes (rulesIn rule add (add b x) xs) xs)) (yes (eqb-true (rule b x) 0 e))
-      go false e yes no = no
+      go true e with-it without = subst (K (keptAfter rule add (add b x) xs)) (append-assoc ks (x ∷ []) (keptOnes (rulesIn rule add (add b x) xs) xs)) (with-it (eqb-true (rule b x) 0 e))
+      go false e with-it without = without
 
 -- ---- what holds of all entries holds of those kept
 pub kept-each : {A : Type 0} (P : A → Type 0) (rs : List ℕ) (xs : List A) → All P xs → All P (keptOnes rs xs)
@@ -82,5 +82,5 @@ module _ {A K : Type 0} (key : A → K) (wrong : K → A → Bool) (trans : (k :
     where
       go : (b : Bool) → wrong k x ≡ false → orderedFrom key wrong (key x) (keptOnes rs xs) ≡ true → orderedFrom key wrong k (keptOnes rs xs) ≡ true
           → orderedFrom key wrong k (pick b (x ∷ keptOnes rs xs) (keptOnes rs xs)) ≡ true
-      go true e yes no = ap (λ (c : Bool). pick c false (orderedFrom key wrong (key x) (keptOnes rs xs))) e ∙ yes
-      go false e yes no = no
+      go true e with-it without = ap (λ (c : Bool). pick c false (orderedFrom key wrong (key x) (keptOnes rs xs))) e ∙ with-it
+      go false e with-it without = without

@@ -235,7 +235,7 @@ layout-row l p q =
     (and-both (ap (allBy paddedB) (read-back l) ∙ q) (ap (allBy unusedB) (drop-at l (replicate (16 - length l) zeroLease) (length l) refl) ∙ unused-zeros (16 - length l)))
 
 pub zeros-past : (k : ℕ) (id : List ℕ) → zeroFrom (length id) (id ++ replicate k 0) ≡ true
-unfolding zeroFrom
+unfolding zeroFrom allBy
 zeros-past k id = ap (allBy (λ x. eqb x 0)) (drop-at id (replicate k 0) (length id) refl) ∙ all k
   where
     all : (k : ℕ) → allBy (λ x. eqb x 0) (replicate k 0) ≡ true

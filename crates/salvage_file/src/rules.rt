@@ -2,11 +2,12 @@
 ghost use mathlib.Core.Bool.{not, true};
 ghost use mathlib.Core.Path.{_≡_};
 ghost use Prim.Native.Nat.{_+_, _-_, _<_, _≤_};
-ghost use lib.Dec.{eqb};
+ghost use lib.Dec.{eqb, leb};
 ghost use lib.ListN.{drop, length, take};
 ghost use Rattle.format.specs.Section.{Inside};
 ghost use Rattle.lists.specs.Pick.{pick};
 ghost use Rattle.soundness.specs.Sound.{idLengthB};
+ghost use Rattle.state.specs.Book.{releasesAt};
 ghost use Rattle.lease_file.specs.Place.{StorableAt, afterEntry, afterLease, entryAt, fileLeaseAt};
 ghost use Rattle.lease_file.specs.Records.{storedEntry};
 ghost use Rattle.release_file.specs.Place.{KeepableAt, afterRelease, fileReleaseAt};
@@ -263,6 +264,16 @@ fn with_release(s: &[u8], at: usize, memory: Memory) -> Memory
     now
 }
 
+// Whether as many releases of a tenant are remembered as there may be.
+fn is_full(memory: Memory, t: u8) -> bool
+    requires { ⌜ (1 ≤ t) × (t ≤ 8) ⌝ }
+    ensures { λ r. ⌜ r ≡ leb 4 (releasesAt memory (t - 1) .count) ⌝ }
+{
+    let h = tenant_place(t);
+    let q = memory.releases[h];
+    4 <= q.count
+}
+
 // The first rule that what is remembered breaks with the release that starts at `at`, or 0.
 pub fn release_rule(s: &[u8], at: usize, state: State, table: LeaseTable, memory: Memory) -> u8
     requires { ⌜ Inside afterRelease (now s) at ⌝ }
@@ -272,9 +283,7 @@ pub fn release_rule(s: &[u8], at: usize, state: State, table: LeaseTable, memory
     if !tenant_known(state, t) {
         return 14;
     }
-    let h = tenant_place(t);
-    let q = memory.releases[h];
-    if 4 <= q.count {
+    if is_full(memory, t) {
         return 15;
     }
     if !id_length_ok(s[at + 1]) {

@@ -6,7 +6,7 @@ use Prim.Native.Nat.{_+_, _-_, _<_, _≤_, min, ℕ}
 use native.Mathlib.Omega.{arith}
 use lib.Dec.{eqb, leb, ltb}
 use lib.ListN.{drop, drop-of-length-le, getD, length, set, take}
-use borrow.Author.Tests.{eq-eqb, eqb-true, le-leb, le-ltb, leb-true, lt-leb, lt-ltb, ne-eqb}
+use borrow.Author.Tests.{eq-eqb, eqb-true, le-leb, le-ltb, leb-false, leb-true, lt-leb, lt-ltb, ne-eqb}
 use Rattle.lists.specs.All.{allBy}
 use Rattle.lists.specs.Pick.{pick}
 use Rattle.lists.specs.laws.Both.{and-parts}
@@ -404,6 +404,9 @@ with-release-is m s at h d more e from to eh ex em =
     ap₂ {C = Memory} (λ (k : ℕ) (q : TenantReleases). record { releases = set (m .releases) k q; board = m .board }) eh
     (em ∙ ap₂ pushedRelease (at-in (m .releases) 8 h d _ e (omega arith) ∙ ap (releasesAt m) eh) ex)
 
+pub full-is : (m : Memory) (t h : ℕ) (d : TenantReleases) → length (m .releases) ≡ 8 → h ≡ t - 1 → h < 8 → leb 4 (getD (m .releases) h d .count) ≡ leb 4 (releasesAt m (t - 1) .count)
+full-is m t h d e eh small = ap (λ (q : TenantReleases). leb 4 (q .count)) (at-in (m .releases) 8 h d _ e small ∙ ap (releasesAt m) eh)
+
 pub release-fits : {s : List ℕ} {at : ℕ} (r : ℕ) → KeptWhole (KeepableAt s at) r → r ≡ 0 → KeepableAt s at
 release-fits r k e = k .fits e
 
@@ -424,22 +427,19 @@ module _ {s : List ℕ} {at : ℕ} (v : Inside afterRelease s at) (st : State) (
     unfolding pick
     release-unknown e = known-open false e
 
-    module _ (y : p ≡ true) (l : length (m .releases) ≡ 8) (h : ℕ) (d : TenantReleases) (eh : h ≡ getD s at 0 - 1) where
-      count-is : getD (m .releases) h d .count ≡ releasesAt m (getD s at 0 - 1) .count
-      count-is = ap (λ (q : TenantReleases). q .count) (at-in (m .releases) 8 h d _ l (tenant-place st (getD s at 0) ep y h eh) ∙ ap (releasesAt m) eh)
-
-      few-open : (z : Bool) → ltb (getD (m .releases) h d .count) 4 ≡ z → pick z (pick (idLengthB (length (fileReleaseAt s at .id))) Judged 16) 15 ≡ releaseRule st b m (fileReleaseAt s at)
+    module _ (y : p ≡ true) {f : Bool} (ef : f ≡ leb 4 (releasesAt m (getD s at 0 - 1) .count)) where
+      few-open : (z : Bool) → ltb (releasesAt m (getD s at 0 - 1) .count) 4 ≡ z → pick z (pick (idLengthB (length (fileReleaseAt s at .id))) Judged 16) 15 ≡ releaseRule st b m (fileReleaseAt s at)
       unfolding pick
-      few-open z e = ap (λ (z : Bool). pick z (pick (idLengthB (length (fileReleaseAt s at .id))) Judged 16) 15) (sym e ∙ ap (λ (k : ℕ). ltb k 4) count-is) ∙ known-open true y
+      few-open z e = ap (λ (z : Bool). pick z (pick (idLengthB (length (fileReleaseAt s at .id))) Judged 16) 15) (sym e) ∙ known-open true y
 
-      pub release-fifth : 4 ≤ getD (m .releases) h d .count → 15 ≡ releaseRule st b m (fileReleaseAt s at)
+      pub release-fifth : f ≡ true → 15 ≡ releaseRule st b m (fileReleaseAt s at)
       unfolding pick
-      release-fifth g = few-open false (le-ltb _ _ g)
+      release-fifth g = few-open false (le-ltb (releasesAt m (getD s at 0 - 1) .count) 4 (leb-true 4 (releasesAt m (getD s at 0 - 1) .count) (sym ef ∙ g)))
 
-      module _ (few : getD (m .releases) h d .count < 4) {q : Bool} (eq : q ≡ idLengthB (getD s (at + 1) 0)) where
+      module _ (few : f ≡ false) {q : Bool} (eq : q ≡ idLengthB (getD s (at + 1) 0)) where
         id-open : (z : Bool) → q ≡ z → pick z Judged 16 ≡ releaseRule st b m (fileReleaseAt s at)
         unfolding pick
-        id-open z e = ap (λ (z : Bool). pick z Judged 16) (sym e ∙ eq ∙ ap idLengthB (sym release-id)) ∙ few-open true (lt-ltb _ _ few)
+        id-open z e = ap (λ (z : Bool). pick z Judged 16) (sym e ∙ eq ∙ ap idLengthB (sym release-id)) ∙ few-open true (lt-ltb (releasesAt m (getD s at 0 - 1) .count) 4 (leb-false 4 (releasesAt m (getD s at 0 - 1) .count) (sym ef ∙ few)))
 
         pub release-misnamed : q ≡ false → 16 ≡ releaseRule st b m (fileReleaseAt s at)
         unfolding pick

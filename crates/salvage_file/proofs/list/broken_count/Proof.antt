@@ -16,11 +16,11 @@ abbrev μ-loop : tie.MeasureT-loop
 
 -- src/list.rt:30:5
 loop-again : tie.Need-loop-again Inv-loop μ-loop
-loop-again c = count-next _ (c .before .before .loop .inv) _ (search needs) (c .one-if .ensures .0) (c .one-if .ensures .1)
+loop-again c = count-next (c .before .before .before .args .t1) (c .before .before .loop .inv) _ (search needs) (c .one-if .ensures .0) (c .one-if .ensures .1)
 
 -- src/list.rt:25:1
 returns : tie.Need-returns Inv-loop μ-loop
-returns c = (count-end _ (c .before .loop .inv) (search needs) (search needs), count-few _ (c .before .loop .inv))
+returns c = (count-end (c .before .before .args .t1) (c .before .loop .inv) (search needs) (search needs), count-few (c .before .before .args .t1) (c .before .loop .inv))
 
 pub broken-count-spec : {M : Type 1} → statement M
 broken-count-spec =

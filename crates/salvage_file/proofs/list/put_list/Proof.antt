@@ -6,7 +6,7 @@ use Rattle.salvage_file.proofs.list.put_list.Tie as tie
 
 -- src/list.rt:53:9
 put-u16-requires : tie.Need-put-u16-requires
-put-u16-requires c κs = count-room _ _ _ _ (c .before .before .before .pre)
+put-u16-requires c κs = count-room _ _ _ (c .before .before .before .args .list .now) (c .before .before .before .pre)
 
 -- src/list.rt:54:9
 put-dropped-requires : tie.Need-put-dropped-requires

@@ -3,3 +3,7 @@ mod Chosen
 mod Table
 mod Records
 mod Memory
+pub mod Altered
+pub mod Accepted
+mod Unchanged
+pub mod Same

@@ -2,7 +2,7 @@
 use mathlib.Core.Bool.{Bool, false, true}
 use mathlib.Core.List.{List, [], _++_, _∷_, append-assoc}
 use mathlib.Core.Path.{_≡_, refl, subst, sym}
-use Prim.Native.Nat.{_+_, _-_, _<_, _≤_, ℕ}
+use Prim.Native.Nat.{_+_, _-_, _<_, ℕ}
 use native.Mathlib.Omega.{arith}
 use lib.Dec.{eqb}
 use lib.ListN.{getD, length, length-append}
@@ -10,7 +10,7 @@ use lib.Seq.{getD-at}
 use borrow.Author.Tests.{eqb-false}
 use Rattle.lists.specs.All.{All}
 use Rattle.lists.specs.Pick.{pick}
-use Rattle.salvage_file.specs.Salvage.{Dropped, droppedFrom, keptAfter, keptWith, rulesIn}
+use Rattle.salvage_file.specs.Salvage.{droppedFrom, keptAfter, keptWith, rulesIn}
 use Rattle.salvage_file.specs.Statement.{JudgedInTurn, ListedIn, ListedRight}
 
 judged-after : {A B : Type 0} (rule : B → A → ℕ) (add : B → A → B) (b : B) (before : List A) (x : A) (after : List A)

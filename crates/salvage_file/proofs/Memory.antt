@@ -5,13 +5,13 @@ use mathlib.Core.Path.{_∙_, _≡_, ap, ap₂, refl, sym}
 use Prim.Native.Nat.{_+_, _-_, _<_, _≤_, suc, zero, ℕ}
 use native.Mathlib.Omega.{arith}
 use lib.Dec.{eqb, leb, ltb}
-use lib.ListN.{drop, getD, getD-replicate, length, length-map, length-set, replicate, set, List·getD-map}
+use lib.ListN.{getD, getD-replicate, length, length-map, length-set, replicate, set, List·getD-map}
 use lib.Seq.{drop-at, ext-getD, getD-set-other, getD-set-same}
 use borrow.Author.Tests.{eq-eqb, eqb-false, eqb-true, le-leb, le-ltb, leb-true, ltb-false, ltb-true}
 use Rattle.lists.specs.All.{allBy, allTo, pairsBy}
 use Rattle.lists.specs.Filter.{filterBy}
 use Rattle.lists.specs.Pick.{pick}
-use Rattle.lists.specs.laws.All.{all-any, all-append, all-both, all-cons, all-map, each-to, pairs-cons, pairs-map, to-each}
+use Rattle.lists.specs.laws.All.{all-any, all-both, all-cons, all-map, each-to, pairs-cons, pairs-map, to-each}
 use Rattle.lists.specs.laws.Both.{and-both, and-parts}
 use Rattle.lists.specs.laws.Each.{map-set}
 use Rattle.lists.specs.laws.Pick.{neither, pick-not-lt}
@@ -22,7 +22,6 @@ use Rattle.occupancy.specs.Board.{noBoard}
 use Rattle.state.specs.Book.{laidReleases, pushedRelease, putReleases, releasesAt, remembered, zeroRelease}
 use Rattle.state.specs.declared.LeaseTable.{LeaseTable}
 use Rattle.state.specs.declared.Memory.{Memory}
-use Rattle.state.specs.declared.Release.{Release}
 use Rattle.state.specs.declared.State.{State}
 use Rattle.state.specs.declared.TenantReleases.{TenantReleases}
 use Rattle.state.specs.laws.Layout.{push-release-laid, releases-back}
@@ -33,7 +32,7 @@ use Rattle.release_file.specs.Section.{FileRelease, fewFor, keepableB, releaseA
 use Rattle.state_file.specs.File.{File}
 use Rattle.state_file.specs.Records.{storedState}
 use Rattle.state_file.specs.StateFile.{zeroMemory}
-use Rattle.salvage_file.specs.Salvage.{keptAfter, knownTenant, recordsKept, releaseRule, releaseRules, releasesKept, withRelease}
+use Rattle.salvage_file.specs.Salvage.{knownTenant, recordsKept, releaseRule, releaseRules, releasesKept, withRelease}
 use Rattle.salvage_file.specs.Statement.{keptOnes}
 use Rattle.salvage_file.specs.laws.Rules.{pick-zero, tenant-facts}
 use Rattle.salvage_file.proofs.Chosen.{walk-holds}

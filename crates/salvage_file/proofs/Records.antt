@@ -1,14 +1,14 @@
 -- Laws: the records that the walk keeps are those of the entries that break no rule, and they are sound.
 use mathlib.Core.Bool.{Bool, false, not, true, _&&_, _||_}
 use mathlib.Core.List.{List, [], _++_, _∷_, map}
-use mathlib.Core.Path.{_∙_, _≡_, ap, ap₂, refl, subst, sym}
+use mathlib.Core.Path.{_∙_, _≡_, ap, ap₂, refl, sym}
 use Prim.Native.Nat.{_+_, _-_, _<_, _≤_, suc, zero, ℕ}
 use native.Mathlib.Omega.{arith}
 use lib.Dec.{eqb, leb, ltb}
-use lib.ListN.{drop, getD, length, replicate, take}
+use lib.ListN.{getD, length, replicate, take}
 use lib.Seq.{drop-at}
-use borrow.Author.Tests.{eq-eqb, eqb-false, eqb-true, leb-true, lt-ltb, ltb-true, not-true}
-use Rattle.lists.specs.All.{All, allBy, pairsBy}
+use borrow.Author.Tests.{eq-eqb, eqb-true, leb-true, lt-ltb, ltb-true, not-true}
+use Rattle.lists.specs.All.{allBy, pairsBy}
 use Rattle.lists.specs.Arranged.{arranged}
 use Rattle.lists.specs.Filter.{filterBy}
 use Rattle.lists.specs.Pick.{pick}
@@ -16,10 +16,10 @@ use Rattle.lists.specs.laws.All.{all-any, all-append, all-both, all-cons, all-h
 use Rattle.lists.specs.laws.Arranged.{arranged-reordered, arranged-sorted}
 use Rattle.lists.specs.laws.Both.{and-both, and-parts}
 use Rattle.lists.specs.laws.Filter.{filter-all}
-use Rattle.lists.specs.laws.Pick.{pick-not-lt}
+use Rattle.lists.specs.laws.Pick.{pick-not-lt, both}
 use Rattle.lists.specs.laws.Reordered.{reordered-all}
 use Rattle.format.specs.Tenants.{own}
-use Rattle.state.specs.Book.{differ, inUse, isHold, laidOut, lapsingAt, leasesOf, ordered, scopeAt, scopesOf, tableOf, tenantAt, zeroLease, zeroScope}
+use Rattle.state.specs.Book.{differ, inUse, isHold, laidOut, leasesOf, ordered, scopeAt, scopesOf, tableOf, tenantAt, zeroLease, zeroScope}
 use Rattle.state.specs.declared.Lease.{Lease}
 use Rattle.state.specs.declared.LeaseTable.{LeaseTable}
 use Rattle.state.specs.declared.Scope.{Scope}
@@ -28,15 +28,14 @@ use Rattle.state.specs.laws.Layout.{read-back, table-back}
 use Rattle.state.specs.laws.Sorted.{rising}
 use Rattle.soundness.specs.Sound.{blankB, brokenBy, countsB, firstBroken, firstLate, firstRule, idLengthB, layoutB, layoutBy, oneTo, paddedB, rule1, rule19By, rule8, rulesBy, rulesOf, settingsB, sizeB, soundB, soundBy, unusedB, zeroFrom}
 use Rattle.soundness.specs.declared.Rules.{Rules}
-use Rattle.soundness.specs.laws.Book.{AllRules, rules-of}
+use Rattle.soundness.specs.laws.Book.{rules-of}
 use Rattle.lease_file.specs.Records.{holdFitB, holdTenant, isOffset, leaseFitB, leaseTenant, mergedFrom, storableB, stored, storedHold}
 use Rattle.lease_file.specs.Section.{FileHold, FileLease}
 use Rattle.lease_file.specs.laws.Merge.{arranged-differ}
 use Rattle.state_file.specs.File.{File}
 use Rattle.state_file.specs.Records.{settingsFitB, storedState}
 use Rattle.state_file.specs.StateFile.{zeroTable}
-use Rattle.lists.specs.laws.Pick.{both}
-use Rattle.salvage_file.specs.Salvage.{holdRule, holdRules, keptAfter, knownScope, knownTenant, leaseRule, leaseRules, leasesKept, limitsKept, namesKnown, offsetsKept, recordRule, recordsKept, rulesIn, settingsSound, typeAfter, typedHold, withHold, withLease, withRecord}
+use Rattle.salvage_file.specs.Salvage.{holdRule, holdRules, knownScope, knownTenant, leaseRule, leaseRules, leasesKept, limitsKept, namesKnown, offsetsKept, recordRule, recordsKept, settingsSound, typeAfter, typedHold, withHold, withLease, withRecord}
 use Rattle.salvage_file.specs.Statement.{keptOnes}
 use Rattle.salvage_file.specs.laws.Rules.{pick-zero, record-zero, tenant-facts, type-zero}
 use Rattle.salvage_file.proofs.Chosen.{walk-holds}

@@ -1,15 +1,15 @@
 -- Laws: the records of some leases and holds, with one lease or hold more: the tenant's with it inserted, the others' as they were.
 use mathlib.Core.Bool.{Bool, false, true}
 use mathlib.Core.List.{List, [], _++_, _∷_, append-assoc, append-nil, map, map-append, Permᴰ·middle}
-use mathlib.Core.Path.{_∙_, _≡_, ap, ap₂, refl, subst, sym}
-use Prim.Native.Nat.{_+_, _-_, _<_, _≤_, suc, zero, ℕ}
+use mathlib.Core.Path.{_∙_, _≡_, ap, refl, subst, sym}
+use Prim.Native.Nat.{_+_, _-_, _<_, suc, zero, ℕ}
 use native.Mathlib.Omega.{arith}
-use lib.Dec.{eqb, ltb}
+use lib.Dec.{eqb}
 use lib.ListN.{getD, length, length-set, set, List·getD-map}
 use lib.Seq.{ext-getD, getD-set-other, getD-set-same}
 use borrow.Author.Tests.{eq-eqb, eqb-false, eqb-true, ne-eqb}
 use Rattle.lists.specs.All.{allBy, pairsBy}
-use Rattle.lists.specs.Arranged.{arranged, insertIn}
+use Rattle.lists.specs.Arranged.{arranged}
 use Rattle.lists.specs.Filter.{filterBy}
 use Rattle.lists.specs.Pick.{pick}
 use Rattle.lists.specs.Reordered.{Reordered}
@@ -21,7 +21,6 @@ use Rattle.format.specs.Tenants.{own}
 use Rattle.state.specs.Book.{differ, inUse, insertOf, insertedBy, insertedIn, laidOut, leasesOf, ordered, putAt, tableOf, tenantAt}
 use Rattle.state.specs.declared.Lease.{Lease}
 use Rattle.state.specs.declared.LeaseTable.{LeaseTable}
-use Rattle.state.specs.declared.TenantLeases.{TenantLeases}
 use Rattle.state.specs.laws.Layout.{put-laid, read-back, table-back}
 use Rattle.state.specs.laws.Sorted.{differ-turn, rising}
 use Rattle.soundness.specs.laws.Added.{sound-at}

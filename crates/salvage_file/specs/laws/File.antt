@@ -1,17 +1,17 @@
 -- Laws: the walk over a file, the settings alone, and what is answered.
 use mathlib.Core.Bool.{Bool, false, true, _||_}
-use mathlib.Core.List.{List, [], _++_, _∷_, append-assoc, append-nil}
+use mathlib.Core.List.{List, []}
 use mathlib.Core.Path.{_∙_, _≡_, ap, ap₂, refl, subst, sym}
-use Prim.Native.Nat.{_*_, _+_, _-_, _<_, _≤_, ℕ}
+use Prim.Native.Nat.{_+_, _-_, _<_, _≤_, ℕ}
 use native.Mathlib.Omega.{arith}
-use lib.Dec.{eqb, leb, ltb}
+use lib.Dec.{eqb, ltb}
 use lib.ListN.{drop, getD, length, replicate, set, take}
 use borrow.Author.Tests.{le-ltb, leb-true, lt-ltb, ltb-false}
 use Rattle.lists.specs.Pick.{pick}
 use Rattle.lists.specs.laws.Pick.{both, neither}
 use Rattle.octets.specs.Octets.{Wrote}
 use Rattle.octets.specs.laws.Octets.{wrote-as, wrote-whole}
-use Rattle.format.specs.Format.{Got, bad, got}
+use Rattle.format.specs.Format.{Got, bad}
 use Rattle.format.specs.Section.{Inside}
 use Rattle.format.specs.laws.Fixed.{walk-length}
 use Rattle.state.specs.Book.{Book, laidOut, tableOf}
@@ -22,10 +22,9 @@ use Rattle.state.specs.declared.TenantLeases.{TenantLeases}
 use Rattle.soundness.specs.Sound.{soundB}
 use Rattle.lease_file.specs.Place.{EntriesIn, StorableAt, afterEntry, entriesIn, entryAt}
 use Rattle.lease_file.specs.Records.{inFileOrder}
-use Rattle.lease_file.specs.Section.{Entry}
 use Rattle.release_file.specs.Place.{KeepableAt, ReleasesIn, afterRelease, fileReleaseAt, releasesIn}
 use Rattle.state_file.specs.File.{File, fileOf}
-use Rattle.state_file.specs.Place.{Formed, FormedBy, SettingsIn, fileAt, scopesIn, stateAt, tenantCount, rangeAt, fileScopeAt}
+use Rattle.state_file.specs.Place.{Formed, FormedBy, SettingsIn, fileAt, stateAt, tenantCount, rangeAt, fileScopeAt}
 use Rattle.state_file.specs.Records.{countsFit, filedBook, settingsFitB, storedState}
 use Rattle.state_file.specs.StateFile.{octetsAs, octetsOf, zeroMemory, zeroTable}
 use Rattle.state_file.specs.declared.Layout.{Layout}
@@ -35,11 +34,11 @@ use Rattle.salvage_file.specs.declared.Kept.{Kept}
 use Rattle.salvage_file.specs.declared.Salvaged.{Salvaged}
 use Rattle.salvage_file.specs.declared.Walked.{Walked}
 use Rattle.salvage_file.specs.declared.WalkedReleases.{WalkedReleases}
-use Rattle.salvage_file.specs.Salvage.{Salvage, droppedFrom, droppedList, droppedOf, holdRule, holdRules, keptAfter, keptBook, keptFile, leaseRule, leaseRules, leasesKept, recordsKept, refusing, releaseRule, releaseRules, releasesKept, rulesIn, salvageFile, salvageGot, salvageOf, settingsSound, withHold, withLease, withRelease}
+use Rattle.salvage_file.specs.Salvage.{Salvage, droppedList, droppedOf, holdRule, holdRules, keptAfter, keptBook, keptFile, leaseRule, leaseRules, leasesKept, recordsKept, refusing, releaseRule, releaseRules, releasesKept, rulesIn, salvageFile, salvageGot, salvageOf, settingsSound, withHold, withLease, withRelease}
 use Rattle.salvage_file.specs.Walk.{KeptWhole, Salvages, WalksFile, WalksRecords, WalksReleases, droppedIn, entryRule, marked, withEntry}
 use Rattle.salvage_file.specs.laws.List.{marked-dropped}
 use Rattle.salvage_file.specs.laws.Rules.{entry-kept, release-kept}
-use Rattle.salvage_file.specs.laws.Walk.{WalkInv, rules-length, walk-in, walk-kept, walk-long, walk-next, walk-rules, walk-start}
+use Rattle.salvage_file.specs.laws.Walk.{WalkInv, walk-in, walk-kept, walk-long, walk-next, walk-rules, walk-start}
 
 -- ---- the loops
 pub record RecordsInv (holds : Bool) (st : State) (s : List ℕ) (at count : ℕ) (before table : LeaseTable) (rules : List ℕ) (here i : ℕ) : Type 0 where
@@ -106,12 +105,6 @@ unfolding zeroTable tableOf
 no-table-is z e = ap {B = LeaseTable} (λ (t : TenantLeases). record { tenants = replicate 8 t }) e
 
 module _ {s : List ℕ} {p : Places} (v : Formed s p) where
-  pub formed-nine : 9 < length s
-  formed-nine = let t = v .tenants in let z = v .sizes in let h = v .records .start in omega arith
-
-  pub formed-scopes : p .scopes < length s
-  formed-scopes = let z = v .sizes in let h = v .records .start in omega arith
-
   counts-are : countsFit (getD s 9 0) (getD s (p .scopes) 0) ≡ settingsFitB (fileAt s p)
   unfolding fileAt
   counts-are =

@@ -1,7 +1,7 @@
 -- Laws: the first rule that an entry breaks, as the code finds it, test by test.
 use mathlib.Core.Bool.{Bool, false, not, true, _&&_}
 use mathlib.Core.List.{List}
-use mathlib.Core.Path.{_∙_, _≡_, ap, ap₂, refl, subst, sym}
+use mathlib.Core.Path.{_∙_, _≡_, ap, ap₂, refl, sym}
 use Prim.Native.Nat.{_+_, _-_, _<_, _≤_, min, ℕ}
 use native.Mathlib.Omega.{arith}
 use lib.Dec.{eqb, leb, ltb}
@@ -31,7 +31,7 @@ use Rattle.lease_file.specs.Records.{storedEntry}
 use Rattle.lease_file.specs.Section.{FileLease}
 use Rattle.release_file.specs.Place.{KeepableAt, afterRelease, fileReleaseAt}
 use Rattle.release_file.specs.Section.{storedRelease}
-use Rattle.salvage_file.specs.Salvage.{holdRule, knownScope, knownTenant, leaseRule, limitsKept, namesKnown, offsetsKept, recordRule, releaseRule, typeAfter, typedHold, withHold, withLease, withRecord, withRelease}
+use Rattle.salvage_file.specs.Salvage.{holdRule, knownScope, knownTenant, leaseRule, limitsKept, namesKnown, offsetsKept, recordRule, releaseRule, typeAfter, typedHold, withRecord, withRelease}
 use Rattle.salvage_file.specs.Walk.{KeptWhole, entryRule, lowerThan, withEntry}
 
 -- ---- what is known
@@ -78,8 +78,6 @@ module _ (s : State) (t : ℕ) where
 
     pub tenant-place : (p : ℕ) → p ≡ t - 1 → p < 8
     tenant-place p ep = let f = tenant-facts (sym e ∙ y) in let a = f .0 in let b = f .1 in omega arith
-
-pub ruleset knowns = (tenant-none, tenant-some, scope-none, scope-some)
 
 pub id-short : (n : ℕ) → n < 2 → false ≡ idLengthB n
 id-short n h = sym (ap (λ (b : Bool). b && leb n 32) (lt-leb 2 n h))
@@ -221,12 +219,6 @@ kind-octet s at n e = ap (λ (z : ℕ). getD s (at + (z + 3)) 0) e
 pub named-facts : (holds : Bool) (s : List ℕ) (at : ℕ) (st : State) {q : Bool} → q ≡ namesKnown st (fileLeaseAt s at) (typedIn holds s at) → q ≡ true → (1 ≤ getD s at 0) × (getD s at 0 ≤ 8)
 unfolding namesKnown fileLeaseAt
 named-facts holds s at st e y = tenant-facts st (getD s at 0) (and-parts _ _ (sym e ∙ y) .0)
-
-pub named-from : (holds : Bool) (s : List ℕ) (at : ℕ) (st : State) {q : Bool} → q ≡ namesKnown st (fileLeaseAt s at) (typedIn holds s at) → q ≡ true → 1 ≤ getD s at 0
-named-from holds s at st e y = named-facts holds s at st e y .0
-
-pub named-to : (holds : Bool) (s : List ℕ) (at : ℕ) (st : State) {q : Bool} → q ≡ namesKnown st (fileLeaseAt s at) (typedIn holds s at) → q ≡ true → getD s at 0 ≤ 8
-named-to holds s at st e y = named-facts holds s at st e y .1
 
 pub limits-facts : {s : List ℕ} {at : ℕ} → Inside afterLease s at → (st : State) (b : LeaseTable) {q : Bool} → q ≡ limitsKept st b (fileLeaseAt s at) → q ≡ true → getD s (at + 2) 0 ≤ 32
 unfolding limitsKept

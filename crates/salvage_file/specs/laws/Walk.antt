@@ -1,18 +1,15 @@
 -- Laws: the walk over a section: each entry is judged with those kept before it, and a loop over the octets of the entries keeps them and their rules.
-use mathlib.Core.Bool.{Bool, true}
 use mathlib.Core.List.{List, [], _++_, _∷_, append-assoc, append-nil}
 use mathlib.Core.Path.{_∙_, _≡_, ap, ap₂, refl, subst, sym}
-use Prim.Native.Nat.{_+_, _-_, _<_, _≤_, suc, zero, ℕ}
+use Prim.Native.Nat.{_+_, _-_, _<_, _≤_, suc, ℕ}
 use native.Mathlib.Omega.{arith}
 use lib.Dec.{eqb}
-use lib.ListN.{getD, length, length-append, length-replicate, length-set, replicate, set}
-use Rattle.lists.specs.Fold.{fold}
+use lib.ListN.{length, length-append, length-replicate, replicate, set}
 use Rattle.lists.specs.Pick.{pick}
 use Rattle.lists.specs.Row.{laidRow}
 use Rattle.lists.specs.laws.Row.{row-push}
 use Rattle.format.specs.Place.{EachAt, walk}
 use Rattle.format.specs.Section.{InRow, Inside}
-use Rattle.format.specs.laws.Fixed.{walk-length}
 use Rattle.salvage_file.specs.Salvage.{keptAfter, keptWith, rulesIn}
 use Rattle.salvage_file.specs.Walk.{marked}
 
@@ -103,5 +100,3 @@ module _ {A B : Type 0} {rule : B → A → ℕ} {add : B → A → B} {v : List
     unfolding rulesIn
     walk-rules h =
         w .laid ∙ ap (laidRow 0 255) (sym (append-nil (w .front)) ∙ ap (λ (l : List ℕ). w .front ++ l) (sym (ap (rulesIn rule add b) (ended h))) ∙ w .told)
-
-pub ruleset walks = (walk-start, walk-in, walk-long, walk-next, walk-kept, walk-rules)

@@ -46,6 +46,7 @@ enum {
     BANSHORRA_UNSOUND = 21,         /* campus file: well formed, but not sound */
     BANSHORRA_SHORT_FILE_ROOM = 23, /* the file's buffer is below 32,768 octets, or the occupancy board's below 544 */
     BANSHORRA_CUT_OFF = 24,         /* a call's record is cut off */
+    BANSHORRA_SETTINGS = 25,        /* campus file to be salvaged: the settings alone are unsound */
     BANSHORRA_SHORT_ANSWERS = 27,   /* fewer than 518 octets are left for the next answer */
     BANSHORRA_FILE_LENGTH = 28      /* the file's length is above its buffer's */
 };
@@ -141,6 +142,16 @@ uint8_t banshorra_reply(const uint8_t *file, size_t file_length, const uint8_t v
    Or a refusal of the file, 23, 28, 20, 21 as above, which changes nothing but *calls_used and *answers_filled, which are 0. */
 uint8_t banshorra_replay(uint8_t *file, size_t file_room, size_t *file_length, const uint8_t *calls, size_t calls_length, size_t *calls_used,
                          uint8_t *answers, size_t answers_room, size_t *answers_filled);
+
+/* What can be kept of a campus file that is refused as 21: each lease, then each hold, then each release that leaves the book sound together with
+   those already kept. The new file stands in `room` and its length in *length; all else in it is as it was, and it is always accepted and never
+   longer. The list of those dropped stands in `list` and its length in *listed: their count(2), then for each its kind(1; 1 lease, 2 hold, 3
+   release), its place in its section as it was(1; from 1) and the first rule that it breaks(1; 1 to 18). A sound file comes back as it was, with
+   count 0. Octets past both are untouched.
+   Returns 0; or 20 for a wrong form, 25 where the settings alone are unsound, and then 23 where one of the rooms is too short. These write nothing,
+   and both lengths are 0. */
+uint8_t banshorra_salvage(const uint8_t *file, size_t file_length, uint8_t *room, size_t room_length, size_t *length, uint8_t *list,
+                          size_t list_room, size_t *listed);
 
 #ifdef __cplusplus
 }

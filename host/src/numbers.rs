@@ -161,6 +161,8 @@ pub enum Refusal {
     FileRoom = 23,
     /// A call's record is cut off.
     CutOff = 24,
+    /// The settings of a file to be salvaged are unsound by themselves.
+    Settings = 25,
     /// Fewer than 518 octets are left for the next answer.
     AnswersRoom = 27,
     /// The file's length is above its buffer's.
@@ -168,11 +170,12 @@ pub enum Refusal {
 }
 
 impl Refusal {
-    const ALL: [Refusal; 6] = [
+    const ALL: [Refusal; 7] = [
         Refusal::Form,
         Refusal::Unsound,
         Refusal::FileRoom,
         Refusal::CutOff,
+        Refusal::Settings,
         Refusal::AnswersRoom,
         Refusal::FileLength,
     ];
@@ -194,6 +197,7 @@ impl fmt::Display for Refusal {
             Refusal::Unsound => "the campus file is unsound",
             Refusal::FileRoom => "the campus file's buffer is below 32,768 octets",
             Refusal::CutOff => "a call's record is cut off",
+            Refusal::Settings => "the campus file's settings are unsound",
             Refusal::AnswersRoom => "too little room for the next answer",
             Refusal::FileLength => "the campus file's length goes past its buffer",
         };

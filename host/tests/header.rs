@@ -48,6 +48,7 @@ fn the_header_and_the_crate_agree() {
         ("UNSOUND", Refusal::Unsound),
         ("SHORT_FILE_ROOM", Refusal::FileRoom),
         ("CUT_OFF", Refusal::CutOff),
+        ("SETTINGS", Refusal::Settings),
         ("SHORT_ANSWERS", Refusal::AnswersRoom),
         ("FILE_LENGTH", Refusal::FileLength),
     ] {

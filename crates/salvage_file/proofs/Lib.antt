@@ -7,3 +7,5 @@ pub mod Altered
 pub mod Accepted
 mod Unchanged
 pub mod Same
+mod Broken
+pub mod First

@@ -79,44 +79,36 @@ size-at (c ∷ l) zero k h e = absurd (omega arith)
 size-at (c ∷ l) (suc n) zero h e = leb-true (c .size) 64 (and-parts (leb 1 (c .size)) (leb (c .size) 64) (all-head sizeB c (take n l) e .0) .1)
 size-at (c ∷ l) (suc n) (suc k) h e = size-at l n k (omega arith) (all-head sizeB c (take n l) e .1)
 
-module _ (st : State) (b : LeaseTable) (x : FileLease) (typed : Bool) (l : Lease) (e : recordRule st b x typed l ≡ 0) where
-  parts : (limitsKept st b x ≡ true) × (offsetsKept st x ≡ true) × (namesKnown st x typed ≡ true) × (firstRule (rulesOf st (withRecord b (x .tenant) l)) ≡ 0)
-  parts = record-zero st b x typed l e
+-- the sizes of scopes are at most 64
+pub sizes-of : (st : State) (b : LeaseTable) → firstRule (rulesOf st b) ≡ 0 → allBy sizeB (scopesOf st) ≡ true
+unfolding rulesBy rule1 countsB
+sizes-of st b e = and-parts (oneTo 4 (st .«scope_count»)) (allBy sizeB (scopesOf st)) (and-parts (oneTo 8 (st .«tenant_count»)) _ (and-parts (countsB st) _ (first-limits (rulesOf st b) e) .0) .1) .1
 
-  pub zero-rules : firstRule (rulesOf st (withRecord b (x .tenant) l)) ≡ 0
-  zero-rules = parts .3
+pub names-parts : (st : State) (x : FileLease) (typed : Bool) → namesKnown st x typed ≡ true → (knownTenant st (x .tenant) ≡ true) × (knownScope st (x .scope) ≡ true) × (typed ≡ true)
+unfolding namesKnown
+names-parts st x typed e = let p = and-parts (knownTenant st (x .tenant)) (knownScope st (x .scope) && typed) e in let q = and-parts (knownScope st (x .scope)) typed (p .1) in (p .0, q .0, q .1)
 
+-- by the tests on its octets
+module _ (st : State) (b : LeaseTable) (x : FileLease) (typed : Bool) (sizes : allBy sizeB (scopesOf st) ≡ true) (kept : limitsKept st b x ≡ true) (offs : offsetsKept st x ≡ true) (named : namesKnown st x typed ≡ true) where
   known : (knownTenant st (x .tenant) ≡ true) × (knownScope st (x .scope) ≡ true) × (typed ≡ true)
-  unfolding namesKnown
-  known = let p = and-parts (knownTenant st (x .tenant)) (knownScope st (x .scope) && typed) (parts .2) in let q = and-parts (knownScope st (x .scope)) typed (p .1) in (p .0, q .0, q .1)
-
-  pub zero-typed : typed ≡ true
-  zero-typed = known .2
-
-  pub zero-tenant : (1 ≤ x .tenant) × (x .tenant ≤ 8)
-  zero-tenant = tenant-facts st (x .tenant) (known .0)
+  known = names-parts st x typed named
 
   limits : (idLengthB (length (x .id)) ≡ true) × (ltb (length (inUse (tenantAt b (x .tenant - 1)))) 16 ≡ true)
   unfolding limitsKept pick
   limits =
-      let p = and-parts (idLengthB (length (x .id))) (pick (knownTenant st (x .tenant)) (ltb (length (inUse (tenantAt b (x .tenant - 1)))) 16) true) (parts .0) in
+      let p = and-parts (idLengthB (length (x .id))) (pick (knownTenant st (x .tenant)) (ltb (length (inUse (tenantAt b (x .tenant - 1)))) 16) true) kept in
       (p .0, ap (λ (z : Bool). pick z (ltb (length (inUse (tenantAt b (x .tenant - 1)))) 16) true) (sym (known .0)) ∙ p .1)
 
-  pub zero-few : length (inUse (tenantAt b (x .tenant - 1))) < 16
-  zero-few = ltb-true (length (inUse (tenantAt b (x .tenant - 1)))) 16 (limits .1)
+  pub tests-few : length (inUse (tenantAt b (x .tenant - 1))) < 16
+  tests-few = ltb-true (length (inUse (tenantAt b (x .tenant - 1)))) 16 (limits .1)
 
   id-few : length (x .id) ≤ 32
   id-few = leb-true (length (x .id)) 32 (and-parts (leb 2 (length (x .id))) (leb (length (x .id)) 32) (limits .0) .1)
 
-  -- the sizes of scopes are at most 64
-  sizes : allBy sizeB (scopesOf st) ≡ true
-  unfolding rulesBy rule1 countsB
-  sizes = and-parts (oneTo 4 (st .«scope_count»)) (allBy sizeB (scopesOf st)) (and-parts (oneTo 8 (st .«tenant_count»)) _ (and-parts (countsB st) _ (first-limits (rulesOf st (withRecord b (x .tenant) l)) zero-rules) .0) .1) .1
-
   low : allBy isOffset (x .offsets) ≡ true
   unfolding offsetsKept pick knownScope oneTo
   low =
-      let p = and-parts (leb (length (x .offsets)) 64) (pick (knownScope st (x .scope)) (allBy (λ a. ltb a (scopeAt st (x .scope - 1) .size)) (x .offsets)) true) (parts .1) in
+      let p = and-parts (leb (length (x .offsets)) 64) (pick (knownScope st (x .scope)) (allBy (λ a. ltb a (scopeAt st (x .scope - 1) .size)) (x .offsets)) true) offs in
       let k = and-parts (leb 1 (x .scope)) (leb (x .scope) (st .«scope_count»)) (known .1) in
       let f = leb-true 1 (x .scope) (k .0) in
       let g = leb-true (x .scope) (st .«scope_count») (k .1) in
@@ -125,9 +117,34 @@ module _ (st : State) (b : LeaseTable) (x : FileLease) (typed : Bool) (l : Lease
       all-both (λ a. ltb a (scopeAt st (x .scope - 1) .size)) (λ a. ltb a (scopeAt st (x .scope - 1) .size)) isOffset (x .offsets)
       (λ a u v. lt-ltb a 64 (let w = ltb-true a (scopeAt st (x .scope - 1) .size) u in omega arith)) q q
 
-  pub zero-storable : storableB x ≡ true
+  pub tests-storable : storableB x ≡ true
   unfolding storableB
-  zero-storable = sym (pick-not-lt false _ true (x .tenant) 1 (zero-tenant .0) (pick-not-lt false _ true 8 (x .tenant) (zero-tenant .1) (pick-not-lt false _ true 32 (length (x .id)) id-few (sym low))))
+  tests-storable =
+      let t = tenant-facts st (x .tenant) (known .0) in
+      sym (pick-not-lt false _ true (x .tenant) 1 (t .0) (pick-not-lt false _ true 8 (x .tenant) (t .1) (pick-not-lt false _ true 32 (length (x .id)) id-few (sym low))))
+
+-- by its rule
+module _ (st : State) (b : LeaseTable) (x : FileLease) (typed : Bool) (l : Lease) (e : recordRule st b x typed l ≡ 0) where
+  parts : (limitsKept st b x ≡ true) × (offsetsKept st x ≡ true) × (namesKnown st x typed ≡ true) × (firstRule (rulesOf st (withRecord b (x .tenant) l)) ≡ 0)
+  parts = record-zero st b x typed l e
+
+  pub zero-rules : firstRule (rulesOf st (withRecord b (x .tenant) l)) ≡ 0
+  zero-rules = parts .3
+
+  pub zero-typed : typed ≡ true
+  zero-typed = names-parts st x typed (parts .2) .2
+
+  pub zero-tenant : (1 ≤ x .tenant) × (x .tenant ≤ 8)
+  zero-tenant = tenant-facts st (x .tenant) (names-parts st x typed (parts .2) .0)
+
+  sizes : allBy sizeB (scopesOf st) ≡ true
+  sizes = sizes-of st (withRecord b (x .tenant) l) zero-rules
+
+  pub zero-few : length (inUse (tenantAt b (x .tenant - 1))) < 16
+  zero-few = tests-few st b x typed sizes (parts .0) (parts .1) (parts .2)
+
+  pub zero-storable : storableB x ≡ true
+  zero-storable = tests-storable st b x typed sizes (parts .0) (parts .1) (parts .2)
 
 -- ---- what the walk keeps
 pub record Holds (st : State) (ks : List FileLease) (hs : List FileHold) (b : LeaseTable) : Type 0 where

@@ -81,11 +81,11 @@ none-listed kind n (r ∷ rs) z =
     ap (λ (b : Bool). pick b (droppedFrom kind (n + 1) rs) (record { kind = kind; place = n; rule = r } ∷ droppedFrom kind (n + 1) rs)) (p .0) ∙ none-listed kind (n + 1) rs (p .1)
 
 -- one in the middle
-middle-test : {A : Type 0} (t : A → Bool) (ks : List A) (x : A) (rest : List A) → allBy t (ks ++ x ∷ rest) ≡ true → t x ≡ true
+pub middle-test : {A : Type 0} (t : A → Bool) (ks : List A) (x : A) (rest : List A) → allBy t (ks ++ x ∷ rest) ≡ true → t x ≡ true
 middle-test t [] x rest e = all-head t x rest e .0
 middle-test t (k ∷ ks) x rest e = middle-test t ks x rest (all-head t k (ks ++ x ∷ rest) e .1)
 
-middle-fact : {A : Type 0} (P : A → Type 0) (ks : List A) (x : A) (rest : List A) → All P (ks ++ x ∷ rest) → P x
+pub middle-fact : {A : Type 0} (P : A → Type 0) (ks : List A) (x : A) (rest : List A) → All P (ks ++ x ∷ rest) → P x
 unfolding All
 middle-fact P [] x rest h = h .0
 middle-fact P (k ∷ ks) x rest h = middle-fact P ks x rest (h .1)
@@ -101,27 +101,27 @@ front-two t [] y e = refl
 front-two t (a ∷ x) y e = let p = pairs-head t a (x ++ y) e in pairs-cons t a x (front-test (t a) x y (p .0)) (front-two t x y (p .1))
 
 -- ---- leases and holds
-lease-offsets : (x : FileLease) → Storable x → offsets (stored x .addresses) ≡ x .offsets
+pub lease-offsets : (x : FileLease) → Storable x → offsets (stored x .addresses) ≡ x .offsets
 unfolding filedEntry filedLease storedEntry leaseIn
 lease-offsets x s = ap (λ (y : FileLease). y .offsets) (entry-again false x s)
 
-stored-id : (x : FileLease) → stored x .«id_len» ≡ length (x .id)
+pub stored-id : (x : FileLease) → stored x .«id_len» ≡ length (x .id)
 unfolding stored
 stored-id x = refl
 
-stored-scope : (x : FileLease) → stored x .scope ≡ x .scope
+pub stored-scope : (x : FileLease) → stored x .scope ≡ x .scope
 unfolding stored
 stored-scope x = refl
 
-hold-offsets : (y : FileHold) → Storable (y .lease) → offsets (storedHold y .addresses) ≡ y .lease .offsets
+pub hold-offsets : (y : FileHold) → Storable (y .lease) → offsets (storedHold y .addresses) ≡ y .lease .offsets
 unfolding storedHold
 hold-offsets y s = lease-offsets (y .lease) s
 
-hold-id : (y : FileHold) → storedHold y .«id_len» ≡ length (y .lease .id)
+pub hold-id : (y : FileHold) → storedHold y .«id_len» ≡ length (y .lease .id)
 unfolding storedHold stored
 hold-id y = refl
 
-hold-scope : (y : FileHold) → storedHold y .scope ≡ y .lease .scope
+pub hold-scope : (y : FileHold) → storedHold y .scope ≡ y .lease .scope
 unfolding storedHold stored
 hold-scope y = refl
 
@@ -164,7 +164,7 @@ module _ (st : State) (xs : List FileLease) (ys : List FileHold) (full : Sound s
       ap₂ (λ (p q : Bool). pick p (pick {A = ℕ} q 0 13) (recordRule st b (y .lease) true (typedHold (storedHold y)))) (eq-eqb _ 0 w) one
 
 -- ---- releases
-rules-five : (r : ReleaseRules) → firstRelease r ≡ 0 → (r .houses ≡ true) × (r .few ≡ true) × (r .lengths ≡ true) × (r .once ≡ true) × (r .times ≡ true)
+pub rules-five : (r : ReleaseRules) → firstRelease r ≡ 0 → (r .houses ≡ true) × (r .few ≡ true) × (r .lengths ≡ true) × (r .once ≡ true) × (r .times ≡ true)
 unfolding firstRelease
 rules-five r e =
     let a = pick-zero (r .houses) _ 14 (λ z. omega arith) e in
@@ -189,14 +189,14 @@ memory-first st b m e = go (eqb (firstRelease (releaseRulesOf st b m)) 0) refl (
     go false q p = p
 
 -- a tenant's releases, and the rules on them
-tenant-row : (rs : List FileRelease) (h : ℕ) → h < 8 → releasesAt (storedMemory rs) h ≡ laidReleases (map storedRelease (own releaseTenant (h + 1) rs))
+pub tenant-row : (rs : List FileRelease) (h : ℕ) → h < 8 → releasesAt (storedMemory rs) h ≡ laidReleases (map storedRelease (own releaseTenant (h + 1) rs))
 tenant-row rs h p = tenant-releases rs h ∙ ap (λ (l : List FileRelease). laidReleases (map storedRelease l)) (apart-at releaseTenant 8 1 h rs p)
 
-laid-count : (l : List FileRelease) → laidReleases (map storedRelease l) .count ≡ length l
+pub laid-count : (l : List FileRelease) → laidReleases (map storedRelease l) .count ≡ length l
 unfolding laidReleases
 laid-count l = length-map l storedRelease
 
-known-from : (n h : ℕ) (q : TenantReleases) → 1 ≤ q .count → houseB n h q ≡ true → h < n
+pub known-from : (n h : ℕ) (q : TenantReleases) → 1 ≤ q .count → houseB n h q ≡ true → h < n
 unfolding houseB
 known-from n h q c e = go (ltb h n) refl (eqb (q .count) 0) refl e
   where

@@ -4,9 +4,8 @@ use mathlib.Core.Bool.{false, true}
 use mathlib.Core.List.{List, [], _++_, _∷_}
 use mathlib.Core.Path.{_≡_}
 use Prim.Native.Nat.{_-_, _<_, _≤_, ℕ}
-use lib.Dec.{eqb}
+use lib.Dec.{eqb, ltb}
 use lib.ListN.{getD, length}
-use Rattle.address_set.specs.AddressSet.{rises}
 use Rattle.lists.specs.All.{All}
 use Rattle.lists.specs.Filter.{isIn}
 use Rattle.lists.specs.Pick.{pick}
@@ -15,15 +14,15 @@ use Rattle.state.specs.Book.{inUse, releasesAt, tenantAt}
 use Rattle.state.specs.declared.LeaseTable.{LeaseTable}
 use Rattle.state.specs.declared.Memory.{Memory}
 use Rattle.state.specs.declared.State.{State}
-use Rattle.soundness.specs.Sound.{firstRule, rulesOf, soundB}
-use Rattle.releases.specs.Rules.{firstRelease, memoryB, releaseRulesOf}
+use Rattle.soundness.specs.Sound.{firstRule, rulesOf}
+use Rattle.releases.specs.Rules.{firstRelease, releaseRulesOf}
 use Rattle.release_file.specs.Section.{FileRelease, keepableB}
-use Rattle.lease_file.specs.Records.{holdFitB, leaseFitB}
+use Rattle.lease_file.specs.Records.{holdFitB, leaseFitB, storableB, storedHold}
 use Rattle.lease_file.specs.Section.{FileHold, FileLease}
 use Rattle.state_file.specs.File.{File, fileOf}
-use Rattle.state_file.specs.Records.{filedBook}
-use Rattle.state_file.specs.StateFile.{readFile}
-use Rattle.salvage_file.specs.Salvage.{Dropped, droppedFrom, holdRule, holdRules, keptBook, keptAfter, leaseRule, leaseRules, releaseRule, releaseRules, rulesIn, salvageOf, settingsSound, knownTenant, withHold, withLease, withRelease}
+use Rattle.state_file.specs.Records.{filedBook, storedState}
+use Rattle.state_file.specs.StateFile.{readFile, zeroMemory, zeroTable}
+use Rattle.salvage_file.specs.Salvage.{Dropped, droppedFrom, holdRule, holdRules, keptAfter, keptBook, knownTenant, leaseRule, leaseRules, leasesKept, limitsKept, offsetsKept, recordsKept, releaseRule, releaseRules, rulesIn, salvageOf, settingsSound, typedHold, withHold, withLease, withRecord, withRelease}
 
 -- ---- "The file is always accepted"
 unfoldable pub AlwaysAccepted : Type 0
@@ -50,28 +49,40 @@ pub record ListedIn (kind : ℕ) (rs : List ℕ) (d : Dropped) : Type 0 where
 unfoldable pub ListedRight : Type 0
 ListedRight = (kind : ℕ) (rs : List ℕ) → All (ListedIn kind rs) (droppedFrom kind 1 rs)
 
--- and the rule of a lease that a record can hold is the first of "Sound" that the book with it breaks; one that no record can hold breaks 1, 2 or 7, and a house's
--- seventeenth record 1
+-- What no record can hold breaks 1, 2 or 7: the first of them, by the tests that need no record
+unfoldable pub unheldRule : State → LeaseTable → FileLease → ℕ
+unheldRule s b x = pick (limitsKept s b x) (pick (offsetsKept s x) 7 2) 1
+
+-- x is judged by "Sound": the rule of a lease that a record can hold is the first that the book with it breaks; a house's seventeenth record breaks 1
 pub record FirstOfLease (s : State) (b : LeaseTable) (x : FileLease) : Type 0 where
   pub held : leaseFitB x ≡ true → length (inUse (tenantAt b (x .tenant - 1))) < 16 → leaseRule s b x ≡ firstRule (rulesOf s (withLease b x))
-  pub other : leaseFitB x ≡ false → isIn (leaseRule s b x) (1 ∷ 2 ∷ 7 ∷ []) ≡ true
-  pub full : knownTenant s (x .tenant) ≡ true → 16 ≤ length (inUse (tenantAt b (x .tenant - 1))) → leaseRule s b x ≡ 1
+  pub full : leaseFitB x ≡ true → 16 ≤ length (inUse (tenantAt b (x .tenant - 1))) → leaseRule s b x ≡ 1
+  pub other : leaseFitB x ≡ false → leaseRule s b x ≡ unheldRule s b x
 
+-- the first that the book breaks with x taken for a hold, whatever its type
+abbrev pub untypedRule : State → LeaseTable → FileHold → ℕ
+untypedRule s b x = firstRule (rulesOf s (withRecord b (x .lease .tenant) (typedHold (storedHold x))))
+
+-- so is a hold; one of another type than 1 breaks 13 where it breaks nothing else
 pub record FirstOfHold (s : State) (b : LeaseTable) (x : FileHold) : Type 0 where
   pub held : holdFitB x ≡ true → length (inUse (tenantAt b (x .lease .tenant - 1))) < 16 → holdRule s b x ≡ firstRule (rulesOf s (withHold b x))
-  pub other : holdFitB x ≡ false → 0 < holdRule s b x
-  pub full : knownTenant s (x .lease .tenant) ≡ true → 16 ≤ length (inUse (tenantAt b (x .lease .tenant - 1))) → holdRule s b x ≡ 1
+  pub typed : storableB (x .lease) ≡ true → eqb (x .lease .kind) 1 ≡ false → length (inUse (tenantAt b (x .lease .tenant - 1))) < 16 → holdRule s b x ≡ pick (eqb (untypedRule s b x) 0) 13 (untypedRule s b x)
+  pub full : storableB (x .lease) ≡ true → 16 ≤ length (inUse (tenantAt b (x .lease .tenant - 1))) → holdRule s b x ≡ 1
+  pub other : storableB (x .lease) ≡ false → holdRule s b x ≡ unheldRule s b (x .lease)
 
--- of W-202's five a release that the memory can hold, and a house's fifth
+-- and a release by W-202's five; a house's fifth breaks 15, and what the memory cannot hold 14, 15 or 16
 pub record FirstOfRelease (s : State) (b : LeaseTable) (m : Memory) (x : FileRelease) : Type 0 where
   pub held : keepableB x ≡ true → releasesAt m (x .tenant - 1) .count < 4 → releaseRule s b m x ≡ firstRelease (releaseRulesOf s b (withRelease m x))
-  pub other : keepableB x ≡ false → isIn (releaseRule s b m x) (14 ∷ 15 ∷ 16 ∷ []) ≡ true
-  pub full : knownTenant s (x .tenant) ≡ true → 4 ≤ releasesAt m (x .tenant - 1) .count → releaseRule s b m x ≡ 15
+  pub full : keepableB x ≡ true → 4 ≤ releasesAt m (x .tenant - 1) .count → releaseRule s b m x ≡ 15
+  pub other : keepableB x ≡ false → releaseRule s b m x ≡ pick (knownTenant s (x .tenant)) (pick (ltb (releasesAt m (x .tenant - 1) .count) 4) 16 15) 14
 
--- of a sound book; a file's offsets rise
+-- each entry of a file whose settings are sound, together with those kept before it
 unfoldable pub FirstBroken : Type 0
-FirstBroken = (s : State) (b : LeaseTable) (m : Memory) → length (b .tenants) ≡ 8 → length (m .releases) ≡ 8 → soundB s b ≡ true → memoryB s b m ≡ true
-    → ((x : FileLease) → rises (x .offsets) ≡ true → FirstOfLease s b x) × ((x : FileHold) → rises (x .lease .offsets) ≡ true → FirstOfHold s b x) × ((x : FileRelease) → FirstOfRelease s b m x)
+FirstBroken = (s : List ℕ) (f : File) → Octets s → fileOf s ≡ got f [] → settingsSound f ≡ true
+    → ((before : List FileLease) (x : FileLease) (after : List FileLease) → f .leases ≡ before ++ x ∷ after → FirstOfLease (storedState f) (keptAfter (leaseRule (storedState f)) withLease zeroTable before) x)
+    × ((before : List FileHold) (x : FileHold) (after : List FileHold) → f .holds ≡ before ++ x ∷ after → FirstOfHold (storedState f) (keptAfter (holdRule (storedState f)) withHold (leasesKept f) before) x)
+    × ((before : List FileRelease) (x : FileRelease) (after : List FileRelease) → f .releases ≡ before ++ x ∷ after
+    → FirstOfRelease (storedState f) (recordsKept f) (keptAfter (releaseRule (storedState f) (recordsKept f)) withRelease zeroMemory before) x)
 
 -- ---- nothing kept is altered, and "all else as it was"
 -- those of a section that break no rule

@@ -39,9 +39,9 @@ pub kept-on : {p : Bool} {x k : ℕ} (n : ℕ) → p ≡ true → x ≡ k → pi
 unfolding pick
 kept-on {p} {x} {k} n e h = ap (λ (t : Bool). pick t x n) e ∙ h
 
-pub broken-at : {p : Bool} {x : ℕ} (n : ℕ) → p ≡ false → pick p x n ≡ n
+pub broken-at : {p : Bool} (x n : ℕ) → p ≡ false → pick p x n ≡ n
 unfolding pick
-broken-at {p} {x} n e = ap (λ (t : Bool). pick t x n) e
+broken-at {p} x n e = ap (λ (t : Bool). pick t x n) e
 
 pub and-fails : (p q : Bool) → q ≡ false → (p && q) ≡ false
 and-fails true q e = e
@@ -223,11 +223,11 @@ module _ (st : State) (b : LeaseTable) (long : length (b .tenants) ≡ 8) (sound
   -- the number; 3 to 6 go by the settings
   pub first-1 : idB l ≡ false → firstRule (rulesOf st (withRecord b t l)) ≡ 1
   unfolding firstRule
-  first-1 e = broken-at 1 (limits-broken e)
+  first-1 e = broken-at _ 1 (limits-broken e)
 
   pub first-2 : idB l ≡ true → offsetsB st l ≡ false → firstRule (rulesOf st (withRecord b t l)) ≡ 2
   unfolding firstRule
-  first-2 e o = kept-on 1 (limits-hold e) (broken-at 2 (offsets-broken o))
+  first-2 e o = kept-on 1 (limits-hold e) (broken-at _ 2 (offsets-broken o))
 
   settings-hold : (rulesOf st (withRecord b t l) .ranges ≡ true) × (rulesOf st (withRecord b t l) .pools ≡ true) × (rulesOf st (withRecord b t l) .ttls ≡ true) × (rulesOf st (withRecord b t l) .reserves ≡ true)
   unfolding rulesBy
@@ -237,7 +237,7 @@ module _ (st : State) (b : LeaseTable) (long : length (b .tenants) ≡ 8) (sound
   unfolding firstRule firstLate
   first-7 e o k =
       let s = settings-hold in
-      kept-on 1 (limits-hold e) (kept-on 2 (offsets-hold o) (kept-on 3 (s .0) (kept-on 4 (s .1) (kept-on 5 (s .2) (kept-on 6 (s .3) (broken-at 7 k))))))
+      kept-on 1 (limits-hold e) (kept-on 2 (offsets-hold o) (kept-on 3 (s .0) (kept-on 4 (s .1) (kept-on 5 (s .2) (kept-on 6 (s .3) (broken-at _ 7 k))))))
 
 -- ---- an entry that a record can hold, of a tenant that has room: x in the file, l in the records
 module _ (st : State) (b : LeaseTable) (long : length (b .tenants) ≡ 8) (sound : firstRule (rulesOf st b) ≡ 0) (x : FileLease) (typed : Bool) (l : Lease) (ei : l .«id_len» ≡ length (x .id)) (es : l .scope ≡ x .scope)
@@ -275,7 +275,7 @@ module _ (st : State) (b : LeaseTable) (long : length (b .tenants) ≡ 8) (sound
   record-first = go (idB l) refl (offsetsB st l) refl (namesKnown st x typed) refl
     where
       go : (p : Bool) → idB l ≡ p → (q : Bool) → offsetsB st l ≡ q → (r : Bool) → namesKnown st x typed ≡ r → recordRule st b x typed l ≡ firstRule (rulesOf st (withRecord b (x .tenant) l))
-      go false p q f r g = broken-at 1 (limits-as ∙ p) ∙ sym (first-1 st b long sound (x .tenant) from to l room p)
-      go true p false f r g = kept-on 1 (limits-as ∙ p) (broken-at 2 (offsets-as ∙ f)) ∙ sym (first-2 st b long sound (x .tenant) from to l room p f)
-      go true p true f false g = kept-on 1 (limits-as ∙ p) (kept-on 2 (offsets-as ∙ f) (broken-at 7 g)) ∙ sym (first-7 st b long sound (x .tenant) from to l room p f (unnamed g))
+      go false p q f r g = broken-at _ 1 (limits-as ∙ p) ∙ sym (first-1 st b long sound (x .tenant) from to l room p)
+      go true p false f r g = kept-on 1 (limits-as ∙ p) (broken-at _ 2 (offsets-as ∙ f)) ∙ sym (first-2 st b long sound (x .tenant) from to l room p f)
+      go true p true f false g = kept-on 1 (limits-as ∙ p) (kept-on 2 (offsets-as ∙ f) (broken-at _ 7 g)) ∙ sym (first-7 st b long sound (x .tenant) from to l room p f (unnamed g))
       go true p true f true g = kept-on 1 (limits-as ∙ p) (kept-on 2 (offsets-as ∙ f) (kept-on 7 g refl))

@@ -61,7 +61,7 @@ module _ (st : State) (b : LeaseTable) (long : length (b .tenants) ≡ 8) (sound
   unfolding recordRule limitsKept pick
   record-full x typed l s h =
       let t = s .to in
-      broken-at 1
+      broken-at _ 1
       (and-fails (idLengthB (length (x .id))) (pick (knownTenant st (x .tenant)) (ltb (length (inUse (tenantAt b (x .tenant - 1)))) 16) true)
       (ap₂ (λ (p q : Bool). pick p q true) (full-known st b long sound (x .tenant) (s .from) (omega arith) h) (le-ltb (length (inUse (tenantAt b (x .tenant - 1)))) 16 h)))
 
@@ -255,8 +255,8 @@ module _ (st : State) (b : LeaseTable) (rs : List FileRelease) (sound : firstRel
         few = lt-ltb (releasesAt (storedMemory rs) (x .tenant - 1) .count) 4 room
 
         go : (p : Bool) → knownTenant st (x .tenant) ≡ p → (q : Bool) → idLengthB (length (x .id)) ≡ q → releaseRule st b (storedMemory rs) x ≡ firstRelease (releaseRulesOf st b now)
-        go false p q f = broken-at 14 p ∙ sym (broken-at 14 (houses-broken (place-past p)))
-        go true p false f = kept-on 14 p (kept-on 15 few (broken-at 16 f)) ∙ sym (kept-on 14 (houses-hold (place-below p)) (kept-on 15 few-holds (broken-at 16 (lengths-broken f))))
+        go false p q f = broken-at _ 14 p ∙ sym (broken-at _ 14 (houses-broken (place-past p)))
+        go true p false f = kept-on 14 p (kept-on 15 few (broken-at _ 16 f)) ∙ sym (kept-on 14 (houses-hold (place-below p)) (kept-on 15 few-holds (broken-at _ 16 (lengths-broken f))))
         go true p true f = kept-on 14 p (kept-on 15 few (kept-on 16 f same))
 
   release-full : (1 ≤ x .tenant) → (x .tenant ≤ 8) → 4 ≤ releasesAt (storedMemory rs) (x .tenant - 1) .count → releaseRule st b (storedMemory rs) x ≡ 15
@@ -264,7 +264,7 @@ module _ (st : State) (b : LeaseTable) (rs : List FileRelease) (sound : firstRel
   release-full from to h =
       kept-on 14
       (known-is st (x .tenant) from (known-from (tenantsIn st) (x .tenant - 1) (releasesAt (storedMemory rs) (x .tenant - 1)) (omega arith) (house-at (x .tenant - 1) (omega arith))))
-      (broken-at 15 (le-ltb (releasesAt (storedMemory rs) (x .tenant - 1) .count) 4 h))
+      (broken-at _ 15 (le-ltb (releasesAt (storedMemory rs) (x .tenant - 1) .count) 4 h))
 
   release-other : (m : Memory) → keepableB x ≡ false → releaseRule st b m x ≡ pick (knownTenant st (x .tenant)) (pick (ltb (releasesAt m (x .tenant - 1) .count) 4) 16 15) 14
   unfolding releaseRule keepableB pick

@@ -90,11 +90,11 @@ extern "C" {
         file: *const u8,
         file_length: usize,
         room: *mut u8,
-        room_length: usize,
-        length: *mut usize,
+        room_size: usize,
+        room_length: *mut usize,
         list: *mut u8,
-        list_room: usize,
-        listed: *mut usize,
+        list_size: usize,
+        list_length: *mut usize,
     ) -> u8;
 }
 
@@ -228,9 +228,9 @@ pub fn replay(
 pub fn salvage(
     file: &[u8],
     room: &mut [u8],
-    length: &mut usize,
+    room_length: &mut usize,
     list: &mut [u8],
-    listed: &mut usize,
+    list_length: &mut usize,
 ) -> u8 {
     // SAFETY: as above; `room`, `list` and the two lengths are written, and each is lent as `&mut`.
     unsafe {
@@ -239,10 +239,10 @@ pub fn salvage(
             file.len(),
             room.as_mut_ptr(),
             room.len(),
-            length,
+            room_length,
             list.as_mut_ptr(),
             list.len(),
-            listed,
+            list_length,
         )
     }
 }

@@ -157,7 +157,7 @@ pub enum Refusal {
     Form = 20,
     /// The file is unsound.
     Unsound = 21,
-    /// The file's buffer is below 32,768 octets.
+    /// The file's buffer is below 32,768 octets, or a salvage's is too short.
     FileRoom = 23,
     /// A call's record is cut off.
     CutOff = 24,
@@ -195,7 +195,7 @@ impl fmt::Display for Refusal {
         let why = match self {
             Refusal::Form => "the campus file's form is wrong",
             Refusal::Unsound => "the campus file is unsound",
-            Refusal::FileRoom => "the campus file's buffer is below 32,768 octets",
+            Refusal::FileRoom => "the campus file's buffer is too short",
             Refusal::CutOff => "a call's record is cut off",
             Refusal::Settings => "the campus file's settings are unsound",
             Refusal::AnswersRoom => "too little room for the next answer",

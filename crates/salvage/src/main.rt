@@ -5,25 +5,23 @@ use libc::STDIN_FILENO;
 use libc::STDOUT_FILENO;
 use salvage_file::Salvaged;
 
-// What a kind in the list is called.
-fn print_kind(kind: u8) {
-    if kind == 1 {
-        io::write_all(STDERR_FILENO, b"lease ");
-        return;
+// The first n octets of a text, to a file; none where it has fewer.
+fn print_front(to: i32, text: &[u8], n: usize) {
+    if n <= text.len() {
+        io::write_all(to, &text[..n]);
     }
-    if kind == 2 {
-        io::write_all(STDERR_FILENO, b"hold ");
-        return;
-    }
-    io::write_all(STDERR_FILENO, b"release ");
 }
 
 fn print_dropped(kind: u8, place: u8, rule: u8) {
-    print_kind(kind);
-    io::print_decimal(STDERR_FILENO, place as u64);
-    io::write_all(STDERR_FILENO, b" rule ");
-    io::print_decimal(STDERR_FILENO, rule as u64);
-    io::write_all(STDERR_FILENO, b"\n");
+    let mut line = [0u8; 23];
+    let n = replay_text::write_dropped_line(&mut line, kind, place, rule);
+    print_front(STDERR_FILENO, &line, n);
+}
+
+fn refuse(number: u8) {
+    let mut line = [0u8; 11];
+    let n = replay_text::write_refused_line(&mut line, number);
+    print_front(STDERR_FILENO, &line, n);
 }
 
 // The entries of a list of n octets, after its count.
@@ -38,26 +36,14 @@ fn print_list(list: &[u8], n: usize) {
     }
 }
 
-fn print_refused(number: u8) {
-    io::write_all(STDERR_FILENO, b"refused ");
-    io::print_decimal(STDERR_FILENO, number as u64);
-    io::write_all(STDERR_FILENO, b"\n");
-}
-
-fn print_file(file: &[u8], n: usize) {
-    if n <= file.len() {
-        io::write_all(STDOUT_FILENO, &file[..n]);
-    }
-}
-
 // What the salvage answered. A refusal has no file.
 fn print(told: Salvaged, file: &[u8], list: &[u8]) {
     if told.refusal == 0 {
-        print_file(file, told.length);
+        print_front(STDOUT_FILENO, file, told.length);
         print_list(list, told.listed);
         return;
     }
-    print_refused(told.refusal);
+    refuse(told.refusal);
 }
 
 fn main() {

@@ -151,14 +151,18 @@ fn second(case: &Case) -> Expected {
         refusal,
         board,
         occupancy,
-        salvaged: second_salvaged(&case.file),
+        salvaged: second_salvaged(&case.file, (LONGEST_FILE, LONGEST_LIST)),
         answers,
         end,
     }
 }
 
-fn second_salvaged(file: &[u8]) -> Result<(Vec<u8>, Vec<u8>), u8> {
-    let (mut new, mut list) = (vec![0; LONGEST_FILE], vec![0; LONGEST_LIST]);
+/// What the second program salvages of a file in rooms of these lengths.
+fn second_salvaged(
+    file: &[u8],
+    (room, list_room): (usize, usize),
+) -> Result<(Vec<u8>, Vec<u8>), u8> {
+    let (mut new, mut list) = (vec![0; room], vec![0; list_room]);
     let (length, listed) = second::salvage::salvage(file, &mut new, &mut list)?;
     new.truncate(length);
     list.truncate(listed);
@@ -652,13 +656,15 @@ fn replay(case: &Case, expected: &Expected, choice: usize, tally: &mut Tally) {
 
 /// What is kept of the case's file: in ample rooms, in rooms that are just long enough, and with an octet too few in one or both.
 fn salvage(case: &Case, expected: &Expected, choice: usize, tally: &mut Tally) {
-    let tried = |rooms: (usize, usize), due: Result<&(Vec<u8>, Vec<u8>), u8>| {
+    let tried = |rooms: (usize, usize), refusal: u8| {
         let what = format!("salvage in {rooms:?}");
+        let due = second_salvaged(&case.file, rooms);
         let (number, new, list) = LENDER.salvage(&case.file, rooms, choice as u8);
-        same(&what, number, due.err().unwrap_or(0));
-        let (due_file, due_list) = due.map_or((&[][..], &[][..]), |due| (&due.0, &due.1));
-        same_octets(&format!("{what}: list"), &list, due_list);
-        same_octets(&format!("{what}: file"), &new, due_file);
+        same(&what, number, due.as_ref().err().copied().unwrap_or(0));
+        same(&format!("{what}: what is due"), refusal, number);
+        let (due_file, due_list) = due.unwrap_or_default();
+        same_octets(&format!("{what}: list"), &list, &due_list);
+        same_octets(&format!("{what}: file"), &new, &due_file);
         same(
             &format!("{what}: check"),
             number != 0 || LENDER.check(&new) == 0,
@@ -669,18 +675,15 @@ fn salvage(case: &Case, expected: &Expected, choice: usize, tally: &mut Tally) {
     let (file, list) = match &expected.salvaged {
         Ok((file, list)) => (file.len(), list.len()),
         Err(refusal) => {
-            tried(ample, Err(*refusal));
-            tried((choice % 40, choice / 40 % 3), Err(*refusal));
+            tried(ample, *refusal);
+            tried((choice % 40, choice / 40 % 3), *refusal);
             let of_number = [salvage::REFUSED_20, salvage::REFUSED_25];
             tally.salvaged(of_number[usize::from(*refusal != 20)]);
             return tally.salvaged(salvage::REFUSED_SHORT);
         }
     };
-    tried(ample, expected.salvaged.as_ref().map_err(|number| *number));
-    tried(
-        (file, list),
-        expected.salvaged.as_ref().map_err(|number| *number),
-    );
+    tried(ample, 0);
+    tried((file, list), 0);
     tally.salvaged(salvage::EXACT);
     let (rooms, why) = match choice % 4 {
         0 => ((file - 1, list), salvage::SHORT_FILE),
@@ -688,7 +691,7 @@ fn salvage(case: &Case, expected: &Expected, choice: usize, tally: &mut Tally) {
         2 => ((file - 1, list - 1), salvage::SHORT_BOTH),
         _ => return,
     };
-    tried(rooms, Err(ROOM_SHORT));
+    tried(rooms, ROOM_SHORT);
     tally.salvaged(why);
 }
 

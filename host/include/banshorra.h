@@ -25,6 +25,7 @@ extern "C" {
 #define BANSHORRA_BOARD_ROOM 1100    /* the least buffer for the board's text */
 #define BANSHORRA_ANSWER_ROOM 518    /* what a replay needs free before it answers a call */
 #define BANSHORRA_OCCUPANCY_ROOM 544 /* the occupancy board, and the least buffer for it */
+#define BANSHORRA_LIST_ROOM 2297     /* enough for the list of those dropped in a salvage */
 #define BANSHORRA_VERDICT_SIZE 75    /* a verdict */
 
 /* Outcomes of a call (document 01's table). The first that holds counts. */
@@ -44,8 +45,9 @@ enum {
 enum {
     BANSHORRA_WRONG_FORM = 20,      /* campus file: layout, order, names, excess octets, or above 32,768 octets */
     BANSHORRA_UNSOUND = 21,         /* campus file: well formed, but not sound */
-    BANSHORRA_SHORT_FILE_ROOM = 23, /* the file's buffer is below 32,768 octets, or the occupancy board's below 544 */
+    BANSHORRA_SHORT_FILE_ROOM = 23, /* the file's buffer is below 32,768 octets, the occupancy board's below 544, or a salvage's too short */
     BANSHORRA_CUT_OFF = 24,         /* a call's record is cut off */
+    BANSHORRA_SETTINGS = 25,        /* campus file to be salvaged: the settings alone are unsound */
     BANSHORRA_SHORT_ANSWERS = 27,   /* fewer than 518 octets are left for the next answer */
     BANSHORRA_FILE_LENGTH = 28      /* the file's length is above its buffer's */
 };
@@ -141,6 +143,16 @@ uint8_t banshorra_reply(const uint8_t *file, size_t file_length, const uint8_t v
    Or a refusal of the file, 23, 28, 20, 21 as above, which changes nothing but *calls_used and *answers_filled, which are 0. */
 uint8_t banshorra_replay(uint8_t *file, size_t file_room, size_t *file_length, const uint8_t *calls, size_t calls_length, size_t *calls_used,
                          uint8_t *answers, size_t answers_room, size_t *answers_filled);
+
+/* What can be kept of a campus file that is refused as 21: each lease, then each hold, then each release that leaves the book sound together with
+   those already kept. The new file stands in `room` and its length in *room_length; all else in it is as it was, and it is always accepted and never
+   longer. The list of those dropped stands in `list` and its length in *list_length: their count(2), then for each its kind(1; 1 lease, 2 hold, 3
+   release), its place in its section as it was(1; from 1) and the first rule that it breaks(1; 1, 2 or 7 to 18). A sound file comes back as it was,
+   with count 0. Octets past both are untouched.
+   Returns 0; or 20 for a wrong form, 25 where the settings alone are unsound, and then 23 where one of the rooms is too short. These write nothing,
+   and both lengths are 0. A room_size of file_length and a list_size of BANSHORRA_LIST_ROOM are always enough. */
+uint8_t banshorra_salvage(const uint8_t *file, size_t file_length, uint8_t *room, size_t room_size, size_t *room_length, uint8_t *list,
+                          size_t list_size, size_t *list_length);
 
 #ifdef __cplusplus
 }

@@ -3,8 +3,9 @@
 use crate::lent::{self, Replayed};
 use crate::numbers::{Answer, Refusal};
 use crate::occupancy::Occupancy;
+use crate::salvage::Dropped;
 use crate::verdict::Verdict;
-use crate::{BOARD_ROOM, FILE_ROOM};
+use crate::{BOARD_ROOM, FILE_ROOM, LIST_ROOM};
 use std::fmt;
 use std::net::Ipv4Addr;
 
@@ -26,6 +27,15 @@ impl CampusFile {
             buffer,
             length: file.len(),
         })
+    }
+
+    /// What can be kept of a campus file that may be refused as 21, and what was dropped of it; see [`lent::salvage`]. Refusal 20 for a wrong form, 25
+    /// where the settings alone are unsound.
+    pub fn salvage(file: &[u8]) -> Result<(Self, Vec<Dropped>), Refusal> {
+        let mut buffer = Box::new([0; FILE_ROOM]);
+        let salvaged = lent::salvage(file, &mut buffer[..], &mut [0; LIST_ROOM])?;
+        let (length, dropped) = (salvaged.file.len(), salvaged.dropped);
+        Ok((Self { buffer, length }, dropped))
     }
 
     /// The file's octets as they are now.

@@ -4,6 +4,7 @@
 use crate::library;
 use crate::numbers::{Answer, Refusal};
 use crate::occupancy::Occupancy;
+use crate::salvage::{Dropped, Salvaged};
 use crate::verdict::Verdict;
 use crate::{OCCUPANCY_ROOM, VERDICT_SIZE};
 use std::net::Ipv4Addr;
@@ -128,6 +129,24 @@ pub fn replay(
         calls_used,
         answers_filled,
         stopped: (number != 0).then(|| refusal(number)),
+    }
+}
+
+/// What can be kept of a campus file: each lease, then each hold, then each release that leaves the book sound together with those kept before it; all
+/// else is as it was. The new file stands in the front of `room`, its list in the front of `list`, and octets past both are left as they were. Refusal 20 or 25, then 23
+/// where one of the two is too short: nothing is written. As many octets as the file has, and [`LIST_ROOM`](crate::LIST_ROOM), are enough.
+pub fn salvage<'r>(
+    file: &[u8],
+    room: &'r mut [u8],
+    list: &mut [u8],
+) -> Result<Salvaged<'r>, Refusal> {
+    let (mut length, mut listed) = (0, 0);
+    match library::salvage(file, room, &mut length, list, &mut listed) {
+        0 => Ok(Salvaged {
+            file: &room[..length],
+            dropped: Dropped::of_list(&list[..listed]),
+        }),
+        number => Err(refusal(number)),
     }
 }
 

@@ -34,6 +34,8 @@
 //!
 //! [`CampusFile::occupancy`] says who has which address, for those who poll it.
 //!
+//! [`CampusFile::salvage`] keeps what can be kept of a file that is refused as unsound, and says what can't.
+//!
 //! Words for people, which decide nothing: [`campus`] has a file as a value and [`text`] as a text that can be edited, [`Broken`] which rule an unsound one breaks,
 //! [`message`] datagrams option by option, [`Case`] why a call draws what it draws. The program `banshorra` is made of these.
 //!
@@ -55,6 +57,7 @@ pub mod quoted;
 mod reason;
 mod records;
 mod rules;
+mod salvage;
 pub mod text;
 pub mod utc;
 mod verdict;
@@ -67,6 +70,7 @@ pub use occupancy::Occupancy;
 pub use reason::{Case, Reason};
 pub use records::{answers, Answers, Call};
 pub use rules::Broken;
+pub use salvage::{Dropped, Kind, Salvaged};
 pub use verdict::{Asked, Given, Ruling, Verdict};
 
 /// The longest campus file, and the least buffer for a file that is served.
@@ -80,5 +84,8 @@ pub const ANSWER_ROOM: usize = 6 + REPLY_ROOM;
 /// The octets of the occupancy board, and the least buffer for it: for each of four scopes the owner(1) and the count(1) of 64 addresses and
 /// the holdings(1) of eight houses.
 pub const OCCUPANCY_ROOM: usize = 4 * (2 * 64 + 8);
+/// A buffer that is enough for the list of those dropped in a salvage: their count(2), and kind(1), place(1) and rule(1) of 255 leases, holds and
+/// releases.
+pub const LIST_ROOM: usize = 2 + 3 * 3 * 255;
 /// The octets of a verdict.
 pub const VERDICT_SIZE: usize = 75;

@@ -1,4 +1,4 @@
-//! The static library's seven functions as safe ones on slices, with its own numbers, as `include/banshorra.h` has them. All unsafe code of
+//! The static library's eight functions as safe ones on slices, with its own numbers, as `include/banshorra.h` has them. All unsafe code of
 //! the crate is here; [`lent`](crate::lent) has the same calls with the numbers read.
 //!
 //! Why each call is sound:
@@ -84,6 +84,17 @@ extern "C" {
         answers: *mut u8,
         answers_room: usize,
         answers_filled: *mut usize,
+    ) -> u8;
+    /// What can be kept of a campus file.
+    pub fn banshorra_salvage(
+        file: *const u8,
+        file_length: usize,
+        room: *mut u8,
+        room_size: usize,
+        room_length: *mut usize,
+        list: *mut u8,
+        list_size: usize,
+        list_length: *mut usize,
     ) -> u8;
 }
 
@@ -209,6 +220,29 @@ pub fn replay(
             answers.as_mut_ptr(),
             answers.len(),
             answers_filled,
+        )
+    }
+}
+
+/// 0, the new file in the front of `room` and the list of those dropped in the front of `list`; or 20, 25 or 23.
+pub fn salvage(
+    file: &[u8],
+    room: &mut [u8],
+    room_length: &mut usize,
+    list: &mut [u8],
+    list_length: &mut usize,
+) -> u8 {
+    // SAFETY: as above; `room`, `list` and the two lengths are written, and each is lent as `&mut`.
+    unsafe {
+        banshorra_salvage(
+            file.as_ptr(),
+            file.len(),
+            room.as_mut_ptr(),
+            room.len(),
+            room_length,
+            list.as_mut_ptr(),
+            list.len(),
+            list_length,
         )
     }
 }

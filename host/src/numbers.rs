@@ -157,10 +157,12 @@ pub enum Refusal {
     Form = 20,
     /// The file is unsound.
     Unsound = 21,
-    /// The file's buffer is below 32,768 octets.
+    /// The file's buffer is below 32,768 octets, or a salvage's is too short.
     FileRoom = 23,
     /// A call's record is cut off.
     CutOff = 24,
+    /// The settings of a file to be salvaged are unsound by themselves.
+    Settings = 25,
     /// Fewer than 518 octets are left for the next answer.
     AnswersRoom = 27,
     /// The file's length is above its buffer's.
@@ -168,11 +170,12 @@ pub enum Refusal {
 }
 
 impl Refusal {
-    const ALL: [Refusal; 6] = [
+    const ALL: [Refusal; 7] = [
         Refusal::Form,
         Refusal::Unsound,
         Refusal::FileRoom,
         Refusal::CutOff,
+        Refusal::Settings,
         Refusal::AnswersRoom,
         Refusal::FileLength,
     ];
@@ -192,8 +195,9 @@ impl fmt::Display for Refusal {
         let why = match self {
             Refusal::Form => "the campus file's form is wrong",
             Refusal::Unsound => "the campus file is unsound",
-            Refusal::FileRoom => "the campus file's buffer is below 32,768 octets",
+            Refusal::FileRoom => "the campus file's buffer is too short",
             Refusal::CutOff => "a call's record is cut off",
+            Refusal::Settings => "the campus file's settings are unsound",
             Refusal::AnswersRoom => "too little room for the next answer",
             Refusal::FileLength => "the campus file's length goes past its buffer",
         };

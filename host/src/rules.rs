@@ -67,8 +67,33 @@ impl Broken {
     pub fn what_to_do(&self) -> &'static str {
         match self.rule {
             1 | 3..=6 => "Edit the settings: `banshorra text FILE >TEXT`, correct them there, `banshorra file TEXT FILE`.",
-            _ => "Take out or correct what is named, with `banshorra text` and `banshorra file`; or take the file of before.",
+            _ => "Take out or correct what is named, with `banshorra text` and `banshorra file`; or let `banshorra salvage` take out what breaks a rule; or take the file of before.",
         }
+    }
+}
+
+/// What a rule says.
+pub fn says(rule: u8) -> &'static str {
+    match rule {
+        1 => "identifiers have 2 to 32 octets, and a house at most 16 leases and holds",
+        2 => "there are at most 64 addresses, each below the scope's size",
+        3 => "ranges of clients may not be empty or meet",
+        4 => "pools lie within 224.0.0.0-239.255.255.255 and may not meet",
+        5 => "the TTL is at least 1",
+        6 => "shares are within limits, limits within the scope's size, and so are all shares together",
+        7 => "house and scope have to be known, a lease's type 3 or 4, the period not empty and its end after the clock, and there has to be an address",
+        8 => "no two leases or holds of a house may have one identifier",
+        9 => "no address may have two houses",
+        10 => "leases and holds on an address may not overlap",
+        11 => "no house may hold more than its limit",
+        12 => "what the houses hold, or their shares where these are larger, has to fit the scope",
+        13 => "a hold has type 1 and lapses after the clock, within thirty seconds of it and not after its period's end",
+        14 => "a release has a known house",
+        15 => "a house has at most four releases",
+        16 => "a release's identifier has 2 to 32 octets",
+        17 => "a release's identifier may not be that of another release, lease or hold of its house",
+        18 => "a release may not be after the clock",
+        _ => "there is no such rule",
     }
 }
 

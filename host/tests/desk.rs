@@ -39,7 +39,7 @@ fn help_of_every_command() {
         .collect();
     assert_eq!(
         commands,
-        ["serve", "board", "check", "text", "file", "explain", "ask", "load"]
+        ["serve", "board", "check", "salvage", "text", "file", "explain", "ask", "load"]
     );
     for command in commands {
         let (help, _, status) = said(&run(&[command, "--help"]));
@@ -74,6 +74,8 @@ fn wrong_usage_is_2_and_says_what_is_wrong() {
             "--group takes a multicast address, not 10.0.0.1",
         ),
         (&["board", "a", "--every", "1"], "--every goes with --watch"),
+        (&["salvage"], "a FILE is wanted"),
+        (&["salvage", "a", "b", "c"], "a FILE is wanted"),
         (&["explain"], "one of HEX"),
         (&["ask", "beg"], "not `beg`"),
         (
@@ -156,6 +158,74 @@ fn files_and_texts() {
             1
         )
     );
+}
+
+#[test]
+fn a_salvage() {
+    let folder = Folder::new("desk-salvage");
+    let name = |file: &str| folder.path(file).to_str().expect("a name").to_owned();
+    let (text, broken, new) = (name("campus.txt"), name("broken.bin"), name("new.bin"));
+    let made = |words: &str| {
+        fs::write(&text, words).expect("a text");
+        assert_eq!(said(&run(&["file", &text, &broken, "--unsound"])).2, 0);
+        fs::read(&broken).expect("a file")
+    };
+    let words = fs::read_to_string(sample("campus.txt")).expect("a sample");
+    let (settings, lease) = (
+        words.find("lease").expect("one"),
+        words.find("hold").expect("one"),
+    );
+    let kept = made(&words[..lease]);
+    let spoiled = words.replace("on 239.192.1.2\n", "on 239.192.1.3\n");
+    let old = made(&spoiled.replace("\\x00L0", "\\x00L1"));
+    // Without another word nothing is written.
+    let list = format!(
+        "{broken}: 2 dropped; left are 2 houses, 2 scopes, 1 lease, 0 holds, 0 releases
+  hold 1 (house 2, \"\\x00L2\"): rule 10: leases and holds on an address may not overlap
+  release 1 (house 2, \"\\x00L1\"): rule 17: a release's identifier may not be that of another release, lease or hold of its house\n"
+    );
+    let salvage = |words: &[&str]| said(&run(&[&["salvage"], words].concat()));
+    assert_eq!(salvage(&[&broken]), (list.clone(), String::new(), 0));
+    assert_eq!(fs::read(&broken).expect("a file"), old);
+    assert!(!folder.path("new.bin").exists());
+    // While a host has the new file, it isn't written.
+    let lock = fs::File::create(name("new.bin.lock")).expect("a lock");
+    lock.lock().expect("nobody has it");
+    let (_, error, status) = salvage(&[&broken, &new]);
+    assert!(
+        error.contains("another host has this campus file"),
+        "{error}"
+    );
+    assert_eq!((status, folder.path("new.bin").exists()), (3, false));
+    drop(lock);
+    let written = (format!("{list}{new}: written\n"), String::new(), 0);
+    assert_eq!(salvage(&[&broken, &new]), written);
+    assert_eq!(fs::read(&broken).expect("a file"), old);
+    assert_eq!(fs::read(&new).expect("a file"), kept);
+    // A sound one stays as it is; a broken one may be replaced.
+    let (sound, _, status) = salvage(&[&new, &new]);
+    let left = "sound as it is; 2 houses, 2 scopes, 1 lease, 0 holds, 0 releases";
+    assert_eq!(
+        (sound, status),
+        (format!("{new}: {left}\n{new}: written\n"), 0)
+    );
+    assert_eq!(salvage(&[&broken, &broken]).2, 0);
+    for file in [&broken, &new] {
+        assert_eq!(fs::read(file).expect("a file"), kept);
+    }
+    // Refused, and nothing written: unsound settings, and a wrong form.
+    made(&words[..settings].replace("share 4", "share 9"));
+    let (_, error, status) = salvage(&[&broken, &new]);
+    let rule = "refused 25: the campus file's settings are unsound\n  rule 6: scope 2, house 1: share 9 above limit 8\n";
+    assert!(error.contains(rule), "{error}");
+    assert_eq!(status, 1);
+    fs::write(&broken, &kept[1..]).expect("a file");
+    let (_, error, status) = salvage(&[&broken, &new]);
+    assert!(
+        error.contains("refused 20: the campus file's form is wrong"),
+        "{error}"
+    );
+    assert_eq!((status, fs::read(&new).expect("a file")), (1, kept));
 }
 
 #[test]

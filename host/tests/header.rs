@@ -2,7 +2,7 @@
 
 use banshorra_host::{Discard, Outcome, Refusal, Ruling, Verdict};
 use banshorra_host::{
-    ANSWER_ROOM, BOARD_ROOM, FILE_ROOM, OCCUPANCY_ROOM, REPLY_ROOM, VERDICT_SIZE,
+    ANSWER_ROOM, BOARD_ROOM, FILE_ROOM, LIST_ROOM, OCCUPANCY_ROOM, REPLY_ROOM, VERDICT_SIZE,
 };
 
 const HEADER: &str = include_str!("../include/banshorra.h");
@@ -28,6 +28,7 @@ fn the_header_and_the_crate_agree() {
         ("BOARD_ROOM", BOARD_ROOM),
         ("ANSWER_ROOM", ANSWER_ROOM),
         ("OCCUPANCY_ROOM", OCCUPANCY_ROOM),
+        ("LIST_ROOM", LIST_ROOM),
         ("VERDICT_SIZE", VERDICT_SIZE),
         ("REPLY", usize::from(Outcome::Reply(&[]).number())),
     ];
@@ -48,6 +49,7 @@ fn the_header_and_the_crate_agree() {
         ("UNSOUND", Refusal::Unsound),
         ("SHORT_FILE_ROOM", Refusal::FileRoom),
         ("CUT_OFF", Refusal::CutOff),
+        ("SETTINGS", Refusal::Settings),
         ("SHORT_ANSWERS", Refusal::AnswersRoom),
         ("FILE_LENGTH", Refusal::FileLength),
     ] {

@@ -153,3 +153,36 @@ fn a_campus_of_holds_is_served() {
         assert_eq!(call(&mut campus, HOUSE_1, CLOCK + 1, &refused).0, 0);
     });
 }
+
+#[test]
+fn the_most_that_a_file_can_have_is_salvaged() {
+    let mut wreck = settings(8, 4, 4);
+    let lease = |number: u8| Lease {
+        house: number % 8 + 1,
+        scope: number % 4 + 1,
+        identifier: vec![number; 2],
+        kind: REQUEST,
+        transaction: 9,
+        start: CLOCK,
+        end: CLOCK + 9,
+        offsets: vec![number % 64],
+    };
+    wreck.leases = (0..255).map(lease).collect();
+    wreck
+        .leases
+        .sort_by_key(|lease| (lease.house, lease.identifier.clone()));
+    let hold = |lease: &Lease| Hold {
+        lease: Lease {
+            kind: DISCOVER,
+            ..lease.clone()
+        },
+        lapse: CLOCK + 9,
+    };
+    wreck.holds = wreck.leases.iter().map(hold).collect();
+    wreck.releases = vec![wreck.releases[0].clone(); 255];
+    on_that_stack(move || {
+        let (kept, dropped) = CampusFile::salvage(&wreck.octets()).expect("settings are sound");
+        assert_eq!(lent::check(kept.as_bytes()), Ok(()));
+        assert!(dropped.len() > 600, "{}", dropped.len());
+    });
+}

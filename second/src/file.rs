@@ -28,7 +28,7 @@ pub fn read(file: &[u8]) -> Result<Book, u8> {
 
 /// The form alone: layout, order and no octet after it. What the sections say may be far from sound,
 /// except the names: every fault of theirs is one of form.
-fn read_form(file: &[u8]) -> Option<Book> {
+pub fn read_form(file: &[u8]) -> Option<Book> {
     if file.len() > LONGEST_FILE {
         return None;
     }
@@ -165,7 +165,7 @@ pub fn write(book: &Book, room: &mut [u8]) -> Result<usize, u8> {
 }
 
 /// The octets of a sound book's file. Every count of a sound book fits one octet.
-fn file_of(book: &Book) -> Vec<u8> {
+pub fn file_of(book: &Book) -> Vec<u8> {
     let mut file = vec![1];
     file.extend(book.server.to_be_bytes());
     file.extend(book.clock.to_be_bytes());

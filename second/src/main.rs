@@ -1,8 +1,10 @@
-//! `second replay`, `second board`, `second occupancy` and `second van`: standard input in, text out.
+//! `second replay`, `second board`, `second occupancy`, `second van` and `second salvage`: standard
+//! input in, text out.
 
 #![forbid(unsafe_code)]
 
 use second::programs::{board, occupancy, replay};
+use second::salvage::salvage_text;
 use second::van::van;
 use std::io::{self, Read, Write};
 use std::process::ExitCode;
@@ -14,8 +16,9 @@ fn main() -> ExitCode {
         [name] if name == "board" => board,
         [name] if name == "occupancy" => occupancy,
         [name] if name == "van" => van,
+        [name] if name == "salvage" => salvage_text,
         _ => {
-            eprintln!("usage: second replay | second board | second occupancy | second van");
+            eprintln!("usage: second replay | board | occupancy | van | salvage");
             return ExitCode::from(2);
         }
     };

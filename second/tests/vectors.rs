@@ -1,6 +1,8 @@
 //! Runs the programs over a folder of cases, named by the environment variable SECOND_VECTORS: every `N.bin` or `N.in` in
 //! it or below it is given on standard input, and `N.out` is what must come out. The cases in a folder `W-211` are
-//! `van`'s, all others `replay`'s. Cases from before W-210 have no counts; they are compared without them.
+//! `van`'s, those in `W-212` are `salvage`'s, and `N.rooms` has two other rooms for each: the length of the file's, of the
+//! list's, and `written` or `refused NUMBER`. All others are `replay`'s. Cases from before W-210 have no counts; they are
+//! compared without them.
 
 use std::fs;
 use std::io::Write;
@@ -30,6 +32,7 @@ fn program_of(case: &Path) -> &'static str {
     let folder = case.parent().and_then(Path::file_name);
     match folder.and_then(|name| name.to_str()) {
         Some("W-211") => "van",
+        Some("W-212") => "salvage",
         _ => "replay",
     }
 }
@@ -61,6 +64,25 @@ fn agrees(found: &[u8], expected: &[u8]) -> bool {
     found == expected || is_older && without_counts(&text).as_bytes() == expected
 }
 
+/// What `salvage` makes of the rooms of a case, in the words of `N.rooms`.
+fn in_rooms(input: &[u8], rooms: &str) -> String {
+    let mut words = rooms.split_whitespace();
+    let mut length = || words.next().and_then(|word| word.parse().ok());
+    let (Some(room), Some(list)) = (length(), length()) else {
+        panic!("no lengths of rooms in {rooms:?}");
+    };
+    match second::salvage::salvage(input, &mut vec![0; room], &mut vec![0; list]) {
+        Ok(_) => format!("{room} {list} written\n"),
+        Err(number) => format!("{room} {list} refused {number}\n"),
+    }
+}
+
+/// Whether a case's rooms come to what is expected, where it has such.
+fn rooms_agree(case: &Path, input: &[u8]) -> bool {
+    let rooms = fs::read_to_string(case.with_extension("rooms"));
+    rooms.is_ok_and(|rooms| in_rooms(input, &rooms) == rooms) || program_of(case) != "salvage"
+}
+
 #[test]
 fn counts_are_passed_over_in_older_cases_alone() {
     let found = b"8 #2\n5 @12 #0\nbook 01\n";
@@ -84,7 +106,7 @@ fn every_case_agrees() {
         .filter(|case| {
             let input = fs::read(case).expect("the input");
             let expected = fs::read(case.with_extension("out")).expect("the expected output");
-            !agrees(&run(program_of(case), &input), &expected)
+            !agrees(&run(program_of(case), &input), &expected) || !rooms_agree(case, &input)
         })
         .collect();
     assert!(disagreeing.is_empty(), "disagreeing: {disagreeing:?}");

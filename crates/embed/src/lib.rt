@@ -9,6 +9,8 @@ ghost use Rattle.state_file.specs.StateFile.{readFile};
 ghost use Rattle.records.specs.Lent.{serveLent};
 ghost use Rattle.reply.specs.Reply.{leastRoom};
 ghost use Rattle.embed.specs.Embed.{answerRoom, largestNames, numberAfter, lengthAfter, serveFile, replayFile, replayed, stopIn, callIn, recordSize};
+ghost use Rattle.salvage_file.specs.Salvage.{salvageOf};
+ghost use Rattle.salvage_file.specs.Walk.{Salvages};
 ghost use Rattle.server.specs.Serve.{Tells};
 ghost use Rattle.embed.specs.Halves.{judgeFile, replyFile};
 ghost use Rattle.embed.specs.Occupancy.{boardNumber, roomWithBoard};
@@ -436,4 +438,23 @@ pub extern "C" fn banshorra_replay(
     *used = 0;
     *filled = 0;
     refusal
+}
+
+// Salvages a campus file that may be refused as 21 (document 02, W-212): a new one into `room`, of `room_length` octets, and into `list` those that were dropped, of
+// `list_length` octets: how many(2), then for each kind(1; 1 lease, 2 hold, 3 release), place in its section(1; from 1) and first broken rule(1). 20 for a wrong form, 25
+// where the settings alone are unsound, 23 where a room is too short: these write nothing, and both lengths are 0. As many octets as the file has, and 2,297, are enough.
+#[no_mangle]
+pub extern "C" fn banshorra_salvage(
+    file: &[u8],
+    room: &mut [u8],
+    room_length: &mut usize,
+    list: &mut [u8],
+    list_length: &mut usize,
+) -> u8
+    ensures { λ r. ⌜ Salvages (salvageOf (now (file .entry)) (length (now (room .entry))) (length (now (list .entry)))) (now (room .entry)) (now (list .entry)) (now (room .exit)) (now (list .exit)) (record { refusal = r; length = now («room_length» .exit); listed = now («list_length» .exit) }) ⌝ }
+{
+    let told = salvage_file::salvage(file, room, list);
+    *room_length = told.length;
+    *list_length = told.listed;
+    told.refusal
 }

@@ -7,6 +7,8 @@ mod reader;
 mod sizes;
 mod writer;
 
+pub use limits::entry_next;
+pub use reader::record_at;
 ghost use mathlib.Core.Bool.{false, true};
 ghost use mathlib.Core.Path.{_≡_};
 ghost use Prim.Native.Nat.{_+_, _≤_};

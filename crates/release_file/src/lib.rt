@@ -5,6 +5,8 @@ mod reader;
 mod sizes;
 mod writer;
 
+pub use limits::release_next;
+pub use reader::release_at;
 ghost use mathlib.Core.Bool.{true};
 ghost use mathlib.Core.Path.{_≡_};
 ghost use Prim.Native.Nat.{_+_, _≤_};

@@ -30,7 +30,7 @@ pub fn all_releases(s: &[u8], from: usize, count: usize) -> [TenantReleases; 8]
 }
 
 // The release that starts at `at`.
-fn release_at(s: &[u8], at: usize) -> Release
+pub fn release_at(s: &[u8], at: usize) -> Release
     requires { ⌜ KeepableAt (now s) at ⌝ }
     ensures { λ r. ⌜ r ≡ storedRelease (fileReleaseAt (now (s .entry)) at) ⌝ }
 {

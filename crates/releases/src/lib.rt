@@ -8,7 +8,7 @@ ghost use lib.ListN.{drop, take};
 ghost use Rattle.state.specs.Book.{inUse, laidReleases, otherRelease, remembered};
 ghost use Rattle.state.specs.Edit.{forgetOf, notedIn, rememberOf};
 ghost use Rattle.releases.specs.Again.{anyAgain, isAgain};
-ghost use Rattle.releases.specs.Rules.{bothRules, brokenRelease, firstRelease, memoryB, noRules, rulesAt};
+ghost use Rattle.releases.specs.Rules.{bothRules, brokenRelease, firstRelease, memoryB, noRules, releaseRulesOf, rulesAt};
 use crate::rules::both_rules;
 use crate::rules::check_tenant;
 use state::Edit;
@@ -207,9 +207,9 @@ pub fn first_broken(r: ReleaseRules) -> u8
     0
 }
 
-// Whether what is remembered keeps every rule.
-pub fn sound(s: State, table: LeaseTable, memory: Memory) -> bool
-    ensures { λ r. ⌜ r ≡ memoryB s table memory ⌝ }
+// Which rules what is remembered keeps.
+pub fn check_rules(s: State, table: LeaseTable, memory: Memory) -> ReleaseRules
+    ensures { λ r. ⌜ r ≡ releaseRulesOf s table memory ⌝ }
 {
     let n = arithmetic::cut8(s.tenant_count);
     let mut all = no_tenants();
@@ -220,5 +220,13 @@ pub fn sound(s: State, table: LeaseTable, memory: Memory) -> bool
         all = add_tenant(all, n, s.clock, h, own, q);
         h += 1;
     }
+    all
+}
+
+// Whether what is remembered keeps every rule.
+pub fn sound(s: State, table: LeaseTable, memory: Memory) -> bool
+    ensures { λ r. ⌜ r ≡ memoryB s table memory ⌝ }
+{
+    let all = check_rules(s, table, memory);
     first_broken(all) == 0
 }

@@ -1,5 +1,5 @@
--- Definitions: what `replay` and `van` print: a line for each call, the outcome's number and, for a reply, a blank and its octets in lower-case hex; after discard 5
--- a blank, `@` and the offset that it carries (document 02, W-206); each ends in a blank, `#` and the count of records that were read (W-210); at the end `book`, a blank and the hex of the campus file; or `refused`, a blank and a number.
+-- Definitions: what `replay`, `van` and `salvage` print: a line for each call, the outcome's number and, for a reply, a blank and its octets in lower-case hex; after discard 5
+-- a blank, `@` and the offset that it carries (document 02, W-206); each ends in a blank, `#` and the count of records that were read (W-210); at the end `book`, a blank and the hex of the campus file; or `refused`, a blank and a number; and a line for each that a salvage dropped.
 use Prim.Native.Nat.{ℕ, _+_, _/_, _%_}
 use mathlib.Core.List.{List, [], _∷_, _++_}
 use lib.Dec.{ltb, eqb}
@@ -51,3 +51,14 @@ bookLine file = 98 ∷ 111 ∷ 111 ∷ 107 ∷ 32 ∷ hexOf file ++ 10 ∷ []
 -- "refused", a blank and a number of two digits
 abbrev pub refusedLine : ℕ → List ℕ
 refusedLine n = 114 ∷ 101 ∷ 102 ∷ 117 ∷ 115 ∷ 101 ∷ 100 ∷ 32 ∷ (48 + n / 10 % 10) ∷ (48 + n % 10) ∷ 10 ∷ []
+
+-- ---- what `salvage` prints of one that was dropped (document 02, W-212): "lease", "hold" or "release", its place, "rule" and the rule's number
+unfoldable pub kindText : ℕ → List ℕ
+kindText kind = pick (eqb kind 1) (108 ∷ 101 ∷ 97 ∷ 115 ∷ 101 ∷ 32 ∷ []) (pick (eqb kind 2) (104 ∷ 111 ∷ 108 ∷ 100 ∷ 32 ∷ []) (114 ∷ 101 ∷ 108 ∷ 101 ∷ 97 ∷ 115 ∷ 101 ∷ 32 ∷ []))
+
+-- a blank, "rule", a blank and the number, and the line's end
+unfoldable pub ruleText : ℕ → List ℕ
+ruleText rule = 32 ∷ 114 ∷ 117 ∷ 108 ∷ 101 ∷ 32 ∷ decimal rule ++ 10 ∷ []
+
+abbrev pub droppedLine : ℕ → ℕ → ℕ → List ℕ
+droppedLine kind place rule = (kindText kind ++ decimal place) ++ ruleText rule

@@ -1,10 +1,10 @@
-// The lines that `replay` and `van` print, written into a lent buffer.
+// The lines that `replay`, `van` and `salvage` print, written into a lent buffer.
 ghost use mathlib.Core.Path.{_≡_};
 ghost use mathlib.Core.List.{[], _∷_};
 ghost use Prim.Native.Nat.{_+_, _*_, _/_, _≤_, _<_};
 ghost use lib.ListN.{length, take};
 ghost use Rattle.octets.specs.Octets.{Wrote};
-ghost use Rattle.replay_text.specs.Replay.{hexDigit, hexOf, digit, decimal, numberText, outcomeLine, outcomeText, countText, callLine, bookLine, refusedLine};
+ghost use Rattle.replay_text.specs.Replay.{hexDigit, hexOf, digit, decimal, numberText, outcomeLine, outcomeText, countText, callLine, bookLine, refusedLine, kindText, ruleText, droppedLine};
 
 fn hex_digit(d: u8) -> u8
     requires { ⌜ d < 16 ⌝ }
@@ -159,4 +159,38 @@ pub fn write_refused_line(out: &mut [u8], n: u8) -> usize
     let b = octets::put_u8(out, a, 48 + n / 10 % 10);
     let c = octets::put_u8(out, b, 48 + n % 10);
     octets::put_u8(out, c, 10)
+}
+
+// What a kind of those that a salvage drops is called.
+fn put_kind(out: &mut [u8], kind: u8) -> usize
+    requires { ⌜ 8 ≤ length (now out) ⌝ }
+    ensures { λ r. ⌜ (Wrote (now (out .entry)) 0 (kindText kind) (now (out .exit)) r) × (r ≤ 8) ⌝ }
+{
+    if kind == 1 {
+        return octets::put_run(out, 0, &[108, 101, 97, 115, 101, 32], 6);
+    }
+    if kind == 2 {
+        return octets::put_run(out, 0, &[104, 111, 108, 100, 32], 5);
+    }
+    octets::put_run(out, 0, &[114, 101, 108, 101, 97, 115, 101, 32], 8)
+}
+
+// The rule, and the end of the line.
+fn put_rule(out: &mut [u8], at: usize, rule: u8) -> usize
+    requires { ⌜ at + 11 ≤ length (now out) ⌝ }
+    ensures { λ r. ⌜ Wrote (now (out .entry)) at (ruleText rule) (now (out .exit)) r ⌝ }
+{
+    let a = octets::put_run(out, at, &[32, 114, 117, 108, 101, 32], 6);
+    let b = put_decimal(out, a, rule as usize);
+    octets::put_u8(out, b, 10)
+}
+
+// The line of a lease, hold or release that was dropped: its kind, its place and the first rule that it breaks.
+pub fn write_dropped_line(out: &mut [u8], kind: u8, place: u8, rule: u8) -> usize
+    requires { ⌜ 23 ≤ length (now out) ⌝ }
+    ensures { λ r. ⌜ Wrote (now (out .entry)) 0 (droppedLine kind place rule) (now (out .exit)) r ⌝ }
+{
+    let a = put_kind(out, kind);
+    let b = put_decimal(out, a, place as usize);
+    put_rule(out, b, rule)
 }

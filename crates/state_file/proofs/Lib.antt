@@ -5,7 +5,7 @@ mod RowLaws
 mod Writes
 mod Zeros
 mod Remembered
-mod ReadAgain
+pub mod ReadAgain
 mod Short
 pub mod WriteAgain
 pub mod RoundTrip

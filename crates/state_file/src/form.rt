@@ -9,7 +9,7 @@ use crate::Places;
 use format::Place;
 
 // Whether the octets have the form of a state file, and where its sections start.
-pub fn form(s: &[u8]) -> Layout
+pub fn form_of(s: &[u8]) -> Layout
     ensures { λ r. ⌜ FormedBy (now (s .entry)) r ⌝ }
 {
     let len = s.len();

@@ -7,16 +7,18 @@ mod load;
 mod put;
 mod size;
 
+pub use form::form_of;
+pub use limits::counts_fit;
+pub use load::state_at;
+pub use put::put_file;
+pub use size::file_size;
 ghost use mathlib.Core.Path.{_≡_};
 ghost use lib.ListN.{length};
 ghost use Rattle.releases.specs.Whole.{bookB};
 ghost use Rattle.state_file.specs.StateFile.{namesOf, readFile, roomAfter, writtenOf, zeroLedger, zeroMemory, zeroState};
-use crate::form::form;
 use crate::load::load;
 use crate::load::refusal;
 use crate::load::zero_range;
-use crate::put::put_file;
-use crate::size::file_size;
 use state::LeaseTable;
 use state::Ledger;
 use state::Memory;
@@ -58,7 +60,7 @@ pub enum Layout {
 pub fn read(s: &[u8]) -> Loaded
     ensures { λ r. ⌜ r ≡ readFile (now (s .entry)) ⌝ }
 {
-    let layout = form(s);
+    let layout = form_of(s);
     let Layout::Right(places) = layout else {
         return refusal(20);
     };
@@ -69,7 +71,7 @@ pub fn read(s: &[u8]) -> Loaded
 pub fn names(file: &[u8]) -> &[u8]
     ensures { λ r. ⌜ now r ≡ namesOf (now (file .entry)) ⌝ }
 {
-    let layout = form(file);
+    let layout = form_of(file);
     let Layout::Right(places) = layout else {
         return &file[0..0];
     };

@@ -19,7 +19,7 @@ pub fn fits(s: &[u8], places: Places) -> bool
 }
 
 // Whether they can hold so many tenants and scopes.
-fn counts_fit(tenants: u8, scopes: u8) -> bool
+pub fn counts_fit(tenants: u8, scopes: u8) -> bool
     ensures { λ r. ⌜ r ≡ countsFit tenants scopes ⌝ }
 {
     if 8 < tenants {

@@ -68,7 +68,7 @@ pub fn refusal(n: u8) -> Loaded
 }
 
 // The settings and the clock, by where the section of scopes starts.
-fn state_at(s: &[u8], at: usize) -> State
+pub fn state_at(s: &[u8], at: usize) -> State
     requires { ⌜ SettingsIn (now s) at ⌝ }
     ensures { λ r. ⌜ r ≡ stateAt (now (s .entry)) at ⌝ }
 {

@@ -5,6 +5,7 @@ use crate::calls::{self, List};
 use crate::campus::sound;
 use crate::damage::{self, DAMAGES};
 use crate::random::Random;
+use crate::wrecks;
 use builder::Campus;
 
 /// What the maker of a case means to break: the place of a damage in `DAMAGES`.
@@ -61,6 +62,18 @@ impl Case {
             campus: (!is_scrambled).then_some(campus),
             broken,
         }
+    }
+
+    /// A file to salvage, with no calls. None where it would be too long.
+    pub fn wreck(seed: &str, number: u64) -> Option<Case> {
+        let mut random = Random::new(&format!("{seed} wreck"), number);
+        Some(Case {
+            file: wrecks::wreck(&mut random)?,
+            calls: Vec::new(),
+            meant: None,
+            campus: None,
+            broken: Broken::new(),
+        })
     }
 
     /// The form in which a case is kept, which is the input of `replay`: file length(2), the file, the calls.

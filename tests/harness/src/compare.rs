@@ -14,6 +14,7 @@ use crate::names;
 use crate::occupancy::{self, Board};
 use crate::random::Random;
 use crate::releases::Past;
+use crate::salvage::{self, Salvaged};
 use crate::tally::Tally;
 use crate::{LONGEST_FILE, SHORTEST_ROOM};
 use banshorra_host::{ANSWER_ROOM, BOARD_ROOM, OCCUPANCY_ROOM, VERDICT_SIZE};
@@ -29,6 +30,8 @@ const ROOM_SHORT: u8 = 23;
 const CUT_OFF: u8 = 24;
 const ANSWERS_FULL: u8 = 27;
 const LENGTH_PAST: u8 = 28;
+/// The list of all that a file can have: a count, and 255 leases, holds and releases.
+const LONGEST_LIST: usize = 2 + 3 * 3 * 255;
 /// Octets around each lent buffer are watched.
 const LENDER: Lender = Lender { around: 32 };
 
@@ -100,6 +103,8 @@ pub struct Expected {
     board: String,
     /// Empty if the file is refused.
     occupancy: Vec<u8>,
+    /// The file that is salvaged and the list of what is dropped, or the refusal.
+    salvaged: Result<(Vec<u8>, Vec<u8>), u8>,
     pub answers: Vec<Answer>,
     /// Where the answered records end in the list; a cut-off one follows, or nothing.
     end: usize,
@@ -146,9 +151,22 @@ fn second(case: &Case) -> Expected {
         refusal,
         board,
         occupancy,
+        salvaged: second_salvaged(&case.file, (LONGEST_FILE, LONGEST_LIST)),
         answers,
         end,
     }
+}
+
+/// What the second program salvages of a file in rooms of these lengths.
+fn second_salvaged(
+    file: &[u8],
+    (room, list_room): (usize, usize),
+) -> Result<(Vec<u8>, Vec<u8>), u8> {
+    let (mut new, mut list) = (vec![0; room], vec![0; list_room]);
+    let (length, listed) = second::salvage::salvage(file, &mut new, &mut list)?;
+    new.truncate(length);
+    list.truncate(listed);
+    Ok((new, list))
 }
 
 /// What panics is a difference like any other.
@@ -201,6 +219,7 @@ pub fn compare(case: &Case, tally: &mut Tally) -> Result<(), Difference> {
         serve(case, &expected, choice);
         replay(case, &expected, choice, tally);
         halves(case, &expected, choice, tally);
+        salvage(case, &expected, choice, tally);
         if choice.is_multiple_of(4) {
             lent_rooms(case, tally);
         }
@@ -227,6 +246,19 @@ fn count(case: &Case, expected: &Expected, tally: &mut Tally) -> Result<(), Diff
     }
     if let Some(campus) = &case.campus {
         boarded(campus, expected, tally)?;
+    }
+    if let Ok((new, list)) = &expected.salvaged {
+        let salvaged = Salvaged::new(&case.file, new, list)?;
+        if (list[..] == [0, 0]) != (expected.refusal == 0) {
+            return Err(format!(
+                "a list {list:?} of a file that is {}",
+                expected.refusal
+            ));
+        }
+        salvaged
+            .why()
+            .into_iter()
+            .for_each(|why| tally.salvaged(why));
     }
     let (mut past, mut judged_past) = (Past::default(), judged::Past::default());
     let (mut before, mut file) = (Campus::read(&case.file), &case.file);
@@ -620,6 +652,47 @@ fn replay(case: &Case, expected: &Expected, choice: usize, tally: &mut Tally) {
             tally.code(code);
         }
     }
+}
+
+/// What is kept of the case's file: in ample rooms, in rooms that are just long enough, and with an octet too few in one or both.
+fn salvage(case: &Case, expected: &Expected, choice: usize, tally: &mut Tally) {
+    let tried = |rooms: (usize, usize), refusal: u8| {
+        let what = format!("salvage in {rooms:?}");
+        let due = second_salvaged(&case.file, rooms);
+        let (number, new, list) = LENDER.salvage(&case.file, rooms, choice as u8);
+        same(&what, number, due.as_ref().err().copied().unwrap_or(0));
+        same(&format!("{what}: what is due"), refusal, number);
+        let (due_file, due_list) = due.unwrap_or_default();
+        same_octets(&format!("{what}: list"), &list, &due_list);
+        same_octets(&format!("{what}: file"), &new, &due_file);
+        same(
+            &format!("{what}: check"),
+            number != 0 || LENDER.check(&new) == 0,
+            true,
+        );
+    };
+    let ample = (LONGEST_FILE + choice % 9, LONGEST_LIST + choice % 7);
+    let (file, list) = match &expected.salvaged {
+        Ok((file, list)) => (file.len(), list.len()),
+        Err(refusal) => {
+            tried(ample, *refusal);
+            tried((choice % 40, choice / 40 % 3), *refusal);
+            let of_number = [salvage::REFUSED_20, salvage::REFUSED_25];
+            tally.salvaged(of_number[usize::from(*refusal != 20)]);
+            return tally.salvaged(salvage::REFUSED_SHORT);
+        }
+    };
+    tried(ample, 0);
+    tried((file, list), 0);
+    tally.salvaged(salvage::EXACT);
+    let (rooms, why) = match choice % 4 {
+        0 => ((file - 1, list), salvage::SHORT_FILE),
+        1 => ((file, list - 1), salvage::SHORT_LIST),
+        2 => ((file - 1, list - 1), salvage::SHORT_BOTH),
+        _ => return,
+    };
+    tried(rooms, ROOM_SHORT);
+    tally.salvaged(why);
 }
 
 /// A room for the file that is too short (23), then a file length above the room (28): nothing changes.

@@ -342,4 +342,49 @@ impl Lender {
         held.see(&stood, *used == 0);
         (number, *used, answers.part()[..*filled].to_vec())
     }
+
+    /// What is kept of a file and the list of what isn't, in rooms that are painted with `salt`: its number and both. A refusal writes nothing.
+    pub fn salvage(
+        self,
+        file: &[u8],
+        (room, list_room): (usize, usize),
+        salt: u8,
+    ) -> (u8, Vec<u8>, Vec<u8>) {
+        let mut lent = self.copy(file);
+        let before = [room, list_room].map(|length| self.painted(length, salt));
+        let [mut new, mut list] = before.clone();
+        let [mut length, mut listed] = [(); 2].map(|()| Box::new(usize::MAX));
+        // SAFETY: as above.
+        let number = unsafe {
+            banshorra_salvage(
+                lent.at(),
+                file.len(),
+                new.at(),
+                room,
+                &mut *length,
+                list.at(),
+                list_room,
+                &mut *listed,
+            )
+        };
+        assert!(lent == self.copy(file), "salvage changed the file");
+        let fits = *length <= room && *listed <= list_room;
+        assert!(
+            fits,
+            "salvage filled {length} of {room}, {listed} of {list_room}"
+        );
+        let kept =
+            new.differs_in_first(*length, &before[0]) && list.differs_in_first(*listed, &before[1]);
+        assert!(kept, "salvage wrote past its file or list");
+        let nothing = number == 0 || (*length, *listed) == (0, 0);
+        assert!(
+            nothing,
+            "salvage filled {length} and {listed} with {number}"
+        );
+        let parts = (
+            new.part()[..*length].to_vec(),
+            list.part()[..*listed].to_vec(),
+        );
+        (number, parts.0, parts.1)
+    }
 }

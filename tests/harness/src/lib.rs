@@ -25,8 +25,10 @@ pub mod occupancy;
 pub mod programs;
 pub mod random;
 pub mod releases;
+pub mod salvage;
 pub mod tally;
 pub mod watch;
+pub mod wrecks;
 
 /// Numbers of documents 01 and 02.
 pub const SKEW: u32 = 1_800;

@@ -11,6 +11,7 @@ use crate::judged;
 use crate::names;
 use crate::occupancy;
 use crate::releases;
+use crate::salvage;
 use std::collections::BTreeMap;
 
 /// Message types by number; the server's own are among them.
@@ -100,6 +101,10 @@ fn read_for(why: String) -> String {
     format!("count: {why}")
 }
 
+fn salvaged_for(why: String) -> String {
+    format!("salvage: {why}")
+}
+
 fn day_for(why: String) -> String {
     format!("van: {why}")
 }
@@ -177,6 +182,11 @@ impl Tally {
         self.add(read_for(why));
     }
 
+    /// What was seen of a file that is salvaged.
+    pub fn salvaged(&mut self, why: impl Into<String>) {
+        self.add(salvaged_for(why.into()));
+    }
+
     /// The program `van` is there: its days have to show all that they can.
     pub fn expect_days(&mut self) {
         self.of_programs
@@ -223,6 +233,7 @@ impl Tally {
         names.extend(ending::counted().into_iter().map(ordered_for));
         names.extend(halves::counted().into_iter().map(halved_for));
         names.extend(counts::counted().into_iter().map(read_for));
+        names.extend(salvage::counted().into_iter().map(salvaged_for));
         names.extend((0..DAMAGES.len()).map(damage_name));
         names.extend(self.of_programs.iter().cloned());
         names

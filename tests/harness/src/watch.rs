@@ -12,6 +12,7 @@ use crate::lent::{Held, Lender, Octets, Served};
 use crate::occupancy::Board;
 use crate::random::Random;
 use crate::releases::Past;
+use crate::salvage::Salvaged;
 use banshorra_host::{ANSWER_ROOM, BOARD_ROOM, FILE_ROOM, OCCUPANCY_ROOM, REPLY_ROOM};
 use builder::{value_of, Call, Campus, ACK, NAK, OFFER};
 use std::collections::BTreeMap;
@@ -20,7 +21,7 @@ use std::collections::BTreeMap;
 pub const EXACT: Lender = Lender { around: 0 };
 
 /// What a run of some length has to see.
-const SEEN: [(&str, &str); 16] = [
+const SEEN: [(&str, &str); 17] = [
     ("check", "0, 20, 21"),
     ("board", "lines, refused 20, refused 21, no room"),
     ("occupancy", "0, 20, 21, 23"),
@@ -29,6 +30,7 @@ const SEEN: [(&str, &str); 16] = [
     ("reply", "0, 2, 3, 4, 5, 6, 7, 8, 20, 21"),
     ("made up", "any octets, one field changed, another campus's"),
     ("replay", "0, 20, 21, 23, 24, 27, 28"),
+    ("salvage", "whole, less, 20, 23, 25"),
     ("replies", "OFFER, ACK, NAK"),
     ("errors", "0, 1, 2, 3"),
     ("names", "0, 1"),
@@ -166,6 +168,35 @@ impl Watch {
             again == (number, board),
             "the board depends on octets outside"
         );
+    }
+
+    /// What is kept of a file and the list of what isn't, and again in rooms of other octets. What is kept is accepted and is the old file without
+    /// what is dropped; a sound file is kept whole, and an unsound one isn't.
+    pub fn salvage(&mut self, file: &[u8], rooms: (usize, usize)) {
+        let check = self.check(file);
+        let (number, new, list) = EXACT.salvage(file, rooms, 0x5A);
+        let name = match (number, &list[..]) {
+            (0, [0, 0]) => "whole".to_string(),
+            (0, _) => "less".to_string(),
+            _ => number.to_string(),
+        };
+        self.count("salvage", name);
+        let right = match check {
+            0 => [0, 23].contains(&number),
+            20 => number == 20,
+            _ => [0, 23, 25].contains(&number),
+        };
+        assert!(right, "salvage returned {number} of a file that is {check}");
+        if number == 0 {
+            assert_eq!(self.check(&new), 0, "what is kept is refused");
+            let salvaged = Salvaged::new(file, &new, &list);
+            assert!(salvaged.is_ok(), "{}", salvaged.err().unwrap_or_default());
+            let is_whole = list == [0, 0];
+            assert_eq!(is_whole, check == 0, "what is dropped, and what is sound");
+        }
+        let again = EXACT.salvage(file, rooms, 0xE7);
+        let same = again == (number, new, list);
+        assert!(same, "what is kept depends on octets outside");
     }
 
     /// The refusal that is due, in its order; 0 for none.

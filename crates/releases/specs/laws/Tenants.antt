@@ -139,11 +139,12 @@ module _ {s : State} {t : LeaseTable} {m : Memory} {n : ℕ} {all : ReleaseRules
       let e : h ≡ 8 = omega (arith, v .within) in
       v .whole ∙ ap (rulesTo (tenantsIn s) (s .clock) t m) e
 
-  pub memory-end : {x : ℕ} → 8 ≤ h → x ≡ brokenRelease all → eqb x 0 ≡ memoryB s t m
-  unfolding memoryB brokenMemory
-  memory-end g p = ap (λ (x : ℕ). eqb x 0) (p ∙ ap brokenRelease (memory-whole g))
+pub ruleset memories = (memory-start, memory-next, memory-whole, unmapped)
 
-pub ruleset memories = (memory-start, memory-next, memory-end, unmapped)
+-- whether none is broken
+pub memory-sound : (s : State) (t : LeaseTable) (m : Memory) {all : ReleaseRules} {x : ℕ} → all ≡ releaseRulesOf s t m → x ≡ brokenRelease all → eqb x 0 ≡ memoryB s t m
+unfolding memoryB brokenMemory
+memory-sound s t m e p = ap (λ (x : ℕ). eqb x 0) (p ∙ ap brokenRelease e)
 
 -- of a table that the code reads
 pub own-rules : (t : LeaseTable) (h : ℕ) (d : TenantLeases) (q : TenantReleases) → length (t .tenants) ≡ 8 → h < 8

@@ -8,7 +8,7 @@ pub names-spec : {M : Type 1} → statement M
 names-spec =
     tie.close
     (tie.spec
-    (λ c κs. search needs)  -- src/lib.rt:71:9 form-requires
+    (λ c κs. search needs)  -- src/lib.rt:71:9 form-of-requires
     (λ c. search needs)  -- src/lib.rt:72:23 enum-known-layout
     (λ c. search needs)  -- src/lib.rt:73:16 enum-told
     (λ c. search needs)  -- src/lib.rt:73:16 sub-result

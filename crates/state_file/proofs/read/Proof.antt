@@ -8,7 +8,7 @@ pub read-spec : {M : Type 1} → statement M
 read-spec =
     tie.close
     (tie.spec
-    (λ c κs. search needs)  -- src/lib.rt:53:9 form-requires
+    (λ c κs. search needs)  -- src/lib.rt:53:9 form-of-requires
     (λ c. search (layout-right, read-yes, read-not, needs))  -- src/lib.rt:54:23 enum-known-layout
     (λ c. search (layout-right, read-yes, read-not, needs))  -- src/lib.rt:55:9 enum-told
     (λ c κs. search needs)  -- src/lib.rt:55:9 refusal-requires

@@ -65,12 +65,25 @@ pub fn refused(name: &str, file: &[u8], refusal: Refusal) -> Failure {
             fault.to_string(),
             "It is no campus file, or a damaged one: take the last good copy, or make it again with `banshorra file`.",
         ),
-        Ok(campus) => match Broken::first(&campus) {
+        Ok(campus) => match Broken::first(&judged(campus, refusal)) {
             Some(broken) => (broken.to_string(), broken.what_to_do()),
             None => ("no broken rule was found".to_owned(), "Report this file: the two ought to agree."),
         },
     };
     Failure::Refused(format!("{name}: {refusal}\n  {what}\n  {todo}"))
+}
+
+/// What a refusal is about: with 25 the settings alone.
+fn judged(campus: Campus, refusal: Refusal) -> Campus {
+    match refusal {
+        Refusal::Settings => Campus {
+            leases: vec![],
+            releases: vec![],
+            holds: vec![],
+            ..campus
+        },
+        _ => campus,
+    }
 }
 
 /// A number of things in words.

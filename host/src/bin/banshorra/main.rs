@@ -11,6 +11,7 @@ mod inbox;
 mod load;
 mod log;
 mod pcap;
+mod salvage;
 mod serve;
 mod store;
 
@@ -24,6 +25,7 @@ banshorra: a MADCAP server for a shared studio campus, and what its desk needs
   banshorra serve FILE       serve a campus file
   banshorra board FILE       who holds what, as a table
   banshorra check FILE       whether a campus file is accepted, and if not, why
+  banshorra salvage FILE     what can be kept of one that is unsound
   banshorra text FILE        a campus file as text, to read and edit
   banshorra file TEXT FILE   the campus file of a text
   banshorra explain ..       datagrams in words
@@ -36,10 +38,11 @@ It ends with 0 when done; 1 where something is refused: a campus file, a text, a
 can't be read or written, a socket, a file that another host has; 4 where no answer came.
 ";
 
-const COMMANDS: [Command; 8] = [
+const COMMANDS: [Command; 9] = [
     serve::COMMAND,
     board::COMMAND,
     files::CHECK,
+    salvage::COMMAND,
     files::TEXT,
     files::FILE,
     explain::COMMAND,

@@ -18,7 +18,8 @@ const DEFAULT_CASES: u64 = 40_000;
 const DEFAULT_SEED: &str = "1";
 /// So many differences are shown; all are counted and kept.
 const SHOWN: u64 = 10;
-/// So many cases to a day of the van.
+/// So many cases to a file to salvage, and to a day of the van.
+const CASES_TO_A_WRECK: u64 = 10;
 const CASES_TO_A_DAY: u64 = 20;
 /// Holds the case under way, should the process be ended by a fault.
 const RUNNING: &str = "running.case";
@@ -85,12 +86,13 @@ impl Run<'_> {
         run
     }
 
-    /// The case of a number; and at times a day of the van.
-    fn case(&mut self, number: u64) -> io::Result<()> {
-        let case = Case::new(self.seed, number);
-        fs::write(self.folder.join(RUNNING), case.octets())?;
-        if let Err(difference) = compare(&case, &mut self.tally) {
-            self.keep(number, "case", &case.octets(), &difference)?;
+    /// The case of a number; and at times a file to salvage and a day of the van.
+    fn number(&mut self, number: u64) -> io::Result<()> {
+        self.case(number, "case", &Case::new(self.seed, number))?;
+        if number % CASES_TO_A_WRECK == 0 {
+            let wreck = Case::wreck(self.seed, number / CASES_TO_A_WRECK);
+            let mut wrecks = wreck.iter();
+            wrecks.try_for_each(|wreck| self.case(number, "wreck", wreck))?;
         }
         let van = self.van.clone();
         if let (Some(van), 0) = (van, number % CASES_TO_A_DAY) {
@@ -101,6 +103,14 @@ impl Run<'_> {
             }
         }
         Ok(())
+    }
+
+    fn case(&mut self, number: u64, kind: &str, case: &Case) -> io::Result<()> {
+        fs::write(self.folder.join(RUNNING), case.octets())?;
+        match compare(case, &mut self.tally) {
+            Ok(()) => Ok(()),
+            Err(difference) => self.keep(number, kind, &case.octets(), &difference),
+        }
     }
 
     /// Keeps what differs, and says so.
@@ -122,7 +132,7 @@ fn run(cases: u64, seed: &str, first_only: bool, is_default: bool) -> io::Result
     fs::create_dir_all(&run.folder)?;
     let mut number = 0;
     while number < cases && !(first_only && run.differ > 0) {
-        run.case(number)?;
+        run.number(number)?;
         number += 1;
     }
     // A run of no cases hasn't made it.

@@ -9,6 +9,7 @@ use harness::campus::sound;
 use harness::damage::{battered, DAMAGES, HOLDS, NAMES, RELEASES};
 use harness::random::Random;
 use harness::watch::{Watch, EXACT};
+use harness::wrecks;
 use std::process::ExitCode;
 
 /// A run of so many cases that never saw one of the numbers would be no fuzz run.
@@ -41,6 +42,7 @@ fn main() -> ExitCode {
         "judge",
         "reply",
         "replay",
+        "salvage",
     ] {
         print!(" {} {function},", watch.calls(function));
     }
@@ -51,10 +53,18 @@ fn main() -> ExitCode {
 fn run(random: &mut Random, watch: &mut Watch) {
     let campus = sound(random);
     match random.below(100) {
-        0..15 => watch.board(&any_file(random, &campus), text_room(random)),
-        15..25 => watch.occupancy(&any_file(random, &campus), occupancy_room(random)),
-        25..60 => serves(random, watch, &campus),
-        60..75 => {
+        0..12 => watch.board(&any_file(random, &campus), text_room(random)),
+        12..16 => watch.salvage(&any_file(random, &campus), salvage_rooms(random)),
+        16..20 => {
+            let wreck = match random.below(5) {
+                0 => unsettled(&campus),
+                _ => wrecks::wreck(random).unwrap_or(campus.octets()),
+            };
+            watch.salvage(&wreck, salvage_rooms(random));
+        }
+        20..28 => watch.occupancy(&any_file(random, &campus), occupancy_room(random)),
+        28..61 => serves(random, watch, &campus),
+        61..75 => {
             let file = campus.octets();
             let mut held = EXACT.hold(&file, file_room(random), file.len());
             let edges = [0, 1, ANSWER_ROOM - 1, ANSWER_ROOM, ANSWER_ROOM + 1];
@@ -86,6 +96,19 @@ fn text_room(random: &mut Random) -> usize {
 fn occupancy_room(random: &mut Random) -> usize {
     let edges = [0, 1, OCCUPANCY_ROOM - 1, OCCUPANCY_ROOM + 1];
     room(random, OCCUPANCY_ROOM, &edges, 1_200)
+}
+
+/// A file whose settings are unsound by themselves.
+fn unsettled(campus: &Campus) -> Vec<u8> {
+    let mut campus = campus.clone();
+    campus.scopes[0].ttl = 0;
+    campus.octets()
+}
+
+/// For the file that is kept and the list of what isn't.
+fn salvage_rooms(random: &mut Random) -> (usize, usize) {
+    let file = room(random, FILE_ROOM, &[0, 1, 40, FILE_ROOM + 1], 2_000);
+    (file, room(random, 2_500, &[0, 1, 2, 5, 8], 40))
 }
 
 /// Calls one by one on a sound file.

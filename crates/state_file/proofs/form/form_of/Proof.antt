@@ -1,8 +1,8 @@
--- `form` meets its contract: by `forms`.
+-- `form_of` meets its contract: by `forms`.
 use Rattle.state_file.proofs.WholeForm.{count-in, form-first, form-leases, forms}
 use borrow.Author.Needs.{needs}
-use Rattle.state_file.proofs.form.form.Statement.{statement}
-use Rattle.state_file.proofs.form.form.Tie as tie
+use Rattle.state_file.proofs.form.form_of.Statement.{statement}
+use Rattle.state_file.proofs.form.form_of.Tie as tie
 
 -- src/form.rt:29:49
 shared-slice-read-wide : tie.Need-shared-slice-read-wide
@@ -16,8 +16,8 @@ returns-6 c = form-leases _ (c .before .before .before .before .before .before .
 last-sections-requires : tie.Need-last-sections-requires
 last-sections-requires c κs = form-first _ (c .before .before .before .before .before .before .before .before .before .before .before .before .before .before .if3 .left) (c .before .before .before .before .before .before .before .before .before .before .before .before .before .before .before .before .if2 .left) (c .before .before .before .before .before .before .before .before .before .before .before .before .before .counted-end .ensures) (c .before .before .before .before .before .before .before .before .before .before .before .ranges .given .1) _ (c .before .before .before .before .before .before .before .before .wide .ensures .0) (c .before .before .before .before .before .before .before .counted-end2 .ensures) (c .before .before .before .before .before .pools .given .1) (c .before .before .before .section-end .ensures) (c .before .before .before .before .before .before .before .before .before .before .before .before .before .before .before .before .before .if1 .left) (c .before .records .given .1)
 
-pub form-spec : {M : Type 1} → statement M
-form-spec =
+pub form-of-spec : {M : Type 1} → statement M
+form-of-spec =
     tie.close
     (tie.spec
     (λ c. search (forms, needs))  -- src/form.rt:17:9 returns

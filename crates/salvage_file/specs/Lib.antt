@@ -1,0 +1,4 @@
+pub mod Salvage
+pub mod Walk
+pub mod Statement
+pub mod laws

@@ -1,0 +1,4 @@
+pub mod Walk
+pub mod List
+pub mod Rules
+pub mod File

@@ -33,8 +33,9 @@ use Rattle.agreement.specs.laws.Tenants.{at-tenant}
 use Rattle.allocation.specs.declared.Ask.{Ask}
 use Rattle.allocation.specs.declared.Grant.{Grant}
 use Rattle.allocation.specs.Rule.{allowed, busyIn, freeOf, grantOf, grantTo, heldAfter, nobodysOf, poolOf, suffices, takenOf}
-use Rattle.decision.specs.declared.Proposal.{Proposal}
-use Rattle.decision.specs.Parts.{askAt, broughtBy, dropsHold, endOf, fitsNew, fitsRenewed, holdsOf, isNew, leaseIdIn, newAt, newOf, newWith, othersBusy, ownOf, proposalOf, recordedOf, renewedBy, renewedOf, renewedTo, scopePlace, startOf, updated}
+use Rattle.proposal.specs.declared.Proposal.{Proposal}
+use Rattle.proposal.specs.Proposals.{askAt, broughtBy, endOf, fitsNew, fitsRenewed, newAt, newOf, newWith, othersBusy, proposalOf, renewedBy, renewedOf, renewedTo, startOf, updated}
+use Rattle.admission.specs.Tests.{dropsHold, holdsOf, isNew, leaseIdIn, ownOf, recordedOf, scopePlace}
 use Rattle.decision.specs.Decide.{decideOf, judgedOf}
 use Rattle.arrangement.proofs.Lists.{Same, each-same, held-at-same, same-at, same-set}
 

@@ -46,7 +46,7 @@ use Rattle.releases.specs.Whole.{boardGood, bookB, memoryGood, namesGood}
 use Rattle.releases.specs.laws.Tenants.{Holds, each-memory, memory-each}
 use Rattle.releases.specs.laws.Whole.{book-board, book-sound}
 use Rattle.decision.specs.declared.Decided.{Decided}
-use Rattle.decision.specs.Parts.{ownOf}
+use Rattle.admission.specs.Tests.{ownOf}
 use Rattle.server.specs.Serve.{Answer, Call, answered, atClock, decidedFor, discarded, discardedAt, forServer, serveOf, tenantOf, withReading}
 use Rattle.guarantee.specs.Statement.{SoundBook, run}
 use Rattle.guarantee.proofs.Kept.{advanced-laid, call-sound, now-sound}

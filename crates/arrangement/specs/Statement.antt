@@ -8,7 +8,7 @@ use lib.ListN.{length}
 use Rattle.lists.specs.Arranged.{arranged}
 use Rattle.lists.specs.Reordered.{Reordered}
 use Rattle.state.specs.Book.{Book, Order, byEnding, byIdentifier, changedTo, leasesOf, tableOf}
-use Rattle.decision.specs.Parts.{ownOf}
+use Rattle.admission.specs.Tests.{ownOf}
 use Rattle.server.specs.Serve.{Answer, Call, serveOf}
 use Rattle.state_file.specs.StateFile.{octetsAs, octetsOf}
 use Rattle.arrangement.specs.Arrangement.{bookBy, runBy, serveBy, toldBy}

@@ -2,24 +2,15 @@
 -- are the records of the client's house, ended leases and lapsed holds dropped, q the releases that are remembered of it, m what the message says. The memory of
 -- releases is not among the records: to ask it is no lookup.
 use Prim.Native.Nat.{ℕ, _+_}
-use mathlib.Core.Bool.{Bool, not, _&&_, _||_}
+use mathlib.Core.Bool.{Bool}
 use mathlib.Core.List.{List}
-use lib.Dec.{eqb}
 use Rattle.lists.specs.Pick.{pick}
 use Rattle.message.specs.declared.Fields.{Fields}
 use Rattle.state.specs.declared.Lease.{Lease}
 use Rattle.state.specs.declared.Release.{Release}
 use Rattle.state.specs.declared.State.{State}
 use Rattle.state.specs.Book.{comparedOf}
-use Rattle.decision.specs.Parts.{isNew, leaseIdIn, recordedOf, resends, releasedAgain, early1Of, error2Of}
-
--- "one for the resend test of a REQUEST or RENEW"
-abbrev pub asksResend : Fields → Bool
-asksResend m = eqb (m .kind) 3 || eqb (m .kind) 4
-
--- "and one where error 1 or 3 asks for the identifier": error 1, as its last test, of a DISCOVER or REQUEST; error 3 of a RENEW or RELEASE, which comes after error 2
-unfoldable pub asksIdentifier : State → Fields → Bool
-asksIdentifier s m = isNew m || ((eqb (m .kind) 4 || eqb (m .kind) 7) && not (error2Of s m))
+use Rattle.admission.specs.Tests.{leaseIdIn, recordedOf, resends, releasedAgain, early1Of, asksResend, asksIdentifier}
 
 -- the records compared in one lookup, of the message's identifier, where it is made
 unfoldable pub lookupCount : Bool → List Lease → Fields → ℕ

@@ -13,11 +13,13 @@ use Rattle.state.specs.declared.LeaseTable.{LeaseTable}
 use Rattle.state.specs.declared.Release.{Release}
 use Rattle.state.specs.declared.State.{State}
 use Rattle.state.specs.Edit.{noEdit, entering, leaving, droppingFirst, givingWay}
-use Rattle.decision.specs.declared.Proposal.{Proposal}
+use Rattle.proposal.specs.declared.Proposal.{Proposal}
 use Rattle.decision.specs.declared.Verdict.{Verdict}
 use Rattle.decision.specs.declared.Decided.{Decided}
 use Rattle.decision.specs.declared.Reply.the-variants.{Offer, LeaseAck, ReleaseAck, InfoAck}
-use Rattle.decision.specs.Parts.{hasPeriod, ownOf, holdsOf, recordedOf, resends, releasedAgain, error1Of, error2Of, error3Of, isForHold, holdMeets, turned, dropsHold, broughtBy, heldFrom, proposalOf, error0Of, leaseFrom, withLease, plainReply, refusalOf}
+use Rattle.admission.specs.Tests.{hasPeriod, ownOf, holdsOf, recordedOf, resends, releasedAgain, error1Of, error2Of, error3Of, isForHold, dropsHold}
+use Rattle.proposal.specs.Proposals.{holdMeets, turned, broughtBy, heldFrom, proposalOf, error0Of, leaseFrom}
+use Rattle.decision.specs.Verdicts.{withLease, plainReply, refusalOf}
 
 -- a verdict with an edit, and one that leaves leases and releases as they are
 abbrev pub changed : Edit → Verdict → Decided

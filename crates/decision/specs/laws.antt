@@ -1,10 +1,3 @@
 pub mod Code
-pub mod Cases
-pub mod Kept
-pub mod Remembered
-pub mod Board
-pub mod Ensured
-pub mod Reads
-pub mod Others
-pub mod View
+pub mod Lookup
 pub mod Count

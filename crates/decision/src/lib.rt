@@ -1,39 +1,21 @@
 // The decision after tests 1 to 7: Resend, a RELEASE sent again, errors 1, 2, 3, a hold, error 0 and what the message asks for, with what it does to the tenant's leases and to what
 // is remembered of it.
-mod numbers;
-mod proposals;
-mod tests;
-
 ghost use mathlib.Core.Path.{_≡_};
 ghost use Prim.Native.Nat.{_≤_};
 ghost use lib.ListN.{take};
 ghost use Rattle.state.specs.Book.{inUse, remembered};
 ghost use Rattle.state.specs.Edit.{entering, leaving};
-ghost use Rattle.decision.specs.Parts.{withLease, plainReply, nakWith, discardWith, refusalOf, dropsHold, heldFrom};
-ghost use Rattle.decision.specs.Gather.{recordedIn, proposalIn, lookedUp, notAsked, broughtIn, pastErrors, pastEarly, decideIn};
+ghost use Rattle.decision.specs.Verdicts.{withLease, plainReply, nakWith, discardWith, refusalOf};
+ghost use Rattle.admission.specs.Tests.{dropsHold};
+ghost use Rattle.proposal.specs.Proposals.{heldFrom};
+ghost use Rattle.decision.specs.Gather.{recordedIn, lookedUp, notAsked, pastErrors, pastEarly, decideIn};
+ghost use Rattle.proposal.specs.Gather.{proposalIn, broughtIn};
 ghost use Rattle.decision.specs.Decide.{unchanged, changed, leasedOf, plainOf, settledOf, repeatedOf, droppedFirst};
 ghost use Rattle.decision.specs.Count.{countOf};
 ghost use Rattle.decision.specs.declared.Reply.the-variants.{Offer, LeaseAck, ReleaseAck, InfoAck};
-use crate::proposals::brought;
-use crate::proposals::hold_from;
-use crate::proposals::lease_from;
-use crate::proposals::propose;
-use crate::proposals::turn;
-use crate::tests::asks_identifier;
-use crate::tests::asks_resend;
-use crate::tests::drops_hold;
-use crate::tests::early_1;
-use crate::tests::error_0;
-use crate::tests::error_2;
-use crate::tests::error_3;
-use crate::tests::has_period;
-use crate::tests::hold_meets;
-use crate::tests::is_for_hold;
-use crate::tests::is_held_already;
-use crate::tests::is_released_again;
-use crate::tests::is_resend;
 use message::Fields;
 use message::MessageType;
+use proposal::Proposal;
 use soundness::HeldTable;
 use state::Edit;
 use state::Lease;
@@ -72,15 +54,6 @@ pub struct Decided {
 pub struct Counted {
     pub decided: Decided,
     pub count: usize,
-}
-
-// What a lease would be, and whether it passes the test of error 0 that goes by its type.
-pub struct Proposal {
-    pub fits: bool,
-    pub scope: u8,
-    pub start: u32,
-    pub end: u64,
-    pub addresses: u64,
 }
 
 // Whether a tenant has a record of an identifier, a lease or a hold, the record, an unused one where it has none, and how many were compared.
@@ -180,7 +153,7 @@ fn refuse(m: Fields, error: u8) -> Decided
 fn offer(s: State, l: Lease) -> Decided
     ensures { λ r. ⌜ r ≡ changed (entering (heldFrom (s .clock) l)) (withLease Offer l) ⌝ }
 {
-    let hold = hold_from(s.clock, l);
+    let hold = proposal::hold_from(s.clock, l);
     Decided {
         verdict: with_lease(Reply::Offer, l),
         edit: state::enter(hold),
@@ -254,10 +227,10 @@ fn plain(s: State, m: Fields, old: Lease) -> Decided
 fn settle(s: State, m: Fields, old: Lease, p: Proposal) -> Decided
     ensures { λ r. ⌜ r ≡ settledOf s m old p ⌝ }
 {
-    if error_0(s, m, p) {
+    if proposal::error_0(s, m, p) {
         return refuse(m, 0);
     }
-    let l = lease_from(m, p);
+    let l = proposal::lease_from(m, p);
     leased(s, m, old, l)
 }
 
@@ -265,11 +238,11 @@ fn settle(s: State, m: Fields, old: Lease, p: Proposal) -> Decided
 fn repeat(m: Fields, old: Lease) -> Decided
     ensures { λ r. ⌜ r ≡ repeatedOf m old ⌝ }
 {
-    if hold_meets(m, old) {
+    if proposal::hold_meets(m, old) {
         if m.kind == MessageType::DISCOVER {
             return offer_again(old);
         }
-        let l = turn(m, old);
+        let l = proposal::turn(m, old);
         return acknowledge(state::give_way(old, l), l);
     }
     refuse(m, 0)
@@ -302,10 +275,10 @@ fn lease(
 ) -> Decided
     ensures { λ r. ⌜ r ≡ droppedFirst (dropsHold m old there) old (settledOf s m old (proposalIn s (broughtIn (inUse own) m old there) held h m old)) ⌝ }
 {
-    let rest = brought(own, m, old, there);
-    let p = propose(s, rest, held, h, m, old);
+    let rest = proposal::brought(own, m, old, there);
+    let p = proposal::propose(s, rest, held, h, m, old);
     let d = settle(s, m, old, p);
-    let drops = drops_hold(m, old, there);
+    let drops = admission::drops_hold(m, old, there);
     drop_before(drops, old, d)
 }
 
@@ -321,10 +294,10 @@ fn answer(
 ) -> Decided
     ensures { λ r. ⌜ r ≡ pastErrors s (proposalIn s (broughtIn (inUse own) m old there) held h m old) m old there ⌝ }
 {
-    if is_for_hold(s, m, old, there) {
+    if admission::is_for_hold(s, m, old, there) {
         return repeat(m, old);
     }
-    if has_period(m) {
+    if admission::has_period(m) {
         return lease(s, own, held, h, m, old, there);
     }
     plain(s, m, old)
@@ -342,13 +315,13 @@ fn judge(
 ) -> Decided
     ensures { λ r. ⌜ r ≡ pastEarly s (proposalIn s (broughtIn (inUse own) m old there) held h m old) m old there ⌝ }
 {
-    if is_held_already(s, m, old, there) {
+    if admission::is_held_already(s, m, old, there) {
         return refuse(m, 1);
     }
-    if error_2(s, m) {
+    if admission::error_2(s, m) {
         return refuse(m, 2);
     }
-    if error_3(m, old, there) {
+    if admission::error_3(m, old, there) {
         return refuse(m, 3);
     }
     answer(s, own, held, h, m, old, there)
@@ -408,7 +381,7 @@ fn count_with(d: Decided, count: usize) -> Counted
 
 // The verdict on a message of tenant h, counted from 0, and what it does to what the tenant has. `own` are the tenant's records, `q` what is
 // remembered of its releases, and `held` is what all tenants hold. Where they are that of a sound book, the answer is document 01's over the whole
-// book (`decide-in` in specs/laws/View.antt). The count is of the records that were compared: each of the two lookups is made only where a test asks for it,
+// book (`decide-in` in decision_laws). The count is of the records that were compared: each of the two lookups is made only where a test asks for it,
 // the second again, though it finds what the first did.
 pub fn decide(
     s: State,
@@ -420,19 +393,19 @@ pub fn decide(
 ) -> Counted
     ensures { λ r. ⌜ r ≡ record { decided = decideIn s (inUse own) (remembered q) held h m; count = countOf s (inUse own) (remembered q) m } ⌝ }
 {
-    let first = look_up_if(asks_resend(m), own, m);
+    let first = look_up_if(admission::asks_resend(m), own, m);
     let sent = first.lease;
     let before = first.compared;
-    if is_resend(m, sent) {
+    if admission::is_resend(m, sent) {
         return count_with(acknowledge(state::no_edit(), sent), before);
     }
-    if is_released_again(s, q, m) {
+    if admission::is_released_again(s, q, m) {
         return count_with(acknowledge_again(), before);
     }
-    if early_1(s, m) {
+    if admission::early_1(s, m) {
         return count_with(refuse(m, 1), before);
     }
-    let second = look_up_if(asks_identifier(s, m), own, m);
+    let second = look_up_if(admission::asks_identifier(s, m), own, m);
     let old = second.lease;
     let d = judge(s, own, held, h, m, old, second.found);
     count_with(d, before + second.compared)

@@ -18,7 +18,7 @@ use Rattle.state.specs.declared.Ledger.{Ledger}
 use Rattle.state.specs.Book.{advanced, Book, releasesAt, remembered}
 use Rattle.soundness.specs.Sound.{tenantsIn}
 use Rattle.releases.specs.Whole.{bookB}
-use Rattle.decision.specs.Parts.{discardWith}
+use Rattle.decision.specs.Verdicts.{discardWith}
 use Rattle.server.specs.declared.Ruling.{Ruling}
 use Rattle.server.specs.Serve.{decidedFor, tenantOf}
 use Rattle.server.specs.Halves.{discardRuling, judgeClock, judgedBy, Judgement, judgeOf, judgeReading, judgeServer}

@@ -33,7 +33,7 @@ use Rattle.message.specs.declared.Times.{Times}
 use Rattle.message.specs.declared.Walk.{Walk}
 use Rattle.message.specs.declared.Wish.{Wish}
 use Rattle.state.specs.declared.State.{State}
-use Rattle.decision.specs.laws.Ensured.{sentAs}
+use Rattle.decision_laws.specs.laws.Ensured.{sentAs}
 use Rattle.guarantee.specs.Statement.{asRequest}
 
 -- ---- a place of an option: 0, or past the header

@@ -32,11 +32,13 @@ use Rattle.soundness.specs.Sound.{holdB, lapseB}
 use Rattle.soundness.specs.laws.Book.{leaseOk, sound-lists}
 use Rattle.soundness.specs.laws.Facts.{lease-facts}
 use Rattle.decision.specs.declared.Reply.the-variants.{LeaseAck}
-use Rattle.decision.specs.Parts.{askAt, badCounts, lacksCurrent, latestFirst, leaseIdIn, meets, tooLate, tooShort, early1Of, error0Of, error1Of, error2Of, fitsNew, heldAlready, heldFrom, holdsOf, isHeld, isLeased, isNew, knowsScope, lacksScope, leaseFrom, lengthOf, newAt, newOf, newWith, ownOf, recordedOf, resends, sameScope, startOf, turned, withLease, zeroLength}
+use Rattle.proposal.specs.Proposals.{askAt, meets, tooLate, tooShort, error0Of, fitsNew, heldFrom, leaseFrom, lengthOf, newAt, newOf, newWith, startOf, turned}
+use Rattle.admission.specs.Tests.{badCounts, lacksCurrent, latestFirst, leaseIdIn, early1Of, error1Of, error2Of, heldAlready, holdsOf, isHeld, isLeased, isNew, knowsScope, lacksScope, ownOf, recordedOf, resends, sameScope, zeroLength}
+use Rattle.decision.specs.Verdicts.{withLease}
 use Rattle.decision.specs.Decide.{changed}
-use Rattle.decision.specs.laws.Cases.{or-none}
-use Rattle.decision.specs.laws.Ensured.{sentAs}
-use Rattle.decision.specs.laws.Kept.{held-good}
+use Rattle.decision.specs.laws.Code.{or-none}
+use Rattle.decision_laws.specs.laws.Ensured.{sentAs}
+use Rattle.decision_laws.specs.laws.Kept.{held-good}
 use Rattle.server.specs.Serve.{Answer, Call, answered, decidedFor, serveOf, tenantOf}
 use Rattle.guarantee.specs.Statement.{AnswersAlike, Discovers, NoHold, Offered, OfferRule, OfferTaken, SoundBook, asRequest, bookAt, holdFor, requested, saysOf, stateAt, tableAt, tenantFor}
 use Rattle.guarantee.proofs.Alike.{Alike, both-numbers}

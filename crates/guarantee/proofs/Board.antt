@@ -28,8 +28,8 @@ use Rattle.soundness.specs.laws.Added.{each-at}
 use Rattle.soundness.specs.laws.Book.{Sound, leaseOk, sound-lists}
 use Rattle.soundness.specs.laws.Facts.{lease-facts}
 use Rattle.allocation.specs.laws.Kept.{held-below}
-use Rattle.decision.specs.Parts.{ownOf}
-use Rattle.decision.specs.laws.Kept.{own-is}
+use Rattle.admission.specs.Tests.{ownOf}
+use Rattle.decision_laws.specs.laws.Kept.{own-is}
 use Rattle.server.specs.Serve.{serveOf}
 use Rattle.guarantee.specs.Statement.{BoardAgrees, BoardStays, BoardZero, SoundBook, run}
 use Rattle.guarantee.proofs.Kept.{call-sound, run-sound}

@@ -27,8 +27,9 @@ use Rattle.allocation.specs.declared.Grant.{Grant}
 use Rattle.allocation.specs.Rule.{grantTo}
 use Rattle.state.specs.laws.Layout.{read-back}
 use Rattle.decision.specs.declared.Decided.{Decided}
-use Rattle.decision.specs.laws.Cases.{decided-by, newFor, oldFor, without}
-use Rattle.decision.specs.Parts.{heldFrom, leaseFrom, newAt, newOf, newWith, ownOf, recordedOf, renewedOf, renewedTo, turned}
+use Rattle.decision_laws.specs.laws.Cases.{decided-by, newFor, oldFor, without}
+use Rattle.proposal.specs.Proposals.{heldFrom, leaseFrom, newAt, newOf, newWith, renewedOf, renewedTo, turned}
+use Rattle.admission.specs.Tests.{ownOf, recordedOf}
 use Rattle.decision.specs.Decide.{decideOf}
 use Rattle.server.specs.Serve.{Answer, Call, atClock, forServer, serveOf, withReading}
 use Rattle.guarantee.specs.Statement.{Narrow, StaysNarrow, bookAt, run}

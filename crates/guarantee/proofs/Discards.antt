@@ -27,9 +27,9 @@ use Rattle.state.specs.Book.{Book, advanced, dropped, leasesOf, live, liveOf, r
 use Rattle.lists.specs.laws.Filter.{filter-length}
 use Rattle.soundness.specs.laws.Added.{few-at}
 use Rattle.soundness.specs.laws.Book.{sound-lists}
-use Rattle.decision.specs.Parts.{ownOf}
+use Rattle.admission.specs.Tests.{ownOf}
 use Rattle.decision.specs.laws.Count.{count-few}
-use Rattle.decision.specs.laws.Kept.{own-is}
+use Rattle.decision_laws.specs.laws.Kept.{own-is}
 use Rattle.state.specs.declared.Edit.{Edit}
 use Rattle.state.specs.Edit.{editedBook}
 use Rattle.state.specs.laws.Edited.{edited-none}

@@ -20,13 +20,15 @@ use Rattle.state.specs.Book.{isHold, removeOf, withClock}
 use Rattle.state.specs.Edit.{entering, givingWay}
 use Rattle.releases.specs.Again.{anyAgain}
 use Rattle.decision.specs.declared.Decided.{Decided}
-use Rattle.decision.specs.declared.Proposal.{Proposal}
+use Rattle.proposal.specs.declared.Proposal.{Proposal}
 use Rattle.decision.specs.declared.Reply.{Reply}
 use Rattle.decision.specs.declared.Reply.the-variants.{Nothing, Offer, LeaseAck, ReleaseAck, InfoAck, Nak}
-use Rattle.decision.specs.Parts.{badCounts, broughtBy, discardWith, dropsHold, early1Of, error0Of, error1Of, error2Of, error3Of, hasPeriod, heldAlready, heldFrom, holdMeets, holdsOf, isForHold, isHeld, isLeased, isNew, knowsScope, lacksCurrent, lacksScope, latestFirst, leaseFrom, leaseIdIn, meets, nakWith, newOf, ownOf, plainReply, proposalOf, recordedOf, refusalOf, releasedAgain, renewedOf, resends, sameScope, scopePlace, tooLate, tooShort, turned, updated, withLease, zeroLength}
+use Rattle.admission.specs.Tests.{badCounts, dropsHold, early1Of, error1Of, error2Of, error3Of, hasPeriod, heldAlready, holdsOf, isForHold, isHeld, isLeased, isNew, knowsScope, lacksCurrent, lacksScope, latestFirst, leaseIdIn, ownOf, recordedOf, releasedAgain, resends, sameScope, scopePlace, zeroLength}
+use Rattle.proposal.specs.Proposals.{broughtBy, error0Of, heldFrom, holdMeets, leaseFrom, meets, newOf, proposalOf, renewedOf, tooLate, tooShort, turned, updated}
+use Rattle.decision.specs.Verdicts.{discardWith, nakWith, plainReply, refusalOf, withLease}
 use Rattle.decision.specs.Decide.{changed, decideOf, droppedFirst, judgedOf, leasedOf, plainOf, repeatedOf, settledOf, unchanged}
-use Rattle.decision.specs.laws.Cases.{no, or-none}
-use Rattle.decision.specs.laws.Ensured.{sentAs}
+use Rattle.decision.specs.laws.Code.{no, or-none}
+use Rattle.decision_laws.specs.laws.Ensured.{sentAs}
 use Rattle.guarantee.proofs.Reached.{not-taken, taken}
 
 -- ---- a hold that waits for a message, which names its scope and asks for no more than it has; but for the message's type

@@ -24,9 +24,12 @@ use Rattle.soundness.specs.laws.Book.{Sound, sound-lists}
 use Rattle.decision.specs.declared.Decided.{Decided}
 use Rattle.decision.specs.declared.Reply.the-variants.{LeaseAck}
 use Rattle.releases.specs.Again.{anyAgain}
-use Rattle.decision.specs.laws.Cases.{Passed, new-type, nothing-there, or-none, passed}
-use Rattle.decision.specs.laws.Ensured.{decide-free, judgedFree}
-use Rattle.decision.specs.Parts.{early1Of, heldAlready, isHeld, badCounts, error0Of, error1Of, error2Of, hasPeriod, holdsOf, isNew, knowsScope, leaseFrom, leaseIdIn, newOf, ownOf, proposalOf, recordedOf, releasedAgain, resends, withLease}
+use Rattle.decision_laws.specs.laws.Cases.{Passed, new-type, nothing-there, passed}
+use Rattle.decision.specs.laws.Code.{or-none}
+use Rattle.decision_laws.specs.laws.Ensured.{decide-free, judgedFree}
+use Rattle.admission.specs.Tests.{early1Of, heldAlready, isHeld, badCounts, error1Of, error2Of, hasPeriod, holdsOf, isNew, knowsScope, leaseIdIn, ownOf, recordedOf, releasedAgain, resends}
+use Rattle.proposal.specs.Proposals.{error0Of, leaseFrom, newOf, proposalOf}
+use Rattle.decision.specs.Verdicts.{withLease}
 use Rattle.decision.specs.Decide.{changed, decideOf, leasedOf, settledOf}
 use Rattle.server.specs.Serve.{Answer, Call, answered, headOf, replyOf, serveOf}
 use Rattle.guarantee.specs.Statement.{Demand3, Granted, NewRequest, SoundBook, bookAt, grantFor, leaseFor, placeFor, releasesFor, run, saysOf, stateAt, tableAt, tenantFor, termsFor}

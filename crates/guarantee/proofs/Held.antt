@@ -30,10 +30,12 @@ use Rattle.state.specs.Edit.{editedIn, noEdit, appliedBy}
 use Rattle.state.specs.laws.Edited.{applied-others}
 use Rattle.state.specs.laws.Named.{edited-other, named-live}
 use Rattle.decision.specs.declared.Decided.{Decided}
-use Rattle.decision.specs.Parts.{heldFrom, isHeld, isLeased, leaseFrom, leaseIdIn, ownOf, turned}
+use Rattle.proposal.specs.Proposals.{heldFrom, leaseFrom, turned}
+use Rattle.admission.specs.Tests.{isHeld, isLeased, leaseIdIn, ownOf}
 use Rattle.decision.specs.Decide.{decideOf}
-use Rattle.decision.specs.laws.Cases.{decided-by, held-there, leased-there, no, oldFor, thereFor}
-use Rattle.decision.specs.laws.Kept.{held-named}
+use Rattle.decision_laws.specs.laws.Cases.{decided-by, held-there, leased-there, oldFor, thereFor}
+use Rattle.decision.specs.laws.Code.{no}
+use Rattle.decision_laws.specs.laws.Kept.{held-named}
 use Rattle.server.specs.Serve.{Answer, Call, atClock, forServer, serveOf, tenantOf, withReading}
 use Rattle.guarantee.specs.Statement.{Elsewhere, bookAt, run, saysOf, stateAt, tenantFor}
 use Rattle.guarantee.proofs.Discards.{own-dropped}

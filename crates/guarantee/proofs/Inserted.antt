@@ -24,10 +24,10 @@ use Rattle.state.specs.laws.Layout.{read-back}
 use Rattle.soundness.specs.Sound.{compatible, soundB}
 use Rattle.soundness.specs.laws.Book.{pairOk, sound-lists, sound-rises}
 use Rattle.soundness.specs.laws.Added.{pairs-at, rises-at}
-use Rattle.decision.specs.Parts.{holdsOf, ownOf}
-use Rattle.decision.specs.Parts as parts
-use Rattle.decision.specs.laws.Kept.{own-is}
-use Rattle.decision.specs.laws.Others.{insert-leaves}
+use Rattle.admission.specs.Tests.{holdsOf, ownOf}
+use Rattle.admission.specs.Tests as parts
+use Rattle.decision_laws.specs.laws.Kept.{own-is}
+use Rattle.decision_laws.specs.laws.Others.{insert-leaves}
 
 -- an identifier without a place is no lease's
 place-none : {A : Type 0} (t : A → Bool) (l : List A) → length l ≤ placeBy t l → allBy (λ x. not (t x)) l ≡ true

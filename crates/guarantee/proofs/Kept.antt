@@ -24,10 +24,10 @@ use Rattle.releases.specs.laws.Whole.{advanced-book, book-agrees, book-named, b
 use Rattle.releases.specs.laws.Kept.{noted-count}
 use Rattle.soundness.specs.Sound.{oneTo, countsB, rule3, rule4, rule5, rule6, settingsB, sizeB, tenantsIn}
 use Rattle.soundness.specs.laws.Book.{Sound, settingsOk, sound-lists}
-use Rattle.decision.specs.laws.Kept.{GoodId, decision-sound}
-use Rattle.decision.specs.laws.Remembered.{decision-remembers}
-use Rattle.decision.specs.laws.Board.{decision-agrees}
-use Rattle.decision.specs.laws.Reads.{read-id}
+use Rattle.decision_laws.specs.laws.Kept.{GoodId, decision-sound}
+use Rattle.decision_laws.specs.laws.Remembered.{decision-remembers}
+use Rattle.decision_laws.specs.laws.Board.{decision-agrees}
+use Rattle.decision_laws.specs.laws.Reads.{read-id}
 use Rattle.server.specs.Serve.{Answer, Call, answered, atClock, decidedFor, forServer, serveOf, tenantOf, withReading}
 use Rattle.guarantee.specs.Statement.{SoundBook, WithinLimits, bookAt, run}
 

@@ -22,8 +22,9 @@ use Rattle.releases.specs.Whole.{bookB}
 use Rattle.soundness.specs.Sound.{tenantsIn}
 use Rattle.decision.specs.declared.Decided.{Decided}
 use Rattle.decision.specs.Decide.{decideOf, leasedOf, settledOf}
-use Rattle.decision.specs.Parts.{discardWith, early1Of, holdsOf, isHeld, isNew, leaseIdIn, ownOf, recordedOf, refusalOf, releasedAgain, resends, hasPeriod, nakWith, withLease}
-use Rattle.decision.specs.laws.Ensured.{asOffer, decide-free, judgedFree, offered-as-requested, sentAs}
+use Rattle.decision.specs.Verdicts.{discardWith, refusalOf, nakWith, withLease}
+use Rattle.admission.specs.Tests.{early1Of, holdsOf, isHeld, isNew, leaseIdIn, ownOf, recordedOf, releasedAgain, resends, hasPeriod}
+use Rattle.decision_laws.specs.laws.Ensured.{asOffer, decide-free, judgedFree, offered-as-requested, sentAs}
 use Rattle.guarantee.specs.Statement.{NoHold, OfferRule, Discovers, NewlyGranted, OfferedAs, asRequest, bookAt, ownFor, requested, saysOf, stateAt, tableAt, tenantFor}
 use Rattle.decision.specs.declared.Reply.{Reply}
 use Rattle.decision.specs.declared.Reply.the-variants.{LeaseAck, Nak}

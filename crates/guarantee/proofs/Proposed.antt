@@ -20,10 +20,13 @@ use Rattle.allocation.specs.declared.Ask.{Ask}
 use Rattle.allocation.specs.declared.Grant.{Grant}
 use Rattle.allocation.specs.Rule.{grantOf, suffices, unusedReserve}
 use Rattle.allocation.specs.laws.Granted.{grant-exists, guaranteed}
-use Rattle.decision.specs.declared.Proposal.{Proposal}
+use Rattle.proposal.specs.declared.Proposal.{Proposal}
 use Rattle.decision.specs.declared.Reply.{Reply}
-use Rattle.decision.specs.laws.Cases.{new-known, not-none, or-none}
-use Rattle.decision.specs.Parts.{horizon, defaultLease, askAt, badCounts, error0Of, fitsNew, knowsScope, leaseFrom, lengthOf, meets, newOf, newWith, ownOf, scopePlace, startOf, withLease}
+use Rattle.decision_laws.specs.laws.Cases.{new-known, not-none}
+use Rattle.decision.specs.laws.Code.{or-none}
+use Rattle.proposal.specs.Proposals.{horizon, defaultLease, askAt, error0Of, fitsNew, leaseFrom, lengthOf, meets, newOf, newWith, startOf}
+use Rattle.admission.specs.Tests.{badCounts, knowsScope, ownOf, scopePlace}
+use Rattle.decision.specs.Verdicts.{withLease}
 use Rattle.server.specs.Serve.{termsOf}
 
 -- for a tenant h, in a scope that is ours, with counts that are good

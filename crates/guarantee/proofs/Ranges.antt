@@ -32,7 +32,7 @@ use Rattle.soundness.specs.laws.Book.{Sound, settings-front}
 use Rattle.soundness.specs.laws.Facts.{scopes-in}
 use Rattle.allocation.specs.declared.Ask.{Ask}
 use Rattle.allocation.specs.Rule.{freeOf, grantOf, nobodysOf}
-use Rattle.decision.specs.laws.Reads.{read-array, read-id}
+use Rattle.decision_laws.specs.laws.Reads.{read-array, read-id}
 use Rattle.server.specs.Serve.{headOf}
 
 -- ---- a set of 64 bits with at least one

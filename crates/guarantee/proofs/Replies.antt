@@ -25,9 +25,10 @@ use Rattle.decision.specs.declared.Decided.{Decided}
 use Rattle.decision.specs.declared.Reply.{Reply}
 use Rattle.decision.specs.declared.Reply.the-variants.{Nothing, Offer, LeaseAck, ReleaseAck, InfoAck, Nak}
 use Rattle.decision.specs.declared.Verdict.{Verdict}
-use Rattle.decision.specs.laws.Reads.{read-array}
-use Rattle.decision.specs.Parts.{discardWith, nakWith, ownOf, plainReply, refusalOf, withLease}
-use Rattle.decision.specs.laws.Cases.{decided-by}
+use Rattle.decision_laws.specs.laws.Reads.{read-array}
+use Rattle.decision.specs.Verdicts.{discardWith, nakWith, plainReply, refusalOf, withLease}
+use Rattle.admission.specs.Tests.{ownOf}
+use Rattle.decision_laws.specs.laws.Cases.{decided-by}
 use Rattle.decision.specs.Decide.{decideOf}
 use Rattle.server.specs.Serve.{Answer, Call, answered, atClock, byReply, decidedFor, discardedAt, forServer, headOf, infoOf, replyOf, serveOf, tenantOf, termsOf, withReading}
 use Rattle.guarantee.specs.Statement.{IsReply, bookAt, liveUnder}

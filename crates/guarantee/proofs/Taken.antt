@@ -39,11 +39,14 @@ use Rattle.decision.specs.declared.Decided.{Decided}
 use Rattle.decision.specs.declared.Reply.{Reply}
 use Rattle.decision.specs.declared.Reply.the-variants.{Nothing, Offer, LeaseAck, ReleaseAck, InfoAck, Nak}
 use Rattle.decision.specs.declared.Verdict.{Verdict}
-use Rattle.decision.specs.Parts.{badCounts, defaultLease, early1Of, error1Of, error2Of, heldAlready, heldFrom, holdMeets, holdsOf, isHeld, isLeased, isNew, knowsScope, leaseFrom, leaseIdIn, meets, newOf, ownOf, recordedOf, sameScope, lengthOf, turned, withLease}
+use Rattle.admission.specs.Tests.{badCounts, early1Of, error1Of, error2Of, heldAlready, holdsOf, isHeld, isLeased, isNew, knowsScope, leaseIdIn, ownOf, recordedOf, sameScope}
+use Rattle.proposal.specs.Proposals.{defaultLease, heldFrom, holdMeets, leaseFrom, meets, newOf, lengthOf, turned}
+use Rattle.decision.specs.Verdicts.{withLease}
 use Rattle.decision.specs.Decide.{changed, unchanged}
-use Rattle.decision.specs.laws.Cases.{Passed, no, or-none, passed}
-use Rattle.decision.specs.laws.Ensured.{sentAs}
-use Rattle.decision.specs.laws.Kept.{held-named, own-is}
+use Rattle.decision_laws.specs.laws.Cases.{Passed, passed}
+use Rattle.decision.specs.laws.Code.{no, or-none}
+use Rattle.decision_laws.specs.laws.Ensured.{sentAs}
+use Rattle.decision_laws.specs.laws.Kept.{held-named, own-is}
 use Rattle.server.specs.Serve.{Answer, Call, answered, byReply, decidedFor, headOf, replyOf, serveOf, termsOf}
 use Rattle.guarantee.specs.Statement.{Discovers, GrantedAsOffered, NoHold, LeavesHold, Offered, OfferHeld, OfferHolds, SoundBook, asRequest, bookAt, endFor, grantFor, holdFor, holdLeft, leaseOfType, placeFor, releasesFor, run, saysOf, scopeFor, startFor, stateAt, tableAt, tenantFor}
 use Rattle.guarantee.proofs.Alike.{Alike, both-numbers, both-say, wordsOf}

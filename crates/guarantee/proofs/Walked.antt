@@ -30,9 +30,12 @@ use Rattle.decision.specs.declared.Decided.{Decided}
 use Rattle.decision.specs.declared.Reply.{Reply}
 use Rattle.decision.specs.declared.Reply.the-variants.{Nothing, Offer, LeaseAck, ReleaseAck, InfoAck, Nak}
 use Rattle.decision.specs.declared.Verdict.{Verdict}
-use Rattle.decision.specs.laws.Kept.{own-is, updated-leases}
-use Rattle.decision.specs.laws.Cases.{decided-by, held-there, leased-there, new-type, no, oldFor, thereFor, without}
-use Rattle.decision.specs.Parts.{badCounts, discardWith, error0Of, holdsOf, knowsScope, leaseFrom, nakWith, leaseIdIn, newOf, ownOf, plainReply, recordedOf, refusalOf, renewedOf, renewedTo, resends, turned, withLease}
+use Rattle.decision_laws.specs.laws.Kept.{own-is, updated-leases}
+use Rattle.decision_laws.specs.laws.Cases.{decided-by, held-there, leased-there, new-type, oldFor, thereFor, without}
+use Rattle.decision.specs.laws.Code.{no}
+use Rattle.admission.specs.Tests.{badCounts, holdsOf, knowsScope, leaseIdIn, ownOf, recordedOf, resends}
+use Rattle.decision.specs.Verdicts.{discardWith, nakWith, plainReply, refusalOf, withLease}
+use Rattle.proposal.specs.Proposals.{error0Of, leaseFrom, newOf, renewedOf, renewedTo, turned}
 use Rattle.decision.specs.Decide.{decideOf}
 use Rattle.server.specs.Serve.{Answer, Call, answered, atClock, byReply, decidedFor, discardedAt, forServer, headOf, infoOf, replyOf, serveOf, tenantOf, termsOf, withReading}
 use Rattle.guarantee.specs.Statement.{Narrow, ReadAs, bookAt}

@@ -33,7 +33,8 @@ use Rattle.soundness.specs.Sound.{holding, tenantsIn}
 use Rattle.allocation.specs.declared.Ask.{Ask}
 use Rattle.allocation.specs.declared.Grant.{Grant}
 use Rattle.allocation.specs.Rule.{grantOf, unusedReserve}
-use Rattle.decision.specs.Parts.{horizon, defaultLease, error1Of, error2Of, holdsOf, isHeld, leaseIdIn, lengthOf, meets, ownOf, recordedOf, resends, scopePlace, startOf, turned}
+use Rattle.proposal.specs.Proposals.{horizon, defaultLease, lengthOf, meets, startOf, turned}
+use Rattle.admission.specs.Tests.{error1Of, error2Of, holdsOf, isHeld, leaseIdIn, ownOf, recordedOf, resends, scopePlace}
 use Rattle.server.specs.Serve.{Answer, Call, headOf, serveOf, tenantOf}
 
 -- ---- the list of calls: "any number of server calls, or none: DISCOVER, REQUEST, RENEW, RELEASE, GETINFO and any other octets, from any address, with any

@@ -28,9 +28,11 @@ use Rattle.releases.specs.Rules.{brokenMemory, brokenRelease, differs, fewB, fi
 use Rattle.releases.specs.Whole.{bookB}
 use Rattle.soundness.specs.Sound.{apart, belowB, blankB, compatible, countsB, disjoint, oneTo, firstBroken, firstRule, firstLate, holdB, tenantsB, idB, kindB, lapseB, leaseB, limitB, limitsB, committedB, noneB, offsetsB, paddedB, periodB, poolB, poolsApart, rangeB, rangeZero, rangesApart, recordsB, rule1, rule10, rule11, rule12, rule13, rule2, rule3, rule4, rule5, rule6, rule7, rule8, rule9, scopeZero, settingsB, reserveB, reservesB, sizeB, tailB, ttlB, unusedB, zeroFrom, brokenBy, layoutBy, rule19By, rulesBy, soundBy}
 use Rattle.allocation.specs.Rule.{allowed, busyIn, grantOf, grantTo, suffices, takenOf}
-use Rattle.decision.specs.Parts.{askAt, badCounts, broughtBy, discardWith, dropsHold, endOf, early1Of, heldAlready, error0Of, error1Of, error2Of, error3Of, skewed, fitsNew, fitsRenewed, hasPeriod, heldFrom, holdMeets, holdsOf, isForHold, isHeld, isLeased, isNew, knowsScope, lacksCurrent, lacksScope, leaseFrom, lengthOf, nakWith, newAt, newOf, newWith, othersBusy, plainReply, proposalOf, recordedOf, refusalOf, renewedOf, renewedTo, releasedAgain, resends, scopePlace, startOf, turned, wishedOr, zeroLength, latestFirst, meets, tooLate, tooShort}
-use Rattle.decision.specs.Parts as parts
-use Rattle.decision.specs.Count.{asksIdentifier, countOf, identifierCount, lookupCount}
+use Rattle.proposal.specs.Proposals.{askAt, broughtBy, endOf, error0Of, fitsNew, fitsRenewed, heldFrom, holdMeets, leaseFrom, lengthOf, newAt, newOf, newWith, othersBusy, proposalOf, renewedOf, renewedTo, startOf, turned, wishedOr, meets, tooLate, tooShort}
+use Rattle.admission.specs.Tests.{badCounts, dropsHold, early1Of, heldAlready, error1Of, error2Of, error3Of, skewed, hasPeriod, holdsOf, isForHold, isHeld, isLeased, isNew, knowsScope, lacksCurrent, lacksScope, recordedOf, releasedAgain, resends, scopePlace, zeroLength, latestFirst, asksIdentifier}
+use Rattle.decision.specs.Verdicts.{discardWith, nakWith, plainReply, refusalOf}
+use Rattle.admission.specs.Tests as parts
+use Rattle.decision.specs.Count.{countOf, identifierCount, lookupCount}
 use Rattle.decision.specs.Decide.{decideOf, droppedFirst, judgedOf, leasedOf, plainOf, repeatedOf, settledOf}
 use Rattle.server.specs.Serve.{atClock, forServer, hasClient, replyOf, serveOf, tenantOf, withReading}
 use Rattle.guarantee.specs.Statement.{run}

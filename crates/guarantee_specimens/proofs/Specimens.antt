@@ -19,8 +19,8 @@ use Rattle.state.specs.declared.Lease.{Lease}
 use Rattle.state.specs.declared.Release.{Release}
 use Rattle.state.specs.declared.TenantReleases.{TenantReleases}
 use Rattle.state.specs.laws.Layout.{table-back}
-use Rattle.decision.specs.Parts.{leaseIdIn}
-use Rattle.decision.specs.laws.Kept.{own-is}
+use Rattle.admission.specs.Tests.{leaseIdIn}
+use Rattle.decision_laws.specs.laws.Kept.{own-is}
 use Rattle.guarantee.proofs.Board.{board-stays}
 use Rattle.guarantee.proofs.Granted.{demand3}
 use Rattle.guarantee.proofs.Kept.{run-sound}

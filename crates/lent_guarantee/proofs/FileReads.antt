@@ -19,8 +19,8 @@ use Rattle.state.specs.declared.Ledger.{Ledger}
 use Rattle.state.specs.Book.{ordered, tableOf}
 use Rattle.lease_file.specs.laws.Merge.{arranged-each}
 use Rattle.state.specs.laws.Layout.{table-back}
-use Rattle.decision.specs.laws.Kept.{own-is}
-use Rattle.decision.specs.Parts.{ownOf}
+use Rattle.decision_laws.specs.laws.Kept.{own-is}
+use Rattle.admission.specs.Tests.{ownOf}
 use Rattle.guarantee.specs.Statement.{Narrow, StaysNarrow}
 use Rattle.guarantee.proofs.Bounded.{stays-narrow}
 use Rattle.state_file.specs.declared.Loaded.{Loaded}

@@ -10,7 +10,7 @@ use Rattle.state.specs.declared.Lease.{Lease}
 use Rattle.state.specs.Book.{inUse, laidOut, lookupOf, noLookup}
 use Rattle.state.specs.laws.Lookup.{compared-few}
 use Rattle.soundness.specs.Sound.{unusedB}
-use Rattle.decision.specs.Parts.{ownOf}
+use Rattle.admission.specs.Tests.{ownOf}
 use Rattle.records.specs.Records.{rows, tableFrom, tenantFrom}
 use Rattle.records.specs.Lent.{findWith, is128}
 use Rattle.lent_guarantee.specs.Statement.{FindsFew}

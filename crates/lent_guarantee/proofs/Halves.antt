@@ -12,7 +12,7 @@ use Rattle.message.specs.laws.Placed.{pick-cases}
 use Rattle.reply.specs.Reply.{leastRoom}
 use Rattle.state.specs.Book.{Book}
 use Rattle.releases.specs.Whole.{bookB}
-use Rattle.decision.specs.Parts.{discardWith}
+use Rattle.decision.specs.Verdicts.{discardWith}
 use Rattle.server.specs.declared.Ruling.{Ruling}
 use Rattle.server.specs.Serve.{Answer, Call, discarded, serveOf}
 use Rattle.server.specs.Halves.{Judgement, discardRuling, writeOf}

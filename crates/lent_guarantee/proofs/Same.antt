@@ -25,8 +25,8 @@ use Rattle.releases.specs.laws.Whole.{book-sound}
 use Rattle.server.specs.Serve.{Answer, Call, answered, atClock, bookOf, decidedFor, forServer, serveOf, tenantOf, withReading}
 use Rattle.guarantee.specs.Statement.{SoundBook}
 use Rattle.guarantee.proofs.Discards.{call-tested}
-use Rattle.decision.specs.laws.Kept.{GoodId, decision-sound}
-use Rattle.decision.specs.laws.Reads.{read-id}
+use Rattle.decision_laws.specs.laws.Kept.{GoodId, decision-sound}
+use Rattle.decision_laws.specs.laws.Reads.{read-id}
 use Rattle.records.specs.laws.Back.{records-back, lent-table-back, table-long}
 use Rattle.records.specs.laws.Table.{table-eight}
 use Rattle.records.specs.Records.{recordsOf, tableFrom}

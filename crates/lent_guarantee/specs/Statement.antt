@@ -22,7 +22,7 @@ use Rattle.server.specs.Serve.{Answer, Call, Tells, serveOf}
 use Rattle.server.specs.Halves.{Judgement, writeOf}
 use Rattle.server.specs.Statement.{judgedFor}
 use Rattle.guarantee.specs.Statement.{BoardKept, Discovers, Elsewhere, Granted, GrantedAsOffered, IsReply, Narrow, NewRequest, NoHold, Offered, OfferedAs, ReadAs, TakesUp, WithinLimits, bookAt, liveUnder, requested, saysOf, tenantFor}
-use Rattle.decision.specs.Parts.{leaseIdIn}
+use Rattle.admission.specs.Tests.{leaseIdIn}
 use Rattle.format.specs.Format.{Octets}
 use Rattle.state_file.specs.declared.Written.{Written}
 use Rattle.state_file.specs.StateFile.{namesOf}

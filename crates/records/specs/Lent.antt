@@ -18,7 +18,7 @@ use Rattle.state.specs.Book.{Book, insertOf, laidOut, lookupOf, noLookup, putAt
 use Rattle.soundness.specs.declared.HeldTable.{HeldTable}
 use Rattle.soundness.specs.Sound.{soundB}
 use Rattle.soundness.specs.Parts.{holdingsOf}
-use Rattle.decision.specs.Parts.{ownOf}
+use Rattle.admission.specs.Tests.{ownOf}
 use Rattle.server.specs.declared.Outcome.{Outcome}
 use Rattle.server.specs.declared.Ruling.{Ruling}
 use Rattle.server.specs.Serve.{Answer, Call, Said, Tells, bookOf, serveOf}

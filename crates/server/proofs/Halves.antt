@@ -22,7 +22,7 @@ use Rattle.releases.specs.laws.Whole.{advanced-named, advanced-names, book-name
 use Rattle.soundness.specs.Sound.{tenantsIn}
 use Rattle.decision.specs.declared.Reply.{Reply}
 use Rattle.decision.specs.declared.Reply.the-variants.{Nothing, Offer, LeaseAck, ReleaseAck, InfoAck, Nak}
-use Rattle.decision.specs.Parts.{discardWith}
+use Rattle.decision.specs.Verdicts.{discardWith}
 use Rattle.server.specs.declared.Ruling.{Ruling}
 use Rattle.server.specs.Serve.{Answer, Call, discarded, Said, atClock, decidedFor, forServer, serveOf, tenantOf, termsOf, withReading}
 use Rattle.server.specs.Halves.{Judgement, both, discardRuling, judgedAt, headIn, infoIn, judgeClock, judgeOf, judgeReading, judgeServer, repliedBy, ruledBy, ruledReply, sendable, shows, writeOf}

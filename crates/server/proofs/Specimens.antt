@@ -4,7 +4,7 @@ use mathlib.Core.List.{List}
 use Prim.Native.Nat.{ℕ}
 use Rattle.lists.specs.Pick.{pick}
 use Rattle.state.specs.declared.State.{State}
-use Rattle.decision.specs.Parts.{discardWith}
+use Rattle.decision.specs.Verdicts.{discardWith}
 use Rattle.server.specs.Halves.{discardRuling, silent, writeOf}
 
 -- a discard in room for 511 octets is 2, with no offset; in room for 512 it is what it was

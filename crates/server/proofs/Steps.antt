@@ -42,8 +42,9 @@ use Rattle.decision.specs.declared.Verdict.{Verdict}
 use Rattle.decision.specs.Count.{countOf}
 use Rattle.decision.specs.Decide.{decideOf}
 use Rattle.decision.specs.Gather.{decideIn}
-use Rattle.decision.specs.Parts.{discardWith, ownOf}
-use Rattle.decision.specs.laws.View.{decide-in}
+use Rattle.decision.specs.Verdicts.{discardWith}
+use Rattle.admission.specs.Tests.{ownOf}
+use Rattle.decision_laws.specs.laws.View.{decide-in}
 use Rattle.server.specs.declared.Judged.{Judged}
 use Rattle.server.specs.declared.Outcome.{Outcome}
 use Rattle.server.specs.declared.Ruling.{Ruling}

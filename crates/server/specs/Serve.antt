@@ -30,7 +30,7 @@ use Rattle.decision.specs.declared.Decided.{Decided}
 use Rattle.decision.specs.declared.Reply.{Reply}
 use Rattle.decision.specs.declared.Reply.the-variants.{Nothing, Offer, LeaseAck, ReleaseAck, InfoAck, Nak}
 use Rattle.decision.specs.declared.Verdict.{Verdict}
-use Rattle.decision.specs.Parts.{ownOf}
+use Rattle.admission.specs.Tests.{ownOf}
 use Rattle.decision.specs.Decide.{decideOf}
 use Rattle.decision.specs.Count.{countOf}
 use Rattle.server.specs.declared.Outcome.{Outcome}

@@ -6,7 +6,7 @@ use Prim.Native.Nat.{ℕ}
 use lib.ListN.{replicate}
 use Rattle.lists.specs.Pick.{pick}
 use Rattle.octets.specs.Octets.{at16, at32}
-use Rattle.decision.specs.Parts.{discardWith}
+use Rattle.decision.specs.Verdicts.{discardWith}
 use Rattle.decision.specs.declared.Reply.the-variants.{InfoAck, Nothing, Offer}
 use Rattle.server.specs.Halves.{discardRuling}
 use Rattle.server.specs.declared.Ruling.{Ruling}

@@ -8,6 +8,6 @@ pub acknowledge-again-spec : {M : Type 1} → statement M
 acknowledge-again-spec =
     tie.close
     (tie.spec
-    (λ c κs. search needs)  -- src/lib.rt:194:9 plain-reply-requires
-    (λ c κs. search needs)  -- src/lib.rt:195:5 unchanged-by-requires
-    (λ c. search (unchanged-is, needs)))  -- src/lib.rt:191:1 returns
+    (λ c κs. search needs)  -- plain-reply-requires
+    (λ c κs. search needs)  -- unchanged-by-requires
+    (λ c. search (unchanged-is, needs)))  -- returns

@@ -10,11 +10,11 @@ unfolding pastErrors
 answer-spec =
     tie.close
     (tie.spec
-    (λ c κs. search needs)  -- src/lib.rt:312:8 is-for-hold-requires
-    (λ c κs. search needs)  -- src/lib.rt:313:9 repeat-requires
-    (λ c. search (calls, needs))  -- src/lib.rt:313:9 returns
-    (λ c κs. search needs)  -- src/lib.rt:315:8 has-period-requires
-    (λ c κs. search needs)  -- src/lib.rt:316:9 lease-requires
-    (λ c. search (calls, needs))  -- src/lib.rt:316:9 returns-2
-    (λ c κs. search needs)  -- src/lib.rt:318:5 plain-requires
-    (λ c. search (calls, needs)))  -- src/lib.rt:301:1 returns-3
+    (λ c κs. search needs)  -- is-for-hold-requires
+    (λ c κs. search needs)  -- repeat-requires
+    (λ c. search (calls, needs))  -- returns
+    (λ c κs. search needs)  -- has-period-requires
+    (λ c κs. search needs)  -- lease-requires
+    (λ c. search (calls, needs))  -- returns-2
+    (λ c κs. search needs)  -- plain-requires
+    (λ c. search (calls, needs)))  -- returns-3

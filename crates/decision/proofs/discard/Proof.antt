@@ -1,5 +1,5 @@
 -- `discard` meets its contract: the value as it stands.
-use Rattle.decision.specs.Parts.{discardWith}
+use Rattle.decision.specs.Verdicts.{discardWith}
 use borrow.Author.Needs.{needs}
 use Rattle.decision.proofs.discard.Statement.{statement}
 use Rattle.decision.proofs.discard.Tie as tie

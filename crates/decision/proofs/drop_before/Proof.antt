@@ -11,6 +11,6 @@ unfolding droppedFirst
 drop-before-spec =
     tie.close
     (tie.spec
-    (λ c κs. search needs)  -- src/lib.rt:275:19 drop-first-requires
-    (λ c. search (tests, drop-before-is, needs))  -- src/lib.rt:273:9 returns
-    (λ c. search (tests, needs)))  -- src/lib.rt:267:1 returns-2
+    (λ c κs. search needs)  -- drop-first-requires
+    (λ c. search (tests, drop-before-is, needs))  -- returns
+    (λ c. search (tests, needs)))  -- returns-2

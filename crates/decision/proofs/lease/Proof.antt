@@ -8,9 +8,9 @@ pub lease-spec : {M : Type 1} → statement M
 lease-spec =
     tie.close
     (tie.spec
-    (λ c κs. search needs)  -- src/lib.rt:293:9 brought-requires
-    (λ c κs. search needs)  -- src/lib.rt:294:9 propose-requires
-    (λ c κs. search needs)  -- src/lib.rt:295:9 settle-requires
-    (λ c κs. search needs)  -- src/lib.rt:296:9 drops-hold-requires
-    (λ c κs. search needs)  -- src/lib.rt:297:5 drop-before-requires
-    (λ c. search (lease-is, needs)))  -- src/lib.rt:282:1 returns
+    (λ c κs. search needs)  -- brought-requires
+    (λ c κs. search needs)  -- propose-requires
+    (λ c κs. search needs)  -- settle-requires
+    (λ c κs. search needs)  -- drops-hold-requires
+    (λ c κs. search needs)  -- drop-before-requires
+    (λ c. search (lease-is, needs)))  -- returns

@@ -11,11 +11,11 @@ unfolding leasedOf
 leased-spec =
     tie.close
     (tie.spec
-    (λ c κs. search needs)  -- src/lib.rt:225:9 offer-requires
-    (λ c. search (picks, needs))  -- src/lib.rt:225:9 returns
-    (λ c κs. search needs)  -- src/lib.rt:228:28 enter-requires
-    (λ c κs. search needs)  -- src/lib.rt:228:9 acknowledge-requires
-    (λ c. search (picks, edited-as, needs))  -- src/lib.rt:228:9 returns-2
-    (λ c κs. search needs)  -- src/lib.rt:230:17 give-way-requires
-    (λ c κs. search needs)  -- src/lib.rt:230:5 acknowledge-requires-2
-    (λ c. search (picks, edited-as, needs)))  -- src/lib.rt:221:1 returns-3
+    (λ c κs. search needs)  -- offer-requires
+    (λ c. search (picks, needs))  -- returns
+    (λ c κs. search needs)  -- enter-requires
+    (λ c κs. search needs)  -- acknowledge-requires
+    (λ c. search (picks, edited-as, needs))  -- returns-2
+    (λ c κs. search needs)  -- give-way-requires
+    (λ c κs. search needs)  -- acknowledge-requires-2
+    (λ c. search (picks, edited-as, needs)))  -- returns-3

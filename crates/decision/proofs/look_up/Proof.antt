@@ -1,5 +1,5 @@
 -- `look_up` meets its contract: the record at the place that is found, or none.
-use Rattle.decision.specs.laws.View.{absent-is, found-is}
+use Rattle.decision.specs.laws.Lookup.{absent-is, found-is}
 use Rattle.lists.specs.laws.Part.{unmapped}
 use borrow.Author.Needs.{needs}
 use Rattle.decision.proofs.look_up.Statement.{statement}

@@ -1,5 +1,5 @@
 -- `nak` meets its contract: the value as it stands.
-use Rattle.decision.specs.Parts.{nakWith}
+use Rattle.decision.specs.Verdicts.{nakWith}
 use borrow.Author.Needs.{needs}
 use Rattle.decision.proofs.nak.Statement.{statement}
 use Rattle.decision.proofs.nak.Tie as tie

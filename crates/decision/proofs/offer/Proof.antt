@@ -8,7 +8,7 @@ pub offer-spec : {M : Type 1} → statement M
 offer-spec =
     tie.close
     (tie.spec
-    (λ c κs. search needs)  -- src/lib.rt:171:9 hold-from-requires
-    (λ c κs. search needs)  -- src/lib.rt:173:18 with-lease-requires
-    (λ c κs. search needs)  -- src/lib.rt:174:15 enter-requires
-    (λ c. search (changed-is, entered-as, needs)))  -- src/lib.rt:168:1 returns
+    (λ c κs. search needs)  -- hold-from-requires
+    (λ c κs. search needs)  -- with-lease-requires
+    (λ c κs. search needs)  -- enter-requires
+    (λ c. search (changed-is, entered-as, needs)))  -- returns

@@ -8,6 +8,6 @@ pub offer-again-spec : {M : Type 1} → statement M
 offer-again-spec =
     tie.close
     (tie.spec
-    (λ c κs. search needs)  -- src/lib.rt:182:9 with-lease-requires
-    (λ c κs. search needs)  -- src/lib.rt:183:5 unchanged-by-requires
-    (λ c. search (unchanged-is, needs)))  -- src/lib.rt:179:1 returns
+    (λ c κs. search needs)  -- with-lease-requires
+    (λ c κs. search needs)  -- unchanged-by-requires
+    (λ c. search (unchanged-is, needs)))  -- returns

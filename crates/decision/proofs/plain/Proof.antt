@@ -10,7 +10,7 @@ unfolding plainOf
 plain-spec =
     tie.close
     (tie.spec
-    (λ c κs. search needs)  -- src/lib.rt:221:9 release-requires
-    (λ c. search (picks, needs))  -- src/lib.rt:221:9 returns
-    (λ c κs. search needs)  -- src/lib.rt:223:5 inform-requires
-    (λ c. search (picks, needs)))  -- src/lib.rt:217:1 returns-2
+    (λ c κs. search needs)  -- release-requires
+    (λ c. search (picks, needs))  -- returns
+    (λ c κs. search needs)  -- inform-requires
+    (λ c. search (picks, needs)))  -- returns-2

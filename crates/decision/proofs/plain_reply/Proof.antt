@@ -1,5 +1,5 @@
 -- `plain_reply` meets its contract: the value as it stands.
-use Rattle.decision.specs.Parts.{plainReply}
+use Rattle.decision.specs.Verdicts.{plainReply}
 use borrow.Author.Needs.{needs}
 use Rattle.decision.proofs.plain_reply.Statement.{statement}
 use Rattle.decision.proofs.plain_reply.Tie as tie

@@ -1,5 +1,5 @@
 -- `refusal` meets its contract: its tests in order.
-use Rattle.decision.specs.Parts.{refusalOf}
+use Rattle.decision.specs.Verdicts.{refusalOf}
 use Rattle.lists.specs.laws.Pick.{picks}
 use borrow.Author.Needs.{needs}
 use Rattle.decision.proofs.refusal.Statement.{statement}

@@ -8,6 +8,6 @@ pub release-spec : {M : Type 1} → statement M
 release-spec =
     tie.close
     (tie.spec
-    (λ c κs. search needs)  -- src/lib.rt:185:18 plain-reply-requires
-    (λ c κs. search needs)  -- src/lib.rt:186:15 leave-requires
-    (λ c. search (changed-is, needs)))  -- src/lib.rt:181:1 returns
+    (λ c κs. search needs)  -- plain-reply-requires
+    (λ c κs. search needs)  -- leave-requires
+    (λ c. search (changed-is, needs)))  -- returns

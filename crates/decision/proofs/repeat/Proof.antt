@@ -11,12 +11,12 @@ unfolding repeatedOf
 repeat-spec =
     tie.close
     (tie.spec
-    (λ c κs. search needs)  -- src/lib.rt:256:8 hold-meets-requires
-    (λ c κs. search needs)  -- src/lib.rt:258:13 offer-again-requires
-    (λ c. search (calls, picks, needs))  -- src/lib.rt:258:13 returns
-    (λ c κs. search needs)  -- src/lib.rt:260:13 turn-requires
-    (λ c κs. search needs)  -- src/lib.rt:261:28 give-way-requires
-    (λ c κs. search needs)  -- src/lib.rt:261:9 acknowledge-requires
-    (λ c. search (calls, picks, gave-way, needs))  -- src/lib.rt:261:9 returns-2
-    (λ c κs. search needs)  -- src/lib.rt:263:5 refuse-requires
-    (λ c. search (calls, picks, needs)))  -- src/lib.rt:253:1 returns-3
+    (λ c κs. search needs)  -- hold-meets-requires
+    (λ c κs. search needs)  -- offer-again-requires
+    (λ c. search (calls, picks, needs))  -- returns
+    (λ c κs. search needs)  -- turn-requires
+    (λ c κs. search needs)  -- give-way-requires
+    (λ c κs. search needs)  -- acknowledge-requires
+    (λ c. search (calls, picks, gave-way, needs))  -- returns-2
+    (λ c κs. search needs)  -- refuse-requires
+    (λ c. search (calls, picks, needs)))  -- returns-3

@@ -11,9 +11,9 @@ unfolding settledOf
 settle-spec =
     tie.close
     (tie.spec
-    (λ c κs. search needs)  -- src/lib.rt:245:8 error-0-requires
-    (λ c κs. search needs)  -- src/lib.rt:246:9 refuse-requires
-    (λ c. search (calls, needs))  -- src/lib.rt:246:9 returns
-    (λ c κs. search needs)  -- src/lib.rt:248:9 lease-from-requires
-    (λ c κs. search needs)  -- src/lib.rt:249:5 leased-requires
-    (λ c. search (calls, leased-is, needs)))  -- src/lib.rt:242:1 returns-2
+    (λ c κs. search needs)  -- error-0-requires
+    (λ c κs. search needs)  -- refuse-requires
+    (λ c. search (calls, needs))  -- returns
+    (λ c κs. search needs)  -- lease-from-requires
+    (λ c κs. search needs)  -- leased-requires
+    (λ c. search (calls, leased-is, needs)))  -- returns-2

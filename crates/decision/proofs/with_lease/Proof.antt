@@ -1,5 +1,5 @@
 -- `with_lease` meets its contract: the value as it stands.
-use Rattle.decision.specs.Parts.{withLease}
+use Rattle.decision.specs.Verdicts.{withLease}
 use borrow.Author.Needs.{needs}
 use Rattle.decision.proofs.with_lease.Statement.{statement}
 use Rattle.decision.proofs.with_lease.Tie as tie

@@ -1,36 +1,23 @@
 -- Laws: between the decision and the code.
-use Prim.Native.Nat.{ℕ, _+_, _-_, min, max, _<_, _≤_}
-use mathlib.Core.Bool.{Bool, true, false, not, _&&_, _||_}
+use Prim.Native.Nat.{ℕ}
+use mathlib.Core.Bool.{Bool, true, false, _||_}
 use mathlib.Core.List.{List}
-use lib.Dec.{ltb, eqb}
-use lib.ListN.{length}
-use Rattle.lists.specs.laws.Both.{and-le, and-not-le}
-use Rattle.lists.specs.laws.Pick.{pick-no, pick-yes}
-use Rattle.address_set.specs.AddressSet.{offsets}
 use Rattle.message.specs.declared.Fields.{Fields}
-use Rattle.state.specs.Book.{busyOf, holdTime, inUse, isHold, laidOut, lapsingAt, leaseWith, removeOf, scopeAt}
 use Rattle.state.specs.Edit.{droppingFirst, entering, givingWay}
-use Rattle.state.specs.laws.Layout.{read-back}
 use Rattle.state.specs.declared.Lease.{Lease}
-use Rattle.state.specs.declared.Scope.{Scope}
-use Rattle.state.specs.declared.TenantLeases.{TenantLeases}
 use Rattle.state.specs.declared.State.{State}
 use Rattle.soundness.specs.declared.HeldTable.{HeldTable}
-use Rattle.soundness.specs.Sound.{tenantsIn}
-use Rattle.allocation.specs.declared.Ask.{Ask}
-use Rattle.allocation.specs.declared.Grant.{Grant}
-use Rattle.allocation.specs.Rule.{suffices}
-use Rattle.allocation.specs.Own.{grantIn}
-use Rattle.decision.specs.declared.Proposal.{Proposal}
+use Rattle.proposal.specs.declared.Proposal.{Proposal}
 use Rattle.decision.specs.declared.Verdict.{Verdict}
 use Rattle.decision.specs.declared.Reply.{Reply}
 use Rattle.decision.specs.declared.Reply.the-variants.{Nothing, Offer, LeaseAck, ReleaseAck, InfoAck, Nak}
-use mathlib.Core.Path.{_≡_, refl, sym, ap, ap₂, _∙_}
+use mathlib.Core.Path.{_≡_, refl, ap, ap₂, _∙_}
 use native.Mathlib.Omega.{arith}
 use Rattle.state.specs.declared.Edit.{Edit}
 use Rattle.decision.specs.declared.Decided.{Decided}
-use Rattle.decision.specs.Parts.{defaultLease, longestLease, skew, isNew, scopePlace, knowsScope, lacksScope, lacksCurrent, skewed, error3Of, wishedOr, startOf, lengthOf, endOf, askAt, leaseIdIn, fitsRenewed, renewedBy, leaseFrom, tooShort, tooLate, meets, isLeased, scopeNumber, sameScope, holdMeets, dropsHold, heldFrom, withLease}
-use Rattle.decision.specs.Gather.{newBy, newAtIn, newIn, renewedToIn, renewedIn, proposalIn, broughtIn}
+use Rattle.admission.specs.Tests.{dropsHold}
+use Rattle.decision.specs.Verdicts.{withLease}
+use Rattle.proposal.specs.Gather.{proposalIn, broughtIn}
 use Rattle.decision.specs.Decide.{unchanged, changed, leasedOf, settledOf, droppedFirst}
 
 -- ---- the lease, and the verdicts
@@ -42,128 +29,6 @@ replyType LeaseAck = 5
 replyType ReleaseAck = 5
 replyType InfoAck = 5
 replyType Nak = 6
-
--- ---- tests
-pub knows-is : (s : State) (m : Fields) (k n : ℕ) (r : Bool) → k ≡ scopePlace s (m .scope .value) → n ≡ min (s .«scope_count») 4 → r ≡ (m .scope .there && ltb k n) → r ≡ knowsScope s m
-unfolding knowsScope
-knows-is s m k n r p q e = e ∙ ap₂ (λ (x y : ℕ). m .scope .there && ltb x y) p q
-
-pub lacks-is : (s : State) (m : Fields) (a b r : Bool) → a ≡ isNew m → b ≡ knowsScope s m → r ≡ (a && not b) → r ≡ lacksScope s m
-unfolding lacksScope
-lacks-is s m a b r p q e = e ∙ ap₂ (λ (x y : Bool). x && not y) p q
-
-pub current-is : (m : Fields) (a r : Bool) → a ≡ (m .times .start .there || m .times .latest .there) → r ≡ (a && not (m .times .current .there)) → r ≡ lacksCurrent m
-unfolding lacksCurrent
-current-is m a r p e = e ∙ ap (λ (x : Bool). x && not (m .times .current .there)) p
-
-pub skew-below : (a b : ℕ) → a < b → ltb skew (b - a) ≡ skewed a b
-unfolding skewed
-skew-below a b h = let e : b - a ≡ (a - b) + (b - a) = omega arith in ap (ltb skew) e
-
-pub skew-above : (a b : ℕ) → b ≤ a → ltb skew (a - b) ≡ skewed a b
-unfolding skewed
-skew-above a b h = let e : a - b ≡ (a - b) + (b - a) = omega arith in ap (ltb skew) e
-
-pub short-unmet : (m : Fields) (start length : ℕ) (a : Bool) → a ≡ tooShort m length → a ≡ true → false ≡ meets m start length
-unfolding meets
-short-unmet m start length a p q = ap (λ (x : Bool). not x && not (tooLate m start)) (sym q ∙ p)
-
-pub late-unmet : (m : Fields) (start length : ℕ) (a b r : Bool) → a ≡ tooShort m length → a ≡ false → b ≡ tooLate m start → r ≡ not b → r ≡ meets m start length
-unfolding meets
-late-unmet m start length a b r p q e f = f ∙ ap not e ∙ ap (λ (x : Bool). not x && not (tooLate m start)) (sym q ∙ p)
-
-pub unmet-is : (m : Fields) (start length n : ℕ) (a r : Bool) → n ≡ length → a ≡ meets m start n → r ≡ not a → r ≡ not (meets m start length)
-unfolding meets
-unmet-is m start length n a r p q e = e ∙ ap not (q ∙ ap (meets m start) p)
-
-pub error3-is : (m : Fields) (o : Lease) (there a b r : Bool) → a ≡ (eqb (m .kind) 4 || eqb (m .kind) 7) → b ≡ isLeased o there → r ≡ (a && not b) → r ≡ error3Of m o there
-unfolding error3Of
-error3-is m o there a b r p q e = e ∙ ap₂ (λ (x y : Bool). x && not y) p q
-
--- ---- tests of a hold
-pub leased-test : (o : Lease) (there b r : Bool) → b ≡ isHold o → r ≡ (there && not b) → r ≡ isLeased o there
-unfolding isLeased
-leased-test o there b r p e = e ∙ ap (λ (x : Bool). there && not x) p
-
-pub same-scope-is : (s : State) (m : Fields) (o : Lease) (k n : ℕ) → k ≡ scopePlace s (m .scope .value) → n ≡ min k 4 + 1 → eqb (o .scope) n ≡ sameScope s m o
-unfolding sameScope
-same-scope-is s m o k n p q = ap (eqb (o .scope)) (q ∙ ap scopeNumber p)
-
-pub not-got : {q t : Bool} → q ≡ t → not q ≡ not t
-not-got e = ap not e
-
--- the number of addresses and the length as calls gave them
-pub hold-meets-is : (m : Fields) (o : Lease) (n k : ℕ) (r : Bool) → n ≡ length (offsets (o .addresses)) → m .counts .least ≤ n → k ≡ o .end - o .start → r ≡ meets m (o .start) k → r ≡ holdMeets m o
-unfolding holdMeets
-hold-meets-is m o n k r a f p e = and-le _ r (m .counts .least) (length (offsets (o .addresses))) (omega arith) (e ∙ ap (meets m (o .start)) p)
-
-pub hold-lacks : (m : Fields) (o : Lease) (n : ℕ) → n ≡ length (offsets (o .addresses)) → n < m .counts .least → false ≡ holdMeets m o
-unfolding holdMeets
-hold-lacks m o n a f = and-not-le _ false (m .counts .least) (length (offsets (o .addresses))) (omega arith) refl
-
--- ---- periods
-pub start-is : (m : Fields) (clock old w r : ℕ) → w ≡ wishedOr (m .times .start) old → r ≡ max clock w → r ≡ startOf m clock old
-unfolding startOf
-start-is m clock old w r e p = p ∙ ap (max clock) e
-
-pub length-is : (m : Fields) (old w r : ℕ) → w ≡ wishedOr (m .times .length) old → r ≡ min w longestLease → r ≡ lengthOf m old
-unfolding lengthOf
-length-is m old w r e p = p ∙ ap (λ (x : ℕ). min x longestLease) e
-
-pub end-is : (m : Fields) (from w n : ℕ) (l : Lease) → w ≡ l .end - l .start → n ≡ lengthOf m w → from + n ≡ endOf m from l
-unfolding endOf
-end-is m from w n l p q = ap (λ (x : ℕ). from + x) (q ∙ ap (lengthOf m) p)
-
--- ---- proposals
-pub ask-is : (s : State) (h : ℕ) (m : Fields) (k start n number : ℕ) → start ≡ startOf m (s .clock) (s .clock) → n ≡ lengthOf m defaultLease → number ≡ min k 4 + 1
-    → _≡_ {A = Ask} (record { scope = number; tenant = h; from = start; to = start + n; desired = m .counts .desired }) (askAt s h m k)
-unfolding askAt
-ask-is s h m k start n number a b c = cc
-
-pub fits-is : (n least : ℕ) (g : Grant) (e r : Bool) → e ≡ suffices least g → r ≡ (ltb n 16 && e) → r ≡ (ltb n 16 && suffices least g)
-fits-is n least g e r q u = u ∙ ap (λ (y : Bool). ltb n 16 && y) q
-
-pub new-with-is : (n least : ℕ) (a : Ask) (g : Grant) (f : Bool) → f ≡ (ltb n 16 && suffices least g)
-    → _≡_ {A = Proposal} (record { fits = f; scope = a .scope; start = a .from; end = a .to; addresses = g .addresses }) (newBy n least a g)
-unfolding newBy
-new-with-is n least a g f p = ap {B = Proposal} (λ (x : Bool). record { fits = x; scope = a .scope; start = a .from; end = a .to; addresses = g .addresses }) p
-
-pub new-at-is : (s : State) (own : List Lease) (held : HeldTable) (h : ℕ) (m : Fields) (k : ℕ) (c : Scope) (a : Ask) (n : ℕ) (g : Grant) (used : ℕ) (r : Proposal) → c ≡ scopeAt s k → a ≡ askAt s h m k
-    → n ≡ tenantsIn s → g ≡ grantIn own held c n a → used ≡ length own → r ≡ newBy used (m .counts .least) a g → r ≡ newAtIn s own held h m k
-unfolding newAtIn
-new-at-is s own held h m k c a n g used r ec ea en eg eu er = cc
-
-pub new-is : (s : State) (own : List Lease) (held : HeldTable) (h : ℕ) (m : Fields) (k : ℕ) (r : Proposal) → k ≡ scopePlace s (m .scope .value) → r ≡ newAtIn s own held h m k → r ≡ newIn s own held h m
-unfolding newIn
-new-is s own held h m k r p e = e ∙ ap (newAtIn s own held h m) p
-
-pub renewed-to-is : (own : List Lease) (m : Fields) (l : Lease) (from to used : ℕ) (f : Bool) → used ≡ busyOf (l .scope) from to (removeOf (leaseIdIn m) own) → f ≡ fitsRenewed used (l .addresses)
-    → renewedBy f l from to ≡ renewedToIn own m l from to
-unfolding renewedToIn
-renewed-to-is own m l from to used f p q = ap (λ (x : Bool). renewedBy x l from to) (q ∙ ap (λ (x : ℕ). fitsRenewed x (l .addresses)) p)
-
-pub renewed-is : (s : State) (own : List Lease) (m : Fields) (l : Lease) (from to : ℕ) (r : Proposal) → from ≡ startOf m (s .clock) (l .start) → to ≡ endOf m from l → r ≡ renewedToIn own m l from to → r ≡ renewedIn s own m l
-unfolding renewedIn
-renewed-is s own m l from to r p q e = cc
-
-pub lease-from-is : (m : Fields) (p : Proposal) (e : ℕ) → e ≡ min (p .end) 4294967295
-    → leaseWith (p .scope) (m .id .len) (m .id .octets) (m .kind) (m .xid) (p .start) e (p .addresses) ≡ leaseFrom m p
-unfolding leaseFrom
-lease-from-is m p e q = cc
-
-pub hold-from-is : (clock : ℕ) (l : Lease) (t : ℕ) → t ≡ min (clock + holdTime) (l .end) → lapsingAt t l ≡ heldFrom clock l
-unfolding heldFrom
-hold-from-is clock l t e = ap (λ (x : ℕ). lapsingAt x l) e
-
--- the records that are left, and those that stay
-pub brought-less : (own : TenantLeases) (m : Fields) (o : Lease) (there q : Bool) (r : TenantLeases) → q ≡ dropsHold m o there → q ≡ true → r ≡ laidOut (removeOf (leaseIdIn m) (inUse own))
-    → inUse r ≡ broughtIn (inUse own) m o there
-unfolding broughtIn
-brought-less own m o there q r e y p = pick-yes _ _ (inUse r) e y (ap inUse p ∙ read-back (removeOf (leaseIdIn m) (inUse own)))
-
-pub brought-all : (own : TenantLeases) (m : Fields) (o : Lease) (there q : Bool) → q ≡ dropsHold m o there → q ≡ false → inUse own ≡ broughtIn (inUse own) m o there
-unfolding broughtIn
-brought-all own m o there q e n = pick-no _ _ (inUse own) e n refl
 
 -- ---- decisions
 pub changed-is : {e e′ : Edit} {v w : Verdict} → e ≡ e′ → v ≡ w → _≡_ {A = Decided} (record { verdict = v; edit = e }) (changed e′ w)
@@ -195,3 +60,11 @@ pub lease-is : (s : State) (own rest : List Lease) (held : HeldTable) (h : ℕ) 
     → r ≡ droppedFirst (dropsHold m o there) o (settledOf s m o (proposalIn s (broughtIn own m o there) held h m o))
 lease-is s own rest held h m o there drops p d r a b c e f =
     f ∙ ap₂ (λ (x : Bool) (y : Decided). droppedFirst x o y) e (c ∙ ap (settledOf s m o) (b ∙ ap (λ (x : List Lease). proposalIn s x held h m o) a))
+
+-- ---- what the tests say when they pass
+pub no : {A : Type 0} → true ≡ false → A
+no e = let z : _≡_ {A = ℕ} 0 1 = cc in absurd (omega arith)
+
+pub or-none : (a b : Bool) → (a || b) ≡ false → (a ≡ false) × (b ≡ false)
+or-none true b e = no e
+or-none false b e = (refl, e)

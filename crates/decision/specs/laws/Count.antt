@@ -23,14 +23,16 @@ use Rattle.state.specs.laws.Lookup.{compared-few}
 use Rattle.soundness.specs.declared.HeldTable.{HeldTable}
 use Rattle.decision.specs.declared.Counted.{Counted}
 use Rattle.decision.specs.declared.Decided.{Decided}
-use Rattle.decision.specs.declared.Proposal.{Proposal}
+use Rattle.proposal.specs.declared.Proposal.{Proposal}
 use Rattle.decision.specs.declared.Recorded.{Recorded}
-use Rattle.decision.specs.Parts.{early1Of, error1Of, error2Of, error3Of, hasPeriod, heldAlready, holdsOf, isForHold, isNew, leaseIdIn, plainReply, recordedOf, refusalOf, releasedAgain, resends, withLease}
+use Rattle.admission.specs.Tests.{early1Of, error1Of, error2Of, error3Of, hasPeriod, heldAlready, holdsOf, isForHold, isNew, leaseIdIn, recordedOf, releasedAgain, resends, asksIdentifier, asksResend}
+use Rattle.decision.specs.Verdicts.{plainReply, refusalOf, withLease}
 use Rattle.decision.specs.Decide.{changed, judgedOf, unchanged, plainOf}
-use Rattle.decision.specs.Count.{asksIdentifier, asksResend, countOf, identifierCount, lookupCount}
-use Rattle.decision.specs.Gather.{broughtIn, decideIn, lookedUp, notAsked, pastEarly, pastErrors, proposalIn, recordedIn}
+use Rattle.decision.specs.Count.{countOf, identifierCount, lookupCount}
+use Rattle.proposal.specs.Gather.{broughtIn, proposalIn}
+use Rattle.decision.specs.Gather.{decideIn, lookedUp, notAsked, pastEarly, pastErrors, recordedIn}
 use Rattle.decision.specs.declared.Reply.the-variants.{InfoAck, LeaseAck, ReleaseAck}
-use Rattle.decision.specs.laws.Cases.{or-none}
+use Rattle.decision.specs.laws.Code.{or-none}
 
 -- where none is asked for
 pub none-asked : (z : Lease) → z ≡ zeroLease → _≡_ {A = Recorded} (record { found = false; lease = z; compared = 0 }) notAsked

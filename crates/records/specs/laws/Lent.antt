@@ -17,7 +17,7 @@ use Rattle.state.specs.declared.Lookup.{Lookup}
 use Rattle.state.specs.declared.Memory.{Memory}
 use Rattle.state.specs.declared.State.{State}
 use Rattle.state.specs.Book.{Book, advanced, insertOf, lookupOf, noLookup, raised, removeOf, withClock, zeroLease}
-use Rattle.decision.specs.Parts.{ownOf}
+use Rattle.admission.specs.Tests.{ownOf}
 use Rattle.message.specs.laws.Placed.{pick-cases}
 use Rattle.releases.specs.Whole.{bookB}
 use Rattle.server.specs.declared.Outcome.{Outcome}

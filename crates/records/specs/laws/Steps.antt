@@ -16,7 +16,7 @@ use Rattle.state.specs.declared.Lookup.{Lookup}
 use Rattle.state.specs.declared.TenantLeases.{TenantLeases}
 use Rattle.state.specs.Book.{comparedOf, inUse, insertOf, insertedIn, laidOut, lookupOf, noLookup, putAt, removeOf, tenantAt, insertedBy}
 use Rattle.lists.specs.laws.Row.{at-out}
-use Rattle.decision.specs.Parts.{ownOf}
+use Rattle.admission.specs.Tests.{ownOf}
 use Rattle.state_file.specs.declared.Loaded.{Loaded}
 use Rattle.state_file.specs.declared.Written.{Written}
 use Rattle.state_file.specs.StateFile.{roomAfter, writtenOf}

@@ -23,7 +23,7 @@ use Rattle.decision.specs.declared.Decided.{Decided}
 use Rattle.decision.specs.declared.Reply.{Reply}
 use Rattle.decision.specs.declared.Reply.the-variants.{Nothing, Offer, LeaseAck, ReleaseAck, InfoAck, Nak}
 use Rattle.decision.specs.declared.Verdict.{Verdict}
-use Rattle.decision.specs.Parts.{discardWith}
+use Rattle.decision.specs.Verdicts.{discardWith}
 use Rattle.server.specs.declared.Ruling.{Ruling}
 use Rattle.server.specs.Serve.{Answer, Said, answered, atClock, byReply, countFor, decidedFor, discardedAt, forServer, replyOf, tenantOf, withReading}
 use Rattle.server.specs.Halves.{Judgement, both, discardRuling, infoWith, judgeClock, judgeReading, judgeServer, judgedAt, judgedBy, repliedBy, ruledBy, ruledReply, rulingOn, sendable, shows, silent, writeOf}

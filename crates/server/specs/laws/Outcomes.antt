@@ -24,8 +24,8 @@ use Rattle.state.specs.Edit.{noEdit}
 use Rattle.decision.specs.declared.Decided.{Decided}
 use Rattle.decision.specs.declared.Reply.{Reply}
 use Rattle.decision.specs.declared.Reply.the-variants.{Nothing, Offer, LeaseAck, ReleaseAck, InfoAck}
-use Rattle.decision.specs.Parts.{discardWith, nakWith, plainReply, refusalOf, withLease}
-use Rattle.decision.specs.laws.Cases.{decided-by}
+use Rattle.decision.specs.Verdicts.{discardWith, nakWith, plainReply, refusalOf, withLease}
+use Rattle.decision_laws.specs.laws.Cases.{decided-by}
 use Rattle.decision.specs.Decide.{changed, decideOf, unchanged}
 
 -- ---- the decision: outcome 0, or discard 8 with nothing changed

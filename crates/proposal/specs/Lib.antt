@@ -1,0 +1,3 @@
+pub mod Proposals
+pub mod Gather
+pub mod laws

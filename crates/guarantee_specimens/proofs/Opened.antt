@@ -31,7 +31,8 @@ use Rattle.allocation.specs.Rule.{allowed, busyIn, grantOf, grantTo, suffices, 
 use Rattle.proposal.specs.Proposals.{askAt, broughtBy, endOf, error0Of, fitsNew, fitsRenewed, heldFrom, holdMeets, leaseFrom, lengthOf, newAt, newOf, newWith, othersBusy, proposalOf, renewedOf, renewedTo, startOf, turned, wishedOr, meets, tooLate, tooShort}
 use Rattle.admission.specs.Tests.{badCounts, dropsHold, early1Of, heldAlready, error1Of, error2Of, error3Of, skewed, hasPeriod, holdsOf, isForHold, isHeld, isLeased, isNew, knowsScope, lacksCurrent, lacksScope, recordedOf, releasedAgain, resends, scopePlace, zeroLength, latestFirst, asksIdentifier}
 use Rattle.decision.specs.Verdicts.{discardWith, nakWith, plainReply, refusalOf}
-use Rattle.admission.specs.Tests as parts
+use Rattle.admission.specs.Tests as tests
+use Rattle.decision.specs.Verdicts as verdicts
 use Rattle.decision.specs.Count.{countOf, identifierCount, lookupCount}
 use Rattle.decision.specs.Decide.{decideOf, droppedFirst, judgedOf, leasedOf, plainOf, repeatedOf, settledOf}
 use Rattle.server.specs.Serve.{atClock, forServer, hasClient, replyOf, serveOf, tenantOf, withReading}
@@ -94,7 +95,7 @@ grant-open = tt
 
 -- the decision
 unfoldable pub decision-open : Unit {0}
-unfolding isNew hasPeriod holdsOf recordedOf isLeased isHeld parts.sameScope isForHold holdMeets turned dropsHold broughtBy heldFrom repeatedOf droppedFirst resends releasedAgain scopePlace knowsScope lacksScope zeroLength badCounts lacksCurrent early1Of heldAlready error1Of skewed error2Of error3Of wishedOr startOf lengthOf endOf askAt fitsNew newWith newAt newOf othersBusy fitsRenewed renewedTo renewedOf proposalOf error0Of leaseFrom parts.withLease plainReply nakWith discardWith refusalOf leasedOf plainOf settledOf judgedOf decideOf latestFirst tooShort tooLate meets asksIdentifier lookupCount identifierCount countOf
+unfolding isNew hasPeriod holdsOf recordedOf isLeased isHeld tests.sameScope isForHold holdMeets turned dropsHold broughtBy heldFrom repeatedOf droppedFirst resends releasedAgain scopePlace knowsScope lacksScope zeroLength badCounts lacksCurrent early1Of heldAlready error1Of skewed error2Of error3Of wishedOr startOf lengthOf endOf askAt fitsNew newWith newAt newOf othersBusy fitsRenewed renewedTo renewedOf proposalOf error0Of leaseFrom verdicts.withLease plainReply nakWith discardWith refusalOf leasedOf plainOf settledOf judgedOf decideOf latestFirst tooShort tooLate meets asksIdentifier lookupCount identifierCount countOf
 decision-open = tt
 
 -- the names for the scopes

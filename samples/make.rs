@@ -1,6 +1,7 @@
 //! Writes campus.bin, a campus file, and morning.bin, the input of the program `replay`: the length of the campus file (2 octets), the
 //! file, and then each call as time (4), client address (4), length of the reply room (2), length of the datagram (2) and the datagram. Also
-//! van.bin, the input of the program `van`: its settings, and each call as time (4), client address (4), length (2) and the datagram.
+//! van.bin, the input of the program `van`: its settings, and each call as time (4), client address (4), length (2) and the datagram. And
+//! quarter/1.bin to 4.bin, the campus file at four times, for the program `report`, whose own sample they are, too.
 //!
 //!     cargo run --offline --manifest-path tests/builder/Cargo.toml --example samples
 
@@ -9,6 +10,7 @@ use std::fs;
 use std::net::Ipv4Addr;
 
 const FOLDER: &str = concat!(env!("CARGO_MANIFEST_DIR"), "/../../samples");
+const REPORT: &str = concat!(env!("CARGO_MANIFEST_DIR"), "/../../crates/report/data");
 const CLOCK: u32 = 1_700_000_000;
 const SERVER: u32 = address(10, 1, 1, 1);
 const SMALL: u32 = address(239, 192, 0, 0);
@@ -22,7 +24,7 @@ const fn address(a: u8, b: u8, c: u8, d: u8) -> u32 {
 
 /// Two houses, two scopes, one lease, one release that is remembered, one offer that is held. The small scope has names for the campus, of
 /// which the English one is the default, and house 2 has one of its own for it; the large one has no names.
-fn campus() -> Vec<u8> {
+fn campus() -> Campus {
     let scope = |lowest, size, ttl, parts: [(u8, u8); 2], names| Scope {
         lowest,
         size,
@@ -81,7 +83,6 @@ fn campus() -> Vec<u8> {
         releases: vec![release],
         holds: vec![hold],
     }
-    .octets()
 }
 
 /// The morning's calls: when each comes (seconds after the file's clock), from where, the datagram, the reply room.
@@ -166,7 +167,7 @@ fn calls() -> Vec<(u32, u32, Vec<u8>, u16)> {
 }
 
 fn morning() -> Vec<u8> {
-    let file = campus();
+    let file = campus().octets();
     let mut octets = [&(file.len() as u16).to_be_bytes()[..], &file].concat();
     for (after, client, datagram, room) in calls() {
         let call = Call {
@@ -253,16 +254,69 @@ fn van() -> Vec<u8> {
     octets
 }
 
+/// The campus now, an hour later, a day later and a day after that. Of house 2's first lease 3,000 seconds count, on three addresses. Then house 1 has two for
+/// the 7,200 seconds that are left, and house 2 eight from noon on for a week, of which the last file says that they are released after a day. House 1's four of the
+/// third file begin and end before the fourth, whose own lease counts nothing; nor does a hold.
+fn quarter() -> Vec<Vec<u8>> {
+    let first = campus();
+    let lease = |house, scope, (start, end): (u32, u32), offsets: &[u8]| Lease {
+        house,
+        scope,
+        start: CLOCK + start,
+        end: CLOCK + end,
+        offsets: offsets.to_vec(),
+        ..first.leases[0].clone()
+    };
+    let at = |after, leases| Campus {
+        clock: CLOCK + after,
+        leases,
+        holds: vec![],
+        ..first.clone()
+    };
+    let day = 86_400;
+    let week = lease(2, 2, (day / 2, 15 * day / 2), &[0, 1, 2, 3, 4, 5, 6, 7]);
+    let evening = lease(1, 1, (3_000, 10_800), &[0, 1]);
+    let hours = lease(1, 2, (day + 3_600, day + 9_000), &[10, 11, 12, 13]);
+    let mut third = at(day, vec![hours, week.clone()]);
+    third.holds = vec![Hold {
+        lapse: third.clock + 30,
+        lease: Lease {
+            identifier: b"\0L2".to_vec(),
+            kind: DISCOVER,
+            ..lease(2, 1, (day, day + 3_600), &[3])
+        },
+    }];
+    // Names may differ.
+    third.scopes[1].names = vec![vec![Name::new(0, b"en", b"Large stage")]];
+    let fourth = at(2 * day, vec![lease(1, 1, (day, 3 * day), &[0, 1, 2])]);
+    let campuses = [first.clone(), at(3_600, vec![evening, week]), third, fourth];
+    campuses.iter().map(Campus::octets).collect()
+}
+
+/// What this writes: where, and which octets.
+fn samples() -> Vec<(String, Vec<u8>)> {
+    let mut samples = vec![
+        (format!("{FOLDER}/campus.bin"), campus().octets()),
+        (format!("{FOLDER}/morning.bin"), morning()),
+        (format!("{FOLDER}/van.bin"), van()),
+    ];
+    for (number, file) in (1..).zip(quarter()) {
+        samples.push((format!("{FOLDER}/quarter/{number}.bin"), file.clone()));
+        samples.push((format!("{REPORT}/{number}.bin"), file));
+    }
+    samples
+}
+
 fn main() -> std::io::Result<()> {
-    fs::write(format!("{FOLDER}/campus.bin"), campus())?;
-    fs::write(format!("{FOLDER}/morning.bin"), morning())?;
-    fs::write(format!("{FOLDER}/van.bin"), van())
+    samples()
+        .iter()
+        .try_for_each(|(name, octets)| fs::write(name, octets))
 }
 
 #[test]
 fn the_samples_are_as_this_writes_them() -> std::io::Result<()> {
-    assert!(fs::read(format!("{FOLDER}/campus.bin"))? == campus());
-    assert!(fs::read(format!("{FOLDER}/morning.bin"))? == morning());
-    assert!(fs::read(format!("{FOLDER}/van.bin"))? == van());
+    for (name, octets) in samples() {
+        assert!(fs::read(&name)? == octets, "{name}");
+    }
     Ok(())
 }

@@ -1,4 +1,4 @@
-//! An independent second MADCAP server library, written from documents 01 and 02 (as far as W-212) and the
+//! An independent second MADCAP server library, written from documents 01 and 02 (as far as W-213) and the
 //! MADCAP draft only (with the project's readings where the documents are open), and used for comparison.
 //! It is plain and slow on purpose: where the rules speak of addresses one by one, so does the code.
 
@@ -17,6 +17,7 @@ pub mod period;
 pub mod programs;
 pub mod releases;
 pub mod reply;
+pub mod report;
 pub mod salvage;
 pub mod server;
 pub mod sound;

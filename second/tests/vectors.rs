@@ -1,25 +1,30 @@
 //! Runs the programs over a folder of cases, named by the environment variable SECOND_VECTORS: every `N.bin` or `N.in` in
 //! it or below it is given on standard input, and `N.out` is what must come out. The cases in a folder `W-211` are
 //! `van`'s, those in `W-212` are `salvage`'s, and `N.rooms` has two other rooms for each: the length of the file's, of the
-//! list's, and `written` or `refused NUMBER`. All others are `replay`'s. Cases from before W-210 have no counts; they are
-//! compared without them.
+//! list's, and `written` or `refused NUMBER`. Those in `W-213` are `report`'s: `N.count` of the files `001.bin`, `002.bin`
+//! and so on in `N.d`, of which some may be missing. All others are `replay`'s. Cases from before W-210 have no counts; they
+//! are compared without them.
 
 use std::fs;
 use std::io::Write;
 use std::path::{Path, PathBuf};
 use std::process::{Command, Stdio};
 
-/// Every `.bin` and `.in` file in a folder and below it.
+/// The endings of a case's own file. The files of a report aren't cases by themselves.
+const CASES: [&str; 3] = ["bin", "in", "count"];
+
+/// Every case in a folder and below it.
 fn cases(folder: &Path) -> Vec<PathBuf> {
     let mut found = Vec::new();
     for entry in fs::read_dir(folder).expect("the folder of vectors") {
         let path = entry.expect("an entry of the folder").path();
+        let ending = path.extension().and_then(|ending| ending.to_str());
+        if ending == Some("d") {
+            continue;
+        }
         if path.is_dir() {
             found.extend(cases(&path));
-        } else if path
-            .extension()
-            .is_some_and(|extension| extension == "bin" || extension == "in")
-        {
+        } else if ending.is_some_and(|ending| CASES.contains(&ending)) {
             found.push(path);
         }
     }
@@ -33,8 +38,24 @@ fn program_of(case: &Path) -> &'static str {
     match folder.and_then(|name| name.to_str()) {
         Some("W-211") => "van",
         Some("W-212") => "salvage",
+        Some("W-213") => "report",
         _ => "replay",
     }
+}
+
+/// What a case's program prints: for its input, or for the files that it counts.
+fn printed(case: &Path, input: &[u8]) -> Vec<u8> {
+    let program = program_of(case);
+    if program != "report" {
+        return run(program, input);
+    }
+    let count = String::from_utf8_lossy(input);
+    let count: usize = count.trim().parse().expect("the number of files");
+    let folder = case.with_extension("d");
+    let names = (1..=count).map(|number| folder.join(format!("{number:03}.bin")));
+    let mut program = Command::new(env!("CARGO_BIN_EXE_second"));
+    let output = program.arg("report").args(names).output();
+    output.expect("its output").stdout
 }
 
 /// What a program prints for an input.
@@ -106,7 +127,7 @@ fn every_case_agrees() {
         .filter(|case| {
             let input = fs::read(case).expect("the input");
             let expected = fs::read(case.with_extension("out")).expect("the expected output");
-            !agrees(&run(program_of(case), &input), &expected) || !rooms_agree(case, &input)
+            !agrees(&printed(case, &input), &expected) || !rooms_agree(case, &input)
         })
         .collect();
     assert!(disagreeing.is_empty(), "disagreeing: {disagreeing:?}");

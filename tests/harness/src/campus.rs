@@ -33,7 +33,7 @@ pub fn sound(random: &mut Random) -> Campus {
 }
 
 /// Gives every house addresses within its limit and the scope's sum, and leases and holds on them.
-fn lend(campus: &mut Campus, random: &mut Random) {
+pub fn lend(campus: &mut Campus, random: &mut Random) {
     let fullness = random.pick(&[0, 1, 2, 2, 3, 3]);
     if fullness == 0 {
         return;

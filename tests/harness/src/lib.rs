@@ -23,6 +23,7 @@ pub mod message;
 pub mod names;
 pub mod occupancy;
 pub mod programs;
+pub mod quarters;
 pub mod random;
 pub mod releases;
 pub mod salvage;

@@ -10,6 +10,7 @@ use crate::halves;
 use crate::judged;
 use crate::names;
 use crate::occupancy;
+use crate::quarters;
 use crate::releases;
 use crate::salvage;
 use std::collections::BTreeMap;
@@ -109,6 +110,10 @@ fn day_for(why: String) -> String {
     format!("van: {why}")
 }
 
+fn quarter_for(why: String) -> String {
+    format!("report: {why}")
+}
+
 fn fault_name(cause: Cause) -> String {
     format!("discard 5 for: {}", cause.name())
 }
@@ -196,6 +201,17 @@ impl Tally {
     /// What was seen of a day of the van.
     pub fn day(&mut self, why: Vec<String>) {
         why.into_iter().for_each(|why| self.add(day_for(why)));
+    }
+
+    /// The program `report` is there, and the same of its quarters.
+    pub fn expect_quarters(&mut self) {
+        self.of_programs
+            .extend(quarters::counted().into_iter().map(quarter_for));
+    }
+
+    /// What was seen of a quarter of campus files.
+    pub fn quarter(&mut self, why: Vec<String>) {
+        why.into_iter().for_each(|why| self.add(quarter_for(why)));
     }
 
     /// The first fault of a datagram that drew discard 5.

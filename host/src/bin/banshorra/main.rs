@@ -11,6 +11,7 @@ mod inbox;
 mod load;
 mod log;
 mod pcap;
+mod report;
 mod salvage;
 mod serve;
 mod store;
@@ -28,6 +29,7 @@ banshorra: a MADCAP server for a shared studio campus, and what its desk needs
   banshorra salvage FILE     what can be kept of one that is unsound
   banshorra text FILE        a campus file as text, to read and edit
   banshorra file TEXT FILE   the campus file of a text
+  banshorra report FILE..    the address-seconds of a quarter, by scope and house
   banshorra explain ..       datagrams in words
   banshorra ask ..           ask a server as a client does
   banshorra load FILE        put a server under load, and measure
@@ -38,13 +40,14 @@ It ends with 0 when done; 1 where something is refused: a campus file, a text, a
 can't be read or written, a socket, a file that another host has; 4 where no answer came.
 ";
 
-const COMMANDS: [Command; 9] = [
+const COMMANDS: [Command; 10] = [
     serve::COMMAND,
     board::COMMAND,
     files::CHECK,
     salvage::COMMAND,
     files::TEXT,
     files::FILE,
+    report::COMMAND,
     explain::COMMAND,
     ask::COMMAND,
     load::COMMAND,

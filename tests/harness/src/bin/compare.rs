@@ -1,12 +1,13 @@
 //! `compare [CASES] [SEED]`: cases made from a seed, run by the proved library and the second program.
-//! `compare --first [CASES] [SEED]` stops at the first case that differs; `compare --case FILE` runs a kept case. Where the program `van` is
-//! there, days of the van are given to it and to the second program's.
+//! `compare --first [CASES] [SEED]` stops at the first case that differs; `compare --case FILE` runs a kept case. Where the programs `van` and
+//! `report` are there, days of the van and quarters of campus files are given to them and to the second program's.
 
 use builder::Call;
 use harness::case::Case;
 use harness::compare::{compare, expected, hex};
 use harness::days::Day;
 use harness::programs::Program;
+use harness::quarters::Quarter;
 use harness::tally::Tally;
 use std::fs;
 use std::io;
@@ -18,9 +19,10 @@ const DEFAULT_CASES: u64 = 40_000;
 const DEFAULT_SEED: &str = "1";
 /// So many differences are shown; all are counted and kept.
 const SHOWN: u64 = 10;
-/// So many cases to a file to salvage, and to a day of the van.
+/// So many cases to a file to salvage, to a day of the van and to a quarter of campus files.
 const CASES_TO_A_WRECK: u64 = 10;
 const CASES_TO_A_DAY: u64 = 20;
+const CASES_TO_A_QUARTER: u64 = 40;
 /// Holds the case under way, should the process be ended by a fault.
 const RUNNING: &str = "running.case";
 
@@ -69,6 +71,7 @@ struct Run<'a> {
     tally: Tally,
     differ: u64,
     van: Option<Program>,
+    report: Option<Program>,
 }
 
 impl Run<'_> {
@@ -79,14 +82,18 @@ impl Run<'_> {
             tally: Tally::default(),
             differ: 0,
             van: Program::find("van"),
+            report: Program::find("report"),
         };
         if run.van.is_some() {
             run.tally.expect_days();
         }
+        if run.report.is_some() {
+            run.tally.expect_quarters();
+        }
         run
     }
 
-    /// The case of a number; and at times a file to salvage and a day of the van.
+    /// The case of a number; and at times a file to salvage, a day of the van and a quarter of files.
     fn number(&mut self, number: u64) -> io::Result<()> {
         self.case(number, "case", &Case::new(self.seed, number))?;
         if number % CASES_TO_A_WRECK == 0 {
@@ -102,6 +109,24 @@ impl Run<'_> {
                 Err(difference) => self.keep(number, "day", &day.input, &difference)?,
             }
         }
+        let report = self.report.clone();
+        match (report, number % CASES_TO_A_QUARTER) {
+            (Some(report), 0) => self.quarter(number, &report),
+            _ => Ok(()),
+        }
+    }
+
+    /// A quarter's files are written for the program; those that differ are kept.
+    fn quarter(&mut self, number: u64, report: &Program) -> io::Result<()> {
+        let quarter = Quarter::new(self.seed, number / CASES_TO_A_QUARTER);
+        let names = quarter.write(&self.folder.join("quarter"))?;
+        match quarter.compare(report, &names) {
+            Ok(why) => self.tally.quarter(why),
+            Err(difference) => {
+                let name = self.differs(number, "quarter", &difference);
+                quarter.write(&self.folder.join(name))?;
+            }
+        }
         Ok(())
     }
 
@@ -115,15 +140,20 @@ impl Run<'_> {
 
     /// Keeps what differs, and says so.
     fn keep(&mut self, number: u64, kind: &str, octets: &[u8], difference: &str) -> io::Result<()> {
+        let name = self.differs(number, kind, difference);
+        fs::write(self.folder.join(name), octets)
+    }
+
+    /// Says what differs, and gives the name by which it is kept.
+    fn differs(&mut self, number: u64, kind: &str, difference: &str) -> String {
         self.differ += 1;
         let plain = |c: char| if c.is_ascii_alphanumeric() { c } else { '_' };
         let seed: String = self.seed.chars().map(plain).collect();
         let name = format!("{seed}-{number}.{kind}");
-        fs::write(self.folder.join(&name), octets)?;
         if self.differ <= SHOWN {
             println!("differs: case {number}, target/compare/{name}: {difference}");
         }
-        Ok(())
+        name
     }
 }
 
@@ -145,6 +175,9 @@ fn run(cases: u64, seed: &str, first_only: bool, is_default: bool) -> io::Result
     }
     if run.van.is_none() {
         println!("van isn't built, and no day is compared");
+    }
+    if run.report.is_none() {
+        println!("report isn't built, and no quarter is compared");
     }
     println!("{number} cases, {} calls, {differ} differ", tally.calls);
     Ok(*differ == 0 && (never.is_empty() || !is_default))

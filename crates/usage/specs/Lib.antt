@@ -1,0 +1,3 @@
+pub mod Usage
+pub mod Report
+pub mod laws

@@ -1,4 +1,3 @@
 pub mod Salvage
 pub mod Walk
-pub mod Statement
 pub mod laws

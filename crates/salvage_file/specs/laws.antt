@@ -1,4 +1,1 @@
-pub mod Walk
-pub mod List
-pub mod Rules
 pub mod File

@@ -1,23 +1,18 @@
 // The salvage of a state file (document 02, W-212): leases in file order, then holds, then releases, each kept if it leaves the book sound together with those
 // kept before it; a new file of those kept, all else as it was; and the list of those dropped, with the first rule that each breaks. Both rooms are written
-// only once both lengths are known, so that the walk keeps a rule for each entry.
-mod list;
-mod rules;
-mod walk;
-
+// only once both lengths are known.
 ghost use mathlib.Core.Bool.{true};
 ghost use mathlib.Core.Path.{_≡_};
 ghost use lib.ListN.{length};
 ghost use Rattle.state_file.specs.Place.{Formed, fileAt};
-ghost use Rattle.salvage_file.specs.Salvage.{salvageFile, salvageOf, settingsSound};
-ghost use Rattle.salvage_file.specs.Walk.{WalksFile, Salvages};
-use crate::list::list_size;
-use crate::list::put_list;
-use crate::walk::no_table;
-use crate::walk::walk;
-use state::LeaseTable;
-use state::Memory;
-use state::State;
+ghost use Rattle.salvage_walk.specs.Walk.{WalksFile, settingsSound};
+ghost use Rattle.salvage_file.specs.Salvage.{salvageFile, salvageOf};
+ghost use Rattle.salvage_file.specs.Walk.{Salvages};
+use salvage_list::list_size;
+use salvage_list::put_list;
+use salvage_walk::Kept;
+use salvage_walk::settings_sound;
+use salvage_walk::walk;
 use state_file::Layout;
 use state_file::Places;
 
@@ -29,28 +24,6 @@ pub struct Salvaged {
     pub refusal: u8,
     pub length: usize,
     pub listed: usize,
-}
-
-// The records that were kept of a section of leases or holds, with those before it, and the rule that each entry breaks, in their order: 0 of one that is kept.
-struct Walked {
-    table: LeaseTable,
-    rules: [u8; 255],
-}
-
-// The same of the releases.
-struct WalkedReleases {
-    memory: Memory,
-    rules: [u8; 255],
-}
-
-// The book of those kept, and the rules of all three sections.
-struct Kept {
-    state: State,
-    table: LeaseTable,
-    memory: Memory,
-    leases: [u8; 255],
-    holds: [u8; 255],
-    releases: [u8; 255],
 }
 
 // Salvages a state file: a new one into the first room and the list of those dropped into the second. Refusal 20 for a wrong form, then 25 where the settings alone
@@ -77,20 +50,6 @@ fn refused(n: u8) -> Salvaged
         length: 0,
         listed: 0,
     }
-}
-
-// Whether the settings of a file are sound, with no lease, hold or release.
-fn settings_sound(file: &[u8], places: Places) -> bool
-    requires { ⌜ Formed (now file) places ⌝ }
-    ensures { λ r. ⌜ r ≡ settingsSound (fileAt (now (file .entry)) places) ⌝ }
-{
-    let at = places.scopes;
-    if state_file::counts_fit(file[9], file[at]) {
-        let state = state_file::state_at(file, at);
-        let none = no_table();
-        return soundness::sound(state, none);
-    }
-    false
 }
 
 // Writes the file of those kept and the list of those dropped, or neither where a room is too short.

@@ -1,2 +1,1 @@
 pub mod Van
-pub mod Statement

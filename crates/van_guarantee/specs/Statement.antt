@@ -1,4 +1,4 @@
--- Definitions: the van's theorem (document 02, W-211), over any list of calls from its empty book; and that what it prints goes by its settings and then record by record.
+-- Statement: the van's theorem (document 02, W-211), over any list of calls from its empty book; and that what it prints goes by its settings and then record by record.
 use Prim.Native.Nat.{ℕ, _+_, _≤_, _<_}
 use mathlib.Core.Path.{_≡_}
 use mathlib.Core.List.{List, [], _++_, map}

@@ -16,9 +16,9 @@ use Rattle.guarantee.proofs.Held.{SetAs, now-set, run-later}
 use Rattle.lent_guarantee.specs.Statement.{LentDemand3, SoundLent, answerOf, bookOf, served}
 use Rattle.lent_guarantee.proofs.Guaranteed.{lent-demand3, run-lent}
 use Rattle.lent_guarantee.proofs.Same.{sound-book}
-use Rattle.van_server.specs.Statement.{GetsAll, VanGets, openFor, vanAfter, vanStart}
+use Rattle.van_guarantee.specs.Statement.{GetsAll, VanGets, openFor, vanAfter, vanStart}
 use Rattle.van_server.specs.Van.{openOf, vanScope, vanState}
 use Rattle.van_server.proofs.Opened.{opened-sound}
 
 -- ---- the van's book, for settings that are not refused
 module _ (o : List ℕ) (opened : openOf o .refusal ≡ 0) where

@@ -11,10 +11,10 @@ use Rattle.state.specs.declared.Lease.{Lease}
 use Rattle.state.specs.declared.Ledger.{Ledger}
 use Rattle.records.specs.Lent.{LentReading}
 use Rattle.replay_text.specs.Replay.{refusedLine}
-use Rattle.van_server.specs.Statement.{PrintsByRecord, PrintsCut, PrintsSettings}
+use Rattle.van_guarantee.specs.Statement.{PrintsByRecord, PrintsCut, PrintsSettings}
 use Rattle.van_server.specs.Van.{VanTurn, dayOf, dayTo, openOf, printedOf, recordSize, settingsSize, turnOf}
 use Rattle.van_server.proofs.Opened.{cut}
 use Rattle.van_server.proofs.Answered.{is-end, some}
 
 -- nothing is left: nothing is printed, and there is no further record
 none-left : (k : ℕ) (g : Ledger) (ls : List Lease) (i : List ℕ) → length i ≡ 0 → dayTo k g ls i ≡ []

@@ -39,7 +39,10 @@ fn help_of_every_command() {
         .collect();
     assert_eq!(
         commands,
-        ["serve", "board", "check", "salvage", "text", "file", "report", "explain", "ask", "load"]
+        [
+            "serve", "board", "check", "salvage", "text", "file", "report", "explain", "ask",
+            "load"
+        ]
     );
     for command in commands {
         let (help, _, status) = said(&run(&[command, "--help"]));

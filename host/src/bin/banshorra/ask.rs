@@ -144,6 +144,17 @@ fn options(args: &Args, kind: u8, identifier: &[u8]) -> Result<Vec<(u16, Vec<u8>
     Ok(options)
 }
 
+/// Sends, hears what is answered, and how long that took. The time counts from before the send: when that returns, a server on the same machine may have
+/// answered already.
+fn timed<S, H>(
+    send: impl FnOnce() -> Result<S, Failure>,
+    hear: impl FnOnce() -> Result<Option<H>, Failure>,
+) -> Result<Option<(H, Duration)>, Failure> {
+    let began = Instant::now();
+    send()?;
+    Ok(hear()?.map(|heard| (heard, began.elapsed())))
+}
+
 struct Asked {
     datagram: Vec<u8>,
     server: SocketAddrV4,
@@ -170,15 +181,15 @@ impl Asked {
         }
         let mut wait = self.wait;
         for attempt in 1..=self.tries {
-            socket
-                .send_to(&self.datagram, server)
-                .map_err(failed(format!("sending to {server}")))?;
-            let sent = Instant::now();
-            if let Some((reply, from)) = self
-                .hear(&socket, wait)
-                .map_err(failed("receiving".to_owned()))?
-            {
-                let took = sent.elapsed().as_secs_f64() * 1000.0;
+            let send = || {
+                let sent = socket.send_to(&self.datagram, server);
+                sent.map_err(failed(format!("sending to {server}")))
+            };
+            let hear = || {
+                let heard = self.hear(&socket, wait);
+                heard.map_err(failed("receiving".to_owned()))
+            };
+            if let Some(((reply, from), took)) = timed(send, hear)? {
                 return self.tell(&reply, from, took);
             }
             let next = if attempt < self.tries {
@@ -234,10 +245,10 @@ impl Asked {
         is_same && matches!(reply.kind(), OFFER | ACK | NAK)
     }
 
-    fn tell(&self, reply: &[u8], from: SocketAddr, took: f64) -> Result<(), Failure> {
-        let message = Message(reply);
+    fn tell(&self, reply: &[u8], from: SocketAddr, took: Duration) -> Result<(), Failure> {
+        let (message, took) = (Message(reply), took.as_secs_f64() * 1000.0);
         print(&format!(
-            "answer from {from} after {took:.1} ms: {message}\n"
+            "answer from {from} after {took:.2} ms: {message}\n"
         ))?;
         if self.is_hex {
             print(&format!("  octets {}\n", quoted::hex(reply)))?;
@@ -249,5 +260,24 @@ impl Asked {
             ))),
             _ => Ok(()),
         }
+    }
+}
+
+#[cfg(test)]
+mod tests {
+    use super::timed;
+    use std::thread::sleep;
+    use std::time::Duration;
+
+    #[test]
+    fn the_time_of_sending_counts() {
+        let pause = Duration::from_millis(20);
+        let send = || {
+            sleep(pause);
+            Ok(())
+        };
+        let answered = timed(send, || Ok(Some("ACK")));
+        let (heard, took) = answered.expect("no failure").expect("an answer");
+        assert!(heard == "ACK" && took >= pause, "{took:?}");
     }
 }

@@ -85,6 +85,10 @@ fn wrong_usage_is_2_and_says_what_is_wrong() {
             &["ask", "renew", "--start", "tomorrow"],
             "--start takes a time in UTC",
         ),
+        (
+            &["ask", "release", "--id", "truck", "--tries", "0"],
+            "--tries takes a number from 1, not `0`",
+        ),
         (&["load", "a", "b"], "`b` is one word too many"),
     ] {
         let (out, error, status) = said(&run(words));
@@ -611,11 +615,18 @@ fn it_sends_again_what_is_not_answered() {
         ),
         "{words}"
     );
-    let nobody = [
-        "ask", "discover", "--server", &name, "--id", "truck", "--wait", "0.05", "--tries", "2",
-    ];
-    let (_, error, status) = said(&run(&nobody));
-    assert!(status == 4 && error.contains("no answer from"), "{error}");
+    // Whatever was asked, the server's log is where it says why.
+    for kind in ["discover", "release"] {
+        let nobody = [
+            "ask", kind, "--server", &name, "--id", "truck", "--wait", "0.05", "--tries", "2",
+        ];
+        let (_, error, status) = said(&run(&nobody));
+        assert!(status == 4 && error.contains("no answer from"), "{error}");
+        assert!(
+            error.contains("discard") && error.contains("its log says why"),
+            "{error}"
+        );
+    }
     drop(server);
 }
 

@@ -30,7 +30,7 @@ in words. It ends with 0 for an OFFER or ACK, 1 for a NAK, 4 if no answer came. 
   --language TAG            getinfo: the language for names
   --xid NUMBER              the transaction id, in hex; a random one if not given. The same again is a resend
   --wait SECONDS            how long to wait the first time; 4 if not given
-  --tries NUMBER            how often to send; 4 if not given
+  --tries NUMBER            how often to send, from 1; 4 if not given
   --hex                     also print the octets
 ",
     flags: &["hex"],
@@ -75,6 +75,7 @@ fn ask(args: &Args) -> Result<(), Failure> {
             .filter(|seconds: &f64| (0.001..=3600.0).contains(seconds))?;
         Some(Duration::from_secs_f64(seconds))
     };
+    let tries = |value: &str| value.parse().ok().filter(|tries| *tries > 0);
     let asked = Asked {
         datagram,
         server,
@@ -82,7 +83,9 @@ fn ask(args: &Args) -> Result<(), Failure> {
         wait: args
             .read_as("wait", "seconds", seconds)?
             .unwrap_or(Duration::from_secs(4)),
-        tries: args.number("tries")?.unwrap_or(4),
+        tries: args
+            .read_as("tries", "a number from 1", tries)?
+            .unwrap_or(4),
         is_hex: args.has("hex"),
     };
     if !is_given {
@@ -204,8 +207,8 @@ impl Asked {
             wait = (2 * wait).min(LONGEST.max(self.wait));
         }
         let why = match message.kind() {
-            DISCOVER | GETINFO => "a server is silent on what it can't meet; its log says why",
-            _ => "is a server there, and is this address in one of its houses?",
+            DISCOVER | GETINFO => "is a server there? It is silent on what it can't meet or discards; its log says why",
+            _ => "is a server there? It may have discarded the datagram, as where this address is in none of its houses; its log says why",
         };
         Err(Failure::Silence(format!("no answer from {server}: {why}")))
     }

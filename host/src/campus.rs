@@ -1,7 +1,7 @@
 //! A campus file as a value: what stands in its seven sections, for those who show a file or make one. Its form alone is judged here; whether a
 //! campus is sound the library says.
 
-use crate::FILE_ROOM;
+use crate::{count, FILE_ROOM};
 use std::fmt;
 
 /// What a campus file says.
@@ -140,7 +140,10 @@ impl Campus {
         file.rises(&holds, "hold", |hold| hold.lease.order())?;
         if file.at < file.file.len() {
             let more = file.file.len() - file.at;
-            return file.fault(file.at, &format!("{more} octets after the last section"));
+            return file.fault(
+                file.at,
+                &format!("{} after the last section", count(more, "octet")),
+            );
         }
         Ok(Campus {
             server,
@@ -350,10 +353,13 @@ impl<'a> Octets<'a> {
 
     fn names(&mut self, scopes: &mut [Scope], houses: usize) -> Result<(), FormFault> {
         let begin = self.at;
-        let count = usize::from(self.u8("the count of the scopes' names")?);
-        if count != scopes.len() {
+        let named = usize::from(self.u8("the count of the scopes' names")?);
+        if named != scopes.len() {
             let scopes = scopes.len();
-            return self.fault(begin, &format!("names for {count} scopes, of {scopes}"));
+            return self.fault(
+                begin,
+                &format!("names for {}, of {scopes}", count(named, "scope")),
+            );
         }
         for scope in scopes {
             for _ in 0..=houses {

@@ -1,5 +1,6 @@
 //! What is wrong at the octet that discard 5 carries, in words for the desk and the client's maker.
 
+use crate::count;
 use std::fmt;
 
 /// The first option that breaks a rule, as it stands in the datagram.
@@ -154,10 +155,7 @@ impl fmt::Display for Fault {
             0 => "End".to_owned(),
             _ => format!("option {code}"),
         };
-        let octets = |count: &usize| match count {
-            1 => "1 octet".to_owned(),
-            _ => format!("{count} octets"),
-        };
+        let octets = |number: &usize| count(*number, "octet");
         match self {
             Fault::LeftOver { octets: count } => write!(f, "{} left over", octets(count)),
             Fault::PastEnd { code, length, left } => {

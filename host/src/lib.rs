@@ -46,6 +46,7 @@
 
 pub mod campus;
 mod campus_file;
+mod count;
 mod fault;
 pub mod lent;
 #[allow(unsafe_code)]
@@ -63,6 +64,7 @@ pub mod utc;
 mod verdict;
 
 pub use campus_file::CampusFile;
+pub use count::count;
 pub use fault::Fault;
 pub use lent::Replayed;
 pub use numbers::{Answer, Discard, Outcome, Refusal};

@@ -1,5 +1,6 @@
 //! MADCAP datagrams in words, option by option. Any octets have words; what is wrong with them is [`Fault`](crate::Fault)'s to say.
 
+use crate::count;
 use crate::quoted::{self, hex, identifier, quoted};
 use crate::text::range;
 use crate::utc;
@@ -100,10 +101,10 @@ impl<'a> Message<'a> {
     pub fn header_fault(&self) -> Option<String> {
         let (octets, length) = (self.0, self.0.len());
         if length < LEAST {
-            return Some(format!("{length} octets, below {LEAST}"));
+            return Some(format!("{}, below {LEAST}", count(length, "octet")));
         }
         if length > MOST {
-            return Some(format!("{length} octets, above {MOST}"));
+            return Some(format!("{}, above {MOST}", count(length, "octet")));
         }
         let family = u16::from_be_bytes([octets[2], octets[3]]);
         match (octets[0], family, self.kind()) {
@@ -147,8 +148,8 @@ impl<'a> Message<'a> {
             return format!("{kind}, error {error}");
         }
         if let Some(list) = self.value(9) {
-            let count = list.first().copied().unwrap_or(0);
-            return format!("{kind}, {count} scopes");
+            let scopes = list.first().copied().unwrap_or(0);
+            return format!("{kind}, {}", count(scopes.into(), "scope"));
         }
         let ranges = self.ranges();
         let (Some(start), Some(length)) = (self.number(6), self.number(1)) else {
@@ -173,14 +174,14 @@ impl<'a> Message<'a> {
 /// The header, then a line for each option, after the octet that it begins at.
 impl fmt::Display for Message<'_> {
     fn fmt(&self, f: &mut fmt::Formatter<'_>) -> fmt::Result {
-        let length = self.0.len();
+        let length = count(self.0.len(), "octet");
         match self.transaction() {
             Some(xid) => write!(
                 f,
-                "{}, transaction 0x{xid:08x}, {length} octets",
+                "{}, transaction 0x{xid:08x}, {length}",
                 name(self.kind())
             )?,
-            None => write!(f, "{length} octets: {}", hex(self.0))?,
+            None => write!(f, "{length}: {}", hex(self.0))?,
         }
         let mut end = 8;
         for option in self.options() {
@@ -204,9 +205,9 @@ impl fmt::Display for Coded<'_> {
         if value.len() < self.length.into() {
             return write!(
                 f,
-                "{} of {} octets: {}",
+                "{} of {}: {}",
                 value.len(),
-                self.length,
+                count(self.length.into(), "octet"),
                 hex(value)
             );
         }

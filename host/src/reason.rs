@@ -1,6 +1,7 @@
 //! Why a call draws what it draws, in words for the desk. The library alone decides; this finds the rule that its answer goes by.
 
 use crate::campus::{Campus, Hold, Lease};
+use crate::count;
 use crate::message::{error_name, name, option_name, Message};
 use crate::message::{DISCOVER, GETINFO, NAK, RELEASE, RENEW, REQUEST};
 use crate::numbers::{Answer, Discard, Outcome};
@@ -280,7 +281,7 @@ impl Case<'_> {
         if let Some(hold) = self.hold(identifier).map(|hold| &hold.lease) {
             if kind != RENEW && self.scope_at(message.number(4)?) == Some(hold.scope) {
                 let (held, length) = (hold.offsets.len(), hold.end - hold.start);
-                let short = format!("the offer has {held} addresses, below {least}");
+                let short = format!("the offer has {}, below {least}", count(held, "address"));
                 let fewer = (held < least.into()).then_some(short);
                 return fewer.or_else(|| bounds(message, hold.start, length));
             }

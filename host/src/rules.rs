@@ -2,6 +2,7 @@
 //! numbers are document 01's "Sound" by semicolons, 1 to 12, and document 02's: 13 a hold's, 14 to 18 a release's.
 
 use crate::campus::{Campus, Lease, Release, Scope};
+use crate::count;
 use crate::quoted::identifier;
 use crate::utc;
 use std::collections::HashMap;
@@ -147,7 +148,8 @@ fn counts(campus: &Campus) -> Option<String> {
         let length = lease.identifier.len();
         if !is_identifier(length) {
             return Some(format!(
-                "{which} has an identifier of {length} octets, not 2 to 32"
+                "{which} has an identifier of {}, not 2 to 32",
+                count(length, "octet")
             ));
         }
     }
@@ -427,7 +429,10 @@ fn release_counts(campus: &Campus) -> Option<String> {
 fn release_identifiers(campus: &Campus) -> Option<String> {
     releases(campus).find_map(|(which, release)| {
         let length = release.identifier.len();
-        let what = format!("{which} has an identifier of {length} octets, not 2 to 32");
+        let what = format!(
+            "{which} has an identifier of {}, not 2 to 32",
+            count(length, "octet")
+        );
         (!is_identifier(length)).then_some(what)
     })
 }

@@ -309,6 +309,11 @@ fn datagrams_in_words() {
     );
     let (words, ..) = said(&run(&["explain", "0009"]));
     assert_eq!(words, "2 octets: 0009\n  discard 4: 2 octets, below 12\n");
+    let (words, ..) = said(&run(&["explain", "00"]));
+    assert_eq!(words, "1 octet: 00\n  discard 4: 1 octet, below 12\n");
+    let cut = [&draft(RELEASE, 1, &[])[..8], &[0, 1, 0, 1]].concat();
+    let (words, ..) = said(&run(&["explain", &hex(&cut)]));
+    assert!(words.contains("Lease Time: 0 of 1 octet: "), "{words}");
     let (_, error, status) = said(&run(&["explain", "0g"]));
     assert_eq!(
         (error.as_str(), status),

@@ -143,6 +143,10 @@ fn each_call_is_a_line_in_words() {
     assert!(host
         .line("5 octets")
         .ends_with(": discard 4, 5 octets, below 12"));
+    client.send(b"x");
+    assert!(host
+        .line("1 octet")
+        .ends_with(" 1 octet: discard 4, 1 octet, below 12"));
 }
 
 #[test]

@@ -299,3 +299,27 @@ fn faults_name_line_and_column() {
         assert_eq!(fault(old, new), said);
     }
 }
+
+#[test]
+fn one_is_no_many() {
+    let words = |campus: &Campus| Broken::first(campus).expect("a rule").to_string();
+    let mut campus = Campus::from_octets(&sample("campus.bin")).expect("of right form");
+    let whole = campus.clone();
+    campus.leases[0].identifier = vec![65];
+    assert!(
+        words(&campus).ends_with(" has an identifier of 1 octet, not 2 to 32"),
+        "{}",
+        words(&campus)
+    );
+    campus = whole.clone();
+    campus.releases[0].identifier = vec![65];
+    assert!(
+        words(&campus).ends_with(" has an identifier of 1 octet, not 2 to 32"),
+        "{}",
+        words(&campus)
+    );
+    let mut file = whole.to_octets();
+    file.push(0);
+    let fault = Campus::from_octets(&file).expect_err("an octet too many");
+    assert_eq!(fault.what, "1 octet after the last section");
+}

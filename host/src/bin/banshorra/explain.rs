@@ -8,7 +8,7 @@ use crate::serve::{now, PORT};
 use crate::store;
 use banshorra_host::campus::{Campus, Scope};
 use banshorra_host::message::Message;
-use banshorra_host::{quoted, utc, CampusFile, Case, Discard, Outcome, REPLY_ROOM};
+use banshorra_host::{count, quoted, utc, CampusFile, Case, Discard, Outcome, REPLY_ROOM};
 use std::fmt::Write;
 use std::io::Read;
 use std::net::Ipv4Addr;
@@ -155,7 +155,7 @@ fn one(args: &Args, campus: Option<&mut CampusFile>, heard: &Heard) -> String {
 /// The call in a line; of one without a header how long it is.
 fn short(message: &Message) -> String {
     match message.header_fault() {
-        Some(_) => format!("{} octets", message.0.len()),
+        Some(_) => count(message.0.len(), "octet"),
         None => message.in_short(),
     }
 }

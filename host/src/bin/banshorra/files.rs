@@ -4,7 +4,7 @@ use crate::args::{Args, Command, Failure};
 use crate::print;
 use crate::store::{self, Store};
 use banshorra_host::campus::Campus;
-use banshorra_host::{lent, text, Broken, Refusal};
+use banshorra_host::{count, lent, text, Broken, Refusal};
 use std::io::{IsTerminal, Read, Write};
 use std::path::Path;
 
@@ -83,14 +83,6 @@ fn judged(campus: Campus, refusal: Refusal) -> Campus {
             ..campus
         },
         _ => campus,
-    }
-}
-
-/// A number of things in words.
-pub fn count(number: usize, what: &str) -> String {
-    match number {
-        1 => format!("1 {what}"),
-        _ => format!("{number} {what}s"),
     }
 }
 

@@ -34,7 +34,7 @@ pub struct List {
     pub calls: Vec<u8>,
     pub arrived: Vec<Arrived>,
     /// What came while there was no room.
-    pub dropped: u64,
+    pub dropped: usize,
     /// Why nothing could be received.
     pub faults: Vec<String>,
 }
@@ -110,7 +110,7 @@ impl Inbox {
 pub struct Buffer {
     /// The socket's own number, which its line has.
     number: String,
-    seen: u64,
+    seen: usize,
 }
 
 impl Buffer {
@@ -141,7 +141,7 @@ impl Buffer {
     }
 
     /// How many more were dropped than when last looked: the last column.
-    pub fn more_lost(&mut self) -> u64 {
+    pub fn more_lost(&mut self) -> usize {
         let words = self.words();
         let lost = words.last().and_then(|word| word.parse().ok());
         let lost = lost.unwrap_or(self.seen);

@@ -2,7 +2,7 @@
 
 use banshorra_host::campus::Campus;
 use banshorra_host::message::{self, Message};
-use banshorra_host::{quoted, utc, Answer, Case, Outcome};
+use banshorra_host::{count, quoted, utc, Answer, Case, Outcome};
 use std::fmt::Write as _;
 use std::io::Write as _;
 use std::net::SocketAddrV4;
@@ -99,7 +99,7 @@ impl Log {
         };
         let _ = match message.transaction() {
             Some(xid) => write!(lines, "{} xid 0x{xid:08x}: ", message.in_short()),
-            None => write!(lines, "{} octets: ", told.length),
+            None => write!(lines, "{}: ", count(told.length, "octet")),
         };
         let outcome = told.answer.outcome;
         let _ = match (outcome, told.unsent) {

@@ -1,10 +1,10 @@
 //! The address-seconds of a quarter, in words. The totals and the refusals are those of the proved program `report`, which is run for them.
 
 use crate::args::{Args, Command, Failure};
-use crate::files::{count, read, refused};
+use crate::files::{read, refused};
 use crate::print;
 use banshorra_host::campus::{Campus, Scope};
-use banshorra_host::{quoted, text, utc, Refusal};
+use banshorra_host::{count, quoted, text, utc, Refusal};
 use std::fmt::Write;
 use std::net::Ipv4Addr;
 use std::path::PathBuf;

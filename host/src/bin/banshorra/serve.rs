@@ -1,13 +1,13 @@
 //! The host: datagrams from a socket through the library, and nothing answered from a book that is not on disk.
 
 use crate::args::{Args, Command, Failure};
-use crate::files::{contents, count, refused};
+use crate::files::{contents, refused};
 use crate::inbox::{self, Arrived, Buffer, Inbox, List};
 use crate::log::{Form, Log, Told};
 use crate::store::{failed, Store};
 use banshorra_host::campus::Campus;
 use banshorra_host::library::{note_signals, noted_signal};
-use banshorra_host::{answers, utc, Answer, CampusFile, Case, Outcome, ANSWER_ROOM};
+use banshorra_host::{answers, count, utc, Answer, CampusFile, Case, Outcome, ANSWER_ROOM};
 use std::io;
 use std::net::{Ipv4Addr, SocketAddrV4, UdpSocket};
 use std::path::Path;
@@ -238,8 +238,8 @@ impl Host {
         }
         if self.list.dropped > 0 {
             let what = format!(
-                "{} datagrams came while {} waited",
-                self.list.dropped,
+                "{} came while {} waited",
+                count(self.list.dropped, "datagram"),
                 inbox::MOST
             );
             self.log.event(now(), "dropped", &what);
@@ -301,9 +301,9 @@ impl Host {
     /// Says what was lost before the host could take it.
     fn look_at_lost(&mut self) {
         self.looked = Instant::now();
-        let lost: u64 = self.buffers.iter_mut().map(Buffer::more_lost).sum();
+        let lost: usize = self.buffers.iter_mut().map(Buffer::more_lost).sum();
         if lost > 0 {
-            let what = format!("{lost} datagrams, as the socket's buffer was full; the system's net.core.rmem_default sets its size");
+            let what = format!("{}, as the socket's buffer was full; the system's net.core.rmem_default sets its size", count(lost, "datagram"));
             self.log.event(now(), "lost", &what);
         }
     }

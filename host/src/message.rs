@@ -99,12 +99,9 @@ impl<'a> Message<'a> {
 
     /// What is wrong with the header (discard 4), in words.
     pub fn header_fault(&self) -> Option<String> {
-        let (octets, length) = (self.0, self.0.len());
-        if length < LEAST {
-            return Some(format!("{}, below {LEAST}", count(length, "octet")));
-        }
-        if length > MOST {
-            return Some(format!("{}, above {MOST}", count(length, "octet")));
+        let octets = self.0;
+        if let Some(fault) = length_fault(octets.len()) {
+            return Some(fault);
         }
         let family = u16::from_be_bytes([octets[2], octets[3]]);
         match (octets[0], family, self.kind()) {
@@ -234,6 +231,16 @@ pub fn draft(kind: u8, transaction: u32, options: &[(u16, Vec<u8>)]) -> Vec<u8> 
     }
     octets.extend([0; 4]);
     octets
+}
+
+/// What is wrong with a datagram's length (discard 4), in words.
+pub fn length_fault(length: usize) -> Option<String> {
+    let octets = count(length, "octet");
+    match length {
+        0..LEAST => Some(format!("{octets}, below {LEAST}")),
+        LEAST..=MOST => None,
+        _ => Some(format!("{octets}, above {MOST}")),
+    }
 }
 
 /// A message type's name.

@@ -203,6 +203,28 @@ fn lines_as_json() {
 }
 
 #[test]
+fn a_long_datagram_has_its_own_length_in_the_log() {
+    let folder = Folder::new("long");
+    let file = folder.campus();
+    for (options, words) in [
+        (&[][..], ": discard 4, 65000 octets, above 1472"),
+        (&["--json"], "\"why\":\"65000 octets, above 1472\"}"),
+    ] {
+        let mut host = Running::start(&file, options);
+        let mut long = message(RELEASE, 7, b"truck", &[]);
+        long.resize(65_000, 0);
+        Client::new(1, host.server).send(&long);
+        let line = host.line("0x00000007");
+        assert!(line.ends_with(words), "{line}");
+        assert!(
+            options.is_empty() || line.contains("\"octets\":65000,"),
+            "{line}"
+        );
+        host.end();
+    }
+}
+
+#[test]
 fn quiet_says_only_what_the_host_does() {
     let folder = Folder::new("quiet");
     let host = Running::start(&folder.campus(), &["--quiet"]);

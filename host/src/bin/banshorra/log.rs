@@ -2,7 +2,7 @@
 
 use banshorra_host::campus::Campus;
 use banshorra_host::message::{self, Message};
-use banshorra_host::{count, quoted, utc, Answer, Case, Outcome};
+use banshorra_host::{count, quoted, utc, Answer, Case, Discard, Outcome};
 use std::fmt::Write as _;
 use std::io::Write as _;
 use std::net::SocketAddrV4;
@@ -78,7 +78,11 @@ impl Log {
             clock: told.clock,
             client: (*told.from.ip()).into(),
         };
-        let why = case.why(told.datagram, told.answer.outcome);
+        let outcome = told.answer.outcome;
+        // Of a long datagram only the front is kept, so that its length is wrong there.
+        let too_long = message::length_fault(told.length)
+            .filter(|_| outcome == Outcome::Discard(Discard::Header));
+        let why = too_long.or_else(|| case.why(told.datagram, outcome));
         let house = settings.house_of(case.client);
         if self.second.0 != told.time {
             self.second = (told.time, utc::in_words(told.time));

@@ -236,6 +236,26 @@ fn a_salvage() {
 }
 
 #[test]
+fn what_is_no_file_is_refused_and_left() {
+    let folder = Folder::new("desk-folder");
+    let name = |file: &str| folder.path(file).to_str().expect("a name").to_owned();
+    let (inner, text) = (name("inner"), sample("campus.txt"));
+    fs::create_dir(&inner).expect("a folder");
+    for words in [
+        &["serve", &inner, "--listen", "127.0.0.1:0"][..],
+        &["file", &text, &inner],
+        &["salvage", &sample("campus.bin"), &inner],
+    ] {
+        let (_, error, status) = said(&run(words));
+        assert!(
+            status == 3 && error.contains("is a folder, not a campus file"),
+            "{error}"
+        );
+        assert!(!folder.path("inner.lock").exists(), "{words:?}");
+    }
+}
+
+#[test]
 fn text_from_standard_input() {
     let mut command = Command::new(PROGRAM);
     command

@@ -44,6 +44,7 @@ impl Store {
             Err(error) if error.kind() == io::ErrorKind::NotFound => beside(path)?,
             Err(error) => return Err(failed(path, error)),
         };
+        refuse_others(&path)?;
         let parent = path.parent().expect("a file is in a folder");
         let folder = File::open(parent).map_err(|error| failed(parent, error))?;
         let lock = lock(&path)?;
@@ -123,6 +124,16 @@ fn with(path: &Path, behind: &str) -> PathBuf {
     let mut path = path.as_os_str().to_owned();
     path.push(behind);
     path.into()
+}
+
+/// What is there and no file can't be replaced by one: a folder, a device. It is refused before a lock is left beside it.
+fn refuse_others(path: &Path) -> Result<(), Failure> {
+    let what = match fs::metadata(path) {
+        Ok(is) if is.is_dir() => "is a folder, not a campus file",
+        Ok(is) if !is.is_file() => "is no file",
+        _ => return Ok(()),
+    };
+    Err(Failure::Machine(format!("{} {what}", path.display())))
 }
 
 /// The whole path of a file that isn't there, in a folder that is.

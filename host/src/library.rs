@@ -12,7 +12,7 @@
 //!
 //! `build.rs` links the library.
 //!
-//! Besides the library one function of libc stands here, `signal`, since std has none of the kind: see [`note_signals`].
+//! Besides the library one function of libc stands here, `signal`, since std has none of the kind: see [`note_signals`] and [`fail_long_writes`].
 
 use std::sync::atomic::{AtomicI32, Ordering};
 
@@ -264,15 +264,22 @@ extern "C" fn note(number: i32) {
     NOTED.store(number, Ordering::Relaxed);
 }
 
-/// From now on SIGHUP, SIGINT and SIGTERM don't end the program but are noted, and a write past the limit of a file's size is an error, not the end.
+/// From now on a write past the limit of a file's size (SIGXFSZ) is an error that can be told, not the program's end.
+pub fn fail_long_writes() {
+    // SAFETY: `signal` takes a signal's number and "ignore".
+    unsafe {
+        signal(FILE_TOO_LARGE, IGNORE);
+    }
+}
+
+/// From now on SIGHUP, SIGINT and SIGTERM don't end the program but are noted.
 pub fn note_signals() {
-    // SAFETY: `signal` takes a signal's number and either "ignore" or the address of a function of an int, which `note` is. It does what may be done at
-    // any instant, a store to an atomic number.
+    // SAFETY: `signal` takes a signal's number and the address of a function of an int, which `note` is. It does what may be done at any instant, a store
+    // to an atomic number.
     unsafe {
         for number in [HANG_UP, INTERRUPT, TERMINATE] {
             signal(number, note as *const () as usize);
         }
-        signal(FILE_TOO_LARGE, IGNORE);
     }
 }
 

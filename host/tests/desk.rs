@@ -80,6 +80,10 @@ fn wrong_usage_is_2_and_says_what_is_wrong() {
         (&["salvage"], "a FILE is wanted"),
         (&["salvage", "a", "b", "c"], "a FILE is wanted"),
         (&["explain"], "one of HEX"),
+        (
+            &["explain", "0009", "--keep", "kept.bin"],
+            "--keep goes with --campus or --calls",
+        ),
         (&["ask", "beg"], "not `beg`"),
         (
             &["ask", "renew", "--start", "tomorrow"],
@@ -233,6 +237,53 @@ fn a_salvage() {
         "{error}"
     );
     assert_eq!((status, fs::read(&new).expect("a file")), (1, kept));
+}
+
+#[test]
+fn a_file_that_may_not_be_so_long() {
+    let folder = Folder::new("desk-long");
+    let name = |file: &str| folder.path(file).to_str().expect("a name").to_owned();
+    let (text, file, new) = (name("campus.txt"), name("campus.bin"), name("kept.bin"));
+    let octets = long_campus();
+    fs::write(&file, &octets).expect("a file");
+    fs::write(&text, said(&run(&["text", &file])).0).expect("a text");
+    let release = hex(&draft(RELEASE, 1, &[(3, vec![0, 0x41])]));
+    for words in [
+        &["file", &text, &new][..],
+        &["salvage", &file, &new],
+        &["explain", &release, "--campus", &file, "--keep", &new],
+    ] {
+        // As a full disk, by a limit of one block; the program isn't ended by the signal for it.
+        for is_there in [false, true] {
+            if is_there {
+                fs::write(&new, "the old one").expect("a file");
+            }
+            let mut command = Command::new("sh");
+            command.args(["-c", "ulimit -f 1; exec \"$0\" \"$@\"", PROGRAM]);
+            let output = command.args(words).stdin(Stdio::null()).output();
+            let (_, error, status) = said(&output.expect("it runs"));
+            assert_eq!(status, 3, "{words:?}: {error}");
+            assert!(
+                error.starts_with(&format!("{new}: File too large")),
+                "{error}"
+            );
+            assert!(!folder.path("kept.bin.new").exists(), "{words:?}");
+            assert_eq!(folder.path("kept.bin").exists(), is_there, "{words:?}");
+        }
+        assert_eq!(fs::read(&new).expect("a file"), b"the old one");
+        fs::remove_file(&new).expect("removed");
+    }
+    // Without the limit it is written, and no other than a host's own.
+    let explain = ["explain", &release, "--campus", &file, "--keep", &new];
+    assert_eq!(said(&run(&explain)).2, 0);
+    let lock = fs::File::open(name("kept.bin.lock")).expect("a lock");
+    lock.lock().expect("nobody has it");
+    let (words, error, status) = said(&run(&explain));
+    assert!(
+        error.contains("another host has this campus file"),
+        "{error}"
+    );
+    assert_eq!((words.as_str(), status), ("", 3));
 }
 
 #[test]

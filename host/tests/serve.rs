@@ -450,6 +450,41 @@ fn on_disk_before_the_reply() {
 }
 
 #[test]
+fn signals_are_noted_before_the_lock() {
+    let folder = Folder::new("noted");
+    let (file, trace) = (folder.campus(), folder.path("trace.txt"));
+    let mut traced = Command::new("strace");
+    let is_there = traced
+        .args(["-o", "/dev/null", "true"])
+        .stderr(Stdio::null())
+        .status();
+    if !is_there.is_ok_and(|status| status.success()) {
+        println!("not tried: strace doesn't run here");
+        return;
+    }
+    let mut command = Command::new("strace");
+    command.arg("-f").arg("-o").arg(&trace).args([
+        "-e",
+        "trace=rt_sigaction,flock",
+        PROGRAM,
+        "serve",
+    ]);
+    command.arg(&file).args(["--listen", "127.0.0.1:0"]);
+    let mut host = Running::of(command);
+    drop(EndedByLock(folder.path("campus.bin.lock")));
+    host.line("ended");
+    host.child.wait().expect("it ends");
+    let trace = fs::read_to_string(&trace).expect("a trace");
+    let place = |words: &str| trace.find(words).expect(words);
+    for signal in ["SIGTERM", "SIGINT", "SIGHUP", "SIGXFSZ"] {
+        assert!(
+            place(&format!("rt_sigaction({signal}, {{")) < place("flock("),
+            "{trace}"
+        );
+    }
+}
+
+#[test]
 fn a_folder_that_cannot_be_written() {
     let folder = Folder::new("unwritable");
     let file = folder.campus();
@@ -479,13 +514,7 @@ fn a_folder_that_cannot_be_written() {
 #[test]
 fn a_full_disk() {
     let folder = Folder::new("full");
-    let (file, mut campus) = (folder.path("campus.bin"), loopback());
-    for scope in &mut campus.scopes {
-        let names = scope.names[0].clone();
-        scope.names.fill(names);
-    }
-    let before = campus.to_octets();
-    assert!(before.len() > 1024);
+    let (file, before) = (folder.path("campus.bin"), long_campus());
     fs::write(&file, &before).expect("a campus file");
     // A file may have one block, of 512 or 1,024 octets, as on a disk that has no more.
     let mut command = Command::new("sh");

@@ -60,6 +60,18 @@ pub fn loopback() -> Campus {
     text::read(&words).expect("a campus")
 }
 
+/// A campus file that is too long for a block of 512 or 1,024 octets.
+pub fn long_campus() -> Vec<u8> {
+    let mut campus = loopback();
+    for scope in &mut campus.scopes {
+        let names = scope.names[0].clone();
+        scope.names.fill(names);
+    }
+    let file = campus.to_octets();
+    assert!(file.len() > 1024);
+    file
+}
+
 /// Runs the program to its end.
 pub fn run(words: &[&str]) -> Output {
     Command::new(PROGRAM)

@@ -5,7 +5,7 @@ use crate::files::{read, refused};
 use crate::pcap;
 use crate::print;
 use crate::serve::{now, PORT};
-use crate::store;
+use crate::store::{self, Store};
 use banshorra_host::campus::{Campus, Scope};
 use banshorra_host::message::Message;
 use banshorra_host::{count, quoted, utc, CampusFile, Case, Discard, Outcome, REPLY_ROOM};
@@ -31,7 +31,7 @@ Says datagrams in words, option by option, each after the octet that it begins a
   --at TIME         the time then, as 2026-11-17T09:30:00Z; of a capture its own. If not given, now
   --short           a line for each
   --hex             also the octets
-  --keep FILE       write the campus file afterwards
+  --keep FILE       write the campus file afterwards to FILE, the old or the new at every instant; while a host serves FILE it is refused
 ",
     flags: &["short", "hex"],
     valued: &["pcap", "port", "calls", "campus", "from", "at", "keep"],
@@ -60,6 +60,15 @@ fn explain(args: &Args) -> Result<(), Failure> {
     if sources.iter().filter(|is_there| **is_there).count() != 1 {
         return args.usage("one of HEX, `-`, --pcap and --calls is wanted");
     }
+    if args.has("keep") && !args.has("campus") && !args.has("calls") {
+        return args.usage("--keep goes with --campus or --calls");
+    }
+    // Taken before the campus is read, which may be the same file.
+    let store = args.value("keep").map(|name| {
+        let path = Path::new(name);
+        Ok((path, Store::take(path, true)?))
+    });
+    let store = store.transpose()?;
     let mut campus = match args.value("campus") {
         Some(name) => Some(accepted(name, &read(name)?)?),
         None => None,
@@ -76,14 +85,11 @@ fn explain(args: &Args) -> Result<(), Failure> {
     for heard in &heard {
         print(&one(args, campus.as_mut(), heard))?;
     }
-    match (args.value("keep"), &campus) {
-        (Some(name), Some(campus)) => {
-            let written = std::fs::write(name, campus.as_bytes());
-            written.map_err(|error| store::failed(Path::new(name), error))
-        }
-        (Some(_), None) => args.usage("--keep goes with --campus or --calls"),
-        (None, _) => Ok(()),
+    if let (Some((path, mut store)), Some(campus)) = (store, &campus) {
+        let written = store.keep(campus.as_bytes());
+        written.map_err(|error| store::failed(path, error))?;
     }
+    Ok(())
 }
 
 fn accepted(name: &str, file: &[u8]) -> Result<CampusFile, Failure> {

@@ -17,6 +17,7 @@ mod serve;
 mod store;
 
 use args::{Args, Command, Failure};
+use banshorra_host::library::fail_long_writes;
 use std::io::Write;
 use std::process::ExitCode;
 
@@ -54,6 +55,7 @@ const COMMANDS: [Command; 10] = [
 ];
 
 fn main() -> ExitCode {
+    fail_long_writes();
     match run() {
         Ok(()) => ExitCode::SUCCESS,
         Err(failure) => {

@@ -67,6 +67,8 @@ fn serve(args: &Args) -> Result<(), Failure> {
     let path = Path::new(name);
     // No lock is left beside a file that isn't there.
     std::fs::metadata(path).map_err(|error| failed(path, error))?;
+    // From the lock on the host ends by itself.
+    note_signals();
     let store = Store::take(path, !args.has("no-flush"))?;
     let file = store.read()?;
     let campus = CampusFile::from_bytes(&file).map_err(|refusal| refused(name, &file, refusal))?;
@@ -75,7 +77,6 @@ fn serve(args: &Args) -> Result<(), Failure> {
     let sockets = open(listen, group, interface)?;
     let socket = sockets[0].try_clone();
     let socket = socket.map_err(|error| Failure::Machine(format!("the socket: {error}")))?;
-    note_signals();
     let mut host = Host {
         buffers: sockets.iter().map(Buffer::of).collect(),
         looked: Instant::now(),

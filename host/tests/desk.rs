@@ -486,6 +486,37 @@ fn a_capture() {
         "{words}"
     );
     assert!(!words.contains(":53:"), "{words}");
+    // Of one that is cut off what stands before is said all the same, and nothing kept.
+    fs::write(&path, &capture[..capture.len() - 1]).expect("a capture");
+    let kept = folder.path("kept.bin");
+    let (shown, error, status) = said(&run(&[
+        "explain",
+        "--pcap",
+        name,
+        "--campus",
+        &sample("campus.bin"),
+        "--keep",
+        kept.to_str().expect("a name"),
+    ]));
+    assert_eq!(status, 1, "{error}");
+    assert!(
+        shown.starts_with(begins) && words.starts_with(&shown),
+        "{shown}"
+    );
+    assert!(
+        error.contains("cut off in the packet at octet")
+            && error.contains("only what stands before"),
+        "{error}"
+    );
+    assert!(!kept.exists());
+    // Of one without MADCAP that is said.
+    fs::write(&path, &capture).expect("a capture");
+    let (shown, error, status) = said(&run(&["explain", "--pcap", name, "--port", "2536"]));
+    assert_eq!((error.as_str(), status), ("", 0));
+    assert_eq!(
+        shown,
+        format!("{name}: no datagram from or to port 2536; 3 datagrams of other ports (--port takes another)\n")
+    );
     // Damaged ones are refused or said in words; none is a fault of the program.
     let mut random = Random::new(11);
     for _ in 0..60 {

@@ -73,8 +73,13 @@ fn explain(args: &Args) -> Result<(), Failure> {
         Some(name) => Some(accepted(name, &read(name)?)?),
         None => None,
     };
+    let mut cut = None;
     let heard = match (args.value("pcap"), args.value("calls")) {
-        (Some(name), _) => captured(args, name)?,
+        (Some(name), _) => {
+            let (heard, why) = captured(args, name)?;
+            cut = why;
+            heard
+        }
         (_, Some(name)) => {
             let (file, calls) = calls(name)?;
             campus = campus.or(Some(file));
@@ -84,6 +89,9 @@ fn explain(args: &Args) -> Result<(), Failure> {
     };
     for heard in &heard {
         print(&one(args, campus.as_mut(), heard))?;
+    }
+    if let Some(cut) = cut {
+        return Err(Failure::Refused(cut));
     }
     if let (Some((path, mut store)), Some(campus)) = (store, &campus) {
         let written = store.keep(campus.as_bytes());
@@ -263,15 +271,29 @@ fn typed(args: &Args, campus: Option<&CampusFile>) -> Result<Vec<Heard>, Failure
     lines.into_iter().zip(1..).map(heard).collect()
 }
 
-/// The datagrams of a capture.
-fn captured(args: &Args, name: &str) -> Result<Vec<Heard>, Failure> {
+/// The datagrams of a capture, and in words where it is cut off. That none is MADCAP's is said.
+fn captured(args: &Args, name: &str) -> Result<(Vec<Heard>, Option<String>), Failure> {
     let file = std::fs::read(name).map_err(|error| store::failed(Path::new(name), error))?;
     let port = args.number("port")?.unwrap_or(PORT);
     let (from, at) = (args.address("from")?, args.time("at")?);
-    let all = pcap::read(&file).map_err(|what| Failure::Refused(format!("{name}: {what}")))?;
-    let ours = all
+    let capture = pcap::read(&file).map_err(|what| Failure::Refused(format!("{name}: {what}")))?;
+    let cut = capture.cut.map(|at| {
+        let kept = match args.has("keep") {
+            true => ", and no campus file is written",
+            false => "",
+        };
+        format!("{name}: the capture is cut off in the packet at octet {at}; only what stands before it is shown{kept}")
+    });
+    let (ours, others): (Vec<_>, Vec<_>) = capture
+        .datagrams
         .into_iter()
-        .filter(|one| one.from.port() == port || one.to.port() == port);
+        .partition(|one| one.from.port() == port || one.to.port() == port);
+    if ours.is_empty() {
+        let others = count(others.len(), "datagram");
+        print(&format!(
+            "{name}: no datagram from or to port {port}; {others} of other ports (--port takes another)\n"
+        ))?;
+    }
     let heard = |one: pcap::Captured| {
         let cut = if one.is_cut {
             " (cut off in the capture)"
@@ -292,7 +314,7 @@ fn captured(args: &Args, name: &str) -> Result<Vec<Heard>, Failure> {
             datagram: one.payload,
         }
     };
-    Ok(ours.map(heard).collect())
+    Ok((ours.into_iter().map(heard).collect(), cut))
 }
 
 /// The input of `replay`: length(2), campus file, then time(4), client(4), room(2), length(2), datagram.

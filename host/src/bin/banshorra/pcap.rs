@@ -13,8 +13,15 @@ pub struct Captured {
     pub is_cut: bool,
 }
 
-/// The datagrams of a capture, in its order. What is no UDP over IPv4, or a fragment, is passed over.
-pub fn read(file: &[u8]) -> Result<Vec<Captured>, String> {
+/// The datagrams of a capture, in its order.
+pub struct Capture {
+    pub datagrams: Vec<Captured>,
+    /// The octet at which the packet begins that isn't there as a whole.
+    pub cut: Option<usize>,
+}
+
+/// Reads a capture, up to where it is cut off. What is no UDP over IPv4, or a fragment, is passed over.
+pub fn read(file: &[u8]) -> Result<Capture, String> {
     let (head, mut rest) = file
         .split_at_checked(24)
         .ok_or("no capture file: it has fewer than 24 octets")?;
@@ -34,17 +41,24 @@ pub fn read(file: &[u8]) -> Result<Vec<Captured>, String> {
         }
     };
     let link = number(&head[20..24]) & 0x0FFF_FFFF;
-    let mut all = vec![];
+    // A packet's time and octets, and what is behind it.
+    let packet = |rest| {
+        let (head, behind): (&[u8], &[u8]) = <[u8]>::split_at_checked(rest, 16)?;
+        let length = usize::try_from(number(&head[8..12])).ok()?;
+        let (packet, behind) = behind.split_at_checked(length)?;
+        Some((number(&head[..4]), packet, behind))
+    };
+    let mut datagrams = vec![];
     while !rest.is_empty() {
-        let at = file.len() - rest.len();
-        let cut = || format!("the capture is cut off in the packet at octet {at}");
-        let (head, behind) = rest.split_at_checked(16).ok_or_else(cut)?;
-        let length = usize::try_from(number(&head[8..12])).map_err(|_| cut())?;
-        let (packet, behind) = behind.split_at_checked(length).ok_or_else(cut)?;
+        let Some((time, packet, behind)) = packet(rest) else {
+            let cut = Some(file.len() - rest.len());
+            return Ok(Capture { datagrams, cut });
+        };
         rest = behind;
-        all.extend(network(link, packet)?.and_then(|packet| datagram(packet, number(&head[..4]))));
+        datagrams.extend(network(link, packet)?.and_then(|packet| datagram(packet, time)));
     }
-    Ok(all)
+    let cut = None;
+    Ok(Capture { datagrams, cut })
 }
 
 /// The IPv4 packet within a frame of a kind of link; `None` for another protocol.

@@ -150,6 +150,11 @@ fn files_and_texts() {
     assert_eq!(status, 1);
     let rule = "refused 21: the campus file is unsound\n  rule 2: lease 1 (house 2, \"\\x00L1\") has offset 3 in scope 2, whose size is 3\n";
     assert!(error.contains(rule), "{error}");
+    // The text is there, and is what has to be corrected.
+    assert!(
+        error.contains("\n  Correct it in the text.") && !error.contains("banshorra text"),
+        "{error}"
+    );
     assert_eq!(fs::read(&file).expect("a file"), campus);
     assert_eq!(
         said(&run(&["file", &text_name, &file_name, "--unsound"])).2,

@@ -442,7 +442,11 @@ impl Reader {
                 "`house {} share .. limit ..` within scope {number}",
                 has + 1
             ),
-            found: format!("shares of {has} houses, of {}", self.houses.len()),
+            found: match has {
+                0 => "no share".to_owned(),
+                1 => "only the share of house 1".to_owned(),
+                _ => format!("only the shares of houses 1 to {has}"),
+            },
         })
     }
 
@@ -459,10 +463,14 @@ impl Reader {
                 words.next += 1;
                 tag
             }
-            _ => words.octets("a language's tag", 1..=TAG)?,
+            Some(_) => return words.fault(0, format!("a language's tag of at most {TAG} octets")),
+            None => words.octets("a language's tag", 1..=TAG)?,
         };
         let text = words.octets("a name", 1..=NAME)?;
         let default = words.passes("default");
+        if !default && !words.is_over() {
+            return words.fault(0, "`default` or the line's end");
+        }
         scope.names[list].push(Name { default, tag, text });
         Ok(())
     }

@@ -86,6 +86,16 @@ fn judged(campus: Campus, refusal: Refusal) -> Campus {
     }
 }
 
+/// Why the campus of a text is refused. The text is there to be corrected.
+fn unsound_text(name: &str, campus: &Campus, refusal: Refusal) -> Failure {
+    let what = match Broken::first(campus) {
+        Some(broken) => broken.to_string(),
+        None => "no broken rule was found".to_owned(),
+    };
+    let todo = "Correct it in the text. (With --unsound the file is written all the same, and a host will refuse it.)";
+    Failure::Refused(format!("{name}: {refusal}\n  {what}\n  {todo}"))
+}
+
 /// What is in a campus file, in a line.
 pub fn contents(campus: &Campus) -> String {
     [
@@ -131,7 +141,7 @@ fn from_text(args: &Args) -> Result<(), Failure> {
     let file = campus.to_octets();
     if let Err(refusal) = lent::check(&file) {
         if !args.has("unsound") {
-            return Err(refused(name, &file, refusal));
+            return Err(unsound_text(name, &campus, refusal));
         }
     }
     match to {

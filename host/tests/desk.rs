@@ -94,6 +94,14 @@ fn wrong_usage_is_2_and_says_what_is_wrong() {
             "--tries takes a number from 1, not `0`",
         ),
         (&["load", "a", "b"], "`b` is one word too many"),
+        (
+            &["load", "a", "--clients", "17"],
+            "--clients takes a number from 1 to 16, not `17`",
+        ),
+        (
+            &["load", "a", "--clients", "0"],
+            "--clients takes a number from 1 to 16, not `0`",
+        ),
     ] {
         let (out, error, status) = said(&run(words));
         assert_eq!((out.as_str(), status), ("", 2), "{error}");
@@ -815,6 +823,23 @@ fn a_load() {
     assert!(words.contains(" 0 of them NAK, 0 lost\n"), "{words}");
     let campus = on_disk(&file);
     assert_eq!((campus.leases.len(), campus.holds.len()), (0, 0));
+    // More than any server can: the rate isn't reached, and that is said.
+    let fast = [
+        "load",
+        name,
+        "--server",
+        &server,
+        "--seconds",
+        "0.5",
+        "--rate",
+        "9000000",
+    ];
+    let (words, error, status) = said(&run(&fast));
+    assert_eq!(status, 0, "{error}");
+    assert!(
+        words.ends_with("\nrate      9000000 a second was asked for, and not reached\n"),
+        "{words}"
+    );
     drop(host);
     let nobody = [
         "load",
@@ -826,7 +851,14 @@ fn a_load() {
         "--patience",
         "10",
     ];
-    assert_eq!(said(&run(&nobody)).2, 4);
+    let (words, _, status) = said(&run(&nobody));
+    assert_eq!(status, 4);
+    assert!(words.ends_with("\nresponse  -\n"), "{words}");
+    let (_, error, status) = said(&run(&["load", name, "--houses", "9"]));
+    assert!(
+        status == 2 && error.contains("--houses takes a number from 1 to 8"),
+        "{error}"
+    );
     let foreign = ["load", &sample("campus.bin"), "--seconds", "0.05"];
     let (_, error, status) = said(&run(&foreign));
     assert!(

@@ -26,7 +26,7 @@ REQUEST and RELEASE, and with the RELEASE the next DISCOVER; an exchange is DISC
   --houses N               only the first N houses
   --clients N              clients a house, up to 16, as a house has records; 4 if not given
   --mix exchange|all       `all` has a RENEW and a GETINFO in each turn besides
-  --rate N                 exchanges a second; as fast as it goes if not given
+  --rate N                 exchanges a second; as fast as it goes if not given. Where it isn't reached that is said
   --seconds N              for how long; 10 if not given
   --patience MILLISECONDS  a message without an answer for so long is sent again and counts as lost; 1000 if not given
 ",
@@ -35,6 +35,10 @@ REQUEST and RELEASE, and with the RELEASE the next DISCOVER; an exchange is DISC
     run: load,
 };
 
+/// The most clients of a house, as it has records.
+const CLIENTS: usize = 16;
+/// So much of a rate counts as reached.
+const NEARLY: f64 = 0.98;
 /// So many answers are heard before the time is looked at.
 const HEARD: usize = 64;
 
@@ -65,13 +69,21 @@ struct Seen {
 
 fn load(args: &Args) -> Result<(), Failure> {
     let name = args.word("FILE")?;
+    let within = |most: usize| {
+        move |value: &str| {
+            let number = value.parse().ok();
+            number.filter(|number| (1..=most).contains(number))
+        }
+    };
+    let clients = args.read_as("clients", "a number from 1 to 16", within(CLIENTS))?;
     let file = read(name)?;
     CampusFile::from_bytes(&file).map_err(|refusal| refused(name, &file, refusal))?;
     let campus = Campus::from_octets(&file).map_err(|fault| Failure::Refused(fault.to_string()))?;
+    let houses = campus.houses.len();
+    let expected = format!("a number from 1 to {houses}, as the campus has houses");
     let houses = args
-        .number("houses")?
-        .unwrap_or(campus.houses.len())
-        .clamp(1, campus.houses.len());
+        .read_as("houses", &expected, within(houses))?
+        .unwrap_or(houses);
     let rate: Option<f64> = args.number("rate")?;
     let seconds: f64 = args.number("seconds")?.unwrap_or(10.0);
     if !(0.01..=86_400.0).contains(&seconds)
@@ -81,7 +93,7 @@ fn load(args: &Args) -> Result<(), Failure> {
     }
     let plan = Plan {
         server: args.socket("server", Ipv4Addr::LOCALHOST, PORT)?,
-        clients: args.number("clients")?.unwrap_or(4).clamp(1, 16),
+        clients: clients.unwrap_or(4),
         turn: match args.value("mix") {
             None | Some("exchange") => &[DISCOVER, REQUEST, RELEASE],
             Some("all") => &[DISCOVER, REQUEST, RENEW, GETINFO, RELEASE],
@@ -108,7 +120,12 @@ fn load(args: &Args) -> Result<(), Failure> {
         .into_iter()
         .map(|house| house.join().expect("no house panics"))
         .collect();
-    report(&seen, began.elapsed().min(plan.seconds).as_secs_f64())
+    let took = began.elapsed().min(plan.seconds).as_secs_f64();
+    print(&report(&seen, took, rate))?;
+    match seen.iter().all(|seen| seen.answered == 0) {
+        true => Err(Failure::Silence("nobody answered".to_owned())),
+        false => Ok(()),
+    }
 }
 
 fn open(address: Ipv4Addr) -> Result<UdpSocket, Failure> {
@@ -119,7 +136,8 @@ fn open(address: Ipv4Addr) -> Result<UdpSocket, Failure> {
     })
 }
 
-fn report(seen: &[Seen], seconds: f64) -> Result<(), Failure> {
+/// What was seen in a time, in words; and whether the rate that was asked for is what came of it.
+fn report(seen: &[Seen], seconds: f64, asked: Option<f64>) -> String {
     let sum = |of: fn(&Seen) -> u64| seen.iter().map(of).sum::<u64>();
     let (exchanges, sent, answered) = (sum(|s| s.exchanges), sum(|s| s.sent), sum(|s| s.answered));
     let (lost, refused) = (sum(|s| s.lost), sum(|s| s.refused));
@@ -128,30 +146,41 @@ fn report(seen: &[Seen], seconds: f64) -> Result<(), Failure> {
         .flat_map(|seen| seen.times.iter().copied())
         .collect();
     times.sort_unstable();
-    let at = |part: f64| {
-        let place = (times.len() as f64 * part) as usize;
-        let time = times
-            .get(place.min(times.len().saturating_sub(1)))
-            .copied()
-            .unwrap_or(0);
-        f64::from(time) / 1000.0
-    };
     let rate = exchanges as f64 / seconds;
-    print(&format!(
+    let mut text = format!(
         "exchanges {exchanges} in {seconds:.1} s: {rate:.0} a second\n\
          messages  {sent} sent, {answered} answered ({:.0} a second), {refused} of them NAK, {lost} lost\n\
-         response  50 % within {:.2} ms, 90 % {:.2}, 99 % {:.2}, 99.9 % {:.2}, all {:.2}\n",
+         response  {}\n",
         answered as f64 / seconds,
+        response(&times),
+    );
+    // At the end each house may be in an exchange that counts no more.
+    let due = asked.map(|asked| asked * seconds * NEARLY - seen.len() as f64);
+    if let (Some(asked), Some(due)) = (asked, due) {
+        if (exchanges as f64) < due {
+            text += &format!("rate      {asked} a second was asked for, and not reached\n");
+        }
+    }
+    text
+}
+
+/// How long answers took, in microseconds from the shortest on; of none there is nothing to say.
+fn response(times: &[u32]) -> String {
+    let Some(last) = times.len().checked_sub(1) else {
+        return "-".to_owned();
+    };
+    let at = |part: f64| {
+        let place = (times.len() as f64 * part) as usize;
+        f64::from(times[place.min(last)]) / 1000.0
+    };
+    format!(
+        "50 % within {:.2} ms, 90 % {:.2}, 99 % {:.2}, 99.9 % {:.2}, all {:.2}",
         at(0.5),
         at(0.9),
         at(0.99),
         at(0.999),
         at(1.0)
-    ))?;
-    match answered {
-        0 => Err(Failure::Silence("nobody answered".to_owned())),
-        _ => Ok(()),
-    }
+    )
 }
 
 /// A message that waits for its answer.
@@ -321,5 +350,31 @@ impl House {
                 let _ = self.socket.send_to(&waiting.datagram, self.plan.server);
             }
         }
+    }
+}
+
+#[cfg(test)]
+mod tests {
+    use super::{report, Seen};
+
+    #[test]
+    fn what_is_reported() {
+        let seen = |exchanges: u64, times: &[u32]| Seen {
+            exchanges,
+            answered: times.len() as u64,
+            times: times.to_vec(),
+            ..Seen::default()
+        };
+        let two = [seen(500, &[3000, 1000]), seen(490, &[2000])];
+        let words = report(&two, 10.0, None);
+        assert!(words.starts_with("exchanges 990 in 10.0 s: 99 a second\n"));
+        assert!(words.ends_with(
+            "\nresponse  50 % within 2.00 ms, 90 % 3.00, 99 % 3.00, 99.9 % 3.00, all 3.00\n"
+        ));
+        assert_eq!(report(&two, 10.0, Some(100.0)), words);
+        let rate = "rate      200 a second was asked for, and not reached\n";
+        assert_eq!(report(&two, 10.0, Some(200.0)), format!("{words}{rate}"));
+        let words = report(&[seen(0, &[])], 10.0, None);
+        assert!(words.ends_with(" lost\nresponse  -\n"), "{words}");
     }
 }

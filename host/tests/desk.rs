@@ -52,6 +52,14 @@ fn help_of_every_command() {
 }
 
 #[test]
+fn name_and_version() {
+    let expected = concat!("banshorra ", env!("CARGO_PKG_VERSION"), "\n");
+    for word in ["--version", "-V"] {
+        assert_eq!(said(&run(&[word])), (expected.to_owned(), String::new(), 0));
+    }
+}
+
+#[test]
 fn wrong_usage_is_2_and_says_what_is_wrong() {
     for (words, what) in [
         (&["frobnicate"][..], "there is no command `frobnicate`"),
@@ -879,6 +887,24 @@ fn the_campus_of_the_operators_page_is_sound() {
     let campus = banshorra_host::text::read(&block.join("\n")).expect("a campus");
     assert_eq!((campus.houses.len(), campus.scopes.len()), (2, 1));
     assert_eq!(banshorra_host::lent::check(&campus.to_octets()), Ok(()));
+}
+
+#[test]
+fn what_the_quick_start_leaves_is_ignored() {
+    let ignored = fs::read_to_string(format!("{SAMPLES}../.gitignore")).expect("the list");
+    for name in ["/campus.bin", "/campus.bin.lock", "/campus.bin.new"] {
+        assert!(ignored.lines().any(|line| line == name), "{name}");
+    }
+}
+
+#[test]
+fn the_showing_explains_every_sign_of_the_board() {
+    let showing = fs::read_to_string(format!("{SAMPLES}../run")).expect("the script");
+    let legend = showing.lines().find(|line| line.contains("#: held"));
+    let legend = legend.expect("a legend");
+    for sign in ["#: ", "=: ", "+: ", ".: "] {
+        assert!(legend.contains(sign), "{sign} in {legend}");
+    }
 }
 
 #[test]

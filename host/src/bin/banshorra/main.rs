@@ -35,11 +35,13 @@ banshorra: a MADCAP server for a shared studio campus, and what its desk needs
   banshorra ask ..           ask a server as a client does
   banshorra load FILE        put a server under load, and measure
 
-  banshorra COMMAND --help   says more of each.
+  banshorra COMMAND --help   says more of each; `banshorra --version` which one this is.
 
 It ends with 0 when done; 1 where something is refused: a campus file, a text, a request; 2 for wrong usage; 3 where the machine failed it: a file that
 can't be read or written, a socket, a file that another host has; 4 where no answer came.
 ";
+
+const VERSION: &str = concat!("banshorra ", env!("CARGO_PKG_VERSION"), "\n");
 
 const COMMANDS: [Command; 10] = [
     serve::COMMAND,
@@ -80,6 +82,9 @@ fn run() -> Result<(), Failure> {
     };
     if matches!(&name[..], "help" | "--help" | "-h") {
         return print(HELP);
+    }
+    if matches!(&name[..], "--version" | "-V") {
+        return print(VERSION);
     }
     let Some(command) = COMMANDS.iter().find(|command| command.name == name) else {
         let help = "`banshorra --help` lists the commands";

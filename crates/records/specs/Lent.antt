@@ -18,6 +18,7 @@ use Rattle.state.specs.Book.{Book, insertOf, laidOut, lookupOf, noLookup, putAt
 use Rattle.soundness.specs.declared.HeldTable.{HeldTable}
 use Rattle.soundness.specs.Sound.{soundB}
 use Rattle.soundness.specs.Parts.{holdingsOf}
+use Rattle.releases.specs.Whole.{bookB}
 use Rattle.admission.specs.Tests.{ownOf}
 use Rattle.server.specs.declared.Outcome.{Outcome}
 use Rattle.server.specs.declared.Ruling.{Ruling}
@@ -38,6 +39,10 @@ is128 n = eqb n 128
 -- the book that a lent ledger (clock, settings and what is remembered), lent records and lent names are
 abbrev pub bookFrom : Ledger → List Lease → List ℕ → Book
 bookFrom g ls names = bookOf (g .state) (tableFrom ls) (g .memory) names
+
+-- whether it is sound, by test 1: then a call need not ask
+abbrev pub SoundFrom : Ledger → List Lease → List ℕ → Type 0
+SoundFrom g ls names = bookB (bookFrom g ls names) ≡ true
 
 -- what of a book stands in the ledger
 abbrev pub ledgerOf : Book → Ledger
@@ -123,6 +128,10 @@ pub record JudgesRecords (a : LentJudgement) (r : JudgedRecords) : Type 0 where
 -- from test 3 on, whatever names were lent
 abbrev pub JudgesClock : State → Memory → List Lease → ℕ → List ℕ → JudgedRecords → Type 0
 JudgesClock s m ls client d r = (names : List ℕ) → JudgesRecords (lentJudgement (judgeClock (bookFrom (record { state = s; memory = m }) ls names) client d)) r
+
+-- where the book is sound, whatever names made it so
+abbrev pub JudgesSound : Ledger → List Lease → ℕ → ℕ → List ℕ → JudgedRecords → Type 0
+JudgesSound g ls client time d r = (names : List ℕ) → SoundFrom g ls names → JudgesRecords (judgeLent g ls names client time d) r
 
 -- what the first half promises: the verdict, the ledger and every lease record. The second is `writeOf`, of any verdict and any ledger's state
 pub record JudgesLent (a : LentJudgement) (g : Ledger) (ls : List Lease) (r : Ruling) : Type 0 where

@@ -17,7 +17,7 @@ ghost use Rattle.state.specs.Board.{builtOf};
 ghost use Rattle.server.specs.Halves.{discardRuling};
 ghost use Rattle.state_file.specs.StateFile.{readFile};
 ghost use Rattle.records.specs.Records.{Drops, endsAfter, putRow, recordsOf, tableFrom, tenantFrom};
-ghost use Rattle.records.specs.Lent.{Gathered, JudgesClock, judgeWith, JudgesRecords, ServesShort, serveWith, ServesRecords, readWith, Reads, writtenWith, roomWith, findWith, insertWith, removeWith};
+ghost use Rattle.records.specs.Lent.{Gathered, JudgesClock, judgeWith, JudgesRecords, JudgesSound, ServesShort, SoundFrom, serveLent, serveWith, ServesRecords, readWith, Reads, writtenWith, roomWith, findWith, insertWith, removeWith};
 use occupancy::Board;
 use releases::ReleaseRules;
 use server::Outcome;
@@ -231,6 +231,29 @@ fn survey(s: State, memory: Memory, records: Records) -> Surveyed
     }
 }
 
+// What all tenants hold, row by row: all that a call on a book needs that is known to be sound.
+fn holdings(records: Records) -> HeldTable
+    ensures { λ r. ⌜ r ≡ holdingsOf (tableFrom (records .leases)) ⌝ }
+{
+    let l = state::no_lease();
+    let none = soundness::no_tenants();
+    let mut now = none.held;
+    let mut h: usize = 0;
+    while h < 8 {
+        let mut row = [l; 16];
+        let mut i: usize = 0;
+        while i < 16 {
+            row[i] = records.leases[16 * h + i];
+            i += 1;
+        }
+        let t = tenant_from(row);
+        let x = soundness::held_sets(t);
+        now.tenants[h] = x;
+        h += 1;
+    }
+    now
+}
+
 // ---- the drop
 
 fn ends_after(x: Held, clock: u32) -> bool
@@ -393,7 +416,35 @@ fn is_sound(s: State, board: Board, c: Surveyed, names: &[u8]) -> bool
     false
 }
 
-// Document 02's first half on the records of a slice that has n: test 1; then the clock is raised, and ended leases are dropped where there are any.
+// The first half on a sound book, of which is known what the tenants hold: the clock is raised, and ended leases are dropped where there are any.
+fn judge_sound(
+    ledger: Ledger,
+    records: Records,
+    held: HeldTable,
+    datagram: &[u8],
+    client: u32,
+    time: u32,
+) -> JudgedRecords
+    requires { ⌜ Gathered (ledger .state) (records .leases) held ⌝ }
+    ensures { λ r. ⌜ JudgesSound ledger (records .leases) client time (now (datagram .entry)) r ⌝ }
+{
+    let state = ledger.state;
+    let memory = ledger.memory;
+    let s = state::raise(state, time);
+    if none_ended(held, s.clock) {
+        return at_clock(s, memory, records, held, client, datagram);
+    }
+    let board = memory.board;
+    let d = drop_ended(records, held, board, s.clock);
+    let left = d.records;
+    let sets = d.held;
+    let cleared = d.board;
+    let mut now = memory;
+    now.board = cleared;
+    at_clock(s, now, left, sets, client, datagram)
+}
+
+// Document 02's first half on the records of a slice that has n: test 1, and what follows on a sound book.
 pub fn judge(
     ledger: Ledger,
     records: Records,
@@ -415,18 +466,8 @@ pub fn judge(
     if !is_sound(state, board, c, names) {
         return dismiss(1, state.clock, memory, records);
     }
-    let s = state::raise(state, time);
     let held = c.rules.held;
-    if none_ended(held, s.clock) {
-        return at_clock(s, memory, records, held, client, datagram);
-    }
-    let d = drop_ended(records, held, board, s.clock);
-    let left = d.records;
-    let sets = d.held;
-    let cleared = d.board;
-    let mut now = memory;
-    now.board = cleared;
-    at_clock(s, now, left, sets, client, datagram)
+    judge_sound(ledger, records, held, datagram, client, time)
 }
 
 // Tests 1 and 2 of a call that has no room for a reply: 1 before 2.
@@ -467,6 +508,40 @@ pub fn serve(
     let j = judge(ledger, records, n, names, datagram, client, time);
     let r = j.ruling;
     let s = state::raise(state, j.clock);
+    let o = server::write(r, s, names, reply);
+    let memory = j.memory;
+    let left = j.records;
+    ServedRecords {
+        outcome: o,
+        clock: j.clock,
+        memory: memory,
+        records: left,
+    }
+}
+
+// The call on 128 records of a book that is known to be sound, as every book is that calls on an accepted file leave: test 1 would pass, and no rule is
+// tested.
+pub fn serve_sound(
+    ledger: Ledger,
+    records: Records,
+    names: &[u8],
+    datagram: &[u8],
+    client: u32,
+    time: u32,
+    reply: &mut [u8],
+) -> ServedRecords
+    requires { ⌜ SoundFrom ledger (records .leases) (now names) ⌝ }
+    ensures { λ r. ⌜ ServesRecords (serveLent ledger (records .leases) (now (names .entry)) (record { datagram = now (datagram .entry); client = client; time = time; room = length (now (reply .entry)) })) (now (reply .entry)) (now (reply .exit)) r ⌝ }
+{
+    let before = ledger.state;
+    let noted = ledger.memory;
+    if reply.len() < reply::LEAST_ROOM {
+        return discard(2, before.clock, noted, records);
+    }
+    let held = holdings(records);
+    let j = judge_sound(ledger, records, held, datagram, client, time);
+    let r = j.ruling;
+    let s = state::raise(before, j.clock);
     let o = server::write(r, s, names, reply);
     let memory = j.memory;
     let left = j.records;

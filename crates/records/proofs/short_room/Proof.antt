@@ -1,7 +1,7 @@
 -- `short_room` meets its contract: by the number of records and by test 1.
 use mathlib.Core.Path.{refl}
 use Rattle.records.proofs.Typed.{records-size}
-use Rattle.records.specs.laws.Call.{serve-out, serve-short, serve-unsound}
+use Rattle.records.specs.laws.Call.{serve-out, serve-short, serve-unsound, tested-sound}
 use borrow.Author.Needs.{needs}
 use Rattle.records.proofs.short_room.Statement.{statement}
 use Rattle.records.proofs.short_room.Tie as tie
@@ -15,7 +15,7 @@ returns-2 c k room short =
     let at-survey = at-sound .before .before in
     let at-if1 = at-survey .before in
     let start = at-if1 .before .before .before .before in
-    serve-short _ (start .args .ledger) _ _ k (at-if1 .if1 .left) (at-survey .survey .ensures) (at-sound .is-sound .ensures) (c .before .if2 .taken) short refl (records-size (start .args .records) _ (start .good .1 .0)) (c .discard2 .ensures)
+    serve-short _ (start .args .ledger) _ _ k (at-if1 .if1 .left) (tested-sound (start .args .ledger) _ _ (at-survey .survey .ensures) (at-sound .is-sound .ensures) (c .before .if2 .taken)) short refl (records-size (start .args .records) _ (start .good .1 .0)) (c .discard2 .ensures)
 
 returns-3 : tie.Need-returns-3
 returns-3 c k room short =

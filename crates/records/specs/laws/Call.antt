@@ -56,7 +56,7 @@ use Rattle.records.specs.declared.Records.{Records}
 use Rattle.records.specs.declared.ServedRecords.{ServedRecords}
 use Rattle.records.specs.declared.Surveyed.{Surveyed}
 use Rattle.records.specs.Records.{Drops, endsAfter, putRow, recordsOf, tableFrom}
-use Rattle.records.specs.Lent.{Gathered, JudgesRecords, LentAnswer, LentJudgement, ServesRecords, bookFrom, is128, judgeWith, lentAnswer, lentBoth, lentJudgement, serveWith}
+use Rattle.records.specs.Lent.{Gathered, JudgesRecords, JudgesSound, LentAnswer, LentJudgement, ServesRecords, SoundFrom, bookFrom, is128, judgeWith, lentAnswer, lentBoth, lentJudgement, serveWith}
 use Rattle.records.specs.laws.Back.{lent-table-back, records-back}
 use Rattle.records.specs.laws.Lent.{lent-clock}
 use Rattle.records.specs.laws.Rows.{Long, clear-idle, drop-idle, put-row-is, sound-laid}
@@ -219,6 +219,16 @@ tested g ls names c v w =
     agrees : soundB (g .state) (tableFrom ls) ≡ true → sameBoard (g .memory .board) (c .built) ≡ agreesB (tableFrom ls) (g .memory .board)
     agrees p = ap (sameBoard (g .memory .board)) (v .2) ∙ made-agrees (g .state) (tableFrom ls) (g .memory .board) (table-eight ls) p
 
+-- what is gathered of a sound book, by a survey that found it so, or by what it holds alone
+pub tested-sound : (g : Ledger) (ls : List Lease) (names : List ℕ) {c : Surveyed} {t : Bool} → Surveys g ls c → t ≡ Tested g names c → t ≡ true → SoundFrom g ls names
+tested-sound g ls names {c} v w y = sym (tested g ls names c v w) ∙ y
+
+pub sound-gathered : (g : Ledger) (ls : List Lease) (names : List ℕ) {held : HeldTable} → SoundFrom g ls names → held ≡ holdingsOf (tableFrom ls) → Gathered (g .state) ls held
+sound-gathered g ls names y e = record { sound = book-sound (bookFrom g ls names) y; holdings = e }
+
+pub surveyed-gathered : (g : Ledger) (ls : List Lease) (names : List ℕ) {c : Surveyed} {t : Bool} → Surveys g ls c → t ≡ Tested g names c → t ≡ true → Gathered (g .state) ls (c .rules .held)
+surveyed-gathered g ls names {c} v w y = sound-gathered g ls names (tested-sound g ls names v w y) (held-from (g .state) (tableFrom ls) (c .rules) (v .0))
+
 module _ (g : Ledger) (ls : List Lease) (names : List ℕ) (time : ℕ) {s′ : State} (e : s′ ≡ raised (g .state) time) where
   -- the ledger then, with a board
   abbrev then : Board → Ledger
@@ -233,19 +243,13 @@ module _ (g : Ledger) (ls : List Lease) (names : List ℕ) (time : ℕ) {s′ : 
     advanced-gathered q h = record { sound = subst (λ (b : Book). soundB (b .state) (b .table) ≡ true) (sym advanced-now) (advanced-sound (bookFrom g ls names) time q); holdings = h }
 
   -- where none ended, the records themselves
-  module _ {c : Surveyed} {q : Bool} (size : length ls ≡ 128) (long : All Long ls) (v : Surveys g ls c) (w : q ≡ Tested g names c) (y : q ≡ true) where
-    whole : bookB (bookFrom g ls names) ≡ true
-    whole = sym (tested g ls names c v w) ∙ y
-
-    sound : soundB (g .state) (tableFrom ls) ≡ true
-    sound = book-sound (bookFrom g ls names) whole
-
+  module _ {held : HeldTable} (size : length ls ≡ 128) (long : All Long ls) (v : Gathered (g .state) ls held) where
     laid : tableFrom ls ≡ tableOf (leasesOf (tableFrom ls))
-    laid = sound-laid (g .state) ls size long sound
+    laid = sound-laid (g .state) ls size long (v .sound)
 
-    module _ {n : Bool} (a : n ≡ allBy (endsAfter (s′ .clock)) (c .rules .held .tenants)) (b : n ≡ true) where
+    module _ {n : Bool} (a : n ≡ allBy (endsAfter (s′ .clock)) (held .tenants)) (b : n ≡ true) where
       lives : allBy (endsAfter (s′ .clock)) (holdingsOf (tableFrom ls) .tenants) ≡ true
-      lives = ap (λ (x : HeldTable). allBy (endsAfter (s′ .clock)) (x .tenants)) (sym (held-from (g .state) (tableFrom ls) (c .rules) (v .0))) ∙ sym a ∙ b
+      lives = ap (λ (x : HeldTable). allBy (endsAfter (s′ .clock)) (x .tenants)) (sym (v .holdings)) ∙ sym a ∙ b
 
       same : tableFrom ls ≡ dropped (s′ .clock) (tableFrom ls)
       same = drop-idle (s′ .clock) (tableFrom ls) laid lives
@@ -253,19 +257,19 @@ module _ (g : Ledger) (ls : List Lease) (names : List ℕ) (time : ℕ) {s′ : 
       same-board : g .memory .board ≡ cleared (s′ .clock) (tableFrom ls) (g .memory .board)
       same-board = clear-idle (s′ .clock) (tableFrom ls) (g .memory .board) (table-eight ls) lives
 
-      pub idle-gathered : Gathered s′ ls (c .rules .held)
-      idle-gathered = advanced-gathered ls (g .memory .board) same same-board sound (held-from (g .state) (tableFrom ls) (c .rules) (v .0))
+      pub idle-gathered : Gathered s′ ls held
+      idle-gathered = advanced-gathered ls (g .memory .board) same same-board (v .sound) (v .holdings)
 
       pub idle-book : bookFrom (then (g .memory .board)) ls names ≡ advanced (bookFrom g ls names) time
       idle-book = advanced-now ls (g .memory .board) same same-board
 
-    pub drop-ready : (tableFrom ls ≡ tableOf (leasesOf (tableFrom ls))) × (c .rules .held ≡ holdingsOf (tableFrom ls)) × (allBy (pairsBy ordered) (leasesOf (tableFrom ls)) ≡ true)
-    drop-ready = (laid, held-from (g .state) (tableFrom ls) (c .rules) (v .0), sound-rises (g .state) (tableFrom ls) sound)
+    pub drop-ready : (tableFrom ls ≡ tableOf (leasesOf (tableFrom ls))) × (held ≡ holdingsOf (tableFrom ls)) × (allBy (pairsBy ordered) (leasesOf (tableFrom ls)) ≡ true)
+    drop-ready = (laid, v .holdings, sound-rises (g .state) (tableFrom ls) (v .sound))
 
     module _ {d : Dropped} (u : Drops (s′ .clock) ls (g .memory .board) d) where
       live : soundB s′ (dropped (s′ .clock) (tableFrom ls)) ≡ true
       live = subst (λ (z : Book). soundB (z .state) (z .table) ≡ true) (sym (advanced-is (bookFrom g ls names) time s′ (dropped (s′ .clock) (tableFrom ls)) (cleared (s′ .clock) (tableFrom ls) (g .memory .board)) e refl refl))
-          (advanced-sound (bookFrom g ls names) time sound)
+          (advanced-sound (bookFrom g ls names) time (v .sound))
 
       left : tableFrom (d .records .leases) ≡ dropped (s′ .clock) (tableFrom ls)
       unfolding dropped
@@ -276,7 +280,7 @@ module _ (g : Ledger) (ls : List Lease) (names : List ℕ) (time : ℕ) {s′ : 
           (ap tableOf (sym (table-back (map (liveOf (s′ .clock)) (leasesOf (tableFrom ls)))))) live
 
       pub left-gathered : Gathered s′ (d .records .leases) (d .held)
-      left-gathered = advanced-gathered (d .records .leases) (d .board) left (u .board) sound (u .holdings ∙ ap holdingsOf (sym left))
+      left-gathered = advanced-gathered (d .records .leases) (d .board) left (u .board) (v .sound) (u .holdings ∙ ap holdingsOf (sym left))
 
       pub left-book : bookFrom (then (d .board)) (d .records .leases) names ≡ advanced (bookFrom g ls names) time
       left-book = advanced-now (d .records .leases) (d .board) left (u .board)
@@ -295,9 +299,9 @@ module _ (n : ℕ) (g : Ledger) (ls : List Lease) (names : List ℕ) (c : Call) 
     pub serve-unsound : {m : Records} {x : List ℕ} {r : ServedRecords} → t ≡ false → m .leases ≡ ls → length ls ≡ 128 → Discards 1 g m r → ServesRecords (serveWith n g ls names c) x x r
     serve-unsound f a q v = serves-as (discarded-is 1 g ls names q ∙ ap lentAnswer (call-unsound (bookFrom g ls names) c (sym (tested g ls names k p w) ∙ f)) ∙ on e) (stays 1 g ls a q v)
 
-    pub serve-short : {m : Records} {x : List ℕ} {r : ServedRecords} → t ≡ true → c .room < leastRoom → m .leases ≡ ls → length ls ≡ 128 → Discards 2 g m r
-        → ServesRecords (serveWith n g ls names c) x x r
-    serve-short f h a q v = serves-as (discarded-is 2 g ls names q ∙ ap lentAnswer (call-short (bookFrom g ls names) c (sym (tested g ls names k p w) ∙ f) h) ∙ on e) (stays 2 g ls a q v)
+  pub serve-short : {m : Records} {x : List ℕ} {r : ServedRecords} → n ≡ 128 → SoundFrom g ls names → c .room < leastRoom → m .leases ≡ ls → length ls ≡ 128 → Discards 2 g m r
+      → ServesRecords (serveWith n g ls names c) x x r
+  serve-short e y h a q v = serves-as (discarded-is 2 g ls names q ∙ ap lentAnswer (call-short (bookFrom g ls names) c y h) ∙ on e) (stays 2 g ls a q v)
 
 -- test 1 of the first half
 module _ (n : ℕ) (g : Ledger) (ls : List Lease) (names : List ℕ) (client time : ℕ) (d : List ℕ) where
@@ -314,10 +318,14 @@ module _ (n : ℕ) (g : Ledger) (ls : List Lease) (names : List ℕ) (client tim
     judge-dismissed f a q v =
         judges-as (dismissed-is 1 g ls names q ∙ ap lentJudgement (judge-unsound (bookFrom g ls names) client time d (sym (tested g ls names k p w) ∙ f)) ∙ on-judged e) (dismissed 1 g ls a q v)
 
-    pub judge-on : {b : Book} {r : JudgedRecords} → t ≡ true → b ≡ advanced (bookFrom g ls names) time → JudgesRecords (lentJudgement (judgeClock b client d)) r
-        → JudgesRecords (judgeWith n g ls names client time d) r
-    judge-on f i v =
-        judges-as (ap (λ (z : Book). lentJudgement (judgeClock z client d)) i ∙ ap lentJudgement (judge-sound (bookFrom g ls names) client time d (sym (tested g ls names k p w) ∙ f)) ∙ on-judged e) v
+  pub judge-on : {b : Book} {r : JudgedRecords} → n ≡ 128 → SoundFrom g ls names → b ≡ advanced (bookFrom g ls names) time → JudgesRecords (lentJudgement (judgeClock b client d)) r
+      → JudgesRecords (judgeWith n g ls names client time d) r
+  judge-on e y i v =
+      judges-as (ap (λ (z : Book). lentJudgement (judgeClock z client d)) i ∙ ap lentJudgement (judge-sound (bookFrom g ls names) client time d y) ∙ on-judged e) v
+
+  -- what is promised of a sound book and its own records, of n of them
+  pub judge-known : {r : JudgedRecords} → n ≡ 128 → length ls ≡ 128 → SoundFrom g ls names → JudgesSound g ls client time d r → JudgesRecords (judgeWith n g ls names client time d) r
+  judge-known {r} e q y v = subst (λ (k : ℕ). JudgesRecords (judgeWith k g ls names client time d) r) (q ∙ sym e) (v names y)
 
 -- ---- the call is its two halves
 module _ (n : ℕ) (g : Ledger) (ls : List Lease) (names : List ℕ) (c : Call) (enough : leastRoom ≤ c .room) where

@@ -171,6 +171,11 @@ module _ (g : Ledger) (ls : List Lease) (names : List ℕ) where
   unfolding Raises
   ledger-is p e f v = p ∙ ap₂ {C = Ledger} (λ (s : State) (m : Memory). record { state = s; memory = m }) (ap (raised (g .state)) e ∙ sym v) f
 
+  -- so of the call by value, on its own records
+  pub served-ledger : (c : Call) {before after : List ℕ} {r : ServedRecords} {s : State} → ServesRecords (serveLent g ls names c) before after r → s ≡ raised (g .state) (r .clock)
+      → record { state = s; memory = r .memory } ≡ serveLent g ls names c .ledger
+  served-ledger c {r = r} v p = ledger-is (ap {B = Ledger} (λ (s : State). record { state = s; memory = r .memory }) p) (v .clock) (v .memory) (served-clock (length ls) g ls names c)
+
   module _ (c : Call) where
     abbrev unserved : List Lease → LentAnswer
     unserved m = record { outcome = 1; offset = 0; count = 0; reply = []; ledger = g; leases = m }

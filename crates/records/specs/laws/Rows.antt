@@ -14,7 +14,7 @@ use Rattle.lists.specs.All.{All, allBy, pairsBy}
 use Rattle.lists.specs.laws.All.{AllInv, all-head, all-rest, all-drop, all-take}
 use Rattle.lists.specs.laws.Both.{and-parts}
 use Rattle.lists.specs.laws.Copy.{CopyInv, copy-start, copy-next, copy-long, copy-paste}
-use Rattle.lists.specs.laws.Each.{EachInv, each-start, each-next, each-end, map-set}
+use Rattle.lists.specs.laws.Each.{BuildInv, EachInv, build-start, each-start, each-next, each-end, map-set}
 use Rattle.lists.specs.laws.Filter.{filter-both}
 use Rattle.lists.specs.Fold.{fold}
 use Rattle.lists.specs.Place.{placeBy}
@@ -39,6 +39,7 @@ use Rattle.soundness.specs.declared.TableRules.{TableRules}
 use Rattle.soundness.specs.Sound.{layoutB, paddedB, settingsB, soundB, unusedB, layoutBy, rule19By, rulesBy}
 use Rattle.soundness.specs.Parts.{addedTenant, firstEnd, heldSets, holdingsOf, noHeld, noTenants}
 use Rattle.soundness.specs.laws.Book.{rules-of}
+use Rattle.soundness.specs.laws.Code.{holdings-are}
 use Rattle.releases.specs.declared.ReleaseRules.{ReleaseRules}
 use Rattle.releases.specs.Rules.{bothRules, rulesAt}
 use Rattle.releases.specs.laws.Tenants.{MemoryInv, memory-next}
@@ -46,7 +47,7 @@ use Rattle.soundness.specs.laws.Survey.{SurveyInv, held-at, none-ended, survey-
 use Rattle.state_file.proofs.WriteAgain.{leases-zero}
 use Rattle.records.specs.declared.Records.{Records}
 use Rattle.records.specs.laws.Back.{rows-back}
-use Rattle.records.specs.laws.Table.{row-own, rows-length, table-eight}
+use Rattle.records.specs.laws.Table.{row-own, rows-length, table-eight, to-row}
 use Rattle.records.specs.Records.{Drops, endsAfter, putRow, recordsOf, rows, rowsOf, tableFrom, tenantFrom}
 
 -- ---- a row put back
@@ -111,6 +112,38 @@ pub survey-row : {s : State} (ls : List Lease) {c r : TableRules} {h : ℕ} {t :
     → SurveyInv s (tableFrom ls) r (h + 1)
 unfolding tableFrom
 survey-row ls v p q e = survey-next-row v tenantFrom (rows 8 ls) [] refl p q e
+
+-- ---- what the tenants hold, gathered by itself
+pub record HoldingInv (ls : List Lease) (now : List Held) (h : ℕ) : Type 0 where
+  pub built : BuildInv (λ r. heldSets (tenantFrom r)) [] (rows 8 ls) (noTenants .held .tenants) 8 now h
+  pub size : length ls ≡ 128
+
+none-eight : length (noTenants .held .tenants) ≡ 8
+unfolding noTenants
+none-eight = refl
+
+pub holding-first : {ls : List Lease} {c : TableRules} → length ls ≡ 128 → c ≡ noTenants → HoldingInv ls (c .held .tenants) 0
+holding-first {ls} p q = subst (λ (x : TableRules). HoldingInv ls (x .held .tenants) 0) (sym q) (record { built = build-start (rows-length 8 ls) none-eight; size = p })
+
+module _ {ls : List Lease} {now : List Held} {h : ℕ} (v : HoldingInv ls now h) where
+  pub holding-row : {t : TenantLeases} {x : Held} → h < 8 → t ≡ tenantFrom (getD (rows 8 ls) h []) → x ≡ heldSets t → HoldingInv ls (set now h x) (h + 1)
+  holding-row p q e = record { built = each-next (v .built) p (e ∙ ap heldSets q); size = v .size }
+
+  pub holding-within : h ≤ 8
+  holding-within = v .built .within
+
+  pub holding-size : length ls ≡ 128
+  holding-size = v .size
+
+  pub holding-end : {r : HeldTable} → r .tenants ≡ now → 8 ≤ h → r ≡ holdingsOf (tableFrom ls)
+  unfolding tableFrom
+  holding-end {r} p q = holdings-are (tableFrom ls) r (p ∙ each-end (v .built) q ∙ each-row (rows 8 ls))
+    where
+      each-row : (l : List (List Lease)) → map (λ r. heldSets (tenantFrom r)) l ≡ map heldSets (map tenantFrom l)
+      each-row [] = refl
+      each-row (r ∷ l) = ap {B = List Held} (λ (x : List Held). heldSets (tenantFrom r) ∷ x) (each-row l)
+
+pub ruleset to-holdings = (to-row, holding-first, holding-row, holding-within, holding-size, holding-end)
 
 -- ---- the rules on what is remembered, gathered in the same loop
 pub memory-row : {s : State} (ls : List Lease) {m : Memory} {n : ℕ} {all r : ReleaseRules} {h : ℕ} {t : TenantLeases} (d : TenantReleases) → MemoryInv s (tableFrom ls) m n all h → length (m .releases) ≡ 8 → h < 8

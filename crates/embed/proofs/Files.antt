@@ -27,11 +27,13 @@ use Rattle.owned.specs.declared.OwnedCall.{OwnedCall}
 use Rattle.owned.specs.declared.OwnedFile.{OwnedFile}
 use Rattle.owned.specs.declared.OwnedJudged.{OwnedJudged}
 use Rattle.owned.specs.Owned.{JudgesOwned, ReadsOwned, ServesOwned}
-use Rattle.embed.specs.declared.Progress.{Progress}
-use Rattle.embed.proofs.Answered.{put-length}
-use Rattle.embed.specs.Embed.{called, filed, Filed, kept as unchanged, largestFile, largestNames, ledgerIn, lengthAfter, namesIn, numberAfter, onFile, refusalIn, replayed, replayFile, serveFile, Worked}
+use Rattle.call_list.specs.declared.Progress.{Progress}
+use Rattle.call_list.proofs.Answered.{put-length}
+use Rattle.embed.specs.Embed.{called, filed, Filed, kept as unchanged, largestFile, largestNames, ledgerIn, lengthAfter, namesIn, numberAfter, onFile, refusalIn, replayFile, serveFile}
+use Rattle.call_list.specs.CallList.{replayed, Worked}
 use Rattle.embed.specs.Halves.{judged, judgeFile}
-use Rattle.embed.specs.Promises.{Files, handedOut, JudgesFile, Keeps, Opened, Replays, ReplaysFile, ServesFile}
+use Rattle.embed.specs.Promises.{Files, handedOut, JudgesFile, Keeps, Opened, ReplaysFile, ServesFile}
+use Rattle.call_list.specs.Promises.{Replays}
 
 -- ---- a file read over a book that is all zero
 pub opened-refusal : (f : List ℕ) {r : OwnedFile} → ReadsOwned (readBlank f) r → r .refusal ≡ readFile f .refusal
@@ -121,11 +123,11 @@ verdict-out r before = refl
 
 -- ---- the call and the list of calls
 module _ (b : List ℕ) (n : ℕ) {f : OwnedFile} (o : Opened b n f) where
-  zero-in : f .refusal ≡ 0 → refusalIn b n ≡ 0
+  pub zero-in : f .refusal ≡ 0 → refusalIn b n ≡ 0
   zero-in z = sym (o .refusal) ∙ z
 
   -- what was copied of the names of an accepted file is all of them
-  names-are : {kept : List ℕ} {k : ℕ} → Keeps b n kept k → f .refusal ≡ 0 → take k kept ≡ namesIn b n
+  pub names-are : {kept : List ℕ} {k : ℕ} → Keeps b n kept k → f .refusal ≡ 0 → take k kept ≡ namesIn b n
   names-are g z =
       let p = accepted-parts b n (zero-in z) in
       g .front (p .1) ∙ take-all largestNames (namesIn b n) (names-short (take n b) (p .2))

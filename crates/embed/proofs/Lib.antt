@@ -1,8 +1,5 @@
-mod Files
+pub mod Files
+pub mod Sound
 mod Replied
-mod Answered
-mod Replayed
 mod Occupancy
-mod Judged
-pub mod Numbers
-pub mod Halves
+pub mod Judged

@@ -10,7 +10,8 @@ use Rattle.server.specs.Halves.{silent, writeOf}
 use Rattle.verdict_octets.specs.Octets.{rulingIn, verdictOctets}
 use Rattle.state_file.specs.StateFile.{namesOf, readFile}
 use Rattle.records.specs.Lent.{judgeLent, LentJudgement}
-use Rattle.embed.specs.Embed.{Filed, namesIn, onFile, Worked}
+use Rattle.embed.specs.Embed.{Filed, namesIn, onFile}
+use Rattle.call_list.specs.CallList.{Worked}
 
 -- ---- the first: the number is the verdict's outcome, and the verdict's octets are handed out
 abbrev pub judged : LentJudgement → Worked

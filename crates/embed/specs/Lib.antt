@@ -2,4 +2,3 @@ pub mod Embed
 pub mod Halves
 pub mod Occupancy
 pub mod Promises
-pub mod Statement

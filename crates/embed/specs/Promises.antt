@@ -3,14 +3,10 @@ use Prim.Native.Nat.{ℕ, _≤_}
 use mathlib.Core.Path.{_≡_}
 use mathlib.Core.List.{List, [], _∷_, _++_}
 use lib.ListN.{drop, length, take}
-use Rattle.octets.specs.Octets.{put}
 use Rattle.server.specs.declared.Outcome.{Outcome}
 use Rattle.server.specs.Serve.{Said, Tells}
-use Rattle.owned.specs.declared.OwnedCall.{OwnedCall}
 use Rattle.owned.specs.declared.OwnedFile.{OwnedFile}
-use Rattle.records.specs.Lent.{LentAnswer}
-use Rattle.embed.specs.declared.Progress.{Progress}
-use Rattle.embed.specs.Embed.{answerOctets, Filed, largestNames, ledgerIn, leasesIn, namesIn, refusalIn, Worked}
+use Rattle.embed.specs.Embed.{Filed, largestNames, ledgerIn, leasesIn, namesIn, refusalIn}
 
 -- the book of the first n octets of a buffer
 pub record Opened (b : List ℕ) (n : ℕ) (r : OwnedFile) : Type 0 where
@@ -22,21 +18,6 @@ pub record Opened (b : List ℕ) (n : ℕ) (r : OwnedFile) : Type 0 where
 pub record Keeps (b : List ℕ) (n : ℕ) (kept : List ℕ) (r : ℕ) : Type 0 where
   pub within : r ≤ length kept
   pub front : n ≤ length b → take r kept ≡ take largestNames (namesIn b n)
-
--- a call's answer, written into a buffer from `to` on
-pub record Answers (a : LentAnswer) (before : List ℕ) (to : ℕ) (after : List ℕ) (r : OwnedCall) : Type 0 where
-  pub size : r .outcome .length ≡ length (a .reply)
-  pub ledger : r .owned .ledger ≡ a .ledger
-  pub leases : r .owned .records .leases ≡ a .leases
-  pub buffer : after ≡ put before to (answerOctets a)
-
-pub record Replays (a : Worked) (before after : List ℕ) (r : Progress) : Type 0 where
-  pub number : r .number ≡ a .number
-  pub used : r .used ≡ a .used
-  pub filled : r .filled ≡ length (a .out)
-  pub ledger : r .owned .ledger ≡ a .ledger
-  pub leases : r .owned .records .leases ≡ a .leases
-  pub buffer : after ≡ a .out ++ drop (length (a .out)) before
 
 -- the file's buffer and length afterwards
 pub record Files (a : Filed) (b : List ℕ) (n : ℕ) : Type 0 where

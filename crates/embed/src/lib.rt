@@ -2,42 +2,27 @@
 // `banshorra_replay` a campus file is held in a buffer of the caller's, of at least 32,768 octets; `file_length` is the number of its octets, before and
 // after.
 ghost use mathlib.Core.Path.{_≡_};
-ghost use Prim.Native.Nat.{_+_, _≤_, min};
-ghost use lib.ListN.{drop, length};
+ghost use Prim.Native.Nat.{min};
+ghost use lib.ListN.{length};
 ghost use Rattle.board_text.specs.Board.{lengthIn, roomWithText};
 ghost use Rattle.state_file.specs.StateFile.{readFile};
-ghost use Rattle.records.specs.Lent.{serveLent};
-ghost use Rattle.reply.specs.Reply.{leastRoom};
-ghost use Rattle.embed.specs.Embed.{answerRoom, largestNames, numberAfter, lengthAfter, serveFile, replayFile, replayed, stopIn, callIn, recordSize};
+ghost use Rattle.embed.specs.Embed.{largestNames, numberAfter, lengthAfter, serveFile, replayFile};
 ghost use Rattle.salvage_file.specs.Salvage.{salvageOf};
 ghost use Rattle.salvage_file.specs.Walk.{Salvages};
 ghost use Rattle.server.specs.Serve.{Tells};
 ghost use Rattle.embed.specs.Halves.{judgeFile, replyFile};
 ghost use Rattle.embed.specs.Occupancy.{boardNumber, roomWithBoard};
-ghost use Rattle.embed.specs.Promises.{Keeps, Opened, ServesFile, JudgesFile, Answers, Replays, ReplaysFile};
-use owned::Owned;
-use owned::OwnedCall;
+ghost use Rattle.embed.specs.Promises.{Keeps, Opened, ServesFile, JudgesFile, ReplaysFile};
 use owned::OwnedFile;
 use server::Outcome;
 use state::Ledger;
 use state_file::Written;
-
-// What an answer in a list may take: outcome(1), offset(2), count(1), reply length(2) and the longest reply.
-const ANSWER_ROOM: usize = 6 + reply::LEAST_ROOM;
 
 // The longest names of an accepted file.
 const NAMES_ROOM: usize = 6229;
 
 // The octets of an occupancy board.
 const BOARD_ROOM: usize = 544;
-
-// How far a list of calls came: 0 or why it stopped, the octets of calls used, the octets of answers filled, and the book afterwards.
-struct Progress {
-    number: u8,
-    used: usize,
-    filled: usize,
-    owned: Owned,
-}
 
 // ---- a file in a buffer
 
@@ -139,134 +124,6 @@ fn write_verdict(file: &[u8], verdict: &[u8; 75], room: &mut [u8]) -> Outcome
         return owned::reply(g, r, names, room);
     }
     silent(refusal)
-}
-
-// ---- a list of calls
-
-// Why the record at a place is not answered, with so much room for answers left: 24, 27 or 0.
-fn stop_number(calls: &[u8], at: usize, room: usize) -> u8
-    requires { ⌜ at ≤ length (now calls) ⌝ }
-    ensures { λ r. ⌜ r ≡ stopIn (drop at (now (calls .entry))) room ⌝ }
-{
-    let left = calls.len() - at;
-    if left < 12 {
-        return 24;
-    }
-    let n = octets::read_u16(calls, at + 10) as usize;
-    if left < 12 + n {
-        return 24;
-    }
-    if room < ANSWER_ROOM {
-        return 27;
-    }
-    0
-}
-
-fn cut_room(n: usize) -> usize
-    ensures { λ r. ⌜ r ≡ min n leastRoom ⌝ }
-{
-    if n < reply::LEAST_ROOM {
-        return n;
-    }
-    reply::LEAST_ROOM
-}
-
-// The call, and its answer written from `to` on.
-fn answer_call(
-    o: Owned,
-    names: &[u8],
-    datagram: &[u8],
-    client: u32,
-    time: u32,
-    room: usize,
-    answers: &mut [u8],
-    to: usize,
-) -> OwnedCall
-    requires { ⌜ (to + answerRoom ≤ length (now answers)) × (room ≤ leastRoom) ⌝ }
-    ensures { λ r. ⌜ Answers (serveLent (o .ledger) (o .records .leases) (now (names .entry)) (record { datagram = now (datagram .entry); client = client; time = time; room = room })) (now (answers .entry)) to (now (answers .exit)) r ⌝ }
-{
-    let r = owned::serve(
-        o,
-        names,
-        datagram,
-        client,
-        time,
-        &mut answers[to + 6..to + 6 + room],
-    );
-    let told = r.outcome;
-    octets::put_u8(answers, to, told.outcome);
-    octets::put_u16(answers, to + 1, (told.offset % 65536) as u16);
-    octets::put_u8(answers, to + 3, (told.count % 256) as u8);
-    octets::put_u16(answers, to + 4, (told.length % 65536) as u16);
-    r
-}
-
-// The record at a place, answered from `to` on.
-fn answer_record(
-    o: Owned,
-    names: &[u8],
-    calls: &[u8],
-    at: usize,
-    answers: &mut [u8],
-    to: usize,
-) -> OwnedCall
-    requires { ⌜ (to + answerRoom ≤ length (now answers)) × (at + recordSize (drop at (now calls)) ≤ length (now calls)) ⌝ }
-    ensures { λ r. ⌜ Answers (serveLent (o .ledger) (o .records .leases) (now (names .entry)) (callIn (drop at (now (calls .entry))))) (now (answers .entry)) to (now (answers .exit)) r ⌝ }
-{
-    let time = octets::read_u32(calls, at);
-    let client = octets::read_u32(calls, at + 4);
-    let size = octets::read_u16(calls, at + 8) as usize;
-    let n = octets::read_u16(calls, at + 10) as usize;
-    let room = cut_room(size);
-    let from = at + 12;
-    answer_call(
-        o,
-        names,
-        &calls[from..from + n],
-        client,
-        time,
-        room,
-        answers,
-        to,
-    )
-}
-
-fn record_size(calls: &[u8], at: usize) -> usize
-    requires { ⌜ at + 12 ≤ length (now calls) ⌝ }
-    ensures { λ r. ⌜ r ≡ recordSize (drop at (now (calls .entry))) ⌝ }
-{
-    12 + (octets::read_u16(calls, at + 10) as usize)
-}
-
-// Answers records until they end, one is cut off, or the next answer may not fit.
-fn replay(start: Owned, names: &[u8], calls: &[u8], answers: &mut [u8]) -> Progress
-    ensures { λ r. ⌜ Replays (replayed (length (now (calls .entry))) (start .ledger) (start .records .leases) (now (names .entry)) (now (calls .entry)) (length (now (answers .entry)))) (now (answers .entry)) (now (answers .exit)) r ⌝ }
-{
-    let mut o = start;
-    let mut at: usize = 0;
-    let mut to: usize = 0;
-    while at < calls.len() {
-        let k = stop_number(calls, at, answers.len() - to);
-        if k != 0 {
-            return Progress {
-                number: k,
-                used: at,
-                filled: to,
-                owned: o,
-            };
-        }
-        let r = answer_record(o, names, calls, at, answers, to);
-        let told = r.outcome;
-        o = r.owned;
-        at = at + record_size(calls, at);
-        to = to + 6 + told.length;
-    }
-    Progress {
-        number: 0,
-        used: at,
-        filled: to,
-        owned: o,
-    }
 }
 
 // ---- the functions that are linked
@@ -427,7 +284,7 @@ pub extern "C" fn banshorra_replay(
         let mut kept = [0u8; NAMES_ROOM];
         let k = keep_names(&mut kept, file, n);
         let o = f.owned;
-        let p = replay(o, &kept[..k], calls, answers);
+        let p = call_list::replay(o, &kept[..k], calls, answers);
         let b = p.owned;
         let w = owned::write(b, &kept[..k], file);
         *file_length = length_after(w, n);

@@ -1,5 +1,6 @@
 -- `banshorra_replay` meets its contract: the file is read, the list is answered, the file is written again; a refused file changes nothing.
 use Rattle.embed.proofs.Files.{file-left, file-replayed, kept-length, kept-within}
+use Rattle.embed.proofs.Sound.{opened-sound}
 use borrow.Author.Needs.{needs}
 use Rattle.embed.proofs.banshorra_replay.Statement.{statement}
 use Rattle.embed.proofs.banshorra_replay.Tie as tie
@@ -12,7 +13,7 @@ banshorra-replay-spec =
     (λ c κs. search needs)
     (λ c. search (kept-within, needs))
     (λ c. search (kept-length, needs))
-    (λ c κs. search needs)
+    (λ c κs. search (opened-sound, needs))
     (λ c. search (kept-within, needs))
     (λ c. search (kept-length, needs))
     (λ c κs. search needs)

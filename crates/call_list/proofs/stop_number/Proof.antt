@@ -1,8 +1,8 @@
 -- `stop_number` meets its contract: a law for each of its four answers.
-use Rattle.embed.proofs.Answered.{stop-cut, stop-none, stop-room, stop-short}
+use Rattle.call_list.proofs.Answered.{stop-cut, stop-none, stop-room, stop-short}
 use borrow.Author.Needs.{needs}
-use Rattle.embed.proofs.stop_number.Statement.{statement}
-use Rattle.embed.proofs.stop_number.Tie as tie
+use Rattle.call_list.proofs.stop_number.Statement.{statement}
+use Rattle.call_list.proofs.stop_number.Tie as tie
 
 pub stop-number-spec : {M : Type 1} → statement M
 stop-number-spec =

@@ -22,8 +22,8 @@ use Rattle.verdict_octets.specs.laws.Octets.{low16}
 use Rattle.records.specs.Lent.{LentAnswer, serveLent}
 use Rattle.owned.specs.declared.OwnedCall.{OwnedCall}
 use Rattle.owned.specs.Owned.{ServesOwned}
-use Rattle.embed.specs.Embed.{answerRoom, callIn, cutOff, recordSize, stopIn}
-use Rattle.embed.specs.Promises.{Answers}
+use Rattle.call_list.specs.CallList.{answerRoom, callIn, cutOff, recordSize, stopIn}
+use Rattle.call_list.specs.Promises.{Answers}
 
 -- ---- numbers in what is left of a list
 pub at16-in : (s : List ℕ) (at k : ℕ) → at16 s (at + k) ≡ at16 (drop at s) k

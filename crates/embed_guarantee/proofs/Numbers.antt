@@ -5,45 +5,29 @@ use mathlib.Core.Path.{_≡_, refl, sym, ap, _∙_, subst}
 use mathlib.Core.Bool.{Bool, true, false}
 use mathlib.Core.List.{List, [], _∷_}
 use lib.Dec.{eqb, ltb}
-use lib.ListN.{drop, length, replicate, take}
+use lib.ListN.{drop, length}
 use Rattle.lists.specs.Pick.{pick}
 use Rattle.lists.specs.Filter.{isIn}
 use native.Mathlib.Omega.{arith}
 use Rattle.state.specs.declared.Lease.{Lease}
 use Rattle.state.specs.declared.Ledger.{Ledger}
-use Rattle.state.specs.Book.{zeroLease}
 use Rattle.server.specs.Serve.{Call}
 use Rattle.state_file.specs.declared.Written.{Written}
-use Rattle.state_file.specs.StateFile.{zeroLedger}
-use Rattle.records.specs.laws.Files.{blank-accepted, blank-refusal}
-use Rattle.records.specs.Lent.{judgeLent, LentAnswer, LentJudgement, LentReading, serveLent, writtenLent}
+use Rattle.records.specs.Lent.{judgeLent, LentAnswer, LentJudgement, serveLent, writtenLent}
 use Rattle.reply.specs.Reply.{leastRoom}
-use Rattle.lent_guarantee.specs.Statement.{Lent, LentDemand1, LentNeverShort, SoundLent}
-use Rattle.lent_guarantee.proofs.Guaranteed.{lent-demand1, next, next-sound}
+use Rattle.lent_guarantee.specs.Statement.{LentDemand1, LentNeverShort, SoundLent}
+use Rattle.lent_guarantee.proofs.Guaranteed.{lent-demand1}
 use Rattle.lent_guarantee.proofs.Halves.{lent-never-short}
-use Rattle.lent_guarantee.proofs.Written.{file-sound, sound-written}
+use Rattle.lent_guarantee.proofs.Written.{sound-written}
 use Rattle.records.specs.laws.Call.{lent-joined}
-use Rattle.embed.specs.Embed.{answerBefore, answerOctets, answerRoom, called, callIn, cutOff, filed, Filed, kept, ledgerIn, leasesIn, lengthAfter, namesIn, numberAfter, onFile, recordSize, refusalIn, replayed, replayFile, serveFile, stopIn, stopped, Worked}
+use Rattle.embed.specs.Embed.{called, filed, Filed, kept, ledgerIn, leasesIn, lengthAfter, namesIn, numberAfter, onFile, refusalIn, replayFile, serveFile}
+use Rattle.call_list.specs.CallList.{answerBefore, answerOctets, answerRoom, callIn, cutOff, recordSize, replayed, stopIn, stopped, Worked}
 use Rattle.embed.proofs.Files.{accepted-parts}
 use Rattle.embed.proofs.Judged.{lent-within}
+use Rattle.embed.proofs.Sound.{book-sound}
+use Rattle.call_list.proofs.Sound.{lent, step}
 use Rattle.embed.specs.Halves.{judged, judgeFile}
-use Rattle.embed.specs.Statement.{firstHalf, JudgedNumber, judgedIn, JudgedNumbers, Numbered, ReplayedNumbers, ServedNumbers}
-
-lent : Ledger → List Lease → List ℕ → Lent
-lent g ls names = record { ledger = g; leases = ls; names = names }
-
-step : (g : Ledger) (ls : List Lease) (names : List ℕ) (c : Call) → SoundLent (lent g ls names) → SoundLent (lent (serveLent g ls names c .ledger) (serveLent g ls names c .leases) names)
-unfolding next lent
-step g ls names c v = next-sound (lent g ls names) c v
-
--- ---- a buffer whose file is not refused
-module _ (b : List ℕ) (n : ℕ) (e : refusalIn b n ≡ 0) where
-  book-sound : SoundLent (lent (ledgerIn b n) (leasesIn b n) (namesIn b n))
-  unfolding lent
-  book-sound =
-      let r = accepted-parts b n e .2 in
-      subst (λ (x : LentReading). SoundLent (lent (x .ledger) (x .leases) (namesIn b n))) (blank-accepted (take n b) r)
-      (file-sound (take n b) zeroLedger (replicate 128 zeroLease) (blank-refusal (take n b) ∙ r))
+use Rattle.embed_guarantee.specs.Statement.{firstHalf, JudgedNumber, judgedIn, JudgedNumbers, Numbered, ReplayedNumbers, ServedNumbers}
 
 -- ---- what is told where the writer refuses nothing
 told : (w : Written) (k : ℕ) → w .refusal ≡ 0 → numberAfter w k ≡ k

@@ -28,13 +28,13 @@ use Rattle.lent_guarantee.proofs.Halves.{same-judge}
 use Rattle.lent_guarantee.proofs.Same.{same-call}
 use Rattle.lent_guarantee.proofs.RoundTrip.{read-whole}
 use Rattle.lent_guarantee.proofs.Written.{lent-write-read}
 use Rattle.embed.specs.Embed.{called, Filed, filed, ledgerIn, leasesIn, namesIn, refusalIn, serveFile}
 use Rattle.embed.specs.Halves.{judged, judgeFile, replyFile}
 use Rattle.embed.specs.Promises.{filedSaid}
-use Rattle.embed.specs.Statement.{FileHalves, firstHalf, judgedIn, JudgedNumbers, Numbered, ServedNumbers}
+use Rattle.embed_guarantee.specs.Statement.{FileHalves, firstHalf, judgedIn, JudgedNumbers, Numbered, ServedNumbers}
 use Rattle.embed.proofs.Files.{accepted-parts}
 use Rattle.embed.proofs.Judged.{lent-within}
-use Rattle.embed.proofs.Numbers.{filed-at, judged-numbers, served-numbers}
+use Rattle.embed_guarantee.proofs.Numbers.{filed-at, judged-numbers, served-numbers}
 
 module _ (b : List ℕ) (n : ℕ) (c : Call) (e : refusalIn b n ≡ 0) (h : leastRoom ≤ c .room) where
   abbrev first : LentJudgement

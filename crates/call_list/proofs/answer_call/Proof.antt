@@ -1,10 +1,10 @@
 -- `answer_call` meets its contract. The search does not come to `answered` by itself: its premises are named here, from what is required to the four
 -- writes before the reply.
-use Rattle.embed.proofs.Answered.{answered}
+use Rattle.call_list.proofs.Answered.{answered}
 use borrow.Author.Needs.{needs}
 use native.Mathlib.Omega.{arith}
-use Rattle.embed.proofs.answer_call.Statement.{statement}
-use Rattle.embed.proofs.answer_call.Tie as tie
+use Rattle.call_list.proofs.answer_call.Statement.{statement}
+use Rattle.call_list.proofs.answer_call.Tie as tie
 
 -- what is required of the room lies further back than the search looks
 put-u16-requires-2 : tie.Need-put-u16-requires-2
@@ -24,7 +24,7 @@ returns c =
     let start = call .before .before .before .before .before in
     let a = start .args in
     answered (a .o .ledger) (a .o .records .leases) (a .names .now) (a .datagram .now) (a .client) (a .time) (a .room) _ _
-    (start .pre) (call .serve .ensures) (back .answers .given .0) (high .put-u8 .ensures) (mid .put-u16 .ensures) (read .put-u82 .ensures) (low .put-u162 .ensures)
+    (start .pre .0, start .pre .1) (call .serve-sound .ensures) (back .answers .given .0) (high .put-u8 .ensures) (mid .put-u16 .ensures) (read .put-u82 .ensures) (low .put-u162 .ensures)
 
 pub answer-call-spec : {M : Type 1} → statement M
 answer-call-spec =

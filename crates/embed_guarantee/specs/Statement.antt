@@ -13,9 +13,10 @@ use Rattle.verdict_octets.specs.Octets.{TypedRuling}
 use Rattle.state_file.specs.Typed.{Typed}
 use Rattle.records.specs.Records.{tableFrom}
 use Rattle.records.specs.Lent.{judgeLent, LentJudgement, serveLent, writtenLent}
-use Rattle.embed.specs.Embed.{called, Filed, ledgerIn, leasesIn, namesIn, refusalIn, replayed, replayFile, serveFile, Worked}
+use Rattle.embed.specs.Embed.{called, Filed, ledgerIn, leasesIn, namesIn, refusalIn, replayFile, serveFile}
+use Rattle.call_list.specs.CallList.{replayed, Worked}
 use Rattle.embed.specs.Halves.{judged, judgeFile, replyFile}
 use Rattle.embed.specs.Promises.{filedSaid}
 
 -- after some work the writer refuses nothing: the number is the work's, and the length is the new file's
 pub record Numbered (b : List ℕ) (n : ℕ) (a : Filed) (r : Worked) : Type 0 where

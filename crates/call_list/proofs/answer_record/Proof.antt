@@ -1,8 +1,8 @@
 -- `answer_record` meets its contract: the numbers read and the part lent are the record's call.
-use Rattle.embed.proofs.Answered.{answered-record, datagram-in}
+use Rattle.call_list.proofs.Answered.{answered-record, datagram-in}
 use borrow.Author.Needs.{needs}
-use Rattle.embed.proofs.answer_record.Statement.{statement}
-use Rattle.embed.proofs.answer_record.Tie as tie
+use Rattle.call_list.proofs.answer_record.Statement.{statement}
+use Rattle.call_list.proofs.answer_record.Tie as tie
 
 pub answer-record-spec : {M : Type 1} → statement M
 answer-record-spec =

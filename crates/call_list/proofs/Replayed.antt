@@ -15,9 +15,9 @@ use Rattle.state.specs.declared.Ledger.{Ledger}
 use Rattle.records.specs.Lent.{LentAnswer, serveLent}
 use Rattle.owned.specs.declared.Owned.{Owned}
 use Rattle.owned.specs.declared.OwnedCall.{OwnedCall}
-use Rattle.embed.specs.Embed.{answerRoom, answerOctets, callIn, answerBefore, recordSize, Worked, replayed, stopIn, stopped}
-use Rattle.embed.specs.Promises.{Answers, Replays}
-use Rattle.embed.proofs.Answered.{goes-on, put-inside}
+use Rattle.call_list.specs.CallList.{answerRoom, answerOctets, callIn, answerBefore, recordSize, Worked, replayed, stopIn, stopped}
+use Rattle.call_list.specs.Promises.{Answers, Replays}
+use Rattle.call_list.proofs.Answered.{goes-on, put-inside}
 
 module _ (names : List ℕ) where
   -- ---- a list of calls, record by record

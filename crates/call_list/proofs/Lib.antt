@@ -1,0 +1,3 @@
+pub mod Answered
+mod Replayed
+pub mod Sound

@@ -114,11 +114,19 @@ module _ (a b : Lease) (ending : Bool) {q : Bool} where
   comes-not p = ap not p
 
 -- ---- insertion
+module _ {b w : TenantLeases} (l : Lease) (e : b ≡ w) where
+  pub pushed-in : b .count < 16 → _≡_ {A = TenantLeases} (record { leases = set (b .leases) (b .count) l; count = b .count + 1 }) (pushed w l)
+  unfolding pushed
+  pushed-in h = pick-lt _ b _ _ 16 h refl ∙ ap (λ (x : TenantLeases). pushed x l) e
+
+  pub pushed-full : 16 ≤ b .count → b ≡ pushed w l
+  unfolding pushed
+  pushed-full h = pick-not-lt _ b _ _ 16 h refl ∙ ap (λ (x : TenantLeases). pushed x l) e
+
 module _ (o : Order) (t : TenantLeases) (l : Lease) {n : ℕ} (k : n ≡ length (inUse t)) where
-  pub inserted-in : {a b c r : TenantLeases} → n < 16 → a ≡ laidOut [] → b ≡ fold (keptIf (λ x. o x l)) a (inUse t) → c ≡ pushed b l
-      → r ≡ fold (keptIf (λ x. not (o x l))) c (inUse t) → r ≡ insertedBy o l t
+  pub inserted-in : {b r : TenantLeases} → n < 16 → b ≡ pushed (fold (keptIf (λ x. o x l)) (laidOut []) (inUse t)) l → r ≡ fold (keptIf (λ x. not (o x l))) b (inUse t) → r ≡ insertedBy o l t
   unfolding insertedBy keptIf
-  inserted-in {a} {b} {c} {r} h ea eb ec er =
+  inserted-in {b} {r} h eb er =
       let short : length (inUse t) < 16 = omega arith in
       let p : r ≡ fold (keptIf (λ x. not (o x l))) (pushed (fold (keptIf (λ x. o x l)) (laidOut []) (inUse t)) l) (inUse t) = cc in
       pick-lt (laidOut (insertIn o l (inUse t))) t r (length (inUse t)) 16 short (p ∙ row-insert 16 laidOut pushed push-laid o l (inUse t) short)

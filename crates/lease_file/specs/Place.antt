@@ -71,9 +71,12 @@ pub record EntriesFit (holds : Bool) (s : List ℕ) (at : ℕ) : Type 0 where
   pub start : at < length s
   pub each : EachAt (StorableAt holds) (afterEntry holds) (getD s at 0) s (at + 1)
 
--- ---- a tenant's records, filled from the front
-abbrev pub keptOf : (holds : Bool) → ℕ → List (Entry holds) → TenantLeases
-keptOf holds t xs = fold (keepBy (entryTenant holds) (λ h x. pushed h (storedEntry holds x)) t) (laidOut []) xs
+-- ---- a tenant's records: those of its holds and behind them those of its leases, filled from the front
+abbrev pub keptFrom : (holds : Bool) → ℕ → TenantLeases → List (Entry holds) → TenantLeases
+keptFrom holds t h xs = fold (keepBy (entryTenant holds) (λ h x. pushed h (storedEntry holds x)) t) h xs
 
-unfoldable pub keptAll : (holds : Bool) → List (Entry holds) → List TenantLeases
-keptAll holds xs = perTenant (λ t. keptOf holds t xs) 1 8
+abbrev pub keptHolds : List (Entry true) → ℕ → TenantLeases
+keptHolds ys t = keptFrom true t (laidOut []) ys
+
+unfoldable pub keptAll : List (Entry false) → List (Entry true) → List TenantLeases
+keptAll xs ys = perTenant (λ t. keptFrom false t (keptHolds ys t) xs) 1 8

@@ -1,5 +1,5 @@
--- Definitions: the octets of the records, as the writer goes over them: tenant by tenant, and of its records those that belong into the section; and the
--- records of two sections put together, as the reader does it.
+-- Definitions: the octets of the records, as the writer goes over them: tenant by tenant, and of its records those that belong into the section; and rows
+-- of records, as the reader fills them.
 use mathlib.Core.Bool.{Bool}
 use mathlib.Core.List.{List, [], _∷_, map}
 use Prim.Native.Nat.{_+_, ℕ}
@@ -9,7 +9,8 @@ use Rattle.lists.specs.Filter.{filterBy}
 use Rattle.lists.specs.Pick.{pick}
 use Rattle.lists.specs.Sums.{sumTo}
 use Rattle.octets.specs.Octets.{octets32}
-use Rattle.state.specs.Book.{Order, inUse, insertedBy, laidOut, noLeases, ordered}
+use Rattle.lists.specs.Arranged.{arranged}
+use Rattle.state.specs.Book.{inUse, laidOut, noLeases, ordered}
 use Rattle.state.specs.declared.Lease.{Lease}
 use Rattle.state.specs.declared.LeaseTable.{LeaseTable}
 use Rattle.state.specs.declared.TenantLeases.{TenantLeases}
@@ -44,20 +45,13 @@ kindCount holds h = length (filterBy (ofKind holds) (inUse h))
 abbrev pub tableTotal : Bool → LeaseTable → ℕ
 tableTotal holds b = sumTo (λ i. kindCount holds (getD (b .tenants) i noLeases)) 8
 
--- ---- reading: a tenant's leases and holds together
--- each of the first list, from the last on, inserted among the records
-unfoldable pub mergedBy : Order → List Lease → TenantLeases → TenantLeases
-mergedBy o [] t = t
-mergedBy o (x ∷ hs) t = insertedBy o x (mergedBy o hs t)
+-- ---- reading
+-- rows and counts as the records of tenants
+unfoldable pub tenantsFrom : List (List Lease) → List ℕ → List TenantLeases
+tenantsFrom [] cs = []
+tenantsFrom (r ∷ rs) [] = []
+tenantsFrom (r ∷ rs) (c ∷ cs) = record { leases = r; count = c } ∷ tenantsFrom rs cs
 
--- holds hs and leases ls
-unfoldable pub mergedIn : List Lease → List Lease → TenantLeases
-mergedIn hs ls = mergedBy ordered hs (mergedBy ordered ls (laidOut []))
-
-unfoldable pub paired : {A : Type 0} → List A → List A → List (A × A)
-paired [] ys = []
-paired (x ∷ xs) [] = []
-paired (x ∷ xs) (y ∷ ys) = (x, y) ∷ paired xs ys
-
-abbrev pub mergedAll : List TenantLeases → List TenantLeases → List TenantLeases
-mergedAll a b = map (λ p. mergedIn (inUse (p .1)) (inUse (p .0))) (paired a b)
+-- each tenant's in the order of records
+abbrev pub byEndingAll : List TenantLeases → List TenantLeases
+byEndingAll ts = map (λ t. laidOut (arranged ordered (inUse t))) ts

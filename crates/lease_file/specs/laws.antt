@@ -3,6 +3,7 @@ pub mod Form
 pub mod Walk
 pub mod Order
 pub mod Merge
+pub mod Arrange
 pub mod Records
 pub mod Limits
 pub mod Load

@@ -23,9 +23,8 @@ use crate::form::wide;
 use crate::limits::all_few;
 use crate::limits::all_fit;
 use crate::limits::tally;
-use crate::order::by_identifier;
+use crate::order::arrange;
 use crate::reader::all_records;
-use crate::reader::merge_all;
 use crate::sizes::rows_size;
 use crate::sizes::total;
 use crate::writer::put_records;
@@ -82,9 +81,7 @@ pub fn load(s: &[u8], leases: usize, holds: usize) -> LeaseTable
     requires { ⌜ EntriesIn false (now s) leases × EntriesIn true (now s) holds × (recordsFitB (entriesIn false (now s) leases) (entriesIn true (now s) holds) ≡ true) ⌝ }
     ensures { λ r. ⌜ r ≡ tableOf (mergedFrom 1 8 (entriesIn false (now (s .entry)) leases) (entriesIn true (now (s .entry)) holds)) ⌝ }
 {
-    let a = all_records(s, leases, false);
-    let b = all_records(s, holds, true);
-    let tenants = merge_all(a, b);
+    let tenants = all_records(s, leases, holds);
     LeaseTable { tenants }
 }
 
@@ -96,7 +93,7 @@ pub fn in_file_order(table: LeaseTable) -> LeaseTable
     let mut h: usize = 0;
     while h < 8 {
         let t = table.tenants[h];
-        let x = by_identifier(t);
+        let x = arrange(t, false);
         now.tenants[h] = x;
         h += 1;
     }

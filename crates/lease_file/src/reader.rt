@@ -5,34 +5,74 @@ ghost use lib.ListN.{drop, length, take};
 ghost use Rattle.address_set.specs.AddressSet.{readOffsets};
 ghost use Rattle.lists.specs.Pick.{pick};
 ghost use Rattle.octets.specs.Octets.{at32};
-ghost use Rattle.state.specs.Book.{inUse};
+ghost use mathlib.Core.Bool.{false, true};
 ghost use Rattle.lease_file.specs.Place.{EntriesFit, StorableAt, entriesIn, entryAt, keptAll, tailOf};
 ghost use Rattle.lease_file.specs.Records.{storedEntry};
-ghost use Rattle.lease_file.specs.Rows.{mergedAll, mergedIn};
+ghost use Rattle.lease_file.specs.Rows.{byEndingAll, tenantsFrom};
 use crate::form::wide;
 use crate::limits::entry_next;
 use crate::limits::tenant_place;
-use crate::order::insert_all;
+use crate::order::arrange;
 use state::Lease;
 use state::TenantLeases;
 
-// The records of the eight tenants among the entries of the section that starts at `at`.
-pub fn all_records(s: &[u8], at: usize, holds: bool) -> [TenantLeases; 8]
-    requires { ⌜ EntriesFit holds (now s) at ⌝ }
-    ensures { λ r. ⌜ r ≡ keptAll holds (entriesIn holds (now (s .entry)) at) ⌝ }
+// The records of the eight tenants, in their order: of each, those of its holds, and behind them those of its leases, are filled in and then arranged.
+// Both loops are here, so that no row is copied for an entry.
+pub fn all_records(s: &[u8], leases: usize, holds: usize) -> [TenantLeases; 8]
+    requires { ⌜ EntriesFit false (now s) leases × EntriesFit true (now s) holds ⌝ }
+    ensures { λ r. ⌜ r ≡ byEndingAll (keptAll (entriesIn false (now (s .entry)) leases) (entriesIn true (now (s .entry)) holds)) ⌝ }
 {
-    let z = state::no_leases();
-    let mut out = [z; 8];
-    let count = wide(s[at]);
-    let mut here = at + 1;
+    let none = state::no_lease();
+    let row = [none; 16];
+    let mut rows = [row; 8];
+    let mut counts = [0usize; 8];
+    let m = wide(s[holds]);
+    let mut at = holds + 1;
+    let mut j: usize = 0;
+    while j < m {
+        let t = tenant_place(s, at, true);
+        let l = record_at(s, at, true);
+        at = entry_next(s, at, true);
+        j += 1;
+        let k = counts[t];
+        if k < 16 {
+            rows[t][k] = l;
+            counts[t] = k + 1;
+        }
+    }
+    let n = wide(s[leases]);
+    let mut here = leases + 1;
     let mut i: usize = 0;
-    while i < count {
-        let t = tenant_place(s, here, holds);
-        let h = out[t];
-        let g = state::push(h, record_at(s, here, holds));
-        out[t] = g;
-        here = entry_next(s, here, holds);
+    while i < n {
+        let t = tenant_place(s, here, false);
+        let l = record_at(s, here, false);
+        here = entry_next(s, here, false);
         i += 1;
+        let k = counts[t];
+        if k < 16 {
+            rows[t][k] = l;
+            counts[t] = k + 1;
+        }
+    }
+    arrange_rows(rows, counts)
+}
+
+// Each tenant's row in the order of records.
+fn arrange_rows(rows: [[Lease; 16]; 8], counts: [usize; 8]) -> [TenantLeases; 8]
+    ensures { λ r. ⌜ r ≡ byEndingAll (tenantsFrom rows counts) ⌝ }
+{
+    let none = state::no_leases();
+    let mut out = [none; 8];
+    let mut h: usize = 0;
+    while h < 8 {
+        let row = rows[h];
+        let t = TenantLeases {
+            leases: row,
+            count: counts[h],
+        };
+        let x = arrange(t, true);
+        out[h] = x;
+        h += 1;
     }
     out
 }
@@ -78,28 +118,4 @@ fn set_at(s: &[u8], at: usize, k: usize) -> u64
 {
     let end = at + k;
     address_set::from_offsets(&s[at..end])
-}
-
-// Each tenant's leases and holds together, in the order of records.
-pub fn merge_all(leases: [TenantLeases; 8], holds: [TenantLeases; 8]) -> [TenantLeases; 8]
-    ensures { λ r. ⌜ r ≡ mergedAll leases holds ⌝ }
-{
-    let mut out = leases;
-    let mut i: usize = 0;
-    while i < 8 {
-        let t = leases[i];
-        let h = holds[i];
-        let g = merge(t, h);
-        out[i] = g;
-        i += 1;
-    }
-    out
-}
-
-fn merge(t: TenantLeases, h: TenantLeases) -> TenantLeases
-    ensures { λ r. ⌜ r ≡ mergedIn (inUse h) (inUse t) ⌝ }
-{
-    let none = state::no_leases();
-    let a = insert_all(none, t, true);
-    insert_all(a, h, true)
 }

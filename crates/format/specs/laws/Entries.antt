@@ -89,26 +89,34 @@ per-get f zero t i d h = absurd (omega arith)
 per-get f (suc n) t zero d h = ap f (let e : t ≡ 0 + t = omega arith in e)
 per-get f (suc n) t (suc i) d h = per-get f n (suc t) i d (omega arith) ∙ ap f (let e : i + suc t ≡ suc i + t = omega arith in e)
 
--- out has of each tenant what the entries before give, and the entries from here on give the rest; P holds of each entry's place
-pub record TenantInv {A B : Type 0} (key : A → ℕ) (P : List ℕ → ℕ → Type 0) (v : List ℕ → ℕ → A) (next : List ℕ → ℕ → ℕ) (g : B → A → B) (z d : B) (s : List ℕ) (from count : ℕ) (out : List B) (here i : ℕ) : Type 0 where
+-- out has of each tenant what the entries before give, from what it had first, and the entries from here on give the rest; P holds of each entry's place
+pub record TenantsInv {A B : Type 0} (key : A → ℕ) (P : List ℕ → ℕ → Type 0) (v : List ℕ → ℕ → A) (next : List ℕ → ℕ → ℕ) (g : B → A → B) (z : ℕ → B) (d : B) (s : List ℕ) (from count : ℕ) (out : List B) (here i : ℕ) : Type 0 where
   pub within : i ≤ count
   pub held : EachAt P next (count - i) s here
   pub long : length out ≡ 8
-  pub each : (k : ℕ) → k < 8 → fold (keepBy key g (k + 1)) (getD out k d) (walk v next (count - i) s here) ≡ fold (keepBy key g (k + 1)) z (walk v next count s from)
+  pub each : (k : ℕ) → k < 8 → fold (keepBy key g (k + 1)) (getD out k d) (walk v next (count - i) s here) ≡ fold (keepBy key g (k + 1)) (z k) (walk v next count s from)
 
-module _ {A B : Type 0} (key : A → ℕ) {P : List ℕ → ℕ → Type 0} (v : List ℕ → ℕ → A) {next : List ℕ → ℕ → ℕ} (g : B → A → B) (z d : B) {s : List ℕ} {from count : ℕ} where
-  pub tenant-start : (y : B) → y ≡ z → EachAt P next count s from → TenantInv key P v next g z d s from count (replicate 8 y) from 0
-  tenant-start y e h =
+-- the same where each has the same first
+abbrev pub TenantInv : {A B : Type 0} → (A → ℕ) → (List ℕ → ℕ → Type 0) → (List ℕ → ℕ → A) → (List ℕ → ℕ → ℕ) → (B → A → B) → B → B → List ℕ → ℕ → ℕ → List B → ℕ → ℕ → Type 0
+TenantInv key P v next g z d s from count out here i = TenantsInv key P v next g (λ k. z) d s from count out here i
+
+module _ {A B : Type 0} (key : A → ℕ) {P : List ℕ → ℕ → Type 0} (v : List ℕ → ℕ → A) {next : List ℕ → ℕ → ℕ} (g : B → A → B) (d : B) {s : List ℕ} {from count : ℕ} where
+  pub tenants-start : (z : ℕ → B) (out : List B) → length out ≡ 8 → ((k : ℕ) → k < 8 → getD out k d ≡ z k) → EachAt P next count s from → TenantsInv key P v next g z d s from count out from 0
+  tenants-start z out l e h =
       let q : count - 0 ≡ count = omega arith in
       record {
         within = omega arith;
         held = subst (λ (k : ℕ). EachAt P next k s from) (sym q) h;
-        long = length-replicate 8 y;
-        each = λ k l. ap₂ (λ (b : B) (j : ℕ). fold (keepBy key g (k + 1)) b (walk v next j s from)) (getD-replicate 8 k y d l ∙ e) q;
+        long = l;
+        each = λ k m. ap₂ (λ (b : B) (j : ℕ). fold (keepBy key g (k + 1)) b (walk v next j s from)) (e k m) q;
       }
 
-module _ {A B : Type 0} {key : A → ℕ} {P : List ℕ → ℕ → Type 0} {v : List ℕ → ℕ → A} {next : List ℕ → ℕ → ℕ} {g : B → A → B} {z d : B} {s : List ℕ} {from count : ℕ} {out : List B} {here i : ℕ}
-    (w : TenantInv key P v next g z d s from count out here i) where
+pub tenant-start : {A B : Type 0} (key : A → ℕ) {P : List ℕ → ℕ → Type 0} (v : List ℕ → ℕ → A) {next : List ℕ → ℕ → ℕ} (g : B → A → B) (z d : B) {s : List ℕ} {from count : ℕ} (y : B) → y ≡ z
+    → EachAt P next count s from → TenantInv key P v next g z d s from count (replicate 8 y) from 0
+tenant-start key v g z d y e h = tenants-start key v g d (λ k. z) (replicate 8 y) (length-replicate 8 y) (λ k l. getD-replicate 8 k y d l ∙ e) h
+
+module _ {A B : Type 0} {key : A → ℕ} {P : List ℕ → ℕ → Type 0} {v : List ℕ → ℕ → A} {next : List ℕ → ℕ → ℕ} {g : B → A → B} {z : ℕ → B} {d : B} {s : List ℕ} {from count : ℕ} {out : List B} {here i : ℕ}
+    (w : TenantsInv key P v next g z d s from count out here i) where
   head : i < count → P s here × EachAt P next (count - (i + 1)) s (next s here)
   unfolding EachAt
   head h = let e : count - i ≡ suc (count - (i + 1)) = omega arith in subst (λ (k : ℕ). EachAt P next k s here) e (w .held)
@@ -117,7 +125,7 @@ module _ {A B : Type 0} {key : A → ℕ} {P : List ℕ → ℕ → Type 0} {v :
   tenant-held h = head h .0
 
   pub tenant-next : (j n : ℕ) (x : B) → (P s here → 1 ≤ key (v s here)) → i < count → j ≡ key (v s here) - 1 → x ≡ g (getD out j d) (v s here) → n ≡ next s here
-      → TenantInv key P v next g z d s from count (set out j x) n (i + 1)
+      → TenantsInv key P v next g z d s from count (set out j x) n (i + 1)
   unfolding walk keepBy pick
   tenant-next j n x low h ej ex en =
       let e : count - i ≡ suc (count - (i + 1)) = omega arith in
@@ -136,12 +144,20 @@ module _ {A B : Type 0} {key : A → ℕ} {P : List ℕ → ℕ → Type 0} {v :
           ap (λ (y : ℕ). getD (set out y x) k d) u ∙ getD-set-same out k x d (omega arith) ∙ ex ∙ ap (λ (y : ℕ). g (getD out y d) (v s here)) u
       one k l false q = getD-set-other out j k x d (λ u. eqb-false (key (v s here)) (k + 1) q (let a = low (head h .0) in let c : key (v s here) ≡ k + 1 = omega arith in c))
 
-  pub tenant-end : (f : ℕ → B) → ((t : ℕ) → fold (keepBy key g t) z (walk v next count s from) ≡ f t) → count ≤ i → out ≡ perTenant f 1 8
+  -- behind the last entry each has its own
+  pub tenants-each : count ≤ i → (k : ℕ) → k < 8 → getD out k d ≡ fold (keepBy key g (k + 1)) (z k) (walk v next count s from)
   unfolding walk
-  tenant-end f q h =
-      let e : count - i ≡ 0 = omega arith in let m = w .long in
+  tenants-each h k l = let e : count - i ≡ 0 = omega arith in sym (ap (λ (j : ℕ). fold (keepBy key g (k + 1)) (getD out k d) (walk v next j s here)) e) ∙ w .each k l
+
+  pub tenants-end : (f : ℕ → B) → ((k : ℕ) → fold (keepBy key g (k + 1)) (z k) (walk v next count s from) ≡ f (k + 1)) → count ≤ i → out ≡ perTenant f 1 8
+  tenants-end f q h =
+      let m = w .long in
       ext-getD d out (perTenant f 1 8) (w .long ∙ sym (per-length f 8 1))
-      (λ k l. sym (ap (λ (j : ℕ). fold (keepBy key g (k + 1)) (getD out k d) (walk v next j s here)) e) ∙ w .each k (omega arith) ∙ q (k + 1) ∙ sym (per-get f 8 1 k d (omega arith)))
+      (λ k l. tenants-each h k (omega arith) ∙ q k ∙ sym (per-get f 8 1 k d (omega arith)))
+
+pub tenant-end : {A B : Type 0} {key : A → ℕ} {P : List ℕ → ℕ → Type 0} {v : List ℕ → ℕ → A} {next : List ℕ → ℕ → ℕ} {g : B → A → B} {z d : B} {s : List ℕ} {from count : ℕ} {out : List B} {here i : ℕ}
+    → TenantInv key P v next g z d s from count out here i → (f : ℕ → B) → ((t : ℕ) → fold (keepBy key g t) z (walk v next count s from) ≡ f t) → count ≤ i → out ≡ perTenant f 1 8
+tenant-end w f q h = tenants-end w f (λ k. q (k + 1)) h
 
 -- ---- how many a tenant has
 abbrev pub one-more : {A : Type 0} → ℕ → A → ℕ
@@ -191,10 +207,10 @@ module _ {A : Type 0} (key : A → ℕ) (most : ℕ) (xs : List A) {n : List ℕ
 
 -- ---- a tenant's records: what is pushed one by one is laid out in the file's order
 module _ {A B R : Type 0} (key : A → ℕ) (put : A → B) (n : ℕ) (laid : List B → R) (push : R → B → R) (pushes : (l : List B) (x : B) → length l < n → push (laid l) x ≡ laid (l ++ x ∷ [])) where
-  abbrev keep : ℕ → R → A → R
+  abbrev pub keep : ℕ → R → A → R
   keep t = keepBy key (λ r x. push r (put x)) t
 
-  keep-fold : (t : ℕ) (xs : List A) (p : List B) → length p + length (own key t xs) ≤ n → fold (keep t) (laid p) xs ≡ laid (p ++ map put (own key t xs))
+  pub keep-fold : (t : ℕ) (xs : List A) (p : List B) → length p + length (own key t xs) ≤ n → fold (keep t) (laid p) xs ≡ laid (p ++ map put (own key t xs))
   unfolding filterBy keepBy pick
   keep-fold t [] p h = ap laid (sym (append-nil p))
   keep-fold t (x ∷ xs) p h = go (eqb (key x) t) h (keep-fold t xs p) (keep-fold t xs (p ++ put x ∷ []))

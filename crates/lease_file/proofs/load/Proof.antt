@@ -8,7 +8,5 @@ pub load-spec : {M : Type 1} → statement M
 load-spec =
     tie.close
     (tie.spec
-    (λ c κs. search (leases-held, holds-held, table-is, needs))  -- src/lib.rt:81:9 all-records-requires
-    (λ c κs. search (leases-held, holds-held, table-is, needs))  -- src/lib.rt:82:9 all-records-requires-2
-    (λ c κs. search needs)  -- src/lib.rt:83:9 merge-all-requires
-    (λ c. search (leases-held, holds-held, table-is, needs)))  -- src/lib.rt:77:1 returns
+    (λ c κs. search (leases-held, holds-held, needs))  -- src/lib.rt:84:9 all-records-requires
+    (λ c. search (table-is, needs)))  -- src/lib.rt:80:1 returns

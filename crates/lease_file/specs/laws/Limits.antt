@@ -10,7 +10,7 @@ use lib.Seq.{length-take-le}
 use borrow.Author.Tests.{le-leb, le-ltb, lt-leb, lt-ltb, ltb-false}
 use Rattle.format.specs.Section.{Inside}
 use Rattle.format.specs.Tenants.{tallyBy}
-use Rattle.format.specs.laws.Entries.{TenantInv, TestInv, count-end, count-small, count-start, one-more, per-get, row-facts, tenant-held, tenant-next, test-end, test-in, test-next, test-not, test-start}
+use Rattle.format.specs.laws.Entries.{TenantsInv, TestInv, count-end, count-small, count-start, one-more, per-get, row-facts, tenant-held, tenant-next, test-end, test-in, test-next, test-not, test-start}
 use Rattle.lists.specs.All.{allBy, allTo}
 use Rattle.lists.specs.Pick.{pick}
 use Rattle.lists.specs.laws.All.{UptoInv, to-same, upto-broken, upto-end, upto-next, upto-start}
@@ -143,12 +143,12 @@ module _ {holds : Bool} {s : List ℕ} {at count here i : ℕ} (v : FitInv holds
 
 pub ruleset entriesFit = (fit-start, fit-inside, fit-broken, fit-next, fit-end)
 
--- ---- a value for each tenant
-pub record EntryInv {B : Type 0} (holds : Bool) (g : B → Entry holds → B) (z d : B) (s : List ℕ) (at count : ℕ) (out : List B) (here i : ℕ) : Type 0 where
+-- ---- a value for each tenant, from what it has first
+pub record EntryInv {B : Type 0} (holds : Bool) (g : B → Entry holds → B) (z : ℕ → B) (d : B) (s : List ℕ) (at count : ℕ) (out : List B) (here i : ℕ) : Type 0 where
   pub many : count ≡ getD s at 0
-  pub inv : TenantInv (entryTenant holds) (StorableAt holds) (entryAt holds) (afterEntry holds) g z d s (at + 1) (getD s at 0) out here i
+  pub inv : TenantsInv (entryTenant holds) (StorableAt holds) (entryAt holds) (afterEntry holds) g z d s (at + 1) (getD s at 0) out here i
 
-module _ {B : Type 0} {holds : Bool} {g : B → Entry holds → B} {z d : B} {s : List ℕ} {at count : ℕ} {out : List B} {here i : ℕ} (v : EntryInv holds g z d s at count out here i) where
+module _ {B : Type 0} {holds : Bool} {g : B → Entry holds → B} {z : ℕ → B} {d : B} {s : List ℕ} {at count : ℕ} {out : List B} {here i : ℕ} (v : EntryInv holds g z d s at count out here i) where
   within : i < count → i < getD s at 0
   within h = let e = v .many in omega arith
 
@@ -168,7 +168,7 @@ pub ruleset tenantLoop = (entry-held, entry-inside)
 
 -- how many each has
 abbrev pub TallyInv : Bool → List ℕ → ℕ → ℕ → List ℕ → ℕ → ℕ → Type 0
-TallyInv holds s at count n here i = EntryInv holds one-more 0 0 s at count n here i
+TallyInv holds s at count n here i = EntryInv holds one-more (λ k. 0) 0 s at count n here i
 
 pub tally-start : {holds : Bool} {s : List ℕ} {at count : ℕ} → EntriesFit holds s at → count ≡ getD s at 0 → TallyInv holds s at count (replicate 8 0) (at + 1) 0
 tally-start v e = record { many = e; inv = count-start (v .each) }

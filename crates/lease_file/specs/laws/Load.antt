@@ -1,36 +1,37 @@
--- Laws: reading the sections into records: an entry into a record, the records tenant by tenant, and the holds among the leases.
+-- Laws: reading the sections into records: an entry into a record, the records tenant by tenant, the holds before the leases, and then arranged.
 use mathlib.Core.Bool.{Bool, false, true}
-use mathlib.Core.List.{List, [], _∷_, _++_, append-nil, map, map-map}
-use mathlib.Core.Path.{_∙_, _≡_, ap, ap₂, refl, sym}
-use Prim.Native.Nat.{_+_, _-_, _<_, _≤_, min, suc, zero, ℕ}
+use mathlib.Core.List.{List, [], _∷_, _++_, map, map-map}
+use mathlib.Core.Path.{_∙_, _≡_, ap, ap₂, refl, subst, sym}
+use Prim.Native.Nat.{_+_, _-_, _<_, _≤_, suc, zero, ℕ}
 use native.Mathlib.Omega.{arith}
-use lib.ListN.{drop, getD, length, length-map, length-take, replicate, set, take}
+use lib.ListN.{drop, getD, getD-replicate, length, length-map, length-replicate, length-set, replicate, set, take}
+use lib.Seq.{set-getD}
 use borrow.Author.Tests.{leb-true}
 use Rattle.address_set.specs.AddressSet.{readOffsets}
-use Rattle.format.specs.Tenants.{apart, own}
-use Rattle.format.specs.laws.Entries.{kept-laid, tenant-end, tenant-start}
+use Rattle.format.specs.Section.{Inside}
+use Rattle.format.specs.Tenants.{apart, own, perTenant}
+use Rattle.format.specs.laws.Entries.{keep-fold, tenants-each, tenants-end, tenants-start}
 use Rattle.lists.specs.All.{allBy, allTo}
 use Rattle.lists.specs.Pick.{pick}
 use Rattle.lists.specs.Row.{laidRow}
 use Rattle.lists.specs.laws.All.{to-each}
 use Rattle.lists.specs.laws.Each.{BuildInv, build-start, each-end, each-next}
-use Rattle.lists.specs.laws.Part.{cut-take, unmapped}
-use Rattle.lists.specs.laws.Pick.{both, pick-lt}
+use Rattle.lists.specs.laws.Part.{unmapped}
+use Rattle.lists.specs.laws.Pick.{both, pick-lt, pick-not-lt}
 use Rattle.octets.specs.Octets.{at32}
 use Rattle.octets.specs.laws.Run.{part-length}
-use Rattle.lists.specs.Arranged.{arranged, insertIn}
-use Rattle.state.specs.Book.{Order, byIdentifier, inUse, insertedBy, laidOut, lapsingAt, leaseWith, noLeases, orderFor, ordered, pushed, tableOf}
+use Rattle.lists.specs.Arranged.{arranged}
+use Rattle.state.specs.Book.{byIdentifier, inUse, laidOut, lapsingAt, leaseWith, noLeases, orderFor, ordered, pushed, tableOf, zeroLease}
 use Rattle.state.specs.declared.Lease.{Lease}
 use Rattle.state.specs.declared.LeaseTable.{LeaseTable}
 use Rattle.state.specs.declared.TenantLeases.{TenantLeases}
-use Rattle.state.specs.laws.Layout.{noLease, push-laid, read-back}
-use Rattle.lease_file.specs.Place.{EntriesFit, EntriesIn, StorableAt, afterEntry, afterLease, entriesIn, entryAt, fileLeaseAt, keptAll, tailOf}
+use Rattle.state.specs.laws.Layout.{push-laid, read-back}
+use Rattle.lease_file.specs.Place.{EntriesFit, EntriesIn, StorableAt, afterEntry, afterLease, entriesIn, entryAt, fileLeaseAt, keptAll, keptFrom, keptHolds, tailOf}
 use Rattle.lease_file.specs.Records.{entryFitB, fewOf, holdTenant, inFileOrder, leaseTenant, mergedFrom, recordsFitB, stored, storedEntry, storedHold}
-use Rattle.lease_file.specs.Rows.{mergedAll, mergedBy, mergedIn, paired}
+use Rattle.lease_file.specs.Rows.{byEndingAll, tenantsFrom}
 use Rattle.lease_file.specs.Section.{Entry, FileHold, FileLease, entryTenant, leaseIn}
 use Rattle.lease_file.specs.laws.Form.{next-at}
-use Rattle.lease_file.specs.laws.Limits.{EntryInv, entries-fit, entry-turn, tenantLoop}
-use Rattle.lease_file.specs.laws.Merge.{merged-length}
+use Rattle.lease_file.specs.laws.Limits.{EntryInv, entries-fit, entry-held, entry-inside, entry-turn}
 
 -- ---- one entry
 stored-entry : (holds : Bool) (s : List ℕ) (at : ℕ) → lapsingAt (pick holds (at32 s (afterLease s at)) 0) (stored (fileLeaseAt s at)) ≡ storedEntry holds (entryAt holds s at)
@@ -68,126 +69,157 @@ module _ {holds : Bool} {s : List ℕ} {at n k : ℕ} (en : n ≡ getD s (at + 2
 pub set-part : (s : List ℕ) (at k r : ℕ) → r ≡ readOffsets (take (at + k - at) (drop at s)) → r ≡ readOffsets (take k (drop at s))
 set-part s at k r e = e ∙ ap (λ (n : ℕ). readOffsets (take n (drop at s))) (let q : at + k - at ≡ k = omega arith in q)
 
+-- ---- rows and counts as the records of tenants
+from-length : (rs : List (List Lease)) (cs : List ℕ) → length rs ≡ length cs → length (tenantsFrom rs cs) ≡ length rs
+unfolding tenantsFrom
+from-length [] cs e = refl
+from-length (r ∷ rs) [] e = absurd (omega arith)
+from-length (r ∷ rs) (c ∷ cs) e = ap suc (from-length rs cs (let q : length rs ≡ length cs = omega arith in q))
+
+from-get : (rs : List (List Lease)) (cs : List ℕ) (i : ℕ) → length rs ≡ length cs → getD (tenantsFrom rs cs) i noLeases ≡ record { leases = getD rs i []; count = getD cs i 0 }
+unfolding tenantsFrom
+from-get [] [] i e = refl
+from-get [] (c ∷ cs) i e = absurd (omega arith)
+from-get (r ∷ rs) [] i e = absurd (omega arith)
+from-get (r ∷ rs) (c ∷ cs) zero e = refl
+from-get (r ∷ rs) (c ∷ cs) (suc i) e = from-get rs cs i (let q : length rs ≡ length cs = omega arith in q)
+
+from-set : (rs : List (List Lease)) (cs : List ℕ) (i : ℕ) (r : List Lease) (c : ℕ) → length rs ≡ length cs → tenantsFrom (set rs i r) (set cs i c) ≡ set (tenantsFrom rs cs) i (record { leases = r; count = c })
+unfolding tenantsFrom
+from-set [] [] i r c e = refl
+from-set [] (d ∷ cs) i r c e = absurd (omega arith)
+from-set (x ∷ rs) [] i r c e = absurd (omega arith)
+from-set (x ∷ rs) (d ∷ cs) zero r c e = refl
+from-set (x ∷ rs) (d ∷ cs) (suc i) r c e =
+    ap {B = List TenantLeases} (λ (l : List TenantLeases). record { leases = x; count = d } ∷ l) (from-set rs cs i r c (let q : length rs ≡ length cs = omega arith in q))
+
+-- those of none
+from-none : (n : ℕ) (r : List Lease) → r ≡ replicate 16 zeroLease → tenantsFrom (replicate n r) (replicate n 0) ≡ replicate n (laidOut [])
+unfolding tenantsFrom laidOut
+from-none zero r e = refl
+from-none (suc n) r e = ap₂ {C = List TenantLeases} (λ (x : List Lease) (l : List TenantLeases). record { leases = x; count = 0 } ∷ l) e (from-none n r e)
+
 -- ---- a section's entries, tenant by tenant
 abbrev pub pushOne : (holds : Bool) → TenantLeases → Entry holds → TenantLeases
 pushOne holds h x = pushed h (storedEntry holds x)
 
-abbrev pub FillInv : Bool → List ℕ → ℕ → ℕ → List TenantLeases → ℕ → ℕ → Type 0
-FillInv holds s at count out here i = EntryInv holds (pushOne holds) (laidOut []) noLeases s at count out here i
+-- what each tenant has first: of the holds, whose section starts at bt, nothing, and of the leases its holds
+unfoldable pub firstOf : Bool → List ℕ → ℕ → ℕ → TenantLeases
+firstOf true s bt k = laidOut []
+firstOf false s bt k = keptHolds (entriesIn true s bt) (k + 1)
 
-pub fill-start : {holds : Bool} {s : List ℕ} {at count : ℕ} (z : TenantLeases) → z ≡ laidOut [] → EntriesFit holds s at → count ≡ getD s at 0 → FillInv holds s at count (replicate 8 z) (at + 1) 0
-fill-start {holds} z e h q = record { many = q; inv = tenant-start (entryTenant holds) (entryAt holds) (pushOne holds) (laidOut []) noLeases z e (h .each) }
+pub record FillInv (holds : Bool) (s : List ℕ) (bt at count : ℕ) (rows : List (List Lease)) (counts : List ℕ) (here i : ℕ) : Type 0 where
+  pub even : length rows ≡ 8
+  pub many : length counts ≡ 8
+  pub inv : EntryInv holds (pushOne holds) (firstOf holds s bt) noLeases s at count (tenantsFrom rows counts) here i
 
-module _ {holds : Bool} {s : List ℕ} {at count : ℕ} {out : List TenantLeases} {here i : ℕ} (v : FillInv holds s at count out here i) where
-  pub fill-next : (j k : ℕ) (l : Lease) (r : TenantLeases) → i < count → j ≡ getD s here 0 - 1 → l ≡ storedEntry holds (entryAt holds s here) → r ≡ pushed (getD out j noLeases) l → k ≡ afterEntry holds s here
-      → FillInv holds s at count (set out j r) k (i + 1)
-  fill-next j k l r h e p q w = entry-turn v j k r h e (q ∙ ap (pushed (getD out j noLeases)) p) w
+pub fill-start : {s : List ℕ} {at count : ℕ} (l : Lease) → l ≡ zeroLease → EntriesFit true s at → count ≡ getD s at 0
+    → FillInv true s at at count (replicate 8 (replicate 16 l)) (replicate 8 0) (at + 1) 0
+unfolding firstOf
+fill-start {s} {at} {count} l e h q =
+    let none : tenantsFrom (replicate 8 (replicate 16 l)) (replicate 8 0) ≡ replicate 8 (laidOut []) = from-none 8 (replicate 16 l) (ap (replicate 16) e) in
+    record {
+      even = length-replicate 8 (replicate 16 l);
+      many = length-replicate {A = ℕ} 8 0;
+      inv = record {
+        many = q;
+        inv = tenants-start (entryTenant true) (entryAt true) (pushOne true) noLeases (firstOf true s at) (tenantsFrom (replicate 8 (replicate 16 l)) (replicate 8 0)) (ap length none ∙ length-replicate 8 (laidOut []))
+            (λ k m. ap (λ (x : List TenantLeases). getD x k noLeases) none ∙ getD-replicate 8 k (laidOut []) noLeases m) (h .each);
+      };
+    }
 
-  pub fill-end : count ≤ i → out ≡ keptAll holds (entriesIn holds s at)
-  unfolding keptAll
-  fill-end h = tenant-end (v .inv) _ (λ t. refl) (let e = v .many in omega arith)
+module _ {holds : Bool} {s : List ℕ} {bt at count : ℕ} {rows : List (List Lease)} {counts : List ℕ} {here i : ℕ} (v : FillInv holds s bt at count rows counts here i) where
+  pub fill-held : i < count → StorableAt holds s here
+  fill-held h = entry-held (v .inv) h
 
-pub ruleset fills = (fill-start, fill-next, fill-end, tenantLoop)
+  pub fill-inside : i < count → Inside (afterEntry holds) s here
+  fill-inside h = entry-inside (v .inv) h
 
--- ---- records inserted among others: the loop, from the last on
--- the last of the first i
-merged-last : (o : Order) (hs : List Lease) (d : Lease) (t : TenantLeases) (i : ℕ) → i < length hs → mergedBy o (take (suc i) hs) t ≡ mergedBy o (take i hs) (insertedBy o (getD hs i d) t)
-unfolding mergedBy
-merged-last o [] d t i h = absurd (omega arith)
-merged-last o (x ∷ hs) d t zero h = refl
-merged-last o (x ∷ hs) d t (suc i) h = ap (insertedBy o x) (merged-last o hs d t i (omega arith))
+  same : length rows ≡ length counts
+  same = v .even ∙ sym (v .many)
 
-pub record MergeInv (o : Order) (t h now : TenantLeases) (i : ℕ) : Type 0 where
-  pub long : length (h .leases) ≡ 16
-  pub within : i ≤ 16
-  pub whole : mergedBy o (take i (h .leases)) now ≡ mergedBy o (inUse h) t
+  tenant : (j : ℕ) → getD (tenantsFrom rows counts) j noLeases ≡ record { leases = getD rows j []; count = getD counts j 0 }
+  tenant j = from-get rows counts j same
 
-pub merge-start : {o : Order} {t h : TenantLeases} {n : ℕ} → length (h .leases) ≡ 16 → n ≡ min (h .count) 16 → MergeInv o t h t n
-merge-start {o} {t} {h} e p = record { long = e; within = omega arith; whole = ap (λ (l : List Lease). mergedBy o l t) (ap (λ (k : ℕ). take k (h .leases)) p ∙ cut-take 16 (h .count) (h .leases) e) }
+  turned : (j k : ℕ) (l : Lease) (x : TenantLeases) → i < count → j ≡ getD s here 0 - 1 → l ≡ storedEntry holds (entryAt holds s here) → k ≡ afterEntry holds s here → x ≡ pushed (getD (tenantsFrom rows counts) j noLeases) l
+      → EntryInv holds (pushOne holds) (firstOf holds s bt) noLeases s at count (set (tenantsFrom rows counts) j x) k (i + 1)
+  turned j k l x h e p q w = entry-turn (v .inv) j k x h e (w ∙ ap (pushed (getD (tenantsFrom rows counts) j noLeases)) p) q
 
-module _ {o : Order} {t h now : TenantLeases} {i : ℕ} (v : MergeInv o t h now i) where
-  pub merge-next : (r : TenantLeases) → 0 < i → r ≡ insertedBy o (getD (h .leases) (i - 1) noLease) now → MergeInv o t h r (i - 1)
-  merge-next r g e = record {
-    long = v .long;
-    within = let w = v .within in omega arith;
-    whole = ap (mergedBy o (take (i - 1) (h .leases))) e ∙ sym (merged-last o (h .leases) noLease now (i - 1) (let w = v .within in let l = v .long in omega arith))
-        ∙ ap (λ (k : ℕ). mergedBy o (take k (h .leases)) now) (let q : suc (i - 1) ≡ i = omega arith in q) ∙ v .whole;
+  pub fill-next : (j k : ℕ) (l : Lease) → i < count → j ≡ getD s here 0 - 1 → l ≡ storedEntry holds (entryAt holds s here) → k ≡ afterEntry holds s here → getD counts j 0 < 16
+      → FillInv holds s bt at count (set rows j (set (getD rows j []) (getD counts j 0) l)) (set counts j (getD counts j 0 + 1)) k (i + 1)
+  unfolding pushed
+  fill-next j k l h e p q m = record {
+    even = length-set rows j (set (getD rows j []) (getD counts j 0) l) ∙ v .even;
+    many = length-set counts j (getD counts j 0 + 1) ∙ v .many;
+    inv = subst (λ (x : List TenantLeases). EntryInv holds (pushOne holds) (firstOf holds s bt) noLeases s at count x k (i + 1))
+        (sym (from-set rows counts j (set (getD rows j []) (getD counts j 0) l) (getD counts j 0 + 1) same))
+        (turned j k l (record { leases = set (getD rows j []) (getD counts j 0) l; count = getD counts j 0 + 1 }) h e p q
+        (pick-lt _ (record { leases = getD rows j []; count = getD counts j 0 }) _ (getD counts j 0) 16 m refl ∙ ap (λ (x : TenantLeases). pushed x l) (sym (tenant j))));
   }
 
-  pub merge-end : i ≤ 0 → now ≡ mergedBy o (inUse h) t
-  unfolding mergedBy
-  merge-end g = sym (ap (λ (k : ℕ). mergedBy o (take k (h .leases)) now) (let q : i ≡ 0 = omega arith in q)) ∙ v .whole
+  pub fill-full : (j k : ℕ) (l : Lease) → i < count → j ≡ getD s here 0 - 1 → l ≡ storedEntry holds (entryAt holds s here) → k ≡ afterEntry holds s here → 16 ≤ getD counts j 0
+      → FillInv holds s bt at count rows counts k (i + 1)
+  unfolding pushed
+  fill-full j k l h e p q m = record {
+    even = v .even;
+    many = v .many;
+    inv = subst (λ (x : List TenantLeases). EntryInv holds (pushOne holds) (firstOf holds s bt) noLeases s at count x k (i + 1)) (set-getD (tenantsFrom rows counts) j noLeases)
+        (turned j k l (getD (tenantsFrom rows counts) j noLeases) h e p q
+        (tenant j ∙ pick-not-lt _ (record { leases = getD rows j []; count = getD counts j 0 }) _ (getD counts j 0) 16 m refl ∙ ap (λ (x : TenantLeases). pushed x l) (sym (tenant j))));
+  }
 
-pub ruleset merges = (merge-start, merge-next, merge-end, unmapped)
+-- the leases behind the holds
+pub fill-on : {s : List ℕ} {at bt count many : ℕ} {rows : List (List Lease)} {counts : List ℕ} {here i : ℕ} → FillInv true s bt bt many rows counts here i → many ≤ i → EntriesFit false s at → count ≡ getD s at 0
+    → FillInv false s bt at count rows counts (at + 1) 0
+unfolding firstOf
+fill-on {s} {at} {bt} {count} {many} {rows} {counts} v m h q = record {
+  even = v .even;
+  many = v .many;
+  inv = record {
+    many = q;
+    inv = tenants-start (entryTenant false) (entryAt false) (pushOne false) noLeases (firstOf false s bt) (tenantsFrom rows counts)
+        (from-length rows counts (v .even ∙ sym (v .many)) ∙ v .even) (λ k l. tenants-each (v .inv .inv) (let e = v .inv .many in omega arith) k l) (h .each);
+  };
+}
 
--- as lists: among records that are arranged
-merged-laid : (o : Order) (hs ls : List Lease) → length hs + length ls ≤ 16 → mergedBy o hs (laidOut (arranged o ls)) ≡ laidOut (arranged o (hs ++ ls))
-unfolding mergedBy arranged insertedBy
-merged-laid o [] ls h = refl
-merged-laid o (x ∷ hs) ls h =
-    let w : length (inUse (laidOut (arranged o (hs ++ ls)))) < 16 = (let a = ap length (read-back (arranged o (hs ++ ls))) in let b = merged-length o hs ls in omega arith) in
-    ap (insertedBy o x) (merged-laid o hs ls (omega arith))
-    ∙ sym (pick-lt (laidOut (insertIn o x (inUse (laidOut (arranged o (hs ++ ls)))))) (laidOut (arranged o (hs ++ ls))) (laidOut (insertIn o x (arranged o (hs ++ ls)))) _ 16 w
-    (ap (λ (l : List Lease). laidOut (insertIn o x l)) (sym (read-back (arranged o (hs ++ ls))))))
+pub fill-end : {s : List ℕ} {at bt count : ℕ} {rows : List (List Lease)} {counts : List ℕ} {here i : ℕ} → FillInv false s bt at count rows counts here i → count ≤ i
+    → {r : List TenantLeases} → r ≡ byEndingAll (tenantsFrom rows counts) → r ≡ byEndingAll (keptAll (entriesIn false s at) (entriesIn true s bt))
+unfolding keptAll firstOf
+fill-end {s} {at} {bt} v h p = p ∙ ap byEndingAll (tenants-end (v .inv .inv) (λ t. keptFrom false t (keptHolds (entriesIn true s bt) t) (entriesIn false s at)) (λ k. refl) (let e = v .inv .many in omega arith))
 
--- among none
-merged-none : (o : Order) (l : List Lease) → length l ≤ 16 → mergedBy o l (laidOut []) ≡ laidOut (arranged o l)
-unfolding arranged
-merged-none o l h = merged-laid o l [] (omega arith) ∙ ap (λ (x : List Lease). laidOut (arranged o x)) (append-nil l)
+pub ruleset fills = (fill-start, fill-next, fill-full, fill-held, fill-inside, fill-on, fill-end)
 
-pub merged-is : (t h : TenantLeases) {z a r : TenantLeases} → z ≡ laidOut [] → a ≡ mergedBy (orderFor true) (inUse t) z → r ≡ mergedBy (orderFor true) (inUse h) a → r ≡ mergedIn (inUse h) (inUse t)
-unfolding mergedIn orderFor
-merged-is t h ez ea er = er ∙ ap (mergedBy ordered (inUse h)) (ea ∙ ap (mergedBy ordered (inUse t)) ez)
+-- ---- the rows of each tenant arranged
+pub record RowsInv (rows : List (List Lease)) (counts : List ℕ) (e out : List TenantLeases) (h : ℕ) : Type 0 where
+  pub even : length rows ≡ length counts
+  pub inv : BuildInv (λ t. laidOut (arranged ordered (inUse t))) noLeases (tenantsFrom rows counts) e 8 out h
 
-pub named-is : (t : TenantLeases) {z r : TenantLeases} → length (t .leases) ≡ 16 → z ≡ laidOut [] → r ≡ mergedBy (orderFor false) (inUse t) z → r ≡ laidOut (arranged byIdentifier (inUse t))
-unfolding orderFor
-named-is t e ez er =
-    er ∙ ap (mergedBy byIdentifier (inUse t)) ez ∙ merged-none byIdentifier (inUse t) (let a = length-take (t .count) (t .leases) in omega arith)
+pub rows-start : {rows : List (List Lease)} {counts : List ℕ} {e : List TenantLeases} → length rows ≡ 8 → length counts ≡ 8 → length e ≡ 8 → RowsInv rows counts e e 0
+rows-start {rows} {counts} p q r = record { even = p ∙ sym q; inv = build-start (from-length rows counts (p ∙ sym q) ∙ p) r }
+
+module _ {rows : List (List Lease)} {counts : List ℕ} {e out : List TenantLeases} {h : ℕ} (v : RowsInv rows counts e out h) where
+  pub rows-next : (x : TenantLeases) → h < 8 → x ≡ laidOut (arranged (orderFor true) (inUse (record { leases = getD rows h []; count = getD counts h 0 }))) → RowsInv rows counts e (set out h x) (h + 1)
+  unfolding orderFor
+  rows-next x g p = record { even = v .even; inv = each-next (v .inv) g (p ∙ sym (ap (λ (t : TenantLeases). laidOut (arranged ordered (inUse t))) (from-get rows counts h (v .even)))) }
+
+  pub rows-end : 8 ≤ h → out ≡ byEndingAll (tenantsFrom rows counts)
+  rows-end g = each-end (v .inv) g
+
+pub ruleset rowsArranged = (rows-start, rows-next, rows-end, unmapped)
 
 -- all tenants' in the order of the file
-pub filed-order : (b now : LeaseTable) → now .tenants ≡ map (λ t. laidOut (arranged byIdentifier (inUse t))) (b .tenants) → now ≡ inFileOrder b
-unfolding inFileOrder tableOf
+pub filed-order : (b now : LeaseTable) → now .tenants ≡ map (λ t. laidOut (arranged (orderFor false) (inUse t))) (b .tenants) → now ≡ inFileOrder b
+unfolding inFileOrder tableOf orderFor
 filed-order b now e =
     ap {B = LeaseTable} (λ (l : List TenantLeases). record { tenants = l })
     (e ∙ sym (ap (map laidOut) (map-map (arranged byIdentifier) inUse (b .tenants)) ∙ map-map laidOut (λ t. arranged byIdentifier (inUse t)) (b .tenants)))
 
--- ---- of each tenant
-paired-length : {A : Type 0} (n : ℕ) (a b : List A) → length a ≡ n → length b ≡ n → length (paired a b) ≡ n
-unfolding paired
-paired-length n [] b p q = p
-paired-length zero (x ∷ a) b p q = absurd (omega arith)
-paired-length (suc n) (x ∷ a) [] p q = absurd (omega arith)
-paired-length (suc n) (x ∷ a) (y ∷ b) p q = ap suc (paired-length n a b (let e : length a ≡ n = omega arith in e) (let e : length b ≡ n = omega arith in e))
-
-paired-get : {A : Type 0} (d : A) (i : ℕ) (a b : List A) → i < length a → length a ≡ length b → getD (paired a b) i (d, d) ≡ (getD a i d, getD b i d)
-unfolding paired
-paired-get d i [] b h e = absurd (omega arith)
-paired-get d i (x ∷ a) [] h e = absurd (omega arith)
-paired-get d zero (x ∷ a) (y ∷ b) h e = refl
-paired-get d (suc i) (x ∷ a) (y ∷ b) h e = paired-get d i a b (omega arith) (let q : length a ≡ length b = omega arith in q)
-
-pub record MergeAllInv (leases holds now : List TenantLeases) (i : ℕ) : Type 0 where
-  pub long : length leases ≡ 8
-  pub many : length holds ≡ 8
-  pub inv : BuildInv (λ p. mergedIn (inUse (p .1)) (inUse (p .0))) (noLeases, noLeases) (paired leases holds) leases 8 now i
-
-pub merges-start : {leases holds : List TenantLeases} → length leases ≡ 8 → length holds ≡ 8 → MergeAllInv leases holds leases 0
-merges-start {leases} {holds} p q = record { long = p; many = q; inv = build-start (paired-length 8 leases holds p q) p }
-
-module _ {leases holds now : List TenantLeases} {i : ℕ} (v : MergeAllInv leases holds now i) where
-  pub merges-next : (x : TenantLeases) → i < 8 → x ≡ mergedIn (inUse (getD holds i noLeases)) (inUse (getD leases i noLeases)) → MergeAllInv leases holds (set now i x) (i + 1)
-  merges-next x h e = record {
-    long = v .long;
-    many = v .many;
-    inv = each-next (v .inv) h (e ∙ sym (ap (λ (p : TenantLeases × TenantLeases). mergedIn (inUse (p .1)) (inUse (p .0))) (paired-get noLeases i leases holds (let l = v .long in omega arith) (v .long ∙ sym (v .many)))));
-  }
-
-  pub merges-end : 8 ≤ i → now ≡ mergedAll leases holds
-  merges-end h = each-end (v .inv) h
-
-pub ruleset tenantMerges = (merges-start, merges-next, merges-end, unmapped)
-
 -- as lists
+unfoldable pub paired : {A : Type 0} → List A → List A → List (A × A)
+paired [] ys = []
+paired (x ∷ xs) [] = []
+paired (x ∷ xs) (y ∷ ys) = (x, y) ∷ paired xs ys
+
 abbrev pub insertEach : List (List Lease) → List (List Lease) → List (List Lease)
 insertEach ls hs = map (λ p. arranged ordered (p .1 ++ p .0)) (paired ls hs)
 
@@ -196,24 +228,23 @@ unfolding mergedFrom apart paired
 merged-pairs zero t xs ys = refl
 merged-pairs (suc n) t xs ys = ap {B = List (List Lease)} (λ (l : List (List Lease)). arranged ordered (map storedHold (own holdTenant t ys) ++ map stored (own leaseTenant t xs)) ∷ l) (merged-pairs n (suc t) xs ys)
 
-laid-pairs : (n t : ℕ) (xs : List FileLease) (ys : List FileHold) → ((i : ℕ) → i < n → length (own leaseTenant (i + t) xs) + length (own holdTenant (i + t) ys) ≤ 16)
-    → mergedAll (map laidOut (map (map stored) (apart leaseTenant t n xs))) (map laidOut (map (map storedHold) (apart holdTenant t n ys))) ≡ map laidOut (mergedFrom t n xs ys)
-unfolding mergedFrom mergedIn apart paired
-laid-pairs zero t xs ys h = refl
-laid-pairs (suc n) t xs ys h =
-    let L : List Lease = map stored (own leaseTenant t xs) in
-    let H : List Lease = map storedHold (own holdTenant t ys) in
+-- what the entries of each tenant fill, arranged
+kept-merged : (n t : ℕ) (xs : List FileLease) (ys : List FileHold) → ((i : ℕ) → i < n → length (own leaseTenant (i + t) xs) + length (own holdTenant (i + t) ys) ≤ 16)
+    → byEndingAll (perTenant (λ t. keptFrom false t (keptHolds ys t) xs) t n) ≡ map laidOut (mergedFrom t n xs ys)
+unfolding mergedFrom perTenant storedEntry leaseIn
+kept-merged zero t xs ys h = refl
+kept-merged (suc n) t xs ys h =
     let g = h 0 (omega arith) in
     let q : 0 + t ≡ t = omega arith in
     let a = ap (λ (k : ℕ). length (own leaseTenant k xs)) q in
     let b = ap (λ (k : ℕ). length (own holdTenant k ys)) q in
-    let c = length-map (own leaseTenant t xs) stored in
     let d = length-map (own holdTenant t ys) storedHold in
     ap₂ {C = List TenantLeases} (λ (x : TenantLeases) (l : List TenantLeases). x ∷ l)
-    (ap₂ (λ (x y : List Lease). mergedBy ordered x (mergedBy ordered y (laidOut []))) (read-back (map storedHold (own holdTenant t ys))) (read-back (map stored (own leaseTenant t xs)))
-    ∙ ap (mergedBy ordered (map storedHold (own holdTenant t ys))) (merged-none ordered (map stored (own leaseTenant t xs)) (omega arith))
-    ∙ merged-laid ordered (map storedHold (own holdTenant t ys)) (map stored (own leaseTenant t xs)) (omega arith))
-    (laid-pairs n (suc t) xs ys (λ i k.
+    (ap (λ (x : TenantLeases). laidOut (arranged ordered (inUse x)))
+    (ap (λ (x : TenantLeases). keptFrom false t x xs) (keep-fold holdTenant storedHold 16 laidOut pushed push-laid t ys [] (omega arith))
+    ∙ keep-fold leaseTenant stored 16 laidOut pushed push-laid t xs (map storedHold (own holdTenant t ys)) (omega arith))
+    ∙ ap (λ (l : List Lease). laidOut (arranged ordered l)) (read-back (map storedHold (own holdTenant t ys) ++ map stored (own leaseTenant t xs))))
+    (kept-merged n (suc t) xs ys (λ i k.
     let e : suc i + t ≡ i + suc t = omega arith in
     let u = ap (λ (k : ℕ). length (own leaseTenant k xs)) e in
     let w = ap (λ (k : ℕ). length (own holdTenant k ys)) e in
@@ -229,14 +260,9 @@ module _ (xs : List FileLease) (ys : List FileHold) (e : recordsFitB xs ys ≡ t
   unfolding fewOf
   few-each i h = leb-true _ 16 (to-each (λ i. fewOf xs ys (i + 1)) 8 (fits-parts .2) i h)
 
-  pub table-is : (a b ts : List TenantLeases) → a ≡ keptAll false xs → b ≡ keptAll true ys → ts ≡ mergedAll a b → _≡_ {A = LeaseTable} (record { tenants = ts }) (tableOf (mergedFrom 1 8 xs ys))
-  unfolding tableOf keptAll storedEntry leaseIn
-  table-is a b ts ea eb et =
-      ap {B = LeaseTable} (λ (l : List TenantLeases). record { tenants = l })
-      (et ∙ ap₂ mergedAll
-      (ea ∙ kept-laid leaseTenant stored 16 laidOut pushed push-laid 8 1 xs (λ i h. let f = few-each i h in omega arith))
-      (eb ∙ kept-laid holdTenant storedHold 16 laidOut pushed push-laid 8 1 ys (λ i h. let f = few-each i h in omega arith))
-      ∙ laid-pairs 8 1 xs ys few-each)
+  pub table-is : (ts : List TenantLeases) → ts ≡ byEndingAll (keptAll xs ys) → _≡_ {A = LeaseTable} (record { tenants = ts }) (tableOf (mergedFrom 1 8 xs ys))
+  unfolding tableOf keptAll
+  table-is ts et = ap {B = LeaseTable} (λ (l : List TenantLeases). record { tenants = l }) (et ∙ kept-merged 8 1 xs ys few-each)
 
 module _ (s : List ℕ) (at bt : ℕ) (v : EntriesIn false s at) (w : EntriesIn true s bt) (e : recordsFitB (entriesIn false s at) (entriesIn true s bt) ≡ true) where
   pub leases-held : EntriesFit false s at

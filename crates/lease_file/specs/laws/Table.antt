@@ -28,13 +28,13 @@ use Rattle.state.specs.declared.LeaseTable.{LeaseTable}
 use Rattle.state.specs.declared.TenantLeases.{TenantLeases}
 use Rattle.state.specs.laws.Layout.{table-back}
 use Rattle.lease_file.specs.Records.{entryFitB, fewOf, filedEntry, filedHold, filedHolds, filedIn, filedLease, filedLeases, holdFitB, holdTenant, inFileOrder, leaseFitB, leaseTenant, mergedFrom, ofKind, recordsFitB, storableB, stored, storedEntry, storedHold, tableOctets}
-use Rattle.lease_file.specs.Rows.{lapseOctets, paired}
+use Rattle.lease_file.specs.Rows.{lapseOctets}
+use Rattle.lease_file.specs.laws.Rows.{entry-long, lease-size}
 use Rattle.lease_file.specs.Section.{Entry, FileHold, FileLease, entriesFormat, entryAfter, entryFormat, entryKey, entryTenant, holdsFormat, isAfter, leaseFormat, leaseIn, leasesFormat}
-use Rattle.lease_file.specs.laws.Load.{fits-parts, insertEach, merged-pairs}
+use Rattle.lease_file.specs.laws.Load.{fits-parts, insertEach, merged-pairs, paired}
 use Rattle.lease_file.specs.laws.Merge.{differ-back, differ-front, arranged-differ, merged-holds, merged-leases, merged-split, named-apart, risen, rises}
 use Rattle.lease_file.specs.laws.Order.{notFirst, order-sorted, own-rises}
 use Rattle.lease_file.specs.laws.Records.{Neat, Storable, all-offsets, entry-again, entry-back, entry-id, entry-kind, entry-storable}
-use Rattle.lease_file.specs.laws.Rows.{entry-long, lease-size}
 
 -- ---- read and written again
 -- of either section: its entries are filed again, and each tenant's records rise and belong into it

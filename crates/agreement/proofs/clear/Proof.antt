@@ -22,13 +22,13 @@ clear-spec =
     (tie.spec
     Inv-loop
     μ-loop
-    (λ c κs. search (parts, clear-start, needs))  -- src/lib.rt:49:25 cut16-requires
-    (λ c κs. search (parts, clear-start, needs))  -- src/lib.rt:49:9 fewer-requires
+    (λ c κs. search (parts, needs))  -- src/lib.rt:49:25 cut16-requires
+    (λ c κs. search (parts, needs))  -- src/lib.rt:49:9 fewer-requires
     (λ c. search (parts, clear-start, needs))  -- src/lib.rt:51:5 loop-holds
     (λ c. search (parts, clear-start, needs))  -- src/lib.rt:52:17 mul-l
     (λ c. search (parts, clear-start, needs))  -- src/lib.rt:52:17 element-copy-out-l
     (λ c. search (parts, clear-start, needs))  -- src/lib.rt:53:9 add-i
-    (λ c κs. search (parts, clear-start, needs))  -- src/lib.rt:54:9 take-requires
+    (λ c κs. search (parts, needs))  -- src/lib.rt:54:9 take-requires
     (λ c. search (parts, clear-start, needs))  -- src/lib.rt:51:5 loop-less
-    (λ c. search (parts, clear-start, needs))  -- src/lib.rt:51:5 loop-again
-    (λ c. search (parts, clear-start, needs)))  -- src/lib.rt:45:1 returns
+    (λ c. search (parts, needs))  -- src/lib.rt:51:5 loop-again
+    (λ c. search (parts, needs)))  -- src/lib.rt:45:1 returns

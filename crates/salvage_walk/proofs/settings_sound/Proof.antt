@@ -11,8 +11,8 @@ settings-sound-spec =
     (λ c. search needs)  -- src/lib.rt:88:31 shared-slice-read-counts-fit
     (λ c. search needs)  -- src/lib.rt:88:40 shared-slice-read-counts-fit-2
     (λ c κs. search needs)  -- src/lib.rt:88:8 counts-fit-requires
-    (λ c κs. search (settings-here, settings-many, settings-judged, needs))  -- src/lib.rt:89:13 state-at-requires
+    (λ c κs. search (settings-here, needs))  -- src/lib.rt:89:13 state-at-requires
     (λ c κs. search needs)  -- src/lib.rt:90:13 no-table-requires
     (λ c κs. search needs)  -- src/lib.rt:91:9 sound-requires
-    (λ c. search (settings-here, settings-many, settings-judged, needs))  -- src/lib.rt:91:9 returns
-    (λ c. search (settings-here, settings-many, settings-judged, needs)))  -- src/lib.rt:83:1 returns-2
+    (λ c. search (settings-judged, needs))  -- src/lib.rt:91:9 returns
+    (λ c. search (settings-many, settings-judged, needs)))  -- src/lib.rt:83:1 returns-2

@@ -8,5 +8,5 @@ pub flag-of-spec : {M : Type 1} → statement M
 flag-of-spec =
     tie.close
     (tie.spec
-    (λ c. search (flag-set, flag-clear, needs))  -- src/lib.rt:33:9 returns
-    (λ c. search (flag-set, flag-clear, needs)))  -- src/lib.rt:29:1 returns-2
+    (λ c. search (flag-set, needs))  -- src/lib.rt:33:9 returns
+    (λ c. search (flag-clear, needs)))  -- src/lib.rt:29:1 returns-2

@@ -20,11 +20,11 @@ run-of-8-spec =
     (tie.spec
     Inv-loop
     μ-loop
-    (λ c. search (runs, run-full, needs))  -- src/lib.rt:194:5 loop-holds
+    (λ c. search (runs, needs))  -- src/lib.rt:194:5 loop-holds
     (λ c. search (runs, run-full, needs))  -- src/lib.rt:195:20 add-out
     (λ c. search (runs, run-full, needs))  -- src/lib.rt:195:18 shared-slice-read-out
     (λ c. search (runs, run-full, needs))  -- src/lib.rt:195:9 array-write-out
     (λ c. search (runs, run-full, needs))  -- src/lib.rt:196:9 add-i
     (λ c. search (runs, run-full, needs))  -- src/lib.rt:194:5 loop-less
-    (λ c. search (runs, run-full, needs))  -- src/lib.rt:194:5 loop-again
+    (λ c. search (runs, needs))  -- src/lib.rt:194:5 loop-again
     (λ c. search (runs, run-full, needs)))  -- src/lib.rt:188:1 returns

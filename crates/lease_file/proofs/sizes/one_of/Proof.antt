@@ -9,5 +9,5 @@ one-of-spec =
     tie.close
     (tie.spec
     (λ c κs. search needs)  -- src/sizes.rt:43:8 of-kind-requires
-    (λ c. search (one-in, one-out, needs))  -- src/sizes.rt:44:9 returns
-    (λ c. search (one-in, one-out, needs)))  -- src/sizes.rt:40:1 returns-2
+    (λ c. search (one-in, needs))  -- src/sizes.rt:44:9 returns
+    (λ c. search (one-out, needs)))  -- src/sizes.rt:40:1 returns-2

@@ -21,12 +21,12 @@ rows-size-spec =
     (tie.spec
     Inv-loop
     μ-loop
-    (λ c. search (sizes, rows-length, needs))  -- src/sizes.rt:55:5 loop-holds
+    (λ c. search (sizes, needs))  -- src/sizes.rt:55:5 loop-holds
     (λ c. search (sizes, rows-length, needs))  -- src/sizes.rt:56:17 mul-t
     (λ c. search (sizes, rows-length, needs))  -- src/sizes.rt:56:17 element-copy-out-t
-    (λ c κs. search (sizes, rows-length, needs))  -- src/sizes.rt:57:16 tenant-size-requires
+    (λ c κs. search (sizes, needs))  -- src/sizes.rt:57:16 tenant-size-requires
     (λ c. search (sizes, rows-length, needs))  -- src/sizes.rt:57:9 add-sum
     (λ c. search (sizes, rows-length, needs))  -- src/sizes.rt:58:9 add-i
     (λ c. search (sizes, rows-length, needs))  -- src/sizes.rt:55:5 loop-less
-    (λ c. search (sizes, rows-length, needs))  -- src/sizes.rt:55:5 loop-again
+    (λ c. search (sizes, needs))  -- src/sizes.rt:55:5 loop-again
     (λ c. search (sizes, rows-length, needs)))  -- src/sizes.rt:50:1 returns

@@ -14,5 +14,5 @@ put-lapse-spec =
     (tie.spec
     put-u32-requires
     (λ c. search needs)  -- src/writer.rt:78:9 same-length
-    (λ c. search (lapse-wrote, lapse-none, needs))  -- src/writer.rt:78:9 returns
+    (λ c. search (lapse-wrote, needs))  -- src/writer.rt:78:9 returns
     (λ c. search (lapse-wrote, lapse-none, needs)))  -- src/writer.rt:73:1 returns-2

@@ -12,7 +12,7 @@ check-tenant-spec =
     (λ c κs. search needs)  -- src/tenants.rt:194:9 rises-requires
     (λ c κs. search needs)  -- src/tenants.rt:195:9 both-requires
     (λ c κs. search needs)  -- src/tenants.rt:196:9 ids-differ-requires
-    (λ c κs. search (gathered-apart, tenant-checked, needs))  -- src/tenants.rt:197:9 periods-ok-requires
+    (λ c κs. search (gathered-apart, needs))  -- src/tenants.rt:197:9 periods-ok-requires
     (λ c κs. search needs)  -- src/tenants.rt:198:31 both-requires-2
     (λ c κs. search needs)  -- src/tenants.rt:198:9 both-requires-3
-    (λ c. search (gathered-apart, tenant-checked, needs)))  -- src/tenants.rt:187:1 returns
+    (λ c. search (tenant-checked, needs)))  -- src/tenants.rt:187:1 returns

@@ -9,5 +9,5 @@ word-of-spec =
     tie.close
     (tie.spec
     (λ c κs. search needs)  -- src/tenants.rt:86:9 word-requires
-    (λ c. search (word-long, word-short, needs))  -- src/tenants.rt:86:9 returns
+    (λ c. search (word-long, needs))  -- src/tenants.rt:86:9 returns
     (λ c. search (word-long, word-short, needs)))  -- src/tenants.rt:81:1 returns-2

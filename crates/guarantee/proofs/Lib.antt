@@ -5,6 +5,7 @@ mod Inserted
 mod Ranges
 mod Proposed
 pub mod Granted
+pub mod Best
 mod Codes
 pub mod Replies
 pub mod Walked

@@ -28,10 +28,12 @@ use Rattle.allocation.specs.laws.Best as best
 use Rattle.decision.specs.declared.Decided.{Decided}
 use Rattle.decision.specs.declared.Reply.the-variants.{LeaseAck}
 use Rattle.decision.specs.declared.Verdict.{Verdict}
-use Rattle.decision.specs.Parts.{badCounts, broughtBy, dropsHold, error0Of, error1Of, error2Of, error3Of, hasPeriod, holdsOf, isForHold, isLeased, isNew, knowsScope, leaseFrom, leaseIdIn, newOf, ownOf, proposalOf, recordedOf, releasedAgain, resends, updated, withLease}
+use Rattle.admission.specs.Tests.{badCounts, dropsHold, error1Of, error2Of, error3Of, hasPeriod, holdsOf, isForHold, isLeased, isNew, knowsScope, leaseIdIn, ownOf, recordedOf, releasedAgain, resends}
+use Rattle.proposal.specs.Proposals.{broughtBy, error0Of, leaseFrom, newOf, proposalOf, updated}
+use Rattle.decision.specs.Verdicts.{withLease}
 use Rattle.decision.specs.Decide.{changed, decideOf, droppedFirst, judgedOf, leasedOf, settledOf}
-use Rattle.decision.specs.laws.Cases.{Passed, drops-some, held-there, new-type, passed, without}
-use Rattle.decision.specs.laws.Kept.{applied-dropping, held-named, own-is, release-sound, updated-leases}
+use Rattle.decision_laws.specs.laws.Cases.{Passed, without, drops-some, held-there, new-type, passed}
+use Rattle.decision_laws.specs.laws.Kept.{applied-dropping, held-named, own-is, release-sound, updated-leases}
 use Rattle.server.specs.Serve.{Answer, Call, answered, headOf, replyOf, serveOf}
 use Rattle.guarantee.specs.Statement.{SoundBook, askFor, bookAt, ownFor, placeFor, recordFor, saysOf, stateAt, tableAt, tenantFor}
 use Rattle.guarantee.specs.Best.{AsksRule, Choice, NobodyMore, bookWith, broughtFor, sizeOf, leaseOn, newIn, ruleFor, thereFor}

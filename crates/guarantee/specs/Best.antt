@@ -15,7 +15,8 @@ use Rattle.releases.specs.Whole.{bookB}
 use Rattle.soundness.specs.Sound.{tenantsIn}
 use Rattle.allocation.specs.declared.Grant.{Grant}
 use Rattle.allocation.specs.Rule.{grantOf, heldBy}
-use Rattle.decision.specs.Parts.{defaultLease, dropsHold, error1Of, error2Of, holdsOf, horizon, isForHold, lengthOf, meets, ownOf, resends}
+use Rattle.proposal.specs.Proposals.{defaultLease, horizon, lengthOf, meets}
+use Rattle.admission.specs.Tests.{dropsHold, error1Of, error2Of, holdsOf, isForHold, ownOf, resends}
 use Rattle.server.specs.Serve.{Answer, Call, headOf, serveOf}
 use Rattle.guarantee.specs.Statement.{SoundBook, askFor, bookAt, endFor, ownFor, placeFor, recordFor, saysOf, scopeFor, startFor, stateAt, tenantFor}
 

@@ -16,7 +16,8 @@ use Rattle.state.specs.Book.{Book, laidReleases, leaseWith, tableOf, zeroScope}
 use Rattle.state.specs.Edit.{editedBook, entering}
 use Rattle.releases.specs.Whole.{bookB}
 use Rattle.soundness.specs.Sound.{tenantsIn}
-use Rattle.decision.specs.Parts.{defaultLease, error1Of, error2Of, horizon, isForHold, lengthOf, meets, ownOf, resends}
+use Rattle.proposal.specs.Proposals.{defaultLease, horizon, lengthOf, meets}
+use Rattle.admission.specs.Tests.{error1Of, error2Of, isForHold, ownOf, resends}
 use Rattle.server.specs.Serve.{Call, headOf, serveOf}
 use Rattle.guarantee.specs.Statement.{SoundBook, endFor, placeFor, recordFor, run, saysOf, startFor, stateAt, tenantFor}
 use Rattle.guarantee.specs.Best.{AsksRule, Choice, NobodyMore, bookWith, broughtFor, sizeOf, newIn, ruleFor, thereFor}

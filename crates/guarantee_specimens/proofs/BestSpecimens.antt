@@ -20,8 +20,8 @@ use Rattle.proposal.specs.Proposals.{defaultLease, horizon, lengthOf, meets}
 use Rattle.admission.specs.Tests.{error1Of, error2Of, isForHold, ownOf, resends}
 use Rattle.server.specs.Serve.{Call, headOf, serveOf}
 use Rattle.guarantee.specs.Statement.{SoundBook, endFor, placeFor, recordFor, run, saysOf, startFor, stateAt, tenantFor}
-use Rattle.guarantee.specs.Best.{AsksRule, Choice, NobodyMore, bookWith, broughtFor, sizeOf, newIn, ruleFor, thereFor}
-use Rattle.guarantee.proofs.Best.{nobody-more}
+use Rattle.best_grant.specs.Best.{AsksRule, Choice, NobodyMore, bookWith, broughtFor, sizeOf, newIn, ruleFor, thereFor}
+use Rattle.best_grant.proofs.Best.{nobody-more}
 use Rattle.guarantee.proofs.Kept.{run-sound}
 use Rattle.guarantee_specimens.proofs.Opened.{computed}
 use Rattle.guarantee_specimens.proofs.Specimens.{book, discoverAs, end, header, house1, identifier, option, request, seconds, sound}

@@ -1,8 +1,8 @@
 -- Proof of W-214 for the lent ledger and records, by `same`.
 use mathlib.Core.Path.{sym, subst}
 use Rattle.server.specs.Serve.{Answer}
-use Rattle.guarantee.specs.Best.{Best, NobodyMore}
-use Rattle.guarantee.proofs.Best.{nobody-more}
+use Rattle.best_grant.specs.Best.{Best, NobodyMore}
+use Rattle.best_grant.proofs.Best.{nobody-more}
 use Rattle.lent_guarantee.specs.Statement.{bookOf}
 use Rattle.lent_guarantee.specs.Best.{LentNobodyMore}
 use Rattle.lent_guarantee.proofs.Same.{same, sound-book}

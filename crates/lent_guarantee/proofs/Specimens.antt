@@ -10,8 +10,10 @@ use Rattle.state.specs.Book.{Book, zeroLease}
 use Rattle.releases.specs.Whole.{bookB}
 use Rattle.server.specs.Serve.{Answer, Call, serveOf}
 use Rattle.admission.specs.Tests.{leaseIdIn}
-use Rattle.guarantee.specs.Statement.{Elsewhere, Granted, GrantedAsOffered, Narrow, NewRequest, NoHold, Offered, OfferedAs, TakesUp, requested, run, saysOf, tenantFor}
-use Rattle.guarantee.specs.Best.{AsksRule, Best}
+use Rattle.guarantee.specs.Statement.{Granted, NewRequest, NoHold, run, saysOf, tenantFor}
+use Rattle.offer_guarantee.specs.Statement.{Elsewhere, GrantedAsOffered, Offered, OfferedAs, TakesUp, requested}
+use Rattle.call_guarantee.specs.Statement.{Narrow}
+use Rattle.best_grant.specs.Best.{AsksRule, Best}
 use Rattle.guarantee_specimens.proofs.BestSpecimens as best
 use Rattle.guarantee_specimens.proofs.Opened.{computed}
 use Rattle.guarantee_specimens.proofs.Specimens.{BoardCase, Case, ReleaseCase, agrees, between, board-specimens, boardTable, book, d3, discover, discovers, discovers3, free, holds, house2, keeps, narrow, new, offered, offered3, others, p1, p3, release-specimens, releaseTable, remembers, shows, showsOn, sound, specimens, table, takes, takesUp}

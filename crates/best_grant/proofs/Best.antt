@@ -35,11 +35,11 @@ use Rattle.decision.specs.Decide.{changed, decideOf, droppedFirst, judgedOf, le
 use Rattle.decision_laws.specs.laws.Cases.{Passed, without, drops-some, held-there, new-type, passed}
 use Rattle.decision_laws.specs.laws.Kept.{applied-dropping, held-named, own-is, release-sound, updated-leases}
 use Rattle.server.specs.Serve.{Answer, Call, answered, headOf, replyOf, serveOf}
 use Rattle.guarantee.specs.Statement.{SoundBook, askFor, bookAt, ownFor, placeFor, recordFor, saysOf, stateAt, tableAt, tenantFor}
-use Rattle.guarantee.specs.Best.{AsksRule, Choice, NobodyMore, bookWith, broughtFor, sizeOf, leaseOn, newIn, ruleFor, thereFor}
+use Rattle.best_grant.specs.Best.{AsksRule, Choice, NobodyMore, bookWith, broughtFor, sizeOf, leaseOn, newIn, ruleFor, thereFor}
 use Rattle.guarantee.proofs.Kept.{now-sound}
 use Rattle.guarantee.proofs.Proposed as proposed
 use Rattle.guarantee.proofs.Reached.{decided-there, not-taken, taken}
 
 -- ---- a REQUEST that comes to the rule with the table u
 module _ (s : State) (t u : LeaseTable) (h : ℕ) (m : Fields) (request : m .kind ≡ 3) (new : resends m (recordedOf (ownOf t h) m) ≡ false)

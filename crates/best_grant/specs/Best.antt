@@ -1,5 +1,5 @@
 -- Statement: nobody could have given more (document 02, W-214). The buyer's sentences are quoted beside what says them; what a call's book, tenant, period and
--- scope are is said in Statement.antt. A house is a tenant here, counted from 0, and a set of addresses is the set of their offsets in the scope.
+-- scope are is said in Statement.antt of `guarantee`. A house is a tenant here, counted from 0, and a set of addresses is the set of their offsets in the scope.
 use Prim.Native.Nat.{ℕ, _+_, _≤_, _<_}
 use mathlib.Core.Path.{_≡_}
 use mathlib.Core.Bool.{Bool, true, false}

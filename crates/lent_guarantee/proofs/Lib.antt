@@ -6,4 +6,3 @@ pub mod RoundTrip
 pub mod Written
 pub mod FileReads
 pub mod Finds
-mod Specimens

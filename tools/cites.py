@@ -7,7 +7,7 @@ sys.dont_write_bytecode = True
 sys.path.insert(0, os.path.dirname(os.path.abspath(__file__)))
 import source
 
-STATEMENTS = ('arrangement', 'guarantee', 'lent_guarantee', 'message_laws', 'salvage_laws', 'van_guarantee')      # crates without code, whose specs/ are statements
+STATEMENTS = ('arrangement', 'best_grant', 'call_guarantee', 'guarantee', 'lent_guarantee', 'message_laws', 'offer_guarantee', 'salvage_laws', 'van_guarantee')      # crates without code, whose specs/ are statements
 
 
 class Cites:

@@ -1,10 +1,11 @@
-//! An independent second MADCAP server library, written from documents 01 and 02 (as far as W-213) and the
+//! An independent second MADCAP server library, written from documents 01 and 02 (as far as W-214) and the
 //! MADCAP draft only (with the project's readings where the documents are open), and used for comparison.
 //! It is plain and slow on purpose: where the rules speak of addresses one by one, so does the code.
 
 #![forbid(unsafe_code)]
 
 pub mod book;
+pub mod choices;
 pub mod ending;
 pub mod file;
 pub mod grant;

@@ -110,13 +110,16 @@ module _ (s : State) (t : LeaseTable) (h : ℕ) (m : Fields) (v : Sound s (lease
   none-or : {a b : Bool} → a ≡ false → b ≡ false → (a || b) ≡ false
   none-or {a} {b} p q = ap (λ (x : Bool). x || b) p ∙ q
 
-  pub no-error : from ≤ s .clock + horizon → from + long ≤ 4294967295 → meets m from long ≡ true → length (ownOf t h) < 16 → m .counts .least ≤ U → error0Of s m (newOf s t h m) ≡ false
-  no-error soon fits met left least =
+  -- it passes where the grant is not below least, as it is not within the unused reserve
+  pub passes : from ≤ s .clock + horizon → from + long ≤ 4294967295 → meets m from long ≡ true → length (ownOf t h) < 16 → m .counts .least ≤ G .number → error0Of s m (newOf s t h m) ≡ false
+  passes soon fits met left least =
       tested
       ∙ none-or (le-ltb (s .clock + horizon) from soon)
       (none-or (le-ltb 4294967295 (from + long) fits)
-      (none-or (ap not met)
-      (ap not (and-both (lt-ltb (length (ownOf t h)) 16 left) (le-leb (m .counts .least) (G .number) (let p = enough in let q = counts in omega arith))))))
+      (none-or (ap not met) (ap not (and-both (lt-ltb (length (ownOf t h)) 16 left) (le-leb (m .counts .least) (G .number) least)))))
+
+  pub no-error : from ≤ s .clock + horizon → from + long ≤ 4294967295 → meets m from long ≡ true → length (ownOf t h) < 16 → m .counts .least ≤ U → error0Of s m (newOf s t h m) ≡ false
+  no-error soon fits met left least = passes soon fits met left (let p = enough in let q = counts in omega arith)
 
   -- what it leaves
   pub record Left : Type 0 where

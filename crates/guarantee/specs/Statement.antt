@@ -1,40 +1,36 @@
--- Statement: what the server guarantees: demand 3 as a single claim about any list of server calls, demand 1 about each call, the OFFER rule, that an offer is
--- held, and the occupancy board. The buyer's sentences, and those of document 01's "Demand 3 in detail", are quoted beside what says them; '"lease" in demands 1 and 3 .. reads "lease or
+-- Statement: what the server guarantees over any list of calls: demand 3 as a single claim about the list, and the occupancy board. What each call guarantees is `call_guarantee`'s, and of
+-- an OFFER `offer_guarantee`'s. The buyer's sentences, and those of document 01's "Demand 3 in detail", are quoted beside what says them; '"lease" in demands 1 and 3 .. reads "lease or
 -- hold"' (document 02, W-205), so that each sentence on leases is one on records. A house is a tenant here, its share a reserve; tenants count from 0, a
 -- lease's scope from 1.
-use Prim.Native.Nat.{ℕ, _+_, _-_, _≤_, _<_, min, _^_}
+use Prim.Native.Nat.{ℕ, _+_, _-_, _≤_, _<_, min}
 use mathlib.Core.Path.{_≡_}
-use mathlib.Core.Bool.{true, false, not}
+use mathlib.Core.Bool.{true, false}
 use mathlib.Core.List.{List, [], _∷_, map}
-use lib.Dec.{eqb}
-use lib.ListN.{getD, length, set}
-use Rattle.lists.specs.All.{All}
-use Rattle.lists.specs.Filter.{filterBy, isIn}
+use lib.ListN.{length}
+use Rattle.lists.specs.Filter.{filterBy}
 use Rattle.address_set.specs.AddressSet.{offsets}
 use Rattle.occupancy.specs.Board.{entryAt, heldIn, noEntry, scopeBoardAt}
 use Rattle.message.specs.declared.Fields.{Fields}
-use Rattle.message.specs.Read.{longestDatagram, readOf}
+use Rattle.message.specs.Read.{readOf}
 use Rattle.message.specs.Values.{fieldsOf}
-use Rattle.message.specs.Walk.{walkOf}
-use Rattle.message.specs.declared.Stage.the-variants.{Done}
 use Rattle.reply.specs.declared.Terms.{Terms}
-use Rattle.reply.specs.Reply.{leastRoom, leaseAckOf, offerOf}
+use Rattle.reply.specs.Reply.{leastRoom, leaseAckOf}
 use Rattle.reply.specs.Ranges.{addressesIn}
 use Rattle.state.specs.declared.Lease.{Lease}
 use Rattle.state.specs.declared.LeaseTable.{LeaseTable}
 use Rattle.state.specs.declared.Scope.{Scope}
 use Rattle.state.specs.declared.State.{State}
 use Rattle.state.specs.declared.Release.{Release}
-use Rattle.state.specs.Book.{Book, advanced, holdTime, idOf, inScope, insertOf, laidReleases, lapsingAt, leaseWith, leasesOf, liveOf, named, putReleases, releasesAt, remembered, removeOf, scopeAt, limitAt}
+use Rattle.state.specs.Book.{Book, advanced, idOf, inScope, insertOf, laidReleases, leaseWith, leasesOf, putReleases, releasesAt, remembered, removeOf, scopeAt, limitAt}
 use Rattle.state.specs.Edit.{forgetOf}
 use Rattle.state.specs.Board.{boardOf, isOn}
-use Rattle.releases.specs.Whole.{boardGood, bookB, memoryGood, namesGood}
+use Rattle.releases.specs.Whole.{bookB}
 use Rattle.soundness.specs.Sound.{holding, tenantsIn}
 use Rattle.allocation.specs.declared.Ask.{Ask}
 use Rattle.allocation.specs.declared.Grant.{Grant}
 use Rattle.allocation.specs.Rule.{grantOf, unusedReserve}
-use Rattle.proposal.specs.Proposals.{horizon, defaultLease, lengthOf, meets, startOf, turned}
-use Rattle.admission.specs.Tests.{error1Of, error2Of, holdsOf, isHeld, leaseIdIn, ownOf, recordedOf, resends, scopePlace}
+use Rattle.proposal.specs.Proposals.{horizon, defaultLease, lengthOf, meets, startOf}
+use Rattle.admission.specs.Tests.{error1Of, error2Of, holdsOf, isHeld, ownOf, recordedOf, resends, scopePlace}
 use Rattle.server.specs.Serve.{Answer, Call, headOf, serveOf, tenantOf}
 
 -- ---- the list of calls: "any number of server calls, or none: DISCOVER, REQUEST, RENEW, RELEASE, GETINFO and any other octets, from any address, with any
@@ -153,11 +149,6 @@ leaseOfType kind b c = leaseWith (placeFor b c + 1) (saysOf b c .id .len) (saysO
 abbrev pub leaseFor : Book → Call → Lease
 leaseFor b c = leaseOfType 3 b c
 
--- the hold that an OFFER leaves: "addresses and period as a lease has them, lapsing when the clock reaches thirty seconds after it, or the period's end if that is
--- sooner", with "type 1 and its DISCOVER's transaction id" (document 02, W-205)
-abbrev pub holdFor : Book → Call → Lease
-holdFor b c = lapsingAt (min (stateAt b c .clock + holdTime) (endFor b c)) (leaseOfType 1 b c)
-
 -- what the ACK, or the OFFER, says: its Ranges are those of the grant's addresses
 abbrev pub termsFor : Book → Call → Terms
 termsFor b c = record {
@@ -209,85 +200,6 @@ pub record AfterList (b : Book) : Type 0 where
 unfoldable pub Demand3 : Type 0
 Demand3 = (b : Book) → SoundBook b → (cs : List Call) → AfterList (run b cs)
 
--- ---- demand 1
--- octets with the type of an OFFER, an ACK or a NAK, header and End at least, that fit any room that is not too short
-pub record IsReply (r : List ℕ) : Type 0 where
-  pub some : 12 ≤ length r
-  pub short : length r ≤ leastRoom
-  pub type : isIn (getD r 1 0) (2 ∷ 5 ∷ 6 ∷ []) ≡ true
-
--- the codes of document 01's options, but for 12, which each reply has if the client sent it
-abbrev pub optionCodes : List ℕ
-optionCodes = 1 ∷ 2 ∷ 3 ∷ 4 ∷ 5 ∷ 6 ∷ 7 ∷ 8 ∷ 9 ∷ 10 ∷ 11 ∷ 13 ∷ 14 ∷ 15 ∷ 16 ∷ []
-
--- those of them that the message reader finds in some octets, rising
-unfoldable pub codesIn : List ℕ → List ℕ
-codesIn r = filterBy (λ c. not (eqb (getD (walkOf r .places) c 0) 0)) optionCodes
-
--- the replies of document 01: type, then codes. OFFER; the ACK to REQUEST and RENEW; the ACK to RELEASE; that to GETINFO with 9, with 11, with both; NAK
-abbrev pub replies : List (List ℕ)
-replies =
-    (2 ∷ 1 ∷ 2 ∷ 3 ∷ 4 ∷ 6 ∷ 10 ∷ 11 ∷ [])
-    ∷ (5 ∷ 1 ∷ 2 ∷ 3 ∷ 4 ∷ 6 ∷ 10 ∷ 11 ∷ [])
-    ∷ (5 ∷ 2 ∷ 3 ∷ [])
-    ∷ (5 ∷ 2 ∷ 3 ∷ 9 ∷ [])
-    ∷ (5 ∷ 2 ∷ 3 ∷ 11 ∷ [])
-    ∷ (5 ∷ 2 ∷ 3 ∷ 9 ∷ 11 ∷ [])
-    ∷ (6 ∷ 2 ∷ 3 ∷ 16 ∷ [])
-    ∷ []
-
--- read back as one of them: what the reader of options finds (that test 4 refuses a server's types is of no matter here). The values are those of `serveOf`
-pub record ReadAs (r : List ℕ) : Type 0 where
-  -- the reader's walk over its options, each of a right length and none twice, comes to End in its last four octets
-  pub whole : walkOf r .stage ≡ Done
-  pub one : (k : ℕ) × ((k < length replies) × ((getD r 1 0 ∷ codesIn r) ≡ getD replies k []))
-
--- a lease's addresses are a set of 64 bits, as its type says of every book that code has (a larger number may have none of the 64 offsets, so
--- that its Ranges would be empty)
-unfoldable pub Narrow : Book → Type 0
-Narrow b = (g : ℕ) → All (λ l. l .addresses < 2 ^ 64) (ownOf (b .table) g)
-
--- tenant g's leases under identifier i that are live at a clock
-abbrev pub liveUnder : ℕ → LeaseTable → ℕ → List ℕ → List Lease
-liveUnder clock t g i = filterBy (named i) (liveOf clock (ownOf t g))
-
-pub record Answered (b : Book) (c : Call) (a : Answer) : Type 0 where
-  -- "the server ends with a reply or a numbered discard"
-  pub outcome : a .outcome ≤ 8
-  pub reply : a .outcome ≡ 0 → IsReply (a .reply)
-  -- the reader reads it back as one of document 01's
-  pub reads : Narrow b → a .outcome ≡ 0 → ReadAs (a .reply)
-  -- "A discard writes no reply octet"
-  pub silent : (a .outcome ≡ 0 → ⊥) → a .reply ≡ []
-  -- "and changes no lease live at the clock it leaves in the book"
-  pub leases : (a .outcome ≡ 0 → ⊥) → (g : ℕ) (i : List ℕ) → liveUnder (a .book .state .clock) (a .book .table) g i ≡ liveUnder (a .book .state .clock) (b .table) g i
-  -- bad names and bad releases make the book unsound (document 02, W-201 and W-202): "bad names lent 1", "lent, both are 1"; and no call changes the names
-  pub bad-names : namesGood b ≡ false → a .outcome ≡ 1
-  pub bad-releases : memoryGood b ≡ false → a .outcome ≡ 1
-  -- "a book whose board disagrees is unsound, 1" (W-207)
-  pub bad-board : boardGood b ≡ false → a .outcome ≡ 1
-  pub names : a .book .names ≡ b .names
-  -- "Discards 1 and 2 change nothing"
-  pub untouched : a .outcome ≡ 1 → a .book ≡ b
-  pub untouched-too : a .outcome ≡ 2 → a .book ≡ b
-  -- "All other calls first set the book's clock .. and drop leases ..; 3 to 8 do no more"
-  pub advances : 3 ≤ a .outcome → a .book ≡ bookAt b c
-  -- document 02, W-206, of the offset that the reader of options reports (which it is: `FaultsRight` of `message_laws`): "Discard 5 carries it"
-  pub carries : a .outcome ≡ 5 → a .offset ≡ readOf (c .datagram) .fault
-  -- "every other outcome 0"
-  pub carries-none : (a .outcome ≡ 5 → ⊥) → a .offset ≡ 0
-  -- so it is "the offset in the datagram", or its length, and fits wherever a datagram's length does
-  pub inside : (a .offset ≤ length (c .datagram)) × (a .offset ≤ longestDatagram)
-  -- document 02, W-210: the count is "the sum over its lookups", of which there are at most two, each of "at most 16" records
-  pub few-read : a .count ≤ 32
-  -- and no test before the decision makes one: discards 1 to 7 count nothing
-  pub none-read : 1 ≤ a .outcome → a .outcome ≤ 7 → a .count ≡ 0
-
--- "For every datagram, clock, book and reply room". "It faults on none and checks all it is handed": the call is proved safe and to end, and asks for nothing
--- (`lent::serve` has no `requires`)
-unfoldable pub Demand1 : Type 0
-Demand1 = (b : Book) (c : Call) → Answered b c (serveOf b c)
-
 -- ---- the occupancy board (document 02, W-207)
 -- "After any call on a sound book it equals what the leases say": after any list of them
 unfoldable pub BoardAgrees : Type 0
@@ -313,118 +225,3 @@ pub record ZeroPast (b : Book) : Type 0 where
 
 unfoldable pub BoardZero : Type 0
 BoardZero = (b : Book) → SoundBook b → ZeroPast b
-
--- the names pass on unchanged through every list of calls
-unfoldable pub NamesStay : Type 0
-NamesStay = (b : Book) (cs : List Call) → run b cs .names ≡ b .names
-
--- calls keep the 64 bits, whatever the book
-unfoldable pub StaysNarrow : Type 0
-StaysNarrow = (b : Book) → Narrow b → (cs : List Call) → Narrow (run b cs)
-
--- ---- the OFFER rule: a DISCOVER "without option 2 draws an OFFER exactly if the same message sent as a REQUEST would get a new grant now, with
--- that period and those ranges"; document 02, W-205: "its OFFER rule is for identifiers without a hold"
--- a DISCOVER without option 2
-pub record Discovers (c : Call) : Type 0 where
-  pub type : getD (c .datagram) 1 0 ≡ 1
-  pub alone : getD (readOf (c .datagram) .message .places) 2 0 ≡ 0
-
--- "the same message sent as a REQUEST": the datagram with its type octet set to 3
-abbrev pub asRequest : List ℕ → List ℕ
-asRequest d = set d 1 3
-
-abbrev pub requested : Call → Call
-requested c = record { datagram = asRequest (c .datagram); client = c .client; time = c .time; room = c .room }
-
--- "draws an OFFER"
-pub record Offered (a : Answer) : Type 0 where
-  pub outcome : a .outcome ≡ 0
-  pub type : getD (a .reply) 1 0 ≡ 2
-
--- "would get a new grant now": an ACK, and it is no Resend
-pub record NewlyGranted (b : Book) (c : Call) (a : Answer) : Type 0 where
-  pub outcome : a .outcome ≡ 0
-  pub type : getD (a .reply) 1 0 ≡ 5
-  pub new : resends (saysOf b c) (recordFor b c) ≡ false
-
--- of the answers to a DISCOVER and to the same message sent as a REQUEST
-pub record OfferedAs (b : Book) (c : Call) (discover request : Answer) : Type 0 where
-  -- "exactly if"
-  pub offers : NewlyGranted b (requested c) request → Offered discover
-  pub only : Offered discover → NewlyGranted b (requested c) request
-  -- "with that period and those ranges": the ACK's octets, but for the type
-  pub same : Offered discover → discover .reply ≡ set (request .reply) 1 2
-
-unfoldable pub OfferRule : Type 0
-OfferRule = (b : Book) (c : Call) → Discovers c → NoHold b c → OfferedAs b c (serveOf b c) (serveOf b (requested c))
-
--- ---- the offer is held (document 02, W-205)
--- the hold that the OFFER to d left, or that it repeated: the record of d's identifier afterwards
-abbrev pub holdLeft : Book → Call → Lease
-holdLeft b d = recordedOf (ownOf (serveOf b d .book .table) (tenantFor b d)) (saysOf b d)
-
--- "An OFFER now leaves a hold" among the tenant's records, which "forgets its identifier's release"; nothing else changes
-pub record LeavesHold (b : Book) (c : Call) (a : Answer) : Type 0 where
-  -- what is offered is what is held
-  pub reply : a .reply ≡ offerOf (headOf (stateAt b c) (saysOf b c)) (termsFor b c)
-  pub left : holdLeft b c ≡ holdFor b c
-  pub state : a .book .state ≡ stateAt b c
-  pub others : (g : ℕ) → (g ≡ tenantFor b c → ⊥) → ownOf (a .book .table) g ≡ ownOf (tableAt b c) g
-  pub own : ownOf (a .book .table) (tenantFor b c) ≡ insertOf (holdFor b c) (ownFor b c)
-  pub forgets : a .book .memory .releases ≡ putReleases (b .memory) (tenantFor b c) (laidReleases (forgetOf (idOf (holdFor b c)) (releasesFor b c))) .releases
-  pub board : a .book .memory .board ≡ boardOf (leasesOf (a .book .table))
-
-unfoldable pub OfferHolds : Type 0
-OfferHolds = (b : Book) (c : Call) → SoundBook b → Discovers c → NoHold b c → Offered (serveOf b c) → LeavesHold b c (serveOf b c)
-
--- taken up at once, it is as if the REQUEST alone had been sent: the same answer and the same book. Not the count of records that were read for it (W-210): the hold
--- is found where without it every record is compared
-pub record AnswersAlike (x y : Answer) : Type 0 where
-  pub outcome : x .outcome ≡ y .outcome
-  pub offset : x .offset ≡ y .offset
-  pub reply : x .reply ≡ y .reply
-  pub book : x .book ≡ y .book
-
-unfoldable pub OfferTaken : Type 0
-OfferTaken = (b : Book) (c : Call) → SoundBook b → Discovers c → NoHold b c → Offered (serveOf b c) → AnswersAlike (serveOf (serveOf b c .book) (requested c)) (serveOf b (requested c))
-
--- a call that is not about tenant h's identifier i: by another house, or for another identifier. Calls leave the settings s as they are
-unfoldable pub Elsewhere : State → ℕ → List ℕ → Call → Type 0
-Elsewhere s h i c = tenantOf s (c .client) ≡ h → leaseIdIn (fieldsOf (c .datagram) (s .server) (readOf (c .datagram) .message)) ≡ i → ⊥
-
--- r, on a book w: the same message as a REQUEST, by the same house, before the hold lapses
-pub record TakesUp (b : Book) (d : Call) (w : Book) (r : Call) : Type 0 where
-  pub message : r .datagram ≡ asRequest (d .datagram)
-  pub house : tenantFor w r ≡ tenantFor b d
-  pub room : leastRoom ≤ r .room
-  -- the hold is live: of a new one the lapse is thirty seconds after the OFFER, or the period's end if that is sooner (`LeavesHold`)
-  pub soon : stateAt w r .clock < holdLeft b d .lapse
-  -- its Current Time, where it names one, is not too far from the clock by now: not error 2
-  pub current : error2Of (stateAt w r) (saysOf w r) ≡ false
-
--- what the ACK says: the held period and addresses
-abbrev pub heldTerms : Book → Call → Book → Call → Terms
-heldTerms b d w r = record {
-  length = holdLeft b d .end - holdLeft b d .start;
-  start = holdLeft b d .start;
-  scope = scopeFor b d .lowest;
-  addresses = holdLeft b d .addresses;
-  clock = stateAt w r .clock;
-}
-
-pub record GrantedAsOffered (b : Book) (d : Call) (w : Book) (r : Call) (offer a : Answer) : Type 0 where
-  pub outcome : a .outcome ≡ 0
-  pub reply : a .reply ≡ leaseAckOf (headOf (stateAt w r) (saysOf w r)) (heldTerms b d w r)
-  -- just the addresses offered, as the Ranges of both replies name them
-  pub names : addressesIn (a .reply) ≡ addressesIn (offer .reply)
-  -- and the lease is recorded with them
-  pub lease : recordedOf (ownOf (a .book .table) (tenantFor b d)) (saysOf b d) ≡ turned (saysOf w r) (holdLeft b d)
-
--- "Presentation gets an OFFER, asks the editor, and finds the addresses gone" no more: whatever others sent since the OFFER, and the house itself for other
--- identifiers, at whatever times. A DISCOVER sent again meanwhile repeats the offer: take d to be the last
-unfoldable pub OfferHeld : Type 0
-OfferHeld =
-    (b : Book) → SoundBook b → (d : Call) → Discovers d → Offered (serveOf b d)
-    → (cs : List Call) → All (Elsewhere (b .state) (tenantFor b d) (leaseIdIn (saysOf b d))) cs
-    → (r : Call) → TakesUp b d (run (serveOf b d .book) cs) r
-    → GrantedAsOffered b d (run (serveOf b d .book) cs) r (serveOf b d) (serveOf (run (serveOf b d .book) cs) r)

@@ -14,7 +14,9 @@ use Rattle.occupancy.specs.declared.Board.{Board}
 use Rattle.occupancy.specs.Board.{addedTo, entryAt, heldIn, noBoard, scopeBoardAt}
 use Rattle.state.specs.Book.{Book, laidReleases, releaseId, remembered, tableOf, zeroScope, idOf, leasesOf}
 use Rattle.server.specs.Serve.{Call, serveOf, Answer}
-use Rattle.guarantee.specs.Statement.{BoardStays, Demand3, Elsewhere, Granted, GrantedAsOffered, NewRequest, NoHold, OfferHeld, SoundBook, TakesUp, run, saysOf, tenantFor, Discovers, Narrow, Offered, OfferRule}
+use Rattle.guarantee.specs.Statement.{BoardStays, Demand3, Granted, NewRequest, NoHold, SoundBook, run, saysOf, tenantFor}
+use Rattle.offer_guarantee.specs.Statement.{Elsewhere, GrantedAsOffered, OfferHeld, TakesUp, Discovers, Offered, OfferRule}
+use Rattle.call_guarantee.specs.Statement.{Narrow}
 use Rattle.state.specs.declared.Lease.{Lease}
 use Rattle.state.specs.declared.Release.{Release}
 use Rattle.state.specs.declared.TenantReleases.{TenantReleases}
@@ -24,9 +26,9 @@ use Rattle.decision_laws.specs.laws.Kept.{own-is}
 use Rattle.guarantee.proofs.Board.{board-stays}
 use Rattle.guarantee.proofs.Granted.{demand3}
 use Rattle.guarantee.proofs.Kept.{run-sound}
-use Rattle.guarantee.proofs.Offers.{offer-rule}
+use Rattle.offer_guarantee.proofs.Offers.{offer-rule}
 use Rattle.guarantee_specimens.proofs.Opened.{computed}
-use Rattle.guarantee.proofs.Taken.{offer-held}
+use Rattle.offer_guarantee.proofs.Taken.{offer-held}
 
 -- names of a scope: "en", flagged 128, with the text A; "de" with the text B
 abbrev pub english : List ℕ

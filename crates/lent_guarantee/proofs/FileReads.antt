@@ -21,8 +21,8 @@ use Rattle.lease_file.specs.laws.Merge.{arranged-each}
 use Rattle.state.specs.laws.Layout.{table-back}
 use Rattle.decision_laws.specs.laws.Kept.{own-is}
 use Rattle.admission.specs.Tests.{ownOf}
-use Rattle.guarantee.specs.Statement.{Narrow, StaysNarrow}
-use Rattle.guarantee.proofs.Bounded.{stays-narrow}
+use Rattle.call_guarantee.specs.Statement.{Narrow, StaysNarrow}
+use Rattle.call_guarantee.proofs.Bounded.{stays-narrow}
 use Rattle.state_file.specs.declared.Loaded.{Loaded}
 use Rattle.lease_file.specs.Section.{FileHold, FileLease}
 use Rattle.lease_file.specs.Records.{holdTenant, leaseTenant, mergedFrom, stored, storedHold}

@@ -14,13 +14,15 @@ use Rattle.releases.specs.Whole.{bookB}
 use Rattle.releases.specs.laws.Whole.{book-board}
 use Rattle.message.specs.Read.{longestDatagram}
 use Rattle.server.specs.Serve.{Answer, Call, serveOf}
-use Rattle.guarantee.specs.Statement.{Answered, BoardKept, BoardStays, Demand3, Granted, GrantedAsOffered, IsReply, NewRequest, Offered, OfferedAs, OfferHeld, OfferRule, ReadAs, TakesUp, SoundBook, WithinLimits, liveUnder, requested, run}
-use Rattle.guarantee.proofs.Answers.{call-answered}
+use Rattle.guarantee.specs.Statement.{BoardKept, BoardStays, Demand3, Granted, NewRequest, SoundBook, WithinLimits, run}
+use Rattle.call_guarantee.specs.Statement.{Answered, IsReply, ReadAs, liveUnder}
+use Rattle.offer_guarantee.specs.Statement.{GrantedAsOffered, Offered, OfferedAs, OfferHeld, OfferRule, TakesUp, requested}
+use Rattle.call_guarantee.proofs.Answers.{call-answered}
 use Rattle.guarantee.proofs.Board.{board-stays}
 use Rattle.guarantee.proofs.Granted.{demand3}
 use Rattle.guarantee.proofs.Kept.{call-sound}
-use Rattle.guarantee.proofs.Offers.{offer-rule}
-use Rattle.guarantee.proofs.Taken.{offer-held}
+use Rattle.offer_guarantee.proofs.Offers.{offer-rule}
+use Rattle.offer_guarantee.proofs.Taken.{offer-held}
 use Rattle.records.specs.Records.{recordsOf, tableFrom}
 use Rattle.records.specs.Lent.{ledgerOf, lentAnswer, LentAnswer, serveWith}
 use Rattle.records.specs.laws.Steps.{off-whole}

@@ -24,7 +24,7 @@ use Rattle.soundness.specs.laws.Kept.{advanced-sound}
 use Rattle.releases.specs.laws.Whole.{book-sound}
 use Rattle.server.specs.Serve.{Answer, Call, answered, atClock, bookOf, decidedFor, forServer, serveOf, tenantOf, withReading}
 use Rattle.guarantee.specs.Statement.{SoundBook}
-use Rattle.guarantee.proofs.Discards.{call-tested}
+use Rattle.call_guarantee.proofs.Discards.{call-tested}
 use Rattle.decision_laws.specs.laws.Kept.{GoodId, decision-sound}
 use Rattle.decision_laws.specs.laws.Reads.{read-id}
 use Rattle.records.specs.laws.Back.{records-back, lent-table-back, table-long}

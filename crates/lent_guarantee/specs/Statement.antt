@@ -21,7 +21,9 @@ use Rattle.server.specs.declared.Ruling.{Ruling}
 use Rattle.server.specs.Serve.{Answer, Call, Tells, serveOf}
 use Rattle.server.specs.Halves.{Judgement, writeOf}
 use Rattle.server.specs.Statement.{judgedFor}
-use Rattle.guarantee.specs.Statement.{BoardKept, Discovers, Elsewhere, Granted, GrantedAsOffered, IsReply, Narrow, NewRequest, NoHold, Offered, OfferedAs, ReadAs, TakesUp, WithinLimits, bookAt, liveUnder, requested, saysOf, tenantFor}
+use Rattle.guarantee.specs.Statement.{BoardKept, Granted, NewRequest, NoHold, WithinLimits, bookAt, saysOf, tenantFor}
+use Rattle.offer_guarantee.specs.Statement.{Discovers, Elsewhere, GrantedAsOffered, Offered, OfferedAs, TakesUp, requested}
+use Rattle.call_guarantee.specs.Statement.{IsReply, Narrow, ReadAs, liveUnder}
 use Rattle.admission.specs.Tests.{leaseIdIn}
 use Rattle.format.specs.Format.{Octets}
 use Rattle.state_file.specs.declared.Written.{Written}
@@ -170,7 +172,7 @@ LentOfferRule =
     (l : Lent) (c : Call) → length (l .leases) ≡ 128 → Discovers c → NoHold (bookOf l) c
     → OfferedAs (bookOf l) c (answerOf (l .names) (served l c)) (answerOf (l .names) (served l (requested c)))
 
--- ---- the offer is held (document 02, W-205), its sentences in guarantee's statement: d draws an OFFER, and r is "the same message as a REQUEST by the same house",
+-- ---- the offer is held (document 02, W-205), its sentences in offer_guarantee's statement: d draws an OFFER, and r is "the same message as a REQUEST by the same house",
 -- "within its thirty seconds", whatever other houses sent in between, and the house itself for other identifiers
 unfoldable pub LentOfferHeld : Type 0
 LentOfferHeld =

@@ -12,7 +12,7 @@ use Rattle.allocation.specs.laws.Single.{gets-all}
 use Rattle.server.specs.Serve.{Call}
 use Rattle.guarantee.specs.Statement.{Granted, NewRequest, SoundBook, askFor, grantFor, placeFor, saysOf, scopeFor, stateAt, tableAt, tenantFor}
 use Rattle.guarantee.proofs.Granted.{S, place-known}
-use Rattle.guarantee.proofs.Held.{SetAs, now-set, run-later}
+use Rattle.offer_guarantee.proofs.Held.{SetAs, now-set, run-later}
 use Rattle.lent_guarantee.specs.Statement.{LentDemand3, SoundLent, answerOf, bookOf, served}
 use Rattle.lent_guarantee.proofs.Guaranteed.{lent-demand3, run-lent}
 use Rattle.lent_guarantee.proofs.Same.{sound-book}

@@ -25,12 +25,13 @@ use Rattle.decision.specs.Decide.{decideOf, leasedOf, settledOf}
 use Rattle.decision.specs.Verdicts.{discardWith, refusalOf, nakWith, withLease}
 use Rattle.admission.specs.Tests.{early1Of, holdsOf, isHeld, isNew, leaseIdIn, ownOf, recordedOf, releasedAgain, resends, hasPeriod}
 use Rattle.decision_laws.specs.laws.Ensured.{asOffer, decide-free, judgedFree, offered-as-requested, sentAs}
-use Rattle.guarantee.specs.Statement.{NoHold, OfferRule, Discovers, NewlyGranted, OfferedAs, asRequest, bookAt, ownFor, requested, saysOf, stateAt, tableAt, tenantFor}
+use Rattle.guarantee.specs.Statement.{NoHold, bookAt, ownFor, saysOf, stateAt, tableAt, tenantFor}
+use Rattle.offer_guarantee.specs.Statement.{OfferRule, Discovers, NewlyGranted, OfferedAs, asRequest, requested}
 use Rattle.decision.specs.declared.Reply.{Reply}
 use Rattle.decision.specs.declared.Reply.the-variants.{LeaseAck, Nak}
 use Rattle.decision.specs.declared.Verdict.{Verdict}
-use Rattle.guarantee.proofs.Alike.{Alike, both-numbers, both-say, wordsOf}
+use Rattle.offer_guarantee.proofs.Alike.{Alike, both-numbers, both-say, wordsOf}
 use Rattle.guarantee.proofs.Reached.{taken}
 use Rattle.server.specs.Serve.{Answer, Call, answered, atClock, byReply, discarded, forServer, headOf, replyOf, serveOf, termsOf, withReading}
 
 recorded-same : (own : List Lease) (m : Fields) → recordedOf own m ≡ recordedOf own (sentAs 3 m)

@@ -31,8 +31,9 @@ use Rattle.admission.specs.Tests.{ownOf}
 use Rattle.decision_laws.specs.laws.Cases.{decided-by}
 use Rattle.decision.specs.Decide.{decideOf}
 use Rattle.server.specs.Serve.{Answer, Call, answered, atClock, byReply, decidedFor, discardedAt, forServer, headOf, infoOf, replyOf, serveOf, tenantOf, termsOf, withReading}
-use Rattle.guarantee.specs.Statement.{IsReply, bookAt, liveUnder}
-use Rattle.guarantee.proofs.Discards.{Tested, call-tested, own-dropped}
+use Rattle.guarantee.specs.Statement.{bookAt}
+use Rattle.call_guarantee.specs.Statement.{IsReply, liveUnder}
+use Rattle.call_guarantee.proofs.Discards.{Tested, call-tested, own-dropped}
 
 -- ---- a verdict with outcome 0 sends something
 Sends : Reply → Type 0

@@ -34,7 +34,7 @@ use Rattle.message.specs.declared.Walk.{Walk}
 use Rattle.message.specs.declared.Wish.{Wish}
 use Rattle.state.specs.declared.State.{State}
 use Rattle.decision_laws.specs.laws.Ensured.{sentAs}
-use Rattle.guarantee.specs.Statement.{asRequest}
+use Rattle.offer_guarantee.specs.Statement.{asRequest}
 
 -- ---- a place of an option: 0, or past the header
 Fine : ℕ → Type 0

@@ -10,14 +10,20 @@ use Rattle.state.specs.Book.{Book, zeroLease}
 use Rattle.releases.specs.Whole.{bookB}
 use Rattle.server.specs.Serve.{Answer, Call, serveOf}
 use Rattle.admission.specs.Tests.{leaseIdIn}
-use Rattle.guarantee.specs.Statement.{Elsewhere, Granted, GrantedAsOffered, Narrow, NewRequest, NoHold, Offered, OfferedAs, TakesUp, requested, run, saysOf, tenantFor}
+use Rattle.guarantee.specs.Statement.{Granted, NewRequest, NoHold, run, saysOf, tenantFor}
+use Rattle.offer_guarantee.specs.Statement.{Elsewhere, GrantedAsOffered, Offered, OfferedAs, TakesUp, requested}
+use Rattle.call_guarantee.specs.Statement.{Narrow}
+use Rattle.best_grant.specs.Best.{AsksRule, Best}
+use Rattle.guarantee_specimens.proofs.BestSpecimens as best
 use Rattle.guarantee_specimens.proofs.Opened.{computed}
 use Rattle.guarantee_specimens.proofs.Specimens.{BoardCase, Case, ReleaseCase, agrees, between, board-specimens, boardTable, book, d3, discover, discovers, discovers3, free, holds, house2, keeps, narrow, new, offered, offered3, others, p1, p3, release-specimens, releaseTable, remembers, shows, showsOn, sound, specimens, table, takes, takesUp}
 use Rattle.records.specs.Lent.{ledgerOf}
 use Rattle.records.specs.Records.{rows, tableFrom, tenantFrom}
 use Rattle.lent_guarantee.specs.Statement.{answerOf, bookOf, Lent, LentDemand3, LentOfferHeld, LentOfferRule, runLent, served, SoundLent}
+use Rattle.lent_guarantee.specs.Best.{LentNobodyMore}
+use Rattle.lent_guarantee.proofs.Best.{lent-nobody-more}
 use Rattle.lent_guarantee.proofs.Guaranteed.{lent-demand3, lent-offer-held, lent-offer-rule, run-lent}
 use Rattle.lent_guarantee.proofs.Same.{same}
 
 -- the specimens' book, lent as 128 unused records
 campus : Lent
@@ -77,6 +83,13 @@ lent-board-specimens = all-same lent-shows shows boardTable (λ c. ap (λ (b : B
 granted : Granted (bookOf (runLent campus (p1 ∷ []))) p3 (answerOf (runLent campus (p1 ∷ []) .names) (served (runLent campus (p1 ∷ [])) p3))
 unfolding LentDemand3
 granted = lent-demand3 campus met (p1 ∷ []) .next p3 (subst (λ (b : Book). NewRequest b p3) (sym (run-same (p1 ∷ []))) new)
+
+-- ---- W-214: a grant below the desired number, after house 1's lease on .0
+best-met : Best (bookOf (runLent campus (best.one ∷ []))) (best.later 1 4) (lent-answer (best.one ∷ []) (best.later 1 4))
+unfolding LentNobodyMore lent-answer
+best-met =
+    lent-nobody-more (runLent campus (best.one ∷ [])) (run-lent campus (best.one ∷ []) met .0) (best.later 1 4)
+    (subst (λ (b : Book). AsksRule b (best.later 1 4)) (sym (run-same (best.one ∷ []))) best.asks)
 
 -- ---- demand 1's bound, and the OFFER rule
 lent-narrow : Narrow (bookOf campus)

@@ -1,8 +1,9 @@
 -- Laws: demand 1, put together: what the tests leave, the reply, its reading, and the leases.
-use Rattle.guarantee.specs.Statement.{Answered, Demand1, NamesStay, run}
-use Rattle.guarantee.proofs.Discards.{Tested, board-refused, call-tested, names-refused, releases-refused}
-use Rattle.guarantee.proofs.Replies.{leases-stay, replied}
-use Rattle.guarantee.proofs.Walked.{read-back}
+use Rattle.guarantee.specs.Statement.{run}
+use Rattle.call_guarantee.specs.Statement.{Answered, Demand1, NamesStay}
+use Rattle.call_guarantee.proofs.Discards.{Tested, board-refused, call-tested, names-refused, releases-refused}
+use Rattle.call_guarantee.proofs.Replies.{leases-stay, replied}
+use Rattle.call_guarantee.proofs.Walked.{read-back}
 use mathlib.Core.List.{List, [], _∷_}
 use mathlib.Core.Path.{_≡_, refl, _∙_}
 use Rattle.state.specs.Book.{Book}

@@ -14,7 +14,7 @@ use Rattle.lists.specs.Filter.{filterBy, isIn}
 use Rattle.message.specs.declared.Walk.{Walk}
 use Rattle.reply.specs.Reply.{Option, messageOctets, option, wanted}
 use Rattle.reply.proofs.ReadBack.{ReadBack, placesFrom}
-use Rattle.guarantee.specs.Statement.{ReadAs, codesIn, optionCodes, replies}
+use Rattle.call_guarantee.specs.Statement.{ReadAs, codesIn, optionCodes, replies}
 
 abbrev pub codes : List Option → List ℕ
 codes os = map (λ o. o .code) os

@@ -1,12 +1,11 @@
 -- Laws: calls of other houses, and of the house itself for other identifiers, leave the house's record of an identifier, as long as the clock has not come to its
 -- lapse or end.
-use Prim.Native.Nat.{ℕ, zero, suc, _≤_, _<_, max}
+use Prim.Native.Nat.{ℕ, _≤_, _<_, max}
 use mathlib.Core.Path.{_≡_, refl, sym, ap, _∙_}
 use mathlib.Core.Bool.{Bool, true, false}
 use mathlib.Core.List.{List, [], _∷_}
 use native.Mathlib.Omega.{arith}
 use lib.Dec.{ltb, eqb}
-use lib.ListN.{getD, set}
 use borrow.Author.Tests.{eqb-false, eqb-true, lt-ltb}
 use Rattle.lists.specs.Pick.{pick}
 use Rattle.lists.specs.All.{All}
@@ -37,8 +36,10 @@ use Rattle.decision_laws.specs.laws.Cases.{decided-by, held-there, leased-there
 use Rattle.decision.specs.laws.Code.{no}
 use Rattle.decision_laws.specs.laws.Kept.{held-named}
 use Rattle.server.specs.Serve.{Answer, Call, atClock, forServer, serveOf, tenantOf, withReading}
-use Rattle.guarantee.specs.Statement.{Elsewhere, bookAt, run, saysOf, stateAt, tenantFor}
-use Rattle.guarantee.proofs.Discards.{own-dropped}
+use Rattle.guarantee.specs.Statement.{bookAt, run, saysOf, stateAt, tenantFor}
+use Rattle.offer_guarantee.specs.Statement.{Elsewhere}
+use Rattle.call_guarantee.proofs.Discards.{own-dropped}
+use Rattle.call_guarantee.proofs.Bounded.{set-either}
 
 -- ---- calls leave the settings as they are, and the clock never falls
 -- x has the settings s, with a clock of its own
@@ -85,13 +86,6 @@ run-later s b (c ∷ cs) e =
     (q .0, let x = p .1 in let y = q .1 in omega arith)
 
 -- ---- the record o of tenant h's identifier i, the only one
-pub set-either : (P : TenantLeases → Type 0) (l : List TenantLeases) (i : ℕ) (v : TenantLeases) (c : ℕ) (d : TenantLeases) → P v → P (getD l c d) → P (getD (set l i v) c d)
-set-either P [] i v c d p q = q
-set-either P (x ∷ l) zero v zero d p q = p
-set-either P (x ∷ l) zero v (suc c) d p q = q
-set-either P (x ∷ l) (suc i) v zero d p q = q
-set-either P (x ∷ l) (suc i) v (suc c) d p q = set-either P l i v c d p q
-
 abbrev pub Has : ℕ → List ℕ → Lease → LeaseTable → Type 0
 Has h i o t = filterBy (named i) (ownOf t h) ≡ o ∷ []
 

@@ -48,15 +48,16 @@ use Rattle.decision.specs.laws.Code.{no, or-none}
 use Rattle.decision_laws.specs.laws.Ensured.{sentAs}
 use Rattle.decision_laws.specs.laws.Kept.{held-named, own-is}
 use Rattle.server.specs.Serve.{Answer, Call, answered, byReply, decidedFor, headOf, replyOf, serveOf, termsOf}
-use Rattle.guarantee.specs.Statement.{Discovers, GrantedAsOffered, NoHold, LeavesHold, Offered, OfferHeld, OfferHolds, SoundBook, asRequest, bookAt, endFor, grantFor, holdFor, holdLeft, leaseOfType, placeFor, releasesFor, run, saysOf, scopeFor, startFor, stateAt, tableAt, tenantFor}
-use Rattle.guarantee.proofs.Alike.{Alike, both-numbers, both-say, wordsOf}
-use Rattle.guarantee.proofs.Drawn.{Fresh, Repeats, Waits, drawn, still-waits, taken-up}
-use Rattle.guarantee.proofs.Held.{Has, SetAs, call-later, now-has, now-set, run-has, run-later}
+use Rattle.guarantee.specs.Statement.{NoHold, SoundBook, bookAt, endFor, grantFor, leaseOfType, placeFor, releasesFor, run, saysOf, scopeFor, startFor, stateAt, tableAt, tenantFor}
+use Rattle.offer_guarantee.specs.Statement.{Discovers, GrantedAsOffered, LeavesHold, Offered, OfferHeld, OfferHolds, asRequest, holdFor, holdLeft}
+use Rattle.offer_guarantee.proofs.Alike.{Alike, both-numbers, both-say, wordsOf}
+use Rattle.offer_guarantee.proofs.Drawn.{Fresh, Repeats, Waits, drawn, still-waits, taken-up}
+use Rattle.offer_guarantee.proofs.Held.{Has, SetAs, call-later, now-has, now-set, run-has, run-later}
 use Rattle.guarantee.proofs.Inserted.{entered}
 use Rattle.guarantee.proofs.Kept.{call-sound, now-sound, run-sound}
 use Rattle.guarantee.proofs.Proposed as proposed
 use Rattle.guarantee.proofs.Ranges.{ack-names, named-head, offer-names, pool-fits}
 use Rattle.guarantee.proofs.Reached.{Reaches, decided-there, reaches}
 
 -- ---- a record by its identifier
 module _ (h : ℕ) (i : List ℕ) (o : Lease) (t : LeaseTable) (m : Fields) (e : leaseIdIn m ≡ i) (has : Has h i o t) where

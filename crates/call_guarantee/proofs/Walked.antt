@@ -38,11 +38,12 @@ use Rattle.decision.specs.Verdicts.{discardWith, nakWith, plainReply, refusalOf
 use Rattle.proposal.specs.Proposals.{error0Of, leaseFrom, newOf, renewedOf, renewedTo, turned}
 use Rattle.decision.specs.Decide.{decideOf}
 use Rattle.server.specs.Serve.{Answer, Call, answered, atClock, byReply, decidedFor, discardedAt, forServer, headOf, infoOf, replyOf, serveOf, tenantOf, termsOf, withReading}
-use Rattle.guarantee.specs.Statement.{Narrow, ReadAs, bookAt}
-use Rattle.guarantee.proofs.Codes.{info-found, lease-found, nak-found, offer-found, read-as, release-found}
+use Rattle.guarantee.specs.Statement.{bookAt}
+use Rattle.call_guarantee.specs.Statement.{Narrow, ReadAs}
+use Rattle.call_guarantee.proofs.Codes.{info-found, lease-found, nak-found, offer-found, read-as, release-found}
 use Rattle.guarantee.proofs.Proposed as proposed
 use Rattle.guarantee.proofs.Ranges.{grant-small, named-head, offsets-some}
-use Rattle.guarantee.proofs.Discards.{own-dropped}
+use Rattle.call_guarantee.proofs.Discards.{own-dropped}
 
 -- ---- a verdict with a lease has some addresses, in 64 bits
 Sized : ℕ → Type 0

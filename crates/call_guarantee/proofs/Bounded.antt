@@ -4,7 +4,7 @@ use mathlib.Core.Path.{sym, subst}
 use mathlib.Core.Bool.{Bool, true, false, not}
 use mathlib.Core.List.{List, [], _∷_}
 use native.Mathlib.Omega.{arith}
-use lib.ListN.{getD, length}
+use lib.ListN.{getD, length, set}
 use lib.Dec.{ltb}
 use Rattle.lists.specs.Pick.{pick}
 use Rattle.lists.specs.All.{All}
@@ -32,10 +32,10 @@ use Rattle.proposal.specs.Proposals.{heldFrom, leaseFrom, newAt, newOf, newWith
 use Rattle.admission.specs.Tests.{ownOf, recordedOf}
 use Rattle.decision.specs.Decide.{decideOf}
 use Rattle.server.specs.Serve.{Answer, Call, atClock, forServer, serveOf, withReading}
-use Rattle.guarantee.specs.Statement.{Narrow, StaysNarrow, bookAt, run}
-use Rattle.guarantee.proofs.Held.{set-either}
+use Rattle.guarantee.specs.Statement.{bookAt, run}
+use Rattle.call_guarantee.specs.Statement.{Narrow, StaysNarrow}
 use Rattle.guarantee.proofs.Ranges.{all-join, grant-small}
-use Rattle.guarantee.proofs.Walked.{all-filter, now-narrow}
+use Rattle.call_guarantee.proofs.Walked.{all-filter, now-narrow}
 
 abbrev F : Lease → Type 0
 F l = l .addresses < 2 ^ 64
@@ -73,6 +73,13 @@ edited e t f h = go (e .enters)
     go : (c : Bool) → All F (inUse (pick c (insertedIn (e .new) (leftIn e t)) (leftIn e t)))
     go true = entered (e .new) (leftIn e t) f (left e t h)
     go false = left e t h
+
+pub set-either : (P : TenantLeases → Type 0) (l : List TenantLeases) (i : ℕ) (v : TenantLeases) (c : ℕ) (d : TenantLeases) → P v → P (getD l c d) → P (getD (set l i v) c d)
+set-either P [] i v c d p q = q
+set-either P (x ∷ l) zero v zero d p q = p
+set-either P (x ∷ l) zero v (suc c) d p q = q
+set-either P (x ∷ l) (suc i) v zero d p q = q
+set-either P (x ∷ l) (suc i) v (suc c) d p q = set-either P l i v c d p q
 
 put : (e : Edit) (t : LeaseTable) (h g : ℕ) → F (e .new) → All F (ownOf t h) → All F (ownOf t g) → All F (ownOf (applied e h t) g)
 unfolding appliedBy

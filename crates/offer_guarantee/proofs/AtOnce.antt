@@ -40,16 +40,17 @@ use Rattle.decision.specs.laws.Code.{or-none}
 use Rattle.decision_laws.specs.laws.Ensured.{sentAs}
 use Rattle.decision_laws.specs.laws.Kept.{held-good}
 use Rattle.server.specs.Serve.{Answer, Call, answered, decidedFor, serveOf, tenantOf}
-use Rattle.guarantee.specs.Statement.{AnswersAlike, Discovers, NoHold, Offered, OfferRule, OfferTaken, SoundBook, asRequest, bookAt, holdFor, requested, saysOf, stateAt, tableAt, tenantFor}
-use Rattle.guarantee.proofs.Alike.{Alike, both-numbers}
-use Rattle.guarantee.proofs.Drawn.{Fresh}
+use Rattle.guarantee.specs.Statement.{NoHold, SoundBook, bookAt, saysOf, stateAt, tableAt, tenantFor}
+use Rattle.offer_guarantee.specs.Statement.{AnswersAlike, Discovers, Offered, OfferRule, OfferTaken, asRequest, holdFor, requested}
+use Rattle.offer_guarantee.proofs.Alike.{Alike, both-numbers}
+use Rattle.offer_guarantee.proofs.Drawn.{Fresh}
 use Rattle.guarantee.proofs.Granted.{decided}
-use Rattle.guarantee.proofs.Held.{Has, now-set}
+use Rattle.offer_guarantee.proofs.Held.{Has, now-set}
 use Rattle.guarantee.proofs.Inserted.{entered, others-stay}
 use Rattle.guarantee.proofs.Kept.{advanced-laid, call-sound}
-use Rattle.guarantee.proofs.Offers.{offer-rule}
+use Rattle.offer_guarantee.proofs.Offers.{offer-rule}
 use Rattle.guarantee.proofs.Reached.{Reaches, decided-there}
-use Rattle.guarantee.proofs.Taken as taken
+use Rattle.offer_guarantee.proofs.Taken as taken
 
 -- ---- a sound book has nothing to drop at its own clock
 alive : (s : State) (l : Lease) → leaseOk s l ≡ true → live (s .clock) l ≡ true

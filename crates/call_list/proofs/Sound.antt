@@ -32,10 +32,10 @@ unfolding next lent
 step g ls names c v = next-sound (lent g ls names) c v
 
 -- ---- a list of calls
-pub still-sound : (c : Call) {o : Owned} {names : List ℕ} {before after : List ℕ} {to : ℕ} {r : OwnedCall} → OwnedSound o names
+pub still-sound : (c : Call) (names : List ℕ) {o : Owned} {before after : List ℕ} {to : ℕ} {r : OwnedCall} → OwnedSound o names
     → Answers (serveLent (o .ledger) (o .records .leases) names c) before to after r → OwnedSound (r .owned) names
 unfolding lent
-still-sound c {o} {names} {r = r} v a =
+still-sound c names {o} {r = r} v a =
     subst (λ (x : Ledger). SoundLent (record { ledger = x; leases = r .owned .records .leases; names = names })) (sym (a .ledger))
     (subst (λ (x : List Lease). SoundLent (record { ledger = serveLent (o .ledger) (o .records .leases) names c .ledger; leases = x; names = names })) (sym (a .leases))
     (step (o .ledger) (o .records .leases) names c v))

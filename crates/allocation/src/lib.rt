@@ -1,7 +1,7 @@
 // Document 01's grant rule: how many addresses a tenant gets for a period, and which. It goes by the tenant's own leases and by what every
 // tenant holds, and answers whatever they are; in a sound book no other tenant's lease is on an address of the tenant's, so that these are enough.
 ghost use mathlib.Core.Path.{_≡_};
-ghost use Prim.Native.Nat.{_*_, _<_, _≤_, max, min};
+ghost use Prim.Native.Nat.{_*_, _<_, _≤_, max};
 ghost use lib.Dec.{eqb};
 ghost use lib.ListN.{length};
 ghost use Rattle.lists.specs.Down.{largest};
@@ -62,13 +62,7 @@ fn most(l: GrantNumbers, desired: u32) -> u32
     arithmetic::smaller(desired, l.free + room)
 }
 
-fn wide(x: u8) -> u32
-    ensures { λ r. ⌜ (r ≡ x) × (r ≤ 255) ⌝ }
-{
-    x as u32
-}
-
-fn wide16(x: u16) -> u32
+fn number32(x: u16) -> u32
     ensures { λ r. ⌜ r ≡ x ⌝ }
 {
     x as u32
@@ -168,10 +162,10 @@ fn numbers(sets: [u64; 8], c: Scope, n: usize, h: usize, free: u64) -> GrantNumb
     GrantNumbers {
         held: address_set::count(sets[h]),
         free: address_set::count(free),
-        reserve: wide(c.reserve[h]),
-        limit: wide(c.limit[h]),
+        reserve: arithmetic::wide32(c.reserve[h]),
+        limit: arithmetic::wide32(c.limit[h]),
         others: others(sets, c, n, h),
-        size: wide(c.size),
+        size: arithmetic::wide32(c.size),
     }
 }
 
@@ -209,7 +203,7 @@ fn grant_known(own: TenantLeases, held: HeldTable, c: Scope, n: usize, a: Ask) -
     let sets = sets_in(held, a.scope);
     let own_free = free(own, sets, a);
     let l = numbers(sets, c, n, a.tenant, own_free);
-    let desired = wide16(a.desired);
+    let desired = number32(a.desired);
     let k = most(l, desired);
     let new = nobodys(sets, c);
     let m = choose(own_free, new, k);
@@ -219,21 +213,12 @@ fn grant_known(own: TenantLeases, held: HeldTable, c: Scope, n: usize, a: Ask) -
     }
 }
 
-fn cut8(n: usize) -> usize
-    ensures { λ r. ⌜ r ≡ min n 8 ⌝ }
-{
-    if n < 8 {
-        return n;
-    }
-    8
-}
-
 // The same for any tenant: an unknown one is granted nothing. Where `own` are the tenant's records in a sound book and `held` is what all its
 // tenants hold, this is the rule over all leases of the book (`grant-in` in specs/laws/View.antt).
 pub fn granted(own: TenantLeases, held: HeldTable, c: Scope, n: usize, a: Ask) -> Grant
     ensures { λ r. ⌜ r ≡ grantIn (inUse own) held c n a ⌝ }
 {
-    let known = cut8(n);
+    let known = arithmetic::fewer(n, 8);
     if a.tenant < known {
         return grant_known(own, held, c, known, a);
     }
@@ -247,5 +232,5 @@ pub fn granted(own: TenantLeases, held: HeldTable, c: Scope, n: usize, a: Ask) -
 pub fn enough(least: u16, g: Grant) -> bool
     ensures { λ r. ⌜ r ≡ suffices least g ⌝ }
 {
-    wide16(least) <= g.number
+    number32(least) <= g.number
 }

@@ -1,7 +1,7 @@
-// Small functions on numbers that several crates use: the smaller and the larger of two, a difference that stops at 0, an octet in a
+// Small functions on numbers that several crates use: the smaller and the larger of two, a difference that stops at 0, a number in a
 // wider type, and a stored count cut to what its array holds, so that a loop over it never leaves the array.
 ghost use mathlib.Core.Path.{_≡_};
-ghost use Prim.Native.Nat.{_-_, max, min};
+ghost use Prim.Native.Nat.{_-_, _<_, max, min};
 
 pub fn smaller(a: u32, b: u32) -> u32
     ensures { λ r. ⌜ r ≡ min a b ⌝ }
@@ -10,6 +10,16 @@ pub fn smaller(a: u32, b: u32) -> u32
         return a;
     }
     b
+}
+
+// The same of counts.
+pub fn fewer(n: usize, most: usize) -> usize
+    ensures { λ r. ⌜ r ≡ min n most ⌝ }
+{
+    if n < most {
+        return n;
+    }
+    most
 }
 
 pub fn larger(a: u32, b: u32) -> u32
@@ -31,10 +41,29 @@ pub fn monus(a: u32, b: u32) -> u32
     0
 }
 
+// An octet as a count or a place; that it is below 256 keeps sums with it from overflowing.
+pub fn wide(x: u8) -> usize
+    ensures { λ r. ⌜ (r ≡ x) × (r < 256) ⌝ }
+{
+    x as usize
+}
+
 pub fn wide16(x: u8) -> u16
     ensures { λ r. ⌜ r ≡ x ⌝ }
 {
     x as u16
+}
+
+pub fn wide32(x: u8) -> u32
+    ensures { λ r. ⌜ (r ≡ x) × (r < 256) ⌝ }
+{
+    x as u32
+}
+
+pub fn wide64(x: u32) -> u64
+    ensures { λ r. ⌜ r ≡ x ⌝ }
+{
+    x as u64
 }
 
 // The place, counted from 0, of what has a number that counts from 1; 0 for the number 0.

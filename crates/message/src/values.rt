@@ -1,7 +1,7 @@
 // The values of a message's options, and what stands for an absent one.
 ghost use mathlib.Core.Path.{_≡_};
 ghost use mathlib.Core.Bool.{true};
-ghost use Prim.Native.Nat.{_+_, _/_, _≤_, min};
+ghost use Prim.Native.Nat.{_+_, _/_, _≤_};
 ghost use lib.ListN.{length};
 ghost use Rattle.lists.specs.Filter.{isIn};
 ghost use Rattle.message.specs.Walk.{lengthAt, afterAt};
@@ -245,23 +245,13 @@ fn identifier_at(s: &[u8], at: usize) -> Identifier
     }
 }
 
-// A number, or 8 where it is larger.
-fn cut8(n: usize) -> usize
-    ensures { λ r. ⌜ r ≡ min n 8 ⌝ }
-{
-    if n < 8 {
-        return n;
-    }
-    8
-}
-
 // The language at a place: its length, and its octets as far as they are kept.
 fn language_at(s: &[u8], at: usize) -> Language
     requires { ⌜ (afterAt (now s) at ≤ length (now s)) × (length (now s) ≤ longestDatagram) ⌝ }
     ensures { λ r. ⌜ r ≡ languageAt (now (s .entry)) at ⌝ }
 {
     let len = octets::read_u16(s, at + 2) as usize;
-    let n = cut8(len);
+    let n = arithmetic::fewer(len, 8);
     let mut kept: [u8; 8] = [0; 8];
     let mut i: usize = 0;
     while i < n {

@@ -13,12 +13,6 @@ ghost use Rattle.names.specs.Names.{NameEnds, sizesOk, nameFormat, listF
 use format::Place;
 use message::Language;
 
-fn wide(x: u8) -> usize
-    ensures { λ r. ⌜ (r ≡ x) × (r < 256) ⌝ }
-{
-    x as usize
-}
-
 fn flags_ok(flags: u8) -> bool
     ensures { λ r. ⌜ r ≡ (eqb flags 0 || eqb flags 128) ⌝ }
 {
@@ -57,11 +51,11 @@ fn name_end(s: &[u8], at: usize) -> Place
     if left < 2 {
         return Place::Nowhere;
     }
-    let n = wide(s[at + 1]);
+    let n = arithmetic::wide(s[at + 1]);
     if left < n + 3 {
         return Place::Nowhere;
     }
-    let k = wide(s[at + (n + 2)]);
+    let k = arithmetic::wide(s[at + (n + 2)]);
     if left < n + 3 + k {
         return Place::Nowhere;
     }
@@ -97,7 +91,7 @@ fn list_end(s: &[u8], at: usize) -> Place
     if s.len() <= at {
         return Place::Nowhere;
     }
-    let k = wide(s[at]);
+    let k = arithmetic::wide(s[at]);
     if 4 < k {
         return Place::Nowhere;
     }
@@ -156,7 +150,12 @@ pub fn section_end(s: &[u8], at: usize, scopes: u8, tenants: u8) -> Place
     if s[at] != scopes {
         return Place::Nowhere;
     }
-    scope_end(s, at + 1, wide(scopes), wide(tenants) + 1)
+    scope_end(
+        s,
+        at + 1,
+        arithmetic::wide(scopes),
+        arithmetic::wide(tenants) + 1,
+    )
 }
 
 // Whether octets are a section of names and nothing more.
@@ -201,7 +200,7 @@ fn in_language(s: &[u8], at: usize, language: Language) -> bool
     requires { ⌜ (at + (getD (now s) (at + 1) 0 + 3) ≤ length (now s)) × (getD (now s) (at + 1) 0 ≤ 8) ⌝ }
     ensures { λ r. ⌜ r ≡ inLanguage language (nameAt (now (s .entry)) at) ⌝ }
 {
-    let n = wide(s[at + 1]);
+    let n = arithmetic::wide(s[at + 1]);
     if n == language.len {
         let tag = language.octets;
         return same_octets(s, at + 2, tag, n);
@@ -225,7 +224,7 @@ fn first_name(list: &[u8], wanted: Wanted, language: Language) -> &[u8]
     requires { ⌜ IsList (now list) (namesIn (now list)) ⌝ }
     ensures { λ r. ⌜ now r ≡ shown (firstBy (testOf wanted language) (namesIn (now (list .entry)))) ⌝ }
 {
-    let k = wide(list[0]);
+    let k = arithmetic::wide(list[0]);
     let mut here: usize = 1;
     let mut i: usize = 0;
     while i < k {
@@ -279,7 +278,7 @@ fn scope_start(names: &[u8], tenants: u8, place: usize) -> usize
     requires { ⌜ (namesB (getD (now names) 0 0) tenants (now names) ≡ true) × (place < getD (now names) 0 0) ⌝ }
     ensures { λ r. ⌜ Begins (times (tenants + 1) listFormat) (now (names .entry)) r (getD (listsIn tenants (now (names .entry))) place []) ⌝ }
 {
-    let n = wide(tenants) + 1;
+    let n = arithmetic::wide(tenants) + 1;
     let mut here: usize = 1;
     let mut i: usize = 0;
     while i < place {

@@ -6,12 +6,6 @@ ghost use lib.ListN.{drop, length, take};
 ghost use Rattle.lists.specs.Row.{laidRow};
 ghost use Rattle.octets.specs.Octets.{be16, be32, at16, at32, octets16, octets32, Wrote};
 
-fn wide32(x: u8) -> u32
-    ensures { λ r. ⌜ r ≡ x ⌝ }
-{
-    x as u32
-}
-
 fn join16(a: u8, b: u8) -> u16
     ensures { λ r. ⌜ r ≡ be16 a b ⌝ }
 {
@@ -21,7 +15,10 @@ fn join16(a: u8, b: u8) -> u16
 fn join32(a: u8, b: u8, c: u8, d: u8) -> u32
     ensures { λ r. ⌜ r ≡ be32 a b c d ⌝ }
 {
-    wide32(a) * 16777216 + wide32(b) * 65536 + wide32(c) * 256 + wide32(d)
+    arithmetic::wide32(a) * 16777216
+        + arithmetic::wide32(b) * 65536
+        + arithmetic::wide32(c) * 256
+        + arithmetic::wide32(d)
 }
 
 // The number of two octets at a place.

@@ -81,13 +81,7 @@ fn put_server(buffer: &mut [u8], at: usize, head: Head) -> usize
 {
     let a = put_code(buffer, at, OptionCode::SERVER_IDENTIFIER, 6);
     let b = octets::put_u16(buffer, a, 1);
-    octets::put_u32(buffer, b, wide64(head.server))
-}
-
-fn wide64(x: u32) -> u64
-    ensures { λ r. ⌜ r ≡ x ⌝ }
-{
-    x as u64
+    octets::put_u32(buffer, b, arithmetic::wide64(head.server))
 }
 
 // How many octets an identifier has: its length, cut to those that there are.
@@ -152,7 +146,11 @@ fn put_range(buffer: &mut [u8], at: usize, lowest: u32, r: Range) -> usize
     requires { ⌜ (at + 6 ≤ length (now buffer)) × (r .count ≤ 64) ⌝ }
     ensures { λ x. ⌜ Wrote (now (buffer .entry)) at (rangeOctets lowest r) (now (buffer .exit)) x ⌝ }
 {
-    let a = octets::put_u32(buffer, at, wide64(lowest) + wide64(r.first));
+    let a = octets::put_u32(
+        buffer,
+        at,
+        arithmetic::wide64(lowest) + arithmetic::wide64(r.first),
+    );
     octets::put_u16(buffer, a, (r.count % 65536) as u16)
 }
 
@@ -186,9 +184,9 @@ fn highest(e: ScopeEntry) -> u64
     ensures { λ r. ⌜ r ≡ e .lowest + (e .size - 1) ⌝ }
 {
     if e.size == 0 {
-        return wide64(e.lowest);
+        return arithmetic::wide64(e.lowest);
     }
-    wide64(e.lowest) + ((e.size - 1) as u64)
+    arithmetic::wide64(e.lowest) + ((e.size - 1) as u64)
 }
 
 // How many names there are, by the octets of what is one name or none.
@@ -206,7 +204,7 @@ fn put_entry(buffer: &mut [u8], at: usize, e: ScopeEntry, names: u8) -> usize
     requires { ⌜ at + 10 ≤ length (now buffer) ⌝ }
     ensures { λ r. ⌜ Wrote (now (buffer .entry)) at (entryOctets e names []) (now (buffer .exit)) r ⌝ }
 {
-    let a = octets::put_u32(buffer, at, wide64(e.lowest));
+    let a = octets::put_u32(buffer, at, arithmetic::wide64(e.lowest));
     let b = octets::put_u32(buffer, a, highest(e));
     let c = octets::put_u8(buffer, b, e.ttl);
     octets::put_u8(buffer, c, names)
@@ -265,7 +263,7 @@ fn put_header(buffer: &mut [u8], kind: MessageType, xid: u32) -> usize
     let a = octets::put_u8(buffer, 0, 0);
     let b = octets::put_u8(buffer, a, kind.number);
     let c = octets::put_u16(buffer, b, 1);
-    octets::put_u32(buffer, c, wide64(xid))
+    octets::put_u32(buffer, c, arithmetic::wide64(xid))
 }
 
 fn put_end(buffer: &mut [u8], at: usize) -> usize
@@ -289,12 +287,32 @@ fn put_lease_options(buffer: &mut [u8], at: usize, head: Head, terms: Terms) -> 
     requires { ⌜ at + 476 ≤ length (now buffer) ⌝ }
     ensures { λ r. ⌜ Put (now (buffer .entry)) at (leaseOptions head terms) (now (buffer .exit)) r 476 ⌝ }
 {
-    let a = put_number(buffer, at, OptionCode::LEASE_TIME, wide64(terms.length));
+    let a = put_number(
+        buffer,
+        at,
+        OptionCode::LEASE_TIME,
+        arithmetic::wide64(terms.length),
+    );
     let b = put_named(buffer, a, head);
-    let c = put_number(buffer, b, OptionCode::SCOPE, wide64(terms.scope));
-    let d = put_number(buffer, c, OptionCode::START_TIME, wide64(terms.start));
+    let c = put_number(
+        buffer,
+        b,
+        OptionCode::SCOPE,
+        arithmetic::wide64(terms.scope),
+    );
+    let d = put_number(
+        buffer,
+        c,
+        OptionCode::START_TIME,
+        arithmetic::wide64(terms.start),
+    );
     let e = put_ranges(buffer, d, terms);
-    let f = put_number(buffer, e, OptionCode::CURRENT_TIME, wide64(terms.clock));
+    let f = put_number(
+        buffer,
+        e,
+        OptionCode::CURRENT_TIME,
+        arithmetic::wide64(terms.clock),
+    );
     put_features(buffer, f, head)
 }
 
@@ -313,7 +331,12 @@ fn put_time_if(buffer: &mut [u8], at: usize, info: Info) -> usize
     ensures { λ r. ⌜ Put (now (buffer .entry)) at (wanted (info .«time_asked») (option 11 (octets32 (info .clock)))) (now (buffer .exit)) r 8 ⌝ }
 {
     if info.time_asked {
-        return put_number(buffer, at, OptionCode::CURRENT_TIME, wide64(info.clock));
+        return put_number(
+            buffer,
+            at,
+            OptionCode::CURRENT_TIME,
+            arithmetic::wide64(info.clock),
+        );
     }
     at
 }

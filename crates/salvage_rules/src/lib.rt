@@ -18,18 +18,12 @@ use state::LeaseTable;
 use state::Memory;
 use state::State;
 
-pub fn wide(x: u8) -> usize
-    ensures { λ r. ⌜ (r ≡ x) × (r < 256) ⌝ }
-{
-    x as usize
-}
-
 // The place of a tenant among the eight.
 fn tenant_place(t: u8) -> usize
     requires { ⌜ (1 ≤ t) × (t ≤ 8) ⌝ }
     ensures { λ r. ⌜ (r ≡ t - 1) × (r < 8) ⌝ }
 {
-    wide(t) - 1
+    arithmetic::wide(t) - 1
 }
 
 // ---- what is known
@@ -41,7 +35,7 @@ fn tenant_known(state: State, t: u8) -> bool
     if t < 1 {
         return false;
     }
-    wide(t) <= arithmetic::cut8(state.tenant_count)
+    arithmetic::wide(t) <= arithmetic::cut8(state.tenant_count)
 }
 
 // The same of a scope.
@@ -88,8 +82,8 @@ fn offsets_kept(s: &[u8], at: usize, state: State) -> bool
     requires { ⌜ Inside afterLease (now s) at ⌝ }
     ensures { λ r. ⌜ r ≡ offsetsKept state (fileLeaseAt (now (s .entry)) at) ⌝ }
 {
-    let n = wide(s[at + 2]);
-    let k = wide(s[at + (n + 16)]);
+    let n = arithmetic::wide(s[at + 2]);
+    let k = arithmetic::wide(s[at + (n + 16)]);
     if 64 < k {
         return false;
     }
@@ -137,7 +131,7 @@ fn is_named(s: &[u8], at: usize, holds: bool, state: State) -> bool
     if !scope_known(state, s[at + 1]) {
         return false;
     }
-    let n = wide(s[at + 2]);
+    let n = arithmetic::wide(s[at + 2]);
     may_have(s[at + (n + 3)], holds)
 }
 
@@ -214,7 +208,7 @@ fn kind_at(s: &[u8], at: usize) -> u8
     requires { ⌜ Inside afterLease (now s) at ⌝ }
     ensures { λ r. ⌜ r ≡ fileLeaseAt (now (s .entry)) at .kind ⌝ }
 {
-    let n = wide(s[at + 2]);
+    let n = arithmetic::wide(s[at + 2]);
     s[at + (n + 3)]
 }
 

@@ -11,7 +11,6 @@ use salvage_rules::entry_rule;
 use salvage_rules::keep_entry;
 use salvage_rules::keep_release;
 use salvage_rules::release_rule;
-use salvage_rules::wide;
 use state::LeaseTable;
 use state::Memory;
 use state::State;
@@ -95,7 +94,7 @@ fn walk_records(s: &[u8], at: usize, holds: bool, state: State, before: LeaseTab
 {
     let mut table = before;
     let mut rules = [0u8; 255];
-    let count = wide(s[at]);
+    let count = arithmetic::wide(s[at]);
     let mut here = at + 1;
     let mut i: usize = 0;
     while i < count {
@@ -121,7 +120,7 @@ fn walk_releases(
 {
     let mut memory = before;
     let mut rules = [0u8; 255];
-    let count = wide(s[at]);
+    let count = arithmetic::wide(s[at]);
     let mut here = at + 1;
     let mut i: usize = 0;
     while i < count {

@@ -116,18 +116,12 @@ fn info_of(s: State, r: Ruling) -> Info
     }
 }
 
-fn wide(n: u8) -> usize
-    ensures { λ r. ⌜ r ≡ n ⌝ }
-{
-    n as usize
-}
-
 // Whether the names are good for the settings, and the verdict's tenant is one of these.
 fn can_send(s: State, names: &[u8], tenant: usize) -> bool
     ensures { λ x. ⌜ x ≡ (namesB (s .«scope_count») (s .«tenant_count») (now (names .entry)) && ltb tenant (s .«tenant_count»)) ⌝ }
 {
     if names::good(names, s.scope_count, s.tenant_count) {
-        return tenant < wide(s.tenant_count);
+        return tenant < arithmetic::wide(s.tenant_count);
     }
     false
 }

@@ -152,19 +152,8 @@ fn is_set(n: u8) -> bool
     n != 0
 }
 
-fn wide(n: u32) -> u64
-    ensures { λ r. ⌜ r ≡ n ⌝ }
-{
-    n as u64
-}
-
-fn wide16(n: u16) -> usize
-    ensures { λ r. ⌜ r ≡ n ⌝ }
-{
-    n as usize
-}
-
-fn wide8(n: u8) -> usize
+// Two octets as a count or a place.
+fn count_of(n: u16) -> usize
     ensures { λ r. ⌜ r ≡ n ⌝ }
 {
     n as usize
@@ -176,7 +165,7 @@ fn set_at(s: &[u8; 75]) -> u64
 {
     let high = octets::read_u32(s, 19);
     let low = octets::read_u32(s, 23);
-    wide(high) * 4294967296 + wide(low)
+    arithmetic::wide64(high) * 4294967296 + arithmetic::wide64(low)
 }
 
 fn verdict_in(s: &[u8; 75]) -> Verdict
@@ -213,7 +202,7 @@ fn language_in(s: &[u8; 75]) -> Language
     let kept = run_of_8(s, 33);
     Language {
         asked: is_set(s[30]),
-        len: wide16(octets::read_u16(s, 31)),
+        len: count_of(octets::read_u16(s, 31)),
         octets: kept,
     }
 }
@@ -237,9 +226,9 @@ pub fn take(s: &[u8; 75]) -> Ruling
     let l = language_in(s);
     Ruling {
         verdict: v,
-        offset: wide16(octets::read_u16(s, 4)),
-        count: wide8(s[74]),
-        tenant: wide8(s[6]),
+        offset: count_of(octets::read_u16(s, 4)),
+        count: arithmetic::wide(s[74]),
+        tenant: arithmetic::wide(s[6]),
         xid: octets::read_u32(s, 7),
         id: i,
         features: is_set(s[27]),

@@ -11,7 +11,7 @@ grant-known-spec =
     (λ c κs. search needs)  -- src/lib.rt:211:9 sets-in-requires
     (λ c κs. search needs)  -- src/lib.rt:212:9 free-requires
     (λ c κs. search needs)  -- src/lib.rt:213:9 numbers-requires
-    (λ c κs. search needs)  -- src/lib.rt:214:9 wide16-requires
+    (λ c κs. search needs)  -- src/lib.rt:214:9 number32-requires
     (λ c κs. search needs)  -- src/lib.rt:215:9 most-requires
     (λ c κs. search needs)  -- src/lib.rt:216:9 nobodys-requires
     (λ c κs. search needs)  -- src/lib.rt:217:9 choose-requires

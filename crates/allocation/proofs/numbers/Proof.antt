@@ -12,10 +12,10 @@ numbers-spec =
     (λ c. search needs)  -- src/lib.rt:171:34 array-read-count
     (λ c κs. search needs)  -- src/lib.rt:171:15 count-requires
     (λ c κs. search needs)  -- src/lib.rt:172:15 count-requires-2
-    (λ c. search needs)  -- src/lib.rt:173:23 element-copy-out-wide
-    (λ c κs. search needs)  -- src/lib.rt:173:18 wide-requires
-    (λ c. search needs)  -- src/lib.rt:174:21 element-copy-out-wide-2
-    (λ c κs. search needs)  -- src/lib.rt:174:16 wide-requires-2
+    (λ c. search needs)  -- src/lib.rt:173:23 element-copy-out-wide32
+    (λ c κs. search needs)  -- src/lib.rt:173:18 wide32-requires
+    (λ c. search needs)  -- src/lib.rt:174:21 element-copy-out-wide32-2
+    (λ c κs. search needs)  -- src/lib.rt:174:16 wide32-requires-2
     (λ c κs. search needs)  -- src/lib.rt:175:17 others-requires
-    (λ c κs. search needs)  -- src/lib.rt:176:15 wide-requires-3
+    (λ c κs. search needs)  -- src/lib.rt:176:15 wide32-requires-3
     (λ c. search (numbers-is, needs)))  -- src/lib.rt:166:1 returns

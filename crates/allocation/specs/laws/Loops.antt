@@ -94,8 +94,8 @@ committed-split c n held h d p =
 
 -- ---- the whole
 pub numbers-is : (c : Scope) (n : ℕ) (m : List ℕ) (h free : ℕ) (d f v u w z : ℕ) → d ≡ length (offsets (getD m h 0)) → f ≡ length (offsets free)
-    → (v ≡ getD (c .reserve) h 0) × (v ≤ 255) → (u ≡ getD (c .limit) h 0) × (u ≤ 255)
-    → (w ≡ sumTo (except h (committed c (countAt m))) n) × (w ≤ 255 * n) → n ≤ 8 → (z ≡ c .size) × (z ≤ 255)
+    → (v ≡ getD (c .reserve) h 0) × (v < 256) → (u ≡ getD (c .limit) h 0) × (u < 256)
+    → (w ≡ sumTo (except h (committed c (countAt m))) n) × (w ≤ 255 * n) → n ≤ 8 → (z ≡ c .size) × (z < 256)
     → Numbered c n m h free (record { held = d; free = f; reserve = v; limit = u; others = w; size = z })
 unfolding numbersOf countAt
 numbers-is c n m h free d f v u w z ed ef ev eu ew hn ez =
@@ -103,7 +103,7 @@ numbers-is c n m h free d f v u w z ed ef ev eu ew hn ez =
     let q = length-offsets free in
     record {
       whole = cc (ev .0, eu .0, ew .0, ez .0);
-      small = record { held = omega arith; free = omega arith; others = omega arith; reserve = ev .1; limit = eu .1; size = ez .1 };
+      small = record { held = omega arith; free = omega arith; others = omega arith; reserve = omega (arith, ev .1); limit = omega (arith, eu .1); size = omega (arith, ez .1) };
     }
 
 -- what a tenant holds, by the sets of all

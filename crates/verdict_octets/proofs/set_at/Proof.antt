@@ -10,8 +10,8 @@ set-at-spec =
     (tie.spec
     (λ c κs. search needs)  -- src/lib.rt:160:9 read-u32-requires
     (λ c κs. search needs)  -- src/lib.rt:161:9 read-u32-requires-2
-    (λ c κs. search needs)  -- src/lib.rt:162:5 wide-requires
+    (λ c κs. search needs)  -- src/lib.rt:162:5 wide64-requires
     (λ c. search needs)  -- src/lib.rt:162:5 mul-result
-    (λ c κs. search needs)  -- src/lib.rt:162:31 wide-requires-2
+    (λ c κs. search needs)  -- src/lib.rt:162:31 wide64-requires-2
     (λ c. search needs)  -- src/lib.rt:162:5 add-result
     (λ c. search (set-is, needs)))  -- src/lib.rt:157:1 returns

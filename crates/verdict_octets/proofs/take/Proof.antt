@@ -12,11 +12,11 @@ take-spec =
     (λ c κs. search needs)  -- src/lib.rt:227:9 identifier-in-requires
     (λ c κs. search needs)  -- src/lib.rt:228:9 language-in-requires
     (λ c κs. search needs)  -- src/lib.rt:231:24 read-u16-requires
-    (λ c κs. search needs)  -- src/lib.rt:231:17 wide16-requires
+    (λ c κs. search needs)  -- src/lib.rt:231:17 count-of-requires
     (λ c. search needs)
     (λ c κs. search needs)
-    (λ c. search needs)  -- src/lib.rt:232:23 element-copy-out-wide8
-    (λ c κs. search needs)  -- src/lib.rt:232:17 wide8-requires
+    (λ c. search needs)  -- src/lib.rt:232:23 element-copy-out-wide
+    (λ c κs. search needs)  -- src/lib.rt:232:17 wide-requires
     (λ c κs. search needs)  -- src/lib.rt:233:14 read-u32-requires
     (λ c. search needs)  -- src/lib.rt:235:26 element-copy-out-is-set
     (λ c κs. search needs)  -- src/lib.rt:235:19 is-set-requires

@@ -39,7 +39,7 @@ use Rattle.guarantee.specs.Statement.{SoundBook, askFor, bookAt, ownFor, placeF
 use Rattle.best_grant.specs.Best.{AsksRule, Choice, NobodyMore, bookWith, broughtFor, sizeOf, leaseOn, newIn, ruleFor, thereFor}
 use Rattle.guarantee.proofs.Kept.{now-sound}
 use Rattle.guarantee.proofs.Proposed as proposed
-use Rattle.guarantee.proofs.Reached.{decided-there, not-taken, taken}
+use Rattle.guarantee.proofs.Reached.{decided-there, pick-else, pick-then}
 
 -- ---- a REQUEST that comes to the rule with the table u
 module _ (s : State) (t u : LeaseTable) (h : ℕ) (m : Fields) (request : m .kind ≡ 3) (new : resends m (recordedOf (ownOf t h) m) ≡ false)
@@ -78,26 +78,26 @@ module _ (s : State) (t u : LeaseTable) (h : ℕ) (m : Fields) (request : m .kin
 
   proposal-is : proposalOf s (broughtBy t h m O T) h m O ≡ newOf s u h m
   unfolding proposalOf
-  proposal-is = taken (isNew m) _ _ is-new ∙ ap (λ (x : LeaseTable). newOf s x h m) brought
+  proposal-is = pick-then (isNew m) _ _ is-new ∙ ap (λ (x : LeaseTable). newOf s x h m) brought
 
   -- it is recorded where error 0 passes, its hold in another scope dropped first
   pub decided : (q : List Release) (l : Lease) → error0Of s m (newOf s u h m) ≡ false → leaseFrom m (newOf s u h m) ≡ l
       → decideOf s t q h m ≡ droppedFirst (dropsHold m O T) O (changed (entering l) (withLease LeaseAck l))
   unfolding decideOf judgedOf settledOf leasedOf
   decided q l error0 recorded =
-      not-taken (resends m O) _ _ new
-      ∙ not-taken (releasedAgain s q m) _ _ (no-again q)
-      ∙ not-taken (error1Of s m O T) _ _ error1
-      ∙ not-taken (error2Of s m) _ _ error2
-      ∙ not-taken (error3Of m O T) _ _ no-error3
-      ∙ not-taken (isForHold s m O T) _ _ elsewhere
-      ∙ taken (hasPeriod m) _ _ has-period
+      pick-else (resends m O) _ _ new
+      ∙ pick-else (releasedAgain s q m) _ _ (no-again q)
+      ∙ pick-else (error1Of s m O T) _ _ error1
+      ∙ pick-else (error2Of s m) _ _ error2
+      ∙ pick-else (error3Of m O T) _ _ no-error3
+      ∙ pick-else (isForHold s m O T) _ _ elsewhere
+      ∙ pick-then (hasPeriod m) _ _ has-period
       ∙ ap (droppedFirst (dropsHold m O T) O)
       (ap (settledOf s m O) proposal-is
-      ∙ not-taken (error0Of s m (newOf s u h m)) _ _ error0
+      ∙ pick-else (error0Of s m (newOf s u h m)) _ _ error0
       ∙ ap (leasedOf s m O) recorded
-      ∙ not-taken (eqb (m .kind) 1) _ _ (ap (λ (k : ℕ). eqb k 1) request)
-      ∙ taken (eqb (m .kind) 3) _ _ (ap (λ (k : ℕ). eqb k 3) request))
+      ∙ pick-else (eqb (m .kind) 1) _ _ (ap (λ (k : ℕ). eqb k 1) request)
+      ∙ pick-then (eqb (m .kind) 3) _ _ (ap (λ (k : ℕ). eqb k 3) request))
 
 -- ---- the drop of a hold, then a record: one after the other
 moved-table : (o l : Lease) (h : ℕ) (t : LeaseTable) → h < length (t .tenants) → applied (droppingFirst o (entering l)) h t ≡ applied (entering l) h (applied (droppingFirst o noEdit) h t)

@@ -35,7 +35,7 @@ use Rattle.server.specs.Serve.{Answer, Call, answered, headOf, replyOf, serveOf
 use Rattle.guarantee.specs.Statement.{Demand3, Granted, NewRequest, SoundBook, bookAt, grantFor, leaseFor, placeFor, releasesFor, run, saysOf, stateAt, tableAt, tenantFor, termsFor}
 use Rattle.guarantee.proofs.Inserted.{entered, others-stay}
 use Rattle.guarantee.proofs.Proposed as proposed
-use Rattle.guarantee.proofs.Reached.{decided-there, not-taken, taken}
+use Rattle.guarantee.proofs.Reached.{decided-there, pick-else, pick-then}
 use Rattle.guarantee.proofs.Ranges.{ack-names, named-head, pool-fits}
 use Rattle.guarantee.proofs.Kept.{call-sound, now-sound, run-sound, within-limits}
 
@@ -80,24 +80,24 @@ module _ (s : State) (t : LeaseTable) (h : ℕ) (m : Fields) (v : Sound s (lease
 
   proposal-is : proposalOf s t h m O ≡ newOf s t h m
   unfolding proposalOf
-  proposal-is = taken (isNew m) _ _ is-new
+  proposal-is = pick-then (isNew m) _ _ is-new
 
   -- it is recorded where error 0 passes
   pub decided : (q : List Release) (l : Lease) → error0Of s m (newOf s t h m) ≡ false → leaseFrom m (newOf s t h m) ≡ l → decideOf s t q h m ≡ changed (entering l) (withLease LeaseAck l)
   unfolding judgedFree settledOf leasedOf
   decided q l error0 recorded =
       decide-free s t q h m free
-      ∙ not-taken (resends m O) _ _ new
-      ∙ not-taken (releasedAgain s q m) _ _ (no-again q)
-      ∙ not-taken (early1Of s m || (isNew m && T)) _ _ no-error1
-      ∙ not-taken (error2Of s m) _ _ error2
-      ∙ not-taken ((eqb (m .kind) 4 || eqb (m .kind) 7) && not T) _ _ (ap (λ (k : ℕ). (eqb k 4 || eqb k 7) && not T) request)
-      ∙ taken (hasPeriod m) _ _ has-period
+      ∙ pick-else (resends m O) _ _ new
+      ∙ pick-else (releasedAgain s q m) _ _ (no-again q)
+      ∙ pick-else (early1Of s m || (isNew m && T)) _ _ no-error1
+      ∙ pick-else (error2Of s m) _ _ error2
+      ∙ pick-else ((eqb (m .kind) 4 || eqb (m .kind) 7) && not T) _ _ (ap (λ (k : ℕ). (eqb k 4 || eqb k 7) && not T) request)
+      ∙ pick-then (hasPeriod m) _ _ has-period
       ∙ ap (settledOf s m O) proposal-is
-      ∙ not-taken (error0Of s m (newOf s t h m)) _ _ error0
+      ∙ pick-else (error0Of s m (newOf s t h m)) _ _ error0
       ∙ ap (leasedOf s m O) recorded
-      ∙ not-taken (eqb (m .kind) 1) _ _ (ap (λ (k : ℕ). eqb k 1) request)
-      ∙ taken (eqb (m .kind) 3) _ _ (ap (λ (k : ℕ). eqb k 3) request)
+      ∙ pick-else (eqb (m .kind) 1) _ _ (ap (λ (k : ℕ). eqb k 1) request)
+      ∙ pick-then (eqb (m .kind) 3) _ _ (ap (λ (k : ℕ). eqb k 3) request)
 
 -- ---- the call
 module _ (b : Book) (c : Call) (v : SoundBook b) (r : NewRequest b c) where

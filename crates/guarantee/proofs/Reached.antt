@@ -16,13 +16,13 @@ use Rattle.server.specs.Serve.{Answer, Call, answered, atClock, decidedFor, for
 use Rattle.guarantee.specs.Statement.{bookAt, saysOf, stateAt, tenantFor}
 
 -- ---- tests that go one way
-pub taken : {A : Type 0} (t : Bool) (x y : A) → t ≡ true → pick t x y ≡ x
+pub pick-then : {A : Type 0} (t : Bool) (x y : A) → t ≡ true → pick t x y ≡ x
 unfolding pick
-taken t x y e = ap (λ (b : Bool). pick b x y) e
+pick-then t x y e = ap (λ (b : Bool). pick b x y) e
 
-pub not-taken : {A : Type 0} (t : Bool) (x y : A) → t ≡ false → pick t x y ≡ y
+pub pick-else : {A : Type 0} (t : Bool) (x y : A) → t ≡ false → pick t x y ≡ y
 unfolding pick
-not-taken t x y e = ap (λ (b : Bool). pick b x y) e
+pick-else t x y e = ap (λ (b : Bool). pick b x y) e
 
 -- ---- tests 1 to 7
 pub record Reaches (b : Book) (c : Call) : Type 0 where
@@ -36,11 +36,11 @@ module _ (b : Book) (c : Call) where
   pub decided-there : Reaches b c → serveOf b c ≡ answered (bookAt b c) (tenantFor b c) (saysOf b c) (decidedFor (bookAt b c) (tenantFor b c) (saysOf b c))
   unfolding serveOf atClock withReading forServer
   decided-there v =
-      taken (bookB b) _ _ (v .sound)
-      ∙ not-taken (ltb (c .room) leastRoom) _ _ (le-ltb (c .room) leastRoom (v .room))
-      ∙ taken (ltb (tenantFor b c) (tenantsIn (stateAt b c))) _ _ (lt-ltb (tenantFor b c) (tenantsIn (stateAt b c)) (v .house))
-      ∙ taken (eqb (readOf (c .datagram) .discard) 0) _ _ (eq-eqb (readOf (c .datagram) .discard) 0 (v .read))
-      ∙ not-taken (eqb (saysOf b c .kind) 3 && not (saysOf b c .ours)) _ _ (v .ours)
+      pick-then (bookB b) _ _ (v .sound)
+      ∙ pick-else (ltb (c .room) leastRoom) _ _ (le-ltb (c .room) leastRoom (v .room))
+      ∙ pick-then (ltb (tenantFor b c) (tenantsIn (stateAt b c))) _ _ (lt-ltb (tenantFor b c) (tenantsIn (stateAt b c)) (v .house))
+      ∙ pick-then (eqb (readOf (c .datagram) .discard) 0) _ _ (eq-eqb (readOf (c .datagram) .discard) 0 (v .read))
+      ∙ pick-else (eqb (saysOf b c .kind) 3 && not (saysOf b c .ours)) _ _ (v .ours)
 
   Replied : Answer → Type 0
   Replied a = a .outcome ≡ 0 → Reaches b c

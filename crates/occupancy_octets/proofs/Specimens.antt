@@ -5,10 +5,10 @@ use lib.ListN.{replicate}
 use Rattle.format.specs.Format.{writeAll}
 use Rattle.occupancy.specs.Board.{emptyScopeBoard, noBoard, noEntry}
 use Rattle.occupancy.specs.declared.Board.{Board}
-use Rattle.occupancy_octets.specs.Octets.{boardOctets, boardSize, entryOctets, scopeOctets}
+use Rattle.occupancy_octets.specs.Octets.{boardOctets, boardSize, entryOctets, scopeBoardOctets}
 
 none : boardOctets noBoard ≡ replicate boardSize 0
-unfolding boardOctets scopeOctets entryOctets writeAll
+unfolding boardOctets scopeBoardOctets entryOctets writeAll
 none = refl
 
 -- in the second scope tenant 3 has two leases on offset 1, and tenant 8 one on offset 63; nobody has any in the others
@@ -22,5 +22,5 @@ two = record {
 }
 
 two-octets : boardOctets two ≡ replicate 136 0 ++ (0 ∷ 0 ∷ 3 ∷ 2 ∷ replicate 122 0) ++ (8 ∷ 1 ∷ 0 ∷ 0 ∷ 1 ∷ 0 ∷ 0 ∷ 0 ∷ 0 ∷ 1 ∷ []) ++ replicate 272 0
-unfolding boardOctets scopeOctets entryOctets writeAll two
+unfolding boardOctets scopeBoardOctets entryOctets writeAll two
 two-octets = refl

@@ -12,11 +12,11 @@ use Rattle.occupancy.specs.declared.ScopeBoard.{ScopeBoard}
 unfoldable pub entryOctets : Entry → List ℕ
 entryOctets e = e .owner ∷ e .count ∷ []
 
-unfoldable pub scopeOctets : ScopeBoard → List ℕ
-scopeOctets v = writeAll entryOctets (v .entries) ++ v .held
+unfoldable pub scopeBoardOctets : ScopeBoard → List ℕ
+scopeBoardOctets v = writeAll entryOctets (v .entries) ++ v .held
 
 unfoldable pub boardOctets : Board → List ℕ
-boardOctets b = writeAll scopeOctets (b .scopes)
+boardOctets b = writeAll scopeBoardOctets (b .scopes)
 
 -- as many as these are (`board-size`): four scopes of 64 offsets and eight tenants
 abbrev pub boardSize : ℕ

@@ -4,7 +4,7 @@ ghost use Prim.Native.Nat.{_+_, _≤_};
 ghost use lib.ListN.{length};
 ghost use Rattle.format.specs.Format.{writeAll};
 ghost use Rattle.octets.specs.Octets.{Wrote};
-ghost use Rattle.occupancy_octets.specs.Octets.{boardOctets, boardSize, entryOctets, scopeOctets};
+ghost use Rattle.occupancy_octets.specs.Octets.{boardOctets, boardSize, entryOctets, scopeBoardOctets};
 use occupancy::Board;
 use occupancy::Entry;
 use occupancy::ScopeBoard;
@@ -27,7 +27,7 @@ pub fn put(room: &mut [u8], at: usize, b: Board) -> usize
 // A scope: its addresses, then what each tenant holds.
 fn put_scope(room: &mut [u8], at: usize, v: ScopeBoard) -> usize
     requires { ⌜ at + 136 ≤ length (now room) ⌝ }
-    ensures { λ r. ⌜ Wrote (now (room .entry)) at (scopeOctets v) (now (room .exit)) r × (r ≡ at + 136) ⌝ }
+    ensures { λ r. ⌜ Wrote (now (room .entry)) at (scopeBoardOctets v) (now (room .exit)) r × (r ≡ at + 136) ⌝ }
 {
     let held = v.held;
     let a = put_entries(room, at, v);

@@ -29,7 +29,7 @@ use Rattle.decision.specs.Verdicts.{discardWith, nakWith, plainReply, refusalOf
 use Rattle.decision.specs.Decide.{changed, decideOf, droppedFirst, judgedOf, leasedOf, plainOf, repeatedOf, settledOf, unchanged}
 use Rattle.decision.specs.laws.Code.{no, or-none}
 use Rattle.decision_laws.specs.laws.Ensured.{sentAs}
-use Rattle.guarantee.proofs.Reached.{not-taken, taken}
+use Rattle.guarantee.proofs.Reached.{pick-else, pick-then}
 
 -- ---- a hold that waits for a message, which names its scope and asks for no more than it has; but for the message's type
 pub record Waits (s : State) (m : Fields) (o : Lease) : Type 0 where
@@ -74,14 +74,14 @@ module _ (s : State) (m : Fields) (o : Lease) (w : Waits s m o) (request : m .ki
   turns : (p : Proposal) (q : List Release) → error2Of s m ≡ false → judgedOf s p q m o true ≡ changed (givingWay o (turned m o)) (withLease LeaseAck (turned m o))
   unfolding judgedOf repeatedOf
   turns p q error2 =
-      not-taken (resends m o) _ _ no-resend
-      ∙ not-taken (releasedAgain s q m) _ _ (no-again q)
-      ∙ not-taken (error1Of s m o true) _ _ no-error1
-      ∙ not-taken (error2Of s m) _ _ error2
-      ∙ not-taken (error3Of m o true) _ _ no-error3
-      ∙ taken (isForHold s m o true) _ _ for-it
-      ∙ taken (holdMeets m o) _ _ (w .meets)
-      ∙ not-taken (eqb (m .kind) 1) _ _ (ap (λ (k : ℕ). eqb k 1) request)
+      pick-else (resends m o) _ _ no-resend
+      ∙ pick-else (releasedAgain s q m) _ _ (no-again q)
+      ∙ pick-else (error1Of s m o true) _ _ no-error1
+      ∙ pick-else (error2Of s m) _ _ error2
+      ∙ pick-else (error3Of m o true) _ _ no-error3
+      ∙ pick-then (isForHold s m o true) _ _ for-it
+      ∙ pick-then (holdMeets m o) _ _ (w .meets)
+      ∙ pick-else (eqb (m .kind) 1) _ _ (ap (λ (k : ℕ). eqb k 1) request)
 
   pub taken-up : (t : LeaseTable) (q : List Release) (h : ℕ) → recordedOf (ownOf t h) m ≡ o → holdsOf (ownOf t h) m ≡ true → error2Of s m ≡ false
       → decideOf s t q h m ≡ changed (givingWay o (turned m o)) (withLease LeaseAck (turned m o))

@@ -31,7 +31,7 @@ use Rattle.decision.specs.declared.Reply.{Reply}
 use Rattle.decision.specs.declared.Reply.the-variants.{LeaseAck, Nak}
 use Rattle.decision.specs.declared.Verdict.{Verdict}
 use Rattle.offer_guarantee.proofs.Alike.{Alike, both-numbers, both-say, wordsOf}
-use Rattle.guarantee.proofs.Reached.{taken}
+use Rattle.guarantee.proofs.Reached.{pick-then}
 use Rattle.server.specs.Serve.{Answer, Call, answered, atClock, byReply, discarded, forServer, headOf, replyOf, serveOf, termsOf, withReading}
 
 recorded-same : (own : List Lease) (m : Fields) → recordedOf own m ≡ recordedOf own (sentAs 3 m)
@@ -62,7 +62,7 @@ Free t h m = isHeld (recordedOf (ownOf t h) m) (holdsOf (ownOf t h) m) ≡ false
 discovered-held : (s : State) (t : LeaseTable) (q : List Release) (h : ℕ) (m : Fields) → Free t h m → resends (sentAs 3 m) (recordedOf (ownOf t h) m) ≡ true → decideOf s t q h (sentAs 1 m) .verdict ≡ discardWith 8
 unfolding judgedFree resends releasedAgain sentAs refusalOf pick isNew recordedOf holdsOf
 discovered-held s t q h m free e =
-    ap (λ (d : Decided). d .verdict) (decide-free s t q h (sentAs 1 m) free ∙ taken (early1Of s (sentAs 1 m) || (true && holdsOf (ownOf t h) m)) _ _ (or-right (early1Of s (sentAs 1 m)) (resent-held (ownOf t h) m e)))
+    ap (λ (d : Decided). d .verdict) (decide-free s t q h (sentAs 1 m) free ∙ pick-then (early1Of s (sentAs 1 m) || (true && holdsOf (ownOf t h) m)) _ _ (or-right (early1Of s (sentAs 1 m)) (resent-held (ownOf t h) m e)))
 
 -- ---- a REQUEST draws an ACK with a lease, or a NAK
 Drawn : Verdict → Type 0

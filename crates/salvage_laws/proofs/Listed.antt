@@ -41,7 +41,7 @@ listed-from kind n before (r ∷ rs) e =
         kinds = refl;
         from = omega arith;
         to = let k = length-append before (r ∷ rs) in omega arith;
-        named = sym (getD-at before r rs 0 (n - 1) (let z : length before ≡ n - 1 = omega arith in z));
+        ruled = sym (getD-at before r rs 0 (n - 1) (let z : length before ≡ n - 1 = omega arith in z));
         broken = let z = eqb-false r 0 q in positive r z;
       },
       ih,

@@ -46,7 +46,7 @@ pub record ListedIn (kind : ℕ) (rs : List ℕ) (d : Dropped) : Type 0 where
   pub kinds : d .kind ≡ kind
   pub from : 1 ≤ d .place
   pub to : d .place ≤ length rs
-  pub named : d .rule ≡ getD rs (d .place - 1) 0
+  pub ruled : d .rule ≡ getD rs (d .place - 1) 0
   pub broken : 0 < d .rule
 
 unfoldable pub ListedRight : Type 0

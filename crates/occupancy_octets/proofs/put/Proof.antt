@@ -1,13 +1,13 @@
 -- `put` meets its contract: scope by scope.
 use Prim.Native.Nat.{_-_}
-use Rattle.occupancy_octets.specs.Octets.{scopeOctets}
+use Rattle.occupancy_octets.specs.Octets.{scopeBoardOctets}
 use Rattle.occupancy_octets.specs.laws.Octets.{EvenInv, scopeRows}
 use borrow.Author.Needs.{needs}
 use Rattle.occupancy_octets.proofs.put.Statement.{statement}
 use Rattle.occupancy_octets.proofs.put.Tie as tie
 
 abbrev Inv-loop : tie.InvT-loop
-Inv-loop room₀ at b to₀ i₀ room to i = EvenInv scopeOctets 136 (b .scopes) 4 room₀ at room to i
+Inv-loop room₀ at b to₀ i₀ room to i = EvenInv scopeBoardOctets 136 (b .scopes) 4 room₀ at room to i
 
 abbrev μ-loop : tie.MeasureT-loop
 μ-loop room₀ at b to₀ i₀ room to i = 4 - i

@@ -17,7 +17,7 @@ use Rattle.occupancy.specs.Board.{noEntry, noScopeBoard}
 use Rattle.occupancy.specs.declared.Board.{Board}
 use Rattle.occupancy.specs.declared.Entry.{Entry}
 use Rattle.occupancy.specs.declared.ScopeBoard.{ScopeBoard}
-use Rattle.occupancy_octets.specs.Octets.{ScopeLong, boardOctets, boardSize, entryOctets, scopeOctets}
+use Rattle.occupancy_octets.specs.Octets.{ScopeLong, boardOctets, boardSize, entryOctets, scopeBoardOctets}
 
 -- ---- how many octets
 -- values of so many octets each
@@ -40,8 +40,8 @@ entries-size v e =
     write-each entryOctets (λ _. Unit {0}) 2 (λ x h. entry-size x) (v .entries) (all-any (λ (_ : Entry). Unit {0}) (λ x. tt) (v .entries))
     ∙ ap (λ (n : ℕ). n * 2) e
 
-scope-size : (v : ScopeBoard) → ScopeLong v → length (scopeOctets v) ≡ 136
-unfolding scopeOctets
+scope-size : (v : ScopeBoard) → ScopeLong v → length (scopeBoardOctets v) ≡ 136
+unfolding scopeBoardOctets
 scope-size v h =
     let a = length-append (writeAll entryOctets (v .entries)) (v .held) in
     let b = entries-size v (h .entries) in
@@ -50,7 +50,7 @@ scope-size v h =
 
 pub board-size : (b : Board) → length (b .scopes) ≡ 4 → All ScopeLong (b .scopes) → length (boardOctets b) ≡ boardSize
 unfolding boardOctets
-board-size b e h = write-each scopeOctets ScopeLong 136 scope-size (b .scopes) h ∙ ap (λ (n : ℕ). n * 136) e
+board-size b e h = write-each scopeBoardOctets ScopeLong 136 scope-size (b .scopes) h ∙ ap (λ (n : ℕ). n * 136) e
 
 -- ---- a row of m elements with k octets each, of which i are written
 pub record EvenInv {A : Type 0} (w : A → List ℕ) (k : ℕ) (l : List A) (m : ℕ) (r₀ : List ℕ) (at : ℕ) (room : List ℕ) (to i : ℕ) : Type 0 where
@@ -105,18 +105,18 @@ pub entries-place : (v : ScopeBoard) {r₀ : List ℕ} {at : ℕ} {room : List �
 entries-place v {to = to} e h = let w = even-end e h in let s = entries-size v (e .many) in omega (arith, w .next)
 
 pub scope-wrote : {r₀ r₁ r₂ : List ℕ} {at a b : ℕ} (v : ScopeBoard) → length (v .held) ≡ 8 → at ≤ length r₀ → Wrote r₀ at (writeAll entryOctets (v .entries)) r₁ a × (a ≡ at + 128) → Wrote r₁ a (take 8 (v .held)) r₂ b
-    → Wrote r₀ at (scopeOctets v) r₂ b × (b ≡ at + 136)
-unfolding scopeOctets
+    → Wrote r₀ at (scopeBoardOctets v) r₂ b × (b ≡ at + 136)
+unfolding scopeBoardOctets
 scope-wrote v e h p q =
     let w = wrote-as (take-all 8 (v .held) (omega arith)) q in
     let g = p .1 in
     (wrote-joined h (p .0) w, omega (arith, w .next))
 
-pub scopes-next : {l : List ScopeBoard} {m : ℕ} {r₀ : List ℕ} {at : ℕ} {room : List ℕ} {to i : ℕ} → EvenInv scopeOctets 136 l m r₀ at room to i → {r₁ : List ℕ} {n : ℕ} → i < m
-    → Wrote room to (scopeOctets (getD l i noScopeBoard)) r₁ n × (n ≡ to + 136) → length r₁ ≡ length room → EvenInv scopeOctets 136 l m r₀ at r₁ n (i + 1)
+pub scopes-next : {l : List ScopeBoard} {m : ℕ} {r₀ : List ℕ} {at : ℕ} {room : List ℕ} {to i : ℕ} → EvenInv scopeBoardOctets 136 l m r₀ at room to i → {r₁ : List ℕ} {n : ℕ} → i < m
+    → Wrote room to (scopeBoardOctets (getD l i noScopeBoard)) r₁ n × (n ≡ to + 136) → length r₁ ≡ length room → EvenInv scopeBoardOctets 136 l m r₀ at r₁ n (i + 1)
 scopes-next v h p q = even-next v noScopeBoard h (p .0) (p .1) q
 
-pub scopes-done : (b : Board) {r₀ : List ℕ} {at : ℕ} {room : List ℕ} {to i : ℕ} → EvenInv scopeOctets 136 (b .scopes) 4 r₀ at room to i → 4 ≤ i → Wrote r₀ at (boardOctets b) room to
+pub scopes-done : (b : Board) {r₀ : List ℕ} {at : ℕ} {room : List ℕ} {to i : ℕ} → EvenInv scopeBoardOctets 136 (b .scopes) 4 r₀ at room to i → 4 ≤ i → Wrote r₀ at (boardOctets b) room to
 unfolding boardOctets
 scopes-done b v h = even-end v h
 

@@ -15,7 +15,7 @@ use Rattle.releases.specs.Whole.{bookB}
 use Rattle.soundness.specs.Sound.{tenantsIn}
 use Rattle.allocation.specs.declared.Grant.{Grant}
 use Rattle.allocation.specs.Rule.{grantOf, heldBy}
-use Rattle.proposal.specs.Proposals.{defaultLease, horizon, lengthOf, meets}
+use Rattle.proposal.specs.Proposals.{defaultLease, horizon, lengthOf, meets, latestEnd}
 use Rattle.admission.specs.Tests.{dropsHold, error1Of, error2Of, holdsOf, isForHold, ownOf, resends}
 use Rattle.server.specs.Serve.{Answer, Call, headOf, serveOf}
 use Rattle.guarantee.specs.Statement.{SoundBook, askFor, bookAt, endFor, ownFor, placeFor, recordFor, saysOf, scopeFor, startFor, stateAt, tenantFor}
@@ -46,7 +46,7 @@ pub record AsksRule (b : Book) (c : Call) : Type 0 where
   pub elsewhere : isForHold (stateAt b c) (saysOf b c) (recordFor b c) (thereFor b c) ≡ false
   -- its period is "inside the horizon and the 32-bit clock", its "minimum and latest start can be met", and "a lease record of its house's own" is left
   pub soon : startFor b c ≤ stateAt b c .clock + horizon
-  pub fits : endFor b c ≤ 4294967295
+  pub fits : endFor b c ≤ latestEnd
   pub met : meets (saysOf b c) (startFor b c) (lengthOf (saysOf b c) defaultLease) ≡ true
   pub left : length (ownOf (broughtFor b c .table) (tenantFor b c)) < 16
 

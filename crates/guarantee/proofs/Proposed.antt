@@ -24,7 +24,7 @@ use Rattle.proposal.specs.declared.Proposal.{Proposal}
 use Rattle.decision.specs.declared.Reply.{Reply}
 use Rattle.decision_laws.specs.laws.Cases.{new-known, not-none}
 use Rattle.decision.specs.laws.Code.{or-none}
-use Rattle.proposal.specs.Proposals.{horizon, defaultLease, askAt, error0Of, fitsNew, leaseFrom, lengthOf, meets, newOf, newWith, startOf}
+use Rattle.proposal.specs.Proposals.{horizon, defaultLease, askAt, error0Of, fitsNew, leaseFrom, lengthOf, meets, newOf, newWith, startOf, latestEnd}
 use Rattle.admission.specs.Tests.{badCounts, knowsScope, ownOf, scopePlace}
 use Rattle.decision.specs.Verdicts.{withLease}
 use Rattle.server.specs.Serve.{termsOf}
@@ -84,11 +84,11 @@ module _ (s : State) (t : LeaseTable) (h : ℕ) (m : Fields) (v : Sound s (lease
   abbrev L : ℕ → Lease
   L kind = leaseWith (scopePlace s (m .scope .value) + 1) (m .id .len) (m .id .octets) kind (m .xid) (startOf m (s .clock) (s .clock)) (startOf m (s .clock) (s .clock) + lengthOf m defaultLease) (G .addresses)
 
-  pub recorded : {kind : ℕ} → m .kind ≡ kind → from + long ≤ 4294967295 → leaseFrom m (newOf s t h m) ≡ L kind
+  pub recorded : {kind : ℕ} → m .kind ≡ kind → from + long ≤ latestEnd → leaseFrom m (newOf s t h m) ≡ L kind
   unfolding leaseFrom newWith
   recorded e fits =
       ap (leaseFrom m) proposed
-      ∙ ap (λ (end : ℕ). leaseWith (K + 1) (m .id .len) (m .id .octets) (m .kind) (m .xid) from end (G .addresses)) (let e : min (from + long) 4294967295 ≡ from + long = omega arith in e)
+      ∙ ap (λ (end : ℕ). leaseWith (K + 1) (m .id .len) (m .id .octets) (m .kind) (m .xid) from end (G .addresses)) (let e : min (from + long) latestEnd ≡ from + long = omega arith in e)
       ∙ ap L e
 
   -- what a reply with it says
@@ -100,30 +100,30 @@ module _ (s : State) (t : LeaseTable) (h : ℕ) (m : Fields) (v : Sound s (lease
 
   -- ---- error 0
   tested : error0Of s m (newOf s t h m)
-      ≡ (ltb (s .clock + horizon) from || (ltb 4294967295 (from + long) || (not (meets m from long) || not (ltb (length (ownOf t h)) 16 && leb (m .counts .least) (G .number)))))
+      ≡ (ltb (s .clock + horizon) from || (ltb latestEnd (from + long) || (not (meets m from long) || not (ltb (length (ownOf t h)) 16 && leb (m .counts .least) (G .number)))))
   unfolding error0Of newWith fitsNew suffices
   tested =
       ap (error0Of s m) proposed
-      ∙ ap (λ (n : ℕ). ltb (s .clock + horizon) from || (ltb 4294967295 (from + long) || (not (meets m from n) || not (ltb (length (ownOf t h)) 16 && leb (m .counts .least) (G .number)))))
+      ∙ ap (λ (n : ℕ). ltb (s .clock + horizon) from || (ltb latestEnd (from + long) || (not (meets m from n) || not (ltb (length (ownOf t h)) 16 && leb (m .counts .least) (G .number)))))
       (let e : (from + long) - from ≡ long = omega arith in e)
 
   none-or : {a b : Bool} → a ≡ false → b ≡ false → (a || b) ≡ false
   none-or {a} {b} p q = ap (λ (x : Bool). x || b) p ∙ q
 
   -- it passes where the grant is not below least, as it is not within the unused reserve
-  pub passes : from ≤ s .clock + horizon → from + long ≤ 4294967295 → meets m from long ≡ true → length (ownOf t h) < 16 → m .counts .least ≤ G .number → error0Of s m (newOf s t h m) ≡ false
+  pub passes : from ≤ s .clock + horizon → from + long ≤ latestEnd → meets m from long ≡ true → length (ownOf t h) < 16 → m .counts .least ≤ G .number → error0Of s m (newOf s t h m) ≡ false
   passes soon fits met left least =
       tested
       ∙ none-or (le-ltb (s .clock + horizon) from soon)
-      (none-or (le-ltb 4294967295 (from + long) fits)
+      (none-or (le-ltb latestEnd (from + long) fits)
       (none-or (ap not met) (ap not (and-both (lt-ltb (length (ownOf t h)) 16 left) (le-leb (m .counts .least) (G .number) least)))))
 
-  pub no-error : from ≤ s .clock + horizon → from + long ≤ 4294967295 → meets m from long ≡ true → length (ownOf t h) < 16 → m .counts .least ≤ U → error0Of s m (newOf s t h m) ≡ false
+  pub no-error : from ≤ s .clock + horizon → from + long ≤ latestEnd → meets m from long ≡ true → length (ownOf t h) < 16 → m .counts .least ≤ U → error0Of s m (newOf s t h m) ≡ false
   no-error soon fits met left least = passes soon fits met left (let p = enough in let q = counts in omega arith)
 
   -- what it leaves
   pub record Left : Type 0 where
-    pub fits : from + long ≤ 4294967295
+    pub fits : from + long ≤ latestEnd
     pub met : meets m from long ≡ true
     pub left : length (ownOf t h) < 16
     pub least : m .counts .least ≤ G .number
@@ -131,11 +131,11 @@ module _ (s : State) (t : LeaseTable) (h : ℕ) (m : Fields) (v : Sound s (lease
   pub leaves : error0Of s m (newOf s t h m) ≡ false → Left
   leaves e =
       let a = or-none (ltb (s .clock + horizon) from) _ (sym tested ∙ e) in
-      let b = or-none (ltb 4294967295 (from + long)) _ (a .1) in
+      let b = or-none (ltb latestEnd (from + long)) _ (a .1) in
       let c = or-none (not (meets m from long)) _ (b .1) in
       let d = and-parts (ltb (length (ownOf t h)) 16) (leb (m .counts .least) (G .number)) (not-none _ (c .1)) in
       record {
-        fits = ltb-false 4294967295 (from + long) (b .0);
+        fits = ltb-false latestEnd (from + long) (b .0);
         met = not-none (meets m from long) (c .0);
         left = ltb-true (length (ownOf t h)) 16 (d .0);
         least = leb-true (m .counts .least) (G .number) (d .1);

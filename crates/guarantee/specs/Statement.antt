@@ -29,7 +29,7 @@ use Rattle.soundness.specs.Sound.{holding, tenantsIn}
 use Rattle.allocation.specs.declared.Ask.{Ask}
 use Rattle.allocation.specs.declared.Grant.{Grant}
 use Rattle.allocation.specs.Rule.{grantOf, unusedReserve}
-use Rattle.proposal.specs.Proposals.{horizon, defaultLease, lengthOf, meets, startOf}
+use Rattle.proposal.specs.Proposals.{horizon, defaultLease, lengthOf, meets, startOf, latestEnd}
 use Rattle.admission.specs.Tests.{error1Of, error2Of, holdsOf, isHeld, ownOf, recordedOf, resends, scopePlace}
 use Rattle.server.specs.Serve.{Answer, Call, headOf, serveOf, tenantOf}
 
@@ -132,7 +132,7 @@ pub record NewRequest (b : Book) (c : Call) : Type 0 where
   pub error2 : error2Of (stateAt b c) (saysOf b c) ≡ false
   -- "Inside means start at most clock plus horizon, end at most 4,294,967,295"
   pub soon : startFor b c ≤ stateAt b c .clock + horizon
-  pub fits : endFor b c ≤ 4294967295
+  pub fits : endFor b c ≤ latestEnd
   -- "and its minimum and latest start can be met" (document 02, W-203)
   pub met : meets (saysOf b c) (startFor b c) (lengthOf (saysOf b c) defaultLease) ≡ true
   -- of the house's 16 records, in which its holds stand too, one is left

@@ -16,7 +16,7 @@ use Rattle.state.specs.Book.{Book, laidReleases, leaseWith, tableOf, zeroScope}
 use Rattle.state.specs.Edit.{editedBook, entering}
 use Rattle.releases.specs.Whole.{bookB}
 use Rattle.soundness.specs.Sound.{tenantsIn}
-use Rattle.proposal.specs.Proposals.{defaultLease, horizon, lengthOf, meets}
+use Rattle.proposal.specs.Proposals.{defaultLease, horizon, lengthOf, meets, latestEnd}
 use Rattle.admission.specs.Tests.{error1Of, error2Of, isForHold, ownOf, resends}
 use Rattle.server.specs.Serve.{Call, headOf, serveOf}
 use Rattle.guarantee.specs.Statement.{SoundBook, endFor, placeFor, recordFor, run, saysOf, startFor, stateAt, tenantFor}
@@ -51,7 +51,7 @@ asked : (b : Book) (c : Call) → leb leastRoom (c .room) ≡ true → ltb (tena
     → saysOf b c .kind ≡ 3 → saysOf b c .ours ≡ true → resends (saysOf b c) (recordFor b c) ≡ false
     → error1Of (stateAt b c) (saysOf b c) (recordFor b c) (thereFor b c) ≡ false → error2Of (stateAt b c) (saysOf b c) ≡ false
     → isForHold (stateAt b c) (saysOf b c) (recordFor b c) (thereFor b c) ≡ false
-    → leb (startFor b c) (stateAt b c .clock + horizon) ≡ true → leb (endFor b c) 4294967295 ≡ true → meets (saysOf b c) (startFor b c) (lengthOf (saysOf b c) defaultLease) ≡ true
+    → leb (startFor b c) (stateAt b c .clock + horizon) ≡ true → leb (endFor b c) latestEnd ≡ true → meets (saysOf b c) (startFor b c) (lengthOf (saysOf b c) defaultLease) ≡ true
     → ltb (length (ownOf (broughtFor b c .table) (tenantFor b c))) 16 ≡ true → AsksRule b c
 asked b c room house read request ours new error1 error2 elsewhere soon fits met left = record {
   room = leb-true _ _ room;

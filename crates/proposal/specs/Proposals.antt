@@ -34,6 +34,10 @@ longestLease = 604800
 abbrev pub horizon : ℕ
 horizon = 2592000
 
+-- the last second of the 32-bit clock: "end above 4,294,967,295" is error 0
+abbrev pub latestEnd : ℕ
+latestEnd = 4294967295
+
 -- ---- the period
 -- an option's value, or else d
 unfoldable pub wishedOr : Wish → ℕ → ℕ
@@ -114,7 +118,7 @@ meets m start length = not (tooShort m length) && not (tooLate m start)
 
 -- ---- error 0: "start after clock plus horizon; end above 4,294,967,295; .."; W-203's two, of which "both are error 0"; and the test of its type
 unfoldable pub error0Of : State → Fields → Proposal → Bool
-error0Of s m p = ltb (s .clock + horizon) (p .start) || (ltb 4294967295 (p .end) || (not (meets m (p .start) (p .end - p .start)) || not (p .fits)))
+error0Of s m p = ltb (s .clock + horizon) (p .start) || (ltb latestEnd (p .end) || (not (meets m (p .start) (p .end - p .start)) || not (p .fits)))
 
 -- ---- document 02, W-205: a message for a hold
 -- not "error 0, the hold kept, if these are fewer than its least or W-203 forbids the period": its addresses and its period
@@ -137,4 +141,4 @@ heldFrom clock l = lapsingAt (min (clock + holdTime) (l .end)) l
 -- ---- the lease
 -- with the message's type and transaction id; error 0 has kept the end within 32 bits
 unfoldable pub leaseFrom : Fields → Proposal → Lease
-leaseFrom m p = leaseWith (p .scope) (m .id .len) (m .id .octets) (m .kind) (m .xid) (p .start) (min (p .end) 4294967295) (p .addresses)
+leaseFrom m p = leaseWith (p .scope) (m .id .len) (m .id .octets) (m .kind) (m .xid) (p .start) (min (p .end) latestEnd) (p .addresses)

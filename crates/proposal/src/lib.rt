@@ -6,7 +6,7 @@ ghost use lib.Dec.{ltb};
 ghost use lib.ListN.{take};
 ghost use Rattle.state.specs.Book.{inUse, addedIf, removeOf, busyOf, holdTime};
 ghost use Rattle.allocation.specs.Rule.{suffices};
-ghost use Rattle.proposal.specs.Proposals.{wishedOr, startOf, lengthOf, endOf, askAt, fitsRenewed, leaseFrom, turned, heldFrom, error0Of, tooShort, tooLate, meets, holdMeets};
+ghost use Rattle.proposal.specs.Proposals.{wishedOr, startOf, lengthOf, endOf, askAt, fitsRenewed, leaseFrom, turned, heldFrom, error0Of, tooShort, tooLate, meets, holdMeets, latestEnd};
 ghost use Rattle.proposal.specs.Gather.{newBy, otherIn, newAtIn, newIn, renewedToIn, renewedIn, proposalIn, broughtIn};
 ghost use Prim.Native.Nat.{_-_, _+_, min};
 use allocation::Ask;
@@ -26,6 +26,8 @@ const DEFAULT_LEASE: u32 = 3600;
 const LONGEST_LEASE: u32 = 604800;
 
 const HORIZON: u64 = 2592000;
+// The last second of the 32-bit clock.
+const LATEST_END: u64 = 4294967295;
 
 // What a lease would be, and whether it passes the test of error 0 that goes by its type.
 pub struct Proposal {
@@ -37,12 +39,12 @@ pub struct Proposal {
 }
 
 fn cut_end(end: u64) -> u32
-    ensures { λ r. ⌜ r ≡ min end 4294967295 ⌝ }
+    ensures { λ r. ⌜ r ≡ min end latestEnd ⌝ }
 {
-    if end < 4294967295 {
+    if end < LATEST_END {
         return end as u32;
     }
-    4294967295
+    LATEST_END as u32
 }
 
 // When a hold lapses: thirty seconds after the clock, or at the period's end if that is sooner.
@@ -359,7 +361,7 @@ pub fn error_0(s: State, m: Fields, p: Proposal) -> bool
     if (s.clock as u64) + HORIZON < (p.start as u64) {
         return true;
     }
-    if 4294967295 < p.end {
+    if LATEST_END < p.end {
         return true;
     }
     if is_unmet(m, p) {

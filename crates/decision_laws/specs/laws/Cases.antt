@@ -23,7 +23,7 @@ use Rattle.proposal.specs.declared.Proposal.{Proposal}
 use Rattle.decision.specs.declared.Decided.{Decided}
 use Rattle.decision.specs.declared.Reply.the-variants.{Offer, LeaseAck, ReleaseAck, InfoAck}
 use Rattle.admission.specs.Tests.{isNew, hasPeriod, scopePlace, ownOf, holdsOf, recordedOf, resends, knowsScope, lacksScope, zeroLength, badCounts, early1Of, heldAlready, error1Of, error3Of, leaseIdIn, isLeased, isHeld, sameScope, isForHold, dropsHold}
-use Rattle.proposal.specs.Proposals.{askAt, newWith, newAt, newOf, renewedOf, proposalOf, error0Of, leaseFrom, horizon, meets, turned, updated, broughtBy, heldFrom}
+use Rattle.proposal.specs.Proposals.{askAt, newWith, newAt, newOf, renewedOf, proposalOf, error0Of, leaseFrom, horizon, meets, turned, updated, broughtBy, heldFrom, latestEnd}
 use Rattle.decision.specs.Verdicts.{withLease, plainReply, refusalOf}
 use Rattle.decision.specs.Decide.{unchanged, changed, leasedOf, plainOf, settledOf, repeatedOf, droppedFirst, judgedOf, decideOf}
 use Rattle.decision.specs.laws.Code.{no, or-none}
@@ -86,13 +86,13 @@ unfolding isHeld
 held-there o there e = and-parts there (isHold o) e .0
 
 -- what error 0 leaves
-pub inside : (s : State) (m : Fields) (p : Proposal) → error0Of s m p ≡ false → (p .end ≤ 4294967295) × (p .fits ≡ true)
+pub inside : (s : State) (m : Fields) (p : Proposal) → error0Of s m p ≡ false → (p .end ≤ latestEnd) × (p .fits ≡ true)
 unfolding error0Of
 inside s m p e =
     let a = or-none (ltb (s .clock + horizon) (p .start)) _ e in
-    let b = or-none (ltb 4294967295 (p .end)) _ (a .1) in
+    let b = or-none (ltb latestEnd (p .end)) _ (a .1) in
     let c = or-none (not (meets m (p .start) (p .end - p .start))) (not (p .fits)) (b .1) in
-    (ltb-false 4294967295 (p .end) (b .0), not-none (p .fits) (c .1))
+    (ltb-false latestEnd (p .end) (b .0), not-none (p .fits) (c .1))
 
 -- a known tenant would newly get the rule's grant
 pub new-known : (s : State) (b : LeaseTable) (h : ℕ) (m : Fields) → h < tenantsIn s → newOf s b h m

@@ -23,7 +23,7 @@ use Rattle.allocation.specs.Own.{grantIn}
 use Rattle.proposal.specs.declared.Proposal.{Proposal}
 use mathlib.Core.Path.{_≡_, refl, sym, ap, _∙_}
 use native.Mathlib.Omega.{arith}
-use Rattle.proposal.specs.Proposals.{defaultLease, longestLease, wishedOr, startOf, lengthOf, endOf, askAt, fitsRenewed, renewedBy, leaseFrom, tooShort, tooLate, meets, holdMeets, heldFrom}
+use Rattle.proposal.specs.Proposals.{defaultLease, longestLease, wishedOr, startOf, lengthOf, endOf, askAt, fitsRenewed, renewedBy, leaseFrom, tooShort, tooLate, meets, holdMeets, heldFrom, latestEnd}
 use Rattle.admission.specs.Tests.{scopePlace, leaseIdIn, dropsHold}
 use Rattle.proposal.specs.Gather.{newBy, newAtIn, newIn, renewedToIn, renewedIn, broughtIn}
 
@@ -95,7 +95,7 @@ pub renewed-is : (s : State) (own : List Lease) (m : Fields) (l : Lease) (from t
 unfolding renewedIn
 renewed-is s own m l from to r p q e = cc
 
-pub lease-from-is : (m : Fields) (p : Proposal) (e : ℕ) → e ≡ min (p .end) 4294967295
+pub lease-from-is : (m : Fields) (p : Proposal) (e : ℕ) → e ≡ min (p .end) latestEnd
     → leaseWith (p .scope) (m .id .len) (m .id .octets) (m .kind) (m .xid) (p .start) e (p .addresses) ≡ leaseFrom m p
 unfolding leaseFrom
 lease-from-is m p e q = cc

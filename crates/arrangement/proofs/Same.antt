@@ -122,7 +122,7 @@ memory-same s t u m v e = each-memory s u m (λ h p. keep h (memory-each s t m e
     off h = once-same (ownLeases t h) (ownLeases u h) (releasesAt m h) (own-same t u v h)
 
     keep : (h : ℕ) → Holds (rulesAt (tenantsIn s) (s .clock) h (ownLeases t h) (releasesAt m h)) → Holds (rulesAt (tenantsIn s) (s .clock) h (ownLeases u h) (releasesAt m h))
-    keep h w = record { houses = w .houses; few = w .few; lengths = w .lengths; once = sym (off h) ∙ w .once; times = w .times; layout = w .layout }
+    keep h w = record { tenants = w .tenants; few = w .few; lengths = w .lengths; once = sym (off h) ∙ w .once; times = w .times; layout = w .layout }
 
 -- ---- the parts of a book that is sound by an order
 module _ (o : Order) (y : Book) (v : SoundBy o y) where

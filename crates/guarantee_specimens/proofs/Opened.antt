@@ -24,7 +24,7 @@ use Rattle.format.specs.Place.{isWhole}
 use Rattle.names.specs.Names.{chosenOf, defaultOf, firstBy, inLanguage, listsIn, matchOf, namesB, orElse, same, sentFor, sizesOk, valueOr}
 use Rattle.agreement.specs.Agrees.{agreesB}
 use Rattle.releases.specs.Again.{anyAgain, isAgain}
-use Rattle.releases.specs.Rules.{brokenMemory, brokenRelease, differs, fewB, filledB, firstRelease, houseB, laidB, lengthB, memoryB, notLeased, older, onceB, pastB, releaseRulesOf, rulesTo, unusedR}
+use Rattle.releases.specs.Rules.{brokenMemory, brokenRelease, differs, fewB, filledB, firstRelease, tenantB, laidB, lengthB, memoryB, notLeased, older, onceB, pastB, releaseRulesOf, rulesTo, unusedR}
 use Rattle.releases.specs.Whole.{bookB}
 use Rattle.soundness.specs.Sound.{apart, belowB, blankB, compatible, countsB, disjoint, oneTo, firstBroken, firstRule, firstLate, holdB, tenantsB, idB, kindB, lapseB, leaseB, limitB, limitsB, committedB, noneB, offsetsB, paddedB, periodB, poolB, poolsApart, rangeB, rangeZero, rangesApart, recordsB, rule1, rule10, rule11, rule12, rule13, rule2, rule3, rule4, rule5, rule6, rule7, rule8, rule9, scopeZero, settingsB, reserveB, reservesB, sizeB, tailB, ttlB, unusedB, zeroFrom, brokenBy, layoutBy, rule19By, rulesBy, soundBy}
 use Rattle.allocation.specs.Rule.{allowed, busyIn, grantOf, grantTo, suffices, takenOf}
@@ -85,7 +85,7 @@ board-open = tt
 
 -- what is remembered
 unfoldable pub memory-open : Unit {0}
-unfolding houseB fewB lengthB differs notLeased onceB pastB older filledB unusedR laidB rulesTo releaseRulesOf firstRelease brokenRelease brokenMemory memoryB isAgain anyAgain
+unfolding tenantB fewB lengthB differs notLeased onceB pastB older filledB unusedR laidB rulesTo releaseRulesOf firstRelease brokenRelease brokenMemory memoryB isAgain anyAgain
 memory-open = tt
 
 -- the grant rule

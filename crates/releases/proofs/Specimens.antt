@@ -21,7 +21,7 @@ use Rattle.state.specs.Edit.{entering, forgetOf, givingWay, leaving, noEdit, no
 use Rattle.soundness.specs.Sound.{zeroFrom}
 use Rattle.releases.specs.declared.ReleaseRules.{ReleaseRules}
 use Rattle.releases.specs.Again.{anyAgain, isAgain}
-use Rattle.releases.specs.Rules.{brokenMemory, differs, fewB, filledB, brokenRelease, firstRelease, houseB, laidB, lengthB, notLeased, older, onceB, pastB, releaseRulesOf, rulesTo, unusedR}
+use Rattle.releases.specs.Rules.{brokenMemory, differs, fewB, filledB, brokenRelease, firstRelease, tenantB, laidB, lengthB, notLeased, older, onceB, pastB, releaseRulesOf, rulesTo, unusedR}
 
 -- a release by the length of its identifier 00 i p 00 .., its transaction id and time
 abbrev releaseWith : ℕ → ℕ → ℕ → ℕ → ℕ → Release
@@ -168,12 +168,12 @@ cases =
     ∷ []
 
 all-hold : allBy holds cases ≡ true
-unfolding settings case brokenIn holds cases lease pick allBy pairsBy allTo sameOf orderOf laidOut laidReleases tableOf zeroFrom houseB fewB lengthB differs notLeased onceB pastB older filledB unusedR laidB rulesTo releaseRulesOf firstRelease brokenRelease brokenMemory
+unfolding settings case brokenIn holds cases lease pick allBy pairsBy allTo sameOf orderOf laidOut laidReleases tableOf zeroFrom tenantB fewB lengthB differs notLeased onceB pastB older filledB unusedR laidB rulesTo releaseRulesOf firstRelease brokenRelease brokenMemory
 all-hold = refl
 
 -- where only the layout is broken, no file broke a rule
 abbrev only : Bool → Bool → ReleaseRules
-only times layout = record { houses = true; few = true; lengths = true; once = true; times = times; layout = layout }
+only times layout = record { tenants = true; few = true; lengths = true; once = true; times = times; layout = layout }
 
 layout-last : (firstRelease (only true false) ∷ brokenRelease (only true false) ∷ firstRelease (only false false) ∷ brokenRelease (only false false) ∷ []) ≡ 0 ∷ 19 ∷ 18 ∷ 18 ∷ []
 unfolding pick firstRelease brokenRelease

@@ -18,8 +18,8 @@ use Rattle.soundness.specs.Sound.{idLengthB, tenantsIn, zeroFrom}
 use Rattle.releases.specs.declared.ReleaseRules.{ReleaseRules}
 
 -- ---- 14. "an unknown house": none but the first n tenants has any
-unfoldable pub houseB : ℕ → ℕ → TenantReleases → Bool
-houseB n h q = ltb h n || eqb (q .count) 0
+unfoldable pub tenantB : ℕ → ℕ → TenantReleases → Bool
+tenantB n h q = ltb h n || eqb (q .count) 0
 
 -- ---- 15. "more than four for one"
 unfoldable pub fewB : TenantReleases → Bool
@@ -62,7 +62,7 @@ laidB q = pairsBy older (remembered q) && (allBy filledB (remembered q) && allBy
 -- of tenant h of n with the leases ls
 unfoldable pub rulesAt : ℕ → ℕ → ℕ → List Lease → TenantReleases → ReleaseRules
 rulesAt n clock h ls q = record {
-  houses = houseB n h q;
+  tenants = tenantB n h q;
   few = fewB q;
   lengths = allBy lengthB (remembered q);
   once = onceB ls q;
@@ -72,11 +72,11 @@ rulesAt n clock h ls q = record {
 
 -- of no tenant, and of two together
 abbrev pub noRules : ReleaseRules
-noRules = record { houses = true; few = true; lengths = true; once = true; times = true; layout = true }
+noRules = record { tenants = true; few = true; lengths = true; once = true; times = true; layout = true }
 
 unfoldable pub bothRules : ReleaseRules → ReleaseRules → ReleaseRules
 bothRules a b = record {
-  houses = a .houses && b .houses;
+  tenants = a .tenants && b .tenants;
   few = a .few && b .few;
   lengths = a .lengths && b .lengths;
   once = a .once && b .once;
@@ -90,7 +90,7 @@ ownLeases t h = inUse (tenantAt t h)
 -- of the first k tenants
 unfoldable pub rulesTo : ℕ → ℕ → LeaseTable → Memory → ℕ → ReleaseRules
 rulesTo n clock t m k = record {
-  houses = allTo (λ h. houseB n h (releasesAt m h)) k;
+  tenants = allTo (λ h. tenantB n h (releasesAt m h)) k;
   few = allTo (λ h. fewB (releasesAt m h)) k;
   lengths = allTo (λ h. allBy lengthB (remembered (releasesAt m h))) k;
   once = allTo (λ h. onceB (ownLeases t h) (releasesAt m h)) k;
@@ -103,7 +103,7 @@ releaseRulesOf s t m = rulesTo (tenantsIn s) (s .clock) t m 8
 
 -- "a release has W-202's five alone, 14 to 18" (W-212): the number of the first that is broken, or 0
 unfoldable pub firstRelease : ReleaseRules → ℕ
-firstRelease r = pick (r .houses) (pick (r .few) (pick (r .lengths) (pick (r .once) (pick (r .times) 0 18) 17) 16) 15) 14
+firstRelease r = pick (r .tenants) (pick (r .few) (pick (r .lengths) (pick (r .once) (pick (r .times) 0 18) 17) 16) 15) 14
 
 -- that, or 19 where only the layout is broken, as it can be in a book that is lent
 unfoldable pub brokenRelease : ReleaseRules → ℕ

@@ -24,7 +24,7 @@ pub const RESEND_TIME: u64 = 300;
 
 // Rules 14 to 18 and the layout, each true where it holds.
 pub struct ReleaseRules {
-    pub houses: bool,
+    pub tenants: bool,
     pub few: bool,
     pub lengths: bool,
     pub once: bool,
@@ -147,7 +147,7 @@ pub fn no_tenants() -> ReleaseRules
     ensures { λ r. ⌜ r ≡ noRules ⌝ }
 {
     ReleaseRules {
-        houses: true,
+        tenants: true,
         few: true,
         lengths: true,
         once: true,
@@ -175,7 +175,7 @@ pub fn add_tenant(
 pub fn first_release(r: ReleaseRules) -> u8
     ensures { λ x. ⌜ x ≡ firstRelease r ⌝ }
 {
-    if !r.houses {
+    if !r.tenants {
         return 14;
     }
     if !r.few {

@@ -5,7 +5,7 @@ ghost use lib.ListN.{drop};
 ghost use Rattle.lists.specs.All.{allBy, pairsBy};
 ghost use Rattle.soundness.specs.Sound.{zeroFrom};
 ghost use Rattle.state.specs.Book.{inUse, other, releaseId, remembered};
-ghost use Rattle.releases.specs.Rules.{bothRules, differs, filledB, houseB, laidB, lengthB, notLeased, older, onceB, pastB, rulesAt, unusedR};
+ghost use Rattle.releases.specs.Rules.{bothRules, differs, filledB, tenantB, laidB, lengthB, notLeased, older, onceB, pastB, rulesAt, unusedR};
 use crate::ReleaseRules;
 use state::Lease;
 use state::Release;
@@ -23,8 +23,8 @@ fn both(a: bool, b: bool) -> bool
 
 // ---- 14, a known tenant
 
-fn house_ok(n: usize, h: usize, q: TenantReleases) -> bool
-    ensures { λ r. ⌜ r ≡ houseB n h q ⌝ }
+fn tenant_ok(n: usize, h: usize, q: TenantReleases) -> bool
+    ensures { λ r. ⌜ r ≡ tenantB n h q ⌝ }
 {
     if h < n {
         return true;
@@ -272,13 +272,13 @@ fn laid_ok(q: TenantReleases) -> bool
 fn check_some(n: usize, clock: u32, h: usize, own: TenantLeases, q: TenantReleases) -> ReleaseRules
     ensures { λ r. ⌜ r ≡ rulesAt n clock h (inUse own) q ⌝ }
 {
-    let house = house_ok(n, h, q);
+    let tenant = tenant_ok(n, h, q);
     let length = lengths_ok(q);
     let once = once_ok(own, q);
     let time = times_ok(clock, q);
     let laid = laid_ok(q);
     ReleaseRules {
-        houses: house,
+        tenants: tenant,
         few: q.count <= 4,
         lengths: length,
         once: once,
@@ -300,7 +300,7 @@ pub fn check_tenant(
     if q.count == 0 {
         let laid = rest_unused(q);
         return ReleaseRules {
-            houses: true,
+            tenants: true,
             few: true,
             lengths: true,
             once: true,
@@ -314,14 +314,14 @@ pub fn check_tenant(
 pub fn both_rules(a: ReleaseRules, x: ReleaseRules) -> ReleaseRules
     ensures { λ r. ⌜ r ≡ bothRules a x ⌝ }
 {
-    let house = both(a.houses, x.houses);
+    let tenant = both(a.tenants, x.tenants);
     let few = both(a.few, x.few);
     let length = both(a.lengths, x.lengths);
     let once = both(a.once, x.once);
     let time = both(a.times, x.times);
     let laid = both(a.layout, x.layout);
     ReleaseRules {
-        houses: house,
+        tenants: tenant,
         few: few,
         lengths: length,
         once: once,

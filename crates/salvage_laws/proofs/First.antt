@@ -22,7 +22,7 @@ use Rattle.state.specs.declared.State.{State}
 use Rattle.state.specs.declared.TenantReleases.{TenantReleases}
 use Rattle.state.specs.laws.Layout.{releases-back}
 use Rattle.soundness.specs.Sound.{firstRule, idLengthB, oneTo, rulesOf, tenantsIn}
-use Rattle.releases.specs.Rules.{fewB, firstRelease, houseB, lengthB, releaseRulesOf, rulesTo}
+use Rattle.releases.specs.Rules.{fewB, firstRelease, tenantB, lengthB, releaseRulesOf, rulesTo}
 use Rattle.release_file.specs.Section.{FileRelease, keepableB, releaseTenant, storedMemory, storedRelease}
 use Rattle.lease_file.specs.Records.{holdFitB, leaseFitB, mergedFrom, storableB, stored, storedHold}
 use Rattle.lease_file.specs.Section.{FileHold, FileLease, holdFormat, leaseFormat}
@@ -145,9 +145,9 @@ keepable-parts x e =
     (ltb-false (x .tenant) 1 (a .0), ltb-false 8 (x .tenant) (neither (ltb 8 (x .tenant)) (leb (length (x .id)) 32) (a .1) .0))
 
 module _ (st : State) (b : LeaseTable) (rs : List FileRelease) (sound : firstRelease (releaseRulesOf st b (storedMemory rs)) ≡ 0) (x : FileRelease) where
-  house-at : (h : ℕ) → h < 8 → houseB (tenantsIn st) h (releasesAt (storedMemory rs) h) ≡ true
+  tenant-at : (h : ℕ) → h < 8 → tenantB (tenantsIn st) h (releasesAt (storedMemory rs) h) ≡ true
   unfolding releaseRulesOf rulesTo
-  house-at h p = to-each (λ g. houseB (tenantsIn st) g (releasesAt (storedMemory rs) g)) 8 (rules-five (releaseRulesOf st b (storedMemory rs)) sound .0) h p
+  tenant-at h p = to-each (λ g. tenantB (tenantsIn st) g (releasesAt (storedMemory rs) g)) 8 (rules-five (releaseRulesOf st b (storedMemory rs)) sound .0) h p
 
   few-at : (h : ℕ) → h < 8 → fewB (releasesAt (storedMemory rs) h) ≡ true
   unfolding releaseRulesOf rulesTo
@@ -197,21 +197,21 @@ module _ (st : State) (b : LeaseTable) (rs : List FileRelease) (sound : firstRel
         go false q = ap (t h) (row-same h p (eqb-false h at q)) ∙ old h p
 
     -- 14
-    house-known : at < tenantsIn st → houseB (tenantsIn st) at (releasesAt now at) ≡ true
-    unfolding houseB
-    house-known k = ap (λ (c : Bool). c || eqb (releasesAt now at .count) 0) (lt-ltb at (tenantsIn st) k)
+    tenant-known : at < tenantsIn st → tenantB (tenantsIn st) at (releasesAt now at) ≡ true
+    unfolding tenantB
+    tenant-known k = ap (λ (c : Bool). c || eqb (releasesAt now at .count) 0) (lt-ltb at (tenantsIn st) k)
 
-    house-unknown : tenantsIn st ≤ at → houseB (tenantsIn st) at (releasesAt now at) ≡ false
-    unfolding houseB
-    house-unknown k = ap₂ (λ (c d : Bool). c || d) (le-ltb at (tenantsIn st) k) (ne-eqb (releasesAt now at .count) 0 (λ z. let c = count-now in absurd (omega arith)))
+    tenant-unknown : tenantsIn st ≤ at → tenantB (tenantsIn st) at (releasesAt now at) ≡ false
+    unfolding tenantB
+    tenant-unknown k = ap₂ (λ (c d : Bool). c || d) (le-ltb at (tenantsIn st) k) (ne-eqb (releasesAt now at .count) 0 (λ z. let c = count-now in absurd (omega arith)))
 
-    houses-hold : at < tenantsIn st → releaseRulesOf st b now .houses ≡ true
+    tenants-hold : at < tenantsIn st → releaseRulesOf st b now .tenants ≡ true
     unfolding releaseRulesOf rulesTo
-    houses-hold k = each-to (λ h. houseB (tenantsIn st) h (releasesAt now h)) 8 (each-passes (houseB (tenantsIn st)) (house-known k) house-at)
+    tenants-hold k = each-to (λ h. tenantB (tenantsIn st) h (releasesAt now h)) 8 (each-passes (tenantB (tenantsIn st)) (tenant-known k) tenant-at)
 
-    houses-broken : tenantsIn st ≤ at → releaseRulesOf st b now .houses ≡ false
+    tenants-broken : tenantsIn st ≤ at → releaseRulesOf st b now .tenants ≡ false
     unfolding releaseRulesOf rulesTo
-    houses-broken k = to-fails (λ h. houseB (tenantsIn st) h (releasesAt now h)) 8 at small (house-unknown k)
+    tenants-broken k = to-fails (λ h. tenantB (tenantsIn st) h (releasesAt now h)) 8 at small (tenant-unknown k)
 
     -- 15
     few-now : fewB (releasesAt now at) ≡ true
@@ -256,15 +256,15 @@ module _ (st : State) (b : LeaseTable) (rs : List FileRelease) (sound : firstRel
         few = lt-ltb (releasesAt (storedMemory rs) (x .tenant - 1) .count) 4 room
 
         go : (p : Bool) → knownTenant st (x .tenant) ≡ p → (q : Bool) → idLengthB (length (x .id)) ≡ q → releaseRule st b (storedMemory rs) x ≡ firstRelease (releaseRulesOf st b now)
-        go false p q f = broken-at _ 14 p ∙ sym (broken-at _ 14 (houses-broken (place-past p)))
-        go true p false f = kept-on 14 p (kept-on 15 few (broken-at _ 16 f)) ∙ sym (kept-on 14 (houses-hold (place-below p)) (kept-on 15 few-holds (broken-at _ 16 (lengths-broken f))))
+        go false p q f = broken-at _ 14 p ∙ sym (broken-at _ 14 (tenants-broken (place-past p)))
+        go true p false f = kept-on 14 p (kept-on 15 few (broken-at _ 16 f)) ∙ sym (kept-on 14 (tenants-hold (place-below p)) (kept-on 15 few-holds (broken-at _ 16 (lengths-broken f))))
         go true p true f = kept-on 14 p (kept-on 15 few (kept-on 16 f same))
 
   release-full : (1 ≤ x .tenant) → (x .tenant ≤ 8) → 4 ≤ releasesAt (storedMemory rs) (x .tenant - 1) .count → releaseRule st b (storedMemory rs) x ≡ 15
   unfolding releaseRule
   release-full from to h =
       kept-on 14
-      (known-is st (x .tenant) from (known-from (tenantsIn st) (x .tenant - 1) (releasesAt (storedMemory rs) (x .tenant - 1)) (omega arith) (house-at (x .tenant - 1) (omega arith))))
+      (known-is st (x .tenant) from (known-from (tenantsIn st) (x .tenant - 1) (releasesAt (storedMemory rs) (x .tenant - 1)) (omega arith) (tenant-at (x .tenant - 1) (omega arith))))
       (broken-at _ 15 (le-ltb (releasesAt (storedMemory rs) (x .tenant - 1) .count) 4 h))
 
   release-other : (m : Memory) → keepableB x ≡ false → releaseRule st b m x ≡ pick (knownTenant st (x .tenant)) (pick (ltb (releasesAt m (x .tenant - 1) .count) 4) 16 15) 14

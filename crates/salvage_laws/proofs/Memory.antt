@@ -26,7 +26,7 @@ use Rattle.state.specs.declared.State.{State}
 use Rattle.state.specs.declared.TenantReleases.{TenantReleases}
 use Rattle.state.specs.laws.Layout.{push-release-laid, releases-back}
 use Rattle.soundness.specs.Sound.{idLengthB, tenantsIn, zeroFrom}
-use Rattle.releases.specs.Rules.{brokenMemory, brokenRelease, fewB, filledB, firstRelease, houseB, laidB, lengthB, memoryB, older, onceB, ownLeases, pastB, releaseRulesOf, rulesTo, unusedR}
+use Rattle.releases.specs.Rules.{brokenMemory, brokenRelease, fewB, filledB, firstRelease, tenantB, laidB, lengthB, memoryB, older, onceB, ownLeases, pastB, releaseRulesOf, rulesTo, unusedR}
 use Rattle.releases.specs.declared.ReleaseRules.{ReleaseRules}
 use Rattle.release_file.specs.Section.{FileRelease, fewFor, keepableB, releaseAfter, releaseKey, releaseTenant, releasesFitB, storedMemory, storedRelease}
 use Rattle.state_file.specs.File.{File}
@@ -115,9 +115,9 @@ release-kept-on st b rs m x v e =
           (sym (pick-not-lt false _ true (x .tenant) 1 f (pick-not-lt false _ true 8 (x .tenant) g (sym (and-parts (leb 2 (length (x .id))) (leb (length (x .id)) 32) (r .0) .1)))));
     }
 
-house-none : (n h : ℕ) → houseB n h (laidReleases []) ≡ true
-unfolding houseB laidReleases
-house-none n h = or-last (ltb h n)
+tenant-none : (n h : ℕ) → tenantB n h (laidReleases []) ≡ true
+unfolding tenantB laidReleases
+tenant-none n h = or-last (ltb h n)
 
 few-none : fewB (laidReleases []) ≡ true
 unfolding fewB laidReleases
@@ -139,12 +139,12 @@ module _ (st : State) (b : LeaseTable) where
   none-remembered : firstRelease (releaseRulesOf st b zeroMemory) ≡ 0
   unfolding releaseRulesOf rulesTo firstRelease pick
   none-remembered =
-      ap₂ (λ (p q : Bool). pick p (pick q (pick (releaseRulesOf st b zeroMemory .lengths) (pick (releaseRulesOf st b zeroMemory .once) (pick {A = ℕ} (releaseRulesOf st b zeroMemory .times) 0 18) 17) 16) 15) 14) houses few
+      ap₂ (λ (p q : Bool). pick p (pick q (pick (releaseRulesOf st b zeroMemory .lengths) (pick (releaseRulesOf st b zeroMemory .once) (pick {A = ℕ} (releaseRulesOf st b zeroMemory .times) 0 18) 17) 16) 15) 14) tenants few
       ∙ ap₂ (λ (p q : Bool). pick p (pick q (pick {A = ℕ} (releaseRulesOf st b zeroMemory .times) 0 18) 17) 16) lengths once
       ∙ ap (λ (p : Bool). pick {A = ℕ} p 0 18) times
     where
-      houses : allTo (λ h. houseB (tenantsIn st) h (releasesAt zeroMemory h)) 8 ≡ true
-      houses = each-to (λ h. houseB (tenantsIn st) h (releasesAt zeroMemory h)) 8 (λ h p. ap (houseB (tenantsIn st) h) (zero-at h p) ∙ house-none (tenantsIn st) h)
+      tenants : allTo (λ h. tenantB (tenantsIn st) h (releasesAt zeroMemory h)) 8 ≡ true
+      tenants = each-to (λ h. tenantB (tenantsIn st) h (releasesAt zeroMemory h)) 8 (λ h p. ap (tenantB (tenantsIn st) h) (zero-at h p) ∙ tenant-none (tenantsIn st) h)
 
       few : allTo (λ h. fewB (releasesAt zeroMemory h)) 8 ≡ true
       few = each-to (λ h. fewB (releasesAt zeroMemory h)) 8 (λ h p. ap fewB (zero-at h p) ∙ few-none)
@@ -171,7 +171,7 @@ memory-holds f =
 -- ---- the memory can hold them
 rules-parts : (r : ReleaseRules) → firstRelease r ≡ 0 → r .few ≡ true
 unfolding firstRelease
-rules-parts r e = pick-zero (r .few) _ 15 (λ z. omega arith) (pick-zero (r .houses) _ 14 (λ z. omega arith) e .1) .0
+rules-parts r e = pick-zero (r .few) _ 15 (λ z. omega arith) (pick-zero (r .tenants) _ 14 (λ z. omega arith) e .1) .0
 
 module _ (st : State) (b : LeaseTable) (rs : List FileRelease) (m : Memory) (v : Remembers st b rs m) where
   own-count : (h : ℕ) → h < 8 → releasesAt m h .count ≡ length (own releaseTenant (h + 1) rs)

@@ -28,7 +28,7 @@ use Rattle.state.specs.declared.TenantReleases.{TenantReleases}
 use Rattle.state.specs.laws.Layout.{releases-back, table-back}
 use Rattle.soundness.specs.Sound.{idLengthB, oneTo, soundB, tenantsIn}
 use Rattle.soundness.specs.laws.Book.{Sound, sound-lists}
-use Rattle.releases.specs.Rules.{brokenMemory, brokenRelease, differs, fewB, firstRelease, houseB, lengthB, memoryB, notLeased, onceB, ownLeases, pastB, releaseRulesOf, rulesTo}
+use Rattle.releases.specs.Rules.{brokenMemory, brokenRelease, differs, fewB, firstRelease, tenantB, lengthB, memoryB, notLeased, onceB, ownLeases, pastB, releaseRulesOf, rulesTo}
 use Rattle.releases.specs.declared.ReleaseRules.{ReleaseRules}
 use Rattle.release_file.specs.Section.{FileRelease, keepableB, releaseTenant, releasesFitB, storedMemory, storedRelease}
 use Rattle.lease_file.specs.Records.{entryFitB, filedEntry, filedLease, holdFitB, leaseFitB, mergedFrom, recordsFitB, storableB, stored, storedEntry, storedHold}
@@ -167,17 +167,17 @@ module _ (st : State) (xs : List FileLease) (ys : List FileHold) (full : Sound s
       ap₂ (λ (p q : Bool). pick p (pick {A = ℕ} q 0 13) (recordRule st b (y .lease) true (typedHold (storedHold y)))) (eq-eqb _ 0 w) one
 
 -- ---- releases
-pub rules-five : (r : ReleaseRules) → firstRelease r ≡ 0 → (r .houses ≡ true) × (r .few ≡ true) × (r .lengths ≡ true) × (r .once ≡ true) × (r .times ≡ true)
+pub rules-five : (r : ReleaseRules) → firstRelease r ≡ 0 → (r .tenants ≡ true) × (r .few ≡ true) × (r .lengths ≡ true) × (r .once ≡ true) × (r .times ≡ true)
 unfolding firstRelease
 rules-five r e =
-    let a = pick-zero (r .houses) _ 14 (λ z. omega arith) e in
+    let a = pick-zero (r .tenants) _ 14 (λ z. omega arith) e in
     let b = pick-zero (r .few) _ 15 (λ z. omega arith) (a .1) in
     let c = pick-zero (r .lengths) _ 16 (λ z. omega arith) (b .1) in
     let d = pick-zero (r .once) _ 17 (λ z. omega arith) (c .1) in
     let f = pick-zero (r .times) 0 18 (λ z. omega arith) (d .1) in
     (a .0, b .0, c .0, d .0, f .0)
 
-five-rules : (r : ReleaseRules) → r .houses ≡ true → r .few ≡ true → r .lengths ≡ true → r .once ≡ true → r .times ≡ true → firstRelease r ≡ 0
+five-rules : (r : ReleaseRules) → r .tenants ≡ true → r .few ≡ true → r .lengths ≡ true → r .once ≡ true → r .times ≡ true → firstRelease r ≡ 0
 unfolding firstRelease pick
 five-rules r a b c d f =
     ap₂ (λ (p q : Bool). pick p (pick q (pick (r .lengths) (pick (r .once) (pick {A = ℕ} (r .times) 0 18) 17) 16) 15) 14) a b
@@ -199,8 +199,8 @@ pub laid-count : (l : List FileRelease) → laidReleases (map storedRelease l) .
 unfolding laidReleases
 laid-count l = length-map l storedRelease
 
-pub known-from : (n h : ℕ) (q : TenantReleases) → 1 ≤ q .count → houseB n h q ≡ true → h < n
-unfolding houseB
+pub known-from : (n h : ℕ) (q : TenantReleases) → 1 ≤ q .count → tenantB n h q ≡ true → h < n
+unfolding tenantB
 known-from n h q c e = go (ltb h n) refl (eqb (q .count) 0) refl e
   where
     go : (a : Bool) → ltb h n ≡ a → (d : Bool) → eqb (q .count) 0 ≡ d → (a || d) ≡ true → h < n
@@ -209,16 +209,16 @@ known-from n h q c e = go (ltb h n) refl (eqb (q .count) 0) refl e
     go false p false r e = absurd (let z : _≡_ {A = ℕ} 0 1 = cc in omega arith)
 
 module _ (st : State) (b : LeaseTable) (all : List FileRelease) (sound : memoryB st b (storedMemory all) ≡ true) where
-  five : (releaseRulesOf st b (storedMemory all) .houses ≡ true) × (releaseRulesOf st b (storedMemory all) .few ≡ true) × (releaseRulesOf st b (storedMemory all) .lengths ≡ true)
+  five : (releaseRulesOf st b (storedMemory all) .tenants ≡ true) × (releaseRulesOf st b (storedMemory all) .few ≡ true) × (releaseRulesOf st b (storedMemory all) .lengths ≡ true)
       × (releaseRulesOf st b (storedMemory all) .once ≡ true) × (releaseRulesOf st b (storedMemory all) .times ≡ true)
   five = rules-five (releaseRulesOf st b (storedMemory all)) (memory-first st b (storedMemory all) sound)
 
   abbrev Row : ℕ → List FileRelease → List Release
   Row h rs = map storedRelease (own releaseTenant (h + 1) rs)
 
-  house-at : (h : ℕ) → h < 8 → houseB (tenantsIn st) h (laidReleases (Row h all)) ≡ true
+  tenant-at : (h : ℕ) → h < 8 → tenantB (tenantsIn st) h (laidReleases (Row h all)) ≡ true
   unfolding releaseRulesOf rulesTo
-  house-at h p = ap (houseB (tenantsIn st) h) (sym (tenant-row all h p)) ∙ to-each (λ h. houseB (tenantsIn st) h (releasesAt (storedMemory all) h)) 8 (five .0) h p
+  tenant-at h p = ap (tenantB (tenantsIn st) h) (sym (tenant-row all h p)) ∙ to-each (λ h. tenantB (tenantsIn st) h (releasesAt (storedMemory all) h)) 8 (five .0) h p
 
   few-in : (h : ℕ) → h < 8 → length (own releaseTenant (h + 1) all) ≤ 4
   unfolding releaseRulesOf rulesTo fewB
@@ -254,14 +254,14 @@ module _ (st : State) (b : LeaseTable) (all : List FileRelease) (sound : memoryB
     back-at : (h : ℕ) → h < 8 → remembered (releasesAt (storedMemory rs) h) ≡ Row h rs
     back-at h p = ap remembered (tenant-row rs h p) ∙ releases-back (Row h rs)
 
-    front-house : (h : ℕ) → h < 8 → houseB (tenantsIn st) h (releasesAt (storedMemory rs) h) ≡ true
-    unfolding houseB
-    front-house h p = go (ltb h (tenantsIn st)) refl
+    front-tenant : (h : ℕ) → h < 8 → tenantB (tenantsIn st) h (releasesAt (storedMemory rs) h) ≡ true
+    unfolding tenantB
+    front-tenant h p = go (ltb h (tenantsIn st)) refl
       where
         go : (c : Bool) → ltb h (tenantsIn st) ≡ c → (ltb h (tenantsIn st) || eqb (releasesAt (storedMemory rs) h .count) 0) ≡ true
         go true q = ap (λ (z : Bool). z || eqb (releasesAt (storedMemory rs) h .count) 0) q
         go false q =
-            let n = eqb-true (laidReleases (Row h all) .count) 0 (sym (ap (λ (z : Bool). z || eqb (laidReleases (Row h all) .count) 0) q) ∙ house-at h p) in
+            let n = eqb-true (laidReleases (Row h all) .count) 0 (sym (ap (λ (z : Bool). z || eqb (laidReleases (Row h all) .count) 0) q) ∙ tenant-at h p) in
             let c = laid-count (own releaseTenant (h + 1) all) in
             let l = ap length (own-split h) ∙ length-append (own releaseTenant (h + 1) rs) (own releaseTenant (h + 1) rest) in
             let d = ap (λ (q : TenantReleases). q .count) (tenant-row rs h p) ∙ laid-count (own releaseTenant (h + 1) rs) in
@@ -286,7 +286,7 @@ module _ (st : State) (b : LeaseTable) (all : List FileRelease) (sound : memoryB
     unfolding releaseRulesOf rulesTo
     front-first =
         five-rules (releaseRulesOf st b (storedMemory rs))
-        (each-to (λ h. houseB (tenantsIn st) h (releasesAt (storedMemory rs) h)) 8 front-house)
+        (each-to (λ h. tenantB (tenantsIn st) h (releasesAt (storedMemory rs) h)) 8 front-tenant)
         (each-to (λ h. fewB (releasesAt (storedMemory rs) h)) 8 front-few)
         (each-to (λ h. allBy lengthB (remembered (releasesAt (storedMemory rs) h))) 8 (λ h p. ap (allBy lengthB) (back-at h p) ∙ front-test lengthB (Row h rs) (Row h rest) (ap (allBy lengthB) (sym (row-split h)) ∙ lengths-at h p)))
         (each-to (λ h. onceB (ownLeases b h) (releasesAt (storedMemory rs) h)) 8 front-once)
@@ -309,7 +309,7 @@ module _ (st : State) (b : LeaseTable) (all : List FileRelease) (sound : memoryB
       let few = few-in (x .tenant - 1) small in
       let count : releasesAt (storedMemory rs) (x .tenant - 1) .count ≡ length (own releaseTenant (x .tenant - 1 + 1) rs) = ap (λ (z : TenantReleases). z .count) (tenant-row rs (x .tenant - 1) small) ∙ laid-count (own releaseTenant (x .tenant - 1 + 1) rs) in
       let less : releasesAt (storedMemory rs) (x .tenant - 1) .count < 4 = omega arith in
-      let known = house-known (x .tenant - 1) small (let z : 1 ≤ length (own releaseTenant (x .tenant - 1 + 1) all) = omega arith in z) in
+      let known = tenant-known (x .tenant - 1) small (let z : 1 ≤ length (own releaseTenant (x .tenant - 1 + 1) all) = omega arith in z) in
       let row : allBy lengthB (map storedRelease (own releaseTenant (x .tenant - 1 + 1) rs) ++ storedRelease x ∷ map storedRelease (own releaseTenant (x .tenant - 1 + 1) rest)) ≡ true =
       ap (allBy lengthB) (sym (ap (map storedRelease) (split ∙ ap (λ (l : List FileRelease). l ++ own releaseTenant (x .tenant - 1 + 1) rest) mine ∙ append-assoc (own releaseTenant (x .tenant - 1 + 1) rs) (x ∷ []) (own releaseTenant (x .tenant - 1 + 1) rest))
       ∙ map-append storedRelease (own releaseTenant (x .tenant - 1 + 1) rs) (x ∷ own releaseTenant (x .tenant - 1 + 1) rest))) ∙ lengths-at (x .tenant - 1) small in
@@ -321,8 +321,8 @@ module _ (st : State) (b : LeaseTable) (all : List FileRelease) (sound : memoryB
       (ap (λ (y : Memory). ltb (releasesAt y (x .tenant - 1) .count) 4) (v .memory) ∙ lt-ltb _ 4 less)
       ∙ ap (λ (p : Bool). pick p (firstRelease (releaseRulesOf st b (withRelease m x))) 16) ids ∙ first
     where
-      house-known : (h : ℕ) → h < 8 → 1 ≤ length (own releaseTenant (h + 1) all) → h < tenantsIn st
-      house-known h p q = known-from (tenantsIn st) h (laidReleases (Row h all)) (let c = laid-count (own releaseTenant (h + 1) all) in omega arith) (house-at h p)
+      tenant-known : (h : ℕ) → h < 8 → 1 ≤ length (own releaseTenant (h + 1) all) → h < tenantsIn st
+      tenant-known h p q = known-from (tenantsIn st) h (laidReleases (Row h all)) (let c = laid-count (own releaseTenant (h + 1) all) in omega arith) (tenant-at h p)
 
 -- ---- the whole
 file-loaded : (f : File) → loaded f .refusal ≡ 0 → (fitsB f ≡ true) × (soundB (storedState f) (storedTable f) ≡ true) × (memoryB (storedState f) (storedTable f) (storedMemory (f .releases)) ≡ true)

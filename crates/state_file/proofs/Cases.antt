@@ -33,7 +33,7 @@ use Rattle.format.specs.Section.{orderedFrom}
 use Rattle.names.specs.Names.{namesB, sizesOk}
 use Rattle.release_file.specs.Section.{fewFor, filedMemory, filedRelease, keepableB, releasesFitB, storedMemory, storedRelease}
 use Rattle.format.specs.Tenants as entries
-use Rattle.releases.specs.Rules.{brokenMemory, brokenRelease, differs, fewB, filledB, firstRelease, houseB, laidB, lengthB, memoryB, notLeased, older, onceB, pastB, releaseRulesOf, rulesTo, unusedR}
+use Rattle.releases.specs.Rules.{brokenMemory, brokenRelease, differs, fewB, filledB, firstRelease, tenantB, laidB, lengthB, memoryB, notLeased, older, onceB, pastB, releaseRulesOf, rulesTo, unusedR}
 use Rattle.releases.specs.Whole.{bookB}
 use Rattle.format.specs.Format.{Got, bad, closed, got, readNumber, readOctet, readTimes, then, writeAll}
 use Rattle.state_file.specs.Records.{filedAs, countsFit, filled, fitsB, storedScope, storedState, storedTable, zeroRange, filedBook, filedScope, pairUp}
@@ -410,7 +410,7 @@ unsound =
     ∷ []
 
 answers : allHold (sound ++ form ++ unsound) ≡ true
-unfolding allHold ruleOf long largest sound form unsound server range scope lease tenants pool settings unnamed none name named en plain a b ab again row eight four upFrom sixteen pick allBy pairsBy allTo filterBy isIn sumTo bit offsetsFrom setOf readOffsets risesFrom orderOf sameOf laidOut tableOf byIdentifier unionAll addressesOf overlaps oneTo sizeB idB recordsB countsB rule1 belowB offsetsB rule2 rangeB rangesApart rule3 poolB poolsApart rule4 ttlB rule5 reserveB reservesB rule6 kindB periodB leaseB noneB tenantsB rule7 differ rule8 disjoint apart rule9 compatible rule10 limitB limitsB rule11 committed committedB rule12 lapseB holdB rule13 zeroFrom paddedB blankB unusedB layoutBy rangeZero tailB scopeZero settingsB rulesBy firstLate firstRule firstBroken brokenBy soundBy then closed readOctet readNumber readTimes isAfter orderedFrom fileOf filled stored storedHold insertIn arranged mergedFrom isHold storedScope storedState storedTable storableB leaseFitB holdFitB fewOf recordsFitB countsFit fitsB refused accepted judged loaded loadedGot readFile rule19By sizesOk broken bare release released remembering hold held holding four-released brokenMemory brokenRelease firstRelease releaseRulesOf rulesTo houseB fewB lengthB differs notLeased onceB pastB older filledB unusedR laidB memoryB laidReleases storedRelease storedMemory entries.apart keepableB fewFor releasesFitB byEnding until
+unfolding allHold ruleOf long largest sound form unsound server range scope lease tenants pool settings unnamed none name named en plain a b ab again row eight four upFrom sixteen pick allBy pairsBy allTo filterBy isIn sumTo bit offsetsFrom setOf readOffsets risesFrom orderOf sameOf laidOut tableOf byIdentifier unionAll addressesOf overlaps oneTo sizeB idB recordsB countsB rule1 belowB offsetsB rule2 rangeB rangesApart rule3 poolB poolsApart rule4 ttlB rule5 reserveB reservesB rule6 kindB periodB leaseB noneB tenantsB rule7 differ rule8 disjoint apart rule9 compatible rule10 limitB limitsB rule11 committed committedB rule12 lapseB holdB rule13 zeroFrom paddedB blankB unusedB layoutBy rangeZero tailB scopeZero settingsB rulesBy firstLate firstRule firstBroken brokenBy soundBy then closed readOctet readNumber readTimes isAfter orderedFrom fileOf filled stored storedHold insertIn arranged mergedFrom isHold storedScope storedState storedTable storableB leaseFitB holdFitB fewOf recordsFitB countsFit fitsB refused accepted judged loaded loadedGot readFile rule19By sizesOk broken bare release released remembering hold held holding four-released brokenMemory brokenRelease firstRelease releaseRulesOf rulesTo tenantB fewB lengthB differs notLeased onceB pastB older filledB unusedR laidB memoryB laidReleases storedRelease storedMemory entries.apart keepableB fewFor releasesFitB byEnding until
 answers = refl
 
 -- ---- the book that a file gives, and what the writer answers to it
@@ -482,7 +482,7 @@ unlikeBook l = let t = tableOf (l ∷ replicate 7 []) in record { state = specim
 
 read-specimen : (readFile specimen ≡ accepted specimenState specimenTable specimenMemory) × (namesOf specimen ≡ specimenNames) × (namesOf (specimen ++ 0 ∷ []) ≡ [])
     × (readFile unlike ≡ (let x = unlikeBook (unlikeHold ∷ specimenLease b 2000 2 ∷ specimenLease a 4600 1 ∷ []) in accepted (x .state) (x .table) (x .memory)))
-unfolding unlike unlikeHold unlikeBook c holding held hold specimen specimenNames specimenState specimenLease specimenHold tableWith specimenTable server range scope lease tenants pool settings unnamed name en plain a b ab pick allBy pairsBy allTo filterBy isIn sumTo bit offsetsFrom setOf readOffsets risesFrom orderOf sameOf laidOut tableOf byIdentifier unionAll addressesOf overlaps oneTo sizeB idB recordsB countsB rule1 belowB offsetsB rule2 rangeB rangesApart rule3 poolB poolsApart rule4 ttlB rule5 reserveB reservesB rule6 kindB periodB leaseB noneB tenantsB rule7 differ rule8 disjoint apart rule9 compatible rule10 limitB limitsB rule11 committedB rule12 lapseB holdB rule13 zeroFrom paddedB blankB unusedB layoutBy rangeZero tailB scopeZero settingsB rule19By rulesBy firstLate firstRule firstBroken brokenBy soundBy then closed readOctet readNumber readTimes isAfter orderedFrom fileOf filled stored storedHold insertIn arranged mergedFrom isHold storedScope storedState storedTable storableB leaseFitB holdFitB fewOf recordsFitB countsFit fitsB refused accepted judged loaded loadedGot readFile committed namesOf namesGot sizesOk bare release specimenRelease memoryWith specimenMemory brokenMemory brokenRelease firstRelease releaseRulesOf rulesTo houseB fewB lengthB differs notLeased onceB pastB older filledB unusedR laidB memoryB laidReleases storedRelease storedMemory entries.apart keepableB fewFor releasesFitB boardOf scopeBy entryBy ownerFrom countOn countIn isOn upTo specimenBoard boardWith entry byEnding until
+unfolding unlike unlikeHold unlikeBook c holding held hold specimen specimenNames specimenState specimenLease specimenHold tableWith specimenTable server range scope lease tenants pool settings unnamed name en plain a b ab pick allBy pairsBy allTo filterBy isIn sumTo bit offsetsFrom setOf readOffsets risesFrom orderOf sameOf laidOut tableOf byIdentifier unionAll addressesOf overlaps oneTo sizeB idB recordsB countsB rule1 belowB offsetsB rule2 rangeB rangesApart rule3 poolB poolsApart rule4 ttlB rule5 reserveB reservesB rule6 kindB periodB leaseB noneB tenantsB rule7 differ rule8 disjoint apart rule9 compatible rule10 limitB limitsB rule11 committedB rule12 lapseB holdB rule13 zeroFrom paddedB blankB unusedB layoutBy rangeZero tailB scopeZero settingsB rule19By rulesBy firstLate firstRule firstBroken brokenBy soundBy then closed readOctet readNumber readTimes isAfter orderedFrom fileOf filled stored storedHold insertIn arranged mergedFrom isHold storedScope storedState storedTable storableB leaseFitB holdFitB fewOf recordsFitB countsFit fitsB refused accepted judged loaded loadedGot readFile committed namesOf namesGot sizesOk bare release specimenRelease memoryWith specimenMemory brokenMemory brokenRelease firstRelease releaseRulesOf rulesTo tenantB fewB lengthB differs notLeased onceB pastB older filledB unusedR laidB memoryB laidReleases storedRelease storedMemory entries.apart keepableB fewFor releasesFitB boardOf scopeBy entryBy ownerFrom countOn countIn isOn upTo specimenBoard boardWith entry byEnding until
 read-specimen = (refl, refl, refl, refl)
 
 -- the book with these names, or others; and with another memory
@@ -525,7 +525,7 @@ write-specimen : (octetsOf (bookWith specimenNames) ≡ specimen)
     × (octetsOf (unlikeBook (unlikeHold ∷ specimenLease b 2000 2 ∷ specimenLease a 4600 1 ∷ [])) ≡ unlike)
     × (writtenOf (unlikeBook (unlikeHold ∷ specimenLease b 2000 2 ∷ specimenLease a 4600 1 ∷ [])) 200 .refusal ≡ 0)
     × (writtenOf (unlikeBook (specimenLease a 4600 1 ∷ specimenLease b 2000 2 ∷ unlikeHold ∷ [])) 200 .refusal ≡ 22)
-unfolding unlike unlikeHold unlikeBook c holding held hold specimen specimenNames specimenState specimenLease specimenHold tableWith specimenTable server range scope lease tenants pool settings unnamed name en plain a b ab pick allBy pairsBy allTo filterBy isIn sumTo bit offsetsFrom setOf readOffsets risesFrom orderOf sameOf laidOut tableOf byIdentifier unionAll addressesOf overlaps oneTo sizeB idB recordsB countsB rule1 belowB offsetsB rule2 rangeB rangesApart rule3 poolB poolsApart rule4 ttlB rule5 reserveB reservesB rule6 kindB periodB leaseB noneB tenantsB rule7 differ rule8 disjoint apart rule9 compatible rule10 limitB limitsB rule11 committedB rule12 lapseB holdB rule13 zeroFrom paddedB blankB unusedB layoutBy rangeZero tailB scopeZero settingsB rule19By rulesBy firstLate firstRule firstBroken brokenBy soundBy then closed readOctet readNumber readTimes isAfter orderedFrom fileOf filled stored storedHold insertIn arranged mergedFrom isHold storedScope storedState storedTable storableB leaseFitB holdFitB fewOf recordsFitB countsFit fitsB refused accepted judged loaded loadedGot readFile zeroTable octetsOf writtenOf roomAfter filedBook filedLeases filedHolds filedScope pairUp filedLease filedHold writeAll committed bookWith zeroBook bookB namesB isWhole sizesOk bare release specimenRelease memoryWith specimenMemory brokenMemory brokenRelease firstRelease releaseRulesOf rulesTo houseB fewB lengthB differs notLeased onceB pastB older filledB unusedR laidB memoryB laidReleases storedRelease storedMemory entries.apart keepableB fewFor releasesFitB entries.filedAll filedRelease filedMemory boardOf scopeBy entryBy ownerFrom countOn countIn isOn upTo specimenBoard boardWith entry agreesB sameBoard sameScopeBoard sameEntry sameBy byEnding until filedAs inFileOrder
+unfolding unlike unlikeHold unlikeBook c holding held hold specimen specimenNames specimenState specimenLease specimenHold tableWith specimenTable server range scope lease tenants pool settings unnamed name en plain a b ab pick allBy pairsBy allTo filterBy isIn sumTo bit offsetsFrom setOf readOffsets risesFrom orderOf sameOf laidOut tableOf byIdentifier unionAll addressesOf overlaps oneTo sizeB idB recordsB countsB rule1 belowB offsetsB rule2 rangeB rangesApart rule3 poolB poolsApart rule4 ttlB rule5 reserveB reservesB rule6 kindB periodB leaseB noneB tenantsB rule7 differ rule8 disjoint apart rule9 compatible rule10 limitB limitsB rule11 committedB rule12 lapseB holdB rule13 zeroFrom paddedB blankB unusedB layoutBy rangeZero tailB scopeZero settingsB rule19By rulesBy firstLate firstRule firstBroken brokenBy soundBy then closed readOctet readNumber readTimes isAfter orderedFrom fileOf filled stored storedHold insertIn arranged mergedFrom isHold storedScope storedState storedTable storableB leaseFitB holdFitB fewOf recordsFitB countsFit fitsB refused accepted judged loaded loadedGot readFile zeroTable octetsOf writtenOf roomAfter filedBook filedLeases filedHolds filedScope pairUp filedLease filedHold writeAll committed bookWith zeroBook bookB namesB isWhole sizesOk bare release specimenRelease memoryWith specimenMemory brokenMemory brokenRelease firstRelease releaseRulesOf rulesTo tenantB fewB lengthB differs notLeased onceB pastB older filledB unusedR laidB memoryB laidReleases storedRelease storedMemory entries.apart keepableB fewFor releasesFitB entries.filedAll filedRelease filedMemory boardOf scopeBy entryBy ownerFrom countOn countIn isOn upTo specimenBoard boardWith entry agreesB sameBoard sameScopeBoard sameEntry sameBy byEnding until filedAs inFileOrder
 write-specimen = (refl, refl, refl, refl, refl, refl, refl, refl, refl, refl, refl, refl, refl, refl, refl)
 
 -- releases that are lent: none of tenant 1 and two of one time are written; a time after the clock, times that fall, an identifier on a lease, an octet past
@@ -540,7 +540,7 @@ lent-releases : (writtenOf (bookOf (memoryWith [])) 142 ≡ record { refusal = 0
     × (writtenOf (bookOf (countedAs 0 (specimenRelease a 5 900 ∷ replicate 3 zeroRelease))) 154 ≡ record { refusal = 22; length = 0 })
     × (writtenOf (bookOf (countedAs 5 (replicate 4 zeroRelease))) 154 ≡ record { refusal = 22; length = 0 })
     × (roomAfter (bookOf (countedAs 5 (replicate 4 zeroRelease))) (replicate 156 9) ≡ replicate 156 9)
-unfolding c specimen specimenNames specimenState specimenLease specimenHold tableWith specimenTable server range scope lease tenants pool settings unnamed name en plain a b ab pick allBy pairsBy allTo filterBy isIn sumTo bit offsetsFrom setOf readOffsets risesFrom orderOf sameOf laidOut tableOf byIdentifier unionAll addressesOf overlaps oneTo sizeB idB recordsB countsB rule1 belowB offsetsB rule2 rangeB rangesApart rule3 poolB poolsApart rule4 ttlB rule5 reserveB reservesB rule6 kindB periodB leaseB noneB tenantsB rule7 differ rule8 disjoint apart rule9 compatible rule10 limitB limitsB rule11 committedB rule12 lapseB holdB rule13 zeroFrom paddedB blankB unusedB layoutBy rangeZero tailB scopeZero settingsB rule19By rulesBy firstLate firstRule firstBroken brokenBy soundBy then closed readOctet readNumber readTimes isAfter orderedFrom fileOf filled stored storedHold insertIn arranged mergedFrom isHold storedScope storedState storedTable storableB leaseFitB holdFitB fewOf recordsFitB countsFit fitsB refused accepted judged loaded loadedGot readFile zeroTable octetsOf writtenOf roomAfter filedBook filedLeases filedHolds filedScope pairUp filedLease filedHold writeAll committed bookOf countedAs zeroBook bookB namesB isWhole sizesOk bare release specimenRelease memoryWith specimenMemory brokenMemory brokenRelease firstRelease releaseRulesOf rulesTo houseB fewB lengthB differs notLeased onceB pastB older filledB unusedR laidB memoryB laidReleases storedRelease storedMemory entries.apart keepableB fewFor releasesFitB entries.filedAll filedRelease filedMemory boardOf scopeBy entryBy ownerFrom countOn countIn isOn upTo specimenBoard boardWith entry agreesB sameBoard sameScopeBoard sameEntry sameBy byEnding until filedAs inFileOrder
+unfolding c specimen specimenNames specimenState specimenLease specimenHold tableWith specimenTable server range scope lease tenants pool settings unnamed name en plain a b ab pick allBy pairsBy allTo filterBy isIn sumTo bit offsetsFrom setOf readOffsets risesFrom orderOf sameOf laidOut tableOf byIdentifier unionAll addressesOf overlaps oneTo sizeB idB recordsB countsB rule1 belowB offsetsB rule2 rangeB rangesApart rule3 poolB poolsApart rule4 ttlB rule5 reserveB reservesB rule6 kindB periodB leaseB noneB tenantsB rule7 differ rule8 disjoint apart rule9 compatible rule10 limitB limitsB rule11 committedB rule12 lapseB holdB rule13 zeroFrom paddedB blankB unusedB layoutBy rangeZero tailB scopeZero settingsB rule19By rulesBy firstLate firstRule firstBroken brokenBy soundBy then closed readOctet readNumber readTimes isAfter orderedFrom fileOf filled stored storedHold insertIn arranged mergedFrom isHold storedScope storedState storedTable storableB leaseFitB holdFitB fewOf recordsFitB countsFit fitsB refused accepted judged loaded loadedGot readFile zeroTable octetsOf writtenOf roomAfter filedBook filedLeases filedHolds filedScope pairUp filedLease filedHold writeAll committed bookOf countedAs zeroBook bookB namesB isWhole sizesOk bare release specimenRelease memoryWith specimenMemory brokenMemory brokenRelease firstRelease releaseRulesOf rulesTo tenantB fewB lengthB differs notLeased onceB pastB older filledB unusedR laidB memoryB laidReleases storedRelease storedMemory entries.apart keepableB fewFor releasesFitB entries.filedAll filedRelease filedMemory boardOf scopeBy entryBy ownerFrom countOn countIn isOn upTo specimenBoard boardWith entry agreesB sameBoard sameScopeBoard sameEntry sameBy byEnding until filedAs inFileOrder
 lent-releases = (refl, refl, refl, refl, refl, refl, refl, refl, refl, refl)
 
 -- holds that are lent: none, one alone and one behind the lease are written; a lapse at the clock, one after thirty-one seconds, one of a lease, and a lease in
@@ -551,7 +551,7 @@ lent-holds : (writtenOf (bookOn (specimenLease b 2000 12 ∷ [])) 129 ≡ record
     × (writtenOf (bookOn (specimenHold 1031 ∷ specimenLease b 2000 12 ∷ [])) 154 ≡ record { refusal = 22; length = 0 })
     × (writtenOf (bookOn (specimenHold 1030 ∷ lapsingAt 1030 (specimenLease b 2000 12) ∷ [])) 154 ≡ record { refusal = 22; length = 0 })
     × (writtenOf (bookOn (specimenLease b 2000 12 ∷ specimenHold 1030 ∷ [])) 154 ≡ record { refusal = 22; length = 0 })
-unfolding specimen specimenNames specimenState specimenLease specimenHold tableWith specimenTable server range scope lease tenants pool settings unnamed name en plain a b ab pick allBy pairsBy allTo filterBy isIn sumTo bit offsetsFrom setOf readOffsets risesFrom orderOf sameOf laidOut tableOf byIdentifier unionAll addressesOf overlaps oneTo sizeB idB recordsB countsB rule1 belowB offsetsB rule2 rangeB rangesApart rule3 poolB poolsApart rule4 ttlB rule5 reserveB reservesB rule6 kindB periodB leaseB noneB tenantsB rule7 differ rule8 disjoint apart rule9 compatible rule10 limitB limitsB rule11 committedB rule12 lapseB holdB rule13 zeroFrom paddedB blankB unusedB layoutBy rangeZero tailB scopeZero settingsB rule19By rulesBy firstLate firstRule firstBroken brokenBy soundBy then closed readOctet readNumber readTimes isAfter orderedFrom fileOf filled stored storedHold insertIn arranged mergedFrom isHold storedScope storedState storedTable storableB leaseFitB holdFitB fewOf recordsFitB countsFit fitsB refused accepted judged loaded loadedGot readFile zeroTable octetsOf writtenOf roomAfter filedBook filedLeases filedHolds filedScope pairUp filedLease filedHold writeAll committed bookOn bookB namesB isWhole sizesOk bare release specimenRelease memoryWith specimenMemory brokenMemory brokenRelease firstRelease releaseRulesOf rulesTo houseB fewB lengthB differs notLeased onceB pastB older filledB unusedR laidB memoryB laidReleases storedRelease storedMemory entries.apart keepableB fewFor releasesFitB entries.filedAll filedRelease filedMemory boardOf scopeBy entryBy ownerFrom countOn countIn isOn upTo specimenBoard boardWith entry agreesB sameBoard sameScopeBoard sameEntry sameBy byEnding until filedAs inFileOrder
+unfolding specimen specimenNames specimenState specimenLease specimenHold tableWith specimenTable server range scope lease tenants pool settings unnamed name en plain a b ab pick allBy pairsBy allTo filterBy isIn sumTo bit offsetsFrom setOf readOffsets risesFrom orderOf sameOf laidOut tableOf byIdentifier unionAll addressesOf overlaps oneTo sizeB idB recordsB countsB rule1 belowB offsetsB rule2 rangeB rangesApart rule3 poolB poolsApart rule4 ttlB rule5 reserveB reservesB rule6 kindB periodB leaseB noneB tenantsB rule7 differ rule8 disjoint apart rule9 compatible rule10 limitB limitsB rule11 committedB rule12 lapseB holdB rule13 zeroFrom paddedB blankB unusedB layoutBy rangeZero tailB scopeZero settingsB rule19By rulesBy firstLate firstRule firstBroken brokenBy soundBy then closed readOctet readNumber readTimes isAfter orderedFrom fileOf filled stored storedHold insertIn arranged mergedFrom isHold storedScope storedState storedTable storableB leaseFitB holdFitB fewOf recordsFitB countsFit fitsB refused accepted judged loaded loadedGot readFile zeroTable octetsOf writtenOf roomAfter filedBook filedLeases filedHolds filedScope pairUp filedLease filedHold writeAll committed bookOn bookB namesB isWhole sizesOk bare release specimenRelease memoryWith specimenMemory brokenMemory brokenRelease firstRelease releaseRulesOf rulesTo tenantB fewB lengthB differs notLeased onceB pastB older filledB unusedR laidB memoryB laidReleases storedRelease storedMemory entries.apart keepableB fewFor releasesFitB entries.filedAll filedRelease filedMemory boardOf scopeBy entryBy ownerFrom countOn countIn isOn upTo specimenBoard boardWith entry agreesB sameBoard sameScopeBoard sameEntry sameBy byEnding until filedAs inFileOrder
 lent-holds = (refl, refl, refl, refl, refl, refl)
 
 -- boards that are lent: one without a lease, another owner, count and holding, and the same a scope further are 22, before too little room
@@ -562,5 +562,5 @@ lent-boards : (writtenOf (bookBy specimenBoard) 154 ≡ record { refusal = 0; le
     × (writtenOf (bookBy (boardWith (entry 2 1 ∷ entry 2 1 ∷ entry 1 2 ∷ entry 1 1 ∷ []) (3 ∷ 2 ∷ []))) 154 ≡ record { refusal = 22; length = 0 })
     × (writtenOf (bookBy (record { scopes = take 4 (emptyScopeBoard ∷ specimenBoard .scopes) })) 154 ≡ record { refusal = 22; length = 0 })
     × (roomAfter (bookBy noBoard) (replicate 156 9) ≡ replicate 156 9)
-unfolding specimen specimenNames specimenState specimenLease specimenHold tableWith specimenTable server range scope lease tenants pool settings unnamed name en plain a b ab pick allBy pairsBy allTo filterBy isIn sumTo bit offsetsFrom setOf readOffsets risesFrom orderOf sameOf laidOut tableOf byIdentifier unionAll addressesOf overlaps oneTo sizeB idB recordsB countsB rule1 belowB offsetsB rule2 rangeB rangesApart rule3 poolB poolsApart rule4 ttlB rule5 reserveB reservesB rule6 kindB periodB leaseB noneB tenantsB rule7 differ rule8 disjoint apart rule9 compatible rule10 limitB limitsB rule11 committedB rule12 lapseB holdB rule13 zeroFrom paddedB blankB unusedB layoutBy rangeZero tailB scopeZero settingsB rule19By rulesBy firstLate firstRule firstBroken brokenBy soundBy then closed readOctet readNumber readTimes isAfter orderedFrom fileOf filled stored storedHold insertIn arranged mergedFrom isHold storedScope storedState storedTable storableB leaseFitB holdFitB fewOf recordsFitB countsFit fitsB refused accepted judged loaded loadedGot readFile zeroTable octetsOf writtenOf roomAfter filedBook filedLeases filedHolds filedScope pairUp filedLease filedHold writeAll committed bookBy bookOf bookB namesB isWhole sizesOk bare release specimenRelease memoryWith specimenMemory brokenMemory brokenRelease firstRelease releaseRulesOf rulesTo houseB fewB lengthB differs notLeased onceB pastB older filledB unusedR laidB memoryB laidReleases storedRelease storedMemory entries.apart keepableB fewFor releasesFitB entries.filedAll filedRelease filedMemory boardOf scopeBy entryBy ownerFrom countOn countIn isOn upTo specimenBoard boardWith entry agreesB sameBoard sameScopeBoard sameEntry sameBy byEnding until filedAs inFileOrder
+unfolding specimen specimenNames specimenState specimenLease specimenHold tableWith specimenTable server range scope lease tenants pool settings unnamed name en plain a b ab pick allBy pairsBy allTo filterBy isIn sumTo bit offsetsFrom setOf readOffsets risesFrom orderOf sameOf laidOut tableOf byIdentifier unionAll addressesOf overlaps oneTo sizeB idB recordsB countsB rule1 belowB offsetsB rule2 rangeB rangesApart rule3 poolB poolsApart rule4 ttlB rule5 reserveB reservesB rule6 kindB periodB leaseB noneB tenantsB rule7 differ rule8 disjoint apart rule9 compatible rule10 limitB limitsB rule11 committedB rule12 lapseB holdB rule13 zeroFrom paddedB blankB unusedB layoutBy rangeZero tailB scopeZero settingsB rule19By rulesBy firstLate firstRule firstBroken brokenBy soundBy then closed readOctet readNumber readTimes isAfter orderedFrom fileOf filled stored storedHold insertIn arranged mergedFrom isHold storedScope storedState storedTable storableB leaseFitB holdFitB fewOf recordsFitB countsFit fitsB refused accepted judged loaded loadedGot readFile zeroTable octetsOf writtenOf roomAfter filedBook filedLeases filedHolds filedScope pairUp filedLease filedHold writeAll committed bookBy bookOf bookB namesB isWhole sizesOk bare release specimenRelease memoryWith specimenMemory brokenMemory brokenRelease firstRelease releaseRulesOf rulesTo tenantB fewB lengthB differs notLeased onceB pastB older filledB unusedR laidB memoryB laidReleases storedRelease storedMemory entries.apart keepableB fewFor releasesFitB entries.filedAll filedRelease filedMemory boardOf scopeBy entryBy ownerFrom countOn countIn isOn upTo specimenBoard boardWith entry agreesB sameBoard sameScopeBoard sameEntry sameBy byEnding until filedAs inFileOrder
 lent-boards = (refl, refl, refl, refl, refl, refl, refl)

@@ -30,7 +30,7 @@ use Rattle.state.specs.laws.Layout.{push-release-laid}
 use Rattle.soundness.specs.Sound.{zeroFrom}
 use Rattle.releases.specs.declared.ReleaseRules.{ReleaseRules}
 use Rattle.releases.specs.Again.{isAgain, resendTime}
-use Rattle.releases.specs.Rules.{bothRules, differs, fewB, filledB, brokenRelease, firstRelease, houseB, laidB, lengthB, notLeased, older, onceB, pastB, rulesAt, unusedR}
+use Rattle.releases.specs.Rules.{bothRules, differs, fewB, filledB, brokenRelease, firstRelease, tenantB, laidB, lengthB, notLeased, older, onceB, pastB, rulesAt, unusedR}
 use Rattle.releases.specs.laws.Tenants.{six}
 
 pub not-is : {q p : Bool} → q ≡ p → not q ≡ not p
@@ -223,17 +223,17 @@ zeros-are a {q} g p =
     true-r false = refl
 
 -- ---- all rules
-pub some-are : (n clock h : ℕ) (ls : List Lease) (q : TenantReleases) {a c d e f : Bool} → a ≡ houseB n h q → c ≡ allBy lengthB (remembered q) → d ≡ onceB ls q
+pub some-are : (n clock h : ℕ) (ls : List Lease) (q : TenantReleases) {a c d e f : Bool} → a ≡ tenantB n h q → c ≡ allBy lengthB (remembered q) → d ≡ onceB ls q
     → e ≡ allBy (pastB clock) (remembered q) → f ≡ laidB q
-    → _≡_ {A = ReleaseRules} (record { houses = a; few = leb (q .count) 4; lengths = c; once = d; times = e; layout = f }) (rulesAt n clock h ls q)
+    → _≡_ {A = ReleaseRules} (record { tenants = a; few = leb (q .count) 4; lengths = c; once = d; times = e; layout = f }) (rulesAt n clock h ls q)
 unfolding rulesAt fewB
 some-are n clock h ls q p r s u v = six p refl r s u v
 
 pub none-are : (n clock h : ℕ) (ls : List Lease) (q : TenantReleases) {f : Bool} → q .count ≡ 0 → f ≡ allBy unusedR (drop (q .count) (q .releases))
-    → _≡_ {A = ReleaseRules} (record { houses = true; few = true; lengths = true; once = true; times = true; layout = f }) (rulesAt n clock h ls q)
-unfolding rulesAt houseB fewB onceB laidB allBy pairsBy
+    → _≡_ {A = ReleaseRules} (record { tenants = true; few = true; lengths = true; once = true; times = true; layout = f }) (rulesAt n clock h ls q)
+unfolding rulesAt tenantB fewB onceB laidB allBy pairsBy
 none-are n clock h ls q {f} e p =
-    six (house (ltb h n)) (sym (le-leb (q .count) 4 (omega arith))) (none (allBy lengthB)) (none (λ l. pairsBy differs l && allBy (notLeased ls) l)) (none (allBy (pastB clock)))
+    six (tenant (ltb h n)) (sym (le-leb (q .count) 4 (omega arith))) (none (allBy lengthB)) (none (λ l. pairsBy differs l && allBy (notLeased ls) l)) (none (allBy (pastB clock)))
     (p ∙ ap (λ (l : List Release). pairsBy older l && (allBy filledB l && allBy unusedR (drop (q .count) (q .releases)))) (sym nothing))
   where
     nothing : remembered q ≡ []
@@ -242,13 +242,13 @@ none-are n clock h ls q {f} e p =
     none : (t : List Release → Bool) → t [] ≡ t (remembered q)
     none t = ap t (sym nothing)
 
-    house : (b : Bool) → true ≡ (b || eqb (q .count) 0)
-    house true = refl
-    house false = sym (eq-eqb (q .count) 0 e)
+    tenant : (b : Bool) → true ≡ (b || eqb (q .count) 0)
+    tenant true = refl
+    tenant false = sym (eq-eqb (q .count) 0 e)
 
-pub both-are : (a x : ReleaseRules) {p q u r v w : Bool} → p ≡ (a .houses && x .houses) → q ≡ (a .few && x .few) → u ≡ (a .lengths && x .lengths) → r ≡ (a .once && x .once)
+pub both-are : (a x : ReleaseRules) {p q u r v w : Bool} → p ≡ (a .tenants && x .tenants) → q ≡ (a .few && x .few) → u ≡ (a .lengths && x .lengths) → r ≡ (a .once && x .once)
     → v ≡ (a .times && x .times) → w ≡ (a .layout && x .layout)
-    → _≡_ {A = ReleaseRules} (record { houses = p; few = q; lengths = u; once = r; times = v; layout = w }) (bothRules a x)
+    → _≡_ {A = ReleaseRules} (record { tenants = p; few = q; lengths = u; once = r; times = v; layout = w }) (bothRules a x)
 unfolding bothRules
 both-are a x f g h i j k = six f g h i j k
 

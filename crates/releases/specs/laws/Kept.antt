@@ -30,7 +30,7 @@ use Rattle.state.specs.laws.Edited.{applied-others, edited-none}
 use Rattle.state.specs.laws.Layout.{read-back, releases-back}
 use Rattle.state.specs.laws.Sorted.{differ-turn, insert-same}
 use Rattle.soundness.specs.Sound.{idB, paddedB, tenantsIn, zeroFrom}
-use Rattle.releases.specs.Rules.{differs, fewB, filledB, houseB, laidB, ownLeases, lengthB, notLeased, older, onceB, pastB, rulesAt, unusedR}
+use Rattle.releases.specs.Rules.{differs, fewB, filledB, tenantB, laidB, ownLeases, lengthB, notLeased, older, onceB, pastB, rulesAt, unusedR}
 use Rattle.releases.specs.Whole.{memoryGood}
 use Rattle.releases.specs.laws.Tenants.{Holds, each-memory, memory-each}
 
@@ -106,11 +106,11 @@ module _ (n clock h : ℕ) (ls : List Lease) where
       blank = refl
 
   laid-holds : (p : List Release) → h < n → Good clock ls p → Holds (rulesAt n clock h ls (laidReleases p))
-  unfolding rulesAt houseB fewB onceB laidB laidReleases
+  unfolding rulesAt tenantB fewB onceB laidB laidReleases
   laid-holds p g v =
       let e = releases-back p in
       record {
-        houses = ap (λ (b : Bool). b || eqb (length p) 0) (lt-ltb h n g);
+        tenants = ap (λ (b : Bool). b || eqb (length p) 0) (lt-ltb h n g);
         few = le-leb (length p) 4 (v .few);
         lengths = ap (allBy lengthB) e ∙ v .lengths;
         once = and-both (ap (pairsBy differs) e ∙ v .apart) (ap (allBy (notLeased ls)) e ∙ v .free);
@@ -125,7 +125,7 @@ module _ (n clock h : ℕ) (ls : List Lease) where
   unfolding rulesAt onceB
   leased-holds ls′ q f v =
       let o = and-parts (pairsBy differs (remembered q)) (allBy (notLeased ls) (remembered q)) (v .once) in
-      record { houses = v .houses; few = v .few; lengths = v .lengths; once = and-both (o .0) f; times = v .times; layout = v .layout }
+      record { tenants = v .tenants; few = v .few; lengths = v .lengths; once = and-both (o .0) f; times = v .times; layout = v .layout }
 
 leased-good : (clock : ℕ) (ls ls′ : List Lease) (q : List Release) → ((r : Release) → notLeased ls r ≡ true → notLeased ls′ r ≡ true) → Good clock ls q → Good clock ls′ q
 leased-good clock ls ls′ q f v = record {

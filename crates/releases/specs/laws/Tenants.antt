@@ -24,7 +24,7 @@ use Rattle.releases.specs.declared.ReleaseRules.{ReleaseRules}
 use Rattle.releases.specs.Rules.{bothRules, brokenMemory, brokenRelease, firstRelease, ownLeases, memoryB, noRules, releaseRulesOf, rulesAt, rulesTo}
 
 pub six : {p p′ q q′ u u′ r r′ t t′ v v′ : Bool} → p ≡ p′ → q ≡ q′ → u ≡ u′ → r ≡ r′ → t ≡ t′ → v ≡ v′
-    → _≡_ {A = ReleaseRules} (record { houses = p; few = q; lengths = u; once = r; times = t; layout = v }) (record { houses = p′; few = q′; lengths = u′; once = r′; times = t′; layout = v′ })
+    → _≡_ {A = ReleaseRules} (record { tenants = p; few = q; lengths = u; once = r; times = t; layout = v }) (record { tenants = p′; few = q′; lengths = u′; once = r′; times = t′; layout = v′ })
 six a b c d e f = cc
 
 -- ---- the first k tenants
@@ -45,7 +45,7 @@ module _ (n clock : ℕ) (t : LeaseTable) (m : Memory) where
 -- ---- none is broken
 -- all of them hold
 pub record Holds (r : ReleaseRules) : Type 0 where
-  pub houses : r .houses ≡ true
+  pub tenants : r .tenants ≡ true
   pub few : r .few ≡ true
   pub lengths : r .lengths ≡ true
   pub once : r .once ≡ true
@@ -69,16 +69,16 @@ none-broken : (r : ReleaseRules) → brokenRelease r ≡ 0 → Holds r
 unfolding brokenRelease firstRelease
 none-broken r e =
     let n = peel-last (firstRelease r) (r .layout) e in
-    let a = peel (r .houses) _ 14 (omega arith) (n .0) in
+    let a = peel (r .tenants) _ 14 (omega arith) (n .0) in
     let b = peel (r .few) _ 15 (omega arith) (a .1) in
     let c = peel (r .lengths) _ 16 (omega arith) (b .1) in
     let d = peel (r .once) _ 17 (omega arith) (c .1) in
     let f = peel (r .times) _ 18 (omega arith) (d .1) in
-    record { houses = a .0; few = b .0; lengths = c .0; once = d .0; times = f .0; layout = n .1 }
+    record { tenants = a .0; few = b .0; lengths = c .0; once = d .0; times = f .0; layout = n .1 }
 
 all-hold : (r : ReleaseRules) → Holds r → brokenRelease r ≡ 0
 unfolding brokenRelease firstRelease pick
-all-hold r v = ap brokenRelease (six (v .houses) (v .few) (v .lengths) (v .once) (v .times) (v .layout))
+all-hold r v = ap brokenRelease (six (v .tenants) (v .few) (v .lengths) (v .once) (v .times) (v .layout))
 
 module _ (s : State) (t : LeaseTable) (m : Memory) where
   pub memory-each : memoryB s t m ≡ true → (h : ℕ) → h < 8 → Holds (rulesAt (tenantsIn s) (s .clock) h (ownLeases t h) (releasesAt m h))
@@ -86,7 +86,7 @@ module _ (s : State) (t : LeaseTable) (m : Memory) where
   memory-each e h p =
       let v = none-broken (releaseRulesOf s t m) (eqb-true _ 0 e) in
       record {
-        houses = to-each _ 8 (v .houses) h p;
+        tenants = to-each _ 8 (v .tenants) h p;
         few = to-each _ 8 (v .few) h p;
         lengths = to-each _ 8 (v .lengths) h p;
         once = to-each _ 8 (v .once) h p;
@@ -98,7 +98,7 @@ module _ (s : State) (t : LeaseTable) (m : Memory) where
   unfolding memoryB brokenMemory releaseRulesOf rulesTo rulesAt
   each-memory f =
       eq-eqb _ 0 (all-hold (releaseRulesOf s t m) (record {
-        houses = each-to _ 8 (λ h p. f h p .houses);
+        tenants = each-to _ 8 (λ h p. f h p .tenants);
         few = each-to _ 8 (λ h p. f h p .few);
         lengths = each-to _ 8 (λ h p. f h p .lengths);
         once = each-to _ 8 (λ h p. f h p .once);

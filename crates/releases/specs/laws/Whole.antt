@@ -110,7 +110,7 @@ later n c c′ h ls q g v =
     let o = and-parts (pairsBy differs (remembered q)) (allBy (notLeased ls) (remembered q)) (v .once) in
     let l : List Lease = filterBy (live c′) ls in
     record {
-      houses = v .houses;
+      tenants = v .tenants;
       few = v .few;
       lengths = v .lengths;
       once = and-both (o .0) (all-both (notLeased ls) (notLeased ls) (notLeased l) (remembered q) (λ r p p′. off-fewer (live c′) ls r p) (o .1) (o .1));

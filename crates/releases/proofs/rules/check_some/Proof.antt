@@ -8,7 +8,7 @@ pub check-some-spec : {M : Type 1} → statement M
 check-some-spec =
     tie.close
     (tie.spec
-    (λ c κs. search needs)  -- src/rules.rt:275:9 house-ok-requires
+    (λ c κs. search needs)  -- src/rules.rt:275:9 tenant-ok-requires
     (λ c κs. search needs)  -- src/rules.rt:276:9 lengths-ok-requires
     (λ c κs. search needs)  -- src/rules.rt:277:9 once-ok-requires
     (λ c κs. search needs)  -- src/rules.rt:278:9 times-ok-requires

@@ -22,7 +22,7 @@ use Rattle.records.specs.Records.{tableFrom}
 use Rattle.records.specs.Lent.{judgeLent, LentAnswer, lentBoth, LentJudgement, LentReading, readLent, roomLent, serveLent, writtenLent}
 use Rattle.records.specs.laws.Call.{lent-joined}
 use Rattle.records.specs.laws.Files.{file-long}
-use Rattle.lent_guarantee.specs.Statement.{bookOf, Lent, LentDemand1, LentWriteRead, SameCall, SameJudge}
+use Rattle.lent_guarantee.specs.Statement.{lentBook, Lent, LentDemand1, LentWriteRead, SameCall, SameJudge}
 use Rattle.lent_guarantee.proofs.Guaranteed.{lent-demand1}
 use Rattle.lent_guarantee.proofs.Halves.{same-judge}
 use Rattle.lent_guarantee.proofs.Same.{same-call}
@@ -61,7 +61,7 @@ module _ (b : List ℕ) (n : ℕ) (c : Call) (e : refusalIn b n ≡ 0) (h : leas
   same-told =
       let long = file-long (take n b) (accepted-parts b n e .2) in
       let p = same-call before c long in
-      let q = verdict-told (bookOf before) c h in
+      let q = verdict-told (lentBook before) c h in
       let r = same-judge before c long in (
         ap (λ (a : Answer). a .offset) p ∙ q .1 .0 ∙ sym (ap (λ (j : Judgement). j .ruling .offset) r),
         ap (λ (a : Answer). a .count) p ∙ q .1 .1 .0 ∙ sym (ap (λ (j : Judgement). j .ruling .count) r),

@@ -34,7 +34,7 @@ use Rattle.state_file.specs.StateFile.{accepted, loadedGot, judged, loaded, rea
 use Rattle.records.specs.laws.Files.{file-back}
 use Rattle.records.specs.Lent.{LentReading, readLent}
 use Rattle.records.specs.Records.{tableFrom}
-use Rattle.lent_guarantee.specs.Statement.{FileReads, LentDemand1, afterFile, bookOf, runLent}
+use Rattle.lent_guarantee.specs.Statement.{FileReads, LentDemand1, afterFile, lentBook, runLent}
 use Rattle.lent_guarantee.proofs.Guaranteed.{lent-demand1, run-lent}
 use Rattle.lent_guarantee.proofs.RoundTrip.{read-whole}
 use Rattle.lent_guarantee.proofs.Written.{file-sound}
@@ -93,7 +93,7 @@ read-narrow f g = go (fileOf f)
     go (got x r) = pick-cases P (fitsB x) _ _ (λ _. pick-cases P _ _ _ (λ _. of-lists (mergedFrom 1 8 (x .leases) (x .holds)) g (each-tenant 1 8 (x .leases) (x .holds) g)) (λ _. zeros)) (λ _. zeros)
 
 -- ---- read into lent records, and after any calls
-file-narrow : (f : List ℕ) (k : Ledger) (ls : List Lease) → readLent f k ls .refusal ≡ 0 → Narrow (bookOf (afterFile f k ls))
+file-narrow : (f : List ℕ) (k : Ledger) (ls : List Lease) → readLent f k ls .refusal ≡ 0 → Narrow (lentBook (afterFile f k ls))
 unfolding Narrow
 file-narrow f k ls e g =
     let r = read-whole f k ls e in
@@ -104,4 +104,4 @@ unfolding FileReads StaysNarrow LentDemand1
 file-reads f k ls cs c e =
     let v = run-lent (afterFile f k ls) cs (file-sound f k ls e) in
     lent-demand1 (runLent (afterFile f k ls) cs) c .reads
-    (subst Narrow (sym (v .1)) (stays-narrow (bookOf (afterFile f k ls)) (file-narrow f k ls e) cs))
+    (subst Narrow (sym (v .1)) (stays-narrow (lentBook (afterFile f k ls)) (file-narrow f k ls e) cs))

@@ -26,14 +26,14 @@ use Rattle.offer_guarantee.proofs.Taken.{offer-held}
 use Rattle.records.specs.Records.{recordsOf, tableFrom}
 use Rattle.records.specs.Lent.{ledgerOf, lentAnswer, LentAnswer, serveWith}
 use Rattle.records.specs.laws.Steps.{off-whole}
-use Rattle.lent_guarantee.specs.Statement.{answerOf, bookOf, Lent, LentAnswered, LentBoardAgrees, LentBoardStays, LentDemand1, LentDemand3, LentOfferHeld, LentOfferRule, runLent, served, SoundLent}
+use Rattle.lent_guarantee.specs.Statement.{answerOf, lentBook, Lent, LentAnswered, LentBoardAgrees, LentBoardStays, LentDemand1, LentDemand3, LentOfferHeld, LentOfferRule, runLent, served, SoundLent}
 use Rattle.lent_guarantee.proofs.Same.{at-whole, kept-back, same, sound-book, still-whole}
 
 -- ---- the list of calls
 unfoldable pub next : Lent → Call → Lent
 next l c = record { ledger = served l c .ledger; leases = served l c .leases; names = l .names }
 
-next-book : (l : Lent) (c : Call) → SoundLent l → bookOf (next l c) ≡ serveOf (bookOf l) c .book
+next-book : (l : Lent) (c : Call) → SoundLent l → lentBook (next l c) ≡ serveOf (lentBook l) c .book
 unfolding next
 next-book l c v = ap (λ (a : Answer). a .book) (same (l .ledger) (l .leases) (l .names) c (v .whole))
 
@@ -45,10 +45,10 @@ next-sound l c v = record {
   sound = ap bookB (next-book l c v) ∙ after .sound;
 }
   where
-    after : SoundBook (serveOf (bookOf l) c .book)
-    after = call-sound (bookOf l) c (sound-book (l .ledger) (l .leases) (l .names) c (v .whole) (v .eight) (v .sound))
+    after : SoundBook (serveOf (lentBook l) c .book)
+    after = call-sound (lentBook l) c (sound-book (l .ledger) (l .leases) (l .names) c (v .whole) (v .eight) (v .sound))
 
-pub run-lent : (l : Lent) (cs : List Call) → SoundLent l → SoundLent (runLent l cs) × (bookOf (runLent l cs) ≡ run (bookOf l) cs)
+pub run-lent : (l : Lent) (cs : List Call) → SoundLent l → SoundLent (runLent l cs) × (lentBook (runLent l cs) ≡ run (lentBook l) cs)
 unfolding runLent run next
 run-lent l [] v = (v, refl)
 run-lent l (c ∷ cs) v =
@@ -60,12 +60,12 @@ pub lent-demand3 : LentDemand3
 unfolding LentDemand3 Demand3
 lent-demand3 l v cs =
     let r = run-lent l cs v in
-    let d = demand3 (bookOf l) (sound-book (l .ledger) (l .leases) (l .names) (record { datagram = []; client = 0; time = 0; room = 0 }) (v .whole) (v .eight) (v .sound)) cs in
-    let e : run (bookOf l) cs ≡ bookOf (runLent l cs) = sym (r .1) in
+    let d = demand3 (lentBook l) (sound-book (l .ledger) (l .leases) (l .names) (record { datagram = []; client = 0; time = 0; room = 0 }) (v .whole) (v .eight) (v .sound)) cs in
+    let e : run (lentBook l) cs ≡ lentBook (runLent l cs) = sym (r .1) in
     record {
       sound = r .0;
       limits = subst WithinLimits e (d .limits);
-      next = λ c n. subst (λ (a : Answer). Granted (bookOf (runLent l cs)) c a) (sym (same (runLent l cs .ledger) (runLent l cs .leases) (runLent l cs .names) c (r .0 .whole)))
+      next = λ c n. subst (λ (a : Answer). Granted (lentBook (runLent l cs)) c a) (sym (same (runLent l cs .ledger) (runLent l cs .leases) (runLent l cs .names) c (r .0 .whole)))
           (subst (λ (b : Book). (m : NewRequest b c) → Granted b c (serveOf b c)) e (d .next c) n);
     }
 
@@ -79,7 +79,7 @@ module _ (l : Lent) (c : Call) where
 
   out : (length ls ≡ 128 → ⊥) → served l c ≡ record { outcome = 1; offset = 0; count = 0; reply = []; ledger = k; leases = ls }
   unfolding serveWith
-  out e = sym (off-whole (lentAnswer (serveOf (bookOf l) c)) (record { outcome = 1; offset = 0; count = 0; reply = []; ledger = k; leases = ls }) e)
+  out e = sym (off-whole (lentAnswer (serveOf (lentBook l) c)) (record { outcome = 1; offset = 0; count = 0; reply = []; ledger = k; leases = ls }) e)
 
   other-answered : (length ls ≡ 128 → ⊥) → LentAnswered l c (record { outcome = 1; offset = 0; count = 0; reply = []; ledger = k; leases = ls })
   other-answered e = record {
@@ -127,22 +127,22 @@ module _ (l : Lent) (c : Call) where
     bad-board = λ e. sym number ∙ v .bad-board e;
   }
     where
-      v : Answered (bookOf l) c (serveOf (bookOf l) c)
-      v = call-answered (bookOf l) c
+      v : Answered (lentBook l) c (serveOf (lentBook l) c)
+      v = call-answered (lentBook l) c
 
-      back : serveOf (bookOf l) c ≡ answerOf (l .names) (served l c)
+      back : serveOf (lentBook l) c ≡ answerOf (l .names) (served l c)
       back = sym (same k ls (l .names) c long)
 
-      number : serveOf (bookOf l) c .outcome ≡ served l c .outcome
+      number : serveOf (lentBook l) c .outcome ≡ served l c .outcome
       number = ap (λ (a : Answer). a .outcome) back
 
-      place : serveOf (bookOf l) c .offset ≡ served l c .offset
+      place : serveOf (lentBook l) c .offset ≡ served l c .offset
       place = ap (λ (a : Answer). a .offset) back
 
-      still : serveOf (bookOf l) c .book ≡ bookOf l → (served l c .ledger ≡ k) × (served l c .leases ≡ ls)
+      still : serveOf (lentBook l) c .book ≡ lentBook l → (served l c .ledger ≡ k) × (served l c .leases ≡ ls)
       still e = (
         ap (λ (a : LentAnswer). a .ledger) (at-whole k ls (l .names) c long) ∙ ap ledgerOf e,
-        ap (λ (a : LentAnswer). a .leases) (at-whole k ls (l .names) c long) ∙ kept-back k ls (l .names) c long (serveOf (bookOf l) c .book .table) (ap (λ (b : Book). b .table) e),
+        ap (λ (a : LentAnswer). a .leases) (at-whole k ls (l .names) c long) ∙ kept-back k ls (l .names) c long (serveOf (lentBook l) c .book .table) (ap (λ (b : Book). b .table) e),
       )
 
   -- by the number of records
@@ -163,21 +163,21 @@ lent-demand1 l c = call-lent l c
 -- ---- the board
 pub lent-board-agrees : LentBoardAgrees
 unfolding LentBoardAgrees
-lent-board-agrees l v cs = let r = run-lent l cs v in book-board (bookOf (runLent l cs)) (r .0 .sound)
+lent-board-agrees l v cs = let r = run-lent l cs v in book-board (lentBook (runLent l cs)) (r .0 .sound)
 
 pub lent-board-stays : LentBoardStays
 unfolding LentBoardStays BoardStays
 lent-board-stays l v c =
-    subst (BoardKept (bookOf l)) (sym (same (l .ledger) (l .leases) (l .names) c (v .whole)))
-    (board-stays (bookOf l) (sound-book (l .ledger) (l .leases) (l .names) c (v .whole) (v .eight) (v .sound)) c)
+    subst (BoardKept (lentBook l)) (sym (same (l .ledger) (l .leases) (l .names) c (v .whole)))
+    (board-stays (lentBook l) (sound-book (l .ledger) (l .leases) (l .names) c (v .whole) (v .eight) (v .sound)) c)
 
 -- ---- the OFFER rule
 pub lent-offer-rule : LentOfferRule
 unfolding LentOfferRule OfferRule
 lent-offer-rule l c long v free =
-    let at : (d : Call) → answerOf (l .names) (served l d) ≡ serveOf (bookOf l) d = λ d. same (l .ledger) (l .leases) (l .names) d long in
-    subst (λ (a : Answer). OfferedAs (bookOf l) c a (answerOf (l .names) (served l (requested c)))) (sym (at c))
-    (subst (λ (a : Answer). OfferedAs (bookOf l) c (serveOf (bookOf l) c) a) (sym (at (requested c))) (offer-rule (bookOf l) c v free))
+    let at : (d : Call) → answerOf (l .names) (served l d) ≡ serveOf (lentBook l) d = λ d. same (l .ledger) (l .leases) (l .names) d long in
+    subst (λ (a : Answer). OfferedAs (lentBook l) c a (answerOf (l .names) (served l (requested c)))) (sym (at c))
+    (subst (λ (a : Answer). OfferedAs (lentBook l) c (serveOf (lentBook l) c) a) (sym (at (requested c))) (offer-rule (lentBook l) c v free))
 
 -- ---- the held offer
 pub lent-offer-held : LentOfferHeld
@@ -185,10 +185,10 @@ unfolding LentOfferHeld OfferHeld run
 lent-offer-held l v d discovers offered cs away r u =
     let w : Lent = runLent l (d ∷ cs) in
     let e = run-lent l (d ∷ cs) v in
-    let first : answerOf (l .names) (served l d) ≡ serveOf (bookOf l) d = same (l .ledger) (l .leases) (l .names) d (v .whole) in
-    let last : answerOf (w .names) (served w r) ≡ serveOf (bookOf w) r = same (w .ledger) (w .leases) (w .names) r (e .0 .whole) in
-    let b : SoundBook (bookOf l) = sound-book (l .ledger) (l .leases) (l .names) d (v .whole) (v .eight) (v .sound) in
-    subst (λ (a : Answer). GrantedAsOffered (bookOf l) d (bookOf w) r a (answerOf (w .names) (served w r))) (sym first)
-    (subst (λ (a : Answer). GrantedAsOffered (bookOf l) d (bookOf w) r (serveOf (bookOf l) d) a) (sym last)
-    (subst (λ (y : Book). TakesUp (bookOf l) d y r → GrantedAsOffered (bookOf l) d y r (serveOf (bookOf l) d) (serveOf y r)) (sym (e .1))
-    (offer-held (bookOf l) b d discovers (subst Offered first offered) cs away r) u))
+    let first : answerOf (l .names) (served l d) ≡ serveOf (lentBook l) d = same (l .ledger) (l .leases) (l .names) d (v .whole) in
+    let last : answerOf (w .names) (served w r) ≡ serveOf (lentBook w) r = same (w .ledger) (w .leases) (w .names) r (e .0 .whole) in
+    let b : SoundBook (lentBook l) = sound-book (l .ledger) (l .leases) (l .names) d (v .whole) (v .eight) (v .sound) in
+    subst (λ (a : Answer). GrantedAsOffered (lentBook l) d (lentBook w) r a (answerOf (w .names) (served w r))) (sym first)
+    (subst (λ (a : Answer). GrantedAsOffered (lentBook l) d (lentBook w) r (serveOf (lentBook l) d) a) (sym last)
+    (subst (λ (y : Book). TakesUp (lentBook l) d y r → GrantedAsOffered (lentBook l) d y r (serveOf (lentBook l) d) (serveOf y r)) (sym (e .1))
+    (offer-held (lentBook l) b d discovers (subst Offered first offered) cs away r) u))

@@ -29,7 +29,7 @@ use Rattle.records.specs.laws.Table.{table-eight}
 use Rattle.records.specs.Records.{recordsOf}
 use Rattle.records.specs.Lent.{LentReading, bookFrom, ledgerOf, readLent, readWith, roomWith, writtenWith}
 use Rattle.records.specs.laws.Steps.{off-whole, on-whole}
-use Rattle.lent_guarantee.specs.Statement.{FileWritten, Lent, bookOf, LentDemand3, LentWriteRead, lentRoom, LentWritten, lentWritten, SoundLent, afterFile, runLent}
+use Rattle.lent_guarantee.specs.Statement.{FileWritten, Lent, lentBook, LentDemand3, LentWriteRead, lentRoom, LentWritten, lentWritten, SoundLent, afterFile, runLent}
 use Rattle.lent_guarantee.proofs.Guaranteed.{lent-demand3}
 use Rattle.lent_guarantee.proofs.RoundTrip.{read-whole}
 
@@ -49,7 +49,7 @@ written-whole l n e = go (eqb (length (l .leases)) 128) refl
     go : (b : Bool) → eqb (length (l .leases)) 128 ≡ b → length (l .leases) ≡ 128
     go true p = eqb-true (length (l .leases)) 128 p
     go false p =
-        let q : lentWritten l n ≡ record { refusal = 22; length = 0 } = sym (off-whole (writtenOf (bookOf l) n) (record { refusal = 22; length = 0 }) (eqb-false (length (l .leases)) 128 p)) in
+        let q : lentWritten l n ≡ record { refusal = 22; length = 0 } = sym (off-whole (writtenOf (lentBook l) n) (record { refusal = 22; length = 0 }) (eqb-false (length (l .leases)) 128 p)) in
         let z : lentWritten l n .refusal ≡ 22 = ap (λ (w : Written). w .refusal) q in
         absurd (omega arith)
 
@@ -57,11 +57,11 @@ pub lent-write-read : LentWriteRead
 unfolding LentWriteRead writtenWith roomWith
 lent-write-read l room g ls v o long e =
     let here : length (l .leases) ≡ 128 = written-whole l (length room) e in
-    let w : writtenOf (bookOf l) (length room) ≡ lentWritten l (length room) = on-whole (writtenOf (bookOf l) (length room)) (record { refusal = 22; length = 0 }) here in
-    let r : roomAfter (bookOf l) room ≡ lentRoom l room = on-whole (roomAfter (bookOf l) room) room here in
-    let back = written-read (bookOf l) v o room (ap (λ (x : Written). x .refusal) w ∙ e) in (
+    let w : writtenOf (lentBook l) (length room) ≡ lentWritten l (length room) = on-whole (writtenOf (lentBook l) (length room)) (record { refusal = 22; length = 0 }) here in
+    let r : roomAfter (lentBook l) room ≡ lentRoom l room = on-whole (roomAfter (lentBook l) room) room here in
+    let back = written-read (lentBook l) v o room (ap (λ (x : Written). x .refusal) w ∙ e) in (
       ap₂ (λ (x : Written) (y : List ℕ). readLent (take (x .length) y) g ls) (sym w) (sym r)
-          ∙ read-as (take (writtenOf (bookOf l) (length room) .length) (roomAfter (bookOf l) room)) g (bookOf l) ls long (back .0)
+          ∙ read-as (take (writtenOf (lentBook l) (length room) .length) (roomAfter (lentBook l) room)) g (lentBook l) ls long (back .0)
           ∙ ap {B = LentReading} (λ (x : List Lease). record { refusal = 0; ledger = l .ledger; leases = x }) (records-back (l .leases) here),
       ap₂ (λ (x : Written) (y : List ℕ). namesOf (take (x .length) y)) (sym w) (sym r) ∙ back .1,
     )
@@ -72,7 +72,7 @@ pub sound-written : (l : Lent) → SoundLent l → (n : ℕ) → longestFile ≤
 unfolding writtenWith
 sound-written l v n h =
     ap (λ (w : Written). w .refusal)
-    (sym (on-whole (writtenOf (bookOf l) n) (record { refusal = 22; length = 0 }) (v .whole)) ∙ never-refused (bookOf l) n (table-eight (l .leases)) (v .eight) (v .sound) h)
+    (sym (on-whole (writtenOf (lentBook l) n) (record { refusal = 22; length = 0 }) (v .whole)) ∙ never-refused (lentBook l) n (table-eight (l .leases)) (v .eight) (v .sound) h)
 
 pub lent-written : LentWritten
 unfolding LentWritten LentDemand3

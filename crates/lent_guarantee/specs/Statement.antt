@@ -38,8 +38,8 @@ pub record Lent : Type 0 where
   pub leases : List Lease
   pub names : List ℕ
 
-abbrev pub bookOf : Lent → Book
-bookOf l = bookFrom (l .ledger) (l .leases) (l .names)
+abbrev pub lentBook : Lent → Book
+lentBook l = bookFrom (l .ledger) (l .leases) (l .names)
 
 -- the lent call on them
 abbrev pub served : Lent → Call → LentAnswer
@@ -65,11 +65,11 @@ runLent l (c ∷ cs) = runLent (record { ledger = served l c .ledger; leases = s
 pub record SoundLent (l : Lent) : Type 0 where
   pub whole : length (l .leases) ≡ 128
   pub eight : length (l .ledger .memory .releases) ≡ 8
-  pub sound : bookB (bookOf l) ≡ true
+  pub sound : bookB (lentBook l) ≡ true
 
 -- ---- the lent call is the call: on any ledger, any 128 records and any names, sound or not
 unfoldable pub SameCall : Type 0
-SameCall = (l : Lent) (c : Call) → length (l .leases) ≡ 128 → answerOf (l .names) (served l c) ≡ serveOf (bookOf l) c
+SameCall = (l : Lent) (c : Call) → length (l .leases) ≡ 128 → answerOf (l .names) (served l c) ≡ serveOf (lentBook l) c
 
 -- ---- the call in two halves (document 02, W-208): "the first gives the verdict and the book afterwards, the second writes the reply from these"
 -- the first (`lent::judge`) on them, of a call's datagram, address and time
@@ -87,7 +87,7 @@ discardedLent n l = record { outcome = n; offset = 0; count = 0; reply = []; led
 unfoldable pub LentHalves : Type 0
 LentHalves =
     (l : Lent) (c : Call)
-    → served l c ≡ pick (is128 (length (l .leases)) && bookB (bookOf l)) (pick (ltb (c .room) leastRoom) (discardedLent 2 l) (lentInHalves l c)) (discardedLent 1 l)
+    → served l c ≡ pick (is128 (length (l .leases)) && bookB (lentBook l)) (pick (ltb (c .room) leastRoom) (discardedLent 2 l) (lentInHalves l c)) (discardedLent 1 l)
 
 -- the verdict with the book that its ledger, its records and the names are
 abbrev pub judgementOf : List ℕ → LentJudgement → Judgement
@@ -95,7 +95,7 @@ judgementOf names j = record { ruling = j .ruling; book = bookFrom (j .ledger) (
 
 -- the lent first half is the first half: on any ledger, any 128 records and any names, sound or not
 unfoldable pub SameJudge : Type 0
-SameJudge = (l : Lent) (c : Call) → length (l .leases) ≡ 128 → judgementOf (l .names) (judged l c) ≡ judgedFor (bookOf l) c
+SameJudge = (l : Lent) (c : Call) → length (l .leases) ≡ 128 → judgementOf (l .names) (judged l c) ≡ judgedFor (lentBook l) c
 
 -- "The first never gives discard 2"
 unfoldable pub LentNeverShort : Type 0
@@ -115,9 +115,9 @@ pub record LentAfterList (l : Lent) : Type 0 where
   -- "After the list the book is sound", on 128 records
   pub sound : SoundLent l
   -- "and no house holds more addresses in a scope than its limit"
-  pub limits : WithinLimits (bookOf l)
+  pub limits : WithinLimits (lentBook l)
   -- "Let the next datagram be a new REQUEST ..: it is granted, .., whatever the other houses sent"
-  pub next : (c : Call) → NewRequest (bookOf l) c → Granted (bookOf l) c (answerOf (l .names) (served l c))
+  pub next : (c : Call) → NewRequest (lentBook l) c → Granted (lentBook l) c (answerOf (l .names) (served l c))
 
 -- "Take every sound book and every list of datagrams, answered or discarded, whatever their addresses, times and reply rooms"
 unfoldable pub LentDemand3 : Type 0
@@ -129,7 +129,7 @@ pub record LentAnswered (l : Lent) (c : Call) (a : LentAnswer) : Type 0 where
   pub outcome : a .outcome ≤ 8
   pub reply : a .outcome ≡ 0 → IsReply (a .reply)
   -- the reader reads it back as one of document 01's
-  pub reads : Narrow (bookOf l) → a .outcome ≡ 0 → ReadAs (a .reply)
+  pub reads : Narrow (lentBook l) → a .outcome ≡ 0 → ReadAs (a .reply)
   -- "A discard writes no reply octet"
   pub silent : (a .outcome ≡ 0 → ⊥) → a .reply ≡ []
   -- "and changes no lease live at the clock it leaves in the book"
@@ -139,7 +139,7 @@ pub record LentAnswered (l : Lent) (c : Call) (a : LentAnswer) : Type 0 where
   pub untouched : a .outcome ≡ 1 → (a .ledger ≡ l .ledger) × (a .leases ≡ l .leases)
   pub untouched-too : a .outcome ≡ 2 → (a .ledger ≡ l .ledger) × (a .leases ≡ l .leases)
   -- the others set the clock and drop ended leases and lapsed holds; 3 to 8 do no more
-  pub advances : 3 ≤ a .outcome → (a .ledger ≡ ledgerOf (bookAt (bookOf l) c)) × (a .leases ≡ recordsOf (bookAt (bookOf l) c .table))
+  pub advances : 3 ≤ a .outcome → (a .ledger ≡ ledgerOf (bookAt (lentBook l) c)) × (a .leases ≡ recordsOf (bookAt (lentBook l) c .table))
   -- "Discard 5 carries" the offset that the reader of options reports, "every other outcome 0" (document 02, W-206)
   pub carries : a .outcome ≡ 5 → a .offset ≡ readOf (c .datagram) .fault
   pub carries-none : (a .outcome ≡ 5 → ⊥) → a .offset ≡ 0
@@ -150,10 +150,10 @@ pub record LentAnswered (l : Lent) (c : Call) (a : LentAnswer) : Type 0 where
   -- another number of records makes the book unsound
   pub other : (length (l .leases) ≡ 128 → ⊥) → a .outcome ≡ 1
   -- and so do bad names and bad releases (document 02, W-201 and W-202)
-  pub bad-names : namesGood (bookOf l) ≡ false → a .outcome ≡ 1
-  pub bad-releases : memoryGood (bookOf l) ≡ false → a .outcome ≡ 1
+  pub bad-names : namesGood (lentBook l) ≡ false → a .outcome ≡ 1
+  pub bad-releases : memoryGood (lentBook l) ≡ false → a .outcome ≡ 1
   -- "a book whose board disagrees is unsound, 1" (W-207)
-  pub bad-board : boardGood (bookOf l) ≡ false → a .outcome ≡ 1
+  pub bad-board : boardGood (lentBook l) ≡ false → a .outcome ≡ 1
 
 unfoldable pub LentDemand1 : Type 0
 LentDemand1 = (l : Lent) (c : Call) → LentAnswered l c (served l c)
@@ -164,22 +164,22 @@ LentBoardAgrees = (l : Lent) → SoundLent l → (cs : List Call) → runLent l 
 
 -- and a call alters no more of it than the entries and holdings of what it adds and removes
 unfoldable pub LentBoardStays : Type 0
-LentBoardStays = (l : Lent) → SoundLent l → (c : Call) → BoardKept (bookOf l) (answerOf (l .names) (served l c))
+LentBoardStays = (l : Lent) → SoundLent l → (c : Call) → BoardKept (lentBook l) (answerOf (l .names) (served l c))
 
 -- ---- the OFFER rule, on any ledger, any 128 records and any names
 unfoldable pub LentOfferRule : Type 0
 LentOfferRule =
-    (l : Lent) (c : Call) → length (l .leases) ≡ 128 → Discovers c → NoHold (bookOf l) c
-    → OfferedAs (bookOf l) c (answerOf (l .names) (served l c)) (answerOf (l .names) (served l (requested c)))
+    (l : Lent) (c : Call) → length (l .leases) ≡ 128 → Discovers c → NoHold (lentBook l) c
+    → OfferedAs (lentBook l) c (answerOf (l .names) (served l c)) (answerOf (l .names) (served l (requested c)))
 
 -- ---- the offer is held (document 02, W-205), its sentences in offer_guarantee's statement: d draws an OFFER, and r is "the same message as a REQUEST by the same house",
 -- "within its thirty seconds", whatever other houses sent in between, and the house itself for other identifiers
 unfoldable pub LentOfferHeld : Type 0
 LentOfferHeld =
     (l : Lent) → SoundLent l → (d : Call) → Discovers d → Offered (answerOf (l .names) (served l d))
-    → (cs : List Call) → All (Elsewhere (l .ledger .state) (tenantFor (bookOf l) d) (leaseIdIn (saysOf (bookOf l) d))) cs
-    → (r : Call) → TakesUp (bookOf l) d (bookOf (runLent l (d ∷ cs))) r
-    → GrantedAsOffered (bookOf l) d (bookOf (runLent l (d ∷ cs))) r (answerOf (l .names) (served l d)) (answerOf (runLent l (d ∷ cs) .names) (served (runLent l (d ∷ cs)) r))
+    → (cs : List Call) → All (Elsewhere (l .ledger .state) (tenantFor (lentBook l) d) (leaseIdIn (saysOf (lentBook l) d))) cs
+    → (r : Call) → TakesUp (lentBook l) d (lentBook (runLent l (d ∷ cs))) r
+    → GrantedAsOffered (lentBook l) d (lentBook (runLent l (d ∷ cs))) r (answerOf (l .names) (served l d)) (answerOf (runLent l (d ∷ cs) .names) (served (runLent l (d ∷ cs)) r))
 
 -- ---- document 02, W-210: finding an identifier among lent records compares "at most 16"
 unfoldable pub FindsFew : Type 0

@@ -19,7 +19,7 @@ use Rattle.guarantee_specimens.proofs.Opened.{computed}
 use Rattle.guarantee_specimens.proofs.Specimens.{BoardCase, Case, ReleaseCase, agrees, between, board-specimens, boardTable, book, d3, discover, discovers, discovers3, free, holds, house2, keeps, narrow, new, offered, offered3, others, p1, p3, release-specimens, releaseTable, remembers, shows, showsOn, sound, specimens, table, takes, takesUp}
 use Rattle.records.specs.Lent.{ledgerOf}
 use Rattle.records.specs.Records.{rows, tableFrom, tenantFrom}
-use Rattle.lent_guarantee.specs.Statement.{answerOf, bookOf, Lent, LentDemand3, LentOfferHeld, LentOfferRule, runLent, served, SoundLent}
+use Rattle.lent_guarantee.specs.Statement.{answerOf, lentBook, Lent, LentDemand3, LentOfferHeld, LentOfferRule, runLent, served, SoundLent}
 use Rattle.lent_guarantee.specs.Best.{LentNobodyMore}
 use Rattle.lent_guarantee.proofs.Best.{lent-nobody-more}
 use Rattle.lent_guarantee.proofs.Guaranteed.{lent-demand3, lent-offer-held, lent-offer-rule, run-lent}
@@ -29,7 +29,7 @@ use Rattle.lent_guarantee.proofs.Same.{same}
 campus : Lent
 campus = record { ledger = ledgerOf book; leases = replicate 128 zeroLease; names = book .names }
 
-same-book : bookOf campus ≡ book
+same-book : lentBook campus ≡ book
 unfolding campus computed rows tableFrom tenantFrom
 same-book = refl
 
@@ -37,7 +37,7 @@ met : SoundLent campus
 unfolding campus
 met = record { whole = refl; eight = sound .memory; sound = ap bookB same-book ∙ sound .sound }
 
-run-same : (cs : List Call) → bookOf (runLent campus cs) ≡ run book cs
+run-same : (cs : List Call) → lentBook (runLent campus cs) ≡ run book cs
 run-same cs = run-lent campus cs met .1 ∙ ap (λ (b : Book). run b cs) same-book
 
 -- the lent answer to the last of some calls
@@ -80,25 +80,25 @@ unfolding lent-shows shows
 lent-board-specimens = all-same lent-shows shows boardTable (λ c. ap (λ (b : Book). showsOn c (b .memory .board)) (run-same (c .calls))) ∙ board-specimens
 
 -- ---- demand 3: P3 after P1
-granted : Granted (bookOf (runLent campus (p1 ∷ []))) p3 (answerOf (runLent campus (p1 ∷ []) .names) (served (runLent campus (p1 ∷ [])) p3))
+granted : Granted (lentBook (runLent campus (p1 ∷ []))) p3 (answerOf (runLent campus (p1 ∷ []) .names) (served (runLent campus (p1 ∷ [])) p3))
 unfolding LentDemand3
 granted = lent-demand3 campus met (p1 ∷ []) .next p3 (subst (λ (b : Book). NewRequest b p3) (sym (run-same (p1 ∷ []))) new)
 
 -- ---- W-214: a grant below the desired number, after house 1's lease on .0
-best-met : Best (bookOf (runLent campus (best.one ∷ []))) (best.later 1 4) (lent-answer (best.one ∷ []) (best.later 1 4))
+best-met : Best (lentBook (runLent campus (best.one ∷ []))) (best.later 1 4) (lent-answer (best.one ∷ []) (best.later 1 4))
 unfolding LentNobodyMore lent-answer
 best-met =
     lent-nobody-more (runLent campus (best.one ∷ [])) (run-lent campus (best.one ∷ []) met .0) (best.later 1 4)
     (subst (λ (b : Book). AsksRule b (best.later 1 4)) (sym (run-same (best.one ∷ []))) best.asks)
 
 -- ---- demand 1's bound, and the OFFER rule
-lent-narrow : Narrow (bookOf campus)
+lent-narrow : Narrow (lentBook campus)
 lent-narrow = subst Narrow (sym same-book) narrow
 
 abbrev asks : Call
 asks = house2 1000 (discover 1 4)
 
-offer-met : OfferedAs (bookOf campus) asks (answerOf (campus .names) (served campus asks)) (answerOf (campus .names) (served campus (requested asks)))
+offer-met : OfferedAs (lentBook campus) asks (answerOf (campus .names) (served campus asks)) (answerOf (campus .names) (served campus (requested asks)))
 unfolding LentOfferRule campus
 offer-met = lent-offer-rule campus asks refl discovers (subst (λ (b : Book). NoHold b asks) (sym same-book) free)
 
@@ -106,10 +106,10 @@ lent-offered : Offered (answerOf (campus .names) (served campus asks))
 lent-offered = subst Offered (sym (same (campus .ledger) (campus .leases) (campus .names) asks (met .whole) ∙ ap (λ (b : Book). serveOf b asks) same-book)) offered
 
 -- ---- the held offer, taken up at its last second
-lent-held : GrantedAsOffered (bookOf campus) d3 (bookOf (runLent campus (d3 ∷ between))) (takesUp 1029 2) (answerOf (campus .names) (served campus d3))
+lent-held : GrantedAsOffered (lentBook campus) d3 (lentBook (runLent campus (d3 ∷ between))) (takesUp 1029 2) (answerOf (campus .names) (served campus d3))
     (answerOf (runLent campus (d3 ∷ between) .names) (served (runLent campus (d3 ∷ between)) (takesUp 1029 2)))
 unfolding LentOfferHeld run campus
 lent-held = lent-offer-held campus met d3 discovers3
     (subst Offered (sym (same (campus .ledger) (campus .leases) (campus .names) d3 (met .whole) ∙ ap (λ (b : Book). serveOf b d3) same-book)) offered3)
     between (subst (λ (b : Book). All (Elsewhere (b .state) (tenantFor b d3) (leaseIdIn (saysOf b d3))) between) (sym same-book) others)
-    (takesUp 1029 2) (subst (λ (b : Book). TakesUp (bookOf campus) d3 b (takesUp 1029 2)) (sym (run-same (d3 ∷ between))) (subst (λ (b : Book). TakesUp b d3 (run book (d3 ∷ between)) (takesUp 1029 2)) (sym same-book) takes))
+    (takesUp 1029 2) (subst (λ (b : Book). TakesUp (lentBook campus) d3 b (takesUp 1029 2)) (sym (run-same (d3 ∷ between))) (subst (λ (b : Book). TakesUp b d3 (run book (d3 ∷ between)) (takesUp 1029 2)) (sym same-book) takes))

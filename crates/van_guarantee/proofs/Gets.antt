@@ -13,7 +13,7 @@ use Rattle.server.specs.Serve.{Call}
 use Rattle.guarantee.specs.Statement.{Granted, NewRequest, SoundBook, askFor, grantFor, placeFor, saysOf, scopeFor, stateAt, tableAt, tenantFor}
 use Rattle.guarantee.proofs.Granted.{S, place-known}
 use Rattle.offer_guarantee.proofs.Held.{SetAs, now-set, run-later}
-use Rattle.lent_guarantee.specs.Statement.{LentDemand3, SoundLent, answerOf, bookOf, served}
+use Rattle.lent_guarantee.specs.Statement.{LentDemand3, SoundLent, answerOf, lentBook, served}
 use Rattle.lent_guarantee.proofs.Guaranteed.{lent-demand3, run-lent}
 use Rattle.lent_guarantee.proofs.Same.{sound-book}
 use Rattle.van_guarantee.specs.Statement.{GetsAll, VanGets, openFor, vanAfter, vanStart}
@@ -25,14 +25,14 @@ module _ (o : List ℕ) (opened : openOf o .refusal ≡ 0) where
   starts-sound : SoundLent (vanStart o)
   starts-sound = record { whole = length-replicate 128 zeroLease; eight = length-replicate 8 (laidReleases []); sound = opened-sound o opened }
 
-  starts-set : SetAs (vanState o) (bookOf (vanStart o) .state)
+  starts-set : SetAs (vanState o) (lentBook (vanStart o) .state)
   unfolding vanState
   starts-set = refl
 
   -- after a list of calls, and at the next call c, a new REQUEST for the size or more
   module _ (cs : List Call) (c : Call) where
     abbrev b : Book
-    b = bookOf (vanAfter o cs)
+    b = lentBook (vanAfter o cs)
 
     still-sound : SoundLent (vanAfter o cs)
     still-sound = run-lent (vanStart o) cs starts-sound .0
@@ -44,7 +44,7 @@ module _ (o : List ℕ) (opened : openOf o .refusal ≡ 0) where
     then : SetAs (vanState o) (stateAt b c)
     then =
         now-set (vanState o) b c
-        (subst (λ (x : Book). SetAs (vanState o) (x .state)) (sym (run-lent (vanStart o) cs starts-sound .1)) (run-later (vanState o) (bookOf (vanStart o)) cs starts-set .0))
+        (subst (λ (x : Book). SetAs (vanState o) (x .state)) (sym (run-lent (vanStart o) cs starts-sound .1)) (run-later (vanState o) (lentBook (vanStart o)) cs starts-set .0))
 
     alone : tenantsIn (stateAt b c) ≡ 1
     unfolding vanState

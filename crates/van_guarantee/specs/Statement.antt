@@ -13,7 +13,7 @@ use Rattle.state.specs.Book.{Book, leasesOf}
 use Rattle.allocation.specs.Rule.{busyIn, poolOf}
 use Rattle.server.specs.Serve.{Answer, Call}
 use Rattle.guarantee.specs.Statement.{Granted, NewRequest, endFor, grantFor, placeFor, saysOf, scopeFor, startFor, tableAt}
-use Rattle.lent_guarantee.specs.Statement.{Lent, answerOf, bookOf, runLent, served}
+use Rattle.lent_guarantee.specs.Statement.{Lent, answerOf, lentBook, runLent, served}
 use Rattle.replay_text.specs.Replay.{refusedLine}
 use Rattle.van_server.specs.Van.{dayOf, noRecords, openOf, printedOf, recordSize, settingsSize, turnOf, vanLedger, vanNames}
 
@@ -42,9 +42,9 @@ vanAfter o cs = runLent (vanStart o) cs
 -- that are not refused, after any list of calls (demand 3's own list), and on the program's records in particular
 unfoldable pub VanGets : Type 0
 VanGets =
-    (o : List ℕ) → openOf o .refusal ≡ 0 → (cs : List Call) (c : Call) → NewRequest (bookOf (vanAfter o cs)) c
-    → scopeFor (bookOf (vanAfter o cs)) c .size ≤ saysOf (bookOf (vanAfter o cs)) c .counts .desired
-    → GetsAll (bookOf (vanAfter o cs)) c (answerOf (vanAfter o cs .names) (served (vanAfter o cs) c))
+    (o : List ℕ) → openOf o .refusal ≡ 0 → (cs : List Call) (c : Call) → NewRequest (lentBook (vanAfter o cs)) c
+    → scopeFor (lentBook (vanAfter o cs)) c .size ≤ saysOf (lentBook (vanAfter o cs)) c .counts .desired
+    → GetsAll (lentBook (vanAfter o cs)) c (answerOf (vanAfter o cs .names) (served (vanAfter o cs) c))
 
 -- ---- what is printed goes record by record, as the program reads: of a book and the octets that are still to come, the turn of the first record (`van_server::turn_of`), and
 -- then, where it goes on, what is printed for the others on the book that it left

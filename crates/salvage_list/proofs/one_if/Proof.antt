@@ -8,5 +8,5 @@ pub one-if-spec : {M : Type 1} → statement M
 one-if-spec =
     tie.close
     (tie.spec
-    (λ c. search (one-kept, one-dropped, needs))  -- src/lib.rt:42:9 returns
-    (λ c. search (one-kept, one-dropped, needs)))  -- src/lib.rt:38:1 returns-2
+    (λ c. search (one-kept, needs))  -- src/lib.rt:42:9 returns
+    (λ c. search (one-dropped, needs)))  -- src/lib.rt:38:1 returns-2

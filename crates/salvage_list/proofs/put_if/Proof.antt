@@ -8,7 +8,7 @@ pub put-if-spec : {M : Type 1} → statement M
 put-if-spec =
     tie.close
     (tie.spec
-    (λ c. search (three-room, one-written, none-written, needs))  -- src/lib.rt:79:9 returns
-    (λ c κs. search (three-room, one-written, none-written, needs))  -- src/lib.rt:81:5 put-one-requires
+    (λ c. search (one-written, none-written, needs))  -- src/lib.rt:79:9 returns
+    (λ c κs. search (three-room, needs))  -- src/lib.rt:81:5 put-one-requires
     (λ c. search needs)  -- src/lib.rt:74:1 same-length
-    (λ c. search (three-room, one-written, none-written, needs)))  -- src/lib.rt:74:1 returns-2
+    (λ c. search (one-written, needs)))  -- src/lib.rt:74:1 returns-2

@@ -7,7 +7,7 @@ use Rattle.salvage_rules.proofs.entry_rule.Tie as tie
 
 -- src/lib.rt:200:9
 returns : tie.Need-returns
-returns c = search (entry-limits, not-true, not-false, needs)
+returns c = search (entry-limits, not-true, needs)
 
 -- src/lib.rt:203:9
 returns-2 : tie.Need-returns-2
@@ -31,7 +31,7 @@ kind-at-requires c κs = search (inside-lease, needs)
 
 -- src/lib.rt:195:1
 returns-4 : tie.Need-returns-4
-returns-4 c = search (entry-judged, not-true, not-false, needs)
+returns-4 c = search (entry-judged, not-false, needs)
 
 pub entry-rule-spec : {M : Type 1} → statement M
 entry-rule-spec =

@@ -8,5 +8,5 @@ pub id-length-ok-spec : {M : Type 1} → statement M
 id-length-ok-spec =
     tie.close
     (tie.spec
-    (λ c. search (id-short, id-long, needs))  -- src/lib.rt:55:9 returns
-    (λ c. search (id-short, id-long, needs)))  -- src/lib.rt:51:1 returns-2
+    (λ c. search (id-short, needs))  -- src/lib.rt:55:9 returns
+    (λ c. search (id-long, needs)))  -- src/lib.rt:51:1 returns-2

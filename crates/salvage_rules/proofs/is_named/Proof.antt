@@ -11,7 +11,7 @@ is-named-spec =
     (tie.spec
     (λ c. search needs)  -- src/lib.rt:126:29 shared-slice-read-tenant-known
     (λ c κs. search needs)  -- src/lib.rt:126:9 tenant-known-requires
-    (λ c. search (named-none, named-nowhere, named-there, not-true, not-false, needs))  -- src/lib.rt:127:9 returns
+    (λ c. search (named-none, named-nowhere, named-there, not-true, needs))  -- src/lib.rt:127:9 returns
     (λ c. search needs)  -- src/lib.rt:129:30 add-scope-known
     (λ c. search needs)  -- src/lib.rt:129:28 shared-slice-read-scope-known
     (λ c κs. search needs)  -- src/lib.rt:129:9 scope-known-requires
@@ -23,4 +23,4 @@ is-named-spec =
     (λ c. search needs)  -- src/lib.rt:133:16 add-may-have-2
     (λ c. search needs)  -- src/lib.rt:133:14 shared-slice-read-may-have
     (λ c κs. search needs)  -- src/lib.rt:133:5 may-have-requires
-    (λ c. search (named-none, named-nowhere, named-there, not-true, not-false, needs)))  -- src/lib.rt:122:1 returns-3
+    (λ c. search (named-there, not-false, needs)))  -- src/lib.rt:122:1 returns-3

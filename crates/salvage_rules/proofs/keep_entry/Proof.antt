@@ -10,5 +10,5 @@ keep-entry-spec =
     tie.close
     (tie.spec
     (λ c κs. search (entry-fits, picks, needs))  -- src/lib.rt:211:9 with-entry-requires
-    (λ c. search (entry-fits, picks, needs))  -- src/lib.rt:211:9 returns
-    (λ c. search (entry-fits, picks, needs)))  -- src/lib.rt:206:1 returns-2
+    (λ c. search (picks, needs))  -- src/lib.rt:211:9 returns
+    (λ c. search (picks, needs)))  -- src/lib.rt:206:1 returns-2

@@ -10,5 +10,5 @@ keep-release-spec =
     tie.close
     (tie.spec
     (λ c κs. search (release-fits, picks, needs))  -- src/lib.rt:232:9 with-release-requires
-    (λ c. search (release-fits, picks, needs))  -- src/lib.rt:232:9 returns
-    (λ c. search (release-fits, picks, needs)))  -- src/lib.rt:227:1 returns-2
+    (λ c. search (picks, needs))  -- src/lib.rt:232:9 returns
+    (λ c. search (picks, needs)))  -- src/lib.rt:227:1 returns-2

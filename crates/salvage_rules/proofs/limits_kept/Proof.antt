@@ -14,17 +14,17 @@ limits-kept-spec =
     (λ c. search needs)  -- src/lib.rt:67:22 shared-slice-read-id-length-ok
     (λ c κs. search needs)  -- src/lib.rt:67:9 id-length-ok-requires
     -- src/lib.rt:68:9 returns
-    (λ c. search (limits-bad, limits-unknown, limits-known, tenant-from, tenant-to, unmapped, not-true, not-false, needs))
+    (λ c. search (limits-bad, not-true, needs))
     (λ c. search needs)  -- src/lib.rt:70:13 shared-slice-read-t
     (λ c κs. search needs)  -- src/lib.rt:71:8 tenant-known-requires
     -- src/lib.rt:72:33 tenant-place-requires
-    (λ c κs. search (limits-bad, limits-unknown, limits-known, tenant-from, tenant-to, unmapped, not-true, not-false, needs))
+    (λ c κs. search (tenant-from, tenant-to, not-true, needs))
     -- src/lib.rt:72:19 mul-own
     (λ c. search (limits-bad, limits-unknown, limits-known, tenant-from, tenant-to, unmapped, not-true, not-false, needs))
     -- src/lib.rt:72:19 element-copy-out-own
     (λ c. search (limits-bad, limits-unknown, limits-known, tenant-from, tenant-to, unmapped, not-true, not-false, needs))
     (λ c κs. search needs)  -- src/lib.rt:73:16 lease-count-requires
     -- src/lib.rt:73:9 returns-2
-    (λ c. search (limits-bad, limits-unknown, limits-known, tenant-from, tenant-to, unmapped, not-true, not-false, needs))
+    (λ c. search (limits-known, unmapped, not-false, needs))
     -- src/lib.rt:63:1 returns-3
-    (λ c. search (limits-bad, limits-unknown, limits-known, tenant-from, tenant-to, unmapped, not-true, not-false, needs)))
+    (λ c. search (limits-unknown, not-false, needs)))

@@ -9,4 +9,4 @@ may-have-spec =
     tie.close
     (tie.spec
     (λ c. search (may-hold, may-lease, needs))  -- src/lib.rt:116:9 returns
-    (λ c. search (may-hold, may-lease, needs)))  -- src/lib.rt:112:1 returns-2
+    (λ c. search (may-lease, needs)))  -- src/lib.rt:112:1 returns-2

@@ -15,7 +15,7 @@ offsets-kept-spec =
     (λ c. search needs)  -- src/lib.rt:93:20 add-wide-3
     (λ c. search needs)  -- src/lib.rt:93:18 shared-slice-read-wide-2
     (λ c κs. search needs)  -- src/lib.rt:93:9 wide-requires-2
-    (λ c. search (offsets-room, offsets-over, offsets-unknown, offsets-known, needs))  -- src/lib.rt:95:9 returns
+    (λ c. search (offsets-over, offsets-known, needs))  -- src/lib.rt:95:9 returns
     (λ c. search needs)  -- src/lib.rt:97:15 add-c
     (λ c. search needs)  -- src/lib.rt:97:13 shared-slice-read-c
     (λ c κs. search needs)  -- src/lib.rt:98:8 scope-known-requires
@@ -23,6 +23,6 @@ offsets-kept-spec =
     (λ c κs. search needs)  -- src/lib.rt:99:13 scope-at-requires
     (λ c. search needs)  -- src/lib.rt:100:35 add-all-below
     (λ c. search needs)  -- src/lib.rt:100:29 add-all-below-2
-    (λ c κs. search (offsets-room, offsets-over, offsets-unknown, offsets-known, needs))  -- src/lib.rt:100:9 all-below-requires
-    (λ c. search (offsets-room, offsets-over, offsets-unknown, offsets-known, needs))  -- src/lib.rt:100:9 returns-2
-    (λ c. search (offsets-room, offsets-over, offsets-unknown, offsets-known, needs)))  -- src/lib.rt:88:1 returns-3
+    (λ c κs. search (offsets-room, needs))  -- src/lib.rt:100:9 all-below-requires
+    (λ c. search (offsets-known, needs))  -- src/lib.rt:100:9 returns-2
+    (λ c. search (offsets-unknown, offsets-known, needs)))  -- src/lib.rt:88:1 returns-3

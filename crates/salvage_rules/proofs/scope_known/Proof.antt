@@ -8,5 +8,5 @@ pub scope-known-spec : {M : Type 1} → statement M
 scope-known-spec =
     tie.close
     (tie.spec
-    (λ c. search (scope-none, scope-some, needs))  -- src/lib.rt:45:9 returns
-    (λ c. search (scope-none, scope-some, needs)))  -- src/lib.rt:41:1 returns-2
+    (λ c. search (scope-none, needs))  -- src/lib.rt:45:9 returns
+    (λ c. search (scope-some, needs)))  -- src/lib.rt:41:1 returns-2

@@ -8,5 +8,5 @@ pub typed-hold-spec : {M : Type 1} → statement M
 typed-hold-spec =
     tie.close
     (tie.spec
-    (λ c. search (typed-as, typed-left, needs))  -- src/lib.rt:151:9 returns
+    (λ c. search (typed-as, needs))  -- src/lib.rt:151:9 returns
     (λ c. search (typed-as, typed-left, needs)))  -- src/lib.rt:145:1 returns-2

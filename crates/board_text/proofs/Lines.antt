@@ -1,21 +1,20 @@
--- Laws: lines one after the other, and the loops that write them.
+-- Laws: the lines of a board, and the room that they are written into.
 use mathlib.Core.Bool.{Bool}
 use mathlib.Core.List.{List, [], _++_, _∷_, append-assoc}
-use mathlib.Core.Path.{_∙_, _≡_, ap, ap₂, refl, subst, sym}
-use Prim.Native.Nat.{_%_, _*_, _+_, _/_, _<_, _≤_, min, ℕ}
-use native.Mathlib.Nat.{mul-le-mul, suc-mul, zero-mul}
-use native.Mathlib.Numerals.{add-one}
+use mathlib.Core.Path.{_∙_, _≡_, ap, ap₂, subst, sym}
+use Prim.Native.Nat.{_+_, _<_, _≤_, min, ℕ}
 use native.Mathlib.Omega.{arith}
 use denote.Ref.{now}
-use lib.Dec.{ltb}
 use lib.ListN.{drop, getD, length}
 use borrow.Author.Tests.{eq-eqb, le-ltb, lt-ltb, ne-eqb}
 use Rattle.board_text.proofs.Shown.{lines-same}
-use Rattle.board_text.specs.Board.{Line, bookLines, decimal, dotted, field, headerLine, lengthIn, lineOn, linesOn, linesTo, refusedLine, roomWithText, scopeOn, textOf}
+use Rattle.board_text.specs.Board.{bookLines, headerLine, lengthIn, lineOn, linesOn, refusedLine, roomWithText, scopeOn, textOf}
 use Rattle.lists.specs.Pick.{pick}
+use Rattle.number_text.specs.Text.{Line, dotted, field, linesTo}
+use Rattle.number_text.specs.laws.Text.{LinesInv, line-as, line-join, lines-end}
 use Rattle.occupancy.specs.Board.{heldIn, scopeBoardAt}
 use Rattle.occupancy.specs.declared.Board.{Board}
-use Rattle.octets.specs.laws.Octets.{wrote-joined, wrote-whole, whole-length, wrote-as, wrote-none}
+use Rattle.octets.specs.laws.Octets.{wrote-joined, wrote-whole, whole-length, wrote-as}
 use Rattle.octets.specs.Octets.{Wrote}
 use Rattle.state.specs.Board.{boardOf}
 use Rattle.state.specs.Book.{leasesOf, scopeAt}
@@ -24,44 +23,6 @@ use Rattle.state.specs.declared.State.{State}
 use Rattle.state_file.proofs.RoundTrip.{read-board}
 use Rattle.state_file.specs.StateFile.{readFile}
 use Rattle.state_file.specs.declared.Loaded.{Loaded}
-
-line-join : {r₀ r₁ r₂ xs ys : List ℕ} {a b c m n : ℕ} → a ≤ length r₀ → Line r₀ a xs r₁ b m → Line r₁ b ys r₂ c n → Line r₀ a (xs ++ ys) r₂ c (m + n)
-line-join h p q = record { wrote = wrote-joined h (p .wrote) (q .wrote); small = omega (arith, p .small, q .small) }
-
-line-as : {r₀ r₁ xs ys : List ℕ} {a n m k : ℕ} → xs ≡ ys → m ≤ k → Line r₀ a xs r₁ n m → Line r₀ a ys r₁ n k
-line-as e h p = record { wrote = wrote-as e (p .wrote); small = omega (arith, p .small) }
-
--- ---- numbers
-pub two-wrote : {r₀ r₁ r₂ : List ℕ} {at a b x y : ℕ} → at ≤ length r₀ → Line r₀ at (x ∷ []) r₁ a 1 → Line r₁ a (y ∷ []) r₂ b 1 → Line r₀ at (x ∷ y ∷ []) r₂ b 2
-two-wrote h p q = line-join h p q
-
-pub three-wrote : {r₀ r₁ r₂ r₃ : List ℕ} {at a b c x y z : ℕ} → at ≤ length r₀ → Line r₀ at (x ∷ []) r₁ a 1 → Line r₁ a (y ∷ []) r₂ b 1 → Line r₂ b (z ∷ []) r₃ c 1 → Line r₀ at (x ∷ y ∷ z ∷ []) r₃ c 3
-three-wrote h p q w = line-join h (line-join h p q) w
-
-module _ {r₀ r₁ : List ℕ} {at k : ℕ} (n : ℕ) where
-  pub decimal-one : n < 10 → Line r₀ at ((48 + n) ∷ []) r₁ k 1 → Line r₀ at (decimal n) r₁ k 3
-  unfolding decimal pick
-  decimal-one h p = line-as (sym (ap (λ (t : Bool). pick t ((48 + n) ∷ []) (pick (ltb n 100) ((48 + n / 10) ∷ (48 + n % 10) ∷ []) ((48 + n / 100) ∷ (48 + n / 10 % 10) ∷ (48 + n % 10) ∷ []))) (lt-ltb n 10 h))) (omega arith) p
-
-  pub decimal-two : 10 ≤ n → n < 100 → Line r₀ at ((48 + n / 10) ∷ (48 + n % 10) ∷ []) r₁ k 2 → Line r₀ at (decimal n) r₁ k 3
-  unfolding decimal pick
-  decimal-two l h p = line-as (sym (ap₂ (λ (t u : Bool). pick t ((48 + n) ∷ []) (pick u ((48 + n / 10) ∷ (48 + n % 10) ∷ []) ((48 + n / 100) ∷ (48 + n / 10 % 10) ∷ (48 + n % 10) ∷ []))) (le-ltb n 10 l) (lt-ltb n 100 h))) (omega arith) p
-
-  pub decimal-three : 10 ≤ n → 100 ≤ n → Line r₀ at ((48 + n / 100) ∷ (48 + n / 10 % 10) ∷ (48 + n % 10) ∷ []) r₁ k 3 → Line r₀ at (decimal n) r₁ k 3
-  unfolding decimal pick
-  decimal-three l h p = line-as (sym (ap₂ (λ (t u : Bool). pick t ((48 + n) ∷ []) (pick u ((48 + n / 10) ∷ (48 + n % 10) ∷ []) ((48 + n / 100) ∷ (48 + n / 10 % 10) ∷ (48 + n % 10) ∷ []))) (le-ltb n 10 l) (le-ltb n 100 h))) (omega arith) p
-
-pub part-wrote : {r₀ r₁ r₂ xs : List ℕ} {at a b : ℕ} → at ≤ length r₀ → Line r₀ at xs r₁ a 3 → Line r₁ a (46 ∷ []) r₂ b 1 → Line r₀ at (xs ++ 46 ∷ []) r₂ b 4
-part-wrote h p q = line-join h p q
-
-pub field-wrote : {r₀ r₁ r₂ : List ℕ} {at a b : ℕ} (n : ℕ) → at ≤ length r₀ → Line r₀ at (32 ∷ []) r₁ a 1 → Line r₁ a (decimal n) r₂ b 3 → Line r₀ at (field n) r₂ b 4
-unfolding field
-field-wrote n h p q = line-join h p q
-
-pub dotted-wrote : {r₀ r₁ r₂ r₃ r₄ : List ℕ} {at w x y z : ℕ} (a : ℕ) → at ≤ length r₀ → Line r₀ at (decimal (a / 16777216 % 256) ++ 46 ∷ []) r₁ w 4 → Line r₁ w (decimal (a / 65536 % 256) ++ 46 ∷ []) r₂ x 4
-    → Line r₂ x (decimal (a / 256 % 256) ++ 46 ∷ []) r₃ y 4 → Line r₃ y (decimal (a % 256)) r₄ z 3 → Line r₀ at (dotted a) r₄ z 15
-unfolding dotted
-dotted-wrote a h p q u v = line-as (simp append-assoc) (omega arith) (line-join h (line-join h (line-join h p q) u) v)
 
 pub line-wrote : {r₀ r₁ r₂ r₃ r₄ r₅ r₆ : List ℕ} {at a b c d e f : ℕ} (x g r l n : ℕ) → at ≤ length r₀ → Line r₀ at (dotted x) r₁ a 15 → Line r₁ a (field g) r₂ b 4 → Line r₂ b (field r) r₃ c 4
     → Line r₃ c (field l) r₄ d 4 → Line r₄ d (field n) r₅ e 4 → Line r₅ e (10 ∷ []) r₆ f 1 → Line r₀ at (dotted x ++ field g ++ field r ++ field l ++ field n ++ 10 ∷ []) r₆ f 32
@@ -73,52 +34,13 @@ unfolding lineOn
 tenant-wrote s b k g c n e p w =
     line-as (ap₂ (λ (x : Scope) (y : ℕ). dotted (x .lowest) ++ field (g + 1) ++ field (getD (x .reserve) g 0) ++ field (getD (x .limit) g 0) ++ field y ++ 10 ∷ []) e p) (omega arith) w
 
--- ---- loops
-pub record LinesInv (f : ℕ → List ℕ) (most n : ℕ) (r₀ : List ℕ) (at : ℕ) (buffer : List ℕ) (to i : ℕ) : Type 0 where
-  pub within : i ≤ n
-  pub fits : at + n * most ≤ length r₀
-  pub kept : length buffer ≡ length r₀
-  pub wrote : Wrote r₀ at (linesTo f i) buffer to
-  pub small : to ≤ at + i * most
-
-pub lines-start : {f : ℕ → List ℕ} {most n : ℕ} {r₀ : List ℕ} {at : ℕ} → at + n * most ≤ length r₀ → LinesInv f most n r₀ at r₀ at 0
-unfolding linesTo
-lines-start {most = most} {r₀ = r₀} {at = at} h = record { within = omega arith; fits = h; kept = refl; wrote = wrote-none r₀ at; small = let z = zero-mul most in omega arith }
-
-module _ {f : ℕ → List ℕ} {most n : ℕ} {r₀ : List ℕ} {at : ℕ} {buffer : List ℕ} {to i : ℕ} (v : LinesInv f most n r₀ at buffer to i) where
-  step : (i + 1) * most ≡ i * most + most
-  step = ap (λ (k : ℕ). k * most) (add-one i) ∙ suc-mul i most
-
-  pub lines-room : i < n → to + most ≤ length buffer
-  lines-room h =
-      let e = step in
-      let m : (i + 1) * most ≤ n * most = mul-le-mul (let a : i + 1 ≤ n = omega arith in a) (let b : most ≤ most = omega arith in b) in
-      omega (arith, v .small, v .fits, v .kept)
-
-  pub lines-next : {r₁ : List ℕ} {k : ℕ} → i < n → Line buffer to (f i) r₁ k most → length r₁ ≡ length buffer → LinesInv f most n r₀ at r₁ k (i + 1)
-  unfolding linesTo
-  lines-next {r₁} {k} h p q =
-      let e = step in
-      record {
-        within = omega arith;
-        fits = v .fits;
-        kept = q ∙ v .kept;
-        wrote = wrote-as (ap (linesTo f) (sym (add-one i))) (wrote-joined (omega (arith, v .fits)) (v .wrote) (p .wrote));
-        small = omega (arith, v .small, p .small);
-      }
-
-  pub lines-end : n ≤ i → Wrote r₀ at (linesTo f n) buffer to
-  lines-end h = wrote-as (ap (linesTo f) (let e : i ≡ n = omega (arith, v .within) in e)) (v .wrote)
-
 pub scope-done : {r₀ r₁ : List ℕ} {at to i n : ℕ} (s : State) (b : Board) (k : ℕ) → LinesInv (lineOn s b k) 32 n r₀ at r₁ to i → n ≡ min (s .«tenant_count») 8 → n ≤ i → Line r₀ at (scopeOn s b k) r₁ to 256
 unfolding scopeOn
-scope-done s b k v e h = record { wrote = wrote-as (ap (linesTo (lineOn s b k)) e) (lines-end v h); small = omega (arith, v .small, v .within) }
+scope-done s b k v e h = line-as (ap (linesTo (lineOn s b k)) e) (omega arith) (lines-end v h)
 
 pub book-done : {r₀ r₁ : List ℕ} {at to i n : ℕ} (s : State) (b : Board) → LinesInv (scopeOn s b) 256 n r₀ at r₁ to i → n ≡ min (s .«scope_count») 4 → n ≤ i → Line r₀ at (linesOn s b) r₁ to 1024
 unfolding linesOn
-book-done s b v e h = record { wrote = wrote-as (ap (linesTo (scopeOn s b)) e) (lines-end v h); small = omega (arith, v .small, v .within) }
-
-pub ruleset lineLoops = (lines-start, lines-room, lines-next, scope-done, book-done)
+book-done s b v e h = line-as (ap (linesTo (scopeOn s b)) e) (omega arith) (lines-end v h)
 
 -- ---- the whole
 pub board-wrote : {r₀ r₁ r₂ : List ℕ} {a c : ℕ} (s : State) (b : Board) → Wrote r₀ 0 headerLine r₁ a → Line r₁ a (linesOn s b) r₂ c 1024 → Wrote r₀ 0 (headerLine ++ linesOn s b) r₂ c

@@ -5,8 +5,9 @@ use Prim.Native.Nat.{_+_, _<_, suc, zero, ℕ}
 use native.Mathlib.Omega.{arith}
 use lib.ListN.{getD, List·getD-map}
 use Rattle.address_set.specs.AddressSet.{bit, offsetsFrom}
-use Rattle.board_text.specs.Board.{bookLines, dotted, field, line, lineOn, linesOn, linesTo, scopeLines, scopeOn}
+use Rattle.board_text.specs.Board.{bookLines, line, lineOn, linesOn, scopeLines, scopeOn}
 use Rattle.lists.specs.Filter.{filterBy}
+use Rattle.number_text.specs.Text.{dotted, field, linesTo}
 use Rattle.occupancy.specs.Board.{heldIn, scopeBoardAt}
 use Rattle.occupancy.specs.declared.Board.{Board}
 use Rattle.soundness.specs.Sound.{scopesIn, tenantsIn}

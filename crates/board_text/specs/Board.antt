@@ -1,37 +1,17 @@
 -- Definitions: what `board` prints (document 01, "Specimens"): a header and, by scope then house, lowest address, house, share, limit, holding.
 use mathlib.Core.List.{List, [], _++_, _∷_}
-use Prim.Native.Nat.{_%_, _+_, _/_, _≤_, suc, zero, ℕ}
+use Prim.Native.Nat.{_+_, ℕ}
 use lib.Dec.{eqb, ltb}
 use lib.ListN.{drop, length}
 use Rattle.lists.specs.Pick.{pick}
+use Rattle.number_text.specs.Text.{dotted, field, linesTo}
 use Rattle.occupancy.specs.Board.{heldIn, scopeBoardAt}
 use Rattle.occupancy.specs.declared.Board.{Board}
-use Rattle.octets.specs.Octets.{Wrote}
 use Rattle.soundness.specs.Sound.{scopesIn, tenantsIn}
 use Rattle.state.specs.Book.{heldCount, inUse, scopeAt, tenantAt, reserveAt, limitAt}
 use Rattle.state.specs.declared.LeaseTable.{LeaseTable}
 use Rattle.state.specs.declared.State.{State}
 use Rattle.state_file.specs.declared.Loaded.{Loaded}
-
--- a number below 1,000 in decimal digits
-unfoldable pub decimal : ℕ → List ℕ
-decimal n =
-    pick (ltb n 10) ((48 + n) ∷ [])
-    (pick (ltb n 100) ((48 + n / 10) ∷ (48 + n % 10) ∷ [])
-    ((48 + n / 100) ∷ (48 + n / 10 % 10) ∷ (48 + n % 10) ∷ []))
-
--- an address: its octets with points between them
-unfoldable pub dotted : ℕ → List ℕ
-dotted a = decimal (a / 16777216 % 256) ++ 46 ∷ decimal (a / 65536 % 256) ++ 46 ∷ decimal (a / 256 % 256) ++ 46 ∷ decimal (a % 256)
-
--- a blank and a number
-unfoldable pub field : ℕ → List ℕ
-field n = 32 ∷ decimal n
-
--- the lines f 0 to f (n - 1)
-unfoldable pub linesTo : (ℕ → List ℕ) → ℕ → List ℕ
-linesTo f zero = []
-linesTo f (suc n) = linesTo f n ++ f n
 
 -- "scope house share limit holds"
 abbrev pub headerLine : List ℕ
@@ -77,8 +57,3 @@ lengthIn r room = pick (ltb (length room) 1100) 0 (length (textOf r))
 
 unfoldable pub roomWithText : Loaded → List ℕ → List ℕ
 roomWithText r room = pick (ltb (length room) 1100) room (textOf r ++ drop (length (textOf r)) room)
-
--- xs was written, and takes at most so many octets
-pub record Line (before : List ℕ) (at : ℕ) (xs : List ℕ) (after : List ℕ) (n most : ℕ) : Type 0 where
-  pub wrote : Wrote before at xs after n
-  pub small : n ≤ at + most

@@ -21,7 +21,7 @@ fn refuse(number: u8) {
 
 // A reply is no longer than the least room and lies within its room (demand 1); one that did not would be told as 27, too little room for it.
 fn print_call(outcome: u8, offset: usize, count: usize, room: &[u8], length: usize) {
-    let mut line = [0u8; 2 * reply::LEAST_ROOM + 14];
+    let mut line = [0u8; 2 * reply::LEAST_ROOM + 46];
     if length <= reply::LEAST_ROOM {
         if length <= room.len() {
             let n = replay_text::write_call_line(&mut line, outcome, offset, count, room, length);

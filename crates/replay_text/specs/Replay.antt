@@ -4,6 +4,7 @@ use Prim.Native.Nat.{ℕ, _+_, _/_, _%_}
 use mathlib.Core.List.{List, [], _∷_, _++_}
 use lib.Dec.{ltb, eqb}
 use Rattle.lists.specs.Pick.{pick}
+use Rattle.number_text.specs.Text.{numeral}
 
 -- 0 to 9, a to f
 abbrev pub hexDigit : ℕ → ℕ
@@ -14,20 +15,9 @@ unfoldable pub hexOf : List ℕ → List ℕ
 hexOf [] = []
 hexOf (x ∷ xs) = hexDigit (x / 16) ∷ hexDigit (x % 16) ∷ hexOf xs
 
--- a last digit
-abbrev pub digit : ℕ → ℕ
-digit n = 48 + n % 10
-
--- a number below 10,000 in decimal digits: a datagram with options has at most 1,472 octets
-unfoldable pub decimal : ℕ → List ℕ
-decimal n =
-    pick (ltb n 10) (digit n ∷ [])
-    (pick (ltb n 100) (digit (n / 10) ∷ digit n ∷ [])
-    (pick (ltb n 1000) (digit (n / 100) ∷ digit (n / 10) ∷ digit n ∷ []) (digit (n / 1000) ∷ digit (n / 100) ∷ digit (n / 10) ∷ digit n ∷ [])))
-
 -- the outcome number and, for a reply, a blank and its octets; outcomes have one digit
 unfoldable pub numberText : ℕ → List ℕ → List ℕ
-numberText outcome reply = pick (eqb outcome 0) (48 ∷ 32 ∷ hexOf reply) (digit outcome ∷ [])
+numberText outcome reply = pick (eqb outcome 0) (48 ∷ 32 ∷ hexOf reply) ((48 + outcome % 10) ∷ [])
 
 -- the van's line (document 02, W-211)
 abbrev pub outcomeLine : ℕ → List ℕ → List ℕ
@@ -35,11 +25,11 @@ outcomeLine outcome reply = numberText outcome reply ++ 10 ∷ []
 
 -- the campus's outcome: "5 @" and the offset, or as the van has it
 unfoldable pub outcomeText : ℕ → ℕ → List ℕ → List ℕ
-outcomeText outcome offset reply = pick (eqb outcome 5) (53 ∷ 32 ∷ 64 ∷ decimal offset) (numberText outcome reply)
+outcomeText outcome offset reply = pick (eqb outcome 5) (53 ∷ 32 ∷ 64 ∷ numeral offset) (numberText outcome reply)
 
 -- " #" and the count, and the line's end
 unfoldable pub countText : ℕ → List ℕ
-countText count = 32 ∷ 35 ∷ decimal count ++ 10 ∷ []
+countText count = 32 ∷ 35 ∷ numeral count ++ 10 ∷ []
 
 abbrev pub callLine : ℕ → ℕ → ℕ → List ℕ → List ℕ
 callLine outcome offset count reply = outcomeText outcome offset reply ++ countText count
@@ -58,7 +48,7 @@ kindText kind = pick (eqb kind 1) (108 ∷ 101 ∷ 97 ∷ 115 ∷ 101 ∷ 32 ∷
 
 -- a blank, "rule", a blank and the number, and the line's end
 unfoldable pub ruleText : ℕ → List ℕ
-ruleText rule = 32 ∷ 114 ∷ 117 ∷ 108 ∷ 101 ∷ 32 ∷ decimal rule ++ 10 ∷ []
+ruleText rule = 32 ∷ 114 ∷ 117 ∷ 108 ∷ 101 ∷ 32 ∷ numeral rule ++ 10 ∷ []
 
 abbrev pub droppedLine : ℕ → ℕ → ℕ → List ℕ
-droppedLine kind place rule = (kindText kind ++ decimal place) ++ ruleText rule
+droppedLine kind place rule = (kindText kind ++ numeral place) ++ ruleText rule

@@ -4,7 +4,7 @@ ghost use mathlib.Core.List.{[], _∷_};
 ghost use Prim.Native.Nat.{_+_, _*_, _/_, _≤_, _<_};
 ghost use lib.ListN.{length, take};
 ghost use Rattle.octets.specs.Octets.{Wrote};
-ghost use Rattle.replay_text.specs.Replay.{hexDigit, hexOf, digit, decimal, numberText, outcomeLine, outcomeText, countText, callLine, bookLine, refusedLine, kindText, ruleText, droppedLine};
+ghost use Rattle.replay_text.specs.Replay.{hexDigit, hexOf, numberText, outcomeLine, outcomeText, countText, callLine, bookLine, refusedLine, kindText, ruleText, droppedLine};
 
 fn hex_digit(d: u8) -> u8
     requires { ⌜ d < 16 ⌝ }
@@ -38,51 +38,8 @@ fn put_hex(out: &mut [u8], at: usize, s: &[u8], n: usize) -> usize
     to
 }
 
-// The last digit of a number.
-fn put_digit(out: &mut [u8], at: usize, n: usize) -> usize
-    requires { ⌜ at + 1 ≤ length (now out) ⌝ }
-    ensures { λ r. ⌜ Wrote (now (out .entry)) at (digit n ∷ []) (now (out .exit)) r ⌝ }
-{
-    octets::put_u8(out, at, 48 + (n % 10) as u8)
-}
-
-// The last two.
-fn put_two(out: &mut [u8], at: usize, n: usize) -> usize
-    requires { ⌜ at + 2 ≤ length (now out) ⌝ }
-    ensures { λ r. ⌜ Wrote (now (out .entry)) at (digit (n / 10) ∷ digit n ∷ []) (now (out .exit)) r ⌝ }
-{
-    let a = put_digit(out, at, n / 10);
-    put_digit(out, a, n)
-}
-
-// The last three.
-fn put_three(out: &mut [u8], at: usize, n: usize) -> usize
-    requires { ⌜ at + 3 ≤ length (now out) ⌝ }
-    ensures { λ r. ⌜ Wrote (now (out .entry)) at (digit (n / 100) ∷ digit (n / 10) ∷ digit n ∷ []) (now (out .exit)) r ⌝ }
-{
-    let a = put_digit(out, at, n / 100);
-    put_two(out, a, n)
-}
-
-fn put_decimal(out: &mut [u8], at: usize, n: usize) -> usize
-    requires { ⌜ at + 4 ≤ length (now out) ⌝ }
-    ensures { λ r. ⌜ (Wrote (now (out .entry)) at (decimal n) (now (out .exit)) r) × (r ≤ at + 4) ⌝ }
-{
-    if n < 10 {
-        return put_digit(out, at, n);
-    }
-    if n < 100 {
-        return put_two(out, at, n);
-    }
-    if n < 1000 {
-        return put_three(out, at, n);
-    }
-    let a = put_digit(out, at, n / 1000);
-    put_three(out, a, n)
-}
-
 // The number of an outcome whose reply is the first n octets of a slice and, for a reply, a blank and its octets.
-fn put_number(out: &mut [u8], outcome: u8, reply: &[u8], n: usize) -> usize
+fn put_outcome_number(out: &mut [u8], outcome: u8, reply: &[u8], n: usize) -> usize
     requires { ⌜ (2 * n + 2 ≤ length (now out)) × (n ≤ length (now reply)) ⌝ }
     ensures { λ r. ⌜ (Wrote (now (out .entry)) 0 (numberText outcome (take n (now (reply .entry)))) (now (out .exit)) r) × (r ≤ 2 * n + 2) ⌝ }
 {
@@ -99,29 +56,29 @@ pub fn write_outcome_line(out: &mut [u8], outcome: u8, reply: &[u8], n: usize) -
     requires { ⌜ (2 * n + 8 ≤ length (now out)) × (n ≤ length (now reply)) ⌝ }
     ensures { λ r. ⌜ Wrote (now (out .entry)) 0 (outcomeLine outcome (take n (now (reply .entry)))) (now (out .exit)) r ⌝ }
 {
-    let a = put_number(out, outcome, reply, n);
+    let a = put_outcome_number(out, outcome, reply, n);
     octets::put_u8(out, a, 10)
 }
 
 // The outcome of a call, with the offset that a discard 5 carries.
 fn put_outcome(out: &mut [u8], outcome: u8, offset: usize, reply: &[u8], n: usize) -> usize
-    requires { ⌜ (2 * n + 7 ≤ length (now out)) × (n ≤ length (now reply)) ⌝ }
-    ensures { λ r. ⌜ (Wrote (now (out .entry)) 0 (outcomeText outcome offset (take n (now (reply .entry)))) (now (out .exit)) r) × (r ≤ 2 * n + 7) ⌝ }
+    requires { ⌜ (2 * n + 23 ≤ length (now out)) × (n ≤ length (now reply)) ⌝ }
+    ensures { λ r. ⌜ (Wrote (now (out .entry)) 0 (outcomeText outcome offset (take n (now (reply .entry)))) (now (out .exit)) r) × (r ≤ 2 * n + 23) ⌝ }
 {
     if outcome == 5 {
         let a = octets::put_run(out, 0, &[53, 32, 64], 3);
-        return put_decimal(out, a, offset);
+        return number_text::put_number(out, a, offset as u64);
     }
-    put_number(out, outcome, reply, n)
+    put_outcome_number(out, outcome, reply, n)
 }
 
 // The count, and the end of the line.
 fn put_count(out: &mut [u8], at: usize, count: usize) -> usize
-    requires { ⌜ at + 7 ≤ length (now out) ⌝ }
+    requires { ⌜ at + 23 ≤ length (now out) ⌝ }
     ensures { λ r. ⌜ Wrote (now (out .entry)) at (countText count) (now (out .exit)) r ⌝ }
 {
     let a = octets::put_run(out, at, &[32, 35], 2);
-    let b = put_decimal(out, a, count);
+    let b = number_text::put_number(out, a, count as u64);
     octets::put_u8(out, b, 10)
 }
 
@@ -134,7 +91,7 @@ pub fn write_call_line(
     reply: &[u8],
     n: usize,
 ) -> usize
-    requires { ⌜ (2 * n + 14 ≤ length (now out)) × (n ≤ length (now reply)) ⌝ }
+    requires { ⌜ (2 * n + 46 ≤ length (now out)) × (n ≤ length (now reply)) ⌝ }
     ensures { λ r. ⌜ Wrote (now (out .entry)) 0 (callLine outcome offset count (take n (now (reply .entry)))) (now (out .exit)) r ⌝ }
 {
     let a = put_outcome(out, outcome, offset, reply, n);
@@ -177,20 +134,20 @@ fn put_kind(out: &mut [u8], kind: u8) -> usize
 
 // The rule, and the end of the line.
 fn put_rule(out: &mut [u8], at: usize, rule: u8) -> usize
-    requires { ⌜ at + 11 ≤ length (now out) ⌝ }
+    requires { ⌜ at + 10 ≤ length (now out) ⌝ }
     ensures { λ r. ⌜ Wrote (now (out .entry)) at (ruleText rule) (now (out .exit)) r ⌝ }
 {
     let a = octets::put_run(out, at, &[32, 114, 117, 108, 101, 32], 6);
-    let b = put_decimal(out, a, rule as usize);
+    let b = number_text::put_octet(out, a, rule);
     octets::put_u8(out, b, 10)
 }
 
 // The line of a lease, hold or release that was dropped: its kind, its place and the first rule that it breaks.
 pub fn write_dropped_line(out: &mut [u8], kind: u8, place: u8, rule: u8) -> usize
-    requires { ⌜ 23 ≤ length (now out) ⌝ }
+    requires { ⌜ 21 ≤ length (now out) ⌝ }
     ensures { λ r. ⌜ Wrote (now (out .entry)) 0 (droppedLine kind place rule) (now (out .exit)) r ⌝ }
 {
     let a = put_kind(out, kind);
-    let b = put_decimal(out, a, place as usize);
+    let b = number_text::put_octet(out, a, place);
     put_rule(out, b, rule)
 }

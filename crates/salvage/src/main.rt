@@ -13,7 +13,7 @@ fn print_front(to: i32, text: &[u8], n: usize) {
 }
 
 fn print_dropped(kind: u8, place: u8, rule: u8) {
-    let mut line = [0u8; 23];
+    let mut line = [0u8; 21];
     let n = replay_text::write_dropped_line(&mut line, kind, place, rule);
     print_front(STDERR_FILENO, &line, n);
 }

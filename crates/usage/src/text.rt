@@ -16,8 +16,8 @@ fn put_tenant(
     k: usize,
     g: usize,
 ) -> usize
-    requires { ⌜ (at + 126 ≤ length (now buffer)) × (k < 4) × (g < 8) ⌝ }
-    ensures { λ r. ⌜ Line (now (buffer .entry)) at (totalLine state (totalIn totals) k g) (now (buffer .exit)) r 126 ⌝ }
+    requires { ⌜ (at + 58 ≤ length (now buffer)) × (k < 4) × (g < 8) ⌝ }
+    ensures { λ r. ⌜ Line (now (buffer .entry)) at (totalLine state (totalIn totals) k g) (now (buffer .exit)) r 58 ⌝ }
 {
     let c = state::scope_at(state, k);
     let v = totals.scopes[k];
@@ -25,8 +25,8 @@ fn put_tenant(
 }
 
 fn put_line(buffer: &mut [u8], at: usize, a: u32, g: u64, total: u64) -> usize
-    requires { ⌜ at + 126 ≤ length (now buffer) ⌝ }
-    ensures { λ r. ⌜ Line (now (buffer .entry)) at (lineText a g total) (now (buffer .exit)) r 126 ⌝ }
+    requires { ⌜ at + 58 ≤ length (now buffer) ⌝ }
+    ensures { λ r. ⌜ Line (now (buffer .entry)) at (lineText a g total) (now (buffer .exit)) r 58 ⌝ }
 {
     let x = number_text::put_dotted(buffer, at, a);
     let y = number_text::put_field(buffer, x, g);
@@ -35,8 +35,8 @@ fn put_line(buffer: &mut [u8], at: usize, a: u32, g: u64, total: u64) -> usize
 }
 
 fn put_scope(buffer: &mut [u8], at: usize, state: State, totals: Totals, k: usize) -> usize
-    requires { ⌜ (at + 1008 ≤ length (now buffer)) × (k < 4) ⌝ }
-    ensures { λ r. ⌜ Line (now (buffer .entry)) at (scopeLines state (totalIn totals) k) (now (buffer .exit)) r 1008 ⌝ }
+    requires { ⌜ (at + 464 ≤ length (now buffer)) × (k < 4) ⌝ }
+    ensures { λ r. ⌜ Line (now (buffer .entry)) at (scopeLines state (totalIn totals) k) (now (buffer .exit)) r 464 ⌝ }
 {
     let n = arithmetic::cut8(state.tenant_count);
     let mut to = at;
@@ -49,8 +49,8 @@ fn put_scope(buffer: &mut [u8], at: usize, state: State, totals: Totals, k: usiz
 }
 
 fn put_scopes(buffer: &mut [u8], at: usize, state: State, totals: Totals) -> usize
-    requires { ⌜ at + 4032 ≤ length (now buffer) ⌝ }
-    ensures { λ r. ⌜ Line (now (buffer .entry)) at (totalLines state (totalIn totals)) (now (buffer .exit)) r 4032 ⌝ }
+    requires { ⌜ at + 1856 ≤ length (now buffer) ⌝ }
+    ensures { λ r. ⌜ Line (now (buffer .entry)) at (totalLines state (totalIn totals)) (now (buffer .exit)) r 1856 ⌝ }
 {
     let n = arithmetic::cut4(state.scope_count);
     let mut to = at;

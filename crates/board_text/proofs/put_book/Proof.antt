@@ -1,8 +1,9 @@
--- `put_book` meets its contract: its loop keeps `LinesInv`; by `lineLoops`, `lines-start`.
+-- `put_book` meets its contract: its loop keeps `LinesInv`; by `lineLoops`, `book-done`.
 use Prim.Native.Nat.{_-_}
 use native.Mathlib.Omega.{arith}
 use borrow.Author.Needs.{needs}
-use Rattle.board_text.proofs.Lines.{LinesInv, lineLoops, lines-start}
+use Rattle.number_text.specs.laws.Text.{LinesInv, lineLoops, lines-start}
+use Rattle.board_text.proofs.Lines.{book-done}
 use Rattle.board_text.specs.Board.{scopeOn}
 use Rattle.board_text.proofs.put_book.Statement.{statement}
 use Rattle.board_text.proofs.put_book.Tie as tie
@@ -22,11 +23,11 @@ put-book-spec =
     (tie.spec
     Inv-loop
     μ-loop
-    (λ c κs. search (lineLoops, needs))
+    (λ c κs. search needs)
     loop-holds
     (λ c κs. search (lineLoops, needs))
     (λ c. search (lineLoops, needs))
     (λ c. search (lineLoops, needs))
     (λ c. search (lineLoops, needs))
     (λ c. search (lineLoops, needs))
-    (λ c. search (lineLoops, needs)))
+    (λ c. search (book-done, needs)))

@@ -1,8 +1,9 @@
--- `put_scope` meets its contract: its loop keeps `LinesInv`; by `lineLoops`, `lines-start`.
+-- `put_scope` meets its contract: its loop keeps `LinesInv`; by `lineLoops`, `scope-done`.
 use Prim.Native.Nat.{_-_}
 use native.Mathlib.Omega.{arith}
 use borrow.Author.Needs.{needs}
-use Rattle.board_text.proofs.Lines.{LinesInv, lineLoops, lines-start}
+use Rattle.number_text.specs.laws.Text.{LinesInv, lineLoops, lines-start}
+use Rattle.board_text.proofs.Lines.{scope-done}
 use Rattle.board_text.specs.Board.{lineOn}
 use Rattle.board_text.proofs.put_scope.Statement.{statement}
 use Rattle.board_text.proofs.put_scope.Tie as tie
@@ -22,11 +23,11 @@ put-scope-spec =
     (tie.spec
     Inv-loop
     μ-loop
-    (λ c κs. search (lineLoops, needs))
+    (λ c κs. search needs)
     loop-holds
     (λ c κs. search (lineLoops, needs))
     (λ c. search (lineLoops, needs))
     (λ c. search (lineLoops, needs))
     (λ c. search (lineLoops, needs))
     (λ c. search (lineLoops, needs))
-    (λ c. search (lineLoops, needs)))
+    (λ c. search (scope-done, needs)))

@@ -14,12 +14,12 @@ put-part-requires-3 : tie.Need-put-part-requires-3
 put-part-requires-3 c κs = omega (arith, c .before .before .before .before .before .before .before .put-part .ensures .small, c .before .before .before .put-part2 .ensures .small)
 
 -- src/lib.rt:40:5
-put-number-requires : tie.Need-put-number-requires
-put-number-requires c κs = omega (arith, c .before .before .before .before .before .before .before .before .before .before .before .put-part .ensures .small, c .before .before .before .before .before .before .before .put-part2 .ensures .small, c .before .before .before .put-part3 .ensures .small)
+put-octet-requires : tie.Need-put-octet-requires
+put-octet-requires c κs = omega (arith, c .before .before .before .before .before .before .before .before .before .before .before .put-part .ensures .small, c .before .before .before .before .before .before .before .put-part2 .ensures .small, c .before .before .before .put-part3 .ensures .small)
 
 -- src/lib.rt:33:1
 returns : tie.Need-returns
-returns c = dotted-wrote (c .before .before .before .before .before .before .before .before .before .before .before .before .before .before .before .before .before .args .a) (search needs) (c .before .before .before .before .before .before .before .before .before .before .before .before .before .before .put-part .ensures) (c .before .before .before .before .before .before .before .before .before .before .put-part2 .ensures) (c .before .before .before .before .before .before .put-part3 .ensures) (c .before .before .put-number .ensures)
+returns c = dotted-wrote (c .before .before .before .before .before .before .before .before .before .before .before .before .before .before .before .before .before .args .a) (search needs) (c .before .before .before .before .before .before .before .before .before .before .before .before .before .before .put-part .ensures) (c .before .before .before .before .before .before .before .before .before .before .put-part2 .ensures) (c .before .before .before .before .before .before .put-part3 .ensures) (c .before .before .put-octet .ensures)
 
 pub put-dotted-spec : {M : Type 1} → statement M
 put-dotted-spec =
@@ -31,7 +31,7 @@ put-dotted-spec =
     put-part-requires-2
     (λ c. search needs)  -- src/lib.rt:39:33 cast-put-part-3
     put-part-requires-3
-    (λ c. search needs)  -- src/lib.rt:40:27 cast-put-number
-    put-number-requires
+    (λ c. search needs)  -- src/lib.rt:40:27 cast-put-octet
+    put-octet-requires
     (λ c. search needs)  -- src/lib.rt:33:1 same-length
     returns)

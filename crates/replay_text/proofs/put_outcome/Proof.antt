@@ -11,11 +11,11 @@ use Rattle.replay_text.proofs.put_outcome.Tie as tie
 returns : tie.Need-returns
 unfolding outcomeText pick
 returns c =
-    let at-decimal = c .before .before in
-    let at-put-run = at-decimal .before .before .before .before in
+    let at-offset = c .before .before in
+    let at-put-run = at-offset .before .before .before .before in
     let at-if1 = at-put-run .before .before .before in (
-      rw (eq-eqb _ _ (at-if1 .if1 .taken)) (wrote-joined (search needs) (at-put-run .put-run .ensures) (at-decimal .put-decimal .ensures .0)),
-      omega (arith, at-decimal .put-decimal .ensures .1, at-put-run .put-run .ensures .next),
+      rw (eq-eqb _ _ (at-if1 .if1 .taken)) (wrote-joined (search needs) (at-put-run .put-run .ensures) (at-offset .put-number .ensures .wrote)),
+      omega (arith, at-offset .put-number .ensures .small, at-put-run .put-run .ensures .next),
     )
 
 returns-2 : tie.Need-returns-2
@@ -23,8 +23,8 @@ unfolding outcomeText pick
 returns-2 c =
     let at-number = c .before .before in
     let at-if1 = at-number .before .before in (
-      rw (ne-eqb _ _ (at-if1 .if1 .left)) (at-number .put-number .ensures .0),
-      omega (arith, at-number .put-number .ensures .1),
+      rw (ne-eqb _ _ (at-if1 .if1 .left)) (at-number .put-outcome-number .ensures .0),
+      omega (arith, at-number .put-outcome-number .ensures .1),
     )
 
 pub put-outcome-spec : {M : Type 1} → statement M

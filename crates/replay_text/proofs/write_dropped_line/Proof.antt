@@ -9,7 +9,7 @@ returns c =
     let at-rule = c .before .before in
     let at-place = at-rule .before .before .before .before in
     let at-kind = at-place .before .before .before .before in
-    wrote-joined (search needs) (wrote-joined (search needs) (at-kind .put-kind .ensures .0) (at-place .put-decimal .ensures .0)) (at-rule .put-rule .ensures)
+    wrote-joined (search needs) (wrote-joined (search needs) (at-kind .put-kind .ensures .0) (at-place .put-octet .ensures .wrote)) (at-rule .put-rule .ensures)
 
 pub write-dropped-line-spec : {M : Type 1} → statement M
 write-dropped-line-spec =

@@ -8,7 +8,7 @@ returns : tie.Need-returns
 returns c =
     let at-put-u8 = c .before .before in
     let at-number = at-put-u8 .before .before .before .before in
-    wrote-joined (search needs) (at-number .put-number .ensures .0) (at-put-u8 .put-u8 .ensures)
+    wrote-joined (search needs) (at-number .put-outcome-number .ensures .0) (at-put-u8 .put-u8 .ensures)
 
 pub write-outcome-line-spec : {M : Type 1} → statement M
 write-outcome-line-spec =

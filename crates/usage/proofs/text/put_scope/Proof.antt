@@ -10,7 +10,7 @@ use Rattle.usage.proofs.text.put_scope.Statement.{statement}
 use Rattle.usage.proofs.text.put_scope.Tie as tie
 
 abbrev Inv-loop : tie.InvT-loop
-Inv-loop buffer₀ at state totals k n to₀ g₀ buffer to g = LinesInv (totalLine state (totalIn totals) k) 126 n buffer₀ at buffer to g
+Inv-loop buffer₀ at state totals k n to₀ g₀ buffer to g = LinesInv (totalLine state (totalIn totals) k) 58 n buffer₀ at buffer to g
 
 abbrev μ-loop : tie.MeasureT-loop
 μ-loop buffer₀ at state totals k n to₀ g₀ buffer to g = n - g

@@ -10,7 +10,7 @@ use Rattle.usage.proofs.text.put_scopes.Statement.{statement}
 use Rattle.usage.proofs.text.put_scopes.Tie as tie
 
 abbrev Inv-loop : tie.InvT-loop
-Inv-loop buffer₀ at state totals n to₀ k₀ buffer to k = LinesInv (scopeLines state (totalIn totals)) 1008 n buffer₀ at buffer to k
+Inv-loop buffer₀ at state totals n to₀ k₀ buffer to k = LinesInv (scopeLines state (totalIn totals)) 464 n buffer₀ at buffer to k
 
 abbrev μ-loop : tie.MeasureT-loop
 μ-loop buffer₀ at state totals n to₀ k₀ buffer to k = n - k

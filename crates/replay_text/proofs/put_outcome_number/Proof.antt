@@ -1,12 +1,12 @@
--- `put_number` meets its contract: part by part, by the outcome's number.
+-- `put_outcome_number` meets its contract: part by part, by the outcome's number.
 use Rattle.lists.specs.Pick.{pick}
 use Rattle.octets.specs.laws.Octets.{wrote-joined}
 use Rattle.replay_text.specs.Replay.{numberText}
 use borrow.Author.Needs.{needs}
 use borrow.Author.Tests.{eq-eqb, ne-eqb}
 use native.Mathlib.Omega.{arith}
-use Rattle.replay_text.proofs.put_number.Statement.{statement}
-use Rattle.replay_text.proofs.put_number.Tie as tie
+use Rattle.replay_text.proofs.put_outcome_number.Statement.{statement}
+use Rattle.replay_text.proofs.put_outcome_number.Tie as tie
 
 returns : tie.Need-returns
 unfolding numberText pick
@@ -28,8 +28,8 @@ returns-2 c =
       omega (arith, at-put-u83 .put-u83 .ensures .next),
     )
 
-pub put-number-spec : {M : Type 1} → statement M
-put-number-spec =
+pub put-outcome-number-spec : {M : Type 1} → statement M
+put-outcome-number-spec =
     tie.close
     (tie.spec
     (λ c κs. search needs)

@@ -15,7 +15,7 @@ use Rattle.lists.specs.Pick.{pick}
 use Rattle.lists.specs.laws.All.{all-cons, all-head, to-each}
 use Rattle.lists.specs.laws.Both.{and-both, and-parts}
 use Rattle.lists.specs.laws.Each.{map-set}
-use Rattle.lists.specs.laws.Pick.{pick-lt}
+use Rattle.lists.specs.laws.Pick.{pick-lt, pick-zero}
 use Rattle.lists.specs.laws.Reordered.{reordered-all, reordered-length}
 use Rattle.state.specs.Book.{inUse, insertOf, insertedBy, insertedIn, laidOut, leasesOf, scopeAt, tenantAt}
 use Rattle.state.specs.declared.Lease.{Lease}
@@ -29,7 +29,6 @@ use Rattle.soundness.specs.declared.Rules.{Rules}
 use Rattle.soundness.specs.laws.Added.{all-set, sound-at}
 use Rattle.lease_file.specs.Section.{FileLease}
 use Rattle.salvage_rules.specs.Rules.{knownScope, knownTenant, limitsKept, namesKnown, offsetsKept, recordRule, withRecord}
-use Rattle.salvage_rules.specs.laws.Rules.{pick-zero}
 
 pub no : {R : Type 0} → true ≡ false → R
 no e = absurd (let z : _≡_ {A = ℕ} 0 1 = cc in omega arith)
@@ -85,13 +84,13 @@ past-last n t f e = let h = leb-false t n (ap (λ (b : Bool). b && leb t n) (sym
 first-seven : (r : Rules) → firstRule r ≡ 0 → (r .limits ≡ true) × (r .offsets ≡ true) × (r .ranges ≡ true) × (r .pools ≡ true) × (r .ttls ≡ true) × (r .reserves ≡ true) × (r .leases ≡ true)
 unfolding firstRule firstLate
 first-seven r e =
-    let a = pick-zero (r .limits) _ 1 (λ z. omega arith) e in
-    let b = pick-zero (r .offsets) _ 2 (λ z. omega arith) (a .1) in
-    let c = pick-zero (r .ranges) _ 3 (λ z. omega arith) (b .1) in
-    let d = pick-zero (r .pools) _ 4 (λ z. omega arith) (c .1) in
-    let f = pick-zero (r .ttls) _ 5 (λ z. omega arith) (d .1) in
-    let g = pick-zero (r .reserves) _ 6 (λ z. omega arith) (f .1) in
-    let h = pick-zero (r .leases) _ 7 (λ z. omega arith) (g .1) in
+    let a = pick-zero (r .limits) _ 1 (omega arith) e in
+    let b = pick-zero (r .offsets) _ 2 (omega arith) (a .1) in
+    let c = pick-zero (r .ranges) _ 3 (omega arith) (b .1) in
+    let d = pick-zero (r .pools) _ 4 (omega arith) (c .1) in
+    let f = pick-zero (r .ttls) _ 5 (omega arith) (d .1) in
+    let g = pick-zero (r .reserves) _ 6 (omega arith) (f .1) in
+    let h = pick-zero (r .leases) _ 7 (omega arith) (g .1) in
     (a .0, b .0, c .0, d .0, f .0, g .0, h .0)
 
 module _ (st : State) (b : LeaseTable) (long : length (b .tenants) ≡ 8) (sound : firstRule (rulesOf st b) ≡ 0) where

@@ -14,7 +14,7 @@ use Rattle.lists.specs.Pick.{pick}
 use Rattle.lists.specs.laws.All.{all-any, all-both, all-cons, all-map, each-to, pairs-cons, pairs-map, to-each}
 use Rattle.lists.specs.laws.Both.{and-both, and-parts}
 use Rattle.lists.specs.laws.Each.{map-set}
-use Rattle.lists.specs.laws.Pick.{neither, pick-not-lt}
+use Rattle.lists.specs.laws.Pick.{neither, pick-not-lt, pick-zero}
 use Rattle.format.specs.Section.{orderedFrom}
 use Rattle.format.specs.Tenants.{apart, own}
 use Rattle.format.specs.laws.Tenants.{apart-at}
@@ -33,7 +33,7 @@ use Rattle.state_file.specs.File.{File}
 use Rattle.state_file.specs.Records.{storedState}
 use Rattle.state_file.specs.StateFile.{zeroMemory}
 use Rattle.salvage_rules.specs.Rules.{knownTenant, releaseRule, withRelease}
-use Rattle.salvage_rules.specs.laws.Rules.{pick-zero, tenant-facts}
+use Rattle.salvage_rules.specs.laws.Rules.{tenant-facts}
 use Rattle.salvage_walk.specs.Walk.{recordsKept, releaseRules, releasesKept}
 use Rattle.salvage_laws.specs.Statement.{keptOnes}
 use Rattle.salvage_laws.proofs.Chosen.{walk-holds}
@@ -100,9 +100,9 @@ pub record Remembers (st : State) (b : LeaseTable) (rs : List FileRelease) (m : 
 pub release-kept-on : (st : State) (b : LeaseTable) (rs : List FileRelease) (m : Memory) (x : FileRelease) → Remembers st b rs m → releaseRule st b m x ≡ 0 → Remembers st b (rs ++ x ∷ []) (withRelease m x)
 unfolding releaseRule keepableB
 release-kept-on st b rs m x v e =
-    let p = pick-zero (knownTenant st (x .tenant)) _ 14 (λ z. omega arith) e in
-    let q = pick-zero (ltb (releasesAt m (x .tenant - 1) .count) 4) _ 15 (λ z. omega arith) (p .1) in
-    let r = pick-zero (idLengthB (length (x .id))) _ 16 (λ z. omega arith) (q .1) in
+    let p = pick-zero (knownTenant st (x .tenant)) _ 14 (omega arith) e in
+    let q = pick-zero (ltb (releasesAt m (x .tenant - 1) .count) 4) _ 15 (omega arith) (p .1) in
+    let r = pick-zero (idLengthB (length (x .id))) _ 16 (omega arith) (q .1) in
     let t = tenant-facts st (x .tenant) (p .0) in
     let f : 1 ≤ x .tenant = t .0 in
     let g : x .tenant ≤ 8 = t .1 in
@@ -171,7 +171,7 @@ memory-holds f =
 -- ---- the memory can hold them
 rules-parts : (r : ReleaseRules) → firstRelease r ≡ 0 → r .few ≡ true
 unfolding firstRelease
-rules-parts r e = pick-zero (r .few) _ 15 (λ z. omega arith) (pick-zero (r .tenants) _ 14 (λ z. omega arith) e .1) .0
+rules-parts r e = pick-zero (r .few) _ 15 (omega arith) (pick-zero (r .tenants) _ 14 (omega arith) e .1) .0
 
 module _ (st : State) (b : LeaseTable) (rs : List FileRelease) (m : Memory) (v : Remembers st b rs m) where
   own-count : (h : ℕ) → h < 8 → releasesAt m h .count ≡ length (own releaseTenant (h + 1) rs)

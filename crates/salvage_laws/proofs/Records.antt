@@ -16,7 +16,7 @@ use Rattle.lists.specs.laws.All.{all-any, all-append, all-both, all-cons, all-h
 use Rattle.lists.specs.laws.Arranged.{arranged-reordered, arranged-sorted}
 use Rattle.lists.specs.laws.Both.{and-both, and-parts}
 use Rattle.lists.specs.laws.Filter.{filter-all}
-use Rattle.lists.specs.laws.Pick.{pick-not-lt, both}
+use Rattle.lists.specs.laws.Pick.{pick-not-lt, both, pick-zero}
 use Rattle.lists.specs.laws.Reordered.{reordered-all}
 use Rattle.format.specs.Tenants.{own}
 use Rattle.state.specs.Book.{differ, inUse, isHold, laidOut, leasesOf, ordered, scopeAt, scopesOf, tableOf, tenantAt, zeroLease, zeroScope}
@@ -36,7 +36,7 @@ use Rattle.state_file.specs.File.{File}
 use Rattle.state_file.specs.Records.{settingsFitB, storedState}
 use Rattle.state_file.specs.StateFile.{zeroTable}
 use Rattle.salvage_rules.specs.Rules.{holdRule, knownScope, knownTenant, leaseRule, limitsKept, namesKnown, offsetsKept, recordRule, typeAfter, typedHold, withHold, withLease, withRecord}
-use Rattle.salvage_rules.specs.laws.Rules.{pick-zero, record-zero, tenant-facts, type-zero}
+use Rattle.salvage_rules.specs.laws.Rules.{record-zero, tenant-facts, type-zero}
 use Rattle.salvage_walk.specs.Walk.{holdRules, leaseRules, leasesKept, recordsKept, settingsSound}
 use Rattle.salvage_laws.specs.Statement.{keptOnes}
 use Rattle.salvage_laws.proofs.Chosen.{walk-holds}
@@ -45,19 +45,19 @@ use Rattle.salvage_laws.proofs.Table.{hold-others, hold-row, lease-othe
 -- ---- no rule is broken
 pub first-limits : (r : Rules) → firstRule r ≡ 0 → r .limits ≡ true
 unfolding firstRule
-first-limits r e = pick-zero (r .limits) _ 1 (λ z. omega arith) e .0
+first-limits r e = pick-zero (r .limits) _ 1 (omega arith) e .0
 
 pub first-identifiers : (r : Rules) → firstRule r ≡ 0 → r .identifiers ≡ true
 unfolding firstRule firstLate
 first-identifiers r e =
-    let a = pick-zero (r .limits) _ 1 (λ z. omega arith) e in
-    let b = pick-zero (r .offsets) _ 2 (λ z. omega arith) (a .1) in
-    let c = pick-zero (r .ranges) _ 3 (λ z. omega arith) (b .1) in
-    let d = pick-zero (r .pools) _ 4 (λ z. omega arith) (c .1) in
-    let f = pick-zero (r .ttls) _ 5 (λ z. omega arith) (d .1) in
-    let g = pick-zero (r .reserves) _ 6 (λ z. omega arith) (f .1) in
-    let h = pick-zero (r .leases) _ 7 (λ z. omega arith) (g .1) in
-    pick-zero (r .identifiers) _ 8 (λ z. omega arith) (h .1) .0
+    let a = pick-zero (r .limits) _ 1 (omega arith) e in
+    let b = pick-zero (r .offsets) _ 2 (omega arith) (a .1) in
+    let c = pick-zero (r .ranges) _ 3 (omega arith) (b .1) in
+    let d = pick-zero (r .pools) _ 4 (omega arith) (c .1) in
+    let f = pick-zero (r .ttls) _ 5 (omega arith) (d .1) in
+    let g = pick-zero (r .reserves) _ 6 (omega arith) (f .1) in
+    let h = pick-zero (r .leases) _ 7 (omega arith) (g .1) in
+    pick-zero (r .identifiers) _ 8 (omega arith) (h .1) .0
 
 pub sound-first : (st : State) (b : LeaseTable) → soundB st b ≡ true → firstRule (rulesOf st b) ≡ 0
 unfolding soundBy brokenBy firstBroken pick
@@ -186,7 +186,7 @@ lease-kept st ks hs b x v e =
 -- a hold's type is 1, so that it is judged as it is kept
 typed-one : (kind r : ℕ) → typeAfter kind r ≡ 0 → eqb kind 1 ≡ true
 unfolding typeAfter pick
-typed-one kind r e = pick-zero (eqb kind 1) 0 13 (λ z. omega arith) (ap (λ (c : Bool). pick c (pick {A = ℕ} (eqb kind 1) 0 13) r) (sym (eq-eqb r 0 (type-zero kind r e))) ∙ e) .0
+typed-one kind r e = pick-zero (eqb kind 1) 0 13 (omega arith) (ap (λ (c : Bool). pick c (pick {A = ℕ} (eqb kind 1) 0 13) r) (sym (eq-eqb r 0 (type-zero kind r e))) ∙ e) .0
 
 pub typed-same : (l : Lease) → l .kind ≡ 1 → typedHold l ≡ l
 typed-same l e =

@@ -15,7 +15,7 @@ use Rattle.lists.specs.Pick.{pick}
 use Rattle.lists.specs.laws.All.{all-cons, all-head, each-to, pairs-cons, pairs-head, to-each}
 use Rattle.lists.specs.laws.Both.{and-both, and-parts}
 use Rattle.lists.specs.laws.Filter.{filter-append}
-use Rattle.lists.specs.laws.Pick.{both, neither}
+use Rattle.lists.specs.laws.Pick.{both, neither, pick-zero}
 use Rattle.format.specs.Format.{Got, bad, got}
 use Rattle.format.specs.Tenants.{own}
 use Rattle.format.specs.laws.Tenants.{apart-at}
@@ -39,7 +39,6 @@ use Rattle.state_file.specs.Records.{fitsB, settingsFitB, storedState, storedTa
 use Rattle.state_file.specs.StateFile.{accepted, judged, loaded, loadedGot, readFile, refused, withBoard, zeroMemory, zeroTable}
 use Rattle.state_file.specs.laws.File.{file-reads}
 use Rattle.salvage_rules.specs.Rules.{holdRule, knownTenant, leaseRule, recordRule, releaseRule, typeAfter, typedHold, withHold, withLease, withRelease}
-use Rattle.salvage_rules.specs.laws.Rules.{pick-zero}
 use Rattle.salvage_list.specs.List.{Dropped, droppedFrom, droppedList, droppedOctets}
 use Rattle.salvage_walk.specs.Walk.{holdRules, keptWith, leaseRules, leasesKept, recordsKept, releaseRules, rulesIn, settingsSound}
 use Rattle.salvage_walk.specs.laws.Walk.{rules-length}
@@ -170,11 +169,11 @@ module _ (st : State) (xs : List FileLease) (ys : List FileHold) (full : Sound s
 pub rules-five : (r : ReleaseRules) → firstRelease r ≡ 0 → (r .tenants ≡ true) × (r .few ≡ true) × (r .lengths ≡ true) × (r .once ≡ true) × (r .times ≡ true)
 unfolding firstRelease
 rules-five r e =
-    let a = pick-zero (r .tenants) _ 14 (λ z. omega arith) e in
-    let b = pick-zero (r .few) _ 15 (λ z. omega arith) (a .1) in
-    let c = pick-zero (r .lengths) _ 16 (λ z. omega arith) (b .1) in
-    let d = pick-zero (r .once) _ 17 (λ z. omega arith) (c .1) in
-    let f = pick-zero (r .times) 0 18 (λ z. omega arith) (d .1) in
+    let a = pick-zero (r .tenants) _ 14 (omega arith) e in
+    let b = pick-zero (r .few) _ 15 (omega arith) (a .1) in
+    let c = pick-zero (r .lengths) _ 16 (omega arith) (b .1) in
+    let d = pick-zero (r .once) _ 17 (omega arith) (c .1) in
+    let f = pick-zero (r .times) 0 18 (omega arith) (d .1) in
     (a .0, b .0, c .0, d .0, f .0)
 
 five-rules : (r : ReleaseRules) → r .tenants ≡ true → r .few ≡ true → r .lengths ≡ true → r .once ≡ true → r .times ≡ true → firstRelease r ≡ 0

@@ -4,7 +4,7 @@ use mathlib.Core.Bool.{Bool, true, false}
 use Prim.Native.Nat.{ℕ, _≤_, _<_}
 use native.Mathlib.Omega.{arith}
 use lib.Dec.{ltb, leb, eqb}
-use borrow.Author.Tests.{lt-ltb, le-ltb, le-leb, lt-leb, eq-eqb, ne-eqb}
+use borrow.Author.Tests.{lt-ltb, le-ltb, le-leb, lt-leb, eq-eqb, ne-eqb, eqb-true, eqb-false}
 use Rattle.lists.specs.Pick.{pick}
 
 module _ {A : Type 0} (x y r : A) where
@@ -71,3 +71,18 @@ pub both : (b c : Bool) → pick b c false ≡ true → (b ≡ true) × (c ≡ t
 unfolding pick
 both true c e = (refl, e)
 both false c e = let z : _≡_ {A = ℕ} 0 1 = cc in absurd (omega arith)
+
+-- of a chain of tests, each with the number of its rule, that gives 0: the first holds, and the rest gives 0
+pub pick-zero : (b : Bool) (x n : ℕ) → 0 < n → pick b x n ≡ 0 → (b ≡ true) × (x ≡ 0)
+unfolding pick
+pick-zero true x n h e = (refl, e)
+pick-zero false x n h e = absurd (omega arith)
+
+-- and where one more is asked after such a chain
+pub pick-zero-last : (n last : ℕ) (b : Bool) → 0 < last → pick (eqb n 0) (pick b 0 last) n ≡ 0 → (n ≡ 0) × (b ≡ true)
+unfolding pick
+pick-zero-last n last b h e = go (eqb n 0) refl e
+  where
+    go : (t : Bool) → eqb n 0 ≡ t → pick t (pick b 0 last) n ≡ 0 → (n ≡ 0) × (b ≡ true)
+    go true q e = (eqb-true n 0 q, pick-zero b 0 last h e .0)
+    go false q e = absurd (eqb-false n 0 q e)

@@ -7,8 +7,9 @@ use native.Mathlib.Omega.{arith}
 use native.Mathlib.Numerals.{add-one}
 use lib.Dec.{eqb}
 use lib.ListN.{length, getD}
-use borrow.Author.Tests.{eq-eqb, eqb-true, eqb-false}
+use borrow.Author.Tests.{eq-eqb, eqb-true}
 use Rattle.lists.specs.Pick.{pick}
+use Rattle.lists.specs.laws.Pick.{pick-zero, pick-zero-last}
 use Rattle.lists.specs.All.{allTo}
 use Rattle.lists.specs.laws.All.{to-each, each-to}
 use Rattle.lists.specs.laws.Part.{unmapped}
@@ -52,28 +53,15 @@ pub record Holds (r : ReleaseRules) : Type 0 where
   pub times : r .times ≡ true
   pub layout : r .layout ≡ true
 
-peel : (b : Bool) (x n : ℕ) → 0 < n → pick b x n ≡ 0 → (b ≡ true) × (x ≡ 0)
-unfolding pick
-peel true x n h e = (refl, e)
-peel false x n h e = absurd (omega arith)
-
-peel-last : (n : ℕ) (b : Bool) → pick (eqb n 0) (pick b 0 19) n ≡ 0 → (n ≡ 0) × (b ≡ true)
-unfolding pick
-peel-last n b e = go (eqb n 0) refl e
-  where
-    go : (t : Bool) → eqb n 0 ≡ t → pick t (pick b 0 19) n ≡ 0 → (n ≡ 0) × (b ≡ true)
-    go true q e = (eqb-true n 0 q, peel b 0 19 (omega arith) e .0)
-    go false q e = absurd (eqb-false n 0 q e)
-
 none-broken : (r : ReleaseRules) → brokenRelease r ≡ 0 → Holds r
 unfolding brokenRelease firstRelease
 none-broken r e =
-    let n = peel-last (firstRelease r) (r .layout) e in
-    let a = peel (r .tenants) _ 14 (omega arith) (n .0) in
-    let b = peel (r .few) _ 15 (omega arith) (a .1) in
-    let c = peel (r .lengths) _ 16 (omega arith) (b .1) in
-    let d = peel (r .once) _ 17 (omega arith) (c .1) in
-    let f = peel (r .times) _ 18 (omega arith) (d .1) in
+    let n = pick-zero-last (firstRelease r) 19 (r .layout) (omega arith) e in
+    let a = pick-zero (r .tenants) _ 14 (omega arith) (n .0) in
+    let b = pick-zero (r .few) _ 15 (omega arith) (a .1) in
+    let c = pick-zero (r .lengths) _ 16 (omega arith) (b .1) in
+    let d = pick-zero (r .once) _ 17 (omega arith) (c .1) in
+    let f = pick-zero (r .times) _ 18 (omega arith) (d .1) in
     record { tenants = a .0; few = b .0; lengths = c .0; once = d .0; times = f .0; layout = n .1 }
 
 all-hold : (r : ReleaseRules) → Holds r → brokenRelease r ≡ 0

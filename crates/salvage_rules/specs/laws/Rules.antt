@@ -9,6 +9,7 @@ use lib.ListN.{drop, drop-of-length-le, getD, length, set, take}
 use borrow.Author.Tests.{eq-eqb, eqb-true, le-leb, le-ltb, leb-false, leb-true, lt-leb, lt-ltb, ne-eqb}
 use Rattle.lists.specs.All.{allBy}
 use Rattle.lists.specs.Pick.{pick}
+use Rattle.lists.specs.laws.Pick.{pick-zero}
 use Rattle.lists.specs.laws.Both.{and-parts}
 use Rattle.lists.specs.laws.Row.{at-in}
 use Rattle.octets.specs.laws.Run.{part-length, part-next}
@@ -341,11 +342,6 @@ module _ (holds : Bool) (s : List ℕ) (at : ℕ) (st : State) (b : LeaseTable) 
             ex ∙ ap₂ (λ (y z : ℕ). pick holds (typeAfter y z) z) ek (g ∙ rule-third true e) ∙ entry-is holds s at st b
 
 -- what breaks no rule can be kept
-pub pick-zero : (b : Bool) (x n : ℕ) → (n ≡ 0 → ⊥) → pick b x n ≡ 0 → (b ≡ true) × (x ≡ 0)
-unfolding pick
-pick-zero true x n h e = (refl, e)
-pick-zero false x n h e = absurd (h e)
-
 pub type-zero : (kind r : ℕ) → typeAfter kind r ≡ 0 → r ≡ 0
 unfolding typeAfter pick
 type-zero kind r e = go (eqb r 0) refl e
@@ -363,9 +359,9 @@ pub record-zero : (st : State) (b : LeaseTable) (x : FileLease) (typed : Bool) (
     → (limitsKept st b x ≡ true) × (offsetsKept st x ≡ true) × (namesKnown st x typed ≡ true) × (firstRule (rulesOf st (withRecord b (x .tenant) l)) ≡ 0)
 unfolding recordRule
 record-zero st b x typed l e =
-    let p = pick-zero (limitsKept st b x) _ 1 (λ z. omega arith) e in
-    let q = pick-zero (offsetsKept st x) _ 2 (λ z. omega arith) (p .1) in
-    let r = pick-zero (namesKnown st x typed) _ 7 (λ z. omega arith) (q .1) in
+    let p = pick-zero (limitsKept st b x) _ 1 (omega arith) e in
+    let q = pick-zero (offsetsKept st x) _ 2 (omega arith) (p .1) in
+    let r = pick-zero (namesKnown st x typed) _ 7 (omega arith) (q .1) in
     (p .0, q .0, r .0, r .1)
 
 pub entry-kept : (holds : Bool) (s : List ℕ) (at : ℕ) (st : State) (b : LeaseTable) {r : ℕ} → Inside (afterEntry holds) s at → r ≡ entryRule holds st b (entryAt holds s at) → KeptWhole (StorableAt holds s at) r
@@ -449,9 +445,9 @@ pub release-kept : {s : List ℕ} {at : ℕ} (st : State) (b : LeaseTable) (m : 
 unfolding releaseRule fileReleaseAt
 release-kept {s} {at} st b m {r} v e = record {
   fits = λ z.
-      let p = pick-zero (knownTenant st (getD s at 0)) _ 14 (λ z. omega arith) (sym e ∙ z) in
-      let q = pick-zero (ltb (releasesAt m (getD s at 0 - 1) .count) 4) _ 15 (λ z. omega arith) (p .1) in
-      let i = pick-zero (idLengthB (length (take (getD s (at + 1) 0) (drop (at + 2) s)))) _ 16 (λ z. omega arith) (q .1) in
+      let p = pick-zero (knownTenant st (getD s at 0)) _ 14 (omega arith) (sym e ∙ z) in
+      let q = pick-zero (ltb (releasesAt m (getD s at 0 - 1) .count) 4) _ 15 (omega arith) (p .1) in
+      let i = pick-zero (idLengthB (length (take (getD s (at + 1) 0) (drop (at + 2) s)))) _ 16 (omega arith) (q .1) in
       let l : length (take (getD s (at + 1) 0) (drop (at + 2) s)) ≡ getD s (at + 1) 0 = part-length s (at + 2) (getD s (at + 1) 0) (let r = v .room in omega arith) in
       keepable-here st v (sym (p .0)) refl (ap idLengthB l) (i .0);
 }

@@ -12,7 +12,6 @@ use Rattle.lists.specs.All.{pairsBy}
 use Rattle.lists.specs.Filter.{filterBy}
 use Rattle.lists.specs.Down.{largest}
 use Rattle.lists.specs.laws.Down.{largest-same}
-use Rattle.lists.specs.laws.Each.{map-set}
 use Rattle.lists.specs.Reordered.{Reordered}
 use Rattle.lists.specs.laws.Reordered.{reordered-alone, reordered-filter, reordered-length}
 use Rattle.lists.specs.Sums.{sumTo}
@@ -24,8 +23,7 @@ use Rattle.state.specs.declared.LeaseTable.{LeaseTable}
 use Rattle.state.specs.declared.Release.{Release}
 use Rattle.state.specs.declared.Scope.{Scope}
 use Rattle.state.specs.declared.State.{State}
-use Rattle.state.specs.Book.{busyOf, committed, differ, heldAt, heldOf, inScope, inUse, laidOut, leaseAt, leasesOf, limitAt, named, other, placeOf, removeOf, reserveAt, scopeAt, unionAll, usedIn, withHeld}
-use Rattle.state.specs.laws.Layout.{read-back}
+use Rattle.state.specs.Book.{busyOf, committed, differ, heldAt, heldOf, inScope, leaseAt, leasesOf, limitAt, named, other, placeOf, removeOf, reserveAt, scopeAt, unionAll, usedIn, withHeld}
 use Rattle.state.specs.laws.Named.{none-named, one-named, place-first, place-some}
 use Rattle.state.specs.laws.Sets.{addresses-reordered}
 use Rattle.soundness.specs.Sound.{tenantsIn}
@@ -36,6 +34,7 @@ use Rattle.allocation.specs.Rule.{allowed, busyIn, freeOf, grantOf, grantTo, he
 use Rattle.proposal.specs.declared.Proposal.{Proposal}
 use Rattle.proposal.specs.Proposals.{askAt, broughtBy, endOf, fitsNew, fitsRenewed, newAt, newOf, newWith, othersBusy, proposalOf, renewedBy, renewedOf, renewedTo, startOf, updated}
 use Rattle.admission.specs.Tests.{dropsHold, holdsOf, isNew, leaseIdIn, ownOf, recordedOf, scopePlace}
+use Rattle.decision_laws.specs.laws.Kept.{updated-leases}
 use Rattle.decision.specs.Decide.{decideOf, judgedOf}
 use Rattle.arrangement.proofs.Lists.{Same, each-same, held-at-same, same-at, same-set}
 
@@ -92,14 +91,11 @@ module _ (t u : LeaseTable) (v : Same (leasesOf t) (leasesOf u)) where
       (subst (λ (x : List Lease). Reordered (getD (leasesOf t) h []) x) (sym (at-tenant u h)) (same-at (leasesOf t) (leasesOf u) v h))
 
   -- a tenant's records give way to others
-  updated-lists : (w : LeaseTable) (h : ℕ) (ls : List Lease) → leasesOf (updated w h ls) ≡ set (leasesOf w) h ls
-  updated-lists w h ls = sym (map-set inUse (w .tenants) h (laidOut ls)) ∙ ap (set (leasesOf w) h) (read-back ls)
-
   removed-same : (i : List ℕ) (h : ℕ) → Same (leasesOf (updated t h (removeOf i (ownOf t h)))) (leasesOf (updated u h (removeOf i (ownOf u h))))
   unfolding removeOf
   removed-same i h =
-      subst (λ (x : List (List Lease)). Same x (leasesOf (updated u h (filterBy (other i) (ownOf u h))))) (sym (updated-lists t h (filterBy (other i) (ownOf t h))))
-      (subst (λ (x : List (List Lease)). Same (set (leasesOf t) h (filterBy (other i) (ownOf t h))) x) (sym (updated-lists u h (filterBy (other i) (ownOf u h))))
+      subst (λ (x : List (List Lease)). Same x (leasesOf (updated u h (filterBy (other i) (ownOf u h))))) (sym (updated-leases t h (filterBy (other i) (ownOf t h))))
+      (subst (λ (x : List (List Lease)). Same (set (leasesOf t) h (filterBy (other i) (ownOf t h))) x) (sym (updated-leases u h (filterBy (other i) (ownOf u h))))
       (same-set (leasesOf t) (leasesOf u) h (filterBy (other i) (ownOf t h)) (filterBy (other i) (ownOf u h)) v (reordered-filter (other i) (own-same h))))
 
   -- ---- what a lease would be

@@ -49,6 +49,7 @@ use Rattle.decision.specs.declared.Decided.{Decided}
 use Rattle.admission.specs.Tests.{ownOf}
 use Rattle.server.specs.Serve.{Answer, Call, answered, atClock, decidedFor, discarded, discardedAt, forServer, serveOf, tenantOf, withReading}
 use Rattle.guarantee.specs.Statement.{SoundBook, run}
+use Rattle.guarantee.proofs.Reached.{pick-then}
 use Rattle.guarantee.proofs.Kept.{advanced-laid, call-sound, now-sound}
 use Rattle.arrangement.specs.Arrangement.{Heard, answeredBy, atClockBy, bookBy, forServerBy, heard, runBy, serveBy, toldBy, withReadingBy}
 use Rattle.arrangement.specs.Statement.{Alike, Pair, SameAnswer, SameRuns, SameService, SoundBy}
@@ -185,10 +186,6 @@ record Leaf (o : Order) (a b : Answer) : Type 0 where
   alike : Alike (a .book) (b .book)
   sound : SoundBook (b .book) → SoundBy o (a .book)
 
-yes : {A : Type 0} (b : Bool) (x y : A) → b ≡ true → pick b x y ≡ x
-unfolding pick
-yes b x y e = ap (λ (c : Bool). pick c x y) e
-
 both-pick : {A : Type 0} (P : A → A → Type 0) (b : Bool) (x x′ y y′ : A) → (b ≡ true → P x y) → (b ≡ false → P x′ y′) → P (pick b x x′) (pick b y y′)
 unfolding pick
 both-pick P true x x′ y y′ f g = f refl
@@ -296,9 +293,9 @@ module _ (o : Order) (decides : Ordering differ o) where
       call : Leaf o (serveBy o x c) (serveOf y c)
       unfolding serveBy serveOf
       call =
-          subst (λ (z : Answer). Leaf o (serveBy o x c) z) (sym (yes (bookB y) (pick (ltb (c .room) leastRoom) (discarded 2 y) (atClock (advanced y (c .time)) (c .client) (c .datagram))) (discarded 1 y) (new .sound)))
+          subst (λ (z : Answer). Leaf o (serveBy o x c) z) (sym (pick-then (bookB y) (pick (ltb (c .room) leastRoom) (discarded 2 y) (atClock (advanced y (c .time)) (c .client) (c .datagram))) (discarded 1 y) (new .sound)))
           (subst (λ (z : Answer). Leaf o z (pick (ltb (c .room) leastRoom) (discarded 2 y) (atClock (advanced y (c .time)) (c .client) (c .datagram))))
-          (sym (yes (bookBy o x) (pick (ltb (c .room) leastRoom) (discarded 2 x) (atClockBy o (advanced x (c .time)) (c .client) (c .datagram))) (discarded 1 x) (old .sound)))
+          (sym (pick-then (bookBy o x) (pick (ltb (c .room) leastRoom) (discarded 2 x) (atClockBy o (advanced x (c .time)) (c .client) (c .datagram))) (discarded 1 x) (old .sound)))
           (both-pick (Leaf o) (ltb (c .room) leastRoom) _ _ _ _
           (λ _. record { outcome = refl; offset = refl; reply = refl; alike = a; sound = λ _. old })
           (λ _. subst (λ (b : Book). Leaf o (atClockBy o (advanced b (c .time)) (c .client) (c .datagram)) (atClock (advanced y (c .time)) (c .client) (c .datagram))) (sym (is-twin o x y old new a)) served)))

@@ -8,6 +8,7 @@ use lib.ListN.{getD, length, set}
 use lib.Dec.{ltb}
 use Rattle.lists.specs.Pick.{pick}
 use Rattle.lists.specs.All.{All}
+use Rattle.lists.specs.laws.All.{all-joined}
 use Rattle.lists.specs.Arranged.{insertIn}
 use Rattle.lists.specs.Filter.{filterBy}
 use Rattle.message.specs.declared.Fields.{Fields}
@@ -34,7 +35,7 @@ use Rattle.decision.specs.Decide.{decideOf}
 use Rattle.server.specs.Serve.{Answer, Call, atClock, forServer, serveOf, withReading}
 use Rattle.guarantee.specs.Statement.{bookAt, run}
 use Rattle.call_guarantee.specs.Statement.{Narrow, StaysNarrow}
-use Rattle.guarantee.proofs.Ranges.{all-join, grant-small}
+use Rattle.guarantee.proofs.Ranges.{grant-small}
 use Rattle.call_guarantee.proofs.Walked.{all-filter, now-narrow}
 
 abbrev F : Lease → Type 0
@@ -43,7 +44,7 @@ F l = l .addresses < 2 ^ 64
 -- ---- lists of leases
 pub inserted : (l : Lease) (ls : List Lease) → F l → All F ls → All F (insertOf l ls)
 unfolding insertIn All
-inserted l ls f h = all-join F (filterBy (λ x. ordered x l) ls) (l ∷ filterBy (λ x. not (ordered x l)) ls) (all-filter F (λ x. ordered x l) ls h) (f, all-filter F (λ x. not (ordered x l)) ls h)
+inserted l ls f h = all-joined F (filterBy (λ x. ordered x l) ls) (l ∷ filterBy (λ x. not (ordered x l)) ls) (all-filter F (λ x. ordered x l) ls h) (f, all-filter F (λ x. not (ordered x l)) ls h)
 
 removed : (i : List ℕ) (ls : List Lease) → All F ls → All F (removeOf i ls)
 unfolding removeOf

@@ -2,14 +2,14 @@
 use Prim.Native.Nat.{ℕ, zero, suc, _+_, _≤_, _<_, _^_}
 use mathlib.Core.Path.{_≡_, refl, sym, ap, _∙_}
 use mathlib.Core.Bool.{Bool, true, false}
-use mathlib.Core.List.{List, [], _∷_, _++_, map}
+use mathlib.Core.List.{List, [], _∷_, map}
 use native.Mathlib.Omega.{arith}
 use lib.Dec.{ltb, leb}
-use lib.ListN.{length, take, getD, length-take, List·getD-eq-default}
+use lib.ListN.{length, getD, length-take, List·getD-eq-default}
 use lib.Seq.{getD-take}
 use borrow.Author.Tests.{leb-true, ltb-true, ltb-false}
-use Rattle.lists.specs.All.{All, allBy}
-use Rattle.lists.specs.laws.All.{all-head}
+use Rattle.lists.specs.All.{allBy}
+use Rattle.lists.specs.laws.All.{all-head, all-joined, all-take}
 use Rattle.lists.specs.laws.Both.{and-parts}
 use Rattle.address_set.specs.AddressSet.{chosen, fewestRanges, offsets, setOf}
 use Rattle.address_set.specs.laws.Bits.{offsets-of-zero}
@@ -40,22 +40,11 @@ pub offsets-some : (m : ℕ) → 1 ≤ length (offsets m) → 0 < m
 offsets-some zero h = absurd (let e = ap length (offsets-of-zero 0 64) in omega arith)
 offsets-some (suc m) h = omega arith
 
-all-take : {A : Type 0} (P : A → Type 0) (k : ℕ) (l : List A) → All P l → All P (take k l)
-unfolding All
-all-take P zero l h = tt
-all-take P (suc k) [] h = tt
-all-take P (suc k) (x ∷ l) h = (h .0, all-take P k l (h .1))
-
-pub all-join : {A : Type 0} (P : A → Type 0) (x y : List A) → All P x → All P y → All P (x ++ y)
-unfolding All
-all-join P [] y h g = g
-all-join P (a ∷ x) y h g = (h .0, all-join P x y (h .1) g)
-
 pub grant-small : (c : Scope) (n : ℕ) (t : List (List Lease)) (a : Ask) → grantOf c n t a .addresses < 2 ^ 64
 unfolding grantOf
 grant-small c n t a =
     setOf-small 64 (chosen (grantOf c n t a .number) (freeOf t a) (nobodysOf c t a))
-    (all-take _ (grantOf c n t a .number) _ (all-join _ (offsets (freeOf t a)) (offsets (nobodysOf c t a)) (offsets-small (freeOf t a)) (offsets-small (nobodysOf c t a))))
+    (all-take _ (grantOf c n t a .number) _ (all-joined _ (offsets (freeOf t a)) (offsets (nobodysOf c t a)) (offsets-small (freeOf t a)) (offsets-small (nobodysOf c t a))))
 
 -- ---- a sound pool does not wrap
 passes-at : (t : Scope → Bool) (l : List Scope) (i : ℕ) → allBy t l ≡ true → i < length l → t (getD l i zeroScope) ≡ true

@@ -1,11 +1,11 @@
 -- Specimens: document 01's specimens, a RELEASE sent again (document 02, W-202) and the board (W-207) through the lent call, over the tables of guarantee's; and the premises of the lent statements, met by the same book, lent as 128
 -- records.
 use mathlib.Core.Path.{_≡_, refl, sym, ap, _∙_, subst}
-use mathlib.Core.Bool.{Bool, true, false}
+use mathlib.Core.Bool.{Bool, true}
 use mathlib.Core.List.{List, [], _∷_}
 use lib.ListN.{replicate}
-use Rattle.lists.specs.Pick.{pick}
 use Rattle.lists.specs.All.{All, allBy}
+use Rattle.lists.specs.laws.All.{all-same}
 use Rattle.state.specs.Book.{Book, zeroLease}
 use Rattle.releases.specs.Whole.{bookB}
 use Rattle.server.specs.Serve.{Answer, Call, serveOf}
@@ -49,11 +49,6 @@ unfolding lent-answer
 as-served before last =
     same (runLent campus before .ledger) (runLent campus before .leases) (runLent campus before .names) last (run-lent campus before met .0 .whole)
     ∙ ap (λ (b : Book). serveOf b last) (run-same before)
-
-all-same : {A : Type 0} (f g : A → Bool) (l : List A) → ((x : A) → f x ≡ g x) → allBy f l ≡ allBy g l
-unfolding allBy
-all-same f g [] e = refl
-all-same f g (x ∷ l) e = ap (λ (b : Bool). pick b (allBy f l) false) (e x) ∙ ap (λ (r : Bool). pick (g x) r false) (all-same f g l e)
 
 -- ---- P1 to P12
 lent-holds : Case → Bool

@@ -1,5 +1,6 @@
 -- `entry_rule` meets its contract: by `entry-limits`, `entry-offsets`, `entry-unnamed`, `entry-judged`.
-use Rattle.salvage_rules.specs.laws.Rules.{entry-judged, entry-limits, entry-offsets, entry-unnamed, inside-lease, named-facts, storable-here}
+use Rattle.salvage_rules.specs.laws.Rules.{entry-judged, entry-limits, entry-offsets, entry-unnamed, named-facts, storable-here}
+use Rattle.lease_file.specs.laws.Limits.{lease-inside}
 use borrow.Author.Needs.{needs}
 use borrow.Author.Tests.{not-false, not-true}
 use Rattle.salvage_rules.proofs.entry_rule.Statement.{statement}
@@ -27,7 +28,7 @@ with-record-requires c κs = named-facts _ _ _ _ (c .before .before .before .is-
 
 -- src/lib.rt
 kind-at-requires : tie.Need-kind-at-requires
-kind-at-requires c κs = search (inside-lease, needs)
+kind-at-requires c κs = search (lease-inside, needs)
 
 -- src/lib.rt:195:1
 returns-4 : tie.Need-returns-4

@@ -28,6 +28,7 @@ use Rattle.soundness.specs.declared.Rules.{Rules}
 use Rattle.releases.specs.Rules.{firstRelease, releaseRulesOf}
 use Rattle.releases.specs.declared.ReleaseRules.{ReleaseRules}
 use Rattle.lease_file.specs.Place.{StorableAt, afterEntry, afterLease, entryAt, fileLeaseAt}
+use Rattle.lease_file.specs.laws.Limits.{lease-inside}
 use Rattle.lease_file.specs.Records.{storedEntry}
 use Rattle.lease_file.specs.Section.{FileLease}
 use Rattle.release_file.specs.Place.{KeepableAt, afterRelease, fileReleaseAt}
@@ -228,14 +229,11 @@ limits-facts {s} {at} v st b e y =
     let i = id-octets v in
     omega arith
 
-pub inside-lease : (holds : Bool) (s : List ℕ) (at : ℕ) → Inside (afterEntry holds) s at → Inside afterLease s at
-inside-lease holds s at v = record { room = let r = v .room in omega arith }
-
 pub storable-here : (holds : Bool) (s : List ℕ) (at : ℕ) (st : State) (b : LeaseTable) {p q : Bool} → Inside (afterEntry holds) s at → p ≡ limitsKept st b (fileLeaseAt s at) → p ≡ true
     → q ≡ namesKnown st (fileLeaseAt s at) (typedIn holds s at) → q ≡ true → StorableAt holds s at
 storable-here holds s at st b v ep yp eq yq =
     let f = named-facts holds s at st eq yq in
-    record { from = f .0; to = f .1; ids = limits-facts (inside-lease holds s at v) st b ep yp; room = v .room }
+    record { from = f .0; to = f .1; ids = limits-facts (lease-inside holds s at v) st b ep yp; room = v .room }
 
 -- ---- the records with one more
 pub with-record : (b : LeaseTable) (t h : ℕ) (l : Lease) (d more : TenantLeases) → length (b .tenants) ≡ 8 → 1 ≤ t → t ≤ 8 → h ≡ t - 1 → more ≡ insertedIn l (getD (b .tenants) h d)

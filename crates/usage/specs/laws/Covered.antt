@@ -1,6 +1,6 @@
 -- Laws: address-seconds go second by second, so that what leases cover is at most the holding times the time: at each second the leases of a tenant that run have
 -- different addresses.
-use Prim.Native.Nat.{ℕ, zero, suc, _+_, _-_, _*_, _≤_, _<_, min, max}
+use Prim.Native.Nat.{ℕ, zero, suc, _+_, _-_, _*_, _≤_, min, max}
 use mathlib.Core.Path.{_≡_, refl, sym, ap, ap₂, _∙_, subst}
 use mathlib.Core.Bool.{Bool, true, false, _&&_}
 use mathlib.Core.List.{List, [], _∷_}
@@ -8,8 +8,7 @@ use native.Mathlib.Omega.{arith}
 use native.Mathlib.Nat.{le-trans, mul-add}
 use native.Mathlib.Numerals.{add-one}
 use lib.Dec.{ltb, leb}
-use lib.Bits.{bitAnd, bitOr}
-use lib.ListN.{length}
+use lib.Bits.{bitOr}
 use borrow.Author.Tests.{ltb-true, ltb-false, leb-true, leb-false, lt-ltb, le-leb, lt-leb, eq-eqb, eqb-true}
 use Rattle.lists.specs.Pick.{pick}
 use Rattle.lists.specs.All.{allBy, pairsBy}
@@ -18,35 +17,15 @@ use Rattle.lists.specs.Sums.{sumTo}
 use Rattle.lists.specs.laws.All.{all-head, pairs-head}
 use Rattle.lists.specs.laws.Both.{and-parts}
 use Rattle.address_set.specs.AddressSet.{bit}
-use Rattle.address_set.specs.laws.Bits.{bit-le, bit-or, bit-and, bit-eq, bit-of-zero, size-union}
+use Rattle.address_set.specs.laws.Bits.{bit-le, bit-or, bit-of-zero}
 use Rattle.state.specs.declared.Lease.{Lease}
 use Rattle.state.specs.Book.{unionAll, addressesOf, inScope, isLease, overlaps, heldOf, heldCount}
 use Rattle.state.specs.laws.Sets.{adds, addresses-cons}
 use Rattle.soundness.specs.Sound.{disjoint, compatible}
 use Rattle.soundness.specs.laws.Kept.{count-less}
-use Rattle.allocation.specs.laws.Sets.{size, low, low-bit, low-past, low-small, low-same, same-offsets}
+use Rattle.allocation.specs.laws.Sets.{size, size-add}
 use Rattle.allocation.specs.laws.Kept.{bits-disjoint}
 use Rattle.usage.specs.Usage.{covered, counted, coveredIn, sumOver}
-
--- ---- sizes
-or-low : (x y a : ℕ) → a < 64 → bit (bitOr x y) a ≡ bit (bitOr (low x) (low y)) a
-or-low x y a h = bit-or x y a ∙ sym (bit-or (low x) (low y) a ∙ ap₂ max (low-bit x a h) (low-bit y a h))
-
--- of two sets that are apart the union has as many as both
-size-add : (x y : ℕ) → ((a : ℕ) → bit x a + bit y a ≤ 1) → size x + size y ≤ size (bitOr x y)
-size-add x y h =
-    let e : size (bitOr x y) ≡ size (bitOr (low x) (low y)) = ap length (same-offsets (bitOr x y) (bitOr (low x) (low y)) (or-low x y)) in
-    let n = size-union (low x) (low y) (low-small x) (low-small y) (bit-eq (bitAnd (low x) (low y)) 0 (λ a. bit-and (low x) (low y) a ∙ none a ∙ sym (bit-of-zero a))) in
-    let u : size (low x) ≡ size x = ap length (low-same x) in
-    let w : size (low y) ≡ size y = ap length (low-same y) in
-    omega arith
-  where
-    none : (a : ℕ) → min (bit (low x) a) (bit (low y) a) ≡ 0
-    none a = go (ltb a 64) refl
-      where
-        go : (b : Bool) → ltb a 64 ≡ b → min (bit (low x) a) (bit (low y) a) ≡ 0
-        go true e = let p = low-bit x a (ltb-true a 64 e) in let q = low-bit y a (ltb-true a 64 e) in let r = h a in omega arith
-        go false e = let p = low-past x a (ltb-false a 64 e) in omega arith
 
 -- ---- second by second
 unfoldable pub runsAt : ℕ → Lease → Bool

@@ -8,8 +8,9 @@ use native.Mathlib.Omega.{arith}
 use lib.Dec.{leb, eqb}
 use lib.ListN.{length, drop, replicate, length-take}
 use lib.Seq.{drop-at}
-use borrow.Author.Tests.{eq-eqb, eqb-false, eqb-true, le-leb, leb-true}
+use borrow.Author.Tests.{eq-eqb, eqb-true, le-leb, leb-true}
 use Rattle.lists.specs.Pick.{pick}
+use Rattle.lists.specs.laws.Pick.{pick-zero, pick-zero-last}
 use Rattle.lists.specs.All.{allBy, pairsBy}
 use Rattle.lists.specs.laws.All.{all-map, all-same, all-both, all-cons, to-each, each-to}
 use Rattle.lists.specs.laws.Both.{and-parts, and-both, all-and, pairs-and}
@@ -69,36 +70,23 @@ pub record AllRules (r : Rules) : Type 0 where
   pub holds : r .holds ≡ true
   pub layout : r .layout ≡ true
 
-peel : (b : Bool) (x n : ℕ) → 0 < n → pick b x n ≡ 0 → (b ≡ true) × (x ≡ 0)
-unfolding pick
-peel true x n h e = (refl, e)
-peel false x n h e = absurd (omega arith)
-
-peel-last : (n : ℕ) (b : Bool) → pick (eqb n 0) (pick b 0 19) n ≡ 0 → (n ≡ 0) × (b ≡ true)
-unfolding pick
-peel-last n b e = go (eqb n 0) refl e
-  where
-    go : (t : Bool) → eqb n 0 ≡ t → pick t (pick b 0 19) n ≡ 0 → (n ≡ 0) × (b ≡ true)
-    go true q e = (eqb-true n 0 q, peel b 0 19 (omega arith) e .0)
-    go false q e = absurd (eqb-false n 0 q e)
-
 none-broken : (r : Rules) → firstBroken r ≡ 0 → AllRules r
 unfolding firstBroken firstRule firstLate
 none-broken r e =
-    let n = peel-last (firstRule r) (r .layout) e in
-    let a = peel (r .limits) _ 1 (omega arith) (n .0) in
-    let b = peel (r .offsets) _ 2 (omega arith) (a .1) in
-    let c = peel (r .ranges) _ 3 (omega arith) (b .1) in
-    let d = peel (r .pools) _ 4 (omega arith) (c .1) in
-    let f = peel (r .ttls) _ 5 (omega arith) (d .1) in
-    let g = peel (r .reserves) _ 6 (omega arith) (f .1) in
-    let h = peel (r .leases) _ 7 (omega arith) (g .1) in
-    let i = peel (r .identifiers) _ 8 (omega arith) (h .1) in
-    let j = peel (r .owners) _ 9 (omega arith) (i .1) in
-    let k = peel (r .periods) _ 10 (omega arith) (j .1) in
-    let l = peel (r .holdings) _ 11 (omega arith) (k .1) in
-    let m = peel (r .commitments) _ 12 (omega arith) (l .1) in
-    let o = peel (r .holds) _ 13 (omega arith) (m .1) in
+    let n = pick-zero-last (firstRule r) 19 (r .layout) (omega arith) e in
+    let a = pick-zero (r .limits) _ 1 (omega arith) (n .0) in
+    let b = pick-zero (r .offsets) _ 2 (omega arith) (a .1) in
+    let c = pick-zero (r .ranges) _ 3 (omega arith) (b .1) in
+    let d = pick-zero (r .pools) _ 4 (omega arith) (c .1) in
+    let f = pick-zero (r .ttls) _ 5 (omega arith) (d .1) in
+    let g = pick-zero (r .reserves) _ 6 (omega arith) (f .1) in
+    let h = pick-zero (r .leases) _ 7 (omega arith) (g .1) in
+    let i = pick-zero (r .identifiers) _ 8 (omega arith) (h .1) in
+    let j = pick-zero (r .owners) _ 9 (omega arith) (i .1) in
+    let k = pick-zero (r .periods) _ 10 (omega arith) (j .1) in
+    let l = pick-zero (r .holdings) _ 11 (omega arith) (k .1) in
+    let m = pick-zero (r .commitments) _ 12 (omega arith) (l .1) in
+    let o = pick-zero (r .holds) _ 13 (omega arith) (m .1) in
     record {
       limits = a .0;
       offsets = b .0;

@@ -1,11 +1,12 @@
 // The form of a section, judged over its octets with nothing stored: where each entry ends, offsets that rise, and the order.
 ghost use mathlib.Core.Path.{_≡_};
-ghost use Prim.Native.Nat.{_+_, _<_, _≤_};
+ghost use Prim.Native.Nat.{_+_, _≤_};
 ghost use lib.ListN.{drop, getD, length, take};
 ghost use Rattle.address_set.specs.AddressSet.{rises};
 ghost use Rattle.identifier.specs.Order.{orderOf};
 ghost use Rattle.lease_file.specs.Place.{EntryEndsAt, afterLease, tailOf};
 ghost use Rattle.lease_file.specs.Section.{isAfter};
+use arithmetic::wide;
 use format::Place;
 
 // Where the entry that starts at `at` ends.
@@ -99,10 +100,4 @@ fn order_parts(s: &[u8], a: usize, m: usize, b: usize, n: usize) -> u8
         return 0;
     }
     1
-}
-
-pub fn wide(x: u8) -> usize
-    ensures { λ r. ⌜ (r ≡ x) × (r < 256) ⌝ }
-{
-    x as usize
 }

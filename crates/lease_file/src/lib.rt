@@ -19,7 +19,6 @@ ghost use Rattle.lease_file.specs.Place.{EntriesIn, SectionEndsAt, entri
 ghost use Rattle.lease_file.specs.Records.{inFileOrder, mergedFrom, recordsFitB, tableOctets};
 use crate::form::entry_end;
 use crate::form::is_after;
-use crate::form::wide;
 use crate::limits::all_few;
 use crate::limits::all_fit;
 use crate::limits::tally;
@@ -28,6 +27,7 @@ use crate::reader::all_records;
 use crate::sizes::rows_size;
 use crate::sizes::total;
 use crate::writer::put_records;
+use arithmetic::wide;
 use format::Place;
 use state::LeaseTable;
 

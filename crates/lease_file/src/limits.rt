@@ -12,7 +12,7 @@ ghost use Rattle.lease_file.specs.Place.{EntriesFit, EntriesIn, Storable
 ghost use Rattle.lease_file.specs.Records.{entryFitB, isOffset, storableB};
 ghost use Rattle.lease_file.specs.Section.{entryTenant};
 use crate::form::tail;
-use crate::form::wide;
+use arithmetic::wide;
 use message::MessageType;
 
 // Whether they can hold each entry of the section that starts at `at`.

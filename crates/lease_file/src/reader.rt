@@ -9,10 +9,10 @@ ghost use mathlib.Core.Bool.{false, true};
 ghost use Rattle.lease_file.specs.Place.{EntriesFit, StorableAt, entriesIn, entryAt, keptAll, tailOf};
 ghost use Rattle.lease_file.specs.Records.{storedEntry};
 ghost use Rattle.lease_file.specs.Rows.{byEndingAll, tenantsFrom};
-use crate::form::wide;
 use crate::limits::entry_next;
 use crate::limits::tenant_place;
 use crate::order::arrange;
+use arithmetic::wide;
 use state::Lease;
 use state::TenantLeases;
 

@@ -7,6 +7,7 @@ ghost use lib.ListN.{getD, length};
 ghost use Rattle.format.specs.Section.{Inside};
 ghost use Rattle.octets.specs.Octets.{at32};
 ghost use Rattle.release_file.specs.Place.{ReleaseEnds, ReleasesEnd, afterRelease};
+use arithmetic::wide;
 use format::Place;
 
 // Where `count` releases that start at `from` end.
@@ -72,10 +73,4 @@ fn is_later(tenant: u8, time: u32, next: u8, released: u32) -> bool
         return released < time;
     }
     false
-}
-
-pub fn wide(x: u8) -> usize
-    ensures { λ r. ⌜ (r ≡ x) × (r < 256) ⌝ }
-{
-    x as usize
 }

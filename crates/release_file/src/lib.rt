@@ -15,13 +15,13 @@ ghost use Rattle.octets.specs.Octets.{Wrote};
 ghost use Rattle.release_file.specs.Section.{memoryOctets, releasesFitB, storedMemory};
 ghost use Rattle.release_file.specs.Place.{ReleaseSection, ReleasesIn, releasesIn};
 use crate::form::releases_end;
-use crate::form::wide;
 use crate::limits::all_few;
 use crate::limits::all_keepable;
 use crate::reader::all_releases;
 use crate::sizes::releases_size;
 use crate::sizes::total;
 use crate::writer::put_releases;
+use arithmetic::wide;
 use format::Place;
 use state::Memory;
 

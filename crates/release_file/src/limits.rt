@@ -7,7 +7,7 @@ ghost use Rattle.format.specs.Tenants.{tallyBy};
 ghost use Rattle.lists.specs.All.{allBy, allTo};
 ghost use Rattle.release_file.specs.Place.{AllKeepable, KeepableAt, afterRelease, fileReleaseAt, releasesFrom};
 ghost use Rattle.release_file.specs.Section.{fewFor, keepableB, releaseTenant};
-use crate::form::wide;
+use arithmetic::wide;
 
 // Whether the memory can hold each of `count` releases that start at `from`.
 pub fn all_keepable(s: &[u8], from: usize, count: usize) -> bool

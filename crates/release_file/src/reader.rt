@@ -3,9 +3,9 @@ ghost use mathlib.Core.Path.{_≡_};
 ghost use Rattle.release_file.specs.Place.{AllKeepable, KeepableAt, fileReleaseAt, keptAll, releasesFrom};
 ghost use Rattle.release_file.specs.Section.{storedRelease};
 use crate::form::time_at;
-use crate::form::wide;
 use crate::limits::release_next;
 use crate::limits::tenant_place;
+use arithmetic::wide;
 use state::Release;
 use state::TenantReleases;
 

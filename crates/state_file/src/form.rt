@@ -6,6 +6,7 @@ ghost use Rattle.state_file.specs.Place.{FirstIn, FormedBy};
 use crate::FILE_LIMIT;
 use crate::Layout;
 use crate::Places;
+use arithmetic::wide;
 use format::Place;
 
 // Whether the octets have the form of a state file, and where its sections start.
@@ -87,10 +88,4 @@ fn octets_of(n: usize, z: usize) -> usize
     ensures { λ r. ⌜ (r ≡ n * z) × (r < 200000) ⌝ }
 {
     n * z
-}
-
-pub fn wide(x: u8) -> usize
-    ensures { λ r. ⌜ (r ≡ x) × (r < 256) ⌝ }
-{
-    x as usize
 }

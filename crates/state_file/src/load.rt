@@ -10,10 +10,10 @@ ghost use Rattle.state_file.specs.Records.{filled, storedScope, zeroRang
 ghost use Rattle.state_file.specs.StateFile.{judged, loaded, refused};
 use crate::Loaded;
 use crate::Places;
-use crate::form::wide;
 use crate::limits::fits;
 use crate::no_memory;
 use crate::no_state;
+use arithmetic::wide;
 use state::ClientRange;
 use state::LeaseTable;
 use state::Memory;

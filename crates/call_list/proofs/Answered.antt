@@ -19,7 +19,7 @@ use Rattle.state.specs.declared.Ledger.{Ledger}
 use Rattle.server.specs.declared.Outcome.{Outcome}
 use Rattle.server.specs.Serve.{Call}
 use Rattle.verdict_octets.specs.laws.Octets.{low16}
-use Rattle.records.specs.Lent.{LentAnswer, serveLent}
+use Rattle.record_call.specs.Call.{LentAnswer, serveLent}
 use Rattle.owned.specs.declared.OwnedCall.{OwnedCall}
 use Rattle.owned.specs.Owned.{ServesOwned}
 use Rattle.call_list.specs.CallList.{answerRoom, callIn, cutOff, recordSize, stopIn}

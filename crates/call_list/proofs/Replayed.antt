@@ -12,7 +12,7 @@ use Rattle.lists.specs.laws.Pick.{pick-eq, pick-not-eq}
 use Rattle.octets.specs.Octets.{put}
 use Rattle.state.specs.declared.Lease.{Lease}
 use Rattle.state.specs.declared.Ledger.{Ledger}
-use Rattle.records.specs.Lent.{LentAnswer, serveLent}
+use Rattle.record_call.specs.Call.{LentAnswer, serveLent}
 use Rattle.owned.specs.declared.Owned.{Owned}
 use Rattle.owned.specs.declared.OwnedCall.{OwnedCall}
 use Rattle.call_list.specs.CallList.{answerRoom, answerOctets, callIn, answerBefore, recordSize, Worked, replayed, stopIn, stopped}

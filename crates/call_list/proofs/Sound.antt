@@ -7,9 +7,9 @@ use Rattle.state.specs.declared.Ledger.{Ledger}
 use Rattle.state.specs.declared.State.{State}
 use Rattle.state.specs.Book.{raised}
 use Rattle.server.specs.Serve.{Call}
-use Rattle.records.specs.declared.ServedRecords.{ServedRecords}
-use Rattle.records.specs.Lent.{serveLent, ServesRecords}
-use Rattle.records.specs.laws.Lent.{served-ledger}
+use Rattle.record_call.specs.declared.ServedRecords.{ServedRecords}
+use Rattle.record_call.specs.Call.{serveLent, ServesRecords}
+use Rattle.record_call.specs.laws.Lent.{served-ledger}
 use Rattle.owned.specs.declared.Owned.{Owned}
 use Rattle.owned.specs.declared.OwnedCall.{OwnedCall}
 use Rattle.owned.specs.Owned.{ServesOwned}

@@ -11,7 +11,7 @@ use Rattle.octets.specs.Octets.{at16, at32, octets16}
 use Rattle.state.specs.declared.Lease.{Lease}
 use Rattle.state.specs.declared.Ledger.{Ledger}
 use Rattle.server.specs.Serve.{Call}
-use Rattle.records.specs.Lent.{LentAnswer, serveLent}
+use Rattle.record_call.specs.Call.{LentAnswer, serveLent}
 
 -- ---- work on a book: one call, or a list of calls
 -- the number to tell, the offset that one call's carries (document 02, W-206) and the count of records read for it (W-210), the ledger and the records afterwards, how many octets of calls are done,

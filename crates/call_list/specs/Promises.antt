@@ -6,7 +6,7 @@ use lib.ListN.{drop, length}
 use Rattle.octets.specs.Octets.{put}
 use Rattle.owned.specs.declared.Owned.{Owned}
 use Rattle.owned.specs.declared.OwnedCall.{OwnedCall}
-use Rattle.records.specs.Lent.{LentAnswer}
+use Rattle.record_call.specs.Call.{LentAnswer}
 use Rattle.lent_guarantee.specs.Statement.{SoundLent}
 use Rattle.call_list.specs.declared.Progress.{Progress}
 use Rattle.call_list.specs.CallList.{answerOctets, Worked}

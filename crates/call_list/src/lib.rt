@@ -3,7 +3,8 @@
 ghost use mathlib.Core.Path.{_≡_};
 ghost use Prim.Native.Nat.{_+_, _≤_, min};
 ghost use lib.ListN.{drop, length};
-ghost use Rattle.records.specs.Lent.{serveLent, SoundFrom};
+ghost use Rattle.record_call.specs.Call.{serveLent};
+ghost use Rattle.record_survey.specs.Survey.{SoundFrom};
 ghost use Rattle.reply.specs.Reply.{leastRoom};
 ghost use Rattle.owned.specs.Owned.{ServesOwned};
 ghost use Rattle.call_list.specs.CallList.{answerRoom, replayed, stopIn, callIn, recordSize};
@@ -65,7 +66,7 @@ fn serve_sound(
 {
     let ledger = o.ledger;
     let records = o.records;
-    let r = records::serve_sound(ledger, records, names, datagram, client, time, reply);
+    let r = record_call::serve_sound(ledger, records, names, datagram, client, time, reply);
     let told = r.outcome;
     let state = ledger.state;
     let s = state::raise(state, r.clock);

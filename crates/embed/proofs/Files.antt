@@ -22,7 +22,9 @@ use Rattle.state_file.specs.declared.Written.{Written}
 use Rattle.state_file.specs.StateFile.{readFile}
 use Rattle.state_file.proofs.RoundTrip.{names-short}
 use Rattle.records.specs.laws.Files.{blank-accepted, blank-refusal, readBlank}
-use Rattle.records.specs.Lent.{judgeLent, LentReading, roomLent, serveLent, writtenLent}
+use Rattle.records.specs.Lent.{LentReading, roomLent, writtenLent}
+use Rattle.record_verdict.specs.Verdict.{judgeLent}
+use Rattle.record_call.specs.Call.{serveLent}
 use Rattle.owned.specs.declared.OwnedCall.{OwnedCall}
 use Rattle.owned.specs.declared.OwnedFile.{OwnedFile}
 use Rattle.owned.specs.declared.OwnedJudged.{OwnedJudged}

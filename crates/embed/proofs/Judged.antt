@@ -23,7 +23,8 @@ use Rattle.server.specs.declared.Ruling.{Ruling}
 use Rattle.server.specs.Serve.{decidedFor, tenantOf}
 use Rattle.server.specs.Halves.{discardRuling, judgeClock, judgedBy, Judgement, judgeOf, judgeReading, judgeServer}
 use Rattle.server.specs.laws.Outcomes.{concluded, Numbered, read-number}
-use Rattle.records.specs.Lent.{bookFrom, is128, judgeLent, judgeWith, LentJudgement}
+use Rattle.records.specs.Lent.{bookFrom, is128}
+use Rattle.record_verdict.specs.Verdict.{judgeLent, judgeWith, LentJudgement}
 
 pub record Within (s : List ℕ) (r : Ruling) : Type 0 where
   pub few : r .verdict .outcome ≤ 8

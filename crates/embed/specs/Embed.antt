@@ -14,7 +14,8 @@ use Rattle.state_file.specs.declared.Written.{Written}
 use Rattle.state_file.specs.StateFile.{namesOf, readFile}
 use Rattle.records.specs.Records.{recordsOf}
 use Rattle.call_list.specs.CallList.{replayed, Worked}
-use Rattle.records.specs.Lent.{LentAnswer, roomLent, serveLent, writtenLent}
+use Rattle.records.specs.Lent.{roomLent, writtenLent}
+use Rattle.record_call.specs.Call.{LentAnswer, serveLent}
 
 -- ---- a file in a buffer
 -- a file's buffer has to hold the largest file

@@ -9,7 +9,7 @@ use Rattle.server.specs.Serve.{Said}
 use Rattle.server.specs.Halves.{silent, writeOf}
 use Rattle.verdict_octets.specs.Octets.{rulingIn, verdictOctets}
 use Rattle.state_file.specs.StateFile.{namesOf, readFile}
-use Rattle.records.specs.Lent.{judgeLent, LentJudgement}
+use Rattle.record_verdict.specs.Verdict.{judgeLent, LentJudgement}
 use Rattle.embed.specs.Embed.{Filed, namesIn, onFile}
 use Rattle.call_list.specs.CallList.{Worked}
 

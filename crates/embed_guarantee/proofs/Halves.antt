@@ -19,8 +19,10 @@ use Rattle.verdict_octets.specs.laws.Octets.{verdict-back}
 use Rattle.state_file.specs.StateFile.{namesOf, readFile, zeroLedger}
 use Rattle.state_file.specs.Typed.{Typed}
 use Rattle.records.specs.Records.{tableFrom}
-use Rattle.records.specs.Lent.{judgeLent, LentAnswer, lentBoth, LentJudgement, LentReading, readLent, roomLent, serveLent, writtenLent}
-use Rattle.records.specs.laws.Call.{lent-joined}
+use Rattle.records.specs.Lent.{LentReading, readLent, roomLent, writtenLent}
+use Rattle.record_verdict.specs.Verdict.{judgeLent, LentJudgement}
+use Rattle.record_call.specs.Call.{LentAnswer, lentBoth, serveLent}
+use Rattle.record_call.specs.laws.Call.{lent-joined}
 use Rattle.records.specs.laws.Files.{file-long}
 use Rattle.lent_guarantee.specs.Statement.{lentBook, Lent, LentDemand1, LentWriteRead, SameCall, SameJudge}
 use Rattle.lent_guarantee.proofs.Guaranteed.{lent-demand1}

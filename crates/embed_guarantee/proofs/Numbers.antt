@@ -13,13 +13,15 @@ use Rattle.state.specs.declared.Lease.{Lease}
 use Rattle.state.specs.declared.Ledger.{Ledger}
 use Rattle.server.specs.Serve.{Call}
 use Rattle.state_file.specs.declared.Written.{Written}
-use Rattle.records.specs.Lent.{judgeLent, LentAnswer, LentJudgement, serveLent, writtenLent}
+use Rattle.records.specs.Lent.{writtenLent}
+use Rattle.record_verdict.specs.Verdict.{judgeLent, LentJudgement}
+use Rattle.record_call.specs.Call.{LentAnswer, serveLent}
 use Rattle.reply.specs.Reply.{leastRoom}
 use Rattle.lent_guarantee.specs.Statement.{LentDemand1, LentNeverShort, SoundLent}
 use Rattle.lent_guarantee.proofs.Guaranteed.{lent-demand1}
 use Rattle.lent_guarantee.proofs.Halves.{lent-never-short}
 use Rattle.lent_guarantee.proofs.Written.{sound-written}
-use Rattle.records.specs.laws.Call.{lent-joined}
+use Rattle.record_call.specs.laws.Call.{lent-joined}
 use Rattle.embed.specs.Embed.{called, filed, Filed, kept, ledgerIn, leasesIn, lengthAfter, namesIn, numberAfter, onFile, refusalIn, replayFile, serveFile}
 use Rattle.call_list.specs.CallList.{answerBefore, answerOctets, answerRoom, callIn, cutOff, recordSize, replayed, stopIn, stopped, Worked}
 use Rattle.embed.proofs.Files.{accepted-parts}

@@ -12,7 +12,9 @@ use Rattle.server.specs.Serve.{Call}
 use Rattle.verdict_octets.specs.Octets.{TypedRuling}
 use Rattle.state_file.specs.Typed.{Typed}
 use Rattle.records.specs.Records.{tableFrom}
-use Rattle.records.specs.Lent.{judgeLent, LentJudgement, serveLent, writtenLent}
+use Rattle.records.specs.Lent.{writtenLent}
+use Rattle.record_verdict.specs.Verdict.{judgeLent, LentJudgement}
+use Rattle.record_call.specs.Call.{serveLent}
 use Rattle.embed.specs.Embed.{called, Filed, ledgerIn, leasesIn, namesIn, refusalIn, replayFile, serveFile}
 use Rattle.call_list.specs.CallList.{replayed, Worked}
 use Rattle.embed.specs.Halves.{judged, judgeFile, replyFile}

@@ -8,7 +8,9 @@ ghost use Rattle.state.specs.Book.{raisedIn};
 ghost use Rattle.server.specs.Serve.{Tells};
 ghost use Rattle.server.specs.Halves.{writeOf};
 ghost use Rattle.records.specs.Records.{first128, covered};
-ghost use Rattle.records.specs.Lent.{serveLent, ServesLent, judgeLent, JudgesLent, readLent, ReadsLent, writtenLent, roomLent, findLent, insertLent, removeLent};
+ghost use Rattle.records.specs.Lent.{readLent, ReadsLent, writtenLent, roomLent, findLent, insertLent, removeLent};
+ghost use Rattle.record_call.specs.Call.{serveLent, ServesLent};
+ghost use Rattle.record_verdict.specs.Verdict.{judgeLent, JudgesLent};
 use occupancy::Entry;
 use records::Records;
 use server::Outcome;
@@ -114,7 +116,7 @@ pub fn serve(
 {
     let g = *ledger;
     let all = load(leases);
-    let r = records::serve(g, all, leases.len(), names, datagram, client, time, reply);
+    let r = record_call::serve(g, all, leases.len(), names, datagram, client, time, reply);
     ledger.memory = r.memory;
     advance(ledger, r.clock);
     store(leases, r.records);
@@ -135,7 +137,7 @@ pub fn judge(
 {
     let g = *ledger;
     let all = load(leases);
-    let r = records::judge(g, all, leases.len(), names, datagram, client, time);
+    let r = record_verdict::judge(g, all, leases.len(), names, datagram, client, time);
     ledger.memory = r.memory;
     advance(ledger, r.clock);
     store(leases, r.records);

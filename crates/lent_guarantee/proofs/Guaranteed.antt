@@ -24,7 +24,8 @@ use Rattle.guarantee.proofs.Kept.{call-sound}
 use Rattle.offer_guarantee.proofs.Offers.{offer-rule}
 use Rattle.offer_guarantee.proofs.Taken.{offer-held}
 use Rattle.records.specs.Records.{recordsOf, tableFrom}
-use Rattle.records.specs.Lent.{ledgerOf, lentAnswer, LentAnswer, serveWith}
+use Rattle.record_verdict.specs.Verdict.{ledgerOf}
+use Rattle.record_call.specs.Call.{lentAnswer, LentAnswer, serveWith}
 use Rattle.records.specs.laws.Steps.{off-whole}
 use Rattle.lent_guarantee.specs.Statement.{answerOf, lentBook, Lent, LentAnswered, LentBoardAgrees, LentBoardStays, LentDemand1, LentDemand3, LentOfferHeld, LentOfferRule, runLent, served, SoundLent}
 use Rattle.lent_guarantee.proofs.Same.{at-whole, kept-back, same, sound-book, still-whole}

@@ -18,8 +18,10 @@ use Rattle.server.specs.Serve.{Answer, Call, discarded, serveOf}
 use Rattle.server.specs.Halves.{Judgement, discardRuling, writeOf}
 use Rattle.server.specs.Statement.{LeavesRest, NeverShort, ServeHalves, WritesWithin, inHalves, judgedFor}
 use Rattle.server.proofs.Halves.{enough-halves, leaves-rest, never-short, serve-halves, writes-within}
-use Rattle.records.specs.Lent.{LentAnswer, LentJudgement, bookFrom, is128, judgeWith, lentAnswer, lentBoth, lentJudgement, serveWith}
-use Rattle.records.specs.laws.Call.{lent-joined}
+use Rattle.records.specs.Lent.{bookFrom, is128}
+use Rattle.record_call.specs.Call.{LentAnswer, lentAnswer, lentBoth, serveWith}
+use Rattle.record_verdict.specs.Verdict.{LentJudgement, judgeWith, lentJudgement}
+use Rattle.record_call.specs.laws.Call.{lent-joined}
 use Rattle.records.specs.laws.Steps.{on-whole}
 use Rattle.lent_guarantee.specs.Statement.{Lent, LentHalves, LentNeverShort, LentWritesWithin, SameJudge, lentBook, discardedLent, judged, lentInHalves}
 use Rattle.lent_guarantee.proofs.Same.{kept-back, same}

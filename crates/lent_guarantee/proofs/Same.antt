@@ -30,7 +30,8 @@ use Rattle.decision_laws.specs.laws.Reads.{read-id}
 use Rattle.records.specs.laws.Back.{records-back, lent-table-back, table-long}
 use Rattle.records.specs.laws.Table.{table-eight}
 use Rattle.records.specs.Records.{recordsOf, tableFrom}
-use Rattle.records.specs.Lent.{bookFrom, lentAnswer, LentAnswer, serveLent, serveWith}
+use Rattle.records.specs.Lent.{bookFrom}
+use Rattle.record_call.specs.Call.{lentAnswer, LentAnswer, serveLent, serveWith}
 use Rattle.records.specs.laws.Steps.{on-whole}
 use Rattle.lent_guarantee.specs.Statement.{answerOf, SameCall}
 

@@ -27,7 +27,8 @@ use Rattle.records.specs.laws.Back.{records-back}
 use Rattle.records.specs.laws.Files.{file-back, file-long}
 use Rattle.records.specs.laws.Table.{table-eight}
 use Rattle.records.specs.Records.{recordsOf}
-use Rattle.records.specs.Lent.{LentReading, bookFrom, ledgerOf, readLent, readWith, roomWith, writtenWith}
+use Rattle.records.specs.Lent.{LentReading, bookFrom, readLent, readWith, roomWith, writtenWith}
+use Rattle.record_verdict.specs.Verdict.{ledgerOf}
 use Rattle.records.specs.laws.Steps.{off-whole, on-whole}
 use Rattle.lent_guarantee.specs.Statement.{FileWritten, Lent, lentBook, LentDemand3, LentWriteRead, lentRoom, LentWritten, lentWritten, SoundLent, afterFile, runLent}
 use Rattle.lent_guarantee.proofs.Guaranteed.{lent-demand3}

@@ -30,7 +30,9 @@ use Rattle.state_file.specs.declared.Written.{Written}
 use Rattle.state_file.specs.StateFile.{namesOf}
 use Rattle.state_file.specs.Typed.{Typed}
 use Rattle.records.specs.Records.{recordsOf, tableFrom}
-use Rattle.records.specs.Lent.{bookFrom, findLent, is128, judgeLent, ledgerOf, lentBoth, LentAnswer, LentJudgement, readLent, roomLent, serveLent, writtenLent}
+use Rattle.records.specs.Lent.{bookFrom, findLent, is128, readLent, roomLent, writtenLent}
+use Rattle.record_verdict.specs.Verdict.{judgeLent, ledgerOf, LentJudgement}
+use Rattle.record_call.specs.Call.{lentBoth, LentAnswer, serveLent}
 
 -- a ledger (clock, settings, what is remembered and the board), records and names, as their caller holds them; the names are lent to be read only
 pub record Lent : Type 0 where

@@ -17,7 +17,7 @@ use Rattle.best_grant.specs.Best.{AsksRule, Best}
 use Rattle.guarantee_specimens.proofs.BestSpecimens as best
 use Rattle.guarantee_specimens.proofs.Opened.{computed}
 use Rattle.guarantee_specimens.proofs.Specimens.{BoardCase, Case, ReleaseCase, agrees, between, board-specimens, boardTable, book, d3, discover, discovers, discovers3, free, holds, house2, keeps, narrow, new, offered, offered3, others, p1, p3, release-specimens, releaseTable, remembers, shows, showsOn, sound, specimens, table, takes, takesUp}
-use Rattle.records.specs.Lent.{ledgerOf}
+use Rattle.record_verdict.specs.Verdict.{ledgerOf}
 use Rattle.records.specs.Records.{rows, tableFrom, tenantFrom}
 use Rattle.lent_guarantee.specs.Statement.{answerOf, lentBook, Lent, LentDemand3, LentOfferHeld, LentOfferRule, runLent, served, SoundLent}
 use Rattle.lent_guarantee.specs.Best.{LentNobodyMore}

@@ -3,7 +3,9 @@ use Prim.Native.Nat.{ℕ}
 use mathlib.Core.Path.{_≡_}
 use mathlib.Core.List.{List}
 use Rattle.server.specs.Serve.{Tells}
-use Rattle.records.specs.Lent.{LentAnswer, lentSaid, LentJudgement, LentReading}
+use Rattle.records.specs.Lent.{LentReading}
+use Rattle.record_call.specs.Call.{LentAnswer, lentSaid}
+use Rattle.record_verdict.specs.Verdict.{LentJudgement}
 use Rattle.owned.specs.declared.OwnedCall.{OwnedCall}
 use Rattle.owned.specs.declared.OwnedFile.{OwnedFile}
 use Rattle.owned.specs.declared.OwnedJudged.{OwnedJudged}

@@ -14,10 +14,8 @@ use Rattle.state.specs.declared.Lease.{Lease}
 use Rattle.state.specs.declared.Ledger.{Ledger}
 use Rattle.state.specs.Book.{byIdentifier, comparedOf, isHold, laidOut, leaseWith, noLookup, removeOf, zeroLease, byEnding, until}
 use Rattle.soundness.specs.Sound.{blankB, layoutB, paddedB, unusedB, zeroFrom, layoutBy}
-use Rattle.server.specs.Serve.{Call}
-use Rattle.server.specs.Halves.{discardRuling}
 use Rattle.records.specs.Records.{recordsOf, rows, rowsOf, tableFrom, tenantFrom}
-use Rattle.records.specs.Lent.{findLent, findWith, insertLent, insertWith, judgeLent, judgeWith, removeLent, removeWith, serveLent, serveWith, is128, writtenLent, writtenWith}
+use Rattle.records.specs.Lent.{findLent, findWith, insertLent, insertWith, removeLent, removeWith, is128, writtenLent, writtenWith}
 
 -- a lease by the last octet of its identifier and its end
 ending : ℕ → ℕ → Lease
@@ -86,20 +84,7 @@ short : insertLent 1 (lease 2) (unused 127) ≡ unused 127
 unfolding unused insertWith is128 pick
 short = refl
 
--- 127 and 129 records are discard 1 and refusal 22, whatever the ledger, the names, the call and the room
-serve-127 : (g : Ledger) (names : List ℕ) (c : Call) → serveLent g (unused 127) names c .outcome ≡ 1
-unfolding unused serveWith is128 pick
-serve-127 g names c = refl
-
-serve-129 : (g : Ledger) (names : List ℕ) (c : Call) → serveLent g (unused 129) names c .outcome ≡ 1
-unfolding unused serveWith is128 pick
-serve-129 g names c = refl
-
--- and so of the first half, which leaves the records as they were
-judge-127 : (g : Ledger) (names : List ℕ) (client time : ℕ) (d : List ℕ) → judgeLent g (unused 127) names client time d ≡ record { ruling = discardRuling 1 0; ledger = g; leases = unused 127 }
-unfolding unused judgeWith is128 pick
-judge-127 g names client time d = refl
-
+-- 127 records are refusal 22, whatever the ledger, the names and the room
 write-127 : (g : Ledger) (names : List ℕ) (room : ℕ) → writtenLent g (unused 127) names room .refusal ≡ 22
 unfolding unused writtenWith is128 pick
 write-127 g names room = refl

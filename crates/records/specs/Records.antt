@@ -1,22 +1,15 @@
 -- Definitions: the lent lease records (document 01, "How it is to be built"): 128 in a row, sixteen to a house, house by house; and the table that they stand
 -- for. A house is a tenant here.
 use Prim.Native.Nat.{ℕ, zero, suc, min, _+_, _*_}
-use mathlib.Core.Bool.{Bool}
-use mathlib.Core.Path.{_≡_}
-use lib.Dec.{ltb}
 use mathlib.Core.List.{List, [], _∷_, _++_, map}
 use lib.ListN.{length, replicate, take, drop}
 use lib.Seq.{paste}
 use Rattle.lists.specs.Place.{placeBy}
-use Rattle.occupancy.specs.declared.Board.{Board}
 use Rattle.state.specs.declared.Lease.{Lease}
 use Rattle.state.specs.declared.TenantLeases.{TenantLeases}
 use Rattle.state.specs.declared.LeaseTable.{LeaseTable}
-use Rattle.state.specs.Book.{cleared, dropped, zeroLease}
-use Rattle.soundness.specs.declared.Held.{Held}
+use Rattle.state.specs.Book.{zeroLease}
 use Rattle.soundness.specs.Sound.{unusedB}
-use Rattle.soundness.specs.Parts.{holdingsOf}
-use Rattle.records.specs.declared.Dropped.{Dropped}
 
 -- the first n rows of sixteen records
 unfoldable pub rows : ℕ → List Lease → List (List Lease)
@@ -43,18 +36,6 @@ recordsOf t = rowsOf (t .tenants)
 -- records with those of tenant h, counted from 0, replaced
 unfoldable pub putRow : List Lease → ℕ → List Lease → List Lease
 putRow ls h r = take (16 * h) ls ++ r ++ drop (16 * h + 16) ls
-
--- ---- the drop
--- no lease of a tenant ends at or before a clock
-abbrev pub endsAfter : ℕ → Held → Bool
-endsAfter clock x = ltb clock (x .«first_end»)
-
--- what a function promises that drops the leases which end at or before a clock: the records, what is held afterwards, and the board
-pub record Drops (clock : ℕ) (ls : List Lease) (b : Board) (r : Dropped) : Type 0 where
-  pub records : r .records .leases ≡ recordsOf (dropped clock (tableFrom ls))
-  pub long : length (r .records .leases) ≡ 128
-  pub holdings : r .held ≡ holdingsOf (dropped clock (tableFrom ls))
-  pub board : r .board ≡ cleared clock (tableFrom ls) b
 
 -- ---- between a lent slice of any length and 128 records by value
 -- what is taken from a slice: its first records, then unused ones

@@ -3,5 +3,4 @@ pub mod Back
 pub mod Rows
 pub mod Lent
 pub mod Steps
-pub mod Call
 pub mod Files

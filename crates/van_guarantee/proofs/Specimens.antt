@@ -4,7 +4,8 @@ use mathlib.Core.Path.{_≡_, refl}
 use mathlib.Core.List.{List, [], _∷_, _++_}
 use Rattle.guarantee_specimens.proofs.Opened.{computed}
 use Rattle.records.specs.Records.{recordsOf, rows, rowsOf, tableFrom, tenantFrom}
-use Rattle.records.specs.Lent.{is128, serveWith}
+use Rattle.records.specs.Lent.{is128}
+use Rattle.record_call.specs.Call.{serveWith}
 use Rattle.replay_text.specs.Replay.{hexOf, numberText, outcomeLine, refusedLine}
 use Rattle.van_server.specs.Van.{dayOf, dayTo, openOf, printedOf, recordSize, turnOf, vanScope, vanState}
 

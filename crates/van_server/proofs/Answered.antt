@@ -15,7 +15,7 @@ use Rattle.reply.specs.Reply.{leastRoom}
 use Rattle.state.specs.declared.Lease.{Lease}
 use Rattle.state.specs.declared.Ledger.{Ledger}
 use Rattle.server.specs.Serve.{Call}
-use Rattle.records.specs.Lent.{serveLent}
+use Rattle.record_call.specs.Call.{serveLent}
 use Rattle.owned.specs.declared.Owned.{Owned}
 use Rattle.owned.specs.declared.OwnedCall.{OwnedCall}
 use Rattle.owned.specs.Owned.{ServesOwned}

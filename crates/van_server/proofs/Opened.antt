@@ -20,7 +20,8 @@ use Rattle.state.specs.Book.{Book, advanced, zeroLease}
 use Rattle.releases.specs.Whole.{bookB}
 use Rattle.server.specs.Serve.{Call, atClock, discarded, serveOf}
 use Rattle.state_file.specs.StateFile.{zeroLedger, zeroState}
-use Rattle.records.specs.Lent.{LentAnswer, LentReading, bookFrom, is128, lentAnswer, serveLent, serveWith, untouched}
+use Rattle.records.specs.Lent.{LentReading, bookFrom, is128, untouched}
+use Rattle.record_call.specs.Call.{LentAnswer, lentAnswer, serveLent, serveWith}
 use Rattle.owned.specs.declared.Owned.{Owned}
 use Rattle.owned.specs.declared.OwnedCall.{OwnedCall}
 use Rattle.owned.specs.Owned.{ReadsOwned, ServesOwned}

@@ -19,7 +19,8 @@ use Rattle.releases.specs.Whole.{bookB}
 use Rattle.server.specs.Serve.{Call}
 use Rattle.state_file.specs.Records.{zeroRange}
 use Rattle.state_file.specs.StateFile.{zeroLedger, zeroMemory}
-use Rattle.records.specs.Lent.{LentAnswer, LentReading, bookFrom, serveLent, untouched}
+use Rattle.records.specs.Lent.{LentReading, bookFrom, untouched}
+use Rattle.record_call.specs.Call.{LentAnswer, serveLent}
 use Rattle.replay_text.specs.Replay.{outcomeLine, refusedLine}
 use Rattle.van_server.specs.declared.Turn.{Turn}
 

@@ -10,11 +10,11 @@ use Rattle.state.specs.declared.Lease.{Lease}
 use Rattle.state.specs.declared.Ledger.{Ledger}
 use Rattle.server.specs.declared.Ruling.{Ruling}
 use Rattle.records.specs.declared.Records.{Records}
-use Rattle.records.specs.declared.JudgedRecords.{JudgedRecords}
+use Rattle.record_verdict.specs.declared.JudgedRecords.{JudgedRecords}
 use Rattle.state.specs.Book.{raisedIn}
 use Rattle.records.specs.Records.{covered, first128}
-use Rattle.records.specs.Lent.{judgeWith, judgeLent, JudgesRecords, JudgesLent}
-use Rattle.records.specs.laws.Lent.{judged-lent}
+use Rattle.record_verdict.specs.Verdict.{judgeWith, judgeLent, JudgesRecords, JudgesLent}
+use Rattle.record_verdict.specs.laws.Lent.{judged-lent}
 use Rattle.state.proofs.Lease as R
 use Rattle.state.proofs.Memory as Y
 use Rattle.state.proofs.Memory.Laws as Y′
@@ -24,12 +24,12 @@ use Rattle.server.proofs.Ruling as O
 use Rattle.server.proofs.Ruling.Laws as O′
 use Rattle.records.proofs.Records as N
 use Rattle.records.proofs.Records.Laws as N′
-use Rattle.records.proofs.JudgedRecords as Z
-use Rattle.records.proofs.JudgedRecords.Laws as Z′
-use Rattle.records.proofs.judge as judge′
-use Rattle.records.proofs.judge.Symbol as judge-def
-use Rattle.records.proofs.judge.Symbol.{name as #records·judge}
-use Rattle.records.proofs.judge.Met as judge-thm
+use Rattle.record_verdict.proofs.JudgedRecords as Z
+use Rattle.record_verdict.proofs.JudgedRecords.Laws as Z′
+use Rattle.record_verdict.proofs.judge as judge′
+use Rattle.record_verdict.proofs.judge.Symbol as judge-def
+use Rattle.record_verdict.proofs.judge.Symbol.{name as #record-verdict·judge}
+use Rattle.record_verdict.proofs.judge.Met as judge-thm
 use Rattle.lent.proofs.Slices.{Load, Store, Mut, ref, word, loads, stores}
 use Rattle.lent.proofs.Ledgers.{Advance, Held, ref-ledger, word-ledger, with-memory, opens-ledger, closes-ledger, stores-memory, advances}
 use Rattle.lent.proofs.advance.Symbol as advance-def
@@ -147,7 +147,7 @@ module _ {M : Type 1} (𝓤 : URA M) (H : Heap 𝓤) (A : Atoms 𝓤) (W : Given
   parts : (r : JudgedRecords) (w : Val) → Is Z.the-row r (w ∷ []) → Parts r
   parts r w is = LL.owed Z.the-type Z′.the-laws r (w ∷ []) is
 
-  module _ (C : Calls 𝓤 H) (Λ : Loops 𝓤 H) (fm : FmC 𝓤 H (W .laws) C) (known-load : Triple 𝓤 (C #lent·load) (Load 𝓤 H A mem run)) (known-judge : Triple 𝓤 (C #records·judge) (Judge 𝓤 H A mem run))
+  module _ (C : Calls 𝓤 H) (Λ : Loops 𝓤 H) (fm : FmC 𝓤 H (W .laws) C) (known-load : Triple 𝓤 (C #lent·load) (Load 𝓤 H A mem run)) (known-judge : Triple 𝓤 (C #record-verdict·judge) (Judge 𝓤 H A mem run))
       (known-advance : Triple 𝓤 (C #lent·advance) (Advance 𝓤 H A mem run)) (known-store : Triple 𝓤 (C #lent·store) (Store 𝓤 H A mem run)) where
     -- once `records::judge` has given back z: its memory is stored in the ledger, whose borrow goes to `advance`, its records go to `store`, and its verdict, at the machine value v, is handed on whole. Q is what the function has to end in
     keep-on : (l₀ l₄ l₅ l₉ l₁₃ l₁₄ l₁₅ l₁₆ : ℕ) (u₁ u₂ u₃ u₆ u₇ u₈ u₁₀ u₁₁ u₁₂ : Idle) (ν : Sym) (τc τm τr : Ty) (x : Val) (Q : Val → SProp 𝓤) (z : JudgedRecords)
@@ -226,7 +226,7 @@ module _ {M : Type 1} (𝓤 : URA M) (H : Heap 𝓤) (A : Atoms 𝓤) (W : Given
         came-back l₀ l₄ l₅ l₉ l₁₃ l₁₄ l₁₅ l₁₆ (_, l₁, _) (_, l₂, _) (_, l₃, _) (_, l₆, _) (_, l₇, _) (_, l₈, _) (_, l₁₀, _) (_, l₁₁, _) (_, l₁₂, _) r₁ w₁ w₂ e₁ room₂))))))))))))))))))))
 
 module _ {M : Type 1} (𝓤 : URA M) (H : Heap 𝓤) (A : Atoms 𝓤) (W : Given 𝓤 H A) (mem : Memory → SProp 𝓤) (run : Routine → Fun 𝓤) where
-  walks : (C : Calls 𝓤 H) (Λ : Loops 𝓤 H) → FmC 𝓤 H (W .laws) C → Triple 𝓤 (C #lent·load) (Load 𝓤 H A mem run) → Triple 𝓤 (C #records·judge) (Judge 𝓤 H A mem run) → Triple 𝓤 (C #lent·advance) (Advance 𝓤 H A mem run) → Triple 𝓤 (C #lent·store) (Store 𝓤 H A mem run)
+  walks : (C : Calls 𝓤 H) (Λ : Loops 𝓤 H) → FmC 𝓤 H (W .laws) C → Triple 𝓤 (C #lent·load) (Load 𝓤 H A mem run) → Triple 𝓤 (C #record-verdict·judge) (Judge 𝓤 H A mem run) → Triple 𝓤 (C #lent·advance) (Advance 𝓤 H A mem run) → Triple 𝓤 (C #lent·store) (Store 𝓤 H A mem run)
       → Walks 𝓤 H A f.ended stayed (WpFn 𝓤 H C Λ code.function) (f.clauses 𝓤 H A mem run)
   walks C Λ fm k₁ k₂ k₃ k₄ = walked 𝓤 H A f.ended stayed (f.clauses 𝓤 H A mem run) (WpFn 𝓤 H C Λ code.function)
       (λ κs. (slice-vals, (uint-vals w32, (uint-vals w32, (ptr-vals, (slice-vals, (slice-vals, tt)))))))
@@ -254,6 +254,6 @@ judge-spec 𝓤 H 𝓜 𝓖 𝓡 =
     stands 𝓤 H (𝓖 .A) (givenOf 𝓤 H 𝓜 𝓖) f.ended stayed (f.clauses 𝓤 H (𝓖 .A) (𝓜 .mem) (𝓡 .run)) (tablesOf 𝓤 H 𝓜 (tables 𝓤 H 𝓜 𝓡 code.env)) #lent·judge code.function (code.unfolded 𝓤 H 𝓜 𝓡)
     (goes 𝓤 H (𝓖 .A) (givenOf 𝓤 H 𝓜 𝓖) (𝓜 .mem) (𝓡 .run)) (λ fm. walks 𝓤 H (𝓖 .A) (givenOf 𝓤 H 𝓜 𝓖) (𝓜 .mem) (𝓡 .run) _ _ fm
     (cited 𝓤 H (Load 𝓤 H (𝓖 .A) (𝓜 .mem) (𝓡 .run)) 𝓜 𝓡 code.env #lent·load load-def.routine code.calls-lent·load (load-thm.met 𝓤 H 𝓜 𝓖 𝓡))
-    (cited 𝓤 H (Judge 𝓤 H (𝓖 .A) (𝓜 .mem) (𝓡 .run)) 𝓜 𝓡 code.env #records·judge judge-def.routine code.calls-records·judge (judge-thm.met 𝓤 H 𝓜 𝓖 𝓡))
+    (cited 𝓤 H (Judge 𝓤 H (𝓖 .A) (𝓜 .mem) (𝓡 .run)) 𝓜 𝓡 code.env #record-verdict·judge judge-def.routine code.calls-record-verdict·judge (judge-thm.met 𝓤 H 𝓜 𝓖 𝓡))
     (cited 𝓤 H (Advance 𝓤 H (𝓖 .A) (𝓜 .mem) (𝓡 .run)) 𝓜 𝓡 code.env #lent·advance advance-def.routine code.calls-lent·advance (advance-thm.met 𝓤 H 𝓜 𝓖 𝓡))
     (cited 𝓤 H (Store 𝓤 H (𝓖 .A) (𝓜 .mem) (𝓡 .run)) 𝓜 𝓡 code.env #lent·store store-def.routine code.calls-lent·store (store-thm.met 𝓤 H 𝓜 𝓖 𝓡)))

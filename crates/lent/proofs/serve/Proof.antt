@@ -11,11 +11,11 @@ use Rattle.state.specs.declared.Ledger.{Ledger}
 use Rattle.server.specs.Serve.{Call}
 use Rattle.server.specs.declared.Outcome.{Outcome}
 use Rattle.records.specs.declared.Records.{Records}
-use Rattle.records.specs.declared.ServedRecords.{ServedRecords}
+use Rattle.record_call.specs.declared.ServedRecords.{ServedRecords}
 use Rattle.state.specs.Book.{raisedIn}
 use Rattle.records.specs.Records.{covered}
-use Rattle.records.specs.Lent.{serveWith, serveLent, ServesRecords, ServesLent}
-use Rattle.records.specs.laws.Lent.{served-lent}
+use Rattle.record_call.specs.Call.{serveWith, serveLent, ServesRecords, ServesLent}
+use Rattle.record_call.specs.laws.Lent.{served-lent}
 use Rattle.state.proofs.Lease as R
 use Rattle.state.proofs.Memory as Y
 use Rattle.state.proofs.Memory.Laws as Y′
@@ -25,12 +25,12 @@ use Rattle.server.proofs.Outcome as O
 use Rattle.server.proofs.Outcome.Laws as O′
 use Rattle.records.proofs.Records as N
 use Rattle.records.proofs.Records.Laws as N′
-use Rattle.records.proofs.ServedRecords as Z
-use Rattle.records.proofs.ServedRecords.Laws as Z′
-use Rattle.records.proofs.serve as serve′
-use Rattle.records.proofs.serve.Symbol as serve-def
-use Rattle.records.proofs.serve.Symbol.{name as #records·serve}
-use Rattle.records.proofs.serve.Met as serve-thm
+use Rattle.record_call.proofs.ServedRecords as Z
+use Rattle.record_call.proofs.ServedRecords.Laws as Z′
+use Rattle.record_call.proofs.serve as serve′
+use Rattle.record_call.proofs.serve.Symbol as serve-def
+use Rattle.record_call.proofs.serve.Symbol.{name as #record-call·serve}
+use Rattle.record_call.proofs.serve.Met as serve-thm
 use Rattle.lent.proofs.Slices.{Load, Store, Mut, ref, word, loads, stores}
 use Rattle.lent.proofs.Ledgers.{Advance, Held, ref-ledger, word-ledger, with-memory, opens-ledger, closes-ledger, stores-memory, advances}
 use Rattle.lent.proofs.advance.Symbol as advance-def
@@ -164,7 +164,7 @@ module _ {M : Type 1} (𝓤 : URA M) (H : Heap 𝓤) (A : Atoms 𝓤) (W : Given
   parts : (r : ServedRecords) (w : Val) → Is Z.the-row r (w ∷ []) → Parts r
   parts r w is = LL.owed Z.the-type Z′.the-laws r (w ∷ []) is
 
-  module _ (C : Calls 𝓤 H) (Λ : Loops 𝓤 H) (fm : FmC 𝓤 H (W .laws) C) (known-load : Triple 𝓤 (C #lent·load) (Load 𝓤 H A mem run)) (known-serve : Triple 𝓤 (C #records·serve) (Serve 𝓤 H A mem run))
+  module _ (C : Calls 𝓤 H) (Λ : Loops 𝓤 H) (fm : FmC 𝓤 H (W .laws) C) (known-load : Triple 𝓤 (C #lent·load) (Load 𝓤 H A mem run)) (known-serve : Triple 𝓤 (C #record-call·serve) (Serve 𝓤 H A mem run))
       (known-advance : Triple 𝓤 (C #lent·advance) (Advance 𝓤 H A mem run)) (known-store : Triple 𝓤 (C #lent·store) (Store 𝓤 H A mem run)) where
     -- once `records::serve` has given back z: its memory is stored in the ledger, whose borrow goes to `advance`, its records go to `store`, and its outcome is handed on whole. X says the last octets of the reply buffer, and Q is what the function has
     -- to end in
@@ -238,7 +238,7 @@ module _ {M : Type 1} (𝓤 : URA M) (H : Heap 𝓤) (A : Atoms 𝓤) (W : Given
         (λ h′ zs e₃ len e₄. exits (r₂ .outcome) h′ zs (us .1 .1 .1 .1 .1 .1 .1 .0) (parts r₂ w₂ is₂ .0) (served-lent h ys names c e₁ e₂ e₃ e₄ refl) len len₂)))))))))))))))))))))))))))))
 
 module _ {M : Type 1} (𝓤 : URA M) (H : Heap 𝓤) (A : Atoms 𝓤) (W : Given 𝓤 H A) (mem : Memory → SProp 𝓤) (run : Routine → Fun 𝓤) where
-  walks : (C : Calls 𝓤 H) (Λ : Loops 𝓤 H) → FmC 𝓤 H (W .laws) C → Triple 𝓤 (C #lent·load) (Load 𝓤 H A mem run) → Triple 𝓤 (C #records·serve) (Serve 𝓤 H A mem run) → Triple 𝓤 (C #lent·advance) (Advance 𝓤 H A mem run) → Triple 𝓤 (C #lent·store) (Store 𝓤 H A mem run)
+  walks : (C : Calls 𝓤 H) (Λ : Loops 𝓤 H) → FmC 𝓤 H (W .laws) C → Triple 𝓤 (C #lent·load) (Load 𝓤 H A mem run) → Triple 𝓤 (C #record-call·serve) (Serve 𝓤 H A mem run) → Triple 𝓤 (C #lent·advance) (Advance 𝓤 H A mem run) → Triple 𝓤 (C #lent·store) (Store 𝓤 H A mem run)
       → Walks 𝓤 H A f.ended stayed (WpFn 𝓤 H C Λ code.function) (f.clauses 𝓤 H A mem run)
   walks C Λ fm k₁ k₂ k₃ k₄ = walked 𝓤 H A f.ended stayed (f.clauses 𝓤 H A mem run) (WpFn 𝓤 H C Λ code.function)
       (λ κs. (slice-vals, (uint-vals w32, (uint-vals w32, (ptr-vals, (slice-vals, (slice-vals, (slice-vals, tt))))))))
@@ -266,6 +266,6 @@ serve-spec 𝓤 H 𝓜 𝓖 𝓡 =
     stands 𝓤 H (𝓖 .A) (givenOf 𝓤 H 𝓜 𝓖) f.ended stayed (f.clauses 𝓤 H (𝓖 .A) (𝓜 .mem) (𝓡 .run)) (tablesOf 𝓤 H 𝓜 (tables 𝓤 H 𝓜 𝓡 code.env)) #lent·serve code.function (code.unfolded 𝓤 H 𝓜 𝓡)
     (goes 𝓤 H (𝓖 .A) (givenOf 𝓤 H 𝓜 𝓖) (𝓜 .mem) (𝓡 .run)) (λ fm. walks 𝓤 H (𝓖 .A) (givenOf 𝓤 H 𝓜 𝓖) (𝓜 .mem) (𝓡 .run) _ _ fm
     (cited 𝓤 H (Load 𝓤 H (𝓖 .A) (𝓜 .mem) (𝓡 .run)) 𝓜 𝓡 code.env #lent·load load-def.routine code.calls-lent·load (load-thm.met 𝓤 H 𝓜 𝓖 𝓡))
-    (cited 𝓤 H (Serve 𝓤 H (𝓖 .A) (𝓜 .mem) (𝓡 .run)) 𝓜 𝓡 code.env #records·serve serve-def.routine code.calls-records·serve (serve-thm.met 𝓤 H 𝓜 𝓖 𝓡))
+    (cited 𝓤 H (Serve 𝓤 H (𝓖 .A) (𝓜 .mem) (𝓡 .run)) 𝓜 𝓡 code.env #record-call·serve serve-def.routine code.calls-record-call·serve (serve-thm.met 𝓤 H 𝓜 𝓖 𝓡))
     (cited 𝓤 H (Advance 𝓤 H (𝓖 .A) (𝓜 .mem) (𝓡 .run)) 𝓜 𝓡 code.env #lent·advance advance-def.routine code.calls-lent·advance (advance-thm.met 𝓤 H 𝓜 𝓖 𝓡))
     (cited 𝓤 H (Store 𝓤 H (𝓖 .A) (𝓜 .mem) (𝓡 .run)) 𝓜 𝓡 code.env #lent·store store-def.routine code.calls-lent·store (store-thm.met 𝓤 H 𝓜 𝓖 𝓡)))

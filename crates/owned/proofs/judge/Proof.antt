@@ -8,7 +8,7 @@ use Rattle.state.proofs.Ledger.Laws as T′
 use Rattle.state.specs.declared.Lease.{Lease}
 use Rattle.state.specs.declared.Ledger.{Ledger}
 use Rattle.server.specs.declared.Ruling.{Ruling}
-use Rattle.records.specs.Lent.{judgeLent, JudgesLent}
+use Rattle.record_verdict.specs.Verdict.{judgeLent, JudgesLent}
 use Rattle.owned.specs.declared.Owned.{Owned}
 use Rattle.owned.specs.declared.OwnedJudged.{OwnedJudged}
 use Rattle.server.proofs.Ruling as U

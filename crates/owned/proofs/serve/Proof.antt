@@ -10,7 +10,7 @@ use Rattle.state.specs.declared.Lease.{Lease}
 use Rattle.state.specs.declared.Ledger.{Ledger}
 use Rattle.server.specs.Serve.{Call}
 use Rattle.server.specs.declared.Outcome.{Outcome}
-use Rattle.records.specs.Lent.{serveLent, ServesLent}
+use Rattle.record_call.specs.Call.{serveLent, ServesLent}
 use Rattle.owned.specs.declared.Owned.{Owned}
 use Rattle.owned.specs.declared.OwnedCall.{OwnedCall}
 use Rattle.server.proofs.Outcome as U

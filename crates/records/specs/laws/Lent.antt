@@ -1,40 +1,26 @@
--- Laws: of the entry points: what the functions on 128 records by value give is what the definitions on a lent slice of any length yield.
-use mathlib.Core.Path.{_≡_, refl, sym, ap, ap₂, _∙_, subst}
+-- Laws: of lent records: what the functions on 128 records by value give is what the definitions on a lent slice of any length yield.
+use mathlib.Core.Path.{_≡_, refl, sym, ap, _∙_}
 use mathlib.Core.Bool.{Bool, true, false}
-use mathlib.Core.List.{List, [], _++_, append-nil}
-use Prim.Native.Nat.{ℕ, min, max}
+use mathlib.Core.List.{List, _++_, append-nil}
+use Prim.Native.Nat.{ℕ, min}
 use native.Mathlib.Omega.{arith}
 use lib.Dec.{eqb, ltb}
 use lib.ListN.{length, replicate, take, drop, drop-of-length-le, take-append-drop}
 use lib.Seq.{length-take-le, take-all, take-at, paste}
 use native.Mathlib.Nat.{zero-add}
 use borrow.Author.Tests.{eqb-true}
-use Rattle.reply.specs.Reply.{leastRoom}
 use Rattle.lists.specs.Pick.{pick}
 use Rattle.state.specs.declared.Lease.{Lease}
 use Rattle.state.specs.declared.Ledger.{Ledger}
 use Rattle.state.specs.declared.Lookup.{Lookup}
-use Rattle.state.specs.declared.Memory.{Memory}
-use Rattle.state.specs.declared.State.{State}
-use Rattle.state.specs.Book.{Book, advanced, insertOf, lookupOf, noLookup, raised, removeOf, withClock, zeroLease}
+use Rattle.state.specs.Book.{insertOf, lookupOf, noLookup, removeOf, zeroLease}
 use Rattle.admission.specs.Tests.{ownOf}
-use Rattle.message.specs.laws.Placed.{pick-cases}
-use Rattle.releases.specs.Whole.{bookB}
-use Rattle.server.specs.declared.Outcome.{Outcome}
-use Rattle.server.specs.declared.Ruling.{Ruling}
-use Rattle.server.specs.Serve.{Answer, Call, Tells, serveOf}
-use Rattle.server.specs.Halves.{Judgement, discardRuling, judgeClock, judgeOf, judgeReading, judgeServer}
-use Rattle.server.specs.Statement.{ServeHalves}
-use Rattle.server.proofs.Halves.{serve-halves}
-use Rattle.server.specs.laws.Told.{tells-as}
 use Rattle.state_file.specs.declared.Loaded.{Loaded}
 use Rattle.state_file.specs.declared.Written.{Written}
-use Rattle.records.specs.declared.JudgedRecords.{JudgedRecords}
 use Rattle.records.specs.declared.ReadRecords.{ReadRecords}
-use Rattle.records.specs.declared.ServedRecords.{ServedRecords}
 use Rattle.state_file.specs.StateFile.{roomAfter, writtenOf}
 use Rattle.records.specs.Records.{recordsOf, tableFrom, first128, covered}
-use Rattle.records.specs.Lent.{bookFrom, lentAnswer, lentSaid, withOwn, is128, untouched, LentAnswer, LentJudgement, LentReading, lentJudgement, judgeWith, judgeLent, JudgesRecords, JudgesLent, serveWith, serveLent, ServesRecords, ServesLent, readWith, Reads, ReadsLent, writtenWith, writtenLent, roomWith, roomLent, findWith, findLent, insertWith, insertLent, removeWith, removeLent}
+use Rattle.records.specs.Lent.{bookFrom, withOwn, is128, untouched, LentReading, readWith, Reads, ReadsLent, writtenWith, writtenLent, roomWith, roomLent, findWith, findLent, insertWith, insertLent, removeWith, removeLent}
 
 -- ---- slices
 -- 128 records are all taken
@@ -84,6 +70,11 @@ told-lent {A} F none ls {all} {r} a b = go (eqb (length ls) 128) refl
     go true p = b ∙ ap (F (length ls)) (a ∙ taken-all ls (eqb-true _ _ p))
     go false p = b ∙ none (length ls) all ls p
 
+-- each part of an answer that is `out` of another number of records
+pub told-part : {A B : Type 0} (F : ℕ → List Lease → A) (out : List Lease → A) → ((k : ℕ) (m : List Lease) → is128 k ≡ false → F k m ≡ out m) → (f : A → B) → ((m m' : List Lease) → f (out m) ≡ f (out m'))
+    → (ls : List Lease) {all : List Lease} {r : B} → all ≡ first128 ls → r ≡ f (F (length ls) all) → r ≡ f (F (length ls) ls)
+told-part F out off f same = told-lent (λ k m. f (F k m)) (λ k m m' o. ap f (off k m o) ∙ same m m' ∙ sym (ap f (off k m' o)))
+
 -- the same of a definition that is a choice on the number of records
 pub changed-pick : (G : List Lease → List Lease) (ls : List Lease) {all x zs : List Lease}
     → all ≡ first128 ls → x ≡ pick (is128 (length ls)) (G all) all → length x ≡ 128 → zs ≡ covered ls x → zs ≡ pick (is128 (length ls)) (G ls) ls
@@ -116,109 +107,6 @@ written-lent g ls names room = told-pick (λ m. writtenOf (bookFrom g m names) r
 pub room-lent : (g : Ledger) (ls : List Lease) (names room : List ℕ) {all : List Lease} {after : List ℕ} → all ≡ first128 ls → after ≡ roomWith (length ls) g all names room → after ≡ roomLent g ls names room
 unfolding roomWith
 room-lent g ls names room = told-pick (λ m. roomAfter (bookFrom g m names) room) room ls
-
--- ---- the call
--- of a state, only the clock changes, and it is raised
-Raises : State → State → Type 0
-Raises s s' = s' ≡ raised s (s' .clock)
-
-raised-self : (s : State) → Raises s s
-unfolding Raises raised
-raised-self s = ap (withClock s) (let e : s .clock ≡ max (s .clock) (s .clock) = omega arith in e)
-
-raised-once : (s : State) (time : ℕ) → Raises s (raised s time)
-unfolding Raises raised
-raised-once s time = ap (withClock s) (let e : max (s .clock) time ≡ max (s .clock) (max (s .clock) time) = omega arith in e)
-
-pub judged-clock : (b : Book) (client time : ℕ) (d : List ℕ) → judgeOf b client time d .book .state ≡ raised (b .state) (judgeOf b client time d .book .state .clock)
-unfolding judgeOf judgeClock judgeReading judgeServer Raises advanced
-judged-clock b client time d =
-    pick-cases Keeps (bookB b) _ _ (λ _. pick-cases Keeps _ _ _ (λ _. pick-cases Keeps _ _ _ (λ _. pick-cases Keeps _ _ _ (λ _. now) (λ _. now)) (λ _. now)) (λ _. now)) (λ _. raised-self (b .state))
-  where
-    Keeps : Judgement → Type 0
-    Keeps j = Raises (b .state) (j .book .state)
-
-    now : Raises (b .state) (raised (b .state) time)
-    now = raised-once (b .state) time
-
-clock-only : (b : Book) (c : Call) → Raises (b .state) (serveOf b c .book .state)
-unfolding ServeHalves Raises
-clock-only b c =
-    subst Keeps (sym (serve-halves b c))
-    (pick-cases Keeps (bookB b) _ _ (λ _. pick-cases Keeps (ltb (c .room) leastRoom) _ _ (λ _. raised-self (b .state)) (λ _. judged-clock b (c .client) (c .time) (c .datagram))) (λ _. raised-self (b .state)))
-  where
-    Keeps : Answer → Type 0
-    Keeps a = Raises (b .state) (a .book .state)
-
--- of another number of records nothing changes
-module _ (n : ℕ) (g : Ledger) (ls : List Lease) (names : List ℕ) where
-  pub lent-clock : (client time : ℕ) (d : List ℕ) → judgeWith n g ls names client time d .ledger .state ≡ raised (g .state) (judgeWith n g ls names client time d .ledger .state .clock)
-  unfolding judgeWith Raises
-  lent-clock client time d = pick-cases (λ (a : LentJudgement). Raises (g .state) (a .ledger .state)) (is128 n) _ _ (λ _. judged-clock (bookFrom g ls names) client time d) (λ _. raised-self (g .state))
-
-  served-clock : (c : Call) → Raises (g .state) (serveWith n g ls names c .ledger .state)
-  unfolding serveWith
-  served-clock c = pick-cases (λ (a : LentAnswer). Raises (g .state) (a .ledger .state)) (is128 n) _ _ (λ _. clock-only (bookFrom g ls names) c) (λ _. raised-self (g .state))
-
--- each part of an answer that is `out` of another number of records
-told-part : {A B : Type 0} (F : ℕ → List Lease → A) (out : List Lease → A) → ((k : ℕ) (m : List Lease) → is128 k ≡ false → F k m ≡ out m) → (f : A → B) → ((m m' : List Lease) → f (out m) ≡ f (out m'))
-    → (ls : List Lease) {all : List Lease} {r : B} → all ≡ first128 ls → r ≡ f (F (length ls) all) → r ≡ f (F (length ls) ls)
-told-part F out off f same = told-lent (λ k m. f (F k m)) (λ k m m' o. ap f (off k m o) ∙ same m m' ∙ sym (ap f (off k m' o)))
-
-module _ (g : Ledger) (ls : List Lease) (names : List ℕ) where
-  -- the ledger with the clock and the memory that came back
-  ledger-is : {s : State} {m m' : Memory} {k : ℕ} {g' : Ledger} → g' ≡ record { state = raised (g .state) k; memory = m } → k ≡ s .clock → m ≡ m' → Raises (g .state) s → g' ≡ record { state = s; memory = m' }
-  unfolding Raises
-  ledger-is p e f v = p ∙ ap₂ {C = Ledger} (λ (s : State) (m : Memory). record { state = s; memory = m }) (ap (raised (g .state)) e ∙ sym v) f
-
-  -- so of the call by value, on its own records
-  pub served-ledger : (c : Call) {before after : List ℕ} {r : ServedRecords} {s : State} → ServesRecords (serveLent g ls names c) before after r → s ≡ raised (g .state) (r .clock)
-      → record { state = s; memory = r .memory } ≡ serveLent g ls names c .ledger
-  served-ledger c {r = r} v p = ledger-is (ap {B = Ledger} (λ (s : State). record { state = s; memory = r .memory }) p) (v .clock) (v .memory) (served-clock (length ls) g ls names c)
-
-  module _ (c : Call) where
-    abbrev unserved : List Lease → LentAnswer
-    unserved m = record { outcome = 1; offset = 0; count = 0; reply = []; ledger = g; leases = m }
-
-    off : (k : ℕ) (m : List Lease) → is128 k ≡ false → serveWith k g m names c ≡ unserved m
-    unfolding serveWith pick
-    off k m o = ap (λ (t : Bool). pick t (lentAnswer (serveOf (bookFrom g m names) c)) (unserved m)) o
-
-    part : {A : Type 0} (f : LentAnswer → A) → ((m m' : List Lease) → f (unserved m) ≡ f (unserved m'))
-        → {all : List Lease} {r : A} → all ≡ first128 ls → r ≡ f (serveWith (length ls) g all names c) → r ≡ f (serveLent g ls names c)
-    part f same = told-part (λ k m. serveWith k g m names c) unserved off f same ls
-
-    pub served-lent : {all zs : List Lease} {g' : Ledger} {before after : List ℕ} {r : ServedRecords} {o : Outcome}
-        → all ≡ first128 ls → ServesRecords (serveWith (length ls) g all names c) before after r → g' ≡ record { state = raised (g .state) (r .clock); memory = r .memory }
-        → zs ≡ covered ls (r .records .leases) → o ≡ r .outcome → ServesLent (serveLent g ls names c) g' zs before after o
-    served-lent {all} {before = before} {after} a v p q e = record {
-      tells = subst (Tells (lentSaid (serveLent g ls names c)) before after) (sym e) (tells-as (part lentSaid (λ m m'. refl) a refl) (v .tells));
-      ledger = part (λ x. x .ledger) (λ m m'. refl) a (ledger-is p (v .clock) (v .memory) (served-clock (length ls) g all names c));
-      leases = changed-lent (λ k m. serveWith k g m names c .leases) (λ k m o. ap (λ (x : LentAnswer). x .leases) (off k m o)) ls a (v .leases) (v .long) q;
-    }
-
-  -- and of the first half
-  module _ (client time : ℕ) (d : List ℕ) where
-    abbrev unjudged : List Lease → LentJudgement
-    unjudged m = record { ruling = discardRuling 1 0; ledger = g; leases = m }
-
-    off-judged : (k : ℕ) (m : List Lease) → is128 k ≡ false → judgeWith k g m names client time d ≡ unjudged m
-    unfolding judgeWith pick
-    off-judged k m o = ap (λ (t : Bool). pick t (lentJudgement (judgeOf (bookFrom g m names) client time d)) (unjudged m)) o
-
-    judged-part : {A : Type 0} (f : LentJudgement → A) → ((m m' : List Lease) → f (unjudged m) ≡ f (unjudged m'))
-        → {all : List Lease} {r : A} → all ≡ first128 ls → r ≡ f (judgeWith (length ls) g all names client time d) → r ≡ f (judgeLent g ls names client time d)
-    judged-part f same = told-part (λ k m. judgeWith k g m names client time d) unjudged off-judged f same ls
-
-    pub judged-lent : {all zs : List Lease} {g' : Ledger} {r : JudgedRecords} {o : Ruling}
-        → all ≡ first128 ls → JudgesRecords (judgeWith (length ls) g all names client time d) r → g' ≡ record { state = raised (g .state) (r .clock); memory = r .memory }
-        → zs ≡ covered ls (r .records .leases) → o ≡ r .ruling → JudgesLent (judgeLent g ls names client time d) g' zs o
-    unfolding Raises
-    judged-lent {all} a v p q e = record {
-      ruling = judged-part (λ x. x .ruling) (λ m m'. refl) a (e ∙ v .ruling);
-      ledger = judged-part (λ x. x .ledger) (λ m m'. refl) a (ledger-is p (v .clock) (v .memory) (lent-clock (length ls) g all names client time d));
-      leases = changed-lent (λ k m. judgeWith k g m names client time d .leases) (λ k m o. ap (λ (x : LentJudgement). x .leases) (off-judged k m o)) ls a (v .leases) (v .long) q;
-    }
 
 -- ---- the reader
 -- what it answers of a slice of another length

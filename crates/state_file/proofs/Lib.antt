@@ -1,6 +1,6 @@
 mod WholeForm
 mod Pad
-mod Loads
+pub mod Loads
 mod RowLaws
 mod Writes
 mod Zeros

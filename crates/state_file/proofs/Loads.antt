@@ -1,7 +1,7 @@
 -- Laws: the records of a file that has the form and that they can hold.
 use mathlib.Core.Bool.{Bool, _&&_, false, true}
 use mathlib.Core.List.{List, [], map}
-use mathlib.Core.Path.{_∙_, _≡_, ap, ap₂, subst, sym}
+use mathlib.Core.Path.{_∙_, _≡_, ap, ap₂, refl, subst, sym}
 use Prim.Native.Nat.{_*_, _+_, _-_, _<_, _≤_, ℕ}
 use native.Mathlib.Omega.{arith}
 use lib.ListN.{drop, getD, length, replicate, take}
@@ -12,6 +12,7 @@ use Rattle.agreement.specs.laws.Agrees.{built-is}
 use Rattle.lease_file.specs.Place.{entriesIn}
 use Rattle.lease_file.specs.Records.{mergedFrom, recordsFitB}
 use Rattle.lists.specs.Pick.{pick}
+use Rattle.lists.specs.laws.Both.{and-parts}
 use Rattle.lists.specs.laws.Pick.{both, neither}
 use Rattle.occupancy.specs.Board.{noBoard}
 use Rattle.occupancy.specs.declared.Board.{Board}
@@ -143,29 +144,37 @@ pub refused-is : (n : ℕ) (s : State) (z : TenantLeases) (m : Memory) → s ≡
 unfolding refused zeroTable tableOf
 refused-is n s z m es ez em = cc
 
-module _ (s : State) (b : LeaseTable) (m : Memory) (q : Bool) (e : q ≡ soundB s b) where
-  book-judged : (c : Bool) → q ≡ c → pick (c && memoryB s b m) (accepted s b (withBoard b m)) (refused 21) ≡ judged s b m
+module _ (s : State) (b : LeaseTable) (m : Memory) {q : Bool} (e : q ≡ soundB s b) where
+  pub rules-not : q ≡ false → false ≡ (soundB s b && memoryB s b m)
+  rules-not t = ap (λ (x : Bool). x && memoryB s b m) (sym t ∙ e)
+
+  pub rules-memory : (w : Bool) → w ≡ memoryB s b m → q ≡ true → w ≡ (soundB s b && memoryB s b m)
+  rules-memory w f t = f ∙ ap (λ (x : Bool). x && memoryB s b m) (sym t ∙ e)
+
+module _ (s : State) (b : LeaseTable) (m : Memory) {q : Bool} (e : q ≡ (soundB s b && memoryB s b m)) where
+  book-judged : (c : Bool) → q ≡ c → pick c (accepted s b (withBoard b m)) (refused 21) ≡ judged s b m
   unfolding judged
-  book-judged c t = ap (λ (x : Bool). pick (x && memoryB s b m) (accepted s b (withBoard b m)) (refused 21)) (sym t ∙ e)
+  book-judged c t = ap (λ (x : Bool). pick x (accepted s b (withBoard b m)) (refused 21)) (sym t ∙ e)
+
+  -- the board that the leases of a sound book make is what they say
+  pub judged-yes : (x : Board) → q ≡ true → length (b .tenants) ≡ 8 → x ≡ builtOf b → record { refusal = 0; state = s; table = b; memory = record { releases = m .releases; board = x } } ≡ judged s b m
+  unfolding accepted pick
+  judged-yes x t l p =
+      ap (λ (y : Board). accepted s b (record { releases = m .releases; board = y })) (p ∙ built-is s b l (sound-lists s b (and-parts _ _ (sym e ∙ t) .0)))
+      ∙ book-judged true t
 
   pub judged-not : (r : Loaded) → q ≡ false → r ≡ refused 21 → r ≡ judged s b m
   unfolding pick
   judged-not r t p = p ∙ book-judged false t
 
-  module _ (w : Bool) (f : w ≡ memoryB s b m) (t : q ≡ true) where
-    memory-judged : (c : Bool) → w ≡ c → pick c (accepted s b (withBoard b m)) (refused 21) ≡ judged s b m
-    memory-judged c u = ap (λ (x : Bool). pick x (accepted s b (withBoard b m)) (refused 21)) (sym u ∙ f) ∙ book-judged true t
+  -- the refusal alone
+  pub judged-none : q ≡ true → 0 ≡ judged s b m .refusal
+  unfolding accepted pick
+  judged-none t = ap (λ (x : Loaded). x .refusal) (book-judged true t)
 
-    -- the board that the leases of a sound book make is what they say
-    pub judged-yes : (x : Board) → w ≡ true → length (b .tenants) ≡ 8 → x ≡ builtOf b → record { refusal = 0; state = s; table = b; memory = record { releases = m .releases; board = x } } ≡ judged s b m
-    unfolding accepted pick
-    judged-yes x u l p =
-        ap (λ (y : Board). accepted s b (record { releases = m .releases; board = y })) (p ∙ built-is s b l (sound-lists s b (sym e ∙ t)))
-        ∙ memory-judged true u
-
-    pub judged-memory : (r : Loaded) → w ≡ false → r ≡ refused 21 → r ≡ judged s b m
-    unfolding pick
-    judged-memory r u p = p ∙ memory-judged false u
+  pub judged-one : q ≡ false → 21 ≡ judged s b m .refusal
+  unfolding refused pick
+  judged-one t = ap (λ (x : Loaded). x .refusal) (book-judged false t)
 
 module _ (s : List ℕ) (p : Places) {q : Bool} (e : q ≡ fitsB (fileAt s p)) where
   loaded-tested : (c : Bool) → q ≡ c → pick c (judged (stateAt s (p .scopes)) (tableOf (mergedFrom 1 8 (entriesIn false s (p .leases)) (entriesIn true s (p .holds)))) (storedMemory (releasesIn s (p .releases)))) (refused 21) ≡ loaded (fileAt s p)
@@ -181,6 +190,14 @@ module _ (s : List ℕ) (p : Places) {q : Bool} (e : q ≡ fitsB (fileAt s p)) w
   unfolding pick
   loaded-not r t w = w ∙ loaded-tested false t
 
+  pub loaded-judged : (x : State) (y : LeaseTable) (m : Memory) (r : ℕ) → q ≡ true → x ≡ stateAt s (p .scopes) → y ≡ tableOf (mergedFrom 1 8 (entriesIn false s (p .leases)) (entriesIn true s (p .holds)))
+      → m ≡ storedMemory (releasesIn s (p .releases)) → r ≡ judged x y m .refusal → r ≡ loaded (fileAt s p) .refusal
+  loaded-judged x y m r t ex ey em er = er ∙ ap (λ (l : Loaded). l .refusal) (loaded-yes x y m (judged x y m) t ex ey em refl)
+
+  pub loaded-one : q ≡ false → 21 ≡ loaded (fileAt s p) .refusal
+  unfolding refused
+  loaded-one t = ap (λ (l : Loaded). l .refusal) (loaded-not (refused 21) t refl)
+
 module _ (s : List ℕ) {l : Layout} (v : FormedBy s l) where
   pub layout-right : {p : Places} → l ≡ Right p → Formed s p
   unfolding FormedBy
@@ -193,6 +210,14 @@ module _ (s : List ℕ) {l : Layout} (v : FormedBy s l) where
   pub read-not : (r : Loaded) → l ≡ Wrong → r ≡ refused 20 → r ≡ readFile s
   unfolding readFile loadedGot FormedBy
   read-not r e q = q ∙ sym (ap loadedGot (subst (FormedBy s) e v))
+
+  -- the refusal alone
+  pub check-yes : {p : Places} (k : ℕ) → l ≡ Right p → k ≡ loaded (fileAt s p) .refusal → k ≡ readFile s .refusal
+  check-yes k e q = q ∙ ap (λ (x : Loaded). x .refusal) (read-yes _ e refl)
+
+  pub check-not : l ≡ Wrong → 20 ≡ readFile s .refusal
+  unfolding refused
+  check-not e = ap (λ (x : Loaded). x .refusal) (read-not (refused 20) e refl)
 
   -- the names, as a part of the octets
   pub names-from : {p : Places} → l ≡ Right p → p .names ≤ p .releases

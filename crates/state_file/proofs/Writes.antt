@@ -190,7 +190,10 @@ module _ (b : Book) (q : Bool) (e : q ≡ soundB (b .state) (b .table)) where
       pub book-yes : (r : Bool) → v ≡ true → r ≡ namesGood b → r ≡ bookB b
       book-yes r z p = p ∙ board-tested true z
 
-module _ (b : Book) (q : Bool) (e : q ≡ bookB b) where
+module _ (b : Book) {q : Bool} (e : q ≡ bookB b) where
+  pub book-known : q ≡ true → bookB b ≡ true
+  book-known t = sym e ∙ t
+
   pub write-unsound : (room : List ℕ) → q ≡ false → (_≡_ {A = Written} (record { refusal = 22; length = 0 }) (writtenOf b (length room))) × (room ≡ roomAfter b room)
   unfolding writtenOf roomAfter pick
   write-unsound room t =
@@ -199,32 +202,30 @@ module _ (b : Book) (q : Bool) (e : q ≡ bookB b) where
         sym (ap (λ (x : Bool). pick x (pick (ltb (length room) (length (octetsOf b))) room (octetsOf b ++ drop (length (octetsOf b)) room)) room) p),
       )
 
-  module _ (n : ℕ) (room : List ℕ) (t : q ≡ true) {x : LeaseTable} (order : x ≡ inFileOrder (b .table)) (size : n ≡ length (octetsAs (record { state = b .state; table = x; memory = b .memory; names = b .names }))) where
-    -- the records were put into the order of the file
-    abbrev As : LeaseTable → List ℕ
-    As y = octetsAs (record { state = b .state; table = y; memory = b .memory; names = b .names })
+module _ (b : Book) (p : bookB b ≡ true) (n : ℕ) (room : List ℕ) {x : LeaseTable} (order : x ≡ inFileOrder (b .table)) (size : n ≡ length (octetsAs (record { state = b .state; table = x; memory = b .memory; names = b .names }))) where
+  -- the records were put into the order of the file
+  abbrev As : LeaseTable → List ℕ
+  As y = octetsAs (record { state = b .state; table = y; memory = b .memory; names = b .names })
 
-    filed : As x ≡ octetsOf b
-    unfolding octetsAs octetsOf filedBook
-    filed = ap As order
+  filed : As x ≡ octetsOf b
+  unfolding octetsAs octetsOf filedBook
+  filed = ap As order
 
-    l : n ≡ length (octetsOf b)
-    l = size ∙ ap length filed
+  l : n ≡ length (octetsOf b)
+  l = size ∙ ap length filed
 
-    pub write-short : length room < n → (_≡_ {A = Written} (record { refusal = 23; length = 0 }) (writtenOf b (length room))) × (room ≡ roomAfter b room)
-    unfolding writtenOf roomAfter pick
-    write-short h =
-        let p : bookB b ≡ true = sym e ∙ t in
-        let k : ltb (length room) (length (octetsOf b)) ≡ true = lt-ltb _ _ (let c = l in let g : length room < length (octetsOf b) = omega arith in g) in (
-          sym (ap₂ (λ (x y : Bool). pick x (pick y (record { refusal = 23; length = 0 }) (record { refusal = 0; length = length (octetsOf b) })) (record { refusal = 22; length = 0 })) p k),
-          sym (ap₂ (λ (x y : Bool). pick x (pick y room (octetsOf b ++ drop (length (octetsOf b)) room)) room) p k),
-        )
+  pub write-short : length room < n → (_≡_ {A = Written} (record { refusal = 23; length = 0 }) (writtenOf b (length room))) × (room ≡ roomAfter b room)
+  unfolding writtenOf roomAfter pick
+  write-short h =
+      let k : ltb (length room) (length (octetsOf b)) ≡ true = lt-ltb _ _ (let c = l in let g : length room < length (octetsOf b) = omega arith in g) in (
+        sym (ap₂ (λ (x y : Bool). pick x (pick y (record { refusal = 23; length = 0 }) (record { refusal = 0; length = length (octetsOf b) })) (record { refusal = 22; length = 0 })) p k),
+        sym (ap₂ (λ (x y : Bool). pick x (pick y room (octetsOf b ++ drop (length (octetsOf b)) room)) room) p k),
+      )
 
-    pub write-done : (now : List ℕ) (f : ℕ) → n ≤ length room → Wrote room 0 (octetsAs (record { state = b .state; table = x; memory = b .memory; names = b .names })) now f → (_≡_ {A = Written} (record { refusal = 0; length = n }) (writtenOf b (length room))) × (now ≡ roomAfter b room)
-    unfolding writtenOf roomAfter pick
-    write-done now f h w =
-        let p : bookB b ≡ true = sym e ∙ t in
-        let k : ltb (length room) (length (octetsOf b)) ≡ false = le-ltb _ _ (let c = l in let g : length (octetsOf b) ≤ length room = omega arith in g) in (
-          ap {B = Written} (λ (x : ℕ). record { refusal = 0; length = x }) l ∙ sym (ap₂ (λ (x y : Bool). pick x (pick y (record { refusal = 23; length = 0 }) (record { refusal = 0; length = length (octetsOf b) })) (record { refusal = 22; length = 0 })) p k),
-          wrote-whole (wrote-as filed w) ∙ sym (ap₂ (λ (x y : Bool). pick x (pick y room (octetsOf b ++ drop (length (octetsOf b)) room)) room) p k),
-        )
+  pub write-done : (now : List ℕ) (f : ℕ) → n ≤ length room → Wrote room 0 (octetsAs (record { state = b .state; table = x; memory = b .memory; names = b .names })) now f → (_≡_ {A = Written} (record { refusal = 0; length = n }) (writtenOf b (length room))) × (now ≡ roomAfter b room)
+  unfolding writtenOf roomAfter pick
+  write-done now f h w =
+      let k : ltb (length room) (length (octetsOf b)) ≡ false = le-ltb _ _ (let c = l in let g : length (octetsOf b) ≤ length room = omega arith in g) in (
+        ap {B = Written} (λ (x : ℕ). record { refusal = 0; length = x }) l ∙ sym (ap₂ (λ (x y : Bool). pick x (pick y (record { refusal = 23; length = 0 }) (record { refusal = 0; length = length (octetsOf b) })) (record { refusal = 22; length = 0 })) p k),
+        wrote-whole (wrote-as filed w) ∙ sym (ap₂ (λ (x y : Bool). pick x (pick y room (octetsOf b ++ drop (length (octetsOf b)) room)) room) p k),
+      )

@@ -9,15 +9,17 @@ mod size;
 
 pub use form::form_of;
 pub use limits::counts_fit;
+pub use load::book_at;
 pub use load::state_at;
 pub use put::put_file;
 pub use size::file_size;
+ghost use mathlib.Core.Bool.{true};
 ghost use mathlib.Core.Path.{_≡_};
 ghost use lib.ListN.{length};
 ghost use Rattle.releases.specs.Whole.{bookB};
 ghost use Rattle.state_file.specs.StateFile.{namesOf, readFile, roomAfter, writtenOf, zeroLedger, zeroMemory, zeroState};
-use crate::load::load;
 use crate::load::refusal;
+use crate::load::refusal_at;
 use crate::load::zero_range;
 use state::LeaseTable;
 use state::Ledger;
@@ -64,7 +66,18 @@ pub fn read(s: &[u8]) -> Loaded
     let Layout::Right(places) = layout else {
         return refusal(20);
     };
-    load(s, places)
+    book_at(s, places)
+}
+
+// What `read` refuses, without the book: 0, 20 or 21.
+pub fn check(s: &[u8]) -> u8
+    ensures { λ r. ⌜ r ≡ readFile (now (s .entry)) .refusal ⌝ }
+{
+    let layout = form_of(s);
+    let Layout::Right(places) = layout else {
+        return 20;
+    };
+    refusal_at(s, places)
 }
 
 // The names of a state file, as the part of it in which they stand; an empty part where its form is wrong. Whether the book is sound, `read` tells.
@@ -92,23 +105,38 @@ pub fn write(
     ensures octets { λ r. ⌜ now (room .exit) ≡ roomAfter (record { state = state; table = table; memory = memory; names = now (names .entry) }) (now (room .entry)) ⌝ }
 {
     if sound_book(state, table, memory, names) {
-        let filed = lease_file::in_file_order(table);
-        let n = file_size(state, filed, memory, names);
-        if room.len() < n {
-            return Written {
-                refusal: 23,
-                length: 0,
-            };
-        }
-        put_file(room, state, filed, memory, names);
-        return Written {
-            refusal: 0,
-            length: n,
-        };
+        return write_sound(state, table, memory, names, room);
     }
     Written {
         refusal: 22,
         length: 0,
+    }
+}
+
+// The same of a book that is known to be sound, with good names: it is not tested.
+pub fn write_sound(
+    state: State,
+    table: LeaseTable,
+    memory: Memory,
+    names: &[u8],
+    room: &mut [u8],
+) -> Written
+    requires { ⌜ bookB (record { state = state; table = table; memory = memory; names = now names }) ≡ true ⌝ }
+    ensures answer { λ r. ⌜ r ≡ writtenOf (record { state = state; table = table; memory = memory; names = now (names .entry) }) (length (now (room .entry))) ⌝ }
+    ensures octets { λ r. ⌜ now (room .exit) ≡ roomAfter (record { state = state; table = table; memory = memory; names = now (names .entry) }) (now (room .entry)) ⌝ }
+{
+    let filed = lease_file::in_file_order(table);
+    let n = file_size(state, filed, memory, names);
+    if room.len() < n {
+        return Written {
+            refusal: 23,
+            length: 0,
+        };
+    }
+    put_file(room, state, filed, memory, names);
+    Written {
+        refusal: 0,
+        length: n,
     }
 }
 

@@ -1,9 +1,12 @@
 // The book of a file whose form is right: the settings, then the leases and holds, then the releases, then soundness, and then the board.
+ghost use mathlib.Core.Bool.{_&&_};
 ghost use mathlib.Core.List.{map};
 ghost use mathlib.Core.Path.{_≡_};
 ghost use Prim.Native.Nat.{_*_, _+_, _≤_};
 ghost use lib.ListN.{getD, length};
 ghost use Rattle.format.specs.Place.{row};
+ghost use Rattle.releases.specs.Rules.{memoryB};
+ghost use Rattle.soundness.specs.Sound.{soundB};
 ghost use Rattle.state.specs.Book.{zeroScope};
 ghost use Rattle.state_file.specs.Place.{Formed, SettingsIn, fileAt, fileScopeAt, rangeAt, stateAt};
 ghost use Rattle.state_file.specs.Records.{filled, storedScope, zeroRange};
@@ -20,7 +23,8 @@ use state::Memory;
 use state::Scope;
 use state::State;
 
-pub fn load(s: &[u8], places: Places) -> Loaded
+// The book of a file by its places, or refusal 21.
+pub fn book_at(s: &[u8], places: Places) -> Loaded
     requires { ⌜ Formed (now s) places ⌝ }
     ensures { λ r. ⌜ r ≡ loaded (fileAt (now (s .entry)) places) ⌝ }
 {
@@ -36,20 +40,50 @@ pub fn load(s: &[u8], places: Places) -> Loaded
 fn judge(state: State, table: LeaseTable, memory: Memory) -> Loaded
     ensures { λ r. ⌜ r ≡ judged state table memory ⌝ }
 {
-    if soundness::sound(state, table) {
-        if releases::sound(state, table, memory) {
-            let board = agreement::build(table);
-            let mut now = memory;
-            now.board = board;
-            return Loaded {
-                refusal: 0,
-                state,
-                table,
-                memory: now,
-            };
-        }
+    if rules_hold(state, table, memory) {
+        let board = agreement::build(table);
+        let mut now = memory;
+        now.board = board;
+        return Loaded {
+            refusal: 0,
+            state,
+            table,
+            memory: now,
+        };
     }
     refusal(21)
+}
+
+// The refusal alone, for who wants no book: no board is made, since none is refused.
+pub fn refusal_at(s: &[u8], places: Places) -> u8
+    requires { ⌜ Formed (now s) places ⌝ }
+    ensures { λ r. ⌜ r ≡ loaded (fileAt (now (s .entry)) places) .refusal ⌝ }
+{
+    if fits(s, places) {
+        let state = state_at(s, places.scopes);
+        let table = lease_file::load(s, places.leases, places.holds);
+        let memory = release_file::load(s, places.releases);
+        return judge_refusal(state, table, memory);
+    }
+    21
+}
+
+fn judge_refusal(state: State, table: LeaseTable, memory: Memory) -> u8
+    ensures { λ r. ⌜ r ≡ judged state table memory .refusal ⌝ }
+{
+    if rules_hold(state, table, memory) {
+        return 0;
+    }
+    21
+}
+
+fn rules_hold(state: State, table: LeaseTable, memory: Memory) -> bool
+    ensures { λ r. ⌜ r ≡ (soundB state table && memoryB state table memory) ⌝ }
+{
+    if soundness::sound(state, table) {
+        return releases::sound(state, table, memory);
+    }
+    false
 }
 
 pub fn refusal(n: u8) -> Loaded

@@ -1,11 +1,11 @@
--- `load` meets its contract: by `loaded-yes`, `loaded-not`, `fileParts`.
+-- `book_at` meets its contract: by `loaded-yes`, `loaded-not`, `fileParts`.
 use Rattle.state_file.proofs.Loads.{fileParts, loaded-not, loaded-yes}
 use borrow.Author.Needs.{needs}
-use Rattle.state_file.proofs.load.load.Statement.{statement}
-use Rattle.state_file.proofs.load.load.Tie as tie
+use Rattle.state_file.proofs.load.book_at.Statement.{statement}
+use Rattle.state_file.proofs.load.book_at.Tie as tie
 
-pub load-spec : {M : Type 1} → statement M
-load-spec =
+pub book-at-spec : {M : Type 1} → statement M
+book-at-spec =
     tie.close
     (tie.spec
     (λ c κs. search needs)  -- src/load.rt:33:8 fits-requires

@@ -1,8 +1,9 @@
-// A list of calls on one book, each a record of octets, answered into a buffer. The book is sound at first; that a call leaves it so is a theorem, so that no
-// call of the list tests it again.
+// Calls on a book that is known to be sound, by value: one call, the writer, and a list of calls, each a record of octets, answered into a buffer. That a call leaves
+// a sound book sound is a theorem, so that neither the calls of a list nor the writer after them tests it again.
 ghost use mathlib.Core.Path.{_≡_};
 ghost use Prim.Native.Nat.{_+_, _≤_, min};
 ghost use lib.ListN.{drop, length};
+ghost use Rattle.records.specs.Lent.{roomLent, writtenLent};
 ghost use Rattle.record_call.specs.Call.{serveLent};
 ghost use Rattle.record_survey.specs.Survey.{SoundFrom};
 ghost use Rattle.reply.specs.Reply.{leastRoom};
@@ -12,6 +13,7 @@ ghost use Rattle.call_list.specs.Promises.{Answers, OwnedSound, Replays}
 use owned::Owned;
 use owned::OwnedCall;
 use state::Ledger;
+use state_file::Written;
 
 // What an answer in a list may take: outcome(1), offset(2), count(1), reply length(2) and the longest reply.
 const ANSWER_ROOM: usize = 6 + reply::LEAST_ROOM;
@@ -53,7 +55,7 @@ fn cut_room(n: usize) -> usize
 }
 
 // The call on a book that is known to be sound, which is not tested: handed on by value, and not lent.
-fn serve_sound(
+pub fn serve_sound(
     o: Owned,
     names: &[u8],
     datagram: &[u8],
@@ -82,6 +84,20 @@ fn serve_sound(
             records: left,
         },
     }
+}
+
+// The writer of a book that is known to be sound, which is not tested: handed on by value, and not lent.
+pub fn write_sound(o: Owned, names: &[u8], room: &mut [u8]) -> Written
+    requires { ⌜ OwnedSound o (now names) ⌝ }
+    ensures answer { λ r. ⌜ r ≡ writtenLent (o .ledger) (o .records .leases) (now (names .entry)) (length (now (room .entry))) ⌝ }
+    ensures octets { λ r. ⌜ now (room .exit) ≡ roomLent (o .ledger) (o .records .leases) (now (names .entry)) (now (room .entry)) ⌝ }
+{
+    let ledger = o.ledger;
+    let records = o.records;
+    let table = records::table_of(records);
+    let state = ledger.state;
+    let memory = ledger.memory;
+    state_file::write_sound(state, table, memory, names, room)
 }
 
 // The call on a sound book, and its answer written from `to` on.
@@ -155,7 +171,8 @@ fn record_size(calls: &[u8], at: usize) -> usize
 // it so (document 01, demand 3): no call tests it again.
 pub fn replay(start: Owned, names: &[u8], calls: &[u8], answers: &mut [u8]) -> Progress
     requires { ⌜ OwnedSound start (now names) ⌝ }
-    ensures { λ r. ⌜ Replays (replayed (length (now (calls .entry))) (start .ledger) (start .records .leases) (now (names .entry)) (now (calls .entry)) (length (now (answers .entry)))) (now (answers .entry)) (now (answers .exit)) r ⌝ }
+    ensures answers { λ r. ⌜ Replays (replayed (length (now (calls .entry))) (start .ledger) (start .records .leases) (now (names .entry)) (now (calls .entry)) (length (now (answers .entry)))) (now (answers .entry)) (now (answers .exit)) r ⌝ }
+    ensures sound { λ r. ⌜ OwnedSound (r .owned) (now (names .entry)) ⌝ }
 {
     let mut o = start;
     let mut at: usize = 0;

@@ -1,23 +1,37 @@
 -- Definitions: what each function promises of its answer and of what was lent to it.
-use Prim.Native.Nat.{ℕ, _≤_}
+use Prim.Native.Nat.{ℕ, _-_, _≤_}
 use mathlib.Core.Path.{_≡_}
 use mathlib.Core.List.{List, [], _∷_, _++_}
 use lib.ListN.{drop, length, take}
 use Rattle.server.specs.declared.Outcome.{Outcome}
 use Rattle.server.specs.Serve.{Said, Tells}
-use Rattle.owned.specs.declared.OwnedFile.{OwnedFile}
+use Rattle.state_file.specs.StateFile.{namesOf, readFile}
+use Rattle.records.specs.Records.{recordsOf}
+use Rattle.embed.specs.declared.Opening.{Opening}
 use Rattle.embed.specs.Embed.{Filed, largestNames, ledgerIn, leasesIn, namesIn, refusalIn}
 
--- the book of the first n octets of a buffer
-pub record Opened (b : List ℕ) (n : ℕ) (r : OwnedFile) : Type 0 where
+-- the book of a file that is opened, and its names by where they stand
+pub record OpenedFile (s : List ℕ) (r : Opening) : Type 0 where
+  pub refusal : r .refusal ≡ readFile s .refusal
+  pub ledger : readFile s .refusal ≡ 0 → r .owned .ledger ≡ record { state = readFile s .state; memory = readFile s .memory }
+  pub leases : readFile s .refusal ≡ 0 → r .owned .records .leases ≡ recordsOf (readFile s .table)
+  pub order : r .from ≤ r .end
+  pub within : r .end ≤ length s
+  pub names : readFile s .refusal ≡ 0 → take (r .end - r .from) (drop (r .from) s) ≡ namesOf s
+
+-- the same of the first n octets of a buffer
+pub record Opened (b : List ℕ) (n : ℕ) (r : Opening) : Type 0 where
   pub refusal : r .refusal ≡ refusalIn b n
   pub ledger : refusalIn b n ≡ 0 → r .owned .ledger ≡ ledgerIn b n
   pub leases : refusalIn b n ≡ 0 → r .owned .records .leases ≡ leasesIn b n
+  pub order : r .from ≤ r .end
+  pub within : r .end ≤ length b
+  pub names : refusalIn b n ≡ 0 → take (r .end - r .from) (drop (r .from) b) ≡ namesIn b n
 
--- its names, copied to the front of another buffer: the first r octets of it. Names longer than `largestNames` are cut there; an accepted file has none so long
-pub record Keeps (b : List ℕ) (n : ℕ) (kept : List ℕ) (r : ℕ) : Type 0 where
+-- names, copied to the front of a buffer: the first r octets of it. Names longer than `largestNames` are cut there; an accepted file has none so long
+pub record Keeps (names kept : List ℕ) (r : ℕ) : Type 0 where
   pub within : r ≤ length kept
-  pub front : n ≤ length b → take r kept ≡ take largestNames (namesIn b n)
+  pub front : take r kept ≡ take largestNames names
 
 -- the file's buffer and length afterwards
 pub record Files (a : Filed) (b : List ℕ) (n : ℕ) : Type 0 where

@@ -2,8 +2,8 @@
 // `banshorra_replay` a campus file is held in a buffer of the caller's, of at least 32,768 octets; `file_length` is the number of its octets, before and
 // after.
 ghost use mathlib.Core.Path.{_≡_};
-ghost use Prim.Native.Nat.{min};
-ghost use lib.ListN.{length};
+ghost use Prim.Native.Nat.{_-_, _≤_, min};
+ghost use lib.ListN.{drop, length, take};
 ghost use Rattle.board_text.specs.Board.{lengthIn, roomWithText};
 ghost use Rattle.state_file.specs.StateFile.{readFile};
 ghost use Rattle.embed.specs.Embed.{largestNames, numberAfter, lengthAfter, serveFile, replayFile};
@@ -12,10 +12,11 @@ ghost use Rattle.salvage_file.specs.Walk.{Salvages};
 ghost use Rattle.server.specs.Serve.{Tells};
 ghost use Rattle.embed.specs.Halves.{judgeFile, replyFile};
 ghost use Rattle.embed.specs.Occupancy.{boardNumber, roomWithBoard};
-ghost use Rattle.embed.specs.Promises.{Keeps, Opened, ServesFile, JudgesFile, ReplaysFile};
-use owned::OwnedFile;
+ghost use Rattle.embed.specs.Promises.{Keeps, Opened, OpenedFile, ServesFile, JudgesFile, ReplaysFile};
+use owned::Owned;
 use server::Outcome;
 use state::Ledger;
+use state_file::Layout;
 use state_file::Written;
 
 // The longest names of an accepted file.
@@ -26,18 +27,55 @@ const BOARD_ROOM: usize = 544;
 
 // ---- a file in a buffer
 
-fn refused(number: u8) -> OwnedFile
-    ensures { λ r. ⌜ r .refusal ≡ number ⌝ }
+// A file that is opened: a refusal or 0, the book, and where in the file its names stand.
+pub struct Opening {
+    pub refusal: u8,
+    pub owned: Owned,
+    pub from: usize,
+    pub end: usize,
+}
+
+fn refused(number: u8) -> Opening
+    ensures { λ r. ⌜ (r .refusal ≡ number) × (r .from ≡ 0) × (r .end ≡ 0) ⌝ }
 {
     let o = owned::blank();
-    OwnedFile {
+    Opening {
         refusal: number,
         owned: o,
+        from: 0,
+        end: 0,
+    }
+}
+
+// The book of a file and the place of its names: the octets are walked once for both.
+fn open(file: &[u8]) -> Opening
+    ensures { λ r. ⌜ OpenedFile (now (file .entry)) r ⌝ }
+{
+    let layout = state_file::form_of(file);
+    let Layout::Right(places) = layout else {
+        return refused(20);
+    };
+    let f = state_file::book_at(file, places);
+    let s = f.state;
+    let m = f.memory;
+    let t = f.table;
+    let records = records::records_of(t);
+    Opening {
+        refusal: f.refusal,
+        owned: Owned {
+            ledger: Ledger {
+                state: s,
+                memory: m,
+            },
+            records: records,
+        },
+        from: places.names,
+        end: places.releases,
     }
 }
 
 // The book of the first n octets of a buffer.
-fn open_in(file: &[u8], n: usize) -> OwnedFile
+fn open_in(file: &[u8], n: usize) -> Opening
     ensures { λ r. ⌜ Opened (now (file .entry)) n r ⌝ }
 {
     if file.len() < state_file::FILE_LIMIT {
@@ -46,7 +84,7 @@ fn open_in(file: &[u8], n: usize) -> OwnedFile
     if file.len() < n {
         return refused(28);
     }
-    owned::open(&file[..n])
+    open(&file[..n])
 }
 
 fn cut_names(n: usize) -> usize
@@ -58,14 +96,12 @@ fn cut_names(n: usize) -> usize
     NAMES_ROOM
 }
 
-// The names in the first n octets of a buffer, copied to the front of another, since the file is written over them; how many octets they are.
-fn keep_names(kept: &mut [u8; NAMES_ROOM], file: &[u8], n: usize) -> usize
-    ensures { λ r. ⌜ Keeps (now (file .entry)) n (now (kept .exit)) r ⌝ }
+// The names of a file, which stand at a place of its buffer, copied to the front of another, since the file is written over them; how many octets they are.
+fn keep_names(kept: &mut [u8; NAMES_ROOM], file: &[u8], from: usize, end: usize) -> usize
+    requires { ⌜ (from ≤ end) × (end ≤ length (now file)) ⌝ }
+    ensures { λ r. ⌜ Keeps (take (end - from) (drop from (now (file .entry)))) (now (kept .exit)) r ⌝ }
 {
-    if file.len() < n {
-        return 0;
-    }
-    let names = state_file::names(&file[..n]);
+    let names = &file[from..end];
     let k = cut_names(names.len());
     octets::put_run(kept, 0, names, k)
 }
@@ -110,7 +146,11 @@ fn write_verdict(file: &[u8], verdict: &[u8; 75], room: &mut [u8]) -> Outcome
     if room.len() < reply::LEAST_ROOM {
         return silent(2);
     }
-    let f = state_file::read(file);
+    let layout = state_file::form_of(file);
+    let Layout::Right(places) = layout else {
+        return silent(20);
+    };
+    let f = state_file::book_at(file, places);
     let refusal = f.refusal;
     if refusal == 0 {
         let s = f.state;
@@ -120,8 +160,9 @@ fn write_verdict(file: &[u8], verdict: &[u8; 75], room: &mut [u8]) -> Outcome
             memory: m,
         };
         let r = verdict_octets::take(verdict);
-        let names = state_file::names(file);
-        return owned::reply(g, r, names, room);
+        let from = places.names;
+        let end = places.releases;
+        return owned::reply(g, r, &file[from..end], room);
     }
     silent(refusal)
 }
@@ -133,8 +174,7 @@ fn write_verdict(file: &[u8], verdict: &[u8; 75], room: &mut [u8]) -> Outcome
 pub extern "C" fn banshorra_check(file: &[u8]) -> u8
     ensures { λ r. ⌜ r ≡ readFile (now (file .entry)) .refusal ⌝ }
 {
-    let r = owned::open(file);
-    r.refusal
+    state_file::check(file)
 }
 
 // The text that `board` prints for a campus file: its length, or 0 where the room is below 1,100 octets.
@@ -191,12 +231,12 @@ pub extern "C" fn banshorra_serve(
     let refusal = f.refusal;
     if refusal == 0 {
         let mut kept = [0u8; NAMES_ROOM];
-        let k = keep_names(&mut kept, file, n);
+        let k = keep_names(&mut kept, file, f.from, f.end);
         let o = f.owned;
-        let r = owned::serve(o, &kept[..k], datagram, client, time, reply);
+        let r = call_list::serve_sound(o, &kept[..k], datagram, client, time, reply);
         let told = r.outcome;
         let b = r.owned;
-        let w = owned::write(b, &kept[..k], file);
+        let w = call_list::write_sound(b, &kept[..k], file);
         *file_length = length_after(w, n);
         *reply_length = told.length;
         *fault_offset = told.offset;
@@ -227,12 +267,12 @@ pub extern "C" fn banshorra_judge(
     let refusal = f.refusal;
     if refusal == 0 {
         let mut kept = [0u8; NAMES_ROOM];
-        let k = keep_names(&mut kept, file, n);
+        let k = keep_names(&mut kept, file, f.from, f.end);
         let o = f.owned;
         let j = owned::judge(o, &kept[..k], datagram, client, time);
         let ruling = j.ruling;
         let b = j.owned;
-        let w = owned::write(b, &kept[..k], file);
+        let w = call_list::write_sound(b, &kept[..k], file);
         verdict_octets::put(verdict, ruling);
         *file_length = length_after(w, n);
         let v = ruling.verdict;
@@ -282,11 +322,11 @@ pub extern "C" fn banshorra_replay(
     let refusal = f.refusal;
     if refusal == 0 {
         let mut kept = [0u8; NAMES_ROOM];
-        let k = keep_names(&mut kept, file, n);
+        let k = keep_names(&mut kept, file, f.from, f.end);
         let o = f.owned;
         let p = call_list::replay(o, &kept[..k], calls, answers);
         let b = p.owned;
-        let w = owned::write(b, &kept[..k], file);
+        let w = call_list::write_sound(b, &kept[..k], file);
         *file_length = length_after(w, n);
         *used = p.used;
         *filled = p.filled;

@@ -15,19 +15,17 @@ use Rattle.server.specs.Serve.{Call}
 use Rattle.state_file.specs.declared.Written.{Written}
 use Rattle.records.specs.Lent.{writtenLent}
 use Rattle.record_verdict.specs.Verdict.{judgeLent, LentJudgement}
-use Rattle.record_call.specs.Call.{LentAnswer, serveLent}
-use Rattle.reply.specs.Reply.{leastRoom}
+use Rattle.record_call.specs.Call.{serveLent}
 use Rattle.lent_guarantee.specs.Statement.{LentDemand1, LentNeverShort, SoundLent}
 use Rattle.lent_guarantee.proofs.Guaranteed.{lent-demand1}
 use Rattle.lent_guarantee.proofs.Halves.{lent-never-short}
 use Rattle.lent_guarantee.proofs.Written.{sound-written}
-use Rattle.record_call.specs.laws.Call.{lent-joined}
 use Rattle.embed.specs.Embed.{called, filed, Filed, kept, ledgerIn, leasesIn, lengthAfter, namesIn, numberAfter, onFile, refusalIn, replayFile, serveFile}
 use Rattle.call_list.specs.CallList.{answerBefore, answerOctets, answerRoom, callIn, cutOff, recordSize, replayed, stopIn, stopped, Worked}
 use Rattle.embed.proofs.Files.{accepted-parts}
 use Rattle.embed.proofs.Judged.{lent-within}
 use Rattle.embed.proofs.Sound.{book-sound}
-use Rattle.call_list.proofs.Sound.{lent, step}
+use Rattle.call_list.proofs.Sound.{judge-step, lent, step}
 use Rattle.embed.specs.Halves.{judged, judgeFile}
 use Rattle.embed_guarantee.specs.Statement.{firstHalf, JudgedNumber, judgedIn, JudgedNumbers, Numbered, ReplayedNumbers, ServedNumbers}
 
@@ -102,20 +100,12 @@ replayed-numbers b n cs room e =
     record { numbered = w; few = ap (λ (k : ℕ). isIn k (0 ∷ 24 ∷ 27 ∷ [])) (w .number) ∙ ends .few }
 
 -- ---- the call in two halves
--- the call in room for a reply
-enough : Call → Call
-enough c = record { datagram = c .datagram; client = c .client; time = c .time; room = leastRoom }
-
 module _ (b : List ℕ) (n : ℕ) (c : Call) (e : refusalIn b n ≡ 0) where
   abbrev first : LentJudgement
   first = judgedIn b n c
 
   judged-sound : SoundLent (lent (first .ledger) (first .leases) (namesIn b n))
-  unfolding lent enough
-  judged-sound =
-      subst (λ (a : LentAnswer). SoundLent (lent (a .ledger) (a .leases) (namesIn b n)))
-      (lent-joined (length (leasesIn b n)) (ledgerIn b n) (leasesIn b n) (namesIn b n) (enough c) (omega arith))
-      (step (ledgerIn b n) (leasesIn b n) (namesIn b n) (enough c) (book-sound b n e))
+  judged-sound = judge-step (ledgerIn b n) (leasesIn b n) (namesIn b n) (c .client) (c .time) (c .datagram) (book-sound b n e)
 
   judged-number : JudgedNumber b n c
   unfolding judgeFile LentNeverShort lent

@@ -8,7 +8,6 @@ use banshorra_host::campus::{Campus, Scope};
 use banshorra_host::message::{self, Message};
 use banshorra_host::message::{DISCOVER, GETINFO, NAK, RELEASE, RENEW, REQUEST};
 use banshorra_host::CampusFile;
-use std::collections::HashMap;
 use std::net::{Ipv4Addr, SocketAddrV4, UdpSocket};
 use std::thread;
 use std::time::{Duration, Instant};
@@ -39,20 +38,21 @@ REQUEST and RELEASE, and with the RELEASE the next DISCOVER; an exchange is DISC
 const CLIENTS: usize = 16;
 /// So much of a rate counts as reached.
 const NEARLY: f64 = 0.98;
-/// So many answers are heard before the time is looked at.
+/// So many answers of a house are heard before the next house's turn.
 const HEARD: usize = 64;
+/// Where no answer has come, the houses are looked at again after so long; the system makes some 80 microseconds of it. Response times are as exact as that.
+const PAUSE: Duration = Duration::from_micros(20);
+/// The same while none is waited for.
+const IDLE: Duration = Duration::from_millis(1);
 
-#[derive(Clone)]
 struct Plan {
     server: SocketAddrV4,
-    clients: usize,
     /// The messages of a turn.
     turn: &'static [u8],
     /// Between the turns that a house begins; none as fast as it goes.
     pace: Option<Duration>,
     seconds: Duration,
     patience: Duration,
-    scopes: Vec<Scope>,
 }
 
 /// What a house's clients saw.
@@ -93,7 +93,6 @@ fn load(args: &Args) -> Result<(), Failure> {
     }
     let plan = Plan {
         server: args.socket("server", Ipv4Addr::LOCALHOST, PORT)?,
-        clients: clients.unwrap_or(4),
         turn: match args.value("mix") {
             None | Some("exchange") => &[DISCOVER, REQUEST, RELEASE],
             Some("all") => &[DISCOVER, REQUEST, RENEW, GETINFO, RELEASE],
@@ -104,22 +103,23 @@ fn load(args: &Args) -> Result<(), Failure> {
         pace: rate.map(|rate| Duration::from_secs_f64(houses as f64 / rate)),
         seconds: Duration::from_secs_f64(seconds),
         patience: Duration::from_millis(args.number("patience")?.unwrap_or(1000).max(1)),
-        scopes: campus.scopes,
     };
-    let mut sockets = vec![];
+    let (began, clients) = (Instant::now(), clients.unwrap_or(4));
+    let mut loads = vec![];
     for &(lowest, highest) in &campus.houses[..houses] {
-        sockets.push(open(Ipv4Addr::from(lowest.saturating_add(5).min(highest)))?);
+        let socket = open(Ipv4Addr::from(lowest.saturating_add(5).min(highest)))?;
+        let clients = (0..clients).map(|client| Client::new(client, plan.turn, &campus.scopes));
+        loads.push(House {
+            socket,
+            clients: clients.collect(),
+            waiting: vec![],
+            seen: Seen::default(),
+            number: 0,
+            next: began,
+        });
     }
-    let began = Instant::now();
-    let houses = sockets.into_iter().map(|socket| {
-        let plan = plan.clone();
-        thread::spawn(move || House::new(plan, socket).run())
-    });
-    let houses: Vec<_> = houses.collect();
-    let seen: Vec<Seen> = houses
-        .into_iter()
-        .map(|house| house.join().expect("no house panics"))
-        .collect();
+    run(&plan, &mut loads);
+    let seen: Vec<Seen> = loads.into_iter().map(|house| house.seen).collect();
     let took = began.elapsed().min(plan.seconds).as_secs_f64();
     print(&report(&seen, took, rate))?;
     match seen.iter().all(|seen| seen.answered == 0) {
@@ -128,8 +128,13 @@ fn load(args: &Args) -> Result<(), Failure> {
     }
 }
 
+/// A socket of a house, which doesn't wait.
 fn open(address: Ipv4Addr) -> Result<UdpSocket, Failure> {
-    UdpSocket::bind((address, 0)).map_err(|error| {
+    let opened = UdpSocket::bind((address, 0)).and_then(|socket| {
+        socket.set_nonblocking(true)?;
+        Ok(socket)
+    });
+    opened.map_err(|error| {
         let hint =
             "the load comes from each house's own addresses, which have to be this machine's";
         Failure::Machine(format!("sending from {address}: {error}; {hint}"))
@@ -185,171 +190,199 @@ fn response(times: &[u32]) -> String {
 
 /// A message that waits for its answer.
 struct Waiting {
+    transaction: u32,
     client: usize,
+    /// Which of the client's two identifiers it has.
+    identifier: usize,
     /// Its place in the turn.
     at: usize,
-    datagram: Vec<u8>,
     first_sent: Instant,
     sent: Instant,
 }
 
-/// A client: whether it is in a turn, and how many it has begun.
-#[derive(Clone, Default)]
 struct Client {
+    /// Whether it is in a turn.
     is_busy: bool,
-    turns: u32,
+    /// Which identifier it has then.
+    identifier: usize,
+    /// The messages of a turn with each of two identifiers, ready but for the transaction id.
+    messages: [Vec<Vec<u8>>; 2],
 }
 
+impl Client {
+    /// Two identifiers in turn: one is given back while the other is asked for. As clients' random ones do, they differ from the front on.
+    fn new(number: usize, turn: &[u8], scopes: &[Scope]) -> Client {
+        let (process, scope) = (std::process::id(), scopes[number % scopes.len()].lowest);
+        let messages = [0, 1].map(|identifier| {
+            let id = format!("\0{number:x}{identifier}-load-{process}").into_bytes();
+            let message = |kind: &u8| {
+                let more = match *kind {
+                    DISCOVER | REQUEST => Some((4, scope.to_be_bytes().to_vec())),
+                    GETINFO => Some((5, vec![0, 9])),
+                    _ => None,
+                };
+                let options: Vec<_> = [(3, id.clone())].into_iter().chain(more).collect();
+                message::draft(*kind, 0, &options)
+            };
+            turn.iter().map(message).collect()
+        });
+        Client {
+            is_busy: false,
+            identifier: 0,
+            messages,
+        }
+    }
+
+    /// Goes into a turn, with the other identifier.
+    fn begin(&mut self) {
+        self.is_busy = true;
+        self.identifier = 1 - self.identifier;
+    }
+}
+
+/// The clients of a house, and what they saw.
 struct House {
-    plan: Plan,
     socket: UdpSocket,
     clients: Vec<Client>,
-    waiting: HashMap<u32, Waiting>,
+    waiting: Vec<Waiting>,
     seen: Seen,
     /// Counts messages, for transaction ids.
     number: u32,
+    /// When the next turn is due.
+    next: Instant,
+}
+
+/// Goes from house to house until the time is over and all is answered. It doesn't wait in a socket: to be woken for each answer would cost a switch each, on a
+/// machine that the server may be on as well.
+fn run(plan: &Plan, houses: &mut [House]) {
+    let began = Instant::now();
+    let (end, patience) = (began + plan.seconds, plan.patience);
+    let (last, mut looked) = (end + 2 * patience, began);
+    loop {
+        let now = Instant::now();
+        let is_over = now >= end;
+        let is_waiting = houses.iter().any(|house| !house.waiting.is_empty());
+        if is_over && (now >= last || !is_waiting) {
+            return;
+        }
+        let mut heard = 0;
+        for house in &mut *houses {
+            if !is_over {
+                house.begin(plan, now);
+            }
+            heard += house.hear(plan, is_over);
+        }
+        if now >= looked + patience / 4 {
+            looked = now;
+            for house in &mut *houses {
+                house.resend(plan);
+            }
+        }
+        if heard == 0 {
+            thread::sleep(if is_waiting { PAUSE } else { IDLE });
+        }
+    }
 }
 
 impl House {
-    fn new(plan: Plan, socket: UdpSocket) -> House {
-        House {
-            clients: vec![Client::default(); plan.clients],
-            waiting: HashMap::new(),
-            seen: Seen::default(),
-            number: 0,
-            plan,
-            socket,
-        }
-    }
-
-    fn run(mut self) -> Seen {
-        let began = Instant::now();
-        let (end, patience) = (began + self.plan.seconds, self.plan.patience);
-        let (last, mut next, mut looked) = (end + 2 * patience, began, began);
-        let _ = self.socket.set_read_timeout(Some(Duration::from_millis(2)));
-        loop {
-            let now = Instant::now();
-            let is_over = now >= end;
-            if is_over && (now >= last || self.waiting.is_empty()) {
-                return self.seen;
-            }
-            if !is_over {
-                self.begin(now, &mut next);
-            }
-            self.hear(is_over);
-            if now >= looked + patience / 4 {
-                looked = now;
-                self.resend();
-            }
-        }
-    }
-
     /// Begins the turns that are due.
-    fn begin(&mut self, now: Instant, next: &mut Instant) {
+    fn begin(&mut self, plan: &Plan, now: Instant) {
         for client in 0..self.clients.len() {
             if self.clients[client].is_busy {
                 continue;
             }
-            if let Some(pace) = self.plan.pace {
-                if now < *next {
+            if let Some(pace) = plan.pace {
+                if now < self.next {
                     return;
                 }
-                *next += pace;
+                self.next += pace;
             }
-            self.clients[client].is_busy = true;
-            self.clients[client].turns += 1;
-            self.send(client, 0);
+            self.clients[client].begin();
+            self.send(plan, client, 0);
         }
     }
 
-    /// Two identifiers in turn: one is given back while the other is asked for. As clients' random ones do, they differ from the front on.
-    fn identifier(&self, client: usize) -> Vec<u8> {
-        let (process, turn) = (std::process::id(), self.clients[client].turns % 2);
-        format!("\0{client:x}{turn}-load-{process}").into_bytes()
-    }
-
-    fn send(&mut self, client: usize, at: usize) {
+    fn send(&mut self, plan: &Plan, client: usize, at: usize) {
         self.number = self.number.wrapping_add(1);
-        let (transaction, kind) = (self.number, self.plan.turn[at]);
-        let scope = &self.plan.scopes[client % self.plan.scopes.len()];
-        let mut options = vec![(3, self.identifier(client))];
-        match kind {
-            DISCOVER | REQUEST => options.push((4, scope.lowest.to_be_bytes().to_vec())),
-            GETINFO => options.push((5, vec![0, 9])),
-            _ => {}
-        }
-        let (datagram, now) = (message::draft(kind, transaction, &options), Instant::now());
-        self.seen.sent += 1;
-        // What could not be sent is as lost as what did not arrive.
-        let _ = self.socket.send_to(&datagram, self.plan.server);
-        self.waiting.insert(
-            transaction,
-            Waiting {
-                client,
-                at,
-                datagram,
-                first_sent: now,
-                sent: now,
-            },
-        );
+        let now = Instant::now();
+        let waiting = Waiting {
+            transaction: self.number,
+            client,
+            identifier: self.clients[client].identifier,
+            at,
+            first_sent: now,
+            sent: now,
+        };
+        self.put(plan, &waiting);
+        self.waiting.push(waiting);
     }
 
-    /// Hears what has come, and goes on with the clients that it is for.
-    fn hear(&mut self, is_over: bool) {
+    fn put(&mut self, plan: &Plan, waiting: &Waiting) {
+        self.seen.sent += 1;
+        let messages = &mut self.clients[waiting.client].messages;
+        let datagram = &mut messages[waiting.identifier][waiting.at];
+        datagram[4..8].copy_from_slice(&waiting.transaction.to_be_bytes());
+        // What could not be sent is as lost as what did not arrive.
+        let _ = self.socket.send_to(datagram, plan.server);
+    }
+
+    /// Hears what has come, and goes on with the clients that it is for. Gives how many answers came.
+    fn hear(&mut self, plan: &Plan, is_over: bool) -> usize {
         let mut room = [0; 2048];
-        // As fast as it goes there is always another.
-        for _ in 0..HEARD {
+        for heard in 0..HEARD {
             let Ok((length, _)) = self.socket.recv_from(&mut room) else {
-                return;
+                return heard;
             };
             let reply = Message(&room[..length]);
-            let answered = reply
-                .transaction()
-                .and_then(|transaction| self.waiting.remove(&transaction));
-            if let Some(asked) = answered {
-                self.go_on(&asked, reply.kind() == NAK, is_over);
+            let transaction = reply.transaction();
+            let place = self
+                .waiting
+                .iter()
+                .position(|waiting| Some(waiting.transaction) == transaction);
+            if let Some(place) = place {
+                let asked = self.waiting.swap_remove(place);
+                self.go_on(plan, &asked, reply.kind() == NAK, is_over);
             }
         }
+        HEARD
     }
 
     /// The next message of a turn. What ends it, the RELEASE, is not waited for: as fast as it goes, the next turn begins with it.
-    fn go_on(&mut self, asked: &Waiting, is_refused: bool, is_over: bool) {
+    fn go_on(&mut self, plan: &Plan, asked: &Waiting, is_refused: bool, is_over: bool) {
         let took = asked.first_sent.elapsed().as_micros();
         self.seen
             .times
             .push(u32::try_from(took).unwrap_or(u32::MAX));
         self.seen.answered += 1;
         self.seen.refused += u64::from(is_refused);
-        let (client, last) = (asked.client, self.plan.turn.len() - 1);
-        self.seen.exchanges +=
-            u64::from(self.plan.turn[asked.at] == REQUEST && !is_refused && !is_over);
+        let (client, last) = (asked.client, plan.turn.len() - 1);
+        self.seen.exchanges += u64::from(plan.turn[asked.at] == REQUEST && !is_refused && !is_over);
         if asked.at == last {
             return;
         }
         if !is_refused {
-            self.send(client, asked.at + 1);
+            self.send(plan, client, asked.at + 1);
         }
         if is_refused || asked.at + 1 == last {
             self.clients[client].is_busy = false;
-            if !is_over && self.plan.pace.is_none() {
-                self.clients[client].is_busy = true;
-                self.clients[client].turns += 1;
-                self.send(client, 0);
+            if !is_over && plan.pace.is_none() {
+                self.clients[client].begin();
+                self.send(plan, client, 0);
             }
         }
     }
 
     /// Sends again what was not answered in time.
-    fn resend(&mut self) {
-        let (now, patience) = (Instant::now(), self.plan.patience);
-        for waiting in self.waiting.values_mut() {
-            if now >= waiting.sent + patience {
+    fn resend(&mut self, plan: &Plan) {
+        let (now, mut waiting) = (Instant::now(), std::mem::take(&mut self.waiting));
+        for waiting in &mut waiting {
+            if now >= waiting.sent + plan.patience {
                 waiting.sent = now;
                 self.seen.lost += 1;
-                self.seen.sent += 1;
-                let _ = self.socket.send_to(&waiting.datagram, self.plan.server);
+                self.put(plan, waiting);
             }
         }
+        self.waiting = waiting;
     }
 }
 

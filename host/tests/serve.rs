@@ -273,6 +273,28 @@ fn any_octets_of_any_length() {
 }
 
 #[test]
+fn what_waits_is_one_list() {
+    let folder = Folder::new("list");
+    let host = Running::start(&folder.campus(), &["--quiet"]);
+    let client = Client::new(1, host.server);
+    host.signal("STOP");
+    for xid in 1..=100 {
+        client.send(&message(GETINFO, xid, b"id", &[]));
+    }
+    host.signal("CONT");
+    for xid in 1..=100 {
+        let reply = client.hear(PATIENCE).expect("an answer");
+        assert_eq!(Message(&reply).transaction(), Some(xid));
+    }
+    let (_, log) = host.end();
+    let last = log.last().expect("a last line");
+    assert!(
+        last.contains("; 100 calls: 100 answered, ") && last.contains("; 1 list, 1 write; "),
+        "{last}"
+    );
+}
+
+#[test]
 fn what_the_system_drops_is_told() {
     let folder = Folder::new("lost");
     let mut host = Running::start(&folder.campus(), &["--quiet"]);
@@ -447,6 +469,53 @@ fn on_disk_before_the_reply() {
         [&written[..], &["sendto"], &written].concat(),
         "{trace}"
     );
+}
+
+#[test]
+fn what_comes_while_the_disk_is_waited_for_is_kept() {
+    let folder = Folder::new("slow");
+    let file = folder.campus();
+    let mut traced = Command::new("strace");
+    let is_there = traced
+        .args(["-f", "--seccomp-bpf", "-e", "trace=fsync"])
+        .args(["-o", "/dev/null", "true"])
+        .stderr(Stdio::null())
+        .status();
+    if !is_there.is_ok_and(|status| status.success()) {
+        println!("not tried: strace doesn't run here");
+        return;
+    }
+    // A disk that takes a second for each of the two flushes.
+    let mut command = Command::new("strace");
+    command
+        .args(["-f", "--seccomp-bpf", "-e", "trace=fsync"])
+        .args(["-e", "inject=fsync:delay_exit=1000000", "-o", "/dev/null"])
+        .args([PROGRAM, "serve"])
+        .arg(&file)
+        .args(["--listen", "127.0.0.1:0"]);
+    let mut host = Running::of(command);
+    let lock = EndedByLock(folder.path("campus.bin.lock"));
+    let client = Client::new(1, host.server);
+    client.send(&message(REQUEST, 1, b"id", &[in_scope(SCOPE)]));
+    // More than a socket's buffer has room for, while the first is on its way to the disk. They are no messages, so that they ask for no flush.
+    let room = fs::read_to_string("/proc/sys/net/core/rmem_default").expect("its size");
+    let calls = room.trim().parse::<u32>().expect("a number") / 500 + 200;
+    for number in 0..calls {
+        client.send(b"hello");
+        if number % 25 == 24 {
+            thread::sleep(Duration::from_millis(20));
+        }
+    }
+    let reply = client.hear(PATIENCE).expect("an answer");
+    assert_eq!(Message(&reply).kind(), ACK);
+    drop(lock);
+    let last = host.line("ended");
+    host.child.wait().expect("it ends");
+    let lost = host.log.iter().filter(|line| line.contains(" lost: "));
+    assert_eq!(lost.count(), 0, "{:#?}", host.log);
+    let all = format!("; {} calls: 1 answered, {calls} discarded", calls + 1);
+    assert!(last.contains(&all), "{last}");
+    assert!(last.contains(" 1 write;"), "{last}");
 }
 
 #[test]

@@ -8,9 +8,10 @@ use crate::store::{failed, Store};
 use banshorra_host::campus::Campus;
 use banshorra_host::library::{note_signals, noted_signal};
 use banshorra_host::{answers, count, utc, Answer, CampusFile, Case, Outcome, ANSWER_ROOM};
-use std::io;
+use std::io::{self, ErrorKind};
 use std::net::{Ipv4Addr, SocketAddrV4, UdpSocket};
 use std::path::Path;
+use std::thread;
 use std::time::{Duration, Instant, SystemTime, UNIX_EPOCH};
 
 pub const COMMAND: Command = Command {
@@ -40,6 +41,9 @@ pub const PORT: u16 = 2535;
 const LOOK: Duration = Duration::from_millis(200);
 /// After a signal the host goes on for so long at most, while datagrams come.
 const LAST: Duration = Duration::from_secs(2);
+/// Between two tries to send where the system has no room for a reply, and so many tries.
+const PAUSE: Duration = Duration::from_millis(1);
+const TRIES: usize = 1000;
 
 /// Now, in whole seconds since 1970.
 pub fn now() -> u32 {
@@ -75,8 +79,8 @@ fn serve(args: &Args) -> Result<(), Failure> {
     let settings =
         Campus::from_octets(&file).map_err(|fault| Failure::Refused(fault.to_string()))?;
     let sockets = open(listen, group, interface)?;
-    let socket = sockets[0].try_clone();
-    let socket = socket.map_err(|error| Failure::Machine(format!("the socket: {error}")))?;
+    let of_socket = |error| Failure::Machine(format!("the socket: {error}"));
+    let socket = sockets[0].try_clone().map_err(of_socket)?;
     let mut host = Host {
         buffers: sockets.iter().map(Buffer::of).collect(),
         looked: Instant::now(),
@@ -84,7 +88,7 @@ fn serve(args: &Args) -> Result<(), Failure> {
         settings,
         store,
         socket,
-        inbox: Inbox::open(sockets),
+        inbox: Inbox::open(sockets).map_err(of_socket)?,
         log: Log::new(form),
         list: List::default(),
         answers: vec![0; inbox::MOST * ANSWER_ROOM],
@@ -346,10 +350,12 @@ fn tell(log: &mut Log, count: &mut Count, socket: &UdpSocket, list: &Answered) {
         match (told.outcome, list.fault) {
             (Outcome::Discard(_), _) => count.discards += 1,
             (Outcome::Reply(_), Some(fault)) => *failed = Some(fault.to_owned()),
-            (Outcome::Reply(reply), None) => match socket.send_to(reply, arrived.from) {
-                Ok(_) => count.replies += 1,
-                Err(error) => *failed = Some(format!("it could not be sent: {error}")),
-            },
+            (Outcome::Reply(reply), None) => {
+                match patiently(|| socket.send_to(reply, arrived.from)) {
+                    Ok(_) => count.replies += 1,
+                    Err(error) => *failed = Some(format!("it could not be sent: {error}")),
+                }
+            }
         }
         count.unanswered += usize::from(failed.is_some());
     }
@@ -380,4 +386,45 @@ fn tell(log: &mut Log, count: &mut Count, socket: &UdpSocket, list: &Answered) {
         log.call(list.settings, book, &told);
     }
     log.flush();
+}
+
+/// Sends by a socket that doesn't wait: what it has no room for goes out as soon as there is some.
+fn patiently<T>(mut send: impl FnMut() -> io::Result<T>) -> io::Result<T> {
+    for _ in 1..TRIES {
+        match send() {
+            Err(error) if error.kind() == ErrorKind::WouldBlock => thread::sleep(PAUSE),
+            other => return other,
+        }
+    }
+    send()
+}
+
+#[cfg(test)]
+mod tests {
+    use super::patiently;
+    use std::io::{Error, ErrorKind};
+
+    #[test]
+    fn a_reply_waits_for_room() {
+        let mut tries = 0;
+        let sent = patiently(|| {
+            tries += 1;
+            match tries {
+                3 => Ok("sent"),
+                _ => Err(Error::from(ErrorKind::WouldBlock)),
+            }
+        });
+        assert_eq!((sent.expect("sent"), tries), ("sent", 3));
+    }
+
+    #[test]
+    fn what_fails_is_not_tried_again() {
+        let mut tries = 0;
+        let sent = patiently(|| {
+            tries += 1;
+            Err::<(), _>(Error::from(ErrorKind::HostUnreachable))
+        });
+        let error = sent.expect_err("it fails");
+        assert_eq!((error.kind(), tries), (ErrorKind::HostUnreachable, 1));
+    }
 }

@@ -102,7 +102,9 @@ impl Store {
                 // Only root can, and only root needs to.
                 let _ = fchown(&file, Some(was.uid()), Some(was.gid()));
             }
-            file.set_permissions(was.permissions())?;
+            if is.permissions() != was.permissions() {
+                file.set_permissions(was.permissions())?;
+            }
         }
         if self.flush {
             file.sync_all()?;

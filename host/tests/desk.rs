@@ -867,6 +867,13 @@ fn a_load() {
         status == 2 && error.contains("--houses takes a number from 1 to 8"),
         "{error}"
     );
+    for patience in ["0", "18446744073709551615"] {
+        let (_, error, status) = said(&run(&["load", name, "--patience", patience]));
+        assert!(
+            status == 2 && error.contains("--patience takes milliseconds, up to an hour"),
+            "{error}"
+        );
+    }
     let foreign = ["load", &sample("campus.bin"), "--seconds", "0.05"];
     let (_, error, status) = said(&run(&foreign));
     assert!(

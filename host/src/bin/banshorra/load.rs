@@ -19,7 +19,8 @@ banshorra load FILE [--server ADDRESS:PORT] [--houses N] [--clients N] [--mix ex
 
 Puts a server under load from clients of the campus's houses, each sending from an address of its house (so try it with a campus whose houses are ranges of
 127.0.0.0/8, as samples/loopback.txt). FILE is the campus file that it serves; only houses and scopes are read from it. A client in turn sends DISCOVER,
-REQUEST and RELEASE, and with the RELEASE the next DISCOVER; an exchange is DISCOVER, OFFER, REQUEST, ACK. It says exchanges a second, what went unanswered, and response times.
+REQUEST and RELEASE, and with the RELEASE the next DISCOVER; an exchange is DISCOVER, OFFER, REQUEST, ACK. It says exchanges a second, what went unanswered, and response times,
+which are right to a tenth of a millisecond.
 
   --server ADDRESS:PORT    the server; 127.0.0.1:2535 if not given
   --houses N               only the first N houses
@@ -40,7 +41,7 @@ const CLIENTS: usize = 16;
 const NEARLY: f64 = 0.98;
 /// So many answers of a house are heard before the next house's turn.
 const HEARD: usize = 64;
-/// Where no answer has come, the houses are looked at again after so long; the system makes some 80 microseconds of it. Response times are as exact as that.
+/// Where no answer has come, the houses are looked at again after so long; the system makes some 80 microseconds of it. Response times are no more exact than that.
 const PAUSE: Duration = Duration::from_micros(20);
 /// The same while none is waited for.
 const IDLE: Duration = Duration::from_millis(1);
@@ -91,6 +92,10 @@ fn load(args: &Args) -> Result<(), Failure> {
     {
         return args.usage("--seconds and --rate take numbers above 0");
     }
+    let patience = args.read_as("patience", "milliseconds, up to an hour", |value| {
+        let number = value.parse().ok();
+        number.filter(|number| (1..=3_600_000).contains(number))
+    })?;
     let plan = Plan {
         server: args.socket("server", Ipv4Addr::LOCALHOST, PORT)?,
         turn: match args.value("mix") {
@@ -102,7 +107,7 @@ fn load(args: &Args) -> Result<(), Failure> {
         },
         pace: rate.map(|rate| Duration::from_secs_f64(houses as f64 / rate)),
         seconds: Duration::from_secs_f64(seconds),
-        patience: Duration::from_millis(args.number("patience")?.unwrap_or(1000).max(1)),
+        patience: Duration::from_millis(patience.unwrap_or(1000)),
     };
     let (began, clients) = (Instant::now(), clients.unwrap_or(4));
     let mut loads = vec![];

@@ -15,6 +15,7 @@ use running::*;
 use std::fs;
 use std::net::UdpSocket;
 use std::os::unix::fs::{MetadataExt, PermissionsExt};
+use std::path::Path;
 use std::process::{Command, Stdio};
 use std::thread;
 use std::time::Duration;
@@ -418,6 +419,26 @@ impl Drop for EndedByLock {
     }
 }
 
+/// A host whose calls of the system are told, delayed or failed by strace; the others don't wait for it. None where it doesn't run.
+fn traced(file: &Path, trace: &Path, options: &[&str]) -> Option<Running> {
+    let strace = || {
+        let mut command = Command::new("strace");
+        command.args(["-f", "--seccomp-bpf"]).args(options);
+        command
+    };
+    let mut tried = strace();
+    tried.args(["-o", "/dev/null", "true"]);
+    let is_there = tried.stderr(Stdio::null()).status();
+    if !is_there.is_ok_and(|status| status.success()) {
+        println!("not tried: strace doesn't run here");
+        return None;
+    }
+    let mut command = strace();
+    command.arg("-o").arg(trace).args([PROGRAM, "serve"]);
+    command.arg(file).args(["--listen", "127.0.0.1:0"]);
+    Some(Running::of(command))
+}
+
 #[test]
 fn on_disk_before_the_reply() {
     let folder = Folder::new("order");
@@ -428,24 +449,9 @@ fn on_disk_before_the_reply() {
         ..loopback()
     };
     fs::write(&file, campus.to_octets()).expect("a campus file");
-    let mut traced = Command::new("strace");
-    let is_there = traced
-        .args(["-o", "/dev/null", "true"])
-        .stderr(Stdio::null())
-        .status();
-    if !is_there.is_ok_and(|status| status.success()) {
-        println!("not tried: strace doesn't run here");
+    let Some(mut host) = traced(&file, &trace, &["-e", "trace=fsync,rename,sendto"]) else {
         return;
-    }
-    let mut command = Command::new("strace");
-    command.arg("-f").arg("-o").arg(&trace).args([
-        "-e",
-        "trace=fsync,rename,sendto",
-        PROGRAM,
-        "serve",
-    ]);
-    command.arg(&file).args(["--listen", "127.0.0.1:0"]);
-    let mut host = Running::of(command);
+    };
     let lock = EndedByLock(folder.path("campus.bin.lock"));
     let client = Client::new(1, host.server);
     client.ask(&message(GETINFO, 1, b"id", &[]));
@@ -475,25 +481,11 @@ fn on_disk_before_the_reply() {
 fn what_comes_while_the_disk_is_waited_for_is_kept() {
     let folder = Folder::new("slow");
     let file = folder.campus();
-    let mut traced = Command::new("strace");
-    let is_there = traced
-        .args(["-f", "--seccomp-bpf", "-e", "trace=fsync"])
-        .args(["-o", "/dev/null", "true"])
-        .stderr(Stdio::null())
-        .status();
-    if !is_there.is_ok_and(|status| status.success()) {
-        println!("not tried: strace doesn't run here");
-        return;
-    }
     // A disk that takes a second for each of the two flushes.
-    let mut command = Command::new("strace");
-    command
-        .args(["-f", "--seccomp-bpf", "-e", "trace=fsync"])
-        .args(["-e", "inject=fsync:delay_exit=1000000", "-o", "/dev/null"])
-        .args([PROGRAM, "serve"])
-        .arg(&file)
-        .args(["--listen", "127.0.0.1:0"]);
-    let mut host = Running::of(command);
+    let slow = ["-e", "trace=fsync", "-e", "inject=fsync:delay_exit=1000000"];
+    let Some(mut host) = traced(&file, Path::new("/dev/null"), &slow) else {
+        return;
+    };
     let lock = EndedByLock(folder.path("campus.bin.lock"));
     let client = Client::new(1, host.server);
     client.send(&message(REQUEST, 1, b"id", &[in_scope(SCOPE)]));
@@ -522,24 +514,9 @@ fn what_comes_while_the_disk_is_waited_for_is_kept() {
 fn signals_are_noted_before_the_lock() {
     let folder = Folder::new("noted");
     let (file, trace) = (folder.campus(), folder.path("trace.txt"));
-    let mut traced = Command::new("strace");
-    let is_there = traced
-        .args(["-o", "/dev/null", "true"])
-        .stderr(Stdio::null())
-        .status();
-    if !is_there.is_ok_and(|status| status.success()) {
-        println!("not tried: strace doesn't run here");
+    let Some(mut host) = traced(&file, &trace, &["-e", "trace=rt_sigaction,flock"]) else {
         return;
-    }
-    let mut command = Command::new("strace");
-    command.arg("-f").arg("-o").arg(&trace).args([
-        "-e",
-        "trace=rt_sigaction,flock",
-        PROGRAM,
-        "serve",
-    ]);
-    command.arg(&file).args(["--listen", "127.0.0.1:0"]);
-    let mut host = Running::of(command);
+    };
     drop(EndedByLock(folder.path("campus.bin.lock")));
     host.line("ended");
     host.child.wait().expect("it ends");
@@ -578,6 +555,53 @@ fn a_folder_that_cannot_be_written() {
     let reply = client.ask(&message(REQUEST, 2, b"second", &[in_scope(SCOPE)]));
     assert_eq!(Message(&reply).kind(), ACK);
     assert_eq!(on_disk(&file).leases.len(), 2);
+}
+
+#[test]
+fn a_rename_that_fails() {
+    let folder = Folder::new("rename");
+    let file = folder.campus();
+    let mut host = Running::start(&file, &[]);
+    let client = Client::new(1, host.server);
+    // No file can be put in a folder's place.
+    fs::remove_file(&file).expect("removed");
+    fs::create_dir(&file).expect("a folder");
+    let request = message(REQUEST, 1, b"id", &[in_scope(SCOPE)]);
+    client.send(&request);
+    assert!(host.line("fault").contains("could not be written"));
+    assert_eq!(client.hear(Duration::from_millis(200)), None);
+    assert!(!folder.path("campus.bin.new").exists());
+    fs::remove_dir(&file).expect("removed");
+    assert_eq!(Message(&client.ask(&request)).kind(), ACK);
+    assert_eq!(on_disk(&file).leases.len(), 1);
+}
+
+#[test]
+fn a_folder_that_cannot_be_flushed() {
+    let folder = Folder::new("unflushed");
+    let file = folder.campus();
+    // The second flush of all is that of the folder.
+    let fails = ["-e", "trace=fsync", "-e", "inject=fsync:error=EIO:when=2"];
+    let Some(mut host) = traced(&file, Path::new("/dev/null"), &fails) else {
+        return;
+    };
+    let lock = EndedByLock(folder.path("campus.bin.lock"));
+    let client = Client::new(1, host.server);
+    let request = message(REQUEST, 1, b"id", &[in_scope(SCOPE)]);
+    client.send(&request);
+    assert!(host.line("fault").contains("could not be written"));
+    assert_eq!(client.hear(Duration::from_millis(200)), None);
+    // Either file may be on disk. What changes nothing is written before its answer as well, and the call that was not answered has left nothing.
+    let reply = client.ask(&message(RENEW, 2, b"id", &[]));
+    assert_eq!(Message(&reply).error(), Some(3));
+    assert_eq!(on_disk(&file).leases.len(), 0);
+    assert_eq!(Message(&client.ask(&request)).kind(), ACK);
+    assert_eq!(on_disk(&file).leases.len(), 1);
+    drop(lock);
+    assert!(host
+        .line("ended")
+        .contains("1 not answered; 3 lists, 2 writes;"));
+    host.child.wait().expect("it ends");
 }
 
 #[test]

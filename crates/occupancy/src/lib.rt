@@ -1,13 +1,13 @@
 // The occupancy board by value (document 02, W-207): for each scope and each of its addresses the owning tenant, or none, and the number of leases on it,
 // and for each tenant in the scope its holding. A lease added or removed alters only the entries of its addresses and its tenant's holding.
 ghost use mathlib.Core.Path.{_≡_};
-ghost use Prim.Native.Nat.{_+_, _-_, _<_, min};
+ghost use Prim.Native.Nat.{_+_, _-_, _<_, _≤_, min};
 ghost use lib.Dec.{eqb};
 ghost use Rattle.lists.specs.Fold.{fold};
 ghost use Rattle.lists.specs.Same.{sameBy};
 ghost use Rattle.address_set.specs.AddressSet.{offsets};
-ghost use Rattle.occupancy.specs.Split.{Splits};
-ghost use Rattle.occupancy.specs.Board.{noBoard, moreOn, lessOn, grown, shrunk, laidOn, liftedOff, addedTo, takenFrom, placeIn, scopeBoardAt, entryAt, heldIn, sameEntry, sameScopeBoard, sameBoard};
+ghost use Rattle.occupancy.specs.Split.{Runs, Splits, gained, raised};
+ghost use Rattle.occupancy.specs.Board.{noBoard, moreOn, lessOn, shrunk, laidOn, liftedOff, addedTo, takenFrom, placeIn, scopeBoardAt, entryAt, heldIn, sameEntry, sameScopeBoard, sameBoard};
 use address_set::Range;
 
 // An address: its owner, a tenant counted from 1, or 0 for none, and the number of leases on it.
@@ -73,13 +73,24 @@ fn less(e: Entry) -> Entry
     }
 }
 
-fn grow(count: u8, held: u8) -> u8
-    ensures { λ r. ⌜ r ≡ grown count held ⌝ }
+// What an entry with so many leases adds to the holding of the tenant that gets one more on it: an address where there was none.
+fn gain(count: u8) -> u8
+    ensures { λ r. ⌜ (r ≡ gained count) × (r ≤ 1) ⌝ }
 {
     if count == 0 {
-        return up(held);
+        return 1;
     }
-    held
+    0
+}
+
+// A holding with so many addresses more.
+fn raise(held: u8, by: u8) -> u8
+    ensures { λ r. ⌜ r ≡ raised held by ⌝ }
+{
+    if held < 255 - by {
+        return held + by;
+    }
+    255
 }
 
 fn shrink(count: u8, held: u8) -> u8
@@ -110,7 +121,28 @@ fn split(set: u64) -> Lowest
     }
 }
 
-// One lease more on each offset of a set.
+// The first range of a set, its end not included, and the offsets behind it.
+struct Run {
+    first: usize,
+    end: usize,
+    rest: u64,
+}
+
+fn split_run(set: u64) -> Run
+    requires { ⌜ 0 < set ⌝ }
+    ensures { λ r. ⌜ Runs set r ⌝ }
+{
+    let r = address_set::first_range(set);
+    let rest = address_set::rest(set, r);
+    Run {
+        first: r.first as usize,
+        end: (r.first as usize) + (r.count as usize),
+        rest: rest,
+    }
+}
+
+// One lease more on each offset of a set, range by range: what the holding gains is counted beside the entries of a range, so that they don't wait for it and
+// several are altered at a time.
 pub fn lay(v: ScopeBoard, g: usize, set: u64) -> ScopeBoard
     requires { ⌜ g < 8 ⌝ }
     ensures { λ r. ⌜ r ≡ fold (laidOn g) v (offsets set) ⌝ }
@@ -118,14 +150,20 @@ pub fn lay(v: ScopeBoard, g: usize, set: u64) -> ScopeBoard
     let mut now = v;
     let mut left = set;
     while 0 < left {
-        let o = split(left);
-        let a = o.at;
-        let e = now.entries[a];
-        let x = more(g, e);
-        let d = grow(e.count, now.held[g]);
-        now.entries[a] = x;
+        let r = split_run(left);
+        let end = r.end;
+        let mut a = r.first;
+        let mut gains: u8 = 0;
+        while a < end {
+            let e = now.entries[a];
+            let x = more(g, e);
+            gains += gain(e.count);
+            now.entries[a] = x;
+            a += 1;
+        }
+        let d = raise(now.held[g], gains);
         now.held[g] = d;
-        left = o.rest;
+        left = r.rest;
     }
     now
 }

@@ -1,0 +1,14 @@
+-- `raise` meets its contract: by its test.
+use Rattle.occupancy.specs.laws.Loop.{gains}
+use borrow.Author.Needs.{needs}
+use Rattle.occupancy.proofs.raise.Statement.{statement}
+use Rattle.occupancy.proofs.raise.Tie as tie
+
+pub raise-spec : {M : Type 1} → statement M
+raise-spec =
+    tie.close
+    (tie.spec
+    (λ c. search needs)  -- src/lib.rt:90:15 sub-if1
+    (λ c. search needs)  -- src/lib.rt:91:16 add-result
+    (λ c. search (gains, needs))  -- src/lib.rt:91:9 returns
+    (λ c. search (gains, needs)))  -- src/lib.rt:87:1 returns-2

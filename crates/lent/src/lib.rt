@@ -1,18 +1,15 @@
 // The product's entry points: the ledger, document 01's record of clock and settings with what is remembered and the board, lent by `&mut` and updated where it
-// stands, and its lease records lent as a slice. Each is a few whole values and calls; but for the copying loops of `load` and `store`, every decision is made by value in `records`
-// and below. Their proofs are walks by hand.
+// stands, and its lease records lent as a slice. Each is a few whole values and calls: every decision is made by value in `records`, `record_call` and below, and
+// `lent_steps` copies the records and raises the clock. Their proofs are walks by hand.
 ghost use mathlib.Core.Path.{_≡_};
 ghost use lib.ListN.{length, take};
 ghost use Rattle.occupancy.specs.Board.{scopeBoardAt, entryAt, heldIn};
-ghost use Rattle.state.specs.Book.{raisedIn};
 ghost use Rattle.server.specs.Serve.{Tells};
 ghost use Rattle.server.specs.Halves.{writeOf};
-ghost use Rattle.records.specs.Records.{first128, covered};
 ghost use Rattle.records.specs.Lent.{readLent, ReadsLent, writtenLent, roomLent, findLent, insertLent, removeLent};
 ghost use Rattle.record_call.specs.Call.{serveLent, ServesLent};
 ghost use Rattle.record_verdict.specs.Verdict.{judgeLent, JudgesLent};
 use occupancy::Entry;
-use records::Records;
 use server::Outcome;
 use server::Ruling;
 use state::Lease;
@@ -20,46 +17,12 @@ use state::Ledger;
 use state::Lookup;
 use state_file::Written;
 
-// Raises the clock where it stands.
-pub fn advance(ledger: &mut Ledger, time: u32)
-    ensures { λ _. ⌜ now (ledger .exit) ≡ raisedIn (now (ledger .entry)) time ⌝ }
-{
-    let c = arithmetic::larger(ledger.state.clock, time);
-    ledger.state.clock = c;
-}
-
-// The first 128 records of a slice; unused ones where it has fewer.
-pub fn load(leases: &[Lease]) -> Records
-    ensures { λ r. ⌜ r .leases ≡ first128 (now (leases .entry)) ⌝ }
-{
-    let mut now = records::no_records();
-    let n = records::cut128(leases.len());
-    let mut i: usize = 0;
-    while i < n {
-        now.leases[i] = leases[i];
-        i += 1;
-    }
-    now
-}
-
-// Lays 128 records over a slice; what lies past them is left.
-pub fn store(leases: &mut [Lease], records: Records)
-    ensures { λ _. ⌜ now (leases .exit) ≡ covered (now (leases .entry)) (records .leases) ⌝ }
-{
-    let n = records::cut128(leases.len());
-    let mut i: usize = 0;
-    while i < n {
-        leases[i] = records.leases[i];
-        i += 1;
-    }
-}
-
 // The place of an identifier among the records of tenant h, counted from 0, and how many of them were compared with it. Not found where it has none, and
 // none compared for no tenant and of another number of records than 128.
 pub fn find(leases: &[Lease], h: usize, id: [u8; 32], len: u8) -> Lookup
     ensures { λ r. ⌜ r ≡ findLent h (take len id) (now (leases .entry)) ⌝ }
 {
-    let all = load(leases);
+    let all = lent_steps::load(leases);
     records::find(all, leases.len(), h, id, len)
 }
 
@@ -69,9 +32,9 @@ pub fn find(leases: &[Lease], h: usize, id: [u8; 32], len: u8) -> Lookup
 pub fn insert(leases: &mut [Lease], h: usize, l: Lease)
     ensures { λ _. ⌜ now (leases .exit) ≡ insertLent h l (now (leases .entry)) ⌝ }
 {
-    let all = load(leases);
+    let all = lent_steps::load(leases);
     let x = records::insert(all, leases.len(), h, l);
-    store(leases, x);
+    lent_steps::store(leases, x);
 }
 
 // The lease of an identifier goes from among those of tenant h; its records past its first unused one become unused. For no tenant, and of
@@ -79,9 +42,9 @@ pub fn insert(leases: &mut [Lease], h: usize, l: Lease)
 pub fn remove(leases: &mut [Lease], h: usize, id: [u8; 32], len: u8)
     ensures { λ _. ⌜ now (leases .exit) ≡ removeLent h (take len id) (now (leases .entry)) ⌝ }
 {
-    let all = load(leases);
+    let all = lent_steps::load(leases);
     let x = records::remove(all, leases.len(), h, id, len);
-    store(leases, x);
+    lent_steps::store(leases, x);
 }
 
 // What the occupancy board has on address a of scope k, both counted from 0, without the records: no owner and no lease where there is no such
@@ -115,11 +78,11 @@ pub fn serve(
     ensures { λ r. ⌜ ServesLent (serveLent (now (ledger .entry)) (now (leases .entry)) (now (names .entry)) (record { datagram = now (datagram .entry); client = client; time = time; room = length (now (reply .entry)) })) (now (ledger .exit)) (now (leases .exit)) (now (reply .entry)) (now (reply .exit)) r ⌝ }
 {
     let g = *ledger;
-    let all = load(leases);
+    let all = lent_steps::load(leases);
     let r = record_call::serve(g, all, leases.len(), names, datagram, client, time, reply);
     ledger.memory = r.memory;
-    advance(ledger, r.clock);
-    store(leases, r.records);
+    lent_steps::advance(ledger, r.clock);
+    lent_steps::store(leases, r.records);
     r.outcome
 }
 
@@ -136,11 +99,11 @@ pub fn judge(
     ensures { λ r. ⌜ JudgesLent (judgeLent (now (ledger .entry)) (now (leases .entry)) (now (names .entry)) client time (now (datagram .entry))) (now (ledger .exit)) (now (leases .exit)) r ⌝ }
 {
     let g = *ledger;
-    let all = load(leases);
+    let all = lent_steps::load(leases);
     let r = record_verdict::judge(g, all, leases.len(), names, datagram, client, time);
     ledger.memory = r.memory;
-    advance(ledger, r.clock);
-    store(leases, r.records);
+    lent_steps::advance(ledger, r.clock);
+    lent_steps::store(leases, r.records);
     r.ruling
 }
 
@@ -159,10 +122,10 @@ pub fn read(file: &[u8], ledger: &mut Ledger, leases: &mut [Lease]) -> u8
     ensures { λ r. ⌜ ReadsLent (readLent (now (file .entry)) (now (ledger .entry)) (now (leases .entry))) (now (ledger .exit)) (now (leases .exit)) r ⌝ }
 {
     let g = *ledger;
-    let all = load(leases);
+    let all = lent_steps::load(leases);
     let r = records::read(file, g, all, leases.len());
     *ledger = r.ledger;
-    store(leases, r.records);
+    lent_steps::store(leases, r.records);
     r.refusal
 }
 
@@ -173,6 +136,6 @@ pub fn write(ledger: &Ledger, leases: &[Lease], names: &[u8], room: &mut [u8]) -
     ensures octets { λ r. ⌜ now (room .exit) ≡ roomLent (now (ledger .entry)) (now (leases .entry)) (now (names .entry)) (now (room .entry)) ⌝ }
 {
     let g = *ledger;
-    let all = load(leases);
+    let all = lent_steps::load(leases);
     records::write(g, all, leases.len(), names, room)
 }

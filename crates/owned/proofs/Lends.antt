@@ -10,7 +10,7 @@
 --     whole1, whole2, rec, own         values and types that are put together of parts.        records-parts, owned-parts, typed-part, typed-whole     the machine values of a `Records` and of an `Owned` are such values
 -- A step has its items at the head of the context, in this order, and the rest of the context is as it was.
 -- Assumes `Given`.
-use Rattle.lent.proofs.Walk.{Ty, _≡_, refl, sym, _∙_, subst, ℕ, arith, List, [], _∷_, map, length, length-map, URA, fullShare, erased, tyArray, Val, WT, hasTy, vptr, Lft, GName, Fml, feq, fsep, fat, flft, fres, flent, Heap, Atoms, Given, Item, Goal, Soaks, Seq, Step, step, ‵, _⊛_, some, later, _$_, move, drop, use1, use3, split, pick, rewrite, fsplit, fjoin, fpick, fpack, feqI, await, cells, Arr, arr-parts, lft-new, lft-end, lent-back, RattleType, Is, shows, cellAt, partAt, shares, partOf, Array, array-makes, array-apart, array-whole, row, whole-in, whole-out, lends-ref, ref-back, lends-slice, slice-back, lends-shr-slice, RefT, MutRef, ShrRef, sliceVal, MutSlice, ShrSlice, Room, finally, owned, facts, field, shape, spelt, struct-makes}
+use Rattle.lent_steps.proofs.Walk.{Ty, _≡_, refl, sym, _∙_, subst, ℕ, arith, List, [], _∷_, map, length, length-map, URA, fullShare, erased, tyArray, Val, WT, hasTy, vptr, Lft, GName, Fml, feq, fsep, fat, flft, fres, flent, Heap, Atoms, Given, Item, Goal, Soaks, Seq, Step, step, ‵, _⊛_, some, later, _$_, move, drop, use1, use3, split, pick, rewrite, fsplit, fjoin, fpick, fpack, feqI, await, cells, Arr, arr-parts, lft-new, lft-end, lent-back, RattleType, Is, shows, cellAt, partAt, shares, partOf, Array, array-makes, array-apart, array-whole, row, whole-in, whole-out, lends-ref, ref-back, lends-slice, slice-back, lends-shr-slice, RefT, MutRef, ShrRef, sliceVal, MutSlice, ShrSlice, Room, finally, owned, facts, field, shape, spelt, struct-makes}
 use lib.Dec.{T as Holds}
 use mir.Syntax.{Sym, tyStruct, tcons, tnil}
 use mir.Val.{vstruct, vcons, vnil}
@@ -27,7 +27,7 @@ use Rattle.state.proofs.Ledger.Laws as T′
 use Rattle.records.specs.declared.Records.{Records}
 use Rattle.records.proofs.Records as N
 use Rattle.records.proofs.Records.Laws as N′
-use Rattle.lent.proofs.Local.{of-tuples, to-tuples}
+use Rattle.lent_steps.proofs.Local.{of-tuples, to-tuples}
 use Rattle.owned.specs.declared.Owned.{Owned}
 use Rattle.owned.proofs.Owned as O
 use Rattle.owned.proofs.Owned.Laws as O′

@@ -1,5 +1,5 @@
 -- Definitions: the entry points on a lent ledger, document 01's record of clock and settings with what is remembered (document 02, W-202), and lent lease
--- records (document 01, "How it is to be built"): what each answers, and the ledger and the records afterwards. A house is a tenant here. A slice has "always 128" records; "another number makes the book unsound (1, 21 or 22)".
+-- records (document 01, "How it is to be built"): what each answers, and the ledger and the records afterwards; of the call this is in `record_verdict` and `record_call`. A house is a tenant here. A slice has "always 128" records; "another number makes the book unsound (1, 21 or 22)".
 use Prim.Native.Nat.{ℕ}
 use mathlib.Core.Path.{_≡_}
 use mathlib.Core.Bool.{Bool}

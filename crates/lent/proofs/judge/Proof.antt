@@ -2,7 +2,7 @@
 -- The memory that came back is stored in the ledger, whose borrow then goes to `advance` with the clock that came back, and the slice to `store` with the records that came back; the verdict is handed on whole. Of each callee the proof knows only that it meets its contract.
 -- The ledger is passed on at its own lifetime, share and ghost name, so what `advance` says of its last value is said of this (`gave-ref`). Nothing is kept of the `&` of the datagram and of the names.
 -- The walk has three parts: `came-back` begins where `records::judge` is back, and `keep-on` where its answer has landed.
-use Rattle.lent.proofs.Walk.{stands, tyOf, after, holds, bare, Idle, spot, idle, ends1, ends4, Go, Seq, Ty, runs, lands, atRet, _≡_, refl, ap, ℕ, _<_, _^_, [], _∷_, List, length, URA, fullShare, named, w32, w64, Val, vint, vptr, SProp, ent, emp, via, fst∗, snd∗, exE, id⊢, Lft, Share, GName, ftrue, flft, fres, fat, Memory, Routine, Heap, Calls, Loops, WpFn, Atoms, sem, Fun, fact, givenOf, tables, tablesOf, Given, ‵, raw, _⊛_, some, later, ⋆, _$_, _∵_, !, qed, by, move, keep, drop, use1, group, split, join, pick, rewrite, fsplit, fjoin, suffices, frame, await, done, look, look-raw, init, store, stop, hop, fld, from, load, of-opd, addr, and-then, no-more, assigns, land, returns, enter, alloc1, alloc0, params1, pass1, pass0, free0, whole, sub, look-in, agg, FmC, owns, Is, shows, uint-makes, uint-vals, uint-tells, nothing-lawful, usize, u8, u32, RefT, MutRef, ptr-vals, mut-tells, slice-vals, shr-slice-tells, mut-slice-tells, MutSlice, ShrSlice, Room, only, owned, peeks, heard, nothing, plain, shrSliceOf, Contract, Triple, calls-at, onEntry, tripleOf, cited, says, Stays, stay-dropped, stay-slice, gave-ref, walkOf, AllGo, goes-dropped, goes-slice, goes-gave-ref, Walks, ends-at, walked, ensured, lasts, yes}
+use Rattle.lent_steps.proofs.Walk.{stands, tyOf, after, holds, bare, Idle, spot, idle, ends1, ends4, Go, Seq, Ty, runs, lands, atRet, _≡_, refl, ap, ℕ, _<_, _^_, [], _∷_, List, length, URA, fullShare, named, w32, w64, Val, vint, vptr, SProp, ent, emp, via, fst∗, snd∗, exE, id⊢, Lft, Share, GName, ftrue, flft, fres, fat, Memory, Routine, Heap, Calls, Loops, WpFn, Atoms, sem, Fun, fact, givenOf, tables, tablesOf, Given, ‵, raw, _⊛_, some, later, ⋆, _$_, _∵_, !, qed, by, move, keep, drop, use1, group, split, join, pick, rewrite, fsplit, fjoin, suffices, frame, await, done, look, look-raw, init, store, stop, hop, fld, from, load, of-opd, addr, and-then, no-more, assigns, land, returns, enter, alloc1, alloc0, params1, pass1, pass0, free0, whole, sub, look-in, agg, FmC, owns, Is, shows, uint-makes, uint-vals, uint-tells, nothing-lawful, usize, u8, u32, RefT, MutRef, ptr-vals, mut-tells, slice-vals, shr-slice-tells, mut-slice-tells, MutSlice, ShrSlice, Room, only, owned, peeks, heard, nothing, plain, shrSliceOf, Contract, Triple, calls-at, onEntry, tripleOf, cited, says, Stays, stay-dropped, stay-slice, gave-ref, walkOf, AllGo, goes-dropped, goes-slice, goes-gave-ref, Walks, ends-at, walked, ensured, lasts, yes}
 use mir.Syntax.{Sym, place, tyStruct, tcons, tnil}
 use mir.Val.{vstruct, vcons, vnil}
 use denote.Struct.Laws as LL
@@ -30,17 +30,17 @@ use Rattle.record_verdict.proofs.judge as judge′
 use Rattle.record_verdict.proofs.judge.Symbol as judge-def
 use Rattle.record_verdict.proofs.judge.Symbol.{name as #record-verdict·judge}
 use Rattle.record_verdict.proofs.judge.Met as judge-thm
-use Rattle.lent.proofs.Slices.{Load, Store, Mut, ref, word, loads, stores}
-use Rattle.lent.proofs.Ledgers.{Advance, Held, ref-ledger, word-ledger, with-memory, opens-ledger, closes-ledger, stores-memory, advances}
-use Rattle.lent.proofs.advance.Symbol as advance-def
-use Rattle.lent.proofs.advance.Symbol.{name as #lent·advance}
-use Rattle.lent.proofs.advance.Met as advance-thm
-use Rattle.lent.proofs.load.Symbol as load-def
-use Rattle.lent.proofs.load.Symbol.{name as #lent·load}
-use Rattle.lent.proofs.load.Met as load-thm
-use Rattle.lent.proofs.store.Symbol as store-def
-use Rattle.lent.proofs.store.Symbol.{name as #lent·store}
-use Rattle.lent.proofs.store.Met as store-thm
+use Rattle.lent_steps.proofs.Slices.{Load, Store, Mut, ref, word, loads, stores}
+use Rattle.lent_steps.proofs.Ledgers.{Advance, Held, ref-ledger, word-ledger, with-memory, opens-ledger, closes-ledger, stores-memory, advances}
+use Rattle.lent_steps.proofs.advance.Symbol as advance-def
+use Rattle.lent_steps.proofs.advance.Symbol.{name as #lent-steps·advance}
+use Rattle.lent_steps.proofs.advance.Met as advance-thm
+use Rattle.lent_steps.proofs.load.Symbol as load-def
+use Rattle.lent_steps.proofs.load.Symbol.{name as #lent-steps·load}
+use Rattle.lent_steps.proofs.load.Met as load-thm
+use Rattle.lent_steps.proofs.store.Symbol as store-def
+use Rattle.lent_steps.proofs.store.Symbol.{name as #lent-steps·store}
+use Rattle.lent_steps.proofs.store.Met as store-thm
 use Rattle.lent.proofs.judge.Key.{name as #lent·judge}
 use Rattle.lent.proofs.judge as f
 use Rattle.lent.proofs.judge.Statement as stated
@@ -147,8 +147,8 @@ module _ {M : Type 1} (𝓤 : URA M) (H : Heap 𝓤) (A : Atoms 𝓤) (W : Given
   parts : (r : JudgedRecords) (w : Val) → Is Z.the-row r (w ∷ []) → Parts r
   parts r w is = LL.owed Z.the-type Z′.the-laws r (w ∷ []) is
 
-  module _ (C : Calls 𝓤 H) (Λ : Loops 𝓤 H) (fm : FmC 𝓤 H (W .laws) C) (known-load : Triple 𝓤 (C #lent·load) (Load 𝓤 H A mem run)) (known-judge : Triple 𝓤 (C #record-verdict·judge) (Judge 𝓤 H A mem run))
-      (known-advance : Triple 𝓤 (C #lent·advance) (Advance 𝓤 H A mem run)) (known-store : Triple 𝓤 (C #lent·store) (Store 𝓤 H A mem run)) where
+  module _ (C : Calls 𝓤 H) (Λ : Loops 𝓤 H) (fm : FmC 𝓤 H (W .laws) C) (known-load : Triple 𝓤 (C #lent-steps·load) (Load 𝓤 H A mem run)) (known-judge : Triple 𝓤 (C #record-verdict·judge) (Judge 𝓤 H A mem run))
+      (known-advance : Triple 𝓤 (C #lent-steps·advance) (Advance 𝓤 H A mem run)) (known-store : Triple 𝓤 (C #lent-steps·store) (Store 𝓤 H A mem run)) where
     -- once `records::judge` has given back z: its memory is stored in the ledger, whose borrow goes to `advance`, its records go to `store`, and its verdict, at the machine value v, is handed on whole. Q is what the function has to end in
     keep-on : (l₀ l₄ l₅ l₉ l₁₃ l₁₄ l₁₅ l₁₆ : ℕ) (u₁ u₂ u₃ u₆ u₇ u₈ u₁₀ u₁₁ u₁₂ : Idle) (ν : Sym) (τc τm τr : Ty) (x : Val) (Q : Val → SProp 𝓤) (z : JudgedRecords)
         → Is O.the-row (z .ruling) (LL.vals O.the-type O′.the-laws (z .ruling)) → z .clock < 2 ^ 32 → Is Y.the-row (z .memory) (LL.vals Y.the-type Y′.the-laws (z .memory)) → Is N.the-row (z .records) (x ∷ []) → Room R.the-row (length ys)
@@ -226,7 +226,7 @@ module _ {M : Type 1} (𝓤 : URA M) (H : Heap 𝓤) (A : Atoms 𝓤) (W : Given
         came-back l₀ l₄ l₅ l₉ l₁₃ l₁₄ l₁₅ l₁₆ (_, l₁, _) (_, l₂, _) (_, l₃, _) (_, l₆, _) (_, l₇, _) (_, l₈, _) (_, l₁₀, _) (_, l₁₁, _) (_, l₁₂, _) r₁ w₁ w₂ e₁ room₂))))))))))))))))))))
 
 module _ {M : Type 1} (𝓤 : URA M) (H : Heap 𝓤) (A : Atoms 𝓤) (W : Given 𝓤 H A) (mem : Memory → SProp 𝓤) (run : Routine → Fun 𝓤) where
-  walks : (C : Calls 𝓤 H) (Λ : Loops 𝓤 H) → FmC 𝓤 H (W .laws) C → Triple 𝓤 (C #lent·load) (Load 𝓤 H A mem run) → Triple 𝓤 (C #record-verdict·judge) (Judge 𝓤 H A mem run) → Triple 𝓤 (C #lent·advance) (Advance 𝓤 H A mem run) → Triple 𝓤 (C #lent·store) (Store 𝓤 H A mem run)
+  walks : (C : Calls 𝓤 H) (Λ : Loops 𝓤 H) → FmC 𝓤 H (W .laws) C → Triple 𝓤 (C #lent-steps·load) (Load 𝓤 H A mem run) → Triple 𝓤 (C #record-verdict·judge) (Judge 𝓤 H A mem run) → Triple 𝓤 (C #lent-steps·advance) (Advance 𝓤 H A mem run) → Triple 𝓤 (C #lent-steps·store) (Store 𝓤 H A mem run)
       → Walks 𝓤 H A f.ended stayed (WpFn 𝓤 H C Λ code.function) (f.clauses 𝓤 H A mem run)
   walks C Λ fm k₁ k₂ k₃ k₄ = walked 𝓤 H A f.ended stayed (f.clauses 𝓤 H A mem run) (WpFn 𝓤 H C Λ code.function)
       (λ κs. (slice-vals, (uint-vals w32, (uint-vals w32, (ptr-vals, (slice-vals, (slice-vals, tt)))))))
@@ -253,7 +253,7 @@ unfolding code.routine tablesOf
 judge-spec 𝓤 H 𝓜 𝓖 𝓡 =
     stands 𝓤 H (𝓖 .A) (givenOf 𝓤 H 𝓜 𝓖) f.ended stayed (f.clauses 𝓤 H (𝓖 .A) (𝓜 .mem) (𝓡 .run)) (tablesOf 𝓤 H 𝓜 (tables 𝓤 H 𝓜 𝓡 code.env)) #lent·judge code.function (code.unfolded 𝓤 H 𝓜 𝓡)
     (goes 𝓤 H (𝓖 .A) (givenOf 𝓤 H 𝓜 𝓖) (𝓜 .mem) (𝓡 .run)) (λ fm. walks 𝓤 H (𝓖 .A) (givenOf 𝓤 H 𝓜 𝓖) (𝓜 .mem) (𝓡 .run) _ _ fm
-    (cited 𝓤 H (Load 𝓤 H (𝓖 .A) (𝓜 .mem) (𝓡 .run)) 𝓜 𝓡 code.env #lent·load load-def.routine code.calls-lent·load (load-thm.met 𝓤 H 𝓜 𝓖 𝓡))
+    (cited 𝓤 H (Load 𝓤 H (𝓖 .A) (𝓜 .mem) (𝓡 .run)) 𝓜 𝓡 code.env #lent-steps·load load-def.routine code.calls-lent-steps·load (load-thm.met 𝓤 H 𝓜 𝓖 𝓡))
     (cited 𝓤 H (Judge 𝓤 H (𝓖 .A) (𝓜 .mem) (𝓡 .run)) 𝓜 𝓡 code.env #record-verdict·judge judge-def.routine code.calls-record-verdict·judge (judge-thm.met 𝓤 H 𝓜 𝓖 𝓡))
-    (cited 𝓤 H (Advance 𝓤 H (𝓖 .A) (𝓜 .mem) (𝓡 .run)) 𝓜 𝓡 code.env #lent·advance advance-def.routine code.calls-lent·advance (advance-thm.met 𝓤 H 𝓜 𝓖 𝓡))
-    (cited 𝓤 H (Store 𝓤 H (𝓖 .A) (𝓜 .mem) (𝓡 .run)) 𝓜 𝓡 code.env #lent·store store-def.routine code.calls-lent·store (store-thm.met 𝓤 H 𝓜 𝓖 𝓡)))
+    (cited 𝓤 H (Advance 𝓤 H (𝓖 .A) (𝓜 .mem) (𝓡 .run)) 𝓜 𝓡 code.env #lent-steps·advance advance-def.routine code.calls-lent-steps·advance (advance-thm.met 𝓤 H 𝓜 𝓖 𝓡))
+    (cited 𝓤 H (Store 𝓤 H (𝓖 .A) (𝓜 .mem) (𝓡 .run)) 𝓜 𝓡 code.env #lent-steps·store store-def.routine code.calls-lent-steps·store (store-thm.met 𝓤 H 𝓜 𝓖 𝓡)))

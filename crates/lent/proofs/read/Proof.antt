@@ -1,7 +1,7 @@
 -- `lent::read` meets its contract: a walk of its MIR, by hand. The ledger's borrow is opened and the ledger copied out; `load` gives the records of the slice by value; `records::read` gets the file and both.
 -- The ledger that came back is stored as a whole, and the borrow is closed at it; the records that came back go to `store`. Of each callee the proof knows only that it meets its contract.
 -- Nothing is kept of the `&` of the file, which `records::read` gets at its own lifetime and share. The walk has two parts: `store-on` begins where the ledger is stored.
-use Rattle.lent.proofs.Walk.{stands, tyOf, after, holds, bare, Idle, spot, idle, Go, Seq, Item, Ty, runs, atRet, _≡_, refl, ap, ℕ, _<_, _^_, [], _∷_, List, length, URA, fullShare, named, w8, w64, Val, vint, vptr, SProp, ent, sep, emp, via, fst∗, snd∗, exE, id⊢, Lft, Share, GName, ftrue, flft, fat, Memory, Routine, Heap, Calls, Loops, WpFn, Atoms, sem, Fun, fact, givenOf, tables, tablesOf, Given, ‵, raw, _⊛_, some, later, ⋆, _$_, _∵_, !, qed, by, move, keep, drop, use1, use2, split, join, pick, rewrite, fsplit, fjoin, suffices, frame, await, done, look, look-raw, init, store-raw, stop, hop, fld, from, load, of-opd, addr, and-then, no-more, assigns, land, returns, enter, alloc1, alloc0, params1, pass1, pass0, ends1, ends4, free0, whole, sub, look-in, agg, FmC, owns, Is, shows, uint-makes, nothing-lawful, usize, u8, RefT, MutRef, ptr-vals, mut-tells, slice-vals, shr-slice-tells, mut-slice-tells, MutSlice, ShrSlice, Room, only, owned, peeks, heard, nothing, plain, shrSliceOf, Contract, Triple, calls-at, onEntry, tripleOf, cited, says, Stays, stay-dropped, stay-ref, stay-slice, walkOf, AllGo, goes-dropped, goes-ref, goes-slice, Walks, ends-at, walked, ensured, lasts, yes}
+use Rattle.lent_steps.proofs.Walk.{stands, tyOf, after, holds, bare, Idle, spot, idle, Go, Seq, Item, Ty, runs, atRet, _≡_, refl, ap, ℕ, _<_, _^_, [], _∷_, List, length, URA, fullShare, named, w8, w64, Val, vint, vptr, SProp, ent, sep, emp, via, fst∗, snd∗, exE, id⊢, Lft, Share, GName, ftrue, flft, fat, Memory, Routine, Heap, Calls, Loops, WpFn, Atoms, sem, Fun, fact, givenOf, tables, tablesOf, Given, ‵, raw, _⊛_, some, later, ⋆, _$_, _∵_, !, qed, by, move, keep, drop, use1, use2, split, join, pick, rewrite, fsplit, fjoin, suffices, frame, await, done, look, look-raw, init, store-raw, stop, hop, fld, from, load, of-opd, addr, and-then, no-more, assigns, land, returns, enter, alloc1, alloc0, params1, pass1, pass0, ends1, ends4, free0, whole, sub, look-in, agg, FmC, owns, Is, shows, uint-makes, nothing-lawful, usize, u8, RefT, MutRef, ptr-vals, mut-tells, slice-vals, shr-slice-tells, mut-slice-tells, MutSlice, ShrSlice, Room, only, owned, peeks, heard, nothing, plain, shrSliceOf, Contract, Triple, calls-at, onEntry, tripleOf, cited, says, Stays, stay-dropped, stay-ref, stay-slice, walkOf, AllGo, goes-dropped, goes-ref, goes-slice, Walks, ends-at, walked, ensured, lasts, yes}
 use mir.Syntax.{Sym, tyStruct, tcons, tnil}
 use mir.Val.{vstruct, vcons, vnil}
 use denote.Struct.Laws as LL
@@ -24,14 +24,14 @@ use Rattle.records.proofs.read as read′
 use Rattle.records.proofs.read.Symbol as read-def
 use Rattle.records.proofs.read.Symbol.{name as #records·read}
 use Rattle.records.proofs.read.Met as read-thm
-use Rattle.lent.proofs.Slices.{Load, Store, Mut, ref, word, loads, stores}
-use Rattle.lent.proofs.Ledgers.{Held, ref-ledger, word-ledger, opens-ledger, closes-ledger}
-use Rattle.lent.proofs.load.Symbol as load-def
-use Rattle.lent.proofs.load.Symbol.{name as #lent·load}
-use Rattle.lent.proofs.load.Met as load-thm
-use Rattle.lent.proofs.store.Symbol as store-def
-use Rattle.lent.proofs.store.Symbol.{name as #lent·store}
-use Rattle.lent.proofs.store.Met as store-thm
+use Rattle.lent_steps.proofs.Slices.{Load, Store, Mut, ref, word, loads, stores}
+use Rattle.lent_steps.proofs.Ledgers.{Held, ref-ledger, word-ledger, opens-ledger, closes-ledger}
+use Rattle.lent_steps.proofs.load.Symbol as load-def
+use Rattle.lent_steps.proofs.load.Symbol.{name as #lent-steps·load}
+use Rattle.lent_steps.proofs.load.Met as load-thm
+use Rattle.lent_steps.proofs.store.Symbol as store-def
+use Rattle.lent_steps.proofs.store.Symbol.{name as #lent-steps·store}
+use Rattle.lent_steps.proofs.store.Met as store-thm
 use Rattle.lent.proofs.read.Key.{name as #lent·read}
 use Rattle.lent.proofs.read as f
 use Rattle.lent.proofs.read.Statement as stated
@@ -115,7 +115,7 @@ module _ {M : Type 1} (𝓤 : URA M) (H : Heap 𝓤) (A : Atoms 𝓤) (W : Given
   parts : (r : ReadRecords) (w : Val) → Is Z.the-row r (w ∷ []) → Parts r
   parts r w is = LL.owed Z.the-type Z′.the-laws r (w ∷ []) is
 
-  module _ (C : Calls 𝓤 H) (Λ : Loops 𝓤 H) (fm : FmC 𝓤 H (W .laws) C) (known-load : Triple 𝓤 (C #lent·load) (Load 𝓤 H A mem run)) (known-read : Triple 𝓤 (C #records·read) (Read 𝓤 H A mem run)) (known-store : Triple 𝓤 (C #lent·store) (Store 𝓤 H A mem run)) where
+  module _ (C : Calls 𝓤 H) (Λ : Loops 𝓤 H) (fm : FmC 𝓤 H (W .laws) C) (known-load : Triple 𝓤 (C #lent-steps·load) (Load 𝓤 H A mem run)) (known-read : Triple 𝓤 (C #records·read) (Read 𝓤 H A mem run)) (known-store : Triple 𝓤 (C #lent-steps·store) (Store 𝓤 H A mem run)) where
     -- from where the ledger that came back is stored: the records r that came back go to `store`. X is the ledger's borrow, Q what the function has to end in
     store-on : (l₀ l₃ l₆ l₁₀ l₁₁ l₁₂ : ℕ) (u₁ u₂ u₄ u₅ u₇ u₈ u₉ : Idle) (ν : Sym) (τg τr : Ty) (g x : Val) (X : Item 𝓤) (Q : Val → SProp 𝓤) (r : Records) (n : ℕ) → n < 2 ^ 8 → Is N.the-row r (x ∷ []) → Room R.the-row (length ys)
         → ((zs : List Lease) → length zs ≡ length ys → zs ≡ covered ys (r .leases)
@@ -171,7 +171,7 @@ module _ {M : Type 1} (𝓤 : URA M) (H : Heap 𝓤) (A : Atoms 𝓤) (W : Given
         (λ zs len e₃. exits (r₂ .refusal) (r₂ .ledger) zs (parts r₂ w₂ is₂ .0 .1) (read-lent (readFile os) h ys e₁ e₂ refl e₃ refl) len))))))))))))))))))))
 
 module _ {M : Type 1} (𝓤 : URA M) (H : Heap 𝓤) (A : Atoms 𝓤) (W : Given 𝓤 H A) (mem : Memory → SProp 𝓤) (run : Routine → Fun 𝓤) where
-  walks : (C : Calls 𝓤 H) (Λ : Loops 𝓤 H) → FmC 𝓤 H (W .laws) C → Triple 𝓤 (C #lent·load) (Load 𝓤 H A mem run) → Triple 𝓤 (C #records·read) (Read 𝓤 H A mem run) → Triple 𝓤 (C #lent·store) (Store 𝓤 H A mem run)
+  walks : (C : Calls 𝓤 H) (Λ : Loops 𝓤 H) → FmC 𝓤 H (W .laws) C → Triple 𝓤 (C #lent-steps·load) (Load 𝓤 H A mem run) → Triple 𝓤 (C #records·read) (Read 𝓤 H A mem run) → Triple 𝓤 (C #lent-steps·store) (Store 𝓤 H A mem run)
       → Walks 𝓤 H A f.ended stayed (WpFn 𝓤 H C Λ code.function) (f.clauses 𝓤 H A mem run)
   walks C Λ fm k₁ k₂ k₃ = walked 𝓤 H A f.ended stayed (f.clauses 𝓤 H A mem run) (WpFn 𝓤 H C Λ code.function)
       (λ κs. (slice-vals, (ptr-vals, (slice-vals, tt)))) (λ κs. (shr-slice-tells (named 0) (κs .0) u8, (mut-tells (named 1) (κs .1 .0) T.the-row, (mut-slice-tells (named 2) (κs .1 .1 .0) R.the-row, tt))))
@@ -187,6 +187,6 @@ unfolding code.routine tablesOf
 read-spec 𝓤 H 𝓜 𝓖 𝓡 =
     stands 𝓤 H (𝓖 .A) (givenOf 𝓤 H 𝓜 𝓖) f.ended stayed (f.clauses 𝓤 H (𝓖 .A) (𝓜 .mem) (𝓡 .run)) (tablesOf 𝓤 H 𝓜 (tables 𝓤 H 𝓜 𝓡 code.env)) #lent·read code.function (code.unfolded 𝓤 H 𝓜 𝓡)
     (goes 𝓤 H (𝓖 .A) (givenOf 𝓤 H 𝓜 𝓖) (𝓜 .mem) (𝓡 .run)) (λ fm. walks 𝓤 H (𝓖 .A) (givenOf 𝓤 H 𝓜 𝓖) (𝓜 .mem) (𝓡 .run) _ _ fm
-    (cited 𝓤 H (Load 𝓤 H (𝓖 .A) (𝓜 .mem) (𝓡 .run)) 𝓜 𝓡 code.env #lent·load load-def.routine code.calls-lent·load (load-thm.met 𝓤 H 𝓜 𝓖 𝓡))
+    (cited 𝓤 H (Load 𝓤 H (𝓖 .A) (𝓜 .mem) (𝓡 .run)) 𝓜 𝓡 code.env #lent-steps·load load-def.routine code.calls-lent-steps·load (load-thm.met 𝓤 H 𝓜 𝓖 𝓡))
     (cited 𝓤 H (Read 𝓤 H (𝓖 .A) (𝓜 .mem) (𝓡 .run)) 𝓜 𝓡 code.env #records·read read-def.routine code.calls-records·read (read-thm.met 𝓤 H 𝓜 𝓖 𝓡))
-    (cited 𝓤 H (Store 𝓤 H (𝓖 .A) (𝓜 .mem) (𝓡 .run)) 𝓜 𝓡 code.env #lent·store store-def.routine code.calls-lent·store (store-thm.met 𝓤 H 𝓜 𝓖 𝓡)))
+    (cited 𝓤 H (Store 𝓤 H (𝓖 .A) (𝓜 .mem) (𝓡 .run)) 𝓜 𝓡 code.env #lent-steps·store store-def.routine code.calls-lent-steps·store (store-thm.met 𝓤 H 𝓜 𝓖 𝓡)))

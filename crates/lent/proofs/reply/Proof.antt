@@ -1,6 +1,6 @@
 -- `lent::reply` meets its contract: a walk of its MIR, by hand. The state is copied out of the ledger's `&` and goes with the verdict, the names and the room to `server::write`, of which the proof knows only that it meets its contract.
 -- The room is passed on at its own lifetime, share and ghost name, so what `server::write` says of the last octets is said of the room's (`gave-slice`); nothing is kept of the two `&`.
-use Rattle.lent.proofs.Walk.{stands, ends4, _≡_, ℕ, [], _∷_, List, length, URA, named, Val, vptr, SProp, ent, emp, via, fst∗, id⊢, Lft, Share, GName, Fml, ftrue, flft, Memory, Routine, Heap, Calls, Loops, WpFn, Atoms, Fun, fact, givenOf, tables, tablesOf, Given, ‵, raw, _⊛_, some, later, ⋆, _$_, _∵_, !, qed, by, move, keep, drop, use1, group, split, join, pick, fsplit, fjoin, feqL, suffices, frame, await, done, look, init, stop, hop, fld, from, load, of-opd, addr, and-then, no-more, assigns, land, returns, enter, alloc1, alloc0, params1, pass1, pass0, free0, whole, sub, look-in, agg, FmC, owns, Is, shows, u8, refl, RefT, ShrRef, ptr-vals, shr-tells, slice-vals, shr-slice-tells, mut-slice-tells, MutSlice, ShrSlice, Room, finally, owned, peeks, heard, nothing, plain, shrRefTo, shrSliceOf, Contract, Triple, calls-at, onEntry, tripleOf, cited, says, Stays, stay-dropped, gave-slice, walkOf, AllGo, goes-dropped, goes-gave-slice, Walks, ends-at, walked, ensured, lasts, yes}
+use Rattle.lent_steps.proofs.Walk.{stands, ends4, _≡_, ℕ, [], _∷_, List, length, URA, named, Val, vptr, SProp, ent, emp, via, fst∗, id⊢, Lft, Share, GName, Fml, ftrue, flft, Memory, Routine, Heap, Calls, Loops, WpFn, Atoms, Fun, fact, givenOf, tables, tablesOf, Given, ‵, raw, _⊛_, some, later, ⋆, _$_, _∵_, !, qed, by, move, keep, drop, use1, group, split, join, pick, fsplit, fjoin, feqL, suffices, frame, await, done, look, init, stop, hop, fld, from, load, of-opd, addr, and-then, no-more, assigns, land, returns, enter, alloc1, alloc0, params1, pass1, pass0, free0, whole, sub, look-in, agg, FmC, owns, Is, shows, u8, refl, RefT, ShrRef, ptr-vals, shr-tells, slice-vals, shr-slice-tells, mut-slice-tells, MutSlice, ShrSlice, Room, finally, owned, peeks, heard, nothing, plain, shrRefTo, shrSliceOf, Contract, Triple, calls-at, onEntry, tripleOf, cited, says, Stays, stay-dropped, gave-slice, walkOf, AllGo, goes-dropped, goes-gave-slice, Walks, ends-at, walked, ensured, lasts, yes}
 use denote.Struct.Laws as LL
 use Rattle.state.specs.declared.Ledger.{Ledger}
 use Rattle.state.specs.declared.State.{State}
@@ -19,8 +19,8 @@ use Rattle.server.proofs.write as write′
 use Rattle.server.proofs.write.Symbol as write-def
 use Rattle.server.proofs.write.Symbol.{name as #server·write}
 use Rattle.server.proofs.write.Met as write-thm
-use Rattle.lent.proofs.Slices.{word}
-use Rattle.lent.proofs.Ledgers.{ref-ledger, word-state, state-is, looks-parts, shuts-parts}
+use Rattle.lent_steps.proofs.Slices.{word}
+use Rattle.lent_steps.proofs.Ledgers.{ref-ledger, word-state, state-is, looks-parts, shuts-parts}
 use Rattle.lent.proofs.reply.Key.{name as #lent·reply}
 use Rattle.lent.proofs.reply as f
 use Rattle.lent.proofs.reply.Statement as stated

@@ -2,7 +2,7 @@
 -- The memory that came back is stored in the ledger, whose borrow then goes to `advance` with the clock that came back, and the slice to `store` with the records that came back. Of each callee the proof knows only that it meets its contract.
 -- The reply buffer and the ledger are passed on at their own lifetimes, shares and ghost names, so what the callees say of their last values is said of these (`gave-slice`, `gave-ref`). Nothing is kept of the `&` of the datagram.
 -- The walk has two parts: `keep-on` begins where `records::serve` has given back its answer.
-use Rattle.lent.proofs.Walk.{stands, tyOf, after, holds, bare, Idle, spot, idle, ends4, Go, Seq, Item, Ty, runs, atRet, _≡_, refl, ap, ℕ, _<_, _^_, [], _∷_, List, length, URA, fullShare, named, w32, w64, Val, vint, vptr, SProp, ent, emp, via, fst∗, id⊢, Lft, Share, GName, Fml, ftrue, flft, fres, fat, Memory, Routine, Heap, Calls, Loops, WpFn, Atoms, Fun, fact, givenOf, tables, tablesOf, Given, ‵, raw, _⊛_, some, later, ⋆, _$_, _∵_, !, qed, by, move, keep, drop, use1, group, split, join, pick, rewrite, fsplit, fjoin, feqL, suffices, frame, await, done, look, look-raw, init, store, stop, hop, fld, from, load, of-opd, addr, and-then, no-more, assigns, land, returns, enter, alloc1, alloc0, params1, pass1, pass0, free0, whole, sub, look-in, agg, FmC, owns, Is, shows, uint-makes, uint-vals, uint-tells, nothing-lawful, usize, u8, u32, RefT, MutRef, ptr-vals, mut-tells, slice-vals, shr-slice-tells, mut-slice-tells, MutSlice, ShrSlice, Room, finally, only, owned, peeks, heard, nothing, plain, shrSliceOf, Contract, Triple, calls-at, onEntry, tripleOf, cited, says, Stays, stay-dropped, stay-slice, gave-ref, gave-slice, walkOf, AllGo, goes-dropped, goes-slice, goes-gave-ref, goes-gave-slice, Walks, ends-at, walked, ensured, lasts, yes}
+use Rattle.lent_steps.proofs.Walk.{stands, tyOf, after, holds, bare, Idle, spot, idle, ends4, Go, Seq, Item, Ty, runs, atRet, _≡_, refl, ap, ℕ, _<_, _^_, [], _∷_, List, length, URA, fullShare, named, w32, w64, Val, vint, vptr, SProp, ent, emp, via, fst∗, id⊢, Lft, Share, GName, Fml, ftrue, flft, fres, fat, Memory, Routine, Heap, Calls, Loops, WpFn, Atoms, Fun, fact, givenOf, tables, tablesOf, Given, ‵, raw, _⊛_, some, later, ⋆, _$_, _∵_, !, qed, by, move, keep, drop, use1, group, split, join, pick, rewrite, fsplit, fjoin, feqL, suffices, frame, await, done, look, look-raw, init, store, stop, hop, fld, from, load, of-opd, addr, and-then, no-more, assigns, land, returns, enter, alloc1, alloc0, params1, pass1, pass0, free0, whole, sub, look-in, agg, FmC, owns, Is, shows, uint-makes, uint-vals, uint-tells, nothing-lawful, usize, u8, u32, RefT, MutRef, ptr-vals, mut-tells, slice-vals, shr-slice-tells, mut-slice-tells, MutSlice, ShrSlice, Room, finally, only, owned, peeks, heard, nothing, plain, shrSliceOf, Contract, Triple, calls-at, onEntry, tripleOf, cited, says, Stays, stay-dropped, stay-slice, gave-ref, gave-slice, walkOf, AllGo, goes-dropped, goes-slice, goes-gave-ref, goes-gave-slice, Walks, ends-at, walked, ensured, lasts, yes}
 use mir.Syntax.{Sym, tyStruct, tcons, tnil}
 use mir.Val.{vstruct, vcons, vnil}
 use denote.Struct.Laws as LL
@@ -31,17 +31,17 @@ use Rattle.record_call.proofs.serve as serve′
 use Rattle.record_call.proofs.serve.Symbol as serve-def
 use Rattle.record_call.proofs.serve.Symbol.{name as #record-call·serve}
 use Rattle.record_call.proofs.serve.Met as serve-thm
-use Rattle.lent.proofs.Slices.{Load, Store, Mut, ref, word, loads, stores}
-use Rattle.lent.proofs.Ledgers.{Advance, Held, ref-ledger, word-ledger, with-memory, opens-ledger, closes-ledger, stores-memory, advances}
-use Rattle.lent.proofs.advance.Symbol as advance-def
-use Rattle.lent.proofs.advance.Symbol.{name as #lent·advance}
-use Rattle.lent.proofs.advance.Met as advance-thm
-use Rattle.lent.proofs.load.Symbol as load-def
-use Rattle.lent.proofs.load.Symbol.{name as #lent·load}
-use Rattle.lent.proofs.load.Met as load-thm
-use Rattle.lent.proofs.store.Symbol as store-def
-use Rattle.lent.proofs.store.Symbol.{name as #lent·store}
-use Rattle.lent.proofs.store.Met as store-thm
+use Rattle.lent_steps.proofs.Slices.{Load, Store, Mut, ref, word, loads, stores}
+use Rattle.lent_steps.proofs.Ledgers.{Advance, Held, ref-ledger, word-ledger, with-memory, opens-ledger, closes-ledger, stores-memory, advances}
+use Rattle.lent_steps.proofs.advance.Symbol as advance-def
+use Rattle.lent_steps.proofs.advance.Symbol.{name as #lent-steps·advance}
+use Rattle.lent_steps.proofs.advance.Met as advance-thm
+use Rattle.lent_steps.proofs.load.Symbol as load-def
+use Rattle.lent_steps.proofs.load.Symbol.{name as #lent-steps·load}
+use Rattle.lent_steps.proofs.load.Met as load-thm
+use Rattle.lent_steps.proofs.store.Symbol as store-def
+use Rattle.lent_steps.proofs.store.Symbol.{name as #lent-steps·store}
+use Rattle.lent_steps.proofs.store.Met as store-thm
 use Rattle.lent.proofs.serve.Key.{name as #lent·serve}
 use Rattle.lent.proofs.serve as f
 use Rattle.lent.proofs.serve.Statement as stated
@@ -164,8 +164,8 @@ module _ {M : Type 1} (𝓤 : URA M) (H : Heap 𝓤) (A : Atoms 𝓤) (W : Given
   parts : (r : ServedRecords) (w : Val) → Is Z.the-row r (w ∷ []) → Parts r
   parts r w is = LL.owed Z.the-type Z′.the-laws r (w ∷ []) is
 
-  module _ (C : Calls 𝓤 H) (Λ : Loops 𝓤 H) (fm : FmC 𝓤 H (W .laws) C) (known-load : Triple 𝓤 (C #lent·load) (Load 𝓤 H A mem run)) (known-serve : Triple 𝓤 (C #record-call·serve) (Serve 𝓤 H A mem run))
-      (known-advance : Triple 𝓤 (C #lent·advance) (Advance 𝓤 H A mem run)) (known-store : Triple 𝓤 (C #lent·store) (Store 𝓤 H A mem run)) where
+  module _ (C : Calls 𝓤 H) (Λ : Loops 𝓤 H) (fm : FmC 𝓤 H (W .laws) C) (known-load : Triple 𝓤 (C #lent-steps·load) (Load 𝓤 H A mem run)) (known-serve : Triple 𝓤 (C #record-call·serve) (Serve 𝓤 H A mem run))
+      (known-advance : Triple 𝓤 (C #lent-steps·advance) (Advance 𝓤 H A mem run)) (known-store : Triple 𝓤 (C #lent-steps·store) (Store 𝓤 H A mem run)) where
     -- once `records::serve` has given back z: its memory is stored in the ledger, whose borrow goes to `advance`, its records go to `store`, and its outcome is handed on whole. X says the last octets of the reply buffer, and Q is what the function has
     -- to end in
     keep-on : (l₀ l₄ l₅ l₁₀ l₁₆ l₁₇ l₁₈ l₁₉ : ℕ) (u₁ u₂ u₃ u₆ u₇ u₈ u₉ u₁₁ u₁₂ u₁₃ u₁₄ u₁₅ : Idle) (ν : Sym) (τc τm τr : Ty) (x : Val) (X : Item 𝓤) (Q : Val → SProp 𝓤) (z : ServedRecords)
@@ -238,7 +238,7 @@ module _ {M : Type 1} (𝓤 : URA M) (H : Heap 𝓤) (A : Atoms 𝓤) (W : Given
         (λ h′ zs e₃ len e₄. exits (r₂ .outcome) h′ zs (us .1 .1 .1 .1 .1 .1 .1 .0) (parts r₂ w₂ is₂ .0) (served-lent h ys names c e₁ e₂ e₃ e₄ refl) len len₂)))))))))))))))))))))))))))))
 
 module _ {M : Type 1} (𝓤 : URA M) (H : Heap 𝓤) (A : Atoms 𝓤) (W : Given 𝓤 H A) (mem : Memory → SProp 𝓤) (run : Routine → Fun 𝓤) where
-  walks : (C : Calls 𝓤 H) (Λ : Loops 𝓤 H) → FmC 𝓤 H (W .laws) C → Triple 𝓤 (C #lent·load) (Load 𝓤 H A mem run) → Triple 𝓤 (C #record-call·serve) (Serve 𝓤 H A mem run) → Triple 𝓤 (C #lent·advance) (Advance 𝓤 H A mem run) → Triple 𝓤 (C #lent·store) (Store 𝓤 H A mem run)
+  walks : (C : Calls 𝓤 H) (Λ : Loops 𝓤 H) → FmC 𝓤 H (W .laws) C → Triple 𝓤 (C #lent-steps·load) (Load 𝓤 H A mem run) → Triple 𝓤 (C #record-call·serve) (Serve 𝓤 H A mem run) → Triple 𝓤 (C #lent-steps·advance) (Advance 𝓤 H A mem run) → Triple 𝓤 (C #lent-steps·store) (Store 𝓤 H A mem run)
       → Walks 𝓤 H A f.ended stayed (WpFn 𝓤 H C Λ code.function) (f.clauses 𝓤 H A mem run)
   walks C Λ fm k₁ k₂ k₃ k₄ = walked 𝓤 H A f.ended stayed (f.clauses 𝓤 H A mem run) (WpFn 𝓤 H C Λ code.function)
       (λ κs. (slice-vals, (uint-vals w32, (uint-vals w32, (ptr-vals, (slice-vals, (slice-vals, (slice-vals, tt))))))))
@@ -265,7 +265,7 @@ unfolding code.routine tablesOf
 serve-spec 𝓤 H 𝓜 𝓖 𝓡 =
     stands 𝓤 H (𝓖 .A) (givenOf 𝓤 H 𝓜 𝓖) f.ended stayed (f.clauses 𝓤 H (𝓖 .A) (𝓜 .mem) (𝓡 .run)) (tablesOf 𝓤 H 𝓜 (tables 𝓤 H 𝓜 𝓡 code.env)) #lent·serve code.function (code.unfolded 𝓤 H 𝓜 𝓡)
     (goes 𝓤 H (𝓖 .A) (givenOf 𝓤 H 𝓜 𝓖) (𝓜 .mem) (𝓡 .run)) (λ fm. walks 𝓤 H (𝓖 .A) (givenOf 𝓤 H 𝓜 𝓖) (𝓜 .mem) (𝓡 .run) _ _ fm
-    (cited 𝓤 H (Load 𝓤 H (𝓖 .A) (𝓜 .mem) (𝓡 .run)) 𝓜 𝓡 code.env #lent·load load-def.routine code.calls-lent·load (load-thm.met 𝓤 H 𝓜 𝓖 𝓡))
+    (cited 𝓤 H (Load 𝓤 H (𝓖 .A) (𝓜 .mem) (𝓡 .run)) 𝓜 𝓡 code.env #lent-steps·load load-def.routine code.calls-lent-steps·load (load-thm.met 𝓤 H 𝓜 𝓖 𝓡))
     (cited 𝓤 H (Serve 𝓤 H (𝓖 .A) (𝓜 .mem) (𝓡 .run)) 𝓜 𝓡 code.env #record-call·serve serve-def.routine code.calls-record-call·serve (serve-thm.met 𝓤 H 𝓜 𝓖 𝓡))
-    (cited 𝓤 H (Advance 𝓤 H (𝓖 .A) (𝓜 .mem) (𝓡 .run)) 𝓜 𝓡 code.env #lent·advance advance-def.routine code.calls-lent·advance (advance-thm.met 𝓤 H 𝓜 𝓖 𝓡))
-    (cited 𝓤 H (Store 𝓤 H (𝓖 .A) (𝓜 .mem) (𝓡 .run)) 𝓜 𝓡 code.env #lent·store store-def.routine code.calls-lent·store (store-thm.met 𝓤 H 𝓜 𝓖 𝓡)))
+    (cited 𝓤 H (Advance 𝓤 H (𝓖 .A) (𝓜 .mem) (𝓡 .run)) 𝓜 𝓡 code.env #lent-steps·advance advance-def.routine code.calls-lent-steps·advance (advance-thm.met 𝓤 H 𝓜 𝓖 𝓡))
+    (cited 𝓤 H (Store 𝓤 H (𝓖 .A) (𝓜 .mem) (𝓡 .run)) 𝓜 𝓡 code.env #lent-steps·store store-def.routine code.calls-lent-steps·store (store-thm.met 𝓤 H 𝓜 𝓖 𝓡)))

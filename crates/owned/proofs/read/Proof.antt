@@ -1,6 +1,6 @@
 -- `owned::read` meets its contract: a walk of its MIR, by hand. The ledger and the lease records are copied into locals, which are lent as `&mut` to `lent::read`; they come back at the values that it left there,
 -- and the result is put together of these. Of `lent::read` the proof knows only that it meets its contract. Nothing is kept of the `&` of the file, which `lent::read` gets at its own lifetime and share.
-use Rattle.lent.proofs.Walk.{stands, _≡_, subst, fat, after, bare, Idle, spot, idle, ends1, ends4, Go, Seq, Ty, runs, atRet, refl, _∙_, ℕ, [], _∷_, List, length, URA, fullShare, named, w8, Val, vint, vptr, SProp, ent, emp, via, fst∗, id⊢, Lft, Share, GName, Fml, ftrue, flft, Memory, Routine, Heap, Calls, Loops, WpFn, Atoms, Fun, fact, givenOf, tables, tablesOf, Given, ‵, raw, _⊛_, some, later, ⋆, _$_, _∵_, !, qed, by, move, keep, drop, group, use1, split, join, pick, rewrite, fsplit, fjoin, feqL, suffices, frame, await, done, look, init, stop, fld, from, load, lit, of-opd, addr, and-then, no-more, assigns, land, returns, enter, alloc1, alloc0, params1, pass1, pass0, free0, whole, sub, look-in, agg, FmC, owns, Is, shows, cellAt, uint-lawful, u8, RefT, sliceVal, slice-vals, shr-slice-tells, ShrSlice, Room, owned, facts, heard, nothing, plain, shrSliceOf, Contract, Triple, calls-at, onEntry, tripleOf, cited, says, Stays, stay-dropped, walkOf, AllGo, goes-dropped, Walks, ends-at, walked, ensured, lasts, yes, tyOf, holds, Item, Env, Goal}
+use Rattle.lent_steps.proofs.Walk.{stands, _≡_, subst, fat, after, bare, Idle, spot, idle, ends1, ends4, Go, Seq, Ty, runs, atRet, refl, _∙_, ℕ, [], _∷_, List, length, URA, fullShare, named, w8, Val, vint, vptr, SProp, ent, emp, via, fst∗, id⊢, Lft, Share, GName, Fml, ftrue, flft, Memory, Routine, Heap, Calls, Loops, WpFn, Atoms, Fun, fact, givenOf, tables, tablesOf, Given, ‵, raw, _⊛_, some, later, ⋆, _$_, _∵_, !, qed, by, move, keep, drop, group, use1, split, join, pick, rewrite, fsplit, fjoin, feqL, suffices, frame, await, done, look, init, stop, fld, from, load, lit, of-opd, addr, and-then, no-more, assigns, land, returns, enter, alloc1, alloc0, params1, pass1, pass0, free0, whole, sub, look-in, agg, FmC, owns, Is, shows, cellAt, uint-lawful, u8, RefT, sliceVal, slice-vals, shr-slice-tells, ShrSlice, Room, owned, facts, heard, nothing, plain, shrSliceOf, Contract, Triple, calls-at, onEntry, tripleOf, cited, says, Stays, stay-dropped, walkOf, AllGo, goes-dropped, Walks, ends-at, walked, ensured, lasts, yes, tyOf, holds, Item, Env, Goal}
 use mir.Syntax.{Sym, tyArray}
 use denote.Struct.Laws as LL
 use Rattle.state.proofs.Lease.Laws as L′

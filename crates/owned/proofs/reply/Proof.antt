@@ -1,6 +1,6 @@
 -- `owned::reply` meets its contract: a walk of its MIR, by hand. The ledger is copied into a local, which is lent as `&` to `lent::reply`, and comes back as it was. Of `lent::reply` the proof knows only that it meets its contract.
 -- The room is passed on at its own lifetime, share and ghost name, so what `lent::reply` says of the last octets is said of the room's (`gave-slice`).
-use Rattle.lent.proofs.Walk.{stands, Idle, spot, idle, ends1, ends4, Go, Seq, Ty, runs, atRet, shrSliceOf, ShrSlice, shr-slice-tells, _≡_, refl, ℕ, [], _∷_, List, length, URA, fullShare, named, Val, vptr, SProp, ent, emp, via, fst∗, id⊢, Lft, Share, GName, Fml, ftrue, flft, Memory, Routine, Heap, Calls, Loops, WpFn, Atoms, Fun, fact, givenOf, tables, tablesOf, Given, ‵, raw, _⊛_, some, later, ⋆, _$_, _∵_, !, qed, by, move, keep, drop, group, use1, split, join, pick, fsplit, fjoin, feqL, suffices, frame, await, done, look, init, stop, hop, fld, from, load, of-opd, addr, and-then, no-more, assigns, land, returns, enter, alloc1, alloc0, params1, pass1, pass0, free0, whole, sub, look-in, agg, FmC, owns, Is, shows, u8, RefT, sliceVal, slice-vals, mut-slice-tells, MutSlice, Room, finally, owned, facts, heard, nothing, plain, Contract, Triple, calls-at, onEntry, tripleOf, cited, says, Stays, stay-dropped, gave-slice, walkOf, AllGo, goes-dropped, goes-gave-slice, Walks, ends-at, walked, ensured, lasts, yes, tyOf, after, holds, bare}
+use Rattle.lent_steps.proofs.Walk.{stands, Idle, spot, idle, ends1, ends4, Go, Seq, Ty, runs, atRet, shrSliceOf, ShrSlice, shr-slice-tells, _≡_, refl, ℕ, [], _∷_, List, length, URA, fullShare, named, Val, vptr, SProp, ent, emp, via, fst∗, id⊢, Lft, Share, GName, Fml, ftrue, flft, Memory, Routine, Heap, Calls, Loops, WpFn, Atoms, Fun, fact, givenOf, tables, tablesOf, Given, ‵, raw, _⊛_, some, later, ⋆, _$_, _∵_, !, qed, by, move, keep, drop, group, use1, split, join, pick, fsplit, fjoin, feqL, suffices, frame, await, done, look, init, stop, hop, fld, from, load, of-opd, addr, and-then, no-more, assigns, land, returns, enter, alloc1, alloc0, params1, pass1, pass0, free0, whole, sub, look-in, agg, FmC, owns, Is, shows, u8, RefT, sliceVal, slice-vals, mut-slice-tells, MutSlice, Room, finally, owned, facts, heard, nothing, plain, Contract, Triple, calls-at, onEntry, tripleOf, cited, says, Stays, stay-dropped, gave-slice, walkOf, AllGo, goes-dropped, goes-gave-slice, Walks, ends-at, walked, ensured, lasts, yes, tyOf, after, holds, bare}
 use denote.Struct.Laws as LL
 use Rattle.state.specs.declared.Ledger.{Ledger}
 use Rattle.server.specs.declared.Outcome.{Outcome}

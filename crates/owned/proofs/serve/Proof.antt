@@ -1,7 +1,7 @@
 -- `owned::serve` meets its contract: a walk of its MIR, by hand. The ledger and the lease records are copied into locals, which are lent as `&mut` to `lent::serve`; they come back at the values that it left there,
 -- and the result is put together of these and of the outcome. Of `lent::serve` the proof knows only that it meets its contract.
 -- The reply buffer is passed on at its own lifetime, share and ghost name, so what `lent::serve` says of the last octets is said of the buffer's (`gave-slice`). Nothing is kept of the `&` of the datagram.
-use Rattle.lent.proofs.Walk.{stands, subst, after, bare, Idle, spot, idle, ends4, Go, Seq, Item, Ty, runs, atRet, _≡_, refl, _∙_, ap, ℕ, _<_, _^_, [], _∷_, List, length, URA, fullShare, named, w32, Val, vint, vptr, SProp, ent, emp, via, fst∗, id⊢, Lft, Share, GName, Fml, ftrue, flft, fat, Memory, Routine, Heap, Calls, Loops, WpFn, Atoms, Fun, fact, givenOf, tables, tablesOf, Given, ‵, raw, _⊛_, some, later, ⋆, _$_, _∵_, !, qed, by, move, keep, drop, group, use1, split, join, pick, rewrite, fsplit, fjoin, feqL, suffices, frame, await, done, look, init, stop, hop, fld, from, load, lit, of-opd, addr, and-then, no-more, assigns, land, returns, enter, alloc1, alloc0, params1, pass1, pass0, free0, whole, sub, look-in, agg, FmC, owns, Is, shows, uint-vals, uint-tells, uint-makes, u8, u32, RefT, sliceVal, slice-vals, shr-slice-tells, mut-slice-tells, MutSlice, ShrSlice, Room, finally, only, owned, facts, heard, nothing, plain, shrSliceOf, Contract, Triple, calls-at, onEntry, tripleOf, cited, says, Stays, stay-dropped, gave-slice, walkOf, AllGo, goes-dropped, goes-gave-slice, Walks, ends-at, walked, ensured, lasts, yes, tyOf, holds, Env, Goal}
+use Rattle.lent_steps.proofs.Walk.{stands, subst, after, bare, Idle, spot, idle, ends4, Go, Seq, Item, Ty, runs, atRet, _≡_, refl, _∙_, ap, ℕ, _<_, _^_, [], _∷_, List, length, URA, fullShare, named, w32, Val, vint, vptr, SProp, ent, emp, via, fst∗, id⊢, Lft, Share, GName, Fml, ftrue, flft, fat, Memory, Routine, Heap, Calls, Loops, WpFn, Atoms, Fun, fact, givenOf, tables, tablesOf, Given, ‵, raw, _⊛_, some, later, ⋆, _$_, _∵_, !, qed, by, move, keep, drop, group, use1, split, join, pick, rewrite, fsplit, fjoin, feqL, suffices, frame, await, done, look, init, stop, hop, fld, from, load, lit, of-opd, addr, and-then, no-more, assigns, land, returns, enter, alloc1, alloc0, params1, pass1, pass0, free0, whole, sub, look-in, agg, FmC, owns, Is, shows, uint-vals, uint-tells, uint-makes, u8, u32, RefT, sliceVal, slice-vals, shr-slice-tells, mut-slice-tells, MutSlice, ShrSlice, Room, finally, only, owned, facts, heard, nothing, plain, shrSliceOf, Contract, Triple, calls-at, onEntry, tripleOf, cited, says, Stays, stay-dropped, gave-slice, walkOf, AllGo, goes-dropped, goes-gave-slice, Walks, ends-at, walked, ensured, lasts, yes, tyOf, holds, Env, Goal}
 use mir.Syntax.{Sym, tyArray}
 use denote.Struct.Laws as LL
 use Rattle.state.proofs.Lease.Laws as L′

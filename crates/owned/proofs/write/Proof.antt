@@ -1,6 +1,6 @@
 -- `owned::write` meets its contract: a walk of its MIR, by hand. The ledger and the lease records are copied into locals, which are lent as `&` to `lent::write`, and come back as they were.
 -- The room is passed on at its own lifetime, share and ghost name, so what `lent::write` says of the last octets is said of the room's (`gave-slice`). Of `lent::write` the proof knows only that it meets its contract.
-use Rattle.lent.proofs.Walk.{stands, fat, rewrite, Idle, spot, idle, ends4, Go, Seq, Item, Ty, runs, atRet, shrSliceOf, ShrSlice, shr-slice-tells, says-both, _≡_, refl, ℕ, [], _∷_, List, length, URA, fullShare, named, Val, vptr, SProp, ent, emp, via, fst∗, id⊢, Lft, Share, GName, Fml, ftrue, flft, Memory, Routine, Heap, Calls, Loops, WpFn, Atoms, Fun, fact, givenOf, tables, tablesOf, Given, ‵, raw, _⊛_, some, later, ⋆, _$_, _∵_, !, qed, by, move, keep, drop, group, use1, split, split3, join, pick, fsplit, fjoin, feqL, suffices, frame, await, done, look, init, stop, hop, fld, from, load, lit, of-opd, addr, and-then, no-more, assigns, land, returns, enter, alloc1, alloc0, params1, pass1, pass0, free0, whole, sub, look-in, agg, FmC, owns, Is, shows, u8, RefT, sliceVal, slice-vals, mut-slice-tells, MutSlice, Room, finally, owned, facts, heard, nothing, plain, Contract, Triple, calls-at, onEntry, tripleOf, cited, Stays, stay-dropped, gave-slice, walkOf, AllGo, goes-dropped, goes-gave-slice, Walks, ends-at, walked, ensured, lasts, yes, tyOf, after, holds, bare, Env, Goal}
+use Rattle.lent_steps.proofs.Walk.{stands, fat, rewrite, Idle, spot, idle, ends4, Go, Seq, Item, Ty, runs, atRet, shrSliceOf, ShrSlice, shr-slice-tells, says-both, _≡_, refl, ℕ, [], _∷_, List, length, URA, fullShare, named, Val, vptr, SProp, ent, emp, via, fst∗, id⊢, Lft, Share, GName, Fml, ftrue, flft, Memory, Routine, Heap, Calls, Loops, WpFn, Atoms, Fun, fact, givenOf, tables, tablesOf, Given, ‵, raw, _⊛_, some, later, ⋆, _$_, _∵_, !, qed, by, move, keep, drop, group, use1, split, split3, join, pick, fsplit, fjoin, feqL, suffices, frame, await, done, look, init, stop, hop, fld, from, load, lit, of-opd, addr, and-then, no-more, assigns, land, returns, enter, alloc1, alloc0, params1, pass1, pass0, free0, whole, sub, look-in, agg, FmC, owns, Is, shows, u8, RefT, sliceVal, slice-vals, mut-slice-tells, MutSlice, Room, finally, owned, facts, heard, nothing, plain, Contract, Triple, calls-at, onEntry, tripleOf, cited, Stays, stay-dropped, gave-slice, walkOf, AllGo, goes-dropped, goes-gave-slice, Walks, ends-at, walked, ensured, lasts, yes, tyOf, after, holds, bare, Env, Goal}
 use mir.Syntax.{Sym, tyArray}
 use denote.Struct.Laws as LL
 use Rattle.state.proofs.Lease.Laws as L′

@@ -1,5 +1,4 @@
--- Laws: one tenant's records among the 128: put back, surveyed with the board that they make, and left as they are by the drop where no lease has ended, the
--- board too.
+-- Laws: one tenant's records among the 128, put back; and the length that every identifier has.
 use mathlib.Core.Path.{_≡_, sym, ap, ap₂, _∙_}
 use mathlib.Core.List.{List, [], _∷_, _++_, map, append-assoc}
 use Prim.Native.Nat.{ℕ, zero, suc, _+_, _-_, _*_, _≤_, _<_}
@@ -70,6 +69,6 @@ module _ {ls : List Lease} {h : ℕ} {r now : List Lease} {i : ℕ} (v : PutInv 
 
 pub ruleset puts = (put-start, put-next, put-long, put-end)
 
--- ---- what the type of the records says of each
+-- ---- what the type says of every record
 abbrev pub Long : Lease → Type 0
 Long l = length (l .id) ≡ 32

@@ -8,7 +8,7 @@
 --     stores-memory    a statement that stores a memory m in the ledger h of a `&mut`, which then stands at `with-memory h m`. The ledger's value is compared here, where the rest of the context is a variable
 --     advances         the call of `advance`: the `&mut` goes for good. The token comes back, with what says that the last ledger is h′, and `h′ ≡ raisedIn h n`. Of `advance` the step knows only that it meets its contract, `Advance`
 -- Assumes `Given`; `advances` also that the table of calls is monotone under a frame.
-use Rattle.lent.proofs.Walk.{of-opd, from, hop, fld, stop, store-in, sub, whole, assigns, _≡_, refl, ℕ, _<_, _^_, List, [], _∷_, URA, fullShare, erased, Place, seq, call, w32, Val, vint, vptr, SProp, ent, sep, id⊢, Lft, GName, Share, Fml, ftrue, flft, fobs, fauth, fobor, fres, fat, Memory, Routine, Heap, Env, Calls, Loops, Atoms, sem, Fun, fact, FmC, Given, Item, Goal, Soaks, Post, Seq, Step, step, runs, lands, ‵, raw, _⊛_, some, later, _$_, _∵_, !, qed, move, drop, use1, use2, split, join, pick, fsplit, fsplit3, fjoin, fjoin3, feqI, await, done, Opds, Borrowed, Is, shows, cellAt, partAt, uint-makes, u32, unit, RefT, MutRef, ShrRef, opens, closes, looks, shuts, owned, peeks, heard, nothing, spelt, Contract, Triple, calls-at, tripleOf, ensured, lasts}
+use Rattle.lent_steps.proofs.Walk.{of-opd, from, hop, fld, stop, store-in, sub, whole, assigns, _≡_, refl, ℕ, _<_, _^_, List, [], _∷_, URA, fullShare, erased, Place, seq, call, w32, Val, vint, vptr, SProp, ent, sep, id⊢, Lft, GName, Share, Fml, ftrue, flft, fobs, fauth, fobor, fres, fat, Memory, Routine, Heap, Env, Calls, Loops, Atoms, sem, Fun, fact, FmC, Given, Item, Goal, Soaks, Post, Seq, Step, step, runs, lands, ‵, raw, _⊛_, some, later, _$_, _∵_, !, qed, move, drop, use1, use2, split, join, pick, fsplit, fsplit3, fjoin, fjoin3, feqI, await, done, Opds, Borrowed, Is, shows, cellAt, partAt, uint-makes, u32, unit, RefT, MutRef, ShrRef, opens, closes, looks, shuts, owned, peeks, heard, nothing, spelt, Contract, Triple, calls-at, tripleOf, ensured, lasts}
 use mir.Syntax.{Opd as Operand, Body, assign, place, deref, field, rvOpd}
 use prog.Wp.{spotOf}
 use types.Run.{Reads, Opd}
@@ -25,8 +25,8 @@ use Rattle.state.proofs.State as S
 use Rattle.state.proofs.State.Laws as S′
 use Rattle.state.proofs.Ledger as T
 use Rattle.state.proofs.Ledger.Laws as T′
-use Rattle.lent.proofs.advance as advance′
-use Rattle.lent.proofs.advance.Symbol.{name as #lent·advance}
+use Rattle.lent_steps.proofs.advance as advance′
+use Rattle.lent_steps.proofs.advance.Symbol.{name as #lent-steps·advance}
 
 -- a reference to the ledger h, and what owning a `&κ Ledger` and a `&κ mut Ledger` is
 abbrev pub ref-ledger : ℕ → ℕ → GName → Ledger → RefT Ledger
@@ -136,10 +136,10 @@ module _ {M : Type 1} (𝓤 : URA M) (H : Heap 𝓤) (A : Atoms 𝓤) (mem′ : 
 
 module _ {M : Type 1} {𝓤 : URA M} {H : Heap 𝓤} {A : Atoms 𝓤} {K : Type 0} {W : Given 𝓤 H A} {Γ : List (Item 𝓤)} {E : Env 𝓤 H} {C : Calls 𝓤 H} {Λ : Loops 𝓤 H} {p : Post 𝓤 H} {xs : List Operand} {d : Place} {rest : Body} where
   pub advances : K → (mem′ : Memory → SProp 𝓤) (run : Routine → Fun 𝓤) (κ : Lft) (q : Share) (b o : ℕ) (γ : GName) (h : Ledger) (n : ℕ) → n < 2 ^ 32
-      → FmC 𝓤 H (W .laws) C → Triple 𝓤 (C #lent·advance) (Advance 𝓤 H A mem′ run)
+      → FmC 𝓤 H (W .laws) C → Triple 𝓤 (C #lent-steps·advance) (Advance 𝓤 H A mem′ run)
       → Opds K W (raw (Advance 𝓤 H A mem′ run .pre (to-advance 𝓤 H A mem′ run κ q b o γ h n)) ∷ Γ) E xs (vptr b o ∷ vint w32 n ∷ [])
       → ((w : Val) (h′ : Ledger) → Is unit tt (w ∷ []) → h′ ≡ raisedIn h n → Seq K W (‵ (fres γ (T.the-row .coded .code h′)) ∷ ‵ (flft κ q) ∷ Γ) (lands C Λ E d w rest p))
-      → Seq K W (‵ (Held κ b o γ h) ∷ ‵ (flft κ q) ∷ Γ) (runs C Λ E (seq (call #lent·advance xs d) rest) p)
+      → Seq K W (‵ (Held κ b o γ h) ∷ ‵ (flft κ q) ∷ Γ) (runs C Λ E (seq (call #lent-steps·advance xs d) rest) p)
   advances t mem′ run κ q b o γ h n fits fm known ops k =
       move t (1 ∷ 0 ∷ []) $ use2 W (raw (Advance 𝓤 H A mem′ run .pre (to-advance 𝓤 H A mem′ run κ q b o γ h n))) (goes-advance 𝓤 H A mem′ run W κ q b o γ h n fits) $
       calls-at t fm (Advance 𝓤 H A mem′ run) known (to-advance 𝓤 H A mem′ run κ q b o γ h n) ops (λ w.

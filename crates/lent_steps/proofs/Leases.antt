@@ -3,7 +3,7 @@
 --     leases-out       the local's cell with what a `Records` owns gives the row of its lease records and `Back`, and says that there are 128
 --     leases-in        a row of 128 lease records and `Back` give the local's cell, at the machine value of the `Records` of them, with what it owns
 -- Assumes `Given`.
-use Rattle.lent.proofs.Walk.{_≡_, ℕ, List, [], _∷_, length, URA, Val, SProp, Share, fat, Heap, Atoms, Goal, Given, Item, ‵, raw, Seq, Is, row}
+use Rattle.lent_steps.proofs.Walk.{_≡_, ℕ, List, [], _∷_, length, URA, Val, SProp, Share, fat, Heap, Atoms, Goal, Given, Item, ‵, raw, Seq, Is, row}
 use denote.Struct.Laws as LL
 use Rattle.state.specs.declared.Lease.{Lease}
 use Rattle.state.proofs.Lease as R
@@ -11,7 +11,7 @@ use Rattle.state.proofs.Lease.Laws as R′
 use Rattle.records.specs.declared.Records.{Records}
 use Rattle.records.proofs.Records as T
 use Rattle.records.proofs.Records.Laws as T′
-use Rattle.lent.proofs.Local as local
+use Rattle.lent_steps.proofs.Local as local
 
 abbrev held : Records → List Lease
 held r = r .leases

@@ -1,7 +1,7 @@
 -- `lent::store` meets its contract: a walk of its MIR, by hand, with a call and a loop. The records are copied to a local, and `records::cut128` is called, of which the proof knows only its contract.
 -- Then, once, before the loop, the borrow is opened and the local is taken apart into the row of its records. A turn takes one record out of each row, copies it from the local's to the slice's, and puts both back.
 -- After the loop the local is put together again, and the borrow is closed at the list with the records laid over it.
-use Rattle.lent.proofs.Walk.{stands, counts, _≡_, refl, sym, ap, subst, Bool, ℕ, _+_, _<_, _≤_, _*_, min, min-le-left, min-le-right, lt-ltb, le-ltb, arith, [], _∷_, List, length, getD, set, paste, paste-zero, URA, fullShare, Ty, named, mut, w64, tyInt, tyBool, tyPtr, tyUnit, tyRef, Val, Fits, vunit, vbool, vint, vptr, SProp, ent, via, emp, fst∗, Lft, Share, GName, ftrue, fat, froom, fdies, flft, fobs, fauth, fbor, fobor, Memory, Routine, Heap, Out, Env, Wp, WpFn, Tables, afterSeq, afterBlock, afterTurn, atReturn, fmOf, Atoms, Fun, givenOf, tables, tablesOf, Given, Item, anyQ, atRet, ‵, raw, _⊛_, ⋆, _$_, _∵_, !, qed, by, move, keep, drop, split, join, rewrite, fsplit, fjoin, suffices, frame, done, feqI, look, look-raw, init, store-raw, forget, stop, hop, fld, from, load, lit, unit-lit, of-opd, and-then, no-more, bin, addr, assigns, assigns-last, land, stays, leaves-loop, exec, store, returns, enter, alloc1, alloc0, params1, pass1, pass0, free1, free0, whole, sub, look-in, owns, pureI, Is, shows, pointee, RefT, sliceVal, sliceTy, slice-vals, mut-slice-tells, MutSlice, Room, heres, codedHoleys, at-slice, row, place-is, elem-out, elem-back, elem-put, opens-slice, closes-slice, owned, nothing, plain, Triple, onEntry, cited, says, Stays, stay-none, stay-slice, walkOf, AllGo, goes-none, goes-slice, Walks, ends-at, walked, yes}
+use Rattle.lent_steps.proofs.Walk.{stands, counts, _≡_, refl, sym, ap, subst, Bool, ℕ, _+_, _<_, _≤_, _*_, min, min-le-left, min-le-right, lt-ltb, le-ltb, arith, [], _∷_, List, length, getD, set, paste, paste-zero, URA, fullShare, Ty, named, mut, w64, tyInt, tyBool, tyPtr, tyUnit, tyRef, Val, Fits, vunit, vbool, vint, vptr, SProp, ent, via, emp, fst∗, Lft, Share, GName, ftrue, fat, froom, fdies, flft, fobs, fauth, fbor, fobor, Memory, Routine, Heap, Out, Env, Wp, WpFn, Tables, afterSeq, afterBlock, afterTurn, atReturn, fmOf, Atoms, Fun, givenOf, tables, tablesOf, Given, Item, anyQ, atRet, ‵, raw, _⊛_, ⋆, _$_, _∵_, !, qed, by, move, keep, drop, split, join, rewrite, fsplit, fjoin, suffices, frame, done, feqI, look, look-raw, init, store-raw, forget, stop, hop, fld, from, load, lit, unit-lit, of-opd, and-then, no-more, bin, addr, assigns, assigns-last, land, stays, leaves-loop, exec, store, returns, enter, alloc1, alloc0, params1, pass1, pass0, free1, free0, whole, sub, look-in, owns, pureI, Is, shows, pointee, RefT, sliceVal, sliceTy, slice-vals, mut-slice-tells, MutSlice, Room, heres, codedHoleys, at-slice, row, place-is, elem-out, elem-back, elem-put, opens-slice, closes-slice, owned, nothing, plain, Triple, onEntry, cited, says, Stays, stay-none, stay-slice, walkOf, AllGo, goes-none, goes-slice, Walks, ends-at, walked, yes}
 use denote.Lend.{Held}
 use denote.Struct.Laws as LL
 use Rattle.state.specs.declared.Lease.{Lease}
@@ -16,13 +16,13 @@ use Rattle.records.proofs.Records.Laws as Q′
 use Rattle.records.proofs.cut128.Symbol as cut128-def
 use Rattle.records.proofs.cut128.Symbol.{name as #records·cut128}
 use Rattle.records.proofs.cut128.Met as cut128-thm
-use Rattle.lent.proofs.Leases.{Back, leases-out, leases-in}
-use Rattle.lent.proofs.Cut.{Cut, calls-cut}
-use Rattle.lent.proofs.store.Key.{name as #lent·store}
-use Rattle.lent.proofs.store as f
-use Rattle.lent.proofs.store.Statement as stated
-use Rattle.lent.proofs.store.Code as code
-use Rattle.lent.proofs.store.Code.Mir as mirs
+use Rattle.lent_steps.proofs.Leases.{Back, leases-out, leases-in}
+use Rattle.lent_steps.proofs.Cut.{Cut, calls-cut}
+use Rattle.lent_steps.proofs.store.Key.{name as #lent-steps·store}
+use Rattle.lent_steps.proofs.store as f
+use Rattle.lent_steps.proofs.store.Statement as stated
+use Rattle.lent_steps.proofs.store.Code as code
+use Rattle.lent_steps.proofs.store.Code.Mir as mirs
 
 abbrev stayed : Stays (f.ended .signature .params) (f.ended .kept)
 stayed = (stay-slice (0 ∷ []) tt (plain (λ _. T.the-row)), (stay-none (λ _. Q.the-row) yes, tt))
@@ -230,6 +230,6 @@ module _ {M : Type 1} (𝓤 : URA M) (H : Heap 𝓤) (A : Atoms 𝓤) (W : Given
 pub store-spec : {M : Type 1} → stated.statement M
 unfolding code.routine tablesOf
 store-spec 𝓤 H 𝓜 𝓖 𝓡 =
-    stands 𝓤 H (𝓖 .A) (givenOf 𝓤 H 𝓜 𝓖) f.ended stayed (f.clauses 𝓤 H (𝓖 .A) (𝓜 .mem) (𝓡 .run)) (tablesOf 𝓤 H 𝓜 (tables 𝓤 H 𝓜 𝓡 code.env)) #lent·store code.function (code.unfolded 𝓤 H 𝓜 𝓡)
+    stands 𝓤 H (𝓖 .A) (givenOf 𝓤 H 𝓜 𝓖) f.ended stayed (f.clauses 𝓤 H (𝓖 .A) (𝓜 .mem) (𝓡 .run)) (tablesOf 𝓤 H 𝓜 (tables 𝓤 H 𝓜 𝓡 code.env)) #lent-steps·store code.function (code.unfolded 𝓤 H 𝓜 𝓡)
     (goes 𝓤 H (𝓖 .A) (givenOf 𝓤 H 𝓜 𝓖) (𝓜 .mem) (𝓡 .run)) (λ _. walks 𝓤 H (𝓖 .A) (givenOf 𝓤 H 𝓜 𝓖) (𝓜 .mem) (𝓡 .run) (tablesOf 𝓤 H 𝓜 (tables 𝓤 H 𝓜 𝓡 code.env))
     (cited 𝓤 H (Cut 𝓤 H (𝓖 .A) (𝓜 .mem) (𝓡 .run)) 𝓜 𝓡 code.env #records·cut128 cut128-def.routine code.calls-records·cut128 (cut128-thm.met 𝓤 H 𝓜 𝓖 𝓡)))

@@ -3,7 +3,7 @@
 --     lends-again      own (the `&κ mut [T]` ((b, o), γ, ys)) ∗ [κ]_q  ⊢ ⇛ ∃ γ₁. own (the `&κ′ mut [T]` ((b, o), γ₁, ys)) ∗ LentAgain γ₁
 --     comes-back       given `Room` and that zs is as long as ys:  [†κ′] ∗ LentAgain γ₁ ∗ finally γ₁ zs  ⊢ ⇛ (own (the `&κ mut [T]` ((b, o), γ, zs)) ∗ [κ]_q)
 -- Assumes `Given`.
-use Rattle.lent.proofs.Walk.{_≡_, sym, ap, subst, ℕ, List, [], _∷_, length, URA, fullShare, Lifetime, Val, ent, sep, ex, Lft, GName, Share, Fml, fsep, flft, fdead, fobs, fauth, flent, fobor, Heap, Atoms, sem, Given, ‵, _⊛_, some, later, _$_, _∵_, !, qed, move, use1, use3, drop, split, pick, fsplit, fjoin, frame, await, updating, at-once, show, done, cells, Arr, RattleType, pureL, pureI, RefT, sliceVal, MutSlice, heres, Room, finally, at-slice, codedHoleys, lends-slice, slice-back, row, whole-out, whole-in, opens-slice, closes-slice}
+use Rattle.lent_steps.proofs.Walk.{_≡_, sym, ap, subst, ℕ, List, [], _∷_, length, URA, fullShare, Lifetime, Val, ent, sep, ex, Lft, GName, Share, Fml, fsep, flft, fdead, fobs, fauth, flent, fobor, Heap, Atoms, sem, Given, ‵, _⊛_, some, later, _$_, _∵_, !, qed, move, use1, use3, drop, split, pick, fsplit, fjoin, frame, await, updating, at-once, show, done, cells, Arr, RattleType, pureL, pureI, RefT, sliceVal, MutSlice, heres, Room, finally, at-slice, codedHoleys, lends-slice, slice-back, row, whole-out, whole-in, opens-slice, closes-slice}
 use denote.Memory.{mem}
 use denote.Lend.{Held}
 

@@ -2,7 +2,7 @@
 -- Before the loop the slice is looked into, and the local `Records` is taken apart into the row of its 128 lease records; after it the row is put together again and the slice is shut. A turn takes one lease
 -- record out of the slice's row, copies it, and puts it back, and takes the one at the same place out of the local's row and stores the copy there. After i turns the local's row is what `no_records` gave with the slice's first i records pasted over it.
 -- The walk is cut in parts, each a check of its own: the call of `no_records` (`walk`), the call of `cut128` and up to the loop (`starts`), a turn (`more`), and the turn that leaves the loop with what follows it (`ends`).
-use Rattle.lent.proofs.Walk.{stands, counts, _≡_, refl, sym, _∙_, ap, subst, Bool, [], _∷_, List, ℕ, _+_, _*_, _≤_, _<_, min, min-le-left, min-le-right, arith, length, getD, replicate, paste, paste-zero, lt-ltb, le-ltb, URA, fullShare, Ty, named, imm, w64, tyInt, tyBool, tyPtr, tyRef, Val, Fits, vbool, vint, vptr, SProp, ent, via, exE, emp, fst∗, snd∗, id⊢, Lft, Share, GName, Fml, ftrue, fat, froom, fdies, flft, fres, fobor, fshr-bor, Memory, Routine, Heap, Out, Env, Wp, WpFn, Tables, afterSeq, afterBlock, afterTurn, atReturn, fmOf, Atoms, sem, Fun, fact, givenOf, tables, tablesOf, Given, Item, anyQ, atRet, ‵, raw, _⊛_, some, later, ⋆, _$_, _∵_, !, qed, by, move, keep, drop, use0, use1, split, join, pick, rewrite, fsplit, fsplit3, fjoin, suffices, frame, await, done, look, look-raw, init, store, store-raw, forget, stop, hop, fld, from, load, lit, of-opd, bin, addr, and-then, no-more, assigns, assigns-last, stays, leaves-loop, exec, land, returns, enter, alloc1, alloc0, params1, pass1, pass0, free1, free0, whole, sub, look-in, arr-parts, owns, pureI, Is, shows, pointee, shares, RefT, sliceVal, sliceTy, slice-vals, shr-slice-tells, ShrSlice, Room, heres, codedHoleys, at-slice, row, place-is, elem-out, elem-back, elem-put, looks-slice, shuts-slice, owned, peeks, heard, nothing, plain, Contract, Triple, calls-at, ensured, lasts, onEntry, tripleOf, cited, says, Stays, stay-none-slice, walkOf, AllGo, goes-none-slice, Walks, ends-at, walked, yes}
+use Rattle.lent_steps.proofs.Walk.{stands, counts, _≡_, refl, sym, _∙_, ap, subst, Bool, [], _∷_, List, ℕ, _+_, _*_, _≤_, _<_, min, min-le-left, min-le-right, arith, length, getD, replicate, paste, paste-zero, lt-ltb, le-ltb, URA, fullShare, Ty, named, imm, w64, tyInt, tyBool, tyPtr, tyRef, Val, Fits, vbool, vint, vptr, SProp, ent, via, exE, emp, fst∗, snd∗, id⊢, Lft, Share, GName, Fml, ftrue, fat, froom, fdies, flft, fres, fobor, fshr-bor, Memory, Routine, Heap, Out, Env, Wp, WpFn, Tables, afterSeq, afterBlock, afterTurn, atReturn, fmOf, Atoms, sem, Fun, fact, givenOf, tables, tablesOf, Given, Item, anyQ, atRet, ‵, raw, _⊛_, some, later, ⋆, _$_, _∵_, !, qed, by, move, keep, drop, use0, use1, split, join, pick, rewrite, fsplit, fsplit3, fjoin, suffices, frame, await, done, look, look-raw, init, store, store-raw, forget, stop, hop, fld, from, load, lit, of-opd, bin, addr, and-then, no-more, assigns, assigns-last, stays, leaves-loop, exec, land, returns, enter, alloc1, alloc0, params1, pass1, pass0, free1, free0, whole, sub, look-in, arr-parts, owns, pureI, Is, shows, pointee, shares, RefT, sliceVal, sliceTy, slice-vals, shr-slice-tells, ShrSlice, Room, heres, codedHoleys, at-slice, row, place-is, elem-out, elem-back, elem-put, looks-slice, shuts-slice, owned, peeks, heard, nothing, plain, Contract, Triple, calls-at, ensured, lasts, onEntry, tripleOf, cited, says, Stays, stay-none-slice, walkOf, AllGo, goes-none-slice, Walks, ends-at, walked, yes}
 use denote.Struct.Laws as LL
 use Rattle.lists.specs.laws.Copy.{CopyInv, copy-front, copy-long}
 use Rattle.state.specs.declared.Lease.{Lease}
@@ -20,13 +20,13 @@ use Rattle.records.proofs.no_records.Met as none-thm
 use Rattle.records.proofs.cut128.Symbol as cut-def
 use Rattle.records.proofs.cut128.Symbol.{name as #records·cut128}
 use Rattle.records.proofs.cut128.Met as cut-thm
-use Rattle.lent.proofs.Cut.{Cut, calls-cut}
-use Rattle.lent.proofs.Leases.{Back, leases-out, leases-in}
-use Rattle.lent.proofs.load.Key.{name as #lent·load}
-use Rattle.lent.proofs.load as f
-use Rattle.lent.proofs.load.Statement as stated
-use Rattle.lent.proofs.load.Code as code
-use Rattle.lent.proofs.load.Code.Mir as mirs
+use Rattle.lent_steps.proofs.Cut.{Cut, calls-cut}
+use Rattle.lent_steps.proofs.Leases.{Back, leases-out, leases-in}
+use Rattle.lent_steps.proofs.load.Key.{name as #lent-steps·load}
+use Rattle.lent_steps.proofs.load as f
+use Rattle.lent_steps.proofs.load.Statement as stated
+use Rattle.lent_steps.proofs.load.Code as code
+use Rattle.lent_steps.proofs.load.Code.Mir as mirs
 
 abbrev stayed : Stays (f.ended .signature .params) (f.ended .kept)
 stayed = (stay-none-slice (0 ∷ []) tt (plain (λ _. R.the-row)) yes, tt)
@@ -251,7 +251,7 @@ module _ {M : Type 1} (𝓤 : URA M) (H : Heap 𝓤) (A : Atoms 𝓤) (W : Given
 pub load-spec : {M : Type 1} → stated.statement M
 unfolding code.routine tablesOf
 load-spec 𝓤 H 𝓜 𝓖 𝓡 =
-    stands 𝓤 H (𝓖 .A) (givenOf 𝓤 H 𝓜 𝓖) f.ended stayed (f.clauses 𝓤 H (𝓖 .A) (𝓜 .mem) (𝓡 .run)) (tablesOf 𝓤 H 𝓜 (tables 𝓤 H 𝓜 𝓡 code.env)) #lent·load code.function (code.unfolded 𝓤 H 𝓜 𝓡)
+    stands 𝓤 H (𝓖 .A) (givenOf 𝓤 H 𝓜 𝓖) f.ended stayed (f.clauses 𝓤 H (𝓖 .A) (𝓜 .mem) (𝓡 .run)) (tablesOf 𝓤 H 𝓜 (tables 𝓤 H 𝓜 𝓡 code.env)) #lent-steps·load code.function (code.unfolded 𝓤 H 𝓜 𝓡)
     (goes 𝓤 H (𝓖 .A) (givenOf 𝓤 H 𝓜 𝓖) (𝓜 .mem) (𝓡 .run)) (λ _. walks 𝓤 H (𝓖 .A) (givenOf 𝓤 H 𝓜 𝓖) (𝓜 .mem) (𝓡 .run) (tablesOf 𝓤 H 𝓜 (tables 𝓤 H 𝓜 𝓡 code.env))
     (cited 𝓤 H (None 𝓤 H (𝓖 .A) (𝓜 .mem) (𝓡 .run)) 𝓜 𝓡 code.env #records·no-records none-def.routine code.calls-records·no-records (none-thm.met 𝓤 H 𝓜 𝓖 𝓡))
     (cited 𝓤 H (Cut 𝓤 H (𝓖 .A) (𝓜 .mem) (𝓡 .run)) 𝓜 𝓡 code.env #records·cut128 cut-def.routine code.calls-records·cut128 (cut-thm.met 𝓤 H 𝓜 𝓖 𝓡)))

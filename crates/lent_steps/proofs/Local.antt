@@ -6,7 +6,7 @@
 --     array-out        the local's cell with what the struct owns gives the row of its elements and `Back`, and says that there are n
 --     array-in         the row of n elements and `Back` give the local's cell with what the struct of those elements owns
 -- Assumes `Given`.
-use Rattle.lent.proofs.Walk.{_≡_, sym, _∙_, ℕ, _+_, List, [], _∷_, map, length, length-map, URA, Sym, tyArray, Val, SProp, ent, sep, emp, id⊢, Share, ftrue, feq, fsep, fat, align, up, Heap, Atoms, sem, Goal, Given, Item, ‵, raw, _⊛_, Seq, _$_, _∵_, !, qed, by, move, use1, use2, drop, split, join, fsplit, fjoin, fpick, fpack, feqL, feqI, frame, done, RattleType, Denots, Is, Tells, shows, cellAt, partAt, partOf, Array, array-lawful, array-apart, array-whole, row, nothing, peeks, Declared, field, shape, row-of, Lawss, lawfuls, Member, rowsOf, shapeOf, PartsBack, record-field-out, record-field-back, Recorded, spelt, Struct, layout, struct-lawful}
+use Rattle.lent_steps.proofs.Walk.{_≡_, sym, _∙_, ℕ, _+_, List, [], _∷_, map, length, length-map, URA, Sym, tyArray, Val, SProp, ent, sep, emp, id⊢, Share, ftrue, feq, fsep, fat, align, up, Heap, Atoms, sem, Goal, Given, Item, ‵, raw, _⊛_, Seq, _$_, _∵_, !, qed, by, move, use1, use2, drop, split, join, fsplit, fjoin, fpick, fpack, feqL, feqI, frame, done, RattleType, Denots, Is, Tells, shows, cellAt, partAt, partOf, Array, array-lawful, array-apart, array-whole, row, nothing, peeks, Declared, field, shape, row-of, Lawss, lawfuls, Member, rowsOf, shapeOf, PartsBack, record-field-out, record-field-back, Recorded, spelt, Struct, layout, struct-lawful}
 use denote.Memory.{mem}
 
 -- a row of records is the row of their tuples

@@ -6,7 +6,7 @@
 -- Each takes, after `!`, the slice (its lifetime κ, the share q of the token, where it stands, its name γ and its list ys), then that the table of calls is monotone under a frame and that the callee meets its contract, `Load`
 -- or `Store`, which is all that the steps know of it. The lifetime of the call and the name that the slice is lent under, ν and δ, are bound in the operands.
 -- Assumes `Given`.
-use Rattle.lent.proofs.Walk.{_≡_, ℕ, [], _∷_, List, length, URA, fullShare, Place, seq, call, erased, Val, SProp, ent, sep, snd∗, exE, id⊢, Lft, Share, GName, Fml, ftrue, flft, Memory, Routine, Heap, Env, Calls, Loops, Atoms, sem, Fun, fact, Given, Item, Post, Seq, lands, runs, ‵, raw, _⊛_, some, later, _$_, _∵_, !, qed, move, drop, use1, use2, use3, split, join, pick, fsplit, fjoin, feqL, await, done, Opds, lft-new, lft-end, FmC, Is, shows, unit, RefT, sliceVal, MutSlice, ShrSlice, Room, shr-slice-copy, owned, peeks, heard, nothing, Contract, Triple, calls-at, tripleOf, ensured, lasts, keptS}
+use Rattle.lent_steps.proofs.Walk.{_≡_, ℕ, [], _∷_, List, length, URA, fullShare, Place, seq, call, erased, Val, SProp, ent, sep, snd∗, exE, id⊢, Lft, Share, GName, Fml, ftrue, flft, Memory, Routine, Heap, Env, Calls, Loops, Atoms, sem, Fun, fact, Given, Item, Post, Seq, lands, runs, ‵, raw, _⊛_, some, later, _$_, _∵_, !, qed, move, drop, use1, use2, use3, split, join, pick, fsplit, fjoin, feqL, await, done, Opds, lft-new, lft-end, FmC, Is, shows, unit, RefT, sliceVal, MutSlice, ShrSlice, Room, shr-slice-copy, owned, peeks, heard, nothing, Contract, Triple, calls-at, tripleOf, ensured, lasts, keptS}
 use mir.Syntax.{Opd as Operand, Body}
 use denote.Struct.Laws as LL
 use Rattle.state.specs.declared.Lease.{Lease}
@@ -15,12 +15,12 @@ use Rattle.records.specs.Records.{first128, covered}
 use Rattle.state.proofs.Lease as R
 use Rattle.records.proofs.Records as N
 use Rattle.records.proofs.Records.Laws as N′
-use Rattle.lent.proofs.Again.{LentAgain, lends-again, comes-back}
-use Rattle.lent.proofs.Shared.{lends-shared, shared-back}
-use Rattle.lent.proofs.load as load′
-use Rattle.lent.proofs.load.Symbol.{name as #lent·load}
-use Rattle.lent.proofs.store as store′
-use Rattle.lent.proofs.store.Symbol.{name as #lent·store}
+use Rattle.lent_steps.proofs.Again.{LentAgain, lends-again, comes-back}
+use Rattle.lent_steps.proofs.Shared.{lends-shared, shared-back}
+use Rattle.lent_steps.proofs.load as load′
+use Rattle.lent_steps.proofs.load.Symbol.{name as #lent-steps·load}
+use Rattle.lent_steps.proofs.store as store′
+use Rattle.lent_steps.proofs.store.Symbol.{name as #lent-steps·store}
 
 -- a reference to the records ys, and the machine value of a slice of n
 abbrev pub ref : ℕ → ℕ → GName → List Lease → RefT (List Lease)
@@ -79,10 +79,10 @@ module _ {M : Type 1} {𝓤 : URA M} {H : Heap 𝓤} {A : Atoms 𝓤} {K : Type 
 
 module _ {M : Type 1} {𝓤 : URA M} {H : Heap 𝓤} {A : Atoms 𝓤} {K : Type 0} {W : Given 𝓤 H A} {Γ : List (Item 𝓤)} {E : Env 𝓤 H} {C : Calls 𝓤 H} {Λ : Loops 𝓤 H} {p : Post 𝓤 H} {xs : List Operand} {d : Place} {rest : Body} where
   pub loads : K → (mem : Memory → SProp 𝓤) (run : Routine → Fun 𝓤) (κ : Lft) (q : Share) (b o : ℕ) (γ : GName) (ys : List Lease)
-      → FmC 𝓤 H (W .laws) C → Triple 𝓤 (C #lent·load) (Load 𝓤 H A mem run)
+      → FmC 𝓤 H (W .laws) C → Triple 𝓤 (C #lent-steps·load) (Load 𝓤 H A mem run)
       → ((ν : ℕ) (δ : GName) → Opds K W (raw (Load 𝓤 H A mem run .pre (to-load 𝓤 H A mem run (ν ∷ []) fullShare b o δ ys)) ∷ ‵ (keptS R.the-row κ q (ν ∷ []) γ ys b o) ∷ Γ) E xs (word b o (length ys) ∷ []))
       → ((w : Val) (r : Records) → Is N.the-row r (w ∷ []) → r .leases ≡ first128 ys → Seq K W (‵ (Mut κ b o γ (length ys) ys) ∷ ‵ (flft κ q) ∷ Γ) (lands C Λ E d w rest p))
-      → Seq K W (‵ (Mut κ b o γ (length ys) ys) ∷ ‵ (flft κ q) ∷ Γ) (runs C Λ E (seq (call #lent·load xs d) rest) p)
+      → Seq K W (‵ (Mut κ b o γ (length ys) ys) ∷ ‵ (flft κ q) ∷ Γ) (runs C Λ E (seq (call #lent-steps·load xs d) rest) p)
   loads t mem run κ q b o γ ys fm known ops k =
       lft-new t tt (λ ν. move t (1 ∷ 2 ∷ []) $
       use2 W (later (some (λ (δ : GName). ‵ (Shr (ν ∷ []) b o δ (length ys) ys) ⊛ ‵ (keptS R.the-row κ q (ν ∷ []) γ ys b o)))) (lends-shared R.the-row κ (ν ∷ []) q γ b o 𝓤 H A W erased erased ys) $ await t tt $ pick t (λ δ. split t $
@@ -92,20 +92,20 @@ module _ {M : Type 1} {𝓤 : URA M} {H : Heap 𝓤} {A : Atoms 𝓤} {K : Type 
       lft-end t tt $ use2 W (later (‵ (Mut κ b o γ (length ys) ys) ⊛ ‵ (flft κ q))) (shared-back R.the-row κ (ν ∷ []) q γ b o 𝓤 H A W erased erased ys) $ await t tt $ split t $ k w r is e))))
 
   pub loads-on : K → (mem : Memory → SProp 𝓤) (run : Routine → Fun 𝓤) (κ : Lft) (q : Share) (b o : ℕ) (γ : GName) (ys : List Lease)
-      → FmC 𝓤 H (W .laws) C → Triple 𝓤 (C #lent·load) (Load 𝓤 H A mem run)
+      → FmC 𝓤 H (W .laws) C → Triple 𝓤 (C #lent-steps·load) (Load 𝓤 H A mem run)
       → Opds K W (raw (Load 𝓤 H A mem run .pre (to-load 𝓤 H A mem run κ q b o γ ys)) ∷ ‵ (Shr κ b o γ (length ys) ys) ∷ Γ) E xs (word b o (length ys) ∷ [])
       → ((w : Val) (r : Records) → Is N.the-row r (w ∷ []) → r .leases ≡ first128 ys → Seq K W (‵ (Shr κ b o γ (length ys) ys) ∷ ‵ (flft κ q) ∷ Γ) (lands C Λ E d w rest p))
-      → Seq K W (‵ (Shr κ b o γ (length ys) ys) ∷ ‵ (flft κ q) ∷ Γ) (runs C Λ E (seq (call #lent·load xs d) rest) p)
+      → Seq K W (‵ (Shr κ b o γ (length ys) ys) ∷ ‵ (flft κ q) ∷ Γ) (runs C Λ E (seq (call #lent-steps·load xs d) rest) p)
   loads-on t mem run κ q b o γ ys fm known ops k =
       use1 W (‵ (Shr κ b o γ (length ys) ys) ⊛ ‵ (Shr κ b o γ (length ys) ys)) (shr-slice-copy 𝓤 H A W erased κ R.the-row .twice (ref b o γ ys) (word b o (length ys) ∷ [])) $ split t $
       move t (2 ∷ 0 ∷ []) $ use2 W (raw (Load 𝓤 H A mem run .pre (to-load 𝓤 H A mem run κ q b o γ ys))) (goes-load 𝓤 H A mem run W κ q b o γ ys) $
       calls-at t fm (Load 𝓤 H A mem run) known (to-load 𝓤 H A mem run κ q b o γ ys) ops (λ w. loaded t mem run κ q b o γ ys w (λ r is e. move t (1 ∷ 0 ∷ []) $ k w r is e))
 
   pub stores : K → (mem : Memory → SProp 𝓤) (run : Routine → Fun 𝓤) (κ : Lft) (q : Share) (b o : ℕ) (γ : GName) (ys : List Lease) (r : Records) (v : Val)
-      → FmC 𝓤 H (W .laws) C → Triple 𝓤 (C #lent·store) (Store 𝓤 H A mem run) → Room R.the-row (length ys) → Is N.the-row r (v ∷ [])
+      → FmC 𝓤 H (W .laws) C → Triple 𝓤 (C #lent-steps·store) (Store 𝓤 H A mem run) → Room R.the-row (length ys) → Is N.the-row r (v ∷ [])
       → ((ν : ℕ) (δ : GName) → Opds K W (raw (Store 𝓤 H A mem run .pre (to-store 𝓤 H A mem run (ν ∷ []) fullShare b o δ ys r v)) ∷ ‵ (LentAgain R.the-row κ (ν ∷ []) q γ b o δ ys) ∷ Γ) E xs (word b o (length ys) ∷ v ∷ []))
       → ((w : Val) (zs : List Lease) → Is unit tt (w ∷ []) → length zs ≡ length ys → zs ≡ covered ys (r .leases) → Seq K W (‵ (Mut κ b o γ (length ys) zs) ∷ ‵ (flft κ q) ∷ Γ) (lands C Λ E d w rest p))
-      → Seq K W (‵ (Mut κ b o γ (length ys) ys) ∷ ‵ (flft κ q) ∷ Γ) (runs C Λ E (seq (call #lent·store xs d) rest) p)
+      → Seq K W (‵ (Mut κ b o γ (length ys) ys) ∷ ‵ (flft κ q) ∷ Γ) (runs C Λ E (seq (call #lent-steps·store xs d) rest) p)
   stores t mem run κ q b o γ ys r v fm known room is ops k =
       lft-new t tt (λ ν. move t (1 ∷ 2 ∷ []) $
       use2 W (later (some (λ (δ : GName). ‵ (Mut (ν ∷ []) b o δ (length ys) ys) ⊛ ‵ (LentAgain R.the-row κ (ν ∷ []) q γ b o δ ys)))) (lends-again R.the-row κ (ν ∷ []) q γ b o 𝓤 H A W erased erased ys) $ await t tt $ pick t (λ δ. split t $

@@ -2,7 +2,7 @@
 --     Cut, to-cut      the contract, and what its triple binds outside where the argument is n
 --     calls-cut        the call, where its operand reads n: `min n 128` lands. The operand is read with the contract's `pre` at the head of the context, so what stood at position i stands at i + 1
 -- Assumes `Given`.
-use Rattle.lent.proofs.Walk.{_≡_, refl, sym, _∙_, ap, subst, ℕ, _<_, _^_, min, List, [], _∷_, URA, Place, seq, call, w64, Val, vint, SProp, ent, emp, exE, snd∗, id⊢, ftrue, Memory, Routine, Heap, Env, Calls, Loops, Atoms, sem, FmC, Fun, fact, Given, Item, Post, runs, lands, Seq, Step, step, ‵, raw, _⊛_, some, later, _$_, _∵_, !, qed, move, drop, use0, use1, split, join, pick, fjoin, await, done, Opds, Is, shows, uint-makes, usize, only, owned, nothing, facts, heard, Contract, Triple, calls-at, tripleOf, ensured, lasts}
+use Rattle.lent_steps.proofs.Walk.{_≡_, refl, sym, _∙_, ap, subst, ℕ, _<_, _^_, min, List, [], _∷_, URA, Place, seq, call, w64, Val, vint, SProp, ent, emp, exE, snd∗, id⊢, ftrue, Memory, Routine, Heap, Env, Calls, Loops, Atoms, sem, FmC, Fun, fact, Given, Item, Post, runs, lands, Seq, Step, step, ‵, raw, _⊛_, some, later, _$_, _∵_, !, qed, move, drop, use0, use1, split, join, pick, fjoin, await, done, Opds, Is, shows, uint-makes, usize, only, owned, nothing, facts, heard, Contract, Triple, calls-at, tripleOf, ensured, lasts}
 use mir.Syntax.{Opd as Operand, Body}
 use Rattle.records.proofs.cut128 as cut128′
 use Rattle.records.proofs.cut128.Symbol.{name as #records·cut128}

@@ -1,6 +1,6 @@
 -- `lent::advance` meets its contract: a walk of its MIR, by hand. The borrow is opened, the clock is read, `arithmetic::larger` is called, of which the proof knows only its contract, the clock is stored, and the borrow is closed at the ledger
 -- with the new clock in its state and all else as it was.
-use Rattle.lent.proofs.Walk.{stands, _≡_, refl, ap, ℕ, _<_, _^_, max, [], _∷_, List, URA, fullShare, named, w32, Val, vunit, vint, vptr, SProp, ent, sep, emp, via, fst∗, snd∗, exE, id⊢, GName, Lft, Share, ftrue, flft, fobs, fbor, Memory, Routine, Heap, Calls, Loops, WpFn, Atoms, sem, Fun, fact, givenOf, tables, tablesOf, Given, ‵, raw, _⊛_, some, later, _$_, _∵_, !, qed, by, move, keep, drop, use0, use1, split, join, pick, rewrite, fsplit, fsplit3, fjoin, fjoin3, feqI, suffices, frame, await, done, look, init, forget, stop, hop, fld, from, load, unit-lit, of-opd, and-then, no-more, assigns, land, returns, enter, alloc1, alloc0, params1, pass1, pass0, free1, free0, whole, sub, look-in, store-in, FmC, owns, Is, shows, cellAt, uint-vals, uint-tells, uint-makes, uint-lawful, u32, RefT, MutRef, ptr-vals, mut-tells, plain, opens, closes, owned, peeks, heard, nothing, spelt, Contract, Triple, calls-at, onEntry, tripleOf, cited, says, Stays, stay-ref, stay-none, walkOf, AllGo, goes-none, goes-ref, Walks, ends-at, walked, ensured, lasts, yes}
+use Rattle.lent_steps.proofs.Walk.{stands, _≡_, refl, ap, ℕ, _<_, _^_, max, [], _∷_, List, URA, fullShare, named, w32, Val, vunit, vint, vptr, SProp, ent, sep, emp, via, fst∗, snd∗, exE, id⊢, GName, Lft, Share, ftrue, flft, fobs, fbor, Memory, Routine, Heap, Calls, Loops, WpFn, Atoms, sem, Fun, fact, givenOf, tables, tablesOf, Given, ‵, raw, _⊛_, some, later, _$_, _∵_, !, qed, by, move, keep, drop, use0, use1, split, join, pick, rewrite, fsplit, fsplit3, fjoin, fjoin3, feqI, suffices, frame, await, done, look, init, forget, stop, hop, fld, from, load, unit-lit, of-opd, and-then, no-more, assigns, land, returns, enter, alloc1, alloc0, params1, pass1, pass0, free1, free0, whole, sub, look-in, store-in, FmC, owns, Is, shows, cellAt, uint-vals, uint-tells, uint-makes, uint-lawful, u32, RefT, MutRef, ptr-vals, mut-tells, plain, opens, closes, owned, peeks, heard, nothing, spelt, Contract, Triple, calls-at, onEntry, tripleOf, cited, says, Stays, stay-ref, stay-none, walkOf, AllGo, goes-none, goes-ref, Walks, ends-at, walked, ensured, lasts, yes}
 use types.SemTy.{Body}
 use denote.Memory.{mem}
 use denote.Struct.Laws as LL
@@ -14,10 +14,10 @@ use Rattle.arithmetic.proofs.larger as larger′
 use Rattle.arithmetic.proofs.larger.Symbol as larger-def
 use Rattle.arithmetic.proofs.larger.Symbol.{name as #arithmetic·larger}
 use Rattle.arithmetic.proofs.larger.Met as larger-thm
-use Rattle.lent.proofs.advance.Key.{name as #lent·advance}
-use Rattle.lent.proofs.advance as f
-use Rattle.lent.proofs.advance.Statement as stated
-use Rattle.lent.proofs.advance.Code as code
+use Rattle.lent_steps.proofs.advance.Key.{name as #lent-steps·advance}
+use Rattle.lent_steps.proofs.advance as f
+use Rattle.lent_steps.proofs.advance.Statement as stated
+use Rattle.lent_steps.proofs.advance.Code as code
 
 abbrev Arg : Type 0
 Arg = RefT Ledger × (ℕ × Unit {0})
@@ -119,6 +119,6 @@ module _ {M : Type 1} (𝓤 : URA M) (H : Heap 𝓤) (A : Atoms 𝓤) (W : Given
 pub advance-spec : {M : Type 1} → stated.statement M
 unfolding code.routine tablesOf
 advance-spec 𝓤 H 𝓜 𝓖 𝓡 =
-    stands 𝓤 H (𝓖 .A) (givenOf 𝓤 H 𝓜 𝓖) f.ended stayed (f.clauses 𝓤 H (𝓖 .A) (𝓜 .mem) (𝓡 .run)) (tablesOf 𝓤 H 𝓜 (tables 𝓤 H 𝓜 𝓡 code.env)) #lent·advance code.function (code.unfolded 𝓤 H 𝓜 𝓡)
+    stands 𝓤 H (𝓖 .A) (givenOf 𝓤 H 𝓜 𝓖) f.ended stayed (f.clauses 𝓤 H (𝓖 .A) (𝓜 .mem) (𝓡 .run)) (tablesOf 𝓤 H 𝓜 (tables 𝓤 H 𝓜 𝓡 code.env)) #lent-steps·advance code.function (code.unfolded 𝓤 H 𝓜 𝓡)
     (goes 𝓤 H (𝓖 .A) (givenOf 𝓤 H 𝓜 𝓖) (𝓜 .mem) (𝓡 .run)) (λ fm. walks 𝓤 H (𝓖 .A) (givenOf 𝓤 H 𝓜 𝓖) (𝓜 .mem) (𝓡 .run) _ _ fm
     (cited 𝓤 H (Larger 𝓤 H (𝓖 .A) (𝓜 .mem) (𝓡 .run)) 𝓜 𝓡 code.env #arithmetic·larger larger-def.routine code.calls-arithmetic·larger (larger-thm.met 𝓤 H 𝓜 𝓖 𝓡)))

@@ -2,7 +2,7 @@
 --     lends-shared     own (the `&κ mut [T]` ((b, o), γ, ys)) ∗ [κ]_q  ⊢ ⇛ ∃ γ₁. own (the `&κ′ [T]` ((b, o), γ₁, ys)) ∗ keptS
 --     shared-back      [†κ′] ∗ keptS  ⊢ ⇛ (own (the `&κ mut [T]` ((b, o), γ, ys)) ∗ [κ]_q)
 -- Assumes `Given`.
-use Rattle.lent.proofs.Walk.{refl, ℕ, List, [], _∷_, length, URA, Lifetime, erased, Val, ent, sep, ex, Lft, GName, Share, fdead, flft, Heap, Atoms, sem, Given, ‵, _⊛_, some, later, _$_, _∵_, !, qed, move, use2, split, pick, fsplit, fjoin, feqL, feqI, await, updating, at-once, show, done, RattleType, RefT, sliceVal, MutSlice, ShrSlice, keptS, sl-reshare, sl-reshare-back}
+use Rattle.lent_steps.proofs.Walk.{refl, ℕ, List, [], _∷_, length, URA, Lifetime, erased, Val, ent, sep, ex, Lft, GName, Share, fdead, flft, Heap, Atoms, sem, Given, ‵, _⊛_, some, later, _$_, _∵_, !, qed, move, use2, split, pick, fsplit, fjoin, feqL, feqI, await, updating, at-once, show, done, RattleType, RefT, sliceVal, MutSlice, ShrSlice, keptS, sl-reshare, sl-reshare-back}
 use borrow.Table.Owned as O
 
 module _ (R : RattleType) (κ κ′ : Lft) (q : Share) (γ : GName) (b o : ℕ) {M : Type 1} (𝓤 : URA M) (H : Heap 𝓤) (A : Atoms 𝓤) (W : Given 𝓤 H A) (ℓ ℓ′ : Lifetime) (ys : List (R .Denot)) where

@@ -1,9 +1,11 @@
 // The form of a section, judged over its octets with nothing stored: where each entry ends, offsets that rise, and the order.
 ghost use mathlib.Core.Path.{_≡_};
 ghost use Prim.Native.Nat.{_+_, _≤_};
+ghost use lib.Dec.{ltb};
 ghost use lib.ListN.{drop, getD, length, take};
 ghost use Rattle.address_set.specs.AddressSet.{rises};
 ghost use Rattle.identifier.specs.Order.{orderOf};
+ghost use Rattle.lists.specs.Pick.{pick};
 ghost use Rattle.lease_file.specs.Place.{EntryEndsAt, afterLease, tailOf};
 ghost use Rattle.lease_file.specs.Section.{isAfter};
 use arithmetic::wide;
@@ -43,22 +45,31 @@ pub fn tail(holds: bool) -> usize
     0
 }
 
-// Whether the k octets from `at` on rise.
+// Whether the k octets from `at` on rise: gathered to the end, with no way out on the way, so that several are looked at together.
 fn rising(s: &[u8], at: usize, k: usize) -> bool
     requires { ⌜ at + k ≤ length (now s) ⌝ }
     ensures { λ r. ⌜ r ≡ rises (take k (drop at (now (s .entry)))) ⌝ }
 {
-    let mut least: usize = 0;
-    let mut i: usize = 0;
-    while i < k {
-        let y = wide(s[at + i]);
-        i += 1;
-        if y < least {
-            return false;
-        }
-        least = y + 1;
+    if k == 0 {
+        return true;
     }
-    true
+    let mut any: u8 = 0;
+    let mut i: usize = 1;
+    while i < k {
+        any = any | falls(s[at + (i - 1)], s[at + i]);
+        i += 1;
+    }
+    any == 0
+}
+
+// 1 where an octet is not above the one before it, else 0.
+fn falls(x: u8, y: u8) -> u8
+    ensures { λ r. ⌜ r ≡ pick (ltb x y) 0 1 ⌝ }
+{
+    if x < y {
+        return 0;
+    }
+    1
 }
 
 // Whether the tenant and the identifier that stand apart are after those of the entry at `here`.

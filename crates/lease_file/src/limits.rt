@@ -76,19 +76,18 @@ fn storable_at(s: &[u8], at: usize) -> bool
     low(s, at + (n + 17), k)
 }
 
-// Whether the k octets from `at` on are all below 64.
+// Whether the k octets from `at` on are all below 64: gathered by or to the end, with no way out on the way, so that several are looked at together.
 fn low(s: &[u8], at: usize, k: usize) -> bool
     requires { ⌜ at + k ≤ length (now s) ⌝ }
     ensures { λ r. ⌜ r ≡ allBy isOffset (take k (drop at (now (s .entry)))) ⌝ }
 {
+    let mut any: u8 = 0;
     let mut i: usize = 0;
     while i < k {
-        if 64 <= s[at + i] {
-            return false;
-        }
+        any = any | s[at + i];
         i += 1;
     }
-    true
+    any < 64
 }
 
 // Whether no tenant has more leases and holds together than records.

@@ -1,13 +1,14 @@
 -- Laws: whether the records can hold the entries of the sections: each of them, and as many of each tenant.
-use mathlib.Core.Bool.{Bool, false, not, true}
+use mathlib.Core.Bool.{Bool, _&&_, false, not, true}
 use mathlib.Core.List.{List}
 use mathlib.Core.Path.{_∙_, _≡_, ap, ap₂, refl, sym}
 use Prim.Native.Nat.{_+_, _-_, _<_, _≤_, ℕ}
 use native.Mathlib.Omega.{arith}
+use lib.Bits.{and-le-l, and-le-r, bitOr, or-add-and, or-lt}
 use lib.Dec.{eqb, leb, ltb}
 use lib.ListN.{drop, drop-of-length-le, getD, length, length-drop, replicate, set, take}
 use lib.Seq.{length-take-le}
-use borrow.Author.Tests.{le-leb, le-ltb, lt-leb, lt-ltb, ltb-false}
+use borrow.Author.Tests.{le-leb, le-ltb, lt-leb, lt-ltb, ltb-false, ltb-true}
 use Rattle.format.specs.Section.{Inside}
 use Rattle.format.specs.Tenants.{tallyBy}
 use Rattle.format.specs.laws.Entries.{TenantsInv, TestInv, count-end, count-small, count-start, one-more, per-get, row-facts, tenant-held, tenant-next, test-end, test-in, test-next, test-not, test-start}
@@ -21,37 +22,51 @@ use Rattle.lease_file.specs.Records.{entryFitB, fewOf, holdFitB, isOffse
 use Rattle.lease_file.specs.Section.{Entry, FileHold, FileLease, entryTenant, leaseIn}
 use Rattle.lease_file.specs.laws.Form.{lease-of}
 
--- ---- offsets
-pub record LowInv (s : List ℕ) (at k i : ℕ) : Type 0 where
+-- ---- offsets, gathered by or
+or-low : (a b : ℕ) → ltb (bitOr a b) 64 ≡ (ltb a 64 && ltb b 64)
+or-low a b = go (ltb a 64) refl (ltb b 64) refl
+  where
+    go : (p : Bool) → ltb a 64 ≡ p → (q : Bool) → ltb b 64 ≡ q → ltb (bitOr a b) 64 ≡ (p && q)
+    go true e true f = lt-ltb (bitOr a b) 64 (or-lt 6 a b (ltb-true a 64 e) (ltb-true b 64 f))
+    go true e false f = le-ltb (bitOr a b) 64 (let h = ltb-false b 64 f in let s = or-add-and a b in let l = and-le-l a b in omega arith)
+    go false e q f = le-ltb (bitOr a b) 64 (let h = ltb-false a 64 e in let s = or-add-and a b in let l = and-le-r a b in omega arith)
+
+pub record LowInv (s : List ℕ) (at k any i : ℕ) : Type 0 where
   pub fits : at + k ≤ length s
   pub within : i ≤ k
-  pub whole : allBy isOffset (drop i (take k (drop at s))) ≡ allBy isOffset (take k (drop at s))
+  pub whole : (ltb any 64 && allBy isOffset (drop i (take k (drop at s)))) ≡ allBy isOffset (take k (drop at s))
 
-pub low-start : {s : List ℕ} {at k : ℕ} → at + k ≤ length s → LowInv s at k 0
+pub low-start : {s : List ℕ} {at k : ℕ} → at + k ≤ length s → LowInv s at k 0 0
 low-start h = record { fits = h; within = omega arith; whole = refl }
 
-module _ {s : List ℕ} {at k i : ℕ} (v : LowInv s at k i) where
-  open-low : i < k → allBy isOffset (take k (drop at s)) ≡ pick (ltb (getD s (at + i) 0) 64) (allBy isOffset (drop (i + 1) (take k (drop at s)))) false
-  unfolding allBy
-  open-low h = sym (v .whole) ∙ ap (allBy isOffset) (part-next s at k i (v .fits) h)
-
-  pub low-not : i < k → 64 ≤ getD s (at + i) 0 → false ≡ allBy isOffset (take k (drop at s))
-  unfolding pick
-  low-not h g = sym (open-low h ∙ ap (λ (b : Bool). pick b (allBy isOffset (drop (i + 1) (take k (drop at s)))) false) (le-ltb _ _ g))
-
-  pub low-next : i < k → getD s (at + i) 0 < 64 → LowInv s at k (i + 1)
-  unfolding pick
-  low-next h g = record {
+module _ {s : List ℕ} {at k any i : ℕ} (v : LowInv s at k any i) where
+  pub low-next : i < k → LowInv s at k (bitOr any (getD s (at + i) 0)) (i + 1)
+  unfolding allBy pick
+  low-next h = record {
     fits = v .fits;
     within = omega arith;
-    whole = sym (open-low h ∙ ap (λ (b : Bool). pick b (allBy isOffset (drop (i + 1) (take k (drop at s)))) false) (lt-ltb _ _ g));
+    whole =
+        ap (λ (b : Bool). b && allBy isOffset (drop (i + 1) (take k (drop at s)))) (or-low any (getD s (at + i) 0))
+        ∙ go (ltb any 64) (ltb (getD s (at + i) 0) 64) (allBy isOffset (drop (i + 1) (take k (drop at s))))
+        ∙ sym (ap (λ (l : List ℕ). ltb any 64 && allBy isOffset l) (part-next s at k i (v .fits) h)) ∙ v .whole;
   }
+    where
+      go : (a b r : Bool) → ((a && b) && r) ≡ (a && pick b r false)
+      go true true r = refl
+      go true false r = refl
+      go false b r = refl
 
-  pub low-end : k ≤ i → true ≡ allBy isOffset (take k (drop at s))
+  pub low-end : k ≤ i → ltb any 64 ≡ allBy isOffset (take k (drop at s))
   unfolding allBy
-  low-end h = sym (sym (v .whole) ∙ ap (allBy isOffset) (drop-of-length-le (take k (drop at s)) {i = i} (let e = part-length s at k (v .fits) in omega arith)))
+  low-end h =
+      go (ltb any 64) ∙ sym (ap (λ (l : List ℕ). ltb any 64 && allBy isOffset l) (drop-of-length-le (take k (drop at s)) {i = i} (let e = part-length s at k (v .fits) in omega arith)))
+      ∙ v .whole
+    where
+      go : (b : Bool) → b ≡ (b && true)
+      go true = refl
+      go false = refl
 
-pub ruleset lows = (low-start, low-not, low-next, low-end)
+pub ruleset lows = (low-start, low-next, low-end)
 
 -- ---- one lease
 module _ {s : List ℕ} {at n : ℕ} (v : Inside afterLease s at) (en : n ≡ getD s (at + 2) 0) where

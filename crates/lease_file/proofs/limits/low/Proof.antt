@@ -6,10 +6,10 @@ use Rattle.lease_file.proofs.limits.low.Statement.{statement}
 use Rattle.lease_file.proofs.limits.low.Tie as tie
 
 abbrev Inv-loop : tie.InvT-loop
-Inv-loop s at k i₀ i = LowInv s at k i
+Inv-loop s at k any₀ i₀ any i = LowInv s at k any i
 
 abbrev μ-loop : tie.MeasureT-loop
-μ-loop s at k i₀ i = k - i
+μ-loop s at k any₀ i₀ any i = k - i
 
 pub low-spec : {M : Type 1} → statement M
 low-spec =
@@ -17,7 +17,6 @@ low-spec =
     (tie.spec
     Inv-loop
     μ-loop
-    (λ c. search (lows, needs))
     (λ c. search (lows, needs))
     (λ c. search (lows, needs))
     (λ c. search (lows, needs))

@@ -2,7 +2,6 @@
 // and the board that leases make, with which a book's own is compared.
 ghost use mathlib.Core.Path.{_≡_};
 ghost use Rattle.lists.specs.Fold.{fold};
-ghost use Prim.Native.Nat.{min};
 ghost use lib.ListN.{take};
 ghost use Rattle.state.specs.Book.{inUse, boardWith, boardWithout};
 ghost use Rattle.state.specs.Edit.{boardEdited, boardLeft};
@@ -32,21 +31,12 @@ pub fn take(b: Board, h: usize, l: Lease) -> Board
 
 // ---- what a call does
 
-fn fewer(n: usize, most: usize) -> usize
-    ensures { λ r. ⌜ r ≡ min n most ⌝ }
-{
-    if n < most {
-        return n;
-    }
-    most
-}
-
 // A tenant's first n records are taken off: those that have ended stand in front.
 pub fn clear(b: Board, h: usize, t: TenantLeases, n: usize) -> Board
     ensures { λ r. ⌜ r ≡ fold (boardWithout h) b (take n (inUse t)) ⌝ }
 {
     let mut now = b;
-    let many = fewer(n, state::cut16(t.count));
+    let many = arithmetic::fewer(n, state::cut16(t.count));
     let mut i: usize = 0;
     while i < many {
         let l = t.leases[i];

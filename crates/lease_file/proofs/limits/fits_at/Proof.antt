@@ -1,5 +1,5 @@
 -- `fits_at` meets its contract: by `fit-yes`, `fit-not`.
-use Rattle.lease_file.specs.laws.Limits.{fit-not, fit-yes, lease-inside}
+use Rattle.lease_file.specs.laws.Limits.{fit-not, fit-yes}
 use borrow.Author.Needs.{needs}
 use Rattle.lease_file.proofs.limits.fits_at.Statement.{statement}
 use Rattle.lease_file.proofs.limits.fits_at.Tie as tie
@@ -16,5 +16,5 @@ fits-at-spec =
     (λ c. search needs)  -- src/limits.rt:43:16 shared-slice-read-of-kind
     (λ c κs. search needs)  -- src/limits.rt:43:8 of-kind-requires
     (λ c κs. search needs)  -- src/limits.rt:44:9 storable-at-requires
-    (λ c. search (fit-yes, fit-not, lease-inside, needs))  -- src/limits.rt:44:9 returns
-    (λ c. search (fit-yes, fit-not, lease-inside, needs)))  -- src/limits.rt:38:1 returns-2
+    (λ c. search (fit-yes, needs))  -- src/limits.rt:44:9 returns
+    (λ c. search (fit-yes, fit-not, needs)))  -- src/limits.rt:38:1 returns-2

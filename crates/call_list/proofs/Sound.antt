@@ -18,7 +18,9 @@ use Rattle.state_file.specs.StateFile.{roomAfter, writtenOf}
 use Rattle.record_call.specs.declared.ServedRecords.{ServedRecords}
 use Rattle.records.specs.Records.{tableFrom}
 use Rattle.records.specs.Lent.{roomLent, writtenLent}
-use Rattle.record_verdict.specs.Verdict.{judgeLent}
+use Rattle.record_verdict.specs.declared.JudgedRecords.{JudgedRecords}
+use Rattle.record_verdict.specs.Verdict.{judgeLent, JudgesRecords}
+use Rattle.record_verdict.specs.laws.Lent.{Raises, ledger-is, lent-clock}
 use Rattle.record_call.specs.Call.{LentAnswer, serveLent, ServesRecords}
 use Rattle.record_call.specs.laws.Call.{lent-joined}
 use Rattle.record_call.specs.laws.Lent.{served-ledger}
@@ -36,6 +38,17 @@ pub owned-served : (g : Ledger) (ls : List Lease) (names : List ℕ) (c : Call) 
     → ServesRecords (serveLent g ls names c) before after r → s ≡ raised (g .state) (r .clock)
     → ServesOwned (serveLent g ls names c) before after (record { outcome = r .outcome; owned = record { ledger = record { state = s; memory = r .memory }; records = r .records } })
 owned-served g ls names c v p = record { tells = v .tells; ledger = served-ledger g ls names c v p; leases = v .leases }
+
+-- and of the first half
+pub owned-judged : (g : Ledger) (ls : List Lease) (names : List ℕ) (client time : ℕ) (d : List ℕ) {r : JudgedRecords} {s : State}
+    → JudgesRecords (judgeLent g ls names client time d) r → s ≡ raised (g .state) (r .clock)
+    → JudgesOwned (judgeLent g ls names client time d) (record { ruling = r .ruling; owned = record { ledger = record { state = s; memory = r .memory }; records = r .records } })
+unfolding Raises
+owned-judged g ls names client time d {r = r} v p = record {
+  ruling = v .ruling;
+  ledger = ledger-is g (ap {B = Ledger} (λ (s : State). record { state = s; memory = r .memory }) p) (v .clock) (v .memory) (lent-clock (length ls) g ls names client time d);
+  leases = v .leases;
+}
 
 -- ---- sound from call to call
 unfoldable pub lent : Ledger → List Lease → List ℕ → Lent

@@ -7,11 +7,13 @@ ghost use Rattle.records.specs.Lent.{roomLent, writtenLent};
 ghost use Rattle.record_call.specs.Call.{serveLent};
 ghost use Rattle.record_survey.specs.Survey.{SoundFrom};
 ghost use Rattle.reply.specs.Reply.{leastRoom};
-ghost use Rattle.owned.specs.Owned.{ServesOwned};
+ghost use Rattle.owned.specs.Owned.{JudgesOwned, ServesOwned};
+ghost use Rattle.record_verdict.specs.Verdict.{judgeLent};
 ghost use Rattle.call_list.specs.CallList.{answerRoom, replayed, stopIn, callIn, recordSize};
 ghost use Rattle.call_list.specs.Promises.{Answers, OwnedSound, Replays};
 use owned::Owned;
 use owned::OwnedCall;
+use owned::OwnedJudged;
 use state::Ledger;
 use state_file::Written;
 
@@ -76,6 +78,32 @@ pub fn serve_sound(
     let left = r.records;
     OwnedCall {
         outcome: told,
+        owned: Owned {
+            ledger: Ledger {
+                state: s,
+                memory: noted,
+            },
+            records: left,
+        },
+    }
+}
+
+// The first half on such a book, likewise. The names are no matter to it but for what is known of the book.
+pub fn judge_sound(o: Owned, names: &[u8], datagram: &[u8], client: u32, time: u32) -> OwnedJudged
+    requires { ⌜ SoundFrom (o .ledger) (o .records .leases) (now names) ⌝ }
+    ensures { λ r. ⌜ JudgesOwned (judgeLent (o .ledger) (o .records .leases) (now (names .entry)) client time (now (datagram .entry))) r ⌝ }
+{
+    let ledger = o.ledger;
+    let records = o.records;
+    let held = record_survey::holdings(records);
+    let j = record_verdict::judge_sound(ledger, records, held, datagram, client, time);
+    let ruling = j.ruling;
+    let state = ledger.state;
+    let s = state::raise(state, j.clock);
+    let noted = j.memory;
+    let left = j.records;
+    OwnedJudged {
+        ruling: ruling,
         owned: Owned {
             ledger: Ledger {
                 state: s,

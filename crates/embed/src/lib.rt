@@ -269,7 +269,7 @@ pub extern "C" fn banshorra_judge(
         let mut kept = [0u8; NAMES_ROOM];
         let k = keep_names(&mut kept, file, f.from, f.end);
         let o = f.owned;
-        let j = owned::judge(o, &kept[..k], datagram, client, time);
+        let j = call_list::judge_sound(o, &kept[..k], datagram, client, time);
         let ruling = j.ruling;
         let b = j.owned;
         let w = call_list::write_sound(b, &kept[..k], file);

@@ -8,8 +8,7 @@ ghost use Rattle.server.specs.Serve.{Tells};
 ghost use Rattle.server.specs.Halves.{writeOf};
 ghost use Rattle.records.specs.Lent.{readLent, writtenLent, roomLent};
 ghost use Rattle.record_call.specs.Call.{serveLent};
-ghost use Rattle.record_verdict.specs.Verdict.{judgeLent};
-ghost use Rattle.owned.specs.Owned.{ServesOwned, JudgesOwned, ReadsOwned};
+ghost use Rattle.owned.specs.Owned.{ServesOwned, ReadsOwned};
 use records::Records;
 use server::Outcome;
 use server::Ruling;
@@ -65,23 +64,6 @@ pub fn serve(
     );
     OwnedCall {
         outcome: r,
-        owned: Owned {
-            ledger: ledger,
-            records: Records { leases: leases },
-        },
-    }
-}
-
-// Document 02's first half: the verdict on a datagram, with the names of the scopes lent.
-pub fn judge(o: Owned, names: &[u8], datagram: &[u8], client: u32, time: u32) -> OwnedJudged
-    ensures { λ r. ⌜ JudgesOwned (judgeLent (o .ledger) (o .records .leases) (now (names .entry)) client time (now (datagram .entry))) r ⌝ }
-{
-    let mut ledger = o.ledger;
-    let records = o.records;
-    let mut leases = records.leases;
-    let r = lent::judge(datagram, client, time, &mut ledger, &mut leases, names);
-    OwnedJudged {
-        ruling: r,
         owned: Owned {
             ledger: ledger,
             records: Records { leases: leases },

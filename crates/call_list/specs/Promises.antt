@@ -1,4 +1,4 @@
--- Definitions: what is asked of the book that a list of calls starts from, and what each function promises of its answer and of what was lent to it.
+-- Definitions: what is asked of the book that a call, a list of calls or the writer starts from, and what each function promises of its answer and of what was lent to it.
 use Prim.Native.Nat.{ℕ}
 use mathlib.Core.Path.{_≡_}
 use mathlib.Core.List.{List, [], _++_}

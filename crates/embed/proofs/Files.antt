@@ -1,4 +1,4 @@
--- Laws: what the functions on a file in a buffer are proved by: the book of its first n octets, and the answer and the buffer after a call or a list
+-- Laws: what the functions on a file in a buffer are proved by: the book of its first n octets and its names, and the answer and the buffer after a call or a list
 -- of calls, from what the calls below gave.
 use mathlib.Core.Path.{_≡_, refl, sym, ap, _∙_, subst}
 use mathlib.Core.Bool.{Bool, true, false}

@@ -1,4 +1,4 @@
--- Laws: a held `&κ Ledger` or `&κ mut Ledger`, in steps of `Types/Kit.antt`'s calculus: it is opened and closed again, so that the ledger can be copied or stored as a whole; and a `&mut` is given up to `lent::advance`.
+-- Laws: a held `&κ Ledger` or `&κ mut Ledger`, in steps of `Types/Kit.antt`'s calculus: it is opened and closed again, so that the ledger can be copied or stored as a whole; and a `&mut` is given up to `lent_steps::advance`.
 --     Seen, Held       what owning a `&κ Ledger` and a `&κ mut Ledger` is
 --     looks-ledger      a `&` and a share of its lifetime's token give a share of the ledger's cell, which holds the ledger's machine value, and one item to shut it with
 --     shuts-ledger      those two give back the token; the `&` is let go

@@ -1,4 +1,4 @@
--- Laws: the calls of `lent::load` and `lent::store` on a slice of lease records that a walk holds, each as one step of `Types/Kit.antt`'s calculus. The held slice and a share of its lifetime's token stand at the head of
+-- Laws: the calls of `lent_steps::load` and `lent_steps::store` on a slice of lease records that a walk holds, each as one step of `Types/Kit.antt`'s calculus. The held slice and a share of its lifetime's token stand at the head of
 -- the context before the step and after it, and the rest of the context is as it was; so the operands' positions are those of the context before the step.
 --     loads        of a held `&κ mut [Lease]`: it is lent as a `&` for a lifetime of the call, and comes back as it was. The walk goes on with the records r at the machine value w, and `r .leases ≡ first128 ys`
 --     loads-on     the same of a held `&κ [Lease]`, of which a copy is passed on

@@ -1,4 +1,4 @@
--- Definitions: a set of offsets taken apart, as the loop over them does it.
+-- Definitions: a set of offsets taken apart, as the loops over them do it, by offset and by range; and what a holding gains by a range.
 use Prim.Native.Nat.{ℕ, _+_, _-_, _<_, _≤_, min}
 use mathlib.Core.Path.{_≡_}
 use mathlib.Core.List.{_∷_, _++_}
@@ -25,5 +25,6 @@ pub record Runs (m : ℕ) (r : Run) : Type 0 where
 unfoldable pub gained : ℕ → ℕ
 gained c = pick (eqb c 0) 1 0
 
-unfoldable pub raised : ℕ → ℕ → ℕ
-raised d n = pick (eqb n 0) d (min (d + n) 255)
+-- a holding with so many addresses more
+unfoldable pub heldMore : ℕ → ℕ → ℕ
+heldMore d n = pick (eqb n 0) d (min (d + n) 255)

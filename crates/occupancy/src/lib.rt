@@ -6,7 +6,7 @@ ghost use lib.Dec.{eqb};
 ghost use Rattle.lists.specs.Fold.{fold};
 ghost use Rattle.lists.specs.Same.{sameBy};
 ghost use Rattle.address_set.specs.AddressSet.{offsets};
-ghost use Rattle.occupancy.specs.Split.{Runs, Splits, gained, raised};
+ghost use Rattle.occupancy.specs.Split.{Runs, Splits, gained, heldMore};
 ghost use Rattle.occupancy.specs.Board.{noBoard, moreOn, lessOn, shrunk, laidOn, liftedOff, addedTo, takenFrom, placeIn, scopeBoardAt, entryAt, heldIn, sameEntry, sameScopeBoard, sameBoard};
 use address_set::Range;
 
@@ -84,8 +84,8 @@ fn gain(count: u8) -> u8
 }
 
 // A holding with so many addresses more.
-fn raise(held: u8, by: u8) -> u8
-    ensures { λ r. ⌜ r ≡ raised held by ⌝ }
+fn raise_held(held: u8, by: u8) -> u8
+    ensures { λ r. ⌜ r ≡ heldMore held by ⌝ }
 {
     if held < 255 - by {
         return held + by;
@@ -161,7 +161,7 @@ pub fn lay(v: ScopeBoard, g: usize, set: u64) -> ScopeBoard
             now.entries[a] = x;
             a += 1;
         }
-        let d = raise(now.held[g], gains);
+        let d = raise_held(now.held[g], gains);
         now.held[g] = d;
         left = r.rest;
     }

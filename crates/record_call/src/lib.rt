@@ -1,4 +1,4 @@
-// The call on the lent lease records by value, made of its two halves.
+// The call on the lent lease records by value, made of its two halves; and the call on a book that is known to be sound.
 ghost use mathlib.Core.Path.{_≡_};
 ghost use lib.ListN.{length};
 ghost use Rattle.record_call.specs.Call.{ServesShort, serveLent, serveWith, ServesRecords};

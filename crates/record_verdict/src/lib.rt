@@ -1,4 +1,4 @@
-// The first half of a call on the lent lease records by value: the verdict, the clock, what is remembered and the records afterwards.
+// The first half of a call on the lent lease records by value, tested first or known to be sound: the verdict, the clock, what is remembered and the records afterwards.
 ghost use mathlib.Core.Bool.{_||_};
 ghost use mathlib.Core.Path.{_≡_};
 ghost use Prim.Native.Nat.{_<_};

@@ -16,7 +16,7 @@ fn hex_digit(d: u8) -> u8
     87 + d
 }
 
-fn put_octet(out: &mut [u8], at: usize, x: u8) -> usize
+fn put_hex_octet(out: &mut [u8], at: usize, x: u8) -> usize
     requires { ⌜ at + 2 ≤ length (now out) ⌝ }
     ensures { λ r. ⌜ Wrote (now (out .entry)) at (hexOf (x ∷ [])) (now (out .exit)) r ⌝ }
 {
@@ -32,7 +32,7 @@ fn put_hex(out: &mut [u8], at: usize, s: &[u8], n: usize) -> usize
     let mut i: usize = 0;
     let mut to = at;
     while i < n {
-        to = put_octet(out, to, s[i]);
+        to = put_hex_octet(out, to, s[i]);
         i += 1;
     }
     to

@@ -1,5 +1,5 @@
 // The state file (document 01's campus file): its reader and its writer, by value. The reader judges the form, then the limits, then loads the
-// book and judges whether it is sound; the writer judges the book, counts its octets and puts them. The names for the scopes are octets to both: of
+// book and judges whether it is sound; the writer judges the book, unless it is known to be sound, counts its octets and puts them. The names for the scopes are octets to both: of
 // a file they are shown as the part in which they stand, and they are written as they are lent.
 mod form;
 mod limits;

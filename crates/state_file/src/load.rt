@@ -1,4 +1,4 @@
-// The book of a file whose form is right: the settings, then the leases and holds, then the releases, then soundness, and then the board.
+// The book of a file whose form is right: the settings, then the leases and holds, then the releases, then soundness, and then the board; or its refusal alone, without the board.
 ghost use mathlib.Core.Bool.{_&&_};
 ghost use mathlib.Core.List.{map};
 ghost use mathlib.Core.Path.{_≡_};

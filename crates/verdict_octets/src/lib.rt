@@ -153,7 +153,7 @@ fn is_set(n: u8) -> bool
 }
 
 // Two octets as a count or a place.
-fn count_of(n: u16) -> usize
+fn wide_count(n: u16) -> usize
     ensures { λ r. ⌜ r ≡ n ⌝ }
 {
     n as usize
@@ -202,7 +202,7 @@ fn language_in(s: &[u8; 75]) -> Language
     let kept = run_of_8(s, 33);
     Language {
         asked: is_set(s[30]),
-        len: count_of(octets::read_u16(s, 31)),
+        len: wide_count(octets::read_u16(s, 31)),
         octets: kept,
     }
 }
@@ -226,7 +226,7 @@ pub fn take(s: &[u8; 75]) -> Ruling
     let l = language_in(s);
     Ruling {
         verdict: v,
-        offset: count_of(octets::read_u16(s, 4)),
+        offset: wide_count(octets::read_u16(s, 4)),
         count: arithmetic::wide(s[74]),
         tenant: arithmetic::wide(s[6]),
         xid: octets::read_u32(s, 7),

@@ -1,7 +1,7 @@
--- `lent::judge` meets its contract: a walk of its MIR, by hand, as that of `serve` without a reply. The ledger's borrow is opened, the ledger copied out, and the borrow closed as it was; `load` gives the records of the slice by value; `records::judge` gets both with the datagram.
+-- `lent::judge` meets its contract: a walk of its MIR, by hand, as that of `serve` without a reply. The ledger's borrow is opened, the ledger copied out, and the borrow closed as it was; `load` gives the records of the slice by value; `record_verdict::judge` gets both with the datagram.
 -- The memory that came back is stored in the ledger, whose borrow then goes to `advance` with the clock that came back, and the slice to `store` with the records that came back; the verdict is handed on whole. Of each callee the proof knows only that it meets its contract.
 -- The ledger is passed on at its own lifetime, share and ghost name, so what `advance` says of its last value is said of this (`gave-ref`). Nothing is kept of the `&` of the datagram and of the names.
--- The walk has three parts: `came-back` begins where `records::judge` is back, and `keep-on` where its answer has landed.
+-- The walk has three parts: `came-back` begins where `record_verdict::judge` is back, and `keep-on` where its answer has landed.
 use Rattle.lent_steps.proofs.Walk.{stands, tyOf, after, holds, bare, Idle, spot, idle, ends1, ends4, Go, Seq, Ty, runs, lands, atRet, _≡_, refl, ap, ℕ, _<_, _^_, [], _∷_, List, length, URA, fullShare, named, w32, w64, Val, vint, vptr, SProp, ent, emp, via, fst∗, snd∗, exE, id⊢, Lft, Share, GName, ftrue, flft, fres, fat, Memory, Routine, Heap, Calls, Loops, WpFn, Atoms, sem, Fun, fact, givenOf, tables, tablesOf, Given, ‵, raw, _⊛_, some, later, ⋆, _$_, _∵_, !, qed, by, move, keep, drop, use1, group, split, join, pick, rewrite, fsplit, fjoin, suffices, frame, await, done, look, look-raw, init, store, stop, hop, fld, from, load, of-opd, addr, and-then, no-more, assigns, land, returns, enter, alloc1, alloc0, params1, pass1, pass0, free0, whole, sub, look-in, agg, FmC, owns, Is, shows, uint-makes, uint-vals, uint-tells, nothing-lawful, usize, u8, u32, RefT, MutRef, ptr-vals, mut-tells, slice-vals, shr-slice-tells, mut-slice-tells, MutSlice, ShrSlice, Room, only, owned, peeks, heard, nothing, plain, shrSliceOf, Contract, Triple, calls-at, onEntry, tripleOf, cited, says, Stays, stay-dropped, stay-slice, gave-ref, walkOf, AllGo, goes-dropped, goes-slice, goes-gave-ref, Walks, ends-at, walked, ensured, lasts, yes}
 use mir.Syntax.{Sym, place, tyStruct, tcons, tnil}
 use mir.Val.{vstruct, vcons, vnil}
@@ -49,7 +49,7 @@ use Rattle.lent.proofs.judge.Code as code
 abbrev ty : ℕ → Ty
 ty n = tyOf (code.function .locals) n
 
--- the type of what `records::judge` gives back, of a verdict, a clock, a memory and records; and the locals
+-- the type of what `record_verdict::judge` gives back, of a verdict, a clock, a memory and records; and the locals
 abbrev given : Sym → Ty → Ty → Ty → Ty
 given ν c m r = tyStruct ν (tcons (ty 0) (tcons c (tcons m (tcons r tnil))))
 
@@ -67,7 +67,7 @@ stayed = (
 )
 
 module _ {M : Type 1} (𝓤 : URA M) (H : Heap 𝓤) (A : Atoms 𝓤) (mem : Memory → SProp 𝓤) (run : Routine → Fun 𝓤) where
-  -- the contract of `records::judge`
+  -- the contract of `record_verdict::judge`
   abbrev Judge : Contract 𝓤
   Judge = tripleOf 𝓤 H A judge′.signature (judge′.spec 𝓤 H A mem run)
 
@@ -113,7 +113,7 @@ module _ {M : Type 1} (𝓤 : URA M) (H : Heap 𝓤) (A : Atoms 𝓤) (W : Given
       nothing ! $ nothing ! $ fjoin ! $ move ! (2 ∷ 0 ∷ []) $ fjoin ! $ move ! (1 ∷ 0 ∷ []) $ fjoin ! $ nothing ! $ fjoin ! $ nothing ! $ fjoin ! $ nothing ! $ fjoin ! $
       owned ! O.the-row (Is O.the-row) (LL.makes O.the-type O′.the-plain 𝓤 H A) r _ is $ move ! (1 ∷ 0 ∷ []) $ done !
 
-  -- what the triple of `records::judge` binds outside, and what makes its `pre`
+  -- what the triple of `record_verdict::judge` binds outside, and what makes its `pre`
   abbrev Arg′ : Type 0
   Arg′ = Ledger × (Records × (ℕ × (RefT (List ℕ) × (RefT (List ℕ) × (ℕ × (ℕ × Unit {0}))))))
 
@@ -133,7 +133,7 @@ module _ {M : Type 1} (𝓤 : URA M) (H : Heap 𝓤) (A : Atoms 𝓤) (W : Given
       owned ! T.the-row (Is T.the-row) (LL.makes T.the-type T′.the-plain 𝓤 H A) h _ is-h $ fjoin ! $
       nothing ! $ move ! (3 ∷ 0 ∷ []) $ join ! $ move ! (2 ∷ 0 ∷ []) $ join ! $ join ! $ nothing ! $ move ! (1 ∷ 0 ∷ []) $ done !
 
-  -- what `records::judge` says of its answer
+  -- what `record_verdict::judge` says of its answer
   abbrev Judged : Records → JudgedRecords → Type 0
   Judged r z = JudgesRecords (judgeWith (length ys) h (r .leases) names m n os) z
 
@@ -149,7 +149,7 @@ module _ {M : Type 1} (𝓤 : URA M) (H : Heap 𝓤) (A : Atoms 𝓤) (W : Given
 
   module _ (C : Calls 𝓤 H) (Λ : Loops 𝓤 H) (fm : FmC 𝓤 H (W .laws) C) (known-load : Triple 𝓤 (C #lent-steps·load) (Load 𝓤 H A mem run)) (known-judge : Triple 𝓤 (C #record-verdict·judge) (Judge 𝓤 H A mem run))
       (known-advance : Triple 𝓤 (C #lent-steps·advance) (Advance 𝓤 H A mem run)) (known-store : Triple 𝓤 (C #lent-steps·store) (Store 𝓤 H A mem run)) where
-    -- once `records::judge` has given back z: its memory is stored in the ledger, whose borrow goes to `advance`, its records go to `store`, and its verdict, at the machine value v, is handed on whole. Q is what the function has to end in
+    -- once `record_verdict::judge` has given back z: its memory is stored in the ledger, whose borrow goes to `advance`, its records go to `store`, and its verdict, at the machine value v, is handed on whole. Q is what the function has to end in
     keep-on : (l₀ l₄ l₅ l₉ l₁₃ l₁₄ l₁₅ l₁₆ : ℕ) (u₁ u₂ u₃ u₆ u₇ u₈ u₁₀ u₁₁ u₁₂ : Idle) (ν : Sym) (τc τm τr : Ty) (x : Val) (Q : Val → SProp 𝓤) (z : JudgedRecords)
         → Is O.the-row (z .ruling) (LL.vals O.the-type O′.the-laws (z .ruling)) → z .clock < 2 ^ 32 → Is Y.the-row (z .memory) (LL.vals Y.the-type Y′.the-laws (z .memory)) → Is N.the-row (z .records) (x ∷ []) → Room R.the-row (length ys)
         → ((h′ : Ledger) (zs : List Lease) → h′ ≡ raisedIn (with-memory h (z .memory)) (z .clock) → length zs ≡ length ys → zs ≡ covered ys (z .records .leases)
@@ -177,7 +177,7 @@ module _ {M : Type 1} (𝓤 : URA M) (H : Heap 𝓤) (A : Atoms 𝓤) (W : Given
         move ! (38 ∷ 39 ∷ 36 ∷ 37 ∷ 34 ∷ 35 ∷ 32 ∷ 33 ∷ 30 ∷ 31 ∷ 28 ∷ 29 ∷ 26 ∷ 27 ∷ 24 ∷ 25 ∷ 22 ∷ 23 ∷ 20 ∷ 21 ∷ 18 ∷ 19 ∷ 16 ∷ 17 ∷ 14 ∷ 15 ∷ 12 ∷ 13 ∷ 10 ∷ 11 ∷ 8 ∷ 9 ∷ 6 ∷ 7 ∷ []) $ ends4 ! $ ends4 ! $ ends4 ! $ ends4 ! $ ends1 ! $ free0 ! $
         keep ! (4 ∷ 3 ∷ 1 ∷ 5 ∷ 2 ∷ 0 ∷ []) $ by ! (end h′ zs e₃ len e₄)))
 
-    -- once `records::judge` is back with its answer at w₂
+    -- once `record_verdict::judge` is back with its answer at w₂
     came-back : (l₀ l₄ l₅ l₉ l₁₃ l₁₄ l₁₅ l₁₆ : ℕ) (u₁ u₂ u₃ u₆ u₇ u₈ u₁₀ u₁₁ u₁₂ : Idle) (r₁ : Records) (w₁ w₂ : Val) → r₁ .leases ≡ first128 ys → Room R.the-row (length ys)
         → Seq (Go {0}) W (raw (Judge 𝓤 H A mem run .post (to-judge r₁ w₁) w₂) ∷ ‵ (Mut κ₂ b₂ o₂ γ₂ (length ys) ys) ∷ ‵ (flft κ₂ q₂) ∷ ‵ (Held κ₁ b₁ o₁ γ₁ h) ∷ ‵ (flft κ₁ q₁)
         ∷ bare (ty 16) l₁₆ (bare (ty 15) l₁₅ (bare (ty 14) l₁₄ (bare (ty 13) l₁₃ (idle u₁₂ (idle u₁₁ (idle u₁₀ (bare (ty 9) l₉
@@ -219,7 +219,7 @@ module _ {M : Type 1} (𝓤 : URA M) (H : Heap 𝓤) (A : Atoms 𝓤) (W : Given
         -- [the slice; [κ₂]; the ledger's borrow; [κ₁]; _16; …; _0; …; the names; [κ₃]; the datagram; [κ₀]]
         land ! (from ! (stop !)) (init ! 20 refl (LL.lawful N.the-type N′.the-laws 𝓤 H A W .typed r₁ _ is₁ .0)) $
         assigns ! (of-opd ! (load ! (from ! (fld ! refl (stop !))) (look-in ! 26 (sub ! 1 refl (whole !))))) (from ! (stop !)) (init ! 12 refl (tt, record { fits = room₂ .0 })) $
-        -- the ledger, the records, their number, the names, the datagram, the client and the time go to `records::judge`
+        -- the ledger, the records, their number, the names, the datagram, the client and the time go to `record_verdict::judge`
         move ! (39 ∷ 41 ∷ 38 ∷ 40 ∷ []) $ group ! 4 $ use1 W (raw (Judge 𝓤 H A mem run .pre (to-judge r₁ w₁))) (goes-judge r₁ w₁ is-h is₁ room₂) $
         calls-at ! fm (Judge 𝓤 H A mem run) known-judge (to-judge r₁ w₁) (and-then ! (load ! (from ! (stop !)) (look ! 23 refl)) (and-then ! (load ! (from ! (stop !)) (look ! 21 refl)) (and-then ! (load ! (from ! (stop !)) (look ! 13 refl)) (and-then ! (load ! (from ! (stop !)) (look ! 25 refl))
         (and-then ! (load ! (from ! (stop !)) (look ! 35 refl)) (and-then ! (load ! (from ! (stop !)) (look ! 33 refl)) (and-then ! (load ! (from ! (stop !)) (look ! 31 refl)) (no-more !)))))))) (λ w₂.

@@ -1,7 +1,7 @@
--- `lent::serve` meets its contract: a walk of its MIR, by hand. The ledger's borrow is opened, the ledger copied out, and the borrow closed as it was; `load` gives the records of the slice by value; `records::serve` gets both with the datagram and the reply buffer.
+-- `lent::serve` meets its contract: a walk of its MIR, by hand. The ledger's borrow is opened, the ledger copied out, and the borrow closed as it was; `load` gives the records of the slice by value; `record_call::serve` gets both with the datagram and the reply buffer.
 -- The memory that came back is stored in the ledger, whose borrow then goes to `advance` with the clock that came back, and the slice to `store` with the records that came back. Of each callee the proof knows only that it meets its contract.
 -- The reply buffer and the ledger are passed on at their own lifetimes, shares and ghost names, so what the callees say of their last values is said of these (`gave-slice`, `gave-ref`). Nothing is kept of the `&` of the datagram.
--- The walk has two parts: `keep-on` begins where `records::serve` has given back its answer.
+-- The walk has two parts: `keep-on` begins where `record_call::serve` has given back its answer.
 use Rattle.lent_steps.proofs.Walk.{stands, tyOf, after, holds, bare, Idle, spot, idle, ends4, Go, Seq, Item, Ty, runs, atRet, _≡_, refl, ap, ℕ, _<_, _^_, [], _∷_, List, length, URA, fullShare, named, w32, w64, Val, vint, vptr, SProp, ent, emp, via, fst∗, id⊢, Lft, Share, GName, Fml, ftrue, flft, fres, fat, Memory, Routine, Heap, Calls, Loops, WpFn, Atoms, Fun, fact, givenOf, tables, tablesOf, Given, ‵, raw, _⊛_, some, later, ⋆, _$_, _∵_, !, qed, by, move, keep, drop, use1, group, split, join, pick, rewrite, fsplit, fjoin, feqL, suffices, frame, await, done, look, look-raw, init, store, stop, hop, fld, from, load, of-opd, addr, and-then, no-more, assigns, land, returns, enter, alloc1, alloc0, params1, pass1, pass0, free0, whole, sub, look-in, agg, FmC, owns, Is, shows, uint-makes, uint-vals, uint-tells, nothing-lawful, usize, u8, u32, RefT, MutRef, ptr-vals, mut-tells, slice-vals, shr-slice-tells, mut-slice-tells, MutSlice, ShrSlice, Room, finally, only, owned, peeks, heard, nothing, plain, shrSliceOf, Contract, Triple, calls-at, onEntry, tripleOf, cited, says, Stays, stay-dropped, stay-slice, gave-ref, gave-slice, walkOf, AllGo, goes-dropped, goes-slice, goes-gave-ref, goes-gave-slice, Walks, ends-at, walked, ensured, lasts, yes}
 use mir.Syntax.{Sym, tyStruct, tcons, tnil}
 use mir.Val.{vstruct, vcons, vnil}
@@ -50,7 +50,7 @@ use Rattle.lent.proofs.serve.Code as code
 abbrev ty : ℕ → Ty
 ty n = tyOf (code.function .locals) n
 
--- the type of what `records::serve` gives back, of an outcome, a clock, a memory and records; and the locals
+-- the type of what `record_call::serve` gives back, of an outcome, a clock, a memory and records; and the locals
 abbrev given : Sym → Ty → Ty → Ty → Ty
 given ν c m r = tyStruct ν (tcons (ty 0) (tcons c (tcons m (tcons r tnil))))
 
@@ -71,7 +71,7 @@ stayed = (
 )
 
 module _ {M : Type 1} (𝓤 : URA M) (H : Heap 𝓤) (A : Atoms 𝓤) (mem : Memory → SProp 𝓤) (run : Routine → Fun 𝓤) where
-  -- the contract of `records::serve`
+  -- the contract of `record_call::serve`
   abbrev Serve : Contract 𝓤
   Serve = tripleOf 𝓤 H A serve′.signature (serve′.spec 𝓤 H A mem run)
 
@@ -127,7 +127,7 @@ module _ {M : Type 1} (𝓤 : URA M) (H : Heap 𝓤) (A : Atoms 𝓤) (W : Given
       nothing ! $ move ! (3 ∷ 0 ∷ []) $ fjoin ! $ nothing ! $ fjoin ! $ move ! (2 ∷ 0 ∷ []) $ fjoin ! $ move ! (1 ∷ 0 ∷ []) $ fjoin ! $ nothing ! $ fjoin ! $ nothing ! $ fjoin ! $ nothing ! $ fjoin ! $
       owned ! O.the-row (Is O.the-row) (LL.makes O.the-type O′.the-plain 𝓤 H A) r _ is $ move ! (1 ∷ 0 ∷ []) $ done !
 
-  -- what the triple of `records::serve` binds outside, and what makes its `pre`
+  -- what the triple of `record_call::serve` binds outside, and what makes its `pre`
   abbrev Arg′ : Type 0
   Arg′ = Ledger × (Records × (ℕ × (RefT (List ℕ) × (RefT (List ℕ) × (ℕ × (ℕ × (RefT (List ℕ) × Unit {0})))))))
 
@@ -147,7 +147,7 @@ module _ {M : Type 1} (𝓤 : URA M) (H : Heap 𝓤) (A : Atoms 𝓤) (W : Given
       owned ! T.the-row (Is T.the-row) (LL.makes T.the-type T′.the-plain 𝓤 H A) h _ is-h $ fjoin ! $
       nothing ! $ move ! (4 ∷ 0 ∷ []) $ join ! $ move ! (3 ∷ 0 ∷ []) $ join ! $ move ! (2 ∷ 0 ∷ []) $ join ! $ join ! $ nothing ! $ move ! (1 ∷ 0 ∷ []) $ done !
 
-  -- what `records::serve` binds for its parameters at exit, which is the last octets of the reply buffer, and what it says of that
+  -- what `record_call::serve` binds for its parameters at exit, which is the last octets of the reply buffer, and what it says of that
   abbrev Last : Type 0
   Last = Unit {0} × (Unit {0} × (Unit {0} × (Unit {0} × (Unit {0} × (Unit {0} × (Unit {0} × (List ℕ × Unit {0})))))))
 
@@ -166,7 +166,7 @@ module _ {M : Type 1} (𝓤 : URA M) (H : Heap 𝓤) (A : Atoms 𝓤) (W : Given
 
   module _ (C : Calls 𝓤 H) (Λ : Loops 𝓤 H) (fm : FmC 𝓤 H (W .laws) C) (known-load : Triple 𝓤 (C #lent-steps·load) (Load 𝓤 H A mem run)) (known-serve : Triple 𝓤 (C #record-call·serve) (Serve 𝓤 H A mem run))
       (known-advance : Triple 𝓤 (C #lent-steps·advance) (Advance 𝓤 H A mem run)) (known-store : Triple 𝓤 (C #lent-steps·store) (Store 𝓤 H A mem run)) where
-    -- once `records::serve` has given back z: its memory is stored in the ledger, whose borrow goes to `advance`, its records go to `store`, and its outcome is handed on whole. X says the last octets of the reply buffer, and Q is what the function has
+    -- once `record_call::serve` has given back z: its memory is stored in the ledger, whose borrow goes to `advance`, its records go to `store`, and its outcome is handed on whole. X says the last octets of the reply buffer, and Q is what the function has
     -- to end in
     keep-on : (l₀ l₄ l₅ l₁₀ l₁₆ l₁₇ l₁₈ l₁₉ : ℕ) (u₁ u₂ u₃ u₆ u₇ u₈ u₉ u₁₁ u₁₂ u₁₃ u₁₄ u₁₅ : Idle) (ν : Sym) (τc τm τr : Ty) (x : Val) (X : Item 𝓤) (Q : Val → SProp 𝓤) (z : ServedRecords)
         → Is O.the-row (z .outcome) (LL.vals O.the-type O′.the-laws (z .outcome)) → z .clock < 2 ^ 32 → Is Y.the-row (z .memory) (LL.vals Y.the-type Y′.the-laws (z .memory)) → Is N.the-row (z .records) (x ∷ []) → Room R.the-row (length ys)
@@ -222,7 +222,7 @@ module _ {M : Type 1} (𝓤 : URA M) (H : Heap 𝓤) (A : Atoms 𝓤) (W : Given
         assigns ! (of-opd ! (load ! (from ! (fld ! refl (stop !))) (look-in ! 32 (sub ! 1 refl (whole !))))) (from ! (stop !)) (init ! 16 refl (tt, record { fits = room₂ .0 })) $
         assigns ! (addr ! (from ! (fld ! refl (hop ! (look-in ! 28 (sub ! 0 refl (whole !))) (stop !))))) (from ! (stop !)) (init ! 14 refl (tt, tt)) $
         assigns ! (agg ! (and-then ! (load ! (from ! (stop !)) (look ! 14 refl)) (and-then ! (load ! (from ! (fld ! refl (stop !))) (look-in ! 28 (sub ! 1 refl (whole !)))) (no-more !)))) (from ! (stop !)) (init ! 12 refl (tt, (tt, (record { fits = room₄ .0 }, tt)))) $
-        -- the ledger, the records, their number, the names, the datagram, the client, the time and the reply buffer go to `records::serve`
+        -- the ledger, the records, their number, the names, the datagram, the client, the time and the reply buffer go to `record_call::serve`
         move ! (45 ∷ 47 ∷ 49 ∷ 44 ∷ 46 ∷ 48 ∷ []) $ group ! 6 $ use1 W (raw (Serve 𝓤 H A mem run .pre (to-serve r₁ w₁))) (goes-serve r₁ w₁ is-h is₁ room₂) $
         calls-at ! fm (Serve 𝓤 H A mem run) known-serve (to-serve r₁ w₁) (and-then ! (load ! (from ! (stop !)) (look ! 27 refl)) (and-then ! (load ! (from ! (stop !)) (look ! 25 refl)) (and-then ! (load ! (from ! (stop !)) (look ! 17 refl)) (and-then ! (load ! (from ! (stop !)) (look ! 31 refl))
         (and-then ! (load ! (from ! (stop !)) (look ! 41 refl)) (and-then ! (load ! (from ! (stop !)) (look ! 39 refl)) (and-then ! (load ! (from ! (stop !)) (look ! 37 refl)) (and-then ! (load ! (from ! (stop !)) (look ! 13 refl)) (no-more !))))))))) (λ w₂.

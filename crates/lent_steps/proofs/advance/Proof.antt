@@ -1,4 +1,4 @@
--- `lent::advance` meets its contract: a walk of its MIR, by hand. The borrow is opened, the clock is read, `arithmetic::larger` is called, of which the proof knows only its contract, the clock is stored, and the borrow is closed at the ledger
+-- `lent_steps::advance` meets its contract: a walk of its MIR, by hand. The borrow is opened, the clock is read, `arithmetic::larger` is called, of which the proof knows only its contract, the clock is stored, and the borrow is closed at the ledger
 -- with the new clock in its state and all else as it was.
 use Rattle.lent_steps.proofs.Walk.{stands, _≡_, refl, ap, ℕ, _<_, _^_, max, [], _∷_, List, URA, fullShare, named, w32, Val, vunit, vint, vptr, SProp, ent, sep, emp, via, fst∗, snd∗, exE, id⊢, GName, Lft, Share, ftrue, flft, fobs, fbor, Memory, Routine, Heap, Calls, Loops, WpFn, Atoms, sem, Fun, fact, givenOf, tables, tablesOf, Given, ‵, raw, _⊛_, some, later, _$_, _∵_, !, qed, by, move, keep, drop, use0, use1, split, join, pick, rewrite, fsplit, fsplit3, fjoin, fjoin3, feqI, suffices, frame, await, done, look, init, forget, stop, hop, fld, from, load, unit-lit, of-opd, and-then, no-more, assigns, land, returns, enter, alloc1, alloc0, params1, pass1, pass0, free1, free0, whole, sub, look-in, store-in, FmC, owns, Is, shows, cellAt, uint-vals, uint-tells, uint-makes, uint-lawful, u32, RefT, MutRef, ptr-vals, mut-tells, plain, opens, closes, owned, peeks, heard, nothing, spelt, Contract, Triple, calls-at, onEntry, tripleOf, cited, says, Stays, stay-ref, stay-none, walkOf, AllGo, goes-none, goes-ref, Walks, ends-at, walked, ensured, lasts, yes}
 use types.SemTy.{Body}

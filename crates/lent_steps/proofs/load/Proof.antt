@@ -1,4 +1,4 @@
--- `lent::load` meets its contract: a walk of its MIR, by hand, with two calls and a loop. Of `records::no_records` and `records::cut128` the proof knows only that they meet their contracts.
+-- `lent_steps::load` meets its contract: a walk of its MIR, by hand, with two calls and a loop. Of `records::no_records` and `records::cut128` the proof knows only that they meet their contracts.
 -- Before the loop the slice is looked into, and the local `Records` is taken apart into the row of its 128 lease records; after it the row is put together again and the slice is shut. A turn takes one lease
 -- record out of the slice's row, copies it, and puts it back, and takes the one at the same place out of the local's row and stores the copy there. After i turns the local's row is what `no_records` gave with the slice's first i records pasted over it.
 -- The walk is cut in parts, each a check of its own: the call of `no_records` (`walk`), the call of `cut128` and up to the loop (`starts`), a turn (`more`), and the turn that leaves the loop with what follows it (`ends`).

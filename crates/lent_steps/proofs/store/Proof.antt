@@ -1,4 +1,4 @@
--- `lent::store` meets its contract: a walk of its MIR, by hand, with a call and a loop. The records are copied to a local, and `records::cut128` is called, of which the proof knows only its contract.
+-- `lent_steps::store` meets its contract: a walk of its MIR, by hand, with a call and a loop. The records are copied to a local, and `records::cut128` is called, of which the proof knows only its contract.
 -- Then, once, before the loop, the borrow is opened and the local is taken apart into the row of its records. A turn takes one record out of each row, copies it from the local's to the slice's, and puts both back.
 -- After the loop the local is put together again, and the borrow is closed at the list with the records laid over it.
 use Rattle.lent_steps.proofs.Walk.{stands, counts, _≡_, refl, sym, ap, subst, Bool, ℕ, _+_, _<_, _≤_, _*_, min, min-le-left, min-le-right, lt-ltb, le-ltb, arith, [], _∷_, List, length, getD, set, paste, paste-zero, URA, fullShare, Ty, named, mut, w64, tyInt, tyBool, tyPtr, tyUnit, tyRef, Val, Fits, vunit, vbool, vint, vptr, SProp, ent, via, emp, fst∗, Lft, Share, GName, ftrue, fat, froom, fdies, flft, fobs, fauth, fbor, fobor, Memory, Routine, Heap, Out, Env, Wp, WpFn, Tables, afterSeq, afterBlock, afterTurn, atReturn, fmOf, Atoms, Fun, givenOf, tables, tablesOf, Given, Item, anyQ, atRet, ‵, raw, _⊛_, ⋆, _$_, _∵_, !, qed, by, move, keep, drop, split, join, rewrite, fsplit, fjoin, suffices, frame, done, feqI, look, look-raw, init, store-raw, forget, stop, hop, fld, from, load, lit, unit-lit, of-opd, and-then, no-more, bin, addr, assigns, assigns-last, land, stays, leaves-loop, exec, store, returns, enter, alloc1, alloc0, params1, pass1, pass0, free1, free0, whole, sub, look-in, owns, pureI, Is, shows, pointee, RefT, sliceVal, sliceTy, slice-vals, mut-slice-tells, MutSlice, Room, heres, codedHoleys, at-slice, row, place-is, elem-out, elem-back, elem-put, opens-slice, closes-slice, owned, nothing, plain, Triple, onEntry, cited, says, Stays, stay-none, stay-slice, walkOf, AllGo, goes-none, goes-slice, Walks, ends-at, walked, yes}

@@ -12,11 +12,11 @@ Inv-loop out₀ at s n i₀ to₀ out i to = HexInv out₀ at s n out i to
 abbrev μ-loop : tie.MeasureT-loop
 μ-loop out₀ at s n i₀ to₀ out i to = n - i
 
-put-octet-requires : tie.Need-put-octet-requires Inv-loop μ-loop
-put-octet-requires c κs = let l = c .before .before .before .loop .inv in omega (arith, l .place, l .kept)
+put-hex-octet-requires : tie.Need-put-hex-octet-requires Inv-loop μ-loop
+put-hex-octet-requires c κs = let l = c .before .before .before .loop .inv in omega (arith, l .place, l .kept)
 
 loop-again : tie.Need-loop-again Inv-loop μ-loop
-loop-again c = let at-put-octet = c .before .before in let at-loop = at-put-octet .before .before .before .before in hex-next (at-loop .loop .inv) (search needs) (search needs) (at-put-octet .put-octet .ensures) (at-put-octet .put-octet .kept .0)
+loop-again c = let at-put-hex-octet = c .before .before in let at-loop = at-put-hex-octet .before .before .before .before in hex-next (at-loop .loop .inv) (search needs) (search needs) (at-put-hex-octet .put-hex-octet .ensures) (at-put-hex-octet .put-hex-octet .kept .0)
 
 same-length : tie.Need-same-length Inv-loop μ-loop
 same-length c = c .before .loop .inv .kept
@@ -32,7 +32,7 @@ put-hex-spec =
     μ-loop
     (λ c. search (hex-start, needs))
     (λ c. search (hex-start, needs))
-    put-octet-requires
+    put-hex-octet-requires
     (λ c. search (hex-start, needs))
     (λ c. search (hex-start, needs))
     loop-again

@@ -12,5 +12,5 @@ language-in-spec =
     (λ c. search needs)  -- src/lib.rt:206:23 element-copy-out-is-set
     (λ c κs. search needs)  -- src/lib.rt:206:16 is-set-requires
     (λ c κs. search needs)  -- src/lib.rt:207:21 read-u16-requires
-    (λ c κs. search needs)  -- src/lib.rt:207:14 count-of-requires
+    (λ c κs. search needs)  -- src/lib.rt:207:14 wide-count-requires
     (λ c. search (language-is, needs)))  -- src/lib.rt:201:1 returns

@@ -12,7 +12,7 @@ take-spec =
     (λ c κs. search needs)  -- src/lib.rt:227:9 identifier-in-requires
     (λ c κs. search needs)  -- src/lib.rt:228:9 language-in-requires
     (λ c κs. search needs)  -- src/lib.rt:231:24 read-u16-requires
-    (λ c κs. search needs)  -- src/lib.rt:231:17 count-of-requires
+    (λ c κs. search needs)  -- src/lib.rt:231:17 wide-count-requires
     (λ c. search needs)
     (λ c κs. search needs)
     (λ c. search needs)  -- src/lib.rt:232:23 element-copy-out-wide

@@ -1,4 +1,4 @@
--- `house_ok` meets its contract: by ors.
+-- `tenant_ok` meets its contract: by ors.
 use Rattle.lists.specs.laws.Both.{ors}
 use Rattle.releases.specs.Rules.{tenantB}
 use borrow.Author.Needs.{needs}

@@ -1,11 +1,11 @@
--- `raise` meets its contract: by its test.
+-- `raise_held` meets its contract: by its test.
 use Rattle.occupancy.specs.laws.Loop.{gains}
 use borrow.Author.Needs.{needs}
-use Rattle.occupancy.proofs.raise.Statement.{statement}
-use Rattle.occupancy.proofs.raise.Tie as tie
+use Rattle.occupancy.proofs.raise_held.Statement.{statement}
+use Rattle.occupancy.proofs.raise_held.Tie as tie
 
-pub raise-spec : {M : Type 1} → statement M
-raise-spec =
+pub raise-held-spec : {M : Type 1} → statement M
+raise-held-spec =
     tie.close
     (tie.spec
     (λ c. search needs)  -- src/lib.rt:90:15 sub-if1

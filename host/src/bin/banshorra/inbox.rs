@@ -56,7 +56,7 @@ impl List {
         self.faults.clear();
     }
 
-    /// Receives what waits in a socket that doesn't wait for it, up to so many. What fails here fails again where it is waited for, and is told there.
+    /// Receives what waits in a socket that doesn't wait for it, up to so many. A lasting fault is told where it is waited for.
     fn receive(&mut self, socket: &UdpSocket, room: &mut [u8], most: usize) {
         let time = now();
         for _ in 0..most {
@@ -141,7 +141,7 @@ impl Inbox {
         for (at, socket) in sockets.iter().enumerate() {
             socket.set_nonblocking(true)?;
             let (shared, socket) = (shared.clone(), socket.try_clone()?);
-            thread::spawn(move || watch(at, &socket, &shared));
+            thread::Builder::new().spawn(move || watch(at, &socket, &shared))?;
         }
         Ok(Inbox {
             shared,
@@ -207,7 +207,10 @@ fn watch(at: usize, socket: &UdpSocket, shared: &Shared) {
 fn wait_in(socket: &UdpSocket, room: &mut [u8]) -> io::Result<(usize, SocketAddr)> {
     socket.set_nonblocking(false)?;
     let came = socket.recv_from(room);
-    socket.set_nonblocking(true)?;
+    // So long the socket is the thread's alone: nobody else would come out of it.
+    while socket.set_nonblocking(true).is_err() {
+        thread::sleep(PAUSE);
+    }
     came
 }
 

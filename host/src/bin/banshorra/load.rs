@@ -6,7 +6,7 @@ use crate::print;
 use crate::serve::PORT;
 use banshorra_host::campus::{Campus, Scope};
 use banshorra_host::message::{self, Message};
-use banshorra_host::message::{DISCOVER, GETINFO, NAK, RELEASE, RENEW, REQUEST};
+use banshorra_host::message::{ACK, DISCOVER, GETINFO, NAK, RELEASE, RENEW, REQUEST};
 use banshorra_host::CampusFile;
 use std::net::{Ipv4Addr, SocketAddrV4, UdpSocket};
 use std::thread;
@@ -20,7 +20,7 @@ banshorra load FILE [--server ADDRESS:PORT] [--houses N] [--clients N] [--mix ex
 Puts a server under load from clients of the campus's houses, each sending from an address of its house (so try it with a campus whose houses are ranges of
 127.0.0.0/8, as samples/loopback.txt). FILE is the campus file that it serves; only houses and scopes are read from it. A client in turn sends DISCOVER,
 REQUEST and RELEASE, and with the RELEASE the next DISCOVER; an exchange is DISCOVER, OFFER, REQUEST, ACK. It says exchanges a second, what went unanswered, and response times,
-which are right to a tenth of a millisecond.
+counted from the sending: never too short, and too long by up to a round of the houses, a tenth of a millisecond at little load and some half as fast as it goes.
 
   --server ADDRESS:PORT    the server; 127.0.0.1:2535 if not given
   --houses N               only the first N houses
@@ -284,6 +284,8 @@ fn run(plan: &Plan, houses: &mut [House]) {
             }
         }
         if heard == 0 {
+            // Not as before this round, which may have begun a turn.
+            let is_waiting = houses.iter().any(|house| !house.waiting.is_empty());
             thread::sleep(if is_waiting { PAUSE } else { IDLE });
         }
     }
@@ -346,14 +348,15 @@ impl House {
                 .position(|waiting| Some(waiting.transaction) == transaction);
             if let Some(place) = place {
                 let asked = self.waiting.swap_remove(place);
-                self.go_on(plan, &asked, reply.kind() == NAK, is_over);
+                self.go_on(plan, &asked, reply.kind(), is_over);
             }
         }
         HEARD
     }
 
     /// The next message of a turn. What ends it, the RELEASE, is not waited for: as fast as it goes, the next turn begins with it.
-    fn go_on(&mut self, plan: &Plan, asked: &Waiting, is_refused: bool, is_over: bool) {
+    fn go_on(&mut self, plan: &Plan, asked: &Waiting, kind: u8, is_over: bool) {
+        let is_refused = kind == NAK;
         let took = asked.first_sent.elapsed().as_micros();
         self.seen
             .times
@@ -361,7 +364,7 @@ impl House {
         self.seen.answered += 1;
         self.seen.refused += u64::from(is_refused);
         let (client, last) = (asked.client, plan.turn.len() - 1);
-        self.seen.exchanges += u64::from(plan.turn[asked.at] == REQUEST && !is_refused && !is_over);
+        self.seen.exchanges += u64::from(plan.turn[asked.at] == REQUEST && kind == ACK && !is_over);
         if asked.at == last {
             return;
         }

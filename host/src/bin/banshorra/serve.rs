@@ -41,9 +41,10 @@ pub const PORT: u16 = 2535;
 const LOOK: Duration = Duration::from_millis(200);
 /// After a signal the host goes on for so long at most, while datagrams come.
 const LAST: Duration = Duration::from_secs(2);
-/// Between two tries to send where the system has no room for a reply, and so many tries.
+/// Between two tries to send where the system has no room for a reply.
 const PAUSE: Duration = Duration::from_millis(1);
-const TRIES: usize = 1000;
+/// So long the replies of a list are tried: the host can't serve meanwhile, nor look for a signal.
+const PATIENCE: Duration = Duration::from_secs(1);
 
 /// Now, in whole seconds since 1970.
 pub fn now() -> u32 {
@@ -111,6 +112,10 @@ fn open(
         UdpSocket::bind(address).map_err(failed(format!("listening on {address}")))
     };
     let mut sockets = vec![bind(listen)?];
+    // While a thread waits in this socket, sending by it would wait as well: for so long, and then be tried again.
+    sockets[0]
+        .set_write_timeout(Some(PAUSE))
+        .map_err(failed("the socket".to_owned()))?;
     let Some(group) = group else {
         return Ok(sockets);
     };
@@ -345,13 +350,14 @@ struct Answered<'a> {
 /// Sends the replies, then tells the calls.
 fn tell(log: &mut Log, count: &mut Count, socket: &UdpSocket, list: &Answered) {
     let mut failed = vec![None; list.told.len()];
+    let until = Instant::now() + PATIENCE;
     for ((arrived, told), failed) in list.arrived.iter().zip(list.told).zip(&mut failed) {
         count.calls += 1;
         match (told.outcome, list.fault) {
             (Outcome::Discard(_), _) => count.discards += 1,
             (Outcome::Reply(_), Some(fault)) => *failed = Some(fault.to_owned()),
             (Outcome::Reply(reply), None) => {
-                match patiently(|| socket.send_to(reply, arrived.from)) {
+                match patiently(until, || socket.send_to(reply, arrived.from)) {
                     Ok(_) => count.replies += 1,
                     Err(error) => *failed = Some(format!("it could not be sent: {error}")),
                 }
@@ -388,30 +394,38 @@ fn tell(log: &mut Log, count: &mut Count, socket: &UdpSocket, list: &Answered) {
     log.flush();
 }
 
-/// Sends by a socket that doesn't wait: what it has no room for goes out as soon as there is some.
-fn patiently<T>(mut send: impl FnMut() -> io::Result<T>) -> io::Result<T> {
-    for _ in 1..TRIES {
+/// Sends by a socket that doesn't wait, or not for long: what it has no room for is tried again, up to a time.
+fn patiently<T>(until: Instant, mut send: impl FnMut() -> io::Result<T>) -> io::Result<T> {
+    loop {
         match send() {
-            Err(error) if error.kind() == ErrorKind::WouldBlock => thread::sleep(PAUSE),
+            Err(error) if error.kind() == ErrorKind::Interrupted => {}
+            Err(error) if error.kind() == ErrorKind::WouldBlock && Instant::now() < until => {
+                thread::sleep(PAUSE)
+            }
             other => return other,
         }
     }
-    send()
 }
 
 #[cfg(test)]
 mod tests {
     use super::patiently;
     use std::io::{Error, ErrorKind};
+    use std::time::{Duration, Instant};
+
+    fn soon() -> Instant {
+        Instant::now() + Duration::from_secs(60)
+    }
 
     #[test]
     fn a_reply_waits_for_room() {
         let mut tries = 0;
-        let sent = patiently(|| {
+        let sent = patiently(soon(), || {
             tries += 1;
             match tries {
-                3 => Ok("sent"),
-                _ => Err(Error::from(ErrorKind::WouldBlock)),
+                1 => Err(Error::from(ErrorKind::WouldBlock)),
+                2 => Err(Error::from(ErrorKind::Interrupted)),
+                _ => Ok("sent"),
             }
         });
         assert_eq!((sent.expect("sent"), tries), ("sent", 3));
@@ -420,11 +434,22 @@ mod tests {
     #[test]
     fn what_fails_is_not_tried_again() {
         let mut tries = 0;
-        let sent = patiently(|| {
+        let sent = patiently(soon(), || {
             tries += 1;
             Err::<(), _>(Error::from(ErrorKind::HostUnreachable))
         });
         let error = sent.expect_err("it fails");
         assert_eq!((error.kind(), tries), (ErrorKind::HostUnreachable, 1));
+    }
+
+    #[test]
+    fn a_list_does_not_wait_for_ever() {
+        let mut tries = 0;
+        let sent = patiently(Instant::now(), || {
+            tries += 1;
+            Err::<(), _>(Error::from(ErrorKind::WouldBlock))
+        });
+        let error = sent.expect_err("there is no room");
+        assert_eq!((error.kind(), tries), (ErrorKind::WouldBlock, 1));
     }
 }

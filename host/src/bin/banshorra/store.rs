@@ -4,7 +4,7 @@ use crate::args::Failure;
 use banshorra_host::FILE_ROOM;
 use std::fs::{self, File, Metadata, OpenOptions, TryLockError};
 use std::io::{self, Read, Write};
-use std::os::unix::fs::{fchown, MetadataExt};
+use std::os::unix::fs::{fchown, MetadataExt, OpenOptionsExt};
 use std::path::{Path, PathBuf};
 
 /// Reads a campus file; of one that is too long only so much that it is refused.
@@ -87,11 +87,11 @@ impl Store {
 
     /// The new file beside the old, flushed, renamed over it, the folder flushed.
     fn replace(&self, octets: &[u8]) -> io::Result<()> {
-        let mut file = match create(&self.new) {
+        let mut file = match create(&self.new, self.was.as_ref()) {
             // A host that was killed may have left one.
             Err(error) if error.kind() == io::ErrorKind::AlreadyExists => {
                 fs::remove_file(&self.new)?;
-                create(&self.new)
+                create(&self.new, self.was.as_ref())
             }
             other => other,
         }?;
@@ -117,8 +117,13 @@ impl Store {
     }
 }
 
-fn create(path: &Path) -> io::Result<File> {
-    OpenOptions::new().write(true).create_new(true).open(path)
+/// A new file that from the first nobody may open who may not open the old one.
+fn create(path: &Path, was: Option<&Metadata>) -> io::Result<File> {
+    OpenOptions::new()
+        .write(true)
+        .create_new(true)
+        .mode(was.map_or(0o666, |was| was.mode() & 0o777))
+        .open(path)
 }
 
 /// A path with something behind its name.

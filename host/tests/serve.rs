@@ -18,7 +18,7 @@ use std::os::unix::fs::{MetadataExt, PermissionsExt};
 use std::path::Path;
 use std::process::{Command, Stdio};
 use std::thread;
-use std::time::Duration;
+use std::time::{Duration, Instant};
 
 /// A house's morning, by one of its clients: every message, and what was not heard sent again. Gives the calls.
 fn morning(client: &Client, house: u8, number: u8) -> usize {
@@ -508,6 +508,90 @@ fn what_comes_while_the_disk_is_waited_for_is_kept() {
     let all = format!("; {} calls: 1 answered, {calls} discarded", calls + 1);
     assert!(last.contains(&all), "{last}");
     assert!(last.contains(" 1 write;"), "{last}");
+}
+
+#[test]
+fn a_reply_that_finds_no_room_is_sent_again() {
+    let folder = Folder::new("room");
+    let file = folder.campus();
+    let fails = "inject=sendto:error=EAGAIN:when=1..5";
+    let options = ["-e", "trace=sendto", "-e", fails];
+    let Some(mut host) = traced(&file, Path::new("/dev/null"), &options) else {
+        return;
+    };
+    let lock = EndedByLock(folder.path("campus.bin.lock"));
+    let client = Client::new(1, host.server);
+    let reply = client.ask(&message(GETINFO, 1, b"id", &[]));
+    assert_eq!(Message(&reply).kind(), ACK);
+    drop(lock);
+    assert!(host.line("ended").contains("; 1 call: 1 answered, "));
+    host.child.wait().expect("it ends");
+}
+
+#[test]
+fn replies_that_never_find_room_hold_up_a_list_once() {
+    let folder = Folder::new("no-room");
+    let file = folder.campus();
+    let options = ["-e", "trace=sendto", "-e", "inject=sendto:error=EAGAIN"];
+    let Some(mut host) = traced(&file, Path::new("/dev/null"), &options) else {
+        return;
+    };
+    let lock = EndedByLock(folder.path("campus.bin.lock"));
+    let client = Client::new(1, host.server);
+    client.send(&message(GETINFO, 1, b"id", &[]));
+    assert!(host
+        .line("xid 0x00000001")
+        .contains("it could not be sent: "));
+    for xid in 2..=9 {
+        client.send(&message(GETINFO, xid, b"id", &[]));
+    }
+    let began = Instant::now();
+    assert!(host
+        .line("xid 0x00000009")
+        .contains("it could not be sent: "));
+    // A second for each of the eight would be too long to look for a signal.
+    assert!(began.elapsed() < Duration::from_secs(6));
+    drop(lock);
+    assert!(host.line("ended").contains("; 9 calls: 0 answered, "));
+    host.child.wait().expect("it ends");
+}
+
+#[test]
+fn a_socket_that_fails_is_told_and_tried_again() {
+    let folder = Folder::new("deaf");
+    let file = folder.campus();
+    let options = ["-e", "trace=recvfrom", "-e", "inject=recvfrom:error=ENOMEM"];
+    let Some(mut host) = traced(&file, Path::new("/dev/null"), &options) else {
+        return;
+    };
+    let lock = EndedByLock(folder.path("campus.bin.lock"));
+    for _ in 0..3 {
+        assert!(host.line("fault").contains("receiving"));
+    }
+    drop(lock);
+    assert!(host.line("ended").contains("; 0 calls: "));
+    host.child.wait().expect("it ends");
+}
+
+#[test]
+fn a_socket_that_cannot_be_switched_back_is_nobody_elses() {
+    let folder = Folder::new("switch");
+    let file = folder.campus();
+    // Of a thread beside a socket the second is the one that lets the host take from it again.
+    let fails = "inject=ioctl:error=ENOMEM:when=2..4";
+    let options = ["-e", "trace=ioctl", "-e", fails];
+    let Some(mut host) = traced(&file, Path::new("/dev/null"), &options) else {
+        return;
+    };
+    let lock = EndedByLock(folder.path("campus.bin.lock"));
+    let client = Client::new(1, host.server);
+    for xid in 1..=3 {
+        let reply = client.ask(&message(GETINFO, xid, b"id", &[]));
+        assert_eq!(Message(&reply).transaction(), Some(xid));
+    }
+    drop(lock);
+    assert!(host.line("ended").contains("; 3 calls: 3 answered, "));
+    host.child.wait().expect("it ends");
 }
 
 #[test]

@@ -1,9 +1,11 @@
 // A set of up to 64 addresses of a scope, as offsets from its lowest address: the bits of a u64.
+#![tactic(auto)]
+
 ghost use Rattle.std.specs.Prelude.{◌≡◌, min, length};
 ghost use Rattle.address_set.specs.AddressSet.{offsets, set_of, difference_of, lowest_of, up_to, read_offsets, with_offset, fewest_ranges, first_range, behind};
 
 // A range of offsets, all of one set: the first and how many.
-#[derive(Drop)]
+#[derive(Clone, Copy)]
 pub struct Range {
     pub first: u32,
     pub count: u32,

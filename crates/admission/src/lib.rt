@@ -1,5 +1,7 @@
 // Document 01's tests after test 7 that come before what a lease would be: Resend and errors 1, 2 and 3; document 02's of a RELEASE sent again and of a hold; and which of them ask for the
 // identifier's record.
+#![tactic(auto)]
+
 ghost use Rattle.std.specs.Prelude.{◌≡◌, not, ◌&&◌, ◌||◌, eqb, ltb, ◌-◌, ◌+◌, min};
 ghost use Rattle.state.specs.Book.{remembered};
 ghost use Rattle.admission.specs.Tests.{is_new, has_period, resends, released_again, lowest_is, scope_place, knows_scope, lacks_scope, zero_length, bad_counts, lacks_current, early1_of, is_leased, is_held, same_scope, held_already, skewed, error2_of, error3_of, latest_first, is_for_hold, drops_hold, asks_resend, asks_identifier};

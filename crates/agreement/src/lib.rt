@@ -1,5 +1,7 @@
 // The occupancy board and the leases (document 02, W-207): the board with a lease more or less, with a tenant's ended leases taken off, and after an edit;
 // and the board that leases make, with which a book's own is compared.
+#![tactic(auto)]
+
 ghost use Rattle.std.specs.Prelude.{◌≡◌, take};
 ghost use Rattle.lists.specs.Fold.{fold};
 ghost use Rattle.state.specs.Book.{in_use, board_with, board_without};

@@ -1,5 +1,7 @@
 // Document 01's grant rule: how many addresses a tenant gets for a period, and which. It goes by the tenant's own leases and by what every
 // tenant holds, and answers whatever they are; in a sound book no other tenant's lease is on an address of the tenant's, so that these are enough.
+#![tactic(auto)]
+
 ghost use Rattle.std.specs.Prelude.{◌≡◌, ◌*◌, ◌<◌, ◌≤◌, max, eqb, length};
 ghost use Rattle.lists.specs.Down.{largest};
 ghost use Rattle.lists.specs.Pick.{pick};
@@ -15,7 +17,7 @@ use soundness::{Held, HeldTable};
 use state::{Scope, TenantLeases};
 
 // What is asked for: a scope's number, a tenant counted from 0, a period, and the desired number.
-#[derive(Drop)]
+#[derive(Clone, Copy)]
 pub struct Ask {
     pub scope: u8,
     pub tenant: usize,
@@ -25,7 +27,7 @@ pub struct Ask {
 }
 
 // How many addresses are given, and which.
-#[derive(Drop)]
+#[derive(Clone, Copy)]
 pub struct Grant {
     pub number: u32,
     pub addresses: u64,
@@ -33,7 +35,7 @@ pub struct Grant {
 
 // The numbers that the rule goes by: document 01's D and f, the tenant's reserve and limit, what the others hold or have in reserve,
 // and the scope's size.
-#[derive(Drop)]
+#[derive(Clone, Copy)]
 pub struct GrantNumbers {
     pub held: u32,
     pub free: u32,

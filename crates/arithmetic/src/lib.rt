@@ -1,5 +1,7 @@
 // Small functions on numbers that several crates use: the smaller and the larger of two, a difference that stops at 0, a number in a
 // wider type, and a stored count cut to what its array holds, so that a loop over it never leaves the array.
+#![tactic(auto)]
+
 ghost use Rattle.std.specs.Prelude.{◌≡◌, ◌-◌, ◌<◌, max, min};
 
 pub fn smaller(a: u32, b: u32) -> u32

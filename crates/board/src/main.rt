@@ -1,4 +1,6 @@
 // Prints the board of the state file on standard input. One octet more than a file may have is read, so that a longer one is refused.
+#![tactic(auto)]
+
 fn print(text: &[u8], n: usize) {
     if n <= text.len() {
         io::write_all(1, &text[..n]);

@@ -1,4 +1,6 @@
 // The text that `board` prints for a state file: what each tenant holds is read off the book's board.
+#![tactic(auto)]
+
 ghost use Rattle.std.specs.Prelude.{[], ◌++◌, ◌∷◌, ◌≡◌, ◌+◌, ◌<◌, ◌≤◌, length};
 ghost use Rattle.board_text.specs.Board.{header_line, length_in, line_on, lines_on, refused_line, room_with_text, scope_on};
 ghost use Rattle.number_text.specs.Text.{Line, dotted, field};

@@ -1,5 +1,7 @@
 // Calls on a book that is known to be sound, by value: one call, the writer, and a list of calls, each a record of octets, answered into a buffer. That a call leaves
 // a sound book sound is a theorem, so that neither the calls of a list nor the writer after them tests it again.
+#![tactic(auto)]
+
 ghost use Rattle.std.specs.Prelude.{◌≡◌, ◌+◌, ◌≤◌, min, drop, length};
 ghost use Rattle.records.specs.Lent.{room_lent, written_lent};
 ghost use Rattle.record_call.specs.Call.{serve_lent};
@@ -18,7 +20,7 @@ use state_file::Written;
 const ANSWER_ROOM: usize = 6 + reply::LEAST_ROOM;
 
 // How far a list of calls came: 0 or why it stopped, the octets of calls used, the octets of answers filled, and the book afterwards.
-#[derive(Drop)]
+#[derive(Clone, Copy)]
 pub struct Progress {
     pub number: u8,
     pub used: usize,

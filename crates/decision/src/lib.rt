@@ -1,5 +1,7 @@
 // The decision after tests 1 to 7: Resend, a RELEASE sent again, errors 1, 2, 3, a hold, error 0 and what the message asks for, with what it does to the tenant's leases and to what
 // is remembered of it.
+#![tactic(auto)]
+
 ghost use Rattle.std.specs.Prelude.{◌≡◌, ◌≤◌, take};
 ghost use Rattle.state.specs.Book.{in_use, remembered};
 ghost use Rattle.state.specs.Edit.{entering, leaving};
@@ -18,7 +20,7 @@ use soundness::HeldTable;
 use state::{Edit, Lease, State, TenantLeases, TenantReleases};
 
 // Which reply is sent: none, OFFER, ACK with a lease, ACK to RELEASE, ACK to GETINFO, or NAK.
-#[derive(Drop)]
+#[derive(Clone, Copy)]
 pub enum Reply {
     Nothing,
     Offer,
@@ -29,7 +31,7 @@ pub enum Reply {
 }
 
 // The outcome's number, the reply, a NAK's error, and the lease where the reply states one.
-#[derive(Drop)]
+#[derive(Clone, Copy)]
 pub struct Verdict {
     pub outcome: u8,
     pub reply: Reply,
@@ -41,21 +43,21 @@ pub struct Verdict {
 }
 
 // A verdict, and what it does to what the tenant has.
-#[derive(Drop)]
+#[derive(Clone, Copy)]
 pub struct Decided {
     pub verdict: Verdict,
     pub edit: Edit,
 }
 
 // A decision, and how many of the tenant's records its lookups compared: each is made where a test asks for it.
-#[derive(Drop)]
+#[derive(Clone, Copy)]
 pub struct Counted {
     pub decided: Decided,
     pub count: usize,
 }
 
 // Whether a tenant has a record of an identifier, a lease or a hold, the record, an unused one where it has none, and how many were compared.
-#[derive(Drop)]
+#[derive(Clone, Copy)]
 struct Recorded {
     found: bool,
     lease: Lease,

@@ -1,6 +1,8 @@
 // The functions that a host program in C or Rust links: numbers and octets only. For `banshorra_serve`, `banshorra_judge` and
 // `banshorra_replay` a campus file is held in a buffer of the caller's, of at least 32,768 octets; `file_length` is the number of its octets, before and
 // after.
+#![tactic(auto)]
+
 ghost use Rattle.std.specs.Prelude.{◌≡◌, ◌-◌, ◌≤◌, min, drop, length, take};
 ghost use Rattle.board_text.specs.Board.{length_in, room_with_text};
 ghost use Rattle.state_file.specs.StateFile.{read_file};
@@ -26,7 +28,7 @@ const BOARD_ROOM: usize = 544;
 // ---- a file in a buffer
 
 // A file that is opened: a refusal or 0, the book, and where in the file its names stand.
-#[derive(Drop)]
+#[derive(Clone, Copy)]
 pub struct Opening {
     pub refusal: u8,
     pub owned: Owned,

@@ -1,4 +1,6 @@
 // Document 01's Lease Identifiers: 2 to 32 opaque octets, here in an array with their number.
+#![tactic(auto)]
+
 ghost use Rattle.std.specs.Prelude.{◌≡◌, [], ◌∷◌, ◌+◌, ◌≤◌, take, drop};
 ghost use Rattle.identifier.specs.Order.{order_of, same_of, number_from, Octets};
 

@@ -1,5 +1,7 @@
 // The campus file's sections of leases and of holds (document 02, W-205): where one ends, whether the book's records can hold both, reading them and writing
 // them. A hold stands in the file as a lease does, with its lapse behind it, so that each function goes over either section: `holds` says which.
+#![tactic(auto)]
+
 mod form;
 mod limits;
 mod order;

@@ -3,7 +3,7 @@ ghost use Rattle.std.specs.Prelude.{◌≡◌, [], ◌∷◌};
 ghost use Rattle.lists.specs.Filter.{is_in};
 ghost use Rattle.message.specs.Codes.{client_types, length_ok, allowed_in, allows};
 
-#[derive(Drop)]
+#[derive(Clone, Copy)]
 pub struct MessageType {
     pub number: u8,
 }
@@ -141,7 +141,7 @@ fn wish_option(number: u16) -> bool
     )
 }
 
-#[derive(Drop)]
+#[derive(Clone, Copy)]
 pub struct OptionCode {
     pub number: u16,
 }

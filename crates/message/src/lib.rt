@@ -1,5 +1,7 @@
 // MADCAP messages: the reader of a datagram (tests 4 to 6), and all that a message says. What each type and option code is, the walk over
 // the options and the values of options stand in modules.
+#![tactic(auto)]
+
 mod codes;
 mod options;
 mod reader;
@@ -18,7 +20,7 @@ pub use codes::{MessageType, OptionCode};
 pub const LONGEST_DATAGRAM: usize = 1472;
 
 // A datagram that passed tests 4 to 6: its type, its transaction id, and for each code up to 16 the place of its option, or 0.
-#[derive(Drop)]
+#[derive(Clone, Copy)]
 pub struct Message {
     pub kind: MessageType,
     pub xid: u32,
@@ -27,7 +29,7 @@ pub struct Message {
 
 // What the reader answers: discard 4, 5 or 6, or 0 and the message. With discard 5 goes the offset of the first option that breaks a
 // rule, or the datagram's length where End or option 3 is missing.
-#[derive(Drop)]
+#[derive(Clone, Copy)]
 pub struct Reading {
     pub discard: u8,
     pub fault: usize,
@@ -36,7 +38,7 @@ pub struct Reading {
 
 // All that a message says. `allowed`: each option is one that the type allows; `features`: the client sent 12; `ours`: no other server is
 // named; `list_asked`, `time_asked`: the Option Request List names 9, 11; `language`: what a name is to be in.
-#[derive(Drop)]
+#[derive(Clone, Copy)]
 pub struct Fields {
     pub kind: u8,
     pub xid: u32,
@@ -53,21 +55,21 @@ pub struct Fields {
 }
 
 // Lease Identifier: its octets, with zeros past its length.
-#[derive(Drop)]
+#[derive(Clone, Copy)]
 pub struct Identifier {
     pub octets: [u8; 32],
     pub len: u8,
 }
 
 // Number: the least and the desired count of addresses.
-#[derive(Drop)]
+#[derive(Clone, Copy)]
 pub struct Counts {
     pub least: u16,
     pub desired: u16,
 }
 
 // Lease Time, Start Time, Current Time, Minimum Lease and Maximum Start.
-#[derive(Drop)]
+#[derive(Clone, Copy)]
 pub struct Times {
     pub length: Wish,
     pub start: Wish,
@@ -78,7 +80,7 @@ pub struct Times {
 
 // Requested Language: is it there, its length, and its first eight octets, with zeros past its length. No tag of a name has more than eight,
 // so the others need not be kept: by its length alone a longer one is no tag's.
-#[derive(Drop)]
+#[derive(Clone, Copy)]
 pub struct Language {
     pub asked: bool,
     pub len: usize,
@@ -86,21 +88,21 @@ pub struct Language {
 }
 
 // An option of four octets, if it is there.
-#[derive(Drop)]
+#[derive(Clone, Copy)]
 pub struct Wish {
     pub there: bool,
     pub value: u32,
 }
 
 // Where an option stands.
-#[derive(Drop)]
+#[derive(Clone, Copy)]
 pub enum Found {
     At(usize),
     Absent,
 }
 
 // Where a walk stands, and for each code up to 16 the place of the option that it passed, or 0.
-#[derive(Drop)]
+#[derive(Clone, Copy)]
 pub struct Walk {
     pub at: usize,
     pub stage: Stage,
@@ -108,7 +110,7 @@ pub struct Walk {
 }
 
 // How far a walk is: on its way, at End, or at an option that breaks a rule.
-#[derive(Drop)]
+#[derive(Clone, Copy)]
 pub enum Stage {
     Walking,
     Done,

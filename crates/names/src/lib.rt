@@ -1,6 +1,8 @@
 // Names for the scopes, as octets: whether they are a section of names, where it ends, and which name is sent. Nothing is copied: a name is
 // shown as the part of the lent octets in which it stands. The scope reader (`scope_end`) calls the name reader (`scope_names_end`), which
 // goes back to it for the next scope; they take one turn a scope, so that a walk is never deeper than twice the 255 that a count can say.
+#![tactic(auto)]
+
 ghost use Rattle.std.specs.Prelude.{◌≡◌, true, ◌||◌, [], eqb, ◌+◌, ◌<◌, ◌≤◌, length, drop, take, get_or};
 ghost use Rattle.format.specs.Format.{times};
 ghost use Rattle.format.specs.Place.{Ends};
@@ -170,7 +172,7 @@ pub fn good(s: &[u8], scopes: u8, tenants: u8) -> bool
 // ---- the name that is sent
 
 // Which name is looked for: one in the language asked for, one flagged 128, or any.
-#[derive(Drop)]
+#[derive(Clone, Copy)]
 pub enum Wanted {
     InLanguage,
     Flagged,

@@ -1,4 +1,6 @@
 // Numbers and addresses as text, written into a lent buffer. Each `put` writes at a place and returns the place after what it wrote.
+#![tactic(auto)]
+
 ghost use Rattle.std.specs.Prelude.{[], ◌++◌, ◌∷◌, ◌+◌, ◌≤◌, length};
 ghost use Rattle.octets.specs.Octets.{Wrote};
 ghost use Rattle.number_text.specs.Text.{Line, dotted, field, numeral};

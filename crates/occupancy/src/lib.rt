@@ -1,5 +1,7 @@
 // The occupancy board by value (document 02, W-207): for each scope and each of its addresses the owning tenant, or none, and the number of leases on it,
 // and for each tenant in the scope its holding. A lease added or removed alters only the entries of its addresses and its tenant's holding.
+#![tactic(auto)]
+
 ghost use Rattle.std.specs.Prelude.{◌≡◌, ◌+◌, ◌-◌, ◌<◌, ◌≤◌, min, eqb};
 ghost use Rattle.lists.specs.Fold.{fold};
 ghost use Rattle.lists.specs.Same.{same_by};
@@ -10,21 +12,21 @@ ghost use Rattle.occupancy.specs.Board.{no_board, more_on, less_on, shrunk, laid
 use address_set::Range;
 
 // An address: its owner, a tenant counted from 1, or 0 for none, and the number of leases on it.
-#[derive(Drop)]
+#[derive(Clone, Copy)]
 pub struct Entry {
     pub owner: u8,
     pub count: u8,
 }
 
 // A scope: its addresses, by offset, and how many of them each tenant holds.
-#[derive(Drop)]
+#[derive(Clone, Copy)]
 pub struct ScopeBoard {
     pub entries: [Entry; 64],
     pub held: [u8; 8],
 }
 
 // All scopes.
-#[derive(Drop)]
+#[derive(Clone, Copy)]
 pub struct Board {
     pub scopes: [ScopeBoard; 4],
 }
@@ -105,7 +107,7 @@ fn shrink(count: u8, held: u8) -> u8
 }
 
 // The lowest offset of a set, and the others.
-#[derive(Drop)]
+#[derive(Clone, Copy)]
 struct Lowest {
     at: usize,
     rest: u64,
@@ -125,7 +127,7 @@ fn split(set: u64) -> Lowest
 }
 
 // The first range of a set, its end not included, and the offsets behind it.
-#[derive(Drop)]
+#[derive(Clone, Copy)]
 struct Run {
     first: usize,
     end: usize,

@@ -1,4 +1,6 @@
 // The occupancy board as octets, for hosts (document 02, W-207).
+#![tactic(auto)]
+
 ghost use Rattle.std.specs.Prelude.{◌≡◌, ◌+◌, ◌≤◌, length};
 ghost use Rattle.format.specs.Format.{write_all};
 ghost use Rattle.octets.specs.Octets.{Wrote};

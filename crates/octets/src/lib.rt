@@ -1,4 +1,6 @@
 // Numbers in octets, high octet first, and runs of octets written into a lent buffer.
+#![tactic(auto)]
+
 ghost use Rattle.std.specs.Prelude.{◌≡◌, [], ◌∷◌, ◌+◌, ◌≤◌, drop, length, take};
 ghost use Rattle.lists.specs.Row.{laid_row};
 ghost use Rattle.octets.specs.Octets.{be16, be32, at16, at32, octets16, octets32, Wrote};

@@ -1,1 +1,2 @@
 // What the server guarantees of an OFFER (document 02, W-205), in specs/; no code of its own.
+#![tactic(auto)]

@@ -1,5 +1,7 @@
 // A caller of the entry points that holds its ledger and records by value: each function lends them for one call and hands them back. Programs
 // and other callers with plain values stand above it.
+#![tactic(auto)]
+
 ghost use Rattle.std.specs.Prelude.{◌≡◌, length, replicate};
 ghost use Rattle.state.specs.Book.{zero_lease};
 ghost use Rattle.state_file.specs.StateFile.{zero_ledger};
@@ -15,28 +17,28 @@ use state::Ledger;
 use state_file::Written;
 
 // Document 01's book, as its caller holds it.
-#[derive(Drop)]
+#[derive(Clone, Copy)]
 pub struct Owned {
     pub ledger: Ledger,
     pub records: Records,
 }
 
 // A call's outcome and the book afterwards.
-#[derive(Drop)]
+#[derive(Clone, Copy)]
 pub struct OwnedCall {
     pub outcome: Outcome,
     pub owned: Owned,
 }
 
 // The verdict of a call's first half, and the book afterwards.
-#[derive(Drop)]
+#[derive(Clone, Copy)]
 pub struct OwnedJudged {
     pub ruling: Ruling,
     pub owned: Owned,
 }
 
 // A refusal or 0, and the book afterwards.
-#[derive(Drop)]
+#[derive(Clone, Copy)]
 pub struct OwnedFile {
     pub refusal: u8,
     pub owned: Owned,

@@ -1,5 +1,7 @@
 // What a lease would be that a message asks for: the period, newly granted or renewed; whether the message takes it, which is error 0; and what a message makes of a hold. `own` are the
 // tenant's records and `held` is what all tenants hold.
+#![tactic(auto)]
+
 ghost use Rattle.std.specs.Prelude.{◌≡◌, ◌&&◌, not, ltb, take, ◌-◌, ◌+◌, min};
 ghost use Rattle.state.specs.Book.{in_use, added_if, remove_of, busy_of, hold_time};
 ghost use Rattle.allocation.specs.Rule.{suffices};
@@ -21,7 +23,7 @@ const HORIZON: u64 = 2592000;
 const LATEST_END: u64 = 4294967295;
 
 // What a lease would be, and whether it passes the test of error 0 that goes by its type.
-#[derive(Drop)]
+#[derive(Clone, Copy)]
 pub struct Proposal {
     pub fits: bool,
     pub scope: u8,

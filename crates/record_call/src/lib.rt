@@ -1,4 +1,6 @@
 // The call on the lent lease records by value, made of its two halves; and the call on a book that is known to be sound.
+#![tactic(auto)]
+
 ghost use Rattle.std.specs.Prelude.{◌≡◌, length};
 ghost use Rattle.record_call.specs.Call.{ServesShort, serve_lent, serve_with, ServesRecords};
 ghost use Rattle.record_survey.specs.Survey.{SoundFrom};
@@ -8,7 +10,7 @@ use server::Outcome;
 use state::{Ledger, Memory};
 
 // What the caller is told of a call, with the clock, what is remembered and the records afterwards.
-#[derive(Drop)]
+#[derive(Clone, Copy)]
 pub struct ServedRecords {
     pub outcome: Outcome,
     pub clock: u32,

@@ -1,4 +1,6 @@
 // The lent lease records by value, surveyed: which rules they keep and what the tenants hold, which test 1 asks; and the drop of ended leases.
+#![tactic(auto)]
+
 ghost use Rattle.std.specs.Prelude.{◌&&◌, true, ◌≡◌, eqb};
 ghost use Rattle.lists.specs.All.{all_by, pairs_by};
 ghost use Rattle.names.specs.Names.{names_b};
@@ -18,7 +20,7 @@ use state::{Memory, State};
 
 // What one pass over the records gathers: which rules they keep and what all tenants hold, which rules what is remembered keeps, and the board that the
 // leases make.
-#[derive(Drop)]
+#[derive(Clone, Copy)]
 pub struct Surveyed {
     pub rules: TableRules,
     pub releases: ReleaseRules,
@@ -26,7 +28,7 @@ pub struct Surveyed {
 }
 
 // Records after a drop, what their tenants hold, and the board.
-#[derive(Drop)]
+#[derive(Clone, Copy)]
 pub struct Dropped {
     pub records: Records,
     pub held: HeldTable,

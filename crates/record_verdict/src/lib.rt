@@ -1,4 +1,6 @@
 // The first half of a call on the lent lease records by value, tested first or known to be sound: the verdict, the clock, what is remembered and the records afterwards.
+#![tactic(auto)]
+
 ghost use Rattle.std.specs.Prelude.{◌||◌, ◌≡◌, ◌<◌};
 ghost use Rattle.server.specs.Halves.{discard_ruling};
 ghost use Rattle.record_verdict.specs.Verdict.{Gathered, JudgesClock, judge_with, JudgesRecords, JudgesSound};
@@ -9,7 +11,7 @@ use soundness::HeldTable;
 use state::{Edit, Ledger, Memory, State};
 
 // The verdict of a call's first half, with the clock, what is remembered and the records afterwards.
-#[derive(Drop)]
+#[derive(Clone, Copy)]
 pub struct JudgedRecords {
     pub ruling: Ruling,
     pub clock: u32,

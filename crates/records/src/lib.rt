@@ -1,5 +1,7 @@
 // The lent lease records by value: 128 in a row, sixteen to a tenant, tenant by tenant; the table that they stand for, one of them, and the file
 // that they are read from and written to. The number of records that the lent slice has comes with them.
+#![tactic(auto)]
+
 ghost use Rattle.std.specs.Prelude.{◌≡◌, ◌<◌, min, length, replicate, take};
 ghost use Rattle.lists.specs.Place.{place_by};
 ghost use Rattle.soundness.specs.Sound.{unused_b};
@@ -11,13 +13,13 @@ ghost use Rattle.records.specs.Lent.{read_with, Reads, written_with, room_with, 
 use state::{Lease, LeaseTable, Ledger, Lookup, TenantLeases};
 use state_file::Written;
 
-#[derive(Drop)]
+#[derive(Clone, Copy)]
 pub struct Records {
     pub leases: [Lease; 128],
 }
 
 // A refusal or 0, and the ledger and the records afterwards.
-#[derive(Drop)]
+#[derive(Clone, Copy)]
 pub struct ReadRecords {
     pub refusal: u8,
     pub ledger: Ledger,

@@ -1,4 +1,6 @@
 // The campus file's section of releases (document 02, W-202): where it ends, whether the book's memory can hold it, reading it and writing it.
+#![tactic(auto)]
+
 mod form;
 mod limits;
 mod reader;

@@ -1,5 +1,7 @@
 // What is remembered of releases (document 02, W-202): one more, or none of an identifier; whether a RELEASE was answered before; and which rules of a
 // sound book it keeps.
+#![tactic(auto)]
+
 mod rules;
 
 ghost use Rattle.std.specs.Prelude.{◌≡◌, ◌≤◌, min, drop, take};
@@ -15,7 +17,7 @@ use state::{Edit, LeaseTable, Memory, Release, State, TenantLeases, TenantReleas
 pub const RESEND_TIME: u64 = 300;
 
 // Rules 14 to 18 and the layout, each true where it holds.
-#[derive(Drop)]
+#[derive(Clone, Copy)]
 pub struct ReleaseRules {
     pub tenants: bool,
     pub few: bool,

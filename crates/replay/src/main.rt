@@ -1,5 +1,7 @@
 // Replays calls on a campus file, for the desk and for comparisons. Standard input: campus file length(2), the campus file, then for each
 // call time(4), client address(4), reply room length(2), datagram length(2), the datagram. It reads as it goes.
+#![tactic(auto)]
+
 use libc::{STDIN_FILENO, STDOUT_FILENO};
 use owned::Owned;
 
@@ -96,7 +98,7 @@ fn call_of(
 }
 
 // The book after a record, and whether there may be another.
-#[derive(Drop)]
+#[derive(Clone, Copy)]
 struct Turn {
     go: bool,
     book: Owned,

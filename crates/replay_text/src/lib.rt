@@ -1,4 +1,6 @@
 // The lines that `replay`, `van` and `salvage` print, written into a lent buffer.
+#![tactic(auto)]
+
 ghost use Rattle.std.specs.Prelude.{◌≡◌, [], ◌∷◌, ◌+◌, ◌*◌, ◌/◌, ◌≤◌, ◌<◌, length, take};
 ghost use Rattle.octets.specs.Octets.{Wrote};
 ghost use Rattle.replay_text.specs.Replay.{hex_digit, hex_of, number_text, outcome_line, outcome_text, count_text, call_line, book_line, refused_line, kind_text, rule_text, dropped_line};

@@ -2,6 +2,8 @@
 // Each writer asks for the room that its options can take at most, and promises to stay within it, so that the writers after it have theirs:
 // an option takes 4 octets and its value's, of which a Lease Identifier has at most 32, Ranges 64 of 6 octets (a pool has 64 addresses), a
 // Scope List 1 and 4 scopes of 10, each with a name of 43. A sum of such bounds is the bound of options in a row; header(8), the longest row(476) and End(4) are 488.
+#![tactic(auto)]
+
 ghost use Rattle.std.specs.Prelude.{◌≡◌, [], ◌∷◌, ◌++◌, ◌+◌, ◌-◌, ◌<◌, ◌≤◌, min, length, take};
 ghost use Rattle.octets.specs.Octets.{octets16, octets32, Wrote};
 ghost use Rattle.address_set.specs.AddressSet.{offsets, fewest_ranges};
@@ -15,7 +17,7 @@ use message::{Identifier, Language, MessageType, OptionCode};
 pub const LEAST_ROOM: usize = 512;
 
 // What every reply echoes of the client's message, and the server's address. `features`: the client sent option 12.
-#[derive(Drop)]
+#[derive(Clone, Copy)]
 pub struct Head {
     pub xid: u32,
     pub server: u32,
@@ -24,7 +26,7 @@ pub struct Head {
 }
 
 // A lease as a reply states it: its length and start, the scope by its lowest address, the addresses as offsets from it, and the clock.
-#[derive(Drop)]
+#[derive(Clone, Copy)]
 pub struct Terms {
     pub length: u32,
     pub start: u32,
@@ -34,7 +36,7 @@ pub struct Terms {
 }
 
 // A scope as option 9 lists it.
-#[derive(Drop)]
+#[derive(Clone, Copy)]
 pub struct ScopeEntry {
     pub lowest: u32,
     pub size: u8,
@@ -43,7 +45,7 @@ pub struct ScopeEntry {
 
 // What GETINFO may ask for, and whether it did; and by what a scope's name is chosen: how many tenants there are, the place of the client's
 // among them, and the language.
-#[derive(Drop)]
+#[derive(Clone, Copy)]
 pub struct Info {
     pub scopes: [ScopeEntry; 4],
     pub count: u8,

@@ -1,5 +1,7 @@
 // Prints the address-seconds of the state files named as arguments, or which of them is refused. One octet more than a file may have is read, so that a longer
 // one is refused; one that can't be opened has no octets. Two files are in memory at a time.
+#![tactic(auto)]
+
 ghost use Rattle.std.specs.Prelude.{◌≤◌};
 
 use state_file::Loaded;

@@ -1,5 +1,7 @@
 // Salvages the state file on standard input: the new file goes to standard output, and to standard error a line for each lease, hold or release that was dropped,
 // `lease 3 rule 9`, or `refused` and a number alone. One octet more than a file may have is read, so that a longer one is refused.
+#![tactic(auto)]
+
 use libc::{STDERR_FILENO, STDIN_FILENO, STDOUT_FILENO};
 use salvage_file::Salvaged;
 

@@ -1,6 +1,8 @@
 // The salvage of a state file (document 02, W-212): leases in file order, then holds, then releases, each kept if it leaves the book sound together with those
 // kept before it; a new file of those kept, all else as it was; and the list of those dropped, with the first rule that each breaks. Both rooms are written
 // only once both lengths are known.
+#![tactic(auto)]
+
 ghost use Rattle.std.specs.Prelude.{true, ◌≡◌, length};
 ghost use Rattle.state_file.specs.Place.{Formed, file_at};
 ghost use Rattle.salvage_walk.specs.Walk.{WalksFile, settings_sound};
@@ -15,7 +17,7 @@ use state_file::{Layout, Places};
 pub const LIST_LIMIT: usize = 2297;
 
 // What the salvage answers: refusal 0 and how many octets the new file and the list have, or the number of a refusal and 0 of either.
-#[derive(Drop)]
+#[derive(Clone, Copy)]
 pub struct Salvaged {
     pub refusal: u8,
     pub length: usize,

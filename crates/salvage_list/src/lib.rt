@@ -1,4 +1,6 @@
 // The list of those that a salvage drops (document 02, W-212), from the rules that the entries of each section break.
+#![tactic(auto)]
+
 ghost use Rattle.std.specs.Prelude.{[], ◌∷◌, ◌≡◌, ◌+◌, ◌≤◌, length};
 ghost use Rattle.octets.specs.Octets.{Wrote};
 ghost use Rattle.salvage_list.specs.List.{dropped_from, dropped_list, dropped_octets, dropped_at, dropped_in, one_if};

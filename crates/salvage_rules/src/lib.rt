@@ -1,4 +1,6 @@
 // The first rule that an entry breaks together with those kept so far, judged on its octets as far as no record can hold what breaks it, and then on the records with it.
+#![tactic(auto)]
+
 ghost use Rattle.std.specs.Prelude.{not, true, ◌≡◌, ◌+◌, ◌-◌, ◌<◌, ◌≤◌, eqb, leb, drop, length, take};
 ghost use Rattle.format.specs.Section.{Inside};
 ghost use Rattle.lists.specs.Pick.{pick};

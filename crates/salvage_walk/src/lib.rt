@@ -1,5 +1,7 @@
 // The walk over a state file that is salvaged (document 02, W-212): leases in file order, then holds, then releases, each judged with those kept before it; and the settings alone.
 // The walk keeps a rule for each entry, so that both rooms can be written once both lengths are known.
+#![tactic(auto)]
+
 ghost use Rattle.std.specs.Prelude.{true, ◌≡◌};
 ghost use Rattle.lease_file.specs.Place.{EntriesIn, entries_in};
 ghost use Rattle.release_file.specs.Place.{ReleasesIn, releases_in};
@@ -12,21 +14,21 @@ use state::{LeaseTable, Memory, State};
 use state_file::Places;
 
 // The records that were kept of a section of leases or holds, with those before it, and the rule that each entry breaks, in their order: 0 of one that is kept.
-#[derive(Drop)]
+#[derive(Clone, Copy)]
 struct Walked {
     table: LeaseTable,
     rules: [u8; 255],
 }
 
 // The same of the releases.
-#[derive(Drop)]
+#[derive(Clone, Copy)]
 struct WalkedReleases {
     memory: Memory,
     rules: [u8; 255],
 }
 
 // The book of those kept, and the rules of all three sections.
-#[derive(Drop)]
+#[derive(Clone, Copy)]
 pub struct Kept {
     pub state: State,
     pub table: LeaseTable,

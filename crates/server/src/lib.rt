@@ -1,5 +1,7 @@
 // A call from test 3 on: the tenant of the client's address; the verdict on a datagram by that tenant's records (document 02's first half); and the reply
 // written from a verdict, with the names and a reply buffer lent (the second).
+#![tactic(auto)]
+
 ghost use Rattle.std.specs.Prelude.{◌&&◌, ◌≡◌, ◌≤◌, min, ltb, length};
 ghost use Rattle.message.specs.Read.{read_of};
 ghost use Rattle.names.specs.Names.{names_b};
@@ -16,7 +18,7 @@ use state::{ClientRange, Edit, Scope, State, TenantLeases, TenantReleases};
 
 // What the caller is told of a call: the outcome's number, the reply's length, with discard 5 where in the datagram the first option stands that breaks a
 // rule, 0 with every other outcome, and how many of the tenant's records were compared to find the identifier.
-#[derive(Drop)]
+#[derive(Clone, Copy)]
 pub struct Outcome {
     pub outcome: u8,
     pub length: usize,
@@ -26,7 +28,7 @@ pub struct Outcome {
 
 // A verdict as a caller can keep it: the decision's, the offset that goes with discard 5, how many records were compared for it, and what a reply needs of the
 // client and of its message.
-#[derive(Drop)]
+#[derive(Clone, Copy)]
 pub struct Ruling {
     pub verdict: Verdict,
     pub offset: usize,
@@ -41,7 +43,7 @@ pub struct Ruling {
 }
 
 // A verdict, and what it does to what the client's tenant has.
-#[derive(Drop)]
+#[derive(Clone, Copy)]
 pub struct Judged {
     pub ruling: Ruling,
     pub edit: Edit,

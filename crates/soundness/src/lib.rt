@@ -1,4 +1,6 @@
 // Whether a book of any contents is sound, and the number of the first rule of document 01 that it breaks.
+#![tactic(auto)]
+
 mod gather;
 mod holdings;
 mod leases;
@@ -20,7 +22,7 @@ use state::{Lease, LeaseTable, State, TenantLeases};
 
 // Document 01's rules 1 to 12, document 02's on holds and the layout, each true where it holds. Of `offsets` a lease in an unknown scope is left to `leases`; of
 // `periods` two tenants on one address are left to `owners`.
-#[derive(Drop)]
+#[derive(Clone, Copy)]
 pub struct Rules {
     pub limits: bool,
     pub offsets: bool,
@@ -39,7 +41,7 @@ pub struct Rules {
 }
 
 // The rules that go scope by scope.
-#[derive(Drop)]
+#[derive(Clone, Copy)]
 struct ScopeRules {
     sizes: bool,
     pools: bool,
@@ -49,7 +51,7 @@ struct ScopeRules {
 }
 
 // The rules that go tenant by tenant.
-#[derive(Drop)]
+#[derive(Clone, Copy)]
 pub struct TenantRules {
     pub records: bool,
     pub offsets: bool,
@@ -61,7 +63,7 @@ pub struct TenantRules {
 }
 
 // The rules on the settings alone.
-#[derive(Drop)]
+#[derive(Clone, Copy)]
 struct SettingsRules {
     counts: bool,
     ranges: bool,
@@ -72,21 +74,21 @@ struct SettingsRules {
 }
 
 // What the tenants hold in one scope: whether each is within its limit, and the sum of the larger of holding and share.
-#[derive(Drop)]
+#[derive(Clone, Copy)]
 struct ScopeLoad {
     within: bool,
     sum: u32,
 }
 
 // The same in all scopes.
-#[derive(Drop)]
+#[derive(Clone, Copy)]
 struct LoadRules {
     holdings: bool,
     commitments: bool,
 }
 
 // The rules on what all tenants hold.
-#[derive(Drop)]
+#[derive(Clone, Copy)]
 struct HoldingRules {
     tenants: bool,
     owners: bool,
@@ -96,7 +98,7 @@ struct HoldingRules {
 
 // A tenant's addresses, scope by scope, its number of records, and the earliest end of its leases or lapse of its holds:
 // 4,294,967,295 where it has none.
-#[derive(Drop)]
+#[derive(Clone, Copy)]
 pub struct Held {
     pub sets: [u64; 4],
     pub count: usize,
@@ -104,7 +106,7 @@ pub struct Held {
 }
 
 // What one loop over a tenant's leases gathers; `apart` where each is on addresses of its own.
-#[derive(Drop)]
+#[derive(Clone, Copy)]
 struct Gathered {
     ids: bool,
     offsets: bool,
@@ -116,7 +118,7 @@ struct Gathered {
 }
 
 // What one pass over a tenant's records gives; `swift` where their ends rise.
-#[derive(Drop)]
+#[derive(Clone, Copy)]
 struct Pass {
     gathered: Gathered,
     swift: bool,
@@ -124,18 +126,18 @@ struct Pass {
 }
 
 // One tenant's rules, and what it holds.
-#[derive(Drop)]
+#[derive(Clone, Copy)]
 struct Checked {
     rules: TenantRules,
     held: Held,
 }
 
-#[derive(Drop)]
+#[derive(Clone, Copy)]
 pub struct HeldTable {
     pub tenants: [Held; 8],
 }
 
-#[derive(Drop)]
+#[derive(Clone, Copy)]
 pub struct TableRules {
     pub rules: TenantRules,
     pub held: HeldTable,

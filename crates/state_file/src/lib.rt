@@ -1,6 +1,8 @@
 // The state file (document 01's campus file): its reader and its writer, by value. The reader judges the form, then the limits, then loads the
 // book and judges whether it is sound; the writer judges the book, unless it is known to be sound, counts its octets and puts them. The names for the scopes are octets to both: of
 // a file they are shown as the part in which they stand, and they are written as they are lent.
+#![tactic(auto)]
+
 mod form;
 mod limits;
 mod load;
@@ -23,7 +25,7 @@ use state::{LeaseTable, Ledger, Memory, State};
 pub const FILE_LIMIT: usize = 32768;
 
 // What the reader answers: refusal 0 and the book, or the number of a refusal and records that are all zero.
-#[derive(Drop)]
+#[derive(Clone, Copy)]
 pub struct Loaded {
     pub refusal: u8,
     pub state: State,
@@ -32,14 +34,14 @@ pub struct Loaded {
 }
 
 // What the writer answers: refusal 0 and the length of the file, or the number of a refusal and length 0.
-#[derive(Drop)]
+#[derive(Clone, Copy)]
 pub struct Written {
     pub refusal: u8,
     pub length: usize,
 }
 
 // Where the sections of a file start, after the server and the tenants.
-#[derive(Drop)]
+#[derive(Clone, Copy)]
 pub struct Places {
     pub scopes: usize,
     pub leases: usize,
@@ -49,7 +51,7 @@ pub struct Places {
 }
 
 // What the form of octets is: a file's, with its places, or none.
-#[derive(Drop)]
+#[derive(Clone, Copy)]
 pub enum Layout {
     Right(Places),
     Wrong,

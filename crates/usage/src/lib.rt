@@ -1,5 +1,7 @@
 // The report of address-seconds (document 02, W-213), file by file: the totals from one clock to the next, which file is refused, and the text. Only the file
 // before is kept. Sums stop at the largest u64; of files that the reader accepts no total gets there.
+#![tactic(auto)]
+
 mod settings;
 mod sums;
 mod text;
@@ -21,19 +23,19 @@ pub const MOST_FILES: usize = 1000;
 pub const TEXT_LIMIT: usize = 4096;
 
 // A scope's totals, by tenant.
-#[derive(Drop)]
+#[derive(Clone, Copy)]
 pub struct ScopeTotals {
     pub tenants: [u64; 8],
 }
 
 // All totals, by scope.
-#[derive(Drop)]
+#[derive(Clone, Copy)]
 pub struct Totals {
     pub scopes: [ScopeTotals; 4],
 }
 
 // What is kept from file to file: how many were accepted, the first one's settings, the last one's clock and leases, and the totals.
-#[derive(Drop)]
+#[derive(Clone, Copy)]
 pub struct Report {
     pub count: u64,
     pub first: State,
@@ -43,7 +45,7 @@ pub struct Report {
 }
 
 // What a file gives: refusal 0 and the report with it, or the number of a refusal and the report before it.
-#[derive(Drop)]
+#[derive(Clone, Copy)]
 pub struct Step {
     pub refusal: u8,
     pub report: Report,

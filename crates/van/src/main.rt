@@ -1,5 +1,7 @@
 // The van's server. Standard input: 18 octets of settings (server address, lowest and highest client address, lowest pool address, 4 octets each; size and
 // TTL, 1 each), then for each datagram time(4), client address(4), length(2) and the datagram. It reads as it goes and prints a line for each.
+#![tactic(auto)]
+
 use libc::{STDIN_FILENO, STDOUT_FILENO};
 use owned::Owned;
 use van_server::Turn;

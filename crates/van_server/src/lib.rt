@@ -1,5 +1,7 @@
 // The van's own server (document 02, W-211): one house and one scope from small settings, a book that starts empty, and a line for each datagram. It
 // stands above `owned` and knows the server by what that promises.
+#![tactic(auto)]
+
 ghost use Rattle.std.specs.Prelude.{◌&&◌, ◌≡◌, ◌≤◌, length};
 ghost use Rattle.releases.specs.Whole.{book_b};
 ghost use Rattle.state_file.specs.StateFile.{zero_ledger, zero_state};
@@ -24,7 +26,7 @@ pub const RECORD_ROOM: usize = 65545;
 pub const LINE_ROOM: usize = 2 * reply::LEAST_ROOM + 8;
 
 // Whether there may be another record, how much was written for this one, and the book afterwards.
-#[derive(Drop)]
+#[derive(Clone, Copy)]
 pub struct Turn {
     pub go: bool,
     pub length: usize,

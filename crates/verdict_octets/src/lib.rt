@@ -1,4 +1,6 @@
 // A verdict as octets that a host keeps between the two halves of a call, and prints (document 02, W-208).
+#![tactic(auto)]
+
 ghost use Rattle.std.specs.Prelude.{◌≡◌, ◌+◌, ◌≤◌, length};
 ghost use Rattle.octets.specs.Octets.{Wrote};
 ghost use Rattle.verdict_octets.specs.Octets.{asked_octets, flag_of, identifier_in, identifier_octets, is_set, language_in, language_octets, last_octets, number_octets, outcome_octets, place_octets, reply_for, reply_number, ruling_in, run, set_at, verdict_in, verdict_octets};

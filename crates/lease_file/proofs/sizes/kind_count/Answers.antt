@@ -20,4 +20,4 @@ pub loop-i-preserved : goal.loop-i-preserved
 loop-i-preserved c = search (sizes, rules)
 
 pub returns : goal.returns
-returns c = (kinds_counted c.args.holds c.args.t1 _ _ (search (unmapped, rules)) c.cut16-n.ensures (size_end c.loop-i.invariant (search rules)), omega (arith, c.loop-i.invariant.small, c.loop-i.invariant.within, c.cut16-n.ensures))
+returns c = (kinds_counted c.args.holds c.args.t _ _ (search (unmapped, rules)) c.cut16-n.ensures (size_end c.loop-i.invariant (search rules)), omega (arith, c.loop-i.invariant.small, c.loop-i.invariant.within, c.cut16-n.ensures))

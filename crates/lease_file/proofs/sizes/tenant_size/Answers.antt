@@ -25,4 +25,4 @@ unfolding entry_octets
 loop-i-preserved c = search (sizes, rules)
 
 pub returns : goal.returns
-returns c = (row_sum (entry_octets c.args.holds 0) no_lease c.args.t1.leases 16 c.args.t1.count _ _ (search (unmapped, rules)) c.cut16-n.ensures (size_end c.loop-i.invariant (search rules)), omega (arith, c.loop-i.invariant.small, c.loop-i.invariant.within, c.cut16-n.ensures))
+returns c = (row_sum (entry_octets c.args.holds 0) no_lease c.args.t.leases 16 c.args.t.count _ _ (search (unmapped, rules)) c.cut16-n.ensures (size_end c.loop-i.invariant (search rules)), omega (arith, c.loop-i.invariant.small, c.loop-i.invariant.within, c.cut16-n.ensures))

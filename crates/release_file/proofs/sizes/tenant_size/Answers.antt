@@ -26,4 +26,4 @@ loop-i-preserved c = search (sizes, rules)
 
 pub returns : goal.returns
 unfolding release_octets
-returns c = (row_sum (release_octets 0) no_release c.args.t1.releases 4 c.args.t1.count _ _ (search (unmapped, rules)) c.cut4-n.ensures (size_end c.loop-i.invariant (search rules)), omega (arith, c.loop-i.invariant.small, c.loop-i.invariant.within, c.cut4-n.ensures))
+returns c = (row_sum (release_octets 0) no_release c.args.q.releases 4 c.args.q.count _ _ (search (unmapped, rules)) c.cut4-n.ensures (size_end c.loop-i.invariant (search rules)), omega (arith, c.loop-i.invariant.small, c.loop-i.invariant.within, c.cut4-n.ensures))

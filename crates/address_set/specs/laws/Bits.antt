@@ -79,6 +79,7 @@ bit_without m n (suc a) =
 
 -- !n of k bits
 pub bit_not : (k n a : ℕ) → n < 2 ^ k → a < k → bit ((2 ^ k - 1) - n) a ≡ 1 - bit n a
+bit_not zero n a hn ha = elim ha [ ]
 bit_not (suc k) n zero hn ha = let e = pow-suc 2 k in let x = bit_zero ((2 ^ suc k - 1) - n) in let y = bit_zero n in omega arith
 bit_not (suc k) n (suc a) hn ha =
     let e = pow-suc 2 k in

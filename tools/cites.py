@@ -52,7 +52,7 @@ class Cites:
             for n, b in f.declared().items():
                 names[n] = (f, b)
         self.tables[f.path] = names, aliases
-        self.operators[f.path] = [n for n in names if '_' in n and not n.startswith('«')]
+        self.operators[f.path] = [n for n in names if '◌' in n]
         return names, aliases
 
     def of(self, f, cited):
@@ -136,13 +136,18 @@ class Cites:
         return out
 
     def live(self):
-        """ids of what is there for a reason: what contracts cite, what function proofs give, listed theorems, specimens that compute;
+        """ids of what is there for a reason: what contracts and `#[tactic(..)]` cite, what function proofs give, listed theorems, specimens that compute;
         and all that these cite."""
         listed = self.theorems()
         within = self.sections()
         todo = [(m, b) for m, b, _ in self.contracts().values()]
+        for f in self.tree.rts.values():
+            for crate, part, rel, name in f.tactics:
+                m = self.tree.modules.get((crate, part, rel))
+                if m and name in m.declared():
+                    todo.append((m, m.declared()[name]))
         for f in self.tree.files.values():
-            proof = f.part == 'proofs' and f.path.endswith('/Proof.antt')
+            proof = source.of_function(f.path)
             for b in f.all():
                 if proof and b.public or is_specimen(f, b) or any((f.crate, n) in listed for n in b.names):
                     todo.append((f, b))
@@ -171,7 +176,7 @@ class Cites:
                 if b.kind in ('def', 'record', 'data', 'ruleset') and id(b) not in live]
 
 
-ENTRIES = ('lent', 'owned', 'embed')                               # crates whose public functions are the product's
+ENTRIES = ('lent', 'owned', 'embed', 'embed_c')                    # crates whose public functions are the product's
 
 
 def uncalled(tree):

@@ -68,9 +68,9 @@ def tokens(text, line=1):
 
 
 def spelled(name):
-    """The tokens under which an imported or declared name may stand in a text: its own, and the parts of an operator."""
-    if '_' in name and not name.startswith('«'):
-        return [p for p in name.split('_') if p]
+    """The tokens under which an imported or declared name may stand in a text: its own, and the parts of an operator, whose places are `◌`."""
+    if '◌' in name:
+        return [p for p in name.split('◌') if p]
     return [name]
 
 
@@ -106,8 +106,8 @@ class Cited:
             else:
                 path = None
             self.plain.add(t.text)
-            if '_' in t.text and not t.text.startswith('«') and t.text != '_':
-                self.plain.update(p for p in t.text.split('_') if p)
+            if '◌' in t.text:
+                self.plain.update(spelled(t.text))
 
     def has(self, name):
         """Whether the name, bare or as an operator, stands in the text."""
@@ -118,24 +118,65 @@ class Cited:
 
 
 class Use:
-    """A `use` line: path, items [(name, as)] or None where it brings a module, alias."""
+    """A `use` line: path, items [(name, as)] or None where it brings a module, alias; code: one of Rattle's own, whose path is written by `::`."""
 
-    def __init__(self, path, items, alias, public, line, lines, ghost=False, mark=''):
+    def __init__(self, path, items, alias, public, line, lines, ghost=False, mark='', code=False):
         self.path, self.items, self.alias, self.public, self.line, self.lines, self.ghost, self.mark = path, items, alias, public, line, lines, ghost, mark
+        self.code = code
+
+    def with_items(self, items):
+        """The same line with other items; of a line of code one alone stands without braces."""
+        if self.code and len(items) == 1:
+            a, b = items[0]
+            return Use(self.path + '::' + a, None, b, self.public, self.line, None, code=True)
+        return Use(self.path, items, self.alias, self.public, self.line, None, self.ghost, self.mark, self.code)
 
     def names(self):
         if self.items is None:
-            return [self.alias or self.path.split('.')[-1]]
-        return [b or a.split('.')[-1] for a, b in self.items]
+            return [self.alias or last(self.path)]
+        return [b or last(a) for a, b in self.items]
 
     def text(self, end=''):
         head = self.mark + ('pub ' if self.public else '') + ('ghost ' if self.ghost else '') + 'use ' + self.path
         if self.items is None:
             return head + (' as ' + self.alias if self.alias else '') + end
-        return head + '.{' + ', '.join(a if not b else a + ' as ' + b for a, b in self.items) + '}' + end
+        return head + ('::{' if self.code else '.{') + ', '.join(a if not b else a + ' as ' + b for a, b in self.items) + '}' + end
+
+
+def last(path):
+    return re.split(r'[.:]+', path)[-1]
 
 
 USE = re.compile(r'^(pub )?(ghost )?use (package\.)?(.*?)(?:\.\{(.*)\})?(?: as (\S+?))?;?\s*$', re.S)
+
+
+def read_code_use(lines, at):
+    """A `use` line of Rattle's: `use a::b;`, `use a::{b, c as d};`, with braces in braces made flat."""
+    text = re.sub(r'\s+', ' ', ' '.join(l.strip() for l in lines))
+    m = re.match(r'(pub )?use (.*?);', text)
+    public, path = bool(m.group(1)), m.group(2).strip()
+    if '{' not in path:
+        path, _, alias = path.partition(' as ')
+        return Use(path, None, alias or None, public, at, lines, code=True)
+    head, _, inner = path.partition('::{')
+    items = []
+
+    def flat(prefix, text):
+        depth, start = 0, 0
+        parts = []
+        for i, c in enumerate(text + ','):
+            depth += {'{': 1, '}': -1}.get(c, 0)
+            if c == ',' and depth == 0:
+                parts.append(text[start:i].strip())
+                start = i + 1
+        for part in parts:
+            if '::{' in part:
+                flat(prefix + part.partition('::{')[0] + '::', part.partition('::{')[2].rstrip()[:-1])
+            elif part:
+                a, _, b = part.partition(' as ')
+                items.append((prefix + a.strip(), b.strip() or None))
+    flat('', inner.rstrip()[:-1])
+    return Use(head, items, None, public, at, lines, code=True)
 
 
 def read_use(lines, at):
@@ -154,7 +195,7 @@ def read_use(lines, at):
     return Use((m.group(3) or '') + m.group(4), items, m.group(6), bool(m.group(1)), at, lines, bool(m.group(2)))
 
 
-START = re.compile(r'^((?:unfoldable |abbrev |pub |axiom )*)(record|data|ruleset|module|mutual|open|infixl|infixr|infix|deriving)?(?:\b|(?=\+))')   # a cycle's theorem is called +f+g-spec
+START = re.compile(r'^((?:unfoldable |abbrev |pub |axiom )*)(record|data|ruleset|module|mutual|open|infixl|infixr|infix|deriving)?(?:\b|(?=[+◌]))')   # a cycle's theorem is called +f+g_spec, and an operator begins with a place
 
 
 class Block:
@@ -482,8 +523,7 @@ class RtFile:
                 if lines[i].startswith('ghost use'):
                     u = read_use(lines[i:j + 1], i + 1)
                 else:
-                    m = re.match(r'(pub )?use (.*);', ' '.join(lines[i:j + 1]))
-                    u = Use(m.group(2).strip(), None, None, bool(m.group(1)), i + 1, lines[i:j + 1])
+                    u = read_code_use(lines[i:j + 1], i + 1)
                 u.ghost = lines[i].startswith('ghost use')
                 self.uses.append(u)
                 self.rest += [''] * (j - i + 1)
@@ -505,11 +545,18 @@ class RtFile:
             at = j
         code.append(text[at:])
         self.code = ''.join(code)
+        # what a `#[tactic(..)]` names for the proofs: (crate, part, name below it, declaration)
+        self.tactics = []
+        for m in re.finditer(r'#!?\[tactic\(([^\]]*)\]', text):
+            for path in re.findall(r'\w+(?:::\w+)+', m.group(1)):
+                parts = path.split('::')
+                if parts[1] in ('specs', 'proofs'):
+                    self.tactics.append((self.crate if parts[0] == 'crate' else parts[0], parts[1], '.'.join(parts[2:-1]), parts[-1]))
 
     def cited(self):
         c = Cited([])
         for line, t in self.contracts:
-            d = Cited(tokens(t.replace('⌜', ' ').replace('⌝', ' '), line))
+            d = Cited(tokens(t, line))
             c.plain |= d.plain
             c.paths |= d.paths
             c.heads |= d.heads
@@ -544,14 +591,14 @@ def place(path):
 
 
 def crates(root):
-    """crate -> what it rests on, in the order of crates.txt."""
+    """crate -> what it rests on, in the order of crates.txt. Before the colon `staticlib` may stand after the name."""
     out = {}
     with open(os.path.join(root, 'crates.txt'), encoding='utf-8') as f:
         for l in f:
             l = l.split('#')[0]
             if ':' in l:
                 a, b = l.split(':', 1)
-                out[a.strip()] = b.split()
+                out[a.split()[0]] = b.split()
     return out
 
 
@@ -566,20 +613,28 @@ def paths(root, crate, part, ending):
     return out
 
 
-def module(crate, part, rel, seen):
-    """The module's path as a file of the crate `seen` writes it."""
-    if crate == seen:
-        return 'Rattle·%s·%s.%s.%s' % (crate, part, part, rel)
-    return 'Rattle·%s.%s.%s' % (crate, part, rel)
+def of_function(path):
+    """Whether a file is what was written of one function's proof: its answers, its invariants, or a whole walk."""
+    crate, part, rel = place(path)
+    return part == 'proofs' and '.' in rel and rel.split('.')[-1] in ('Answers', 'Invariants', 'Proof')
 
 
-OWN = re.compile(r'^Rattle·([a-z_0-9]+)·(specs|proofs)\.(?:specs|proofs)(?:\.(.*))?$')
-OTHER = re.compile(r'^Rattle·([a-z_0-9]+)\.(specs|proofs)(?:\.(.*))?$')
+def generated(target):
+    """Whether a module is one that the check makes of the code."""
+    return target[1] == 'specs' and target[2].split('.')[0] in ('declared', 'contracts')
+
+
+def module(crate, part, rel):
+    """The module's path."""
+    return 'Rattle.%s.%s.%s' % (crate, part, rel)
+
+
+MODULE = re.compile(r'^Rattle\.([a-z_0-9]+)\.(specs|proofs)(?:\.(.*))?$')
 
 
 def target(path):
-    """(crate, part, name) of a module path, or None if it is no crate's of the repository."""
-    m = OWN.match(path) or OTHER.match(path)
+    """(crate, part, name) of the path of a crate's module, which may be one of the kit's, or None if it is none."""
+    m = MODULE.match(path)
     return (m.group(1), m.group(2), m.group(3) or '') if m else None
 
 
@@ -624,7 +679,7 @@ class Tree:
                     continue
                 if at == local:
                     s = m.group(2) if m else l
-                    d = Cited(tokens(s.replace('⌜', ' ').replace('⌝', ' ')))
+                    d = Cited(tokens(s))
                     c.plain |= d.plain
                     c.paths |= d.paths
                     c.heads |= d.heads

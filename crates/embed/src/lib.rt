@@ -1,4 +1,4 @@
-// The functions that a host program in C or Rust links: numbers and octets only. For `banshorra_serve`, `banshorra_judge` and
+// The functions that a host program in C or Rust links through `embed_c`: numbers and octets only. For `banshorra_serve`, `banshorra_judge` and
 // `banshorra_replay` a campus file is held in a buffer of the caller's, of at least 32,768 octets; `file_length` is the number of its octets, before and
 // after.
 #![tactic(auto)]
@@ -168,19 +168,17 @@ fn write_verdict(file: &[u8], verdict: &[u8; 75], room: &mut [u8]) -> Outcome
     silent(refusal)
 }
 
-// ---- the functions that are linked
+// ---- the functions that `embed_c` exports
 
 // 0 for a campus file that is accepted, or its refusal, 20 or 21.
-#[unsafe(no_mangle)]
-pub extern "C" fn banshorra_check(file: &[u8]) -> u8
+pub fn banshorra_check(file: &[u8]) -> u8
     ensures { result ≡ (read_file file.now).refusal }
 {
     state_file::check(file)
 }
 
 // The text that `board` prints for a campus file: its length, or 0 where the room is below 1,100 octets.
-#[unsafe(no_mangle)]
-pub extern "C" fn banshorra_board(file: &[u8], text: &mut [u8]) -> usize
+pub fn banshorra_board(file: &[u8], text: &mut [u8]) -> usize
     ensures length { result ≡ length_in (read_file file.now) text.old }
     ensures octets { text.new ≡ room_with_text (read_file file.now) text.old }
 {
@@ -190,8 +188,7 @@ pub extern "C" fn banshorra_board(file: &[u8], text: &mut [u8]) -> usize
 // The occupancy board of a campus file, for polling: 0, and 544 octets at the front of `board`; scope by scope, for each of 64 addresses the owner(1),
 // a house from 1 on or 0 for none, and the number of leases on it(1), then what each of eight houses holds(1). 20 or 21 where the file is refused,
 // then 23 where `board` has fewer than 544 octets: these write nothing.
-#[unsafe(no_mangle)]
-pub extern "C" fn banshorra_occupancy(file: &[u8], board: &mut [u8]) -> u8
+pub fn banshorra_occupancy(file: &[u8], board: &mut [u8]) -> u8
     ensures number { result ≡ board_number (read_file file.now) (length board.old) }
     ensures octets { board.new ≡ room_with_board (read_file file.now) board.old }
 {
@@ -213,8 +210,7 @@ pub extern "C" fn banshorra_occupancy(file: &[u8], board: &mut [u8]) -> u8
 // `fault_offset` is where in the datagram the first option stands that breaks a rule, or the datagram's length where End or option 3 is missing; it
 // is 0 with every other number. `count` is how many of the house's records were compared to find the identifier, at most 32. 23 where the buffer has fewer than 32,768 octets, 28 where `file_length` is past its end, then 20 or 21 where the
 // file is refused: these change nothing but the reply's length, the offset and the count, which are 0.
-#[unsafe(no_mangle)]
-pub extern "C" fn banshorra_serve(
+pub fn banshorra_serve(
     file: &mut [u8],
     file_length: &mut usize,
     datagram: &[u8],
@@ -252,8 +248,7 @@ pub extern "C" fn banshorra_serve(
 
 // The first half of a call on the campus file in a buffer, for monitoring: the verdict's outcome, 0 to 8 and never 2, its 75 octets in `verdict` (the layout
 // is that of `verdict_octets`), and the file and its length afterwards. 23, 28, 20 and 21 of the file as above, which change nothing.
-#[unsafe(no_mangle)]
-pub extern "C" fn banshorra_judge(
+pub fn banshorra_judge(
     file: &mut [u8],
     file_length: &mut usize,
     datagram: &[u8],
@@ -285,8 +280,7 @@ pub extern "C" fn banshorra_judge(
 // The second half: the reply of a verdict that `banshorra_judge` gave, and of the campus file that it left; the number is the outcome, 0 to 8, with the
 // reply, its length, with discard 5 the offset, and the count that the verdict carries, as `banshorra_serve` tells them. 2 where the room has fewer than 512 octets, tested first; then 20 or 21
 // where the file is refused. Any 75 octets may be lent as a verdict and any file with them: no octet past the reply's length changes, or past the 512th.
-#[unsafe(no_mangle)]
-pub extern "C" fn banshorra_reply(
+pub fn banshorra_reply(
     file: &[u8],
     verdict: &[u8; 75],
     reply: &mut [u8],
@@ -307,8 +301,7 @@ pub extern "C" fn banshorra_reply(
 // outcome(1), the offset that it carries(2), how many records were read(1), reply length(2) and the reply. `used` is how many octets of the calls are answered, `filled` how many of the answers there are.
 // 0 where all are answered, 24 where a record is cut off, 27 where fewer than 518 octets are left for the next answer; those before it stand, and
 // the file is written. 20, 21, 23 and 28 of the file as above, with `used` and `filled` 0.
-#[unsafe(no_mangle)]
-pub extern "C" fn banshorra_replay(
+pub fn banshorra_replay(
     file: &mut [u8],
     file_length: &mut usize,
     calls: &[u8],
@@ -341,8 +334,7 @@ pub extern "C" fn banshorra_replay(
 // Salvages a campus file that may be refused as 21 (document 02, W-212): a new one into `room`, of `room_length` octets, and into `list` those that were dropped, of
 // `list_length` octets: how many(2), then for each kind(1; 1 lease, 2 hold, 3 release), place in its section(1; from 1) and first broken rule(1). 20 for a wrong form, 25
 // where the settings alone are unsound, 23 where a room is too short: these write nothing, and both lengths are 0. As many octets as the file has, and 2,297, are enough.
-#[unsafe(no_mangle)]
-pub extern "C" fn banshorra_salvage(
+pub fn banshorra_salvage(
     file: &[u8],
     room: &mut [u8],
     room_length: &mut usize,

@@ -2,65 +2,72 @@
 // call time(4), client address(4), reply room length(2), datagram length(2), the datagram. It reads as it goes.
 #![tactic(auto)]
 
-use libc::{STDIN_FILENO, STDOUT_FILENO};
 use owned::Owned;
 
 // The first n octets of a text, or all of it.
-fn print(text: &[u8], n: usize) {
+fn print(rt: &HostRuntime, text: &[u8], n: usize) {
     if n <= text.len() {
-        io::write_all(STDOUT_FILENO, &text[..n]);
+        streams::write_front(&mut rt.stdout(), text, n);
         return;
     }
-    io::write_all(STDOUT_FILENO, text);
+    streams::write_front(&mut rt.stdout(), text, text.len());
 }
 
-fn refuse(number: u8) {
+fn refuse(rt: &HostRuntime, number: u8) {
     let mut line = [0u8; 16];
     let n = replay_text::write_refused_line(&mut line, number);
-    print(&line, n);
+    print(rt, &line, n);
 }
 
 // A reply is no longer than the least room and lies within its room (demand 1); one that did not would be told as 27, too little room for it.
-fn print_call(outcome: u8, offset: usize, count: usize, room: &[u8], length: usize) {
+fn print_call(
+    rt: &HostRuntime,
+    outcome: u8,
+    offset: usize,
+    count: usize,
+    room: &[u8],
+    length: usize,
+) {
     let mut line = [0u8; 2 * reply::LEAST_ROOM + 46];
     if length <= reply::LEAST_ROOM {
         if length <= room.len() {
             let n = replay_text::write_call_line(&mut line, outcome, offset, count, room, length);
-            print(&line, n);
+            print(rt, &line, n);
             return;
         }
     }
-    refuse(27);
+    refuse(rt, 27);
 }
 
 // The writer refuses nothing after calls on an accepted file; what it refused would be told.
-fn print_book(book: Owned, names: &[u8]) {
+fn print_book(rt: &HostRuntime, book: Owned, names: &[u8]) {
     let mut file = [0u8; state_file::FILE_LIMIT];
     let mut line = [0u8; 2 * state_file::FILE_LIMIT + 6];
     let w = owned::write(book, names, &mut file);
     let length = w.length;
     if w.refusal != 0 {
-        refuse(w.refusal);
+        refuse(rt, w.refusal);
         return;
     }
     if length <= state_file::FILE_LIMIT {
         let n = replay_text::write_book_line(&mut line, &file, length);
-        print(&line, n);
+        print(rt, &line, n);
         return;
     }
-    refuse(23);
+    refuse(rt, 23);
 }
 
 // Reads n octets to the front of a buffer; false where the input is cut off before them.
-fn read_part(buffer: &mut [u8], n: usize) -> bool {
+fn read_part(rt: &HostRuntime, buffer: &mut [u8], n: usize) -> bool {
     if n <= buffer.len() {
-        return io::read_full(STDIN_FILENO, &mut buffer[..n]) == n;
+        return streams::read_full(&mut rt.stdin(), &mut buffer[..n]) == n;
     }
     false
 }
 
 // One call on a datagram of n octets, in a room of just `size` octets; both lie within their buffers, which have 65,536.
 fn call(
+    rt: &HostRuntime,
     book: Owned,
     names: &[u8],
     client: u32,
@@ -74,16 +81,17 @@ fn call(
         if size <= room.len() {
             let r = owned::serve(book, names, &datagram[..n], client, time, &mut room[..size]);
             let told = r.outcome;
-            print_call(told.outcome, told.offset, told.count, room, told.length);
+            print_call(rt, told.outcome, told.offset, told.count, room, told.length);
             return r.owned;
         }
     }
-    refuse(24);
+    refuse(rt, 24);
     book
 }
 
 // The call whose record starts with a head of twelve octets.
 fn call_of(
+    rt: &HostRuntime,
     head: [u8; 12],
     book: Owned,
     names: &[u8],
@@ -94,7 +102,7 @@ fn call_of(
     let time = octets::read_u32(&head, 0);
     let client = octets::read_u32(&head, 4);
     let size = octets::read_u16(&head, 8) as usize;
-    call(book, names, client, time, datagram, n, room, size)
+    call(rt, book, names, client, time, datagram, n, room, size)
 }
 
 // The book after a record, and whether there may be another.
@@ -111,37 +119,41 @@ fn stop(book: Owned) -> Turn {
     }
 }
 
-fn take_turn(book: Owned, names: &[u8], datagram: &mut [u8], room: &mut [u8]) -> Turn {
+fn take_turn(
+    rt: &HostRuntime,
+    book: Owned,
+    names: &[u8],
+    datagram: &mut [u8],
+    room: &mut [u8],
+) -> Turn {
     let mut head = [0u8; 12];
-    let got = io::read_full(STDIN_FILENO, &mut head);
+    let got = streams::read_full(&mut rt.stdin(), &mut head);
     if got == 0 {
-        print_book(book, names);
+        print_book(rt, book, names);
         return stop(book);
     }
     let n = octets::read_u16(&head, 10) as usize;
     if got == 12 {
-        if read_part(datagram, n) {
+        if read_part(rt, datagram, n) {
             return Turn {
                 go: true,
-                book: call_of(head, book, names, datagram, n, room),
+                book: call_of(rt, head, book, names, datagram, n, room),
             };
         }
-        refuse(24);
+        refuse(rt, 24);
         return stop(book);
     }
-    refuse(24);
+    refuse(rt, 24);
     stop(book)
 }
 
-// Answers calls until the input ends or is cut off. A proved loop has to end: its turns are counted down from a number that no run uses up.
-fn replay(start: Owned, names: &[u8]) {
+// Answers calls until the input ends or is cut off. A proved loop has to end: its turns are counted up to a number that no run uses up.
+fn replay(rt: &HostRuntime, start: Owned, names: &[u8]) {
     let mut book = start;
     let mut datagram = [0u8; 65536];
     let mut room = [0u8; 65536];
-    let mut turns = u64::MAX;
-    while turns > 0 {
-        turns -= 1;
-        let t = take_turn(book, names, &mut datagram, &mut room);
+    for _ in 0..u64::MAX {
+        let t = take_turn(rt, book, names, &mut datagram, &mut room);
         if !t.go {
             return;
         }
@@ -150,28 +162,28 @@ fn replay(start: Owned, names: &[u8]) {
 }
 
 // On the campus file of n octets, whose names are lent where they stand.
-fn replay_file(file: &[u8], n: usize) {
+fn replay_file(rt: &HostRuntime, file: &[u8], n: usize) {
     if n <= file.len() {
         let r = owned::open(&file[..n]);
         if r.refusal == 0 {
-            replay(r.owned, state_file::names(&file[..n]));
+            replay(rt, r.owned, state_file::names(&file[..n]));
         } else {
-            refuse(r.refusal);
+            refuse(rt, r.refusal);
         }
     } else {
-        refuse(24);
+        refuse(rt, 24);
     }
 }
 
-fn main() {
+fn main(rt: HostRuntime) {
     let mut head = [0u8; 2];
     let mut file = [0u8; 65536];
-    if read_part(&mut head, 2) {
+    if read_part(&rt, &mut head, 2) {
         let n = octets::read_u16(&head, 0) as usize;
-        if read_part(&mut file, n) {
-            replay_file(&file, n);
+        if read_part(&rt, &mut file, n) {
+            replay_file(&rt, &file, n);
             return;
         }
     }
-    refuse(24);
+    refuse(&rt, 24);
 }

@@ -5,27 +5,33 @@
 ghost use Rattle.std.specs.Prelude.{◌≤◌};
 
 use state_file::Loaded;
+use std::env::{Env, FillError};
+use std::fs::File;
 use usage::Step;
 
-fn read_file(path: &[u8], n: usize, file: &mut [u8]) -> usize {
+// The longest path of a file, and an octet more.
+const PATH_ROOM: usize = 4096;
+
+// A path that is no UTF-8 can't be opened.
+fn read_file(rt: &HostRuntime, path: &[u8], n: usize, file: &mut [u8]) -> usize {
     if n <= path.len() {
-        let fd = os::open_read(&path[..n]);
-        if fd < 0 {
+        let Ok(path) = str::from_utf8(&path[..n]) else {
             return 0;
-        }
-        let k = io::read_full(fd, file);
-        libc::close(fd);
-        return k;
+        };
+        return match File::open(rt, path) {
+            Ok(mut opened) => streams::read_full(&mut opened, file),
+            Err(_) => 0,
+        };
     }
     0
 }
 
 // The file that argument i names.
-fn load(i: usize) -> Loaded {
+fn load(rt: &HostRuntime, i: usize) -> Loaded {
     let mut file = [0u8; state_file::FILE_LIMIT + 1];
-    let mut path = io::buffer();
-    let n = os::arg(i, &mut path);
-    let k = read_file(&path, n, &mut file);
+    let mut path = [0u8; PATH_ROOM];
+    let n = rt.arg(i, &mut path).unwrap_or(0);
+    let k = read_file(rt, &path, n, &mut file);
     if k <= file.len() {
         return state_file::read(&file[..k]);
     }
@@ -33,51 +39,60 @@ fn load(i: usize) -> Loaded {
 }
 
 // The files of arguments 1 to n, until one is refused.
-fn gather(n: usize) -> Step
+fn gather(rt: &HostRuntime, n: usize) -> Step
     requires { n ≤ 1000 }
 {
-    let mut step = usage::begin(load(1));
+    let mut step = usage::begin(load(rt, 1));
     let mut i: usize = 2;
     while i <= n {
         if step.refusal != 0 {
             return step;
         }
-        step = usage::next(step.report, load(i));
+        step = usage::next(step.report, load(rt, i));
         i += 1;
     }
     step
 }
 
-fn print(text: &[u8], n: usize) {
-    if n <= text.len() {
-        io::write_all(1, &text[..n]);
-    }
+fn print(rt: &HostRuntime, text: &[u8], n: usize) {
+    streams::write_front(&mut rt.stdout(), text, n);
 }
 
-fn print_refused(number: u8, place: u64) {
+fn print_refused(rt: &HostRuntime, number: u8, place: u64) {
     let mut room = [0u8; usage::TEXT_LIMIT];
     let k = usage::write_refused(number, place, &mut room);
-    print(&room, k);
+    print(rt, &room, k);
 }
 
-fn print_step(step: Step) {
+fn print_step(rt: &HostRuntime, step: Step) {
     let report = step.report;
     if step.refusal == 0 {
         let mut room = [0u8; usage::TEXT_LIMIT];
         let k = usage::write_report(report, &mut room);
-        print(&room, k);
+        print(rt, &room, k);
     } else {
-        print_refused(step.refusal, usage::place_after(report));
+        print_refused(rt, step.refusal, usage::place_after(report));
     }
 }
 
-fn main() {
-    let n = os::arg_count();
+// How many arguments there are, the program's name among them; no more than one above the most that are read.
+fn argument_count(rt: &HostRuntime) -> usize {
+    let mut room = [0u8; PATH_ROOM];
+    for i in 0..usage::MOST_FILES + 2 {
+        if let Err(FillError::NotPresent) = rt.arg(i, &mut room) {
+            return i;
+        }
+    }
+    usage::MOST_FILES + 2
+}
+
+fn main(rt: HostRuntime) {
+    let n = argument_count(&rt);
     if 2 <= n {
         if n - 1 <= usage::MOST_FILES {
-            print_step(gather(n - 1));
+            print_step(&rt, gather(&rt, n - 1));
             return;
         }
     }
-    print_refused(26, 0);
+    print_refused(&rt, 26, 0);
 }

@@ -2,55 +2,47 @@
 // `lease 3 rule 9`, or `refused` and a number alone. One octet more than a file may have is read, so that a longer one is refused.
 #![tactic(auto)]
 
-use libc::{STDERR_FILENO, STDIN_FILENO, STDOUT_FILENO};
 use salvage_file::Salvaged;
 
-// The first n octets of a text, to a file; none where it has fewer.
-fn print_front(to: i32, text: &[u8], n: usize) {
-    if n <= text.len() {
-        io::write_all(to, &text[..n]);
-    }
-}
-
-fn print_dropped(kind: u8, place: u8, rule: u8) {
+fn print_dropped(rt: &HostRuntime, kind: u8, place: u8, rule: u8) {
     let mut line = [0u8; 21];
     let n = replay_text::write_dropped_line(&mut line, kind, place, rule);
-    print_front(STDERR_FILENO, &line, n);
+    streams::write_front(&mut rt.stderr(), &line, n);
 }
 
-fn refuse(number: u8) {
+fn refuse(rt: &HostRuntime, number: u8) {
     let mut line = [0u8; 11];
     let n = replay_text::write_refused_line(&mut line, number);
-    print_front(STDERR_FILENO, &line, n);
+    streams::write_front(&mut rt.stderr(), &line, n);
 }
 
 // The entries of a list of n octets, after its count.
-fn print_list(list: &[u8], n: usize) {
+fn print_list(rt: &HostRuntime, list: &[u8], n: usize) {
     let mut at: usize = 2;
     while at + 3 <= n {
         if list.len() < at + 3 {
             return;
         }
-        print_dropped(list[at], list[at + 1], list[at + 2]);
+        print_dropped(rt, list[at], list[at + 1], list[at + 2]);
         at += 3;
     }
 }
 
 // What the salvage answered. A refusal has no file.
-fn print(told: Salvaged, file: &[u8], list: &[u8]) {
+fn print(rt: &HostRuntime, told: Salvaged, file: &[u8], list: &[u8]) {
     if told.refusal == 0 {
-        print_front(STDOUT_FILENO, file, told.length);
-        print_list(list, told.listed);
+        streams::write_front(&mut rt.stdout(), file, told.length);
+        print_list(rt, list, told.listed);
         return;
     }
-    refuse(told.refusal);
+    refuse(rt, told.refusal);
 }
 
-fn main() {
+fn main(rt: HostRuntime) {
     let mut file = [0u8; state_file::FILE_LIMIT + 1];
-    let n = io::read_full(STDIN_FILENO, &mut file);
+    let n = streams::read_full(&mut rt.stdin(), &mut file);
     let mut room = [0u8; state_file::FILE_LIMIT];
     let mut list = [0u8; salvage_file::LIST_LIMIT];
     let told = salvage_file::salvage(&file[..n], &mut room, &mut list);
-    print(told, &room, &list);
+    print(&rt, told, &room, &list);
 }

@@ -2,43 +2,42 @@
 // TTL, 1 each), then for each datagram time(4), client address(4), length(2) and the datagram. It reads as it goes and prints a line for each.
 #![tactic(auto)]
 
-use libc::{STDIN_FILENO, STDOUT_FILENO};
 use owned::Owned;
 use van_server::Turn;
 
 // The first n octets of a text, or all of it.
-fn print(text: &[u8], n: usize) {
+fn print(rt: &HostRuntime, text: &[u8], n: usize) {
     if n <= text.len() {
-        io::write_all(STDOUT_FILENO, &text[..n]);
+        streams::write_front(&mut rt.stdout(), text, n);
         return;
     }
-    io::write_all(STDOUT_FILENO, text);
+    streams::write_front(&mut rt.stdout(), text, text.len());
 }
 
 // The line of a record.
-fn print_line(line: [u8; van_server::LINE_ROOM], n: usize) {
-    print(&line, n);
+fn print_line(rt: &HostRuntime, line: [u8; van_server::LINE_ROOM], n: usize) {
+    print(rt, &line, n);
 }
 
-fn refuse(number: u8) {
+fn refuse(rt: &HostRuntime, number: u8) {
     let mut line = [0u8; 16];
     let n = replay_text::write_refused_line(&mut line, number);
-    print(&line, n);
+    print(rt, &line, n);
 }
 
 // Reads a part of a buffer; how many octets there were for it.
-fn read_part(buffer: &mut [u8], from: usize, to: usize) -> usize {
+fn read_part(rt: &HostRuntime, buffer: &mut [u8], from: usize, to: usize) -> usize {
     if from <= to {
         if to <= buffer.len() {
-            return io::read_full(STDIN_FILENO, &mut buffer[from..to]);
+            return streams::read_full(&mut rt.stdin(), &mut buffer[from..to]);
         }
     }
     0
 }
 
 // Reads a record to the front of a buffer; its length, or less where it is cut off.
-fn read_record(buffer: &mut [u8]) -> usize {
-    let got = read_part(buffer, 0, van_server::HEAD);
+fn read_record(rt: &HostRuntime, buffer: &mut [u8]) -> usize {
+    let got = read_part(rt, buffer, 0, van_server::HEAD);
     if got < van_server::HEAD {
         return got;
     }
@@ -46,19 +45,19 @@ fn read_record(buffer: &mut [u8]) -> usize {
     if n <= van_server::HEAD {
         return n;
     }
-    if read_part(buffer, van_server::HEAD, n) == n - van_server::HEAD {
+    if read_part(rt, buffer, van_server::HEAD, n) == n - van_server::HEAD {
         return n;
     }
     van_server::HEAD
 }
 
 // One record. It lies within the buffer, which has room for the longest; for one that did not nothing would be told.
-fn take_turn(book: Owned, buffer: &mut [u8]) -> Turn {
+fn take_turn(rt: &HostRuntime, book: Owned, buffer: &mut [u8]) -> Turn {
     let mut line = [0u8; van_server::LINE_ROOM];
-    let n = read_record(buffer);
+    let n = read_record(rt, buffer);
     if n <= buffer.len() {
         let t = van_server::turn_of(book, &buffer[..n], &mut line);
-        print_line(line, t.length);
+        print_line(rt, line, t.length);
         return t;
     }
     Turn {
@@ -68,14 +67,12 @@ fn take_turn(book: Owned, buffer: &mut [u8]) -> Turn {
     }
 }
 
-// Answers records until the input ends or is cut off. A proved loop has to end: its turns are counted down from a number that no run uses up.
-fn run(start: Owned) {
+// Answers records until the input ends or is cut off. A proved loop has to end: its turns are counted up to a number that no run uses up.
+fn run(rt: &HostRuntime, start: Owned) {
     let mut book = start;
     let mut buffer = [0u8; van_server::RECORD_ROOM];
-    let mut turns = u64::MAX;
-    while turns > 0 {
-        turns -= 1;
-        let t = take_turn(book, &mut buffer);
+    for _ in 0..u64::MAX {
+        let t = take_turn(rt, book, &mut buffer);
         if !t.go {
             return;
         }
@@ -83,17 +80,17 @@ fn run(start: Owned) {
     }
 }
 
-fn main() {
+fn main(rt: HostRuntime) {
     let mut settings = [0u8; van_server::SETTINGS];
-    let n = read_part(&mut settings, 0, van_server::SETTINGS);
+    let n = read_part(&rt, &mut settings, 0, van_server::SETTINGS);
     if n < van_server::SETTINGS {
-        refuse(24);
+        refuse(&rt, 24);
         return;
     }
     let r = van_server::open(&settings);
     if r.refusal == 0 {
-        run(r.owned);
+        run(&rt, r.owned);
         return;
     }
-    refuse(r.refusal);
+    refuse(&rt, r.refusal);
 }

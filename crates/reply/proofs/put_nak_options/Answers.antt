@@ -4,4 +4,4 @@ use borrow.Author.Rules.{rules}
 use Rattle.reply.proofs.put_nak_options.Goals as goal
 
 pub returns : goal.returns
-returns c = let at-put-error = c.before.before in let at-put-features = at-put-error.before.before.before.before in let at-put-named = at-put-features.before.before.before.before in put_joined (search rules) at-put-named.put-named.ensures (put_joined (search rules) at-put-features.put-features.ensures at-put-error.put-error.ensures)
+returns c = put_joined (search rules) c.put_named-a.ensures (put_joined (search rules) c.put_features-b.ensures c.put_error.ensures)

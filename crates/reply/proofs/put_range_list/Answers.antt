@@ -9,13 +9,13 @@ pub loop-left-init : goal.loop-left-init
 loop-left-init c = ranges_start c.ranges.set.fits
 
 pub put_range-to-requires : goal.put_range-to-requires
-put_range-to-requires c = let at-first-range = c.before in let at-loop = at-first-range.before.before in (omega (arith, ranges_room at-loop.loop.invariant (omega arith) at-first-range.first_range.ensures, at-loop.loop.invariant.kept), range_short at-loop.loop.invariant (omega arith) at-first-range.first_range.ensures)
+put_range-to-requires c = (omega (arith, ranges_room c.loop-left.invariant (omega arith) c.first_range-r.ensures, c.loop-left.invariant.kept), range_short c.loop-left.invariant (omega arith) c.first_range-r.ensures)
 
 pub loop-left-smaller : goal.loop-left-smaller
-loop-left-smaller c = let at-first-range = c.before.before.before.before.before in let at-loop = at-first-range.before.before in ranges_fall at-loop.loop.invariant (omega arith) at-first-range.first_range.ensures c.rest-left.ensures
+loop-left-smaller c = ranges_fall c.loop-left.invariant (omega arith) c.first_range-r.ensures c.rest-left.ensures
 
 pub loop-left-preserved : goal.loop-left-preserved
-loop-left-preserved c = let at-put-range = c.before.before.before in let at-first-range = at-put-range.before.before in let at-loop = at-first-range.before.before in ranges_turn at-loop.loop.invariant (omega arith) at-first-range.first_range.ensures (search rules) at-put-range.put-range.ensures at-put-range.put-range.auto.0 c.rest-left.ensures
+loop-left-preserved c = ranges_turn c.loop-left.invariant (omega arith) c.first_range-r.ensures (search rules) c.put_range-to.ensures c.put_range-to.auto.buffer c.rest-left.ensures
 
 pub returns : goal.returns
 returns c = search (ranges_end, rules)

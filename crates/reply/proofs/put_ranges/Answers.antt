@@ -9,4 +9,4 @@ pub overflow_mul-n : goal.overflow_mul-n
 overflow_mul-n c = omega (arith, ranges_few c.args.terms.addresses)
 
 pub returns : goal.returns
-returns c = let at-put-range-list = c.before.before in let at-put-code = at-put-range-list.before.before.before.before in let at-range-count = at-put-code.before.before in ranges_put _ _ _ at-range-count.range_count.ensures (search rules) at-put-code.put-code.ensures at-put-range-list.put-range-list.ensures
+returns c = ranges_put _ _ _ c.range_count-n.ensures (search rules) c.put_code-a.ensures c.put_range_list.ensures

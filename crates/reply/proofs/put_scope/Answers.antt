@@ -11,4 +11,4 @@ pub put_run-requires : goal.put_run-requires
 put_run-requires c = let a = c.args in let m = name_short a.info a.names.now a.place c.for_scope-name.ensures in search rules
 
 pub returns : goal.returns
-returns c = let at-put-entry = c.before.before.before.before.before.before in let at-name-count = at-put-entry.before in let at-for-scope = at-name-count.before.before in let a = at-for-scope.before.before.before.args in scope_put a.info a.names.now a.place a.e _ _ at-for-scope.for-scope.ensures refl at-name-count.name-count.ensures (search rules) at-put-entry.put-entry.ensures c.put_run.ensures
+returns c = let a = c.args in scope_put a.info a.names.now a.place a.e _ _ c.for_scope-name.ensures refl c.name_count.ensures (search rules) c.put_entry-a.ensures c.put_run.ensures

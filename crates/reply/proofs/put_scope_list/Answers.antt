@@ -14,4 +14,4 @@ pub overflow_cast-end : goal.overflow_cast-end
 overflow_cast-end c = let a = c.args in let f = list_fits (name_for a.info a.names.now) a.info.scopes c.cut4-n.result a.at (λ place. sent_most _ _ _ place _) (search rules) c.put_scopes-end.ensures in search rules
 
 pub returns : goal.returns
-returns c = let at-put-code = c.before.before.before.before.before.before in let at-put-scopes = at-put-code.before.before.before.before in let at-cut4 = at-put-scopes.before.before in let start = at-cut4.before.before.before in let a = start.args in scopes_put (name_for a.info a.names.now) _ a.info.count _ _ (λ place. sent_most _ _ _ place _) (search (unmapped, start.well-formed.1.1.0, rules)) at-cut4.cut4.ensures (search rules) (search rules) at-put-scopes.put-scopes.ensures refl at-put-code.put-code.ensures c.put_u8-b.ensures
+returns c = let a = c.args in scopes_put (name_for a.info a.names.now) _ a.info.count _ _ (λ place. sent_most _ _ _ place _) (search (unmapped, c.well_formed.1.1.0, rules)) c.cut4-n.ensures (search rules) (search rules) c.put_scopes-end.ensures refl c.put_code-a.ensures c.put_u8-b.ensures

@@ -3,7 +3,7 @@ use Rattle.reply.proofs.Writes.{put_none}
 use Rattle.reply.proofs.put_scope_list_if.Goals as goal
 
 pub returns-then-info : goal.returns-then-info
-returns-then-info c = let at-put-scope-list = c.before.before in let at_if1 = at-put-scope-list.before.before in rw at_if1.if1.true at-put-scope-list.put-scope-list.ensures
+returns-then-info c = rw c.if-info.true c.put_scope_list.ensures
 
 pub returns : goal.returns
 returns c = rw c.if-info.false (put_none _ _ _)

@@ -13,7 +13,7 @@ pub put_scope-to-requires : goal.put_scope-to-requires
 put_scope-to-requires c = (let v = c.loop-i.invariant in let a = v.near in let b = v.kept in search rules, (c.requires.1.0, search rules))
 
 pub loop-i-preserved : goal.loop-i-preserved
-loop-i-preserved c = let at-put-scope = c.before.before in let at-loop = at-put-scope.before.before.before.before in scopes_next at-loop.loop.invariant _ (search rules) (search rules) (sent_most _ _ _ _ _) at-put-scope.put-scope.ensures at-put-scope.put-scope.auto.0
+loop-i-preserved c = scopes_next c.loop-i.invariant _ (search rules) (search rules) (sent_most _ _ _ _ _) c.put_scope-to.ensures c.put_scope-to.auto.buffer
 
 pub returns : goal.returns
 returns c = search (scopes_end, rules)

@@ -9,4 +9,4 @@ use native.Mathlib.Omega.{arith}
 use Rattle.reply.proofs.put_server.Goals as goal
 
 pub returns : goal.returns
-returns c = let at-put-u32 = c.before.before in let at-wide64 = at-put-u32.before in let at-put-u16 = at-wide64.before.before.before.before in let at-put-code = at-put-u16.before.before.before.before in let start = at-put-code.before.before.before in option_put _ 6 10 (octets16 1 ++ octets32 start.args.head.server) refl (omega arith) (search rules) at-put-code.put-code.ensures (wrote_joined (search rules) at-put-u16.put-u16.ensures (rw at-wide64.wide64.ensures at at-put-u32.put-u32.ensures))
+returns c = option_put _ 6 10 (octets16 1 ++ octets32 c.args.head.server) refl (omega arith) (search rules) c.put_code-a.ensures (wrote_joined (search rules) c.put_u16-b.ensures (rw c.wide64.ensures at c.put_u32.ensures))

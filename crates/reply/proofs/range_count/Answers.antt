@@ -9,13 +9,13 @@ pub loop-left-init : goal.loop-left-init
 loop-left-init c = count_start c.ranges.set.fits
 
 pub overflow_add-n : goal.overflow_add-n
-overflow_add-n c = let at-first-range = c.before in let at-loop = at-first-range.before.before in omega (arith, count_more at-loop.loop.invariant (omega arith) at-first-range.first_range.ensures)
+overflow_add-n c = omega (arith, count_more c.loop-left.invariant (omega arith) c.first_range-r.ensures)
 
 pub loop-left-smaller : goal.loop-left-smaller
-loop-left-smaller c = let at-first-range = c.before in let at-loop = at-first-range.before.before in count_less at-loop.loop.invariant (omega arith) at-first-range.first_range.ensures c.rest-left.ensures
+loop-left-smaller c = count_less c.loop-left.invariant (omega arith) c.first_range-r.ensures c.rest-left.ensures
 
 pub loop-left-preserved : goal.loop-left-preserved
-loop-left-preserved c = let at-first-range = c.before in let at-loop = at-first-range.before.before in count_next at-loop.loop.invariant (omega arith) at-first-range.first_range.ensures c.rest-left.ensures
+loop-left-preserved c = count_next c.loop-left.invariant (omega arith) c.first_range-r.ensures c.rest-left.ensures
 
 pub returns : goal.returns
 returns c = search (count_end, rules)

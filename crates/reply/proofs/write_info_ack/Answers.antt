@@ -6,4 +6,4 @@ use Rattle.reply.proofs.write_info_ack.Goals as goal
 
 pub returns : goal.returns
 unfolding info_ack_of
-returns c = let at-put-end = c.before.before in let at-put-info-options = at-put-end.before.before.before.before in let at-put-header = at-put-info-options.before.before.before.before in let at-ack = at-put-header.before in replied _ _ (rw at-ack.ack.ensures at at-put-header.put-header.ensures.0) at-put-info-options.put-info-options.ensures at-put-end.put_end.ensures (search rules)
+returns c = replied _ _ (rw c.ack.ensures at c.put_header-a.ensures.0) c.put_info_options-b.ensures c.put_end.ensures (search rules)

@@ -4,4 +4,4 @@ use borrow.Author.Rules.{rules}
 use Rattle.reply.proofs.write_lease.Goals as goal
 
 pub returns : goal.returns
-returns c = let at-put-end = c.before.before in let at-put-lease-options = at-put-end.before.before.before.before in let at-put-header = at-put-lease-options.before.before.before.before in replied _ _ at-put-header.put-header.ensures.0 at-put-lease-options.put-lease-options.ensures at-put-end.put_end.ensures (search rules)
+returns c = replied _ _ c.put_header-a.ensures.0 c.put_lease_options-b.ensures c.put_end.ensures (search rules)

@@ -4,4 +4,4 @@ use Rattle.reply.proofs.write_lease_ack.Goals as goal
 
 pub returns : goal.returns
 unfolding lease_ack_of
-returns c = let at-write-lease = c.before.before in let at-ack = at-write-lease.before in (rw at-ack.ack.ensures at at-write-lease.write-lease.ensures)
+returns c = (rw c.ack.ensures at c.write_lease.ensures)

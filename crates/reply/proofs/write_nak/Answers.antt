@@ -6,4 +6,4 @@ use Rattle.reply.proofs.write_nak.Goals as goal
 
 pub returns : goal.returns
 unfolding nak_of
-returns c = let at-put-end = c.before.before in let at-put-nak-options = at-put-end.before.before.before.before in let at-put-header = at-put-nak-options.before.before.before.before in let at-nak = at-put-header.before in replied _ _ (rw at-nak.nak.ensures at at-put-header.put-header.ensures.0) at-put-nak-options.put-nak-options.ensures at-put-end.put_end.ensures (search rules)
+returns c = replied _ _ (rw c.nak.ensures at c.put_header-a.ensures.0) c.put_nak_options-b.ensures c.put_end.ensures (search rules)

@@ -6,16 +6,16 @@ use native.Mathlib.Omega.{arith}
 use Rattle.names.proofs.list_part.Goals as goal
 
 pub returns-in_default : goal.returns-in_default
-returns-in_default c = part_none c.list_start-here.ensures (ends_not c.list_end-end.ensures c.enum_told-1.given.1)
+returns-in_default c = part_none c.list_start-here.ensures (ends_not c.list_end-end.ensures c.in_default.is)
 
 pub slice_bounds-result-count-2 : goal.slice_bounds-result-count-2
-slice_bounds-result-count-2 c = let w = ends_in (ends_at c.list_end-end.ensures c.end-1.given.1) in search rules
+slice_bounds-result-count-2 c = let w = ends_in (ends_at c.list_end-end.ensures c.in-At.is) in search rules
 
 pub slice_bounds-result-start-2 : goal.slice_bounds-result-start-2
-slice_bounds-result-start-2 c = let w = ends_in (ends_at c.list_end-end.ensures c.end-1.given.1) in search rules
+slice_bounds-result-start-2 c = let w = ends_in (ends_at c.list_end-end.ensures c.in-At.is) in search rules
 
 pub slice_bounds-result-end-2 : goal.slice_bounds-result-end-2
-slice_bounds-result-end-2 c = let w = ends_in (ends_at c.list_end-end.ensures c.end-1.given.1) in search rules
+slice_bounds-result-end-2 c = let w = ends_in (ends_at c.list_end-end.ensures c.in-At.is) in search rules
 
 pub returns : goal.returns
-returns c = part_list (λ j. omega (arith, c.shared_slice_known-1.given j)) c.list_start-here.ensures (ends_at c.list_end-end.ensures c.end-1.given.1)
+returns c = part_list (λ j. omega (arith, c.type_inv.names j)) c.list_start-here.ensures (ends_at c.list_end-end.ensures c.in-At.is)

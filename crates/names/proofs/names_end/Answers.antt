@@ -11,10 +11,10 @@ pub name_end-end-requires : goal.name_end-end-requires
 name_end-end-requires c = search (rest_done, rules)
 
 pub returns-in_default : goal.returns-in_default
-returns-in_default c = rest_broken c.loop-i.invariant (search rules) (ends_not (ends_as c.name_end-end.ensures.ends) c.enum_told-1.given.1)
+returns-in_default c = rest_broken c.loop-i.invariant (search rules) (ends_not (ends_as c.name_end-end.ensures.ends) c.in_default.is)
 
 pub loop-i-preserved : goal.loop-i-preserved
-loop-i-preserved c = rest_next c.loop-i.invariant (search rules) (ends_at (ends_as c.name_end-end.ensures.ends) c.end-1.given.1)
+loop-i-preserved c = rest_next c.loop-i.invariant (search rules) (ends_at (ends_as c.name_end-end.ensures.ends) c.in-At.is)
 
 pub returns : goal.returns
 returns c = search (rest_done, rules)

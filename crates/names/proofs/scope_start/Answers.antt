@@ -14,10 +14,10 @@ pub lists_end-end-requires : goal.lists_end-end-requires
 lists_end-end-requires c = search (first_some, rules)
 
 pub returns-in_default : goal.returns-in_default
-returns-in_default c = left_broken c.loop-i.invariant (search rules) (search rules) (ends_not c.lists_end-end.ensures c.enum_told-1.given.1)
+returns-in_default c = left_broken c.loop-i.invariant (search rules) (search rules) (ends_not c.lists_end-end.ensures c.in_default.is)
 
 pub loop-i-preserved : goal.loop-i-preserved
-loop-i-preserved c = left_next c.loop-i.invariant (search rules) (search rules) (ends_at c.lists_end-end.ensures c.end-1.given.1)
+loop-i-preserved c = left_next c.loop-i.invariant (search rules) (search rules) (ends_at c.lists_end-end.ensures c.in-At.is)
 
 pub returns : goal.returns
 returns c = scopes_done _ _ (ap (λ (k : ℕ). k + 1) c.wide-n.ensures.0) c.loop-i.invariant (search rules) (search rules)

@@ -1,0 +1,7 @@
+-- `grant_known` meets its contract: the parts of the grant by their calls.
+use Rattle.allocation.specs.laws.Loops.{grant_is}
+use borrow.Author.Rules.{rules}
+use Rattle.allocation.proofs.grant_known.Goals as goal
+
+pub returns : goal.returns
+returns c = search (grant_is, rules)

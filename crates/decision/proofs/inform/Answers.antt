@@ -1,0 +1,7 @@
+-- `inform` meets its contract: by unchanged-is.
+use Rattle.decision.specs.laws.Code.{unchanged_is}
+use borrow.Author.Rules.{rules}
+use Rattle.decision.proofs.inform.Goals as goal
+
+pub returns : goal.returns
+returns c = search (unchanged_is, rules)

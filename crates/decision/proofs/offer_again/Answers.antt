@@ -1,0 +1,7 @@
+-- `offer_again` meets its contract: by unchanged-is.
+use Rattle.decision.specs.laws.Code.{unchanged_is}
+use borrow.Author.Rules.{rules}
+use Rattle.decision.proofs.offer_again.Goals as goal
+
+pub returns : goal.returns
+returns c = search (unchanged_is, rules)

@@ -1,0 +1,17 @@
+-- `put_entries` meets its contract: entry by entry.
+use Prim.Native.Nat.{◌-◌}
+use Rattle.occupancy_octets.specs.laws.Octets.{entry_rows}
+use borrow.Author.Rules.{rules}
+use Rattle.occupancy_octets.proofs.put_entries.Goals as goal
+
+pub loop-i-init : goal.loop-i-init
+loop-i-init c = search (entry_rows, rules)
+
+pub put_entry-to-requires : goal.put_entry-to-requires
+put_entry-to-requires c = search (entry_rows, rules)
+
+pub loop-i-preserved : goal.loop-i-preserved
+loop-i-preserved c = search (entry_rows, rules)
+
+pub returns : goal.returns
+returns c = search (entry_rows, rules)

@@ -1,0 +1,24 @@
+-- `tally` meets its contract: its loop keeps `TallyInv`; by `tallies`.
+use Prim.Native.Nat.{◌-◌}
+use Rattle.format.specs.laws.Entries.{count_small}
+use Rattle.release_file.specs.laws.Limits.{tallies}
+use borrow.Author.Rules.{rules}
+use Rattle.release_file.proofs.limits.tally.Goals as goal
+
+pub loop-i-init : goal.loop-i-init
+loop-i-init c = search (tallies, rules)
+
+pub tenant_place-t-requires : goal.tenant_place-t-requires
+tenant_place-t-requires c = search (tallies, rules)
+
+pub overflow_add-n : goal.overflow_add-n
+overflow_add-n c = let p = count_small c.loop-i.invariant _ (search rules) c.tenant_place-t.ensures.1 in search rules
+
+pub release_next-here-requires : goal.release_next-here-requires
+release_next-here-requires c = search (tallies, rules)
+
+pub loop-i-preserved : goal.loop-i-preserved
+loop-i-preserved c = search (tallies, rules)
+
+pub returns : goal.returns
+returns c = search (tallies, rules)

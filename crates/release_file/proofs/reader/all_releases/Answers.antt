@@ -1,0 +1,29 @@
+-- `all_releases` meets its contract: its loop keeps `FillInv`; by `fills`.
+use Prim.Native.Nat.{◌-◌}
+use Rattle.release_file.specs.laws.Load.{fills}
+use borrow.Author.Rules.{rules}
+use Rattle.release_file.proofs.reader.all_releases.Goals as goal
+
+pub no_releases-z-requires : goal.no_releases-z-requires
+no_releases-z-requires c = search (fills, rules)
+
+pub loop-i-init : goal.loop-i-init
+loop-i-init c = search (fills, rules)
+
+pub tenant_place-t-requires : goal.tenant_place-t-requires
+tenant_place-t-requires c = search (fills, rules)
+
+pub release_at-requires : goal.release_at-requires
+release_at-requires c = search (fills, rules)
+
+pub push_release-g-requires : goal.push_release-g-requires
+push_release-g-requires c = search (fills, rules)
+
+pub release_next-here-requires : goal.release_next-here-requires
+release_next-here-requires c = search (fills, rules)
+
+pub loop-i-preserved : goal.loop-i-preserved
+loop-i-preserved c = search (fills, rules)
+
+pub returns : goal.returns
+returns c = search (fills, rules)

@@ -1,0 +1,7 @@
+-- `is_other` meets its contract: by not_is.
+use Rattle.releases.specs.laws.Code.{not_is}
+use borrow.Author.Rules.{rules}
+use Rattle.releases.proofs.is_other.Goals as goal
+
+pub returns : goal.returns
+returns c = search (not_is, rules)

@@ -1,0 +1,7 @@
+-- `discard` meets its contract: field by field.
+use Rattle.server.proofs.Steps.{discard_is}
+use borrow.Author.Rules.{rules}
+use Rattle.server.proofs.discard.Goals as goal
+
+pub returns : goal.returns
+returns c = search (discard_is, rules)

@@ -1,0 +1,10 @@
+-- `rules_hold` meets its contract: by `rules_memory`, `rules_not`.
+use Rattle.state_file.proofs.Loads.{rules_memory, rules_not}
+use borrow.Author.Rules.{rules}
+use Rattle.state_file.proofs.load.rules_hold.Goals as goal
+
+pub returns-then-sound : goal.returns-then-sound
+returns-then-sound c = search (rules_memory, rules)
+
+pub returns : goal.returns
+returns c = search (rules_not, rules)

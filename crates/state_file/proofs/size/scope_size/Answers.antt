@@ -1,0 +1,7 @@
+-- `size::scope_size` meets its contract: by `scope_length`.
+use borrow.Author.Rules.{rules}
+use Rattle.state_file.proofs.Writes.{scope_length}
+use Rattle.state_file.proofs.size.scope_size.Goals as goal
+
+pub returns : goal.returns
+returns c = scope_length c.args.c c.args.h _ (search rules) (search rules) c.cut8.ensures

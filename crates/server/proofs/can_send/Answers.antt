@@ -9,4 +9,4 @@ pub returns-then-good : goal.returns-then-good
 returns-then-good c = search (tests_known, rules)
 
 pub returns : goal.returns
-returns c = and_no _ _ c.good2.ensures c.if-good.false refl
+returns c = and_no _ _ c.good.ensures c.if-good.false refl

@@ -1,0 +1,15 @@
+-- `run_of_8` meets its contract: the loop fills an array one octet a turn (`PadInv`).
+use Prim.Native.Nat.{◌-◌}
+use Rattle.octets.specs.laws.Run.{runs}
+use Rattle.verdict_octets.specs.laws.Octets.{run_full}
+use borrow.Author.Rules.{rules}
+use Rattle.verdict_octets.proofs.run_of_8.Goals as goal
+
+pub loop-i-init : goal.loop-i-init
+loop-i-init c = search (runs, rules)
+
+pub loop-i-preserved : goal.loop-i-preserved
+loop-i-preserved c = search (runs, rules)
+
+pub returns : goal.returns
+returns c = search (runs, run_full, rules)

@@ -1,4 +1,2 @@
 pub mod Bits
 pub mod Offsets
-pub mod Ranges
-pub mod Fewest

@@ -15,7 +15,8 @@ use Rattle.state.specs.declared.Lease.{Lease}
 use Rattle.state.specs.declared.LeaseTable.{LeaseTable}
 use Rattle.state.specs.Book.{Book, Order, by_ending, by_identifier, differ, in_use, is_hold, is_lease, laid_out, leases_of, ranges_of, scopes_of, table_of}
 use Rattle.state.specs.laws.Layout.{table_back}
-use Rattle.state.specs.laws.Sorted.{by_identifier_law, rising}
+use Rattle.state.specs.laws.Sorted.{by_identifier_law}
+use Rattle.state.proofs.Sorted.{rising}
 use Rattle.soundness.specs.Sound.{compatible}
 use Rattle.soundness.specs.laws.Book.{lists_by, pairs_is, rises_by}
 use Rattle.release_file.specs.Section.{filed_memory}

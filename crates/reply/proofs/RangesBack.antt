@@ -15,8 +15,8 @@ use Rattle.octets.specs.laws.Octets.{read_back16, read_back32}
 use Rattle.address_set.specs.declared.Range.{Range}
 use Rattle.address_set.specs.AddressSet.{named_by, offsets, fewest_ranges}
 use Rattle.address_set.specs.laws.Offsets.{offsets_small}
-use Rattle.address_set.specs.laws.Ranges.{ranges_few}
-use Rattle.address_set.specs.laws.Fewest.{moved_names, moved_by, ranges_name, fewest_below}
+use Rattle.address_set.proofs.Ranges.{ranges_few}
+use Rattle.address_set.proofs.Fewest.{moved_names, moved_by, ranges_name, fewest_below}
 use Rattle.message.specs.Values.{found_at}
 use Rattle.message.specs.Walk.{length_at, walk_of}
 use Rattle.message.specs.declared.Found.TheVariants.{At, Absent}

@@ -14,7 +14,7 @@ use Rattle.lists.specs.Pick.{pick}
 use Rattle.octets.specs.Octets.{be16, at16, octets16, octets32}
 use Rattle.octets.specs.laws.Octets.{read_back16}
 use Rattle.address_set.specs.AddressSet.{offsets, fewest_ranges, first_range, behind}
-use Rattle.address_set.specs.laws.Ranges.{ranges_next, ranges_few}
+use Rattle.address_set.proofs.Ranges.{ranges_next, ranges_few}
 use Rattle.lists.specs.Filter.{is_in}
 use Rattle.message.specs.Codes.{length_ok}
 use Rattle.message.specs.Walk.{code_at, length_at, after_at, layout_ok, past_list, exactly_filled, value_ok, done, moved, option_taken, step_of, onward, walk_from, walk_of, start}

@@ -6,7 +6,7 @@ use Prim.Native.Nat.{ℕ, ◌+◌, ◌≤◌}
 use native.Mathlib.Omega.{arith}
 use lib.ListN.{length, take, length-append, length-take}
 use Rattle.address_set.specs.AddressSet.{offsets, fewest_ranges}
-use Rattle.address_set.specs.laws.Ranges.{ranges_few}
+use Rattle.address_set.proofs.Ranges.{ranges_few}
 use Rattle.octets.specs.Octets.{octets16, octets32}
 use Rattle.reply.specs.Reply.{least_room, Option, option, option_octets, options_octets, message_octets, wanted, scope_list_option, lease_options, release_options, info_options, nak_options, offer_of, lease_ack_of, release_ack_of, info_ack_of, nak_of}
 use Rattle.reply.specs.declared.Head.{Head}

@@ -13,7 +13,7 @@ use Rattle.octets.specs.Octets.{octets16, put, Wrote}
 use Rattle.octets.specs.laws.Octets.{wrote_joined, wrote_whole, whole_length, wrote_none, wrote_as}
 use Rattle.address_set.specs.declared.Range.{Range}
 use Rattle.address_set.specs.AddressSet.{offsets, fewest_ranges, first_range, behind}
-use Rattle.address_set.specs.laws.Ranges.{ranges_none, ranges_next, ranges_less, ranges_few, range_count}
+use Rattle.address_set.proofs.Ranges.{ranges_none, ranges_next, ranges_less, ranges_few, range_count}
 use Rattle.reply.specs.Reply.{Option, option, option_octets, options_octets, header, message_octets, range_octets, ranges_octets, entry_octets, scope_octets, scopes_octets, name_for, scope_entries_of, Sendable}
 use Rattle.reply.specs.Put.{Put, Replied}
 use Rattle.reply.specs.declared.Info.{Info}

@@ -25,7 +25,7 @@ use Rattle.state.specs.declared.LeaseTable.{LeaseTable}
 use Rattle.state.specs.declared.Scope.{Scope}
 use Rattle.state.specs.declared.State.{State}
 use Rattle.state.specs.laws.Layout.{read_back, table_back}
-use Rattle.state.specs.laws.Sorted.{rising}
+use Rattle.state.proofs.Sorted.{rising}
 use Rattle.soundness.specs.Sound.{blank_b, broken_by, counts_b, first_broken, first_late, first_rule, id_length_b, layout_b, layout_by, one_to, padded_b, rule1, rule19_by, rule8, rules_by, rules_of, settings_b, size_b, sound_b, sound_by, unused_b, zero_from}
 use Rattle.soundness.specs.declared.Rules.{Rules}
 use Rattle.soundness.specs.laws.Book.{rules_of_law}

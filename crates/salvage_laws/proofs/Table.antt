@@ -23,7 +23,8 @@ use Rattle.state.specs.Book.{differ, in_use, insert_of, inserted_by, inserted_in
 use Rattle.state.specs.declared.Lease.{Lease}
 use Rattle.state.specs.declared.LeaseTable.{LeaseTable}
 use Rattle.state.specs.laws.Layout.{put_laid, read_back, table_back}
-use Rattle.state.specs.laws.Sorted.{differ_turn, rising}
+use Rattle.state.specs.laws.Sorted.{differ_turn}
+use Rattle.state.proofs.Sorted.{rising}
 use Rattle.soundness.specs.laws.Added.{sound_at}
 use Rattle.lease_file.specs.Records.{hold_tenant, lease_tenant, merged_from, stored, stored_hold}
 use Rattle.lease_file.specs.Section.{FileHold, FileLease}

@@ -27,7 +27,8 @@ use Rattle.state.specs.declared.LeaseTable.{LeaseTable}
 use Rattle.state.specs.declared.State.{State}
 use Rattle.state.specs.declared.TenantLeases.{TenantLeases}
 use Rattle.state.specs.laws.Layout.{read_back}
-use Rattle.state.specs.laws.Sorted.{differ_turn, rising}
+use Rattle.state.specs.laws.Sorted.{differ_turn}
+use Rattle.state.proofs.Sorted.{rising}
 use Rattle.soundness.specs.Sound.{below_b, first_rule, offsets_b, one_to, rules_of, sound_b, tenants_in}
 use Rattle.soundness.specs.laws.Added.{each_at, few_at, sound_at}
 use Rattle.soundness.specs.laws.Book.{Sound, lease_ok, lists_sound, no_leases_b}

@@ -5,6 +5,3 @@ pub mod Edited
 pub mod Sets
 pub mod Sorted
 pub mod Named
-pub mod Said
-pub mod Board
-pub mod Unmoved

@@ -1,5 +1,5 @@
 -- `first_range` meets its contract: zeros below the lowest bit, then the ones above it.
-use Rattle.address_set.specs.laws.Ranges.{first_none, first_some, flip}
+use Rattle.address_set.proofs.Ranges.{first_none, first_some, flip}
 use borrow.Author.Rules.{rules}
 use Rattle.address_set.proofs.first_range.Goals as goal
 

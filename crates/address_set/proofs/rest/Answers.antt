@@ -1,5 +1,5 @@
 -- `rest` meets its contract: the bits from the end of the range on.
-use Rattle.address_set.specs.laws.Ranges.{behind_none, behind_shifted}
+use Rattle.address_set.proofs.Ranges.{behind_none, behind_shifted}
 use borrow.Author.Rules.{rules}
 use Rattle.address_set.proofs.rest.Goals as goal
 

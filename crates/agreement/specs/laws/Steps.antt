@@ -21,7 +21,7 @@ use Rattle.state.specs.declared.Lease.{Lease}
 use Rattle.state.specs.declared.State.{State}
 use Rattle.state.specs.Book.{held_of, in_scope, board_with, board_without}
 use Rattle.state.specs.Board.{board_of}
-use Rattle.state.specs.laws.Board.{board_gained, board_lost}
+use Rattle.state.proofs.Board.{board_gained, board_lost}
 use Rattle.state.specs.laws.Sets.{adds}
 use Rattle.soundness.specs.Sound.{disjoint}
 use Rattle.soundness.specs.laws.Book.{lease_ok, Sound}

@@ -22,7 +22,7 @@ use Rattle.state.specs.declared.LeaseTable.{LeaseTable}
 use Rattle.state.specs.declared.State.{State}
 use Rattle.state.specs.Book.{cleared_to, ended_of, in_use, laid_out, leases_of, live, live_of, tenant_at, board_with, board_without}
 use Rattle.state.specs.Board.{board_of, built_to}
-use Rattle.state.specs.laws.Board.{empty_board}
+use Rattle.state.proofs.Board.{empty_board}
 use Rattle.state.specs.laws.Layout.{read_back}
 use Rattle.soundness.specs.Sound.{tenants_in}
 use Rattle.soundness.specs.laws.Book.{Sound, no_leases_b}

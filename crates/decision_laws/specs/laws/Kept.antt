@@ -32,7 +32,8 @@ use Rattle.state.specs.Book.{in_use, laid_out, leases_of, ordered, table_of, id_
 use Rattle.state.specs.Edit.{no_edit, entering, dropping_first, giving_way, left_in, applied_by, edited_by}
 use Rattle.state.specs.laws.Edit.{applied}
 use Rattle.state.specs.laws.Edited.{applied_none, applied_entering, applied_leaving, applied_way, applied_laid}
-use Rattle.state.specs.laws.Sorted.{named_at, rising, taken_out}
+use Rattle.state.specs.laws.Sorted.{named_at, taken_out}
+use Rattle.state.proofs.Sorted.{rising}
 use Rattle.state.specs.laws.Layout.{read_back, removed_fewer}
 use Rattle.soundness.specs.Sound.{one_to, tenants_in, scopes_in, id_b, scope_known, below_b, offsets_b, kind_b, period_b, lease_b, padded_b, lapse_b, hold_b, disjoint, compatible, zero_from, sound_b}
 use Rattle.soundness.specs.laws.Book.{lease_ok, pair_ok, Sound, sound_lists, sound_rises, lists_sound}

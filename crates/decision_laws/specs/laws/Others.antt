@@ -12,7 +12,8 @@ use Rattle.lists.specs.laws.Arranged.{sorted_unique}
 use Rattle.identifier.specs.laws.Order.{same_refl}
 use Rattle.state.specs.declared.Lease.{Lease}
 use Rattle.state.specs.Book.{id_of, differ, ordered, other, insert_of, remove_of}
-use Rattle.state.specs.laws.Sorted.{rising, insert_same, insert_rises}
+use Rattle.state.specs.laws.Sorted.{insert_same}
+use Rattle.state.proofs.Sorted.{rising, insert_rises}
 
 -- a new lease, taken out again, leaves what was there
 pub insert_leaves : (l : Lease) (ls : List Lease) → all_by (other (id_of l)) ls ≡ true → pairs_by differ ls ≡ true → pairs_by ordered ls ≡ true → remove_of (id_of l) (insert_of l ls) ≡ ls

@@ -6,7 +6,7 @@ use Rattle.std.specs.Int.Count.{count_trailing_zeros}
 use Rattle.address_set.specs.AddressSet.{bit, difference_of, keep, offsets, offsets_from}
 use Rattle.address_set.specs.laws.Bits.{bit_le, bit_pow_other, bit_pow_same, bit_without, offsets_cong, offsets_of_zero, offsets_step, without_le}
 use Rattle.address_set.specs.laws.Offsets.{difference_without, shift_one}
-use Rattle.address_set.specs.laws.Ranges.{trailing_fits, trailing_lt, trailing_one, trailing_zero}
+use Rattle.address_set.proofs.Ranges.{trailing_fits, trailing_lt, trailing_one, trailing_zero}
 use Rattle.octets.specs.Octets.{Wrote}
 use Rattle.octets.specs.laws.Octets.{wrote_as, wrote_joined, wrote_none}
 

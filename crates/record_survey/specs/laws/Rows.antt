@@ -25,7 +25,7 @@ use Rattle.state.specs.Book.{cleared, cleared_to, dropped, ended_front, ended_of
 use Rattle.state.specs.Board.{built_of, built_to}
 use Rattle.lists.specs.laws.Row.{at_in}
 use Rattle.state.specs.laws.Layout.{dropped_is, ended_in, read_back}
-use Rattle.state.specs.laws.Sorted.{front_ended, rest_live}
+use Rattle.state.proofs.Sorted.{front_ended, rest_live}
 use Rattle.agreement.specs.laws.Tenants.{at_tenant}
 use Rattle.soundness.specs.laws.Added.{rises_at}
 use Rattle.soundness.specs.declared.Held.{Held}

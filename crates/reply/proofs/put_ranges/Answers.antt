@@ -1,5 +1,5 @@
 -- `put_ranges` meets its contract: code and length, and then the value (`option_put`).
-use Rattle.address_set.specs.laws.Ranges.{ranges_few}
+use Rattle.address_set.proofs.Ranges.{ranges_few}
 use Rattle.reply.proofs.Writes.{ranges_put}
 use borrow.Author.Rules.{rules}
 use native.Mathlib.Omega.{arith}

@@ -35,7 +35,7 @@ use Rattle.lists.specs.Fold.{fold}
 use Rattle.lists.specs.laws.All.{to_same, all_map, pairs_map, pairs_same, all_both, pairs_head, pairs_cons}
 use Rattle.lists.specs.Filter.{filter_by}
 use Rattle.state.specs.laws.Sets.{added_is}
-use Rattle.state.specs.laws.Sorted.{rising}
+use Rattle.state.proofs.Sorted.{rising}
 use Rattle.identifier.specs.Order.{number_from, Octets, same_of}
 use Rattle.identifier.specs.laws.Order.{same_true}
 use Rattle.address_set.specs.laws.Bits.{length_offsets}

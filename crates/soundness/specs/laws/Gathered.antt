@@ -21,7 +21,7 @@ use Rattle.state.specs.declared.Scope.{Scope}
 use Rattle.state.specs.declared.State.{State}
 use Rattle.state.specs.Book.{differ, in_use, in_scope, overlaps, added_if, ordered, scope_at, until, zero_scope}
 use Rattle.state.specs.laws.Layout.{no_lease}
-use Rattle.state.specs.laws.Sorted.{early}
+use Rattle.state.proofs.Sorted.{early}
 use Rattle.soundness.specs.declared.Held.{Held}
 use Rattle.soundness.specs.declared.TenantRules.{TenantRules}
 use Rattle.soundness.specs.declared.Gathered.{Gathered}

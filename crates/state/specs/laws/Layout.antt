@@ -22,7 +22,6 @@ use Rattle.lists.specs.laws.Pick.{pick_lt, pick_not_lt, pick_yes, pick_no}
 use Rattle.lists.specs.Fold.{fold}
 use Rattle.lists.specs.Arranged.{insert_in}
 use Rattle.lists.specs.laws.Part.{cut_take, part_ended, part_head}
-use Rattle.state.specs.laws.Sorted.{early, late, tied}
 use Rattle.lists.specs.laws.Filter.{filter_fewer}
 use Rattle.lists.specs.laws.Each.{map_set, map_back}
 use Rattle.lists.specs.laws.Row.{row_back, row_push, row_filtered, row_insert, row_length, row_in, row_out}
@@ -88,18 +87,6 @@ other_is i l e = ap not e
 pub named_before_is : (a b : Lease) (o : ℕ) → o ≡ order_of (id_of a) (id_of b) → eqb o 0 ≡ by_identifier a b
 unfolding by_identifier
 named_before_is a b o e = ap (λ (x : ℕ). eqb x 0) e
-
-module _ (a b : Lease) {x y : ℕ} (ex : x ≡ until a) (ey : y ≡ until b) where
-  pub before_early : x < y → true ≡ ordered a b
-  before_early h = sym (early a b (omega arith))
-
-  pub before_late : y < x → false ≡ ordered a b
-  before_late h = sym (late a b (omega arith))
-
-  pub before_tied : {r : Bool} → y ≤ x → x ≤ y → r ≡ by_identifier a b → r ≡ ordered a b
-  before_tied h g e = e ∙ sym (tied a b (omega arith))
-
-pub ruleset befores = (before_early, before_late, before_tied)
 
 module _ (a b : Lease) (ending : Bool) {q : Bool} where
   pub comes_ending : ending ≡ true → q ≡ ordered a b → q ≡ order_for ending a b

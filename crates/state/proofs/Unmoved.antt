@@ -16,8 +16,8 @@ use Rattle.occupancy.specs.Board.{no_entry, entry_at, held_in, scope_board_at}
 use Rattle.state.specs.declared.Lease.{Lease}
 use Rattle.state.specs.Book.{addresses_of, held_of, held_count, in_scope, union_all}
 use Rattle.state.specs.Board.{is_on, count_in, count_on, owner_from, entry_by, scope_by, board_of}
-use Rattle.state.specs.laws.Board.{entry_said, held_said}
-use Rattle.state.specs.laws.Said.{none_on, owner_none, some_on}
+use Rattle.state.proofs.Board.{entry_said, held_said}
+use Rattle.state.proofs.Said.{none_on, owner_none, some_on}
 
 -- a tenant has an offset where it has a lease on it
 has_some : (s a : ℕ) (x : List Lease) → eqb (bit (held_of s x) a) 1 ≡ ltb 0 (count_in s a x)

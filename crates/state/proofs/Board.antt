@@ -28,7 +28,7 @@ use Rattle.state.specs.declared.Lease.{Lease}
 use Rattle.state.specs.Book.{held_of, held_count, in_scope, addresses_of, union_all, board_with, board_without}
 use Rattle.state.specs.Board.{count_in, count_on, owner_from, entry_by, scope_by, board_of}
 use Rattle.state.specs.laws.Sets.{adds}
-use Rattle.state.specs.laws.Said.{count_few, none_on, some_on, Only, owner_none, owner_mine, own_count, held_with, count_with, owner_stays, owner_with}
+use Rattle.state.proofs.Said.{count_few, none_on, some_on, Only, owner_none, owner_mine, own_count, held_with, count_with, owner_stays, owner_with}
 
 -- ---- what is said of a scope, by places
 module _ (ts : List (List Lease)) (s : ℕ) where

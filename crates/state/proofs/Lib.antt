@@ -1,0 +1,4 @@
+pub mod Sorted
+pub mod Said
+pub mod Board
+pub mod Unmoved

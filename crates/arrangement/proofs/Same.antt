@@ -36,7 +36,8 @@ use Rattle.state.specs.laws.Edited.{applied_laid}
 use Rattle.state.specs.laws.Layout.{read_back, table_back}
 use Rattle.state.specs.laws.Sorted.{by_identifier_law}
 use Rattle.soundness.specs.Sound.{sound_by, tenants_in}
-use Rattle.soundness.specs.laws.Book.{Sound, by_lists, lists_by, rises_by, sound_lists}
+use Rattle.soundness.specs.laws.Book.{Sound, rises_by}
+use Rattle.soundness.proofs.Lists.{by_lists, lists_by, sound_lists}
 use Rattle.soundness.specs.laws.Kept.{live_rises}
 use Rattle.soundness.specs.laws.Rises.{applied_rises, differ_at}
 use Rattle.agreement.specs.Agrees.{agrees_b}

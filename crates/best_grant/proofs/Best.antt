@@ -23,7 +23,8 @@ use Rattle.state.specs.laws.Edited.{applied_count, applied_entering}
 use Rattle.releases.specs.Again.{any_again}
 use Rattle.releases.specs.laws.Whole.{book_sound}
 use Rattle.soundness.specs.Sound.{scopes_in}
-use Rattle.soundness.specs.laws.Book.{Sound, sound_lists}
+use Rattle.soundness.specs.laws.Book.{Sound}
+use Rattle.soundness.proofs.Lists.{sound_lists}
 use Rattle.allocation.specs.laws.Best as best
 use Rattle.decision.specs.declared.Decided.{Decided}
 use Rattle.decision.specs.declared.Reply.TheVariants.{LeaseAck}

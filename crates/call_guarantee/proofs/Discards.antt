@@ -26,7 +26,7 @@ use Rattle.lists.specs.Filter.{filter_by}
 use Rattle.state.specs.Book.{Book, advanced, dropped, leases_of, live, live_of, releases_at, remembered, table_of}
 use Rattle.lists.specs.laws.Filter.{filter_length}
 use Rattle.soundness.specs.laws.Added.{few_at}
-use Rattle.soundness.specs.laws.Book.{sound_lists}
+use Rattle.soundness.proofs.Lists.{sound_lists}
 use Rattle.admission.specs.Tests.{own_of}
 use Rattle.decision.specs.laws.Count.{count_few}
 use Rattle.decision_laws.specs.laws.Kept.{own_is}

@@ -17,8 +17,7 @@ use Rattle.state.specs.Book.{Book, advanced, dropped, in_use, laid_out, leases_o
 use Rattle.state.specs.Board.{board_of}
 use Rattle.state.specs.laws.Layout.{read_back}
 use Rattle.soundness.specs.Sound.{sound_b, tenants_in}
-use Rattle.soundness.specs.laws.Book.{sound_lists}
-use Rattle.soundness.specs.laws.Kept.{advanced_sound}
+use Rattle.soundness.proofs.Lists.{sound_lists, advanced_sound}
 use Rattle.agreement.specs.laws.Agrees.{advanced_agrees, agrees_is}
 use Rattle.releases.specs.Rules.{differs, own_leases, not_leased, once_b, past_b, rules_at}
 use Rattle.releases.specs.Whole.{board_good, book_b, memory_good, names_good}

@@ -20,7 +20,7 @@ use Rattle.state.specs.Book.{Book, advanced, dropped, in_use, laid_out, leases_o
 use Rattle.state.specs.laws.Edited.{applied_count}
 use Rattle.state.specs.laws.Layout.{table_back}
 use Rattle.releases.specs.Whole.{book_b}
-use Rattle.releases.specs.laws.Whole.{advanced_book, book_agrees, book_named, book_remembers, book_sound, both_book}
+use Rattle.releases.proofs.Whole.{advanced_book, book_agrees, book_named, book_remembers, book_sound, both_book}
 use Rattle.releases.specs.laws.Kept.{noted_count}
 use Rattle.soundness.specs.Sound.{one_to, counts_b, rule3, rule4, rule5, rule6, settings_b, size_b, tenants_in}
 use Rattle.soundness.specs.laws.Book.{Sound, settings_ok}

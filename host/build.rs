@@ -1,4 +1,4 @@
-//! Links the static library that `rt staticlib embed` makes in the repository's root, or the one in the folder that BANSHORRA_LIB names.
+//! Links the static library that `tools/built embed_c` makes in the repository's root, or the one in the folder that BANSHORRA_LIB names.
 
 use std::path::PathBuf;
 use std::{env, process};
@@ -14,7 +14,7 @@ fn main() {
     println!("cargo:rerun-if-changed={}", library.display());
     if !library.is_file() {
         eprintln!("There is no {}.", library.display());
-        eprintln!("Run `rt staticlib embed` in {} first.", root.display());
+        eprintln!("Run `tools/built embed_c` in {} first.", root.display());
         process::exit(1);
     }
     println!("cargo:rustc-link-search=native={}", folder.display());

@@ -33,12 +33,12 @@ def write(path, text):
 
 
 def crates(text):
-    """crates.txt: each crate with those it rests on."""
+    """crates.txt: each crate with those it rests on. Before the colon `staticlib` may stand after the name."""
     found = {}
     for line in text.split("\n"):
-        name, colon, below = line.split("#")[0].partition(":")
+        head, colon, below = line.split("#")[0].partition(":")
         if colon:
-            found[name.strip()] = below.split()
+            found[head.split()[0]] = below.split()
     return found
 
 

@@ -2,7 +2,7 @@
 
        campus FILE [CLIENT]        CLIENT is an IPv4 address, 10.0.1.5 if it is left out
 
-   Build it in the repository's root, after `rt staticlib embed`:
+   Build it in the repository's root, after `tools/built embed_c`:
 
        cc -Ihost/include host/examples/campus.c target/staticlib/libembed.a -o target/campus */
 #include "banshorra.h"

@@ -1,4 +1,4 @@
-/* Banshorra: a MADCAP server on a campus file. Link target/staticlib/libembed.a (`rt staticlib embed`); x86-64, nothing besides libc.
+/* Banshorra: a MADCAP server on a campus file. Link target/staticlib/libembed.a (`tools/built embed_c`); x86-64, nothing besides libc.
 
    Every function ends, for any octets, and reads and writes only within the lengths it is given. None keeps a pointer or has state of its
    own: all that passes from call to call is the campus file. Calls on different files may run at the same time.

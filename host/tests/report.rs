@@ -1,4 +1,4 @@
-//! `banshorra report`: the address-seconds of a quarter in words, over the proved program `report`, which has to be built: `rt check report`.
+//! `banshorra report`: the address-seconds of a quarter in words, over the proved program `report`, which has to be built: `tools/built report`.
 
 #[path = "common/running.rs"]
 mod running;
@@ -185,7 +185,7 @@ fn without_the_proved_program_it_says_where_it_was_looked_for() {
     let place = folder.path("report");
     assert!(
         error.contains(&format!(
-            "there is no {}; `rt check report` makes it",
+            "there is no {}; `tools/built report` makes it",
             place.display()
         )),
         "{error}"

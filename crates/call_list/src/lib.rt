@@ -66,7 +66,7 @@ pub fn serve_sound(
     reply: &mut [u8],
 ) -> OwnedCall
     requires { SoundFrom o.ledger o.records.leases names.now }
-    ensures { ServesOwned (serve_lent o.ledger o.records.leases names.now (record { datagram = datagram.entry.now; client = client; time = time; room = length reply.old })) reply.old reply.new result }
+    ensures { ServesOwned (serve_lent o.ledger o.records.leases names.now (record { datagram = datagram.now; client = client; time = time; room = length reply.old })) reply.old reply.new result }
 {
     let ledger = o.ledger;
     let records = o.records;
@@ -140,7 +140,7 @@ fn answer_call(
     to: usize,
 ) -> OwnedCall
     requires { (to + answer_room ≤ length answers.old) × (room ≤ least_room) × SoundFrom o.ledger o.records.leases names.now }
-    ensures { Answers (serve_lent o.ledger o.records.leases names.now (record { datagram = datagram.entry.now; client = client; time = time; room = room })) answers.old to answers.new result }
+    ensures { Answers (serve_lent o.ledger o.records.leases names.now (record { datagram = datagram.now; client = client; time = time; room = room })) answers.old to answers.new result }
 {
     let r = serve_sound(
         o,

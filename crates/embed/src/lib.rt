@@ -221,7 +221,7 @@ pub fn banshorra_serve(
     fault_offset: &mut usize,
     count: &mut usize,
 ) -> u8
-    ensures { ServesFile (serve_file file.old file_length.old (record { datagram = datagram.entry.now; client = client; time = time; room = length reply.old })) file.new file_length.new reply.old reply.new (record { outcome = result; length = reply_length.new; offset = fault_offset.new; count = count.new }) }
+    ensures { ServesFile (serve_file file.old file_length.old (record { datagram = datagram.now; client = client; time = time; room = length reply.old })) file.new file_length.new reply.old reply.new (record { outcome = result; length = reply_length.new; offset = fault_offset.new; count = count.new }) }
 {
     let n = *file_length;
     let f = open_in(file, n);

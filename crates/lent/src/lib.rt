@@ -74,7 +74,7 @@ pub fn serve(
     names: &[u8],
     reply: &mut [u8],
 ) -> Outcome
-    ensures { ServesLent (serve_lent ledger.old leases.old names.now (record { datagram = datagram.entry.now; client = client; time = time; room = length reply.old })) ledger.new leases.new reply.old reply.new result }
+    ensures { ServesLent (serve_lent ledger.old leases.old names.now (record { datagram = datagram.now; client = client; time = time; room = length reply.old })) ledger.new leases.new reply.old reply.new result }
 {
     let g = *ledger;
     let all = lent_steps::load(leases);

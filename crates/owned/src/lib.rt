@@ -53,7 +53,7 @@ pub fn serve(
     time: u32,
     reply: &mut [u8],
 ) -> OwnedCall
-    ensures { ServesOwned (serve_lent o.ledger o.records.leases names.now (record { datagram = datagram.entry.now; client = client; time = time; room = length reply.old })) reply.old reply.new result }
+    ensures { ServesOwned (serve_lent o.ledger o.records.leases names.now (record { datagram = datagram.now; client = client; time = time; room = length reply.old })) reply.old reply.new result }
 {
     let mut ledger = o.ledger;
     let records = o.records;

@@ -63,7 +63,7 @@ pub fn serve(
     time: u32,
     reply: &mut [u8],
 ) -> ServedRecords
-    ensures { ServesRecords (serve_with n ledger records.leases names.now (record { datagram = datagram.entry.now; client = client; time = time; room = length reply.old })) reply.old reply.new result }
+    ensures { ServesRecords (serve_with n ledger records.leases names.now (record { datagram = datagram.now; client = client; time = time; room = length reply.old })) reply.old reply.new result }
 {
     if reply.len() < reply::LEAST_ROOM {
         return short_room(ledger, records, n, names);
@@ -95,7 +95,7 @@ pub fn serve_sound(
     reply: &mut [u8],
 ) -> ServedRecords
     requires { SoundFrom ledger records.leases names.now }
-    ensures { ServesRecords (serve_lent ledger records.leases names.now (record { datagram = datagram.entry.now; client = client; time = time; room = length reply.old })) reply.old reply.new result }
+    ensures { ServesRecords (serve_lent ledger records.leases names.now (record { datagram = datagram.now; client = client; time = time; room = length reply.old })) reply.old reply.new result }
 {
     let before = ledger.state;
     let noted = ledger.memory;

@@ -1,13 +1,12 @@
 -- Laws: what the type of the records says of them: there are 128, and every identifier has 32 octets; and that a memory is of eight tenants.
 use mathlib.Core.Path.{◌≡◌}
-use mathlib.Core.List.{List, [], ◌∷◌, map}
+use mathlib.Core.List.{List, [], ◌∷◌}
 use lib.ListN.{length}
 use mir.Val.{Val}
 use denote.Array.{each}
 use denote.Laws.{Is}
 use denote.Shadow.{shadow}
 use Rattle.lists.specs.All.{All}
-use Rattle.lists.specs.laws.Part.{unmapped}
 use Rattle.state.specs.declared.Lease.{Lease}
 use Rattle.state.specs.declared.Memory.{Memory}
 use Rattle.state.specs.contracts.Lease as L
@@ -16,10 +15,10 @@ use Rattle.records.specs.declared.Records.{Records}
 use Rattle.records.specs.laws.Rows.{Long}
 use Rattle.records.specs.contracts.Records as R
 
-lease_long : (l : Lease) (u : Val) → shadow ((L.the_field).row.own_val ((L.the_type).to l) (u ∷ [])) → length l.id ≡ 32
-lease_long l u p = unmapped _ _ _ l.id 32 p.1.1.1.1.0.1.0.1
+lease_long : (l : Lease) (u : Val) → shadow ((L.the_row).own_val l (u ∷ [])) → length l.id ≡ 32
+lease_long l u p = p.1.1.1.1.0.1.0.1
 
-each_long : (ls : List Lease) (us : List Val) → shadow (each (L.the_field).row.Denot (L.the_field).row.own_val (map (L.the_type).to ls) us) → All Long ls
+each_long : (ls : List Lease) (us : List Val) → shadow (each (L.the_row).Denot (L.the_row).own_val ls us) → All Long ls
 unfolding All
 each_long [] us p = tt
 each_long (l ∷ ls) [] p = absurd p
@@ -29,7 +28,7 @@ pub records_long : (r : Records) (vs : List Val) → Is R.the_row r vs → All L
 records_long r vs p = each_long r.leases p.1.1.0.0 p.1.1.0.1.1
 
 pub records_size : (r : Records) (vs : List Val) → Is R.the_row r vs → length r.leases ≡ 128
-records_size r vs p = unmapped _ _ _ r.leases 128 p.1.1.0.1.0.1
+records_size r vs p = p.1.1.0.1.0.1
 
 pub memory_size : (m : Memory) (vs : List Val) → Is M.the_row m vs → length m.releases ≡ 8
-memory_size m vs p = unmapped _ _ _ m.releases 8 p.1.1.0.1.0.1
+memory_size m vs p = p.1.1.0.1.0.1

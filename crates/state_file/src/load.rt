@@ -179,7 +179,7 @@ fn scope_at(s: &[u8], at: usize, h: usize) -> Scope
 // Every other of the octets from `at` on, n of them, and zeros after them.
 fn column_at(s: &[u8], at: usize, n: usize) -> [u8; 8]
     requires { (n ≤ 8) × (at + n * 2 ≤ length s.now + 1) }
-    ensures { result ≡ filled 0 8 (row (λ s at. get_or s at 0) 2 n s.entry.now at) }
+    ensures { result ≡ filled 0 8 (row (λ s at. get_or s at 0) 2 n s.now at) }
 {
     let mut out = [0u8; 8];
     let mut i: usize = 0;

@@ -129,7 +129,7 @@ pub fn open(settings: &[u8]) -> OwnedFile
 
 // The call, for a van that has no names for its scope.
 pub fn serve(o: Owned, datagram: &[u8], client: u32, time: u32, reply: &mut [u8]) -> OwnedCall
-    ensures { ServesOwned (serve_lent o.ledger o.records.leases van_names (record { datagram = datagram.entry.now; client = client; time = time; room = length reply.old })) reply.old reply.new result }
+    ensures { ServesOwned (serve_lent o.ledger o.records.leases van_names (record { datagram = datagram.now; client = client; time = time; room = length reply.old })) reply.old reply.new result }
 {
     let names = [1u8, 0, 0];
     owned::serve(o, &names, datagram, client, time, reply)

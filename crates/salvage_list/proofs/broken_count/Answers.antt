@@ -11,7 +11,7 @@ pub one_if-n-requires : goal.one_if-n-requires
 one_if-n-requires c = search (counts, rules)
 
 pub loop-i-preserved : goal.loop-i-preserved
-loop-i-preserved c = count_next c.args.t1 c.loop-i.invariant _ (search rules) c.one_if-n.ensures.0 c.one_if-n.ensures.1
+loop-i-preserved c = count_next c.args.rules c.loop-i.invariant _ (search rules) c.one_if-n.ensures.0 c.one_if-n.ensures.1
 
 pub returns : goal.returns
-returns c = (count_end c.args.t1 c.loop-i.invariant (search rules) (search rules), count_few c.args.t1 c.loop-i.invariant)
+returns c = (count_end c.args.rules c.loop-i.invariant (search rules) (search rules), count_few c.args.rules c.loop-i.invariant)

@@ -8,7 +8,7 @@ pub returns-then-not-tenant_known : goal.returns-then-not-tenant_known
 returns-then-not-tenant_known c = release_unknown c.requires _ _ _ c.tenant_known.ensures c.if-not-tenant_known.true
 
 pub is_full-requires : goal.is_full-requires
-is_full-requires c = tenant_facts _ _ (sym c.tenant_known.ensures ∙ not-false _ c.if-not-tenant_known.false)
+is_full-requires c = tenant_facts _ _ (sym c.tenant_known.ensures ∙ c.if-not-tenant_known.false)
 
 pub returns-then-is_full : goal.returns-then-is_full
 returns-then-is_full c = release_fifth c.requires _ _ _ c.tenant_known.ensures c.if-not-tenant_known.false c.is_full.ensures c.if-is_full.true

@@ -21,7 +21,7 @@ offers that are held don't count. The address-seconds are exact; the percentages
 
   --plain   the lines of document 02's `report`: scope, house, total
 
-The program `report` adds them up. It is looked for in the folder that BANSHORRA_BIN names; else beside this program, as `banshorra-report`, or where `rt check report` puts it.
+The program `report` adds them up. It is looked for in the folder that BANSHORRA_BIN names; else beside this program, as `banshorra-report`, or where `tools/built report` puts it.
 ",
     flags: &["plain"],
     valued: &[],
@@ -89,7 +89,7 @@ fn ask(names: &[String]) -> Result<String, Failure> {
             .collect();
         let (looked, make) = (
             looked.join(" or "),
-            "`rt check report` makes it as target/bin/report",
+            "`tools/built report` makes it as target/bin/report",
         );
         return Err(Failure::Machine(format!("there is no {looked}; {make}")));
     };

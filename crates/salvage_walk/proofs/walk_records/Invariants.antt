@@ -1,0 +1,10 @@
+use Prim.Native.Nat.{◌-◌}
+use Rattle.salvage_walk.specs.laws.File.{RecordsInv}
+use borrow.Author.Rules.{rules}
+use Rattle.salvage_walk.proofs.walk_records.Given as goal
+
+abbrev pub invariant-loop-i : goal.invariant-loop-i
+invariant-loop-i l = RecordsInv l.holds l.state l.s l.at l.count l.initial.table l.table l.rules l.here l.i
+
+abbrev pub decreases-loop-i : goal.decreases-loop-i
+decreases-loop-i l = l.count - l.i

@@ -28,7 +28,7 @@ use Rattle.lists.specs.laws.Filter.{filter_length}
 use Rattle.soundness.specs.laws.Added.{few_at}
 use Rattle.soundness.proofs.Lists.{sound_lists}
 use Rattle.admission.specs.Tests.{own_of}
-use Rattle.decision.specs.laws.Count.{count_few}
+use Rattle.decision.proofs.Count.{count_few}
 use Rattle.decision_laws.specs.laws.Kept.{own_is}
 use Rattle.state.specs.declared.Edit.{Edit}
 use Rattle.state.specs.Edit.{edited_book}

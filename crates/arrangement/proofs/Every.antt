@@ -18,7 +18,8 @@ use Rattle.state.specs.laws.Layout.{table_back}
 use Rattle.state.specs.laws.Sorted.{by_identifier_law}
 use Rattle.state.proofs.Sorted.{rising}
 use Rattle.soundness.specs.Sound.{compatible}
-use Rattle.soundness.specs.laws.Book.{lists_by, pairs_is, rises_by}
+use Rattle.soundness.specs.laws.Book.{pairs_is, rises_by}
+use Rattle.soundness.proofs.Lists.{lists_by}
 use Rattle.release_file.specs.Section.{filed_memory}
 use Rattle.format.specs.Tenants.{filed_all}
 use Rattle.lease_file.specs.Records.{filed_hold, filed_holds, filed_lease, filed_leases, in_file_order}

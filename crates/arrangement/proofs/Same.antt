@@ -36,7 +36,8 @@ use Rattle.state.specs.laws.Edited.{applied_laid}
 use Rattle.state.specs.laws.Layout.{read_back, table_back}
 use Rattle.state.specs.laws.Sorted.{by_identifier_law}
 use Rattle.soundness.specs.Sound.{sound_by, tenants_in}
-use Rattle.soundness.specs.laws.Book.{Sound, by_lists, lists_by, rises_by, sound_lists}
+use Rattle.soundness.specs.laws.Book.{Sound, rises_by}
+use Rattle.soundness.proofs.Lists.{by_lists, lists_by, sound_lists}
 use Rattle.soundness.specs.laws.Kept.{live_rises}
 use Rattle.soundness.specs.laws.Rises.{applied_rises, differ_at}
 use Rattle.agreement.specs.Agrees.{agrees_b}
@@ -45,7 +46,7 @@ use Rattle.agreement.specs.laws.Tenants.{at_tenant}
 use Rattle.releases.specs.Rules.{differs, memory_b, not_leased, once_b, own_leases, rules_at}
 use Rattle.releases.specs.Whole.{board_good, book_b, memory_good, names_good}
 use Rattle.releases.specs.laws.Tenants.{Holds, each_memory, memory_each}
-use Rattle.releases.specs.laws.Whole.{book_board, book_sound}
+use Rattle.releases.proofs.Whole.{book_board, book_sound}
 use Rattle.decision.specs.declared.Decided.{Decided}
 use Rattle.admission.specs.Tests.{own_of}
 use Rattle.server.specs.Serve.{Answer, Call, answered, at_clock, decided_for, discarded, discarded_at, for_server, serve_of, tenant_of, with_reading}

@@ -21,9 +21,10 @@ use Rattle.state.specs.Edit.{applied_by, board_edited, board_left, dropping_firs
 use Rattle.state.specs.laws.Edit.{applied}
 use Rattle.state.specs.laws.Edited.{applied_count, applied_entering}
 use Rattle.releases.specs.Again.{any_again}
-use Rattle.releases.specs.laws.Whole.{book_sound}
+use Rattle.releases.proofs.Whole.{book_sound}
 use Rattle.soundness.specs.Sound.{scopes_in}
-use Rattle.soundness.specs.laws.Book.{Sound, sound_lists}
+use Rattle.soundness.specs.laws.Book.{Sound}
+use Rattle.soundness.proofs.Lists.{sound_lists}
 use Rattle.allocation.specs.laws.Best as best
 use Rattle.decision.specs.declared.Decided.{Decided}
 use Rattle.decision.specs.declared.Reply.TheVariants.{LeaseAck}

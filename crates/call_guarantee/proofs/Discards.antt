@@ -26,15 +26,16 @@ use Rattle.lists.specs.Filter.{filter_by}
 use Rattle.state.specs.Book.{Book, advanced, dropped, leases_of, live, live_of, releases_at, remembered, table_of}
 use Rattle.lists.specs.laws.Filter.{filter_length}
 use Rattle.soundness.specs.laws.Added.{few_at}
-use Rattle.soundness.specs.laws.Book.{sound_lists}
+use Rattle.soundness.proofs.Lists.{sound_lists}
 use Rattle.admission.specs.Tests.{own_of}
-use Rattle.decision.specs.laws.Count.{count_few}
+use Rattle.decision.proofs.Count.{count_few}
 use Rattle.decision_laws.specs.laws.Kept.{own_is}
 use Rattle.state.specs.declared.Edit.{Edit}
 use Rattle.state.specs.Edit.{edited_book}
 use Rattle.state.specs.laws.Edited.{edited_none}
 use Rattle.releases.specs.Whole.{board_good, book_b, memory_good, names_good}
-use Rattle.releases.specs.laws.Whole.{advanced_names, bad_board, bad_book, bad_memory, book_sound}
+use Rattle.releases.specs.laws.Whole.{advanced_names}
+use Rattle.releases.proofs.Whole.{bad_board, bad_book, bad_memory, book_sound}
 use Rattle.soundness.specs.Sound.{tenants_in}
 use Rattle.decision.specs.declared.Decided.{Decided}
 use Rattle.server.specs.Serve.{Answer, Call, answered, at_clock, by_reply, discarded, discarded_at, for_server, reply_of, serve_of, tenant_of, with_reading}

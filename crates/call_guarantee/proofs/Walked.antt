@@ -21,11 +21,12 @@ use Rattle.state.specs.declared.Release.{Release}
 use Rattle.state.specs.declared.State.{State}
 use Rattle.state.specs.Book.{Book, advanced, leases_of, live_of, place_of, releases_at, remembered, remove_of, zero_lease}
 use Rattle.releases.specs.Whole.{book_b}
-use Rattle.releases.specs.laws.Whole.{book_sound}
+use Rattle.releases.proofs.Whole.{book_sound}
 use Rattle.soundness.specs.Sound.{tenants_in}
-use Rattle.soundness.specs.laws.Book.{Sound, sound_lists}
+use Rattle.soundness.specs.laws.Book.{Sound}
+use Rattle.soundness.proofs.Lists.{sound_lists, advanced_sound}
 use Rattle.soundness.specs.laws.Facts.{lease_at_facts}
-use Rattle.soundness.specs.laws.Kept.{advanced_sound, sound_removed}
+use Rattle.soundness.specs.laws.Kept.{sound_removed}
 use Rattle.decision.specs.declared.Decided.{Decided}
 use Rattle.decision.specs.declared.Reply.{Reply}
 use Rattle.decision.specs.declared.Reply.TheVariants.{Nothing, Offer, LeaseAck, ReleaseAck, InfoAck, Nak}

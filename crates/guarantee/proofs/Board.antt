@@ -23,9 +23,10 @@ use Rattle.state.specs.Book.{Book, addresses_of, held_of, in_scope, in_use, leas
 use Rattle.state.specs.Board.{board_of, is_on}
 use Rattle.state.specs.laws.Sets.{adds, addresses_cons}
 use Rattle.state.proofs.Unmoved.{board_entry, board_held, entry_none, entry_unmoved, held_unmoved}
-use Rattle.releases.specs.laws.Whole.{book_board, book_sound}
+use Rattle.releases.proofs.Whole.{book_board, book_sound}
 use Rattle.soundness.specs.laws.Added.{each_at}
-use Rattle.soundness.specs.laws.Book.{Sound, lease_ok, sound_lists}
+use Rattle.soundness.specs.laws.Book.{Sound, lease_ok}
+use Rattle.soundness.proofs.Lists.{sound_lists}
 use Rattle.soundness.specs.laws.Facts.{lease_facts}
 use Rattle.allocation.specs.laws.Kept.{held_below}
 use Rattle.admission.specs.Tests.{own_of}

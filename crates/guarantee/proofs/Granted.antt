@@ -18,9 +18,11 @@ use Rattle.state.specs.declared.State.{State}
 use Rattle.state.specs.Book.{Book, advanced, id_of, in_use, insert_of, laid_releases, leases_of, put_releases, releases_at, remembered, remove_of}
 use Rattle.state.specs.Edit.{entering, forget_of, noted, noted_in}
 use Rattle.state.specs.laws.Edited.{applied_others}
-use Rattle.releases.specs.laws.Whole.{advanced_names, book_board, book_sound}
+use Rattle.releases.specs.laws.Whole.{advanced_names}
+use Rattle.releases.proofs.Whole.{book_board, book_sound}
 use Rattle.soundness.specs.Sound.{scopes_in, tenants_in}
-use Rattle.soundness.specs.laws.Book.{Sound, sound_lists}
+use Rattle.soundness.specs.laws.Book.{Sound}
+use Rattle.soundness.proofs.Lists.{sound_lists}
 use Rattle.decision.specs.declared.Decided.{Decided}
 use Rattle.decision.specs.declared.Reply.TheVariants.{LeaseAck}
 use Rattle.releases.specs.Again.{any_again}

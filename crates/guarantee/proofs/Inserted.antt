@@ -22,7 +22,8 @@ use Rattle.state.specs.Edit.{entering}
 use Rattle.state.specs.laws.Edited.{applied_entering}
 use Rattle.state.specs.laws.Layout.{read_back}
 use Rattle.soundness.specs.Sound.{compatible, sound_b}
-use Rattle.soundness.specs.laws.Book.{pair_ok, sound_lists, sound_rises}
+use Rattle.soundness.specs.laws.Book.{pair_ok, sound_rises}
+use Rattle.soundness.proofs.Lists.{sound_lists}
 use Rattle.soundness.specs.laws.Added.{pairs_at, rises_at}
 use Rattle.admission.specs.Tests.{holds_of, own_of}
 use Rattle.admission.specs.Tests as parts

@@ -20,10 +20,11 @@ use Rattle.state.specs.Book.{Book, advanced, dropped, in_use, laid_out, leases_o
 use Rattle.state.specs.laws.Edited.{applied_count}
 use Rattle.state.specs.laws.Layout.{table_back}
 use Rattle.releases.specs.Whole.{book_b}
-use Rattle.releases.specs.laws.Whole.{advanced_book, book_agrees, book_named, book_remembers, book_sound, both_book}
+use Rattle.releases.proofs.Whole.{advanced_book, book_agrees, book_named, book_remembers, book_sound, both_book}
 use Rattle.releases.specs.laws.Kept.{noted_count}
 use Rattle.soundness.specs.Sound.{one_to, counts_b, rule3, rule4, rule5, rule6, settings_b, size_b, tenants_in}
-use Rattle.soundness.specs.laws.Book.{Sound, settings_ok, sound_lists}
+use Rattle.soundness.specs.laws.Book.{Sound, settings_ok}
+use Rattle.soundness.proofs.Lists.{sound_lists}
 use Rattle.decision_laws.specs.laws.Kept.{GoodId, decision_sound}
 use Rattle.decision_laws.specs.laws.Remembered.{decision_remembers}
 use Rattle.decision_laws.specs.laws.Board.{decision_agrees}

@@ -11,7 +11,7 @@ use Rattle.state.specs.Book.{Book}
 use Rattle.state.specs.declared.Lease.{Lease}
 use Rattle.state.specs.declared.Ledger.{Ledger}
 use Rattle.releases.specs.Whole.{book_b}
-use Rattle.releases.specs.laws.Whole.{book_board}
+use Rattle.releases.proofs.Whole.{book_board}
 use Rattle.message.specs.Read.{longest_datagram}
 use Rattle.server.specs.Serve.{Answer, Call, serve_of}
 use Rattle.guarantee.specs.Statement.{BoardKept, BoardStays, Demand3, Granted, NewRequest, SoundBook, WithinLimits, run}

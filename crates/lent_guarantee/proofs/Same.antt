@@ -20,8 +20,8 @@ use Rattle.state.specs.laws.Edited.{applied_count, applied_laid}
 use Rattle.state.specs.laws.Layout.{table_back as lists_back}
 use Rattle.releases.specs.Whole.{book_b}
 use Rattle.soundness.specs.Sound.{sound_b, tenants_in}
-use Rattle.soundness.specs.laws.Kept.{advanced_sound}
-use Rattle.releases.specs.laws.Whole.{book_sound}
+use Rattle.soundness.proofs.Lists.{advanced_sound}
+use Rattle.releases.proofs.Whole.{book_sound}
 use Rattle.server.specs.Serve.{Answer, Call, answered, at_clock, book_of, decided_for, for_server, serve_of, tenant_of, with_reading}
 use Rattle.guarantee.specs.Statement.{SoundBook}
 use Rattle.call_guarantee.proofs.Discards.{call_tested}

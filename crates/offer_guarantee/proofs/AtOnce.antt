@@ -27,9 +27,10 @@ use Rattle.state.specs.Book.{Book, ordered, advanced, changed_to, dropped, id_of
 use Rattle.state.specs.laws.Edit.{applied}
 use Rattle.state.specs.Edit.{edited_book, entering, forget_of, giving_way, noted, noted_in}
 use Rattle.state.specs.laws.Edited.{applied_entering, applied_laid, applied_way}
-use Rattle.releases.specs.laws.Whole.{advanced_book, book_sound, same_board_law}
+use Rattle.releases.proofs.Whole.{advanced_book, book_sound, same_board_law}
 use Rattle.soundness.specs.Sound.{hold_b, lapse_b}
-use Rattle.soundness.specs.laws.Book.{lease_ok, sound_lists}
+use Rattle.soundness.specs.laws.Book.{lease_ok}
+use Rattle.soundness.proofs.Lists.{sound_lists}
 use Rattle.soundness.specs.laws.Facts.{lease_facts}
 use Rattle.decision.specs.declared.Reply.TheVariants.{LeaseAck}
 use Rattle.proposal.specs.Proposals.{ask_at, meets, too_late, too_short, error0_of, fits_new, held_from, lease_from, length_of, new_at, new_of, new_with, start_of, turned}

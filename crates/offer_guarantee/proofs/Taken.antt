@@ -31,9 +31,10 @@ use Rattle.state.specs.Edit.{entering, forget_of, giving_way, noted, noted_in}
 use Rattle.state.specs.laws.Edited.{applied_none, applied_others, applied_way}
 use Rattle.state.specs.laws.Layout.{read_back, removed_fewer}
 use Rattle.state.specs.laws.Named.{inserted_own, none_named, one_named, place_first, place_some, removed_own}
-use Rattle.releases.specs.laws.Whole.{book_board, book_sound}
+use Rattle.releases.proofs.Whole.{book_board, book_sound}
 use Rattle.soundness.specs.Sound.{compatible, scopes_in, tenants_in}
-use Rattle.soundness.specs.laws.Book.{Sound, pair_ok, sound_lists}
+use Rattle.soundness.specs.laws.Book.{Sound, pair_ok}
+use Rattle.soundness.proofs.Lists.{sound_lists}
 use Rattle.soundness.specs.laws.Added.{few_at, pairs_at}
 use Rattle.decision.specs.declared.Decided.{Decided}
 use Rattle.decision.specs.declared.Reply.{Reply}

@@ -26,7 +26,7 @@ use Rattle.state.specs.declared.Memory.{Memory}
 use Rattle.state.specs.laws.Layout.{table_back}
 use Rattle.soundness.specs.Sound.{sound_b}
 use Rattle.soundness.specs.laws.Added.{few_at}
-use Rattle.soundness.specs.laws.Book.{sound_lists}
+use Rattle.soundness.proofs.Lists.{sound_lists}
 use Rattle.releases.specs.Rules.{memory_b}
 use Rattle.lease_file.specs.Records.{few_of, hold_fit_b, hold_tenant, lease_tenant, merged_from, records_fit_b, stored, stored_hold}
 use Rattle.lease_file.specs.Section.{FileHold, FileLease, hold_after, hold_format, hold_key, holds_format, is_after, lease_after, lease_format, lease_key, leases_format}

@@ -27,7 +27,8 @@ use Rattle.state.specs.declared.State.{State}
 use Rattle.state.specs.declared.TenantReleases.{TenantReleases}
 use Rattle.state.specs.laws.Layout.{releases_back, table_back}
 use Rattle.soundness.specs.Sound.{id_length_b, one_to, sound_b, tenants_in}
-use Rattle.soundness.specs.laws.Book.{Sound, sound_lists}
+use Rattle.soundness.specs.laws.Book.{Sound}
+use Rattle.soundness.proofs.Lists.{sound_lists}
 use Rattle.releases.specs.Rules.{broken_memory, broken_release, differs, few_b, first_release, tenant_b, length_b, memory_b, not_leased, once_b, own_leases, past_b, release_rules_of, rules_to}
 use Rattle.releases.specs.declared.ReleaseRules.{ReleaseRules}
 use Rattle.release_file.specs.Section.{FileRelease, keepable_b, release_tenant, releases_fit_b, stored_memory, stored_release}

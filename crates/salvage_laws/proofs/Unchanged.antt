@@ -31,7 +31,8 @@ use Rattle.state.specs.laws.Sorted.{differ_turn}
 use Rattle.state.proofs.Sorted.{rising}
 use Rattle.soundness.specs.Sound.{below_b, first_rule, offsets_b, one_to, rules_of, sound_b, tenants_in}
 use Rattle.soundness.specs.laws.Added.{each_at, few_at, sound_at}
-use Rattle.soundness.specs.laws.Book.{Sound, lease_ok, lists_sound, no_leases_b}
+use Rattle.soundness.specs.laws.Book.{Sound, lease_ok, no_leases_b}
+use Rattle.soundness.proofs.Lists.{lists_sound}
 use Rattle.soundness.specs.laws.Facts.{LeaseFacts, lease_facts}
 use Rattle.soundness.specs.laws.Kept.{Shrunk, sound_shrunk}
 use Rattle.soundness.specs.laws.Rises.{differ_at}

@@ -18,7 +18,8 @@ use Rattle.reply.specs.Reply.{least_room}
 use Rattle.state.specs.declared.State.{State}
 use Rattle.state.specs.Book.{Book, advanced, releases_at, remembered}
 use Rattle.releases.specs.Whole.{book_b}
-use Rattle.releases.specs.laws.Whole.{advanced_named, advanced_names, book_named}
+use Rattle.releases.specs.laws.Whole.{advanced_named, advanced_names}
+use Rattle.releases.proofs.Whole.{book_named}
 use Rattle.soundness.specs.Sound.{tenants_in}
 use Rattle.decision.specs.declared.Reply.{Reply}
 use Rattle.decision.specs.declared.Reply.TheVariants.{Nothing, Offer, LeaseAck, ReleaseAck, InfoAck, Nak}

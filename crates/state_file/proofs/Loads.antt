@@ -21,7 +21,7 @@ use Rattle.release_file.specs.Place.{releases_in}
 use Rattle.release_file.specs.Section.{releases_fit_b, stored_memory}
 use Rattle.releases.specs.Rules.{memory_b}
 use Rattle.soundness.specs.Sound.{sound_b}
-use Rattle.soundness.specs.laws.Book.{sound_lists}
+use Rattle.soundness.proofs.Lists.{sound_lists}
 use Rattle.state.specs.Board.{built_of}
 use Rattle.state.specs.Book.{laid_out, laid_releases, table_of, zero_scope}
 use Rattle.state.specs.declared.ClientRange.{ClientRange}

@@ -20,7 +20,7 @@ use Rattle.releases.specs.Rules.{broken_memory, memory_b, release_rules_of, rule
 use Rattle.releases.specs.Whole.{book_b}
 use Rattle.soundness.specs.Sound.{rule8, rules_by, sound_b}
 use Rattle.soundness.specs.laws.Book.{rules_of_law}
-use Rattle.releases.specs.laws.Whole.{book_agrees, book_named, book_remembers, book_sound, both_book}
+use Rattle.releases.proofs.Whole.{book_agrees, book_named, book_remembers, book_sound, both_book}
 use Rattle.state.specs.Board.{board_of}
 use Rattle.state.specs.Book.{Book, leases_of}
 use Rattle.state.specs.declared.LeaseTable.{LeaseTable}

@@ -19,7 +19,7 @@ use Rattle.lists.specs.laws.All.{all_facts, all_mapped, one_fact}
 use Rattle.lists.specs.laws.Both.{and_parts}
 use Rattle.names.specs.laws.Names.{names_most}
 use Rattle.soundness.specs.laws.Book.{rules_of_law}
-use Rattle.releases.specs.laws.Whole.{book_named, book_remembers, book_sound}
+use Rattle.releases.proofs.Whole.{book_named, book_remembers, book_sound}
 use Rattle.releases.specs.Whole.{book_b}
 use Rattle.soundness.specs.Sound.{counts_b, one_to, id_b, records_b, rule1, size_b, sound_b, rules_by}
 use Rattle.state.specs.Book.{Book, by_identifier, in_use, laid_out, ranges_of, scopes_of, table_of}

@@ -25,7 +25,8 @@ use Rattle.state.specs.Edit.{board_edited, board_left, edited_in, left_in, appli
 use Rattle.state.specs.laws.Layout.{read_back, table_back}
 use Rattle.state.specs.laws.Sorted.{insert_same}
 use Rattle.soundness.specs.Sound.{sound_b, tenants_in}
-use Rattle.soundness.specs.laws.Book.{Sound, sound_lists}
+use Rattle.soundness.specs.laws.Book.{Sound}
+use Rattle.soundness.proofs.Lists.{sound_lists}
 use Rattle.soundness.specs.laws.Kept.{all_part}
 use Rattle.agreement.specs.Agrees.{agrees_b}
 use Rattle.agreement.specs.laws.Steps.{Within, one_less, one_more}

@@ -29,7 +29,8 @@ use Rattle.soundness.specs.declared.HeldTable.{HeldTable}
 use Rattle.soundness.specs.Sound.{one_to, apart_in}
 use Rattle.soundness.specs.Parts.{set_at, held_sets, holdings_of}
 use Rattle.soundness.specs.View.{View}
-use Rattle.soundness.specs.laws.Book.{lease_ok, Sound, sound_lists}
+use Rattle.soundness.specs.laws.Book.{lease_ok, Sound}
+use Rattle.soundness.proofs.Lists.{sound_lists}
 use Rattle.soundness.specs.laws.Added.{each_at, owners_at}
 use Rattle.soundness.specs.laws.Facts.{scopes_few, lease_facts}
 use Rattle.allocation.specs.declared.Ask.{Ask}

@@ -1,5 +1,5 @@
 -- `decide` meets its contract: its tests in order, each lookup made where it is asked for.
-use Rattle.decision.specs.laws.Count.{judged_is, refused_is, released_is, resent_is}
+use Rattle.decision.proofs.Count.{judged_is, refused_is, released_is, resent_is}
 use borrow.Author.Rules.{rules}
 use Rattle.decision.proofs.decide.Goals as goal
 

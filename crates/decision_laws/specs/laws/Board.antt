@@ -15,7 +15,8 @@ use Rattle.state.specs.Book.{Book, id_of, leases_of, remove_of, tenant_at}
 use Rattle.state.specs.Edit.{edited_book, entering, left_in, no_edit, noted}
 use Rattle.state.specs.laws.Layout.{read_back}
 use Rattle.soundness.specs.Sound.{sound_b, tenants_in}
-use Rattle.soundness.specs.laws.Book.{Sound, sound_lists}
+use Rattle.soundness.specs.laws.Book.{Sound}
+use Rattle.soundness.proofs.Lists.{sound_lists}
 use Rattle.agreement.specs.laws.Agrees.{Stands, edited_agrees}
 use Rattle.releases.specs.Whole.{board_good}
 use Rattle.decision.specs.declared.Decided.{Decided}

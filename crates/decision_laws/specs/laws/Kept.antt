@@ -36,7 +36,8 @@ use Rattle.state.specs.laws.Sorted.{named_at, taken_out}
 use Rattle.state.proofs.Sorted.{rising}
 use Rattle.state.specs.laws.Layout.{read_back, removed_fewer}
 use Rattle.soundness.specs.Sound.{one_to, tenants_in, scopes_in, id_b, scope_known, below_b, offsets_b, kind_b, period_b, lease_b, padded_b, lapse_b, hold_b, disjoint, compatible, zero_from, sound_b}
-use Rattle.soundness.specs.laws.Book.{lease_ok, pair_ok, Sound, sound_lists, sound_rises, lists_sound}
+use Rattle.soundness.specs.laws.Book.{lease_ok, pair_ok, Sound, sound_rises}
+use Rattle.soundness.proofs.Lists.{sound_lists, lists_sound}
 use Rattle.soundness.specs.laws.Rises.{applied_rises}
 use Rattle.soundness.specs.laws.Facts.{LeaseFacts, lease_facts}
 use Rattle.soundness.specs.laws.Kept.{sound_removed}

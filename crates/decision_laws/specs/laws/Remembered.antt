@@ -7,7 +7,7 @@ use Rattle.state.specs.declared.Release.{Release}
 use Rattle.state.specs.Book.{Book, place_of}
 use Rattle.state.specs.Edit.{edited_book, no_edit}
 use Rattle.soundness.specs.Sound.{sound_b, tenants_in}
-use Rattle.soundness.specs.laws.Book.{sound_lists}
+use Rattle.soundness.proofs.Lists.{sound_lists}
 use Rattle.releases.specs.Whole.{memory_good}
 use Rattle.releases.specs.laws.Kept.{dropping_entering_kept, dropping_kept, entering_kept, leaving_kept, none_kept, way_kept}
 use Rattle.decision.specs.declared.Decided.{Decided}

@@ -13,7 +13,7 @@ use Rattle.releases.specs.declared.ReleaseRules.{ReleaseRules}
 use Rattle.releases.specs.Rules.{broken_memory, broken_release, memory_b, release_rules_of}
 use Rattle.soundness.specs.Sound.{sound_b}
 use Rattle.soundness.specs.Parts.{sound_from, table_rules_of}
-use Rattle.soundness.specs.laws.Survey.{sound_from_law}
+use Rattle.soundness.proofs.Lists.{sound_from_law}
 use Rattle.record_survey.specs.declared.Surveyed.{Surveyed}
 use Rattle.records.specs.Records.{table_from}
 use Rattle.records.specs.Lent.{book_from}

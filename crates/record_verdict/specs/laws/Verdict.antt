@@ -23,10 +23,10 @@ use Rattle.state.specs.Edit.{board_edited, board_left, edited_in, forget_of, lef
 use Rattle.state.specs.laws.Layout.{advanced_is, table_back}
 use Rattle.soundness.specs.laws.Book.{sound_rises}
 use Rattle.soundness.specs.declared.HeldTable.{HeldTable}
-use Rattle.releases.specs.laws.Whole.{book_sound}
+use Rattle.releases.proofs.Whole.{book_sound}
 use Rattle.soundness.specs.Sound.{sound_b, tenants_in}
 use Rattle.soundness.specs.Parts.{holdings_of}
-use Rattle.soundness.specs.laws.Kept.{advanced_sound}
+use Rattle.soundness.proofs.Lists.{advanced_sound}
 use Rattle.soundness.specs.laws.Survey.{held_from_law}
 use Rattle.server.specs.declared.Judged.{Judged}
 use Rattle.server.specs.declared.Ruling.{Ruling}

@@ -13,7 +13,8 @@ use Rattle.state.specs.declared.State.{State}
 use Rattle.state.specs.declared.TenantLeases.{TenantLeases}
 use Rattle.state.specs.Book.{laid_out, leases_of, table_of, zero_lease}
 use Rattle.soundness.specs.Sound.{blank_b, hold_b, id_b, lease_b, offsets_b, padded_b, sound_b, unused_b, zero_from}
-use Rattle.soundness.specs.laws.Book.{few_leases, lease_ok, sound_lists}
+use Rattle.soundness.specs.laws.Book.{few_leases, lease_ok}
+use Rattle.soundness.proofs.Lists.{sound_lists}
 use Rattle.records.specs.Records.{records_of, rows, rows_of, table_from, tenant_from}
 
 -- ---- records come back

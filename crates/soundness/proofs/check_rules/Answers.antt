@@ -1,5 +1,5 @@
 -- `check_rules` meets its contract: by rules-gathered.
-use Rattle.soundness.specs.laws.Survey.{rules_gathered}
+use Rattle.soundness.proofs.Lists.{rules_gathered}
 use borrow.Author.Rules.{rules}
 use Rattle.soundness.proofs.check_rules.Goals as goal
 

@@ -14,7 +14,7 @@ use Rattle.state.specs.declared.State.{State}
 use Rattle.state.specs.Book.{leases_of, differ, in_scope, overlaps, held_of, scopes_of}
 use Rattle.state.specs.laws.Sets.{adds, addresses_cons}
 use Rattle.soundness.specs.Sound.{one_to, counts_b, size_b, scope_known, lease_b, id_b, offsets_b, padded_b, kind_b, period_b, disjoint, apart_in, apart, compatible, sound_b, hold_b}
-use Rattle.soundness.specs.laws.Book.{lease_ok, Sound, pairs_is, settings_front, sound_lists}
+use Rattle.soundness.specs.laws.Book.{lease_ok, Sound, pairs_is, settings_front}
 use Rattle.soundness.specs.laws.Kept.{disjoint_less}
 use Rattle.soundness.specs.Across.{join_all}
 
@@ -121,12 +121,9 @@ scope_known_law s l c e =
     let b = leb-true s.scope_count 4 g.1 in
     and_both r.0 (le-leb l.scope 4 (omega arith))
 
-lists_compatible : (s : State) (ls : List (List Lease)) → Sound s ls → pairs_by compatible (join_all ls) ≡ true
+pub lists_compatible : (s : State) (ls : List (List Lease)) → Sound s ls → pairs_by compatible (join_all ls) ≡ true
 lists_compatible s ls v =
     let c = (settings_front s ls v).0 in
     compatible_all ls
     (all_both (all_by (lease_ok s)) (all_by (lease_ok s)) (all_by scope_b) ls (λ l p q. all_both (lease_ok s) (lease_ok s) scope_b l (λ x a b. scope_known_law s x c a) p p) v.each v.each)
     (and_parts (all_by (pairs_by differ) ls) (all_by (pairs_by compatible) ls) (sym (pairs_is ls) ∙ v.pairs)).1 v.owners
-
-pub sound_compatible : (s : State) (t : LeaseTable) → sound_b s t ≡ true → pairs_by compatible (join_all (leases_of t)) ≡ true
-sound_compatible s t e = lists_compatible s (leases_of t) (sound_lists s t e)

@@ -115,11 +115,11 @@ rules_hold r a =
 all_hold : (r : Rules) → AllRules r → first_broken r ≡ 0
 all_hold r a = sym (first_none r (sym (rules_hold r a)) refl a.layout)
 
-rules_by_law : (o : Order) (s : State) (t : LeaseTable) → sound_by o s t ≡ true → AllRules (rules_by o s t)
+pub rules_by_law : (o : Order) (s : State) (t : LeaseTable) → sound_by o s t ≡ true → AllRules (rules_by o s t)
 unfolding sound_by broken_by
 rules_by_law o s t e = none_broken (rules_by o s t) (eqb-true _ _ e)
 
-by_rules : (o : Order) (s : State) (t : LeaseTable) → AllRules (rules_by o s t) → sound_by o s t ≡ true
+pub by_rules : (o : Order) (s : State) (t : LeaseTable) → AllRules (rules_by o s t) → sound_by o s t ≡ true
 unfolding sound_by broken_by
 by_rules o s t a = eq-eqb _ _ (all_hold (rules_by o s t) a)
 
@@ -160,7 +160,7 @@ through t u g l f h = all_map u g l ∙ imply {t = t} {u = λ x. u (g x)} l f h
 all_all : {A : Type 0} (t u : A → Bool) (ls : List (List A)) → all_by (all_by (λ x. t x && u x)) ls ≡ (all_by (all_by t) ls && all_by (all_by u) ls)
 all_all t u ls = all_same (all_by (λ x. t x && u x)) (λ l. all_by t l && all_by u l) ls (all_and t u) ∙ all_and (all_by t) (all_by u) ls
 
-each_is : (s : State) (ls : List (List Lease)) → all_by (all_by (lease_ok s)) ls
+pub each_is : (s : State) (ls : List (List Lease)) → all_by (all_by (lease_ok s)) ls
     ≡ ((all_by (all_by id_b) ls && all_by (all_by (offsets_b s)) ls) && (all_by (all_by (lease_b s)) ls && (all_by (all_by padded_b) ls && all_by (all_by (hold_b s.clock)) ls)))
 unfolding lease_ok
 each_is s ls =
@@ -178,7 +178,7 @@ module _ (o : Order) (s : State) (t : LeaseTable) (a : AllRules (rules_by o s t)
   unfolding rules_by rule1
   counted = and_parts _ _ a.limits
 
-  known : (tenants_b s t ≡ true) × (all_by (all_by (lease_b s)) (leases_of t) ≡ true)
+  pub known : (tenants_b s t ≡ true) × (all_by (all_by (lease_b s)) (leases_of t) ≡ true)
   unfolding rules_by rule7
   known = and_parts _ _ a.leases
 
@@ -186,11 +186,11 @@ module _ (o : Order) (s : State) (t : LeaseTable) (a : AllRules (rules_by o s t)
   unfolding rules_by rule19_by
   laid = and_parts _ _ a.layout
 
-  few_from : all_by few_leases (leases_of t) ≡ true
+  pub few_from : all_by few_leases (leases_of t) ≡ true
   unfolding records_b
   few_from = through records_b few_leases in_use t.tenants (λ x p. let h = leb-true x.count 16 (and_parts _ _ p).0 in le-leb (length (in_use x)) 16 (let k = length-take x.count x.leases in omega arith)) counted.1
 
-  ids_from : all_by (all_by id_b) (leases_of t) ≡ true
+  pub ids_from : all_by (all_by id_b) (leases_of t) ≡ true
   unfolding records_b
   ids_from = through records_b (all_by id_b) in_use t.tenants (λ x p. (and_parts (leb x.count 16) (all_by id_b (in_use x)) p).1) counted.1
 
@@ -198,42 +198,23 @@ module _ (o : Order) (s : State) (t : LeaseTable) (a : AllRules (rules_by o s t)
   unfolding layout_by
   ordered_from_law = through (layout_by o) (pairs_by o) in_use t.tenants (λ x p. (and_parts (pairs_by o (in_use x)) _ p).0) laid.1
 
-  padded_from : all_by (all_by padded_b) (leases_of t) ≡ true
+  pub padded_from : all_by (all_by padded_b) (leases_of t) ≡ true
   unfolding layout_by
   padded_from = through (layout_by o) (all_by padded_b) in_use t.tenants (λ x p. (and_parts (all_by padded_b (in_use x)) _ (and_parts (pairs_by o (in_use x)) _ p).1).0) laid.1
 
-  tenants_from_law : all_by no_leases_b (drop (tenants_in s) (leases_of t)) ≡ true
+  pub tenants_from_law : all_by no_leases_b (drop (tenants_in s) (leases_of t)) ≡ true
   unfolding tenants_b none_b
   tenants_from_law =
       ap (all_by no_leases_b) (drop_map in_use (tenants_in s) t.tenants)
       ∙ through none_b no_leases_b in_use (drop (tenants_in s) t.tenants) (λ x p. let h = eqb-true x.count 0 p in eq-eqb (length (in_use x)) 0 (let k = length-take x.count x.leases in omega arith)) known.0
 
-  settings_from : settings_ok s ≡ true
+  pub settings_from : settings_ok s ≡ true
   unfolding rules_by settings_ok
   settings_from = and_both (and_both counted.0 (and_both a.ranges a.pools)) (and_both a.ttls (and_both a.reserves laid.0))
-
-  lists_of : Sound s (leases_of t)
-  unfolding rules_by rule2 rule8 rule9 rule10 rule11 limits_b limit_b rule12 committed_b rule13
-  lists_of = record {
-    settings = settings_from;
-    few = few_from;
-    each = each_is s (leases_of t) ∙ and_both (and_both ids_from a.offsets) (and_both known.1 (and_both padded_from a.holds));
-    pairs = pairs_is (leases_of t) ∙ and_both a.identifiers a.periods;
-    tenants = tenants_from_law;
-    owners = a.owners;
-    holdings = λ k g p q. leb-true _ _ (to_each (limit_b t (scope_at s k) (k + 1)) (tenants_in s) (to_each (limits_b s t) (scopes_in s) a.holdings k p) g q);
-    commitments = λ k p. leb-true _ _ (to_each (committed_b s t) (scopes_in s) a.commitments k p);
-  }
-
-pub lists_by : (o : Order) (s : State) (t : LeaseTable) → sound_by o s t ≡ true → Sound s (leases_of t)
-lists_by o s t e = lists_of o s t (rules_by_law o s t e)
 
 -- and its records rise
 pub rises_by : (o : Order) (s : State) (t : LeaseTable) → sound_by o s t ≡ true → all_by (pairs_by o) (leases_of t) ≡ true
 rises_by o s t e = ordered_from_law o s t (rules_by_law o s t e)
-
-pub sound_lists : (s : State) (t : LeaseTable) → sound_b s t ≡ true → Sound s (leases_of t)
-sound_lists s t e = lists_by ordered s t e
 
 pub sound_rises : (s : State) (t : LeaseTable) → sound_b s t ≡ true → all_by (pairs_by ordered) (leases_of t) ≡ true
 sound_rises s t e = rises_by ordered s t e
@@ -251,63 +232,36 @@ module _ (s : State) (ls : List (List Lease)) (v : Sound s ls) where
   each_parts : ((all_by (all_by id_b) ls && all_by (all_by (offsets_b s)) ls) ≡ true) × ((all_by (all_by (lease_b s)) ls && (all_by (all_by padded_b) ls && all_by (all_by (hold_b s.clock)) ls)) ≡ true)
   each_parts = and_parts _ _ (sym (each_is s ls) ∙ v.each)
 
-  pair_parts : (all_by (pairs_by differ) ls ≡ true) × (all_by (pairs_by compatible) ls ≡ true)
+  pub pair_parts : (all_by (pairs_by differ) ls ≡ true) × (all_by (pairs_by compatible) ls ≡ true)
   pair_parts = and_parts _ _ (sym (pairs_is ls) ∙ v.pairs)
 
   ids_to : all_by (all_by id_b) ls ≡ true
   ids_to = (and_parts (all_by (all_by id_b) ls) (all_by (all_by (offsets_b s)) ls) each_parts.0).0
 
-  offsets_to : all_by (all_by (offsets_b s)) ls ≡ true
+  pub offsets_to : all_by (all_by (offsets_b s)) ls ≡ true
   offsets_to = (and_parts (all_by (all_by id_b) ls) (all_by (all_by (offsets_b s)) ls) each_parts.0).1
 
-  leases_to : all_by (all_by (lease_b s)) ls ≡ true
+  pub leases_to : all_by (all_by (lease_b s)) ls ≡ true
   leases_to = (and_parts (all_by (all_by (lease_b s)) ls) (all_by (all_by padded_b) ls && all_by (all_by (hold_b s.clock)) ls) each_parts.1).0
 
-  marks_to : (all_by (all_by padded_b) ls ≡ true) × (all_by (all_by (hold_b s.clock)) ls ≡ true)
+  pub marks_to : (all_by (all_by padded_b) ls ≡ true) × (all_by (all_by (hold_b s.clock)) ls ≡ true)
   marks_to = and_parts _ _ (and_parts (all_by (all_by (lease_b s)) ls) (all_by (all_by padded_b) ls && all_by (all_by (hold_b s.clock)) ls) each_parts.1).1
 
-  back : leases_of (table_of ls) ≡ ls
+  pub back : leases_of (table_of ls) ≡ ls
   back = table_back ls
 
-  records_to : all_by records_b (table_of ls).tenants ≡ true
+  pub records_to : all_by records_b (table_of ls).tenants ≡ true
   unfolding table_of
   records_to =
       all_map records_b laid_out ls ∙ all_same (λ l. records_b (laid_out l)) (λ l. few_leases l && all_by id_b l) ls records_laid ∙ all_and few_leases (all_by id_b) ls
       ∙ and_both v.few ids_to
 
-  layout_to : (o : Order) → all_by (pairs_by o) ls ≡ true → all_by (layout_by o) (table_of ls).tenants ≡ true
+  pub layout_to : (o : Order) → all_by (pairs_by o) ls ≡ true → all_by (layout_by o) (table_of ls).tenants ≡ true
   unfolding table_of
   layout_to o rises =
       all_map (layout_by o) laid_out ls ∙ all_same (λ l. layout_by o (laid_out l)) (λ l. pairs_by o l && all_by padded_b l) ls (layout_laid o) ∙ all_and (pairs_by o) (all_by padded_b) ls
       ∙ and_both rises marks_to.0
 
-  tenants_to : tenants_b s (table_of ls) ≡ true
+  pub tenants_to : tenants_b s (table_of ls) ≡ true
   unfolding tenants_b table_of none_b laid_out
   tenants_to = ap (all_by none_b) (drop_map laid_out (tenants_in s) ls) ∙ all_map none_b laid_out (drop (tenants_in s) ls) ∙ v.tenants
-
-  rules_to_law : (o : Order) → all_by (pairs_by o) ls ≡ true → AllRules (rules_by o s (table_of ls))
-  unfolding rules_by rule1 rule2 rule7 rule8 rule9 rule10 rule11 limits_b limit_b rule12 committed_b rule13 rule19_by
-  rules_to_law o rises = record {
-    limits = and_both settings_front.0 records_to;
-    offsets = ap (all_by (all_by (offsets_b s))) back ∙ offsets_to;
-    ranges = (and_parts (rule3 s) (rule4 s) settings_front.1).0;
-    pools = (and_parts (rule3 s) (rule4 s) settings_front.1).1;
-    ttls = settings_back.0;
-    reserves = (and_parts (rule6 s) (settings_b s) settings_back.1).0;
-    leases = and_both tenants_to (ap (all_by (all_by (lease_b s))) back ∙ leases_to);
-    identifiers = ap (all_by (pairs_by differ)) back ∙ pair_parts.0;
-    owners = ap (pairs_by apart) back ∙ v.owners;
-    periods = ap (all_by (pairs_by compatible)) back ∙ pair_parts.1;
-    holdings = each_to (limits_b s (table_of ls)) (scopes_in s) (λ k p. each_to (limit_b (table_of ls) (scope_at s k) (k + 1)) (tenants_in s) (λ g q.
-        ap (λ (x : List (List Lease)). leb (held_at x (k + 1) g) (limit_at (scope_at s k) g)) back ∙ le-leb _ _ (v.holdings k g p q)));
-    commitments = each_to (committed_b s (table_of ls)) (scopes_in s) (λ k p.
-        ap (λ (x : List (List Lease)). leb (committed_sum (scope_at s k) (tenants_in s) (held_at x (k + 1))) (scope_at s k).size) back ∙ le-leb _ _ (v.commitments k p));
-    holds = ap (all_by (all_by (hold_b s.clock))) back ∙ marks_to.1;
-    layout = and_both (and_parts (rule6 s) (settings_b s) settings_back.1).1 (layout_to o rises);
-  }
-
-pub by_lists : (o : Order) (s : State) (ls : List (List Lease)) → Sound s ls → all_by (pairs_by o) ls ≡ true → sound_by o s (table_of ls) ≡ true
-by_lists o s ls v rises = by_rules o s (table_of ls) (rules_to_law s ls v o rises)
-
-pub lists_sound : (s : State) (ls : List (List Lease)) → Sound s ls → all_by (pairs_by ordered) ls ≡ true → sound_b s (table_of ls) ≡ true
-lists_sound s ls v rises = by_lists ordered s ls v rises

@@ -359,7 +359,7 @@ sets_apart : (a b : TenantLeases) → apart_sets (held_sets a) (held_sets b) ≡
 unfolding apart_sets held_sets apart
 sets_apart a b = refl
 
-owners_are : (b : LeaseTable) (h : HeldTable) {r : Bool} → h ≡ holdings_of b → r ≡ pairs_by apart_sets h.tenants → r ≡ rule9 b
+pub owners_are : (b : LeaseTable) (h : HeldTable) {r : Bool} → h ≡ holdings_of b → r ≡ pairs_by apart_sets h.tenants → r ≡ rule9 b
 unfolding holdings_of rule9
 owners_are b h e p =
     p ∙ ap (λ (x : HeldTable). pairs_by apart_sets x.tenants) e ∙ pairs_map apart_sets held_sets b.tenants
@@ -375,34 +375,11 @@ set_of_law t (suc (suc zero)) h = refl
 set_of_law t (suc (suc (suc zero))) h = refl
 set_of_law t (suc (suc (suc (suc k)))) h = absurd (omega arith)
 
-set_at_law : (l : List TenantLeases) (k g : ℕ) → k < 4 → set_at (get_or (map held_sets l) g no_held) k ≡ held_of (k + 1) (get_or (map in_use l) g [])
+pub set_at_law : (l : List TenantLeases) (k g : ℕ) → k < 4 → set_at (get_or (map held_sets l) g no_held) k ≡ held_of (k + 1) (get_or (map in_use l) g [])
 unfolding addresses_of filter_by union_all
 set_at_law [] k g h = refl
 set_at_law (t ∷ l) k zero h = set_of_law t k h
 set_at_law (t ∷ l) k (suc g) h = set_at_law l k g h
-
-count_is : (b : LeaseTable) (k g : ℕ) → k < 4 → count_in (holdings_of b) k g ≡ holding b (k + 1) g
-unfolding count_in holdings_of
-count_is b k g h = ap (λ (x : ℕ). length (offsets x)) (set_at_law b.tenants k g h)
-
-module _ (s : State) (b : LeaseTable) (h : HeldTable) (e : h ≡ holdings_of b) where
-  counts : (k g : ℕ) → k < 4 → count_in h k g ≡ holding b (k + 1) g
-  counts k g p = ap (λ (x : HeldTable). count_in x k g) e ∙ count_is b k g p
-
-  limits_are : {n m : ℕ} {r : Bool} → n ≡ tenants_in s → m ≡ scopes_in s → r ≡ all_to (limits_in s h n) m → r ≡ rule11 s b
-  unfolding limits_in limit_in rule11 limits_b limit_b
-  limits_are {n} {m} p q u =
-      u ∙ ap₂ (λ (x y : ℕ). all_to (limits_in s h x) y) p q
-      ∙ to_same (limits_in s h (tenants_in s)) (limits_b s b) (scopes_in s) (λ k a.
-      to_same (limit_in h (scope_at s k) k) (limit_b b (scope_at s k) (k + 1)) (tenants_in s) (λ g c. ap (λ (x : ℕ). leb x (limit_at (scope_at s k) g)) (counts k g (omega arith))))
-
-  commitments_are : {n m : ℕ} {r : Bool} → n ≡ tenants_in s → m ≡ scopes_in s → r ≡ all_to (committed_in s h n) m → r ≡ rule12 s b
-  unfolding committed_in rule12 committed_b committed
-  commitments_are {n} {m} p q u =
-      u ∙ ap₂ (λ (x y : ℕ). all_to (committed_in s h x) y) p q
-      ∙ to_same (committed_in s h (tenants_in s)) (committed_b s b) (scopes_in s) (λ k a.
-      ap (λ (x : ℕ). leb x (scope_at s k).size)
-      (sum_same (committed (scope_at s k) (count_in h k)) (committed (scope_at s k) (holding b (k + 1))) (tenants_in s) (λ g c. ap (λ (x : ℕ). max x (reserve_at (scope_at s k) g)) (counts k g (omega arith)))))
 
 and_pick : (a b : Bool) → (a && b) ≡ pick a b false
 unfolding pick
@@ -471,7 +448,7 @@ settings_are s n m c en em ec p q u r v =
     (v ∙ ap₂ (λ (x y : ℕ). all_by range_zero (drop x s.tenants) && (all_by scope_zero (drop y s.scopes) && c.tails)) en em
     ∙ ap (λ (x : ScopeRules). all_by range_zero (drop (tenants_in s) s.tenants) && (all_by scope_zero (drop (scopes_in s) s.scopes) && x.tails)) e)
 
-holding_same : {p p' q q' u u' r r' : Bool} → p ≡ p' → q ≡ q' → u ≡ u' → r ≡ r'
+pub holding_same : {p p' q q' u u' r r' : Bool} → p ≡ p' → q ≡ q' → u ≡ u' → r ≡ r'
     → ◌≡◌ {A = HoldingRules} (record { tenants = p; owners = q; holdings = u; commitments = r }) (record { tenants = p'; owners = q'; holdings = u'; commitments = r' })
 holding_same a b c d = cc
 
@@ -487,14 +464,9 @@ drop_map g zero l = refl
 drop_map g (suc n) [] = refl
 drop_map g (suc n) (x ∷ l) = drop_map g n l
 
-known_are : (s : State) (b : LeaseTable) → all_by none_h (drop (tenants_in s) (holdings_of b).tenants) ≡ tenants_b s b
+pub known_are : (s : State) (b : LeaseTable) → all_by none_h (drop (tenants_in s) (holdings_of b).tenants) ≡ tenants_b s b
 unfolding holdings_of tenants_b none_h held_sets none_b
 known_are s b = ap (all_by none_h) (drop_map held_sets (tenants_in s) b.tenants) ∙ all_map none_h held_sets (drop (tenants_in s) b.tenants)
-
-holdings_in : (s : State) (b : LeaseTable) → holding_rules_in s (holdings_of b) ≡ holding_rules_of s b
-unfolding holding_rules_in holding_rules_of
-holdings_in s b =
-    holding_same (known_are s b) (owners_are b (holdings_of b) refl refl) (limits_are s b (holdings_of b) refl refl refl refl) (commitments_are s b (holdings_of b) refl refl refl refl)
 
 pub table_is : (s : State) (b : LeaseTable) (all : TenantRules) (h : HeldTable) → all ≡ tenants_all s b → h.tenants ≡ map held_sets b.tenants
     → ◌≡◌ {A = TableRules} (record { rules = all; held = h }) (table_rules_of s b)
@@ -522,16 +494,9 @@ pub joined_is : (a : SettingsRules) (b : TenantRules) (c : HoldingRules) {limit 
 unfolding joined_rules
 joined_is a b c p q r = cc
 
-joined_all : (s : State) (t : LeaseTable) → joined_rules (settings_rules_of s) (tenants_all s t) (holding_rules_of s t) ≡ rules_of s t
+pub joined_all : (s : State) (t : LeaseTable) → joined_rules (settings_rules_of s) (tenants_all s t) (holding_rules_of s t) ≡ rules_of s t
 unfolding joined_rules rules_by settings_rules_of tenants_all holding_rules_of rule1 rule2 rule7 rule8 rule10 rule13 rule19_by
 joined_all s t = refl
-
-pub rules_are : (s : State) (t : LeaseTable) (a : SettingsRules) (b : TableRules) (c : HoldingRules) {r : Rules}
-    → a ≡ settings_rules_of s → b ≡ table_rules_of s t → c ≡ holding_rules_in s b.held → r ≡ joined_rules a b.rules c → r ≡ rules_of s t
-unfolding table_rules_of
-rules_are s t a b c ea eb ec e =
-    let h : c ≡ holding_rules_of s t = ec ∙ ap (λ (x : TableRules). holding_rules_in s x.held) eb ∙ holdings_in s t in
-    e ∙ ap (λ (x : SettingsRules). joined_rules x b.rules c) ea ∙ ap₂ (λ (x : TableRules) (y : HoldingRules). joined_rules (settings_rules_of s) x.rules y) eb h ∙ joined_all s t
 
 -- the first broken rule, from the first that a file can break and the layout
 module _ (r : Rules) {n : ℕ} (e : n ≡ first_rule r) where

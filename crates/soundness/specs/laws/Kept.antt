@@ -20,7 +20,7 @@ use Rattle.state.specs.declared.State.{State}
 use Rattle.state.specs.Book.{Book, Order, leases_of, ordered, other, remove_of, live, live_of, with_clock, raised, dropped, advanced, held_of, held_count, in_scope, scope_at, held_at, committed, hold_time, is_hold, until}
 use Rattle.state.specs.laws.Sets.{addresses_append, addresses_reordered}
 use Rattle.soundness.specs.Sound.{tenants_in, id_b, offsets_b, scope_known, kind_b, period_b, lease_b, padded_b, disjoint, apart_in, apart, counts_b, rule3, rule4, rule5, rule6, settings_b, sound_b, sound_by, hold_b, lapse_b}
-use Rattle.soundness.specs.laws.Book.{settings_ok, lease_ok, pair_ok, few_leases, no_leases_b, Sound, by_lists, lists_by, rises_by}
+use Rattle.soundness.specs.laws.Book.{settings_ok, lease_ok, pair_ok, few_leases, no_leases_b, Sound, rises_by}
 use Rattle.soundness.specs.laws.Added.{pair_turn}
 
 -- ---- fewer addresses
@@ -200,17 +200,6 @@ live_rises o c (l ∷ ls) h =
 
 pub sound_advanced : (s : State) (c : ℕ) (ls : List (List Lease)) → s.clock ≤ c → Sound s ls → Sound (with_clock s c) (map (live_of c) ls)
 sound_advanced s c ls n v = sound_shrunk s c ls (map (live_of c) ls) v (live_shrunk c ls) (live_each s c ls n v.each)
-
--- so `advance` keeps a book sound
-pub advanced_by : (o : Order) (b : Book) (time : ℕ) → sound_by o b.state b.table ≡ true → sound_by o (advanced b time).state (advanced b time).table ≡ true
-unfolding advanced raised dropped
-advanced_by o b time e =
-    let c : ℕ = max b.state.clock time in
-    by_lists o (with_clock b.state c) (map (live_of c) (leases_of b.table)) (sound_advanced b.state c (leases_of b.table) (omega arith) (lists_by o b.state b.table e))
-    (live_rises o c (leases_of b.table) (rises_by o b.state b.table e))
-
-pub advanced_sound : (b : Book) (time : ℕ) → sound_b b.state b.table ≡ true → sound_b (advanced b time).state (advanced b time).table ≡ true
-advanced_sound b time e = advanced_by ordered b time e
 
 -- ---- one tenant's leases are fewer
 pub all_part : (l : List Lease) → Part l l

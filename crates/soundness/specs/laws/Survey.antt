@@ -26,7 +26,7 @@ use Rattle.soundness.specs.declared.SettingsRules.{SettingsRules}
 use Rattle.soundness.specs.declared.HoldingRules.{HoldingRules}
 use Rattle.soundness.specs.Sound.{rules_of, first_broken, sound_b, broken_by, sound_by}
 use Rattle.soundness.specs.Parts.{no_held, no_rules, no_sets, first_end_in, pool_in, pools_of, rules_from, held_sets, holdings_of, holding_rules_in, tenants_all, tenant_rules_of, both_tenants, table_rules_of, settings_rules_of, joined_rules, no_tenants, added_tenant, checked_of, sound_from}
-use Rattle.soundness.specs.laws.Code.{and_tenants, tenants_are, tenant_and, table_is, rules_are}
+use Rattle.soundness.specs.laws.Code.{and_tenants, tenants_are, tenant_and, table_is}
 
 in_range : {A : Type 0} (l : List A) (i : ℕ) (d e : A) → i < length l → get_or l i d ≡ get_or l i e
 in_range [] i d e h = absurd (omega arith)
@@ -63,11 +63,6 @@ module _ {s : State} {b : LeaseTable} {c : TableRules} {i : ℕ} (v : SurveyInv 
   survey_end h = table_is s b c.rules c.held (fold_end v.folded h) (each_end v.built h)
 
 pub ruleset surveys = (survey_start, survey_next, survey_end)
-
--- ---- whether a book is sound, from what the loop gathered
-pub sound_from_law : (s : State) (t : LeaseTable) (c : TableRules) → c ≡ table_rules_of s t → sound_from s c ≡ sound_b s t
-unfolding sound_from sound_by broken_by rules_from
-sound_from_law s t c e = ap (λ (x : Rules). eqb (first_broken x) 0) (rules_are s t (settings_rules_of s) c (holding_rules_in s c.held) refl e refl refl)
 
 -- what the loop gathered of what tenants hold
 pub held_from_law : (s : State) (t : LeaseTable) (c : TableRules) → c ≡ table_rules_of s t → c.held ≡ holdings_of t
@@ -111,10 +106,6 @@ tenant_added s c i t y e er = cc (er ∙ ap (λ (x : Checked). both_tenants c.ru
 pub rules_joined : (s : State) (c : TableRules) (a : SettingsRules) (x : HoldingRules) {r : Rules} → a ≡ settings_rules_of s → x ≡ holding_rules_in s c.held → r ≡ joined_rules a c.rules x → r ≡ rules_from s c
 unfolding rules_from
 rules_joined s c a x ea ex e = e ∙ ap₂ (λ (y : SettingsRules) (z : HoldingRules). joined_rules y c.rules z) ea ex
-
-pub rules_gathered : (s : State) (t : LeaseTable) (c : TableRules) {r : Rules} → c ≡ table_rules_of s t → r ≡ rules_from s c → r ≡ rules_of s t
-unfolding rules_from
-rules_gathered s t c e p = rules_are s t (settings_rules_of s) c (holding_rules_in s c.held) refl e refl p
 
 pub sound_with : (s : State) (c : TableRules) (r : Rules) {x : ℕ} → r ≡ rules_from s c → x ≡ first_broken r → eqb x 0 ≡ sound_from s c
 unfolding sound_from

@@ -15,7 +15,8 @@ use Rattle.state.specs.Book.{differ, held_count, held_of, leases_of, limit_at, s
 use Rattle.agreement.specs.laws.Tenants.{at_tenant}
 use Rattle.soundness.specs.Sound.{compatible, one_to, scopes_in, sound_b, tenants_in}
 use Rattle.soundness.specs.laws.Added.{pairs_at}
-use Rattle.soundness.specs.laws.Book.{pair_ok, sound_lists}
+use Rattle.soundness.specs.laws.Book.{pair_ok}
+use Rattle.soundness.proofs.Lists.{sound_lists}
 use Rattle.state_file.specs.declared.Loaded.{Loaded}
 use Rattle.usage.specs.Usage.{clock_of, covered_in, follows, last_clock, most_files, number_of, records_in, refusal, refusal_from, refusal_in, refusal_of, same_settings, settings_of, time_of, total_of}
 use Rattle.usage.specs.laws.Covered.{covered_most}

@@ -1,5 +1,5 @@
 -- `reply_for` meets its contract: a law for each number.
-use Rattle.verdict_octets.specs.laws.Octets.{replies}
+use Rattle.verdict_octets.proofs.Octets.{replies}
 use borrow.Author.Rules.{rules}
 use Rattle.verdict_octets.proofs.reply_for.Goals as goal
 

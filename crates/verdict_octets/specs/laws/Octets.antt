@@ -114,12 +114,6 @@ module _ {n : ℕ} where
   unfolding reply_for pick
   reply_nak e = sym (ap reply_for e)
 
-  pub reply_none : (n ≡ 1 → ⊥) → (n ≡ 2 → ⊥) → (n ≡ 3 → ⊥) → (n ≡ 4 → ⊥) → (n ≡ 5 → ⊥) → Nothing ≡ reply_for n
-  unfolding reply_for
-  reply_none a b c d e = pick_not_eq _ _ _ n 1 a (pick_not_eq _ _ _ n 2 b (pick_not_eq _ _ _ n 3 c (pick_not_eq _ _ _ n 4 d (pick_not_eq _ _ _ n 5 e refl))))
-
-pub ruleset replies = (reply_offer, reply_lease, reply_release, reply_info, reply_nak, reply_none)
-
 module _ (s : List ℕ) where
   pub set_is : {x y a b : ℕ} → x ≡ at32 s 19 → y ≡ at32 s 23 → a ≡ x → b ≡ y → a * 4294967296 + b ≡ set_at s 19
   unfolding set_at

@@ -1,6 +1,6 @@
 -- Definitions: document 01's "fewest ranges, rising" as a claim about a list of ranges: it names just the offsets of the set, its ranges
 -- rise and do not touch, and no list of ranges that names the same offsets is shorter.
-use Rattle.std.specs.Prelude.{◌≡◌, Bool, true, List, ℕ, ◌+◌, ◌≤◌, ◌<◌, ltb, length}
+use Rattle.std.specs.Prelude.{◌≡◌, Bool, true, List, ℕ, ◌+◌, ◌≤◌, ltb, length}
 use Rattle.lists.specs.Filter.{is_in}
 use Rattle.lists.specs.Next.{next_by}
 use Rattle.address_set.specs.declared.Range.{Range}

@@ -1,5 +1,5 @@
 -- Definitions: what is asked of the book that a call, a list of calls or the writer starts from, and what each function promises of its answer and of what was lent to it.
-use Rattle.std.specs.Prelude.{ℕ, ◌≡◌, List, [], ◌++◌, drop, length}
+use Rattle.std.specs.Prelude.{ℕ, ◌≡◌, List, ◌++◌, drop, length}
 use Rattle.octets.specs.Octets.{put}
 use Rattle.owned.specs.declared.Owned.{Owned}
 use Rattle.owned.specs.declared.OwnedCall.{OwnedCall}

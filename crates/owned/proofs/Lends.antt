@@ -12,7 +12,7 @@
 -- Assumes `Logic`.
 use types.Logic.{Logic}
 use denote.Ref.{MutBor}
-use Rattle.lent_steps.proofs.Walk.{Ty, ◌≡◌, refl, sym, ◌∙◌, subst, ℕ, arith, List, [], ◌∷◌, map, length, length_map, Ura, full_share, erased, ty_array, Val, WT, has_ty, vptr, Lft, GName, Fml, feq, fsep, fat, flft, fres, flent, Item, Goal, Soaks, Seq, Step, step, ‵, ◌⊛◌, some, later, ◌$◌, move, drop, use1, use3, split, pick, rewrite, fsplit, fjoin, fpick, fpack, feq_i, await, cells, Arr, arr_parts, lft_new, lft_end, lent_back, RattleType, Is, shows, cell_at, part_at, shares, part_of, Array, Array-Makes, Array-apart, Array-whole, row, whole_in, whole_out, lends_ref, ref_back, lends_slice, slice_back, lends_shr_slice, RefT, MutRef, ShrRef, slice_val, MutSlice, ShrSlice, Room, finally, owned, facts, field, shape, spelt, Struct-Makes}
+use Rattle.lent_steps.proofs.Walk.{Ty, ◌≡◌, refl, sym, ◌∙◌, subst, ℕ, arith, List, [], ◌∷◌, map, length, length_map, Ura, full_share, erased, ty_array, Val, WT, has_ty, vptr, Lft, GName, Fml, feq, fsep, fat, flft, fres, flent, Item, Goal, Soaks, Seq, Step, step, ‵, ◌⊛◌, some, later, ◌$◌, move, drop, use1, use3, split, pick, rewrite, fsplit, fjoin, fpick, fpack, feq_i, await, cells, Arr, arr_parts, lft_new, lft_end, lent_back, RattleType, Is, shows, cell_at, part_at, shares, part_of, Array, Array-Makes, Array-apart, Array-whole, row, whole_in, whole_out, lends_ref, ref_back, lends_slice, slice_back, lends_shr_slice, MutRef, ShrRef, slice_val, MutSlice, ShrSlice, Room, finally, owned, facts, field, shape, spelt, Struct-Makes}
 use lib.Dec.{T as Holds}
 use mir.Syntax.{Sym, ty_struct, tcons, tnil}
 use mir.Val.{vstruct, vcons, vnil}

@@ -4,7 +4,7 @@ use Rattle.std.proofs.Common.{sym, ◌∙◌}
 use Rattle.std.proofs.Math.Path.{ap}
 use Rattle.lists.specs.laws.Both.{and_both, and_parts}
 use Rattle.state.specs.declared.LeaseTable.{LeaseTable}
-use Rattle.state.specs.Book.{Book, advanced, dropped, leases_of, raised}
+use Rattle.state.specs.Book.{Book, advanced, leases_of}
 use Rattle.state.specs.Board.{board_of}
 use Rattle.soundness.specs.Sound.{sound_b}
 use Rattle.soundness.proofs.Lists.{sound_lists, advanced_sound}

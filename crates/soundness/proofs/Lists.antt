@@ -1,6 +1,6 @@
 -- Laws: a book's holdings by what the loop gathered, and that a sound book has sound lists and sound lists a sound book.
-use Prim.Native.Nat.{ℕ, ◌+◌, ◌-◌, ◌<◌, max}
-use Rattle.std.specs.Prelude.{Bool, List, map, length, ◌≡◌, true, eqb, set, refl, leb}
+use Prim.Native.Nat.{ℕ, ◌+◌, ◌<◌, max}
+use Rattle.std.specs.Prelude.{Bool, List, map, length, ◌≡◌, true, eqb, refl, leb}
 use Rattle.std.proofs.Common.{◌∙◌, ap₂, arith, ap, le-leb, leb-true}
 use Rattle.lists.specs.All.{all_by, pairs_by, all_to}
 use Rattle.address_set.specs.AddressSet.{offsets}

@@ -2,7 +2,7 @@
 -- W-205), so that each rule on leases is one on records. Rule 13 is W-205's on holds, 19 the layout of "How it is to be built"; 14 to 18 are Rules.antt of
 -- `releases`, whose `book_b` is the whole, and 20 is Agrees.antt of `agreement`.
 -- A house is a tenant here, its share a reserve; tenants count from 0, scopes from 1.
-use Rattle.std.specs.Prelude.{ℕ, ◌+◌, ◌-◌, min, Bool, true, ◌&&◌, ◌||◌, List, [], ltb, leb, eqb, drop, length, get_or}
+use Rattle.std.specs.Prelude.{ℕ, ◌+◌, ◌-◌, min, Bool, true, ◌&&◌, ◌||◌, List, ltb, leb, eqb, drop}
 use Rattle.std.specs.Int.Bits.{bit_and}
 use Rattle.lists.specs.Pick.{pick}
 use Rattle.lists.specs.All.{all_by, pairs_by, all_to}

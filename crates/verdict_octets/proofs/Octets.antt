@@ -1,5 +1,5 @@
 -- Laws: the reply that an octet stands for.
-use Rattle.std.specs.Prelude.{◌≡◌, refl, ◌-◌, ℕ}
+use Rattle.std.specs.Prelude.{◌≡◌, refl, ℕ}
 use Rattle.lists.specs.laws.Pick.{pick_not_eq}
 use Rattle.decision.specs.declared.Reply.TheVariants.{Nothing}
 use Rattle.verdict_octets.specs.Octets.{reply_for}

@@ -1,5 +1,4 @@
 -- `from_offsets` meets its contract: a fold over the octets.
-use Prim.Native.Nat.{◌-◌}
 use Rattle.address_set.specs.laws.Offsets.{read_is}
 use Rattle.lists.specs.laws.Fold.{folds}
 use borrow.Author.Rules.{rules}

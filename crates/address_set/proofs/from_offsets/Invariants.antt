@@ -1,7 +1,7 @@
 use Prim.Native.Nat.{◌-◌}
 use Rattle.address_set.specs.AddressSet.{read_offsets, with_offset}
 use Rattle.lists.specs.laws.Fold.{FoldInv}
-use lib.ListN.{length, set}
+use lib.ListN.{length}
 use Rattle.address_set.proofs.from_offsets.Given as goal
 
 abbrev pub invariant-loop-i : goal.invariant-loop-i

@@ -1,5 +1,4 @@
 -- `lowest` meets its contract: what was taken and what is left to take make the answer.
-use Prim.Native.Nat.{◌-◌}
 use Rattle.address_set.specs.AddressSet.{bit}
 use Rattle.address_set.specs.laws.Bits.{lows, low_of_zero, low_to_zero}
 use borrow.Author.Rules.{rules}

@@ -1,6 +1,5 @@
 use Prim.Native.Nat.{◌-◌}
 use Rattle.address_set.specs.laws.Bits.{LowInv}
-use lib.ListN.{set}
 use Rattle.address_set.proofs.lowest.Given as goal
 
 abbrev pub invariant-loop-at : goal.invariant-loop-at

@@ -1,5 +1,4 @@
 -- `scope_place` meets its contract: the first place.
-use Prim.Native.Nat.{◌-◌}
 use Rattle.admission.specs.Tests.{scope_place}
 use Rattle.lists.specs.laws.Place.{places}
 use borrow.Author.Rules.{rules}

@@ -1,5 +1,4 @@
 -- `add_tenant` meets its contract: a fold over the records in use.
-use Prim.Native.Nat.{◌-◌}
 use Rattle.lists.specs.laws.Part.{parts}
 use Rattle.occupancy.specs.laws.Loop.{alterations, placed_tenant}
 use Rattle.state.specs.Book.{board_with}

@@ -1,5 +1,4 @@
 -- `build` meets its contract: a loop over the tenants.
-use Prim.Native.Nat.{◌-◌}
 use Rattle.agreement.specs.laws.Code.{builds}
 use borrow.Author.Rules.{rules}
 use Rattle.agreement.proofs.build.Goals as goal

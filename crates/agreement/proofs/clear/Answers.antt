@@ -1,5 +1,4 @@
 -- `clear` meets its contract: a fold over the first records in use.
-use Prim.Native.Nat.{◌-◌}
 use Rattle.agreement.specs.laws.Code.{clear_start}
 use Rattle.lists.specs.laws.Part.{parts}
 use borrow.Author.Rules.{rules}

@@ -1,5 +1,4 @@
 -- `others` meets its contract: a sum of small numbers.
-use Prim.Native.Nat.{◌-◌}
 use Rattle.allocation.specs.laws.Loops.{other_committed_read}
 use Rattle.lists.specs.laws.Sums.{sums}
 use borrow.Author.Rules.{rules}

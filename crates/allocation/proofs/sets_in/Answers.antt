@@ -1,5 +1,4 @@
 -- `sets_in` meets its contract: an array written, a set a turn.
-use Prim.Native.Nat.{◌-◌}
 use Rattle.allocation.specs.Loops.{sets_in}
 use Rattle.lists.specs.laws.Each.{eachs}
 use borrow.Author.Rules.{rules}

@@ -1,5 +1,4 @@
 -- `taken` meets its contract: a fold that joins sets.
-use Prim.Native.Nat.{◌-◌}
 use Rattle.allocation.specs.laws.Loops.{union_is}
 use Rattle.lists.specs.laws.Fold.{folds}
 use Rattle.lists.specs.laws.Part.{unmapped}

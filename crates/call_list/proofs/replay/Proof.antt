@@ -28,14 +28,14 @@ add_to : tie.Need-overflow-add-to invariant-loop decreases-loop
 add_to c =
     let test = c.before.before.before.before.before.before.before in
     let turn = test.before.before.before in
-    omega (arith, answer_room_law _ turn.loop.invariant.0 test.before.stop-number.ensures test.if1.false, turn.loop.invariant.0.long, turn.before.before.before.before.well-formed.1.1.1.0.0)
+    omega (arith, answer_room_law _ turn.loop.invariant.0 test.before.stop-number.ensures test.if1.false, turn.loop.invariant.0.long, turn.before.before.before.before.well_formed.1.1.1.0.0)
 
 add_to_2 : tie.Need-overflow-add-to-2 invariant-loop decreases-loop
 add_to_2 c =
     let call = c.before.before.before.before.before.before in
     let test = call.before.before in
     let turn = test.before.before.before in
-    omega (arith, answer_inside _ turn.loop.invariant.0 test.before.stop-number.ensures test.if1.false call.answer-record.ensures (search rules), turn.before.before.before.before.well-formed.1.1.1.0.0)
+    omega (arith, answer_inside _ turn.loop.invariant.0 test.before.stop-number.ensures test.if1.false call.answer-record.ensures (search rules), turn.before.before.before.before.well_formed.1.1.1.0.0)
 
 pub replay-spec : {M : Type 1} → statement M
 replay-spec =

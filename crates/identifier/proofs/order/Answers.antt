@@ -1,5 +1,4 @@
 -- `order` meets its contract: by the first eight octets where both have them, else the order of what is left is the answer.
-use Prim.Native.Nat.{◌-◌}
 use Rattle.identifier.specs.laws.Order.{order_start, orders}
 use Rattle.identifier.specs.laws.Word.{word_less, word_more}
 use borrow.Author.Rules.{rules}

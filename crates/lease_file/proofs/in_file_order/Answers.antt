@@ -1,5 +1,4 @@
 -- `in_file_order` meets its contract: each tenant's records arranged.
-use Prim.Native.Nat.{◌-◌}
 use Rattle.lease_file.specs.laws.Load.{filed_order}
 use Rattle.lists.specs.laws.Each.{eachs}
 use borrow.Author.Rules.{rules}

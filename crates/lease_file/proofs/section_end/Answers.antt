@@ -1,5 +1,4 @@
 -- `section_end` meets its contract: its loop keeps `EntriesInv`; by `entry_walk`.
-use Prim.Native.Nat.{◌-◌}
 use Rattle.lease_file.specs.laws.Form.{entry_walk, lease_in_law}
 use borrow.Author.Rules.{rules}
 use Rattle.lease_file.proofs.section_end.Goals as goal

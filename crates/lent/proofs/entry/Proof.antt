@@ -2,7 +2,7 @@
 -- meets its contract. Nothing is kept of the `&`.
 use types.Logic.{Logic, sem}
 use denote.Ref.{Bor, shr_vals}
-use Rattle.lent_steps.proofs.Walk.{stands, ◌≡◌, refl, ℕ, ◌<◌, ◌^◌, [], ◌∷◌, List, Ura, named, w64, Val, vint, vptr, SProp, ent, emp, via, fst∗, snd∗, ex_e, id⊢, Lft, Share, GName, ftrue, flft, Memory, Routine, Calls, Loops, WpFn, sem, Fun, fact, tables, tables_of, ‵, raw, ◌⊛◌, some, later, ⋆, ◌$◌, ◌∵◌, !, qed, by, move, keep, drop, use0, use1, split, join, pick, fsplit, fjoin, suffices, frame, await, done, look, init, forget, stop, hop, fld, from, load, of_opd, and_then, no_more, assigns, land, returns, enter, alloc1, alloc0, params1, pass1, pass0, free1, free0, whole, sub, look_in, FmC, owns, Is, shows, uint_Makes, uint_vals, uint_Tells, usize, RefT, ShrRef, ptr-vals, shr_Tells, owned, peeks, heard, nothing, plain, shr_ref_to, Contract, Triple, calls_at, on_entry, triple_of, cited, says, Stays, stay_dropped, walk_of, AllGo, Goes-dropped, Walks, ends_at, walked, ensured, lasts, yes}
+use Rattle.lent_steps.proofs.Walk.{stands, ◌≡◌, refl, ℕ, ◌<◌, ◌^◌, [], ◌∷◌, List, Ura, named, w64, Val, vint, vptr, SProp, ent, emp, via, fst∗, snd∗, ex_e, id⊢, Lft, Share, GName, ftrue, flft, Memory, Routine, Calls, Loops, WpFn, sem, Fun, fact, tables, tables_of, ‵, raw, ◌⊛◌, some, later, ⋆, ◌$◌, ◌∵◌, !, qed, by, move, keep, drop, use0, use1, split, join, pick, fsplit, fjoin, suffices, frame, await, done, look, init, forget, stop, hop, fld, from, load, of_opd, and_then, no_more, assigns, land, returns, enter, alloc1, alloc0, params1, pass1, pass0, free1, free0, whole, sub, look_in, FmC, owns, Is, shows, uint_Makes, uint_vals, uint_Tells, usize, ShrRef, shr_Tells, owned, peeks, heard, nothing, plain, shr_ref_to, Contract, Triple, calls_at, on_entry, triple_of, cited, says, Stays, stay_dropped, walk_of, AllGo, Goes-dropped, Walks, ends_at, walked, ensured, lasts, yes}
 use denote.Struct.Laws as LL
 use Rattle.state.specs.declared.Ledger.{Ledger}
 use Rattle.occupancy.specs.declared.Board.{Board}

@@ -3,7 +3,7 @@
 use types.Logic.{Logic, sem}
 use denote.Slice.{shr_slice_vals}
 use denote.Ref.{Bor}
-use Rattle.lent_steps.proofs.Walk.{stands, ◌≡◌, refl, ℕ, ◌<◌, ◌^◌, [], ◌∷◌, List, length, take, Ura, named, w8, w64, Val, vint, SProp, ent, emp, via, fst∗, snd∗, ex_e, id⊢, Lft, Share, GName, ftrue, flft, Memory, Routine, Calls, Loops, WpFn, sem, Fun, fact, tables, tables_of, ‵, raw, ◌⊛◌, some, later, ⋆, ◌$◌, ◌∵◌, !, qed, by, move, keep, drop, use0, use1, split, join, pick, fsplit, fjoin, suffices, frame, await, done, look, init, forget, stop, fld, from, load, of_opd, and_then, no_more, assigns, land, returns, enter, alloc1, alloc0, params1, pass1, pass0, free1, free0, whole, sub, look_in, FmC, owns, Is, shows, Array, array_vals, Array-Tells, Array-Makes, Array-Lawful, uint_Makes, uint_vals, uint_Tells, uint_Lawful, u8, usize, ArrayOf, RefT, slice-vals, shr_slice_Tells, ShrSlice, Room, owned, peeks, heard, nothing, plain, Contract, Triple, calls_at, on_entry, triple_of, cited, says, Stays, stay_dropped, stay_none_slice, walk_of, AllGo, Goes-dropped, Goes-none_slice, Walks, ends_at, walked, ensured, lasts, yes}
+use Rattle.lent_steps.proofs.Walk.{stands, ◌≡◌, refl, ℕ, ◌<◌, ◌^◌, [], ◌∷◌, List, length, take, Ura, named, w8, w64, Val, vint, SProp, ent, emp, via, fst∗, snd∗, ex_e, id⊢, Lft, Share, GName, ftrue, flft, Memory, Routine, Calls, Loops, WpFn, sem, Fun, fact, tables, tables_of, ‵, raw, ◌⊛◌, some, later, ⋆, ◌$◌, ◌∵◌, !, qed, by, move, keep, drop, use0, use1, split, join, pick, fsplit, fjoin, suffices, frame, await, done, look, init, forget, stop, fld, from, load, of_opd, and_then, no_more, assigns, land, returns, enter, alloc1, alloc0, params1, pass1, pass0, free1, free0, whole, sub, look_in, FmC, owns, Is, shows, Array, array_vals, Array-Tells, Array-Makes, Array-Lawful, uint_Makes, uint_vals, uint_Tells, uint_Lawful, u8, usize, ArrayOf, shr_slice_Tells, ShrSlice, Room, owned, peeks, heard, nothing, plain, Contract, Triple, calls_at, on_entry, triple_of, cited, says, Stays, stay_dropped, stay_none_slice, walk_of, AllGo, Goes-dropped, Goes-none_slice, Walks, ends_at, walked, ensured, lasts, yes}
 use denote.Struct.Laws as LL
 use Rattle.state.specs.declared.Lease.{Lease}
 use Rattle.state.specs.declared.Lookup.{Lookup}

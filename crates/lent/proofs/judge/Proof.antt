@@ -5,7 +5,7 @@
 use types.Logic.{Logic, sem}
 use denote.Slice.{shr_slice_vals}
 use denote.Ref.{Bor, MutBor, shr_vals}
-use Rattle.lent_steps.proofs.Walk.{stands, ty_of, after, holds, bare, Idle, spot, idle, ends1, ends4, Go, Seq, Ty, runs, lands, at_ret, ◌≡◌, refl, ap, ℕ, ◌<◌, ◌^◌, [], ◌∷◌, List, length, Ura, full_share, named, w32, w64, Val, vint, vptr, SProp, ent, emp, via, fst∗, snd∗, ex_e, id⊢, Lft, Share, GName, ftrue, flft, fres, fat, Memory, Routine, Calls, Loops, WpFn, sem, Fun, fact, tables, tables_of, ‵, raw, ◌⊛◌, some, later, ⋆, ◌$◌, ◌∵◌, !, qed, by, move, keep, drop, use1, group, split, join, pick, rewrite, fsplit, fjoin, suffices, frame, await, done, look, look_raw, init, store, stop, hop, fld, from, load, of_opd, addr, and_then, no_more, assigns, land, returns, enter, alloc1, alloc0, params1, pass1, pass0, free0, whole, sub, look_in, agg, FmC, owns, Is, shows, uint_Makes, uint_vals, uint_Tells, Nothing-Lawful, usize, u8, u32, RefT, MutRef, ptr-vals, mut_Tells, slice-vals, shr_slice_Tells, mut_slice_Tells, MutSlice, ShrSlice, Room, only, owned, peeks, heard, nothing, plain, shr_slice_of, Contract, Triple, calls_at, on_entry, triple_of, cited, says, Stays, stay_dropped, stay_slice, gave_ref, walk_of, AllGo, Goes-dropped, Goes-slice, Goes-gave_ref, Walks, ends_at, walked, ensured, lasts, yes}
+use Rattle.lent_steps.proofs.Walk.{stands, ty_of, after, holds, bare, Idle, spot, idle, ends1, ends4, Go, Seq, Ty, runs, lands, at_ret, ◌≡◌, refl, ap, ℕ, ◌<◌, ◌^◌, [], ◌∷◌, List, length, Ura, full_share, named, w32, w64, Val, vint, vptr, SProp, ent, emp, via, fst∗, snd∗, ex_e, id⊢, Lft, Share, GName, ftrue, flft, fres, fat, Memory, Routine, Calls, Loops, WpFn, sem, Fun, fact, tables, tables_of, ‵, raw, ◌⊛◌, some, later, ⋆, ◌$◌, ◌∵◌, !, qed, by, move, keep, drop, use1, group, split, join, pick, rewrite, fsplit, fjoin, suffices, frame, await, done, look, look_raw, init, store, stop, hop, fld, from, load, of_opd, addr, and_then, no_more, assigns, land, returns, enter, alloc1, alloc0, params1, pass1, pass0, free0, whole, sub, look_in, agg, FmC, owns, Is, shows, uint_Makes, uint_vals, uint_Tells, Nothing-Lawful, usize, u8, u32, MutRef, mut_Tells, shr_slice_Tells, mut_slice_Tells, MutSlice, ShrSlice, Room, only, owned, peeks, heard, nothing, plain, shr_slice_of, Contract, Triple, calls_at, on_entry, triple_of, cited, says, Stays, stay_dropped, stay_slice, gave_ref, walk_of, AllGo, Goes-dropped, Goes-slice, Goes-gave_ref, Walks, ends_at, walked, ensured, lasts, yes}
 use mir.Syntax.{Sym, place, ty_struct, tcons, tnil}
 use mir.Val.{vstruct, vcons, vnil}
 use denote.Struct.Laws as LL

@@ -4,7 +4,7 @@
 use types.Logic.{Logic, sem}
 use denote.Slice.{shr_slice_vals, mut_slice_vals}
 use denote.Ref.{Bor, MutBor, mut_vals}
-use Rattle.lent_steps.proofs.Walk.{stands, ty_of, after, holds, bare, Idle, spot, idle, Go, Seq, Item, Ty, runs, at_ret, ◌≡◌, refl, ap, ℕ, ◌<◌, ◌^◌, [], ◌∷◌, List, length, Ura, full_share, named, w8, w64, Val, vint, vptr, SProp, ent, sep, emp, via, fst∗, snd∗, ex_e, id⊢, Lft, Share, GName, ftrue, flft, fat, Memory, Routine, Calls, Loops, WpFn, sem, Fun, fact, tables, tables_of, ‵, raw, ◌⊛◌, some, later, ⋆, ◌$◌, ◌∵◌, !, qed, by, move, keep, drop, use1, use2, split, join, pick, rewrite, fsplit, fjoin, suffices, frame, await, done, look, look_raw, init, store_raw, stop, hop, fld, from, load, of_opd, addr, and_then, no_more, assigns, land, returns, enter, alloc1, alloc0, params1, pass1, pass0, ends1, ends4, free0, whole, sub, look_in, agg, FmC, owns, Is, shows, uint_Makes, Nothing-Lawful, usize, u8, RefT, MutRef, ptr-vals, mut_Tells, slice-vals, shr_slice_Tells, mut_slice_Tells, MutSlice, ShrSlice, Room, only, owned, peeks, heard, nothing, plain, shr_slice_of, Contract, Triple, calls_at, on_entry, triple_of, cited, says, Stays, stay_dropped, stay_ref, stay_slice, walk_of, AllGo, Goes-dropped, Goes-ref, Goes-slice, Walks, ends_at, walked, ensured, lasts, yes}
+use Rattle.lent_steps.proofs.Walk.{stands, ty_of, after, holds, bare, Idle, spot, idle, Go, Seq, Item, Ty, runs, at_ret, ◌≡◌, refl, ap, ℕ, ◌<◌, ◌^◌, [], ◌∷◌, List, length, Ura, full_share, named, w8, w64, Val, vint, vptr, SProp, ent, sep, emp, via, fst∗, snd∗, ex_e, id⊢, Lft, Share, GName, ftrue, flft, fat, Memory, Routine, Calls, Loops, WpFn, sem, Fun, fact, tables, tables_of, ‵, raw, ◌⊛◌, some, later, ⋆, ◌$◌, ◌∵◌, !, qed, by, move, keep, drop, use1, use2, split, join, pick, rewrite, fsplit, fjoin, suffices, frame, await, done, look, look_raw, init, store_raw, stop, hop, fld, from, load, of_opd, addr, and_then, no_more, assigns, land, returns, enter, alloc1, alloc0, params1, pass1, pass0, ends1, ends4, free0, whole, sub, look_in, agg, FmC, owns, Is, shows, uint_Makes, Nothing-Lawful, usize, u8, MutRef, mut_Tells, shr_slice_Tells, mut_slice_Tells, MutSlice, ShrSlice, Room, only, owned, peeks, heard, nothing, plain, shr_slice_of, Contract, Triple, calls_at, on_entry, triple_of, cited, says, Stays, stay_dropped, stay_ref, stay_slice, walk_of, AllGo, Goes-dropped, Goes-ref, Goes-slice, Walks, ends_at, walked, ensured, lasts, yes}
 use mir.Syntax.{Sym, ty_struct, tcons, tnil}
 use mir.Val.{vstruct, vcons, vnil}
 use denote.Struct.Laws as LL

@@ -3,7 +3,7 @@
 use types.Logic.{Logic}
 use denote.Slice.{shr_slice_vals, mut_slice_vals}
 use denote.Ref.{Bor, shr_vals}
-use Rattle.lent_steps.proofs.Walk.{stands, ends4, ◌≡◌, ℕ, [], ◌∷◌, List, length, Ura, named, Val, vptr, SProp, ent, emp, via, fst∗, id⊢, Lft, Share, GName, Fml, ftrue, flft, Memory, Routine, Calls, Loops, WpFn, Fun, fact, tables, tables_of, ‵, raw, ◌⊛◌, some, later, ⋆, ◌$◌, ◌∵◌, !, qed, by, move, keep, drop, use1, group, split, join, pick, fsplit, fjoin, feq_l, suffices, frame, await, done, look, init, stop, hop, fld, from, load, of_opd, addr, and_then, no_more, assigns, land, returns, enter, alloc1, alloc0, params1, pass1, pass0, free0, whole, sub, look_in, agg, FmC, owns, Is, shows, u8, refl, RefT, ShrRef, ptr-vals, shr_Tells, slice-vals, shr_slice_Tells, mut_slice_Tells, MutSlice, ShrSlice, Room, finally, owned, peeks, heard, nothing, plain, shr_ref_to, shr_slice_of, Contract, Triple, calls_at, on_entry, triple_of, cited, says, Stays, stay_dropped, gave_slice, walk_of, AllGo, Goes-dropped, Goes-gave_slice, Walks, ends_at, walked, ensured, lasts, yes}
+use Rattle.lent_steps.proofs.Walk.{stands, ends4, ◌≡◌, ℕ, [], ◌∷◌, List, length, Ura, named, Val, vptr, SProp, ent, emp, via, fst∗, id⊢, Lft, Share, GName, Fml, ftrue, flft, Memory, Routine, Calls, Loops, WpFn, Fun, fact, tables, tables_of, ‵, raw, ◌⊛◌, some, later, ⋆, ◌$◌, ◌∵◌, !, qed, by, move, keep, drop, use1, group, split, join, pick, fsplit, fjoin, feq_l, suffices, frame, await, done, look, init, stop, hop, fld, from, load, of_opd, addr, and_then, no_more, assigns, land, returns, enter, alloc1, alloc0, params1, pass1, pass0, free0, whole, sub, look_in, agg, FmC, owns, Is, shows, u8, refl, ShrRef, shr_Tells, shr_slice_Tells, mut_slice_Tells, MutSlice, ShrSlice, Room, finally, owned, peeks, heard, nothing, plain, shr_ref_to, shr_slice_of, Contract, Triple, calls_at, on_entry, triple_of, cited, says, Stays, stay_dropped, gave_slice, walk_of, AllGo, Goes-dropped, Goes-gave_slice, Walks, ends_at, walked, ensured, lasts, yes}
 use denote.Struct.Laws as LL
 use Rattle.state.specs.declared.Ledger.{Ledger}
 use Rattle.state.specs.declared.State.{State}

@@ -1,5 +1,4 @@
 -- `first_name` meets its contract: the names that are left, and the first wanted among them is the first of all (`FirstInv`).
-use Prim.Native.Nat.{◌-◌}
 use Rattle.names.proofs.First.{first_broken_law, first_found, first_next, first_none, first_some, first_start, named_at, named_in, named_not, named_tag}
 use borrow.Author.Rules.{rules}
 use native.Mathlib.Omega.{arith}

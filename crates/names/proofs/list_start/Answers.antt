@@ -1,5 +1,4 @@
 -- `list_start` meets its contract: the loop passes over one list a turn (`Left`).
-use Prim.Native.Nat.{◌-◌}
 use Rattle.format.specs.laws.Place.{ends_at, ends_not}
 use Rattle.names.proofs.First.{first_some}
 use Rattle.names.proofs.Lists.{left_broken, left_done, left_next, left_start}

@@ -1,5 +1,4 @@
 -- `names_end` meets its contract: what ends the rest ends the whole (`Rest`).
-use Prim.Native.Nat.{◌-◌}
 use Rattle.format.specs.laws.Place.{ends_as, ends_at, ends_not, rest_broken, rest_done, rest_next, rest_start}
 use borrow.Author.Rules.{rules}
 use Rattle.names.proofs.names_end.Goals as goal

@@ -1,5 +1,4 @@
 -- `same_octets` meets its contract: the loop compares one octet a turn (`SameInv`).
-use Prim.Native.Nat.{◌-◌}
 use Rattle.names.proofs.Ends.{sames}
 use borrow.Author.Rules.{rules}
 use Rattle.names.proofs.same_octets.Goals as goal

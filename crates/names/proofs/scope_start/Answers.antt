@@ -1,5 +1,5 @@
 -- `scope_start` meets its contract: the loop passes over one scope a turn (`Left`).
-use Prim.Native.Nat.{◌+◌, ◌-◌, ℕ}
+use Prim.Native.Nat.{◌+◌, ℕ}
 use Rattle.format.specs.laws.Place.{ends_at, ends_not}
 use Rattle.names.proofs.First.{first_some}
 use Rattle.names.proofs.Lists.{left_broken, left_next, scopes_done, scopes_start}

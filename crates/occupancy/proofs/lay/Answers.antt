@@ -1,5 +1,4 @@
 -- `lay` meets its contract: range by range, a fold over the offsets of the set.
-use Prim.Native.Nat.{◌-◌}
 use Rattle.occupancy.specs.laws.Loop.{ranged, ranges}
 use borrow.Author.Rules.{rules}
 use Rattle.occupancy.proofs.lay.Goals as goal

@@ -1,5 +1,4 @@
 -- `same` meets its contract: a loop over two arrays.
-use Prim.Native.Nat.{◌-◌}
 use Rattle.lists.specs.laws.Same.{same_next, sames}
 use Rattle.occupancy.specs.Board.{same_board}
 use borrow.Author.Rules.{rules}

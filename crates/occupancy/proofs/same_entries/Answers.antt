@@ -1,5 +1,4 @@
 -- `same_entries` meets its contract: a loop over two arrays.
-use Prim.Native.Nat.{◌-◌}
 use Rattle.lists.specs.laws.Same.{same_next, sames}
 use borrow.Author.Rules.{rules}
 use borrow.Author.Tests.{not-false}

@@ -1,5 +1,4 @@
 -- `same_held` meets its contract: a loop over two arrays.
-use Prim.Native.Nat.{◌-◌}
 use Rattle.lists.specs.laws.Same.{numbers_same}
 use borrow.Author.Rules.{rules}
 use Rattle.occupancy.proofs.same_held.Goals as goal

@@ -1,5 +1,4 @@
 -- `put` meets its contract: scope by scope.
-use Prim.Native.Nat.{◌-◌}
 use Rattle.occupancy_octets.specs.laws.Octets.{scope_rows}
 use borrow.Author.Rules.{rules}
 use Rattle.occupancy_octets.proofs.put.Goals as goal

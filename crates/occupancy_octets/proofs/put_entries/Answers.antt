@@ -1,5 +1,4 @@
 -- `put_entries` meets its contract: entry by entry.
-use Prim.Native.Nat.{◌-◌}
 use Rattle.occupancy_octets.specs.laws.Octets.{entry_rows}
 use borrow.Author.Rules.{rules}
 use Rattle.occupancy_octets.proofs.put_entries.Goals as goal

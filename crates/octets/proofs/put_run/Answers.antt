@@ -1,5 +1,4 @@
 -- `put_run` meets its contract: the loop copies one octet a turn (`CopyInv`).
-use Prim.Native.Nat.{◌-◌}
 use Rattle.lists.specs.laws.Copy.{copies, copy_long, copy_start}
 use Rattle.octets.specs.laws.Octets.{copied}
 use borrow.Author.Rules.{rules}

@@ -1,5 +1,4 @@
 -- `read_run` meets its contract: the loop fills an array one octet a turn (`PadInv`).
-use Prim.Native.Nat.{◌-◌}
 use Rattle.octets.specs.laws.Run.{runs}
 use borrow.Author.Rules.{rules}
 use Rattle.octets.proofs.read_run.Goals as goal

@@ -3,7 +3,7 @@
 use types.Logic.{Logic}
 use denote.Slice.{shr_slice_vals}
 use denote.Ref.{Bor}
-use Rattle.lent_steps.proofs.Walk.{stands, ◌≡◌, subst, fat, after, bare, Idle, spot, idle, ends1, ends4, Go, Seq, Ty, runs, at_ret, refl, ◌∙◌, ℕ, [], ◌∷◌, List, length, Ura, full_share, named, w8, Val, vint, vptr, SProp, ent, emp, via, fst∗, id⊢, Lft, Share, GName, Fml, ftrue, flft, Memory, Routine, Calls, Loops, WpFn, Fun, fact, tables, tables_of, ‵, raw, ◌⊛◌, some, later, ⋆, ◌$◌, ◌∵◌, !, qed, by, move, keep, drop, group, use1, split, join, pick, rewrite, fsplit, fjoin, feq_l, suffices, frame, await, done, look, init, stop, fld, from, load, lit, of_opd, addr, and_then, no_more, assigns, land, returns, enter, alloc1, alloc0, params1, pass1, pass0, free0, whole, sub, look_in, agg, FmC, owns, Is, shows, cell_at, uint_Lawful, u8, RefT, slice_val, slice-vals, shr_slice_Tells, ShrSlice, Room, owned, facts, heard, nothing, plain, shr_slice_of, Contract, Triple, calls_at, on_entry, triple_of, cited, says, Stays, stay_dropped, walk_of, AllGo, Goes-dropped, Walks, ends_at, walked, ensured, lasts, yes, ty_of, holds, Item, Env, Goal}
+use Rattle.lent_steps.proofs.Walk.{stands, ◌≡◌, subst, fat, after, bare, Idle, spot, idle, ends1, ends4, Go, Seq, Ty, runs, at_ret, refl, ◌∙◌, ℕ, [], ◌∷◌, List, length, Ura, full_share, named, w8, Val, vint, vptr, SProp, ent, emp, via, fst∗, id⊢, Lft, Share, GName, Fml, ftrue, flft, Memory, Routine, Calls, Loops, WpFn, Fun, fact, tables, tables_of, ‵, raw, ◌⊛◌, some, later, ⋆, ◌$◌, ◌∵◌, !, qed, by, move, keep, drop, group, use1, split, join, pick, rewrite, fsplit, fjoin, feq_l, suffices, frame, await, done, look, init, stop, fld, from, load, lit, of_opd, addr, and_then, no_more, assigns, land, returns, enter, alloc1, alloc0, params1, pass1, pass0, free0, whole, sub, look_in, agg, FmC, owns, Is, shows, cell_at, uint_Lawful, u8, slice_val, shr_slice_Tells, ShrSlice, Room, owned, facts, heard, nothing, plain, shr_slice_of, Contract, Triple, calls_at, on_entry, triple_of, cited, says, Stays, stay_dropped, walk_of, AllGo, Goes-dropped, Walks, ends_at, walked, ensured, lasts, yes, ty_of, holds, Item, Env, Goal}
 use mir.Syntax.{Sym, ty_array}
 use denote.Struct.Laws as LL
 use Rattle.state.proofs.Lease.TheLaws as L'

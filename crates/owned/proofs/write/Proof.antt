@@ -3,7 +3,7 @@
 use types.Logic.{Logic}
 use denote.Slice.{shr_slice_vals, mut_slice_vals}
 use denote.Ref.{Bor, MutBor}
-use Rattle.lent_steps.proofs.Walk.{stands, fat, rewrite, Idle, spot, idle, ends4, Go, Seq, Item, Ty, runs, at_ret, shr_slice_of, ShrSlice, shr_slice_Tells, says_both, ◌≡◌, refl, ℕ, [], ◌∷◌, List, length, Ura, full_share, named, Val, vptr, SProp, ent, emp, via, fst∗, id⊢, Lft, Share, GName, Fml, ftrue, flft, Memory, Routine, Calls, Loops, WpFn, Fun, fact, tables, tables_of, ‵, raw, ◌⊛◌, some, later, ⋆, ◌$◌, ◌∵◌, !, qed, by, move, keep, drop, group, use1, split, split3, join, pick, fsplit, fjoin, feq_l, suffices, frame, await, done, look, init, stop, hop, fld, from, load, lit, of_opd, addr, and_then, no_more, assigns, land, returns, enter, alloc1, alloc0, params1, pass1, pass0, free0, whole, sub, look_in, agg, FmC, owns, Is, shows, u8, RefT, slice_val, slice-vals, mut_slice_Tells, MutSlice, Room, finally, owned, facts, heard, nothing, plain, Contract, Triple, calls_at, on_entry, triple_of, cited, Stays, stay_dropped, gave_slice, walk_of, AllGo, Goes-dropped, Goes-gave_slice, Walks, ends_at, walked, ensured, lasts, yes, ty_of, after, holds, bare, Env, Goal}
+use Rattle.lent_steps.proofs.Walk.{stands, fat, rewrite, Idle, spot, idle, ends4, Go, Seq, Item, Ty, runs, at_ret, shr_slice_of, ShrSlice, shr_slice_Tells, says_both, ◌≡◌, refl, ℕ, [], ◌∷◌, List, length, Ura, full_share, named, Val, vptr, SProp, ent, emp, via, fst∗, id⊢, Lft, Share, GName, Fml, ftrue, flft, Memory, Routine, Calls, Loops, WpFn, Fun, fact, tables, tables_of, ‵, raw, ◌⊛◌, some, later, ⋆, ◌$◌, ◌∵◌, !, qed, by, move, keep, drop, group, use1, split, split3, join, pick, fsplit, fjoin, feq_l, suffices, frame, await, done, look, init, stop, hop, fld, from, load, lit, of_opd, addr, and_then, no_more, assigns, land, returns, enter, alloc1, alloc0, params1, pass1, pass0, free0, whole, sub, look_in, agg, FmC, owns, Is, shows, u8, slice_val, mut_slice_Tells, MutSlice, Room, finally, owned, facts, heard, nothing, plain, Contract, Triple, calls_at, on_entry, triple_of, cited, Stays, stay_dropped, gave_slice, walk_of, AllGo, Goes-dropped, Goes-gave_slice, Walks, ends_at, walked, ensured, lasts, yes, ty_of, after, holds, bare, Env, Goal}
 use mir.Syntax.{Sym, ty_array}
 use denote.Struct.Laws as LL
 use Rattle.state.proofs.Lease.TheLaws as L'

@@ -1,5 +1,4 @@
 -- `others_busy` meets its contract: a fold over the leases in use.
-use Prim.Native.Nat.{◌-◌}
 use Rattle.proposal.specs.laws.Others.{others_added}
 use Rattle.lists.specs.laws.Part.{parts}
 use borrow.Author.Rules.{rules}

@@ -11,7 +11,7 @@ returns : tie.Need-returns
 returns c =
     let at_if1 = c.before in
     let start = at_if1.before.before.before.before.before.before in
-    let size = records_size start.args.records _ start.well-formed.1.0 in
+    let size = records_size start.args.records _ start.well_formed.1.0 in
     serve_short _ start.args.ledger _ _ _ size start.requires at_if1.if1.true refl size c.discard.ensures
 
 judge-sound-requires : tie.Need-judge-sound-requires

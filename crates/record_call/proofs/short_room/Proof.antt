@@ -8,7 +8,7 @@ use Rattle.record_call.proofs.short_room.Statement.{statement}
 use Rattle.record_call.proofs.short_room.Tie as tie
 
 returns : tie.Need-returns
-returns c k room short = let at_if1 = c.before in let start = at_if1.before.before.before.before in serve_out _ start.args.ledger _ _ k at_if1.if1.true refl (records_size start.args.records _ start.well-formed.1.0) c.discard.ensures
+returns c k room short = let at_if1 = c.before in let start = at_if1.before.before.before.before in serve_out _ start.args.ledger _ _ k at_if1.if1.true refl (records_size start.args.records _ start.well_formed.1.0) c.discard.ensures
 
 returns-2 : tie.Need-returns-2
 returns-2 c k room short =
@@ -16,7 +16,7 @@ returns-2 c k room short =
     let at_survey = at_sound.before.before in
     let at_if1 = at_survey.before in
     let start = at_if1.before.before.before.before in
-    serve_short _ start.args.ledger _ _ k at_if1.if1.false (tested_sound start.args.ledger _ _ at_survey.survey.ensures at_sound.is-sound.ensures c.before.if2.true) short refl (records_size start.args.records _ start.well-formed.1.0) c.discard2.ensures
+    serve_short _ start.args.ledger _ _ k at_if1.if1.false (tested_sound start.args.ledger _ _ at_survey.survey.ensures at_sound.is-sound.ensures c.before.if2.true) short refl (records_size start.args.records _ start.well_formed.1.0) c.discard2.ensures
 
 returns-3 : tie.Need-returns-3
 returns-3 c k room short =
@@ -24,7 +24,7 @@ returns-3 c k room short =
     let at_survey = at_sound.before.before in
     let at_if1 = at_survey.before in
     let start = at_if1.before.before.before.before in
-    serve_unsound _ start.args.ledger _ _ k at_if1.if1.false at_survey.survey.ensures at_sound.is-sound.ensures c.before.if2.false refl (records_size start.args.records _ start.well-formed.1.0) c.discard3.ensures
+    serve_unsound _ start.args.ledger _ _ k at_if1.if1.false at_survey.survey.ensures at_sound.is-sound.ensures c.before.if2.false refl (records_size start.args.records _ start.well_formed.1.0) c.discard3.ensures
 
 pub short-room-spec : {M : Type 1} → statement M
 short-room-spec =

@@ -1,5 +1,4 @@
 -- `drop_ended` meets its contract: tenant by tenant, the board with them.
-use Prim.Native.Nat.{◌-◌}
 use Rattle.lists.specs.laws.Part.{unmapped}
 use Rattle.record_survey.specs.laws.Rows.{drops}
 use borrow.Author.Rules.{rules}

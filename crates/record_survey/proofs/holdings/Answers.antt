@@ -1,5 +1,4 @@
 -- `holdings` meets its contract: row by row, and within a row record by record.
-use Prim.Native.Nat.{◌-◌}
 use Rattle.lists.specs.laws.Part.{unmapped}
 use Rattle.record_survey.specs.laws.Rows.{to_holdings}
 use borrow.Author.Rules.{rules}

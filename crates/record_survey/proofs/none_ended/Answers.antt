@@ -1,5 +1,4 @@
 -- `none_ended` meets its contract: each tenant's first end.
-use Prim.Native.Nat.{◌-◌}
 use Rattle.lists.specs.laws.All.{alls}
 use Rattle.record_survey.specs.laws.Rows.{ended_start}
 use borrow.Author.Rules.{rules}

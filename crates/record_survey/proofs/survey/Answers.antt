@@ -1,5 +1,4 @@
 -- `survey` meets its contract: row by row, and within a row record by record.
-use Prim.Native.Nat.{◌-◌}
 use Rattle.records.proofs.Typed.{memory_size, records_size}
 use Rattle.record_survey.specs.laws.Rows.{built_first, built_row, built_whole, memory_row, survey_first, survey_row}
 use Rattle.records.specs.laws.Table.{row_full, row_start, to_row}
@@ -31,7 +30,7 @@ pub loop-h-init : goal.loop-h-init
 loop-h-init c = search (survey_first, memory_start, built_first, rules)
 
 pub loop-i-init : goal.loop-i-init
-loop-i-init c = (search rules, search (row_start, records_size c.args.records _ c.well-formed.1.1.0, rules))
+loop-i-init c = (search rules, search (row_start, records_size c.args.records _ c.well_formed.1.1.0, rules))
 
 pub loop-i-preserved : goal.loop-i-preserved
 loop-i-preserved c = (search rules, search (to_row, rules))
@@ -43,7 +42,7 @@ pub add_tenant-now-requires : goal.add_tenant-now-requires
 add_tenant-now-requires c = search (to_row, rules)
 
 pub bounds-memory-h : goal.bounds-memory-h
-bounds-memory-h c = search (memory_size c.args.memory _ c.well-formed.1.0, rules)
+bounds-memory-h c = search (memory_size c.args.memory _ c.well_formed.1.0, rules)
 
 pub add_tenant-all-requires : goal.add_tenant-all-requires
 add_tenant-all-requires c = search (to_row, rules)
@@ -55,7 +54,7 @@ pub loop-h-preserved : goal.loop-h-preserved
 loop-h-preserved c = let known = c.loop-h-test.true in
     let own = row_full c.loop-i.invariant.1 c.loop-i-test.false c.tenant_from-t.ensures in (
       survey_row _ c.loop-h.invariant.0 known own c.add_tenant-now.ensures,
-      memory_row _ no_releases c.loop-h.invariant.1 (memory_size c.args.memory _ c.well-formed.1.0) known own c.add_tenant-all.ensures,
+      memory_row _ no_releases c.loop-h.invariant.1 (memory_size c.args.memory _ c.well_formed.1.0) known own c.add_tenant-all.ensures,
       built_row _ c.loop-h.invariant.2 known own c.add_tenant-built.ensures,
     )
 

@@ -10,7 +10,7 @@ use Rattle.record_verdict.proofs.judge.Tie as tie
 
 -- 128 records are not what it got
 returns : tie.Need-returns
-returns c = let at_if1 = c.before in let start = at_if1.before.before.before.before.before in judge_out _ start.args.ledger _ _ _ _ _ at_if1.if1.true refl (records_size start.args.records _ start.well-formed.1.0) c.dismiss.ensures
+returns c = let at_if1 = c.before in let start = at_if1.before.before.before.before.before in judge_out _ start.args.ledger _ _ _ _ _ at_if1.if1.true refl (records_size start.args.records _ start.well_formed.1.0) c.dismiss.ensures
 
 -- test 1
 returns-2 : tie.Need-returns-2
@@ -19,7 +19,7 @@ returns-2 c =
     let at_survey = at_sound.before.before in
     let at_if1 = at_survey.before in
     let start = at_if1.before.before.before.before.before in
-    judge_dismissed _ start.args.ledger _ _ _ _ _ at_if1.if1.false at_survey.survey.ensures at_sound.is-sound.ensures (not-true _ c.before.if2.true) refl (records_size start.args.records _ start.well-formed.1.0) c.dismiss2.ensures
+    judge_dismissed _ start.args.ledger _ _ _ _ _ at_if1.if1.false at_survey.survey.ensures at_sound.is-sound.ensures (not-true _ c.before.if2.true) refl (records_size start.args.records _ start.well_formed.1.0) c.dismiss2.ensures
 
 judge-sound-requires : tie.Need-judge-sound-requires
 judge-sound-requires c κs =
@@ -34,7 +34,7 @@ returns-3 c =
     let at_survey = at_sound.before.before in
     let at_if1 = at_survey.before in
     let start = at_if1.before.before.before.before.before in
-    judge_known _ start.args.ledger _ _ _ _ _ at_if1.if1.false (records_size start.args.records _ start.well-formed.1.0)
+    judge_known _ start.args.ledger _ _ _ _ _ at_if1.if1.false (records_size start.args.records _ start.well_formed.1.0)
     (tested_sound start.args.ledger _ _ at_survey.survey.ensures at_sound.is-sound.ensures (not-false _ c.before.before.if2.false)) c.judge_sound.ensures
 
 pub judge-spec : {M : Type 1} → statement M

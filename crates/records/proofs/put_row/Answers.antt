@@ -1,5 +1,4 @@
 -- `put_row` meets its contract: record by record.
-use Prim.Native.Nat.{◌-◌}
 use Rattle.lists.specs.laws.Part.{unmapped}
 use Rattle.records.specs.laws.Rows.{puts}
 use borrow.Author.Rules.{rules}

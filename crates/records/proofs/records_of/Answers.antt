@@ -1,5 +1,4 @@
 -- `records_of` meets its contract: tenant by tenant, and within a tenant record by record.
-use Prim.Native.Nat.{◌-◌}
 use Rattle.lists.specs.laws.Part.{unmapped}
 use Rattle.records.specs.laws.Table.{to_records}
 use borrow.Author.Rules.{rules}

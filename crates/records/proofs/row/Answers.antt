@@ -1,5 +1,4 @@
 -- `row` meets its contract: record by record.
-use Prim.Native.Nat.{◌-◌}
 use Rattle.lists.specs.laws.Part.{unmapped}
 use Rattle.records.specs.laws.Table.{row_own, to_row}
 use borrow.Author.Rules.{rules}

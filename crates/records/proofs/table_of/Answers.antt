@@ -1,5 +1,4 @@
 -- `table_of` meets its contract: row by row, and within a row record by record.
-use Prim.Native.Nat.{◌-◌}
 use Rattle.lists.specs.laws.Part.{unmapped}
 use Rattle.records.specs.laws.Table.{to_table}
 use borrow.Author.Rules.{rules}

@@ -1,5 +1,4 @@
 -- `used_count` meets its contract: the place of the first unused record.
-use Prim.Native.Nat.{◌-◌}
 use Rattle.lists.specs.laws.Place.{places}
 use Rattle.records.specs.laws.Table.{used_start}
 use borrow.Author.Rules.{rules}

@@ -1,5 +1,4 @@
 -- `any_again` meets its contract: the place of the first that is so.
-use Prim.Native.Nat.{◌-◌}
 use Rattle.lists.specs.laws.Place.{places}
 use Rattle.releases.specs.Again.{any_again}
 use Rattle.releases.specs.laws.Code.{any_no, any_yes}

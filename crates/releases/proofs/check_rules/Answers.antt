@@ -1,5 +1,4 @@
 -- `check_rules` meets its contract: the rules of each tenant, gathered.
-use Prim.Native.Nat.{◌-◌}
 use Rattle.releases.specs.laws.Tenants.{memories, own_rules}
 use borrow.Author.Rules.{rules}
 use Rattle.releases.proofs.check_rules.Goals as goal

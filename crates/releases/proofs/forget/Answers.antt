@@ -1,5 +1,4 @@
 -- `forget` meets its contract: a filter over what is remembered.
-use Prim.Native.Nat.{◌-◌}
 use Rattle.lists.specs.laws.Part.{parts}
 use Rattle.releases.specs.laws.Code.{forgotten_is, turns}
 use Rattle.state.specs.Edit.{forget_of}

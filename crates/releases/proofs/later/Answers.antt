@@ -1,5 +1,4 @@
 -- `later` meets its contract: those from a place on, written one behind the other.
-use Prim.Native.Nat.{◌-◌}
 use Rattle.lists.specs.laws.Part.{parts}
 use Rattle.releases.specs.laws.Code.{later_start, pushes}
 use borrow.Author.Rules.{rules}

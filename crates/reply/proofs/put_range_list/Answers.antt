@@ -1,7 +1,6 @@
 -- `put_range_list` meets its contract: the loop writes one range a turn (`RangesInv`).
 use Rattle.reply.proofs.Writes.{range_short, ranges_end, ranges_fall, ranges_room, ranges_start, ranges_turn}
 use borrow.Author.Rules.{rules}
-use lib.ListN.{set}
 use native.Mathlib.Omega.{arith}
 use Rattle.reply.proofs.put_range_list.Goals as goal
 

@@ -1,5 +1,4 @@
 use Rattle.reply.proofs.Writes.{RangesInv}
-use lib.ListN.{set}
 use Rattle.reply.proofs.put_range_list.Given as goal
 
 abbrev pub invariant-loop-left : goal.invariant-loop-left

@@ -1,5 +1,4 @@
 -- `put_scopes` meets its contract: the loop writes one scope a turn (`ScopesInv`).
-use Prim.Native.Nat.{◌-◌}
 use Rattle.lists.specs.laws.Part.{unmapped}
 use Rattle.names.specs.laws.Names.{sent_most}
 use Rattle.reply.proofs.Writes.{scopes_end, scopes_long, scopes_next, scopes_start}

@@ -1,7 +1,6 @@
 -- `range_count` meets its contract: the loop takes one range a turn (`CountInv`).
 use Rattle.reply.proofs.Writes.{count_end, count_less, count_more, count_next, count_start}
 use borrow.Author.Rules.{rules}
-use lib.ListN.{set}
 use native.Mathlib.Omega.{arith}
 use Rattle.reply.proofs.range_count.Goals as goal
 

@@ -1,5 +1,4 @@
 use Rattle.reply.proofs.Writes.{CountInv}
-use lib.ListN.{set}
 use Rattle.reply.proofs.range_count.Given as goal
 
 abbrev pub invariant-loop-left : goal.invariant-loop-left

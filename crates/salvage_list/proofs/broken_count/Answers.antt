@@ -1,5 +1,4 @@
 -- `broken_count` meets its contract: its loop keeps `SizeInv`; by `counts`.
-use Prim.Native.Nat.{◌-◌}
 use Rattle.salvage_list.specs.laws.List.{count_end, count_few, count_next, counts}
 use borrow.Author.Rules.{rules}
 use Rattle.salvage_list.proofs.broken_count.Goals as goal

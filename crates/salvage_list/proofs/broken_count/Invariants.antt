@@ -1,7 +1,6 @@
 use Prim.Native.Nat.{◌-◌}
 use Rattle.format.specs.laws.Rows.{SizeInv}
 use Rattle.salvage_list.specs.List.{one_if}
-use borrow.Author.Rules.{rules}
 use lib.ListN.{get_or}
 use Rattle.salvage_list.proofs.broken_count.Given as goal
 

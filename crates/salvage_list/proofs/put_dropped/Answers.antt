@@ -1,5 +1,4 @@
 -- `put_dropped` meets its contract: its loop keeps `DroppedInv`; by `drops`.
-use Prim.Native.Nat.{◌-◌}
 use Rattle.salvage_list.specs.laws.List.{drops}
 use borrow.Author.Rules.{rules}
 use Rattle.salvage_list.proofs.put_dropped.Goals as goal

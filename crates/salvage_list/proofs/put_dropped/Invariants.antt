@@ -1,6 +1,5 @@
 use Prim.Native.Nat.{◌-◌}
 use Rattle.salvage_list.specs.laws.List.{DroppedInv}
-use borrow.Author.Rules.{rules}
 use Rattle.salvage_list.proofs.put_dropped.Given as goal
 
 abbrev pub invariant-loop-i : goal.invariant-loop-i

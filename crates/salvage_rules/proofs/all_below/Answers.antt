@@ -1,5 +1,4 @@
 -- `all_below` meets its contract: its loop keeps `BelowInv`; by `belows`.
-use Prim.Native.Nat.{◌-◌}
 use Rattle.salvage_rules.specs.laws.Rules.{belows}
 use borrow.Author.Rules.{rules}
 use Rattle.salvage_rules.proofs.all_below.Goals as goal

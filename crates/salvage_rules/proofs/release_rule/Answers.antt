@@ -1,6 +1,5 @@
 -- `release_rule` meets its contract: by `release_unknown`, `release_fifth`, `release_misnamed`, `release_judged`.
 use Rattle.salvage_rules.specs.laws.Rules.{keepable_here, release_fifth, release_judged, release_misnamed, release_unknown, tenant_facts}
-use borrow.Author.Tests.{not-false}
 use mathlib.Core.Path.{◌∙◌, sym}
 use Rattle.salvage_rules.proofs.release_rule.Goals as goal
 

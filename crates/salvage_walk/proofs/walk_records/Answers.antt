@@ -1,5 +1,4 @@
 -- `walk_records` meets its contract: its loop keeps `RecordsInv`; by `record_walk`.
-use Prim.Native.Nat.{◌-◌}
 use Rattle.salvage_walk.specs.laws.File.{record_walk}
 use borrow.Author.Rules.{rules}
 use Rattle.salvage_walk.proofs.walk_records.Goals as goal

@@ -1,6 +1,5 @@
 use Prim.Native.Nat.{◌-◌}
 use Rattle.salvage_walk.specs.laws.File.{RecordsInv}
-use borrow.Author.Rules.{rules}
 use Rattle.salvage_walk.proofs.walk_records.Given as goal
 
 abbrev pub invariant-loop-i : goal.invariant-loop-i

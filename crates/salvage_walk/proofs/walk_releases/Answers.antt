@@ -1,5 +1,4 @@
 -- `walk_releases` meets its contract: its loop keeps `ReleasesInv`; by `release_walk`.
-use Prim.Native.Nat.{◌-◌}
 use Rattle.salvage_walk.specs.laws.File.{release_walk}
 use borrow.Author.Rules.{rules}
 use Rattle.salvage_walk.proofs.walk_releases.Goals as goal

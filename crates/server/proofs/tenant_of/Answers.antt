@@ -1,5 +1,4 @@
 -- `tenant_of` meets its contract: the loop looks at one range a turn (`PlaceInv`).
-use Prim.Native.Nat.{◌-◌}
 use Rattle.lists.specs.laws.Place.{places}
 use Rattle.server.specs.Serve.{tenant_of}
 use borrow.Author.Rules.{rules}

@@ -1,5 +1,4 @@
 -- `held_sets` meets its contract: by parts, held-are.
-use Prim.Native.Nat.{◌-◌}
 use Rattle.lists.specs.laws.Part.{parts}
 use Rattle.soundness.specs.laws.Code.{held_are}
 use borrow.Author.Rules.{rules}

@@ -1,5 +1,4 @@
 -- `table_rules` meets its contract: a loop over the tenants.
-use Prim.Native.Nat.{◌-◌}
 use Rattle.lists.specs.laws.Part.{unmapped}
 use Rattle.soundness.specs.laws.Survey.{surveys}
 use borrow.Author.Rules.{rules}

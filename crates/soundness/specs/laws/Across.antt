@@ -9,11 +9,10 @@ use Rattle.lists.specs.laws.Both.{and_parts, and_both}
 use Rattle.address_set.specs.AddressSet.{bit}
 use Rattle.address_set.specs.laws.Bits.{or_bit}
 use Rattle.state.specs.declared.Lease.{Lease}
-use Rattle.state.specs.declared.LeaseTable.{LeaseTable}
 use Rattle.state.specs.declared.State.{State}
-use Rattle.state.specs.Book.{leases_of, differ, in_scope, overlaps, held_of, scopes_of}
+use Rattle.state.specs.Book.{differ, in_scope, overlaps, held_of, scopes_of}
 use Rattle.state.specs.laws.Sets.{adds, addresses_cons}
-use Rattle.soundness.specs.Sound.{one_to, counts_b, size_b, scope_known, lease_b, id_b, offsets_b, padded_b, kind_b, period_b, disjoint, apart_in, apart, compatible, sound_b, hold_b}
+use Rattle.soundness.specs.Sound.{one_to, counts_b, size_b, scope_known, lease_b, id_b, offsets_b, padded_b, kind_b, period_b, disjoint, apart_in, apart, compatible, hold_b}
 use Rattle.soundness.specs.laws.Book.{lease_ok, Sound, pairs_is, settings_front}
 use Rattle.soundness.specs.laws.Kept.{disjoint_less}
 use Rattle.soundness.specs.Across.{join_all}

@@ -10,7 +10,7 @@ use borrow.Author.Tests.{eq-eqb, eqb-true, le-leb, leb-true}
 use Rattle.lists.specs.Pick.{pick}
 use Rattle.lists.specs.laws.Pick.{pick_zero, pick_zero_last}
 use Rattle.lists.specs.All.{all_by, pairs_by}
-use Rattle.lists.specs.laws.All.{all_map, all_same, all_both, all_cons, to_each, each_to}
+use Rattle.lists.specs.laws.All.{all_map, all_same, all_both, all_cons}
 use Rattle.lists.specs.laws.Both.{and_parts, and_both, all_and, pairs_and}
 use Rattle.state.specs.declared.Lease.{Lease}
 use Rattle.state.specs.declared.LeaseTable.{LeaseTable}
@@ -18,7 +18,7 @@ use Rattle.state.specs.declared.State.{State}
 use Rattle.state.specs.Book.{Order, differ, zero_lease, in_use, laid_out, leases_of, table_of, ordered, scope_at, limit_at, held_at, committed_sum}
 use Rattle.state.specs.laws.Layout.{read_back, table_back}
 use Rattle.soundness.specs.declared.Rules.{Rules}
-use Rattle.soundness.specs.Sound.{tenants_in, scopes_in, id_b, records_b, counts_b, rule1, offsets_b, rule2, rule3, rule4, rule5, rule6, lease_b, none_b, tenants_b, rule7, rule8, apart, rule9, compatible, rule10, limit_b, limits_b, rule11, committed_b, rule12, zero_from, padded_b, blank_b, unused_b, settings_b, rules_of, first_late, first_rule, first_broken, sound_b, hold_b, rule13, broken_by, layout_by, rule19_by, rules_by, sound_by}
+use Rattle.soundness.specs.Sound.{tenants_in, scopes_in, id_b, records_b, counts_b, rule1, offsets_b, rule3, rule4, rule5, rule6, lease_b, none_b, tenants_b, rule7, apart, compatible, zero_from, padded_b, blank_b, unused_b, settings_b, rules_of, first_late, first_rule, first_broken, sound_b, hold_b, broken_by, layout_by, rule19_by, rules_by, sound_by}
 use Rattle.soundness.specs.laws.Code.{drop_map, first_none}
 
 -- ---- the facts

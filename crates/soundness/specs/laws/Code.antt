@@ -23,7 +23,7 @@ use Rattle.soundness.specs.declared.HoldingRules.{HoldingRules}
 use Rattle.soundness.specs.declared.LoadRules.{LoadRules}
 use Rattle.soundness.specs.declared.Held.{Held}
 use Rattle.soundness.specs.declared.HeldTable.{HeldTable}
-use Rattle.soundness.specs.Sound.{tenants_in, scopes_in, size_b, counts_b, id_b, records_b, offsets_b, rule3, pool_b, rule4, ttl_b, rule5, reserves_b, rule6, lease_b, tenants_b, rule9, compatible, rule11, rule12, layout_b, padded_b, tail_b, settings_b, one_to, zero_from, below_b, scope_of, unused_b, rule1, rule2, pools_apart, rule7, rule8, rule10, range_zero, scope_zero, rules_of, first_rule, first_broken, broken_of, sound_b, none_b, apart, holding, limit_b, limits_b, committed_b, hold_b, rule13, broken_by, layout_by, rule19_by, rules_by, sound_by}
+use Rattle.soundness.specs.Sound.{tenants_in, scopes_in, size_b, counts_b, id_b, records_b, offsets_b, rule3, pool_b, rule4, ttl_b, rule5, reserves_b, rule6, lease_b, tenants_b, rule9, compatible, rule11, rule12, layout_b, padded_b, tail_b, settings_b, one_to, zero_from, below_b, scope_of, unused_b, rule1, rule2, pools_apart, rule7, rule8, rule10, range_zero, scope_zero, rules_of, first_rule, first_broken, broken_of, sound_b, none_b, apart, hold_b, rule13, broken_by, layout_by, rule19_by, rules_by, sound_by}
 use Rattle.std.proofs.Math.Path.{refl, sym, ap, ap₂}
 use native.Mathlib.Omega.{arith}
 use Rattle.std.specs.Int.Bits.{bit_or, or_add_and, or_zero_r}
@@ -32,7 +32,7 @@ use borrow.Author.Tests.{eq-eqb, ne_eqb, eqb-true, eqb-false, lt-ltb, ltb-true, 
 use Rattle.lists.specs.Pick.{pick}
 use Rattle.lists.specs.laws.Pick.{pick_eq_got, pick_false, pick_not_eq_got, pick_true}
 use Rattle.lists.specs.Fold.{fold}
-use Rattle.lists.specs.laws.All.{to_same, all_map, pairs_map, pairs_same, all_both, pairs_head, pairs_cons}
+use Rattle.lists.specs.laws.All.{all_map, pairs_map, pairs_same, all_both, pairs_head, pairs_cons}
 use Rattle.lists.specs.Filter.{filter_by}
 use Rattle.state.specs.laws.Sets.{added_is}
 use Rattle.state.proofs.Sorted.{rising}
@@ -41,7 +41,6 @@ use Rattle.identifier.specs.laws.Order.{same_true}
 use Rattle.address_set.specs.laws.Bits.{length_offsets}
 use Rattle.address_set.specs.laws.Offsets.{up_to_ones, below_bits}
 use Rattle.lists.specs.laws.Next.{NextInv, next_start, next_is_pairs}
-use Rattle.lists.specs.laws.Sums.{sum_same}
 use Rattle.soundness.specs.Parts.{scope_rules_of, and_scopes, scopes_all, tenant_rules_of, both_tenants, added_sets, none_h, holding_rules_in, table_rules_of, joined_rules, tenants_all, no_held, held_sets, holdings_of, set_at, apart_sets, size_in, count_in, limit_in, limits_in, committed_in, settings_rules_of, first_end_in, unlike, word_of}
 
 abbrev pub no_range : ClientRange

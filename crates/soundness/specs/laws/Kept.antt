@@ -1,5 +1,5 @@
 -- Laws: what keeps a book sound: leases only go.
-use Rattle.std.specs.Prelude.{ℕ, zero, suc, ◌+◌, ◌≤◌, ◌<◌, min, max, ◌≡◌, refl, Bool, true, false, ◌&&◌, leb, ltb, length, drop, get_or, set}
+use Rattle.std.specs.Prelude.{ℕ, zero, suc, ◌+◌, ◌≤◌, ◌<◌, min, ◌≡◌, refl, Bool, true, false, ◌&&◌, leb, ltb, length, drop, get_or, set}
 use Rattle.std.proofs.Common.{sym, ap, ◌∙◌, subst, arith, le_trans, eq-eqb, eqb-true, le-leb, leb-true, lt-ltb, ltb-true}
 use mathlib.Core.List.Permᴰ
 use mathlib.Core.List.{List, [], ◌∷◌, map, append-nil}
@@ -17,10 +17,10 @@ use Rattle.address_set.specs.AddressSet.{bit, keep, offsets_from, offsets}
 use Rattle.address_set.specs.laws.Bits.{or_bit, and_bit, bit_eq, bit_of_zero}
 use Rattle.state.specs.declared.Lease.{Lease}
 use Rattle.state.specs.declared.State.{State}
-use Rattle.state.specs.Book.{Book, Order, leases_of, ordered, other, remove_of, live, live_of, with_clock, raised, dropped, advanced, held_of, held_count, in_scope, scope_at, held_at, committed, hold_time, is_hold, until}
+use Rattle.state.specs.Book.{Order, other, remove_of, live, live_of, with_clock, held_of, held_count, in_scope, scope_at, held_at, committed, hold_time, is_hold, until}
 use Rattle.state.specs.laws.Sets.{addresses_append, addresses_reordered}
-use Rattle.soundness.specs.Sound.{tenants_in, id_b, offsets_b, scope_known, kind_b, period_b, lease_b, padded_b, disjoint, apart_in, apart, counts_b, rule3, rule4, rule5, rule6, settings_b, sound_b, sound_by, hold_b, lapse_b}
-use Rattle.soundness.specs.laws.Book.{settings_ok, lease_ok, pair_ok, few_leases, no_leases_b, Sound, rises_by}
+use Rattle.soundness.specs.Sound.{tenants_in, id_b, offsets_b, scope_known, kind_b, period_b, lease_b, padded_b, disjoint, apart_in, apart, counts_b, rule3, rule4, rule5, rule6, settings_b, hold_b, lapse_b}
+use Rattle.soundness.specs.laws.Book.{settings_ok, lease_ok, pair_ok, few_leases, no_leases_b, Sound}
 use Rattle.soundness.specs.laws.Added.{pair_turn}
 
 -- ---- fewer addresses

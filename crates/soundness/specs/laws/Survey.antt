@@ -24,7 +24,7 @@ use Rattle.soundness.specs.declared.TableRules.{TableRules}
 use Rattle.soundness.specs.declared.TenantRules.{TenantRules}
 use Rattle.soundness.specs.declared.SettingsRules.{SettingsRules}
 use Rattle.soundness.specs.declared.HoldingRules.{HoldingRules}
-use Rattle.soundness.specs.Sound.{rules_of, first_broken, sound_b, broken_by, sound_by}
+use Rattle.soundness.specs.Sound.{first_broken}
 use Rattle.soundness.specs.Parts.{no_held, no_rules, no_sets, first_end_in, pool_in, pools_of, rules_from, held_sets, holdings_of, holding_rules_in, tenants_all, tenant_rules_of, both_tenants, table_rules_of, settings_rules_of, joined_rules, no_tenants, added_tenant, checked_of, sound_from}
 use Rattle.soundness.specs.laws.Code.{and_tenants, tenants_are, tenant_and, table_is}
 

@@ -25,7 +25,7 @@ use Rattle.lists.specs.laws.Part.{cut_take, part_ended, part_head}
 use Rattle.lists.specs.laws.Filter.{filter_fewer}
 use Rattle.lists.specs.laws.Each.{map_set, map_back}
 use Rattle.lists.specs.laws.Row.{row_back, row_push, row_filtered, row_insert, row_length, row_in, row_out}
-use Rattle.state.specs.Book.{Book, advanced, changed_to, lease_with, zero_lease, in_use, laid_out, pushed, kept_if, id_of, Order, by_identifier, ordered, order_for, until, named, other, inserted_in, remove_of, place_of, live_of, lease_at, table_of, leases_of, put_at, raised, dropped, cleared, with_clock, laid_releases, pushed_release, remembered, zero_release, inserted_by}
+use Rattle.state.specs.Book.{Book, advanced, changed_to, lease_with, zero_lease, in_use, laid_out, pushed, kept_if, id_of, Order, by_identifier, ordered, order_for, named, other, inserted_in, remove_of, place_of, live_of, lease_at, table_of, leases_of, put_at, raised, dropped, cleared, with_clock, laid_releases, pushed_release, remembered, zero_release, inserted_by}
 
 -- ---- one turn of the loops below
 -- what an element is past the end of an array

@@ -1,5 +1,4 @@
 -- `run_of_8` meets its contract: the loop fills an array one octet a turn (`PadInv`).
-use Prim.Native.Nat.{◌-◌}
 use Rattle.octets.specs.laws.Run.{runs}
 use Rattle.verdict_octets.specs.laws.Octets.{run_full}
 use borrow.Author.Rules.{rules}

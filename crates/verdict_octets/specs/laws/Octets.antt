@@ -8,7 +8,7 @@ use Rattle.std.proofs.Math.ListN.{drop, get_or, length-append}
 use Rattle.std.proofs.Math.Seq.{drop-append-add, drop-length, get_or_at, take_at}
 use Rattle.lists.specs.Pick.{pick}
 use Rattle.lists.specs.Row.{laid_row}
-use Rattle.lists.specs.laws.Pick.{pick_false, pick_not_eq, pick_true}
+use Rattle.lists.specs.laws.Pick.{pick_false, pick_true}
 use Rattle.octets.specs.Octets.{Wrote, at16, at32, be32, octets16, octets32}
 use Rattle.octets.specs.laws.Octets.{read_back16, read_back32, wrote_as, wrote_joined, wrote_whole}
 use Rattle.octets.specs.laws.Run.{part_length}

@@ -1,5 +1,4 @@
 -- `form::order_parts` meets its contract: its loop keeps `PartsInv`; by `parts`, `parts_start`.
-use Prim.Native.Nat.{◌-◌}
 use borrow.Author.Rules.{rules}
 use Rattle.lease_file.specs.laws.Walk.{parts, parts_start}
 use Rattle.lease_file.proofs.form.order_parts.Goals as goal

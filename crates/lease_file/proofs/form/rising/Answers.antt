@@ -1,5 +1,4 @@
 -- `rising` meets its contract: its loop keeps `RiseInv`; by `risings`.
-use Prim.Native.Nat.{◌-◌}
 use Rattle.lease_file.specs.laws.Walk.{risings}
 use borrow.Author.Rules.{rules}
 use Rattle.lease_file.proofs.form.rising.Goals as goal

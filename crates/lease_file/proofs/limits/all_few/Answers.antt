@@ -1,5 +1,4 @@
 -- `all_few` meets its contract: by `fews`.
-use Prim.Native.Nat.{◌-◌}
 use Rattle.lease_file.specs.laws.Limits.{few_end, few_fit, few_many, few_over, fews}
 use borrow.Author.Rules.{rules}
 use Rattle.lease_file.proofs.limits.all_few.Goals as goal

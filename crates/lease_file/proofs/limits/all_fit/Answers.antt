@@ -1,5 +1,4 @@
 -- `all_fit` meets its contract: its loop keeps `FitInv`; by `entries_fit`.
-use Prim.Native.Nat.{◌-◌}
 use Rattle.lease_file.specs.laws.Limits.{entries_fit}
 use borrow.Author.Rules.{rules}
 use Rattle.lease_file.proofs.limits.all_fit.Goals as goal

@@ -1,5 +1,4 @@
 -- `limits::low` meets its contract: its loop keeps `LowInv`; by `lows`.
-use Prim.Native.Nat.{◌-◌}
 use borrow.Author.Rules.{rules}
 use Rattle.lease_file.specs.laws.Limits.{lows}
 use Rattle.lease_file.proofs.limits.low.Goals as goal

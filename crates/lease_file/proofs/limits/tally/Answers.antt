@@ -1,5 +1,4 @@
 -- `tally` meets its contract: its loop keeps `TallyInv`; by `tallies`.
-use Prim.Native.Nat.{◌-◌}
 use Rattle.lease_file.specs.laws.Limits.{tallies, tally_small}
 use borrow.Author.Rules.{rules}
 use Rattle.lease_file.proofs.limits.tally.Goals as goal

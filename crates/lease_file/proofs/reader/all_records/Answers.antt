@@ -1,8 +1,6 @@
 -- `all_records` meets its contract: its loops keep `FillInv`, first of the holds, then of the leases; by `fills`.
-use Prim.Native.Nat.{◌-◌}
 use Rattle.lease_file.specs.laws.Load.{fill_on, fills}
 use borrow.Author.Rules.{rules}
-use mathlib.Core.Bool.{false}
 use Rattle.lease_file.proofs.reader.all_records.Goals as goal
 
 pub no_lease-none-requires : goal.no_lease-none-requires

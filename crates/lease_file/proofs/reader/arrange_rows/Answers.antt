@@ -1,5 +1,4 @@
 -- `arrange_rows` meets its contract: its loop keeps `RowsInv`; by `rows_arranged`.
-use Prim.Native.Nat.{◌-◌}
 use Rattle.lease_file.specs.laws.Load.{rows_arranged}
 use borrow.Author.Rules.{rules}
 use Rattle.lease_file.proofs.reader.arrange_rows.Goals as goal

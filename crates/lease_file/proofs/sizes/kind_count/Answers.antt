@@ -1,5 +1,4 @@
 -- `kind_count` meets its contract: its loop keeps `SizeInv`; by `sizes`, `kinds_counted`.
-use Prim.Native.Nat.{◌-◌}
 use Rattle.format.specs.laws.Rows.{size_end, sizes}
 use Rattle.lease_file.specs.laws.Rows.{kinds_counted}
 use Rattle.lists.specs.laws.Part.{unmapped}

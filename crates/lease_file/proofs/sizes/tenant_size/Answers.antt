@@ -1,5 +1,4 @@
 -- `tenant_size` meets its contract: its loop keeps `SizeInv`; by `sizes`, `row_sum`.
-use Prim.Native.Nat.{◌-◌}
 use Rattle.format.specs.laws.Rows.{row_sum, size_end, sizes}
 use Rattle.lease_file.specs.Rows.{entry_octets}
 use Rattle.lists.specs.laws.Part.{unmapped}

@@ -1,5 +1,4 @@
 -- `put_records` meets its contract: its loop keeps `RowInv`; by `tenant_rows`.
-use Prim.Native.Nat.{◌-◌}
 use Rattle.lease_file.specs.laws.Rows.{tenant_rows}
 use borrow.Author.Rules.{rules}
 use Rattle.lease_file.proofs.writer.put_records.Goals as goal

@@ -1,5 +1,4 @@
 -- `put_tenant` meets its contract: its loop keeps `RowInv`; by `entry_rows`.
-use Prim.Native.Nat.{◌-◌}
 use Rattle.lease_file.specs.laws.Rows.{entry_rows}
 use borrow.Author.Rules.{rules}
 use Rattle.lease_file.proofs.writer.put_tenant.Goals as goal

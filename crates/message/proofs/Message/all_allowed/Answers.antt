@@ -1,5 +1,4 @@
 -- `Message::all_allowed` meets its contract: the loop tests one code a turn (`UptoInv`).
-use Prim.Native.Nat.{◌-◌}
 use Rattle.lists.specs.laws.All.{uptos}
 use borrow.Author.Rules.{rules}
 use Rattle.message.proofs.Message.all_allowed.Goals as goal

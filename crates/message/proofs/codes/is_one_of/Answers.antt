@@ -1,5 +1,4 @@
 -- `codes::is_one_of` meets its contract: the loop looks at one number a turn (`OneOfInv`).
-use Prim.Native.Nat.{◌-◌}
 use Rattle.message.proofs.Steps.{ones}
 use borrow.Author.Rules.{rules}
 use Rattle.message.proofs.codes.is_one_of.Goals as goal

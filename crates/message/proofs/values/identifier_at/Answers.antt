@@ -1,5 +1,5 @@
 -- `values::identifier_at` meets its contract: the loop copies one octet a turn (`CopyInv`).
-use Prim.Native.Nat.{◌+◌, ◌-◌}
+use Prim.Native.Nat.{◌+◌}
 use Rattle.lists.specs.laws.Copy.{copies, copy_start_part}
 use Rattle.message.proofs.Steps.{identifier_is}
 use borrow.Author.Rules.{rules}

@@ -1,5 +1,5 @@
 -- `values::language_at` meets its contract: the loop copies one octet a turn (`CopyInv`).
-use Prim.Native.Nat.{◌+◌, ◌-◌}
+use Prim.Native.Nat.{◌+◌}
 use Rattle.lists.specs.laws.Copy.{copies, copy_start_part}
 use Rattle.message.proofs.Steps.{language_is}
 use borrow.Author.Rules.{rules}

@@ -1,5 +1,4 @@
 -- `values::lists_code` meets its contract: the loop looks at one code a turn (`CodesInv`).
-use Prim.Native.Nat.{◌-◌}
 use Rattle.message.proofs.Steps.{listed}
 use borrow.Author.Rules.{rules}
 use Rattle.message.proofs.values.lists_code.Goals as goal

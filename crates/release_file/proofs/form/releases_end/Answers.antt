@@ -1,5 +1,4 @@
 -- `releases_end` meets its contract: its loop keeps `ReleasesInv`; by `release_walk`.
-use Prim.Native.Nat.{◌-◌}
 use Rattle.release_file.specs.laws.Form.{release_in, release_walk}
 use borrow.Author.Rules.{rules}
 use native.Mathlib.Omega.{arith}

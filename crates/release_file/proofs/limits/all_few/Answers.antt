@@ -1,5 +1,4 @@
 -- `all_few` meets its contract: by `fours`.
-use Prim.Native.Nat.{◌-◌}
 use Rattle.release_file.specs.laws.Limits.{four_broken, four_next, fours}
 use borrow.Author.Rules.{rules}
 use Rattle.release_file.proofs.limits.all_few.Goals as goal

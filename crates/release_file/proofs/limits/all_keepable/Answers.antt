@@ -1,5 +1,4 @@
 -- `all_keepable` meets its contract: its loop keeps `TestInv`; by `entry_tests`.
-use Prim.Native.Nat.{◌-◌}
 use Rattle.format.specs.laws.Entries.{entry_tests}
 use borrow.Author.Rules.{rules}
 use Rattle.release_file.proofs.limits.all_keepable.Goals as goal

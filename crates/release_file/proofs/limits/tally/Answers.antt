@@ -1,5 +1,4 @@
 -- `tally` meets its contract: its loop keeps `TallyInv`; by `tallies`.
-use Prim.Native.Nat.{◌-◌}
 use Rattle.format.specs.laws.Entries.{count_small}
 use Rattle.release_file.specs.laws.Limits.{tallies}
 use borrow.Author.Rules.{rules}

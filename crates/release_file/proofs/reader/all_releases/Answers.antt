@@ -1,5 +1,4 @@
 -- `all_releases` meets its contract: its loop keeps `FillInv`; by `fills`.
-use Prim.Native.Nat.{◌-◌}
 use Rattle.release_file.specs.laws.Load.{fills}
 use borrow.Author.Rules.{rules}
 use Rattle.release_file.proofs.reader.all_releases.Goals as goal

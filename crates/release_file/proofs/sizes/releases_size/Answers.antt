@@ -1,5 +1,4 @@
 -- `releases_size` meets its contract: its loop keeps `SizeInv`; by `sizes`, `rows_length`.
-use Prim.Native.Nat.{◌-◌}
 use Rattle.format.specs.laws.Rows.{sizes}
 use Rattle.release_file.specs.laws.Rows.{rows_length}
 use borrow.Author.Rules.{rules}

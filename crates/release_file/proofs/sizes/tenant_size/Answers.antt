@@ -1,5 +1,4 @@
 -- `tenant_size` meets its contract: its loop keeps `SizeInv`; by `sizes`, `row_sum`.
-use Prim.Native.Nat.{◌-◌}
 use Rattle.format.specs.laws.Rows.{row_sum, size_end, sizes}
 use Rattle.lists.specs.laws.Part.{unmapped}
 use Rattle.release_file.specs.Rows.{release_octets}

@@ -1,5 +1,4 @@
 -- `total` meets its contract: its loop keeps `SizeInv`; by `sizes`.
-use Prim.Native.Nat.{◌-◌}
 use Rattle.format.specs.laws.Rows.{sizes}
 use borrow.Author.Rules.{rules}
 use Rattle.release_file.proofs.sizes.total.Goals as goal

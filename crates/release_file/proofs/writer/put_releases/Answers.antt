@@ -1,5 +1,4 @@
 -- `put_releases` meets its contract: its loop keeps `RowInv`; by `tenant_rows`.
-use Prim.Native.Nat.{◌-◌}
 use Rattle.release_file.specs.laws.Rows.{tenant_rows}
 use borrow.Author.Rules.{rules}
 use Rattle.release_file.proofs.writer.put_releases.Goals as goal

@@ -1,5 +1,4 @@
 -- `put_tenant` meets its contract: its loop keeps `RowInv`; by `release_rows`.
-use Prim.Native.Nat.{◌-◌}
 use Rattle.release_file.specs.laws.Rows.{release_rows}
 use borrow.Author.Rules.{rules}
 use Rattle.release_file.proofs.writer.put_tenant.Goals as goal

@@ -1,5 +1,4 @@
 -- `all_filled` meets its contract: a test of every release.
-use Prim.Native.Nat.{◌-◌}
 use Rattle.lists.specs.laws.All.{all_start, alls}
 use borrow.Author.Rules.{rules}
 use Rattle.releases.proofs.rules.all_filled.Goals as goal

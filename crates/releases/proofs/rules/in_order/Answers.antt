@@ -1,5 +1,4 @@
 -- `in_order` meets its contract: every two neighbours.
-use Prim.Native.Nat.{◌-◌}
 use Rattle.lists.specs.laws.Next.{nexts}
 use Rattle.releases.specs.laws.Code.{older_start}
 use borrow.Author.Rules.{rules}

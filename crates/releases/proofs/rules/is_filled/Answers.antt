@@ -1,5 +1,4 @@
 -- `is_filled` meets its contract: a test of every octet past the identifier.
-use Prim.Native.Nat.{◌-◌}
 use Rattle.lists.specs.laws.All.{all_end}
 use Rattle.releases.specs.laws.Code.{filled_is, filled_start, zero_broken, zero_next}
 use borrow.Author.Rules.{rules}

@@ -1,5 +1,4 @@
 -- `not_leased` meets its contract: a test of every lease.
-use Prim.Native.Nat.{◌-◌}
 use Rattle.lists.specs.laws.All.{all_start, alls}
 use Rattle.releases.specs.Rules.{not_leased}
 use borrow.Author.Rules.{rules}

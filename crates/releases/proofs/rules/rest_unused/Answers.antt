@@ -1,5 +1,4 @@
 -- `rest_unused` meets its contract: a test of every entry past the last.
-use Prim.Native.Nat.{◌-◌}
 use Rattle.lists.specs.laws.All.{alls}
 use Rattle.releases.specs.laws.Code.{rest_start}
 use borrow.Author.Rules.{rules}

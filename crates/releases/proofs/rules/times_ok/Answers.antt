@@ -1,5 +1,4 @@
 -- `times_ok` meets its contract: a test of every release.
-use Prim.Native.Nat.{◌-◌}
 use Rattle.lists.specs.laws.All.{all_start, alls}
 use borrow.Author.Rules.{rules}
 use Rattle.releases.proofs.rules.times_ok.Goals as goal

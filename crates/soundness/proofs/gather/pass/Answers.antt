@@ -1,5 +1,4 @@
 -- `pass` meets its contract: three loops, one after the other.
-use Prim.Native.Nat.{◌-◌}
 use Rattle.lists.specs.laws.Fold.{fold_start_at, fold_next, folds}
 use Rattle.lists.specs.laws.Part.{parts, unmapped}
 use Rattle.soundness.specs.laws.Gathered.{gathered_are, swifts, unused_and, unused_are}

@@ -1,5 +1,4 @@
 -- `holdings::all_held_apart` meets its contract: every pair, in one loop over two places.
-use Prim.Native.Nat.{◌-◌}
 use Rattle.lists.specs.laws.All.{cross_next, cross_row, cross_whole, crosses}
 use borrow.Author.Rules.{rules}
 use Rattle.soundness.proofs.holdings.all_held_apart.Goals as goal

@@ -1,5 +1,4 @@
 -- `load_rules` meets its contract: two flags over the scopes.
-use Prim.Native.Nat.{◌-◌}
 use Rattle.soundness.specs.laws.Code.{committed_ok_is, flag_next, flags, limits_in_law}
 use borrow.Author.Rules.{rules}
 use Rattle.soundness.proofs.holdings.load_rules.Goals as goal

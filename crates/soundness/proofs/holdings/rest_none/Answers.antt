@@ -1,5 +1,4 @@
 -- `holdings::rest_none` meets its contract: by alls, all_rest.
-use Prim.Native.Nat.{◌-◌}
 use Rattle.lists.specs.laws.All.{all_rest, alls}
 use borrow.Author.Rules.{rules}
 use Rattle.soundness.proofs.holdings.rest_none.Goals as goal

@@ -1,5 +1,4 @@
 -- `scope_load` meets its contract: a flag and a sum over the tenants.
-use Prim.Native.Nat.{◌-◌}
 use Rattle.lists.specs.laws.Part.{unmapped}
 use Rattle.lists.specs.laws.Sums.{sums}
 use Rattle.soundness.specs.laws.Code.{committed_at, flags, limit_at_law}

@@ -1,5 +1,4 @@
 -- `numbers::zeros8` meets its contract: the octets gathered by or are 0 where each is.
-use Prim.Native.Nat.{◌-◌}
 use Rattle.soundness.specs.laws.Code.{zeros}
 use borrow.Author.Rules.{rules}
 use Rattle.soundness.proofs.numbers.zeros8.Goals as goal

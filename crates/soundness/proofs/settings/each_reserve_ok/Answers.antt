@@ -1,5 +1,4 @@
 -- `settings::each_reserve_ok` meets its contract: by uptos.
-use Prim.Native.Nat.{◌-◌}
 use Rattle.lists.specs.laws.All.{uptos}
 use borrow.Author.Rules.{rules}
 use Rattle.soundness.proofs.settings.each_reserve_ok.Goals as goal

@@ -1,7 +1,5 @@
 -- `settings::pools_all_apart` meets its contract: every pair, in one loop over two places.
-use Prim.Native.Nat.{◌-◌}
 use Rattle.lists.specs.laws.All.{cross_next, cross_row, crosses}
-use Rattle.soundness.specs.Sound.{pools_apart}
 use borrow.Author.Rules.{rules}
 use Rattle.soundness.proofs.settings.pools_all_apart.Goals as goal
 

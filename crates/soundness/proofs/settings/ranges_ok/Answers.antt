@@ -1,5 +1,4 @@
 -- `settings::ranges_ok` meets its contract: by alls, all_start.
-use Prim.Native.Nat.{◌-◌}
 use Rattle.lists.specs.laws.All.{all_start, alls}
 use borrow.Author.Rules.{rules}
 use Rattle.soundness.proofs.settings.ranges_ok.Goals as goal

@@ -1,5 +1,4 @@
 -- `settings::ranges_unused` meets its contract: by alls, all_rest.
-use Prim.Native.Nat.{◌-◌}
 use Rattle.lists.specs.laws.All.{all_rest, alls}
 use borrow.Author.Rules.{rules}
 use Rattle.soundness.proofs.settings.ranges_unused.Goals as goal

@@ -1,5 +1,4 @@
 -- `settings::reserves` meets its contract: by sums.
-use Prim.Native.Nat.{◌-◌}
 use Rattle.lists.specs.laws.Sums.{sums}
 use borrow.Author.Rules.{rules}
 use Rattle.soundness.proofs.settings.reserves.Goals as goal

@@ -1,5 +1,4 @@
 -- `settings::scopes_rules` meets its contract: by parts, scopes-are.
-use Prim.Native.Nat.{◌-◌}
 use Rattle.lists.specs.laws.Part.{parts}
 use Rattle.soundness.specs.laws.Code.{scopes_are}
 use borrow.Author.Rules.{rules}

@@ -1,5 +1,4 @@
 -- `tenants::all_differ` meets its contract: every pair, in one loop over two places.
-use Prim.Native.Nat.{◌-◌}
 use Rattle.lists.specs.laws.All.{cross_next, cross_row, crosses}
 use borrow.Author.Rules.{rules}
 use Rattle.soundness.proofs.tenants.all_differ.Goals as goal

@@ -1,5 +1,4 @@
 -- `tenants::all_rise` meets its contract: by nexts, rise-start.
-use Prim.Native.Nat.{◌-◌}
 use Rattle.lists.specs.laws.Next.{next_next, nexts}
 use Rattle.soundness.specs.laws.Code.{rise_start}
 use borrow.Author.Rules.{rules}

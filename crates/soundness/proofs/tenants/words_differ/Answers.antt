@@ -1,5 +1,4 @@
 -- `words_differ` meets its contract: every pair, in one loop over two places.
-use Prim.Native.Nat.{◌-◌}
 use Rattle.lists.specs.laws.All.{cross_next, crosses}
 use borrow.Author.Rules.{rules}
 use Rattle.soundness.proofs.tenants.words_differ.Goals as goal

@@ -1,5 +1,4 @@
 -- `words_of` meets its contract: an array written, a number a turn.
-use Prim.Native.Nat.{◌-◌}
 use Rattle.lists.specs.laws.Each.{eachs}
 use borrow.Author.Rules.{rules}
 use Rattle.soundness.proofs.tenants.words_of.Goals as goal

@@ -1,5 +1,4 @@
 -- `load::ranges_at` meets its contract: its loop keeps `PadInv`; by `pads`.
-use Prim.Native.Nat.{◌-◌}
 use borrow.Author.Rules.{rules}
 use Rattle.state_file.proofs.Pad.{pads}
 use Rattle.state_file.proofs.load.ranges_at.Goals as goal

@@ -1,5 +1,5 @@
 -- `load::scopes_at` meets its contract: its loop keeps `PadInv`; by `row_in`, `scope_pads`.
-use Prim.Native.Nat.{◌*◌, ◌+◌, ◌-◌}
+use Prim.Native.Nat.{◌*◌, ◌+◌}
 use native.Mathlib.Omega.{arith}
 use lib.ListN.{length}
 use borrow.Author.Rules.{rules}

@@ -1,5 +1,4 @@
 -- `put::put_parts` meets its contract: its loop keeps `PairInv`; by `pair_rows`.
-use Prim.Native.Nat.{◌-◌}
 use borrow.Author.Rules.{rules}
 use Rattle.state_file.proofs.RowLaws.{pair_rows}
 use Rattle.state_file.proofs.put.put_parts.Goals as goal

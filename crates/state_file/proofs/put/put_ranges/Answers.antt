@@ -1,5 +1,4 @@
 -- `put::put_ranges` meets its contract: its loop keeps `RowInv`; by `range_rows`, `tenants`.
-use Prim.Native.Nat.{◌-◌}
 use borrow.Author.Rules.{rules}
 use Rattle.state_file.proofs.RowLaws.{range_rows}
 use Rattle.state_file.proofs.put.put_ranges.Goals as goal

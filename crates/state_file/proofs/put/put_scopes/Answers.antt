@@ -1,5 +1,4 @@
 -- `put::put_scopes` meets its contract: its loop keeps `RowInv`; by `scope_rows`.
-use Prim.Native.Nat.{◌-◌}
 use borrow.Author.Rules.{rules}
 use Rattle.state_file.proofs.RowLaws.{scope_rows}
 use Rattle.state_file.proofs.put.put_scopes.Goals as goal

@@ -1,5 +1,4 @@
 -- `size::scopes_length` meets its contract: its loop keeps `SizeInv`; by `row_sum`, `size_end`, `sizes`, `unmapped`.
-use Prim.Native.Nat.{◌-◌}
 use native.Mathlib.Omega.{arith}
 use borrow.Author.Rules.{rules}
 use Rattle.lists.specs.laws.Part.{unmapped}

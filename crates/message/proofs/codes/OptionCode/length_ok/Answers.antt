@@ -1,7 +1,7 @@
 -- `codes::OptionCode::length_ok` meets its contract: one row of the table for each code.
 use Rattle.lists.specs.Filter.{is_in}
 use Rattle.lists.specs.Pick.{pick}
-use Rattle.message.proofs.Steps.{length_above, up}
+use Rattle.message.proofs.Steps.{length_above}
 use Rattle.message.specs.Codes.{length_ok}
 use borrow.Author.Tests.{eq-eqb, le-leb, lt-leb, ne_eqb}
 use native.Mathlib.Omega.{arith}

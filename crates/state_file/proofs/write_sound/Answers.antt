@@ -11,7 +11,7 @@ returns-then-room-n c =
 pub returns : goal.returns
 returns c =
     let w =
-        write_done _ (search rules) _ c.args.room.now c.in_file_order-filed.ensures c.file_size-n.ensures _ _ c.if-room-n.false
-        c.put_file.ensures
+    write_done _ (search rules) _ c.args.room.now c.in_file_order-filed.ensures c.file_size-n.ensures _ _ c.if-room-n.false
+    c.put_file.ensures
     in
     record { answer = w.0; octets = w.1 }

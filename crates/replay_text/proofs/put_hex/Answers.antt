@@ -12,7 +12,7 @@ pub put_hex_octet-to-requires : goal.put_hex_octet-to-requires
 put_hex_octet-to-requires c = let l = c.loop-i.invariant in omega (arith, l.place, l.kept)
 
 pub loop-i-preserved : goal.loop-i-preserved
-loop-i-preserved c = hex_next c.loop-i.invariant (search rules) (search rules) c.put_hex_octet-to.ensures c.put_hex_octet-to.auto.0
+loop-i-preserved c = hex_next c.loop-i.invariant (search rules) (search rules) c.put_hex_octet-to.ensures c.put_hex_octet-to.auto.out
 
 pub shape_of-out : goal.shape_of-out
 shape_of-out c = c.loop-i.invariant.kept

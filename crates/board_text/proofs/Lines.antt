@@ -76,5 +76,5 @@ module _ (r : Loaded) (f room now : List ℕ) (k : ℕ) (e : r ≡ read_file f) 
       subst (λ (x : Loaded). (k ≡ length_in x room) × (now ≡ room_with_text x room)) e
       (board_done r room now k h z (wrote_as (ap (λ (x : List ℕ). header_line ++ x) (lines_same r.state r.table r.memory.board says)) w))
 
-  pub refused_answer : (r.refusal ≡ 0 → ⊥) → Wrote room 0 (refused_line r.refusal) (λ x. x.now) k → (k ≡ length_in (read_file f) room) × ((λ x. x.now) ≡ room_with_text (read_file f) room)
-  refused_answer z w = subst (λ (x : Loaded). (k ≡ length_in x room) × ((λ x. x.now) ≡ room_with_text x room)) e (board_refused r room (λ x. x.now) k h z w)
+  pub refused_answer : (r.refusal ≡ 0 → ⊥) → Wrote room 0 (refused_line r.refusal) now k → (k ≡ length_in (read_file f) room) × (now ≡ room_with_text (read_file f) room)
+  refused_answer z w = subst (λ (x : Loaded). (k ≡ length_in x room) × (now ≡ room_with_text x room)) e (board_refused r room now k h z w)

@@ -1,0 +1,7 @@
+-- `answer_record` meets its contract: the numbers read and the part lent are the record's call.
+use Rattle.call_list.proofs.Answered.{answered_record}
+use borrow.Author.Rules.{rules}
+use Rattle.call_list.proofs.answer_record.Goals as goal
+
+pub returns : goal.returns
+returns c = search (answered_record, rules)

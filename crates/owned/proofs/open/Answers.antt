@@ -11,17 +11,10 @@ use Rattle.state_file.specs.StateFile.{zero_ledger}
 use Rattle.records.specs.Lent.{read_lent}
 use Rattle.owned.specs.declared.OwnedFile.{OwnedFile}
 use Rattle.owned.specs.Owned.{ReadsOwned}
-use Rattle.owned.proofs.open.Statement.{statement}
-use Rattle.owned.proofs.open.Tie as tie
+use Rattle.owned.proofs.open.Goals as goal
 
--- what is read over a ledger and records that are all zero
 over_blank : (f : List ℕ) {g : Ledger} {ls : List Lease} {r : OwnedFile} → g ≡ zero_ledger → ls ≡ replicate 128 zero_lease → ReadsOwned (read_lent f g ls) r → ReadsOwned (read_lent f zero_ledger (replicate 128 zero_lease)) r
 over_blank f {g} {ls} {r} e₁ e₂ x = subst (λ (ls' : List Lease). ReadsOwned (read_lent f zero_ledger ls') r) e₂ (subst (λ (g' : Ledger). ReadsOwned (read_lent f g' ls) r) e₁ x)
 
-pub open_spec : {M : Type 1} → statement M
-open_spec =
-    tie.close
-    (tie.spec
-    (λ c κs. search rules)
-    (λ c κs. search rules)
-    (λ c. search (over_blank, rules)))
+pub returns : goal.returns
+returns c = search (over_blank, rules)

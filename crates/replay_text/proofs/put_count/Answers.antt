@@ -1,0 +1,9 @@
+-- `put_count` meets its contract: part by part.
+use Rattle.octets.specs.laws.Octets.{wrote_joined}
+use Rattle.replay_text.specs.Replay.{count_text}
+use borrow.Author.Rules.{rules}
+use Rattle.replay_text.proofs.put_count.Goals as goal
+
+pub returns : goal.returns
+unfolding count_text
+returns c = wrote_joined (search rules) (wrote_joined (search rules) c.put_run-a.ensures c.put_number-b.ensures.wrote) c.put_u8.ensures

@@ -36,7 +36,8 @@ use Rattle.state_file.specs.File.{File}
 use Rattle.state_file.specs.Records.{settings_fit_b, stored_state}
 use Rattle.state_file.specs.StateFile.{zero_table}
 use Rattle.salvage_rules.specs.Rules.{hold_rule, known_scope, known_tenant, lease_rule, limits_kept, names_known, offsets_kept, record_rule, type_after, typed_hold, with_hold, with_lease, with_record}
-use Rattle.salvage_rules.specs.laws.Rules.{record_zero, tenant_facts, type_zero}
+use Rattle.salvage_rules.specs.laws.Rules.{record_zero, tenant_facts}
+use Rattle.salvage_rules.proofs.Rules.{type_zero}
 use Rattle.salvage_walk.specs.Walk.{hold_rules, lease_rules, leases_kept, records_kept, settings_sound}
 use Rattle.salvage_laws.specs.Statement.{kept_ones}
 use Rattle.salvage_laws.proofs.Chosen.{walk_holds}

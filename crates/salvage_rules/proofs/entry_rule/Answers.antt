@@ -1,5 +1,6 @@
 -- `entry_rule` meets its contract: by `entry_limits`, `entry_offsets`, `entry_unnamed`, `entry_judged`.
-use Rattle.salvage_rules.specs.laws.Rules.{entry_judged, entry_limits, entry_offsets, entry_unnamed, named_facts, storable_here}
+use Rattle.salvage_rules.specs.laws.Rules.{named_facts, storable_here}
+use Rattle.salvage_rules.proofs.Rules.{entry_judged, entry_limits, entry_offsets, entry_unnamed}
 use Rattle.lease_file.specs.laws.Limits.{lease_inside}
 use borrow.Author.Rules.{rules}
 use borrow.Author.Tests.{not-false, not-true}

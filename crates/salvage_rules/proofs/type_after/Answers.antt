@@ -1,5 +1,5 @@
 -- `type_after` meets its contract: by `afters`.
-use Rattle.salvage_rules.specs.laws.Rules.{afters}
+use Rattle.salvage_rules.proofs.Rules.{afters}
 use borrow.Author.Rules.{rules}
 use borrow.Author.Tests.{not-false, not-true}
 use Rattle.salvage_rules.proofs.type_after.Goals as goal

@@ -1,5 +1,6 @@
 -- `walk` meets its contract: by `walked_file`.
-use Rattle.salvage_walk.specs.laws.File.{settings_known, state_as, walked_file}
+use Rattle.salvage_walk.specs.laws.File.{settings_known, state_as}
+use Rattle.salvage_walk.proofs.Steps.{walked_file}
 use Rattle.salvage_walk.proofs.walk.Goals as goal
 
 pub state_at-state-requires : goal.state_at-state-requires

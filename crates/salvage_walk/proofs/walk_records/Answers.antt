@@ -1,5 +1,5 @@
 -- `walk_records` meets its contract: its loop keeps `RecordsInv`; by `record_walk`.
-use Rattle.salvage_walk.specs.laws.File.{record_walk}
+use Rattle.salvage_walk.proofs.Steps.{record_walk}
 use borrow.Author.Rules.{rules}
 use Rattle.salvage_walk.proofs.walk_records.Goals as goal
 

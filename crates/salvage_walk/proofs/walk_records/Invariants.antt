@@ -1,5 +1,5 @@
 use Prim.Native.Nat.{◌-◌}
-use Rattle.salvage_walk.specs.laws.File.{RecordsInv}
+use Rattle.salvage_walk.proofs.Steps.{RecordsInv}
 use Rattle.salvage_walk.proofs.walk_records.Given as goal
 
 abbrev pub invariant-loop-i : goal.invariant-loop-i

@@ -1,5 +1,5 @@
 -- `walk_releases` meets its contract: its loop keeps `ReleasesInv`; by `release_walk`.
-use Rattle.salvage_walk.specs.laws.File.{release_walk}
+use Rattle.salvage_walk.proofs.Steps.{release_walk}
 use borrow.Author.Rules.{rules}
 use Rattle.salvage_walk.proofs.walk_releases.Goals as goal
 

@@ -1,5 +1,5 @@
 use Prim.Native.Nat.{◌-◌}
-use Rattle.salvage_walk.specs.laws.File.{ReleasesInv}
+use Rattle.salvage_walk.proofs.Steps.{ReleasesInv}
 use Rattle.salvage_walk.proofs.walk_releases.Given as goal
 
 abbrev pub invariant-loop-i : goal.invariant-loop-i

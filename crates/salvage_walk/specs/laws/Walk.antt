@@ -1,15 +1,13 @@
 -- Laws: the walk over a section: each entry is judged with those kept before it, and a loop over the octets of the entries keeps them and their rules.
-use mathlib.Core.List.{List, [], ◌++◌, ◌∷◌, append_assoc, append-nil}
+use mathlib.Core.List.{List, [], ◌++◌, ◌∷◌, append-nil}
 use Rattle.std.proofs.Common.{◌∙◌}
-use Rattle.std.specs.Prelude.{◌≡◌, eqb, replicate}
-use Rattle.std.proofs.Math.Path.{ap, ap₂, refl, subst, sym}
+use Rattle.std.specs.Prelude.{◌≡◌, replicate}
+use Rattle.std.proofs.Math.Path.{ap, refl, subst, sym}
 use Prim.Native.Nat.{◌+◌, ◌-◌, ◌<◌, ◌≤◌, suc, ℕ}
 use native.Mathlib.Omega.{arith}
-use Rattle.std.proofs.Math.ListN.{length, length-append, set}
+use Rattle.std.proofs.Math.ListN.{length, length-append}
 use Rattle.std.proofs.lemmas.List.{length-replicate}
-use Rattle.lists.specs.Pick.{pick}
 use Rattle.lists.specs.Row.{laid_row}
-use Rattle.lists.specs.laws.Row.{row_push}
 use Rattle.format.specs.Place.{EachAt, walk}
 use Rattle.format.specs.Section.{InRow, Inside}
 use Rattle.salvage_list.specs.List.{marked}
@@ -48,7 +46,7 @@ module _ {A B : Type 0} {rule : B → A → ℕ} {add : B → A → B} {v : List
       }
 
   module _ {b : B} {rules : List ℕ} {here i : ℕ} (w : WalkInv rule add v next s from count before b rules here i) where
-    walk_head : i < count → Inside next s here × InRow next s (next s here) (count - (i + 1))
+    pub walk_head : i < count → Inside next s here × InRow next s (next s here) (count - (i + 1))
     unfolding EachAt
     walk_head h = let e : count - i ≡ suc (count - (i + 1)) = omega arith in subst (λ (k : ℕ). InRow next s here k) e w.each
 
@@ -60,36 +58,9 @@ module _ {A B : Type 0} {rule : B → A → ℕ} {add : B → A → B} {v : List
         ap length w.laid ∙ length-append w.front (replicate (255 - length w.front) 0) ∙ ap (λ (k : ℕ). length w.front + k) (length-replicate (255 - length w.front) 0)
         ∙ (let e = w.many in let f = w.few in let g = w.within in let q : length w.front + (255 - length w.front) ≡ 255 = omega arith in q)
 
-    walk_open : i < count → walk v next (count - i) s here ≡ v s here ∷ walk v next (count - (i + 1)) s (next s here)
+    pub walk_open : i < count → walk v next (count - i) s here ≡ v s here ∷ walk v next (count - (i + 1)) s (next s here)
     unfolding walk
     walk_open h = let e : count - i ≡ suc (count - (i + 1)) = omega arith in ap (λ (k : ℕ). walk v next k s here) e
-
-    with_is : (r : ℕ) (b' : B) → r ≡ rule b (v s here) → b' ≡ pick (eqb r 0) (add b (v s here)) b → b' ≡ kept_with rule add b (v s here)
-    unfolding kept_with
-    with_is r b' er eb = eb ∙ ap (λ (k : ℕ). pick (eqb k 0) (add b (v s here)) b) er
-
-    pub walk_next : (r n : ℕ) (b' : B) → i < count → r ≡ rule b (v s here) → b' ≡ pick (eqb r 0) (add b (v s here)) b → n ≡ next s here
-        → WalkInv rule add v next s from count before b' (set rules i r) n (i + 1)
-    unfolding rules_in
-    walk_next r n b' h er eb en = record {
-      within = omega arith;
-      few = w.few;
-      each = subst (λ (k : ℕ). InRow next s k (count - (i + 1))) (sym en) (walk_head h).1;
-      front = w.front ++ r ∷ [];
-      many = length-append w.front (r ∷ []) ∙ (let e = w.many in let q : length w.front + 1 ≡ i + 1 = omega arith in q);
-      laid =
-          ap₂ (λ (l : List ℕ) (k : ℕ). set l k r) w.laid (sym w.many)
-          ∙ row_push 0 255 w.front r (let e = w.many in let f = w.few in omega arith);
-      kept =
-          ap₂ (λ (c : B) (k : ℕ). kept_after rule add c (walk v next (count - (i + 1)) s k)) (with_is r b' er eb) en
-          ∙ sym (ap (kept_after rule add b) (walk_open h)) ∙ w.kept;
-      told =
-          append_assoc w.front (r ∷ []) (rules_in rule add b' (walk v next (count - (i + 1)) s n))
-          ∙ ap (λ (l : List ℕ). w.front ++ l)
-          (ap₂ {C = List ℕ} (λ (q : ℕ) (l : List ℕ). q ∷ l) er (ap₂ (λ (c : B) (k : ℕ). rules_in rule add c (walk v next (count - (i + 1)) s k)) (with_is r b' er eb) en)
-          ∙ sym (ap (rules_in rule add b) (walk_open h)))
-          ∙ w.told;
-    }
 
     ended : count ≤ i → walk v next (count - i) s here ≡ []
     unfolding walk

@@ -14,8 +14,8 @@ pub write_sound-w-requires : goal.write_sound-w-requires
 write_sound-w-requires c = search (half_sound, rules)
 
 pub returns-then-refusal-eq0 : goal.returns-then-refusal-eq0
-returns-then-refusal-eq0 c = let a = c.before.before.before.before.before.before.before.before.before.before.before.before.before.before.before.before.before.before.before.before.before.before.before.before.args in
-    file_judged _ _ c.open_in.ensures a.client a.time a.datagram.now c.if1.true c.keep_names-k.ensures c.judge_sound-j.ensures c.write_sound-w.ensures.0 c.write_sound-w.ensures.1
+returns-then-refusal-eq0 c = let a = c.args in
+    file_judged _ _ c.open_in-f.ensures a.client a.time a.datagram.now c.if-refusal-eq0.true c.keep_names-k.ensures c.judge_sound-j.ensures c.write_sound-w.ensures.answer c.write_sound-w.ensures.octets
     c.put.ensures c.length_after.ensures c.number_after.ensures
 
 pub returns : goal.returns

@@ -1,5 +1,5 @@
 -- Laws: rule 13's first half, and the rule that an entry of the file breaks.
-use Rattle.std.specs.Prelude.{Bool, ◌≡◌, refl, ◌-◌, ℕ, eqb, get_or}
+use Rattle.std.specs.Prelude.{Bool, ◌≡◌, refl, ℕ, eqb, get_or}
 use Rattle.std.proofs.Math.Bool.{false, true}
 use mathlib.Core.List.{List}
 use Rattle.std.proofs.Common.{◌∙◌, arith, eq-eqb, eqb-true, ne_eqb}

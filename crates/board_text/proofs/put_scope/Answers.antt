@@ -1,5 +1,4 @@
 -- `put_scope` meets its contract: its loop keeps `LinesInv`; by `line_loops`, `scope_done`.
-use Prim.Native.Nat.{◌-◌}
 use native.Mathlib.Omega.{arith}
 use borrow.Author.Rules.{rules}
 use Rattle.number_text.specs.laws.Text.{line_loops, lines_start}

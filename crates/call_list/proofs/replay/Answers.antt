@@ -1,5 +1,4 @@
 -- `replay` meets its contract. The loop keeps that to go on from what is done gives the whole, and that the book is sound; the measure is what is left of the calls. Neither
-use Prim.Native.Nat.{◌-◌}
 use Rattle.call_list.proofs.Replayed.{answer_inside, answer_room_law, record_head, record_inside, replay_ended, replay_next, replay_start, replay_stopped}
 use Rattle.call_list.proofs.Sound.{still_sound}
 use borrow.Author.Rules.{rules}

@@ -1,5 +1,4 @@
 -- `put_hex` meets its contract: the loop writes one octet a turn (`HexInv`).
-use Prim.Native.Nat.{◌-◌}
 use Rattle.replay_text.proofs.Hex.{hex_end, hex_next, hex_start}
 use borrow.Author.Rules.{rules}
 use native.Mathlib.Omega.{arith}

@@ -1,5 +1,4 @@
 -- `same_octets` meets its contract: a loop over two arrays.
-use Prim.Native.Nat.{◌-◌}
 use Rattle.lists.specs.laws.Same.{numbers_same}
 use borrow.Author.Rules.{rules}
 use Rattle.usage.proofs.settings.same_octets.Goals as goal

@@ -1,7 +1,5 @@
 -- `same_ranges` meets its contract: a loop over two arrays.
-use Prim.Native.Nat.{◌-◌}
 use Rattle.lists.specs.laws.Same.{same_next, sames}
-use Rattle.usage.specs.Usage.{same_range}
 use borrow.Author.Rules.{rules}
 use borrow.Author.Tests.{not-false}
 use Rattle.usage.proofs.settings.same_ranges.Goals as goal

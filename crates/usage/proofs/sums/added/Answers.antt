@@ -1,5 +1,4 @@
 -- `added` meets its contract: a loop over the scopes.
-use Prim.Native.Nat.{◌-◌}
 use Rattle.lists.specs.laws.Part.{unmapped}
 use Rattle.usage.specs.laws.Sums.{scope_loops}
 use borrow.Author.Rules.{rules}

@@ -1,5 +1,4 @@
 -- `added_scope` meets its contract: a loop over the tenants.
-use Prim.Native.Nat.{◌-◌}
 use Rattle.usage.specs.laws.Sums.{tenant_loops}
 use borrow.Author.Rules.{rules}
 use Rattle.usage.proofs.sums.added_scope.Goals as goal

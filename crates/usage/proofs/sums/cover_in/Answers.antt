@@ -1,5 +1,4 @@
 -- `cover_in` meets its contract: a fold over the leases in use.
-use Prim.Native.Nat.{◌-◌}
 use Rattle.lists.specs.laws.Part.{parts}
 use Rattle.usage.specs.laws.Sums.{covered_fold}
 use borrow.Author.Rules.{rules}

@@ -1,5 +1,4 @@
 -- `put_scopes` meets its contract: its loop keeps `LinesInv`.
-use Prim.Native.Nat.{◌-◌}
 use Rattle.number_text.specs.laws.Text.{line_loops, lines_start}
 use Rattle.usage.specs.laws.Text.{scopes_done}
 use borrow.Author.Rules.{rules}

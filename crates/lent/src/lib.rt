@@ -1,6 +1,6 @@
 // The product's entry points: the ledger, document 01's record of clock and settings with what is remembered and the board, lent by `&mut` and updated where it
 // stands, and its lease records lent as a slice. Each is a few whole values and calls: every decision is made by value in `records`, `record_call` and below, and
-// `lent_steps` copies the records and raises the clock. Their proofs are walks by hand.
+// `lent_steps` copies the records and raises the clock.
 #![tactic(auto)]
 
 ghost use Rattle.std.specs.Prelude.{◌≡◌, length, take};

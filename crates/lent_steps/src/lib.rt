@@ -1,5 +1,5 @@
 // The steps by reference that the entry points share: the clock of a lent ledger raised where it stands, and the copies between a lent slice of lease records and
-// 128 records by value. Their proofs are walks by hand.
+// 128 records by value.
 #![tactic(auto)]
 
 ghost use Rattle.std.specs.Prelude.{◌≡◌};

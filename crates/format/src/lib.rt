@@ -1,9 +1,2 @@
-// Where the reading of a format's value ended.
+// Definitions and laws of formats, how values stand in octets, in specs/; no code of its own.
 #![tactic(auto)]
-
-// Past the value, or nowhere because none stands there.
-#[derive(Clone, Copy)]
-pub enum Place {
-    At(usize),
-    Nowhere,
-}

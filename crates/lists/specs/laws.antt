@@ -3,10 +3,11 @@ pub mod Both
 pub mod Fold
 pub mod Part
 pub mod All
+pub mod Every
+pub mod Rest
 pub mod Next
 pub mod Filter
 pub mod Each
-pub mod Place
 pub mod Sums
 pub mod Copy
 pub mod Down

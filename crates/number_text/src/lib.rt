@@ -13,15 +13,16 @@ pub fn put_char(buffer: &mut [u8], at: usize, x: u8) -> usize
 }
 
 // The digits of a number: those above the last one, and the last one.
+// Stays: what may not change is `Line`, which tells which octets of a lent buffer change and where the text ends; a `Display` writes into a `Formatter`, which has no such place.
 fn put_digits(buffer: &mut [u8], at: usize, n: u64) -> usize
     requires { at + length (numeral n) ≤ length buffer.old }
     ensures { Wrote buffer.old at (numeral n) buffer.new result }
 {
     if n < 10 {
-        return octets::put_u8(buffer, at, 48 + (n % 10) as u8);
+        return octets::put_u8(buffer, at, b'0' + (n % 10) as u8);
     }
     let a = put_digits(buffer, at, n / 10);
-    octets::put_u8(buffer, a, 48 + (n % 10) as u8)
+    octets::put_u8(buffer, a, b'0' + (n % 10) as u8)
 }
 
 // Any number: at most twenty digits.
@@ -37,7 +38,7 @@ pub fn put_octet(buffer: &mut [u8], at: usize, n: u8) -> usize
     requires { at + 3 ≤ length buffer.old }
     ensures { Line buffer.old at (numeral n) buffer.new result 3 }
 {
-    put_digits(buffer, at, n as u64)
+    put_digits(buffer, at, u64::from(n))
 }
 
 // An octet and a point.
@@ -46,7 +47,7 @@ fn put_part(buffer: &mut [u8], at: usize, n: u8) -> usize
     ensures { Line buffer.old at (numeral n ++ 46 ∷ []) buffer.new result 4 }
 {
     let a = put_octet(buffer, at, n);
-    put_char(buffer, a, 46)
+    put_char(buffer, a, b'.')
 }
 
 // An address.
@@ -54,10 +55,11 @@ pub fn put_dotted(buffer: &mut [u8], at: usize, a: u32) -> usize
     requires { at + 15 ≤ length buffer.old }
     ensures { Line buffer.old at (dotted a) buffer.new result 15 }
 {
-    let w = put_part(buffer, at, (a / 16777216 % 256) as u8);
-    let x = put_part(buffer, w, (a / 65536 % 256) as u8);
-    let y = put_part(buffer, x, (a / 256 % 256) as u8);
-    put_octet(buffer, y, (a % 256) as u8)
+    let [p, q, r, s] = a.to_be_bytes();
+    let w = put_part(buffer, at, p);
+    let x = put_part(buffer, w, q);
+    let y = put_part(buffer, x, r);
+    put_octet(buffer, y, s)
 }
 
 // A blank and a number.
@@ -65,15 +67,16 @@ pub fn put_field(buffer: &mut [u8], at: usize, n: u64) -> usize
     requires { at + 21 ≤ length buffer.old }
     ensures { Line buffer.old at (field n) buffer.new result 21 }
 {
-    let a = put_char(buffer, at, 32);
+    let a = put_char(buffer, at, b' ');
     put_number(buffer, a, n)
 }
 
 // The same of an octet.
+// Stays: one function for both would ask for 21 octets of room here, where the contract asks for 4.
 pub fn put_octet_field(buffer: &mut [u8], at: usize, n: u8) -> usize
     requires { at + 4 ≤ length buffer.old }
     ensures { Line buffer.old at (field n) buffer.new result 4 }
 {
-    let a = put_char(buffer, at, 32);
+    let a = put_char(buffer, at, b' ');
     put_octet(buffer, a, n)
 }

@@ -3,29 +3,14 @@
 
 ghost use Rattle.std.specs.Prelude.{◌≡◌, [], ◌∷◌, ◌+◌, ◌≤◌, drop, length, take};
 ghost use Rattle.lists.specs.Row.{laid_row};
-ghost use Rattle.octets.specs.Octets.{be16, be32, at16, at32, octets16, octets32, Wrote};
-
-fn join16(a: u8, b: u8) -> u16
-    ensures { result ≡ be16 a b }
-{
-    arithmetic::wide16(a) * 256 + arithmetic::wide16(b)
-}
-
-fn join32(a: u8, b: u8, c: u8, d: u8) -> u32
-    ensures { result ≡ be32 a b c d }
-{
-    arithmetic::wide32(a) * 16777216
-        + arithmetic::wide32(b) * 65536
-        + arithmetic::wide32(c) * 256
-        + arithmetic::wide32(d)
-}
+ghost use Rattle.octets.specs.Octets.{at16, at32, octets16, octets32, Wrote};
 
 // The number of two octets at a place.
 pub fn read_u16(s: &[u8], at: usize) -> u16
     requires { at + 2 ≤ length s.now }
     ensures { result ≡ at16 s.now at }
 {
-    join16(s[at], s[at + 1])
+    u16::from_be_bytes([s[at], s[at + 1]])
 }
 
 // The number of four octets at a place.
@@ -33,7 +18,7 @@ pub fn read_u32(s: &[u8], at: usize) -> u32
     requires { at + 4 ≤ length s.now }
     ensures { result ≡ at32 s.now at }
 {
-    join32(s[at], s[at + 1], s[at + 2], s[at + 3])
+    u32::from_be_bytes([s[at], s[at + 1], s[at + 2], s[at + 3]])
 }
 
 // The n octets from a place on, and zeros after them.
@@ -42,30 +27,32 @@ pub fn read_run(s: &[u8], at: usize, n: usize) -> [u8; 32]
     ensures { result ≡ laid_row 0 32 (take n (drop at s.now)) }
 {
     let mut out = [0u8; 32];
-    let mut i: usize = 0;
-    while i < n {
-        out[i] = s[at + i];
-        i += 1;
-    }
+    out[..n].copy_from_slice(&s[at..at + n]);
     out
 }
 
-// Each `put` writes at a place and returns the place after what it wrote.
+// Writes octets at a place and returns the place after them, as each `put` below does.
+pub fn put(buffer: &mut [u8], at: usize, s: &[u8]) -> usize
+    requires { at + length s.now ≤ length buffer.old }
+    ensures { Wrote buffer.old at s.now buffer.new result }
+{
+    let end = at + s.len();
+    buffer[at..end].copy_from_slice(s);
+    end
+}
+
 pub fn put_u8(buffer: &mut [u8], at: usize, v: u8) -> usize
     requires { at + 1 ≤ length buffer.old }
     ensures { Wrote buffer.old at (v ∷ []) buffer.new result }
 {
-    buffer[at] = v;
-    at + 1
+    put(buffer, at, &[v])
 }
 
 pub fn put_u16(buffer: &mut [u8], at: usize, v: u16) -> usize
     requires { at + 2 ≤ length buffer.old }
     ensures { Wrote buffer.old at (octets16 v) buffer.new result }
 {
-    buffer[at] = (v / 256 % 256) as u8;
-    buffer[at + 1] = (v % 256) as u8;
-    at + 2
+    put(buffer, at, &v.to_be_bytes())
 }
 
 // The low 32 bits of a number: an address is a sum that a u64 always holds.
@@ -73,11 +60,7 @@ pub fn put_u32(buffer: &mut [u8], at: usize, v: u64) -> usize
     requires { at + 4 ≤ length buffer.old }
     ensures { Wrote buffer.old at (octets32 v) buffer.new result }
 {
-    buffer[at] = (v / 16777216 % 256) as u8;
-    buffer[at + 1] = (v / 65536 % 256) as u8;
-    buffer[at + 2] = (v / 256 % 256) as u8;
-    buffer[at + 3] = (v % 256) as u8;
-    at + 4
+    put(buffer, at, &v.to_be_bytes()[4..])
 }
 
 // The first n octets of a slice.
@@ -85,10 +68,5 @@ pub fn put_run(buffer: &mut [u8], at: usize, s: &[u8], n: usize) -> usize
     requires { (at + n ≤ length buffer.old) × (n ≤ length s.now) }
     ensures { Wrote buffer.old at (take n s.now) buffer.new result }
 {
-    let mut i = 0;
-    while i < n {
-        buffer[at + i] = s[i];
-        i += 1;
-    }
-    at + n
+    put(buffer, at, &s[..n])
 }

@@ -1,6 +1,6 @@
 -- Laws: of loops over the entries of a section that lie within the octets: a test of each, and a value for each of eight tenants, what it has counted
 -- or its records.
-use Rattle.std.specs.Prelude.{Bool, ◌≡◌, leb, replicate, set}
+use Rattle.std.specs.Prelude.{◌↔◌, EachIndex, IsTrue, Bool, ◌≡◌, leb, replicate, set}
 use Rattle.std.proofs.Math.Bool.{false, true}
 use mathlib.Core.List.{List, [], ◌++◌, ◌∷◌, append_assoc, append-nil, map}
 use Rattle.std.proofs.Common.{◌∙◌, length-append, ext_get_or}
@@ -11,12 +11,12 @@ use Rattle.std.proofs.Math.Dec.{eqb}
 use Rattle.std.proofs.Math.ListN.{get_or, length, length-set}
 use Rattle.std.proofs.lemmas.List.{get_or-replicate, length-replicate}
 use Rattle.std.proofs.Math.Seq.{get_or-set_other, get_or-set_same}
-use borrow.Author.Tests.{eqb-false, eqb-true, le-leb, lt-leb}
+use borrow.Author.Tests.{eqb-false, eqb-true, le-leb, leb-true}
 use Rattle.lists.specs.All.{all_by, all_to}
 use Rattle.lists.specs.Filter.{filter_by}
 use Rattle.lists.specs.Fold.{fold}
 use Rattle.lists.specs.Pick.{pick}
-use Rattle.lists.specs.laws.All.{UptoInv, all_head, upto_broken, upto_next}
+use Rattle.lists.specs.laws.All.{all_head, each_to, to_each}
 use Rattle.lists.specs.laws.Filter.{filter_length}
 use Rattle.format.specs.Format.{Got, bad, got}
 use Rattle.format.specs.Place.{EachAt, walk}
@@ -197,16 +197,24 @@ module _ {A : Type 0} {key : A → ℕ} {P : List ℕ → ℕ → Type 0} {v : L
     count_end h = tenant_end w _ (λ t. counted_from key t 0 (walk v next count s from) ∙ (let e : 0 + length (own key t (walk v next count s from)) ≡ length (own key t (walk v next count s from)) = omega arith in e)) h
 
 -- what was counted decides
-module _ {A : Type 0} (key : A → ℕ) (most : ℕ) (xs : List A) {n : List ℕ} {i : ℕ} (w : UptoInv (λ i. leb (length (own key (i + 1) xs)) most) 8 i) (e : n ≡ tally_by key xs) (h : i < 8) where
-  many : get_or n i 0 ≡ length (own key (i + 1) xs)
+module _ {A : Type 0} (key : A → ℕ) (most : ℕ) (xs : List A) {n : List ℕ} (e : n ≡ tally_by key xs) where
+  many : (i : ℕ) → i < 8 → get_or n i 0 ≡ length (own key (i + 1) xs)
   unfolding tally_by
-  many = ap (λ (l : List ℕ). get_or l i 0) e ∙ per_get (λ t. length (own key t xs)) 8 1 i 0 h
+  many i h = ap (λ (l : List ℕ). get_or l i 0) e ∙ per_get (λ t. length (own key t xs)) 8 1 i 0 h
 
-  pub few_next : get_or n i 0 ≤ most → UptoInv (λ i. leb (length (own key (i + 1) xs)) most) 8 (i + 1)
-  few_next l = upto_next w h (sym (le-leb (length (own key (i + 1) xs)) most (let m = many in omega arith))) refl
+  pub few_all : {r : Bool} → length n ≡ 8 → (IsTrue r ↔ EachIndex n (λ i. get_or n i 0 ≤ most)) → r ≡ all_to (λ i. leb (length (own key (i + 1) xs)) most) 8
+  few_all {r} l h = go r h
+    where
+      few : ℕ → Bool
+      few i = leb (length (own key (i + 1) xs)) most
 
-  pub few_broken : most < get_or n i 0 → false ≡ all_to (λ i. leb (length (own key (i + 1) xs)) most) 8
-  few_broken l = upto_broken w h (sym (lt-leb (length (own key (i + 1) xs)) most (let m = many in omega arith))) refl
+      go : (r : Bool) → (IsTrue r ↔ EachIndex n (λ i. get_or n i 0 ≤ most)) → r ≡ all_to few 8
+      go true h = sym (each_to few 8 (λ i g. le-leb (length (own key (i + 1) xs)) most (let m = many i g in let k = h.0 refl i (omega arith) in omega arith)))
+      go false h = other (all_to few 8) refl
+        where
+          other : (b : Bool) → all_to few 8 ≡ b → false ≡ b
+          other true q = h.1 (λ i g. let j : i < 8 = omega arith in let m = many i j in let k = leb-true (length (own key (i + 1) xs)) most (to_each few 8 q i j) in omega arith)
+          other false q = refl
 
 -- ---- a tenant's records: what is pushed one by one is laid out in the file's order
 module _ {A B R : Type 0} (key : A → ℕ) (put : A → B) (n : ℕ) (laid : List B → R) (push : R → B → R) (pushes : (l : List B) (x : B) → length l < n → push (laid l) x ≡ laid (l ++ x ∷ [])) where

@@ -1,5 +1,5 @@
 -- Laws: values of a fixed number of octets: they stand wherever there are as many, and nowhere else.
-use Rattle.std.specs.Prelude.{Bool, eqb, ltb, drop}
+use Rattle.std.specs.Prelude.{Bool, eqb, ltb, drop, None, Some}
 use Rattle.std.proofs.Math.Bool.{false, true}
 use mathlib.Core.List.{List, [], ◌∷◌}
 use Rattle.std.proofs.Common.{◌∙◌, subst, length-drop}
@@ -15,7 +15,6 @@ use Rattle.lists.specs.laws.Pick.{pick_le, pick_lt, pick_not_le, pick_not_lt}
 use Rattle.octets.specs.Octets.{at32}
 use Rattle.format.specs.Format.{Format, Got, ◌⊗◌, after, bad, counted, got, number, octet, read_number, read_times, then, times, viewed}
 use Rattle.format.specs.Place.{EndsAs, Fails, Stands, counted_end, row, walk}
-use Rattle.format.specs.declared.Place.TheVariants.{At, Nowhere}
 use Rattle.format.specs.laws.Format.{then_with}
 use Rattle.format.specs.laws.Place.{as_nowhere, as_there, counted_is, counted_none, fails_before, fails_then, number_stands, octet_fails, octet_stands, stands_then, stands_to, viewed_none, viewed_stands}
 
@@ -108,7 +107,7 @@ module _ {A : Type 0} {f : Format A} {z : ℕ} (p : Fixed f z) where
       N = get_or s at 0
 
       go : (b : Bool) → leb (length s) at ≡ b → (c : Bool) → ltb (length s) (at + 1 + N * z) ≡ c
-          → EndsAs (counted f) (row p.value z N s (at + 1)) s at 1 (pick b Nowhere (pick c Nowhere (At (at + 1 + N * z))))
+          → EndsAs (counted f) (row p.value z N s (at + 1)) s at 1 (pick b None (pick c None (Some (at + 1 + N * z))))
       go true e c q = as_nowhere (counted_none f s at (leb-true _ _ e))
       go false e true q =
           let h = leb-false _ _ e in
@@ -122,18 +121,18 @@ module _ {A : Type 0} {f : Format A} {z : ℕ} (p : Fixed f z) where
     first_read : at < length s → (after n f).read (drop at s) ≡ pick (eqb (get_or s at 0) n) (f.read (drop (at + 1) s)) bad
     first_read h = then_with _ _ _ (octet_stands s at h).reads
 
-    pub after_ends : get_or s at 0 ≡ n → at + (1 + z) ≤ length s → EndsAs (after n f) (p.value s (at + 1)) s at (1 + z) (At (at + (1 + z)))
+    pub after_ends : get_or s at 0 ≡ n → at + (1 + z) ≤ length s → EndsAs (after n f) (p.value s (at + 1)) s at (1 + z) (Some (at + (1 + z)))
     unfolding pick
     after_ends e h =
         as_there (stands_to (let q : at + 1 + z ≡ at + (1 + z) = omega arith in q)
         (record { reads = first_read (omega arith) ∙ ap (λ (b : Bool). pick b (f.read (drop (at + 1) s)) bad) (eq-eqb _ _ e) ∙ (p.stands s (at + 1) (omega arith)).reads }))
         (omega arith) h
 
-    pub after_other : (x : A) (least : ℕ) → (get_or s at 0 ≡ n → ⊥) → at < length s → EndsAs (after n f) x s at least Nowhere
+    pub after_other : (x : A) (least : ℕ) → (get_or s at 0 ≡ n → ⊥) → at < length s → EndsAs (after n f) x s at least None
     unfolding pick
     after_other x least e h = as_nowhere (record { reads = first_read h ∙ ap (λ (b : Bool). pick b (f.read (drop (at + 1) s)) bad) (ne_eqb _ _ e) })
 
-    pub after_short : (x : A) (least : ℕ) → at ≤ length s → length s < at + (1 + z) → EndsAs (after n f) x s at least Nowhere
+    pub after_short : (x : A) (least : ℕ) → at ≤ length s → length s < at + (1 + z) → EndsAs (after n f) x s at least None
     unfolding pick then
     after_short x least a h = as_nowhere (go (leb (length s) at) refl)
       where
@@ -153,11 +152,11 @@ walk_length v next zero s at = refl
 walk_length v next (suc n) s at = ap suc (walk_length v next n s (next s at))
 
 -- what the place of an end says
-pub counted_place : (s : List ℕ) (at z : ℕ) {n : ℕ} → counted_end s at z ≡ At n → (at < length s) × (n ≡ at + 1 + get_or s at 0 * z) × (n ≤ length s)
+pub counted_place : (s : List ℕ) (at z : ℕ) {n : ℕ} → counted_end s at z ≡ Some n → (at < length s) × (n ≡ at + 1 + get_or s at 0 * z) × (n ≤ length s)
 unfolding counted_end pick
 counted_place s at z {n} e = go (leb (length s) at) refl (ltb (length s) (at + 1 + get_or s at 0 * z)) refl e
   where
-    go : (b : Bool) → leb (length s) at ≡ b → (c : Bool) → ltb (length s) (at + 1 + get_or s at 0 * z) ≡ c → pick b Nowhere (pick c Nowhere (At (at + 1 + get_or s at 0 * z))) ≡ At n
+    go : (b : Bool) → leb (length s) at ≡ b → (c : Bool) → ltb (length s) (at + 1 + get_or s at 0 * z) ≡ c → pick b None (pick c None (Some (at + 1 + get_or s at 0 * z))) ≡ Some n
         → (at < length s) × (n ≡ at + 1 + get_or s at 0 * z) × (n ≤ length s)
     go true p c q e = let w : ◌≡◌ {A = ℕ} 0 1 = cc in absurd (omega arith)
     go false p true q e = let w : ◌≡◌ {A = ℕ} 0 1 = cc in absurd (omega arith)
@@ -165,7 +164,7 @@ counted_place s at z {n} e = go (leb (length s) at) refl (ltb (length s) (at + 1
 
 -- as the code comes to it
 module _ (s : List ℕ) (at z : ℕ) where
-  pub counted_over : length s ≤ at → Nowhere ≡ counted_end s at z
+  pub counted_over : length s ≤ at → None ≡ counted_end s at z
   unfolding counted_end
   counted_over h = pick_le _ _ _ (length s) at h refl
 
@@ -173,12 +172,12 @@ module _ (s : List ℕ) (at z : ℕ) where
     size : at + 1 + m ≡ at + 1 + get_or s at 0 * z
     size = ap (λ (k : ℕ). at + 1 + k) (em ∙ ap (λ (k : ℕ). k * z) en)
 
-    pub counted_past : length s < at + 1 + m → Nowhere ≡ counted_end s at z
+    pub counted_past : length s < at + 1 + m → None ≡ counted_end s at z
     unfolding counted_end
     counted_past l = let e = size in pick_not_le _ _ _ (length s) at h (pick_lt _ _ _ (length s) _ (omega arith) refl)
 
-    pub counted_at : at + 1 + m ≤ length s → At (at + 1 + m) ≡ counted_end s at z
+    pub counted_at : at + 1 + m ≤ length s → Some (at + 1 + m) ≡ counted_end s at z
     unfolding counted_end
-    counted_at l = let e = size in pick_not_le _ _ _ (length s) at h (pick_not_lt _ _ _ (length s) _ (omega arith) (ap At e))
+    counted_at l = let e = size in pick_not_le _ _ _ (length s) at h (pick_not_lt _ _ _ (length s) _ (omega arith) (ap Some e))
 
 pub ruleset counted_ends = (counted_over, counted_past, counted_at)

@@ -1,7 +1,7 @@
 -- Laws: where the value that stands at a place of the octets ends, format by format, and how walks over octets go on.
-use Rattle.std.specs.Prelude.{Bool, false, true, ◌≡◌, drop, get_or, take}
+use Rattle.std.specs.Prelude.{Bool, false, true, ◌≡◌, drop, get_or, take, None, Option, Some}
 use mathlib.Core.List.{List, [], ◌∷◌}
-use Rattle.std.proofs.Common.{◌∙◌, subst, sym, add-one, drop_of_length-le, length-drop, drop-cons, drop-drop}
+use Rattle.std.proofs.Common.{◌∙◌, inl, inr, subst, sym, add-one, drop_of_length-le, length-drop, drop-cons, drop-drop}
 use Rattle.std.proofs.Math.Path.{ap, refl}
 use Prim.Native.Nat.{◌+◌, ◌-◌, ◌<◌, ◌≤◌, suc, zero, ℕ}
 use native.Mathlib.Omega.{arith}
@@ -9,65 +9,63 @@ use Rattle.std.proofs.Math.ListN.{length}
 use Rattle.lists.specs.Pick.{pick}
 use Rattle.octets.specs.Octets.{at32}
 use Rattle.format.specs.Format.{Format, Got, ◌⊗◌, ◌▷◌, bad, closed, counted, got, number, octet, only, read_number, read_octet, read_times, then, times, viewed}
-use Rattle.format.specs.Place.{Ends, EndsAs, EndsBy, EndsWith, Fails, Stands}
-use Rattle.format.specs.declared.Place.{Place}
-use Rattle.format.specs.declared.Place.TheVariants.{At, Nowhere}
+use Rattle.format.specs.Place.{Ends, EndsAs, EndsBy, EndsWith, Fails, Leads, Stands}
 use Rattle.format.specs.laws.Format.{then_with}
 
-pub ends_as : {A : Type 0} {f : Format A} {x : A} {s : List ℕ} {at least : ℕ} {r : Place} → EndsAs f x s at least r → Ends f s at least r
+pub ends_as : {A : Type 0} {f : Format A} {x : A} {s : List ℕ} {at least : ℕ} {r : Option ℕ} → EndsAs f x s at least r → Ends f s at least r
 unfolding EndsBy EndsWith
 ends_as {f = f} {x = x} {s = s} {at = at} {least = least} {r = r} v = record { by = go r v.by }
   where
-    go : (r : Place) → EndsWith f x s at least r → EndsBy f s at least r
-    go (At n) (p, a, b) = (x, p, a, b)
-    go Nowhere e = e
+    go : (r : Option ℕ) → EndsWith f x s at least r → EndsBy f s at least r
+    go (Some n) (p, a, b) = (x, p, a, b)
+    go None e = e
 
-pub ends_nowhere : {A : Type 0} {f : Format A} {s : List ℕ} {at : ℕ} (least : ℕ) → Fails f s at → Ends f s at least Nowhere
+pub ends_nowhere : {A : Type 0} {f : Format A} {s : List ℕ} {at : ℕ} (least : ℕ) → Fails f s at → Ends f s at least None
 unfolding EndsBy
 ends_nowhere least e = record { by = e }
 
 -- what is known of a place that a call gave
-pub ends_at : {A : Type 0} {f : Format A} {s : List ℕ} {at least n : ℕ} {r : Place} → Ends f s at least r → r ≡ At n → Ends f s at least (At n)
-ends_at {f = f} {s = s} {at = at} {least = least} v e = subst (λ (r : Place). Ends f s at least r) e v
+pub ends_at : {A : Type 0} {f : Format A} {s : List ℕ} {at least n : ℕ} {r : Option ℕ} → Ends f s at least r → r ≡ Some n → Ends f s at least (Some n)
+ends_at {f = f} {s = s} {at = at} {least = least} v e = subst (λ (r : Option ℕ). Ends f s at least r) e v
 
-pub ends_not : {A : Type 0} {f : Format A} {s : List ℕ} {at least : ℕ} {r : Place} → Ends f s at least r → r ≡ Nowhere → Ends f s at least Nowhere
-ends_not {f = f} {s = s} {at = at} {least = least} v e = subst (λ (r : Place). Ends f s at least r) e v
+pub ends_not : {A : Type 0} {f : Format A} {s : List ℕ} {at least : ℕ} {r : Option ℕ} → Ends f s at least r → r ≡ None → Ends f s at least None
+ends_not {f = f} {s = s} {at = at} {least = least} v e = subst (λ (r : Option ℕ). Ends f s at least r) e v
 
-pub ends_in : {A : Type 0} {f : Format A} {s : List ℕ} {at least n : ℕ} → Ends f s at least (At n) → (at + least ≤ n) × (n ≤ length s)
+pub ends_in : {A : Type 0} {f : Format A} {s : List ℕ} {at least n : ℕ} → Ends f s at least (Some n) → (at + least ≤ n) × (n ≤ length s)
 unfolding EndsBy
 ends_in v = (v.by.2, v.by.3)
 
-pub ends_value : {A : Type 0} {f : Format A} {s : List ℕ} {at least n : ℕ} → Ends f s at least (At n) → (x : A) × Stands f s at x n
+pub ends_value : {A : Type 0} {f : Format A} {s : List ℕ} {at least n : ℕ} → Ends f s at least (Some n) → (x : A) × Stands f s at x n
 unfolding EndsBy
 ends_value v = (v.by.0, v.by.1)
 
-pub ends_bad : {A : Type 0} {f : Format A} {s : List ℕ} {at least : ℕ} → Ends f s at least Nowhere → Fails f s at
+pub ends_bad : {A : Type 0} {f : Format A} {s : List ℕ} {at least : ℕ} → Ends f s at least None → Fails f s at
 unfolding EndsBy
 ends_bad v = v.by
 
 -- a weaker bound
-pub ends_from : {A : Type 0} {f : Format A} {s : List ℕ} {at least : ℕ} (less : ℕ) {r : Place} → less ≤ least → Ends f s at least r → Ends f s at less r
+pub ends_from : {A : Type 0} {f : Format A} {s : List ℕ} {at least : ℕ} (less : ℕ) {r : Option ℕ} → less ≤ least → Ends f s at least r → Ends f s at less r
 unfolding EndsBy
 ends_from {f = f} {s = s} {at = at} {least = least} less {r} h v = record { by = go r v.by }
   where
-    go : (r : Place) → EndsBy f s at least r → EndsBy f s at less r
-    go (At n) (x, p, a, b) = (x, p, omega arith, b)
-    go Nowhere e = e
+    go : (r : Option ℕ) → EndsBy f s at least r → EndsBy f s at less r
+    go (Some n) (x, p, a, b) = (x, p, omega arith, b)
+    go None e = e
 
 -- the same of a known value
 module _ {A : Type 0} {f : Format A} {x : A} {s : List ℕ} {at least : ℕ} where
-  pub as_is : {r q : Place} → EndsAs f x s at least r → r ≡ q → EndsAs f x s at least q
-  as_is v e = subst (λ (r : Place). EndsAs f x s at least r) e v
+  pub as_is : {r q : Option ℕ} → EndsAs f x s at least r → r ≡ q → EndsAs f x s at least q
+  as_is v e = subst (λ (r : Option ℕ). EndsAs f x s at least r) e v
 
-  pub as_in : {n : ℕ} → EndsAs f x s at least (At n) → (at + least ≤ n) × (n ≤ length s)
+  pub as_in : {n : ℕ} → EndsAs f x s at least (Some n) → (at + least ≤ n) × (n ≤ length s)
   unfolding EndsWith
   as_in v = (v.by.1, v.by.2)
 
-  pub as_there : {n : ℕ} → Stands f s at x n → at + least ≤ n → n ≤ length s → EndsAs f x s at least (At n)
+  pub as_there : {n : ℕ} → Stands f s at x n → at + least ≤ n → n ≤ length s → EndsAs f x s at least (Some n)
   unfolding EndsWith
   as_there p a b = record { by = (p, a, b) }
 
-  pub as_nowhere : Fails f s at → EndsAs f x s at least Nowhere
+  pub as_nowhere : Fails f s at → EndsAs f x s at least None
   unfolding EndsWith
   as_nowhere p = record { by = p }
 
@@ -113,13 +111,13 @@ module _ {A : Type 0} (f : Format A) (s : List ℕ) (at : ℕ) where
     pub counted_is : (counted f).read (drop at s) ≡ (times k f).read (drop (at + 1) s)
     counted_is = then_with _ _ _ (octet_stands s at h).reads ∙ ap (λ (n : ℕ). read_times n f.read (drop (at + 1) s)) (sym e)
 
-    pub counted_ends_law : (least : ℕ) {r : Place} → Ends (times k f) s (at + 1) least r → Ends (counted f) s at 1 r
+    pub counted_ends_law : (least : ℕ) {r : Option ℕ} → Ends (times k f) s (at + 1) least r → Ends (counted f) s at 1 r
     unfolding EndsBy
     counted_ends_law least {r} v = record { by = go r v.by }
       where
-        go : (r : Place) → EndsBy (times k f) s (at + 1) least r → EndsBy (counted f) s at 1 r
-        go (At n) (xs, p, a, b) = (xs, record { reads = counted_is ∙ p.reads }, omega arith, b)
-        go Nowhere q = record { reads = counted_is ∙ q.reads }
+        go : (r : Option ℕ) → EndsBy (times k f) s (at + 1) least r → EndsBy (counted f) s at 1 r
+        go (Some n) (xs, p, a, b) = (xs, record { reads = counted_is ∙ p.reads }, omega arith, b)
+        go None q = record { reads = counted_is ∙ q.reads }
 
 -- a run of octets
 times_octets : (k : ℕ) (l : List ℕ) → k ≤ length l → read_times k read_octet l ≡ got (take k l) (drop k l)
@@ -157,15 +155,15 @@ module _ {A B : Type 0} {f : Format A} {s : List ℕ} {at : ℕ} (g : A → Form
   unfolding then
   fails_before q = record { reads = ap (λ w. then w (λ x r. then ((g x).read r) (λ y t. got (x, y) t))) q.reads }
 
-  pub then_ends : {a b m : ℕ} {x : A} {y : B} {r : Place} → EndsAs f x s at a (At m) → EndsAs (g x) y s m b r → EndsAs (f ▷ g) (x, y) s at (a + b) r
+  pub then_ends : {a b m : ℕ} {x : A} {y : B} {r : Option ℕ} → EndsAs f x s at a (Some m) → EndsAs (g x) y s m b r → EndsAs (f ▷ g) (x, y) s at (a + b) r
   unfolding EndsWith
   then_ends {a} {b} {m} {x} {y} {r} v w = record { by = go r v.by.0 v.by.1 w.by }
     where
-      go : (r : Place) → Stands f s at x m → at + a ≤ m → EndsWith (g x) y s m b r → EndsWith (f ▷ g) (x, y) s at (a + b) r
-      go (At n) p h (q, c, d) = (stands_then p q, omega arith, d)
-      go Nowhere p h q = fails_then p q
+      go : (r : Option ℕ) → Stands f s at x m → at + a ≤ m → EndsWith (g x) y s m b r → EndsWith (f ▷ g) (x, y) s at (a + b) r
+      go (Some n) p h (q, c, d) = (stands_then p q, omega arith, d)
+      go None p h q = fails_then p q
 
-  pub then_not : {a : ℕ} {x : A} (b : ℕ) (y : A × B) → EndsAs f x s at a Nowhere → EndsAs (f ▷ g) y s at b Nowhere
+  pub then_not : {a : ℕ} {x : A} (b : ℕ) (y : A × B) → EndsAs f x s at a None → EndsAs (f ▷ g) y s at b None
   unfolding EndsWith
   then_not b y v = record { by = fails_before v.by }
 
@@ -201,13 +199,13 @@ module _ {A : Type 0} {f : Format A} {s : List ℕ} {at : ℕ} (q : Fails f s at
   unfolding then
   viewed_none to from = record { reads = ap (λ g. then g (λ x r. got (to x) r)) q.reads }
 
-pub viewed_ends : {A B : Type 0} {f : Format A} {s : List ℕ} {at least : ℕ} {x : A} {r : Place} (to : A → B) (from : B → A) → EndsAs f x s at least r → EndsAs (viewed to from f) (to x) s at least r
+pub viewed_ends : {A B : Type 0} {f : Format A} {s : List ℕ} {at least : ℕ} {x : A} {r : Option ℕ} (to : A → B) (from : B → A) → EndsAs f x s at least r → EndsAs (viewed to from f) (to x) s at least r
 unfolding EndsWith
 viewed_ends {f = f} {s = s} {at = at} {least = least} {x = x} {r = r} to from v = record { by = go r v.by }
   where
-    go : (r : Place) → EndsWith f x s at least r → EndsWith (viewed to from f) (to x) s at least r
-    go (At n) (p, a, b) = (viewed_stands p to from, a, b)
-    go Nowhere q = viewed_none q to from
+    go : (r : Option ℕ) → EndsWith f x s at least r → EndsWith (viewed to from f) (to x) s at least r
+    go (Some n) (p, a, b) = (viewed_stands p to from, a, b)
+    go None q = viewed_none q to from
 
 -- ---- n in a row
 pub times_length : {A : Type 0} (f : Format A) (k : ℕ) (s : List ℕ) (xs : List A) (r : List ℕ) → (times k f).read s ≡ got xs r → length xs ≡ k
@@ -224,12 +222,12 @@ times_length {A} f (suc k) s xs r e = one (f.read s) (times_length f k) e
     one bad ih e = let z : ◌≡◌ {A = ℕ} 0 1 = cc in absurd (omega arith)
 
 module _ {A : Type 0} (f : Format A) {s : List ℕ} where
-  pub none_ends : (at k : ℕ) → k ≡ 0 → at ≤ length s → Ends (times k f) s at 0 (At at)
+  pub none_ends : (at k : ℕ) → k ≡ 0 → at ≤ length s → Ends (times k f) s at 0 (Some at)
   unfolding EndsBy read_times
   none_ends at k e h = record { by = ([], record { reads = ap (λ (n : ℕ). read_times n f.read (drop at s)) e }, omega arith, h) }
 
   -- one, and then the others
-  pub more_ends : (j : ℕ) {at here k a b : ℕ} {r : Place} → k ≡ j + 1 → Ends f s at a (At here) → Ends (times j f) s here b r → Ends (times k f) s at (a + b) r
+  pub more_ends : (j : ℕ) {at here k a b : ℕ} {r : Option ℕ} → k ≡ j + 1 → Ends f s at a (Some here) → Ends (times j f) s here b r → Ends (times k f) s at (a + b) r
   unfolding EndsBy read_times then
   more_ends j {at} {here} {k} {a} {b} {r} e v w = record { by = go r w.by }
     where
@@ -241,44 +239,24 @@ module _ {A : Type 0} (f : Format A) {s : List ℕ} where
           ap (λ (n : ℕ). read_times n f.read (drop at s)) (e ∙ add-one j)
           ∙ then_with _ _ _ v.by.1.reads ∙ ap (λ z. then z (λ xs t. got (x ∷ xs) t)) q
 
-      go : (r : Place) → EndsBy (times j f) s here b r → EndsBy (times k f) s at (a + b) r
-      go (At n) (xs, q, c, d) = let u = v.by.2 in (x ∷ xs, record { reads = one (got xs (drop n s)) q.reads }, omega arith, d)
-      go Nowhere q = record { reads = one bad q.reads }
+      go : (r : Option ℕ) → EndsBy (times j f) s here b r → EndsBy (times k f) s at (a + b) r
+      go (Some n) (xs, q, c, d) = let u = v.by.2 in (x ∷ xs, record { reads = one (got xs (drop n s)) q.reads }, omega arith, d)
+      go None q = record { reads = one bad q.reads }
 
-  pub first_fails : (k : ℕ) {at least : ℕ} → 0 < k → Ends f s at least Nowhere → Fails (times k f) s at
+  pub first_fails : (k : ℕ) {at least : ℕ} → 0 < k → Ends f s at least None → Fails (times k f) s at
   unfolding read_times then
   first_fails zero h v = absurd (omega arith)
   first_fails (suc k) h v = record { reads = ap (λ z. then z (λ x t. then (read_times k f.read t) (λ xs u. got (x ∷ xs) u))) (ends_bad v).reads }
 
--- ---- the loop over n in a row, each of at least one octet: what ends the rest ends the whole
-pub record Rest {A : Type 0} (f : Format A) (s : List ℕ) (at k here i : ℕ) : Type 0 where
-  pub within : i ≤ k
-  pub inside : here ≤ length s
-  pub on : (r : Place) → Ends (times (k - i) f) s here (k - i) r → Ends (times k f) s at k r
-
-module _ {A : Type 0} {f : Format A} {s : List ℕ} {at k : ℕ} where
-  pub rest_start : at ≤ length s → Rest f s at k at 0
-  rest_start h = record {
-    within = omega arith;
-    inside = h;
-    on = λ r v. subst (λ (n : ℕ). Ends (times n f) s at n r) (let e : k - 0 ≡ k = omega arith in e) v;
-  }
-
-  module _ {here i : ℕ} (v : Rest f s at k here i) where
-    pub rest_next : {next : ℕ} → i < k → Ends f s here 1 (At next) → Rest f s at k next (i + 1)
-    rest_next {next} h w = record {
-      within = omega arith;
-      inside = (ends_in w).1;
-      on = λ r q. v.on r (subst (λ (n : ℕ). Ends (times (k - i) f) s here n r) (let e : 1 + (k - (i + 1)) ≡ k - i = omega arith in e) (more_ends f (k - (i + 1)) (let e : k - i ≡ (k - (i + 1)) + 1 = omega arith in e) w q));
-    }
-
-    pub rest_broken : i < k → Ends f s here 1 Nowhere → Ends (times k f) s at k Nowhere
-    rest_broken h w = v.on Nowhere (ends_nowhere (k - i) (first_fails f (k - i) (omega arith) w))
-
-    pub rest_done : k ≤ i → Ends (times k f) s at k (At here)
-    rest_done h =
-        let e : k - i ≡ 0 = (let g = v.within in omega arith) in
-        v.on (At here) (subst (λ (n : ℕ). Ends (times (k - i) f) s here n (At here)) (sym e) (none_ends f here (k - i) e v.inside))
+  -- steps of which each ends a value of at least one octet
+  pub leads_end : {step : ℕ → Option ℕ → Type 0} → ((here : ℕ) (r : Option ℕ) → here ≤ length s → step here r → Ends f s here 1 r)
+      → (n at : ℕ) (r : Option ℕ) → at ≤ length s → Leads step n at r → Ends (times n f) s at n r
+  unfolding Leads
+  leads_end {step = step} ends zero at r h e = subst (λ (q : Option ℕ). Ends (times 0 f) s at 0 q) (sym e) (none_ends at 0 refl h)
+  leads_end {step = step} ends (suc n) at r h (inl (m, p, q)) =
+      let w = ends at (Some m) h p in
+      subst (λ (k : ℕ). Ends (times (suc n) f) s at k r) (let e : 1 + n ≡ suc n = omega arith in e) (more_ends n {k = suc n} (let e : suc n ≡ n + 1 = omega arith in e) w (leads_end {step = step} ends n m r (ends_in w).1 q))
+  leads_end {step = step} ends (suc n) at r h (inr (p, e)) = subst (λ (q : Option ℕ). Ends (times (suc n) f) s at (suc n) q) (sym e) (ends_nowhere (suc n) (first_fails (suc n) (omega arith) (ends at None h p)))
 
 -- ---- the whole of the octets
 drop_zero : (l : List ℕ) → drop 0 l ≡ l
@@ -289,11 +267,11 @@ closed_is : {A : Type 0} (f : Format A) (s : List ℕ) (w : Got A) → f.read (d
 closed_is f s w e = ap (λ (l : List ℕ). closed (f.read l)) (sym (drop_zero s)) ∙ ap closed e
 
 module _ {A : Type 0} {f : Format A} {s : List ℕ} {x : A} {least : ℕ} where
-  pub closed_not : EndsAs f x s 0 least Nowhere → closed (f.read s) ≡ bad
+  pub closed_not : EndsAs f x s 0 least None → closed (f.read s) ≡ bad
   unfolding EndsWith closed
   closed_not v = closed_is f s bad v.by.reads
 
-  module _ {n : ℕ} (v : EndsAs f x s 0 least (At n)) where
+  module _ {n : ℕ} (v : EndsAs f x s 0 least (Some n)) where
     pub closed_ends : n ≡ length s → closed (f.read s) ≡ got x []
     unfolding EndsWith closed
     closed_ends e = closed_is f s _ v.by.0.reads ∙ ap (λ (l : List ℕ). closed (got x l)) (drop_of_length-le s {i = n} (omega arith))

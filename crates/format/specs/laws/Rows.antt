@@ -147,6 +147,11 @@ pub row_sum : {A : Type 0} (w : ℕ → A → List ℕ) (d : A) (l : List A) (m 
 row_sum {A} w d l m c n sum e g p =
     p ∙ sym (row_size w d n l (omega arith)) ∙ ap (λ (x : List A). length (write_from w 0 x)) (ap (λ (k : ℕ). take k l) g ∙ cut_take m c l e)
 
+-- the octets of a whole row, one by one
+pub sum_row : {A : Type 0} (w : ℕ → A → List ℕ) (d : A) (l : List A) {k : List A} {sum : ℕ} → l ≡ k → sum ≡ sum_to (λ i. length (w i (get_or l i d))) (length l) → sum ≡ length (write_from w 0 k)
+sum_row {A} w d l e p =
+    p ∙ sym (row_size w d (length l) l (omega arith)) ∙ ap (λ (x : List A). length (write_from w 0 x)) (take_all (length l) l (omega arith) ∙ e)
+
 -- rows whose elements are as long are as long
 pub row_same : {A : Type 0} (w u : ℕ → A → List ℕ) → ((k : ℕ) (x : A) → length (w k x) ≡ length (u k x)) → (k : ℕ) (l : List A) → length (write_from w k l) ≡ length (write_from u k l)
 unfolding write_from

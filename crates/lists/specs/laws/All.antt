@@ -1,55 +1,12 @@
 -- Laws: of tests on every element and on every pair, and the loops that decide them.
-use Rattle.std.specs.Prelude.{◌≡◌, Bool, ℕ, zero, suc, ◌+◌, ◌≤◌, ◌<◌, min, length, get_or, take, drop, eqb}
+use Rattle.std.specs.Prelude.{◌≡◌, Bool, ℕ, zero, suc, ◌+◌, ◌≤◌, ◌<◌, take, drop, eqb}
 use Rattle.std.proofs.Math.Path.{refl, sym, ap}
-use Rattle.std.proofs.Common.{ap₂, ◌∙◌, arith, add-one, take_all}
+use Rattle.std.proofs.Common.{ap₂, ◌∙◌, arith, add-one}
 use Rattle.std.proofs.Math.Bool.{true, false}
 use mathlib.Core.List.{List, [], ◌∷◌, ◌++◌, map}
-use Rattle.std.proofs.Math.Dec.{ltb}
-use borrow.Author.Tests.{eqb-true, eqb-false, not-true, not-false, ltb-true, ltb-false}
+use borrow.Author.Tests.{eqb-true, eqb-false, not-true, not-false}
 use Rattle.lists.specs.Pick.{pick}
-use Rattle.lists.specs.laws.Part.{cut_take, part_head, part_ended, unmapped}
 use Rattle.lists.specs.All.{All, all_by, pairs_by, all_to}
-
--- ---- all
-pub record AllInv {A : Type 0} (t : A → Bool) (d : A) (l : List A) (n : ℕ) (w : Bool) (i : ℕ) : Type 0 where
-  pub within : i ≤ n
-  pub long : n ≤ length l
-  pub whole : all_by t (drop i (take n l)) ≡ w
-
--- the first x elements, cut to the length
-pub all_start : {A : Type 0} {t : A → Bool} {d : A} {l : List A} {n : ℕ} (x k : ℕ) → n ≡ min x k → length l ≡ k → AllInv t d l n (all_by t (take x l)) 0
-all_start {t = t} {l = l} {n = n} x k e g = record {
-  within = omega arith;
-  long = omega arith;
-  whole = ap (λ (z : ℕ). all_by t (take z l)) e ∙ ap (all_by t) (cut_take k x l g);
-}
-
--- from an index on, to the end of the array
-pub all_rest : {A : Type 0} {t : A → Bool} {d : A} {l : List A} {n i : ℕ} → i ≤ n → length l ≡ n → AllInv t d l n (all_by t (drop i l)) i
-all_rest {t = t} {l = l} {n = n} {i = i} h e = record { within = h; long = omega arith; whole = ap (λ (y : List _). all_by t (drop i y)) (take_all n l (omega arith)) }
-
-module _ {A : Type 0} {t : A → Bool} {d : A} {l : List A} {n : ℕ} {w : Bool} {i : ℕ} (v : AllInv t d l n w i) where
-  all_here : i < n → pick (t (get_or l i d)) (all_by t (drop (i + 1) (take n l))) false ≡ w
-  unfolding all_by
-  all_here h = sym (ap (all_by t) (part_head d l n i v.long h)) ∙ v.whole
-
-  pub all_broken : {q : Bool} → i < n → q ≡ t (get_or l i d) → q ≡ false → false ≡ w
-  unfolding pick
-  all_broken h e y = ap (λ (b : Bool). pick b (all_by t (drop (i + 1) (take n l))) false) (sym y ∙ e) ∙ all_here h
-
-  pub all_next : {q : Bool} → i < n → q ≡ t (get_or l i d) → q ≡ true → AllInv t d l n w (i + 1)
-  unfolding pick
-  all_next h e y = record {
-    within = omega arith;
-    long = v.long;
-    whole = ap (λ (b : Bool). pick b (all_by t (drop (i + 1) (take n l))) false) (sym y ∙ e) ∙ all_here h;
-  }
-
-  pub all_end : n ≤ i → true ≡ w
-  unfolding all_by
-  all_end h = sym (ap (all_by t) (part_ended l n i v.long h)) ∙ v.whole
-
-pub ruleset alls = (all_broken, all_next, all_end, unmapped, not-true, not-false)
 
 -- ---- every number below n
 
@@ -221,81 +178,3 @@ pub all_joined : {A : Type 0} (P : A → Type 0) (x y : List A) → All P x → 
 unfolding All
 all_joined P [] y p q = q
 all_joined P (a ∷ x) y p q = (p.0, all_joined P x y p.1 q)
-
--- ---- pairs, in one loop over two places
-pub record CrossInv {A : Type 0} (t : A → A → Bool) (d : A) (l : List A) (n : ℕ) (w : Bool) (i j : ℕ) : Type 0 where
-  pub within : i ≤ n
-  pub after : i < j
-  pub near : j ≤ n + 1
-  pub long : n ≤ length l
-  pub whole : pick (all_by (t (get_or l i d)) (drop j (take n l))) (pairs_by t (drop (i + 1) (take n l))) false ≡ w
-
-module _ {A : Type 0} (t : A → A → Bool) (d : A) (l : List A) (n : ℕ) (long : n ≤ length l) where
-  -- all that is left from k on
-  cross_open : (k : ℕ) → pick (all_by (t (get_or l k d)) (drop (k + 1) (take n l))) (pairs_by t (drop (k + 1) (take n l))) false ≡ pairs_by t (drop k (take n l))
-  unfolding pairs_by all_by pick
-  cross_open k = go (ltb k n) refl
-    where
-      go : (b : Bool) → ltb k n ≡ b → pick (all_by (t (get_or l k d)) (drop (k + 1) (take n l))) (pairs_by t (drop (k + 1) (take n l))) false ≡ pairs_by t (drop k (take n l))
-      go true e = sym (ap (pairs_by t) (part_head d l n k long (ltb-true k n e)))
-      go false e =
-          let h = ltb-false k n e in
-          ap (λ (r : List A). pick (all_by (t (get_or l k d)) r) (pairs_by t r) false) (part_ended l n (k + 1) long (omega arith)) ∙ sym (ap (pairs_by t) (part_ended l n k long h))
-
-pub cross_start : {A : Type 0} {t : A → A → Bool} {d : A} {l : List A} {n : ℕ} (x k : ℕ) → n ≡ min x k → length l ≡ k → CrossInv t d l n (pairs_by t (take x l)) 0 1
-cross_start {t = t} {d = d} {l = l} {n = n} x k e g = record {
-  within = omega arith;
-  after = omega arith;
-  near = omega arith;
-  long = omega arith;
-  whole = cross_open t d l n (omega arith) 0 ∙ ap (λ (z : ℕ). pairs_by t (take z l)) e ∙ ap (pairs_by t) (cut_take k x l g);
-}
-
--- the whole array
-pub cross_whole : {A : Type 0} {t : A → A → Bool} {d : A} {l : List A} {n : ℕ} → length l ≡ n → CrossInv t d l n (pairs_by t l) 0 1
-cross_whole {t = t} {d = d} {l = l} {n = n} e = record {
-  within = omega arith;
-  after = omega arith;
-  near = omega arith;
-  long = omega arith;
-  whole = cross_open t d l n (omega arith) 0 ∙ ap (pairs_by t) (take_all n l (omega arith));
-}
-
-module _ {A : Type 0} {t : A → A → Bool} {d : A} {l : List A} {n : ℕ} {w : Bool} {i j : ℕ} (v : CrossInv t d l n w i j) where
-  cross_here : j < n → pick (pick (t (get_or l i d) (get_or l j d)) (all_by (t (get_or l i d)) (drop (j + 1) (take n l))) false) (pairs_by t (drop (i + 1) (take n l))) false ≡ w
-  unfolding all_by
-  cross_here h = ap (λ (r : List A). pick (all_by (t (get_or l i d)) r) (pairs_by t (drop (i + 1) (take n l))) false) (sym (part_head d l n j v.long h)) ∙ v.whole
-
-  pub cross_broken : {q : Bool} → j < n → q ≡ t (get_or l i d) (get_or l j d) → q ≡ false → false ≡ w
-  unfolding pick
-  cross_broken h e y =
-      ap (λ (b : Bool). pick (pick b (all_by (t (get_or l i d)) (drop (j + 1) (take n l))) false) (pairs_by t (drop (i + 1) (take n l))) false) (sym y ∙ e) ∙ cross_here h
-
-  pub cross_next : {q : Bool} → j < n → q ≡ t (get_or l i d) (get_or l j d) → q ≡ true → CrossInv t d l n w i (j + 1)
-  unfolding pick
-  cross_next h e y = record {
-    within = v.within;
-    after = let a = v.after in omega arith;
-    near = omega arith;
-    long = v.long;
-    whole = ap (λ (b : Bool). pick (pick b (all_by (t (get_or l i d)) (drop (j + 1) (take n l))) false) (pairs_by t (drop (i + 1) (take n l))) false) (sym y ∙ e) ∙ cross_here h;
-  }
-
-  pub cross_row : i < n → n ≤ j → CrossInv t d l n w (i + 1) (i + 1 + 1)
-  unfolding all_by pick
-  cross_row h g = record {
-    within = omega arith;
-    after = omega arith;
-    near = omega arith;
-    long = v.long;
-    whole =
-        cross_open t d l n v.long (i + 1)
-        ∙ sym (ap (λ (r : List A). pick (all_by (t (get_or l i d)) r) (pairs_by t (drop (i + 1) (take n l))) false) (part_ended l n j v.long g)) ∙ v.whole;
-  }
-
-  pub cross_end : n ≤ i → true ≡ w
-  unfolding all_by pairs_by pick
-  cross_end h =
-      sym (ap₂ (λ (r q : List A). pick (all_by (t (get_or l i d)) r) (pairs_by t q) false) (part_ended l n j v.long (let a = v.after in omega arith)) (part_ended l n (i + 1) v.long (omega arith))) ∙ v.whole
-
-pub ruleset crosses = (cross_start, cross_broken, cross_next, cross_row, cross_end, unmapped, not-true, not-false)

@@ -1,8 +1,7 @@
 -- Laws: one for every loop that writes a list s into a list d from `at` on, one element a turn.
-use Rattle.std.specs.Prelude.{◌≡◌, List, ◌++◌, ℕ, ◌+◌, ◌-◌, ◌≤◌, ◌<◌, length, get_or, set, take, drop}
-use Rattle.std.proofs.Common.{sym, ap, ◌∙◌, subst, append-nil, arith, zero-add, add-one, drop_of_length-le, length-drop, take_all, get_or-drop}
+use Rattle.std.specs.Prelude.{◌≡◌, List, ◌++◌, ℕ, ◌+◌, ◌≤◌, ◌<◌, length, get_or, set, take, drop}
+use Rattle.std.proofs.Common.{sym, ap, ◌∙◌, subst, append-nil, arith, zero-add, add-one, drop_of_length-le, take_all}
 use Rattle.std.proofs.Math.Seq.{paste, paste-zero, paste-suc}
-use Rattle.std.proofs.lemmas.List.Edits.{length-paste}
 
 -- What such a loop keeps: i elements are written, and now is the list. z is what an element is past a list's end.
 pub record CopyInv {A : Type 0} (z : A) (d : List A) (at : ℕ) (s : List A) (n : ℕ) (now : List A) (i : ℕ) : Type 0 where
@@ -13,10 +12,6 @@ pub record CopyInv {A : Type 0} (z : A) (d : List A) (at : ℕ) (s : List A) (n 
 
 pub copy_start : {A : Type 0} {z : A} {d : List A} {at : ℕ} {s : List A} {n : ℕ} (m k : ℕ) → length d ≡ m → length s ≡ k → at + n ≤ m → n ≤ k → CopyInv z d at s n d 0
 copy_start {d = d} {at = at} {s = s} m k p q h g = record { within = omega arith; fits = omega arith; enough = omega arith; whole = paste-zero d at s }
-
--- to the front, from b on in l
-pub copy_start_part : {A : Type 0} {z : A} {d : List A} (l : List A) (b : ℕ) {n : ℕ} (m k : ℕ) → length d ≡ m → length l ≡ k → n ≤ m → b + n ≤ k → CopyInv z d 0 (drop b l) n d 0
-copy_start_part l b m k p q h g = copy_start m (length l - b) p (length-drop b l) (omega arith) (omega arith)
 
 module _ {A : Type 0} {z : A} {d : List A} {at : ℕ} {s : List A} {n : ℕ} {now : List A} {i : ℕ} (v : CopyInv z d at s n now i) where
   pub copy_next : (x : A) → i < n → x ≡ get_or s i z → CopyInv z d at s n (set now (at + i) x) (i + 1)
@@ -31,9 +26,6 @@ module _ {A : Type 0} {z : A} {d : List A} {at : ℕ} {s : List A} {n : ℕ} {no
         ∙ ap (paste d at s) (sym (add-one i));
   }
 
-  pub copy_long : length now ≡ length d
-  copy_long = ap length v.whole ∙ length-paste d at s i (omega (arith, v.fits)) (omega (arith, v.enough))
-
   pub copy_end : n ≤ i → now ≡ paste d at s n
   copy_end h = let e : i ≡ n = omega arith in v.whole ∙ ap (paste d at s) e
 
@@ -47,9 +39,3 @@ module _ {A : Type 0} {z : A} {d : List A} {s : List A} {n : ℕ} {now : List A}
 
   pub copy_full : n ≤ i → length d ≡ n → now ≡ take n s
   copy_full h e = copy_end v h ∙ ap (λ (l : List A). take n s ++ l) (drop_of_length-le d {i = 0 + n} (omega arith)) ∙ append-nil (take n s)
-
--- an element of a part
-pub read_part : {A : Type 0} (l : List A) (n i : ℕ) (z : A) → get_or l (n + i) z ≡ get_or (drop n l) i z
-read_part l n i z = sym (get_or-drop n l i z)
-
-pub ruleset copies = (copy_next, copy_front, copy_long, copy_paste, copy_full, read_part)

@@ -13,14 +13,6 @@ pub record FoldInv {A B : Type 0} (f : B → A → B) (d : A) (l : List A) (n : 
 pub fold_start : {A B : Type 0} {f : B → A → B} {d : A} {l : List A} {n : ℕ} {w r : B} → length l ≡ n → fold f r l ≡ w → FoldInv f d l n w r 0
 fold_start e p = record { within = omega arith; long = e; whole = p }
 
--- the same where the first value is what a call gave
-pub fold_start_from : {A B : Type 0} {f : B → A → B} {d : A} {l : List A} {n : ℕ} {w r b : B} → r ≡ b → length l ≡ n → fold f b l ≡ w → FoldInv f d l n w r 0
-fold_start_from {f = f} {l = l} q e p = record { within = omega arith; long = e; whole = ap (λ x. fold f x l) q ∙ p }
-
--- from index i
-pub fold_start_at : {A B : Type 0} {f : B → A → B} {d : A} {l : List A} {n : ℕ} {w r : B} {i : ℕ} → i ≤ n → length l ≡ n → fold f r (drop i l) ≡ w → FoldInv f d l n w r i
-fold_start_at h e p = record { within = h; long = e; whole = p }
-
 module _ {A B : Type 0} {f : B → A → B} {d : A} {l : List A} {n : ℕ} {w acc : B} {i : ℕ} (v : FoldInv f d l n w acc i) where
   pub fold_next : {r : B} → i < n → r ≡ f acc (get_or l i d) → FoldInv f d l n w r (i + 1)
   fold_next {r} h e = record {
@@ -34,5 +26,3 @@ module _ {A B : Type 0} {f : B → A → B} {d : A} {l : List A} {n : ℕ} {w ac
 
   pub fold_end : n ≤ i → acc ≡ w
   fold_end h = sym (ap (fold f acc) (drop_of_length-le l {i = i} (omega (arith, v.long)))) ∙ v.whole
-
-pub ruleset folds = (fold_start, fold_start_from, fold_start_at, fold_next, fold_end)

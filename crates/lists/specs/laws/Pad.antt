@@ -28,5 +28,3 @@ module _ {A : Type 0} {z : A} {m : ℕ} {l : List A} {n : ℕ} {out : List A} {i
 
   pub pad_end : n ≤ i → out ≡ laid_row z m l
   pad_end h = copy_paste v.copy h v.long ∙ ap (λ (r : List A). l ++ r) (ap (λ (j : ℕ). drop j (replicate m z)) (zero-add n ∙ sym v.long) ∙ drop_replicate z (length l) m)
-
-pub ruleset padding = (pad_start, pad_next, pad_end)

@@ -1,7 +1,7 @@
 -- Laws: of two lists compared element by element, and the loop that does it.
-use Rattle.std.specs.Prelude.{◌≡◌, refl, Bool, true, false, ◌&&◌, List, [], ◌∷◌, ℕ, ◌+◌, ◌≤◌, ◌<◌, eqb, length, get_or, drop}
+use Rattle.std.specs.Prelude.{◌≡◌, refl, Bool, true, false, ◌&&◌, List, [], ◌∷◌, ℕ, ◌+◌, ◌≤◌, ◌<◌, length, get_or, drop}
 use Rattle.std.proofs.Math.Path.{sym}
-use Rattle.std.proofs.Common.{ap, ap₂, ◌∙◌, arith, add-one, drop_of_length-le, drop-cons, eq-eqb, ne_eqb}
+use Rattle.std.proofs.Common.{ap, ap₂, ◌∙◌, arith, add-one, drop_of_length-le, drop-cons}
 use Rattle.std.proofs.lemmas.Bool.{not-true, not-false}
 use Rattle.lists.specs.Same.{same_by}
 use Rattle.lists.specs.laws.Both.{and_parts, and_both}
@@ -57,13 +57,3 @@ module _ {A : Type 0} {t : A → A → Bool} {d : A} {x y : List A} {n i : ℕ} 
       sym (ap₂ (same_by t) (drop_of_length-le x {i = i} (omega arith)) (drop_of_length-le y {i = i} (omega arith))) ∙ v.whole
 
 pub ruleset sames = (same_start, same_broken, same_next, same_end, unmapped, not-true, not-false)
-
--- where the elements are numbers
-module _ {x y : List ℕ} {n i : ℕ} (v : SameInv eqb 0 x y n i) where
-  pub same_differ : i < n → (get_or x i 0 ≡ get_or y i 0 → ⊥) → false ≡ same_by eqb x y
-  same_differ h e = same_broken v h (sym (ne_eqb _ _ e)) refl
-
-  pub same_equal : i < n → get_or x i 0 ≡ get_or y i 0 → SameInv eqb 0 x y n (i + 1)
-  same_equal h e = same_next v h (sym (eq-eqb _ _ e)) refl
-
-pub ruleset numbers_same = (same_start, same_differ, same_equal, same_end)

@@ -14,4 +14,6 @@ pub put_octet-requires : goal.put_octet-requires
 put_octet-requires c = omega (arith, c.put_part-w.ensures.small, c.put_part-x.ensures.small, c.put_part-y.ensures.small)
 
 pub returns : goal.returns
-returns c = dotted_wrote c.args.a (search rules) c.put_part-w.ensures c.put_part-x.ensures c.put_part-y.ensures c.put_octet.ensures
+returns c =
+    dotted_wrote c.args.a (search rules) (rw c.to_be_bytes.ensures at c.put_part-w.ensures) (rw c.to_be_bytes.ensures at c.put_part-x.ensures)
+    (rw c.to_be_bytes.ensures at c.put_part-y.ensures) (rw c.to_be_bytes.ensures at c.put_octet.ensures)

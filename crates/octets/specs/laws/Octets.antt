@@ -1,12 +1,9 @@
 -- Laws: of numbers in octets and of `put`: numbers read back, a run of stores is a `put`, two runs one after the other are one, and
 -- from a buffer's start they are `reply ++ drop (length reply) buffer`.
-use Rattle.std.specs.Prelude.{◌≡◌, List, [], ◌∷◌, ◌++◌, ℕ, ◌+◌, ◌*◌, ◌/◌, ◌%◌, ◌≤◌, ◌<◌, length, take, drop, set}
-use Rattle.std.proofs.Common.{sym, ap, ◌∙◌, append_assoc, append-nil, arith, add_assoc, zero-add, add-zero, add-one, length-append, take-append-drop, take_at, drop-drop, length-take-le}
+use Rattle.std.specs.Prelude.{◌≡◌, List, [], ◌++◌, ℕ, ◌+◌, ◌*◌, ◌/◌, ◌%◌, ◌≤◌, ◌<◌, length, take, drop}
+use Rattle.std.proofs.Common.{refl, sym, ap, ◌∙◌, append_assoc, append-nil, arith, add_assoc, zero-add, add-zero, length-append, take-append-drop, take_at, drop-drop, length-take-le}
 use Rattle.std.proofs.Math.Nat.{div-div-eq-div-mul}
-use Rattle.std.proofs.Math.Numerals.{add-two, add-three}
-use Rattle.std.proofs.lemmas.List.Edits.{sets-eq}
 use Rattle.std.proofs.Math.Seq.{drop-append-add}
-use Rattle.lists.specs.laws.Copy.{CopyInv, copy_end}
 use Rattle.octets.specs.Octets.{be16, be32, put, Wrote}
 
 -- a number that fits its octets is what they make
@@ -22,18 +19,11 @@ read_back32 v h =
     digits : (c b a v : ℕ) → c < 256 → b ≡ c * 256 + b % 256 → a ≡ b * 256 + a % 256 → v ≡ a * 256 + v % 256 → be32 (c % 256) (b % 256) (a % 256) (v % 256) ≡ v
     digits c b a v h p q r = omega arith
 
-pub put_one : (r : List ℕ) (at a : ℕ) → at + 1 ≤ length r → set r at a ≡ put r at (a ∷ [])
+-- what is copied into the k octets from `at` on
+pub put_part : (r : List ℕ) (at : ℕ) (xs : List ℕ) {ys : List ℕ} {k : ℕ} → k ≡ length xs → ys ≡ xs
+    → take at r ++ (ys ++ drop k (drop at r)) ≡ put r at xs
 unfolding put
-put_one r at a h = sets-eq (a ∷ []) r at h
-
-pub put_two : (r : List ℕ) (at a b : ℕ) → at + 2 ≤ length r → set (set r at a) (at + 1) b ≡ put r at (a ∷ b ∷ [])
-unfolding put
-put_two r at a b h = rw add-one (sets-eq (a ∷ b ∷ []) r at h)
-
-pub put_four : (r : List ℕ) (at a b c d : ℕ) → at + 4 ≤ length r
-    → set (set (set (set r at a) (at + 1) b) (at + 2) c) (at + 3) d ≡ put r at (a ∷ b ∷ c ∷ d ∷ [])
-unfolding put
-put_four r at a b c d h = rw (add-one, add-two, add-three) (sets-eq (a ∷ b ∷ c ∷ d ∷ []) r at h)
+put_part r at xs e p = rw (p, e, drop-drop, append_assoc) refl
 
 head_length : (r : List ℕ) (at : ℕ) (xs : List ℕ) → at ≤ length r → length (take at r ++ xs) ≡ at + length xs
 head_length r at xs h = length-append (take at r) xs ∙ ap (λ (k : ℕ). k + length xs) (length-take-le at r h)
@@ -81,13 +71,3 @@ wrote_none r at = record {
 -- what was written may be said in other words
 pub wrote_as : {r₀ r₁ xs ys : List ℕ} {a n : ℕ} → xs ≡ ys → Wrote r₀ a xs r₁ n → Wrote r₀ a ys r₁ n
 wrote_as {r₀ = r₀} {a = a} e w = record { next = w.next ∙ ap (λ (l : List ℕ). a + length l) e; buffer = w.buffer ∙ ap (put r₀ a) e }
-
--- a loop that copied n octets has written them
-pub copied : {r₀ s r₁ : List ℕ} {at n i : ℕ} → CopyInv 0 r₀ at s n r₁ i → n ≤ i → Wrote r₀ at (take n s) r₁ (at + n)
-unfolding put
-copied {r₀ = r₀} {s = s} {at = at} {n = n} v h =
-    let e : length (take n s) ≡ n = length-take-le n s v.enough in
-    record {
-      next = ap (λ (k : ℕ). at + k) (sym e);
-      buffer = copy_end v h ∙ ap (λ (k : ℕ). take at r₀ ++ take n s ++ drop (at + k) r₀) (sym e);
-    }

@@ -1,7 +1,8 @@
 -- Laws: of a run of octets: a part of a slice, element by element.
-use Rattle.std.specs.Prelude.{List, ◌∷◌, ◌≡◌, ◌+◌, ◌<◌, ◌≤◌, ℕ, drop, get_or, length, take}
-use Rattle.std.proofs.Common.{◌∙◌, ap₂, sym, add-one, arith, length-drop, drop-cons, get_or-drop, get_or-take, length-take-le}
-use Rattle.lists.specs.laws.Pad.{padding}
+use Rattle.std.specs.Prelude.{List, ◌∷◌, ◌++◌, ◌≡◌, ◌+◌, ◌<◌, ◌≤◌, ℕ, drop, get_or, length, replicate, take}
+use Rattle.std.proofs.Common.{◌∙◌, ap₂, refl, sym, add-one, arith, length-drop, drop-cons, get_or-drop, get_or-take, length-take-le}
+use Rattle.std.proofs.lemmas.List.{drop-replicate}
+use Rattle.lists.specs.Row.{laid_row}
 
 -- the k octets from at on
 abbrev pub part : List ℕ → ℕ → ℕ → List ℕ
@@ -19,5 +20,6 @@ part_next s at k i h g =
     drop-cons (part s at k) i 0 (let e = part_length s at k h in omega arith)
     ∙ ap₂ {C = List ℕ} (λ (x : ℕ) (n : ℕ). x ∷ drop n (part s at k)) (sym (part_element s at k i g)) (sym (add-one i))
 
--- an array filled with a run
-pub ruleset runs = (padding, part_length, part_element)
+-- a run in front of what was all z
+pub laid : (z m : ℕ) {n : ℕ} (xs : List ℕ) {ys : List ℕ} → length xs ≡ n → ys ≡ xs → ys ++ drop n (replicate m z) ≡ laid_row z m xs
+laid z m xs e p = rw (p, ← e, drop-replicate) refl

@@ -247,9 +247,9 @@ fewest_first m f (suc c) v =
     ∙ ap (λ (l : List ℕ). record { first = f; count = suc c } ∷ fewest_ranges l) (offsets_high m (f + suc c) v.fits)
 
 -- ---- what `first_range` and `rest` give
-pub first_none : (m : ℕ) → m ≤ 0 → record { first = 0; count = 0 } ≡ first_range (fewest_ranges (offsets m))
+pub first_none : (m : ℕ) → m ≡ 0 → record { first = 0; count = 0 } ≡ first_range (fewest_ranges (offsets m))
 unfolding first_range fewest_ranges
-first_none m h = sym (ap (λ (l : List ℕ). first_range (fewest_ranges l)) (ap offsets (let e : m ≡ 0 = omega arith in e) ∙ offsets_of_zero 0 64))
+first_none m e = sym (ap (λ (l : List ℕ). first_range (fewest_ranges l)) (ap offsets e ∙ offsets_of_zero 0 64))
 
 module _ (m : ℕ) (h : m < 2 ^ 64) (p : 0 < m) where
   pub first_some : record { first = count_trailing_zeros 64 m; count = count_trailing_zeros 64 (flip m) } ≡ first_range (fewest_ranges (offsets m))

@@ -15,10 +15,7 @@ pub struct Range {
 pub fn first_n(n: u8) -> u64
     ensures { result ≡ set_of (up_to (min n 64)) }
 {
-    if n < 64 {
-        return (1u64 << (n as u64)) - 1;
-    }
-    18446744073709551615
+    if n < 64 { (1u64 << n) - 1 } else { u64::MAX }
 }
 
 // The offsets of m that are not in n.
@@ -31,31 +28,22 @@ pub fn difference(m: u64, n: u64) -> u64
 pub fn count(set: u64) -> u32
     ensures { result ≡ length (offsets set) }
 {
-    u64::count_ones(set)
+    set.count_ones()
 }
 
 // The lowest n offsets of a set; all of them where it has fewer. Nothing is walked where there is none to find or none to take.
 pub fn lowest(set: u64, n: u64) -> u64
     ensures { result ≡ lowest_of set n }
 {
-    if set == 0 {
+    if set == 0 || n == 0 {
         return 0;
     }
-    if n == 0 {
-        return 0;
-    }
-    let mut out: u64 = 0;
-    let mut left: u64 = n;
-    let mut at: u64 = 0;
-    while at < 64 {
-        let b = (set >> at) % 2;
-        let one = 1u64 << at;
-        at += 1;
-        if 0 < b {
-            if 0 < left {
-                out = out | one;
-                left = left - 1;
-            }
+    let mut out = 0;
+    let mut left = n;
+    for at in 0..64u64 {
+        if (set >> at) % 2 == 1 && left > 0 {
+            out |= 1u64 << at;
+            left -= 1;
         }
     }
     out
@@ -64,48 +52,32 @@ pub fn lowest(set: u64, n: u64) -> u64
 fn with_offset(set: u64, at: u8) -> u64
     ensures { result ≡ with_offset set at }
 {
-    if at < 64 {
-        return set | (1u64 << (at as u64));
-    }
-    set
+    if at < 64 { set | (1u64 << at) } else { set }
 }
 
 // The set of a list of offsets; an octet from 64 on adds nothing.
 pub fn from_offsets(s: &[u8]) -> u64
     ensures { result ≡ read_offsets s.now }
 {
-    let mut set: u64 = 0;
-    let mut i: usize = 0;
-    while i < s.len() {
-        set = with_offset(set, s[i]);
-        i += 1;
-    }
-    set
+    s.iter().fold(0, |set, at| with_offset(set, *at))
 }
 
 // The first of the fewest ranges of a set; one of no offset where the set is empty.
 pub fn first_range(set: u64) -> Range
     ensures { result ≡ first_range (fewest_ranges (offsets set)) }
 {
-    if 0 < set {
-        let first = u64::trailing_zeros(set);
-        let ones = set >> (first as u64);
-        let count = u64::trailing_zeros(!ones);
-        return Range {
-            first: first,
-            count: count,
-        };
+    if set == 0 {
+        return Range { first: 0, count: 0 };
     }
-    Range { first: 0, count: 0 }
+    let first = set.trailing_zeros();
+    let count = (set >> first).trailing_ones();
+    Range { first, count }
 }
 
 // The offsets of a set behind a range: with its first range, those of the other ranges.
 pub fn rest(set: u64, r: Range) -> u64
     ensures { result ≡ behind set r }
 {
-    let end = (r.first as u64) + (r.count as u64);
-    if end < 64 {
-        return (set >> end) << end;
-    }
-    0
+    let end = u64::from(r.first) + u64::from(r.count);
+    if end < 64 { (set >> end) << end } else { 0 }
 }

@@ -3,7 +3,7 @@ use Rattle.std.specs.Prelude.{ℕ, ◌+◌, ◌*◌, ◌<◌, Bool, List, [], �
 use Rattle.lists.specs.Pick.{pick}
 use Rattle.lists.specs.All.{All}
 
--- 0 is before, 1 the same, 2 after
+-- 0 is before, 1 the same, 2 after: the `ordering_index` of what std's order of lists says
 unfoldable pub order_of : List ℕ → List ℕ → ℕ
 order_of [] [] = 1
 order_of [] (y ∷ ys) = 0

@@ -2,51 +2,32 @@
 // and for each tenant in the scope its holding. A lease added or removed alters only the entries of its addresses and its tenant's holding.
 #![tactic(auto)]
 
-ghost use Rattle.std.specs.Prelude.{◌≡◌, ◌+◌, ◌-◌, ◌<◌, ◌≤◌, min, eqb};
+ghost use Rattle.std.specs.Prelude.{◌≡◌, ◌<◌, ◌≤◌};
 ghost use Rattle.lists.specs.Fold.{fold};
-ghost use Rattle.lists.specs.Same.{same_by};
 ghost use Rattle.address_set.specs.AddressSet.{offsets};
 ghost use Rattle.occupancy.specs.Split.{Runs, Splits, gained, held_more};
-ghost use Rattle.occupancy.specs.Board.{no_board, more_on, less_on, shrunk, laid_on, lifted_off, added_to, taken_from, place_in, scope_board_at, entry_at, held_in, same_entry, same_scope_board, same_board};
+ghost use Rattle.occupancy.specs.Board.{no_board, more_on, less_on, shrunk, laid_on, lifted_off, added_to, taken_from, place_in, scope_board_at, entry_at, held_in, same_board};
 
 use address_set::Range;
 
 // An address: its owner, a tenant counted from 1, or 0 for none, and the number of leases on it.
-#[derive(Clone, Copy)]
+#[derive(Clone, Copy, PartialEq, Eq)]
 pub struct Entry {
     pub owner: u8,
     pub count: u8,
 }
 
 // A scope: its addresses, by offset, and how many of them each tenant holds.
-#[derive(Clone, Copy)]
+#[derive(Clone, Copy, PartialEq, Eq)]
 pub struct ScopeBoard {
     pub entries: [Entry; 64],
     pub held: [u8; 8],
 }
 
 // All scopes.
-#[derive(Clone, Copy)]
+#[derive(Clone, Copy, PartialEq, Eq)]
 pub struct Board {
     pub scopes: [ScopeBoard; 4],
-}
-
-fn up(n: u8) -> u8
-    ensures { result ≡ min (n + 1) 255 }
-{
-    if n < 255 {
-        return n + 1;
-    }
-    255
-}
-
-fn down(n: u8) -> u8
-    ensures { result ≡ n - 1 }
-{
-    if 0 < n {
-        return n - 1;
-    }
-    0
 }
 
 fn more(g: usize, e: Entry) -> Entry
@@ -55,25 +36,19 @@ fn more(g: usize, e: Entry) -> Entry
 {
     Entry {
         owner: (g + 1) as u8,
-        count: up(e.count),
+        count: e.count.saturating_add(1),
     }
-}
-
-fn owner_left(e: Entry) -> u8
-    ensures { result ≡ (less_on e).owner }
-{
-    if e.count <= 1 {
-        return 0;
-    }
-    e.owner
 }
 
 fn less(e: Entry) -> Entry
     ensures { result ≡ less_on e }
 {
+    if e.count <= 1 {
+        return Entry { owner: 0, count: 0 };
+    }
     Entry {
-        owner: owner_left(e),
-        count: down(e.count),
+        owner: e.owner,
+        count: e.count - 1,
     }
 }
 
@@ -81,27 +56,21 @@ fn less(e: Entry) -> Entry
 fn gain(count: u8) -> u8
     ensures { (result ≡ gained count) × (result ≤ 1) }
 {
-    if count == 0 {
-        return 1;
-    }
-    0
+    u8::from(count == 0)
 }
 
 // A holding with so many addresses more.
 fn raise_held(held: u8, by: u8) -> u8
     ensures { result ≡ held_more held by }
 {
-    if held < 255 - by {
-        return held + by;
-    }
-    255
+    held.saturating_add(by)
 }
 
 fn shrink(count: u8, held: u8) -> u8
     ensures { result ≡ shrunk count held }
 {
     if count <= 1 {
-        return down(held);
+        return held.saturating_sub(1);
     }
     held
 }
@@ -117,12 +86,10 @@ fn split(set: u64) -> Lowest
     requires { 0 < set }
     ensures { Splits set result }
 {
-    let r = address_set::first_range(set);
-    let a = r.first;
-    let rest = address_set::rest(set, Range { first: a, count: 1 });
+    let first = address_set::first_range(set).first;
     Lowest {
-        at: a as usize,
-        rest: rest,
+        at: first as usize,
+        rest: address_set::rest(set, Range { first, count: 1 }),
     }
 }
 
@@ -139,11 +106,11 @@ fn split_run(set: u64) -> Run
     ensures { Runs set result }
 {
     let r = address_set::first_range(set);
-    let rest = address_set::rest(set, r);
+    let first = r.first as usize;
     Run {
-        first: r.first as usize,
-        end: (r.first as usize) + (r.count as usize),
-        rest: rest,
+        first,
+        end: first + r.count as usize,
+        rest: address_set::rest(set, r),
     }
 }
 
@@ -155,20 +122,16 @@ pub fn lay(v: ScopeBoard, g: usize, set: u64) -> ScopeBoard
 {
     let mut now = v;
     let mut left = set;
+    // Stays: no index is counted. A turn takes a range, however long, off what is left; a `for` would need an iterator of ranges of our own, which is no plainer.
     while 0 < left {
         let r = split_run(left);
-        let end = r.end;
-        let mut a = r.first;
         let mut gains: u8 = 0;
-        while a < end {
+        for a in r.first..r.end {
             let e = now.entries[a];
-            let x = more(g, e);
             gains += gain(e.count);
-            now.entries[a] = x;
-            a += 1;
+            now.entries[a] = more(g, e);
         }
-        let d = raise_held(now.held[g], gains);
-        now.held[g] = d;
+        now.held[g] = raise_held(now.held[g], gains);
         left = r.rest;
     }
     now
@@ -180,14 +143,12 @@ fn lift(v: ScopeBoard, g: usize, set: u64) -> ScopeBoard
 {
     let mut now = v;
     let mut left = set;
+    // Stays: the same, with the lowest offset.
     while 0 < left {
         let o = split(left);
-        let a = o.at;
-        let e = now.entries[a];
-        let x = less(e);
-        let d = shrink(e.count, now.held[g]);
-        now.entries[a] = x;
-        now.held[g] = d;
+        let e = now.entries[o.at];
+        now.entries[o.at] = less(e);
+        now.held[g] = shrink(e.count, now.held[g]);
         left = o.rest;
     }
     now
@@ -197,10 +158,8 @@ fn lift(v: ScopeBoard, g: usize, set: u64) -> ScopeBoard
 pub fn place(g: usize, scope: u8) -> usize
     ensures { result ≡ place_in g scope }
 {
-    if g < 8 {
-        if 0 < scope {
-            return (scope - 1) as usize;
-        }
+    if g < 8 && 0 < scope {
+        return usize::from(scope - 1);
     }
     4
 }
@@ -211,25 +170,22 @@ pub fn add(b: Board, g: usize, scope: u8, set: u64) -> Board
 {
     let k = place(g, scope);
     if k < 4 {
-        let v = b.scopes[k];
-        let x = lay(v, g, set);
         let mut now = b;
-        now.scopes[k] = x;
+        now.scopes[k] = lay(b.scopes[k], g, set);
         return now;
     }
     b
 }
 
 // The board with a lease of tenant g less.
+// Stays: `add` and this one as one function with the step as a closure are no shorter, and the closure's contract would say `laid_on` and `lifted_off` again.
 pub fn take(b: Board, g: usize, scope: u8, set: u64) -> Board
     ensures { result ≡ taken_from b g scope set }
 {
     let k = place(g, scope);
     if k < 4 {
-        let v = b.scopes[k];
-        let x = lift(v, g, set);
         let mut now = b;
-        now.scopes[k] = x;
+        now.scopes[k] = lift(b.scopes[k], g, set);
         return now;
     }
     b
@@ -249,68 +205,11 @@ pub fn no_board() -> Board
 
 // ---- comparing
 
-fn same_entry(a: Entry, b: Entry) -> bool
-    ensures { result ≡ same_entry a b }
-{
-    if a.owner == b.owner {
-        return a.count == b.count;
-    }
-    false
-}
-
-fn same_entries(a: ScopeBoard, b: ScopeBoard) -> bool
-    ensures { result ≡ same_by same_entry a.entries b.entries }
-{
-    let mut i: usize = 0;
-    while i < 64 {
-        let x = a.entries[i];
-        let y = b.entries[i];
-        i += 1;
-        if !same_entry(x, y) {
-            return false;
-        }
-    }
-    true
-}
-
-fn same_held(a: ScopeBoard, b: ScopeBoard) -> bool
-    ensures { result ≡ same_by eqb a.held b.held }
-{
-    let mut g: usize = 0;
-    while g < 8 {
-        let x = a.held[g];
-        let y = b.held[g];
-        g += 1;
-        if x != y {
-            return false;
-        }
-    }
-    true
-}
-
-fn same_scope(a: ScopeBoard, b: ScopeBoard) -> bool
-    ensures { result ≡ same_scope_board a b }
-{
-    if same_entries(a, b) {
-        return same_held(a, b);
-    }
-    false
-}
-
 // Whether two boards are the same.
 pub fn same(a: Board, b: Board) -> bool
     ensures { result ≡ same_board a b }
 {
-    let mut k: usize = 0;
-    while k < 4 {
-        let x = a.scopes[k];
-        let y = b.scopes[k];
-        k += 1;
-        if !same_scope(x, y) {
-            return false;
-        }
-    }
-    true
+    a == b
 }
 
 // ---- polling
@@ -336,12 +235,12 @@ fn held_in(v: ScopeBoard, g: usize) -> u8
 }
 
 // The same of scope k, counted from 0; of no scope nothing stands there.
+// Stays: this and `holding_at` differ in what they read and in what they answer of no scope; one function over both takes two closures.
 pub fn entry_at(b: Board, k: usize, a: usize) -> Entry
     ensures { result ≡ entry_at (scope_board_at b k) a }
 {
     if k < 4 {
-        let v = b.scopes[k];
-        return entry_in(v, a);
+        return entry_in(b.scopes[k], a);
     }
     Entry { owner: 0, count: 0 }
 }
@@ -350,8 +249,7 @@ pub fn holding_at(b: Board, k: usize, g: usize) -> u8
     ensures { result ≡ held_in (scope_board_at b k) g }
 {
     if k < 4 {
-        let v = b.scopes[k];
-        return held_in(v, g);
+        return held_in(b.scopes[k], g);
     }
     0
 }

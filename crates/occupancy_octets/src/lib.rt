@@ -14,11 +14,8 @@ pub fn put(room: &mut [u8], at: usize, b: Board) -> usize
     ensures { Wrote room.old at (board_octets b) room.new result }
 {
     let mut to = at;
-    let mut i: usize = 0;
-    while i < 4 {
-        let v = b.scopes[i];
-        to = put_scope(room, to, v);
-        i += 1;
+    for v in &b.scopes {
+        to = put_scope(room, to, *v);
     }
     to
 }
@@ -28,9 +25,8 @@ fn put_scope(room: &mut [u8], at: usize, v: ScopeBoard) -> usize
     requires { at + 136 ≤ length room.old }
     ensures { Wrote room.old at (scope_board_octets v) room.new result × (result ≡ at + 136) }
 {
-    let held = v.held;
     let a = put_entries(room, at, v);
-    octets::put_run(room, a, &held, 8)
+    octets::put(room, a, &v.held)
 }
 
 fn put_entries(room: &mut [u8], at: usize, v: ScopeBoard) -> usize
@@ -38,11 +34,8 @@ fn put_entries(room: &mut [u8], at: usize, v: ScopeBoard) -> usize
     ensures { Wrote room.old at (write_all entry_octets v.entries) room.new result × (result ≡ at + 128) }
 {
     let mut to = at;
-    let mut i: usize = 0;
-    while i < 64 {
-        let e = v.entries[i];
-        to = put_entry(room, to, e);
-        i += 1;
+    for e in &v.entries {
+        to = put_entry(room, to, *e);
     }
     to
 }

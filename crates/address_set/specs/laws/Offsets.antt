@@ -9,7 +9,7 @@ use Rattle.std.proofs.Math.ListN.{get_or-append}
 use Rattle.std.proofs.Math.Pow.{pow-lt}
 use Rattle.std.proofs.lemmas.Bool.{eqb-false}
 use Rattle.lists.specs.Pick.{pick}
-use Rattle.lists.specs.Fold.{fold}
+use Rattle.std.specs.List.{fold}
 use Rattle.lists.specs.All.{All, all_by}
 use Rattle.lists.specs.laws.All.{all_head, all_cons, all_both}
 use Rattle.lists.specs.Filter.{filter_by, is_in}

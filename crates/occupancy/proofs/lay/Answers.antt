@@ -12,8 +12,8 @@ split_run-r-requires c = search (ranged, ranges, rules)
 pub loop-a-init : goal.loop-a-init
 loop-a-init c = search (ranged, ranges, rules)
 
-pub more-x-requires : goal.more-x-requires
-more-x-requires c = search (ranged, ranges, rules)
+pub more-requires : goal.more-requires
+more-requires c = search (ranged, ranges, rules)
 
 pub gain-gains-requires : goal.gain-gains-requires
 gain-gains-requires c = search (ranged, ranges, rules)
@@ -21,8 +21,8 @@ gain-gains-requires c = search (ranged, ranges, rules)
 pub loop-a-preserved : goal.loop-a-preserved
 loop-a-preserved c = search (ranged, ranges, rules)
 
-pub raise_held-d-requires : goal.raise_held-d-requires
-raise_held-d-requires c = search (ranged, ranges, rules)
+pub raise_held-requires : goal.raise_held-requires
+raise_held-requires c = search (ranged, ranges, rules)
 
 pub loop-left-preserved : goal.loop-left-preserved
 loop-left-preserved c = search (ranged, ranges, rules)

@@ -9,11 +9,11 @@ loop-left-init c = search (turns, rules)
 pub split-o-requires : goal.split-o-requires
 split-o-requires c = search (turns, lifted_is, rules)
 
-pub less-x-requires : goal.less-x-requires
-less-x-requires c = search (turns, rules)
+pub less-requires : goal.less-requires
+less-requires c = search (turns, rules)
 
-pub shrink-d-requires : goal.shrink-d-requires
-shrink-d-requires c = search (turns, rules)
+pub shrink-requires : goal.shrink-requires
+shrink-requires c = search (turns, rules)
 
 pub loop-left-preserved : goal.loop-left-preserved
 loop-left-preserved c = search (turns, lifted_is, rules)

@@ -1,10 +1,7 @@
--- `raise_held` meets its contract: by its test.
-use Rattle.occupancy.specs.laws.Loop.{gains}
-use borrow.Author.Rules.{rules}
+-- `raise_held` meets its contract: std's sum that stays at 255.
+use Rattle.std.proofs.Common.{◌∙◌, rules}
+use Rattle.occupancy.specs.laws.Loop.{raise_is}
 use Rattle.occupancy.proofs.raise_held.Goals as goal
 
-pub returns-then-held-by : goal.returns-then-held-by
-returns-then-held-by c = search (gains, rules)
-
 pub returns : goal.returns
-returns c = search (gains, rules)
+returns c = c.saturating_add.ensures ∙ raise_is c.args.held c.args.by (search rules)

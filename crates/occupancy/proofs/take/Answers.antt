@@ -3,8 +3,8 @@ use Rattle.occupancy.specs.laws.Loop.{alterations, placed_tenant}
 use borrow.Author.Rules.{rules}
 use Rattle.occupancy.proofs.take.Goals as goal
 
-pub lift-x-requires : goal.lift-x-requires
-lift-x-requires c = search (alterations, placed_tenant, rules)
+pub lift-requires : goal.lift-requires
+lift-requires c = search (alterations, placed_tenant, rules)
 
 pub returns-then-k-lt4 : goal.returns-then-k-lt4
 returns-then-k-lt4 c = search (alterations, rules)

@@ -3,14 +3,14 @@ use Rattle.occupancy_octets.specs.laws.Octets.{entry_rows}
 use borrow.Author.Rules.{rules}
 use Rattle.occupancy_octets.proofs.put_entries.Goals as goal
 
-pub loop-i-init : goal.loop-i-init
-loop-i-init c = search (entry_rows, rules)
+pub loop-e-init : goal.loop-e-init
+loop-e-init c = search (entry_rows, rules)
 
 pub put_entry-to-requires : goal.put_entry-to-requires
 put_entry-to-requires c = search (entry_rows, rules)
 
-pub loop-i-preserved : goal.loop-i-preserved
-loop-i-preserved c = search (entry_rows, rules)
+pub loop-e-preserved : goal.loop-e-preserved
+loop-e-preserved c = search (entry_rows, rules)
 
 pub returns : goal.returns
 returns c = search (entry_rows, rules)

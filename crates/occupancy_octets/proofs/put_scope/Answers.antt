@@ -6,8 +6,8 @@ use mathlib.Core.Path.{◌≡◌}
 use native.Mathlib.Omega.{arith}
 use Rattle.occupancy_octets.proofs.put_scope.Goals as goal
 
-pub put_run-requires : goal.put_run-requires
-put_run-requires c = let q : length c.args.v.held ≡ 8 = search rules in (omega (arith, c.put_entries-a.ensures.1), omega arith)
+pub put-requires : goal.put-requires
+put-requires c = let q : length c.args.v.held ≡ 8 = search rules in omega (arith, c.put_entries-a.ensures.1)
 
 pub returns : goal.returns
-returns c = scope_wrote c.args.v (search rules) (search rules) c.put_entries-a.ensures c.put_run.ensures
+returns c = scope_wrote c.args.v (search rules) (search rules) c.put_entries-a.ensures c.put.ensures

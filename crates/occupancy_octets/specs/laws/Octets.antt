@@ -99,13 +99,12 @@ entries_next {l} {i = i} v h p q = even_next v no_entry h p (let s = entry_size 
 pub entries_place : (v : ScopeBoard) {r₀ : List ℕ} {at : ℕ} {room : List ℕ} {to i : ℕ} → EvenInv entry_octets 2 v.entries 64 r₀ at room to i → 64 ≤ i → to ≡ at + 128
 entries_place v {to = to} e h = let w = even_end e h in let s = entries_size v e.many in omega (arith, w.next)
 
-pub scope_wrote : {r₀ r₁ r₂ : List ℕ} {at a b : ℕ} (v : ScopeBoard) → length v.held ≡ 8 → at ≤ length r₀ → Wrote r₀ at (write_all entry_octets v.entries) r₁ a × (a ≡ at + 128) → Wrote r₁ a (take 8 v.held) r₂ b
+pub scope_wrote : {r₀ r₁ r₂ : List ℕ} {at a b : ℕ} (v : ScopeBoard) → length v.held ≡ 8 → at ≤ length r₀ → Wrote r₀ at (write_all entry_octets v.entries) r₁ a × (a ≡ at + 128) → Wrote r₁ a v.held r₂ b
     → Wrote r₀ at (scope_board_octets v) r₂ b × (b ≡ at + 136)
 unfolding scope_board_octets
 scope_wrote v e h p q =
-    let w = wrote_as (take_all 8 v.held (omega arith)) q in
     let g = p.1 in
-    (wrote_joined h p.0 w, omega (arith, w.next))
+    (wrote_joined h p.0 q, omega (arith, q.next))
 
 pub scopes_next : {l : List ScopeBoard} {m : ℕ} {r₀ : List ℕ} {at : ℕ} {room : List ℕ} {to i : ℕ} → EvenInv scope_board_octets 136 l m r₀ at room to i → {r₁ : List ℕ} {n : ℕ} → i < m
     → Wrote room to (scope_board_octets (get_or l i no_scope_board)) r₁ n × (n ≡ to + 136) → length r₁ ≡ length room → EvenInv scope_board_octets 136 l m r₀ at r₁ n (i + 1)

@@ -1,23 +1,18 @@
 -- Laws: between the code and the definitions: lists of numbers, the lists of option 12, and the turns of the walk.
-use mathlib.Core.Path.{◌≡◌, refl, sym, ap, ap₂, ◌∙◌, subst}
-use mathlib.Core.List.{List, [], ◌∷◌, ◌++◌}
-use mathlib.Core.Bool.{Bool, true, false, ◌&&◌, ◌||◌}
-use Prim.Native.Nat.{ℕ, zero, suc, ◌+◌, ◌-◌, ◌*◌, ◌/◌, ◌≤◌, ◌<◌, min}
-use native.Mathlib.Omega.{arith}
-use native.Mathlib.Numerals.{add-one}
-use borrow.Author.Tests.{lt-ltb, le-ltb, leb-true, eqb-true, eqb-false, eq-eqb, ne_eqb, ltb-true, ltb-false}
-use lib.ListN.{length, get_or, take, drop, replicate, drop_of_length-le, get_or-eq_default}
-use lib.Seq.{drop-cons}
-use lib.Dec.{ltb, leb, eqb}
+use Rattle.std.specs.Prelude.{◌≡◌, refl, List, [], ◌∷◌, ◌++◌, Bool, true, false, not, ◌&&◌, ◌||◌, Option, Some, None, is_some, ℕ, zero, suc, ◌+◌, ◌-◌, ◌*◌, ◌/◌, ◌≤◌, ◌<◌, min, length, get_or, take, drop, replicate, ltb, leb, eqb}
+use Rattle.std.specs.Bool.{then_some}
+use Rattle.std.specs.List.{list_all, list_any, range_with_len}
+use Rattle.std.proofs.Common.{sym, ap, ap₂, ◌∙◌, subst, arith, lt-ltb, le-ltb, leb-true, eqb-true, eq-eqb, ne_eqb, ltb-true, ltb-false, rules}
+use Rattle.std.proofs.Math.ListN.{get_or-eq_default}
+use borrow.Author.Tests.{eqb-false}
 use Rattle.lists.specs.Pick.{pick}
 use Rattle.lists.specs.laws.Pick.{pick_not_eq, pick_false}
-use borrow.Author.Rules.{rules}
 use Rattle.octets.specs.Octets.{at16, at32}
 use Rattle.lists.specs.Filter.{is_in}
+use Rattle.lists.specs.All.{all_to}
 use Rattle.message.specs.Codes.{client_types, length_ok, allowed_in, allows}
-use Rattle.message.specs.Values.{wish_at, wish_of, times_of, fields_of, counts_at, counts_of, server_ok, names_of, all_allowed, identifier_of, codes_from, found_at, find_of, is_found, padded, identifier_at, language_at, language_of}
+use Rattle.message.specs.Values.{wish_of, times_of, fields_of, counts_at, counts_of, server_ok, names_of, all_allowed, identifier_of, codes_from, found_at, find_of, padded, identifier_at, language_at, language_of}
 use Rattle.message.specs.Read.{longest_datagram, header_ok, no_message, message_of, required_empty, ended, by_stage, walked}
-use Rattle.lists.specs.laws.Copy.{CopyInv, copy_end}
 use Rattle.message.specs.Walk.{code_at, length_at, after_at, layout_ok, value_ok, past_list, exactly_filled, option_taken, step_of, onward, walk_from, walk_of, start}
 use Rattle.message.specs.laws.Placed.{layout_fits, Onto, step_onto, none_good, walk_good, placed, header_long, header_short}
 use Rattle.message.specs.Placed.{past_within, four_octets, Placed, GoodPlaces}
@@ -25,8 +20,6 @@ use Rattle.message.specs.declared.codes.MessageType.{MessageType}
 use Rattle.message.specs.declared.Walk.{Walk}
 use Rattle.message.specs.declared.Stage.{Stage}
 use Rattle.message.specs.declared.Stage.TheVariants.{Walking, Done, Broken}
-use Rattle.message.specs.declared.Found.{Found}
-use Rattle.message.specs.declared.Found.TheVariants.{At, Absent}
 use Rattle.message.specs.declared.Counts.{Counts}
 use Rattle.message.specs.declared.Identifier.{Identifier}
 use Rattle.message.specs.declared.Fields.{Fields}
@@ -34,87 +27,57 @@ use Rattle.message.specs.declared.Language.{Language}
 use Rattle.message.specs.declared.Message.{Message}
 use Rattle.message.specs.declared.Reading.{Reading}
 use Rattle.message.specs.declared.Times.{Times}
-use Rattle.message.specs.declared.Wish.{Wish}
 
--- ---- is a number in a list: what the loop keeps
+-- ---- is a number in a list
 
-pub record OneOfInv (n : ℕ) (l : List ℕ) (i : ℕ) : Type 0 where
-  pub within : i ≤ length l
-  pub rest : is_in n (drop i l) ≡ is_in n l
+any_is : (n : ℕ) (l : List ℕ) → list_any (λ y. eqb y n) l ≡ is_in n l
+unfolding is_in pick
+any_is n [] = refl
+any_is n (x ∷ l) = go (eqb x n) refl (any_is n l)
+  where
+    go : (b : Bool) → eqb x n ≡ b → list_any (λ y. eqb y n) l ≡ is_in n l → (b || list_any (λ y. eqb y n) l) ≡ pick (eqb n x) true (is_in n l)
+    go true e ih = ap (λ (b : Bool). pick b true (is_in n l)) (sym (eq-eqb n x (sym (eqb-true x n e))))
+    go false e ih = ih ∙ ap (λ (b : Bool). pick b true (is_in n l)) (sym (ne_eqb n x (λ q. eqb-false x n e (sym q))))
 
-pub one_start : {n : ℕ} {l : List ℕ} → OneOfInv n l 0
-one_start = record { within = omega arith; rest = refl }
-
-module _ {n : ℕ} {l : List ℕ} {i : ℕ} (v : OneOfInv n l i) where
-  here : i < length l → pick (eqb n (get_or l i 0)) true (is_in n (drop (i + 1) l)) ≡ is_in n l
-  unfolding is_in
-  here h = ap (λ (k : ℕ). pick (eqb n (get_or l i 0)) true (is_in n (drop k l))) (add-one i) ∙ sym (ap (is_in n) (drop-cons l i 0 h)) ∙ v.rest
-
-  pub one_found : i < length l → n ≡ get_or l i 0 → true ≡ is_in n l
-  unfolding pick
-  one_found h e = ap (λ (b : Bool). pick b true (is_in n (drop (i + 1) l))) (sym (eq-eqb n (get_or l i 0) e)) ∙ here h
-
-  pub one_next : i < length l → (n ≡ get_or l i 0 → ⊥) → OneOfInv n l (i + 1)
-  unfolding pick
-  one_next h e = record { within = omega arith; rest = ap (λ (b : Bool). pick b true (is_in n (drop (i + 1) l))) (sym (ne_eqb n (get_or l i 0) e)) ∙ here h }
-
-  pub one_end : length l ≤ i → false ≡ is_in n l
-  unfolding is_in
-  one_end h = sym (ap (is_in n) (drop_of_length-le l {i = i} h)) ∙ v.rest
-
-pub ruleset ones = (one_start, one_found, one_next, one_end)
+pub is_listed : {r : Bool} (n : ℕ) (l : List ℕ) → r ≡ list_any (λ y. eqb y n) l → r ≡ is_in n l
+is_listed n l e = e ∙ any_is n l
 
 -- ---- the codes of a list option
 
-pub codes_length : (s : List ℕ) (p k : ℕ) → length (codes_from s p k) ≡ k
+any_code : (s : List ℕ) (code p a k : ℕ) → list_any (λ i. eqb (at16 s (p + 2 * i)) code) (range_with_len a k) ≡ list_any (λ y. eqb y code) (codes_from s (p + 2 * a) k)
 unfolding codes_from
-codes_length s p zero = refl
-codes_length s p (suc k) = ap suc (codes_length s (p + 2) k)
+any_code s code p a zero = refl
+any_code s code p a (suc k) =
+    let e : p + 2 * (a + 1) ≡ p + 2 * a + 2 = omega arith in
+    ap (λ (b : Bool). eqb (at16 s (p + 2 * a)) code || b) (any_code s code p (a + 1) k ∙ ap (λ (q : ℕ). list_any (λ y. eqb y code) (codes_from s q k)) e)
 
-pub codes_at : (s : List ℕ) (p k i : ℕ) → i < k → at16 s (p + 2 * i) ≡ get_or (codes_from s p k) i 0
-unfolding codes_from
-codes_at s p zero i h = absurd (omega arith)
-codes_at s p (suc k) zero h = let e : p + 2 * 0 ≡ p = omega arith in ap (at16 s) e
-codes_at s p (suc k) (suc i) h = let e : p + 2 * suc i ≡ p + 2 + 2 * i = omega arith in ap (at16 s) e ∙ codes_at s (p + 2) k i (omega arith)
+pub lists_is : {r : Bool} (s : List ℕ) (code at x : ℕ) → x ≡ length_at s at → r ≡ list_any (λ i. eqb (at16 s (at + 4 + 2 * i)) code) (range_with_len 0 (x / 2))
+    → r ≡ is_in code (codes_from s (at + 4) (length_at s at / 2))
+lists_is s code at x e p =
+    let z : at + 4 + 2 * 0 ≡ at + 4 = omega arith in
+    p ∙ any_code s code (at + 4) 0 (x / 2) ∙ any_is code _ ∙ ap₂ (λ (q n : ℕ). is_in code (codes_from s q (n / 2))) z e
 
--- what the loop over them keeps: i codes of the option at `at` were looked at, and p is the place of the next
-pub record CodesInv (s : List ℕ) (at code k p i : ℕ) : Type 0 where
-  pub fits : after_at s at ≤ length s
-  pub count : k ≡ length_at s at / 2
-  pub place : p ≡ at + 4 + 2 * i
-  pub looked : OneOfInv code (codes_from s (at + 4) k) i
+-- ---- the codes up to 16
 
-pub codes_start : {s : List ℕ} {at code x : ℕ} → after_at s at ≤ length s → x ≡ length_at s at → CodesInv s at code (x / 2) (at + 4) 0
-codes_start {x = x} h e = record { fits = h; count = ap (λ (n : ℕ). n / 2) e; place = omega arith; looked = one_start }
+all_last : (p : ℕ → Bool) (a n : ℕ) → list_all p (range_with_len a (suc n)) ≡ pick (list_all p (range_with_len a n)) (p (a + n)) false
+unfolding pick
+all_last p a zero = let e : a ≡ a + 0 = omega arith in one (p a) ∙ ap p e
+  where
+    one : (b : Bool) → (b && true) ≡ b
+    one true = refl
+    one false = refl
+all_last p a (suc n) =
+    let e : a + 1 + n ≡ a + suc n = omega arith in
+    ap (λ (b : Bool). p a && b) (all_last p (a + 1) n) ∙ turn (p a) _ _ ∙ ap (λ (k : ℕ). pick (p a && list_all p (range_with_len (a + 1) n)) (p k) false) e
+  where
+    turn : (b c d : Bool) → (b && pick c d false) ≡ pick (b && c) d false
+    turn true c d = refl
+    turn false c d = refl
 
-module _ {s : List ℕ} {at code k p i : ℕ} (v : CodesInv s at code k p i) where
-  pub codes_inside : i < k → p + 2 ≤ length s
-  codes_inside h = let e = v.count in let f = v.fits in let g = v.place in omega arith
-
-  here_code : i < k → at16 s p ≡ get_or (codes_from s (at + 4) k) i 0
-  here_code h = ap (at16 s) v.place ∙ codes_at s (at + 4) k i h
-
-  short : i < k → i < length (codes_from s (at + 4) k)
-  short h = subst (λ (n : ℕ). i < n) (sym (codes_length s (at + 4) k)) h
-
-  whole_list : is_in code (codes_from s (at + 4) k) ≡ is_in code (codes_from s (at + 4) (length_at s at / 2))
-  whole_list = ap (λ (n : ℕ). is_in code (codes_from s (at + 4) n)) v.count
-
-  pub codes_found : {x : ℕ} → i < k → x ≡ at16 s p → code ≡ x → true ≡ is_in code (codes_from s (at + 4) (length_at s at / 2))
-  codes_found h q e = one_found v.looked (short h) (e ∙ q ∙ here_code h) ∙ whole_list
-
-  pub codes_next : {x : ℕ} → i < k → x ≡ at16 s p → (code ≡ x → ⊥) → CodesInv s at code k (p + 2) (i + 1)
-  codes_next h q e = record {
-    fits = v.fits;
-    count = v.count;
-    place = let g = v.place in omega arith;
-    looked = one_next v.looked (short h) (λ z. e (z ∙ sym (q ∙ here_code h)));
-  }
-
-  pub codes_end : k ≤ i → false ≡ is_in code (codes_from s (at + 4) (length_at s at / 2))
-  codes_end h = one_end v.looked (subst (λ (n : ℕ). n ≤ i) (sym (codes_length s (at + 4) k)) h) ∙ whole_list
-
-pub ruleset listed = (codes_start, codes_inside, codes_found, codes_next, codes_end)
+pub all_to_is : (p : ℕ → Bool) (n : ℕ) → list_all p (range_with_len 0 n) ≡ all_to p n
+unfolding all_to
+all_to_is p zero = refl
+all_to_is p (suc n) = let e : 0 + n ≡ n = omega arith in all_last p 0 n ∙ ap₂ (λ (b : Bool) (k : ℕ). pick b (p k) false) (all_to_is p n) e
 
 -- ---- option 12 is exactly filled
 
@@ -322,36 +285,37 @@ module _ (number kind : ℕ) where
 
 -- ---- where options stand
 
--- what a lookup found
-pub found_yes : (f : Found) (places : List ℕ) (code at : ℕ) → f ≡ find_of places code → f ≡ At at → true ≡ is_found (find_of places code)
-found_yes f places code at p q = ap is_found (sym q ∙ p)
-
-pub found_no : (f : Found) (places : List ℕ) (code : ℕ) → f ≡ find_of places code → f ≡ Absent → false ≡ is_found (find_of places code)
-found_no f places code p q = ap is_found (sym q ∙ p)
-
--- no option above 16 is recorded
-pub find_above : (places : List ℕ) (code : ℕ) → length places ≡ 17 → 17 ≤ code → Absent ≡ find_of places code
+-- no option past the array is recorded
+pub find_past : {r : Option ℕ} (places : List ℕ) (code : ℕ) → r ≡ None → length places ≤ code → r ≡ find_of places code
 unfolding found_at pick
-find_above places code e h = sym none ∙ ap found_at (sym (get_or-eq_default places 0 {n = code} (omega arith)))
+find_past places code e h = e ∙ sym none ∙ ap found_at (sym (get_or-eq_default places 0 {n = code} (omega arith)))
   where
-    none : found_at 0 ≡ Absent
+    none : found_at 0 ≡ None
     none = refl
 
-found_b : (p at : ℕ) → At at ≡ found_at p → (at ≡ p) × (at ≡ 0 → ⊥)
+pub find_there : {r : Option ℕ} {at : ℕ} (places : List ℕ) (code : ℕ) → r ≡ then_some (not (eqb at 0)) at → at ≡ get_or places code 0 → r ≡ find_of places code
+unfolding found_at pick
+find_there {at = at} places code e p = e ∙ shown (eqb at 0) ∙ ap found_at p
+  where
+    shown : (b : Bool) → then_some (not b) at ≡ pick b None (Some at)
+    shown true = refl
+    shown false = refl
+
+found_b : (p at : ℕ) → Some at ≡ found_at p → (at ≡ p) × (at ≡ 0 → ⊥)
 unfolding found_at pick
 found_b p at e = go (eqb p 0) refl e
   where
-    go : (b : Bool) → eqb p 0 ≡ b → At at ≡ pick b Absent (At p) → (at ≡ p) × (at ≡ 0 → ⊥)
+    go : (b : Bool) → eqb p 0 ≡ b → Some at ≡ pick b None (Some p) → (at ≡ p) × (at ≡ 0 → ⊥)
     go true q e = let z : ◌≡◌ {A = ℕ} 0 1 = cc in absurd (omega arith)
     go false q e = let r : at ≡ p = cc in (r, λ z. eqb-false p 0 q (sym r ∙ z))
 
 -- the option that was found stands there
-pub found_placed : (s places : List ℕ) (code at : ℕ) (f : Found) → GoodPlaces s places → f ≡ find_of places code → f ≡ At at → Placed s code at
+pub found_placed : (s places : List ℕ) (code at : ℕ) (f : Option ℕ) → GoodPlaces s places → f ≡ find_of places code → f ≡ Some at → Placed s code at
 found_placed s places code at f g p q =
     let e = found_b (get_or places code 0) at (sym q ∙ p) in
     subst (λ (x : ℕ). Placed s code x) (sym e.0) (placed s places code g (λ z. e.1 (e.0 ∙ z)))
 
-pub found_fits : (s places : List ℕ) (code at : ℕ) (f : Found) → GoodPlaces s places → f ≡ find_of places code → f ≡ At at → after_at s at ≤ length s
+pub found_fits : (s places : List ℕ) (code at : ℕ) (f : Option ℕ) → GoodPlaces s places → f ≡ find_of places code → f ≡ Some at → after_at s at ≤ length s
 found_fits s places code at f g p q = (found_placed s places code at f g p q).fits
 
 value_length : (s : List ℕ) (at : ℕ) → value_ok s at ≡ true → length_ok (code_at s at) (length_at s at) ≡ true
@@ -409,14 +373,14 @@ seven : (n : ℕ) → length_ok 7 n ≡ true → n ≡ 4
 unfolding is_in length_ok pick
 seven n e = eqb-true n 4 e
 
-pub counts_fit_law : (s places : List ℕ) (at : ℕ) (f : Found) → GoodPlaces s places → f ≡ find_of places 7 → f ≡ At at → at + 8 ≤ length s
+pub counts_fit_law : (s places : List ℕ) (at : ℕ) (f : Option ℕ) → GoodPlaces s places → f ≡ find_of places 7 → f ≡ Some at → at + 8 ≤ length s
 counts_fit_law s places at f g p q =
     let w = found_placed s places 7 at f g p q in
     let n = seven (length_at s at) (placed_length w) in
     let h = w.fits in
     omega arith
 
-pub four_fits : (s places : List ℕ) (code at : ℕ) (f : Found) → four_octets code ≡ true → GoodPlaces s places → f ≡ find_of places code → f ≡ At at → at + 8 ≤ length s
+pub four_fits : (s places : List ℕ) (code at : ℕ) (f : Option ℕ) → four_octets code ≡ true → GoodPlaces s places → f ≡ find_of places code → f ≡ Some at → at + 8 ≤ length s
 four_fits s places code at f t g p q =
     let w = found_placed s places code at f g p q in
     let n = four code (length_at s at) t (placed_length w) in
@@ -431,7 +395,7 @@ id_length n e = go (leb 2 n) e
     go true e = leb-true n 32 e
     go false e = let z : ◌≡◌ {A = ℕ} 0 1 = cc in absurd (omega arith)
 
-pub id_short : (s places : List ℕ) (at : ℕ) (f : Found) → GoodPlaces s places → f ≡ find_of places 3 → f ≡ At at → length_at s at ≤ 32
+pub id_short : (s places : List ℕ) (at : ℕ) (f : Option ℕ) → GoodPlaces s places → f ≡ find_of places 3 → f ≡ Some at → length_at s at ≤ 32
 id_short s places at f g p q = id_length _ (placed_length (found_placed s places 3 at f g p q))
 
 -- ---- the features' required list
@@ -521,10 +485,7 @@ length_got x y p e f q = p ∙ ap₂ length_ok (e ∙ f) q
 pub counts_is : (s : List ℕ) (at x y : ℕ) → x ≡ at16 s (at + 4) → y ≡ at16 s (at + 6) → ◌≡◌ {A = Counts} (record { least = x; desired = y }) (counts_at s at)
 counts_is s at x y p q = cc
 
-pub wish_is : (s : List ℕ) (at x : ℕ) → x ≡ at32 s (at + 4) → ◌≡◌ {A = Wish} (record { there = true; value = x }) (wish_at s at)
-wish_is s at x p = cc
-
-pub times_is : (s places : List ℕ) (a b c d e : Wish) → a ≡ wish_of s (find_of places 1) → b ≡ wish_of s (find_of places 6) → c ≡ wish_of s (find_of places 11) → d ≡ wish_of s (find_of places 14)
+pub times_is : (s places : List ℕ) (a b c d e : Option ℕ) → a ≡ wish_of s (find_of places 1) → b ≡ wish_of s (find_of places 6) → c ≡ wish_of s (find_of places 11) → d ≡ wish_of s (find_of places 14)
     → e ≡ wish_of s (find_of places 15) → ◌≡◌ {A = Times} (record { length = a; start = b; current = c; shortest = d; latest = e }) (times_of s places)
 unfolding times_of
 times_is s places a b c d e p q r t u = cc
@@ -534,23 +495,21 @@ zeros_left zero m = ap (λ (k : ℕ). replicate {A = ℕ} k 0) (let e : m ≡ m 
 zeros_left (suc n) zero = ap (λ (k : ℕ). replicate {A = ℕ} k 0) (let e : 0 ≡ 0 - suc n = omega arith in e)
 zeros_left (suc n) (suc m) = zeros_left n m ∙ ap (λ (k : ℕ). replicate {A = ℕ} k 0) (let e : m - n ≡ suc m - suc n = omega arith in e)
 
-pub identifier_is : (s id : List ℕ) (at n i : ℕ) → CopyInv 0 (replicate 32 0) 0 (drop (at + 4) s) n id i → n ≤ i → n ≡ length_at s at
-    → ◌≡◌ {A = Identifier} (record { octets = id; len = n }) (identifier_at s at)
-identifier_is s id at n i v h e =
-    let z : 0 + n ≡ n = omega arith in
-    let o : id ≡ padded 32 n (drop (at + 4) s) = copy_end v h ∙ ap (λ (l : List ℕ). take n (drop (at + 4) s) ++ l) (ap (λ (k : ℕ). drop {A = ℕ} k (replicate 32 0)) z ∙ zeros_left n 32) in
-    cc
+-- octets and zeros past them, up to a size
+padded_is : (size n : ℕ) (l v : List ℕ) → l ≡ take n v → l ++ drop n (replicate size 0) ≡ padded size n v
+padded_is size n l v e = ap₂ (λ (x y : List ℕ). x ++ y) e (zeros_left n size)
 
-pub language_is : (s kept : List ℕ) (at len n i : ℕ) → CopyInv 0 (replicate 8 0) 0 (drop (at + 4) s) n kept i → n ≤ i → n ≡ min len 8 → len ≡ length_at s at
-    → ◌≡◌ {A = Language} (record { asked = true; len = len; octets = kept }) (language_at s at)
-language_is s kept at len n i v h e q =
-    let z : 0 + n ≡ n = omega arith in
-    let o : kept ≡ padded 8 n (drop (at + 4) s) = copy_end v h ∙ ap (λ (l : List ℕ). take n (drop (at + 4) s) ++ l) (ap (λ (k : ℕ). drop {A = ℕ} k (replicate 8 0)) z ∙ zeros_left n 8) in
-    cc
+pub identifier_is : (s l : List ℕ) (at n : ℕ) → l ≡ take n (drop (at + 4) s) → n ≡ length_at s at
+    → ◌≡◌ {A = Identifier} (record { octets = l ++ drop n (replicate 32 0); len = n }) (identifier_at s at)
+identifier_is s l at n e q = let o = padded_is 32 n l (drop (at + 4) s) e in cc
 
-pub fields_is : (s : List ℕ) (server : ℕ) (m : Message) {id : Identifier} {allowed : Bool} {scope : Wish} {counts : Counts} {times : Times} {features ours list time : Bool} {language : Language}
+pub language_is : (s l : List ℕ) (at len n : ℕ) → l ≡ take n (drop (at + 4) s) → n ≡ min len 8 → len ≡ length_at s at
+    → ◌≡◌ {A = Language} (record { asked = true; len = len; octets = l ++ drop n (replicate 8 0) }) (language_at s at)
+language_is s l at len n e p q = let o = padded_is 8 n l (drop (at + 4) s) e in cc
+
+pub fields_is : (s : List ℕ) (server : ℕ) (m : Message) {id : Identifier} {allowed : Bool} {scope : Option ℕ} {counts : Counts} {times : Times} {features ours list time : Bool} {language : Language}
     → id ≡ identifier_of s (find_of m.places 3) → allowed ≡ all_allowed m → scope ≡ wish_of s (find_of m.places 4) → counts ≡ counts_of s (find_of m.places 7) → times ≡ times_of s m.places
-    → features ≡ is_found (find_of m.places 12) → ours ≡ server_ok s server (find_of m.places 2) → list ≡ names_of s 9 (find_of m.places 5) → time ≡ names_of s 11 (find_of m.places 5)
+    → features ≡ is_some (find_of m.places 12) → ours ≡ server_ok s server (find_of m.places 2) → list ≡ names_of s 9 (find_of m.places 5) → time ≡ names_of s 11 (find_of m.places 5)
     → language ≡ language_of s (find_of m.places 8)
     → ◌≡◌ {A = Fields} (record { kind = m.kind.number; xid = m.xid; id = id; allowed = allowed; scope = scope; counts = counts; times = times; features = features; ours = ours; list_asked = list; time_asked = time; language = language })
     (fields_of s server m)

@@ -1,10 +1,5 @@
 -- Specimens: which options each message type allows, the value of each option and what stands for an absent one, computed from the definitions.
-use mathlib.Core.Path.{◌≡◌, refl}
-use mathlib.Core.List.{List, [], ◌∷◌, ◌++◌}
-use mathlib.Core.Bool.{Bool, true, false}
-use Prim.Native.Nat.{ℕ, zero, suc}
-use lib.ListN.{length, replicate}
-use lib.Dec.{eqb}
+use Rattle.std.specs.Prelude.{◌≡◌, refl, List, [], ◌∷◌, ◌++◌, Bool, true, false, Option, is_some, unwrap_or, ℕ, zero, suc, length, replicate, eqb}
 use Rattle.lists.specs.Pick.{pick}
 use Rattle.lists.specs.All.{all_by, all_to}
 use Rattle.lists.specs.Filter.{filter_by, is_in}
@@ -14,7 +9,6 @@ use Rattle.message.specs.Walk.{layout_ok, exactly_filled, value_ok, option_taken
 use Rattle.message.specs.Read.{header_ok, required_empty, none_required, ended, read_of}
 use Rattle.message.specs.Values.{found_at, names_server, codes_from, allowed_at, times_of, fields_of}
 use Rattle.message.specs.declared.Fields.{Fields}
-use Rattle.message.specs.declared.Wish.{Wish}
 
 -- ---- "Options allowed besides 3 and 12", and End and codes above 16, of the codes from 0 to 17
 onwards : ℕ → ℕ → List ℕ
@@ -49,8 +43,8 @@ flag : Bool → ℕ
 flag b = pick b 1 0
 
 -- an option of four octets: is it there, and its value
-shown : Wish → List ℕ
-shown w = flag w.there ∷ w.value ∷ []
+shown : Option ℕ → List ℕ
+shown w = flag (is_some w) ∷ unwrap_or w 0 ∷ []
 
 -- type, transaction id; are all options allowed, is it for this server, was 12 sent, are 9 and 11 asked for; least, desired; Scope, Lease Time, Start Time, Current Time,
 -- Minimum Lease, Maximum Start; the identifier's length and 32 octets; Requested Language: is it there, its length and 8 octets

@@ -3,6 +3,7 @@ ghost use Rattle.std.specs.Prelude.{◌≡◌, [], ◌∷◌};
 ghost use Rattle.lists.specs.Filter.{is_in};
 ghost use Rattle.message.specs.Codes.{client_types, length_ok, allowed_in, allows};
 
+// Stays: a number and no enum, since a lent record holds any octet as its type (`Lease.kind` of `state`), and a datagram any code.
 #[derive(Clone, Copy)]
 pub struct MessageType {
     pub number: u8,
@@ -28,10 +29,10 @@ impl MessageType {
     pub fn new(number: u8) -> MessageType
         ensures { result.number ≡ number }
     {
-        MessageType { number: number }
+        MessageType { number }
     }
 
-    // The types that a server sends.
+    // The types that a server sends. Stays: document 01 asks for constructors, which docs/TRACE.md names.
     pub fn offer() -> MessageType
         ensures { result.number ≡ 2 }
     {
@@ -54,69 +55,50 @@ impl MessageType {
     pub fn is_client(self) -> bool
         ensures { result ≡ is_in self.number client_types }
     {
-        let number = arithmetic::wide16(self.number);
-        is_one_of(
-            number,
-            &[
-                MessageType::DISCOVER as u16,
-                MessageType::REQUEST as u16,
-                MessageType::RENEW as u16,
-                MessageType::RELEASE as u16,
-                MessageType::GETINFO as u16,
-            ],
-        )
+        [
+            MessageType::DISCOVER,
+            MessageType::REQUEST,
+            MessageType::RENEW,
+            MessageType::RELEASE,
+            MessageType::GETINFO,
+        ]
+        .contains(&self.number)
     }
 
     // Whether a message of this type may have the option.
     pub fn allows(self, code: OptionCode) -> bool
         ensures { result ≡ allows self.number code.number }
     {
-        let number = code.number;
-        if OptionCode::ERROR < number {
-            return true;
-        }
-        if is_one_of(
-            number,
-            &[
+        OptionCode::ERROR < code.number
+            || [
                 OptionCode::END,
                 OptionCode::LEASE_IDENTIFIER,
                 OptionCode::FEATURES,
-            ],
-        ) {
-            return true;
-        }
-        self.allows_besides(number)
+            ]
+            .contains(&code.number)
+            || self.allows_besides(code.number)
     }
 
     // Besides End, Lease Identifier and Features.
     fn allows_besides(self, number: u16) -> bool
         ensures { result ≡ is_in number (allowed_in self.number) }
     {
-        let kind = self.number;
-        match kind {
-            MessageType::GETINFO => is_one_of(
-                number,
-                &[
-                    OptionCode::OPTION_REQUEST_LIST,
-                    OptionCode::REQUESTED_LANGUAGE,
-                ],
-            ),
+        match self.number {
+            MessageType::GETINFO => [
+                OptionCode::OPTION_REQUEST_LIST,
+                OptionCode::REQUESTED_LANGUAGE,
+            ]
+            .contains(&number),
             MessageType::DISCOVER => wish_option(number),
-            MessageType::REQUEST => if number == OptionCode::SERVER_IDENTIFIER {
-                true
-            } else {
-                wish_option(number)
-            },
-            MessageType::RENEW => is_one_of(
-                number,
-                &[
-                    OptionCode::LEASE_TIME,
-                    OptionCode::START_TIME,
-                    OptionCode::CURRENT_TIME,
-                    OptionCode::MINIMUM_LEASE,
-                    OptionCode::MAXIMUM_START,
-                ],
-            ),
+            MessageType::REQUEST => number == OptionCode::SERVER_IDENTIFIER || wish_option(number),
+            MessageType::RENEW => [
+                OptionCode::LEASE_TIME,
+                OptionCode::START_TIME,
+                OptionCode::CURRENT_TIME,
+                OptionCode::MINIMUM_LEASE,
+                OptionCode::MAXIMUM_START,
+            ]
+            .contains(&number),
             _ => false,
         }
     }
@@ -126,19 +108,17 @@ impl MessageType {
 fn wish_option(number: u16) -> bool
     ensures { result ≡ is_in number (1 ∷ 4 ∷ 6 ∷ 7 ∷ 10 ∷ 11 ∷ 14 ∷ 15 ∷ []) }
 {
-    is_one_of(
-        number,
-        &[
-            OptionCode::LEASE_TIME,
-            OptionCode::SCOPE,
-            OptionCode::START_TIME,
-            OptionCode::NUMBER,
-            OptionCode::RANGES,
-            OptionCode::CURRENT_TIME,
-            OptionCode::MINIMUM_LEASE,
-            OptionCode::MAXIMUM_START,
-        ],
-    )
+    [
+        OptionCode::LEASE_TIME,
+        OptionCode::SCOPE,
+        OptionCode::START_TIME,
+        OptionCode::NUMBER,
+        OptionCode::RANGES,
+        OptionCode::CURRENT_TIME,
+        OptionCode::MINIMUM_LEASE,
+        OptionCode::MAXIMUM_START,
+    ]
+    .contains(&number)
 }
 
 #[derive(Clone, Copy)]
@@ -184,26 +164,25 @@ impl OptionCode {
     pub fn new(number: u16) -> OptionCode
         ensures { result.number ≡ number }
     {
-        OptionCode { number: number }
+        OptionCode { number }
     }
 
     // Whether the value of this option may have n octets; of Features only the least is known here.
     pub fn length_ok(self, n: usize) -> bool
         ensures { result ≡ length_ok self.number n }
     {
-        let number = self.number;
-        match number {
+        match self.number {
             OptionCode::END => n == 0,
             OptionCode::LEASE_TIME => n == 4,
-            OptionCode::SERVER_IDENTIFIER => if n == 6 { true } else { n == 18 },
-            OptionCode::LEASE_IDENTIFIER => if 2 <= n { n <= 32 } else { false },
+            OptionCode::SERVER_IDENTIFIER => n == 6 || n == 18,
+            OptionCode::LEASE_IDENTIFIER => 2 <= n && n <= 32,
             OptionCode::SCOPE => n == 4,
-            OptionCode::OPTION_REQUEST_LIST => if 2 <= n { n % 2 == 0 } else { false },
+            OptionCode::OPTION_REQUEST_LIST => 2 <= n && n % 2 == 0,
             OptionCode::START_TIME => n == 4,
             OptionCode::NUMBER => n == 4,
             OptionCode::REQUESTED_LANGUAGE => 1 <= n,
             OptionCode::SCOPE_LIST => 1 <= n,
-            OptionCode::RANGES => if 6 <= n { n % 6 == 0 } else { false },
+            OptionCode::RANGES => 6 <= n && n % 6 == 0,
             OptionCode::CURRENT_TIME => n == 4,
             OptionCode::FEATURES => 6 <= n,
             OptionCode::RETRY => n == 4,
@@ -213,19 +192,4 @@ impl OptionCode {
             _ => true,
         }
     }
-}
-
-// Whether n is one of the listed numbers.
-fn is_one_of(n: u16, list: &[u16]) -> bool
-    ensures { result ≡ is_in n list.now }
-{
-    let mut i: usize = 0;
-    while i < list.len() {
-        let x = list[i];
-        i += 1;
-        if n == x {
-            return true;
-        }
-    }
-    false
 }

@@ -44,7 +44,7 @@ pub struct Fields {
     pub xid: u32,
     pub id: Identifier,
     pub allowed: bool,
-    pub scope: Wish,
+    pub scope: Option<u32>,
     pub counts: Counts,
     pub times: Times,
     pub features: bool,
@@ -68,37 +68,25 @@ pub struct Counts {
     pub desired: u16,
 }
 
-// Lease Time, Start Time, Current Time, Minimum Lease and Maximum Start.
+// Lease Time, Start Time, Current Time, Minimum Lease and Maximum Start: the value of each that is there.
 #[derive(Clone, Copy)]
 pub struct Times {
-    pub length: Wish,
-    pub start: Wish,
-    pub current: Wish,
-    pub shortest: Wish,
-    pub latest: Wish,
+    pub length: Option<u32>,
+    pub start: Option<u32>,
+    pub current: Option<u32>,
+    pub shortest: Option<u32>,
+    pub latest: Option<u32>,
 }
 
 // Requested Language: is it there, its length, and its first eight octets, with zeros past its length. No tag of a name has more than eight,
 // so the others need not be kept: by its length alone a longer one is no tag's.
+// Stays: a flag with values beside it, since `server::Ruling` has it, which entry points take as it is: its 75 octets (`verdict_octets`) keep the
+// length and the octets also where none is asked.
 #[derive(Clone, Copy)]
 pub struct Language {
     pub asked: bool,
     pub len: usize,
     pub octets: [u8; 8],
-}
-
-// An option of four octets, if it is there.
-#[derive(Clone, Copy)]
-pub struct Wish {
-    pub there: bool,
-    pub value: u32,
-}
-
-// Where an option stands.
-#[derive(Clone, Copy)]
-pub enum Found {
-    At(usize),
-    Absent,
 }
 
 // Where a walk stands, and for each code up to 16 the place of the option that it passed, or 0.
@@ -133,9 +121,8 @@ impl Message {
         requires { GoodPlaces s.now self.places × (length s.now ≤ longest_datagram) }
         ensures { result ≡ fields_of s.now server self }
     {
-        let kind = self.kind;
         Fields {
-            kind: kind.number,
+            kind: self.kind.number,
             xid: self.xid,
             id: self.identifier(s),
             allowed: self.all_allowed(),

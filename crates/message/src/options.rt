@@ -18,11 +18,9 @@ pub fn walk_options(s: &[u8]) -> Walk
         places: [0; 17],
     };
     loop {
-        let stage = w.stage;
-        match stage {
+        match w.stage {
             Stage::Walking => w = w.step(s),
-            Stage::Done => return w,
-            Stage::Broken => return w,
+            Stage::Done | Stage::Broken => return w,
         }
     }
 }
@@ -31,11 +29,9 @@ impl Walk {
     fn broken(self) -> Walk
         ensures { result ≡ broken self }
     {
-        let p = self.places;
         Walk {
-            at: self.at,
             stage: Stage::Broken,
-            places: p,
+            ..self
         }
     }
 
@@ -45,11 +41,9 @@ impl Walk {
         ensures { result ≡ pick (eqb (self.at + 4) size) (done self) (broken self) }
     {
         if self.at + 4 == size {
-            let p = self.places;
             return Walk {
-                at: self.at,
                 stage: Stage::Done,
-                places: p,
+                ..self
             };
         }
         self.broken()
@@ -81,14 +75,13 @@ impl Walk {
             return self.at_end(size);
         }
         if OptionCode::ERROR < code {
-            let p = self.places;
             return Walk {
                 at: self.at + 4 + n,
                 stage: Stage::Walking,
-                places: p,
+                ..self
             };
         }
-        self.recorded(code as usize, n)
+        self.recorded(usize::from(code), n)
     }
 
     // The same, with its code and length read.
@@ -96,9 +89,8 @@ impl Walk {
         requires { (after_at s.now self.at ≤ length s.now) × (length s.now ≤ longest_datagram) }
         ensures { result ≡ option_taken (length s.now) (code_at s.now self.at) (length_at s.now self.at) self }
     {
-        let at = self.at;
-        let code = octets::read_u16(s, at);
-        let n = octets::read_u16(s, at + 2) as usize;
+        let code = octets::read_u16(s, self.at);
+        let n = usize::from(octets::read_u16(s, self.at + 2));
         self.taken(s.len(), code, n)
     }
 
@@ -106,12 +98,8 @@ impl Walk {
         requires { (self.at ≤ length s.now) × (length s.now ≤ longest_datagram) }
         ensures { result ≡ step_of s.now self }
     {
-        let at = self.at;
-        if layout_ok(s, at) {
-            if value_ok(s, at) {
-                return self.taken_in(s);
-            }
-            return self.broken();
+        if layout_ok(s, self.at) && value_ok(s, self.at) {
+            return self.taken_in(s);
         }
         self.broken()
     }
@@ -121,11 +109,7 @@ fn layout_ok(s: &[u8], at: usize) -> bool
     requires { (at ≤ length s.now) × (length s.now ≤ longest_datagram) }
     ensures { result ≡ layout_ok s.now at }
 {
-    if at + 4 <= s.len() {
-        let n = octets::read_u16(s, at + 2) as usize;
-        return at + 4 + n <= s.len();
-    }
-    false
+    at + 4 <= s.len() && at + 4 + usize::from(octets::read_u16(s, at + 2)) <= s.len()
 }
 
 fn value_ok(s: &[u8], at: usize) -> bool
@@ -133,15 +117,9 @@ fn value_ok(s: &[u8], at: usize) -> bool
     ensures { result ≡ value_ok s.now at }
 {
     let code = octets::read_u16(s, at);
-    let n = octets::read_u16(s, at + 2) as usize;
-    let known = OptionCode::new(code);
-    if known.length_ok(n) {
-        if code == OptionCode::FEATURES {
-            return exactly_filled(s, at + 4, at + 4 + n);
-        }
-        return true;
-    }
-    false
+    let n = usize::from(octets::read_u16(s, at + 2));
+    OptionCode::new(code).length_ok(n)
+        && (code != OptionCode::FEATURES || exactly_filled(s, at + 4, at + 4 + n))
 }
 
 fn exactly_filled(s: &[u8], p: usize, end: usize) -> bool
@@ -161,5 +139,5 @@ fn past_list(s: &[u8], p: usize, end: usize) -> usize
     if end < p + 2 {
         return end + 1;
     }
-    p + 2 + 2 * (octets::read_u16(s, p) as usize)
+    p + 2 + 2 * usize::from(octets::read_u16(s, p))
 }

@@ -9,34 +9,19 @@ use crate::{LONGEST_DATAGRAM, Message, MessageType, OptionCode, Reading, Stage, 
 pub fn header_ok(s: &[u8]) -> bool
     ensures { result ≡ header_ok s.now }
 {
-    if s.len() < 12 {
+    if s.len() < 12 || LONGEST_DATAGRAM < s.len() {
         return false;
     }
-    if LONGEST_DATAGRAM < s.len() {
-        return false;
-    }
-    if s[0] == 0 {
-        if octets::read_u16(s, 2) == 1 {
-            let kind = MessageType::new(s[1]);
-            return kind.is_client();
-        }
-        return false;
-    }
-    false
+    s[0] == 0 && octets::read_u16(s, 2) == 1 && MessageType::new(s[1]).is_client()
 }
 
 pub fn walked(s: &[u8], w: Walk) -> Reading
     requires { (w ≡ walk_of s.now) × ((12 ≤ length s.now) × (length s.now ≤ longest_datagram)) }
     ensures { result ≡ walked s.now w }
 {
-    let stage = w.stage;
-    match stage {
-        Stage::Walking => Reading::discarded(5, w.at),
-        Stage::Done => {
-            let places = w.places;
-            ended(s, places)
-        }
-        Stage::Broken => Reading::discarded(5, w.at),
+    match w.stage {
+        Stage::Done => ended(s, w.places),
+        Stage::Walking | Stage::Broken => Reading::discarded(5, w.at),
     }
 }
 
@@ -49,17 +34,14 @@ fn ended(s: &[u8], places: [usize; 17]) -> Reading
         return Reading::discarded(5, s.len());
     }
     if none_required(s, places) {
-        let kind = MessageType::new(s[1]);
-        let xid = octets::read_u32(s, 4);
-        let message = Message {
-            kind: kind,
-            xid: xid,
-            places: places,
-        };
         return Reading {
             discard: 0,
             fault: 0,
-            message: message,
+            message: Message {
+                kind: MessageType::new(s[1]),
+                xid: octets::read_u32(s, 4),
+                places,
+            },
         };
     }
     Reading::discarded(6, 0)
@@ -71,10 +53,7 @@ fn none_required(s: &[u8], places: [usize; 17]) -> bool
     ensures { result ≡ none_required s.now places }
 {
     let at = places[OptionCode::FEATURES as usize];
-    if at == 0 {
-        return true;
-    }
-    required_empty(s, at)
+    at == 0 || required_empty(s, at)
 }
 
 // Whether the required list of the features at a place is empty.
@@ -83,8 +62,8 @@ fn required_empty(s: &[u8], at: usize) -> bool
     ensures { result ≡ required_empty s.now (at + 4) }
 {
     let p = at + 4;
-    let a = p + 2 + 2 * (octets::read_u16(s, p) as usize);
-    let b = a + 2 + 2 * (octets::read_u16(s, a) as usize);
+    let a = p + 2 + 2 * usize::from(octets::read_u16(s, p));
+    let b = a + 2 + 2 * usize::from(octets::read_u16(s, a));
     octets::read_u16(s, b) == 0
 }
 
@@ -92,16 +71,14 @@ impl Reading {
     pub fn discarded(number: u8, fault: usize) -> Reading
         ensures { result ≡ no_message number fault }
     {
-        let kind = MessageType::new(0);
-        let message = Message {
-            kind: kind,
-            xid: 0,
-            places: [0; 17],
-        };
         Reading {
             discard: number,
-            fault: fault,
-            message: message,
+            fault,
+            message: Message {
+                kind: MessageType::new(0),
+                xid: 0,
+                places: [0; 17],
+            },
         }
     }
 }

@@ -1,35 +1,27 @@
 // The values of a message's options, and what stands for an absent one.
-ghost use Rattle.std.specs.Prelude.{◌≡◌, true, ◌+◌, ◌/◌, ◌≤◌, length};
+ghost use Rattle.std.specs.Prelude.{◌≡◌, true, ◌+◌, ◌/◌, ◌≤◌, length, is_some};
 ghost use Rattle.lists.specs.Filter.{is_in};
 ghost use Rattle.message.specs.Walk.{length_at, after_at};
 ghost use Rattle.message.specs.Read.{longest_datagram};
-ghost use Rattle.message.specs.Values.{found_at, find_of, is_found, counts_at, counts_of, names_server, server_ok, codes_from, names_of, identifier_at, identifier_of, language_at, language_of, allowed_at, all_allowed, wish_at, wish_of, times_of};
+ghost use Rattle.message.specs.Values.{find_of, counts_at, counts_of, names_server, server_ok, codes_from, names_of, identifier_at, identifier_of, language_at, language_of, allowed_at, all_allowed, wish_of, times_of};
 ghost use Rattle.message.specs.Placed.{GoodPlaces, four_octets};
 
-use crate::{Counts, Found, Identifier, Language, Message, OptionCode, Times, Wish};
+use crate::{Counts, Identifier, Language, Message, OptionCode, Times};
 
 impl Message {
     // Where the option with a code from 1 to 16 stands.
-    pub fn find(self, code: u16) -> Found
+    pub fn find(self, code: u16) -> Option<usize>
         ensures { result ≡ find_of self.places code }
     {
-        let p = self.places;
-        let c = code as usize;
-        if c < 17 {
-            return place_found(p[c]);
-        }
-        Found::Absent
+        let at = *self.places.get(usize::from(code))?;
+        (at != 0).then_some(at)
     }
 
     // Whether the option is there.
     pub fn has(self, code: u16) -> bool
-        ensures { result ≡ is_found (find_of self.places code) }
+        ensures { result ≡ is_some (find_of self.places code) }
     {
-        let found = self.find(code);
-        match found {
-            Found::At(at) => true,
-            Found::Absent => false,
-        }
+        self.find(code).is_some()
     }
 
     // Number, or least 1 and desired 1.
@@ -37,8 +29,7 @@ impl Message {
         requires { GoodPlaces s.now self.places × (length s.now ≤ longest_datagram) }
         ensures { result ≡ counts_of s.now (find_of self.places 7) }
     {
-        let found = self.find(OptionCode::NUMBER);
-        let Found::At(at) = found else {
+        let Some(at) = self.find(OptionCode::NUMBER) else {
             return Counts {
                 least: 1,
                 desired: 1,
@@ -52,8 +43,7 @@ impl Message {
         requires { GoodPlaces s.now self.places × (length s.now ≤ longest_datagram) }
         ensures { result ≡ server_ok s.now server (find_of self.places 2) }
     {
-        let found = self.find(OptionCode::SERVER_IDENTIFIER);
-        let Found::At(at) = found else {
+        let Some(at) = self.find(OptionCode::SERVER_IDENTIFIER) else {
             return true;
         };
         names_server(s, at, server)
@@ -64,26 +54,19 @@ impl Message {
         requires { GoodPlaces s.now self.places × (length s.now ≤ longest_datagram) }
         ensures { result ≡ names_of s.now code (find_of self.places 5) }
     {
-        let found = self.find(OptionCode::OPTION_REQUEST_LIST);
-        let Found::At(at) = found else {
+        let Some(at) = self.find(OptionCode::OPTION_REQUEST_LIST) else {
             return false;
         };
         lists_code(s, at, code)
     }
 
     // The value of an option of four octets, if it is there.
-    pub fn wish(self, s: &[u8], code: u16) -> Wish
+    pub fn wish(self, s: &[u8], code: u16) -> Option<u32>
         requires { GoodPlaces s.now self.places × ((four_octets code ≡ true) × (length s.now ≤ longest_datagram)) }
         ensures { result ≡ wish_of s.now (find_of self.places code) }
     {
-        let found = self.find(code);
-        let Found::At(at) = found else {
-            return Wish {
-                there: false,
-                value: 0,
-            };
-        };
-        wish_at(s, at)
+        let at = self.find(code)?;
+        Some(octets::read_u32(s, at + 4))
     }
 
     pub fn times(self, s: &[u8]) -> Times
@@ -104,8 +87,7 @@ impl Message {
         requires { GoodPlaces s.now self.places × (length s.now ≤ longest_datagram) }
         ensures { result ≡ identifier_of s.now (find_of self.places 3) }
     {
-        let found = self.find(OptionCode::LEASE_IDENTIFIER);
-        let Found::At(at) = found else {
+        let Some(at) = self.find(OptionCode::LEASE_IDENTIFIER) else {
             return Identifier {
                 octets: [0; 32],
                 len: 0,
@@ -119,8 +101,7 @@ impl Message {
         requires { GoodPlaces s.now self.places × (length s.now ≤ longest_datagram) }
         ensures { result ≡ language_of s.now (find_of self.places 8) }
     {
-        let found = self.find(OptionCode::REQUESTED_LANGUAGE);
-        let Found::At(at) = found else {
+        let Some(at) = self.find(OptionCode::REQUESTED_LANGUAGE) else {
             return Language {
                 asked: false,
                 len: 0,
@@ -134,44 +115,13 @@ impl Message {
     pub fn all_allowed(self) -> bool
         ensures { result ≡ all_allowed self }
     {
-        let mut code: u16 = 0;
-        while code < 17 {
-            if !self.allowed_at(code) {
-                return false;
-            }
-            code += 1;
-        }
-        true
+        (0..17).all(|code| self.allowed_at(code))
     }
 
     fn allowed_at(self, code: u16) -> bool
         ensures { result ≡ allowed_at self.kind.number self.places code }
     {
-        if self.has(code) {
-            let kind = self.kind;
-            let option = OptionCode::new(code);
-            return kind.allows(option);
-        }
-        true
-    }
-}
-
-fn place_found(at: usize) -> Found
-    ensures { result ≡ found_at at }
-{
-    if at == 0 {
-        return Found::Absent;
-    }
-    Found::At(at)
-}
-
-fn wish_at(s: &[u8], at: usize) -> Wish
-    requires { (at + 8 ≤ length s.now) × (length s.now ≤ longest_datagram) }
-    ensures { result ≡ wish_at s.now at }
-{
-    Wish {
-        there: true,
-        value: octets::read_u32(s, at + 4),
+        !self.has(code) || self.kind.allows(OptionCode::new(code))
     }
 }
 
@@ -190,13 +140,9 @@ fn names_server(s: &[u8], at: usize, server: u32) -> bool
     requires { (after_at s.now at ≤ length s.now) × (length s.now ≤ longest_datagram) }
     ensures { result ≡ names_server s.now server at }
 {
-    if octets::read_u16(s, at + 2) == 6 {
-        if octets::read_u16(s, at + 4) == 1 {
-            return octets::read_u32(s, at + 6) == server;
-        }
-        return false;
-    }
-    false
+    octets::read_u16(s, at + 2) == 6
+        && octets::read_u16(s, at + 4) == 1
+        && octets::read_u32(s, at + 6) == server
 }
 
 // Whether the list of codes at a place has a code.
@@ -204,18 +150,8 @@ fn lists_code(s: &[u8], at: usize, code: u16) -> bool
     requires { (after_at s.now at ≤ length s.now) × (length s.now ≤ longest_datagram) }
     ensures { result ≡ is_in code (codes_from s.now (at + 4) (length_at s.now at / 2)) }
 {
-    let k = octets::read_u16(s, at + 2) as usize / 2;
-    let mut p: usize = at + 4;
-    let mut i: usize = 0;
-    while i < k {
-        let x = octets::read_u16(s, p);
-        i += 1;
-        p += 2;
-        if code == x {
-            return true;
-        }
-    }
-    false
+    let k = usize::from(octets::read_u16(s, at + 2)) / 2;
+    (0..k).any(|i| octets::read_u16(s, at + 4 + 2 * i) == code)
 }
 
 // The identifier of 2 to 32 octets at a place.
@@ -223,15 +159,11 @@ fn identifier_at(s: &[u8], at: usize) -> Identifier
     requires { (after_at s.now at ≤ length s.now) × ((length_at s.now at ≤ 32) × (length s.now ≤ longest_datagram)) }
     ensures { result ≡ identifier_at s.now at }
 {
-    let n = octets::read_u16(s, at + 2) as usize;
-    let mut id: [u8; 32] = [0; 32];
-    let mut i: usize = 0;
-    while i < n {
-        id[i] = s[at + 4 + i];
-        i += 1;
-    }
+    let n = usize::from(octets::read_u16(s, at + 2));
+    let mut octets = [0; 32];
+    octets[..n].copy_from_slice(&s[at + 4..at + 4 + n]);
     Identifier {
-        octets: id,
+        octets,
         len: n as u8,
     }
 }
@@ -241,17 +173,13 @@ fn language_at(s: &[u8], at: usize) -> Language
     requires { (after_at s.now at ≤ length s.now) × (length s.now ≤ longest_datagram) }
     ensures { result ≡ language_at s.now at }
 {
-    let len = octets::read_u16(s, at + 2) as usize;
-    let n = arithmetic::fewer(len, 8);
-    let mut kept: [u8; 8] = [0; 8];
-    let mut i: usize = 0;
-    while i < n {
-        kept[i] = s[at + 4 + i];
-        i += 1;
-    }
+    let len = usize::from(octets::read_u16(s, at + 2));
+    let n = len.min(8);
+    let mut octets = [0; 8];
+    octets[..n].copy_from_slice(&s[at + 4..at + 4 + n]);
     Language {
         asked: true,
-        len: len,
-        octets: kept,
+        len,
+        octets,
     }
 }

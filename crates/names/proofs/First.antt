@@ -1,6 +1,9 @@
 -- Laws: the name that is sent: the first of a list that is wanted is the part of the list's octets in which it stands.
+use Rattle.std.specs.Prelude.{MatchOption, None, Option, Some, option_copied, unwrap_or}
+use Rattle.std.proofs.Common.{Bor}
+use Rattle.std.proofs.lemmas.Option.{same_Some}
 use mathlib.Core.Bool.{Bool, true, false}
-use mathlib.Core.List.{List, [], ◌∷◌, ◌++◌, append-nil}
+use mathlib.Core.List.{List, [], ◌∷◌, append-nil}
 use mathlib.Core.Path.{◌≡◌, refl, sym, ap, ◌∙◌, subst}
 use Prim.Native.Nat.{ℕ, suc, ◌+◌, ◌-◌, ◌≤◌, ◌<◌}
 use native.Mathlib.Omega.{arith}
@@ -10,11 +13,9 @@ use borrow.Author.Tests.{lt-ltb}
 use Rattle.lists.specs.Pick.{pick}
 use Rattle.format.specs.Format.{Got, got, bad, then, read_octet, read_times, write_all, Octets}
 use Rattle.format.specs.laws.Format.{then_with}
-use Rattle.format.specs.declared.Place.{Place}
-use Rattle.format.specs.declared.Place.TheVariants.{At, Nowhere}
 use Rattle.format.specs.Place.{Stands, EndsWith}
 use Rattle.message.specs.declared.Language.{Language}
-use Rattle.names.specs.Names.{IsList, NameEnds, TagIn, Name, name_format, name_at, few_names, first_by, or_else, value_or, names_in, shown, is_flagged, is_any, in_language, default_of, match_of, chosen_of}
+use Rattle.names.specs.Names.{IsList, NameEnds, TagIn, Tells, Name, name_format, name_at, few_names, first_by, or_else, value_or, names_in, shown, shown_if, is_flagged, in_language, default_of, match_of, chosen_of}
 use Rattle.names.specs.laws.Names.{name_lawful}
 
 -- what a list's octets say: a count, and the names
@@ -38,41 +39,34 @@ opened (k ∷ s) v = record { some = omega arith; reads = go (read_times k name_
         at false e = let z : ◌≡◌ {A = ℕ} 0 1 = cc in absurd (omega arith)
     go bad q e = let z : ◌≡◌ {A = ℕ} 0 1 = cc in absurd (omega arith)
 
--- what is known of a place that `name_end` gave
-pub named_at : {s : List ℕ} {at n : ℕ} {r : Place} → NameEnds s at r → r ≡ At n → NameEnds s at (At n)
-named_at {s} {at} v e = subst (λ (r : Place). NameEnds s at r) e v
-
-pub named_not : {s : List ℕ} {at : ℕ} {r : Place} → NameEnds s at r → r ≡ Nowhere → NameEnds s at Nowhere
-named_not {s} {at} v e = subst (λ (r : Place). NameEnds s at r) e v
-
-pub named_in : {s : List ℕ} {at n : ℕ} → NameEnds s at (At n) → (at + 1 ≤ n) × (n ≤ length s)
+pub named_in : {s : List ℕ} {at n : ℕ} → NameEnds s at (Some n) → (at + 1 ≤ n) × (n ≤ length s)
 unfolding EndsWith
 named_in v = (v.ends.by.1, v.ends.by.2)
 
-pub named_tag : {s : List ℕ} {at n : ℕ} → NameEnds s at (At n) → (at + (get_or s (at + 1) 0 + 3) ≤ length s) × (get_or s (at + 1) 0 ≤ 8)
+pub named_tag : {s : List ℕ} {at n : ℕ} → NameEnds s at (Some n) → (at + (get_or s (at + 1) 0 + 3) ≤ length s) × (get_or s (at + 1) 0 ≤ 8)
 unfolding TagIn
 named_tag v = let w = named_in v in let t = v.tag in (omega arith, t.1)
 
 -- ---- the loop: the names that are left, and the first wanted among them is the first of all
-pub record FirstInv (t : Name → Bool) (s : List ℕ) (k here i : ℕ) : Type 0 where
+pub record FirstInv (post : ℕ → Bool → Type 0) (s : List ℕ) (k here i : ℕ) : Type 0 where
   pub within : i ≤ k
   pub inside : here ≤ length s
   pub rest : List Name
   pub reads : read_times (k - i) name_format.read (drop here s) ≡ got rest []
-  pub first : first_by t rest ≡ first_by t (names_in s)
+  pub first : (t : Name → Bool) → Tells post s t → first_by t rest ≡ first_by t (names_in s)
 
 pub first_some : {s : List ℕ} → IsList s (names_in s) → 0 < length s
 first_some {s} v = (opened s v).some
 
-pub first_start : (t : Name → Bool) {s : List ℕ} {k : ℕ} → IsList s (names_in s) → k ≡ get_or s 0 0 → FirstInv t s k 1 0
-first_start t {s} {k} v e =
+pub first_start : {post : ℕ → Bool → Type 0} {s : List ℕ} {k : ℕ} → IsList s (names_in s) → k ≡ get_or s 0 0 → FirstInv post s k 1 0
+first_start {post} {s} {k} v e =
     let o = opened s v in
     record {
       within = omega arith;
       inside = (let h = o.some in omega arith);
       rest = names_in s;
       reads = ap (λ (n : ℕ). read_times n name_format.read (drop 1 s)) ((let q : k - 0 ≡ k = omega arith in q) ∙ e) ∙ o.reads;
-      first = refl;
+      first = λ t h. refl;
     }
 
 -- the names from one that stands there on
@@ -81,7 +75,7 @@ record Next (s : List ℕ) (j here next : ℕ) (rest : List Name) : Type 0 where
   is : rest ≡ name_at s here ∷ others
   reads : read_times j name_format.read (drop next s) ≡ got others []
 
-module _ {t : Name → Bool} {s : List ℕ} {k here i : ℕ} (v : FirstInv t s k here i) where
+module _ {post : ℕ → Bool → Type 0} {s : List ℕ} {k here i : ℕ} (v : FirstInv post s k here i) where
   step : i < k → read_times (suc (k - (i + 1))) name_format.read (drop here s) ≡ got v.rest []
   step h = ap (λ (n : ℕ). read_times n name_format.read (drop here s)) (let e : suc (k - (i + 1)) ≡ k - i = omega arith in e) ∙ v.reads
 
@@ -93,14 +87,14 @@ module _ {t : Name → Bool} {s : List ℕ} {k here i : ℕ} (v : FirstInv t s k
       go (got xs u) q e = let a : name_at s here ∷ xs ≡ v.rest = cc in let b : u ≡ [] = cc in record { others = xs; is = sym a; reads = q ∙ ap (got xs) b }
       go bad q e = let z : ◌≡◌ {A = ℕ} 0 1 = cc in absurd (omega arith)
 
-  stands_of : {next : ℕ} → NameEnds s here (At next) → Stands name_format s here (name_at s here) next × (here + 1 ≤ next) × (next ≤ length s)
+  stands_of : {next : ℕ} → NameEnds s here (Some next) → Stands name_format s here (name_at s here) next × (here + 1 ≤ next) × (next ≤ length s)
   unfolding EndsWith
   stands_of w = w.ends.by
 
   -- another than the wanted one: go on
-  pub first_next : {next : ℕ} {q : Bool} → i < k → NameEnds s here (At next) → q ≡ t (name_at s here) → q ≡ false → FirstInv t s k next (i + 1)
+  pub first_next : {next : ℕ} → i < k → NameEnds s here (Some next) → post here false → FirstInv post s k next (i + 1)
   unfolding first_by pick
-  first_next {next} h w e y =
+  first_next {next} h w y =
       let p = stands_of w in
       let n = next_of h p.0 in
       record {
@@ -108,13 +102,13 @@ module _ {t : Name → Bool} {s : List ℕ} {k here i : ℕ} (v : FirstInv t s k
         inside = p.2;
         rest = n.others;
         reads = n.reads;
-        first = sym (ap (λ (b : Bool). pick b (name_at s here ∷ []) (first_by t n.others)) (sym e ∙ y)) ∙ sym (ap (first_by t) n.is) ∙ v.first;
+        first = λ t a. ap (λ (b : Bool). pick b (name_at s here ∷ []) (first_by t n.others)) (a here false y) ∙ sym (ap (first_by t) n.is) ∙ v.first t a;
       }
 
   -- the wanted one: its octets
-  pub first_found : {next : ℕ} {q : Bool} → i < k → Octets s → NameEnds s here (At next) → q ≡ t (name_at s here) → q ≡ true → take (next - here) (drop here s) ≡ shown (first_by t (names_in s))
-  unfolding first_by pick write_all
-  first_found {next} h o w e y =
+  pub first_found : {next : ℕ} → i < k → Octets s → NameEnds s here (Some next) → post here true → (t : Name → Bool) → Tells post s t → Some (take (next - here) (drop here s)) ≡ shown_if (first_by t (names_in s))
+  unfolding first_by pick write_all shown_if
+  first_found {next} h o w y t z =
       let p = stands_of w in
       let n = next_of h p.0 in
       let l = name_lawful.reads (drop here s) (name_at s here) (drop next s) (λ j. subst (λ (x : ℕ). x < 256) (sym (get_or-drop here s j 0)) (o (here + j))) p.0.reads in
@@ -122,72 +116,70 @@ module _ {t : Name → Bool} {s : List ℕ} {k here i : ℕ} (v : FirstInv t s k
       let b = length-drop next s in
       let c : length (drop here s) ≡ length (name_format.write (name_at s here)) + length (drop next s) = ap length l.1 ∙ length-append (name_format.write (name_at s here)) (drop next s) in
       let d = p.1 in let f = p.2 in
-      ap (take (next - here)) l.1
+      ap Some (ap (take (next - here)) l.1
       ∙ take_at (name_format.write (name_at s here)) (drop next s) (next - here) (let g : length (name_format.write (name_at s here)) ≡ next - here = omega arith in g)
-      ∙ sym (append-nil (name_format.write (name_at s here)))
-      ∙ ap shown (sym (ap (λ (b : Bool). pick b (name_at s here ∷ []) (first_by t n.others)) (sym e ∙ y)) ∙ sym (ap (first_by t) n.is) ∙ v.first)
+      ∙ sym (append-nil (name_format.write (name_at s here))))
+      ∙ ap shown_if (ap (λ (b : Bool). pick b (name_at s here ∷ []) (first_by t n.others)) (z here true y) ∙ sym (ap (first_by t) n.is) ∙ v.first t z)
 
   -- a list has no broken name
-  pub first_broken_law : {A : Type 0} → i < k → NameEnds s here Nowhere → A
+  pub first_broken_law : {A : Type 0} → i < k → NameEnds s here None → A
   unfolding EndsWith read_times then
   first_broken_law h w =
       let e : bad ≡ got v.rest [] = sym (ap (λ g. then g (λ x u. then (read_times (k - (i + 1)) name_format.read u) (λ xs y. got (x ∷ xs) y))) w.ends.by.reads) ∙ step h in
       let z : ◌≡◌ {A = ℕ} 0 1 = cc in absurd (omega arith)
 
-  pub first_none : k ≤ i → [] ≡ shown (first_by t (names_in s))
-  unfolding first_by write_all read_times
-  first_none h =
+  pub first_none : k ≤ i → (t : Name → Bool) → Tells post s t → None ≡ shown_if (first_by t (names_in s))
+  unfolding first_by read_times shown_if
+  first_none h t z =
       let e : got [] (drop here s) ≡ got v.rest [] = ap (λ (n : ℕ). read_times n name_format.read (drop here s)) (let q : 0 ≡ k - i = omega arith in q) ∙ v.reads in
       let a : [] ≡ v.rest = cc in
-      ap shown (ap (first_by t) a ∙ v.first)
+      ap shown_if (ap (first_by t) a ∙ v.first t z)
 
 -- ---- the first that there is, by its octets
-pub or_first : (xs ys : List Name) {r : List ℕ} → r ≡ shown xs → 0 < length r → r ≡ shown (or_else xs ys)
-unfolding or_else pick write_all
-or_first [] ys {r} e h = let z : length r ≡ 0 = ap length e in absurd (omega arith)
-or_first (x ∷ xs) ys e h = e ∙ ap shown (sym (ap (λ (b : Bool). pick b (x ∷ xs) ys) (lt-ltb 0 (length (x ∷ xs)) (omega arith))))
+pub or_shown : {Q : Type 0} (r q : Option (Bor (List ℕ))) (a b : List Name) → option_copied q ≡ shown_if a → MatchOption q Q (λ x. r ≡ Some x) → (Q → option_copied r ≡ shown_if b) → option_copied r ≡ shown_if (or_else a b)
+unfolding or_else pick shown_if
+or_shown r None [] b e h f = f h
+or_shown r None (x ∷ a) b e h f = let z : ◌≡◌ {A = ℕ} 0 1 = cc in absurd (omega arith)
+or_shown r (Some p) [] b e h f = let z : ◌≡◌ {A = ℕ} 0 1 = cc in absurd (omega arith)
+or_shown r (Some p) (x ∷ a) b e h f = ap option_copied h ∙ e ∙ ap shown_if (sym (ap (λ (c : Bool). pick c (x ∷ a) b) (lt-ltb 0 (length (x ∷ a)) (omega arith))))
 
-pub or_second : (xs ys : List Name) {a r : List ℕ} → a ≡ shown xs → length a ≤ 0 → r ≡ shown ys → r ≡ shown (or_else xs ys)
-unfolding or_else pick write_all
-or_second [] ys e h p = p
-or_second (x ∷ xs) ys {a} e h p = let z : length a ≡ suc (length (drop 1 (name_format.write x ++ write_all name_format.write xs))) = ap length e in absurd (omega arith)
+pub all_shown : (a : List Name) (q : Option (Bor (List ℕ))) (d : Bor (List ℕ)) → d.now ≡ [] → option_copied q ≡ shown_if a → (unwrap_or q d).now ≡ shown a
+unfolding shown_if write_all
+all_shown [] None d e p = e
+all_shown [] (Some x) d e p = let z : ◌≡◌ {A = ℕ} 0 1 = cc in absurd (omega arith)
+all_shown (y ∷ a) None d e p = let z : ◌≡◌ {A = ℕ} 0 1 = cc in absurd (omega arith)
+all_shown (y ∷ a) (Some x) d e p = same_Some _ _ p
 
-any_is : (l : List Name) → first_by is_any l ≡ take 1 l
+any_is : (l : List Name) → first_by (λ x. true) l ≡ take 1 l
 unfolding first_by pick
 any_is [] = refl
 any_is (x ∷ l) = refl
 
-module _ (campus : List Name) where
-  pub default_flagged : {r : List ℕ} → r ≡ shown (first_by is_flagged campus) → 0 < length r → r ≡ shown (default_of campus)
-  unfolding default_of
-  default_flagged e h = or_first _ _ e h
+pub default_shown : (campus : List Name) → or_else (first_by is_flagged campus) (first_by (λ x. true) campus) ≡ default_of campus
+unfolding default_of
+default_shown campus = ap (or_else (first_by is_flagged campus)) (any_is campus)
 
-  pub default_any : {a r : List ℕ} → a ≡ shown (first_by is_flagged campus) → length a ≤ 0 → r ≡ shown (first_by is_any campus) → r ≡ shown (default_of campus)
-  unfolding default_of
-  default_any e h p = or_second _ _ e h (p ∙ ap shown (any_is campus))
+-- without a language that is asked for, neither list has one in it
+pub chosen_shown : (l : Language) (own campus : List Name)
+    → or_else (or_else (pick l.asked (first_by (in_language l) own) []) (pick l.asked (first_by (in_language l) campus) [])) (default_of campus) ≡ chosen_of l own campus
+unfolding chosen_of match_of pick or_else
+chosen_shown l own campus = go l.asked
+  where
+    a : List Name
+    a = first_by (in_language l) own
 
-module _ (l : Language) (own campus : List Name) where
-  abbrev match : List Name
-  match = or_else (first_by (in_language l) own) (first_by (in_language l) campus)
+    b : List Name
+    b = first_by (in_language l) campus
 
-  matched : l.asked ≡ true → match_of l own campus ≡ match
-  unfolding match_of pick
-  matched t = ap (λ (b : Bool). pick b match []) t
+    go : (t : Bool) → or_else (or_else (pick t a []) (pick t b [])) (default_of campus) ≡ or_else (pick t (or_else a b) []) (default_of campus)
+    go true = refl
+    go false = refl
 
-  pub chosen_own : {r : List ℕ} → l.asked ≡ true → r ≡ shown (first_by (in_language l) own) → 0 < length r → r ≡ shown (chosen_of l own campus)
-  unfolding chosen_of
-  chosen_own t e h = or_first _ _ (or_first _ _ e h ∙ ap shown (sym (matched t))) h
+module _ {t : Bool} (a : List Name) where
+  pub asked_none : t ≡ false → None ≡ shown_if (pick t a [])
+  unfolding pick shown_if
+  asked_none e = sym (ap (λ (b : Bool). shown_if (pick b a [])) e)
 
-  pub chosen_campus : {a r : List ℕ} → l.asked ≡ true → a ≡ shown (first_by (in_language l) own) → length a ≤ 0 → r ≡ shown (first_by (in_language l) campus) → 0 < length r → r ≡ shown (chosen_of l own campus)
-  unfolding chosen_of
-  chosen_campus t e g p h = or_first _ _ (or_second _ _ e g p ∙ ap shown (sym (matched t))) h
-
-  pub chosen_neither : {a d r : List ℕ} → l.asked ≡ true → a ≡ shown (first_by (in_language l) own) → length a ≤ 0 → d ≡ shown (first_by (in_language l) campus) → length d ≤ 0 → r ≡ shown (default_of campus) → r ≡ shown (chosen_of l own campus)
-  unfolding chosen_of
-  chosen_neither t e g p h o = or_second _ _ (or_second _ _ e g p ∙ ap shown (sym (matched t))) h o
-
-  pub chosen_default : {r : List ℕ} → l.asked ≡ false → r ≡ shown (default_of campus) → r ≡ shown (chosen_of l own campus)
-  unfolding chosen_of match_of pick write_all
-  chosen_default t o = or_second _ _ (ap shown (sym (ap (λ (b : Bool). pick b match []) t))) (let z : 0 ≤ 0 = omega arith in z) o
-
-pub ruleset chosens = (default_flagged, default_any, chosen_own, chosen_campus, chosen_neither, chosen_default)
+  pub asked_some : {q : Option (List ℕ)} → t ≡ true → q ≡ shown_if a → q ≡ shown_if (pick t a [])
+  unfolding pick
+  asked_some e p = p ∙ sym (ap (λ (b : Bool). shown_if (pick b a [])) e)

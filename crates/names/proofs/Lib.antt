@@ -1,4 +1,5 @@
 mod Ends
 mod First
 mod Lists
+mod Rows
 mod Specimens

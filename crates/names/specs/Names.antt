@@ -1,13 +1,9 @@
 -- Definitions: names for the scopes (document 02, W-201): their section, whether octets are one, and the name that is sent.
-use Rattle.std.specs.Prelude.{Bool, true, false, ◌&&◌, ◌||◌, List, [], ◌∷◌, ◌≡◌, ℕ, ◌+◌, ◌≤◌, eqb, leb, ltb, length, drop, take, get_or}
+use Rattle.std.specs.Prelude.{◌⊎◌, Bool, true, false, ◌&&◌, ◌||◌, List, [], ◌∷◌, ◌≡◌, ℕ, ◌+◌, ◌≤◌, eqb, leb, ltb, length, drop, take, get_or, None, Option, Some}
 use Rattle.lists.specs.Pick.{pick}
-use Rattle.format.specs.declared.Place.{Place}
-use Rattle.format.specs.declared.Place.TheVariants.{At, Nowhere}
 use Rattle.format.specs.Place.{EndsAs, is_whole}
 use Rattle.format.specs.Format.{Format, Got, got, bad, octet, ◌⊗◌, times, counted, only, viewed, after, write_all}
 use Rattle.message.specs.declared.Language.{Language}
-use Rattle.names.specs.declared.Wanted.{Wanted}
-use Rattle.names.specs.declared.Wanted.TheVariants.{InLanguage, Flagged, Any}
 
 -- ---- the section
 
@@ -21,6 +17,10 @@ pub record Name : Type 0 where
 -- flags and the two lengths
 unfoldable pub sizes_ok : ℕ → ℕ → ℕ → Bool
 sizes_ok flags tag text = leb 1 tag && (leb tag 8 && (leb 1 text && (leb text 32 && (eqb flags 0 || eqb flags 128))))
+
+-- the same, as what holds of them
+abbrev pub Sized : ℕ → ℕ → ℕ → Type 0
+Sized flags tag text = (1 ≤ tag) × (tag ≤ 8) × (1 ≤ text) × (text ≤ 32) × ((flags ≡ 0) ⊎ (flags ≡ 128))
 
 abbrev pub name_ok : Name → Bool
 name_ok x = sizes_ok x.flags (length x.tag) (length x.text)
@@ -117,16 +117,12 @@ sent_for h s tenant place l = chosen_of l (list_in h s place (tenant + 1)) (list
 abbrev pub shown : List Name → List ℕ
 shown l = write_all name_format.write l
 
+-- the same, where there is a name
+unfoldable pub shown_if : List Name → Option (List ℕ)
+shown_if [] = None
+shown_if (x ∷ l) = Some (shown (x ∷ l))
+
 -- ---- what the readers promise
-
--- what the name that is looked for has to pass
-abbrev pub is_any : Name → Bool
-is_any x = true
-
-abbrev pub test_of : Wanted → Language → Name → Bool
-test_of InLanguage l = in_language l
-test_of Flagged l = is_flagged
-test_of Any l = is_any
 
 -- the name whose first octet is at a place, by its lengths
 abbrev pub name_at : List ℕ → ℕ → Name
@@ -136,13 +132,21 @@ name_at s at = record {
   text = take (get_or s (at + (get_or s (at + 1) 0 + 2)) 0) (drop (at + (get_or s (at + 1) 0 + 3)) s);
 }
 
--- the tag of a name lies before the name's end and has at most eight octets
-unfoldable pub TagIn : List ℕ → ℕ → Place → Type 0
-TagIn s at (At n) = (at + (get_or s (at + 1) 0 + 3) ≤ n) × (get_or s (at + 1) 0 ≤ 8)
-TagIn s at Nowhere = Unit {0}
+-- a test asked of places is t of the names that stand there
+abbrev pub Tells : (ℕ → Bool → Type 0) → List ℕ → (Name → Bool) → Type 0
+Tells post s t = (at : ℕ) (b : Bool) → post at b → b ≡ t (name_at s at)
+
+-- the tag of the name at a place lies before n and has at most eight octets
+abbrev pub HasTag : List ℕ → ℕ → ℕ → Type 0
+HasTag s at n = (at + (get_or s (at + 1) 0 + 3) ≤ n) × (get_or s (at + 1) 0 ≤ 8)
+
+-- and before the name's end
+unfoldable pub TagIn : List ℕ → ℕ → Option ℕ → Type 0
+TagIn s at (Some n) = HasTag s at n
+TagIn s at None = Unit {0}
 
 -- where the name at a place ends
-pub record NameEnds (s : List ℕ) (at : ℕ) (r : Place) : Type 0 where
+pub record NameEnds (s : List ℕ) (at : ℕ) (r : Option ℕ) : Type 0 where
   pub ends : EndsAs name_format (name_at s at) s at 1 r
   pub tag : TagIn s at r
 

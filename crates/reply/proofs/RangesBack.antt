@@ -2,6 +2,7 @@
 use mathlib.Core.Path.{◌≡◌, refl, sym, ap, ap₂, ◌∙◌}
 use mathlib.Core.List.{List, [], ◌∷◌, ◌++◌, append_assoc, map}
 use mathlib.Core.Bool.{Bool, true, false}
+use Rattle.std.specs.Prelude.{Some, None}
 use Prim.Native.Nat.{ℕ, ◌+◌, ◌/◌, ◌^◌, ◌≤◌, ◌<◌}
 use native.Mathlib.Omega.{arith}
 use native.Mathlib.Nat.{add_assoc, add-zero}
@@ -19,7 +20,6 @@ use Rattle.address_set.proofs.Ranges.{ranges_few}
 use Rattle.address_set.proofs.Fewest.{moved_names, moved_by, ranges_name, fewest_below}
 use Rattle.message.specs.Values.{found_at}
 use Rattle.message.specs.Walk.{length_at, walk_of}
-use Rattle.message.specs.declared.Found.TheVariants.{At, Absent}
 use Rattle.message.specs.declared.Walk.{Walk}
 use Rattle.reply.specs.declared.Head.{Head}
 use Rattle.reply.specs.declared.Terms.{Terms}
@@ -136,5 +136,5 @@ module _ (h : Head) (n : Named h) (kind : ℕ) (t : Terms) (some : 0 < t.address
   unfolding addresses_in found_at pick
   addresses_back =
       ap (λ (p : ℕ). named_by (ranges_at reply (found_at p))) place
-      ∙ ap (λ (b : Bool). named_by (ranges_at reply (pick b Absent (At (length pre))))) (ne_eqb (length pre) 0 (λ z. let e = length-append (header kind h.xid) (options_octets lower) in omega arith))
+      ∙ ap (λ (b : Bool). named_by (ranges_at reply (pick b None (Some (length pre))))) (ne_eqb (length pre) 0 (λ z. let e = length-append (header kind h.xid) (options_octets lower) in omega arith))
       ∙ ap named_by ranges_are ∙ moved_names t.scope found ∙ ap (map (λ a. t.scope + a)) (ranges_name (offsets t.addresses))

@@ -218,11 +218,8 @@ wrote_before {b₀ = b₀} {b₁ = b₁} {xs = xs} {ys = ys} {at = at} {a = a} {
 -- ---- options whose value is cut or counted
 
 -- an identifier's octets: as many as its length says, and no more than the array has
-pub id_short : (l : List ℕ) (len : ℕ) → length l ≡ 32 → len < 32 → len ≡ length (take len l)
-id_short l len e h = sym (length-take len l ∙ (let z : min len (length l) ≡ len = omega arith in z))
-
-pub id_long : (l : List ℕ) (len : ℕ) → length l ≡ 32 → 32 ≤ len → 32 ≡ length (take len l)
-id_long l len e h = sym (length-take len l ∙ (let z : min len (length l) ≡ 32 = omega arith in z))
+pub id_cut : (l : List ℕ) (len n : ℕ) → length l ≡ 32 → n ≡ min len 32 → n ≡ length (take len l)
+id_cut l len n e p = p ∙ sym (length-take len l ∙ ap (min len) e)
 
 pub id_fits : (l : List ℕ) (len n : ℕ) → n ≡ length (take len l) → n ≤ length l
 id_fits l len n e = let h = length-take len l in omega arith

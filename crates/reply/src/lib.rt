@@ -82,17 +82,14 @@ fn put_server(buffer: &mut [u8], at: usize, head: Head) -> usize
 {
     let a = put_code(buffer, at, OptionCode::SERVER_IDENTIFIER, 6);
     let b = octets::put_u16(buffer, a, 1);
-    octets::put_u32(buffer, b, arithmetic::wide64(head.server))
+    octets::put_u32(buffer, b, u64::from(head.server))
 }
 
 // How many octets an identifier has: its length, cut to those that there are.
 fn id_length(id: Identifier) -> usize
     ensures { (result ≡ length (take id.len id.octets)) × (result ≤ 32) }
 {
-    if id.len < 32 {
-        return id.len as usize;
-    }
-    32
+    usize::from(id.len).min(32)
 }
 
 // A code and a length(4), and 32 octets: 36.
@@ -100,11 +97,9 @@ fn put_identifier(buffer: &mut [u8], at: usize, head: Head) -> usize
     requires { at + 36 ≤ length buffer.old }
     ensures { Put buffer.old at (identifier_option head ∷ []) buffer.new result 36 }
 {
-    let id = head.id;
-    let n = id_length(id);
+    let n = id_length(head.id);
     let a = put_code(buffer, at, OptionCode::LEASE_IDENTIFIER, n as u16);
-    let octets = id.octets;
-    octets::put_run(buffer, a, &octets, n)
+    octets::put_run(buffer, a, &head.id.octets, n)
 }
 
 // Option 12 with three empty lists, if the client sent it.
@@ -130,6 +125,7 @@ fn put_error(buffer: &mut [u8], at: usize, error: u16) -> usize
 // ---- option 10
 
 // How many ranges name a set of addresses.
+// Stays: what is left of the set is tested, and no index counted; an iterator over the ranges of a set would say `fewest_ranges` again in its contract.
 fn range_count(set: u64) -> u16
     ensures { result ≡ length (fewest_ranges (offsets set)) }
 {
@@ -147,14 +143,11 @@ fn put_range(buffer: &mut [u8], at: usize, lowest: u32, r: Range) -> usize
     requires { (at + 6 ≤ length buffer.old) × (r.count ≤ 64) }
     ensures { Wrote buffer.old at (range_octets lowest r) buffer.new result }
 {
-    let a = octets::put_u32(
-        buffer,
-        at,
-        arithmetic::wide64(lowest) + arithmetic::wide64(r.first),
-    );
+    let a = octets::put_u32(buffer, at, u64::from(lowest) + u64::from(r.first));
     octets::put_u16(buffer, a, (r.count % 65536) as u16)
 }
 
+// Stays: as in `range_count`.
 fn put_range_list(buffer: &mut [u8], at: usize, lowest: u32, set: u64) -> usize
     requires { at + 384 ≤ length buffer.old }
     ensures { Wrote buffer.old at (ranges_octets lowest (fewest_ranges (offsets set))) buffer.new result }
@@ -184,20 +177,14 @@ fn put_ranges(buffer: &mut [u8], at: usize, terms: Terms) -> usize
 fn highest(e: ScopeEntry) -> u64
     ensures { result ≡ e.lowest + (e.size - 1) }
 {
-    if e.size == 0 {
-        return arithmetic::wide64(e.lowest);
-    }
-    arithmetic::wide64(e.lowest) + ((e.size - 1) as u64)
+    u64::from(e.lowest) + u64::from(e.size.saturating_sub(1))
 }
 
 // How many names there are, by the octets of what is one name or none.
 fn name_count(n: usize) -> u8
     ensures { result ≡ min n 1 }
 {
-    if n < 1 {
-        return 0;
-    }
-    1
+    n.min(1) as u8
 }
 
 // A scope, up to its names.
@@ -205,7 +192,7 @@ fn put_entry(buffer: &mut [u8], at: usize, e: ScopeEntry, names: u8) -> usize
     requires { at + 10 ≤ length buffer.old }
     ensures { Wrote buffer.old at (entry_octets e names []) buffer.new result }
 {
-    let a = octets::put_u32(buffer, at, arithmetic::wide64(e.lowest));
+    let a = octets::put_u32(buffer, at, u64::from(e.lowest));
     let b = octets::put_u32(buffer, a, highest(e));
     let c = octets::put_u8(buffer, b, e.ttl);
     octets::put_u8(buffer, c, names)
@@ -233,12 +220,9 @@ fn put_scopes(buffer: &mut [u8], at: usize, info: Info, names: &[u8], n: usize) 
     requires { (at + 212 ≤ length buffer.old) × (Sendable info names.now × ((n ≤ info.count) × (n ≤ 4))) }
     ensures { Wrote buffer.old at (scopes_octets (name_for info names.now) 0 (take n info.scopes)) buffer.new result }
 {
-    let mut i: usize = 0;
     let mut to = at;
-    while i < n {
-        let e = info.scopes[i];
-        to = put_scope(buffer, to, e, i, info, names);
-        i += 1;
+    for i in 0..n {
+        to = put_scope(buffer, to, info.scopes[i], i, info, names);
     }
     to
 }
@@ -248,7 +232,7 @@ fn put_scope_list(buffer: &mut [u8], at: usize, info: Info, names: &[u8]) -> usi
     requires { (at + 217 ≤ length buffer.old) × Sendable info names.now }
     ensures { Put buffer.old at (scope_list_option info names.now ∷ []) buffer.new result 217 }
 {
-    let n = arithmetic::cut4(info.count);
+    let n = usize::from(info.count).min(4);
     let end = put_scopes(buffer, at + 5, info, names, n);
     let a = put_code(buffer, at, OptionCode::SCOPE_LIST, (end - (at + 4)) as u16);
     let b = octets::put_u8(buffer, a, n as u8);
@@ -264,7 +248,7 @@ fn put_header(buffer: &mut [u8], kind: MessageType, xid: u32) -> usize
     let a = octets::put_u8(buffer, 0, 0);
     let b = octets::put_u8(buffer, a, kind.number);
     let c = octets::put_u16(buffer, b, 1);
-    octets::put_u32(buffer, c, arithmetic::wide64(xid))
+    octets::put_u32(buffer, c, u64::from(xid))
 }
 
 fn put_end(buffer: &mut [u8], at: usize) -> usize
@@ -288,32 +272,12 @@ fn put_lease_options(buffer: &mut [u8], at: usize, head: Head, terms: Terms) -> 
     requires { at + 476 ≤ length buffer.old }
     ensures { Put buffer.old at (lease_options head terms) buffer.new result 476 }
 {
-    let a = put_number(
-        buffer,
-        at,
-        OptionCode::LEASE_TIME,
-        arithmetic::wide64(terms.length),
-    );
+    let a = put_number(buffer, at, OptionCode::LEASE_TIME, u64::from(terms.length));
     let b = put_named(buffer, a, head);
-    let c = put_number(
-        buffer,
-        b,
-        OptionCode::SCOPE,
-        arithmetic::wide64(terms.scope),
-    );
-    let d = put_number(
-        buffer,
-        c,
-        OptionCode::START_TIME,
-        arithmetic::wide64(terms.start),
-    );
+    let c = put_number(buffer, b, OptionCode::SCOPE, u64::from(terms.scope));
+    let d = put_number(buffer, c, OptionCode::START_TIME, u64::from(terms.start));
     let e = put_ranges(buffer, d, terms);
-    let f = put_number(
-        buffer,
-        e,
-        OptionCode::CURRENT_TIME,
-        arithmetic::wide64(terms.clock),
-    );
+    let f = put_number(buffer, e, OptionCode::CURRENT_TIME, u64::from(terms.clock));
     put_features(buffer, f, head)
 }
 
@@ -332,12 +296,7 @@ fn put_time_if(buffer: &mut [u8], at: usize, info: Info) -> usize
     ensures { Put buffer.old at (wanted info.time_asked (option 11 (octets32 info.clock))) buffer.new result 8 }
 {
     if info.time_asked {
-        return put_number(
-            buffer,
-            at,
-            OptionCode::CURRENT_TIME,
-            arithmetic::wide64(info.clock),
-        );
+        return put_number(buffer, at, OptionCode::CURRENT_TIME, u64::from(info.clock));
     }
     at
 }

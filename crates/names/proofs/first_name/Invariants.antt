@@ -1,10 +1,6 @@
-use Prim.Native.Nat.{◌-◌}
+use Rattle.std.proofs.Common.{get_or}
 use Rattle.names.proofs.First.{FirstInv}
-use Rattle.names.specs.Names.{test_of}
 use Rattle.names.proofs.first_name.Given as goal
 
-abbrev pub invariant-loop-i : goal.invariant-loop-i
-invariant-loop-i l = FirstInv (test_of l.wanted l.language) l.list l.k l.here l.i
-
-abbrev pub decreases-loop-i : goal.decreases-loop-i
-decreases-loop-i l = l.k - l.i
+abbrev pub invariant-loop : goal.invariant-loop
+invariant-loop g l = FirstInv (goal.F-post g l.wanted) l.list (get_or l.list 0 0) l.here l.counter

@@ -1,6 +1,6 @@
 -- `name_end` meets its contract: by where a name's parts stand.
 use Rattle.names.proofs.Ends.{names}
-use borrow.Author.Rules.{rules}
+use Rattle.std.proofs.Common.{rules}
 use Rattle.names.proofs.name_end.Goals as goal
 
 pub returns-then-left-lt2 : goal.returns-then-left-lt2

@@ -1,22 +1,12 @@
 -- `section_end` meets its contract: the count, and then the scopes.
 use Rattle.names.proofs.Ends.{sectioned}
-use borrow.Author.Rules.{rules}
+use Rattle.std.proofs.Common.{rules}
 use Rattle.names.proofs.section_end.Goals as goal
+use Rattle.names.proofs.section_end.Goals.{then-s-at-via-then-s-at, then-s-at-via-else-s-at+then-s-at-2}
 
 pub returns-then-s-at : goal.returns-then-s-at
-returns-then-s-at c = search (sectioned, rules)
-
-pub returns-then-s-at-2 : goal.returns-then-s-at-2
-returns-then-s-at-2 c = search (sectioned, rules)
-
-pub wide-requires : goal.wide-requires
-wide-requires c = search (sectioned, rules)
-
-pub wide-requires-2 : goal.wide-requires-2
-wide-requires-2 c = search (sectioned, rules)
-
-pub scope_end-requires : goal.scope_end-requires
-scope_end-requires c = search (sectioned, rules)
+returns-then-s-at c =
+    elim c.then-s-at.branch [ then-s-at-via-then-s-at w ↦ search (sectioned, rules) | then-s-at-via-else-s-at+then-s-at-2 w ↦ search (sectioned, rules) ]
 
 pub returns : goal.returns
 returns c = search (sectioned, rules)

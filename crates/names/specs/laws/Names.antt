@@ -1,20 +1,19 @@
 -- Laws: of names: what is read is written again, how many octets a section and a name have at most, and that one name at most is sent.
-use Rattle.std.specs.Prelude.{Bool, true, false, ◌&&◌, ◌||◌, List, [], ◌∷◌, ◌≡◌, refl, ℕ, zero, suc, ◌+◌, ◌-◌, ◌*◌, ◌≤◌, ◌<◌, min, eqb, leb, ltb, replicate, length, drop, take, get_or}
-use Rattle.std.proofs.Common.{sym, ap, ◌∙◌, subst, arith, suc-mul, zero-mul, length-take-le, take_at, length-drop, length-append, eqb-true, leb-true}
+use Rattle.std.specs.Prelude.{◌⊎◌, ◌↔◌, IsTrue, Bool, true, false, ◌&&◌, ◌||◌, List, [], ◌∷◌, ◌≡◌, refl, ℕ, zero, suc, ◌+◌, ◌-◌, ◌*◌, ◌≤◌, ◌<◌, min, eqb, leb, ltb, replicate, length, drop, take, get_or, None, Option, Some}
+use Rattle.std.proofs.Common.{inl, inr, rules, sym, ap, ◌∙◌, subst, arith, suc-mul, zero-mul, length-take-le, take_at, length-drop, length-append, eqb-true, leb-true}
 use Rattle.std.proofs.lemmas.Bool.{eqb-false}
 use Rattle.lists.specs.All.{All}
+use Rattle.lists.specs.laws.Both.{ands, ors}
 use Rattle.lists.specs.Pick.{pick}
 use Rattle.format.specs.Format.{Format, Got, got, bad, then, read_octet, read_times, octet, ◌⊗◌, times, counted, only, write_all}
 use Rattle.format.specs.Section.{verbatim}
-use Rattle.format.specs.declared.Place.{Place}
-use Rattle.format.specs.declared.Place.TheVariants.{At, Nowhere}
 use Rattle.format.specs.Place.{Ends, EndsBy, EndsAs, EndsWith, is_whole}
 use Rattle.format.specs.laws.Format.{Lawful, octet_lawful, both_lawful, counted_lawful, only_lawful, viewed_lawful, times_lawful, after_lawful, then_got, then_with}
 use Rattle.format.specs.laws.Place.{times_length}
 use Rattle.message.specs.Values.{language_at, padded}
 use Rattle.message.specs.Walk.{after_at, length_at}
 use Rattle.message.specs.declared.Language.{Language}
-use Rattle.names.specs.Names.{Name, sizes_ok, name_ok, plain_name, name_format, few_names, list_format, scopes_format, names_format, names_b, first_by, or_else, same, is_flagged, in_language, default_of, match_of, chosen_of, value_or, lists_in, list_in, sent_for, shown}
+use Rattle.names.specs.Names.{Name, Sized, sizes_ok, name_ok, plain_name, name_format, few_names, list_format, scopes_format, names_format, names_b, first_by, or_else, same, is_flagged, in_language, default_of, match_of, chosen_of, value_or, lists_in, list_in, sent_for, shown}
 
 octets_lawful : Lawful (counted octet)
 octets_lawful = counted_lawful octet_lawful
@@ -87,14 +86,30 @@ split : (a b : Bool) → (a && b) ≡ true → (a ≡ true) × (b ≡ true)
 split true b e = (refl, e)
 split false b e = let z : ◌≡◌ {A = ℕ} 0 1 = cc in absurd (omega arith)
 
-pub sizes_most : (flags n k : ℕ) → sizes_ok flags n k ≡ true → (n ≤ 8) × (k ≤ 32)
+sizes_hold : (flags n k : ℕ) → sizes_ok flags n k ≡ true → Sized flags n k
 unfolding sizes_ok
-sizes_most flags n k e =
+sizes_hold flags n k e =
     let (a, e1) = split (leb 1 n) (leb n 8 && (leb 1 k && (leb k 32 && (eqb flags 0 || eqb flags 128)))) e in
     let (b, e2) = split (leb n 8) (leb 1 k && (leb k 32 && (eqb flags 0 || eqb flags 128))) e1 in
     let (c, e3) = split (leb 1 k) (leb k 32 && (eqb flags 0 || eqb flags 128)) e2 in
     let (d, e4) = split (leb k 32) (eqb flags 0 || eqb flags 128) e3 in
-    (leb-true n 8 b, leb-true k 32 d)
+    (leb-true 1 n a, leb-true n 8 b, leb-true 1 k c, leb-true k 32 d, go (eqb flags 0) refl e4)
+  where
+    go : (b : Bool) → eqb flags 0 ≡ b → (b || eqb flags 128) ≡ true → (flags ≡ 0) ⊎ (flags ≡ 128)
+    go true q e = inl (eqb-true flags 0 q)
+    go false q e = inr (eqb-true flags 128 e)
+
+pub sizes_most : (flags n k : ℕ) → sizes_ok flags n k ≡ true → (n ≤ 8) × (k ≤ 32)
+sizes_most flags n k e = let w = sizes_hold flags n k e in (w.1, w.3)
+
+pub sizes_are : (flags n k : ℕ) (q : Bool) → (IsTrue q ↔ Sized flags n k) → q ≡ sizes_ok flags n k
+unfolding sizes_ok
+sizes_are flags n k true e = let w = e.0 refl in elim w.4 [ inl h ↦ search (ands, ors, rules) | inr h ↦ search (ands, ors, rules) ]
+sizes_are flags n k false e = go (sizes_ok flags n k) refl
+  where
+    go : (b : Bool) → sizes_ok flags n k ≡ b → false ≡ b
+    go true q = e.1 (sizes_hold flags n k q)
+    go false q = refl
 
 both_take : {A B : Type 0} (m : A → ℕ) (n : B → ℕ) (f : Format A) (g : Format B) → Takes f m → Takes g n → Takes (f ⊗ g) (λ p. m p.0 + n p.1)
 both_take {A} {B} m n f g tf tg s p r e =
@@ -287,18 +302,18 @@ sent_count h s tenant place l = go (sent_for h s tenant place l) (sent_one h s t
     go (x ∷ y ∷ l) f = absurd (omega arith)
 
 -- ---- the section within a file: its octets are kept as they are
-pub section_octets_law : (k h : ℕ) (s : List ℕ) (at : ℕ) {r : Place} → Ends (names_format k h) s at 1 r → EndsAs (verbatim (names_format k h)) (value_or [] ((verbatim (names_format k h)).read (drop at s))) s at 1 r
+pub section_octets_law : (k h : ℕ) (s : List ℕ) (at : ℕ) {r : Option ℕ} → Ends (names_format k h) s at 1 r → EndsAs (verbatim (names_format k h)) (value_or [] ((verbatim (names_format k h)).read (drop at s))) s at 1 r
 unfolding EndsBy EndsWith then value_or
 section_octets_law k h s at {r} v = record { by = go r v.by }
   where
     f : Format (List ℕ)
     f = verbatim (names_format k h)
 
-    go : (r : Place) → EndsBy (names_format k h) s at 1 r → EndsWith f (value_or [] (f.read (drop at s))) s at 1 r
-    go (At n) (x, p, a, b) =
+    go : (r : Option ℕ) → EndsBy (names_format k h) s at 1 r → EndsWith f (value_or [] (f.read (drop at s))) s at 1 r
+    go (Some n) (x, p, a, b) =
         let e : f.read (drop at s) ≡ got (take (length (drop at s) - length (drop n s)) (drop at s)) (drop n s) = then_with _ _ _ p.reads in
         (record { reads = e ∙ ap (λ (o : List ℕ). got o (drop n s)) (sym (ap (value_or []) e)) }, a, b)
-    go Nowhere p = record { reads = ap (λ g. then g (λ x t. got (take (length (drop at s) - length t) (drop at s)) t)) p.reads }
+    go None p = record { reads = ap (λ g. then g (λ x t. got (take (length (drop at s) - length t) (drop at s)) t)) p.reads }
 
 -- ---- what is kept of the language that is asked for suffices
 

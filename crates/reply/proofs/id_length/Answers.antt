@@ -1,10 +1,8 @@
 -- `id_length` meets its contract: the array has 32 octets.
-use Rattle.reply.proofs.Writes.{id_long, id_short}
-use borrow.Author.Rules.{rules}
+use Rattle.reply.proofs.Writes.{id_cut}
+use Rattle.lists.specs.laws.Part.{unmapped}
+use Rattle.std.proofs.Common.{rules}
 use Rattle.reply.proofs.id_length.Goals as goal
 
-pub returns-then-id-lt32 : goal.returns-then-id-lt32
-returns-then-id-lt32 c = search (id_short, id_long, rules)
-
 pub returns : goal.returns
-returns c = search (id_long, rules)
+returns c = (id_cut _ _ _ (search (unmapped, rules)) (search rules), search rules)

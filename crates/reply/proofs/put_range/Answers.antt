@@ -7,4 +7,4 @@ use native.Mathlib.Omega.{arith}
 use Rattle.reply.proofs.put_range.Goals as goal
 
 pub returns : goal.returns
-returns c = let e : c.args.r.count % 65536 ≡ c.args.r.count = omega arith in wrote_joined (search rules) (rw (c.wide64.ensures, c.wide64-2.ensures) at c.put_u32-a.ensures) (rw e at c.put_u16.ensures)
+returns c = let e : c.args.r.count % 65536 ≡ c.args.r.count = omega arith in wrote_joined (search rules) (rw (c.from.ensures, c.from-2.ensures) at c.put_u32-a.ensures) (rw e at c.put_u16.ensures)

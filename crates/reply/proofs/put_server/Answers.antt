@@ -9,4 +9,4 @@ use native.Mathlib.Omega.{arith}
 use Rattle.reply.proofs.put_server.Goals as goal
 
 pub returns : goal.returns
-returns c = option_put _ 6 10 (octets16 1 ++ octets32 c.args.head.server) refl (omega arith) (search rules) c.put_code-a.ensures (wrote_joined (search rules) c.put_u16-b.ensures (rw c.wide64.ensures at c.put_u32.ensures))
+returns c = option_put _ 6 10 (octets16 1 ++ octets32 c.args.head.server) refl (omega arith) (search rules) c.put_code-a.ensures (wrote_joined (search rules) c.put_u16-b.ensures (rw c.from.ensures at c.put_u32.ensures))

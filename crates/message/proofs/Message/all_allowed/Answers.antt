@@ -1,19 +1,13 @@
--- `Message::all_allowed` meets its contract: the loop tests one code a turn (`UptoInv`).
-use Rattle.lists.specs.laws.All.{uptos}
-use borrow.Author.Rules.{rules}
+-- `Message::all_allowed` meets its contract: the chain tests one code after the other (`all_to_is`).
+use Rattle.message.proofs.Steps.{all_to_is}
+use Rattle.message.specs.Values.{allowed_at}
+use Rattle.std.specs.Prelude.{refl}
+use Rattle.std.proofs.Common.{◌∙◌, rules, tests}
+use Rattle.std.proofs.lemmas.Iterator.{YieldsList-from_range}
+use Rattle.std.proofs.lemmas.Iterator.Search.{all_from_yields_List}
 use Rattle.message.proofs.Message.all_allowed.Goals as goal
 
-pub loop-code-init : goal.loop-code-init
-loop-code-init c = search (uptos, rules)
-
-pub allowed_at-requires : goal.allowed_at-requires
-allowed_at-requires c = search (uptos, rules)
-
-pub returns-then-not-allowed_at : goal.returns-then-not-allowed_at
-returns-then-not-allowed_at c = search (uptos, rules)
-
-pub loop-code-preserved : goal.loop-code-preserved
-loop-code-preserved c = search (uptos, rules)
-
 pub returns : goal.returns
-returns c = search (uptos, rules)
+returns c =
+    all_from_yields_List (allowed_at c.args.self.kind.number c.args.self.places) _ _ c.all.result c.all.ensures.ran (YieldsList-from_range 0 17 17 refl refl) (λ x b q k. search (rules, tests))
+    ∙ all_to_is (allowed_at c.args.self.kind.number c.args.self.places) 17

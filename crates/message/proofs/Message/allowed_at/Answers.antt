@@ -2,17 +2,13 @@
 use Rattle.lists.specs.laws.Pick.{calls}
 use Rattle.message.proofs.Steps.{allows_got}
 use Rattle.message.specs.Values.{allowed_at}
-use borrow.Author.Rules.{rules}
+use Rattle.std.proofs.Common.{rules}
 use Rattle.message.proofs.Message.allowed_at.Goals as goal
 
-pub has-requires : goal.has-requires
+pub returns-else-not-has : goal.returns-else-not-has
 unfolding allowed_at
-has-requires c = search (calls, rules)
+returns-else-not-has c = search (calls, allows_got, rules)
 
-pub returns-then-has : goal.returns-then-has
+pub returns-then-not-has : goal.returns-then-not-has
 unfolding allowed_at
-returns-then-has c = search (calls, allows_got, rules)
-
-pub returns : goal.returns
-unfolding allowed_at
-returns c = search (calls, rules)
+returns-then-not-has c = search (calls, rules)

@@ -25,14 +25,6 @@ pub broken-requires : goal.broken-requires
 unfolding step_of
 broken-requires c = search (calls, rules)
 
-pub returns-then-layout_ok : goal.returns-then-layout_ok
-unfolding step_of
-returns-then-layout_ok c = search (calls, rules)
-
-pub broken-requires-2 : goal.broken-requires-2
-unfolding step_of
-broken-requires-2 c = search (calls, rules)
-
 pub returns : goal.returns
 unfolding step_of
 returns c = search (calls, rules)

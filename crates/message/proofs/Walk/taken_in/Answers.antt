@@ -6,8 +6,8 @@ use Rattle.message.proofs.Walk.taken_in.Goals as goal
 pub read_u16-code-requires : goal.read_u16-code-requires
 read_u16-code-requires c = search (taken_got, rules)
 
-pub read_u16-n-requires : goal.read_u16-n-requires
-read_u16-n-requires c = search (taken_got, rules)
+pub read_u16-requires : goal.read_u16-requires
+read_u16-requires c = search (taken_got, rules)
 
 pub taken-requires : goal.taken-requires
 taken-requires c = search (taken_got, rules)

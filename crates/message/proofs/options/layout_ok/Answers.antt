@@ -2,17 +2,13 @@
 use Rattle.lists.specs.laws.Both.{ands}
 use Rattle.message.proofs.Steps.{after_got}
 use Rattle.message.specs.Walk.{layout_ok}
-use borrow.Author.Rules.{rules}
+use Rattle.std.proofs.Common.{rules}
 use Rattle.message.proofs.options.layout_ok.Goals as goal
-
-pub read_u16-n-requires : goal.read_u16-n-requires
-unfolding layout_ok
-read_u16-n-requires c = search (ands, after_got, rules)
 
 pub returns-then-at-s : goal.returns-then-at-s
 unfolding layout_ok
 returns-then-at-s c = search (ands, after_got, rules)
 
-pub returns : goal.returns
+pub returns-else-at-s : goal.returns-else-at-s
 unfolding layout_ok
-returns c = search (ands, rules)
+returns-else-at-s c = search (ands, rules)

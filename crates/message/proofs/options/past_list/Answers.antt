@@ -1,8 +1,7 @@
 -- `options::past_list` meets its contract: by the definition, case by case.
 use Rattle.lists.specs.laws.Pick.{picks}
 use Rattle.message.specs.Placed.{past_within}
-use borrow.Author.Rules.{rules}
-use native.Mathlib.Omega.{arith}
+use Rattle.std.proofs.Common.{arith, rules}
 use Rattle.message.proofs.options.past_list.Goals as goal
 
 pub returns-then-end-p : goal.returns-then-end-p
@@ -15,4 +14,4 @@ read_u16-requires c = search (picks, rules)
 
 pub returns : goal.returns
 unfolding past_within
-returns c = (rw c.read_u16.ensures (search (picks, rules)), omega arith)
+returns c = (rw (c.from.ensures, c.read_u16.ensures) (search (picks, rules)), omega arith)

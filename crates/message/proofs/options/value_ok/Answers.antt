@@ -10,10 +10,6 @@ pub read_u16-code-requires : goal.read_u16-code-requires
 unfolding value_ok
 read_u16-code-requires c = search (joins, gots, length_got, filled_got, rules)
 
-pub read_u16-n-requires : goal.read_u16-n-requires
-unfolding value_ok
-read_u16-n-requires c = search (joins, gots, length_got, filled_got, rules)
-
 pub length_ok-requires : goal.length_ok-requires
 unfolding value_ok
 length_ok-requires c = search (joins, gots, rules)
@@ -22,14 +18,14 @@ pub exactly_filled-requires : goal.exactly_filled-requires
 unfolding value_ok
 exactly_filled-requires c = search (joins, gots, length_got, filled_got, rules)
 
-pub returns-then-code-eq-FEATURES : goal.returns-then-code-eq-FEATURES
+pub returns-else-code-ne-FEATURES : goal.returns-else-code-ne-FEATURES
 unfolding value_ok
-returns-then-code-eq-FEATURES c = search (joins, gots, length_got, filled_got, rules)
+returns-else-code-ne-FEATURES c = search (joins, gots, length_got, filled_got, rules)
 
-pub returns-then-length_ok : goal.returns-then-length_ok
+pub returns-then-code-ne-FEATURES : goal.returns-then-code-ne-FEATURES
 unfolding value_ok
-returns-then-length_ok c = search (joins, gots, length_got, rules)
+returns-then-code-ne-FEATURES c = search (joins, gots, length_got, rules)
 
-pub returns : goal.returns
+pub returns-else-length_ok : goal.returns-else-length_ok
 unfolding value_ok
-returns c = search (joins, gots, length_got, rules)
+returns-else-length_ok c = search (joins, gots, length_got, rules)

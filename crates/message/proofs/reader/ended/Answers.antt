@@ -17,9 +17,9 @@ pub none_required-requires : goal.none_required-requires
 unfolding ended
 none_required-requires c = search (calls, picks, rules)
 
-pub read_u32-xid-requires : goal.read_u32-xid-requires
+pub read_u32-requires : goal.read_u32-requires
 unfolding ended
-read_u32-xid-requires c = search (calls, picks, message_is, rules)
+read_u32-requires c = search (calls, picks, message_is, rules)
 
 pub returns-then-none_required : goal.returns-then-none_required
 unfolding ended

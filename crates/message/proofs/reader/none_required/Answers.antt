@@ -13,6 +13,6 @@ pub required_empty-requires : goal.required_empty-requires
 unfolding none_required
 required_empty-requires c = search (picks, features_fit, features_filled, rules)
 
-pub returns : goal.returns
+pub returns-else-at-eq0 : goal.returns-else-at-eq0
 unfolding none_required
-returns c = search (picks, rules)
+returns-else-at-eq0 c = search (picks, rules)

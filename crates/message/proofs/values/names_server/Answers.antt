@@ -2,29 +2,14 @@
 use Rattle.lists.specs.laws.Both.{and_gots}
 use Rattle.lists.specs.laws.Pick.{eqb_got}
 use Rattle.message.specs.Values.{names_server}
-use borrow.Author.Rules.{rules}
+use Rattle.std.proofs.Common.{rules}
 use Rattle.message.proofs.values.names_server.Goals as goal
-
-pub read_u16-requires : goal.read_u16-requires
-unfolding names_server
-read_u16-requires c = search (and_gots, eqb_got, rules)
-
-pub read_u16-requires-then-read_u16-eq6 : goal.read_u16-requires-then-read_u16-eq6
-unfolding names_server
-read_u16-requires-then-read_u16-eq6 c = search (and_gots, eqb_got, rules)
-
-pub read_u32-requires : goal.read_u32-requires
-unfolding names_server
-read_u32-requires c = search (and_gots, eqb_got, rules)
+use Rattle.message.proofs.values.names_server.Goals.{then-read_u16-eq6, else-read_u16-eq6}
 
 pub returns-then-read_u16-eq1 : goal.returns-then-read_u16-eq1
 unfolding names_server
-returns-then-read_u16-eq1 c = search (and_gots, eqb_got, rules)
+returns-then-read_u16-eq1 c = elim c.if-read_u16-eq6.branch [ then-read_u16-eq6 w ↦ search (and_gots, eqb_got, rules) | else-read_u16-eq6 w ↦ search (and_gots, eqb_got, rules) ]
 
-pub returns-then-read_u16-eq6 : goal.returns-then-read_u16-eq6
+pub returns-else-read_u16-eq1 : goal.returns-else-read_u16-eq1
 unfolding names_server
-returns-then-read_u16-eq6 c = search (and_gots, rules)
-
-pub returns : goal.returns
-unfolding names_server
-returns c = search (and_gots, rules)
+returns-else-read_u16-eq1 c = elim c.if-read_u16-eq6.branch [ then-read_u16-eq6 w ↦ search (and_gots, eqb_got, rules) | else-read_u16-eq6 w ↦ search (and_gots, eqb_got, rules) ]

@@ -35,12 +35,10 @@ pub fn clear(b: Board, h: usize, t: TenantLeases, n: usize) -> Board
     ensures { result ≡ fold (board_without h) b (take n (in_use t)) }
 {
     let mut now = b;
-    let many = arithmetic::fewer(n, state::cut16(t.count));
-    let mut i: usize = 0;
-    while i < many {
-        let l = t.leases[i];
-        i += 1;
-        now = take(now, h, l);
+    let own = t.in_use();
+    let ended = &own[..n.min(own.len())];
+    for l in ended {
+        now = take(now, h, *l);
     }
     now
 }
@@ -48,11 +46,10 @@ pub fn clear(b: Board, h: usize, t: TenantLeases, n: usize) -> Board
 fn left(b: Board, h: usize, e: Edit) -> Board
     ensures { result ≡ board_left e h b }
 {
-    if e.leaves {
-        let o = e.old;
-        return take(b, h, o);
+    match e.leaves {
+        Some(old) => take(b, h, old),
+        None => b,
     }
-    b
 }
 
 // The board after an edit of tenant h's records: what leaves is taken off, what enters is added.
@@ -60,11 +57,10 @@ pub fn edited(b: Board, h: usize, e: Edit) -> Board
     ensures { result ≡ board_edited e h b }
 {
     let rest = left(b, h, e);
-    if e.enters {
-        let new = e.new;
-        return add(rest, h, new);
+    match e.enters {
+        Some(new) => add(rest, h, new),
+        None => rest,
     }
-    rest
 }
 
 // ---- what the leases say
@@ -75,11 +71,8 @@ pub fn add_tenant(b: Board, h: usize, t: TenantLeases) -> Board
     ensures { result ≡ fold (board_with h) b (in_use t) }
 {
     let mut now = b;
-    let n = state::cut16(t.count);
-    let mut i: usize = 0;
-    while i < n {
-        let l = t.leases[i];
-        i += 1;
+    let own = t.in_use();
+    for l in own {
         let k = occupancy::place(h, l.scope);
         if k < 4 {
             let v = now.scopes[k];
@@ -95,11 +88,8 @@ pub fn build(table: LeaseTable) -> Board
     ensures { result ≡ built_of table }
 {
     let mut now = occupancy::no_board();
-    let mut h: usize = 0;
-    while h < 8 {
-        let t = table.tenants[h];
-        now = add_tenant(now, h, t);
-        h += 1;
+    for (h, t) in table.tenants.iter().enumerate() {
+        now = add_tenant(now, h, *t);
     }
     now
 }
@@ -108,6 +98,5 @@ pub fn build(table: LeaseTable) -> Board
 pub fn agrees(table: LeaseTable, board: Board) -> bool
     ensures { result ≡ same_board board (built_of table) }
 {
-    let made = build(table);
-    occupancy::same(board, made)
+    occupancy::same(board, build(table))
 }

@@ -5,12 +5,14 @@
 mod rules;
 
 ghost use Rattle.std.specs.Prelude.{◌≡◌, ◌≤◌, min, drop, take};
-ghost use Rattle.state.specs.Book.{in_use, laid_releases, other_release, remembered};
+ghost use Rattle.std.specs.Option.{option_map_or};
+ghost use Rattle.lists.specs.Pick.{pick};
+ghost use Rattle.state.specs.Book.{id_of, in_use, laid_releases, other_release, remembered};
 ghost use Rattle.state.specs.Edit.{forget_of, noted_in, remember_of};
 ghost use Rattle.releases.specs.Again.{any_again, is_again};
 ghost use Rattle.releases.specs.Rules.{both_rules, broken_release, first_release, memory_b, no_rules, release_rules_of, rules_at};
 
-use crate::rules::{both_rules, check_tenant};
+use crate::rules::check_tenant;
 use state::{Edit, LeaseTable, Memory, Release, State, TenantLeases, TenantReleases};
 
 // How long after a release it is answered again, in seconds.
@@ -29,30 +31,24 @@ pub struct ReleaseRules {
 
 // ---- a RELEASE sent again
 
+#[tactic(auto, unfolding(crate::specs::Again::is_again))]
 fn is_again(r: Release, clock: u32, id: [u8; 32], len: u8, xid: u32) -> bool
     ensures { result ≡ is_again clock (take len id) xid r }
 {
-    if r.xid == xid {
-        if (clock as u64) < (r.time as u64) + RESEND_TIME {
-            let i = r.id;
-            return identifier::same(i, r.id_len, id, len);
-        }
-    }
-    false
+    r.xid == xid
+        && u64::from(clock) < u64::from(r.time) + RESEND_TIME
+        && identifier::same(r.id, r.id_len, id, len)
 }
 
 // Whether a RELEASE of an identifier with a transaction id is one that is remembered, less than 300 seconds ago.
 pub fn any_again(q: TenantReleases, clock: u32, id: [u8; 32], len: u8, xid: u32) -> bool
     ensures { result ≡ any_again clock (take len id) xid (remembered q) }
 {
-    let n = state::cut4(q.count);
-    let mut i: usize = 0;
-    while i < n {
-        let r = q.releases[i];
-        if is_again(r, clock, id, len, xid) {
+    let n = q.count.min(4);
+    for r in &q.releases[..n] {
+        if is_again(*r, clock, id, len, xid) {
             return true;
         }
-        i += 1;
     }
     false
 }
@@ -62,8 +58,7 @@ pub fn any_again(q: TenantReleases, clock: u32, id: [u8; 32], len: u8, xid: u32)
 fn is_other(r: Release, id: [u8; 32], len: u8) -> bool
     ensures { result ≡ other_release (take len id) r }
 {
-    let i = r.id;
-    !identifier::same(i, r.id_len, id, len)
+    !identifier::same(r.id, r.id_len, id, len)
 }
 
 // Those from a place on.
@@ -71,17 +66,11 @@ fn later(q: TenantReleases, from: usize) -> TenantReleases
     requires { from ≤ min q.count 4 }
     ensures { result ≡ laid_releases (drop from (remembered q)) }
 {
+    let n = q.count.min(4);
     let mut now = state::no_releases();
-    let n = state::cut4(q.count);
-    let mut i = from;
-    while i < n {
-        let r = q.releases[i];
-        i += 1;
-        let at = now.count;
-        if at < 4 {
-            now.releases[at] = r;
-            now.count = at + 1;
-        }
+    let all = &q.releases[..n];
+    for r in &all[from..] {
+        now = state::push_release(now, *r);
     }
     now
 }
@@ -91,8 +80,7 @@ pub fn remember(q: TenantReleases, r: Release) -> TenantReleases
     ensures { result ≡ laid_releases (remember_of r (remembered q)) }
 {
     if q.count < 4 {
-        let all = later(q, 0);
-        return state::push_release(all, r);
+        return state::push_release(later(q, 0), r);
     }
     let last = later(q, 1);
     state::push_release(last, r)
@@ -102,37 +90,37 @@ pub fn remember(q: TenantReleases, r: Release) -> TenantReleases
 pub fn forget(q: TenantReleases, id: [u8; 32], len: u8) -> TenantReleases
     ensures { result ≡ laid_releases (forget_of (take len id) (remembered q)) }
 {
+    let n = q.count.min(4);
     let mut now = state::no_releases();
-    let n = state::cut4(q.count);
-    let mut i: usize = 0;
-    while i < n {
-        let r = q.releases[i];
-        i += 1;
-        if is_other(r, id, len) {
-            let at = now.count;
-            if at < 4 {
-                now.releases[at] = r;
-                now.count = at + 1;
-            }
+    for r in &q.releases[..n] {
+        if is_other(*r, id, len) {
+            now = state::push_release(now, *r);
         }
     }
     now
+}
+
+// What a lease that enters leaves of it.
+fn forget_entering(q: TenantReleases, e: Edit) -> TenantReleases
+    ensures { result ≡ pick e.forgets (option_map_or (λ l. laid_releases (forget_of (id_of l) (remembered q))) e.enters q) q }
+{
+    if !e.forgets {
+        return q;
+    }
+    match e.enters {
+        Some(l) => forget(q, l.id, l.id_len),
+        None => q,
+    }
 }
 
 // What is remembered of a tenant after an edit.
 pub fn note(q: TenantReleases, e: Edit) -> TenantReleases
     ensures { result ≡ noted_in e q }
 {
-    if e.remembers {
-        let r = e.release;
-        return remember(q, r);
+    match e.remembers {
+        Some(r) => remember(q, r),
+        None => forget_entering(q, e),
     }
-    if e.forgets {
-        let l = e.new;
-        let id = l.id;
-        return forget(q, id, l.id_len);
-    }
-    q
 }
 
 // ---- the rules
@@ -162,11 +150,11 @@ pub fn add_tenant(
 ) -> ReleaseRules
     ensures { result ≡ both_rules a (rules_at n clock h (in_use own) q) }
 {
-    let x = check_tenant(n, clock, h, own, q);
-    both_rules(a, x)
+    a.and(check_tenant(n, clock, h, own, q))
 }
 
 // Of rules 14 to 18, those that a file can break, the number of the first that is broken, or 0.
+// Stays: the number of a rule is the product's answer (document 02, W-212), and `first_release` of specs/ is the clause that holds it; so in `first_broken`.
 pub fn first_release(r: ReleaseRules) -> u8
     ensures { result ≡ first_release r }
 {
@@ -189,31 +177,25 @@ pub fn first_release(r: ReleaseRules) -> u8
 }
 
 // The number of the first rule that is broken, or 0; the layout, which only a book that is lent can break, comes last.
+#[tactic(auto, unfolding(lists::specs::Pick::pick, crate::specs::Rules::broken_release))]
 pub fn first_broken(r: ReleaseRules) -> u8
     ensures { result ≡ broken_release r }
 {
-    let n = first_release(r);
-    if n != 0 {
-        return n;
+    match first_release(r) {
+        0 if r.layout => 0,
+        0 => 19,
+        n => n,
     }
-    if !r.layout {
-        return 19;
-    }
-    0
 }
 
 // Which rules what is remembered keeps.
 pub fn check_rules(s: State, table: LeaseTable, memory: Memory) -> ReleaseRules
     ensures { result ≡ release_rules_of s table memory }
 {
-    let n = arithmetic::cut8(s.tenant_count);
+    let n = usize::from(s.tenant_count).min(8);
     let mut all = no_tenants();
-    let mut h: usize = 0;
-    while h < 8 {
-        let own = table.tenants[h];
-        let q = memory.releases[h];
-        all = add_tenant(all, n, s.clock, h, own, q);
-        h += 1;
+    for h in 0..8 {
+        all = add_tenant(all, n, s.clock, h, table.tenants[h], memory.releases[h]);
     }
     all
 }
@@ -222,6 +204,5 @@ pub fn check_rules(s: State, table: LeaseTable, memory: Memory) -> ReleaseRules
 pub fn sound(s: State, table: LeaseTable, memory: Memory) -> bool
     ensures { result ≡ memory_b s table memory }
 {
-    let all = check_rules(s, table, memory);
-    first_broken(all) == 0
+    first_broken(check_rules(s, table, memory)) == 0
 }

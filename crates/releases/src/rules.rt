@@ -1,139 +1,86 @@
 // Rules 14 to 18 of a sound book and the layout, tenant by tenant.
-ghost use Rattle.std.specs.Prelude.{◌≡◌, ◌&&◌, drop};
+ghost use Rattle.std.specs.Prelude.{◌≡◌, drop};
 ghost use Rattle.lists.specs.All.{all_by, pairs_by};
 ghost use Rattle.soundness.specs.Sound.{zero_from};
 ghost use Rattle.state.specs.Book.{in_use, other, release_id, remembered};
 ghost use Rattle.releases.specs.Rules.{both_rules, differs, filled_b, tenant_b, laid_b, length_b, not_leased, older, once_b, past_b, rules_at, unused_r};
 
 use crate::ReleaseRules;
+use lists::{every, every_next, every_pair};
 use state::{Lease, Release, TenantLeases, TenantReleases};
-
-fn both(a: bool, b: bool) -> bool
-    ensures { result ≡ (a && b) }
-{
-    if a {
-        return b;
-    }
-    false
-}
 
 // ---- 14, a known tenant
 
+#[tactic(auto, unfolding(crate::specs::Rules::tenant_b))]
 fn tenant_ok(n: usize, h: usize, q: TenantReleases) -> bool
     ensures { result ≡ tenant_b n h q }
 {
-    if h < n {
-        return true;
-    }
-    q.count == 0
+    h < n || q.count == 0
 }
 
 // ---- 16, the lengths of identifiers
 
+#[tactic(auto, unfolding(crate::specs::Rules::length_b))]
 fn length_ok(r: Release) -> bool
     ensures { result ≡ length_b r }
 {
-    if 2 <= r.id_len {
-        return r.id_len <= 32;
-    }
-    false
+    2 <= r.id_len && r.id_len <= 32
 }
 
 fn lengths_ok(q: TenantReleases) -> bool
     ensures { result ≡ all_by length_b (remembered q) }
 {
-    let n = state::cut4(q.count);
-    let mut i: usize = 0;
-    while i < n {
-        let r = q.releases[i];
-        if !length_ok(r) {
-            return false;
-        }
-        i += 1;
-    }
-    true
+    let n = q.count.min(4);
+    every(&q.releases[..n], |r| length_ok(*r))
 }
 
 // ---- 17, no identifier twice
 
+#[tactic(auto, unfolding(crate::specs::Rules::differs))]
 fn ids_differ(a: Release, b: Release) -> bool
     ensures { result ≡ differs a b }
 {
-    let i = a.id;
-    let j = b.id;
-    !identifier::same(i, a.id_len, j, b.id_len)
+    !identifier::same(a.id, a.id_len, b.id, b.id_len)
 }
 
 fn all_differ(q: TenantReleases) -> bool
     ensures { result ≡ pairs_by differs (remembered q) }
 {
-    let n = state::cut4(q.count);
-    let mut i: usize = 0;
-    let mut j: usize = 1;
-    while i < n {
-        if j < n {
-            let a = q.releases[i];
-            let b = q.releases[j];
-            j += 1;
-            if !ids_differ(a, b) {
-                return false;
-            }
-        } else {
-            i += 1;
-            j = i + 1;
-        }
-    }
-    true
+    let n = q.count.min(4);
+    every_pair(&q.releases[..n], |a, b| ids_differ(*a, *b))
 }
 
 fn not_on(l: Lease, r: Release) -> bool
     ensures { result ≡ other (release_id r) l }
 {
-    let id = r.id;
-    !state::is_named(l, id, r.id_len)
+    !state::is_named(l, r.id, r.id_len)
 }
 
+#[tactic(auto, unfolding(crate::specs::Rules::not_leased))]
 fn not_leased(own: TenantLeases, r: Release) -> bool
     ensures { result ≡ not_leased (in_use own) r }
 {
-    let n = state::cut16(own.count);
-    let mut i: usize = 0;
-    while i < n {
-        let l = own.leases[i];
-        if !not_on(l, r) {
-            return false;
-        }
-        i += 1;
-    }
-    true
+    let n = own.count.min(16);
+    every(&own.leases[..n], |l| not_on(*l, r))
 }
 
 fn none_leased(own: TenantLeases, q: TenantReleases) -> bool
     ensures { result ≡ all_by (not_leased (in_use own)) (remembered q) }
 {
-    let n = state::cut4(q.count);
-    let mut i: usize = 0;
-    while i < n {
-        let r = q.releases[i];
-        if !not_leased(own, r) {
-            return false;
-        }
-        i += 1;
-    }
-    true
+    let n = q.count.min(4);
+    every(&q.releases[..n], |r| not_leased(own, *r))
 }
 
+#[tactic(auto, unfolding(crate::specs::Rules::once_b))]
 fn once_ok(own: TenantLeases, q: TenantReleases) -> bool
     ensures { result ≡ once_b (in_use own) q }
 {
-    if all_differ(q) {
-        return none_leased(own, q);
-    }
-    false
+    all_differ(q) && none_leased(own, q)
 }
 
 // ---- 18, no time after the clock
 
+#[tactic(auto, unfolding(crate::specs::Rules::past_b))]
 fn is_past(clock: u32, r: Release) -> bool
     ensures { result ≡ past_b clock r }
 {
@@ -143,20 +90,13 @@ fn is_past(clock: u32, r: Release) -> bool
 fn times_ok(clock: u32, q: TenantReleases) -> bool
     ensures { result ≡ all_by (past_b clock) (remembered q) }
 {
-    let n = state::cut4(q.count);
-    let mut i: usize = 0;
-    while i < n {
-        let r = q.releases[i];
-        if !is_past(clock, r) {
-            return false;
-        }
-        i += 1;
-    }
-    true
+    let n = q.count.min(4);
+    every(&q.releases[..n], |r| is_past(clock, *r))
 }
 
 // ---- 19, the layout
 
+#[tactic(auto, unfolding(crate::specs::Rules::older))]
 fn is_older(a: Release, b: Release) -> bool
     ensures { result ≡ older a b }
 {
@@ -167,119 +107,69 @@ fn is_older(a: Release, b: Release) -> bool
 fn in_order(q: TenantReleases) -> bool
     ensures { result ≡ pairs_by older (remembered q) }
 {
-    let n = state::cut4(q.count);
-    let mut i: usize = 0;
-    while i + 1 < n {
-        let a = q.releases[i];
-        i += 1;
-        let b = q.releases[i];
-        if !is_older(a, b) {
-            return false;
-        }
-    }
-    true
+    let n = q.count.min(4);
+    every_next(&q.releases[..n], |a, b| is_older(*a, *b))
 }
 
 fn is_filled(r: Release) -> bool
     ensures { result ≡ filled_b r }
 {
-    let id = r.id;
-    let mut i = arithmetic::cut32(r.id_len);
-    while i < 32 {
-        if id[i] != 0 {
-            return false;
-        }
-        i += 1;
-    }
-    true
+    let n = usize::from(r.id_len).min(32);
+    every(&r.id[n..], |x| *x == 0)
 }
 
 fn all_filled(q: TenantReleases) -> bool
     ensures { result ≡ all_by filled_b (remembered q) }
 {
-    let n = state::cut4(q.count);
-    let mut i: usize = 0;
-    while i < n {
-        let r = q.releases[i];
-        if !is_filled(r) {
-            return false;
-        }
-        i += 1;
-    }
-    true
+    let n = q.count.min(4);
+    every(&q.releases[..n], |r| is_filled(*r))
 }
 
 // Whether all octets are 0, eight by eight, since every entry that is not used has it.
 fn is_zero(id: [u8; 32]) -> bool
     ensures { result ≡ zero_from 0 id }
 {
-    if identifier::word(id, 0) == 0 {
-        if identifier::word(id, 8) == 0 {
-            if identifier::word(id, 16) == 0 {
-                return identifier::word(id, 24) == 0;
-            }
-        }
-    }
-    false
+    (identifier::word(id, 0) == 0)
+        & (identifier::word(id, 8) == 0)
+        & (identifier::word(id, 16) == 0)
+        & (identifier::word(id, 24) == 0)
 }
 
+#[tactic(auto, unfolding(crate::specs::Rules::unused_r))]
 fn is_unused(r: Release) -> bool
     ensures { result ≡ unused_r r }
 {
-    if r.id_len == 0 {
-        if r.xid == 0 {
-            if r.time == 0 {
-                let id = r.id;
-                return is_zero(id);
-            }
-        }
-    }
-    false
+    r.id_len == 0 && r.xid == 0 && r.time == 0 && is_zero(r.id)
 }
 
 fn rest_unused(q: TenantReleases) -> bool
     ensures { result ≡ all_by unused_r (drop q.count q.releases) }
 {
-    let mut i = state::cut4(q.count);
-    while i < 4 {
-        let r = q.releases[i];
-        if !is_unused(r) {
-            return false;
-        }
-        i += 1;
-    }
-    true
+    let n = q.count.min(4);
+    every(&q.releases[n..], |r| is_unused(*r))
 }
 
+#[tactic(auto, unfolding(crate::specs::Rules::laid_b))]
 fn laid_ok(q: TenantReleases) -> bool
     ensures { result ≡ laid_b q }
 {
-    if in_order(q) {
-        if all_filled(q) {
-            return rest_unused(q);
-        }
-    }
-    false
+    in_order(q) && all_filled(q) && rest_unused(q)
 }
 
 // ---- all of them
 
 // Of a tenant of whom something is remembered, or anybody.
+#[tactic(auto, unfolding(crate::specs::Rules::few_b, crate::specs::Rules::rules_at))]
 fn check_some(n: usize, clock: u32, h: usize, own: TenantLeases, q: TenantReleases) -> ReleaseRules
     ensures { result ≡ rules_at n clock h (in_use own) q }
 {
-    let tenant = tenant_ok(n, h, q);
-    let length = lengths_ok(q);
-    let once = once_ok(own, q);
-    let time = times_ok(clock, q);
-    let laid = laid_ok(q);
     ReleaseRules {
-        tenants: tenant,
+        tenants: tenant_ok(n, h, q),
         few: q.count <= 4,
-        lengths: length,
-        once: once,
-        times: time,
-        layout: laid,
+        lengths: lengths_ok(q),
+        once: once_ok(own, q),
+        times: times_ok(clock, q),
+        layout: laid_ok(q),
     }
 }
 
@@ -294,34 +184,30 @@ pub fn check_tenant(
     ensures { result ≡ rules_at n clock h (in_use own) q }
 {
     if q.count == 0 {
-        let laid = rest_unused(q);
         return ReleaseRules {
             tenants: true,
             few: true,
             lengths: true,
             once: true,
             times: true,
-            layout: laid,
+            layout: rest_unused(q),
         };
     }
     check_some(n, clock, h, own, q)
 }
 
-pub fn both_rules(a: ReleaseRules, x: ReleaseRules) -> ReleaseRules
-    ensures { result ≡ both_rules a x }
-{
-    let tenant = both(a.tenants, x.tenants);
-    let few = both(a.few, x.few);
-    let length = both(a.lengths, x.lengths);
-    let once = both(a.once, x.once);
-    let time = both(a.times, x.times);
-    let laid = both(a.layout, x.layout);
-    ReleaseRules {
-        tenants: tenant,
-        few: few,
-        lengths: length,
-        once: once,
-        times: time,
-        layout: laid,
+impl ReleaseRules {
+    #[tactic(auto, unfolding(crate::specs::Rules::both_rules))]
+    pub fn and(self, x: ReleaseRules) -> ReleaseRules
+        ensures { result ≡ both_rules self x }
+    {
+        ReleaseRules {
+            tenants: self.tenants & x.tenants,
+            few: self.few & x.few,
+            lengths: self.lengths & x.lengths,
+            once: self.once & x.once,
+            times: self.times & x.times,
+            layout: self.layout & x.layout,
+        }
     }
 }

@@ -14,10 +14,9 @@ ghost use Rattle.soundness.specs.Sound.{rules_of, first_late, first_rule, first_
 ghost use Rattle.soundness.specs.Parts.{held_sets, table_rules_of, joined_rules, no_tenants, pool_in, pools_of, added_tenant, rules_from, sound_from};
 
 use crate::holdings::{add_sets, holding_rules};
-use crate::numbers::both;
 use crate::records::is_unused;
 use crate::settings::settings_rules;
-use crate::tenants::{and_tenants, check_tenant};
+use crate::tenants::check_tenant;
 use state::{Lease, LeaseTable, State, TenantLeases};
 
 // Document 01's rules 1 to 12, document 02's on holds and the layout, each true where it holds. Of `offsets` a lease in an unknown scope is left to `leases`; of
@@ -147,62 +146,54 @@ pub struct TableRules {
 pub fn held_sets(t: TenantLeases) -> Held
     ensures { result ≡ held_sets t }
 {
-    let mut now = Held {
-        sets: [0u64; 4],
+    let mut held = Held {
+        sets: [0; 4],
         count: t.count,
-        first_end: 4294967295,
+        first_end: u32::MAX,
     };
-    let n = state::cut16(t.count);
-    let mut i: usize = 0;
-    while i < n {
-        let l = t.leases[i];
-        now = add_sets(now, l);
-        i += 1;
+    let n = t.count.min(16);
+    for l in &t.leases[..n] {
+        held = add_sets(held, *l);
     }
-    now
+    held
 }
 
 // The rules of no tenant.
+#[tactic(auto, unfolding(crate::specs::Parts::no_tenants))]
 pub fn no_tenants() -> TableRules
     ensures { result ≡ no_tenants }
 {
     let none = Held {
-        sets: [0u64; 4],
+        sets: [0; 4],
         count: 0,
-        first_end: 4294967295,
-    };
-    let held = HeldTable { tenants: [none; 8] };
-    let all = TenantRules {
-        records: true,
-        offsets: true,
-        leases: true,
-        holds: true,
-        identifiers: true,
-        periods: true,
-        layout: true,
+        first_end: u32::MAX,
     };
     TableRules {
-        rules: all,
-        held: held,
+        rules: TenantRules {
+            records: true,
+            offsets: true,
+            leases: true,
+            holds: true,
+            identifiers: true,
+            periods: true,
+            layout: true,
+        },
+        held: HeldTable { tenants: [none; 8] },
     }
 }
 
 fn pool_of(s: State, k: usize) -> u64
     ensures { result ≡ pool_in s k }
 {
-    let c = state::scope_at(s, k);
-    address_set::first_n(c.size)
+    address_set::first_n(state::scope_at(s, k).size)
 }
 
 // Each scope's whole pool as a set.
+#[tactic(auto, unfolding(crate::specs::Parts::pools_of))]
 pub fn pools_of(s: State) -> [u64; 4]
     ensures { result ≡ pools_of s }
 {
-    let a = pool_of(s, 0);
-    let b = pool_of(s, 1);
-    let c = pool_of(s, 2);
-    let d = pool_of(s, 3);
-    [a, b, c, d]
+    [pool_of(s, 0), pool_of(s, 1), pool_of(s, 2), pool_of(s, 3)]
 }
 
 // The rules with one tenant more, counted from 0.
@@ -210,16 +201,12 @@ pub fn add_tenant(s: State, pools: [u64; 4], c: TableRules, i: usize, t: TenantL
     requires { (pools ≡ pools_of s) × (i < 8) }
     ensures { result ≡ added_tenant s c i t }
 {
-    let y = check_tenant(s, pools, t);
-    let x = y.rules;
-    let h = y.held;
-    let a = c.rules;
-    let both = and_tenants(a, x);
+    let one = check_tenant(s, pools, t);
     let mut held = c.held;
-    held.tenants[i] = h;
+    held.tenants[i] = one.held;
     TableRules {
-        rules: both,
-        held: held,
+        rules: c.rules.and(one.rules),
+        held,
     }
 }
 
@@ -229,56 +216,47 @@ fn table_rules(s: State, table: LeaseTable) -> TableRules
 {
     let pools = pools_of(s);
     let mut all = no_tenants();
-    let mut i: usize = 0;
-    while i < 8 {
-        let t = table.tenants[i];
-        all = add_tenant(s, pools, all, i, t);
-        i += 1;
+    for (i, t) in table.tenants.iter().enumerate() {
+        all = add_tenant(s, pools, all, i, *t);
     }
     all
 }
 
+#[tactic(auto, unfolding(crate::specs::Parts::joined_rules))]
 fn join_rules(a: SettingsRules, b: TenantRules, c: HoldingRules) -> Rules
     ensures { result ≡ joined_rules a b c }
 {
-    let limit = both(a.counts, b.records);
-    let lease = both(c.tenants, b.leases);
-    let layout = both(a.unused, b.layout);
     Rules {
-        limits: limit,
+        limits: a.counts & b.records,
         offsets: b.offsets,
         ranges: a.ranges,
         pools: a.pools,
         ttls: a.ttls,
         reserves: a.reserves,
-        leases: lease,
+        leases: c.tenants & b.leases,
         identifiers: b.identifiers,
         owners: c.owners,
         periods: b.periods,
         holdings: c.holdings,
         commitments: c.commitments,
         holds: b.holds,
-        layout: layout,
+        layout: a.unused & b.layout,
     }
 }
 
 // All rules, from those of the tenants.
+#[tactic(auto, unfolding(crate::specs::Parts::rules_from))]
 fn rules_from(s: State, c: TableRules) -> Rules
     ensures { result ≡ rules_from s c }
 {
-    let a = settings_rules(s);
-    let t = c.rules;
-    let h = c.held;
-    let x = holding_rules(s, h);
-    join_rules(a, t, x)
+    join_rules(settings_rules(s), c.rules, holding_rules(s, c.held))
 }
 
 // Which rules a book keeps.
 pub fn check_rules(s: State, table: LeaseTable) -> Rules
     ensures { result ≡ rules_of s table }
 {
-    let c = table_rules(s, table);
-    rules_from(s, c)
+    rules_from(s, table_rules(s, table))
 }
 
 // Of rules 7 to 13 the number of the first that is broken, or 0.
@@ -310,6 +288,7 @@ fn first_late(r: Rules) -> u8
 }
 
 // Of rules 1 to 13, those that a file can break, the number of the first that is broken, or 0.
+// Stays: the number of a rule is the product's answer (documents 01 and 02, W-212), and `first_rule` of specs/ is the clause that holds it; so in `first_late` and `first_broken`.
 pub fn first_rule(r: Rules) -> u8
     ensures { result ≡ first_rule r }
 {
@@ -335,25 +314,22 @@ pub fn first_rule(r: Rules) -> u8
 }
 
 // The number of the first rule that is broken, or 0; the layout, which only a book that is lent can break, comes last.
+#[tactic(auto, unfolding(lists::specs::Pick::pick, crate::specs::Sound::first_broken))]
 pub fn first_broken(r: Rules) -> u8
     ensures { result ≡ first_broken r }
 {
-    let n = first_rule(r);
-    if n != 0 {
-        return n;
+    match first_rule(r) {
+        0 if r.layout => 0,
+        0 => 19,
+        n => n,
     }
-    if !r.layout {
-        return 19;
-    }
-    0
 }
 
 // The number of the first rule that a book breaks, or 0.
 pub fn broken(s: State, table: LeaseTable) -> u8
     ensures { result ≡ broken_of s table }
 {
-    let r = check_rules(s, table);
-    first_broken(r)
+    first_broken(check_rules(s, table))
 }
 
 // Whether a book is sound.
@@ -364,11 +340,11 @@ pub fn sound(s: State, table: LeaseTable) -> bool
 }
 
 // Whether a book is sound, from the rules of its tenants.
+#[tactic(auto, unfolding(crate::specs::Parts::sound_from))]
 pub fn sound_from(s: State, c: TableRules) -> bool
     ensures { result ≡ sound_from s c }
 {
-    let r = rules_from(s, c);
-    first_broken(r) == 0
+    first_broken(rules_from(s, c)) == 0
 }
 
 // Whether a record is all zero, as an unused one has to be.

@@ -1,6 +1,6 @@
 -- Definitions: lease records and the lists of leases that they stand for; document 01's book, a `State`, its settings and clock, with a `LeaseTable`, what
 -- is remembered of releases with the occupancy board, and the names for the scopes.
-use Rattle.std.specs.Prelude.{ℕ, zero, suc, ◌+◌, max, Bool, true, false, not, ◌&&◌, List, [], ◌∷◌, map, eqb, ltb, length, replicate, set, take, get_or}
+use Rattle.std.specs.Prelude.{ℕ, zero, suc, ◌+◌, max, Bool, true, false, not, ◌&&◌, List, [], ◌∷◌, map, eqb, ltb, length, replicate, set, take, get_or, position, None}
 use Rattle.std.specs.Int.Bits.{bit_or}
 use Rattle.lists.specs.Pick.{pick}
 use Rattle.lists.specs.Filter.{filter_by}
@@ -21,6 +21,8 @@ use Rattle.state.specs.declared.TenantReleases.{TenantReleases}
 use Rattle.state.specs.declared.Memory.{Memory}
 use Rattle.state.specs.declared.Ledger.{Ledger}
 use Rattle.state.specs.declared.Lookup.{Lookup}
+use Rattle.state.specs.declared.OrderBy.{OrderBy}
+use Rattle.state.specs.declared.OrderBy.TheVariants.{Ending, Identifier}
 use Rattle.state.specs.declared.ClientRange.{ClientRange}
 use Rattle.state.specs.declared.Scope.{Scope}
 use Rattle.state.specs.declared.State.{State}
@@ -147,9 +149,9 @@ abbrev pub ordered : Order
 ordered = by_ending
 
 -- by ending, or by identifier
-unfoldable pub order_for : Bool → Order
-order_for true = by_ending
-order_for false = by_identifier
+unfoldable pub order_for : OrderBy → Order
+order_for Ending = by_ending
+order_for Identifier = by_identifier
 
 abbrev pub named : List ℕ → Lease → Bool
 named i l = same_of (id_of l) i
@@ -172,11 +174,11 @@ unfoldable pub compared_of : List ℕ → List Lease → ℕ
 compared_of i ls = pick (ltb (place_of i ls) (length ls)) (place_of i ls + 1) (length ls)
 
 abbrev pub lookup_of : List ℕ → List Lease → Lookup
-lookup_of i ls = record { found = ltb (place_of i ls) (length ls); place = place_of i ls; compared = compared_of i ls }
+lookup_of i ls = record { place = position (named i) ls; compared = compared_of i ls }
 
 -- where there is no record to look at
 abbrev pub no_lookup : Lookup
-no_lookup = record { found = false; place = 0; compared = 0 }
+no_lookup = record { place = None; compared = 0 }
 
 -- the lease at a place, or an unused record
 abbrev pub lease_at : List Lease → ℕ → Lease

@@ -1,5 +1,6 @@
 -- Definitions: what a call does to one tenant's leases and to what is remembered of it, as a value, and the book afterwards.
-use Rattle.std.specs.Prelude.{ℕ, ◌-◌, true, false, List, [], ◌∷◌, ◌++◌, drop, length, set}
+use Rattle.std.specs.Prelude.{ℕ, ◌-◌, true, false, List, [], ◌∷◌, ◌++◌, drop, length, set, None, Some}
+use Rattle.std.specs.Option.{option_map_or}
 use Rattle.lists.specs.Pick.{pick}
 use Rattle.lists.specs.Filter.{filter_by}
 use Rattle.occupancy.specs.declared.Board.{Board}
@@ -10,39 +11,39 @@ use Rattle.state.specs.declared.Release.{Release}
 use Rattle.state.specs.declared.TenantReleases.{TenantReleases}
 use Rattle.state.specs.declared.Memory.{Memory}
 use Rattle.state.specs.declared.Edit.{Edit}
-use Rattle.state.specs.Book.{Book, Order, changed_to, zero_lease, zero_release, in_use, laid_out, tenant_at, put_at, id_of, inserted_by, ordered, remove_of, remembered, laid_releases, releases_at, other_release, board_with, board_without}
+use Rattle.state.specs.Book.{Book, Order, changed_to, in_use, laid_out, tenant_at, put_at, id_of, inserted_by, ordered, remove_of, remembered, laid_releases, releases_at, other_release, board_with, board_without}
 
 abbrev pub no_edit : Edit
-no_edit = record { leaves = false; old = zero_lease; enters = false; new = zero_lease; forgets = false; remembers = false; release = zero_release }
+no_edit = record { leaves = None; enters = None; forgets = false; remembers = None }
 
 -- "A new lease on the identifier forgets it" (document 02, W-202), and a hold "forgets its identifier's release" (W-205)
 abbrev pub entering : Lease → Edit
-entering l = record { leaves = false; old = zero_lease; enters = true; new = l; forgets = true; remembers = false; release = zero_release }
+entering l = record { leaves = None; enters = Some l; forgets = true; remembers = None }
 
 -- the released identifier, "with transaction id and the clock at release"
 abbrev pub release_of : Lease → ℕ → ℕ → Release
 release_of o x c = record { id_len = o.id_len; id = o.id; xid = x; time = c }
 
 abbrev pub leaving : Lease → ℕ → ℕ → Edit
-leaving o x c = record { leaves = true; old = o; enters = false; new = zero_lease; forgets = false; remembers = true; release = release_of o x c }
+leaving o x c = record { leaves = Some o; enters = None; forgets = false; remembers = Some (release_of o x c) }
 
 -- "first drops the hold" (document 02, W-205): o leaves before what e does, in which nothing else leaves. Nothing is remembered of a hold, and the release that it
 -- forgot does not come back
 abbrev pub dropping_first : Lease → Edit → Edit
-dropping_first o e = record { leaves = true; old = o; enters = e.enters; new = e.new; forgets = e.forgets; remembers = e.remembers; release = e.release }
+dropping_first o e = record { leaves = Some o; enters = e.enters; forgets = e.forgets; remembers = e.remembers }
 
 -- o gives way to l of the same identifier, of which no release is remembered
 abbrev pub giving_way : Lease → Lease → Edit
-giving_way o l = record { leaves = true; old = o; enters = true; new = l; forgets = false; remembers = false; release = zero_release }
+giving_way o l = record { leaves = Some o; enters = Some l; forgets = false; remembers = None }
 
 -- ---- the leases
 -- a tenant's records: the lease with the old one's identifier leaves
 unfoldable pub left_in : Edit → TenantLeases → TenantLeases
-left_in e t = pick e.leaves (laid_out (remove_of (id_of e.old) (in_use t))) t
+left_in e t = option_map_or (λ o. laid_out (remove_of (id_of o) (in_use t))) e.leaves t
 
 -- and the new one enters, by any order
 unfoldable pub edited_by : Order → Edit → TenantLeases → TenantLeases
-edited_by o e t = pick e.enters (inserted_by o e.new (left_in e t)) (left_in e t)
+edited_by o e t = option_map_or (λ l. inserted_by o l (left_in e t)) e.enters (left_in e t)
 
 abbrev pub edited_in : Edit → TenantLeases → TenantLeases
 edited_in e t = edited_by ordered e t
@@ -63,16 +64,16 @@ forget_of i q = filter_by (other_release i) q
 -- what is remembered of one tenant; no edit does both
 unfoldable pub noted_in : Edit → TenantReleases → TenantReleases
 noted_in e q =
-    pick e.remembers (laid_releases (remember_of e.release (remembered q)))
-    (pick e.forgets (laid_releases (forget_of (id_of e.new) (remembered q))) q)
+    option_map_or (λ r. laid_releases (remember_of r (remembered q))) e.remembers
+    (pick e.forgets (option_map_or (λ l. laid_releases (forget_of (id_of l) (remembered q))) e.enters q) q)
 
 -- ---- the board (document 02, W-207): what leaves is taken off it
 unfoldable pub board_left : Edit → ℕ → Board → Board
-board_left e h b = pick e.leaves (board_without h b e.old) b
+board_left e h b = option_map_or (board_without h b) e.leaves b
 
 -- and what enters is added
 unfoldable pub board_edited : Edit → ℕ → Board → Board
-board_edited e h b = pick e.enters (board_with h (board_left e h b) e.new) (board_left e h b)
+board_edited e h b = option_map_or (board_with h (board_left e h b)) e.enters (board_left e h b)
 
 -- the memory, with the releases of the tenant at place h and the board so changed: the only way in which a call changes it, but for the drop
 unfoldable pub noted : Edit → ℕ → Memory → Memory

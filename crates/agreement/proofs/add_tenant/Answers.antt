@@ -1,38 +1,23 @@
 -- `add_tenant` meets its contract: a fold over the records in use.
-use Rattle.lists.specs.laws.Part.{parts}
+use Rattle.std.proofs.Common.{rules, ◌∙◌, ap}
+use Rattle.lists.specs.Fold.{fold}
+use Rattle.lists.specs.laws.Fold.{fold_end, fold_next}
 use Rattle.occupancy.specs.laws.Loop.{alterations, placed_tenant}
 use Rattle.state.specs.Book.{board_with}
-use borrow.Author.Rules.{rules}
 use Rattle.agreement.proofs.add_tenant.Goals as goal
-
-pub cut16-n-requires : goal.cut16-n-requires
-unfolding board_with
-cut16-n-requires c = search (parts, alterations, rules)
-
-pub loop-i-init : goal.loop-i-init
-unfolding board_with
-loop-i-init c = search (parts, alterations, rules)
-
-pub place-k-requires : goal.place-k-requires
-unfolding board_with
-place-k-requires c = search (parts, alterations, rules)
+use Rattle.agreement.proofs.add_tenant.Goals.{then-k-lt4, else-k-lt4}
 
 pub lay-x-requires : goal.lay-x-requires
-unfolding board_with
-lay-x-requires c = search (parts, alterations, placed_tenant, rules)
+lay-x-requires c = search (placed_tenant, rules)
 
-pub loop-i-smaller-then-k-lt4 : goal.loop-i-smaller-then-k-lt4
+pub loop-l-preserved : goal.loop-l-preserved
 unfolding board_with
-loop-i-smaller-then-k-lt4 c = search (parts, alterations, placed_tenant, rules)
-
-pub loop-i-preserved-then-k-lt4 : goal.loop-i-preserved-then-k-lt4
-unfolding board_with
-loop-i-preserved-then-k-lt4 c = search (parts, alterations, rules)
-
-pub loop-i-preserved : goal.loop-i-preserved
-unfolding board_with
-loop-i-preserved c = search (parts, alterations, rules)
+loop-l-preserved c =
+    fold_next c.loop-l.invariant c.loop-l-test.true
+    (elim c.if-k-lt4.branch [
+      | then-k-lt4 w ↦ search (alterations, placed_tenant, rules)
+      | else-k-lt4 w ↦ search (alterations, rules)
+    ])
 
 pub returns : goal.returns
-unfolding board_with
-returns c = search (parts, alterations, rules)
+returns c = fold_end c.loop-l.invariant c.loop-l-test.false ∙ ap (fold (board_with c.args.h) c.args.b) c.in_use-own.ensures

@@ -1,23 +1,13 @@
 -- `clear` meets its contract: a fold over the first records in use.
-use Rattle.agreement.specs.laws.Code.{clear_start}
-use Rattle.lists.specs.laws.Part.{parts}
-use borrow.Author.Rules.{rules}
+use Rattle.std.proofs.Common.{refl, ◌∙◌, ap, take, length}
+use Rattle.lists.specs.Fold.{fold}
+use Rattle.lists.specs.laws.Fold.{fold_end}
+use Rattle.lists.specs.laws.Part.{cut_take}
+use Rattle.state.specs.Book.{board_without}
 use Rattle.agreement.proofs.clear.Goals as goal
 
-pub cut16-requires : goal.cut16-requires
-cut16-requires c = search (parts, rules)
-
-pub fewer-many-requires : goal.fewer-many-requires
-fewer-many-requires c = search (parts, rules)
-
-pub loop-i-init : goal.loop-i-init
-loop-i-init c = search (parts, clear_start, rules)
-
-pub take-now-requires : goal.take-now-requires
-take-now-requires c = search (parts, rules)
-
-pub loop-i-preserved : goal.loop-i-preserved
-loop-i-preserved c = search (parts, rules)
-
 pub returns : goal.returns
-returns c = search (parts, rules)
+returns c =
+    let own = c.in_use-own.result.now in
+    fold_end c.loop-l.invariant c.loop-l-test.false
+    ∙ ap (fold (board_without c.args.h) c.args.b) (ap (λ k. take k own) c.min.ensures ∙ cut_take (length own) c.args.n own refl ∙ ap (take c.args.n) c.in_use-own.ensures)

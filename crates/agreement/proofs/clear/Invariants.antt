@@ -1,13 +1,9 @@
-use Prim.Native.Nat.{◌-◌}
+use Rattle.std.proofs.Common.{length}
 use Rattle.lists.specs.Fold.{fold}
-use Rattle.lists.specs.laws.Part.{PartInv}
-use Rattle.state.specs.Book.{board_without, in_use}
+use Rattle.lists.specs.laws.Fold.{FoldInv}
+use Rattle.state.specs.Book.{board_without}
 use Rattle.state.specs.laws.Layout.{no_lease}
-use lib.ListN.{take}
 use Rattle.agreement.proofs.clear.Given as goal
 
-abbrev pub invariant-loop-i : goal.invariant-loop-i
-invariant-loop-i l = PartInv (board_without l.h) no_lease l.t.leases l.many (fold (board_without l.h) l.initial.now (take l.n (in_use l.t))) l.now l.i
-
-abbrev pub decreases-loop-i : goal.decreases-loop-i
-decreases-loop-i l = l.many - l.i
+abbrev pub invariant-loop-l : goal.invariant-loop-l
+invariant-loop-l l = FoldInv (board_without l.h) no_lease l.ended (length l.ended) (fold (board_without l.h) l.initial.now l.ended) l.now l.l-index

@@ -1,11 +1,9 @@
--- `edited` meets its contract: its test, on the board that is left.
-use Rattle.agreement.specs.laws.Code.{edited_board}
-use Rattle.lists.specs.laws.Pick.{tests}
-use borrow.Author.Rules.{rules}
+-- `edited` meets its contract: what enters, if anything does, on the board that is left.
+use Rattle.agreement.specs.laws.Code.{board_rest, board_some}
 use Rattle.agreement.proofs.edited.Goals as goal
 
-pub returns-then-e : goal.returns-then-e
-returns-then-e c = search (edited_board, tests, rules)
+pub returns-in-Some : goal.returns-in-Some
+returns-in-Some c = board_some _ _ _ c.left-rest.ensures c.in-Some.is c.add.ensures
 
-pub returns : goal.returns
-returns c = search (edited_board, tests, rules)
+pub returns-in-None : goal.returns-in-None
+returns-in-None c = board_rest _ _ _ c.left-rest.ensures c.in-None.is

@@ -1,13 +1,11 @@
--- `left` meets its contract: its test.
-use Rattle.lists.specs.laws.Pick.{tests}
+-- `left` meets its contract: what leaves, if anything does.
 use Rattle.state.specs.Edit.{board_left}
-use borrow.Author.Rules.{rules}
 use Rattle.agreement.proofs.left.Goals as goal
 
-pub returns-then-e : goal.returns-then-e
+pub returns-in-Some : goal.returns-in-Some
 unfolding board_left
-returns-then-e c = search (tests, rules)
+returns-in-Some c = rw c.in-Some.is c.take.ensures
 
-pub returns : goal.returns
+pub returns-in-None : goal.returns-in-None
 unfolding board_left
-returns c = search (tests, rules)
+returns-in-None c = rw c.in-None.is

@@ -1,8 +1,9 @@
 -- Laws: a board agrees with the leases where it is what they say; the drop and an edit keep it so, and the board that the leases make agrees.
-use Rattle.std.specs.Prelude.{ℕ, ◌<◌, max, ◌≡◌, Bool, length, get_or}
+use Rattle.std.specs.Prelude.{ℕ, ◌<◌, max, ◌≡◌, Bool, length, get_or, Option, None, Some, IfSome}
+use Rattle.std.specs.Option.{option_map_or}
 use Rattle.std.proofs.Math.Path.{refl, sym, ap}
 use Rattle.std.proofs.Common.{◌∙◌, subst, arith, length-set, get_or-set_same, set-set, lt-ltb}
-use Rattle.std.proofs.Math.Bool.{true, false}
+use Rattle.std.proofs.Math.Bool.{true}
 use mathlib.Core.List.{List, [], ◌∷◌, map}
 use Rattle.std.proofs.Math.ListN.{set}
 use Rattle.std.proofs.lemmas.List.{length-map, set-get_or}
@@ -64,8 +65,8 @@ advanced_agrees b time v e =
 -- ---- an edit
 -- one that fits the records that it is made to: what leaves is there, and what enters has room
 pub record Stands (e : Edit) (t : TenantLeases) : Type 0 where
-  pub old : e.leaves ≡ true → Reordered (in_use t) (e.old ∷ remove_of (id_of e.old) (in_use t))
-  pub room : e.enters ≡ true → length (in_use (left_in e t)) < 16
+  pub old : IfSome e.leaves (λ o. Reordered (in_use t) (o ∷ remove_of (id_of o) (in_use t)))
+  pub room : IfSome e.enters (λ l. length (in_use (left_in e t)) < 16)
 
 module _ (s : State) (t : LeaseTable) (h : ℕ) (e : Edit) (v : Sound s (leases_of t)) (there : h < length t.tenants) (known : h < tenants_in s) (fits : Stands e (tenant_at t h)) (after : Sound s (leases_of (applied e h t))) where
   abbrev ts : List (List Lease)
@@ -98,32 +99,28 @@ module _ (s : State) (t : LeaseTable) (h : ℕ) (e : Edit) (v : Sound s (leases_
 
   left_is : board_left e h (board_of ts) ≡ board_of (set ts h rest)
   unfolding board_left left_in pick
-  left_is = go e.leaves refl
+  left_is = go e.leaves fits.old
     where
-      go : (c : Bool) → e.leaves ≡ c → pick c (board_without h (board_of ts) e.old) (board_of ts) ≡ board_of (set ts h (in_use (pick c (laid_out (remove_of (id_of e.old) own)) (tenant_at t h))))
-      go true q =
-          ap (λ (x : List (List Lease)). board_without h (board_of x) e.old) (sym before_is)
-          ∙ sym (one_less s ts v ts (same_within ts) h listed eighth e.old (remove_of (id_of e.old) own) own (subst (λ (x : List Lease). Part (get_or ts h []) x) (sym (at_tenant t h)) (all_part (get_or ts h []))) (fits.old q))
-          ∙ ap (λ (x : List Lease). board_of (set ts h x)) (sym (read_back (remove_of (id_of e.old) own)))
-      go false q = ap board_of (sym before_is)
+      go : (c : Option Lease) → IfSome c (λ o. Reordered own (o ∷ remove_of (id_of o) own))
+          → option_map_or (board_without h (board_of ts)) c (board_of ts) ≡ board_of (set ts h (in_use (option_map_or (λ o. laid_out (remove_of (id_of o) own)) c (tenant_at t h))))
+      go (Some o) q =
+          ap (λ (x : List (List Lease)). board_without h (board_of x) o) (sym before_is)
+          ∙ sym (one_less s ts v ts (same_within ts) h listed eighth o (remove_of (id_of o) own) own (subst (λ (x : List Lease). Part (get_or ts h []) x) (sym (at_tenant t h)) (all_part (get_or ts h []))) q)
+          ∙ ap (λ (x : List Lease). board_of (set ts h x)) (sym (read_back (remove_of (id_of o) own)))
+      go None q = ap board_of (sym before_is)
 
   sound_end : Sound s (set ts h end)
   sound_end = subst (λ (x : List (List Lease)). Sound s x) after_is after
 
-  entered : e.enters ≡ true → end ≡ insert_of e.new rest
-  unfolding edited_by inserted_by pick
-  entered q =
-      ap (λ (c : Bool). in_use (pick c (inserted_in e.new (left_in e (tenant_at t h))) (left_in e (tenant_at t h)))) q
-      ∙ ap (λ (c : Bool). in_use (pick c (laid_out (insert_of e.new rest)) (left_in e (tenant_at t h)))) (lt-ltb (length rest) 16 (fits.room q))
-      ∙ read_back (insert_of e.new rest)
-
-  stayed : e.enters ≡ false → end ≡ rest
-  unfolding edited_by pick
-  stayed q = ap (λ (c : Bool). in_use (pick c (inserted_in e.new (left_in e (tenant_at t h))) (left_in e (tenant_at t h)))) q
+  entered : (l : Lease) → length rest < 16 → in_use (inserted_in l (left_in e (tenant_at t h))) ≡ insert_of l rest
+  unfolding inserted_by pick
+  entered l room =
+      ap (λ (c : Bool). in_use (pick c (laid_out (insert_of l rest)) (left_in e (tenant_at t h)))) (lt-ltb (length rest) 16 room)
+      ∙ read_back (insert_of l rest)
 
   edited_is : board_edited e h (board_of ts) ≡ board_of (set ts h end)
-  unfolding board_edited pick
-  edited_is = go e.enters refl
+  unfolding board_edited edited_by
+  edited_is = go e.enters refl fits.room
     where
       now : List (List Lease)
       now = set ts h end
@@ -134,12 +131,14 @@ module _ (s : State) (t : LeaseTable) (h : ℕ) (e : Edit) (v : Sound s (leases_
       own_now : Part (get_or now h []) end
       own_now = subst (λ (x : List Lease). Part (get_or now h []) x) (get_or-set_same ts h end [] listed) (all_part (get_or now h []))
 
-      go : (c : Bool) → e.enters ≡ c → pick c (board_with h (board_left e h (board_of ts)) e.new) (board_left e h (board_of ts)) ≡ board_of (set ts h end)
-      go true q =
-          ap (λ (x : Board). board_with h x e.new) (left_is ∙ ap board_of (sym (set-set ts h end rest)))
-          ∙ sym (one_more s now sound_end now (same_within now) h there_now eighth e.new rest end own_now (subst (λ (x : List Lease). Reordered x (e.new ∷ rest)) (sym (entered q)) (insert_same e.new rest)))
+      go : (c : Option Lease) → e.enters ≡ c → IfSome c (λ l. length rest < 16)
+          → option_map_or (board_with h (board_left e h (board_of ts))) c (board_left e h (board_of ts)) ≡ board_of (set ts h end)
+      go (Some l) q room =
+          let is : end ≡ insert_of l rest = ap (λ (c : Option Lease). in_use (option_map_or (λ x. inserted_in x (left_in e (tenant_at t h))) c (left_in e (tenant_at t h)))) q ∙ entered l room in
+          ap (λ (x : Board). board_with h x l) (left_is ∙ ap board_of (sym (set-set ts h end rest)))
+          ∙ sym (one_more s now sound_end now (same_within now) h there_now eighth l rest end own_now (subst (λ (x : List Lease). Reordered x (l ∷ rest)) (sym is) (insert_same l rest)))
           ∙ ap board_of (set-set ts h end end)
-      go false q = left_is ∙ ap (λ (x : List Lease). board_of (set ts h x)) (sym (stayed q))
+      go None q room = left_is ∙ ap (λ (x : List Lease). board_of (set ts h x)) (sym (ap (λ (c : Option Lease). in_use (option_map_or (λ x. inserted_in x (left_in e (tenant_at t h))) c (left_in e (tenant_at t h)))) q))
 
 pub edited_agrees : (s : State) (t : LeaseTable) (h : ℕ) (e : Edit) (b : Board) → Sound s (leases_of t) → h < length t.tenants → h < tenants_in s → Stands e (tenant_at t h)
     → Sound s (leases_of (applied e h t)) → agrees_b t b ≡ true → agrees_b (applied e h t) (board_edited e h b) ≡ true

@@ -1,10 +1,10 @@
 -- Laws: between the code and the definitions: an edit, the loop that takes a tenant's first records off, and the loop over the tenants.
-use Rattle.std.specs.Prelude.{ℕ, ◌+◌, ◌≤◌, ◌<◌, min, ◌≡◌, refl, Bool, true, false, List, [], leb, length, get_or, take}
+use Rattle.std.specs.Prelude.{ℕ, ◌+◌, ◌≤◌, ◌<◌, ◌≡◌, Bool, [], length, get_or, Option, None, Some}
+use Rattle.std.specs.Option.{option_map_or}
 use Rattle.std.proofs.Math.Path.{sym, ap₂}
-use Rattle.std.proofs.Common.{ap, ◌∙◌, arith, add-one, length-take, take_all, take-take, leb-true, leb-false}
-use Rattle.lists.specs.Pick.{pick}
+use Rattle.std.proofs.Common.{ap, ◌∙◌, arith, add-one}
 use Rattle.lists.specs.Fold.{fold}
-use Rattle.lists.specs.laws.Part.{PartInv, part_start, unmapped}
+use Rattle.lists.specs.laws.Part.{unmapped}
 use Rattle.lists.specs.laws.Row.{at_in}
 use Rattle.occupancy.specs.declared.Board.{Board}
 use Rattle.occupancy.specs.Board.{no_board, same_board}
@@ -12,26 +12,19 @@ use Rattle.state.specs.declared.Edit.{Edit}
 use Rattle.state.specs.declared.Lease.{Lease}
 use Rattle.state.specs.declared.LeaseTable.{LeaseTable}
 use Rattle.state.specs.declared.TenantLeases.{TenantLeases}
-use Rattle.state.specs.Book.{in_use, laid_out, board_with, board_without}
-use Rattle.state.specs.laws.Layout.{no_lease}
+use Rattle.state.specs.Book.{in_use, laid_out, board_with}
 use Rattle.state.specs.Board.{built_of, built_to}
 use Rattle.state.specs.Edit.{board_edited, board_left}
 
 -- ---- an edit
-pub edited_board : (e : Edit) (h : ℕ) (b rest r : Board) → rest ≡ board_left e h b → r ≡ pick e.enters (board_with h rest e.new) rest → r ≡ board_edited e h b
-unfolding board_edited
-edited_board e h b rest r p q = q ∙ ap (λ (x : Board). pick e.enters (board_with h x e.new) x) p
+module _ (e : Edit) (h : ℕ) (b : Board) {rest : Board} (p : rest ≡ board_left e h b) where
+  pub board_some : {l : Lease} {r : Board} → e.enters ≡ Some l → r ≡ board_with h rest l → r ≡ board_edited e h b
+  unfolding board_edited
+  board_some {l} q f = f ∙ ap (λ (x : Board). board_with h x l) p ∙ sym (ap (λ (o : Option Lease). option_map_or (board_with h (board_left e h b)) o (board_left e h b)) q)
 
--- ---- one tenant's first records
-take_both : (n c : ℕ) (l : List Lease) → take n (take c l) ≡ take (min n c) l
-take_both n c l = go (leb n c) refl
-  where
-    go : (b : Bool) → leb n c ≡ b → take n (take c l) ≡ take (min n c) l
-    go true e = let h = leb-true n c e in take-take n c l h ∙ ap (λ (k : ℕ). take k l) (let q : n ≡ min n c = omega arith in q)
-    go false e = let h = leb-false n c e in let a = length-take c l in take_all n (take c l) (omega arith) ∙ ap (λ (k : ℕ). take k l) (let q : c ≡ min n c = omega arith in q)
-
-pub clear_start : (h : ℕ) {l : List Lease} {m k : ℕ} {r : Board} (n c : ℕ) → k ≡ min c 16 → m ≡ min n k → length l ≡ 16 → PartInv (board_without h) no_lease l m (fold (board_without h) r (take n (take c l))) r 0
-clear_start h {l} {r = r} n c ek em g = part_start (min n c) 16 (omega arith) g (ap (fold (board_without h) r) (sym (take_both n c l)))
+  pub board_rest : e.enters ≡ None → rest ≡ board_edited e h b
+  unfolding board_edited
+  board_rest q = p ∙ sym (ap (λ (o : Option Lease). option_map_or (board_with h (board_left e h b)) o (board_left e h b)) q)
 
 -- ---- all tenants
 pub record BuiltInv (t : LeaseTable) (now : Board) (h : ℕ) : Type 0 where

@@ -1,46 +1,28 @@
 -- `forget` meets its contract: a filter over what is remembered.
-use Rattle.lists.specs.laws.Part.{parts}
-use Rattle.releases.specs.laws.Code.{forgotten_is, turns}
+use Rattle.std.proofs.Common.{ap, ◌∙◌, rules, take}
+use Rattle.lists.specs.Fold.{fold}
+use Rattle.lists.specs.laws.Part.{unmapped}
+use Rattle.lists.specs.laws.Rest.{rest_start, rest_end}
+use Rattle.state.specs.Book.{other_release, remembered}
 use Rattle.state.specs.Edit.{forget_of}
-use borrow.Author.Rules.{rules}
+use Rattle.releases.specs.laws.Code.{turn, kept_r, kept_in, kept_out, forgotten_is}
 use Rattle.releases.proofs.forget.Goals as goal
+use Rattle.releases.proofs.forget.Goals.{then-is_other, else-is_other}
 
-pub no_releases-now-requires : goal.no_releases-now-requires
-unfolding forget_of
-no_releases-now-requires c = search (parts, turns, rules)
+pub loop-r-init : goal.loop-r-init
+loop-r-init c =
+    rest_start (kept_r (other_release (take c.args.len c.args.id))) c.args.q.releases _ c.args.q.count 4 (search rules) (search (unmapped, rules))
+    (ap (λ b. fold (kept_r (other_release (take c.args.len c.args.id))) b (remembered c.args.q)) c.no_releases-now.ensures
+    ∙ forgotten_is (other_release (take c.args.len c.args.id)) c.args.q.count c.args.q.releases (search (unmapped, rules)))
 
-pub cut4-n-requires : goal.cut4-n-requires
-unfolding forget_of
-cut4-n-requires c = search (parts, turns, rules)
-
-pub loop-i-init : goal.loop-i-init
-unfolding forget_of
-loop-i-init c = search (parts, turns, forgotten_is, rules)
-
-pub is_other-requires : goal.is_other-requires
-unfolding forget_of
-is_other-requires c = search (parts, turns, rules)
-
-pub loop-i-smaller-then-at-lt4 : goal.loop-i-smaller-then-at-lt4
-unfolding forget_of
-loop-i-smaller-then-at-lt4 c = search (parts, turns, forgotten_is, rules)
-
-pub loop-i-preserved-then-at-lt4 : goal.loop-i-preserved-then-at-lt4
-unfolding forget_of
-loop-i-preserved-then-at-lt4 c = search (parts, turns, rules)
-
-pub loop-i-smaller-else-at-lt4 : goal.loop-i-smaller-else-at-lt4
-unfolding forget_of
-loop-i-smaller-else-at-lt4 c = search (parts, turns, forgotten_is, rules)
-
-pub loop-i-preserved-else-at-lt4 : goal.loop-i-preserved-else-at-lt4
-unfolding forget_of
-loop-i-preserved-else-at-lt4 c = search (parts, turns, rules)
-
-pub loop-i-preserved : goal.loop-i-preserved
-unfolding forget_of
-loop-i-preserved c = search (parts, turns, rules)
+pub loop-r-preserved : goal.loop-r-preserved
+loop-r-preserved c =
+    turn (kept_r (other_release (take c.args.len c.args.id))) _ _ _ _ c.loop-r-test.true
+    (elim c.if-is_other.branch [
+      | then-is_other w ↦ kept_in _ _ (other_release (take c.args.len c.args.id)) c.is_other.ensures w.if-is_other.true (w.now-is ∙ w.push_release-now.ensures)
+      | else-is_other w ↦ w.now-is ∙ kept_out _ _ (other_release (take c.args.len c.args.id)) c.is_other.ensures w.if-is_other.false
+    ]) c.loop-r.invariant
 
 pub returns : goal.returns
 unfolding forget_of
-returns c = search (parts, turns, rules)
+returns c = rest_end (kept_r (other_release (take c.args.len c.args.id))) _ _ c.loop-r-test.false c.loop-r.invariant

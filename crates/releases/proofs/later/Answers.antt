@@ -1,26 +1,16 @@
 -- `later` meets its contract: those from a place on, written one behind the other.
-use Rattle.lists.specs.laws.Part.{parts}
-use Rattle.releases.specs.laws.Code.{later_start, pushes}
-use borrow.Author.Rules.{rules}
+use Rattle.std.proofs.Common.{rules}
+use Rattle.lists.specs.laws.Part.{unmapped}
+use Rattle.lists.specs.laws.Rest.{rest_end}
+use Rattle.state.specs.Book.{pushed_release}
+use Rattle.releases.specs.laws.Code.{later_start, turn}
 use Rattle.releases.proofs.later.Goals as goal
 
-pub no_releases-now-requires : goal.no_releases-now-requires
-no_releases-now-requires c = search (parts, pushes, rules)
+pub loop-r-init : goal.loop-r-init
+loop-r-init c = later_start c.args.q.releases c.args.q.count c.args.from (search rules) (search rules) (search (unmapped, rules)) c.requires
 
-pub cut4-n-requires : goal.cut4-n-requires
-cut4-n-requires c = search (parts, pushes, rules)
-
-pub loop-i-init : goal.loop-i-init
-loop-i-init c = search (parts, pushes, later_start, rules)
-
-pub loop-i-smaller-then-at-lt4 : goal.loop-i-smaller-then-at-lt4
-loop-i-smaller-then-at-lt4 c = search (parts, pushes, later_start, rules)
-
-pub loop-i-preserved-then-at-lt4 : goal.loop-i-preserved-then-at-lt4
-loop-i-preserved-then-at-lt4 c = search (parts, pushes, rules)
-
-pub loop-i-preserved : goal.loop-i-preserved
-loop-i-preserved c = search (parts, pushes, rules)
+pub loop-r-preserved : goal.loop-r-preserved
+loop-r-preserved c = turn pushed_release _ _ _ _ c.loop-r-test.true c.push_release-now.ensures c.loop-r.invariant
 
 pub returns : goal.returns
-returns c = search (parts, pushes, rules)
+returns c = rest_end pushed_release _ _ c.loop-r-test.false c.loop-r.invariant

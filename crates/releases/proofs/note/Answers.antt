@@ -1,17 +1,12 @@
--- `note` meets its contract: by tests.
-use Rattle.lists.specs.laws.Pick.{tests}
+-- `note` meets its contract: what is remembered, or what is forgotten.
+use Rattle.std.proofs.Common.{rules}
 use Rattle.state.specs.Edit.{noted_in}
-use borrow.Author.Rules.{rules}
 use Rattle.releases.proofs.note.Goals as goal
 
-pub returns-then-e : goal.returns-then-e
+pub returns-in-Some : goal.returns-in-Some
 unfolding noted_in
-returns-then-e c = search (tests, rules)
+returns-in-Some c = rw c.in-Some.is (search rules)
 
-pub returns-then-e-2 : goal.returns-then-e-2
+pub returns-in-None : goal.returns-in-None
 unfolding noted_in
-returns-then-e-2 c = search (tests, rules)
-
-pub returns : goal.returns
-unfolding noted_in
-returns c = search (tests, rules)
+returns-in-None c = rw c.in-None.is c.forget_entering.ensures

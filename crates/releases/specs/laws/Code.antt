@@ -1,72 +1,71 @@
 -- Laws: between the code and the definitions, arm by arm.
-use Rattle.std.specs.Prelude.{ℕ, ◌+◌, ◌*◌, ◌-◌, ◌≤◌, ◌<◌, min, Bool, not, ◌&&◌, ◌||◌, ◌≡◌, eqb, leb, get_or, take, set}
+use Rattle.std.specs.Prelude.{ℕ, suc, ◌+◌, ◌*◌, ◌-◌, ◌≤◌, ◌<◌, min, Bool, not, ◌&&◌, ◌||◌, ◌≡◌, eqb, get_or, take}
 use Rattle.std.proofs.Math.Bool.{true, false}
 use mathlib.Core.List.{List, [], ◌∷◌, ◌++◌, append_assoc, append-nil}
 use Rattle.std.proofs.Math.Path.{refl, sym, ap}
-use Rattle.std.proofs.Common.{ap₂, ◌∙◌, subst, take-append-drop, drop_of_length-le, drop-drop, eq-eqb, eqb-true, ne_eqb, le-leb, leb-true, leb-false, lt-ltb, le-ltb}
+use Rattle.std.proofs.Common.{ap₂, ◌∙◌, add-one, drop-cons, take_all, take-append-drop, drop_of_length-le, drop-drop, eq-eqb, eqb-true, ne_eqb, le-leb, leb-true, lt-ltb, le-ltb, ltb-true, ltb-false}
 use native.Mathlib.Omega.{arith}
 use Rattle.std.proofs.Math.Dec.{ltb}
 use Rattle.std.proofs.Math.ListN.{length, drop, length-append, length-take, length-drop}
-use Rattle.std.proofs.lemmas.Bool.{eqb-false, not-true, not-false}
+use Rattle.std.proofs.lemmas.Bool.{eqb-false}
 use Rattle.lists.specs.Pick.{pick}
 use Rattle.lists.specs.All.{all_by, pairs_by}
 use Rattle.lists.specs.Fold.{fold}
 use Rattle.lists.specs.Filter.{filter_by}
 use Rattle.lists.specs.Place.{place_by}
 use Rattle.lists.specs.Row.{keep_row}
-use Rattle.lists.specs.laws.All.{AllInv, all_rest, all_broken, all_next}
-use Rattle.lists.specs.laws.Next.{NextInv, next_start, next_is_pairs}
-use Rattle.lists.specs.laws.Part.{PartInv, cut_take}
-use Rattle.lists.specs.laws.Pick.{pick_lt, pick_not_lt, pick_yes, pick_no, pick_true, pick_false, pick_eq_got, pick_not_eq_got}
-use Rattle.lists.specs.laws.Place.{PlaceInv, place_found, place_end}
+use Rattle.lists.specs.Next.{next_by}
+use Rattle.lists.specs.laws.Part.{cut_take}
+use Rattle.lists.specs.laws.Rest.{all_behind, next_within}
+use Rattle.lists.specs.laws.Pick.{pick_yes, pick_no}
 use Rattle.lists.specs.laws.Row.{row_filtered}
-use Rattle.identifier.specs.Order.{number_from, same_of}
+use Rattle.identifier.specs.Order.{number_from}
 use Rattle.state.specs.declared.Lease.{Lease}
 use Rattle.state.specs.declared.Release.{Release}
 use Rattle.state.specs.declared.TenantReleases.{TenantReleases}
-use Rattle.state.specs.Book.{laid_releases, pushed_release, release_id, remembered}
+use Rattle.state.specs.Book.{laid_releases, pushed_release, remembered}
 use Rattle.state.specs.Edit.{remember_of}
 use Rattle.state.specs.laws.Layout.{push_release_laid}
 use Rattle.soundness.specs.Sound.{zero_from}
 use Rattle.releases.specs.declared.ReleaseRules.{ReleaseRules}
-use Rattle.releases.specs.Again.{is_again, resend_time}
-use Rattle.releases.specs.Rules.{both_rules, differs, few_b, filled_b, broken_release, first_release, tenant_b, laid_b, length_b, not_leased, older, once_b, past_b, rules_at, unused_r}
+use Rattle.releases.specs.Rules.{both_rules, differs, few_b, filled_b, tenant_b, laid_b, length_b, not_leased, older, once_b, past_b, rules_at, unused_r}
 use Rattle.releases.specs.laws.Tenants.{six}
 
 pub not_is : {q p : Bool} → q ≡ p → not q ≡ not p
 not_is e = ap not e
 
 -- ---- a RELEASE sent again
-module _ (clock : ℕ) (i : List ℕ) (xid : ℕ) (r : Release) where
-  pub again_is : {q : Bool} → r.xid ≡ xid → clock < r.time + resend_time → q ≡ same_of (release_id r) i → q ≡ is_again clock i xid r
-  unfolding is_again
-  again_is {q} e h p = p ∙ sym (ap (λ (b : Bool). same_of (release_id r) i && b) (ap₂ (λ (x y : Bool). x && y) (eq-eqb r.xid xid e) (lt-ltb clock (r.time + resend_time) h)) ∙ true_r (same_of (release_id r) i))
-    where
-      true_r : (b : Bool) → (b && true) ≡ b
-      true_r true = refl
-      true_r false = refl
+-- whether one of a list passes, from what is left of it
+abbrev pub found : (Release → Bool) → List Release → Bool
+found t l = ltb (place_by t l) (length l)
 
-  last_false : (b : Bool) → false ≡ (b && false)
-  last_false true = refl
-  last_false false = refl
+ltb_suc : (a b : ℕ) → ltb (suc a) (suc b) ≡ ltb a b
+ltb_suc a b = go (ltb a b) refl
+  where
+    go : (c : Bool) → ltb a b ≡ c → ltb (suc a) (suc b) ≡ c
+    go true e = lt-ltb (suc a) (suc b) (let h = ltb-true a b e in omega arith)
+    go false e = le-ltb (suc a) (suc b) (let h = ltb-false a b e in omega arith)
 
-  pub again_other : (r.xid ≡ xid → ⊥) → false ≡ is_again clock i xid r
-  unfolding is_again
-  again_other n = last_false (same_of (release_id r) i) ∙ ap (λ (b : Bool). same_of (release_id r) i && (b && ltb clock (r.time + resend_time))) (sym (ne_eqb r.xid xid n))
+module _ (t : Release → Bool) (l : List Release) (i : ℕ) (d : Release) (h : i < length l) where
+  found_here : found t (drop i l) ≡ found t (get_or l i d ∷ drop (i + 1) l)
+  found_here = ap (found t) (drop-cons l i d h ∙ ap (λ (k : ℕ). get_or l i d ∷ drop k l) (sym (add-one i)))
 
-  pub again_late : r.time + resend_time ≤ clock → false ≡ is_again clock i xid r
-  unfolding is_again
-  again_late h =
-      last_false (same_of (release_id r) i) ∙ ap (λ (b : Bool). same_of (release_id r) i && b) (last_false (eqb r.xid xid))
-      ∙ ap (λ (b : Bool). same_of (release_id r) i && (eqb r.xid xid && b)) (sym (le-ltb clock (r.time + resend_time) h))
+  pub found_yes : {q w : Bool} → q ≡ t (get_or l i d) → q ≡ true → found t (drop i l) ≡ w → true ≡ w
+  unfolding place_by pick
+  found_yes f y p = sym (lt-ltb 0 (suc (length (drop (i + 1) l))) (omega arith)) ∙ ap (λ (b : Bool). ltb (pick b 0 (suc (place_by t (drop (i + 1) l)))) (suc (length (drop (i + 1) l)))) (sym y ∙ f) ∙ sym found_here ∙ p
 
--- one of the first x entries of four passes, or none
-module _ {t : Release → Bool} {d : Release} {l : List Release} {n i : ℕ} (x : ℕ) (v : PlaceInv t d l n (place_by t (take x l)) i) (e : n ≡ min x 4) (g : length l ≡ 4) where
-  pub any_yes : {q : Bool} → i < n → q ≡ t (get_or l i d) → q ≡ true → true ≡ ltb (place_by t (take x l)) (length (take x l))
-  any_yes h p y = let f = place_found v h p y in sym (lt-ltb (place_by t (take x l)) (length (take x l)) (let k = length-take x l in omega arith))
+  pub found_next : {q w : Bool} → q ≡ t (get_or l i d) → q ≡ false → found t (drop i l) ≡ w → found t (drop (i + 1) l) ≡ w
+  unfolding place_by pick
+  found_next f y p =
+      sym (ltb_suc (place_by t (drop (i + 1) l)) (length (drop (i + 1) l)))
+      ∙ ap (λ (b : Bool). ltb (pick b 0 (suc (place_by t (drop (i + 1) l)))) (suc (length (drop (i + 1) l)))) (sym y ∙ f) ∙ sym found_here ∙ p
 
-  pub any_no : n ≤ i → false ≡ ltb (place_by t (take x l)) (length (take x l))
-  any_no h = let f = place_end v h in sym (le-ltb (place_by t (take x l)) (length (take x l)) (let k = length-take x l in omega arith))
+pub found_none : (t : Release → Bool) (l : List Release) (i : ℕ) {w : Bool} → length l ≤ i → found t (drop i l) ≡ w → false ≡ w
+unfolding place_by
+found_none t l i h p = sym (ap (found t) (drop_of_length-le l {i = i} h)) ∙ p
+
+pub found_start : (t : Release → Bool) (l : List Release) {n : ℕ} (x : ℕ) → n ≡ min x 4 → length l ≡ 4 → found t (take n l) ≡ found t (take x l)
+found_start t l x e g = ap (λ (z : ℕ). found t (take z l)) e ∙ ap (found t) (cut_take 4 x l g)
 
 -- ---- remembering and forgetting
 -- one turn of a filter
@@ -77,32 +76,20 @@ pub forgotten_is : (t : Release → Bool) (x : ℕ) (l : List Release) → lengt
 unfolding kept_r
 forgotten_is t x l h = row_filtered 4 laid_releases pushed_release push_release_laid t x l h
 
--- the turns of the code: a release that a call passes is written behind the last one
-module _ (now : TenantReleases) (r : Release) where
-  pub pushed_in : now.count < 4 → ◌≡◌ {A = TenantReleases} (record { releases = set now.releases now.count r; count = now.count + 1 }) (pushed_release now r)
-  unfolding pushed_release
-  pushed_in h = pick_lt _ now _ _ 4 h refl
+-- a turn of the code
+pub turn : (f : TenantReleases → Release → TenantReleases) (l : List Release) (i : ℕ) (d : Release) (acc : TenantReleases) {r w : TenantReleases} → i < length l → r ≡ f acc (get_or l i d) → fold f acc (drop i l) ≡ w
+    → fold f r (drop (i + 1) l) ≡ w
+turn f l i d acc h u p =
+    ap (λ (b : TenantReleases). fold f b (drop (i + 1) l)) u ∙ sym (ap (fold f acc) (drop-cons l i d h ∙ ap (λ (k : ℕ). get_or l i d ∷ drop k l) (sym (add-one i)))) ∙ p
 
-  pub pushed_full : 4 ≤ now.count → now ≡ pushed_release now r
-  unfolding pushed_release
-  pushed_full h = pick_not_lt _ now _ _ 4 h refl
+module _ (now : TenantReleases) (r : Release) (u : Release → Bool) where
+  pub kept_in : {q : Bool} {z : TenantReleases} → q ≡ u r → q ≡ true → z ≡ pushed_release now r → z ≡ kept_r u now r
+  unfolding kept_r
+  kept_in e y p = pick_yes _ now _ e y p
 
-  module _ (u : Release → Bool) where
-    pub kept_in : {q : Bool} → q ≡ u r → q ≡ true → now.count < 4 → ◌≡◌ {A = TenantReleases} (record { releases = set now.releases now.count r; count = now.count + 1 }) (kept_r u now r)
-    unfolding kept_r
-    kept_in e y h = pick_yes _ now _ e y (pushed_in h)
-
-    pub kept_full : {q : Bool} → q ≡ u r → q ≡ true → 4 ≤ now.count → now ≡ kept_r u now r
-    unfolding kept_r
-    kept_full e y h = pick_yes _ now _ e y (pushed_full h)
-
-    pub kept_out : {q : Bool} → q ≡ u r → q ≡ false → now ≡ kept_r u now r
-    unfolding kept_r
-    kept_out e n = pick_no _ now _ e n refl
-
-pub ruleset turns = (kept_in, kept_full, kept_out)
-
-pub ruleset pushes = (pushed_in, pushed_full)
+  pub kept_out : {q : Bool} → q ≡ u r → q ≡ false → now ≡ kept_r u now r
+  unfolding kept_r
+  kept_out e n = pick_no _ now _ e n refl
 
 -- those from a place on
 laid_all : (p ls : List Release) → length p + length ls ≤ 4 → fold pushed_release (laid_releases p) ls ≡ laid_releases (p ++ ls)
@@ -110,15 +97,12 @@ laid_all p [] h = ap laid_releases (sym (append-nil p))
 laid_all p (r ∷ ls) h =
     ap (λ (x : TenantReleases). fold pushed_release x ls) (push_release_laid p r (omega arith)) ∙ laid_all (p ++ r ∷ []) ls (omega (arith, length-append p (r ∷ []))) ∙ ap laid_releases (append_assoc p (r ∷ []) ls)
 
-pub later_start : {d : Release} {l : List Release} {n from : ℕ} {now : TenantReleases} (x : ℕ) → now ≡ laid_releases [] → n ≡ min x 4 → length l ≡ 4 → from ≤ min x 4
-    → PartInv pushed_release d l n (laid_releases (drop from (take x l))) now from
-later_start {d} {l} {n} {from} {now} x e g h f = record {
-  within = omega arith;
-  long = omega arith;
-  whole =
-      ap₂ (λ (z : TenantReleases) (k : List Release). fold pushed_release z (drop from k)) e (ap (λ (z : ℕ). take z l) g ∙ cut_take 4 x l h)
-      ∙ laid_all [] (drop from (take x l)) (let a = length-take x l in let b = length-drop from (take x l) in omega arith);
-}
+pub later_start : (l : List Release) {n : ℕ} {now : TenantReleases} (x from : ℕ) → now ≡ laid_releases [] → n ≡ min x 4 → length l ≡ 4 → from ≤ min x 4
+    → fold pushed_release now (take (length (take n l) - from) (drop from (take n l))) ≡ laid_releases (drop from (take x l))
+later_start l {n} {now} x from e g h f =
+    ap₂ (λ (z : TenantReleases) (k : List Release). fold pushed_release z k) e
+    (take_all (length (take n l) - from) (drop from (take n l)) (omega (arith, length-drop from (take n l))) ∙ ap (drop from) (ap (λ (z : ℕ). take z l) g ∙ cut_take 4 x l h))
+    ∙ laid_all [] (drop from (take x l)) (let a = length-take x l in let b = length-drop from (take x l) in omega arith)
 
 module _ (q : TenantReleases) (r : Release) {y z : TenantReleases} (g : length q.releases ≡ 4) where
   pub remember_room : q.count < 4 → y ≡ laid_releases (drop 0 (remembered q)) → z ≡ pushed_release y r → z ≡ laid_releases (remember_of r (remembered q))
@@ -145,39 +129,20 @@ module _ (q : TenantReleases) (r : Release) {y z : TenantReleases} (g : length q
       first (x ∷ l) h = refl
 
 -- ---- the rules
-pub older_start : {d : Release} {l : List Release} {n : ℕ} (x k : ℕ) → n ≡ min x k → length l ≡ k → NextInv older d l n (pairs_by older (take x l)) 0
+pub older_within : (l : List Release) (x k n : ℕ) {r : Bool} → r ≡ next_by older (take n l) → n ≡ min x k → length l ≡ k → r ≡ pairs_by older (take x l)
 unfolding older
-older_start {d} {l} {n} x k e g = subst (λ (w : Bool). NextInv older d l n w 0) (next_is_pairs older trans (take x l)) (next_start x k e g)
+older_within l x k n e c g = next_within older trans l x k n c g e
   where
     trans : (x y z : Release) → older x y ≡ true → older y z ≡ true → older x z ≡ true
     trans x y z p q = le-leb x.time z.time (let a = leb-true x.time y.time p in let b = leb-true y.time z.time q in omega arith)
 
--- a count past the end leaves nothing behind it
-drop_cut : {A : Type 0} (x k n : ℕ) (l : List A) → n ≡ min x k → length l ≡ k → drop n l ≡ drop x l
-drop_cut x k n l e g = go (leb x k) refl
-  where
-    go : (b : Bool) → leb x k ≡ b → drop n l ≡ drop x l
-    go true p = let h = leb-true x k p in ap (λ (z : ℕ). drop z l) (let f : n ≡ x = omega arith in f)
-    go false p = let h = leb-false x k p in drop_of_length-le l {i = n} (omega arith) ∙ sym (drop_of_length-le l {i = x} (omega arith))
+-- what is behind a place, as a part of an array
+pub part_behind : {A : Type 0} (l : List A) (n : ℕ) → take (length l - n) (drop n l) ≡ drop n l
+part_behind l n = take_all (length l - n) (drop n l) (omega (arith, length-drop n l))
 
-pub rest_start : {A : Type 0} {t : A → Bool} {d : A} {l : List A} {n : ℕ} (x k : ℕ) → n ≡ min x k → length l ≡ k → AllInv t d l k (all_by t (drop x l)) n
-rest_start {t = t} {d = d} {l = l} {n = n} x k e g = subst (λ (w : Bool). AllInv t d l k w n) (ap (all_by t) (drop_cut x k n l e g)) (all_rest (omega arith) g)
-
--- octets that are 0
-module _ {d : ℕ} {l : List ℕ} {n : ℕ} {w : Bool} {i : ℕ} (v : AllInv (λ x. eqb x 0) d l n w i) where
-  pub zero_broken : i < n → (get_or l i d ≡ 0 → ⊥) → false ≡ w
-  zero_broken h z = all_broken v h refl (ne_eqb _ 0 z)
-
-  pub zero_next : i < n → get_or l i d ≡ 0 → AllInv (λ x. eqb x 0) d l n w (i + 1)
-  zero_next h z = all_next v h refl (eq-eqb _ 0 z)
-
-pub filled_start : {d : ℕ} {l : List ℕ} {n : ℕ} (x : ℕ) → n ≡ min x 32 → length l ≡ 32 → AllInv (λ x. eqb x 0) d l 32 (zero_from n l) n
-unfolding zero_from
-filled_start {l = l} x e g = all_rest (omega arith) g
-
-pub filled_is : (r : Release) (n : ℕ) {q : Bool} → n ≡ min r.id_len 32 → length r.id ≡ 32 → q ≡ zero_from n r.id → q ≡ filled_b r
+pub filled_is : (r : Release) (n : ℕ) {q : Bool} → n ≡ min r.id_len 32 → length r.id ≡ 32 → q ≡ all_by (λ x. eqb x 0) (take (length r.id - n) (drop n r.id)) → q ≡ filled_b r
 unfolding zero_from filled_b
-filled_is r n e g p = p ∙ ap (all_by (λ x. eqb x 0)) (drop_cut r.id_len 32 n r.id e g)
+filled_is r n e g p = all_behind (λ x. eqb x 0) r.id r.id_len 32 n (p ∙ ap (all_by (λ x. eqb x 0)) (part_behind r.id n)) e g
 
 -- eight octets are 0 where their number is
 word_zero : (w : ℕ) (l : List ℕ) → eqb (number_from w l) 0 ≡ (eqb w 0 && all_by (λ x. eqb x 0) l)
@@ -212,10 +177,18 @@ words_from a i =
     ap (all_by (λ x. eqb x 0)) (sym (take-append-drop 8 (drop i a))) ∙ all_parts (λ x. eqb x 0) (take 8 (drop i a)) (drop 8 (drop i a))
     ∙ ap₂ (λ (x y : Bool). x && y) (sym (word_zero 0 (take 8 (drop i a)))) (ap (all_by (λ x. eqb x 0)) (drop-drop 8 i a))
 
-pub zeros_are : (a : List ℕ) {q : Bool} → length a ≡ 32 → q ≡ (word0 0 a && (word0 8 a && (word0 16 a && word0 24 a))) → q ≡ zero_from 0 a
+four : (a b c d : Bool) → (((a && b) && c) && d) ≡ (a && (b && (c && d)))
+four true true c d = refl
+four true false c d = refl
+four false b c d = refl
+
+pub zeros_are : (a : List ℕ) {w x y z : ℕ} → length a ≡ 32 → w ≡ number_from 0 (take 8 (drop 0 a)) → x ≡ number_from 0 (take 8 (drop 8 a)) → y ≡ number_from 0 (take 8 (drop 16 a)) → z ≡ number_from 0 (take 8 (drop 24 a))
+    → (((eqb w 0 && eqb x 0) && eqb y 0) && eqb z 0) ≡ zero_from 0 a
 unfolding zero_from all_by
-zeros_are a {q} g p =
-    p ∙ sym (words_from a 0 ∙ ap (λ (b : Bool). word0 0 a && b) (words_from a 8 ∙ ap (λ (b : Bool). word0 8 a && b) (words_from a 16 ∙ ap (λ (b : Bool). word0 16 a && b)
+zeros_are a {w} {x} {y} {z} g ew ex ey ez =
+    (let e : (((eqb w 0 && eqb x 0) && eqb y 0) && eqb z 0) ≡ (((word0 0 a && word0 8 a) && word0 16 a) && word0 24 a) = cc in e)
+    ∙ four (word0 0 a) (word0 8 a) (word0 16 a) (word0 24 a)
+    ∙ sym (words_from a 0 ∙ ap (λ (b : Bool). word0 0 a && b) (words_from a 8 ∙ ap (λ (b : Bool). word0 8 a && b) (words_from a 16 ∙ ap (λ (b : Bool). word0 16 a && b)
     (words_from a 24 ∙ ap (λ (l : List ℕ). word0 24 a && all_by (λ x. eqb x 0) l) (drop_of_length-le a {i = 32} (omega arith)) ∙ true_r (word0 24 a)))))
   where
     true_r : (b : Bool) → (b && true) ≡ b
@@ -223,12 +196,6 @@ zeros_are a {q} g p =
     true_r false = refl
 
 -- ---- all rules
-pub some_are : (n clock h : ℕ) (ls : List Lease) (q : TenantReleases) {a c d e f : Bool} → a ≡ tenant_b n h q → c ≡ all_by length_b (remembered q) → d ≡ once_b ls q
-    → e ≡ all_by (past_b clock) (remembered q) → f ≡ laid_b q
-    → ◌≡◌ {A = ReleaseRules} (record { tenants = a; few = leb q.count 4; lengths = c; once = d; times = e; layout = f }) (rules_at n clock h ls q)
-unfolding rules_at few_b
-some_are n clock h ls q p r s u v = six p refl r s u v
-
 pub none_are : (n clock h : ℕ) (ls : List Lease) (q : TenantReleases) {f : Bool} → q.count ≡ 0 → f ≡ all_by unused_r (drop q.count q.releases)
     → ◌≡◌ {A = ReleaseRules} (record { tenants = true; few = true; lengths = true; once = true; times = true; layout = f }) (rules_at n clock h ls q)
 unfolding rules_at tenant_b few_b once_b laid_b all_by pairs_by
@@ -246,27 +213,5 @@ none_are n clock h ls q {f} e p =
     tenant true = refl
     tenant false = sym (eq-eqb q.count 0 e)
 
-pub both_are : (a x : ReleaseRules) {p q u r v w : Bool} → p ≡ (a.tenants && x.tenants) → q ≡ (a.few && x.few) → u ≡ (a.lengths && x.lengths) → r ≡ (a.once && x.once)
-    → v ≡ (a.times && x.times) → w ≡ (a.layout && x.layout)
-    → ◌≡◌ {A = ReleaseRules} (record { tenants = p; few = q; lengths = u; once = r; times = v; layout = w }) (both_rules a x)
-unfolding both_rules
-both_are a x f g h i j k = six f g h i j k
-
 pub added_is : (a x r : ReleaseRules) {y : ReleaseRules} → x ≡ y → r ≡ both_rules a x → r ≡ both_rules a y
 added_is a x r e p = p ∙ ap (both_rules a) e
-
--- the first broken rule, from the first that a file can break and the layout
-module _ (r : ReleaseRules) {n : ℕ} (e : n ≡ first_release r) where
-  pub first_file : (n ≡ 0 → ⊥) → n ≡ broken_release r
-  unfolding broken_release
-  first_file h = pick_not_eq_got _ _ _ _ _ e h e
-
-  pub first_layout : n ≡ 0 → r.layout ≡ false → 19 ≡ broken_release r
-  unfolding broken_release
-  first_layout h b = pick_eq_got _ _ _ _ _ e h (pick_false _ _ _ _ b refl)
-
-  pub first_none : n ≡ 0 → r.layout ≡ true → 0 ≡ broken_release r
-  unfolding broken_release
-  first_none h b = pick_eq_got _ _ _ _ _ e h (pick_true _ _ _ _ b refl)
-
-pub ruleset firsts = (first_file, first_layout, first_none, not-true, not-false)

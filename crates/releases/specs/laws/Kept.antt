@@ -1,6 +1,7 @@
 -- Laws: what keeps the rules on what is remembered: each kind of edit.
+use Rattle.std.specs.Prelude.{Option, None, Some, IfSome, Bool, false, not, ◌&&◌, ◌||◌, ◌≡◌, leb, ltb, get_or, drop, replicate}
+use Rattle.std.specs.Option.{option_map_or}
 use Prim.Native.Nat.{ℕ, zero, suc, ◌-◌, ◌≤◌, ◌<◌}
-use Rattle.std.specs.Prelude.{Bool, false, not, ◌&&◌, ◌||◌, ◌≡◌, leb, ltb, get_or, drop, replicate}
 use Rattle.std.proofs.Math.Bool.{true}
 use mathlib.Core.List.{List, [], ◌∷◌, ◌++◌}
 use Rattle.std.proofs.Math.Path.{refl, ap}
@@ -184,24 +185,24 @@ remember_good clock ls r q len fill now free new v =
     with_last t p = all_both (λ a. t a r) (λ a. t a r) (λ a. all_by (t a) (r ∷ [])) q (λ a x y. one (t a) r x) p p
 
 -- ---- the leases after an edit: those that were there, and the new one
-edited_all : (u : Lease → Bool) (e : Edit) (t : TenantLeases) → u e.new ≡ true → all_by u (in_use t) ≡ true → all_by u (in_use (edited_in e t)) ≡ true
+edited_all : (u : Lease → Bool) (e : Edit) (t : TenantLeases) → IfSome e.enters (λ l. u l ≡ true) → all_by u (in_use t) ≡ true → all_by u (in_use (edited_in e t)) ≡ true
 unfolding edited_by left_in inserted_by pick remove_of
-edited_all u e t new h = enter e.enters (pick e.leaves (laid_out (remove_of (id_of e.old) (in_use t))) t) (leave e.leaves)
+edited_all u e t new h = enter e.enters new (left_in e t) (leave e.leaves)
   where
     laid : (l : List Lease) → all_by u l ≡ true → all_by u (in_use (laid_out l)) ≡ true
     laid l p = ap (all_by u) (read_back l) ∙ p
 
-    leave : (c : Bool) → all_by u (in_use (pick c (laid_out (remove_of (id_of e.old) (in_use t))) t)) ≡ true
-    leave true = laid (remove_of (id_of e.old) (in_use t)) (filter_all u (other (id_of e.old)) (in_use t) h)
-    leave false = h
+    leave : (c : Option Lease) → all_by u (in_use (option_map_or (λ x. laid_out (remove_of (id_of x) (in_use t))) c t)) ≡ true
+    leave (Some x) = laid (remove_of (id_of x) (in_use t)) (filter_all u (other (id_of x)) (in_use t) h)
+    leave None = h
 
-    inserted : (c : Bool) (x : TenantLeases) → all_by u (in_use x) ≡ true → all_by u (in_use (pick c (laid_out (insert_of e.new (in_use x))) x)) ≡ true
-    inserted true x p = laid (insert_of e.new (in_use x)) (reordered_all u (insert_same e.new (in_use x)) ∙ all_cons u e.new (in_use x) new p)
-    inserted false x p = p
+    inserted : (l : Lease) → u l ≡ true → (c : Bool) (x : TenantLeases) → all_by u (in_use x) ≡ true → all_by u (in_use (pick c (laid_out (insert_of l (in_use x))) x)) ≡ true
+    inserted l n true x p = laid (insert_of l (in_use x)) (reordered_all u (insert_same l (in_use x)) ∙ all_cons u l (in_use x) n p)
+    inserted l n false x p = p
 
-    enter : (c : Bool) (x : TenantLeases) → all_by u (in_use x) ≡ true → all_by u (in_use (pick c (inserted_in e.new x) x)) ≡ true
-    enter true x p = inserted (ltb (length (in_use x)) 16) x p
-    enter false x p = p
+    enter : (c : Option Lease) → IfSome c (λ l. u l ≡ true) → (x : TenantLeases) → all_by u (in_use x) ≡ true → all_by u (in_use (option_map_or (λ l. inserted_in l x) c x)) ≡ true
+    enter (Some l) n x p = inserted l n (ltb (length (in_use x)) 16) x p
+    enter None n x p = p
 
 left_is : (o : Lease) (x c : ℕ) (t : TenantLeases) → in_use (edited_in (leaving o x c) t) ≡ remove_of (id_of o) (in_use t)
 unfolding edited_by left_in pick
@@ -236,27 +237,26 @@ module _ (b : Book) (h : ℕ) (known : h < tenants_in b.state) (there : h < leng
   own_good = good_of (tenants_in b.state) b.state.clock h (own_leases b.table h) (releases_at b.memory h) own
 
   -- a new record, which forgets its identifier; one that stood before may have left
-  forgetting_kept : (leaves : Bool) (o l : Lease)
-      → memory_good (edited_book (record { leaves = leaves; old = o; enters = true; new = l; forgets = true; remembers = false; release = zero_release }) h b) ≡ true
+  forgetting_kept : (o : Option Lease) (l : Lease) → memory_good (edited_book (record { leaves = o; enters = Some l; forgets = true; remembers = None }) h b) ≡ true
   unfolding noted_in pick not_leased
-  forgetting_kept leaves o l =
+  forgetting_kept o l =
       edited_kept e
       (laid_holds (tenants_in b.state) b.state.clock h after (forget_of (id_of l) (remembered (releases_at b.memory h))) known
       (forget_good b.state.clock (own_leases b.table h) after (id_of l) (remembered (releases_at b.memory h))
       (λ r p q. edited_all (other (release_id r)) e (tenant_at b.table h) (sym (turned r l) ∙ p) q) own_good))
     where
       e : Edit
-      e = record { leaves = leaves; old = o; enters = true; new = l; forgets = true; remembers = false; release = zero_release }
+      e = record { leaves = o; enters = Some l; forgets = true; remembers = None }
 
       after : List Lease
       after = in_use (edited_in e (tenant_at b.table h))
 
   pub entering_kept : (l : Lease) → memory_good (edited_book (entering l) h b) ≡ true
-  entering_kept l = forgetting_kept false zero_lease l
+  entering_kept l = forgetting_kept None l
 
   -- the same after a hold is dropped
   pub dropping_entering_kept : (o l : Lease) → memory_good (edited_book (dropping_first o (entering l)) h b) ≡ true
-  dropping_entering_kept o l = forgetting_kept true o l
+  dropping_entering_kept o l = forgetting_kept (Some o) l
 
   -- a hold is dropped, and nothing else
   pub dropping_kept : (o : Lease) → memory_good (edited_book (dropping_first o no_edit) h b) ≡ true

@@ -1,20 +1,10 @@
--- `held_sets` meets its contract: by parts, held-are.
-use Rattle.lists.specs.laws.Part.{parts}
+-- `held_sets` meets its contract: the sets of each lease, gathered.
+use Rattle.std.proofs.Common.{rules}
+use Rattle.lists.specs.laws.Part.{unmapped}
+use Rattle.lists.specs.laws.Rest.{rest_start}
+use Rattle.soundness.specs.Parts.{added_sets}
 use Rattle.soundness.specs.laws.Code.{held_are}
-use borrow.Author.Rules.{rules}
 use Rattle.soundness.proofs.held_sets.Goals as goal
 
-pub cut16-n-requires : goal.cut16-n-requires
-cut16-n-requires c = search (parts, rules)
-
-pub loop-i-init : goal.loop-i-init
-loop-i-init c = search (parts, held_are, rules)
-
-pub add_sets-now-requires : goal.add_sets-now-requires
-add_sets-now-requires c = search (parts, rules)
-
-pub loop-i-preserved : goal.loop-i-preserved
-loop-i-preserved c = search (parts, rules)
-
-pub returns : goal.returns
-returns c = search (parts, rules)
+pub loop-l-init : goal.loop-l-init
+loop-l-init c = rest_start added_sets c.args.t.leases _ c.args.t.count 16 (search rules) (search (unmapped, rules)) (held_are c.args.t)

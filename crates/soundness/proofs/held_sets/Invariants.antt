@@ -1,11 +1,7 @@
-use Prim.Native.Nat.{◌-◌}
-use Rattle.lists.specs.laws.Part.{PartInv}
+use Rattle.std.proofs.Common.{◌≡◌, drop}
+use Rattle.lists.specs.Fold.{fold}
 use Rattle.soundness.specs.Parts.{added_sets, held_sets}
-use Rattle.state.specs.laws.Layout.{no_lease}
 use Rattle.soundness.proofs.held_sets.Given as goal
 
-abbrev pub invariant-loop-i : goal.invariant-loop-i
-invariant-loop-i l = PartInv added_sets no_lease l.t.leases l.n (held_sets l.t) l.now l.i
-
-abbrev pub decreases-loop-i : goal.decreases-loop-i
-decreases-loop-i l = l.n - l.i
+abbrev pub invariant-loop-l : goal.invariant-loop-l
+invariant-loop-l l = fold added_sets l.held (drop l.l-index l.l-items) ≡ held_sets l.fn.t

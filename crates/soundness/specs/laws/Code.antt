@@ -4,14 +4,13 @@ use Rattle.std.specs.Prelude.{Bool, ◌&&◌, not, List, [], ◌∷◌, map, len
 use Rattle.std.proofs.Math.Bool.{true, false}
 use Rattle.std.proofs.Math.Dec.{leb, eqb, ltb}
 use Rattle.std.proofs.Math.ListN.{get_or}
-use Rattle.std.proofs.Common.{drop_of_length-le, length-take, ◌∙◌, subst, drop-cons, take-take, add-one, pow_pos, pow_mono}
+use Rattle.std.proofs.Common.{drop_of_length-le, length-take, ◌∙◌, drop-cons, take-take, add-one, pow_pos, pow_mono}
 use Rattle.lists.specs.All.{all_by, pairs_by, all_to}
 use Rattle.address_set.specs.AddressSet.{offsets, set_of, up_to}
 use Rattle.state.specs.declared.Lease.{Lease}
 use Rattle.state.specs.declared.TenantLeases.{TenantLeases}
 use Rattle.state.specs.declared.LeaseTable.{LeaseTable}
 use Rattle.state.specs.declared.Scope.{Scope}
-use Rattle.state.specs.declared.ClientRange.{ClientRange}
 use Rattle.state.specs.declared.State.{State}
 use Rattle.state.specs.Book.{differ, in_use, in_scope, held_of, added_if, scope_at, limit_at, committed_sum, id_of, ordered, scopes_of, addresses_of, union_all, reserve_at, committed, until}
 use Rattle.soundness.specs.declared.ScopeRules.{ScopeRules}
@@ -28,23 +27,18 @@ use Rattle.std.proofs.Math.Path.{refl, sym, ap, ap₂}
 use native.Mathlib.Omega.{arith}
 use Rattle.std.specs.Int.Bits.{bit_or, or_add_and, or_zero_r}
 use Rattle.std.proofs.lemmas.Nat.{and_le_r, and_le_l}
-use borrow.Author.Tests.{eq-eqb, ne_eqb, eqb-true, eqb-false, lt-ltb, ltb-true, ltb-false, le-leb, lt-leb, leb-true, leb-false, not-false, not-true}
+use borrow.Author.Tests.{eq-eqb, ne_eqb, eqb-true, eqb-false, lt-ltb, ltb-true, ltb-false, le-leb, lt-leb, leb-true, leb-false, not-true}
 use Rattle.lists.specs.Pick.{pick}
-use Rattle.lists.specs.laws.Pick.{pick_eq_got, pick_false, pick_not_eq_got, pick_true}
+use Rattle.lists.specs.laws.Pick.{pick_eq_got, pick_true}
 use Rattle.lists.specs.Fold.{fold}
 use Rattle.lists.specs.laws.All.{all_map, pairs_map, pairs_same, all_both, pairs_head, pairs_cons}
 use Rattle.lists.specs.Filter.{filter_by}
 use Rattle.state.specs.laws.Sets.{added_is}
-use Rattle.state.proofs.Sorted.{rising}
 use Rattle.identifier.specs.Order.{number_from, Octets, same_of}
 use Rattle.identifier.specs.laws.Order.{same_true}
 use Rattle.address_set.specs.laws.Bits.{length_offsets}
 use Rattle.address_set.specs.laws.Offsets.{up_to_ones, below_bits}
-use Rattle.lists.specs.laws.Next.{NextInv, next_start, next_is_pairs}
-use Rattle.soundness.specs.Parts.{scope_rules_of, and_scopes, scopes_all, tenant_rules_of, both_tenants, added_sets, none_h, holding_rules_in, table_rules_of, joined_rules, tenants_all, no_held, held_sets, holdings_of, set_at, apart_sets, size_in, count_in, limit_in, limits_in, committed_in, settings_rules_of, first_end_in, unlike, word_of}
-
-abbrev pub no_range : ClientRange
-no_range = record { low = 0; high = 0 }
+use Rattle.soundness.specs.Parts.{and_scopes, scopes_all, tenant_rules_of, both_tenants, added_sets, none_h, holding_rules_in, table_rules_of, joined_rules, tenants_all, no_held, held_sets, holdings_of, set_at, apart_sets, size_in, count_in, limit_in, limits_in, committed_in, settings_rules_of, first_end_in, unlike, word_of}
 
 -- ---- tenants
 
@@ -78,9 +72,6 @@ pub record ZeroInv (l : List ℕ) (k n : ℕ) (w : Bool) (any i : ℕ) : Type 0 
   pub within : i ≤ k
   pub long : length l ≡ k
   pub whole : (eqb any 0 && zero_from (max i n) l) ≡ w
-
-pub zero_start : {l : List ℕ} {k : ℕ} (n : ℕ) → length l ≡ k → ZeroInv l k n (zero_from n l) 0 0
-zero_start {l = l} n e = record { within = omega arith; long = e; whole = ap (λ (x : ℕ). zero_from x l) (let q : max 0 n ≡ n = omega arith in q) }
 
 zero_step : (l : List ℕ) (i : ℕ) → i < length l → zero_from i l ≡ (eqb (get_or l i 0) 0 && zero_from (i + 1) l)
 unfolding zero_from all_by pick
@@ -122,11 +113,6 @@ module _ {l : List ℕ} {k n : ℕ} {w : Bool} {any i : ℕ} (v : ZeroInv l k n 
   pub zero_end : k ≤ i → eqb any 0 ≡ w
   zero_end h = sym (and_true_r (eqb any 0)) ∙ ap (λ (b : Bool). eqb any 0 && b) (sym (zero_end_all l (max i n) (let g = v.long in omega arith))) ∙ v.whole
 
-pub ruleset zeros = (zero_start, zero_next, zero_end)
-
-pub leb_left : (a b c : ℕ) → a ≡ b → leb a c ≡ leb b c
-leb_left a b c e = ap (λ (x : ℕ). leb x c) e
-
 -- ---- all of a list, one test at a time
 pub and_more : (a b r : Bool) → ((a && b) && r) ≡ (a && pick b r false)
 unfolding pick
@@ -151,18 +137,6 @@ scopes_from n a (c ∷ l) =
 pub scopes_are : (n : ℕ) (l : List Scope) → fold (and_scopes n) (record { sizes = true; pools = true; ttls = true; reserves = true; tails = true }) l ≡ scopes_all n l
 unfolding scopes_all
 scopes_are n l = scopes_from n _ l
-
-pub scope_is : (n : ℕ) (c : Scope) {p q r t : Bool} → p ≡ size_b c → q ≡ pool_b c → r ≡ reserves_b n c → t ≡ tail_b n c
-    → ◌≡◌ {A = ScopeRules} (record { sizes = p; pools = q; ttls = ltb 0 c.ttl; reserves = r; tails = t }) (scope_rules_of n c)
-unfolding scope_rules_of ttl_b
-scope_is n c e f g h = cc
-
-pub scope_and : (n : ℕ) (a x : ScopeRules) (c : Scope) {p q u r t : Bool} → x ≡ scope_rules_of n c
-    → p ≡ (a.sizes && x.sizes) → q ≡ (a.pools && x.pools) → u ≡ (a.ttls && x.ttls) → r ≡ (a.reserves && x.reserves) → t ≡ (a.tails && x.tails)
-    → ◌≡◌ {A = ScopeRules} (record { sizes = p; pools = q; ttls = u; reserves = r; tails = t }) (and_scopes n a c)
-unfolding scope_rules_of and_scopes
-scope_and n a x c e f g h i j =
-    cc (ap (λ (y : ScopeRules). y.sizes) e, ap (λ (y : ScopeRules). y.pools) e, ap (λ (y : ScopeRules). y.ttls) e, ap (λ (y : ScopeRules). y.reserves) e, ap (λ (y : ScopeRules). y.tails) e)
 
 -- ---- a lease
 lt_le : (m k : ℕ) → 0 < k → leb m (k - 1) ≡ ltb m k
@@ -189,17 +163,6 @@ pool_is s l k pool c h ek ec ep =
         ap (λ (x : ℕ). ltb l.addresses (2 ^ x)) (let q : min n 64 ≡ 64 = omega arith in q) ∙ lt-ltb _ _ h ∙ sym (lt-ltb l.addresses (2 ^ n) (omega arith))
 
 -- ---- two leases
-pub differ_no : (a b : Lease) {q : Bool} → q ≡ same_of (id_of a) (id_of b) → q ≡ true → false ≡ differ a b
-unfolding differ
-differ_no a b e y = ap not (sym y ∙ e)
-
-pub differ_yes : (a b : Lease) {q : Bool} → q ≡ same_of (id_of a) (id_of b) → q ≡ false → true ≡ differ a b
-unfolding differ
-differ_yes a b e n = ap not (sym n ∙ e)
-
-pub rise_start : {d : Lease} {l : List Lease} {n : ℕ} (x k : ℕ) → n ≡ min x k → length l ≡ k → NextInv ordered d l n (pairs_by ordered (take x l)) 0
-rise_start {d = d} {l = l} {n = n} x k e g = subst (λ (w : Bool). NextInv ordered d l n w 0) (next_is_pairs ordered rising.trans (take x l)) (next_start x k e g)
-
 -- identifiers whose first octets differ
 unlike_differ : (a b : Lease) → unlike (word_of a) (word_of b) ≡ true → differ a b ≡ true
 unfolding unlike word_of differ
@@ -240,10 +203,6 @@ unfolding word_of pick
 word_short l h =
     let k = length-take l.id_len l.id in
     sym (ap (λ (b : Bool). pick b (number_from 0 (take 8 (id_of l))) 0) (lt-leb 8 (length (id_of l)) (omega arith)))
-
-pub unlike_is : (a b : ℕ) → not (eqb a b) ≡ unlike a b
-unfolding unlike
-unlike_is a b = refl
 
 -- ---- tenants
 seven : {p p' q q' u u' w w' r r' t t' v v' : Bool} → p ≡ p' → q ≡ q' → u ≡ u' → w ≡ w' → r ≡ r' → t ≡ t' → v ≡ v'
@@ -302,13 +261,6 @@ pub tenant_is : (s : State) (t : TenantLeases) {rising ids padded p q u x r v w 
 unfolding tenant_rules_of records_b layout_by
 tenant_is s t ei ep er p q u x r v w =
     seven (p ∙ ap (λ (x : Bool). leb t.count 16 && x) ei) q u x r v (w ∙ ap₂ (λ (x y : Bool). x && (y && all_by unused_b (drop t.count t.leases))) er ep)
-
-pub tenant_both : (a x : TenantRules) {p q u y r v w : Bool}
-    → p ≡ (a.records && x.records) → q ≡ (a.offsets && x.offsets) → u ≡ (a.leases && x.leases) → y ≡ (a.holds && x.holds) → r ≡ (a.identifiers && x.identifiers) → v ≡ (a.periods && x.periods)
-    → w ≡ (a.layout && x.layout)
-    → ◌≡◌ {A = TenantRules} (record { records = p; offsets = q; leases = u; holds = y; identifiers = r; periods = v; layout = w }) (both_tenants a x)
-unfolding both_tenants
-tenant_both a x f g h i j k l = seven f g h i j k l
 
 pub tenant_and : (s : State) (a x r : TenantRules) (t : TenantLeases) → x ≡ tenant_rules_of s t → r ≡ both_tenants a x → r ≡ and_tenants s a t
 unfolding and_tenants both_tenants tenant_rules_of
@@ -397,9 +349,6 @@ committed_at h c k g d t e ed p = p ∙ ap (λ (x : ℕ). max x (reserve_at c g)
 pub count_few : (m : ℕ) {r : ℕ} → r ≡ length (offsets m) → r ≤ 64
 count_few m e = let f = length_offsets m in omega arith
 
-pub limit_is : (d l y : ℕ) → l ≡ y → leb d l ≡ leb d y
-limit_is d l y q = ap (leb d) q
-
 pub committed_ok_is : (s : State) (h : HeldTable) (n k sum : ℕ) (c : Scope) {q : Bool} → q ≡ leb sum c.size → c ≡ scope_at s k → sum ≡ committed_sum c n (count_in h k) → q ≡ committed_in s h n k
 unfolding committed_in
 committed_ok_is s h n k sum c eq e p = eq ∙ ap (λ (x : ℕ). leb x c.size) p ∙ ap (λ (x : Scope). leb (committed_sum x n (count_in h k)) x.size) e
@@ -472,46 +421,14 @@ pub table_is : (s : State) (b : LeaseTable) (all : TenantRules) (h : HeldTable) 
 unfolding table_rules_of
 table_is s b all h p q = ap₂ {C = TableRules} (λ (x : TenantRules) (y : HeldTable). record { rules = x; held = y }) p (holdings_are b h q)
 
-pub joined_is : (a : SettingsRules) (b : TenantRules) (c : HoldingRules) {limit lease layout : Bool}
-    → limit ≡ (a.counts && b.records) → lease ≡ (c.tenants && b.leases) → layout ≡ (a.unused && b.layout)
-    → ◌≡◌ {A = Rules} (record {
-      limits = limit;
-      offsets = b.offsets;
-      ranges = a.ranges;
-      pools = a.pools;
-      ttls = a.ttls;
-      reserves = a.reserves;
-      leases = lease;
-      identifiers = b.identifiers;
-      owners = c.owners;
-      periods = b.periods;
-      holdings = c.holdings;
-      commitments = c.commitments;
-      holds = b.holds;
-      layout = layout;
-    }) (joined_rules a b c)
-unfolding joined_rules
-joined_is a b c p q r = cc
-
 pub joined_all : (s : State) (t : LeaseTable) → joined_rules (settings_rules_of s) (tenants_all s t) (holding_rules_of s t) ≡ rules_of s t
 unfolding joined_rules rules_by settings_rules_of tenants_all holding_rules_of rule1 rule2 rule7 rule8 rule10 rule13 rule19_by
 joined_all s t = refl
 
--- the first broken rule, from the first that a file can break and the layout
 module _ (r : Rules) {n : ℕ} (e : n ≡ first_rule r) where
-  pub first_file : (n ≡ 0 → ⊥) → n ≡ first_broken r
-  unfolding first_broken
-  first_file h = pick_not_eq_got _ _ _ _ _ e h e
-
-  pub first_layout : n ≡ 0 → r.layout ≡ false → 19 ≡ first_broken r
-  unfolding first_broken
-  first_layout h b = pick_eq_got _ _ _ _ _ e h (pick_false _ _ _ _ b refl)
-
   pub first_none : n ≡ 0 → r.layout ≡ true → 0 ≡ first_broken r
   unfolding first_broken
   first_none h b = pick_eq_got _ _ _ _ _ e h (pick_true _ _ _ _ b refl)
-
-pub ruleset firsts = (first_file, first_layout, first_none, not-true, not-false)
 
 pub broken_is : (s : State) (t : LeaseTable) (r : Rules) {x : ℕ} → r ≡ rules_of s t → x ≡ first_broken r → x ≡ broken_of s t
 unfolding broken_by

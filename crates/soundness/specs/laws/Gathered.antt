@@ -1,17 +1,18 @@
 -- Laws: a tenant's rules and sets gathered in one loop; leases on addresses of their own are compatible.
-use Rattle.std.specs.Prelude.{ℕ, zero, suc, ◌+◌, ◌-◌, ◌^◌, ◌≤◌, ◌<◌, min, ◌≡◌, Bool, ◌&&◌, List, [], ◌∷◌, leb, ltb, length, take, drop, get_or}
+use Rattle.std.specs.Prelude.{ℕ, zero, suc, ◌+◌, ◌-◌, ◌^◌, ◌≤◌, ◌<◌, min, ◌≡◌, Bool, ◌&&◌, List, [], ◌∷◌, leb, ltb, length, take, get_or}
 use Rattle.std.proofs.Math.Path.{refl, ap}
-use Rattle.std.proofs.Common.{sym, ap₂, ◌∙◌, drop_of_length-le}
+use Rattle.std.proofs.Common.{sym, ap₂, ◌∙◌}
 use Rattle.std.proofs.Math.Bool.{true, false}
 use native.Mathlib.Omega.{arith}
 use Rattle.std.specs.Int.Bits.{bit_or}
 use Rattle.std.proofs.Math.ListN.{get_or-eq_default}
-use borrow.Author.Tests.{ltb-true, leb-true, leb-false}
+use borrow.Author.Tests.{ltb-true, leb-true}
 use Rattle.lists.specs.Pick.{pick}
 use Rattle.lists.specs.Fold.{fold}
 use Rattle.lists.specs.All.{all_by, pairs_by}
 use Rattle.lists.specs.laws.All.{all_cons, all_both, pairs_cons}
-use Rattle.lists.specs.laws.Next.{NextInv, next_next, next_end}
+use Rattle.lists.specs.Next.{next_by}
+use Rattle.lists.specs.laws.Rest.{next_first, next_within}
 use Rattle.lists.specs.laws.Both.{and_parts, and_both}
 use Rattle.address_set.specs.AddressSet.{bit, set_of, up_to}
 use Rattle.address_set.specs.laws.Bits.{or_bit}
@@ -20,16 +21,15 @@ use Rattle.state.specs.declared.TenantLeases.{TenantLeases}
 use Rattle.state.specs.declared.Scope.{Scope}
 use Rattle.state.specs.declared.State.{State}
 use Rattle.state.specs.Book.{differ, in_use, in_scope, overlaps, added_if, ordered, scope_at, until, zero_scope}
-use Rattle.state.specs.laws.Layout.{no_lease}
-use Rattle.state.proofs.Sorted.{early}
+use Rattle.state.proofs.Sorted.{early, rising}
 use Rattle.soundness.specs.declared.Held.{Held}
 use Rattle.soundness.specs.declared.TenantRules.{TenantRules}
 use Rattle.soundness.specs.declared.Gathered.{Gathered}
 use Rattle.soundness.specs.declared.Checked.{Checked}
 use Rattle.soundness.specs.declared.Pass.{Pass}
-use Rattle.soundness.specs.Sound.{one_to, disjoint, compatible, below_b, scope_of, id_b, offsets_b, lease_b, padded_b, unused_b, hold_b}
+use Rattle.soundness.specs.Sound.{one_to, disjoint, compatible, below_b, scope_of, id_b, offsets_b, lease_b, padded_b, hold_b}
 use Rattle.soundness.specs.Parts.{set_at, pool_in, pools_of, added_sets, fresh_in, fresh_all, empty_sets, added_lease, none_gathered, gathered_of, Passed, checked_of}
-use Rattle.soundness.specs.laws.Code.{and_assoc, and_true_r, and_more, rise_start, pool_is, held_are, tenant_is}
+use Rattle.soundness.specs.laws.Code.{and_assoc, and_true_r, and_more, pool_is, held_are, tenant_is}
 use Rattle.soundness.specs.laws.Kept.{disjoint_less}
 
 -- ---- leases on addresses of their own
@@ -130,19 +130,12 @@ gathered_from s g (l ∷ ls) =
     (and_more g.holds (hold_b s.clock l) (all_by (hold_b s.clock) ls))
     (and_more g.padded (padded_b l) (all_by padded_b ls)) refl (and_assoc g.apart (fresh_in g.held l) (fresh_all (added_sets g.held l) ls))
 
-pub none_gathered_law : (n : ℕ) → ◌≡◌ {A = Gathered} (record { ids = true; offsets = true; leases = true; holds = true; padded = true; held = empty_sets n; apart = true }) (none_gathered n)
-unfolding none_gathered
-none_gathered_law n = refl
-
 pub gathered_are : (s : State) (t : TenantLeases) → fold (added_lease s) (none_gathered t.count) (in_use t) ≡ gathered_of s t
 unfolding gathered_of none_gathered
 gathered_are s t =
     gathered_from s _ (in_use t) ∙ gathered_same refl refl refl refl refl (held_are t) refl
 
 -- ---- the turns of the code
-pub past_sets : (sets : List ℕ) (k : ℕ) → length sets ≡ 4 → 4 ≤ k → 0 ≡ get_or sets k 0
-past_sets sets k e h = sym (get_or-eq_default sets 0 {n = k} (omega arith))
-
 pools_at : (s : State) (k : ℕ) → length s.scopes ≡ 4 → get_or (pools_of s) k 0 ≡ pool_in s k
 unfolding pools_of set_of up_to
 pools_at s zero e = refl
@@ -172,52 +165,14 @@ lease_added s g l ei eo eu ew ep ef eh a b c k d e =
     (e ∙ ap (λ (x : Bool). g.apart && x) ef)
 
 -- ---- ends that rise
-pub swift_yes : (a b : Lease) {x y : ℕ} → x ≡ until a → y ≡ until b → ltb x y ≡ true → ordered a b ≡ true
-swift_yes a b {x = x} {y = y} ex ey e = early a b (let h = ltb-true x y e in omega arith)
+swift_yes : (a b : Lease) → ltb (until a) (until b) ≡ true → ordered a b ≡ true
+swift_yes a b e = early a b (ltb-true (until a) (until b) e)
 
-pub claimed : (r w : Bool) → r ≡ true → (r ≡ true → true ≡ w) → true ≡ w
-claimed r w e f = f e
+pub swift_rises : (l : List Lease) (x k n : ℕ) {r : Bool} → r ≡ next_by (λ a b. ltb (until a) (until b)) (take n l) → n ≡ min x k → length l ≡ k → r ≡ true → true ≡ pairs_by ordered (take x l)
+swift_rises l x k n e c g = next_first ordered rising.trans l x k n c g (λ a b. ltb (until a) (until b)) swift_yes e
 
-pub record SwiftInv (l : List Lease) (n : ℕ) (w fast : Bool) (i : ℕ) : Type 0 where
-  pub within : i ≤ n
-  pub long : n ≤ length l
-  pub sofar : fast ≡ true → NextInv ordered no_lease l n w i
-
-pub swift_start : {l : List Lease} {n : ℕ} (x k : ℕ) → n ≡ min x k → length l ≡ k → SwiftInv l n (pairs_by ordered (take x l)) true 0
-swift_start x k e g = record { within = omega arith; long = omega arith; sofar = λ p. rise_start x k e g }
-
-module _ {l : List Lease} {n : ℕ} {w fast : Bool} {i : ℕ} (v : SwiftInv l n w fast i) where
-  pub swift_next : {q r : Bool} → i + 1 < n → (q ≡ true → ordered (get_or l i no_lease) (get_or l (i + 1) no_lease) ≡ true) → r ≡ (fast && q) → SwiftInv l n w r (i + 1)
-  swift_next {q} {r} h f e = record {
-    within = omega arith;
-    long = v.long;
-    sofar = λ p. let y = and_parts fast q (sym e ∙ p) in next_next (v.sofar y.0) h refl (f y.1);
-  }
-
-  pub swift_end : n ≤ i + 1 → fast ≡ true → true ≡ w
-  swift_end h p = next_end (v.sofar p) h
-
-pub ruleset swifts = (swift_start, swift_next, swift_end)
-
--- ---- unused records
-unfoldable pub and_unused : Bool → Lease → Bool
-and_unused a l = a && unused_b l
-
-unused_from : (a : Bool) (l : List Lease) → fold and_unused a l ≡ (a && all_by unused_b l)
-unfolding and_unused all_by
-unused_from a [] = sym (and_true_r a)
-unused_from a (x ∷ l) = unused_from (a && unused_b x) l ∙ and_more a (unused_b x) (all_by unused_b l)
-
-pub unused_are : (c n : ℕ) (l : List Lease) → n ≡ min c 16 → length l ≡ 16 → fold and_unused true (drop n l) ≡ all_by unused_b (drop c l)
-unused_are c n l e h = unused_from true (drop n l) ∙ ap (all_by unused_b) (go (leb c 16) refl)
-  where
-    go : (b : Bool) → leb c 16 ≡ b → drop n l ≡ drop c l
-    go true p = let g = leb-true c 16 p in ap (λ (k : ℕ). drop k l) (let q : n ≡ c = omega arith in q)
-    go false p = let g = leb-false c 16 p in drop_of_length-le l {i = n} (omega arith) ∙ sym (drop_of_length-le l {i = c} (omega arith))
-
-pub unused_and : (a q r : Bool) (l : Lease) → q ≡ unused_b l → r ≡ (a && q) → r ≡ and_unused a l
-unfolding and_unused
-unused_and a q r l e p = p ∙ ap (λ (x : Bool). a && x) e
+pub rises_within : (l : List Lease) (x k n : ℕ) {r : Bool} → r ≡ next_by ordered (take n l) → n ≡ min x k → length l ≡ k → r ≡ pairs_by ordered (take x l)
+rises_within l x k n e c g = next_within ordered rising.trans l x k n c g e
 
 -- ---- one tenant
 pub gathered_apart : (s : State) (t : TenantLeases) (p : Pass) → Passed s t p → p.gathered.apart ≡ fresh_all (empty_sets t.count) (in_use t)

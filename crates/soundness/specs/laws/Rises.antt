@@ -1,5 +1,6 @@
 -- Laws: an edit keeps the order of records, whichever decides between identifiers that differ.
-use Rattle.std.specs.Prelude.{ℕ, ◌<◌, ◌≡◌, Bool, ltb, length}
+use Rattle.std.specs.Prelude.{ℕ, ◌<◌, ◌≡◌, Bool, ltb, length, Option, None, Some}
+use Rattle.std.specs.Option.{option_map_or}
 use Rattle.std.proofs.Math.Path.{sym, ap}
 use Rattle.std.proofs.Common.{◌∙◌, arith}
 use Rattle.std.proofs.Math.Bool.{true, false}
@@ -37,23 +38,24 @@ module _ (o : Order) (decides : Ordering differ o) (e : Edit) where
   -- one tenant's records, whose identifiers differ afterwards too
   pub edited_rises : (t : TenantLeases) → pairs_by o (in_use t) ≡ true → pairs_by differ (in_use (edited_by o e t)) ≡ true → pairs_by o (in_use (edited_by o e t)) ≡ true
   unfolding edited_by left_in inserted_by remove_of pick
-  edited_rises t rises apart = enter e.enters (pick e.leaves (laid_out (remove_of (id_of e.old) (in_use t))) t) (leave e.leaves) apart
+  edited_rises t rises apart = enter e.enters (option_map_or (λ x. laid_out (remove_of (id_of x) (in_use t))) e.leaves t) (leave e.leaves) apart
     where
-      leave : (c : Bool) → pairs_by o (in_use (pick c (laid_out (remove_of (id_of e.old) (in_use t))) t)) ≡ true
-      leave true = ap (pairs_by o) (read_back (remove_of (id_of e.old) (in_use t))) ∙ filter_pairs o (other (id_of e.old)) (in_use t) rises
-      leave false = rises
+      leave : (c : Option Lease) → pairs_by o (in_use (option_map_or (λ x. laid_out (remove_of (id_of x) (in_use t))) c t)) ≡ true
+      leave (Some x) = ap (pairs_by o) (read_back (remove_of (id_of x) (in_use t))) ∙ filter_pairs o (other (id_of x)) (in_use t) rises
+      leave None = rises
 
-      inserted : (c : Bool) (u : TenantLeases) → pairs_by o (in_use u) ≡ true → pairs_by differ (in_use (pick c (laid_out (insert_in o e.new (in_use u))) u)) ≡ true
-          → pairs_by o (in_use (pick c (laid_out (insert_in o e.new (in_use u))) u)) ≡ true
-      inserted true u p d =
-          let back = read_back (insert_in o e.new (in_use u)) in
-          let new = pairs_head differ e.new (in_use u) (sym (reordered_pairs differ differ_turn (insert_reordered o e.new (in_use u))) ∙ ap (pairs_by differ) (sym back) ∙ d) in
-          ap (pairs_by o) back ∙ insert_sorted differ o decides e.new (in_use u) new.0 p
-      inserted false u p d = p
+      inserted : (l : Lease) (c : Bool) (u : TenantLeases) → pairs_by o (in_use u) ≡ true → pairs_by differ (in_use (pick c (laid_out (insert_in o l (in_use u))) u)) ≡ true
+          → pairs_by o (in_use (pick c (laid_out (insert_in o l (in_use u))) u)) ≡ true
+      inserted l true u p d =
+          let back = read_back (insert_in o l (in_use u)) in
+          let new = pairs_head differ l (in_use u) (sym (reordered_pairs differ differ_turn (insert_reordered o l (in_use u))) ∙ ap (pairs_by differ) (sym back) ∙ d) in
+          ap (pairs_by o) back ∙ insert_sorted differ o decides l (in_use u) new.0 p
+      inserted l false u p d = p
 
-      enter : (c : Bool) (u : TenantLeases) → pairs_by o (in_use u) ≡ true → pairs_by differ (in_use (pick c (inserted_by o e.new u) u)) ≡ true → pairs_by o (in_use (pick c (inserted_by o e.new u) u)) ≡ true
-      enter true u p d = inserted (ltb (length (in_use u)) 16) u p d
-      enter false u p d = p
+      enter : (c : Option Lease) (u : TenantLeases) → pairs_by o (in_use u) ≡ true → pairs_by differ (in_use (option_map_or (λ l. inserted_by o l u) c u)) ≡ true
+          → pairs_by o (in_use (option_map_or (λ l. inserted_by o l u) c u)) ≡ true
+      enter (Some l) u p d = inserted l (ltb (length (in_use u)) 16) u p d
+      enter None u p d = p
 
   pub applied_rises : (s : State) (t : LeaseTable) (h : ℕ) → h < length t.tenants → all_by (pairs_by o) (leases_of t) ≡ true → Sound s (leases_of (applied_by o e h t)) → all_by (pairs_by o) (leases_of (applied_by o e h t)) ≡ true
   unfolding applied_by laid_out

@@ -1,12 +1,11 @@
 -- Laws: the rules of a table gathered tenant by tenant, and what the earliest end says.
-use Rattle.std.specs.Prelude.{ℕ, zero, suc, ◌+◌, ◌≤◌, ◌<◌, min, ◌≡◌, true, eqb, length, get_or, set}
+use Rattle.std.specs.Prelude.{ℕ, zero, suc, ◌+◌, ◌≤◌, ◌<◌, ◌≡◌, true, length, get_or, set}
 use Rattle.std.proofs.Math.Path.{refl, ap, subst}
-use Rattle.std.proofs.Common.{sym, ap₂, ◌∙◌, arith, lt-ltb}
+use Rattle.std.proofs.Common.{sym, ◌∙◌, arith, lt-ltb}
 use mathlib.Core.List.{List, [], ◌∷◌, map}
 use Rattle.std.proofs.lemmas.List.{length-map}
 use Rattle.std.proofs.Math.ListN.{get_or-map}
 use Rattle.lists.specs.All.{all_by}
-use Rattle.address_set.specs.AddressSet.{set_of, up_to}
 use Rattle.lists.specs.laws.All.{all_cons}
 use Rattle.lists.specs.laws.Each.{BuildInv, build_start, each_next, each_end}
 use Rattle.lists.specs.laws.Filter.{filter_none_out}
@@ -14,18 +13,13 @@ use Rattle.lists.specs.laws.Fold.{FoldInv, fold_start, fold_next, fold_end}
 use Rattle.state.specs.declared.Lease.{Lease}
 use Rattle.state.specs.declared.TenantLeases.{TenantLeases}
 use Rattle.state.specs.declared.LeaseTable.{LeaseTable}
-use Rattle.state.specs.declared.Scope.{Scope}
 use Rattle.state.specs.declared.State.{State}
-use Rattle.state.specs.Book.{live, live_of, no_leases, tenant_at, laid_out, scope_at, until}
+use Rattle.state.specs.Book.{live, live_of, no_leases, tenant_at, laid_out, until}
 use Rattle.soundness.specs.declared.Held.{Held}
 use Rattle.soundness.specs.declared.Checked.{Checked}
-use Rattle.soundness.specs.declared.Rules.{Rules}
 use Rattle.soundness.specs.declared.TableRules.{TableRules}
 use Rattle.soundness.specs.declared.TenantRules.{TenantRules}
-use Rattle.soundness.specs.declared.SettingsRules.{SettingsRules}
-use Rattle.soundness.specs.declared.HoldingRules.{HoldingRules}
-use Rattle.soundness.specs.Sound.{first_broken}
-use Rattle.soundness.specs.Parts.{no_held, no_rules, no_sets, first_end_in, pool_in, pools_of, rules_from, held_sets, holdings_of, holding_rules_in, tenants_all, tenant_rules_of, both_tenants, table_rules_of, settings_rules_of, joined_rules, no_tenants, added_tenant, checked_of, sound_from}
+use Rattle.soundness.specs.Parts.{no_held, no_sets, first_end_in, held_sets, holdings_of, tenants_all, tenant_rules_of, both_tenants, table_rules_of, no_tenants, added_tenant, checked_of}
 use Rattle.soundness.specs.laws.Code.{and_tenants, tenants_are, tenant_and, table_is}
 
 in_range : {A : Type 0} (l : List A) (i : ℕ) (d e : A) → i < length l → get_or l i d ≡ get_or l i e
@@ -52,12 +46,6 @@ module _ {s : State} {b : LeaseTable} {c : TableRules} {i : ℕ} (v : SurveyInv 
         subst (λ (x : List Held). BuildInv held_sets no_leases b.tenants no_sets 8 x (i + 1)) (sym (ap (λ (x : TableRules). x.held.tenants) p))
         (each_next v.built h (ap held_sets e));
   }
-
-  -- the same of a table that is made from rows, with the tenant of row i
-  pub survey_next_row : {A : Type 0} (f : A → TenantLeases) (rows : List A) (d : A) {r : TableRules} {t : TenantLeases}
-      → b.tenants ≡ map f rows → i < 8 → t ≡ f (get_or rows i d) → r ≡ added_tenant s c i t → SurveyInv s b r (i + 1)
-  survey_next_row f rows d q h e p =
-      survey_next h (e ∙ sym (get_or-map f rows i d) ∙ ap (λ (x : List TenantLeases). get_or x i (f d)) (sym q) ∙ in_range b.tenants i (f d) no_leases (let w = v.folded.long in omega arith)) p
 
   pub survey_end : 8 ≤ i → c ≡ table_rules_of s b
   survey_end h = table_is s b c.rules c.held (fold_end v.folded h) (each_end v.built h)
@@ -87,26 +75,7 @@ unfolding live_of
 none_ended clock ls h = filter_none_out (live clock) ls (all_live clock ls h)
 
 -- ---- the turns of the code
-pub none_are : ◌≡◌ {A = TableRules} (record { rules = no_rules; held = record { tenants = no_sets } }) no_tenants
-unfolding no_tenants
-none_are = refl
-
-pub pool_at : (s : State) (k : ℕ) (c : Scope) {r : ℕ} → c ≡ scope_at s k → r ≡ set_of (up_to (min c.size 64)) → r ≡ pool_in s k
-pool_at s k c e p = p ∙ ap (λ (x : Scope). set_of (up_to (min x.size 64))) e
-
-pub pools_are : (s : State) {a b c d : ℕ} → a ≡ pool_in s 0 → b ≡ pool_in s 1 → c ≡ pool_in s 2 → d ≡ pool_in s 3 → a ∷ b ∷ c ∷ d ∷ [] ≡ pools_of s
-unfolding pools_of
-pools_are s p q r u = cc
-
 pub tenant_added : (s : State) (c : TableRules) (i : ℕ) (t : TenantLeases) (y : Checked) {r : TenantRules} → y ≡ checked_of s t → r ≡ both_tenants c.rules y.rules
     → ◌≡◌ {A = TableRules} (record { rules = r; held = record { tenants = set c.held.tenants i y.held } }) (added_tenant s c i t)
 unfolding added_tenant checked_of
 tenant_added s c i t y e er = cc (er ∙ ap (λ (x : Checked). both_tenants c.rules x.rules) e, ap (λ (x : Checked). x.held) e)
-
-pub rules_joined : (s : State) (c : TableRules) (a : SettingsRules) (x : HoldingRules) {r : Rules} → a ≡ settings_rules_of s → x ≡ holding_rules_in s c.held → r ≡ joined_rules a c.rules x → r ≡ rules_from s c
-unfolding rules_from
-rules_joined s c a x ea ex e = e ∙ ap₂ (λ (y : SettingsRules) (z : HoldingRules). joined_rules y c.rules z) ea ex
-
-pub sound_with : (s : State) (c : TableRules) (r : Rules) {x : ℕ} → r ≡ rules_from s c → x ≡ first_broken r → eqb x 0 ≡ sound_from s c
-unfolding sound_from
-sound_with s c r e p = ap (λ (x : ℕ). eqb x 0) (p ∙ ap first_broken e)

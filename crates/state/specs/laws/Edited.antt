@@ -1,5 +1,6 @@
 -- Laws: laws of an edit: the table after each kind, and what every edit keeps.
-use Rattle.std.specs.Prelude.{ℕ, ◌<◌, ◌≡◌, Bool, true, false, ltb, length, get_or}
+use Rattle.std.specs.Prelude.{ℕ, ◌<◌, ◌≡◌, Bool, true, false, ltb, length, get_or, Option, None, Some}
+use Rattle.std.specs.Option.{option_map_or}
 use Rattle.std.proofs.Math.Path.{refl, ap}
 use Rattle.std.proofs.Common.{sym, ap₂, ◌∙◌, length-set, get_or-set_other, lt-ltb}
 use mathlib.Core.List.{List, []}
@@ -11,7 +12,6 @@ use Rattle.lists.specs.laws.Each.{map_set}
 use Rattle.state.specs.declared.Lease.{Lease}
 use Rattle.state.specs.declared.TenantLeases.{TenantLeases}
 use Rattle.state.specs.declared.LeaseTable.{LeaseTable}
-use Rattle.state.specs.declared.Release.{Release}
 use Rattle.state.specs.declared.TenantReleases.{TenantReleases}
 use Rattle.state.specs.declared.Memory.{Memory}
 use Rattle.state.specs.declared.Edit.{Edit}
@@ -21,14 +21,14 @@ use Rattle.state.specs.laws.Edit.{applied}
 use Rattle.state.specs.laws.Layout.{read_back, put_laid}
 
 -- ---- between the code and the definition
-pub edit_is : (x y f r : Bool) {o o' n n' : Lease} {q q' : Release} → o ≡ o' → n ≡ n' → q ≡ q'
-    → ◌≡◌ {A = Edit} (record { leaves = x; old = o; enters = y; new = n; forgets = f; remembers = r; release = q })
-    (record { leaves = x; old = o'; enters = y; new = n'; forgets = f; remembers = r; release = q' })
-edit_is x y f r a b c = cc
+module _ (e : Edit) (t : TenantLeases) {rest : TenantLeases} (p : rest ≡ left_in e t) where
+  pub edited_some : {l : Lease} {r : TenantLeases} → e.enters ≡ Some l → r ≡ inserted_in l rest → r ≡ edited_in e t
+  unfolding edited_by
+  edited_some {l} q f = f ∙ ap (inserted_in l) p ∙ sym (ap (λ (o : Option Lease). option_map_or (λ x. inserted_in x (left_in e t)) o (left_in e t)) q)
 
-pub edited_is : (e : Edit) (t rest r : TenantLeases) → rest ≡ left_in e t → r ≡ pick e.enters (inserted_in e.new rest) rest → r ≡ edited_in e t
-unfolding edited_by
-edited_is e t rest r p q = q ∙ ap (λ (x : TenantLeases). pick e.enters (inserted_in e.new x) x) p
+  pub edited_rest : e.enters ≡ None → rest ≡ edited_in e t
+  unfolding edited_by
+  edited_rest q = p ∙ sym (ap (λ (o : Option Lease). option_map_or (λ x. inserted_in x (left_in e t)) o (left_in e t)) q)
 
 -- ---- the table after each kind of edit
 module _ (b : LeaseTable) (h : ℕ) where
@@ -76,19 +76,19 @@ laid_again x = ap laid_out (sym (read_back x))
 
 edited_laid : (o : Order) (e : Edit) (t : TenantLeases) → t ≡ laid_out (in_use t) → edited_by o e t ≡ laid_out (in_use (edited_by o e t))
 unfolding edited_by left_in inserted_by pick
-edited_laid o e t p = enter e.enters (pick e.leaves (laid_out (remove_of (id_of e.old) (in_use t))) t) (leave e.leaves)
+edited_laid o e t p = enter e.enters (option_map_or (λ x. laid_out (remove_of (id_of x) (in_use t))) e.leaves t) (leave e.leaves)
   where
-    leave : (c : Bool) → pick c (laid_out (remove_of (id_of e.old) (in_use t))) t ≡ laid_out (in_use (pick c (laid_out (remove_of (id_of e.old) (in_use t))) t))
-    leave true = laid_again (remove_of (id_of e.old) (in_use t))
-    leave false = p
+    leave : (c : Option Lease) → let u = option_map_or (λ x. laid_out (remove_of (id_of x) (in_use t))) c t in u ≡ laid_out (in_use u)
+    leave (Some x) = laid_again (remove_of (id_of x) (in_use t))
+    leave None = p
 
-    inserted : (c : Bool) (u : TenantLeases) → u ≡ laid_out (in_use u) → pick c (laid_out (insert_in o e.new (in_use u))) u ≡ laid_out (in_use (pick c (laid_out (insert_in o e.new (in_use u))) u))
-    inserted true u q = laid_again (insert_in o e.new (in_use u))
-    inserted false u q = q
+    inserted : (l : Lease) (c : Bool) (u : TenantLeases) → u ≡ laid_out (in_use u) → pick c (laid_out (insert_in o l (in_use u))) u ≡ laid_out (in_use (pick c (laid_out (insert_in o l (in_use u))) u))
+    inserted l true u q = laid_again (insert_in o l (in_use u))
+    inserted l false u q = q
 
-    enter : (c : Bool) (u : TenantLeases) → u ≡ laid_out (in_use u) → pick c (inserted_by o e.new u) u ≡ laid_out (in_use (pick c (inserted_by o e.new u) u))
-    enter true u q = inserted (ltb (length (in_use u)) 16) u q
-    enter false u q = q
+    enter : (c : Option Lease) (u : TenantLeases) → u ≡ laid_out (in_use u) → option_map_or (λ l. inserted_by o l u) c u ≡ laid_out (in_use (option_map_or (λ l. inserted_by o l u) c u))
+    enter (Some l) u q = inserted l (ltb (length (in_use u)) 16) u q
+    enter None u q = q
 
 tenant_laid : (b : LeaseTable) (h : ℕ) → b ≡ table_of (leases_of b) → tenant_at b h ≡ laid_out (in_use (tenant_at b h))
 unfolding table_of

@@ -1,12 +1,16 @@
 -- Laws: between records and lists.
-use Rattle.std.specs.Prelude.{ℕ, ◌+◌, max, ◌≤◌, ◌<◌, min, Bool, true, false, List, [], ◌∷◌, ◌++◌, map, eqb, ltb, replicate, set, take, drop, get_or, ◌≡◌}
+use Rattle.std.specs.Prelude.{ℕ, ◌+◌, ◌-◌, max, ◌≤◌, ◌<◌, min, Bool, true, false, List, [], ◌∷◌, ◌++◌, map, eqb, ltb, leb, replicate, set, take, drop, get_or, ◌≡◌}
 use Rattle.std.proofs.Math.Bool.{not}
-use Rattle.std.proofs.Common.{append_assoc, append-nil, length-append, length-drop, length-take, sym, ap₂, ◌∙◌}
+use Rattle.std.proofs.Common.{append_assoc, append-nil, drop_of_length-le, leb-true, leb-false, length-append, length-drop, length-take, take_all, sym, ap₂, ◌∙◌}
 use Rattle.std.proofs.lemmas.Simd.{map-map}
 use Rattle.std.proofs.Math.ListN.{length}
+use Rattle.std.proofs.Math.Nat.{min-eq_left}
 use Rattle.lists.specs.Filter.{filter_by}
 use Rattle.lists.specs.Pick.{pick}
 use Rattle.lists.specs.Row.{laid_row}
+use Rattle.std.specs.declared.cmp.Ordering.{Ordering}
+use Rattle.std.specs.declared.cmp.Ordering.TheVariants.{Less, Equal, Greater}
+use Rattle.std.specs.Ordering.{is_lt, ordering_index}
 use Rattle.identifier.specs.Order.{order_of}
 use Rattle.occupancy.specs.declared.Board.{Board}
 use Rattle.state.specs.declared.Lease.{Lease}
@@ -14,6 +18,8 @@ use Rattle.state.specs.declared.TenantLeases.{TenantLeases}
 use Rattle.state.specs.declared.LeaseTable.{LeaseTable}
 use Rattle.state.specs.declared.Release.{Release}
 use Rattle.state.specs.declared.TenantReleases.{TenantReleases}
+use Rattle.state.specs.declared.OrderBy.{OrderBy}
+use Rattle.state.specs.declared.OrderBy.TheVariants.{Ending, Identifier}
 use Rattle.state.specs.declared.Scope.{Scope}
 use Rattle.state.specs.declared.State.{State}
 use Rattle.std.proofs.Math.Path.{refl, ap}
@@ -21,7 +27,6 @@ use native.Mathlib.Omega.{arith}
 use Rattle.lists.specs.laws.Pick.{pick_lt, pick_not_lt, pick_yes, pick_no}
 use Rattle.lists.specs.Fold.{fold}
 use Rattle.lists.specs.Arranged.{insert_in}
-use Rattle.lists.specs.laws.Part.{cut_take, part_ended, part_head}
 use Rattle.lists.specs.laws.Filter.{filter_fewer}
 use Rattle.lists.specs.laws.Each.{map_set, map_back}
 use Rattle.lists.specs.laws.Row.{row_back, row_push, row_filtered, row_insert, row_length, row_in, row_out}
@@ -65,51 +70,35 @@ unfolding kept_if
 filter_is t x l h = row_filtered 16 laid_out pushed push_laid t x l h
 
 -- ---- the turns of the code: a lease that a call passes is written behind the last one
-module _ (u : Lease → Bool) (now : TenantLeases) (l : Lease) where
-  pub kept_in : {q : Bool} → q ≡ u l → q ≡ true → now.count < 16 → ◌≡◌ {A = TenantLeases} (record { leases = set now.leases now.count l; count = now.count + 1 }) (kept_if u now l)
-  unfolding kept_if pushed
-  kept_in e y h = pick_yes _ now _ e y (pick_lt _ now _ _ 16 h refl)
-
-  pub kept_full : {q : Bool} → q ≡ u l → q ≡ true → 16 ≤ now.count → now ≡ kept_if u now l
-  unfolding kept_if pushed
-  kept_full e y h = pick_yes _ now _ e y (pick_not_lt _ now _ _ 16 h refl)
-
-  pub kept_out : {q : Bool} → q ≡ u l → q ≡ false → now ≡ kept_if u now l
+module _ (u : Lease → Bool) (now : TenantLeases) (l : Lease) {q : Bool} (e : q ≡ u l) where
+  pub kept_in : {r : TenantLeases} → q ≡ true → r ≡ pushed now l → r ≡ kept_if u now l
   unfolding kept_if
-  kept_out e n = pick_no _ now _ e n refl
+  kept_in {r} y p = pick_yes _ now r e y p
 
-pub ruleset turns = (kept_in, kept_full, kept_out)
+  pub kept_out : q ≡ false → now ≡ kept_if u now l
+  unfolding kept_if
+  kept_out n = pick_no _ now _ e n refl
 
 pub other_is : (i : List ℕ) (l : Lease) {q : Bool} → q ≡ named i l → not q ≡ other i l
 other_is i l e = ap not e
 
 -- ---- the order of two records
-pub named_before_is : (a b : Lease) (o : ℕ) → o ≡ order_of (id_of a) (id_of b) → eqb o 0 ≡ by_identifier a b
+pub named_before_is : (a b : Lease) (o : Ordering) → ordering_index o ≡ order_of (id_of a) (id_of b) → is_lt o ≡ by_identifier a b
 unfolding by_identifier
-named_before_is a b o e = ap (λ (x : ℕ). eqb x 0) e
+named_before_is a b Less e = ap (λ (x : ℕ). eqb x 0) e
+named_before_is a b Equal e = ap (λ (x : ℕ). eqb x 0) e
+named_before_is a b Greater e = ap (λ (x : ℕ). eqb x 0) e
 
-module _ (a b : Lease) (ending : Bool) {q : Bool} where
-  pub comes_ending : ending ≡ true → q ≡ ordered a b → q ≡ order_for ending a b
+module _ (a b : Lease) (by : OrderBy) {q : Bool} where
+  pub comes_ending : by ≡ Ending → q ≡ ordered a b → q ≡ order_for by a b
   unfolding order_for
-  comes_ending e p = p ∙ ap (λ (c : Bool). order_for c a b) (sym e)
+  comes_ending e p = p ∙ ap (λ (c : OrderBy). order_for c a b) (sym e)
 
-  pub comes_named : ending ≡ false → q ≡ by_identifier a b → q ≡ order_for ending a b
+  pub comes_named : by ≡ Identifier → q ≡ by_identifier a b → q ≡ order_for by a b
   unfolding order_for
-  comes_named e p = p ∙ ap (λ (c : Bool). order_for c a b) (sym e)
-
-  pub comes_not : q ≡ order_for ending a b → not q ≡ not (order_for ending a b)
-  comes_not p = ap not p
+  comes_named e p = p ∙ ap (λ (c : OrderBy). order_for c a b) (sym e)
 
 -- ---- insertion
-module _ {b w : TenantLeases} (l : Lease) (e : b ≡ w) where
-  pub pushed_in : b.count < 16 → ◌≡◌ {A = TenantLeases} (record { leases = set b.leases b.count l; count = b.count + 1 }) (pushed w l)
-  unfolding pushed
-  pushed_in h = pick_lt _ b _ _ 16 h refl ∙ ap (λ (x : TenantLeases). pushed x l) e
-
-  pub pushed_full : 16 ≤ b.count → b ≡ pushed w l
-  unfolding pushed
-  pushed_full h = pick_not_lt _ b _ _ 16 h refl ∙ ap (λ (x : TenantLeases). pushed x l) e
-
 module _ (o : Order) (t : TenantLeases) (l : Lease) {n : ℕ} (k : n ≡ length (in_use t)) where
   pub inserted_in_law : {b r : TenantLeases} → n < 16 → b ≡ pushed (fold (kept_if (λ x. o x l)) (laid_out []) (in_use t)) l → r ≡ fold (kept_if (λ x. not (o x l))) b (in_use t) → r ≡ inserted_by o l t
   unfolding inserted_by kept_if
@@ -122,46 +111,39 @@ module _ (o : Order) (t : TenantLeases) (l : Lease) {n : ℕ} (k : n ≡ length 
   unfolding inserted_by
   inserted_full h = pick_not_lt (laid_out (insert_in o l (in_use t))) t t (length (in_use t)) 16 (omega arith) refl
 
-pub inserted_ending : (l : Lease) (t : TenantLeases) {r : TenantLeases} → r ≡ inserted_by (order_for true) l t → r ≡ inserted_in l t
+pub inserted_ending : (l : Lease) (t : TenantLeases) {r : TenantLeases} → r ≡ inserted_by (order_for Ending) l t → r ≡ inserted_in l t
 unfolding order_for
 inserted_ending l t e = e
 
--- ---- from a place on
-pub record RestInv (l : List Lease) (n : ℕ) (w now : TenantLeases) (i : ℕ) : Type 0 where
-  pub long : n ≤ length l
-  pub done : List Lease
-  pub laid : now ≡ laid_out done
-  pub whole : laid_out (done ++ drop i (take n l)) ≡ w
-  pub room : length done + length (drop i (take n l)) ≤ 16
+-- ---- the loops, from the leases in use
+laid_from : (ls q : List Lease) → length q + length ls ≤ 16 → fold pushed (laid_out q) ls ≡ laid_out (q ++ ls)
+laid_from [] q h = ap laid_out (sym (append-nil q))
+laid_from (x ∷ ls) q h =
+    let m = length-append q (x ∷ []) in
+    ap (λ (y : TenantLeases). fold pushed y ls) (push_laid q x (omega arith)) ∙ laid_from ls (q ++ x ∷ []) (omega arith) ∙ ap laid_out (append_assoc q (x ∷ []) ls)
 
-pub rest_start : {l : List Lease} {n : ℕ} {now : TenantLeases} (x i : ℕ) → n ≡ min x 16 → length l ≡ 16 → now ≡ laid_out [] → RestInv l n (laid_out (drop i (take x l))) now i
-rest_start {l} {n} x i e g p = record {
-  long = omega arith;
-  done = [];
-  laid = p;
-  whole = ap (λ (k : ℕ). laid_out (drop i (take k l))) e ∙ ap (λ (z : List Lease). laid_out (drop i z)) (cut_take 16 x l g);
-  room = let a = length-drop i (take n l) in let b = length-take n l in omega arith;
-}
+-- a place past the last is the end
+drop_min : {A : Type 0} (k : ℕ) (l : List A) → drop (min k (length l)) l ≡ drop k l
+drop_min {A} k l = go (leb k (length l)) refl
+  where
+    go : (b : Bool) → leb k (length l) ≡ b → drop (min k (length l)) l ≡ drop k l
+    go true h = let q = leb-true k (length l) h in ap (λ (x : ℕ). drop x l) (min-eq_left q)
+    go false h = let q = leb-false k (length l) h in drop_of_length-le l {i = min k (length l)} (omega arith) ∙ sym (drop_of_length-le l {i = k} (omega arith))
 
-module _ {l : List Lease} {n : ℕ} {w now : TenantLeases} {i : ℕ} (v : RestInv l n w now i) where
-  pub rest_next : {r : TenantLeases} → i < n → r ≡ pushed now (get_or l i no_lease) → RestInv l n w r (i + 1)
-  rest_next {r} h e =
-      let q = part_head no_lease l n i v.long h in
-      let a = ap length q in
-      let m = length-append v.done (get_or l i no_lease ∷ []) in
-      let o = v.room in
-      record {
-        long = v.long;
-        done = v.done ++ get_or l i no_lease ∷ [];
-        laid = e ∙ ap (λ (z : TenantLeases). pushed z (get_or l i no_lease)) v.laid ∙ push_laid v.done (get_or l i no_lease) (omega arith);
-        whole = ap laid_out (append_assoc v.done (get_or l i no_lease ∷ []) (drop (i + 1) (take n l)) ∙ ap (λ (z : List Lease). v.done ++ z) (sym q)) ∙ v.whole;
-        room = omega arith;
-      }
+module _ (t : TenantLeases) {own : List Lease} {z r : TenantLeases} (e : z ≡ laid_out []) (p : own ≡ in_use t) (g : length t.leases ≡ 16) where
+  pub removed_is : (i : List ℕ) → r ≡ fold (kept_if (other i)) z own → r ≡ laid_out (remove_of i (in_use t))
+  unfolding remove_of
+  removed_is i q = q ∙ ap₂ (λ (x : TenantLeases) (l : List Lease). fold (kept_if (other i)) x l) e p ∙ filter_is (other i) t.count t.leases g
 
-  pub rest_end : n ≤ i → now ≡ w
-  rest_end h = v.laid ∙ ap laid_out (sym (append-nil v.done) ∙ ap (λ (z : List Lease). v.done ++ z) (sym (part_ended l n i v.long h))) ∙ v.whole
-
-pub ruleset rests = (rest_start, rest_next, rest_end)
+  -- from a place on
+  pub rest_is : (k : ℕ) {m : ℕ} → m ≡ min k (length own) → r ≡ fold pushed z (take (length own - m) (drop m own)) → r ≡ laid_out (drop k (in_use t))
+  rest_is k {m} h q =
+      let long = length-drop m own in
+      let u : take (length own - m) (drop m own) ≡ drop k (in_use t) =
+      take_all (length own - m) (drop m own) (omega arith) ∙ ap (λ (x : ℕ). drop x own) h ∙ drop_min k own ∙ ap (drop k) p in
+      let few = length-drop k (in_use t) in
+      let all = length-take t.count t.leases in
+      q ∙ ap₂ (λ (x : TenantLeases) (l : List Lease). fold pushed x l) e u ∙ laid_from (drop k (in_use t)) [] (omega arith)
 
 pub empty_is : (l : Lease) → l ≡ zero_lease → ◌≡◌ {A = TenantLeases} (record { leases = replicate 16 l; count = 0 }) (laid_out [])
 unfolding laid_out
@@ -208,13 +190,9 @@ put_laid ls b h t x e p =
     ap {B = LeaseTable} (λ (y : List TenantLeases). record { tenants = y }) (ap₂ {C = List TenantLeases} (λ (y : List TenantLeases) (z : TenantLeases). set y h z) (ap (λ (y : LeaseTable). y.tenants) e) p ∙ map_set laid_out ls h x)
 
 -- ---- the clock
-pub raised_up : (s : State) (time : ℕ) → s.clock < time → with_clock s time ≡ raised s time
+pub raised_is : (s : State) (time : ℕ) {k : ℕ} → k ≡ max s.clock time → with_clock s k ≡ raised s time
 unfolding raised
-raised_up s time h = ap (with_clock s) (let e : time ≡ max s.clock time = omega arith in e)
-
-pub raised_not : (s : State) (time : ℕ) → time ≤ s.clock → s ≡ raised s time
-unfolding raised
-raised_not s time h = ap (with_clock s) (let e : s.clock ≡ max s.clock time = omega arith in e)
+raised_is s time e = ap (with_clock s) e
 
 pub advanced_is : (b : Book) (time : ℕ) (s : State) (t : LeaseTable) (w : Board) → s ≡ raised b.state time → t ≡ dropped s.clock b.table
     → w ≡ cleared s.clock b.table b.memory.board → changed_to b s t (record { releases = b.memory.releases; board = w }) ≡ advanced b time

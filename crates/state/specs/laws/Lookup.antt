@@ -1,39 +1,59 @@
 -- Laws: what a lookup answers where it stops (document 02, W-210), and that it compares no more records than there are.
-use Rattle.std.specs.Prelude.{ℕ, ◌+◌, ◌≤◌, ◌<◌, min, Bool, true, false, List, ◌≡◌, refl, ltb, length}
-use Rattle.std.proofs.Common.{sym, ap, ◌∙◌, arith, le-ltb, lt-ltb, ltb-true}
+use Rattle.std.specs.Prelude.{ℕ, suc, ◌+◌, ◌≤◌, Bool, true, false, List, [], ◌∷◌, ◌≡◌, refl, cond, ltb, length, position, Option, None, Some}
+use Rattle.std.specs.List.{position_or_len}
+use Rattle.std.specs.Option.{option_map_or, unwrap_or}
+use Rattle.std.proofs.Common.{sym, ap, ◌∙◌, arith, ltb-true}
+use Rattle.std.proofs.lemmas.Bool.{ltb-false}
+use Rattle.std.proofs.lemmas.List.Recursion.{is_position_or_len}
 use Rattle.lists.specs.Pick.{pick}
-use Rattle.lists.specs.laws.Place.{PlaceInv, place_end}
+use Rattle.lists.specs.Place.{place_by}
 use Rattle.state.specs.declared.Lease.{Lease}
 use Rattle.state.specs.declared.Lookup.{Lookup}
-use Rattle.state.specs.declared.TenantLeases.{TenantLeases}
-use Rattle.state.specs.Book.{compared_of, in_use, lookup_of, named, place_of}
-use Rattle.state.specs.laws.Layout.{length_in_use}
+use Rattle.state.specs.Book.{compared_of, lookup_of, named, place_of}
 
--- what it answers, by whether it is found
-abbrev answers : List ℕ → List Lease → Bool → Lookup
-answers i ls b = record { found = b; place = place_of i ls; compared = pick b (place_of i ls + 1) (length ls) }
+-- the place of the first that passes, in std's words
+pub place_is : {A : Type 0} (t : A → Bool) (l : List A) → place_by t l ≡ position_or_len t l
+unfolding place_by pick
+place_is {A} t l = is_position_or_len (place_by t) t refl (λ x xs. picked (t x) (place_by t xs)) l
+  where
+    picked : (b : Bool) (n : ℕ) → pick b 0 (suc n) ≡ cond b 0 (1 + n)
+    picked true n = refl
+    picked false n = omega arith
 
--- at the match
-pub hit_is : (i : List ℕ) (t : TenantLeases) (n at : ℕ) → length t.leases ≡ 16 → n ≡ min t.count 16 → at < n → at ≡ place_of i (in_use t)
-    → ◌≡◌ {A = Lookup} (record { found = true; place = at; compared = at + 1 }) (lookup_of i (in_use t))
+place_few : {A : Type 0} (t : A → Bool) (l : List A) → place_by t l ≤ length l
+unfolding place_by pick
+place_few t [] = omega arith
+place_few t (x ∷ l) = go (t x) (place_few t l)
+  where
+    go : (b : Bool) → place_by t l ≤ length l → pick b 0 (suc (place_by t l)) ≤ suc (length l)
+    go true h = omega arith
+    go false h = omega arith
+
+-- and where none passes, as many as there are
+pub place_or_all : {A : Type 0} (t : A → Bool) (l : List A) → unwrap_or (position t l) (length l) ≡ place_by t l
+place_or_all {A} t l = go (ltb (position_or_len t l) (length l)) refl
+  where
+    go : (b : Bool) → ltb (position_or_len t l) (length l) ≡ b → unwrap_or (cond b (Some (position_or_len t l)) None) (length l) ≡ place_by t l
+    go true e = sym (place_is t l)
+    go false e = let h = ltb-false (position_or_len t l) (length l) e in let g = place_few t l in let p = place_is t l in omega arith
+
+-- what a search from the front finds, and how many it looks at
+pub answered : (i : List ℕ) {own ls : List Lease} {p : Option ℕ} → p ≡ position (named i) own → own ≡ ls
+    → ◌≡◌ {A = Lookup} (record { place = p; compared = option_map_or (λ k. k + 1) p (length own) }) (lookup_of i ls)
 unfolding compared_of pick
-hit_is i t n at g e h p =
-    let k = length_in_use t n g e in
-    ap {B = Lookup} (λ (z : ℕ). record { found = true; place = z; compared = z + 1 }) p
-    ∙ ap (answers i (in_use t)) (sym (lt-ltb (place_of i (in_use t)) (length (in_use t)) (omega arith)))
+answered i {own} e q =
+    ap {B = Lookup} (λ (o : Option ℕ). record { place = o; compared = option_map_or (λ k. k + 1) o (length own) }) e
+    ∙ ap {B = Lookup} (λ (n : ℕ). record { place = position (named i) own; compared = n }) searched ∙ ap (lookup_of i) q
+  where
+    first : ℕ
+    first = position_or_len (named i) own
 
--- past the last
-pub miss_is : (i : List ℕ) (t : TenantLeases) (n at : ℕ) {d : Lease} → length t.leases ≡ 16 → n ≡ min t.count 16 → PlaceInv (named i) d t.leases n (place_of i (in_use t)) at → n ≤ at
-    → ◌≡◌ {A = Lookup} (record { found = false; place = at; compared = at }) (lookup_of i (in_use t))
-unfolding compared_of pick
-miss_is i t n at g e v h =
-    let k = length_in_use t n g e in
-    let p = place_end v h in
-    let u = v.within in
-    let c : at ≡ length (in_use t) = omega arith in
-    ap {B = Lookup} (λ (z : ℕ). record { found = false; place = at; compared = z }) c
-    ∙ ap {B = Lookup} (λ (z : ℕ). record { found = false; place = z; compared = length (in_use t) }) p
-    ∙ ap (answers i (in_use t)) (sym (le-ltb (place_of i (in_use t)) (length (in_use t)) (omega arith)))
+    go : (b : Bool) → ltb first (length own) ≡ b → option_map_or (λ k. k + 1) (cond b (Some first) None) (length own) ≡ pick b (first + 1) (length own)
+    go true e = refl
+    go false e = refl
+
+    searched : option_map_or (λ k. k + 1) (position (named i) own) (length own) ≡ compared_of i own
+    searched = go (ltb first (length own)) refl ∙ sym (ap (λ (k : ℕ). pick (ltb k (length own)) (k + 1) (length own)) (place_is (named i) own))
 
 -- "at most 16", as there are at most 16 records in use
 pub compared_few : (i : List ℕ) (ls : List Lease) → compared_of i ls ≤ length ls

@@ -1,5 +1,6 @@
 -- Laws: of a tenant's records, those of one identifier: where one stands, and what dropping, inserting, removing and editing do to them.
-use Rattle.std.specs.Prelude.{ℕ, suc, ◌≤◌, ◌<◌, ◌≡◌, refl, Bool, true, false, not, List, [], ◌∷◌, ltb, length}
+use Rattle.std.specs.Prelude.{ℕ, suc, ◌≤◌, ◌<◌, ◌≡◌, refl, Bool, true, false, not, List, [], ◌∷◌, ltb, length, Option, None, Some, IfSome}
+use Rattle.std.specs.Option.{option_map_or}
 use Rattle.std.proofs.Common.{sym, ap, ap₂, ◌∙◌, arith, ltb-true, ltb-false, lt-ltb, le-ltb}
 use Rattle.lists.specs.Pick.{pick}
 use Rattle.lists.specs.All.{pairs_by}
@@ -146,25 +147,25 @@ inserted_own o l ls e =
 
 -- ---- an edit
 -- of records of other identifiers leaves the one of this as it is
-pub edited_other : (e : Edit) (i : List ℕ) (t : TenantLeases) (o : Lease) → (e.leaves ≡ true → id_of e.old ≡ i → ⊥) → (e.enters ≡ true → id_of e.new ≡ i → ⊥)
+pub edited_other : (e : Edit) (i : List ℕ) (t : TenantLeases) (o : Lease) → IfSome e.leaves (λ x. id_of x ≡ i → ⊥) → IfSome e.enters (λ x. id_of x ≡ i → ⊥)
     → filter_by (named i) (in_use t) ≡ o ∷ [] → filter_by (named i) (in_use (edited_in e t)) ≡ o ∷ []
 unfolding edited_by left_in inserted_by pick
-edited_other e i t o p q has = enter e.enters refl
+edited_other e i t o p q has = enter e.enters q
   where
     u : TenantLeases
-    u = pick e.leaves (laid_out (remove_of (id_of e.old) (in_use t))) t
+    u = left_in e t
 
-    leave : (c : Bool) → e.leaves ≡ c → filter_by (named i) (in_use (pick c (laid_out (remove_of (id_of e.old) (in_use t))) t)) ≡ filter_by (named i) (in_use t)
-    leave true f = ap (filter_by (named i)) (read_back (remove_of (id_of e.old) (in_use t))) ∙ removed_other i (id_of e.old) (in_use t) (p f)
-    leave false f = refl
+    leave : (c : Option Lease) → IfSome c (λ x. id_of x ≡ i → ⊥) → filter_by (named i) (in_use (option_map_or (λ x. laid_out (remove_of (id_of x) (in_use t))) c t)) ≡ filter_by (named i) (in_use t)
+    leave (Some x) f = ap (filter_by (named i)) (read_back (remove_of (id_of x) (in_use t))) ∙ removed_other i (id_of x) (in_use t) f
+    leave None f = refl
 
     left : filter_by (named i) (in_use u) ≡ o ∷ []
-    left = leave e.leaves refl ∙ has
+    left = leave e.leaves p ∙ has
 
-    inserted : (c : Bool) → e.enters ≡ true → filter_by (named i) (in_use (pick c (laid_out (insert_of e.new (in_use u))) u)) ≡ o ∷ []
-    inserted true f = ap (filter_by (named i)) (read_back (insert_of e.new (in_use u))) ∙ inserted_other ordered i e.new (in_use u) o (q f) left
-    inserted false f = left
+    inserted : (x : Lease) → (id_of x ≡ i → ⊥) → (c : Bool) → filter_by (named i) (in_use (pick c (laid_out (insert_of x (in_use u))) u)) ≡ o ∷ []
+    inserted x f true = ap (filter_by (named i)) (read_back (insert_of x (in_use u))) ∙ inserted_other ordered i x (in_use u) o f left
+    inserted x f false = left
 
-    enter : (c : Bool) → e.enters ≡ c → filter_by (named i) (in_use (pick c (inserted_in e.new u) u)) ≡ o ∷ []
-    enter true f = inserted (ltb (length (in_use u)) 16) f
-    enter false f = left
+    enter : (c : Option Lease) → IfSome c (λ x. id_of x ≡ i → ⊥) → filter_by (named i) (in_use (option_map_or (λ x. inserted_in x u) c u)) ≡ o ∷ []
+    enter (Some x) f = inserted x f (ltb (length (in_use u)) 16)
+    enter None f = left

@@ -1,23 +1,13 @@
 -- `rest_unused` meets its contract: a test of every entry past the last.
-use Rattle.lists.specs.laws.All.{alls}
-use Rattle.releases.specs.laws.Code.{rest_start}
-use borrow.Author.Rules.{rules}
+use Rattle.std.proofs.Common.{ap, ◌∙◌, rules}
+use Rattle.lists.specs.All.{all_by}
+use Rattle.lists.specs.laws.Part.{unmapped}
+use Rattle.lists.specs.laws.Rest.{all_behind}
+use Rattle.releases.specs.laws.Code.{part_behind}
+use Rattle.releases.specs.Rules.{unused_r}
 use Rattle.releases.proofs.rules.rest_unused.Goals as goal
 
-pub cut4-i-requires : goal.cut4-i-requires
-cut4-i-requires c = search (alls, rules)
-
-pub loop-i-init : goal.loop-i-init
-loop-i-init c = search (alls, rest_start, rules)
-
-pub is_unused-requires : goal.is_unused-requires
-is_unused-requires c = search (alls, rules)
-
-pub returns-then-not-is_unused : goal.returns-then-not-is_unused
-returns-then-not-is_unused c = search (alls, rules)
-
-pub loop-i-preserved : goal.loop-i-preserved
-loop-i-preserved c = search (alls, rest_start, rules)
-
 pub returns : goal.returns
-returns c = search (alls, rules)
+returns c =
+    all_behind unused_r c.args.q.releases c.args.q.count 4 c.min-n.result (c.every.ensures unused_r (λ x r h. search rules) ∙ ap (all_by unused_r) (part_behind c.args.q.releases c.min-n.result)) (search rules)
+    (search (unmapped, rules))

@@ -1,48 +1,28 @@
 -- `pass` meets its contract: three loops, one after the other.
-use Rattle.lists.specs.laws.Fold.{fold_start_at, fold_next, folds}
-use Rattle.lists.specs.laws.Part.{parts, unmapped}
-use Rattle.soundness.specs.laws.Gathered.{gathered_are, swifts, unused_and, unused_are}
-use borrow.Author.Rules.{rules}
+use Rattle.std.proofs.Common.{◌≡◌, ℕ, ◌-◌, List, ap, ◌∙◌, arith, rules, length, take, drop, take_all, length-drop}
+use Rattle.lists.specs.All.{all_by}
+use Rattle.state.specs.declared.Lease.{Lease}
+use Rattle.lists.specs.Fold.{fold}
+use Rattle.lists.specs.laws.Part.{unmapped}
+use Rattle.lists.specs.laws.Rest.{rest_start, rest_end, all_behind}
+use Rattle.state.specs.Book.{in_use}
+use Rattle.soundness.specs.Sound.{unused_b}
+use Rattle.soundness.specs.Parts.{added_lease}
+use Rattle.soundness.specs.laws.Gathered.{gathered_are, swift_rises}
 use Rattle.soundness.proofs.gather.pass.Goals as goal
 
-pub cut16-n-requires : goal.cut16-n-requires
-cut16-n-requires c = search (parts, swifts, folds, rules)
+-- what is behind the last record, as a part
+behind : (l : List Lease) (n : ℕ) → take (length l - n) (drop n l) ≡ drop n l
+behind l n = take_all (length l - n) (drop n l) (omega (arith, length-drop n l))
 
-pub no_lease_yet-now-requires : goal.no_lease_yet-now-requires
-no_lease_yet-now-requires c = search (parts, rules)
-
-pub loop-i-init : goal.loop-i-init
-loop-i-init c = search (parts, gathered_are, rules)
-
-pub add_lease-now-requires : goal.add_lease-now-requires
-add_lease-now-requires c = search (parts, rules)
-
-pub loop-i-preserved : goal.loop-i-preserved
-loop-i-preserved c = search (parts, rules)
-
-pub loop-j-init : goal.loop-j-init
-loop-j-init c = search (swifts, parts, rules)
-
-pub is_swift-requires : goal.is_swift-requires
-is_swift-requires c = search (parts, swifts, folds, rules)
-
-pub both-swift-requires : goal.both-swift-requires
-both-swift-requires c = search (parts, swifts, folds, rules)
-
-pub loop-j-preserved : goal.loop-j-preserved
-loop-j-preserved c = search (swifts, parts, rules)
-
-pub loop-k-init : goal.loop-k-init
-loop-k-init c = search (fold_start_at, unused_are, unmapped, rules)
-
-pub is_unused-requires : goal.is_unused-requires
-is_unused-requires c = search (parts, rules)
-
-pub both-unused-requires : goal.both-unused-requires
-both-unused-requires c = search (parts, swifts, folds, rules)
-
-pub loop-k-preserved : goal.loop-k-preserved
-loop-k-preserved c = fold_next c.loop-k.invariant (search rules) (unused_and _ _ _ _ c.is_unused.ensures c.both-unused.ensures)
+pub loop-l-init : goal.loop-l-init
+loop-l-init c =
+    rest_start (added_lease c.args.s) c.args.t.leases _ c.args.t.count 16 (search rules) (search (unmapped, rules))
+    (ap (λ b. fold (added_lease c.args.s) b (in_use c.args.t)) c.no_lease_yet-gathered.ensures ∙ gathered_are c.args.s c.args.t)
 
 pub returns : goal.returns
-returns c = search (parts, swifts, folds, rules)
+returns c = record {
+  gathers = rest_end (added_lease c.args.s) _ _ c.loop-l-test.false c.loop-l.invariant;
+  rises = swift_rises c.args.t.leases c.args.t.count 16 c.min-n.result (search rules) (search rules) (search (unmapped, rules));
+  rest = all_behind unused_b c.args.t.leases c.args.t.count 16 c.min-n.result (c.every.ensures unused_b (λ x r h. search rules) ∙ ap (all_by unused_b) (behind c.args.t.leases c.min-n.result)) (search rules) (search (unmapped, rules));
+}

@@ -1,4 +1,3 @@
-use Prim.Native.Nat.{◌-◌}
 use Rattle.lists.specs.laws.Sums.{SumInv}
 use Rattle.soundness.specs.Parts.{count_in, limit_in}
 use Rattle.soundness.specs.laws.Code.{FlagInv}
@@ -7,6 +6,3 @@ use Rattle.soundness.proofs.holdings.scope_load.Given as goal
 
 abbrev pub invariant-loop-g : goal.invariant-loop-g
 invariant-loop-g l = FlagInv (limit_in l.h l.c l.k) l.n l.within l.g × SumInv (committed l.c (count_in l.h l.k)) l.n l.sum l.g
-
-abbrev pub decreases-loop-g : goal.decreases-loop-g
-decreases-loop-g l = l.n - l.g

@@ -1,10 +1,6 @@
-use Prim.Native.Nat.{◌-◌}
 use Rattle.lists.specs.laws.Sums.{SumInv}
 use Rattle.state.specs.Book.{reserve_at}
 use Rattle.soundness.proofs.settings.reserves.Given as goal
 
 abbrev pub invariant-loop-g : goal.invariant-loop-g
 invariant-loop-g l = SumInv (reserve_at l.c) l.n l.sum l.g
-
-abbrev pub decreases-loop-g : goal.decreases-loop-g
-decreases-loop-g l = l.n - l.g

@@ -1,20 +1,10 @@
--- `settings::scopes_rules` meets its contract: by parts, scopes-are.
-use Rattle.lists.specs.laws.Part.{parts}
+-- `settings::scopes_rules` meets its contract: the rules of each scope, gathered.
+use Rattle.std.proofs.Common.{rules}
+use Rattle.lists.specs.laws.Part.{unmapped}
+use Rattle.lists.specs.laws.Rest.{rest_start}
+use Rattle.soundness.specs.Parts.{and_scopes}
 use Rattle.soundness.specs.laws.Code.{scopes_are}
-use borrow.Author.Rules.{rules}
 use Rattle.soundness.proofs.settings.scopes_rules.Goals as goal
 
-pub cut4-m-requires : goal.cut4-m-requires
-cut4-m-requires c = search (parts, rules)
-
-pub loop-i-init : goal.loop-i-init
-loop-i-init c = search (parts, scopes_are, rules)
-
-pub and_scopes-all-requires : goal.and_scopes-all-requires
-and_scopes-all-requires c = search (parts, scopes_are, rules)
-
-pub loop-i-preserved : goal.loop-i-preserved
-loop-i-preserved c = search (parts, rules)
-
-pub returns : goal.returns
-returns c = search (parts, rules)
+pub loop-c-init : goal.loop-c-init
+loop-c-init c = rest_start (and_scopes c.args.n) c.args.s.scopes _ c.args.s.scope_count 4 (search rules) (search (unmapped, rules)) (scopes_are _ _)

@@ -1,10 +1,10 @@
 -- `check_tenant` meets its contract: by gathered-apart, tenant-checked.
+use Rattle.std.proofs.Common.{refl, rules}
 use Rattle.soundness.specs.laws.Gathered.{gathered_apart, tenant_checked}
-use borrow.Author.Rules.{rules}
 use Rattle.soundness.proofs.tenants.check_tenant.Goals as goal
 
-pub periods_ok-period-requires : goal.periods_ok-period-requires
-periods_ok-period-requires c = search (gathered_apart, rules)
+pub periods_ok-requires : goal.periods_ok-requires
+periods_ok-requires c = search (gathered_apart, rules)
 
 pub returns : goal.returns
-returns c = search (tenant_checked, rules)
+returns c = tenant_checked c.args.s c.args.t c.pass-p.result c.pass-p.ensures c.rises.ensures refl c.ids_differ.ensures c.periods_ok.ensures refl refl

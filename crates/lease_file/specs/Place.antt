@@ -1,13 +1,12 @@
 -- Definitions: where leases and holds stand in the file's octets, for the code that goes over them.
-use Rattle.std.specs.Prelude.{Bool, false, true, List, [], ◌+◌, ◌<◌, ◌≤◌, ℕ, drop, get_or, length, take}
+use Rattle.std.specs.Prelude.{Bool, false, true, List, [], ◌+◌, ◌-◌, ◌<◌, ◌≤◌, ℕ, Option, drop, get_or, length, take}
 use Rattle.format.specs.Place.{EachAt, walk}
 use Rattle.format.specs.Section.{EntryEnds, InRow, SectionEnds}
 use Rattle.format.specs.Tenants.{keep_by, per_tenant}
-use Rattle.format.specs.declared.Place.{Place}
 use Rattle.lists.specs.Fold.{fold}
 use Rattle.lists.specs.Pick.{pick}
 use Rattle.octets.specs.Octets.{at32}
-use Rattle.state.specs.Book.{laid_out, pushed}
+use Rattle.state.specs.Book.{laid_out, no_leases, pushed}
 use Rattle.state.specs.declared.TenantLeases.{TenantLeases}
 use Rattle.lease_file.specs.Records.{stored_entry}
 use Rattle.lease_file.specs.Section.{Entry, FileLease, entry_after, entry_format, entry_key, entry_tenant}
@@ -41,10 +40,10 @@ abbrev pub after_entry : Bool → List ℕ → ℕ → ℕ
 after_entry holds s at = after_lease s at + tail_of holds
 
 -- where an entry ends, and the section that starts at a place
-pub record EntryEndsAt (holds : Bool) (s : List ℕ) (at : ℕ) (r : Place) : Type 0 where
+pub record EntryEndsAt (holds : Bool) (s : List ℕ) (at : ℕ) (r : Option ℕ) : Type 0 where
   pub is : EntryEnds (entry_format holds) (entry_at holds) (after_entry holds) s at r
 
-pub record SectionEndsAt (holds : Bool) (s : List ℕ) (at : ℕ) (r : Place) : Type 0 where
+pub record SectionEndsAt (holds : Bool) (s : List ℕ) (at : ℕ) (r : Option ℕ) : Type 0 where
   pub is : SectionEnds (entry_key holds) (entry_after holds) (0, []) (entry_format holds) (entry_at holds) (after_entry holds) s at r
 
 -- the entries of the section that starts at a place
@@ -74,6 +73,10 @@ kept_from holds t h xs = fold (keep_by (entry_tenant holds) (λ h x. pushed h (s
 
 abbrev pub kept_holds : List (Entry true) → ℕ → TenantLeases
 kept_holds ys t = kept_from true t (laid_out []) ys
+
+-- the same of all eight, hs what they have first
+abbrev pub filled : (holds : Bool) → List TenantLeases → List (Entry holds) → List TenantLeases
+filled holds hs xs = per_tenant (λ t. kept_from holds t (get_or hs (t - 1) no_leases) xs) 1 8
 
 unfoldable pub kept_all : List (Entry false) → List (Entry true) → List TenantLeases
 kept_all xs ys = per_tenant (λ t. kept_from false t (kept_holds ys t) xs) 1 8

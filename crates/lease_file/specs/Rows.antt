@@ -1,6 +1,6 @@
 -- Definitions: the octets of the records, as the writer goes over them: tenant by tenant, and of its records those that belong into the section; and rows
 -- of records, as the reader fills them.
-use Rattle.std.specs.Prelude.{Bool, List, [], ◌∷◌, map, ◌+◌, ℕ, get_or, length}
+use Rattle.std.specs.Prelude.{Bool, List, [], map, ◌+◌, ℕ, get_or, length}
 use Rattle.format.specs.Rows.{write_from}
 use Rattle.lists.specs.Filter.{filter_by}
 use Rattle.lists.specs.Pick.{pick}
@@ -43,12 +43,6 @@ abbrev pub table_total : Bool → LeaseTable → ℕ
 table_total holds b = sum_to (λ i. kind_count holds (get_or b.tenants i no_leases)) 8
 
 -- ---- reading
--- rows and counts as the records of tenants
-unfoldable pub tenants_from : List (List Lease) → List ℕ → List TenantLeases
-tenants_from [] cs = []
-tenants_from (r ∷ rs) [] = []
-tenants_from (r ∷ rs) (c ∷ cs) = record { leases = r; count = c } ∷ tenants_from rs cs
-
 -- each tenant's in the order of records
 abbrev pub by_ending_all : List TenantLeases → List TenantLeases
 by_ending_all ts = map (λ t. laid_out (arranged ordered (in_use t))) ts

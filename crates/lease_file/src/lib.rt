@@ -15,46 +15,36 @@ ghost use Rattle.state.specs.Book.{table_of};
 ghost use Rattle.lease_file.specs.Place.{EntriesIn, SectionEndsAt, entries_in};
 ghost use Rattle.lease_file.specs.Records.{in_file_order, merged_from, records_fit_b, table_octets};
 
-use crate::form::{entry_end, is_after};
+use crate::form::{entry_end, id_at, is_after};
 use crate::limits::{all_few, all_fit, tally};
 use crate::order::arrange;
 use crate::reader::all_records;
 use crate::sizes::{rows_size, total};
 use crate::writer::put_records;
-use arithmetic::wide;
-use format::Place;
 pub use limits::entry_next;
 pub use reader::record_at;
-use state::LeaseTable;
+use state::{LeaseTable, OrderBy};
 
 // Where the section that starts at `at` ends.
-pub fn section_end(s: &[u8], at: usize, holds: bool) -> Place
+pub fn section_end(s: &[u8], at: usize, holds: bool) -> Option<usize>
     ensures { SectionEndsAt holds s.now at result }
 {
     if s.len() <= at {
-        return Place::Nowhere;
+        return None;
     }
-    let count = wide(s[at]);
     let mut here = at + 1;
-    let mut i: usize = 0;
     let mut tenant: u8 = 0;
-    let mut id_at: usize = 0;
-    let mut id_len: usize = 0;
-    while i < count {
-        let end = entry_end(s, here, holds);
-        let Place::At(next) = end else {
-            return Place::Nowhere;
-        };
-        if is_after(s, tenant, id_at, id_len, here) {
-            return Place::Nowhere;
+    let mut id = &s[..0];
+    for _ in 0..usize::from(s[at]) {
+        let next = entry_end(s, here, holds)?;
+        if is_after(s, tenant, id, here) {
+            return None;
         }
         tenant = s[here];
-        id_len = wide(s[here + 2]);
-        id_at = here + 3;
+        id = id_at(s, here);
         here = next;
-        i += 1;
     }
-    Place::At(here)
+    Some(here)
 }
 
 // Whether the records can hold the leases and the holds, whose sections start at these places.
@@ -62,14 +52,10 @@ pub fn fits(s: &[u8], leases: usize, holds: usize) -> bool
     requires { EntriesIn false s.now leases × EntriesIn true s.now holds }
     ensures { result ≡ records_fit_b (entries_in false s.now leases) (entries_in true s.now holds) }
 {
-    if all_fit(s, leases, false) {
-        if all_fit(s, holds, true) {
-            let a = tally(s, leases, false);
-            let b = tally(s, holds, true);
-            return all_few(a, b);
-        }
+    if !all_fit(s, leases, false) || !all_fit(s, holds, true) {
+        return false;
     }
-    false
+    all_few(tally(s, leases, false), tally(s, holds, true))
 }
 
 // The records of the sections that start at these places.
@@ -77,8 +63,9 @@ pub fn load(s: &[u8], leases: usize, holds: usize) -> LeaseTable
     requires { EntriesIn false s.now leases × EntriesIn true s.now holds × (records_fit_b (entries_in false s.now leases) (entries_in true s.now holds) ≡ true) }
     ensures { result ≡ table_of (merged_from 1 8 (entries_in false s.now leases) (entries_in true s.now holds)) }
 {
-    let tenants = all_records(s, leases, holds);
-    LeaseTable { tenants }
+    LeaseTable {
+        tenants: all_records(s, leases, holds),
+    }
 }
 
 // The records in the order of the file: each tenant's by identifier.
@@ -86,12 +73,8 @@ pub fn in_file_order(table: LeaseTable) -> LeaseTable
     ensures { result ≡ in_file_order table }
 {
     let mut now = table;
-    let mut h: usize = 0;
-    while h < 8 {
-        let t = table.tenants[h];
-        let x = arrange(t, false);
-        now.tenants[h] = x;
-        h += 1;
+    for t in &mut now.tenants {
+        *t = arrange(*t, OrderBy::Identifier);
     }
     now
 }

@@ -1,5 +1,5 @@
 // Whether the records of a book can hold what well-formed sections have: entries of the right type, identifiers, offsets, and so many of each tenant.
-ghost use Rattle.std.specs.Prelude.{not, ◌≡◌, ◌+◌, ◌-◌, ◌<◌, ◌≤◌, eqb, leb, drop, get_or, length, take};
+ghost use Rattle.std.specs.Prelude.{not, ◌≡◌, ◌+◌, ◌-◌, ◌<◌, eqb, leb, get_or};
 ghost use Rattle.format.specs.Section.{Inside};
 ghost use Rattle.format.specs.Tenants.{tally_by};
 ghost use Rattle.lists.specs.All.{all_by, all_to};
@@ -9,7 +9,6 @@ ghost use Rattle.lease_file.specs.Records.{entry_fit_b, is_offset, storable_b};
 ghost use Rattle.lease_file.specs.Section.{entry_tenant};
 
 use crate::form::tail;
-use arithmetic::wide;
 use message::MessageType;
 
 // Whether they can hold each entry of the section that starts at `at`.
@@ -17,16 +16,12 @@ pub fn all_fit(s: &[u8], at: usize, holds: bool) -> bool
     requires { EntriesIn holds s.now at }
     ensures { result ≡ all_by (entry_fit_b holds) (entries_in holds s.now at) }
 {
-    let count = wide(s[at]);
     let mut here = at + 1;
-    let mut i: usize = 0;
-    while i < count {
-        if fits_at(s, here, holds) {
-            here = entry_next(s, here, holds);
-            i += 1;
-        } else {
+    for _ in 0..usize::from(s[at]) {
+        if !fits_at(s, here, holds) {
             return false;
         }
+        here = entry_next(s, here, holds);
     }
     true
 }
@@ -36,21 +31,15 @@ fn fits_at(s: &[u8], at: usize, holds: bool) -> bool
     requires { Inside (after_entry holds) s.now at }
     ensures { result ≡ entry_fit_b holds (entry_at holds s.now at) }
 {
-    let n = wide(s[at + 2]);
-    if of_kind(s[at + (n + 3)], holds) {
-        return storable_at(s, at);
-    }
-    false
+    let n = usize::from(s[at + 2]);
+    of_kind(s[at + (n + 3)], holds) && storable_at(s, at)
 }
 
 // Whether the section has entries of a type: that of holds has those of a DISCOVER's alone.
 pub fn of_kind(kind: u8, holds: bool) -> bool
     ensures { result ≡ pick holds (eqb kind 1) (not (eqb kind 1)) }
 {
-    if holds {
-        return kind == MessageType::DISCOVER;
-    }
-    kind != MessageType::DISCOVER
+    (kind == MessageType::DISCOVER) == holds
 }
 
 // Whether a record can hold the lease that starts at `at`.
@@ -59,30 +48,24 @@ fn storable_at(s: &[u8], at: usize) -> bool
     ensures { result ≡ storable_b (file_lease_at s.now at) }
 {
     let t = s[at];
-    if t < 1 {
+    if t < 1 || 8 < t {
         return false;
     }
-    if 8 < t {
-        return false;
-    }
-    let n = wide(s[at + 2]);
+    let n = usize::from(s[at + 2]);
     if 32 < n {
         return false;
     }
-    let k = wide(s[at + (n + 16)]);
-    low(s, at + (n + 17), k)
+    let k = usize::from(s[at + (n + 16)]);
+    low(&s[at + (n + 17)..at + (n + 17) + k])
 }
 
-// Whether the k octets from `at` on are all below 64: gathered by or to the end, with no way out on the way, so that several are looked at together.
-fn low(s: &[u8], at: usize, k: usize) -> bool
-    requires { at + k ≤ length s.now }
-    ensures { result ≡ all_by is_offset (take k (drop at s.now)) }
+// Whether all octets are below 64: gathered by or to the end, with no way out on the way, so that several are looked at together.
+fn low(offsets: &[u8]) -> bool
+    ensures { result ≡ all_by is_offset offsets.now }
 {
     let mut any: u8 = 0;
-    let mut i: usize = 0;
-    while i < k {
-        any = any | s[at + i];
-        i += 1;
+    for x in offsets {
+        any |= *x;
     }
     any < 64
 }
@@ -91,15 +74,10 @@ fn low(s: &[u8], at: usize, k: usize) -> bool
 pub fn all_few(leases: [usize; 8], holds: [usize; 8]) -> bool
     ensures { result ≡ all_to (λ i. leb (get_or leases i 0 + get_or holds i 0) 16) 8 }
 {
-    let mut i: usize = 0;
-    while i < 8 {
-        if 16 < leases[i] {
+    for i in 0..8 {
+        if 16 < leases[i].saturating_add(holds[i]) {
             return false;
         }
-        if 16 - leases[i] < holds[i] {
-            return false;
-        }
-        i += 1;
     }
     true
 }
@@ -110,15 +88,10 @@ pub fn tally(s: &[u8], at: usize, holds: bool) -> [usize; 8]
     ensures { result ≡ tally_by (entry_tenant holds) (entries_in holds s.now at) }
 {
     let mut n = [0usize; 8];
-    let count = wide(s[at]);
     let mut here = at + 1;
-    let mut i: usize = 0;
-    while i < count {
-        let t = tenant_place(s, here, holds);
-        let k = n[t];
-        n[t] = k + 1;
+    for _ in 0..usize::from(s[at]) {
+        n[tenant_place(s, here, holds)] += 1;
         here = entry_next(s, here, holds);
-        i += 1;
     }
     n
 }
@@ -128,8 +101,8 @@ pub fn entry_next(s: &[u8], at: usize, holds: bool) -> usize
     requires { Inside (after_entry holds) s.now at }
     ensures { result ≡ after_entry holds s.now at }
 {
-    let n = wide(s[at + 2]);
-    let k = wide(s[at + (n + 16)]);
+    let n = usize::from(s[at + 2]);
+    let k = usize::from(s[at + (n + 16)]);
     at + (n + 17 + k) + tail(holds)
 }
 
@@ -138,5 +111,5 @@ pub fn tenant_place(s: &[u8], at: usize, holds: bool) -> usize
     requires { StorableAt holds s.now at }
     ensures { (result ≡ get_or s.now at 0 - 1) × (result < 8) }
 {
-    wide(s[at]) - 1
+    usize::from(s[at]) - 1
 }

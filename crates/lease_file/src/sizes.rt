@@ -10,11 +10,8 @@ pub fn total(table: LeaseTable, holds: bool) -> usize
     ensures { (result ≡ table_total holds table) × (result ≤ 128) }
 {
     let mut sum: usize = 0;
-    let mut i: usize = 0;
-    while i < 8 {
-        let t = table.tenants[i];
-        sum += kind_count(t, holds);
-        i += 1;
+    for t in &table.tenants {
+        sum += kind_count(*t, holds);
     }
     sum
 }
@@ -23,13 +20,10 @@ pub fn total(table: LeaseTable, holds: bool) -> usize
 fn kind_count(t: TenantLeases, holds: bool) -> usize
     ensures { (result ≡ kind_count holds t) × (result ≤ 16) }
 {
-    let n = state::cut16(t.count);
+    let leases = &t.leases[..t.count.min(16)];
     let mut sum: usize = 0;
-    let mut i: usize = 0;
-    while i < n {
-        let l = t.leases[i];
-        sum += one_of(l, holds);
-        i += 1;
+    for l in leases {
+        sum += one_of(*l, holds);
     }
     sum
 }
@@ -37,10 +31,7 @@ fn kind_count(t: TenantLeases, holds: bool) -> usize
 fn one_of(l: Lease, holds: bool) -> usize
     ensures { (result ≡ one_of holds l) × (result ≤ 1) }
 {
-    if of_kind(l.kind, holds) {
-        return 1;
-    }
-    0
+    if of_kind(l.kind, holds) { 1 } else { 0 }
 }
 
 // Octets of all entries.
@@ -48,11 +39,8 @@ pub fn rows_size(table: LeaseTable, holds: bool) -> usize
     ensures { (result ≡ length (table_rows holds table)) × (result ≤ 14976) }
 {
     let mut sum: usize = 0;
-    let mut i: usize = 0;
-    while i < 8 {
-        let t = table.tenants[i];
-        sum += tenant_size(t, holds);
-        i += 1;
+    for t in &table.tenants {
+        sum += tenant_size(*t, holds);
     }
     sum
 }
@@ -60,13 +48,10 @@ pub fn rows_size(table: LeaseTable, holds: bool) -> usize
 fn tenant_size(t: TenantLeases, holds: bool) -> usize
     ensures { (result ≡ length (tenant_octets holds 0 t)) × (result ≤ 1872) }
 {
-    let n = state::cut16(t.count);
+    let leases = &t.leases[..t.count.min(16)];
     let mut sum: usize = 0;
-    let mut i: usize = 0;
-    while i < n {
-        let l = t.leases[i];
-        sum += entry_size(l, holds);
-        i += 1;
+    for l in leases {
+        sum += entry_size(*l, holds);
     }
     sum
 }
@@ -75,7 +60,7 @@ fn entry_size(l: Lease, holds: bool) -> usize
     ensures { (result ≡ length (entry_octets holds 0 0 l)) × (result ≤ 117) }
 {
     if of_kind(l.kind, holds) {
-        return arithmetic::cut32(l.id_len)
+        return usize::from(l.id_len).min(32)
             + 17
             + (address_set::count(l.addresses) as usize)
             + tail(holds);

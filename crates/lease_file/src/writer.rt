@@ -16,11 +16,8 @@ pub fn put_records(buffer: &mut [u8], at: usize, table: LeaseTable, holds: bool)
     ensures { Wrote buffer.old at (table_rows holds table) buffer.new result }
 {
     let mut to = at;
-    let mut i: usize = 0;
-    while i < 8 {
-        let t = table.tenants[i];
-        to = put_tenant(buffer, to, (i + 1) as u8, t, holds);
-        i += 1;
+    for (i, t) in table.tenants.iter().enumerate() {
+        to = put_tenant(buffer, to, (i + 1) as u8, *t, holds);
     }
     to
 }
@@ -30,13 +27,10 @@ fn put_tenant(buffer: &mut [u8], at: usize, tenant: u8, t: TenantLeases, holds: 
     requires { at + length (tenant_octets holds tenant t) ≤ length buffer.old }
     ensures { Wrote buffer.old at (tenant_octets holds tenant t) buffer.new result }
 {
-    let n = state::cut16(t.count);
+    let leases = &t.leases[..t.count.min(16)];
     let mut to = at;
-    let mut i: usize = 0;
-    while i < n {
-        let l = t.leases[i];
-        to = put_if(buffer, to, tenant, l, holds);
-        i += 1;
+    for l in leases {
+        to = put_if(buffer, to, tenant, *l, holds);
     }
     to
 }
@@ -47,9 +41,10 @@ fn put_if(buffer: &mut [u8], at: usize, tenant: u8, l: Lease, holds: bool) -> us
     ensures { Wrote buffer.old at (entry_octets holds tenant 0 l) buffer.new result }
 {
     if of_kind(l.kind, holds) {
-        return put_entry(buffer, at, tenant, l, holds);
+        put_entry(buffer, at, tenant, l, holds)
+    } else {
+        at
     }
-    at
 }
 
 // The entry of a tenant's record: as a lease, and the lapse of a hold.
@@ -66,9 +61,10 @@ fn put_lapse(buffer: &mut [u8], at: usize, lapse: u32, holds: bool) -> usize
     ensures { Wrote buffer.old at (lapse_octets holds lapse) buffer.new result }
 {
     if holds {
-        return octets::put_u32(buffer, at, lapse as u64);
+        octets::put_u32(buffer, at, u64::from(lapse))
+    } else {
+        at
     }
-    at
 }
 
 // A tenant's record as a lease.
@@ -86,12 +82,11 @@ fn put_head(buffer: &mut [u8], at: usize, tenant: u8, l: Lease) -> usize
     requires { at + (length (id_of l) + 3) ≤ length buffer.old }
     ensures { Wrote buffer.old at (tenant ∷ l.scope ∷ length (id_of l) ∷ id_of l) buffer.new result }
 {
-    let id = l.id;
-    let n = arithmetic::cut32(l.id_len);
+    let n = usize::from(l.id_len).min(32);
     let a = octets::put_u8(buffer, at, tenant);
     let b = octets::put_u8(buffer, a, l.scope);
     let c = octets::put_u8(buffer, b, n as u8);
-    octets::put_run(buffer, c, &id, n)
+    octets::put_run(buffer, c, &l.id, n)
 }
 
 // The type, the transaction id and the period of a lease.
@@ -100,9 +95,9 @@ fn put_middle(buffer: &mut [u8], at: usize, l: Lease) -> usize
     ensures { Wrote buffer.old at (l.kind ∷ octets32 l.xid ++ octets32 l.start ++ octets32 l.end) buffer.new result }
 {
     let a = octets::put_u8(buffer, at, l.kind);
-    let b = octets::put_u32(buffer, a, l.xid as u64);
-    let c = octets::put_u32(buffer, b, l.start as u64);
-    octets::put_u32(buffer, c, l.end as u64)
+    let b = octets::put_u32(buffer, a, u64::from(l.xid));
+    let c = octets::put_u32(buffer, b, u64::from(l.start));
+    octets::put_u32(buffer, c, u64::from(l.end))
 }
 
 // The offsets of a set after their count.
@@ -115,6 +110,7 @@ fn put_addresses(buffer: &mut [u8], at: usize, set: u64) -> usize
 }
 
 // The offsets of a set, lowest first.
+// Stays: what is left of the set is tested, and no index counted; a `for` over all 64 offsets would test each.
 fn put_offsets(buffer: &mut [u8], at: usize, set: u64) -> usize
     requires { at + length (offsets set) ≤ length buffer.old }
     ensures { Wrote buffer.old at (offsets set) buffer.new result }
@@ -122,9 +118,9 @@ fn put_offsets(buffer: &mut [u8], at: usize, set: u64) -> usize
     let mut left = set;
     let mut to = at;
     while 0 < left {
-        let a = u64::trailing_zeros(left);
+        let a = left.trailing_zeros();
         to = octets::put_u8(buffer, to, a as u8);
-        left = address_set::difference(left, 1u64 << (a as u64));
+        left = address_set::difference(left, 1 << a);
     }
     to
 }

@@ -1,9 +1,8 @@
 -- Definitions: where the releases stand in the file's octets, for the code that goes over them.
-use Rattle.std.specs.Prelude.{List, [], ◌+◌, ◌<◌, ◌≤◌, ℕ, drop, get_or, length, take}
+use Rattle.std.specs.Prelude.{List, [], ◌+◌, ◌<◌, ◌≤◌, ℕ, drop, get_or, length, take, Option}
 use Rattle.format.specs.Place.{EachAt, walk}
 use Rattle.format.specs.Section.{EntryEnds, InRow, RowEnds, SectionEnds}
 use Rattle.format.specs.Tenants.{keep_by, per_tenant}
-use Rattle.format.specs.declared.Place.{Place}
 use Rattle.lists.specs.Fold.{fold}
 use Rattle.octets.specs.Octets.{at32}
 use Rattle.release_file.specs.Section.{FileRelease, release_after, release_format, release_key, stored_release, release_tenant}
@@ -23,15 +22,15 @@ file_release_at s at = record {
 abbrev pub after_release : List ℕ → ℕ → ℕ
 after_release s at = at + (get_or s (at + 1) 0 + 10)
 
-abbrev pub ReleaseEnds : List ℕ → ℕ → Place → Type 0
+abbrev pub ReleaseEnds : List ℕ → ℕ → Option ℕ → Type 0
 ReleaseEnds s at r = EntryEnds release_format file_release_at after_release s at r
 
 -- k releases in order
-abbrev pub ReleasesEnd : ℕ → List ℕ → ℕ → Place → Type 0
+abbrev pub ReleasesEnd : ℕ → List ℕ → ℕ → Option ℕ → Type 0
 ReleasesEnd k s from r = RowEnds release_key release_after (0, 0) release_format file_release_at after_release k s from r
 
 -- where the section that starts at a place ends
-abbrev pub ReleaseSection : List ℕ → ℕ → Place → Type 0
+abbrev pub ReleaseSection : List ℕ → ℕ → Option ℕ → Type 0
 ReleaseSection s at r = SectionEnds release_key release_after (0, 0) release_format file_release_at after_release s at r
 
 -- the k releases from a place on, and those of the section that starts at a place

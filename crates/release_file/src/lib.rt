@@ -17,22 +17,19 @@ use crate::limits::{all_few, all_keepable};
 use crate::reader::all_releases;
 use crate::sizes::{releases_size, total};
 use crate::writer::put_releases;
-use arithmetic::wide;
-use format::Place;
 pub use limits::release_next;
 pub use reader::release_at;
 use state::Memory;
 
 // Where the section that starts at `at` ends.
-pub fn section_end(s: &[u8], at: usize) -> Place
+pub fn section_end(s: &[u8], at: usize) -> Option<usize>
     requires { at ≤ length s.now }
     ensures { ReleaseSection s.now at result }
 {
     if s.len() <= at {
-        return Place::Nowhere;
+        return None;
     }
-    let count = wide(s[at]);
-    releases_end(s, at + 1, count)
+    releases_end(s, at + 1, usize::from(s[at]))
 }
 
 // Whether the memory can hold the section that starts at `at`.
@@ -40,11 +37,8 @@ pub fn fits(s: &[u8], at: usize) -> bool
     requires { ReleasesIn s.now at }
     ensures { result ≡ releases_fit_b (releases_in s.now at) }
 {
-    let count = wide(s[at]);
-    if all_keepable(s, at + 1, count) {
-        return all_few(s, at + 1, count);
-    }
-    false
+    let count = usize::from(s[at]);
+    all_keepable(s, at + 1, count) && all_few(s, at + 1, count)
 }
 
 // The memory of the section that starts at `at`.
@@ -52,10 +46,12 @@ pub fn load(s: &[u8], at: usize) -> Memory
     requires { ReleasesIn s.now at × (releases_fit_b (releases_in s.now at) ≡ true) }
     ensures { result ≡ stored_memory (releases_in s.now at) }
 {
-    let count = wide(s[at]);
+    let count = usize::from(s[at]);
     let releases = all_releases(s, at + 1, count);
-    let board = occupancy::no_board();
-    Memory { releases, board }
+    Memory {
+        releases,
+        board: occupancy::no_board(),
+    }
 }
 
 // How many octets the section of a memory has.

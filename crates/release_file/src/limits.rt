@@ -6,22 +6,17 @@ ghost use Rattle.lists.specs.All.{all_by, all_to};
 ghost use Rattle.release_file.specs.Place.{AllKeepable, KeepableAt, after_release, file_release_at, releases_from};
 ghost use Rattle.release_file.specs.Section.{few_for, keepable_b, release_tenant};
 
-use arithmetic::wide;
-
 // Whether the memory can hold each of `count` releases that start at `from`.
 pub fn all_keepable(s: &[u8], from: usize, count: usize) -> bool
     requires { InRow after_release s.now from count }
     ensures { result ≡ all_by keepable_b (releases_from s.now from count) }
 {
     let mut here = from;
-    let mut i: usize = 0;
-    while i < count {
-        if keepable_at(s, here) {
-            here = release_next(s, here);
-            i += 1;
-        } else {
+    for _ in 0..count {
+        if !keepable_at(s, here) {
             return false;
         }
+        here = release_next(s, here);
     }
     true
 }
@@ -31,14 +26,7 @@ fn keepable_at(s: &[u8], at: usize) -> bool
     requires { Inside after_release s.now at }
     ensures { result ≡ keepable_b (file_release_at s.now at) }
 {
-    let t = s[at];
-    if t < 1 {
-        return false;
-    }
-    if 8 < t {
-        return false;
-    }
-    wide(s[at + 1]) <= 32
+    matches!((s[at], s[at + 1]), (1..=8, 0..=32))
 }
 
 // Whether no tenant has more releases than entries.
@@ -46,15 +34,7 @@ pub fn all_few(s: &[u8], from: usize, count: usize) -> bool
     requires { AllKeepable s.now from count × (count < 256) }
     ensures { result ≡ all_to (λ i. few_for (releases_from s.now from count) (i + 1)) 8 }
 {
-    let n = tally(s, from, count);
-    let mut i: usize = 0;
-    while i < 8 {
-        if 4 < n[i] {
-            return false;
-        }
-        i += 1;
-    }
-    true
+    tally(s, from, count).iter().all(|n| *n <= 4)
 }
 
 // How many of `count` releases that start at `from` each tenant has.
@@ -64,13 +44,9 @@ fn tally(s: &[u8], from: usize, count: usize) -> [usize; 8]
 {
     let mut n = [0usize; 8];
     let mut here = from;
-    let mut i: usize = 0;
-    while i < count {
-        let t = tenant_place(s, here);
-        let k = n[t];
-        n[t] = k + 1;
+    for _ in 0..count {
+        n[tenant_place(s, here)] += 1;
         here = release_next(s, here);
-        i += 1;
     }
     n
 }
@@ -80,7 +56,7 @@ pub fn release_next(s: &[u8], at: usize) -> usize
     requires { Inside after_release s.now at }
     ensures { result ≡ after_release s.now at }
 {
-    at + (wide(s[at + 1]) + 10)
+    at + (usize::from(s[at + 1]) + 10)
 }
 
 // The place among the tenants of the one whose release starts at `at`.
@@ -88,5 +64,5 @@ pub fn tenant_place(s: &[u8], at: usize) -> usize
     requires { KeepableAt s.now at }
     ensures { (result ≡ get_or s.now at 0 - 1) × (result < 8) }
 {
-    wide(s[at]) - 1
+    usize::from(s[at]) - 1
 }

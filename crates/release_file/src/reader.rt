@@ -5,7 +5,6 @@ ghost use Rattle.release_file.specs.Section.{stored_release};
 
 use crate::form::time_at;
 use crate::limits::{release_next, tenant_place};
-use arithmetic::wide;
 use state::{Release, TenantReleases};
 
 // What eight tenants released, among `count` releases that start at `from`.
@@ -13,17 +12,12 @@ pub fn all_releases(s: &[u8], from: usize, count: usize) -> [TenantReleases; 8]
     requires { AllKeepable s.now from count }
     ensures { result ≡ kept_all (releases_from s.now from count) }
 {
-    let z = state::no_releases();
-    let mut out = [z; 8];
+    let mut out = [state::no_releases(); 8];
     let mut here = from;
-    let mut i: usize = 0;
-    while i < count {
+    for _ in 0..count {
         let t = tenant_place(s, here);
-        let q = out[t];
-        let g = state::push_release(q, release_at(s, here));
-        out[t] = g;
+        out[t] = state::push_release(out[t], release_at(s, here));
         here = release_next(s, here);
-        i += 1;
     }
     out
 }
@@ -33,7 +27,7 @@ pub fn release_at(s: &[u8], at: usize) -> Release
     requires { KeepableAt s.now at }
     ensures { result ≡ stored_release (file_release_at s.now at) }
 {
-    let n = wide(s[at + 1]);
+    let n = usize::from(s[at + 1]);
     let id = octets::read_run(s, at + 2, n);
     Release {
         id_len: s[at + 1],

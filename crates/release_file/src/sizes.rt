@@ -8,12 +8,9 @@ use state::{Memory, Release, TenantReleases};
 pub fn total(m: Memory) -> usize
     ensures { (result ≡ memory_total m) × (result ≤ 32) }
 {
-    let mut sum: usize = 0;
-    let mut i: usize = 0;
-    while i < 8 {
-        let q = m.releases[i];
-        sum += count_of(q);
-        i += 1;
+    let mut sum = 0;
+    for q in &m.releases {
+        sum += count_of(*q);
     }
     sum
 }
@@ -21,19 +18,16 @@ pub fn total(m: Memory) -> usize
 fn count_of(q: TenantReleases) -> usize
     ensures { (result ≡ length (remembered q)) × (result ≤ 4) }
 {
-    state::cut4(q.count)
+    q.count.min(4)
 }
 
 // Octets of all releases.
 pub fn releases_size(m: Memory) -> usize
     ensures { (result ≡ length (memory_rows m)) × (result ≤ 1344) }
 {
-    let mut sum: usize = 0;
-    let mut i: usize = 0;
-    while i < 8 {
-        let q = m.releases[i];
-        sum += tenant_size(q);
-        i += 1;
+    let mut sum = 0;
+    for q in &m.releases {
+        sum += tenant_size(*q);
     }
     sum
 }
@@ -41,13 +35,9 @@ pub fn releases_size(m: Memory) -> usize
 fn tenant_size(q: TenantReleases) -> usize
     ensures { (result ≡ length (tenant_octets 0 q)) × (result ≤ 168) }
 {
-    let n = state::cut4(q.count);
-    let mut sum: usize = 0;
-    let mut i: usize = 0;
-    while i < n {
-        let e = q.releases[i];
-        sum += release_size(e);
-        i += 1;
+    let mut sum = 0;
+    for e in &q.releases[..q.count.min(4)] {
+        sum += release_size(*e);
     }
     sum
 }
@@ -55,5 +45,5 @@ fn tenant_size(q: TenantReleases) -> usize
 fn release_size(e: Release) -> usize
     ensures { (result ≡ length (release_octets 0 0 e)) × (result ≤ 42) }
 {
-    arithmetic::cut32(e.id_len) + 10
+    usize::from(e.id_len).min(32) + 10
 }

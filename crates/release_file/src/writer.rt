@@ -13,11 +13,8 @@ pub fn put_releases(buffer: &mut [u8], at: usize, m: Memory) -> usize
     ensures { Wrote buffer.old at (memory_rows m) buffer.new result }
 {
     let mut to = at;
-    let mut i: usize = 0;
-    while i < 8 {
-        let q = m.releases[i];
-        to = put_tenant(buffer, to, (i + 1) as u8, q);
-        i += 1;
+    for (i, q) in m.releases.iter().enumerate() {
+        to = put_tenant(buffer, to, (i + 1) as u8, *q);
     }
     to
 }
@@ -27,13 +24,9 @@ fn put_tenant(buffer: &mut [u8], at: usize, tenant: u8, q: TenantReleases) -> us
     requires { at + length (tenant_octets tenant q) ≤ length buffer.old }
     ensures { Wrote buffer.old at (tenant_octets tenant q) buffer.new result }
 {
-    let n = state::cut4(q.count);
     let mut to = at;
-    let mut i: usize = 0;
-    while i < n {
-        let e = q.releases[i];
-        to = put_release(buffer, to, tenant, e);
-        i += 1;
+    for e in &q.releases[..q.count.min(4)] {
+        to = put_release(buffer, to, tenant, *e);
     }
     to
 }
@@ -53,9 +46,8 @@ fn put_head(buffer: &mut [u8], at: usize, tenant: u8, e: Release) -> usize
     requires { at + (length (release_id e) + 2) ≤ length buffer.old }
     ensures { Wrote buffer.old at (tenant ∷ length (release_id e) ∷ release_id e) buffer.new result }
 {
-    let id = e.id;
-    let n = arithmetic::cut32(e.id_len);
+    let n = usize::from(e.id_len).min(32);
     let a = octets::put_u8(buffer, at, tenant);
     let b = octets::put_u8(buffer, a, n as u8);
-    octets::put_run(buffer, b, &id, n)
+    octets::put_run(buffer, b, &e.id, n)
 }

@@ -1,19 +1,17 @@
 -- `fits` meets its contract: by `sections_fit`.
 use Rattle.lease_file.specs.laws.Limits.{sections_fit}
-use borrow.Author.Rules.{rules}
+use Rattle.std.proofs.Common.{rules}
+use Rattle.lease_file.proofs.fits.Goals.{then-not-all_fit-via-then-not-all_fit, then-not-all_fit-via-else-not-all_fit+then-not-all_fit-2}
 use Rattle.lease_file.proofs.fits.Goals as goal
 
-pub tally-a-requires : goal.tally-a-requires
-tally-a-requires c = search (sections_fit, rules)
+pub tally-requires : goal.tally-requires
+tally-requires c = search (sections_fit, rules)
 
-pub tally-b-requires : goal.tally-b-requires
-tally-b-requires c = search (sections_fit, rules)
+pub tally-requires-2 : goal.tally-requires-2
+tally-requires-2 c = search (sections_fit, rules)
 
-pub returns-then-all_fit-2 : goal.returns-then-all_fit-2
-returns-then-all_fit-2 c = search (sections_fit, rules)
+pub returns-then-not-all_fit : goal.returns-then-not-all_fit
+returns-then-not-all_fit c = elim c.then-not-all_fit.branch [ then-not-all_fit-via-then-not-all_fit w ↦ search (sections_fit, rules) | then-not-all_fit-via-else-not-all_fit+then-not-all_fit-2 w ↦ search (sections_fit, rules) ]
 
-pub returns-else-all_fit-2 : goal.returns-else-all_fit-2
-returns-else-all_fit-2 c = search (sections_fit, rules)
-
-pub returns-else-all_fit : goal.returns-else-all_fit
-returns-else-all_fit c = search (sections_fit, rules)
+pub returns : goal.returns
+returns c = search (sections_fit, rules)

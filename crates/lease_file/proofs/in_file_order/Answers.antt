@@ -1,17 +1,13 @@
 -- `in_file_order` meets its contract: each tenant's records arranged.
-use Rattle.lease_file.specs.laws.Load.{filed_order}
-use Rattle.lists.specs.laws.Each.{eachs}
-use borrow.Author.Rules.{rules}
+use Rattle.lease_file.specs.laws.Load.{each_turn, filed_order, turns}
+use Rattle.std.proofs.Common.{rules}
 use Rattle.lease_file.proofs.in_file_order.Goals as goal
 
-pub loop-h-init : goal.loop-h-init
-loop-h-init c = search (eachs, rules)
+pub loop-t-init : goal.loop-t-init
+loop-t-init c = search (turns, rules)
 
-pub arrange-x-requires : goal.arrange-x-requires
-arrange-x-requires c = search (eachs, rules)
-
-pub loop-h-preserved : goal.loop-h-preserved
-loop-h-preserved c = search (eachs, rules)
+pub loop-t-preserved : goal.loop-t-preserved
+loop-t-preserved c = each_turn c.loop-t.invariant (search rules) c.arrange.ensures
 
 pub returns : goal.returns
-returns c = search (eachs, filed_order, rules)
+returns c = search (turns, filed_order, rules)

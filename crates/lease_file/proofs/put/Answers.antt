@@ -1,8 +1,7 @@
 -- `put` meets its contract: by `table_wrote`.
 use Rattle.lease_file.specs.laws.Rows.{section_length, table_wrote}
 use Rattle.lists.specs.laws.Part.{unmapped}
-use borrow.Author.Rules.{rules}
-use native.Mathlib.Omega.{arith}
+use Rattle.std.proofs.Common.{rules, arith}
 use Rattle.lease_file.proofs.put.Goals as goal
 
 pub put_u8-a-requires : goal.put_u8-a-requires

@@ -1,7 +1,7 @@
 -- `size` meets its contract: by `section_size`.
 use Rattle.lease_file.specs.laws.Rows.{section_size}
 use Rattle.lists.specs.laws.Part.{unmapped}
-use borrow.Author.Rules.{rules}
+use Rattle.std.proofs.Common.{rules}
 use Rattle.lease_file.proofs.size.Goals as goal
 
 pub returns : goal.returns

@@ -1,8 +1,9 @@
 -- Laws: whether the records can hold the entries of the sections: each of them, and as many of each tenant.
 use Rattle.std.specs.Prelude.{Bool, ◌&&◌, not, ◌≡◌, ◌+◌, ◌-◌, ◌<◌, ◌≤◌, ℕ, eqb, drop, length, replicate, set, take}
+use mathlib.Core.Bool.{beq}
 use Rattle.std.proofs.Math.Bool.{false, true}
-use mathlib.Core.List.{List}
-use Rattle.std.proofs.Common.{◌∙◌, drop_of_length-le, length-drop, length-take-le, le-leb, le-ltb, lt-ltb, ltb-false, ltb-true}
+use mathlib.Core.List.{List, ◌∷◌}
+use Rattle.std.proofs.Common.{◌∙◌, add-one, drop-cons, drop_of_length-le, length-drop, length-take-le, le-leb, le-ltb, lt-ltb, ltb-false, ltb-true}
 use Rattle.std.proofs.Math.Path.{ap, ap₂, refl, sym}
 use native.Mathlib.Omega.{arith}
 use Rattle.std.proofs.lemmas.Nat.{and_le_l, and_le_r, or_lt}
@@ -17,7 +18,6 @@ use Rattle.lists.specs.All.{all_by, all_to}
 use Rattle.lists.specs.Pick.{pick}
 use Rattle.lists.specs.laws.All.{UptoInv, to_same, upto_broken, upto_end, upto_next, upto_start}
 use Rattle.lists.specs.laws.Pick.{both, neither}
-use Rattle.octets.specs.laws.Run.{part_length, part_next}
 use Rattle.lease_file.specs.Place.{EntriesFit, EntriesIn, StorableAt, after_entry, after_lease, entries_in, entry_at, file_lease_at}
 use Rattle.lease_file.specs.Records.{entry_fit_b, few_of, hold_fit_b, is_offset, lease_fit_b, records_fit_b, storable_b}
 use Rattle.lease_file.specs.Section.{Entry, FileHold, FileLease, entry_tenant, lease_in}
@@ -32,24 +32,20 @@ or_low a b = go (ltb a 64) refl (ltb b 64) refl
     go true e false f = le-ltb (bit_or a b) 64 (let h = ltb-false b 64 f in let s = or_add_and a b in let l = and_le_l a b in omega arith)
     go false e q f = le-ltb (bit_or a b) 64 (let h = ltb-false a 64 e in let s = or_add_and a b in let l = and_le_r a b in omega arith)
 
-pub record LowInv (s : List ℕ) (at k any i : ℕ) : Type 0 where
-  pub fits : at + k ≤ length s
-  pub within : i ≤ k
-  pub whole : (ltb any 64 && all_by is_offset (drop i (take k (drop at s)))) ≡ all_by is_offset (take k (drop at s))
+pub record LowInv (l : List ℕ) (any i : ℕ) : Type 0 where
+  pub whole : (ltb any 64 && all_by is_offset (drop i l)) ≡ all_by is_offset l
 
-pub low_start : {s : List ℕ} {at k : ℕ} → at + k ≤ length s → LowInv s at k 0 0
-low_start h = record { fits = h; within = omega arith; whole = refl }
+pub low_start : {l : List ℕ} → LowInv l 0 0
+low_start = record { whole = refl }
 
-module _ {s : List ℕ} {at k any i : ℕ} (v : LowInv s at k any i) where
-  pub low_next : i < k → LowInv s at k (bit_or any (get_or s (at + i) 0)) (i + 1)
+module _ {l : List ℕ} {any i : ℕ} (v : LowInv l any i) where
+  pub low_next : i < length l → LowInv l (bit_or any (get_or l i 0)) (i + 1)
   unfolding all_by pick
   low_next h = record {
-    fits = v.fits;
-    within = omega arith;
     whole =
-        ap (λ (b : Bool). b && all_by is_offset (drop (i + 1) (take k (drop at s)))) (or_low any (get_or s (at + i) 0))
-        ∙ go (ltb any 64) (ltb (get_or s (at + i) 0) 64) (all_by is_offset (drop (i + 1) (take k (drop at s))))
-        ∙ sym (ap (λ (l : List ℕ). ltb any 64 && all_by is_offset l) (part_next s at k i v.fits h)) ∙ v.whole;
+        ap (λ (b : Bool). b && all_by is_offset (drop (i + 1) l)) (or_low any (get_or l i 0))
+        ∙ go (ltb any 64) (ltb (get_or l i 0) 64) (all_by is_offset (drop (i + 1) l))
+        ∙ sym (ap (λ (m : List ℕ). ltb any 64 && all_by is_offset m) (drop-cons l i 0 h ∙ ap (λ (k : ℕ). get_or l i 0 ∷ drop k l) (sym (add-one i)))) ∙ v.whole;
   }
     where
       go : (a b r : Bool) → ((a && b) && r) ≡ (a && pick b r false)
@@ -57,11 +53,9 @@ module _ {s : List ℕ} {at k any i : ℕ} (v : LowInv s at k any i) where
       go true false r = refl
       go false b r = refl
 
-  pub low_end : k ≤ i → ltb any 64 ≡ all_by is_offset (take k (drop at s))
+  pub low_end : length l ≤ i → ltb any 64 ≡ all_by is_offset l
   unfolding all_by
-  low_end h =
-      go (ltb any 64) ∙ sym (ap (λ (l : List ℕ). ltb any 64 && all_by is_offset l) (drop_of_length-le (take k (drop at s)) {i = i} (let e = part_length s at k v.fits in omega arith)))
-      ∙ v.whole
+  low_end h = go (ltb any 64) ∙ sym (ap (λ (m : List ℕ). ltb any 64 && all_by is_offset m) (drop_of_length-le l {i = i} h)) ∙ v.whole
     where
       go : (b : Bool) → b ≡ (b && true)
       go true = refl
@@ -85,15 +79,25 @@ module _ {s : List ℕ} {at n : ℕ} (v : Inside after_lease s at) (en : n ≡ g
   pub limit_room : (k : ℕ) → k ≡ get_or s (at + (n + 16)) 0 → at + (n + 17) + k ≤ length s
   limit_room k ek = let e : k ≡ get_or s (at + (get_or s (at + 2) 0 + 16)) 0 = ek ∙ ap (λ (z : ℕ). get_or s (at + (z + 16)) 0) en in omega (arith, v.room)
 
-  pub limit_low : (k : ℕ) (r : Bool) → k ≡ get_or s (at + (n + 16)) 0 → r ≡ all_by is_offset (take k (drop (at + (n + 17)) s)) → r ≡ all_by is_offset (file_lease_at s at).offsets
+  pub limit_low : (k : ℕ) (r : Bool) → k ≡ get_or s (at + (n + 16)) 0 → r ≡ all_by is_offset (take (at + (n + 17) + k - (at + (n + 17))) (drop (at + (n + 17)) s)) → r ≡ all_by is_offset (file_lease_at s at).offsets
   unfolding file_lease_at
-  limit_low k r ek e = e ∙ ap₂ (λ (x y : ℕ). all_by is_offset (take x (drop (at + (y + 17)) s))) (ek ∙ ap (λ (z : ℕ). get_or s (at + (z + 16)) 0) en) en
+  limit_low k r ek e = e ∙ ap (λ (x : ℕ). all_by is_offset (take x (drop (at + (n + 17)) s))) (let q : at + (n + 17) + k - (at + (n + 17)) ≡ k = omega arith in q) ∙ ap₂ (λ (x y : ℕ). all_by is_offset (take x (drop (at + (y + 17)) s))) (ek ∙ ap (λ (z : ℕ). get_or s (at + (z + 16)) 0) en) en
 
 pub ruleset limits = (limit_long, limit_short, limit_room, limit_low)
 
 -- ---- one entry: its type is the section's, and a record can hold its lease
 abbrev pub kind_in : Bool → ℕ → Bool
 kind_in holds kind = pick holds (eqb kind 1) (not (eqb kind 1))
+
+pub kind_told : (holds : Bool) (kind : ℕ) → beq (eqb kind 1) holds ≡ kind_in holds kind
+unfolding pick
+kind_told holds kind = go holds (eqb kind 1)
+  where
+    go : (holds b : Bool) → beq b holds ≡ pick holds b (not b)
+    go true true = refl
+    go true false = refl
+    go false true = refl
+    go false false = refl
 
 fit_is : (holds : Bool) (s : List ℕ) (at : ℕ) → pick (kind_in holds (file_lease_at s at).kind) (storable_b (file_lease_at s at)) false ≡ entry_fit_b holds (entry_at holds s at)
 unfolding entry_fit_b entry_at hold_fit_b lease_fit_b pick
@@ -209,19 +213,16 @@ pub few_start : {a b : List ℕ} → FewInv a b 0
 few_start = record { inv = upto_start }
 
 module _ {a b : List ℕ} {i : ℕ} (v : FewInv a b i) where
-  pub few_many : i < 8 → 16 < get_or a i 0 → false ≡ all_to (λ i. leb (get_or a i 0 + get_or b i 0) 16) 8
-  few_many h l = upto_broken v.inv h (sym (lt-leb (get_or a i 0 + get_or b i 0) 16 (omega arith))) refl
+  pub few_over : i < 8 → 16 < get_or a i 0 + get_or b i 0 → false ≡ all_to (λ i. leb (get_or a i 0 + get_or b i 0) 16) 8
+  few_over h l = upto_broken v.inv h (sym (lt-leb (get_or a i 0 + get_or b i 0) 16 (omega arith))) refl
 
-  pub few_over : i < 8 → get_or a i 0 ≤ 16 → 16 - get_or a i 0 < get_or b i 0 → false ≡ all_to (λ i. leb (get_or a i 0 + get_or b i 0) 16) 8
-  few_over h l g = upto_broken v.inv h (sym (lt-leb (get_or a i 0 + get_or b i 0) 16 (omega arith))) refl
-
-  pub few_fit : i < 8 → get_or a i 0 ≤ 16 → get_or b i 0 ≤ 16 - get_or a i 0 → FewInv a b (i + 1)
-  few_fit h l g = record { inv = upto_next v.inv h (sym (le-leb (get_or a i 0 + get_or b i 0) 16 (omega arith))) refl }
+  pub few_fit : i < 8 → get_or a i 0 + get_or b i 0 ≤ 16 → FewInv a b (i + 1)
+  few_fit h l = record { inv = upto_next v.inv h (sym (le-leb (get_or a i 0 + get_or b i 0) 16 (omega arith))) refl }
 
   pub few_end : 8 ≤ i → true ≡ all_to (λ i. leb (get_or a i 0 + get_or b i 0) 16) 8
   few_end h = upto_end v.inv h
 
-pub ruleset fews = (few_start, few_many, few_over, few_fit, few_end)
+pub ruleset fews = (few_start, few_over, few_fit, few_end)
 
 -- ---- both sections
 module _ (xs : List FileLease) (ys : List FileHold) {p : Bool} (ep : p ≡ all_by (entry_fit_b false) xs) where

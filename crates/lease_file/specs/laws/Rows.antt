@@ -1,7 +1,7 @@
 -- Laws: writing: the octets of an entry piece by piece, of a tenant's and of all entries, and how many there are.
 use Rattle.std.specs.Prelude.{Bool, false, true, ◌≡◌, refl, ◌+◌, ◌<◌, ◌≤◌, min, suc, zero, ℕ, get_or, take}
 use mathlib.Core.List.{List, [], ◌++◌, ◌∷◌, append_assoc, append-nil, map, map-map}
-use Rattle.std.proofs.Common.{◌∙◌, sym, arith, length-append, take_all, take-suc}
+use Rattle.std.proofs.Common.{◌∙◌, subst, sym, arith, length-append, length-take, take_all, take-suc}
 use Rattle.std.proofs.Math.Path.{ap, ap₂}
 use Rattle.std.proofs.Math.ListN.{length}
 use Rattle.address_set.specs.AddressSet.{offsets}
@@ -10,7 +10,7 @@ use Rattle.format.specs.Format.{write_all}
 use Rattle.format.specs.Rows.{write_from}
 use Rattle.format.specs.Tenants.{filed_all}
 use Rattle.format.specs.laws.Format.{plain}
-use Rattle.format.specs.laws.Rows.{RowInv, count_is, row_next, row_room, row_same, row_sum, rows, section_wrote, tenants_octets}
+use Rattle.format.specs.laws.Rows.{RowInv, SizeInv, count_is, row_done, row_next, row_room, row_same, row_sum, row_whole, rows, section_wrote, size_end, tenants_octets}
 use Rattle.format.specs.laws.Tenants.{filed_sum}
 use Rattle.lists.specs.Filter.{filter_by}
 use Rattle.lists.specs.Pick.{pick}
@@ -150,7 +150,21 @@ module _ (holds : Bool) (t : ℕ) {l : List Lease} {m c n : ℕ} {r₀ : List �
   unfolding entry_octets
   entry_next h p q = row_next v h p q
 
-pub ruleset entry_rows = (entry_room, entry_next, rows)
+-- those in use, as they are cut out of their array
+module _ (t : TenantLeases) {n : ℕ} (e : length t.leases ≡ 16) (p : n ≡ min t.count 16) where
+  used_is : take n t.leases ≡ in_use t
+  used_is = ap (λ (k : ℕ). take k t.leases) p ∙ cut_take 16 t.count t.leases e
+
+  pub used_start : (w : ℕ → Lease → List ℕ) {r₀ : List ℕ} {at : ℕ} → at + length (write_from w 0 (in_use t)) ≤ length r₀
+      → RowInv w no_lease (take n t.leases) (length (take n t.leases)) (length (take n t.leases)) (length (take n t.leases)) r₀ at r₀ at 0
+  used_start w {r₀} {at} h = row_whole refl (subst (λ (l : List Lease). at + length (write_from w 0 l) ≤ length r₀) (sym used_is) h)
+
+  pub used_end : (w : ℕ → Lease → List ℕ) {r₀ : List ℕ} {at : ℕ} {buffer : List ℕ} {to i : ℕ}
+      → RowInv w no_lease (take n t.leases) (length (take n t.leases)) (length (take n t.leases)) (length (take n t.leases)) r₀ at buffer to i
+      → length (take n t.leases) ≤ i → Wrote r₀ at (write_from w 0 (in_use t)) buffer to
+  used_end w v h = wrote_as (ap (write_from w 0) used_is) (row_done v h)
+
+pub ruleset entry_rows = (entry_room, entry_next)
 
 module _ (holds : Bool) {l : List TenantLeases} {m c n : ℕ} {r₀ : List ℕ} {at : ℕ} {buffer : List ℕ} {to i : ℕ} (v : RowInv (tenant_row holds) no_leases l m c n r₀ at buffer to i) where
   pub tenant_room : i < n → to + length (tenant_octets holds (i + 1) (get_or l i no_leases)) ≤ length buffer
@@ -176,9 +190,26 @@ kinds_sum holds (suc n) l h =
     one true = refl
     one false = refl
 
-pub kinds_counted : (holds : Bool) (h : TenantLeases) (n sum : ℕ) → length h.leases ≡ 16 → n ≡ min h.count 16 → sum ≡ sum_to (λ i. one_of holds (get_or h.leases i no_lease)) n → sum ≡ kind_count holds h
-kinds_counted holds h n sum e p q =
-    q ∙ kinds_sum holds n h.leases (omega arith) ∙ ap (λ (l : List Lease). length (filter_by (of_kind holds) l)) (ap (λ (k : ℕ). take k h.leases) p ∙ cut_take 16 h.count h.leases e)
+module _ (holds : Bool) (h : TenantLeases) {n : ℕ} (e : length h.leases ≡ 16) (p : n ≡ min h.count 16) where
+  used_few : length (take n h.leases) ≤ 16
+  used_few = let a = length-take n h.leases in omega arith
+
+  pub kinds_counted : {sum i : ℕ} → SizeInv (λ i. one_of holds (get_or (take n h.leases) i no_lease)) 1 (length (take n h.leases)) sum i → length (take n h.leases) ≤ i → (sum ≡ kind_count holds h) × (sum ≤ 16)
+  kinds_counted {sum} v k =
+      let a = used_few in (
+        size_end v k ∙ kinds_sum holds (length (take n h.leases)) (take n h.leases) (omega arith)
+            ∙ ap (λ (l : List Lease). length (filter_by (of_kind holds) l)) (take_all (length (take n h.leases)) (take n h.leases) (omega arith) ∙ used_is h e p),
+        omega (arith, v.small, v.within),
+      )
+
+  pub sizes_counted : {sum i : ℕ} → SizeInv (λ i. length (entry_octets holds 0 i (get_or (take n h.leases) i no_lease))) 117 (length (take n h.leases)) sum i → length (take n h.leases) ≤ i
+      → (sum ≡ length (tenant_octets holds 0 h)) × (sum ≤ 1872)
+  sizes_counted {sum} v k =
+      let a = used_few in (
+        row_sum (entry_octets holds 0) no_lease (take n h.leases) (length (take n h.leases)) (length (take n h.leases)) (length (take n h.leases)) sum refl (omega arith) (size_end v k)
+            ∙ ap (λ (l : List Lease). length (write_from (entry_octets holds 0) 0 l)) (take_all (length (take n h.leases)) (take n h.leases) (omega arith) ∙ used_is h e p),
+        omega (arith, v.small, v.within),
+      )
 
 -- ---- how many octets: as many whoever's they are
 entry_any : (holds : Bool) (t k : ℕ) (l : Lease) → length (entry_octets holds t k l) ≡ length (entry_octets holds 0 k l)

@@ -12,5 +12,5 @@ all_few-requires c = search (section_fits, rules)
 pub returns-then-all_keepable : goal.returns-then-all_keepable
 returns-then-all_keepable c = search (section_fits, rules)
 
-pub returns : goal.returns
-returns c = search (section_fits, rules)
+pub returns-else-all_keepable : goal.returns-else-all_keepable
+returns-else-all_keepable c = search (section_fits, rules)

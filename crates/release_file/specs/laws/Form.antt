@@ -1,5 +1,5 @@
 -- Laws: a release that stands at a place of the octets, and the walk over those of a section.
-use Rattle.std.specs.Prelude.{Bool, ◌&&◌, ◌||◌, false, true, List, ◌≡◌, refl, ◌+◌, ◌-◌, ◌<◌, ◌≤◌, ℕ, eqb, leb, drop, length}
+use Rattle.std.specs.Prelude.{Bool, ◌&&◌, ◌||◌, false, true, List, ◌≡◌, refl, ◌+◌, ◌-◌, ◌<◌, ◌≤◌, ℕ, eqb, leb, drop, length, None, Some}
 use Rattle.std.proofs.Common.{◌∙◌, sym, leb-false, leb-true}
 use Rattle.std.proofs.Math.Path.{ap, ap₂}
 use native.Mathlib.Omega.{arith}
@@ -8,21 +8,19 @@ use Rattle.std.proofs.Math.ListN.{get_or, take}
 use Rattle.format.specs.Format.{◌⊗◌, counted, number, octet}
 use Rattle.format.specs.Place.{Fails, Stands}
 use Rattle.format.specs.Section.{Inside, IsAt}
-use Rattle.format.specs.declared.Place.{Place}
-use Rattle.format.specs.declared.Place.TheVariants.{At, Nowhere}
 use Rattle.format.specs.laws.Fixed.{Fixed, fixed_both, fixed_number}
 use Rattle.format.specs.laws.Place.{as_nowhere, as_there, counted_none, fails_first, fails_second, number_stands, octet_fails, octet_stands, octets_short, octets_stand, stands_both, stands_to, viewed_none, viewed_stands}
-use Rattle.format.specs.laws.Section.{SectionInv, entry_in, entry_is, section_broken, section_done, section_next, section_start, section_wrong}
+use Rattle.format.specs.laws.Section.{SectionInv, entry_in, section_broken, section_done, section_next, section_start, section_wrong}
 use Rattle.octets.specs.Octets.{at32}
 use Rattle.release_file.specs.Place.{ReleaseEnds, ReleasesEnd, after_release, file_release_at}
 use Rattle.release_file.specs.Section.{release_after, release_format, release_key}
 
-none : {s : List ℕ} {at : ℕ} → Fails (octet ⊗ counted octet ⊗ number ⊗ number) s at → ReleaseEnds s at Nowhere
+none : {s : List ℕ} {at : ℕ} → Fails (octet ⊗ counted octet ⊗ number ⊗ number) s at → ReleaseEnds s at None
 unfolding IsAt
 none q = record { ends = as_nowhere (viewed_none q _ _); there = tt }
 
 -- too short for the tenant and the identifier's length
-pub release_cut : (s : List ℕ) (at : ℕ) → at ≤ length s → length s - at < 2 → ReleaseEnds s at Nowhere
+pub release_cut : (s : List ℕ) (at : ℕ) → at ≤ length s → length s - at < 2 → ReleaseEnds s at None
 release_cut s at a h = none (go (leb (length s) at) refl)
   where
     go : (b : Bool) → leb (length s) at ≡ b → Fails (octet ⊗ counted octet ⊗ number ⊗ number) s at
@@ -40,14 +38,14 @@ module _ (s : List ℕ) (at n : ℕ) (a : at ≤ length s) (two : 2 ≤ length s
       rw (← k) (stands_to (let q : at + 1 + 1 + n ≡ at + (n + 2) = omega arith in q) (octets_stand s (at + 1) n (omega arith) e (omega arith)))
 
   -- too short for what follows
-  pub release_short : length s - at < n + 10 → ReleaseEnds s at Nowhere
+  pub release_short : length s - at < n + 10 → ReleaseEnds s at None
   release_short h = none (fails_second _ (octet_stands s at (omega arith)) (go (leb (at + 2 + n) (length s)) refl))
     where
       go : (b : Bool) → leb (at + 2 + n) (length s) ≡ b → Fails (counted octet ⊗ number ⊗ number) s (at + 1)
       go true q = let l = leb-true (at + 2 + n) (length s) q in fails_second _ (id_stands l) (numbers.fails s (at + (n + 2)) (omega arith) (omega arith))
       go false q = let l = leb-false (at + 2 + n) (length s) q in fails_first _ (octets_short s (at + 1) n (omega arith) e (omega arith))
 
-  pub release_there : n + 10 ≤ length s - at → ReleaseEnds s at (At (at + (n + 10)))
+  pub release_there : n + 10 ≤ length s - at → ReleaseEnds s at (Some (at + (n + 10)))
   unfolding IsAt file_release_at
   release_there h =
       let k : at + (n + 2) + 4 ≡ at + (n + 6) = omega arith in
@@ -73,26 +71,26 @@ ReleasesInv s from count here i tenant time = SectionInv release_key release_aft
 pub releases_start : {s : List ℕ} {from count : ℕ} → from ≤ length s → ReleasesInv s from count from 0 0 0
 releases_start h = section_start h
 
-pub release_in : {s : List ℕ} {at n : ℕ} {r : Place} → ReleaseEnds s at r → r ≡ At n → Inside after_release s at
-release_in w e = record { room = entry_in (entry_is w e) }
+pub release_in : {s : List ℕ} {at n : ℕ} → ReleaseEnds s at (Some n) → Inside after_release s at
+release_in w = record { room = entry_in w }
 
-module _ {s : List ℕ} {from count here i tenant time : ℕ} {r : Place} (v : ReleasesInv s from count here i tenant time) (h : i < count) (w : ReleaseEnds s here r) where
-  pub releases_broken : r ≡ Nowhere → ReleasesEnd count s from Nowhere
-  releases_broken e = section_broken v h (entry_is w e)
+module _ {s : List ℕ} {from count here i tenant time : ℕ} (v : ReleasesInv s from count here i tenant time) (h : i < count) where
+  pub releases_broken : ReleaseEnds s here None → ReleasesEnd count s from None
+  releases_broken w = section_broken v h w
 
-  module _ {next t k : ℕ} {q : Bool} (e : r ≡ At next) (et : t ≡ get_or s here 0) (ek : k ≡ at32 s (here + (get_or s (here + 1) 0 + 6))) (eq : q ≡ (ltb t tenant || (eqb t tenant && ltb k time))) where
+  module _ {next t k : ℕ} {q : Bool} (w : ReleaseEnds s here (Some next)) (et : t ≡ get_or s here 0) (ek : k ≡ at32 s (here + (get_or s (here + 1) 0 + 6))) (eq : q ≡ (ltb t tenant || (eqb t tenant && ltb k time))) where
     out_of_order : q ≡ release_after (tenant, time) (file_release_at s here)
     unfolding file_release_at
     out_of_order = eq ∙ ap₂ (λ (x y : ℕ). ltb x tenant || (eqb x tenant && ltb y time)) et ek
 
-    pub releases_later : q ≡ true → ReleasesEnd count s from Nowhere
-    releases_later p = section_wrong v h (entry_is w e) (sym out_of_order ∙ p)
+    pub releases_later : q ≡ true → ReleasesEnd count s from None
+    releases_later p = section_wrong v h w (sym out_of_order ∙ p)
 
     pub releases_next : q ≡ false → ReleasesInv s from count next (i + 1) t k
     unfolding file_release_at
-    releases_next p = rw (et, ek) (section_next v h (entry_is w e) (sym out_of_order ∙ p))
+    releases_next p = rw (et, ek) (section_next v h w (sym out_of_order ∙ p))
 
-pub releases_done : {s : List ℕ} {from count here i tenant time : ℕ} → ReleasesInv s from count here i tenant time → count ≤ i → ReleasesEnd count s from (At here)
+pub releases_done : {s : List ℕ} {from count here i tenant time : ℕ} → ReleasesInv s from count here i tenant time → count ≤ i → ReleasesEnd count s from (Some here)
 releases_done v h = section_done v h
 
 pub ruleset release_walk = (releases_start, release_in, releases_broken, releases_later, releases_next, releases_done)

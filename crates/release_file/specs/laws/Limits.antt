@@ -1,21 +1,28 @@
 -- Laws: whether the memory can hold the releases of a section: each of them, and as many of each tenant.
-use Rattle.std.specs.Prelude.{Bool, false, true, List, ◌≡◌, refl, ◌+◌, ◌-◌, ◌<◌, ◌≤◌, ℕ, leb, drop, get_or, length, set, take}
-use Rattle.std.proofs.Common.{◌∙◌, subst, sym, arith, leb-true, ltb-false}
+use Rattle.std.specs.Prelude.{◌↔◌, EachIndex, IsTrue, Bool, false, true, List, ◌≡◌, refl, ◌+◌, ◌-◌, ◌<◌, ◌≤◌, ℕ, leb, drop, get_or, length, set, take}
+use Rattle.std.proofs.Common.{◌∙◌, subst, sym, arith, le-leb, leb-true, ltb-false}
+use Rattle.std.proofs.lemmas.Bool.{lt-leb}
 use Rattle.std.proofs.Math.Path.{ap}
 use Rattle.format.specs.Section.{InRow, Inside}
 use Rattle.format.specs.Tenants.{tally_by}
-use Rattle.format.specs.laws.Entries.{CountInv, TenantInv, count_end, count_small, count_start, few_broken, few_next, row_facts, tenant_held, tenant_next}
+use Rattle.format.specs.laws.Entries.{CountInv, TenantInv, count_end, count_small, count_start, few_all, row_facts, tenant_held, tenant_next}
 use Rattle.lists.specs.All.{all_by, all_to}
 use Rattle.lists.specs.Pick.{pick}
-use Rattle.lists.specs.laws.All.{UptoInv, upto_end, upto_start}
 use Rattle.lists.specs.laws.Pick.{neither}
 use Rattle.octets.specs.laws.Run.{part_length}
 use Rattle.release_file.specs.Place.{AllKeepable, KeepableAt, ReleasesIn, after_release, file_release_at, releases_from, releases_in}
 use Rattle.release_file.specs.Section.{FileRelease, few_for, keepable_b, releases_fit_b, release_tenant}
 
 -- ---- one release
-pub limit_id : {s : List ℕ} {at n : ℕ} → Inside after_release s at → n ≡ get_or s (at + 1) 0 → leb n 32 ≡ leb (length (take (get_or s (at + 1) 0) (drop (at + 2) s))) 32
-limit_id {s} {at} v e = ap (λ (x : ℕ). leb x 32) (e ∙ sym (part_length s (at + 2) (get_or s (at + 1) 0) (omega (arith, v.room))))
+module _ {s : List ℕ} {at : ℕ} (v : Inside after_release s at) where
+  id_long : length (take (get_or s (at + 1) 0) (drop (at + 2) s)) ≡ get_or s (at + 1) 0
+  id_long = part_length s (at + 2) (get_or s (at + 1) 0) (omega (arith, v.room))
+
+  pub id_few : get_or s (at + 1) 0 ≤ 32 → true ≡ leb (length (take (get_or s (at + 1) 0) (drop (at + 2) s))) 32
+  id_few h = sym (le-leb _ 32 (let e = id_long in omega arith))
+
+  pub id_many : 32 < get_or s (at + 1) 0 → false ≡ leb (length (take (get_or s (at + 1) 0) (drop (at + 2) s))) 32
+  id_many h = sym (lt-leb _ 32 (let e = id_long in omega arith))
 
 keepable_held : (s : List ℕ) (at : ℕ) → Inside after_release s at → keepable_b (file_release_at s at) ≡ true → KeepableAt s at
 unfolding keepable_b file_release_at
@@ -42,9 +49,9 @@ module _ {s : List ℕ} {at count : ℕ} (v : ReleasesIn s at) (ec : count ≡ g
   fits_yes a r p q t =
       t ∙ ap (λ (b : Bool). pick b (all_to (λ i. few_for (releases_from s (at + 1) count) (i + 1)) 8) false) (sym q ∙ p) ∙ ap releases_fit_b releases_same
 
-  pub fits_not : (a : Bool) → a ≡ all_by keepable_b (releases_from s (at + 1) count) → a ≡ false → false ≡ releases_fit_b (releases_in s at)
+  pub fits_not : (a : Bool) → a ≡ all_by keepable_b (releases_from s (at + 1) count) → a ≡ false → a ≡ releases_fit_b (releases_in s at)
   unfolding releases_fit_b pick
-  fits_not a p q = ap (λ (b : Bool). pick b (all_to (λ i. few_for (releases_from s (at + 1) count) (i + 1)) 8) false) (sym q ∙ p) ∙ ap releases_fit_b releases_same
+  fits_not a p q = q ∙ ap (λ (b : Bool). pick b (all_to (λ i. few_for (releases_from s (at + 1) count) (i + 1)) 8) false) (sym q ∙ p) ∙ ap releases_fit_b releases_same
 
 pub ruleset section_fits = (releases_in_law, releases_kept_law, fits_yes, fits_not)
 
@@ -74,13 +81,6 @@ tally_next v j k h e q = release_turn v j k _ h e refl q
 pub ruleset tallies = (count_start, count_small, count_end, tally_next, tenant_loop)
 
 -- what was counted decides
-module _ (xs : List FileRelease) {n : List ℕ} {i : ℕ} (v : UptoInv (λ i. few_for xs (i + 1)) 8 i) (e : n ≡ tally_by release_tenant xs) (h : i < 8) where
-  pub four_next : get_or n i 0 ≤ 4 → UptoInv (λ i. few_for xs (i + 1)) 8 (i + 1)
-  unfolding few_for
-  four_next l = few_next release_tenant 4 xs v e h l
-
-  pub four_broken : 4 < get_or n i 0 → false ≡ all_to (λ i. few_for xs (i + 1)) 8
-  unfolding few_for
-  four_broken l = few_broken release_tenant 4 xs v e h l
-
-pub ruleset fours = (four_next, four_broken, upto_start, upto_end)
+pub all_four : (xs : List FileRelease) {n : List ℕ} {r : Bool} → n ≡ tally_by release_tenant xs → length n ≡ 8 → (IsTrue r ↔ EachIndex n (λ i. get_or n i 0 ≤ 4)) → r ≡ all_to (λ i. few_for xs (i + 1)) 8
+unfolding few_for
+all_four xs e l h = few_all release_tenant 4 xs e l h

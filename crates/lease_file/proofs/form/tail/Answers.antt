@@ -1,13 +1,13 @@
 -- `tail` meets its contract: its test.
 use Rattle.lease_file.specs.Place.{tail_of}
 use Rattle.lists.specs.Pick.{pick}
-use borrow.Author.Rules.{rules}
+use Rattle.std.proofs.Common.{rules}
 use Rattle.lease_file.proofs.form.tail.Goals as goal
 
 pub returns-then-holds : goal.returns-then-holds
 unfolding tail_of pick
 returns-then-holds c = search rules
 
-pub returns : goal.returns
+pub returns-else-holds : goal.returns-else-holds
 unfolding tail_of pick
-returns c = search rules
+returns-else-holds c = search rules

@@ -1,9 +1,5 @@
-use Prim.Native.Nat.{◌-◌}
 use Rattle.lease_file.specs.laws.Limits.{LowInv}
 use Rattle.lease_file.proofs.limits.low.Given as goal
 
-abbrev pub invariant-loop-i : goal.invariant-loop-i
-invariant-loop-i l = LowInv l.s l.at l.k l.any l.i
-
-abbrev pub decreases-loop-i : goal.decreases-loop-i
-decreases-loop-i l = l.k - l.i
+abbrev pub invariant-loop-x : goal.invariant-loop-x
+invariant-loop-x l = LowInv l.offsets l.any l.x-index

@@ -1,10 +1,6 @@
--- `of_kind` meets its contract: its test.
-use Rattle.lists.specs.laws.Pick.{tests}
-use borrow.Author.Rules.{rules}
+-- `of_kind` meets its contract: by `kind_told`.
+use Rattle.lease_file.specs.laws.Limits.{kind_told}
 use Rattle.lease_file.proofs.limits.of_kind.Goals as goal
 
-pub returns-then-holds : goal.returns-then-holds
-returns-then-holds c = search (tests, rules)
-
 pub returns : goal.returns
-returns c = search (tests, rules)
+returns c = kind_told c.args.holds c.args.kind

@@ -1,8 +1,7 @@
 -- `put_addresses` meets its contract: by `addresses_wrote`.
 use Rattle.address_set.specs.laws.Bits.{length_offsets}
 use Rattle.lease_file.specs.laws.Rows.{addresses_wrote}
-use borrow.Author.Rules.{rules}
-use native.Mathlib.Omega.{arith}
+use Rattle.std.proofs.Common.{rules, arith}
 use Rattle.lease_file.proofs.writer.put_addresses.Goals as goal
 
 pub overflow_cast-count : goal.overflow_cast-count

@@ -1,7 +1,6 @@
 -- `put_entry` meets its contract: by `entry_wrote`.
 use Rattle.lease_file.specs.laws.Rows.{entry_long, entry_wrote}
-use borrow.Author.Rules.{rules}
-use native.Mathlib.Omega.{arith}
+use Rattle.std.proofs.Common.{rules, arith}
 use Rattle.lease_file.proofs.writer.put_entry.Goals as goal
 
 pub put_lease-a-requires : goal.put_lease-a-requires

@@ -1,6 +1,5 @@
 -- `writer::put_lease` meets its contract: by `lease_size`, `lease_wrote`.
-use native.Mathlib.Omega.{arith}
-use borrow.Author.Rules.{rules}
+use Rattle.std.proofs.Common.{arith, rules}
 use Rattle.lease_file.specs.laws.Rows.{lease_size, lease_wrote}
 use Rattle.lease_file.proofs.writer.put_lease.Goals as goal
 

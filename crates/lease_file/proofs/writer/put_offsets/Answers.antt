@@ -1,6 +1,6 @@
 -- `put_offsets` meets its contract: its loop keeps `OffsetsInv`; by `offset_loop`.
 use Rattle.lease_file.specs.laws.Sets.{offset_loop}
-use borrow.Author.Rules.{rules}
+use Rattle.std.proofs.Common.{rules}
 use Rattle.lease_file.proofs.writer.put_offsets.Goals as goal
 
 pub loop-left-init : goal.loop-left-init

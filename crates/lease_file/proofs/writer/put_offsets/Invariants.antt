@@ -1,6 +1,6 @@
 use Rattle.address_set.specs.AddressSet.{offsets}
 use Rattle.lease_file.specs.laws.Sets.{OffsetsInv}
-use lib.ListN.{length}
+use Rattle.std.proofs.Common.{length}
 use Rattle.lease_file.proofs.writer.put_offsets.Given as goal
 
 abbrev pub invariant-loop-left : goal.invariant-loop-left

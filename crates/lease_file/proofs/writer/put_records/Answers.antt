@@ -1,6 +1,6 @@
 -- `put_records` meets its contract: its loop keeps `RowInv`; by `tenant_rows`.
 use Rattle.lease_file.specs.laws.Rows.{tenant_rows}
-use borrow.Author.Rules.{rules}
+use Rattle.std.proofs.Common.{rules}
 use Rattle.lease_file.proofs.writer.put_records.Goals as goal
 
 pub loop-i-init : goal.loop-i-init

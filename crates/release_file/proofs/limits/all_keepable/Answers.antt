@@ -3,8 +3,8 @@ use Rattle.format.specs.laws.Entries.{entry_tests}
 use borrow.Author.Rules.{rules}
 use Rattle.release_file.proofs.limits.all_keepable.Goals as goal
 
-pub loop-i-init : goal.loop-i-init
-loop-i-init c = search (entry_tests, rules)
+pub loop-init : goal.loop-init
+loop-init c = search (entry_tests, rules)
 
 pub keepable_at-requires : goal.keepable_at-requires
 keepable_at-requires c = search (entry_tests, rules)
@@ -12,11 +12,11 @@ keepable_at-requires c = search (entry_tests, rules)
 pub release_next-here-requires : goal.release_next-here-requires
 release_next-here-requires c = search (entry_tests, rules)
 
-pub loop-i-preserved : goal.loop-i-preserved
-loop-i-preserved c = search (entry_tests, rules)
+pub loop-preserved : goal.loop-preserved
+loop-preserved c = search (entry_tests, rules)
 
-pub returns-else-keepable_at : goal.returns-else-keepable_at
-returns-else-keepable_at c = search (entry_tests, rules)
+pub returns-then-not-keepable_at : goal.returns-then-not-keepable_at
+returns-then-not-keepable_at c = search (entry_tests, rules)
 
 pub returns : goal.returns
 returns c = search (entry_tests, rules)

@@ -1,9 +1,5 @@
-use Prim.Native.Nat.{◌-◌}
 use Rattle.release_file.specs.laws.Limits.{TallyInv}
 use Rattle.release_file.proofs.limits.tally.Given as goal
 
-abbrev pub invariant-loop-i : goal.invariant-loop-i
-invariant-loop-i l = TallyInv l.s l.from l.count l.n l.here l.i
-
-abbrev pub decreases-loop-i : goal.decreases-loop-i
-decreases-loop-i l = l.count - l.i
+abbrev pub invariant-loop : goal.invariant-loop
+invariant-loop l = TallyInv l.s l.from l.count l.n l.here l.counter

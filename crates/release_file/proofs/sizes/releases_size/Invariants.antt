@@ -1,12 +1,8 @@
-use Prim.Native.Nat.{◌-◌}
 use Rattle.format.specs.laws.Rows.{SizeInv}
 use Rattle.release_file.specs.Rows.{tenant_octets}
 use Rattle.state.specs.Book.{no_releases}
 use lib.ListN.{get_or, length}
 use Rattle.release_file.proofs.sizes.releases_size.Given as goal
 
-abbrev pub invariant-loop-i : goal.invariant-loop-i
-invariant-loop-i l = SizeInv (λ i. length (tenant_octets 0 (get_or l.m.releases i no_releases))) 168 8 l.sum l.i
-
-abbrev pub decreases-loop-i : goal.decreases-loop-i
-decreases-loop-i l = 8 - l.i
+abbrev pub invariant-loop-q : goal.invariant-loop-q
+invariant-loop-q l = SizeInv (λ i. length (tenant_octets 0 (get_or l.q-items i no_releases))) 168 8 l.sum l.q-index

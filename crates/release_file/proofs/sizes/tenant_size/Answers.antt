@@ -1,28 +1,26 @@
--- `tenant_size` meets its contract: its loop keeps `SizeInv`; by `sizes`, `row_sum`.
-use Rattle.format.specs.laws.Rows.{row_sum, size_end, sizes}
-use Rattle.lists.specs.laws.Part.{unmapped}
+-- `tenant_size` meets its contract: its loop keeps `SizeInv`; by `sizes`, `sum_row`.
+use Rattle.format.specs.laws.Rows.{size_end, sizes, sum_row}
+use Rattle.lists.specs.laws.Part.{cut_take, unmapped}
 use Rattle.release_file.specs.Rows.{release_octets}
 use Rattle.state.specs.laws.Layout.{no_release}
-use borrow.Author.Rules.{rules}
-use native.Mathlib.Omega.{arith}
+use Rattle.std.proofs.Common.{ap, arith, length-take, rules, take, ℕ, ◌∙◌}
 use Rattle.release_file.proofs.sizes.tenant_size.Goals as goal
 
-pub cut4-n-requires : goal.cut4-n-requires
+pub loop-e-init : goal.loop-e-init
 unfolding release_octets
-cut4-n-requires c = search (sizes, rules)
+loop-e-init c = search (sizes, rules)
 
-pub loop-i-init : goal.loop-i-init
-unfolding release_octets
-loop-i-init c = search (sizes, rules)
+pub overflow_add-sum : goal.overflow_add-sum
+overflow_add-sum c =
+    let f = length-take c.min.result c.args.q.releases in
+    omega (arith, f, c.min.ensures, c.loop-e.invariant.small, c.loop-e.invariant.within, c.release_size-sum.ensures.1)
 
-pub release_size-sum-requires : goal.release_size-sum-requires
+pub loop-e-preserved : goal.loop-e-preserved
 unfolding release_octets
-release_size-sum-requires c = search (sizes, rules)
-
-pub loop-i-preserved : goal.loop-i-preserved
-unfolding release_octets
-loop-i-preserved c = search (sizes, rules)
+loop-e-preserved c = search (sizes, rules)
 
 pub returns : goal.returns
-unfolding release_octets
-returns c = (row_sum (release_octets 0) no_release c.args.q.releases 4 c.args.q.count _ _ (search (unmapped, rules)) c.cut4-n.ensures (size_end c.loop-i.invariant (search rules)), omega (arith, c.loop-i.invariant.small, c.loop-i.invariant.within, c.cut4-n.ensures))
+returns c =
+    let e = ap (λ (k : ℕ). take k c.args.q.releases) c.min.ensures ∙ cut_take 4 c.args.q.count c.args.q.releases (search (unmapped, rules)) in
+    let f = length-take c.min.result c.args.q.releases in
+    (sum_row (release_octets 0) no_release _ e (size_end c.loop-e.invariant (search rules)), omega (arith, f, c.min.ensures, c.loop-e.invariant.small, c.loop-e.invariant.within))

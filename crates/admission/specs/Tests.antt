@@ -1,6 +1,6 @@
 -- Definitions: document 01's tests after test 7 that come before what a lease would be, Resend and errors 1, 2 and 3, each on plain values; document 02's of a RELEASE sent
 -- again and of a hold; and which of them ask for the identifier's record. A house is a tenant here; h counts from 0.
-use Rattle.std.specs.Prelude.{ℕ, ◌+◌, ◌-◌, min, Bool, not, ◌&&◌, ◌||◌, List, ltb, eqb, take, length}
+use Rattle.std.specs.Prelude.{ℕ, ◌+◌, ◌-◌, min, Bool, false, not, ◌&&◌, ◌||◌, Option, Some, None, is_some, is_none, unwrap_or, List, ltb, eqb, take, length}
 use Rattle.lists.specs.Place.{place_by}
 use Rattle.message.specs.declared.Fields.{Fields}
 use Rattle.state.specs.declared.Lease.{Lease}
@@ -57,6 +57,11 @@ unfoldable pub released_again : State → List Release → Fields → Bool
 released_again s q m = eqb m.kind 7 && any_again s.clock (lease_id_in m) m.xid q
 
 -- ---- error 1
+-- an option of four octets is there, and its value passes a test
+abbrev pub there_and : (ℕ → Bool) → Option ℕ → Bool
+there_and t None = false
+there_and t (Some n) = t n
+
 -- the place of the scope with a lowest address, counted from 0; their number where there is none
 abbrev pub lowest_is : ℕ → Scope → Bool
 lowest_is lowest c = eqb c.lowest lowest
@@ -68,12 +73,16 @@ scope_place s lowest = place_by (lowest_is lowest) (scopes_of s)
 abbrev pub scope_number : ℕ → ℕ
 scope_number k = min k 4 + 1
 
+-- the lowest address of the scope that the message names; 0 where it names none
+abbrev pub scope_in : Fields → ℕ
+scope_in m = unwrap_or m.scope 0
+
 -- a record in the scope that the message names
 unfoldable pub same_scope : State → Fields → Lease → Bool
-same_scope s m o = eqb o.scope (scope_number (scope_place s m.scope.value))
+same_scope s m o = eqb o.scope (scope_number (scope_place s (scope_in m)))
 
 unfoldable pub knows_scope : State → Fields → Bool
-knows_scope s m = m.scope.there && ltb (scope_place s m.scope.value) (scopes_in s)
+knows_scope s m = there_and (λ lowest. ltb (scope_place s lowest) (scopes_in s)) m.scope
 
 -- "DISCOVER or REQUEST whose scope is missing or not ours"
 unfoldable pub lacks_scope : State → Fields → Bool
@@ -81,7 +90,7 @@ lacks_scope s m = is_new m && not (knows_scope s m)
 
 -- "Lease Time 0"
 unfoldable pub zero_length : Fields → Bool
-zero_length m = m.times.length.there && eqb m.times.length.value 0
+zero_length m = there_and (λ n. eqb n 0) m.times.length
 
 -- "least 0 or above desired"
 unfoldable pub bad_counts : Fields → Bool
@@ -89,11 +98,11 @@ bad_counts m = eqb m.counts.least 0 || ltb m.counts.desired m.counts.least
 
 -- "6 or 15 without 11"
 unfoldable pub lacks_current : Fields → Bool
-lacks_current m = (m.times.start.there || m.times.latest.there) && not m.times.current.there
+lacks_current m = (is_some m.times.start || is_some m.times.latest) && is_none m.times.current
 
 -- document 02, W-203: "a Maximum Start Time before Start Time", both as they are sent
 unfoldable pub latest_first : Fields → Bool
-latest_first m = m.times.start.there && (m.times.latest.there && ltb m.times.latest.value m.times.start.value)
+latest_first m = there_and (λ start. there_and (λ latest. ltb latest start) m.times.latest) m.times.start
 
 -- what of error 1 the message and the settings say, before the identifier is looked for
 unfoldable pub early1_of : State → Fields → Bool
@@ -113,7 +122,7 @@ unfoldable pub skewed : ℕ → ℕ → Bool
 skewed a b = ltb skew ((a - b) + (b - a))
 
 unfoldable pub error2_of : State → Fields → Bool
-error2_of s m = m.times.current.there && skewed m.times.current.value s.clock
+error2_of s m = there_and (λ time. skewed time s.clock) m.times.current
 
 -- ---- error 3: "RENEW or RELEASE of an identifier the house doesn't hold"; "RENEW and RELEASE for a hold draw error 3" (W-205)
 unfoldable pub error3_of : Fields → Lease → Bool → Bool

@@ -50,7 +50,7 @@ fn most(l: GrantNumbers, desired: u32) -> u32
     requires { Small l }
     ensures { result ≡ largest (allowed_of l) desired }
 {
-    let own = arithmetic::larger(l.held, l.reserve);
+    let own = l.held.max(l.reserve);
     if l.limit < l.held {
         return 0;
     }
@@ -59,14 +59,8 @@ fn most(l: GrantNumbers, desired: u32) -> u32
     }
     let a = l.limit - l.held;
     let b = l.size - (l.others + l.held);
-    let room = arithmetic::smaller(a, b);
-    arithmetic::smaller(desired, l.free + room)
-}
-
-fn number32(x: u16) -> u32
-    ensures { result ≡ x }
-{
-    x as u32
+    let room = a.min(b);
+    desired.min(l.free + room)
 }
 
 // What a tenant holds in a scope: nothing in one that there cannot be.
@@ -79,21 +73,16 @@ fn set_in(h: Held, scope: u8) -> u64
     if 4 < scope {
         return 0;
     }
-    let k = arithmetic::place_of(scope);
-    h.sets[k]
+    h.sets[usize::from(scope - 1)]
 }
 
 // What each tenant holds in a scope.
 fn sets_in(held: HeldTable, scope: u8) -> [u64; 8]
     ensures { result ≡ sets_in scope held }
 {
-    let mut sets: [u64; 8] = [0u64; 8];
-    let mut i: usize = 0;
-    while i < 8 {
-        let h = held.tenants[i];
-        let m = set_in(h, scope);
-        sets[i] = m;
-        i += 1;
+    let mut sets = [0u64; 8];
+    for (i, h) in held.tenants.iter().enumerate() {
+        sets[i] = set_in(*h, scope);
     }
     sets
 }
@@ -106,7 +95,7 @@ fn committed_other(m: u64, reserve: u8, g: usize, h: usize) -> u32
         return 0;
     }
     let n = address_set::count(m);
-    arithmetic::larger(n, reserve as u32)
+    n.max(u32::from(reserve))
 }
 
 // What the other tenants hold or have in reserve.
@@ -115,11 +104,8 @@ fn others(sets: [u64; 8], c: Scope, n: usize, h: usize) -> u32
     ensures { (result ≡ sum_to (except h (committed c (count_at sets))) n) × (result ≤ 255 * n) }
 {
     let mut sum: u32 = 0;
-    let mut g: usize = 0;
-    while g < n {
-        let x = committed_other(sets[g], c.reserve[g], g, h);
-        sum += x;
-        g += 1;
+    for g in 0..n {
+        sum += committed_other(sets[g], c.reserve[g], g, h);
     }
     sum
 }
@@ -128,13 +114,7 @@ fn others(sets: [u64; 8], c: Scope, n: usize, h: usize) -> u32
 fn taken(sets: [u64; 8]) -> u64
     ensures { result ≡ union_all sets }
 {
-    let mut sum: u64 = 0;
-    let mut i: usize = 0;
-    while i < 8 {
-        sum = sum | sets[i];
-        i += 1;
-    }
-    sum
+    sets.iter().fold(0, |all, m| all | *m)
 }
 
 // The tenant's addresses that are free in the period.
@@ -142,18 +122,22 @@ fn free(own: TenantLeases, sets: [u64; 8], a: Ask) -> u64
     requires { a.tenant < 8 }
     ensures { result ≡ free_in sets (in_use own) a }
 {
-    let h = a.tenant;
-    let used = state::busy(own, a.scope, a.from, a.to);
-    address_set::difference(sets[h], used)
+    address_set::difference(sets[a.tenant], state::busy(own, a.scope, a.from, a.to))
 }
 
 // The addresses that are nobody's.
 fn nobodys(sets: [u64; 8], c: Scope) -> u64
     ensures { result ≡ difference_of (pool_of c) (union_all sets) }
 {
-    let all = address_set::first_n(c.size);
-    let some = taken(sets);
-    address_set::difference(all, some)
+    address_set::difference(address_set::first_n(c.size), taken(sets))
+}
+
+// A number of the settings as one of the rule's; that it is below 256 keeps the rule's sums from overflowing.
+// Stays: with `u32::from` in `numbers` that bound didn't come out of the scope's type, and the proof didn't close.
+fn octet(x: u8) -> u32
+    ensures { (result ≡ x) × (result < 256) }
+{
+    u32::from(x)
 }
 
 fn numbers(sets: [u64; 8], c: Scope, n: usize, h: usize, free: u64) -> GrantNumbers
@@ -163,10 +147,10 @@ fn numbers(sets: [u64; 8], c: Scope, n: usize, h: usize, free: u64) -> GrantNumb
     GrantNumbers {
         held: address_set::count(sets[h]),
         free: address_set::count(free),
-        reserve: arithmetic::wide32(c.reserve[h]),
-        limit: arithmetic::wide32(c.limit[h]),
+        reserve: octet(c.reserve[h]),
+        limit: octet(c.limit[h]),
         others: others(sets, c, n, h),
-        size: arithmetic::wide32(c.size),
+        size: octet(c.size),
     }
 }
 
@@ -174,14 +158,14 @@ fn numbers(sets: [u64; 8], c: Scope, n: usize, h: usize, free: u64) -> GrantNumb
 fn lowest_own(free: u64, k: u32) -> u64
     ensures { result ≡ lowest_of free k }
 {
-    address_set::lowest(free, k as u64)
+    address_set::lowest(free, u64::from(k))
 }
 
 // The second pass: the lowest that are nobody's, up to m.
 fn lowest_new(nobodys: u64, m: u32) -> u64
     ensures { result ≡ lowest_of nobodys m }
 {
-    address_set::lowest(nobodys, m as u64)
+    address_set::lowest(nobodys, u64::from(m))
 }
 
 // Which addresses, where k are given: "the lowest of the f, then the lowest that are nobody's". `free` are the f, and f is how many they are;
@@ -191,7 +175,7 @@ fn choose(free: u64, nobodys: u64, k: u32) -> u64
 {
     let own = lowest_own(free, k);
     let f = address_set::count(free);
-    let m = arithmetic::monus(k, f);
+    let m = k.saturating_sub(f);
     let new = lowest_new(nobodys, m);
     own | new
 }
@@ -204,8 +188,7 @@ fn grant_known(own: TenantLeases, held: HeldTable, c: Scope, n: usize, a: Ask) -
     let sets = sets_in(held, a.scope);
     let own_free = free(own, sets, a);
     let l = numbers(sets, c, n, a.tenant, own_free);
-    let desired = number32(a.desired);
-    let k = most(l, desired);
+    let k = most(l, u32::from(a.desired));
     let new = nobodys(sets, c);
     let m = choose(own_free, new, k);
     Grant {
@@ -219,7 +202,7 @@ fn grant_known(own: TenantLeases, held: HeldTable, c: Scope, n: usize, a: Ask) -
 pub fn granted(own: TenantLeases, held: HeldTable, c: Scope, n: usize, a: Ask) -> Grant
     ensures { result ≡ grant_in (in_use own) held c n a }
 {
-    let known = arithmetic::fewer(n, 8);
+    let known = n.min(8);
     if a.tenant < known {
         return grant_known(own, held, c, known, a);
     }
@@ -233,5 +216,5 @@ pub fn granted(own: TenantLeases, held: HeldTable, c: Scope, n: usize, a: Ask) -
 pub fn enough(least: u16, g: Grant) -> bool
     ensures { result ≡ suffices least g }
 {
-    number32(least) <= g.number
+    u32::from(least) <= g.number
 }

@@ -33,7 +33,7 @@ use Rattle.allocation.specs.declared.Grant.{Grant}
 use Rattle.allocation.specs.Rule.{allowed, busy_in, free_of, grant_of, grant_to, held_after, nobodys_of, pool_of, suffices, taken_of}
 use Rattle.proposal.specs.declared.Proposal.{Proposal}
 use Rattle.proposal.specs.Proposals.{ask_at, brought_by, end_of, fits_new, fits_renewed, new_at, new_of, new_with, others_busy, proposal_of, renewed_by, renewed_of, renewed_to, start_of, updated}
-use Rattle.admission.specs.Tests.{drops_hold, holds_of, is_new, lease_id_in, own_of, recorded_of, scope_place}
+use Rattle.admission.specs.Tests.{drops_hold, holds_of, is_new, lease_id_in, own_of, recorded_of, scope_in, scope_place}
 use Rattle.decision_laws.specs.laws.Kept.{updated_leases}
 use Rattle.decision.specs.Decide.{decide_of, judged_of}
 use Rattle.arrangement.proofs.Lists.{Same, each_same, held_at_same, same_at, same_set}
@@ -107,10 +107,10 @@ module _ (t u : LeaseTable) (v : Same (leases_of t) (leases_of u)) where
         (reordered_length (own_same h)) (granted_same (scope_at s k) (tenants_in s) (leases_of t) (leases_of u) A v)
       where
         k : ℕ
-        k = scope_place s m.scope.value
+        k = scope_place s (scope_in m)
 
         A : Ask
-        A = ask_at s h m (scope_place s m.scope.value)
+        A = ask_at s h m (scope_place s (scope_in m))
 
     renewed_same : (l : Lease) → renewed_of s t h m l ≡ renewed_of s u h m l
     unfolding renewed_of renewed_to others_busy

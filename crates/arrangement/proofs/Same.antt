@@ -1,5 +1,7 @@
 -- Laws: the call by any order that decides, beside the call on the same book in the order of records: the same answer, and books equal but for the order. So the
 -- theorem, for the old arrangement.
+use Rattle.std.specs.Prelude.{Option, None, Some}
+use Rattle.std.specs.Option.{option_map_or}
 use Prim.Native.Nat.{ℕ, ◌<◌, max}
 use mathlib.Core.Path.{◌≡◌, refl, sym, ap, ap₂, ◌∙◌, subst}
 use mathlib.Core.Bool.{Bool, true, false, ◌&&◌}
@@ -83,27 +85,28 @@ twin y t = changed_to y y.state t y.memory
 -- ---- an edit of the same records in another order
 edited_same : (o p : Order) (e : Edit) (t u : TenantLeases) → Reordered (in_use t) (in_use u) → Reordered (in_use (edited_by o e t)) (in_use (edited_by p e u))
 unfolding edited_by left_in inserted_by remove_of pick
-edited_same o p e t u d = enter e.enters (pick e.leaves (laid_out (remove_of (id_of e.old) (in_use t))) t) (pick e.leaves (laid_out (remove_of (id_of e.old) (in_use u))) u) (leave e.leaves)
+edited_same o p e t u d =
+    enter e.enters (option_map_or (λ l. laid_out (remove_of (id_of l) (in_use t))) e.leaves t) (option_map_or (λ l. laid_out (remove_of (id_of l) (in_use u))) e.leaves u) (leave e.leaves)
   where
-    leave : (c : Bool) → Reordered (in_use (pick c (laid_out (remove_of (id_of e.old) (in_use t))) t)) (in_use (pick c (laid_out (remove_of (id_of e.old) (in_use u))) u))
-    leave true =
-        subst (λ (x : List Lease). Reordered x (in_use (laid_out (remove_of (id_of e.old) (in_use u))))) (sym (read_back (remove_of (id_of e.old) (in_use t))))
-        (subst (λ (x : List Lease). Reordered (remove_of (id_of e.old) (in_use t)) x) (sym (read_back (remove_of (id_of e.old) (in_use u)))) (reordered_filter (other (id_of e.old)) d))
-    leave false = d
+    leave : (c : Option Lease) → Reordered (in_use (option_map_or (λ l. laid_out (remove_of (id_of l) (in_use t))) c t)) (in_use (option_map_or (λ l. laid_out (remove_of (id_of l) (in_use u))) c u))
+    leave (Some l) =
+        subst (λ (x : List Lease). Reordered x (in_use (laid_out (remove_of (id_of l) (in_use u))))) (sym (read_back (remove_of (id_of l) (in_use t))))
+        (subst (λ (x : List Lease). Reordered (remove_of (id_of l) (in_use t)) x) (sym (read_back (remove_of (id_of l) (in_use u)))) (reordered_filter (other (id_of l)) d))
+    leave None = d
 
-    inserted : (b c : Bool) (x y : TenantLeases) → b ≡ c → Reordered (in_use x) (in_use y)
-        → Reordered (in_use (pick b (laid_out (insert_in o e.new (in_use x))) x)) (in_use (pick c (laid_out (insert_in p e.new (in_use y))) y))
-    inserted true true x y q r =
-        subst (λ (z : List Lease). Reordered z (in_use (laid_out (insert_in p e.new (in_use y))))) (sym (read_back (insert_in o e.new (in_use x))))
-        (subst (λ (z : List Lease). Reordered (insert_in o e.new (in_use x)) z) (sym (read_back (insert_in p e.new (in_use y))))
-        (Permᴰ.trans (insert_reordered o e.new (in_use x)) (Permᴰ.trans (Permᴰ.cons refl r) (Permᴰ.symm (insert_reordered p e.new (in_use y))))))
-    inserted false false x y q r = r
-    inserted true false x y q r = absurd (let z : ◌≡◌ {A = ℕ} 0 1 = cc in omega arith)
-    inserted false true x y q r = absurd (let z : ◌≡◌ {A = ℕ} 0 1 = cc in omega arith)
+    inserted : (l : Lease) (b c : Bool) (x y : TenantLeases) → b ≡ c → Reordered (in_use x) (in_use y)
+        → Reordered (in_use (pick b (laid_out (insert_in o l (in_use x))) x)) (in_use (pick c (laid_out (insert_in p l (in_use y))) y))
+    inserted l true true x y q r =
+        subst (λ (z : List Lease). Reordered z (in_use (laid_out (insert_in p l (in_use y))))) (sym (read_back (insert_in o l (in_use x))))
+        (subst (λ (z : List Lease). Reordered (insert_in o l (in_use x)) z) (sym (read_back (insert_in p l (in_use y))))
+        (Permᴰ.trans (insert_reordered o l (in_use x)) (Permᴰ.trans (Permᴰ.cons refl r) (Permᴰ.symm (insert_reordered p l (in_use y))))))
+    inserted l false false x y q r = r
+    inserted l true false x y q r = absurd (let z : ◌≡◌ {A = ℕ} 0 1 = cc in omega arith)
+    inserted l false true x y q r = absurd (let z : ◌≡◌ {A = ℕ} 0 1 = cc in omega arith)
 
-    enter : (c : Bool) (x y : TenantLeases) → Reordered (in_use x) (in_use y) → Reordered (in_use (pick c (inserted_by o e.new x) x)) (in_use (pick c (inserted_by p e.new y) y))
-    enter true x y r = inserted (ltb (length (in_use x)) 16) (ltb (length (in_use y)) 16) x y (ap (λ (n : ℕ). ltb n 16) (reordered_length r)) r
-    enter false x y r = r
+    enter : (c : Option Lease) (x y : TenantLeases) → Reordered (in_use x) (in_use y) → Reordered (in_use (option_map_or (λ l. inserted_by o l x) c x)) (in_use (option_map_or (λ l. inserted_by p l y) c y))
+    enter (Some l) x y r = inserted l (ltb (length (in_use x)) 16) (ltb (length (in_use y)) 16) x y (ap (λ (n : ℕ). ltb n 16) (reordered_length r)) r
+    enter None x y r = r
 
 applied_same : (o p : Order) (e : Edit) (h : ℕ) (t u : LeaseTable) → Same (leases_of t) (leases_of u) → Same (leases_of (applied_by o e h t)) (leases_of (applied_by p e h u))
 unfolding applied_by

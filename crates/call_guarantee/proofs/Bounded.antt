@@ -1,4 +1,6 @@
 -- Laws: calls keep each lease's addresses within 64 bits: what they drop or remove leaves some of them, and a grant's addresses are 64 at most.
+use Rattle.std.specs.Prelude.{Option, None, Some, IfSome}
+use Rattle.std.specs.Option.{option_map_or}
 use Prim.Native.Nat.{ℕ, zero, suc, ◌<◌, ◌^◌, min}
 use mathlib.Core.Path.{sym, subst}
 use mathlib.Core.Bool.{Bool, true, false, not}
@@ -55,9 +57,9 @@ left : (e : Edit) (t : TenantLeases) → All F (in_use t) → All F (in_use (lef
 unfolding left_in pick
 left e t h = leave e.leaves
   where
-    leave : (c : Bool) → All F (in_use (pick c (laid_out (remove_of (id_of e.old) (in_use t))) t))
-    leave true = subst (All F) (sym (read_back (remove_of (id_of e.old) (in_use t)))) (removed (id_of e.old) (in_use t) h)
-    leave false = h
+    leave : (c : Option Lease) → All F (in_use (option_map_or (λ l. laid_out (remove_of (id_of l) (in_use t))) c t))
+    leave (Some l) = subst (All F) (sym (read_back (remove_of (id_of l) (in_use t)))) (removed (id_of l) (in_use t) h)
+    leave None = h
 
 entered : (l : Lease) (t : TenantLeases) → F l → All F (in_use t) → All F (in_use (inserted_in l t))
 unfolding inserted_by pick
@@ -67,13 +69,13 @@ entered l t f h = enter (ltb (length (in_use t)) 16)
     enter true = subst (All F) (sym (read_back (insert_of l (in_use t)))) (inserted l (in_use t) f h)
     enter false = h
 
-edited : (e : Edit) (t : TenantLeases) → F e.new → All F (in_use t) → All F (in_use (edited_in e t))
-unfolding edited_by pick
-edited e t f h = go e.enters
+edited : (e : Edit) (t : TenantLeases) → IfSome e.enters F → All F (in_use t) → All F (in_use (edited_in e t))
+unfolding edited_by
+edited e t f h = go e.enters f
   where
-    go : (c : Bool) → All F (in_use (pick c (inserted_in e.new (left_in e t)) (left_in e t)))
-    go true = entered e.new (left_in e t) f (left e t h)
-    go false = left e t h
+    go : (c : Option Lease) → IfSome c F → All F (in_use (option_map_or (λ l. inserted_in l (left_in e t)) c (left_in e t)))
+    go (Some l) p = entered l (left_in e t) p (left e t h)
+    go None p = left e t h
 
 pub set_either : (P : TenantLeases → Type 0) (l : List TenantLeases) (i : ℕ) (v : TenantLeases) (c : ℕ) (d : TenantLeases) → P v → P (get_or l c d) → P (get_or (set l i v) c d)
 set_either P [] i v c d p q = q
@@ -82,7 +84,7 @@ set_either P (x ∷ l) zero v (suc c) d p q = q
 set_either P (x ∷ l) (suc i) v zero d p q = q
 set_either P (x ∷ l) (suc i) v (suc c) d p q = set_either P l i v c d p q
 
-put : (e : Edit) (t : LeaseTable) (h g : ℕ) → F e.new → All F (own_of t h) → All F (own_of t g) → All F (own_of (applied e h t) g)
+put : (e : Edit) (t : LeaseTable) (h g : ℕ) → IfSome e.enters F → All F (own_of t h) → All F (own_of t g) → All F (own_of (applied e h t) g)
 unfolding applied_by
 put e t h g f own old = set_either (λ x. All F (in_use x)) t.tenants h (edited_in e (tenant_at t h)) g (laid_out []) (edited e (tenant_at t h) f own) old
 
@@ -105,10 +107,10 @@ new_small s t h m = grant_to_small _ _ _ _
 -- ---- the decision: what enters
 module _ (s : State) (t : LeaseTable) (h : ℕ) (m : Fields) (n : (g : ℕ) → All F (own_of t g)) where
   P : Decided → Type 0
-  P d = F d.edit.new
+  P d = IfSome d.edit.enters F
 
-  none : F zero_lease
-  none = omega arith
+  none : Unit {0}
+  none = tt
 
   mine : F (old_for t h m)
   unfolding recorded_of

@@ -332,19 +332,17 @@ fn look_up(own: TenantLeases, id: [u8; 32], len: u8) -> Recorded
     ensures { result ≡ recorded_in (take len id) (in_use own) }
 {
     let x = state::find(own, id, len);
-    let at = x.place;
-    if at < state::cut16(own.count) {
-        let l = own.leases[at];
-        return Recorded {
+    match x.place {
+        Some(at) => Recorded {
             found: true,
-            lease: l,
+            lease: own.leases[at],
             compared: x.compared,
-        };
-    }
-    Recorded {
-        found: false,
-        lease: state::no_lease(),
-        compared: x.compared,
+        },
+        None => Recorded {
+            found: false,
+            lease: state::no_lease(),
+            compared: x.compared,
+        },
     }
 }
 

@@ -1,11 +1,6 @@
 -- Specimens: document 01's specimens P1 to P9 and those of skew, with Resend, RELEASE and DISCOVER, a RELEASE sent again (document 02, W-202),
 -- minimum lease and latest start (W-203), and holds (W-205), by computation: one table of cases; and how many records are compared (W-210).
-use mathlib.Core.Path.{◌≡◌, refl}
-use mathlib.Core.List.{List, [], ◌∷◌, ◌++◌}
-use mathlib.Core.Bool.{Bool, true, false, not, ◌&&◌}
-use Prim.Native.Nat.{ℕ, ◌+◌}
-use lib.ListN.{replicate}
-use lib.Dec.{eqb}
+use Rattle.std.specs.Prelude.{◌≡◌, refl, List, [], ◌∷◌, ◌++◌, Bool, true, false, ◌&&◌, Option, Some, None, ℕ, ◌+◌, replicate, eqb}
 use Rattle.lists.specs.Pick.{pick}
 use Rattle.lists.specs.Arranged.{insert_in}
 use Rattle.lists.specs.Filter.{filter_by, is_in}
@@ -14,7 +9,6 @@ use Rattle.lists.specs.Sums.{sum_to}
 use Rattle.lists.specs.Down.{largest}
 use Rattle.identifier.specs.Order.{order_of, same_of}
 use Rattle.address_set.specs.AddressSet.{bit, offsets_from, set_of, difference_of, up_to}
-use Rattle.message.specs.declared.Wish.{Wish}
 use Rattle.message.specs.declared.Fields.{Fields}
 use Rattle.message.specs.declared.Language.{Language}
 use Rattle.occupancy.specs.Board.{no_board}
@@ -26,7 +20,7 @@ use Rattle.releases.specs.Again.{is_again, any_again}
 use Rattle.decision.specs.declared.Decided.{Decided}
 use Rattle.decision.specs.declared.Verdict.{Verdict}
 use Rattle.admission.specs.Tests.{held_already, is_new, has_period, own_of, holds_of, recorded_of, resends, released_again, scope_place, knows_scope, lacks_scope, zero_length, bad_counts, lacks_current, early1_of, error1_of, skewed, error2_of, error3_of, latest_first, is_leased, is_held, same_scope, is_for_hold, drops_hold, asks_identifier}
-use Rattle.proposal.specs.Proposals.{wished_or, start_of, length_of, end_of, ask_at, fits_new, new_with, new_at, new_of, others_busy, fits_renewed, renewed_to, renewed_of, proposal_of, error0_of, lease_from, too_short, too_late, meets, hold_meets, turned, brought_by, held_from}
+use Rattle.proposal.specs.Proposals.{start_of, length_of, end_of, ask_at, fits_new, new_with, new_at, new_of, others_busy, fits_renewed, renewed_to, renewed_of, proposal_of, error0_of, lease_from, too_short, too_late, meets, hold_meets, turned, brought_by, held_from}
 use Rattle.decision.specs.Verdicts.{with_lease, plain_reply, nak_with, discard_with, refusal_of}
 use Rattle.decision.specs.laws.Code.{reply_type}
 use Rattle.decision.specs.Count.{count_of, identifier_count, lookup_count}
@@ -44,8 +38,8 @@ settings clock = record {
 }
 
 -- an option of four octets; 0 stands for none
-wish : ℕ → Wish
-wish n = record { there = not (eqb n 0); value = n }
+wish : ℕ → Option ℕ
+wish n = pick (eqb n 0) None (Some n)
 
 -- no option 8
 abbrev unasked : Language
@@ -78,17 +72,17 @@ call h time kind i xid least desired len start current = record {
 }
 
 -- an option of four octets with any value, 0 too; the specimens' scope
-abbrev absent : Wish
-absent = record { there = false; value = 0 }
+abbrev absent : Option ℕ
+absent = None
 
-abbrev given : ℕ → Wish
-given n = record { there = true; value = n }
+abbrev given : ℕ → Option ℕ
+given n = Some n
 
-abbrev ours : Wish
+abbrev ours : Option ℕ
 ours = given 4022337536
 
 -- a REQUEST of house 2 for one address by what it says: are all options allowed, Scope, least, desired, Lease Time, and whether 15 is there
-abbrev asks : Bool → Wish → ℕ → ℕ → Wish → Bool → Call
+abbrev asks : Bool → Option ℕ → ℕ → ℕ → Option ℕ → Bool → Call
 asks allowed scope least desired len latest = record {
   tenant = 1;
   time = 1000;
@@ -99,7 +93,7 @@ asks allowed scope least desired len latest = record {
     allowed = allowed;
     scope = scope;
     counts = record { least = least; desired = desired };
-    times = record { length = len; start = absent; current = absent; shortest = absent; latest = record { there = latest; value = 0 } };
+    times = record { length = len; start = absent; current = absent; shortest = absent; latest = pick latest (Some 0) None };
     features = false;
     ours = true;
     list_asked = false;
@@ -130,7 +124,7 @@ forbidden c = record {
 }
 
 -- the same call with Minimum Lease Time and Maximum Start Time
-abbrev bounded : Wish → Wish → Call → Call
+abbrev bounded : Option ℕ → Option ℕ → Call → Call
 bounded shortest latest c = record {
   tenant = c.tenant;
   time = c.time;
@@ -158,7 +152,7 @@ abbrev starting : ℕ → ℕ → ℕ → Call
 starting start current latest = bounded absent (given latest) (call 1 1000 3 1 1 1 1 0 start current)
 
 -- house 1 renews P3's lease, from 1000 to 2000, at 1500: Lease Time; and P5's, from 2000, at 1000: Start Time
-abbrev renewing3 : ℕ → Wish → Wish → Call
+abbrev renewing3 : ℕ → Option ℕ → Option ℕ → Call
 renewing3 len shortest latest = bounded shortest latest (call 0 1500 4 2 4 1 1 len 0 1500)
 
 abbrev renewing5 : ℕ → ℕ → Call
@@ -408,7 +402,7 @@ table =
     ∷ []
 
 specimens : all_hold table ≡ true
-unfolding settings wish call now decided run empty reply_type holds all_hold ack nak offer unheard two_scopes in_two second held wants other p1 p3 p5 released turn five table pick filter_by is_in place_by sum_to largest order_of same_of bit offsets_from set_of difference_of up_to laid_out table_of insert_in by_identifier remove_of live_of dropped union_all addresses_of overlaps used_in taken_of busy_in with_held committed allowed grant_of suffices is_new has_period holds_of recorded_of resends scope_place knows_scope lacks_scope zero_length bad_counts lacks_current error1_of skewed error2_of error3_of wished_or start_of length_of end_of ask_at fits_new new_with new_at new_of others_busy fits_renewed renewed_to renewed_of proposal_of error0_of lease_from with_lease plain_reply nak_with discard_with refusal_of leased_of plain_of settled_of judged_of decide_of inserted_by left_in edited_by applied_by grant_to early1_of held_already laid_releases remember_of forget_of noted_in noted is_again any_again released_again latest_first too_short too_late meets is_leased is_held is_for_hold drops_hold brought_by dropped_first until is_hold same_scope hold_meets repeated_of turned held_from by_ending
+unfolding settings wish call now decided run empty reply_type holds all_hold ack nak offer unheard two_scopes in_two second held wants other p1 p3 p5 released turn five table pick filter_by is_in place_by sum_to largest order_of same_of bit offsets_from set_of difference_of up_to laid_out table_of insert_in by_identifier remove_of live_of dropped union_all addresses_of overlaps used_in taken_of busy_in with_held committed allowed grant_of suffices is_new has_period holds_of recorded_of resends scope_place knows_scope lacks_scope zero_length bad_counts lacks_current error1_of skewed error2_of error3_of start_of length_of end_of ask_at fits_new new_with new_at new_of others_busy fits_renewed renewed_to renewed_of proposal_of error0_of lease_from with_lease plain_reply nak_with discard_with refusal_of leased_of plain_of settled_of judged_of decide_of inserted_by left_in edited_by applied_by grant_to early1_of held_already laid_releases remember_of forget_of noted_in noted is_again any_again released_again latest_first too_short too_late meets is_leased is_held is_for_hold drops_hold brought_by dropped_first until is_hold same_scope hold_meets repeated_of turned held_from by_ending
 specimens = refl
 
 -- W-203: Maximum Start Time before Start Time ends the matter before the identifier is looked for; equal it does not
@@ -432,30 +426,30 @@ holding = call 0 1000 3 2 2 1 1 1000 0 0 ∷ call 0 1000 1 3 3 1 1 0 0 0 ∷ []
 -- a REQUEST: of a house without records, another house's don't count; of an identifier that it has not, and that it has; Resend, of its first record and of its second
 counts_request : (compared [] p1 ≡ 0) × (compared (p3 ∷ []) p1 ≡ 0) × (compared two (call 0 1000 3 4 4 1 1 0 0 0) ≡ 4) × (compared two (call 0 1000 3 2 7 1 1 0 0 0) ≡ 2)
     × (compared two (call 0 1000 3 3 7 1 1 0 0 0) ≡ 4) × (compared two p3 ≡ 1) × (compared two p5 ≡ 2)
-unfolding settings wish call now decided run empty p1 p3 p5 released pick filter_by is_in place_by sum_to largest order_of same_of bit offsets_from set_of difference_of up_to laid_out table_of insert_in by_identifier remove_of live_of dropped union_all addresses_of overlaps used_in taken_of busy_in with_held committed allowed grant_of suffices is_new has_period holds_of recorded_of resends scope_place knows_scope lacks_scope zero_length bad_counts lacks_current error1_of skewed error2_of error3_of wished_or start_of length_of end_of ask_at fits_new new_with new_at new_of others_busy fits_renewed renewed_to renewed_of proposal_of error0_of lease_from with_lease plain_reply nak_with discard_with refusal_of leased_of plain_of settled_of judged_of decide_of inserted_by left_in edited_by applied_by grant_to early1_of held_already laid_releases remember_of forget_of noted_in noted is_again any_again released_again latest_first too_short too_late meets is_leased is_held is_for_hold drops_hold brought_by dropped_first until is_hold same_scope hold_meets repeated_of turned held_from by_ending compared_of lookup_count asks_identifier identifier_count count_of compared two
+unfolding settings wish call now decided run empty p1 p3 p5 released pick filter_by is_in place_by sum_to largest order_of same_of bit offsets_from set_of difference_of up_to laid_out table_of insert_in by_identifier remove_of live_of dropped union_all addresses_of overlaps used_in taken_of busy_in with_held committed allowed grant_of suffices is_new has_period holds_of recorded_of resends scope_place knows_scope lacks_scope zero_length bad_counts lacks_current error1_of skewed error2_of error3_of start_of length_of end_of ask_at fits_new new_with new_at new_of others_busy fits_renewed renewed_to renewed_of proposal_of error0_of lease_from with_lease plain_reply nak_with discard_with refusal_of leased_of plain_of settled_of judged_of decide_of inserted_by left_in edited_by applied_by grant_to early1_of held_already laid_releases remember_of forget_of noted_in noted is_again any_again released_again latest_first too_short too_late meets is_leased is_held is_for_hold drops_hold brought_by dropped_first until is_hold same_scope hold_meets repeated_of turned held_from by_ending compared_of lookup_count asks_identifier identifier_count count_of compared two
 counts_request = (refl, refl, refl, refl, refl, refl, refl)
 
 -- a DISCOVER; a RENEW, of its second record and of none; a RELEASE, of its first record, and sent again, when the house has one record left, and too late for that; a GETINFO
 counts_others : (compared two (call 0 1000 1 4 4 1 1 0 0 0) ≡ 2) × (compared two (call 0 1000 4 3 4 1 1 0 0 0) ≡ 4) × (compared two (call 0 1000 4 4 4 1 1 0 0 0) ≡ 4) × (compared two (released 1500) ≡ 1)
     × (compared (two ++ released 1500 ∷ []) (released 1799) ≡ 0) × (compared (two ++ released 1500 ∷ []) (released 1800) ≡ 1) × (compared two (call 0 1000 8 2 2 1 1 0 0 0) ≡ 0)
-unfolding settings wish call now decided run empty p1 p3 p5 released pick filter_by is_in place_by sum_to largest order_of same_of bit offsets_from set_of difference_of up_to laid_out table_of insert_in by_identifier remove_of live_of dropped union_all addresses_of overlaps used_in taken_of busy_in with_held committed allowed grant_of suffices is_new has_period holds_of recorded_of resends scope_place knows_scope lacks_scope zero_length bad_counts lacks_current error1_of skewed error2_of error3_of wished_or start_of length_of end_of ask_at fits_new new_with new_at new_of others_busy fits_renewed renewed_to renewed_of proposal_of error0_of lease_from with_lease plain_reply nak_with discard_with refusal_of leased_of plain_of settled_of judged_of decide_of inserted_by left_in edited_by applied_by grant_to early1_of held_already laid_releases remember_of forget_of noted_in noted is_again any_again released_again latest_first too_short too_late meets is_leased is_held is_for_hold drops_hold brought_by dropped_first until is_hold same_scope hold_meets repeated_of turned held_from by_ending compared_of lookup_count asks_identifier identifier_count count_of compared two
+unfolding settings wish call now decided run empty p1 p3 p5 released pick filter_by is_in place_by sum_to largest order_of same_of bit offsets_from set_of difference_of up_to laid_out table_of insert_in by_identifier remove_of live_of dropped union_all addresses_of overlaps used_in taken_of busy_in with_held committed allowed grant_of suffices is_new has_period holds_of recorded_of resends scope_place knows_scope lacks_scope zero_length bad_counts lacks_current error1_of skewed error2_of error3_of start_of length_of end_of ask_at fits_new new_with new_at new_of others_busy fits_renewed renewed_to renewed_of proposal_of error0_of lease_from with_lease plain_reply nak_with discard_with refusal_of leased_of plain_of settled_of judged_of decide_of inserted_by left_in edited_by applied_by grant_to early1_of held_already laid_releases remember_of forget_of noted_in noted is_again any_again released_again latest_first too_short too_late meets is_leased is_held is_for_hold drops_hold brought_by dropped_first until is_hold same_scope hold_meets repeated_of turned held_from by_ending compared_of lookup_count asks_identifier identifier_count count_of compared two
 counts_others = (refl, refl, refl, refl, refl, refl, refl)
 
 -- error 1's tests before the identifier's end the matter: REQUEST, RENEW, DISCOVER, RELEASE; error 2 comes after the identifier's test for a REQUEST and a DISCOVER, and before it for a RENEW and a RELEASE
 counts_ended : (compared two (forbidden (call 0 1000 3 4 4 1 1 0 0 0)) ≡ 2) × (compared two (forbidden (call 0 1000 4 3 4 1 1 0 0 0)) ≡ 2) × (compared two (forbidden (call 0 1000 1 4 4 1 1 0 0 0)) ≡ 0)
     × (compared two (forbidden (released 1500)) ≡ 0) × (compared two (call 0 1000 3 4 4 1 1 0 0 9000) ≡ 4) × (compared two (call 0 1000 1 4 4 1 1 0 0 9000) ≡ 2) × (compared two (call 0 1000 4 3 4 1 1 0 0 9000) ≡ 2)
     × (compared two (call 0 1000 7 3 4 1 1 0 0 9000) ≡ 0)
-unfolding settings wish call now decided run empty p1 p3 p5 released pick filter_by is_in place_by sum_to largest order_of same_of bit offsets_from set_of difference_of up_to laid_out table_of insert_in by_identifier remove_of live_of dropped union_all addresses_of overlaps used_in taken_of busy_in with_held committed allowed grant_of suffices is_new has_period holds_of recorded_of resends scope_place knows_scope lacks_scope zero_length bad_counts lacks_current error1_of skewed error2_of error3_of wished_or start_of length_of end_of ask_at fits_new new_with new_at new_of others_busy fits_renewed renewed_to renewed_of proposal_of error0_of lease_from with_lease plain_reply nak_with discard_with refusal_of leased_of plain_of settled_of judged_of decide_of inserted_by left_in edited_by applied_by grant_to early1_of held_already laid_releases remember_of forget_of noted_in noted is_again any_again released_again latest_first too_short too_late meets is_leased is_held is_for_hold drops_hold brought_by dropped_first until is_hold same_scope hold_meets repeated_of turned held_from by_ending compared_of lookup_count asks_identifier identifier_count count_of compared two
+unfolding settings wish call now decided run empty p1 p3 p5 released pick filter_by is_in place_by sum_to largest order_of same_of bit offsets_from set_of difference_of up_to laid_out table_of insert_in by_identifier remove_of live_of dropped union_all addresses_of overlaps used_in taken_of busy_in with_held committed allowed grant_of suffices is_new has_period holds_of recorded_of resends scope_place knows_scope lacks_scope zero_length bad_counts lacks_current error1_of skewed error2_of error3_of start_of length_of end_of ask_at fits_new new_with new_at new_of others_busy fits_renewed renewed_to renewed_of proposal_of error0_of lease_from with_lease plain_reply nak_with discard_with refusal_of leased_of plain_of settled_of judged_of decide_of inserted_by left_in edited_by applied_by grant_to early1_of held_already laid_releases remember_of forget_of noted_in noted is_again any_again released_again latest_first too_short too_late meets is_leased is_held is_for_hold drops_hold brought_by dropped_first until is_hold same_scope hold_meets repeated_of turned held_from by_ending compared_of lookup_count asks_identifier identifier_count count_of compared two
 counts_ended = (refl, refl, refl, refl, refl, refl, refl, refl)
 
 -- a hold is found in its place, by its lapse, and costs nothing more to turn into a lease; the lease after it, until it lapses
 counts_held : (compared holding (call 0 1001 3 3 9 1 1 0 0 0) ≡ 2) × (compared holding (call 0 1029 3 2 2 1 1 1000 0 0) ≡ 2) × (compared holding (call 0 1030 3 2 2 1 1 1000 0 0) ≡ 1)
-unfolding settings wish call now decided run empty p1 p3 p5 released pick filter_by is_in place_by sum_to largest order_of same_of bit offsets_from set_of difference_of up_to laid_out table_of insert_in by_identifier remove_of live_of dropped union_all addresses_of overlaps used_in taken_of busy_in with_held committed allowed grant_of suffices is_new has_period holds_of recorded_of resends scope_place knows_scope lacks_scope zero_length bad_counts lacks_current error1_of skewed error2_of error3_of wished_or start_of length_of end_of ask_at fits_new new_with new_at new_of others_busy fits_renewed renewed_to renewed_of proposal_of error0_of lease_from with_lease plain_reply nak_with discard_with refusal_of leased_of plain_of settled_of judged_of decide_of inserted_by left_in edited_by applied_by grant_to early1_of held_already laid_releases remember_of forget_of noted_in noted is_again any_again released_again latest_first too_short too_late meets is_leased is_held is_for_hold drops_hold brought_by dropped_first until is_hold same_scope hold_meets repeated_of turned held_from by_ending compared_of lookup_count asks_identifier identifier_count count_of compared holding
+unfolding settings wish call now decided run empty p1 p3 p5 released pick filter_by is_in place_by sum_to largest order_of same_of bit offsets_from set_of difference_of up_to laid_out table_of insert_in by_identifier remove_of live_of dropped union_all addresses_of overlaps used_in taken_of busy_in with_held committed allowed grant_of suffices is_new has_period holds_of recorded_of resends scope_place knows_scope lacks_scope zero_length bad_counts lacks_current error1_of skewed error2_of error3_of start_of length_of end_of ask_at fits_new new_with new_at new_of others_busy fits_renewed renewed_to renewed_of proposal_of error0_of lease_from with_lease plain_reply nak_with discard_with refusal_of leased_of plain_of settled_of judged_of decide_of inserted_by left_in edited_by applied_by grant_to early1_of held_already laid_releases remember_of forget_of noted_in noted is_again any_again released_again latest_first too_short too_late meets is_leased is_held is_for_hold drops_hold brought_by dropped_first until is_hold same_scope hold_meets repeated_of turned held_from by_ending compared_of lookup_count asks_identifier identifier_count count_of compared holding
 counts_held = (refl, refl, refl)
 
 -- ---- periods
 -- start and length, from Lease Time and Start Time, the clock, and what stands for an absent one: the old start and length of a RENEW, the clock and 3,600 otherwise
-abbrev period : Wish → Wish → ℕ → ℕ → ℕ → List ℕ
+abbrev period : Option ℕ → Option ℕ → ℕ → ℕ → ℕ → List ℕ
 period len start clock old_start old_length =
     let m : Fields = record {
       kind = 4;
@@ -482,5 +476,5 @@ periods : (period (given 604800) absent 1000 1000 3600 ≡ 1000 ∷ 604800 ∷ [
     × (period (given 1) (given 1001) 1000 1000 3600 ≡ 1001 ∷ 1 ∷ [])
     × (period absent absent 1500 1000 1000 ≡ 1500 ∷ 1000 ∷ [])
     × (period absent absent 1500 2000 1000 ≡ 2000 ∷ 1000 ∷ [])
-unfolding start_of length_of wished_or pick
+unfolding start_of length_of pick
 periods = (refl, refl, refl, refl, refl, refl, refl, refl)

@@ -25,14 +25,15 @@ use Rattle.decision.specs.declared.Reply.{Reply}
 use Rattle.decision_laws.specs.laws.Cases.{new_known, not_none}
 use Rattle.decision.specs.laws.Code.{or_none}
 use Rattle.proposal.specs.Proposals.{horizon, default_lease, ask_at, error0_of, fits_new, lease_from, length_of, meets, new_of, new_with, start_of, latest_end}
-use Rattle.admission.specs.Tests.{bad_counts, knows_scope, own_of, scope_place}
+use Rattle.admission.specs.Tests.{bad_counts, knows_scope, own_of, scope_in, scope_place}
+use Rattle.admission.specs.laws.Code.{knows_place}
 use Rattle.decision.specs.Verdicts.{with_lease}
 use Rattle.server.specs.Serve.{terms_of}
 
 -- for a tenant h, in a scope that is ours, with counts that are good
 module _ (s : State) (t : LeaseTable) (h : ℕ) (m : Fields) (v : Sound s (leases_of t)) (known : h < tenants_in s) (ours : knows_scope s m ≡ true) (good : bad_counts m ≡ false) where
   abbrev K : ℕ
-  K = scope_place s m.scope.value
+  K = scope_place s (scope_in m)
 
   abbrev from : ℕ
   from = start_of m s.clock s.clock
@@ -40,9 +41,8 @@ module _ (s : State) (t : LeaseTable) (h : ℕ) (m : Fields) (v : Sound s (lease
   abbrev long : ℕ
   long = length_of m default_lease
 
-  pub here : scope_place s m.scope.value < scopes_in s
-  unfolding knows_scope
-  here = ltb-true K (scopes_in s) (and_parts m.scope.there (ltb K (scopes_in s)) ours).1
+  pub here : scope_place s (scope_in m) < scopes_in s
+  here = knows_place s m ours
 
   pub counts : (0 < m.counts.least) × (m.counts.least ≤ m.counts.desired)
   unfolding bad_counts
@@ -53,7 +53,7 @@ module _ (s : State) (t : LeaseTable) (h : ℕ) (m : Fields) (v : Sound s (lease
 
   -- what is asked for
   abbrev A : Ask
-  A = record { scope = scope_place s m.scope.value + 1; tenant = h; from = start_of m s.clock s.clock; to = start_of m s.clock s.clock + length_of m default_lease; desired = m.counts.desired }
+  A = record { scope = scope_place s (scope_in m) + 1; tenant = h; from = start_of m s.clock s.clock; to = start_of m s.clock s.clock + length_of m default_lease; desired = m.counts.desired }
 
   asked : ask_at s h m K ≡ A
   unfolding ask_at
@@ -62,10 +62,10 @@ module _ (s : State) (t : LeaseTable) (h : ℕ) (m : Fields) (v : Sound s (lease
       (let p = here in let e : min K 4 + 1 ≡ K + 1 = omega arith in e)
 
   abbrev U : ℕ
-  U = unused_reserve (scope_at s (scope_place s m.scope.value)) (leases_of t) A
+  U = unused_reserve (scope_at s (scope_place s (scope_in m))) (leases_of t) A
 
   abbrev G : Grant
-  G = grant_of (scope_at s (scope_place s m.scope.value)) (tenants_in s) (leases_of t) A
+  G = grant_of (scope_at s (scope_place s (scope_in m))) (tenants_in s) (leases_of t) A
 
   pub enough : min m.counts.desired U ≤ G.number
   enough = guaranteed s (leases_of t) v K here A refl known
@@ -82,7 +82,7 @@ module _ (s : State) (t : LeaseTable) (h : ℕ) (m : Fields) (v : Sound s (lease
 
   -- the record, of some type
   abbrev L : ℕ → Lease
-  L kind = lease_with (scope_place s m.scope.value + 1) m.id.len m.id.octets kind m.xid (start_of m s.clock s.clock) (start_of m s.clock s.clock + length_of m default_lease) G.addresses
+  L kind = lease_with (scope_place s (scope_in m) + 1) m.id.len m.id.octets kind m.xid (start_of m s.clock s.clock) (start_of m s.clock s.clock + length_of m default_lease) G.addresses
 
   pub recorded : {kind : ℕ} → m.kind ≡ kind → from + long ≤ latest_end → lease_from m (new_of s t h m) ≡ L kind
   unfolding lease_from new_with

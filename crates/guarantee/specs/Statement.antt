@@ -26,7 +26,7 @@ use Rattle.allocation.specs.declared.Ask.{Ask}
 use Rattle.allocation.specs.declared.Grant.{Grant}
 use Rattle.allocation.specs.Rule.{grant_of, unused_reserve}
 use Rattle.proposal.specs.Proposals.{horizon, default_lease, length_of, meets, start_of, latest_end}
-use Rattle.admission.specs.Tests.{error1_of, error2_of, holds_of, is_held, own_of, recorded_of, resends, scope_place}
+use Rattle.admission.specs.Tests.{error1_of, error2_of, holds_of, is_held, own_of, recorded_of, resends, scope_in, scope_place}
 use Rattle.server.specs.Serve.{Answer, Call, head_of, serve_of, tenant_of}
 
 -- ---- the list of calls: "any number of server calls, or none: DISCOVER, REQUEST, RENEW, RELEASE, GETINFO and any other octets, from any address, with any
@@ -83,7 +83,7 @@ NoHold b c = is_held (record_for b c) (holds_of (own_for b c) (says_of b c)) ≡
 
 -- the scope's place, and the scope
 abbrev pub place_for : Book → Call → ℕ
-place_for b c = scope_place (state_at b c) (says_of b c).scope.value
+place_for b c = scope_place (state_at b c) (scope_in (says_of b c))
 
 abbrev pub scope_for : Book → Call → Scope
 scope_for b c = scope_at (state_at b c) (place_for b c)

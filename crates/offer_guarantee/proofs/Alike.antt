@@ -2,6 +2,7 @@
 use Prim.Native.Nat.{ℕ, zero, suc, ◌+◌, ◌-◌, ◌*◌, ◌/◌, ◌≤◌, ◌<◌, min}
 use mathlib.Core.Path.{◌≡◌, refl, sym, ap, ap₂, ◌∙◌, subst}
 use mathlib.Core.Bool.{Bool, true, false, ◌&&◌, ◌||◌}
+use Rattle.std.specs.Prelude.{Option, Some, None, is_some}
 use mathlib.Core.List.{List, [], ◌∷◌, ◌++◌}
 use mathlib.Core.Logic.{◌⊎◌, inl, inr, ⊎_elim}
 use native.Mathlib.Omega.{arith}
@@ -18,20 +19,17 @@ use Rattle.message.specs.Codes.{allowed_in, allows, length_ok}
 use Rattle.message.specs.laws.Placed.{pick_cases}
 use Rattle.message.specs.Read.{by_stage, ended, header_ok, message_of, none_required, read_of, required_empty}
 use Rattle.message.specs.Read as read
-use Rattle.message.specs.Values.{allowed_at, codes_from, counts_of, fields_of, find_of, found_at, identifier_of, is_found, language_of, names_of, names_server, server_ok, times_of, wish_of}
+use Rattle.message.specs.Values.{allowed_at, codes_from, counts_of, fields_of, find_of, found_at, identifier_of, language_of, names_of, names_server, server_ok, times_of, wish_of}
 use Rattle.message.specs.Walk.{broken, code_at, exactly_filled, layout_ok, length_at, onward, past_list, start, step_of, option_taken, value_ok, walk_from, walk_of}
 use Rattle.message.specs.declared.Counts.{Counts}
 use Rattle.message.specs.declared.Fields.{Fields}
 use Rattle.message.specs.declared.Language.{Language}
-use Rattle.message.specs.declared.Found.{Found}
-use Rattle.message.specs.declared.Found.TheVariants.{At, Absent}
 use Rattle.message.specs.declared.Identifier.{Identifier}
 use Rattle.message.specs.declared.Reading.{Reading}
 use Rattle.message.specs.declared.Stage.{Stage}
 use Rattle.message.specs.declared.Stage.TheVariants.{Walking, Done, Broken}
 use Rattle.message.specs.declared.Times.{Times}
 use Rattle.message.specs.declared.Walk.{Walk}
-use Rattle.message.specs.declared.Wish.{Wish}
 use Rattle.state.specs.declared.State.{State}
 use Rattle.decision_laws.specs.laws.Ensured.{sent_as}
 use Rattle.offer_guarantee.specs.Statement.{as_request}
@@ -166,16 +164,16 @@ module _ (x a b : ℕ) (l : List ℕ) where
   same_codes p (suc k) h = ap₂ (λ (c : ℕ) (r : List ℕ). c ∷ r) (same16 p h) (same_codes (p + 2) k (omega arith))
 
   module _ (places : List ℕ) (fine : (c : ℕ) → Fine (get_or places c 0)) where
-    by_found : {X : Type 0} (F G : Found → X) → F Absent ≡ G Absent → ((at : ℕ) → 2 ≤ at → F (At at) ≡ G (At at)) → (c : ℕ) → F (find_of places c) ≡ G (find_of places c)
+    by_found : {X : Type 0} (F G : Option ℕ → X) → F None ≡ G None → ((at : ℕ) → 2 ≤ at → F (Some at) ≡ G (Some at)) → (c : ℕ) → F (find_of places c) ≡ G (find_of places c)
     unfolding found_at pick Fine
     by_found F G none some c = ⊎_elim
         (λ e. ap (λ (p : ℕ). F (found_at p)) e ∙ none ∙ sym (ap (λ (p : ℕ). G (found_at p)) e))
         (λ h. let n = ne_eqb (get_or places c 0) 0 (λ z. absurd (omega arith)) in
-        ap (λ (t : Bool). F (pick t Absent (At (get_or places c 0)))) n ∙ some (get_or places c 0) h ∙ sym (ap (λ (t : Bool). G (pick t Absent (At (get_or places c 0)))) n))
+        ap (λ (t : Bool). F (pick t None (Some (get_or places c 0)))) n ∙ some (get_or places c 0) h ∙ sym (ap (λ (t : Bool). G (pick t None (Some (get_or places c 0)))) n))
         (fine c)
 
     same_wish : (c : ℕ) → wish_of A (find_of places c) ≡ wish_of B (find_of places c)
-    same_wish c = by_found (wish_of A) (wish_of B) refl (λ at h. ap {B = Wish} (λ (n : ℕ). record { there = true; value = n }) (same32 (at + 4) (omega arith))) c
+    same_wish c = by_found (wish_of A) (wish_of B) refl (λ at h. ap {B = Option ℕ} (λ (n : ℕ). Some n) (same32 (at + 4) (omega arith))) c
 
     same_counts_law : (c : ℕ) → counts_of A (find_of places c) ≡ counts_of B (find_of places c)
     same_counts_law c = by_found (counts_of A) (counts_of B) refl (λ at h. ap₂ {C = Counts} (λ (n m : ℕ). record { least = n; desired = m }) (same16 (at + 4) (omega arith)) (same16 (at + 6) (omega arith))) c
@@ -201,11 +199,11 @@ module _ (x a b : ℕ) (l : List ℕ) where
     same_times : times_of A places ≡ times_of B places
     unfolding times_of
     same_times =
-        ap₂ (λ (p q : Wish). made p q (wish_of A (find_of places 11)) (wish_of A (find_of places 14)) (wish_of A (find_of places 15))) (same_wish 1) (same_wish 6)
-        ∙ ap₂ (λ (p q : Wish). made (wish_of B (find_of places 1)) (wish_of B (find_of places 6)) p q (wish_of A (find_of places 15))) (same_wish 11) (same_wish 14)
+        ap₂ (λ (p q : Option ℕ). made p q (wish_of A (find_of places 11)) (wish_of A (find_of places 14)) (wish_of A (find_of places 15))) (same_wish 1) (same_wish 6)
+        ∙ ap₂ (λ (p q : Option ℕ). made (wish_of B (find_of places 1)) (wish_of B (find_of places 6)) p q (wish_of A (find_of places 15))) (same_wish 11) (same_wish 14)
         ∙ ap (made (wish_of B (find_of places 1)) (wish_of B (find_of places 6)) (wish_of B (find_of places 11)) (wish_of B (find_of places 14))) (same_wish 15)
       where
-        made : Wish → Wish → Wish → Wish → Wish → Times
+        made : Option ℕ → Option ℕ → Option ℕ → Option ℕ → Option ℕ → Times
         made p q r s t = record { length = p; start = q; current = r; shortest = s; latest = t }
 
     same_required : none_required A places ≡ none_required B places
@@ -227,8 +225,8 @@ allowed_same places e i = go (eqb i 2) refl
         ap (λ (j : ℕ). allowed_at 1 places j) q ∙ absent 1 ∙ sym (absent 3) ∙ sym (ap (λ (j : ℕ). allowed_at 3 places j) q)
       where
         absent : (k : ℕ) → allowed_at k places 2 ≡ true
-        absent k = ap (λ (p : ℕ). pick (is_found (found_at p)) (allows k 2) true) e
-    go false p = ap (λ (t : Bool). pick (is_found (find_of places i)) (ltb 16 i || pick (eqb i 0) true (pick (eqb i 3) true (pick (eqb i 12) true t))) true)
+        absent k = ap (λ (p : ℕ). pick (is_some (found_at p)) (allows k 2) true) e
+    go false p = ap (λ (t : Bool). pick (is_some (find_of places i)) (ltb 16 i || pick (eqb i 0) true (pick (eqb i 3) true (pick (eqb i 12) true t))) true)
         (sym (ap (λ (t : Bool). pick t true (is_in i (1 ∷ 4 ∷ 6 ∷ 7 ∷ 10 ∷ 11 ∷ 14 ∷ 15 ∷ []))) p))
 
 kind_one : (m : Fields) → m.kind ≡ 1 → m ≡ sent_as 1 m
@@ -307,7 +305,7 @@ module _ (x : ℕ) (l : List ℕ) where
       sym (
       ap₂ (λ (i : Identifier) (t : Bool). made (at32 D 4) i t (wish_of D (find_of P 4)) (counts_of D (find_of P 7)) (times_of D P) (server_ok D server (find_of P 2)) (names_of D 9 (find_of P 5)) (names_of D 11 (find_of P 5)) (language_of D (find_of P 8)))
       (same_id x 1 3 l P fine 3) (to_same (allowed_at 1 P) (allowed_at 3 P) 17 (λ i h. allowed_same P e i))
-      ∙ ap₂ (λ (w : Wish) (k : Counts). made (at32 D 4) (identifier_of R (find_of P 3)) (all_to (allowed_at 3 P) 17) w k (times_of D P) (server_ok D server (find_of P 2)) (names_of D 9 (find_of P 5)) (names_of D 11 (find_of P 5)) (language_of D (find_of P 8)))
+      ∙ ap₂ (λ (w : Option ℕ) (k : Counts). made (at32 D 4) (identifier_of R (find_of P 3)) (all_to (allowed_at 3 P) 17) w k (times_of D P) (server_ok D server (find_of P 2)) (names_of D 9 (find_of P 5)) (names_of D 11 (find_of P 5)) (language_of D (find_of P 8)))
       (same_wish x 1 3 l P fine 4) (same_counts_law x 1 3 l P fine 7)
       ∙ ap₂ (λ (w : Times) (k : Bool). made (at32 D 4) (identifier_of R (find_of P 3)) (all_to (allowed_at 3 P) 17) (wish_of R (find_of P 4)) (counts_of R (find_of P 7)) w k (names_of D 9 (find_of P 5)) (names_of D 11 (find_of P 5)) (language_of D (find_of P 8)))
       (same_times x 1 3 l P fine) (same_server x 1 3 l P fine server 2)
@@ -317,7 +315,7 @@ module _ (x : ℕ) (l : List ℕ) where
       (same32 x 1 3 l 4 (omega arith)) (same_language x 1 3 l P fine 8)
       )
     where
-      made : ℕ → Identifier → Bool → Wish → Counts → Times → Bool → Bool → Bool → Language → Fields
+      made : ℕ → Identifier → Bool → Option ℕ → Counts → Times → Bool → Bool → Bool → Language → Fields
       made n i t w k u o p q v = record {
         kind = 3;
         xid = n;
@@ -326,7 +324,7 @@ module _ (x : ℕ) (l : List ℕ) where
         scope = w;
         counts = k;
         times = u;
-        features = is_found (find_of P 12);
+        features = is_some (find_of P 12);
         ours = o;
         list_asked = p;
         time_asked = q;

@@ -1,5 +1,7 @@
 -- Laws: calls of other houses, and of the house itself for other identifiers, leave the house's record of an identifier, as long as the clock has not come to its
 -- lapse or end.
+use Rattle.std.specs.Prelude.{IfSome}
+use Rattle.std.proofs.lemmas.Option.{IfSome_then}
 use Prim.Native.Nat.{ℕ, ◌≤◌, ◌<◌, max}
 use mathlib.Core.Path.{◌≡◌, refl, sym, ap, ◌∙◌}
 use mathlib.Core.Bool.{Bool, true, false}
@@ -33,7 +35,6 @@ use Rattle.proposal.specs.Proposals.{held_from, lease_from, turned}
 use Rattle.admission.specs.Tests.{is_held, is_leased, lease_id_in, own_of}
 use Rattle.decision.specs.Decide.{decide_of}
 use Rattle.decision_laws.specs.laws.Cases.{decided_by, held_there, leased_there, old_for, there_for}
-use Rattle.decision.specs.laws.Code.{no}
 use Rattle.decision_laws.specs.laws.Kept.{held_named}
 use Rattle.server.specs.Serve.{Answer, Call, at_clock, for_server, serve_of, tenant_of, with_reading}
 use Rattle.guarantee.specs.Statement.{book_at, run, says_of, state_at, tenant_for}
@@ -91,7 +92,7 @@ Has h i o t = filter_by (named i) (own_of t h) ≡ o ∷ []
 
 -- what a decision on m does is about its identifier
 AboutIt : Fields → Edit → Type 0
-AboutIt m e = (e.leaves ≡ true → id_of e.old ≡ lease_id_in m) × (e.enters ≡ true → id_of e.new ≡ lease_id_in m)
+AboutIt m e = IfSome e.leaves (λ l. id_of l ≡ lease_id_in m) × IfSome e.enters (λ l. id_of l ≡ lease_id_in m)
 
 about : (s : State) (t : LeaseTable) (q : List Release) (h : ℕ) (m : Fields) → AboutIt m (decide_of s t q h m).edit
 unfolding AboutIt lease_from held_from turned
@@ -100,18 +101,18 @@ about s t q h m = decided_by s t h m (λ (d : Decided). AboutIt m d.edit) (recor
   again = none;
   refused = λ _. none;
   repeated = λ _ _. none;
-  taken = λ _ f. (λ _. held f, λ _. held f);
-  offered = λ _ _ _ _. (λ z. no (sym z), λ _. refl);
-  requested = λ _ _ _ _. (λ z. no (sym z), λ _. refl);
-  dropped = λ _ f. (λ _. held f, λ z. no (sym z));
-  moved = λ _ _ f _. (λ _. held f, λ _. refl);
-  renewed = λ _ _ f _. (λ _. leased f, λ _. refl);
-  released = λ _ f. (λ _. leased f, λ z. no (sym z));
+  taken = λ _ f. (held f, held f);
+  offered = λ _ _ _ _. (tt, refl);
+  requested = λ _ _ _ _. (tt, refl);
+  dropped = λ _ f. (held f, tt);
+  moved = λ _ _ f _. (held f, refl);
+  renewed = λ _ _ f _. (leased f, refl);
+  released = λ _ f. (leased f, tt);
   informed = none;
 }) q
   where
     none : AboutIt m no_edit
-    none = (λ z. no (sym z), λ z. no (sym z))
+    none = (tt, tt)
 
     held : is_held (old_for t h m) (there_for t h m) ≡ true → id_of (old_for t h m) ≡ lease_id_in m
     held f = held_named s t h m (held_there (old_for t h m) (there_for t h m) f)
@@ -138,7 +139,7 @@ module _ (h : ℕ) (i : List ℕ) (o : Lease) where
       go true f =
           let n : lease_id_in m ≡ i → ⊥ = away (eqb-true g h f) in
           set_either (λ (x : TenantLeases). filter_by (named i) (in_use x) ≡ o ∷ []) t.tenants g (edited_in e (tenant_at t g)) h (laid_out [])
-          (edited_other e i (tenant_at t g) o (λ y p. n (sym (about.0 y) ∙ p)) (λ y p. n (sym (about.1 y) ∙ p)) (ap (λ (k : ℕ). filter_by (named i) (own_of t k)) (eqb-true g h f) ∙ has)) has
+          (edited_other e i (tenant_at t g) o (IfSome_then e.leaves about.0 (λ l y p. n (sym y ∙ p))) (IfSome_then e.enters about.1 (λ l y p. n (sym y ∙ p))) (ap (λ (k : ℕ). filter_by (named i) (own_of t k)) (eqb-true g h f) ∙ has)) has
       go false f = ap (λ (x : TenantLeases). filter_by (named i) (in_use x)) (applied_others e g h t (λ p. eqb-false g h f (sym p))) ∙ has
 
   -- ---- one call elsewhere

@@ -41,6 +41,7 @@ use Rattle.decision.specs.declared.Reply.{Reply}
 use Rattle.decision.specs.declared.Reply.TheVariants.{Nothing, Offer, LeaseAck, ReleaseAck, InfoAck, Nak}
 use Rattle.decision.specs.declared.Verdict.{Verdict}
 use Rattle.admission.specs.Tests.{bad_counts, early1_of, error1_of, error2_of, held_already, holds_of, is_held, is_leased, is_new, knows_scope, lease_id_in, own_of, recorded_of, same_scope}
+use Rattle.admission.specs.laws.Code.{knows_place}
 use Rattle.proposal.specs.Proposals.{default_lease, held_from, hold_meets, lease_from, meets, new_of, length_of, turned}
 use Rattle.decision.specs.Verdicts.{with_lease}
 use Rattle.decision.specs.Decide.{changed, unchanged}
@@ -350,10 +351,9 @@ module _ (b : Book) (d : Call) (v : SoundBook b) (discovers : Discovers d) (offe
   ok = passed (state_at b d) (says_of b d) zero_lease false none_early
 
   known_place : place_for b d < scopes_in (state_at b d)
-  unfolding is_new knows_scope
+  unfolding is_new
   known_place =
-      ltb-true (place_for b d) (scopes_in (state_at b d))
-      (and_parts (says_of b d).scope.there (ltb (place_for b d) (scopes_in (state_at b d))) (ok.scope (ap (λ (n : ℕ). eqb n 1 || eqb n 3) (discover b d v discovers offered)))).1
+      knows_place (state_at b d) (says_of b d) (ok.scope (ap (λ (n : ℕ). eqb n 1 || eqb n 3) (discover b d v discovers offered)))
 
   place_is : o.scope - 1 ≡ place_for b d
   unfolding same_scope

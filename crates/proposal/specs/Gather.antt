@@ -12,7 +12,7 @@ use Rattle.allocation.specs.declared.Grant.{Grant}
 use Rattle.allocation.specs.Rule.{suffices}
 use Rattle.allocation.specs.Own.{grant_in}
 use Rattle.proposal.specs.declared.Proposal.{Proposal}
-use Rattle.admission.specs.Tests.{is_new, lease_id_in, drops_hold, scope_place}
+use Rattle.admission.specs.Tests.{is_new, lease_id_in, drops_hold, scope_in, scope_place}
 use Rattle.proposal.specs.Proposals.{start_of, end_of, ask_at, fits_renewed, renewed_by}
 
 -- the proposal for a tenant of n leases
@@ -29,7 +29,7 @@ unfoldable pub new_at_in : State → List Lease → HeldTable → ℕ → Fields
 new_at_in s own held h m k = new_by (length own) m.counts.least (ask_at s h m k) (grant_in own held (scope_at s k) (tenants_in s) (ask_at s h m k))
 
 unfoldable pub new_in : State → List Lease → HeldTable → ℕ → Fields → Proposal
-new_in s own held h m = new_at_in s own held h m (scope_place s m.scope.value)
+new_in s own held h m = new_at_in s own held h m (scope_place s (scope_in m))
 
 -- RENEW: of the other leases, those of the tenant
 unfoldable pub renewed_to_in : List Lease → Fields → Lease → ℕ → ℕ → Proposal

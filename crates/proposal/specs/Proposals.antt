@@ -1,10 +1,9 @@
 -- Definitions: what a lease would be that a message asks for, its period and its addresses, whether the message takes it, which is error 0, and what a message makes of a hold;
 -- each on plain values. A house is a tenant here; h counts from 0.
-use Rattle.std.specs.Prelude.{ℕ, ◌+◌, ◌-◌, min, max, Bool, not, ◌&&◌, ◌||◌, List, leb, ltb, eqb, length}
+use Rattle.std.specs.Prelude.{ℕ, ◌+◌, ◌-◌, min, max, Bool, not, ◌&&◌, ◌||◌, Option, unwrap_or, List, leb, ltb, eqb, length}
 use Rattle.std.specs.Int.Bits.{bit_and}
 use Rattle.lists.specs.Pick.{pick}
 use Rattle.address_set.specs.AddressSet.{offsets}
-use Rattle.message.specs.declared.Wish.{Wish}
 use Rattle.message.specs.declared.Fields.{Fields}
 use Rattle.state.specs.declared.Lease.{Lease}
 use Rattle.state.specs.declared.LeaseTable.{LeaseTable}
@@ -15,7 +14,7 @@ use Rattle.allocation.specs.declared.Ask.{Ask}
 use Rattle.allocation.specs.declared.Grant.{Grant}
 use Rattle.allocation.specs.Rule.{grant_to, suffices, busy_in}
 use Rattle.proposal.specs.declared.Proposal.{Proposal}
-use Rattle.admission.specs.Tests.{is_new, own_of, lease_id_in, scope_place, scope_number, drops_hold}
+use Rattle.admission.specs.Tests.{is_new, own_of, lease_id_in, there_and, scope_in, scope_place, scope_number, drops_hold}
 
 -- ---- document 01, "Numbers we buy by", in seconds
 -- the length of a lease that names none
@@ -36,8 +35,8 @@ latest_end = 4294967295
 
 -- ---- the period
 -- an option's value, or else d
-unfoldable pub wished_or : Wish → ℕ → ℕ
-wished_or w d = pick w.there w.value d
+abbrev pub wished_or : Option ℕ → ℕ → ℕ
+wished_or w d = unwrap_or w d
 
 -- "Start is Start Time or else the clock (RENEW: or else the old start), raised to the clock if earlier"
 unfoldable pub start_of : Fields → ℕ → ℕ → ℕ
@@ -72,7 +71,7 @@ unfoldable pub new_at : State → LeaseTable → ℕ → Fields → ℕ → Prop
 new_at s b h m k = new_with b m (ask_at s h m k) (grant_to (scope_at s k) (tenants_in s) (leases_of b) (ask_at s h m k))
 
 unfoldable pub new_of : State → LeaseTable → ℕ → Fields → Proposal
-new_of s b h m = new_at s b h m (scope_place s m.scope.value)
+new_of s b h m = new_at s b h m (scope_place s (scope_in m))
 
 -- one tenant's leases give way to others
 abbrev pub updated : LeaseTable → ℕ → List Lease → LeaseTable
@@ -103,10 +102,10 @@ proposal_of s b h m l = pick (is_new m) (new_of s b h m) (renewed_of s b h m l)
 -- ---- document 02, W-203: "After the cut to the longest lease, a length below Minimum Lease Time can't be given, nor a start after Maximum Start Time". Asked
 -- of a start and a length: those of what is asked for, raised and cut, or a hold's own
 unfoldable pub too_short : Fields → ℕ → Bool
-too_short m length = m.times.shortest.there && ltb length m.times.shortest.value
+too_short m length = there_and (λ shortest. ltb length shortest) m.times.shortest
 
 unfoldable pub too_late : Fields → ℕ → Bool
-too_late m start = m.times.latest.there && ltb m.times.latest.value start
+too_late m start = there_and (λ latest. ltb latest start) m.times.latest
 
 -- the message's "minimum and latest start can be met"
 unfoldable pub meets : Fields → ℕ → ℕ → Bool

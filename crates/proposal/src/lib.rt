@@ -5,11 +5,11 @@
 ghost use Rattle.std.specs.Prelude.{◌≡◌, ◌&&◌, not, ltb, take, ◌-◌, ◌+◌, min};
 ghost use Rattle.state.specs.Book.{in_use, added_if, remove_of, busy_of, hold_time};
 ghost use Rattle.allocation.specs.Rule.{suffices};
-ghost use Rattle.proposal.specs.Proposals.{wished_or, start_of, length_of, end_of, ask_at, fits_renewed, lease_from, turned, held_from, error0_of, too_short, too_late, meets, hold_meets, latest_end};
+ghost use Rattle.proposal.specs.Proposals.{start_of, length_of, end_of, ask_at, fits_renewed, lease_from, turned, held_from, error0_of, too_short, too_late, meets, hold_meets, latest_end};
 ghost use Rattle.proposal.specs.Gather.{new_by, other_in, new_at_in, new_in, renewed_to_in, renewed_in, proposal_in, brought_in};
 
 use allocation::{Ask, Grant};
-use message::{Fields, MessageType, Wish};
+use message::{Fields, MessageType};
 use soundness::HeldTable;
 use state::{HOLD_TIME, Lease, State, TenantLeases};
 
@@ -35,65 +35,33 @@ pub struct Proposal {
 fn cut_end(end: u64) -> u32
     ensures { result ≡ min end latest_end }
 {
-    if end < LATEST_END {
-        return end as u32;
-    }
-    LATEST_END as u32
+    end.min(LATEST_END) as u32
 }
 
 // When a hold lapses: thirty seconds after the clock, or at the period's end if that is sooner.
 fn lapse_of(clock: u32, end: u32) -> u32
     ensures { result ≡ min (clock + hold_time) end }
 {
-    let lapse = (clock as u64) + HOLD_TIME;
-    if lapse < (end as u64) {
-        return lapse as u32;
-    }
-    end
-}
-
-fn below_and(k: usize, n: usize, a: bool) -> bool
-    ensures { result ≡ (ltb k n && a) }
-{
-    if k < n {
-        return a;
-    }
-    false
-}
-
-fn wished_or(w: Wish, d: u32) -> u32
-    ensures { result ≡ wished_or w d }
-{
-    if w.there {
-        return w.value;
-    }
-    d
+    (u64::from(clock) + HOLD_TIME).min(u64::from(end)) as u32
 }
 
 fn start_of(m: Fields, clock: u32, old: u32) -> u32
     ensures { result ≡ start_of m clock old }
 {
-    let t = m.times;
-    let w = t.start;
-    let x = wished_or(w, old);
-    arithmetic::larger(clock, x)
+    m.times.start.unwrap_or(old).max(clock)
 }
 
 fn length_of(m: Fields, old: u32) -> u32
     ensures { result ≡ length_of m old }
 {
-    let t = m.times;
-    let w = t.length;
-    let x = wished_or(w, old);
-    arithmetic::smaller(x, LONGEST_LEASE)
+    m.times.length.unwrap_or(old).min(LONGEST_LEASE)
 }
 
 fn end_of(m: Fields, from: u32, l: Lease) -> u64
     ensures { result ≡ end_of m from l }
 {
-    let old = arithmetic::monus(l.end, l.start);
-    let n = length_of(m, old);
-    (from as u64) + (n as u64)
+    let n = length_of(m, l.end.saturating_sub(l.start));
+    u64::from(from) + u64::from(n)
 }
 
 fn ask_at(s: State, h: usize, m: Fields, k: usize) -> Ask
@@ -101,15 +69,12 @@ fn ask_at(s: State, h: usize, m: Fields, k: usize) -> Ask
 {
     let start = start_of(m, s.clock, s.clock);
     let n = length_of(m, DEFAULT_LEASE);
-    let number = admission::number_of(k);
-    let end = (start as u64) + (n as u64);
-    let c = m.counts;
     Ask {
-        scope: number,
+        scope: admission::number_of(k),
         tenant: h,
         from: start,
-        to: end,
-        desired: c.desired,
+        to: u64::from(start) + u64::from(n),
+        desired: m.counts.desired,
     }
 }
 
@@ -117,16 +82,14 @@ fn ask_at(s: State, h: usize, m: Fields, k: usize) -> Ask
 fn fits_new(n: usize, least: u16, g: Grant) -> bool
     ensures { result ≡ (ltb n 16 && suffices least g) }
 {
-    let enough = allocation::enough(least, g);
-    below_and(n, 16, enough)
+    n < 16 && allocation::enough(least, g)
 }
 
 fn new_with(n: usize, least: u16, a: Ask, g: Grant) -> Proposal
     ensures { result ≡ new_by n least a g }
 {
-    let fits = fits_new(n, least, g);
     Proposal {
-        fits: fits,
+        fits: fits_new(n, least, g),
         scope: a.scope,
         start: a.from,
         end: a.to,
@@ -139,19 +102,16 @@ fn new_at(s: State, own: TenantLeases, held: HeldTable, h: usize, m: Fields, k: 
 {
     let c = state::scope_at(s, k);
     let a = ask_at(s, h, m, k);
-    let n = arithmetic::cut8(s.tenant_count);
+    let n = usize::from(s.tenant_count).min(8);
     let g = allocation::granted(own, held, c, n, a);
-    let used = state::lease_count(own);
-    let w = m.counts;
-    new_with(used, w.least, a, g)
+    new_with(state::lease_count(own), m.counts.least, a, g)
 }
 
 // What a DISCOVER or REQUEST would newly get.
 fn new_lease(s: State, own: TenantLeases, held: HeldTable, h: usize, m: Fields) -> Proposal
     ensures { result ≡ new_in s (in_use own) held h m }
 {
-    let w = m.scope;
-    let k = admission::scope_place(s, w.value);
+    let k = admission::scope_place(s, m.scope.unwrap_or(0));
     new_at(s, own, held, h, m, k)
 }
 
@@ -159,13 +119,8 @@ fn new_lease(s: State, own: TenantLeases, held: HeldTable, h: usize, m: Fields) 
 fn add_other(sum: u64, l: Lease, id: [u8; 32], len: u8, scope: u8, from: u32, to: u64) -> u64
     ensures { result ≡ added_if (other_in (take len id) scope from to) sum l }
 {
-    if state::is_named(l, id, len) {
-        return sum;
-    }
-    if l.scope == scope {
-        if state::overlapping(l, from, to) {
-            return sum | l.addresses;
-        }
+    if !state::is_named(l, id, len) && l.scope == scope && state::overlapping(l, from, to) {
+        return sum | l.addresses;
     }
     sum
 }
@@ -175,12 +130,9 @@ fn others_busy(own: TenantLeases, id: [u8; 32], len: u8, scope: u8, from: u32, t
     ensures { result ≡ busy_of scope from to (remove_of (take len id) (in_use own)) }
 {
     let mut sum: u64 = 0;
-    let n = state::cut16(own.count);
-    let mut i: usize = 0;
-    while i < n {
-        let l = own.leases[i];
-        sum = add_other(sum, l, id, len, scope, from, to);
-        i += 1;
+    let n = own.count.min(16);
+    for i in 0..n {
+        sum = add_other(sum, own.leases[i], id, len, scope, from, to);
     }
     sum
 }
@@ -188,19 +140,15 @@ fn others_busy(own: TenantLeases, id: [u8; 32], len: u8, scope: u8, from: u32, t
 fn fits_renewed(used: u64, mine: u64) -> bool
     ensures { result ≡ fits_renewed used mine }
 {
-    let both = used & mine;
-    both == 0
+    used & mine == 0
 }
 
 fn renewed_to(own: TenantLeases, m: Fields, l: Lease, from: u32, to: u64) -> Proposal
     ensures { result ≡ renewed_to_in (in_use own) m l from to }
 {
-    let i = m.id;
-    let octets = i.octets;
-    let used = others_busy(own, octets, i.len, l.scope, from, to);
-    let fits = fits_renewed(used, l.addresses);
+    let used = others_busy(own, m.id.octets, m.id.len, l.scope, from, to);
     Proposal {
-        fits: fits,
+        fits: fits_renewed(used, l.addresses),
         scope: l.scope,
         start: from,
         end: to,
@@ -277,9 +225,7 @@ pub fn brought(own: TenantLeases, m: Fields, old: Lease, there: bool) -> TenantL
     ensures { in_use result ≡ brought_in (in_use own) m old there }
 {
     if admission::drops_hold(m, old, there) {
-        let i = m.id;
-        let octets = i.octets;
-        return state::remove(own, octets, i.len);
+        return state::remove(own, m.id.octets, m.id.len);
     }
     own
 }
@@ -290,56 +236,37 @@ pub fn brought(own: TenantLeases, m: Fields, old: Lease, there: bool) -> TenantL
 fn too_short(m: Fields, length: u64) -> bool
     ensures { result ≡ too_short m length }
 {
-    let t = m.times;
-    let w = t.shortest;
-    if w.there {
-        return length < (w.value as u64);
-    }
-    false
+    m.times
+        .shortest
+        .is_some_and(|shortest| length < u64::from(shortest))
 }
 
 // Whether a start is after the latest that the message takes.
 fn too_late(m: Fields, start: u32) -> bool
     ensures { result ≡ too_late m start }
 {
-    let t = m.times;
-    let w = t.latest;
-    if w.there {
-        return w.value < start;
-    }
-    false
+    m.times.latest.is_some_and(|latest| latest < start)
 }
 
 // Whether a start and a length are such as the message takes.
 fn meets_wishes(m: Fields, start: u32, length: u64) -> bool
     ensures { result ≡ meets m start length }
 {
-    if too_short(m, length) {
-        return false;
-    }
-    !too_late(m, start)
+    !too_short(m, length) && !too_late(m, start)
 }
 
 // Whether a hold has the addresses and the period that the message takes.
 pub fn hold_meets(m: Fields, old: Lease) -> bool
     ensures { result ≡ hold_meets m old }
 {
-    let c = m.counts;
-    if (c.least as u32) <= address_set::count(old.addresses) {
-        let n = arithmetic::monus(old.end, old.start);
-        return meets_wishes(m, old.start, n as u64);
-    }
-    false
+    u32::from(m.counts.least) <= address_set::count(old.addresses)
+        && meets_wishes(m, old.start, u64::from(old.end.saturating_sub(old.start)))
 }
 
 fn length_in(p: Proposal) -> u64
     ensures { result ≡ p.end - p.start }
 {
-    let from = p.start as u64;
-    if from < p.end {
-        return p.end - from;
-    }
-    0
+    p.end.saturating_sub(u64::from(p.start))
 }
 
 fn is_unmet(m: Fields, p: Proposal) -> bool
@@ -352,14 +279,8 @@ fn is_unmet(m: Fields, p: Proposal) -> bool
 pub fn error_0(s: State, m: Fields, p: Proposal) -> bool
     ensures { result ≡ error0_of s m p }
 {
-    if (s.clock as u64) + HORIZON < (p.start as u64) {
-        return true;
-    }
-    if LATEST_END < p.end {
-        return true;
-    }
-    if is_unmet(m, p) {
-        return true;
-    }
-    !p.fits
+    u64::from(s.clock) + HORIZON < u64::from(p.start)
+        || LATEST_END < p.end
+        || is_unmet(m, p)
+        || !p.fits
 }

@@ -75,10 +75,6 @@ tells_silent n o k buffer e = record { outcome = ap (λ (x : Outcome). x.outcome
 tells_reply : (reply : List ℕ) (k : ℕ) {before after : List ℕ} {n : ℕ} {x : Outcome} → Replied before reply after n → x ≡ record { outcome = 0; length = n; offset = 0; count = k } → Tells (record { outcome = 0; offset = 0; count = k; reply = reply }) before after x
 tells_reply reply k w e = record { outcome = ap (λ (x : Outcome). x.outcome) e; offset = ap (λ (x : Outcome). x.offset) e; count = ap (λ (x : Outcome). x.count) e; size = ap (λ (x : Outcome). x.length) e ∙ w.size; buffer = w.buffer }
 
--- both tests, the second made on a number that was widened
-pub tests_known : (a : ℕ) {q t : Bool} {n w : ℕ} → q ≡ t → q ≡ true → w ≡ n → ltb a w ≡ (t && ltb a n)
-tests_known a {n = n} p y e = ap (ltb a) e ∙ sym (ap (λ (t : Bool). t && ltb a n) (sym p ∙ y))
-
 module _ (r : Ruling) (s : State) (names : List ℕ) where
   -- the names and the tenant that the writer of an ACK to GETINFO asks for
   pub can_show : {i : Info} {t : Bool} → i ≡ info_in s r → t ≡ sendable s names r → t ≡ true → Sendable i names

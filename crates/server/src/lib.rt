@@ -2,7 +2,7 @@
 // written from a verdict, with the names and a reply buffer lent (the second).
 #![tactic(auto)]
 
-ghost use Rattle.std.specs.Prelude.{◌&&◌, ◌≡◌, ◌≤◌, min, ltb, length};
+ghost use Rattle.std.specs.Prelude.{◌&&◌, ◌≡◌, ◌≤◌, ltb, length};
 ghost use Rattle.message.specs.Read.{read_of};
 ghost use Rattle.names.specs.Names.{names_b};
 ghost use Rattle.reply.specs.Reply.{least_room};
@@ -54,11 +54,10 @@ pub struct Judged {
 fn head_of(s: State, r: Ruling) -> Head
     ensures { result ≡ head_in s r }
 {
-    let id = r.id;
     Head {
         xid: r.xid,
         server: s.server,
-        id: id,
+        id: r.id,
         features: r.features,
     }
 }
@@ -66,9 +65,9 @@ fn head_of(s: State, r: Ruling) -> Head
 fn terms_of(s: State, v: Verdict) -> Terms
     ensures { result ≡ terms_of s v }
 {
-    let c = state::scope_at(s, arithmetic::place_of(v.scope));
+    let c = state::scope_at(s, usize::from(v.scope.saturating_sub(1)));
     Terms {
-        length: arithmetic::monus(v.end, v.start),
+        length: v.end.saturating_sub(v.start),
         start: v.start,
         scope: c.lowest,
         addresses: v.addresses,
@@ -93,7 +92,6 @@ fn info_of(s: State, r: Ruling) -> Info
     let b = entry_of(state::scope_at(s, 1));
     let c = entry_of(state::scope_at(s, 2));
     let d = entry_of(state::scope_at(s, 3));
-    let language = r.language;
     Info {
         scopes: [a, b, c, d],
         count: s.scope_count,
@@ -102,7 +100,7 @@ fn info_of(s: State, r: Ruling) -> Info
         time_asked: r.time_asked,
         tenants: s.tenant_count,
         tenant: r.tenant,
-        language: language,
+        language: r.language,
     }
 }
 
@@ -110,10 +108,7 @@ fn info_of(s: State, r: Ruling) -> Info
 fn can_send(s: State, names: &[u8], tenant: usize) -> bool
     ensures { result ≡ (names_b s.scope_count s.tenant_count names.now && ltb tenant s.tenant_count) }
 {
-    if names::good(names, s.scope_count, s.tenant_count) {
-        return tenant < arithmetic::wide(s.tenant_count);
-    }
-    false
+    names::good(names, s.scope_count, s.tenant_count) && tenant < usize::from(s.tenant_count)
 }
 
 fn told(n: u8, length: usize, offset: usize, count: usize) -> Outcome
@@ -121,9 +116,9 @@ fn told(n: u8, length: usize, offset: usize, count: usize) -> Outcome
 {
     Outcome {
         outcome: n,
-        length: length,
-        offset: offset,
-        count: count,
+        length,
+        offset,
+        count,
     }
 }
 
@@ -146,8 +141,7 @@ fn write_reply(s: State, names: &[u8], r: Ruling, reply: &mut [u8]) -> Outcome
 {
     let head = head_of(s, r);
     let v = r.verdict;
-    let kind = v.reply;
-    match kind {
+    match v.reply {
         Reply::Nothing => told(0, 0, 0, r.count),
         Reply::Offer => told(
             0,
@@ -165,20 +159,11 @@ fn write_reply(s: State, names: &[u8], r: Ruling, reply: &mut [u8]) -> Outcome
         Reply::InfoAck => write_info(s, names, r, reply),
         Reply::Nak => told(
             0,
-            reply::write_nak(reply, head, arithmetic::wide16(v.error)),
+            reply::write_nak(reply, head, u16::from(v.error)),
             0,
             r.count,
         ),
     }
-}
-
-fn at_most_8(n: u8) -> u8
-    ensures { result ≡ min n 8 }
-{
-    if n < 8 {
-        return n;
-    }
-    8
 }
 
 // The second half: writes the reply of a verdict and the state of the book that the first half gave with it. 2 where the room is below 512, then the
@@ -193,7 +178,7 @@ pub fn write(r: Ruling, s: State, names: &[u8], reply: &mut [u8]) -> Outcome
     if v.outcome == 0 {
         return write_reply(s, names, r, reply);
     }
-    told(at_most_8(v.outcome), 0, r.offset, r.count)
+    told(v.outcome.min(8), 0, r.offset, r.count)
 }
 
 // ---- the tests
@@ -223,7 +208,7 @@ pub fn discard(n: u8, offset: usize) -> Ruling
 {
     Ruling {
         verdict: decision::discard(n),
-        offset: offset,
+        offset,
         count: 0,
         tenant: 0,
         xid: 0,
@@ -247,19 +232,17 @@ fn untouched(n: u8, offset: usize) -> Judged
 fn rule(h: usize, m: Fields, n: usize, v: Verdict) -> Ruling
     ensures { result ≡ ruling_on h m n v }
 {
-    let id = m.id;
-    let language = m.language;
     Ruling {
         verdict: v,
         offset: 0,
         count: n,
         tenant: h,
         xid: m.xid,
-        id: id,
+        id: m.id,
         features: m.features,
         list_asked: m.list_asked,
         time_asked: m.time_asked,
-        language: language,
+        language: m.language,
     }
 }
 
@@ -275,12 +258,9 @@ fn decided(
     ensures { JudgesTenant s own q held h (λ b. judged_by b h m (decided_for b h m)) result }
 {
     let c = decision::decide(s, own, q, held, h, m);
-    let d = c.decided;
-    let v = d.verdict;
-    let e = d.edit;
     Judged {
-        ruling: rule(h, m, c.count, v),
-        edit: e,
+        ruling: rule(h, m, c.count, c.decided.verdict),
+        edit: c.decided.edit,
     }
 }
 
@@ -317,9 +297,8 @@ pub fn judge_tenant(
 {
     let r = message::read(datagram);
     if r.discard == 0 {
-        let m = r.message;
-        let f = m.fields(datagram, s.server);
-        return for_server(s, own, q, held, h, f);
+        let m = r.message.fields(datagram, s.server);
+        return for_server(s, own, q, held, h, m);
     }
     untouched(r.discard, r.fault)
 }
@@ -327,24 +306,16 @@ pub fn judge_tenant(
 fn has_client(client: u32, r: ClientRange) -> bool
     ensures { result ≡ has_client client r }
 {
-    if r.low <= client {
-        return client <= r.high;
-    }
-    false
+    r.low <= client && client <= r.high
 }
 
 // The tenant of a client's address, counted from 0; their number where it has none.
 pub fn tenant_of(s: State, client: u32) -> usize
     ensures { result ≡ tenant_of s client }
 {
-    let n = arithmetic::cut8(s.tenant_count);
-    let mut i: usize = 0;
-    while i < n {
-        let x = s.tenants[i];
-        if has_client(client, x) {
-            return i;
-        }
-        i += 1;
-    }
-    i
+    let n = usize::from(s.tenant_count).min(8);
+    s.tenants[..n]
+        .iter()
+        .position(|r| has_client(client, *r))
+        .unwrap_or(n)
 }

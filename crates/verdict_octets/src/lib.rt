@@ -12,6 +12,7 @@ use server::Ruling;
 // ---- written
 
 // The number of a kind of reply.
+// Stays: `From` and `TryFrom` for `Reply` could stand in crate decision alone, which knows nothing of these octets, and no octet is refused (`reply_for`, of which a match was tried: its goals didn't close).
 fn reply_number(kind: Reply) -> u8
     ensures { result ≡ reply_number kind }
 {
@@ -28,10 +29,7 @@ fn reply_number(kind: Reply) -> u8
 fn flag_of(b: bool) -> u8
     ensures { result ≡ flag_of b }
 {
-    if b {
-        return 1;
-    }
-    0
+    u8::from(b)
 }
 
 // The outcome, the reply, a NAK's error and the scope.
@@ -39,9 +37,8 @@ fn put_outcome(room: &mut [u8], at: usize, v: Verdict) -> usize
     requires { at + 4 ≤ length room.old }
     ensures { Wrote room.old at (outcome_octets v) room.new result × (result ≡ at + 4) }
 {
-    let kind = v.reply;
     let a = octets::put_u8(room, at, v.outcome);
-    let b = octets::put_u8(room, a, reply_number(kind));
+    let b = octets::put_u8(room, a, reply_number(v.reply));
     let c = octets::put_u8(room, b, v.error);
     octets::put_u8(room, c, v.scope)
 }
@@ -81,19 +78,17 @@ fn put_language(room: &mut [u8], at: usize, l: Language) -> usize
     requires { at + 11 ≤ length room.old }
     ensures { Wrote room.old at (language_octets l) room.new result × (result ≡ at + 11) }
 {
-    let kept = l.octets;
     let a = octets::put_u8(room, at, flag_of(l.asked));
     let b = octets::put_u16(room, a, (l.len % 65536) as u16);
-    octets::put_run(room, b, &kept, 8)
+    octets::put(room, b, &l.octets)
 }
 
 fn put_identifier(room: &mut [u8], at: usize, i: Identifier) -> usize
     requires { at + 33 ≤ length room.old }
     ensures { Wrote room.old at (identifier_octets i) room.new result × (result ≡ at + 33) }
 {
-    let kept = i.octets;
     let a = octets::put_u8(room, at, i.len);
-    octets::put_run(room, a, &kept, 32)
+    octets::put(room, a, &i.octets)
 }
 
 // The identifier, and how many records were read.
@@ -101,8 +96,7 @@ fn put_last(room: &mut [u8], at: usize, r: Ruling) -> usize
     requires { at + 34 ≤ length room.old }
     ensures { Wrote room.old at (last_octets r) room.new result × (result ≡ at + 34) }
 {
-    let i = r.id;
-    let a = put_identifier(room, at, i);
+    let a = put_identifier(room, at, r.id);
     octets::put_u8(room, a, (r.count % 256) as u8)
 }
 
@@ -110,13 +104,11 @@ fn put_last(room: &mut [u8], at: usize, r: Ruling) -> usize
 pub fn put(room: &mut [u8; 75], r: Ruling)
     ensures { room.new ≡ verdict_octets r }
 {
-    let v = r.verdict;
-    let l = r.language;
-    let a = put_outcome(room, 0, v);
+    let a = put_outcome(room, 0, r.verdict);
     let b = put_place(room, a, r.offset, r.tenant);
-    let c = put_numbers(room, b, r.xid, v);
+    let c = put_numbers(room, b, r.xid, r.verdict);
     let d = put_asked(room, c, r);
-    let e = put_language(room, d, l);
+    let e = put_language(room, d, r.language);
     put_last(room, e, r);
 }
 
@@ -151,20 +143,13 @@ fn is_set(n: u8) -> bool
     n != 0
 }
 
-// Two octets as a count or a place.
-fn wide_count(n: u16) -> usize
-    ensures { result ≡ n }
-{
-    n as usize
-}
-
 // The set that eight octets are.
 fn set_at(s: &[u8; 75]) -> u64
     ensures { result ≡ set_at s.now 19 }
 {
     let high = octets::read_u32(s, 19);
     let low = octets::read_u32(s, 23);
-    arithmetic::wide64(high) * 4294967296 + arithmetic::wide64(low)
+    u64::from(high) * 4294967296 + u64::from(low)
 }
 
 fn verdict_in(s: &[u8; 75]) -> Verdict
@@ -187,31 +172,25 @@ fn run_of_8(s: &[u8], at: usize) -> [u8; 8]
     ensures { result ≡ run s.now at 8 }
 {
     let mut out = [0u8; 8];
-    let mut i: usize = 0;
-    while i < 8 {
-        out[i] = s[at + i];
-        i += 1;
-    }
+    out.copy_from_slice(&s[at..at + 8]);
     out
 }
 
 fn language_in(s: &[u8; 75]) -> Language
     ensures { result ≡ language_in s.now }
 {
-    let kept = run_of_8(s, 33);
     Language {
         asked: is_set(s[30]),
-        len: wide_count(octets::read_u16(s, 31)),
-        octets: kept,
+        len: usize::from(octets::read_u16(s, 31)),
+        octets: run_of_8(s, 33),
     }
 }
 
 fn identifier_in(s: &[u8; 75]) -> Identifier
     ensures { result ≡ identifier_in s.now }
 {
-    let kept = octets::read_run(s, 42, 32);
     Identifier {
-        octets: kept,
+        octets: octets::read_run(s, 42, 32),
         len: s[41],
     }
 }
@@ -220,19 +199,16 @@ fn identifier_in(s: &[u8; 75]) -> Identifier
 pub fn take(s: &[u8; 75]) -> Ruling
     ensures { result ≡ ruling_in s.now }
 {
-    let v = verdict_in(s);
-    let i = identifier_in(s);
-    let l = language_in(s);
     Ruling {
-        verdict: v,
-        offset: wide_count(octets::read_u16(s, 4)),
-        count: arithmetic::wide(s[74]),
-        tenant: arithmetic::wide(s[6]),
+        verdict: verdict_in(s),
+        offset: usize::from(octets::read_u16(s, 4)),
+        count: usize::from(s[74]),
+        tenant: usize::from(s[6]),
         xid: octets::read_u32(s, 7),
-        id: i,
+        id: identifier_in(s),
         features: is_set(s[27]),
         list_asked: is_set(s[28]),
         time_asked: is_set(s[29]),
-        language: l,
+        language: language_in(s),
     }
 }

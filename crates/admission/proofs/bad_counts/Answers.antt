@@ -1,13 +1,14 @@
--- `bad_counts` meets its contract: its tests in order.
+-- `bad_counts` meets its contract: by the definition.
+use Rattle.lists.specs.laws.Both.{and_false, and_true, ands, joins, or_false, or_true, ors}
 use Rattle.admission.specs.Tests.{bad_counts}
-use Rattle.lists.specs.laws.Both.{ors}
-use borrow.Author.Rules.{rules}
+use Rattle.admission.specs.laws.Code.{not_got}
+use Rattle.std.proofs.Common.{rules}
 use Rattle.admission.proofs.bad_counts.Goals as goal
 
-pub returns-then-c-eq0 : goal.returns-then-c-eq0
+pub returns-else-m-eq0 : goal.returns-else-m-eq0
 unfolding bad_counts
-returns-then-c-eq0 c = search (ors, rules)
+returns-else-m-eq0 c = search (joins, ands, ors, and_true, and_false, or_true, or_false, not_got, rules)
 
-pub returns : goal.returns
+pub returns-then-m-eq0 : goal.returns-then-m-eq0
 unfolding bad_counts
-returns c = search (ors, rules)
+returns-then-m-eq0 c = search (joins, ands, ors, and_true, and_false, or_true, or_false, not_got, rules)

@@ -1,13 +1,14 @@
--- `drops_hold` meets its contract: its tests in order.
+-- `drops_hold` meets its contract: by the definition.
+use Rattle.lists.specs.laws.Both.{and_false, and_true, ands, joins, or_false, or_true, ors}
 use Rattle.admission.specs.Tests.{drops_hold}
-use Rattle.lists.specs.laws.Both.{ands}
-use borrow.Author.Rules.{rules}
+use Rattle.admission.specs.laws.Code.{not_got}
+use Rattle.std.proofs.Common.{rules}
 use Rattle.admission.proofs.drops_hold.Goals as goal
+
+pub returns-else-m-eq-REQUEST : goal.returns-else-m-eq-REQUEST
+unfolding drops_hold
+returns-else-m-eq-REQUEST c = search (joins, ands, ors, and_true, and_false, or_true, or_false, not_got, rules)
 
 pub returns-then-m-eq-REQUEST : goal.returns-then-m-eq-REQUEST
 unfolding drops_hold
-returns-then-m-eq-REQUEST c = search (ands, rules)
-
-pub returns : goal.returns
-unfolding drops_hold
-returns c = search (ands, rules)
+returns-then-m-eq-REQUEST c = search (joins, ands, ors, and_true, and_false, or_true, or_false, not_got, rules)

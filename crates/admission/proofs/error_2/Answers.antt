@@ -1,13 +1,9 @@
--- `error_2` meets its contract: its tests in order.
-use Rattle.admission.specs.Tests.{error2_of}
-use Rattle.lists.specs.laws.Both.{and_false, and_true}
-use borrow.Author.Rules.{rules}
+-- `error_2` meets its contract: the test of the option's value, where it is there.
+use Rattle.admission.specs.Tests.{error2_of, skewed}
+use Rattle.admission.specs.laws.Code.{there_got}
+use Rattle.std.proofs.Common.{rules}
 use Rattle.admission.proofs.error_2.Goals as goal
-
-pub returns-then-w : goal.returns-then-w
-unfolding error2_of
-returns-then-w c = search (and_true, and_false, rules)
 
 pub returns : goal.returns
 unfolding error2_of
-returns c = search (and_true, and_false, rules)
+returns c = there_got (λ time. skewed time c.args.s.clock) c.args.m.times.current _ c.is_some_and.ensures (λ x p. search rules)

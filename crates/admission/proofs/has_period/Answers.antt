@@ -1,17 +1,14 @@
--- `has_period` meets its contract: its tests, which are calls.
+-- `has_period` meets its contract: by the definition.
+use Rattle.lists.specs.laws.Both.{and_false, and_true, ands, joins, or_false, or_true, ors}
 use Rattle.admission.specs.Tests.{has_period}
-use Rattle.lists.specs.laws.Both.{joins}
-use borrow.Author.Rules.{rules}
+use Rattle.admission.specs.laws.Code.{not_got}
+use Rattle.std.proofs.Common.{rules}
 use Rattle.admission.proofs.has_period.Goals as goal
 
-pub is_new-requires : goal.is_new-requires
+pub returns-else-is_new : goal.returns-else-is_new
 unfolding has_period
-is_new-requires c = search (joins, rules)
+returns-else-is_new c = search (joins, ands, ors, and_true, and_false, or_true, or_false, not_got, rules)
 
 pub returns-then-is_new : goal.returns-then-is_new
 unfolding has_period
-returns-then-is_new c = search (joins, rules)
-
-pub returns : goal.returns
-unfolding has_period
-returns c = search (joins, rules)
+returns-then-is_new c = search (joins, ands, ors, and_true, and_false, or_true, or_false, not_got, rules)

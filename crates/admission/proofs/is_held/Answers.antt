@@ -1,13 +1,14 @@
--- `is_held` meets its contract: its test.
+-- `is_held` meets its contract: by the definition.
+use Rattle.lists.specs.laws.Both.{and_false, and_true, ands, joins, or_false, or_true, ors}
 use Rattle.admission.specs.Tests.{is_held}
-use Rattle.lists.specs.laws.Both.{and_false, and_true}
-use borrow.Author.Rules.{rules}
+use Rattle.admission.specs.laws.Code.{not_got}
+use Rattle.std.proofs.Common.{rules}
 use Rattle.admission.proofs.is_held.Goals as goal
+
+pub returns-else-there : goal.returns-else-there
+unfolding is_held
+returns-else-there c = search (joins, ands, ors, and_true, and_false, or_true, or_false, not_got, rules)
 
 pub returns-then-there : goal.returns-then-there
 unfolding is_held
-returns-then-there c = search (and_true, and_false, rules)
-
-pub returns : goal.returns
-unfolding is_held
-returns c = search (and_true, and_false, rules)
+returns-then-there c = search (joins, ands, ors, and_true, and_false, or_true, or_false, not_got, rules)

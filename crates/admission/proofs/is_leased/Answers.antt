@@ -1,7 +1,14 @@
--- `is_leased` meets its contract: by leased-test.
-use Rattle.admission.specs.laws.Code.{leased_test}
-use borrow.Author.Rules.{rules}
+-- `is_leased` meets its contract: by the definition.
+use Rattle.lists.specs.laws.Both.{and_false, and_true, ands, joins, or_false, or_true, ors}
+use Rattle.admission.specs.Tests.{is_leased}
+use Rattle.admission.specs.laws.Code.{not_got}
+use Rattle.std.proofs.Common.{rules}
 use Rattle.admission.proofs.is_leased.Goals as goal
 
-pub returns : goal.returns
-returns c = search (leased_test, rules)
+pub returns-else-there : goal.returns-else-there
+unfolding is_leased
+returns-else-there c = search (joins, ands, ors, and_true, and_false, or_true, or_false, not_got, rules)
+
+pub returns-then-there : goal.returns-then-there
+unfolding is_leased
+returns-then-there c = search (joins, ands, ors, and_true, and_false, or_true, or_false, not_got, rules)

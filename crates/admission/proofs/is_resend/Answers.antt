@@ -1,21 +1,14 @@
--- `is_resend` meets its contract: its tests, which are calls.
+-- `is_resend` meets its contract: by the definition.
+use Rattle.lists.specs.laws.Both.{and_false, and_true, ands, joins, or_false, or_true, ors}
 use Rattle.admission.specs.Tests.{resends}
-use Rattle.lists.specs.laws.Both.{joins}
-use borrow.Author.Rules.{rules}
+use Rattle.admission.specs.laws.Code.{not_got}
+use Rattle.std.proofs.Common.{rules}
 use Rattle.admission.proofs.is_resend.Goals as goal
 
-pub asks_resend-requires : goal.asks_resend-requires
+pub returns-else-asks_resend : goal.returns-else-asks_resend
 unfolding resends
-asks_resend-requires c = search (joins, rules)
-
-pub same_message-requires : goal.same_message-requires
-unfolding resends
-same_message-requires c = search (joins, rules)
+returns-else-asks_resend c = search (joins, ands, ors, and_true, and_false, or_true, or_false, not_got, rules)
 
 pub returns-then-asks_resend : goal.returns-then-asks_resend
 unfolding resends
-returns-then-asks_resend c = search (joins, rules)
-
-pub returns : goal.returns
-unfolding resends
-returns c = search (joins, rules)
+returns-then-asks_resend c = search (joins, ands, ors, and_true, and_false, or_true, or_false, not_got, rules)

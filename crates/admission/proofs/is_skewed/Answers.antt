@@ -1,10 +1,10 @@
--- `is_skewed` meets its contract: by skew-below, skew-above.
-use Rattle.admission.specs.laws.Code.{skew_above, skew_below}
-use borrow.Author.Rules.{rules}
+-- `is_skewed` meets its contract: by the definition.
+use Rattle.lists.specs.laws.Both.{and_false, and_true, ands, joins, or_false, or_true, ors}
+use Rattle.admission.specs.Tests.{skewed}
+use Rattle.admission.specs.laws.Code.{not_got}
+use Rattle.std.proofs.Common.{rules}
 use Rattle.admission.proofs.is_skewed.Goals as goal
 
-pub returns-then-a-b : goal.returns-then-a-b
-returns-then-a-b c = search (skew_below, rules)
-
 pub returns : goal.returns
-returns c = search (skew_above, rules)
+unfolding skewed
+returns c = search (joins, ands, ors, and_true, and_false, or_true, or_false, not_got, rules)

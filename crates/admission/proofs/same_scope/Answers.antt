@@ -1,7 +1,10 @@
--- `same_scope` meets its contract: by same-scope-is.
-use Rattle.admission.specs.laws.Code.{same_scope_is}
-use borrow.Author.Rules.{rules}
+-- `same_scope` meets its contract: by the definition.
+use Rattle.lists.specs.laws.Both.{and_false, and_true, ands, joins, or_false, or_true, ors}
+use Rattle.admission.specs.Tests.{same_scope}
+use Rattle.admission.specs.laws.Code.{not_got}
+use Rattle.std.proofs.Common.{rules}
 use Rattle.admission.proofs.same_scope.Goals as goal
 
 pub returns : goal.returns
-returns c = search (same_scope_is, rules)
+unfolding same_scope
+returns c = search (joins, ands, ors, and_true, and_false, or_true, or_false, not_got, rules)

@@ -1,29 +1,20 @@
--- `scope_place` meets its contract: the first place.
-use Rattle.admission.specs.Tests.{scope_place}
-use Rattle.lists.specs.laws.Place.{places}
-use borrow.Author.Rules.{rules}
+-- `scope_place` meets its contract: the first place at which the test passes, or else the length (`place_got`).
+use Rattle.admission.specs.Tests.{lowest_is, scope_place}
+use Rattle.admission.specs.laws.Code.{place_got}
+use Rattle.lists.specs.Place.{place_by}
+use Rattle.lists.specs.laws.Part.{cut_take, unmapped}
+use Rattle.std.specs.Prelude.{◌≡◌, ℕ, length, min, take}
+use Rattle.std.proofs.Common.{ap, ◌∙◌, arith, length-take, rules, tests}
+use Rattle.std.proofs.lemmas.Iterator.{YieldsList-from_slice}
+use Rattle.std.proofs.lemmas.Iterator.Search.{position_from_yields_List}
 use Rattle.admission.proofs.scope_place.Goals as goal
-
-pub cut4-n-requires : goal.cut4-n-requires
-unfolding scope_place
-cut4-n-requires c = search (places, rules)
-
-pub loop-i-init : goal.loop-i-init
-unfolding scope_place
-loop-i-init c = search (places, rules)
-
-pub lowest_is-requires : goal.lowest_is-requires
-unfolding scope_place
-lowest_is-requires c = search (places, rules)
-
-pub returns-then-lowest_is : goal.returns-then-lowest_is
-unfolding scope_place
-returns-then-lowest_is c = search (places, rules)
-
-pub loop-i-preserved : goal.loop-i-preserved
-unfolding scope_place
-loop-i-preserved c = search (places, rules)
 
 pub returns : goal.returns
 unfolding scope_place
-returns c = search (places, rules)
+returns c =
+    let four : length c.args.s.scopes ≡ 4 = search (unmapped, rules) in
+    let cut : c.min-n.result ≡ min c.args.s.scope_count 4 = search rules in
+    let long : c.min-n.result ≡ length (take c.min-n.result c.args.s.scopes) = (let e = length-take c.min-n.result c.args.s.scopes in omega arith) in
+    place_got (lowest_is c.args.lowest) (take c.min-n.result c.args.s.scopes) c.min-n.result c.unwrap_or.result c.position.result long
+    (position_from_yields_List (lowest_is c.args.lowest) _ _ c.position.result c.position.ensures.ran (YieldsList-from_slice _ c.iter.ensures.rest) (λ x b q k. search (rules, tests))) c.unwrap_or.ensures
+    ∙ ap (place_by (lowest_is c.args.lowest)) (ap (λ (k : ℕ). take k c.args.s.scopes) cut ∙ cut_take 4 c.args.s.scope_count c.args.s.scopes four)

@@ -1,45 +1,56 @@
 -- Laws: between the tests and the code.
-use Rattle.std.specs.Prelude.{ℕ, ◌+◌, ◌-◌, min, ◌<◌, ◌≤◌, Bool, not, ◌&&◌, ◌||◌, ltb, eqb, ◌≡◌}
+use Rattle.std.specs.Prelude.{◌≡◌, refl, ℕ, suc, ◌+◌, ◌<◌, ◌≤◌, Bool, true, false, not, cond, Option, Some, None, MatchOption, unwrap_or, List, [], ◌∷◌, length, ltb}
+use Rattle.std.specs.List.{position_or_len}
+use Rattle.std.proofs.Common.{ap, ap₂, ◌∙◌, arith, ltb-false, ltb-true}
+use Rattle.lists.specs.Pick.{pick}
+use Rattle.lists.specs.Place.{place_by}
 use Rattle.message.specs.declared.Fields.{Fields}
-use Rattle.state.specs.Book.{is_hold}
-use Rattle.state.specs.declared.Lease.{Lease}
 use Rattle.state.specs.declared.State.{State}
-use Rattle.std.proofs.Common.{ap, ap₂, ◌∙◌, arith}
-use Rattle.admission.specs.Tests.{skew, is_new, scope_place, knows_scope, lacks_scope, lacks_current, skewed, error3_of, is_leased, scope_number, same_scope}
-
--- ---- tests
-pub knows_is : (s : State) (m : Fields) (k n : ℕ) (r : Bool) → k ≡ scope_place s m.scope.value → n ≡ min s.scope_count 4 → r ≡ (m.scope.there && ltb k n) → r ≡ knows_scope s m
-unfolding knows_scope
-knows_is s m k n r p q e = e ∙ ap₂ (λ (x y : ℕ). m.scope.there && ltb x y) p q
-
-pub lacks_is : (s : State) (m : Fields) (a b r : Bool) → a ≡ is_new m → b ≡ knows_scope s m → r ≡ (a && not b) → r ≡ lacks_scope s m
-unfolding lacks_scope
-lacks_is s m a b r p q e = e ∙ ap₂ (λ (x y : Bool). x && not y) p q
-
-pub current_is : (m : Fields) (a r : Bool) → a ≡ (m.times.start.there || m.times.latest.there) → r ≡ (a && not m.times.current.there) → r ≡ lacks_current m
-unfolding lacks_current
-current_is m a r p e = e ∙ ap (λ (x : Bool). x && not m.times.current.there) p
-
-pub skew_below : (a b : ℕ) → a < b → ltb skew (b - a) ≡ skewed a b
-unfolding skewed
-skew_below a b h = let e : b - a ≡ (a - b) + (b - a) = omega arith in ap (ltb skew) e
-
-pub skew_above : (a b : ℕ) → b ≤ a → ltb skew (a - b) ≡ skewed a b
-unfolding skewed
-skew_above a b h = let e : a - b ≡ (a - b) + (b - a) = omega arith in ap (ltb skew) e
-
-pub error3_is : (m : Fields) (o : Lease) (there a b r : Bool) → a ≡ (eqb m.kind 4 || eqb m.kind 7) → b ≡ is_leased o there → r ≡ (a && not b) → r ≡ error3_of m o there
-unfolding error3_of
-error3_is m o there a b r p q e = e ∙ ap₂ (λ (x y : Bool). x && not y) p q
-
--- ---- tests of a hold
-pub leased_test : (o : Lease) (there b r : Bool) → b ≡ is_hold o → r ≡ (there && not b) → r ≡ is_leased o there
-unfolding is_leased
-leased_test o there b r p e = e ∙ ap (λ (x : Bool). there && not x) p
-
-pub same_scope_is : (s : State) (m : Fields) (o : Lease) (k n : ℕ) → k ≡ scope_place s m.scope.value → n ≡ min k 4 + 1 → eqb o.scope n ≡ same_scope s m o
-unfolding same_scope
-same_scope_is s m o k n p q = ap (eqb o.scope) (q ∙ ap scope_number p)
+use Rattle.soundness.specs.Sound.{scopes_in}
+use Rattle.admission.specs.Tests.{there_and, scope_in, scope_place, knows_scope}
 
 pub not_got : {q t : Bool} → q ≡ t → not q ≡ not t
 not_got e = ap not e
+
+-- ---- options of four octets
+-- what `is_some_and` says: P is what its closure ensures
+pub there_got : {P : ℕ → Type 0} (t : ℕ → Bool) (o : Option ℕ) (r : Bool) → MatchOption o (r ≡ false) P → ((x : ℕ) → P x → r ≡ t x) → r ≡ there_and t o
+there_got t None r e f = e
+there_got t (Some x) r e f = f x e
+
+-- a scope that is ours has a place among them
+pub knows_place : (s : State) (m : Fields) → knows_scope s m ≡ true → scope_place s (scope_in m) < scopes_in s
+unfolding knows_scope
+knows_place s m e = go m.scope e
+  where
+    go : (o : Option ℕ) → there_and (λ lowest. ltb (scope_place s lowest) (scopes_in s)) o ≡ true → scope_place s (unwrap_or o 0) < scopes_in s
+    go None e = let z : ◌≡◌ {A = ℕ} 0 1 = cc in absurd (omega arith)
+    go (Some n) e = ltb-true _ _ e
+
+-- ---- the place of a scope
+place_is : {A : Type 0} (t : A → Bool) (l : List A) → position_or_len t l ≡ place_by t l
+unfolding place_by pick
+place_is t [] = refl
+place_is t (x ∷ l) = go (t x) (place_is t l)
+  where
+    go : (b : Bool) → position_or_len t l ≡ place_by t l → cond (not b) (1 + position_or_len t l) 0 ≡ pick b 0 (suc (place_by t l))
+    go true h = refl
+    go false h = omega arith
+
+at_most : {A : Type 0} (t : A → Bool) (l : List A) → position_or_len t l ≤ length l
+at_most t [] = omega arith
+at_most t (x ∷ l) = go (t x) (at_most t l)
+  where
+    go : (b : Bool) → position_or_len t l ≤ length l → cond (not b) (1 + position_or_len t l) 0 ≤ suc (length l)
+    go true h = omega arith
+    go false h = omega arith
+
+or_length : (k n : ℕ) (b : Bool) → ltb k n ≡ b → k ≤ n → unwrap_or (cond b (Some k) None) n ≡ k
+or_length k n true e h = refl
+or_length k n false e h = let g = ltb-false k n e in omega arith
+
+-- what `position` and `unwrap_or` of the length say
+pub place_got : {A : Type 0} (t : A → Bool) (l : List A) (n r : ℕ) (o : Option ℕ) → n ≡ length l → o ≡ cond (ltb (position_or_len t l) (length l)) (Some (position_or_len t l)) None → r ≡ unwrap_or o n
+    → r ≡ place_by t l
+place_got t l n r o e p q =
+    q ∙ ap₂ (λ (x : Option ℕ) (k : ℕ). unwrap_or x k) p e ∙ or_length (position_or_len t l) (length l) _ refl (at_most t l) ∙ place_is t l

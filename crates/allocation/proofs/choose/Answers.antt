@@ -1,6 +1,6 @@
 -- `choose` meets its contract: what the two passes promise, put together.
 use Rattle.allocation.specs.laws.Sets.{two_passes}
-use borrow.Author.Rules.{rules}
+use Rattle.std.proofs.Common.{rules}
 use Rattle.allocation.proofs.choose.Goals as goal
 
 pub returns : goal.returns

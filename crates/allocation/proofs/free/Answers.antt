@@ -1,6 +1,6 @@
 -- `free` meets its contract: the sets that its calls give.
 use Rattle.allocation.specs.laws.Loops.{free_is}
-use borrow.Author.Rules.{rules}
+use Rattle.std.proofs.Common.{rules}
 use Rattle.allocation.proofs.free.Goals as goal
 
 pub returns : goal.returns

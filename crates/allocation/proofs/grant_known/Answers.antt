@@ -1,6 +1,6 @@
 -- `grant_known` meets its contract: the parts of the grant by their calls.
 use Rattle.allocation.specs.laws.Loops.{grant_is}
-use borrow.Author.Rules.{rules}
+use Rattle.std.proofs.Common.{rules}
 use Rattle.allocation.proofs.grant_known.Goals as goal
 
 pub returns : goal.returns

@@ -1,6 +1,6 @@
 -- `granted` meets its contract: its test, on the number of tenants.
 use Rattle.allocation.specs.laws.Loops.{granted_known, granted_unknown}
-use borrow.Author.Rules.{rules}
+use Rattle.std.proofs.Common.{rules}
 use Rattle.allocation.proofs.granted.Goals as goal
 
 pub returns-then-a-known : goal.returns-then-a-known

@@ -1,6 +1,6 @@
 -- `numbers` meets its contract: each number by its call.
 use Rattle.allocation.specs.laws.Loops.{numbers_is}
-use borrow.Author.Rules.{rules}
+use Rattle.std.proofs.Common.{rules}
 use Rattle.allocation.proofs.numbers.Goals as goal
 
 pub returns : goal.returns

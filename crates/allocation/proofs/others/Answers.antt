@@ -1,17 +1,11 @@
 -- `others` meets its contract: a sum of small numbers.
 use Rattle.allocation.specs.laws.Loops.{other_committed_read}
 use Rattle.lists.specs.laws.Sums.{sums}
-use borrow.Author.Rules.{rules}
+use Rattle.std.proofs.Common.{rules}
 use Rattle.allocation.proofs.others.Goals as goal
 
 pub loop-g-init : goal.loop-g-init
 loop-g-init c = search (sums, rules)
 
-pub committed_other-x-requires : goal.committed_other-x-requires
-committed_other-x-requires c = search (sums, rules)
-
 pub loop-g-preserved : goal.loop-g-preserved
 loop-g-preserved c = search (sums, other_committed_read, rules)
-
-pub returns : goal.returns
-returns c = search (sums, rules)

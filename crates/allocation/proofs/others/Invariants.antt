@@ -1,4 +1,3 @@
-use Prim.Native.Nat.{◌-◌}
 use Rattle.allocation.specs.Loops.{count_at}
 use Rattle.lists.specs.Sums.{except}
 use Rattle.lists.specs.laws.Sums.{SumInv}
@@ -7,6 +6,3 @@ use Rattle.allocation.proofs.others.Given as goal
 
 abbrev pub invariant-loop-g : goal.invariant-loop-g
 invariant-loop-g l = SumInv (except l.h (committed l.c (count_at l.sets))) l.n l.sum l.g
-
-abbrev pub decreases-loop-g : goal.decreases-loop-g
-decreases-loop-g l = l.n - l.g

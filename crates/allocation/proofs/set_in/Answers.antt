@@ -1,6 +1,6 @@
 -- `set_in` meets its contract: its tests, on the scope's number.
 use Rattle.allocation.specs.laws.Loops.{set_here, set_past, set_zero}
-use borrow.Author.Rules.{rules}
+use Rattle.std.proofs.Common.{rules}
 use Rattle.allocation.proofs.set_in.Goals as goal
 
 pub returns-then-scope-eq0 : goal.returns-then-scope-eq0

@@ -61,9 +61,6 @@ pub free_is : (m : List ℕ) (own : TenantLeases) (a : Ask) (u r : ℕ) → u �
 unfolding free_in
 free_is m own a u r p e = e ∙ ap (difference_of (get_or m a.tenant 0)) p
 
-pub difference_is : (a b m n r : ℕ) → a ≡ m → b ≡ n → r ≡ difference_of a b → r ≡ difference_of m n
-difference_is a b m n r p q e = e ∙ ap₂ difference_of p q
-
 -- ---- what the other tenants hold or have in reserve
 pub other_committed_read : (m : List ℕ) (c : Scope) (h g r : ℕ) → r ≡ pick (eqb g h) 0 (max (length (offsets (get_or m g 0))) (get_or c.reserve g 0)) → r ≡ except h (committed c (count_at m)) g
 unfolding except committed count_at

@@ -1,11 +1,14 @@
 -- `look_up` meets its contract: the record at the place that is found, or none.
-use Rattle.decision.specs.laws.Lookup.{absent_is, found_is}
+use Rattle.std.proofs.Common.{rules}
 use Rattle.lists.specs.laws.Part.{unmapped}
-use borrow.Author.Rules.{rules}
+use Rattle.decision.specs.laws.Lookup.{absent_is, found_is, found_within}
 use Rattle.decision.proofs.look_up.Goals as goal
 
-pub returns-then-at-cut16 : goal.returns-then-at-cut16
-returns-then-at-cut16 c = search (found_is, unmapped, rules)
+pub bounds-own-at : goal.bounds-own-at
+bounds-own-at c = found_within _ c.args.own _ (search (unmapped, rules)) c.find-x.ensures c.in-Some.is
 
-pub returns : goal.returns
-returns c = search (absent_is, unmapped, rules)
+pub returns-in-Some : goal.returns-in-Some
+returns-in-Some c = found_is _ c.args.own _ (search (unmapped, rules)) c.find-x.ensures c.in-Some.is
+
+pub returns-in-None : goal.returns-in-None
+returns-in-None c = absent_is _ c.args.own _ (search (unmapped, rules)) c.find-x.ensures _ c.in-None.is c.no_lease.ensures

@@ -1,5 +1,5 @@
 -- Laws: a decision on a sound book keeps its board what its leases say (document 02, W-207): what leaves is one of the tenant's records, and what enters has room.
-use Rattle.std.specs.Prelude.{ℕ, ◌<◌, ◌≡◌, Bool, true}
+use Rattle.std.specs.Prelude.{Option, None, Some, IfSome, ℕ, ◌<◌, ◌≡◌, Bool, true}
 use Rattle.std.proofs.Common.{sym}
 use Rattle.std.proofs.Math.Path.{subst}
 use mathlib.Core.List.{List, ◌∷◌}
@@ -11,7 +11,7 @@ use Rattle.state.specs.declared.Lease.{Lease}
 use Rattle.state.specs.declared.LeaseTable.{LeaseTable}
 use Rattle.state.specs.declared.Release.{Release}
 use Rattle.state.specs.declared.State.{State}
-use Rattle.state.specs.Book.{Book, id_of, leases_of, remove_of, tenant_at}
+use Rattle.state.specs.Book.{Book, id_of, in_use, laid_out, leases_of, remove_of, tenant_at}
 use Rattle.state.specs.Edit.{edited_book, entering, left_in, no_edit, noted}
 use Rattle.state.specs.laws.Layout.{read_back}
 use Rattle.soundness.specs.Sound.{sound_b, tenants_in}
@@ -24,7 +24,6 @@ use Rattle.proposal.specs.Proposals.{held_from}
 use Rattle.admission.specs.Tests.{own_of}
 use Rattle.decision.specs.Decide.{decide_of}
 use Rattle.decision_laws.specs.laws.Cases.{decided_by, held_there, leased_there, new_for, old_for, there_for}
-use Rattle.decision.specs.laws.Code.{no}
 use Rattle.decision_laws.specs.laws.Kept.{GoodId, decided_sound, held_named, held_out, held_room, new_room}
 
 module _ (s : State) (b : LeaseTable) (h : ℕ) (m : Fields) (v : Sound s (leases_of b)) where
@@ -32,20 +31,23 @@ module _ (s : State) (b : LeaseTable) (h : ℕ) (m : Fields) (v : Sound s (lease
   Fits d = Stands d.edit (tenant_at b h)
 
   none : Stands no_edit (tenant_at b h)
-  none = record { old = λ e. no (sym e); room = λ e. no (sym e) }
+  none = record { old = tt; room = tt }
 
   enters : (l : Lease) → length (own_of b h) < 16 → Stands (entering l) (tenant_at b h)
   unfolding left_in pick
-  enters l few = record { old = λ e. no (sym e); room = λ e. few }
+  enters l few = record { old = tt; room = few }
 
   -- the record of the message's identifier leaves, whatever enters and is remembered
-  leaves : (x f r : Bool) (n : Lease) (q : Release) → there_for b h m ≡ true
-      → Stands (record { leaves = true; old = old_for b h m; enters = x; new = n; forgets = f; remembers = r; release = q }) (tenant_at b h)
-  unfolding left_in pick
-  leaves x f r n q held = record {
-    old = λ e. subst (λ (i : List ℕ). Reordered (own_of b h) (old_for b h m ∷ remove_of i (own_of b h))) (sym (held_named s b h m held)) (held_out s b h m held v);
-    room = λ e. subst (λ (l : List Lease). length l < 16) (sym (read_back (remove_of (id_of (old_for b h m)) (own_of b h)))) (held_room s b h m held v);
+  leaves : (x : Option Lease) (f : Bool) (r : Option Release) → there_for b h m ≡ true → Stands (record { leaves = Some (old_for b h m); enters = x; forgets = f; remembers = r }) (tenant_at b h)
+  unfolding left_in
+  leaves x f r held = record {
+    old = subst (λ (i : List ℕ). Reordered (own_of b h) (old_for b h m ∷ remove_of i (own_of b h))) (sym (held_named s b h m held)) (held_out s b h m held v);
+    room = room x;
   }
+    where
+      room : (c : Option Lease) → IfSome c (λ l. length (in_use (laid_out (remove_of (id_of (old_for b h m)) (own_of b h)))) < 16)
+      room (Some l) = subst (λ (l : List Lease). length l < 16) (sym (read_back (remove_of (id_of (old_for b h m)) (own_of b h)))) (held_room s b h m held v)
+      room None = tt
 
   pub decided_stands : (q : List Release) → Stands (decide_of s b q h m).edit (tenant_at b h)
   unfolding Fits
@@ -54,13 +56,13 @@ module _ (s : State) (b : LeaseTable) (h : ℕ) (m : Fields) (v : Sound s (lease
     again = none;
     refused = λ e. none;
     repeated = λ k held. none;
-    taken = λ k held. leaves _ _ _ _ _ (held_there (old_for b h m) (there_for b h m) held);
+    taken = λ k held. leaves _ _ _ (held_there (old_for b h m) (there_for b h m) held);
     offered = λ k ok free e. enters (held_from s.clock (new_for s b h m)) (new_room s b h m e);
     requested = λ k ok free e. enters (new_for s b h m) (new_room s b h m e);
-    dropped = λ k held. leaves _ _ _ _ _ (held_there (old_for b h m) (there_for b h m) held);
-    moved = λ k ok held e. leaves _ _ _ _ _ (held_there (old_for b h m) (there_for b h m) held);
-    renewed = λ k ok leased e. leaves _ _ _ _ _ (leased_there (old_for b h m) (there_for b h m) leased);
-    released = λ k leased. leaves _ _ _ _ _ (leased_there (old_for b h m) (there_for b h m) leased);
+    dropped = λ k held. leaves _ _ _ (held_there (old_for b h m) (there_for b h m) held);
+    moved = λ k ok held e. leaves _ _ _ (held_there (old_for b h m) (there_for b h m) held);
+    renewed = λ k ok leased e. leaves _ _ _ (leased_there (old_for b h m) (there_for b h m) leased);
+    released = λ k leased. leaves _ _ _ (leased_there (old_for b h m) (there_for b h m) leased);
     informed = none;
   }) q
 

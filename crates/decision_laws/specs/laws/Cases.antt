@@ -20,7 +20,7 @@ use Rattle.allocation.specs.laws.Loops.{grant_known_law}
 use Rattle.proposal.specs.declared.Proposal.{Proposal}
 use Rattle.decision.specs.declared.Decided.{Decided}
 use Rattle.decision.specs.declared.Reply.TheVariants.{Offer, LeaseAck, ReleaseAck, InfoAck}
-use Rattle.admission.specs.Tests.{is_new, has_period, scope_place, own_of, holds_of, recorded_of, resends, knows_scope, lacks_scope, zero_length, bad_counts, early1_of, held_already, error1_of, error3_of, lease_id_in, is_leased, is_held, same_scope, is_for_hold, drops_hold}
+use Rattle.admission.specs.Tests.{is_new, has_period, scope_in, scope_place, own_of, holds_of, recorded_of, resends, knows_scope, lacks_scope, zero_length, bad_counts, early1_of, held_already, error1_of, error3_of, lease_id_in, is_leased, is_held, same_scope, is_for_hold, drops_hold}
 use Rattle.proposal.specs.Proposals.{ask_at, new_with, new_at, new_of, renewed_of, proposal_of, error0_of, lease_from, horizon, meets, turned, updated, brought_by, held_from, latest_end}
 use Rattle.decision.specs.Verdicts.{with_lease, plain_reply, refusal_of}
 use Rattle.decision.specs.Decide.{unchanged, changed, leased_of, plain_of, settled_of, repeated_of, dropped_first, judged_of, decide_of}
@@ -94,11 +94,11 @@ inside s m p e =
 
 -- a known tenant would newly get the rule's grant
 pub new_known : (s : State) (b : LeaseTable) (h : ℕ) (m : Fields) → h < tenants_in s → new_of s b h m
-    ≡ new_with b m (ask_at s h m (scope_place s m.scope.value)) (grant_of (scope_at s (scope_place s m.scope.value)) (tenants_in s) (leases_of b) (ask_at s h m (scope_place s m.scope.value)))
+    ≡ new_with b m (ask_at s h m (scope_place s (scope_in m))) (grant_of (scope_at s (scope_place s (scope_in m))) (tenants_in s) (leases_of b) (ask_at s h m (scope_place s (scope_in m))))
 unfolding new_of new_at ask_at
 new_known s b h m known =
-    ap (new_with b m (ask_at s h m (scope_place s m.scope.value)))
-    (grant_known_law (scope_at s (scope_place s m.scope.value)) (tenants_in s) (leases_of b) (ask_at s h m (scope_place s m.scope.value)) (omega arith) known)
+    ap (new_with b m (ask_at s h m (scope_place s (scope_in m))))
+    (grant_known_law (scope_at s (scope_place s (scope_in m))) (tenants_in s) (leases_of b) (ask_at s h m (scope_place s (scope_in m))) (omega arith) known)
 
 -- ---- the cases
 -- the record that the tenant has of the message's identifier; what a new message gets; what a RENEW makes of it

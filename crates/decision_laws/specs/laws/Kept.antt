@@ -1,7 +1,7 @@
 -- Laws: a decision keeps a sound book sound: a grant is held or recorded, a hold becomes a lease or is dropped, a lease is renewed or released, or nothing
 -- changes.
 use Prim.Native.Nat.{ℕ, zero, suc, ◌+◌, ◌-◌, ◌≤◌, ◌<◌, min}
-use Rattle.std.specs.Prelude.{◌≡◌, Bool, true, false, not, ◌&&◌, ◌||◌, leb, get_or, set}
+use Rattle.std.specs.Prelude.{◌≡◌, Bool, true, false, not, ◌&&◌, ◌||◌, Option, Some, None, unwrap_or, leb, get_or, set}
 use Rattle.std.proofs.Math.Path.{refl, ap, subst}
 use Rattle.std.proofs.Common.{sym, ◌∙◌, length-set, get_or-set_same, set-set}
 use mathlib.Core.List.{List, [], ◌∷◌}
@@ -48,8 +48,9 @@ use Rattle.allocation.specs.Rule.{grant_of, suffices}
 use Rattle.allocation.specs.laws.Granted.{busy_here}
 use Rattle.allocation.specs.laws.Kept.{compatible_within, bits_disjoint, grant_offsets, grant_some, sound_granted}
 use Rattle.decision.specs.declared.Decided.{Decided}
-use Rattle.proposal.specs.Proposals.{default_lease, longest_lease, wished_or, start_of, length_of, end_of, ask_at, fits_new, new_with, new_at, new_of, others_busy, fits_renewed, renewed_to, renewed_of, error0_of, lease_from, updated, turned, held_from}
-use Rattle.admission.specs.Tests.{is_new, own_of, lease_id_in, holds_of, recorded_of, scope_place, knows_scope, zero_length, bad_counts}
+use Rattle.proposal.specs.Proposals.{default_lease, longest_lease, start_of, length_of, end_of, ask_at, fits_new, new_with, new_at, new_of, others_busy, fits_renewed, renewed_to, renewed_of, error0_of, lease_from, updated, turned, held_from}
+use Rattle.admission.specs.Tests.{is_new, own_of, lease_id_in, holds_of, recorded_of, scope_in, scope_place, there_and, zero_length, bad_counts}
+use Rattle.admission.specs.laws.Code.{knows_place}
 use Rattle.decision.specs.Decide.{decide_of}
 use Rattle.proposal.specs.declared.Proposal.{Proposal}
 use Rattle.decision.specs.laws.Code.{no, or_none}
@@ -133,13 +134,13 @@ known_scope_law s l e = let f = lease_facts s l e in and_both (le-leb 1 l.scope 
 
 -- a length is not 0 where the old one is not
 length_some : (m : Fields) (old : ℕ) → 0 < old → zero_length m ≡ false → 0 < length_of m old
-unfolding length_of wished_or zero_length pick
-length_some m old h e = go m.times.length.there m.times.length.value e
+unfolding length_of zero_length pick
+length_some m old h e = go m.times.length e
   where
-    go : (t : Bool) (v : ℕ) → (t && eqb v 0) ≡ false → 0 < min (pick t v old) longest_lease
-    go true zero e = no e
-    go true (suc v) e = omega arith
-    go false v e = omega arith
+    go : (w : Option ℕ) → there_and (λ n. eqb n 0) w ≡ false → 0 < min (unwrap_or w old) longest_lease
+    go (Some zero) e = no e
+    go (Some (suc v)) e = omega arith
+    go None e = omega arith
 
 -- a message's identifier is as the reader gives it: 2 to 32 octets, and zeros behind them
 pub record GoodId (m : Fields) : Type 0 where
@@ -206,19 +207,18 @@ module _ (s : State) (b : LeaseTable) (h : ℕ) (m : Fields) (v : Sound s (lease
     (new : is_new m ≡ true) {o : Lease} {t : Bool} (ok : Passed s m o t) (free : holds_of (own_of b h) m ≡ false) (e : error0_of s m (new_of s b h m) ≡ false) (z : ℕ)
     (marks : s.clock < (new_for s b h m).end → Marks s.clock (lapsing_at z (new_for s b h m))) where
   abbrev A : Ask
-  A = ask_at s h m (scope_place s m.scope.value)
+  A = ask_at s h m (scope_place s (scope_in m))
 
   abbrev G : Grant
-  G = grant_of (scope_at s (scope_place s m.scope.value)) (tenants_in s) (leases_of b) (ask_at s h m (scope_place s m.scope.value))
+  G = grant_of (scope_at s (scope_place s (scope_in m))) (tenants_in s) (leases_of b) (ask_at s h m (scope_place s (scope_in m)))
 
   abbrev L : Lease
   L = lapsing_at z (new_for s b h m)
 
-  here : scope_place s m.scope.value < scopes_in s
-  unfolding knows_scope
-  here = ltb-true (scope_place s m.scope.value) (scopes_in s) (and_parts m.scope.there (ltb (scope_place s m.scope.value) (scopes_in s)) (ok.scope new)).1
+  here : scope_place s (scope_in m) < scopes_in s
+  here = knows_place s m (ok.scope new)
 
-  scoped : (ask_at s h m (scope_place s m.scope.value)).scope ≡ scope_place s m.scope.value + 1
+  scoped : (ask_at s h m (scope_place s (scope_in m))).scope ≡ scope_place s (scope_in m) + 1
   unfolding ask_at
   scoped = let p = here in omega arith
 
@@ -256,11 +256,11 @@ module _ (s : State) (b : LeaseTable) (h : ℕ) (m : Fields) (v : Sound s (lease
       let r = length_some m default_lease (omega arith) ok.length in
       (omega arith, omega arith)
 
-  tenant_is : (ask_at s h m (scope_place s m.scope.value)).tenant ≡ h
+  tenant_is : (ask_at s h m (scope_place s (scope_in m))).tenant ≡ h
   unfolding ask_at
   tenant_is = refl
 
-  known_too : (ask_at s h m (scope_place s m.scope.value)).tenant < tenants_in s
+  known_too : (ask_at s h m (scope_place s (scope_in m))).tenant < tenants_in s
   known_too = let p = tenant_is in omega arith
 
   scope_ok : scope_known s L ≡ true
@@ -272,10 +272,10 @@ module _ (s : State) (b : LeaseTable) (h : ℕ) (m : Fields) (v : Sound s (lease
   offsets_ok : offsets_b s L ≡ true
   unfolding offsets_b pick
   offsets_ok =
-      let z : L.scope - 1 ≡ scope_place s m.scope.value = (let p = L-scope in let q = scoped in omega arith) in
+      let z : L.scope - 1 ≡ scope_place s (scope_in m) = (let p = L-scope in let q = scoped in omega arith) in
       ap (λ (t : Bool). pick t (below_b (scope_at s (L.scope - 1)).size L.addresses) true) scope_ok
       ∙ ap (λ (j : ℕ). below_b (scope_at s j).size L.addresses) z
-      ∙ grant_offsets s (leases_of b) v (scope_place s m.scope.value) here A scoped known_too some L L-scope L-addresses
+      ∙ grant_offsets s (leases_of b) v (scope_place s (scope_in m)) here A scoped known_too some L L-scope L-addresses
 
   id_ok : id_b L ≡ true
   unfolding id_b lease_from
@@ -284,7 +284,7 @@ module _ (s : State) (b : LeaseTable) (h : ℕ) (m : Fields) (v : Sound s (lease
   lease_good : lease_ok s L ≡ true
   lease_good =
       lease_rules_law s L id_ok offsets_ok scope_ok period.0 period.1
-      (grant_some s (leases_of b) v (scope_place s m.scope.value) here A scoped known_too some L L-scope L-addresses) (marks period.1)
+      (grant_some s (leases_of b) v (scope_place s (scope_in m)) here A scoped known_too some L L-scope L-addresses) (marks period.1)
 
   others_ok : all_by (other (id_of L)) (get_or (leases_of b) h []) ≡ true
   unfolding holds_of lease_from
@@ -299,7 +299,7 @@ module _ (s : State) (b : LeaseTable) (h : ℕ) (m : Fields) (v : Sound s (lease
   unfolding ask_at
   grant_sound =
       back s b h there (insert_of L)
-      (sound_granted s (leases_of b) v (scope_place s m.scope.value) here A scoped known_too some L L-scope L-addresses L-start ends (there_too s b h there) room lease_good others_ok)
+      (sound_granted s (leases_of b) v (scope_place s (scope_in m)) here A scoped known_too some L L-scope L-addresses L-start ends (there_too s b h there) room lease_good others_ok)
 
 module _ (s : State) (b : LeaseTable) (h : ℕ) (m : Fields) (v : Sound s (leases_of b)) (known : h < tenants_in s) (there : h < length b.tenants) (good : GoodId m)
     {o : Lease} {t : Bool} (ok : Passed s m o t) (free : holds_of (own_of b h) m ≡ false) (e : error0_of s m (new_of s b h m) ≡ false) where

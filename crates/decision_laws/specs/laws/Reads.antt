@@ -1,5 +1,5 @@
 -- Laws: a message that was read has a good identifier, so that the law of soundness applies to it.
-use Rattle.std.specs.Prelude.{ℕ, zero, suc, ◌+◌, ◌-◌, ◌≡◌, refl, Bool, true, ◌&&◌, List, leb, eqb, length, get_or, take, drop, replicate}
+use Rattle.std.specs.Prelude.{ℕ, zero, suc, ◌+◌, ◌-◌, ◌≡◌, refl, Bool, true, ◌&&◌, Some, None, List, leb, eqb, length, get_or, take, drop, replicate}
 use Rattle.std.proofs.Common.{sym, ap, ◌∙◌, subst, arith, length-append, length-take, length-drop, drop_at, leb-true, ne_eqb}
 use Rattle.std.proofs.lemmas.List.{length-replicate}
 use Rattle.std.proofs.lemmas.Bool.{eqb-false}
@@ -14,7 +14,6 @@ use Rattle.message.specs.Read.{header_ok, no_message, none_required, ended, by_s
 use Rattle.message.specs.Values.{found_at, find_of, padded, identifier_at, identifier_of, fields_of}
 use Rattle.message.specs.Placed.{Placed}
 use Rattle.message.specs.laws.Placed.{placed, read_good, pick_cases}
-use Rattle.message.specs.declared.Found.TheVariants.{At, Absent}
 use Rattle.message.specs.declared.Identifier.{Identifier}
 use Rattle.message.specs.declared.Reading.{Reading}
 use Rattle.message.specs.declared.Stage.{Stage}
@@ -65,7 +64,7 @@ unfolding fields_of found_at pick
 read_id s server e =
     let at : ℕ = get_or (read_of s).message.places 3 0 in
     let p = placed s (read_of s).message.places 3 (read_good s) (read_named s e) in
-    let q : identifier_at s at ≡ identifier_of s (find_of (read_of s).message.places 3) = ap (λ (b : Bool). identifier_of s (pick b Absent (At at))) (sym (ne_eqb at 0 (read_named s e))) in
+    let q : identifier_at s at ≡ identifier_of s (find_of (read_of s).message.places 3) = ap (λ (b : Bool). identifier_of s (pick b None (Some at))) (sym (ne_eqb at 0 (read_named s e))) in
     record {
       long = subst (λ (i : Identifier). (leb 2 i.len && leb i.len 32) ≡ true) q (id_long s at p);
       padded = subst (λ (i : Identifier). zero_from i.len i.octets ≡ true) q (id_padded s at p);
@@ -77,7 +76,7 @@ unfolding fields_of found_at pick
 read_array s server e =
     let at : ℕ = get_or (read_of s).message.places 3 0 in
     let p = placed s (read_of s).message.places 3 (read_good s) (read_named s e) in
-    let q : identifier_at s at ≡ identifier_of s (find_of (read_of s).message.places 3) = ap (λ (b : Bool). identifier_of s (pick b Absent (At at))) (sym (ne_eqb at 0 (read_named s e))) in
+    let q : identifier_at s at ≡ identifier_of s (find_of (read_of s).message.places 3) = ap (λ (b : Bool). identifier_of s (pick b None (Some at))) (sym (ne_eqb at 0 (read_named s e))) in
     let n : ℕ = length_at s at in
     let few = leb-true n 32 (and_parts (leb 2 n) (leb n 32) (id_long s at p)).1 in
     let f = p.fits in

@@ -29,7 +29,7 @@ use Rattle.allocation.specs.laws.View.{view_sound, view_there, view_own, view_se
 use Rattle.proposal.specs.declared.Proposal.{Proposal}
 use Rattle.decision.specs.declared.Decided.{Decided}
 use Rattle.decision.specs.declared.Reply.TheVariants.{LeaseAck, ReleaseAck}
-use Rattle.admission.specs.Tests.{is_new, own_of, lease_id_in, recorded_of, scope_place, resends, released_again, error1_of, error2_of, error3_of, has_period, is_held, is_for_hold, same_scope, scope_number, drops_hold}
+use Rattle.admission.specs.Tests.{is_new, own_of, lease_id_in, recorded_of, scope_in, scope_place, resends, released_again, error1_of, error2_of, error3_of, has_period, is_held, is_for_hold, same_scope, scope_number, drops_hold}
 use Rattle.proposal.specs.Proposals.{fits_new, start_of, end_of, ask_at, new_with, new_at, new_of, others_busy, fits_renewed, renewed_by, renewed_to, renewed_of, proposal_of, brought_by}
 use Rattle.decision.specs.Verdicts.{with_lease, plain_reply, refusal_of}
 use Rattle.decision.specs.Gather.{decide_in}
@@ -98,7 +98,7 @@ for_hold_alike s p p' q m o there e = ap (λ (b : Bool). tested b p) e ∙ sym (
 module _ {s : State} {t : LeaseTable} {h : ℕ} {held : HeldTable} (w : View s t h (tenant_at t h) held) (m : Fields) where
   new_in_law : new_in s (own_of t h) held h m ≡ new_of s t h m
   unfolding new_in new_at_in new_of new_at new_with new_by fits_new ask_at
-  new_in_law = let k : ℕ = scope_place s m.scope.value in ap (new_by (length (own_of t h)) m.counts.least (ask_at s h m k)) (grant_in_law (scope_at s k) (tenants_in s) (ask_at s h m k) w)
+  new_in_law = let k : ℕ = scope_place s (scope_in m) in ap (new_by (length (own_of t h)) m.counts.least (ask_at s h m k)) (grant_in_law (scope_at s k) (tenants_in s) (ask_at s h m k) w)
 
   renewed_in_law : renewed_in s (own_of t h) m (old_for t h m) ≡ renewed_of s t h m (old_for t h m)
   unfolding renewed_in renewed_to_in renewed_of renewed_to
@@ -110,7 +110,7 @@ module _ {s : State} {t : LeaseTable} {h : ℕ} {held : HeldTable} (w : View s t
   -- where a hold in another scope is dropped, the sets of the scope asked for stay
   module _ (there : there_for t h m ≡ true) (far : same_scope s m (old_for t h m) ≡ false) where
     abbrev K : ℕ
-    K = scope_number (scope_place s m.scope.value)
+    K = scope_number (scope_place s (scope_in m))
 
     abbrev rest : List Lease
     rest = remove_of (lease_id_in m) (own_of t h)
@@ -133,7 +133,7 @@ module _ {s : State} {t : LeaseTable} {h : ℕ} {held : HeldTable} (w : View s t
     new_without : new_in s rest held h m ≡ new_of s (without t h m) h m
     unfolding new_in new_at_in new_of new_at new_with new_by fits_new ask_at
     new_without =
-        let k : ℕ = scope_place s m.scope.value in
+        let k : ℕ = scope_place s (scope_in m) in
         let e = own_without s t h m inside_table in
         let n = length-map (without t h m).tenants in_use in
         let n' = length-set t.tenants h (laid_out rest) in

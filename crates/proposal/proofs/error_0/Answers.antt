@@ -1,21 +1,13 @@
--- `error_0` meets its contract: its tests in order.
-use Rattle.proposal.specs.Proposals.{error0_of}
+-- `error_0` meets its contract: by the definition, case by case.
 use Rattle.lists.specs.laws.Both.{joins, ors}
-use borrow.Author.Rules.{rules}
+use Rattle.proposal.specs.Proposals.{error0_of}
+use Rattle.std.proofs.Common.{rules}
 use Rattle.proposal.proofs.error_0.Goals as goal
-
-pub returns-then-s-p : goal.returns-then-s-p
-unfolding error0_of
-returns-then-s-p c = search (ors, rules)
-
-pub returns-then-p-gt-LATEST_END : goal.returns-then-p-gt-LATEST_END
-unfolding error0_of
-returns-then-p-gt-LATEST_END c = search (ors, rules)
 
 pub returns-then-is_unmet : goal.returns-then-is_unmet
 unfolding error0_of
 returns-then-is_unmet c = search (joins, ors, rules)
 
-pub returns : goal.returns
+pub returns-else-is_unmet : goal.returns-else-is_unmet
 unfolding error0_of
-returns c = search (joins, ors, rules)
+returns-else-is_unmet c = search (joins, ors, rules)

@@ -1,10 +1,10 @@
--- `meets_wishes` meets its contract: its tests in order.
-use Rattle.proposal.specs.laws.Code.{short_unmet, late_unmet}
-use borrow.Author.Rules.{rules}
+-- `meets_wishes` meets its contract: by the two tests.
+use Rattle.proposal.specs.laws.Code.{late_unmet, short_unmet}
+use Rattle.std.proofs.Common.{rules}
 use Rattle.proposal.proofs.meets_wishes.Goals as goal
 
-pub returns-then-too_short : goal.returns-then-too_short
-returns-then-too_short c = search (short_unmet, rules)
+pub returns-then-not-too_short : goal.returns-then-not-too_short
+returns-then-not-too_short c = search (late_unmet, rules)
 
-pub returns : goal.returns
-returns c = search (late_unmet, rules)
+pub returns-else-not-too_short : goal.returns-else-not-too_short
+returns-else-not-too_short c = search (short_unmet, rules)

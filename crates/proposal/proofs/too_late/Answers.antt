@@ -1,13 +1,10 @@
--- `too_late` meets its contract: its tests in order.
+-- `too_late` meets its contract: the test of the option's value, where it is there.
+use Rattle.admission.specs.laws.Code.{there_got}
 use Rattle.proposal.specs.Proposals.{too_late}
-use Rattle.lists.specs.laws.Both.{and_false, and_true}
-use borrow.Author.Rules.{rules}
+use Rattle.std.specs.Prelude.{ltb}
+use Rattle.std.proofs.Common.{rules}
 use Rattle.proposal.proofs.too_late.Goals as goal
-
-pub returns-then-w : goal.returns-then-w
-unfolding too_late
-returns-then-w c = search (and_true, and_false, rules)
 
 pub returns : goal.returns
 unfolding too_late
-returns c = search (and_true, and_false, rules)
+returns c = there_got (λ latest. ltb latest c.args.start) c.args.m.times.latest _ c.is_some_and.ensures (λ x p. search rules)

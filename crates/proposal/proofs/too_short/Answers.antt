@@ -1,13 +1,10 @@
--- `too_short` meets its contract: its tests in order.
+-- `too_short` meets its contract: the test of the option's value, where it is there.
+use Rattle.admission.specs.laws.Code.{there_got}
 use Rattle.proposal.specs.Proposals.{too_short}
-use Rattle.lists.specs.laws.Both.{and_false, and_true}
-use borrow.Author.Rules.{rules}
+use Rattle.std.specs.Prelude.{ltb}
+use Rattle.std.proofs.Common.{rules}
 use Rattle.proposal.proofs.too_short.Goals as goal
-
-pub returns-then-w : goal.returns-then-w
-unfolding too_short
-returns-then-w c = search (and_true, and_false, rules)
 
 pub returns : goal.returns
 unfolding too_short
-returns c = search (and_true, and_false, rules)
+returns c = there_got (λ shortest. ltb c.args.length shortest) c.args.m.times.shortest _ c.is_some_and.ensures (λ x p. search rules)

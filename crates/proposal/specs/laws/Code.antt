@@ -19,7 +19,7 @@ use Rattle.allocation.specs.Own.{grant_in}
 use Rattle.proposal.specs.declared.Proposal.{Proposal}
 use Rattle.std.proofs.Common.{sym, ap, ◌∙◌, arith}
 use Rattle.proposal.specs.Proposals.{default_lease, longest_lease, wished_or, start_of, length_of, end_of, ask_at, fits_renewed, renewed_by, lease_from, too_short, too_late, meets, hold_meets, held_from, latest_end}
-use Rattle.admission.specs.Tests.{scope_place, lease_id_in, drops_hold}
+use Rattle.admission.specs.Tests.{scope_in, scope_place, lease_id_in, drops_hold}
 use Rattle.proposal.specs.Gather.{new_by, new_at_in, new_in, renewed_to_in, renewed_in, brought_in}
 
 -- ---- what the message takes
@@ -64,9 +64,6 @@ pub ask_is : (s : State) (h : ℕ) (m : Fields) (k start n number : ℕ) → sta
 unfolding ask_at
 ask_is s h m k start n number a b c = cc
 
-pub fits_is : (n least : ℕ) (g : Grant) (e r : Bool) → e ≡ suffices least g → r ≡ (ltb n 16 && e) → r ≡ (ltb n 16 && suffices least g)
-fits_is n least g e r q u = u ∙ ap (λ (y : Bool). ltb n 16 && y) q
-
 pub new_with_is : (n least : ℕ) (a : Ask) (g : Grant) (f : Bool) → f ≡ (ltb n 16 && suffices least g)
     → ◌≡◌ {A = Proposal} (record { fits = f; scope = a.scope; start = a.from; end = a.to; addresses = g.addresses }) (new_by n least a g)
 unfolding new_by
@@ -77,7 +74,7 @@ pub new_at_is : (s : State) (own : List Lease) (held : HeldTable) (h : ℕ) (m :
 unfolding new_at_in
 new_at_is s own held h m k c a n g used r ec ea en eg eu er = cc
 
-pub new_is : (s : State) (own : List Lease) (held : HeldTable) (h : ℕ) (m : Fields) (k : ℕ) (r : Proposal) → k ≡ scope_place s m.scope.value → r ≡ new_at_in s own held h m k → r ≡ new_in s own held h m
+pub new_is : (s : State) (own : List Lease) (held : HeldTable) (h : ℕ) (m : Fields) (k : ℕ) (r : Proposal) → k ≡ scope_place s (scope_in m) → r ≡ new_at_in s own held h m k → r ≡ new_in s own held h m
 unfolding new_in
 new_is s own held h m k r p e = e ∙ ap (new_at_in s own held h m) p
 

@@ -1,6 +1,6 @@
 -- `discard` meets its contract: field by field.
 use Rattle.server.proofs.Steps.{discard_is}
-use borrow.Author.Rules.{rules}
+use Rattle.std.proofs.Common.{rules}
 use Rattle.server.proofs.discard.Goals as goal
 
 pub returns : goal.returns

@@ -1,6 +1,6 @@
 -- `info_of` meets its contract: the four scopes, one after the other.
 use Rattle.server.proofs.Steps.{info_is}
-use borrow.Author.Rules.{rules}
+use Rattle.std.proofs.Common.{rules}
 use Rattle.server.proofs.info_of.Goals as goal
 
 pub returns : goal.returns

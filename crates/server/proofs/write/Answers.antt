@@ -1,6 +1,6 @@
 -- `write` meets its contract: room, then the discard's number, then the reply.
 use Rattle.server.proofs.Steps.{write_discard, write_replied, write_short}
-use native.Mathlib.Omega.{arith}
+use Rattle.std.proofs.Common.{arith}
 use Rattle.server.proofs.write.Goals as goal
 
 pub returns-then-reply-lt-LEAST_ROOM : goal.returns-then-reply-lt-LEAST_ROOM
@@ -10,4 +10,4 @@ pub returns-then-v-eq0 : goal.returns-then-v-eq0
 returns-then-v-eq0 c = write_replied _ _ _ _ (omega (arith, c.if-reply-lt-LEAST_ROOM.false)) c.if-v-eq0.true c.write_reply.ensures
 
 pub returns : goal.returns
-returns c = write_discard _ _ _ _ _ (omega (arith, c.if-reply-lt-LEAST_ROOM.false)) c.if-v-eq0.false c.at_most_8.ensures c.told-2.ensures
+returns c = write_discard _ _ _ _ _ (omega (arith, c.if-reply-lt-LEAST_ROOM.false)) c.if-v-eq0.false c.min.ensures c.told-2.ensures

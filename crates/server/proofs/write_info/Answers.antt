@@ -1,6 +1,6 @@
 -- `write_info` meets its contract: the ACK where the names can be shown.
 use Rattle.server.proofs.Steps.{can_show, info_kept, info_sent}
-use borrow.Author.Rules.{rules}
+use Rattle.std.proofs.Common.{rules}
 use Rattle.server.proofs.write_info.Goals as goal
 
 pub write_info_ack-n-requires : goal.write_info_ack-n-requires

@@ -1,7 +1,7 @@
 -- `write_reply` meets its contract: by the kind of reply.
 use Rattle.decision.specs.declared.Reply.TheVariants.{LeaseAck, Nak, Offer, ReleaseAck}
 use Rattle.server.proofs.Steps.{reply_as, reply_info, reply_none}
-use mathlib.Core.Path.{refl}
+use Rattle.std.specs.Prelude.{refl}
 use Rattle.server.proofs.write_reply.Goals as goal
 
 pub returns-in-Nothing : goal.returns-in-Nothing
@@ -20,4 +20,4 @@ pub returns-in-InfoAck : goal.returns-in-InfoAck
 returns-in-InfoAck c = reply_info _ _ _ c.in-InfoAck.is c.write_info.ensures
 
 pub returns-in-Nak : goal.returns-in-Nak
-returns-in-Nak c = reply_as _ _ _ Nak c.in-Nak.is refl (rw (c.head_of-head.ensures, c.wide16.ensures) at c.write_nak.ensures) c.told-in-Nak.ensures
+returns-in-Nak c = reply_as _ _ _ Nak c.in-Nak.is refl (rw (c.head_of-head.ensures, c.from.ensures) at c.write_nak.ensures) c.told-in-Nak.ensures

@@ -7,4 +7,4 @@ use native.Mathlib.Omega.{arith}
 use Rattle.verdict_octets.proofs.identifier_in.Goals as goal
 
 pub returns : goal.returns
-returns c = let g : length c.args.s.now ≡ 75 = search rules in identifier_is c.args.s.now (omega arith) c.read_run-kept.ensures
+returns c = let g : length c.args.s.now ≡ 75 = search rules in identifier_is c.args.s.now (omega arith) c.read_run.ensures

@@ -6,8 +6,8 @@ use mathlib.Core.Path.{◌≡◌}
 use native.Mathlib.Omega.{arith}
 use Rattle.verdict_octets.proofs.put_language.Goals as goal
 
-pub put_run-requires : goal.put_run-requires
-put_run-requires c = let q : length c.args.l.octets ≡ 8 = search rules in (omega (arith, c.put_u8-a.ensures.next, c.put_u16-b.ensures.next), omega arith)
+pub put-requires : goal.put-requires
+put-requires c = let q : length c.args.l.octets ≡ 8 = search rules in omega (arith, c.put_u8-a.ensures.next, c.put_u16-b.ensures.next)
 
 pub returns : goal.returns
-returns c = language_wrote c.args.l (search rules) (search rules) c.flag_of.ensures c.put_u8-a.ensures c.put_u16-b.ensures c.put_run.ensures
+returns c = language_wrote c.args.l (search rules) (search rules) c.flag_of.ensures c.put_u8-a.ensures c.put_u16-b.ensures c.put.ensures

@@ -1,14 +1,14 @@
 -- Laws: the octets of a verdict, part by part as they are written; a verdict has 75; and read back they are that verdict.
 use Rattle.std.specs.Prelude.{Bool, false, true, ◌≡◌, refl, ◌%◌, ◌*◌, ◌+◌, ◌-◌, ◌/◌, ◌<◌, ◌≤◌, ℕ, length, replicate, take}
 use mathlib.Core.List.{List, [], ◌++◌, ◌∷◌, append_assoc, append-nil}
-use Rattle.std.proofs.Common.{◌∙◌, take_all}
+use Rattle.std.proofs.Common.{◌∙◌}
 use Rattle.std.proofs.Math.Path.{ap, ap₂, sym}
 use native.Mathlib.Omega.{arith}
 use Rattle.std.proofs.Math.ListN.{drop, get_or, length-append}
 use Rattle.std.proofs.Math.Seq.{drop-append-add, drop-length, get_or_at, take_at}
+use Rattle.std.specs.Int.{from_bool}
 use Rattle.lists.specs.Pick.{pick}
 use Rattle.lists.specs.Row.{laid_row}
-use Rattle.lists.specs.laws.Pick.{pick_false, pick_true}
 use Rattle.octets.specs.Octets.{Wrote, at16, at32, be32, octets16, octets32}
 use Rattle.octets.specs.laws.Octets.{read_back16, read_back32, wrote_as, wrote_joined, wrote_whole}
 use Rattle.octets.specs.laws.Run.{part_length}
@@ -21,13 +21,10 @@ use Rattle.server.specs.declared.Ruling.{Ruling}
 use Rattle.verdict_octets.specs.Octets.{Holds, ReadBack, TypedRuling, asked_octets, flag_of, identifier_in, identifier_octets, is_set, language_in, language_octets, last_octets, number_octets, outcome_octets, place_octets, reply_for, reply_number, ruling_in, run, set_at, verdict_in, verdict_octets}
 
 -- ---- written
-pub flag_set : (b : Bool) → b ≡ true → 1 ≡ flag_of b
-unfolding flag_of
-flag_set b e = pick_true _ _ _ b e refl
-
-pub flag_clear : (b : Bool) → b ≡ false → 0 ≡ flag_of b
-unfolding flag_of
-flag_clear b e = pick_false _ _ _ b e refl
+pub flag_is : (b : Bool) → from_bool b ≡ flag_of b
+unfolding flag_of pick
+flag_is true = refl
+flag_is false = refl
 
 -- the low 16 bits of a number have its octets
 pub low16 : (v : ℕ) → octets16 (v % 65536) ≡ octets16 v
@@ -63,19 +60,19 @@ asked_wrote {x = x} {y} {z} r h e p f q g s =
     (w, w.next)
 
 pub language_wrote : {r₀ r₁ r₂ r₃ : List ℕ} {at a b n x : ℕ} (l : Language) → length l.octets ≡ 8 → at ≤ length r₀ → x ≡ flag_of l.asked → Wrote r₀ at (x ∷ []) r₁ a → Wrote r₁ a (octets16 (l.len % 65536)) r₂ b
-    → Wrote r₂ b (take 8 l.octets) r₃ n → Wrote r₀ at (language_octets l) r₃ n × (n ≡ at + 11)
+    → Wrote r₂ b l.octets r₃ n → Wrote r₀ at (language_octets l) r₃ n × (n ≡ at + 11)
 unfolding language_octets
 language_wrote l g h e p q s =
     let w =
     wrote_as
     (ap₂ (λ (k : ℕ) (o : List ℕ). (k ∷ o) ++ l.octets) e (low16 l.len))
-    (wrote_joined h (wrote_joined h p q) (wrote_as (take_all 8 l.octets (omega arith)) s)) in
+    (wrote_joined h (wrote_joined h p q) s) in
     (w, omega (arith, w.next))
 
-pub identifier_wrote : {r₀ r₁ r₂ : List ℕ} {at a n : ℕ} (i : Identifier) → length i.octets ≡ 32 → at ≤ length r₀ → Wrote r₀ at (i.len ∷ []) r₁ a → Wrote r₁ a (take 32 i.octets) r₂ n
+pub identifier_wrote : {r₀ r₁ r₂ : List ℕ} {at a n : ℕ} (i : Identifier) → length i.octets ≡ 32 → at ≤ length r₀ → Wrote r₀ at (i.len ∷ []) r₁ a → Wrote r₁ a i.octets r₂ n
     → Wrote r₀ at (identifier_octets i) r₂ n × (n ≡ at + 33)
 unfolding identifier_octets
-identifier_wrote i g h p q = let w = wrote_joined h p (wrote_as (take_all 32 i.octets (omega arith)) q) in (w, omega (arith, w.next))
+identifier_wrote i g h p q = let w = wrote_joined h p q in (w, omega (arith, w.next))
 
 pub last_wrote : {r₀ r₁ r₂ : List ℕ} {at a n : ℕ} (r : Ruling) → at ≤ length r₀ → Wrote r₀ at (identifier_octets r.id) r₁ a × (a ≡ at + 33) → Wrote r₁ a (r.count % 256 ∷ []) r₂ n
     → Wrote r₀ at (last_octets r) r₂ n × (n ≡ at + 34)

@@ -4,10 +4,10 @@
 
 ghost use Rattle.std.specs.Prelude.{◌≤◌};
 
-use state_file::Loaded;
+use state_file::{Loaded, Refusal};
 use std::env::{Env, FillError};
 use std::fs::File;
-use usage::Step;
+use usage::{FileRefusal, Report};
 
 // The longest path of a file, and an octet more.
 const PATH_ROOM: usize = 4096;
@@ -27,7 +27,7 @@ fn read_file(rt: &HostRuntime, path: &[u8], n: usize, file: &mut [u8]) -> usize 
 }
 
 // The file that argument i names.
-fn load(rt: &HostRuntime, i: usize) -> Loaded {
+fn load(rt: &HostRuntime, i: usize) -> Result<Loaded, Refusal> {
     let mut file = [0u8; state_file::FILE_LIMIT + 1];
     let mut path = [0u8; PATH_ROOM];
     let n = rt.arg(i, &mut path).unwrap_or(0);
@@ -38,20 +38,21 @@ fn load(rt: &HostRuntime, i: usize) -> Loaded {
     state_file::read(&file[..0])
 }
 
-// The files of arguments 1 to n, until one is refused.
-fn gather(rt: &HostRuntime, n: usize) -> Step
+// The files of arguments 1 to n, or the first that is refused and its place.
+fn gather(rt: &HostRuntime, n: usize) -> Result<Report, (FileRefusal, u64)>
     requires { n ≤ 1000 }
 {
-    let mut step = usage::begin(load(rt, 1));
-    let mut i: usize = 2;
-    while i <= n {
-        if step.refusal != 0 {
-            return step;
-        }
-        step = usage::next(step.report, load(rt, i));
-        i += 1;
+    let mut report = match usage::begin(load(rt, 1)) {
+        Ok(first) => first,
+        Err(e) => return Err((e, 1)),
+    };
+    for i in 2..n + 1 {
+        report = match usage::next(report, load(rt, i)) {
+            Ok(more) => more,
+            Err(e) => return Err((e, usage::place_after(report))),
+        };
     }
-    step
+    Ok(report)
 }
 
 fn print(rt: &HostRuntime, text: &[u8], n: usize) {
@@ -64,14 +65,14 @@ fn print_refused(rt: &HostRuntime, number: u8, place: u64) {
     print(rt, &room, k);
 }
 
-fn print_step(rt: &HostRuntime, step: Step) {
-    let report = step.report;
-    if step.refusal == 0 {
-        let mut room = [0u8; usage::TEXT_LIMIT];
-        let k = usage::write_report(report, &mut room);
-        print(rt, &room, k);
-    } else {
-        print_refused(rt, step.refusal, usage::place_after(report));
+fn print_told(rt: &HostRuntime, told: Result<Report, (FileRefusal, u64)>) {
+    match told {
+        Ok(report) => {
+            let mut room = [0u8; usage::TEXT_LIMIT];
+            let k = usage::write_report(report, &mut room);
+            print(rt, &room, k);
+        }
+        Err((e, place)) => print_refused(rt, e.number(), place),
     }
 }
 
@@ -90,7 +91,7 @@ fn main(rt: HostRuntime) {
     let n = argument_count(&rt);
     if 2 <= n {
         if n - 1 <= usage::MOST_FILES {
-            print_step(&rt, gather(&rt, n - 1));
+            print_told(&rt, gather(&rt, n - 1));
             return;
         }
     }

@@ -2,7 +2,7 @@
 // `lease 3 rule 9`, or `refused` and a number alone. One octet more than a file may have is read, so that a longer one is refused.
 #![tactic(auto)]
 
-use salvage_file::Salvaged;
+use salvage_file::{Refusal, Salvaged};
 
 fn print_dropped(rt: &HostRuntime, kind: u8, place: u8, rule: u8) {
     let mut line = [0u8; 21];
@@ -18,24 +18,23 @@ fn refuse(rt: &HostRuntime, number: u8) {
 
 // The entries of a list of n octets, after its count.
 fn print_list(rt: &HostRuntime, list: &[u8], n: usize) {
-    let mut at: usize = 2;
-    while at + 3 <= n {
-        if list.len() < at + 3 {
-            return;
+    let n = n.min(list.len());
+    if 2 <= n {
+        for entry in list[2..n].chunks_exact(3) {
+            print_dropped(rt, entry[0], entry[1], entry[2]);
         }
-        print_dropped(rt, list[at], list[at + 1], list[at + 2]);
-        at += 3;
     }
 }
 
 // What the salvage answered. A refusal has no file.
-fn print(rt: &HostRuntime, told: Salvaged, file: &[u8], list: &[u8]) {
-    if told.refusal == 0 {
-        streams::write_front(&mut rt.stdout(), file, told.length);
-        print_list(rt, list, told.listed);
-        return;
+fn print(rt: &HostRuntime, told: Result<Salvaged, Refusal>, file: &[u8], list: &[u8]) {
+    match told {
+        Ok(told) => {
+            streams::write_front(&mut rt.stdout(), file, told.length);
+            print_list(rt, list, told.listed);
+        }
+        Err(e) => refuse(rt, e.number()),
     }
-    refuse(rt, told.refusal);
 }
 
 fn main(rt: HostRuntime) {

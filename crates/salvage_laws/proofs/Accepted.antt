@@ -18,7 +18,9 @@ use Rattle.state.specs.declared.LeaseTable.{LeaseTable}
 use Rattle.state.specs.declared.State.{State}
 use Rattle.state_file.specs.File.{File, file_format, file_limit, file_of}
 use Rattle.state_file.specs.Records.{stored_state, stored_table}
-use Rattle.state_file.specs.StateFile.{accepted, judged, loaded, loaded_got, read_file, refused, with_board, zero_memory, zero_table}
+use Rattle.std.specs.Prelude.{Err}
+use Rattle.state_file.specs.declared.Refusal.TheVariants.{UnsoundFile}
+use Rattle.state_file.specs.StateFile.{accepted, judged, loaded, loaded_got, read_file, refusal_number, with_board, zero_memory, zero_table}
 use Rattle.state_file.specs.laws.File.{file_reads, file_written}
 use Rattle.salvage_rules.specs.Rules.{hold_rule, lease_rule, release_rule, with_hold, with_lease, with_release}
 use Rattle.salvage_list.specs.List.{dropped_from, dropped_list}
@@ -46,12 +48,12 @@ module _ (f : File) (ok : file_format.ok f) (short : length (file_format.write f
       and_both (ap₂ sound_b (state_kept f ok e) (table_kept f ok e) ∙ records_sound f ok e)
       (ap₂ (λ (s : State) (b : LeaseTable). memory_b s b (stored_memory (kept_in f).releases)) (state_kept f ok e) (table_kept f ok e) ∙ ap (memory_b _ _) (memory_kept f ok e) ∙ memory_sound_kept f ok e)
 
-  pub kept_accepted : (read_file (kept_file f)).refusal ≡ 0
-  unfolding read_file loaded_got loaded judged accepted refused pick
+  pub kept_accepted : refusal_number (read_file (kept_file f)) ≡ 0
+  unfolding read_file loaded_got loaded judged accepted pick refusal_number
   kept_accepted =
-      ap (λ (s : List ℕ). (loaded_got (file_of s)).refusal) (octets_kept f ok e)
-      ∙ ap (λ (g : Got File). (loaded_got g).refusal) (file_written (kept_in f) (kept_ok f ok) (let a = kept_shorter_file f in omega arith))
-      ∙ ap₂ (λ (p q : Bool). (pick p (pick q (accepted (stored_state (kept_in f)) (stored_table (kept_in f)) (with_board (stored_table (kept_in f)) (stored_memory (kept_in f).releases))) (refused 21)) (refused 21)).refusal) (kept_fits f ok e) sound
+      ap (λ (s : List ℕ). refusal_number (loaded_got (file_of s))) (octets_kept f ok e)
+      ∙ ap (λ (g : Got File). refusal_number (loaded_got g)) (file_written (kept_in f) (kept_ok f ok) (let a = kept_shorter_file f in omega arith))
+      ∙ ap₂ (λ (p q : Bool). refusal_number (pick p (pick q (accepted (stored_state (kept_in f)) (stored_table (kept_in f)) (with_board (stored_table (kept_in f)) (stored_memory (kept_in f).releases))) (Err UnsoundFile)) (Err UnsoundFile))) (kept_fits f ok e) sound
 
 -- a salvage that is no refusal
 salvaged : (f : File) (n m : ℕ) → (salvage_file f n m).refusal ≡ 0 → (settings_sound f ≡ true) × ((salvage_file f n m).file ≡ kept_file f)
@@ -69,12 +71,12 @@ pub always_accepted : AlwaysAccepted
 unfolding AlwaysAccepted salvage_of salvage_got
 always_accepted s n m o e = go (file_of s) refl e
   where
-    go : (g : Got File) → file_of s ≡ g → (salvage_got g n m).refusal ≡ 0 → (read_file (salvage_got g n m).file).refusal ≡ 0
+    go : (g : Got File) → file_of s ≡ g → (salvage_got g n m).refusal ≡ 0 → refusal_number (read_file (salvage_got g n m).file) ≡ 0
     go bad p e = absurd (omega arith)
     go (got f r) p e =
         let w = file_reads s f o (file_closed s f r p) in
         let (c, q) = salvaged f n m e in
-        ap (λ (l : List ℕ). (read_file l).refusal) q ∙ kept_accepted f w.0 (let z = ap length w.1 in let y = w.2 in omega arith) c
+        ap (λ (l : List ℕ). refusal_number (read_file l)) q ∙ kept_accepted f w.0 (let z = ap length w.1 in let y = w.2 in omega arith) c
 
 -- ---- rooms
 dropped_few : (kind n : ℕ) (rs : List ℕ) → length (dropped_from kind n rs) ≤ length rs

@@ -37,7 +37,9 @@ use Rattle.lease_file.specs.Section.{FileHold, FileLease, entry_format, hold_for
 use Rattle.lease_file.specs.laws.Records.{Storable, entry_again, entry_storable}
 use Rattle.state_file.specs.File.{File, file_format, file_of}
 use Rattle.state_file.specs.Records.{fits_b, settings_fit_b, stored_state, stored_table}
-use Rattle.state_file.specs.StateFile.{accepted, judged, loaded, loaded_got, read_file, refused, with_board, zero_memory, zero_table}
+use Rattle.std.specs.Prelude.{Err}
+use Rattle.state_file.specs.declared.Refusal.TheVariants.{UnsoundFile}
+use Rattle.state_file.specs.StateFile.{accepted, code_of, judged, loaded, loaded_got, read_file, refusal_number, with_board, zero_memory, zero_table}
 use Rattle.state_file.specs.laws.File.{file_reads}
 use Rattle.salvage_rules.specs.Rules.{hold_rule, known_tenant, lease_rule, record_rule, release_rule, type_after, typed_hold, with_hold, with_lease, with_release}
 use Rattle.salvage_list.specs.List.{Dropped, dropped_from, dropped_list, dropped_octets}
@@ -325,12 +327,12 @@ module _ (st : State) (b : LeaseTable) (all : List FileRelease) (sound : memory_
       tenant_known h p q = known_from (tenants_in st) h (laid_releases (Row h all)) (let c = laid_count (own release_tenant (h + 1) all) in omega arith) (tenant_at_law h p)
 
 -- ---- the whole
-file_loaded : (f : File) → (loaded f).refusal ≡ 0 → (fits_b f ≡ true) × (sound_b (stored_state f) (stored_table f) ≡ true) × (memory_b (stored_state f) (stored_table f) (stored_memory f.releases) ≡ true)
-unfolding loaded judged refused pick
+file_loaded : (f : File) → refusal_number (loaded f) ≡ 0 → (fits_b f ≡ true) × (sound_b (stored_state f) (stored_table f) ≡ true) × (memory_b (stored_state f) (stored_table f) (stored_memory f.releases) ≡ true)
+unfolding loaded judged accepted pick refusal_number code_of
 file_loaded f e = go (fits_b f) refl (sound_b (stored_state f) (stored_table f) && memory_b (stored_state f) (stored_table f) (stored_memory f.releases)) refl e
   where
     go : (p : Bool) → fits_b f ≡ p → (q : Bool) → (sound_b (stored_state f) (stored_table f) && memory_b (stored_state f) (stored_table f) (stored_memory f.releases)) ≡ q
-        → (pick p (pick q (accepted (stored_state f) (stored_table f) (with_board (stored_table f) (stored_memory f.releases))) (refused 21)) (refused 21)).refusal ≡ 0
+        → refusal_number (pick p (pick q (accepted (stored_state f) (stored_table f) (with_board (stored_table f) (stored_memory f.releases))) (Err UnsoundFile)) (Err UnsoundFile)) ≡ 0
         → (p ≡ true) × (sound_b (stored_state f) (stored_table f) ≡ true) × (memory_b (stored_state f) (stored_table f) (stored_memory f.releases) ≡ true)
     go true a true c e = let z = and_parts (sound_b (stored_state f) (stored_table f)) (memory_b (stored_state f) (stored_table f) (stored_memory f.releases)) c in (refl, z.0, z.1)
     go true a false c e = absurd (omega arith)
@@ -422,10 +424,10 @@ module _ (f : File) (ok : file_format.ok f) (fit : fits_b f ≡ true) (sound : s
       ∙ ap (λ (q : Bool). pick q (refusing 23) (record { refusal = 0; file = s; list = 0 ∷ 0 ∷ [] })) (le-ltb m 2 g)
 
 pub sound_unchanged : SoundUnchanged
-unfolding SoundUnchanged salvage_of salvage_got read_file loaded_got refused
+unfolding SoundUnchanged salvage_of salvage_got read_file loaded_got refusal_number code_of
 sound_unchanged s n m o e h g = go (file_of s) refl e
   where
-    go : (t : Got File) → file_of s ≡ t → (loaded_got t).refusal ≡ 0 → salvage_got t n m ≡ record { refusal = 0; file = s; list = 0 ∷ 0 ∷ [] }
+    go : (t : Got File) → file_of s ≡ t → refusal_number (loaded_got t) ≡ 0 → salvage_got t n m ≡ record { refusal = 0; file = s; list = 0 ∷ 0 ∷ [] }
     go bad p e = absurd (omega arith)
     go (got f r) p e =
         let w = file_reads s f o (file_closed s f r p) in

@@ -16,7 +16,7 @@ use Rattle.lease_file.specs.Records.{hold_fit_b, lease_fit_b, storable_b, stored
 use Rattle.lease_file.specs.Section.{FileHold, FileLease}
 use Rattle.state_file.specs.File.{File, file_of}
 use Rattle.state_file.specs.Records.{filed_book, stored_state}
-use Rattle.state_file.specs.StateFile.{read_file, zero_memory, zero_table}
+use Rattle.state_file.specs.StateFile.{read_file, refusal_number, zero_memory, zero_table}
 use Rattle.salvage_rules.specs.Rules.{hold_rule, known_tenant, lease_rule, limits_kept, offsets_kept, release_rule, typed_hold, with_hold, with_lease, with_record, with_release}
 use Rattle.salvage_list.specs.List.{Dropped, dropped_from}
 use Rattle.salvage_walk.specs.Walk.{hold_rules, kept_after, lease_rules, leases_kept, records_kept, release_rules, rules_in, settings_sound}
@@ -24,11 +24,11 @@ use Rattle.salvage_file.specs.Salvage.{kept_book, salvage_of}
 
 -- ---- "The file is always accepted"
 unfoldable pub AlwaysAccepted : Type 0
-AlwaysAccepted = (s : List ℕ) (n m : ℕ) → Octets s → (salvage_of s n m).refusal ≡ 0 → (read_file (salvage_of s n m).file).refusal ≡ 0
+AlwaysAccepted = (s : List ℕ) (n m : ℕ) → Octets s → (salvage_of s n m).refusal ≡ 0 → refusal_number (read_file (salvage_of s n m).file) ≡ 0
 
 -- ---- "a sound one comes back unchanged with count 0"
 unfoldable pub SoundUnchanged : Type 0
-SoundUnchanged = (s : List ℕ) (n m : ℕ) → Octets s → (read_file s).refusal ≡ 0 → length s ≤ n → 2 ≤ m → salvage_of s n m ≡ record { refusal = 0; file = s; list = 0 ∷ 0 ∷ [] }
+SoundUnchanged = (s : List ℕ) (n m : ℕ) → Octets s → refusal_number (read_file s) ≡ 0 → length s ≤ n → 2 ≤ m → salvage_of s n m ≡ record { refusal = 0; file = s; list = 0 ∷ 0 ∷ [] }
 
 -- ---- what is dropped would break the rule that is named, together with those kept before it
 -- each of a section is judged with those of it that were kept before, and with what was kept before the section

@@ -24,10 +24,8 @@ fn broken_count(rules: [u8; 255]) -> usize
     ensures { (result ≡ length (dropped_from 0 1 rules)) × (result ≤ 255) }
 {
     let mut n: usize = 0;
-    let mut i: usize = 0;
-    while i < 255 {
+    for i in 0..255 {
         n += one_if(rules[i]);
-        i += 1;
     }
     n
 }
@@ -60,10 +58,8 @@ fn put_dropped(list: &mut [u8], at: usize, kind: u8, rules: [u8; 255]) -> usize
     ensures { Wrote list.old at (dropped_octets (dropped_from kind 1 rules)) list.new result }
 {
     let mut to = at;
-    let mut i: usize = 0;
-    while i < 255 {
+    for i in 0..255 {
         to = put_if(list, to, kind, (i + 1) as u8, rules[i]);
-        i += 1;
     }
     to
 }

@@ -19,7 +19,7 @@ fn tenant_place(t: u8) -> usize
     requires { (1 ≤ t) × (t ≤ 8) }
     ensures { (result ≡ t - 1) × (result < 8) }
 {
-    arithmetic::wide(t) - 1
+    usize::from(t) - 1
 }
 
 // ---- what is known
@@ -28,30 +28,21 @@ fn tenant_place(t: u8) -> usize
 fn tenant_known(state: State, t: u8) -> bool
     ensures { result ≡ known_tenant state t }
 {
-    if t < 1 {
-        return false;
-    }
-    arithmetic::wide(t) <= arithmetic::cut8(state.tenant_count)
+    1 <= t && t <= state.tenant_count.min(8)
 }
 
 // The same of a scope.
 fn scope_known(state: State, c: u8) -> bool
     ensures { result ≡ known_scope state c }
 {
-    if c < 1 {
-        return false;
-    }
-    c <= state.scope_count
+    1 <= c && c <= state.scope_count
 }
 
 // Whether an identifier has 2 to 32 octets.
 fn id_length_ok(n: u8) -> bool
     ensures { result ≡ id_length_b n }
 {
-    if n < 2 {
-        return false;
-    }
-    n <= 32
+    2 <= n && n <= 32
 }
 
 // ---- leases and holds
@@ -66,9 +57,7 @@ fn limits_kept(s: &[u8], at: usize, state: State, table: LeaseTable) -> bool
     }
     let t = s[at];
     if tenant_known(state, t) {
-        let h = tenant_place(t);
-        let own = table.tenants[h];
-        return state::lease_count(own) < 16;
+        return state::lease_count(table.tenants[tenant_place(t)]) < 16;
     }
     true
 }
@@ -78,8 +67,8 @@ fn offsets_kept(s: &[u8], at: usize, state: State) -> bool
     requires { Inside after_lease s.now at }
     ensures { result ≡ offsets_kept state (file_lease_at s.now at) }
 {
-    let n = arithmetic::wide(s[at + 2]);
-    let k = arithmetic::wide(s[at + (n + 16)]);
+    let n = usize::from(s[at + 2]);
+    let k = usize::from(s[at + (n + 16)]);
     if 64 < k {
         return false;
     }
@@ -96,12 +85,10 @@ fn all_below(s: &[u8], at: usize, k: usize, bound: u8) -> bool
     requires { at + k ≤ length s.now }
     ensures { result ≡ lower_than bound (take k (drop at s.now)) }
 {
-    let mut i: usize = 0;
-    while i < k {
+    for i in 0..k {
         if bound <= s[at + i] {
             return false;
         }
-        i += 1;
     }
     true
 }
@@ -110,10 +97,7 @@ fn all_below(s: &[u8], at: usize, k: usize, bound: u8) -> bool
 fn may_have(kind: u8, holds: bool) -> bool
     ensures { result ≡ pick holds true (not (eqb kind 1)) }
 {
-    if holds {
-        return true;
-    }
-    kind != MessageType::DISCOVER
+    holds || kind != MessageType::DISCOVER
 }
 
 // Rule 7, as far as no record can hold what breaks it: a known tenant and scope, and a type that the section may have.
@@ -121,14 +105,7 @@ fn is_named(s: &[u8], at: usize, holds: bool, state: State) -> bool
     requires { Inside after_lease s.now at }
     ensures { result ≡ names_known state (file_lease_at s.now at) (pick holds true (not (eqb (file_lease_at s.now at).kind 1))) }
 {
-    if !tenant_known(state, s[at]) {
-        return false;
-    }
-    if !scope_known(state, s[at + 1]) {
-        return false;
-    }
-    let n = arithmetic::wide(s[at + 2]);
-    may_have(s[at + (n + 3)], holds)
+    tenant_known(state, s[at]) && scope_known(state, s[at + 1]) && may_have(kind_at(s, at), holds)
 }
 
 // The record of an entry as its rules go by it: one among the holds is a hold to all rules but the last.
@@ -136,17 +113,17 @@ fn judged_at(s: &[u8], at: usize, holds: bool) -> Lease
     requires { StorableAt holds s.now at }
     ensures { result ≡ pick holds (typed_hold (stored_entry holds (entry_at holds s.now at))) (stored_entry holds (entry_at holds s.now at)) }
 {
-    let l = lease_file::record_at(s, at, holds);
-    typed_hold(l, holds)
+    typed_hold(lease_file::record_at(s, at, holds), holds)
 }
 
 fn typed_hold(l: Lease, holds: bool) -> Lease
     ensures { result ≡ pick holds (typed_hold l) l }
 {
     if holds {
-        let mut now = l;
-        now.kind = MessageType::DISCOVER;
-        return now;
+        return Lease {
+            kind: MessageType::DISCOVER,
+            ..l
+        };
     }
     l
 }
@@ -157,10 +134,8 @@ fn with_record(table: LeaseTable, t: u8, l: Lease) -> LeaseTable
     ensures { result ≡ with_record table t l }
 {
     let h = tenant_place(t);
-    let own = table.tenants[h];
-    let more = state::insert(own, l);
     let mut now = table;
-    now.tenants[h] = more;
+    now.tenants[h] = state::insert(table.tenants[h], l);
     now
 }
 
@@ -204,8 +179,7 @@ fn kind_at(s: &[u8], at: usize) -> u8
     requires { Inside after_lease s.now at }
     ensures { result ≡ (file_lease_at s.now at).kind }
 {
-    let n = arithmetic::wide(s[at + 2]);
-    s[at + (n + 3)]
+    s[at + (usize::from(s[at + 2]) + 3)]
 }
 
 // The records with the entry that starts at `at`, where it breaks no rule.
@@ -246,10 +220,8 @@ fn with_release(s: &[u8], at: usize, memory: Memory) -> Memory
     ensures { result ≡ with_release memory (file_release_at s.now at) }
 {
     let h = tenant_place(s[at]);
-    let q = memory.releases[h];
-    let more = state::push_release(q, release_file::release_at(s, at));
     let mut now = memory;
-    now.releases[h] = more;
+    now.releases[h] = state::push_release(memory.releases[h], release_file::release_at(s, at));
     now
 }
 
@@ -258,9 +230,7 @@ fn is_full(memory: Memory, t: u8) -> bool
     requires { (1 ≤ t) × (t ≤ 8) }
     ensures { result ≡ leb 4 (releases_at memory (t - 1)).count }
 {
-    let h = tenant_place(t);
-    let q = memory.releases[h];
-    4 <= q.count
+    4 <= memory.releases[tenant_place(t)].count
 }
 
 // The first rule that what is remembered breaks with the release that starts at `at`, or 0.

@@ -42,8 +42,9 @@ pub struct Kept {
 fn no_table() -> LeaseTable
     ensures { result ≡ zero_table }
 {
-    let none = state::no_leases();
-    LeaseTable { tenants: [none; 8] }
+    LeaseTable {
+        tenants: [state::no_leases(); 8],
+    }
 }
 
 // Whether the settings of a file are sound, with no lease, hold or release.
@@ -52,12 +53,8 @@ pub fn settings_sound(file: &[u8], places: Places) -> bool
     ensures { result ≡ settings_sound (file_at file.now places) }
 {
     let at = places.scopes;
-    if state_file::counts_fit(file[9], file[at]) {
-        let state = state_file::state_at(file, at);
-        let none = no_table();
-        return soundness::sound(state, none);
-    }
-    false
+    state_file::counts_fit(file[9], file[at])
+        && soundness::sound(state_file::state_at(file, at), no_table())
 }
 
 // The whole walk over a file whose settings are sound.
@@ -66,21 +63,22 @@ pub fn walk(file: &[u8], places: Places) -> Kept
     ensures { WalksFile (file_at file.now places) result }
 {
     let state = state_file::state_at(file, places.scopes);
-    let none = no_table();
-    let a = walk_records(file, places.leases, false, state, none);
-    let first = a.table;
+    let a = walk_records(file, places.leases, false, state, no_table());
+    let b = walk_records(file, places.holds, true, state, a.table);
+    let c = walk_releases(
+        file,
+        places.releases,
+        state,
+        b.table,
+        state_file::no_memory(),
+    );
     let leases = a.rules;
-    let b = walk_records(file, places.holds, true, state, first);
-    let table = b.table;
     let holds = b.rules;
-    let nothing = state_file::no_memory();
-    let c = walk_releases(file, places.releases, state, table, nothing);
-    let memory = c.memory;
     let releases = c.rules;
     Kept {
         state,
-        table,
-        memory,
+        table: b.table,
+        memory: c.memory,
         leases,
         holds,
         releases,
@@ -94,15 +92,13 @@ fn walk_records(s: &[u8], at: usize, holds: bool, state: State, before: LeaseTab
 {
     let mut table = before;
     let mut rules = [0u8; 255];
-    let count = arithmetic::wide(s[at]);
+    let count = usize::from(s[at]);
     let mut here = at + 1;
-    let mut i: usize = 0;
-    while i < count {
+    for i in 0..count {
         let r = entry_rule(s, here, holds, state, table);
         rules[i] = r;
         table = keep_entry(s, here, holds, r, table);
         here = lease_file::entry_next(s, here, holds);
-        i += 1;
     }
     Walked { table, rules }
 }
@@ -120,15 +116,13 @@ fn walk_releases(
 {
     let mut memory = before;
     let mut rules = [0u8; 255];
-    let count = arithmetic::wide(s[at]);
+    let count = usize::from(s[at]);
     let mut here = at + 1;
-    let mut i: usize = 0;
-    while i < count {
+    for i in 0..count {
         let r = release_rule(s, here, state, table, memory);
         rules[i] = r;
         memory = keep_release(s, here, r, memory);
         here = release_file::release_next(s, here);
-        i += 1;
     }
     WalkedReleases { memory, rules }
 }

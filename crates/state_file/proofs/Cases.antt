@@ -39,7 +39,9 @@ use Rattle.format.specs.Format.{Got, bad, closed, got, read_number, read_octet, 
 use Rattle.state_file.specs.Records.{filed_as, counts_fit, filled, fits_b, stored_scope, stored_state, stored_table, zero_range, filed_book, filed_scope, pair_up}
 use Rattle.lease_file.specs.Records.{few_of, filed_hold, filed_holds, filed_lease, filed_leases, hold_fit_b, in_file_order, lease_fit_b, merged_from, records_fit_b, storable_b, stored, stored_hold}
 use Rattle.lease_file.specs.Section.{is_after}
-use Rattle.state_file.specs.StateFile.{accepted, loaded_got, judged, loaded, names_got, names_of, read_file, refused, octets_of, room_after, with_board, written_of, zero_memory, zero_state, zero_table}
+use Rattle.std.specs.Prelude.{Ok, Err}
+use Rattle.state_file.specs.declared.Refusal.TheVariants.{ShortRoom, UnsoundBook}
+use Rattle.state_file.specs.StateFile.{accepted, loaded_got, judged, loaded, names_got, names_of, read_file, code_of, refusal_number, octets_of, room_after, with_board, written_of, zero_memory, zero_state, zero_table}
 
 -- ---- files
 -- 10.1.1.1, and the clock
@@ -191,7 +193,7 @@ rule_of bad = 0
 
 all_hold : List Case → Bool
 all_hold [] = true
-all_hold (c ∷ l) = eqb (read_file c.octets).refusal c.answer && (eqb (rule_of (file_of c.octets)) c.rule && all_hold l)
+all_hold (c ∷ l) = eqb (refusal_number (read_file c.octets)) c.answer && (eqb (rule_of (file_of c.octets)) c.rule && all_hold l)
 
 -- accepted
 sound : List Case
@@ -410,7 +412,7 @@ unsound =
     ∷ []
 
 answers : all_hold (sound ++ form ++ unsound) ≡ true
-unfolding all_hold rule_of long largest sound form unsound server range scope lease tenants pool settings unnamed none name named en plain a b ab again row eight four up_from sixteen pick all_by pairs_by all_to filter_by is_in sum_to bit offsets_from set_of read_offsets rises_from order_of same_of laid_out table_of by_identifier union_all addresses_of overlaps one_to size_b id_b records_b counts_b rule1 below_b offsets_b rule2 range_b ranges_apart rule3 pool_b pools_apart rule4 ttl_b rule5 reserve_b reserves_b rule6 kind_b period_b lease_b none_b tenants_b rule7 differ rule8 disjoint apart rule9 compatible rule10 limit_b limits_b rule11 committed committed_b rule12 lapse_b hold_b rule13 zero_from padded_b blank_b unused_b layout_by range_zero tail_b scope_zero settings_b rules_by first_late first_rule first_broken broken_by sound_by then closed read_octet read_number read_times is_after ordered_from file_of filled stored stored_hold insert_in arranged merged_from is_hold stored_scope stored_state stored_table storable_b lease_fit_b hold_fit_b few_of records_fit_b counts_fit fits_b refused accepted judged loaded loaded_got read_file rule19_by sizes_ok broken bare release released remembering hold held holding four_released broken_memory broken_release first_release release_rules_of rules_to tenant_b few_b length_b differs not_leased once_b past_b older filled_b unused_r laid_b memory_b laid_releases stored_release stored_memory entries.apart keepable_b few_for releases_fit_b by_ending until
+unfolding all_hold rule_of long largest sound form unsound server range scope lease tenants pool settings unnamed none name named en plain a b ab again row eight four up_from sixteen pick all_by pairs_by all_to filter_by is_in sum_to bit offsets_from set_of read_offsets rises_from order_of same_of laid_out table_of by_identifier union_all addresses_of overlaps one_to size_b id_b records_b counts_b rule1 below_b offsets_b rule2 range_b ranges_apart rule3 pool_b pools_apart rule4 ttl_b rule5 reserve_b reserves_b rule6 kind_b period_b lease_b none_b tenants_b rule7 differ rule8 disjoint apart rule9 compatible rule10 limit_b limits_b rule11 committed committed_b rule12 lapse_b hold_b rule13 zero_from padded_b blank_b unused_b layout_by range_zero tail_b scope_zero settings_b rules_by first_late first_rule first_broken broken_by sound_by then closed read_octet read_number read_times is_after ordered_from file_of filled stored stored_hold insert_in arranged merged_from is_hold stored_scope stored_state stored_table storable_b lease_fit_b hold_fit_b few_of records_fit_b counts_fit fits_b refusal_number code_of accepted judged loaded loaded_got read_file rule19_by sizes_ok broken bare release released remembering hold held holding four_released broken_memory broken_release first_release release_rules_of rules_to tenant_b few_b length_b differs not_leased once_b past_b older filled_b unused_r laid_b memory_b laid_releases stored_release stored_memory entries.apart keepable_b few_for releases_fit_b by_ending until
 answers = refl
 
 -- ---- the book that a file gives, and what the writer answers to it
@@ -482,7 +484,7 @@ unlike_book l = let t = table_of (l ∷ replicate 7 []) in record { state = spec
 
 read_specimen : (read_file specimen ≡ accepted specimen_state specimen_table specimen_memory) × (names_of specimen ≡ specimen_names) × (names_of (specimen ++ 0 ∷ []) ≡ [])
     × (read_file unlike ≡ (let x = unlike_book (unlike_hold ∷ specimen_lease b 2000 2 ∷ specimen_lease a 4600 1 ∷ []) in accepted x.state x.table x.memory))
-unfolding unlike unlike_hold unlike_book c holding held hold specimen specimen_names specimen_state specimen_lease specimen_hold table_with specimen_table server range scope lease tenants pool settings unnamed name en plain a b ab pick all_by pairs_by all_to filter_by is_in sum_to bit offsets_from set_of read_offsets rises_from order_of same_of laid_out table_of by_identifier union_all addresses_of overlaps one_to size_b id_b records_b counts_b rule1 below_b offsets_b rule2 range_b ranges_apart rule3 pool_b pools_apart rule4 ttl_b rule5 reserve_b reserves_b rule6 kind_b period_b lease_b none_b tenants_b rule7 differ rule8 disjoint apart rule9 compatible rule10 limit_b limits_b rule11 committed_b rule12 lapse_b hold_b rule13 zero_from padded_b blank_b unused_b layout_by range_zero tail_b scope_zero settings_b rule19_by rules_by first_late first_rule first_broken broken_by sound_by then closed read_octet read_number read_times is_after ordered_from file_of filled stored stored_hold insert_in arranged merged_from is_hold stored_scope stored_state stored_table storable_b lease_fit_b hold_fit_b few_of records_fit_b counts_fit fits_b refused accepted judged loaded loaded_got read_file committed names_of names_got sizes_ok bare release specimen_release memory_with specimen_memory broken_memory broken_release first_release release_rules_of rules_to tenant_b few_b length_b differs not_leased once_b past_b older filled_b unused_r laid_b memory_b laid_releases stored_release stored_memory entries.apart keepable_b few_for releases_fit_b board_of scope_by entry_by owner_from count_on count_in is_on up_to specimen_board board_with entry by_ending until
+unfolding unlike unlike_hold unlike_book c holding held hold specimen specimen_names specimen_state specimen_lease specimen_hold table_with specimen_table server range scope lease tenants pool settings unnamed name en plain a b ab pick all_by pairs_by all_to filter_by is_in sum_to bit offsets_from set_of read_offsets rises_from order_of same_of laid_out table_of by_identifier union_all addresses_of overlaps one_to size_b id_b records_b counts_b rule1 below_b offsets_b rule2 range_b ranges_apart rule3 pool_b pools_apart rule4 ttl_b rule5 reserve_b reserves_b rule6 kind_b period_b lease_b none_b tenants_b rule7 differ rule8 disjoint apart rule9 compatible rule10 limit_b limits_b rule11 committed_b rule12 lapse_b hold_b rule13 zero_from padded_b blank_b unused_b layout_by range_zero tail_b scope_zero settings_b rule19_by rules_by first_late first_rule first_broken broken_by sound_by then closed read_octet read_number read_times is_after ordered_from file_of filled stored stored_hold insert_in arranged merged_from is_hold stored_scope stored_state stored_table storable_b lease_fit_b hold_fit_b few_of records_fit_b counts_fit fits_b refusal_number code_of accepted judged loaded loaded_got read_file committed names_of names_got sizes_ok bare release specimen_release memory_with specimen_memory broken_memory broken_release first_release release_rules_of rules_to tenant_b few_b length_b differs not_leased once_b past_b older filled_b unused_r laid_b memory_b laid_releases stored_release stored_memory entries.apart keepable_b few_for releases_fit_b board_of scope_by entry_by owner_from count_on count_in is_on up_to specimen_board board_with entry by_ending until
 read_specimen = (refl, refl, refl, refl)
 
 -- the book with these names, or others; and with another memory
@@ -509,58 +511,58 @@ counted_as n l = record { releases = record { releases = l; count = n } ∷ repl
 
 -- an exact room suffices, one octet less does not, and an unsound book and bad names come before too little room
 write_specimen : (octets_of (book_with specimen_names) ≡ specimen)
-    × (written_of (book_with specimen_names) 154 ≡ record { refusal = 0; length = 154 })
-    × (written_of (book_with specimen_names) 153 ≡ record { refusal = 23; length = 0 })
-    × (written_of zero_book 0 ≡ record { refusal = 22; length = 0 })
+    × (written_of (book_with specimen_names) 154 ≡ Ok 154)
+    × (written_of (book_with specimen_names) 153 ≡ Err ShortRoom)
+    × (written_of zero_book 0 ≡ Err UnsoundBook)
     × (room_after (book_with specimen_names) (replicate 156 9) ≡ specimen ++ 9 ∷ 9 ∷ [])
     × (room_after (book_with specimen_names) (replicate 153 9) ≡ replicate 153 9)
     × (room_after zero_book (9 ∷ []) ≡ 9 ∷ [])
     -- none at all, an octet more, no count of the scopes, flags 1
-    × (written_of (book_with []) 154 ≡ record { refusal = 22; length = 0 })
-    × (written_of (book_with (specimen_names ++ 0 ∷ [])) 0 ≡ record { refusal = 22; length = 0 })
-    × (written_of (book_with (unnamed 2 2)) 154 ≡ record { refusal = 22; length = 0 })
-    × (written_of (book_with (1 ∷ 1 ∷ name 1 en en ++ 0 ∷ 0 ∷ [])) 154 ≡ record { refusal = 22; length = 0 })
+    × (written_of (book_with []) 154 ≡ Err UnsoundBook)
+    × (written_of (book_with (specimen_names ++ 0 ∷ [])) 0 ≡ Err UnsoundBook)
+    × (written_of (book_with (unnamed 2 2)) 154 ≡ Err UnsoundBook)
+    × (written_of (book_with (1 ∷ 1 ∷ name 1 en en ++ 0 ∷ 0 ∷ [])) 154 ≡ Err UnsoundBook)
     × (room_after (book_with []) (replicate 156 9) ≡ replicate 156 9)
     -- by ending; in the file's order
     × (octets_of (unlike_book (unlike_hold ∷ specimen_lease b 2000 2 ∷ specimen_lease a 4600 1 ∷ [])) ≡ unlike)
-    × ((written_of (unlike_book (unlike_hold ∷ specimen_lease b 2000 2 ∷ specimen_lease a 4600 1 ∷ [])) 200).refusal ≡ 0)
-    × ((written_of (unlike_book (specimen_lease a 4600 1 ∷ specimen_lease b 2000 2 ∷ unlike_hold ∷ [])) 200).refusal ≡ 22)
-unfolding unlike unlike_hold unlike_book c holding held hold specimen specimen_names specimen_state specimen_lease specimen_hold table_with specimen_table server range scope lease tenants pool settings unnamed name en plain a b ab pick all_by pairs_by all_to filter_by is_in sum_to bit offsets_from set_of read_offsets rises_from order_of same_of laid_out table_of by_identifier union_all addresses_of overlaps one_to size_b id_b records_b counts_b rule1 below_b offsets_b rule2 range_b ranges_apart rule3 pool_b pools_apart rule4 ttl_b rule5 reserve_b reserves_b rule6 kind_b period_b lease_b none_b tenants_b rule7 differ rule8 disjoint apart rule9 compatible rule10 limit_b limits_b rule11 committed_b rule12 lapse_b hold_b rule13 zero_from padded_b blank_b unused_b layout_by range_zero tail_b scope_zero settings_b rule19_by rules_by first_late first_rule first_broken broken_by sound_by then closed read_octet read_number read_times is_after ordered_from file_of filled stored stored_hold insert_in arranged merged_from is_hold stored_scope stored_state stored_table storable_b lease_fit_b hold_fit_b few_of records_fit_b counts_fit fits_b refused accepted judged loaded loaded_got read_file zero_table octets_of written_of room_after filed_book filed_leases filed_holds filed_scope pair_up filed_lease filed_hold write_all committed book_with zero_book book_b names_b is_whole sizes_ok bare release specimen_release memory_with specimen_memory broken_memory broken_release first_release release_rules_of rules_to tenant_b few_b length_b differs not_leased once_b past_b older filled_b unused_r laid_b memory_b laid_releases stored_release stored_memory entries.apart keepable_b few_for releases_fit_b entries.filed_all filed_release filed_memory board_of scope_by entry_by owner_from count_on count_in is_on up_to specimen_board board_with entry agrees_b same_board same_scope_board same_entry same_by by_ending until filed_as in_file_order
+    × (refusal_number (written_of (unlike_book (unlike_hold ∷ specimen_lease b 2000 2 ∷ specimen_lease a 4600 1 ∷ [])) 200) ≡ 0)
+    × (refusal_number (written_of (unlike_book (specimen_lease a 4600 1 ∷ specimen_lease b 2000 2 ∷ unlike_hold ∷ [])) 200) ≡ 22)
+unfolding unlike unlike_hold unlike_book c holding held hold specimen specimen_names specimen_state specimen_lease specimen_hold table_with specimen_table server range scope lease tenants pool settings unnamed name en plain a b ab pick all_by pairs_by all_to filter_by is_in sum_to bit offsets_from set_of read_offsets rises_from order_of same_of laid_out table_of by_identifier union_all addresses_of overlaps one_to size_b id_b records_b counts_b rule1 below_b offsets_b rule2 range_b ranges_apart rule3 pool_b pools_apart rule4 ttl_b rule5 reserve_b reserves_b rule6 kind_b period_b lease_b none_b tenants_b rule7 differ rule8 disjoint apart rule9 compatible rule10 limit_b limits_b rule11 committed_b rule12 lapse_b hold_b rule13 zero_from padded_b blank_b unused_b layout_by range_zero tail_b scope_zero settings_b rule19_by rules_by first_late first_rule first_broken broken_by sound_by then closed read_octet read_number read_times is_after ordered_from file_of filled stored stored_hold insert_in arranged merged_from is_hold stored_scope stored_state stored_table storable_b lease_fit_b hold_fit_b few_of records_fit_b counts_fit fits_b refusal_number code_of accepted judged loaded loaded_got read_file zero_table octets_of written_of room_after filed_book filed_leases filed_holds filed_scope pair_up filed_lease filed_hold write_all committed book_with zero_book book_b names_b is_whole sizes_ok bare release specimen_release memory_with specimen_memory broken_memory broken_release first_release release_rules_of rules_to tenant_b few_b length_b differs not_leased once_b past_b older filled_b unused_r laid_b memory_b laid_releases stored_release stored_memory entries.apart keepable_b few_for releases_fit_b entries.filed_all filed_release filed_memory board_of scope_by entry_by owner_from count_on count_in is_on up_to specimen_board board_with entry agrees_b same_board same_scope_board same_entry same_by by_ending until filed_as in_file_order
 write_specimen = (refl, refl, refl, refl, refl, refl, refl, refl, refl, refl, refl, refl, refl, refl, refl)
 
 -- releases that are lent: none of tenant 1 and two of one time are written; a time after the clock, times that fall, an identifier on a lease, an octet past
 -- an identifier, an entry in use of which nothing is set, an unused one that is not zero, and five of four are 22
-lent_releases : (written_of (book_of (memory_with [])) 142 ≡ record { refusal = 0; length = 142 })
-    × (written_of (book_of (memory_with (specimen_release a 5 900 ∷ specimen_release c 5 900 ∷ []))) 166 ≡ record { refusal = 0; length = 166 })
-    × (written_of (book_of (memory_with (specimen_release a 5 1001 ∷ []))) 0 ≡ record { refusal = 22; length = 0 })
-    × (written_of (book_of (memory_with (specimen_release a 5 900 ∷ specimen_release c 5 899 ∷ []))) 166 ≡ record { refusal = 22; length = 0 })
-    × (written_of (book_of (memory_with (specimen_release b 5 900 ∷ []))) 154 ≡ record { refusal = 22; length = 0 })
-    × (written_of (book_of (memory_with (specimen_release (0 ∷ 65 ∷ 1 ∷ []) 5 900 ∷ []))) 154 ≡ record { refusal = 22; length = 0 })
-    × (written_of (book_of (counted_as 1 (replicate 4 zero_release))) 154 ≡ record { refusal = 22; length = 0 })
-    × (written_of (book_of (counted_as 0 (specimen_release a 5 900 ∷ replicate 3 zero_release))) 154 ≡ record { refusal = 22; length = 0 })
-    × (written_of (book_of (counted_as 5 (replicate 4 zero_release))) 154 ≡ record { refusal = 22; length = 0 })
+lent_releases : (written_of (book_of (memory_with [])) 142 ≡ Ok 142)
+    × (written_of (book_of (memory_with (specimen_release a 5 900 ∷ specimen_release c 5 900 ∷ []))) 166 ≡ Ok 166)
+    × (written_of (book_of (memory_with (specimen_release a 5 1001 ∷ []))) 0 ≡ Err UnsoundBook)
+    × (written_of (book_of (memory_with (specimen_release a 5 900 ∷ specimen_release c 5 899 ∷ []))) 166 ≡ Err UnsoundBook)
+    × (written_of (book_of (memory_with (specimen_release b 5 900 ∷ []))) 154 ≡ Err UnsoundBook)
+    × (written_of (book_of (memory_with (specimen_release (0 ∷ 65 ∷ 1 ∷ []) 5 900 ∷ []))) 154 ≡ Err UnsoundBook)
+    × (written_of (book_of (counted_as 1 (replicate 4 zero_release))) 154 ≡ Err UnsoundBook)
+    × (written_of (book_of (counted_as 0 (specimen_release a 5 900 ∷ replicate 3 zero_release))) 154 ≡ Err UnsoundBook)
+    × (written_of (book_of (counted_as 5 (replicate 4 zero_release))) 154 ≡ Err UnsoundBook)
     × (room_after (book_of (counted_as 5 (replicate 4 zero_release))) (replicate 156 9) ≡ replicate 156 9)
-unfolding c specimen specimen_names specimen_state specimen_lease specimen_hold table_with specimen_table server range scope lease tenants pool settings unnamed name en plain a b ab pick all_by pairs_by all_to filter_by is_in sum_to bit offsets_from set_of read_offsets rises_from order_of same_of laid_out table_of by_identifier union_all addresses_of overlaps one_to size_b id_b records_b counts_b rule1 below_b offsets_b rule2 range_b ranges_apart rule3 pool_b pools_apart rule4 ttl_b rule5 reserve_b reserves_b rule6 kind_b period_b lease_b none_b tenants_b rule7 differ rule8 disjoint apart rule9 compatible rule10 limit_b limits_b rule11 committed_b rule12 lapse_b hold_b rule13 zero_from padded_b blank_b unused_b layout_by range_zero tail_b scope_zero settings_b rule19_by rules_by first_late first_rule first_broken broken_by sound_by then closed read_octet read_number read_times is_after ordered_from file_of filled stored stored_hold insert_in arranged merged_from is_hold stored_scope stored_state stored_table storable_b lease_fit_b hold_fit_b few_of records_fit_b counts_fit fits_b refused accepted judged loaded loaded_got read_file zero_table octets_of written_of room_after filed_book filed_leases filed_holds filed_scope pair_up filed_lease filed_hold write_all committed book_of counted_as zero_book book_b names_b is_whole sizes_ok bare release specimen_release memory_with specimen_memory broken_memory broken_release first_release release_rules_of rules_to tenant_b few_b length_b differs not_leased once_b past_b older filled_b unused_r laid_b memory_b laid_releases stored_release stored_memory entries.apart keepable_b few_for releases_fit_b entries.filed_all filed_release filed_memory board_of scope_by entry_by owner_from count_on count_in is_on up_to specimen_board board_with entry agrees_b same_board same_scope_board same_entry same_by by_ending until filed_as in_file_order
+unfolding c specimen specimen_names specimen_state specimen_lease specimen_hold table_with specimen_table server range scope lease tenants pool settings unnamed name en plain a b ab pick all_by pairs_by all_to filter_by is_in sum_to bit offsets_from set_of read_offsets rises_from order_of same_of laid_out table_of by_identifier union_all addresses_of overlaps one_to size_b id_b records_b counts_b rule1 below_b offsets_b rule2 range_b ranges_apart rule3 pool_b pools_apart rule4 ttl_b rule5 reserve_b reserves_b rule6 kind_b period_b lease_b none_b tenants_b rule7 differ rule8 disjoint apart rule9 compatible rule10 limit_b limits_b rule11 committed_b rule12 lapse_b hold_b rule13 zero_from padded_b blank_b unused_b layout_by range_zero tail_b scope_zero settings_b rule19_by rules_by first_late first_rule first_broken broken_by sound_by then closed read_octet read_number read_times is_after ordered_from file_of filled stored stored_hold insert_in arranged merged_from is_hold stored_scope stored_state stored_table storable_b lease_fit_b hold_fit_b few_of records_fit_b counts_fit fits_b refusal_number code_of accepted judged loaded loaded_got read_file zero_table octets_of written_of room_after filed_book filed_leases filed_holds filed_scope pair_up filed_lease filed_hold write_all committed book_of counted_as zero_book book_b names_b is_whole sizes_ok bare release specimen_release memory_with specimen_memory broken_memory broken_release first_release release_rules_of rules_to tenant_b few_b length_b differs not_leased once_b past_b older filled_b unused_r laid_b memory_b laid_releases stored_release stored_memory entries.apart keepable_b few_for releases_fit_b entries.filed_all filed_release filed_memory board_of scope_by entry_by owner_from count_on count_in is_on up_to specimen_board board_with entry agrees_b same_board same_scope_board same_entry same_by by_ending until filed_as in_file_order
 lent_releases = (refl, refl, refl, refl, refl, refl, refl, refl, refl, refl)
 
 -- holds that are lent: none, one alone and one behind the lease are written; a lapse at the clock, one after thirty-one seconds, one of a lease, and a lease in
 -- front of a hold that lapses before its end are 22
-lent_holds : (written_of (book_on (specimen_lease b 2000 12 ∷ [])) 129 ≡ record { refusal = 0; length = 129 })
+lent_holds : (written_of (book_on (specimen_lease b 2000 12 ∷ [])) 129 ≡ Ok 129)
     × (octets_of (book_on (specimen_hold 1001 ∷ [])) ≡ settings ++ 1 ∷ plain 2 a (0 ∷ 1 ∷ []) ++ specimen_names ++ 2 ∷ release 1 a 5 900 ++ release 2 b 6 800 ++ 1 ∷ lease 1 1 ab 1 2000 3000 (2 ∷ []) ++ octets32 1001)
-    × (written_of (book_on (specimen_hold 1000 ∷ specimen_lease b 2000 12 ∷ [])) 154 ≡ record { refusal = 22; length = 0 })
-    × (written_of (book_on (specimen_hold 1031 ∷ specimen_lease b 2000 12 ∷ [])) 154 ≡ record { refusal = 22; length = 0 })
-    × (written_of (book_on (specimen_hold 1030 ∷ lapsing_at 1030 (specimen_lease b 2000 12) ∷ [])) 154 ≡ record { refusal = 22; length = 0 })
-    × (written_of (book_on (specimen_lease b 2000 12 ∷ specimen_hold 1030 ∷ [])) 154 ≡ record { refusal = 22; length = 0 })
-unfolding specimen specimen_names specimen_state specimen_lease specimen_hold table_with specimen_table server range scope lease tenants pool settings unnamed name en plain a b ab pick all_by pairs_by all_to filter_by is_in sum_to bit offsets_from set_of read_offsets rises_from order_of same_of laid_out table_of by_identifier union_all addresses_of overlaps one_to size_b id_b records_b counts_b rule1 below_b offsets_b rule2 range_b ranges_apart rule3 pool_b pools_apart rule4 ttl_b rule5 reserve_b reserves_b rule6 kind_b period_b lease_b none_b tenants_b rule7 differ rule8 disjoint apart rule9 compatible rule10 limit_b limits_b rule11 committed_b rule12 lapse_b hold_b rule13 zero_from padded_b blank_b unused_b layout_by range_zero tail_b scope_zero settings_b rule19_by rules_by first_late first_rule first_broken broken_by sound_by then closed read_octet read_number read_times is_after ordered_from file_of filled stored stored_hold insert_in arranged merged_from is_hold stored_scope stored_state stored_table storable_b lease_fit_b hold_fit_b few_of records_fit_b counts_fit fits_b refused accepted judged loaded loaded_got read_file zero_table octets_of written_of room_after filed_book filed_leases filed_holds filed_scope pair_up filed_lease filed_hold write_all committed book_on book_b names_b is_whole sizes_ok bare release specimen_release memory_with specimen_memory broken_memory broken_release first_release release_rules_of rules_to tenant_b few_b length_b differs not_leased once_b past_b older filled_b unused_r laid_b memory_b laid_releases stored_release stored_memory entries.apart keepable_b few_for releases_fit_b entries.filed_all filed_release filed_memory board_of scope_by entry_by owner_from count_on count_in is_on up_to specimen_board board_with entry agrees_b same_board same_scope_board same_entry same_by by_ending until filed_as in_file_order
+    × (written_of (book_on (specimen_hold 1000 ∷ specimen_lease b 2000 12 ∷ [])) 154 ≡ Err UnsoundBook)
+    × (written_of (book_on (specimen_hold 1031 ∷ specimen_lease b 2000 12 ∷ [])) 154 ≡ Err UnsoundBook)
+    × (written_of (book_on (specimen_hold 1030 ∷ lapsing_at 1030 (specimen_lease b 2000 12) ∷ [])) 154 ≡ Err UnsoundBook)
+    × (written_of (book_on (specimen_lease b 2000 12 ∷ specimen_hold 1030 ∷ [])) 154 ≡ Err UnsoundBook)
+unfolding specimen specimen_names specimen_state specimen_lease specimen_hold table_with specimen_table server range scope lease tenants pool settings unnamed name en plain a b ab pick all_by pairs_by all_to filter_by is_in sum_to bit offsets_from set_of read_offsets rises_from order_of same_of laid_out table_of by_identifier union_all addresses_of overlaps one_to size_b id_b records_b counts_b rule1 below_b offsets_b rule2 range_b ranges_apart rule3 pool_b pools_apart rule4 ttl_b rule5 reserve_b reserves_b rule6 kind_b period_b lease_b none_b tenants_b rule7 differ rule8 disjoint apart rule9 compatible rule10 limit_b limits_b rule11 committed_b rule12 lapse_b hold_b rule13 zero_from padded_b blank_b unused_b layout_by range_zero tail_b scope_zero settings_b rule19_by rules_by first_late first_rule first_broken broken_by sound_by then closed read_octet read_number read_times is_after ordered_from file_of filled stored stored_hold insert_in arranged merged_from is_hold stored_scope stored_state stored_table storable_b lease_fit_b hold_fit_b few_of records_fit_b counts_fit fits_b refusal_number code_of accepted judged loaded loaded_got read_file zero_table octets_of written_of room_after filed_book filed_leases filed_holds filed_scope pair_up filed_lease filed_hold write_all committed book_on book_b names_b is_whole sizes_ok bare release specimen_release memory_with specimen_memory broken_memory broken_release first_release release_rules_of rules_to tenant_b few_b length_b differs not_leased once_b past_b older filled_b unused_r laid_b memory_b laid_releases stored_release stored_memory entries.apart keepable_b few_for releases_fit_b entries.filed_all filed_release filed_memory board_of scope_by entry_by owner_from count_on count_in is_on up_to specimen_board board_with entry agrees_b same_board same_scope_board same_entry same_by by_ending until filed_as in_file_order
 lent_holds = (refl, refl, refl, refl, refl, refl)
 
 -- boards that are lent: one without a lease, another owner, count and holding, and the same a scope further are 22, before too little room
-lent_boards : (written_of (book_by specimen_board) 154 ≡ record { refusal = 0; length = 154 })
-    × (written_of (book_by no_board) 0 ≡ record { refusal = 22; length = 0 })
-    × (written_of (book_by (board_with (entry 1 1 ∷ entry 2 1 ∷ entry 1 2 ∷ entry 1 1 ∷ []) (2 ∷ 2 ∷ []))) 154 ≡ record { refusal = 22; length = 0 })
-    × (written_of (book_by (board_with (entry 2 1 ∷ entry 2 1 ∷ entry 1 1 ∷ entry 1 1 ∷ []) (2 ∷ 2 ∷ []))) 154 ≡ record { refusal = 22; length = 0 })
-    × (written_of (book_by (board_with (entry 2 1 ∷ entry 2 1 ∷ entry 1 2 ∷ entry 1 1 ∷ []) (3 ∷ 2 ∷ []))) 154 ≡ record { refusal = 22; length = 0 })
-    × (written_of (book_by (record { scopes = take 4 (empty_scope_board ∷ specimen_board.scopes) })) 154 ≡ record { refusal = 22; length = 0 })
+lent_boards : (written_of (book_by specimen_board) 154 ≡ Ok 154)
+    × (written_of (book_by no_board) 0 ≡ Err UnsoundBook)
+    × (written_of (book_by (board_with (entry 1 1 ∷ entry 2 1 ∷ entry 1 2 ∷ entry 1 1 ∷ []) (2 ∷ 2 ∷ []))) 154 ≡ Err UnsoundBook)
+    × (written_of (book_by (board_with (entry 2 1 ∷ entry 2 1 ∷ entry 1 1 ∷ entry 1 1 ∷ []) (2 ∷ 2 ∷ []))) 154 ≡ Err UnsoundBook)
+    × (written_of (book_by (board_with (entry 2 1 ∷ entry 2 1 ∷ entry 1 2 ∷ entry 1 1 ∷ []) (3 ∷ 2 ∷ []))) 154 ≡ Err UnsoundBook)
+    × (written_of (book_by (record { scopes = take 4 (empty_scope_board ∷ specimen_board.scopes) })) 154 ≡ Err UnsoundBook)
     × (room_after (book_by no_board) (replicate 156 9) ≡ replicate 156 9)
-unfolding specimen specimen_names specimen_state specimen_lease specimen_hold table_with specimen_table server range scope lease tenants pool settings unnamed name en plain a b ab pick all_by pairs_by all_to filter_by is_in sum_to bit offsets_from set_of read_offsets rises_from order_of same_of laid_out table_of by_identifier union_all addresses_of overlaps one_to size_b id_b records_b counts_b rule1 below_b offsets_b rule2 range_b ranges_apart rule3 pool_b pools_apart rule4 ttl_b rule5 reserve_b reserves_b rule6 kind_b period_b lease_b none_b tenants_b rule7 differ rule8 disjoint apart rule9 compatible rule10 limit_b limits_b rule11 committed_b rule12 lapse_b hold_b rule13 zero_from padded_b blank_b unused_b layout_by range_zero tail_b scope_zero settings_b rule19_by rules_by first_late first_rule first_broken broken_by sound_by then closed read_octet read_number read_times is_after ordered_from file_of filled stored stored_hold insert_in arranged merged_from is_hold stored_scope stored_state stored_table storable_b lease_fit_b hold_fit_b few_of records_fit_b counts_fit fits_b refused accepted judged loaded loaded_got read_file zero_table octets_of written_of room_after filed_book filed_leases filed_holds filed_scope pair_up filed_lease filed_hold write_all committed book_by book_of book_b names_b is_whole sizes_ok bare release specimen_release memory_with specimen_memory broken_memory broken_release first_release release_rules_of rules_to tenant_b few_b length_b differs not_leased once_b past_b older filled_b unused_r laid_b memory_b laid_releases stored_release stored_memory entries.apart keepable_b few_for releases_fit_b entries.filed_all filed_release filed_memory board_of scope_by entry_by owner_from count_on count_in is_on up_to specimen_board board_with entry agrees_b same_board same_scope_board same_entry same_by by_ending until filed_as in_file_order
+unfolding specimen specimen_names specimen_state specimen_lease specimen_hold table_with specimen_table server range scope lease tenants pool settings unnamed name en plain a b ab pick all_by pairs_by all_to filter_by is_in sum_to bit offsets_from set_of read_offsets rises_from order_of same_of laid_out table_of by_identifier union_all addresses_of overlaps one_to size_b id_b records_b counts_b rule1 below_b offsets_b rule2 range_b ranges_apart rule3 pool_b pools_apart rule4 ttl_b rule5 reserve_b reserves_b rule6 kind_b period_b lease_b none_b tenants_b rule7 differ rule8 disjoint apart rule9 compatible rule10 limit_b limits_b rule11 committed_b rule12 lapse_b hold_b rule13 zero_from padded_b blank_b unused_b layout_by range_zero tail_b scope_zero settings_b rule19_by rules_by first_late first_rule first_broken broken_by sound_by then closed read_octet read_number read_times is_after ordered_from file_of filled stored stored_hold insert_in arranged merged_from is_hold stored_scope stored_state stored_table storable_b lease_fit_b hold_fit_b few_of records_fit_b counts_fit fits_b refusal_number code_of accepted judged loaded loaded_got read_file zero_table octets_of written_of room_after filed_book filed_leases filed_holds filed_scope pair_up filed_lease filed_hold write_all committed book_by book_of book_b names_b is_whole sizes_ok bare release specimen_release memory_with specimen_memory broken_memory broken_release first_release release_rules_of rules_to tenant_b few_b length_b differs not_leased once_b past_b older filled_b unused_r laid_b memory_b laid_releases stored_release stored_memory entries.apart keepable_b few_for releases_fit_b entries.filed_all filed_release filed_memory board_of scope_by entry_by owner_from count_on count_in is_on up_to specimen_board board_with entry agrees_b same_board same_scope_board same_entry same_by by_ending until filed_as in_file_order
 lent_boards = (refl, refl, refl, refl, refl, refl, refl)

@@ -23,19 +23,19 @@ use Rattle.releases.specs.Rules.{memory_b}
 use Rattle.soundness.specs.Sound.{sound_b}
 use Rattle.soundness.proofs.Lists.{sound_lists}
 use Rattle.state.specs.Board.{built_of}
-use Rattle.state.specs.Book.{laid_out, laid_releases, table_of, zero_scope}
+use Rattle.state.specs.Book.{laid_releases, table_of, zero_scope}
 use Rattle.state.specs.declared.ClientRange.{ClientRange}
 use Rattle.state.specs.declared.LeaseTable.{LeaseTable}
 use Rattle.state.specs.declared.Memory.{Memory}
 use Rattle.state.specs.declared.Scope.{Scope}
 use Rattle.state.specs.declared.State.{State}
-use Rattle.state.specs.declared.TenantLeases.{TenantLeases}
 use Rattle.state.specs.declared.TenantReleases.{TenantReleases}
 use Rattle.state_file.specs.Place.{Formed, FormedBy, SettingsIn, file_at, file_scope_at, range_at, scopes_in, state_at, tenant_count_in}
 use Rattle.state_file.specs.Records.{counts_fit, filled, fits_b, settings_fit_b, stored_scope, stored_state, stored_table, zero_range}
-use Rattle.state_file.specs.StateFile.{accepted, loaded_got, judged, loaded, names_got, names_of, read_file, refused, zero_ledger, with_board, zero_memory, zero_state, zero_table}
-use Rattle.state_file.specs.declared.Layout.{Layout}
-use Rattle.state_file.specs.declared.Layout.TheVariants.{Right, Wrong}
+use Rattle.state_file.specs.StateFile.{accepted, loaded_got, judged, loaded, names_got, names_of, read_file, code_of, refusal_number, zero_ledger, with_board, zero_memory, zero_state}
+use Rattle.std.specs.Prelude.{Option, Some, None, Result, Err, Ok}
+use Rattle.state_file.specs.declared.Refusal.{Refusal}
+use Rattle.state_file.specs.declared.Refusal.TheVariants.{UnsoundFile, WrongForm}
 use Rattle.state_file.specs.declared.Loaded.{Loaded}
 use Rattle.state_file.specs.declared.Places.{Places}
 
@@ -139,11 +139,6 @@ no_memory_is q b e p = cc
 pub no_ledger_is : (s : State) (m : Memory) → s ≡ zero_state → m ≡ zero_memory → record { state = s; memory = m } ≡ zero_ledger
 no_ledger_is s m es em = cc
 
-pub refused_is : (n : ℕ) (s : State) (z : TenantLeases) (m : Memory) → s ≡ zero_state → z ≡ laid_out [] → m ≡ zero_memory
-    → record { refusal = n; state = s; table = record { tenants = replicate 8 z }; memory = m } ≡ refused n
-unfolding refused zero_table table_of
-refused_is n s z m es ez em = cc
-
 module _ (s : State) (b : LeaseTable) (m : Memory) {q : Bool} (e : q ≡ sound_b s b) where
   pub rules_not : q ≡ false → false ≡ (sound_b s b && memory_b s b m)
   rules_not t = ap (λ (x : Bool). x && memory_b s b m) (sym t ∙ e)
@@ -152,84 +147,84 @@ module _ (s : State) (b : LeaseTable) (m : Memory) {q : Bool} (e : q ≡ sound_b
   rules_memory w f t = f ∙ ap (λ (x : Bool). x && memory_b s b m) (sym t ∙ e)
 
 module _ (s : State) (b : LeaseTable) (m : Memory) {q : Bool} (e : q ≡ (sound_b s b && memory_b s b m)) where
-  book_judged : (c : Bool) → q ≡ c → pick c (accepted s b (with_board b m)) (refused 21) ≡ judged s b m
+  book_judged : (c : Bool) → q ≡ c → pick c (accepted s b (with_board b m)) (Err UnsoundFile) ≡ judged s b m
   unfolding judged
-  book_judged c t = ap (λ (x : Bool). pick x (accepted s b (with_board b m)) (refused 21)) (sym t ∙ e)
+  book_judged c t = ap (λ (x : Bool). pick x (accepted s b (with_board b m)) (Err UnsoundFile)) (sym t ∙ e)
 
   -- the board that the leases of a sound book make is what they say
-  pub judged_yes : (x : Board) → q ≡ true → length b.tenants ≡ 8 → x ≡ built_of b → record { refusal = 0; state = s; table = b; memory = record { releases = m.releases; board = x } } ≡ judged s b m
+  pub judged_yes : (x : Board) → q ≡ true → length b.tenants ≡ 8 → x ≡ built_of b → Ok (record { state = s; table = b; memory = record { releases = m.releases; board = x } }) ≡ judged s b m
   unfolding accepted pick
   judged_yes x t l p =
       ap (λ (y : Board). accepted s b (record { releases = m.releases; board = y })) (p ∙ built_is s b l (sound_lists s b (and_parts _ _ (sym e ∙ t)).0))
       ∙ book_judged true t
 
-  pub judged_not : (r : Loaded) → q ≡ false → r ≡ refused 21 → r ≡ judged s b m
+  pub judged_not : (r : Result Loaded Refusal) → q ≡ false → r ≡ Err UnsoundFile → r ≡ judged s b m
   unfolding pick
   judged_not r t p = p ∙ book_judged false t
 
   -- the refusal alone
-  pub judged_none : q ≡ true → 0 ≡ (judged s b m).refusal
-  unfolding accepted pick
-  judged_none t = ap (λ (x : Loaded). x.refusal) (book_judged true t)
+  pub judged_none : q ≡ true → 0 ≡ refusal_number (judged s b m)
+  unfolding accepted pick refusal_number
+  judged_none t = ap refusal_number (book_judged true t)
 
-  pub judged_one : q ≡ false → 21 ≡ (judged s b m).refusal
-  unfolding refused pick
-  judged_one t = ap (λ (x : Loaded). x.refusal) (book_judged false t)
+  pub judged_one : q ≡ false → 21 ≡ refusal_number (judged s b m)
+  unfolding pick refusal_number code_of
+  judged_one t = ap refusal_number (book_judged false t)
 
 module _ (s : List ℕ) (p : Places) {q : Bool} (e : q ≡ fits_b (file_at s p)) where
-  loaded_tested : (c : Bool) → q ≡ c → pick c (judged (state_at s p.scopes) (table_of (merged_from 1 8 (entries_in false s p.leases) (entries_in true s p.holds))) (stored_memory (releases_in s p.releases))) (refused 21) ≡ loaded (file_at s p)
+  loaded_tested : (c : Bool) → q ≡ c → pick c (judged (state_at s p.scopes) (table_of (merged_from 1 8 (entries_in false s p.leases) (entries_in true s p.holds))) (stored_memory (releases_in s p.releases))) (Err UnsoundFile) ≡ loaded (file_at s p)
   unfolding loaded stored_state stored_table file_at
-  loaded_tested c t = ap (λ (x : Bool). pick x (judged (state_at s p.scopes) (table_of (merged_from 1 8 (entries_in false s p.leases) (entries_in true s p.holds))) (stored_memory (releases_in s p.releases))) (refused 21)) (sym t ∙ e)
+  loaded_tested c t = ap (λ (x : Bool). pick x (judged (state_at s p.scopes) (table_of (merged_from 1 8 (entries_in false s p.leases) (entries_in true s p.holds))) (stored_memory (releases_in s p.releases))) (Err UnsoundFile)) (sym t ∙ e)
 
-  pub loaded_yes : (x : State) (y : LeaseTable) (m : Memory) (r : Loaded) → q ≡ true → x ≡ state_at s p.scopes → y ≡ table_of (merged_from 1 8 (entries_in false s p.leases) (entries_in true s p.holds))
+  pub loaded_yes : (x : State) (y : LeaseTable) (m : Memory) (r : Result Loaded Refusal) → q ≡ true → x ≡ state_at s p.scopes → y ≡ table_of (merged_from 1 8 (entries_in false s p.leases) (entries_in true s p.holds))
       → m ≡ stored_memory (releases_in s p.releases) → r ≡ judged x y m → r ≡ loaded (file_at s p)
   unfolding pick
   loaded_yes x y m r t ex ey em er = er ∙ ap₂ (λ (a : State) (b : LeaseTable). judged a b m) ex ey ∙ ap (judged (state_at s p.scopes) (table_of (merged_from 1 8 (entries_in false s p.leases) (entries_in true s p.holds)))) em ∙ loaded_tested true t
 
-  pub loaded_not : (r : Loaded) → q ≡ false → r ≡ refused 21 → r ≡ loaded (file_at s p)
+  pub loaded_not : (r : Result Loaded Refusal) → q ≡ false → r ≡ Err UnsoundFile → r ≡ loaded (file_at s p)
   unfolding pick
   loaded_not r t w = w ∙ loaded_tested false t
 
   pub loaded_judged : (x : State) (y : LeaseTable) (m : Memory) (r : ℕ) → q ≡ true → x ≡ state_at s p.scopes → y ≡ table_of (merged_from 1 8 (entries_in false s p.leases) (entries_in true s p.holds))
-      → m ≡ stored_memory (releases_in s p.releases) → r ≡ (judged x y m).refusal → r ≡ (loaded (file_at s p)).refusal
-  loaded_judged x y m r t ex ey em er = er ∙ ap (λ (l : Loaded). l.refusal) (loaded_yes x y m (judged x y m) t ex ey em refl)
+      → m ≡ stored_memory (releases_in s p.releases) → r ≡ refusal_number (judged x y m) → r ≡ refusal_number (loaded (file_at s p))
+  loaded_judged x y m r t ex ey em er = er ∙ ap refusal_number (loaded_yes x y m (judged x y m) t ex ey em refl)
 
-  pub loaded_one : q ≡ false → 21 ≡ (loaded (file_at s p)).refusal
-  unfolding refused
-  loaded_one t = ap (λ (l : Loaded). l.refusal) (loaded_not (refused 21) t refl)
+  pub loaded_one : q ≡ false → 21 ≡ refusal_number (loaded (file_at s p))
+  unfolding refusal_number code_of
+  loaded_one t = ap refusal_number (loaded_not (Err UnsoundFile) t refl)
 
-module _ (s : List ℕ) {l : Layout} (v : FormedBy s l) where
-  pub layout_right : {p : Places} → l ≡ Right p → Formed s p
+module _ (s : List ℕ) {l : Option Places} (v : FormedBy s l) where
+  pub layout_right : {p : Places} → l ≡ Some p → Formed s p
   unfolding FormedBy
   layout_right e = subst (FormedBy s) e v
 
-  pub read_yes : {p : Places} (r : Loaded) → l ≡ Right p → r ≡ loaded (file_at s p) → r ≡ read_file s
+  pub read_yes : {p : Places} (r : Result Loaded Refusal) → l ≡ Some p → r ≡ loaded (file_at s p) → r ≡ read_file s
   unfolding read_file loaded_got
   read_yes r e q = q ∙ sym (ap loaded_got (layout_right e).file)
 
-  pub read_not : (r : Loaded) → l ≡ Wrong → r ≡ refused 20 → r ≡ read_file s
+  pub read_not : (r : Result Loaded Refusal) → l ≡ None → r ≡ Err WrongForm → r ≡ read_file s
   unfolding read_file loaded_got FormedBy
   read_not r e q = q ∙ sym (ap loaded_got (subst (FormedBy s) e v))
 
   -- the refusal alone
-  pub check_yes : {p : Places} (k : ℕ) → l ≡ Right p → k ≡ (loaded (file_at s p)).refusal → k ≡ (read_file s).refusal
-  check_yes k e q = q ∙ ap (λ (x : Loaded). x.refusal) (read_yes _ e refl)
+  pub check_yes : {p : Places} (k : ℕ) → l ≡ Some p → k ≡ refusal_number (loaded (file_at s p)) → k ≡ refusal_number (read_file s)
+  check_yes k e q = q ∙ ap refusal_number (read_yes _ e refl)
 
-  pub check_not : l ≡ Wrong → 20 ≡ (read_file s).refusal
-  unfolding refused
-  check_not e = ap (λ (x : Loaded). x.refusal) (read_not (refused 20) e refl)
+  pub check_not : (e : Refusal) → l ≡ None → e ≡ WrongForm → code_of e ≡ refusal_number (read_file s)
+  unfolding refusal_number
+  check_not e n q = ap code_of q ∙ ap refusal_number (read_not (Err WrongForm) n refl)
 
   -- the names, as a part of the octets
-  pub names_from : {p : Places} → l ≡ Right p → p.names ≤ p.releases
+  pub names_from : {p : Places} → l ≡ Some p → p.names ≤ p.releases
   names_from e = (layout_right e).names
 
-  pub names_within : {p : Places} → l ≡ Right p → p.releases ≤ length s
+  pub names_within : {p : Places} → l ≡ Some p → p.releases ≤ length s
   names_within e = let v = layout_right e in let h = v.memory.start in omega arith
 
-  pub names_yes : {p : Places} (r : List ℕ) → l ≡ Right p → r ≡ take (p.releases - p.names) (drop p.names s) → r ≡ names_of s
+  pub names_yes : {p : Places} (r : List ℕ) → l ≡ Some p → r ≡ take (p.releases - p.names) (drop p.names s) → r ≡ names_of s
   unfolding names_of names_got file_at
   names_yes {p} r e q = q ∙ sym (ap names_got (layout_right e).file)
 
-  pub names_not : (r : List ℕ) → l ≡ Wrong → r ≡ [] → r ≡ names_of s
+  pub names_not : (r : List ℕ) → l ≡ None → r ≡ [] → r ≡ names_of s
   unfolding names_of names_got FormedBy
   names_not r e q = q ∙ sym (ap names_got (subst (FormedBy s) e v))

@@ -3,7 +3,7 @@
 use mathlib.Core.Bool.{Bool, ◌&&◌, false, true}
 use mathlib.Core.List.{List, [], ◌++◌, ◌∷◌}
 use mathlib.Core.Path.{◌∙◌, ◌≡◌, ap, ap₂, refl, subst, sym}
-use Prim.Native.Nat.{◌<◌, ◌≤◌, ℕ}
+use Prim.Native.Nat.{◌≤◌, ℕ}
 use native.Mathlib.Omega.{arith}
 use lib.Dec.{leb, ltb}
 use lib.ListN.{drop, length, take}
@@ -34,10 +34,12 @@ use Rattle.state_file.specs.File.{File, file_format, file_limit, file_of, longes
 use Rattle.state_file.specs.laws.File.{file_reads, file_written}
 use Rattle.state_file.specs.laws.Local.{file_names}
 use Rattle.state_file.specs.Records.{filed_as, filed_book, fits_b, stored_state, stored_table}
-use Rattle.state_file.specs.StateFile.{accepted, judged, loaded, loaded_got, names_got, names_of, octets_of, read_file, refused, room_after, with_board, written_of}
+use Rattle.state_file.specs.StateFile.{accepted, judged, loaded, loaded_got, names_got, names_of, octets_of, read_file, book_in, code_of, length_written, refusal_number, room_after, with_board, written_of}
 use Rattle.state_file.specs.Typed.{Typed}
+use Rattle.std.specs.Prelude.{Result, Ok, Err}
 use Rattle.state_file.specs.declared.Loaded.{Loaded}
-use Rattle.state_file.specs.declared.Written.{Written}
+use Rattle.state_file.specs.declared.Refusal.{Refusal}
+use Rattle.state_file.specs.declared.Refusal.TheVariants.{ShortRoom, UnsoundBook, UnsoundFile, WrongForm}
 
 -- the book of its parts
 abbrev with : State → LeaseTable → Memory → List ℕ → Book
@@ -65,25 +67,31 @@ board_same : (b : Book) → book_b b ≡ true → with_board b.table b.memory �
 board_same b e = ap {B = Memory} (λ (x : Board). record { releases = b.memory.releases; board = x }) (sym (agrees_is b.table b.memory.board (book_agrees b e)))
 
 -- an accepted answer is a sound file's
-refused_not : {A : Type 0} (n : ℕ) (s : State) (b : LeaseTable) (m : Memory) → 0 < n → refused n ≡ accepted s b m → A
-unfolding refused accepted
-refused_not n s b m h e = let z : n ≡ 0 = ap (λ (r : Loaded). r.refusal) e in absurd (omega arith)
+refused_not : {A : Type 0} (n : Refusal) (s : State) (b : LeaseTable) (m : Memory) → Err n ≡ accepted s b m → A
+unfolding accepted refusal_number code_of
+refused_not n s b m e = go n (ap refusal_number e)
+  where
+    go : {A : Type 0} (n : Refusal) → code_of n ≡ 0 → A
+    go WrongForm z = absurd (omega arith)
+    go UnsoundFile z = absurd (omega arith)
+    go UnsoundBook z = absurd (omega arith)
+    go ShortRoom z = absurd (omega arith)
 
 judged_is : (s t : State) (b c : LeaseTable) (m n : Memory) → judged s b m ≡ accepted t c n → (sound_b s b && memory_b s b m ≡ true) × (s ≡ t) × (b ≡ c) × (with_board b m ≡ n)
-unfolding judged pick accepted
+unfolding judged pick accepted book_in
 judged_is s t b c m n e = go (sound_b s b && memory_b s b m) refl e
   where
-    go : (q : Bool) → sound_b s b && memory_b s b m ≡ q → pick q (accepted s b (with_board b m)) (refused 21) ≡ accepted t c n → (q ≡ true) × (s ≡ t) × (b ≡ c) × (with_board b m ≡ n)
-    go true p e = (refl, ap (λ (r : Loaded). r.state) e, ap (λ (r : Loaded). r.table) e, ap (λ (r : Loaded). r.memory) e)
-    go false p e = refused_not 21 t c n (omega arith) e
+    go : (q : Bool) → sound_b s b && memory_b s b m ≡ q → pick q (accepted s b (with_board b m)) (Err UnsoundFile) ≡ accepted t c n → (q ≡ true) × (s ≡ t) × (b ≡ c) × (with_board b m ≡ n)
+    go true p e = (refl, ap (λ (r : Result Loaded Refusal). (book_in r).state) e, ap (λ (r : Result Loaded Refusal). (book_in r).table) e, ap (λ (r : Result Loaded Refusal). (book_in r).memory) e)
+    go false p e = refused_not UnsoundFile t c n e
 
 loaded_is : (f : File) (t : State) (c : LeaseTable) (n : Memory) → loaded f ≡ accepted t c n → (fits_b f ≡ true) × (judged (stored_state f) (stored_table f) (releases_in f) ≡ accepted t c n)
 unfolding loaded pick
 loaded_is f t c n e = go (fits_b f) refl e
   where
-    go : (q : Bool) → fits_b f ≡ q → pick q (judged (stored_state f) (stored_table f) (releases_in f)) (refused 21) ≡ accepted t c n → (q ≡ true) × (judged (stored_state f) (stored_table f) (releases_in f) ≡ accepted t c n)
+    go : (q : Bool) → fits_b f ≡ q → pick q (judged (stored_state f) (stored_table f) (releases_in f)) (Err UnsoundFile) ≡ accepted t c n → (q ≡ true) × (judged (stored_state f) (stored_table f) (releases_in f) ≡ accepted t c n)
     go true p e = (refl, e)
-    go false p e = refused_not 21 t c n (omega arith) e
+    go false p e = refused_not UnsoundFile t c n e
 
 -- nothing is left over
 file_whole : (s : List ℕ) (f : File) (r : List ℕ) → file_of s ≡ got f r → (file_of s ≡ got f []) × (closed (file_format.read s) ≡ got f [])
@@ -108,32 +116,32 @@ again f st tb m es eb em ok fit sound =
     ∙ ap (λ (x : Memory). file_format.write (filed_book (with (stored_state f) (stored_table f) x f.names))) (sym em) ∙ ap file_format.write (book_again f ok fit (rules_of_law (stored_state f) (stored_table f) sound).identifiers)
 
 -- what is answered to a file that the records can hold, and that is sound, or not
-abbrev answer : File → Bool → Bool → Loaded
-answer f p q = pick p (pick q (accepted (stored_state f) (stored_table f) (memory_in f)) (refused 21)) (refused 21)
+abbrev answer : File → Bool → Bool → Result Loaded Refusal
+answer f p q = pick p (pick q (accepted (stored_state f) (stored_table f) (memory_in f)) (Err UnsoundFile)) (Err UnsoundFile)
 
 -- the book of octets that are accepted, with the names in them, is sound
-pub read_sound : (s : List ℕ) → (read_file s).refusal ≡ 0 → book_b (record { state = (read_file s).state; table = (read_file s).table; memory = (read_file s).memory; names = names_of s }) ≡ true
-unfolding read_file loaded_got loaded judged accepted refused pick names_of names_got
+pub read_sound : (s : List ℕ) → refusal_number (read_file s) ≡ 0 → book_b (record { state = (book_in (read_file s)).state; table = (book_in (read_file s)).table; memory = (book_in (read_file s)).memory; names = names_of s }) ≡ true
+unfolding read_file loaded_got loaded judged accepted pick names_of names_got book_in refusal_number code_of
 read_sound s e = go (file_of s) refl e
   where
     kept : (f : File) (p q : Bool) → sound_b (stored_state f) (stored_table f) && memory_b (stored_state f) (stored_table f) (releases_in f) ≡ q
         → names_b (stored_state f).scope_count (stored_state f).tenant_count f.names ≡ true
-        → (answer f p q).refusal ≡ 0 → book_b (with (answer f p q).state (answer f p q).table (answer f p q).memory f.names) ≡ true
+        → refusal_number (answer f p q) ≡ 0 → book_b (with (book_in (answer f p q)).state (book_in (answer f p q)).table (book_in (answer f p q)).memory f.names) ≡ true
     kept f true true v w e = let (a, b) = and_parts _ _ v in both_book (with (stored_state f) (stored_table f) (memory_in f) f.names) a (rules_alone (stored_state f) (stored_table f) (releases_in f) _ ∙ b) (is_agrees (stored_table f) _ refl) w
     kept f true false v w e = absurd (omega arith)
     kept f false q v w e = absurd (omega arith)
 
-    go : (g : Got File) → file_of s ≡ g → (loaded_got g).refusal ≡ 0 → book_b (with (loaded_got g).state (loaded_got g).table (loaded_got g).memory (names_got g)) ≡ true
+    go : (g : Got File) → file_of s ≡ g → refusal_number (loaded_got g) ≡ 0 → book_b (with (book_in (loaded_got g)).state (book_in (loaded_got g)).table (book_in (loaded_got g)).memory (names_got g)) ≡ true
     go bad p e = absurd (omega arith)
     go (got f r) p e = kept f (fits_b f) (sound_b (stored_state f) (stored_table f) && memory_b (stored_state f) (stored_table f) (releases_in f)) refl (names_good_law s f r p) e
 
 -- so its board is what its leases say
-pub read_board : (s : List ℕ) → (read_file s).refusal ≡ 0 → (read_file s).memory.board ≡ board_of (leases_of (read_file s).table)
-read_board s e = agrees_is (read_file s).table (read_file s).memory.board (book_agrees (with (read_file s).state (read_file s).table (read_file s).memory (names_of s)) (read_sound s e))
+pub read_board : (s : List ℕ) → refusal_number (read_file s) ≡ 0 → (book_in (read_file s)).memory.board ≡ board_of (leases_of (book_in (read_file s)).table)
+read_board s e = agrees_is (book_in (read_file s)).table (book_in (read_file s)).memory.board (book_agrees (with (book_in (read_file s)).state (book_in (read_file s)).table (book_in (read_file s)).memory (names_of s)) (read_sound s e))
 
 -- and its names have no more octets than four scopes' and eight houses' can
-pub names_short : (s : List ℕ) → (read_file s).refusal ≡ 0 → length (names_of s) ≤ 6229
-names_short s e = names_few (record { state = (read_file s).state; table = (read_file s).table; memory = (read_file s).memory; names = names_of s }) (read_sound s e)
+pub names_short : (s : List ℕ) → refusal_number (read_file s) ≡ 0 → length (names_of s) ≤ 6229
+names_short s e = names_few (record { state = (book_in (read_file s)).state; table = (book_in (read_file s)).table; memory = (book_in (read_file s)).memory; names = names_of s }) (read_sound s e)
 
 -- and its octets are those
 pub read_write : (s : List ℕ) (st : State) (tb : LeaseTable) (m : Memory) → Octets s → read_file s ≡ accepted st tb m
@@ -142,7 +150,7 @@ unfolding read_file loaded_got names_of names_got
 read_write s st tb m o e = go (file_of s) refl e
   where
     go : (g : Got File) → file_of s ≡ g → loaded_got g ≡ accepted st tb m → (book_b (with st tb m (names_got g)) ≡ true) × (octets_of (with st tb m (names_got g)) ≡ s)
-    go bad p e = refused_not 20 st tb m (omega arith) e
+    go bad p e = refused_not WrongForm st tb m e
     go (got f r) p e =
         let (fit, j) = loaded_is f st tb m e in
         let (good, es, eb, em) = judged_is (stored_state f) st (stored_table f) tb (releases_in f) m j in
@@ -160,14 +168,14 @@ module _ (s room : List ℕ) (st : State) (tb : LeaseTable) (m : Memory) (o : Oc
   b : Book
   b = record { state = st; table = tb; memory = m; names = names_of s }
 
-  pub read_written : (written_of (record { state = st; table = tb; memory = m; names = names_of s }) (length room) ≡ record { refusal = 0; length = length s })
+  pub read_written : (written_of (record { state = st; table = tb; memory = m; names = names_of s }) (length room) ≡ Ok (length s))
       × (room_after (record { state = st; table = tb; memory = m; names = names_of s }) room ≡ s ++ drop (length s) room)
   unfolding written_of room_after pick b
   read_written =
       let (p, w) = read_write s st tb m o e in
       let k : ltb (length room) (length (octets_of b)) ≡ false = le-ltb _ _ (subst (λ (x : List ℕ). length x ≤ length room) (sym w) h) in (
-        ap₂ (λ (x y : Bool). pick x (pick y (record { refusal = 23; length = 0 }) (record { refusal = 0; length = length (octets_of b) })) (record { refusal = 22; length = 0 })) p k
-            ∙ ap {B = Written} (λ (x : List ℕ). record { refusal = 0; length = length x }) w,
+        ap₂ (λ (x y : Bool). pick x (pick y (Err ShortRoom) (Ok (length (octets_of b)))) (Err UnsoundBook)) p k
+            ∙ ap {B = Result ℕ Refusal} (λ (x : List ℕ). Ok (length x)) w,
         ap₂ (λ (x y : Bool). pick x (pick y room (octets_of b ++ drop (length (octets_of b)) room)) room) p k
             ∙ ap (λ (x : List ℕ). x ++ drop (length x) room) w,
       )
@@ -186,32 +194,32 @@ module _ (b : Book) (v : Typed b.state b.table b.memory) (o : Octets b.names) wh
       let q = book_sound b e in
       let w = book_remembers b e in (
         ap loaded_got (file_is e)
-            ∙ ap (λ (x : Bool). pick x (judged (stored_state (filed_book b)) (stored_table (filed_book b)) (releases_in (filed_book b))) (refused 21)) (book_fits b.state b.table b.memory v q w b.names)
+            ∙ ap (λ (x : Bool). pick x (judged (stored_state (filed_book b)) (stored_table (filed_book b)) (releases_in (filed_book b))) (Err UnsoundFile)) (book_fits b.state b.table b.memory v q w b.names)
             ∙ ap₂ (λ (x : State) (y : LeaseTable). judged x y (releases_in (filed_book b))) (state_same b.state b.table b.memory v q w b.names) (table_same b.state b.table b.memory v q w b.names)
             ∙ judged_alone b.state b.table (releases_in (filed_book b)) b.memory (releases_same b.state b.table b.memory v q w b.names)
-            ∙ ap₂ (λ (x : Bool) (m : Memory). pick x (accepted b.state b.table m) (refused 21)) (and_both q w) (board_same b e),
+            ∙ ap₂ (λ (x : Bool) (m : Memory). pick x (accepted b.state b.table m) (Err UnsoundFile)) (and_both q w) (board_same b e),
         ap names_got (file_is e),
       )
 
   -- so is what the writer leaves in a room
-  pub written_read : (room : List ℕ) → (written_of b (length room)).refusal ≡ 0
-      → (read_file (take (written_of b (length room)).length (room_after b room)) ≡ accepted b.state b.table b.memory) × (names_of (take (written_of b (length room)).length (room_after b room)) ≡ b.names)
-  unfolding written_of room_after pick
+  pub written_read : (room : List ℕ) → refusal_number (written_of b (length room)) ≡ 0
+      → (read_file (take (length_written (written_of b (length room))) (room_after b room)) ≡ accepted b.state b.table b.memory) × (names_of (take (length_written (written_of b (length room))) (room_after b room)) ≡ b.names)
+  unfolding written_of room_after pick refusal_number code_of length_written
   written_read room e = go (book_b b) refl (ltb (length room) (length (octets_of b))) e
     where
       Gives : List ℕ → Type 0
       Gives l = (read_file l ≡ accepted b.state b.table b.memory) × (names_of l ≡ b.names)
 
       go : (p : Bool) → book_b b ≡ p → (q : Bool)
-          → (pick {A = Written} p (pick q (record { refusal = 23; length = 0 }) (record { refusal = 0; length = length (octets_of b) })) (record { refusal = 22; length = 0 })).refusal ≡ 0
-          → Gives (take (pick {A = Written} p (pick q (record { refusal = 23; length = 0 }) (record { refusal = 0; length = length (octets_of b) })) (record { refusal = 22; length = 0 })).length (pick p (pick q room (octets_of b ++ drop (length (octets_of b)) room)) room))
+          → refusal_number (pick {A = Result ℕ Refusal} p (pick q (Err ShortRoom) (Ok (length (octets_of b)))) (Err UnsoundBook)) ≡ 0
+          → Gives (take (length_written (pick {A = Result ℕ Refusal} p (pick q (Err ShortRoom) (Ok (length (octets_of b)))) (Err UnsoundBook))) (pick p (pick q room (octets_of b ++ drop (length (octets_of b)) room)) room))
       go true a true e = absurd (omega arith)
       go true a false e = subst Gives (sym (take-append_seam (octets_of b) (drop (length (octets_of b)) room))) (write_read a)
       go false a q e = absurd (omega arith)
 
 -- and in a room for the longest file the writer refuses no sound book of eight tenants' records and releases
-pub never_refused : (b : Book) (n : ℕ) → length b.table.tenants ≡ 8 → length b.memory.releases ≡ 8 → book_b b ≡ true → longest_file ≤ n → written_of b n ≡ record { refusal = 0; length = length (octets_of b) }
+pub never_refused : (b : Book) (n : ℕ) → length b.table.tenants ≡ 8 → length b.memory.releases ≡ 8 → book_b b ≡ true → longest_file ≤ n → written_of b n ≡ Ok (length (octets_of b))
 unfolding written_of pick
 never_refused b n v w e h =
-    ap₂ (λ (x y : Bool). pick x (pick y (record { refusal = 23; length = 0 }) (record { refusal = 0; length = length (octets_of b) })) (record { refusal = 22; length = 0 }))
+    ap₂ (λ (x y : Bool). pick x (pick y (Err ShortRoom) (Ok (length (octets_of b)))) (Err UnsoundBook))
     e (le-ltb n (length (octets_of b)) (let k = sound_short b (omega arith) (omega arith) e in omega arith))

@@ -1,6 +1,6 @@
 -- Laws: one for each kind of row that is written, an element a turn.
 use mathlib.Core.List.{List, [], ◌∷◌}
-use mathlib.Core.Path.{◌≡◌, ap, refl, sym}
+use mathlib.Core.Path.{◌∙◌, ◌≡◌, ap, refl, sym}
 use Prim.Native.Nat.{◌+◌, ◌<◌, ◌≤◌, min, suc, zero, ℕ}
 use native.Mathlib.Omega.{arith}
 use lib.ListN.{get_or, length, take}
@@ -33,6 +33,10 @@ module _ (h : ℕ) {cs : List Scope} {m c n : ℕ} {r₀ : List ℕ} {at : ℕ} 
   pub scope_next : {r₁ : List ℕ} {k : ℕ} → i < n → Wrote buffer to ((scope_format h).write (filed_scope h (get_or cs i no_scope))) r₁ k → length r₁ ≡ length buffer → RowInv (scope_row h) no_scope cs m c n r₀ at r₁ k (i + 1)
   unfolding scope_row
   scope_next l p q = row_next v l p q
+
+-- a count that is made wider and then cut
+pub wide_cut : (m : ℕ) {x y n : ℕ} → y ≡ x → n ≡ min y m → n ≡ min x m
+wide_cut m p q = q ∙ ap (λ (z : ℕ). min z m) p
 
 -- a scope's parts stand in two arrays
 pub pair_length : (n : ℕ) (a b : List ℕ) → length a ≡ n → length b ≡ n → length (pair_up a b) ≡ n
@@ -79,8 +83,8 @@ module _ {a b : List ℕ} {c n : ℕ} {r₀ : List ℕ} {at : ℕ} {buffer : Lis
   pub pair_end : n ≤ i → Wrote r₀ at (write_from part_row 0 (take c (pair_up a b))) buffer to
   pair_end h = row_end v.row h
 
-pub ruleset range_rows = (range_room, range_next, rows)
+pub ruleset range_rows = (range_room, range_next, wide_cut, rows)
 
-pub ruleset scope_rows = (scope_room, scope_next, rows)
+pub ruleset scope_rows = (scope_room, scope_next, wide_cut, rows)
 
-pub ruleset pair_rows = (pair_start, pair_room, pair_next, pair_end)
+pub ruleset pair_rows = (wide_cut, pair_start, pair_room, pair_next, pair_end)

@@ -33,7 +33,9 @@ use Rattle.state_file.specs.File.{FilePart, part_format, scope_format, tenant_fo
 use Rattle.state_file.specs.Records.{filed_as, filed_book, filed_scope, pair_up}
 use Rattle.state_file.specs.Rows.{file_range_octets, file_scope_octets, part_octets, part_row, range_row, scope_row, section_octets}
 use Rattle.state_file.specs.StateFile.{octets_as, octets_of, room_after, written_of}
-use Rattle.state_file.specs.declared.Written.{Written}
+use Rattle.std.specs.Prelude.{Result, Ok, Err}
+use Rattle.state_file.specs.declared.Refusal.{Refusal}
+use Rattle.state_file.specs.declared.Refusal.TheVariants.{ShortRoom, UnsoundBook}
 
 -- ---- settings
 pub part_wrote : {r₀ r₁ r₂ : List ℕ} {at a b x y : ℕ} → at ≤ length r₀ → Wrote r₀ at (x ∷ []) r₁ a → Wrote r₁ a (y ∷ []) r₂ b → Wrote r₀ at (x ∷ y ∷ []) r₂ b
@@ -194,11 +196,11 @@ module _ (b : Book) {q : Bool} (e : q ≡ book_b b) where
   pub book_known : q ≡ true → book_b b ≡ true
   book_known t = sym e ∙ t
 
-  pub write_unsound : (room : List ℕ) → q ≡ false → (◌≡◌ {A = Written} (record { refusal = 22; length = 0 }) (written_of b (length room))) × (room ≡ room_after b room)
+  pub write_unsound : (room : List ℕ) → q ≡ false → (◌≡◌ {A = Result ℕ Refusal} (Err UnsoundBook) (written_of b (length room))) × (room ≡ room_after b room)
   unfolding written_of room_after pick
   write_unsound room t =
       let p : book_b b ≡ false = sym e ∙ t in (
-        sym (ap (λ (x : Bool). pick x (pick (ltb (length room) (length (octets_of b))) (record { refusal = 23; length = 0 }) (record { refusal = 0; length = length (octets_of b) })) (record { refusal = 22; length = 0 })) p),
+        sym (ap (λ (x : Bool). pick x (pick (ltb (length room) (length (octets_of b))) (Err ShortRoom) (Ok (length (octets_of b)))) (Err UnsoundBook)) p),
         sym (ap (λ (x : Bool). pick x (pick (ltb (length room) (length (octets_of b))) room (octets_of b ++ drop (length (octets_of b)) room)) room) p),
       )
 
@@ -214,18 +216,18 @@ module _ (b : Book) (p : book_b b ≡ true) (n : ℕ) (room : List ℕ) {x : Lea
   l : n ≡ length (octets_of b)
   l = size ∙ ap length filed
 
-  pub write_short : length room < n → (◌≡◌ {A = Written} (record { refusal = 23; length = 0 }) (written_of b (length room))) × (room ≡ room_after b room)
+  pub write_short : length room < n → (◌≡◌ {A = Result ℕ Refusal} (Err ShortRoom) (written_of b (length room))) × (room ≡ room_after b room)
   unfolding written_of room_after pick
   write_short h =
       let k : ltb (length room) (length (octets_of b)) ≡ true = lt-ltb _ _ (let c = l in let g : length room < length (octets_of b) = omega arith in g) in (
-        sym (ap₂ (λ (x y : Bool). pick x (pick y (record { refusal = 23; length = 0 }) (record { refusal = 0; length = length (octets_of b) })) (record { refusal = 22; length = 0 })) p k),
+        sym (ap₂ (λ (x y : Bool). pick x (pick y (Err ShortRoom) (Ok (length (octets_of b)))) (Err UnsoundBook)) p k),
         sym (ap₂ (λ (x y : Bool). pick x (pick y room (octets_of b ++ drop (length (octets_of b)) room)) room) p k),
       )
 
-  pub write_done : (now : List ℕ) (f : ℕ) → n ≤ length room → Wrote room 0 (octets_as (record { state = b.state; table = x; memory = b.memory; names = b.names })) now f → (◌≡◌ {A = Written} (record { refusal = 0; length = n }) (written_of b (length room))) × (now ≡ room_after b room)
+  pub write_done : (now : List ℕ) (f : ℕ) → n ≤ length room → Wrote room 0 (octets_as (record { state = b.state; table = x; memory = b.memory; names = b.names })) now f → (◌≡◌ {A = Result ℕ Refusal} (Ok n) (written_of b (length room))) × (now ≡ room_after b room)
   unfolding written_of room_after pick
   write_done now f h w =
       let k : ltb (length room) (length (octets_of b)) ≡ false = le-ltb _ _ (let c = l in let g : length (octets_of b) ≤ length room = omega arith in g) in (
-        ap {B = Written} (λ (x : ℕ). record { refusal = 0; length = x }) l ∙ sym (ap₂ (λ (x y : Bool). pick x (pick y (record { refusal = 23; length = 0 }) (record { refusal = 0; length = length (octets_of b) })) (record { refusal = 22; length = 0 })) p k),
+        ap {B = Result ℕ Refusal} (λ (x : ℕ). Ok x) l ∙ sym (ap₂ (λ (x y : Bool). pick x (pick y (Err ShortRoom) (Ok (length (octets_of b)))) (Err UnsoundBook)) p k),
         wrote_whole (wrote_as filed w) ∙ sym (ap₂ (λ (x y : Bool). pick x (pick y room (octets_of b ++ drop (length (octets_of b)) room)) room) p k),
       )

@@ -1,8 +1,7 @@
 -- Definitions: where the file's values stand in its octets, for the code that goes over them.
-use Rattle.std.specs.Prelude.{false, true, List, [], ◌≡◌, ◌*◌, ◌+◌, ◌-◌, ◌≤◌, ℕ, drop, get_or, length, take}
+use Rattle.std.specs.Prelude.{false, true, Option, Some, None, List, [], ◌≡◌, ◌*◌, ◌+◌, ◌-◌, ◌≤◌, ℕ, drop, get_or, length, take}
 use Rattle.format.specs.Format.{bad, got}
 use Rattle.format.specs.Place.{counted_end, row}
-use Rattle.format.specs.declared.Place.TheVariants.{At}
 use Rattle.lease_file.specs.Place.{EntriesIn, SectionEndsAt, entries_in}
 use Rattle.octets.specs.Octets.{at32}
 use Rattle.release_file.specs.Place.{ReleasesIn, releases_in}
@@ -10,8 +9,6 @@ use Rattle.state.specs.declared.ClientRange.{ClientRange}
 use Rattle.state.specs.declared.State.{State}
 use Rattle.state_file.specs.File.{File, FilePart, FileScope, file_limit, file_of}
 use Rattle.state_file.specs.Records.{stored_state}
-use Rattle.state_file.specs.declared.Layout.{Layout}
-use Rattle.state_file.specs.declared.Layout.TheVariants.{Right, Wrong}
 use Rattle.state_file.specs.declared.Places.{Places}
 
 -- ---- settings
@@ -61,9 +58,9 @@ pub record FirstIn (s : List ℕ) (scopes leases names : ℕ) : Type 0 where
   pub few : length s ≤ file_limit
   pub long : 9 ≤ length s
   pub one : get_or s 0 0 ≡ 1
-  pub tenants : counted_end s 9 8 ≡ At scopes
-  pub pools : counted_end s scopes (6 + tenant_count_in s * 2) ≡ At leases
-  pub records : SectionEndsAt false s leases (At names)
+  pub tenants : counted_end s 9 8 ≡ Some scopes
+  pub pools : counted_end s scopes (6 + tenant_count_in s * 2) ≡ Some leases
+  pub records : SectionEndsAt false s leases (Some names)
 
 -- the octets have the form of a file: it is the one of their places, which lie within them
 pub record Formed (s : List ℕ) (p : Places) : Type 0 where
@@ -75,6 +72,6 @@ pub record Formed (s : List ℕ) (p : Places) : Type 0 where
   pub memory : ReleasesIn s p.releases
   pub last : EntriesIn true s p.holds
 
-unfoldable pub FormedBy : List ℕ → Layout → Type 0
-FormedBy s (Right p) = Formed s p
-FormedBy s Wrong = file_of s ≡ bad
+unfoldable pub FormedBy : List ℕ → Option Places → Type 0
+FormedBy s (Some p) = Formed s p
+FormedBy s None = file_of s ≡ bad

@@ -3,60 +3,58 @@ ghost use Rattle.std.specs.Prelude.{◌≡◌, ◌*◌, ◌<◌};
 ghost use Rattle.format.specs.Place.{counted_end};
 ghost use Rattle.state_file.specs.Place.{FirstIn, FormedBy};
 
-use crate::{FILE_LIMIT, Layout, Places};
-use arithmetic::wide;
-use format::Place;
+use crate::{FILE_LIMIT, Places};
 
 // Whether the octets have the form of a state file, and where its sections start.
-pub fn form_of(s: &[u8]) -> Layout
+pub fn form_of(s: &[u8]) -> Option<Places>
     ensures { FormedBy s.now result }
 {
     let len = s.len();
     if FILE_LIMIT < len {
-        return Layout::Wrong;
+        return None;
     }
     if len < 9 {
-        return Layout::Wrong;
+        return None;
     }
     if s[0] != 1 {
-        return Layout::Wrong;
+        return None;
     }
     let ranges = counted_end(s, 9, 8);
-    let Place::At(scopes) = ranges else {
-        return Layout::Wrong;
+    let Some(scopes) = ranges else {
+        return None;
     };
-    let pools = counted_end(s, scopes, 6 + wide(s[9]) * 2);
-    let Place::At(leases) = pools else {
-        return Layout::Wrong;
+    let pools = counted_end(s, scopes, 6 + usize::from(s[9]) * 2);
+    let Some(leases) = pools else {
+        return None;
     };
     let records = lease_file::section_end(s, leases, false);
-    let Place::At(names) = records else {
-        return Layout::Wrong;
+    let Some(names) = records else {
+        return None;
     };
     last_sections(s, scopes, leases, names)
 }
 
 // The same where the sections before the names have the form: by where they start and the names do.
-fn last_sections(s: &[u8], scopes: usize, leases: usize, names: usize) -> Layout
+fn last_sections(s: &[u8], scopes: usize, leases: usize, names: usize) -> Option<Places>
     requires { FirstIn s.now scopes leases names }
     ensures { FormedBy s.now result }
 {
     let lists = names::section_end(s, names, s[scopes], s[9]);
-    let Place::At(releases) = lists else {
-        return Layout::Wrong;
+    let Some(releases) = lists else {
+        return None;
     };
     let memory = release_file::section_end(s, releases);
-    let Place::At(holds) = memory else {
-        return Layout::Wrong;
+    let Some(holds) = memory else {
+        return None;
     };
     let last = lease_file::section_end(s, holds, true);
-    let Place::At(end) = last else {
-        return Layout::Wrong;
+    let Some(end) = last else {
+        return None;
     };
     if end != s.len() {
-        return Layout::Wrong;
+        return None;
     }
-    Layout::Right(Places {
+    Some(Places {
         scopes,
         leases,
         names,
@@ -66,18 +64,18 @@ fn last_sections(s: &[u8], scopes: usize, leases: usize, names: usize) -> Layout
 }
 
 // Where a count at `at` and as many values of z octets end.
-fn counted_end(s: &[u8], at: usize, z: usize) -> Place
+fn counted_end(s: &[u8], at: usize, z: usize) -> Option<usize>
     requires { z < 600 }
     ensures { result ≡ counted_end s.now at z }
 {
     if s.len() <= at {
-        return Place::Nowhere;
+        return None;
     }
-    let end = at + 1 + octets_of(wide(s[at]), z);
+    let end = at + 1 + octets_of(usize::from(s[at]), z);
     if s.len() < end {
-        return Place::Nowhere;
+        return None;
     }
-    Place::At(end)
+    Some(end)
 }
 
 // How many octets n values of z octets take.

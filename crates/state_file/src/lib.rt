@@ -11,9 +11,9 @@ mod size;
 
 ghost use Rattle.std.specs.Prelude.{true, ◌≡◌, length};
 ghost use Rattle.releases.specs.Whole.{book_b};
-ghost use Rattle.state_file.specs.StateFile.{names_of, read_file, room_after, written_of, zero_ledger, zero_memory, zero_state};
+ghost use Rattle.state_file.specs.StateFile.{code_of, names_of, read_file, refusal_number, room_after, written_of, zero_ledger, zero_memory, zero_state};
 
-use crate::load::{refusal, refusal_at, zero_range};
+use crate::load::{check_at, zero_range};
 pub use form::form_of;
 pub use limits::counts_fit;
 pub use load::{book_at, state_at};
@@ -24,20 +24,29 @@ use state::{LeaseTable, Ledger, Memory, State};
 // How many octets a file may have.
 pub const FILE_LIMIT: usize = 32768;
 
-// What the reader answers: refusal 0 and the book, or the number of a refusal and records that are all zero.
+// What a file holds: the book, but for its names.
 #[derive(Clone, Copy)]
 pub struct Loaded {
-    pub refusal: u8,
     pub state: State,
     pub table: LeaseTable,
     pub memory: Memory,
 }
 
-// What the writer answers: refusal 0 and the length of the file, or the number of a refusal and length 0.
-#[derive(Clone, Copy)]
-pub struct Written {
-    pub refusal: u8,
-    pub length: usize,
+// Why there is no book, or no file. Each stands for its number in documents 01 and 02.
+#[derive(Clone, Copy, PartialEq, Eq)]
+pub enum Refusal {
+    WrongForm = 20,
+    UnsoundFile = 21,
+    UnsoundBook = 22,
+    ShortRoom = 23,
+}
+
+impl Refusal {
+    pub fn number(self) -> u8
+        ensures { result ≡ code_of self }
+    {
+        self as u8
+    }
 }
 
 // Where the sections of a file start, after the server and the tenants.
@@ -50,66 +59,45 @@ pub struct Places {
     pub holds: usize,
 }
 
-// What the form of octets is: a file's, with its places, or none.
-#[derive(Clone, Copy)]
-pub enum Layout {
-    Right(Places),
-    Wrong,
-}
-
-// Reads a state file: the book, or refusal 20 for a wrong form and then 21 for an unsound file.
-pub fn read(s: &[u8]) -> Loaded
+// Reads a state file: the book, or that its form is wrong and then that it is unsound.
+pub fn read(s: &[u8]) -> Result<Loaded, Refusal>
     ensures { result ≡ read_file s.now }
 {
-    let layout = form_of(s);
-    let Layout::Right(places) = layout else {
-        return refusal(20);
-    };
-    book_at(s, places)
+    book_at(s, form_of(s).ok_or(Refusal::WrongForm)?)
 }
 
-// What `read` refuses, without the book: 0, 20 or 21.
-pub fn check(s: &[u8]) -> u8
-    ensures { result ≡ (read_file s.now).refusal }
+// What `read` refuses, without the book.
+pub fn check(s: &[u8]) -> Result<(), Refusal>
+    ensures { refusal_number result ≡ refusal_number (read_file s.now) }
 {
-    let layout = form_of(s);
-    let Layout::Right(places) = layout else {
-        return 20;
-    };
-    refusal_at(s, places)
+    check_at(s, form_of(s).ok_or(Refusal::WrongForm)?)
 }
 
 // The names of a state file, as the part of it in which they stand; an empty part where its form is wrong. Whether the book is sound, `read` tells.
 pub fn names(file: &[u8]) -> &[u8]
     ensures { result.now ≡ names_of file.now }
 {
-    let layout = form_of(file);
-    let Layout::Right(places) = layout else {
+    let Some(places) = form_of(file) else {
         return &file[0..0];
     };
-    let from = places.names;
-    let end = places.releases;
-    &file[from..end]
+    &file[places.names..places.releases]
 }
 
-// Writes a book as a state file: its length, or refusal 22 for an unsound book or bad names and then 23 where the room is too short.
+// Writes a book as a state file: its length, or that the book is unsound or its names bad, and then that the room is too short.
 pub fn write(
     state: State,
     table: LeaseTable,
     memory: Memory,
     names: &[u8],
     room: &mut [u8],
-) -> Written
+) -> Result<usize, Refusal>
     ensures answer { result ≡ written_of (record { state = state; table = table; memory = memory; names = names.now }) (length room.old) }
     ensures octets { room.new ≡ room_after (record { state = state; table = table; memory = memory; names = names.now }) room.old }
 {
-    if sound_book(state, table, memory, names) {
-        return write_sound(state, table, memory, names, room);
+    if !sound_book(state, table, memory, names) {
+        return Err(Refusal::UnsoundBook);
     }
-    Written {
-        refusal: 22,
-        length: 0,
-    }
+    write_sound(state, table, memory, names, room)
 }
 
 // The same of a book that is known to be sound, with good names: it is not tested.
@@ -119,7 +107,7 @@ pub fn write_sound(
     memory: Memory,
     names: &[u8],
     room: &mut [u8],
-) -> Written
+) -> Result<usize, Refusal>
     requires { book_b (record { state = state; table = table; memory = memory; names = names.now }) ≡ true }
     ensures answer { result ≡ written_of (record { state = state; table = table; memory = memory; names = names.now }) (length room.old) }
     ensures octets { room.new ≡ room_after (record { state = state; table = table; memory = memory; names = names.now }) room.old }
@@ -127,42 +115,29 @@ pub fn write_sound(
     let filed = lease_file::in_file_order(table);
     let n = file_size(state, filed, memory, names);
     if room.len() < n {
-        return Written {
-            refusal: 23,
-            length: 0,
-        };
+        return Err(Refusal::ShortRoom);
     }
     put_file(room, state, filed, memory, names);
-    Written {
-        refusal: 0,
-        length: n,
-    }
+    Ok(n)
 }
 
 // Whether a book is sound, what it remembers and its board too, and its names are good.
 fn sound_book(state: State, table: LeaseTable, memory: Memory, names: &[u8]) -> bool
     ensures { result ≡ book_b (record { state = state; table = table; memory = memory; names = names.now }) }
 {
-    if soundness::sound(state, table) {
-        if releases::sound(state, table, memory) {
-            let board = memory.board;
-            if agreement::agrees(table, board) {
-                return names::good(names, state.scope_count, state.tenant_count);
-            }
-        }
-    }
-    false
+    soundness::sound(state, table)
+        && releases::sound(state, table, memory)
+        && agreement::agrees(table, memory.board)
+        && names::good(names, state.scope_count, state.tenant_count)
 }
 
 // A memory that is all zero.
 pub fn no_memory() -> Memory
     ensures { result ≡ zero_memory }
 {
-    let none = state::no_releases();
-    let board = occupancy::no_board();
     Memory {
-        releases: [none; 8],
-        board: board,
+        releases: [state::no_releases(); 8],
+        board: occupancy::no_board(),
     }
 }
 
@@ -170,23 +145,22 @@ pub fn no_memory() -> Memory
 pub fn no_ledger() -> Ledger
     ensures { result ≡ zero_ledger }
 {
-    let state = no_state();
-    let memory = no_memory();
-    Ledger { state, memory }
+    Ledger {
+        state: no_state(),
+        memory: no_memory(),
+    }
 }
 
 // A state that is all zero.
 pub fn no_state() -> State
     ensures { result ≡ zero_state }
 {
-    let range = zero_range();
-    let scope = state::no_scope();
     State {
         server: 0,
         clock: 0,
         tenant_count: 0,
-        tenants: [range; 8],
+        tenants: [zero_range(); 8],
         scope_count: 0,
-        scopes: [scope; 4],
+        scopes: [state::no_scope(); 4],
     }
 }

@@ -10,21 +10,14 @@ pub fn fits(s: &[u8], places: Places) -> bool
     requires { Formed s.now places }
     ensures { result ≡ fits_b (file_at s.now places) }
 {
-    let at = places.scopes;
-    if counts_fit(s[9], s[at]) {
-        if lease_file::fits(s, places.leases, places.holds) {
-            return release_file::fits(s, places.releases);
-        }
-    }
-    false
+    counts_fit(s[9], s[places.scopes])
+        && lease_file::fits(s, places.leases, places.holds)
+        && release_file::fits(s, places.releases)
 }
 
 // Whether they can hold so many tenants and scopes.
 pub fn counts_fit(tenants: u8, scopes: u8) -> bool
     ensures { result ≡ counts_fit tenants scopes }
 {
-    if 8 < tenants {
-        return false;
-    }
-    scopes <= 4
+    tenants <= 8 && scopes <= 4
 }

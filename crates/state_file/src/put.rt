@@ -49,7 +49,7 @@ fn put_range_section(buffer: &mut [u8], at: usize, state: State) -> usize
     requires { at + (1 + length (file_range_octets state)) ≤ length buffer.old }
     ensures { Wrote buffer.old at (length (ranges_of state) ∷ file_range_octets state) buffer.new result }
 {
-    let a = octets::put_u8(buffer, at, arithmetic::cut8(state.tenant_count) as u8);
+    let a = octets::put_u8(buffer, at, state.tenant_count.min(8));
     put_ranges(buffer, a, state)
 }
 
@@ -58,13 +58,10 @@ fn put_ranges(buffer: &mut [u8], at: usize, state: State) -> usize
     requires { at + length (file_range_octets state) ≤ length buffer.old }
     ensures { Wrote buffer.old at (file_range_octets state) buffer.new result }
 {
-    let n = arithmetic::cut8(state.tenant_count);
+    let n = usize::from(state.tenant_count).min(8);
     let mut to = at;
-    let mut i: usize = 0;
-    while i < n {
-        let r = state.tenants[i];
-        to = put_range(buffer, to, r);
-        i += 1;
+    for i in 0..n {
+        to = put_range(buffer, to, state.tenants[i]);
     }
     to
 }
@@ -81,7 +78,7 @@ fn put_scope_section(buffer: &mut [u8], at: usize, state: State) -> usize
     requires { at + (1 + length (file_scope_octets state)) ≤ length buffer.old }
     ensures { Wrote buffer.old at (length (scopes_of state) ∷ file_scope_octets state) buffer.new result }
 {
-    let a = octets::put_u8(buffer, at, arithmetic::cut4(state.scope_count) as u8);
+    let a = octets::put_u8(buffer, at, state.scope_count.min(4));
     put_scopes(buffer, a, state)
 }
 
@@ -90,13 +87,10 @@ fn put_scopes(buffer: &mut [u8], at: usize, state: State) -> usize
     requires { at + length (file_scope_octets state) ≤ length buffer.old }
     ensures { Wrote buffer.old at (file_scope_octets state) buffer.new result }
 {
-    let n = arithmetic::cut4(state.scope_count);
+    let n = usize::from(state.scope_count).min(4);
     let mut to = at;
-    let mut i: usize = 0;
-    while i < n {
-        let c = state.scopes[i];
-        to = put_scope(buffer, to, c, state.tenant_count);
-        i += 1;
+    for i in 0..n {
+        to = put_scope(buffer, to, state.scopes[i], state.tenant_count);
     }
     to
 }
@@ -117,12 +111,10 @@ fn put_parts(buffer: &mut [u8], at: usize, c: Scope, h: u8) -> usize
     requires { at + length (part_octets h c) ≤ length buffer.old }
     ensures { Wrote buffer.old at (part_octets h c) buffer.new result }
 {
-    let n = arithmetic::cut8(h);
+    let n = usize::from(h).min(8);
     let mut to = at;
-    let mut i: usize = 0;
-    while i < n {
+    for i in 0..n {
         to = put_part(buffer, to, c.reserve[i], c.limit[i]);
-        i += 1;
     }
     to
 }
@@ -139,5 +131,5 @@ fn put_number(buffer: &mut [u8], at: usize, v: u32) -> usize
     requires { at + 4 ≤ length buffer.old }
     ensures { Wrote buffer.old at (octets32 v) buffer.new result }
 {
-    octets::put_u32(buffer, at, v as u64)
+    octets::put_u32(buffer, at, u64::from(v))
 }

@@ -20,7 +20,7 @@ pub fn file_size(state: State, table: LeaseTable, memory: Memory, names: &[u8]) 
 fn sections_size(state: State, table: LeaseTable) -> usize
     ensures { (result ≡ length (section_octets state table)) × (result ≤ 15140) }
 {
-    11 + arithmetic::cut8(state.tenant_count) * 8
+    11 + usize::from(state.tenant_count).min(8) * 8
         + scopes_length(state)
         + lease_file::size(table, false)
 }
@@ -28,13 +28,10 @@ fn sections_size(state: State, table: LeaseTable) -> usize
 fn scopes_length(state: State) -> usize
     ensures { (result ≡ length (file_scope_octets state)) × (result ≤ 88) }
 {
-    let n = arithmetic::cut4(state.scope_count);
+    let n = usize::from(state.scope_count).min(4);
     let mut sum: usize = 0;
-    let mut i: usize = 0;
-    while i < n {
-        let c = state.scopes[i];
-        sum += scope_size(c, state.tenant_count);
-        i += 1;
+    for i in 0..n {
+        sum += scope_size(state.scopes[i], state.tenant_count);
     }
     sum
 }
@@ -42,5 +39,5 @@ fn scopes_length(state: State) -> usize
 fn scope_size(c: Scope, h: u8) -> usize
     ensures { (result ≡ length ((scope_format h).write (filed_scope h c))) × (result ≤ 22) }
 {
-    6 + arithmetic::cut8(h) * 2
+    6 + usize::from(h).min(8) * 2
 }

@@ -6,15 +6,15 @@ mod settings;
 mod sums;
 mod text;
 
-ghost use Rattle.std.specs.Prelude.{◌≡◌};
-ghost use Rattle.usage.specs.Report.{begun, capped_sum, first_count, length_in, next_of, room_with, total_in, with_file};
-ghost use Rattle.usage.specs.Usage.{number_of, refused_text, report_text};
+ghost use Rattle.std.specs.Prelude.{Ok, ◌≡◌};
+ghost use Rattle.usage.specs.Report.{begun, capped_sum, length_in, next_of, no_report, number_told, room_with, told_after, total_in, with_file};
+ghost use Rattle.usage.specs.Usage.{follows, refused_text, report_text};
 
 use crate::settings::same_settings;
 use crate::sums::{added, capped, no_totals};
 use crate::text::{put_refused, put_report};
 use state::{LeaseTable, State};
-use state_file::Loaded;
+use state_file::{Loaded, Refusal};
 
 // How many files a report may take.
 pub const MOST_FILES: usize = 1000;
@@ -44,88 +44,71 @@ pub struct Report {
     pub totals: Totals,
 }
 
-// What a file gives: refusal 0 and the report with it, or the number of a refusal and the report before it.
-#[derive(Clone, Copy)]
-pub struct Step {
-    pub refusal: u8,
-    pub report: Report,
+// Why a file is not taken: the reader refuses it, or its settings or its clock do not follow those before.
+#[derive(Clone, Copy, PartialEq, Eq)]
+pub enum FileRefusal {
+    Unread(Refusal),
+    OutOfOrder,
+}
+
+impl FileRefusal {
+    pub fn number(self) -> u8
+        ensures { result ≡ number_told self }
+    {
+        match self {
+            FileRefusal::Unread(e) => e.number(),
+            FileRefusal::OutOfOrder => 26,
+        }
+    }
 }
 
 // The first file.
-pub fn begin(file: Loaded) -> Step
-    ensures { result ≡ begun file }
+pub fn begin(file: Result<Loaded, Refusal>) -> Result<Report, FileRefusal>
+    ensures { told_after no_report result ≡ begun file }
 {
-    let state = file.state;
-    let table = file.table;
-    let refusal = file.refusal;
-    Step {
-        refusal,
-        report: Report {
-            count: first_count(refusal),
-            first: state,
-            clock: state.clock,
-            table,
+    match file {
+        Ok(file) => Ok(Report {
+            count: 1,
+            first: file.state,
+            clock: file.state.clock,
+            table: file.table,
             totals: no_totals(),
-        },
+        }),
+        Err(e) => Err(FileRefusal::Unread(e)),
     }
-}
-
-// How many files are accepted after the first.
-fn first_count(refusal: u8) -> u64
-    ensures { result ≡ first_count refusal }
-{
-    if refusal == 0 {
-        return 1;
-    }
-    0
 }
 
 // One file more.
-pub fn next(report: Report, file: Loaded) -> Step
-    ensures { result ≡ next_of report file }
+pub fn next(report: Report, file: Result<Loaded, Refusal>) -> Result<Report, FileRefusal>
+    ensures { told_after report result ≡ next_of report file }
 {
-    let first = report.first;
-    let refusal = number_after(first, report.clock, file);
-    if refusal == 0 {
-        return Step {
-            refusal: 0,
-            report: with_file(report, file),
-        };
+    match file {
+        Ok(file) => {
+            if follows(report.first, report.clock, file) {
+                return Ok(with_file(report, file));
+            }
+            Err(FileRefusal::OutOfOrder)
+        }
+        Err(e) => Err(FileRefusal::Unread(e)),
     }
-    Step { refusal, report }
 }
 
-// The number that draws a file after the first, or 0.
-fn number_after(first: State, clock: u32, file: Loaded) -> u8
-    ensures { result ≡ number_of first clock file }
+// Whether a file may follow: its settings are the first one's, and its clock is later than the one before.
+fn follows(first: State, clock: u32, file: Loaded) -> bool
+    ensures { result ≡ follows first clock (Ok file) }
 {
-    let refusal = file.refusal;
-    if refusal == 0 {
-        let state = file.state;
-        if same_settings(first, state) {
-            if clock < state.clock {
-                return 0;
-            }
-        }
-        return 26;
-    }
-    refusal
+    same_settings(first, file.state) && clock < file.state.clock
 }
 
 fn with_file(report: Report, file: Loaded) -> Report
     ensures { result ≡ with_file report file }
 {
-    let first = report.first;
-    let before = report.table;
-    let totals = report.totals;
-    let state = file.state;
-    let table = file.table;
     Report {
         count: place_after(report),
-        first,
-        clock: state.clock,
-        table,
-        totals: added(totals, before, report.clock, state.clock),
+        first: report.first,
+        clock: file.state.clock,
+        table: file.table,
+        totals: added(report.totals, report.table, report.clock, file.state.clock),
     }
 }
 
@@ -144,9 +127,7 @@ pub fn write_report(report: Report, room: &mut [u8]) -> usize
     if room.len() < TEXT_LIMIT {
         return 0;
     }
-    let state = report.first;
-    let totals = report.totals;
-    put_report(room, state, totals)
+    put_report(room, report.first, report.totals)
 }
 
 // The same for the number of a refusal and the place of the file.

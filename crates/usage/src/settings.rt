@@ -1,43 +1,24 @@
 // Whether two files have the same settings.
-ghost use Rattle.std.specs.Prelude.{◌≡◌, eqb};
+ghost use Rattle.std.specs.Prelude.{◌≡◌};
 ghost use Rattle.lists.specs.Same.{same_by};
 ghost use Rattle.usage.specs.Usage.{same_counts, same_pool, same_range, same_scope, same_settings};
 
 use state::{ClientRange, Scope, State};
 
+// Stays: `==` derived on the structs was tried, on their arrays, and the proof didn't close.
 fn same_range(a: ClientRange, b: ClientRange) -> bool
     ensures { result ≡ same_range a b }
 {
-    if a.low == b.low {
-        return a.high == b.high;
-    }
-    false
+    a.low == b.low && a.high == b.high
 }
 
 fn same_ranges(a: State, b: State) -> bool
     ensures { result ≡ same_by same_range a.tenants b.tenants }
 {
-    let mut i: usize = 0;
-    while i < 8 {
-        let x = a.tenants[i];
-        let y = b.tenants[i];
-        i += 1;
-        if !same_range(x, y) {
+    for i in 0..8 {
+        if !same_range(a.tenants[i], b.tenants[i]) {
             return false;
         }
-    }
-    true
-}
-
-fn same_octets(a: [u8; 8], b: [u8; 8]) -> bool
-    ensures { result ≡ same_by eqb a b }
-{
-    let mut i: usize = 0;
-    while i < 8 {
-        if a[i] != b[i] {
-            return false;
-        }
-        i += 1;
     }
     true
 }
@@ -46,38 +27,20 @@ fn same_octets(a: [u8; 8], b: [u8; 8]) -> bool
 fn same_pool(a: Scope, b: Scope) -> bool
     ensures { result ≡ same_pool a b }
 {
-    if a.lowest == b.lowest {
-        if a.size == b.size {
-            return a.ttl == b.ttl;
-        }
-    }
-    false
+    a.lowest == b.lowest && (a.size == b.size && a.ttl == b.ttl)
 }
 
 fn same_scope(a: Scope, b: Scope) -> bool
     ensures { result ≡ same_scope a b }
 {
-    if same_pool(a, b) {
-        let x = a.reserve;
-        let y = b.reserve;
-        if same_octets(x, y) {
-            let v = a.limit;
-            let w = b.limit;
-            return same_octets(v, w);
-        }
-    }
-    false
+    same_pool(a, b) && (a.reserve == b.reserve && a.limit == b.limit)
 }
 
 fn same_scopes(a: State, b: State) -> bool
     ensures { result ≡ same_by same_scope a.scopes b.scopes }
 {
-    let mut k: usize = 0;
-    while k < 4 {
-        let x = a.scopes[k];
-        let y = b.scopes[k];
-        k += 1;
-        if !same_scope(x, y) {
+    for k in 0..4 {
+        if !same_scope(a.scopes[k], b.scopes[k]) {
             return false;
         }
     }
@@ -88,21 +51,11 @@ fn same_scopes(a: State, b: State) -> bool
 fn same_counts(a: State, b: State) -> bool
     ensures { result ≡ same_counts a b }
 {
-    if a.server == b.server {
-        if a.tenant_count == b.tenant_count {
-            return a.scope_count == b.scope_count;
-        }
-    }
-    false
+    a.server == b.server && (a.tenant_count == b.tenant_count && a.scope_count == b.scope_count)
 }
 
 pub fn same_settings(a: State, b: State) -> bool
     ensures { result ≡ same_settings a b }
 {
-    if same_counts(a, b) {
-        if same_ranges(a, b) {
-            return same_scopes(a, b);
-        }
-    }
-    false
+    same_counts(a, b) && (same_ranges(a, b) && same_scopes(a, b))
 }

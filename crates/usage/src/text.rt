@@ -20,8 +20,13 @@ fn put_tenant(
     ensures { Line buffer.old at (total_line state (total_in totals) k g) buffer.new result 58 }
 {
     let c = state::scope_at(state, k);
-    let v = totals.scopes[k];
-    put_line(buffer, at, c.lowest, (g + 1) as u64, v.tenants[g])
+    put_line(
+        buffer,
+        at,
+        c.lowest,
+        (g + 1) as u64,
+        totals.scopes[k].tenants[g],
+    )
 }
 
 fn put_line(buffer: &mut [u8], at: usize, a: u32, g: u64, total: u64) -> usize
@@ -38,12 +43,9 @@ fn put_scope(buffer: &mut [u8], at: usize, state: State, totals: Totals, k: usiz
     requires { (at + 464 ≤ length buffer.old) × (k < 4) }
     ensures { Line buffer.old at (scope_lines state (total_in totals) k) buffer.new result 464 }
 {
-    let n = arithmetic::cut8(state.tenant_count);
     let mut to = at;
-    let mut g: usize = 0;
-    while g < n {
+    for g in 0..usize::from(state.tenant_count).min(8) {
         to = put_tenant(buffer, to, state, totals, k, g);
-        g += 1;
     }
     to
 }
@@ -52,12 +54,9 @@ fn put_scopes(buffer: &mut [u8], at: usize, state: State, totals: Totals) -> usi
     requires { at + 1856 ≤ length buffer.old }
     ensures { Line buffer.old at (total_lines state (total_in totals)) buffer.new result 1856 }
 {
-    let n = arithmetic::cut4(state.scope_count);
     let mut to = at;
-    let mut k: usize = 0;
-    while k < n {
+    for k in 0..usize::from(state.scope_count).min(4) {
         to = put_scope(buffer, to, state, totals, k);
-        k += 1;
     }
     to
 }
@@ -75,7 +74,7 @@ pub fn put_refused(buffer: &mut [u8], n: u8, place: u64) -> usize
     ensures { Wrote buffer.old 0 (refused_text n place) buffer.new result }
 {
     let a = octets::put_run(buffer, 0, b"refused", 7);
-    let b = number_text::put_field(buffer, a, n as u64);
+    let b = number_text::put_field(buffer, a, u64::from(n));
     let c = number_text::put_field(buffer, b, place);
     number_text::put_char(buffer, c, 10)
 }

@@ -1,5 +1,5 @@
 -- Laws: what is answered.
-use Rattle.std.specs.Prelude.{Bool, ◌||◌, refl, ◌-◌, ◌<◌, ◌≤◌, ℕ, drop, take}
+use Rattle.std.specs.Prelude.{Bool, ◌||◌, refl, ◌-◌, ◌<◌, ◌≤◌, ℕ, drop, take, Option, Some, None, Result, Ok, Err}
 use Rattle.std.proofs.Math.Bool.{false, true}
 use mathlib.Core.List.{List}
 use Rattle.std.proofs.Common.{◌∙◌, le-ltb, lt-ltb}
@@ -19,23 +19,25 @@ use Rattle.state_file.specs.File.{File, file_of}
 use Rattle.state_file.specs.Place.{Formed, FormedBy, file_at}
 use Rattle.state_file.specs.Records.{filed_book, stored_state}
 use Rattle.state_file.specs.StateFile.{octets_as, octets_of}
-use Rattle.state_file.specs.declared.Layout.{Layout}
-use Rattle.state_file.specs.declared.Layout.TheVariants.{Right, Wrong}
 use Rattle.state_file.specs.declared.Places.{Places}
 use Rattle.salvage_walk.specs.declared.Kept.{Kept}
+use Rattle.salvage_file.specs.declared.Refusal.{Refusal}
+use Rattle.salvage_file.specs.declared.Refusal.TheVariants.{WrongForm, ShortRoom, UnsoundSettings}
 use Rattle.salvage_file.specs.declared.Salvaged.{Salvaged}
 use Rattle.salvage_list.specs.List.{dropped_in, dropped_list}
 use Rattle.salvage_list.specs.laws.List.{marked_dropped}
 use Rattle.salvage_walk.specs.Walk.{WalksFile, hold_rules, lease_rules, records_kept, release_rules, releases_kept, settings_sound}
 use Rattle.salvage_file.specs.Salvage.{Salvage, dropped_of, kept_book, kept_file, refusing, salvage_file, salvage_got, salvage_of}
-use Rattle.salvage_file.specs.Walk.{Salvages}
+use Rattle.salvage_file.specs.Walk.{Answers, number_of}
 
 -- ---- the answer
 -- a refusal writes nothing
-pub refused_as : {a : Salvage} (n : ℕ) (room list : List ℕ) (r : Salvaged) → refusing n ≡ a → r ≡ record { refusal = n; length = 0; listed = 0 } → Salvages a room list room list r
-refused_as n room list r ea er =
-    subst (λ (x : Salvage). Salvages x room list room list r) ea
-    (subst (λ (x : Salvaged). Salvages (refusing n) room list room list x) (sym er) (record { refusal = refl; long = refl; listed = refl; file = refl; dropped = refl }))
+pub refused_as : {a : Salvage} (e : Refusal) (room list : List ℕ) (r : Result Salvaged Refusal) → refusing (number_of e) ≡ a → r ≡ Err e → Answers a room list room list r
+unfolding Answers
+refused_as e room list r ea er =
+    subst (λ (x : Salvage). Answers x room list room list r) ea
+    (subst (λ (x : Result Salvaged Refusal). Answers (refusing (number_of e)) room list room list x) (sym er)
+    (record { refusal = refl; long = refl; listed = refl; file = refl; dropped = refl }))
 
 module _ {f : File} {k : Kept} (w : WalksFile f k) where
   listed_as : dropped_list (dropped_in k.leases k.holds k.releases) ≡ dropped_list (dropped_of f)
@@ -73,19 +75,19 @@ module _ {f : File} {k : Kept} (w : WalksFile f k) where
         (sym ey ∙ ap (ltb (length room)) file_long) (sym ez ∙ ap (ltb (length list)) list_many)
         ∙ sym (ap (λ (b : Bool). pick b (pick (ltb (length room) (length (kept_file f)) || ltb (length list) (length (dropped_list (dropped_of f)))) (refusing 23) (record { refusal = 0; file = kept_file f; list = dropped_list (dropped_of f) })) (refusing 25)) sound)
 
-    pub room_short : (r : Salvaged) → length room < n → r ≡ record { refusal = 23; length = 0; listed = 0 } → Salvages (salvage_file f (length room) (length list)) room list room list r
+    pub room_short : (r : Result Salvaged Refusal) → length room < n → r ≡ Err ShortRoom → Answers (salvage_file f (length room) (length list)) room list room list r
     unfolding pick
-    room_short r h er = refused_as 23 room list r (rooms_open true (ltb (length list) m) (lt-ltb _ _ h) refl) er
+    room_short r h er = refused_as ShortRoom room list r (rooms_open true (ltb (length list) m) (lt-ltb _ _ h) refl) er
 
-    pub list_short : (r : Salvaged) → n ≤ length room → length list < m → r ≡ record { refusal = 23; length = 0; listed = 0 } → Salvages (salvage_file f (length room) (length list)) room list room list r
+    pub list_short : (r : Result Salvaged Refusal) → n ≤ length room → length list < m → r ≡ Err ShortRoom → Answers (salvage_file f (length room) (length list)) room list room list r
     unfolding pick
-    list_short r h g er = refused_as 23 room list r (rooms_open false true (le-ltb _ _ h) (lt-ltb _ _ g)) er
+    list_short r h g er = refused_as ShortRoom room list r (rooms_open false true (le-ltb _ _ h) (lt-ltb _ _ g)) er
 
     pub both_written : (room' list' : List ℕ) (x y : ℕ) → n ≤ length room → m ≤ length list → Wrote room 0 (As t names) room' x → Wrote list 0 (dropped_list (dropped_in k.leases k.holds k.releases)) list' y
-        → Salvages (salvage_file f (length room) (length list)) room list room' list' (record { refusal = 0; length = n; listed = m })
-    unfolding pick
+        → Answers (salvage_file f (length room) (length list)) room list room' list' (Ok (record { length = n; listed = m }))
+    unfolding pick Answers
     both_written room' list' x y h g p q =
-        subst (λ (a : Salvage). Salvages a room list room' list' (record { refusal = 0; length = n; listed = m })) (rooms_open false false (le-ltb _ _ h) (le-ltb _ _ g))
+        subst (λ (a : Salvage). Answers a room list room' list' (Ok (record { length = n; listed = m }))) (rooms_open false false (le-ltb _ _ h) (le-ltb _ _ g))
         (record { refusal = refl; long = file_long; listed = list_many; file = wrote_whole (wrote_as (filed_as_law t names et en) p); dropped = wrote_whole (wrote_as listed_as q) })
 
 pub names_part : (s : List ℕ) (p : Places) → take (p.releases - p.names) (drop p.names s) ≡ (file_at s p).names
@@ -93,25 +95,26 @@ unfolding file_at
 names_part s p = refl
 
 -- ---- the form
-module _ (s : List ℕ) {l : Layout} (v : FormedBy s l) where
-  pub layout_formed : {p : Places} → l ≡ Right p → Formed s p
+module _ (s : List ℕ) {l : Option Places} (v : FormedBy s l) where
+  pub layout_formed : {p : Places} → l ≡ Some p → Formed s p
   unfolding FormedBy
-  layout_formed e = subst (λ (x : Layout). FormedBy s x) e v
+  layout_formed e = subst (λ (x : Option Places). FormedBy s x) e v
 
-  pub layout_wrong : (n m : ℕ) → l ≡ Wrong → refusing 20 ≡ salvage_of s n m
+  pub layout_wrong : (n m : ℕ) (e : Refusal) → l ≡ None → e ≡ WrongForm → refusing (number_of e) ≡ salvage_of s n m
   unfolding FormedBy salvage_of salvage_got
-  layout_wrong n m e = let q : file_of s ≡ bad = subst (λ (x : Layout). FormedBy s x) e v in sym (ap (λ (g : Got File). salvage_got g n m) q)
+  layout_wrong n m e h w =
+      let q : file_of s ≡ bad = subst (λ (x : Option Places). FormedBy s x) h v in ap (λ (x : Refusal). refusing (number_of x)) w ∙ sym (ap (λ (g : Got File). salvage_got g n m) q)
 
 pub file_salvaged : {s : List ℕ} {p : Places} → Formed s p → (n m : ℕ) → salvage_file (file_at s p) n m ≡ salvage_of s n m
 unfolding salvage_of salvage_got
 file_salvaged v n m = sym (ap (λ (g : Got File). salvage_got g n m) v.file)
 
-pub settings_refused : {s : List ℕ} {p : Places} {q : Bool} → Formed s p → (n m : ℕ) → q ≡ settings_sound (file_at s p) → q ≡ false → refusing 25 ≡ salvage_of s n m
+pub settings_refused : {s : List ℕ} {p : Places} {q : Bool} → Formed s p → (n m : ℕ) → q ≡ settings_sound (file_at s p) → q ≡ false → refusing (number_of UnsoundSettings) ≡ salvage_of s n m
 unfolding salvage_file pick
 settings_refused {s} {p} v n m e y =
     sym (ap (λ (b : Bool). pick b (pick (ltb n (length (kept_file (file_at s p))) || ltb m (length (dropped_list (dropped_of (file_at s p))))) (refusing 23) (record { refusal = 0; file = kept_file (file_at s p); list = dropped_list (dropped_of (file_at s p)) })) (refusing 25)) (sym e ∙ y))
     ∙ file_salvaged v n m
 
-pub salvaged_as : {s : List ℕ} {p : Places} {room list room' list' : List ℕ} {r : Salvaged} → Formed s p → Salvages (salvage_file (file_at s p) (length room) (length list)) room list room' list' r
-    → Salvages (salvage_of s (length room) (length list)) room list room' list' r
-salvaged_as {s} {p} {room} {list} {room'} {list'} {r} v w = subst (λ (a : Salvage). Salvages a room list room' list' r) (file_salvaged v (length room) (length list)) w
+pub salvaged_as : {s : List ℕ} {p : Places} (room list room' list' : List ℕ) (r : Result Salvaged Refusal) → Formed s p → Answers (salvage_file (file_at s p) (length room) (length list)) room list room' list' r
+    → Answers (salvage_of s (length room) (length list)) room list room' list' r
+salvaged_as {s} {p} room list room' list' r v w = subst (λ (a : Salvage). Answers a room list room' list' r) (file_salvaged v (length room) (length list)) w

@@ -1,9 +1,5 @@
-use Prim.Native.Nat.{◌-◌}
 use Rattle.salvage_list.specs.laws.List.{DroppedInv}
 use Rattle.salvage_list.proofs.put_dropped.Given as goal
 
 abbrev pub invariant-loop-i : goal.invariant-loop-i
 invariant-loop-i l = DroppedInv l.kind l.rules l.initial.list l.at l.list l.to l.i
-
-abbrev pub decreases-loop-i : goal.decreases-loop-i
-decreases-loop-i l = 255 - l.i

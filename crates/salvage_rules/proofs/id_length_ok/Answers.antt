@@ -1,10 +1,10 @@
 -- `id_length_ok` meets its contract: by `id_short`, `id_long`.
+use Rattle.std.proofs.Common.{rules}
 use Rattle.salvage_rules.specs.laws.Rules.{id_long, id_short}
-use borrow.Author.Rules.{rules}
 use Rattle.salvage_rules.proofs.id_length_ok.Goals as goal
 
-pub returns-then-n-lt2 : goal.returns-then-n-lt2
-returns-then-n-lt2 c = search (id_short, rules)
+pub returns-then-n-ge2 : goal.returns-then-n-ge2
+returns-then-n-ge2 c = search (id_long, rules)
 
-pub returns : goal.returns
-returns c = search (id_long, rules)
+pub returns-else-n-ge2 : goal.returns-else-n-ge2
+returns-else-n-ge2 c = search (id_short, rules)

@@ -8,8 +8,8 @@ use Rattle.salvage_rules.proofs.limits_kept.Goals as goal
 pub returns-then-not-id_length_ok : goal.returns-then-not-id_length_ok
 returns-then-not-id_length_ok c = search (limits_bad, not-true, rules)
 
-pub tenant_place-h-requires : goal.tenant_place-h-requires
-tenant_place-h-requires c = search (tenant_from_law, tenant_to, not-true, rules)
+pub tenant_place-requires : goal.tenant_place-requires
+tenant_place-requires c = search (tenant_from_law, tenant_to, not-true, rules)
 
 pub returns-then-tenant_known : goal.returns-then-tenant_known
 returns-then-tenant_known c = search (limits_known, unmapped, not-false, rules)

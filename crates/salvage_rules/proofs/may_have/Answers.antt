@@ -1,10 +1,10 @@
 -- `may_have` meets its contract: by `may_hold`, `may_lease`.
+use Rattle.std.proofs.Common.{rules}
 use Rattle.salvage_rules.specs.laws.Rules.{may_hold, may_lease}
-use borrow.Author.Rules.{rules}
 use Rattle.salvage_rules.proofs.may_have.Goals as goal
 
 pub returns-then-holds : goal.returns-then-holds
-returns-then-holds c = search (may_hold, may_lease, rules)
+returns-then-holds c = search (may_hold, rules)
 
-pub returns : goal.returns
-returns c = search (may_lease, rules)
+pub returns-else-holds : goal.returns-else-holds
+returns-else-holds c = search (may_lease, rules)

@@ -206,10 +206,10 @@ module _ (holds : Bool) (s : List ℕ) (at : ℕ) (st : State) {q : Bool} (eq : 
     unfolding names_known file_lease_at
     named_nowhere e f = sym (ap₂ (λ (y z : Bool). y && (z && typed_in holds s at)) (sym eq ∙ e) (sym ep ∙ f))
 
-    pub named_there : (n : ℕ) (r : Bool) → q ≡ true → p ≡ true → n ≡ get_or s (at + 2) 0 → r ≡ pick holds true (not (eqb (get_or s (at + (n + 3)) 0) 1)) → r ≡ names_known st (file_lease_at s at) (typed_in holds s at)
+    pub named_there : (k : ℕ) (r : Bool) → q ≡ true → p ≡ true → k ≡ (file_lease_at s at).kind → r ≡ pick holds true (not (eqb k 1)) → r ≡ names_known st (file_lease_at s at) (typed_in holds s at)
     unfolding names_known file_lease_at
-    named_there n r e f en er =
-        er ∙ ap (λ (z : ℕ). pick holds true (not (eqb (get_or s (at + (z + 3)) 0) 1))) en
+    named_there k r e f ek er =
+        er ∙ ap (λ (z : ℕ). pick holds true (not (eqb z 1))) ek
         ∙ sym (ap₂ (λ (y z : Bool). y && (z && typed_in holds s at)) (sym eq ∙ e) (sym ep ∙ f))
 
 pub kind_octet : (s : List ℕ) (at n : ℕ) → n ≡ get_or s (at + 2) 0 → get_or s (at + (n + 3)) 0 ≡ (file_lease_at s at).kind

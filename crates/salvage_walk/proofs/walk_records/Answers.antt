@@ -3,9 +3,6 @@ use Rattle.salvage_walk.proofs.Steps.{record_walk}
 use borrow.Author.Rules.{rules}
 use Rattle.salvage_walk.proofs.walk_records.Goals as goal
 
-pub wide-count-requires : goal.wide-count-requires
-wide-count-requires c = search (record_walk, rules)
-
 pub loop-i-init : goal.loop-i-init
 loop-i-init c = search (record_walk, rules)
 

@@ -3,9 +3,6 @@ use Rattle.salvage_walk.proofs.Steps.{release_walk}
 use borrow.Author.Rules.{rules}
 use Rattle.salvage_walk.proofs.walk_releases.Goals as goal
 
-pub wide-count-requires : goal.wide-count-requires
-wide-count-requires c = search (release_walk, rules)
-
 pub loop-i-init : goal.loop-i-init
 loop-i-init c = search (release_walk, rules)
 

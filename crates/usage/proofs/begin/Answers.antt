@@ -1,7 +1,10 @@
--- `begin` meets its contract: by `begun_is`.
-use Rattle.usage.specs.laws.Steps.{begun_is}
-use borrow.Author.Rules.{rules}
+-- `begin` meets its contract: by `begun_ok`, `begun_err`.
+use Rattle.std.proofs.Common.{rules}
+use Rattle.usage.specs.laws.Steps.{begun_err, begun_ok}
 use Rattle.usage.proofs.begin.Goals as goal
 
-pub returns : goal.returns
-returns c = search (begun_is, rules)
+pub returns-in-Ok : goal.returns-in-Ok
+returns-in-Ok c = search (begun_ok, rules)
+
+pub returns-in-Err : goal.returns-in-Err
+returns-in-Err c = search (begun_err, rules)

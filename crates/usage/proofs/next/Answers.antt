@@ -1,10 +1,13 @@
--- `next` meets its contract: one test.
-use Rattle.usage.specs.laws.Steps.{next_accepted, next_refused}
-use borrow.Author.Rules.{rules}
+-- `next` meets its contract: by `next_ok`, `next_late`, `next_err`.
+use Rattle.std.proofs.Common.{rules}
+use Rattle.usage.specs.laws.Steps.{next_err, next_late, next_ok}
 use Rattle.usage.proofs.next.Goals as goal
 
-pub returns-then-refusal-eq0 : goal.returns-then-refusal-eq0
-returns-then-refusal-eq0 c = search (next_accepted, rules)
+pub returns-then-follows : goal.returns-then-follows
+returns-then-follows c = search (next_ok, rules)
 
-pub returns : goal.returns
-returns c = search (next_refused, rules)
+pub returns-else-follows : goal.returns-else-follows
+returns-else-follows c = search (next_late, rules)
+
+pub returns-in-Err : goal.returns-in-Err
+returns-in-Err c = search (next_err, rules)

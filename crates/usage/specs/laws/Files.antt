@@ -1,6 +1,7 @@
 -- Laws: the report on files named by their octets: each total is at most the limit times the time, and what is printed is exact.
 use Rattle.std.specs.Prelude.{ℕ, ◌*◌, ◌≤◌, ◌<◌, ◌≡◌, refl, Bool, true, false, ◌&&◌, List, [], ◌∷◌, map, leb, length}
-use Rattle.std.proofs.Common.{arith}
+use Rattle.std.proofs.Common.{Err, arith}
+use Rattle.state_file.specs.declared.Refusal.TheVariants.{UnsoundFile}
 use Rattle.lists.specs.Pick.{pick}
 use Rattle.lists.specs.All.{All}
 use Rattle.lists.specs.laws.Both.{and_parts}
@@ -15,7 +16,7 @@ use Rattle.state.specs.declared.State.{State}
 use Rattle.state.specs.Book.{limit_at, scope_at}
 use Rattle.state_file.specs.File.{File, file_format, file_limit, file_of}
 use Rattle.state_file.specs.Records.{fits_b, stored_state, stored_table}
-use Rattle.state_file.specs.StateFile.{accepted, judged, loaded, loaded_got, read_file, refused, with_board}
+use Rattle.state_file.specs.StateFile.{accepted, book_in, code_of, judged, loaded, loaded_got, read_file, refusal_number, with_board}
 use Rattle.state_file.specs.laws.File.{file_lawful}
 use Rattle.usage.specs.Usage.{clock_of, last_clock, printed_of, refusal_of, settings_of, time_of, total_of}
 use Rattle.usage.specs.Report.{walked_text}
@@ -24,18 +25,18 @@ use Rattle.usage.specs.laws.Exact.{printed_is}
 
 -- ---- what the reader accepts is sound
 judged_sound : (s : State) (b : LeaseTable) (m : Memory) → SoundFile (judged s b m)
-unfolding judged accepted refused pick
+unfolding judged accepted pick book_in refusal_number code_of
 judged_sound s b m = go (sound_b s b && memory_b s b m) refl
   where
-    go : (t : Bool) → (sound_b s b && memory_b s b m) ≡ t → SoundFile (pick t (accepted s b (with_board b m)) (refused 21))
+    go : (t : Bool) → (sound_b s b && memory_b s b m) ≡ t → SoundFile (pick t (accepted s b (with_board b m)) (Err UnsoundFile))
     go true e = λ z. (and_parts (sound_b s b) (memory_b s b m) e).0
     go false e = λ z. absurd (omega arith)
 
 pub read_sound : (s : List ℕ) → SoundFile (read_file s)
-unfolding read_file loaded_got loaded refused pick
+unfolding read_file loaded_got loaded pick refusal_number code_of
 read_sound s = go (file_of s)
   where
-    fit : (t : Bool) (f : File) → SoundFile (pick t (judged (stored_state f) (stored_table f) (stored_memory f.releases)) (refused 21))
+    fit : (t : Bool) (f : File) → SoundFile (pick t (judged (stored_state f) (stored_table f) (stored_memory f.releases)) (Err UnsoundFile))
     fit true f = judged_sound (stored_state f) (stored_table f) (stored_memory f.releases)
     fit false f = λ z. absurd (omega arith)
 
@@ -53,10 +54,10 @@ read_ok s f r o e = go (leb (length s) file_limit) e
     go false e = let z : ◌≡◌ {A = ℕ} 0 1 = cc in absurd (omega arith)
 
 pub read_clock : (s : List ℕ) → Octets s → clock_of (read_file s) < 4294967296
-unfolding read_file loaded_got loaded judged accepted refused stored_state pick
+unfolding read_file loaded_got loaded judged accepted stored_state pick book_in
 read_clock s o = go (file_of s) refl
   where
-    within : (t u : Bool) (f : File) → f.clock < 4294967296 → clock_of (pick t (pick u (accepted (stored_state f) (stored_table f) (with_board (stored_table f) (stored_memory f.releases))) (refused 21)) (refused 21)) < 4294967296
+    within : (t u : Bool) (f : File) → f.clock < 4294967296 → clock_of (pick t (pick u (accepted (stored_state f) (stored_table f) (with_board (stored_table f) (stored_memory f.releases))) (Err UnsoundFile)) (Err UnsoundFile)) < 4294967296
     within true true f h = h
     within true false f h = omega arith
     within false u f h = omega arith

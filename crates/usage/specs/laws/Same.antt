@@ -1,5 +1,6 @@
 -- Laws: settings that are found the same are the same, but for the clock.
-use Rattle.std.specs.Prelude.{ℕ, ◌≡◌, true, ◌&&◌, List, eqb}
+use Rattle.std.specs.Prelude.{Bool, ℕ, ◌≡◌, refl, true, ◌&&◌, List, [], ◌∷◌, eqb}
+use Rattle.std.specs.Cmp.Lexicographic.{pointwise}
 use Rattle.std.proofs.Common.{sym, ap, ap₂, ◌∙◌, eqb-true}
 use Rattle.lists.specs.Same.{same_by}
 use Rattle.lists.specs.laws.Both.{and_parts}
@@ -9,6 +10,14 @@ use Rattle.state.specs.declared.Scope.{Scope}
 use Rattle.state.specs.declared.State.{State}
 use Rattle.state.specs.Book.{with_clock}
 use Rattle.usage.specs.Usage.{same_counts, same_pool, same_range, same_scope, same_settings}
+
+-- std's test of two lists, and the definition's
+pub numbers_told : (x y : List ℕ) → pointwise eqb x y ≡ same_by eqb x y
+unfolding same_by
+numbers_told [] [] = refl
+numbers_told [] (b ∷ y) = refl
+numbers_told (a ∷ x) [] = refl
+numbers_told (a ∷ x) (b ∷ y) = ap (λ (p : Bool). eqb a b && p) (numbers_told x y)
 
 range_is : (a b : ClientRange) → same_range a b ≡ true → a ≡ b
 unfolding same_range

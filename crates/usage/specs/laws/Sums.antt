@@ -1,5 +1,5 @@
 -- Laws: sums that stop at the largest u64, and the loops that add to the totals.
-use Rattle.std.specs.Prelude.{ℕ, ◌+◌, ◌-◌, ◌*◌, ◌≤◌, ◌<◌, min, max, ◌≡◌, Bool, true, false, not, ◌&&◌, eqb, get_or, length, set}
+use Rattle.std.specs.Prelude.{ℕ, ◌+◌, ◌-◌, ◌*◌, ◌≤◌, ◌<◌, min, max, ◌≡◌, Bool, true, false, not, ◌&&◌, eqb, get_or, length, set, take}
 use Rattle.std.proofs.Math.Path.{sym, ap, ap₂}
 use Rattle.std.proofs.Common.{◌∙◌, arith, mul-le-mul}
 use mathlib.Core.List.{List, [], ◌∷◌, map}
@@ -8,7 +8,7 @@ use Rattle.std.proofs.Math.Seq.{take_all}
 use Rattle.lists.specs.Pick.{pick}
 use Rattle.lists.specs.Fold.{fold}
 use Rattle.lists.specs.laws.Copy.{CopyInv, copy_front, copy_full, copy_start}
-use Rattle.lists.specs.laws.Part.{unmapped}
+use Rattle.lists.specs.laws.Part.{PartInv, cut_take, unmapped}
 use Rattle.lists.specs.laws.Row.{at_in}
 use Rattle.address_set.specs.AddressSet.{offsets, up_to}
 use Rattle.address_set.specs.laws.Offsets.{each_at, each_long}
@@ -16,20 +16,13 @@ use Rattle.state.specs.declared.Lease.{Lease}
 use Rattle.state.specs.declared.LeaseTable.{LeaseTable}
 use Rattle.state.specs.declared.TenantLeases.{TenantLeases}
 use Rattle.state.specs.Book.{in_scope, in_use, is_hold, laid_out}
+use Rattle.state.specs.laws.Layout.{no_lease}
 use Rattle.usage.specs.declared.ScopeTotals.{ScopeTotals}
 use Rattle.usage.specs.declared.Totals.{Totals}
 use Rattle.usage.specs.Usage.{counted, covered, covered_in, sum_over}
 use Rattle.usage.specs.Report.{added_scope, added_tenant, added_totals, capped_sum, cut, more_covered, no_scope_totals}
 
 -- ---- one sum
-pub capped_in : (a b : ℕ) → a ≤ 18446744073709551615 - b → b < 18446744073709551616 → a + b ≡ capped_sum a b
-unfolding capped_sum cut
-capped_in a b h k = omega arith
-
-pub capped_out : (a b : ℕ) → 18446744073709551615 - b < a → 18446744073709551615 ≡ capped_sum a b
-unfolding capped_sum cut
-capped_out a b h = omega arith
-
 pub product_small : (n d : ℕ) → n < 4294967296 → d < 4294967296 → n * d < 18446744073709551616
 product_small n d h k =
     let m : n * d ≤ 4294967295 * 4294967295 = mul-le-mul (let z : n ≤ 4294967295 = omega arith in z) (let z : d ≤ 4294967295 = omega arith in z) in
@@ -66,6 +59,17 @@ covered_from s c n a (l ∷ ls) =
 pub covered_fold : (s c n : ℕ) (ls : List Lease) → fold (more_covered s c n) 0 ls ≡ cut (covered_in s c n ls)
 unfolding cut
 covered_fold s c n ls = covered_from s c n 0 ls ∙ ap cut (let z : 0 + covered_in s c n ls ≡ covered_in s c n ls = omega arith in z)
+
+-- the loop over those in use, as they are cut out of their array
+pub cover_start : (s c n : ℕ) (t : TenantLeases) {m : ℕ} → length t.leases ≡ 16 → m ≡ min t.count 16
+    → PartInv (more_covered s c n) no_lease (take m t.leases) (length (take m t.leases)) (cut (covered_in s c n (in_use t))) 0 0
+cover_start s c n t {m} e p = record {
+  within = omega arith;
+  long = omega arith;
+  whole =
+      ap (fold (more_covered s c n) 0) (take_all (length (take m t.leases)) (take m t.leases) (omega arith) ∙ ap (λ (k : ℕ). take k t.leases) p ∙ cut_take 16 t.count t.leases e)
+      ∙ covered_fold s c n (in_use t);
+}
 
 -- ---- over the tenants of a scope
 pub record TenantsInv (t : LeaseTable) (s c n : ℕ) (v now : ScopeTotals) (i : ℕ) : Type 0 where

@@ -16,13 +16,13 @@ pub returns-in_default : goal.returns-in_default
 returns-in_default c = search (forms, rules)
 
 pub bounds-s-9 : goal.bounds-s-9
-bounds-s-9 c = let p = count_in_law _ _ _ c.counted_end-ranges.ensures c.in-At.is in search rules
+bounds-s-9 c = let p = count_in_law _ _ _ c.counted_end-ranges.ensures c.in-Some.is in search rules
 
 pub returns-in_default-pools : goal.returns-in_default-pools
 returns-in_default-pools c = search (forms, rules)
 
 pub returns-in_default-records : goal.returns-in_default-records
-returns-in_default-records c = form_leases _ c.if-s-ne1.false c.if-len-lt9.false c.counted_end-ranges.ensures c.in-At.is _ c.wide.ensures.0 c.counted_end-pools.ensures c.in-At-pools.is c.section_end-records.ensures c.in_default-records.is
+returns-in_default-records c = form_leases _ c.if-s-ne1.false c.if-len-lt9.false c.counted_end-ranges.ensures c.in-Some.is _ c.from.ensures c.counted_end-pools.ensures c.in-Some-pools.is c.section_end-records.ensures c.in_default-records.is
 
 pub last_sections-requires : goal.last_sections-requires
-last_sections-requires c = form_first _ c.if-s-ne1.false c.if-len-lt9.false c.counted_end-ranges.ensures c.in-At.is _ c.wide.ensures.0 c.counted_end-pools.ensures c.in-At-pools.is c.section_end-records.ensures c.if-len-gt-FILE_LIMIT.false c.in-At-records.is
+last_sections-requires c = form_first _ c.if-s-ne1.false c.if-len-lt9.false c.counted_end-ranges.ensures c.in-Some.is _ c.from.ensures c.counted_end-pools.ensures c.in-Some-pools.is c.section_end-records.ensures c.if-len-gt-FILE_LIMIT.false c.in-Some-records.is

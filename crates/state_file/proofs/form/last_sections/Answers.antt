@@ -16,16 +16,16 @@ pub returns-in_default : goal.returns-in_default
 returns-in_default c = form_names _ c.requires c.section_end-lists.ensures c.in_default.is
 
 pub section_end-memory-requires : goal.section_end-memory-requires
-section_end-memory-requires c = names_inside _ _ _ c.section_end-lists.ensures c.in-At.is
+section_end-memory-requires c = names_inside _ _ _ c.section_end-lists.ensures c.in-Some.is
 
 pub returns-in_default-memory : goal.returns-in_default-memory
-returns-in_default-memory c = form_releases _ c.requires c.section_end-lists.ensures c.in-At.is c.section_end-memory.ensures c.in_default-memory.is
+returns-in_default-memory c = form_releases _ c.requires c.section_end-lists.ensures c.in-Some.is c.section_end-memory.ensures c.in_default-memory.is
 
 pub returns-in_default-last : goal.returns-in_default-last
-returns-in_default-last c = form_holds _ c.requires c.section_end-lists.ensures c.in-At.is c.section_end-memory.ensures c.in-At-memory.is c.section_end-last.ensures c.in_default-last.is
+returns-in_default-last c = form_holds _ c.requires c.section_end-lists.ensures c.in-Some.is c.section_end-memory.ensures c.in-Some-memory.is c.section_end-last.ensures c.in_default-last.is
 
 pub returns-then-end-s : goal.returns-then-end-s
-returns-then-end-s c = form_over _ c.requires c.section_end-lists.ensures c.in-At.is c.section_end-memory.ensures c.in-At-memory.is c.section_end-last.ensures c.in-At-last.is c.if-end-s.true
+returns-then-end-s c = form_over _ c.requires c.section_end-lists.ensures c.in-Some.is c.section_end-memory.ensures c.in-Some-memory.is c.section_end-last.ensures c.in-Some-last.is c.if-end-s.true
 
 pub returns : goal.returns
-returns c = form_right _ c.requires c.section_end-lists.ensures c.in-At.is c.section_end-memory.ensures c.in-At-memory.is c.section_end-last.ensures c.in-At-last.is c.if-end-s.false
+returns c = form_right _ c.requires c.section_end-lists.ensures c.in-Some.is c.section_end-memory.ensures c.in-Some-memory.is c.section_end-last.ensures c.in-Some-last.is c.if-end-s.false

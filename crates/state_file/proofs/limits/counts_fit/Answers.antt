@@ -1,13 +1,13 @@
 -- `counts_fit` meets its contract: by `picks`.
 use Rattle.lists.specs.laws.Pick.{picks}
+use Rattle.std.proofs.Common.{rules}
 use Rattle.state_file.specs.Records.{counts_fit}
-use borrow.Author.Rules.{rules}
 use Rattle.state_file.proofs.limits.counts_fit.Goals as goal
 
-pub returns-then-tenants-gt8 : goal.returns-then-tenants-gt8
+pub returns-then-tenants-le8 : goal.returns-then-tenants-le8
 unfolding counts_fit
-returns-then-tenants-gt8 c = search (picks, rules)
+returns-then-tenants-le8 c = search (picks, rules)
 
-pub returns : goal.returns
+pub returns-else-tenants-le8 : goal.returns-else-tenants-le8
 unfolding counts_fit
-returns c = search (picks, rules)
+returns-else-tenants-le8 c = search (picks, rules)

@@ -1,4 +1,3 @@
-use Prim.Native.Nat.{◌-◌}
 use Rattle.lists.specs.laws.Pad.{PadInv}
 use Rattle.state_file.specs.Place.{range_at}
 use Rattle.format.specs.Place.{row}
@@ -7,6 +6,3 @@ use Rattle.state_file.proofs.load.ranges_at.Given as goal
 
 abbrev pub invariant-loop-i : goal.invariant-loop-i
 invariant-loop-i l = PadInv zero_range 8 (row range_at 8 l.n l.s l.at) l.n l.out l.i
-
-abbrev pub decreases-loop-i : goal.decreases-loop-i
-decreases-loop-i l = l.n - l.i

@@ -1,10 +1,10 @@
 -- `rules_hold` meets its contract: by `rules_memory`, `rules_not`.
+use Rattle.std.proofs.Common.{rules}
 use Rattle.state_file.proofs.Loads.{rules_memory, rules_not}
-use borrow.Author.Rules.{rules}
 use Rattle.state_file.proofs.load.rules_hold.Goals as goal
 
 pub returns-then-sound : goal.returns-then-sound
 returns-then-sound c = search (rules_memory, rules)
 
-pub returns : goal.returns
-returns c = search (rules_not, rules)
+pub returns-else-sound : goal.returns-else-sound
+returns-else-sound c = search (rules_not, rules)

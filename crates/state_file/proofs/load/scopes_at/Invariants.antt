@@ -1,5 +1,5 @@
 use mathlib.Core.List.{map}
-use Prim.Native.Nat.{◌*◌, ◌+◌, ◌-◌}
+use Prim.Native.Nat.{◌*◌, ◌+◌}
 use Rattle.state.specs.Book.{zero_scope}
 use Rattle.lists.specs.laws.Pad.{PadInv}
 use Rattle.state_file.specs.Place.{file_scope_at}
@@ -9,6 +9,3 @@ use Rattle.state_file.proofs.load.scopes_at.Given as goal
 
 abbrev pub invariant-loop-i : goal.invariant-loop-i
 invariant-loop-i l = PadInv zero_scope 4 (map stored_scope (row (file_scope_at l.h) (6 + l.h * 2) l.k l.s l.at)) l.k l.out l.i
-
-abbrev pub decreases-loop-i : goal.decreases-loop-i
-decreases-loop-i l = l.k - l.i

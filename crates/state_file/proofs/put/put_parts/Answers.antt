@@ -3,9 +3,6 @@ use borrow.Author.Rules.{rules}
 use Rattle.state_file.proofs.RowLaws.{pair_rows}
 use Rattle.state_file.proofs.put.put_parts.Goals as goal
 
-pub cut8-n-requires : goal.cut8-n-requires
-cut8-n-requires c = search (pair_rows, rules)
-
 pub loop-i-init : goal.loop-i-init
 loop-i-init c = search (pair_rows, rules)
 

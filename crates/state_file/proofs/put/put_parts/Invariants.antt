@@ -1,9 +1,5 @@
-use Prim.Native.Nat.{◌-◌}
 use Rattle.state_file.proofs.RowLaws.{PairInv}
 use Rattle.state_file.proofs.put.put_parts.Given as goal
 
 abbrev pub invariant-loop-i : goal.invariant-loop-i
 invariant-loop-i l = PairInv l.c.reserve l.c.limit l.h l.n l.initial.buffer l.at l.buffer l.to l.i
-
-abbrev pub decreases-loop-i : goal.decreases-loop-i
-decreases-loop-i l = l.n - l.i

@@ -1,4 +1,3 @@
-use Prim.Native.Nat.{◌-◌}
 use Rattle.format.specs.laws.Rows.{RowInv}
 use Rattle.state_file.specs.Records.{zero_range}
 use Rattle.state_file.specs.Rows.{range_row}
@@ -6,6 +5,3 @@ use Rattle.state_file.proofs.put.put_ranges.Given as goal
 
 abbrev pub invariant-loop-i : goal.invariant-loop-i
 invariant-loop-i l = RowInv range_row zero_range l.state.tenants 8 l.state.tenant_count l.n l.initial.buffer l.at l.buffer l.to l.i
-
-abbrev pub decreases-loop-i : goal.decreases-loop-i
-decreases-loop-i l = l.n - l.i

@@ -7,4 +7,4 @@ use Rattle.format.specs.laws.Rows.{count_is, section_wrote}
 use Rattle.state_file.proofs.put.put_scope_section.Goals as goal
 
 pub returns : goal.returns
-returns c = section_wrote (length (scopes_of c.args.state)) (search rules) (count_is 4 c.args.state.scope_count _ c.args.state.scopes (search (unmapped, rules)) c.cut4.ensures) c.put_u8-a.ensures c.put_scopes.ensures
+returns c = section_wrote (length (scopes_of c.args.state)) (search rules) (count_is 4 c.args.state.scope_count _ c.args.state.scopes (search (unmapped, rules)) c.min.ensures) c.put_u8-a.ensures c.put_scopes.ensures

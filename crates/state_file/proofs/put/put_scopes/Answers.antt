@@ -3,9 +3,6 @@ use borrow.Author.Rules.{rules}
 use Rattle.state_file.proofs.RowLaws.{scope_rows}
 use Rattle.state_file.proofs.put.put_scopes.Goals as goal
 
-pub cut4-n-requires : goal.cut4-n-requires
-cut4-n-requires c = search (scope_rows, rules)
-
 pub loop-i-init : goal.loop-i-init
 loop-i-init c = search (scope_rows, rules)
 

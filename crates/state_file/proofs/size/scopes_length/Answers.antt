@@ -4,12 +4,9 @@ use borrow.Author.Rules.{rules}
 use Rattle.lists.specs.laws.Part.{unmapped}
 use Rattle.state.specs.laws.Layout.{no_scope}
 use Rattle.format.specs.laws.Rows.{row_sum, size_end, sizes}
+use Rattle.state_file.proofs.RowLaws.{wide_cut}
 use Rattle.state_file.specs.Rows.{scope_row}
 use Rattle.state_file.proofs.size.scopes_length.Goals as goal
-
-pub cut4-n-requires : goal.cut4-n-requires
-unfolding scope_row
-cut4-n-requires c = search (sizes, rules)
 
 pub loop-i-init : goal.loop-i-init
 unfolding scope_row
@@ -25,4 +22,4 @@ loop-i-preserved c = search (sizes, rules)
 
 pub returns : goal.returns
 unfolding scope_row
-returns c = let s = c.args.state in (row_sum (scope_row s.tenant_count) no_scope s.scopes 4 s.scope_count _ _ (search (unmapped, rules)) c.cut4-n.ensures (size_end c.loop-i.invariant (search rules)), omega (arith, c.loop-i.invariant.small, c.loop-i.invariant.within, c.cut4-n.ensures))
+returns c = let s = c.args.state in (row_sum (scope_row s.tenant_count) no_scope s.scopes 4 s.scope_count _ _ (search (unmapped, rules)) (wide_cut 4 c.from.ensures c.min-n.ensures) (size_end c.loop-i.invariant (search rules)), omega (arith, c.loop-i.invariant.small, c.loop-i.invariant.within, c.min-n.ensures))

@@ -1,17 +1,17 @@
 -- `same_pool` meets its contract: by its tests.
 use Rattle.lists.specs.laws.Both.{ands}
 use Rattle.usage.specs.Usage.{same_pool}
-use borrow.Author.Rules.{rules}
+use Rattle.std.proofs.Common.{eq-eqb, ne_eqb, rules}
 use Rattle.usage.proofs.settings.same_pool.Goals as goal
 
 pub returns-then-a-b-2 : goal.returns-then-a-b-2
 unfolding same_pool
-returns-then-a-b-2 c = search (ands, rules)
+returns-then-a-b-2 c = search (ands, ne_eqb, eq-eqb, rules)
 
 pub returns-else-a-b-2 : goal.returns-else-a-b-2
 unfolding same_pool
-returns-else-a-b-2 c = search (ands, rules)
+returns-else-a-b-2 c = search (ands, ne_eqb, eq-eqb, rules)
 
 pub returns-else-a-b : goal.returns-else-a-b
 unfolding same_pool
-returns-else-a-b c = search (ands, rules)
+returns-else-a-b c = search (ands, ne_eqb, eq-eqb, rules)

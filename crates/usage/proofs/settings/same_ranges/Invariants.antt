@@ -1,4 +1,3 @@
-use Prim.Native.Nat.{◌-◌}
 use Rattle.lists.specs.laws.Same.{SameInv}
 use Rattle.state_file.specs.Records.{zero_range}
 use Rattle.usage.specs.Usage.{same_range}
@@ -6,6 +5,3 @@ use Rattle.usage.proofs.settings.same_ranges.Given as goal
 
 abbrev pub invariant-loop-i : goal.invariant-loop-i
 invariant-loop-i l = SameInv same_range zero_range l.a.tenants l.b.tenants 8 l.i
-
-abbrev pub decreases-loop-i : goal.decreases-loop-i
-decreases-loop-i l = 8 - l.i

@@ -1,4 +1,3 @@
-use Prim.Native.Nat.{◌-◌}
 use Rattle.lists.specs.laws.Same.{SameInv}
 use Rattle.state.specs.laws.Layout.{no_scope}
 use Rattle.usage.specs.Usage.{same_scope}
@@ -6,6 +5,3 @@ use Rattle.usage.proofs.settings.same_scopes.Given as goal
 
 abbrev pub invariant-loop-k : goal.invariant-loop-k
 invariant-loop-k l = SameInv same_scope no_scope l.a.scopes l.b.scopes 4 l.k
-
-abbrev pub decreases-loop-k : goal.decreases-loop-k
-decreases-loop-k l = 4 - l.k

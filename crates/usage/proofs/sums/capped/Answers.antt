@@ -1,10 +1,8 @@
--- `capped` meets its contract: one test.
-use Rattle.usage.specs.laws.Sums.{capped_in, capped_out}
-use borrow.Author.Rules.{rules}
+-- `capped` meets its contract: as std has it.
+use Rattle.usage.specs.Report.{capped_sum, cut}
+use Rattle.std.proofs.Common.{rules}
 use Rattle.usage.proofs.sums.capped.Goals as goal
 
-pub returns-then-a-b : goal.returns-then-a-b
-returns-then-a-b c = search (capped_in, rules)
-
 pub returns : goal.returns
-returns c = search (capped_out, rules)
+unfolding capped_sum cut
+returns c = search rules

@@ -1,6 +1,6 @@
 -- `put_line` meets its contract: by `line_wrote`.
 use Rattle.usage.specs.laws.Text.{line_wrote}
-use borrow.Author.Rules.{rules}
+use Rattle.std.proofs.Common.{rules}
 use Rattle.usage.proofs.text.put_line.Goals as goal
 
 pub returns : goal.returns

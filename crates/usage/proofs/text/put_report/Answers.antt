@@ -1,6 +1,6 @@
 -- `put_report` meets its contract: by `report_wrote`.
 use Rattle.usage.specs.laws.Text.{report_wrote}
-use borrow.Author.Rules.{rules}
+use Rattle.std.proofs.Common.{rules}
 use Rattle.usage.proofs.text.put_report.Goals as goal
 
 pub put_run-a-requires : goal.put_run-a-requires

@@ -1,11 +1,7 @@
-use Prim.Native.Nat.{◌-◌}
 use Rattle.number_text.specs.laws.Text.{LinesInv}
 use Rattle.usage.specs.Report.{total_in}
 use Rattle.usage.specs.Usage.{scope_lines}
 use Rattle.usage.proofs.text.put_scopes.Given as goal
 
 abbrev pub invariant-loop-k : goal.invariant-loop-k
-invariant-loop-k l = LinesInv (scope_lines l.state (total_in l.totals)) 464 l.n l.initial.buffer l.at l.buffer l.to l.k
-
-abbrev pub decreases-loop-k : goal.decreases-loop-k
-decreases-loop-k l = l.n - l.k
+invariant-loop-k l = LinesInv (scope_lines l.state (total_in l.totals)) 464 l.k-end l.initial.buffer l.at l.buffer l.to l.k

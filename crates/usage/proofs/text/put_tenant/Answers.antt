@@ -1,6 +1,6 @@
 -- `put_tenant` meets its contract: by `tenant_wrote`.
 use Rattle.usage.specs.laws.Text.{tenant_wrote}
-use borrow.Author.Rules.{rules}
+use Rattle.std.proofs.Common.{rules}
 use Rattle.usage.proofs.text.put_tenant.Goals as goal
 
 pub returns : goal.returns

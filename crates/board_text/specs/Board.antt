@@ -1,5 +1,5 @@
 -- Definitions: what `board` prints (document 01, "Specimens"): a header and, by scope then house, lowest address, house, share, limit, holding.
-use Rattle.std.specs.Prelude.{List, [], ◌++◌, ◌∷◌, ◌+◌, ℕ, eqb, ltb, drop, length}
+use Rattle.std.specs.Prelude.{List, [], ◌++◌, ◌∷◌, ◌+◌, ℕ, ltb, drop, length, Result, Ok, Err}
 use Rattle.lists.specs.Pick.{pick}
 use Rattle.number_text.specs.Text.{dotted, field, lines_to}
 use Rattle.occupancy.specs.Board.{held_in, scope_board_at}
@@ -8,7 +8,9 @@ use Rattle.soundness.specs.Sound.{scopes_in, tenants_in}
 use Rattle.state.specs.Book.{held_count, in_use, scope_at, tenant_at, reserve_at, limit_at}
 use Rattle.state.specs.declared.LeaseTable.{LeaseTable}
 use Rattle.state.specs.declared.State.{State}
+use Rattle.state_file.specs.StateFile.{code_of}
 use Rattle.state_file.specs.declared.Loaded.{Loaded}
+use Rattle.state_file.specs.declared.Refusal.{Refusal}
 
 -- "scope house share limit holds"
 abbrev pub header_line : List ℕ
@@ -45,12 +47,13 @@ unfoldable pub lines_on : State → Board → List ℕ
 lines_on s b = lines_to (scope_on s b) (scopes_in s)
 
 -- all that is printed for what the reader answers
-unfoldable pub text_of : Loaded → List ℕ
-text_of r = pick (eqb r.refusal 0) (header_line ++ book_lines r.state r.table) (refused_line r.refusal)
+unfoldable pub text_of : Result Loaded Refusal → List ℕ
+text_of (Ok b) = header_line ++ book_lines b.state b.table
+text_of (Err e) = refused_line (code_of e)
 
 -- a room below 1,100 octets is left as it is
-unfoldable pub length_in : Loaded → List ℕ → ℕ
+unfoldable pub length_in : Result Loaded Refusal → List ℕ → ℕ
 length_in r room = pick (ltb (length room) 1100) 0 (length (text_of r))
 
-unfoldable pub room_with_text : Loaded → List ℕ → List ℕ
+unfoldable pub room_with_text : Result Loaded Refusal → List ℕ → List ℕ
 room_with_text r room = pick (ltb (length room) 1100) room (text_of r ++ drop (length (text_of r)) room)

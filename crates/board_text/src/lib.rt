@@ -10,7 +10,7 @@ ghost use Rattle.state_file.specs.StateFile.{read_file};
 
 use occupancy::Board;
 use state::State;
-use state_file::Loaded;
+use state_file::{Loaded, Refusal};
 
 fn put_line(buffer: &mut [u8], at: usize, a: u32, g: u8, reserve: u8, limit: u8, held: u8) -> usize
     requires { at + 32 ≤ length buffer.old }
@@ -21,7 +21,7 @@ fn put_line(buffer: &mut [u8], at: usize, a: u32, g: u8, reserve: u8, limit: u8,
     let z = number_text::put_octet_field(buffer, y, reserve);
     let v = number_text::put_octet_field(buffer, z, limit);
     let w = number_text::put_octet_field(buffer, v, held);
-    number_text::put_char(buffer, w, 10)
+    number_text::put_char(buffer, w, b'\n')
 }
 
 // How many addresses tenant g + 1 has in scope k + 1.
@@ -29,8 +29,7 @@ fn held(board: Board, k: usize, g: usize) -> u8
     requires { (k < 4) × (g < 8) }
     ensures { result ≡ held_in (scope_board_at board k) g }
 {
-    let v = board.scopes[k];
-    v.held[g]
+    board.scopes[k].held[g]
 }
 
 fn put_tenant(buffer: &mut [u8], at: usize, state: State, board: Board, k: usize, g: usize) -> usize
@@ -54,12 +53,9 @@ fn put_scope(buffer: &mut [u8], at: usize, state: State, board: Board, k: usize)
     requires { (at + 256 ≤ length buffer.old) × (k < 4) }
     ensures { Line buffer.old at (scope_on state board k) buffer.new result 256 }
 {
-    let n = arithmetic::cut8(state.tenant_count);
     let mut to = at;
-    let mut g: usize = 0;
-    while g < n {
+    for g in 0..usize::from(state.tenant_count).min(8) {
         to = put_tenant(buffer, to, state, board, k, g);
-        g += 1;
     }
     to
 }
@@ -68,12 +64,9 @@ fn put_book(buffer: &mut [u8], at: usize, state: State, board: Board) -> usize
     requires { at + 1024 ≤ length buffer.old }
     ensures { Line buffer.old at (lines_on state board) buffer.new result 1024 }
 {
-    let n = arithmetic::cut4(state.scope_count);
     let mut to = at;
-    let mut k: usize = 0;
-    while k < n {
+    for k in 0..usize::from(state.scope_count).min(4) {
         to = put_scope(buffer, to, state, board, k);
-        k += 1;
     }
     to
 }
@@ -82,7 +75,7 @@ fn put_board(buffer: &mut [u8], state: State, board: Board) -> usize
     requires { 1100 ≤ length buffer.old }
     ensures { Wrote buffer.old 0 (header_line ++ lines_on state board) buffer.new result }
 {
-    let a = octets::put_run(buffer, 0, b"scope house share limit holds\n", 30);
+    let a = octets::put(buffer, 0, b"scope house share limit holds\n");
     put_book(buffer, a, state, board)
 }
 
@@ -90,28 +83,21 @@ fn put_refused(buffer: &mut [u8], n: u8) -> usize
     requires { 1100 ≤ length buffer.old }
     ensures { Wrote buffer.old 0 (refused_line n) buffer.new result }
 {
-    let a = octets::put_run(buffer, 0, b"refused", 7);
+    let a = octets::put(buffer, 0, b"refused");
     let b = number_text::put_octet_field(buffer, a, n);
-    number_text::put_char(buffer, b, 10)
+    number_text::put_char(buffer, b, b'\n')
 }
 
 // The book of a state file, by the lent reader.
-fn read_book(file: &[u8]) -> Loaded
+fn read_book(file: &[u8]) -> Result<Loaded, Refusal>
     ensures { result ≡ read_file file.now }
 {
-    let f = owned::open(file);
-    let o = f.owned;
-    let ledger = o.ledger;
-    let state = ledger.state;
-    let memory = ledger.memory;
-    let records = o.records;
-    let table = records::table_of(records);
-    Loaded {
-        refusal: f.refusal,
-        state: state,
-        table: table,
-        memory: memory,
-    }
+    let o = owned::open(file)?;
+    Ok(Loaded {
+        state: o.ledger.state,
+        table: records::table_of(o.records),
+        memory: o.ledger.memory,
+    })
 }
 
 // Writes what `board` prints for a file and returns its length. A room below 1,100 octets is left as it is, with length 0.
@@ -122,13 +108,8 @@ pub fn write_board(file: &[u8], room: &mut [u8]) -> usize
     if room.len() < 1100 {
         return 0;
     }
-    let r = read_book(file);
-    let n = r.refusal;
-    if n == 0 {
-        let state = r.state;
-        let memory = r.memory;
-        let board = memory.board;
-        return put_board(room, state, board);
+    match read_book(file) {
+        Ok(book) => put_board(room, book.state, book.memory.board),
+        Err(refusal) => put_refused(room, refusal.number()),
     }
-    put_refused(room, n)
 }

@@ -13,7 +13,8 @@ use Rattle.state.specs.declared.Ledger.{Ledger}
 use Rattle.state.specs.declared.State.{State}
 use Rattle.state.specs.Book.{raised}
 use Rattle.server.specs.Serve.{Call}
-use Rattle.state_file.specs.declared.Written.{Written}
+use Rattle.std.specs.Prelude.{Result}
+use Rattle.state_file.specs.declared.Refusal.{Refusal}
 use Rattle.state_file.specs.StateFile.{room_after, written_of}
 use Rattle.record_call.specs.declared.ServedRecords.{ServedRecords}
 use Rattle.records.specs.Records.{table_from}
@@ -92,7 +93,7 @@ module _ (names : List ℕ) {o : Owned} (v : OwnedSound o names) where
     pub table_sound : book_b (record { state = o.ledger.state; table = t; memory = o.ledger.memory; names = names }) ≡ true
     table_sound = ap (λ (x : LeaseTable). book_b (record { state = o.ledger.state; table = x; memory = o.ledger.memory; names = names })) e ∙ v.sound
 
-    pub sound_answer : (k : ℕ) {w : Written} → w ≡ written_of (record { state = o.ledger.state; table = t; memory = o.ledger.memory; names = names }) k → w ≡ written_lent o.ledger o.records.leases names k
+    pub sound_answer : (k : ℕ) {w : Result ℕ Refusal} → w ≡ written_of (record { state = o.ledger.state; table = t; memory = o.ledger.memory; names = names }) k → w ≡ written_lent o.ledger o.records.leases names k
     sound_answer k q = write_in (length o.records.leases) o.ledger o.records.leases names k v.whole e q
 
     pub sound_room : (room : List ℕ) {after : List ℕ} → after ≡ room_after (record { state = o.ledger.state; table = t; memory = o.ledger.memory; names = names }) room

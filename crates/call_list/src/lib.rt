@@ -14,7 +14,7 @@ ghost use Rattle.call_list.specs.Promises.{Answers, OwnedSound, Replays};
 
 use owned::{Owned, OwnedCall, OwnedJudged};
 use state::Ledger;
-use state_file::Written;
+use state_file::Refusal;
 
 // What an answer in a list may take: outcome(1), offset(2), count(1), reply length(2) and the longest reply.
 const ANSWER_ROOM: usize = 6 + reply::LEAST_ROOM;
@@ -115,17 +115,13 @@ pub fn judge_sound(o: Owned, names: &[u8], datagram: &[u8], client: u32, time: u
 }
 
 // The writer of a book that is known to be sound, which is not tested: handed on by value, and not lent.
-pub fn write_sound(o: Owned, names: &[u8], room: &mut [u8]) -> Written
+pub fn write_sound(o: Owned, names: &[u8], room: &mut [u8]) -> Result<usize, Refusal>
     requires { OwnedSound o names.now }
     ensures answer { result ≡ written_lent o.ledger o.records.leases names.now (length room.old) }
     ensures octets { room.new ≡ room_lent o.ledger o.records.leases names.now room.old }
 {
-    let ledger = o.ledger;
-    let records = o.records;
-    let table = records::table_of(records);
-    let state = ledger.state;
-    let memory = ledger.memory;
-    state_file::write_sound(state, table, memory, names, room)
+    let table = records::table_of(o.records);
+    state_file::write_sound(o.ledger.state, table, o.ledger.memory, names, room)
 }
 
 // The call on a sound book, and its answer written from `to` on.
@@ -205,6 +201,7 @@ pub fn replay(start: Owned, names: &[u8], calls: &[u8], answers: &mut [u8]) -> P
     let mut o = start;
     let mut at: usize = 0;
     let mut to: usize = 0;
+    // Stays: no index is counted. How far a turn goes is what the record at `at` says of its length, and a `for` would need an iterator of our own that ends with a number.
     while at < calls.len() {
         let k = stop_number(calls, at, answers.len() - to);
         if k != 0 {

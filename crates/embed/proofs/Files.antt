@@ -18,18 +18,19 @@ use Rattle.state.specs.declared.Ledger.{Ledger}
 use Rattle.server.specs.declared.Ruling.{Ruling}
 use Rattle.server.specs.Serve.{Call}
 use Rattle.verdict_octets.specs.Octets.{outcome_octets, verdict_octets}
-use Rattle.state_file.specs.declared.Layout.{Layout}
-use Rattle.state_file.specs.declared.Layout.TheVariants.{Right, Wrong}
+use Rattle.std.specs.Prelude.{Option, Some, None, Result, Ok, Err}
+use Rattle.state_file.specs.declared.Refusal.{Refusal}
+use Rattle.state_file.specs.declared.Refusal.TheVariants.{WrongForm}
 use Rattle.state_file.specs.declared.Loaded.{Loaded}
 use Rattle.state_file.specs.declared.Places.{Places}
-use Rattle.state_file.specs.declared.Written.{Written}
 use Rattle.state_file.specs.Place.{file_at, FormedBy}
-use Rattle.state_file.specs.StateFile.{loaded, read_file}
+use Rattle.state_file.specs.StateFile.{book_in, code_of, loaded, read_file, refusal_number}
 use Rattle.state_file.proofs.Loads.{check_not, names_from, names_within, names_yes, read_yes}
 use Rattle.state_file.proofs.RoundTrip.{names_short}
 use Rattle.records.specs.declared.Records.{Records}
 use Rattle.records.specs.Records.{records_of}
-use Rattle.records.specs.Lent.{room_lent, written_lent}
+use Rattle.records.specs.Lent.{ledger_from, room_lent, written_lent}
+use Rattle.records.specs.laws.Files.{refused_not_0}
 use Rattle.record_verdict.specs.Verdict.{judge_lent}
 use Rattle.record_call.specs.Call.{serve_lent}
 use Rattle.owned.specs.declared.OwnedCall.{OwnedCall}
@@ -45,23 +46,30 @@ use Rattle.embed.specs.Promises.{Files, handed_out, JudgesFile, Keeps, Opened, O
 use Rattle.call_list.specs.Promises.{Replays}
 
 -- ---- a file that is opened
-module _ (s : List ℕ) {l : Layout} (v : FormedBy s l) where
-  pub open_not : {r : Opening} → l ≡ Wrong → (r.refusal ≡ 20) × (r.from ≡ 0) × (r.end ≡ 0) → OpenedFile s r
-  open_not {r} e a =
-      let p = check_not s v e in
-      let q = a.1 in
-      let w = a.2 in
-      let z : (read_file s).refusal ≡ 0 → ⊥ = λ i. omega arith in
-      record { refusal = a.0 ∙ p; ledger = λ i. absurd (z i); leases = λ i. absurd (z i); order = omega arith; within = omega arith; names = λ i. absurd (z i) }
+none_read : (s : List ℕ) {k : ℕ} {r : Opening} → k ≡ refusal_number (read_file s) → (k ≡ 0 → ⊥) → (r.refusal ≡ k) × (r.from ≡ 0) × (r.end ≡ 0) → OpenedFile s r
+none_read s p z a =
+    let q = a.1 in
+    let w = a.2 in
+    record { refusal = a.0 ∙ p; ledger = λ i. absurd (z (p ∙ i)); leases = λ i. absurd (z (p ∙ i)); order = omega arith; within = omega arith; names = λ i. absurd (z (p ∙ i)) }
 
-  pub open_yes : {p : Places} {f : Loaded} {x : Records} → l ≡ Right p → f ≡ loaded (file_at s p) → (x.leases ≡ records_of f.table) × (length x.leases ≡ 128)
-      → OpenedFile s (record { refusal = f.refusal; owned = record { ledger = record { state = f.state; memory = f.memory }; records = x }; from = p.names; end = p.releases })
+module _ (s : List ℕ) {l : Option Places} (v : FormedBy s l) where
+  pub open_not : {r : Opening} → l ≡ None → (r.refusal ≡ 20) × (r.from ≡ 0) × (r.end ≡ 0) → OpenedFile s r
+  unfolding code_of
+  open_not e a = none_read s (check_not s v WrongForm e refl) (λ i. absurd (omega arith)) a
+
+  pub open_unsound : {p : Places} {e : Refusal} {k : ℕ} {r : Opening} → l ≡ Some p → Err e ≡ loaded (file_at s p) → k ≡ code_of e → (r.refusal ≡ k) × (r.from ≡ 0) × (r.end ≡ 0) → OpenedFile s r
+  unfolding refusal_number
+  open_unsound {e = e} i q g a = none_read s (g ∙ ap refusal_number (read_yes s v (Err e) i q)) (λ z. refused_not_0 e (sym g ∙ z)) a
+
+  pub open_yes : {p : Places} {f : Loaded} {x : Records} → l ≡ Some p → Ok f ≡ loaded (file_at s p) → (x.leases ≡ records_of f.table) × (length x.leases ≡ 128)
+      → OpenedFile s (record { refusal = 0; owned = record { ledger = record { state = f.state; memory = f.memory }; records = x }; from = p.names; end = p.releases })
+  unfolding refusal_number book_in
   open_yes {f = f} e q a =
-      let w : f ≡ read_file s = read_yes s v f e q in
+      let w : Ok f ≡ read_file s = read_yes s v (Ok f) e q in
       record {
-        refusal = ap (λ (y : Loaded). y.refusal) w;
-        ledger = λ _. ap {B = Ledger} (λ (y : Loaded). record { state = y.state; memory = y.memory }) w;
-        leases = λ _. a.0 ∙ ap (λ (y : Loaded). records_of y.table) w;
+        refusal = ap refusal_number w;
+        ledger = λ _. ap (λ (y : Result Loaded Refusal). ledger_from (book_in y)) w;
+        leases = λ _. a.0 ∙ ap (λ (y : Result Loaded Refusal). records_of (book_in y).table) w;
         order = names_from s v e;
         within = names_within s v e;
         names = λ _. names_yes s v _ e refl;
@@ -87,17 +95,17 @@ module _ (b : List ℕ) (n : ℕ) where
   unfolding refusal_in
   refusal_past h k = pick_not_lt _ _ _ (length b) largest_file h (pick_lt _ _ _ (length b) n k refl)
 
-  refusal_within : largest_file ≤ length b → n ≤ length b → (read_file (take n b)).refusal ≡ refusal_in b n
+  refusal_within : largest_file ≤ length b → n ≤ length b → refusal_number (read_file (take n b)) ≡ refusal_in b n
   unfolding refusal_in
   refusal_within h k = pick_not_lt _ _ _ (length b) largest_file h (pick_not_lt _ _ _ (length b) n k refl)
 
   -- where none is drawn
-  pub accepted_parts : refusal_in b n ≡ 0 → (largest_file ≤ length b) × (n ≤ length b) × ((read_file (take n b)).refusal ≡ 0)
+  pub accepted_parts : refusal_in b n ≡ 0 → (largest_file ≤ length b) × (n ≤ length b) × (refusal_number (read_file (take n b)) ≡ 0)
   unfolding refusal_in pick
   accepted_parts e = go (ltb (length b) largest_file) refl (ltb (length b) n) refl e
     where
-      go : (p : Bool) → ltb (length b) largest_file ≡ p → (q : Bool) → ltb (length b) n ≡ q → pick p 23 (pick q 28 (read_file (take n b)).refusal) ≡ 0
-          → (largest_file ≤ length b) × (n ≤ length b) × ((read_file (take n b)).refusal ≡ 0)
+      go : (p : Bool) → ltb (length b) largest_file ≡ p → (q : Bool) → ltb (length b) n ≡ q → pick p 23 (pick q 28 (refusal_number (read_file (take n b)))) ≡ 0
+          → (largest_file ≤ length b) × (n ≤ length b) × (refusal_number (read_file (take n b)) ≡ 0)
       go true p q t e = absurd (omega arith)
       go false p true t e = absurd (omega arith)
       go false p false t e = (ltb-false (length b) largest_file p, ltb-false (length b) n t, e)
@@ -125,7 +133,7 @@ module _ (b : List ℕ) (n : ℕ) where
     names = λ p. part_first r.from (r.end - r.from) n b inside.0 ∙ v.names (at ∙ p);
   }
     where
-      at : (read_file (take n b)).refusal ≡ refusal_in b n
+      at : refusal_number (read_file (take n b)) ≡ refusal_in b n
       at = refusal_within h k
 
       inside : (r.from + (r.end - r.from) ≤ n) × (r.end ≤ length b)
@@ -200,24 +208,24 @@ module _ (b : List ℕ) (n : ℕ) {f : Opening} (o : Opened b n f) where
     files_no z = record { file = ap (λ (x : Filed). x.buffer) (no z); long = ap (λ (x : Filed). x.length) (no z) }
 
     -- the book afterwards, written
-    module _ (z : f.refusal ≡ 0) {g : Ledger} {ls : List Lease} (p : g ≡ done.ledger) (q : ls ≡ done.leases) {w : Written} (e : w ≡ written_lent g ls (names_in b n) (length b)) where
+    module _ (z : f.refusal ≡ 0) {g : Ledger} {ls : List Lease} (p : g ≡ done.ledger) (q : ls ≡ done.leases) {w : Result ℕ Refusal} (e : w ≡ written_lent g ls (names_in b n) (length b)) where
       w_is : w ≡ written_lent done.ledger done.leases (names_in b n) (length b)
       w_is = e ∙ ap (λ (x : Ledger). written_lent x ls (names_in b n) (length b)) p ∙ ap (λ (x : List Lease). written_lent done.ledger x (names_in b n) (length b)) q
 
       told_yes : {j k : ℕ} → k ≡ number_after w j → j ≡ done.number → k ≡ (on_file b n work).number
-      told_yes {j} i h = i ∙ ap (λ (x : Written). number_after x j) w_is ∙ ap (number_after (written_lent done.ledger done.leases (names_in b n) (length b))) h ∙ ap (λ (x : Filed). x.number) (yes z)
+      told_yes {j} i h = i ∙ ap (λ (x : Result ℕ Refusal). number_after x j) w_is ∙ ap (number_after (written_lent done.ledger done.leases (names_in b n) (length b))) h ∙ ap (λ (x : Filed). x.number) (yes z)
 
       files_yes : {b' : List ℕ} {m : ℕ} → b' ≡ room_lent g ls (names_in b n) b → m ≡ length_after w n → Files (on_file b n work) b' m
       files_yes i h = record {
         file = i ∙ ap (λ (x : Ledger). room_lent x ls (names_in b n) b) p ∙ ap (λ (x : List Lease). room_lent done.ledger x (names_in b n) b) q ∙ ap (λ (x : Filed). x.buffer) (yes z);
-        long = h ∙ ap (λ (x : Written). length_after x n) w_is ∙ ap (λ (x : Filed). x.length) (yes z);
+        long = h ∙ ap (λ (x : Result ℕ Refusal). length_after x n) w_is ∙ ap (λ (x : Filed). x.length) (yes z);
       }
 
   module _ (c : Call) where
     abbrev one : Ledger → List Lease → Worked
     one g ls = called (serve_lent g ls (names_in b n) c)
 
-    pub file_served : {kept : List ℕ} {i : ℕ} {before after b' : List ℕ} {m k : ℕ} {r : OwnedCall} {w : Written} → f.refusal ≡ 0 → Keeps (names_at b f) kept i
+    pub file_served : {kept : List ℕ} {i : ℕ} {before after b' : List ℕ} {m k : ℕ} {r : OwnedCall} {w : Result ℕ Refusal} → f.refusal ≡ 0 → Keeps (names_at b f) kept i
         → ServesOwned (serve_lent f.owned.ledger f.owned.records.leases (take i kept) c) before after r
         → w ≡ written_lent r.owned.ledger r.owned.records.leases (take i kept) (length b) → b' ≡ room_lent r.owned.ledger r.owned.records.leases (take i kept) b
         → m ≡ length_after w n → k ≡ number_after w r.outcome.outcome → ServesFile (serve_file b n c) b' m before after (record { outcome = k; length = r.outcome.length; offset = r.outcome.offset; count = r.outcome.count })
@@ -256,7 +264,7 @@ module _ (b : List ℕ) (n : ℕ) {f : Opening} (o : Opened b n f) where
     abbrev half : Ledger → List Lease → Worked
     half g ls = judged (judge_lent g ls (names_in b n) client time d)
 
-    pub file_judged : {kept : List ℕ} {i : ℕ} {before after b' : List ℕ} {m k : ℕ} {j : OwnedJudged} {w : Written} → f.refusal ≡ 0 → Keeps (names_at b f) kept i
+    pub file_judged : {kept : List ℕ} {i : ℕ} {before after b' : List ℕ} {m k : ℕ} {j : OwnedJudged} {w : Result ℕ Refusal} → f.refusal ≡ 0 → Keeps (names_at b f) kept i
         → JudgesOwned (judge_lent f.owned.ledger f.owned.records.leases (take i kept) client time d) j
         → w ≡ written_lent j.owned.ledger j.owned.records.leases (take i kept) (length b) → b' ≡ room_lent j.owned.ledger j.owned.records.leases (take i kept) b
         → after ≡ verdict_octets j.ruling → m ≡ length_after w n → k ≡ number_after w j.ruling.verdict.outcome → JudgesFile (judge_file b n client time d) b' m before after k
@@ -281,7 +289,7 @@ module _ (b : List ℕ) (n : ℕ) {f : Opening} (o : Opened b n f) where
     abbrev all : Ledger → List Lease → Worked
     all g ls = replayed (length cs) g ls (names_in b n) cs room
 
-    pub file_replayed : {kept : List ℕ} {i : ℕ} {before after b' : List ℕ} {m k : ℕ} {r : Progress} {w : Written} → f.refusal ≡ 0 → Keeps (names_at b f) kept i
+    pub file_replayed : {kept : List ℕ} {i : ℕ} {before after b' : List ℕ} {m k : ℕ} {r : Progress} {w : Result ℕ Refusal} → f.refusal ≡ 0 → Keeps (names_at b f) kept i
         → Replays (replayed (length cs) f.owned.ledger f.owned.records.leases (take i kept) cs room) before after r
         → w ≡ written_lent r.owned.ledger r.owned.records.leases (take i kept) (length b) → b' ≡ room_lent r.owned.ledger r.owned.records.leases (take i kept) b
         → m ≡ length_after w n → k ≡ number_after w r.number → ReplaysFile (replay_file b n cs room) b' m r.used before after r.filled k

@@ -1,6 +1,7 @@
 -- Laws: what the first half's verdict is bounded by: the outcome, the tenant, the language's length.
 use Prim.Native.Nat.{ℕ, ◌+◌, ◌≤◌, ◌<◌}
 use mathlib.Core.List.{List}
+use Rattle.std.specs.Prelude.{Option, Some, None}
 use native.Mathlib.Omega.{arith}
 use lib.Dec.{eqb, ltb}
 use lib.ListN.{length}
@@ -8,8 +9,6 @@ use borrow.Author.Tests.{eqb-false, ltb-true}
 use Rattle.octets.specs.Octets.{at16}
 use Rattle.format.specs.Format.{Octets}
 use Rattle.message.specs.declared.Fields.{Fields}
-use Rattle.message.specs.declared.Found.{Found}
-use Rattle.message.specs.declared.Found.TheVariants.{Absent, At}
 use Rattle.message.specs.laws.Placed.{pick_cases}
 use Rattle.message.specs.Read.{read_of}
 use Rattle.message.specs.Values.{fields_of, find_of, language_of}
@@ -36,10 +35,10 @@ unfolding discard_with
 dismissed s k o h = record { few = h; tenant = omega arith; language = λ _. omega arith }
 
 -- a length of two octets
-language_small : (s : List ℕ) (f : Found) → Octets s → (language_of s f).len < 65536
+language_small : (s : List ℕ) (f : Option ℕ) → Octets s → (language_of s f).len < 65536
 unfolding at16
-language_small s (At at) o = let a = o (at + 2) in let b = o (at + 2 + 1) in omega arith
-language_small s Absent o = omega arith
+language_small s (Some at) o = let a = o (at + 2) in let b = o (at + 2 + 1) in omega arith
+language_small s None o = omega arith
 
 module _ (b : Book) (h : ℕ) (s : List ℕ) where
   abbrev mine : Judgement → Type 0

@@ -1,5 +1,6 @@
 pub mod Files
 pub mod Sound
 mod Replied
+mod Salvaged
 mod Occupancy
 pub mod Judged

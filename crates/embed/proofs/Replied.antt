@@ -6,19 +6,20 @@ use native.Mathlib.Omega.{arith}
 use lib.ListN.{drop, length, take}
 use Rattle.lists.specs.laws.Pick.{pick_eq, pick_lt, pick_not_eq, pick_not_lt}
 use Rattle.reply.specs.Reply.{least_room}
-use Rattle.state.specs.declared.State.{State}
 use Rattle.server.specs.declared.Outcome.{Outcome}
 use Rattle.server.specs.declared.Ruling.{Ruling}
 use Rattle.server.specs.Serve.{Said, Tells}
 use Rattle.server.specs.Halves.{silent, write_of}
 use Rattle.verdict_octets.specs.Octets.{ruling_in}
-use Rattle.state_file.specs.declared.Layout.{Layout}
-use Rattle.state_file.specs.declared.Layout.TheVariants.{Right, Wrong}
+use Rattle.std.specs.Prelude.{Option, Some, None, Result, Ok, Err}
+use Rattle.state_file.specs.declared.Refusal.{Refusal}
+use Rattle.state_file.specs.declared.Refusal.TheVariants.{WrongForm}
 use Rattle.state_file.specs.declared.Loaded.{Loaded}
 use Rattle.state_file.specs.declared.Places.{Places}
 use Rattle.state_file.specs.Place.{file_at, FormedBy}
-use Rattle.state_file.specs.StateFile.{loaded, names_of, read_file, refused}
-use Rattle.state_file.proofs.Loads.{names_yes, read_not, read_yes}
+use Rattle.state_file.specs.StateFile.{book_in, code_of, loaded, names_of, read_file, refusal_number}
+use Rattle.state_file.proofs.Loads.{check_not, names_yes, read_yes}
+use Rattle.records.specs.laws.Files.{refused_not_0}
 use Rattle.embed.specs.Halves.{reply_file}
 
 -- a number alone, and a room that is left as it was
@@ -32,34 +33,34 @@ module _ (f v room : List ℕ) where
   unfolding reply_file
   reply_short h q = tells_silent 2 room (pick_lt _ _ _ (length room) least_room h refl) q
 
-  module _ {l : Loaded} (h : least_room ≤ length room) (e : l ≡ read_file f) where
-    reply_refused : {k : ℕ} {r : Outcome} → (l.refusal ≡ 0 → ⊥) → k ≡ l.refusal → r ≡ record { outcome = k; length = 0; offset = 0; count = 0 } → Tells (reply_file f v (length room)) room room r
+  module _ (h : least_room ≤ length room) where
+    reply_refused : {k : ℕ} {r : Outcome} → (k ≡ 0 → ⊥) → k ≡ refusal_number (read_file f) → r ≡ record { outcome = k; length = 0; offset = 0; count = 0 } → Tells (reply_file f v (length room)) room room r
     unfolding reply_file
     reply_refused {k} z g q =
-        let at = g ∙ ap (λ (x : Loaded). x.refusal) e in
         tells_silent k room
-        (pick_not_lt _ _ _ (length room) least_room h (pick_not_eq _ _ _ (read_file f).refusal 0 (λ p. z (ap (λ (x : Loaded). x.refusal) e ∙ p)) (ap (λ (x : ℕ). silent x 0 0) at))) q
+        (pick_not_lt _ _ _ (length room) least_room h (pick_not_eq _ _ _ (refusal_number (read_file f)) 0 (λ p. z (g ∙ p)) (ap (λ (x : ℕ). silent x 0 0) g))) q
 
-    reply_written : {x : Ruling} {s : State} {names after : List ℕ} {r : Outcome} → l.refusal ≡ 0 → x ≡ ruling_in v → s ≡ l.state → names ≡ names_of f → Tells (write_of x s names (length room)) room after r
+    reply_written : {l : Loaded} {x : Ruling} {names after : List ℕ} {r : Outcome} → Ok l ≡ read_file f → x ≡ ruling_in v → names ≡ names_of f → Tells (write_of x l.state names (length room)) room after r
         → Tells (reply_file f v (length room)) room after r
-    unfolding reply_file
-    reply_written {x} {s} {names} {after} {r} z p q t u =
+    unfolding reply_file refusal_number book_in
+    reply_written {l} {x} {names} {after} {r} e p t u =
         subst (λ (a : Said). Tells a room after r)
-        (pick_not_lt _ _ _ (length room) least_room h (pick_eq _ _ _ (read_file f).refusal 0 (sym (ap (λ (y : Loaded). y.refusal) e) ∙ z) (
-        ap (λ (y : Ruling). write_of y s names (length room)) p ∙ ap (λ (y : State). write_of (ruling_in v) y names (length room)) (q ∙ ap (λ (y : Loaded). y.state) e)
-        ∙ ap (λ (y : List ℕ). write_of (ruling_in v) (read_file f).state y (length room)) t
+        (pick_not_lt _ _ _ (length room) least_room h (pick_eq _ _ _ (refusal_number (read_file f)) 0 (sym (ap refusal_number e)) (
+        ap (λ (y : Ruling). write_of y l.state names (length room)) p ∙ ap (λ (y : Result Loaded Refusal). write_of (ruling_in v) (book_in y).state names (length room)) e
+        ∙ ap (λ (y : List ℕ). write_of (ruling_in v) (book_in (read_file f)).state y (length room)) t
         ))) u
 
-  -- a form that is wrong, and one that is right
-  module _ {y : Layout} (h : least_room ≤ length room) (w : FormedBy f y) where
-    pub reply_wrong : {r : Outcome} → y ≡ Wrong → r ≡ record { outcome = 20; length = 0; offset = 0; count = 0 } → Tells (reply_file f v (length room)) room room r
-    unfolding refused
-    reply_wrong e q = reply_refused {l = refused 20} h (read_not f w (refused 20) e refl) (λ p. omega arith) refl q
+    -- a form that is wrong, and one that is right
+    module _ {y : Option Places} (w : FormedBy f y) where
+      pub reply_wrong : {r : Outcome} → y ≡ None → r ≡ record { outcome = 20; length = 0; offset = 0; count = 0 } → Tells (reply_file f v (length room)) room room r
+      unfolding code_of
+      reply_wrong e q = reply_refused (λ p. absurd (omega arith)) (check_not f w WrongForm e refl) q
 
-    module _ {p : Places} {l : Loaded} (e : y ≡ Right p) (q : l ≡ loaded (file_at f p)) where
-      pub reply_unsound : {k : ℕ} {r : Outcome} → (l.refusal ≡ 0 → ⊥) → k ≡ l.refusal → r ≡ record { outcome = k; length = 0; offset = 0; count = 0 } → Tells (reply_file f v (length room)) room room r
-      reply_unsound z g a = reply_refused h (read_yes f w l e q) z g a
+      module _ {p : Places} (e : y ≡ Some p) where
+        pub reply_unsound : {i : Refusal} {k : ℕ} {r : Outcome} → Err i ≡ loaded (file_at f p) → k ≡ code_of i → r ≡ record { outcome = k; length = 0; offset = 0; count = 0 } → Tells (reply_file f v (length room)) room room r
+        unfolding refusal_number
+        reply_unsound {i} q g a = reply_refused (λ z. refused_not_0 i (sym g ∙ z)) (g ∙ ap refusal_number (read_yes f w (Err i) e q)) a
 
-      pub reply_right : {x : Ruling} {s : State} {after : List ℕ} {r : Outcome} → l.refusal ≡ 0 → x ≡ ruling_in v → s ≡ l.state
-          → Tells (write_of x s (take (p.releases - p.names) (drop p.names f)) (length room)) room after r → Tells (reply_file f v (length room)) room after r
-      reply_right z a b u = reply_written h (read_yes f w l e q) z a b (names_yes f w _ e refl) u
+        pub reply_right : {l : Loaded} {x : Ruling} {after : List ℕ} {r : Outcome} → Ok l ≡ loaded (file_at f p) → x ≡ ruling_in v
+            → Tells (write_of x l.state (take (p.releases - p.names) (drop p.names f)) (length room)) room after r → Tells (reply_file f v (length room)) room after r
+        reply_right {l} q a u = reply_written (read_yes f w (Ok l) e q) a (names_yes f w _ e refl) u

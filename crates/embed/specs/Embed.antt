@@ -1,17 +1,17 @@
 -- Definitions: what the functions for a host program in C or Rust answer: numbers and octets only. A campus file is held in a buffer of the caller's.
 -- The buffer is tested first: 23, document 01's short room, below 32,768 octets; 28 a length past its end; then 20 and 21. Of a list of calls:
 -- 24 a record that is cut off, then 27 fewer than 518 octets left for the next answer. Each number has one meaning.
-use Rattle.std.specs.Prelude.{ℕ, List, [], eqb, ltb, length, take}
+use Rattle.std.specs.Prelude.{ℕ, List, [], Result, Ok, Err, eqb, ltb, length, take}
 use Rattle.state_file.specs.File.{file_limit}
 use Rattle.lists.specs.Pick.{pick}
 use Rattle.state.specs.declared.Lease.{Lease}
 use Rattle.state.specs.declared.Ledger.{Ledger}
 use Rattle.server.specs.Serve.{Call}
-use Rattle.state_file.specs.declared.Written.{Written}
-use Rattle.state_file.specs.StateFile.{names_of, read_file}
+use Rattle.state_file.specs.declared.Refusal.{Refusal}
+use Rattle.state_file.specs.StateFile.{book_in, code_of, names_of, read_file, refusal_number}
 use Rattle.records.specs.Records.{records_of}
 use Rattle.call_list.specs.CallList.{replayed, Worked}
-use Rattle.records.specs.Lent.{room_lent, written_lent}
+use Rattle.records.specs.Lent.{ledger_from, room_lent, written_lent}
 use Rattle.record_call.specs.Call.{LentAnswer, serve_lent}
 
 -- ---- a file in a buffer
@@ -21,14 +21,14 @@ largest_file = file_limit
 
 -- the number that the first n octets of a buffer draw before anything is done with them, or 0
 unfoldable pub refusal_in : List ℕ → ℕ → ℕ
-refusal_in b n = pick (ltb (length b) largest_file) 23 (pick (ltb (length b) n) 28 (read_file (take n b)).refusal)
+refusal_in b n = pick (ltb (length b) largest_file) 23 (pick (ltb (length b) n) 28 (refusal_number (read_file (take n b))))
 
 -- their ledger (clock, settings and what is remembered) and records,
 abbrev pub ledger_in : List ℕ → ℕ → Ledger
-ledger_in b n = record { state = (read_file (take n b)).state; memory = (read_file (take n b)).memory }
+ledger_in b n = ledger_from (book_in (read_file (take n b)))
 
 abbrev pub leases_in : List ℕ → ℕ → List Lease
-leases_in b n = records_of (read_file (take n b)).table
+leases_in b n = records_of (book_in (read_file (take n b))).table
 
 -- and the names of its scopes
 abbrev pub names_in : List ℕ → ℕ → List ℕ
@@ -40,11 +40,13 @@ largest_names = 6229
 
 -- What is told once the file is written again. The writer refuses no book that calls on an accepted file leave (`ServedNumbers`, `ReplayedNumbers` in
 -- Statement.antt of `embed_guarantee`); if it did, the host would be told its refusal, the old file would stand, and the reply or the answers would be there all the same.
-unfoldable pub number_after : Written → ℕ → ℕ
-number_after w k = pick (eqb w.refusal 0) k w.refusal
+abbrev pub number_after : Result ℕ Refusal → ℕ → ℕ
+number_after (Ok m) k = k
+number_after (Err e) k = code_of e
 
-unfoldable pub length_after : Written → ℕ → ℕ
-length_after w n = pick (eqb w.refusal 0) w.length n
+abbrev pub length_after : Result ℕ Refusal → ℕ → ℕ
+length_after (Ok m) n = m
+length_after (Err e) n = n
 
 -- ---- work on a file's book: one call, or a list of calls
 -- the number returned, the file's buffer and the file's length afterwards, and the work's other parts

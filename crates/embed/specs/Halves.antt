@@ -6,7 +6,7 @@ use Rattle.reply.specs.Reply.{least_room}
 use Rattle.server.specs.Serve.{Said}
 use Rattle.server.specs.Halves.{silent, write_of}
 use Rattle.verdict_octets.specs.Octets.{ruling_in, verdict_octets}
-use Rattle.state_file.specs.StateFile.{names_of, read_file}
+use Rattle.state_file.specs.StateFile.{book_in, names_of, read_file, refusal_number}
 use Rattle.record_verdict.specs.Verdict.{judge_lent, LentJudgement}
 use Rattle.embed.specs.Embed.{Filed, names_in, on_file}
 use Rattle.call_list.specs.CallList.{Worked}
@@ -24,4 +24,4 @@ judge_file b n client time d = on_file b n (λ g ls. judged (judge_lent g ls (na
 unfoldable pub reply_file : List ℕ → List ℕ → ℕ → Said
 reply_file f v room =
     pick (ltb room least_room) (silent 2 0 0)
-    (pick (eqb (read_file f).refusal 0) (write_of (ruling_in v) (read_file f).state (names_of f) room) (silent (read_file f).refusal 0 0))
+    (pick (eqb (refusal_number (read_file f)) 0) (write_of (ruling_in v) (book_in (read_file f)).state (names_of f) room) (silent (refusal_number (read_file f)) 0 0))

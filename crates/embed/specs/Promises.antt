@@ -2,19 +2,20 @@
 use Rattle.std.specs.Prelude.{ℕ, ◌-◌, ◌≤◌, ◌≡◌, List, [], ◌∷◌, ◌++◌, drop, length, take}
 use Rattle.server.specs.declared.Outcome.{Outcome}
 use Rattle.server.specs.Serve.{Said, Tells}
-use Rattle.state_file.specs.StateFile.{names_of, read_file}
+use Rattle.state_file.specs.StateFile.{book_in, names_of, read_file, refusal_number}
+use Rattle.records.specs.Lent.{ledger_from}
 use Rattle.records.specs.Records.{records_of}
 use Rattle.embed.specs.declared.Opening.{Opening}
 use Rattle.embed.specs.Embed.{Filed, largest_names, ledger_in, leases_in, names_in, refusal_in}
 
 -- the book of a file that is opened, and its names by where they stand
 pub record OpenedFile (s : List ℕ) (r : Opening) : Type 0 where
-  pub refusal : r.refusal ≡ (read_file s).refusal
-  pub ledger : (read_file s).refusal ≡ 0 → r.owned.ledger ≡ record { state = (read_file s).state; memory = (read_file s).memory }
-  pub leases : (read_file s).refusal ≡ 0 → r.owned.records.leases ≡ records_of (read_file s).table
+  pub refusal : r.refusal ≡ refusal_number (read_file s)
+  pub ledger : refusal_number (read_file s) ≡ 0 → r.owned.ledger ≡ ledger_from (book_in (read_file s))
+  pub leases : refusal_number (read_file s) ≡ 0 → r.owned.records.leases ≡ records_of (book_in (read_file s)).table
   pub order : r.from ≤ r.end
   pub within : r.end ≤ length s
-  pub names : (read_file s).refusal ≡ 0 → take (r.end - r.from) (drop r.from s) ≡ names_of s
+  pub names : refusal_number (read_file s) ≡ 0 → take (r.end - r.from) (drop r.from s) ≡ names_of s
 
 -- the same of the first n octets of a buffer
 pub record Opened (b : List ℕ) (n : ℕ) (r : Opening) : Type 0 where

@@ -3,10 +3,10 @@
 // after.
 #![tactic(auto)]
 
-ghost use Rattle.std.specs.Prelude.{◌≡◌, ◌-◌, ◌≤◌, min, drop, length, take};
+ghost use Rattle.std.specs.Prelude.{◌≡◌, ◌-◌, ◌≤◌, drop, length, take};
 ghost use Rattle.board_text.specs.Board.{length_in, room_with_text};
-ghost use Rattle.state_file.specs.StateFile.{read_file};
-ghost use Rattle.embed.specs.Embed.{largest_names, number_after, length_after, serve_file, replay_file};
+ghost use Rattle.state_file.specs.StateFile.{read_file, refusal_number};
+ghost use Rattle.embed.specs.Embed.{number_after, length_after, serve_file, replay_file};
 ghost use Rattle.salvage_file.specs.Salvage.{salvage_of};
 ghost use Rattle.salvage_file.specs.Walk.{Salvages};
 ghost use Rattle.server.specs.Serve.{Tells};
@@ -17,7 +17,7 @@ ghost use Rattle.embed.specs.Promises.{Keeps, Opened, OpenedFile, ServesFile, Ju
 use owned::Owned;
 use server::Outcome;
 use state::Ledger;
-use state_file::{Layout, Written};
+use state_file::Refusal;
 
 // The longest names of an accepted file.
 const NAMES_ROOM: usize = 6229;
@@ -39,10 +39,9 @@ pub struct Opening {
 fn refused(number: u8) -> Opening
     ensures { (result.refusal ≡ number) × (result.from ≡ 0) × (result.end ≡ 0) }
 {
-    let o = owned::blank();
     Opening {
         refusal: number,
-        owned: o,
+        owned: owned::blank(),
         from: 0,
         end: 0,
     }
@@ -52,26 +51,23 @@ fn refused(number: u8) -> Opening
 fn open(file: &[u8]) -> Opening
     ensures { OpenedFile file.now result }
 {
-    let layout = state_file::form_of(file);
-    let Layout::Right(places) = layout else {
+    let Some(places) = state_file::form_of(file) else {
         return refused(20);
     };
-    let f = state_file::book_at(file, places);
-    let s = f.state;
-    let m = f.memory;
-    let t = f.table;
-    let records = records::records_of(t);
-    Opening {
-        refusal: f.refusal,
-        owned: Owned {
-            ledger: Ledger {
-                state: s,
-                memory: m,
+    match state_file::book_at(file, places) {
+        Ok(book) => Opening {
+            refusal: 0,
+            owned: Owned {
+                ledger: Ledger {
+                    state: book.state,
+                    memory: book.memory,
+                },
+                records: records::records_of(book.table),
             },
-            records: records,
+            from: places.names,
+            end: places.releases,
         },
-        from: places.names,
-        end: places.releases,
+        Err(e) => refused(e.number()),
     }
 }
 
@@ -88,43 +84,30 @@ fn open_in(file: &[u8], n: usize) -> Opening
     open(&file[..n])
 }
 
-fn cut_names(n: usize) -> usize
-    ensures { result ≡ min n largest_names }
-{
-    if n < NAMES_ROOM {
-        return n;
-    }
-    NAMES_ROOM
-}
-
 // The names of a file, which stand at a place of its buffer, copied to the front of another, since the file is written over them; how many octets they are.
 fn keep_names(kept: &mut [u8; NAMES_ROOM], file: &[u8], from: usize, end: usize) -> usize
     requires { (from ≤ end) × (end ≤ length file.now) }
     ensures { Keeps (take (end - from) (drop from file.now)) kept.new result }
 {
     let names = &file[from..end];
-    let k = cut_names(names.len());
-    octets::put_run(kept, 0, names, k)
+    octets::put_run(kept, 0, names, names.len().min(NAMES_ROOM))
 }
 
 // ---- what is told once the file is written again
 
-fn number_after(w: Written, k: u8) -> u8
+fn number_after(w: Result<usize, Refusal>, k: u8) -> u8
     ensures { result ≡ number_after w k }
 {
-    if w.refusal == 0 {
-        return k;
+    match w {
+        Ok(_) => k,
+        Err(e) => e.number(),
     }
-    w.refusal
 }
 
-fn length_after(w: Written, n: usize) -> usize
+fn length_after(w: Result<usize, Refusal>, n: usize) -> usize
     ensures { result ≡ length_after w n }
 {
-    if w.refusal == 0 {
-        return w.length;
-    }
-    n
+    w.unwrap_or(n)
 }
 
 // ---- the second half of a call
@@ -147,34 +130,32 @@ fn write_verdict(file: &[u8], verdict: &[u8; 75], room: &mut [u8]) -> Outcome
     if room.len() < reply::LEAST_ROOM {
         return silent(2);
     }
-    let layout = state_file::form_of(file);
-    let Layout::Right(places) = layout else {
+    let Some(places) = state_file::form_of(file) else {
         return silent(20);
     };
-    let f = state_file::book_at(file, places);
-    let refusal = f.refusal;
-    if refusal == 0 {
-        let s = f.state;
-        let m = f.memory;
-        let g = Ledger {
-            state: s,
-            memory: m,
-        };
-        let r = verdict_octets::take(verdict);
-        let from = places.names;
-        let end = places.releases;
-        return owned::reply(g, r, &file[from..end], room);
+    match state_file::book_at(file, places) {
+        Ok(book) => {
+            let ledger = Ledger {
+                state: book.state,
+                memory: book.memory,
+            };
+            let ruling = verdict_octets::take(verdict);
+            owned::reply(ledger, ruling, &file[places.names..places.releases], room)
+        }
+        Err(e) => silent(e.number()),
     }
-    silent(refusal)
 }
 
 // ---- the functions that `embed_c` exports
 
 // 0 for a campus file that is accepted, or its refusal, 20 or 21.
 pub fn banshorra_check(file: &[u8]) -> u8
-    ensures { result ≡ (read_file file.now).refusal }
+    ensures { result ≡ refusal_number (read_file file.now) }
 {
-    state_file::check(file)
+    match state_file::check(file) {
+        Ok(()) => 0,
+        Err(e) => e.number(),
+    }
 }
 
 // The text that `board` prints for a campus file: its length, or 0 where the room is below 1,100 octets.
@@ -192,18 +173,16 @@ pub fn banshorra_occupancy(file: &[u8], board: &mut [u8]) -> u8
     ensures number { result ≡ board_number (read_file file.now) (length board.old) }
     ensures octets { board.new ≡ room_with_board (read_file file.now) board.old }
 {
-    let f = state_file::read(file);
-    let refusal = f.refusal;
-    if refusal == 0 {
-        if board.len() < BOARD_ROOM {
-            return 23;
+    match state_file::read(file) {
+        Ok(book) => {
+            if board.len() < BOARD_ROOM {
+                return 23;
+            }
+            occupancy_octets::put(board, 0, book.memory.board);
+            0
         }
-        let m = f.memory;
-        let b = m.board;
-        occupancy_octets::put(board, 0, b);
-        return 0;
+        Err(e) => e.number(),
     }
-    refusal
 }
 
 // One call on the campus file in a buffer: the outcome, 0 to 8, with the reply and its length, and the file and its length afterwards. With discard 5
@@ -225,15 +204,12 @@ pub fn banshorra_serve(
 {
     let n = *file_length;
     let f = open_in(file, n);
-    let refusal = f.refusal;
-    if refusal == 0 {
+    if f.refusal == 0 {
         let mut kept = [0u8; NAMES_ROOM];
         let k = keep_names(&mut kept, file, f.from, f.end);
-        let o = f.owned;
-        let r = call_list::serve_sound(o, &kept[..k], datagram, client, time, reply);
+        let r = call_list::serve_sound(f.owned, &kept[..k], datagram, client, time, reply);
         let told = r.outcome;
-        let b = r.owned;
-        let w = call_list::write_sound(b, &kept[..k], file);
+        let w = call_list::write_sound(r.owned, &kept[..k], file);
         *file_length = length_after(w, n);
         *reply_length = told.length;
         *fault_offset = told.offset;
@@ -243,7 +219,7 @@ pub fn banshorra_serve(
     *reply_length = 0;
     *fault_offset = 0;
     *count = 0;
-    refusal
+    f.refusal
 }
 
 // The first half of a call on the campus file in a buffer, for monitoring: the verdict's outcome, 0 to 8 and never 2, its 75 octets in `verdict` (the layout
@@ -260,21 +236,16 @@ pub fn banshorra_judge(
 {
     let n = *file_length;
     let f = open_in(file, n);
-    let refusal = f.refusal;
-    if refusal == 0 {
+    if f.refusal == 0 {
         let mut kept = [0u8; NAMES_ROOM];
         let k = keep_names(&mut kept, file, f.from, f.end);
-        let o = f.owned;
-        let j = call_list::judge_sound(o, &kept[..k], datagram, client, time);
-        let ruling = j.ruling;
-        let b = j.owned;
-        let w = call_list::write_sound(b, &kept[..k], file);
-        verdict_octets::put(verdict, ruling);
+        let j = call_list::judge_sound(f.owned, &kept[..k], datagram, client, time);
+        let w = call_list::write_sound(j.owned, &kept[..k], file);
+        verdict_octets::put(verdict, j.ruling);
         *file_length = length_after(w, n);
-        let v = ruling.verdict;
-        return number_after(w, v.outcome);
+        return number_after(w, j.ruling.verdict.outcome);
     }
-    refusal
+    f.refusal
 }
 
 // The second half: the reply of a verdict that `banshorra_judge` gave, and of the campus file that it left; the number is the outcome, 0 to 8, with the
@@ -313,14 +284,11 @@ pub fn banshorra_replay(
 {
     let n = *file_length;
     let f = open_in(file, n);
-    let refusal = f.refusal;
-    if refusal == 0 {
+    if f.refusal == 0 {
         let mut kept = [0u8; NAMES_ROOM];
         let k = keep_names(&mut kept, file, f.from, f.end);
-        let o = f.owned;
-        let p = call_list::replay(o, &kept[..k], calls, answers);
-        let b = p.owned;
-        let w = call_list::write_sound(b, &kept[..k], file);
+        let p = call_list::replay(f.owned, &kept[..k], calls, answers);
+        let w = call_list::write_sound(p.owned, &kept[..k], file);
         *file_length = length_after(w, n);
         *used = p.used;
         *filled = p.filled;
@@ -328,7 +296,7 @@ pub fn banshorra_replay(
     }
     *used = 0;
     *filled = 0;
-    refusal
+    f.refusal
 }
 
 // Salvages a campus file that may be refused as 21 (document 02, W-212): a new one into `room`, of `room_length` octets, and into `list` those that were dropped, of
@@ -341,10 +309,18 @@ pub fn banshorra_salvage(
     list: &mut [u8],
     list_length: &mut usize,
 ) -> u8
-    ensures { Salvages (salvage_of file.now (length room.old) (length list.old)) room.old list.old room.new list.new (record { refusal = result; length = room_length.new; listed = list_length.new }) }
+    ensures { Salvages (salvage_of file.now (length room.old) (length list.old)) room.old list.old room.new list.new result room_length.new list_length.new }
 {
-    let told = salvage_file::salvage(file, room, list);
-    *room_length = told.length;
-    *list_length = told.listed;
-    told.refusal
+    match salvage_file::salvage(file, room, list) {
+        Ok(told) => {
+            *room_length = told.length;
+            *list_length = told.listed;
+            0
+        }
+        Err(e) => {
+            *room_length = 0;
+            *list_length = 0;
+            e.number()
+        }
+    }
 }

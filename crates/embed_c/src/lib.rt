@@ -4,7 +4,7 @@
 
 ghost use Rattle.std.specs.Prelude.{◌≡◌, length};
 ghost use Rattle.board_text.specs.Board.{length_in, room_with_text};
-ghost use Rattle.state_file.specs.StateFile.{read_file};
+ghost use Rattle.state_file.specs.StateFile.{read_file, refusal_number};
 ghost use Rattle.embed.specs.Embed.{serve_file, replay_file};
 ghost use Rattle.salvage_file.specs.Salvage.{salvage_of};
 ghost use Rattle.salvage_file.specs.Walk.{Salvages};
@@ -15,7 +15,7 @@ ghost use Rattle.embed.specs.Promises.{ServesFile, JudgesFile, ReplaysFile};
 
 #[unsafe(no_mangle)]
 pub extern "C" fn banshorra_check(file: &[u8]) -> u8
-    ensures { result ≡ (read_file file.now).refusal }
+    ensures { result ≡ refusal_number (read_file file.now) }
 {
     embed::banshorra_check(file)
 }
@@ -113,7 +113,7 @@ pub extern "C" fn banshorra_salvage(
     list: &mut [u8],
     list_length: &mut usize,
 ) -> u8
-    ensures { Salvages (salvage_of file.now (length room.old) (length list.old)) room.old list.old room.new list.new (record { refusal = result; length = room_length.new; listed = list_length.new }) }
+    ensures { Salvages (salvage_of file.now (length room.old) (length list.old)) room.old list.old room.new list.new result room_length.new list_length.new }
 {
     embed::banshorra_salvage(file, room, room_length, list, list_length)
 }

@@ -16,7 +16,7 @@ use Rattle.server.specs.Statement.{VerdictTold}
 use Rattle.server.proofs.Halves.{verdict_told}
 use Rattle.verdict_octets.specs.Octets.{Holds, ReadBack, TypedRuling, verdict_octets}
 use Rattle.verdict_octets.specs.laws.Octets.{verdict_back}
-use Rattle.state_file.specs.StateFile.{names_of, read_file, zero_ledger}
+use Rattle.state_file.specs.StateFile.{book_in, length_written, names_of, read_file, refusal_number, zero_ledger}
 use Rattle.state_file.specs.Typed.{Typed}
 use Rattle.records.specs.Records.{table_from}
 use Rattle.records.specs.Lent.{LentReading, read_lent, room_lent, written_lent}
@@ -97,7 +97,7 @@ module _ (b : List ℕ) (n : ℕ) (c : Call) (e : refusal_in b n ≡ 0) (h : lea
   unfolding JudgedNumbers
   left = (judged_numbers b n c e).numbered
 
-  file_is : file ≡ take (written_lent first.ledger first.leases (names_in b n) (length b)).length (room_lent first.ledger first.leases (names_in b n) b)
+  file_is : file ≡ take (length_written (written_lent first.ledger first.leases (names_in b n) (length b))) (room_lent first.ledger first.leases (names_in b n) b)
   unfolding file
   file_is = ap₂ (λ (k : ℕ) (l : List ℕ). take k l) left.long (ap (λ (x : Filed). x.buffer) first_is)
 
@@ -108,7 +108,7 @@ module _ (b : List ℕ) (n : ℕ) (c : Call) (e : refusal_in b n ≡ 0) (h : lea
         let p = lent_write_read mine b zero_ledger (replicate 128 zero_lease) v o refl left.written in
         (ap (λ (f : List ℕ). read_lent f zero_ledger (replicate 128 zero_lease)) file_is ∙ p.0, ap names_of file_is ∙ p.1)
 
-    again : ((read_file file).refusal ≡ 0) × ((read_file file).state ≡ first.ledger.state)
+    again : (refusal_number (read_file file) ≡ 0) × ((book_in (read_file file)).state ≡ first.ledger.state)
     again =
         let r = read_whole file zero_ledger (replicate 128 zero_lease) (ap (λ (x : LentReading). x.refusal) back.0) in
         (r.0, sym (ap (λ (x : LentReading). x.ledger.state) r.1) ∙ ap (λ (x : LentReading). x.ledger.state) back.0)
@@ -117,8 +117,8 @@ module _ (b : List ℕ) (n : ℕ) (c : Call) (e : refusal_in b n ≡ 0) (h : lea
     second : TypedRuling first.ruling → Octets c.datagram → reply_file file (verdict_octets first.ruling) c.room ≡ said
     unfolding reply_file ReadBack
     second t d =
-        sym (pick_not_lt _ _ _ c.room least_room h (pick_eq _ _ _ (read_file file).refusal 0 again.0 refl))
-        ∙ ap (λ (r : Ruling). write_of r (read_file file).state (names_of file) c.room) (verdict_back first.ruling t (holds d))
+        sym (pick_not_lt _ _ _ c.room least_room h (pick_eq _ _ _ (refusal_number (read_file file)) 0 again.0 refl))
+        ∙ ap (λ (r : Ruling). write_of r (book_in (read_file file)).state (names_of file) c.room) (verdict_back first.ruling t (holds d))
         ∙ ap (λ (s : State). write_of first.ruling s (names_of file) c.room) again.1
         ∙ ap (λ (l : List ℕ). write_of first.ruling first.ledger.state l c.room) back.1
 

@@ -12,7 +12,10 @@ use native.Mathlib.Omega.{arith}
 use Rattle.state.specs.declared.Lease.{Lease}
 use Rattle.state.specs.declared.Ledger.{Ledger}
 use Rattle.server.specs.Serve.{Call}
-use Rattle.state_file.specs.declared.Written.{Written}
+use Rattle.std.specs.Prelude.{Result, Ok, Err}
+use Rattle.state_file.specs.declared.Refusal.{Refusal}
+use Rattle.state_file.specs.StateFile.{length_written, refusal_number}
+use Rattle.records.specs.laws.Files.{refused_not_0}
 use Rattle.records.specs.Lent.{written_lent}
 use Rattle.record_verdict.specs.Verdict.{judge_lent, LentJudgement}
 use Rattle.record_call.specs.Call.{serve_lent}
@@ -30,13 +33,15 @@ use Rattle.embed.specs.Halves.{judged, judge_file}
 use Rattle.embed_guarantee.specs.Statement.{first_half, JudgedNumber, judged_in, JudgedNumbers, Numbered, ReplayedNumbers, ServedNumbers}
 
 -- ---- what is told where the writer refuses nothing
-told : (w : Written) (k : ℕ) → w.refusal ≡ 0 → number_after w k ≡ k
-unfolding number_after pick
-told w k e = ap (λ (n : ℕ). pick (eqb n 0) k n) e
+told : (w : Result ℕ Refusal) (k : ℕ) → refusal_number w ≡ 0 → number_after w k ≡ k
+unfolding refusal_number
+told (Ok m) k e = refl
+told (Err i) k e = absurd (refused_not_0 i e)
 
-told_length : (w : Written) (n : ℕ) → w.refusal ≡ 0 → length_after w n ≡ w.length
-unfolding length_after pick
-told_length w n e = ap (λ (k : ℕ). pick (eqb k 0) w.length n) e
+told_length : (w : Result ℕ Refusal) (n : ℕ) → refusal_number w ≡ 0 → length_after w n ≡ length_written w
+unfolding refusal_number length_written
+told_length (Ok m) n e = refl
+told_length (Err i) n e = absurd (refused_not_0 i e)
 
 -- ---- some work that keeps the ledger and the records sound
 module _ (b : List ℕ) (n : ℕ) (work : Ledger → List Lease → Worked) (e : refusal_in b n ≡ 0) where
@@ -55,7 +60,7 @@ module _ (b : List ℕ) (n : ℕ) (work : Ledger → List Lease → Worked) (e :
     long = ap (λ (x : Filed). x.length) filed_at ∙ told_length (written_lent done.ledger done.leases (names_in b n) (length b)) n written;
   }
     where
-      written : (written_lent done.ledger done.leases (names_in b n) (length b)).refusal ≡ 0
+      written : refusal_number (written_lent done.ledger done.leases (names_in b n) (length b)) ≡ 0
       written = sound_written (lent done.ledger done.leases (names_in b n)) v (length b) (let h = (accepted_parts b n e).0 in omega arith)
 
 -- ---- one call

@@ -7,6 +7,7 @@ use Rattle.format.specs.Format.{Octets}
 use Rattle.server.specs.Serve.{Call}
 use Rattle.verdict_octets.specs.Octets.{TypedRuling}
 use Rattle.state_file.specs.Typed.{Typed}
+use Rattle.state_file.specs.StateFile.{length_written, refusal_number}
 use Rattle.records.specs.Records.{table_from}
 use Rattle.records.specs.Lent.{written_lent}
 use Rattle.record_verdict.specs.Verdict.{judge_lent, LentJudgement}
@@ -19,8 +20,8 @@ use Rattle.embed.specs.Promises.{filed_said}
 -- after some work the writer refuses nothing: the number is the work's, and the length is the new file's
 pub record Numbered (b : List ℕ) (n : ℕ) (a : Filed) (r : Worked) : Type 0 where
   pub number : a.number ≡ r.number
-  pub written : (written_lent r.ledger r.leases (names_in b n) (length b)).refusal ≡ 0
-  pub long : a.length ≡ (written_lent r.ledger r.leases (names_in b n) (length b)).length
+  pub written : refusal_number (written_lent r.ledger r.leases (names_in b n) (length b)) ≡ 0
+  pub long : a.length ≡ length_written (written_lent r.ledger r.leases (names_in b n) (length b))
 
 -- one call: the number is its outcome, so 0 to 8
 pub record ServedNumber (b : List ℕ) (n : ℕ) (c : Call) (r : Worked) : Type 0 where

@@ -14,7 +14,7 @@ ghost use Rattle.record_verdict.specs.Verdict.{judge_lent, JudgesLent};
 use occupancy::Entry;
 use server::{Outcome, Ruling};
 use state::{Lease, Ledger, Lookup};
-use state_file::Written;
+use state_file::Refusal;
 
 // The place of an identifier among the records of tenant h, counted from 0, and how many of them were compared with it. Not found where it has none, and
 // none compared for no tenant and of another number of records than 128.
@@ -32,8 +32,8 @@ pub fn insert(leases: &mut [Lease], h: usize, l: Lease)
     ensures { leases.new ≡ insert_lent h l leases.old }
 {
     let all = lent_steps::load(leases);
-    let x = records::insert(all, leases.len(), h, l);
-    lent_steps::store(leases, x);
+    let now = records::insert(all, leases.len(), h, l);
+    lent_steps::store(leases, now);
 }
 
 // The lease of an identifier goes from among those of tenant h; its records past its first unused one become unused. For no tenant, and of
@@ -42,8 +42,8 @@ pub fn remove(leases: &mut [Lease], h: usize, id: [u8; 32], len: u8)
     ensures { leases.new ≡ remove_lent h (take len id) leases.old }
 {
     let all = lent_steps::load(leases);
-    let x = records::remove(all, leases.len(), h, id, len);
-    lent_steps::store(leases, x);
+    let now = records::remove(all, leases.len(), h, id, len);
+    lent_steps::store(leases, now);
 }
 
 // What the occupancy board has on address a of scope k, both counted from 0, without the records: no owner and no lease where there is no such
@@ -51,16 +51,14 @@ pub fn remove(leases: &mut [Lease], h: usize, id: [u8; 32], len: u8)
 pub fn entry(ledger: &Ledger, k: usize, a: usize) -> Entry
     ensures { result ≡ entry_at (scope_board_at ledger.now.memory.board k) a }
 {
-    let b = ledger.memory.board;
-    occupancy::entry_at(b, k, a)
+    occupancy::entry_at(ledger.memory.board, k, a)
 }
 
 // How many addresses of scope k tenant g, both counted from 0, holds by the board; none where there is no such scope or tenant.
 pub fn holding(ledger: &Ledger, k: usize, g: usize) -> u8
     ensures { result ≡ held_in (scope_board_at ledger.now.memory.board k) g }
 {
-    let b = ledger.memory.board;
-    occupancy::holding_at(b, k, g)
+    occupancy::holding_at(ledger.memory.board, k, g)
 }
 
 // The call, with the names of the scopes lent. Another number of records than 128 is discard 1, and so are names that are not good for the settings and
@@ -76,9 +74,17 @@ pub fn serve(
 ) -> Outcome
     ensures { ServesLent (serve_lent ledger.old leases.old names.now (record { datagram = datagram.now; client = client; time = time; room = length reply.old })) ledger.new leases.new reply.old reply.new result }
 {
-    let g = *ledger;
     let all = lent_steps::load(leases);
-    let r = record_call::serve(g, all, leases.len(), names, datagram, client, time, reply);
+    let r = record_call::serve(
+        *ledger,
+        all,
+        leases.len(),
+        names,
+        datagram,
+        client,
+        time,
+        reply,
+    );
     ledger.memory = r.memory;
     lent_steps::advance(ledger, r.clock);
     lent_steps::store(leases, r.records);
@@ -97,9 +103,8 @@ pub fn judge(
 ) -> Ruling
     ensures { JudgesLent (judge_lent ledger.old leases.old names.now client time datagram.now) ledger.new leases.new result }
 {
-    let g = *ledger;
     let all = lent_steps::load(leases);
-    let r = record_verdict::judge(g, all, leases.len(), names, datagram, client, time);
+    let r = record_verdict::judge(*ledger, all, leases.len(), names, datagram, client, time);
     ledger.memory = r.memory;
     lent_steps::advance(ledger, r.clock);
     lent_steps::store(leases, r.records);
@@ -111,30 +116,31 @@ pub fn judge(
 pub fn reply(ruling: Ruling, ledger: &Ledger, names: &[u8], room: &mut [u8]) -> Outcome
     ensures { Tells (write_of ruling ledger.now.state names.now (length room.old)) room.old room.new result }
 {
-    let s = ledger.state;
-    server::write(ruling, s, names, room)
+    server::write(ruling, ledger.state, names, room)
 }
 
-// Reads a state file into the lent ledger and records: 0, or refusal 20 and then 21, which leave both as they were. Another number of records
-// than 128 is 21 after 20. The file's names are `state_file::names`.
-pub fn read(file: &[u8], ledger: &mut Ledger, leases: &mut [Lease]) -> u8
+// Reads a state file into the lent ledger and records; a refusal, that the form is wrong and then that the file is unsound, leaves both as they were. Another
+// number of records than 128 makes a file unsound. The file's names are `state_file::names`.
+pub fn read(file: &[u8], ledger: &mut Ledger, leases: &mut [Lease]) -> Result<(), Refusal>
     ensures { ReadsLent (read_lent file.now ledger.old leases.old) ledger.new leases.new result }
 {
-    let g = *ledger;
-    let all = lent_steps::load(leases);
-    let r = records::read(file, g, all, leases.len());
-    *ledger = r.ledger;
-    lent_steps::store(leases, r.records);
-    r.refusal
+    let book = records::read(file, leases.len())?;
+    *ledger = book.ledger;
+    lent_steps::store(leases, book.records);
+    Ok(())
 }
 
-// Writes a state file from the lent ledger, records and names: its length, or refusal 22 and then 23, which write nothing. Another number of records
-// than 128 is 22, and so are names that are not good for the settings and a board that disagrees with the leases.
-pub fn write(ledger: &Ledger, leases: &[Lease], names: &[u8], room: &mut [u8]) -> Written
+// Writes a state file from the lent ledger, records and names: its length, or that the book is unsound and then that the room is too short; a refusal writes
+// nothing. Another number of records than 128 makes a book unsound, and so do names that are not good for the settings and a board that disagrees with the leases.
+pub fn write(
+    ledger: &Ledger,
+    leases: &[Lease],
+    names: &[u8],
+    room: &mut [u8],
+) -> Result<usize, Refusal>
     ensures answer { result ≡ written_lent ledger.now leases.now names.now (length room.old) }
     ensures octets { room.new ≡ room_lent ledger.now leases.now names.now room.old }
 {
-    let g = *ledger;
     let all = lent_steps::load(leases);
-    records::write(g, all, leases.len(), names, room)
+    records::write(*ledger, all, leases.len(), names, room)
 }

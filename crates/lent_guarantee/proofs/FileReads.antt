@@ -23,14 +23,16 @@ use Rattle.decision_laws.specs.laws.Kept.{own_is}
 use Rattle.admission.specs.Tests.{own_of}
 use Rattle.call_guarantee.specs.Statement.{Narrow, StaysNarrow}
 use Rattle.call_guarantee.proofs.Bounded.{stays_narrow}
+use Rattle.std.specs.Prelude.{Result}
 use Rattle.state_file.specs.declared.Loaded.{Loaded}
+use Rattle.state_file.specs.declared.Refusal.{Refusal}
 use Rattle.lease_file.specs.Section.{FileHold, FileLease}
 use Rattle.lease_file.specs.Records.{hold_tenant, lease_tenant, merged_from, stored, stored_hold}
 use Rattle.state_file.specs.File.{File, file_of}
 use Rattle.format.specs.Format.{Got, bad, got}
 use Rattle.format.specs.Tenants.{own}
 use Rattle.state_file.specs.Records.{fits_b, stored_table}
-use Rattle.state_file.specs.StateFile.{accepted, loaded_got, judged, loaded, read_file, refused, zero_table}
+use Rattle.state_file.specs.StateFile.{accepted, book_in, loaded_got, judged, loaded, read_file, zero_table}
 use Rattle.records.specs.laws.Files.{file_back}
 use Rattle.records.specs.Lent.{LentReading, read_lent}
 use Rattle.records.specs.Records.{table_from}
@@ -78,12 +80,12 @@ none zero g = tt
 none (suc n) zero = tt
 none (suc n) (suc g) = none n g
 
-read_narrow : (f : List ℕ) (g : ℕ) → All F (own_of (read_file f).table g)
-unfolding read_file loaded_got loaded judged accepted refused stored_table zero_table
+read_narrow : (f : List ℕ) (g : ℕ) → All F (own_of (book_in (read_file f)).table g)
+unfolding read_file loaded_got loaded judged accepted book_in stored_table zero_table
 read_narrow f g = go (file_of f)
   where
-    P : Loaded → Type 0
-    P r = All F (own_of r.table g)
+    P : Result Loaded Refusal → Type 0
+    P r = All F (own_of (book_in r).table g)
 
     zeros : All F (own_of (table_of (replicate 8 [])) g)
     zeros = of_lists (replicate 8 []) g (none 8 g)

@@ -3,13 +3,13 @@ use Prim.Native.Nat.{ℕ, ◌≤◌}
 use mathlib.Core.Path.{◌≡◌, refl, sym, ap, ap₂, ◌∙◌}
 use mathlib.Core.Bool.{Bool, true, false}
 use mathlib.Core.List.{List}
+use Rattle.std.specs.Prelude.{Result, Ok, Err}
 use native.Mathlib.Omega.{arith}
 use lib.Dec.{eqb}
 use lib.ListN.{length, take}
 use borrow.Author.Tests.{eqb-true, eqb-false}
 use Rattle.state_file.specs.File.{File, file_of, longest_file}
 use Rattle.state_file.specs.Records.{fits_b}
-use Rattle.lists.specs.Pick.{pick}
 use Rattle.format.specs.Tenants.{apart}
 use Rattle.message.specs.laws.Placed.{pick_cases}
 use Rattle.format.specs.Format.{Got, bad, got}
@@ -20,14 +20,15 @@ use Rattle.state.specs.declared.Ledger.{Ledger}
 use Rattle.state.specs.Book.{Book}
 use Rattle.releases.specs.Whole.{book_b}
 use Rattle.state_file.specs.declared.Loaded.{Loaded}
-use Rattle.state_file.specs.declared.Written.{Written}
-use Rattle.state_file.specs.StateFile.{accepted, judged, loaded, loaded_got, names_of, read_file, refused, room_after, written_of}
+use Rattle.state_file.specs.declared.Refusal.{Refusal}
+use Rattle.state_file.specs.declared.Refusal.TheVariants.{UnsoundBook, UnsoundFile}
+use Rattle.state_file.specs.StateFile.{accepted, book_in, code_of, judged, length_written, loaded, loaded_got, names_of, read_file, refusal_number, room_after, written_of}
 use Rattle.state_file.proofs.RoundTrip.{never_refused, read_sound, written_read}
 use Rattle.records.specs.laws.Back.{records_back}
 use Rattle.records.specs.laws.Files.{file_back, file_long}
 use Rattle.records.specs.laws.Table.{table_eight}
 use Rattle.records.specs.Records.{records_of}
-use Rattle.records.specs.Lent.{LentReading, book_from, read_lent, read_with, room_with, written_with}
+use Rattle.records.specs.Lent.{LentReading, book_from, for_records, read_lent, read_over, read_with, room_with, written_with}
 use Rattle.record_verdict.specs.Verdict.{ledger_of}
 use Rattle.records.specs.laws.Steps.{off_whole, on_whole}
 use Rattle.lent_guarantee.specs.Statement.{FileWritten, Lent, lent_book, LentDemand3, LentWriteRead, lent_room, LentWritten, lent_written, SoundLent, after_file, run_lent}
@@ -38,42 +39,43 @@ use Rattle.lent_guarantee.proofs.RoundTrip.{read_whole}
 -- a reading that is accepted, on 128 records
 read_as : (f : List ℕ) (g : Ledger) (b : Book) (ls : List Lease) → length ls ≡ 128 → read_file f ≡ accepted b.state b.table b.memory
     → read_lent f g ls ≡ record { refusal = 0; ledger = ledger_of b; leases = records_of b.table }
-unfolding read_with accepted pick
+unfolding for_records read_over accepted
 read_as f g b ls long e =
-    ap (λ (r : Loaded). read_with (length ls) r g ls) e ∙ sym (on_whole (record { refusal = 0; ledger = ledger_of b; leases = records_of b.table }) (record { refusal = 21; ledger = g; leases = ls }) long)
+    ap (λ (r : Result Loaded Refusal). read_with (length ls) r g ls) e
+    ∙ ap (λ (r : Result Loaded Refusal). read_over r g ls) (sym (on_whole {A = Result Loaded Refusal} (Ok (record { state = b.state; table = b.table; memory = b.memory })) (Err UnsoundFile) long))
 
 -- the writer refuses another number of records
-written_whole : (l : Lent) (n : ℕ) → (lent_written l n).refusal ≡ 0 → length l.leases ≡ 128
-unfolding written_with
+written_whole : (l : Lent) (n : ℕ) → refusal_number (lent_written l n) ≡ 0 → length l.leases ≡ 128
+unfolding written_with refusal_number code_of
 written_whole l n e = go (eqb (length l.leases) 128) refl
   where
     go : (b : Bool) → eqb (length l.leases) 128 ≡ b → length l.leases ≡ 128
     go true p = eqb-true (length l.leases) 128 p
     go false p =
-        let q : lent_written l n ≡ record { refusal = 22; length = 0 } = sym (off_whole (written_of (lent_book l) n) (record { refusal = 22; length = 0 }) (eqb-false (length l.leases) 128 p)) in
-        let z : (lent_written l n).refusal ≡ 22 = ap (λ (w : Written). w.refusal) q in
+        let q : lent_written l n ≡ Err UnsoundBook = sym (off_whole (written_of (lent_book l) n) (Err UnsoundBook) (eqb-false (length l.leases) 128 p)) in
+        let z : refusal_number (lent_written l n) ≡ 22 = ap refusal_number q in
         absurd (omega arith)
 
 pub lent_write_read : LentWriteRead
 unfolding LentWriteRead written_with room_with
 lent_write_read l room g ls v o long e =
     let here : length l.leases ≡ 128 = written_whole l (length room) e in
-    let w : written_of (lent_book l) (length room) ≡ lent_written l (length room) = on_whole (written_of (lent_book l) (length room)) (record { refusal = 22; length = 0 }) here in
+    let w : written_of (lent_book l) (length room) ≡ lent_written l (length room) = on_whole (written_of (lent_book l) (length room)) (Err UnsoundBook) here in
     let r : room_after (lent_book l) room ≡ lent_room l room = on_whole (room_after (lent_book l) room) room here in
-    let back = written_read (lent_book l) v o room (ap (λ (x : Written). x.refusal) w ∙ e) in (
-      ap₂ (λ (x : Written) (y : List ℕ). read_lent (take x.length y) g ls) (sym w) (sym r)
-          ∙ read_as (take (written_of (lent_book l) (length room)).length (room_after (lent_book l) room)) g (lent_book l) ls long back.0
+    let back = written_read (lent_book l) v o room (ap refusal_number w ∙ e) in (
+      ap₂ (λ (x : Result ℕ Refusal) (y : List ℕ). read_lent (take (length_written x) y) g ls) (sym w) (sym r)
+          ∙ read_as (take (length_written (written_of (lent_book l) (length room))) (room_after (lent_book l) room)) g (lent_book l) ls long back.0
           ∙ ap {B = LentReading} (λ (x : List Lease). record { refusal = 0; ledger = l.ledger; leases = x }) (records_back l.leases here),
-      ap₂ (λ (x : Written) (y : List ℕ). names_of (take x.length y)) (sym w) (sym r) ∙ back.1,
+      ap₂ (λ (x : Result ℕ Refusal) (y : List ℕ). names_of (take (length_written x) y)) (sym w) (sym r) ∙ back.1,
     )
 
 -- ---- after any list of calls
 -- records stand for eight tenants' always
-pub sound_written : (l : Lent) → SoundLent l → (n : ℕ) → longest_file ≤ n → (lent_written l n).refusal ≡ 0
-unfolding written_with
+pub sound_written : (l : Lent) → SoundLent l → (n : ℕ) → longest_file ≤ n → refusal_number (lent_written l n) ≡ 0
+unfolding written_with refusal_number
 sound_written l v n h =
-    ap (λ (w : Written). w.refusal)
-    (sym (on_whole (written_of (lent_book l) n) (record { refusal = 22; length = 0 }) v.whole) ∙ never_refused (lent_book l) n (table_eight l.leases) v.eight v.sound h)
+    ap refusal_number
+    (sym (on_whole (written_of (lent_book l) n) (Err UnsoundBook) v.whole) ∙ never_refused (lent_book l) n (table_eight l.leases) v.eight v.sound h)
 
 pub lent_written_law : LentWritten
 unfolding LentWritten LentDemand3
@@ -84,12 +86,12 @@ parts_eight : (xs : List FileRelease) → length (stored_memory xs).releases ≡
 unfolding stored_memory apart
 parts_eight xs = refl
 
-read_eight : (f : List ℕ) → length (read_file f).memory.releases ≡ 8
-unfolding read_file loaded_got loaded judged accepted refused
+read_eight : (f : List ℕ) → length (book_in (read_file f)).memory.releases ≡ 8
+unfolding read_file loaded_got loaded judged accepted book_in
 read_eight f = go (file_of f)
   where
-    P : Loaded → Type 0
-    P r = length r.memory.releases ≡ 8
+    P : Result Loaded Refusal → Type 0
+    P r = length (book_in r).memory.releases ≡ 8
 
     go : (x : Got File) → P (loaded_got x)
     go bad = refl
@@ -104,7 +106,7 @@ file_sound f g ls e =
       eight = ap (λ (x : LentReading). length x.ledger.memory.releases) r.1 ∙ read_eight f;
       sound =
           ap (λ (x : LentReading). book_b (book_from x.ledger x.leases (names_of f))) r.1
-          ∙ ap (λ (t : LeaseTable). book_b (record { state = (read_file f).state; table = t; memory = (read_file f).memory; names = names_of f })) (file_back f r.0) ∙ read_sound f r.0;
+          ∙ ap (λ (t : LeaseTable). book_b (record { state = (book_in (read_file f)).state; table = t; memory = (book_in (read_file f)).memory; names = names_of f })) (file_back f r.0) ∙ read_sound f r.0;
     }
 
 pub file_written : FileWritten

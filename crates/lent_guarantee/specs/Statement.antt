@@ -1,6 +1,6 @@
 -- Statement: the guarantee of `guarantee`, in words that speak of the lent ledger, the lent lease records and the lent names, and the round trips of the file read into them
 -- and written of them. `serve_lent` is what `lent::serve` is proved to meet.
-use Rattle.std.specs.Prelude.{ℕ, ◌≤◌, ◌≡◌, true, false, ◌&&◌, List, [], ◌∷◌, ◌++◌, ltb, drop, length, take}
+use Rattle.std.specs.Prelude.{ℕ, ◌≤◌, ◌≡◌, true, false, ◌&&◌, List, [], ◌∷◌, ◌++◌, Result, Ok, ltb, drop, length, take}
 use Rattle.lists.specs.Pick.{pick}
 use Rattle.lists.specs.All.{All}
 use Rattle.state_file.specs.File.{longest_file}
@@ -21,8 +21,8 @@ use Rattle.offer_guarantee.specs.Statement.{Discovers, Elsewhere, GrantedAsOffer
 use Rattle.call_guarantee.specs.Statement.{IsReply, Narrow, ReadAs, live_under}
 use Rattle.admission.specs.Tests.{lease_id_in}
 use Rattle.format.specs.Format.{Octets}
-use Rattle.state_file.specs.declared.Written.{Written}
-use Rattle.state_file.specs.StateFile.{names_of}
+use Rattle.state_file.specs.declared.Refusal.{Refusal}
+use Rattle.state_file.specs.StateFile.{length_written, names_of, refusal_number}
 use Rattle.state_file.specs.Typed.{Typed}
 use Rattle.records.specs.Records.{records_of, table_from}
 use Rattle.records.specs.Lent.{book_from, find_lent, is128, read_lent, room_lent, written_lent}
@@ -43,7 +43,7 @@ abbrev pub served : Lent → Call → LentAnswer
 served l c = serve_lent l.ledger l.leases l.names c
 
 -- the writer on them: its answer for n octets of room, and what the room holds afterwards
-abbrev pub lent_written : Lent → ℕ → Written
+abbrev pub lent_written : Lent → ℕ → Result ℕ Refusal
 lent_written l n = written_lent l.ledger l.leases l.names n
 
 abbrev pub lent_room : Lent → List ℕ → List ℕ
@@ -191,26 +191,26 @@ after_file f g ls = record { ledger = (read_lent f g ls).ledger; leases = (read_
 unfoldable pub LentRoundTrip : Type 0
 LentRoundTrip =
     (f : List ℕ) (g : Ledger) (ls : List Lease) (room : List ℕ) → Octets f → (read_lent f g ls).refusal ≡ 0 → length f ≤ length room
-    → (lent_written (after_file f g ls) (length room) ≡ record { refusal = 0; length = length f })
+    → (lent_written (after_file f g ls) (length room) ≡ Ok (length f))
     × (lent_room (after_file f g ls) room ≡ f ++ drop (length f) room)
 
 -- and the other way: what the writer writes of any ledger, records and names is read back as that ledger, those records and those names. `Typed` is what the types of
 -- the records say of their numbers and arrays, `Octets` that of the names, as of all that code has
 unfoldable pub LentWriteRead : Type 0
 LentWriteRead =
-    (l : Lent) (room : List ℕ) (g : Ledger) (ls : List Lease) → Typed l.ledger.state (table_from l.leases) l.ledger.memory → Octets l.names → length ls ≡ 128 → (lent_written l (length room)).refusal ≡ 0
-    → (read_lent (take (lent_written l (length room)).length (lent_room l room)) g ls ≡ record { refusal = 0; ledger = l.ledger; leases = l.leases })
-    × (names_of (take (lent_written l (length room)).length (lent_room l room)) ≡ l.names)
+    (l : Lent) (room : List ℕ) (g : Ledger) (ls : List Lease) → Typed l.ledger.state (table_from l.leases) l.ledger.memory → Octets l.names → length ls ≡ 128 → refusal_number (lent_written l (length room)) ≡ 0
+    → (read_lent (take (length_written (lent_written l (length room))) (lent_room l room)) g ls ≡ record { refusal = 0; ledger = l.ledger; leases = l.leases })
+    × (names_of (take (length_written (lent_written l (length room))) (lent_room l room)) ≡ l.names)
 
 -- ---- after any list of calls on a sound book the writer refuses nothing in a room for the largest file: neither 22 nor 23 can occur
 unfoldable pub LentWritten : Type 0
-LentWritten = (l : Lent) → SoundLent l → (cs : List Call) (n : ℕ) → longest_file ≤ n → (lent_written (run_lent l cs) n).refusal ≡ 0
+LentWritten = (l : Lent) → SoundLent l → (cs : List Call) (n : ℕ) → longest_file ≤ n → refusal_number (lent_written (run_lent l cs) n) ≡ 0
 
 -- so after any list of calls on an accepted file, read into any lent ledger and records
 unfoldable pub FileWritten : Type 0
 FileWritten =
     (f : List ℕ) (g : Ledger) (ls : List Lease) (cs : List Call) (n : ℕ) → (read_lent f g ls).refusal ≡ 0 → longest_file ≤ n
-    → (lent_written (run_lent (after_file f g ls) cs) n).refusal ≡ 0
+    → refusal_number (lent_written (run_lent (after_file f g ls) cs) n) ≡ 0
 
 -- ---- and every reply to such a call is read back as one of document 01's: an accepted file's leases are `Narrow`, and calls keep them so
 unfoldable pub FileReads : Type 0

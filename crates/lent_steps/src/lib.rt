@@ -13,32 +13,23 @@ use state::{Lease, Ledger};
 pub fn advance(ledger: &mut Ledger, time: u32)
     ensures { ledger.new ≡ raised_in ledger.old time }
 {
-    let c = arithmetic::larger(ledger.state.clock, time);
-    ledger.state.clock = c;
+    ledger.state.clock = ledger.state.clock.max(time);
 }
 
 // The first 128 records of a slice; unused ones where it has fewer.
 pub fn load(leases: &[Lease]) -> Records
     ensures { result.leases ≡ first128 leases.now }
 {
-    let mut now = records::no_records();
-    let n = records::cut128(leases.len());
-    let mut i: usize = 0;
-    while i < n {
-        now.leases[i] = leases[i];
-        i += 1;
-    }
-    now
+    let mut all = records::no_records().leases;
+    let n = leases.len().min(128);
+    all[..n].copy_from_slice(&leases[..n]);
+    Records { leases: all }
 }
 
 // Lays 128 records over a slice; what lies past them is left.
 pub fn store(leases: &mut [Lease], records: Records)
     ensures { leases.new ≡ covered leases.old records.leases }
 {
-    let n = records::cut128(leases.len());
-    let mut i: usize = 0;
-    while i < n {
-        leases[i] = records.leases[i];
-        i += 1;
-    }
+    let n = leases.len().min(128);
+    leases[..n].copy_from_slice(&records.leases[..n]);
 }

@@ -4,17 +4,17 @@
 
 ghost use Rattle.std.specs.Prelude.{◌≡◌, length, replicate};
 ghost use Rattle.state.specs.Book.{zero_lease};
-ghost use Rattle.state_file.specs.StateFile.{zero_ledger};
+ghost use Rattle.state_file.specs.StateFile.{read_file, zero_ledger};
 ghost use Rattle.server.specs.Serve.{Tells};
 ghost use Rattle.server.specs.Halves.{write_of};
-ghost use Rattle.records.specs.Lent.{read_lent, written_lent, room_lent};
+ghost use Rattle.records.specs.Lent.{written_lent, room_lent};
 ghost use Rattle.record_call.specs.Call.{serve_lent};
-ghost use Rattle.owned.specs.Owned.{ServesOwned, ReadsOwned};
+ghost use Rattle.owned.specs.Owned.{Opens, ServesOwned};
 
 use records::Records;
 use server::{Outcome, Ruling};
 use state::Ledger;
-use state_file::Written;
+use state_file::Refusal;
 
 // Document 01's book, as its caller holds it.
 #[derive(Clone, Copy)]
@@ -37,13 +37,6 @@ pub struct OwnedJudged {
     pub owned: Owned,
 }
 
-// A refusal or 0, and the book afterwards.
-#[derive(Clone, Copy)]
-pub struct OwnedFile {
-    pub refusal: u8,
-    pub owned: Owned,
-}
-
 // The call, with the names of the scopes lent.
 pub fn serve(
     o: Owned,
@@ -56,9 +49,8 @@ pub fn serve(
     ensures { ServesOwned (serve_lent o.ledger o.records.leases names.now (record { datagram = datagram.now; client = client; time = time; room = length reply.old })) reply.old reply.new result }
 {
     let mut ledger = o.ledger;
-    let records = o.records;
-    let mut leases = records.leases;
-    let r = lent::serve(
+    let mut leases = o.records.leases;
+    let outcome = lent::serve(
         datagram,
         client,
         time,
@@ -68,10 +60,10 @@ pub fn serve(
         reply,
     );
     OwnedCall {
-        outcome: r,
+        outcome,
         owned: Owned {
-            ledger: ledger,
-            records: Records { leases: leases },
+            ledger,
+            records: Records { leases },
         },
     }
 }
@@ -80,54 +72,37 @@ pub fn serve(
 pub fn reply(ledger: Ledger, ruling: Ruling, names: &[u8], room: &mut [u8]) -> Outcome
     ensures { Tells (write_of ruling ledger.state names.now (length room.old)) room.old room.new result }
 {
-    let g = ledger;
-    lent::reply(ruling, &g, names, room)
-}
-
-// Reads a state file over a book; refusals 20 and 21 leave it as it was.
-pub fn read(file: &[u8], o: Owned) -> OwnedFile
-    ensures { ReadsOwned (read_lent file.now o.ledger o.records.leases) result }
-{
-    let mut ledger = o.ledger;
-    let records = o.records;
-    let mut leases = records.leases;
-    let n = lent::read(file, &mut ledger, &mut leases);
-    OwnedFile {
-        refusal: n,
-        owned: Owned {
-            ledger: ledger,
-            records: Records { leases: leases },
-        },
-    }
+    lent::reply(ruling, &ledger, names, room)
 }
 
 // A book that is all zero.
 pub fn blank() -> Owned
     ensures { (result.ledger ≡ zero_ledger) × (result.records.leases ≡ replicate 128 zero_lease) }
 {
-    let ledger = state_file::no_ledger();
-    let records = records::no_records();
     Owned {
-        ledger: ledger,
-        records: records,
+        ledger: state_file::no_ledger(),
+        records: records::no_records(),
     }
 }
 
-// The book of a state file, for a caller that has none yet.
-pub fn open(file: &[u8]) -> OwnedFile
-    ensures { ReadsOwned (read_lent file.now zero_ledger (replicate 128 zero_lease)) result }
+// The book of a state file, read over one that is all zero.
+pub fn open(file: &[u8]) -> Result<Owned, Refusal>
+    ensures { Opens (read_file file.now) result }
 {
-    let o = blank();
-    read(file, o)
+    let zero = blank();
+    let mut ledger = zero.ledger;
+    let mut leases = zero.records.leases;
+    lent::read(file, &mut ledger, &mut leases)?;
+    Ok(Owned {
+        ledger,
+        records: Records { leases },
+    })
 }
 
 // Writes a state file from a book and the names of its scopes.
-pub fn write(o: Owned, names: &[u8], room: &mut [u8]) -> Written
+pub fn write(o: Owned, names: &[u8], room: &mut [u8]) -> Result<usize, Refusal>
     ensures answer { result ≡ written_lent o.ledger o.records.leases names.now (length room.old) }
     ensures octets { room.new ≡ room_lent o.ledger o.records.leases names.now room.old }
 {
-    let ledger = o.ledger;
-    let records = o.records;
-    let leases = records.leases;
-    lent::write(&ledger, &leases, names, room)
+    lent::write(&o.ledger, &o.records.leases, names, room)
 }

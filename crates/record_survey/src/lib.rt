@@ -35,36 +35,25 @@ pub struct Dropped {
     pub board: Board,
 }
 
-// Which rules each tenant's records and releases keep, what all tenants hold, and the board that the leases make, row by row: one pass for all, since a
-// function of its own for each would copy the records.
+// Which rules each tenant's records and releases keep, what all tenants hold, and the board that the leases make, row by row.
 pub fn survey(s: State, memory: Memory, records: Records) -> Surveyed
     ensures { (result.rules ≡ table_rules_of s (table_from records.leases)) × (result.releases ≡ release_rules_of s (table_from records.leases) memory) × (result.built ≡ built_of (table_from records.leases)) }
 {
-    let l = state::no_lease();
     let pools = soundness::pools_of(s);
-    let n = arithmetic::cut8(s.tenant_count);
-    let mut now = soundness::no_tenants();
-    let mut all = releases::no_tenants();
+    let n = usize::from(s.tenant_count).min(8);
+    let mut rules = soundness::no_tenants();
+    let mut releases = releases::no_tenants();
     let mut built = occupancy::no_board();
-    let mut h: usize = 0;
-    while h < 8 {
-        let mut row = [l; 16];
-        let mut i: usize = 0;
-        while i < 16 {
-            row[i] = records.leases[16 * h + i];
-            i += 1;
-        }
-        let t = records::tenant_from(row);
-        now = soundness::add_tenant(s, pools, now, h, t);
-        let q = memory.releases[h];
-        all = releases::add_tenant(all, n, s.clock, h, t, q);
+    for h in 0..8 {
+        let t = records::row_at(&records.leases, h);
+        rules = soundness::add_tenant(s, pools, rules, h, t);
+        releases = releases::add_tenant(releases, n, s.clock, h, t, memory.releases[h]);
         built = agreement::add_tenant(built, h, t);
-        h += 1;
     }
     Surveyed {
-        rules: now,
-        releases: all,
-        built: built,
+        rules,
+        releases,
+        built,
     }
 }
 
@@ -72,21 +61,9 @@ pub fn survey(s: State, memory: Memory, records: Records) -> Surveyed
 pub fn holdings(records: Records) -> HeldTable
     ensures { result ≡ holdings_of (table_from records.leases) }
 {
-    let l = state::no_lease();
-    let none = soundness::no_tenants();
-    let mut now = none.held;
-    let mut h: usize = 0;
-    while h < 8 {
-        let mut row = [l; 16];
-        let mut i: usize = 0;
-        while i < 16 {
-            row[i] = records.leases[16 * h + i];
-            i += 1;
-        }
-        let t = records::tenant_from(row);
-        let x = soundness::held_sets(t);
-        now.tenants[h] = x;
-        h += 1;
+    let mut now = soundness::no_tenants().held;
+    for h in 0..8 {
+        now.tenants[h] = soundness::held_sets(records::row_at(&records.leases, h));
     }
     now
 }
@@ -95,17 +72,10 @@ pub fn holdings(records: Records) -> HeldTable
 pub fn is_sound(s: State, board: Board, c: Surveyed, names: &[u8]) -> bool
     ensures { result ≡ (sound_from s c.rules && (eqb (broken_release c.releases) 0 && (same_board board c.built && names_b s.scope_count s.tenant_count names.now))) }
 {
-    let a = c.rules;
-    let x = c.releases;
-    let made = c.built;
-    if soundness::sound_from(s, a) {
-        if releases::first_broken(x) == 0 {
-            if occupancy::same(board, made) {
-                return names::good(names, s.scope_count, s.tenant_count);
-            }
-        }
-    }
-    false
+    soundness::sound_from(s, c.rules)
+        && releases::first_broken(c.releases) == 0
+        && occupancy::same(board, c.built)
+        && names::good(names, s.scope_count, s.tenant_count)
 }
 
 // ---- the drop
@@ -120,15 +90,7 @@ fn ends_after(x: Held, clock: u32) -> bool
 pub fn none_ended(held: HeldTable, clock: u32) -> bool
     ensures { result ≡ all_by (ends_after clock) held.tenants }
 {
-    let mut h: usize = 0;
-    while h < 8 {
-        let x = held.tenants[h];
-        h += 1;
-        if !ends_after(x, clock) {
-            return false;
-        }
-    }
-    true
+    held.tenants.iter().all(|x| ends_after(*x, clock))
 }
 
 // The leases that end at or before a clock go from the front of each tenant's records, and are taken off the board; the records of a tenant that has none stay as they are.
@@ -139,19 +101,14 @@ pub fn drop_ended(records: Records, held: HeldTable, board: Board, clock: u32) -
     let mut now = records;
     let mut sets = held;
     let mut cleared = board;
-    let mut h: usize = 0;
-    while h < 8 {
-        let x = held.tenants[h];
-        let at = h;
-        h += 1;
-        if !ends_after(x, clock) {
-            let t = records::row(records, at);
+    for h in 0..8 {
+        if !ends_after(held.tenants[h], clock) {
+            let t = records::row_at(&records.leases, h);
             let n = state::ended_count(t, clock);
             let left = state::rest_from(t, n);
-            now = records::put_row(now, at, left);
-            let g = soundness::held_sets(left);
-            sets.tenants[at] = g;
-            cleared = agreement::clear(cleared, at, t, n);
+            now = records::put_row(now, h, left);
+            sets.tenants[h] = soundness::held_sets(left);
+            cleared = agreement::clear(cleared, h, t, n);
         }
     }
     Dropped {

@@ -1,7 +1,8 @@
 // The first half of a call on the lent lease records by value, tested first or known to be sound: the verdict, the clock, what is remembered and the records afterwards.
 #![tactic(auto)]
 
-ghost use Rattle.std.specs.Prelude.{◌||◌, ◌≡◌, ◌<◌};
+ghost use Rattle.std.specs.Prelude.{◌||◌, ◌≡◌};
+ghost use Rattle.std.specs.Option.{is_some};
 ghost use Rattle.server.specs.Halves.{discard_ruling};
 ghost use Rattle.record_verdict.specs.Verdict.{Gathered, JudgesClock, judge_with, JudgesRecords, JudgesSound};
 
@@ -25,26 +26,17 @@ fn dismiss(n: u8, clock: u32, memory: Memory, records: Records) -> JudgedRecords
 {
     JudgedRecords {
         ruling: server::discard(n, 0),
-        clock: clock,
-        memory: memory,
-        records: records,
+        clock,
+        memory,
+        records,
     }
 }
 
 // Whether an edit changes anything.
 fn is_edit(e: Edit) -> bool
-    ensures { result ≡ (e.leaves || (e.enters || (e.forgets || e.remembers))) }
+    ensures { result ≡ (is_some e.leaves || (is_some e.enters || is_some e.remembers)) }
 {
-    if e.leaves {
-        return true;
-    }
-    if e.enters {
-        return true;
-    }
-    if e.forgets {
-        return true;
-    }
-    e.remembers
+    e.leaves.is_some() || e.enters.is_some() || e.remembers.is_some()
 }
 
 // Test 3 and what follows, after the drop: the client's tenant, whose records and releases alone are edited, and only where something changes. The names are
@@ -61,36 +53,28 @@ fn at_clock(
     ensures { JudgesClock s memory records.leases client datagram.now result }
 {
     let h = server::tenant_of(s, client);
-    if h < arithmetic::cut8(s.tenant_count) {
-        let own = records::row(records, h);
-        let q = memory.releases[h];
-        let j = server::judge_tenant(s, own, q, held, h, datagram);
-        let r = j.ruling;
-        let e = j.edit;
-        if is_edit(e) {
-            let t = state::edited(own, e);
-            let now = records::put_row(records, h, t);
-            let mut noted = memory;
-            let x = releases::note(q, e);
-            noted.releases[h] = x;
-            let board = memory.board;
-            let b = agreement::edited(board, h, e);
-            noted.board = b;
-            return JudgedRecords {
-                ruling: r,
-                clock: s.clock,
-                memory: noted,
-                records: now,
-            };
-        }
+    if h >= usize::from(s.tenant_count).min(8) {
+        return dismiss(3, s.clock, memory, records);
+    }
+    let own = records::row_at(&records.leases, h);
+    let j = server::judge_tenant(s, own, memory.releases[h], held, h, datagram);
+    if !is_edit(j.edit) {
         return JudgedRecords {
-            ruling: r,
+            ruling: j.ruling,
             clock: s.clock,
-            memory: memory,
-            records: records,
+            memory,
+            records,
         };
     }
-    dismiss(3, s.clock, memory, records)
+    let mut noted = memory;
+    noted.releases[h] = releases::note(memory.releases[h], j.edit);
+    noted.board = agreement::edited(memory.board, h, j.edit);
+    JudgedRecords {
+        ruling: j.ruling,
+        clock: s.clock,
+        memory: noted,
+        records: records::put_row(records, h, state::edited(own, j.edit)),
+    }
 }
 
 // The first half on a sound book, of which is known what the tenants hold: the clock is raised, and ended leases are dropped where there are any.
@@ -105,20 +89,14 @@ pub fn judge_sound(
     requires { Gathered ledger.state records.leases held }
     ensures { JudgesSound ledger records.leases client time datagram.now result }
 {
-    let state = ledger.state;
-    let memory = ledger.memory;
-    let s = state::raise(state, time);
+    let s = state::raise(ledger.state, time);
     if record_survey::none_ended(held, s.clock) {
-        return at_clock(s, memory, records, held, client, datagram);
+        return at_clock(s, ledger.memory, records, held, client, datagram);
     }
-    let board = memory.board;
-    let d = record_survey::drop_ended(records, held, board, s.clock);
-    let left = d.records;
-    let sets = d.held;
-    let cleared = d.board;
-    let mut now = memory;
-    now.board = cleared;
-    at_clock(s, now, left, sets, client, datagram)
+    let d = record_survey::drop_ended(records, held, ledger.memory.board, s.clock);
+    let mut memory = ledger.memory;
+    memory.board = d.board;
+    at_clock(s, memory, d.records, d.held, client, datagram)
 }
 
 // Document 02's first half on the records of a slice that has n: test 1, and what follows on a sound book.
@@ -133,16 +111,12 @@ pub fn judge(
 ) -> JudgedRecords
     ensures { JudgesRecords (judge_with n ledger records.leases names.now client time datagram.now) result }
 {
-    let state = ledger.state;
-    let memory = ledger.memory;
     if n != 128 {
-        return dismiss(1, state.clock, memory, records);
+        return dismiss(1, ledger.state.clock, ledger.memory, records);
     }
-    let c = record_survey::survey(state, memory, records);
-    let board = memory.board;
-    if !record_survey::is_sound(state, board, c, names) {
-        return dismiss(1, state.clock, memory, records);
+    let c = record_survey::survey(ledger.state, ledger.memory, records);
+    if !record_survey::is_sound(ledger.state, ledger.memory.board, c, names) {
+        return dismiss(1, ledger.state.clock, ledger.memory, records);
     }
-    let held = c.rules.held;
-    judge_sound(ledger, records, held, datagram, client, time)
+    judge_sound(ledger, records, c.rules.held, datagram, client, time)
 }

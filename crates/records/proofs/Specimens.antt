@@ -1,4 +1,5 @@
 -- Specimens: lent records by computation: one record found, inserted and removed; another number than 128; a gap, which makes a book unsound.
+use Rattle.std.specs.Prelude.{None, Some}
 use mathlib.Core.Path.{◌≡◌, refl}
 use mathlib.Core.Bool.{true, false}
 use mathlib.Core.List.{List, [], ◌∷◌, ◌++◌}
@@ -14,6 +15,7 @@ use Rattle.state.specs.declared.Lease.{Lease}
 use Rattle.state.specs.declared.Ledger.{Ledger}
 use Rattle.state.specs.Book.{by_identifier, compared_of, is_hold, laid_out, lease_with, no_lookup, remove_of, zero_lease, by_ending, until}
 use Rattle.soundness.specs.Sound.{blank_b, layout_b, padded_b, unused_b, zero_from, layout_by}
+use Rattle.state_file.specs.StateFile.{code_of, refusal_number}
 use Rattle.records.specs.Records.{records_of, rows, rows_of, table_from, tenant_from}
 use Rattle.records.specs.Lent.{find_lent, find_with, insert_lent, insert_with, remove_lent, remove_with, is128, written_lent, written_with}
 
@@ -46,16 +48,16 @@ unfolding ending unused ours remove_with is128 pick table_from rows tenant_from 
 remove_first = refl
 
 -- at a place, the first too
-find_second : find_lent 1 (0 ∷ 3 ∷ []) (ours (lease 1 ∷ lease 3 ∷ []) 110) ≡ record { found = true; place = 1; compared = 2 }
+find_second : find_lent 1 (0 ∷ 3 ∷ []) (ours (lease 1 ∷ lease 3 ∷ []) 110) ≡ record { place = Some 1; compared = 2 }
 unfolding ending unused ours find_with compared_of is128 pick table_from rows tenant_from place_by unused_b blank_b zero_from all_by order_of same_of
 find_second = refl
 
-find_first : find_lent 1 (0 ∷ 1 ∷ []) (ours (lease 1 ∷ lease 3 ∷ []) 110) ≡ record { found = true; place = 0; compared = 1 }
+find_first : find_lent 1 (0 ∷ 1 ∷ []) (ours (lease 1 ∷ lease 3 ∷ []) 110) ≡ record { place = Some 0; compared = 1 }
 unfolding ending unused ours find_with compared_of is128 pick table_from rows tenant_from place_by unused_b blank_b zero_from all_by order_of same_of
 find_first = refl
 
 -- another identifier, another house, a ninth house, 127 records
-find_other : find_lent 1 (0 ∷ 2 ∷ []) (ours (lease 1 ∷ lease 3 ∷ []) 110) ≡ record { found = false; place = 2; compared = 2 }
+find_other : find_lent 1 (0 ∷ 2 ∷ []) (ours (lease 1 ∷ lease 3 ∷ []) 110) ≡ record { place = None; compared = 2 }
 unfolding ending unused ours find_with compared_of is128 pick table_from rows tenant_from place_by unused_b blank_b zero_from all_by order_of same_of
 find_other = refl
 
@@ -85,8 +87,8 @@ unfolding unused insert_with is128 pick
 short = refl
 
 -- 127 records are refusal 22, whatever the ledger, the names and the room
-write_127 : (g : Ledger) (names : List ℕ) (room : ℕ) → (written_lent g (unused 127) names room).refusal ≡ 22
-unfolding unused written_with is128 pick
+write_127 : (g : Ledger) (names : List ℕ) (room : ℕ) → refusal_number (written_lent g (unused 127) names room) ≡ 22
+unfolding unused written_with is128 pick refusal_number code_of
 write_127 g names room = refl
 
 -- a lease after an unused record

@@ -6,11 +6,7 @@ use owned::Owned;
 
 // The first n octets of a text, or all of it.
 fn print(rt: &HostRuntime, text: &[u8], n: usize) {
-    if n <= text.len() {
-        streams::write_front(&mut rt.stdout(), text, n);
-        return;
-    }
-    streams::write_front(&mut rt.stdout(), text, text.len());
+    streams::write_front(&mut rt.stdout(), text, n.min(text.len()));
 }
 
 fn refuse(rt: &HostRuntime, number: u8) {
@@ -29,12 +25,10 @@ fn print_call(
     length: usize,
 ) {
     let mut line = [0u8; 2 * reply::LEAST_ROOM + 46];
-    if length <= reply::LEAST_ROOM {
-        if length <= room.len() {
-            let n = replay_text::write_call_line(&mut line, outcome, offset, count, room, length);
-            print(rt, &line, n);
-            return;
-        }
+    if length <= reply::LEAST_ROOM && length <= room.len() {
+        let n = replay_text::write_call_line(&mut line, outcome, offset, count, room, length);
+        print(rt, &line, n);
+        return;
     }
     refuse(rt, 27);
 }
@@ -43,26 +37,19 @@ fn print_call(
 fn print_book(rt: &HostRuntime, book: Owned, names: &[u8]) {
     let mut file = [0u8; state_file::FILE_LIMIT];
     let mut line = [0u8; 2 * state_file::FILE_LIMIT + 6];
-    let w = owned::write(book, names, &mut file);
-    let length = w.length;
-    if w.refusal != 0 {
-        refuse(rt, w.refusal);
-        return;
+    match owned::write(book, names, &mut file) {
+        Ok(length) if length <= state_file::FILE_LIMIT => {
+            let n = replay_text::write_book_line(&mut line, &file, length);
+            print(rt, &line, n);
+        }
+        Ok(_) => refuse(rt, 23),
+        Err(e) => refuse(rt, e.number()),
     }
-    if length <= state_file::FILE_LIMIT {
-        let n = replay_text::write_book_line(&mut line, &file, length);
-        print(rt, &line, n);
-        return;
-    }
-    refuse(rt, 23);
 }
 
 // Reads n octets to the front of a buffer; false where the input is cut off before them.
 fn read_part(rt: &HostRuntime, buffer: &mut [u8], n: usize) -> bool {
-    if n <= buffer.len() {
-        return streams::read_full(&mut rt.stdin(), &mut buffer[..n]) == n;
-    }
-    false
+    n <= buffer.len() && streams::read_full(&mut rt.stdin(), &mut buffer[..n]) == n
 }
 
 // One call on a datagram of n octets, in a room of just `size` octets; both lie within their buffers, which have 65,536.
@@ -77,13 +64,11 @@ fn call(
     room: &mut [u8],
     size: usize,
 ) -> Owned {
-    if n <= datagram.len() {
-        if size <= room.len() {
-            let r = owned::serve(book, names, &datagram[..n], client, time, &mut room[..size]);
-            let told = r.outcome;
-            print_call(rt, told.outcome, told.offset, told.count, room, told.length);
-            return r.owned;
-        }
+    if n <= datagram.len() && size <= room.len() {
+        let r = owned::serve(book, names, &datagram[..n], client, time, &mut room[..size]);
+        let told = r.outcome;
+        print_call(rt, told.outcome, told.offset, told.count, room, told.length);
+        return r.owned;
     }
     refuse(rt, 24);
     book
@@ -105,46 +90,26 @@ fn call_of(
     call(rt, book, names, client, time, datagram, n, room, size)
 }
 
-// The book after a record, and whether there may be another.
-#[derive(Clone, Copy)]
-struct Turn {
-    go: bool,
-    book: Owned,
-}
-
-fn stop(book: Owned) -> Turn {
-    Turn {
-        go: false,
-        book: book,
-    }
-}
-
+// The book after a record; none where it was the last.
 fn take_turn(
     rt: &HostRuntime,
     book: Owned,
     names: &[u8],
     datagram: &mut [u8],
     room: &mut [u8],
-) -> Turn {
+) -> Option<Owned> {
     let mut head = [0u8; 12];
     let got = streams::read_full(&mut rt.stdin(), &mut head);
     if got == 0 {
         print_book(rt, book, names);
-        return stop(book);
+        return None;
     }
     let n = octets::read_u16(&head, 10) as usize;
-    if got == 12 {
-        if read_part(rt, datagram, n) {
-            return Turn {
-                go: true,
-                book: call_of(rt, head, book, names, datagram, n, room),
-            };
-        }
-        refuse(rt, 24);
-        return stop(book);
+    if got == 12 && read_part(rt, datagram, n) {
+        return Some(call_of(rt, head, book, names, datagram, n, room));
     }
     refuse(rt, 24);
-    stop(book)
+    None
 }
 
 // Answers calls until the input ends or is cut off. A proved loop has to end: its turns are counted up to a number that no run uses up.
@@ -153,25 +118,22 @@ fn replay(rt: &HostRuntime, start: Owned, names: &[u8]) {
     let mut datagram = [0u8; 65536];
     let mut room = [0u8; 65536];
     for _ in 0..u64::MAX {
-        let t = take_turn(rt, book, names, &mut datagram, &mut room);
-        if !t.go {
+        let Some(next) = take_turn(rt, book, names, &mut datagram, &mut room) else {
             return;
-        }
-        book = t.book;
+        };
+        book = next;
     }
 }
 
 // On the campus file of n octets, whose names are lent where they stand.
 fn replay_file(rt: &HostRuntime, file: &[u8], n: usize) {
-    if n <= file.len() {
-        let r = owned::open(&file[..n]);
-        if r.refusal == 0 {
-            replay(rt, r.owned, state_file::names(&file[..n]));
-        } else {
-            refuse(rt, r.refusal);
-        }
-    } else {
+    if n > file.len() {
         refuse(rt, 24);
+        return;
+    }
+    match owned::open(&file[..n]) {
+        Ok(book) => replay(rt, book, state_file::names(&file[..n])),
+        Err(e) => refuse(rt, e.number()),
     }
 }
 

@@ -1,11 +1,6 @@
 -- Laws: the loop that writes octets in hex.
-use mathlib.Core.Path.{◌≡◌, refl, sym, ap, ◌∙◌}
-use mathlib.Core.List.{List, [], ◌∷◌, ◌++◌}
-use Prim.Native.Nat.{ℕ, ◌+◌, ◌*◌, ◌/◌, ◌%◌, ◌≤◌, ◌<◌}
-use native.Mathlib.Omega.{arith}
-use native.Mathlib.Numerals.{add-one}
-use lib.ListN.{length, get_or, take}
-use lib.Seq.{take-suc}
+use Rattle.std.proofs.Common.{◌≡◌, refl, sym, ap, ◌∙◌, List, [], ◌∷◌, ◌++◌, ℕ, ◌+◌, ◌*◌, ◌/◌, ◌%◌, ◌≤◌, ◌<◌, arith, length, get_or, take, take_all}
+use Rattle.std.proofs.lemmas.List.{take_more}
 use Rattle.octets.specs.Octets.{Wrote}
 use Rattle.octets.specs.laws.Octets.{wrote_joined, wrote_none, wrote_as}
 use Rattle.replay_text.specs.Replay.{hex_digit, hex_of}
@@ -20,28 +15,29 @@ unfolding hex_of
 hex_two x = refl
 
 -- what the loop keeps: i octets are written, two digits each
-pub record HexInv (b₀ : List ℕ) (at : ℕ) (s : List ℕ) (n : ℕ) (b : List ℕ) (i to : ℕ) : Type 0 where
-  pub within : i ≤ n
-  pub long : n ≤ length s
+pub record HexInv (b₀ : List ℕ) (at : ℕ) (s b : List ℕ) (i to : ℕ) : Type 0 where
+  pub within : i ≤ length s
   pub place : to ≡ at + 2 * i
   pub wrote : Wrote b₀ at (hex_of (take i s)) b to
   pub kept : length b ≡ length b₀
 
-pub hex_start : {b : List ℕ} {at : ℕ} {s : List ℕ} {n : ℕ} → n ≤ length s → HexInv b at s n b 0 at
+pub hex_start : {b : List ℕ} {at : ℕ} {s : List ℕ} → HexInv b at s b 0 at
 unfolding hex_of
-hex_start {b} {at} h = record { within = omega arith; long = h; place = omega arith; wrote = wrote_none b at; kept = refl }
+hex_start {b} {at} = record { within = omega arith; place = omega arith; wrote = wrote_none b at; kept = refl }
 
-module _ {b₀ : List ℕ} {at : ℕ} {s : List ℕ} {n : ℕ} {b : List ℕ} {i to : ℕ} (v : HexInv b₀ at s n b i to) where
-  pub hex_next : {b₁ : List ℕ} {to₁ : ℕ} → at ≤ length b₀ → i < n → Wrote b to (hex_of (get_or s i 0 ∷ [])) b₁ to₁ → length b₁ ≡ length b → HexInv b₀ at s n b₁ (i + 1) to₁
+module _ {b₀ : List ℕ} {at : ℕ} {s b : List ℕ} {i to : ℕ} (v : HexInv b₀ at s b i to) where
+  pub hex_next : {b₁ : List ℕ} {to₁ : ℕ} → at ≤ length b₀ → i < length s → Wrote b to (hex_of (get_or s i 0 ∷ [])) b₁ to₁ → length b₁ ≡ length b → HexInv b₀ at s b₁ (i + 1) to₁
   hex_next {b₁} {to₁} g h w k =
-      let e : take (i + 1) s ≡ take i s ++ (get_or s i 0 ∷ []) = ap (λ (x : ℕ). take x s) (add-one i) ∙ take-suc s i 0 (let o = v.long in omega arith) in
+      let e : take (i + 1) s ≡ take i s ++ (get_or s i 0 ∷ []) = take_more s i 0 h in
       record {
         within = omega arith;
-        long = v.long;
         place = let p = v.place in let q = w.next in let z = hex_two (get_or s i 0) in omega arith;
         wrote = wrote_as (sym (hex_append (take i s) (get_or s i 0 ∷ [])) ∙ ap hex_of (sym e)) (wrote_joined g v.wrote w);
         kept = k ∙ v.kept;
       }
 
-  pub hex_end : n ≤ i → Wrote b₀ at (hex_of (take n s)) b to
-  hex_end h = let e : i ≡ n = (let o = v.within in omega arith) in wrote_as (ap (λ (x : ℕ). hex_of (take x s)) e) v.wrote
+  pub hex_end : length s ≤ i → Wrote b₀ at (hex_of s) b to
+  hex_end h = wrote_as (ap hex_of (take_all i s h)) v.wrote
+
+  pub hex_place : length s ≤ i → to ≡ at + 2 * length s
+  hex_place h = let w = v.within in let p = v.place in omega arith

@@ -10,9 +10,9 @@ fn hex_digit(d: u8) -> u8
     ensures { result ≡ hex_digit d }
 {
     if d < 10 {
-        return 48 + d;
+        return b'0' + d;
     }
-    87 + d
+    b'a' + (d - 10)
 }
 
 fn put_hex_octet(out: &mut [u8], at: usize, x: u8) -> usize
@@ -23,16 +23,14 @@ fn put_hex_octet(out: &mut [u8], at: usize, x: u8) -> usize
     octets::put_u8(out, a, hex_digit(x % 16))
 }
 
-// The hex of the first n octets of a slice.
-fn put_hex(out: &mut [u8], at: usize, s: &[u8], n: usize) -> usize
-    requires { (at + 2 * n ≤ length out.old) × (n ≤ length s.now) }
-    ensures { (Wrote out.old at (hex_of (take n s.now)) out.new result) × (result ≡ at + 2 * n) }
+// The hex of octets.
+fn put_hex(out: &mut [u8], at: usize, s: &[u8]) -> usize
+    requires { at + 2 * length s.now ≤ length out.old }
+    ensures { (Wrote out.old at (hex_of s.now) out.new result) × (result ≡ at + 2 * length s.now) }
 {
-    let mut i: usize = 0;
     let mut to = at;
-    while i < n {
-        to = put_hex_octet(out, to, s[i]);
-        i += 1;
+    for x in s {
+        to = put_hex_octet(out, to, *x);
     }
     to
 }
@@ -43,11 +41,11 @@ fn put_outcome_number(out: &mut [u8], outcome: u8, reply: &[u8], n: usize) -> us
     ensures { (Wrote out.old 0 (number_text outcome (take n reply.now)) out.new result) × (result ≤ 2 * n + 2) }
 {
     if outcome == 0 {
-        let a = octets::put_u8(out, 0, 48);
-        let b = octets::put_u8(out, a, 32);
-        return put_hex(out, b, reply, n);
+        let a = octets::put_u8(out, 0, b'0');
+        let b = octets::put_u8(out, a, b' ');
+        return put_hex(out, b, &reply[..n]);
     }
-    octets::put_u8(out, 0, 48 + outcome % 10)
+    octets::put_u8(out, 0, b'0' + outcome % 10)
 }
 
 // The line of an outcome, without what a discard carries.
@@ -56,7 +54,7 @@ pub fn write_outcome_line(out: &mut [u8], outcome: u8, reply: &[u8], n: usize) -
     ensures { Wrote out.old 0 (outcome_line outcome (take n reply.now)) out.new result }
 {
     let a = put_outcome_number(out, outcome, reply, n);
-    octets::put_u8(out, a, 10)
+    octets::put_u8(out, a, b'\n')
 }
 
 // The outcome of a call, with the offset that a discard 5 carries.
@@ -65,7 +63,7 @@ fn put_outcome(out: &mut [u8], outcome: u8, offset: usize, reply: &[u8], n: usiz
     ensures { (Wrote out.old 0 (outcome_text outcome offset (take n reply.now)) out.new result) × (result ≤ 2 * n + 23) }
 {
     if outcome == 5 {
-        let a = octets::put_run(out, 0, &[53, 32, 64], 3);
+        let a = octets::put(out, 0, b"5 @");
         return number_text::put_number(out, a, offset as u64);
     }
     put_outcome_number(out, outcome, reply, n)
@@ -76,9 +74,9 @@ fn put_count(out: &mut [u8], at: usize, count: usize) -> usize
     requires { at + 23 ≤ length out.old }
     ensures { Wrote out.old at (count_text count) out.new result }
 {
-    let a = octets::put_run(out, at, &[32, 35], 2);
+    let a = octets::put(out, at, b" #");
     let b = number_text::put_number(out, a, count as u64);
-    octets::put_u8(out, b, 10)
+    octets::put_u8(out, b, b'\n')
 }
 
 // The line of a call whose reply is the first n octets of a slice.
@@ -102,19 +100,19 @@ pub fn write_book_line(out: &mut [u8], file: &[u8], n: usize) -> usize
     requires { (2 * n + 6 ≤ length out.old) × (n ≤ length file.now) }
     ensures { Wrote out.old 0 (book_line (take n file.now)) out.new result }
 {
-    let a = octets::put_run(out, 0, &[98, 111, 111, 107, 32], 5);
-    let b = put_hex(out, a, file, n);
-    octets::put_u8(out, b, 10)
+    let a = octets::put(out, 0, b"book ");
+    let b = put_hex(out, a, &file[..n]);
+    octets::put_u8(out, b, b'\n')
 }
 
 pub fn write_refused_line(out: &mut [u8], n: u8) -> usize
     requires { 11 ≤ length out.old }
     ensures { Wrote out.old 0 (refused_line n) out.new result }
 {
-    let a = octets::put_run(out, 0, &[114, 101, 102, 117, 115, 101, 100, 32], 8);
-    let b = octets::put_u8(out, a, 48 + n / 10 % 10);
-    let c = octets::put_u8(out, b, 48 + n % 10);
-    octets::put_u8(out, c, 10)
+    let a = octets::put(out, 0, b"refused ");
+    let b = octets::put_u8(out, a, b'0' + n / 10 % 10);
+    let c = octets::put_u8(out, b, b'0' + n % 10);
+    octets::put_u8(out, c, b'\n')
 }
 
 // What a kind of those that a salvage drops is called.
@@ -123,12 +121,12 @@ fn put_kind(out: &mut [u8], kind: u8) -> usize
     ensures { (Wrote out.old 0 (kind_text kind) out.new result) × (result ≤ 8) }
 {
     if kind == 1 {
-        return octets::put_run(out, 0, &[108, 101, 97, 115, 101, 32], 6);
+        return octets::put(out, 0, b"lease ");
     }
     if kind == 2 {
-        return octets::put_run(out, 0, &[104, 111, 108, 100, 32], 5);
+        return octets::put(out, 0, b"hold ");
     }
-    octets::put_run(out, 0, &[114, 101, 108, 101, 97, 115, 101, 32], 8)
+    octets::put(out, 0, b"release ")
 }
 
 // The rule, and the end of the line.
@@ -136,9 +134,9 @@ fn put_rule(out: &mut [u8], at: usize, rule: u8) -> usize
     requires { at + 10 ≤ length out.old }
     ensures { Wrote out.old at (rule_text rule) out.new result }
 {
-    let a = octets::put_run(out, at, &[32, 114, 117, 108, 101, 32], 6);
+    let a = octets::put(out, at, b" rule ");
     let b = number_text::put_octet(out, a, rule);
-    octets::put_u8(out, b, 10)
+    octets::put_u8(out, b, b'\n')
 }
 
 // The line of a lease, hold or release that was dropped: its kind, its place and the first rule that it breaks.

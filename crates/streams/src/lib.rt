@@ -7,6 +7,7 @@ ghost use Rattle.std.specs.Io.KnownBytes.{Appends, Consumes};
 use std::io::{Read, Write};
 
 // Reads until the buffer is full, the input ends or a read fails: how many octets it put at the front of the buffer. They are the ones that the reader had left.
+// Stays: `done` counts octets and no turns, and nobody knows how many reads there are; `read_exact` doesn't say how many octets a short input had.
 pub fn read_full<R: Read>(reader: &mut R, buffer: &mut [u8]) -> usize
     ensures bound { result ≤ length buffer.new }
     ensures octets { Consumes (R.remaining reader.old) (R.remaining reader.new) (take result buffer.new) }

@@ -7,11 +7,7 @@ use van_server::Turn;
 
 // The first n octets of a text, or all of it.
 fn print(rt: &HostRuntime, text: &[u8], n: usize) {
-    if n <= text.len() {
-        streams::write_front(&mut rt.stdout(), text, n);
-        return;
-    }
-    streams::write_front(&mut rt.stdout(), text, text.len());
+    streams::write_front(&mut rt.stdout(), text, n.min(text.len()));
 }
 
 // The line of a record.
@@ -27,10 +23,8 @@ fn refuse(rt: &HostRuntime, number: u8) {
 
 // Reads a part of a buffer; how many octets there were for it.
 fn read_part(rt: &HostRuntime, buffer: &mut [u8], from: usize, to: usize) -> usize {
-    if from <= to {
-        if to <= buffer.len() {
-            return streams::read_full(&mut rt.stdin(), &mut buffer[from..to]);
-        }
+    if from <= to && to <= buffer.len() {
+        return streams::read_full(&mut rt.stdin(), &mut buffer[from..to]);
     }
     0
 }
@@ -87,10 +81,8 @@ fn main(rt: HostRuntime) {
         refuse(&rt, 24);
         return;
     }
-    let r = van_server::open(&settings);
-    if r.refusal == 0 {
-        run(&rt, r.owned);
-        return;
+    match van_server::open(&settings) {
+        Ok(book) => run(&rt, book),
+        Err(e) => refuse(&rt, e.number()),
     }
-    refuse(&rt, r.refusal);
 }

@@ -22,10 +22,12 @@ use Rattle.server.specs.Serve.{Call, at_clock, discarded, serve_of}
 use Rattle.state_file.specs.StateFile.{zero_ledger, zero_state}
 use Rattle.records.specs.Lent.{LentReading, book_from, is128, untouched}
 use Rattle.record_call.specs.Call.{LentAnswer, lent_answer, serve_lent, serve_with}
+use Rattle.std.specs.Prelude.{Ok, Err}
+use Rattle.van_server.specs.declared.Refusal.TheVariants.{CutOff, Unsound}
 use Rattle.owned.specs.declared.Owned.{Owned}
 use Rattle.owned.specs.declared.OwnedCall.{OwnedCall}
-use Rattle.owned.specs.Owned.{ReadsOwned, ServesOwned}
-use Rattle.van_server.specs.Van.{no_records, open_of, settings_size, van_ledger, van_names, van_scope, van_state}
+use Rattle.owned.specs.Owned.{ServesOwned}
+use Rattle.van_server.specs.Van.{Opens, no_records, open_of, settings_size, van_ledger, van_names, van_scope, van_state}
 
 -- ---- the settings over zeros
 module _ (o : List ℕ) where
@@ -89,21 +91,15 @@ module _ (o : List ℕ) where
   unfolding open_of
   judged h = sym (pick_not_lt _ _ _ (length o) settings_size h refl)
 
-  module _ {x : Owned} where
-    pub opens_cut : length o < settings_size → x.ledger ≡ zero_ledger → x.records.leases ≡ no_records → ReadsOwned (open_of o) (record { refusal = 24; owned = x })
-    opens_cut h e f = subst (λ (a : LentReading). ReadsOwned a (record { refusal = 24; owned = x })) (sym (cut h)) (record { refusal = refl; ledger = e; leases = f })
+  pub opens_cut : length o < settings_size → Opens (open_of o) (Err CutOff)
+  opens_cut h = subst (λ (a : LentReading). Opens a (Err CutOff)) (sym (cut h)) refl
 
-    pub opens_sound : {t : Bool} {g : Ledger} {ls : List Lease} → settings_size ≤ length o → g ≡ van_ledger o → t ≡ (is128 (length ls) && book_b (book_from g ls van_names)) → ls ≡ no_records → t ≡ true
-        → x.ledger ≡ van_ledger o → x.records.leases ≡ no_records → ReadsOwned (open_of o) (record { refusal = 0; owned = x })
-    opens_sound h p t q s e f =
-        subst (λ (a : LentReading). ReadsOwned a (record { refusal = 0; owned = x })) (pick_true _ _ _ _ (sym (told_test p t q) ∙ s) refl ∙ sym (judged h))
-        (record { refusal = refl; ledger = e; leases = f })
+  module _ {t : Bool} {g : Ledger} {ls : List Lease} (h : settings_size ≤ length o) (p : g ≡ van_ledger o) (e : t ≡ (is128 (length ls) && book_b (book_from g ls van_names))) (q : ls ≡ no_records) where
+    pub opens_sound : {x : Owned} → t ≡ true → x.ledger ≡ van_ledger o → x.records.leases ≡ no_records → Opens (open_of o) (Ok x)
+    opens_sound {x} s i j = subst (λ (a : LentReading). Opens a (Ok x)) (pick_true _ _ _ _ (sym (told_test p e q) ∙ s) refl ∙ sym (judged h)) (refl, i, j)
 
-    pub opens_unsound : {t : Bool} {g : Ledger} {ls : List Lease} → settings_size ≤ length o → g ≡ van_ledger o → t ≡ (is128 (length ls) && book_b (book_from g ls van_names)) → ls ≡ no_records → t ≡ false
-        → x.ledger ≡ zero_ledger → x.records.leases ≡ no_records → ReadsOwned (open_of o) (record { refusal = 21; owned = x })
-    opens_unsound h p t q s e f =
-        subst (λ (a : LentReading). ReadsOwned a (record { refusal = 21; owned = x })) (pick_false _ _ _ _ (sym (told_test p t q) ∙ s) refl ∙ sym (judged h))
-        (record { refusal = refl; ledger = e; leases = f })
+    pub opens_unsound : t ≡ false → Opens (open_of o) (Err Unsound)
+    opens_unsound s = subst (λ (a : LentReading). Opens a (Err Unsound)) (pick_false _ _ _ _ (sym (told_test p e q) ∙ s) refl ∙ sym (judged h)) refl
 
 -- what is not refused is sound
 pub opened_sound : (o : List ℕ) → (open_of o).refusal ≡ 0 → book_b (book_from (van_ledger o) no_records van_names) ≡ true

@@ -1,6 +1,6 @@
 -- Definitions: the van's own server (document 02, W-211): its settings, the book that it starts from, the calls in its input, and what it prints. A house is a
 -- tenant here, its share a reserve.
-use Rattle.std.specs.Prelude.{ℕ, zero, suc, ◌+◌, ◌-◌, ◌≡◌, Bool, true, false, List, [], ◌∷◌, ◌++◌, eqb, ltb, drop, get_or, length, replicate, take}
+use Rattle.std.specs.Prelude.{ℕ, zero, suc, ◌+◌, ◌-◌, ◌≡◌, Bool, true, false, List, [], ◌∷◌, ◌++◌, Result, Ok, Err, eqb, ltb, drop, get_or, length, replicate, take}
 use Rattle.lists.specs.Pick.{pick}
 use Rattle.octets.specs.Octets.{at16, at32, Wrote}
 use Rattle.reply.specs.Reply.{least_room}
@@ -17,6 +17,9 @@ use Rattle.state_file.specs.StateFile.{zero_ledger, zero_memory}
 use Rattle.records.specs.Lent.{LentReading, book_from, untouched}
 use Rattle.record_call.specs.Call.{LentAnswer, serve_lent}
 use Rattle.replay_text.specs.Replay.{outcome_line, refused_line}
+use Rattle.owned.specs.declared.Owned.{Owned}
+use Rattle.van_server.specs.declared.Refusal.{Refusal}
+use Rattle.van_server.specs.declared.Refusal.TheVariants.{CutOff, Unsound}
 use Rattle.van_server.specs.declared.Turn.{Turn}
 
 -- ---- the settings: "server address, lowest and highest client address, lowest pool address, 4 octets each; size, TTL, 1 each"
@@ -64,6 +67,15 @@ unfoldable pub open_of : List ℕ → LentReading
 open_of o =
     pick (ltb (length o) settings_size) (untouched 24 zero_ledger no_records)
     (pick (book_b (book_from (van_ledger o) no_records van_names)) (record { refusal = 0; ledger = van_ledger o; leases = no_records }) (untouched 21 zero_ledger no_records))
+
+abbrev pub code_of : Refusal → ℕ
+code_of CutOff = 24
+code_of Unsound = 21
+
+-- what is promised of the book that the van starts from: the refusal by its number, or the ledger and every lease record
+abbrev pub Opens : LentReading → Result Owned Refusal → Type 0
+Opens a (Ok o) = (a.refusal ≡ 0) × (o.ledger ≡ a.ledger) × (o.records.leases ≡ a.leases)
+Opens a (Err e) = a.refusal ≡ code_of e
 
 -- ---- the calls: "datagrams, each after its time(4), client address(4) and length(2)"
 abbrev pub head_size : ℕ

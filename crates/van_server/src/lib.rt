@@ -7,10 +7,10 @@ ghost use Rattle.releases.specs.Whole.{book_b};
 ghost use Rattle.state_file.specs.StateFile.{zero_ledger, zero_state};
 ghost use Rattle.records.specs.Lent.{book_from, is128};
 ghost use Rattle.record_call.specs.Call.{serve_lent};
-ghost use Rattle.owned.specs.Owned.{ReadsOwned, ServesOwned};
-ghost use Rattle.van_server.specs.Van.{call_to, goes, head_size, no_records, open_of, record_size, settings_size, turn_of, Turns, van_ledger, van_names, van_scope, van_state};
+ghost use Rattle.owned.specs.Owned.{ServesOwned};
+ghost use Rattle.van_server.specs.Van.{Opens, call_to, code_of, goes, head_size, no_records, open_of, record_size, settings_size, turn_of, Turns, van_ledger, van_names, van_scope, van_state};
 
-use owned::{Owned, OwnedCall, OwnedFile};
+use owned::{Owned, OwnedCall};
 use state::{ClientRange, Ledger, Scope, State};
 
 // How many octets the settings have.
@@ -24,6 +24,25 @@ pub const RECORD_ROOM: usize = 65545;
 
 // Room for the line of any call: the outcome, a blank, two digits for each octet of a reply, and the end of the line.
 pub const LINE_ROOM: usize = 2 * reply::LEAST_ROOM + 8;
+
+// Why there is no book to start from: settings that are cut off, and unsound ones.
+#[derive(Clone, Copy, PartialEq, Eq)]
+pub enum Refusal {
+    CutOff,
+    Unsound,
+}
+
+impl Refusal {
+    // The number that document 02 gives it.
+    pub fn number(self) -> u8
+        ensures { result ≡ code_of self }
+    {
+        match self {
+            Refusal::CutOff => 24,
+            Refusal::Unsound => 21,
+        }
+    }
+}
 
 // Whether there may be another record, how much was written for this one, and the book afterwards.
 #[derive(Clone, Copy)]
@@ -101,28 +120,18 @@ fn is_sound(o: Owned) -> bool
     told.outcome == 2
 }
 
-// The book that the van starts from; 24 for settings that are cut off and 21 for unsound ones, with a book that is all zero.
-pub fn open(settings: &[u8]) -> OwnedFile
-    ensures { ReadsOwned (open_of settings.now) result }
+// The book that the van starts from.
+pub fn open(settings: &[u8]) -> Result<Owned, Refusal>
+    ensures { Opens (open_of settings.now) result }
 {
-    let blank = owned::blank();
     if settings.len() < SETTINGS {
-        return OwnedFile {
-            refusal: 24,
-            owned: blank,
-        };
+        return Err(Refusal::CutOff);
     }
-    let o = book_of(blank, settings);
+    let o = book_of(owned::blank(), settings);
     if is_sound(o) {
-        return OwnedFile {
-            refusal: 0,
-            owned: o,
-        };
+        return Ok(o);
     }
-    OwnedFile {
-        refusal: 21,
-        owned: blank,
-    }
+    Err(Refusal::Unsound)
 }
 
 // ---- the records

@@ -4,4 +4,4 @@ use Rattle.lent.proofs.insert.Goals as goal
 
 pub returns : goal.returns
 returns c =
-    inserted_lent c.args.h c.args.l c.args.leases.now c.load-all.ensures c.insert-x.ensures.0 c.insert-x.ensures.1 c.store.ensures
+    inserted_lent c.args.h c.args.l c.args.leases.now c.load-all.ensures c.insert-now.ensures.0 c.insert-now.ensures.1 c.store.ensures

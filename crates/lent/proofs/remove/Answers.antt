@@ -4,4 +4,4 @@ use Rattle.lent.proofs.remove.Goals as goal
 
 pub returns : goal.returns
 returns c =
-    removed_lent c.args.h _ c.args.leases.now c.load-all.ensures c.remove-x.ensures.0 c.remove-x.ensures.1 c.store.ensures
+    removed_lent c.args.h _ c.args.leases.now c.load-all.ensures c.remove-now.ensures.0 c.remove-now.ensures.1 c.store.ensures

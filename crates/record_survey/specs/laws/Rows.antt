@@ -1,5 +1,6 @@
 -- Laws: the records surveyed tenant by tenant, with the board that they make, and left as they are by the drop where no lease has ended, the board too.
 use Rattle.std.specs.Prelude.{◌≡◌, Bool, true, false, ◌&&◌, ℕ, zero, suc, ◌+◌, ◌-◌, ◌*◌, ◌≤◌, ◌<◌, length, replicate, take, drop}
+use Rattle.std.specs.List.{list_all}
 use Rattle.std.proofs.Math.Path.{refl, sym, ap, ap₂, subst}
 use Rattle.std.proofs.Common.{◌∙◌, arith, add-one, length-append, length-drop, length-take, take-append-drop, drop-cons, length-take-le, ltb-true}
 use mathlib.Core.List.{List, [], ◌∷◌, ◌++◌, map}
@@ -7,7 +8,7 @@ use Rattle.std.proofs.Math.ListN.{get_or, set, get_or-map}
 use Rattle.std.proofs.lemmas.List.{length-map, get_or_at, set-get_or}
 use Rattle.lists.specs.Pick.{pick}
 use Rattle.lists.specs.All.{All, all_by, pairs_by}
-use Rattle.lists.specs.laws.All.{AllInv, all_head, all_rest, all_drop, all_take}
+use Rattle.lists.specs.laws.All.{all_head, all_drop, all_take}
 use Rattle.lists.specs.laws.Both.{and_parts}
 use Rattle.lists.specs.laws.Each.{BuildInv, EachInv, build_start, each_start, each_next, each_end, map_set}
 use Rattle.lists.specs.laws.Filter.{filter_both}
@@ -38,11 +39,11 @@ use Rattle.soundness.specs.laws.Code.{holdings_are}
 use Rattle.releases.specs.declared.ReleaseRules.{ReleaseRules}
 use Rattle.releases.specs.Rules.{both_rules, rules_at}
 use Rattle.releases.specs.laws.Tenants.{MemoryInv, memory_next}
-use Rattle.soundness.specs.laws.Survey.{SurveyInv, held_at, none_ended, survey_next_row, survey_start}
+use Rattle.soundness.specs.laws.Survey.{SurveyInv, held_at, none_ended, survey_next, survey_start}
 use Rattle.state_file.proofs.WriteAgain.{leases_zero}
 use Rattle.records.specs.declared.Records.{Records}
 use Rattle.records.specs.laws.Back.{rows_back}
-use Rattle.records.specs.laws.Table.{row_own, rows_length, table_eight, to_row}
+use Rattle.records.specs.laws.Table.{place_within, rows_length, table_eight}
 use Rattle.records.specs.Records.{put_row, records_of, rows, rows_of, table_from, tenant_from}
 use Rattle.record_survey.specs.Survey.{Drops, ends_after}
 use Rattle.records.specs.laws.Rows.{Long, Sixteen, put_rows, rows_sixteen}
@@ -51,73 +52,48 @@ use Rattle.records.specs.laws.Rows.{Long, Sixteen, put_rows, rows_sixteen}
 pub survey_first : {s : State} (ls : List Lease) {c : TableRules} → c ≡ no_tenants → SurveyInv s (table_from ls) c 0
 survey_first ls e = survey_start (table_eight ls) e
 
-pub survey_row : {s : State} (ls : List Lease) {c r : TableRules} {h : ℕ} {t : TenantLeases} → SurveyInv s (table_from ls) c h → h < 8 → t ≡ tenant_from (get_or (rows 8 ls) h []) → r ≡ added_tenant s c h t
+pub survey_row : {s : State} (ls : List Lease) {c r : TableRules} {h : ℕ} {t : TenantLeases} → SurveyInv s (table_from ls) c h → h < 8 → t ≡ tenant_at (table_from ls) h → r ≡ added_tenant s c h t
     → SurveyInv s (table_from ls) r (h + 1)
-unfolding table_from
-survey_row ls v p q e = survey_next_row v tenant_from (rows 8 ls) [] refl p q e
+survey_row ls {h = h} v p q e = survey_next v p (q ∙ at_in (table_from ls).tenants 8 h (laid_out []) no_leases (table_eight ls) p) e
 
 -- ---- what the tenants hold, gathered by itself
-pub record HoldingInv (ls : List Lease) (now : List Held) (h : ℕ) : Type 0 where
-  pub built : BuildInv (λ r. held_sets (tenant_from r)) [] (rows 8 ls) no_tenants.held.tenants 8 now h
-  pub size : length ls ≡ 128
+abbrev pub HoldingInv : List Lease → List Held → ℕ → Type 0
+HoldingInv ls now h = BuildInv held_sets no_leases (table_from ls).tenants no_tenants.held.tenants 8 now h
 
 none_eight : length no_tenants.held.tenants ≡ 8
 unfolding no_tenants
 none_eight = refl
 
-pub holding_first : {ls : List Lease} {c : TableRules} → length ls ≡ 128 → c ≡ no_tenants → HoldingInv ls c.held.tenants 0
-holding_first {ls} p q = subst (λ (x : TableRules). HoldingInv ls x.held.tenants 0) (sym q) (record { built = build_start (rows_length 8 ls) none_eight; size = p })
+pub holding_first : (ls : List Lease) {c : TableRules} → c ≡ no_tenants → HoldingInv ls c.held.tenants 0
+holding_first ls q = subst (λ (x : TableRules). HoldingInv ls x.held.tenants 0) (sym q) (build_start (table_eight ls) none_eight)
 
-module _ {ls : List Lease} {now : List Held} {h : ℕ} (v : HoldingInv ls now h) where
-  pub holding_row : {t : TenantLeases} {x : Held} → h < 8 → t ≡ tenant_from (get_or (rows 8 ls) h []) → x ≡ held_sets t → HoldingInv ls (set now h x) (h + 1)
-  holding_row p q e = record { built = each_next v.built p (e ∙ ap held_sets q); size = v.size }
+pub holding_row : (ls : List Lease) {now : List Held} {h : ℕ} {t : TenantLeases} {x : Held} → HoldingInv ls now h → h < 8 → t ≡ tenant_at (table_from ls) h → x ≡ held_sets t → HoldingInv ls (set now h x) (h + 1)
+holding_row ls {h = h} v p q e = each_next v p (e ∙ ap held_sets (q ∙ at_in (table_from ls).tenants 8 h (laid_out []) no_leases (table_eight ls) p))
 
-  pub holding_within : h ≤ 8
-  holding_within = v.built.within
-
-  pub holding_size : length ls ≡ 128
-  holding_size = v.size
-
-  pub holding_end : {r : HeldTable} → r.tenants ≡ now → 8 ≤ h → r ≡ holdings_of (table_from ls)
-  unfolding table_from
-  holding_end {r} p q = holdings_are (table_from ls) r (p ∙ each_end v.built q ∙ each_row (rows 8 ls))
-    where
-      each_row : (l : List (List Lease)) → map (λ r. held_sets (tenant_from r)) l ≡ map held_sets (map tenant_from l)
-      each_row [] = refl
-      each_row (r ∷ l) = ap {B = List Held} (λ (x : List Held). held_sets (tenant_from r) ∷ x) (each_row l)
-
-pub ruleset to_holdings = (to_row, holding_first, holding_row, holding_within, holding_size, holding_end)
+pub holding_end : (ls : List Lease) (r : HeldTable) {h : ℕ} → HoldingInv ls r.tenants h → 8 ≤ h → r ≡ holdings_of (table_from ls)
+holding_end ls r v q = holdings_are (table_from ls) r (each_end v q)
 
 -- ---- the rules on what is remembered, gathered in the same loop
 pub memory_row : {s : State} (ls : List Lease) {m : Memory} {n : ℕ} {all r : ReleaseRules} {h : ℕ} {t : TenantLeases} (d : TenantReleases) → MemoryInv s (table_from ls) m n all h → length m.releases ≡ 8 → h < 8
-    → t ≡ tenant_from (get_or (rows 8 ls) h []) → r ≡ both_rules all (rules_at n s.clock h (in_use t) (get_or m.releases h d)) → MemoryInv s (table_from ls) m n r (h + 1)
+    → t ≡ tenant_at (table_from ls) h → r ≡ both_rules all (rules_at n s.clock h (in_use t) (get_or m.releases h d)) → MemoryInv s (table_from ls) m n r (h + 1)
 memory_row ls {m} {h = h} {t} d v e p q u =
-    memory_next v t d e p (λ n clock. ap (λ (x : TenantLeases). rules_at n clock h (in_use x) (get_or m.releases h d)) (row_own ls p q)) u
+    memory_next v t d e p (λ n clock. ap (λ (x : TenantLeases). rules_at n clock h (in_use x) (get_or m.releases h d)) q) u
 
 -- ---- the board that the leases make, in the same loop
 pub built_first : (t : LeaseTable) {b : Board} → b ≡ no_board → b ≡ built_to t 0
 unfolding built_to
 built_first t e = e
 
-pub built_row : (ls : List Lease) {b r : Board} {h : ℕ} {t : TenantLeases} → b ≡ built_to (table_from ls) h → h < 8 → t ≡ tenant_from (get_or (rows 8 ls) h []) → r ≡ fold (board_with h) b (in_use t)
+pub built_row : (ls : List Lease) (h : ℕ) {b r : Board} {t : TenantLeases} → b ≡ built_to (table_from ls) h → t ≡ tenant_at (table_from ls) h → r ≡ fold (board_with h) b (in_use t)
     → r ≡ built_to (table_from ls) (h + 1)
 unfolding built_to
-built_row ls {h = h} v p q e =
-    e ∙ ap₂ (λ (x : Board) (y : TenantLeases). fold (board_with h) x (in_use y)) v (row_own ls p q) ∙ ap (built_to (table_from ls)) (sym (add-one h))
+built_row ls h v q e =
+    e ∙ ap₂ (λ (x : Board) (y : TenantLeases). fold (board_with h) x (in_use y)) v q ∙ ap (built_to (table_from ls)) (sym (add-one h))
 
 pub built_whole : {s : State} {b : LeaseTable} {c : TableRules} {x : Board} {h : ℕ} → SurveyInv s b c h → x ≡ built_to b h → 8 ≤ h → x ≡ built_of b
 built_whole {b = b} {h = h} v e p = e ∙ ap (built_to b) (let q = v.folded.within in let d : h ≡ 8 = omega arith in d)
 
 -- ---- a sound book's records only lay out its leases
-place_within : {A : Type 0} (t : A → Bool) (l : List A) → place_by t l ≤ length l
-unfolding place_by pick
-place_within t [] = omega arith
-place_within t (x ∷ l) = go (t x) (place_within t l)
-  where
-    go : (b : Bool) → place_by t l ≤ length l → pick b 0 (suc (place_by t l)) ≤ suc (length l)
-    go true p = omega arith
-    go false p = omega arith
-
 row_laid : (r : List Lease) → length r ≡ 16 → All Long r → layout_b (tenant_from r) ≡ true → laid_out (in_use (tenant_from r)) ≡ tenant_from r
 unfolding laid_out tenant_from layout_by
 row_laid r e v q =
@@ -153,8 +129,15 @@ sound_laid s ls e v q =
     (rows_laid 8 ls e v (and_parts (settings_b s) (all_by layout_b (map tenant_from (rows 8 ls))) (rules_of_law s (table_from ls) q).layout).1)
 
 -- ---- the drop
-pub ended_start : (clock : ℕ) {l : List Held} → length l ≡ 8 → AllInv (ends_after clock) no_held l 8 (all_by (ends_after clock) l) 0
-ended_start clock e = all_rest (omega arith) e
+-- what std's `all` asks
+pub every_is : {A : Type 0} (t : A → Bool) (l : List A) → list_all t l ≡ all_by t l
+unfolding all_by pick
+every_is t [] = refl
+every_is t (x ∷ l) = go (t x) (every_is t l)
+  where
+    go : (b : Bool) → list_all t l ≡ all_by t l → (b && list_all t l) ≡ pick b (all_by t l) false
+    go true e = e
+    go false e = refl
 
 -- before its first end a tenant's records stay
 kept : (clock : ℕ) (t : TenantLeases) → t ≡ laid_out (in_use t) → clock < first_end_in (in_use t) → ended_in clock t ≡ t
@@ -286,9 +269,6 @@ module _ {clock : ℕ} {b : LeaseTable} {x : Board} {now : List Lease} {held : L
       same : set v.tenants h t ≡ v.tenants
       same = ap (set v.tenants h) (sym (still p)) ∙ set-get_or v.tenants h no_leases
 
-  pub drop_within : h ≤ 8
-  drop_within = v.each.within
-
 pub drop_end : {clock : ℕ} {ls : List Lease} {x : Board} {all : Records} {sets : HeldTable} {y : Board} {h : ℕ} → DropInv clock (table_from ls) x all.leases sets.tenants y h → 8 ≤ h
     → Drops clock ls x (record { records = all; held = sets; board = y })
 unfolding records_of holdings_of
@@ -302,7 +282,7 @@ drop_end {clock} {ls} {x} {h = h} v p = record {
     done : record { tenants = v.tenants } ≡ dropped clock (table_from ls)
     done = dropped_is clock (table_from ls) (record { tenants = v.tenants }) (each_end v.each p)
 
-pub ruleset drops = (drop_start, drop_ended, drop_none, drop_within, drop_end)
+pub ruleset drops = (drop_start, drop_ended, drop_none, drop_end)
 
 -- ---- where no lease at all has ended
 pub drop_idle : (clock : ℕ) (b : LeaseTable) → b ≡ table_of (leases_of b) → all_by (ends_after clock) (holdings_of b).tenants ≡ true → b ≡ dropped clock b

@@ -1,5 +1,6 @@
 -- Laws: the first half of a call on 128 records by value: tests 1 and 3, the drop, and the edit of the records and the releases of the client's tenant and of the board.
-use Rattle.std.specs.Prelude.{◌≡◌, refl, Bool, true, false, ◌||◌, List, [], map, ℕ, ◌≤◌, ◌<◌, get_or}
+use Rattle.std.specs.Prelude.{Option, None, Some, ◌≡◌, refl, Bool, true, false, ◌||◌, List, [], map, ℕ, ◌≤◌, ◌<◌, get_or}
+use Rattle.std.specs.Option.{is_some, option_map_or}
 use Rattle.std.proofs.Common.{sym, ap₂, ◌∙◌, subst, true≢false, arith}
 use Rattle.std.proofs.Math.Path.{ap}
 use Rattle.std.proofs.Math.ListN.{length, length-map, set}
@@ -16,6 +17,7 @@ use Rattle.state.specs.declared.Ledger.{Ledger}
 use Rattle.state.specs.declared.Memory.{Memory}
 use Rattle.state.specs.declared.State.{State}
 use Rattle.state.specs.declared.TenantLeases.{TenantLeases}
+use Rattle.state.specs.declared.Release.{Release}
 use Rattle.state.specs.declared.TenantReleases.{TenantReleases}
 use Rattle.state.specs.Book.{Book, advanced, cleared, dropped, id_of, in_use, inserted_in, laid_out, laid_releases, leases_of, live_of, ordered, put_at, raised, releases_at, remembered, remove_of, table_of, tenant_at, board_with, board_without}
 use Rattle.state.specs.laws.Edit.{applied}
@@ -80,35 +82,40 @@ or_none true b e = absurd (true≢false e)
 or_none false true e = absurd (true≢false e)
 or_none false false e = (refl, refl)
 
-idle : (e : Edit) (h : ℕ) (b : LeaseTable) → e.leaves ≡ false → e.enters ≡ false → applied e h b ≡ b
-unfolding applied_by edited_by left_in pick
+none_of : {A : Type 0} (o : Option A) → is_some o ≡ false → o ≡ None
+none_of None e = refl
+none_of (Some x) e = absurd (true≢false e)
+
+idle : (e : Edit) (h : ℕ) (b : LeaseTable) → e.leaves ≡ None → e.enters ≡ None → applied e h b ≡ b
+unfolding applied_by edited_by left_in
 idle e h b p q =
-    ap₂ (λ (x y : Bool). put_at b h (pick y (inserted_in e.new (pick x gone own)) (pick x gone own))) p q
+    ap₂ (λ (x y : Option Lease). put_at b h (option_map_or (λ l. inserted_in l (gone x)) y (gone x))) p q
     ∙ ap {B = LeaseTable} (λ (x : List TenantLeases). record { tenants = x }) (set-get_or b.tenants h (laid_out []))
   where
-    own : TenantLeases
-    own = tenant_at b h
+    gone : Option Lease → TenantLeases
+    gone x = option_map_or (λ l. laid_out (remove_of (id_of l) (in_use (tenant_at b h)))) x (tenant_at b h)
 
-    gone : TenantLeases
-    gone = laid_out (remove_of (id_of e.old) (in_use own))
-
-unnoted : (e : Edit) (h : ℕ) (m : Memory) → e.leaves ≡ false → e.enters ≡ false → e.forgets ≡ false → e.remembers ≡ false → noted e h m ≡ m
+unnoted : (e : Edit) (h : ℕ) (m : Memory) → e.leaves ≡ None → e.enters ≡ None → e.remembers ≡ None → noted e h m ≡ m
 unfolding noted noted_in board_edited board_left pick
-unnoted e h m a b p q = ap₂ {C = Memory} (λ (x : List TenantReleases) (y : Board). record { releases = x; board = y }) releases board
+unnoted e h m a b q = ap₂ {C = Memory} (λ (x : List TenantReleases) (y : Board). record { releases = x; board = y }) releases board
   where
     own : TenantReleases
     own = releases_at m h
 
+    either : (c : Bool) → pick c own own ≡ own
+    either true = refl
+    either false = refl
+
+    forgets : Option Lease → TenantReleases
+    forgets x = pick e.forgets (option_map_or (λ l. laid_releases (forget_of (id_of l) (remembered own))) x own) own
+
     releases : set m.releases h (noted_in e own) ≡ m.releases
     releases =
-        ap₂ (λ (x y : Bool). set m.releases h (pick y (laid_releases (remember_of e.release (remembered own))) (pick x (laid_releases (forget_of (id_of e.new) (remembered own))) own))) p q
-        ∙ set-get_or m.releases h (laid_releases [])
+        ap₂ (λ (x : Option Lease) (y : Option Release). set m.releases h (option_map_or (λ r. laid_releases (remember_of r (remembered own))) y (forgets x))) b q
+        ∙ ap (set m.releases h) (either e.forgets) ∙ set-get_or m.releases h (laid_releases [])
 
     board : board_edited e h m.board ≡ m.board
-    board = ap₂ (λ (x y : Bool). pick y (board_with h (pick x gone m.board) e.new) (pick x gone m.board)) a b
-      where
-        gone : Board
-        gone = board_without h m.board e.old
+    board = ap₂ (λ (x y : Option Lease). option_map_or (board_with h (option_map_or (board_without h m.board) x m.board)) y (option_map_or (board_without h m.board) x m.board)) a b
 
 -- ---- test 3
 -- what is remembered of tenant h, as the code reads it
@@ -144,14 +151,15 @@ module _ (g : Ledger) (ls : List Lease) (client : ℕ) (d : List ℕ) (size : le
         edits (ap₂ {C = Memory} (λ (i : TenantReleases) (j : Board). record { releases = set g.memory.releases h i; board = j }) (c ∙ ap (noted_in r.edit) u) k)
         (b.0 ∙ put_row_is ls h t size (omega (arith, f, p)) ∙ ap (λ (k : TenantLeases). records_of (put_at (table_from ls) h k)) (a ∙ ap (edited_in r.edit) o)) b.1
 
-    pub at_same : {z : Records} {t : Bool} → t ≡ (r.edit.leaves || (r.edit.enters || (r.edit.forgets || r.edit.remembers))) → t ≡ false → z.leases ≡ ls
+    pub at_same : {z : Records} {t : Bool} → t ≡ (is_some r.edit.leaves || (is_some r.edit.enters || is_some r.edit.remembers)) → t ≡ false → z.leases ≡ ls
         → (names : List ℕ) → JudgesRecords (lent_judgement (judge_clock (book_from g ls names) client d)) (record { ruling = r.ruling; clock = g.state.clock; memory = g.memory; records = z })
     at_same a b c =
-        let j = or_none r.edit.leaves (r.edit.enters || (r.edit.forgets || r.edit.remembers)) (sym a ∙ b) in
-        let k = or_none r.edit.enters (r.edit.forgets || r.edit.remembers) j.1 in
-        let i = or_none r.edit.forgets r.edit.remembers k.1 in
-        edits (sym (unnoted r.edit h g.memory j.0 k.0 i.0 i.1))
-        (c ∙ sym (records_back ls size) ∙ ap records_of (sym (idle r.edit h (table_from ls) j.0 k.0))) (ap length c ∙ size)
+        let j = or_none (is_some r.edit.leaves) (is_some r.edit.enters || is_some r.edit.remembers) (sym a ∙ b) in
+        let k = or_none (is_some r.edit.enters) (is_some r.edit.remembers) j.1 in
+        let leaves = none_of r.edit.leaves j.0 in
+        let enters = none_of r.edit.enters k.0 in
+        edits (sym (unnoted r.edit h g.memory leaves enters (none_of r.edit.remembers k.1)))
+        (c ∙ sym (records_back ls size) ∙ ap records_of (sym (idle r.edit h (table_from ls) leaves enters))) (ap length c ∙ size)
 
 -- ---- what is gathered of a sound book, by a survey that found it so, or by what it holds alone
 pub sound_gathered : (g : Ledger) (ls : List Lease) (names : List ℕ) {held : HeldTable} → SoundFrom g ls names → held ≡ holdings_of (table_from ls) → Gathered g.state ls held

@@ -1,6 +1,6 @@
 -- `no_records` meets its contract: by `empty_records`.
 use Rattle.records.specs.laws.Table.{empty_records}
-use borrow.Author.Rules.{rules}
+use Rattle.std.proofs.Common.{rules}
 use Rattle.records.proofs.no_records.Goals as goal
 
 pub returns : goal.returns

@@ -1,14 +1,8 @@
--- `put_row` meets its contract: record by record.
+-- `put_row` meets its contract: the part of the records that is the tenant's.
+use Rattle.std.proofs.Common.{rules}
 use Rattle.lists.specs.laws.Part.{unmapped}
-use Rattle.records.specs.laws.Rows.{puts}
-use borrow.Author.Rules.{rules}
+use Rattle.records.specs.laws.Table.{part_put}
 use Rattle.records.proofs.put_row.Goals as goal
 
-pub loop-i-init : goal.loop-i-init
-loop-i-init c = search (puts, unmapped, rules)
-
-pub loop-i-preserved : goal.loop-i-preserved
-loop-i-preserved c = search (puts, rules)
-
 pub returns : goal.returns
-returns c = search (puts, rules)
+returns c = search (part_put, unmapped, rules)

@@ -1,14 +1,14 @@
--- `read` meets its contract: each branch of `read_with`, from what the calls gave.
-use mathlib.Core.Path.{refl}
-use Rattle.records.proofs.Typed.{records_size}
+-- `read` meets its contract: the file's refusal, then the number of records.
+use Rattle.std.proofs.Common.{sym}
+use Rattle.std.proofs.lemmas.Result.{err_from_is_err_and}
 use Rattle.records.specs.laws.Steps.{read_in, read_out, read_refused}
 use Rattle.records.proofs.read.Goals as goal
 
-pub returns-then-n-eq128 : goal.returns-then-n-eq128
-returns-then-n-eq128 c = read_in _ _ _ _ c.read-f.ensures c.if-refusal-eq0.true c.if-n-eq128.true c.records_of-x.ensures c.untouched.ensures
+pub returns-in_err-book : goal.returns-in_err-book
+returns-in_err-book c = let p = err_from_is_err_and c.from_residual.result c.from_residual.ensures.1 in rw (p.1, p.2) (read_refused c.args.n (sym c.in_err-book.ensures))
 
-pub returns-then-refusal-eq0 : goal.returns-then-refusal-eq0
-returns-then-refusal-eq0 c = read_out _ _ _ _ c.read-f.ensures c.if-refusal-eq0.true c.if-n-eq128.false refl (records_size c.args.records _ c.well_formed.1.1.0) c.untouched-then-refusal-eq0.ensures
+pub returns-then-n-ne128 : goal.returns-then-n-ne128
+returns-then-n-ne128 c = read_out c.args.n (sym c.in_ok-book.ensures) c.if-n-ne128.true
 
 pub returns : goal.returns
-returns c = read_refused _ _ _ _ c.read-f.ensures c.if-refusal-eq0.false refl (records_size c.args.records _ c.well_formed.1.1.0) c.untouched-2.ensures
+returns c = read_in c.args.n (sym c.in_ok-book.ensures) c.if-n-ne128.false c.records_of.ensures

@@ -1,7 +1,8 @@
--- `tenant_from` meets its contract: by `tenant_from_is`.
-use Rattle.records.specs.laws.Table.{tenant_from_is}
-use borrow.Author.Rules.{rules}
+-- `tenant_from` meets its contract: by `tenant_from_is` and `place_found`.
+use Rattle.std.proofs.Common.{rules, ◌∙◌}
+use Rattle.soundness.specs.Sound.{unused_b}
+use Rattle.records.specs.laws.Table.{place_found, tenant_from_is}
 use Rattle.records.proofs.tenant_from.Goals as goal
 
 pub returns : goal.returns
-returns c = search (tenant_from_is, rules)
+returns c = tenant_from_is (c.unwrap_or.ensures ∙ place_found unused_b c.args.leases 16 (search rules) c.first_unused.ensures)

@@ -1,5 +1,5 @@
 -- Laws: of lent records: what the functions on 128 records by value give is what the definitions on a lent slice of any length yield.
-use Rattle.std.specs.Prelude.{◌≡◌, refl, Bool, true, false, List, ◌++◌, ℕ, min, eqb, ltb, length, replicate, take, drop}
+use Rattle.std.specs.Prelude.{◌≡◌, refl, Bool, true, false, List, ◌++◌, Result, Ok, Err, ℕ, min, eqb, ltb, length, replicate, take, drop}
 use Rattle.std.proofs.Common.{sym, ap, ◌∙◌, append-nil, arith, drop_of_length-le, take-append-drop, length-take-le, take_all, take_at, zero-add, eqb-true}
 use Rattle.std.proofs.Math.Seq.{paste}
 use Rattle.lists.specs.Pick.{pick}
@@ -9,11 +9,17 @@ use Rattle.state.specs.declared.Lookup.{Lookup}
 use Rattle.state.specs.Book.{insert_of, lookup_of, no_lookup, remove_of, zero_lease}
 use Rattle.admission.specs.Tests.{own_of}
 use Rattle.state_file.specs.declared.Loaded.{Loaded}
-use Rattle.state_file.specs.declared.Written.{Written}
+use Rattle.state_file.specs.declared.Refusal.{Refusal}
+use Rattle.state_file.specs.declared.Refusal.TheVariants.{UnsoundBook, UnsoundFile}
 use Rattle.records.specs.declared.ReadRecords.{ReadRecords}
-use Rattle.state_file.specs.StateFile.{room_after, written_of}
-use Rattle.records.specs.Records.{records_of, table_from, first128, covered}
-use Rattle.records.specs.Lent.{book_from, with_own, is128, untouched, LentReading, read_with, Reads, ReadsLent, written_with, written_lent, room_with, room_lent, find_with, find_lent, insert_with, insert_lent, remove_with, remove_lent}
+use Rattle.state_file.specs.StateFile.{code_of, refusal_number, room_after, written_of}
+use Rattle.records.specs.Records.{table_from, first128, covered}
+use Rattle.records.specs.Lent.{book_from, with_own, is128, for_records, read_over, Reads, ReadsLent, written_with, written_lent, room_with, room_lent, find_with, find_lent, insert_with, insert_lent, remove_with, remove_lent}
+
+-- a part laid over the front of a list
+pub front_put : {A : Type 0} (d s : List A) {part : List A} {n m : ℕ} → n ≡ m → part ≡ take n s → part ++ drop n d ≡ paste d 0 s m
+front_put d s {part} {n} {m} e p =
+    ap (λ x. x ++ drop n d) p ∙ ap (λ (k : ℕ). take k s ++ drop k d) e ∙ ap (λ (k : ℕ). take m s ++ drop k d) (sym (zero-add m))
 
 -- ---- slices
 -- 128 records are all taken
@@ -93,48 +99,28 @@ unfolding remove_with
 removed_lent h i ls = changed_pick (λ m. pick (ltb h 8) (with_own (table_from m) h (remove_of i (own_of (table_from m) h))) m) ls
 
 -- ---- the writer
-pub written_lent_law : (g : Ledger) (ls : List Lease) (names : List ℕ) (room : ℕ) {all : List Lease} {w : Written} → all ≡ first128 ls → w ≡ written_with (length ls) g all names room → w ≡ written_lent g ls names room
+pub written_lent_law : (g : Ledger) (ls : List Lease) (names : List ℕ) (room : ℕ) {all : List Lease} {w : Result ℕ Refusal} → all ≡ first128 ls → w ≡ written_with (length ls) g all names room → w ≡ written_lent g ls names room
 unfolding written_with
-written_lent_law g ls names room = told_pick (λ m. written_of (book_from g m names) room) (record { refusal = 22; length = 0 }) ls
+written_lent_law g ls names room = told_pick (λ m. written_of (book_from g m names) room) (Err UnsoundBook) ls
 
 pub room_lent_law : (g : Ledger) (ls : List Lease) (names room : List ℕ) {all : List Lease} {after : List ℕ} → all ≡ first128 ls → after ≡ room_with (length ls) g all names room → after ≡ room_lent g ls names room
 unfolding room_with
 room_lent_law g ls names room = told_pick (λ m. room_after (book_from g m names) room) room ls
 
 -- ---- the reader
--- what it answers of a slice of another length
-abbrev refusing : Loaded → Ledger → Bool → List Lease → LentReading
-refusing f g b m = pick b (untouched 21 g m) (untouched f.refusal g m)
-
-pub read_lent_law : (f : Loaded) (g : Ledger) (ls : List Lease) {all zs : List Lease} {g' : Ledger} {r : ReadRecords} {n : ℕ}
-    → all ≡ first128 ls → Reads (read_with (length ls) f g all) r → g' ≡ r.ledger → zs ≡ covered ls r.records.leases → n ≡ r.refusal → ReadsLent (read_with (length ls) f g ls) g' zs n
-unfolding read_with pick
-read_lent_law f g ls {r = r} a v p q e = record {
-  refusal = told_lent (λ k m. (read_with k f g m).refusal) (λ k m m' o. off_refusal k m o ∙ sym (off_refusal k m' o)) ls a (e ∙ v.refusal);
-  ledger = told_lent (λ k m. (read_with k f g m).ledger) (λ k m m' o. off_ledger k m o ∙ sym (off_ledger k m' o)) ls a (p ∙ v.ledger);
-  leases = changed_lent (λ k m. (read_with k f g m).leases) off_leases ls a v.leases v.long q;
-}
+-- what is read is laid over the records, all of them where there are 128
+pub read_laid : (f : Result Loaded Refusal) (g : Ledger) (ls : List Lease) (r : ReadRecords) {g' : Ledger} {zs : List Lease} → Reads (for_records (length ls) f) (Ok r) → g' ≡ r.ledger → zs ≡ covered ls r.records.leases
+    → ReadsLent (read_over (for_records (length ls) f) g ls) g' zs (Ok tt)
+unfolding for_records is128 pick read_over refusal_number
+read_laid (Ok f) g ls r {g'} {zs} v p q = go (eqb (length ls) 128) refl v
   where
-    off : (k : ℕ) (m : List Lease) → is128 k ≡ false → read_with k f g m ≡ refusing f g (eqb f.refusal 0) m
-    off k m o = ap (λ (t : Bool). pick (eqb f.refusal 0) (pick t (record { refusal = 0; ledger = record { state = f.state; memory = f.memory }; leases = records_of f.table }) (untouched 21 g m)) (untouched f.refusal g m)) o
+    go : (t : Bool) → eqb (length ls) 128 ≡ t → Reads (pick t (Ok f) (Err UnsoundFile)) (Ok r) → ReadsLent (read_over (pick t (Ok f) (Err UnsoundFile)) g ls) g' zs (Ok tt)
+    go true e w = record { refusal = refl; ledger = p ∙ w.0; leases = q ∙ covered_all ls r.records.leases (eqb-true _ _ e) w.2 ∙ w.1 }
+    go false e w = absurd w
+read_laid (Err e) g ls r v p q = absurd v
 
-    of_refusal : (b : Bool) (m : List Lease) → (refusing f g b m).refusal ≡ pick b 21 f.refusal
-    of_refusal true m = refl
-    of_refusal false m = refl
-
-    of_ledger : (b : Bool) (m : List Lease) → (refusing f g b m).ledger ≡ g
-    of_ledger true m = refl
-    of_ledger false m = refl
-
-    of_leases : (b : Bool) (m : List Lease) → (refusing f g b m).leases ≡ m
-    of_leases true m = refl
-    of_leases false m = refl
-
-    off_refusal : (k : ℕ) (m : List Lease) → is128 k ≡ false → (read_with k f g m).refusal ≡ pick (eqb f.refusal 0) 21 f.refusal
-    off_refusal k m o = ap (λ (x : LentReading). x.refusal) (off k m o) ∙ of_refusal (eqb f.refusal 0) m
-
-    off_ledger : (k : ℕ) (m : List Lease) → is128 k ≡ false → (read_with k f g m).ledger ≡ g
-    off_ledger k m o = ap (λ (x : LentReading). x.ledger) (off k m o) ∙ of_ledger (eqb f.refusal 0) m
-
-    off_leases : (k : ℕ) (m : List Lease) → is128 k ≡ false → (read_with k f g m).leases ≡ m
-    off_leases k m o = ap (λ (x : LentReading). x.leases) (off k m o) ∙ of_leases (eqb f.refusal 0) m
+-- a refusal changes nothing
+pub read_kept : (f : Result Loaded Refusal) (g : Ledger) (ls : List Lease) {e : Refusal} → Reads f (Err e) → ReadsLent (read_over f g ls) g ls (Err e)
+unfolding read_over refusal_number
+read_kept (Ok f) g ls v = absurd v
+read_kept (Err k) g ls v = record { refusal = ap code_of v; ledger = refl; leases = refl }

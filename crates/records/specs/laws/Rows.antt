@@ -1,14 +1,12 @@
 -- Laws: one tenant's records among the 128, put back; and the length that every identifier has.
-use Rattle.std.specs.Prelude.{◌≡◌, List, [], ◌∷◌, ◌++◌, map, ℕ, zero, suc, ◌+◌, ◌-◌, ◌*◌, ◌≤◌, ◌<◌, length, take, drop, get_or, set}
+use Rattle.std.specs.Prelude.{◌≡◌, List, [], ◌∷◌, ◌++◌, map, ℕ, zero, suc, ◌+◌, ◌-◌, ◌*◌, ◌<◌, length, take, drop, set}
 use Rattle.std.proofs.Common.{sym, ap, ap₂, ◌∙◌, append_assoc, arith, length-drop, drop_at, length-take-le}
 use Rattle.std.proofs.lemmas.List.{length-map}
 use Rattle.std.proofs.Math.Seq.{take-append-add, drop-append-add}
 use Rattle.lists.specs.All.{All}
-use Rattle.lists.specs.laws.Copy.{CopyInv, copy_start, copy_next, copy_long, copy_paste}
 use Rattle.state.specs.declared.Lease.{Lease}
 use Rattle.state.specs.declared.TenantLeases.{TenantLeases}
 use Rattle.state.specs.Book.{put_at}
-use Rattle.state.specs.laws.Layout.{no_lease}
 use Rattle.records.specs.laws.Back.{rows_back}
 use Rattle.records.specs.laws.Table.{rows_length}
 use Rattle.records.specs.Records.{put_row, records_of, rows, rows_of, table_from, tenant_from}
@@ -44,28 +42,6 @@ unfolding records_of table_from
 put_row_is ls h t e p =
     ap (λ (x : List Lease). put_row x h t.leases) (sym (rows_back 8 ls e))
     ∙ put_rows (map tenant_from (rows 8 ls)) h t (rows_sixteen 8 ls e) (let k = length-map (rows 8 ls) tenant_from ∙ rows_length 8 ls in omega arith)
-
--- the loop
-pub record PutInv (ls : List Lease) (h : ℕ) (r now : List Lease) (i : ℕ) : Type 0 where
-  pub size : length ls ≡ 128
-  pub full : length r ≡ 16
-  pub copied : CopyInv no_lease ls (16 * h) r 16 now i
-
-pub put_start : {ls : List Lease} {h : ℕ} {r : List Lease} → h < 8 → length ls ≡ 128 → length r ≡ 16 → PutInv ls h r ls 0
-put_start p e q = record { size = e; full = q; copied = copy_start 128 16 e q (omega arith) (omega arith) }
-
-module _ {ls : List Lease} {h : ℕ} {r now : List Lease} {i : ℕ} (v : PutInv ls h r now i) where
-  pub put_next : {x : Lease} → i < 16 → x ≡ get_or r i no_lease → PutInv ls h r (set now (16 * h + i) x) (i + 1)
-  put_next {x} p q = record { size = v.size; full = v.full; copied = copy_next v.copied x p q }
-
-  pub put_long : length now ≡ 128
-  put_long = copy_long v.copied ∙ v.size
-
-  pub put_end : 16 ≤ i → now ≡ put_row ls h r
-  unfolding put_row
-  put_end p = copy_paste v.copied p v.full
-
-pub ruleset puts = (put_start, put_next, put_long, put_end)
 
 -- ---- what the type says of every record
 abbrev pub Long : Lease → Type 0

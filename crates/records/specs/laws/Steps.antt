@@ -1,7 +1,7 @@
 -- Laws: what the functions on 128 records by value are proved by: each branch of a definition, from what the calls gave.
-use Rattle.std.specs.Prelude.{◌≡◌, refl, Bool, true, false, List, [], ℕ, ◌≤◌, ◌<◌, ltb}
+use Rattle.std.specs.Prelude.{◌≡◌, refl, Bool, true, false, List, [], Result, Ok, Err, ℕ, ◌≤◌, ◌<◌, ltb}
 use Rattle.std.proofs.Math.Path.{sym, ap}
-use Rattle.std.proofs.Common.{◌∙◌, eq-eqb, ne_eqb, lt-ltb, le-ltb}
+use Rattle.std.proofs.Common.{◌∙◌, subst, eq-eqb, ne_eqb, lt-ltb, le-ltb}
 use native.Mathlib.Omega.{arith}
 use Rattle.std.proofs.Math.ListN.{length}
 use Rattle.lists.specs.Pick.{pick}
@@ -15,15 +15,15 @@ use Rattle.state.specs.Book.{compared_of, in_use, insert_of, inserted_in, laid_o
 use Rattle.lists.specs.laws.Row.{at_out}
 use Rattle.admission.specs.Tests.{own_of}
 use Rattle.state_file.specs.declared.Loaded.{Loaded}
-use Rattle.state_file.specs.declared.Written.{Written}
+use Rattle.state_file.specs.declared.Refusal.{Refusal}
+use Rattle.state_file.specs.declared.Refusal.TheVariants.{UnsoundBook, UnsoundFile}
 use Rattle.state_file.specs.StateFile.{room_after, written_of}
-use Rattle.records.specs.declared.ReadRecords.{ReadRecords}
 use Rattle.records.specs.declared.Records.{Records}
 use Rattle.records.specs.Records.{put_row, records_of, table_from}
 use Rattle.records.specs.laws.Rows.{put_row_is}
 use Rattle.records.specs.laws.Table.{table_eight}
 use Rattle.server.specs.Serve.{book_of}
-use Rattle.records.specs.Lent.{book_from, find_with, insert_with, LentReading, read_with, Reads, remove_with, room_with, untouched, is128, with_own, written_with}
+use Rattle.records.specs.Lent.{book_from, find_with, insert_with, for_records, ledger_from, Reads, remove_with, room_with, is128, with_own, written_with}
 
 -- ---- a test on the number of records
 pub is_whole : {n : ℕ} → n ≡ 128 → is128 n ≡ true
@@ -122,13 +122,13 @@ module _ (n h : ℕ) (ls : List Lease) where
 
 -- ---- the writer
 module _ (n : ℕ) (g : Ledger) (ls : List Lease) (names : List ℕ) where
-  pub write_in : (k : ℕ) {t : LeaseTable} {w : Written} → n ≡ 128 → t ≡ table_from ls → w ≡ written_of (book_of g.state t g.memory names) k → w ≡ written_with n g ls names k
+  pub write_in : (k : ℕ) {t : LeaseTable} {w : Result ℕ Refusal} → n ≡ 128 → t ≡ table_from ls → w ≡ written_of (book_of g.state t g.memory names) k → w ≡ written_with n g ls names k
   unfolding written_with
-  write_in k e a b = b ∙ ap (λ (x : LeaseTable). written_of (book_of g.state x g.memory names) k) a ∙ on_whole (written_of (book_from g ls names) k) (record { refusal = 22; length = 0 }) e
+  write_in k e a b = b ∙ ap (λ (x : LeaseTable). written_of (book_of g.state x g.memory names) k) a ∙ on_whole (written_of (book_from g ls names) k) (Err UnsoundBook) e
 
-  pub write_out : (k : ℕ) → (n ≡ 128 → ⊥) → record { refusal = 22; length = 0 } ≡ written_with n g ls names k
+  pub write_out : (k : ℕ) → (n ≡ 128 → ⊥) → Err UnsoundBook ≡ written_with n g ls names k
   unfolding written_with
-  write_out k e = off_whole (written_of (book_from g ls names) k) (record { refusal = 22; length = 0 }) e
+  write_out k e = off_whole (written_of (book_from g ls names) k) (Err UnsoundBook) e
 
   pub room_in : (room : List ℕ) {t : LeaseTable} {after : List ℕ} → n ≡ 128 → t ≡ table_from ls → after ≡ room_after (book_of g.state t g.memory names) room → after ≡ room_with n g ls names room
   unfolding room_with
@@ -139,41 +139,17 @@ module _ (n : ℕ) (g : Ledger) (ls : List Lease) (names : List ℕ) where
   room_out room e = off_whole (room_after (book_from g ls names) room) room e
 
 -- ---- the reader
-module _ (n : ℕ) (g : Ledger) (ls : List Lease) (f : Loaded) where
-  abbrev Accepted : LentReading
-  Accepted = record { refusal = 0; ledger = record { state = f.state; memory = f.memory }; leases = records_of f.table }
+module _ (n : ℕ) {f : Result Loaded Refusal} where
+  pub read_in : {k : Loaded} {x : Records} → f ≡ Ok k → n ≡ 128 → (x.leases ≡ records_of k.table) × (length x.leases ≡ 128)
+      → Reads (for_records n f) (Ok (record { ledger = ledger_from k; records = x }))
+  unfolding for_records
+  read_in {k} {x} a e w =
+      subst (λ (y : Result Loaded Refusal). Reads y (Ok (record { ledger = ledger_from k; records = x }))) (on_whole (Ok k) (Err UnsoundFile) e ∙ ap (for_records n) (sym a)) (refl, w.0, w.1)
 
-  abbrev by_number : LentReading
-  by_number = pick (is128 n) Accepted (untouched 21 g ls)
+  pub read_out : {k : Loaded} → f ≡ Ok k → (n ≡ 128 → ⊥) → Reads (for_records n f) (Err UnsoundFile)
+  unfolding for_records
+  read_out {k} a e = subst (λ (y : Result Loaded Refusal). Reads y (Err UnsoundFile)) (off_whole (Ok k) (Err UnsoundFile) e ∙ ap (for_records n) (sym a)) refl
 
-  pub read_in : {k : Loaded} {x : Records} {r : ReadRecords} → k ≡ f → k.refusal ≡ 0 → n ≡ 128 → (x.leases ≡ records_of k.table) × (length x.leases ≡ 128)
-      → r ≡ record { refusal = 0; ledger = record { state = k.state; memory = k.memory }; records = x } → Reads (read_with n f g ls) r
-  unfolding read_with pick
-  read_in {x = x} a z e w v = record {
-    refusal = ap (λ (y : ReadRecords). y.refusal) v ∙ ap (λ (y : LentReading). y.refusal) at;
-    ledger = ap (λ (y : ReadRecords). y.ledger) v ∙ ap {B = Ledger} (λ (y : Loaded). record { state = y.state; memory = y.memory }) a ∙ ap (λ (y : LentReading). y.ledger) at;
-    leases = ap (λ (y : ReadRecords). y.records.leases) v ∙ w.0 ∙ ap (λ (y : Loaded). records_of y.table) a ∙ ap (λ (y : LentReading). y.leases) at;
-    long = ap (λ (y : ReadRecords). length y.records.leases) v ∙ w.1;
-  }
-    where
-      at : Accepted ≡ read_with n f g ls
-      at = on_whole Accepted (untouched 21 g ls) e ∙ sym (ap (λ (t : Bool). pick t by_number (untouched f.refusal g ls)) (eq-eqb _ _ (sym (ap (λ (y : Loaded). y.refusal) a) ∙ z)))
-
-  kept : {k : ℕ} {m : Records} {r : ReadRecords} → m.leases ≡ ls → length ls ≡ 128 → r ≡ record { refusal = k; ledger = g; records = m } → untouched k g ls ≡ read_with n f g ls → Reads (read_with n f g ls) r
-  kept b q v at = record {
-    refusal = ap (λ (y : ReadRecords). y.refusal) v ∙ ap (λ (y : LentReading). y.refusal) at;
-    ledger = ap (λ (y : ReadRecords). y.ledger) v ∙ ap (λ (y : LentReading). y.ledger) at;
-    leases = ap (λ (y : ReadRecords). y.records.leases) v ∙ b ∙ ap (λ (y : LentReading). y.leases) at;
-    long = ap (λ (y : ReadRecords). length y.records.leases) v ∙ ap length b ∙ q;
-  }
-
-  pub read_out : {k : Loaded} {m : Records} {r : ReadRecords} → k ≡ f → k.refusal ≡ 0 → (n ≡ 128 → ⊥) → m.leases ≡ ls → length ls ≡ 128 → r ≡ record { refusal = 21; ledger = g; records = m } → Reads (read_with n f g ls) r
-  unfolding read_with pick
-  read_out a z e b q v =
-      kept b q v (off_whole Accepted (untouched 21 g ls) e ∙ sym (ap (λ (t : Bool). pick t by_number (untouched f.refusal g ls)) (eq-eqb _ _ (sym (ap (λ (y : Loaded). y.refusal) a) ∙ z))))
-
-  pub read_refused : {k : Loaded} {m : Records} {r : ReadRecords} → k ≡ f → (k.refusal ≡ 0 → ⊥) → m.leases ≡ ls → length ls ≡ 128 → r ≡ record { refusal = k.refusal; ledger = g; records = m } → Reads (read_with n f g ls) r
-  unfolding read_with pick
-  read_refused a z b q v =
-      kept b q v (ap (λ (y : Loaded). untouched y.refusal g ls) a
-      ∙ sym (ap (λ (t : Bool). pick t by_number (untouched f.refusal g ls)) (ne_eqb _ _ (λ p. z (ap (λ (y : Loaded). y.refusal) a ∙ p)))))
+  pub read_refused : {e : Refusal} → f ≡ Err e → Reads (for_records n f) (Err e)
+  unfolding for_records
+  read_refused {e} a = subst (λ (y : Result Loaded Refusal). Reads y (Err e)) (ap (for_records n) (sym a)) refl

@@ -1,20 +1,19 @@
 -- `put_hex` meets its contract: the loop writes one octet a turn (`HexInv`).
-use Rattle.replay_text.proofs.Hex.{hex_end, hex_next, hex_start}
-use borrow.Author.Rules.{rules}
-use native.Mathlib.Omega.{arith}
+use Rattle.std.proofs.Common.{arith, rules}
+use Rattle.replay_text.proofs.Hex.{hex_end, hex_next, hex_place, hex_start}
 use Rattle.replay_text.proofs.put_hex.Goals as goal
 
-pub loop-i-init : goal.loop-i-init
-loop-i-init c = search (hex_start, rules)
+pub loop-x-init : goal.loop-x-init
+loop-x-init c = hex_start
 
 pub put_hex_octet-to-requires : goal.put_hex_octet-to-requires
-put_hex_octet-to-requires c = let l = c.loop-i.invariant in omega (arith, l.place, l.kept)
+put_hex_octet-to-requires c = let l = c.loop-x.invariant in omega (arith, l.place, l.kept)
 
-pub loop-i-preserved : goal.loop-i-preserved
-loop-i-preserved c = hex_next c.loop-i.invariant (search rules) (search rules) c.put_hex_octet-to.ensures c.put_hex_octet-to.auto.out
+pub loop-x-preserved : goal.loop-x-preserved
+loop-x-preserved c = hex_next c.loop-x.invariant (search rules) (search rules) c.put_hex_octet-to.ensures c.put_hex_octet-to.auto.out
 
 pub shape_of-out : goal.shape_of-out
-shape_of-out c = c.loop-i.invariant.kept
+shape_of-out c = c.loop-x.invariant.kept
 
 pub returns : goal.returns
-returns c = (hex_end c.loop-i.invariant (search rules), omega arith)
+returns c = (hex_end c.loop-x.invariant (search rules), hex_place c.loop-x.invariant (search rules))

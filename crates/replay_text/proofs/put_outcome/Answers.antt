@@ -10,8 +10,8 @@ use Rattle.replay_text.proofs.put_outcome.Goals as goal
 pub returns-then-outcome-eq5 : goal.returns-then-outcome-eq5
 unfolding outcome_text pick
 returns-then-outcome-eq5 c = (
-  rw (eq-eqb _ _ c.if-outcome-eq5.true) (wrote_joined (search rules) c.put_run-a.ensures c.put_number.ensures.wrote),
-  omega (arith, c.put_number.ensures.small, c.put_run-a.ensures.next),
+  rw (eq-eqb _ _ c.if-outcome-eq5.true) (wrote_joined (search rules) c.put-a.ensures c.put_number.ensures.wrote),
+  omega (arith, c.put_number.ensures.small, c.put-a.ensures.next),
 )
 
 pub returns : goal.returns

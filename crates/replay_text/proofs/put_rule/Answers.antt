@@ -6,4 +6,4 @@ use Rattle.replay_text.proofs.put_rule.Goals as goal
 
 pub returns : goal.returns
 unfolding rule_text
-returns c = wrote_joined (search rules) (wrote_joined (search rules) c.put_run-a.ensures c.put_octet-b.ensures.wrote) c.put_u8.ensures
+returns c = wrote_joined (search rules) (wrote_joined (search rules) c.put-a.ensures c.put_octet-b.ensures.wrote) c.put_u8.ensures

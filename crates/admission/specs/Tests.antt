@@ -1,6 +1,7 @@
 -- Definitions: document 01's tests after test 7 that come before what a lease would be, Resend and errors 1, 2 and 3, each on plain values; document 02's of a RELEASE sent
 -- again and of a hold; and which of them ask for the identifier's record. A house is a tenant here; h counts from 0.
 use Rattle.std.specs.Prelude.{ℕ, ◌+◌, ◌-◌, min, Bool, false, not, ◌&&◌, ◌||◌, Option, Some, None, is_some, is_none, unwrap_or, List, ltb, eqb, take, length}
+use Rattle.lists.specs.Pick.{pick}
 use Rattle.lists.specs.Place.{place_by}
 use Rattle.message.specs.declared.Fields.{Fields}
 use Rattle.state.specs.declared.Lease.{Lease}
@@ -8,7 +9,7 @@ use Rattle.state.specs.declared.LeaseTable.{LeaseTable}
 use Rattle.state.specs.declared.Release.{Release}
 use Rattle.state.specs.declared.Scope.{Scope}
 use Rattle.state.specs.declared.State.{State}
-use Rattle.state.specs.Book.{in_use, is_hold, tenant_at, place_of, lease_at, scopes_of}
+use Rattle.state.specs.Book.{in_use, is_hold, tenant_at, place_of, lease_at, scopes_of, zero_lease}
 use Rattle.soundness.specs.Sound.{scopes_in}
 use Rattle.releases.specs.Again.{any_again}
 
@@ -33,19 +34,28 @@ own_of b h = in_use (tenant_at b h)
 abbrev pub lease_id_in : Fields → List ℕ
 lease_id_in m = take m.id.len m.id.octets
 
--- is there a record of the identifier, and the record (an unused one where there is none)
-unfoldable pub holds_of : List Lease → Fields → Bool
-holds_of own m = ltb (place_of (lease_id_in m) own) (length own)
+-- the record of the identifier i, where there is one
+unfoldable pub found_in : List ℕ → List Lease → Option Lease
+found_in i own = pick (ltb (place_of i own) (length own)) (Some (lease_at own (place_of i own))) None
 
-unfoldable pub recorded_of : List Lease → Fields → Lease
-recorded_of own m = lease_at own (place_of (lease_id_in m) own)
+abbrev pub found_of : List Lease → Fields → Option Lease
+found_of own m = found_in (lease_id_in m) own
+
+-- and an unused one where there is none
+abbrev pub recorded_of : List Lease → Fields → Lease
+recorded_of own m = unwrap_or (found_of own m) zero_lease
+
+-- a value is there, and passes a test
+abbrev pub there_and : {A : Type 0} → (A → Bool) → Option A → Bool
+there_and t None = false
+there_and t (Some x) = t x
 
 -- document 02, W-205: o, the record of the identifier where there is one, is a lease, or it is a hold
-unfoldable pub is_leased : Lease → Bool → Bool
-is_leased o there = there && not (is_hold o)
+unfoldable pub is_leased : Option Lease → Bool
+is_leased o = there_and (λ l. not (is_hold l)) o
 
-unfoldable pub is_held : Lease → Bool → Bool
-is_held o there = there && is_hold o
+unfoldable pub is_held : Option Lease → Bool
+is_held o = there_and is_hold o
 
 -- ---- Resend
 unfoldable pub resends : Fields → Lease → Bool
@@ -57,11 +67,6 @@ unfoldable pub released_again : State → List Release → Fields → Bool
 released_again s q m = eqb m.kind 7 && any_again s.clock (lease_id_in m) m.xid q
 
 -- ---- error 1
--- an option of four octets is there, and its value passes a test
-abbrev pub there_and : (ℕ → Bool) → Option ℕ → Bool
-there_and t None = false
-there_and t (Some n) = t n
-
 -- the place of the scope with a lowest address, counted from 0; their number where there is none
 abbrev pub lowest_is : ℕ → Scope → Bool
 lowest_is lowest c = eqb c.lowest lowest
@@ -78,8 +83,8 @@ abbrev pub scope_in : Fields → ℕ
 scope_in m = unwrap_or m.scope 0
 
 -- a record in the scope that the message names
-unfoldable pub same_scope : State → Fields → Lease → Bool
-same_scope s m o = eqb o.scope (scope_number (scope_place s (scope_in m)))
+unfoldable pub same_scope : State → Fields → Option Lease → Bool
+same_scope s m o = there_and (λ l. eqb l.scope (scope_number (scope_place s (scope_in m)))) o
 
 unfoldable pub knows_scope : State → Fields → Bool
 knows_scope s m = there_and (λ lowest. ltb (scope_place s lowest) (scopes_in s)) m.scope
@@ -109,13 +114,13 @@ unfoldable pub early1_of : State → Fields → Bool
 early1_of s m = not m.allowed || (lacks_scope s m || (zero_length m || (bad_counts m || (lacks_current m || latest_first m))))
 
 -- "DISCOVER or REQUEST with an identifier the house holds": "now about leases, and about a DISCOVER for a hold in another scope" (W-205)
-unfoldable pub held_already : State → Fields → Lease → Bool → Bool
-held_already s m o there = (is_new m && is_leased o there) || (eqb m.kind 1 && (is_held o there && not (same_scope s m o)))
+unfoldable pub held_already : State → Fields → Option Lease → Bool
+held_already s m o = (is_new m && is_leased o) || (eqb m.kind 1 && (is_held o && not (same_scope s m o)))
 
 -- "an option that isn't allowed; DISCOVER or REQUEST whose scope is missing or not ours; Lease Time 0; least 0 or above desired;
 -- 6 or 15 without 11;" "a Maximum Start Time before Start Time is error 1, after the test for 11" (W-203); and `held_already`
-unfoldable pub error1_of : State → Fields → Lease → Bool → Bool
-error1_of s m o there = early1_of s m || held_already s m o there
+unfoldable pub error1_of : State → Fields → Option Lease → Bool
+error1_of s m o = early1_of s m || held_already s m o
 
 -- ---- error 2: "Current Time and clock more than 1,800 apart"
 unfoldable pub skewed : ℕ → ℕ → Bool
@@ -125,17 +130,21 @@ unfoldable pub error2_of : State → Fields → Bool
 error2_of s m = there_and (λ time. skewed time s.clock) m.times.current
 
 -- ---- error 3: "RENEW or RELEASE of an identifier the house doesn't hold"; "RENEW and RELEASE for a hold draw error 3" (W-205)
-unfoldable pub error3_of : Fields → Lease → Bool → Bool
-error3_of m o there = (eqb m.kind 4 || eqb m.kind 7) && not (is_leased o there)
+unfoldable pub error3_of : Fields → Option Lease → Bool
+error3_of m o = (eqb m.kind 4 || eqb m.kind 7) && not (is_leased o)
 
 -- ---- document 02, W-205: a message for a hold
 -- a DISCOVER or REQUEST "for a hold in the same scope"
-unfoldable pub is_for_hold : State → Fields → Lease → Bool → Bool
-is_for_hold s m o there = is_new m && (is_held o there && same_scope s m o)
+unfoldable pub is_for_hold : State → Fields → Option Lease → Bool
+is_for_hold s m o = is_new m && (is_held o && same_scope s m o)
 
 -- "a REQUEST for another scope first drops the hold": asked where the hold is in another scope
-unfoldable pub drops_hold : Fields → Lease → Bool → Bool
-drops_hold m o there = eqb m.kind 3 && is_held o there
+unfoldable pub drops_hold : Fields → Option Lease → Bool
+drops_hold m o = eqb m.kind 3 && is_held o
+
+-- that hold, where it drops one
+unfoldable pub dropped_of : Fields → Option Lease → Option Lease
+dropped_of m o = pick (drops_hold m o) o None
 
 -- ---- document 02, W-210: which tests ask for the record of the identifier
 -- "one for the resend test of a REQUEST or RENEW"

@@ -4,7 +4,7 @@
 
 ghost use Rattle.std.specs.Prelude.{◌≡◌, not, ◌&&◌, ◌||◌, eqb, ◌+◌, min};
 ghost use Rattle.state.specs.Book.{remembered};
-ghost use Rattle.admission.specs.Tests.{is_new, has_period, resends, released_again, scope_place, knows_scope, lacks_scope, zero_length, bad_counts, lacks_current, early1_of, is_leased, is_held, same_scope, held_already, skewed, error2_of, error3_of, latest_first, is_for_hold, drops_hold, asks_resend, asks_identifier};
+ghost use Rattle.admission.specs.Tests.{is_new, has_period, resends, released_again, scope_place, knows_scope, lacks_scope, zero_length, bad_counts, lacks_current, early1_of, is_leased, is_held, same_scope, held_already, skewed, error2_of, error3_of, latest_first, is_for_hold, drops_hold, dropped_of, asks_resend, asks_identifier};
 
 use message::{Fields, MessageType};
 use state::{Lease, State, TenantReleases};
@@ -117,44 +117,45 @@ fn latest_first(m: Fields) -> bool
 }
 
 // Whether the record of an identifier, where there is one, is a lease.
-fn is_leased(old: Lease, there: bool) -> bool
-    ensures { result ≡ is_leased old there }
+fn is_leased(old: Option<Lease>) -> bool
+    ensures { result ≡ is_leased old }
 {
-    there && !state::is_hold(old)
+    old.is_some_and(|l| !state::is_hold(l))
 }
 
 // Whether it is a hold.
-fn is_held(old: Lease, there: bool) -> bool
-    ensures { result ≡ is_held old there }
+fn is_held(old: Option<Lease>) -> bool
+    ensures { result ≡ is_held old }
 {
-    there && state::is_hold(old)
+    old.is_some_and(state::is_hold)
 }
 
-fn same_scope(s: State, m: Fields, old: Lease) -> bool
+fn same_scope(s: State, m: Fields, old: Option<Lease>) -> bool
     ensures { result ≡ same_scope s m old }
 {
-    old.scope == number_of(scope_place(s, m.scope.unwrap_or(0)))
+    let number = number_of(scope_place(s, m.scope.unwrap_or(0)));
+    old.is_some_and(|l| l.scope == number)
 }
 
 // A DISCOVER for a hold in another scope.
-fn is_held_elsewhere(s: State, m: Fields, old: Lease, there: bool) -> bool
-    ensures { result ≡ (eqb m.kind 1 && (is_held old there && not (same_scope s m old))) }
+fn is_held_elsewhere(s: State, m: Fields, old: Option<Lease>) -> bool
+    ensures { result ≡ (eqb m.kind 1 && (is_held old && not (same_scope s m old))) }
 {
-    m.kind == MessageType::DISCOVER && is_held(old, there) && !same_scope(s, m, old)
+    m.kind == MessageType::DISCOVER && is_held(old) && !same_scope(s, m, old)
 }
 
 // A DISCOVER or REQUEST for a lease.
-fn is_leased_already(m: Fields, old: Lease, there: bool) -> bool
-    ensures { result ≡ (is_new m && is_leased old there) }
+fn is_leased_already(m: Fields, old: Option<Lease>) -> bool
+    ensures { result ≡ (is_new m && is_leased old) }
 {
-    is_new(m) && is_leased(old, there)
+    is_new(m) && is_leased(old)
 }
 
 // The last test of error 1, which asks for the identifier's record.
-pub fn is_held_already(s: State, m: Fields, old: Lease, there: bool) -> bool
-    ensures { result ≡ held_already s m old there }
+pub fn is_held_already(s: State, m: Fields, old: Option<Lease>) -> bool
+    ensures { result ≡ held_already s m old }
 {
-    is_leased_already(m, old, there) || is_held_elsewhere(s, m, old, there)
+    is_leased_already(m, old) || is_held_elsewhere(s, m, old)
 }
 
 // What of error 1 does not ask for the identifier's record, and comes before it.
@@ -189,22 +190,29 @@ pub fn asks_identifier(s: State, m: Fields) -> bool
     is_new(m) || needs_lease(m) && !error_2(s, m)
 }
 
-pub fn error_3(m: Fields, old: Lease, there: bool) -> bool
-    ensures { result ≡ error3_of m old there }
+pub fn error_3(m: Fields, old: Option<Lease>) -> bool
+    ensures { result ≡ error3_of m old }
 {
-    needs_lease(m) && !is_leased(old, there)
+    needs_lease(m) && !is_leased(old)
 }
 
 // Whether a DISCOVER or REQUEST is for a hold in the same scope.
-pub fn is_for_hold(s: State, m: Fields, old: Lease, there: bool) -> bool
-    ensures { result ≡ is_for_hold s m old there }
+pub fn is_for_hold(s: State, m: Fields, old: Option<Lease>) -> bool
+    ensures { result ≡ is_for_hold s m old }
 {
-    is_new(m) && is_held(old, there) && same_scope(s, m, old)
+    is_new(m) && is_held(old) && same_scope(s, m, old)
 }
 
 // Whether a REQUEST drops a hold, that in another scope.
-pub fn drops_hold(m: Fields, old: Lease, there: bool) -> bool
-    ensures { result ≡ drops_hold m old there }
+pub fn drops_hold(m: Fields, old: Option<Lease>) -> bool
+    ensures { result ≡ drops_hold m old }
 {
-    m.kind == MessageType::REQUEST && is_held(old, there)
+    m.kind == MessageType::REQUEST && is_held(old)
+}
+
+// That hold, where it drops one.
+pub fn dropped(m: Fields, old: Option<Lease>) -> Option<Lease>
+    ensures { result ≡ dropped_of m old }
+{
+    if drops_hold(m, old) { old } else { None }
 }

@@ -23,7 +23,7 @@ use Rattle.state.specs.declared.LeaseTable.{LeaseTable}
 use Rattle.state.specs.declared.Release.{Release}
 use Rattle.state.specs.declared.Scope.{Scope}
 use Rattle.state.specs.declared.State.{State}
-use Rattle.state.specs.Book.{busy_of, committed, differ, held_at, held_of, in_scope, lease_at, leases_of, limit_at, named, other, place_of, remove_of, reserve_at, scope_at, union_all, used_in, with_held}
+use Rattle.state.specs.Book.{busy_of, committed, differ, held_at, held_of, in_scope, lease_at, leases_of, limit_at, named, other, place_of, remove_of, reserve_at, scope_at, union_all, used_in, with_held, zero_lease}
 use Rattle.state.specs.laws.Named.{none_named, one_named, place_first, place_some}
 use Rattle.state.specs.laws.Sets.{addresses_reordered}
 use Rattle.soundness.specs.Sound.{tenants_in}
@@ -33,10 +33,11 @@ use Rattle.allocation.specs.declared.Grant.{Grant}
 use Rattle.allocation.specs.Rule.{allowed, busy_in, free_of, grant_of, grant_to, held_after, nobodys_of, pool_of, suffices, taken_of}
 use Rattle.proposal.specs.declared.Proposal.{Proposal}
 use Rattle.proposal.specs.Proposals.{ask_at, brought_by, end_of, fits_new, fits_renewed, new_at, new_of, new_with, others_busy, proposal_of, renewed_by, renewed_of, renewed_to, start_of, updated}
-use Rattle.admission.specs.Tests.{drops_hold, holds_of, is_new, lease_id_in, own_of, recorded_of, scope_in, scope_place}
+use Rattle.admission.specs.Tests.{drops_hold, is_new, lease_id_in, own_of, scope_in, scope_place, found_in, found_of}
 use Rattle.decision_laws.specs.laws.Kept.{updated_leases}
 use Rattle.decision.specs.Decide.{decide_of, judged_of}
 use Rattle.arrangement.proofs.Lists.{Same, each_same, held_at_same, same_at, same_set}
+use Rattle.std.specs.Prelude.{Option, Some, None, unwrap_or}
 
 -- ---- the grant
 busy_same : (s from to : ℕ) (t u : List (List Lease)) → Same t u → busy_in s from to t ≡ busy_in s from to u
@@ -143,17 +144,19 @@ module _ (s : State) (t u : LeaseTable) (v : Same (leases_of t) (leases_of u)) (
       go true e = let one = one_named (lease_id_in m) (own_of u h) apart (ltb-true _ _ e) in reordered_alone both (lease_at (own_of u h) (place_of (lease_id_in m) (own_of u h))) one ∙ sym one
       go false e = let no = none_named (lease_id_in m) (own_of u h) e in none (filter_by (named (lease_id_in m)) (own_of t h)) (filter_by (named (lease_id_in m)) (own_of u h)) (reordered_length both) no ∙ sym no
 
-  recorded_same : recorded_of (own_of t h) m ≡ recorded_of (own_of u h) m
-  unfolding recorded_of
+  recorded_same : lease_at (own_of t h) (place_of i (own_of t h)) ≡ lease_at (own_of u h) (place_of i (own_of u h))
   recorded_same = place_first i (own_of t h) ∙ ap (λ (l : List Lease). lease_at l 0) named_same ∙ sym (place_first i (own_of u h))
 
-  there_same : holds_of (own_of t h) m ≡ holds_of (own_of u h) m
-  unfolding holds_of
+  there_same : ltb (place_of i (own_of t h)) (length (own_of t h)) ≡ ltb (place_of i (own_of u h)) (length (own_of u h))
   there_same = place_some i (own_of t h) ∙ ap (λ (l : List Lease). ltb 0 (length l)) named_same ∙ sym (place_some i (own_of u h))
 
-  brought_same : (l : Lease) (b : Bool) → Same (leases_of (brought_by t h m l b)) (leases_of (brought_by u h m l b))
+  found_same : found_of (own_of t h) m ≡ found_of (own_of u h) m
+  unfolding found_in
+  found_same = ap₂ {C = Option Lease} (λ (b : Bool) (l : Lease). pick b (Some l) None) there_same recorded_same
+
+  brought_same : (o : Option Lease) → Same (leases_of (brought_by t h m o)) (leases_of (brought_by u h m o))
   unfolding brought_by pick
-  brought_same l b = go (drops_hold m l b)
+  brought_same o = go (drops_hold m o)
     where
       go : (d : Bool) → Same (leases_of (pick d (updated t h (remove_of (lease_id_in m) (own_of t h))) t)) (leases_of (pick d (updated u h (remove_of (lease_id_in m) (own_of u h))) u))
       go true = removed_same t u v (lease_id_in m) h
@@ -162,8 +165,6 @@ module _ (s : State) (t u : LeaseTable) (v : Same (leases_of t) (leases_of u)) (
   pub decide_same : (q : List Release) → decide_of s t q h m ≡ decide_of s u q h m
   unfolding decide_of
   decide_same q =
-      let o : Lease = recorded_of (own_of u h) m in
-      let there : Bool = holds_of (own_of u h) m in
-      ap₂ (λ (l : Lease) (b : Bool). judged_of s (proposal_of s (brought_by t h m l b) h m l) q m l b) recorded_same there_same
-      ∙ ap (λ (p : Proposal). judged_of s p q m (recorded_of (own_of u h) m) (holds_of (own_of u h) m))
-      (proposal_same (brought_by t h m o there) (brought_by u h m o there) (brought_same o there) s h m o)
+      let o : Option Lease = found_of (own_of u h) m in
+      ap (λ (x : Option Lease). judged_of s (proposal_of s (brought_by t h m x) h m (unwrap_or x zero_lease)) q m x) found_same
+      ∙ ap (λ (p : Proposal). judged_of s p q m (found_of (own_of u h) m)) (proposal_same (brought_by t h m o) (brought_by u h m o) (brought_same o) s h m (unwrap_or o zero_lease))

@@ -29,35 +29,37 @@ use Rattle.allocation.specs.laws.Best as best
 use Rattle.decision.specs.declared.Decided.{Decided}
 use Rattle.decision.specs.declared.Reply.TheVariants.{LeaseAck}
 use Rattle.decision.specs.declared.Verdict.{Verdict}
-use Rattle.admission.specs.Tests.{bad_counts, drops_hold, error1_of, error2_of, error3_of, has_period, holds_of, is_for_hold, is_leased, is_new, knows_scope, lease_id_in, own_of, recorded_of, released_again, resends}
+use Rattle.admission.specs.Tests.{bad_counts, drops_hold, error1_of, error2_of, error3_of, has_period, is_for_hold, is_leased, is_new, knows_scope, lease_id_in, own_of, recorded_of, released_again, resends, found_of, dropped_of}
 use Rattle.proposal.specs.Proposals.{brought_by, error0_of, lease_from, new_of, proposal_of, updated}
 use Rattle.decision.specs.Verdicts.{with_lease}
 use Rattle.decision.specs.Decide.{changed, decide_of, dropped_first, judged_of, leased_of, settled_of}
 use Rattle.decision_laws.specs.laws.Cases.{Passed, without, drops_some, held_there, new_type, passed}
 use Rattle.decision_laws.specs.laws.Kept.{applied_dropping, held_named, own_is, release_sound, updated_leases}
 use Rattle.server.specs.Serve.{Answer, Call, answered, head_of, reply_of, serve_of}
-use Rattle.guarantee.specs.Statement.{SoundBook, ask_for, book_at, own_for, place_for, record_for, says_of, state_at, table_at, tenant_for}
-use Rattle.best_grant.specs.Best.{AsksRule, Choice, NobodyMore, book_with, brought_for, size_of, lease_on, new_in, rule_for, there_for}
+use Rattle.guarantee.specs.Statement.{SoundBook, ask_for, book_at, own_for, place_for, record_for, says_of, state_at, table_at, tenant_for, found_for}
+use Rattle.best_grant.specs.Best.{AsksRule, Choice, NobodyMore, book_with, brought_for, size_of, lease_on, new_in, rule_for}
 use Rattle.guarantee.proofs.Kept.{now_sound}
 use Rattle.guarantee.proofs.Proposed as proposed
 use Rattle.guarantee.proofs.Reached.{decided_there, pick_else, pick_then}
+use Rattle.std.specs.Prelude.{Option, Some, None}
+use Rattle.decision.specs.laws.Code.{dropped_is}
 
 -- ---- a REQUEST that comes to the rule with the table u
 module _ (s : State) (t u : LeaseTable) (h : ℕ) (m : Fields) (request : m.kind ≡ 3) (new : resends m (recorded_of (own_of t h) m) ≡ false)
-    (error1 : error1_of s m (recorded_of (own_of t h) m) (holds_of (own_of t h) m) ≡ false) (error2 : error2_of s m ≡ false)
-    (elsewhere : is_for_hold s m (recorded_of (own_of t h) m) (holds_of (own_of t h) m) ≡ false)
-    (brought : brought_by t h m (recorded_of (own_of t h) m) (holds_of (own_of t h) m) ≡ u) where
-  abbrev O : Lease
-  O = recorded_of (own_of t h) m
+    (error1 : error1_of s m (found_of (own_of t h) m) ≡ false) (error2 : error2_of s m ≡ false)
+    (elsewhere : is_for_hold s m (found_of (own_of t h) m) ≡ false)
+    (brought : brought_by t h m (found_of (own_of t h) m) ≡ u) where
+  abbrev O : Option Lease
+  O = found_of (own_of t h) m
 
-  abbrev T : Bool
-  T = holds_of (own_of t h) m
+  abbrev L : Lease
+  L = recorded_of (own_of t h) m
 
   is_new_law : is_new m ≡ true
   is_new_law = new_type m request refl
 
-  left : Passed s m O T
-  left = passed s m O T error1
+  left : Passed s m O
+  left = passed s m O error1
 
   pub ours : knows_scope s m ≡ true
   ours = left.scope is_new_law
@@ -69,34 +71,34 @@ module _ (s : State) (t u : LeaseTable) (h : ℕ) (m : Fields) (request : m.kind
   unfolding released_again
   no_again q = ap (λ (k : ℕ). eqb k 7 && any_again s.clock (lease_id_in m) m.xid q) request
 
-  no_error3 : error3_of m O T ≡ false
+  no_error3 : error3_of m O ≡ false
   unfolding error3_of
-  no_error3 = ap (λ (k : ℕ). (eqb k 4 || eqb k 7) && not (is_leased O T)) request
+  no_error3 = ap (λ (k : ℕ). (eqb k 4 || eqb k 7) && not (is_leased O)) request
 
   has_period_law : has_period m ≡ true
   unfolding has_period
   has_period_law = ap (λ (b : Bool). b || eqb m.kind 4) is_new_law
 
-  proposal_is : proposal_of s (brought_by t h m O T) h m O ≡ new_of s u h m
+  proposal_is : proposal_of s (brought_by t h m O) h m L ≡ new_of s u h m
   unfolding proposal_of
   proposal_is = pick_then (is_new m) _ _ is_new_law ∙ ap (λ (x : LeaseTable). new_of s x h m) brought
 
   -- it is recorded where error 0 passes, its hold in another scope dropped first
   pub decided : (q : List Release) (l : Lease) → error0_of s m (new_of s u h m) ≡ false → lease_from m (new_of s u h m) ≡ l
-      → decide_of s t q h m ≡ dropped_first (drops_hold m O T) O (changed (entering l) (with_lease LeaseAck l))
+      → decide_of s t q h m ≡ dropped_first (dropped_of m O) (changed (entering l) (with_lease LeaseAck l))
   unfolding decide_of judged_of settled_of leased_of
   decided q l error0 recorded =
-      pick_else (resends m O) _ _ new
+      pick_else (resends m L) _ _ new
       ∙ pick_else (released_again s q m) _ _ (no_again q)
-      ∙ pick_else (error1_of s m O T) _ _ error1
+      ∙ pick_else (error1_of s m O) _ _ error1
       ∙ pick_else (error2_of s m) _ _ error2
-      ∙ pick_else (error3_of m O T) _ _ no_error3
-      ∙ pick_else (is_for_hold s m O T) _ _ elsewhere
+      ∙ pick_else (error3_of m O) _ _ no_error3
+      ∙ pick_else (is_for_hold s m O) _ _ elsewhere
       ∙ pick_then (has_period m) _ _ has_period_law
-      ∙ ap (dropped_first (drops_hold m O T) O)
-      (ap (settled_of s m O) proposal_is
+      ∙ ap (dropped_first (dropped_of m O))
+      (ap (settled_of s m L) proposal_is
       ∙ pick_else (error0_of s m (new_of s u h m)) _ _ error0
-      ∙ ap (leased_of s m O) recorded
+      ∙ ap (leased_of s m L) recorded
       ∙ pick_else (eqb m.kind 1) _ _ (ap (λ (k : ℕ). eqb k 1) request)
       ∙ pick_then (eqb m.kind 3) _ _ (ap (λ (k : ℕ). eqb k 3) request))
 
@@ -121,10 +123,10 @@ moved_book o l h b there =
     }) (moved_table o l h b.table there) (ap forgets (sym (set-get_or q h (laid_releases []))))
 
 -- an edit that drops a hold first answers the same
-same_verdict : (d : Bool) (o : Lease) (x : Decided) → (dropped_first d o x).verdict ≡ x.verdict
-unfolding dropped_first pick
-same_verdict true o x = refl
-same_verdict false o x = refl
+same_verdict : (o : Option Lease) (x : Decided) → (dropped_first o x).verdict ≡ x.verdict
+unfolding dropped_first
+same_verdict (Some l) x = refl
+same_verdict None x = refl
 
 -- ---- the call
 module _ (b : Book) (c : Call) (v : SoundBook b) (r : AsksRule b c) where
@@ -135,7 +137,7 @@ module _ (b : Book) (c : Call) (v : SoundBook b) (r : AsksRule b c) where
   there = let e = (now_sound b c v).tenants in let h = r.house in omega arith
 
   abbrev drops : Bool
-  drops = drops_hold (says_of b c) (record_for b c) (there_for b c)
+  drops = drops_hold (says_of b c) (found_for b c)
 
   abbrev without_hold : Book
   without_hold = edited_book (dropping_first (record_for b c) no_edit) (tenant_for b c) (book_at b c)
@@ -171,7 +173,7 @@ module _ (b : Book) (c : Call) (v : SoundBook b) (r : AsksRule b c) where
           (release_sound (state_at b c) (table_at b c) (tenant_for b c) there (id_of (record_for b c)) S)
       go false = S
 
-  brought_is : brought_by (table_at b c) (tenant_for b c) (says_of b c) (record_for b c) (there_for b c) ≡ (brought_for b c).table
+  brought_is : brought_by (table_at b c) (tenant_for b c) (says_of b c) (found_for b c) ≡ (brought_for b c).table
   unfolding brought_by pick
   brought_is = go drops refl
     where
@@ -179,7 +181,7 @@ module _ (b : Book) (c : Call) (v : SoundBook b) (r : AsksRule b c) where
       go true e =
           sym (applied_dropping (table_at b c) (tenant_for b c) (record_for b c)
           ∙ ap (λ (i : List ℕ). updated (table_at b c) (tenant_for b c) (remove_of i (own_for b c)))
-          (held_named (state_at b c) (table_at b c) (tenant_for b c) (says_of b c) (held_there (record_for b c) (there_for b c) (drops_some (says_of b c) (record_for b c) (there_for b c) e).1)))
+          (held_named (state_at b c) (table_at b c) (tenant_for b c) (says_of b c) (held_there (found_for b c) (drops_some (says_of b c) (found_for b c) e).1)))
       go false e = refl
 
   -- ---- a choice leaves the lists of leases sound
@@ -218,7 +220,7 @@ module _ (b : Book) (c : Call) (v : SoundBook b) (r : AsksRule b c) where
   -- ---- what the call does where the grant is not below least
   module _ (enough : (says_of b c).counts.least ≤ (rule_for b c).number) where
     abbrev D : Decided
-    D = dropped_first (drops_hold (says_of b c) (record_for b c) (there_for b c)) (record_for b c) (changed (entering (lease_on b c (rule_for b c).addresses)) (with_lease LeaseAck (lease_on b c (rule_for b c).addresses)))
+    D = dropped_first (dropped_of (says_of b c) (found_for b c)) (changed (entering (lease_on b c (rule_for b c).addresses)) (with_lease LeaseAck (lease_on b c (rule_for b c).addresses)))
 
     served : serve_of b c ≡ answered (book_at b c) (tenant_for b c) (says_of b c) D
     served =
@@ -244,11 +246,13 @@ module _ (b : Book) (c : Call) (v : SoundBook b) (r : AsksRule b c) where
     acknowledged =
         ap (λ (a : Answer). get_or a.reply 1 0) served
         ∙ ap (λ (x : Verdict). get_or (reply_of (state_at b c) (book_at b c).names (tenant_for b c) (says_of b c) x) 1 0)
-        (same_verdict drops (record_for b c) (changed (entering (lease_on b c (rule_for b c).addresses)) (with_lease LeaseAck (lease_on b c (rule_for b c).addresses))))
+        (same_verdict (dropped_of (says_of b c) (found_for b c)) (changed (entering (lease_on b c (rule_for b c).addresses)) (with_lease LeaseAck (lease_on b c (rule_for b c).addresses))))
 
     given : (serve_of b c).book ≡ book_with b c (rule_for b c).addresses
-    unfolding dropped_first pick
-    given = ap (λ (a : Answer). a.book) served ∙ go drops
+    unfolding pick
+    given =
+        ap (λ (a : Answer). a.book) served
+        ∙ ap (λ (d : Decided). edited_book d.edit (tenant_for b c) (book_at b c)) (dropped_is (says_of b c) (found_for b c) _) ∙ go drops
       where
         l : Lease
         l = lease_on b c (rule_for b c).addresses

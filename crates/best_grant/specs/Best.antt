@@ -1,6 +1,6 @@
 -- Statement: nobody could have given more (document 02, W-214). The buyer's sentences are quoted beside what says them; what a call's book, tenant, period and
 -- scope are is said in Statement.antt of `guarantee`. A house is a tenant here, counted from 0, and a set of addresses is the set of their offsets in the scope.
-use Rattle.std.specs.Prelude.{ℕ, ◌+◌, ◌≤◌, ◌<◌, ◌≡◌, Bool, true, false, length}
+use Rattle.std.specs.Prelude.{ℕ, ◌+◌, ◌≤◌, ◌<◌, ◌≡◌, true, false, length}
 use Rattle.lists.specs.Pick.{pick}
 use Rattle.address_set.specs.AddressSet.{difference_of, offsets}
 use Rattle.message.specs.Read.{read_of}
@@ -13,17 +13,14 @@ use Rattle.soundness.specs.Sound.{tenants_in}
 use Rattle.allocation.specs.declared.Grant.{Grant}
 use Rattle.allocation.specs.Rule.{grant_of, held_by}
 use Rattle.proposal.specs.Proposals.{default_lease, horizon, length_of, meets, latest_end}
-use Rattle.admission.specs.Tests.{drops_hold, error1_of, error2_of, holds_of, is_for_hold, own_of, resends}
+use Rattle.admission.specs.Tests.{drops_hold, error1_of, error2_of, is_for_hold, own_of, resends}
 use Rattle.server.specs.Serve.{Answer, Call, head_of, serve_of}
-use Rattle.guarantee.specs.Statement.{SoundBook, ask_for, book_at, end_for, own_for, place_for, record_for, says_of, scope_for, start_for, state_at, tenant_for}
+use Rattle.guarantee.specs.Statement.{SoundBook, ask_for, book_at, end_for, found_for, place_for, record_for, says_of, scope_for, start_for, state_at, tenant_for}
 
 -- ---- "the sound book it brings to the grant rule": the clock raised, ended leases and lapsed holds dropped, and without the identifier's hold in another scope:
 -- "a REQUEST for another scope first drops the hold" (W-205)
-abbrev pub there_for : Book → Call → Bool
-there_for b c = holds_of (own_for b c) (says_of b c)
-
 abbrev pub brought_for : Book → Call → Book
-brought_for b c = pick (drops_hold (says_of b c) (record_for b c) (there_for b c)) (edited_book (dropping_first (record_for b c) no_edit) (tenant_for b c) (book_at b c)) (book_at b c)
+brought_for b c = pick (drops_hold (says_of b c) (found_for b c)) (edited_book (dropping_first (record_for b c) no_edit) (tenant_for b c) (book_at b c)) (book_at b c)
 
 -- "the grant" of the rule on that book, its number and its addresses
 abbrev pub rule_for : Book → Call → Grant
@@ -37,10 +34,10 @@ pub record AsksRule (b : Book) (c : Call) : Type 0 where
   pub request : (says_of b c).kind ≡ 3
   pub ours : (says_of b c).ours ≡ true
   pub new : resends (says_of b c) (record_for b c) ≡ false
-  pub error1 : error1_of (state_at b c) (says_of b c) (record_for b c) (there_for b c) ≡ false
+  pub error1 : error1_of (state_at b c) (says_of b c) (found_for b c) ≡ false
   pub error2 : error2_of (state_at b c) (says_of b c) ≡ false
   -- a REQUEST for a hold in the same scope gets what is held, and never comes to the rule
-  pub elsewhere : is_for_hold (state_at b c) (says_of b c) (record_for b c) (there_for b c) ≡ false
+  pub elsewhere : is_for_hold (state_at b c) (says_of b c) (found_for b c) ≡ false
   -- its period is "inside the horizon and the 32-bit clock", its "minimum and latest start can be met", and "a lease record of its house's own" is left
   pub soon : start_for b c ≤ (state_at b c).clock + horizon
   pub fits : end_for b c ≤ latest_end

@@ -32,13 +32,15 @@ use Rattle.state.specs.laws.Layout.{read_back}
 use Rattle.decision.specs.declared.Decided.{Decided}
 use Rattle.decision_laws.specs.laws.Cases.{decided_by, new_for, old_for, without}
 use Rattle.proposal.specs.Proposals.{held_from, lease_from, new_at, new_of, new_with, renewed_of, renewed_to, turned}
-use Rattle.admission.specs.Tests.{own_of, recorded_of}
+use Rattle.admission.specs.Tests.{own_of, lease_id_in}
 use Rattle.decision.specs.Decide.{decide_of}
 use Rattle.server.specs.Serve.{Answer, Call, at_clock, for_server, serve_of, with_reading}
 use Rattle.guarantee.specs.Statement.{book_at, run}
 use Rattle.call_guarantee.specs.Statement.{Narrow, StaysNarrow}
 use Rattle.guarantee.proofs.Ranges.{grant_small}
 use Rattle.call_guarantee.proofs.Walked.{all_filter, now_narrow}
+use Rattle.admission.specs.laws.Found.{found_at}
+use Rattle.std.proofs.Common.{subst, sym}
 
 abbrev F : Lease → Type 0
 F l = l.addresses < 2 ^ 64
@@ -113,8 +115,7 @@ module _ (s : State) (t : LeaseTable) (h : ℕ) (m : Fields) (n : (g : ℕ) → 
   none = tt
 
   mine : F (old_for t h m)
-  unfolding recorded_of
-  mine = at_or_zero (own_of t h) _ (n h)
+  mine = subst F (sym (found_at (lease_id_in m) (own_of t h))) (at_or_zero (own_of t h) _ (n h))
 
   enters : (q : List Release) → P (decide_of s t q h m)
   unfolding P lease_from renewed_of renewed_to turned held_from

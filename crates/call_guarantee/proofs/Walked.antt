@@ -32,9 +32,9 @@ use Rattle.decision.specs.declared.Reply.{Reply}
 use Rattle.decision.specs.declared.Reply.TheVariants.{Nothing, Offer, LeaseAck, ReleaseAck, InfoAck, Nak}
 use Rattle.decision.specs.declared.Verdict.{Verdict}
 use Rattle.decision_laws.specs.laws.Kept.{own_is, updated_leases}
-use Rattle.decision_laws.specs.laws.Cases.{decided_by, held_there, leased_there, new_type, old_for, there_for, without}
+use Rattle.decision_laws.specs.laws.Cases.{decided_by, held_there, leased_there, new_type, without, found_for}
 use Rattle.decision.specs.laws.Code.{no}
-use Rattle.admission.specs.Tests.{bad_counts, holds_of, knows_scope, lease_id_in, own_of, recorded_of, resends}
+use Rattle.admission.specs.Tests.{bad_counts, knows_scope, lease_id_in, own_of, recorded_of, resends, found_of}
 use Rattle.decision.specs.Verdicts.{discard_with, nak_with, plain_reply, refusal_of, with_lease}
 use Rattle.proposal.specs.Proposals.{error0_of, lease_from, new_of, renewed_of, renewed_to, turned}
 use Rattle.decision.specs.Decide.{decide_of}
@@ -45,6 +45,8 @@ use Rattle.call_guarantee.proofs.Codes.{info_found, lease_found, nak_found, offe
 use Rattle.guarantee.proofs.Proposed as proposed
 use Rattle.guarantee.proofs.Ranges.{grant_small, named_head, offsets_some}
 use Rattle.call_guarantee.proofs.Discards.{own_dropped}
+use Rattle.admission.specs.laws.Found.{found_at, found_there}
+use Rattle.std.specs.Prelude.{is_some}
 
 -- ---- a verdict with a lease has some addresses, in 64 bits
 Sized : ℕ → Type 0
@@ -101,17 +103,17 @@ new_sized s t h m v known ours good e =
 module _ (s : State) (t : LeaseTable) (h : ℕ) (m : Fields) (v : Sound s (leases_of t)) (known : h < tenants_in s) (narrow : All (λ l. l.addresses < 2 ^ 64) (own_of t h)) where
   -- the lease that is held
   held_sized : place_of (lease_id_in m) (own_of t h) < length (own_of t h) → Sized (recorded_of (own_of t h) m).addresses
-  unfolding recorded_of Sized
+  unfolding Sized
   held_sized p =
       let f = lease_at_facts s (leases_of t) v h (place_of (lease_id_in m) (own_of t h)) zero_lease (let e = ap length (own_is t h) in omega arith) in
       let e : (get_or (own_of t h) (place_of (lease_id_in m) (own_of t h)) zero_lease).addresses ≡ (get_or (get_or (leases_of t) h []) (place_of (lease_id_in m) (own_of t h)) zero_lease).addresses =
       ap (λ (l : List Lease). (get_or l (place_of (lease_id_in m) (own_of t h)) zero_lease).addresses) (own_is t h) in
       let g = f.addresses in
+      subst (λ (x : Lease). Sized x.addresses) (sym (found_at (lease_id_in m) (own_of t h)))
       (omega arith, at_all (λ l. l.addresses < 2 ^ 64) (own_of t h) (place_of (lease_id_in m) (own_of t h)) zero_lease narrow p)
 
-  is_held : holds_of (own_of t h) m ≡ true → Sized (recorded_of (own_of t h) m).addresses
-  unfolding holds_of
-  is_held e = held_sized (ltb-true (place_of (lease_id_in m) (own_of t h)) (length (own_of t h)) e)
+  is_held : is_some (found_of (own_of t h) m) ≡ true → Sized (recorded_of (own_of t h) m).addresses
+  is_held e = held_sized (ltb-true (place_of (lease_id_in m) (own_of t h)) (length (own_of t h)) (sym (found_there (lease_id_in m) (own_of t h)) ∙ e))
 
   -- the book without it is sound
   without_sound : Sound s (leases_of (without t h m))
@@ -120,13 +122,12 @@ module _ (s : State) (t : LeaseTable) (h : ℕ) (m : Fields) (v : Sound s (lease
       (sound_removed s (leases_of t) h (lease_id_in m) v)
 
   resent : resends m (recorded_of (own_of t h) m) ≡ true → Sized (recorded_of (own_of t h) m).addresses
-  unfolding recorded_of
   resent e = go (ltb (place_of (lease_id_in m) (own_of t h)) (length (own_of t h))) refl
     where
       go : (b : Bool) → ltb (place_of (lease_id_in m) (own_of t h)) (length (own_of t h)) ≡ b → Sized (recorded_of (own_of t h) m).addresses
       go true p = held_sized (ltb-true (place_of (lease_id_in m) (own_of t h)) (length (own_of t h)) p)
       go false p =
-          let z : recorded_of (own_of t h) m ≡ zero_lease = get_or-eq_default (own_of t h) zero_lease {n = place_of (lease_id_in m) (own_of t h)} (ltb-false (place_of (lease_id_in m) (own_of t h)) (length (own_of t h)) p) in
+          let z : recorded_of (own_of t h) m ≡ zero_lease = found_at (lease_id_in m) (own_of t h) ∙ get_or-eq_default (own_of t h) zero_lease {n = place_of (lease_id_in m) (own_of t h)} (ltb-false (place_of (lease_id_in m) (own_of t h)) (length (own_of t h)) p) in
           no (sym e ∙ ap (resends m) z ∙ no_resend m)
 
   decided : (q : List Release) → P (decide_of s t q h m)
@@ -135,13 +136,13 @@ module _ (s : State) (t : LeaseTable) (h : ℕ) (m : Fields) (v : Sound s (lease
     resent = λ e _. resent e;
     again = λ _. tt;
     refused = refused m;
-    repeated = λ _ f _. is_held (held_there (old_for t h m) (there_for t h m) f);
-    taken = λ _ f _. is_held (held_there (old_for t h m) (there_for t h m) f);
+    repeated = λ _ f _. is_held (held_there (found_for t h m) f);
+    taken = λ _ f _. is_held (held_there (found_for t h m) f);
     offered = λ k ok _ e _. new_sized s t h m v known (ok.scope (new_type m k refl)) ok.counts e;
     requested = λ k ok _ e _. new_sized s t h m v known (ok.scope (new_type m k refl)) ok.counts e;
     dropped = λ _ _. refused m 0;
     moved = λ k ok _ e _. new_sized s (without t h m) h m without_sound known (ok.scope (new_type m k refl)) ok.counts e;
-    renewed = λ _ _ f _ _. is_held (leased_there (old_for t h m) (there_for t h m) f);
+    renewed = λ _ _ f _ _. is_held (leased_there (found_for t h m) f);
     released = λ _ _ _. tt;
     informed = λ _. tt;
   }) q

@@ -1,5 +1,5 @@
 -- Laws: the decision with its lookups made where they are asked is the decision, and what they compared is the count (document 02, W-210), at most 32.
-use Rattle.std.specs.Prelude.{ℕ, ◌+◌, ◌≤◌, Bool, List, ◌≡◌, length}
+use Rattle.std.specs.Prelude.{ℕ, ◌+◌, ◌≤◌, Bool, unwrap_or, List, ◌≡◌, length}
 use Rattle.std.proofs.Math.Bool.{true, false}
 use Rattle.std.proofs.Math.Path.{refl, ap}
 use Rattle.std.proofs.Common.{sym, ap₂, ◌∙◌}
@@ -11,7 +11,7 @@ use Rattle.state.specs.declared.Edit.{Edit}
 use Rattle.state.specs.declared.Lease.{Lease}
 use Rattle.state.specs.declared.Release.{Release}
 use Rattle.state.specs.declared.State.{State}
-use Rattle.state.specs.Book.{compared_of}
+use Rattle.state.specs.Book.{compared_of, zero_lease}
 use Rattle.state.specs.Edit.{no_edit}
 use Rattle.state.specs.laws.Lookup.{compared_few}
 use Rattle.soundness.specs.declared.HeldTable.{HeldTable}
@@ -19,7 +19,7 @@ use Rattle.decision.specs.declared.Counted.{Counted}
 use Rattle.decision.specs.declared.Decided.{Decided}
 use Rattle.proposal.specs.declared.Proposal.{Proposal}
 use Rattle.decision.specs.declared.Recorded.{Recorded}
-use Rattle.admission.specs.Tests.{early1_of, holds_of, lease_id_in, recorded_of, released_again, resends, asks_identifier, asks_resend}
+use Rattle.admission.specs.Tests.{early1_of, found_of, lease_id_in, recorded_of, released_again, resends, asks_identifier, asks_resend}
 use Rattle.decision.specs.Verdicts.{plain_reply, refusal_of, with_lease}
 use Rattle.decision.specs.Decide.{changed, unchanged}
 use Rattle.decision.specs.Count.{count_of, identifier_count, lookup_count}
@@ -39,10 +39,10 @@ module _ (s : State) (own : List Lease) (q : List Release) (held : HeldTable) (h
   K = lookup_count (asks_identifier s m) own m
 
   abbrev from : Recorded → Proposal
-  from x = proposal_in s (brought_in own m x.lease x.found) held h m x.lease
+  from x = proposal_in s (brought_in own m x.lease) held h m (unwrap_or x.lease zero_lease)
 
   abbrev past : Recorded → Decided
-  past x = past_early s (from x) m x.lease x.found
+  past x = past_early s (from x) m x.lease
 
   abbrev with : Decided → ℕ → Counted
   with d n = record { decided = d; count = n }
@@ -53,10 +53,10 @@ module _ (s : State) (own : List Lease) (q : List Release) (held : HeldTable) (h
   counted_steps : pick (resends m (recorded_of own m)) (with (unchanged (with_lease LeaseAck (recorded_of own m))) N)
       (pick (released_again s q m) (with (unchanged (plain_reply ReleaseAck)) N) (pick (early1_of s m) (with (unchanged (refusal_of m 1)) N) (with (past Y) (N + K))))
       ≡ with (decide_in s own q held h m) (count_of s own q m)
-  unfolding decide_in recorded_of holds_of recorded_in count_of identifier_count pick
+  unfolding decide_in recorded_in count_of identifier_count pick
   counted_steps =
       go (unchanged (with_lease LeaseAck (recorded_of own m))) (unchanged (plain_reply ReleaseAck)) (unchanged (refusal_of m 1)) (past Y) N K (resends m (recorded_of own m)) (released_again s q m) (early1_of s m)
-      ∙ ap (λ (d : Decided). with d (count_of s own q m)) (sym (judged_steps s (from Y) q m (recorded_of own m) (holds_of own m)))
+      ∙ ap (λ (d : Decided). with d (count_of s own q m)) (sym (judged_steps s (from Y) q m (found_of own m)))
     where
       go : (a b c d : Decided) (n k : ℕ) (x y z : Bool) → pick x (with a n) (pick y (with b n) (pick z (with c n) (with d (n + k)))) ≡ with (pick x a (pick y b (pick z c d))) (n + pick x 0 (pick y 0 (pick z 0 k)))
       go a b c d n k true y z = ap (with a) (let e : n ≡ n + 0 = omega arith in e)
@@ -65,21 +65,21 @@ module _ (s : State) (own : List Lease) (q : List Release) (held : HeldTable) (h
       go a b c d n k false false false = refl
 
   -- f is what the first lookup gave, x the resend test by it
-  module _ {a x : Bool} {f : Recorded} (ea : a ≡ asks_resend m) (ef : f ≡ looked_up a own m) (ex : x ≡ resends m f.lease) where
+  module _ {a x : Bool} {f : Recorded} (ea : a ≡ asks_resend m) (ef : f ≡ looked_up a own m) (ex : x ≡ resends m (unwrap_or f.lease zero_lease)) where
     asked : f ≡ looked_up (asks_resend m) own m
     asked = ef ∙ ap (λ (b : Bool). looked_up b own m) ea
 
     tested : x ≡ resends m (recorded_of own m)
-    tested = ex ∙ ap (λ (y : Recorded). resends m y.lease) asked ∙ resends_asked own m
+    tested = ex ∙ ap (λ (y : Recorded). resends m (unwrap_or y.lease zero_lease)) asked ∙ resends_asked own m
 
     first_is : f.compared ≡ N
     first_is = ap (λ (y : Recorded). y.compared) asked ∙ looked_count (asks_resend m) own m
 
-    pub resent_is : {e : Edit} {d : Decided} {r : Counted} → r ≡ with d f.compared → d ≡ changed e (with_lease LeaseAck f.lease) → e ≡ no_edit → x ≡ true
+    pub resent_is : {e : Edit} {d : Decided} {r : Counted} → r ≡ with d f.compared → d ≡ changed e (with_lease LeaseAck (unwrap_or f.lease zero_lease)) → e ≡ no_edit → x ≡ true
         → r ≡ with (decide_in s own q held h m) (count_of s own q m)
     resent_is {r = r} er ed ee y =
         pick_yes _ _ r tested y
-        (er ∙ ap₂ with (ed ∙ ap₂ (λ (e : Edit) (l : Lease). changed e (with_lease LeaseAck l)) ee (ap (λ (y : Recorded). y.lease) asked ∙ lease_asked own m (sym tested ∙ y))) first_is)
+        (er ∙ ap₂ with (ed ∙ ap₂ (λ (e : Edit) (l : Lease). changed e (with_lease LeaseAck l)) ee (ap (λ (y : Recorded). unwrap_or y.lease zero_lease) asked ∙ lease_asked own m (sym tested ∙ y))) first_is)
         ∙ counted_steps
 
     module _ (n : x ≡ false) {b : Bool} (eb : b ≡ released_again s q m) where

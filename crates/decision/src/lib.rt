@@ -2,11 +2,11 @@
 // is remembered of it.
 #![tactic(auto)]
 
-ghost use Rattle.std.specs.Prelude.{◌≡◌, ◌≤◌, take};
-ghost use Rattle.state.specs.Book.{in_use, remembered};
+ghost use Rattle.std.specs.Prelude.{◌≡◌, ◌≤◌, take, unwrap_or};
+ghost use Rattle.state.specs.Book.{in_use, remembered, zero_lease};
 ghost use Rattle.state.specs.Edit.{entering, leaving};
 ghost use Rattle.decision.specs.Verdicts.{with_lease, plain_reply, nak_with, discard_with, refusal_of};
-ghost use Rattle.admission.specs.Tests.{drops_hold};
+ghost use Rattle.admission.specs.Tests.{dropped_of};
 ghost use Rattle.proposal.specs.Proposals.{held_from};
 ghost use Rattle.decision.specs.Gather.{recorded_in, looked_up, not_asked, past_errors, past_early, decide_in};
 ghost use Rattle.proposal.specs.Gather.{proposal_in, brought_in};
@@ -56,11 +56,10 @@ pub struct Counted {
     pub count: usize,
 }
 
-// Whether a tenant has a record of an identifier, a lease or a hold, the record, an unused one where it has none, and how many were compared.
+// The record that a tenant has of an identifier, a lease or a hold, where it has one, and how many were compared.
 #[derive(Clone, Copy)]
 struct Recorded {
-    found: bool,
-    lease: Lease,
+    lease: Option<Lease>,
     compared: usize,
 }
 
@@ -250,18 +249,16 @@ fn repeat(m: Fields, old: Lease) -> Decided
 }
 
 // A decision before which a hold is dropped, also where it is a refusal.
-fn drop_before(drops: bool, old: Lease, d: Decided) -> Decided
-    ensures { result ≡ dropped_first drops old d }
+fn drop_before(dropped: Option<Lease>, d: Decided) -> Decided
+    ensures { result ≡ dropped_first dropped d }
 {
-    if drops {
-        let v = d.verdict;
-        let e = d.edit;
-        return Decided {
-            verdict: v,
-            edit: state::drop_first(old, e),
-        };
+    let Some(hold) = dropped else {
+        return d;
+    };
+    Decided {
+        verdict: d.verdict,
+        edit: state::drop_first(hold, d.edit),
     }
-    d
 }
 
 // Error 0, or a lease, once a hold in another scope is dropped.
@@ -271,16 +268,15 @@ fn lease(
     held: HeldTable,
     h: usize,
     m: Fields,
-    old: Lease,
-    there: bool,
+    old: Option<Lease>,
 ) -> Decided
-    ensures { result ≡ dropped_first (drops_hold m old there) old (settled_of s m old (proposal_in s (brought_in (in_use own) m old there) held h m old)) }
+    ensures { result ≡ dropped_first (dropped_of m old) (settled_of s m (unwrap_or old zero_lease) (proposal_in s (brought_in (in_use own) m old) held h m (unwrap_or old zero_lease))) }
 {
-    let rest = proposal::brought(own, m, old, there);
-    let p = proposal::propose(s, rest, held, h, m, old);
-    let d = settle(s, m, old, p);
-    let drops = admission::drops_hold(m, old, there);
-    drop_before(drops, old, d)
+    let l = old.unwrap_or(state::no_lease());
+    let rest = proposal::brought(own, m, old);
+    let p = proposal::propose(s, rest, held, h, m, l);
+    let d = settle(s, m, l, p);
+    drop_before(admission::dropped(m, old), d)
 }
 
 // What a message that has passed errors 1, 2 and 3 draws.
@@ -290,18 +286,18 @@ fn answer(
     held: HeldTable,
     h: usize,
     m: Fields,
-    old: Lease,
-    there: bool,
+    old: Option<Lease>,
 ) -> Decided
-    ensures { result ≡ past_errors s (proposal_in s (brought_in (in_use own) m old there) held h m old) m old there }
+    ensures { result ≡ past_errors s (proposal_in s (brought_in (in_use own) m old) held h m (unwrap_or old zero_lease)) m old }
 {
-    if admission::is_for_hold(s, m, old, there) {
-        return repeat(m, old);
+    let l = old.unwrap_or(state::no_lease());
+    if admission::is_for_hold(s, m, old) {
+        return repeat(m, l);
     }
     if admission::has_period(m) {
-        return lease(s, own, held, h, m, old, there);
+        return lease(s, own, held, h, m, old);
     }
-    plain(s, m, old)
+    plain(s, m, l)
 }
 
 // From error 1's last test on, which is the first to ask whether the tenant has the identifier.
@@ -311,21 +307,20 @@ fn judge(
     held: HeldTable,
     h: usize,
     m: Fields,
-    old: Lease,
-    there: bool,
+    old: Option<Lease>,
 ) -> Decided
-    ensures { result ≡ past_early s (proposal_in s (brought_in (in_use own) m old there) held h m old) m old there }
+    ensures { result ≡ past_early s (proposal_in s (brought_in (in_use own) m old) held h m (unwrap_or old zero_lease)) m old }
 {
-    if admission::is_held_already(s, m, old, there) {
+    if admission::is_held_already(s, m, old) {
         return refuse(m, 1);
     }
     if admission::error_2(s, m) {
         return refuse(m, 2);
     }
-    if admission::error_3(m, old, there) {
+    if admission::error_3(m, old) {
         return refuse(m, 3);
     }
-    answer(s, own, held, h, m, old, there)
+    answer(s, own, held, h, m, old)
 }
 
 fn look_up(own: TenantLeases, id: [u8; 32], len: u8) -> Recorded
@@ -334,13 +329,11 @@ fn look_up(own: TenantLeases, id: [u8; 32], len: u8) -> Recorded
     let x = state::find(own, id, len);
     match x.place {
         Some(at) => Recorded {
-            found: true,
-            lease: own.leases[at],
+            lease: Some(own.leases[at]),
             compared: x.compared,
         },
         None => Recorded {
-            found: false,
-            lease: state::no_lease(),
+            lease: None,
             compared: x.compared,
         },
     }
@@ -351,8 +344,7 @@ fn not_asked() -> Recorded
     ensures { result ≡ not_asked }
 {
     Recorded {
-        found: false,
-        lease: state::no_lease(),
+        lease: None,
         compared: 0,
     }
 }
@@ -393,7 +385,7 @@ pub fn decide(
     ensures { result ≡ record { decided = decide_in s (in_use own) (remembered q) held h m; count = count_of s (in_use own) (remembered q) m } }
 {
     let first = look_up_if(admission::asks_resend(m), own, m);
-    let sent = first.lease;
+    let sent = first.lease.unwrap_or(state::no_lease());
     let before = first.compared;
     if admission::is_resend(m, sent) {
         return count_with(acknowledge(state::no_edit(), sent), before);
@@ -405,7 +397,6 @@ pub fn decide(
         return count_with(refuse(m, 1), before);
     }
     let second = look_up_if(admission::asks_identifier(s, m), own, m);
-    let old = second.lease;
-    let d = judge(s, own, held, h, m, old, second.found);
+    let d = judge(s, own, held, h, m, second.lease);
     count_with(d, before + second.compared)
 }

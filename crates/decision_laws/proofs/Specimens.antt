@@ -19,7 +19,7 @@ use Rattle.state.specs.Edit.{left_in, remember_of, forget_of, noted_in, noted, e
 use Rattle.releases.specs.Again.{is_again, any_again}
 use Rattle.decision.specs.declared.Decided.{Decided}
 use Rattle.decision.specs.declared.Verdict.{Verdict}
-use Rattle.admission.specs.Tests.{held_already, is_new, has_period, own_of, holds_of, recorded_of, resends, released_again, scope_place, knows_scope, lacks_scope, zero_length, bad_counts, lacks_current, early1_of, error1_of, skewed, error2_of, error3_of, latest_first, is_leased, is_held, same_scope, is_for_hold, drops_hold, asks_identifier}
+use Rattle.admission.specs.Tests.{held_already, is_new, has_period, found_in, own_of, resends, released_again, scope_place, knows_scope, lacks_scope, zero_length, bad_counts, lacks_current, early1_of, error1_of, skewed, error2_of, error3_of, latest_first, is_leased, is_held, same_scope, is_for_hold, dropped_of, drops_hold, asks_identifier}
 use Rattle.proposal.specs.Proposals.{start_of, length_of, end_of, ask_at, fits_new, new_with, new_at, new_of, others_busy, fits_renewed, renewed_to, renewed_of, proposal_of, error0_of, lease_from, too_short, too_late, meets, hold_meets, turned, brought_by, held_from}
 use Rattle.decision.specs.Verdicts.{with_lease, plain_reply, nak_with, discard_with, refusal_of}
 use Rattle.decision.specs.laws.Code.{reply_type}
@@ -402,7 +402,7 @@ table =
     ∷ []
 
 specimens : all_hold table ≡ true
-unfolding settings wish call now decided run empty reply_type holds all_hold ack nak offer unheard two_scopes in_two second held wants other p1 p3 p5 released turn five table pick filter_by is_in place_by sum_to largest order_of same_of bit offsets_from set_of difference_of up_to laid_out table_of insert_in by_identifier remove_of live_of dropped union_all addresses_of overlaps used_in taken_of busy_in with_held committed allowed grant_of suffices is_new has_period holds_of recorded_of resends scope_place knows_scope lacks_scope zero_length bad_counts lacks_current error1_of skewed error2_of error3_of start_of length_of end_of ask_at fits_new new_with new_at new_of others_busy fits_renewed renewed_to renewed_of proposal_of error0_of lease_from with_lease plain_reply nak_with discard_with refusal_of leased_of plain_of settled_of judged_of decide_of inserted_by left_in edited_by applied_by grant_to early1_of held_already laid_releases remember_of forget_of noted_in noted is_again any_again released_again latest_first too_short too_late meets is_leased is_held is_for_hold drops_hold brought_by dropped_first until is_hold same_scope hold_meets repeated_of turned held_from by_ending
+unfolding settings wish call now decided run empty reply_type holds all_hold ack nak offer unheard two_scopes in_two second held wants other p1 p3 p5 released turn five table pick filter_by is_in place_by sum_to largest order_of same_of bit offsets_from set_of difference_of up_to laid_out table_of insert_in by_identifier remove_of live_of dropped union_all addresses_of overlaps used_in taken_of busy_in with_held committed allowed grant_of suffices is_new has_period found_in resends scope_place knows_scope lacks_scope zero_length bad_counts lacks_current error1_of skewed error2_of error3_of start_of length_of end_of ask_at fits_new new_with new_at new_of others_busy fits_renewed renewed_to renewed_of proposal_of error0_of lease_from with_lease plain_reply nak_with discard_with refusal_of leased_of plain_of settled_of judged_of decide_of inserted_by left_in edited_by applied_by grant_to early1_of held_already laid_releases remember_of forget_of noted_in noted is_again any_again released_again latest_first too_short too_late meets is_leased is_held is_for_hold drops_hold dropped_of brought_by dropped_first until is_hold same_scope hold_meets repeated_of turned held_from by_ending
 specimens = refl
 
 -- W-203: Maximum Start Time before Start Time ends the matter before the identifier is looked for; equal it does not
@@ -426,25 +426,25 @@ holding = call 0 1000 3 2 2 1 1 1000 0 0 ∷ call 0 1000 1 3 3 1 1 0 0 0 ∷ []
 -- a REQUEST: of a house without records, another house's don't count; of an identifier that it has not, and that it has; Resend, of its first record and of its second
 counts_request : (compared [] p1 ≡ 0) × (compared (p3 ∷ []) p1 ≡ 0) × (compared two (call 0 1000 3 4 4 1 1 0 0 0) ≡ 4) × (compared two (call 0 1000 3 2 7 1 1 0 0 0) ≡ 2)
     × (compared two (call 0 1000 3 3 7 1 1 0 0 0) ≡ 4) × (compared two p3 ≡ 1) × (compared two p5 ≡ 2)
-unfolding settings wish call now decided run empty p1 p3 p5 released pick filter_by is_in place_by sum_to largest order_of same_of bit offsets_from set_of difference_of up_to laid_out table_of insert_in by_identifier remove_of live_of dropped union_all addresses_of overlaps used_in taken_of busy_in with_held committed allowed grant_of suffices is_new has_period holds_of recorded_of resends scope_place knows_scope lacks_scope zero_length bad_counts lacks_current error1_of skewed error2_of error3_of start_of length_of end_of ask_at fits_new new_with new_at new_of others_busy fits_renewed renewed_to renewed_of proposal_of error0_of lease_from with_lease plain_reply nak_with discard_with refusal_of leased_of plain_of settled_of judged_of decide_of inserted_by left_in edited_by applied_by grant_to early1_of held_already laid_releases remember_of forget_of noted_in noted is_again any_again released_again latest_first too_short too_late meets is_leased is_held is_for_hold drops_hold brought_by dropped_first until is_hold same_scope hold_meets repeated_of turned held_from by_ending compared_of lookup_count asks_identifier identifier_count count_of compared two
+unfolding settings wish call now decided run empty p1 p3 p5 released pick filter_by is_in place_by sum_to largest order_of same_of bit offsets_from set_of difference_of up_to laid_out table_of insert_in by_identifier remove_of live_of dropped union_all addresses_of overlaps used_in taken_of busy_in with_held committed allowed grant_of suffices is_new has_period found_in resends scope_place knows_scope lacks_scope zero_length bad_counts lacks_current error1_of skewed error2_of error3_of start_of length_of end_of ask_at fits_new new_with new_at new_of others_busy fits_renewed renewed_to renewed_of proposal_of error0_of lease_from with_lease plain_reply nak_with discard_with refusal_of leased_of plain_of settled_of judged_of decide_of inserted_by left_in edited_by applied_by grant_to early1_of held_already laid_releases remember_of forget_of noted_in noted is_again any_again released_again latest_first too_short too_late meets is_leased is_held is_for_hold drops_hold dropped_of brought_by dropped_first until is_hold same_scope hold_meets repeated_of turned held_from by_ending compared_of lookup_count asks_identifier identifier_count count_of compared two
 counts_request = (refl, refl, refl, refl, refl, refl, refl)
 
 -- a DISCOVER; a RENEW, of its second record and of none; a RELEASE, of its first record, and sent again, when the house has one record left, and too late for that; a GETINFO
 counts_others : (compared two (call 0 1000 1 4 4 1 1 0 0 0) ≡ 2) × (compared two (call 0 1000 4 3 4 1 1 0 0 0) ≡ 4) × (compared two (call 0 1000 4 4 4 1 1 0 0 0) ≡ 4) × (compared two (released 1500) ≡ 1)
     × (compared (two ++ released 1500 ∷ []) (released 1799) ≡ 0) × (compared (two ++ released 1500 ∷ []) (released 1800) ≡ 1) × (compared two (call 0 1000 8 2 2 1 1 0 0 0) ≡ 0)
-unfolding settings wish call now decided run empty p1 p3 p5 released pick filter_by is_in place_by sum_to largest order_of same_of bit offsets_from set_of difference_of up_to laid_out table_of insert_in by_identifier remove_of live_of dropped union_all addresses_of overlaps used_in taken_of busy_in with_held committed allowed grant_of suffices is_new has_period holds_of recorded_of resends scope_place knows_scope lacks_scope zero_length bad_counts lacks_current error1_of skewed error2_of error3_of start_of length_of end_of ask_at fits_new new_with new_at new_of others_busy fits_renewed renewed_to renewed_of proposal_of error0_of lease_from with_lease plain_reply nak_with discard_with refusal_of leased_of plain_of settled_of judged_of decide_of inserted_by left_in edited_by applied_by grant_to early1_of held_already laid_releases remember_of forget_of noted_in noted is_again any_again released_again latest_first too_short too_late meets is_leased is_held is_for_hold drops_hold brought_by dropped_first until is_hold same_scope hold_meets repeated_of turned held_from by_ending compared_of lookup_count asks_identifier identifier_count count_of compared two
+unfolding settings wish call now decided run empty p1 p3 p5 released pick filter_by is_in place_by sum_to largest order_of same_of bit offsets_from set_of difference_of up_to laid_out table_of insert_in by_identifier remove_of live_of dropped union_all addresses_of overlaps used_in taken_of busy_in with_held committed allowed grant_of suffices is_new has_period found_in resends scope_place knows_scope lacks_scope zero_length bad_counts lacks_current error1_of skewed error2_of error3_of start_of length_of end_of ask_at fits_new new_with new_at new_of others_busy fits_renewed renewed_to renewed_of proposal_of error0_of lease_from with_lease plain_reply nak_with discard_with refusal_of leased_of plain_of settled_of judged_of decide_of inserted_by left_in edited_by applied_by grant_to early1_of held_already laid_releases remember_of forget_of noted_in noted is_again any_again released_again latest_first too_short too_late meets is_leased is_held is_for_hold drops_hold dropped_of brought_by dropped_first until is_hold same_scope hold_meets repeated_of turned held_from by_ending compared_of lookup_count asks_identifier identifier_count count_of compared two
 counts_others = (refl, refl, refl, refl, refl, refl, refl)
 
 -- error 1's tests before the identifier's end the matter: REQUEST, RENEW, DISCOVER, RELEASE; error 2 comes after the identifier's test for a REQUEST and a DISCOVER, and before it for a RENEW and a RELEASE
 counts_ended : (compared two (forbidden (call 0 1000 3 4 4 1 1 0 0 0)) ≡ 2) × (compared two (forbidden (call 0 1000 4 3 4 1 1 0 0 0)) ≡ 2) × (compared two (forbidden (call 0 1000 1 4 4 1 1 0 0 0)) ≡ 0)
     × (compared two (forbidden (released 1500)) ≡ 0) × (compared two (call 0 1000 3 4 4 1 1 0 0 9000) ≡ 4) × (compared two (call 0 1000 1 4 4 1 1 0 0 9000) ≡ 2) × (compared two (call 0 1000 4 3 4 1 1 0 0 9000) ≡ 2)
     × (compared two (call 0 1000 7 3 4 1 1 0 0 9000) ≡ 0)
-unfolding settings wish call now decided run empty p1 p3 p5 released pick filter_by is_in place_by sum_to largest order_of same_of bit offsets_from set_of difference_of up_to laid_out table_of insert_in by_identifier remove_of live_of dropped union_all addresses_of overlaps used_in taken_of busy_in with_held committed allowed grant_of suffices is_new has_period holds_of recorded_of resends scope_place knows_scope lacks_scope zero_length bad_counts lacks_current error1_of skewed error2_of error3_of start_of length_of end_of ask_at fits_new new_with new_at new_of others_busy fits_renewed renewed_to renewed_of proposal_of error0_of lease_from with_lease plain_reply nak_with discard_with refusal_of leased_of plain_of settled_of judged_of decide_of inserted_by left_in edited_by applied_by grant_to early1_of held_already laid_releases remember_of forget_of noted_in noted is_again any_again released_again latest_first too_short too_late meets is_leased is_held is_for_hold drops_hold brought_by dropped_first until is_hold same_scope hold_meets repeated_of turned held_from by_ending compared_of lookup_count asks_identifier identifier_count count_of compared two
+unfolding settings wish call now decided run empty p1 p3 p5 released pick filter_by is_in place_by sum_to largest order_of same_of bit offsets_from set_of difference_of up_to laid_out table_of insert_in by_identifier remove_of live_of dropped union_all addresses_of overlaps used_in taken_of busy_in with_held committed allowed grant_of suffices is_new has_period found_in resends scope_place knows_scope lacks_scope zero_length bad_counts lacks_current error1_of skewed error2_of error3_of start_of length_of end_of ask_at fits_new new_with new_at new_of others_busy fits_renewed renewed_to renewed_of proposal_of error0_of lease_from with_lease plain_reply nak_with discard_with refusal_of leased_of plain_of settled_of judged_of decide_of inserted_by left_in edited_by applied_by grant_to early1_of held_already laid_releases remember_of forget_of noted_in noted is_again any_again released_again latest_first too_short too_late meets is_leased is_held is_for_hold drops_hold dropped_of brought_by dropped_first until is_hold same_scope hold_meets repeated_of turned held_from by_ending compared_of lookup_count asks_identifier identifier_count count_of compared two
 counts_ended = (refl, refl, refl, refl, refl, refl, refl, refl)
 
 -- a hold is found in its place, by its lapse, and costs nothing more to turn into a lease; the lease after it, until it lapses
 counts_held : (compared holding (call 0 1001 3 3 9 1 1 0 0 0) ≡ 2) × (compared holding (call 0 1029 3 2 2 1 1 1000 0 0) ≡ 2) × (compared holding (call 0 1030 3 2 2 1 1 1000 0 0) ≡ 1)
-unfolding settings wish call now decided run empty p1 p3 p5 released pick filter_by is_in place_by sum_to largest order_of same_of bit offsets_from set_of difference_of up_to laid_out table_of insert_in by_identifier remove_of live_of dropped union_all addresses_of overlaps used_in taken_of busy_in with_held committed allowed grant_of suffices is_new has_period holds_of recorded_of resends scope_place knows_scope lacks_scope zero_length bad_counts lacks_current error1_of skewed error2_of error3_of start_of length_of end_of ask_at fits_new new_with new_at new_of others_busy fits_renewed renewed_to renewed_of proposal_of error0_of lease_from with_lease plain_reply nak_with discard_with refusal_of leased_of plain_of settled_of judged_of decide_of inserted_by left_in edited_by applied_by grant_to early1_of held_already laid_releases remember_of forget_of noted_in noted is_again any_again released_again latest_first too_short too_late meets is_leased is_held is_for_hold drops_hold brought_by dropped_first until is_hold same_scope hold_meets repeated_of turned held_from by_ending compared_of lookup_count asks_identifier identifier_count count_of compared holding
+unfolding settings wish call now decided run empty p1 p3 p5 released pick filter_by is_in place_by sum_to largest order_of same_of bit offsets_from set_of difference_of up_to laid_out table_of insert_in by_identifier remove_of live_of dropped union_all addresses_of overlaps used_in taken_of busy_in with_held committed allowed grant_of suffices is_new has_period found_in resends scope_place knows_scope lacks_scope zero_length bad_counts lacks_current error1_of skewed error2_of error3_of start_of length_of end_of ask_at fits_new new_with new_at new_of others_busy fits_renewed renewed_to renewed_of proposal_of error0_of lease_from with_lease plain_reply nak_with discard_with refusal_of leased_of plain_of settled_of judged_of decide_of inserted_by left_in edited_by applied_by grant_to early1_of held_already laid_releases remember_of forget_of noted_in noted is_again any_again released_again latest_first too_short too_late meets is_leased is_held is_for_hold drops_hold dropped_of brought_by dropped_first until is_hold same_scope hold_meets repeated_of turned held_from by_ending compared_of lookup_count asks_identifier identifier_count count_of compared holding
 counts_held = (refl, refl, refl)
 
 -- ---- periods

@@ -29,7 +29,7 @@ use Rattle.releases.specs.Again.{any_again}
 use Rattle.decision_laws.specs.laws.Cases.{Passed, new_type, nothing_there, passed}
 use Rattle.decision.specs.laws.Code.{or_none}
 use Rattle.decision_laws.specs.laws.Ensured.{decide_free, judged_free}
-use Rattle.admission.specs.Tests.{early1_of, held_already, is_held, bad_counts, error1_of, error2_of, has_period, holds_of, is_new, knows_scope, lease_id_in, own_of, recorded_of, released_again, resends}
+use Rattle.admission.specs.Tests.{early1_of, held_already, is_held, bad_counts, error1_of, error2_of, has_period, is_new, knows_scope, lease_id_in, own_of, recorded_of, released_again, resends, found_of}
 use Rattle.proposal.specs.Proposals.{error0_of, lease_from, new_of, proposal_of}
 use Rattle.decision.specs.Verdicts.{with_lease}
 use Rattle.decision.specs.Decide.{changed, decide_of, leased_of, settled_of}
@@ -40,23 +40,27 @@ use Rattle.guarantee.proofs.Proposed as proposed
 use Rattle.guarantee.proofs.Reached.{decided_there, pick_else, pick_then}
 use Rattle.guarantee.proofs.Ranges.{ack_names, named_head, pool_fits}
 use Rattle.guarantee.proofs.Kept.{call_sound, now_sound, run_sound, within_limits}
+use Rattle.std.specs.Prelude.{Option, is_some}
 
 -- ---- a REQUEST that passes the checks before error 0, for a tenant h of a sound book, whose identifier has no hold
 module _ (s : State) (t : LeaseTable) (h : ℕ) (m : Fields) (v : Sound s (leases_of t)) (known : h < tenants_in s) (request : m.kind ≡ 3)
-    (new : resends m (recorded_of (own_of t h) m) ≡ false) (free : is_held (recorded_of (own_of t h) m) (holds_of (own_of t h) m) ≡ false)
-    (error1 : error1_of s m (recorded_of (own_of t h) m) (holds_of (own_of t h) m) ≡ false) (error2 : error2_of s m ≡ false) where
-  abbrev O : Lease
-  O = recorded_of (own_of t h) m
+    (new : resends m (recorded_of (own_of t h) m) ≡ false) (free : is_held (found_of (own_of t h) m) ≡ false)
+    (error1 : error1_of s m (found_of (own_of t h) m) ≡ false) (error2 : error2_of s m ≡ false) where
+  abbrev O : Option Lease
+  O = found_of (own_of t h) m
+
+  abbrev L : Lease
+  L = recorded_of (own_of t h) m
 
   abbrev T : Bool
-  T = holds_of (own_of t h) m
+  T = is_some (found_of (own_of t h) m)
 
   is_new_law : is_new m ≡ true
   is_new_law = new_type m request refl
 
   -- what error 1 leaves: the scope is ours, least is not 0 and at most desired, and the identifier is not held
-  left : Passed s m O T
-  left = passed s m O T error1
+  left : Passed s m O
+  left = passed s m O error1
 
   pub ours : knows_scope s m ≡ true
   ours = left.scope is_new_law
@@ -65,11 +69,11 @@ module _ (s : State) (t : LeaseTable) (h : ℕ) (m : Fields) (v : Sound s (lease
   good = left.counts
 
   pub not_held : T ≡ false
-  not_held = nothing_there O T (left.new is_new_law) free
+  not_held = nothing_there O (left.new is_new_law) free
 
   no_error1 : (early1_of s m || (is_new m && T)) ≡ false
   unfolding error1_of
-  no_error1 = ap₂ (λ (x y : Bool). x || (is_new m && y)) (or_none (early1_of s m) (held_already s m O T) error1).0 not_held ∙ ap (λ (x : Bool). x && false) is_new_law
+  no_error1 = ap₂ (λ (x y : Bool). x || (is_new m && y)) (or_none (early1_of s m) (held_already s m O) error1).0 not_held ∙ ap (λ (x : Bool). x && false) is_new_law
 
   -- a REQUEST is no RELEASE sent again
   no_again : (q : List Release) → released_again s q m ≡ false
@@ -80,7 +84,7 @@ module _ (s : State) (t : LeaseTable) (h : ℕ) (m : Fields) (v : Sound s (lease
   unfolding has_period
   has_period_law = ap (λ (b : Bool). b || eqb m.kind 4) is_new_law
 
-  proposal_is : proposal_of s t h m O ≡ new_of s t h m
+  proposal_is : proposal_of s t h m L ≡ new_of s t h m
   unfolding proposal_of
   proposal_is = pick_then (is_new m) _ _ is_new_law
 
@@ -89,15 +93,15 @@ module _ (s : State) (t : LeaseTable) (h : ℕ) (m : Fields) (v : Sound s (lease
   unfolding judged_free settled_of leased_of
   decided q l error0 recorded =
       decide_free s t q h m free
-      ∙ pick_else (resends m O) _ _ new
+      ∙ pick_else (resends m L) _ _ new
       ∙ pick_else (released_again s q m) _ _ (no_again q)
       ∙ pick_else (early1_of s m || (is_new m && T)) _ _ no_error1
       ∙ pick_else (error2_of s m) _ _ error2
       ∙ pick_else ((eqb m.kind 4 || eqb m.kind 7) && not T) _ _ (ap (λ (k : ℕ). (eqb k 4 || eqb k 7) && not T) request)
       ∙ pick_then (has_period m) _ _ has_period_law
-      ∙ ap (settled_of s m O) proposal_is
+      ∙ ap (settled_of s m L) proposal_is
       ∙ pick_else (error0_of s m (new_of s t h m)) _ _ error0
-      ∙ ap (leased_of s m O) recorded
+      ∙ ap (leased_of s m L) recorded
       ∙ pick_else (eqb m.kind 1) _ _ (ap (λ (k : ℕ). eqb k 1) request)
       ∙ pick_then (eqb m.kind 3) _ _ (ap (λ (k : ℕ). eqb k 3) request)
 

@@ -25,10 +25,12 @@ use Rattle.soundness.specs.Sound.{compatible, sound_b}
 use Rattle.soundness.specs.laws.Book.{pair_ok, sound_rises}
 use Rattle.soundness.proofs.Lists.{sound_lists}
 use Rattle.soundness.specs.laws.Added.{pairs_at, rises_at}
-use Rattle.admission.specs.Tests.{holds_of, own_of}
+use Rattle.admission.specs.Tests.{own_of, found_of}
 use Rattle.admission.specs.Tests as parts
 use Rattle.decision_laws.specs.laws.Kept.{own_is}
 use Rattle.decision_laws.specs.laws.Others.{insert_leaves}
+use Rattle.admission.specs.laws.Found.{found_there}
+use Rattle.std.specs.Prelude.{is_some}
 
 -- an identifier without a place is no lease's
 place_none : {A : Type 0} (t : A → Bool) (l : List A) → length l ≤ place_by t l → all_by (λ x. not (t x)) l ≡ true
@@ -41,13 +43,13 @@ place_none {A} t (x ∷ l) h = go (t x) refl h (place_none t l)
     go false e h ih = all_cons (λ x. not (t x)) x l (ap not e) (ih (omega arith))
 
 -- so where the tenant of a sound book does not hold the identifier, its leases but for the new one stay
-pub others_stay : (s : State) (t : LeaseTable) (h : ℕ) (m : Fields) (l : Lease) → sound_b s t ≡ true → id_of l ≡ parts.lease_id_in m → holds_of (own_of t h) m ≡ false
+pub others_stay : (s : State) (t : LeaseTable) (h : ℕ) (m : Fields) (l : Lease) → sound_b s t ≡ true → id_of l ≡ parts.lease_id_in m → is_some (found_of (own_of t h) m) ≡ false
     → remove_of (id_of l) (insert_of l (own_of t h)) ≡ own_of t h
-unfolding holds_of pair_ok
+unfolding pair_ok
 others_stay s t h m l v e held =
     insert_leaves l (own_of t h)
     (ap (λ (i : List ℕ). all_by (other i) (own_of t h)) e
-    ∙ place_none (named (parts.lease_id_in m)) (own_of t h) (ltb-false (place_of (parts.lease_id_in m) (own_of t h)) (length (own_of t h)) held))
+    ∙ place_none (named (parts.lease_id_in m)) (own_of t h) (ltb-false (place_of (parts.lease_id_in m) (own_of t h)) (length (own_of t h)) (sym (found_there (parts.lease_id_in m) (own_of t h)) ∙ held)))
     (and_parts (pairs_by differ (own_of t h)) (pairs_by compatible (own_of t h))
     (sym (pairs_and differ compatible (own_of t h)) ∙ ap (pairs_by pair_ok) (own_is t h) ∙ pairs_at s (leases_of t) (sound_lists s t v) h)).0
     (ap (pairs_by ordered) (own_is t h) ∙ rises_at ordered (leases_of t) h (sound_rises s t v))

@@ -2,7 +2,7 @@
 -- an OFFER `offer_guarantee`'s. The buyer's sentences, and those of document 01's "Demand 3 in detail", are quoted beside what says them; '"lease" in demands 1 and 3 .. reads "lease or
 -- hold"' (document 02, W-205), so that each sentence on leases is one on records. A house is a tenant here, its share a reserve; tenants count from 0, a
 -- lease's scope from 1.
-use Rattle.std.specs.Prelude.{ℕ, ◌+◌, ◌-◌, ◌≤◌, ◌<◌, min, ◌≡◌, true, false, List, [], ◌∷◌, map, length}
+use Rattle.std.specs.Prelude.{ℕ, ◌+◌, ◌-◌, ◌≤◌, ◌<◌, min, ◌≡◌, true, false, List, [], ◌∷◌, map, length, Option}
 use Rattle.lists.specs.Filter.{filter_by}
 use Rattle.address_set.specs.AddressSet.{offsets}
 use Rattle.occupancy.specs.Board.{entry_at, held_in, no_entry, scope_board_at}
@@ -26,7 +26,7 @@ use Rattle.allocation.specs.declared.Ask.{Ask}
 use Rattle.allocation.specs.declared.Grant.{Grant}
 use Rattle.allocation.specs.Rule.{grant_of, unused_reserve}
 use Rattle.proposal.specs.Proposals.{horizon, default_lease, length_of, meets, start_of, latest_end}
-use Rattle.admission.specs.Tests.{error1_of, error2_of, holds_of, is_held, own_of, recorded_of, resends, scope_in, scope_place}
+use Rattle.admission.specs.Tests.{error1_of, error2_of, is_held, own_of, recorded_of, resends, scope_in, scope_place, found_of}
 use Rattle.server.specs.Serve.{Answer, Call, head_of, serve_of, tenant_of}
 
 -- ---- the list of calls: "any number of server calls, or none: DISCOVER, REQUEST, RENEW, RELEASE, GETINFO and any other octets, from any address, with any
@@ -74,12 +74,15 @@ releases_for b c = remembered (releases_at b.memory (tenant_for b c))
 abbrev pub says_of : Book → Call → Fields
 says_of b c = fields_of c.datagram (state_at b c).server (read_of c.datagram).message
 
--- the record of the datagram's identifier, an unused one where there is none; and that it is no hold
+-- the record of the datagram's identifier, where there is one, and an unused one where there is none; and that it is no hold
+abbrev pub found_for : Book → Call → Option Lease
+found_for b c = found_of (own_for b c) (says_of b c)
+
 abbrev pub record_for : Book → Call → Lease
 record_for b c = recorded_of (own_for b c) (says_of b c)
 
 abbrev pub NoHold : Book → Call → Type 0
-NoHold b c = is_held (record_for b c) (holds_of (own_for b c) (says_of b c)) ≡ false
+NoHold b c = is_held (found_for b c) ≡ false
 
 -- the scope's place, and the scope
 abbrev pub place_for : Book → Call → ℕ
@@ -124,7 +127,7 @@ pub record NewRequest (b : Book) (c : Call) : Type 0 where
   -- "The next REQUEST in demand 3 is one whose identifier has no hold" (document 02, W-205)
   pub free : NoHold b c
   -- not errors 1 and 2; error 3 is about RENEW and RELEASE
-  pub error1 : error1_of (state_at b c) (says_of b c) (record_for b c) (holds_of (own_for b c) (says_of b c)) ≡ false
+  pub error1 : error1_of (state_at b c) (says_of b c) (found_for b c) ≡ false
   pub error2 : error2_of (state_at b c) (says_of b c) ≡ false
   -- "Inside means start at most clock plus horizon, end at most 4,294,967,295"
   pub soon : start_for b c ≤ (state_at b c).clock + horizon

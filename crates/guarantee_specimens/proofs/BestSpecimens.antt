@@ -19,8 +19,8 @@ use Rattle.soundness.specs.Sound.{tenants_in}
 use Rattle.proposal.specs.Proposals.{default_lease, horizon, length_of, meets, latest_end}
 use Rattle.admission.specs.Tests.{error1_of, error2_of, is_for_hold, own_of, resends}
 use Rattle.server.specs.Serve.{Call, head_of, serve_of}
-use Rattle.guarantee.specs.Statement.{SoundBook, end_for, place_for, record_for, run, says_of, start_for, state_at, tenant_for}
-use Rattle.best_grant.specs.Best.{AsksRule, Choice, NobodyMore, book_with, brought_for, size_of, new_in, rule_for, there_for}
+use Rattle.guarantee.specs.Statement.{SoundBook, end_for, place_for, record_for, run, says_of, start_for, state_at, tenant_for, found_for}
+use Rattle.best_grant.specs.Best.{AsksRule, Choice, NobodyMore, book_with, brought_for, size_of, new_in, rule_for}
 use Rattle.best_grant.proofs.Best.{nobody_more}
 use Rattle.guarantee.proofs.Kept.{run_sound}
 use Rattle.guarantee_specimens.proofs.Opened.{computed}
@@ -49,8 +49,8 @@ granted = (refl, refl, refl)
 -- a REQUEST comes to the rule by thirteen tests, each of which computes
 asked : (b : Book) (c : Call) → leb least_room c.room ≡ true → ltb (tenant_for b c) (tenants_in (state_at b c)) ≡ true → (read_of c.datagram).discard ≡ 0
     → (says_of b c).kind ≡ 3 → (says_of b c).ours ≡ true → resends (says_of b c) (record_for b c) ≡ false
-    → error1_of (state_at b c) (says_of b c) (record_for b c) (there_for b c) ≡ false → error2_of (state_at b c) (says_of b c) ≡ false
-    → is_for_hold (state_at b c) (says_of b c) (record_for b c) (there_for b c) ≡ false
+    → error1_of (state_at b c) (says_of b c) (found_for b c) ≡ false → error2_of (state_at b c) (says_of b c) ≡ false
+    → is_for_hold (state_at b c) (says_of b c) (found_for b c) ≡ false
     → leb (start_for b c) ((state_at b c).clock + horizon) ≡ true → leb (end_for b c) latest_end ≡ true → meets (says_of b c) (start_for b c) (length_of (says_of b c) default_lease) ≡ true
     → ltb (length (own_of (brought_for b c).table (tenant_for b c))) 16 ≡ true → AsksRule b c
 asked b c room house read request ours new error1 error2 elsewhere soon fits met left = record {

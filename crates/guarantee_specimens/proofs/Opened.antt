@@ -29,7 +29,7 @@ use Rattle.releases.specs.Whole.{book_b}
 use Rattle.soundness.specs.Sound.{apart, below_b, blank_b, compatible, counts_b, disjoint, one_to, first_broken, first_rule, first_late, hold_b, tenants_b, id_b, kind_b, lapse_b, lease_b, limit_b, limits_b, committed_b, none_b, offsets_b, padded_b, period_b, pool_b, pools_apart, range_b, range_zero, ranges_apart, records_b, rule1, rule10, rule11, rule12, rule13, rule2, rule3, rule4, rule5, rule6, rule7, rule8, rule9, scope_zero, settings_b, reserve_b, reserves_b, size_b, tail_b, ttl_b, unused_b, zero_from, broken_by, layout_by, rule19_by, rules_by, sound_by}
 use Rattle.allocation.specs.Rule.{allowed, busy_in, grant_of, grant_to, suffices, taken_of}
 use Rattle.proposal.specs.Proposals.{ask_at, brought_by, end_of, error0_of, fits_new, fits_renewed, held_from, hold_meets, lease_from, length_of, new_at, new_of, new_with, others_busy, proposal_of, renewed_of, renewed_to, start_of, turned, meets, too_late, too_short}
-use Rattle.admission.specs.Tests.{bad_counts, drops_hold, early1_of, held_already, error1_of, error2_of, error3_of, skewed, has_period, holds_of, is_for_hold, is_held, is_leased, is_new, knows_scope, lacks_current, lacks_scope, recorded_of, released_again, resends, scope_place, zero_length, latest_first, asks_identifier}
+use Rattle.admission.specs.Tests.{bad_counts, dropped_of, drops_hold, early1_of, held_already, error1_of, error2_of, error3_of, skewed, has_period, found_in, is_for_hold, is_held, is_leased, is_new, knows_scope, lacks_current, lacks_scope, released_again, resends, scope_place, zero_length, latest_first, asks_identifier}
 use Rattle.decision.specs.Verdicts.{discard_with, nak_with, plain_reply, refusal_of}
 use Rattle.admission.specs.Tests as tests
 use Rattle.decision.specs.Verdicts as verdicts
@@ -95,7 +95,7 @@ grant_open = tt
 
 -- the decision
 unfoldable pub decision_open : Unit {0}
-unfolding is_new has_period holds_of recorded_of is_leased is_held tests.same_scope is_for_hold hold_meets turned drops_hold brought_by held_from repeated_of dropped_first resends released_again scope_place knows_scope lacks_scope zero_length bad_counts lacks_current early1_of held_already error1_of skewed error2_of error3_of start_of length_of end_of ask_at fits_new new_with new_at new_of others_busy fits_renewed renewed_to renewed_of proposal_of error0_of lease_from verdicts.with_lease plain_reply nak_with discard_with refusal_of leased_of plain_of settled_of judged_of decide_of latest_first too_short too_late meets asks_identifier lookup_count identifier_count count_of
+unfolding is_new has_period found_in is_leased is_held tests.same_scope is_for_hold hold_meets turned drops_hold dropped_of brought_by held_from repeated_of dropped_first resends released_again scope_place knows_scope lacks_scope zero_length bad_counts lacks_current early1_of held_already error1_of skewed error2_of error3_of start_of length_of end_of ask_at fits_new new_with new_at new_of others_busy fits_renewed renewed_to renewed_of proposal_of error0_of lease_from verdicts.with_lease plain_reply nak_with discard_with refusal_of leased_of plain_of settled_of judged_of decide_of latest_first too_short too_late meets asks_identifier lookup_count identifier_count count_of
 decision_open = tt
 
 -- the names for the scopes

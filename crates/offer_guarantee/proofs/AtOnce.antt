@@ -34,10 +34,10 @@ use Rattle.soundness.proofs.Lists.{sound_lists}
 use Rattle.soundness.specs.laws.Facts.{lease_facts}
 use Rattle.decision.specs.declared.Reply.TheVariants.{LeaseAck}
 use Rattle.proposal.specs.Proposals.{ask_at, meets, too_late, too_short, error0_of, fits_new, held_from, lease_from, length_of, new_at, new_of, new_with, start_of, turned}
-use Rattle.admission.specs.Tests.{bad_counts, lacks_current, latest_first, lease_id_in, early1_of, error1_of, error2_of, held_already, holds_of, is_held, is_leased, is_new, knows_scope, lacks_scope, own_of, recorded_of, resends, same_scope, zero_length}
+use Rattle.admission.specs.Tests.{bad_counts, lacks_current, latest_first, lease_id_in, early1_of, error1_of, error2_of, held_already, is_held, is_leased, is_new, knows_scope, lacks_scope, own_of, recorded_of, resends, zero_length, found_of}
 use Rattle.decision.specs.Verdicts.{with_lease}
 use Rattle.decision.specs.Decide.{changed}
-use Rattle.decision.specs.laws.Code.{or_none}
+use Rattle.decision.specs.laws.Code.{or_none, no}
 use Rattle.decision_laws.specs.laws.Ensured.{sent_as}
 use Rattle.decision_laws.specs.laws.Kept.{held_good}
 use Rattle.server.specs.Serve.{Answer, Call, answered, decided_for, serve_of, tenant_of}
@@ -52,6 +52,7 @@ use Rattle.guarantee.proofs.Kept.{advanced_laid, call_sound}
 use Rattle.offer_guarantee.proofs.Offers.{offer_rule}
 use Rattle.guarantee.proofs.Reached.{Reaches, decided_there}
 use Rattle.offer_guarantee.proofs.Taken as taken
+use Rattle.std.specs.Prelude.{Option, Some, None, is_some}
 
 -- ---- a sound book has nothing to drop at its own clock
 alive : (s : State) (l : Lease) → lease_ok s l ≡ true → live s.clock l ≡ true
@@ -163,21 +164,25 @@ module _ (b : Book) (c : Call) (v : SoundBook b) (discovers : Discovers c) (free
   abbrev L : Lease
   L = turned (says_of b (requested c)) (hold_for b c)
 
+  none_found : (o : Option Lease) → is_some o ≡ false → o ≡ None
+  none_found None e = refl
+  none_found (Some l) e = no e
+
   -- ---- the REQUEST alone
-  none : holds_of (own_of t h) k.words ≡ false
-  unfolding holds_of sent_as
-  none = ap (holds_of (own_of t h)) (sym k.discover) ∙ f.none
+  none : is_some (found_of (own_of t h) k.words) ≡ false
+  unfolding sent_as
+  none = ap (λ (x : Fields). is_some (found_of (own_of t h) x)) (sym k.discover) ∙ f.none
 
   free_too : NoHold b (requested c)
-  unfolding recorded_of holds_of sent_as
-  free_too = ap (λ (x : Fields). is_held (recorded_of (own_of t h) x) (holds_of (own_of t h) x)) k.request ∙ ap (λ (x : Fields). is_held (recorded_of (own_of t h) x) (holds_of (own_of t h) x)) (sym k.discover) ∙ free
+  unfolding sent_as
+  free_too = ap (λ (x : Fields). is_held (found_of (own_of t h) x)) k.request ∙ ap (λ (x : Fields). is_held (found_of (own_of t h) x)) (sym k.discover) ∙ free
 
-  no_error1 : error1_of s r (recorded_of (own_of t h) r) (holds_of (own_of t h) r) ≡ false
-  unfolding error1_of held_already is_new is_leased is_held recorded_of holds_of sent_as
+  no_error1 : error1_of s r (found_of (own_of t h) r) ≡ false
+  unfolding error1_of held_already is_new is_leased is_held sent_as
   no_error1 =
-      ap (λ (x : Fields). error1_of s x (recorded_of (own_of t h) x) (holds_of (own_of t h) x)) k.request
-      ∙ ap₂ (λ (e n : Bool). e || ((true && (n && not (is_hold (recorded_of (own_of t h) k.words)))) || (false && ((n && is_hold (recorded_of (own_of t h) k.words)) && not (same_scope s (sent_as 3 k.words) (recorded_of (own_of t h) k.words))))))
-      (same_early s t h k.words ∙ sym (ap (early1_of s) k.discover) ∙ (or_none (early1_of s m) _ f.error1).0) none
+      ap (λ (x : Fields). error1_of s x (found_of (own_of t h) x)) k.request
+      ∙ ap (λ (o : Option Lease). error1_of s (sent_as 3 k.words) o) (none_found (found_of (own_of t h) k.words) none)
+      ∙ ap (λ (e : Bool). e || held_already s (sent_as 3 k.words) None) (same_early s t h k.words ∙ sym (ap (early1_of s) k.discover) ∙ (or_none (early1_of s m) _ f.error1).0)
 
   recorded : lease_from r (new_of s t h r) ≡ L
   unfolding held_from

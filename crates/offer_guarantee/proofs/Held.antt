@@ -34,7 +34,7 @@ use Rattle.decision.specs.declared.Decided.{Decided}
 use Rattle.proposal.specs.Proposals.{held_from, lease_from, turned}
 use Rattle.admission.specs.Tests.{is_held, is_leased, lease_id_in, own_of}
 use Rattle.decision.specs.Decide.{decide_of}
-use Rattle.decision_laws.specs.laws.Cases.{decided_by, held_there, leased_there, old_for, there_for}
+use Rattle.decision_laws.specs.laws.Cases.{decided_by, held_there, leased_there, old_for, found_for}
 use Rattle.decision_laws.specs.laws.Kept.{held_named}
 use Rattle.server.specs.Serve.{Answer, Call, at_clock, for_server, serve_of, tenant_of, with_reading}
 use Rattle.guarantee.specs.Statement.{book_at, run, says_of, state_at, tenant_for}
@@ -114,11 +114,11 @@ about s t q h m = decided_by s t h m (λ (d : Decided). AboutIt m d.edit) (recor
     none : AboutIt m no_edit
     none = (tt, tt)
 
-    held : is_held (old_for t h m) (there_for t h m) ≡ true → id_of (old_for t h m) ≡ lease_id_in m
-    held f = held_named s t h m (held_there (old_for t h m) (there_for t h m) f)
+    held : is_held (found_for t h m) ≡ true → id_of (old_for t h m) ≡ lease_id_in m
+    held f = held_named s t h m (held_there (found_for t h m) f)
 
-    leased : is_leased (old_for t h m) (there_for t h m) ≡ true → id_of (old_for t h m) ≡ lease_id_in m
-    leased f = held_named s t h m (leased_there (old_for t h m) (there_for t h m) f)
+    leased : is_leased (found_for t h m) ≡ true → id_of (old_for t h m) ≡ lease_id_in m
+    leased f = held_named s t h m (leased_there (found_for t h m) f)
 
 module _ (h : ℕ) (i : List ℕ) (o : Lease) where
   live_has : (clock : ℕ) (t : LeaseTable) → clock < until o → Has h i o t → Has h i o (dropped clock t)

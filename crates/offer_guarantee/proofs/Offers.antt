@@ -6,8 +6,8 @@ use mathlib.Core.List.{List}
 use mathlib.Core.Logic.{◌⊎◌, inl, inr, ⊎_elim}
 use native.Mathlib.Omega.{arith}
 use lib.Dec.{ltb, eqb}
-use lib.ListN.{length, get_or, set, get_or-eq_default}
-use borrow.Author.Tests.{eqb-true, eqb-false, ltb-false}
+use lib.ListN.{get_or, set}
+use borrow.Author.Tests.{eqb-true, eqb-false}
 use Rattle.lists.specs.Pick.{pick}
 use Rattle.message.specs.laws.Placed.{pick_cases}
 use Rattle.message.specs.Read.{read_of}
@@ -17,13 +17,13 @@ use Rattle.state.specs.declared.Lease.{Lease}
 use Rattle.state.specs.declared.LeaseTable.{LeaseTable}
 use Rattle.state.specs.declared.Release.{Release}
 use Rattle.state.specs.declared.State.{State}
-use Rattle.state.specs.Book.{Book, place_of, releases_at, remembered, zero_lease}
+use Rattle.state.specs.Book.{Book, releases_at, remembered, zero_lease}
 use Rattle.releases.specs.Whole.{book_b}
 use Rattle.soundness.specs.Sound.{tenants_in}
 use Rattle.decision.specs.declared.Decided.{Decided}
 use Rattle.decision.specs.Decide.{decide_of, leased_of, settled_of}
 use Rattle.decision.specs.Verdicts.{discard_with, refusal_of, nak_with, with_lease}
-use Rattle.admission.specs.Tests.{early1_of, holds_of, is_held, is_new, lease_id_in, own_of, recorded_of, released_again, resends, has_period}
+use Rattle.admission.specs.Tests.{early1_of, is_held, is_new, own_of, recorded_of, released_again, resends, has_period, found_of}
 use Rattle.decision_laws.specs.laws.Ensured.{as_offer, decide_free, judged_free, offered_as_requested, sent_as}
 use Rattle.guarantee.specs.Statement.{NoHold, book_at, own_for, says_of, state_at, table_at, tenant_for}
 use Rattle.offer_guarantee.specs.Statement.{OfferRule, Discovers, NewlyGranted, OfferedAs, as_request, requested}
@@ -33,9 +33,10 @@ use Rattle.decision.specs.declared.Verdict.{Verdict}
 use Rattle.offer_guarantee.proofs.Alike.{Alike, both_numbers, both_say, words_of}
 use Rattle.guarantee.proofs.Reached.{pick_then}
 use Rattle.server.specs.Serve.{Answer, Call, answered, at_clock, by_reply, discarded, for_server, head_of, reply_of, serve_of, terms_of, with_reading}
+use Rattle.std.specs.Prelude.{Option, Some, None, is_some, unwrap_or}
 
 recorded_same : (own : List Lease) (m : Fields) → recorded_of own m ≡ recorded_of own (sent_as 3 m)
-unfolding recorded_of sent_as
+unfolding sent_as
 recorded_same own m = refl
 
 -- ---- a Resend: its identifier is held, so that the DISCOVER draws error 1
@@ -43,26 +44,22 @@ or_right : (a : Bool) {b : Bool} → b ≡ true → (a || b) ≡ true
 or_right true e = refl
 or_right false e = e
 
-resent_held : (own : List Lease) (m : Fields) → resends (sent_as 3 m) (recorded_of own m) ≡ true → holds_of own m ≡ true
-unfolding recorded_of holds_of resends sent_as
-resent_held own m e = go (ltb (place_of (lease_id_in m) own) (length own)) refl
+resent_held : (own : List Lease) (m : Fields) → resends (sent_as 3 m) (recorded_of own m) ≡ true → is_some (found_of own m) ≡ true
+unfolding resends sent_as
+resent_held own m e = go (found_of own m) e
   where
-    go : (b : Bool) → ltb (place_of (lease_id_in m) own) (length own) ≡ b → ltb (place_of (lease_id_in m) own) (length own) ≡ true
-    go true p = p
-    go false p =
-        let z : recorded_of own m ≡ zero_lease = get_or-eq_default own zero_lease {n = place_of (lease_id_in m) own} (ltb-false (place_of (lease_id_in m) own) (length own) p) in
-        let f : resends (sent_as 3 m) (recorded_of own m) ≡ false = ap (resends (sent_as 3 m)) z in
-        let n : ◌≡◌ {A = ℕ} 0 1 = cc in
-        absurd (omega arith)
+    go : (o : Option Lease) → resends (sent_as 3 m) (unwrap_or o zero_lease) ≡ true → is_some o ≡ true
+    go (Some l) e = refl
+    go None e = e
 
 -- of an identifier without a hold
 abbrev Free : LeaseTable → ℕ → Fields → Type 0
-Free t h m = is_held (recorded_of (own_of t h) m) (holds_of (own_of t h) m) ≡ false
+Free t h m = is_held (found_of (own_of t h) m) ≡ false
 
 discovered_held : (s : State) (t : LeaseTable) (q : List Release) (h : ℕ) (m : Fields) → Free t h m → resends (sent_as 3 m) (recorded_of (own_of t h) m) ≡ true → (decide_of s t q h (sent_as 1 m)).verdict ≡ discard_with 8
-unfolding judged_free resends released_again sent_as refusal_of pick is_new recorded_of holds_of
+unfolding judged_free resends released_again sent_as refusal_of pick is_new
 discovered_held s t q h m free e =
-    ap (λ (d : Decided). d.verdict) (decide_free s t q h (sent_as 1 m) free ∙ pick_then (early1_of s (sent_as 1 m) || (true && holds_of (own_of t h) m)) _ _ (or_right (early1_of s (sent_as 1 m)) (resent_held (own_of t h) m e)))
+    ap (λ (d : Decided). d.verdict) (decide_free s t q h (sent_as 1 m) free ∙ pick_then (early1_of s (sent_as 1 m) || (true && is_some (found_of (own_of t h) m))) _ _ (or_right (early1_of s (sent_as 1 m)) (resent_held (own_of t h) m e)))
 
 -- ---- a REQUEST draws an ACK with a lease, or a NAK
 Drawn : Verdict → Type 0
@@ -72,7 +69,7 @@ never : {A : Type 0} → true ≡ false → A
 never e = let z : ◌≡◌ {A = ℕ} 0 1 = cc in absurd (omega arith)
 
 request_draws : (s : State) (t : LeaseTable) (q : List Release) (h : ℕ) (m : Fields) → Free t h m → Drawn (decide_of s t q h (sent_as 3 m)).verdict
-unfolding judged_free released_again settled_of leased_of with_lease refusal_of nak_with sent_as has_period is_new Drawn recorded_of holds_of
+unfolding judged_free released_again settled_of leased_of with_lease refusal_of nak_with sent_as has_period is_new Drawn
 request_draws s t q h m free = subst P (sym (decide_free s t q h (sent_as 3 m) free))
     (pick_cases P _ _ _ (λ _. inl (refl, refl))
     (λ _. pick_cases P (released_again s q (sent_as 3 m)) _ _ (λ e. never (sym e))
@@ -174,8 +171,8 @@ module _ (b : Book) (c : Call) where
 
     -- the identifier has no hold
     none_held : NoHold b c → Free t h m
-    unfolding recorded_of holds_of sent_as
-    none_held free = ap (λ (f : Fields). is_held (recorded_of (own_of t h) f) (holds_of (own_of t h) f)) (sym k.discover) ∙ free
+    unfolding sent_as
+    none_held free = ap (λ (f : Fields). is_held (found_of (own_of t h) f)) (sym k.discover) ∙ free
 
     decided : NoHold b c → Pair discovered asked
     unfolding resent

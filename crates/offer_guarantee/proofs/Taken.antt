@@ -40,7 +40,7 @@ use Rattle.decision.specs.declared.Decided.{Decided}
 use Rattle.decision.specs.declared.Reply.{Reply}
 use Rattle.decision.specs.declared.Reply.TheVariants.{Nothing, Offer, LeaseAck, ReleaseAck, InfoAck, Nak}
 use Rattle.decision.specs.declared.Verdict.{Verdict}
-use Rattle.admission.specs.Tests.{bad_counts, early1_of, error1_of, error2_of, held_already, holds_of, is_held, is_leased, is_new, knows_scope, lease_id_in, own_of, recorded_of, same_scope}
+use Rattle.admission.specs.Tests.{bad_counts, early1_of, error1_of, error2_of, held_already, is_held, is_leased, is_new, knows_scope, lease_id_in, own_of, recorded_of, same_scope, found_in, found_of}
 use Rattle.admission.specs.laws.Code.{knows_place}
 use Rattle.proposal.specs.Proposals.{default_lease, held_from, hold_meets, lease_from, meets, new_of, length_of, turned}
 use Rattle.decision.specs.Verdicts.{with_lease}
@@ -60,18 +60,29 @@ use Rattle.guarantee.proofs.Kept.{call_sound, now_sound, run_sound}
 use Rattle.guarantee.proofs.Proposed as proposed
 use Rattle.guarantee.proofs.Ranges.{ack_names, named_head, offer_names, pool_fits}
 use Rattle.guarantee.proofs.Reached.{Reaches, decided_there, reaches}
+use Rattle.std.specs.Prelude.{Option, Some, None, is_some, unwrap_or, ◌∷◌}
+use Rattle.admission.specs.laws.Found.{found_at, found_there}
 
 -- ---- a record by its identifier
 module _ (h : ℕ) (i : List ℕ) (o : Lease) (t : LeaseTable) (m : Fields) (e : lease_id_in m ≡ i) (has : Has h i o t) where
-  pub has_record : recorded_of (own_of t h) m ≡ o
-  unfolding recorded_of
-  has_record =
-      place_first (lease_id_in m) (own_of t h) ∙ ap (λ (j : List ℕ). lease_at (filter_by (named j) (own_of t h)) 0) e ∙ ap (λ (l : List Lease). lease_at l 0) has
+  pub has_found : found_of (own_of t h) m ≡ Some o
+  unfolding found_in pick
+  has_found =
+      ap₂ {C = Option Lease} (λ (b : Bool) (l : Lease). pick b (Some l) None)
+      (place_some (lease_id_in m) (own_of t h) ∙ ap (λ (j : List ℕ). ltb 0 (length (filter_by (named j) (own_of t h)))) e ∙ ap (λ (l : List Lease). ltb 0 (length l)) has)
+      (place_first (lease_id_in m) (own_of t h) ∙ ap (λ (j : List ℕ). lease_at (filter_by (named j) (own_of t h)) 0) e ∙ ap (λ (l : List Lease). lease_at l 0) has)
 
-  pub has_there : holds_of (own_of t h) m ≡ true
-  unfolding holds_of
-  has_there =
-      place_some (lease_id_in m) (own_of t h) ∙ ap (λ (j : List ℕ). ltb 0 (length (filter_by (named j) (own_of t h)))) e ∙ ap (λ (l : List Lease). ltb 0 (length l)) has
+  pub has_record : recorded_of (own_of t h) m ≡ o
+  has_record = ap (λ (x : Option Lease). unwrap_or x zero_lease) has_found
+
+  pub has_there : is_some (found_of (own_of t h) m) ≡ true
+  has_there = ap (λ (x : Option Lease). is_some x) has_found
+
+-- a record that is a hold
+held_by : (o : Option Lease) → is_some o ≡ true → is_hold (unwrap_or o zero_lease) ≡ true → is_held o ≡ true
+unfolding is_held
+held_by (Some l) e f = f
+held_by None e f = e
 
 -- ---- what an OFFER leaves
 offer_only : (s : State) (names : List ℕ) (h : ℕ) (m : Fields) (v : Verdict) (k : Reply) → get_or (by_reply s names h m v k) 1 0 ≡ 2 → k ≡ Offer
@@ -143,10 +154,10 @@ module _ (b : Book) (d : Call) (v : SoundBook b) (discovers : Discovers d) (offe
   module _ (f : Fresh (state_at b d) (table_at b d) (tenant_for b d) (says_of b d) (decided_for (book_at b d) (tenant_for b d) (says_of b d))) where
     pub ours : knows_scope s m ≡ true
     unfolding is_new
-    ours = (passed s m (recorded_of (own_of t h) m) (holds_of (own_of t h) m) f.error1).scope (ap (λ (k : ℕ). eqb k 1 || eqb k 3) discover)
+    ours = (passed s m (found_of (own_of t h) m) f.error1).scope (ap (λ (k : ℕ). eqb k 1 || eqb k 3) discover)
 
     pub good : bad_counts m ≡ false
-    good = (passed s m (recorded_of (own_of t h) m) (holds_of (own_of t h) m) f.error1).counts
+    good = (passed s m (found_of (own_of t h) m) f.error1).counts
 
     pub left : proposed.Left s t h m S reached.house ours good
     left = proposed.leaves s t h m S reached.house ours good f.error0
@@ -176,9 +187,8 @@ module _ (b : Book) (d : Call) (v : SoundBook b) (discovers : Discovers d) (offe
     fresh_own = ap (λ (a : Answer). own_of a.book.table h) fresh_served ∙ entered t h (hold_for b d) there left.left
 
     fresh_has : Has h i (hold_for b d) (serve_of b d).book.table
-    unfolding holds_of
     fresh_has =
-        ap (filter_by (named i)) fresh_own ∙ inserted_own ordered (hold_for b d) (own_of t h) (none_named i (own_of t h) f.none)
+        ap (filter_by (named i)) fresh_own ∙ inserted_own ordered (hold_for b d) (own_of t h) (none_named i (own_of t h) (sym (found_there i (own_of t h)) ∙ f.none))
 
     fresh_reply : (serve_of b d).reply ≡ offer_of (head_of s m) (terms_of s (with_lease Offer (hold_for b d)))
     unfolding reply_of with_lease
@@ -213,13 +223,14 @@ module _ (b : Book) (d : Call) (v : SoundBook b) (discovers : Discovers d) (offe
     again_served = served ∙ ap (answered (book_at b d) h m) f.is
 
     again_has : Has h i O (serve_of b d).book.table
-    unfolding recorded_of holds_of pair_ok
+    unfolding pair_ok
     again_has =
         ap (λ (a : Answer). filter_by (named i) (own_of a.book.table h)) again_served
         ∙ ap (λ (x : LeaseTable). filter_by (named i) (own_of x h)) (applied_none t h)
         ∙ one_named i (own_of t h)
         (and_parts (pairs_by differ (own_of t h)) (pairs_by compatible (own_of t h)) (sym (pairs_and differ compatible (own_of t h)) ∙ ap (pairs_by pair_ok) (own_is t h) ∙ pairs_at s (leases_of t) S h)).0
-        (ltb-true (place_of i (own_of t h)) (length (own_of t h)) f.there)
+        (ltb-true (place_of i (own_of t h)) (length (own_of t h)) (sym (found_there i (own_of t h)) ∙ f.there))
+        ∙ ap (λ (l : Lease). l ∷ []) (sym (found_at i (own_of t h)))
 
     again_leaves : Leaves b d O
     unfolding reply_of with_lease
@@ -230,8 +241,7 @@ module _ (b : Book) (d : Call) (v : SoundBook b) (discovers : Discovers d) (offe
 
   -- without a hold it is a new one
   pub is_fresh : NoHold b d → Fresh s t h m D
-  unfolding is_held
-  is_fresh free = ⊎_elim (λ f. f) (λ f. no (sym (and_both f.there f.waits.hold) ∙ free)) comes
+  is_fresh free = ⊎_elim (λ f. f) (λ f. no (sym (held_by (found_of (own_of t h) m) f.there f.waits.hold) ∙ free)) comes
 
 pub offer_holds : OfferHolds
 unfolding OfferHolds
@@ -309,8 +319,7 @@ module _ (b : Book) (d : Call) (v : SoundBook b) (discovers : Discovers d) (offe
       decided_there w r arrives
       ∙ ap (answered (book_at w r) (tenant_for w r) (says_of w r))
       (taken_up (state_at w r) (says_of w r) o waits request (table_at w r) (remembered (releases_at (book_at w r).memory (tenant_for w r))) (tenant_for w r)
-      (has_record (tenant_for w r) (lease_id_in (says_of w r)) o (table_at w r) (says_of w r) refl has_now)
-      (has_there (tenant_for w r) (lease_id_in (says_of w r)) o (table_at w r) (says_of w r) refl has_now) current)
+      (has_found (tenant_for w r) (lease_id_in (says_of w r)) o (table_at w r) (says_of w r) refl has_now) current)
 
   -- ---- the record afterwards
   W : Sound (state_at w r) (leases_of (table_at w r))
@@ -322,11 +331,10 @@ module _ (b : Book) (d : Call) (v : SoundBook b) (discovers : Discovers d) (offe
       ∙ held_named (state_at w r) (table_at w r) (tenant_for w r) (says_of w r) (has_there (tenant_for w r) (lease_id_in (says_of w r)) o (table_at w r) (says_of w r) refl has_now)
 
   few : length (remove_of (id_of o) (own_of (table_at w r) (tenant_for w r))) < 16
-  unfolding holds_of
   few =
       let e : length (own_of (table_at w r) (tenant_for w r)) ≡ length (get_or (leases_of (table_at w r)) (tenant_for w r) []) = ap length (own_is (table_at w r) (tenant_for w r)) in
       let n = few_at (state_at w r) (leases_of (table_at w r)) W (tenant_for w r) in
-      let p = removed_fewer (lease_id_in (says_of w r)) (own_of (table_at w r) (tenant_for w r)) (ltb-true _ _ (has_there (tenant_for w r) (lease_id_in (says_of w r)) o (table_at w r) (says_of w r) refl has_now)) in
+      let p = removed_fewer (lease_id_in (says_of w r)) (own_of (table_at w r) (tenant_for w r)) (ltb-true _ _ (sym (found_there (lease_id_in (says_of w r)) (own_of (table_at w r) (tenant_for w r))) ∙ has_there (tenant_for w r) (lease_id_in (says_of w r)) o (table_at w r) (says_of w r) refl has_now)) in
       let z : length (remove_of (id_of o) (own_of (table_at w r) (tenant_for w r))) ≡ length (remove_of (lease_id_in (says_of w r)) (own_of (table_at w r) (tenant_for w r))) = ap (λ (j : List ℕ). length (remove_of j (own_of (table_at w r) (tenant_for w r)))) named_so in
       omega arith
 
@@ -341,14 +349,14 @@ module _ (b : Book) (d : Call) (v : SoundBook b) (discovers : Discovers d) (offe
   left_is : hold_left b d ≡ o
   left_is = has_record (tenant_for b d) (lease_id_in (says_of b d)) o (serve_of b d).book.table (says_of b d) refl l.has
 
-  none_early : error1_of (state_at b d) (says_of b d) zero_lease false ≡ false
+  none_early : error1_of (state_at b d) (says_of b d) None ≡ false
   unfolding error1_of held_already is_new is_leased is_held
   none_early =
-      ap (λ (e : Bool). e || held_already (state_at b d) (says_of b d) zero_lease false) l.waits.early
-      ∙ ap (λ (n : ℕ). ((eqb n 1 || eqb n 3) && false) || (eqb n 1 && (false && not (same_scope (state_at b d) (says_of b d) zero_lease)))) (discover b d v discovers offered)
+      ap (λ (e : Bool). e || held_already (state_at b d) (says_of b d) None) l.waits.early
+      ∙ ap (λ (n : ℕ). ((eqb n 1 || eqb n 3) && false) || (eqb n 1 && (false && not (same_scope (state_at b d) (says_of b d) None)))) (discover b d v discovers offered)
 
-  ok : Passed (state_at b d) (says_of b d) zero_lease false
-  ok = passed (state_at b d) (says_of b d) zero_lease false none_early
+  ok : Passed (state_at b d) (says_of b d) None
+  ok = passed (state_at b d) (says_of b d) None none_early
 
   known_place : place_for b d < scopes_in (state_at b d)
   unfolding is_new

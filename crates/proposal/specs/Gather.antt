@@ -1,5 +1,5 @@
 -- Definitions: for the code, which has no table: what a lease would be, by one tenant's leases `own` and what all tenants hold, and what its loops gather.
-use Rattle.std.specs.Prelude.{ℕ, Bool, ◌&&◌, List, ltb, length}
+use Rattle.std.specs.Prelude.{ℕ, Bool, ◌&&◌, Option, List, ltb, length}
 use Rattle.lists.specs.Pick.{pick}
 use Rattle.message.specs.declared.Fields.{Fields}
 use Rattle.state.specs.declared.Lease.{Lease}
@@ -46,5 +46,5 @@ proposal_in s own held h m l = pick (is_new m) (new_in s own held h m) (renewed_
 -- ---- what is brought to the grant rule
 -- the tenant's records without the hold that the message drops. `held` still has its addresses: they are of another scope than the one asked for, but where the
 -- hold is in the same scope, and there the decision (`judged_of`) does not look at what is asked for
-unfoldable pub brought_in : List Lease → Fields → Lease → Bool → List Lease
-brought_in own m o there = pick (drops_hold m o there) (remove_of (lease_id_in m) own) own
+unfoldable pub brought_in : List Lease → Fields → Option Lease → List Lease
+brought_in own m o = pick (drops_hold m o) (remove_of (lease_id_in m) own) own

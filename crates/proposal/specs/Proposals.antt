@@ -125,8 +125,8 @@ unfoldable pub turned : Fields → Lease → Lease
 turned m o = lease_with o.scope o.id_len o.id 3 m.xid o.start o.end o.addresses
 
 -- the book that such a REQUEST "brings to the grant rule": without the hold
-unfoldable pub brought_by : LeaseTable → ℕ → Fields → Lease → Bool → LeaseTable
-brought_by b h m o there = pick (drops_hold m o there) (updated b h (remove_of (lease_id_in m) (own_of b h))) b
+unfoldable pub brought_by : LeaseTable → ℕ → Fields → Option Lease → LeaseTable
+brought_by b h m o = pick (drops_hold m o) (updated b h (remove_of (lease_id_in m) (own_of b h))) b
 
 -- "An OFFER now leaves a hold: addresses and period as a lease has them, lapsing when the clock reaches thirty seconds after it, or the period's end if that is
 -- sooner". l is what is offered, with the DISCOVER's type and transaction id

@@ -221,10 +221,10 @@ pub fn hold_from(clock: u32, l: Lease) -> Lease
 }
 
 // The records of the tenant that a message brings to the grant rule: without the hold that it drops.
-pub fn brought(own: TenantLeases, m: Fields, old: Lease, there: bool) -> TenantLeases
-    ensures { in_use result ≡ brought_in (in_use own) m old there }
+pub fn brought(own: TenantLeases, m: Fields, old: Option<Lease>) -> TenantLeases
+    ensures { in_use result ≡ brought_in (in_use own) m old }
 {
-    if admission::drops_hold(m, old, there) {
+    if admission::drops_hold(m, old) {
         return state::remove(own, m.id.octets, m.id.len);
     }
     own

@@ -1,10 +1,10 @@
--- `same_scope` meets its contract: by the definition.
-use Rattle.lists.specs.laws.Both.{and_false, and_true, ands, joins, or_false, or_true, ors}
-use Rattle.admission.specs.Tests.{same_scope}
-use Rattle.admission.specs.laws.Code.{not_got}
+-- `same_scope` meets its contract: the test of the record, where it is there.
+use Rattle.admission.specs.Tests.{same_scope, scope_in, scope_number, scope_place}
+use Rattle.admission.specs.laws.Code.{there_got}
+use Rattle.std.specs.Prelude.{eqb}
 use Rattle.std.proofs.Common.{rules}
 use Rattle.admission.proofs.same_scope.Goals as goal
 
 pub returns : goal.returns
 unfolding same_scope
-returns c = search (joins, ands, ors, and_true, and_false, or_true, or_false, not_got, rules)
+returns c = there_got (λ l. eqb l.scope (scope_number (scope_place c.args.s (scope_in c.args.m)))) c.args.old _ c.is_some_and.ensures (λ x p. search rules)

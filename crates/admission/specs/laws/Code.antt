@@ -12,9 +12,9 @@ use Rattle.admission.specs.Tests.{there_and, scope_in, scope_place, knows_scope}
 pub not_got : {q t : Bool} → q ≡ t → not q ≡ not t
 not_got e = ap not e
 
--- ---- options of four octets
+-- ---- a value that is there
 -- what `is_some_and` says: P is what its closure ensures
-pub there_got : {P : ℕ → Type 0} (t : ℕ → Bool) (o : Option ℕ) (r : Bool) → MatchOption o (r ≡ false) P → ((x : ℕ) → P x → r ≡ t x) → r ≡ there_and t o
+pub there_got : {A : Type 0} {P : A → Type 0} (t : A → Bool) (o : Option A) (r : Bool) → MatchOption o (r ≡ false) P → ((x : A) → P x → r ≡ t x) → r ≡ there_and t o
 there_got t None r e f = e
 there_got t (Some x) r e f = f x e
 

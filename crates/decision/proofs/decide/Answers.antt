@@ -18,5 +18,5 @@ overflow_add-before c = let p = c.look_up_if-first.ensures.1 in
     search (p, q, rules)
 
 pub returns : goal.returns
-returns c = judged_is _ _ _ _ _ _ c.asks_resend.ensures c.look_up_if-first.ensures.0 c.is_resend.ensures c.if-is_resend.false c.is_released_again.ensures c.if-is_released_again.false c.early_1.ensures
+returns c = judged_is _ _ _ _ _ _ c.asks_resend.ensures c.look_up_if-first.ensures.0 (search rules) c.if-is_resend.false c.is_released_again.ensures c.if-is_released_again.false c.early_1.ensures
     c.count_with-2.ensures c.judge-d.ensures c.look_up_if-second.ensures.0 c.asks_identifier.ensures c.if-early_1.false

@@ -11,4 +11,4 @@ pub returns-in-Some : goal.returns-in-Some
 returns-in-Some c = found_is _ c.args.own _ (search (unmapped, rules)) c.find-x.ensures c.in-Some.is
 
 pub returns-in-None : goal.returns-in-None
-returns-in-None c = absent_is _ c.args.own _ (search (unmapped, rules)) c.find-x.ensures _ c.in-None.is c.no_lease.ensures
+returns-in-None c = absent_is _ c.args.own _ (search (unmapped, rules)) c.find-x.ensures c.in-None.is

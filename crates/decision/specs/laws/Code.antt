@@ -1,6 +1,8 @@
 -- Laws: between the decision and the code.
-use Rattle.std.specs.Prelude.{ℕ, Bool, true, false, ◌||◌, List, ◌≡◌, refl}
+use Rattle.std.specs.Prelude.{ℕ, Bool, true, false, ◌&&◌, ◌||◌, eqb, Option, Some, None, unwrap_or, List, ◌≡◌, refl}
+use Rattle.lists.specs.Pick.{pick}
 use Rattle.message.specs.declared.Fields.{Fields}
+use Rattle.state.specs.Book.{is_hold, zero_lease}
 use Rattle.state.specs.Edit.{dropping_first, entering, giving_way}
 use Rattle.state.specs.declared.Lease.{Lease}
 use Rattle.state.specs.declared.State.{State}
@@ -12,7 +14,7 @@ use Rattle.decision.specs.declared.Reply.TheVariants.{Nothing, Offer, LeaseAck, 
 use Rattle.std.proofs.Common.{ap, ap₂, ◌∙◌, arith}
 use Rattle.state.specs.declared.Edit.{Edit}
 use Rattle.decision.specs.declared.Decided.{Decided}
-use Rattle.admission.specs.Tests.{drops_hold}
+use Rattle.admission.specs.Tests.{dropped_of, drops_hold, is_held}
 use Rattle.decision.specs.Verdicts.{with_lease}
 use Rattle.proposal.specs.Gather.{proposal_in, brought_in}
 use Rattle.decision.specs.Decide.{unchanged, changed, leased_of, settled_of, dropped_first}
@@ -48,15 +50,30 @@ gave_way {o = o} {l = l} p q e = e ∙ ap (λ (x : Edit). changed x (with_lease 
 pub drop_before_is : (o : Lease) (d : Decided) (e : Edit) (v : Verdict) → e ≡ dropping_first o d.edit → v ≡ d.verdict → ◌≡◌ {A = Decided} (record { verdict = v; edit = e }) (changed (dropping_first o d.edit) d.verdict)
 drop_before_is o d e v p q = cc
 
+-- where a hold is dropped it is the record, and where none is the decision stands as it is
+pub dropped_is : (m : Fields) (o : Option Lease) (d : Decided) → dropped_first (dropped_of m o) d ≡ pick (drops_hold m o) (changed (dropping_first (unwrap_or o zero_lease) d.edit) d.verdict) d
+unfolding dropped_first dropped_of drops_hold is_held pick
+dropped_is m None d = go (eqb m.kind 3)
+  where
+    go : (b : Bool) → dropped_first (pick (b && false) None None) d ≡ pick (b && false) (changed (dropping_first zero_lease d.edit) d.verdict) d
+    go true = refl
+    go false = refl
+dropped_is m (Some l) d = go (eqb m.kind 3 && is_hold l)
+  where
+    go : (b : Bool) → dropped_first (pick b (Some l) None) d ≡ pick b (changed (dropping_first l d.edit) d.verdict) d
+    go true = refl
+    go false = refl
+
 pub leased_is : (s : State) (m : Fields) (o l l' : Lease) (r : Decided) → l ≡ l' → r ≡ leased_of s m o l → r ≡ leased_of s m o l'
 leased_is s m o l l' r e p = p ∙ ap (leased_of s m o) e
 
 -- what is asked for, on the records that the message brings to the grant rule
-pub lease_is : (s : State) (own rest : List Lease) (held : HeldTable) (h : ℕ) (m : Fields) (o : Lease) (there drops : Bool) (p : Proposal) (d r : Decided)
-    → rest ≡ brought_in own m o there → p ≡ proposal_in s rest held h m o → d ≡ settled_of s m o p → drops ≡ drops_hold m o there → r ≡ dropped_first drops o d
-    → r ≡ dropped_first (drops_hold m o there) o (settled_of s m o (proposal_in s (brought_in own m o there) held h m o))
-lease_is s own rest held h m o there drops p d r a b c e f =
-    f ∙ ap₂ (λ (x : Bool) (y : Decided). dropped_first x o y) e (c ∙ ap (settled_of s m o) (b ∙ ap (λ (x : List Lease). proposal_in s x held h m o) a))
+pub lease_is : (s : State) (own rest : List Lease) (held : HeldTable) (h : ℕ) (m : Fields) (o : Option Lease) (l : Lease) (dropped : Option Lease) (p : Proposal) (d r : Decided)
+    → l ≡ unwrap_or o zero_lease → rest ≡ brought_in own m o → p ≡ proposal_in s rest held h m l → d ≡ settled_of s m l p → dropped ≡ dropped_of m o → r ≡ dropped_first dropped d
+    → r ≡ dropped_first (dropped_of m o) (settled_of s m (unwrap_or o zero_lease) (proposal_in s (brought_in own m o) held h m (unwrap_or o zero_lease)))
+lease_is s own rest held h m o l dropped p d r k a b c e f =
+    f ∙ ap₂ dropped_first e (c ∙ ap (settled_of s m l) (b ∙ ap (λ (x : List Lease). proposal_in s x held h m l) a))
+    ∙ ap (λ (x : Lease). dropped_first (dropped_of m o) (settled_of s m x (proposal_in s (brought_in own m o) held h m x))) k
 
 -- ---- what the tests say when they pass
 pub no : {A : Type 0} → true ≡ false → A

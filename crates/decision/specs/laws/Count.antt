@@ -1,5 +1,5 @@
 -- Laws: a test that does not ask for the identifier goes by no record as by the record, error 1 is tested in two steps, and a lookup compares few.
-use Rattle.std.specs.Prelude.{ℕ, ◌≤◌, min, Bool, not, ◌&&◌, ◌||◌, List, ◌≡◌, eqb, length}
+use Rattle.std.specs.Prelude.{ℕ, ◌≤◌, min, Bool, not, ◌&&◌, ◌||◌, Option, unwrap_or, List, ◌≡◌, eqb, length}
 use Rattle.std.proofs.Math.Bool.{true, false}
 use Rattle.std.proofs.Math.Path.{refl, ap}
 use Rattle.std.proofs.Common.{sym, ◌∙◌}
@@ -25,10 +25,6 @@ use Rattle.decision.specs.Gather.{looked_up, not_asked, past_early, past_errors,
 use Rattle.decision.specs.declared.Reply.TheVariants.{InfoAck, LeaseAck, ReleaseAck}
 use Rattle.decision.specs.laws.Code.{or_none}
 
--- where none is asked for
-pub none_asked : (z : Lease) → z ≡ zero_lease → ◌≡◌ {A = Recorded} (record { found = false; lease = z; compared = 0 }) not_asked
-none_asked z e = ap {B = Recorded} (λ (l : Lease). record { found = false; lease = l; compared = 0 }) e
-
 -- what a lookup compared, made or not
 pub looked_count : (b : Bool) (own : List Lease) (m : Fields) → (looked_up b own m).compared ≡ lookup_count b own m
 unfolding looked_up lookup_count recorded_in pick
@@ -36,29 +32,29 @@ looked_count true own m = refl
 looked_count false own m = refl
 
 -- the resend test
-pub resends_asked : (own : List Lease) (m : Fields) → resends m (looked_up (asks_resend m) own m).lease ≡ resends m (recorded_of own m)
-unfolding resends looked_up recorded_in recorded_of pick
+pub resends_asked : (own : List Lease) (m : Fields) → resends m (unwrap_or (looked_up (asks_resend m) own m).lease zero_lease) ≡ resends m (recorded_of own m)
+unfolding resends looked_up recorded_in pick
 resends_asked own m = go (asks_resend m) refl
   where
     same : Lease → Bool
     same l = eqb l.kind m.kind && eqb l.xid m.xid
 
-    go : (b : Bool) → asks_resend m ≡ b → (asks_resend m && same (pick b (recorded_in (lease_id_in m) own) not_asked).lease) ≡ (asks_resend m && same (recorded_of own m))
+    go : (b : Bool) → asks_resend m ≡ b → (asks_resend m && same (unwrap_or (pick b (recorded_in (lease_id_in m) own) not_asked).lease zero_lease)) ≡ (asks_resend m && same (recorded_of own m))
     go true e = refl
-    go false e = ap (λ (b : Bool). b && same not_asked.lease) e ∙ sym (ap (λ (b : Bool). b && same (recorded_of own m)) e)
+    go false e = ap (λ (b : Bool). b && same zero_lease) e ∙ sym (ap (λ (b : Bool). b && same (recorded_of own m)) e)
 
 -- where it holds, it has asked for the record
-pub lease_asked : (own : List Lease) (m : Fields) → resends m (recorded_of own m) ≡ true → (looked_up (asks_resend m) own m).lease ≡ recorded_of own m
-unfolding resends looked_up recorded_in recorded_of pick
-lease_asked own m e = ap (λ (b : Bool). (pick b (recorded_in (lease_id_in m) own) not_asked).lease) (and_parts (asks_resend m) _ e).0
+pub lease_asked : (own : List Lease) (m : Fields) → resends m (recorded_of own m) ≡ true → unwrap_or (looked_up (asks_resend m) own m).lease zero_lease ≡ recorded_of own m
+unfolding resends looked_up recorded_in pick
+lease_asked own m e = ap (λ (b : Bool). unwrap_or (pick b (recorded_in (lease_id_in m) own) not_asked).lease zero_lease) (and_parts (asks_resend m) _ e).0
 
 -- from error 1's last test on: a message of which neither error 1 nor error 3 asks a record draws error 2, or it is a GETINFO
-module _ (s : State) (m : Fields) (first : eqb m.kind 1 ≡ false) (third : eqb m.kind 3 ≡ false) (p : Proposal) (o : Lease) (there : Bool) where
-  early_2 : error2_of s m ≡ true → past_early s p m o there ≡ unchanged (refusal_of m 2)
+module _ (s : State) (m : Fields) (first : eqb m.kind 1 ≡ false) (third : eqb m.kind 3 ≡ false) (p : Proposal) (o : Option Lease) where
+  early_2 : error2_of s m ≡ true → past_early s p m o ≡ unchanged (refusal_of m 2)
   unfolding past_early held_already is_new pick
   early_2 e = rw (first, third, e) refl
 
-  informs : error2_of s m ≡ false → eqb m.kind 4 ≡ false → eqb m.kind 7 ≡ false → past_early s p m o there ≡ unchanged (plain_reply InfoAck)
+  informs : error2_of s m ≡ false → eqb m.kind 4 ≡ false → eqb m.kind 7 ≡ false → past_early s p m o ≡ unchanged (plain_reply InfoAck)
   unfolding past_early past_errors held_already error3_of is_for_hold has_period is_new plain_of pick
   informs e fourth seventh = rw (first, third, e, fourth, seventh) refl
 
@@ -67,22 +63,22 @@ and_all true = refl
 and_all false = refl
 
 pub named_asked : (s : State) (own : List Lease) (m : Fields) (p : Recorded → Proposal) → let x = looked_up (asks_identifier s m) own m in let y = recorded_in (lease_id_in m) own in
-    past_early s (p x) m x.lease x.found ≡ past_early s (p y) m y.lease y.found
+    past_early s (p x) m x.lease ≡ past_early s (p y) m y.lease
 unfolding looked_up asks_identifier is_new pick
 named_asked s own m p = go (asks_identifier s m) refl
   where
     at : Recorded → Decided
-    at x = past_early s (p x) m x.lease x.found
+    at x = past_early s (p x) m x.lease
 
     y : Recorded
     y = recorded_in (lease_id_in m) own
 
     by_2 : (is_new m ≡ false) → (b : Bool) → error2_of s m ≡ b → ((eqb m.kind 4 || eqb m.kind 7) && not b) ≡ false → at not_asked ≡ at y
-    by_2 n true e k = let z = or_none (eqb m.kind 1) (eqb m.kind 3) n in early_2 s m z.0 z.1 _ _ _ e ∙ sym (early_2 s m z.0 z.1 _ _ _ e)
+    by_2 n true e k = let z = or_none (eqb m.kind 1) (eqb m.kind 3) n in early_2 s m z.0 z.1 _ _ e ∙ sym (early_2 s m z.0 z.1 _ _ e)
     by_2 n false e k =
         let z = or_none (eqb m.kind 1) (eqb m.kind 3) n in
         let u = or_none (eqb m.kind 4) (eqb m.kind 7) (sym (and_all (eqb m.kind 4 || eqb m.kind 7)) ∙ k) in
-        informs s m z.0 z.1 _ _ _ e u.0 u.1 ∙ sym (informs s m z.0 z.1 _ _ _ e u.0 u.1)
+        informs s m z.0 z.1 _ _ e u.0 u.1 ∙ sym (informs s m z.0 z.1 _ _ e u.0 u.1)
 
     go : (b : Bool) → asks_identifier s m ≡ b → at (pick b y not_asked) ≡ at y
     go true e = refl
@@ -91,16 +87,19 @@ named_asked s own m p = go (asks_identifier s m) refl
         by_2 z.0 (error2_of s m) refl z.1
 
 -- error 1 is tested in two steps
-pub judged_steps : (s : State) (p : Proposal) (q : List Release) (m : Fields) (o : Lease) (there : Bool) → judged_of s p q m o there
-    ≡ pick (resends m o) (unchanged (with_lease LeaseAck o)) (pick (released_again s q m) (unchanged (plain_reply ReleaseAck)) (pick (early1_of s m) (unchanged (refusal_of m 1)) (past_early s p m o there)))
+pub judged_steps : (s : State) (p : Proposal) (q : List Release) (m : Fields) (o : Option Lease) → judged_of s p q m o
+    ≡ pick (resends m (unwrap_or o zero_lease)) (unchanged (with_lease LeaseAck (unwrap_or o zero_lease))) (pick (released_again s q m) (unchanged (plain_reply ReleaseAck)) (pick (early1_of s m) (unchanged (refusal_of m 1)) (past_early s p m o)))
 unfolding judged_of past_early past_errors error1_of pick
-judged_steps s p q m o there = go (resends m o) (released_again s q m) (early1_of s m)
+judged_steps s p q m o = go (resends m l) (released_again s q m) (early1_of s m)
   where
-    rest : Decided
-    rest = pick (error2_of s m) (unchanged (refusal_of m 2)) (pick (error3_of m o there) (unchanged (refusal_of m 3)) (past_errors s p m o there))
+    l : Lease
+    l = unwrap_or o zero_lease
 
-    go : (x y z : Bool) → pick x (unchanged (with_lease LeaseAck o)) (pick y (unchanged (plain_reply ReleaseAck)) (pick (z || held_already s m o there) (unchanged (refusal_of m 1)) rest))
-        ≡ pick x (unchanged (with_lease LeaseAck o)) (pick y (unchanged (plain_reply ReleaseAck)) (pick z (unchanged (refusal_of m 1)) (pick (held_already s m o there) (unchanged (refusal_of m 1)) rest)))
+    rest : Decided
+    rest = pick (error2_of s m) (unchanged (refusal_of m 2)) (pick (error3_of m o) (unchanged (refusal_of m 3)) (past_errors s p m o))
+
+    go : (x y z : Bool) → pick x (unchanged (with_lease LeaseAck l)) (pick y (unchanged (plain_reply ReleaseAck)) (pick (z || held_already s m o) (unchanged (refusal_of m 1)) rest))
+        ≡ pick x (unchanged (with_lease LeaseAck l)) (pick y (unchanged (plain_reply ReleaseAck)) (pick z (unchanged (refusal_of m 1)) (pick (held_already s m o) (unchanged (refusal_of m 1)) rest)))
     go true y z = refl
     go false true z = refl
     go false false true = refl

@@ -4,13 +4,15 @@ use Rattle.std.specs.List.{position_or_len}
 use Rattle.std.proofs.Common.{sym, ap, ap₂, ◌∙◌, arith, lt-ltb, le-ltb, ltb-true}
 use Rattle.std.proofs.lemmas.Bool.{ltb-false}
 use Rattle.std.proofs.lemmas.Option.{none-some, same_Some}
+use Rattle.lists.specs.Pick.{pick}
 use Rattle.lists.specs.Place.{place_by}
 use Rattle.state.specs.declared.Lease.{Lease}
 use Rattle.state.specs.declared.Lookup.{Lookup}
 use Rattle.state.specs.declared.TenantLeases.{TenantLeases}
-use Rattle.state.specs.Book.{in_use, named, place_of, lookup_of, lease_at, zero_lease}
-use Rattle.state.specs.laws.Layout.{no_lease, length_in_use, lease_in_law, lease_out}
+use Rattle.state.specs.Book.{in_use, named, place_of, lookup_of, lease_at}
+use Rattle.state.specs.laws.Layout.{no_lease, length_in_use, lease_in_law}
 use Rattle.state.specs.laws.Lookup.{place_is}
+use Rattle.admission.specs.Tests.{found_in}
 use Rattle.decision.specs.declared.Recorded.{Recorded}
 use Rattle.decision.specs.Gather.{recorded_in}
 
@@ -39,8 +41,9 @@ module _ {A : Type 0} (t : A → Bool) (l : List A) where
 
 -- ---- what is looked up
 module _ (i : List ℕ) (own : TenantLeases) (x : Lookup) (g : length own.leases ≡ 16) (q : x ≡ lookup_of i (in_use own)) where
+  -- the record by the test of its place
   abbrev as_told : Lookup → Bool → Lease → Recorded
-  as_told y b l = record { found = b; lease = l; compared = y.compared }
+  as_told y b l = record { lease = pick b (Some l) None; compared = y.compared }
 
   pub found_within : {at : ℕ} → x.place ≡ Some at → at < 16
   found_within e =
@@ -48,8 +51,8 @@ module _ (i : List ℕ) (own : TenantLeases) (x : Lookup) (g : length own.leases
       let k = length_in_use own (min own.count 16) g refl in
       omega arith
 
-  pub found_is : {at : ℕ} → x.place ≡ Some at → ◌≡◌ {A = Recorded} (record { found = true; lease = get_or own.leases at no_lease; compared = x.compared }) (recorded_in i (in_use own))
-  unfolding recorded_in
+  pub found_is : {at : ℕ} → x.place ≡ Some at → ◌≡◌ {A = Recorded} (record { lease = Some (get_or own.leases at no_lease); compared = x.compared }) (recorded_in i (in_use own))
+  unfolding recorded_in found_in pick
   found_is {at} e =
       let v = place_some (named i) (in_use own) (sym (ap (λ (y : Lookup). y.place) q) ∙ e) in
       let k = length_in_use own (min own.count 16) g refl in
@@ -58,10 +61,9 @@ module _ (i : List ℕ) (own : TenantLeases) (x : Lookup) (g : length own.leases
       ap₂ (as_told x) (sym (lt-ltb (place_of i (in_use own)) (length (in_use own)) (omega arith))) (lease_in_law own (min own.count 16) at g refl (omega arith) ∙ ap (lease_at (in_use own)) p)
       ∙ ap (λ (y : Lookup). as_told y (ltb (place_of i (in_use own)) (length (in_use own))) (lease_at (in_use own) (place_of i (in_use own)))) q
 
-  pub absent_is : (z : Lease) → x.place ≡ None → z ≡ zero_lease → ◌≡◌ {A = Recorded} (record { found = false; lease = z; compared = x.compared }) (recorded_in i (in_use own))
-  unfolding recorded_in
-  absent_is z e r =
+  pub absent_is : x.place ≡ None → ◌≡◌ {A = Recorded} (record { lease = None; compared = x.compared }) (recorded_in i (in_use own))
+  unfolding recorded_in found_in pick
+  absent_is e =
       let h = place_none (named i) (in_use own) (sym (ap (λ (y : Lookup). y.place) q) ∙ e) in
-      let k = length_in_use own (min own.count 16) g refl in
-      ap₂ (as_told x) (sym (le-ltb (place_of i (in_use own)) (length (in_use own)) h)) (lease_out own (min own.count 16) (place_of i (in_use own)) z g r refl (omega arith))
+      ap (λ (b : Bool). as_told x b (lease_at (in_use own) (place_of i (in_use own)))) (sym (le-ltb (place_of i (in_use own)) (length (in_use own)) h))
       ∙ ap (λ (y : Lookup). as_told y (ltb (place_of i (in_use own)) (length (in_use own))) (lease_at (in_use own) (place_of i (in_use own)))) q

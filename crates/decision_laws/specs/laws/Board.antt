@@ -23,7 +23,7 @@ use Rattle.decision.specs.declared.Decided.{Decided}
 use Rattle.proposal.specs.Proposals.{held_from}
 use Rattle.admission.specs.Tests.{own_of}
 use Rattle.decision.specs.Decide.{decide_of}
-use Rattle.decision_laws.specs.laws.Cases.{decided_by, held_there, leased_there, new_for, old_for, there_for}
+use Rattle.decision_laws.specs.laws.Cases.{decided_by, found_for, held_there, leased_there, new_for, old_for, there_for}
 use Rattle.decision_laws.specs.laws.Kept.{GoodId, decided_sound, held_named, held_out, held_room, new_room}
 
 module _ (s : State) (b : LeaseTable) (h : ℕ) (m : Fields) (v : Sound s (leases_of b)) where
@@ -56,13 +56,13 @@ module _ (s : State) (b : LeaseTable) (h : ℕ) (m : Fields) (v : Sound s (lease
     again = none;
     refused = λ e. none;
     repeated = λ k held. none;
-    taken = λ k held. leaves _ _ _ (held_there (old_for b h m) (there_for b h m) held);
+    taken = λ k held. leaves _ _ _ (held_there (found_for b h m) held);
     offered = λ k ok free e. enters (held_from s.clock (new_for s b h m)) (new_room s b h m e);
     requested = λ k ok free e. enters (new_for s b h m) (new_room s b h m e);
-    dropped = λ k held. leaves _ _ _ (held_there (old_for b h m) (there_for b h m) held);
-    moved = λ k ok held e. leaves _ _ _ (held_there (old_for b h m) (there_for b h m) held);
-    renewed = λ k ok leased e. leaves _ _ _ (leased_there (old_for b h m) (there_for b h m) leased);
-    released = λ k leased. leaves _ _ _ (leased_there (old_for b h m) (there_for b h m) leased);
+    dropped = λ k held. leaves _ _ _ (held_there (found_for b h m) held);
+    moved = λ k ok held e. leaves _ _ _ (held_there (found_for b h m) held);
+    renewed = λ k ok leased e. leaves _ _ _ (leased_there (found_for b h m) leased);
+    released = λ k leased. leaves _ _ _ (leased_there (found_for b h m) leased);
     informed = none;
   }) q
 

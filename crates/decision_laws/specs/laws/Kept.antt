@@ -1,7 +1,7 @@
 -- Laws: a decision keeps a sound book sound: a grant is held or recorded, a hold becomes a lease or is dropped, a lease is renewed or released, or nothing
 -- changes.
 use Prim.Native.Nat.{ℕ, zero, suc, ◌+◌, ◌-◌, ◌≤◌, ◌<◌, min}
-use Rattle.std.specs.Prelude.{◌≡◌, Bool, true, false, not, ◌&&◌, ◌||◌, Option, Some, None, unwrap_or, leb, get_or, set}
+use Rattle.std.specs.Prelude.{◌≡◌, Bool, true, false, not, ◌&&◌, ◌||◌, Option, Some, None, unwrap_or, leb, get_or, set, is_some}
 use Rattle.std.proofs.Math.Path.{refl, ap, subst}
 use Rattle.std.proofs.Common.{sym, ◌∙◌, length-set, get_or-set_same, set-set}
 use mathlib.Core.List.{List, [], ◌∷◌}
@@ -49,12 +49,13 @@ use Rattle.allocation.specs.laws.Granted.{busy_here}
 use Rattle.allocation.specs.laws.Kept.{compatible_within, bits_disjoint, grant_offsets, grant_some, sound_granted}
 use Rattle.decision.specs.declared.Decided.{Decided}
 use Rattle.proposal.specs.Proposals.{default_lease, longest_lease, start_of, length_of, end_of, ask_at, fits_new, new_with, new_at, new_of, others_busy, fits_renewed, renewed_to, renewed_of, error0_of, lease_from, updated, turned, held_from}
-use Rattle.admission.specs.Tests.{is_new, own_of, lease_id_in, holds_of, recorded_of, scope_in, scope_place, there_and, zero_length, bad_counts}
+use Rattle.admission.specs.laws.Found.{found_at, found_there}
+use Rattle.admission.specs.Tests.{is_new, own_of, lease_id_in, recorded_of, scope_in, scope_place, there_and, zero_length, bad_counts, found_of}
 use Rattle.admission.specs.laws.Code.{knows_place}
 use Rattle.decision.specs.Decide.{decide_of}
 use Rattle.proposal.specs.declared.Proposal.{Proposal}
 use Rattle.decision.specs.laws.Code.{no, or_none}
-use Rattle.decision_laws.specs.laws.Cases.{Passed, inside, new_known, new_type, leased_there, held_there, old_for, there_for, new_for, renewed_for, without, decided_by}
+use Rattle.decision_laws.specs.laws.Cases.{Passed, inside, new_known, new_type, leased_there, found_for, held_there, old_for, there_for, new_for, renewed_for, without, decided_by}
 
 -- ---- a tenant's leases, read and written
 pub own_is : (b : LeaseTable) (h : ℕ) → own_of b h ≡ get_or (leases_of b) h []
@@ -148,28 +149,28 @@ pub record GoodId (m : Fields) : Type 0 where
   pub padded : zero_from m.id.len m.id.octets ≡ true
 
 -- ---- the record that a tenant of a sound book has of the message's identifier
-module _ (s : State) (b : LeaseTable) (h : ℕ) (m : Fields) (held : holds_of (own_of b h) m ≡ true) where
+module _ (s : State) (b : LeaseTable) (h : ℕ) (m : Fields) (held : is_some (found_of (own_of b h) m) ≡ true) where
   pub held_at : place_of (lease_id_in m) (own_of b h) < length (own_of b h)
-  unfolding holds_of
-  held_at = ltb-true (place_of (lease_id_in m) (own_of b h)) (length (own_of b h)) held
+  held_at = ltb-true (place_of (lease_id_in m) (own_of b h)) (length (own_of b h)) (sym (found_there (lease_id_in m) (own_of b h)) ∙ held)
 
   pub held_named : id_of (recorded_of (own_of b h) m) ≡ lease_id_in m
-  unfolding recorded_of
-  held_named = named_at (lease_id_in m) (own_of b h) held_at
+  held_named = ap id_of (found_at (lease_id_in m) (own_of b h)) ∙ named_at (lease_id_in m) (own_of b h) held_at
 
   pub held_good : Sound s (leases_of b) → lease_ok s (recorded_of (own_of b h) m) ≡ true
-  unfolding recorded_of
-  held_good v = at_all (lease_ok s) zero_lease (own_of b h) (place_of (lease_id_in m) (own_of b h)) held_at (ap (all_by (lease_ok s)) (own_is b h) ∙ each_at s (leases_of b) v h)
+  held_good v =
+      ap (lease_ok s) (found_at (lease_id_in m) (own_of b h))
+      ∙ at_all (lease_ok s) zero_lease (own_of b h) (place_of (lease_id_in m) (own_of b h)) held_at (ap (all_by (lease_ok s)) (own_is b h) ∙ each_at s (leases_of b) v h)
 
   -- it and the others are the tenant's records, and it is compatible with the others
   own_pairs : Sound s (leases_of b) → pairs_by pair_ok (own_of b h) ≡ true
   own_pairs v = ap (pairs_by pair_ok) (own_is b h) ∙ pairs_at s (leases_of b) v h
 
   pub held_out : Sound s (leases_of b) → Reordered (own_of b h) (recorded_of (own_of b h) m ∷ remove_of (lease_id_in m) (own_of b h))
-  unfolding recorded_of pair_ok
+  unfolding pair_ok
   held_out v =
-      taken_out (lease_id_in m) (own_of b h)
-      (and_parts (pairs_by differ (own_of b h)) (pairs_by compatible (own_of b h)) (sym (pairs_and differ compatible (own_of b h)) ∙ own_pairs v)).0 held_at
+      subst (λ (x : Lease). Reordered (own_of b h) (x ∷ remove_of (lease_id_in m) (own_of b h))) (sym (found_at (lease_id_in m) (own_of b h)))
+      (taken_out (lease_id_in m) (own_of b h)
+      (and_parts (pairs_by differ (own_of b h)) (pairs_by compatible (own_of b h)) (sym (pairs_and differ compatible (own_of b h)) ∙ own_pairs v)).0 held_at)
 
   pub held_compatible : Sound s (leases_of b) → all_by (compatible (recorded_of (own_of b h) m)) (remove_of (lease_id_in m) (own_of b h)) ≡ true
   unfolding pair_ok
@@ -204,7 +205,7 @@ module _ (s : State) (b : LeaseTable) (h : ℕ) (there : h < length b.tenants) w
 
 -- ---- DISCOVER and REQUEST for an identifier of which there is no record: a grant is held until z, or recorded (z is 0)
 module _ (s : State) (b : LeaseTable) (h : ℕ) (m : Fields) (v : Sound s (leases_of b)) (known : h < tenants_in s) (there : h < length b.tenants) (good : GoodId m)
-    (new : is_new m ≡ true) {o : Lease} {t : Bool} (ok : Passed s m o t) (free : holds_of (own_of b h) m ≡ false) (e : error0_of s m (new_of s b h m) ≡ false) (z : ℕ)
+    (new : is_new m ≡ true) {o : Option Lease} (ok : Passed s m o) (free : is_some (found_of (own_of b h) m) ≡ false) (e : error0_of s m (new_of s b h m) ≡ false) (z : ℕ)
     (marks : s.clock < (new_for s b h m).end → Marks s.clock (lapsing_at z (new_for s b h m))) where
   abbrev A : Ask
   A = ask_at s h m (scope_place s (scope_in m))
@@ -287,10 +288,10 @@ module _ (s : State) (b : LeaseTable) (h : ℕ) (m : Fields) (v : Sound s (lease
       (grant_some s (leases_of b) v (scope_place s (scope_in m)) here A scoped known_too some L L-scope L-addresses) (marks period.1)
 
   others_ok : all_by (other (id_of L)) (get_or (leases_of b) h []) ≡ true
-  unfolding holds_of lease_from
+  unfolding lease_from
   others_ok =
       ap (all_by (other (lease_id_in m))) (sym (own_is b h))
-      ∙ place_all (λ l. same_of (id_of l) (lease_id_in m)) (own_of b h) (ltb-false (place_of (lease_id_in m) (own_of b h)) (length (own_of b h)) free)
+      ∙ place_all (λ l. same_of (id_of l) (lease_id_in m)) (own_of b h) (ltb-false (place_of (lease_id_in m) (own_of b h)) (length (own_of b h)) (sym (found_there (lease_id_in m) (own_of b h)) ∙ free))
 
   room : length (get_or (leases_of b) h []) < 16
   room = let p = ltb-true (length (own_of b h)) 16 fit.0 in let q : length (own_of b h) ≡ length (get_or (leases_of b) h []) = ap length (own_is b h) in omega arith
@@ -302,7 +303,7 @@ module _ (s : State) (b : LeaseTable) (h : ℕ) (m : Fields) (v : Sound s (lease
       (sound_granted s (leases_of b) v (scope_place s (scope_in m)) here A scoped known_too some L L-scope L-addresses L-start ends (there_too s b h there) room lease_good others_ok)
 
 module _ (s : State) (b : LeaseTable) (h : ℕ) (m : Fields) (v : Sound s (leases_of b)) (known : h < tenants_in s) (there : h < length b.tenants) (good : GoodId m)
-    {o : Lease} {t : Bool} (ok : Passed s m o t) (free : holds_of (own_of b h) m ≡ false) (e : error0_of s m (new_of s b h m) ≡ false) where
+    {o : Option Lease} (ok : Passed s m o) (free : is_some (found_of (own_of b h) m) ≡ false) (e : error0_of s m (new_of s b h m) ≡ false) where
   request_sound : m.kind ≡ 3 → Sound s (leases_of (updated b h (insert_of (new_for s b h m) (own_of b h))))
   unfolding lease_from
   request_sound k = grant_sound s b h m v known there good (new_type m k refl) ok free e 0 (λ a. lease_marks s.clock (new_for s b h m) 3 k refl refl refl good.padded)
@@ -319,11 +320,11 @@ module _ (s : State) (b : LeaseTable) (h : ℕ) (m : Fields) (there : h < length
   own_without =
       ap in_use (get_or-set_same b.tenants h (laid_out (remove_of (lease_id_in m) (own_of b h))) (laid_out []) there) ∙ read_back (remove_of (lease_id_in m) (own_of b h))
 
-  free_without : holds_of (own_of (without b h m) h) m ≡ false
-  unfolding holds_of remove_of
+  free_without : is_some (found_of (own_of (without b h m) h) m) ≡ false
+  unfolding remove_of
   free_without =
       let i : List ℕ = lease_id_in m in
-      ap (λ (x : List Lease). ltb (place_of i x) (length x)) own_without
+      found_there i (own_of (without b h m) h) ∙ ap (λ (x : List Lease). ltb (place_of i x) (length x)) own_without
       ∙ le-ltb (place_of i (remove_of i (own_of b h))) (length (remove_of i (own_of b h))) (none_place (λ l. same_of (id_of l) i) (remove_of i (own_of b h)) (filter_passes (other i) (own_of b h)))
 
   there_without : h < length (without b h m).tenants
@@ -332,7 +333,7 @@ module _ (s : State) (b : LeaseTable) (h : ℕ) (m : Fields) (there : h < length
   again_is : (x : List Lease) → updated (without b h m) h x ≡ updated b h x
   again_is x = ap {B = LeaseTable} (λ (y : List TenantLeases). record { tenants = y }) (set-set b.tenants h (laid_out (remove_of (lease_id_in m) (own_of b h))) (laid_out x))
 
-  move_sound : Sound s (leases_of b) → h < tenants_in s → GoodId m → {o : Lease} {t : Bool} → Passed s m o t → m.kind ≡ 3 → error0_of s m (new_of s (without b h m) h m) ≡ false
+  move_sound : Sound s (leases_of b) → h < tenants_in s → GoodId m → {o : Option Lease} → Passed s m o → m.kind ≡ 3 → error0_of s m (new_of s (without b h m) h m) ≡ false
       → Sound s (leases_of (updated b h (insert_of (new_for s (without b h m) h m) (remove_of (lease_id_in m) (own_of b h)))))
   move_sound v known good ok k e =
       subst (λ (x : LeaseTable). Sound s (leases_of x)) (again_is (insert_of (new_for s (without b h m) h m) (remove_of (lease_id_in m) (own_of b h))))
@@ -345,7 +346,7 @@ turned_same : (m : Fields) (o x : Lease) → compatible (turned m o) x ≡ compa
 unfolding turned compatible overlaps
 turned_same m o x = refl
 
-module _ (s : State) (b : LeaseTable) (h : ℕ) (m : Fields) (v : Sound s (leases_of b)) (known : h < tenants_in s) (there : h < length b.tenants) (held : holds_of (own_of b h) m ≡ true) where
+module _ (s : State) (b : LeaseTable) (h : ℕ) (m : Fields) (v : Sound s (leases_of b)) (known : h < tenants_in s) (there : h < length b.tenants) (held : is_some (found_of (own_of b h) m) ≡ true) where
   abbrev H : Lease
   H = recorded_of (own_of b h) m
 
@@ -365,19 +366,19 @@ module _ (s : State) (b : LeaseTable) (h : ℕ) (m : Fields) (v : Sound s (lease
   turned_named = held_named s b h m held
 
   turn_sound : Sound s (leases_of (updated b h (insert_of (turned m (recorded_of (own_of b h) m)) (remove_of (lease_id_in m) (own_of b h)))))
-  unfolding recorded_of turned
+  unfolding turned
   turn_sound =
       let o = own_is b h in
       back s b h there (λ x. insert_of (turned m H) (remove_of (lease_id_in m) x))
       (sound_renewed s (leases_of b) h (lease_id_in m) (turned m H) v known (there_too s b h there) turned_named
       (subst (λ (x : List Lease). place_of (lease_id_in m) x < length x) o (held_at s b h m held))
-      (subst (λ (x : List Lease). (lease_at x (place_of (lease_id_in m) x)).scope ≡ (turned m H).scope) o refl)
-      (subst (λ (x : List Lease). (lease_at x (place_of (lease_id_in m) x)).addresses ≡ (turned m H).addresses) o refl)
+      (subst (λ (x : List Lease). (lease_at x (place_of (lease_id_in m) x)).scope ≡ (turned m H).scope) o (ap (λ (x : Lease). x.scope) (sym (found_at (lease_id_in m) (own_of b h)))))
+      (subst (λ (x : List Lease). (lease_at x (place_of (lease_id_in m) x)).addresses ≡ (turned m H).addresses) o (ap (λ (x : Lease). x.addresses) (sym (found_at (lease_id_in m) (own_of b h)))))
       turned_good (subst (λ (x : List Lease). all_by (compatible (turned m H)) (remove_of (lease_id_in m) x) ≡ true) o turned_compatible))
 
 -- ---- RENEW: the lease gives way to one of its scope and addresses
 module _ (s : State) (b : LeaseTable) (h : ℕ) (m : Fields) (v : Sound s (leases_of b)) (known : h < tenants_in s) (there : h < length b.tenants) (good : GoodId m)
-    (kind : m.kind ≡ 4) {o : Lease} {t : Bool} (ok : Passed s m o t) (held : holds_of (own_of b h) m ≡ true) (e : error0_of s m (renewed_of s b h m (recorded_of (own_of b h) m)) ≡ false) where
+    (kind : m.kind ≡ 4) {o : Option Lease} (ok : Passed s m o) (held : is_some (found_of (own_of b h) m) ≡ true) (e : error0_of s m (renewed_of s b h m (recorded_of (own_of b h) m)) ≡ false) where
   abbrev O : Lease
   O = recorded_of (own_of b h) m
 
@@ -465,14 +466,13 @@ module _ (s : State) (b : LeaseTable) (h : ℕ) (m : Fields) (v : Sound s (lease
       (busy_here O.scope F E (leases_of (updated b h (remove_of (lease_id_in m) (own_of b h)))) h a))
 
   pub renew_sound : Sound s (leases_of (updated b h (insert_of N (remove_of (lease_id_in m) (own_of b h)))))
-  unfolding recorded_of
   renew_sound =
       let o = own_is b h in
       back s b h there (λ x. insert_of N (remove_of (lease_id_in m) x))
       (sound_renewed s (leases_of b) h (lease_id_in m) N v known (there_too s b h there) N-named
       (subst (λ (x : List Lease). place_of (lease_id_in m) x < length x) o (held_at s b h m held))
-      (subst (λ (x : List Lease). (lease_at x (place_of (lease_id_in m) x)).scope ≡ N.scope) o (sym N-scope))
-      (subst (λ (x : List Lease). (lease_at x (place_of (lease_id_in m) x)).addresses ≡ N.addresses) o (sym N-addresses))
+      (subst (λ (x : List Lease). (lease_at x (place_of (lease_id_in m) x)).scope ≡ N.scope) o (ap (λ (x : Lease). x.scope) (sym (found_at (lease_id_in m) (own_of b h))) ∙ sym N-scope))
+      (subst (λ (x : List Lease). (lease_at x (place_of (lease_id_in m) x)).addresses ≡ N.addresses) o (ap (λ (x : Lease). x.addresses) (sym (found_at (lease_id_in m) (own_of b h))) ∙ sym N-addresses))
       N-good (subst (λ (x : List Lease). all_by (compatible N) (remove_of (lease_id_in m) x) ≡ true) o rest_compatible))
 
 -- ---- the table after a hold is dropped, and where a lease is recorded then
@@ -509,7 +509,7 @@ module _ (s : State) (b : LeaseTable) (h : ℕ) (m : Fields) (v : Sound s (lease
     again = none;
     refused = λ e. none;
     repeated = λ k held. none;
-    taken = λ k held. let t = held_there (old_for b h m) (there_for b h m) held in way (turned m (old_for b h m)) t (turn_sound s b h m v known there t);
+    taken = λ k held. let t = held_there (found_for b h m) held in way (turned m (old_for b h m)) t (turn_sound s b h m v known there t);
     offered = λ k ok free e.
         becomes (updated b h (insert_of (held_from s.clock (new_for s b h m)) (own_of b h))) (applied_entering b h (held_from s.clock (new_for s b h m)) (new_room s b h m e))
         (offer_sound s b h m v known there good ok free e k);
@@ -518,8 +518,8 @@ module _ (s : State) (b : LeaseTable) (h : ℕ) (m : Fields) (v : Sound s (lease
     dropped = λ k held. becomes (updated b h (remove_of (id_of (old_for b h m)) (own_of b h))) (applied_dropping b h (old_for b h m)) (release_sound s b h there (id_of (old_for b h m)) v);
     moved = λ k ok held e.
         subst (λ (x : LeaseTable). Sound s (leases_of x)) (sym (applied_moving b h (old_for b h m) (new_for s (without b h m) h m)))
-        (way (new_for s (without b h m) h m) (held_there (old_for b h m) (there_for b h m) held) (move_sound s b h m there v known good ok k e));
-    renewed = λ k ok leased e. let t = leased_there (old_for b h m) (there_for b h m) leased in way (renewed_for s b h m) t (renew_sound s b h m v known there good k ok t e);
+        (way (new_for s (without b h m) h m) (held_there (found_for b h m) held) (move_sound s b h m there v known good ok k e));
+    renewed = λ k ok leased e. let t = leased_there (found_for b h m) leased in way (renewed_for s b h m) t (renew_sound s b h m v known there good k ok t e);
     released = λ k leased. becomes (updated b h (remove_of (id_of (old_for b h m)) (own_of b h))) (applied_leaving b h (old_for b h m) m.xid s.clock) (release_sound s b h there (id_of (old_for b h m)) v);
     informed = none;
   }) q

@@ -1,6 +1,6 @@
 -- Laws: between the decision, which is one of the whole book, and the code, which has the tenant's own records and what all tenants hold.
 use Prim.Native.Nat.{ℕ, zero, suc, ◌≤◌, ◌<◌, min, max}
-use Rattle.std.specs.Prelude.{◌≡◌, Bool, true, false, List, [], ◌∷◌, map, get_or}
+use Rattle.std.specs.Prelude.{◌≡◌, Bool, true, false, Option, Some, None, is_some, unwrap_or, List, [], ◌∷◌, map, get_or}
 use Rattle.std.proofs.Math.Path.{refl, sym, ap, ap₂}
 use Rattle.std.proofs.Common.{◌∙◌, subst, arith, eq-eqb}
 use Rattle.std.proofs.Math.Dec.{eqb}
@@ -17,7 +17,7 @@ use Rattle.state.specs.declared.TenantLeases.{TenantLeases}
 use Rattle.state.specs.declared.LeaseTable.{LeaseTable}
 use Rattle.state.specs.declared.Release.{Release}
 use Rattle.state.specs.declared.State.{State}
-use Rattle.state.specs.Book.{in_use, laid_out, tenant_at, leases_of, place_of, lease_at, remove_of, in_scope, held_of, busy_of, scope_at}
+use Rattle.state.specs.Book.{in_use, laid_out, tenant_at, leases_of, place_of, lease_at, remove_of, in_scope, held_of, busy_of, scope_at, zero_lease}
 use Rattle.state.specs.laws.Sets.{adds, addresses_cons, addresses_reordered}
 use Rattle.soundness.specs.declared.HeldTable.{HeldTable}
 use Rattle.soundness.specs.Sound.{tenants_in}
@@ -29,13 +29,15 @@ use Rattle.allocation.specs.laws.View.{view_sound, view_there, view_own, view_se
 use Rattle.proposal.specs.declared.Proposal.{Proposal}
 use Rattle.decision.specs.declared.Decided.{Decided}
 use Rattle.decision.specs.declared.Reply.TheVariants.{LeaseAck, ReleaseAck}
-use Rattle.admission.specs.Tests.{is_new, own_of, lease_id_in, recorded_of, scope_in, scope_place, resends, released_again, error1_of, error2_of, error3_of, has_period, is_held, is_for_hold, same_scope, scope_number, drops_hold}
+use Rattle.admission.specs.laws.Found.{found_at}
+use Rattle.admission.specs.Tests.{dropped_of, is_new, own_of, lease_id_in, recorded_of, scope_in, scope_place, resends, released_again, error1_of, error2_of, error3_of, has_period, is_held, is_for_hold, same_scope, scope_number, drops_hold}
 use Rattle.proposal.specs.Proposals.{fits_new, start_of, end_of, ask_at, new_with, new_at, new_of, others_busy, fits_renewed, renewed_by, renewed_to, renewed_of, proposal_of, brought_by}
 use Rattle.decision.specs.Verdicts.{with_lease, plain_reply, refusal_of}
 use Rattle.decision.specs.Gather.{decide_in}
 use Rattle.proposal.specs.Gather.{new_by, new_at_in, new_in, renewed_to_in, renewed_in, proposal_in, brought_in}
 use Rattle.decision.specs.Decide.{unchanged, plain_of, settled_of, repeated_of, dropped_first, judged_of, decide_of}
-use Rattle.decision_laws.specs.laws.Cases.{new_type, held_there, drops_some, for_hold_by, old_for, there_for, without}
+use Rattle.decision.specs.laws.Code.{no}
+use Rattle.decision_laws.specs.laws.Cases.{new_type, held_there, drops_some, for_hold_by, found_for, old_for, there_for, without}
 use Rattle.decision_laws.specs.laws.Kept.{own_is, own_without, held_out, release_sound, updated_leases}
 
 -- ---- a renewal
@@ -55,8 +57,7 @@ lease_held (l ∷ ls) (suc i) a =
     omega arith
 
 recorded_held : (ls : List Lease) (m : Fields) (l : Lease) → l ≡ recorded_of ls m → (a : ℕ) → bit l.addresses a ≤ bit (held_of l.scope ls) a
-unfolding recorded_of
-recorded_held ls m l e a = subst (λ (x : Lease). bit x.addresses a ≤ bit (held_of x.scope ls) a) (sym e) (lease_held ls (place_of (lease_id_in m) ls) a)
+recorded_held ls m l e a = subst (λ (x : Lease). bit x.addresses a ≤ bit (held_of x.scope ls) a) (sym (e ∙ found_at (lease_id_in m) ls)) (lease_held ls (place_of (lease_id_in m) ls) a)
 
 -- of all other leases in the book, the tenant's own decide
 module _ {s : State} {t : LeaseTable} {h : ℕ} {own : TenantLeases} {held : HeldTable} (w : View s t h own held) (m : Fields) (l : Lease) (e : l ≡ recorded_of (in_use own) m) (from to : ℕ) where
@@ -82,18 +83,21 @@ module _ {s : State} {t : LeaseTable} {h : ℕ} {own : TenantLeases} {held : Hel
 
 -- ---- what a call has of a book
 -- what a message for a hold in the same scope draws does not go by a proposal
-for_hold_alike : (s : State) (p p' : Proposal) (q : List Release) (m : Fields) (o : Lease) (there : Bool) → is_for_hold s m o there ≡ true → judged_of s p q m o there ≡ judged_of s p' q m o there
+for_hold_alike : (s : State) (p p' : Proposal) (q : List Release) (m : Fields) (o : Option Lease) → is_for_hold s m o ≡ true → judged_of s p q m o ≡ judged_of s p' q m o
 unfolding judged_of pick
-for_hold_alike s p p' q m o there e = ap (λ (b : Bool). tested b p) e ∙ sym (ap (λ (b : Bool). tested b p') e)
+for_hold_alike s p p' q m o e = ap (λ (b : Bool). tested b p) e ∙ sym (ap (λ (b : Bool). tested b p') e)
   where
+    l : Lease
+    l = unwrap_or o zero_lease
+
     tested : Bool → Proposal → Decided
     tested b p =
-        pick (resends m o) (unchanged (with_lease LeaseAck o))
+        pick (resends m l) (unchanged (with_lease LeaseAck l))
         (pick (released_again s q m) (unchanged (plain_reply ReleaseAck))
-        (pick (error1_of s m o there) (unchanged (refusal_of m 1))
+        (pick (error1_of s m o) (unchanged (refusal_of m 1))
         (pick (error2_of s m) (unchanged (refusal_of m 2))
-        (pick (error3_of m o there) (unchanged (refusal_of m 3))
-        (pick b (repeated_of m o) (pick (has_period m) (dropped_first (drops_hold m o there) o (settled_of s m o p)) (plain_of s m o)))))))
+        (pick (error3_of m o) (unchanged (refusal_of m 3))
+        (pick b (repeated_of m l) (pick (has_period m) (dropped_first (dropped_of m o) (settled_of s m l p)) (plain_of s m l)))))))
 
 module _ {s : State} {t : LeaseTable} {h : ℕ} {held : HeldTable} (w : View s t h (tenant_at t h) held) (m : Fields) where
   new_in_law : new_in s (own_of t h) held h m ≡ new_of s t h m
@@ -108,7 +112,7 @@ module _ {s : State} {t : LeaseTable} {h : ℕ} {held : HeldTable} (w : View s t
       ap (λ (b : Bool). renewed_by b l from (end_of m from l)) (fits_view w m l refl from (end_of m from l))
 
   -- where a hold in another scope is dropped, the sets of the scope asked for stay
-  module _ (there : there_for t h m ≡ true) (far : same_scope s m (old_for t h m) ≡ false) where
+  module _ (there : there_for t h m ≡ true) (far : same_scope s m (found_for t h m) ≡ false) where
     abbrev K : ℕ
     K = scope_number (scope_place s (scope_in m))
 
@@ -118,11 +122,17 @@ module _ {s : State} {t : LeaseTable} {h : ℕ} {held : HeldTable} (w : View s t
     inside_table : h < length t.tenants
     inside_table = let k = w.known in let n = w.eight in omega arith
 
+    -- the record's scope
+    out_of : (o : Option Lease) → is_some o ≡ true → same_scope s m o ≡ false → eqb (unwrap_or o zero_lease).scope K ≡ false
+    unfolding same_scope
+    out_of (Some l) e f = f
+    out_of None e f = no (sym e)
+
     rest_held : held_of K (own_of t h) ≡ held_of K rest
-    unfolding same_scope pick
+    unfolding pick
     rest_held =
         addresses_reordered (in_scope K) (held_out s t h m there (view_sound w)) ∙ addresses_cons (in_scope K) (old_for t h m) rest
-        ∙ ap (λ (b : Bool). bit_or (pick b (old_for t h m).addresses 0) (held_of K rest)) far ∙ or_zero_l (held_of K rest)
+        ∙ ap (λ (b : Bool). bit_or (pick b (old_for t h m).addresses 0) (held_of K rest)) (out_of (found_for t h m) there far) ∙ or_zero_l (held_of K rest)
 
     rest_sets : sets_in K held ≡ map (held_of K) (leases_of (without t h m))
     rest_sets =
@@ -145,28 +155,28 @@ module _ {s : State} {t : LeaseTable} {h : ℕ} {held : HeldTable} (w : View s t
   -- the decision by the tenant's records and what all hold is that of the book
   decide_at : (q : List Release) → decide_in s (own_of t h) q held h m ≡ decide_of s t q h m
   unfolding decide_in decide_of proposal_in proposal_of brought_in brought_by pick
-  decide_at q = go (drops_hold m O T) refl
+  decide_at q = go (drops_hold m O) refl
     where
-      O : Lease
-      O = old_for t h m
+      O : Option Lease
+      O = found_for t h m
 
-      T : Bool
-      T = there_for t h m
+      L : Lease
+      L = old_for t h m
 
       judged : Proposal → Decided
-      judged p = judged_of s p q m O T
+      judged p = judged_of s p q m O
 
-      far_or_near : m.kind ≡ 3 → is_held O T ≡ true → (b : Bool) → same_scope s m O ≡ b
-          → judged (proposal_in s (remove_of (lease_id_in m) (own_of t h)) held h m O) ≡ judged (proposal_of s (without t h m) h m O)
-      far_or_near k e true p = for_hold_alike s _ _ q m O T (for_hold_by s m O T (new_type m k refl) e p)
+      far_or_near : m.kind ≡ 3 → is_held O ≡ true → (b : Bool) → same_scope s m O ≡ b
+          → judged (proposal_in s (remove_of (lease_id_in m) (own_of t h)) held h m L) ≡ judged (proposal_of s (without t h m) h m L)
+      far_or_near k e true p = for_hold_alike s _ _ q m O (for_hold_by s m O (new_type m k refl) e p)
       far_or_near k e false p =
           let n = new_type m k refl in
-          ap judged (ap (λ (b : Bool). pick b (new_in s (remove_of (lease_id_in m) (own_of t h)) held h m) (renewed_in s (remove_of (lease_id_in m) (own_of t h)) m O)) n
-          ∙ new_without (held_there O T e) p ∙ ap (λ (b : Bool). pick b (new_of s (without t h m) h m) (renewed_of s (without t h m) h m O)) (sym n))
+          ap judged (ap (λ (b : Bool). pick b (new_in s (remove_of (lease_id_in m) (own_of t h)) held h m) (renewed_in s (remove_of (lease_id_in m) (own_of t h)) m L)) n
+          ∙ new_without (held_there O e) p ∙ ap (λ (b : Bool). pick b (new_of s (without t h m) h m) (renewed_of s (without t h m) h m L)) (sym n))
 
-      go : (d : Bool) → drops_hold m O T ≡ d
-          → judged (proposal_in s (pick d (remove_of (lease_id_in m) (own_of t h)) (own_of t h)) held h m O) ≡ judged (proposal_of s (pick d (without t h m) t) h m O)
-      go true e = let p = drops_some m O T e in far_or_near p.0 p.1 (same_scope s m O) refl
+      go : (d : Bool) → drops_hold m O ≡ d
+          → judged (proposal_in s (pick d (remove_of (lease_id_in m) (own_of t h)) (own_of t h)) held h m L) ≡ judged (proposal_of s (pick d (without t h m) t) h m L)
+      go true e = let p = drops_some m O e in far_or_near p.0 p.1 (same_scope s m O) refl
       go false e = ap judged (ap₂ (pick (is_new m)) new_in_law renewed_in_law)
 
 pub decide_in_law : {s : State} {t : LeaseTable} {h : ℕ} {own : TenantLeases} {held : HeldTable} → View s t h own held → (m : Fields) (q : List Release) → decide_in s (in_use own) q held h m ≡ decide_of s t q h m

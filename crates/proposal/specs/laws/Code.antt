@@ -1,5 +1,5 @@
 -- Laws: between what a lease would be and the code.
-use Rattle.std.specs.Prelude.{ℕ, ◌+◌, ◌-◌, min, max, ◌<◌, ◌≤◌, Bool, true, false, not, ◌&&◌, List, ltb, length, ◌≡◌, refl}
+use Rattle.std.specs.Prelude.{ℕ, ◌+◌, ◌-◌, min, max, ◌<◌, ◌≤◌, Bool, true, false, not, ◌&&◌, Option, List, ltb, length, ◌≡◌, refl}
 use Rattle.lists.specs.laws.Both.{and_le, and_not_le}
 use Rattle.lists.specs.laws.Pick.{pick_no, pick_yes}
 use Rattle.address_set.specs.AddressSet.{offsets}
@@ -97,11 +97,11 @@ unfolding held_from
 hold_from_is clock l t e = ap (λ (x : ℕ). lapsing_at x l) e
 
 -- the records that are left, and those that stay
-pub brought_less : (own : TenantLeases) (m : Fields) (o : Lease) (there q : Bool) (r : TenantLeases) → q ≡ drops_hold m o there → q ≡ true → r ≡ laid_out (remove_of (lease_id_in m) (in_use own))
-    → in_use r ≡ brought_in (in_use own) m o there
+pub brought_less : (own : TenantLeases) (m : Fields) (o : Option Lease) (q : Bool) (r : TenantLeases) → q ≡ drops_hold m o → q ≡ true → r ≡ laid_out (remove_of (lease_id_in m) (in_use own))
+    → in_use r ≡ brought_in (in_use own) m o
 unfolding brought_in
-brought_less own m o there q r e y p = pick_yes _ _ (in_use r) e y (ap in_use p ∙ read_back (remove_of (lease_id_in m) (in_use own)))
+brought_less own m o q r e y p = pick_yes _ _ (in_use r) e y (ap in_use p ∙ read_back (remove_of (lease_id_in m) (in_use own)))
 
-pub brought_all : (own : TenantLeases) (m : Fields) (o : Lease) (there q : Bool) → q ≡ drops_hold m o there → q ≡ false → in_use own ≡ brought_in (in_use own) m o there
+pub brought_all : (own : TenantLeases) (m : Fields) (o : Option Lease) (q : Bool) → q ≡ drops_hold m o → q ≡ false → in_use own ≡ brought_in (in_use own) m o
 unfolding brought_in
-brought_all own m o there q e n = pick_no _ _ (in_use own) e n refl
+brought_all own m o q e n = pick_no _ _ (in_use own) e n refl

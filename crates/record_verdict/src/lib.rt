@@ -34,9 +34,9 @@ fn dismiss(n: u8, clock: u32, memory: Memory, records: Records) -> JudgedRecords
 
 // Whether an edit changes anything.
 fn is_edit(e: Edit) -> bool
-    ensures { result ≡ (is_some e.leaves || (is_some e.enters || is_some e.remembers)) }
+    ensures { result ≡ (is_some e.leaves || (is_some e.enters || (is_some e.forgets || is_some e.remembers))) }
 {
-    e.leaves.is_some() || e.enters.is_some() || e.remembers.is_some()
+    e.leaves.is_some() || e.enters.is_some() || e.forgets.is_some() || e.remembers.is_some()
 }
 
 // Test 3 and what follows, after the drop: the client's tenant, whose records and releases alone are edited, and only where something changes. The names are

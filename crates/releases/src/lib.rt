@@ -6,7 +6,6 @@ mod rules;
 
 ghost use Rattle.std.specs.Prelude.{◌≡◌, ◌≤◌, min, drop, take};
 ghost use Rattle.std.specs.Option.{option_map_or};
-ghost use Rattle.lists.specs.Pick.{pick};
 ghost use Rattle.state.specs.Book.{id_of, in_use, laid_releases, other_release, remembered};
 ghost use Rattle.state.specs.Edit.{forget_of, noted_in, remember_of};
 ghost use Rattle.releases.specs.Again.{any_again, is_again};
@@ -100,14 +99,11 @@ pub fn forget(q: TenantReleases, id: [u8; 32], len: u8) -> TenantReleases
     now
 }
 
-// What a lease that enters leaves of it.
-fn forget_entering(q: TenantReleases, e: Edit) -> TenantReleases
-    ensures { result ≡ pick e.forgets (option_map_or (λ l. laid_releases (forget_of (id_of l) (remembered q))) e.enters q) q }
+// What is left of it where a lease's identifier is forgotten.
+fn forget_named(q: TenantReleases, e: Edit) -> TenantReleases
+    ensures { result ≡ option_map_or (λ l. laid_releases (forget_of (id_of l) (remembered q))) e.forgets q }
 {
-    if !e.forgets {
-        return q;
-    }
-    match e.enters {
+    match e.forgets {
         Some(l) => forget(q, l.id, l.id_len),
         None => q,
     }
@@ -119,7 +115,7 @@ pub fn note(q: TenantReleases, e: Edit) -> TenantReleases
 {
     match e.remembers {
         Some(r) => remember(q, r),
-        None => forget_entering(q, e),
+        None => forget_named(q, e),
     }
 }
 

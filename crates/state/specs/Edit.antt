@@ -1,7 +1,6 @@
 -- Definitions: what a call does to one tenant's leases and to what is remembered of it, as a value, and the book afterwards.
-use Rattle.std.specs.Prelude.{ℕ, ◌-◌, true, false, List, [], ◌∷◌, ◌++◌, drop, length, set, None, Some}
+use Rattle.std.specs.Prelude.{ℕ, ◌-◌, List, [], ◌∷◌, ◌++◌, drop, length, set, None, Some}
 use Rattle.std.specs.Option.{option_map_or}
-use Rattle.lists.specs.Pick.{pick}
 use Rattle.lists.specs.Filter.{filter_by}
 use Rattle.occupancy.specs.declared.Board.{Board}
 use Rattle.state.specs.declared.Lease.{Lease}
@@ -14,18 +13,18 @@ use Rattle.state.specs.declared.Edit.{Edit}
 use Rattle.state.specs.Book.{Book, Order, changed_to, in_use, laid_out, tenant_at, put_at, id_of, inserted_by, ordered, remove_of, remembered, laid_releases, releases_at, other_release, board_with, board_without}
 
 abbrev pub no_edit : Edit
-no_edit = record { leaves = None; enters = None; forgets = false; remembers = None }
+no_edit = record { leaves = None; enters = None; forgets = None; remembers = None }
 
 -- "A new lease on the identifier forgets it" (document 02, W-202), and a hold "forgets its identifier's release" (W-205)
 abbrev pub entering : Lease → Edit
-entering l = record { leaves = None; enters = Some l; forgets = true; remembers = None }
+entering l = record { leaves = None; enters = Some l; forgets = Some l; remembers = None }
 
 -- the released identifier, "with transaction id and the clock at release"
 abbrev pub release_of : Lease → ℕ → ℕ → Release
 release_of o x c = record { id_len = o.id_len; id = o.id; xid = x; time = c }
 
 abbrev pub leaving : Lease → ℕ → ℕ → Edit
-leaving o x c = record { leaves = Some o; enters = None; forgets = false; remembers = Some (release_of o x c) }
+leaving o x c = record { leaves = Some o; enters = None; forgets = None; remembers = Some (release_of o x c) }
 
 -- "first drops the hold" (document 02, W-205): o leaves before what e does, in which nothing else leaves. Nothing is remembered of a hold, and the release that it
 -- forgot does not come back
@@ -34,7 +33,7 @@ dropping_first o e = record { leaves = Some o; enters = e.enters; forgets = e.fo
 
 -- o gives way to l of the same identifier, of which no release is remembered
 abbrev pub giving_way : Lease → Lease → Edit
-giving_way o l = record { leaves = Some o; enters = Some l; forgets = false; remembers = None }
+giving_way o l = record { leaves = Some o; enters = Some l; forgets = None; remembers = None }
 
 -- ---- the leases
 -- a tenant's records: the lease with the old one's identifier leaves
@@ -65,7 +64,7 @@ forget_of i q = filter_by (other_release i) q
 unfoldable pub noted_in : Edit → TenantReleases → TenantReleases
 noted_in e q =
     option_map_or (λ r. laid_releases (remember_of r (remembered q))) e.remembers
-    (pick e.forgets (option_map_or (λ l. laid_releases (forget_of (id_of l) (remembered q))) e.enters q) q)
+    (option_map_or (λ l. laid_releases (forget_of (id_of l) (remembered q))) e.forgets q)
 
 -- ---- the board (document 02, W-207): what leaves is taken off it
 unfoldable pub board_left : Edit → ℕ → Board → Board

@@ -1,5 +1,5 @@
 -- Laws: a decision on a sound book keeps its board what its leases say (document 02, W-207): what leaves is one of the tenant's records, and what enters has room.
-use Rattle.std.specs.Prelude.{Option, None, Some, IfSome, ℕ, ◌<◌, ◌≡◌, Bool, true}
+use Rattle.std.specs.Prelude.{Option, None, Some, IfSome, ℕ, ◌<◌, ◌≡◌, true}
 use Rattle.std.proofs.Common.{sym}
 use Rattle.std.proofs.Math.Path.{subst}
 use mathlib.Core.List.{List, ◌∷◌}
@@ -38,7 +38,7 @@ module _ (s : State) (b : LeaseTable) (h : ℕ) (m : Fields) (v : Sound s (lease
   enters l few = record { old = tt; room = few }
 
   -- the record of the message's identifier leaves, whatever enters and is remembered
-  leaves : (x : Option Lease) (f : Bool) (r : Option Release) → there_for b h m ≡ true → Stands (record { leaves = Some (old_for b h m); enters = x; forgets = f; remembers = r }) (tenant_at b h)
+  leaves : (x f : Option Lease) (r : Option Release) → there_for b h m ≡ true → Stands (record { leaves = Some (old_for b h m); enters = x; forgets = f; remembers = r }) (tenant_at b h)
   unfolding left_in
   leaves x f r held = record {
     old = subst (λ (i : List ℕ). Reordered (own_of b h) (old_for b h m ∷ remove_of i (own_of b h))) (sym (held_named s b h m held)) (held_out s b h m held v);

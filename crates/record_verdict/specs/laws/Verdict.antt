@@ -5,7 +5,6 @@ use Rattle.std.proofs.Common.{sym, ap₂, ◌∙◌, subst, true≢false, arith}
 use Rattle.std.proofs.Math.Path.{ap}
 use Rattle.std.proofs.Math.ListN.{length, length-map, set}
 use Rattle.std.proofs.lemmas.List.{set-get_or}
-use Rattle.lists.specs.Pick.{pick}
 use Rattle.lists.specs.laws.Row.{at_in}
 use Rattle.lists.specs.All.{All, all_by, pairs_by}
 use Rattle.message.specs.Read.{read_of}
@@ -95,24 +94,20 @@ idle e h b p q =
     gone : Option Lease → TenantLeases
     gone x = option_map_or (λ l. laid_out (remove_of (id_of l) (in_use (tenant_at b h)))) x (tenant_at b h)
 
-unnoted : (e : Edit) (h : ℕ) (m : Memory) → e.leaves ≡ None → e.enters ≡ None → e.remembers ≡ None → noted e h m ≡ m
-unfolding noted noted_in board_edited board_left pick
-unnoted e h m a b q = ap₂ {C = Memory} (λ (x : List TenantReleases) (y : Board). record { releases = x; board = y }) releases board
+unnoted : (e : Edit) (h : ℕ) (m : Memory) → e.leaves ≡ None → e.enters ≡ None → e.forgets ≡ None → e.remembers ≡ None → noted e h m ≡ m
+unfolding noted noted_in board_edited board_left
+unnoted e h m a b f q = ap₂ {C = Memory} (λ (x : List TenantReleases) (y : Board). record { releases = x; board = y }) releases board
   where
     own : TenantReleases
     own = releases_at m h
 
-    either : (c : Bool) → pick c own own ≡ own
-    either true = refl
-    either false = refl
-
     forgets : Option Lease → TenantReleases
-    forgets x = pick e.forgets (option_map_or (λ l. laid_releases (forget_of (id_of l) (remembered own))) x own) own
+    forgets x = option_map_or (λ l. laid_releases (forget_of (id_of l) (remembered own))) x own
 
     releases : set m.releases h (noted_in e own) ≡ m.releases
     releases =
-        ap₂ (λ (x : Option Lease) (y : Option Release). set m.releases h (option_map_or (λ r. laid_releases (remember_of r (remembered own))) y (forgets x))) b q
-        ∙ ap (set m.releases h) (either e.forgets) ∙ set-get_or m.releases h (laid_releases [])
+        ap₂ (λ (x : Option Lease) (y : Option Release). set m.releases h (option_map_or (λ r. laid_releases (remember_of r (remembered own))) y (forgets x))) f q
+        ∙ set-get_or m.releases h (laid_releases [])
 
     board : board_edited e h m.board ≡ m.board
     board = ap₂ (λ (x y : Option Lease). option_map_or (board_with h (option_map_or (board_without h m.board) x m.board)) y (option_map_or (board_without h m.board) x m.board)) a b
@@ -151,14 +146,15 @@ module _ (g : Ledger) (ls : List Lease) (client : ℕ) (d : List ℕ) (size : le
         edits (ap₂ {C = Memory} (λ (i : TenantReleases) (j : Board). record { releases = set g.memory.releases h i; board = j }) (c ∙ ap (noted_in r.edit) u) k)
         (b.0 ∙ put_row_is ls h t size (omega (arith, f, p)) ∙ ap (λ (k : TenantLeases). records_of (put_at (table_from ls) h k)) (a ∙ ap (edited_in r.edit) o)) b.1
 
-    pub at_same : {z : Records} {t : Bool} → t ≡ (is_some r.edit.leaves || (is_some r.edit.enters || is_some r.edit.remembers)) → t ≡ false → z.leases ≡ ls
+    pub at_same : {z : Records} {t : Bool} → t ≡ (is_some r.edit.leaves || (is_some r.edit.enters || (is_some r.edit.forgets || is_some r.edit.remembers))) → t ≡ false → z.leases ≡ ls
         → (names : List ℕ) → JudgesRecords (lent_judgement (judge_clock (book_from g ls names) client d)) (record { ruling = r.ruling; clock = g.state.clock; memory = g.memory; records = z })
     at_same a b c =
-        let j = or_none (is_some r.edit.leaves) (is_some r.edit.enters || is_some r.edit.remembers) (sym a ∙ b) in
-        let k = or_none (is_some r.edit.enters) (is_some r.edit.remembers) j.1 in
+        let j = or_none (is_some r.edit.leaves) (is_some r.edit.enters || (is_some r.edit.forgets || is_some r.edit.remembers)) (sym a ∙ b) in
+        let k = or_none (is_some r.edit.enters) (is_some r.edit.forgets || is_some r.edit.remembers) j.1 in
+        let i = or_none (is_some r.edit.forgets) (is_some r.edit.remembers) k.1 in
         let leaves = none_of r.edit.leaves j.0 in
         let enters = none_of r.edit.enters k.0 in
-        edits (sym (unnoted r.edit h g.memory leaves enters (none_of r.edit.remembers k.1)))
+        edits (sym (unnoted r.edit h g.memory leaves enters (none_of r.edit.forgets i.0) (none_of r.edit.remembers i.1)))
         (c ∙ sym (records_back ls size) ∙ ap records_of (sym (idle r.edit h (table_from ls) leaves enters))) (ap length c ∙ size)
 
 -- ---- what is gathered of a sound book, by a survey that found it so, or by what it holds alone

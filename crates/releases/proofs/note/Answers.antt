@@ -9,4 +9,4 @@ returns-in-Some c = rw c.in-Some.is (search rules)
 
 pub returns-in-None : goal.returns-in-None
 unfolding noted_in
-returns-in-None c = rw c.in-None.is c.forget_entering.ensures
+returns-in-None c = rw c.in-None.is c.forget_named.ensures

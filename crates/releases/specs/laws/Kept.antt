@@ -237,7 +237,7 @@ module _ (b : Book) (h : ℕ) (known : h < tenants_in b.state) (there : h < leng
   own_good = good_of (tenants_in b.state) b.state.clock h (own_leases b.table h) (releases_at b.memory h) own
 
   -- a new record, which forgets its identifier; one that stood before may have left
-  forgetting_kept : (o : Option Lease) (l : Lease) → memory_good (edited_book (record { leaves = o; enters = Some l; forgets = true; remembers = None }) h b) ≡ true
+  forgetting_kept : (o : Option Lease) (l : Lease) → memory_good (edited_book (record { leaves = o; enters = Some l; forgets = Some l; remembers = None }) h b) ≡ true
   unfolding noted_in pick not_leased
   forgetting_kept o l =
       edited_kept e
@@ -246,7 +246,7 @@ module _ (b : Book) (h : ℕ) (known : h < tenants_in b.state) (there : h < leng
       (λ r p q. edited_all (other (release_id r)) e (tenant_at b.table h) (sym (turned r l) ∙ p) q) own_good))
     where
       e : Edit
-      e = record { leaves = o; enters = Some l; forgets = true; remembers = None }
+      e = record { leaves = o; enters = Some l; forgets = Some l; remembers = None }
 
       after : List Lease
       after = in_use (edited_in e (tenant_at b.table h))

@@ -44,7 +44,7 @@ fn gather(rt: &HostRuntime, n: usize) -> Result<Report, (FileRefusal, u64)>
 {
     let mut report = match usage::begin(load(rt, 1)) {
         Ok(first) => first,
-        Err(e) => return Err((e, 1)),
+        Err(e) => return Err((e, usage::place_after(usage::no_report()))),
     };
     for i in 2..n + 1 {
         report = match usage::next(report, load(rt, i)) {

@@ -62,6 +62,21 @@ impl FileRefusal {
     }
 }
 
+// Before the first file: the place after it is the first one's.
+pub fn no_report() -> Report
+    ensures { result ≡ no_report }
+{
+    Report {
+        count: 0,
+        first: state_file::no_state(),
+        clock: 0,
+        table: LeaseTable {
+            tenants: [state::no_leases(); 8],
+        },
+        totals: no_totals(),
+    }
+}
+
 // The first file.
 pub fn begin(file: Result<Loaded, Refusal>) -> Result<Report, FileRefusal>
     ensures { told_after no_report result ≡ begun file }

@@ -1,17 +1,24 @@
 -- Laws: the first file, and one file more.
-use Rattle.std.specs.Prelude.{ℕ, ◌≡◌, Bool, true, false, ◌&&◌, eqb, ltb, refl, Ok, Err}
+use Rattle.std.specs.Prelude.{ℕ, ◌≡◌, Bool, true, false, ◌&&◌, [], eqb, ltb, refl, replicate, Ok, Err}
 use Rattle.std.proofs.Common.{ap, ap₂, sym, ◌∙◌}
 use Rattle.lists.specs.Pick.{pick}
 use Rattle.state.specs.declared.State.{State}
+use Rattle.state.specs.declared.TenantLeases.{TenantLeases}
+use Rattle.state.specs.Book.{laid_out, table_of}
 use Rattle.state_file.specs.declared.Loaded.{Loaded}
 use Rattle.state_file.specs.declared.Refusal.{Refusal}
 use Rattle.state_file.specs.declared.Refusal.TheVariants.{WrongForm, UnsoundFile, UnsoundBook, ShortRoom}
-use Rattle.state_file.specs.StateFile.{book_in, code_of, refusal_number}
+use Rattle.state_file.specs.StateFile.{book_in, code_of, refusal_number, zero_state, zero_table}
 use Rattle.usage.specs.declared.FileRefusal.TheVariants.{Unread, OutOfOrder}
 use Rattle.usage.specs.declared.Totals.{Totals}
 use Rattle.usage.specs.declared.Report.{Report}
 use Rattle.usage.specs.Usage.{follows, number_of, same_settings}
 use Rattle.usage.specs.Report.{Step, added_totals, begun, capped_sum, first_count, next_of, no_report, no_totals, told_after, with_file}
+
+pub no_report_is : {s : State} {z : TenantLeases} {t : Totals} → s ≡ zero_state → z ≡ laid_out [] → t ≡ no_totals
+    → ◌≡◌ {A = Report} (record { count = 0; first = s; clock = 0; table = record { tenants = replicate 8 z }; totals = t }) no_report
+unfolding zero_table table_of
+no_report_is p q r = rw (p, q, r) refl
 
 pub begun_ok : (b : Loaded) (t : Totals) → t ≡ no_totals
     → told_after no_report (Ok (record { count = 1; first = b.state; clock = b.state.clock; table = b.table; totals = t })) ≡ begun (Ok b)

@@ -111,6 +111,30 @@ fn a_full_campus_is_served() {
 }
 
 #[test]
+fn what_only_reads_takes_half_of_it() {
+    let half = |work: Box<dyn FnOnce() + Send>| {
+        let thread = Builder::new().stack_size(STACK / 2).spawn(work);
+        thread.expect("a thread").join().expect("no panic");
+    };
+    // Each call by itself, on a full campus and on one whose first scope is too large.
+    let mut full = settings(8, 4, 4);
+    let sound = full.octets();
+    full.scopes[0].size = 65;
+    for (file, accepted) in [(sound, true), (full.octets(), false)] {
+        let (checked, shown) = (file.clone(), file.clone());
+        half(Box::new(move || {
+            assert_eq!(lent::check(&checked).is_ok(), accepted);
+        }));
+        half(Box::new(move || {
+            assert!(lent::board(&shown, &mut [0; 1100]).is_some());
+        }));
+        half(Box::new(move || {
+            assert_eq!(lent::occupancy(&file).is_ok(), accepted);
+        }));
+    }
+}
+
+#[test]
 fn a_campus_of_holds_is_served() {
     let mut full = settings(8, 4, 4);
     // Sixteen of each house, one after the other on its half of a scope.

@@ -88,16 +88,11 @@ fn put_refused(buffer: &mut [u8], n: u8) -> usize
     number_text::put_char(buffer, b, b'\n')
 }
 
-// The book of a state file, by the lent reader.
+// The book of a state file. No records are lent for it: a caller's 16 KB would lie twice on the stack besides.
 fn read_book(file: &[u8]) -> Result<Loaded, Refusal>
     ensures { result ≡ read_file file.now }
 {
-    let o = owned::open(file)?;
-    Ok(Loaded {
-        state: o.ledger.state,
-        table: records::table_of(o.records),
-        memory: o.ledger.memory,
-    })
+    state_file::read(file)
 }
 
 // Writes what `board` prints for a file and returns its length. A room below 1,100 octets is left as it is, with length 0.

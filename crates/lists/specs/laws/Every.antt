@@ -34,12 +34,13 @@ pub each_ended : {A : Type 0} (t : A → Bool) (l : List A) (j : ℕ) {w : Bool}
 unfolding all_by
 each_ended t l j h p = sym (ap (all_by t) (drop_of_length-le l {i = j} h)) ∙ p
 
--- the pairs that x at place i begins, and those of what is behind it
-pub row_open : {A : Type 0} (t : A → A → Bool) (l : List A) (i : ℕ) (x : A) {w : Bool} → i < length l → x ≡ get_or l i x → pairs_by t (drop i l) ≡ w
-    → pick (all_by (t x) (take (length l - (i + 1)) (drop (i + 1) l))) (pairs_by t (drop (i + 1) l)) false ≡ w
+-- the pairs that x at place i begins, with what stands from place k on, and those of what is behind it
+pub row_open : {A : Type 0} (t : A → A → Bool) (l : List A) (i : ℕ) (x : A) {k : ℕ} {w : Bool} → k ≡ i + 1 → i < length l → x ≡ get_or l i x → pairs_by t (drop i l) ≡ w
+    → pick (all_by (t x) (take (length l - k) (drop k l))) (pairs_by t (drop (i + 1) l)) false ≡ w
 unfolding pairs_by
-row_open {A} t l i x h e p =
-    ap (λ (r : List A). pick (all_by (t x) r) (pairs_by t (drop (i + 1) l)) false) (take_all (length l - (i + 1)) (drop (i + 1) l) (omega (arith, length-drop (i + 1) l)))
+row_open {A} t l i x n h e p =
+    ap (λ (k : ℕ). pick (all_by (t x) (take (length l - k) (drop k l))) (pairs_by t (drop (i + 1) l)) false) n
+    ∙ ap (λ (r : List A). pick (all_by (t x) r) (pairs_by t (drop (i + 1) l)) false) (take_all (length l - (i + 1)) (drop (i + 1) l) (omega (arith, length-drop (i + 1) l)))
     ∙ sym (ap (pairs_by t) (left_at l i x h e)) ∙ p
 
 pub row_ended : {A : Type 0} (t : A → Bool) (l : List A) (j : ℕ) {r w : Bool} → length l ≤ j → pick (all_by t (drop j l)) r false ≡ w → r ≡ w

@@ -14,36 +14,6 @@ fn on_that_stack(work: impl FnOnce() + Send + 'static) {
     thread.expect("a thread").join().expect("no panic");
 }
 
-/// So many houses, scopes of 64 addresses, lists of so many of the longest names, and as many releases of each house.
-fn settings(houses: u32, scopes: u32, names: usize) -> Campus {
-    let name = Name::new(128, b"language", b"a name of the thirty-two octets.");
-    let scope = |number: u32| Scope {
-        lowest: POOL + (number << 8),
-        size: 64,
-        ttl: 15,
-        parts: vec![(8, 64); houses as usize],
-        names: vec![vec![name.clone(); names]; houses as usize + 1],
-    };
-    let release = |(house, number): (u32, u8)| Release {
-        house: house as u8 + 1,
-        identifier: vec![number; 32],
-        transaction: 9,
-        time: CLOCK,
-    };
-    let releases = (0..houses).flat_map(|house| (0..names as u8).map(move |n| (house, n)));
-    Campus {
-        server: SERVER,
-        clock: CLOCK,
-        houses: (0..houses)
-            .map(|house| (0x0A00_0100 + (house << 8), 0x0A00_01FF + (house << 8)))
-            .collect(),
-        scopes: (0..scopes).map(scope).collect(),
-        leases: vec![],
-        releases: releases.map(release).collect(),
-        holds: vec![],
-    }
-}
-
 #[test]
 fn the_most_scopes_and_lists_are_walked() {
     // As many scopes as a count can say, and then as many houses as a file has room for; and the other way round.
@@ -108,30 +78,6 @@ fn a_full_campus_is_served() {
         campus.board();
         campus.occupancy();
     });
-}
-
-#[test]
-fn what_only_reads_takes_half_of_it() {
-    let half = |work: Box<dyn FnOnce() + Send>| {
-        let thread = Builder::new().stack_size(STACK / 2).spawn(work);
-        thread.expect("a thread").join().expect("no panic");
-    };
-    // Each call by itself, on a full campus and on one whose first scope is too large.
-    let mut full = settings(8, 4, 4);
-    let sound = full.octets();
-    full.scopes[0].size = 65;
-    for (file, accepted) in [(sound, true), (full.octets(), false)] {
-        let (checked, shown) = (file.clone(), file.clone());
-        half(Box::new(move || {
-            assert_eq!(lent::check(&checked).is_ok(), accepted);
-        }));
-        half(Box::new(move || {
-            assert!(lent::board(&shown, &mut [0; 1100]).is_some());
-        }));
-        half(Box::new(move || {
-            assert_eq!(lent::occupancy(&file).is_ok(), accepted);
-        }));
-    }
 }
 
 #[test]

@@ -27,12 +27,12 @@ use Rattle.state_file.specs.Place.{file_at, FormedBy}
 use Rattle.state_file.specs.StateFile.{book_in, code_of, loaded, read_file, refusal_number}
 use Rattle.state_file.proofs.Loads.{check_not, names_from, names_within, names_yes, read_yes}
 use Rattle.state_file.proofs.RoundTrip.{names_short}
-use Rattle.records.specs.declared.Records.{Records}
 use Rattle.records.specs.Records.{records_of}
 use Rattle.records.specs.Lent.{ledger_from, room_lent, written_lent}
 use Rattle.records.specs.laws.Files.{refused_not_0}
 use Rattle.record_verdict.specs.Verdict.{judge_lent}
 use Rattle.record_call.specs.Call.{serve_lent}
+use Rattle.owned.specs.declared.Owned.{Owned}
 use Rattle.owned.specs.declared.OwnedCall.{OwnedCall}
 use Rattle.owned.specs.declared.OwnedJudged.{OwnedJudged}
 use Rattle.owned.specs.Owned.{JudgesOwned, ServesOwned}
@@ -61,15 +61,15 @@ module _ (s : List ℕ) {l : Option Places} (v : FormedBy s l) where
   unfolding refusal_number
   open_unsound {e = e} i q g a = none_read s (g ∙ ap refusal_number (read_yes s v (Err e) i q)) (λ z. refused_not_0 e (sym g ∙ z)) a
 
-  pub open_yes : {p : Places} {f : Loaded} {x : Records} → l ≡ Some p → Ok f ≡ loaded (file_at s p) → (x.leases ≡ records_of f.table) × (length x.leases ≡ 128)
-      → OpenedFile s (record { refusal = 0; owned = record { ledger = record { state = f.state; memory = f.memory }; records = x }; from = p.names; end = p.releases })
+  pub open_yes : {p : Places} {f : Loaded} {o : Owned} → l ≡ Some p → Ok f ≡ loaded (file_at s p) → (o.ledger ≡ ledger_from f) × (o.records.leases ≡ records_of f.table)
+      → OpenedFile s (record { refusal = 0; owned = o; from = p.names; end = p.releases })
   unfolding refusal_number book_in
   open_yes {f = f} e q a =
       let w : Ok f ≡ read_file s = read_yes s v (Ok f) e q in
       record {
         refusal = ap refusal_number w;
-        ledger = λ _. ap (λ (y : Result Loaded Refusal). ledger_from (book_in y)) w;
-        leases = λ _. a.0 ∙ ap (λ (y : Result Loaded Refusal). records_of (book_in y).table) w;
+        ledger = λ _. a.0 ∙ ap (λ (y : Result Loaded Refusal). ledger_from (book_in y)) w;
+        leases = λ _. a.1 ∙ ap (λ (y : Result Loaded Refusal). records_of (book_in y).table) w;
         order = names_from s v e;
         within = names_within s v e;
         names = λ _. names_yes s v _ e refl;

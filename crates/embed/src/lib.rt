@@ -6,6 +6,8 @@
 ghost use Rattle.std.specs.Prelude.{◌≡◌, ◌-◌, ◌≤◌, drop, length, take};
 ghost use Rattle.board_text.specs.Board.{length_in, room_with_text};
 ghost use Rattle.state_file.specs.StateFile.{read_file, refusal_number};
+ghost use Rattle.records.specs.Lent.{ledger_from};
+ghost use Rattle.records.specs.Records.{records_of};
 ghost use Rattle.embed.specs.Embed.{number_after, length_after, serve_file, replay_file};
 ghost use Rattle.salvage_file.specs.Salvage.{salvage_of};
 ghost use Rattle.salvage_file.specs.Walk.{Salvages};
@@ -17,7 +19,7 @@ ghost use Rattle.embed.specs.Promises.{Keeps, Opened, OpenedFile, ServesFile, Ju
 use owned::Owned;
 use server::Outcome;
 use state::Ledger;
-use state_file::Refusal;
+use state_file::{Loaded, Refusal};
 
 // The longest names of an accepted file.
 const NAMES_ROOM: usize = 6229;
@@ -36,6 +38,8 @@ pub struct Opening {
     pub end: usize,
 }
 
+// Its octets, and those that `owned_of` copies, are off the stack while a file is tested, since neither is a part of `open`.
+#[inline(never)]
 fn refused(number: u8) -> Opening
     ensures { (result.refusal ≡ number) × (result.from ≡ 0) × (result.end ≡ 0) }
 {
@@ -44,6 +48,20 @@ fn refused(number: u8) -> Opening
         owned: owned::blank(),
         from: 0,
         end: 0,
+    }
+}
+
+// An accepted book as calls take it.
+#[inline(never)]
+fn owned_of(book: Loaded) -> Owned
+    ensures { (result.ledger ≡ ledger_from book) × (result.records.leases ≡ records_of book.table) }
+{
+    Owned {
+        ledger: Ledger {
+            state: book.state,
+            memory: book.memory,
+        },
+        records: records::records_of(book.table),
     }
 }
 
@@ -57,13 +75,7 @@ fn open(file: &[u8]) -> Opening
     match state_file::book_at(file, places) {
         Ok(book) => Opening {
             refusal: 0,
-            owned: Owned {
-                ledger: Ledger {
-                    state: book.state,
-                    memory: book.memory,
-                },
-                records: records::records_of(book.table),
-            },
+            owned: owned_of(book),
             from: places.names,
             end: places.releases,
         },

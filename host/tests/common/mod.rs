@@ -131,3 +131,33 @@ pub fn call(
     assert_eq!(room[reply.len()..], pattern(600)[reply.len()..]);
     (number, reply)
 }
+
+/// So many houses, scopes of 64 addresses, lists of so many of the longest names, and as many releases of each house.
+pub fn settings(houses: u32, scopes: u32, names: usize) -> Campus {
+    let name = Name::new(128, b"language", b"a name of the thirty-two octets.");
+    let scope = |number: u32| Scope {
+        lowest: POOL + (number << 8),
+        size: 64,
+        ttl: 15,
+        parts: vec![(8, 64); houses as usize],
+        names: vec![vec![name.clone(); names]; houses as usize + 1],
+    };
+    let release = |(house, number): (u32, u8)| Release {
+        house: house as u8 + 1,
+        identifier: vec![number; 32],
+        transaction: 9,
+        time: CLOCK,
+    };
+    let releases = (0..houses).flat_map(|house| (0..names as u8).map(move |n| (house, n)));
+    Campus {
+        server: SERVER,
+        clock: CLOCK,
+        houses: (0..houses)
+            .map(|house| (0x0A00_0100 + (house << 8), 0x0A00_01FF + (house << 8)))
+            .collect(),
+        scopes: (0..scopes).map(scope).collect(),
+        leases: vec![],
+        releases: releases.map(release).collect(),
+        holds: vec![],
+    }
+}

@@ -11,7 +11,7 @@ pub book_at-requires : goal.book_at-requires
 book_at-requires c = search (layout_right, rules)
 
 pub returns-in-Ok : goal.returns-in-Ok
-returns-in-Ok c = open_yes _ c.form_of.ensures (search rules) (sym c.in-Ok.is ∙ c.book_at.ensures) c.records_of.ensures
+returns-in-Ok c = open_yes _ c.form_of.ensures (search rules) (sym c.in-Ok.is ∙ c.book_at.ensures) c.owned_of.ensures
 
 pub returns-in-Err : goal.returns-in-Err
 returns-in-Err c = open_unsound _ c.form_of.ensures (search rules) (sym c.in-Err.is ∙ c.book_at.ensures) c.number.ensures c.refused-in-Err.ensures

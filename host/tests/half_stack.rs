@@ -1,5 +1,5 @@
-//! Half of the stack that the header asks for is enough for what only reads, and for a file that is refused for its form. In a process of its own: a
-//! thread may be given the larger stack of one that has ended, such as those of stack.rs.
+//! Half of the stack that the header asks for is enough for what only reads, and for a file that is refused before its leases are read. In a process
+//! of its own: a thread may be given the larger stack of one that has ended, such as those of stack.rs.
 
 mod common;
 
@@ -15,14 +15,32 @@ fn on_that_stack(work: impl FnOnce() + Send + 'static) {
     thread.expect("a thread").join().expect("no panic");
 }
 
+/// A buffer with a file at its front, and the file's length.
+fn lent_file(octets: &[u8]) -> (Vec<u8>, usize) {
+    let mut buffer = octets.to_vec();
+    buffer.resize(FILE_ROOM, 0);
+    (buffer, octets.len())
+}
+
 #[test]
-fn a_wrong_form_is_refused() {
-    let mut file = vec![0; FILE_ROOM];
-    let octets = settings(8, 4, 4).octets();
-    file[..octets.len()].copy_from_slice(&octets);
-    // One octet is missing. Each call by itself.
-    let cut = octets.len() - 1;
+fn a_file_that_is_refused_takes_half_of_it() {
+    // One octet is missing; and there are more houses than a campus has. Each call by itself.
+    let cut = settings(8, 4, 4).octets().split_last().unwrap().1.to_vec();
+    let crowded = settings(9, 4, 4).octets();
     let datagram = message(RELEASE, 1, &[identifier(b"ab")]);
+    for (octets, refusal) in [(&cut, Refusal::Form), (&crowded, Refusal::Unsound)] {
+        let (sent, (mut file, mut length)) = (datagram.clone(), lent_file(octets));
+        on_that_stack(move || {
+            let reply = &mut [0; 512];
+            let answer = lent::serve(&mut file, &mut length, &sent, HOUSE_1, CLOCK, reply);
+            assert_eq!(answer.err(), Some(refusal));
+        });
+        let (sent, (mut file, mut length)) = (datagram.clone(), lent_file(octets));
+        on_that_stack(move || {
+            let verdict = lent::judge(&mut file, &mut length, &sent, HOUSE_1, CLOCK);
+            assert_eq!(verdict.err(), Some(refusal));
+        });
+    }
     let mut calls = vec![];
     let call = Call {
         time: CLOCK,
@@ -31,19 +49,9 @@ fn a_wrong_form_is_refused() {
         datagram: &datagram,
     };
     call.append_to(&mut calls);
-    let (mut served, mut judged, mut replayed) = (file.clone(), file.clone(), file);
-    let (sent, heard) = (datagram.clone(), datagram);
+    let (mut file, mut length) = lent_file(&cut);
     on_that_stack(move || {
-        let (length, reply) = (&mut { cut }, &mut [0; 512]);
-        let answer = lent::serve(&mut served, length, &sent, HOUSE_1, CLOCK, reply);
-        assert_eq!(answer.err(), Some(Refusal::Form));
-    });
-    on_that_stack(move || {
-        let verdict = lent::judge(&mut judged, &mut { cut }, &heard, HOUSE_1, CLOCK);
-        assert_eq!(verdict.err(), Some(Refusal::Form));
-    });
-    on_that_stack(move || {
-        let told = lent::replay(&mut replayed, &mut { cut }, &calls, &mut [0; ANSWER_ROOM]);
+        let told = lent::replay(&mut file, &mut length, &calls, &mut [0; ANSWER_ROOM]);
         assert_eq!(told.stopped, Some(Refusal::Form));
     });
 }

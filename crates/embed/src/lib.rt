@@ -5,6 +5,7 @@
 
 ghost use Rattle.std.specs.Prelude.{◌≡◌, ◌-◌, ◌≤◌, drop, length, take};
 ghost use Rattle.board_text.specs.Board.{length_in, room_with_text};
+ghost use Rattle.state_file.specs.Place.{Formed};
 ghost use Rattle.state_file.specs.StateFile.{read_file, refusal_number};
 ghost use Rattle.records.specs.Lent.{ledger_from};
 ghost use Rattle.records.specs.Records.{records_of};
@@ -19,7 +20,7 @@ ghost use Rattle.embed.specs.Promises.{Keeps, Opened, OpenedFile, ServesFile, Ju
 use owned::Owned;
 use server::Outcome;
 use state::Ledger;
-use state_file::{Loaded, Refusal};
+use state_file::{Loaded, Places, Refusal};
 
 // The longest names of an accepted file.
 const NAMES_ROOM: usize = 6229;
@@ -38,7 +39,7 @@ pub struct Opening {
     pub end: usize,
 }
 
-// Its octets, and those that `owned_of` copies, are off the stack while a file is tested, since neither is a part of `open`.
+// A blank book. Neither this nor `owned_of` is inlined: their copies of a book would stand on the stack while a file is tested.
 #[inline(never)]
 fn refused(number: u8) -> Opening
     ensures { (result.refusal ≡ number) × (result.from ≡ 0) × (result.end ≡ 0) }
@@ -65,13 +66,11 @@ fn owned_of(book: Loaded) -> Owned
     }
 }
 
-// The book of a file and the place of its names: the octets are walked once for both.
-fn open(file: &[u8]) -> Opening
+// The book of a file by its places.
+fn open_at(file: &[u8], places: Places) -> Opening
+    requires { Formed file.now places }
     ensures { OpenedFile file.now result }
 {
-    let Some(places) = state_file::form_of(file) else {
-        return refused(20);
-    };
     match state_file::book_at(file, places) {
         Ok(book) => Opening {
             refusal: 0,
@@ -80,6 +79,16 @@ fn open(file: &[u8]) -> Opening
             end: places.releases,
         },
         Err(e) => refused(e.number()),
+    }
+}
+
+// The book of a file and the place of its names: the octets are walked once for both.
+fn open(file: &[u8]) -> Opening
+    ensures { OpenedFile file.now result }
+{
+    match state_file::form_of(file) {
+        Some(places) => open_at(file, places),
+        None => refused(20),
     }
 }
 

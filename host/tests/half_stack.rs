@@ -1,5 +1,6 @@
-//! Half of the stack that the header asks for is enough for what only reads, and for a file that is refused before its leases are read. In a process
-//! of its own: a thread may be given the larger stack of one that has ended, such as those of stack.rs.
+//! Half of the stack that the header asks for is enough for what only reads, for a file that is refused for its form, and, but for a replay, for one
+//! that is refused before its leases are read. In a process of its own: a thread may be given the larger stack of one that has ended, such as those of
+//! stack.rs.
 
 mod common;
 
@@ -49,6 +50,7 @@ fn a_file_that_is_refused_takes_half_of_it() {
         datagram: &datagram,
     };
     call.append_to(&mut calls);
+    // A replay of the other needs 125,168 octets and the thread's own, which half of it isn't.
     let (mut file, mut length) = lent_file(&cut);
     on_that_stack(move || {
         let told = lent::replay(&mut file, &mut length, &calls, &mut [0; ANSWER_ROOM]);

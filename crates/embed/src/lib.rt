@@ -39,7 +39,7 @@ pub struct Opening {
     pub end: usize,
 }
 
-// A blank book. Neither this nor `owned_of` is inlined: their copies of a book would stand on the stack while a file is tested.
+// A refusal, with a blank book. Neither this nor `owned_of` is inlined: their copies of a book would stand on the stack while a file is tested.
 #[inline(never)]
 fn refused(number: u8) -> Opening
     ensures { (result.refusal ≡ number) × (result.from ≡ 0) × (result.end ≡ 0) }

@@ -50,7 +50,7 @@ fn a_file_that_is_refused_takes_half_of_it() {
         datagram: &datagram,
     };
     call.append_to(&mut calls);
-    // A replay of the other needs 125,168 octets and the thread's own, which half of it isn't.
+    // A replay of the other file needs 125,168 octets besides the thread's own: more than this.
     let (mut file, mut length) = lent_file(&cut);
     on_that_stack(move || {
         let told = lent::replay(&mut file, &mut length, &calls, &mut [0; ANSWER_ROOM]);
